@@ -1,0 +1,37 @@
+//! An entry of a routing table.
+use mesh_base::NodeSet;
+
+/// Whether a destination's sequence number is known.
+#[derive(Clone, Copy, Debug, PartialEq, Eq)]
+pub enum Known {
+    /// The number came with a request or a reply.
+    Kno,
+    /// No message told it: the entry is a neighbour's.
+    Unk,
+}
+
+/// Whether an entry may be used to forward.
+#[derive(Clone, Copy, Debug, PartialEq, Eq)]
+pub enum Flag {
+    /// The entry may be used.
+    Val,
+    /// The route broke. The entry still tells the last number and hop count.
+    Inv,
+}
+
+/// The route to one destination, which the table has as its key (RFC 3561, section 2).
+#[derive(Clone, Copy)]
+pub struct Entry {
+    /// The destination's sequence number. 0 is unknown.
+    pub dsn: u32,
+    /// Whether that number is known.
+    pub dsk: Known,
+    /// Whether the route is valid.
+    pub flag: Flag,
+    /// The number of hops to the destination, at least 1.
+    pub hops: u8,
+    /// The next hop towards the destination.
+    pub next: usize,
+    /// The precursors: neighbours that were told of this route and may use it.
+    pub pre: NodeSet,
+}

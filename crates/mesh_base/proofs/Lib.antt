@@ -1,0 +1,5 @@
+pub mod Ops
+pub mod Least
+pub mod PartLaws
+pub mod NumberLaws
+pub mod MeshLaws

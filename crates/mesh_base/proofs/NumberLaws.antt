@@ -1,0 +1,66 @@
+-- Decimal numbers.
+use Rattle.std.proofs.Common.{◌≡◌, ℕ, ◌+◌, ◌-◌, ◌*◌, ◌/◌, ◌%◌, ◌^◌, ◌++◌, length-append, ◌<◌, ◌≤◌, Bool, eqb, true, false, cond, ltb, leb, ◌&&◌, List, [], ◌∷◌, Option, Some, None, length, drop, get_or, refl, sym, ap, ◌∙◌, arith}
+use Rattle.std.specs.Str.{all_ascii_digits}
+use Rattle.std.specs.Char.{is_ascii_digit}
+use Rattle.std.specs.Fmt.{decimal}
+use Rattle.std.proofs.lemmas.List.{at_drop_more}
+use Rattle.std.proofs.lemmas.Fmt.{length-decimal-le, decimal_step}
+use Rattle.std.proofs.lemmas.Bool.Decides.{nat_tests}
+use Rattle.std.specs.List.{slice_split}
+use Rattle.std.proofs.lemmas.List.Splits.{length-slice_split}
+use Rattle.mesh_base.specs.Numbers.{read_on, digits_up_to}
+use Rattle.mesh_base.specs.Parts.{parts}
+use Rattle.mesh_base.specs.Addresses.{address_of, address_from}
+
+-- digits only add
+pub read_on-ge : (ds : List ℕ) (n : ℕ) → n ≤ read_on n ds
+read_on-ge [] n = omega arith
+read_on-ge (d ∷ ds) n = omega (arith, read_on-ge ds (10 * n + (d - 48)))
+
+pub digits_up_to-not_digits : (most : ℕ) (ds : List ℕ) → all_ascii_digits ds ≡ false → digits_up_to most ds ≡ None
+unfolding digits_up_to
+digits_up_to-not_digits most ds h = rw h refl
+
+capped : (b : Bool) (most v : ℕ) → most < v → cond (b && leb v most) (Some v) None ≡ None
+capped false most v h = refl
+capped true most v h = grind (arith, nat_tests)
+
+pub digits_up_to-too_large : (most : ℕ) (ds : List ℕ) → most < read_on 0 ds → digits_up_to most ds ≡ None
+unfolding digits_up_to
+digits_up_to-too_large most ds h = capped (all_ascii_digits ds) most (read_on 0 ds) h
+
+uncapped : (b : Bool) (most v : ℕ) → b ≡ true → v ≤ most → cond (b && leb v most) (Some v) None ≡ Some v
+uncapped false most v e h = cc
+uncapped true most v e h = grind (arith, nat_tests)
+
+pub digits_up_to-fits : (most : ℕ) (ds : List ℕ) → all_ascii_digits ds ≡ true → read_on 0 ds ≤ most → digits_up_to most ds ≡ Some (read_on 0 ds)
+unfolding digits_up_to
+digits_up_to-fits most ds h le = uncapped (all_ascii_digits ds) most (read_on 0 ds) h le
+
+-- one digit
+pub read_on-more : (n i : ℕ) (ds : List ℕ) → i < length ds → read_on n (drop i ds) ≡ read_on (10 * n + (get_or ds i 0 - 48)) (drop (i + 1) ds)
+read_on-more n i ds h = at_drop_more (read_on n) ds i 0 h
+
+pub digits-more : (i : ℕ) (ds : List ℕ) → i < length ds → all_ascii_digits (drop i ds) ≡ (is_ascii_digit (get_or ds i 0) && all_ascii_digits (drop (i + 1) ds))
+digits-more i ds h = at_drop_more all_ascii_digits ds i 0 h
+
+-- a number below 256 has at most three digits
+pub short : (n : ℕ) → n < 256 → length (decimal n) ≤ 3
+short n h = length-decimal-le 3 n (omega arith) (omega arith) (omega arith)
+
+-- one digit more
+pub longer : (n : ℕ) → 10 ≤ n → n < 2 ^ 64 → length (decimal n) ≡ length (decimal (n / 10)) + 1
+longer n h fits = ap length (decimal_step n h fits) ∙ length-append (decimal (n / 10)) ((48 + n % 10) ∷ [])
+
+too_many : (a b c d : List ℕ) (ps : List (List ℕ)) → 0 < length ps → address_from (a ∷ b ∷ c ∷ d ∷ ps) ≡ None
+unfolding address_from
+too_many a b c d [] h = absurd (omega arith)
+too_many a b c d (p ∷ ps) h = refl
+
+-- five parts spell no address
+pub address_of_five : (text a b c d rest : List ℕ) → parts 46 text ≡ a ∷ b ∷ c ∷ d ∷ parts 46 rest → address_of text ≡ None
+unfolding address_of
+address_of_five text a b c d rest e = rw e (too_many a b c d _ (omega (arith, length-slice_split (λ b. eqb b 46) rest)))
+
+pub at_most_twenty : (n : ℕ) → n < 2 ^ 64 → length (decimal n) ≤ 20
+at_most_twenty n h = length-decimal-le 20 n (omega arith) (omega arith) h

@@ -1,0 +1,9 @@
+-- Read in this order: the spelling of numbers and addresses, the parts of a text, meshes, sets of nodes.
+-- Words has the proof that a set gives its words back, and nothing that a contract says.
+pub mod Numbers
+pub mod Parts
+pub mod Addresses
+pub mod Meshes
+pub mod Bytes
+pub mod Members
+pub mod Words

@@ -1,0 +1,19 @@
+//! What every crate of the router and the emulator shares: addresses and the mesh that they make,
+//! sets of nodes, lists of bytes and the memory for them, events and what they do.
+//!
+//! Node `i` of a mesh is its `i`-th address in rising order. All counts are of nodes or bytes.
+#![tactic(auto)]
+
+mod addr;
+mod bytes;
+mod events;
+mod mesh;
+mod set;
+mod text;
+
+pub use addr::{Addr, write_dotted};
+pub use bytes::{Bytes, NoMemory, Room};
+pub use events::{Air, Cast, Effect, Event, Flying, Full, Item, Kind, Took, Variant};
+pub use mesh::{MOST_NODES, Mesh, MeshError};
+pub use set::NodeSet;
+pub use text::{LineBuf, Packet, cut, number_up_to, push_decimal, push_number, push_text};

@@ -1,0 +1,136 @@
+//! The nodes of a mesh.
+ghost use Rattle.std.specs.Prelude.{◌≡◌, ◌≤◌, ◌<◌, ◌↔◌, ℕ, [], length, None, IsTrue, IsSome, IsErrOf, IsOk, OnOk, OnErr, IfSome};
+ghost use Rattle.mesh_base.specs.Meshes.{Nodes, IsMesh, addr_at, first_at, index_of, with_node};
+
+use crate::addr::Addr;
+use arrayvec::ArrayVec;
+use std::marker::Model;
+use thiserror::Error;
+
+/// The most nodes of a mesh.
+pub const MOST_NODES: usize = 200;
+
+/// Why a node isn't added to a mesh.
+#[derive(Clone, Copy, Debug, PartialEq, Eq, Error)]
+pub enum MeshError {
+    /// The mesh has a node of this address.
+    #[error("the mesh has a node of this address")]
+    Twice,
+    /// The mesh has 200 nodes.
+    #[error("the mesh has 200 nodes")]
+    TooMany,
+}
+
+/// At most 200 nodes, each an address and its first sequence number of at least 1, in rising order
+/// of address. It takes no memory but its own.
+#[derive(Drop)]
+pub struct Mesh {
+    nodes: ArrayVec<(u32, u32), MOST_NODES>,
+}
+
+impl Model for Mesh {
+    ghost use Rattle.mesh_base.specs.Meshes.{Nodes, IsMesh};
+
+    ghost Value = { Nodes };
+
+    ghost view = { λ m. m.nodes.items };
+
+    ghost invariant = { λ m. IsMesh m.nodes.items };
+}
+
+// How many nodes have a lower address: a binary search.
+fn count_below(nodes: &[(u32, u32)], a: u32) -> usize
+    requires { IsMesh nodes.now }
+    ensures within { result ≤ length nodes.now }
+    ensures below { (i : ℕ) → i < result → addr_at nodes.now i < a }
+    ensures above { (i : ℕ) → result ≤ i → i < length nodes.now → a ≤ addr_at nodes.now i }
+{
+    nodes.partition_point(|node| node.0 < a)
+}
+
+impl Mesh {
+    /// A mesh of no nodes.
+    pub fn new() -> Mesh
+        ensures { result ≡ [] }
+    {
+        Mesh {
+            nodes: ArrayVec::new(),
+        }
+    }
+
+    /// The number of nodes.
+    pub fn len(&self) -> usize
+        ensures value { result ≡ length self.now }
+        ensures is_mesh { IsMesh self.now }
+    {
+        self.nodes.len()
+    }
+
+    /// Whether there is no node.
+    pub fn is_empty(&self) -> bool
+        ensures { IsTrue result ↔ (self.now ≡ []) }
+    {
+        self.nodes.is_empty()
+    }
+
+    /// The address of node i.
+    pub fn at(&self, i: usize) -> Addr
+        requires { i < length self.now }
+        ensures { result.0 ≡ addr_at self.now i }
+    {
+        Addr(self.nodes.as_slice()[i].0)
+    }
+
+    /// The first sequence number of node i.
+    pub fn first(&self, i: usize) -> u32
+        requires { i < length self.now }
+        ensures value { result ≡ first_at self.now i }
+        ensures positive { 1 ≤ result }
+    {
+        self.nodes.as_slice()[i].1
+    }
+
+    /// The node of an address. It is found by a binary search.
+    pub fn index_of(&self, a: Addr) -> Option<usize>
+        ensures value { result ≡ index_of self.now a.0 }
+        ensures within { IfSome result (λ i. i < length self.now) }
+    {
+        let nodes = self.nodes.as_slice();
+        let place = count_below(nodes, a.0);
+        if place < nodes.len() && nodes[place].0 == a.0 {
+            Some(place)
+        } else {
+            None
+        }
+    }
+
+    /// Adds a node.
+    pub fn add(&mut self, a: Addr, first: u32) -> Result<(), MeshError>
+        requires { 1 ≤ first }
+        ensures added { OnOk result (self.new ≡ with_node self.old a.0 first) }
+        ensures twice { IsErrOf result MeshError.Twice ↔ IsSome (index_of self.old a.0) }
+        ensures too_many { IsErrOf result MeshError.TooMany ↔ ((index_of self.old a.0 ≡ None) × (length self.old ≡ 200)) }
+        ensures same { OnErr result (self.new ≡ self.old) }
+    {
+        if self.index_of(a).is_some() {
+            return Err(MeshError::Twice);
+        }
+        if self.nodes.is_full() {
+            return Err(MeshError::TooMany);
+        }
+        let place = count_below(self.nodes.as_slice(), a.0);
+        self.nodes.insert(place, (a.0, first));
+        Ok(())
+    }
+
+    /// An equal mesh.
+    pub fn copy(&self) -> Mesh
+        ensures { result ≡ self.now }
+    {
+        let mut nodes = ArrayVec::new();
+        for node in self.nodes.as_slice() {
+            nodes.push(*node);
+        }
+        Mesh { nodes }
+    }
+}

@@ -1,0 +1,119 @@
+//! Sets of nodes.
+ghost use Rattle.std.specs.Prelude.{◌≡◌, ◌<◌, ◌↔◌, IsTrue};
+ghost use Rattle.std.specs.FinSet as set;
+ghost use Rattle.mesh_base.specs.Members.{IsLeastFrom, IsLeastBit};
+
+use std::marker::Model;
+
+/// A set of nodes, each an index below 256, as four words of bits.
+#[derive(Clone, Copy)]
+pub struct NodeSet {
+    words: [u64; 4],
+}
+
+impl Model for NodeSet {
+    ghost use Rattle.std.specs.Coded.{coded_ℕ};
+    ghost use Rattle.std.specs.FinSet as set;
+    ghost use Rattle.mesh_base.specs.Members.{NodeIds, members, AreWords};
+
+    ghost Value = { NodeIds };
+
+    ghost coded = { set.code coded_ℕ };
+
+    ghost view = { λ a. members a.words };
+
+    ghost invariant = { λ a. AreWords a.words };
+
+    ghost use Rattle.std.specs.Prelude.{List, ℕ};
+    ghost use Rattle.std.proofs.Common.{ap};
+    ghost use Rattle.mesh_base.specs.Members.{words_of};
+    ghost use Rattle.mesh_base.specs.Words.{words_again};
+
+    ghost inverse = { λ s. record { words = words_of s } };
+
+    ghost inverse_ok = { λ a h. ap (λ ws. record { words = ws }) (words_again a.words h) };
+}
+
+impl NodeSet {
+    pub fn new() -> NodeSet
+        ensures { result ≡ set.empty }
+    {
+        NodeSet { words: [0; 4] }
+    }
+
+    pub fn add(&mut self, i: usize)
+        requires { i < 256 }
+        ensures { self.new ≡ set.insert self.old i }
+    {
+        self.words[i / 64] |= 1 << (i % 64);
+    }
+
+    pub fn has(&self, i: usize) -> bool
+        ensures { result ≡ set.contains self.now i }
+    {
+        i < 256 && (self.words[i / 64] >> (i % 64)) & 1 == 1
+    }
+
+    pub fn join(&mut self, o: &NodeSet)
+        ensures { self.new ≡ set.union self.old o.now }
+    {
+        let a = self.words;
+        let b = o.words;
+        self.words = [a[0] | b[0], a[1] | b[1], a[2] | b[2], a[3] | b[3]];
+    }
+
+    pub fn meet(&mut self, o: &NodeSet)
+        ensures { self.new ≡ set.intersection self.old o.now }
+    {
+        let a = self.words;
+        let b = o.words;
+        self.words = [a[0] & b[0], a[1] & b[1], a[2] & b[2], a[3] & b[3]];
+    }
+
+    /// Whether the two sets have the same members.
+    pub fn same(&self, o: &NodeSet) -> bool
+        ensures { IsTrue result ↔ (self.now ≡ o.now) }
+    {
+        self.words == o.words
+    }
+
+    /// The least member that is not below i.
+    pub fn next_from(&self, i: usize) -> Option<usize>
+        ensures { IsLeastFrom self.now i result }
+    {
+        let words = &self.words;
+        if i >= 256 {
+            return None;
+        }
+        let first = i / 64;
+        if let Some(place) = least_bit(words[first], i % 64) {
+            return Some(64 * first + place);
+        }
+        for k in first + 1..4 {
+            if let Some(place) = least_bit(words[k], 0) {
+                return Some(64 * k + place);
+            }
+        }
+        None
+    }
+
+    #[tactic(auto, using(crate::proofs::Least::none_from_empty, crate::proofs::Least::some_not_empty))]
+    pub fn is_empty(&self) -> bool
+        ensures { IsTrue result ↔ (self.now ≡ set.empty) }
+    {
+        self.next_from(0).is_none()
+    }
+}
+
+/// The place of the least bit of the word that is not below `from`.
+#[tactic(auto, using(crate::proofs::Least::no_bit, crate::proofs::Least::lowest_bit))]
+fn least_bit(word: u64, from: usize) -> Option<usize>
+    requires { from < 64 }
+    ensures { IsLeastBit word from result }
+{
+    let rest = word >> from;
+    if rest == 0 {
+        return None;
+    }
+    Some(from + rest.trailing_zeros() as usize)
+}

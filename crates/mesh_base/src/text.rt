@@ -1,0 +1,106 @@
+//! Buffers for a line and a packet, parts of texts, and decimal numbers.
+ghost use Rattle.std.specs.Prelude.{◌≡◌, ◌+◌, ◌<◌, ◌≤◌, List, ℕ, [], ◌∷◌, ◌++◌, length, position, ◌==◌, IfNone, IfSome};
+ghost use Rattle.std.specs.Fmt.{decimal};
+ghost use Rattle.arrayvec.specs.ArrayVec.{array_vec_len};
+ghost use Rattle.mesh_base.specs.Parts.{parts, rest_parts};
+ghost use Rattle.mesh_base.specs.Numbers.{is_canonical as is_canonical_lem, digits_up_to as digits_up_to_lem, number_up_to as number_up_to_lem};
+
+use arrayvec::ArrayVec;
+
+/// A line to be written.
+pub type LineBuf = ArrayVec<u8, 8192>;
+
+/// The bytes of one packet. The longest that is written is a route error of 200 pairs.
+pub type Packet = ArrayVec<u8, 1604>;
+
+fn place_of(bytes: &[u8], sep: u8) -> Option<usize>
+    ensures value { result ≡ position (λ b. b == sep) bytes.now }
+    ensures within { IfSome result (λ i. i < length bytes.now) }
+{
+    bytes.iter().position(|b| *b == sep)
+}
+
+/// What stands before the first byte that is `sep`, and what stands after it.
+pub fn cut(bytes: &[u8], sep: u8) -> (&[u8], Option<&[u8]>)
+    ensures whole { IfNone result.1 (result.0.now ≡ bytes.now) }
+    ensures parts { parts sep bytes.now ≡ result.0.now ∷ rest_parts sep result.1 }
+    ensures length { IfSome result.1 (λ rest. length result.0.now + 1 + length rest.now ≡ length bytes.now) }
+{
+    match place_of(bytes, sep) {
+        None => (bytes, None),
+        Some(at) => (&bytes[..at], Some(&bytes[at + 1..])),
+    }
+}
+
+fn is_canonical(bytes: &[u8]) -> bool
+    ensures { result ≡ is_canonical_lem bytes.now }
+{
+    match bytes {
+        [] => false,
+        [_] => true,
+        [first, ..] => *first != b'0',
+    }
+}
+
+fn digits_up_to(ds: &[u8], most: u64) -> Option<u64>
+    ensures value { result ≡ digits_up_to_lem most ds.now }
+    ensures within { IfSome result (λ n. n ≤ most) }
+{
+    let mut n: u64 = 0;
+    for b in ds {
+        if !b.is_ascii_digit() {
+            return None;
+        }
+        n = n.checked_mul(10)?.checked_add(u64::from(*b - b'0'))?;
+    }
+    if n <= most { Some(n) } else { None }
+}
+
+/// The number that these bytes spell in decimal digits without a leading zero, where it is at most `most`.
+#[tactic(auto, unfolding(crate::specs::Numbers::number_up_to))]
+pub fn number_up_to(bytes: &[u8], most: u64) -> Option<u64>
+    ensures value { result ≡ number_up_to_lem most bytes.now }
+    ensures within { IfSome result (λ n. n ≤ most) }
+{
+    if is_canonical(bytes) {
+        digits_up_to(bytes, most)
+    } else {
+        None
+    }
+}
+
+/// Appends a text.
+pub fn push_text(out: &mut LineBuf, text: &[u8])
+    requires { array_vec_len out.old + length text.now ≤ 8192 }
+    ensures text { out.new.items ≡ out.old.items ++ text.now }
+    ensures length { array_vec_len out.new ≡ array_vec_len out.old + length text.now }
+{
+    if out.try_extend_from_slice(text).is_err() {
+        unreachable!();
+    }
+}
+
+/// Appends a number in decimal digits.
+#[tactic(auto, using(std::proofs::lemmas::Fmt::decimal_digit, std::proofs::lemmas::Fmt::decimal_step, crate::proofs::NumberLaws::longer))]
+pub fn push_decimal(out: &mut LineBuf, n: u64)
+    requires { array_vec_len out.old + length (decimal n) ≤ 8192 }
+    ensures text { out.new.items ≡ out.old.items ++ decimal n }
+    ensures length { array_vec_len out.new ≡ array_vec_len out.old + length (decimal n) }
+{
+    if n < 10 {
+        out.push(b'0' + n as u8);
+        return;
+    }
+    push_decimal(out, n / 10);
+    out.push(b'0' + (n % 10) as u8);
+}
+
+/// Appends any number in decimal digits.
+#[tactic(auto, using(crate::proofs::NumberLaws::at_most_twenty))]
+pub fn push_number(out: &mut LineBuf, n: u64)
+    requires { array_vec_len out.old + 20 ≤ 8192 }
+    ensures text { out.new.items ≡ out.old.items ++ decimal n }
+    ensures length { array_vec_len out.new ≤ array_vec_len out.old + 20 }
+{
+    push_decimal(out, n);
+}
