@@ -1,7 +1,6 @@
 -- The least member from a place on.
 use Rattle.std.proofs.Common.{◌≡◌, ◌<◌, ◌≤◌, ℕ, zero, suc, ◌+◌, ◌-◌, ◌*◌, ◌/◌, ◌%◌, ◌^◌, Bool, true, false, eqb, List, [], length, slice_index, Option, Some, None, refl, sym, ap, ◌∙◌, eq-eqb, arith, inl, inr, w64, pow-add}
 use Rattle.std.proofs.Math.Nat.{div-div-eq-div-mul, div-le_self}
-
 use Rattle.std.proofs.lemmas.Bool.{cases_lt, ne_eqb}
 use Rattle.std.proofs.lemmas.List.{get_or_past}
 use Rattle.std.proofs.lemmas.Nat.Bits.{bit_at-zero, bit_at-trailing_zeros, bit_at_above}
@@ -29,10 +28,14 @@ lowest_bit w from fits some =
     let less = div-le_self w (2 ^ from) in
     let lowest = bit_at-trailing_zeros w64 rest some (omega arith) in
     let one : bit_at w (from + t) ≡ 1 = sym (bit_at_shr w from t) ∙ lowest.1 in
-    let within : from + t < 64 = elim (cases_lt (from + t) 64) [ inl lt ↦ lt | inr le ↦ let none = bit_at_above w 64 (from + t) fits le in absurd (omega arith) ] in
-    (omega arith, within, one, λ q le lt.
-        let place : from + (q - from) ≡ q = omega arith in
-        sym (ap (bit_at w) place) ∙ sym (bit_at_shr w from (q - from)) ∙ lowest.2 (q - from) (omega arith))
+    let within : from + t < 64 = elim (cases_lt (from + t) 64) [ inl lt ↦ lt | inr le ↦ let none = bit_at_above w 64 (from + t) fits le in absurd (omega arith) ] in (
+      omega arith,
+      within,
+      one,
+      λ q le lt.
+          let place : from + (q - from) ≡ q = omega arith in
+          sym (ap (bit_at w) place) ∙ sym (bit_at_shr w from (q - from)) ∙ lowest.2 (q - from) (omega arith),
+    )
 
 -- the words have no bit from i up to n
 abbrev pub NoneUpTo : List ℕ → ℕ → ℕ → Type 0
@@ -49,21 +52,22 @@ no_bit_there : (ws : List ℕ) (k p : ℕ) → p < 64 → bit_at (slice_index ws
 no_bit_there ws k p lt e = bit_in_word ws k p lt ∙ ne_eqb (bit_at (slice_index ws k) p) 1 (λ one. omega arith)
 
 pub found : (ws : List ℕ) (i k from place : ℕ) → AreWords ws → i ≤ 64 * k + from → NoneUpTo ws i (64 * k + from) → IsLeastBit (slice_index ws k) from (Some place) → IsLeastFrom (members ws) i (Some (64 * k + place))
-found ws i k from place are before none least =
-    (omega (arith, least.0),
-    contains-members ws (64 * k + place) are ∙ bit_in_word ws k place least.1 ∙ eq-eqb _ _ least.2,
-    λ q le lt. contains-members ws q are ∙ elim (cases_lt q (64 * k + from)) [
-        | inl early ↦ none q le early
-        | inr late ↦
-          let at : 64 * k + (q - 64 * k) ≡ q = omega arith in
-          sym (ap (has_bit ws) at) ∙ no_bit_there ws k (q - 64 * k) (omega (arith, least.1)) (least.3 (q - 64 * k) (omega arith) (omega arith))
-    ])
+found ws i k from place are before none least = (
+  omega (arith, least.0),
+  contains-members ws (64 * k + place) are ∙ bit_in_word ws k place least.1 ∙ eq-eqb _ _ least.2,
+  λ q le lt. contains-members ws q are ∙ elim (cases_lt q (64 * k + from)) [
+    | inl early ↦ none q le early
+    | inr late ↦
+        let at : 64 * k + (q - 64 * k) ≡ q = omega arith in
+        sym (ap (has_bit ws) at) ∙ no_bit_there ws k (q - 64 * k) (omega (arith, least.1)) (least.3 (q - 64 * k) (omega arith) (omega arith))
+  ],
+)
 
 pub missed : (ws : List ℕ) (i k from : ℕ) → NoneUpTo ws i (64 * k + from) → IsLeastBit (slice_index ws k) from None → NoneUpTo ws i (64 * (k + 1))
 missed ws i k from none empty q le lt =
     elim (cases_lt q (64 * k + from)) [
-        | inl early ↦ none q le early
-        | inr late ↦
+      | inl early ↦ none q le early
+      | inr late ↦
           let at : 64 * k + (q - 64 * k) ≡ q = omega arith in
           sym (ap (has_bit ws) at) ∙ no_bit_there ws k (q - 64 * k) (omega arith) (empty (q - 64 * k) (omega arith))
     ]
@@ -71,8 +75,8 @@ missed ws i k from none empty q le lt =
 pub ended : (ws : List ℕ) (i : ℕ) → AreWords ws → NoneUpTo ws i 256 → IsLeastFrom (members ws) i None
 ended ws i are none q le =
     contains-members ws q are ∙ elim (cases_lt q 256) [
-        | inl lt ↦ none q le lt
-        | inr past ↦ let zero_word : slice_index ws (q / 64) ≡ 0 = get_or_past ws (q / 64) 0 (omega (arith, are.four)) in rw (zero_word, bit_at-zero (q % 64)) refl
+      | inl lt ↦ none q le lt
+      | inr past ↦ let zero_word : slice_index ws (q / 64) ≡ 0 = get_or_past ws (q / 64) 0 (omega (arith, are.four)) in rw (zero_word, bit_at-zero (q % 64)) refl
     ]
 
 pub none_from_empty : (s : NodeIds) → IsLeastFrom s 0 None → s ≡ empty

@@ -1,11 +1,27 @@
 -- A mesh by rising addresses: where an address stands, and one more node.
-use Rattle.std.proofs.Common.{◌≡◌, ◌≢◌, ℕ, ◌+◌, ◌-◌, ◌<◌, ◌≤◌, Bool, true, false, eqb, ltb, cond, List, [], length, Option, Some, None, get_or, insert, position, refl, sym, ap, subst, ◌∙◌, arith, inl, inr, eq-eqb}
+use Rattle.std.proofs.Common.{◌≡◌, ◌≢◌, ℕ, ◌+◌, ◌-◌, ◌<◌, ◌≤◌, Bool, true, false, eqb, ltb, cond, List, [], length, Option, Some, None, get_or, insert, position, refl, sym, ap, subst, ◌∙◌, ◌⊎◌, arith, inl, inr, eq-eqb}
 use Rattle.std.specs.List.{position_or_len}
+use Rattle.std.specs.List.Sorted.{IsNonDecreasingBy}
 use Rattle.std.proofs.lemmas.Bool.{ne_eqb, cases_lt, cases_eq, lt-ltb, le-ltb}
 use Rattle.std.proofs.lemmas.Bool.Decides.{nat_tests}
+use Rattle.std.proofs.lemmas.List.{get_or_default}
 use Rattle.std.proofs.lemmas.List.Sums.{position_or_len_is}
-use Rattle.std.proofs.lemmas.List.Edits.{get_or-insert_at, get_or-insert_below, get_or-insert_above}
+use Rattle.std.proofs.lemmas.List.Edits.{length-insert, get_or-insert_at, get_or-insert_below, get_or-insert_above}
 use Rattle.mesh_base.specs.Meshes.{Nodes, IsMesh, addr_at, first_at, index_of, with_node}
+
+-- addresses don't fall
+pub rising_le : (mesh : Nodes) (i j : ℕ) → IsMesh mesh → i ≤ j → j < length mesh → addr_at mesh i ≤ addr_at mesh j
+rising_le mesh i j is le lt = elim (cases_eq i j) [ inl same ↦ omega (arith, ap (addr_at mesh) same) | inr apart ↦ let up = is.rising i j (omega arith) lt in omega arith ]
+
+pub falls_nowhere : (mesh : Nodes) → IsMesh mesh → IsNonDecreasingBy (λ p. p.0) mesh
+falls_nowhere mesh is i j d le lt =
+    rw (get_or_default mesh i d (0, 0) (omega arith), get_or_default mesh j d (0, 0) lt) (rising_le mesh i j is le lt)
+
+pub below_if : (m n : ℕ) → ltb m n ≡ true → m < n
+below_if m n h = grind (arith, nat_tests)
+
+pub from_if : (m n : ℕ) → ltb m n ≡ false → n ≤ m
+from_if m n h = grind (arith, nat_tests)
 
 -- a place with all lower addresses before it and none after it
 pub record IsPlace (mesh : Nodes) (a place : ℕ) : Type 0 where
@@ -16,8 +32,8 @@ pub record IsPlace (mesh : Nodes) (a place : ℕ) : Type 0 where
 found : (mesh : Nodes) (a place : ℕ) → IsPlace mesh a place → (place < length mesh → addr_at mesh place ≡ a) → position_or_len (λ p. eqb p.0 a) mesh ≡ place
 found mesh a place at is =
     position_or_len_is (λ p. eqb p.0 a) mesh place (0, 0) at.within
-        (λ k lt. let below = at.below k lt in ne_eqb (addr_at mesh k) a (λ e. omega arith))
-        (λ lt. eq-eqb (addr_at mesh place) a (is lt))
+    (λ k lt. let below = at.below k lt in ne_eqb (addr_at mesh k) a (λ e. omega arith))
+    (λ lt. eq-eqb (addr_at mesh place) a (is lt))
 
 pub index_of-found : (mesh : Nodes) (a place : ℕ) → IsPlace mesh a place → place < length mesh → addr_at mesh place ≡ a → index_of mesh a ≡ Some place
 unfolding index_of
@@ -30,21 +46,21 @@ nowhere mesh a place k mesh_is at not lt e =
     elim (cases_lt k place) [
       | inl early ↦ let below = at.below k early in omega arith
       | inr late ↦
-        elim (cases_eq k place) [
-          | inl same ↦ not (subst (λ n. n < length mesh) same lt) (subst (λ n. addr_at mesh n ≡ a) same e)
-          | inr other ↦
-            let rises = mesh_is.rising place k (omega arith) lt in
-            let from = at.above place (omega arith) (omega arith) in
-            omega arith
-        ]
+          elim (cases_eq k place) [
+            | inl same ↦ not (subst (λ n. n < length mesh) same lt) (subst (λ n. addr_at mesh n ≡ a) same e)
+            | inr other ↦
+                let rises = mesh_is.rising place k (omega arith) lt in
+                let from = at.above place (omega arith) (omega arith) in
+                omega arith
+          ]
     ]
 
 pub index_of-absent : (mesh : Nodes) (a place : ℕ) → IsMesh mesh → IsPlace mesh a place → (place < length mesh → addr_at mesh place ≢ a) → index_of mesh a ≡ None
 unfolding index_of
 index_of-absent mesh a place mesh_is at not =
     let e = position_or_len_is (λ p. eqb p.0 a) mesh (length mesh) (0, 0) (omega arith)
-        (λ k lt. ne_eqb (addr_at mesh k) a (nowhere mesh a place k mesh_is at not lt))
-        (λ lt. absurd (omega arith)) in
+    (λ k lt. ne_eqb (addr_at mesh k) a (nowhere mesh a place k mesh_is at not lt))
+    (λ lt. absurd (omega arith)) in
     rw (e, le-ltb (length mesh) (length mesh) (omega arith)) refl
 
 -- an absent address belongs at the place
@@ -52,6 +68,83 @@ pub with_node-is : (mesh : Nodes) (a first place : ℕ) → IsPlace mesh a place
 unfolding with_node
 with_node-is mesh a first place at not =
     let e = position_or_len_is (λ p. ltb a p.0) mesh place (0, 0) at.within
-        (λ k lt. let below = at.below k lt in le-ltb a (addr_at mesh k) (omega arith))
-        (λ lt. let from = at.above place (omega arith) lt in let other = not lt in lt-ltb a (addr_at mesh place) (elim (cases_eq (addr_at mesh place) a) [ inl same ↦ absurd (other same) | inr apart ↦ omega arith ])) in
+    (λ k lt. let below = at.below k lt in le-ltb a (addr_at mesh k) (omega arith))
+    (λ lt. let from = at.above place (omega arith) lt in let other = not lt in lt-ltb a (addr_at mesh place) (elim (cases_eq (addr_at mesh place) a) [ inl same ↦ absurd (other same) | inr apart ↦ omega arith ])) in
     rw e refl
+
+-- what stands at a place after one more node
+pub at_insert : (mesh : Nodes) (place : ℕ) (node : ℕ × ℕ) (i : ℕ) → place ≤ length mesh →
+    ((i < place) × (get_or (insert mesh place node) i (0, 0) ≡ get_or mesh i (0, 0)))
+    ⊎ ((i ≡ place) × (get_or (insert mesh place node) i (0, 0) ≡ node))
+    ⊎ ((place < i) × (get_or (insert mesh place node) i (0, 0) ≡ get_or mesh (i - 1) (0, 0)))
+at_insert mesh place node i le =
+    elim (cases_lt i place) [
+      | inl below ↦ inl (below, get_or-insert_below mesh place node (0, 0) i below le)
+      | inr from ↦
+          elim (cases_eq i place) [
+            | inl same ↦ inr (inl (same, ap (λ n. get_or (insert mesh place node) n (0, 0)) same ∙ get_or-insert_at mesh place node (0, 0) le))
+            | inr other ↦
+                let back : i ≡ (i - 1) + 1 = omega arith in
+                inr (inr (omega arith, ap (λ n. get_or (insert mesh place node) n (0, 0)) back ∙ get_or-insert_above mesh place node (0, 0) (i - 1) (omega arith) le))
+          ]
+    ]
+
+abbrev Standing : Nodes → ℕ → ℕ × ℕ → ℕ → Type 0
+Standing mesh place node i =
+    ((i < place) × (get_or (insert mesh place node) i (0, 0) ≡ get_or mesh i (0, 0)))
+    ⊎ ((i ≡ place) × (get_or (insert mesh place node) i (0, 0) ≡ node))
+    ⊎ ((place < i) × (get_or (insert mesh place node) i (0, 0) ≡ get_or mesh (i - 1) (0, 0)))
+
+-- an absent address at its place keeps the order
+insert_rises : (mesh : Nodes) (a first place i j : ℕ) → IsMesh mesh → IsPlace mesh a place → (place < length mesh → addr_at mesh place ≢ a) → i < j → j < length mesh + 1
+    → Standing mesh place (a, first) i → Standing mesh place (a, first) j → addr_at (insert mesh place (a, first)) i < addr_at (insert mesh place (a, first)) j
+insert_rises mesh a first place i j is at not lt within (inl (early, x)) (inl (early', y)) =
+    let up = is.rising i j lt (omega (arith, at.within)) in
+    omega (arith, up, ap (λ p. p.0) x, ap (λ p. p.0) y)
+insert_rises mesh a first place i j is at not lt within (inl (early, x)) (inr (inl (same, y))) =
+    omega (arith, at.below i early, ap (λ p. p.0) x, ap (λ p. p.0) y)
+insert_rises mesh a first place i j is at not lt within (inl (early, x)) (inr (inr (late, y))) =
+    let below = at.below i early in
+    let above = at.above (j - 1) (omega arith) (omega arith) in
+    omega (arith, below, above, ap (λ p. p.0) x, ap (λ p. p.0) y)
+insert_rises mesh a first place i j is at not lt within (inr (inl (same, x))) (inl (early', y)) = absurd (omega arith)
+insert_rises mesh a first place i j is at not lt within (inr (inl (same, x))) (inr (inl (same', y))) = absurd (omega arith)
+insert_rises mesh a first place i j is at not lt within (inr (inl (same, x))) (inr (inr (late, y))) =
+    let there : place < length mesh = omega arith in
+    let from = at.above place (omega arith) there in
+    let up = rising_le mesh place (j - 1) is (omega arith) (omega arith) in
+    let other = not there in
+    elim (cases_eq (addr_at mesh place) a) [ inl e ↦ absurd (other e) | inr apart ↦ omega (arith, from, up, apart, ap (λ p. p.0) x, ap (λ p. p.0) y) ]
+insert_rises mesh a first place i j is at not lt within (inr (inr (late, x))) (inl (early', y)) = absurd (omega arith)
+insert_rises mesh a first place i j is at not lt within (inr (inr (late, x))) (inr (inl (same', y))) = absurd (omega arith)
+insert_rises mesh a first place i j is at not lt within (inr (inr (late, x))) (inr (inr (late', y))) =
+    let up = is.rising (i - 1) (j - 1) (omega arith) (omega arith) in
+    omega (arith, up, ap (λ p. p.0) x, ap (λ p. p.0) y)
+
+insert_positive : (mesh : Nodes) (a first place i : ℕ) → IsMesh mesh → 1 ≤ first → i < length mesh + 1 → place ≤ length mesh
+    → Standing mesh place (a, first) i → 1 ≤ first_at (insert mesh place (a, first)) i
+insert_positive mesh a first place i is one within le (inl (early, x)) = omega (arith, is.positive i (omega arith), ap (λ p. p.1) x)
+insert_positive mesh a first place i is one within le (inr (inl (same, x))) = omega (arith, one, ap (λ p. p.1) x)
+insert_positive mesh a first place i is one within le (inr (inr (late, x))) = omega (arith, is.positive (i - 1) (omega arith), ap (λ p. p.1) x)
+
+pub insert_is_mesh : (mesh : Nodes) (a first place : ℕ) → IsMesh mesh → IsPlace mesh a place → (place < length mesh → addr_at mesh place ≢ a) → length mesh < 200 → 1 ≤ first
+    → IsMesh (insert mesh place (a, first))
+insert_is_mesh mesh a first place is at not few one =
+    let longer : length (insert mesh place (a, first)) ≡ length mesh + 1 = length-insert mesh place (a, first) at.within in
+    record {
+      rising = λ i j lt within. insert_rises mesh a first place i j is at not lt (omega arith) (at_insert mesh place (a, first) i at.within) (at_insert mesh place (a, first) j at.within);
+      few = omega arith;
+      positive = λ i within. insert_positive mesh a first place i is one (omega arith) at.within (at_insert mesh place (a, first) i at.within);
+    }
+
+-- where an address is absent, what stands at its place is another
+pub absent_is : (mesh : Nodes) (a place : ℕ) → IsPlace mesh a place → index_of mesh a ≡ None → place < length mesh → addr_at mesh place ≢ a
+absent_is mesh a place at none lt e =
+    let there = index_of-found mesh a place at lt e in
+    let clash : Some place ≡ None = sym there ∙ none in
+    cc
+
+-- the place in a list that is the mesh's
+pub place_along : (xs mesh : Nodes) (a place : ℕ) → xs ≡ mesh → place ≤ length xs → ((i : ℕ) → i < place → addr_at xs i < a)
+    → ((i : ℕ) → place ≤ i → i < length xs → a ≤ addr_at xs i) → IsPlace mesh a place
+place_along xs mesh a place e within below above = subst (λ m. IsPlace m a place) e (record { within = within; below = below; above = above })

@@ -32,8 +32,8 @@ four_past f j h = get_or_past (four f) j 0 h
 
 pub four_are : (f : ℕ → ℕ) → ((j : ℕ) → f j < 2 ^ 64) → AreWords (four f)
 four_are f fits = record {
-    four = refl;
-    fit = λ j. elim (cases_lt j 4) [ inl lt ↦ rw (four_at f j lt) (fits j) | inr le ↦ rw (four_past f j le) (omega arith) ];
+  four = refl;
+  fit = λ j. elim (cases_lt j 4) [ inl lt ↦ rw (four_at f j lt) (fits j) | inr le ↦ rw (four_past f j le) (omega arith) ];
 }
 
 pub new_is : members (0 ∷ 0 ∷ 0 ∷ 0 ∷ []) ≡ empty
@@ -55,13 +55,13 @@ with_bit ws i = set ws (i / 64) (bit_or (slice_index ws (i / 64)) (1 * 2 ^ (i % 
 
 pub add_are : (ws : List ℕ) (i : ℕ) → AreWords ws → i < 256 → AreWords (with_bit ws i)
 add_are ws i are lt = record {
-    four = length-set ws (i / 64) _ ∙ are.four;
-    fit = λ j. elim (cases_eq j (i / 64)) [
-      | inl here ↦
+  four = length-set ws (i / 64) _ ∙ are.four;
+  fit = λ j. elim (cases_eq j (i / 64)) [
+    | inl here ↦
         let within : i / 64 < length ws = omega (arith, are.four) in
         rw (here, get_or-set_same ws (i / 64) (bit_or (slice_index ws (i / 64)) (1 * 2 ^ (i % 64) % 2 ^ 64)) 0 within) (or_lt 64 _ _ (are.fit (i / 64)) (omega arith))
-      | inr other ↦ rw (get_or-set_other ws (i / 64) j (bit_or (slice_index ws (i / 64)) (1 * 2 ^ (i % 64) % 2 ^ 64)) 0 other) (are.fit j)
-    ];
+    | inr other ↦ rw (get_or-set_other ws (i / 64) j (bit_or (slice_index ws (i / 64)) (1 * 2 ^ (i % 64) % 2 ^ 64)) 0 other) (are.fit j)
+  ];
 }
 
 pub add_is : (ws : List ℕ) (i : ℕ) → AreWords ws → i < 256 → members (with_bit ws i) ≡ insert (members ws) i
@@ -72,17 +72,17 @@ add_is ws i are lt = same _ _ (λ q.
     let before : contains (insert (members ws) i) q ≡ (eqb q i || has_bit ws q) = contains-insert nat_cmp_total (members ws) i q ∙ rw (unsigned_tied q i, contains-members ws q are) refl in
     elim (cases_eq q i) [
       | inl is ↦
-        let bit : has_bit (with_bit ws i) i ≡ true = rw (get_or-set_same ws (i / 64) v 0 within, bit_at_set_same w64 (slice_index ws (i / 64)) (i % 64) (omega arith)) refl in
-        after ∙ ap (has_bit (with_bit ws i)) is ∙ bit ∙ sym (before ∙ ap (λ (t : Bool). t || has_bit ws q) (eq-eqb q i is))
+          let bit : has_bit (with_bit ws i) i ≡ true = rw (get_or-set_same ws (i / 64) v 0 within, bit_at_set_same w64 (slice_index ws (i / 64)) (i % 64) (omega arith)) refl in
+          after ∙ ap (has_bit (with_bit ws i)) is ∙ bit ∙ sym (before ∙ ap (λ (t : Bool). t || has_bit ws q) (eq-eqb q i is))
       | inr not ↦
-        let stays : has_bit (with_bit ws i) q ≡ has_bit ws q =
-            elim (cases_eq (q / 64) (i / 64)) [
-              | inl here ↦
+          let stays : has_bit (with_bit ws i) q ≡ has_bit ws q =
+          elim (cases_eq (q / 64) (i / 64)) [
+            | inl here ↦
                 let bits : q % 64 ≢ i % 64 = λ e. not (omega arith) in
                 rw (here, get_or-set_same ws (i / 64) v 0 within, bit_at_set_other w64 (slice_index ws (i / 64)) (i % 64) (omega arith) (q % 64) bits) refl
-              | inr other ↦ rw (get_or-set_other ws (i / 64) (q / 64) v 0 other) refl
-            ] in
-        after ∙ stays ∙ sym (before ∙ ap (λ (t : Bool). t || has_bit ws q) (ne_eqb q i not))
+            | inr other ↦ rw (get_or-set_other ws (i / 64) (q / 64) v 0 other) refl
+          ] in
+          after ∙ stays ∙ sym (before ∙ ap (λ (t : Bool). t || has_bit ws q) (ne_eqb q i not))
     ])
 
 or_bit : (x y : ℕ) → x < 2 → y < 2 → eqb (max x y) 1 ≡ (eqb x 1 || eqb y 1)
@@ -111,8 +111,8 @@ and_at a b j = bit_and (slice_index a j) (slice_index b j)
 
 four_bit : (f : ℕ → ℕ) (ws : List ℕ) (q : ℕ) → ((j : ℕ) → 4 ≤ j → f j ≡ 0) → has_bit (four f) q ≡ eqb (bit_at (f (q / 64)) (q % 64)) 1
 four_bit f ws q past = elim (cases_lt (q / 64) 4) [
-    | inl lt ↦ rw (four_at f (q / 64) lt) refl
-    | inr le ↦ rw (four_past f (q / 64) le, past (q / 64) le) refl
+  | inl lt ↦ rw (four_at f (q / 64) lt) refl
+  | inr le ↦ rw (four_past f (q / 64) le, past (q / 64) le) refl
 ]
 
 pub join_are : (a b : List ℕ) → AreWords a → AreWords b → AreWords (four (or_at a b))

@@ -7,8 +7,8 @@ use Rattle.mesh_base.specs.Parts.{parts}
 unfoldable pub address_from : List (List ℕ) → Option ℕ
 address_from (a ∷ b ∷ c ∷ d ∷ []) =
     option_and_then (λ w. option_and_then (λ x. option_and_then (λ y. option_and_then (λ z.
-        Some (16777216 * w + 65536 * x + 256 * y + z))
-        (number_up_to 255 d)) (number_up_to 255 c)) (number_up_to 255 b)) (number_up_to 255 a)
+    Some (16777216 * w + 65536 * x + 256 * y + z))
+    (number_up_to 255 d)) (number_up_to 255 c)) (number_up_to 255 b)) (number_up_to 255 a)
 address_from others = None
 
 -- the address that a text spells (a dot is byte 46)

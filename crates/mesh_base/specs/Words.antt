@@ -27,14 +27,14 @@ bit_at-number_of [] i fit = bit_at-zero i ∙ sym (bit_at-zero (i % 64))
 bit_at-number_of (w ∷ ws) i fit =
     elim (cases_lt i 64) [
       | inl lt ↦
-        let first : i / 64 ≡ 0 = omega arith in
-        let same : i % 64 ≡ i = omega arith in
-        rw (first, same) (bit_at_cat_low (number_of ws) 64 w i lt)
+          let first : i / 64 ≡ 0 = omega arith in
+          let same : i % 64 ≡ i = omega arith in
+          rw (first, same) (bit_at_cat_low (number_of ws) 64 w i lt)
       | inr le ↦
-        let next : i / 64 ≡ suc ((i - 64) / 64) = omega arith in
-        let same : i % 64 ≡ (i - 64) % 64 = omega arith in
-        let w-fits : w < 2 ^ 64 = fit 0 in
-        bit_at_cat_high (number_of ws) 64 w i w-fits le ∙ rw (next, same) (bit_at-number_of ws (i - 64) (Fit-rest w ws fit))
+          let next : i / 64 ≡ suc ((i - 64) / 64) = omega arith in
+          let same : i % 64 ≡ (i - 64) % 64 = omega arith in
+          let w-fits : w < 2 ^ 64 = fit 0 in
+          bit_at_cat_high (number_of ws) 64 w i w-fits le ∙ rw (next, same) (bit_at-number_of ws (i - 64) (Fit-rest w ws fit))
     ]
 
 added : (b : Bool) (s : NodeIds) (k n q : ℕ) → eqb (bit_at n k) 1 ≡ b → contains s q ≡ (ltb q k && eqb (bit_at n q) 1) → contains (cond b (insert s k) s) q ≡ (ltb q (suc k) && eqb (bit_at n q) 1)
@@ -42,15 +42,15 @@ added true s k n q is below =
     elim (cases_eq q k) [
       | inl same ↦ contains-insert nat_cmp_total s k q ∙ rw (unsigned_tied q k, eq-eqb q k same, same, lt-ltb k (suc k) (omega arith), is) refl
       | inr other ↦
-        let later : ltb q k ≡ ltb q (suc k) = elim (cases_lt q k) [ inl lt ↦ lt-ltb q k lt ∙ sym (lt-ltb q (suc k) (omega arith)) | inr le ↦ le-ltb q k le ∙ sym (le-ltb q (suc k) (omega arith)) ] in
-        contains-insert nat_cmp_total s k q ∙ rw (unsigned_tied q k, ne_eqb q k other, below, later) refl
+          let later : ltb q k ≡ ltb q (suc k) = elim (cases_lt q k) [ inl lt ↦ lt-ltb q k lt ∙ sym (lt-ltb q (suc k) (omega arith)) | inr le ↦ le-ltb q k le ∙ sym (le-ltb q (suc k) (omega arith)) ] in
+          contains-insert nat_cmp_total s k q ∙ rw (unsigned_tied q k, ne_eqb q k other, below, later) refl
     ]
 added false s k n q is below =
     elim (cases_eq q k) [
       | inl same ↦ below ∙ rw (same, is, le-ltb k k (omega arith), lt-ltb k (suc k) (omega arith)) refl
       | inr other ↦
-        let later : ltb q k ≡ ltb q (suc k) = elim (cases_lt q k) [ inl lt ↦ lt-ltb q k lt ∙ sym (lt-ltb q (suc k) (omega arith)) | inr le ↦ le-ltb q k le ∙ sym (le-ltb q (suc k) (omega arith)) ] in
-        below ∙ ap (λ (t : Bool). t && eqb (bit_at n q) 1) later
+          let later : ltb q k ≡ ltb q (suc k) = elim (cases_lt q k) [ inl lt ↦ lt-ltb q k lt ∙ sym (lt-ltb q (suc k) (omega arith)) | inr le ↦ le-ltb q k le ∙ sym (le-ltb q (suc k) (omega arith)) ] in
+          below ∙ ap (λ (t : Bool). t && eqb (bit_at n q) 1) later
     ]
 
 pub contains-bits_below : (k n q : ℕ) → contains (bits_below k n) q ≡ (ltb q k && eqb (bit_at n q) 1)
@@ -65,8 +65,8 @@ contains-members ws q are =
     elim (cases_lt q 256) [
       | inl lt ↦ contains-bits_below 256 (number_of ws) q ∙ rw (lt-ltb q 256 lt, bit_at-number_of ws q are.fit) refl
       | inr le ↦
-        let past : slice_index ws (q / 64) ≡ 0 = get_or_past ws (q / 64) 0 (omega (arith, are.four)) in
-        contains-bits_below 256 (number_of ws) q ∙ rw (le-ltb q 256 le, past, bit_at-zero (q % 64)) refl
+          let past : slice_index ws (q / 64) ≡ 0 = get_or_past ws (q / 64) 0 (omega (arith, are.four)) in
+          contains-bits_below 256 (number_of ws) q ∙ rw (le-ltb q 256 le, past, bit_at-zero (q % 64)) refl
     ]
 
 -- ---- the words of a set
@@ -91,17 +91,17 @@ bit_at-number_below (suc k) s i h =
     elim (cases_lt i k) [
       | inl lt ↦ bit_at_cat_low (cond (contains s k) 1 0) k (number_below k s) i lt ∙ bit_at-number_below k s i lt
       | inr le ↦
-        let same : i ≡ k = omega arith in
-        let none : k - k ≡ 0 = omega arith in
-        rw same (bit_at_cat_high (cond (contains s k) 1 0) k (number_below k s) k (number_below-lt k s) (omega arith) ∙ rw none (elim (contains s k) as (λ b. bit_at (cond b 1 0) 0 ≡ cond b 1 0) [ true ↦ refl | false ↦ refl ]))
+          let same : i ≡ k = omega arith in
+          let none : k - k ≡ 0 = omega arith in
+          rw same (bit_at_cat_high (cond (contains s k) 1 0) k (number_below k s) k (number_below-lt k s) (omega arith) ∙ rw none (elim (contains s k) as (λ b. bit_at (cond b 1 0) 0 ≡ cond b 1 0) [ true ↦ refl | false ↦ refl ]))
     ]
 
 number_again : (n : ℕ) → n < 2 ^ 256 → number_below 256 (bits_below 256 n) ≡ n
 number_again n h =
     same_from_bits_below 256 (number_below 256 (bits_below 256 n)) n (number_below-lt 256 (bits_below 256 n)) h (λ i lt.
-        bit_at-number_below 256 (bits_below 256 n) i lt
-        ∙ ap (λ (b : Bool). cond b 1 0) (contains-bits_below 256 n i ∙ ap (λ (t : Bool). t && eqb (bit_at n i) 1) (lt-ltb i 256 lt))
-        ∙ bit_is (bit_at n i) (bit_at-lt n i))
+    bit_at-number_below 256 (bits_below 256 n) i lt
+    ∙ ap (λ (b : Bool). cond b 1 0) (contains-bits_below 256 n i ∙ ap (λ (t : Bool). t && eqb (bit_at n i) 1) (lt-ltb i 256 lt))
+    ∙ bit_is (bit_at n i) (bit_at-lt n i))
 
 four_again : (a b c d : ℕ) → a < 2 ^ 64 → b < 2 ^ 64 → c < 2 ^ 64 → d < 2 ^ 64 → words_of (members (a ∷ b ∷ c ∷ d ∷ [])) ≡ a ∷ b ∷ c ∷ d ∷ []
 unfolding members

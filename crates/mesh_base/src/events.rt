@@ -14,7 +14,9 @@ pub enum Event<'a> {
         body: &'a [u8],
     },
     /// The node handles the front of its inbox.
-    Turn { node: usize },
+    Turn {
+        node: usize,
+    },
 }
 
 /// Which variant of the protocol a node runs.
@@ -93,9 +95,13 @@ pub struct Effect {
 #[derive(Drop)]
 pub enum Took {
     /// A datum for the node itself.
-    Own { body: Bytes },
+    Own {
+        body: Bytes,
+    },
     /// A datum that now waits for a route to `dest`.
-    Stored { dest: usize },
+    Stored {
+        dest: usize,
+    },
     /// A packet from a neighbour.
     Heard {
         from: usize,

@@ -97,7 +97,10 @@ impl Mesh {
     {
         let nodes = self.nodes.as_slice();
         let place = count_below(nodes, a.0);
-        if place < nodes.len() && nodes[place].0 == a.0 {
+        if place == nodes.len() {
+            return None;
+        }
+        if nodes[place].0 == a.0 {
             Some(place)
         } else {
             None
@@ -112,9 +115,9 @@ impl Mesh {
         ensures too_many { IsErrOf result MeshError.TooMany ↔ ((index_of self.old a.0 ≡ None) × (length self.old ≡ 200)) }
         ensures same { OnErr result (self.new ≡ self.old) }
     {
-        if self.index_of(a).is_some() {
+        let None = self.index_of(a) else {
             return Err(MeshError::Twice);
-        }
+        };
         if self.nodes.is_full() {
             return Err(MeshError::TooMany);
         }
