@@ -1,15 +1,15 @@
 -- What the calls do to the members.
-use Rattle.std.proofs.Common.{◌≡◌, ◌≢◌, ◌<◌, ◌≤◌, ℕ, zero, suc, ◌+◌, ◌-◌, ◌*◌, ◌/◌, ◌%◌, ◌^◌, min, max, Bool, true, false, cond, eqb, ltb, ◌&&◌, ◌||◌, bit_and, bit_or, List, [], ◌∷◌, length, set, get_or, slice_index, refl, sym, ap, ◌∙◌, eq-eqb, arith, inl, inr, w64}
+use Rattle.std.proofs.Common.{◌≡◌, ◌≢◌, ◌<◌, ◌≤◌, ℕ, zero, suc, ◌+◌, ◌-◌, ◌*◌, ◌/◌, ◌%◌, ◌^◌, min, max, Bool, true, false, cond, eqb, ltb, ◌&&◌, ◌||◌, not, bit_and, bit_or, List, [], ◌∷◌, length, set, get_or, slice_index, refl, sym, ap, ◌∙◌, eq-eqb, arith, inl, inr, w64}
 use Rattle.std.proofs.lemmas.Bool.{ne_eqb, cases_lt, cases_eq}
 use Rattle.std.proofs.lemmas.Cmp.{nat_cmp_total}
 use Rattle.std.proofs.lemmas.List.{get_or-set_same, get_or-set_other, length-set, get_or_past}
 use Rattle.std.proofs.lemmas.Nat.{or_lt, and_le_l}
-use Rattle.std.proofs.lemmas.Nat.Bits.{bit_at-zero, bit_at-lt, bit_at_or, bit_at_and, bit_at_set_same, bit_at_set_other, shr_and_one}
+use Rattle.std.proofs.lemmas.Nat.Bits.{bit_at-zero, bit_at-lt, bit_at_or, bit_at_and, bit_at_set_same, bit_at_set_other, bit_at_clear_same, bit_at_clear_other, shr_and_one}
 use Rattle.std.specs.Cmp.{unsigned_tied}
 use Rattle.std.specs.Ordering.{nat_cmp}
-use Rattle.std.specs.Int.{bit_at}
+use Rattle.std.specs.Int.{bit_at, bit_not}
 use Rattle.std.specs.FinMap.{nat_cmp-IsAntisymmetric}
-use Rattle.std.specs.FinSet.{FinSet, empty, insert, union, intersection, contains, contains-empty, contains-insert, contains-union, contains-intersection, same_set}
+use Rattle.std.specs.FinSet.{FinSet, empty, insert, remove, union, intersection, contains, contains-empty, contains-insert, contains-remove, contains-union, contains-intersection, same_set}
 use Rattle.mesh_base.specs.Members.{NodeIds, members, AreWords}
 use Rattle.mesh_base.specs.Words.{has_bit, contains-members}
 
@@ -83,6 +83,46 @@ add_is ws i are lt = same _ _ (λ q.
             | inr other ↦ rw (get_or-set_other ws (i / 64) (q / 64) v 0 other) refl
           ] in
           after ∙ stays ∙ sym (before ∙ ap (λ (t : Bool). t || has_bit ws q) (ne_eqb q i not))
+    ])
+
+abbrev cleared : List ℕ → ℕ → ℕ
+cleared ws i = bit_and (slice_index ws (i / 64)) (bit_not w64 (1 * 2 ^ (i % 64) % 2 ^ 64))
+
+abbrev without_bit : List ℕ → ℕ → List ℕ
+without_bit ws i = set ws (i / 64) (cleared ws i)
+
+pub remove_are : (ws : List ℕ) (i : ℕ) → AreWords ws → i < 256 → AreWords (without_bit ws i)
+remove_are ws i are lt = record {
+  four = length-set ws (i / 64) _ ∙ are.four;
+  fit = λ j. elim (cases_eq j (i / 64)) [
+    | inl here ↦
+        let within : i / 64 < length ws = omega (arith, are.four) in
+        let small = and_le_l (slice_index ws (i / 64)) (bit_not w64 (1 * 2 ^ (i % 64) % 2 ^ 64)) in
+        let fit = are.fit (i / 64) in
+        rw (here, get_or-set_same ws (i / 64) (cleared ws i) 0 within) (omega (arith, small, fit))
+    | inr other ↦ rw (get_or-set_other ws (i / 64) j (cleared ws i) 0 other) (are.fit j)
+  ];
+}
+
+pub remove_is : (ws : List ℕ) (i : ℕ) → AreWords ws → i < 256 → members (without_bit ws i) ≡ remove (members ws) i
+remove_is ws i are lt = same _ _ (λ q.
+    let within : i / 64 < length ws = omega (arith, are.four) in
+    let v = cleared ws i in
+    let after : contains (members (without_bit ws i)) q ≡ has_bit (without_bit ws i) q = contains-members (without_bit ws i) q (remove_are ws i are lt) in
+    let before : contains (remove (members ws) i) q ≡ (not (eqb q i) && has_bit ws q) = contains-remove nat_cmp_total (members ws) i q ∙ rw (unsigned_tied q i, contains-members ws q are) refl in
+    elim (cases_eq q i) [
+      | inl is ↦
+          let bit : has_bit (without_bit ws i) i ≡ false = rw (get_or-set_same ws (i / 64) v 0 within, bit_at_clear_same w64 (slice_index ws (i / 64)) (i % 64) (omega arith)) refl in
+          after ∙ ap (has_bit (without_bit ws i)) is ∙ bit ∙ sym (before ∙ ap (λ (t : Bool). not t && has_bit ws q) (eq-eqb q i is))
+      | inr not_it ↦
+          let stays : has_bit (without_bit ws i) q ≡ has_bit ws q =
+          elim (cases_eq (q / 64) (i / 64)) [
+            | inl here ↦
+                let bits : q % 64 ≢ i % 64 = λ e. not_it (omega arith) in
+                rw (here, get_or-set_same ws (i / 64) v 0 within, bit_at_clear_other w64 (slice_index ws (i / 64)) (i % 64) (omega arith) (q % 64) (omega arith) bits) refl
+            | inr other ↦ rw (get_or-set_other ws (i / 64) (q / 64) v 0 other) refl
+          ] in
+          after ∙ stays ∙ sym (before ∙ ap (λ (t : Bool). not t && has_bit ws q) (ne_eqb q i not_it))
     ])
 
 or_bit : (x y : ℕ) → x < 2 → y < 2 → eqb (max x y) 1 ≡ (eqb x 1 || eqb y 1)

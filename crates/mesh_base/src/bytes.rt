@@ -111,3 +111,18 @@ impl Room {
         }
     }
 }
+
+#[cfg(test)]
+mod tests {
+    use super::*;
+    use std::test::Fail;
+
+    #[test]
+    fn memory_is_found(rt: HostRuntime) -> Result<(), Fail> {
+        let copy = Bytes::copy_of(rt.alloc(), b"hi")?;
+        assert_eq!(rt; copy.as_slice(), b"hi".as_slice());
+        let filled = Room::new(rt.alloc(), 3)?.fill(b"you");
+        assert_eq!(rt; filled.as_slice(), b"you".as_slice());
+        Ok(())
+    }
+}

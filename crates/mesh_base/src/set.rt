@@ -1,5 +1,5 @@
 //! Sets of nodes.
-ghost use Rattle.std.specs.Prelude.{◌≡◌, ◌<◌, ◌↔◌, IsTrue};
+ghost use Rattle.std.specs.Prelude.{◌≡◌, ◌<◌, ◌↔◌, IsTrue, IfSome};
 ghost use Rattle.std.specs.FinSet as set;
 ghost use Rattle.mesh_base.specs.Members.{IsLeastFrom, IsLeastBit};
 
@@ -35,12 +35,14 @@ impl Model for NodeSet {
 }
 
 impl NodeSet {
+    /// The set of no nodes.
     pub fn new() -> NodeSet
         ensures { result ≡ set.empty }
     {
         NodeSet { words: [0; 4] }
     }
 
+    /// Node i joins the set.
     pub fn add(&mut self, i: usize)
         requires { i < 256 }
         ensures { self.new ≡ set.insert self.old i }
@@ -48,12 +50,23 @@ impl NodeSet {
         self.words[i / 64] |= 1 << (i % 64);
     }
 
+    /// Node i leaves the set, if it is a member.
+    pub fn remove(&mut self, i: usize)
+        requires { i < 256 }
+        ensures { self.new ≡ set.remove self.old i }
+    {
+        self.words[i / 64] &= !(1 << (i % 64));
+    }
+
+    /// Whether node i is a member.
     pub fn has(&self, i: usize) -> bool
-        ensures { result ≡ set.contains self.now i }
+        ensures value { result ≡ set.contains self.now i }
+        ensures below { IsTrue result → i < 256 }
     {
         i < 256 && (self.words[i / 64] >> (i % 64)) & 1 == 1
     }
 
+    /// The members of o join the set.
     pub fn join(&mut self, o: &NodeSet)
         ensures { self.new ≡ set.union self.old o.now }
     {
@@ -62,6 +75,7 @@ impl NodeSet {
         self.words = [a[0] | b[0], a[1] | b[1], a[2] | b[2], a[3] | b[3]];
     }
 
+    /// The set keeps those members that o has too.
     pub fn meet(&mut self, o: &NodeSet)
         ensures { self.new ≡ set.intersection self.old o.now }
     {
@@ -77,9 +91,11 @@ impl NodeSet {
         self.words == o.words
     }
 
-    /// The least member that is not below i.
+    /// The least member that is not below i. None is the end of the set. It looks at each word
+    /// once, and at no member but the one found.
     pub fn next_from(&self, i: usize) -> Option<usize>
-        ensures { IsLeastFrom self.now i result }
+        ensures least { IsLeastFrom self.now i result }
+        ensures below { IfSome result (λ m. m < 256) }
     {
         let words = &self.words;
         if i >= 256 {
@@ -97,6 +113,7 @@ impl NodeSet {
         None
     }
 
+    /// Whether there is no member.
     #[tactic(auto, using(crate::proofs::Least::none_from_empty, crate::proofs::Least::some_not_empty))]
     pub fn is_empty(&self) -> bool
         ensures { IsTrue result ↔ (self.now ≡ set.empty) }
@@ -105,7 +122,7 @@ impl NodeSet {
     }
 }
 
-/// The place of the least bit of the word that is not below `from`.
+// The place of the least bit of the word that is not below `from`.
 #[tactic(auto, using(crate::proofs::Least::no_bit, crate::proofs::Least::lowest_bit))]
 fn least_bit(word: u64, from: usize) -> Option<usize>
     requires { from < 64 }
