@@ -1,2 +1,3 @@
--- What an entry's number and flag say, and which of two entries is the better.
+-- Read in this order: what an entry's number and flag say and which of two entries is the better; destinations with a number each.
 pub mod Quality
+pub mod Destinations

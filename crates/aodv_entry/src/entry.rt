@@ -1,4 +1,6 @@
 //! An entry of a routing table.
+ghost use Rattle.std.specs.Prelude.{◌≡◌, ◌↔◌, IsTrue};
+
 use mesh_base::NodeSet;
 
 /// Whether a destination's sequence number is known.
@@ -34,4 +36,18 @@ pub struct Entry {
     pub next: usize,
     /// The precursors: neighbours that were told of this route and may use it.
     pub pre: NodeSet,
+}
+
+impl Entry {
+    /// Whether two entries are equal.
+    pub fn same(&self, o: &Entry) -> bool
+        ensures { IsTrue result ↔ (self.now ≡ o.now) }
+    {
+        self.dsn == o.dsn
+            && self.dsk == o.dsk
+            && self.flag == o.flag
+            && self.hops == o.hops
+            && self.next == o.next
+            && self.pre.same(&o.pre)
+    }
 }

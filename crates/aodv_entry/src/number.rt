@@ -1,0 +1,65 @@
+//! Sequence numbers, and which of two entries is the better.
+ghost use Rattle.std.specs.Prelude.{◌≡◌, ◌↔◌, IsNone, IfSome};
+ghost use Rattle.aodv_entry.specs.Quality.{inc, nsqn, is_better};
+
+use crate::entry::{Entry, Flag};
+
+/// The next sequence number, if 32 bits hold it (RFC 3561, section 6.1, without its rollover).
+pub fn inc(n: u32) -> Option<u32>
+    ensures greatest { IsNone result ↔ (n ≡ 4294967295) }
+    ensures value { IfSome result (λ m. m ≡ inc n) }
+{
+    if n == 0 { Some(0) } else { n.checked_add(1) }
+}
+
+/// The net sequence number of an entry (AWN, section 5.1).
+pub fn nsqn(e: &Entry) -> u32
+    ensures { result ≡ nsqn e.now }
+{
+    if e.flag == Flag::Val || e.dsn == 0 {
+        e.dsn
+    } else {
+        e.dsn - 1
+    }
+}
+
+/// Whether a is better than b: a greater net number, or the same with fewer hops.
+pub fn better(a: &Entry, b: &Entry) -> bool
+    ensures { result ≡ is_better a.now b.now }
+{
+    let first = nsqn(a);
+    let second = nsqn(b);
+    second < first || first == second && a.hops < b.hops
+}
+
+#[cfg(test)]
+mod tests {
+    use super::*;
+    use crate::entry::Known;
+    use mesh_base::NodeSet;
+
+    fn entry(dsn: u32, flag: Flag, hops: u8) -> Entry {
+        Entry {
+            dsn,
+            dsk: Known::Kno,
+            flag,
+            hops,
+            next: 1,
+            pre: NodeSet::new(),
+        }
+    }
+
+    #[test]
+    fn an_invalid_entry_is_as_good_as_the_number_before_its_break(rt: HostRuntime) {
+        assert_eq!(rt; inc(0), Some(0));
+        assert_eq!(rt; inc(5), Some(6));
+        assert_eq!(rt; inc(4294967295), None);
+        let broken = entry(6, Flag::Inv, 3);
+        assert_eq!(rt; nsqn(&broken), 5);
+        assert!(rt; better(&entry(5, Flag::Val, 2), &broken));
+        assert!(rt; !better(&entry(5, Flag::Val, 3), &broken));
+        assert!(rt; better(&entry(6, Flag::Val, 9), &broken));
+        assert!(rt; broken.same(&entry(6, Flag::Inv, 3)));
+        assert!(rt; !broken.same(&entry(6, Flag::Val, 3)));
+    }
+}

@@ -1,0 +1,7 @@
+-- Read in this order.
+-- Meaning: from a packet to a message of the model, and who is named that is no node.
+pub mod Meaning
+-- Sent: from a message of the model to its packet.
+pub mod Sent
+-- Laws: what is proved of the two.
+pub mod Laws

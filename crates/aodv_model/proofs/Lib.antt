@@ -1,0 +1,11 @@
+pub mod PairLaws
+pub mod Lookups
+pub mod Entries
+pub mod Changes
+pub mod PlacedTables
+pub mod Readings
+pub mod SoundTables
+pub mod Stores
+pub mod SoundTurns
+pub mod Stale
+pub mod FullNumbers

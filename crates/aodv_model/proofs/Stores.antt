@@ -1,0 +1,92 @@
+-- What the changes of a store keep.
+use Rattle.std.proofs.Common.{◌≡◌, ◌≢◌, ℕ, ◌<◌, Bool, true, false, cond, ◌==◌, List, [], ◌∷◌, ◌++◌, Some, None, Option, refl, ap, sym, ◌∙◌, subst}
+use Rattle.std.specs.List.{AllByRecursion}
+use Rattle.std.specs.Cmp.{nat_cmp_total, unsigned_tied}
+use Rattle.std.proofs.lemmas.Bool.{eqb-true}
+use Rattle.std.proofs.lemmas.Option.{none-some, same_Some}
+use Rattle.std.specs.FinMap as maps
+use Rattle.aodv_model.specs.Tables.{Dests}
+use Rattle.aodv_model.specs.Cores.{Body, Waiting, Store, bodies_in, needs_in, with_body, add, drop, drop_first, rest, marked, unset, set_all, set, has_data, in_qD}
+use Rattle.aodv_model.specs.Handlers.{first_body}
+use Rattle.aodv_model.specs.Soundness.{IsDatum, IsWaitingInMesh, IsStoreInMesh}
+
+module _ (size : ℕ) where
+  put_case : (store : Store) (d : ℕ) (v : Waiting) (q : ℕ) (w : Waiting) (b : Bool) → (q == d) ≡ b → IsWaitingInMesh size d v → IsStoreInMesh size store → cond b (Some v) (maps.get store q) ≡ Some w → IsWaitingInMesh size q w
+  put_case store d v q w true e new kept is = subst (λ k. IsWaitingInMesh size k w) (sym (eqb-true q d e)) (subst (IsWaitingInMesh size d) (same_Some v w is) new)
+  put_case store d v q w false e new kept is = kept q w is
+
+  put_kept : (store : Store) (d : ℕ) (v : Waiting) → IsWaitingInMesh size d v → IsStoreInMesh size store → IsStoreInMesh size (maps.insert store d v)
+  put_kept store d v new kept q w is =
+      put_case store d v q w (q == d) refl new kept (sym (maps.get-insert nat_cmp_total store d v q ∙ ap (λ b. cond b (Some v) (maps.get store q)) (unsigned_tied q d)) ∙ is)
+
+  gone_case : (store : Store) (q : ℕ) (w : Waiting) (b : Bool) → IsStoreInMesh size store → cond b None (maps.get store q) ≡ Some w → IsWaitingInMesh size q w
+  gone_case store q w true kept is = absurd (none-some w is)
+  gone_case store q w false kept is = kept q w is
+
+  gone_kept : (store : Store) (d : ℕ) → IsStoreInMesh size store → IsStoreInMesh size (maps.remove store d)
+  gone_kept store d kept q w is =
+      gone_case store q w (q == d) kept (sym (maps.get-remove nat_cmp_total store d q ∙ ap (λ b. cond b None (maps.get store q)) (unsigned_tied q d)) ∙ is)
+
+  joined : (bs : List Body) (b : Body) → AllByRecursion IsDatum bs → IsDatum b → AllByRecursion IsDatum (bs ++ b ∷ [])
+  joined [] b all new = (new, tt)
+  joined (c ∷ cs) b all new = (all.0, joined cs b all.1 new)
+
+  not_empty : (bs : List Body) (b : Body) → (bs ++ b ∷ []) ≢ []
+  not_empty [] b = λ e. cc
+  not_empty (c ∷ cs) b = λ e. cc
+
+  pub add_kept : (store : Store) (d : ℕ) (b : Body) → d < size → IsDatum b → IsStoreInMesh size store → IsStoreInMesh size (add store d b)
+  unfolding add
+  add_kept store d b l datum kept = put_kept store d (with_body (maps.get store d) b) (more (maps.get store d) refl) kept
+    where
+      more : (o : Option Waiting) → maps.get store d ≡ o → IsWaitingInMesh size d (with_body o b)
+      more None is = record { dest = l; some = λ e. cc; bodies = (datum, tt) }
+      more (Some s) is = let old : IsWaitingInMesh size d s = kept d s is in record { dest = l; some = not_empty s.bodies b; bodies = joined s.bodies b old.bodies datum }
+
+  drop_case : (store : Store) (d : ℕ) (bs : List Body) (needs : Bool) → AllByRecursion IsDatum bs → (bs ≢ [] → d < size) → IsStoreInMesh size store → IsStoreInMesh size (drop_first store d bs needs)
+  drop_case store d [] needs all l kept = gone_kept store d kept
+  drop_case store d (b ∷ bs) needs all l kept = put_kept store d (record { needs_request = needs; bodies = b ∷ bs }) (record { dest = l (λ e. cc); some = λ e. cc; bodies = all }) kept
+
+  pub drop_kept : (store : Store) (d : ℕ) → IsStoreInMesh size store → IsStoreInMesh size (drop store d)
+  unfolding drop
+  drop_kept store d kept = drop_case store d (rest (bodies_in (maps.get store d))) (needs_in (maps.get store d)) (left (maps.get store d) refl) (inside (maps.get store d) refl) kept
+    where
+      behind : (bs : List Body) → AllByRecursion IsDatum bs → AllByRecursion IsDatum (rest bs)
+      behind [] all = tt
+      behind (b ∷ bs) all = all.1
+
+      left : (o : Option Waiting) → maps.get store d ≡ o → AllByRecursion IsDatum (rest (bodies_in o))
+      left None is = tt
+      left (Some s) is = behind s.bodies (kept d s is).bodies
+
+      inside : (o : Option Waiting) → maps.get store d ≡ o → rest (bodies_in o) ≢ [] → d < size
+      inside None is some = absurd (some refl)
+      inside (Some s) is some = (kept d s is).dest
+
+  marked_kept : (needs : Bool) (store : Store) (d : ℕ) (o : Option Waiting) → maps.get store d ≡ o → IsStoreInMesh size store → IsStoreInMesh size (marked needs o store d)
+  marked_kept needs store d None is kept = kept
+  marked_kept needs store d (Some s) is kept = let old : IsWaitingInMesh size d s = kept d s is in put_kept store d (record s { needs_request = needs }) (record { dest = old.dest; some = old.some; bodies = old.bodies }) kept
+
+  pub unset_kept : (store : Store) (d : ℕ) → IsStoreInMesh size store → IsStoreInMesh size (unset store d)
+  unfolding unset
+  unset_kept store d kept = marked_kept false store d (maps.get store d) refl kept
+
+  all_kept : (store : Store) (ds : List ℕ) → IsStoreInMesh size store → IsStoreInMesh size (set_all store ds)
+  all_kept store [] kept = kept
+  all_kept store (d ∷ ds) kept = let later = set_all store ds in marked_kept true later d (maps.get later d) refl (all_kept store ds kept)
+
+  pub set_kept : (store : Store) (dests : Dests) → IsStoreInMesh size store → IsStoreInMesh size (set store dests)
+  unfolding set
+  set_kept store dests kept = all_kept store (maps.keys dests) kept
+
+  -- the first datum that waits
+  pub first_datum : (store : Store) (d : ℕ) → IsStoreInMesh size store → in_qD store d ≡ true → (d < size) × IsDatum (first_body (bodies_in (maps.get store d)))
+  first_datum store d kept has = first (maps.get store d) refl has
+    where
+      of : (bs : List Body) → AllByRecursion IsDatum bs → has_data bs ≡ true → IsDatum (first_body bs)
+      of [] all e = cc
+      of (b ∷ bs) all e = all.0
+
+      first : (o : Option Waiting) → maps.get store d ≡ o → has_data (bodies_in o) ≡ true → (d < size) × IsDatum (first_body (bodies_in o))
+      first None is e = cc
+      first (Some s) is e = ((kept d s is).dest, of s.bodies (kept d s is).bodies e)

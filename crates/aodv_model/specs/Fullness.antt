@@ -1,0 +1,56 @@
+-- Where a step would raise a counter past the greatest value of its field. Such a step isn't made.
+use Rattle.std.specs.Prelude.{ℕ, ◌+◌, Bool, false, not, ◌&&◌, ◌==◌, if◌then◌else◌, Option, Some, None}
+use Rattle.std.specs.List.{list_any}
+use Rattle.std.specs.FinMap as maps
+use Rattle.mesh_base.specs.Members.{NodeIds}
+use Rattle.mesh_base.specs.declared.events.Full.{Full}
+use Rattle.mesh_base.specs.declared.events.Full.TheVariants as full
+use Rattle.mesh_base.specs.declared.events.Variant.{Variant}
+use Rattle.mesh_base.specs.declared.events.Variant.TheVariants as variant
+use Rattle.aodv_model.specs.Cores.{Core, Item, New, Heard, Pkt, Rreq, Rrep, Rerr, has_seen, last_request_id}
+use Rattle.aodv_model.specs.Handlers.{Reaction, key_of, turn, send}
+
+-- the greatest sequence number and the greatest request id: their fields have 32 bits
+abbrev pub greatest : ℕ
+greatest = 4294967295
+
+-- the greatest hop count: its field has 8 bits
+abbrev pub greatest_hops : ℕ
+greatest_hops = 255
+
+-- a request that is new or a reply, with as many hops as its field can hold
+abbrev pub is_hop_full : Core → Item → Bool
+is_hop_full core (New b d) = false
+is_hop_full core (Heard from (Pkt b d o)) = false
+is_hop_full core (Heard from (Rreq m)) = (m.hops == greatest_hops) && not (has_seen core.seen (key_of core.variant m))
+is_hop_full core (Heard from (Rrep m)) = m.hops == greatest_hops
+is_hop_full core (Heard from (Rerr dests)) = false
+
+-- the break of a link raised a number that stood at the greatest
+abbrev pub is_number_full : Reaction → Bool
+is_number_full reaction = list_any (λ n. n == greatest + 1) (maps.values reaction.raised)
+
+-- the field that a turn would overfill: the hop count comes before the number
+abbrev pub turn_full : Core → NodeIds → Item → Option Full
+turn_full core range item =
+    if is_hop_full core item then Some full.Hops
+    else if is_number_full (turn core range item) then Some full.Number
+    else None
+
+-- the field that the send of a stored datum would overfill
+abbrev pub send_full : Core → NodeIds → ℕ → Option Full
+send_full core range d = if is_number_full (send core range d) then Some full.Number else None
+
+-- the node's own requests have come to the greatest id. In the variant `Number` they need none
+abbrev pub is_id_full : Variant → Core → Bool
+is_id_full variant.Base core = last_request_id core.seen core.ip == greatest
+is_id_full variant.Number core = false
+is_id_full variant.Reply core = last_request_id core.seen core.ip == greatest
+is_id_full variant.Error core = last_request_id core.seen core.ip == greatest
+
+-- the field that a request of the node's own would overfill: its number comes before the id
+abbrev pub ask_full : Core → Option Full
+ask_full core =
+    if core.sn == greatest then Some full.Number
+    else if is_id_full core.variant core then Some full.Id
+    else None

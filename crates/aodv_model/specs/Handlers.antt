@@ -1,0 +1,361 @@
+-- What a node does in one turn, at the send of a stored datum, and at a route request.
+-- The variant `Base` is AWN's; what the other three do in its place is said where they differ.
+use Rattle.std.specs.Prelude.{ℕ, ◌+◌, Bool, true, false, not, ◌&&◌, ◌||◌, ◌==◌, nat_le, if◌then◌else◌, Option, Some, None, List, [], ◌∷◌, max, is_some}
+use Rattle.std.specs.FinMap as maps
+use Rattle.std.specs.FinSet as sets
+use Rattle.mesh_base.specs.Members.{NodeIds}
+use Rattle.mesh_base.specs.declared.events.Variant.{Variant}
+use Rattle.mesh_base.specs.declared.events.Variant.TheVariants as variant
+use Rattle.aodv_entry.specs.declared.entry.Entry.{Entry}
+use Rattle.aodv_entry.specs.declared.entry.Known.{Known}
+use Rattle.aodv_entry.specs.declared.entry.Known.TheVariants.{Kno, Unk}
+use Rattle.aodv_entry.specs.declared.entry.Flag.{Flag}
+use Rattle.aodv_entry.specs.declared.entry.Flag.TheVariants.{Val, Inv}
+use Rattle.aodv_entry.specs.Quality.{is_kno, inc}
+use Rattle.aodv_model.specs.Tables.{Table, Dests, sqn, sqnf, in_vD, in_iD, nhop, dhops, precs, update, invalidate, add_pre, unreachable_by, accepted_unreachable, entry_after}
+use Rattle.aodv_model.specs.Cores.{Body, RouteRequest, RouteReply, Message, Pkt, Rreq, Rrep, Rerr, Item, New, Heard, bodies_in, needs_in, in_qD, add, drop, unset, set, Core, has_seen, next_request_id}
+
+-- ---- effects
+
+-- to whom a message goes: to nobody, to one neighbour (unicast), to those of a set (groupcast), or to all (broadcast)
+pub data Cast : Type 0 where
+  Nothing : Cast
+  One : ℕ → Message → Cast
+  Many : NodeIds → Message → Cast
+  All : Message → Cast
+
+-- what a step does beside its new state: a datum is delivered here; a datum is lost; the next hop that a unicast
+-- failed to reach; and the message that is cast
+pub record Effect : Type 0 where
+  pub deliver : Bool
+  pub lost : Bool
+  pub broken : Option ℕ
+  pub cast : Cast
+
+-- a new core, the effect with it, and the destinations with the numbers that the break of a link raised
+-- (empty where no link broke)
+pub record Reaction : Type 0 where
+  pub core : Core
+  pub effect : Effect
+  pub raised : Dests
+
+-- what is taken from the queue: a datum for the node itself, a datum that now waits for a route, or a neighbour's message
+pub data Took : Type 0 where
+  Own : (body : Body) → Took
+  Stored : (dip : ℕ) → Took
+  FromNeighbour : (from : ℕ) → Message → Took
+
+-- ---- building effects
+
+-- no effect
+abbrev pub quiet : Effect
+quiet = record { deliver = false; lost = false; broken = None; cast = Nothing }
+
+-- the cast alone
+abbrev pub casting : Cast → Effect
+casting c = record quiet { cast = c }
+
+-- a datum is delivered
+abbrev pub delivering : Effect
+delivering = record quiet { deliver = true }
+
+-- this core and effect, where no link broke
+abbrev pub plain : Core → Effect → Reaction
+plain core effect = record { core = core; effect = effect; raised = maps.empty }
+
+-- this core, without effect
+abbrev pub only : Core → Reaction
+only core = plain core quiet
+
+-- the same, and a datum is lost
+abbrev pub losing : Reaction → Reaction
+losing reaction = record reaction { effect = record (reaction.effect) { lost = true } }
+
+-- the same, and a datum is lost where a link broke
+abbrev pub losing_if_broken : Reaction → Reaction
+losing_if_broken reaction = record reaction { effect = record (reaction.effect) { lost = is_some (reaction.effect).broken } }
+
+-- the same, where the unicast to y failed
+abbrev pub broken_by : ℕ → Reaction → Reaction
+broken_by y reaction = record reaction { effect = record (reaction.effect) { broken = Some y } }
+
+-- ---- route errors and broken links (RFC 3561, section 6.11)
+
+-- the set of y alone
+abbrev pub one : ℕ → NodeIds
+one y = sets.insert sets.empty y
+
+-- no node is in the set
+abbrev pub is_empty : NodeIds → Bool
+is_empty s = sets.len s == 0
+
+-- the variant is `Error`
+abbrev pub is_error : Variant → Bool
+is_error variant.Base = false
+is_error variant.Number = false
+is_error variant.Reply = false
+is_error variant.Error = true
+
+-- the union of the precursors of the destinations in the list
+abbrev pub all_precs : Table → List ℕ → NodeIds
+all_precs rt [] = sets.empty
+all_precs rt (d ∷ ds) = sets.union (precs rt d) (all_precs rt ds)
+
+-- the union of the precursors of the destinations in the map
+unfoldable pub precs_of : Table → Dests → NodeIds
+precs_of rt dests = all_precs rt (maps.keys dests)
+
+-- the destinations in the map that have precursors
+unfoldable pub with_precs : Table → Dests → Dests
+with_precs rt dests = maps.retain_keys dests (λ d. not (is_empty (precs rt d)))
+
+-- the route error of dests: groupcast to the precursors, of those destinations that have any.
+-- In the variant `Error` it is broadcast, of all of them
+unfoldable pub error_cast : Variant → Table → Dests → Cast
+error_cast v rt dests =
+    if is_error v then (if maps.len dests == 0 then Nothing else All (Rerr dests))
+    else (if is_empty (precs_of rt dests) then Nothing else Many (precs_of rt dests) (Rerr (with_precs rt dests)))
+
+-- The routes to dests are gone (steps 2 to 5 of the break of a link):
+--   1. dests is found: `link_broken` below, or the accepted pairs of a route error
+--   2. the table is invalidated by dests, and waiting data for dests need a request
+--   3. the precursors of all of dests are those to be told
+--   4. only destinations with precursors are told of
+--   5. the route error is cast to them
+unfoldable pub retract : Core → Dests → Reaction
+retract core dests =
+    plain (record core { rt = invalidate core.rt dests; store = set core.store dests }) (casting (error_cast core.variant core.rt dests))
+
+-- the link to y is broken: all valid routes by y are gone, each with its number raised
+unfoldable pub link_broken : Core → ℕ → Reaction
+link_broken core y = record (retract core (unreachable_by core.rt y)) { raised = unreachable_by core.rt y }
+
+-- a unicast to y: it arrives where y is in range, and else the link to y is broken (AWN's conditional unicast)
+unfoldable pub unicast : Core → Message → ℕ → NodeIds → Reaction
+unicast core m y range =
+    if sets.contains range y then plain core (casting (One y m))
+    else broken_by y (link_broken core y)
+
+-- ---- what is learnt from each message (RFC 3561, sections 6.2, 6.5 and 6.7)
+
+-- the entry of a neighbour that was heard: its number is unknown
+abbrev pub neighbour_entry : ℕ → Entry
+neighbour_entry from = record { dsn = 0; dsk = Unk; flag = Val; hops = 1; next = from; pre = sets.empty }
+
+-- the entry that a request or reply with this number and so many hops leads to, by its sender
+abbrev pub route_entry : ℕ → ℕ → ℕ → Entry
+route_entry n hops from = record { dsn = n; dsk = Kno; flag = Val; hops = hops + 1; next = from; pre = sets.empty }
+
+-- the core once a message has come from a neighbour
+unfoldable pub after_hearing : Core → ℕ → Core
+after_hearing core from = record core { rt = update core.rt from (neighbour_entry from) }
+
+-- ---- data
+
+-- a datum given to this node (AWN's NEWPKT): delivered where it is for the node itself, else it waits
+unfoldable pub on_new : Core → Body → ℕ → Reaction
+on_new core b d =
+    if d == core.ip then plain core delivering
+    else only (record core { store = add core.store d b })
+
+-- the error for data to d that can't go on: sent where d has an invalid entry
+unfoldable pub data_error : Core → ℕ → Cast
+data_error core d =
+    if not (in_iD core.rt d) then Nothing
+    else if is_error core.variant then All (Rerr (maps.insert maps.empty d (sqn core.rt d)))
+    else if is_empty (precs core.rt d) then Nothing
+    else Many (precs core.rt d) (Rerr (maps.insert maps.empty d (sqn core.rt d)))
+
+-- a data packet from o to d (AWN's PKT; RFC 3561, section 6.11): delivered, forwarded, or lost
+unfoldable pub on_pkt : Core → NodeIds → Body → ℕ → ℕ → Reaction
+on_pkt core range b d o =
+    if d == core.ip then plain core delivering
+    else if in_vD core.rt d then losing_if_broken (unicast core (Pkt b d o) (nhop core.rt d) range)
+    else losing (plain core (casting (data_error core d)))
+
+-- ---- route requests (AWN's RREQ; RFC 3561, sections 6.5 and 6.6)
+
+-- by what a node knows a request again: its originator and id, or in the variant `Number` its originator and that one's number
+abbrev pub key_of : Variant → RouteRequest → ℕ × ℕ
+key_of variant.Base m = (m.oip, m.id)
+key_of variant.Number m = (m.oip, m.osn)
+key_of variant.Reply m = (m.oip, m.id)
+key_of variant.Error m = (m.oip, m.id)
+
+-- the core once a new request has come: it has a route back to the originator, and will know the request again
+unfoldable pub after_request : Core → ℕ → RouteRequest → Core
+after_request core from m =
+    record (after_hearing core from) {
+      rt = update (after_hearing core from).rt m.oip (route_entry m.osn m.hops from);
+      seen = sets.insert core.seen (key_of core.variant m);
+    }
+
+-- the node is the destination asked for (RFC 3561, section 6.6.1)
+unfoldable pub reply_for_self : Core → NodeIds → RouteRequest → Reaction
+reply_for_self core range m =
+    unicast (record core { sn = max core.sn m.dsn }) (Rrep (record { hops = 0; dip = m.dip; dsn = max core.sn m.dsn; oip = m.oip })) (nhop core.rt m.oip) range
+
+-- the node has a valid route whose number is known and as new as is asked for
+abbrev pub can_answer : Core → RouteRequest → Bool
+can_answer core m = in_vD core.rt m.dip && (nat_le m.dsn (sqn core.rt m.dip) && is_kno (sqnf core.rt m.dip))
+
+-- the table where the sender joins the precursors of d, and then d's next hop those of o
+unfoldable pub join_answer_precursors : Table → ℕ → ℕ → ℕ → Table
+join_answer_precursors rt d o from = let rt1 = add_pre rt d (one from) in add_pre rt1 o (one (nhop rt1 d))
+
+-- the node answers from its table (RFC 3561, section 6.6.2)
+unfoldable pub reply_from_table : Core → NodeIds → ℕ → RouteRequest → Reaction
+reply_from_table core range from m =
+    let rt = join_answer_precursors core.rt m.dip m.oip from in
+    unicast (record core { rt = rt }) (Rrep (record { hops = dhops rt m.dip; dip = m.dip; dsn = sqn rt m.dip; oip = m.oip })) (nhop rt m.oip) range
+
+-- the node passes the request on, with one hop more and the greatest number of dip that is known
+unfoldable pub forward_request : Core → RouteRequest → Reaction
+forward_request core m =
+    plain core (casting (All (Rreq (record m { hops = m.hops + 1; dsn = max (sqn core.rt m.dip) m.dsn }))))
+
+-- a request that is new, in the core after its updates
+unfoldable pub on_new_rreq : Core → NodeIds → ℕ → RouteRequest → Reaction
+on_new_rreq core range from m =
+    if m.dip == core.ip then reply_for_self core range m
+    else if can_answer core m then reply_from_table core range from m
+    else forward_request core m
+
+-- a route request from a neighbour: one that was seen before teaches no more than that the neighbour is there
+unfoldable pub on_rreq : Core → NodeIds → ℕ → RouteRequest → Reaction
+on_rreq core range from m =
+    if has_seen core.seen (key_of core.variant m) then only (after_hearing core from)
+    else on_new_rreq (after_request core from m) range from m
+
+-- ---- route replies (AWN's RREP; RFC 3561, section 6.7)
+
+-- the core once a reply has come: it may have a new route to the destination
+unfoldable pub after_reply : Core → ℕ → RouteReply → Core
+after_reply core from m = record (after_hearing core from) { rt = update (after_hearing core from).rt m.dip (route_entry m.dsn m.hops from) }
+
+-- both known, or both unknown
+abbrev pub same_known : Known → Known → Bool
+same_known Kno Kno = true
+same_known Kno Unk = false
+same_known Unk Kno = false
+same_known Unk Unk = true
+
+-- both valid, or both invalid
+abbrev pub same_flag : Flag → Flag → Bool
+same_flag Val Val = true
+same_flag Val Inv = false
+same_flag Inv Val = false
+same_flag Inv Inv = true
+
+-- two entries are equal: sets are compared by their members
+abbrev pub same_entry : Entry → Entry → Bool
+same_entry a b =
+    (a.dsn == b.dsn)
+    && (same_known a.dsk b.dsk
+    && (same_flag a.flag b.flag
+    && ((a.hops == b.hops)
+    && ((a.next == b.next)
+    && (sets.is_subset a.pre b.pre && sets.is_subset b.pre a.pre)))))
+
+-- the entry is there, and stays as it is where r comes
+abbrev pub leaves : Option Entry → Entry → Bool
+leaves None r = false
+leaves (Some s) r = same_entry (entry_after (Some s) r) s
+
+-- the update of d by r leaves the table as it is
+unfoldable pub changes_nothing : Table → ℕ → Entry → Bool
+changes_nothing rt d r = leaves (maps.get rt d) r
+
+-- the table where o's next hop joins the precursors of d, and then of d's next hop
+unfoldable pub join_reply_precursors : Table → ℕ → ℕ → Table
+join_reply_precursors rt d o = let rt1 = add_pre rt d (one (nhop rt o)) in add_pre rt1 (nhop rt1 d) (one (nhop rt1 o))
+
+-- the node passes the reply on towards its originator, with one hop more
+unfoldable pub forward_reply : Core → NodeIds → RouteReply → Reaction
+forward_reply core range m =
+    let rt = join_reply_precursors core.rt m.dip m.oip in
+    unicast (record core { rt = rt }) (Rrep (record m { hops = m.hops + 1 })) (nhop rt m.oip) range
+
+-- the node passes on what its own entry says in place of what the reply said
+unfoldable pub forward_own_entry : Core → NodeIds → RouteReply → Reaction
+forward_own_entry core range m =
+    let rt = join_reply_precursors core.rt m.dip m.oip in
+    unicast (record core { rt = rt }) (Rrep (record m { hops = dhops rt m.dip; dsn = sqn rt m.dip })) (nhop rt m.oip) range
+
+-- The reply goes on, in the core after its updates: only where it taught something new (it isn't stale).
+-- In the variant `Reply` it goes on wherever the node has a valid route, as that route says
+abbrev pub reply_on : Variant → Core → Bool → NodeIds → RouteReply → Reaction
+reply_on variant.Base core stale range m = if stale then only core else forward_reply core range m
+reply_on variant.Number core stale range m = if stale then only core else forward_reply core range m
+reply_on variant.Reply core stale range m = if in_vD core.rt m.dip then forward_own_entry core range m else only core
+reply_on variant.Error core stale range m = if stale then only core else forward_reply core range m
+
+-- a route reply from a neighbour: it ends here where the node asked for it, or has no route back to who did
+unfoldable pub on_rrep : Core → NodeIds → ℕ → RouteReply → Reaction
+on_rrep core range from m =
+    if (m.oip == core.ip) || not (in_vD (after_reply core from m).rt m.oip) then only (after_reply core from m)
+    else reply_on core.variant (after_reply core from m) (changes_nothing (after_hearing core from).rt m.dip (route_entry m.dsn m.hops from)) range m
+
+-- ---- route errors (AWN's RERR; RFC 3561, section 6.11)
+
+-- a route error from a neighbour: only routes by that neighbour are gone, and only by a greater number
+unfoldable pub on_rerr : Core → ℕ → Dests → Reaction
+on_rerr core from dests = retract (after_hearing core from) (accepted_unreachable (after_hearing core from).rt from dests)
+
+-- ---- turns (the choice of a message's handler in AWN's main process AODV)
+
+-- a message from a neighbour
+abbrev pub on_message : Core → NodeIds → ℕ → Message → Reaction
+on_message core range from (Pkt b d o) = on_pkt core range b d o
+on_message core range from (Rreq m) = on_rreq core range from m
+on_message core range from (Rrep m) = on_rrep core range from m
+on_message core range from (Rerr dests) = on_rerr core from dests
+
+-- one turn with the item from the front of the queue. `range` has the nodes that are in range
+abbrev pub turn : Core → NodeIds → Item → Reaction
+turn core range (New b d) = on_new core b d
+turn core range (Heard from m) = on_message core range from m
+
+-- what the turn takes
+abbrev pub took : Core → Item → Took
+took core (New b d) = if d == core.ip then Own b else Stored d
+took core (Heard from m) = FromNeighbour from m
+
+-- ---- the send of a stored datum (AWN's AODV, where it sends a queued packet)
+
+-- there are data for d, and there is a valid route
+abbrev pub may_send : Core → ℕ → Bool
+may_send core d = in_qD core.store d && in_vD core.rt d
+
+-- the first of the data, or no bytes
+abbrev pub first_body : List Body → Body
+first_body [] = []
+first_body (b ∷ bs) = b
+
+-- the datum is removed only if the unicast succeeded
+abbrev pub drop_if_sent : Reaction → ℕ → Reaction
+drop_if_sent reaction d = if is_some (reaction.effect).broken then reaction else record reaction { core = record (reaction.core) { store = drop (reaction.core).store d } }
+
+-- the first datum that waits for d goes to the next hop
+unfoldable pub send : Core → NodeIds → ℕ → Reaction
+send core range d = drop_if_sent (unicast core (Pkt (first_body (bodies_in (maps.get core.store d))) d core.ip) (nhop core.rt d) range) d
+
+-- ---- a request of the node's own (AWN's AODV, where it initiates a route discovery; RFC 3561, section 6.3)
+
+-- there are data for d and no valid route, and a request is still to be made
+abbrev pub may_ask : Core → ℕ → Bool
+may_ask core d = in_qD core.store d && (needs_in (maps.get core.store d) && not (in_vD core.rt d))
+
+-- the id of the node's next request: a new one, or in the variant `Number` its own new number
+abbrev pub fresh_id : Variant → Core → ℕ
+fresh_id variant.Base core = next_request_id core.seen core.ip
+fresh_id variant.Number core = inc core.sn
+fresh_id variant.Reply core = next_request_id core.seen core.ip
+fresh_id variant.Error core = next_request_id core.seen core.ip
+
+-- the node raises its own number, remembers the request as seen, and broadcasts it
+unfoldable pub ask : Core → ℕ → Reaction
+ask core d =
+    plain
+    (record core { store = unset core.store d; sn = inc core.sn; seen = sets.insert core.seen (core.ip, fresh_id core.variant core) })
+    (casting (All (Rreq (record { hops = 0; id = fresh_id core.variant core; dip = d; dsn = sqn core.rt d; dsk = sqnf core.rt d; oip = core.ip; osn = inc core.sn }))))

@@ -1,0 +1,17 @@
+-- One AODV node. Read in this order.
+-- Pairs: sets of pairs of numbers.
+pub mod Pairs
+-- Tables: what a routing table says of a destination, and how update, invalidation and precursors change it.
+pub mod Tables
+-- Cores: messages, stores of waiting data, and the state of a node.
+pub mod Cores
+-- Handlers: what a node does in one turn, at the send of a stored datum, and at a route request.
+pub mod Handlers
+-- Fullness: where a step would raise a counter past its field's greatest value.
+pub mod Fullness
+-- Soundness: what each node's state keeps, and which messages it may be told.
+pub mod Soundness
+-- Laws: the statements that this crate proves of the above.
+pub mod Laws
+-- Codes: no part of the protocol. They let a type of the code be seen as a state of the model.
+pub mod Codes

@@ -1,0 +1,105 @@
+-- What the state of each node keeps, and which messages it may be told.
+-- `size` is the number of nodes of the mesh: node x is in it where x < size.
+use Rattle.std.specs.Prelude.{◌≡◌, ◌≢◌, ℕ, ◌<◌, ◌≤◌, true, [], length, Some, ⊤}
+use Rattle.std.specs.List.{AllByRecursion}
+use Rattle.std.specs.FinMap as maps
+use Rattle.std.specs.FinSet as sets
+use Rattle.mesh_base.specs.Members.{NodeIds}
+use Rattle.aodv_entry.specs.declared.entry.Entry.{Entry}
+use Rattle.aodv_entry.specs.declared.entry.Known.TheVariants.{Kno}
+use Rattle.aodv_model.specs.Tables.{Table, Dests, in_kD}
+use Rattle.aodv_model.specs.Handlers.{Cast, Nothing, One, Many, All, Reaction}
+use Rattle.aodv_model.specs.Cores.{Body, Message, Pkt, Rreq, Rrep, Rerr, Item, New, Heard, Waiting, Store, Core}
+
+-- ---- numbers
+
+-- an entry for d: it has a hop or more; a number that is known isn't 0; an entry with number 0 is a neighbour's own
+pub record HasSoundNumber (d : ℕ) (e : Entry) : Type 0 where
+  pub hops : 1 ≤ e.hops
+  pub known : e.dsk ≡ Kno → 1 ≤ e.dsn
+  pub direct : e.dsn ≡ 0 → (e.hops ≡ 1) × (e.next ≡ d)
+
+-- each entry's number is sound
+abbrev pub AllSoundNumbers : Table → Type 0
+AllSoundNumbers rt = (d : ℕ) (e : Entry) → maps.get rt d ≡ Some e → HasSoundNumber d e
+
+-- the numbers of a core: its own isn't 0, and those of its entries are sound
+pub record HasSoundNumbers (core : Core) : Type 0 where
+  pub own : 1 ≤ core.sn
+  pub entries : AllSoundNumbers core.rt
+
+-- ---- places
+
+-- every member is in the mesh
+abbrev pub AreBelow : ℕ → NodeIds → Type 0
+AreBelow size s = (p : ℕ) → sets.contains s p ≡ true → p < size
+
+-- an entry for d of node ip: its next hop is another node of the mesh, for which there is an entry too,
+-- and its precursors are in the mesh
+pub record IsPlaced (size ip : ℕ) (rt : Table) (d : ℕ) (e : Entry) : Type 0 where
+  pub dest : d < size
+  pub near : e.next < size
+  pub other : e.next ≢ ip
+  pub has : in_kD rt e.next ≡ true
+  pub pre : AreBelow size e.pre
+
+-- each entry of the table of node ip is in its place
+abbrev pub AllPlaced : ℕ → ℕ → Table → Type 0
+AllPlaced size ip rt = (d : ℕ) (e : Entry) → maps.get rt d ≡ Some e → IsPlaced size ip rt d e
+
+-- a table of node ip: the numbers and the places of its entries
+pub record IsSoundTable (size ip : ℕ) (rt : Table) : Type 0 where
+  pub numbers : AllSoundNumbers rt
+  pub places : AllPlaced size ip rt
+
+-- what every core of a mesh of this size keeps
+pub record IsSoundCore (size : ℕ) (core : Core) : Type 0 where
+  pub own : 1 ≤ core.sn
+  pub table : IsSoundTable size core.ip core.rt
+
+-- ---- data and messages
+
+-- a datum has 1 to 512 bytes
+abbrev pub IsDatum : Body → Type 0
+IsDatum b = (1 ≤ length b) × (length b ≤ 512)
+
+-- what waits for d: d is in the mesh, and there are data
+pub record IsWaitingInMesh (size d : ℕ) (waiting : Waiting) : Type 0 where
+  pub dest : d < size
+  pub some : waiting.bodies ≢ []
+  pub bodies : AllByRecursion IsDatum waiting.bodies
+
+-- whatever waits is in the mesh
+abbrev pub IsStoreInMesh : ℕ → Store → Type 0
+IsStoreInMesh size store = (d : ℕ) (waiting : Waiting) → maps.get store d ≡ Some waiting → IsWaitingInMesh size d waiting
+
+-- each destination is in the mesh
+abbrev pub AreDestsBelow : ℕ → Dests → Type 0
+AreDestsBelow size dests = (d n : ℕ) → maps.get dests d ≡ Some n → d < size
+
+-- a message that a packet of the mesh can spell: it names nodes of the mesh only, its datum has 1 to 512 bytes, and
+-- neither the number of a request's originator nor that of a reply's destination is 0
+abbrev pub IsMessageInMesh : ℕ → Message → Type 0
+IsMessageInMesh size (Pkt b d o) = (d < size) × (o < size) × IsDatum b
+IsMessageInMesh size (Rreq m) = (m.dip < size) × (m.oip < size) × (1 ≤ m.osn)
+IsMessageInMesh size (Rrep m) = (m.dip < size) × (m.oip < size) × (1 ≤ m.dsn)
+IsMessageInMesh size (Rerr dests) = AreDestsBelow size dests
+
+-- an item in the queue of node x: a datum, or a message from another node of the mesh
+abbrev pub IsItemInMesh : ℕ → ℕ → Item → Type 0
+IsItemInMesh size x (New b d) = (d < size) × IsDatum b
+IsItemInMesh size x (Heard from m) = (from < size) × (from ≢ x) × IsMessageInMesh size m
+
+-- what is cast is a message that a packet of the mesh can spell
+abbrev pub IsCastInMesh : ℕ → Cast → Type 0
+IsCastInMesh size Nothing = ⊤
+IsCastInMesh size (One y m) = IsMessageInMesh size m
+IsCastInMesh size (Many s m) = IsMessageInMesh size m
+IsCastInMesh size (All m) = IsMessageInMesh size m
+
+-- a reaction of node ip leaves its core and its store in order, and casts such a message
+pub record IsSoundReaction (size ip : ℕ) (reaction : Reaction) : Type 0 where
+  pub named : (reaction.core).ip ≡ ip
+  pub core : IsSoundCore size reaction.core
+  pub store : IsStoreInMesh size (reaction.core).store
+  pub cast : IsCastInMesh size (reaction.effect).cast

@@ -1,0 +1,159 @@
+-- Routing tables: what they say of a destination, and how they change (RFC 3561, sections 2 and 6.2;
+-- AWN's functions sqn, sqnf, nhop, dhops, precs, update, invalidate and addpreRT).
+-- A node is its index in the mesh. Numbers have no greatest value here: Fullness says where a step ends at one.
+use Rattle.std.specs.Prelude.{ℕ, Bool, true, false, not, ◌&&◌, ◌||◌, ◌==◌, nat_lt, if◌then◌else◌, Option, Some, None, map, unwrap_or}
+use Rattle.std.specs.Ordering.{nat_cmp}
+use Rattle.std.specs.FinMap as maps
+use Rattle.std.specs.FinMap.{FinMap}
+use Rattle.std.specs.FinSet as sets
+use Rattle.mesh_base.specs.Members.{NodeIds}
+use Rattle.aodv_entry.specs.declared.entry.Entry.{Entry}
+use Rattle.aodv_entry.specs.declared.entry.Known.{Known}
+use Rattle.aodv_entry.specs.declared.entry.Known.TheVariants.{Unk}
+use Rattle.aodv_entry.specs.declared.entry.Flag.TheVariants.{Inv}
+use Rattle.aodv_entry.specs.Quality.{is_kno, is_val, inc}
+
+-- at most one entry for each destination
+abbrev pub Table : Type 0
+Table = FinMap nat_cmp Entry
+
+-- destinations with a sequence number each, as a route error names them
+abbrev pub Dests : Type 0
+Dests = FinMap nat_cmp ℕ
+
+-- ---- what a table says of a destination
+
+-- the sequence number of an entry, or 0
+abbrev pub number_in : Option Entry → ℕ
+number_in None = 0
+number_in (Some e) = e.dsn
+
+-- whether the number of an entry is known, or `Unk`
+abbrev pub status_in : Option Entry → Known
+status_in None = Unk
+status_in (Some e) = e.dsk
+
+-- there is an entry, and it is valid
+abbrev pub is_valid_in : Option Entry → Bool
+is_valid_in None = false
+is_valid_in (Some e) = is_val e.flag
+
+-- there is an entry, and it is invalid
+abbrev pub is_invalid_in : Option Entry → Bool
+is_invalid_in None = false
+is_invalid_in (Some e) = not (is_val e.flag)
+
+-- there is an entry
+abbrev pub is_some_in : Option Entry → Bool
+is_some_in None = false
+is_some_in (Some e) = true
+
+-- the next hop of an entry, or 0
+abbrev pub next_in : Option Entry → ℕ
+next_in None = 0
+next_in (Some e) = e.next
+
+-- the hops of an entry, or 0
+abbrev pub hops_in : Option Entry → ℕ
+hops_in None = 0
+hops_in (Some e) = e.hops
+
+-- the precursors of an entry, or none
+abbrev pub pre_in : Option Entry → NodeIds
+pre_in None = sets.empty
+pre_in (Some e) = e.pre
+
+-- d's sequence number, or 0 (unknown) where it has no entry
+abbrev pub sqn : Table → ℕ → ℕ
+sqn rt d = number_in (maps.get rt d)
+
+-- whether d's number is known: `Unk` where it has no entry
+abbrev pub sqnf : Table → ℕ → Known
+sqnf rt d = status_in (maps.get rt d)
+
+-- d has a valid entry
+abbrev pub in_vD : Table → ℕ → Bool
+in_vD rt d = is_valid_in (maps.get rt d)
+
+-- d has an invalid entry
+abbrev pub in_iD : Table → ℕ → Bool
+in_iD rt d = is_invalid_in (maps.get rt d)
+
+-- d has an entry
+abbrev pub in_kD : Table → ℕ → Bool
+in_kD rt d = is_some_in (maps.get rt d)
+
+-- d's next hop; this and the next two are read only where d has an entry
+abbrev pub nhop : Table → ℕ → ℕ
+nhop rt d = next_in (maps.get rt d)
+
+-- the number of hops to d
+abbrev pub dhops : Table → ℕ → ℕ
+dhops rt d = hops_in (maps.get rt d)
+
+-- d's precursors
+abbrev pub precs : Table → ℕ → NodeIds
+precs rt d = pre_in (maps.get rt d)
+
+-- ---- update
+
+-- What becomes of the entry s where r comes for the same destination. r is valid. The first case that applies:
+--   1. there is no s (entry_after, below)            r is added
+--   2. r has the greater number                      r, with the precursors of both
+--   3. the same number, and fewer hops in r,
+--      or s is invalid                               r, with the precursors of both
+--   4. r's number is unknown                         r, with the precursors of both and the number of s
+--   5. otherwise                                     s, with the precursors of both
+unfoldable pub merged : Entry → Entry → Entry
+merged s r =
+    if nat_lt s.dsn r.dsn then record r { pre = sets.union s.pre r.pre }
+    else if (s.dsn == r.dsn) && (nat_lt r.hops s.hops || not (is_val s.flag)) then record r { pre = sets.union s.pre r.pre }
+    else if not (is_kno r.dsk) then record r { dsn = s.dsn; pre = sets.union s.pre r.pre }
+    else record s { pre = sets.union s.pre r.pre }
+
+-- the entry after r has come: case 1, or one of the others
+abbrev pub entry_after : Option Entry → Entry → Entry
+entry_after None r = r
+entry_after (Some s) r = merged s r
+
+-- the table after r has come for the destination d; all other destinations keep their entries
+unfoldable pub update : Table → ℕ → Entry → Table
+update rt d r = maps.insert rt d (entry_after (maps.get rt d) r)
+
+-- ---- invalidation, and precursors
+
+-- the same keys, with values by f
+unfoldable pub mapped : {V W : Type 0} → (ℕ → V → W) → FinMap nat_cmp V → FinMap nat_cmp W
+mapped f m = maps.from_entries (map (λ e. (e.0, f e.0 e.1)) (maps.entries m))
+
+-- an entry for which the map states a number, or not
+abbrev pub invalidated : Entry → Option ℕ → Entry
+invalidated e None = e
+invalidated e (Some n) = record e { dsn = n; flag = Inv }
+
+-- each entry whose destination is in the map has the number stated there, and is invalid; all else stays
+unfoldable pub invalidate : Table → Dests → Table
+invalidate rt dests = mapped (λ d e. invalidated e (maps.get dests d)) rt
+
+-- the entry e of k, where the nodes join the precursors of d
+abbrev pub joined : ℕ → NodeIds → ℕ → Entry → Entry
+joined d nodes k e = if k == d then record e { pre = sets.union e.pre nodes } else e
+
+-- the nodes join the precursors of d's entry
+unfoldable pub add_pre : Table → ℕ → NodeIds → Table
+add_pre rt d nodes = mapped (joined d nodes) rt
+
+-- ---- the destinations that a break or a route error names (RFC 3561, section 6.11)
+
+-- the entry is valid, and its next hop is y
+abbrev pub goes_by : Option Entry → ℕ → Bool
+goes_by None y = false
+goes_by (Some e) y = is_val e.flag && (e.next == y)
+
+-- where the link to y broke: each destination of a valid entry with next hop y, with its number raised
+unfoldable pub unreachable_by : Table → ℕ → Dests
+unreachable_by rt y = mapped (λ d e. inc e.dsn) (maps.retain_keys rt (λ d. goes_by (maps.get rt d) y))
+
+-- of the pairs of a route error from y: those whose destination has a valid entry with next hop y and a smaller number
+unfoldable pub accepted_unreachable : Table → ℕ → Dests → Dests
+accepted_unreachable rt y dests = maps.retain_keys dests (λ d. goes_by (maps.get rt d) y && nat_lt (sqn rt d) (unwrap_or (maps.get dests d) 0))

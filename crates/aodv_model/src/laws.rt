@@ -1,0 +1,32 @@
+//! Laws of one node. Each function has an empty body and a contract that states a law.
+ghost use Rattle.aodv_model.specs.Laws.{StaleIsUnchanged, FullNumber, OpeningIsSound, TurnKeepsCore, SendKeepsCore, AskKeepsCore};
+
+/// A reply is stale exactly where its update leaves the table equal.
+pub fn stale_is_unchanged()
+    ensures { StaleIsUnchanged }
+{}
+
+/// The break of a link overfills a number exactly where a valid entry by that link has the greatest.
+pub fn full_number()
+    ensures { FullNumber }
+{}
+
+/// A node that has done nothing yet is in order.
+pub fn opening_is_sound()
+    ensures { OpeningIsSound }
+{}
+
+/// A turn keeps a node in order, whatever message of the mesh it is told.
+pub fn turn_keeps_core()
+    ensures { TurnKeepsCore }
+{}
+
+/// The send of a stored datum keeps a node in order.
+pub fn send_keeps_core()
+    ensures { SendKeepsCore }
+{}
+
+/// A request of its own keeps a node in order.
+pub fn ask_keeps_core()
+    ensures { AskKeepsCore }
+{}

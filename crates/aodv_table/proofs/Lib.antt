@@ -1,0 +1,4 @@
+pub mod Lookups
+pub mod RowLaws
+pub mod Changes
+pub mod Searches

@@ -1,0 +1,15 @@
+use Rattle.std.proofs.Common.{ap, ◌∙◌}
+use Rattle.std.specs.FinMap as maps
+use Rattle.mesh_base.specs.Members.{NodeIds}
+use Rattle.aodv_table.specs.Rows.{TableSeen}
+use Rattle.aodv_table.proofs.Changes.{pre_joined, none_joined}
+use Rattle.aodv_table.proofs.plain.PlainTableTable.add_pre.Goals as goal
+
+pub returns-in-Some-clause-entries : goal.returns-in-Some-clause-entries
+returns-in-Some-clause-entries c =
+    ap (λ (t : TableSeen). t.entries) c.write.ensures
+    ∙ ap (λ (s : NodeIds). maps.insert c.args.self.now.entries c.args.d (record (c.in-Some.entry) { pre = s })) c.join.ensures
+    ∙ pre_joined c.args.self.now.entries c.args.d c.args.p.now c.in-Some.entry c.in-Some.ensures.value
+
+pub returns-in_default-clause-entries : goal.returns-in_default-clause-entries
+returns-in_default-clause-entries c = none_joined c.args.self.now.entries c.args.d c.args.p.now c.in_default.ensures.value

@@ -1,0 +1,40 @@
+-- What the calls of a table say, beside the changes that aodv_model defines.
+use Rattle.std.specs.Prelude.{◌≡◌, ◌<◌, ◌≤◌, ℕ, ◌+◌, ◌==◌, Bool, true, Option, Some, None}
+use Rattle.std.specs.List.{list_any}
+use Rattle.std.specs.FinMap as maps
+use Rattle.std.specs.FinSet as sets
+use Rattle.mesh_base.specs.Members.{NodeIds}
+use Rattle.aodv_entry.specs.declared.entry.Entry.{Entry}
+use Rattle.aodv_model.specs.Tables.{Table, Dests, in_vD, goes_by}
+use Rattle.aodv_model.specs.Fullness.{greatest}
+
+-- no destination from n on has an entry
+abbrev pub IsBelow : ℕ → Table → Type 0
+IsBelow n rt = (d : ℕ) → n ≤ d → maps.get rt d ≡ None
+
+-- the table in which d has this entry, or none; all other destinations keep theirs
+abbrev pub with_entry : Table → ℕ → Option Entry → Table
+with_entry rt d None = maps.remove rt d
+with_entry rt d (Some e) = maps.insert rt d e
+
+-- the destinations that have an entry
+abbrev pub dests_of : Table → NodeIds
+dests_of rt = sets.from_list (maps.keys rt)
+
+-- the destinations that have a valid entry (AWN's vD)
+unfoldable pub valid_dests : Table → NodeIds
+valid_dests rt = dests_of (maps.retain_keys rt (in_vD rt))
+
+-- the destinations that have a valid entry with next hop y
+unfoldable pub dests_by : Table → ℕ → NodeIds
+dests_by rt y = dests_of (maps.retain_keys rt (λ d. goes_by (maps.get rt d) y))
+
+-- some number was raised past the greatest of its field
+abbrev pub is_past : Dests → Bool
+is_past raised = list_any (λ n. n == greatest + 1) (maps.values raised)
+
+-- some number was raised past the greatest, and d is the least destination of such a one
+pub record IsLeastPast (raised : Dests) (d : ℕ) : Type 0 where
+  pub past : is_past raised ≡ true
+  pub here : maps.get raised d ≡ Some (greatest + 1)
+  pub least : (q : ℕ) → q < d → maps.get raised q ≡ Some (greatest + 1) → ⊥

@@ -1,0 +1,101 @@
+//! What a routing table does.
+ghost use Rattle.std.specs.Prelude.{◌≡◌, ◌<◌, ◌≤◌, ◌↔◌, ℕ, true, false, not, MatchResult, IsSome, OnOk, OnErr};
+ghost use Rattle.std.specs.FinMap as maps;
+ghost use Rattle.std.specs.FinSet as sets;
+ghost use Rattle.mesh_base.specs.Members.{NodeIds};
+ghost use Rattle.aodv_entry.specs.declared.entry.Flag.TheVariants.{Val};
+ghost use Rattle.aodv_model.specs.Tables.{Table as Entries, update, invalidate, add_pre, unreachable_by};
+ghost use Rattle.aodv_model.specs.Handlers.{changes_nothing};
+ghost use Rattle.aodv_table.specs.Calls.{IsBelow, with_entry, valid_dests, dests_by, is_past, IsLeastPast};
+
+use aodv_entry::{Dests, Entry};
+use mesh_base::{NoMemory, NodeSet};
+
+/// The routing table of a node, however it is kept. Destinations and next hops are nodes of one mesh.
+///
+/// A destination gets room for an entry by `make_room`, and keeps it. No other call takes memory.
+pub trait Table: Drop {
+    /// The entries, by destination.
+    ghost entries: { Self → Entries };
+
+    /// The destinations that have room for an entry.
+    ghost rooms: { Self → NodeIds };
+
+    /// The number of nodes of the mesh.
+    ghost nodes: { Self → ℕ };
+
+    /// The number of nodes of the mesh.
+    fn nodes(&self) -> usize
+        ensures value { result ≡ nodes self.now }
+        ensures most { result ≤ 200 }
+        ensures below { IsBelow (nodes self.now) (entries self.now) };
+
+    /// The entry of d, if it has one. No other entry is looked at.
+    fn get(&self, d: usize) -> Option<Entry>
+        requires { d < nodes self.now }
+        ensures value { result ≡ maps.get (entries self.now) d }
+        ensures room { IsSome result → sets.contains (rooms self.now) d ≡ true };
+
+    /// Whether d has room for an entry.
+    fn has_room(&self, d: usize) -> bool
+        requires { d < nodes self.now }
+        ensures { result ≡ sets.contains (rooms self.now) d };
+
+    /// Makes room for an entry of d.
+    fn make_room(&mut self, d: usize) -> Result<(), NoMemory>
+        requires { d < nodes self.old }
+        ensures here { OnOk result (sets.contains (rooms self.new) d ≡ true) }
+        ensures keeps { (q : ℕ) → sets.contains (rooms self.old) q ≡ true → sets.contains (rooms self.new) q ≡ true }
+        ensures refused { OnErr result (rooms self.new ≡ rooms self.old) }
+        ensures entries { entries self.new ≡ entries self.old }
+        ensures nodes { nodes self.new ≡ nodes self.old };
+
+    /// Makes e the entry of d, or takes its entry away. What d had before is gone.
+    fn put(&mut self, d: usize, e: Option<Entry>)
+        requires below { d < nodes self.old }
+        requires room { sets.contains (rooms self.old) d ≡ true }
+        ensures entries { entries self.new ≡ with_entry (entries self.old) d e }
+        ensures rooms { rooms self.new ≡ rooms self.old }
+        ensures nodes { nodes self.new ≡ nodes self.old };
+
+    /// Takes r, a valid entry, for the destination d (AWN's update), and answers whether the entries
+    /// changed.
+    fn update(&mut self, d: usize, r: Entry) -> bool
+        requires below { d < nodes self.old }
+        requires room { sets.contains (rooms self.old) d ≡ true }
+        requires valid { r.flag ≡ Val }
+        ensures entries { entries self.new ≡ update (entries self.old) d r }
+        ensures changed { result ≡ not (changes_nothing (entries self.old) d r) }
+        ensures same { (result ≡ false) ↔ (entries self.new ≡ entries self.old) }
+        ensures rooms { rooms self.new ≡ rooms self.old }
+        ensures nodes { nodes self.new ≡ nodes self.old };
+
+    /// Makes the entries of these destinations invalid, with the numbers stated (AWN's invalidate).
+    fn invalidate(&mut self, dests: &Dests)
+        ensures entries { entries self.new ≡ invalidate (entries self.old) dests.now }
+        ensures rooms { rooms self.new ≡ rooms self.old }
+        ensures nodes { nodes self.new ≡ nodes self.old };
+
+    /// The nodes join the precursors of d's entry, if it has one (AWN's addpreRT).
+    fn add_pre(&mut self, d: usize, p: &NodeSet)
+        requires { d < nodes self.old }
+        ensures entries { entries self.new ≡ add_pre (entries self.old) d p.now }
+        ensures rooms { rooms self.new ≡ rooms self.old }
+        ensures nodes { nodes self.new ≡ nodes self.old };
+
+    /// The destinations that have a valid entry (AWN's vD). The table keeps this set: nothing is
+    /// searched.
+    fn valid(&self) -> NodeSet
+        ensures { result ≡ valid_dests (entries self.now) };
+
+    /// The destinations that have a valid entry with that next hop. All valid entries are looked at.
+    fn through(&self, next: usize) -> NodeSet
+        ensures { result ≡ dests_by (entries self.now) next };
+
+    /// The destinations that have a valid entry with that next hop, each with its number raised: they
+    /// take the place of what `out` held. Or the least of them whose number is the greatest and can't
+    /// be raised; what `out` holds is then left open. All valid entries are looked at.
+    fn dests_via(&self, next: usize, out: &mut Dests) -> Result<(), usize>
+        ensures { let raised = unreachable_by (entries self.now) next in
+            MatchResult result (λ _. (is_past raised ≡ false) × (out.new ≡ raised)) (IsLeastPast raised) };
+}

@@ -1,0 +1,56 @@
+-- A data packet. RFC 3561 has none: this layout is this project's own. It has 12 bytes and a body of 1 to 512.
+use Rattle.std.specs.Prelude.{ℕ, ◌==◌, not, nat_lt, List, [], ◌∷◌, ◌++◌, length, drop, Option}
+use Rattle.mesh_base.specs.declared.addr.Addr.{Addr}
+use Rattle.aodv_wire.specs.declared.error.WireError.{WireError}
+use Rattle.aodv_wire.specs.declared.error.WireError.TheVariants.{WrongLength, BadData}
+use Rattle.aodv_wire.specs.Layout.{Place, place, number_at, laid_out}
+use Rattle.aodv_wire.specs.Refused.{refuse_if, first_of}
+
+-- a datum on its way
+pub record Datum : Type 0 where
+  pub dip : Addr
+  pub oip : Addr
+  pub body : List ℕ
+
+pub data Field : Type 0 where
+  Kind Zero DestinationAddress OriginatorAddress : Field
+
+-- the table: each field's line, first bit and number of bits
+abbrev pub table : Field → Place
+table Kind = place 0 0 8
+table Zero = place 0 8 24
+table DestinationAddress = place 1 0 32
+table OriginatorAddress = place 2 0 32
+
+abbrev pub fields : List Field
+fields = Kind ∷ Zero ∷ DestinationAddress ∷ OriginatorAddress ∷ []
+
+-- reading: what the bytes have in a field
+abbrev pub found : List ℕ → Field → ℕ
+found b f = number_at b (table f)
+
+-- the datum that stands in the fields, and in all bytes behind them
+abbrev pub datum : List ℕ → Datum
+datum b = record {
+  dip = record { 0 = found b DestinationAddress };
+  oip = record { 0 = found b OriginatorAddress };
+  body = drop 12 b;
+}
+
+-- why bytes of this type spell no datum: the first line that applies
+abbrev pub refusal : List ℕ → Option WireError
+refusal b = first_of (
+    refuse_if (nat_lt (length b) 13) WrongLength
+    ∷ refuse_if (nat_lt 524 (length b)) WrongLength
+    ∷ refuse_if (not (found b Zero == 0)) BadData
+    ∷ [])
+
+-- writing: each field's value
+abbrev pub value : Addr → Addr → Field → ℕ
+value dip oip Kind = 16
+value dip oip Zero = 0
+value dip oip DestinationAddress = dip.0
+value dip oip OriginatorAddress = oip.0
+
+abbrev pub bytes_of : Datum → List ℕ
+bytes_of m = laid_out table (value m.dip m.oip) fields 3 ++ m.body

@@ -1,0 +1,104 @@
+-- A route error, RERR: RFC 3561 section 5.3. It has 4 bytes, and 8 for each destination that can't be reached.
+use Rattle.std.specs.Prelude.{◌<◌, ◌≤◌, ℕ, zero, suc, ◌+◌, ◌*◌, ◌==◌, not, nat_lt, if◌then◌else◌, List, [], ◌∷◌, ◌++◌, length, map, drop, Option, Some, None, option_map}
+use Rattle.std.specs.List.{flat_map, list_any}
+use Rattle.mesh_base.specs.declared.addr.Addr.{Addr}
+use Rattle.aodv_wire.specs.declared.error.WireError.{WireError}
+use Rattle.aodv_wire.specs.declared.error.WireError.TheVariants.{WrongLength, OutsideProfile, NoDestinations, Repeated}
+use Rattle.aodv_wire.specs.Layout.{Place, place, number_at, laid_out}
+use Rattle.aodv_wire.specs.Refused.{refuse_if, first_of}
+
+-- the fields of the first line, as the section's figure names them
+pub data Field : Type 0 where
+  Kind N Reserved DestCount : Field
+
+-- the table: each field's line, first bit and number of bits
+abbrev pub table : Field → Place
+table Kind = place 0 0 8
+table N = place 0 8 1
+table Reserved = place 0 9 15
+table DestCount = place 0 24 8
+
+abbrev pub fields : List Field
+fields = Kind ∷ N ∷ Reserved ∷ DestCount ∷ []
+
+-- the two lines of each destination
+pub data PairField : Type 0 where
+  UnreachableAddress UnreachableNumber : PairField
+
+abbrev pub pair_table : PairField → Place
+pair_table UnreachableAddress = place 0 0 32
+pair_table UnreachableNumber = place 1 0 32
+
+abbrev pub pair_fields : List PairField
+pair_fields = UnreachableAddress ∷ UnreachableNumber ∷ []
+
+-- reading: what the bytes have in a field
+abbrev pub found : List ℕ → Field → ℕ
+found b f = number_at b (table f)
+
+-- the pair of address and number in the first eight bytes
+abbrev pub pair : List ℕ → Addr × ℕ
+pair b = (record { 0 = number_at b (pair_table UnreachableAddress) }, number_at b (pair_table UnreachableNumber))
+
+-- n pairs, one after the other
+abbrev pub pairs : ℕ → List ℕ → List (Addr × ℕ)
+pairs zero b = []
+pairs (suc n) b = pair b ∷ pairs n (drop 8 b)
+
+-- the pairs of a whole route error
+abbrev pub destinations : List ℕ → List (Addr × ℕ)
+destinations b = pairs (found b DestCount) (drop 4 b)
+
+-- the first of these addresses that stands among those before it, or among these
+abbrev pub first_repeated : List Addr → List Addr → Option Addr
+first_repeated before [] = None
+first_repeated before (a ∷ after) = if list_any (λ s. s.0 == a.0) before then Some a else first_repeated (before ++ a ∷ []) after
+
+abbrev pub addresses : List (Addr × ℕ) → List Addr
+addresses ps = map (λ p. p.0) ps
+
+-- the first address of these pairs that an earlier pair has too
+abbrev pub repeated : List (Addr × ℕ) → Option Addr
+repeated ps = first_repeated [] (addresses ps)
+
+-- why bytes of this type spell no route error: the first line that applies
+abbrev pub refusal : List ℕ → Option WireError
+refusal b = first_of (
+    -- 5.3: one line, then two for each of DestCount destinations
+    refuse_if (nat_lt (length b) 4) WrongLength
+    ∷ refuse_if (not (length b == 4 + 8 * found b DestCount)) WrongLength
+    -- 5.3: N is set after a local repair
+    ∷ refuse_if (found b N == 1) OutsideProfile
+    -- 5.3: DestCount is at least 1
+    ∷ refuse_if (found b DestCount == 0) NoDestinations
+    -- each destination is named once
+    ∷ option_map Repeated (repeated (destinations b))
+    ∷ [])
+
+-- writing: each field's value, of a route error of n destinations
+abbrev pub value : ℕ → Field → ℕ
+value n Kind = 3
+value n DestCount = n
+value n others = 0
+
+abbrev pub pair_value : Addr × ℕ → PairField → ℕ
+pair_value p UnreachableAddress = p.0.0
+pair_value p UnreachableNumber = p.1
+
+abbrev pub pair_bytes : Addr × ℕ → List ℕ
+pair_bytes p = laid_out pair_table (pair_value p) pair_fields 2
+
+abbrev pub bytes_of : List (Addr × ℕ) → List ℕ
+bytes_of ps = laid_out table (value (length ps)) fields 1 ++ flat_map pair_bytes ps
+
+-- each address is above the one before it
+abbrev pub IsRising : List (Addr × ℕ) → Type 0
+IsRising [] = Unit {0}
+IsRising (p ∷ []) = Unit {0}
+IsRising (p ∷ q ∷ ps) = (p.0.0 < q.0.0) × IsRising (q ∷ ps)
+
+-- what can be written: 1 to 200 destinations, by rising address
+pub record AreDestinations (ps : List (Addr × ℕ)) : Type 0 where
+  pub some : 1 ≤ length ps
+  pub few : length ps ≤ 200
+  pub rising : IsRising ps

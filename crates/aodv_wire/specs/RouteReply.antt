@@ -1,0 +1,66 @@
+-- A route reply, RREP: RFC 3561 section 5.2. It has 20 bytes.
+use Rattle.std.specs.Prelude.{ℕ, ◌==◌, not, List, [], ◌∷◌, length, Option}
+use Rattle.aodv_wire.specs.declared.error.WireError.{WireError}
+use Rattle.aodv_wire.specs.declared.error.WireError.TheVariants.{WrongLength, OutsideProfile, ZeroNumber}
+use Rattle.aodv_wire.specs.declared.message.Rrep.{Rrep}
+use Rattle.aodv_wire.specs.Layout.{Place, place, number_at, laid_out}
+use Rattle.aodv_wire.specs.Refused.{refuse_if, first_of}
+
+-- the fields, as the section's figure names them
+pub data Field : Type 0 where
+  Kind R A Reserved PrefixSize HopCount DestinationAddress DestinationNumber OriginatorAddress Lifetime : Field
+
+-- the table: each field's line, first bit and number of bits
+abbrev pub table : Field → Place
+table Kind = place 0 0 8
+table R = place 0 8 1
+table A = place 0 9 1
+table Reserved = place 0 10 9
+table PrefixSize = place 0 19 5
+table HopCount = place 0 24 8
+table DestinationAddress = place 1 0 32
+table DestinationNumber = place 2 0 32
+table OriginatorAddress = place 3 0 32
+table Lifetime = place 4 0 32
+
+abbrev pub fields : List Field
+fields = Kind ∷ R ∷ A ∷ Reserved ∷ PrefixSize ∷ HopCount ∷ DestinationAddress ∷ DestinationNumber ∷ OriginatorAddress ∷ Lifetime ∷ []
+
+-- reading: what the bytes have in a field
+abbrev pub found : List ℕ → Field → ℕ
+found b f = number_at b (table f)
+
+-- the reply that stands in the fields; any lifetime will do
+abbrev pub reply : List ℕ → Rrep
+reply b = record {
+  hops = found b HopCount;
+  dip = record { 0 = found b DestinationAddress };
+  dsn = found b DestinationNumber;
+  oip = record { 0 = found b OriginatorAddress };
+}
+
+-- why bytes of this type spell no reply: the first line that applies
+abbrev pub refusal : List ℕ → Option WireError
+refusal b = first_of (
+    -- 5.2: the figure has five lines
+    refuse_if (not (length b == 20)) WrongLength
+    -- 5.2: R is for multicast, A asks for an acknowledgment, a prefix size serves a whole subnet
+    ∷ refuse_if (found b R == 1) OutsideProfile
+    ∷ refuse_if (found b A == 1) OutsideProfile
+    ∷ refuse_if (not (found b PrefixSize == 0)) OutsideProfile
+    -- 6.6: a reply carries the number of a valid route, which is at least 1
+    ∷ refuse_if (found b DestinationNumber == 0) ZeroNumber
+    ∷ [])
+
+-- writing: each field's value; the lifetime is the longest
+abbrev pub value : Rrep → Field → ℕ
+value m Kind = 2
+value m HopCount = m.hops
+value m DestinationAddress = m.dip.0
+value m DestinationNumber = m.dsn
+value m OriginatorAddress = m.oip.0
+value m Lifetime = 4294967295
+value m others = 0
+
+abbrev pub bytes_of : Rrep → List ℕ
+bytes_of m = laid_out table (value m) fields 5

@@ -1,0 +1,75 @@
+-- A route request, RREQ: RFC 3561 section 5.1. It has 24 bytes.
+use Rattle.std.specs.Prelude.{ℕ, ◌==◌, not, if◌then◌else◌, List, [], ◌∷◌, length, Option}
+use Rattle.aodv_wire.specs.declared.error.WireError.{WireError}
+use Rattle.aodv_wire.specs.declared.error.WireError.TheVariants.{WrongLength, OutsideProfile, ZeroNumber}
+use Rattle.aodv_wire.specs.declared.message.Rreq.{Rreq}
+use Rattle.aodv_wire.specs.Layout.{Place, place, number_at, laid_out}
+use Rattle.aodv_wire.specs.Refused.{refuse_if, first_of}
+
+-- the fields, as the section's figure names them
+pub data Field : Type 0 where
+  Kind J R G D U Reserved HopCount RreqId DestinationAddress DestinationNumber OriginatorAddress OriginatorNumber : Field
+
+-- the table: each field's line, first bit and number of bits
+abbrev pub table : Field → Place
+table Kind = place 0 0 8
+table J = place 0 8 1
+table R = place 0 9 1
+table G = place 0 10 1
+table D = place 0 11 1
+table U = place 0 12 1
+table Reserved = place 0 13 11
+table HopCount = place 0 24 8
+table RreqId = place 1 0 32
+table DestinationAddress = place 2 0 32
+table DestinationNumber = place 3 0 32
+table OriginatorAddress = place 4 0 32
+table OriginatorNumber = place 5 0 32
+
+abbrev pub fields : List Field
+fields = Kind ∷ J ∷ R ∷ G ∷ D ∷ U ∷ Reserved ∷ HopCount ∷ RreqId ∷ DestinationAddress ∷ DestinationNumber ∷ OriginatorAddress ∷ OriginatorNumber ∷ []
+
+-- reading: what the bytes have in a field
+abbrev pub found : List ℕ → Field → ℕ
+found b f = number_at b (table f)
+
+-- the request that stands in the fields. U says that the destination's number is unknown
+abbrev pub request : List ℕ → Rreq
+request b = record {
+  hops = found b HopCount;
+  id = found b RreqId;
+  dip = record { 0 = found b DestinationAddress };
+  dsn = found b DestinationNumber;
+  known = found b U == 0;
+  oip = record { 0 = found b OriginatorAddress };
+  osn = found b OriginatorNumber;
+}
+
+-- why bytes of this type spell no request: the first line that applies
+abbrev pub refusal : List ℕ → Option WireError
+refusal b = first_of (
+    -- 5.1: the figure has six lines
+    refuse_if (not (length b == 24)) WrongLength
+    -- 5.1: J and R are for multicast, G asks for a gratuitous reply, D lets only the destination answer
+    ∷ refuse_if (found b J == 1) OutsideProfile
+    ∷ refuse_if (found b R == 1) OutsideProfile
+    ∷ refuse_if (found b G == 1) OutsideProfile
+    ∷ refuse_if (found b D == 1) OutsideProfile
+    -- 6.1: a node's own number, raised before a request (6.3), is at least 1
+    ∷ refuse_if (found b OriginatorNumber == 0) ZeroNumber
+    ∷ [])
+
+-- writing: each field's value
+abbrev pub value : Rreq → Field → ℕ
+value m Kind = 1
+value m U = if m.known then 0 else 1
+value m HopCount = m.hops
+value m RreqId = m.id
+value m DestinationAddress = m.dip.0
+value m DestinationNumber = m.dsn
+value m OriginatorAddress = m.oip.0
+value m OriginatorNumber = m.osn
+value m others = 0
+
+abbrev pub bytes_of : Rreq → List ℕ
+bytes_of m = laid_out table (value m) fields 6

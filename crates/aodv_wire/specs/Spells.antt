@@ -1,0 +1,45 @@
+-- Which bytes spell which message, why others spell none, and what is written of a message.
+use Rattle.std.specs.Prelude.{◌≡◌, ℕ, ◌==◌, if◌then◌else◌, List, length, Option, Some, None}
+use Rattle.aodv_wire.specs.declared.error.WireError.{WireError}
+use Rattle.aodv_wire.specs.declared.error.WireError.TheVariants.{Short, UnknownType}
+use Rattle.aodv_wire.specs.declared.message.Message.{Message}
+use Rattle.aodv_wire.specs.declared.message.Message.TheVariants.{Rreq, Rrep, Rerr, Parcel}
+use Rattle.aodv_wire.specs.Layout.{place, number_at}
+use Rattle.aodv_wire.specs.RouteRequest as rreq
+use Rattle.aodv_wire.specs.RouteReply as rrep
+use Rattle.aodv_wire.specs.RouteError as rerr
+use Rattle.aodv_wire.specs.DataPacket as data_packet
+
+-- the type of a packet: each table's first row
+abbrev pub kind : List ℕ → ℕ
+kind b = number_at b (place 0 0 8)
+
+-- the first refusal that applies to the bytes
+unfoldable pub refusal : List ℕ → Option WireError
+refusal b =
+    if length b == 0 then Some Short
+    else if kind b == 1 then rreq.refusal b
+    else if kind b == 2 then rrep.refusal b
+    else if kind b == 3 then rerr.refusal b
+    else if kind b == 16 then data_packet.refusal b
+    else Some (UnknownType (kind b))
+
+-- the message that stands in the fields of a packet of its type, refused or not
+unfoldable pub said : List ℕ → Message
+said b =
+    if kind b == 1 then Rreq (rreq.request b)
+    else if kind b == 2 then Rrep (rrep.reply b)
+    else if kind b == 3 then Rerr (rerr.destinations b)
+    else Parcel (data_packet.datum b)
+
+-- the bytes spell the message: no refusal applies, and it stands in their fields
+pub record Spells (b : List ℕ) (m : Message) : Type 0 where
+  pub allowed : refusal b ≡ None
+  pub stands : said b ≡ m
+
+-- what is written of a message: reserved bits 0, the longest lifetime
+unfoldable pub written : Message → List ℕ
+written (Rreq m) = rreq.bytes_of m
+written (Rrep m) = rrep.bytes_of m
+written (Rerr ps) = rerr.bytes_of ps
+written (Parcel m) = data_packet.bytes_of m

@@ -1,0 +1,32 @@
+//! Why bytes are no packet.
+use mesh_base::Addr;
+use thiserror::Error;
+
+/// Why bytes spell no message: the first reason that applies, in this order.
+#[derive(Clone, Copy, Debug, PartialEq, Eq, Error)]
+pub enum WireError {
+    /// There is no byte.
+    #[error("no byte")]
+    Short,
+    /// The first byte is no type that is read here.
+    #[error("unknown type {0}")]
+    UnknownType(u8),
+    /// The type doesn't have this length.
+    #[error("wrong length for its type")]
+    WrongLength,
+    /// A flag or a prefix size stands for a part of RFC 3561 that isn't run here.
+    #[error("a flag or a prefix size outside this profile")]
+    OutsideProfile,
+    /// A sequence number that is at least 1 is 0.
+    #[error("sequence number 0")]
+    ZeroNumber,
+    /// A route error names no destination.
+    #[error("no destination")]
+    NoDestinations,
+    /// A route error names a destination twice: the first, in the order of its pairs, that an earlier pair has too.
+    #[error("a destination named twice")]
+    Repeated(Addr),
+    /// One of a data packet's bytes 1 to 3 isn't 0.
+    #[error("a data packet's first line is wrong")]
+    BadData,
+}

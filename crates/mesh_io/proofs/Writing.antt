@@ -1,0 +1,132 @@
+-- Writing a text in pieces.
+use Rattle.std.proofs.Common.{◌≡◌, ℕ, ◌≤◌, ◌+◌, ◌-◌, List, [], ◌∷◌, ◌++◌, Option, Some, None, Result, Ok, Err, refl, sym, ap, ◌∙◌, append_assoc, append-nil, take, drop, take-append-drop, length, subst, arith, length-append, OnOk, false, is_err}
+use Rattle.std.proofs.lemmas.List.{take_rest, drop-append-le}
+use Rattle.std.proofs.Math.Seq.{take-add, drop-append_seam}
+use Rattle.std.specs.Io.KnownBytes.{Appends, Keeps, append_known}
+use Rattle.mesh_io.specs.Growth.{known_front}
+use Rattle.mesh_io.specs.Puts.{AppendsFront, Puts}
+
+pub Appends-join : (a b c : Option (List ℕ)) (xs ys zs : List ℕ) → zs ≡ xs ++ ys → Appends a b xs → Appends b c ys → Appends a c zs
+Appends-join None b c xs ys zs e p q = tt
+Appends-join (Some x) None c xs ys zs e p q = absurd p
+Appends-join (Some x) (Some y) None xs ys zs e p q = absurd q
+Appends-join (Some x) (Some y) (Some z) xs ys zs e p q = q ∙ ap (λ l. l ++ ys) p ∙ append_assoc x xs ys ∙ ap (λ l. x ++ l) (sym e)
+
+pub Appends-kept : (a b : Option (List ℕ)) → Keeps a b → Appends a b []
+Appends-kept None b h = tt
+Appends-kept (Some x) None h = h
+Appends-kept (Some x) (Some y) h = h ∙ sym (append-nil x)
+
+pub Appends-none : (a : Option (List ℕ)) → Appends a a []
+Appends-none None = tt
+Appends-none (Some x) = sym (append-nil x)
+
+-- nothing of it was written
+pub AppendsFront-kept : (a b : Option (List ℕ)) (text : List ℕ) → Keeps a b → AppendsFront a b text
+AppendsFront-kept a b text h = record { front = []; rest = text; whole = refl; grown = Appends-kept a b h }
+
+-- a front of the second part
+pub AppendsFront-join : (a b c : Option (List ℕ)) (xs ys zs : List ℕ) → zs ≡ xs ++ ys → Appends a b xs → AppendsFront b c ys → AppendsFront a c zs
+AppendsFront-join a b c xs ys zs e p q = record {
+  front = xs ++ q.front;
+  rest = q.rest;
+  whole = e ∙ ap (λ l. xs ++ l) q.whole ∙ sym (append_assoc xs q.front q.rest);
+  grown = Appends-join a b c xs q.front (xs ++ q.front) refl p q.grown;
+}
+
+-- a part and then the rest
+pub Puts-join : {T E : Type 0} (a b c : Option (List ℕ)) (xs ys zs : List ℕ) (r : Result T E) → zs ≡ xs ++ ys → Appends a b xs → Puts b c ys r → Puts a c zs r
+Puts-join a b c xs ys zs (Ok x) e p q = Appends-join a b c xs ys zs e p q
+Puts-join a b c xs ys zs (Err x) e p q = AppendsFront-join a b c xs ys zs e p q
+
+-- the end of a piece
+pub Puts-end : {T : Type 0} (E : Type 0) (a : Option (List ℕ)) (xs : List ℕ) (x : T) → length xs ≡ 0 → Puts {T = T} {E = E} a a xs (Ok x)
+Puts-end E a [] x h = Appends-none a
+Puts-end E a (y ∷ ys) x h = absurd (omega Rattle.std.proofs.Common.arith)
+
+-- a front goes on with a front of the rest
+pub take_on : (i n : ℕ) (xs : List ℕ) → take (i + n) xs ≡ take i xs ++ take n (take (length xs - i) (drop i xs))
+take_on i n xs = rw take_rest (take-add i n xs)
+
+-- what is held stays after the text
+pub Appends-keeps : (a b c : Option (List ℕ)) (xs : List ℕ) → Appends a b xs → Keeps b c → Appends a c xs
+Appends-keeps None b c xs p h = tt
+Appends-keeps (Some x) None c xs p h = absurd p
+Appends-keeps (Some x) (Some y) None xs p h = absurd h
+Appends-keeps (Some x) (Some y) (Some z) xs p h = h ∙ p
+
+-- what is held stays after a front of the text
+pub AppendsFront-keeps : (a b c : Option (List ℕ)) (text : List ℕ) → AppendsFront a b text → Keeps b c → AppendsFront a c text
+AppendsFront-keeps a b c text p h = record { front = p.front; rest = p.rest; whole = p.whole; grown = Appends-keeps a b c p.front p.grown h }
+
+-- what is held stays after what was put
+pub Puts-keeps : {T E : Type 0} (a b c : Option (List ℕ)) (text : List ℕ) (r : Result T E) → Puts a b text r → Keeps b c → Puts a c text r
+Puts-keeps a b c text (Ok x) p h = Appends-keeps a b c text p h
+Puts-keeps a b c text (Err x) p h = AppendsFront-keeps a b c text p h
+
+-- a buffer that gathers nothing holds what its sink holds
+pub append_known-nil : (known : Option (List ℕ)) (gathered : List ℕ) → gathered ≡ [] → append_known known gathered ≡ known
+append_known-nil None gathered e = refl
+append_known-nil (Some xs) gathered e = ap (λ l. Some (xs ++ l)) e ∙ ap (λ l. Some l) (append-nil xs)
+
+-- a text went whole into a buffer, which then handed on all that it gathered
+pub Appends-handed : (before now : Option (List ℕ)) (gathered text : List ℕ)
+    → gathered ≡ [] → Appends before (append_known now gathered) text → Appends before now text
+Appends-handed before now gathered text e p =
+    let P : Option (List ℕ) → Type 0 = λ known. Appends before known text in subst P (append_known-nil now gathered e) p
+
+-- a front of a text went into a buffer, which has handed on a part of it
+pub AppendsFront-handed : (before now : Option (List ℕ)) (gathered text : List ℕ)
+    → known_front before now ≡ before → AppendsFront before (append_known now gathered) text → AppendsFront before now text
+AppendsFront-handed None now gathered text e p = record { front = []; rest = text; whole = refl; grown = tt }
+AppendsFront-handed (Some xs) None gathered text e p = absurd p.grown
+AppendsFront-handed (Some xs) (Some ys) gathered text e p = record
+    { front = zs; rest = gathered ++ p.rest; whole = p.whole ∙ ap (λ l. l ++ p.rest) split ∙ append_assoc zs gathered p.rest; grown = on }
+  where
+    zs : List ℕ
+    zs = drop (length xs) ys
+
+    on : ys ≡ xs ++ drop (length xs) ys
+    on =
+        let kept : take (length xs) ys ≡ xs = cc in
+        sym (take-append-drop (length xs) ys) ∙ ap (λ l. l ++ drop (length xs) ys) kept
+
+    split : p.front ≡ drop (length xs) ys ++ gathered
+    split =
+        let long = ap length on in
+        let both = length-append xs (drop (length xs) ys) in
+        sym (drop-append_seam xs p.front) ∙ ap (drop (length xs)) (sym p.grown) ∙ drop-append-le (length xs) ys gathered (omega arith)
+
+-- a front of a text that was put through a buffer was put to its sink
+pub AppendsFront-through : (before start opened closed now : Option (List ℕ)) (text : List ℕ) → before ≡ start → opened ≡ before
+    → (AppendsFront start closed text → AppendsFront start now text) → AppendsFront opened closed text → AppendsFront before now text
+AppendsFront-through before start opened closed now text s e front p =
+    let P : Option (List ℕ) → Type 0 = λ known. AppendsFront known closed text in
+    let Q : Option (List ℕ) → Type 0 = λ known. AppendsFront known now text in
+    subst Q (sym s) (front (subst P (e ∙ s) p))
+
+-- what was put through a buffer was put to its sink, once the buffer has given it back
+pub Puts-through : {T E : Type 0} (before start opened closed now : Option (List ℕ)) (gathered text : List ℕ) (r : Result T E)
+    → before ≡ start → opened ≡ before → OnOk r (gathered ≡ []) → (gathered ≡ [] → now ≡ closed)
+    → (AppendsFront start closed text → AppendsFront start now text) → Puts opened closed text r → Puts before now text r
+Puts-through before start opened closed now gathered text (Ok x) s e all whole front p =
+    let P : Option (List ℕ) → Type 0 = λ known. Appends known closed text in
+    let Q : Option (List ℕ) → Type 0 = λ known. Appends before known text in
+    subst Q (sym (whole all)) (subst P e p)
+Puts-through before start opened closed now gathered text (Err x) s e all whole front p =
+    AppendsFront-through before start opened closed now text s e front p
+
+-- a front of a text is one of a longer text
+pub AppendsFront-more : (a b : Option (List ℕ)) (xs ys zs : List ℕ) → zs ≡ xs ++ ys → AppendsFront a b xs → AppendsFront a b zs
+AppendsFront-more a b xs ys zs e p = record
+    { front = p.front; rest = p.rest ++ ys; whole = e ∙ ap (λ l. l ++ ys) p.whole ∙ append_assoc p.front p.rest ys; grown = p.grown }
+
+-- what was written of a text, whether whole or not, is a front of it
+pub Puts-front : {T E : Type 0} (a b : Option (List ℕ)) (xs ys zs : List ℕ) (r : Result T E) → zs ≡ xs ++ ys → Puts a b xs r → AppendsFront a b zs
+Puts-front a b xs ys zs (Ok x) e p = record { front = xs; rest = ys; whole = e; grown = p }
+Puts-front a b xs ys zs (Err x) e p = AppendsFront-more a b xs ys zs e p
+
+-- where nothing failed the text was written whole
+pub Puts-whole : {T E : Type 0} (a b : Option (List ℕ)) (xs : List ℕ) (r : Result T E) → is_err r ≡ false → Puts a b xs r → Appends a b xs
+Puts-whole a b xs (Ok x) e p = p
+Puts-whole a b xs (Err x) e p = absurd cc

@@ -1,0 +1,29 @@
+//! Where the bytes of a run come from and where its text goes: sources and sinks with a count of
+//! their faults, in memory and over std's readers and writers, and a buffer before a sink. A
+//! reader or writer that fails is told from one that ends, and each refusal has a fault as its cause.
+#![tactic(auto)]
+
+mod buffered;
+mod calls;
+mod mem_sink;
+mod mem_source;
+mod put;
+mod read;
+mod sink;
+mod source;
+mod stream;
+mod sure;
+#[cfg(test)]
+mod tests;
+mod through;
+
+pub use buffered::Buffered;
+pub use mem_sink::MemSink;
+pub use mem_source::MemSource;
+pub use put::{PutFault, put_all};
+pub use read::{ReadAllError, Whole, read_all};
+pub use sink::Sink;
+pub use source::{Failed, Source};
+pub use stream::{StdSink, StdSource};
+pub use sure::{SureSink, SureSource};
+pub use through::{Loan, Through};

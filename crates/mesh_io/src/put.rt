@@ -1,0 +1,42 @@
+//! Writing a whole piece.
+ghost use Rattle.std.specs.Prelude.{◌≡◌, ◌≤◌, ◌<◌, length, take};
+ghost use Rattle.std.specs.Io.KnownBytes.{Appends};
+ghost use Rattle.mesh_io.specs.Cause.{HasCause, Rose};
+ghost use Rattle.mesh_io.specs.Puts.{Puts};
+
+use crate::sink::Sink;
+use thiserror::Error;
+
+/// A sink has failed.
+#[derive(Clone, Copy, Debug, PartialEq, Eq, Error)]
+#[error("a write failed")]
+pub struct PutFault;
+
+/// Writes the piece up to its end or the first fault, and says how many bytes were written.
+pub fn put_front<O: Sink>(out: &mut O, piece: &[u8]) -> usize
+    ensures within { result ≤ length piece.now }
+    ensures text { Appends (O.held out.old) (O.held out.new) (take result piece.now) }
+    ensures later { O.faults out.old ≤ O.faults out.new }
+    ensures failed { result < length piece.now → Rose (O.faults out.old) (O.faults out.new) }
+    ensures none { result ≡ length piece.now → O.faults out.new ≡ O.faults out.old }
+{
+    let mut written = 0;
+    while written < piece.len() {
+        match out.put(&piece[written..]) {
+            Ok(n) => written += n,
+            Err(_) => return written,
+        }
+    }
+    written
+}
+
+/// Writes the whole piece, or a front of it where the sink fails.
+pub fn put_all<O: Sink>(out: &mut O, piece: &[u8]) -> Result<(), PutFault>
+    ensures text { Puts (O.held out.old) (O.held out.new) piece.now result }
+    ensures cause { HasCause (O.faults out.old) (O.faults out.new) result }
+{
+    if put_front(out, piece) < piece.len() {
+        return Err(PutFault);
+    }
+    Ok(())
+}

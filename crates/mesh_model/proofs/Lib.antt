@@ -1,0 +1,16 @@
+pub mod Lists
+pub mod Backing
+pub mod Leads
+pub mod Turns
+pub mod Steps
+pub mod Acyclic
+pub mod Short
+pub mod Sizes
+pub mod MeshSteps
+pub mod TrailTables
+pub mod TrailTurns
+pub mod TrailSteps
+pub mod Honest
+pub mod Totals
+pub mod AccountTurns
+pub mod AccountSteps

@@ -1,0 +1,254 @@
+-- Every step keeps the walks.
+use Rattle.std.proofs.Common.{◌≡◌, ℕ, ◌+◌, Bool, true, false, ◌==◌, List, [], ◌∷◌, ◌++◌, set, length, Some, None, Option, refl, ap, sym, ◌∙◌, subst}
+use Rattle.std.specs.Prelude.{slice_get}
+use Rattle.std.specs.List.{AllByRecursion}
+use Rattle.std.proofs.lemmas.Bool.{eqb-true, eqb-false}
+use Rattle.std.specs.FinSet as sets
+use Rattle.aodv_model.proofs.Entries.{if_case}
+use Rattle.aodv_model.specs.Cores.{Core, Heard, Item, Message, New, Pkt, Rerr, Rrep, Rreq, has_seen}
+use Rattle.aodv_model.specs.Fullness.{ask_full, send_full, turn_full}
+use Rattle.aodv_model.specs.Handlers.{All, Cast, Many, Nothing, One, Reaction, ask, key_of, may_ask, may_send, send, turn}
+use Rattle.mesh_base.specs.declared.events.Full.{Full}
+use Rattle.mesh_base.specs.declared.events.Variant.{Variant}
+use Rattle.mesh_model.proofs.Leads.{Grows}
+use Rattle.mesh_model.proofs.Lists.{each_append, each_map, set_other, set_same}
+use Rattle.mesh_model.proofs.MeshSteps.{both_more, each_receiver, has_fewer, has_more, range_has}
+use Rattle.mesh_model.proofs.Steps.{Follows, each_node, fit, follows_of, found_honest, without_honest}
+use Rattle.mesh_model.proofs.TrailTables.{Later, traced_stays, trail_stays}
+use Rattle.mesh_model.proofs.TrailTurns.{Begins, IsCastSent, IsHere, IsSent, Traces, ask_traces, send_traces, turn_traces}
+use Rattle.mesh_model.proofs.Turns.{IsOk, ask_ok, send_ok, turn_ok}
+use Rattle.mesh_model.specs.Invariants.{AtLeast, IsLoopSafe, IsLoopSafeNode}
+use Rattle.mesh_model.specs.Trails.{Around, CopyHasWalk, EntriesHaveWalks, HasWalks, IsAbsent, IsBackedWalk, ItemHasWalk, MessageHasWalk, NodeHasWalks, around, front, seen_in}
+use Rattle.mesh_model.specs.Walks.{rt_in, table}
+use Rattle.mesh_model.specs.Worlds.{Ask, Changed, Copy, CopyDoubled, CopyHeard, CopyLost, Cut, Deliver, Double, Event, Give, Goes, Idle, Link, Lose, Node, Outcome, Send, Sent, Turn, World, after, are_linked, ask_of, at_copy, at_node, copies, copies_of, copies_to, done_by, double_of, find_copy, members_below, pair, push, range, receivers, send_of, step, turn_of, unless_full, with_double, with_item, with_link, without_copy, without_link}
+
+message_stays : (a b : Around) → Later a b → (from : ℕ) (m : Message) → MessageHasWalk a from m → MessageHasWalk b from m
+message_stays a b later from (Pkt x d o) t = tt
+message_stays a b later from (Rreq m) t = record {
+  others = t.others;
+  walk = trail_stays a b later m.oip m.osn (from ∷ t.others) t.walk;
+  long = t.long;
+  keys = subst (λ v. AllByRecursion (λ z. has_seen (b.seen z) (key_of v m) ≡ true) (from ∷ t.others)) (sym later.variant)
+      (each_map (λ z. has_seen (a.seen z) (key_of a.variant m) ≡ true) (λ z. has_seen (b.seen z) (key_of a.variant m) ≡ true) (λ z e. later.seen z _ e) (from ∷ t.others) t.keys);
+}
+message_stays a b later from (Rrep m) t = record { others = t.others; walk = trail_stays a b later m.dip m.dsn (from ∷ t.others) t.walk; long = t.long }
+message_stays a b later from (Rerr dests) t = tt
+
+item_stays : (a b : Around) → Later a b → (x : ℕ) (item : Item) → ItemHasWalk a x item → ItemHasWalk b x item
+item_stays a b later x (New y d) t = tt
+item_stays a b later x (Heard from m) t = (later.ever _ t.0, message_stays a b later from m t.1)
+
+copy_stays : (a b : Around) → Later a b → (c : Copy) → CopyHasWalk a c → CopyHasWalk b c
+copy_stays a b later c t = (later.ever _ t.0, message_stays a b later c.from c.message t.1)
+
+node_stays : (a b : Around) → Later a b → (x : ℕ) (n : Node) → NodeHasWalks a x n → NodeHasWalks b x n
+node_stays a b later x n t = record { variant = t.variant ∙ sym later.variant; entries = traced_stays a b later x (n.core).rt t.entries; queue = each_map (ItemHasWalk a x) (ItemHasWalk b x) (item_stays a b later x) n.queue t.queue }
+
+-- ---- what a core sends
+
+trail_of : (a b : Around) (core : Core) (x d n : ℕ) (others : List ℕ) → Later a b → core.ip ≡ x → b.tables x ≡ core.rt → Begins a core d n others → IsBackedWalk b d n (x ∷ others)
+trail_of a b core x d n [] later ip rt w = sym ip ∙ w
+trail_of a b core x d n (y ∷ ys) later ip rt w =
+    (later.ever _ (subst (λ k. are_linked a.ever y k ≡ true) ip w.0), w.1, subst (λ t. AtLeast t d n (length (y ∷ ys))) (sym rt) w.2, subst (λ k. IsAbsent k (front (y ∷ ys))) ip w.3, trail_stays a b later d n (y ∷ ys) w.4)
+
+sent_trailed : (a b : Around) (core : Core) (x : ℕ) (m : Message) → Later a b → core.ip ≡ x → b.tables x ≡ core.rt → b.seen x ≡ core.seen → IsSent a core m → MessageHasWalk b x m
+sent_trailed a b core x (Pkt y d o) later ip rt seen s = tt
+sent_trailed a b core x (Rreq m) later ip rt seen s = record {
+  others = s.others;
+  walk = trail_of a b core x m.oip m.osn s.others later ip rt s.walk;
+  long = s.long;
+  keys = subst (λ v. AllByRecursion (λ z. has_seen (b.seen z) (key_of v m) ≡ true) (x ∷ s.others)) (sym later.variant) (
+    ap (λ k. sets.contains k (key_of a.variant m)) seen ∙ s.own,
+    each_map (λ z. has_seen (a.seen z) (key_of a.variant m) ≡ true) (λ z. has_seen (b.seen z) (key_of a.variant m) ≡ true) (λ z e. later.seen z _ e) s.others s.keys,
+  );
+}
+sent_trailed a b core x (Rrep m) later ip rt seen s = record { others = s.others; walk = trail_of a b core x m.dip m.dsn s.others later ip rt s.walk; long = s.long }
+sent_trailed a b core x (Rerr dests) later ip rt seen s = tt
+
+copies_to_trailed : (b : Around) (tos : List ℕ) (id x : ℕ) (m : Message) → AllByRecursion (λ y. are_linked b.ever x y ≡ true) tos → MessageHasWalk b x m → AllByRecursion (CopyHasWalk b) (copies_to tos id x m)
+copies_to_trailed b [] id x m all t = tt
+copies_to_trailed b (to ∷ tos) id x m all t = ((all.0, t), copies_to_trailed b tos (id + 1) x m all.1 t)
+
+copies_of_trailed : (a b : Around) (core : Core) (x : ℕ) (c : Cast) (tos : List ℕ) (id : ℕ) → Later a b → core.ip ≡ x → b.tables x ≡ core.rt → b.seen x ≡ core.seen → AllByRecursion (λ y. are_linked b.ever x y ≡ true) tos → IsCastSent a core c → AllByRecursion (CopyHasWalk b) (copies_of c tos id x)
+copies_of_trailed a b core x Nothing tos id later ip rt seen all s = tt
+copies_of_trailed a b core x (One y m) tos id later ip rt seen all s = copies_to_trailed b tos id x m all (sent_trailed a b core x m later ip rt seen s)
+copies_of_trailed a b core x (Many t m) tos id later ip rt seen all s = copies_to_trailed b tos id x m all (sent_trailed a b core x m later ip rt seen s)
+copies_of_trailed a b core x (All m) tos id later ip rt seen all s = copies_to_trailed b tos id x m all (sent_trailed a b core x m later ip rt seen s)
+
+copies_trailed : (a b : Around) (core : Core) (w : World) (x : ℕ) (c : Cast) → Later a b → core.ip ≡ x → b.tables x ≡ core.rt → b.seen x ≡ core.seen → ((y : ℕ) → sets.contains (range w x) y ≡ true → are_linked b.ever x y ≡ true) → IsCastSent a core c → AllByRecursion (CopyHasWalk b) (copies w x c)
+unfolding copies
+copies_trailed a b core w x c later ip rt seen within s =
+    copies_of_trailed a b core x c (members_below (length w.nodes) (receivers (range w x) c)) w.next_copy later ip rt seen
+    (each_receiver (λ y. are_linked b.ever x y ≡ true) (length w.nodes) (range w x) c within) s
+
+-- ---- one node changes
+
+seen_later : (nodes : List Node) (x : ℕ) (old new : Node) (key : ℕ × ℕ) → slice_get nodes x ≡ Some old → (has_seen (old.core).seen key ≡ true → has_seen (new.core).seen key ≡ true)
+    → (y : ℕ) (b : Bool) → (y == x) ≡ b → has_seen (seen_in (slice_get nodes y)) key ≡ true → has_seen (seen_in (slice_get (set nodes x new) y)) key ≡ true
+seen_later nodes x old new key is more y true same has =
+    let e : y ≡ x = eqb-true y x same in
+    let had : has_seen (old.core).seen key ≡ true = subst (λ o. has_seen (seen_in o) key ≡ true) (ap (slice_get nodes) e ∙ is) has in
+    subst (λ o. has_seen (seen_in o) key ≡ true) (sym (ap (slice_get (set nodes x new)) e ∙ set_same nodes x new old is)) (more had)
+seen_later nodes x old new key is more y false other has =
+    subst (λ o. has_seen (seen_in o) key ≡ true) (sym (set_other nodes x y new (eqb-false y x other))) has
+
+later_of : (v : Variant) (w w' : World) (x : ℕ) (old new : Node) → slice_get w.nodes x ≡ Some old → w'.nodes ≡ set w.nodes x new → w'.ever ≡ w.ever → Grows (old.core).rt (new.core).rt
+    → ((key : ℕ × ℕ) → has_seen (old.core).seen key ≡ true → has_seen (new.core).seen key ≡ true) → Later (around v w) (around v w')
+later_of v w w' x old new is nodes ever grows more =
+    let follows : Follows (table w) (table w') = follows_of w w' x old new is nodes grows in
+    record {
+      variant = refl;
+      keeps = follows.keeps;
+      seen = λ y key has. subst (λ ns. has_seen (seen_in (slice_get ns y)) key ≡ true) (sym nodes) (seen_later w.nodes x old new key is (more key) y (y == x) refl has);
+      ever = λ p e. subst (λ s. sets.contains s p ≡ true) (sym ever) e;
+    }
+
+node_trails : (v : Variant) (w w' : World) (x : ℕ) (old new : Node) → HasWalks v w → slice_get w.nodes x ≡ Some old → w'.nodes ≡ set w.nodes x new → w'.links ≡ w.links → w'.ever ≡ w.ever → Later (around v w) (around v w')
+    → NodeHasWalks (around v w') x new → AllByRecursion (CopyHasWalk (around v w')) w'.flying → HasWalks v w'
+node_trails v w w' x old new trails is nodes links ever later traced flying = record {
+  nodes = λ y n found. each_node (λ y n. NodeHasWalks (around v w') y n) w.nodes x old new is traced
+      (λ y n there. node_stays (around v w) (around v w') later y n (trails.nodes y n there)) y n (y == x) refl (subst (λ ns. slice_get ns y ≡ Some n) nodes found);
+  flying = flying;
+  stood = λ p e. subst (λ s. sets.contains s p ≡ true) (sym ever) (trails.stood p (subst (λ s. sets.contains s p ≡ true) links e));
+}
+
+flying_stays : (v : Variant) (w w' : World) → Later (around v w) (around v w') → AllByRecursion (CopyHasWalk (around v w)) w.flying → AllByRecursion (CopyHasWalk (around v w')) w.flying
+flying_stays v w w' later all = each_map (CopyHasWalk (around v w)) (CopyHasWalk (around v w')) (copy_stays (around v w) (around v w') later) w.flying all
+
+here_of : (v : Variant) (w : World) (x : ℕ) (n : Node) → IsLoopSafe w → HasWalks v w → slice_get w.nodes x ≡ Some n → IsHere (around v w) n.core
+here_of v w x n inv trails is =
+    let t : NodeHasWalks (around v w) x n = trails.nodes x n is in
+    let named : (n.core).ip ≡ x = inv.named x n is in
+    record {
+      variant = t.variant;
+      tables = λ d k h one at. subst (λ o. AtLeast (rt_in o) d k h) (ap (slice_get w.nodes) named ∙ is) at;
+      seen = λ key has. subst (λ o. has_seen (seen_in o) key ≡ true) (ap (slice_get w.nodes) named ∙ is) has;
+      traced = subst (λ k. EntriesHaveWalks (around v w) k (n.core).rt) (sym named) t.entries;
+    }
+
+done_trails : (v : Variant) (w : World) (x : ℕ) (n : Node) (did : Reaction) (queue : List Item) → IsLoopSafe w → HasWalks v w → slice_get w.nodes x ≡ Some n → IsOk (table w) n.core did → Traces (around v w) n.core did → AllByRecursion (ItemHasWalk (around v w) x) queue → HasWalks v (done_by w x did queue)
+unfolding done_by
+done_trails v w x n did queue inv trails is ok traces items =
+    let new : Node = record { core = did.core; queue = queue } in
+    let w' : World = done_by w x did queue in
+    let named : (n.core).ip ≡ x = inv.named x n is in
+    let t : NodeHasWalks (around v w) x n = trails.nodes x n is in
+    let later : Later (around v w) (around v w') = later_of v w w' x n new is refl refl ok.leads.grows traces.seen in
+    let mine : table w' x ≡ (did.core).rt = ap rt_in (set_same w.nodes x new n is) in
+    let known : seen_in (slice_get (set w.nodes x new) x) ≡ (did.core).seen = ap seen_in (set_same w.nodes x new n is) in
+    node_trails v w w' x n new trails is refl refl refl later
+    (record {
+      variant = traces.variant ∙ t.variant;
+      entries = traced_stays (around v w) (around v w') later x (did.core).rt (subst (λ k. EntriesHaveWalks (around v w) k (did.core).rt) named traces.traced);
+      queue = each_map (ItemHasWalk (around v w) x) (ItemHasWalk (around v w') x) (item_stays (around v w) (around v w') later x) queue items;
+    })
+    (each_append (CopyHasWalk (around v w')) w.flying _ (flying_stays v w w' later trails.flying)
+    (copies_trailed (around v w) (around v w') did.core w x (did.effect).cast later (traces.named ∙ named) mine known (λ y e. trails.stood _ (range_has w x y e).1) traces.cast))
+
+-- ---- what leaves the nodes alone
+
+same_trails : (v : Variant) (w w' : World) → w'.nodes ≡ w.nodes → ((p : ℕ × ℕ) → sets.contains w.ever p ≡ true → sets.contains w'.ever p ≡ true) → HasWalks v w → (Later (around v w) (around v w') → AllByRecursion (CopyHasWalk (around v w')) w'.flying)
+    → ((p : ℕ × ℕ) → sets.contains w'.links p ≡ true → sets.contains w'.ever p ≡ true) → HasWalks v w'
+same_trails v w w' nodes ever trails flying stood =
+    let later : Later (around v w) (around v w') = record {
+      variant = refl;
+      keeps = λ x d n h one at. subst (λ ns. AtLeast (rt_in (slice_get ns x)) d n h) (sym nodes) at;
+      seen = λ x key has. subst (λ ns. has_seen (seen_in (slice_get ns x)) key ≡ true) (sym nodes) has;
+      ever = ever;
+    } in
+    record {
+      nodes = λ x n found. node_stays (around v w) (around v w') later x n (trails.nodes x n (subst (λ ns. slice_get ns x ≡ Some n) nodes found));
+      flying = flying later;
+      stood = stood;
+    }
+
+item_trails : (v : Variant) (w : World) (x : ℕ) (o : Option Node) (item : Item) → HasWalks v w → slice_get w.nodes x ≡ o → ItemHasWalk (around v w) x item → HasWalks v (with_item w x o item)
+item_trails v w x None item trails is t = trails
+item_trails v w x (Some n) item trails is t =
+    let new : Node = record n { queue = n.queue ++ item ∷ [] } in
+    let w' : World = with_item w x (Some n) item in
+    let p : NodeHasWalks (around v w) x n = trails.nodes x n is in
+    let later : Later (around v w) (around v w') = later_of v w w' x n new is refl refl (record { keeps = λ d n h one at. at }) (λ key e. e) in
+    node_trails v w w' x n new trails is refl refl refl later
+    (record {
+      variant = p.variant;
+      entries = traced_stays (around v w) (around v w') later x (n.core).rt p.entries;
+      queue = each_map (ItemHasWalk (around v w) x) (ItemHasWalk (around v w') x) (item_stays (around v w) (around v w') later x) (n.queue ++ item ∷ []) (each_append (ItemHasWalk (around v w) x) n.queue (item ∷ []) p.queue (t, tt));
+    })
+    (flying_stays v w w' later trails.flying)
+
+push_trails : (v : Variant) (w : World) (x : ℕ) (item : Item) → HasWalks v w → ItemHasWalk (around v w) x item → HasWalks v (push w x item)
+unfolding push
+push_trails v w x item trails t = item_trails v w x (slice_get w.nodes x) item trails refl t
+
+-- ---- outcomes
+
+abbrev Keeps : Variant → World → Outcome → Type 0
+Keeps v w o = HasWalks v (after w o)
+
+unless_trails : (v : Variant) (w : World) (x : ℕ) (o : Option Full) (outcome : Outcome) → HasWalks v w → Keeps v w outcome → Keeps v w (unless_full x o outcome)
+unless_trails v w x (Some f) outcome trails kept = trails
+unless_trails v w x None outcome trails kept = kept
+
+turn_trails : (v : Variant) (w : World) (x : ℕ) (core : Core) (queue : List Item) → IsLoopSafe w → HasWalks v w → slice_get w.nodes x ≡ Some (record { core = core; queue = queue }) → Keeps v w (turn_of w x core queue)
+turn_trails v w x core [] inv trails is = trails
+turn_trails v w x core (item ∷ items) inv trails is =
+    let n : Node = record { core = core; queue = item ∷ items } in
+    let good : IsLoopSafeNode (table w) n = inv.nodes x n is in
+    let p : NodeHasWalks (around v w) x n = trails.nodes x n is in
+    unless_trails v w x (turn_full core (range w x) item) _ trails
+    (done_trails v w x n (turn core (range w x) item) items inv trails is (turn_ok (table w) core (range w x) item (fit (table w) n good) good.queue.0)
+    (turn_traces (table w) (around v w) core (range w x) item (fit (table w) n good) (here_of v w x n inv trails is) good.queue.0 (subst (λ k. ItemHasWalk (around v w) k item) (sym (inv.named x n is)) p.queue.0)) p.queue.1)
+
+send_trails : (v : Variant) (w : World) (x d : ℕ) (core : Core) (queue : List Item) → IsLoopSafe w → HasWalks v w → slice_get w.nodes x ≡ Some (record { core = core; queue = queue }) → Keeps v w (send_of w x d core queue)
+send_trails v w x d core queue inv trails is =
+    let n : Node = record { core = core; queue = queue } in
+    let good : IsLoopSafeNode (table w) n = inv.nodes x n is in
+    let p : NodeHasWalks (around v w) x n = trails.nodes x n is in
+    if_case (Keeps v w) (may_send core d) (unless_full x (send_full core (range w x) d) (Goes (done_by w x (send core (range w x) d) queue) (Sent (send core (range w x) d).effect (copies w x ((send core (range w x) d).effect).cast)))) Idle
+    (λ _. unless_trails v w x (send_full core (range w x) d) _ trails
+    (done_trails v w x n (send core (range w x) d) queue inv trails is (send_ok (table w) core (range w x) d (fit (table w) n good)) (send_traces (around v w) core (range w x) d (here_of v w x n inv trails is)) p.queue))
+    (λ _. trails)
+
+ask_trails : (v : Variant) (w : World) (x d : ℕ) (core : Core) (queue : List Item) → IsLoopSafe w → HasWalks v w → slice_get w.nodes x ≡ Some (record { core = core; queue = queue }) → Keeps v w (ask_of w x d core queue)
+ask_trails v w x d core queue inv trails is =
+    let n : Node = record { core = core; queue = queue } in
+    let good : IsLoopSafeNode (table w) n = inv.nodes x n is in
+    let p : NodeHasWalks (around v w) x n = trails.nodes x n is in
+    if_case (Keeps v w) (may_ask core d) (unless_full x (ask_full core) (Goes (done_by w x (ask core d) queue) (Sent (ask core d).effect (copies w x ((ask core d).effect).cast)))) Idle
+    (λ _. unless_trails v w x (ask_full core) _ trails
+    (done_trails v w x n (ask core d) queue inv trails is (ask_ok (table w) core d (fit (table w) n good)) (ask_traces (around v w) core d (here_of v w x n inv trails is)) p.queue))
+    (λ _. trails)
+
+node_case : (v : Variant) (w : World) (f : Core → List Item → Outcome) (o : Option Node) → HasWalks v w → ((n : Node) → o ≡ Some n → Keeps v w (f n.core n.queue)) → Keeps v w (at_node o f)
+node_case v w f None trails some = trails
+node_case v w f (Some n) trails some = some n refl
+
+copy_case : (v : Variant) (w : World) (f : Copy → Outcome) (o : Option Copy) → HasWalks v w → ((c : Copy) → o ≡ Some c → Keeps v w (f c)) → Keeps v w (at_copy o f)
+copy_case v w f None trails some = trails
+copy_case v w f (Some c) trails some = some c refl
+
+lighter : (v : Variant) (w : World) (id : ℕ) → HasWalks v w → HasWalks v (without_copy w id)
+lighter v w id trails = same_trails v w (without_copy w id) refl (λ p e. e) trails (λ _. without_honest (CopyHasWalk (around v w)) w.flying id trails.flying) trails.stood
+
+pub step_trails : (v : Variant) (w : World) (e : Event) → IsLoopSafe w → HasWalks v w → HasWalks v (after w (step w e))
+unfolding step
+step_trails v w (Give x d b) inv trails = node_case v w (λ core queue. Goes (push w x (New b d)) Changed) (slice_get w.nodes x) trails (λ n is. push_trails v w x (New b d) trails tt)
+step_trails v w (Turn x) inv trails = node_case v w (turn_of w x) (slice_get w.nodes x) trails (λ n is. turn_trails v w x n.core n.queue inv trails is)
+step_trails v w (Send x d) inv trails = node_case v w (send_of w x d) (slice_get w.nodes x) trails (λ n is. send_trails v w x d n.core n.queue inv trails is)
+step_trails v w (Ask x d) inv trails = node_case v w (ask_of w x d) (slice_get w.nodes x) trails (λ n is. ask_trails v w x d n.core n.queue inv trails is)
+step_trails v w (Link a b) inv trails =
+    if_case (Keeps v w) (are_linked w.links a b) Idle (Goes (with_link w a b) Changed) (λ _. trails)
+    (λ _. same_trails v w (with_link w a b) refl (λ p e. has_more w.ever (pair a b) p e) trails (λ later. flying_stays v w (with_link w a b) later trails.flying) (λ p e. both_more w.links w.ever (pair a b) p (trails.stood p) e))
+step_trails v w (Cut a b) inv trails =
+    if_case (Keeps v w) (are_linked w.links a b) (Goes (without_link w a b) Changed) Idle
+    (λ _. same_trails v w (without_link w a b) refl (λ p e. e) trails (λ _. trails.flying) (λ p e. trails.stood p (has_fewer w.links (pair a b) p e)))
+    (λ _. trails)
+step_trails v w (Deliver id) inv trails =
+    copy_case v w (λ c. Goes (push (without_copy w id) c.to (Heard c.from c.message)) (CopyHeard c.from c.to)) (find_copy w.flying id) trails
+    (λ c is. push_trails v (without_copy w id) c.to (Heard c.from c.message) (lighter v w id trails) (found_honest (CopyHasWalk (around v w)) w.flying id c trails.flying is))
+step_trails v w (Lose id) inv trails = copy_case v w (λ c. Goes (without_copy w id) (CopyLost c)) (find_copy w.flying id) trails (λ c is. lighter v w id trails)
+step_trails v w (Double id) inv trails =
+    copy_case v w (λ c. Goes (with_double w c) (CopyDoubled (double_of w c))) (find_copy w.flying id) trails
+    (λ c is. same_trails v w (with_double w c) refl (λ p e. e) trails
+    (λ _. each_append (CopyHasWalk (around v w)) w.flying (double_of w c ∷ []) trails.flying (found_honest (CopyHasWalk (around v w)) w.flying id c trails.flying is, tt)) trails.stood)

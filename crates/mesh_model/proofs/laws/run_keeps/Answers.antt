@@ -1,0 +1,5 @@
+use Rattle.mesh_model.proofs.MeshSteps as lemmas
+use Rattle.mesh_model.proofs.laws.run_keeps.Goals as goal
+
+pub returns : goal.returns
+returns c = lemmas.run_keeps

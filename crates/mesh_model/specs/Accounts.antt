@@ -1,0 +1,125 @@
+-- Where the data are, and how they come and go. All counts are of the data that pass a test of their
+-- originator, destination and body: of one datum, or of all.
+use Rattle.std.specs.Prelude.{ℕ, ◌+◌, Bool, if◌then◌else◌, List, [], ◌∷◌, zero, suc, length}
+use Rattle.std.specs.FinMap as maps
+use Rattle.aodv_model.specs.Cores.{Body, Message, Pkt, Rreq, Rrep, Rerr, Item, New, Heard, Store, bodies_in}
+use Rattle.aodv_model.specs.Handlers.{Took, Own, Stored, FromNeighbour}
+use Rattle.mesh_model.specs.Worlds.{World, Copy, Event, Give, Turn, Happening, Taken, CopyLost, CopyDoubled, Outcome, Idle, Stops, Goes, step, after}
+
+-- of an originator, a destination and a body
+abbrev pub Test : Type 0
+Test = ℕ → ℕ → Body → Bool
+
+-- the sum of f over a list
+abbrev pub total : {A : Type 0} → (A → ℕ) → List A → ℕ
+total f [] = 0
+total f (x ∷ xs) = f x + total f xs
+
+-- the sum of f over the numbers below n
+abbrev pub total_below : ℕ → (ℕ → ℕ) → ℕ
+total_below zero f = 0
+total_below (suc n) f = f n + total_below n f
+
+-- ---- where the data are
+
+-- one datum: 1 where it passes the test
+abbrev pub counts : Test → ℕ → ℕ → Body → ℕ
+counts t o d b = if t o d b then 1 else 0
+
+-- in a message: only a data packet has a datum
+abbrev pub in_message : Test → Message → ℕ
+in_message t (Pkt b d o) = counts t o d b
+in_message t (Rreq m) = 0
+in_message t (Rrep m) = 0
+in_message t (Rerr dests) = 0
+
+-- in an item of the queue of node x, which is the originator of what is given to it
+abbrev pub in_item : Test → ℕ → Item → ℕ
+in_item t x (New b d) = counts t x d b
+in_item t x (Heard from m) = in_message t m
+
+-- in the store of node x, for destinations below the size. A store holds only data of its own node
+unfoldable pub in_store : Test → ℕ → ℕ → Store → ℕ
+in_store t size x store = total_below size (λ d. total (counts t x d) (bodies_in (maps.get store d)))
+
+-- in a copy in flight
+abbrev pub in_copy : Test → Copy → ℕ
+in_copy t c = in_message t c.message
+
+-- the data that wait in stores
+unfoldable pub waiting : Test → World → ℕ
+waiting t w = total (λ n. in_store t (length w.nodes) (n.core).ip (n.core).store) w.nodes
+
+-- the data in queues, given or heard
+unfoldable pub queued : Test → World → ℕ
+queued t w = total (λ n. total (in_item t (n.core).ip) n.queue) w.nodes
+
+-- the data in flight
+unfoldable pub in_flight : Test → World → ℕ
+in_flight t w = total (in_copy t) w.flying
+
+-- ---- how they come and go
+
+-- n where the event was done, and 0 where it was idle or refused
+abbrev pub if_goes : Outcome → ℕ → ℕ
+if_goes Idle n = 0
+if_goes (Stops x f) n = 0
+if_goes (Goes w happening) n = n
+
+-- the data given by an event with that outcome
+abbrev pub given : Test → Event → Outcome → ℕ
+given t (Give x d b) o = if_goes o (counts t x d b)
+given t others o = 0
+
+-- the datum of a copy that was doubled
+abbrev pub doubled_in : Test → Happening → ℕ
+doubled_in t (CopyDoubled c) = in_copy t c
+doubled_in t others = 0
+
+-- the data packets doubled
+abbrev pub doubled : Test → Event → Outcome → ℕ
+doubled t e (Goes w happening) = doubled_in t happening
+doubled t e others = 0
+
+-- what node x took, where it is delivered: its own datum, or that of a packet
+abbrev pub in_taken : Test → ℕ → Took → ℕ
+in_taken t x (Own b) = counts t x x b
+in_taken t x (Stored d) = 0
+in_taken t x (FromNeighbour from m) = in_message t m
+
+-- the datum that node x delivered
+abbrev pub delivered_in : Test → ℕ → Happening → ℕ
+delivered_in t x (Taken taken effect copies) = if effect.deliver then in_taken t x taken else 0
+delivered_in t x others = 0
+
+-- the same of an outcome
+abbrev pub delivered_at : Test → ℕ → Outcome → ℕ
+delivered_at t x (Goes w happening) = delivered_in t x happening
+delivered_at t x others = 0
+
+-- the data delivered: by turns
+abbrev pub delivered : Test → Event → Outcome → ℕ
+delivered t (Turn x) o = delivered_at t x o
+delivered t others o = 0
+
+-- what was taken, where it is dropped: the datum of a packet
+abbrev pub in_dropped : Test → Took → ℕ
+in_dropped t (Own b) = 0
+in_dropped t (Stored d) = 0
+in_dropped t (FromNeighbour from m) = in_message t m
+
+-- the datum that was dropped by a turn or lost with a copy
+abbrev pub dropped_in : Test → Happening → ℕ
+dropped_in t (Taken taken effect copies) = if effect.lost then in_dropped t taken else 0
+dropped_in t (CopyLost c) = in_copy t c
+dropped_in t others = 0
+
+-- the data dropped: by turns, and with lost copies
+abbrev pub dropped : Test → Event → Outcome → ℕ
+dropped t e (Goes w happening) = dropped_in t happening
+dropped t e others = 0
+
+-- the sum over a run of what each event's outcome counts
+unfoldable pub over_run : (Event → Outcome → ℕ) → World → List Event → ℕ
+over_run f w [] = 0
+over_run f w (e ∷ es) = f e (step w e) + over_run f (after w (step w e)) es

@@ -1,0 +1,88 @@
+-- The statements that this crate proves of its definitions.
+use Rattle.std.specs.Prelude.{◌≡◌, ◌≢◌, ℕ, ◌+◌, ◌≤◌, ◌<◌, true, List, ◌∷◌, length, Some}
+use Rattle.std.specs.List.{AllByRecursion}
+use Rattle.std.specs.FinMap as maps
+use Rattle.mesh_base.specs.declared.events.Variant.{Variant}
+use Rattle.aodv_entry.specs.declared.entry.Entry.{Entry}
+use Rattle.aodv_entry.specs.declared.entry.Flag.TheVariants.{Val}
+use Rattle.aodv_entry.specs.Quality.{is_better}
+use Rattle.mesh_model.specs.Worlds.{World, Event, step, after, run, start}
+use Rattle.mesh_model.specs.Walks.{table, Edge, IsWalk, Cycle}
+use Rattle.mesh_model.specs.Places.{IsInMesh, IsEvent}
+use Rattle.mesh_model.specs.Invariants.{IsLoopSafe, IsInvariant}
+use Rattle.mesh_model.specs.Accounts.{Test, waiting, queued, in_flight, given, doubled, delivered, dropped, over_run}
+use Rattle.mesh_model.specs.Trails.{HonestWalk, HasWalks}
+
+-- a number of at least 1 for each node
+abbrev pub ArePositive : List ℕ → Type 0
+ArePositive firsts = AllByRecursion (λ n. 1 ≤ n) firsts
+
+-- ---- the invariant
+
+-- every event of the mesh keeps the invariant
+abbrev pub StepKeeps : Type 0
+StepKeeps = (w : World) (e : Event) → IsEvent (length w.nodes) e → IsInvariant w → IsInvariant (after w (step w e))
+
+-- every event keeps what excludes cycles
+abbrev pub StepKeepsLoopSafe : Type 0
+StepKeepsLoopSafe = (w : World) (e : Event) → IsLoopSafe w → IsLoopSafe (after w (step w e))
+
+-- the opening world has the invariant
+abbrev pub StartKeeps : Type 0
+StartKeeps = (variant : Variant) (firsts : List ℕ) → ArePositive firsts → IsInvariant (start variant firsts)
+
+-- every world of every run has the invariant, and as many nodes as there were at the start
+abbrev pub RunKeeps : Type 0
+RunKeeps = (variant : Variant) (firsts : List ℕ) (events : List Event) → ArePositive firsts → AllByRecursion (IsEvent (length firsts)) events
+    → IsInvariant (run (start variant firsts) events) × (length (run (start variant firsts) events).nodes ≡ length firsts)
+
+-- ---- no cycles
+
+-- where the invariant holds no destination has a cycle
+abbrev pub NoCycleIn : Type 0
+NoCycleIn = (w : World) (d : ℕ) → IsLoopSafe w → ¬ (Cycle w d)
+
+-- in no world of any run does a destination have a cycle: for every variant and every list of events, doublings included
+abbrev pub LoopFree : Type 0
+LoopFree = (variant : Variant) (firsts : List ℕ) (events : List Event) (d : ℕ) → ArePositive firsts → ¬ (Cycle (run (start variant firsts) events) d)
+
+-- along each edge for d from x to y, where y isn't d and has a valid entry for d, y's entry is the better one
+abbrev pub BetterAlongEdges : Type 0
+BetterAlongEdges = (w : World) (d x y : ℕ) (edge : Edge w d x y) (e : Entry) → IsLoopSafe w → y ≢ d → maps.get (table w y) d ≡ Some e → e.flag ≡ Val
+    → is_better e edge.entry ≡ true
+
+-- a walk from a node has at most as many places as there are nodes
+abbrev pub WalkIsShort : Type 0
+WalkIsShort = (w : World) (d x : ℕ) (ys : List ℕ) → IsInvariant w → x < length w.nodes → IsWalk w d (x ∷ ys) → length (x ∷ ys) ≤ length w.nodes
+
+-- ---- the account
+
+-- one event: what is there afterwards, was delivered or was dropped, is what was there, was given or was doubled
+abbrev pub StepBalances : Type 0
+StepBalances = (t : Test) (w : World) (e : Event) → IsEvent (length w.nodes) e → IsInMesh w
+    → waiting t (after w (step w e)) + queued t (after w (step w e)) + in_flight t (after w (step w e)) + delivered t e (step w e) + dropped t e (step w e)
+    ≡ waiting t w + queued t w + in_flight t w + given t e (step w e) + doubled t e (step w e)
+
+-- a run: each datum that was given, or doubled in flight, was delivered, waits in a store or a queue, is in flight, or was dropped
+abbrev pub Account : Type 0
+Account = (t : Test) (variant : Variant) (firsts : List ℕ) (events : List Event) → ArePositive firsts → AllByRecursion (IsEvent (length firsts)) events
+    → over_run (given t) (start variant firsts) events + over_run (doubled t) (start variant firsts) events
+    ≡ over_run (delivered t) (start variant firsts) events
+    + waiting t (run (start variant firsts) events) + queued t (run (start variant firsts) events) + in_flight t (run (start variant firsts) events)
+    + over_run (dropped t) (start variant firsts) events
+
+-- ---- honest hops
+
+-- the opening world has its walks
+abbrev pub StartHasWalks : Type 0
+StartHasWalks = (variant : Variant) (firsts : List ℕ) → HasWalks variant (start variant firsts)
+
+-- every event keeps a walk for each valid entry and each request and reply
+abbrev pub StepKeepsWalks : Type 0
+StepKeepsWalks = (variant : Variant) (w : World) (e : Event) → IsLoopSafe w → HasWalks variant w → HasWalks variant (after w (step w e))
+
+-- each valid entry of each world of each run has an honest walk with its hops, which are at most the number of nodes
+abbrev pub HonestHops : Type 0
+HonestHops = (variant : Variant) (firsts : List ℕ) (events : List Event) (x d : ℕ) (e : Entry) → ArePositive firsts
+    → maps.get (table (run (start variant firsts) events) x) d ≡ Some e → e.flag ≡ Val
+    → HonestWalk (run (start variant firsts) events) x d e.hops × (e.hops ≤ length (run (start variant firsts) events).nodes)

@@ -1,0 +1,17 @@
+-- The mesh. Read in this order, after the definitions of one node.
+-- Worlds: the state of the whole mesh, its events, one step, and a run of them.
+pub mod Worlds
+-- Walks: the valid routes of a world as a graph, and its cycles.
+pub mod Walks
+-- Places: that all which a world names is in its mesh, and which events are of a mesh.
+pub mod Places
+-- Invariants: what holds of every world of every run, and why routes can't go round.
+pub mod Invariants
+-- Accounts: where the data are, and how they come and go.
+pub mod Accounts
+-- Trails: the walks over links that once stood, from which each valid route came.
+pub mod Trails
+-- Laws: the statements that this crate proves of the above.
+pub mod Laws
+-- Codes: no part of the protocol. They let a type of the code be seen as a world.
+pub mod Codes

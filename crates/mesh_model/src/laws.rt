@@ -1,0 +1,67 @@
+//! Laws of all runs. Each function has an empty body and a contract that states a law.
+ghost use Rattle.mesh_model.specs.Laws.{StepKeeps, StepKeepsLoopSafe, StartKeeps, RunKeeps, NoCycleIn, LoopFree, BetterAlongEdges, WalkIsShort, StepBalances, Account, StartHasWalks, StepKeepsWalks, HonestHops};
+
+/// Every event of the mesh keeps the invariant.
+pub fn step_keeps()
+    ensures { StepKeeps }
+{}
+
+/// Every event keeps what excludes cycles.
+pub fn step_keeps_loop_safe()
+    ensures { StepKeepsLoopSafe }
+{}
+
+/// The opening world has the invariant.
+pub fn start_keeps()
+    ensures { StartKeeps }
+{}
+
+/// Every world of every run has the invariant.
+pub fn run_keeps()
+    ensures { RunKeeps }
+{}
+
+/// Where the invariant holds no destination has a cycle.
+pub fn no_cycle_in()
+    ensures { NoCycleIn }
+{}
+
+/// In no world of any run does a destination have a cycle.
+pub fn loop_free()
+    ensures { LoopFree }
+{}
+
+/// Along each edge the next node's valid entry is the better one.
+pub fn better_along_edges()
+    ensures { BetterAlongEdges }
+{}
+
+/// A walk has at most as many places as there are nodes.
+pub fn walk_is_short()
+    ensures { WalkIsShort }
+{}
+
+/// Every event of the mesh keeps the account of the data.
+pub fn step_balances()
+    ensures { StepBalances }
+{}
+
+/// Over a run no datum is invented, and none is lost without a trace.
+pub fn account()
+    ensures { Account }
+{}
+
+/// The opening world has its walks.
+pub fn start_has_walks()
+    ensures { StartHasWalks }
+{}
+
+/// Every event keeps a walk for each valid entry and each request and reply.
+pub fn step_keeps_walks()
+    ensures { StepKeepsWalks }
+{}
+
+/// Each valid entry of each run has an honest walk with its hops.
+pub fn honest_hops()
+    ensures { HonestHops }
+{}

@@ -1,0 +1,40 @@
+//! A run from its source to its sink.
+ghost use Rattle.std.specs.Prelude.{◌≡◌, ◌≢◌, ◌≤◌, IfSome};
+ghost use Rattle.std.specs.Io.KnownBytes.{IsAtEnd};
+ghost use Rattle.mesh_text.specs.Text.{text_of_input};
+ghost use Rattle.mesh_io.specs.Cause.{Rose};
+ghost use Rattle.mesh_run.specs.Told.{Told};
+
+use crate::lines::run_lines;
+use crate::status::Status;
+use mesh_io::{ReadAllError, Sink, Source, read_all};
+use std::alloc::Global;
+
+/// Runs the schedule that the source gives, and writes its text to the sink: one `put` for each
+/// line of the schedule, or more where the sink takes a piece in parts.
+#[tactic(auto, unfolding(mesh_text::specs::Text::text_of_input))]
+pub fn run<I: Source, O: Sink>(alloc: Global, input: &mut I, out: &mut O) -> Status
+    // What is written is the text of the input, and the answer its verdict. After a failed read or
+    // write, or want of memory, it is a front of that text.
+    ensures told { IfSome (I.left input.old) (λ bytes. Told (O.held out.old) (O.held out.new) (text_of_input bytes) result) }
+
+    // Done only where the input was read to its end.
+    ensures end { result ≡ Status.Done → IsAtEnd (I.left input.new) }
+
+    // A fault is answered only where the source or the sink has failed in this call.
+    ensures read { result ≡ Status.ReadFault → Rose (I.faults input.old) (I.faults input.new) }
+    ensures write { result ≡ Status.WriteFault → Rose (O.faults out.old) (O.faults out.new) }
+
+    // No count of faults falls.
+    ensures later { O.faults out.old ≤ O.faults out.new }
+
+    // After a failed read nothing was written.
+    ensures nothing { result ≡ Status.ReadFault → out.new ≡ out.old }
+    ensures words { result ≢ Status.Usage }
+{
+    match read_all(alloc, input) {
+        Err(ReadAllError::ReadFault) => Status::ReadFault,
+        Err(ReadAllError::NoMemory) => Status::NoMemory,
+        Ok(whole) => run_lines(alloc, whole.bytes.as_slice(), whole.more, out),
+    }
+}
