@@ -1,4 +1,4 @@
--- A data packet. RFC 3561 has none: this layout is this project's own. It has 12 bytes and a body of 1 to 512.
+-- A data packet: three lines and a body of 1 to 512 bytes. RFC 3561 has none; this layout is this project's own.
 use Rattle.std.specs.Prelude.{ℕ, ◌==◌, not, nat_lt, List, [], ◌∷◌, ◌++◌, length, drop, Option}
 use Rattle.mesh_base.specs.declared.addr.Addr.{Addr}
 use Rattle.aodv_wire.specs.declared.error.WireError.{WireError}
@@ -12,6 +12,10 @@ pub record Datum : Type 0 where
   pub oip : Addr
   pub body : List ℕ
 
+abbrev pub type_number : ℕ
+type_number = 16
+
+-- the fields of the three lines
 pub data Field : Type 0 where
   Kind Zero DestinationAddress OriginatorAddress : Field
 
@@ -40,14 +44,16 @@ datum b = record {
 -- why bytes of this type spell no datum: the first line that applies
 abbrev pub refusal : List ℕ → Option WireError
 refusal b = first_of (
+    -- three lines, and a body of 1 to 512 bytes
     refuse_if (nat_lt (length b) 13) WrongLength
     ∷ refuse_if (nat_lt 524 (length b)) WrongLength
+    -- what follows the type in the first line is 0
     ∷ refuse_if (not (found b Zero == 0)) BadData
     ∷ [])
 
 -- writing: each field's value
 abbrev pub value : Addr → Addr → Field → ℕ
-value dip oip Kind = 16
+value dip oip Kind = type_number
 value dip oip Zero = 0
 value dip oip DestinationAddress = dip.0
 value dip oip OriginatorAddress = oip.0

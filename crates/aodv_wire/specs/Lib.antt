@@ -1,10 +1,17 @@
--- Read in this order: how a packet is laid out; each packet's table with what it says, when it is refused
--- and what is written; then which bytes spell which message; then the laws.
+-- Read in this order.
+-- how a packet is laid out, in lines and fields
 pub mod Layout
+-- the first refusal of a list
 pub mod Refused
+-- RFC 3561 section 5.1: the table of a request, what it says, its refusals, what is written
 pub mod RouteRequest
+-- the same of a reply, section 5.2
 pub mod RouteReply
+-- the same of an error, section 5.3
 pub mod RouteError
+-- the same of a data packet
 pub mod DataPacket
+-- which bytes spell which message
 pub mod Spells
+-- what holds of these definitions
 pub mod Laws

@@ -1,4 +1,4 @@
--- A route error, RERR: RFC 3561 section 5.3. It has 4 bytes, and 8 for each destination that can't be reached.
+-- A route error, RERR: RFC 3561 section 5.3. It has one line, and two for each destination that can't be reached.
 use Rattle.std.specs.Prelude.{◌<◌, ◌≤◌, ℕ, zero, suc, ◌+◌, ◌*◌, ◌==◌, not, nat_lt, if◌then◌else◌, List, [], ◌∷◌, ◌++◌, length, map, drop, Option, Some, None, option_map}
 use Rattle.std.specs.List.{flat_map, list_any}
 use Rattle.mesh_base.specs.declared.addr.Addr.{Addr}
@@ -7,7 +7,10 @@ use Rattle.aodv_wire.specs.declared.error.WireError.TheVariants.{WrongLength, Ou
 use Rattle.aodv_wire.specs.Layout.{Place, place, number_at, laid_out}
 use Rattle.aodv_wire.specs.Refused.{refuse_if, first_of}
 
--- the fields of the first line, as the section's figure names them
+abbrev pub type_number : ℕ
+type_number = 3
+
+-- the fields of the first line, as the section's figure names them: N no delete
 pub data Field : Type 0 where
   Kind N Reserved DestCount : Field
 
@@ -64,20 +67,20 @@ repeated ps = first_repeated [] (addresses ps)
 -- why bytes of this type spell no route error: the first line that applies
 abbrev pub refusal : List ℕ → Option WireError
 refusal b = first_of (
-    -- 5.3: one line, then two for each of DestCount destinations
+    -- 5.3: one line, and two for each of DestCount destinations
     refuse_if (nat_lt (length b) 4) WrongLength
     ∷ refuse_if (not (length b == 4 + 8 * found b DestCount)) WrongLength
-    -- 5.3: N is set after a local repair
+    -- 6.12: N is set after a local repair
     ∷ refuse_if (found b N == 1) OutsideProfile
     -- 5.3: DestCount is at least 1
     ∷ refuse_if (found b DestCount == 0) NoDestinations
-    -- each destination is named once
+    -- its destinations are a map: no address has two numbers
     ∷ option_map Repeated (repeated (destinations b))
     ∷ [])
 
 -- writing: each field's value, of a route error of n destinations
 abbrev pub value : ℕ → Field → ℕ
-value n Kind = 3
+value n Kind = type_number
 value n DestCount = n
 value n others = 0
 

@@ -1,4 +1,4 @@
--- A route reply, RREP: RFC 3561 section 5.2. It has 20 bytes.
+-- A route reply, RREP: RFC 3561 section 5.2. It has five lines, 20 bytes.
 use Rattle.std.specs.Prelude.{ℕ, ◌==◌, not, List, [], ◌∷◌, length, Option}
 use Rattle.aodv_wire.specs.declared.error.WireError.{WireError}
 use Rattle.aodv_wire.specs.declared.error.WireError.TheVariants.{WrongLength, OutsideProfile, ZeroNumber}
@@ -6,7 +6,10 @@ use Rattle.aodv_wire.specs.declared.message.Rrep.{Rrep}
 use Rattle.aodv_wire.specs.Layout.{Place, place, number_at, laid_out}
 use Rattle.aodv_wire.specs.Refused.{refuse_if, first_of}
 
--- the fields, as the section's figure names them
+abbrev pub type_number : ℕ
+type_number = 2
+
+-- the fields, as the section's figure names them: R repair, A acknowledgment required
 pub data Field : Type 0 where
   Kind R A Reserved PrefixSize HopCount DestinationAddress DestinationNumber OriginatorAddress Lifetime : Field
 
@@ -30,7 +33,7 @@ fields = Kind ∷ R ∷ A ∷ Reserved ∷ PrefixSize ∷ HopCount ∷ Destinati
 abbrev pub found : List ℕ → Field → ℕ
 found b f = number_at b (table f)
 
--- the reply that stands in the fields; any lifetime will do
+-- the reply that stands in the fields, reserved bits and lifetime aside
 abbrev pub reply : List ℕ → Rrep
 reply b = record {
   hops = found b HopCount;
@@ -42,19 +45,19 @@ reply b = record {
 -- why bytes of this type spell no reply: the first line that applies
 abbrev pub refusal : List ℕ → Option WireError
 refusal b = first_of (
-    -- 5.2: the figure has five lines
+    -- 5.2: five lines
     refuse_if (not (length b == 20)) WrongLength
-    -- 5.2: R is for multicast, A asks for an acknowledgment, a prefix size serves a whole subnet
+    -- 5.2: R serves multicast; 6.7: A asks for an acknowledgment; 7: a prefix size makes it a route to a subnet
     ∷ refuse_if (found b R == 1) OutsideProfile
     ∷ refuse_if (found b A == 1) OutsideProfile
     ∷ refuse_if (not (found b PrefixSize == 0)) OutsideProfile
-    -- 6.6: a reply carries the number of a valid route, which is at least 1
+    -- 6.6.1, 6.6.2: the number is the destination's own, or that of a valid route; in AWN neither is 0
     ∷ refuse_if (found b DestinationNumber == 0) ZeroNumber
     ∷ [])
 
--- writing: each field's value; the lifetime is the longest
+-- writing: each field's value; the lifetime, in milliseconds, is the longest, and the rest is 0
 abbrev pub value : Rrep → Field → ℕ
-value m Kind = 2
+value m Kind = type_number
 value m HopCount = m.hops
 value m DestinationAddress = m.dip.0
 value m DestinationNumber = m.dsn

@@ -1,4 +1,4 @@
--- A route request, RREQ: RFC 3561 section 5.1. It has 24 bytes.
+-- A route request, RREQ: RFC 3561 section 5.1. It has six lines, 24 bytes.
 use Rattle.std.specs.Prelude.{ℕ, ◌==◌, not, if◌then◌else◌, List, [], ◌∷◌, length, Option}
 use Rattle.aodv_wire.specs.declared.error.WireError.{WireError}
 use Rattle.aodv_wire.specs.declared.error.WireError.TheVariants.{WrongLength, OutsideProfile, ZeroNumber}
@@ -6,7 +6,10 @@ use Rattle.aodv_wire.specs.declared.message.Rreq.{Rreq}
 use Rattle.aodv_wire.specs.Layout.{Place, place, number_at, laid_out}
 use Rattle.aodv_wire.specs.Refused.{refuse_if, first_of}
 
--- the fields, as the section's figure names them
+abbrev pub type_number : ℕ
+type_number = 1
+
+-- the fields, as the section's figure names them: J join, R repair, G gratuitous reply, D destination only, U unknown number
 pub data Field : Type 0 where
   Kind J R G D U Reserved HopCount RreqId DestinationAddress DestinationNumber OriginatorAddress OriginatorNumber : Field
 
@@ -33,7 +36,7 @@ fields = Kind ∷ J ∷ R ∷ G ∷ D ∷ U ∷ Reserved ∷ HopCount ∷ RreqId
 abbrev pub found : List ℕ → Field → ℕ
 found b f = number_at b (table f)
 
--- the request that stands in the fields. U says that the destination's number is unknown
+-- the request that stands in the fields, reserved bits aside
 abbrev pub request : List ℕ → Rreq
 request b = record {
   hops = found b HopCount;
@@ -48,20 +51,20 @@ request b = record {
 -- why bytes of this type spell no request: the first line that applies
 abbrev pub refusal : List ℕ → Option WireError
 refusal b = first_of (
-    -- 5.1: the figure has six lines
+    -- 5.1: six lines
     refuse_if (not (length b == 24)) WrongLength
-    -- 5.1: J and R are for multicast, G asks for a gratuitous reply, D lets only the destination answer
+    -- 5.1: J and R serve multicast; 6.6.3: G asks for a gratuitous reply; 6.3: D lets only the destination answer
     ∷ refuse_if (found b J == 1) OutsideProfile
     ∷ refuse_if (found b R == 1) OutsideProfile
     ∷ refuse_if (found b G == 1) OutsideProfile
     ∷ refuse_if (found b D == 1) OutsideProfile
-    -- 6.1: a node's own number, raised before a request (6.3), is at least 1
+    -- 6.1: a node raises its own number before it sends a request; AWN lets it begin at 1, so 0 is no number
     ∷ refuse_if (found b OriginatorNumber == 0) ZeroNumber
     ∷ [])
 
--- writing: each field's value
+-- writing: each field's value; flags of no use here and reserved bits are 0
 abbrev pub value : Rreq → Field → ℕ
-value m Kind = 1
+value m Kind = type_number
 value m U = if m.known then 0 else 1
 value m HopCount = m.hops
 value m RreqId = m.id

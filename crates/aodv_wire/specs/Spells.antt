@@ -18,18 +18,18 @@ kind b = number_at b (place 0 0 8)
 unfoldable pub refusal : List ℕ → Option WireError
 refusal b =
     if length b == 0 then Some Short
-    else if kind b == 1 then rreq.refusal b
-    else if kind b == 2 then rrep.refusal b
-    else if kind b == 3 then rerr.refusal b
-    else if kind b == 16 then data_packet.refusal b
+    else if kind b == rreq.type_number then rreq.refusal b
+    else if kind b == rrep.type_number then rrep.refusal b
+    else if kind b == rerr.type_number then rerr.refusal b
+    else if kind b == data_packet.type_number then data_packet.refusal b
     else Some (UnknownType (kind b))
 
--- the message that stands in the fields of a packet of its type, refused or not
+-- the message that stands in the fields of the packet's type, whether or not it is refused
 unfoldable pub said : List ℕ → Message
 said b =
-    if kind b == 1 then Rreq (rreq.request b)
-    else if kind b == 2 then Rrep (rrep.reply b)
-    else if kind b == 3 then Rerr (rerr.destinations b)
+    if kind b == rreq.type_number then Rreq (rreq.request b)
+    else if kind b == rrep.type_number then Rrep (rrep.reply b)
+    else if kind b == rerr.type_number then Rerr (rerr.destinations b)
     else Parcel (data_packet.datum b)
 
 -- the bytes spell the message: no refusal applies, and it stands in their fields
@@ -37,7 +37,7 @@ pub record Spells (b : List ℕ) (m : Message) : Type 0 where
   pub allowed : refusal b ≡ None
   pub stands : said b ≡ m
 
--- what is written of a message: reserved bits 0, the longest lifetime
+-- the one spelling that is written of a message
 unfoldable pub written : Message → List ℕ
 written (Rreq m) = rreq.bytes_of m
 written (Rrep m) = rrep.bytes_of m

@@ -7,7 +7,7 @@ use crate::field::line_at;
 use mesh_base::Addr;
 use std::marker::Model;
 
-/// A route request: RFC 3561 section 5.1.
+/// A route request: RFC 3561 section 5.1. `dip` is the destination, `oip` the originator, and `dsn` and `osn` are their sequence numbers.
 #[derive(Clone, Copy, Debug, PartialEq, Eq)]
 pub struct Rreq {
     pub hops: u8,
@@ -20,7 +20,7 @@ pub struct Rreq {
     pub osn: u32,
 }
 
-/// A route reply: RFC 3561 section 5.2.
+/// A route reply: RFC 3561 section 5.2. `dip` is the destination that was asked for, with its number `dsn`, and `oip` who asked.
 #[derive(Clone, Copy, Debug, PartialEq, Eq)]
 pub struct Rrep {
     pub hops: u8,
@@ -36,7 +36,7 @@ pub struct RerrView<'a> {
 }
 
 impl<'a> Model for RerrView<'a> {
-    ghost use Rattle.std.specs.Prelude.{◌≡◌, ◌*◌, ◌/◌, ℕ, List, length};
+    ghost use Rattle.std.specs.Prelude.{◌≡◌, ◌≤◌, ◌*◌, ◌/◌, ℕ, List, length};
     ghost use Rattle.mesh_base.specs.declared.addr.Addr.{Addr};
     ghost use Rattle.aodv_wire.specs.RouteError.{pairs};
 
@@ -44,14 +44,15 @@ impl<'a> Model for RerrView<'a> {
 
     ghost view = { λ v. pairs (length v.lines.now / 8) v.lines.now };
 
-    ghost invariant = { λ v. length v.lines.now ≡ 8 * (length v.lines.now / 8) };
+    ghost invariant = { λ v. (length v.lines.now ≡ 8 * (length v.lines.now / 8)) × (length v.lines.now / 8 ≤ 255) };
 }
 
 impl RerrView<'_> {
     /// How many pairs there are.
     #[tactic(auto, using(crate::proofs::Pairs::length_pairs))]
     pub fn len(&self) -> usize
-        ensures { result ≡ length self.now }
+        ensures count { result ≡ length self.now }
+        ensures few { result ≤ 255 }
     {
         self.lines.len() / 8
     }
@@ -119,28 +120,36 @@ pub struct DataView<'a> {
 }
 
 impl<'a> Model for DataView<'a> {
+    ghost use Rattle.std.specs.Prelude.{◌≤◌, length};
     ghost use Rattle.aodv_wire.specs.DataPacket.{Datum};
 
     ghost Value = { Datum };
 
     ghost view = { λ v. record { dip = v.dip; oip = v.oip; body = v.body.now } };
+
+    ghost invariant = { λ v. (1 ≤ length v.body.now) × (length v.body.now ≤ 512) };
 }
 
 impl<'a> DataView<'a> {
+    /// The destination.
     pub fn dip(&self) -> Addr
         ensures { result ≡ self.now.dip }
     {
         self.dip
     }
 
+    /// The originator.
     pub fn oip(&self) -> Addr
         ensures { result ≡ self.now.oip }
     {
         self.oip
     }
 
+    /// The bytes carried, which outlive this view.
     pub fn body(&self) -> &'a [u8]
-        ensures { result.now ≡ self.now.body }
+        ensures bytes { result.now ≡ self.now.body }
+        ensures some { 1 ≤ length result.now }
+        ensures few { length result.now ≤ 512 }
     {
         self.body
     }

@@ -109,7 +109,7 @@ fn read_data(bytes: &[u8]) -> Result<Message<'_>, WireError>
     }))
 }
 
-/// The message that the bytes spell, or the first reason why they spell none.
+/// The message that the bytes spell, or the first reason why they spell none. Any bytes may come.
 #[tactic(auto, unfolding(crate::specs::Spells::refusal))]
 pub fn read(bytes: &[u8]) -> Result<Message<'_>, WireError>
     ensures exact { MatchResult result (Spells bytes.now) (λ e. refusal bytes.now ≡ Some e) }

@@ -38,8 +38,7 @@ fn put_line(out: &mut Packet, number: u32)
     put_bytes(out, &bytes);
 }
 
-/// Writes a route request in place of what `out` held.
-#[tactic(auto, unfolding(crate::specs::Spells::written))]
+/// Writes a route request in place of what `out` held: RFC 3561 section 5.1.
 pub fn write_rreq(m: &Rreq, out: &mut Packet)
     requires { 1 ≤ m.now.osn }
     ensures written { out.new.items ≡ written (a_rreq m.now) }
@@ -55,8 +54,7 @@ pub fn write_rreq(m: &Rreq, out: &mut Packet)
     put_line(out, m.osn);
 }
 
-/// Writes a route reply in place of what `out` held.
-#[tactic(auto, unfolding(crate::specs::Spells::written))]
+/// Writes a route reply in place of what `out` held: RFC 3561 section 5.2. Its lifetime is the longest.
 pub fn write_rrep(m: &Rrep, out: &mut Packet)
     requires { 1 ≤ m.now.dsn }
     ensures written { out.new.items ≡ written (a_rrep m.now) }
@@ -70,8 +68,7 @@ pub fn write_rrep(m: &Rrep, out: &mut Packet)
     put_line(out, u32::MAX);
 }
 
-/// Writes a route error in place of what `out` held.
-#[tactic(auto, unfolding(crate::specs::Spells::written))]
+/// Writes a route error in place of what `out` held: RFC 3561 section 5.3. The addresses rise.
 pub fn write_rerr(pairs: &[(Addr, u32)], out: &mut Packet)
     requires { AreDestinations pairs.now }
     ensures written { out.new.items ≡ written (a_rerr pairs.now) }
@@ -85,8 +82,7 @@ pub fn write_rerr(pairs: &[(Addr, u32)], out: &mut Packet)
     }
 }
 
-/// Writes a datum in place of what `out` held.
-#[tactic(auto, unfolding(crate::specs::Spells::written))]
+/// Writes a datum of 1 to 512 bytes in place of what `out` held.
 pub fn write_data(dip: Addr, oip: Addr, body: &[u8], out: &mut Packet)
     requires some { 1 ≤ length body.now }
     requires few { length body.now ≤ 512 }
