@@ -16,7 +16,8 @@ abbrev pub Body : Type 0
 Body = List ℕ
 
 -- a route request (RFC 3561, section 5.1), passed on by as many nodes as it has hops.
--- oip asks for dip: osn is oip's own number; dsn is the number of dip that is wanted, and dsk whether it is known
+-- oip asks for dip: osn is oip's own number; dsn is the number of dip that is wanted, and dsk says whether oip knew it
+-- (nodes on the way raise dsn to what they know, and leave dsk)
 pub record RouteRequest : Type 0 where
   pub hops : ℕ
   pub id : ℕ
@@ -52,7 +53,7 @@ pub record Waiting : Type 0 where
   pub needs_request : Bool
   pub bodies : List Body
 
--- only destinations with data stand in a store
+-- by destination. In a mesh only destinations with data stand in it (Soundness)
 abbrev pub Store : Type 0
 Store = FinMap nat_cmp Waiting
 
@@ -135,7 +136,7 @@ greatest_beside (k ∷ ks) o = if k.0 == o then max k.1 (greatest_beside ks o) e
 unfoldable pub last_request_id : Seen → ℕ → ℕ
 last_request_id seen o = greatest_beside (sets.items seen) o
 
--- an id that no request of o has had (AWN's nrreqid; RFC 3561, section 6.3)
+-- an id above those of all requests of o that were seen (AWN's nrreqid; RFC 3561, section 6.3)
 unfoldable pub next_request_id : Seen → ℕ → ℕ
 next_request_id seen o = last_request_id seen o + 1
 

@@ -32,7 +32,7 @@ pub record Effect : Type 0 where
   pub broken : Option ℕ
   pub cast : Cast
 
--- a new core, the effect with it, and the destinations with the numbers that the break of a link raised
+-- a new core, the effect with it, and the destinations with the new numbers that the break of a link gave them
 -- (empty where no link broke)
 pub record Reaction : Type 0 where
   pub core : Core
@@ -126,7 +126,7 @@ unfoldable pub retract : Core → Dests → Reaction
 retract core dests =
     plain (record core { rt = invalidate core.rt dests; store = set core.store dests }) (casting (error_cast core.variant core.rt dests))
 
--- the link to y is broken: all valid routes by y are gone, each with its number raised
+-- the link to y is broken: all valid routes by y are gone, each with the next number
 unfoldable pub link_broken : Core → ℕ → Reaction
 link_broken core y = record (retract core (unreachable_by core.rt y)) { raised = unreachable_by core.rt y }
 
@@ -158,7 +158,8 @@ on_new core b d =
     if d == core.ip then plain core delivering
     else only (record core { store = add core.store d b })
 
--- the error for data to d that can't go on: sent where d has an invalid entry
+-- the error for data to d that can't go on: sent where d has an invalid entry, to its precursors if there are any.
+-- In the variant `Error` it is broadcast
 unfoldable pub data_error : Core → ℕ → Cast
 data_error core d =
     if not (in_iD core.rt d) then Nothing

@@ -77,8 +77,9 @@ IsStoreInMesh size store = (d : ℕ) (waiting : Waiting) → maps.get store d �
 abbrev pub AreDestsBelow : ℕ → Dests → Type 0
 AreDestsBelow size dests = (d n : ℕ) → maps.get dests d ≡ Some n → d < size
 
--- a message that a packet of the mesh can spell: it names nodes of the mesh only, its datum has 1 to 512 bytes, and
--- neither the number of a request's originator nor that of a reply's destination is 0
+-- what a message of the mesh has, whatever node sent it: it names nodes of the mesh only, its datum has 1 to 512 bytes,
+-- and neither the number of a request's originator nor that of a reply's destination is 0.
+-- The greatest values of its fields are no part of this
 abbrev pub IsMessageInMesh : ℕ → Message → Type 0
 IsMessageInMesh size (Pkt b d o) = (d < size) × (o < size) × IsDatum b
 IsMessageInMesh size (Rreq m) = (m.dip < size) × (m.oip < size) × (1 ≤ m.osn)
@@ -90,7 +91,7 @@ abbrev pub IsItemInMesh : ℕ → ℕ → Item → Type 0
 IsItemInMesh size x (New b d) = (d < size) × IsDatum b
 IsItemInMesh size x (Heard from m) = (from < size) × (from ≢ x) × IsMessageInMesh size m
 
--- what is cast is a message that a packet of the mesh can spell
+-- what is cast is such a message
 abbrev pub IsCastInMesh : ℕ → Cast → Type 0
 IsCastInMesh size Nothing = ⊤
 IsCastInMesh size (One y m) = IsMessageInMesh size m

@@ -150,7 +150,7 @@ abbrev pub goes_by : Option Entry → ℕ → Bool
 goes_by None y = false
 goes_by (Some e) y = is_val e.flag && (e.next == y)
 
--- where the link to y broke: each destination of a valid entry with next hop y, with its number raised
+-- where the link to y broke: each destination of a valid entry with next hop y, with the next number (an unknown number stays so)
 unfoldable pub unreachable_by : Table → ℕ → Dests
 unreachable_by rt y = mapped (λ d e. inc e.dsn) (maps.retain_keys rt (λ d. goes_by (maps.get rt d) y))
 

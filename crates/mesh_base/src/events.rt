@@ -26,7 +26,7 @@ pub enum Variant {
     Base,
     /// Requests are told apart by their originator's sequence number, not by their id.
     Number,
-    /// A reply that taught nothing new is passed on all the same, from the table's own entry.
+    /// A reply is passed on wherever the node has a valid route of its own, as that route says.
     Reply,
     /// Route errors are broadcast.
     Error,

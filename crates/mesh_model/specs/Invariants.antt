@@ -1,6 +1,7 @@
 -- What holds of every world of every run, and why its routes have no cycle.
--- Along the valid routes for a destination the next node knows as much: its number is greater, or equal with fewer
--- hops. So what a message told when it was sent stays true of its sender, and numbers rise strictly round a cycle.
+-- Along the valid routes for a destination the next node, unless it is the destination, knows more: its number is
+-- greater, or equal with fewer hops. What a message told when it was sent stays true of its sender. So round a cycle
+-- the pair of number and fewer hops would rise strictly.
 use Rattle.std.specs.Prelude.{◌≡◌, ◌≢◌, ℕ, ◌-◌, ◌<◌, ◌≤◌, ◌⊎◌, Some, slice_get, ⊤}
 use Rattle.std.specs.List.{AllByRecursion}
 use Rattle.std.specs.FinMap as maps

@@ -31,7 +31,7 @@ StepKeepsLoopSafe = (w : World) (e : Event) → IsLoopSafe w → IsLoopSafe (aft
 abbrev pub StartKeeps : Type 0
 StartKeeps = (variant : Variant) (firsts : List ℕ) → ArePositive firsts → IsInvariant (start variant firsts)
 
--- every world of every run has the invariant, and as many nodes as there were at the start
+-- every world of every run of events of the mesh has the invariant, and as many nodes as there were at the start
 abbrev pub RunKeeps : Type 0
 RunKeeps = (variant : Variant) (firsts : List ℕ) (events : List Event) → ArePositive firsts → AllByRecursion (IsEvent (length firsts)) events
     → IsInvariant (run (start variant firsts) events) × (length (run (start variant firsts) events).nodes ≡ length firsts)

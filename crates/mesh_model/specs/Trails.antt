@@ -52,15 +52,15 @@ pub record Around : Type 0 where
   pub seen : ℕ → Seen
   pub ever : Pairs
 
--- a walk to d, its holder first: neighbours have been linked; the nodes before d are all different; and each of them
--- has at least the number n with as many hops as there are nodes behind it
+-- a walk to d, its holder first: neighbours have been linked; the nodes before the last are all different; and each of
+-- them has at least the number n, which isn't 0, with as many hops as there are nodes behind it
 abbrev pub IsBackedWalk : Around → ℕ → ℕ → List ℕ → Type 0
 IsBackedWalk a d n [] = ⊥
 IsBackedWalk a d n (x ∷ []) = x ≡ d
 IsBackedWalk a d n (x ∷ (y ∷ ys)) =
     (are_linked a.ever y x ≡ true) × (1 ≤ n) × AtLeast (a.tables x) d n (length (y ∷ ys)) × IsAbsent x (front (y ∷ ys)) × IsBackedWalk a d n (y ∷ ys)
 
--- the walk of x's entry for d with number n, h hops and next hop y: that of y, on which x isn't
+-- the walk of x's entry for d with number n, h hops and next hop y: that of y, on which x doesn't stand before the end
 pub record HasEntryWalk (a : Around) (x d n h y : ℕ) : Type 0 where
   pub others : List ℕ
   pub walk : IsBackedWalk a d n (y ∷ others)
