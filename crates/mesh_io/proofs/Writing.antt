@@ -1,9 +1,16 @@
 -- Writing a text in pieces.
+<<<<<<< HEAD
 use Rattle.std.proofs.Common.{◌≡◌, ℕ, ◌≤◌, ◌+◌, ◌-◌, List, [], ◌∷◌, ◌++◌, Option, Some, None, Result, Ok, Err, refl, sym, ap, ◌∙◌, append_assoc, append-nil, take, drop, take-append-drop, length, subst, arith, length-append, OnOk, false, is_err}
 use Rattle.std.proofs.lemmas.List.{take_rest, drop-append-le}
 use Rattle.std.proofs.Math.Seq.{take-add, drop-append_seam}
 use Rattle.std.specs.Io.KnownBytes.{Appends, Keeps, append_known}
 use Rattle.mesh_io.specs.Growth.{known_front}
+=======
+use Rattle.std.proofs.Common.{◌≡◌, ℕ, ◌≤◌, ◌+◌, ◌-◌, List, [], ◌∷◌, ◌++◌, Option, Some, None, Result, Ok, Err, refl, sym, ap, ◌∙◌, append_assoc, append-nil, take, drop, take-append-drop, length}
+use Rattle.std.proofs.lemmas.List.{take_rest}
+use Rattle.std.proofs.Math.Seq.{take-add}
+use Rattle.std.specs.Io.KnownBytes.{Appends, Keeps}
+>>>>>>> dfd5b27 (mesh_io: sources, sinks, a buffer before a sink)
 use Rattle.mesh_io.specs.Puts.{AppendsFront, Puts}
 
 pub Appends-join : (a b c : Option (List ℕ)) (xs ys zs : List ℕ) → zs ≡ xs ++ ys → Appends a b xs → Appends b c ys → Appends a c zs
@@ -47,6 +54,7 @@ Puts-end E a (y ∷ ys) x h = absurd (omega Rattle.std.proofs.Common.arith)
 -- a front goes on with a front of the rest
 pub take_on : (i n : ℕ) (xs : List ℕ) → take (i + n) xs ≡ take i xs ++ take n (take (length xs - i) (drop i xs))
 take_on i n xs = rw take_rest (take-add i n xs)
+<<<<<<< HEAD
 
 -- what is held stays after the text
 pub Appends-keeps : (a b c : Option (List ℕ)) (xs : List ℕ) → Appends a b xs → Keeps b c → Appends a c xs
@@ -130,3 +138,5 @@ Puts-front a b xs ys zs (Err x) e p = AppendsFront-more a b xs ys zs e p
 pub Puts-whole : {T E : Type 0} (a b : Option (List ℕ)) (xs : List ℕ) (r : Result T E) → is_err r ≡ false → Puts a b xs r → Appends a b xs
 Puts-whole a b xs (Ok x) e p = p
 Puts-whole a b xs (Err x) e p = absurd cc
+=======
+>>>>>>> dfd5b27 (mesh_io: sources, sinks, a buffer before a sink)

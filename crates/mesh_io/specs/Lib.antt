@@ -2,7 +2,10 @@
 -- calls that fail by plan, sources and sinks in memory, a buffer before a sink.
 pub mod Cause
 pub mod Puts
+<<<<<<< HEAD
 pub mod Growth
+=======
+>>>>>>> dfd5b27 (mesh_io: sources, sinks, a buffer before a sink)
 pub mod Input
 pub mod Calls
 pub mod Memory
