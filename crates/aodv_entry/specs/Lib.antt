@@ -1,3 +1,5 @@
--- Read in this order: what an entry's number and flag say and which of two entries is the better; destinations with a number each.
+-- Read in this order.
+-- Quality: the next sequence number, and which of two entries is the better.
 pub mod Quality
+-- Destinations: destinations with a sequence number each.
 pub mod Destinations

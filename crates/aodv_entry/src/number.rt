@@ -12,7 +12,7 @@ pub fn inc(n: u32) -> Option<u32>
     if n == 0 { Some(0) } else { n.checked_add(1) }
 }
 
-/// The net sequence number of an entry (AWN, section 5.1).
+/// The net sequence number of an entry (AWN's nsqn).
 pub fn nsqn(e: &Entry) -> u32
     ensures { result ≡ nsqn e.now }
 {

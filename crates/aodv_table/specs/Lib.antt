@@ -1,5 +1,7 @@
--- Read in this order. What a table is, and its changes, are definitions of aodv_model (its specs/Tables).
+-- Read in this order. What a table is, and how it changes, is defined by aodv_model (its specs/Tables).
 -- Calls: what the calls of a table say beside those changes.
 pub mod Calls
--- Rows: how a map of rows shows a table and the room in it.
+-- Seen: what the contracts of a type of table see of it.
+pub mod Seen
+-- Rows: what a map of rows shows of a table, for PlainTable.
 pub mod Rows

@@ -2,25 +2,10 @@
 use Rattle.std.specs.Prelude.{◌≡◌, ◌≤◌, ℕ, List, [], ◌∷◌, map, Option}
 use Rattle.std.specs.FinMap as maps
 use Rattle.std.specs.FinSet as sets
-use Rattle.std.specs.Coded.{Coded, code_by, coded×, coded_ℕ}
-use Rattle.std.proofs.Common.{refl}
 use Rattle.mesh_base.specs.Members.{NodeIds}
 use Rattle.aodv_entry.specs.declared.entry.Entry.{Entry}
 use Rattle.aodv_model.specs.Tables.{Table}
-use Rattle.aodv_model.specs.Codes.{table_code}
 use Rattle.aodv_table.specs.Calls.{IsBelow, with_entry, valid_dests}
-
--- what callers see of a table: its entries, the destinations with room, and the number of nodes
-pub record TableSeen : Type 0 where
-  pub entries : Table
-  pub rooms : NodeIds
-  pub nodes : ℕ
-
--- a code, by which proofs tell such values apart
-abbrev pub seen_code : Coded TableSeen
-seen_code =
-    code_by (Table × (NodeIds × ℕ)) (coded× table_code (coded× (sets.code coded_ℕ) coded_ℕ))
-    (λ t. (t.entries, (t.rooms, t.nodes))) (λ p. record { entries = p.0; rooms = p.1.0; nodes = p.1.1 }) (λ _. refl)
 
 -- the table that rows show
 unfoldable pub entries_in : List (ℕ × Option Entry) → Table
@@ -31,7 +16,8 @@ entries_in (row ∷ rows) = with_entry (entries_in rows) row.0 row.1
 unfoldable pub rooms_in : List (ℕ × Option Entry) → NodeIds
 rooms_in rows = sets.from_list (map (λ row. row.0) rows)
 
--- what a table of rows keeps: a mesh's number of nodes, no entry from there on, and the set of its valid destinations
+-- what a table of rows keeps: a number of nodes that a mesh may have, no entry of any other destination, and the
+-- set of the valid destinations
 pub record AreRows (nodes : ℕ) (rows : List (ℕ × Option Entry)) (valid : NodeIds) : Type 0 where
   pub few : nodes ≤ 200
   pub below : IsBelow nodes (entries_in rows)

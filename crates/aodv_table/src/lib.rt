@@ -3,6 +3,7 @@
 //! Room for an entry is made before the entry comes, so that a change of entries needs no memory.
 #![tactic(auto)]
 
+mod merge;
 mod plain;
 mod table;
 

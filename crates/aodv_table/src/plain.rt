@@ -1,12 +1,12 @@
 //! A table over an ordered map.
-ghost use Rattle.std.specs.Prelude.{◌≡◌, ◌<◌, ◌≤◌, ◌↔◌, ℕ, Bool, true, false, not, IsSome, OnOk, OnErr, IfOk, MatchResult, if◌then◌else◌, Some, None};
+ghost use Rattle.std.specs.Prelude.{◌≡◌, ◌<◌, ◌≤◌, true, IsSome, OnOk, OnErr, if◌then◌else◌, None};
 ghost use Rattle.std.specs.FinMap as maps;
 ghost use Rattle.std.specs.FinSet as sets;
-ghost use Rattle.aodv_model.specs.Tables.{entry_after, invalidate, unreachable_by, goes_by, is_valid_in};
-ghost use Rattle.aodv_model.specs.Handlers.{leaves};
-ghost use Rattle.aodv_table.specs.Calls.{IsBelow, with_entry, valid_dests, dests_by, is_past, IsLeastPast};
-ghost use Rattle.aodv_table.specs.Rows.{entries_in, rooms_in, AreRows};
+ghost use Rattle.aodv_model.specs.Tables.{invalidate, goes_by, is_valid_in};
+ghost use Rattle.aodv_table.specs.Calls.{with_entry};
+ghost use Rattle.aodv_table.specs.Rows.{entries_in, rooms_in};
 
+use crate::merge::{entry_after, is_changed};
 use crate::table::Table;
 use aodv_entry::{Dests, Entry, Flag, Known, inc};
 use mesh_base::{NoMemory, NodeSet};
@@ -24,7 +24,8 @@ pub struct PlainTable {
 }
 
 impl Model for PlainTable {
-    ghost use Rattle.aodv_table.specs.Rows.{TableSeen, seen_code, entries_in, rooms_in, AreRows};
+    ghost use Rattle.aodv_table.specs.Seen.{TableSeen, seen_code};
+    ghost use Rattle.aodv_table.specs.Rows.{entries_in, rooms_in, AreRows};
 
     ghost Value = { TableSeen };
 
@@ -71,44 +72,20 @@ fn add_row(rows: &mut BTreeMap<usize, Option<Entry>>, d: usize) -> Result<(), No
     Ok(())
 }
 
-// The entry of a destination after r has come for it.
-#[tactic(auto, unfolding(aodv_model::specs::Tables::merged))]
-fn entry_after(before: Option<Entry>, r: Entry) -> Entry
-    ensures { result ≡ entry_after before r }
+// Whether d is valid, as its row says.
+fn mark(valid: &mut NodeSet, d: usize, row: &Option<Entry>)
+    requires { d < 256 }
+    ensures { valid.new ≡ (if is_valid_in row.now then sets.insert valid.old d else sets.remove valid.old d) }
 {
-    let Some(s) = before else {
-        return r;
-    };
-    let mut pre = s.pre;
-    pre.join(&r.pre);
-    if s.dsn < r.dsn {
-        return Entry { pre, ..r };
-    }
-    if s.dsn == r.dsn && (r.hops < s.hops || s.flag == Flag::Inv) {
-        return Entry { pre, ..r };
-    }
-    if r.dsk == Known::Unk {
-        return Entry {
-            pre,
-            dsn: s.dsn,
-            ..r
-        };
-    }
-    Entry { pre, ..s }
-}
-
-// Whether the entry is other than before.
-fn changed(before: &Option<Entry>, after: &Entry) -> bool
-    ensures { (result ≡ false) ↔ (before.now ≡ Some after.now) }
-{
-    match before {
-        None => true,
-        Some(s) => !s.same(after),
+    match row {
+        Some(entry) if entry.flag == Flag::Val => valid.add(d),
+        _ => valid.remove(d),
     }
 }
 
 impl PlainTable {
-    /// A table of no entries for a mesh of so many nodes. It takes no memory.
+    /// A table of no entries and no room, for a mesh of so many nodes. It takes no memory, but keeps the
+    /// allocator from which room is made.
     pub fn new(alloc: Global, nodes: usize) -> PlainTable
         requires { nodes ≤ 200 }
         ensures { result ≡ record { entries = maps.empty; rooms = sets.empty; nodes = nodes } }
@@ -170,17 +147,6 @@ impl PlainTable {
     }
 }
 
-// Whether d is valid, as its row says.
-fn mark(valid: &mut NodeSet, d: usize, row: &Option<Entry>)
-    requires { d < 256 }
-    ensures { valid.new ≡ (if is_valid_in row.now then sets.insert valid.old d else sets.remove valid.old d) }
-{
-    match row {
-        Some(entry) if entry.flag == Flag::Val => valid.add(d),
-        _ => valid.remove(d),
-    }
-}
-
 impl Table for PlainTable {
     ghost entries = { λ t. t.entries };
 
@@ -212,7 +178,7 @@ impl Table for PlainTable {
         let before = self.entry(d);
         let after = entry_after(before, r);
         self.write(d, Some(after));
-        changed(&before, &after)
+        is_changed(&before, &after)
     }
 
     fn invalidate(&mut self, dests: &Dests) {

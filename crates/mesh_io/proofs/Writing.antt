@@ -1,34 +1,34 @@
--- Writing a text in pieces.
-<<<<<<< HEAD
+-- Writing a text in pieces, and through a buffer.
 use Rattle.std.proofs.Common.{◌≡◌, ℕ, ◌≤◌, ◌+◌, ◌-◌, List, [], ◌∷◌, ◌++◌, Option, Some, None, Result, Ok, Err, refl, sym, ap, ◌∙◌, append_assoc, append-nil, take, drop, take-append-drop, length, subst, arith, length-append, OnOk, false, is_err}
 use Rattle.std.proofs.lemmas.List.{take_rest, drop-append-le}
 use Rattle.std.proofs.Math.Seq.{take-add, drop-append_seam}
 use Rattle.std.specs.Io.KnownBytes.{Appends, Keeps, append_known}
 use Rattle.mesh_io.specs.Growth.{known_front}
-=======
-use Rattle.std.proofs.Common.{◌≡◌, ℕ, ◌≤◌, ◌+◌, ◌-◌, List, [], ◌∷◌, ◌++◌, Option, Some, None, Result, Ok, Err, refl, sym, ap, ◌∙◌, append_assoc, append-nil, take, drop, take-append-drop, length}
-use Rattle.std.proofs.lemmas.List.{take_rest}
-use Rattle.std.proofs.Math.Seq.{take-add}
-use Rattle.std.specs.Io.KnownBytes.{Appends, Keeps}
->>>>>>> dfd5b27 (mesh_io: sources, sinks, a buffer before a sink)
 use Rattle.mesh_io.specs.Puts.{AppendsFront, Puts}
 
+-- a part and then the rest is the whole
 pub Appends-join : (a b c : Option (List ℕ)) (xs ys zs : List ℕ) → zs ≡ xs ++ ys → Appends a b xs → Appends b c ys → Appends a c zs
 Appends-join None b c xs ys zs e p q = tt
 Appends-join (Some x) None c xs ys zs e p q = absurd p
 Appends-join (Some x) (Some y) None xs ys zs e p q = absurd q
 Appends-join (Some x) (Some y) (Some z) xs ys zs e p q = q ∙ ap (λ l. l ++ ys) p ∙ append_assoc x xs ys ∙ ap (λ l. x ++ l) (sym e)
 
+-- no byte was written
 pub Appends-kept : (a b : Option (List ℕ)) → Keeps a b → Appends a b []
 Appends-kept None b h = tt
 Appends-kept (Some x) None h = h
 Appends-kept (Some x) (Some y) h = h ∙ sym (append-nil x)
 
+-- no byte was written
 pub Appends-none : (a : Option (List ℕ)) → Appends a a []
 Appends-none None = tt
 Appends-none (Some x) = sym (append-nil x)
 
 -- nothing of it was written
+pub AppendsFront-none : (a : Option (List ℕ)) (text : List ℕ) → AppendsFront a a text
+AppendsFront-none a text = record { front = []; rest = text; whole = refl; grown = Appends-none a }
+
+-- nor where what is held stays
 pub AppendsFront-kept : (a b : Option (List ℕ)) (text : List ℕ) → Keeps a b → AppendsFront a b text
 AppendsFront-kept a b text h = record { front = []; rest = text; whole = refl; grown = Appends-kept a b h }
 
@@ -54,7 +54,6 @@ Puts-end E a (y ∷ ys) x h = absurd (omega Rattle.std.proofs.Common.arith)
 -- a front goes on with a front of the rest
 pub take_on : (i n : ℕ) (xs : List ℕ) → take (i + n) xs ≡ take i xs ++ take n (take (length xs - i) (drop i xs))
 take_on i n xs = rw take_rest (take-add i n xs)
-<<<<<<< HEAD
 
 -- what is held stays after the text
 pub Appends-keeps : (a b c : Option (List ℕ)) (xs : List ℕ) → Appends a b xs → Keeps b c → Appends a c xs
@@ -113,14 +112,20 @@ AppendsFront-through before start opened closed now text s e front p =
     let Q : Option (List ℕ) → Type 0 = λ known. AppendsFront known now text in
     subst Q (sym s) (front (subst P (e ∙ s) p))
 
+-- a text that was put whole through a buffer, which handed on all, was put to its sink
+pub Appends-through : (before opened closed now : Option (List ℕ)) (text : List ℕ) → opened ≡ before → now ≡ closed
+    → Appends opened closed text → Appends before now text
+Appends-through before opened closed now text e whole p =
+    let P : Option (List ℕ) → Type 0 = λ known. Appends known closed text in
+    let Q : Option (List ℕ) → Type 0 = λ known. Appends before known text in
+    subst Q (sym whole) (subst P e p)
+
 -- what was put through a buffer was put to its sink, once the buffer has given it back
 pub Puts-through : {T E : Type 0} (before start opened closed now : Option (List ℕ)) (gathered text : List ℕ) (r : Result T E)
     → before ≡ start → opened ≡ before → OnOk r (gathered ≡ []) → (gathered ≡ [] → now ≡ closed)
     → (AppendsFront start closed text → AppendsFront start now text) → Puts opened closed text r → Puts before now text r
 Puts-through before start opened closed now gathered text (Ok x) s e all whole front p =
-    let P : Option (List ℕ) → Type 0 = λ known. Appends known closed text in
-    let Q : Option (List ℕ) → Type 0 = λ known. Appends before known text in
-    subst Q (sym (whole all)) (subst P e p)
+    Appends-through before opened closed now text e (whole all) p
 Puts-through before start opened closed now gathered text (Err x) s e all whole front p =
     AppendsFront-through before start opened closed now text s e front p
 
@@ -138,5 +143,3 @@ Puts-front a b xs ys zs (Err x) e p = AppendsFront-more a b xs ys zs e p
 pub Puts-whole : {T E : Type 0} (a b : Option (List ℕ)) (xs : List ℕ) (r : Result T E) → is_err r ≡ false → Puts a b xs r → Appends a b xs
 Puts-whole a b xs (Ok x) e p = p
 Puts-whole a b xs (Err x) e p = absurd cc
-=======
->>>>>>> dfd5b27 (mesh_io: sources, sinks, a buffer before a sink)

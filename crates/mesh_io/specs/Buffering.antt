@@ -1,10 +1,6 @@
 -- A buffer before a sink.
-<<<<<<< HEAD
 use Rattle.std.specs.Prelude.{ℕ, ◌≡◌, List, ◌++◌, Option}
 use Rattle.std.specs.Io.KnownBytes.{Appends, append_known}
-=======
-use Rattle.std.specs.Prelude.{ℕ, List}
->>>>>>> dfd5b27 (mesh_io: sources, sinks, a buffer before a sink)
 use Rattle.mesh_io.specs.declared.buffered.Buffered.{Buffered}
 
 -- the sink that the buffer is handed on to
@@ -18,7 +14,6 @@ gathered_in buffer = buffer.gathered.items
 -- the most bytes that are gathered
 abbrev pub buffer_size : ℕ
 buffer_size = 65536
-<<<<<<< HEAD
 
 -- what the inner sink holds and then what is gathered, where that is told
 abbrev pub held_by : {S : Type 0} → (S → Option (List ℕ)) → Buffered S → Option (List ℕ)
@@ -29,5 +24,3 @@ pub record HandsOn (before now : Option (List ℕ)) (gathered rest : List ℕ) :
   pub handed : List ℕ
   pub whole : gathered ≡ handed ++ rest
   pub grown : Appends before now handed
-=======
->>>>>>> dfd5b27 (mesh_io: sources, sinks, a buffer before a sink)

@@ -1,26 +1,15 @@
 //! A buffer before a sink.
-<<<<<<< HEAD
-ghost use Rattle.std.specs.Prelude.{◌≡◌, ◌≤◌, ◌<◌, ◌+◌, ◌-◌, ℕ, List, length, [], ◌++◌, take, drop, min, Ok, IfOk, OnOk, OnErr};
+ghost use Rattle.std.specs.Prelude.{◌≡◌, ◌≤◌, ◌<◌, ◌+◌, ◌-◌, ℕ, List, length, [], ◌++◌, take, drop, min, Ok, IsOk, IfOk, OnOk, OnErr};
 ghost use Rattle.std.specs.Io.KnownBytes.{Keeps, WriteAppends};
 ghost use Rattle.arrayvec.specs.ArrayVec.{array_vec_len};
 ghost use Rattle.mesh_io.specs.Cause.{HasCause};
 ghost use Rattle.mesh_io.specs.Puts.{AppendsFront};
 ghost use Rattle.mesh_io.specs.Buffering.{inner_of, gathered_in, held_by, buffer_size, HandsOn};
-=======
-ghost use Rattle.std.specs.Prelude.{◌≡◌, ◌≤◌, ◌<◌, ◌+◌, ◌-◌, length, [], ◌++◌, take, drop, min, Ok, IfOk, OnOk, OnErr};
-ghost use Rattle.std.specs.Io.KnownBytes.{append_known, Keeps, WriteAppends};
-ghost use Rattle.arrayvec.specs.ArrayVec.{array_vec_len};
-ghost use Rattle.mesh_io.specs.Cause.{HasCause};
-ghost use Rattle.mesh_io.specs.Buffering.{inner_of, gathered_in, buffer_size};
->>>>>>> dfd5b27 (mesh_io: sources, sinks, a buffer before a sink)
 
 use crate::put::{PutFault, put_front};
 use crate::sink::Sink;
 use crate::source::Failed;
-<<<<<<< HEAD
 use crate::through::{Loan, Through};
-=======
->>>>>>> dfd5b27 (mesh_io: sources, sinks, a buffer before a sink)
 use arrayvec::ArrayVec;
 
 /// How many bytes a buffer has room for.
@@ -60,14 +49,10 @@ impl<S: Sink> Buffered<S> {
     /// buffer and the rest stays gathered.
     pub fn flush(&mut self) -> Result<(), PutFault>
         ensures all { OnOk result (gathered_in self.new ≡ []) }
-<<<<<<< HEAD
         ensures handed { HandsOn (S.held (inner_of self.old)) (S.held (inner_of self.new)) (gathered_in self.old) (gathered_in self.new) }
         ensures held { Keeps (held_by S.held self.old) (held_by S.held self.new) }
-=======
-        ensures held { Keeps (append_known (S.held (inner_of self.old)) (gathered_in self.old))
-            (append_known (S.held (inner_of self.new)) (gathered_in self.new)) }
->>>>>>> dfd5b27 (mesh_io: sources, sinks, a buffer before a sink)
         ensures cause { HasCause (S.faults (inner_of self.old)) (S.faults (inner_of self.new)) result }
+        ensures nothing { gathered_in self.old ≡ [] → IsOk result × (inner_of self.new ≡ inner_of self.old) }
     {
         let handed = put_front(&mut self.inner, self.gathered.as_slice());
         if handed < self.gathered.len() {
@@ -78,7 +63,6 @@ impl<S: Sink> Buffered<S> {
         Ok(())
     }
 
-<<<<<<< HEAD
     // Gathers as much of the piece as there is room for.
     fn gather(&mut self, piece: &[u8]) -> usize
         ensures count { result ≡ min (length piece.now) (buffer_size - length (gathered_in self.old)) }
@@ -93,8 +77,6 @@ impl<S: Sink> Buffered<S> {
         }
     }
 
-=======
->>>>>>> dfd5b27 (mesh_io: sources, sinks, a buffer before a sink)
     /// The inner sink. What is gathered is lost, so flush first.
     pub fn into_inner(self) -> S
         ensures { result ≡ inner_of self }
@@ -105,18 +87,13 @@ impl<S: Sink> Buffered<S> {
 }
 
 impl<S: Sink> Sink for Buffered<S> {
-<<<<<<< HEAD
     ghost held = { held_by S.held };
-=======
-    ghost held = { λ b. append_known (S.held (inner_of b)) (gathered_in b) };
->>>>>>> dfd5b27 (mesh_io: sources, sinks, a buffer before a sink)
 
     ghost faults = { λ b. S.faults (inner_of b) };
 
     fn put(&mut self, piece: &[u8]) -> Result<usize, Failed>
         requires { 0 < length piece.now }
         ensures some { IfOk result (λ n. (0 < n) × (n ≤ length piece.now)) }
-<<<<<<< HEAD
         ensures bytes { WriteAppends (held_by S.held self.old) (held_by S.held self.new) result piece.now }
         ensures cause { HasCause (S.faults (inner_of self.old)) (S.faults (inner_of self.new)) result }
         ensures gathers { length (gathered_in self.old) < buffer_size → (inner_of self.new ≡ inner_of self.old)
@@ -160,23 +137,3 @@ impl<'s, O: Sink, L: Loan> Buffered<Through<'s, O, L>> {
         to
     }
 }
-=======
-        ensures bytes { WriteAppends (append_known (S.held (inner_of self.old)) (gathered_in self.old))
-            (append_known (S.held (inner_of self.new)) (gathered_in self.new)) result piece.now }
-        ensures cause { HasCause (S.faults (inner_of self.old)) (S.faults (inner_of self.new)) result }
-        ensures inner { length (gathered_in self.old) < buffer_size → inner_of self.new ≡ inner_of self.old }
-        ensures answer { length (gathered_in self.old) < buffer_size
-            → result ≡ Ok (min (length piece.now) (buffer_size - length (gathered_in self.old))) }
-        ensures full { buffer_size ≤ length (gathered_in self.old) → IfOk result (λ n. n ≡ min (length piece.now) buffer_size) }
-    {
-        if self.gathered.is_full() && self.flush().is_err() {
-            return Err(Failed);
-        }
-        let n = piece.len().min(self.gathered.remaining_capacity());
-        match self.gathered.try_extend_from_slice(&piece[..n]) {
-            Ok(()) => Ok(n),
-            Err(_) => unreachable!(),
-        }
-    }
-}
->>>>>>> dfd5b27 (mesh_io: sources, sinks, a buffer before a sink)

@@ -13,11 +13,8 @@ mod sink;
 mod source;
 mod stream;
 mod sure;
-<<<<<<< HEAD
 #[cfg(test)]
 mod tests;
-=======
->>>>>>> dfd5b27 (mesh_io: sources, sinks, a buffer before a sink)
 mod through;
 
 pub use buffered::Buffered;
@@ -29,8 +26,4 @@ pub use sink::Sink;
 pub use source::{Failed, Source};
 pub use stream::{StdSink, StdSource};
 pub use sure::{SureSink, SureSource};
-<<<<<<< HEAD
 pub use through::{Loan, Through};
-=======
-pub use through::{Place, Through};
->>>>>>> dfd5b27 (mesh_io: sources, sinks, a buffer before a sink)

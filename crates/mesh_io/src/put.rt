@@ -19,6 +19,7 @@ pub fn put_front<O: Sink>(out: &mut O, piece: &[u8]) -> usize
     ensures later { O.faults out.old ≤ O.faults out.new }
     ensures failed { result < length piece.now → Rose (O.faults out.old) (O.faults out.new) }
     ensures none { result ≡ length piece.now → O.faults out.new ≡ O.faults out.old }
+    ensures empty { length piece.now ≡ 0 → out.new ≡ out.old }
 {
     let mut written = 0;
     while written < piece.len() {
@@ -30,10 +31,12 @@ pub fn put_front<O: Sink>(out: &mut O, piece: &[u8]) -> usize
     written
 }
 
-/// Writes the whole piece, or a front of it where the sink fails.
+/// Writes the whole piece, or a front of it where the sink fails. An empty piece is written by no
+/// call.
 pub fn put_all<O: Sink>(out: &mut O, piece: &[u8]) -> Result<(), PutFault>
     ensures text { Puts (O.held out.old) (O.held out.new) piece.now result }
     ensures cause { HasCause (O.faults out.old) (O.faults out.new) result }
+    ensures empty { length piece.now ≡ 0 → out.new ≡ out.old }
 {
     if put_front(out, piece) < piece.len() {
         return Err(PutFault);

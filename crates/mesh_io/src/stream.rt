@@ -1,5 +1,9 @@
 //! The adapters over std's readers and writers.
-ghost use Rattle.std.specs.Prelude.{◌≡◌, None};
+ghost use Rattle.std.specs.Prelude.{◌≡◌, ◌<◌, ◌≤◌, None, length, take, IfOk};
+ghost use Rattle.std.specs.Io.{ReadsAtMost};
+ghost use Rattle.std.specs.Io.KnownBytes.{Appends, ReadConsumes, WriteAppends};
+ghost use Rattle.mesh_io.specs.Cause.{HasCause};
+ghost use Rattle.mesh_io.specs.Streams.{reader_of, read_faults, writer_of, write_faults};
 
 use crate::sink::Sink;
 use crate::source::{Failed, Source};
@@ -15,7 +19,8 @@ pub struct StdSource<R> {
 impl<R: Read> StdSource<R> {
     /// A source over this reader.
     pub fn new(reader: R) -> StdSource<R>
-        ensures { ⟦<StdSource<R> as Source>⟧.faults result ≡ 0 }
+        ensures reader { reader_of result ≡ reader }
+        ensures faults { read_faults result ≡ 0 }
     {
         StdSource { reader, faults: 0 }
     }
@@ -24,9 +29,14 @@ impl<R: Read> StdSource<R> {
 impl<R: Read> Source for StdSource<R> {
     ghost left = { λ s. None };
 
-    ghost faults = { λ s. s.faults };
+    ghost faults = { read_faults };
 
-    fn take(&mut self, buf: &mut [u8]) -> Result<usize, Failed> {
+    fn take(&mut self, buf: &mut [u8]) -> Result<usize, Failed>
+        ensures bound { ReadsAtMost result buf.new }
+        ensures bytes { ReadConsumes None None result buf.new }
+        ensures cause { HasCause (read_faults self.old) (read_faults self.new) result }
+        ensures read { ReadConsumes (R.remaining (reader_of self.old)) (R.remaining (reader_of self.new)) result buf.new }
+    {
         match self.reader.read(buf) {
             Ok(n) => Ok(n),
             Err(_) => {
@@ -47,7 +57,8 @@ pub struct StdSink<W> {
 impl<W: Write> StdSink<W> {
     /// A sink over this writer.
     pub fn new(writer: W) -> StdSink<W>
-        ensures { ⟦<StdSink<W> as Sink>⟧.faults result ≡ 0 }
+        ensures writer { writer_of result ≡ writer }
+        ensures faults { write_faults result ≡ 0 }
     {
         StdSink { writer, faults: 0 }
     }
@@ -56,9 +67,15 @@ impl<W: Write> StdSink<W> {
 impl<W: Write> Sink for StdSink<W> {
     ghost held = { λ s. None };
 
-    ghost faults = { λ s. s.faults };
+    ghost faults = { write_faults };
 
-    fn put(&mut self, piece: &[u8]) -> Result<usize, Failed> {
+    fn put(&mut self, piece: &[u8]) -> Result<usize, Failed>
+        requires { 0 < length piece.now }
+        ensures some { IfOk result (λ n. (0 < n) × (n ≤ length piece.now)) }
+        ensures bytes { WriteAppends None None result piece.now }
+        ensures cause { HasCause (write_faults self.old) (write_faults self.new) result }
+        ensures written { IfOk result (λ n. Appends (W.contents (writer_of self.old)) (W.contents (writer_of self.new)) (take n piece.now)) }
+    {
         let count = match self.writer.write(piece) {
             Ok(n) => n,
             Err(_) => 0,

@@ -1,4 +1,4 @@
-use Rattle.std.proofs.Common.{rules}
+use Rattle.std.proofs.Common.{rules, arith}
 use Rattle.mesh_io.proofs.Writing.{Appends-join, take_on}
 use Rattle.mesh_io.proofs.put.put_front.Goals as goal
 
@@ -7,4 +7,5 @@ loop-written-preserved g c = record {
   within = search rules;
   text = Appends-join _ _ _ _ _ _ (take_on c.loop-written.written c.in-Ok.n c.args.piece.now) c.loop-written.invariant.text c.in-Ok.ensures.bytes;
   none = search rules;
+  empty = λ zero. absurd (omega arith);
 }

@@ -8,6 +8,7 @@ invariant-loop-written g l = record {
   within : l.written ≤ length l.piece;
   text : Appends (g.O.Sink.held l.initial.out) (g.O.Sink.held l.out) (take l.written l.piece);
   none : g.O.Sink.faults l.out ≡ g.O.Sink.faults l.initial.out;
+  empty : length l.piece ≡ 0 → l.out ≡ l.initial.out;
 }
 
 abbrev pub decreases-loop-written : goal.decreases-loop-written

@@ -1,6 +1,7 @@
 use Rattle.std.proofs.Common.{ap, sym, ◌∙◌}
 use Rattle.std.specs.FinMap as maps
-use Rattle.aodv_table.specs.Rows.{TableSeen, entries_in}
+use Rattle.aodv_table.specs.Seen.{TableSeen}
+use Rattle.aodv_table.specs.Rows.{entries_in}
 use Rattle.aodv_table.proofs.Searches.{not_by, by_it, by}
 use Rattle.aodv_table.proofs.plain.PlainTable.entry_by.Goals as goal
 

@@ -1,5 +1,5 @@
 use Rattle.std.proofs.Common.{ap}
-use Rattle.aodv_table.specs.Rows.{TableSeen}
+use Rattle.aodv_table.specs.Seen.{TableSeen}
 use Rattle.aodv_table.proofs.RowLaws.{rows_kept}
 use Rattle.aodv_table.proofs.plain.PlainTable.write.Goals as goal
 

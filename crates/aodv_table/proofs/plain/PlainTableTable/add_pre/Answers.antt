@@ -1,7 +1,7 @@
 use Rattle.std.proofs.Common.{ap, ◌∙◌}
 use Rattle.std.specs.FinMap as maps
 use Rattle.mesh_base.specs.Members.{NodeIds}
-use Rattle.aodv_table.specs.Rows.{TableSeen}
+use Rattle.aodv_table.specs.Seen.{TableSeen}
 use Rattle.aodv_table.proofs.Changes.{pre_joined, none_joined}
 use Rattle.aodv_table.proofs.plain.PlainTableTable.add_pre.Goals as goal
 

@@ -1,5 +1,5 @@
 use Rattle.std.proofs.Common.{subst, sym, ap, ◌∙◌, arith, ◌+◌, refl}
-use Rattle.aodv_table.specs.Rows.{TableSeen}
+use Rattle.aodv_table.specs.Seen.{TableSeen}
 use Rattle.aodv_table.proofs.RowLaws.{below_seen}
 use Rattle.aodv_table.proofs.Searches.{Raised, raised_none, raised_one, raised_other, raised_all, raised_room, raised_above, least_past, true_false}
 use Rattle.aodv_table.proofs.plain.PlainTableTable.dests_via.Goals as goal

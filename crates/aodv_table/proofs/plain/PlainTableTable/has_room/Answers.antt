@@ -1,6 +1,6 @@
 use Rattle.std.proofs.Common.{ap, sym, ◌∙◌}
 use Rattle.std.specs.FinSet as sets
-use Rattle.aodv_table.specs.Rows.{TableSeen}
+use Rattle.aodv_table.specs.Seen.{TableSeen}
 use Rattle.aodv_table.proofs.RowLaws.{contains-rooms_in}
 use Rattle.aodv_table.proofs.plain.PlainTableTable.has_room.Goals as goal
 

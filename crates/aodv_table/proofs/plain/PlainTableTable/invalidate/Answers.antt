@@ -1,5 +1,5 @@
 use Rattle.std.proofs.Common.{◌+◌, ap, ◌∙◌, subst, sym, rules, arith}
-use Rattle.aodv_table.specs.Rows.{TableSeen}
+use Rattle.aodv_table.specs.Seen.{TableSeen}
 use Rattle.aodv_table.proofs.Changes.{Left, left_first, left_next, left_last}
 use Rattle.aodv_table.proofs.plain.PlainTableTable.invalidate.Goals as goal
 

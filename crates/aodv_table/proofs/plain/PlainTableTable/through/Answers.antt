@@ -1,5 +1,5 @@
 use Rattle.std.proofs.Common.{subst, sym, ap, ◌∙◌, arith, ◌+◌}
-use Rattle.aodv_table.specs.Rows.{TableSeen}
+use Rattle.aodv_table.specs.Seen.{TableSeen}
 use Rattle.aodv_table.proofs.RowLaws.{below_seen}
 use Rattle.std.specs.Prelude.{is_some}
 use Rattle.aodv_table.proofs.Searches.{Found, found_none, found_one, found_other, found_all}
