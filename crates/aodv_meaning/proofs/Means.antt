@@ -1,15 +1,15 @@
 -- Indices and addresses, there and back.
-use Rattle.std.proofs.Common.{◌≡◌, ◌≢◌, ◌<◌, ◌≤◌, ℕ, zero, suc, ◌+◌, Bool, true, false, not, cond, eqb, ltb, ◌||◌, Option, Some, None, List, [], ◌∷◌, length, length-drop, map, get_or, refl, sym, ap, subst, ◌∙◌, eq-eqb, arith, inl, inr}
-use Rattle.std.specs.Prelude.{is_some, unwrap_or, position, if◌then◌else◌}
+use Rattle.std.proofs.Common.{◌≡◌, ◌<◌, ◌≤◌, ℕ, Bool, true, false, not, cond, eqb, ltb, ◌||◌, Option, Some, None, List, [], ◌∷◌, length, length-drop, map, refl, sym, ap, ◌∙◌, eq-eqb, arith, inl, inr}
+use Rattle.std.specs.Prelude.{is_some, unwrap_or, if◌then◌else◌}
 use Rattle.std.specs.List.{list_any}
 use Rattle.std.specs.Ordering.{nat_cmp, eq_by_cmp}
 use Rattle.std.specs.Cmp.{unsigned_tied}
 use Rattle.std.specs.FinMap as maps
 use Rattle.std.specs.FinMap.{nat_cmp-IsAntisymmetric, find}
 use Rattle.std.proofs.lemmas.Cmp.{nat_cmp_total}
-use Rattle.std.proofs.lemmas.Bool.{ne_eqb, eqb-true, cases_lt, cases_eq, lt-ltb, or_cases}
+use Rattle.std.proofs.lemmas.Bool.{ne_eqb, eqb-true, cases_lt, lt-ltb}
 use Rattle.std.proofs.lemmas.Bool.Decides.{nat_tests}
-use Rattle.std.proofs.lemmas.Option.{none-some, same_Some}
+use Rattle.std.proofs.lemmas.Option.{none-some}
 use Rattle.std.proofs.lemmas.List.Quantifiers.{position-Some}
 use Rattle.std.proofs.lemmas.List.Sums.{position_or_len_is}
 use Rattle.std.specs.List.{position_or_len}
@@ -37,18 +37,17 @@ use Rattle.aodv_meaning.specs.Sent.{addressed, out_of, pairs_of, IsSent}
 -- an address below its own place isn't that of another place
 apart : (mesh : Nodes) (i k : ℕ) → IsMesh mesh → i < length mesh → k < length mesh → addr_at mesh k ≡ addr_at mesh i → k ≡ i
 apart mesh i k is hi hk same = elim (cases_lt k i) [
-    | inl lt ↦ let r = is.rising k i lt hi in absurd (omega arith)
-    | inr ge ↦ elim (cases_lt i k) [ inl lt ↦ let r = is.rising i k lt hk in absurd (omega arith) | inr le ↦ omega arith ]
+  | inl lt ↦ let r = is.rising k i lt hi in absurd (omega arith)
+  | inr ge ↦ elim (cases_lt i k) [ inl lt ↦ let r = is.rising i k lt hk in absurd (omega arith) | inr le ↦ omega arith ]
 ]
-
 
 pub index_of_at : (mesh : Nodes) (i : ℕ) → IsMesh mesh → i < length mesh → index_of mesh (addr_at mesh i) ≡ Some i
 unfolding index_of
 index_of_at mesh i is h =
     let place : position_or_len (λ (p : ℕ × ℕ). eqb p.0 (addr_at mesh i)) mesh ≡ i =
-        position_or_len_is (λ (p : ℕ × ℕ). eqb p.0 (addr_at mesh i)) mesh i (0, 0) (omega arith)
-        (λ k lt. ne_eqb (addr_at mesh k) (addr_at mesh i) (λ same. let r = is.rising k i lt h in omega arith))
-        (λ _. eq-eqb (addr_at mesh i) (addr_at mesh i) refl) in
+    position_or_len_is (λ (p : ℕ × ℕ). eqb p.0 (addr_at mesh i)) mesh i (0, 0) (omega arith)
+    (λ k lt. ne_eqb (addr_at mesh k) (addr_at mesh i) (λ same. let r = is.rising k i lt h in omega arith))
+    (λ _. eq-eqb (addr_at mesh i) (addr_at mesh i) refl) in
     rw (place, lt-ltb i (length mesh) h) refl
 
 pub index_at : (mesh : Nodes) (i : ℕ) → IsMesh mesh → i < length mesh → index_in mesh (addr_at mesh i) ≡ i
@@ -86,10 +85,10 @@ keys_in : (size : ℕ) (es : List (ℕ × ℕ)) → ((q : ℕ) → list_any (eq_
 keys_in size [] h = tt
 keys_in size (e ∷ es) h =
     (h e.0 (rw (unsigned_tied e.0 e.0, eq-eqb e.0 e.0 refl) refl), keys_in size es (λ q t. h q (rw t (or_true (eq_by_cmp nat_cmp q e.0)))))
-    where
-      or_true : (b : Bool) → (b || true) ≡ true
-      or_true true = refl
-      or_true false = refl
+  where
+    or_true : (b : Bool) → (b || true) ≡ true
+    or_true true = refl
+    or_true false = refl
 
 some_of : (o : Option ℕ) → is_some o ≡ true → (n : ℕ) × (o ≡ Some n)
 some_of (Some n) t = (n, refl)
@@ -107,9 +106,9 @@ there_and_back mesh (e ∷ es) is all = rw (index_at mesh e.0 is all.0, there_an
 dests_back : (mesh : Nodes) (dests : Dests) → IsMesh mesh → AreDestsBelow (length mesh) dests → dests_in mesh (pairs_of mesh dests) ≡ dests
 dests_back mesh dests is all =
     maps.same_map nat_cmp_total nat_cmp-IsAntisymmetric _ dests (λ q.
-        maps.get-from_entries nat_cmp_total (map (indexed mesh) (pairs_of mesh dests)) q
-        ∙ ap (find nat_cmp q) (there_and_back mesh (maps.entries dests) is (dests_keys (length mesh) dests all))
-        ∙ sym (maps.get-entries dests q))
+    maps.get-from_entries nat_cmp_total (map (indexed mesh) (pairs_of mesh dests)) q
+    ∙ ap (find nat_cmp q) (there_and_back mesh (maps.entries dests) is (dests_keys (length mesh) dests all))
+    ∙ sym (maps.get-entries dests q))
 
 no_strange_pair : (mesh : Nodes) (es : List (ℕ × ℕ)) → IsMesh mesh → AreKeysBelow (length mesh) es → strange_pair mesh (map (addressed mesh) es) ≡ None
 no_strange_pair mesh [] is all = refl

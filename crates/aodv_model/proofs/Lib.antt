@@ -9,3 +9,4 @@ pub mod Stores
 pub mod SoundTurns
 pub mod Stale
 pub mod FullNumbers
+pub mod Numbers

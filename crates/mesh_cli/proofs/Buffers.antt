@@ -1,5 +1,5 @@
 -- What was told to a buffer was told to the sink behind it.
-use Rattle.std.proofs.Common.{◌≡◌, ◌≢◌, ◌≤◌, ◌+◌, ◌-◌, ◌^◌, min, arith, ℕ, List, [], ◌++◌, Option, Result, Err, IfSome, Some, None, refl, sym, ◌∙◌, subst, append-nil}
+use Rattle.std.proofs.Common.{◌≡◌, ◌≢◌, ◌≤◌, ◌+◌, ◌-◌, ◌^◌, min, arith, ℕ, List, [], Option, IfSome, Some, None, sym, subst, append-nil}
 use Rattle.std.specs.Io.KnownBytes.{Appends, Keeps}
 use Rattle.mesh_io.specs.Puts.{AppendsFront}
 use Rattle.mesh_io.proofs.Writing.{Appends-keeps, AppendsFront-keeps, AppendsFront-through}

@@ -45,7 +45,7 @@ start_trails v firsts = record {
 
 -- ---- the bound
 
-front_distinct : (a : Around) (d n y : ℕ) (ys : List ℕ) → IsBackedWalk a d n (y ∷ ys) → IsDistinct eqb (front (y ∷ ys))
+pub front_distinct : (a : Around) (d n y : ℕ) (ys : List ℕ) → IsBackedWalk a d n (y ∷ ys) → IsDistinct eqb (front (y ∷ ys))
 unfolding IsDistinct
 front_distinct a d n y [] t = tt
 front_distinct a d n y (z ∷ zs) t = (apart y (front (z ∷ zs)) t.3, front_distinct a d n z zs t.4)
@@ -53,11 +53,11 @@ front_distinct a d n y (z ∷ zs) t = (apart y (front (z ∷ zs)) t.3, front_dis
 here : (w : World) (x d n h : ℕ) → AtLeast (table w x) d n h → x < length w.nodes
 here w x d n h at = let found = node_in w x d at.entry (slice_get w.nodes x) refl at.there in slice_get_within w.nodes x found.0 found.1
 
-front_within : (v : Variant) (w : World) (d n y : ℕ) (ys : List ℕ) → IsBackedWalk (around v w) d n (y ∷ ys) → (q : ℕ) → list_any (eqb q) (front (y ∷ ys)) ≡ true → q < length w.nodes
+pub front_within : (v : Variant) (w : World) (d n y : ℕ) (ys : List ℕ) → IsBackedWalk (around v w) d n (y ∷ ys) → (q : ℕ) → list_any (eqb q) (front (y ∷ ys)) ≡ true → q < length w.nodes
 front_within v w d n y [] t q is = cc
 front_within v w d n y (z ∷ zs) t q is = either (length w.nodes) q y (eqb q y) _ refl (here w y d n (length (z ∷ zs)) t.2) (front_within v w d n z zs t.4 q) is
 
-front_long : (y : ℕ) (ys : List ℕ) → length (front (y ∷ ys)) + 1 ≡ length (y ∷ ys)
+pub front_long : (y : ℕ) (ys : List ℕ) → length (front (y ∷ ys)) + 1 ≡ length (y ∷ ys)
 front_long y [] = refl
 front_long y (z ∷ zs) = let e = front_long z zs in omega arith
 

@@ -14,3 +14,5 @@ pub mod Honest
 pub mod Totals
 pub mod AccountTurns
 pub mod AccountSteps
+pub mod NumberSteps
+pub mod OnlyNumbers

@@ -2,11 +2,13 @@
 use Rattle.std.specs.Prelude.{◌≡◌, ◌≢◌, ℕ, ◌+◌, ◌≤◌, ◌<◌, true, List, ◌∷◌, length, Some}
 use Rattle.std.specs.List.{AllByRecursion}
 use Rattle.std.specs.FinMap as maps
+use Rattle.mesh_base.specs.declared.events.Full.{Full}
+use Rattle.mesh_base.specs.declared.events.Full.TheVariants as full
 use Rattle.mesh_base.specs.declared.events.Variant.{Variant}
 use Rattle.aodv_entry.specs.declared.entry.Entry.{Entry}
 use Rattle.aodv_entry.specs.declared.entry.Flag.TheVariants.{Val}
 use Rattle.aodv_entry.specs.Quality.{is_better}
-use Rattle.mesh_model.specs.Worlds.{World, Event, step, after, run, start}
+use Rattle.mesh_model.specs.Worlds.{World, Event, Stops, step, after, run, start, AreFirstNumbers}
 use Rattle.mesh_model.specs.Walks.{table, Edge, IsWalk, Cycle}
 use Rattle.mesh_model.specs.Places.{IsInMesh, IsEvent}
 use Rattle.mesh_model.specs.Invariants.{IsLoopSafe, IsInvariant}
@@ -86,3 +88,11 @@ abbrev pub HonestHops : Type 0
 HonestHops = (variant : Variant) (firsts : List ℕ) (events : List Event) (x d : ℕ) (e : Entry) → ArePositive firsts
     → maps.get (table (run (start variant firsts) events) x) d ≡ Some e → e.flag ≡ Val
     → HonestWalk (run (start variant firsts) events) x d e.hops × (e.hops ≤ length (run (start variant firsts) events).nodes)
+
+-- ---- counters
+
+-- whatever was done before, an event that is refused is refused for a sequence number: neither a hop count nor a
+-- request id ever comes to the end of its field
+abbrev pub OnlyNumbersFill : Type 0
+OnlyNumbersFill = (variant : Variant) (firsts : List ℕ) (events : List Event) (event : Event) (x : ℕ) (f : Full) → AreFirstNumbers firsts
+    → step (run (start variant firsts) events) event ≡ Stops x f → f ≡ full.Number

@@ -1,5 +1,5 @@
 //! Laws of all runs. Each function has an empty body and a contract that states a law.
-ghost use Rattle.mesh_model.specs.Laws.{StepKeeps, StepKeepsLoopSafe, StartKeeps, RunKeeps, NoCycleIn, LoopFree, BetterAlongEdges, WalkIsShort, StepBalances, Account, StartHasWalks, StepKeepsWalks, HonestHops};
+ghost use Rattle.mesh_model.specs.Laws.{StepKeeps, StepKeepsLoopSafe, StartKeeps, RunKeeps, NoCycleIn, LoopFree, BetterAlongEdges, WalkIsShort, StepBalances, Account, StartHasWalks, StepKeepsWalks, HonestHops, OnlyNumbersFill};
 
 /// Every event of the mesh keeps the invariant.
 pub fn step_keeps()
@@ -64,4 +64,9 @@ pub fn step_keeps_walks()
 /// Each valid entry of each run has an honest walk with its hops.
 pub fn honest_hops()
     ensures { HonestHops }
+{}
+
+/// In no run does a hop count or a request id come to the end of its field.
+pub fn only_numbers_fill()
+    ensures { OnlyNumbersFill }
 {}

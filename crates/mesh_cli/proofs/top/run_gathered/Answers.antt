@@ -1,5 +1,5 @@
-use Rattle.std.proofs.Common.{rules, arith, refl}
-use Rattle.mesh_cli.proofs.Buffers.{faulted_if, keeps_if, rose_later}
+use Rattle.std.proofs.Common.{refl}
+use Rattle.mesh_cli.proofs.Buffers.{faulted_if, rose_later}
 use Rattle.mesh_cli.proofs.top.run_gathered.Goals as goal
 
 pub returns-in-Err : goal.returns-in-Err

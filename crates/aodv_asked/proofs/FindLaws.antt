@@ -1,0 +1,149 @@
+-- Which ids the intervals have, by a place among them.
+use Rattle.std.proofs.Common.{◌≡◌, ◌<◌, ◌≤◌, ℕ, zero, suc, ◌+◌, ◌-◌, Bool, true, false, ltb, leb, ◌&&◌, ◌||◌, List, [], ◌∷◌, length, Some, None, refl, sym, ap, subst, ◌∙◌, arith, ◌⊎◌, inl, inr}
+use Rattle.std.specs.Prelude.{slice_get}
+use Rattle.std.specs.List.Sorted.{IsNonDecreasingBy}
+use Rattle.std.proofs.lemmas.Bool.{le-leb, lt-leb, cases_lt}
+use Rattle.std.proofs.lemmas.Bool.Decides.{nat_tests}
+use Rattle.std.proofs.lemmas.List.{get_or_default}
+use Rattle.std.proofs.lemmas.Option.{slice_get_within, get_or_from_slice_get}
+use Rattle.std.specs.FinSet.{contains}
+use Rattle.mesh_base.specs.Members.{IsLeastFrom}
+use Rattle.aodv_asked.specs.declared.ids.Interval.{Interval}
+use Rattle.aodv_asked.specs.Intervals.{ids_in, AreApart, IsGreatest}
+use Rattle.aodv_asked.specs.Insertions.{interval, interval_at, is_in}
+use Rattle.aodv_asked.proofs.IntervalLaws.{contains-ids_in}
+
+-- ---- the intervals rise
+
+some_in : (low : ℕ) (vs : List Interval) (i : ℕ) → AreApart low vs → i < length vs → (interval_at vs i).first ≤ (interval_at vs i).last
+some_in low [] i apart lt = absurd (omega arith)
+some_in low (v ∷ vs) zero apart lt = apart.1
+some_in low (v ∷ vs) (suc i) apart lt = some_in (v.last + 2) vs i apart.2 (omega arith)
+
+from_low : (low : ℕ) (vs : List Interval) (i : ℕ) → AreApart low vs → i < length vs → low ≤ (interval_at vs i).first
+from_low low [] i apart lt = absurd (omega arith)
+from_low low (v ∷ vs) zero apart lt = apart.0
+from_low low (v ∷ vs) (suc i) apart lt = let later = from_low (v.last + 2) vs i apart.2 (omega arith) in omega (arith, apart.0, apart.1)
+
+rises : (low : ℕ) (vs : List Interval) (i j : ℕ) → AreApart low vs → i ≤ j → j < length vs
+    → ((interval_at vs i).first ≤ (interval_at vs j).first) × ((interval_at vs i).last ≤ (interval_at vs j).last)
+rises low [] i j apart le lt = absurd (omega arith)
+rises low (v ∷ vs) zero zero apart le lt = (omega arith, omega arith)
+rises low (v ∷ vs) zero (suc j) apart le lt =
+    let later = from_low (v.last + 2) vs j apart.2 (omega arith) in
+    let some = some_in (v.last + 2) vs j apart.2 (omega arith) in
+    (omega (arith, apart.1), omega arith)
+rises low (v ∷ vs) (suc i) zero apart le lt = absurd (omega arith)
+rises low (v ∷ vs) (suc i) (suc j) apart le lt = rises (v.last + 2) vs i j apart.2 (omega arith) (omega arith)
+
+pub ends_rise : (vs : List Interval) → AreApart 0 vs → IsNonDecreasingBy (λ v. v.last) vs
+ends_rise vs apart i j d le lt =
+    rw (get_or_default vs i d (interval 0 0) (omega arith), get_or_default vs j d (interval 0 0) lt) (rises 0 vs i j apart le lt).1
+
+-- ---- which ids there are
+
+in_at : (vs : List Interval) (k id : ℕ) → k < length vs → (interval_at vs k).first ≤ id → id ≤ (interval_at vs k).last → is_in vs id ≡ true
+unfolding is_in
+in_at [] k id lt lo hi = absurd (omega arith)
+in_at (v ∷ vs) zero id lt lo hi = rw (le-leb v.first id lo, le-leb id v.last hi) refl
+in_at (v ∷ vs) (suc k) id lt lo hi = ap (λ (b : Bool). (leb v.first id && leb id v.last) || b) (in_at vs k id (omega arith) lo hi) ∙ or_true (leb v.first id && leb id v.last)
+  where
+    or_true : (b : Bool) → (b || true) ≡ true
+    or_true true = refl
+    or_true false = refl
+
+in_none : (vs : List Interval) (id : ℕ) → ((i : ℕ) → i < length vs → ((interval_at vs i).last < id) ⊎ (id < (interval_at vs i).first)) → is_in vs id ≡ false
+unfolding is_in
+in_none [] id none = refl
+in_none (v ∷ vs) id none =
+    ap (λ (b : Bool). (leb v.first id && leb id v.last) || b) (in_none vs id (λ i lt. none (suc i) (omega arith)))
+    ∙ elim (none 0 (omega arith)) [
+      | inl past ↦ rw (lt-leb id v.last past) (and_false (leb v.first id))
+      | inr early ↦ rw (lt-leb v.first id early) refl
+    ]
+  where
+    and_false : (b : Bool) → ((b && false) || false) ≡ false
+    and_false true = refl
+    and_false false = refl
+
+-- a place: the intervals before it end before `from`, the others don't
+pub record IsPlace (vs : List Interval) (from place : ℕ) : Type 0 where
+  pub within : place ≤ length vs
+  pub before : (i : ℕ) → i < place → (interval_at vs i).last < from
+  pub after : (i : ℕ) → place ≤ i → i < length vs → from ≤ (interval_at vs i).last
+
+pub place_along : (xs vs : List Interval) (from place : ℕ) → xs ≡ vs → place ≤ length xs → ((i : ℕ) → i < place → (interval_at xs i).last < from) → ((i : ℕ) → place ≤ i → i < length xs → from ≤ (interval_at xs i).last) → IsPlace vs from place
+place_along xs vs from place same within before after = subst (λ ys. IsPlace ys from place) same (record { within = within; before = before; after = after })
+
+-- no id from `from` on lies before the interval at the place
+none_early : (vs : List Interval) (from place id : ℕ) → AreApart 0 vs → IsPlace vs from place → from ≤ id → (place < length vs → id < (interval_at vs place).first) → contains (ids_in vs) id ≡ false
+none_early vs from place id apart at le early =
+    contains-ids_in 0 vs id apart ∙ in_none vs id (λ i lt.
+    elim (cases_lt i place) [
+      | inl less ↦ inl (let ended = at.before i less in omega arith)
+      | inr later ↦ inr (let up = (rises 0 vs place i apart later lt).0 in let first = early (omega arith) in omega arith)
+    ])
+
+pub none_from : (vs : List Interval) (from place id : ℕ) → AreApart 0 vs → IsPlace vs from place → length vs ≤ place → from ≤ id → contains (ids_in vs) id ≡ false
+none_from vs from place id apart at past le = none_early vs from place id apart at le (λ lt. absurd (omega arith))
+
+pub there : (vs : List Interval) (k id : ℕ) → AreApart 0 vs → k < length vs → (interval_at vs k).first ≤ id → id ≤ (interval_at vs k).last → contains (ids_in vs) id ≡ true
+there vs k id apart lt lo hi = contains-ids_in 0 vs id apart ∙ in_at vs k id lt lo hi
+
+-- whether the id is there is seen at its place
+pub has_at : (vs : List Interval) (id place : ℕ) (v : Interval) → AreApart 0 vs → IsPlace vs id place → place < length vs → interval_at vs place ≡ v → leb v.first id ≡ contains (ids_in vs) id
+has_at vs id place v apart at lt is =
+    elim (cases_lt id v.first) [
+      | inl early ↦ lt-leb v.first id early ∙ sym (none_early vs id place id apart at (omega arith) (λ _. let first : (interval_at vs place).first ≡ v.first = ap (λ (x : Interval). x.first) is in omega arith))
+      | inr from ↦
+          let first : (interval_at vs place).first ≡ v.first = ap (λ (x : Interval). x.first) is in
+          le-leb v.first id from ∙ sym (there vs place id apart lt (omega arith) (at.after place (omega arith) lt))
+    ]
+
+pub least_past : (vs : List Interval) (from place : ℕ) → AreApart 0 vs → IsPlace vs from place → length vs ≤ place → IsLeastFrom (ids_in vs) from None
+least_past vs from place apart at past q le = none_from vs from place q apart at past le
+
+pub least_first : (vs : List Interval) (from place : ℕ) (v : Interval) → AreApart 0 vs → IsPlace vs from place → place < length vs → interval_at vs place ≡ v → from ≤ v.first → IsLeastFrom (ids_in vs) from (Some v.first)
+least_first vs from place v apart at lt is le =
+    let first : (interval_at vs place).first ≡ v.first = ap (λ (x : Interval). x.first) is in
+    let some = some_in 0 vs place apart lt in
+    (le, there vs place v.first apart lt (omega arith) (omega arith), λ q low less. none_early vs from place q apart at low (λ _. omega arith))
+
+pub least_inside : (vs : List Interval) (from place : ℕ) (v : Interval) → AreApart 0 vs → IsPlace vs from place → place < length vs → interval_at vs place ≡ v → v.first < from → IsLeastFrom (ids_in vs) from (Some from)
+least_inside vs from place v apart at lt is less =
+    let first : (interval_at vs place).first ≡ v.first = ap (λ (x : Interval). x.first) is in
+    (omega arith, there vs place from apart lt (omega arith) (at.after place (omega arith) lt), λ q low high. absurd (omega arith))
+
+-- ---- the greatest
+
+pub greatest_some : (vs : List Interval) (v : Interval) → AreApart 0 vs → Some v ≡ slice_get vs (length vs - 1) → IsGreatest (ids_in vs) (Some v.last)
+greatest_some vs v apart at =
+    let place = length vs - 1 in
+    let lt : place < length vs = slice_get_within vs place v (sym at) in
+    let is : interval_at vs place ≡ v = get_or_from_slice_get vs place v (interval 0 0) (sym at) in
+    let last : (interval_at vs place).last ≡ v.last = ap (λ (x : Interval). x.last) is in
+    let some = some_in 0 vs place apart lt in (
+      there vs place v.last apart lt (omega arith) (omega arith),
+      λ id less. contains-ids_in 0 vs id apart ∙ in_none vs id (λ i here. inl (let up = (rises 0 vs i place apart (omega arith) lt).1 in omega arith)),
+    )
+
+missing : (xs : List Interval) (k : ℕ) → None ≡ slice_get xs k → k < length xs → ⊥
+missing [] k e lt = omega arith
+missing (x ∷ xs) zero e lt = cc
+missing (x ∷ xs) (suc k) e lt = missing xs k e (omega arith)
+
+none_in : (vs : List Interval) (id : ℕ) → None ≡ slice_get vs (length vs - 1) → is_in vs id ≡ false
+unfolding is_in
+none_in [] id e = refl
+none_in (v ∷ vs) id e = absurd (missing (v ∷ vs) (length (v ∷ vs) - 1) e (omega arith))
+
+pub greatest_none : (vs : List Interval) → AreApart 0 vs → None ≡ slice_get vs (length vs - 1) → IsGreatest (ids_in vs) None
+greatest_none vs apart at id = contains-ids_in 0 vs id apart ∙ none_in vs id at
+
+-- ---- tests
+
+pub below_if : (m n : ℕ) → ltb m n ≡ true → m < n
+below_if m n h = grind (arith, nat_tests)
+
+pub from_if : (m n : ℕ) → ltb m n ≡ false → n ≤ m
+from_if m n h = grind (arith, nat_tests)

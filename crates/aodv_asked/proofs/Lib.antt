@@ -1,0 +1,4 @@
+pub mod IntervalLaws
+pub mod PlaceLaws
+pub mod FindLaws
+pub mod RowLaws

@@ -1,0 +1,35 @@
+-- Where an id lies among intervals, and the intervals with one more id.
+use Rattle.std.specs.Prelude.{◌==◌, ℕ, ◌+◌, ◌-◌, Bool, false, if◌then◌else◌, nat_lt, nat_le, ◌&&◌, ◌||◌, List, [], ◌∷◌, slice_index_or}
+use Rattle.aodv_asked.specs.declared.ids.Interval.{Interval}
+
+-- the ids from a to b
+abbrev pub interval : ℕ → ℕ → Interval
+interval a b = record { first = a; last = b }
+
+-- the k-th interval
+abbrev pub interval_at : List Interval → ℕ → Interval
+interval_at vs k = slice_index_or vs k (interval 0 0)
+
+-- whether an id is in an interval
+unfoldable pub is_in : List Interval → ℕ → Bool
+is_in [] id = false
+is_in (v ∷ vs) id = (nat_le v.first id && nat_le id v.last) || is_in vs id
+
+-- the id or one next to it is in an interval
+abbrev pub is_near_to : List Interval → ℕ → Bool
+is_near_to vs id = is_in vs id || (is_in vs (id + 1) || (nat_lt 0 id && is_in vs (id - 1)))
+
+-- the interval grows at its end, and joins the next where they come to adjoin
+abbrev pub joined : Interval → ℕ → List Interval → List Interval
+joined v id [] = interval v.first id ∷ []
+joined v id (w ∷ ws) = if id + 1 == w.first then interval v.first w.last ∷ ws else interval v.first id ∷ w ∷ ws
+
+-- the intervals with one more id
+abbrev pub with_id : List Interval → ℕ → List Interval
+with_id [] id = interval id id ∷ []
+with_id (v ∷ vs) id =
+    if nat_lt (id + 1) v.first then interval id id ∷ v ∷ vs
+    else if id + 1 == v.first then interval id v.last ∷ vs
+    else if nat_le id v.last then v ∷ vs
+    else if id == v.last + 1 then joined v id vs
+    else v ∷ with_id vs id

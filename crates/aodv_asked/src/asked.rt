@@ -1,0 +1,144 @@
+//! The requests that a node has seen.
+ghost use Rattle.std.specs.Prelude.{◌≡◌, ◌≢◌, ◌<◌, ◌≤◌, ◌+◌, ◌⊎◌, ◌↔◌, ℕ, length, slice_index, IfOk, IfSome, IsNone, OnOk, OnErr, IsTrue};
+ghost use Rattle.std.specs.FinSet as sets;
+ghost use Rattle.aodv_model.specs.Cores.{last_request_id, next_request_id};
+ghost use Rattle.aodv_asked.specs.Requests.{is_near, IsLeastIdFrom};
+
+use crate::ids::Ids;
+use mesh_base::NoMemory;
+use std::alloc::Global;
+use std::marker::Model;
+
+/// For each originator the ids of its requests that were seen.
+#[derive(Drop)]
+pub struct Asked {
+    rows: Vec<Ids>,
+}
+
+impl Model for Asked {
+    ghost use Rattle.std.specs.Prelude.{ℕ, List};
+    ghost use Rattle.std.specs.Coded.{coded_ℕ, coded_list, coded×, code_by};
+    ghost use Rattle.std.proofs.Common.{refl};
+    ghost use Rattle.aodv_model.specs.Cores.{Seen};
+    ghost use Rattle.aodv_model.specs.Codes.{pairs_code};
+    ghost use Rattle.aodv_asked.specs.Requests.{RoomySeen};
+
+    ghost Value = { RoomySeen };
+
+    ghost coded = { code_by (Seen × List ℕ) (coded× pairs_code (coded_list coded_ℕ)) (λ s. (s.pairs, s.rooms)) (λ p. record { pairs = p.0; rooms = p.1 }) (λ _. refl) };
+
+    ghost use Rattle.aodv_asked.specs.Rows.{pairs_of, rooms_of};
+
+    ghost view = { λ a. record { pairs = pairs_of a.rows.items; rooms = rooms_of a.rows.items } };
+}
+
+impl Asked {
+    /// No requests, in a mesh of so many nodes.
+    pub fn new(alloc: Global, nodes: usize) -> Result<Asked, NoMemory>
+        ensures pairs { IfOk result (λ asked. asked.pairs ≡ sets.empty) }
+        ensures nodes { IfOk result (λ asked. length asked.rooms ≡ nodes) }
+    {
+        let mut rows = Vec::with_capacity(alloc, nodes)?;
+        for _ in 0..nodes {
+            rows.push(Ids::new(alloc))?;
+        }
+        Ok(Asked { rows })
+    }
+
+    /// Whether o's request with this id was seen: a binary search.
+    pub fn has(&self, o: usize, id: u32) -> bool
+        requires { o < length self.now.rooms }
+        ensures { result ≡ sets.contains self.now.pairs (o, id) }
+    {
+        self.rows[o].has(id)
+    }
+
+    /// Makes room for one more id of o.
+    pub fn make_room(&mut self, o: usize) -> Result<(), NoMemory>
+        requires { o < length self.old.rooms }
+        ensures pairs { self.new.pairs ≡ self.old.pairs }
+        ensures nodes { length self.new.rooms ≡ length self.old.rooms }
+        ensures here { OnOk result (0 < slice_index self.new.rooms o) }
+        ensures keeps { (q : ℕ) → slice_index self.old.rooms q ≤ slice_index self.new.rooms q }
+        ensures refused { OnErr result (self.new ≡ self.old) }
+    {
+        let ids = &mut self.rows[o];
+        ids.make_room()
+    }
+
+    /// o's request with this id was seen. It uses up at most the room for one id of o. No room is
+    /// needed where the id or one next to it stands beside o.
+    pub fn insert(&mut self, o: usize, id: u32)
+        requires within { o < length self.old.rooms }
+        requires room { (0 < slice_index self.old.rooms o) ⊎ IsTrue (is_near self.old.pairs o id) }
+        ensures pairs { self.new.pairs ≡ sets.insert self.old.pairs (o, id) }
+        ensures nodes { length self.new.rooms ≡ length self.old.rooms }
+        ensures used { slice_index self.old.rooms o ≤ slice_index self.new.rooms o + 1 }
+        ensures others { (q : ℕ) → q ≢ o → slice_index self.new.rooms q ≡ slice_index self.old.rooms q }
+    {
+        let ids = &mut self.rows[o];
+        ids.insert(id);
+    }
+
+    /// An id that no request of o has had: one more than the greatest, and 1 where there is none.
+    /// None says that the greatest is the last of 32 bits. It looks at no other id.
+    pub fn next_id(&self, o: usize) -> Option<u32>
+        requires { o < length self.now.rooms }
+        ensures full { IsNone result ↔ (last_request_id self.now.pairs o ≡ 4294967295) }
+        ensures value { IfSome result (λ id. id ≡ next_request_id self.now.pairs o) }
+    {
+        match self.rows[o].last() {
+            Some(u32::MAX) => None,
+            Some(last) => Some(last + 1),
+            None => Some(1),
+        }
+    }
+
+    /// The least id beside o.
+    pub fn first(&self, o: usize) -> Option<u32>
+        requires { o < length self.now.rooms }
+        ensures { IsLeastIdFrom self.now.pairs o 0 result }
+    {
+        self.rows[o].least_from(0)
+    }
+
+    /// The least id beside o that is above `id`.
+    pub fn after(&self, o: usize, id: u32) -> Option<u32>
+        requires { o < length self.now.rooms }
+        ensures { IsLeastIdFrom self.now.pairs o (id + 1) result }
+    {
+        self.rows[o].least_from(u64::from(id) + 1)
+    }
+}
+
+#[cfg(test)]
+mod tests {
+    use super::*;
+    use std::test::Fail;
+
+    fn ask(asked: &mut Asked, o: usize, id: u32) -> Result<(), NoMemory>
+        requires { o < length asked.old.rooms }
+        ensures { length asked.new.rooms ≡ length asked.old.rooms }
+    {
+        asked.make_room(o)?;
+        asked.insert(o, id);
+        Ok(())
+    }
+
+    #[test]
+    fn ids_are_kept_by_originator(rt: HostRuntime) -> Result<(), Fail> {
+        let mut asked = Asked::new(rt.alloc(), 3)?;
+        ask(&mut asked, 1, 7)?;
+        ask(&mut asked, 1, 3)?;
+        assert!(rt; asked.has(1, 3));
+        assert!(rt; !asked.has(2, 3));
+        assert_eq!(rt; asked.first(1), Some(3));
+        assert_eq!(rt; asked.after(1, 3), Some(7));
+        assert_eq!(rt; asked.after(1, 7), None);
+        assert_eq!(rt; asked.next_id(1), Some(8));
+        assert_eq!(rt; asked.next_id(2), Some(1));
+        ask(&mut asked, 1, 4294967295)?;
+        assert_eq!(rt; asked.next_id(1), None);
+        Ok(())
+    }
+}

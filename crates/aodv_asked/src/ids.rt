@@ -1,0 +1,193 @@
+//! Ids as rising intervals that neither meet nor adjoin.
+ghost use Rattle.std.specs.Prelude.{◌≡◌, ◌<◌, ◌≤◌, ◌+◌, ◌-◌, ◌⊎◌, ℕ, OnOk, OnErr, IsTrue, length, insert, vec_len, vec_capacity};
+ghost use Rattle.std.specs.FinSet as sets;
+ghost use Rattle.mesh_base.specs.Members.{IsLeastFrom};
+ghost use Rattle.aodv_asked.specs.Intervals.{AreApart, is_near_in, IsGreatest};
+ghost use Rattle.aodv_asked.specs.Insertions.{interval_at, with_id, is_near_to};
+
+use mesh_base::NoMemory;
+use std::alloc::Global;
+use std::marker::Model;
+
+/// The ids from `first` to `last`.
+#[derive(Clone, Copy)]
+struct Interval {
+    first: u32,
+    last: u32,
+}
+
+/// A set of ids.
+#[derive(Drop)]
+pub(crate) struct Ids {
+    intervals: Vec<Interval>,
+}
+
+impl Model for Ids {
+    ghost use Rattle.std.specs.Prelude.{◌-◌, vec_capacity, vec_len};
+    ghost use Rattle.aodv_asked.specs.Intervals.{RoomyIds, ids_code};
+
+    ghost Value = { RoomyIds };
+
+    ghost coded = { ids_code };
+
+    ghost use Rattle.aodv_asked.specs.Intervals.{ids_in, AreApart};
+
+    ghost view = { λ a. record { ids = ids_in a.intervals.items; room = vec_capacity a.intervals - vec_len a.intervals } };
+
+    ghost invariant = { λ a. AreApart 0 a.intervals.items };
+}
+
+// How many intervals end before `from`: a binary search.
+fn count_before(intervals: &[Interval], from: u64) -> usize
+    requires { AreApart 0 intervals.now }
+    ensures within { result ≤ length intervals.now }
+    ensures before { (i : ℕ) → i < result → (interval_at intervals.now i).last < from }
+    ensures after { (i : ℕ) → result ≤ i → i < length intervals.now → from ≤ (interval_at intervals.now i).last }
+{
+    intervals.partition_point(|v| u64::from(v.last) < from)
+}
+
+// The first interval that doesn't end before the id and apart from it.
+fn place_of(intervals: &[Interval], id: u32) -> usize
+    requires { AreApart 0 intervals.now }
+    ensures within { result ≤ length intervals.now }
+    ensures before { (i : ℕ) → i < result → (interval_at intervals.now i).last + 1 < id }
+    ensures here { result < length intervals.now → id ≤ (interval_at intervals.now result).last + 1 }
+{
+    count_before(intervals, u64::from(id.saturating_sub(1)))
+}
+
+// The intervals with one more id.
+fn put(intervals: &mut Vec<Interval>, id: u32)
+    requires apart { AreApart 0 intervals.old.items }
+    requires room { (vec_len intervals.old < vec_capacity intervals.old)
+        ⊎ IsTrue (is_near_to intervals.old.items id) }
+    ensures items { intervals.new.items ≡ with_id intervals.old.items id }
+    ensures room { vec_capacity intervals.old - vec_len intervals.old
+        ≤ vec_capacity intervals.new - vec_len intervals.new + 1 }
+{
+    let place = place_of(intervals.as_slice(), id);
+    let len = intervals.len();
+    let only = Interval {
+        first: id,
+        last: id,
+    };
+    if place == len {
+        put_new(intervals, place, only);
+        return;
+    }
+    let here = intervals[place];
+    let next = u64::from(id) + 1;
+    if next < u64::from(here.first) {
+        put_new(intervals, place, only);
+        return;
+    }
+    if next == u64::from(here.first) {
+        intervals[place] = Interval {
+            first: id,
+            last: here.last,
+        };
+        return;
+    }
+    if id <= here.last {
+        return;
+    }
+    if place + 1 < len {
+        let after = intervals[place + 1];
+        if next == u64::from(after.first) {
+            intervals.remove(place + 1);
+            intervals[place] = Interval {
+                first: here.first,
+                last: after.last,
+            };
+            return;
+        }
+    }
+    intervals[place] = Interval {
+        first: here.first,
+        last: id,
+    };
+}
+
+// One more interval, where there is room.
+fn put_new(intervals: &mut Vec<Interval>, place: usize, only: Interval)
+    requires place { place ≤ length intervals.old.items }
+    requires room { vec_len intervals.old < vec_capacity intervals.old }
+    ensures items { intervals.new.items ≡ insert intervals.old.items place only }
+    ensures room { vec_capacity intervals.old - vec_len intervals.old
+        ≤ vec_capacity intervals.new - vec_len intervals.new + 1 }
+{
+    match intervals.insert(place, only) {
+        Ok(()) => {}
+        Err(_) => unreachable!(),
+    }
+}
+
+impl Ids {
+    /// No ids.
+    pub(crate) fn new(alloc: Global) -> Ids
+        ensures { result.ids ≡ sets.empty }
+    {
+        Ids {
+            intervals: Vec::new(alloc),
+        }
+    }
+
+    /// Makes room for one more id.
+    pub(crate) fn make_room(&mut self) -> Result<(), NoMemory>
+        ensures ids { self.new.ids ≡ self.old.ids }
+        ensures here { OnOk result (0 < self.new.room) }
+        ensures keeps { self.old.room ≤ self.new.room }
+        ensures refused { OnErr result (self.new ≡ self.old) }
+    {
+        match self.intervals.reserve(1) {
+            Ok(()) => Ok(()),
+            Err(_) => Err(NoMemory),
+        }
+    }
+
+    /// Whether the id is there.
+    pub(crate) fn has(&self, id: u32) -> bool
+        ensures { result ≡ sets.contains self.now.ids id }
+    {
+        let place = count_before(self.intervals.as_slice(), u64::from(id));
+        place < self.intervals.len() && self.intervals[place].first <= id
+    }
+
+    /// Adds an id. It takes no memory.
+    pub(crate) fn insert(&mut self, id: u32)
+        requires { (0 < self.old.room) ⊎ IsTrue (is_near_in self.old.ids id) }
+        ensures ids { self.new.ids ≡ sets.insert self.old.ids id }
+        ensures room { self.old.room ≤ self.new.room + 1 }
+    {
+        put(&mut self.intervals, id);
+    }
+
+    /// The greatest id.
+    pub(crate) fn last(&self) -> Option<u32>
+        ensures { IsGreatest self.now.ids result }
+    {
+        match self.intervals.last() {
+            Some(interval) => Some(interval.last),
+            None => None,
+        }
+    }
+
+    /// The least id that is not below `from`.
+    pub(crate) fn least_from(&self, from: u64) -> Option<u32>
+        ensures { IsLeastFrom self.now.ids from result }
+    {
+        let place = count_before(self.intervals.as_slice(), from);
+        if place >= self.intervals.len() {
+            return None;
+        }
+        let first = self.intervals[place].first;
+        let last = self.intervals[place].last;
+        if from <= u64::from(first) {
+            return Some(first);
+        }
+        let inside = from <= u64::from(last);
+        prove!(inside);
+        Some(from as u32)
+    }
+}

@@ -1,0 +1,9 @@
+//! The route requests that a node has seen: for each its originator and its id (RFC 3561, sections
+//! 6.3 and 6.5; AWN's rreqs). Each originator's ids are kept as intervals, so that ids that follow
+//! one another take no more memory than one.
+#![tactic(auto)]
+
+mod asked;
+mod ids;
+
+pub use asked::Asked;

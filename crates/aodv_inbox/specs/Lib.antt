@@ -1,0 +1,2 @@
+-- What is seen of an inbox, and which items may wait in it.
+pub mod Queues

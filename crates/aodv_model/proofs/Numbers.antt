@@ -1,0 +1,449 @@
+-- Each turn, send and request that isn't refused keeps every number within its field, and the ids of a node's own
+-- requests within its own number. g is the greatest number.
+use Rattle.std.proofs.Common.{◌≡◌, ◌≢◌, ℕ, ◌+◌, ◌≤◌, ◌⊎◌, Bool, true, false, cond, ◌||◌, not, ◌==◌, List, [], ◌∷◌, Some, None, Option, refl, ap, sym, ◌∙◌, subst, arith, inl, inr}
+use Rattle.std.specs.Prelude.{⊤, option_map, if◌then◌else◌, max, is_some}
+use Rattle.std.specs.List.{list_any}
+use Rattle.std.specs.Ordering.{nat_cmp, eq_by_cmp, is_eq}
+use Rattle.std.specs.Cmp.{nat_cmp_total, unsigned_tied, tied_itself, Equal-is}
+use Rattle.std.proofs.lemmas.Bool.{eqb-true, eqb-false}
+use Rattle.std.proofs.lemmas.Bool.Decides.{nat_tests}
+use Rattle.std.proofs.lemmas.Option.{none-some, same_Some}
+use Rattle.std.specs.FinMap as maps
+use Rattle.std.specs.FinSet as sets
+use Rattle.mesh_base.specs.Members.{NodeIds}
+use Rattle.mesh_base.specs.declared.events.Full.{Full}
+use Rattle.mesh_base.specs.declared.events.Full.TheVariants as full
+use Rattle.mesh_base.specs.declared.events.Variant.{Variant}
+use Rattle.mesh_base.specs.declared.events.Variant.TheVariants.{Base, Number, Reply, Error}
+use Rattle.aodv_entry.specs.declared.entry.Entry.{Entry}
+use Rattle.aodv_entry.specs.Quality.{inc}
+use Rattle.aodv_model.specs.Pairs.{Pairs, pair_cmp}
+use Rattle.aodv_model.specs.Tables.{Table, Dests, accepted_unreachable, add_pre, dhops, goes_by, in_iD, in_vD, invalidate, invalidated, joined, merged, nhop, number_in, precs, sqn, unreachable_by, update}
+use Rattle.aodv_model.specs.Cores.{Body, Core, Heard, Item, Message, New, Pkt, Rerr, RouteReply, RouteRequest, Rrep, Rreq, Seen, add, bodies_in, drop, greatest_beside, has_seen, last_request_id, next_request_id, opening}
+use Rattle.aodv_model.specs.Handlers.{All, Cast, Many, Nothing, One, Reaction, after_hearing, after_reply, after_request, ask, broken_by, can_answer, casting, changes_nothing, data_error, delivering, drop_if_sent, error_cast, first_body, forward_own_entry, forward_reply, forward_request, fresh_id, is_empty, is_error, join_answer_precursors, join_reply_precursors, key_of, link_broken, losing, losing_if_broken, neighbour_entry, on_new, on_new_rreq, on_pkt, on_rerr, on_rrep, on_rreq, one, only, plain, precs_of, reply_for_self, reply_from_table, reply_on, retract, route_entry, send, turn, unicast, with_precs}
+use Rattle.aodv_model.specs.Fullness.{ask_full, greatest, is_id_full}
+use Rattle.aodv_model.proofs.Changes.{after_by, mapped_each, update_each}
+use Rattle.aodv_model.proofs.Entries.{if_case}
+use Rattle.aodv_model.proofs.FullNumbers.{has_value}
+use Rattle.aodv_model.proofs.Lookups.{get-accepted, get-add_pre, get-invalidate, get-kept, get-unreachable_by}
+use Rattle.aodv_model.proofs.PairLaws.{pair_cmp_total, same_pair}
+use Rattle.aodv_model.proofs.PlacedTables.{kept_of}
+
+-- ---- what is kept
+
+-- each number of the table
+abbrev pub AllWithin : ℕ → Table → Type 0
+AllWithin g rt = (d : ℕ) (e : Entry) → maps.get rt d ≡ Some e → e.dsn ≤ g
+
+-- each number that the map states
+abbrev pub AreDestsWithin : ℕ → Dests → Type 0
+AreDestsWithin g dests = (d n : ℕ) → maps.get dests d ≡ Some n → n ≤ g
+
+-- the numbers of a message
+abbrev pub IsMessageWithin : ℕ → Message → Type 0
+IsMessageWithin g (Pkt b d o) = ⊤
+IsMessageWithin g (Rreq m) = (m.dsn ≤ g) × (m.osn ≤ g)
+IsMessageWithin g (Rrep m) = m.dsn ≤ g
+IsMessageWithin g (Rerr dests) = AreDestsWithin g dests
+
+-- those of an item of a queue
+abbrev pub IsItemWithin : ℕ → Item → Type 0
+IsItemWithin g (New b d) = ⊤
+IsItemWithin g (Heard from m) = IsMessageWithin g m
+
+-- those of what is cast
+abbrev pub IsCastWithin : ℕ → Cast → Type 0
+IsCastWithin g Nothing = ⊤
+IsCastWithin g (One y m) = IsMessageWithin g m
+IsCastWithin g (Many s m) = IsMessageWithin g m
+IsCastWithin g (All m) = IsMessageWithin g m
+
+-- the core of node ip: its numbers, and the ids (or numbers) of its own requests
+pub record IsCoreWithin (g ip : ℕ) (core : Core) : Type 0 where
+  pub named : core.ip ≡ ip
+  pub own : core.sn ≤ g
+  pub table : AllWithin g core.rt
+  pub ids : (i : ℕ) → has_seen core.seen (ip, i) ≡ true → i ≤ core.sn
+
+-- what comes of it
+pub record IsReactionWithin (g ip : ℕ) (reaction : Reaction) : Type 0 where
+  pub core : IsCoreWithin g ip reaction.core
+  pub cast : IsCastWithin g (reaction.effect).cast
+
+-- no break has raised a number past g
+abbrev pub NoneRaised : ℕ → Reaction → Type 0
+NoneRaised g reaction = list_any (λ n. n == g + 1) (maps.values reaction.raised) ≡ false
+
+abbrev pub Keeps : ℕ → ℕ → Reaction → Type 0
+Keeps g ip reaction = NoneRaised g reaction → IsReactionWithin g ip reaction
+
+-- a request of node ip's own that comes back to it is one that it knows
+abbrev pub KnowsOwn : ℕ → Core → Item → Type 0
+KnowsOwn ip core (New b d) = ⊤
+KnowsOwn ip core (Heard from (Pkt b d o)) = ⊤
+KnowsOwn ip core (Heard from (Rreq m)) = m.oip ≡ ip → has_seen core.seen (key_of core.variant m) ≡ true
+KnowsOwn ip core (Heard from (Rrep m)) = ⊤
+KnowsOwn ip core (Heard from (Rerr dests)) = ⊤
+
+wrong : false ≡ true → ⊥
+wrong e = cc
+
+-- ---- keys
+
+inserted : (seen : Pairs) (key q : ℕ × ℕ) → has_seen (sets.insert seen key) q ≡ true → (q ≡ key) ⊎ (has_seen seen q ≡ true)
+inserted seen key q is = at (eq_by_cmp pair_cmp q key) refl (sym (sets.contains-insert pair_cmp_total seen key q) ∙ is)
+  where
+    at : (b : Bool) → eq_by_cmp pair_cmp q key ≡ b → (b || sets.contains seen q) ≡ true → (q ≡ key) ⊎ (has_seen seen q ≡ true)
+    at true e o = inl (same_pair q key ((Equal-is (pair_cmp q key)).0 e))
+    at false e o = inr o
+
+key_first : (v : Variant) (m : RouteRequest) → (key_of v m).0 ≡ m.oip
+key_first Base m = refl
+key_first Number m = refl
+key_first Reply m = refl
+key_first Error m = refl
+
+or_true : (b : Bool) → (b || true) ≡ true
+or_true true = refl
+or_true false = refl
+
+-- the greatest beside o is within n where each that stands beside o is
+beside_within : (o n : ℕ) (ks : List (ℕ × ℕ)) → ((i : ℕ) → list_any (eq_by_cmp pair_cmp (o, i)) ks ≡ true → i ≤ n) → greatest_beside ks o ≤ n
+beside_within o n [] within = omega arith
+beside_within o n (k ∷ ks) within =
+    let later : greatest_beside ks o ≤ n = beside_within o n ks (λ i is. within i (ap (λ b. eq_by_cmp pair_cmp (o, i) k || b) is ∙ or_true (eq_by_cmp pair_cmp (o, i) k))) in
+    if_case (λ m. m ≤ n) (k.0 == o) (max k.1 (greatest_beside ks o)) (greatest_beside ks o)
+    (λ mine. both (within k.1 (ap (λ b. b || list_any (eq_by_cmp pair_cmp (o, k.1)) ks) (here mine))) later)
+    (λ _. later)
+  where
+    here : (k.0 == o) ≡ true → eq_by_cmp pair_cmp (o, k.1) k ≡ true
+    here mine = subst (λ z. eq_by_cmp pair_cmp (z, k.1) k ≡ true) (eqb-true k.0 o mine) (ap is_eq (tied_itself pair_cmp_total k))
+
+    both : {a b : ℕ} → a ≤ n → b ≤ n → max a b ≤ n
+    both x y = omega arith
+
+last_within : (seen : Seen) (o n : ℕ) → ((i : ℕ) → has_seen seen (o, i) ≡ true → i ≤ n) → last_request_id seen o ≤ n
+unfolding last_request_id
+last_within seen o n within = beside_within o n (sets.items seen) (λ i is. within i (sets.contains-items seen (o, i) ∙ is))
+
+pub own_last_within : (g ip : ℕ) (core : Core) → IsCoreWithin g ip core → last_request_id core.seen core.ip ≤ core.sn
+own_last_within g ip core w = last_within core.seen core.ip core.sn (λ i is. w.ids i (subst (λ k. has_seen core.seen (k, i) ≡ true) w.named is))
+
+-- ---- tables
+
+merged_within : (g : ℕ) (s r : Entry) → s.dsn ≤ g → r.dsn ≤ g → (merged s r).dsn ≤ g
+unfolding merged
+merged_within g s r a b = grind (arith, nat_tests)
+
+invalidated_within : (g : ℕ) (e : Entry) (o : Option ℕ) → ((n : ℕ) → o ≡ Some n → n ≤ g) → e.dsn ≤ g → (invalidated e o).dsn ≤ g
+invalidated_within g e None within l = l
+invalidated_within g e (Some n) within l = within n refl
+
+raised_of : (o : Option Entry) (b : Bool) (n : ℕ) → option_map (λ (e : Entry). inc e.dsn) (if b then o else None) ≡ Some n → (e : Entry) × (o ≡ Some e) × (inc e.dsn ≡ n)
+raised_of None true n is = absurd (none-some n is)
+raised_of None false n is = absurd (none-some n is)
+raised_of (Some e) true n is = (e, refl, same_Some _ n is)
+raised_of (Some e) false n is = absurd (none-some n is)
+
+inc_within : (g k n : ℕ) → inc k ≡ n → k ≤ g → n ≢ g + 1 → n ≤ g
+inc_within g k n e l apart = grind (arith, nat_tests)
+
+module _ (g : ℕ) where
+  update_within : (rt : Table) (d : ℕ) (r : Entry) → AllWithin g rt → r.dsn ≤ g → AllWithin g (update rt d r)
+  update_within rt d r all l = update_each (λ q e. e.dsn ≤ g) rt d r all (after_by (λ e. e.dsn ≤ g) (maps.get rt d) r l (λ s is. merged_within g s r (all d s is) l))
+
+  invalidate_within : (rt : Table) (dests : Dests) → AllWithin g rt → AreDestsWithin g dests → AllWithin g (invalidate rt dests)
+  invalidate_within rt dests all within q e is =
+      mapped_each (λ q e. e.dsn ≤ g) (λ d e. invalidated e (maps.get dests d)) q e (maps.get rt q) (sym (get-invalidate rt dests q) ∙ is)
+      (λ x here. invalidated_within g x (maps.get dests q) (within q) (all q x here))
+
+  add_pre_within : (rt : Table) (d : ℕ) (nodes : NodeIds) → AllWithin g rt → AllWithin g (add_pre rt d nodes)
+  add_pre_within rt d nodes all q e is =
+      mapped_each (λ q e. e.dsn ≤ g) (joined d nodes) q e (maps.get rt q) (sym (get-add_pre rt d nodes q) ∙ is)
+      (λ x here. if_case (λ e. e.dsn ≤ g) (q == d) (record x { pre = sets.union x.pre nodes }) x (λ _. all q x here) (λ _. all q x here))
+
+  join_answer_within : (rt : Table) (d o from : ℕ) → AllWithin g rt → AllWithin g (join_answer_precursors rt d o from)
+  unfolding join_answer_precursors
+  join_answer_within rt d o from all = let rt1 = add_pre rt d (one from) in add_pre_within rt1 o (one (nhop rt1 d)) (add_pre_within rt d (one from) all)
+
+  join_reply_within : (rt : Table) (d o : ℕ) → AllWithin g rt → AllWithin g (join_reply_precursors rt d o)
+  unfolding join_reply_precursors
+  join_reply_within rt d o all = let rt1 = add_pre rt d (one (nhop rt o)) in add_pre_within rt1 (nhop rt1 d) (one (nhop rt1 o)) (add_pre_within rt d (one (nhop rt o)) all)
+
+  number_within : (rt : Table) (d : ℕ) → AllWithin g rt → sqn rt d ≤ g
+  number_within rt d all = at (maps.get rt d) refl
+    where
+      at : (o : Option Entry) → maps.get rt d ≡ o → number_in o ≤ g
+      at None is = omega arith
+      at (Some e) is = all d e is
+
+  unreachable_within : (rt : Table) (y : ℕ) → AllWithin g rt → list_any (λ n. n == g + 1) (maps.values (unreachable_by rt y)) ≡ false → AreDestsWithin g (unreachable_by rt y)
+  unreachable_within rt y all none d n is =
+      let r = raised_of (maps.get rt d) (goes_by (maps.get rt d) y) n (sym (get-unreachable_by rt y d) ∙ is) in
+      inc_within g (r.0).dsn n r.2 (all d r.0 r.1) (λ e. wrong (sym none ∙ (has_value (unreachable_by rt y) (g + 1)).1 (d, is ∙ ap Some e)))
+
+  accepted_within : (rt : Table) (y : ℕ) (dests : Dests) → AreDestsWithin g dests → AreDestsWithin g (accepted_unreachable rt y dests)
+  accepted_within rt y dests within d n is = within d n (kept_of (maps.get dests d) _ n (sym (get-accepted rt y dests d) ∙ is))
+
+  with_precs_within : (rt : Table) (dests : Dests) → AreDestsWithin g dests → AreDestsWithin g (with_precs rt dests)
+  unfolding with_precs
+  with_precs_within rt dests within d n is = within d n (kept_of (maps.get dests d) (not (is_empty (precs rt d))) n (sym (get-kept dests (λ d. not (is_empty (precs rt d))) d) ∙ is))
+
+  dest_within : (d n : ℕ) → n ≤ g → AreDestsWithin g (maps.insert maps.empty d n)
+  dest_within d n l q k is = either (q == d) (sym (maps.get-insert nat_cmp_total maps.empty d n q ∙ ap (λ b. cond b (Some n) (maps.get {R = nat_cmp} maps.empty q)) (unsigned_tied q d) ∙ ap (λ o. cond (q == d) (Some n) o) (maps.get-empty nat_cmp q)) ∙ is)
+    where
+      either : (b : Bool) → cond b (Some n) None ≡ Some k → k ≤ g
+      either true is = subst (λ j. j ≤ g) (same_Some n k is) l
+      either false is = absurd (none-some k is)
+
+-- ---- turns
+
+module _ (g ip : ℕ) where
+  with_table : (core : Core) (rt : Table) → IsCoreWithin g ip core → AllWithin g rt → IsCoreWithin g ip (record core { rt = rt })
+  with_table core rt w all = record { named = w.named; own = w.own; table = all; ids = w.ids }
+
+  error_within : (variant : Variant) (rt : Table) (dests : Dests) → AreDestsWithin g dests → IsCastWithin g (error_cast variant rt dests)
+  unfolding error_cast
+  error_within variant rt dests within =
+      if_case (IsCastWithin g) (is_error variant) (if maps.len dests == 0 then Nothing else All (Rerr dests)) (if is_empty (precs_of rt dests) then Nothing else Many (precs_of rt dests) (Rerr (with_precs rt dests)))
+      (λ _. if_case (IsCastWithin g) (maps.len dests == 0) Nothing (All (Rerr dests)) (λ _. tt) (λ _. within))
+      (λ _. if_case (IsCastWithin g) (is_empty (precs_of rt dests)) Nothing (Many (precs_of rt dests) (Rerr (with_precs rt dests))) (λ _. tt) (λ _. with_precs_within g rt dests within))
+
+  retract_within : (core : Core) (dests : Dests) → IsCoreWithin g ip core → AreDestsWithin g dests → IsReactionWithin g ip (retract core dests)
+  unfolding retract
+  retract_within core dests w within = record {
+    core = record { named = w.named; own = w.own; table = invalidate_within g core.rt dests w.table within; ids = w.ids };
+    cast = error_within core.variant core.rt dests within;
+  }
+
+  link_broken_keeps : (core : Core) (y : ℕ) → IsCoreWithin g ip core → Keeps g ip (broken_by y (link_broken core y))
+  unfolding link_broken
+  link_broken_keeps core y w none =
+      let p = retract_within core (unreachable_by core.rt y) w (unreachable_within g core.rt y w.table none) in
+      record { core = p.core; cast = p.cast }
+
+  unicast_keeps : (core : Core) (m : Message) (y : ℕ) (range : NodeIds) → IsCoreWithin g ip core → IsMessageWithin g m → Keeps g ip (unicast core m y range)
+  unfolding unicast
+  unicast_keeps core m y range w inside =
+      if_case (Keeps g ip) (sets.contains range y) (plain core (casting (One y m))) (broken_by y (link_broken core y))
+      (λ _ _. record { core = w; cast = inside })
+      (λ _. link_broken_keeps core y w)
+
+  only_keeps : (core : Core) → IsCoreWithin g ip core → Keeps g ip (only core)
+  only_keeps core w _ = record { core = w; cast = tt }
+
+  -- ---- data
+
+  on_new_keeps : (core : Core) (b : Body) (d : ℕ) → IsCoreWithin g ip core → Keeps g ip (on_new core b d)
+  unfolding on_new
+  on_new_keeps core b d w =
+      if_case (Keeps g ip) (d == core.ip) (plain core delivering) (only (record core { store = add core.store d b }))
+      (λ _ _. record { core = w; cast = tt })
+      (λ _ _. record { core = record { named = w.named; own = w.own; table = w.table; ids = w.ids }; cast = tt })
+
+  data_error_within : (core : Core) (d : ℕ) → IsCoreWithin g ip core → IsCastWithin g (data_error core d)
+  unfolding data_error
+  data_error_within core d w =
+      let single : AreDestsWithin g (maps.insert maps.empty d (sqn core.rt d)) = dest_within g d (sqn core.rt d) (number_within g core.rt d w.table) in
+      if_case (IsCastWithin g) (not (in_iD core.rt d)) Nothing (if is_error core.variant then All (Rerr (maps.insert maps.empty d (sqn core.rt d))) else if is_empty (precs core.rt d) then Nothing else Many (precs core.rt d) (Rerr (maps.insert maps.empty d (sqn core.rt d))))
+      (λ _. tt)
+      (λ _. if_case (IsCastWithin g) (is_error core.variant) (All (Rerr (maps.insert maps.empty d (sqn core.rt d)))) (if is_empty (precs core.rt d) then Nothing else Many (precs core.rt d) (Rerr (maps.insert maps.empty d (sqn core.rt d))))
+      (λ _. single)
+      (λ _. if_case (IsCastWithin g) (is_empty (precs core.rt d)) Nothing (Many (precs core.rt d) (Rerr (maps.insert maps.empty d (sqn core.rt d)))) (λ _. tt) (λ _. single)))
+
+  on_pkt_keeps : (core : Core) (range : NodeIds) (b : Body) (d o : ℕ) → IsCoreWithin g ip core → Keeps g ip (on_pkt core range b d o)
+  unfolding on_pkt
+  on_pkt_keeps core range b d o w =
+      if_case (Keeps g ip) (d == core.ip) (plain core delivering) (if in_vD core.rt d then losing_if_broken (unicast core (Pkt b d o) (nhop core.rt d) range) else losing (plain core (casting (data_error core d))))
+      (λ _ _. record { core = w; cast = tt })
+      (λ _. if_case (Keeps g ip) (in_vD core.rt d) (losing_if_broken (unicast core (Pkt b d o) (nhop core.rt d) range)) (losing (plain core (casting (data_error core d))))
+      (λ _ none. let p = unicast_keeps core (Pkt b d o) (nhop core.rt d) range w tt none in record { core = p.core; cast = p.cast })
+      (λ _ _. record { core = w; cast = data_error_within core d w }))
+
+  -- ---- requests
+
+  hearing_within : (core : Core) (from : ℕ) → IsCoreWithin g ip core → IsCoreWithin g ip (after_hearing core from)
+  unfolding after_hearing
+  hearing_within core from w = with_table core _ w (update_within g core.rt from (neighbour_entry from) w.table (omega arith))
+
+  -- the request isn't the node's own
+  request_within : (core : Core) (from : ℕ) (m : RouteRequest) → IsCoreWithin g ip core → m.osn ≤ g → m.oip ≢ ip → IsCoreWithin g ip (after_request core from m)
+  unfolding after_request after_hearing
+  request_within core from m w l other =
+      let first : IsCoreWithin g ip (after_hearing core from) = hearing_within core from w in
+      record {
+        named = w.named;
+        own = w.own;
+        table = update_within g (after_hearing core from).rt m.oip (route_entry m.osn m.hops from) first.table l;
+        ids = λ i is. elim (inserted core.seen (key_of core.variant m) (ip, i) is) [
+          | inl e ↦ absurd (other (sym (ap (λ (p : ℕ × ℕ). p.0) e ∙ key_first core.variant m)))
+          | inr old ↦ w.ids i old
+        ];
+      }
+
+  reply_for_self_keeps : (core : Core) (range : NodeIds) (m : RouteRequest) → IsCoreWithin g ip core → m.dsn ≤ g → Keeps g ip (reply_for_self core range m)
+  unfolding reply_for_self
+  reply_for_self_keeps core range m w l =
+      let own : max core.sn m.dsn ≤ g = let o = w.own in omega arith in
+      unicast_keeps (record core { sn = max core.sn m.dsn }) (Rrep (record { hops = 0; dip = m.dip; dsn = max core.sn m.dsn; oip = m.oip })) (nhop core.rt m.oip) range
+      (record { named = w.named; own = own; table = w.table; ids = λ i is. let k = w.ids i is in omega arith }) own
+
+  reply_from_table_keeps : (core : Core) (range : NodeIds) (from : ℕ) (m : RouteRequest) → IsCoreWithin g ip core → Keeps g ip (reply_from_table core range from m)
+  unfolding reply_from_table
+  reply_from_table_keeps core range from m w =
+      let rt = join_answer_precursors core.rt m.dip m.oip from in
+      let all : AllWithin g rt = join_answer_within g core.rt m.dip m.oip from w.table in
+      unicast_keeps (record core { rt = rt }) (Rrep (record { hops = dhops rt m.dip; dip = m.dip; dsn = sqn rt m.dip; oip = m.oip })) (nhop rt m.oip) range (with_table core rt w all) (number_within g rt m.dip all)
+
+  on_new_rreq_keeps : (core : Core) (range : NodeIds) (from : ℕ) (m : RouteRequest) → IsCoreWithin g ip core → (m.dsn ≤ g) × (m.osn ≤ g) → Keeps g ip (on_new_rreq core range from m)
+  unfolding on_new_rreq forward_request
+  on_new_rreq_keeps core range from m w inside =
+      if_case (Keeps g ip) (m.dip == core.ip) (reply_for_self core range m) (if can_answer core m then reply_from_table core range from m else forward_request core m)
+      (λ _. reply_for_self_keeps core range m w inside.0)
+      (λ _. if_case (Keeps g ip) (can_answer core m) (reply_from_table core range from m) (forward_request core m)
+      (λ _. reply_from_table_keeps core range from m w)
+      (λ _ _. record { core = w; cast = (both (number_within g core.rt m.dip w.table) inside.0, inside.1) }))
+    where
+      both : {a b : ℕ} → a ≤ g → b ≤ g → max a b ≤ g
+      both x y = omega arith
+
+  on_rreq_keeps : (core : Core) (range : NodeIds) (from : ℕ) (m : RouteRequest) → IsCoreWithin g ip core → (m.dsn ≤ g) × (m.osn ≤ g) → (m.oip ≡ ip → has_seen core.seen (key_of core.variant m) ≡ true) → Keeps g ip (on_rreq core range from m)
+  unfolding on_rreq
+  on_rreq_keeps core range from m w inside knows =
+      if_case (Keeps g ip) (has_seen core.seen (key_of core.variant m)) (only (after_hearing core from)) (on_new_rreq (after_request core from m) range from m)
+      (λ _. only_keeps (after_hearing core from) (hearing_within core from w))
+      (λ new. on_new_rreq_keeps (after_request core from m) range from m (request_within core from m w inside.1 (λ e. wrong (sym new ∙ knows e))) inside)
+
+  -- ---- replies
+
+  reply_within : (core : Core) (from : ℕ) (m : RouteReply) → IsCoreWithin g ip core → m.dsn ≤ g → IsCoreWithin g ip (after_reply core from m)
+  unfolding after_reply
+  reply_within core from m w l =
+      let first : IsCoreWithin g ip (after_hearing core from) = hearing_within core from w in
+      with_table (after_hearing core from) _ first (update_within g (after_hearing core from).rt m.dip (route_entry m.dsn m.hops from) first.table l)
+
+  forward_reply_keeps : (core : Core) (range : NodeIds) (m : RouteReply) → IsCoreWithin g ip core → m.dsn ≤ g → Keeps g ip (forward_reply core range m)
+  unfolding forward_reply
+  forward_reply_keeps core range m w l =
+      let rt = join_reply_precursors core.rt m.dip m.oip in
+      unicast_keeps (record core { rt = rt }) (Rrep (record m { hops = m.hops + 1 })) (nhop rt m.oip) range (with_table core rt w (join_reply_within g core.rt m.dip m.oip w.table)) l
+
+  forward_own_entry_keeps : (core : Core) (range : NodeIds) (m : RouteReply) → IsCoreWithin g ip core → Keeps g ip (forward_own_entry core range m)
+  unfolding forward_own_entry
+  forward_own_entry_keeps core range m w =
+      let rt = join_reply_precursors core.rt m.dip m.oip in
+      let all : AllWithin g rt = join_reply_within g core.rt m.dip m.oip w.table in
+      unicast_keeps (record core { rt = rt }) (Rrep (record m { hops = dhops rt m.dip; dsn = sqn rt m.dip })) (nhop rt m.oip) range (with_table core rt w all) (number_within g rt m.dip all)
+
+  reply_on_keeps : (variant : Variant) (core : Core) (stale : Bool) (range : NodeIds) (m : RouteReply) → IsCoreWithin g ip core → m.dsn ≤ g → Keeps g ip (reply_on variant core stale range m)
+  reply_on_keeps Base core stale range m w l = if_case (Keeps g ip) stale (only core) (forward_reply core range m) (λ _. only_keeps core w) (λ _. forward_reply_keeps core range m w l)
+  reply_on_keeps Number core stale range m w l = if_case (Keeps g ip) stale (only core) (forward_reply core range m) (λ _. only_keeps core w) (λ _. forward_reply_keeps core range m w l)
+  reply_on_keeps Error core stale range m w l = if_case (Keeps g ip) stale (only core) (forward_reply core range m) (λ _. only_keeps core w) (λ _. forward_reply_keeps core range m w l)
+  reply_on_keeps Reply core stale range m w l = if_case (Keeps g ip) (in_vD core.rt m.dip) (forward_own_entry core range m) (only core) (λ _. forward_own_entry_keeps core range m w) (λ _. only_keeps core w)
+
+  on_rrep_keeps : (core : Core) (range : NodeIds) (from : ℕ) (m : RouteReply) → IsCoreWithin g ip core → m.dsn ≤ g → Keeps g ip (on_rrep core range from m)
+  unfolding on_rrep
+  on_rrep_keeps core range from m w l =
+      let later : IsCoreWithin g ip (after_reply core from m) = reply_within core from m w l in
+      if_case (Keeps g ip) ((m.oip == core.ip) || not (in_vD (after_reply core from m).rt m.oip)) (only (after_reply core from m)) (reply_on core.variant (after_reply core from m) (changes_nothing (after_hearing core from).rt m.dip (route_entry m.dsn m.hops from)) range m)
+      (λ _. only_keeps (after_reply core from m) later)
+      (λ _. reply_on_keeps core.variant (after_reply core from m) (changes_nothing (after_hearing core from).rt m.dip (route_entry m.dsn m.hops from)) range m later l)
+
+  -- ---- errors
+
+  on_rerr_keeps : (core : Core) (from : ℕ) (dests : Dests) → IsCoreWithin g ip core → AreDestsWithin g dests → Keeps g ip (on_rerr core from dests)
+  unfolding on_rerr
+  on_rerr_keeps core from dests w within _ =
+      retract_within (after_hearing core from) (accepted_unreachable (after_hearing core from).rt from dests) (hearing_within core from w) (accepted_within g (after_hearing core from).rt from dests within)
+
+  -- ---- all
+
+  pub turn_keeps : (core : Core) (range : NodeIds) (item : Item) → IsCoreWithin g ip core → IsItemWithin g item → KnowsOwn ip core item → Keeps g ip (turn core range item)
+  turn_keeps core range (New b d) w inside knows = on_new_keeps core b d w
+  turn_keeps core range (Heard from (Pkt b d o)) w inside knows = on_pkt_keeps core range b d o w
+  turn_keeps core range (Heard from (Rreq m)) w inside knows = on_rreq_keeps core range from m w inside knows
+  turn_keeps core range (Heard from (Rrep m)) w inside knows = on_rrep_keeps core range from m w inside
+  turn_keeps core range (Heard from (Rerr dests)) w inside knows = on_rerr_keeps core from dests w inside
+
+  drop_if_sent_keeps : (reaction : Reaction) (d : ℕ) → Keeps g ip reaction → Keeps g ip (drop_if_sent reaction d)
+  drop_if_sent_keeps reaction d keeps =
+      if_case (Keeps g ip) (is_some (reaction.effect).broken) reaction (record reaction { core = record (reaction.core) { store = drop (reaction.core).store d } })
+      (λ _. keeps)
+      (λ _ none. let p : IsReactionWithin g ip reaction = keeps none in let w : IsCoreWithin g ip reaction.core = p.core in record { core = record { named = w.named; own = w.own; table = w.table; ids = w.ids }; cast = p.cast })
+
+  pub send_keeps : (core : Core) (range : NodeIds) (d : ℕ) → IsCoreWithin g ip core → Keeps g ip (send core range d)
+  unfolding send
+  send_keeps core range d w =
+      drop_if_sent_keeps (unicast core (Pkt (first_body (bodies_in (maps.get core.store d))) d core.ip) (nhop core.rt d) range) d
+      (unicast_keeps core (Pkt (first_body (bodies_in (maps.get core.store d))) d core.ip) (nhop core.rt d) range w tt)
+
+  -- a new id is within the new number
+  fresh_within : (variant : Variant) (core : Core) → IsCoreWithin g ip core → 1 ≤ core.sn → fresh_id variant core ≤ inc core.sn
+  unfolding next_request_id
+  fresh_within Base core w one = grind (arith, nat_tests, own_last_within g ip core w)
+  fresh_within Number core w one = omega arith
+  fresh_within Reply core w one = grind (arith, nat_tests, own_last_within g ip core w)
+  fresh_within Error core w one = grind (arith, nat_tests, own_last_within g ip core w)
+
+  -- the node's number isn't at its greatest
+  pub ask_keeps : (core : Core) (d : ℕ) → IsCoreWithin g ip core → 1 ≤ core.sn → core.sn ≢ g → IsReactionWithin g ip (ask core d)
+  unfolding ask
+  ask_keeps core d w one below =
+      let number : inc core.sn ≤ g = raised core.sn w.own below in
+      record {
+        core = record {
+          named = w.named;
+          own = number;
+          table = w.table;
+          ids = λ i is. elim (inserted core.seen (core.ip, fresh_id core.variant core) (ip, i) is) [
+            | inl e ↦ subst (λ k. k ≤ inc core.sn) (sym (ap (λ (p : ℕ × ℕ). p.1) e)) (fresh_within core.variant core w one)
+            | inr old ↦ later core.sn i (w.ids i old)
+          ];
+        };
+        cast = (number_within g core.rt d w.table, number);
+      }
+    where
+      raised : (n : ℕ) → n ≤ g → n ≢ g → inc n ≤ g
+      raised n l apart = grind (arith, nat_tests)
+
+      later : (n i : ℕ) → i ≤ n → i ≤ inc n
+      later n i l = grind (arith, nat_tests)
+
+pub opening_within : (g : ℕ) (variant : Variant) (ip first : ℕ) → first ≤ g → IsCoreWithin g ip (opening variant ip first)
+opening_within g variant ip first l = record {
+  named = refl;
+  own = l;
+  table = λ d e there. absurd (none-some e (sym (maps.get-empty nat_cmp d) ∙ there));
+  ids = λ i is. absurd (wrong (sym (sets.contains-empty pair_cmp (ip, i)) ∙ is));
+}
+
+-- ---- what a request of the node's own can fill
+
+id_free : (variant : Variant) (core : Core) → last_request_id core.seen core.ip ≤ core.sn → core.sn ≤ greatest → core.sn ≢ greatest → is_id_full variant core ≡ false
+id_free variant core l m apart = at variant
+  where
+    free : (a b g : ℕ) → a ≤ b → b ≤ g → b ≢ g → (a == g) ≡ false
+    free a b g l m apart = grind (arith, nat_tests)
+
+    at : (v : Variant) → is_id_full v core ≡ false
+    at Base = free (last_request_id core.seen core.ip) core.sn greatest l m apart
+    at Number = refl
+    at Reply = free (last_request_id core.seen core.ip) core.sn greatest l m apart
+    at Error = free (last_request_id core.seen core.ip) core.sn greatest l m apart
+
+-- only its own number
+pub ask_fills_number : (ip : ℕ) (core : Core) (f : Full) → IsCoreWithin greatest ip core → ask_full core ≡ Some f → f ≡ full.Number
+ask_fills_number ip core f w is =
+    at (core.sn == greatest) (is_id_full core.variant core) (λ below. id_free core.variant core (own_last_within greatest ip core w) w.own (eqb-false core.sn greatest below)) is
+  where
+    at : (a b : Bool) → (a ≡ false → b ≡ false) → (if a then Some full.Number else if b then Some full.Id else None) ≡ Some f → f ≡ full.Number
+    at true b free is = sym (same_Some full.Number f is)
+    at false true free is = absurd (wrong (sym (free refl)))
+    at false false free is = absurd (none-some f is)
+
+pub ask_below : (core : Core) → ask_full core ≡ None → core.sn ≢ greatest
+ask_below core is = eqb-false core.sn greatest (at (core.sn == greatest) is)
+  where
+    at : (a : Bool) → (if a then Some full.Number else if is_id_full core.variant core then Some full.Id else None) ≡ None → a ≡ false
+    at true is = absurd (none-some full.Number (sym is))
+    at false is = refl

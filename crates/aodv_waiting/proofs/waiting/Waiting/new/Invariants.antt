@@ -1,0 +1,6 @@
+use Rattle.std.proofs.Common.{◌≡◌, length}
+use Rattle.aodv_waiting.proofs.StoreLaws.{AreEmpty}
+use Rattle.aodv_waiting.proofs.waiting.Waiting.new.Given as goal
+
+abbrev pub invariant-loop : goal.invariant-loop
+invariant-loop l = record { len : length l.rows.items ≡ l.counter; empty : AreEmpty l.rows.items }

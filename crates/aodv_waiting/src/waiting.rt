@@ -1,0 +1,268 @@
+//! Data that wait for a route.
+ghost use Rattle.std.specs.Prelude.{◌≡◌, ◌<◌, ◌≤◌, ◌+◌, ◌-◌, ◌↔◌, if◌then◌else◌, ℕ, true, length, slice_index, slice_set, slice_get, IfOk, IfSome, IsSome, OnOk, OnErr, IsTrue, Some};
+ghost use Rattle.std.specs.FinMap as maps;
+ghost use Rattle.std.specs.FinSet as sets;
+ghost use Rattle.aodv_model.specs.Cores.{add, drop, unset, set, in_qD, bodies_in, needs_in};
+ghost use Rattle.aodv_model.specs.Handlers.{first_body};
+ghost use Rattle.aodv_model.specs.Soundness.{IsDatum, IsStoreInMesh};
+
+use aodv_entry::Dests;
+use circular_buffer::HeapCircularBuffer;
+use mesh_base::{Bytes, NoMemory, NodeSet};
+use std::alloc::Global;
+use std::marker::Model;
+
+/// The data that wait for each destination, and which destinations need a route request.
+#[derive(Drop)]
+pub struct Waiting {
+    // The data for each destination, the one that came first at the front.
+    rows: Vec<HeapCircularBuffer<Bytes>>,
+    with_data: NodeSet,
+    // Those of `with_data` that need a request.
+    needing: NodeSet,
+}
+
+impl Model for Waiting {
+    ghost use Rattle.std.specs.Prelude.{ℕ, List};
+    ghost use Rattle.std.specs.Coded.{coded_ℕ, coded_list, coded×, code_by};
+    ghost use Rattle.std.specs.FinMap as maps;
+    ghost use Rattle.std.proofs.Common.{refl};
+    ghost use Rattle.aodv_model.specs.Cores.{Store};
+    ghost use Rattle.aodv_model.specs.Codes.{waiting_code};
+    ghost use Rattle.aodv_waiting.specs.Seen.{RoomyStore};
+
+    ghost Value = { RoomyStore };
+
+    ghost coded = { code_by (Store × List ℕ) (coded× (maps.code coded_ℕ waiting_code) (coded_list coded_ℕ)) (λ s. (s.store, s.rooms)) (λ p. record { store = p.0; rooms = p.1 }) (λ _. refl) };
+
+    ghost use Rattle.aodv_waiting.specs.Rows.{store_of, rooms_of, AreRows};
+
+    ghost view = { λ a. record { store = store_of a.needing a.rows.items; rooms = rooms_of a.rows.items } };
+
+    ghost invariant = { λ a. AreRows a.rows.items a.with_data a.needing };
+}
+
+// Room for one more datum. A full ring doubles.
+fn make_room_in(ring: &mut HeapCircularBuffer<Bytes>) -> Result<(), NoMemory>
+    ensures items { ring.new.items ≡ ring.old.items }
+    ensures here { OnOk result (length ring.new.items < ring.new.capacity) }
+    ensures keeps { ring.old.capacity ≤ ring.new.capacity }
+    ensures refused { OnErr result (ring.new ≡ ring.old) }
+{
+    let most = ring.capacity();
+    if ring.len() < most {
+        return Ok(());
+    }
+    let more = if most < 4 { 4 } else { 2 * most };
+    match ring.resize(more) {
+        Ok(()) => Ok(()),
+        Err(_) => Err(NoMemory),
+    }
+}
+
+// A destination without data before needs a request.
+fn mark_if_new(needing: &mut NodeSet, with_data: &NodeSet, d: usize)
+    requires { d < 256 }
+    ensures { needing.new ≡ (if sets.contains with_data.now d then needing.old else sets.insert needing.old d) }
+{
+    if !with_data.has(d) {
+        needing.add(d);
+    }
+}
+
+// A destination with data needs a request.
+fn mark_if_waiting(needing: &mut NodeSet, with_data: &NodeSet, d: usize)
+    ensures { needing.new ≡ (if sets.contains with_data.now d then sets.insert needing.old d else needing.old) }
+{
+    if with_data.has(d) {
+        needing.add(d);
+    }
+}
+
+impl Waiting {
+    /// A store without data, for a mesh with so many nodes.
+    pub fn new(alloc: Global, nodes: usize) -> Result<Waiting, NoMemory>
+        requires { nodes ≤ 200 }
+        ensures store { IfOk result (λ waiting. waiting.store ≡ maps.empty) }
+        ensures nodes { IfOk result (λ waiting. length waiting.rooms ≡ nodes) }
+    {
+        let mut rows = Vec::with_capacity(alloc, nodes)?;
+        for _ in 0..nodes {
+            rows.push(HeapCircularBuffer::with_capacity(alloc, 0)?)?;
+        }
+        Ok(Waiting {
+            rows,
+            with_data: NodeSet::new(),
+            needing: NodeSet::new(),
+        })
+    }
+
+    /// Makes room for one more datum for d.
+    pub fn make_room(&mut self, d: usize) -> Result<(), NoMemory>
+        requires { d < length self.old.rooms }
+        ensures store { self.new.store ≡ self.old.store }
+        ensures here { OnOk result (0 < slice_index self.new.rooms d) }
+        ensures nodes { length self.new.rooms ≡ length self.old.rooms }
+        ensures keeps { (q : ℕ) → slice_index self.old.rooms q ≤ slice_index self.new.rooms q }
+        ensures refused { OnErr result (self.new ≡ self.old) }
+    {
+        let row = &mut self.rows[d];
+        make_room_in(row)
+    }
+
+    /// The datum waits for d, behind those that are there. A destination that had none needs a
+    /// request. It uses up the room for one datum.
+    pub fn add(&mut self, d: usize, body: Bytes)
+        requires room { 0 < slice_index self.old.rooms d }
+        requires datum { IsDatum body }
+        ensures store { self.new.store ≡ add self.old.store d body }
+        ensures rooms { self.new.rooms ≡ slice_set self.old.rooms d (slice_index self.old.rooms d - 1) }
+    {
+        let row = &mut self.rows[d];
+        match row.try_push_back(body) {
+            Ok(()) => {}
+            Err(_) => unreachable!(),
+        }
+        mark_if_new(&mut self.needing, &self.with_data, d);
+        self.with_data.add(d);
+    }
+
+    /// Whether there are data for d.
+    pub fn has(&self, d: usize) -> bool
+        ensures { result ≡ in_qD self.now.store d }
+    {
+        self.with_data.has(d)
+    }
+
+    /// The first datum for d, if there is one.
+    pub fn first(&self, d: usize) -> Option<&[u8]>
+        requires { d < length self.now.rooms }
+        ensures some { IsSome result ↔ IsTrue (in_qD self.now.store d) }
+        ensures value { IfSome result (λ body. body.now ≡ first_body (bodies_in (maps.get self.now.store d))) }
+        ensures datum { IfSome result (λ body. IsDatum body.now) }
+    {
+        match self.rows[d].front() {
+            Some(body) => Some(body.as_slice()),
+            None => None,
+        }
+    }
+
+    /// Takes the first datum for d away.
+    pub fn drop_first(&mut self, d: usize)
+        requires { IsTrue (in_qD self.old.store d) }
+        ensures store { self.new.store ≡ drop self.old.store d }
+        ensures nodes { length self.new.rooms ≡ length self.old.rooms }
+        ensures keeps { (q : ℕ) → slice_index self.old.rooms q ≤ slice_index self.new.rooms q }
+    {
+        let row = &mut self.rows[d];
+        row.pop_front();
+        if row.is_empty() {
+            self.with_data.remove(d);
+            self.needing.remove(d);
+        }
+    }
+
+    /// Whether there are data for d and a request for it is still to be made.
+    pub fn needs_request(&self, d: usize) -> bool
+        ensures { result ≡ needs_in (maps.get self.now.store d) }
+    {
+        self.needing.has(d)
+    }
+
+    /// Those destinations of `dests` that have data need a request.
+    pub fn set_req(&mut self, dests: &Dests)
+        ensures store { self.new.store ≡ set self.old.store dests.now }
+        ensures rooms { self.new.rooms ≡ self.old.rooms }
+    {
+        for k in 0..dests.len() {
+            let (d, _) = dests.pair(k);
+            mark_if_waiting(&mut self.needing, &self.with_data, d);
+        }
+    }
+
+    /// d needs no request for now.
+    pub fn unset_req(&mut self, d: usize)
+        requires { d < length self.old.rooms }
+        ensures store { self.new.store ≡ unset self.old.store d }
+        ensures rooms { self.new.rooms ≡ self.old.rooms }
+    {
+        self.needing.remove(d);
+    }
+
+    /// The destinations that have data (AWN's qD). It looks at none of them.
+    pub fn dests(&self) -> NodeSet
+        ensures value { (d : ℕ) → sets.contains result d ≡ in_qD self.now.store d }
+        ensures in_mesh { IsStoreInMesh (length self.now.rooms) self.now.store }
+    {
+        self.with_data
+    }
+
+    /// The destinations that need a request. It looks at none of them.
+    pub fn needing(&self) -> NodeSet
+        ensures { (d : ℕ) → sets.contains result d ≡ needs_in (maps.get self.now.store d) }
+    {
+        self.needing
+    }
+
+    /// The number of data for d.
+    pub fn count(&self, d: usize) -> usize
+        requires { d < length self.now.rooms }
+        ensures { result ≡ length (bodies_in (maps.get self.now.store d)) }
+    {
+        self.rows[d].len()
+    }
+
+    /// The k-th datum for d from the front, counted from 0.
+    pub fn datum(&self, d: usize, k: usize) -> &[u8]
+        requires { k < length (bodies_in (maps.get self.now.store d)) }
+        ensures value { slice_get (bodies_in (maps.get self.now.store d)) k ≡ Some result.now }
+        ensures datum { IsDatum result.now }
+    {
+        match self.rows[d].get(k) {
+            Some(body) => body.as_slice(),
+            None => unreachable!(),
+        }
+    }
+}
+
+#[cfg(test)]
+mod tests {
+    use super::*;
+    use std::test::Fail;
+
+    fn wait_for_two(alloc: Global, waiting: &mut Waiting) -> Result<(), NoMemory>
+        requires { length waiting.old.rooms ≡ 3 }
+        ensures { length waiting.new.rooms ≡ 3 }
+    {
+        let body = Bytes::copy_of(alloc, b"hi")?;
+        waiting.make_room(2)?;
+        waiting.add(2, body);
+        Ok(())
+    }
+
+    fn drop_for_two(waiting: &mut Waiting)
+        requires { length waiting.old.rooms ≡ 3 }
+        ensures { length waiting.new.rooms ≡ 3 }
+    {
+        if waiting.dests().has(2) {
+            waiting.drop_first(2);
+        }
+    }
+
+    #[test]
+    fn a_mark_stays_while_there_are_data(rt: HostRuntime) -> Result<(), Fail> {
+        let mut waiting = Waiting::new(rt.alloc(), 3)?;
+        wait_for_two(rt.alloc(), &mut waiting)?;
+        waiting.unset_req(2);
+        wait_for_two(rt.alloc(), &mut waiting)?;
+        assert!(rt; !waiting.needs_request(2));
+        assert_eq!(rt; waiting.count(2), 2);
+        drop_for_two(&mut waiting);
+        drop_for_two(&mut waiting);
+        assert!(rt; waiting.dests().is_empty());
+        wait_for_two(rt.alloc(), &mut waiting)?;
+        assert!(rt; waiting.needs_request(2));
+        assert_eq!(rt; waiting.count(2), 1);
+        Ok(())
+    }
+}

@@ -1,0 +1,26 @@
+-- The copies of packets in flight. They are the mesh's copies, with bytes in place of messages.
+use Rattle.std.specs.Prelude.{◌≢◌, ◌<◌, ◌≤◌, ℕ, ◌+◌, ◌==◌, not, if◌then◌else◌, Option, Some, None, List, [], ◌∷◌, filter}
+use Rattle.mesh_base.specs.declared.events.Flying.{Flying}
+
+-- the copy of that id
+abbrev pub find_copy : List Flying → ℕ → Option Flying
+find_copy [] id = None
+find_copy (c ∷ cs) id = if c.id == id then Some c else find_copy cs id
+
+-- the copies but that of that id
+unfoldable pub without : List Flying → ℕ → List Flying
+without cs id = filter (λ c. not (c.id == id)) cs
+
+-- one copy for each receiver, with ids that rise from `id` on
+abbrev pub copies_to : List ℕ → ℕ → ℕ → List ℕ → List Flying
+copies_to [] id from bytes = []
+copies_to (to ∷ tos) id from bytes = record { id = id; from = from; to = to; bytes = bytes } ∷ copies_to tos (id + 1) from bytes
+
+-- the ids rise from `low` on, and are below `next`
+abbrev pub AreNumbered : ℕ → List Flying → ℕ → Type 0
+AreNumbered low [] next = low ≤ next
+AreNumbered low (c ∷ cs) next = (low ≤ c.id) × AreNumbered (c.id + 1) cs next
+
+-- a copy is between two nodes, each below the number of nodes
+abbrev pub IsBetween : ℕ → Flying → Type 0
+IsBetween size c = (c.from < size) × (c.to < size) × (c.from ≢ c.to)

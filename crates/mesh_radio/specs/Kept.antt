@@ -1,0 +1,132 @@
+-- How the code keeps a graph, the copies in flight and memory for more. No public contract cites this file.
+use Rattle.std.specs.Prelude.{◌≡◌, ◌≢◌, ℕ, zero, suc, ◌+◌, ◌-◌, ◌<◌, ◌≤◌, false, if◌then◌else◌, Option, Some, None, List, ◌++◌, length, map, slice_index, unwrap_or, slice_get, All, refl}
+use Rattle.std.specs.List.{AllByRecursion}
+use Rattle.std.specs.Coded.{Coded, code_by, coded×, coded_ℕ, coded_list}
+use Rattle.std.specs.FinSet as sets
+use Rattle.mesh_base.specs.Members.{NodeIds}
+use Rattle.mesh_base.specs.declared.events.Flying.{Flying}
+use Rattle.aodv_model.specs.Pairs.{Pairs}
+use Rattle.aodv_model.specs.Codes.{pairs_code}
+use Rattle.mesh_radio.specs.declared.sized.SizedRoom.{SizedRoom}
+use Rattle.mesh_radio.specs.Copies.{copies_to, IsBetween}
+use Rattle.mesh_radio.specs.Radios.{RadioState}
+
+-- ---- a graph, kept as the set of neighbours of each node
+
+-- the number of nodes, and the pairs that are joined, each with the smaller node first
+pub record Graph : Type 0 where
+  pub size : ℕ
+  pub pairs : Pairs
+
+-- the neighbours of a; none where there is no such node
+abbrev pub row : List NodeIds → ℕ → NodeIds
+row rows a = unwrap_or (slice_get rows a) sets.empty
+
+-- the pairs (b, a) for members b of s below n, beside other pairs
+unfoldable pub with_row : ℕ → NodeIds → ℕ → Pairs → Pairs
+with_row a s zero pairs = pairs
+with_row a s (suc n) pairs = if sets.contains s n then sets.insert (with_row a s n pairs) (n, a) else with_row a s n pairs
+
+-- the pairs whose greater node is below n
+unfoldable pub pairs_below : ℕ → List NodeIds → Pairs
+pairs_below zero rows = sets.empty
+pairs_below (suc a) rows = with_row a (row rows a) a (pairs_below a rows)
+
+abbrev pub graph_of : List NodeIds → Graph
+graph_of rows = record { size = length rows; pairs = pairs_below (length rows) rows }
+
+-- neighbours are so both ways, and no node is its own
+pub record AreMutual (rows : List NodeIds) : Type 0 where
+  pub few : length rows ≤ 200
+  pub both_ways : (a b : ℕ) → sets.contains (row rows a) b ≡ sets.contains (row rows b) a
+  pub apart : (a : ℕ) → sets.contains (row rows a) a ≡ false
+
+-- ---- copies, kept in a map by their ids
+
+-- the copies, the id of the next, and memory: for how many more, of how many bytes each
+pub record Flights : Type 0 where
+  pub flying : List Flying
+  pub next_copy : ℕ
+  pub room : ℕ
+  pub most : ℕ
+
+abbrev pub ids_of : List Flying → List ℕ
+ids_of fs = map (λ f. f.id) fs
+
+-- the keys of the map: ids of copies up to the place `end`, rising and below `next`, and then the ids to come
+pub record AreKeys (ks : List ℕ) (end next : ℕ) : Type 0 where
+  pub enough : end ≤ length ks
+  pub from_one : 1 ≤ next
+  pub one : (k : ℕ) → k < length ks → 1 ≤ slice_index ks k
+  pub rising : (j k : ℕ) → j < k → k < length ks → slice_index ks j < slice_index ks k
+  pub below : (k : ℕ) → k < end → slice_index ks k < next
+  pub coming : (k : ℕ) → end ≤ k → k < length ks → slice_index ks k + end ≡ next + k
+
+-- the map: its keys, and under each the copy of that id
+pub record AreKept (ks : List ℕ) (fs : List Flying) (end next : ℕ) : Type 0 where
+  pub keys : AreKeys ks end next
+  pub ids : ids_of fs ≡ ks
+
+-- the k-th copy has that id, or none has
+abbrev pub IsPlaceOf : ℕ → List Flying → Option ℕ → Type 0
+IsPlaceOf id fs None = All (λ f. f.id ≢ id) fs
+IsPlaceOf id fs (Some k) = (f : Flying) × (slice_get fs k ≡ Some f) × (f.id ≡ id)
+
+-- a copy to each receiver joins
+abbrev pub with_flights : Flights → ℕ → List ℕ → List ℕ → Flights
+with_flights a from bytes tos = record a {
+  flying = a.flying ++ copies_to tos a.next_copy from bytes;
+  next_copy = a.next_copy + length tos;
+  room = a.room - length tos;
+}
+
+-- ---- rooms, kept with the smallest last
+
+-- for how many copies, of how many bytes each
+pub record Memory : Type 0 where
+  pub room : ℕ
+  pub most : ℕ
+
+abbrev pub sizes_of : List SizedRoom → List ℕ
+sizes_of rooms = map (λ r. r.bytes) rooms
+
+-- each is at least as large as those after it, and as `most`
+pub record AreFalling (most : ℕ) (sizes : List ℕ) : Type 0 where
+  pub falling : (j k : ℕ) → j < k → k < length sizes → slice_index sizes k ≤ slice_index sizes j
+  pub least : (k : ℕ) → k < length sizes → most ≤ slice_index sizes k
+
+-- ---- a radio of these parts
+
+abbrev pub radio_of : Graph → Graph → Flights → RadioState
+radio_of links ever a = record {
+  size = links.size;
+  links = links.pairs;
+  ever = ever.pairs;
+  flying = a.flying;
+  next_copy = a.next_copy;
+  room = a.room;
+  most = a.most;
+}
+
+-- both graphs are of the same nodes, at most 200, and copies are between these
+pub record IsRadio (links ever : Graph) (a : Flights) : Type 0 where
+  pub few : links.size ≤ 200
+  pub same : ever.size ≡ links.size
+  pub between : AllByRecursion (IsBetween links.size) a.flying
+
+-- ---- codes, so that types of the code can be seen as these
+
+abbrev pub graph_code : Coded Graph
+graph_code = code_by (ℕ × Pairs) (coded× coded_ℕ pairs_code) (λ g. (g.size, g.pairs)) (λ p. record { size = p.0; pairs = p.1 }) (λ _. refl)
+
+abbrev pub flying_code : Coded Flying
+flying_code =
+    code_by (ℕ × (ℕ × (ℕ × List ℕ))) (coded× coded_ℕ (coded× coded_ℕ (coded× coded_ℕ (coded_list coded_ℕ))))
+    (λ f. (f.id, (f.from, (f.to, f.bytes)))) (λ p. record { id = p.0; from = p.1.0; to = p.1.1.0; bytes = p.1.1.1 }) (λ _. refl)
+
+abbrev pub radio_code : Coded RadioState
+radio_code =
+    code_by (ℕ × (Pairs × (Pairs × (List Flying × (ℕ × (ℕ × ℕ)))))) (coded× coded_ℕ (coded× pairs_code (coded× pairs_code (coded× (coded_list flying_code) (coded× coded_ℕ (coded× coded_ℕ coded_ℕ))))))
+    (λ r. (r.size, (r.links, (r.ever, (r.flying, (r.next_copy, (r.room, r.most)))))))
+    (λ p. record { size = p.0; links = p.1.0; ever = p.1.1.0; flying = p.1.1.1.0; next_copy = p.1.1.1.1.0; room = p.1.1.1.1.1.0; most = p.1.1.1.1.1.1 })
+    (λ _. refl)

@@ -1,0 +1,7 @@
+-- What a radio is seen as. Read in this order.
+-- Copies: the copies of packets in flight.
+pub mod Copies
+-- Radios: the links of a mesh and the copies in flight, and what links, casts and takes do to them.
+pub mod Radios
+-- Kept: how the code keeps links, copies and memory. No public contract says anything of it.
+pub mod Kept

@@ -1,0 +1,12 @@
+//! The links of a mesh and the copies of packets in flight: who is in range of whom, and what a
+//! cast puts in the air. A copy stays in flight, whatever becomes of its link, until it is taken.
+//! Only making a radio and making room take memory, so that a cast can't fail.
+#![tactic(auto)]
+
+mod adjacency;
+mod copies;
+mod radio;
+mod rooms;
+mod sized;
+
+pub use radio::Radio;

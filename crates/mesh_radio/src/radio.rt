@@ -1,0 +1,235 @@
+//! The radio of a mesh.
+ghost use Rattle.std.specs.Prelude.{◌≡◌, ◌≢◌, ◌<◌, ◌≤◌, ◌+◌, ◌^◌, ℕ, true, false, not, length, slice_get, Some, OnOk, IfOk, option_map};
+ghost use Rattle.std.specs.Bool.{OnTrue, OnFalse};
+ghost use Rattle.std.specs.List.{AllByRecursion};
+ghost use Rattle.std.specs.FinSet as sets;
+ghost use Rattle.mesh_model.specs.Worlds.{are_linked, linked_below, members_below};
+ghost use Rattle.mesh_radio.specs.Copies.{find_copy, AreNumbered, IsBetween};
+ghost use Rattle.mesh_radio.specs.Radios.{opening, with_link, without_link, with_copies, without_copy, receivers};
+ghost use Rattle.mesh_radio.specs.Kept.{with_flights};
+
+use crate::adjacency::Adjacency;
+use crate::copies::Copies;
+use mesh_base::{Air, Flying, NoMemory, NodeSet, Packet};
+use std::alloc::Global;
+use std::marker::Model;
+
+/// The links between the nodes of a mesh, and the copies of packets in flight.
+#[derive(Drop)]
+pub struct Radio {
+    links: Adjacency,
+    ever: Adjacency,
+    copies: Copies,
+}
+
+impl Model for Radio {
+    ghost use Rattle.std.specs.Prelude.{◌≡◌, ◌≤◌};
+    ghost use Rattle.std.specs.List.{AllByRecursion};
+    ghost use Rattle.mesh_radio.specs.Copies.{IsBetween};
+    ghost use Rattle.mesh_radio.specs.Radios.{RadioState};
+    ghost use Rattle.mesh_radio.specs.Kept.{radio_code, radio_of, IsRadio};
+
+    ghost Value = { RadioState };
+
+    ghost coded = { radio_code };
+
+    ghost view = { λ r. radio_of r.links r.ever r.copies };
+
+    ghost invariant = { λ r. IsRadio r.links r.ever r.copies };
+}
+
+impl Radio {
+    /// The radio of a mesh of this many nodes: no link, and no copy. The first copy gets id 1.
+    pub fn new(alloc: Global, nodes: usize) -> Result<Radio, NoMemory>
+        requires { nodes ≤ 200 }
+        ensures { IfOk result (λ radio. radio ≡ opening nodes) }
+    {
+        let links = Adjacency::new(alloc, nodes)?;
+        let ever = Adjacency::new(alloc, nodes)?;
+        let copies = Copies::new(alloc);
+        Ok(Radio {
+            links,
+            ever,
+            copies,
+        })
+    }
+
+    /// The link between a and b comes to stand, both ways. False where it stood already.
+    pub fn link(&mut self, a: usize, b: usize) -> bool
+        requires first { a < self.old.size }
+        requires second { b < self.old.size }
+        requires differ { a ≢ b }
+        ensures value { result ≡ not (are_linked self.old.links a b) }
+        ensures linked { OnTrue result (self.new ≡ with_link self.old a b) }
+        ensures same { OnFalse result (self.new ≡ self.old) }
+    {
+        if self.links.has(a, b) {
+            return false;
+        }
+        self.links.join(a, b);
+        self.ever.join(a, b);
+        true
+    }
+
+    /// The link between a and b falls, both ways. False where it didn't stand.
+    pub fn cut(&mut self, a: usize, b: usize) -> bool
+        requires first { a < self.old.size }
+        requires second { b < self.old.size }
+        requires differ { a ≢ b }
+        ensures value { result ≡ are_linked self.old.links a b }
+        ensures parted { OnTrue result (self.new ≡ without_link self.old a b) }
+        ensures same { OnFalse result (self.new ≡ self.old) }
+    {
+        if !self.links.has(a, b) {
+            return false;
+        }
+        self.links.part(a, b);
+        true
+    }
+
+    /// The nodes in range of a: those that are linked to it now.
+    pub fn range(&self, a: usize) -> NodeSet
+        requires { a < self.now.size }
+        ensures value { result ≡ linked_below self.now.links a self.now.size }
+        ensures below { (q : ℕ) → sets.contains result q ≡ true → q < self.now.size }
+        ensures apart { sets.contains result a ≡ false }
+    {
+        self.links.neighbours(a)
+    }
+
+    /// Whether the link between a and b stands or once stood.
+    pub fn stood(&self, a: usize, b: usize) -> bool
+        requires first { a < self.now.size }
+        requires second { b < self.now.size }
+        ensures { result ≡ are_linked self.now.ever a b }
+    {
+        self.ever.has(a, b)
+    }
+
+    /// Makes room for this many copies more, each of at most this many bytes. It asks for at most
+    /// that much, and keeps what is there.
+    pub fn make_room(&mut self, copies: usize, bytes: usize) -> Result<(), NoMemory>
+        requires few { copies ≤ 200 }
+        requires next { self.old.next_copy + 200 < 2 ^ 64 }
+        ensures same { self.new ≡ record self.old { room = self.new.room; most = self.new.most } }
+        ensures ok { OnOk result ((copies ≤ self.new.room) × (bytes ≤ self.new.most)) }
+    {
+        self.copies.make_room(copies, bytes)
+    }
+
+    /// A copy of the packet flies from this node to each member of the set.
+    pub fn cast(&mut self, from: usize, packet: &Packet, to: &NodeSet) -> Air
+        requires from { from < self.old.size }
+        requires below { (q : ℕ) → sets.contains to.now q ≡ true → q < self.old.size }
+        requires apart { sets.contains to.now from ≡ false }
+        requires room { length (receivers self.old to.now) ≤ self.old.room }
+        requires fits { length packet.now.items ≤ self.old.most }
+        requires next { self.old.next_copy + 200 < 2 ^ 64 }
+        ensures copies { self.new ≡ with_copies self.old from packet.now.items to.now }
+        ensures few { self.new.next_copy ≤ self.old.next_copy + 200 }
+        ensures air { result ≡ record { first = self.old.next_copy; to = to.now } }
+    {
+        let first = self.copies.next_id();
+        cast_from(&mut self.copies, from, packet.as_slice(), to);
+        Air { first, to: *to }
+    }
+
+    /// Takes the copy of this id out of the air. None where no copy in flight has it.
+    pub fn take(&mut self, id: u64) -> Option<Flying>
+        ensures taken { result ≡ find_copy self.old.flying id }
+        ensures others { self.new ≡ without_copy self.old id }
+    {
+        self.copies.take(id)
+    }
+
+    /// The receiver of the copy of this id. None where no copy in flight has it.
+    pub fn find(&self, id: u64) -> Option<usize>
+        ensures { result ≡ option_map (λ c. c.to) (find_copy self.now.flying id) }
+    {
+        let place = self.copies.place_of(id)?;
+        Some(self.copies.at(place).to)
+    }
+
+    /// How many copies are in flight.
+    pub fn count(&self) -> usize
+        ensures value { result ≡ length self.now.flying }
+        ensures numbered { AreNumbered 1 self.now.flying self.now.next_copy }
+        ensures between { AllByRecursion (IsBetween self.now.size) self.now.flying }
+    {
+        self.copies.count()
+    }
+
+    /// The k-th copy in flight by rising id.
+    pub fn at(&self, k: usize) -> &Flying
+        requires { k < length self.now.flying }
+        ensures { slice_get self.now.flying k ≡ Some result.now }
+    {
+        self.copies.at(k)
+    }
+
+    /// The id that the next copy gets.
+    pub fn next_id(&self) -> u64
+        ensures { result ≡ self.now.next_copy }
+    {
+        self.copies.next_id()
+    }
+
+    /// The least id of a copy in flight.
+    pub fn first_id(&self) -> Option<u64>
+        ensures { result ≡ option_map (λ c. c.id) (slice_get self.now.flying 0) }
+    {
+        if self.copies.count() == 0 {
+            return None;
+        }
+        Some(self.copies.at(0).id)
+    }
+}
+
+// One copy to each member, by rising member.
+fn cast_from(copies: &mut Copies, from: usize, bytes: &[u8], to: &NodeSet)
+    requires room { length (members_below 256 to.now) ≤ copies.old.room }
+    requires fits { length bytes.now ≤ copies.old.most }
+    requires next { copies.old.next_copy + length (members_below 256 to.now) < 2 ^ 64 }
+    ensures { copies.new ≡ with_flights copies.old from bytes.now (members_below 256 to.now) }
+{
+    let mut start = 0;
+    while let Some(receiver) = to.next_from(start) {
+        copies.send(from, receiver, bytes);
+        start = receiver + 1;
+    }
+}
+
+#[cfg(test)]
+mod tests {
+    use super::*;
+    use std::test::Fail;
+
+    #[test]
+    #[tactic(auto, using(crate::proofs::Casts::members_few))]
+    fn copies_fly_on_by_themselves(rt: HostRuntime) -> Result<(), Fail> {
+        let mut radio = Radio::new(rt.alloc(), 3)?;
+        assert!(rt; radio.link(0, 2));
+        assert!(rt; radio.link(1, 0));
+        assert!(rt; !radio.link(2, 0));
+        radio.make_room(3, 2)?;
+        let mut packet = Packet::new();
+        packet.push(b'h');
+        packet.push(b'i');
+        let range = radio.range(0);
+        let air = radio.cast(0, &packet, &range);
+        assert_eq!(rt; air.first, 1);
+        assert!(rt; radio.cut(0, 1));
+        assert!(rt; radio.stood(1, 0));
+        assert_eq!(rt; radio.count(), 2);
+        assert_eq!(rt; radio.find(1), Some(1));
+        let Some(last) = radio.take(2) else {
+            return Err(Fail::new("no copy 2"));
+        };
+        assert_eq!(rt; last.to, 2);
+        assert_eq!(rt; last.bytes.as_slice(), b"hi".as_slice());
+        assert!(rt; radio.take(2).is_none());
+        assert_eq!(rt; radio.first_id(), Some(1));
+        assert_eq!(rt; radio.next_id(), 3);
+        Ok(())
+    }
+}
