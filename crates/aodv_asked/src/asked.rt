@@ -80,8 +80,8 @@ impl Asked {
         ids.insert(id);
     }
 
-    /// An id that no request of o has had: one more than the greatest, and 1 where there is none.
-    /// None says that the greatest is the last of 32 bits. It looks at no other id.
+    /// One more than the greatest id of o that was seen, and 1 where there is none. None says that
+    /// the greatest is the last of 32 bits. It looks at no other id.
     pub fn next_id(&self, o: usize) -> Option<u32>
         requires { o < length self.now.rooms }
         ensures full { IsNone result ↔ (last_request_id self.now.pairs o ≡ 4294967295) }
