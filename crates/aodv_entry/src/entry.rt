@@ -8,7 +8,7 @@ use mesh_base::NodeSet;
 pub enum Known {
     /// The number came with a request or a reply.
     Kno,
-    /// No message told it: the entry is a neighbour's.
+    /// The last news was only that the destination is a neighbour. An older number may stand.
     Unk,
 }
 
@@ -17,7 +17,7 @@ pub enum Known {
 pub enum Flag {
     /// The entry may be used.
     Val,
-    /// The route broke. The entry still tells the last number and hop count.
+    /// The route broke. The entry keeps its hop count and next hop, and the number that the break gave it.
     Inv,
 }
 
@@ -30,7 +30,7 @@ pub struct Entry {
     pub dsk: Known,
     /// Whether the route is valid.
     pub flag: Flag,
-    /// The number of hops to the destination, at least 1.
+    /// The number of hops to the destination. Tables of routers hold 1 or more here.
     pub hops: u8,
     /// The next hop towards the destination.
     pub next: usize,

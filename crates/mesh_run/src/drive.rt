@@ -10,8 +10,8 @@ use crate::status::Status;
 use mesh_io::{ReadAllError, Sink, Source, read_all};
 use std::alloc::Global;
 
-/// Runs the schedule that the source gives, and writes its text to the sink: one `put` for each
-/// line of the schedule, or more where the sink takes a piece in parts.
+/// Runs the schedule that the source gives, and writes its text to the sink: one piece for each
+/// line of the schedule that isn't blank, and one for the last line.
 #[tactic(auto, unfolding(mesh_text::specs::Text::text_of_input))]
 pub fn run<I: Source, O: Sink>(alloc: Global, input: &mut I, out: &mut O) -> Status
     // What is written is the text of the input, and the answer its verdict. After a failed read or
@@ -25,7 +25,7 @@ pub fn run<I: Source, O: Sink>(alloc: Global, input: &mut I, out: &mut O) -> Sta
     ensures read { result ≡ Status.ReadFault → Rose (I.faults input.old) (I.faults input.new) }
     ensures write { result ≡ Status.WriteFault → Rose (O.faults out.old) (O.faults out.new) }
 
-    // No count of faults falls.
+    // The sink's count of faults doesn't fall.
     ensures later { O.faults out.old ≤ O.faults out.new }
 
     // After a failed read nothing was written.
