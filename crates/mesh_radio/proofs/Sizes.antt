@@ -1,8 +1,8 @@
 -- Rooms whose sizes fall.
-use Rattle.std.proofs.Common.{◌≡◌, ◌<◌, ◌≤◌, ℕ, ◌+◌, ◌-◌, List, [], ◌∷◌, ◌++◌, length, get_or, slice_index, Option, Some, None, refl, sym, ap, subst, ◌∙◌, arith, inl, inr}
-use Rattle.std.specs.Option.{option_to_list}
+use Rattle.std.proofs.Common.{◌≡◌, ◌<◌, ◌≤◌, ℕ, zero, suc, ◌+◌, ◌-◌, List, [], ◌∷◌, ◌++◌, length, get_or, take, map, replicate, slice_index, slice_index_or, refl, sym, ap, subst, ◌∙◌, arith, inl, inr}
 use Rattle.std.proofs.lemmas.Bool.{cases_lt}
-use Rattle.std.proofs.lemmas.List.{get_or_push, length_push, get_or_append_left, map_push, append-nil}
+use Rattle.std.proofs.lemmas.List.{get_or_push, length_push, get_or_append_left, map_push, map-append, append-nil, append_assoc, length-take, length-map, length-replicate, get_or-take, get_or-map}
+use Rattle.std.specs.List.{take-map}
 use Rattle.mesh_radio.specs.declared.sized.SizedRoom.{SizedRoom}
 use Rattle.mesh_radio.specs.Kept.{AreFalling, sizes_of}
 
@@ -50,16 +50,52 @@ falling_from most xs are enough = record {
   ];
 }
 
+-- the first alone
+pub falling_take : (most n : ℕ) (xs : List ℕ) → n ≤ length xs → AreFalling most xs → AreFalling most (take n xs)
+falling_take most n xs le are =
+    let len : length (take n xs) ≡ n = omega (arith, length-take n xs) in
+    record {
+      falling = λ j k lt h. rw (get_or-take n xs k 0 (omega arith), get_or-take n xs j 0 (omega arith)) (are.falling j k lt (omega arith));
+      least = λ k h. rw (get_or-take n xs k 0 (omega arith)) (are.least k (omega arith));
+    }
+
+-- sizes that are no greater than any other join, one by one
+pub falling_joined : (most n : ℕ) (xs : List ℕ) → AreFalling most xs → AreFalling most (xs ++ replicate n most)
+falling_joined most zero xs are = subst (AreFalling most) (sym (append-nil xs)) are
+falling_joined most (suc n) xs are =
+    subst (AreFalling most) (append_assoc xs (most ∷ []) (replicate n most)) (falling_joined most n (xs ++ most ∷ []) (falling_push most most xs are (omega arith)))
+
+replicate_push : (n x : ℕ) → replicate n x ++ x ∷ [] ≡ replicate (suc n) x
+replicate_push zero x = refl
+replicate_push (suc n) x = ap (λ (xs : List ℕ). x ∷ xs) (replicate_push n x)
+
 -- ---- the same of rooms
 
 pub room_dropped : (most : ℕ) (old new : List SizedRoom) (r : SizedRoom) → old ≡ new ++ r ∷ [] → AreFalling most (sizes_of old) → AreFalling most (sizes_of new) × (most ≤ r.bytes)
 room_dropped most old new r e are = falling_popped most r.bytes (sizes_of new) (subst (AreFalling most) (ap sizes_of e ∙ map_push (λ (x : SizedRoom). x.bytes) new r) are)
 
-pub last_dropped : (most : ℕ) (old new : List SizedRoom) (r : Option SizedRoom) → old ≡ new ++ option_to_list r → AreFalling most (sizes_of old) → AreFalling most (sizes_of new)
-last_dropped most old new None e are = subst (λ (rs : List SizedRoom). AreFalling most (sizes_of rs)) (e ∙ append-nil new) are
-last_dropped most old new (Some r) e are = (room_dropped most old new r e are).0
+-- the first rooms alone, where the last of them is large enough
+pub falling_kept : (bytes n : ℕ) (rooms : List SizedRoom) (r : SizedRoom) → 0 < n → n ≤ length rooms → r ≡ slice_index_or rooms (n - 1) r → bytes ≤ r.bytes → AreFalling 0 (sizes_of rooms) → AreFalling bytes (sizes_of (take n rooms))
+falling_kept bytes n rooms r pos le at enough are =
+    let sizes = sizes_of rooms in
+    let len : length sizes ≡ length rooms = length-map rooms (λ (x : SizedRoom). x.bytes) in
+    let long : length (take n sizes) ≡ n = omega (arith, length-take n sizes) in
+    let last : slice_index (take n sizes) (n - 1) ≡ r.bytes =
+    get_or-take n sizes (n - 1) 0 (omega arith) ∙ get_or-map (λ (x : SizedRoom). x.bytes) rooms (n - 1) r 0 (omega arith) ∙ ap (λ (x : SizedRoom). x.bytes) (sym at) in
+    subst (AreFalling bytes) (take-map (λ (x : SizedRoom). x.bytes) n rooms)
+    (falling_from bytes (take n sizes) (falling_take 0 n sizes (omega arith) are) (λ _. rw (long, last) enough))
 
-pub room_added : (most : ℕ) (old new : List SizedRoom) (r : SizedRoom) → new ≡ old ++ r ∷ [] → r.bytes ≡ most → AreFalling most (sizes_of old) → AreFalling most (sizes_of new)
-room_added most old new r e is are =
-    subst (AreFalling most) (sym (ap sizes_of e ∙ map_push (λ (x : SizedRoom). x.bytes) old r))
-    (subst (λ (n : ℕ). AreFalling most (sizes_of old ++ n ∷ [])) (sym is) (falling_push most most (sizes_of old) are (omega arith)))
+-- one room more of this size
+pub rooms_added : (n bytes : ℕ) (old new : List SizedRoom) (r : SizedRoom) → new ≡ old ++ r ∷ [] → r.bytes ≡ bytes → sizes_of old ≡ replicate n bytes → sizes_of new ≡ replicate (n + 1) bytes
+rooms_added n bytes old new r e is same =
+    let up : suc n ≡ n + 1 = omega arith in
+    ap sizes_of e ∙ map_push (λ (x : SizedRoom). x.bytes) old r ∙ ap (λ (xs : List ℕ). xs ++ r.bytes ∷ []) same ∙ ap (λ (m : ℕ). replicate n bytes ++ m ∷ []) is ∙ replicate_push n bytes
+    ∙ ap (λ (m : ℕ). replicate m bytes) up
+
+pub rooms_counted : (n bytes : ℕ) (rooms : List SizedRoom) → sizes_of rooms ≡ replicate n bytes → length rooms ≡ n
+rooms_counted n bytes rooms same = sym (length-map rooms (λ (x : SizedRoom). x.bytes)) ∙ ap length same ∙ length-replicate n bytes
+
+-- rooms of this size join
+pub falling_renewed : (bytes n : ℕ) (kept fresh new : List SizedRoom) → new ≡ kept ++ fresh → sizes_of fresh ≡ replicate n bytes → AreFalling bytes (sizes_of kept) → AreFalling bytes (sizes_of new)
+falling_renewed bytes n kept fresh new e same are =
+    subst (AreFalling bytes) (sym (ap sizes_of e ∙ map-append (λ (x : SizedRoom). x.bytes) kept fresh ∙ ap (λ (xs : List ℕ). sizes_of kept ++ xs) same)) (falling_joined bytes n (sizes_of kept) are)

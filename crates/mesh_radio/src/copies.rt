@@ -1,5 +1,5 @@
 //! Copies of packets in flight, by rising id.
-ghost use Rattle.std.specs.Prelude.{◌≡◌, ◌<◌, ◌≤◌, ◌+◌, ◌-◌, ◌^◌, ◌++◌, ◌∷◌, [], length, slice_get, Some, OnOk, take, drop, remove};
+ghost use Rattle.std.specs.Prelude.{◌≡◌, ◌<◌, ◌≤◌, ◌+◌, ◌-◌, ◌^◌, ◌++◌, ◌∷◌, [], length, slice_get, Some, OnOk, OnErr, take, drop, remove};
 ghost use Rattle.indexmap.specs.IndexMap.{keys, values, index_map_len};
 ghost use Rattle.mesh_radio.specs.Copies.{find_copy, without, AreNumbered};
 ghost use Rattle.mesh_radio.specs.Kept.{AreKept, IsPlaceOf};
@@ -23,15 +23,15 @@ pub struct Copies {
 }
 
 impl Model for Copies {
-    ghost use Rattle.std.specs.Prelude.{◌≤◌, ◌-◌, min, length, take, drop};
+    ghost use Rattle.std.specs.Prelude.{◌≤◌, ◌-◌, length, take, drop};
     ghost use Rattle.indexmap.specs.IndexMap.{keys, values};
     ghost use Rattle.mesh_radio.specs.Kept.{Flights, AreKept};
 
     ghost Value = { Flights };
 
-    ghost view = { λ a. record { flying = drop a.gone (take a.end (values a.map)); next_copy = a.next; room = min a.rooms.room (length a.map.entries - a.end); most = a.rooms.most } };
+    ghost view = { λ a. record { flying = drop a.gone (take a.end (values a.map)); next_copy = a.next; room = a.rooms.room; most = a.rooms.most } };
 
-    ghost invariant = { λ a. AreKept (keys a.map) (values a.map) a.end a.next × (a.gone ≤ a.end) };
+    ghost invariant = { λ a. AreKept (keys a.map) (values a.map) a.end a.next × (a.gone ≤ a.end) × (a.rooms.room ≤ length a.map.entries - a.end) };
 }
 
 impl Copies {
@@ -162,12 +162,13 @@ impl Copies {
         requires next { self.old.next_copy + 200 < 2 ^ 64 }
         ensures same { self.new ≡ record self.old { room = self.new.room; most = self.new.most } }
         ensures ok { OnOk result ((copies ≤ self.new.room) × (bytes ≤ self.new.most)) }
+        ensures refused { OnErr result (self.new ≡ self.old) }
     {
         if self.gone > self.map.len() / 2 {
             self.forget();
         }
-        self.rooms.make(copies, bytes)?;
-        more_ids(&mut self.map, self.end, self.next, copies)
+        more_ids(&mut self.map, self.end, self.next, copies)?;
+        self.rooms.make(copies, bytes)
     }
 
     // Cuts off the entries of copies that were taken from the front.
@@ -193,6 +194,7 @@ fn more_ids(
     requires kept { AreKept (keys map.old) (values map.old) end next }
     ensures kept { AreKept (keys map.new) (values map.new) end next }
     ensures same { take end (values map.new) ≡ take end (values map.old) }
+    ensures keeps { index_map_len map.old ≤ index_map_len map.new }
     ensures ok { OnOk result (end + count ≤ index_map_len map.new) }
 {
     for place in map.len()..end + count {

@@ -1,5 +1,5 @@
 //! The radio of a mesh.
-ghost use Rattle.std.specs.Prelude.{◌≡◌, ◌≢◌, ◌<◌, ◌≤◌, ◌+◌, ◌^◌, ℕ, true, false, not, length, slice_get, Some, OnOk, IfOk, option_map};
+ghost use Rattle.std.specs.Prelude.{◌≡◌, ◌≢◌, ◌<◌, ◌≤◌, ◌+◌, ◌^◌, ℕ, true, false, not, length, slice_get, Some, OnOk, OnErr, IfOk, option_map};
 ghost use Rattle.std.specs.Bool.{OnTrue, OnFalse};
 ghost use Rattle.std.specs.List.{AllByRecursion};
 ghost use Rattle.std.specs.FinSet as sets;
@@ -113,6 +113,7 @@ impl Radio {
         requires next { self.old.next_copy + 200 < 2 ^ 64 }
         ensures same { self.new ≡ record self.old { room = self.new.room; most = self.new.most } }
         ensures ok { OnOk result ((copies ≤ self.new.room) × (bytes ≤ self.new.most)) }
+        ensures refused { OnErr result (self.new ≡ self.old) }
     {
         self.copies.make_room(copies, bytes)
     }

@@ -1,6 +1,5 @@
 //! Memory for packets to come.
-ghost use Rattle.std.specs.Prelude.{◌≡◌, ◌<◌, ◌≤◌, ◌-◌, length, OnOk};
-ghost use Rattle.std.specs.Bool.{OnTrue, OnFalse};
+ghost use Rattle.std.specs.Prelude.{◌≡◌, ◌<◌, ◌≤◌, ◌-◌, length, take, replicate, max, OnOk, OnErr, IfOk};
 ghost use Rattle.mesh_radio.specs.Kept.{AreFalling, sizes_of};
 
 use crate::sized::SizedRoom;
@@ -41,11 +40,22 @@ impl Rooms {
 
     /// Makes sure of this many rooms, each for this many bytes. Those that are large enough stay.
     pub fn make(&mut self, count: usize, bytes: usize) -> Result<(), NoMemory>
-        ensures { OnOk result ((count ≤ self.new.room) × (bytes ≤ self.new.most)) }
+        ensures ok { OnOk result ((count ≤ self.new.room) × (bytes ≤ self.new.most)) }
+        ensures bounded { OnOk result (self.new.room ≤ max self.old.room count) }
+        ensures refused { OnErr result (self.new ≡ self.old) }
     {
-        drop_smaller(&mut self.rooms, bytes);
+        if bytes <= self.most && count <= self.rooms.len() {
+            return Ok(());
+        }
+        let kept = large_enough(&self.rooms, bytes);
+        let mut fresh = new_rooms(self.alloc, count.saturating_sub(kept), bytes)?;
+        self.rooms.reserve(fresh.len())?;
+        self.rooms.truncate(kept);
+        let Ok(()) = self.rooms.append(&mut fresh) else {
+            unreachable!()
+        };
         self.most = bytes;
-        top_up(self.alloc, &mut self.rooms, count, bytes)
+        Ok(())
     }
 
     /// The bytes, in the memory of one room.
@@ -62,42 +72,27 @@ impl Rooms {
     }
 }
 
-// Drops the rooms that are too small for this many bytes.
-fn drop_smaller(rooms: &mut Vec<SizedRoom>, bytes: usize)
-    requires { AreFalling 0 (sizes_of rooms.old.items) }
-    ensures { AreFalling bytes (sizes_of rooms.new.items) }
-{
-    while is_last_smaller(rooms, bytes) {
-        let _small = rooms.pop();
-    }
-}
-
-// Whether the last room, which is the smallest, is too small for this many bytes.
-fn is_last_smaller(rooms: &Vec<SizedRoom>, bytes: usize) -> bool
+// How many rooms are large enough for this many bytes. They stand before all others.
+fn large_enough(rooms: &Vec<SizedRoom>, bytes: usize) -> usize
     requires { AreFalling 0 (sizes_of rooms.now.items) }
-    ensures smaller { OnTrue result (0 < length rooms.now.items) }
-    ensures others { OnFalse result (AreFalling bytes (sizes_of rooms.now.items)) }
+    ensures within { result ≤ length rooms.now.items }
+    ensures large { AreFalling bytes (sizes_of (take result rooms.now.items)) }
 {
-    match rooms.last() {
-        Some(last) => last.bytes < bytes,
-        None => false,
+    let mut kept = rooms.len();
+    while kept > 0 && rooms[kept - 1].bytes < bytes {
+        kept -= 1;
     }
+    kept
 }
 
-// Rooms for this many bytes join, until there are as many as `count`.
-fn top_up(
-    alloc: Global,
-    rooms: &mut Vec<SizedRoom>,
-    count: usize,
-    bytes: usize,
-) -> Result<(), NoMemory>
-    requires { AreFalling bytes (sizes_of rooms.old.items) }
-    ensures falling { AreFalling bytes (sizes_of rooms.new.items) }
-    ensures ok { OnOk result (count ≤ length rooms.new.items) }
+// This many rooms, each for this many bytes.
+fn new_rooms(alloc: Global, count: usize, bytes: usize) -> Result<Vec<SizedRoom>, NoMemory>
+    ensures { IfOk result (λ fresh. sizes_of fresh.items ≡ replicate count bytes) }
 {
-    for _ in rooms.len()..count {
+    let mut fresh = Vec::with_capacity(alloc, count)?;
+    for _ in 0..count {
         let sized = SizedRoom::new(alloc, bytes)?;
-        rooms.push(sized)?;
+        fresh.push(sized)?;
     }
-    Ok(())
+    Ok(fresh)
 }

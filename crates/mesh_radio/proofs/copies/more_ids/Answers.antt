@@ -27,5 +27,6 @@ loop-place-preserved c =
         ids = ap ids_of fs' ∙ map_push (λ g. g.id) fs f ∙ ap (λ xs. xs ++ id ∷ []) kept.ids ∙ sym ks';
       };
       same = ap (take c.args.end) fs' ∙ take-append-le c.args.end fs (f ∷ []) (omega arith) ∙ c.loop-place.invariant.same;
+      keeps = omega (arith, ap length added, length_push es (id, f), c.loop-place.invariant.keeps);
       place = ap length added ∙ length_push es (id, f) ∙ ap (λ n. n + 1) c.loop-place.invariant.place;
     }

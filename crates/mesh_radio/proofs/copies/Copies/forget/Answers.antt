@@ -1,4 +1,4 @@
-use Rattle.std.proofs.Common.{◌≡◌, ◌-◌, ap, sym, subst, ◌∙◌, drop, map, length, min, arith, length-drop}
+use Rattle.std.proofs.Common.{◌≡◌, ◌-◌, ap, sym, subst, ◌∙◌, drop, map, length, arith, length-drop}
 use Rattle.std.proofs.lemmas.List.{drop-map, length-map}
 use Rattle.indexmap.specs.IndexMap.{keys, values}
 use Rattle.mesh_radio.specs.Kept.{AreKeys, ids_of}
@@ -16,6 +16,7 @@ invariant_of-self c =
         ids = ap ids_of fs ∙ sym (drop-map (λ f. f.id) g (values c.self.inside.map)) ∙ ap (drop g) kept.ids ∙ sym ks;
       },
       omega arith,
+      omega (arith, c.self.invariant.1, c.self.invariant.2, ap length c.cut_front.ensures, length-drop g c.self.inside.map.entries),
     )
 
 pub returns : goal.returns
@@ -28,7 +29,4 @@ returns c =
     let len0 = length-map es (λ e. e.0) in
     let fs : values c.cut_front.new.map ≡ drop g (values c.self.inside.map) = ap (map (λ e. e.1)) c.cut_front.ensures ∙ sym (drop-map (λ e. e.1) g es) in
     let flying : window (values c.cut_front.new.map) 0 (end - g) ≡ window (values c.self.inside.map) g end = ap (λ xs. window xs 0 (end - g)) fs ∙ window_cut (values c.self.inside.map) g end le in
-    let shorter = ap length c.cut_front.ensures in
-    let less = length-drop g es in
-    let room : min c.self.inside.rooms.room (length c.cut_front.new.map.entries - (end - g)) ≡ min c.self.inside.rooms.room (length es - end) = omega arith in
-    (λ i. record { flying = flying i; next_copy = c.self.inside.next; room = room i; most = c.self.inside.rooms.most }) ∙ c.self.view_is
+    (λ i. record { flying = flying i; next_copy = c.self.inside.next; room = c.self.inside.rooms.room; most = c.self.inside.rooms.most }) ∙ c.self.view_is

@@ -1,7 +1,7 @@
-use Rattle.std.proofs.Common.{◌≡◌, ◌-◌, ◌+◌, ap, sym, subst, ◌∙◌, Some, length, slice_get, min, arith}
+use Rattle.std.proofs.Common.{◌≡◌, ◌-◌, ◌+◌, ap, sym, subst, ◌∙◌, Some, length, slice_get, arith}
 use Rattle.std.specs.List.{remove}
 use Rattle.indexmap.specs.IndexMap.{keys, values, with_value_at}
-use Rattle.indexmap.specs.Layout.{length-set_value_at, set_value_at}
+use Rattle.indexmap.specs.Layout.{length-set_value_at}
 use Rattle.mesh_radio.specs.Kept.{AreKeys, ids_of, Flights, IsPlaceOf}
 use Rattle.mesh_radio.proofs.Keys.{values-set, keys-set}
 use Rattle.mesh_radio.proofs.Windows.{window, window_get, window_front, replaced_ids, first_there}
@@ -23,6 +23,7 @@ invariant_of-self c =
         ids = ap ids_of (values-set es g t) ∙ replaced_ids (values c.self.inside.map) (keys c.self.inside.map) g t kept.ids (omega arith) (t-id ∙ sym first.1) ∙ sym (keys-set es g t);
       },
       omega arith,
+      omega (arith, c.self.invariant.2, length-set_value_at es g t),
     )
 
 pub returns-clause-taken : goal.returns-clause-taken
@@ -44,6 +45,5 @@ returns-clause-others c =
     let end = c.self.inside.end in
     let t = c.replace-flying.new.dest in
     let flying : window (values (with_value_at c.self.inside.map g t)) (g + 1) end ≡ remove (window fs g end) 0 = ap (λ xs. window xs (g + 1) end) (values-set es g t) ∙ window_front fs g end t in
-    let room : min c.self.inside.rooms.room (length (set_value_at es g t) - end) ≡ min c.self.inside.rooms.room (length es - end) = ap (λ n. min c.self.inside.rooms.room (n - end)) (length-set_value_at es g t) in
-    (λ i. record { flying = flying i; next_copy = c.self.inside.next; room = room i; most = c.self.inside.rooms.most })
+    (λ i. record { flying = flying i; next_copy = c.self.inside.next; room = c.self.inside.rooms.room; most = c.self.inside.rooms.most })
     ∙ ap (λ (v : Flights). record v { flying = remove v.flying 0 }) c.self.view_is

@@ -1,4 +1,4 @@
-use Rattle.std.proofs.Common.{◌≡◌, ◌<◌, ◌-◌, ◌+◌, ap, sym, subst, ◌∙◌, Some, length, map, slice_get, min, arith}
+use Rattle.std.proofs.Common.{◌≡◌, ◌<◌, ◌-◌, ◌+◌, ap, sym, subst, ◌∙◌, Some, length, map, slice_get, arith}
 use Rattle.std.specs.List.{remove}
 use Rattle.std.proofs.lemmas.List.{length-map}
 use Rattle.std.proofs.lemmas.List.Edits.{length-remove}
@@ -24,6 +24,7 @@ invariant_of-self c =
         ids = ap ids_of fs ∙ map-remove (λ f. f.id) (values c.self.inside.map) i ∙ ap (λ xs. remove xs i) kept.ids ∙ sym ks;
       },
       omega arith,
+      omega (arith, c.self.invariant.2, ap length c.shift_remove_index.ensures.entries, length-remove es i (omega arith)),
     )
 
 pub returns-clause-taken : goal.returns-clause-taken
@@ -54,8 +55,5 @@ returns-clause-others c =
     let fs : values c.shift_remove_index.new.self ≡ remove (values c.self.inside.map) i = ap (map (λ e. e.1)) c.shift_remove_index.ensures.entries ∙ map-remove (λ e. e.1) es i in
     let flying : window (values c.shift_remove_index.new.self) g (end - 1) ≡ remove (window (values c.self.inside.map) g end) c.args.place =
     ap (λ xs. window xs g (end - 1)) fs ∙ window_removed (values c.self.inside.map) g end i (omega arith) lt (omega arith) ∙ ap (remove (window (values c.self.inside.map) g end)) place in
-    let shorter = ap length c.shift_remove_index.ensures.entries in
-    let less = length-remove es i (omega arith) in
-    let room : min c.self.inside.rooms.room (length c.shift_remove_index.new.self.entries - (end - 1)) ≡ min c.self.inside.rooms.room (length es - end) = omega arith in
-    (λ k. record { flying = flying k; next_copy = c.self.inside.next; room = room k; most = c.self.inside.rooms.most })
+    (λ k. record { flying = flying k; next_copy = c.self.inside.next; room = c.self.inside.rooms.room; most = c.self.inside.rooms.most })
     ∙ ap (λ (v : Flights). record v { flying = remove v.flying c.args.place }) c.self.view_is

@@ -1,0 +1,9 @@
+pub mod Lists
+pub mod RouteErrors
+pub mod Ready
+pub mod Unicasts
+pub mod Restored
+pub mod Requests
+pub mod Stated
+pub mod Replies
+pub mod Delivered

@@ -1,0 +1,50 @@
+-- What handlers keep of a core.
+use Rattle.std.proofs.Common.{◌≡◌, ◌≤◌, ℕ, length, sym, ap, subst, ◌∙◌, arith}
+use Rattle.aodv_model.specs.Tables.{Table, Dests, unreachable_by}
+use Rattle.aodv_model.specs.Cores.{Core}
+use Rattle.aodv_model.specs.Handlers.{retract, link_broken}
+use Rattle.aodv_model.specs.Soundness.{IsSoundCore, IsSoundTable}
+use Rattle.aodv_model.proofs.Changes.{Raises, unreachable_by_raises}
+use Rattle.aodv_model.proofs.SoundTables.{invalidate_table}
+use Rattle.aodv_handlers.specs.declared.cores.Core as code
+use Rattle.aodv_handlers.specs.Shown.{shown, IsReady}
+
+pub ready_after : {T : Type 0} (nodes : T → ℕ) (entries : T → Table) (size : ℕ) (old new : code.Core T) (after : Core) → IsReady nodes entries size old → nodes new.table ≡ nodes old.table → length (new.asked).rooms ≡ length (old.asked).rooms → length (new.waiting).rooms ≡ length (old.waiting).rooms
+    → shown entries new ≡ after → after.ip ≡ old.me → IsSoundCore size after → IsReady nodes entries size new
+ready_after nodes entries size old new after ready same asked waiting is me sound = record {
+  table = same ∙ ready.table;
+  asked = asked ∙ ready.asked;
+  waiting = waiting ∙ ready.waiting;
+  mine = let here : new.me ≡ old.me = ap (λ (c : Core). c.ip) is ∙ me in let m = ready.mine in omega arith;
+  sound = subst (IsSoundCore size) (sym is) sound;
+}
+
+pub retract_sound : (size : ℕ) (core : Core) (dests : Dests) → Raises core.rt dests → IsSoundCore size core → IsSoundCore size (retract core dests).core
+unfolding retract
+retract_sound size core dests raises sound = record { own = sound.own; table = invalidate_table size core.ip core.rt dests raises sound.table }
+
+pub broken_sound : (size : ℕ) (core : Core) (y : ℕ) → IsSoundCore size core → IsSoundCore size (link_broken core y).core
+unfolding link_broken
+broken_sound size core y sound = retract_sound size core (unreachable_by core.rt y) (unreachable_by_raises core.rt y) sound
+
+-- a core with another table, which is sound
+pub ready_table : {T : Type 0} (nodes : T → ℕ) (entries : T → Table) (size : ℕ) (old new : code.Core T) → IsReady nodes entries size old → nodes new.table ≡ nodes old.table → (new.asked).rooms ≡ (old.asked).rooms → (new.waiting).rooms ≡ (old.waiting).rooms
+    → new.me ≡ old.me → 1 ≤ new.sn → IsSoundTable size old.me (entries new.table) → IsReady nodes entries size new
+ready_table nodes entries size old new ready same asked waiting me own table = record {
+  table = same ∙ ready.table;
+  asked = ap length asked ∙ ready.asked;
+  waiting = ap length waiting ∙ ready.waiting;
+  mine = let m = ready.mine in omega arith;
+  sound = record { own = own; table = subst (λ (ip : ℕ). IsSoundTable size ip (entries new.table)) (sym me) table };
+}
+
+-- a core that shows what an earlier one showed, made from a ready one with other rows
+pub ready_back : {T : Type 0} (nodes : T → ℕ) (entries : T → Table) (size : ℕ) (old mid new : code.Core T) → IsReady nodes entries size old → IsReady nodes entries size mid → nodes new.table ≡ nodes mid.table → (new.asked).rooms ≡ (mid.asked).rooms → (new.waiting).rooms ≡ (mid.waiting).rooms
+    → shown entries new ≡ shown entries old → IsReady nodes entries size new
+ready_back nodes entries size old mid new ready later same asked waiting is = record {
+  table = same ∙ later.table;
+  asked = ap length asked ∙ later.asked;
+  waiting = ap length waiting ∙ later.waiting;
+  mine = let here : new.me ≡ old.me = ap (λ (c : Core). c.ip) is in let m = ready.mine in omega arith;
+  sound = subst (IsSoundCore size) (sym is) ready.sound;
+}

@@ -1,0 +1,157 @@
+-- A turn on a route request.
+use Rattle.std.proofs.Common.{◌≡◌, ◌≢◌, ℕ, ◌<◌, ◌≤◌, ◌+◌, Bool, true, false, not, cond, ◌&&◌, Some, None, List, [], refl, sym, ap, subst, ◌∙◌, max}
+use Rattle.std.specs.Prelude.{◌==◌}
+use Rattle.std.specs.FinMap as maps
+use Rattle.std.specs.FinSet as sets
+use Rattle.mesh_base.specs.declared.events.Effect as code
+use Rattle.mesh_base.specs.declared.events.Full.{Full}
+use Rattle.mesh_base.specs.declared.events.Variant.TheVariants.{Base}
+use Rattle.mesh_base.specs.Members.{NodeIds}
+use Rattle.mesh_base.specs.Meshes.{Nodes}
+use Rattle.aodv_entry.specs.declared.entry.Entry.{Entry}
+use Rattle.aodv_model.specs.Pairs.{Pairs}
+use Rattle.aodv_model.specs.Tables.{Table, update, add_pre, nhop, sqn, dhops, next_in, hops_in, number_in}
+use Rattle.aodv_model.specs.Cores.{Core, RouteRequest, Message, Rreq, Rrep, Item, Heard, has_seen}
+use Rattle.aodv_model.specs.Handlers.{Reaction, quiet, only, one, unicast, link_broken, retract, neighbour_entry, route_entry, after_hearing, after_request, reply_for_self, join_answer_precursors, reply_from_table, forward_request, can_answer, on_new_rreq, on_rreq, turn, key_of, casting, All}
+use Rattle.aodv_model.specs.Fullness.{turn_full}
+use Rattle.aodv_model.specs.Soundness.{IsSoundTable}
+use Rattle.aodv_model.proofs.PlacedTables.{update_has}
+use Rattle.aodv_model.proofs.Readings.{pre_alike, join_answer_alike}
+use Rattle.aodv_model.proofs.SoundTables.{neighbour_table, route_table}
+use Rattle.aodv_wire.specs.declared.message.Rreq as rreq
+use Rattle.aodv_meaning.specs.Meaning.{index, status_of, request_in}
+use Rattle.aodv_meaning.specs.Sent.{IsPacket}
+use Rattle.aodv_handlers.specs.Made.{IsMade, IsRefused, number_full, effect_of}
+use Rattle.aodv_handlers.proofs.Unicasts.{plain_free}
+
+-- the same of an equal reaction
+pub made_at : (mesh : Nodes) (did did' : Reaction) (effect : code.Effect) (new : Core) (out : List ℕ) → did ≡ did' → IsMade mesh (number_full did) did effect new out → IsMade mesh (number_full did') did' effect new out
+made_at mesh did did' effect new out same made = subst (λ (d : Reaction). IsMade mesh (number_full d) d effect new out) same made
+
+pub refused_at : (did did' : Reaction) (old old' : Core) (field : Full) (new new' : Core) → did ≡ did' → new' ≡ old' → IsRefused (number_full did) old field new → IsRefused (number_full did') old' field new'
+refused_at did did' old old' field new new' same is refused = record { overfull = ap number_full (sym same) ∙ refused.overfull; same = is }
+
+-- ---- a node that answers from its table
+
+pub joined_answer : (rt rt1 rt2 : Table) (d o from : ℕ) (route : Entry) → maps.get rt d ≡ Some route → rt1 ≡ add_pre rt d (one from) → rt2 ≡ add_pre rt1 o (one route.next) → rt2 ≡ join_answer_precursors rt d o from
+unfolding join_answer_precursors
+joined_answer rt rt1 rt2 d o from route is one_is two_is =
+    let next : nhop (add_pre rt d (one from)) d ≡ route.next = pre_alike next_in rt d (one from) d (λ e pre. refl) ∙ ap next_in is in
+    two_is ∙ (λ i. add_pre (one_is i) o (one (sym next i)))
+
+pub answer_is : (core : Core) (range : NodeIds) (from : ℕ) (m : RouteRequest) (route : Entry) (rt2 : Table) (towards : ℕ) → maps.get core.rt m.dip ≡ Some route → rt2 ≡ join_answer_precursors core.rt m.dip m.oip from → towards ≡ nhop core.rt m.oip
+    → unicast (record core { rt = rt2 }) (Rrep (record { hops = route.hops; dip = m.dip; dsn = route.dsn; oip = m.oip })) towards range ≡ reply_from_table core range from m
+unfolding reply_from_table
+answer_is core range from m route rt2 towards is rt_is towards_is =
+    let rt = join_answer_precursors core.rt m.dip m.oip from in
+    let hops : dhops rt m.dip ≡ route.hops = join_answer_alike hops_in core.rt m.dip m.oip from m.dip (λ e pre. refl) ∙ ap hops_in is in
+    let dsn : sqn rt m.dip ≡ route.dsn = join_answer_alike number_in core.rt m.dip m.oip from m.dip (λ e pre. refl) ∙ ap number_in is in
+    let next : nhop rt m.oip ≡ nhop core.rt m.oip = join_answer_alike next_in core.rt m.dip m.oip from m.oip (λ e pre. refl) in
+    λ i. unicast (record core { rt = rt_is i }) (Rrep (record { hops = sym hops i; dip = m.dip; dsn = sym dsn i; oip = m.oip })) ((towards_is ∙ sym next) i) range
+
+-- ---- a node that passes the request on
+
+pub forward_made : (mesh : Nodes) (core : Core) (m : RouteRequest) (effect : code.Effect) (out : List ℕ) → effect ≡ effect_of (forward_request core m).effect → IsPacket mesh out (forward_request core m).effect.cast → IsMade mesh (number_full (forward_request core m)) (forward_request core m) effect core out
+unfolding forward_request
+forward_made mesh core m effect out is packet = record {
+  free = plain_free core (casting (All (Rreq (record m { hops = m.hops + 1; dsn = max (sqn core.rt m.dip) m.dsn }))));
+  did = is;
+  core = refl;
+  packet = packet;
+}
+
+-- ---- what is done doesn't depend on the requests seen
+
+abbrev pub with_seen : Pairs → Reaction → Reaction
+with_seen s did = record did { core = record (did.core) { seen = s } }
+
+seen_if : (s : Pairs) (b : Bool) (x x' y y' : Reaction) → x' ≡ with_seen s x → y' ≡ with_seen s y → cond b x' y' ≡ with_seen s (cond b x y)
+seen_if s true x x' y y' hx hy = hx
+seen_if s false x x' y y' hx hy = hy
+
+unicast_seen : (core : Core) (m : Message) (y : ℕ) (range : NodeIds) (s : Pairs) → unicast (record core { seen = s }) m y range ≡ with_seen s (unicast core m y range)
+unfolding unicast link_broken retract
+unicast_seen core m y range s = seen_if s (sets.contains range y) _ _ _ _ refl refl
+
+own_seen : (core : Core) (range : NodeIds) (m : RouteRequest) (s : Pairs) → reply_for_self (record core { seen = s }) range m ≡ with_seen s (reply_for_self core range m)
+unfolding reply_for_self
+own_seen core range m s = unicast_seen _ _ _ range s
+
+route_seen : (core : Core) (range : NodeIds) (from : ℕ) (m : RouteRequest) (s : Pairs) → reply_from_table (record core { seen = s }) range from m ≡ with_seen s (reply_from_table core range from m)
+unfolding reply_from_table
+route_seen core range from m s = unicast_seen _ _ _ range s
+
+new_seen : (core : Core) (range : NodeIds) (from : ℕ) (m : RouteRequest) (s : Pairs) → on_new_rreq (record core { seen = s }) range from m ≡ with_seen s (on_new_rreq core range from m)
+unfolding on_new_rreq forward_request
+new_seen core range from m s =
+    seen_if s (m.dip == core.ip) _ _ _ _ (own_seen core range m s) (seen_if s (can_answer core m) _ _ _ _ (route_seen core range from m s) refl)
+
+-- ---- the turn
+
+abbrev item : ℕ → RouteRequest → Item
+item from m = Heard from (Rreq m)
+
+and_not : (b : Bool) → (b && not true) ≡ false
+and_not true = refl
+and_not false = refl
+
+pub seen_made : (mesh : Nodes) (c : Core) (range : NodeIds) (from : ℕ) (m : RouteRequest) (rt1 : Table) (effect : code.Effect) (out : List ℕ) → c.variant ≡ Base → has_seen c.seen (m.oip, m.id) ≡ true → rt1 ≡ update c.rt from (neighbour_entry from) → effect ≡ effect_of quiet → out ≡ []
+    → IsMade mesh (turn_full c range (item from m)) (turn c range (item from m)) effect (record c { rt = rt1 }) out
+unfolding on_rreq after_hearing
+seen_made mesh c range from m rt1 effect out base seen rt_is effect_is out_is =
+    let known : has_seen c.seen (key_of c.variant m) ≡ true = rw base seen in
+    let did : turn c range (item from m) ≡ only (after_hearing c from) = rw known refl in
+    let none : turn_full c range (item from m) ≡ None = rw (known, and_not (m.hops == 255)) (plain_free (after_hearing c from) quiet) in
+    record {
+      free = none;
+      did = rw did effect_is;
+      core = rw did (λ i. record c { rt = rt_is i });
+      packet = rw did out_is;
+    }
+
+-- the table after the updates
+pub asked_table : (size ip : ℕ) (rt rt2 : Table) (from o n h : ℕ) → from < size → from ≢ ip → o < size → 1 ≤ n → IsSoundTable size ip rt → rt2 ≡ update (update rt from (neighbour_entry from)) o (route_entry n h from) → IsSoundTable size ip rt2
+asked_table size ip rt rt2 from o n h lf apart lo one sound is =
+    let first = neighbour_table size ip rt from lf apart sound in
+    subst (IsSoundTable size ip) (sym is) (route_table size ip (update rt from (neighbour_entry from)) o n h from lo lf apart (update_has rt from (neighbour_entry from)) one first)
+
+-- what is done is what is done after the updates, with the request among those seen
+pub record Ends (c : Core) (range : NodeIds) (from : ℕ) (m : RouteRequest) (did' : Reaction) : Type 0 where
+  pub turned : turn c range (item from m) ≡ with_seen (sets.insert c.seen (m.oip, m.id)) did'
+  pub full : turn_full c range (item from m) ≡ number_full did'
+
+pub ends : (c : Core) (range : NodeIds) (from : ℕ) (m : RouteRequest) (rt2 : Table) → c.variant ≡ Base → has_seen c.seen (m.oip, m.id) ≡ false → (m.hops == 255) ≡ false → rt2 ≡ update (update c.rt from (neighbour_entry from)) m.oip (route_entry m.osn m.hops from)
+    → Ends c range from m (on_new_rreq (record c { rt = rt2 }) range from m)
+unfolding on_rreq after_request after_hearing
+ends c range from m rt2 base unseen hops is =
+    let unknown : has_seen c.seen (key_of c.variant m) ≡ false = rw base unseen in
+    let key : key_of c.variant m ≡ (m.oip, m.id) = rw base refl in
+    let s = sets.insert c.seen (m.oip, m.id) in
+    let core : after_request c from m ≡ record c { rt = rt2; seen = s } = λ i. record c { rt = sym is i; seen = sets.insert c.seen (key i) } in
+    let did : turn c range (item from m) ≡ with_seen s (on_new_rreq (record c { rt = rt2 }) range from m) =
+    rw unknown (ap (λ (a : Core). on_new_rreq a range from m) core ∙ new_seen (record c { rt = rt2 }) range from m s) in
+    record { turned = did; full = rw hops (ap number_full did) }
+
+pub new_made : (mesh : Nodes) (c new : Core) (range : NodeIds) (from : ℕ) (m : RouteRequest) (did' : Reaction) (effect : code.Effect) (s : Pairs) (out : List ℕ)
+    → Ends c range from m did' → IsMade mesh (number_full did') did' effect new out → new.seen ≡ c.seen → s ≡ sets.insert new.seen (m.oip, m.id)
+    → IsMade mesh (turn_full c range (item from m)) (turn c range (item from m)) effect (record new { seen = s }) out
+new_made mesh c new range from m did' effect s out end made seen s_is =
+    let s_now : s ≡ sets.insert c.seen (m.oip, m.id) = s_is ∙ ap (λ (t : Pairs). sets.insert t (m.oip, m.id)) seen in
+    record {
+      free = end.full ∙ made.free;
+      did = made.did ∙ (λ i. effect_of (sym end.turned i).effect);
+      core = (λ i. record (made.core i) { seen = s_now i }) ∙ (λ i. (sym end.turned i).core);
+      packet = subst (λ (d : Reaction). IsPacket mesh out d.effect.cast) (sym end.turned) made.packet;
+    }
+
+pub stop_made : (c new : Core) (range : NodeIds) (from : ℕ) (m : RouteRequest) (rt2 rt4 : Table) (did' : Reaction) (field : Full)
+    → Ends c range from m did' → IsRefused (number_full did') (record c { rt = rt2 }) field new → rt4 ≡ c.rt
+    → IsRefused (turn_full c range (item from m)) c field (record new { rt = rt4 })
+stop_made c new range from m rt2 rt4 did' field end refused back = record {
+  overfull = end.full ∙ refused.overfull;
+  same = λ i. record (refused.same i) { rt = back i };
+}
+
+pub same_request : (mesh : Nodes) (m : rreq.Rreq) (dip oip : ℕ) → dip ≡ index mesh m.dip → oip ≡ index mesh m.oip
+    → record { hops = m.hops; id = m.id; dip = dip; dsn = m.dsn; dsk = status_of m.known; oip = oip; osn = m.osn } ≡ request_in mesh m
+same_request mesh m dip oip d o = λ i. record { hops = m.hops; id = m.id; dip = d i; dsn = m.dsn; dsk = status_of m.known; oip = o i; osn = m.osn }

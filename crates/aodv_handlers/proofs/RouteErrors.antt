@@ -1,0 +1,199 @@
+-- Route errors: who is told, and of what.
+use Rattle.std.proofs.Common.{◌≡◌, ℕ, suc, ◌+◌, ◌<◌, ◌≤◌, Bool, true, false, not, cond, Option, Some, None, List, [], ◌∷◌, ◌++◌, length, map, refl, sym, ap, subst, ◌∙◌, append_assoc, length-append, arith}
+use Rattle.std.specs.Prelude.{slice_get, is_some, T}
+use Rattle.std.specs.Ordering.{nat_cmp, is_lt}
+use Rattle.std.specs.FinMap as maps
+use Rattle.std.specs.FinMap.Entries.{where_key, is_sorted, below_all}
+use Rattle.std.specs.FinSet as sets
+use Rattle.std.specs.Cmp.{ranked}
+use Rattle.std.specs.declared.cmp.Ordering.{Ordering}
+use Rattle.std.specs.declared.cmp.Ordering.TheVariants.{Less, Equal, Greater}
+use Rattle.std.proofs.lemmas.Bool.{and_parts}
+use Rattle.std.proofs.Math.ListN.{drop}
+use Rattle.mesh_base.specs.declared.addr.Addr.{Addr}
+use Rattle.mesh_base.specs.Members.{NodeIds}
+use Rattle.mesh_base.specs.Meshes.{Nodes, IsMesh}
+use Rattle.aodv_model.specs.Tables.{Table, Dests, precs}
+use Rattle.aodv_model.specs.Handlers.{is_empty, all_precs, precs_of, with_precs}
+use Rattle.aodv_model.specs.Soundness.{AreDestsBelow}
+use Rattle.aodv_model.proofs.Lookups.{get-kept}
+use Rattle.aodv_model.proofs.PlacedTables.{kept_of}
+use Rattle.aodv_wire.specs.RouteError.{IsRising, AreDestinations}
+use Rattle.aodv_meaning.specs.Sent.{addressed, pairs_of}
+use Rattle.aodv_handlers.proofs.Lists.{from_place, from_end, empty_union, union_empty, union_assoc, empty_is, is_empty_same, entries_where, any_there}
+
+some_of : (o : Option ℕ) → is_some o ≡ true → (n : ℕ) × (o ≡ Some n)
+some_of (Some n) t = (n, refl)
+some_of None t = cc
+
+-- the destination at a place is in the mesh
+pub dest_below : (size : ℕ) (dests : Dests) (k : ℕ) (p : ℕ × ℕ) → AreDestsBelow size dests → slice_get (maps.entries dests) k ≡ Some p → p.0 < size
+dest_below size dests k p below is =
+    let there = some_of (maps.get dests p.0) (maps.contains_key-keys dests p.0 ∙ any_there (maps.entries dests) k p is) in
+    below p.0 there.0 there.1
+
+-- ---- who is told
+
+pub precs_from : Table → Dests → ℕ → NodeIds
+precs_from rt dests k = all_precs rt (map (λ e. e.0) (drop k (maps.entries dests)))
+
+-- all of them are those that were joined before place k, and those from there on
+pub record HasJoined (rt : Table) (dests : Dests) (k : ℕ) (all : NodeIds) : Type 0 where
+  pub whole : sets.union all (precs_from rt dests k) ≡ precs_of rt dests
+
+pub joined_none : (rt : Table) (dests : Dests) (all : NodeIds) → all ≡ sets.empty → HasJoined rt dests 0 all
+unfolding precs_of precs_from
+joined_none rt dests all is = record { whole = ap (λ s. sets.union s (precs_of rt dests)) is ∙ empty_union (precs_of rt dests) }
+
+pub joined_more : (rt : Table) (dests : Dests) (k : ℕ) (all all' s : NodeIds) (p : ℕ × ℕ) → HasJoined rt dests k all → slice_get (maps.entries dests) k ≡ Some p → s ≡ precs rt p.0 → all' ≡ sets.union all s → HasJoined rt dests (k + 1) all'
+unfolding precs_from
+joined_more rt dests k all all' s p has is s_is next =
+    let up : suc k ≡ k + 1 = omega arith in
+    let step : precs_from rt dests k ≡ sets.union s (precs_from rt dests (k + 1)) =
+    ap (λ es. all_precs rt (map (λ e. e.0) es)) (from_place (maps.entries dests) k p is)
+    ∙ (λ i. sets.union (sym s_is i) (precs_from rt dests (up i))) in
+    record {
+      whole = ap (λ t. sets.union t (precs_from rt dests (k + 1))) next
+          ∙ union_assoc all s (precs_from rt dests (k + 1))
+          ∙ ap (sets.union all) (sym step)
+          ∙ has.whole;
+    }
+
+pub joined_all : (rt : Table) (dests : Dests) (k : ℕ) (all : NodeIds) → HasJoined rt dests k all → length (maps.entries dests) ≤ k → all ≡ precs_of rt dests
+unfolding precs_from
+joined_all rt dests k all has end =
+    sym (union_empty all)
+    ∙ ap (λ es. sets.union all (all_precs rt (map (λ e. e.0) es))) (sym (from_end (maps.entries dests) k end))
+    ∙ has.whole
+
+-- ---- of what
+
+abbrev pub has_precs : Table → ℕ → Bool
+has_precs rt d = not (is_empty (precs rt d))
+
+pub told : Nodes → Table → List (ℕ × ℕ) → List (Addr × ℕ)
+told mesh rt es = map (addressed mesh) (where_key nat_cmp (has_precs rt) es)
+
+-- all pairs are those that were taken before place k, and those from there on
+pub record HasTold (mesh : Nodes) (rt : Table) (dests : Dests) (k : ℕ) (pairs : List (Addr × ℕ)) : Type 0 where
+  pub whole : pairs ++ told mesh rt (drop k (maps.entries dests)) ≡ told mesh rt (maps.entries dests)
+  pub few : length pairs ≤ k
+
+pub told_none : (mesh : Nodes) (rt : Table) (dests : Dests) (pairs : List (Addr × ℕ)) → pairs ≡ [] → HasTold mesh rt dests 0 pairs
+told_none mesh rt dests pairs is = record { whole = ap (λ ps. ps ++ told mesh rt (maps.entries dests)) is; few = let e = ap length is in omega arith }
+
+told_first : (mesh : Nodes) (rt : Table) (p : ℕ × ℕ) (es : List (ℕ × ℕ)) (b : Bool) → has_precs rt p.0 ≡ b → told mesh rt (p ∷ es) ≡ cond b (addressed mesh p ∷ told mesh rt es) (told mesh rt es)
+unfolding told
+told_first mesh rt p es true is = rw is refl
+told_first mesh rt p es false is = rw is refl
+
+told_step : (mesh : Nodes) (rt : Table) (dests : Dests) (k : ℕ) (p : ℕ × ℕ) (b : Bool) → slice_get (maps.entries dests) k ≡ Some p → has_precs rt p.0 ≡ b → told mesh rt (drop k (maps.entries dests)) ≡ cond b (addressed mesh p ∷ told mesh rt (drop (k + 1) (maps.entries dests))) (told mesh rt (drop (k + 1) (maps.entries dests)))
+told_step mesh rt dests k p b is has =
+    let up : suc k ≡ k + 1 = omega arith in
+    ap (told mesh rt) (from_place (maps.entries dests) k p is)
+    ∙ told_first mesh rt p (drop (suc k) (maps.entries dests)) b has
+    ∙ ap (λ n. cond b (addressed mesh p ∷ told mesh rt (drop n (maps.entries dests))) (told mesh rt (drop n (maps.entries dests)))) up
+
+pub told_more : (mesh : Nodes) (rt : Table) (dests : Dests) (k : ℕ) (pairs pairs' : List (Addr × ℕ)) (p : ℕ × ℕ) (x : Addr × ℕ) → HasTold mesh rt dests k pairs → slice_get (maps.entries dests) k ≡ Some p → has_precs rt p.0 ≡ true → x ≡ addressed mesh p → pairs' ≡ pairs ++ x ∷ [] → HasTold mesh rt dests (k + 1) pairs'
+told_more mesh rt dests k pairs pairs' p x has is some x_is next =
+    let after = told mesh rt (drop (k + 1) (maps.entries dests)) in
+    let few : length pairs ≤ k = has.few in
+    let size : length pairs' ≡ length pairs + 1 = ap length next ∙ simp length-append in
+    record {
+      whole = ap (λ ps. ps ++ after) (next ∙ ap (λ y. pairs ++ y ∷ []) x_is)
+          ∙ append_assoc pairs (addressed mesh p ∷ []) after
+          ∙ ap (λ ps. pairs ++ ps) (sym (told_step mesh rt dests k p true is some))
+          ∙ has.whole;
+      few = omega arith;
+    }
+
+pub told_same : (mesh : Nodes) (rt : Table) (dests : Dests) (k : ℕ) (pairs : List (Addr × ℕ)) (p : ℕ × ℕ) → HasTold mesh rt dests k pairs → slice_get (maps.entries dests) k ≡ Some p → has_precs rt p.0 ≡ false → HasTold mesh rt dests (k + 1) pairs
+told_same mesh rt dests k pairs p has is none =
+    let few : length pairs ≤ k = has.few in
+    record { whole = ap (λ ps. pairs ++ ps) (sym (told_step mesh rt dests k p false is none)) ∙ has.whole; few = omega arith }
+
+append-nil : {A : Type 0} (xs : List A) → xs ++ [] ≡ xs
+append-nil [] = refl
+append-nil (x ∷ xs) = ap (λ ys. x ∷ ys) (append-nil xs)
+
+pub told_all : (mesh : Nodes) (rt : Table) (dests : Dests) (k : ℕ) (pairs : List (Addr × ℕ)) → HasTold mesh rt dests k pairs → length (maps.entries dests) ≤ k → pairs ≡ pairs_of mesh (with_precs rt dests)
+unfolding told with_precs
+told_all mesh rt dests k pairs has end =
+    sym (append-nil pairs)
+    ∙ ap (λ es. pairs ++ told mesh rt es) (sym (from_end (maps.entries dests) k end))
+    ∙ has.whole
+    ∙ ap (map (addressed mesh)) (sym (entries_where dests (has_precs rt)))
+
+-- ---- what can be written
+
+no_cons : {A : Type 0} (x : A) (xs : List A) → x ∷ xs ≡ [] → ⊥
+no_cons x xs e = cc
+
+none_told : (rt : Table) (es : List (ℕ × ℕ)) → where_key nat_cmp (has_precs rt) es ≡ [] → all_precs rt (map (λ e. e.0) es) ≡ sets.empty
+none_told rt [] is = refl
+none_told rt (e ∷ es) is = case (is_empty (precs rt e.0)) refl is (none_told rt es)
+  where
+    case : (b : Bool) → is_empty (precs rt e.0) ≡ b → cond (not b) (e ∷ where_key nat_cmp (has_precs rt) es) (where_key nat_cmp (has_precs rt) es) ≡ [] → (where_key nat_cmp (has_precs rt) es ≡ [] → all_precs rt (map (λ e. e.0) es) ≡ sets.empty) → sets.union (precs rt e.0) (all_precs rt (map (λ e. e.0) es)) ≡ sets.empty
+    case true none rest later = ap (λ s. sets.union s (all_precs rt (map (λ e. e.0) es))) (is_empty_same (precs rt e.0) none) ∙ empty_union _ ∙ later rest
+    case false some rest later = absurd (no_cons e (where_key nat_cmp (has_precs rt) es) rest)
+
+positive : {A : Type 0} (xs : List A) → (xs ≡ [] → ⊥) → 1 ≤ length xs
+positive [] h = absurd (h refl)
+positive (x ∷ xs) h = omega arith
+
+length_map : {A B : Type 0} (f : A → B) (xs : List A) → length (map f xs) ≡ length xs
+length_map f [] = refl
+length_map f (x ∷ xs) = ap suc (length_map f xs)
+
+pub some_told : (mesh : Nodes) (rt : Table) (dests : Dests) → is_empty (precs_of rt dests) ≡ false → 1 ≤ length (pairs_of mesh (with_precs rt dests))
+unfolding precs_of with_precs
+some_told mesh rt dests some =
+    let list = maps.entries (with_precs rt dests) in
+    let there : 1 ≤ length list = positive list (λ none.
+    let all = none_told rt (maps.entries dests) (sym (entries_where dests (has_precs rt)) ∙ none) in
+    different (sym (ap is_empty all ∙ empty_is) ∙ some)) in
+    let same = length_map (addressed mesh) list in
+    omega arith
+  where
+    different : true ≡ false → ⊥
+    different e = cc
+
+true_of : (b : Bool) → T b → b ≡ true
+true_of true t = refl
+true_of false t = absurd t
+
+of_true : (b : Bool) → b ≡ true → T b
+of_true true t = tt
+of_true false t = cc
+
+lower : (o : Ordering) → is_lt o ≡ true → Less ≡ o
+lower Less h = refl
+lower Equal h = cc
+lower Greater h = cc
+
+lt_of : (a b : ℕ) → is_lt (nat_cmp a b) ≡ true → a < b
+lt_of a b t = ranked a b Less (lower (nat_cmp a b) t)
+
+pub rising : (mesh : Nodes) (es : List (ℕ × ℕ)) → IsMesh mesh → T (is_sorted nat_cmp es) → ((k : ℕ) (p : ℕ × ℕ) → slice_get es k ≡ Some p → p.0 < length mesh) → IsRising (map (addressed mesh) es)
+rising mesh [] is sorted below = tt
+rising mesh (e ∷ []) is sorted below = tt
+rising mesh (e ∷ f ∷ es) is sorted below =
+    let parts = and_parts (below_all nat_cmp e.0 (f ∷ es)) (is_sorted nat_cmp (f ∷ es)) (true_of _ sorted) in
+    let first = and_parts (is_lt (nat_cmp e.0 f.0)) (below_all nat_cmp e.0 es) parts.0 in
+    (is.rising e.0 f.0 (lt_of e.0 f.0 first.0) (below 1 f refl), rising mesh (f ∷ es) is (of_true _ parts.1) (λ k p at. below (suc k) p at))
+
+pub told_below : (size : ℕ) (rt : Table) (dests : Dests) → AreDestsBelow size dests → AreDestsBelow size (with_precs rt dests)
+unfolding with_precs
+told_below size rt dests below d n is =
+    below d n (kept_of (maps.get dests d) (has_precs rt d) n (sym (get-kept dests (has_precs rt) d) ∙ is))
+
+pub writable : (mesh : Nodes) (rt : Table) (dests : Dests) (pairs : List (Addr × ℕ)) → IsMesh mesh → AreDestsBelow (length mesh) dests → is_empty (precs_of rt dests) ≡ false → pairs ≡ pairs_of mesh (with_precs rt dests) → length pairs ≤ 200 → AreDestinations pairs
+writable mesh rt dests pairs mesh_is below some is few =
+    let from = some_told mesh rt dests some in
+    let long : length pairs ≡ length (pairs_of mesh (with_precs rt dests)) = ap length is in
+    record {
+      some = omega arith;
+      few = few;
+      rising = subst IsRising (sym is) (rising mesh (maps.entries (with_precs rt dests)) mesh_is (maps.entries_sorted (with_precs rt dests))
+          (λ k p at. dest_below (length mesh) (with_precs rt dests) k p (told_below (length mesh) rt dests below) at));
+    }

@@ -1,0 +1,29 @@
+use Rattle.std.proofs.Common.{◌≤◌, ◌+◌, length, sym, ◌∙◌, subst, arith}
+use Rattle.aodv_model.specs.Tables.{Dests, accepted_unreachable}
+use Rattle.aodv_meaning.specs.Meaning.{dests_in}
+use Rattle.aodv_handlers.proofs.Stated.{HasTaken, taken_none, taken_more, taken_same, taken_all, accepted_is}
+use Rattle.aodv_handlers.proofs.rerr.accepted_dests.Goals.{in-Some, in_default}
+use Rattle.aodv_handlers.proofs.rerr.accepted_dests.Goals as goal
+
+pub loop-d-init : goal.loop-d-init
+loop-d-init g c =
+    taken_none (accepted_unreachable (g.T.Table.entries c.args.table.now) c.args.from (dests_in c.args.mesh.now c.args.m.now)) c.new-dests.result c.new-dests.ensures.map c.new-dests.ensures.entries
+
+pub loop-d-preserved : goal.loop-d-preserved
+loop-d-preserved g c =
+    let rt = g.T.Table.entries c.args.table.now in
+    let accepted = accepted_unreachable rt c.args.from (dests_in c.args.mesh.now c.args.m.now) in
+    let is = accepted_is c.args.mesh.now rt c.args.from c.loop-d.d c.args.m.now _ c.accepted_number.result (c.stated_numbers-numbers.ensures.numbers c.loop-d.d) c.accepted_number.ensures in
+    elim c.match-accepted_number.branch [
+      | in-Some w ↦
+          subst (λ (dests : Dests). HasTaken accepted (c.loop-d.d + 1) dests) (sym w.dests-is)
+          (taken_more accepted c.loop-d.dests w.push.new.self c.loop-d.d w.in-Some.number c.loop-d.invariant (sym is ∙ w.in-Some.is) w.push.ensures.map w.push.ensures.entries)
+      | in_default w ↦
+          subst (λ (dests : Dests). HasTaken accepted (c.loop-d.d + 1) dests) (sym w.dests-is)
+          (taken_same accepted c.loop-d.dests c.loop-d.d c.loop-d.invariant (sym is ∙ w.in_default.is))
+    ]
+
+pub returns : goal.returns
+returns g c =
+    let end : length c.args.mesh.now ≤ c.loop-d.d = omega (arith, c.len-d-end.ensures.value, c.loop-d-test.false) in
+    taken_all c.args.mesh.now (g.T.Table.entries c.args.table.now) c.args.from c.args.m.now c.loop-d.d c.loop-d.dests c.requires.known c.loop-d.invariant end

@@ -1,0 +1,29 @@
+-- The state of the model that a core shows, and what every handler asks of a core and keeps.
+use Rattle.std.specs.Prelude.{◌≡◌, ◌<◌, ℕ, length}
+use Rattle.mesh_base.specs.declared.events.Variant.TheVariants.{Base}
+use Rattle.aodv_model.specs.Tables.{Table}
+use Rattle.aodv_model.specs.Cores.{Core, RouteRequest, RouteReply}
+use Rattle.aodv_model.specs.Soundness.{IsSoundCore}
+use Rattle.aodv_meaning.specs.Meaning.{status_of}
+use Rattle.aodv_handlers.specs.declared.cores.Core as code
+use Rattle.aodv_handlers.specs.declared.rreq.Wanted.{Wanted}
+use Rattle.aodv_handlers.specs.declared.unicast.Reply.{Reply}
+
+-- the model's core, of the protocol as AWN has it. `entries` says what the table's entries are
+abbrev pub shown : {T : Type 0} → (T → Table) → code.Core T → Core
+shown entries c = record { ip = c.me; variant = Base; sn = c.sn; rt = entries c.table; seen = (c.asked).pairs; store = (c.waiting).store }
+
+-- the core is that of a node of a mesh of this size: its parts are made for that size, and what it shows is sound
+pub record IsReady {T : Type 0} (nodes : T → ℕ) (entries : T → Table) (size : ℕ) (c : code.Core T) : Type 0 where
+  pub table : nodes c.table ≡ size
+  pub asked : length (c.asked).rooms ≡ size
+  pub waiting : length (c.waiting).rooms ≡ size
+  pub mine : c.me < size
+  pub sound : IsSoundCore size (shown entries c)
+
+-- a request and a reply of the code, over indices
+abbrev pub request_of : Wanted → RouteRequest
+request_of m = record { hops = m.hops; id = m.id; dip = m.dip; dsn = m.dsn; dsk = status_of m.known; oip = m.oip; osn = m.osn }
+
+abbrev pub reply_of : Reply → RouteReply
+reply_of m = record { hops = m.hops; dip = m.dip; dsn = m.dsn; oip = m.oip }

@@ -1,0 +1,18 @@
+//! The state of a node.
+use aodv_asked::Asked;
+use aodv_waiting::Waiting;
+
+/// The state of a node, but for its inbox.
+#[derive(Drop)]
+pub struct Core<T> {
+    /// The node's own index in the mesh.
+    pub me: usize,
+    /// Its own sequence number, at least 1.
+    pub sn: u32,
+    /// Its routing table.
+    pub table: T,
+    /// The route requests that it has seen.
+    pub asked: Asked,
+    /// The data that wait for a route.
+    pub waiting: Waiting,
+}

@@ -1,0 +1,117 @@
+//! Data: given to the node, and on their way through it (AWN's NEWPKT and PKT; RFC 3561, section
+//! 6.11).
+ghost use Rattle.std.specs.Prelude.{◌≡◌, ◌≢◌, ◌<◌, ◌≤◌, ℕ, ◌==◌, ◌&&◌, not, if◌then◌else◌, true, false, length, slice_index, Option, Some, None};
+ghost use Rattle.std.specs.FinMap as maps;
+ghost use Rattle.mesh_base.specs.Members.{NodeIds};
+ghost use Rattle.aodv_model.specs.Cores.{New};
+ghost use Rattle.aodv_entry.specs.Quality.{is_val};
+ghost use Rattle.aodv_model.specs.Handlers.{on_new, on_pkt, data_error as the_data_error, is_empty as no_node};
+ghost use Rattle.aodv_model.specs.Fullness.{turn_full};
+ghost use Rattle.aodv_model.specs.Soundness.{IsDatum};
+ghost use Rattle.aodv_wire.specs.declared.message.Message.TheVariants.{Parcel as a_parcel};
+ghost use Rattle.aodv_meaning.specs.Meaning.{index, stranger};
+ghost use Rattle.aodv_meaning.specs.Sent.{IsPacket};
+ghost use Rattle.aodv_handlers.specs.Shown.{shown, IsReady};
+ghost use Rattle.aodv_handlers.specs.Made.{Does, cast_of, number_full};
+
+use crate::cores::Core;
+use crate::errors::is_empty;
+use crate::places::place_of;
+use crate::routes::{has_route, next_hop};
+use crate::unicast::send_datum;
+use aodv_entry::{Entry, Flag};
+use aodv_table::Table;
+use aodv_wire::{DataView, write_rerr};
+use mesh_base::{Bytes, Cast, Effect, Full, Mesh, NodeSet, Packet};
+
+/// A datum given to the node. It comes back where it is for the node itself, which delivers it; else
+/// it waits.
+#[tactic(auto, unfolding(aodv_model::specs::Handlers::on_new))]
+pub fn new_packet<T: Table>(core: &mut Core<T>, dest: usize, body: Bytes) -> Option<Bytes>
+    requires datum { IsDatum body }
+    requires room { dest ≢ core.old.me → 0 < slice_index core.old.waiting.rooms dest }
+    ensures result { result ≡ (if dest == core.old.me then Some body else None) }
+    ensures core { shown T.entries core.new ≡ (on_new (shown T.entries core.old) body dest).core }
+    ensures free { (range : NodeIds) → turn_full (shown T.entries core.old) range (New body dest) ≡ None }
+    ensures ready { (size : ℕ) → IsReady T.nodes T.entries size core.old → IsReady T.nodes T.entries size core.new }
+    ensures table { core.new.table ≡ core.old.table }
+    ensures asked { core.new.asked ≡ core.old.asked }
+{
+    if dest == core.me {
+        return Some(body);
+    }
+    core.waiting.add(dest, body);
+    None
+}
+
+// Whether the entry is invalid and has precursors.
+fn has_lost_users(e: &Entry) -> bool
+    ensures { result ≡ (not (is_val e.now.flag) && not (no_node e.now.pre)) }
+{
+    e.flag == Flag::Inv && !is_empty(&e.pre)
+}
+
+// The error for data to d that can't go on: to d's precursors, where its entry is invalid.
+#[tactic(auto, unfolding(aodv_model::specs::Handlers::data_error))]
+fn data_error<T: Table>(core: &Core<T>, mesh: &Mesh, d: usize, out: &mut Packet) -> Cast
+    requires nodes { T.nodes core.now.table ≡ length mesh.now }
+    requires below { d < length mesh.now }
+    ensures cast { result ≡ cast_of (the_data_error (shown T.entries core.now) d) }
+    ensures packet { IsPacket mesh.now out.new.items (the_data_error (shown T.entries core.now) d) }
+{
+    match core.table.get(d) {
+        Some(e) if has_lost_users(&e) => {
+            write_rerr(&[(mesh.at(d), e.dsn)], out);
+            Cast::Many(e.pre)
+        }
+        _ => {
+            out.clear();
+            Cast::Nothing
+        }
+    }
+}
+
+/// A data packet: delivered where it is for this node, sent on where there is a valid route, and
+/// else lost.
+#[tactic(auto, unfolding(aodv_model::specs::Handlers::on_pkt))]
+pub fn on_data<T: Table>(
+    core: &mut Core<T>,
+    mesh: &Mesh,
+    range: &NodeSet,
+    m: &DataView<'_>,
+    out: &mut Packet,
+) -> Result<Effect, Full>
+    requires ready { IsReady T.nodes T.entries (length mesh.now) core.old }
+    requires known { stranger mesh.now (a_parcel m.now) ≡ None }
+    requires datum { IsDatum m.now.body }
+    ensures does { let did = on_pkt (shown T.entries core.old) range.now m.now.body (index mesh.now m.now.dip) (index mesh.now m.now.oip) in
+        Does mesh.now (number_full did) (shown T.entries core.old) did result (shown T.entries core.new) out.new.items }
+    ensures ready { IsReady T.nodes T.entries (length mesh.now) core.new }
+    ensures rooms { T.rooms core.new.table ≡ T.rooms core.old.table }
+    ensures asked { core.new.asked ≡ core.old.asked }
+{
+    let dip = place_of(mesh, m.dip());
+    let oip = place_of(mesh, m.oip());
+    if dip == core.me {
+        out.clear();
+        return Ok(Effect {
+            deliver: true,
+            lost: false,
+            broken: None,
+            cast: Cast::Nothing,
+        });
+    }
+    if !has_route(&core.table, dip) {
+        let cast = data_error(core, mesh, dip, out);
+        return Ok(Effect {
+            deliver: false,
+            lost: true,
+            broken: None,
+            cast,
+        });
+    }
+    let towards = next_hop(&core.table, dip);
+    let mut effect = send_datum(core, mesh, range, towards, dip, oip, m.body(), out)?;
+    effect.lost = effect.broken.is_some();
+    Ok(effect)
+}

@@ -1,0 +1,116 @@
+//! What a node does of its own accord: it sends a datum that waited, and asks for a route (AWN's
+//! main process; RFC 3561, section 6.3).
+ghost use Rattle.std.specs.Prelude.{◌≡◌, ◌≢◌, ◌<◌, ◌≤◌, ℕ, true, false, length, slice_index, Some, None};
+ghost use Rattle.std.specs.FinMap as maps;
+ghost use Rattle.aodv_model.specs.Tables.{sqn, sqnf};
+ghost use Rattle.aodv_model.specs.Handlers.{may_send as can_send, may_ask as can_ask, send, ask};
+ghost use Rattle.aodv_model.specs.Fullness.{send_full, ask_full};
+ghost use Rattle.aodv_entry.specs.Quality.{is_kno};
+ghost use Rattle.aodv_handlers.specs.Shown.{shown, IsReady};
+ghost use Rattle.aodv_handlers.specs.Made.{Does};
+
+use crate::cores::Core;
+use crate::routes::{has_route, next_hop};
+use crate::unicast::{casting, fail};
+use aodv_entry::{Known, inc};
+use aodv_table::Table;
+use aodv_wire::{Rreq, write_data, write_rreq};
+use mesh_base::{Cast, Effect, Full, Mesh, NodeSet, Packet};
+
+/// Whether a datum waits for `dest` and there is a valid route to it.
+pub fn may_send<T: Table>(core: &Core<T>, dest: usize) -> bool
+    requires { dest < T.nodes core.now.table }
+    ensures { result ≡ can_send (shown T.entries core.now) dest }
+{
+    core.waiting.has(dest) && has_route(&core.table, dest)
+}
+
+/// Whether a datum waits for `dest`, there is no valid route to it, and a request for one is still
+/// to be made.
+pub fn may_ask<T: Table>(core: &Core<T>, dest: usize) -> bool
+    requires { dest < T.nodes core.now.table }
+    ensures { result ≡ can_ask (shown T.entries core.now) dest }
+{
+    core.waiting.has(dest) && core.waiting.needs_request(dest) && !has_route(&core.table, dest)
+}
+
+/// Sends the first datum that waits for `dest`. It stays where the next hop isn't in range.
+#[tactic(auto, unfolding(aodv_model::specs::Handlers::send, aodv_model::specs::Handlers::unicast))]
+pub fn send_stored<T: Table>(
+    core: &mut Core<T>,
+    mesh: &Mesh,
+    range: &NodeSet,
+    dest: usize,
+    out: &mut Packet,
+) -> Result<Effect, Full>
+    requires ready { IsReady T.nodes T.entries (length mesh.now) core.old }
+    requires dest { dest < length mesh.now }
+    requires may { can_send (shown T.entries core.old) dest ≡ true }
+    ensures does { let c = shown T.entries core.old in
+        Does mesh.now (send_full c range.now dest) c (send c range.now dest) result (shown T.entries core.new) out.new.items }
+    ensures ready { IsReady T.nodes T.entries (length mesh.now) core.new }
+    ensures rooms { T.rooms core.new.table ≡ T.rooms core.old.table }
+    ensures asked { core.new.asked ≡ core.old.asked }
+{
+    let towards = next_hop(&core.table, dest);
+    if !range.has(towards) {
+        return fail(core, mesh, towards, out);
+    }
+    match core.waiting.first(dest) {
+        Some(body) => write_data(mesh.at(dest), mesh.at(core.me), body, out),
+        None => unreachable!(),
+    }
+    core.waiting.drop_first(dest);
+    Ok(casting(Cast::One(towards)))
+}
+
+// The number of d and whether it is known.
+fn last_known<T: Table>(table: &T, d: usize) -> (u32, bool)
+    requires { d < T.nodes table.now }
+    ensures { result ≡ (sqn (T.entries table.now) d, is_kno (sqnf (T.entries table.now) d)) }
+{
+    match table.get(d) {
+        Some(e) => (e.dsn, e.dsk == Known::Kno),
+        None => (0, false),
+    }
+}
+
+/// Asks for a route to `dest`: the node raises its own number, and broadcasts a request with it.
+#[tactic(auto, unfolding(aodv_model::specs::Handlers::ask))]
+pub fn start_request<T: Table>(
+    core: &mut Core<T>,
+    mesh: &Mesh,
+    dest: usize,
+    out: &mut Packet,
+) -> Result<Effect, Full>
+    requires ready { IsReady T.nodes T.entries (length mesh.now) core.old }
+    requires dest { dest < length mesh.now }
+    requires may { can_ask (shown T.entries core.old) dest ≡ true }
+    requires asked { 0 < slice_index core.old.asked.rooms core.old.me }
+    ensures does { let c = shown T.entries core.old in
+        Does mesh.now (ask_full c) c (ask c dest) result (shown T.entries core.new) out.new.items }
+    ensures ready { IsReady T.nodes T.entries (length mesh.now) core.new }
+    ensures table { core.new.table ≡ core.old.table }
+{
+    let Some(sn) = inc(core.sn) else {
+        return Err(Full::Number);
+    };
+    let Some(id) = core.asked.next_id(core.me) else {
+        return Err(Full::Id);
+    };
+    let (dsn, known) = last_known(&core.table, dest);
+    let request = Rreq {
+        hops: 0,
+        id,
+        dip: mesh.at(dest),
+        dsn,
+        known,
+        oip: mesh.at(core.me),
+        osn: sn,
+    };
+    write_rreq(&request, out);
+    core.sn = sn;
+    core.asked.insert(core.me, id);
+    core.waiting.unset_req(dest);
+    Ok(casting(Cast::All))
+}

@@ -1,0 +1,134 @@
+//! Route errors, and links that are broken (RFC 3561, section 6.11).
+ghost use Rattle.std.specs.Prelude.{◌≡◌, ◌<◌, ◌≤◌, ℕ, false, length, MatchResult};
+ghost use Rattle.std.specs.FinMap as maps;
+ghost use Rattle.aodv_model.specs.Tables.{precs};
+ghost use Rattle.aodv_model.specs.Cores.{Rerr};
+ghost use Rattle.aodv_model.specs.Handlers.{is_empty as no_node, precs_of, with_precs, error_cast as the_error_cast, retract as retracted, link_broken as broken};
+ghost use Rattle.aodv_model.specs.Soundness.{AreDestsBelow};
+ghost use Rattle.mesh_base.specs.declared.events.Variant.TheVariants.{Base};
+ghost use Rattle.aodv_meaning.specs.Sent.{IsSent, IsPacket};
+ghost use Rattle.aodv_handlers.specs.Shown.{shown, IsReady};
+ghost use Rattle.aodv_handlers.specs.Made.{cast_of, only_cast, IsMade, IsRefused, number_full};
+
+use crate::cores::Core;
+use aodv_entry::Dests;
+use aodv_table::Table;
+use aodv_wire::write_rerr;
+use arrayvec::ArrayVec;
+use mesh_base::{Addr, Cast, Full, MOST_NODES, Mesh, NodeSet, Packet};
+
+/// The precursors of d.
+pub(crate) fn precursors<T: Table>(table: &T, d: usize) -> NodeSet
+    requires { d < T.nodes table.now }
+    ensures { result ≡ precs (T.entries table.now) d }
+{
+    match table.get(d) {
+        Some(e) => e.pre,
+        None => NodeSet::new(),
+    }
+}
+
+/// Whether no node is in the set.
+pub(crate) fn is_empty(s: &NodeSet) -> bool
+    ensures { result ≡ no_node s.now }
+{
+    s.is_empty()
+}
+
+// The precursors of all these destinations.
+fn all_precursors<T: Table>(table: &T, dests: &Dests) -> NodeSet
+    requires { AreDestsBelow (T.nodes table.now) dests.now }
+    ensures { result ≡ precs_of (T.entries table.now) dests.now }
+{
+    let mut all = NodeSet::new();
+    for k in 0..dests.len() {
+        let (d, _) = dests.pair(k);
+        all.join(&precursors(table, d));
+    }
+    all
+}
+
+// Writes the route error of those destinations that have precursors. There is one.
+fn write_error<T: Table>(table: &T, mesh: &Mesh, dests: &Dests, out: &mut Packet)
+    requires nodes { T.nodes table.now ≡ length mesh.now }
+    requires below { AreDestsBelow (length mesh.now) dests.now }
+    requires some { no_node (precs_of (T.entries table.now) dests.now) ≡ false }
+    ensures { IsSent mesh.now out.new.items (Rerr (with_precs (T.entries table.now) dests.now)) }
+{
+    let _rising = mesh.len();
+    let mut pairs: ArrayVec<(Addr, u32), MOST_NODES> = ArrayVec::new();
+    for k in 0..dests.len() {
+        let (d, number) = dests.pair(k);
+        if !is_empty(&precursors(table, d)) {
+            pairs.push((mesh.at(d), number));
+        }
+    }
+    write_rerr(pairs.as_slice(), out);
+}
+
+// The route error of these destinations, to all their precursors.
+#[tactic(auto, unfolding(aodv_model::specs::Handlers::error_cast))]
+fn error_cast<T: Table>(table: &T, mesh: &Mesh, dests: &Dests, out: &mut Packet) -> Cast
+    requires nodes { T.nodes table.now ≡ length mesh.now }
+    requires below { AreDestsBelow (length mesh.now) dests.now }
+    ensures cast { result ≡ cast_of (the_error_cast Base (T.entries table.now) dests.now) }
+    ensures packet { IsPacket mesh.now out.new.items (the_error_cast Base (T.entries table.now) dests.now) }
+{
+    let to = all_precursors(table, dests);
+    if is_empty(&to) {
+        out.clear();
+        return Cast::Nothing;
+    }
+    write_error(table, mesh, dests, out);
+    Cast::Many(to)
+}
+
+/// The routes to these destinations are gone: their entries become invalid with the numbers stated,
+/// data that wait for them need a request, and their precursors are told.
+#[tactic(auto, unfolding(aodv_model::specs::Handlers::retract))]
+pub(crate) fn retract<T: Table>(
+    core: &mut Core<T>,
+    mesh: &Mesh,
+    dests: &Dests,
+    out: &mut Packet,
+) -> Cast
+    requires nodes { T.nodes core.old.table ≡ length mesh.now }
+    requires below { AreDestsBelow (length mesh.now) dests.now }
+    ensures core { shown T.entries core.new ≡ (retracted (shown T.entries core.old) dests.now).core }
+    ensures cast { result ≡ cast_of (retracted (shown T.entries core.old) dests.now).effect.cast }
+    ensures packet { IsPacket mesh.now out.new.items (retracted (shown T.entries core.old) dests.now).effect.cast }
+    ensures rooms { T.rooms core.new.table ≡ T.rooms core.old.table }
+    ensures nodes { T.nodes core.new.table ≡ T.nodes core.old.table }
+    ensures asked { core.new.asked ≡ core.old.asked }
+    ensures waiting { core.new.waiting.rooms ≡ core.old.waiting.rooms }
+{
+    let cast = error_cast(&core.table, mesh, dests, out);
+    core.table.invalidate(dests);
+    core.waiting.set_req(dests);
+    cast
+}
+
+/// The link to `next` is broken: all valid routes by it are gone, each with its number raised, and
+/// their precursors are told. Where a number can't be raised, nothing changes.
+#[tactic(auto, unfolding(aodv_model::specs::Handlers::link_broken))]
+pub fn link_broken<T: Table>(
+    core: &mut Core<T>,
+    mesh: &Mesh,
+    next: usize,
+    out: &mut Packet,
+) -> Result<Cast, Full>
+    requires ready { IsReady T.nodes T.entries (length mesh.now) core.old }
+    ensures does { let did = broken (shown T.entries core.old) next in
+        MatchResult result
+        (λ cast. IsMade mesh.now (number_full did) did (only_cast cast) (shown T.entries core.new) out.new.items)
+        (λ full. IsRefused (number_full did) (shown T.entries core.old) full (shown T.entries core.new)) }
+    ensures ready { IsReady T.nodes T.entries (length mesh.now) core.new }
+    ensures rooms { T.rooms core.new.table ≡ T.rooms core.old.table }
+    ensures asked { core.new.asked ≡ core.old.asked }
+{
+    let mut dests = Dests::new();
+    match core.table.dests_via(next, &mut dests) {
+        Ok(()) => Ok(retract(core, mesh, &dests, out)),
+        Err(_) => Err(Full::Number),
+    }
+}

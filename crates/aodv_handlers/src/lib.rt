@@ -1,0 +1,26 @@
+//! What one AODV node does with each message, with each datum given to it, and of its own accord
+//! (AWN, arXiv 1312.7645, section 6; RFC 3561, section 6). A handler changes the node's core, and
+//! leaves in `out` the packet that is cast; where a counter would overflow it changes nothing.
+#![tactic(auto)]
+
+mod cores;
+mod data;
+mod discovery;
+mod errors;
+mod places;
+mod rerr;
+mod routes;
+mod rrep;
+mod rreq;
+mod unicast;
+
+pub use cores::Core;
+pub use data::{new_packet, on_data};
+pub use discovery::{may_ask, may_send, send_stored, start_request};
+pub use errors::link_broken;
+pub use rerr::on_rerr;
+pub use rrep::on_rrep;
+pub use rreq::on_rreq;
+
+#[cfg(test)]
+mod tests;

@@ -1,0 +1,125 @@
+//! Route replies (AWN's RREP; RFC 3561, section 6.7).
+ghost use Rattle.std.specs.Prelude.{◌≡◌, ◌≢◌, ◌<◌, ◌≤◌, ℕ, ◌==◌, ◌||◌, not, true, false, length, Some, None};
+ghost use Rattle.std.specs.FinMap as maps;
+ghost use Rattle.std.specs.FinSet as sets;
+ghost use Rattle.aodv_model.specs.Tables.{in_kD, in_vD, nhop};
+ghost use Rattle.aodv_model.specs.Cores.{Rrep as a_reply, Heard};
+ghost use Rattle.aodv_model.specs.Handlers.{forward_reply as forwarded, turn};
+ghost use Rattle.aodv_model.specs.Fullness.{turn_full};
+ghost use Rattle.aodv_wire.specs.declared.message.Message.TheVariants.{Rrep as a_rrep};
+ghost use Rattle.aodv_meaning.specs.Meaning.{index, reply_in, stranger};
+ghost use Rattle.aodv_handlers.specs.Shown.{shown, IsReady, reply_of};
+ghost use Rattle.aodv_handlers.specs.Made.{Does, number_full};
+
+use crate::cores::Core;
+use crate::places::place_of;
+use crate::routes::{has_route, join_precursor, neighbour_entry, next_hop, route_entry};
+use crate::unicast::{Reply, casting, send_reply};
+use aodv_table::Table;
+use aodv_wire::Rrep;
+use mesh_base::{Cast, Effect, Full, Mesh, NodeSet, Packet};
+
+// The node passes the reply on towards its originator.
+#[tactic(auto, unfolding(aodv_model::specs::Handlers::forward_reply))]
+fn forward_reply<T: Table>(
+    core: &mut Core<T>,
+    mesh: &Mesh,
+    range: &NodeSet,
+    m: Reply,
+    out: &mut Packet,
+) -> Result<Effect, Full>
+    requires ready { IsReady T.nodes T.entries (length mesh.now) core.old }
+    requires dip { m.dip < length mesh.now }
+    requires oip { m.oip < length mesh.now }
+    requires dsn { 1 ≤ m.dsn }
+    requires hops { m.hops < 255 }
+    requires entry { in_kD (T.entries core.old.table) m.dip ≡ true }
+    ensures does { let did = forwarded (shown T.entries core.old) range.now (reply_of m) in
+        Does mesh.now (number_full did) (shown T.entries core.old) did result (shown T.entries core.new) out.new.items }
+    ensures ready { IsReady T.nodes T.entries (length mesh.now) core.new }
+    ensures rooms { T.rooms core.new.table ≡ T.rooms core.old.table }
+    ensures asked { core.new.asked ≡ core.old.asked }
+{
+    let _few = mesh.len();
+    let towards = next_hop(&core.table, m.oip);
+    let onward = next_hop(&core.table, m.dip);
+    let kept_dip = core.table.get(m.dip);
+    let kept_onward = core.table.get(onward);
+    join_precursor(&mut core.table, m.dip, towards);
+    join_precursor(&mut core.table, onward, towards);
+    let reply = Reply {
+        hops: m.hops + 1,
+        dip: m.dip,
+        dsn: m.dsn,
+        oip: m.oip,
+    };
+    match send_reply(core, mesh, range, towards, reply, out) {
+        Ok(effect) => Ok(effect),
+        Err(full) => {
+            core.table.put(onward, kept_onward);
+            core.table.put(m.dip, kept_dip);
+            Err(full)
+        }
+    }
+}
+
+// Whether a reply for oip goes no further.
+fn ends_here<T: Table>(core: &Core<T>, changed: bool, oip: usize) -> bool
+    requires { oip < T.nodes core.now.table }
+    ensures { result ≡ (not changed || ((oip == core.now.me) || not (in_vD (T.entries core.now.table) oip))) }
+{
+    !changed || oip == core.me || !has_route(&core.table, oip)
+}
+
+/// A route reply from a neighbour. It ends here where the node asked for it, where it teaches
+/// nothing, and where the node has no route back to who did ask.
+pub fn on_rrep<T: Table>(
+    core: &mut Core<T>,
+    mesh: &Mesh,
+    range: &NodeSet,
+    from: usize,
+    m: &Rrep,
+    out: &mut Packet,
+) -> Result<Effect, Full>
+    requires ready { IsReady T.nodes T.entries (length mesh.now) core.old }
+    requires known { stranger mesh.now (a_rrep m.now) ≡ None }
+    requires dsn { 1 ≤ m.now.dsn }
+    requires from { from < length mesh.now }
+    requires other { from ≢ core.old.me }
+    requires row_from { sets.contains (T.rooms core.old.table) from ≡ true }
+    requires row_dip { sets.contains (T.rooms core.old.table) (index mesh.now m.now.dip) ≡ true }
+    ensures does { let c = shown T.entries core.old in
+        let item = Heard from (a_reply (reply_in mesh.now m.now)) in
+        Does mesh.now (turn_full c range.now item) c (turn c range.now item) result (shown T.entries core.new) out.new.items }
+    ensures ready { IsReady T.nodes T.entries (length mesh.now) core.new }
+    ensures rooms { T.rooms core.new.table ≡ T.rooms core.old.table }
+    ensures asked { core.new.asked ≡ core.old.asked }
+{
+    if m.hops == 255 {
+        return Err(Full::Hops);
+    }
+    let dip = place_of(mesh, m.dip);
+    let oip = place_of(mesh, m.oip);
+    let kept_from = core.table.get(from);
+    let kept_dip = core.table.get(dip);
+    core.table.update(from, neighbour_entry(from));
+    let changed = core.table.update(dip, route_entry(m.dsn, m.hops, from));
+    if ends_here(core, changed, oip) {
+        out.clear();
+        return Ok(casting(Cast::Nothing));
+    }
+    let reply = Reply {
+        hops: m.hops,
+        dip,
+        dsn: m.dsn,
+        oip,
+    };
+    match forward_reply(core, mesh, range, reply, out) {
+        Ok(effect) => Ok(effect),
+        Err(full) => {
+            core.table.put(dip, kept_dip);
+            core.table.put(from, kept_from);
+            Err(full)
+        }
+    }
+}

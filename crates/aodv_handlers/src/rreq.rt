@@ -1,0 +1,252 @@
+//! Route requests (AWN's RREQ; RFC 3561, sections 6.5 and 6.6).
+ghost use Rattle.std.specs.Prelude.{◌≡◌, ◌≢◌, ◌<◌, ◌≤◌, ℕ, true, length, Some, None, IfSome, IsNone, is_some, max, slice_index};
+ghost use Rattle.std.specs.FinMap as maps;
+ghost use Rattle.std.specs.FinSet as sets;
+ghost use Rattle.aodv_model.specs.Cores.{Rreq as a_request, Heard};
+ghost use Rattle.aodv_model.specs.Handlers.{reply_for_self as own_reply, reply_from_table as table_reply, forward_request as forwarded, on_new_rreq, can_answer, turn};
+ghost use Rattle.aodv_model.specs.Fullness.{turn_full};
+ghost use Rattle.aodv_wire.specs.declared.message.Message.TheVariants.{Rreq as a_rreq};
+ghost use Rattle.aodv_meaning.specs.Meaning.{index, request_in, stranger};
+ghost use Rattle.aodv_handlers.specs.Shown.{shown, IsReady, request_of};
+ghost use Rattle.aodv_handlers.specs.Made.{Does, IsMade, number_full};
+
+use crate::cores::Core;
+use crate::places::place_of;
+use crate::routes::{join_precursor, neighbour_entry, next_hop, number, route_entry};
+use crate::unicast::{Reply, casting, send_reply};
+use aodv_entry::{Entry, Flag, Known};
+use aodv_table::Table;
+use aodv_wire::{Rreq, write_rreq};
+use mesh_base::{Cast, Effect, Full, Mesh, NodeSet, Packet};
+
+/// A route request, over indices.
+#[derive(Clone, Copy)]
+pub(crate) struct Wanted {
+    pub(crate) hops: u8,
+    pub(crate) id: u32,
+    pub(crate) dip: usize,
+    pub(crate) dsn: u32,
+    pub(crate) known: bool,
+    pub(crate) oip: usize,
+    pub(crate) osn: u32,
+}
+
+fn larger(a: u32, b: u32) -> u32
+    ensures { result ≡ max a b }
+{
+    if a < b { b } else { a }
+}
+
+// The node is the one asked for. It raises its own number to the one that is wanted.
+#[tactic(auto, unfolding(aodv_model::specs::Handlers::reply_for_self))]
+fn reply_for_self<T: Table>(
+    core: &mut Core<T>,
+    mesh: &Mesh,
+    range: &NodeSet,
+    m: Wanted,
+    out: &mut Packet,
+) -> Result<Effect, Full>
+    requires ready { IsReady T.nodes T.entries (length mesh.now) core.old }
+    requires dip { m.dip < length mesh.now }
+    requires oip { m.oip < length mesh.now }
+    ensures does { let did = own_reply (shown T.entries core.old) range.now (request_of m) in
+        Does mesh.now (number_full did) (shown T.entries core.old) did result (shown T.entries core.new) out.new.items }
+    ensures ready { IsReady T.nodes T.entries (length mesh.now) core.new }
+    ensures rooms { T.rooms core.new.table ≡ T.rooms core.old.table }
+    ensures asked { core.new.asked ≡ core.old.asked }
+{
+    let sn = core.sn;
+    core.sn = larger(sn, m.dsn);
+    let towards = next_hop(&core.table, m.oip);
+    let reply = Reply {
+        hops: 0,
+        dip: m.dip,
+        dsn: core.sn,
+        oip: m.oip,
+    };
+    match send_reply(core, mesh, range, towards, reply, out) {
+        Ok(effect) => Ok(effect),
+        Err(full) => {
+            core.sn = sn;
+            Err(full)
+        }
+    }
+}
+
+// The entry of the node that is asked for, where it is new enough to answer with.
+fn route_to_answer_with<T: Table>(core: &Core<T>, m: Wanted) -> Option<Entry>
+    requires { m.dip < T.nodes core.now.table }
+    ensures can { is_some result ≡ can_answer (shown T.entries core.now) (request_of m) }
+    ensures route { IfSome result (λ e. maps.get (T.entries core.now.table) m.dip ≡ Some e) }
+    ensures room { IfSome result (λ _. sets.contains (T.rooms core.now.table) m.dip ≡ true) }
+{
+    let route = core.table.get(m.dip)?;
+    if route.flag == Flag::Val && m.dsn <= route.dsn && route.dsk == Known::Kno {
+        Some(route)
+    } else {
+        None
+    }
+}
+
+// The node has a route to the node asked for, and answers in its place.
+#[tactic(auto, unfolding(aodv_model::specs::Handlers::reply_from_table))]
+fn reply_from_table<T: Table>(
+    core: &mut Core<T>,
+    mesh: &Mesh,
+    range: &NodeSet,
+    from: usize,
+    m: Wanted,
+    route: Entry,
+    out: &mut Packet,
+) -> Result<Effect, Full>
+    requires ready { IsReady T.nodes T.entries (length mesh.now) core.old }
+    requires dip { m.dip < length mesh.now }
+    requires oip { m.oip < length mesh.now }
+    requires from { from < length mesh.now }
+    requires room_dip { sets.contains (T.rooms core.old.table) m.dip ≡ true }
+    requires room_oip { sets.contains (T.rooms core.old.table) m.oip ≡ true }
+    requires route { maps.get (T.entries core.old.table) m.dip ≡ Some route }
+    requires can { can_answer (shown T.entries core.old) (request_of m) ≡ true }
+    ensures does { let did = table_reply (shown T.entries core.old) range.now from (request_of m) in
+        Does mesh.now (number_full did) (shown T.entries core.old) did result (shown T.entries core.new) out.new.items }
+    ensures ready { IsReady T.nodes T.entries (length mesh.now) core.new }
+    ensures rooms { T.rooms core.new.table ≡ T.rooms core.old.table }
+    ensures asked { core.new.asked ≡ core.old.asked }
+{
+    let _few = mesh.len();
+    let kept_oip = core.table.get(m.oip);
+    let towards = next_hop(&core.table, m.oip);
+    join_precursor(&mut core.table, m.dip, from);
+    join_precursor(&mut core.table, m.oip, route.next);
+    let reply = Reply {
+        hops: route.hops,
+        dip: m.dip,
+        dsn: route.dsn,
+        oip: m.oip,
+    };
+    match send_reply(core, mesh, range, towards, reply, out) {
+        Ok(effect) => Ok(effect),
+        Err(full) => {
+            core.table.put(m.oip, kept_oip);
+            core.table.put(m.dip, Some(route));
+            Err(full)
+        }
+    }
+}
+
+// The node passes the request on.
+#[tactic(auto, unfolding(aodv_model::specs::Handlers::forward_request))]
+fn forward_request<T: Table>(core: &Core<T>, mesh: &Mesh, m: Wanted, out: &mut Packet) -> Effect
+    requires ready { IsReady T.nodes T.entries (length mesh.now) core.now }
+    requires dip { m.dip < length mesh.now }
+    requires oip { m.oip < length mesh.now }
+    requires osn { 1 ≤ m.osn }
+    requires hops { m.hops < 255 }
+    ensures { let did = forwarded (shown T.entries core.now) (request_of m) in
+        IsMade mesh.now (number_full did) did result (shown T.entries core.now) out.new.items }
+{
+    let mine = number(&core.table, m.dip);
+    let request = Rreq {
+        hops: m.hops + 1,
+        id: m.id,
+        dip: mesh.at(m.dip),
+        dsn: larger(mine, m.dsn),
+        known: m.known,
+        oip: mesh.at(m.oip),
+        osn: m.osn,
+    };
+    write_rreq(&request, out);
+    casting(Cast::All)
+}
+
+// A request that is new, in the core after its updates.
+#[tactic(auto, unfolding(aodv_model::specs::Handlers::on_new_rreq))]
+fn on_new<T: Table>(
+    core: &mut Core<T>,
+    mesh: &Mesh,
+    range: &NodeSet,
+    from: usize,
+    m: Wanted,
+    out: &mut Packet,
+) -> Result<Effect, Full>
+    requires ready { IsReady T.nodes T.entries (length mesh.now) core.old }
+    requires dip { m.dip < length mesh.now }
+    requires oip { m.oip < length mesh.now }
+    requires from { from < length mesh.now }
+    requires osn { 1 ≤ m.osn }
+    requires hops { m.hops < 255 }
+    requires room { sets.contains (T.rooms core.old.table) m.oip ≡ true }
+    ensures does { let did = on_new_rreq (shown T.entries core.old) range.now from (request_of m) in
+        Does mesh.now (number_full did) (shown T.entries core.old) did result (shown T.entries core.new) out.new.items }
+    ensures ready { IsReady T.nodes T.entries (length mesh.now) core.new }
+    ensures rooms { T.rooms core.new.table ≡ T.rooms core.old.table }
+    ensures asked { core.new.asked ≡ core.old.asked }
+{
+    if m.dip == core.me {
+        return reply_for_self(core, mesh, range, m, out);
+    }
+    match route_to_answer_with(core, m) {
+        Some(route) => reply_from_table(core, mesh, range, from, m, route, out),
+        None => Ok(forward_request(core, mesh, m, out)),
+    }
+}
+
+/// A route request from a neighbour. One that was seen before teaches no more than that the
+/// neighbour is there.
+pub fn on_rreq<T: Table>(
+    core: &mut Core<T>,
+    mesh: &Mesh,
+    range: &NodeSet,
+    from: usize,
+    m: &Rreq,
+    out: &mut Packet,
+) -> Result<Effect, Full>
+    requires ready { IsReady T.nodes T.entries (length mesh.now) core.old }
+    requires known { stranger mesh.now (a_rreq m.now) ≡ None }
+    requires osn { 1 ≤ m.now.osn }
+    requires from { from < length mesh.now }
+    requires other { from ≢ core.old.me }
+    requires row_from { sets.contains (T.rooms core.old.table) from ≡ true }
+    requires row_oip { sets.contains (T.rooms core.old.table) (index mesh.now m.now.oip) ≡ true }
+    requires asked { 0 < slice_index core.old.asked.rooms (index mesh.now m.now.oip) }
+    ensures does { let c = shown T.entries core.old in
+        let item = Heard from (a_request (request_in mesh.now m.now)) in
+        Does mesh.now (turn_full c range.now item) c (turn c range.now item) result (shown T.entries core.new) out.new.items }
+    ensures ready { IsReady T.nodes T.entries (length mesh.now) core.new }
+    ensures rooms { T.rooms core.new.table ≡ T.rooms core.old.table }
+{
+    let dip = place_of(mesh, m.dip);
+    let oip = place_of(mesh, m.oip);
+    if core.asked.has(oip, m.id) {
+        core.table.update(from, neighbour_entry(from));
+        out.clear();
+        return Ok(casting(Cast::Nothing));
+    }
+    if m.hops == 255 {
+        return Err(Full::Hops);
+    }
+    let wanted = Wanted {
+        hops: m.hops,
+        id: m.id,
+        dip,
+        dsn: m.dsn,
+        known: m.known,
+        oip,
+        osn: m.osn,
+    };
+    let kept_from = core.table.get(from);
+    let kept_oip = core.table.get(oip);
+    core.table.update(from, neighbour_entry(from));
+    core.table.update(oip, route_entry(m.osn, m.hops, from));
+    match on_new(core, mesh, range, from, wanted, out) {
+        Ok(effect) => {
+            core.asked.insert(oip, m.id);
+            Ok(effect)
+        }
+        Err(full) => {
+            core.table.put(oip, kept_oip);
+            core.table.put(from, kept_from);
+            Err(full)
+        }
+    }
+}

@@ -1,0 +1,119 @@
+//! Unicasts, which may find their receiver out of range (AWN's conditional unicast).
+ghost use Rattle.std.specs.Prelude.{◌≡◌, ◌<◌, ◌≤◌, ℕ, false, length};
+ghost use Rattle.aodv_model.specs.Cores.{Rrep as a_reply, Pkt as a_packet};
+ghost use Rattle.aodv_model.specs.Handlers.{unicast, broken_by, link_broken as broken};
+ghost use Rattle.aodv_handlers.specs.Shown.{shown, IsReady, reply_of};
+ghost use Rattle.aodv_handlers.specs.Made.{Does, number_full};
+
+use crate::cores::Core;
+use crate::errors::link_broken;
+use aodv_table::Table;
+use aodv_wire::{Rrep, write_data, write_rrep};
+use mesh_base::{Cast, Effect, Full, Mesh, NodeSet, Packet};
+
+/// A route reply, over indices.
+#[derive(Clone, Copy)]
+pub(crate) struct Reply {
+    pub(crate) hops: u8,
+    pub(crate) dip: usize,
+    pub(crate) dsn: u32,
+    pub(crate) oip: usize,
+}
+
+/// The effect of a cast alone.
+pub(crate) fn casting(cast: Cast) -> Effect
+    ensures { result ≡ record { deliver = false; lost = false; broken = None; cast = cast } }
+{
+    Effect {
+        deliver: false,
+        lost: false,
+        broken: None,
+        cast,
+    }
+}
+
+/// A unicast to y has failed, and the link to y is broken.
+pub(crate) fn fail<T: Table>(
+    core: &mut Core<T>,
+    mesh: &Mesh,
+    y: usize,
+    out: &mut Packet,
+) -> Result<Effect, Full>
+    requires ready { IsReady T.nodes T.entries (length mesh.now) core.old }
+    ensures does { let did = broken_by y (broken (shown T.entries core.old) y) in
+        Does mesh.now (number_full did) (shown T.entries core.old) did result (shown T.entries core.new) out.new.items }
+    ensures ready { IsReady T.nodes T.entries (length mesh.now) core.new }
+    ensures rooms { T.rooms core.new.table ≡ T.rooms core.old.table }
+    ensures asked { core.new.asked ≡ core.old.asked }
+{
+    let cast = link_broken(core, mesh, y, out)?;
+    Ok(Effect {
+        deliver: false,
+        lost: false,
+        broken: Some(y),
+        cast,
+    })
+}
+
+/// Sends a reply to y.
+#[tactic(auto, unfolding(aodv_model::specs::Handlers::unicast))]
+pub(crate) fn send_reply<T: Table>(
+    core: &mut Core<T>,
+    mesh: &Mesh,
+    range: &NodeSet,
+    y: usize,
+    m: Reply,
+    out: &mut Packet,
+) -> Result<Effect, Full>
+    requires ready { IsReady T.nodes T.entries (length mesh.now) core.old }
+    requires dip { m.dip < length mesh.now }
+    requires oip { m.oip < length mesh.now }
+    requires dsn { 1 ≤ m.dsn }
+    ensures does { let did = unicast (shown T.entries core.old) (a_reply (reply_of m)) y range.now in
+        Does mesh.now (number_full did) (shown T.entries core.old) did result (shown T.entries core.new) out.new.items }
+    ensures ready { IsReady T.nodes T.entries (length mesh.now) core.new }
+    ensures rooms { T.rooms core.new.table ≡ T.rooms core.old.table }
+    ensures asked { core.new.asked ≡ core.old.asked }
+{
+    if !range.has(y) {
+        return fail(core, mesh, y, out);
+    }
+    let reply = Rrep {
+        hops: m.hops,
+        dip: mesh.at(m.dip),
+        dsn: m.dsn,
+        oip: mesh.at(m.oip),
+    };
+    write_rrep(&reply, out);
+    Ok(casting(Cast::One(y)))
+}
+
+/// Sends a datum from o on its way to d, to y.
+#[tactic(auto, unfolding(aodv_model::specs::Handlers::unicast))]
+pub(crate) fn send_datum<T: Table>(
+    core: &mut Core<T>,
+    mesh: &Mesh,
+    range: &NodeSet,
+    y: usize,
+    d: usize,
+    o: usize,
+    body: &[u8],
+    out: &mut Packet,
+) -> Result<Effect, Full>
+    requires ready { IsReady T.nodes T.entries (length mesh.now) core.old }
+    requires dip { d < length mesh.now }
+    requires oip { o < length mesh.now }
+    requires some { 1 ≤ length body.now }
+    requires few { length body.now ≤ 512 }
+    ensures does { let did = unicast (shown T.entries core.old) (a_packet body.now d o) y range.now in
+        Does mesh.now (number_full did) (shown T.entries core.old) did result (shown T.entries core.new) out.new.items }
+    ensures ready { IsReady T.nodes T.entries (length mesh.now) core.new }
+    ensures rooms { T.rooms core.new.table ≡ T.rooms core.old.table }
+    ensures asked { core.new.asked ≡ core.old.asked }
+{
+    if !range.has(y) {
+        return fail(core, mesh, y, out);
+    }
+    write_data(mesh.at(d), mesh.at(o), body, out);
+    Ok(casting(Cast::One(y)))
+}

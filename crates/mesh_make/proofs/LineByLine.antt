@@ -1,0 +1,25 @@
+-- A text that is written line by line.
+use Rattle.std.proofs.Common.{◌≡◌, ℕ, List, ◌++◌, Option, refl, sym, ap, ◌∙◌, append_assoc}
+use Rattle.std.specs.Io.KnownBytes.{Appends}
+use Rattle.mesh_io.specs.Puts.{AppendsFront}
+use Rattle.mesh_io.specs.Buffering.{HandsOn}
+use Rattle.mesh_io.proofs.Writing.{Appends-join}
+
+-- one line more
+pub goes_on : (a b c : Option (List ℕ)) (all rest line more : List ℕ) → HandsOn a b all rest → rest ≡ line ++ more → Appends b c line → HandsOn a c all more
+goes_on a b c all rest line more h e appended = record {
+  handed = h.handed ++ line;
+  whole = h.whole ∙ ap (λ (r : List ℕ). h.handed ++ r) e ∙ sym (append_assoc h.handed line more);
+  grown = Appends-join a b c h.handed line (h.handed ++ line) refl h.grown appended;
+}
+
+-- a front of one line more
+pub stops : (a b c : Option (List ℕ)) (all rest line more : List ℕ) → HandsOn a b all rest → rest ≡ line ++ more → AppendsFront b c line → AppendsFront a c all
+stops a b c all rest line more h e q = record {
+  front = h.handed ++ q.front;
+  rest = q.rest ++ more;
+  whole =
+      h.whole ∙ ap (λ (r : List ℕ). h.handed ++ r) (e ∙ ap (λ (r : List ℕ). r ++ more) q.whole ∙ append_assoc q.front q.rest more)
+      ∙ sym (append_assoc h.handed q.front (q.rest ++ more));
+  grown = Appends-join a b c h.handed q.front (h.handed ++ q.front) refl h.grown q.grown;
+}

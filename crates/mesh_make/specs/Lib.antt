@@ -1,0 +1,12 @@
+-- Read in this order.
+-- Words: the random words of a seed.
+-- Lines: the text of each line.
+-- Drawn: a line of the steps, by the words that are drawn for it.
+-- Made: the whole schedule.
+-- Places, Making: how far a schedule is made. Only private functions speak of them.
+pub mod Words
+pub mod Lines
+pub mod Drawn
+pub mod Made
+pub mod Places
+pub mod Making

@@ -1,0 +1,16 @@
+//! Schedules that are made from a seed: a chain of nodes, so many lines that a generator of random
+//! numbers chooses, and a last `auto` that lets all come to rest. A schedule is written to a sink
+//! or read from a source that makes it line by line. Nothing here takes memory.
+#![tactic(auto)]
+
+mod action;
+mod line;
+mod maker;
+mod source;
+#[cfg(test)]
+mod tests;
+mod word;
+mod writing;
+
+pub use source::MadeSource;
+pub use writing::make;

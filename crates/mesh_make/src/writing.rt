@@ -1,0 +1,27 @@
+//! Writing a made schedule.
+ghost use Rattle.std.specs.Prelude.{◌≡◌, ◌≤◌};
+ghost use Rattle.mesh_io.specs.Cause.{HasCause};
+ghost use Rattle.mesh_io.specs.Puts.{Puts};
+ghost use Rattle.mesh_make.specs.Made.{made};
+
+use crate::maker::Maker;
+use mesh_base::LineBuf;
+use mesh_io::{PutFault, Sink, put_all};
+
+/// Writes the schedule that a seed makes, line by line. It ends at the first fault of the sink.
+pub fn make<O: Sink>(seed: u64, nodes: u32, steps: u32, out: &mut O) -> Result<(), PutFault>
+    requires two { 2 ≤ nodes }
+    requires nodes_most { nodes ≤ 200 }
+    requires one { 1 ≤ steps }
+    requires steps_most { steps ≤ 100000 }
+    ensures text { Puts (O.held out.old) (O.held out.new) (made seed nodes steps) result }
+    ensures cause { HasCause (O.faults out.old) (O.faults out.new) result }
+{
+    let mut maker = Maker::new(seed, nodes, steps);
+    let mut line = LineBuf::new();
+    while !maker.is_done() {
+        maker.next_line(&mut line);
+        put_all(out, line.as_slice())?;
+    }
+    Ok(())
+}
