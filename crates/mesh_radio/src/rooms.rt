@@ -38,7 +38,8 @@ impl Rooms {
         }
     }
 
-    /// Makes sure of this many rooms, each for this many bytes. Those that are large enough stay.
+    /// Makes sure of this many rooms, each for this many bytes. Those that are large enough stay,
+    /// and smaller ones are dropped only when the new ones are there.
     pub fn make(&mut self, count: usize, bytes: usize) -> Result<(), NoMemory>
         ensures ok { OnOk result ((count ≤ self.new.room) × (bytes ≤ self.new.most)) }
         ensures bounded { OnOk result (self.new.room ≤ max self.old.room count) }

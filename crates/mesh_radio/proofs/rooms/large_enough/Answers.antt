@@ -1,4 +1,4 @@
-use Rattle.std.proofs.Common.{◌≤◌, arith}
+use Rattle.std.proofs.Common.{arith}
 use Rattle.mesh_radio.proofs.Sizes.{falling_kept}
 use Rattle.mesh_radio.proofs.rooms.large_enough.Goals as goal
 

@@ -1,4 +1,4 @@
-use Rattle.std.proofs.Common.{◌≡◌, ◌-◌, ◌+◌, ap, sym, subst, ◌∙◌, Some, length, slice_get, arith}
+use Rattle.std.proofs.Common.{◌≡◌, ◌-◌, ◌+◌, ap, sym, subst, ◌∙◌, Some, slice_get, arith}
 use Rattle.std.specs.List.{remove}
 use Rattle.indexmap.specs.IndexMap.{keys, values, with_value_at}
 use Rattle.indexmap.specs.Layout.{length-set_value_at}
