@@ -1,0 +1,57 @@
+-- A turn on bytes is one on what they mean.
+use Rattle.std.proofs.Common.{◌≡◌, ℕ, List, length, Option, Some, None, Result, Ok, Err, sym, ap, subst, ◌∙◌}
+use Rattle.mesh_base.specs.Meshes.{Nodes}
+use Rattle.mesh_base.specs.Members.{NodeIds}
+use Rattle.mesh_base.specs.declared.addr.Addr.{Addr}
+use Rattle.mesh_base.specs.declared.events.Effect as code
+use Rattle.mesh_base.specs.declared.events.Kind.{Kind}
+use Rattle.aodv_model.specs.Cores.{Core, Message, Heard}
+use Rattle.aodv_model.specs.Handlers.{turn}
+use Rattle.aodv_model.specs.Fullness.{turn_full}
+use Rattle.aodv_model.specs.Soundness.{IsMessageInMesh}
+use Rattle.aodv_wire.specs.declared.message.Message as wire
+use Rattle.aodv_wire.specs.Spells.{Spells, said}
+use Rattle.aodv_meaning.specs.Meaning.{in_mesh, meaning, stranger}
+use Rattle.aodv_meaning.proofs.Means.{spelled_in}
+use Rattle.aodv_handlers.specs.Made.{IsMade, IsRefused}
+use Rattle.aodv_node.specs.declared.answers.TurnError.{TurnError}
+use Rattle.aodv_node.specs.declared.answers.TurnError.TheVariants as errors
+use Rattle.aodv_node.specs.Turned.{IsReadable, kind_of}
+use Rattle.aodv_node.specs.Heard.{IsHeard, Tries, kinded}
+
+means : (mesh : Nodes) (bytes : List ℕ) (m : wire.Message) → Spells bytes m → meaning mesh bytes ≡ in_mesh mesh m
+unfolding meaning
+means mesh bytes m s = ap (in_mesh mesh) s.stands
+
+pub readable : (mesh : Nodes) (bytes : List ℕ) (m : wire.Message) → Spells bytes m → stranger mesh m ≡ None → IsReadable mesh bytes
+readable mesh bytes m s known = record { allowed = s.allowed; known = ap (stranger mesh) s.stands ∙ known }
+
+-- the stranger that was found, if none: over the message of the arm
+pub known_as : (mesh : Nodes) (msg m : wire.Message) (o : Option Addr) → o ≡ stranger mesh msg → o ≡ None → msg ≡ m → stranger mesh m ≡ None
+known_as mesh msg m o o_is none is = ap (stranger mesh) (sym is) ∙ sym o_is ∙ none
+
+pub says : (mesh : Nodes) (bytes : List ℕ) (msg m : wire.Message) (o : Option Addr) → Spells bytes msg → o ≡ stranger mesh msg → o ≡ None → msg ≡ m → IsMessageInMesh (length mesh) (in_mesh mesh m)
+says mesh bytes msg m o s o_is none is =
+    subst (λ (x : Message). IsMessageInMesh (length mesh) x) (means mesh bytes msg s ∙ ap (in_mesh mesh) is)
+    (spelled_in mesh bytes s.allowed (ap (stranger mesh) s.stands ∙ sym o_is ∙ none))
+
+at_message : (mesh : Nodes) (c : Core) (range : NodeIds) (from : ℕ) (bytes : List ℕ) (m : Message) (k : Kind) (r : Result code.Effect TurnError) (new : Core) (out : List ℕ)
+    → IsReadable mesh bytes → m ≡ meaning mesh bytes → k ≡ kind_of m → Tries mesh c range (Heard from m) r new out → IsHeard mesh c range from bytes (kinded k r) new out
+at_message mesh c range from bytes m k (Ok e) new out ok is kind did =
+    (ok, kind ∙ ap kind_of is, subst (λ (m : Message). IsMade mesh (turn_full c range (Heard from m)) (turn c range (Heard from m)) e new out) is did)
+at_message mesh c range from bytes m k (Err errors.Idle) new out ok is kind did = did
+at_message mesh c range from bytes m k (Err (errors.Refused f why)) new out ok is kind did = absurd did
+at_message mesh c range from bytes m k (Err (errors.Stranger f who)) new out ok is kind did = absurd did
+at_message mesh c range from bytes m k (Err (errors.Full f)) new out ok is kind did =
+    (ok, subst (λ (m : Message). IsRefused (turn_full c range (Heard from m)) c f new) is did)
+at_message mesh c range from bytes m k (Err errors.NoMemory) new out ok is kind did = did
+
+pub strange : (mesh : Nodes) (bytes : List ℕ) (m : wire.Message) (o : Option Addr) (who : Addr) → Spells bytes m → o ≡ stranger mesh m → o ≡ Some who → stranger mesh (said bytes) ≡ Some who
+strange mesh bytes m o who s is some = ap (stranger mesh) s.stands ∙ sym is ∙ some
+
+pub heard_as : (mesh : Nodes) (c : Core) (range : NodeIds) (from : ℕ) (bytes : List ℕ) (msg m : wire.Message) (o : Option Addr) (k : Kind) (r : Result code.Effect TurnError) (r' : Result (Kind × code.Effect) TurnError) (new : Core) (out : List ℕ)
+    → Spells bytes msg → o ≡ stranger mesh msg → o ≡ None → msg ≡ m → k ≡ kind_of (in_mesh mesh m) → Tries mesh c range (Heard from (in_mesh mesh m)) r new out → r' ≡ kinded k r → IsHeard mesh c range from bytes r' new out
+heard_as mesh c range from bytes msg m o k r r' new out s o_is none is kind did r_is =
+    subst (λ (x : Result (Kind × code.Effect) TurnError). IsHeard mesh c range from bytes x new out) (sym r_is)
+    (at_message mesh c range from bytes (in_mesh mesh m) k r new out (readable mesh bytes m (subst (λ (x : wire.Message). Spells bytes x) is s) (known_as mesh msg m o o_is none is))
+    (sym (means mesh bytes m (subst (λ (x : wire.Message). Spells bytes x) is s))) kind did)

@@ -1,0 +1,17 @@
+use Rattle.std.proofs.Common.{ap, ◌∙◌}
+use Rattle.aodv_node.specs.Seen.{NodeSeen}
+use Rattle.aodv_node.proofs.Plain.{turned}
+use Rattle.aodv_node.proofs.node.Node.turn.Goals as goal
+
+pub invariant_of-self : goal.invariant_of-self
+invariant_of-self c =
+    (turned c.args.mesh.now c.args.range.now c.self.inside.core c.take_turn.new.core c.self.inside.inbox c.take_turn.new.inbox c.take_turn.result c.take_turn.new.out.items c.args.self.now
+    c.requires.mesh c.self.view_is c.self.invariant c.take_turn.ensures.ready c.take_turn.ensures.turn).kept
+
+pub returns-clause-me : goal.returns-clause-me
+returns-clause-me c = (turned c.args.mesh.now c.args.range.now c.self.inside.core c.take_turn.new.core c.self.inside.inbox c.take_turn.new.inbox c.take_turn.result c.take_turn.new.out.items c.args.self.now
+    c.requires.mesh c.self.view_is c.self.invariant c.take_turn.ensures.ready c.take_turn.ensures.turn).me ∙ ap (λ (n : NodeSeen). (n.core).ip) c.self.view_is
+
+pub returns-clause-size : goal.returns-clause-size
+returns-clause-size c = (turned c.args.mesh.now c.args.range.now c.self.inside.core c.take_turn.new.core c.self.inside.inbox c.take_turn.new.inbox c.take_turn.result c.take_turn.new.out.items c.args.self.now
+    c.requires.mesh c.self.view_is c.self.invariant c.take_turn.ensures.ready c.take_turn.ensures.turn).nodes ∙ ap (λ (n : NodeSeen). n.size) c.self.view_is

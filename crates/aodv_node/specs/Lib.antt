@@ -1,0 +1,10 @@
+-- Read in this order. What a node does is defined by aodv_model (its specs/Handlers and specs/Fullness), and what a
+-- packet means in a mesh by aodv_meaning.
+-- Seen: what is seen of a node, and what every node keeps.
+pub mod Seen
+-- Turned: what a turn answers, and what is then seen of the node.
+pub mod Turned
+-- Discovered: the same of the send of a stored datum, and of a request of the node's own.
+pub mod Discovered
+-- Heard: what a turn on the bytes of a packet answers. Only the crate's own functions cite it.
+pub mod Heard

@@ -1,0 +1,93 @@
+-- What a turn answers, and what is then seen of the node.
+use Rattle.std.specs.Prelude.{◌≡◌, ◌≤◌, ℕ, Some, None, Result, Ok, Err, List, [], ◌∷◌, ⊤}
+use Rattle.mesh_base.specs.Meshes.{Nodes}
+use Rattle.mesh_base.specs.Members.{NodeIds}
+use Rattle.mesh_base.specs.declared.events.Full.{Full}
+use Rattle.mesh_base.specs.declared.events.Kind.{Kind}
+use Rattle.mesh_base.specs.declared.events.Kind.TheVariants as kinds
+use Rattle.mesh_base.specs.declared.events.Item as items
+use Rattle.mesh_base.specs.declared.events.Item.TheVariants as item
+use Rattle.mesh_base.specs.declared.events.Took as taken
+use Rattle.mesh_base.specs.declared.events.Took.TheVariants as takes
+use Rattle.aodv_model.specs.Cores.{Message, Item, New, Heard, Pkt, Rreq, Rrep, Rerr}
+use Rattle.aodv_model.specs.Handlers.{turn, Took, Own, Stored, FromNeighbour, took}
+use Rattle.aodv_model.specs.Fullness.{turn_full}
+use Rattle.aodv_wire.specs.Spells.{refusal, said}
+use Rattle.aodv_meaning.specs.Meaning.{meaning, stranger}
+use Rattle.aodv_handlers.specs.Made.{IsMade}
+use Rattle.aodv_node.specs.declared.answers.TurnError.{TurnError}
+use Rattle.aodv_node.specs.declared.answers.TurnError.TheVariants as errors
+use Rattle.aodv_node.specs.declared.answers.TurnDone as done
+use Rattle.aodv_node.specs.Seen.{NodeSeen}
+
+-- ---- items
+
+-- the item of the model: a packet is what its bytes mean in the mesh
+abbrev pub item_in : Nodes → items.Item → Item
+item_in mesh (item.New dest body) = New body dest
+item_in mesh (item.Heard from bytes) = Heard from (meaning mesh bytes)
+
+-- the bytes spell a message, and it names nodes of the mesh only
+pub record IsReadable (mesh : Nodes) (bytes : List ℕ) : Type 0 where
+  pub allowed : refusal bytes ≡ None
+  pub known : stranger mesh (said bytes) ≡ None
+
+-- the same of an item; a datum is nothing to be read
+abbrev pub IsReadableItem : Nodes → items.Item → Type 0
+IsReadableItem mesh (item.New dest body) = ⊤
+IsReadableItem mesh (item.Heard from bytes) = IsReadable mesh bytes
+
+-- ---- what is taken
+
+abbrev pub kind_of : Message → Kind
+kind_of (Pkt b d o) = kinds.Data
+kind_of (Rreq m) = kinds.Rreq
+kind_of (Rrep m) = kinds.Rrep
+kind_of (Rerr dests) = kinds.Rerr
+
+-- the bytes of a packet, or none
+abbrev pub packet_of : items.Item → List ℕ
+packet_of (item.New dest body) = []
+packet_of (item.Heard from bytes) = bytes
+
+-- what the model takes, with a neighbour's message as the packet that stood in the item, and its kind
+abbrev pub taken_of : items.Item → Took → taken.Took
+taken_of front (Own body) = takes.Own body
+taken_of front (Stored dip) = takes.Stored dip
+taken_of front (FromNeighbour from m) = takes.Heard from (kind_of m) (packet_of front)
+
+-- ---- turns
+
+-- the front item was taken, and the node did what the model does with it
+pub record IsTaken (mesh : Nodes) (range : NodeIds) (old : NodeSeen) (d : done.TurnDone) (new : NodeSeen) (out : List ℕ) : Type 0 where
+  pub front : items.Item
+  pub was : old.items ≡ front ∷ new.items
+  pub readable : IsReadableItem mesh front
+  pub took : d.took ≡ taken_of front (took old.core (item_in mesh front))
+  pub made : IsMade mesh (turn_full old.core range (item_in mesh front)) (turn old.core range (item_in mesh front)) d.effect new.core out
+  pub room : old.room ≤ new.room
+  pub size : new.size ≡ old.size
+
+-- the front item, which had these bytes from that node, was taken, and all else stayed
+pub record IsDropped (old : NodeSeen) (from : ℕ) (bytes : List ℕ) (new : NodeSeen) : Type 0 where
+  pub was : old.items ≡ item.Heard from bytes ∷ new.items
+  pub core : new.core ≡ old.core
+  pub room : old.room ≤ new.room
+  pub size : new.size ≡ old.size
+
+-- the turn on the front item would overfill this field
+pub record IsStopped (mesh : Nodes) (range : NodeIds) (old : NodeSeen) (field : Full) : Type 0 where
+  pub front : items.Item
+  pub rest : List items.Item
+  pub was : old.items ≡ front ∷ rest
+  pub readable : IsReadableItem mesh front
+  pub full : turn_full old.core range (item_in mesh front) ≡ Some field
+
+-- a turn of the node `old`, with the nodes of `range` in range: its answer, the node after it, and the packet that is cast
+abbrev pub IsTurn : Nodes → NodeIds → NodeSeen → Result done.TurnDone TurnError → NodeSeen → List ℕ → Type 0
+IsTurn mesh range old (Ok d) new out = IsTaken mesh range old d new out
+IsTurn mesh range old (Err errors.Idle) new out = (old.items ≡ []) × (new ≡ old)
+IsTurn mesh range old (Err (errors.Refused from why)) new out = (bytes : List ℕ) × (refusal bytes ≡ Some why) × IsDropped old from bytes new
+IsTurn mesh range old (Err (errors.Stranger from who)) new out = (bytes : List ℕ) × (refusal bytes ≡ None) × (stranger mesh (said bytes) ≡ Some who) × IsDropped old from bytes new
+IsTurn mesh range old (Err (errors.Full field)) new out = IsStopped mesh range old field × (new ≡ old)
+IsTurn mesh range old (Err errors.NoMemory) new out = new ≡ old

@@ -1,0 +1,81 @@
+//! What a node's calls answer.
+use aodv_wire::WireError;
+use mesh_base::{Addr, Effect, Full, NoMemory, Took};
+use thiserror::Error;
+
+/// What a turn did.
+#[derive(Drop)]
+pub struct TurnDone {
+    /// What was taken from the inbox.
+    pub took: Took,
+    /// What the node did with it, beside its new state.
+    pub effect: Effect,
+}
+
+/// Why a turn did nothing, or did no more than to take the item.
+#[derive(Clone, Copy, Debug, PartialEq, Eq, Error)]
+pub enum TurnError {
+    /// The inbox is empty.
+    #[error("nothing waits")]
+    Idle,
+    /// The bytes from that node spell no message. They are taken.
+    #[error("a packet that can't be read")]
+    Refused { from: usize, why: WireError },
+    /// The message from that node names an address outside the mesh, the first in the packet's
+    /// order. It is taken.
+    #[error("a packet that names a stranger")]
+    Stranger { from: usize, who: Addr },
+    /// The turn would raise this counter past its field's greatest value.
+    #[error("a counter is full")]
+    Full(Full),
+    /// Memory was asked for and not found.
+    #[error("no memory")]
+    NoMemory,
+}
+
+impl From<NoMemory> for TurnError {
+    ghost use Rattle.std.specs.Prelude.{◌≡◌};
+    ghost use Rattle.aodv_node.specs.declared.answers.TurnError.TheVariants as errors;
+
+    ghost from_gives = { λ n e. e ≡ errors.NoMemory };
+
+    fn from(_: NoMemory) -> TurnError {
+        TurnError::NoMemory
+    }
+}
+
+/// Why no stored datum is sent.
+#[derive(Clone, Copy, Debug, PartialEq, Eq, Error)]
+pub enum SendError {
+    /// No datum waits for the destination, or there is no valid route to it.
+    #[error("nothing to send")]
+    Idle,
+    /// The send would raise this counter past its field's greatest value.
+    #[error("a counter is full")]
+    Full(Full),
+}
+
+/// Why no request is made.
+#[derive(Clone, Copy, Debug, PartialEq, Eq, Error)]
+pub enum AskError {
+    /// No datum waits for the destination, or a route or a request is there already.
+    #[error("nothing to ask for")]
+    Idle,
+    /// The request would raise this counter past its field's greatest value.
+    #[error("a counter is full")]
+    Full(Full),
+    /// Memory was asked for and not found.
+    #[error("no memory")]
+    NoMemory,
+}
+
+impl From<NoMemory> for AskError {
+    ghost use Rattle.std.specs.Prelude.{◌≡◌};
+    ghost use Rattle.aodv_node.specs.declared.answers.AskError.TheVariants as errors;
+
+    ghost from_gives = { λ n e. e ≡ errors.NoMemory };
+
+    fn from(_: NoMemory) -> AskError {
+        AskError::NoMemory
+    }
+}

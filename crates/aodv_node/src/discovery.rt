@@ -1,0 +1,54 @@
+//! The send of a stored datum, and a request of the node's own, each where it may be done.
+ghost use Rattle.std.specs.Prelude.{◌≡◌, ◌<◌, length};
+ghost use Rattle.aodv_handlers.specs.Shown.{shown, IsReady};
+ghost use Rattle.aodv_node.specs.Discovered.{IsSend, IsAsk};
+
+use crate::answers::{AskError, SendError};
+use crate::rooms::make_request;
+use aodv_handlers::{Core, may_ask, may_send, send_stored, start_request};
+use aodv_table::Table;
+use mesh_base::{Effect, Mesh, NodeSet, Packet};
+
+/// Sends the first datum that waits for `dest`.
+pub(crate) fn try_send<T: Table>(
+    core: &mut Core<T>,
+    mesh: &Mesh,
+    range: &NodeSet,
+    dest: usize,
+    out: &mut Packet,
+) -> Result<Effect, SendError>
+    requires ready { IsReady T.nodes T.entries (length mesh.now) core.old }
+    requires dest { dest < length mesh.now }
+    ensures does { IsSend mesh.now range.now (shown T.entries core.old) dest result (shown T.entries core.new) out.new.items }
+    ensures ready { IsReady T.nodes T.entries (length mesh.now) core.new }
+{
+    if !may_send(core, dest) {
+        return Err(SendError::Idle);
+    }
+    match send_stored(core, mesh, range, dest, out) {
+        Ok(effect) => Ok(effect),
+        Err(field) => Err(SendError::Full(field)),
+    }
+}
+
+/// Asks for a route to `dest`.
+pub(crate) fn try_ask<T: Table>(
+    core: &mut Core<T>,
+    mesh: &Mesh,
+    dest: usize,
+    out: &mut Packet,
+) -> Result<Effect, AskError>
+    requires ready { IsReady T.nodes T.entries (length mesh.now) core.old }
+    requires dest { dest < length mesh.now }
+    ensures does { IsAsk mesh.now (shown T.entries core.old) dest result (shown T.entries core.new) out.new.items }
+    ensures ready { IsReady T.nodes T.entries (length mesh.now) core.new }
+{
+    if !may_ask(core, dest) {
+        return Err(AskError::Idle);
+    }
+    make_request(core, core.me)?;
+    match start_request(core, mesh, dest, out) {
+        Ok(effect) => Ok(effect),
+        Err(field) => Err(AskError::Full(field)),
+    }
+}

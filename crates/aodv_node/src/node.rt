@@ -1,0 +1,187 @@
+//! A router.
+ghost use Rattle.std.specs.Prelude.{◌≡◌, ◌≢◌, ◌<◌, ◌≤◌, ◌++◌, ◌∷◌, [], ◌-◌, length, IfOk, OnOk, OnErr, Some, None};
+ghost use Rattle.std.specs.FinMap as maps;
+ghost use Rattle.mesh_base.specs.Meshes.{first_at};
+ghost use Rattle.mesh_base.specs.declared.events.Item.TheVariants as items;
+ghost use Rattle.mesh_base.specs.declared.events.Variant.TheVariants.{Base};
+ghost use Rattle.aodv_model.specs.Cores.{opening};
+ghost use Rattle.aodv_model.specs.Soundness.{IsDatum};
+ghost use Rattle.aodv_node.specs.Seen.{NodeSeen, IsSoundNode};
+ghost use Rattle.aodv_node.specs.Turned.{IsTurn};
+ghost use Rattle.aodv_node.specs.Discovered.{IsSend, IsAsk};
+
+use crate::answers::{AskError, SendError, TurnDone, TurnError};
+use crate::discovery::{try_ask, try_send};
+use crate::turns::take_turn;
+use aodv_asked::Asked;
+use aodv_entry::Entry;
+use aodv_handlers::Core;
+use aodv_inbox::Inbox;
+use aodv_table::{PlainTable, Table};
+use aodv_waiting::Waiting;
+use mesh_base::{Bytes, Effect, Item, Mesh, NoMemory, NodeSet, Packet};
+use std::alloc::Global;
+use std::marker::Model;
+
+/// One AODV router. It is used with the mesh that it was made with.
+#[derive(Drop)]
+pub struct Node {
+    core: Core<PlainTable>,
+    inbox: Inbox,
+}
+
+impl Model for Node {
+    ghost use Rattle.aodv_handlers.specs.Shown.{IsReady};
+    ghost use Rattle.aodv_node.specs.Seen.{NodeSeen, node_code, seen, IsSoundNode};
+
+    ghost Value = { NodeSeen };
+
+    ghost coded = { node_code };
+
+    ghost view = { λ a. seen (λ t. t.nodes) (λ t. t.entries) a.core a.inbox };
+
+    ghost invariant = { λ a. IsReady (λ t. t.nodes) (λ t. t.entries) (a.core).table.nodes a.core × IsSoundNode (seen (λ t. t.nodes) (λ t. t.entries) a.core a.inbox) };
+}
+
+impl Node {
+    /// Node `me` of the mesh, in its opening state: it has no routes, its own number is the mesh's
+    /// first for it, and nothing waits.
+    pub fn new(alloc: Global, mesh: &Mesh, me: usize) -> Result<Node, NoMemory>
+        requires { me < length mesh.now }
+        ensures core { IfOk result (λ node. node.core ≡ opening Base me (first_at mesh.now me)) }
+        ensures items { IfOk result (λ node. node.items ≡ []) }
+        ensures size { IfOk result (λ node. node.size ≡ length mesh.now) }
+    {
+        let nodes = mesh.len();
+        let core = Core {
+            me,
+            sn: mesh.first(me),
+            table: PlainTable::new(alloc, nodes),
+            asked: Asked::new(alloc, nodes)?,
+            waiting: Waiting::new(alloc, nodes)?,
+        };
+        Ok(Node {
+            core,
+            inbox: Inbox::new(alloc)?,
+        })
+    }
+
+    /// Makes room for one more item in the inbox.
+    pub fn make_room(&mut self) -> Result<(), NoMemory>
+        ensures core { self.new.core ≡ self.old.core }
+        ensures items { self.new.items ≡ self.old.items }
+        ensures size { self.new.size ≡ self.old.size }
+        ensures here { OnOk result (0 < self.new.room) }
+        ensures keeps { self.old.room ≤ self.new.room }
+        ensures refused { OnErr result (self.new ≡ self.old) }
+    {
+        self.inbox.make_room()
+    }
+
+    /// Gives the node a datum for `dest`. It joins the inbox.
+    pub fn give(&mut self, dest: usize, body: Bytes)
+        requires room { 0 < self.old.room }
+        requires dest { dest < self.old.size }
+        requires datum { IsDatum body }
+        ensures { self.new ≡ record (self.old) { items = self.old.items ++ items.New dest body ∷ []; room = self.old.room - 1 } }
+    {
+        self.inbox.push(Item::New { dest, body });
+    }
+
+    /// The node hears a packet, whatever its bytes are. It joins the inbox.
+    pub fn hear(&mut self, from: usize, bytes: Bytes)
+        requires room { 0 < self.old.room }
+        requires from { from < self.old.size }
+        requires other { from ≢ self.old.core.ip }
+        ensures { self.new ≡ record (self.old) { items = self.old.items ++ items.Heard from bytes ∷ []; room = self.old.room - 1 } }
+    {
+        self.inbox.push(Item::Heard { from, bytes });
+    }
+
+    /// Takes the front item of the inbox and does what AODV does with it; `range` has the nodes that
+    /// are in range. The packet that is cast is left in `out`. A refusal is the first that applies of
+    /// Idle, Refused, Stranger and Full, unless memory is short.
+    pub fn turn(
+        &mut self,
+        mesh: &Mesh,
+        range: &NodeSet,
+        out: &mut Packet,
+    ) -> Result<TurnDone, TurnError>
+        requires mesh { length mesh.now ≡ self.old.size }
+        ensures turn { IsTurn mesh.now range.now self.old result self.new out.new.items }
+        ensures me { self.new.core.ip ≡ self.old.core.ip }
+        ensures size { self.new.size ≡ self.old.size }
+    {
+        take_turn(&mut self.core, &mut self.inbox, mesh, range, out)
+    }
+
+    /// Sends the first datum that waits for `dest` to the next hop, if there is a valid route. It
+    /// stays where the next hop isn't in `range`, and the route is gone. It takes no memory.
+    pub fn send(
+        &mut self,
+        mesh: &Mesh,
+        range: &NodeSet,
+        dest: usize,
+        out: &mut Packet,
+    ) -> Result<Effect, SendError>
+        requires mesh { length mesh.now ≡ self.old.size }
+        requires dest { dest < self.old.size }
+        ensures does { IsSend mesh.now range.now self.old.core dest result self.new.core out.new.items }
+        ensures others { self.new ≡ record (self.old) { core = self.new.core } }
+        ensures me { self.new.core.ip ≡ self.old.core.ip }
+    {
+        try_send(&mut self.core, mesh, range, dest, out)
+    }
+
+    /// Asks all neighbours for a route to `dest`, if data wait for it, there is no valid route, and
+    /// none was asked for.
+    pub fn ask(&mut self, mesh: &Mesh, dest: usize, out: &mut Packet) -> Result<Effect, AskError>
+        requires mesh { length mesh.now ≡ self.old.size }
+        requires dest { dest < self.old.size }
+        ensures does { IsAsk mesh.now self.old.core dest result self.new.core out.new.items }
+        ensures others { self.new ≡ record (self.old) { core = self.new.core } }
+        ensures me { self.new.core.ip ≡ self.old.core.ip }
+    {
+        try_ask(&mut self.core, mesh, dest, out)
+    }
+
+    /// The node's own sequence number.
+    pub fn sn(&self) -> u32
+        ensures value { result ≡ self.now.core.sn }
+        ensures sound { IsSoundNode self.now }
+    {
+        self.core.sn
+    }
+
+    /// The entry of d, if it has one.
+    pub fn entry(&self, d: usize) -> Option<Entry>
+        requires { d < self.now.size }
+        ensures { result ≡ maps.get self.now.core.rt d }
+    {
+        self.core.table.get(d)
+    }
+
+    /// The route requests that were seen.
+    pub fn asked(&self) -> &Asked
+        ensures pairs { result.now.pairs ≡ self.now.core.seen }
+        ensures nodes { length result.now.rooms ≡ self.now.size }
+    {
+        &self.core.asked
+    }
+
+    /// The data that wait for a route.
+    pub fn waiting(&self) -> &Waiting
+        ensures store { result.now.store ≡ self.now.core.store }
+        ensures nodes { length result.now.rooms ≡ self.now.size }
+    {
+        &self.core.waiting
+    }
+
+    /// What waits for the node's turns.
+    pub fn inbox(&self) -> &Inbox
+        ensures items { result.now.items ≡ self.now.items }
+        ensures room { result.now.room ≡ self.now.room }
+    {
+        &self.inbox
+    }
+}

@@ -1,0 +1,48 @@
+//! Room in a core, made before anything in it changes.
+ghost use Rattle.std.specs.Prelude.{◌≡◌, ◌≢◌, ◌<◌, ℕ, true, length, slice_index, OnOk};
+ghost use Rattle.std.specs.FinSet as sets;
+ghost use Rattle.aodv_handlers.specs.Shown.{shown, IsReady};
+
+use aodv_handlers::Core;
+use aodv_table::Table;
+use mesh_base::NoMemory;
+
+/// Room for an entry of d.
+pub(crate) fn make_row<T: Table>(core: &mut Core<T>, d: usize) -> Result<(), NoMemory>
+    requires ready { IsReady T.nodes T.entries (T.nodes core.old.table) core.old }
+    requires below { d < T.nodes core.old.table }
+    ensures here { OnOk result (sets.contains (T.rooms core.new.table) d ≡ true) }
+    ensures keeps { (q : ℕ) → sets.contains (T.rooms core.old.table) q ≡ true → sets.contains (T.rooms core.new.table) q ≡ true }
+    ensures shown { shown T.entries core.new ≡ shown T.entries core.old }
+    ensures nodes { T.nodes core.new.table ≡ T.nodes core.old.table }
+    ensures ready { IsReady T.nodes T.entries (T.nodes core.old.table) core.new }
+{
+    core.table.make_room(d)
+}
+
+/// Room for a datum for d, unless it is the node itself.
+pub(crate) fn make_store<T: Table>(core: &mut Core<T>, d: usize) -> Result<(), NoMemory>
+    requires ready { IsReady T.nodes T.entries (T.nodes core.old.table) core.old }
+    requires below { d < T.nodes core.old.table }
+    ensures here { OnOk result (d ≢ core.new.me → 0 < slice_index core.new.waiting.rooms d) }
+    ensures shown { shown T.entries core.new ≡ shown T.entries core.old }
+    ensures nodes { T.nodes core.new.table ≡ T.nodes core.old.table }
+    ensures ready { IsReady T.nodes T.entries (T.nodes core.old.table) core.new }
+{
+    if d == core.me {
+        return Ok(());
+    }
+    core.waiting.make_room(d)
+}
+
+/// Room for a request of o's.
+pub(crate) fn make_request<T: Table>(core: &mut Core<T>, o: usize) -> Result<(), NoMemory>
+    requires ready { IsReady T.nodes T.entries (T.nodes core.old.table) core.old }
+    requires below { o < T.nodes core.old.table }
+    ensures here { OnOk result (0 < slice_index core.new.asked.rooms o) }
+    ensures table { core.new.table ≡ core.old.table }
+    ensures shown { shown T.entries core.new ≡ shown T.entries core.old }
+    ensures ready { IsReady T.nodes T.entries (T.nodes core.old.table) core.new }
+{
+    core.asked.make_room(o)
+}
