@@ -27,7 +27,8 @@ use Rattle.aodv_wire.specs.declared.message.Message.TheVariants as messages
 use Rattle.aodv_wire.specs.Spells.{Spells, written}
 use Rattle.aodv_meaning.specs.Meaning.{dests_in, strange_pair}
 use Rattle.aodv_meaning.specs.Sent.{IsSent, IsPacket, pairs_of, addr}
-use Rattle.aodv_handlers.specs.Made.{IsMade, number_full, cast_of, only_cast}
+use Rattle.aodv_meaning.specs.Effects.{cast_of}
+use Rattle.aodv_handlers.specs.Made.{IsMade, number_full, only_cast}
 use Rattle.aodv_handlers.proofs.Unicasts.{plain_free, no_entries, sent_same}
 use Rattle.aodv_handlers.proofs.Ready.{retract_sound}
 use Rattle.aodv_handlers.proofs.Requests.{made_at}

@@ -14,7 +14,8 @@ use Rattle.aodv_model.proofs.Readings.{pre_alike, join_reply_alike}
 use Rattle.aodv_wire.specs.declared.message.Rrep as rrep
 use Rattle.aodv_meaning.specs.Meaning.{index, reply_in}
 use Rattle.aodv_meaning.specs.Sent.{IsPacket}
-use Rattle.aodv_handlers.specs.Made.{IsMade, IsRefused, number_full, effect_of}
+use Rattle.aodv_meaning.specs.Effects.{effect_of}
+use Rattle.aodv_handlers.specs.Made.{IsMade, IsRefused, number_full}
 use Rattle.aodv_handlers.proofs.Unicasts.{plain_free}
 
 -- ---- a node that passes the reply on

@@ -21,7 +21,8 @@ use Rattle.aodv_model.proofs.SoundTables.{neighbour_table, route_table}
 use Rattle.aodv_wire.specs.declared.message.Rreq as rreq
 use Rattle.aodv_meaning.specs.Meaning.{index, status_of, request_in}
 use Rattle.aodv_meaning.specs.Sent.{IsPacket}
-use Rattle.aodv_handlers.specs.Made.{IsMade, IsRefused, number_full, effect_of}
+use Rattle.aodv_meaning.specs.Effects.{effect_of}
+use Rattle.aodv_handlers.specs.Made.{IsMade, IsRefused, number_full}
 use Rattle.aodv_handlers.proofs.Unicasts.{plain_free}
 
 -- the same of an equal reaction

@@ -22,7 +22,8 @@ use Rattle.aodv_wire.specs.Spells.{Spells, written}
 use Rattle.aodv_meaning.specs.Meaning.{status_of}
 use Rattle.aodv_meaning.specs.Sent.{IsSent, IsPacket, out_of}
 use Rattle.aodv_table.specs.Calls.{is_past}
-use Rattle.aodv_handlers.specs.Made.{cast_of, only_cast, IsMade, number_full}
+use Rattle.aodv_meaning.specs.Effects.{cast_of}
+use Rattle.aodv_handlers.specs.Made.{only_cast, IsMade, number_full}
 
 no_length : {A : Type 0} (xs : List A) → length xs ≡ 0 → xs ≡ []
 no_length [] e = refl

@@ -2,24 +2,14 @@
 use Rattle.std.specs.Prelude.{◌≡◌, ℕ, false, if◌then◌else◌, Option, Some, None, Result, Ok, Err, List}
 use Rattle.mesh_base.specs.declared.events.Effect as code
 use Rattle.mesh_base.specs.declared.events.Cast as cast
-use Rattle.mesh_base.specs.declared.events.Cast.TheVariants as casts
 use Rattle.mesh_base.specs.declared.events.Full.{Full}
 use Rattle.mesh_base.specs.declared.events.Full.TheVariants.{Number}
 use Rattle.mesh_base.specs.Meshes.{Nodes}
 use Rattle.aodv_model.specs.Cores.{Core}
-use Rattle.aodv_model.specs.Handlers.{Cast, Nothing, One, Many, All, Effect, Reaction}
+use Rattle.aodv_model.specs.Handlers.{Reaction}
 use Rattle.aodv_model.specs.Fullness.{is_number_full}
 use Rattle.aodv_meaning.specs.Sent.{IsPacket}
-
--- a cast without its message, which stands in the packet
-abbrev pub cast_of : Cast → cast.Cast
-cast_of Nothing = casts.Nothing
-cast_of (One y m) = casts.One y
-cast_of (Many s m) = casts.Many s
-cast_of (All m) = casts.All
-
-abbrev pub effect_of : Effect → code.Effect
-effect_of e = record { deliver = e.deliver; lost = e.lost; broken = e.broken; cast = cast_of e.cast }
+use Rattle.aodv_meaning.specs.Effects.{effect_of}
 
 -- no counter stood in the way, and the effect, the new core and the packet are those of the model's reaction
 pub record IsMade (mesh : Nodes) (full : Option Full) (reaction : Reaction) (effect : code.Effect) (new : Core) (out : List ℕ) : Type 0 where

@@ -12,7 +12,8 @@ ghost use Rattle.aodv_wire.specs.declared.message.Message.TheVariants.{Parcel as
 ghost use Rattle.aodv_meaning.specs.Meaning.{index, stranger};
 ghost use Rattle.aodv_meaning.specs.Sent.{IsPacket};
 ghost use Rattle.aodv_handlers.specs.Shown.{shown, IsReady};
-ghost use Rattle.aodv_handlers.specs.Made.{Does, cast_of, number_full};
+ghost use Rattle.aodv_meaning.specs.Effects.{cast_of};
+ghost use Rattle.aodv_handlers.specs.Made.{Does, number_full};
 
 use crate::cores::Core;
 use crate::errors::is_empty;

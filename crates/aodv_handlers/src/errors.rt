@@ -8,7 +8,8 @@ ghost use Rattle.aodv_model.specs.Soundness.{AreDestsBelow};
 ghost use Rattle.mesh_base.specs.declared.events.Variant.TheVariants.{Base};
 ghost use Rattle.aodv_meaning.specs.Sent.{IsSent, IsPacket};
 ghost use Rattle.aodv_handlers.specs.Shown.{shown, IsReady};
-ghost use Rattle.aodv_handlers.specs.Made.{cast_of, only_cast, IsMade, IsRefused, number_full};
+ghost use Rattle.aodv_meaning.specs.Effects.{cast_of};
+ghost use Rattle.aodv_handlers.specs.Made.{only_cast, IsMade, IsRefused, number_full};
 
 use crate::cores::Core;
 use aodv_entry::Dests;

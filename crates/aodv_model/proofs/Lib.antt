@@ -10,3 +10,4 @@ pub mod SoundTurns
 pub mod Stale
 pub mod FullNumbers
 pub mod Numbers
+pub mod MeshNames

@@ -9,7 +9,7 @@ use Rattle.aodv_model.specs.Tables.{Table, update}
 use Rattle.aodv_model.specs.Cores.{Core, Item, opening}
 use Rattle.aodv_model.specs.Handlers.{changes_nothing, link_broken, turn, may_send, send, may_ask, ask}
 use Rattle.aodv_model.specs.Fullness.{greatest, is_number_full}
-use Rattle.aodv_model.specs.Soundness.{IsSoundCore, IsStoreInMesh, IsItemInMesh, IsSoundReaction}
+use Rattle.aodv_model.specs.Soundness.{IsSoundCore, IsStoreInMesh, IsItemInMesh, IsEffectInMesh, IsSoundReaction}
 
 -- a reply is stale exactly where its update leaves the table equal
 abbrev pub StaleIsUnchanged : Type 0
@@ -44,3 +44,19 @@ SendKeepsCore = (size : ℕ) (core : Core) (range : NodeIds) (d : ℕ) → IsSou
 abbrev pub AskKeepsCore : Type 0
 AskKeepsCore = (size : ℕ) (core : Core) (d : ℕ) → IsSoundCore size core → IsStoreInMesh size core.store → core.ip < size → may_ask core d ≡ true
     → IsSoundReaction size core.ip (ask core d)
+
+-- ---- the effect of a reaction names nodes of the mesh only: the next hop that wasn't reached, and those that a cast goes to
+
+-- a turn
+abbrev pub TurnNamesTheMesh : Type 0
+TurnNamesTheMesh = (size : ℕ) (core : Core) (range : NodeIds) (item : Item) → core.ip < size → IsSoundCore size core → IsItemInMesh size core.ip item
+    → IsEffectInMesh size (turn core range item).effect
+
+-- the send of a stored datum
+abbrev pub SendNamesTheMesh : Type 0
+SendNamesTheMesh = (size : ℕ) (core : Core) (range : NodeIds) (d : ℕ) → core.ip < size → IsSoundCore size core → may_send core d ≡ true
+    → IsEffectInMesh size (send core range d).effect
+
+-- a request of the node's own
+abbrev pub AskNamesTheMesh : Type 0
+AskNamesTheMesh = (size : ℕ) (core : Core) (d : ℕ) → IsEffectInMesh size (ask core d).effect

@@ -1,6 +1,6 @@
 -- What the state of each node keeps, and which messages it may be told.
 -- `size` is the number of nodes of the mesh: node x is in it where x < size.
-use Rattle.std.specs.Prelude.{◌≡◌, ◌≢◌, ℕ, ◌<◌, ◌≤◌, true, [], length, Some, ⊤}
+use Rattle.std.specs.Prelude.{◌≡◌, ◌≢◌, ℕ, ◌<◌, ◌≤◌, true, [], length, Some, IfSome, ⊤}
 use Rattle.std.specs.List.{AllByRecursion}
 use Rattle.std.specs.FinMap as maps
 use Rattle.std.specs.FinSet as sets
@@ -8,7 +8,7 @@ use Rattle.mesh_base.specs.Members.{NodeIds}
 use Rattle.aodv_entry.specs.declared.entry.Entry.{Entry}
 use Rattle.aodv_entry.specs.declared.entry.Known.TheVariants.{Kno}
 use Rattle.aodv_model.specs.Tables.{Table, Dests, in_kD}
-use Rattle.aodv_model.specs.Handlers.{Cast, Nothing, One, Many, All, Reaction}
+use Rattle.aodv_model.specs.Handlers.{Cast, Nothing, One, Many, All, Effect, Reaction}
 use Rattle.aodv_model.specs.Cores.{Body, Message, Pkt, Rreq, Rrep, Rerr, Item, New, Heard, Waiting, Store, Core}
 
 -- ---- numbers
@@ -97,6 +97,18 @@ IsCastInMesh size Nothing = ⊤
 IsCastInMesh size (One y m) = IsMessageInMesh size m
 IsCastInMesh size (Many s m) = IsMessageInMesh size m
 IsCastInMesh size (All m) = IsMessageInMesh size m
+
+-- a cast to one node or to a set names nodes of the mesh only
+abbrev pub IsAimed : ℕ → Cast → Type 0
+IsAimed size Nothing = ⊤
+IsAimed size (One y m) = y < size
+IsAimed size (Many s m) = AreBelow size s
+IsAimed size (All m) = ⊤
+
+-- so does the whole effect: the next hop that wasn't reached is in the mesh too
+pub record IsEffectInMesh (size : ℕ) (e : Effect) : Type 0 where
+  pub broken : IfSome e.broken (λ y. y < size)
+  pub cast : IsAimed size e.cast
 
 -- a reaction of node ip leaves its core and its store in order, and casts such a message
 pub record IsSoundReaction (size ip : ℕ) (reaction : Reaction) : Type 0 where

@@ -1,5 +1,5 @@
 //! Laws of one node. Each function has an empty body and a contract that states a law.
-ghost use Rattle.aodv_model.specs.Laws.{StaleIsUnchanged, FullNumber, OpeningIsSound, TurnKeepsCore, SendKeepsCore, AskKeepsCore};
+ghost use Rattle.aodv_model.specs.Laws.{StaleIsUnchanged, FullNumber, OpeningIsSound, TurnKeepsCore, SendKeepsCore, AskKeepsCore, TurnNamesTheMesh, SendNamesTheMesh, AskNamesTheMesh};
 
 /// A reply is stale exactly where its update leaves the table equal.
 pub fn stale_is_unchanged()
@@ -29,4 +29,19 @@ pub fn send_keeps_core()
 /// A request of its own keeps a node in order.
 pub fn ask_keeps_core()
     ensures { AskKeepsCore }
+{}
+
+/// The effect of a turn names nodes of the mesh only.
+pub fn turn_names_the_mesh()
+    ensures { TurnNamesTheMesh }
+{}
+
+/// The effect of the send of a stored datum names nodes of the mesh only.
+pub fn send_names_the_mesh()
+    ensures { SendNamesTheMesh }
+{}
+
+/// The effect of a request of its own names nodes of the mesh only.
+pub fn ask_names_the_mesh()
+    ensures { AskNamesTheMesh }
 {}

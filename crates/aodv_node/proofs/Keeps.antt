@@ -20,7 +20,8 @@ use Rattle.aodv_node.specs.declared.answers.AskError.{AskError}
 use Rattle.aodv_node.specs.declared.answers.AskError.TheVariants as asks
 use Rattle.aodv_node.specs.declared.answers.TurnDone as done
 use Rattle.aodv_node.specs.Seen.{NodeSeen, IsItemAt, IsSoundNode}
-use Rattle.aodv_node.specs.Turned.{IsReadableItem, item_in, IsTurn}
+use Rattle.aodv_meaning.specs.Effects.{item_in}
+use Rattle.aodv_node.specs.Turned.{IsReadableItem, IsTurn}
 use Rattle.aodv_node.specs.Discovered.{IsSend, IsAsk}
 
 -- the item of the model is in the mesh

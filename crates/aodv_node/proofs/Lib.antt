@@ -1,6 +1,7 @@
+pub mod Choices
 pub mod Fronts
 pub mod Keeps
-pub mod Plain
+pub mod Nodes
 pub mod Readings
 pub mod Strangers
 pub mod Taken

@@ -16,7 +16,8 @@ use Rattle.aodv_meaning.proofs.Means.{spelled_in}
 use Rattle.aodv_handlers.specs.Made.{IsMade, IsRefused}
 use Rattle.aodv_node.specs.declared.answers.TurnError.{TurnError}
 use Rattle.aodv_node.specs.declared.answers.TurnError.TheVariants as errors
-use Rattle.aodv_node.specs.Turned.{IsReadable, kind_of}
+use Rattle.aodv_meaning.specs.Effects.{kind_of}
+use Rattle.aodv_node.specs.Turned.{IsReadable}
 use Rattle.aodv_node.specs.Heard.{IsHeard, Tries, kinded}
 
 means : (mesh : Nodes) (bytes : List ℕ) (m : wire.Message) → Spells bytes m → meaning mesh bytes ≡ in_mesh mesh m

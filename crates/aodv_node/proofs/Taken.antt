@@ -13,7 +13,8 @@ use Rattle.aodv_meaning.specs.Meaning.{meaning}
 use Rattle.aodv_meaning.specs.Sent.{IsPacket}
 use Rattle.aodv_handlers.specs.declared.cores.Core as core
 use Rattle.aodv_handlers.specs.Shown.{shown}
-use Rattle.aodv_handlers.specs.Made.{IsMade, IsRefused, effect_of}
+use Rattle.aodv_meaning.specs.Effects.{effect_of}
+use Rattle.aodv_handlers.specs.Made.{IsMade, IsRefused}
 use Rattle.aodv_inbox.specs.Queues.{Queue}
 use Rattle.aodv_node.specs.declared.answers.TurnError.{TurnError}
 use Rattle.aodv_node.specs.declared.answers.TurnError.TheVariants as errors

@@ -15,7 +15,8 @@ use Rattle.aodv_handlers.specs.Made.{IsMade, IsRefused}
 use Rattle.aodv_node.specs.declared.answers.TurnError.{TurnError}
 use Rattle.aodv_node.specs.declared.answers.TurnError.TheVariants as errors
 use Rattle.aodv_node.specs.declared.answers.TurnDone as done
-use Rattle.aodv_node.specs.Turned.{IsReadable, kind_of}
+use Rattle.aodv_meaning.specs.Effects.{kind_of}
+use Rattle.aodv_node.specs.Turned.{IsReadable}
 
 -- a turn on a message, which may find no memory
 abbrev pub Tries : Nodes → Core → NodeIds → Item → Result code.Effect TurnError → Core → List ℕ → Type 0

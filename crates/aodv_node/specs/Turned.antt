@@ -3,17 +3,15 @@ use Rattle.std.specs.Prelude.{◌≡◌, ◌≤◌, ℕ, Some, None, Result, Ok,
 use Rattle.mesh_base.specs.Meshes.{Nodes}
 use Rattle.mesh_base.specs.Members.{NodeIds}
 use Rattle.mesh_base.specs.declared.events.Full.{Full}
-use Rattle.mesh_base.specs.declared.events.Kind.{Kind}
-use Rattle.mesh_base.specs.declared.events.Kind.TheVariants as kinds
 use Rattle.mesh_base.specs.declared.events.Item as items
 use Rattle.mesh_base.specs.declared.events.Item.TheVariants as item
 use Rattle.mesh_base.specs.declared.events.Took as taken
 use Rattle.mesh_base.specs.declared.events.Took.TheVariants as takes
-use Rattle.aodv_model.specs.Cores.{Message, Item, New, Heard, Pkt, Rreq, Rrep, Rerr}
 use Rattle.aodv_model.specs.Handlers.{turn, Took, Own, Stored, FromNeighbour, took}
 use Rattle.aodv_model.specs.Fullness.{turn_full}
 use Rattle.aodv_wire.specs.Spells.{refusal, said}
-use Rattle.aodv_meaning.specs.Meaning.{meaning, stranger}
+use Rattle.aodv_meaning.specs.Meaning.{stranger}
+use Rattle.aodv_meaning.specs.Effects.{item_in, kind_of}
 use Rattle.aodv_handlers.specs.Made.{IsMade}
 use Rattle.aodv_node.specs.declared.answers.TurnError.{TurnError}
 use Rattle.aodv_node.specs.declared.answers.TurnError.TheVariants as errors
@@ -21,11 +19,6 @@ use Rattle.aodv_node.specs.declared.answers.TurnDone as done
 use Rattle.aodv_node.specs.Seen.{NodeSeen}
 
 -- ---- items
-
--- the item of the model: a packet is what its bytes mean in the mesh
-abbrev pub item_in : Nodes → items.Item → Item
-item_in mesh (item.New dest body) = New body dest
-item_in mesh (item.Heard from bytes) = Heard from (meaning mesh bytes)
 
 -- the bytes spell a message, and it names nodes of the mesh only
 pub record IsReadable (mesh : Nodes) (bytes : List ℕ) : Type 0 where
@@ -38,12 +31,6 @@ IsReadableItem mesh (item.New dest body) = ⊤
 IsReadableItem mesh (item.Heard from bytes) = IsReadable mesh bytes
 
 -- ---- what is taken
-
-abbrev pub kind_of : Message → Kind
-kind_of (Pkt b d o) = kinds.Data
-kind_of (Rreq m) = kinds.Rreq
-kind_of (Rrep m) = kinds.Rrep
-kind_of (Rerr dests) = kinds.Rerr
 
 -- the bytes of a packet, or none
 abbrev pub packet_of : items.Item → List ℕ

@@ -1,10 +1,12 @@
 //! A router.
-ghost use Rattle.std.specs.Prelude.{◌≡◌, ◌≢◌, ◌<◌, ◌≤◌, ◌++◌, ◌∷◌, [], ◌-◌, length, IfOk, OnOk, OnErr, Some, None};
+ghost use Rattle.std.specs.Prelude.{◌≡◌, ◌≢◌, ◌<◌, ◌≤◌, ℕ, ◌++◌, ◌∷◌, [], ◌-◌, length, IfOk, OnOk, OnErr, Some, None};
 ghost use Rattle.std.specs.FinMap as maps;
+ghost use Rattle.std.specs.FinSet as sets;
 ghost use Rattle.mesh_base.specs.Meshes.{first_at};
 ghost use Rattle.mesh_base.specs.declared.events.Item.TheVariants as items;
 ghost use Rattle.mesh_base.specs.declared.events.Variant.TheVariants.{Base};
 ghost use Rattle.aodv_model.specs.Cores.{opening};
+ghost use Rattle.aodv_model.specs.Handlers.{may_send, may_ask};
 ghost use Rattle.aodv_model.specs.Soundness.{IsDatum};
 ghost use Rattle.aodv_node.specs.Seen.{NodeSeen, IsSoundNode};
 ghost use Rattle.aodv_node.specs.Turned.{IsTurn};
@@ -17,7 +19,7 @@ use aodv_asked::Asked;
 use aodv_entry::Entry;
 use aodv_handlers::Core;
 use aodv_inbox::Inbox;
-use aodv_table::{PlainTable, Table};
+use aodv_table::{RowTable, Table};
 use aodv_waiting::Waiting;
 use mesh_base::{Bytes, Effect, Item, Mesh, NoMemory, NodeSet, Packet};
 use std::alloc::Global;
@@ -26,7 +28,7 @@ use std::marker::Model;
 /// One AODV router. It is used with the mesh that it was made with.
 #[derive(Drop)]
 pub struct Node {
-    core: Core<PlainTable>,
+    core: Core<RowTable>,
     inbox: Inbox,
 }
 
@@ -56,7 +58,7 @@ impl Node {
         let core = Core {
             me,
             sn: mesh.first(me),
-            table: PlainTable::new(alloc, nodes),
+            table: RowTable::new(alloc, nodes)?,
             asked: Asked::new(alloc, nodes)?,
             waiting: Waiting::new(alloc, nodes)?,
         };
@@ -143,6 +145,25 @@ impl Node {
         ensures me { self.new.core.ip ≡ self.old.core.ip }
     {
         try_ask(&mut self.core, mesh, dest, out)
+    }
+
+    /// The destinations for which a datum may be sent: data wait, and there is a valid route.
+    pub fn sendable(&self) -> NodeSet
+        ensures { (d : ℕ) → sets.contains result d ≡ may_send self.now.core d }
+    {
+        let mut dests = self.core.waiting.dests();
+        dests.meet(&self.core.table.valid());
+        dests
+    }
+
+    /// The destinations for which a request may be made: data wait, a request is still to be made,
+    /// and there is no valid route.
+    pub fn askable(&self) -> NodeSet
+        ensures { (d : ℕ) → sets.contains result d ≡ may_ask self.now.core d }
+    {
+        let mut dests = self.core.waiting.needing();
+        dests.leave(&self.core.table.valid());
+        dests
     }
 
     /// The node's own sequence number.

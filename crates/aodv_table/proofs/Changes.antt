@@ -233,10 +233,13 @@ pub record Left (start now : Table) (dests : Dests) (k : ℕ) : Type 0 where
 pub left_first : (rt : Table) (dests : Dests) → Left rt rt dests 0
 left_first rt dests = record { rest = all_invalid rt dests }
 
-pub left_next : (start now : Table) (dests : Dests) (k : ℕ) (pair : ℕ × ℕ) → slice_get (maps.entries dests) k ≡ Some pair → Left start now dests k → Left start (invalidate now (one_pair pair.0 pair.1)) dests (k + 1)
+left_next : (start now : Table) (dests : Dests) (k : ℕ) (pair : ℕ × ℕ) → slice_get (maps.entries dests) k ≡ Some pair → Left start now dests k → Left start (invalidate now (one_pair pair.0 pair.1)) dests (k + 1)
 left_next start now dests k pair is left =
     let up : suc k ≡ k + 1 = omega arith in
     record { rest = subst (λ j. each_invalid (invalidate now (one_pair pair.0 pair.1)) (drop j (maps.entries dests)) ≡ invalidate start dests) up (ap (each_invalid now) (sym (drop_at (maps.entries dests) k pair is)) ∙ left.rest) }
+
+pub left_step : (start now new : Table) (dests : Dests) (k : ℕ) (pair : ℕ × ℕ) → slice_get (maps.entries dests) k ≡ Some pair → new ≡ invalidate now (one_pair pair.0 pair.1) → Left start now dests k → Left start new dests (k + 1)
+left_step start now new dests k pair is did left = subst (λ rt. Left start rt dests (k + 1)) (sym did) (left_next start now dests k pair is left)
 
 pub left_last : (start now : Table) (dests : Dests) (k : ℕ) → k ≡ length (maps.entries dests) → Left start now dests k → now ≡ invalidate start dests
 left_last start now dests k all left = sym (ap (each_invalid now) (ap (λ j. drop j (maps.entries dests)) all ∙ drop_all (maps.entries dests))) ∙ left.rest

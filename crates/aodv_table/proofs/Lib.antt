@@ -1,4 +1,5 @@
 pub mod Lookups
 pub mod RowLaws
+pub mod IndexLaws
 pub mod Changes
 pub mod Searches

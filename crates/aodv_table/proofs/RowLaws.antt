@@ -1,4 +1,4 @@
--- What rows show.
+-- What a map of rows shows.
 use Rattle.std.proofs.Common.{◌≡◌, ◌<◌, ◌≤◌, ℕ, Bool, true, false, cond, eqb, not, ◌&&◌, ◌||◌, List, [], ◌∷◌, map, Option, Some, None, refl, ap, sym, subst, ◌∙◌, eq-eqb, inl, inr, arith}
 use Rattle.std.specs.Prelude.{is_some, IsSome, OnOk, OnErr}
 use Rattle.std.specs.declared.result.Result.{Result}
@@ -93,12 +93,15 @@ pub no_rooms : (rows : Rows) → rows ≡ [] → rooms_in rows ≡ sets.empty
 unfolding rooms_in
 no_rooms rows e = ap rooms_in e
 
+pub none_valid : (rt : Table) → rt ≡ maps.empty → sets.empty ≡ valid_dests rt
+none_valid rt none = same_nodes sets.empty (valid_dests rt) (λ q.
+    sets.contains-empty nat_cmp q ∙ sym (contains-valid_dests rt q ∙ ap (λ (t : Table). is_valid_in (maps.get t q)) none ∙ ap is_valid_in (maps.get-empty nat_cmp q)))
+
 pub new_rows : (nodes : ℕ) (rows : Rows) (valid : NodeIds) → nodes ≤ 200 → rows ≡ [] → valid ≡ sets.empty → AreRows nodes rows valid
 new_rows nodes rows valid few none no_valid = record {
   few = few;
   below = λ d le. ap (λ (rt : Table). maps.get rt d) (no_rows rows none) ∙ maps.get-empty nat_cmp d;
-  valid_are = no_valid ∙ same_nodes sets.empty (valid_dests (entries_in rows)) (λ q.
-      sets.contains-empty nat_cmp q ∙ sym (contains-valid_dests (entries_in rows) q ∙ ap (λ (rt : Table). is_valid_in (maps.get rt q)) (no_rows rows none) ∙ ap is_valid_in (maps.get-empty nat_cmp q)));
+  valid_are = no_valid ∙ none_valid (entries_in rows) (no_rows rows none);
 }
 
 pub room_of_row : (rows : Rows) (d : ℕ) (o : Option Entry) → Some o ≡ row_of rows d → sets.contains (rooms_in rows) d ≡ true
@@ -168,7 +171,7 @@ room_kept (Err x) s t seen d same e u q had = ap (λ (v : NodeIds). sets.contain
 
 -- ---- a row is written
 
-abbrev marked : Option Entry → NodeIds → ℕ → NodeIds
+abbrev pub marked : Option Entry → NodeIds → ℕ → NodeIds
 marked o valid d = cond (is_valid_in o) (sets.insert valid d) (sets.remove valid d)
 
 contains-marked : (b : Bool) (valid : NodeIds) (d q : ℕ) → sets.contains (cond b (sets.insert valid d) (sets.remove valid d)) q ≡ cond (eqb q d) b (sets.contains valid q)
@@ -185,7 +188,7 @@ moved : (f : Option Entry → Bool) (b : Bool) (x y : Option Entry) → cond b (
 moved f true x y = refl
 moved f false x y = refl
 
-marked_valid : (rt : Table) (d : ℕ) (o : Option Entry) → marked o (valid_dests rt) d ≡ valid_dests (with_entry rt d o)
+pub marked_valid : (rt : Table) (d : ℕ) (o : Option Entry) → marked o (valid_dests rt) d ≡ valid_dests (with_entry rt d o)
 marked_valid rt d o = same_nodes _ _ (λ q.
     contains-marked (is_valid_in o) (valid_dests rt) d q
     ∙ ap (cond (eqb q d) (is_valid_in o)) (contains-valid_dests rt q)

@@ -1,4 +1,4 @@
--- A table searched for the valid entries with one next hop, destination after destination.
+-- A table searched for the valid entries with one next hop, one valid destination after another.
 use Rattle.std.proofs.Common.{◌≡◌, ◌<◌, ◌≤◌, ℕ, zero, suc, ◌+◌, Bool, true, false, cond, eqb, ltb, ◌&&◌, ◌||◌, List, [], ◌∷◌, map, length, get_or, Option, Some, None, refl, ap, sym, ◌∙◌, eq-eqb, inl, inr, arith}
 use Rattle.std.specs.Prelude.{option_map, is_some}
 use Rattle.std.specs.List.{list_any}
@@ -20,6 +20,9 @@ use Rattle.aodv_table.specs.Calls.{IsBelow, valid_dests, dests_by, is_past, IsLe
 use Rattle.aodv_model.proofs.Lookups.{get-unreachable_by}
 use Rattle.aodv_table.proofs.Lookups.{contains-valid_dests, contains-dests_by, kept_if_by, same_nodes, same_table}
 
+pub true_false : true ≡ false → ⊥
+true_false e = cc
+
 -- ---- one destination
 
 -- what is looked for: the entry of d, where it goes by y
@@ -30,18 +33,19 @@ not_valid_not_by : (o : Option Entry) (y : ℕ) → is_valid_in o ≡ false → 
 not_valid_not_by None y gone = refl
 not_valid_not_by (Some e) y gone = ap (λ (b : Bool). b && eqb e.next y) gone
 
-pub not_by : (rt : Table) (valid : NodeIds) (d y : ℕ) (b : Bool) → valid ≡ valid_dests rt → b ≡ sets.contains valid d → b ≡ false → None ≡ by rt d y
-not_by rt valid d y b are is gone =
-    sym (ap (λ (b : Bool). cond b (maps.get rt d) None) (not_valid_not_by (maps.get rt d) y (sym (contains-valid_dests rt d) ∙ ap (λ (s : NodeIds). sets.contains s d) (sym are) ∙ sym is ∙ gone)))
+pub by_read : (rt : Table) (d y : ℕ) (o r : Option Entry) → o ≡ maps.get rt d → r ≡ cond (goes_by o y) o None → r ≡ by rt d y
+by_read rt d y o r read is = is ∙ ap (λ x. cond (goes_by x y) x None) read
 
-valid_by : (e : Entry) (y : ℕ) → is_valid_in (Some e) ≡ true → e.next ≡ y → goes_by (Some e) y ≡ true
-valid_by e y valid next = ap (λ (b : Bool). b && eqb e.next y) valid ∙ eq-eqb e.next y next
+none_by : (rt : Table) (valid : NodeIds) (y q : ℕ) → valid ≡ valid_dests rt → sets.contains valid q ≡ false → goes_by (maps.get rt q) y ≡ false
+none_by rt valid y q are gone = not_valid_not_by (maps.get rt q) y (sym (contains-valid_dests rt q) ∙ ap (λ (s : NodeIds). sets.contains s q) (sym are) ∙ gone)
 
-pub by_it : (rt : Table) (valid : NodeIds) (d y : ℕ) (b : Bool) (e : Entry) → valid ≡ valid_dests rt → b ≡ sets.contains valid d → b ≡ true → Some e ≡ maps.get rt d → e.next ≡ y → Some e ≡ by rt d y
-by_it rt valid d y b e are is held had next =
-    let holds : goes_by (maps.get rt d) y ≡ true =
-    ap (λ o. goes_by o y) (sym had) ∙ valid_by e y (ap is_valid_in had ∙ sym (contains-valid_dests rt d) ∙ ap (λ (s : NodeIds). sets.contains s d) (sym are) ∙ sym is ∙ held) next in
-    had ∙ sym (ap (λ (b : Bool). cond b (maps.get rt d) None) holds)
+-- a valid destination is a node of the mesh
+pub valid_below : (rt : Table) (valid : NodeIds) (n d : ℕ) → IsBelow n rt → valid ≡ valid_dests rt → sets.contains valid d ≡ true → d < n
+valid_below rt valid n d below are has =
+    elim (cases_lt d n) [
+      | inl lt ↦ lt
+      | inr le ↦ absurd (true_false (sym has ∙ ap (λ (s : NodeIds). sets.contains s d) are ∙ contains-valid_dests rt d ∙ ap is_valid_in (below d le)))
+    ]
 
 -- ---- the set of destinations
 
@@ -87,12 +91,29 @@ found_other rt y d found miss was = record {
       ];
 }
 
-pub found_all : (rt : Table) (y n d : ℕ) (found : NodeIds) → n ≤ d → IsBelow n rt → Found rt y d found → found ≡ dests_by rt y
-found_all rt y n d found le below was = same_nodes found (dests_by rt y) (λ q.
+-- no destination from s to d is valid
+pub found_to : (rt : Table) (y s d : ℕ) (found valid : NodeIds) → valid ≡ valid_dests rt → s ≤ d → ((q : ℕ) → s ≤ q → q < d → sets.contains valid q ≡ false) → Found rt y s found → Found rt y d found
+found_to rt y s d found valid are le gap was = record {
+  so_far = λ q.
+      was.so_far q
+      ∙ elim (cases_lt q s) [
+        | inl lt ↦ ap (λ (b : Bool). b && goes_by (maps.get rt q) y) (lt-ltb q s lt ∙ sym (lt-ltb q d (omega arith)))
+        | inr past ↦ elim (cases_lt q d) [
+          | inl lt ↦
+              let gone : goes_by (maps.get rt q) y ≡ false = none_by rt valid y q are (gap q past lt) in
+              ap (λ (b : Bool). ltb q s && b) gone ∙ and_false (ltb q s) ∙ sym (ap (λ (b : Bool). ltb q d && b) gone ∙ and_false (ltb q d))
+          | inr late ↦ ap (λ (b : Bool). b && goes_by (maps.get rt q) y) (le-ltb q s past ∙ sym (le-ltb q d late))
+        ]
+      ];
+}
+
+-- no destination from s on is valid
+pub found_all : (rt : Table) (y s : ℕ) (found valid : NodeIds) → valid ≡ valid_dests rt → ((q : ℕ) → s ≤ q → sets.contains valid q ≡ false) → Found rt y s found → found ≡ dests_by rt y
+found_all rt y s found valid are gap was = same_nodes found (dests_by rt y) (λ q.
     was.so_far q
-    ∙ elim (cases_lt q d) [
-      | inl lt ↦ ap (λ (b : Bool). b && goes_by (maps.get rt q) y) (lt-ltb q d lt)
-      | inr past ↦ ap (λ (b : Bool). b && goes_by (maps.get rt q) y) (le-ltb q d past) ∙ sym (ap (λ o. goes_by o y) (below q (omega arith)))
+    ∙ elim (cases_lt q s) [
+      | inl lt ↦ ap (λ (b : Bool). b && goes_by (maps.get rt q) y) (lt-ltb q s lt)
+      | inr past ↦ ap (λ (b : Bool). b && goes_by (maps.get rt q) y) (le-ltb q s past) ∙ sym (none_by rt valid y q are (gap q past))
     ]
     ∙ sym (contains-dests_by rt y q))
 
@@ -166,6 +187,28 @@ raised_other rt y d out miss was =
     either true o e = e
     either false o e = refl
 
+none_raised : (rt : Table) (valid : NodeIds) (y q : ℕ) → valid ≡ valid_dests rt → sets.contains valid q ≡ false → maps.get (unreachable_by rt y) q ≡ None
+none_raised rt valid y q are gone = raised_at rt y q None (sym (ap (λ (b : Bool). cond b (maps.get rt q) None) (none_by rt valid y q are gone)))
+
+pub raised_to : (rt : Table) (y s d : ℕ) (out : Dests) (valid : NodeIds) → valid ≡ valid_dests rt → s ≤ d → ((q : ℕ) → s ≤ q → q < d → sets.contains valid q ≡ false) → Raised rt y s out → Raised rt y d out
+raised_to rt y s d out valid are le gap was = record {
+  so_far = λ q.
+      was.so_far q
+      ∙ elim (cases_lt q s) [
+        | inl lt ↦ ap (λ (b : Bool). cond b (maps.get (unreachable_by rt y) q) None) (lt-ltb q s lt ∙ sym (lt-ltb q d (omega arith)))
+        | inr past ↦ elim (cases_lt q d) [
+          | inl lt ↦
+              ap (λ (b : Bool). cond b (maps.get (unreachable_by rt y) q) None) (le-ltb q s past)
+              ∙ sym (ap (λ (b : Bool). cond b (maps.get (unreachable_by rt y) q) None) (lt-ltb q d lt) ∙ none_raised rt valid y q are (gap q past lt))
+          | inr late ↦ ap (λ (b : Bool). cond b (maps.get (unreachable_by rt y) q) None) (le-ltb q s past ∙ sym (le-ltb q d late))
+        ]
+      ];
+  in_range = λ q lt past. elim (cases_lt q s) [
+    | inl before ↦ was.in_range q before past
+    | inr late ↦ none-some (greatest + 1) (sym (none_raised rt valid y q are (gap q late lt)) ∙ past)
+  ];
+}
+
 -- ---- numbers past the greatest
 
 any_at : (es : List (ℕ × ℕ)) (v : ℕ) → ((k : ℕ) → k < length es → (get_or es k (0, 0)).1 ≡ v → ⊥) → list_any (λ n. eqb n v) (map (λ e. e.1) es) ≡ false
@@ -194,20 +237,17 @@ none_past m none = any_at (maps.entries m) (greatest + 1) (λ k lt e.
 one_past : (m : Dests) (d : ℕ) → maps.get m d ≡ Some (greatest + 1) → is_past m ≡ true
 one_past m d e = any_found (maps.entries m) d (greatest + 1) (sym (maps.get-entries m d) ∙ e)
 
-none_above : (rt : Table) (y n : ℕ) → IsBelow n rt → (q : ℕ) → n ≤ q → maps.get (unreachable_by rt y) q ≡ None
-none_above rt y n below q le = get-unreachable_by rt y q ∙ ap (λ o. option_map (λ e. inc e.dsn) (cond (goes_by o y) o None)) (below q le)
-
-pub raised_all : (rt : Table) (y n d : ℕ) (out : Dests) → n ≤ d → IsBelow n rt → Raised rt y d out → (is_past (unreachable_by rt y) ≡ false) × (out ≡ unreachable_by rt y)
-raised_all rt y n d out le below was = (
-  none_past (unreachable_by rt y) (λ q past. elim (cases_lt q d) [
+pub raised_all : (rt : Table) (y s : ℕ) (out : Dests) (valid : NodeIds) → valid ≡ valid_dests rt → ((q : ℕ) → s ≤ q → sets.contains valid q ≡ false) → Raised rt y s out → (is_past (unreachable_by rt y) ≡ false) × (out ≡ unreachable_by rt y)
+raised_all rt y s out valid are gap was = (
+  none_past (unreachable_by rt y) (λ q past. elim (cases_lt q s) [
     | inl lt ↦ was.in_range q lt past
-    | inr late ↦ none-some (greatest + 1) (sym (none_above rt y n below q (omega arith)) ∙ past)
+    | inr late ↦ none-some (greatest + 1) (sym (none_raised rt valid y q are (gap q late)) ∙ past)
   ]),
   same_table out (unreachable_by rt y) (λ q.
       was.so_far q
-      ∙ elim (cases_lt q d) [
-        | inl lt ↦ ap (λ (b : Bool). cond b (maps.get (unreachable_by rt y) q) None) (lt-ltb q d lt)
-        | inr late ↦ ap (λ (b : Bool). cond b (maps.get (unreachable_by rt y) q) None) (le-ltb q d late) ∙ sym (none_above rt y n below q (omega arith))
+      ∙ elim (cases_lt q s) [
+        | inl lt ↦ ap (λ (b : Bool). cond b (maps.get (unreachable_by rt y) q) None) (lt-ltb q s lt)
+        | inr late ↦ ap (λ (b : Bool). cond b (maps.get (unreachable_by rt y) q) None) (le-ltb q s late) ∙ sym (none_raised rt valid y q are (gap q late))
       ]),
 )
 
@@ -215,6 +255,3 @@ pub least_past : (rt : Table) (y d : ℕ) (e : Entry) (out : Dests) → Some e �
 least_past rt y d e out hit full was =
     let here : maps.get (unreachable_by rt y) d ≡ Some (greatest + 1) = raised_at rt y d (Some e) hit ∙ ap (λ n. Some (inc n)) full in
     record { past = one_past (unreachable_by rt y) d here; here = here; least = was.in_range }
-
-pub true_false : true ≡ false → ⊥
-true_false e = cc

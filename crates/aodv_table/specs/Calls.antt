@@ -1,5 +1,5 @@
 -- What the calls of a table say, beside the changes that aodv_model defines.
-use Rattle.std.specs.Prelude.{◌≡◌, ◌<◌, ◌≤◌, ℕ, ◌+◌, ◌==◌, Bool, true, Option, Some, None}
+use Rattle.std.specs.Prelude.{◌≡◌, ◌<◌, ◌≤◌, ℕ, zero, suc, ◌+◌, ◌==◌, Bool, true, Option, Some, None}
 use Rattle.std.specs.List.{list_any}
 use Rattle.std.specs.FinMap as maps
 use Rattle.std.specs.FinSet as sets
@@ -16,6 +16,11 @@ IsBelow n rt = (d : ℕ) → n ≤ d → maps.get rt d ≡ None
 abbrev pub with_entry : Table → ℕ → Option Entry → Table
 with_entry rt d None = maps.remove rt d
 with_entry rt d (Some e) = maps.insert rt d e
+
+-- the nodes of a mesh of n
+unfoldable pub nodes_below : ℕ → NodeIds
+nodes_below zero = sets.empty
+nodes_below (suc n) = sets.insert (nodes_below n) n
 
 -- the destinations that have an entry
 abbrev pub dests_of : Table → NodeIds

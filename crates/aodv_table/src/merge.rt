@@ -1,8 +1,10 @@
-//! What becomes of an entry where another comes for the same destination.
-ghost use Rattle.std.specs.Prelude.{◌≡◌, ◌↔◌, false, Some};
-ghost use Rattle.aodv_model.specs.Tables.{entry_after};
+//! What becomes of an entry where another comes for the same destination, and what an entry is found by.
+ghost use Rattle.std.specs.Prelude.{◌≡◌, ◌<◌, ◌↔◌, if◌then◌else◌, false, Some, None};
+ghost use Rattle.std.specs.FinSet as sets;
+ghost use Rattle.aodv_model.specs.Tables.{entry_after, goes_by, is_valid_in};
 
 use aodv_entry::{Entry, Flag, Known};
+use mesh_base::NodeSet;
 
 /// The entry of a destination after r has come for it.
 #[tactic(auto, unfolding(aodv_model::specs::Tables::merged))]
@@ -37,5 +39,26 @@ pub(crate) fn is_changed(before: &Option<Entry>, after: &Entry) -> bool
     match before {
         None => true,
         Some(s) => !s.same(after),
+    }
+}
+
+/// The entry of a destination, where it is valid and has that next hop.
+pub(crate) fn entry_by(entry: Option<Entry>, next: usize) -> Option<Entry>
+    ensures { result ≡ (if goes_by entry next then entry else None) }
+{
+    match &entry {
+        Some(e) if e.flag == Flag::Val && e.next == next => entry,
+        _ => None,
+    }
+}
+
+/// Whether d is valid, as its row says.
+pub(crate) fn mark(valid: &mut NodeSet, d: usize, row: &Option<Entry>)
+    requires { d < 256 }
+    ensures { valid.new ≡ (if is_valid_in row.now then sets.insert valid.old d else sets.remove valid.old d) }
+{
+    match row {
+        Some(entry) if entry.flag == Flag::Val => valid.add(d),
+        _ => valid.remove(d),
     }
 }

@@ -8,12 +8,15 @@ ghost use Rattle.aodv_model.specs.Tables.{Table as Entries, update, invalidate, 
 ghost use Rattle.aodv_model.specs.Handlers.{changes_nothing};
 ghost use Rattle.aodv_table.specs.Calls.{IsBelow, with_entry, valid_dests, dests_by, is_past, IsLeastPast};
 
-use aodv_entry::{Dests, Entry};
+use crate::merge::{entry_after, entry_by, is_changed};
+use aodv_entry::{Dests, Entry, Flag, inc};
 use mesh_base::{NoMemory, NodeSet};
 
 /// The routing table of a node, however it is kept. Destinations and next hops are nodes of one mesh.
 ///
-/// A destination gets room for an entry by `make_room`, and keeps it. No other call takes memory.
+/// A destination gets room for an entry by `make_room`, and keeps it. No other call takes memory. A
+/// table says how it reads and writes one entry, and keeps the set of its valid destinations. What
+/// AWN does with tables stands here, over these.
 pub trait Table: Drop {
     /// The entries, by destination.
     ghost entries: { Self → Entries };
@@ -68,20 +71,49 @@ pub trait Table: Drop {
         ensures changed { result ≡ not (changes_nothing (entries self.old) d r) }
         ensures same { (result ≡ false) ↔ (entries self.new ≡ entries self.old) }
         ensures rooms { rooms self.new ≡ rooms self.old }
-        ensures nodes { nodes self.new ≡ nodes self.old };
+        ensures nodes { nodes self.new ≡ nodes self.old }
+    {
+        let before = self.get(d);
+        let after = entry_after(before, r);
+        self.put(d, Some(after));
+        is_changed(&before, &after)
+    }
 
     /// Makes the entries of these destinations invalid, with the numbers stated (AWN's invalidate).
     fn invalidate(&mut self, dests: &Dests)
         ensures entries { entries self.new ≡ invalidate (entries self.old) dests.now }
         ensures rooms { rooms self.new ≡ rooms self.old }
-        ensures nodes { nodes self.new ≡ nodes self.old };
+        ensures nodes { nodes self.new ≡ nodes self.old }
+    {
+        for k in 0..dests.len() {
+            let (d, n) = dests.pair(k);
+            if d < self.nodes() {
+                if let Some(entry) = self.get(d) {
+                    self.put(
+                        d,
+                        Some(Entry {
+                            dsn: n,
+                            flag: Flag::Inv,
+                            ..entry
+                        }),
+                    );
+                }
+            }
+        }
+    }
 
     /// The nodes join the precursors of d's entry, if it has one (AWN's addpreRT).
     fn add_pre(&mut self, d: usize, p: &NodeSet)
         requires { d < nodes self.old }
         ensures entries { entries self.new ≡ add_pre (entries self.old) d p.now }
         ensures rooms { rooms self.new ≡ rooms self.old }
-        ensures nodes { nodes self.new ≡ nodes self.old };
+        ensures nodes { nodes self.new ≡ nodes self.old }
+    {
+        if let Some(mut entry) = self.get(d) {
+            entry.pre.join(p);
+            self.put(d, Some(entry));
+        }
+    }
 
     /// The destinations that have a valid entry (AWN's vD). The table keeps this set: nothing is
     /// searched.
@@ -90,12 +122,43 @@ pub trait Table: Drop {
 
     /// The destinations that have a valid entry with that next hop. All valid entries are looked at.
     fn through(&self, next: usize) -> NodeSet
-        ensures { result ≡ dests_by (entries self.now) next };
+        ensures { result ≡ dests_by (entries self.now) next }
+    {
+        let nodes = self.nodes();
+        let valid = self.valid();
+        let mut found = NodeSet::new();
+        let mut start = 0;
+        while let Some(d) = valid.next_from(start) {
+            prove!(d < nodes);
+            if entry_by(self.get(d), next).is_some() {
+                found.add(d);
+            }
+            start = d + 1;
+        }
+        found
+    }
 
     /// The destinations that have a valid entry with that next hop, each with its number raised: they
     /// take the place of what `out` held. Or the least of them whose number is the greatest and can't
     /// be raised; what `out` holds is then left open. All valid entries are looked at.
     fn dests_via(&self, next: usize, out: &mut Dests) -> Result<(), usize>
         ensures { let raised = unreachable_by (entries self.now) next in
-            MatchResult result (λ _. (is_past raised ≡ false) × (out.new ≡ raised)) (IsLeastPast raised) };
+            MatchResult result (λ _. (is_past raised ≡ false) × (out.new ≡ raised)) (IsLeastPast raised) }
+    {
+        out.clear();
+        let nodes = self.nodes();
+        let valid = self.valid();
+        let mut start = 0;
+        while let Some(d) = valid.next_from(start) {
+            prove!(d < nodes);
+            if let Some(entry) = entry_by(self.get(d), next) {
+                match inc(entry.dsn) {
+                    Some(n) => out.push(d, n),
+                    None => return Err(d),
+                }
+            }
+            start = d + 1;
+        }
+        Ok(())
+    }
 }

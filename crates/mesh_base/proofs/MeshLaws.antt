@@ -1,5 +1,5 @@
 -- A mesh by rising addresses: where an address stands, and one more node.
-use Rattle.std.proofs.Common.{◌≡◌, ◌≢◌, ℕ, ◌+◌, ◌-◌, ◌<◌, ◌≤◌, Bool, true, false, eqb, ltb, cond, List, [], length, Option, Some, None, get_or, insert, position, refl, sym, ap, subst, ◌∙◌, ◌⊎◌, arith, inl, inr, eq-eqb}
+use Rattle.std.proofs.Common.{◌≡◌, ◌≢◌, ℕ, ◌+◌, ◌-◌, ◌<◌, ◌≤◌, true, false, eqb, ltb, length, Some, None, get_or, insert, refl, sym, ap, subst, ◌∙◌, ◌⊎◌, arith, inl, inr, eq-eqb}
 use Rattle.std.specs.List.{position_or_len}
 use Rattle.std.specs.List.Sorted.{IsNonDecreasingBy}
 use Rattle.std.proofs.lemmas.Bool.{ne_eqb, cases_lt, cases_eq, lt-ltb, le-ltb}
@@ -148,3 +148,12 @@ absent_is mesh a place at none lt e =
 pub place_along : (xs mesh : Nodes) (a place : ℕ) → xs ≡ mesh → place ≤ length xs → ((i : ℕ) → i < place → addr_at xs i < a)
     → ((i : ℕ) → place ≤ i → i < length xs → a ≤ addr_at xs i) → IsPlace mesh a place
 place_along xs mesh a place e within below above = subst (λ m. IsPlace m a place) e (record { within = within; below = below; above = above })
+
+-- the node at a place of this address, along a list that is the mesh's
+pub index_of-there : (xs mesh : Nodes) (a place : ℕ) → xs ≡ mesh → IsMesh mesh → place < length xs → addr_at xs place ≡ a → index_of mesh a ≡ Some place
+index_of-there xs mesh a place e is lt here =
+    let within : place < length mesh = subst (λ m. place < length m) e lt in
+    let there : addr_at mesh place ≡ a = subst (λ m. addr_at m place ≡ a) e here in
+    index_of-found mesh a place
+    (record { within = omega arith; below = λ k early. subst (λ n. addr_at mesh k < n) there (is.rising k place early within); above = λ k late lt'. subst (λ n. n ≤ addr_at mesh k) there (rising_le mesh place k is late lt') })
+    within there

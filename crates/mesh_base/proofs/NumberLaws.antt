@@ -1,12 +1,11 @@
 -- Decimal numbers.
-use Rattle.std.proofs.Common.{◌≡◌, ℕ, ◌+◌, ◌-◌, ◌*◌, ◌/◌, ◌%◌, ◌^◌, ◌++◌, length-append, ◌<◌, ◌≤◌, Bool, eqb, true, false, cond, ltb, leb, ◌&&◌, List, [], ◌∷◌, Option, Some, None, length, drop, get_or, refl, sym, ap, ◌∙◌, arith}
+use Rattle.std.proofs.Common.{◌≡◌, ℕ, ◌+◌, ◌-◌, ◌*◌, ◌/◌, ◌%◌, ◌^◌, length-append, append_assoc, ◌++◌, sym, ◌<◌, ◌≤◌, Bool, eqb, true, false, cond, leb, ◌&&◌, List, [], ◌∷◌, Some, None, length, drop, get_or, refl, ap, ◌∙◌, arith}
 use Rattle.std.specs.Str.{all_ascii_digits}
 use Rattle.std.specs.Char.{is_ascii_digit}
 use Rattle.std.specs.Fmt.{decimal}
 use Rattle.std.proofs.lemmas.List.{at_drop_more}
-use Rattle.std.proofs.lemmas.Fmt.{length-decimal-le, decimal_step}
+use Rattle.std.proofs.lemmas.Fmt.{length-decimal-le, decimal_step, decimal_digit}
 use Rattle.std.proofs.lemmas.Bool.Decides.{nat_tests}
-use Rattle.std.specs.List.{slice_split}
 use Rattle.std.proofs.lemmas.List.Splits.{length-slice_split}
 use Rattle.mesh_base.specs.Numbers.{read_on, digits_up_to}
 use Rattle.mesh_base.specs.Parts.{parts}
@@ -47,6 +46,58 @@ digits-more i ds h = at_drop_more all_ascii_digits ds i 0 h
 -- a number below 256 has at most three digits
 pub short : (n : ℕ) → n < 256 → length (decimal n) ≤ 3
 short n h = length-decimal-le 3 n (omega arith) (omega arith) (omega arith)
+
+-- ---- the digits of a number
+
+pub two_digits : (n : ℕ) → 10 ≤ n → n < 100 → decimal n ≡ (48 + n / 10) ∷ (48 + n % 10) ∷ []
+two_digits n low high =
+    let first : decimal (n / 10) ≡ (48 + n / 10) ∷ [] = decimal_digit (n / 10) (omega arith) in
+    decimal_step n low (omega arith) ∙ ap (λ ds. ds ++ (48 + n % 10) ∷ []) first
+
+-- the last three digits, after the others
+pub by_thousands : (n : ℕ) → 1000 ≤ n → n < 2 ^ 64
+    → decimal n ≡ decimal (n / 1000) ++ (48 + n % 1000 / 100 % 10) ∷ (48 + n % 1000 / 10 % 10) ∷ (48 + n % 1000 % 10) ∷ []
+by_thousands n low fits =
+    let tens : n / 10 % 10 ≡ n % 1000 / 10 % 10 = omega arith in
+    let hundreds : n / 10 / 10 % 10 ≡ n % 1000 / 100 % 10 = omega arith in
+    let ones : n % 10 ≡ n % 1000 % 10 = omega arith in
+    let rest : n / 10 / 10 / 10 ≡ n / 1000 = omega arith in
+    decimal_step n (omega arith) fits
+    ∙ ap (λ ds. ds ++ (48 + n % 10) ∷ []) (decimal_step (n / 10) (omega arith) (omega arith))
+    ∙ ap (λ ds. (ds ++ (48 + n / 10 % 10) ∷ []) ++ (48 + n % 10) ∷ []) (decimal_step (n / 10 / 10) (omega arith) (omega arith))
+    ∙ rw (tens, hundreds, ones, rest) (joined (decimal (n / 1000)) (48 + n % 1000 / 100 % 10) (48 + n % 1000 / 10 % 10) (48 + n % 1000 % 10))
+  where
+    joined : (ds : List ℕ) (a b c : ℕ) → ((ds ++ a ∷ []) ++ b ∷ []) ++ c ∷ [] ≡ ds ++ a ∷ b ∷ c ∷ []
+    joined ds a b c = simp append_assoc
+
+pub two_long : (n : ℕ) → 10 ≤ n → n < 100 → length (decimal n) ≡ 2
+two_long n low high = ap length (two_digits n low high)
+
+-- digits that are appended one after another
+pub appended_two : (xs ys zs : List ℕ) (n : ℕ) → 10 ≤ n → n < 100 → ys ≡ xs ++ (48 + n / 10) ∷ [] → zs ≡ ys ++ (48 + n % 10) ∷ [] → zs ≡ xs ++ decimal n
+appended_two xs ys zs n low high y z =
+    z ∙ ap (λ ds. ds ++ (48 + n % 10) ∷ []) y
+    ∙ append_assoc xs ((48 + n / 10) ∷ []) ((48 + n % 10) ∷ [])
+    ∙ ap (λ ds. xs ++ ds) (sym (two_digits n low high))
+
+pub appended_thousands : (xs ys zs : List ℕ) (n : ℕ) → 1000 ≤ n → n < 2 ^ 64 → ys ≡ xs ++ decimal (n / 1000)
+    → zs ≡ ys ++ (48 + n % 1000 / 100 % 10) ∷ (48 + n % 1000 / 10 % 10) ∷ (48 + n % 1000 % 10) ∷ [] → zs ≡ xs ++ decimal n
+appended_thousands xs ys zs n low fits y z =
+    z ∙ ap (λ ds. ds ++ (48 + n % 1000 / 100 % 10) ∷ (48 + n % 1000 / 10 % 10) ∷ (48 + n % 1000 % 10) ∷ []) y
+    ∙ append_assoc xs (decimal (n / 1000)) _
+    ∙ ap (λ ds. xs ++ ds) (sym (by_thousands n low fits))
+
+pub three_digits : (n : ℕ) → 100 ≤ n → n < 1000 → decimal n ≡ (48 + n / 100 % 10) ∷ (48 + n / 10 % 10) ∷ (48 + n % 10) ∷ []
+three_digits n low high =
+    let hundreds : n / 10 / 10 ≡ n / 100 % 10 = omega arith in
+    decimal_step n (omega arith) (omega arith)
+    ∙ ap (λ ds. ds ++ (48 + n % 10) ∷ []) (decimal_step (n / 10) (omega arith) (omega arith))
+    ∙ ap (λ ds. (ds ++ (48 + n / 10 % 10) ∷ []) ++ (48 + n % 10) ∷ []) (decimal_digit (n / 10 / 10) (omega arith))
+    ∙ ap (λ d. (48 + d) ∷ (48 + n / 10 % 10) ∷ (48 + n % 10) ∷ []) hundreds
+
+-- three digits more
+pub three_longer : (n : ℕ) → 1000 ≤ n → n < 2 ^ 64 → length (decimal n) ≡ length (decimal (n / 1000)) + 3
+three_longer n low fits = ap length (by_thousands n low fits) ∙ length-append (decimal (n / 1000)) _
 
 -- one digit more
 pub longer : (n : ℕ) → 10 ≤ n → n < 2 ^ 64 → length (decimal n) ≡ length (decimal (n / 10)) + 1

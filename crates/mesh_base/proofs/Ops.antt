@@ -1,15 +1,15 @@
 -- What the calls do to the members.
-use Rattle.std.proofs.Common.{◌≡◌, ◌≢◌, ◌<◌, ◌≤◌, ℕ, zero, suc, ◌+◌, ◌-◌, ◌*◌, ◌/◌, ◌%◌, ◌^◌, min, max, Bool, true, false, cond, eqb, ltb, ◌&&◌, ◌||◌, not, bit_and, bit_or, List, [], ◌∷◌, length, set, get_or, slice_index, refl, sym, ap, ◌∙◌, eq-eqb, arith, inl, inr, w64}
+use Rattle.std.proofs.Common.{◌≡◌, ◌≢◌, ◌<◌, ◌≤◌, ℕ, zero, suc, ◌-◌, ◌*◌, ◌/◌, ◌%◌, ◌^◌, min, max, Bool, true, false, eqb, ◌&&◌, ◌||◌, not, bit_and, bit_or, List, [], ◌∷◌, length, set, slice_index, refl, sym, ap, ◌∙◌, eq-eqb, arith, inl, inr, w64}
 use Rattle.std.proofs.lemmas.Bool.{ne_eqb, cases_lt, cases_eq}
 use Rattle.std.proofs.lemmas.Cmp.{nat_cmp_total}
 use Rattle.std.proofs.lemmas.List.{get_or-set_same, get_or-set_other, length-set, get_or_past}
 use Rattle.std.proofs.lemmas.Nat.{or_lt, and_le_l}
-use Rattle.std.proofs.lemmas.Nat.Bits.{bit_at-zero, bit_at-lt, bit_at_or, bit_at_and, bit_at_set_same, bit_at_set_other, bit_at_clear_same, bit_at_clear_other, shr_and_one}
+use Rattle.std.proofs.lemmas.Nat.Bits.{bit_at-zero, bit_at-lt, bit_at_or, bit_at_and, bit_at_not, bit_at_set_same, bit_at_set_other, bit_at_clear_same, bit_at_clear_other, shr_and_one}
 use Rattle.std.specs.Cmp.{unsigned_tied}
 use Rattle.std.specs.Ordering.{nat_cmp}
 use Rattle.std.specs.Int.{bit_at, bit_not}
 use Rattle.std.specs.FinMap.{nat_cmp-IsAntisymmetric}
-use Rattle.std.specs.FinSet.{FinSet, empty, insert, remove, union, intersection, contains, contains-empty, contains-insert, contains-remove, contains-union, contains-intersection, same_set}
+use Rattle.std.specs.FinSet.{empty, insert, remove, union, intersection, difference, contains, contains-empty, contains-insert, contains-remove, contains-union, contains-intersection, contains-difference, same_set}
 use Rattle.mesh_base.specs.Members.{NodeIds, members, AreWords}
 use Rattle.mesh_base.specs.Words.{has_bit, contains-members}
 
@@ -181,3 +181,31 @@ meet_is a b aa ab = same _ _ (λ q.
     ∙ ap (λ (n : ℕ). eqb n 1) (bit_at_and (slice_index a (q / 64)) (slice_index b (q / 64)) (q % 64))
     ∙ and_bit _ _ (bit_at-lt (slice_index a (q / 64)) (q % 64)) (bit_at-lt (slice_index b (q / 64)) (q % 64))
     ∙ sym (contains-intersection nat_cmp_total (members a) (members b) q ∙ rw (contains-members a q aa, contains-members b q ab) refl))
+
+abbrev pub but_at : List ℕ → List ℕ → ℕ → ℕ
+but_at a b j = bit_and (slice_index a j) (bit_not w64 (slice_index b j))
+
+but_bit : (x y : ℕ) → x < 2 → y < 2 → eqb (min x (1 - y)) 1 ≡ (eqb x 1 && not (eqb y 1))
+but_bit zero zero hx hy = refl
+but_bit zero (suc zero) hx hy = refl
+but_bit (suc zero) zero hx hy = refl
+but_bit (suc zero) (suc zero) hx hy = refl
+but_bit (suc (suc x)) y hx hy = absurd (omega arith)
+but_bit zero (suc (suc y)) hx hy = absurd (omega arith)
+but_bit (suc zero) (suc (suc y)) hx hy = absurd (omega arith)
+
+pub leave_are : (a b : List ℕ) → AreWords a → AreWords b → AreWords (four (but_at a b))
+leave_are a b aa ab = four_are (but_at a b) (λ j. let small = and_le_l (slice_index a j) (bit_not w64 (slice_index b j)) in let fit = aa.fit j in omega arith)
+
+but_zero : (x y : ℕ) → x ≡ 0 → bit_and x (bit_not w64 y) ≡ 0
+but_zero x y e = let small = and_le_l x (bit_not w64 y) in omega arith
+
+pub leave_is : (a b : List ℕ) → AreWords a → AreWords b → members (four (but_at a b)) ≡ difference (members a) (members b)
+leave_is a b aa ab = same _ _ (λ q.
+    let past : (j : ℕ) → 4 ≤ j → but_at a b j ≡ 0 = λ j le. but_zero (slice_index a j) (slice_index b j) (get_or_past a j 0 (omega (arith, aa.four))) in
+    contains-members (four (but_at a b)) q (leave_are a b aa ab)
+    ∙ four_bit (but_at a b) a q past
+    ∙ ap (λ (n : ℕ). eqb n 1) (bit_at_and (slice_index a (q / 64)) (bit_not w64 (slice_index b (q / 64))) (q % 64))
+    ∙ ap (λ (n : ℕ). eqb (min (bit_at (slice_index a (q / 64)) (q % 64)) n) 1) (bit_at_not w64 (slice_index b (q / 64)) (q % 64) (ab.fit (q / 64)) (omega arith))
+    ∙ but_bit _ _ (bit_at-lt (slice_index a (q / 64)) (q % 64)) (bit_at-lt (slice_index b (q / 64)) (q % 64))
+    ∙ sym (contains-difference nat_cmp_total (members a) (members b) q ∙ rw (contains-members a q aa, contains-members b q ab) refl))

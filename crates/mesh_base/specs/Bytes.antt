@@ -1,8 +1,15 @@
--- The bytes that an owned list holds.
-use Rattle.std.specs.Prelude.{ℕ, List, [], Option, Some, None}
+-- Where the bytes of an owned list are, and memory for such a list.
+use Rattle.std.specs.Prelude.{◌≡◌, ◌≤◌, ℕ, List, [], Option, Some, None, vec_capacity}
 use Rattle.std.specs.Global.{Vec}
+use Rattle.mesh_base.specs.declared.bytes.Kept.{Kept}
+use Rattle.mesh_base.specs.declared.bytes.Kept.TheVariants.{Short, Long}
 
--- a list without memory of its own holds none
-abbrev pub items_of : Option (Vec ℕ) → List ℕ
-items_of None = []
-items_of (Some v) = v.items
+-- the bytes, in the list itself or in memory of their own
+abbrev pub bytes_of : Kept → List ℕ
+bytes_of (Short few) = few.items
+bytes_of (Long many) = many.items
+
+-- room for so many bytes: up to 32 need no memory
+abbrev pub IsRoomFor : ℕ → Option (Vec ℕ) → Type 0
+IsRoomFor most None = most ≤ 32
+IsRoomFor most (Some v) = (v.items ≡ []) × (most ≤ vec_capacity v)

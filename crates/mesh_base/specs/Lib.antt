@@ -1,4 +1,5 @@
--- Read in this order: the spelling of numbers and addresses, the parts of a text, meshes, sets of nodes.
+-- Read in this order: the spelling of numbers and addresses, the parts of a text, meshes, sets of nodes,
+-- what is only looked at.
 -- Words has the proof that a set gives its words back, and nothing that a contract says.
 pub mod Numbers
 pub mod Parts
@@ -6,4 +7,5 @@ pub mod Addresses
 pub mod Meshes
 pub mod Bytes
 pub mod Members
+pub mod Views
 pub mod Words

@@ -1,5 +1,5 @@
 -- A mesh: distinct addresses in rising order, each with its node's first sequence number. The i-th is node i.
-use Rattle.std.specs.Prelude.{◌≡◌, ◌<◌, ◌≤◌, ◌==◌, ℕ, List, length, position, get_or, Option, Some, None, unwrap_or, insert, nat_lt}
+use Rattle.std.specs.Prelude.{◌<◌, ◌≤◌, ◌==◌, ℕ, List, length, position, get_or, Option, unwrap_or, insert, nat_lt}
 use Rattle.std.specs.List.{position_or_len}
 
 abbrev pub Nodes : Type 0

@@ -1,15 +1,14 @@
 -- The bits of words, and the words of a set.
-use Rattle.std.proofs.Common.{◌≡◌, ◌<◌, ◌≤◌, ℕ, zero, suc, ◌+◌, ◌-◌, ◌*◌, ◌/◌, ◌%◌, ◌^◌, Bool, true, false, cond, eqb, ltb, ◌&&◌, ◌||◌, List, [], ◌∷◌, length, get_or, slice_index, refl, sym, ap, ◌∙◌, eq-eqb, arith, inl, inr}
+use Rattle.std.proofs.Common.{◌≡◌, ◌<◌, ℕ, zero, suc, ◌+◌, ◌-◌, ◌*◌, ◌/◌, ◌%◌, ◌^◌, Bool, true, false, cond, eqb, ltb, ◌&&◌, List, [], ◌∷◌, slice_index, refl, sym, ap, ◌∙◌, eq-eqb, arith, inl, inr}
 use Rattle.std.proofs.lemmas.Bool.{ne_eqb, cases_lt, cases_eq, le-ltb, lt-ltb}
-use Rattle.std.proofs.lemmas.Nat.Bits.{bit_at-zero, bit_at_cat_low, bit_at_cat_high, same_from_bits_below, bit_at-lt, bit_at_above}
+use Rattle.std.proofs.lemmas.Nat.Bits.{bit_at-zero, bit_at_cat_low, bit_at_cat_high, same_from_bits_below, bit_at-lt}
 use Rattle.std.proofs.Math.Nat.{pow-succ'}
 use Rattle.std.proofs.lemmas.Cmp.{nat_cmp_total}
 use Rattle.std.proofs.lemmas.List.{get_or_past}
 use Rattle.std.specs.Cmp.{unsigned_tied}
-use Rattle.std.specs.FinMap.{nat_cmp-IsAntisymmetric}
-use Rattle.std.specs.Ordering.{nat_cmp, eq_by_cmp}
+use Rattle.std.specs.Ordering.{nat_cmp}
 use Rattle.std.specs.Int.{bit_at}
-use Rattle.std.specs.FinSet.{FinSet, empty, insert, contains, contains-empty, contains-insert, same_set}
+use Rattle.std.specs.FinSet.{insert, contains, contains-empty, contains-insert}
 use Rattle.mesh_base.specs.Members.{NodeIds, number_of, bits_below, members, number_below, words_of, AreWords}
 
 -- whether the words have a bit at q

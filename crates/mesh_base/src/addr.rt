@@ -6,7 +6,7 @@ ghost use Rattle.arrayvec.specs.ArrayVec.{array_vec_len};
 ghost use Rattle.mesh_base.specs.Numbers.{number_up_to as number_up_to_lem};
 ghost use Rattle.mesh_base.specs.Addresses.{address_of, dotted};
 
-use crate::text::{LineBuf, cut, number_up_to, push_decimal};
+use crate::text::{LineBuf, cut, number_up_to, push_short};
 
 /// The address of a node: its four numbers, the first the highest.
 #[derive(Clone, Copy, Debug, Default, PartialEq, Eq, PartialOrd, Ord)]
@@ -49,7 +49,7 @@ fn push_octet(out: &mut LineBuf, n: u32)
     ensures text { out.new.items ≡ out.old.items ++ decimal n }
     ensures length { array_vec_len out.new ≤ array_vec_len out.old + 3 }
 {
-    push_decimal(out, u64::from(n));
+    push_short(out, n);
 }
 
 /// Appends an address as it is spelled: at most 15 bytes.

@@ -1,6 +1,7 @@
 //! Owned bytes, and memory for them.
-ghost use Rattle.std.specs.Prelude.{◌≡◌, ◌≤◌, [], length, IfOk};
+ghost use Rattle.std.specs.Prelude.{◌≡◌, ◌≤◌, ◌↔◌, [], length, IfOk, IfSome, IsSome, vec_capacity};
 
+use arrayvec::ArrayVec;
 use std::alloc::{AllocError, AllocFailed, Global};
 use std::marker::Model;
 
@@ -20,20 +21,26 @@ impl<T: Drop> From<AllocFailed<T>> for NoMemory {
     }
 }
 
-/// An owned list of bytes.
+/// An owned list of bytes. It takes no memory for up to 32 bytes.
 #[derive(Drop)]
 pub struct Bytes {
-    // None holds no byte, and no memory.
-    items: Option<Vec<u8>>,
+    kept: Kept,
+}
+
+/// Where the bytes of a list are.
+#[derive(Drop)]
+enum Kept {
+    Short(ArrayVec<u8, 32>),
+    Long(Vec<u8>),
 }
 
 impl Model for Bytes {
     ghost use Rattle.std.specs.Prelude.{List, ℕ};
-    ghost use Rattle.mesh_base.specs.Bytes.{items_of};
+    ghost use Rattle.mesh_base.specs.Bytes.{bytes_of};
 
     ghost Value = { List ℕ };
 
-    ghost view = { λ b. items_of b.items };
+    ghost view = { λ b. bytes_of b.kept };
 }
 
 impl Bytes {
@@ -41,32 +48,53 @@ impl Bytes {
     pub fn copy_of(alloc: Global, b: &[u8]) -> Result<Bytes, NoMemory>
         ensures { IfOk result (λ copy. copy ≡ b.now) }
     {
-        Ok(Bytes {
-            items: Some(Vec::from_slice(alloc, b)?),
-        })
+        match Bytes::short(b) {
+            Some(short) => Ok(short),
+            None => Ok(Bytes {
+                kept: Kept::Long(Vec::from_slice(alloc, b)?),
+            }),
+        }
+    }
+
+    /// A copy of b that takes no memory. None where b is too long for that.
+    pub fn short(b: &[u8]) -> Option<Bytes>
+        ensures value { IfSome result (λ s. s ≡ b.now) }
+        ensures when { IsSome result ↔ (length b.now ≤ 32) }
+    {
+        let mut short = ArrayVec::new();
+        match short.try_extend_from_slice(b) {
+            Ok(()) => Some(Bytes {
+                kept: Kept::Short(short),
+            }),
+            Err(_) => None,
+        }
     }
 
     /// The bytes of a vector, without a copy.
     pub fn from_vec(items: Vec<u8>) -> Bytes
         ensures { result ≡ items.items }
     {
-        Bytes { items: Some(items) }
+        Bytes {
+            kept: Kept::Long(items),
+        }
     }
 
-    /// No byte. It takes no memory.
+    /// No byte.
     pub fn empty() -> Bytes
         ensures { result ≡ [] }
     {
-        Bytes { items: None }
+        Bytes {
+            kept: Kept::Short(ArrayVec::new()),
+        }
     }
 
     /// The bytes.
     pub fn as_slice(&self) -> &[u8]
         ensures { result.now ≡ self.now }
     {
-        match &self.items {
-            None => &[],
-            Some(items) => items.as_slice(),
+        match &self.kept {
+            Kept::Short(items) => items.as_slice(),
+            Kept::Long(items) => items.as_slice(),
         }
     }
 }
@@ -74,27 +102,32 @@ impl Bytes {
 /// Memory for one list of bytes, seen as the number of bytes that fit.
 #[derive(Drop)]
 pub struct Room {
-    items: Vec<u8>,
+    // None where `Bytes` needs no memory for so many.
+    items: Option<Vec<u8>>,
     most: usize,
 }
 
 impl Model for Room {
-    ghost use Rattle.std.specs.Prelude.{◌≡◌, ◌≤◌, ℕ, [], vec_capacity};
+    ghost use Rattle.std.specs.Prelude.{ℕ};
+    ghost use Rattle.mesh_base.specs.Bytes.{IsRoomFor};
 
     ghost Value = { ℕ };
 
     ghost view = { λ r. r.most };
 
-    ghost invariant = { λ r. (r.items.items ≡ []) × (r.most ≤ vec_capacity r.items) };
+    ghost invariant = { λ r. IsRoomFor r.most r.items };
 }
 
 impl Room {
-    /// Room for `most` bytes.
+    /// Room for `most` bytes. It takes no memory for up to 32 of them.
     pub fn new(alloc: Global, most: usize) -> Result<Room, NoMemory>
         ensures { IfOk result (λ room. room ≡ most) }
     {
+        if most <= 32 {
+            return Ok(Room { items: None, most });
+        }
         Ok(Room {
-            items: Vec::with_capacity(alloc, most)?,
+            items: Some(Vec::with_capacity(alloc, most)?),
             most,
         })
     }
@@ -104,11 +137,28 @@ impl Room {
         requires { length b.now ≤ self }
         ensures { result ≡ b.now }
     {
-        let mut items = self.items;
-        match items.extend_from_slice(b) {
-            Ok(()) => Bytes { items: Some(items) },
-            Err(_) => unreachable!(),
+        if let Some(short) = Bytes::short(b) {
+            return short;
         }
+        match self.items {
+            Some(items) => Bytes {
+                kept: Kept::Long(filled(items, b)),
+            },
+            None => unreachable!(),
+        }
+    }
+}
+
+// The bytes b, in the memory of an empty vector.
+fn filled(items: Vec<u8>, b: &[u8]) -> Vec<u8>
+    requires empty { items.items ≡ [] }
+    requires fits { length b.now ≤ vec_capacity items }
+    ensures { result.items ≡ b.now }
+{
+    let mut items = items;
+    match items.extend_from_slice(b) {
+        Ok(()) => items,
+        Err(_) => unreachable!(),
     }
 }
 
@@ -123,6 +173,12 @@ mod tests {
         assert_eq!(rt; copy.as_slice(), b"hi".as_slice());
         let filled = Room::new(rt.alloc(), 3)?.fill(b"you");
         assert_eq!(rt; filled.as_slice(), b"you".as_slice());
+        let long = b"as long as no list of bytes can be without memory";
+        let copy = Bytes::copy_of(rt.alloc(), long)?;
+        assert_eq!(rt; copy.as_slice(), long.as_slice());
+        let filled = Room::new(rt.alloc(), 60)?.fill(long);
+        assert_eq!(rt; filled.as_slice(), long.as_slice());
+        assert!(rt; Bytes::short(long).is_none());
         Ok(())
     }
 }

@@ -17,6 +17,34 @@ pub enum Event<'a> {
     Turn {
         node: usize,
     },
+    /// The node sends the first datum that waits for `dest`.
+    Send {
+        node: usize,
+        dest: usize,
+    },
+    /// The node asks for a route to `dest`.
+    Ask {
+        node: usize,
+        dest: usize,
+    },
+    /// The link between two different nodes comes to stand, both ways.
+    Link {
+        a: usize,
+        b: usize,
+    },
+    /// The link between two different nodes falls, both ways.
+    Cut {
+        a: usize,
+        b: usize,
+    },
+    /// The copy of this id joins the inbox of its receiver.
+    Deliver {
+        id: u64,
+    },
+    /// The copy of this id is lost.
+    Lose {
+        id: u64,
+    },
 }
 
 /// Which variant of the protocol a node runs.
@@ -70,6 +98,15 @@ pub struct Flying {
     pub bytes: Bytes,
 }
 
+/// A copy in flight, as it is looked at: copies of one cast share the packet.
+#[derive(Clone, Copy)]
+pub struct FlyingView<'a> {
+    pub id: u64,
+    pub from: usize,
+    pub to: usize,
+    pub bytes: &'a [u8],
+}
+
 /// To whom a packet goes.
 #[derive(Clone, Copy)]
 pub enum Cast {
@@ -115,4 +152,33 @@ pub enum Took {
 pub struct Air {
     pub first: u64,
     pub to: NodeSet,
+}
+
+/// What a step did.
+#[derive(Drop)]
+pub enum Done {
+    /// Nothing: the event wasn't enabled.
+    Idle,
+    /// A datum joined an inbox, or a link changed.
+    Changed,
+    /// A turn: what it took, its effect, and the copies of its cast.
+    Taken {
+        took: Took,
+        effect: Effect,
+        air: Air,
+    },
+    /// A datum that waited was sent, or a request made: the effect, and the copies of the cast.
+    Sent {
+        effect: Effect,
+        air: Air,
+    },
+    /// A copy joined its receiver's inbox.
+    Heard {
+        from: usize,
+        to: usize,
+    },
+    /// This copy was lost.
+    Lost {
+        flying: Flying,
+    },
 }

@@ -13,7 +13,9 @@ mod text;
 
 pub use addr::{Addr, write_dotted};
 pub use bytes::{Bytes, NoMemory, Room};
-pub use events::{Air, Cast, Effect, Event, Flying, Full, Item, Kind, Took, Variant};
+pub use events::{
+    Air, Cast, Done, Effect, Event, Flying, FlyingView, Full, Item, Kind, Took, Variant,
+};
 pub use mesh::{MOST_NODES, Mesh, MeshError};
 pub use set::NodeSet;
 pub use text::{LineBuf, Packet, cut, number_up_to, push_decimal, push_number, push_text};

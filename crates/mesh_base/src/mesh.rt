@@ -48,6 +48,20 @@ fn count_below(nodes: &[(u32, u32)], a: u32) -> usize
     nodes.partition_point(|node| node.0 < a)
 }
 
+// The place of an address where the addresses up to it are consecutive, as those of most meshes are.
+#[inline]
+fn consecutive_place(nodes: &[(u32, u32)], a: u32) -> Option<usize>
+    ensures { IfSome result (λ i. (i < length nodes.now) × (addr_at nodes.now i ≡ a)) }
+{
+    let (first, _) = *nodes.first()?;
+    let place = a.wrapping_sub(first) as usize;
+    if place < nodes.len() && nodes[place].0 == a {
+        Some(place)
+    } else {
+        None
+    }
+}
+
 impl Mesh {
     /// A mesh of no nodes.
     pub fn new() -> Mesh
@@ -90,12 +104,16 @@ impl Mesh {
         self.nodes.as_slice()[i].1
     }
 
-    /// The node of an address. It is found by a binary search.
+    /// The node of an address. It is found at once where the addresses up to it are consecutive,
+    /// and else by a binary search.
     pub fn index_of(&self, a: Addr) -> Option<usize>
         ensures value { result ≡ index_of self.now a.0 }
         ensures within { IfSome result (λ i. i < length self.now) }
     {
         let nodes = self.nodes.as_slice();
+        if let Some(place) = consecutive_place(nodes, a.0) {
+            return Some(place);
+        }
         let place = count_below(nodes, a.0);
         if place == nodes.len() {
             return None;

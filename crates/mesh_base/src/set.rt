@@ -84,6 +84,15 @@ impl NodeSet {
         self.words = [a[0] & b[0], a[1] & b[1], a[2] & b[2], a[3] & b[3]];
     }
 
+    /// The members of o leave the set.
+    pub fn leave(&mut self, o: &NodeSet)
+        ensures { self.new ≡ set.difference self.old o.now }
+    {
+        let a = self.words;
+        let b = o.words;
+        self.words = [a[0] & !b[0], a[1] & !b[1], a[2] & !b[2], a[3] & !b[3]];
+    }
+
     /// Whether the two sets have the same members.
     pub fn same(&self, o: &NodeSet) -> bool
         ensures { IsTrue result ↔ (self.now ≡ o.now) }

@@ -1,5 +1,5 @@
 //! Buffers for a line and a packet, parts of texts, and decimal numbers.
-ghost use Rattle.std.specs.Prelude.{◌≡◌, ◌+◌, ◌<◌, ◌≤◌, List, ℕ, [], ◌∷◌, ◌++◌, length, position, ◌==◌, IfNone, IfSome};
+ghost use Rattle.std.specs.Prelude.{◌≡◌, ◌+◌, ◌/◌, ◌%◌, ◌<◌, ◌≤◌, List, ℕ, [], ◌∷◌, ◌++◌, length, position, ◌==◌, IfNone, IfSome};
 ghost use Rattle.std.specs.Fmt.{decimal};
 ghost use Rattle.arrayvec.specs.ArrayVec.{array_vec_len};
 ghost use Rattle.mesh_base.specs.Parts.{parts, rest_parts};
@@ -80,10 +80,12 @@ pub fn push_text(out: &mut LineBuf, text: &[u8])
     }
 }
 
-/// Appends a number in decimal digits.
-#[tactic(auto, using(std::proofs::lemmas::Fmt::decimal_digit, std::proofs::lemmas::Fmt::decimal_step, crate::proofs::NumberLaws::longer))]
-pub fn push_decimal(out: &mut LineBuf, n: u64)
-    requires { array_vec_len out.old + length (decimal n) ≤ 8192 }
+// Appends a number below 1000 in decimal digits.
+#[inline]
+#[tactic(auto, using(std::proofs::lemmas::Fmt::decimal_digit, crate::proofs::NumberLaws::appended_two, crate::proofs::NumberLaws::two_long, crate::proofs::NumberLaws::three_digits))]
+pub(crate) fn push_short(out: &mut LineBuf, n: u32)
+    requires short { n < 1000 }
+    requires room { array_vec_len out.old + length (decimal n) ≤ 8192 }
     ensures text { out.new.items ≡ out.old.items ++ decimal n }
     ensures length { array_vec_len out.new ≡ array_vec_len out.old + length (decimal n) }
 {
@@ -91,8 +93,43 @@ pub fn push_decimal(out: &mut LineBuf, n: u64)
         out.push(b'0' + n as u8);
         return;
     }
-    push_decimal(out, n / 10);
+    if n < 100 {
+        out.push(b'0' + (n / 10) as u8);
+        out.push(b'0' + (n % 10) as u8);
+        return;
+    }
+    push_three(out, n);
+}
+
+// Appends the last three digits of a number.
+#[inline]
+fn push_three(out: &mut LineBuf, n: u32)
+    requires { array_vec_len out.old + 3 ≤ 8192 }
+    ensures text { out.new.items ≡ out.old.items ++ (48 + n / 100 % 10) ∷ (48 + n / 10 % 10) ∷ (48 + n % 10) ∷ [] }
+    ensures length { array_vec_len out.new ≡ array_vec_len out.old + 3 }
+{
+    out.push(b'0' + (n / 100 % 10) as u8);
+    out.push(b'0' + (n / 10 % 10) as u8);
     out.push(b'0' + (n % 10) as u8);
+}
+
+/// Appends a number in decimal digits.
+#[tactic(auto, using(crate::proofs::NumberLaws::appended_thousands, crate::proofs::NumberLaws::three_longer))]
+pub fn push_decimal(out: &mut LineBuf, n: u64)
+    requires { array_vec_len out.old + length (decimal n) ≤ 8192 }
+    ensures text { out.new.items ≡ out.old.items ++ decimal n }
+    ensures length { array_vec_len out.new ≡ array_vec_len out.old + length (decimal n) }
+{
+    if n < 1000 {
+        push_short(out, n as u32);
+        return;
+    }
+    if n < 1_000_000 {
+        push_short(out, (n / 1000) as u32);
+    } else {
+        push_decimal(out, n / 1000);
+    }
+    push_three(out, (n % 1000) as u32);
 }
 
 /// Appends any number in decimal digits.

@@ -1,7 +1,8 @@
 -- Writing a text in pieces, and through a buffer.
-use Rattle.std.proofs.Common.{◌≡◌, ℕ, ◌≤◌, ◌+◌, ◌-◌, List, [], ◌∷◌, ◌++◌, Option, Some, None, Result, Ok, Err, refl, sym, ap, ◌∙◌, append_assoc, append-nil, take, drop, take-append-drop, length, subst, arith, length-append, OnOk, false, is_err}
+use Rattle.std.proofs.Common.{◌≡◌, ℕ, ◌≤◌, ◌+◌, ◌-◌, List, [], ◌∷◌, ◌++◌, Option, Some, None, Result, Ok, Err, refl, sym, ap, ◌∙◌, append_assoc, append-nil, take, drop, take-append-drop, length, subst, arith, length-append, OnOk, true, false, is_err}
 use Rattle.std.proofs.lemmas.List.{take_rest, drop-append-le}
 use Rattle.std.proofs.Math.Seq.{take-add, drop-append_seam}
+use Rattle.std.specs.Result.{IsErr}
 use Rattle.std.specs.Io.KnownBytes.{Appends, Keeps, append_known}
 use Rattle.mesh_io.specs.Growth.{known_front}
 use Rattle.mesh_io.specs.Puts.{AppendsFront, Puts}
@@ -143,3 +144,13 @@ Puts-front a b xs ys zs (Err x) e p = AppendsFront-more a b xs ys zs e p
 pub Puts-whole : {T E : Type 0} (a b : Option (List ℕ)) (xs : List ℕ) (r : Result T E) → is_err r ≡ false → Puts a b xs r → Appends a b xs
 Puts-whole a b xs (Ok x) e p = p
 Puts-whole a b xs (Err x) e p = absurd cc
+
+-- a failed call ends the whole text, of which a front was written
+pub Puts-fault : {T E : Type 0} (a b : Option (List ℕ)) (text : List ℕ) (r : Result T E) → IsErr r → AppendsFront a b text → Puts a b text r
+Puts-fault a b text (Ok x) is p = absurd cc
+Puts-fault a b text (Err e) is p = p
+
+-- what is held keeps itself
+pub Keeps-same : (a : Option (List ℕ)) → Keeps a a
+Keeps-same None = tt
+Keeps-same (Some x) = refl

@@ -5,6 +5,8 @@ pub mod Turns
 pub mod Steps
 pub mod Acyclic
 pub mod Short
+pub mod RouteEnds
+pub mod Picks
 pub mod Sizes
 pub mod MeshSteps
 pub mod TrailTables

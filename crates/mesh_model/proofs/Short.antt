@@ -52,7 +52,7 @@ distinct w d x (y ∷ ys) inv walk = (apart x (y ∷ ys) (not_again w d x y x y 
 
 -- ---- each node of a walk is in the mesh
 
-edge_within : (w : World) (d x y : ℕ) → IsInMesh w → Edge w d x y → (x < length w.nodes) × (y < length w.nodes)
+pub edge_within : (w : World) (d x y : ℕ) → IsInMesh w → Edge w d x y → (x < length w.nodes) × (y < length w.nodes)
 edge_within w d x y places edge =
     let n = node_in w x d edge.entry (slice_get w.nodes x) refl edge.there in
     (slice_get_within w.nodes x n.0 n.1, subst (λ k. k < length w.nodes) edge.next ((places.nodes x n.0 n.1).core.table.places d edge.entry n.2).near)

@@ -1,6 +1,6 @@
 -- Where the data are, and how they come and go. All counts are of the data that pass a test of their
 -- originator, destination and body: of one datum, or of all.
-use Rattle.std.specs.Prelude.{ℕ, ◌+◌, Bool, if◌then◌else◌, List, [], ◌∷◌, zero, suc, length}
+use Rattle.std.specs.Prelude.{ℕ, ◌+◌, Bool, true, if◌then◌else◌, List, [], ◌∷◌, zero, suc, length}
 use Rattle.std.specs.FinMap as maps
 use Rattle.aodv_model.specs.Cores.{Body, Message, Pkt, Rreq, Rrep, Rerr, Item, New, Heard, Store, bodies_in}
 use Rattle.aodv_model.specs.Handlers.{Took, Own, Stored, FromNeighbour}
@@ -9,6 +9,10 @@ use Rattle.mesh_model.specs.Worlds.{World, Copy, Event, Give, Turn, Happening, T
 -- of an originator, a destination and a body
 abbrev pub Test : Type 0
 Test = ℕ → ℕ → Body → Bool
+
+-- every datum, whatever it is
+abbrev pub any : Test
+any o d b = true
 
 -- the sum of f over a list
 abbrev pub total : {A : Type 0} → (A → ℕ) → List A → ℕ

@@ -8,12 +8,14 @@ use Rattle.mesh_base.specs.declared.events.Variant.{Variant}
 use Rattle.aodv_entry.specs.declared.entry.Entry.{Entry}
 use Rattle.aodv_entry.specs.declared.entry.Flag.TheVariants.{Val}
 use Rattle.aodv_entry.specs.Quality.{is_better}
-use Rattle.mesh_model.specs.Worlds.{World, Event, Stops, step, after, run, start, AreFirstNumbers}
+use Rattle.mesh_model.specs.Worlds.{World, Event, Idle, Stops, step, after, run, start, AreFirstNumbers}
 use Rattle.mesh_model.specs.Walks.{table, Edge, IsWalk, Cycle}
 use Rattle.mesh_model.specs.Places.{IsInMesh, IsEvent}
 use Rattle.mesh_model.specs.Invariants.{IsLoopSafe, IsInvariant}
 use Rattle.mesh_model.specs.Accounts.{Test, waiting, queued, in_flight, given, doubled, delivered, dropped, over_run}
 use Rattle.mesh_model.specs.Trails.{HonestWalk, HasWalks}
+use Rattle.mesh_model.specs.Routes.{route_end, IsRouteEnd}
+use Rattle.mesh_model.specs.Choices.{pick}
 
 -- a number of at least 1 for each node
 abbrev pub ArePositive : List ℕ → Type 0
@@ -56,6 +58,16 @@ BetterAlongEdges = (w : World) (d x y : ℕ) (edge : Edge w d x y) (e : Entry) �
 -- a walk from a node has at most as many places as there are nodes
 abbrev pub WalkIsShort : Type 0
 WalkIsShort = (w : World) (d x : ℕ) (ys : List ℕ) → IsInvariant w → x < length w.nodes → IsWalk w d (x ∷ ys) → length (x ∷ ys) ≤ length w.nodes
+
+-- the end of a route is found: its walk is there, and arrives, or stops where no edge leads on
+abbrev pub RouteEnds : Type 0
+RouteEnds = (w : World) (x d : ℕ) → IsInvariant w → x < length w.nodes → IsRouteEnd w x d (route_end w x d)
+
+-- ---- choices
+
+-- an event that is chosen is enabled
+abbrev pub PickIsEnabled : Type 0
+PickIsEnabled = (w : World) (e : Event) → pick w ≡ Some e → step w e ≢ Idle
 
 -- ---- the account
 

@@ -11,6 +11,10 @@ pub mod Invariants
 pub mod Accounts
 -- Trails: the walks over links that once stood, from which each valid route came.
 pub mod Trails
+-- Routes: where the valid next hops of a world lead.
+pub mod Routes
+-- Choices: what may be done next, and the choice of the next event.
+pub mod Choices
 -- Laws: the statements that this crate proves of the above.
 pub mod Laws
 -- Codes: no part of the protocol. They let a type of the code be seen as a world.

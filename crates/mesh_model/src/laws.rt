@@ -1,5 +1,5 @@
 //! Laws of all runs. Each function has an empty body and a contract that states a law.
-ghost use Rattle.mesh_model.specs.Laws.{StepKeeps, StepKeepsLoopSafe, StartKeeps, RunKeeps, NoCycleIn, LoopFree, BetterAlongEdges, WalkIsShort, StepBalances, Account, StartHasWalks, StepKeepsWalks, HonestHops, OnlyNumbersFill};
+ghost use Rattle.mesh_model.specs.Laws.{StepKeeps, StepKeepsLoopSafe, StartKeeps, RunKeeps, NoCycleIn, LoopFree, BetterAlongEdges, WalkIsShort, RouteEnds, PickIsEnabled, StepBalances, Account, StartHasWalks, StepKeepsWalks, HonestHops, OnlyNumbersFill};
 
 /// Every event of the mesh keeps the invariant.
 pub fn step_keeps()
@@ -39,6 +39,16 @@ pub fn better_along_edges()
 /// A walk has at most as many places as there are nodes.
 pub fn walk_is_short()
     ensures { WalkIsShort }
+{}
+
+/// The end of a route is found, with its walk.
+pub fn route_ends()
+    ensures { RouteEnds }
+{}
+
+/// An event that is chosen is enabled.
+pub fn pick_is_enabled()
+    ensures { PickIsEnabled }
 {}
 
 /// Every event of the mesh keeps the account of the data.

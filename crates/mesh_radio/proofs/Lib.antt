@@ -1,7 +1,5 @@
 pub mod Orders
 pub mod Graphs
-pub mod Sizes
 pub mod Finds
-pub mod Keys
-pub mod Windows
 pub mod Casts
+pub mod Numbered

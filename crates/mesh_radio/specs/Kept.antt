@@ -1,5 +1,5 @@
 -- How the code keeps a graph, the copies in flight and memory for more. No public contract cites this file.
-use Rattle.std.specs.Prelude.{◌≡◌, ◌≢◌, ℕ, zero, suc, ◌+◌, ◌-◌, ◌<◌, ◌≤◌, false, if◌then◌else◌, Option, Some, None, List, ◌++◌, length, map, slice_index, unwrap_or, slice_get, All, refl}
+use Rattle.std.specs.Prelude.{◌≡◌, ◌≢◌, ℕ, zero, suc, ◌+◌, ◌-◌, ◌≤◌, false, if◌then◌else◌, Option, Some, None, List, ◌++◌, length, unwrap_or, slice_get, All, refl}
 use Rattle.std.specs.List.{AllByRecursion}
 use Rattle.std.specs.Coded.{Coded, code_by, coded×, coded_ℕ, coded_list}
 use Rattle.std.specs.FinSet as sets
@@ -7,7 +7,6 @@ use Rattle.mesh_base.specs.Members.{NodeIds}
 use Rattle.mesh_base.specs.declared.events.Flying.{Flying}
 use Rattle.aodv_model.specs.Pairs.{Pairs}
 use Rattle.aodv_model.specs.Codes.{pairs_code}
-use Rattle.mesh_radio.specs.declared.sized.SizedRoom.{SizedRoom}
 use Rattle.mesh_radio.specs.Copies.{copies_to, IsBetween}
 use Rattle.mesh_radio.specs.Radios.{RadioState}
 
@@ -41,7 +40,7 @@ pub record AreMutual (rows : List NodeIds) : Type 0 where
   pub both_ways : (a b : ℕ) → sets.contains (row rows a) b ≡ sets.contains (row rows b) a
   pub apart : (a : ℕ) → sets.contains (row rows a) a ≡ false
 
--- ---- copies, kept in a map by their ids
+-- ---- copies
 
 -- the copies, the id of the next, and memory: for how many more, of how many bytes each
 pub record Flights : Type 0 where
@@ -49,23 +48,6 @@ pub record Flights : Type 0 where
   pub next_copy : ℕ
   pub room : ℕ
   pub most : ℕ
-
-abbrev pub ids_of : List Flying → List ℕ
-ids_of fs = map (λ f. f.id) fs
-
--- the keys of the map: ids of copies up to the place `end`, rising and below `next`, and then the ids to come
-pub record AreKeys (ks : List ℕ) (end next : ℕ) : Type 0 where
-  pub enough : end ≤ length ks
-  pub from_one : 1 ≤ next
-  pub one : (k : ℕ) → k < length ks → 1 ≤ slice_index ks k
-  pub rising : (j k : ℕ) → j < k → k < length ks → slice_index ks j < slice_index ks k
-  pub below : (k : ℕ) → k < end → slice_index ks k < next
-  pub coming : (k : ℕ) → end ≤ k → k < length ks → slice_index ks k + end ≡ next + k
-
--- the map: its keys, and under each the copy of that id
-pub record AreKept (ks : List ℕ) (fs : List Flying) (end next : ℕ) : Type 0 where
-  pub keys : AreKeys ks end next
-  pub ids : ids_of fs ≡ ks
 
 -- the k-th copy has that id, or none has
 abbrev pub IsPlaceOf : ℕ → List Flying → Option ℕ → Type 0
@@ -80,20 +62,16 @@ with_flights a from bytes tos = record a {
   room = a.room - length tos;
 }
 
--- ---- rooms, kept with the smallest last
+-- ---- memory for copies to come
 
 -- for how many copies, of how many bytes each
 pub record Memory : Type 0 where
   pub room : ℕ
   pub most : ℕ
 
-abbrev pub sizes_of : List SizedRoom → List ℕ
-sizes_of rooms = map (λ r. r.bytes) rooms
-
--- each is at least as large as those after it, and as `most`
-pub record AreFalling (most : ℕ) (sizes : List ℕ) : Type 0 where
-  pub falling : (j k : ℕ) → j < k → k < length sizes → slice_index sizes k ≤ slice_index sizes j
-  pub least : (k : ℕ) → k < length sizes → most ≤ slice_index sizes k
+-- each room is large enough for this many bytes
+abbrev pub AreLarge : ℕ → List ℕ → Type 0
+AreLarge bytes rooms = AllByRecursion (λ room. bytes ≤ room) rooms
 
 -- ---- a radio of these parts
 

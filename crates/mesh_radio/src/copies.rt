@@ -1,37 +1,66 @@
 //! Copies of packets in flight, by rising id.
-ghost use Rattle.std.specs.Prelude.{◌≡◌, ◌<◌, ◌≤◌, ◌+◌, ◌-◌, ◌^◌, ◌++◌, ◌∷◌, [], length, slice_get, Some, OnOk, OnErr, take, drop, remove};
-ghost use Rattle.indexmap.specs.IndexMap.{keys, values, index_map_len};
+ghost use Rattle.std.specs.Prelude.{◌≡◌, ℕ, ◌<◌, ◌≤◌, ◌+◌, ◌-◌, ◌^◌, ◌++◌, ◌∷◌, [], length, slice_get, option_map, Some, OnOk, OnErr, remove};
 ghost use Rattle.mesh_radio.specs.Copies.{find_copy, without, AreNumbered};
-ghost use Rattle.mesh_radio.specs.Kept.{AreKept, IsPlaceOf};
+ghost use Rattle.mesh_radio.specs.Kept.{IsPlaceOf};
 
 use crate::rooms::Rooms;
-use indexmap::IndexMap;
-use mesh_base::{Bytes, Flying, NoMemory};
+use mesh_base::{Flying, NoMemory};
 use std::alloc::Global;
+use std::collections::VecDeque;
 use std::marker::Model;
-use std::mem;
 
-/// The copies in flight, in a map by their ids. The entries up to `gone` were taken from the
-/// front, and those from `end` on are for ids to come.
+/// The copies in flight, in a ring by rising id. The least is taken without moving another, any other
+/// by moving those on its shorter side.
 #[derive(Drop)]
 pub struct Copies {
-    map: IndexMap<u64, Flying>,
-    gone: usize,
-    end: usize,
+    ring: VecDeque<Flying>,
     next: u64,
     rooms: Rooms,
 }
 
 impl Model for Copies {
-    ghost use Rattle.std.specs.Prelude.{◌≤◌, ◌-◌, length, take, drop};
-    ghost use Rattle.indexmap.specs.IndexMap.{keys, values};
-    ghost use Rattle.mesh_radio.specs.Kept.{Flights, AreKept};
+    ghost use Rattle.std.specs.Prelude.{◌≤◌, ◌+◌};
+    ghost use Rattle.std.specs.VecDeque.{deque_len, deque_capacity};
+    ghost use Rattle.mesh_radio.specs.Copies.{AreNumbered};
+    ghost use Rattle.mesh_radio.specs.Kept.{Flights};
 
     ghost Value = { Flights };
 
-    ghost view = { λ a. record { flying = drop a.gone (take a.end (values a.map)); next_copy = a.next; room = a.rooms.room; most = a.rooms.most } };
+    ghost view = { λ a. record { flying = a.ring.items; next_copy = a.next; room = a.rooms.room; most = a.rooms.most } };
 
-    ghost invariant = { λ a. AreKept (keys a.map) (values a.map) a.end a.next × (a.gone ≤ a.end) × (a.rooms.room ≤ length a.map.entries - a.end) };
+    ghost invariant = { λ a. AreNumbered 1 a.ring.items a.next × (a.rooms.room + deque_len a.ring ≤ deque_capacity a.ring) };
+}
+
+// The place of the copy of this id: a binary search.
+fn search(ring: &VecDeque<Flying>, id: u64) -> Option<usize>
+    requires { (next : ℕ) × AreNumbered 1 ring.now.items next }
+    ensures { IsPlaceOf id ring.now.items result }
+{
+    let mut low = 0;
+    let mut high = ring.len();
+    'halves: while low < high {
+        let middle = low + (high - low) / 2;
+        let there = ring[middle].id;
+        if there == id {
+            return Some(middle);
+        }
+        if there < id {
+            low = middle + 1;
+        } else {
+            high = middle;
+        }
+    }
+    None
+}
+
+// The id of the first copy.
+fn first_id(ring: &VecDeque<Flying>) -> Option<u64>
+    ensures { result ≡ option_map (λ c. c.id) (slice_get ring.now.items 0) }
+{
+    match ring.front() {
+        Some(first) => Some(first.id),
+        None => None,
+    }
 }
 
 impl Copies {
@@ -40,9 +69,7 @@ impl Copies {
         ensures { result ≡ record { flying = []; next_copy = 1; room = 0; most = 0 } }
     {
         Copies {
-            map: IndexMap::new(alloc),
-            gone: 0,
-            end: 0,
+            ring: VecDeque::new(alloc),
             next: 1,
             rooms: Rooms::new(alloc),
         }
@@ -53,7 +80,7 @@ impl Copies {
         ensures value { result ≡ length self.now.flying }
         ensures numbered { AreNumbered 1 self.now.flying self.now.next_copy }
     {
-        self.end - self.gone
+        self.ring.len()
     }
 
     /// The id of the next copy.
@@ -68,9 +95,8 @@ impl Copies {
         requires { k < length self.now.flying }
         ensures { slice_get self.now.flying k ≡ Some result.now }
     {
-        let _kept = self.map.len();
-        match self.map.get_index(self.gone + k) {
-            Some((_, flying)) => flying,
+        match self.ring.get(k) {
+            Some(flying) => flying,
             None => unreachable!(),
         }
     }
@@ -80,14 +106,10 @@ impl Copies {
         ensures place { IsPlaceOf id self.now.flying result }
         ensures numbered { AreNumbered 1 self.now.flying self.now.next_copy }
     {
-        let index = self.map.get_index_of(&id)?;
-        if index < self.gone {
-            return None;
+        if first_id(&self.ring) == Some(id) {
+            return Some(0);
         }
-        if index >= self.end {
-            return None;
-        }
-        Some(index - self.gone)
+        search(&self.ring, id)
     }
 
     /// One copy more flies, and has the next id.
@@ -97,15 +119,13 @@ impl Copies {
         requires next { self.old.next_copy + 1 < 2 ^ 64 }
         ensures { self.new ≡ record self.old { flying = self.old.flying ++ record { id = self.old.next_copy; from = from; to = to; bytes = bytes.now } ∷ []; next_copy = self.old.next_copy + 1; room = self.old.room - 1 } }
     {
-        let _kept = self.map.len();
         let flying = Flying {
             id: self.next,
             from,
             to,
             bytes: self.rooms.fill(bytes),
         };
-        self.map[self.end] = flying;
-        self.end += 1;
+        self.ring.push_back_reserved(flying);
         self.next += 1;
     }
 
@@ -115,43 +135,17 @@ impl Copies {
         ensures others { self.new ≡ record self.old { flying = without self.old.flying id } }
     {
         let place = self.place_of(id)?;
-        if place == 0 {
-            Some(self.take_first(id))
-        } else {
-            Some(self.take_later(place))
-        }
+        Some(self.take_at(place))
     }
 
-    // Takes the copy of the least id, which is this one. No other is moved.
-    fn take_first(&mut self, id: u64) -> Flying
-        requires { IsPlaceOf id self.old.flying (Some 0) }
-        ensures taken { slice_get self.old.flying 0 ≡ Some result }
-        ensures others { self.new ≡ record self.old { flying = remove self.old.flying 0 } }
-    {
-        let _kept = self.map.len();
-        let taken = Flying {
-            id,
-            from: 0,
-            to: 0,
-            bytes: Bytes::empty(),
-        };
-        let flying = mem::replace(&mut self.map[self.gone], taken);
-        self.gone += 1;
-        flying
-    }
-
-    // Takes the copy at this place. Those behind it move up.
-    fn take_later(&mut self, place: usize) -> Flying
+    // Takes the copy at this place.
+    fn take_at(&mut self, place: usize) -> Flying
         requires { place < length self.old.flying }
         ensures taken { slice_get self.old.flying place ≡ Some result }
         ensures others { self.new ≡ record self.old { flying = remove self.old.flying place } }
     {
-        let _kept = self.map.len();
-        match self.map.shift_remove_index(self.gone + place) {
-            Some((_, flying)) => {
-                self.end -= 1;
-                flying
-            }
+        match self.ring.remove(place) {
+            Some(flying) => flying,
             None => unreachable!(),
         }
     }
@@ -164,58 +158,7 @@ impl Copies {
         ensures ok { OnOk result ((copies ≤ self.new.room) × (bytes ≤ self.new.most)) }
         ensures refused { OnErr result (self.new ≡ self.old) }
     {
-        if self.gone > self.map.len() / 2 {
-            self.forget();
-        }
-        more_ids(&mut self.map, self.end, self.next, copies)?;
+        self.ring.reserve(copies)?;
         self.rooms.make(copies, bytes)
     }
-
-    // Cuts off the entries of copies that were taken from the front.
-    fn forget(&mut self)
-        ensures { self.new ≡ self.old }
-    {
-        let _kept = self.map.len();
-        cut_front(&mut self.map, self.gone);
-        self.end -= self.gone;
-        self.gone = 0;
-    }
-}
-
-// Entries for ids to come join, until there are as many as `count`.
-fn more_ids(
-    map: &mut IndexMap<u64, Flying>,
-    end: usize,
-    next: u64,
-    count: usize,
-) -> Result<(), NoMemory>
-    requires few { count ≤ 200 }
-    requires small { next + 200 < 2 ^ 64 }
-    requires kept { AreKept (keys map.old) (values map.old) end next }
-    ensures kept { AreKept (keys map.new) (values map.new) end next }
-    ensures same { take end (values map.new) ≡ take end (values map.old) }
-    ensures keeps { index_map_len map.old ≤ index_map_len map.new }
-    ensures ok { OnOk result (end + count ≤ index_map_len map.new) }
-{
-    for place in map.len()..end + count {
-        let id = next + (place - end) as u64;
-        let coming = Flying {
-            id,
-            from: 0,
-            to: 0,
-            bytes: Bytes::empty(),
-        };
-        let Ok(_none) = map.insert(id, coming) else {
-            return Err(NoMemory);
-        };
-    }
-    Ok(())
-}
-
-// Removes the first entries.
-fn cut_front(map: &mut IndexMap<u64, Flying>, count: usize)
-    requires { count ≤ index_map_len map.old }
-    ensures { map.new.entries ≡ drop count map.old.entries }
-{
-    for _ in map.drain(..count) {}
 }

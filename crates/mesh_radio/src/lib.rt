@@ -7,6 +7,6 @@ mod adjacency;
 mod copies;
 mod radio;
 mod rooms;
-mod sized;
+mod shelf;
 
 pub use radio::Radio;

@@ -1,29 +1,34 @@
 //! Memory for packets to come.
-ghost use Rattle.std.specs.Prelude.{◌≡◌, ◌<◌, ◌≤◌, ◌-◌, length, take, replicate, max, OnOk, OnErr, IfOk};
-ghost use Rattle.mesh_radio.specs.Kept.{AreFalling, sizes_of};
+ghost use Rattle.std.specs.Prelude.{◌≡◌, ◌<◌, ◌≤◌, ◌-◌, length, max, OnOk, OnErr};
 
-use crate::sized::SizedRoom;
+use crate::shelf::Shelf;
 use mesh_base::{Bytes, NoMemory};
 use std::alloc::Global;
 use std::marker::Model;
 
-/// Rooms for packets to come, the smallest last, so that the smallest are used first.
+// Most packets are no longer than this: requests, replies and short data.
+const SHORT: usize = 64;
+
+/// Memory for packets to come, whatever their lengths are: as many rooms for short packets as for
+/// the longest, so that a short packet doesn't use up a long room.
 #[derive(Drop)]
 pub struct Rooms {
     alloc: Global,
-    rooms: Vec<SizedRoom>,
-    most: usize,
+    short: Shelf,
+    long: Shelf,
+    // For so many packets there is room on both shelves.
+    ready: usize,
 }
 
 impl Model for Rooms {
-    ghost use Rattle.std.specs.Prelude.{length};
-    ghost use Rattle.mesh_radio.specs.Kept.{Memory, AreFalling, sizes_of};
+    ghost use Rattle.std.specs.Prelude.{◌≡◌, ◌≤◌};
+    ghost use Rattle.mesh_radio.specs.Kept.{Memory};
 
     ghost Value = { Memory };
 
-    ghost view = { λ r. record { room = length r.rooms.items; most = r.most } };
+    ghost view = { λ r. record { room = r.ready; most = r.long.most } };
 
-    ghost invariant = { λ r. AreFalling r.most (sizes_of r.rooms.items) };
+    ghost invariant = { λ r. (r.ready ≤ r.short.room) × (r.ready ≤ r.long.room) × (r.short.most ≡ 64) };
 }
 
 impl Rooms {
@@ -33,29 +38,29 @@ impl Rooms {
     {
         Rooms {
             alloc,
-            rooms: Vec::new(alloc),
-            most: 0,
+            short: Shelf::new(alloc, SHORT),
+            long: Shelf::new(alloc, 0),
+            ready: 0,
         }
     }
 
-    /// Makes sure of this many rooms, each for this many bytes. Those that are large enough stay,
-    /// and smaller ones are dropped only when the new ones are there.
+    /// Makes sure of room for this many packets, each of this many bytes. What is there stays, where
+    /// it is large enough.
     pub fn make(&mut self, count: usize, bytes: usize) -> Result<(), NoMemory>
         ensures ok { OnOk result ((count ≤ self.new.room) × (bytes ≤ self.new.most)) }
         ensures bounded { OnOk result (self.new.room ≤ max self.old.room count) }
         ensures refused { OnErr result (self.new ≡ self.old) }
     {
-        if bytes <= self.most && count <= self.rooms.len() {
-            return Ok(());
+        let ready = self.ready.max(count);
+        self.short.fill_up(self.alloc, ready)?;
+        if bytes <= self.long.bytes() {
+            self.long.fill_up(self.alloc, ready)?;
+        } else {
+            let mut long = Shelf::new(self.alloc, bytes);
+            long.fill_up(self.alloc, ready)?;
+            self.long = long;
         }
-        let kept = large_enough(&self.rooms, bytes);
-        let mut fresh = new_rooms(self.alloc, count.saturating_sub(kept), bytes)?;
-        self.rooms.reserve(fresh.len())?;
-        self.rooms.truncate(kept);
-        let Ok(()) = self.rooms.append(&mut fresh) else {
-            unreachable!()
-        };
-        self.most = bytes;
+        self.ready = ready;
         Ok(())
     }
 
@@ -66,34 +71,11 @@ impl Rooms {
         ensures bytes { result ≡ bytes.now }
         ensures room { self.new ≡ record self.old { room = self.old.room - 1 } }
     {
-        match self.rooms.pop() {
-            Some(sized) => sized.room.fill(bytes),
-            None => unreachable!(),
+        self.ready -= 1;
+        if bytes.len() <= SHORT {
+            self.short.take().fill(bytes)
+        } else {
+            self.long.take().fill(bytes)
         }
     }
-}
-
-// How many rooms are large enough for this many bytes. They stand before all others.
-fn large_enough(rooms: &Vec<SizedRoom>, bytes: usize) -> usize
-    requires { AreFalling 0 (sizes_of rooms.now.items) }
-    ensures within { result ≤ length rooms.now.items }
-    ensures large { AreFalling bytes (sizes_of (take result rooms.now.items)) }
-{
-    let mut kept = rooms.len();
-    while kept > 0 && rooms[kept - 1].bytes < bytes {
-        kept -= 1;
-    }
-    kept
-}
-
-// This many rooms, each for this many bytes.
-fn new_rooms(alloc: Global, count: usize, bytes: usize) -> Result<Vec<SizedRoom>, NoMemory>
-    ensures { IfOk result (λ fresh. sizes_of fresh.items ≡ replicate count bytes) }
-{
-    let mut fresh = Vec::with_capacity(alloc, count)?;
-    for _ in 0..count {
-        let sized = SizedRoom::new(alloc, bytes)?;
-        fresh.push(sized)?;
-    }
-    Ok(fresh)
 }

@@ -1,4 +1,9 @@
-pub mod Words
-pub mod Steps
-pub mod Sound
 pub mod Telling
+pub mod Shown
+pub mod Events
+pub mod Counts
+pub mod Sound
+pub mod Chosen
+pub mod Tables
+pub mod Asked
+pub mod Choices

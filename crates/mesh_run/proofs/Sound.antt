@@ -1,140 +1,92 @@
--- Each event keeps what every moment has.
-use Rattle.std.proofs.Common.{◌≡◌, ℕ, zero, suc, ◌+◌, ◌<◌, ◌≤◌, Bool, true, false, eqb, cond, List, [], ◌∷◌, ◌++◌, Option, Some, None, length, set, refl, sym, ap, subst, ◌∙◌, arith, replicate, length-set}
-use Rattle.std.specs.Option.{ForSome, unwrap_or}
-use Rattle.std.specs.List.{slice_get}
-use Rattle.std.proofs.lemmas.List.{length-replicate}
+-- What every moment of a run has.
+use Rattle.std.proofs.Common.{◌≡◌, ℕ, false, Option, Some, None, Result, Ok, List, is_some, refl, sym, ap, subst, ◌∙◌, arith}
+use Rattle.std.specs.Option.{option_map, unwrap_or}
 use Rattle.mesh_base.specs.Meshes.{Nodes}
-use Rattle.mesh_text.specs.World.{Item, New, Datum, Node, fresh_node, World, opening_world, Event, Give, Turn, Own, Stored, Taken, Outcome, Idle, Goes, with_node_at, given, turned, turn, at_node, step, after, waiting, queued}
-use Rattle.mesh_text.specs.Schedule.{Moment, world_of, idle_by, given_by, stepped, outcome_at}
-use Rattle.mesh_text.specs.Events.{event_of, IsWithin}
-use Rattle.mesh_text.proofs.Balance.{stepped_balanced, balanced_before}
-use Rattle.mesh_base.specs.declared.events.Event.{Event as CodeEvent}
-use Rattle.mesh_base.specs.declared.events.Event.TheVariants.{Give as CodeGive, Turn as CodeTurn}
-use Rattle.mesh_run.specs.Outcomes.{outcome_of, IsDoneWithin}
-use Rattle.mesh_run.specs.declared.world.Done.{Done}
-use Rattle.mesh_run.specs.declared.world.Done.TheVariants.{Idle as DoneIdle, Changed as DoneChanged, Delivered as DoneDelivered, Stored as DoneStored}
-use Rattle.mesh_run.specs.Moments.{AreItemsWithin, AreQueuesWithin, IsEventOf, IsOutcomeWithin, IsWorldOf, IsSound}
+use Rattle.mesh_base.specs.declared.events.Variant.TheVariants.{Base}
+use Rattle.mesh_base.specs.declared.events.Done.{Done}
+use Rattle.mesh_model.specs.Worlds.{World, Event, step, after, start, first_numbers}
+use Rattle.mesh_model.specs.Accounts.{any, waiting, queued, in_flight}
+use Rattle.mesh_model.proofs.AccountSteps.{start_empty}
+use Rattle.mesh_meaning.specs.Events.{place_of}
+use Rattle.mesh_meaning.specs.Answers.{outcome_in, IsDoneInMesh}
+use Rattle.mesh_text.specs.Schedule.{Sums, Moment, world_of, stepped, summed}
+use Rattle.mesh_world.specs.Seen.{WorldSeen}
+use Rattle.mesh_world.specs.Steps.{IsDone, IsStep}
+use Rattle.mesh_world.specs.declared.steps.StepError.{StepError}
+use Rattle.mesh_run.specs.Sums.{AreCounts}
+use Rattle.mesh_run.specs.Moments.{IsWorldAt, IsSound, IsAnswer}
 
--- ---- queues
+-- there are no data before the run has started
+pub record Nothing (w : World) : Type 0 where
+  pub waiting : 0 ≡ waiting any w
+  pub queued : 0 ≡ queued any w
+  pub flying : 0 ≡ in_flight any w
 
-AreItemsWithin-push : (count : ℕ) (items : List Item) (dest : ℕ) (body : List ℕ) → AreItemsWithin count items → dest < count → length body ≤ 512 → AreItemsWithin count (items ++ New dest body ∷ [])
-AreItemsWithin-push count [] dest body all p q = ((p, q), tt)
-AreItemsWithin-push count (New d b ∷ items) dest body all p q = (all.0, AreItemsWithin-push count items dest body all.1 p q)
+nothing_at : (firsts : Nodes) → Nothing (start Base (first_numbers firsts))
+nothing_at firsts =
+    let e = start_empty any Base (first_numbers firsts) in
+    record { waiting = omega (arith, e); queued = omega (arith, e); flying = omega (arith, e) }
 
-AreQueuesWithin-set : (count : ℕ) (ns : List Node) (i : ℕ) (n : Node) → AreQueuesWithin count ns → AreItemsWithin count n.queue → AreQueuesWithin count (set ns i n)
-AreQueuesWithin-set count [] i n all p = all
-AreQueuesWithin-set count (m ∷ ns) zero n all p = (p, all.1)
-AreQueuesWithin-set count (m ∷ ns) (suc i) n all p = (all.0, AreQueuesWithin-set count ns i n all.1 p)
-
-AreQueuesWithin-get : (count : ℕ) (ns : List Node) (i : ℕ) (n : Node) → slice_get ns i ≡ Some n → AreQueuesWithin count ns → AreItemsWithin count n.queue
-AreQueuesWithin-get count [] i n is all = absurd (let P : ⊥ = cc in P)
-AreQueuesWithin-get count (m ∷ ns) zero n is all =
-    let same : m ≡ n = cc in
-    let P : Node → Type 0 = λ k. AreItemsWithin count k.queue in
-    subst P same all.0
-AreQueuesWithin-get count (m ∷ ns) (suc i) n is all = AreQueuesWithin-get count ns i n is all.1
-
-AreQueuesWithin-fresh : (count k : ℕ) → AreQueuesWithin count (replicate k fresh_node)
-AreQueuesWithin-fresh count zero = tt
-AreQueuesWithin-fresh count (suc k) = (tt, AreQueuesWithin-fresh count k)
+pub nothing_held : (m : Moment) → false ≡ is_some m.world → Nothing (world_of m)
+nothing_held m h = by_world m.world h
+  where
+    by_world : (o : Option World) → false ≡ is_some o → Nothing (unwrap_or o (start Base (first_numbers m.mesh)))
+    by_world None h = nothing_at m.mesh
+    by_world (Some w) h = absurd (let P : ⊥ = cc in P)
 
 -- ---- an event
 
--- what an event leaves
-record Leaves (count : ℕ) (w : World) (o : Outcome) : Type 0 where
-  world : IsWorldOf count (after w o)
-  within : IsOutcomeWithin count o
-
-placed : (count : ℕ) (w : World) (i : ℕ) (n : Node) → IsWorldOf count w → AreItemsWithin count n.queue → IsWorldOf count (with_node_at w i n)
-placed count w i n is p = record { sized = length-set w.nodes i n ∙ is.sized; queues = AreQueuesWithin-set count w.nodes i n is.queues p }
-
-taken_if : (b : Bool) (count : ℕ) (w : World) (i dest : ℕ) (body : List ℕ) (rest rest' : Node) → IsWorldOf count w → (dest < count) × (length body ≤ 512)
-    → AreItemsWithin count rest.queue → AreItemsWithin count rest'.queue
-    → Leaves count w (cond b (Goes (with_node_at w i rest) (Taken (Own body) (record { deliver = true }))) (Goes (with_node_at w i rest') (Taken (Stored dest) (record { deliver = false }))))
-taken_if true count w i dest body rest rest' is p q q' = record { world = placed count w i rest is q; within = p.1 }
-taken_if false count w i dest body rest rest' is p q q' = record { world = placed count w i rest' is q'; within = p.0 }
-
-turned_leaves : (count : ℕ) (w : World) (i : ℕ) (queue : List Item) (store : List Datum) → IsWorldOf count w → AreItemsWithin count queue → Leaves count w (turned w i queue store)
-turned_leaves count w i [] store is q = record { world = is; within = tt }
-turned_leaves count w i (New dest body ∷ queue) store is q = taken_if (eqb dest i) count w i dest body _ _ is q.0 q.1 q.1
-
-turn_leaves : (count : ℕ) (w : World) (i : ℕ) (o : Option Node) → slice_get w.nodes i ≡ o → IsWorldOf count w → Leaves count w (at_node o (turn w i))
-unfolding turn
-turn_leaves count w i None at is = record { world = is; within = tt }
-turn_leaves count w i (Some n) at is = turned_leaves count w i n.queue n.store is (AreQueuesWithin-get count w.nodes i n at is.queues)
-
-give_leaves : (count : ℕ) (w : World) (i dest : ℕ) (body : List ℕ) (o : Option Node) → slice_get w.nodes i ≡ o → IsWorldOf count w → dest < count → length body ≤ 512
-    → Leaves count w (at_node o (given w i dest body))
-unfolding given
-give_leaves count w i dest body None at is p q = record { world = is; within = tt }
-give_leaves count w i dest body (Some n) at is p q =
-    record { world = placed count w i _ is (AreItemsWithin-push count n.queue dest body (AreQueuesWithin-get count w.nodes i n at is.queues) p q); within = tt }
-
-step_leaves : (count : ℕ) (w : World) (e : Event) → IsWorldOf count w → IsEventOf count e → Leaves count w (step w e)
-unfolding step
-step_leaves count w (Give i dest body) is ev = give_leaves count w i dest body (slice_get w.nodes i) refl is ev.1 ev.2
-step_leaves count w (Turn i) is ev = turn_leaves count w i (slice_get w.nodes i) refl is
-
-opening_is : (count : ℕ) → IsWorldOf count (opening_world count)
-opening_is count = record { sized = length-replicate count fresh_node; queues = AreQueuesWithin-fresh count count }
-
-world_is : (count : ℕ) (o : Option World) → ForSome o (IsWorldOf count) → IsWorldOf count (unwrap_or o (opening_world count))
-world_is count None h = opening_is count
-world_is count (Some w) h = h w refl
-
--- ---- moments
-
-idle_once : (o : Outcome) → idle_by o ≤ 1
-idle_once Idle = omega arith
-idle_once (Goes w h) = omega arith
-
-given_once : (e : Event) (o : Outcome) → given_by e o ≤ 1
-given_once (Give i d body) Idle = omega arith
-given_once (Give i d body) (Goes w h) = omega arith
-given_once (Turn i) o = omega arith
-
-some_inj : {x y : World} → Some x ≡ Some y → x ≡ y
-some_inj h = cc
-
-pub sound_next : (m : Moment) (e : Event) → IsSound m → IsEventOf (length m.mesh) e → IsSound (stepped m e)
-unfolding stepped
-sound_next m e is ev =
-    let k = step_leaves (length m.mesh) (world_of m) e (world_is (length m.mesh) m.world is.world) ev in
-    let i = idle_once (outcome_at m e) in
-    let g = given_once e (outcome_at m e) in
-    record {
-      idle = omega (arith, is.idle, i);
-      given = omega (arith, is.given, g);
-      balance = stepped_balanced m e is.balance;
-      world = λ w eq. subst (IsWorldOf (length m.mesh)) (some_inj eq) k.world;
-    }
-
-pub event_is : (count : ℕ) (e : CodeEvent) → IsWithin count e → IsEventOf count (event_of e)
-event_is count (CodeGive node dest body) p = p
-event_is count (CodeTurn node) p = p
-
-done_is : (count : ℕ) (w : World) (done : Done) → IsOutcomeWithin count (outcome_of w done) → IsDoneWithin count done
-done_is count w DoneIdle p = tt
-done_is count w DoneChanged p = tt
-done_is count w (DoneDelivered body) p = p
-done_is count w (DoneStored dest) p = p
-
-pub answer_is : (m : Moment) (v : World) (e : Event) (done : Done) → IsSound m → IsEventOf (length m.mesh) e → outcome_of v done ≡ outcome_at m e → IsDoneWithin (length m.mesh) done
-answer_is m v e done is ev eq =
-    done_is (length m.mesh) v done (subst (IsOutcomeWithin (length m.mesh)) (sym eq) (step_leaves (length m.mesh) (world_of m) e (world_is (length m.mesh) m.world is.world) ev).within)
-
--- one more node, before the first event
-pub sound_node : (m : Moment) (mesh : Nodes) → m.world ≡ None → IsSound m → IsSound (record m { mesh = mesh })
-sound_node m mesh none is = record {
-  idle = is.idle;
-  given = is.given;
-  balance = balanced_before m (record m { mesh = mesh }) none none refl is.balance;
-  world = λ w eq. absurd (let e : None ≡ Some w = sym none ∙ eq in let P : ⊥ = cc in P);
+pub sound_next : (nodes : Nodes) (old new : WorldSeen) (s t : Sums) (e : Event) (d : Done) (packet : List ℕ) → IsSound nodes (Some old) s → IsDone e old d new packet → AreCounts t
+    → t ≡ summed s e (step old.world e) → IsSound nodes (Some new) t
+sound_next nodes old new s t e d packet is done counts sum = record {
+  counts = counts;
+  world = λ w eq.
+      let kept = is.world old refl in
+      let events = ap (λ x. x.events) sum in
+      let steps = ap (λ x. x.steps) done.world in
+      subst (IsWorldAt nodes t.events) (some_inj eq) (record {
+        mesh = ap (λ x. x.mesh) done.world ∙ kept.mesh;
+        steps = omega (arith, kept.steps, events, steps);
+      });
 }
+  where
+    some_inj : {x y : WorldSeen} → Some x ≡ Some y → x ≡ y
+    some_inj h = cc
 
--- no more data wait than there were events
-pub sound_held : (m : Moment) (w : World) → IsSound m → m.world ≡ Some w → waiting w + queued w ≤ m.sums.events
-sound_held m w is e =
-    let a : waiting (world_of m) ≡ waiting w = ap (λ o. waiting (unwrap_or o (opening_world (length m.mesh)))) e in
-    let b : queued (world_of m) ≡ queued w = ap (λ o. queued (unwrap_or o (opening_world (length m.mesh)))) e in
-    omega (arith, is.balance, is.given, a, b)
+-- what is answered at a moment
+pub answer_at : (m : Moment) (nodes : Nodes) (old new : WorldSeen) (s t : Sums) (lines : ℕ) (e : Event) (d : Done) (packet : List ℕ)
+    → m ≡ record { mesh = nodes; world = Some old.world; sums = s; lines = lines } → old.mesh ≡ nodes → IsDone e old d new packet → t ≡ summed s e (step old.world e)
+    → IsAnswer m e d (record { mesh = nodes; world = Some new.world; sums = t; lines = lines }) packet
+unfolding stepped
+answer_at m nodes old new s t lines e d packet is same done sum =
+    let n : Moment = record { mesh = nodes; world = Some old.world; sums = s; lines = lines } in
+    let k : Moment = record { mesh = nodes; world = Some new.world; sums = t; lines = lines } in
+    let P : Moment → Type 0 = λ x. IsAnswer x e d k packet in
+    let world : new.world ≡ after old.world (step old.world e) = ap (λ x. x.world) done.world in
+    subst P (sym is) (record {
+      moment = ap (λ w. let x : Moment = record { mesh = nodes; world = Some w; sums = t; lines = lines } in x) world
+          ∙ ap (λ u. let x : Moment = record { mesh = nodes; world = Some (after old.world (step old.world e)); sums = u; lines = lines } in x) sum;
+      outcome = done.outcome ∙ ap (λ x. outcome_in x (place_of e) new.world d packet) same;
+      in_mesh = subst (λ x. IsDoneInMesh x d packet) same done.in_mesh;
+    })
+
+-- an event was done: the moment after it is in order, and is answered
+pub record Answered (m : Moment) (nodes : Nodes) (new : WorldSeen) (t : Sums) (lines : ℕ) (e : Event) (d : Done) (packet : List ℕ) : Type 0 where
+  pub sound : IsSound nodes (Some new) t
+  pub answer : IsAnswer m e d (record { mesh = nodes; world = Some new.world; sums = t; lines = lines }) packet
+
+pub answered : {D : Type 0} (seen : D → WorldSeen) (o : Option D) (w : D) (m : Moment) (nodes : Nodes) (new : WorldSeen) (s t : Sums) (lines : ℕ) (e : Event) (r : Result Done StepError) (d : Done) (packet : List ℕ)
+    → o ≡ Some w → record { mesh = nodes; world = option_map (λ x. (seen x).world) o; sums = s; lines = lines } ≡ m → IsSound nodes (option_map seen o) s
+    → IsStep e (seen w) r new packet → r ≡ Ok d → AreCounts t
+    → ((mesh : Nodes) (x : ℕ) (old new : World) (packet : List ℕ) → IsDoneInMesh mesh d packet → step old e ≡ outcome_in mesh x new d packet → t ≡ summed s e (step old e))
+    → Answered m nodes new t lines e d packet
+answered {D} seen o w m nodes new s t lines e r d packet is view sound stepped ok counts sums =
+    let old = seen w in
+    let done : IsDone e old d new packet = subst (λ x. IsStep e old x new packet) ok stepped in
+    let sum : t ≡ summed s e (step old.world e) = sums old.mesh (place_of e) old.world new.world packet done.in_mesh done.outcome in
+    let P : Option D → Type 0 = λ x. IsSound nodes (option_map seen x) s in
+    let Q : Option D → Type 0 = λ x. m ≡ record { mesh = nodes; world = option_map (λ y. (seen y).world) x; sums = s; lines = lines } in
+    let before : IsSound nodes (Some old) s = subst P is sound in
+    let here : m ≡ record { mesh = nodes; world = Some old.world; sums = s; lines = lines } = subst Q is (sym view) in
+    let kept = before.world old refl in
+    record { sound = sound_next nodes old new s t e d packet before done counts sum; answer = answer_at m nodes old new s t lines e d packet here kept.mesh done sum }

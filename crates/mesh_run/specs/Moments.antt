@@ -1,42 +1,65 @@
--- What every moment of a run has.
-use Rattle.std.specs.Prelude.{ℕ, ◌<◌, ◌≤◌, ◌≡◌, List, [], ◌∷◌, length, ⊤}
+-- What every moment of a run has, and what an event answers at one.
+use Rattle.std.specs.Prelude.{◌≡◌, ◌≤◌, ℕ, List, Option, ⊤, refl}
+use Rattle.std.specs.Coded.{Coded, code_by, coded×, coded_ℕ, coded_list, coded_option}
 use Rattle.std.specs.Option.{ForSome}
-use Rattle.mesh_text.specs.World.{Item, New, Node, World, Event, Give, Turn, Took, Own, Stored, Changed, Taken, Outcome, Idle, Goes}
-use Rattle.mesh_text.specs.Schedule.{Moment}
-use Rattle.mesh_text.specs.Accounts.{IsBalanced}
+use Rattle.mesh_base.specs.Meshes.{Nodes}
+use Rattle.mesh_base.specs.declared.events.Done.{Done}
+use Rattle.mesh_base.specs.declared.events.Event.{Event as EventGiven}
+use Rattle.mesh_model.specs.Worlds.{World, Event, Stops}
+use Rattle.mesh_model.specs.Codes.{world_code}
+use Rattle.mesh_meaning.specs.Events.{place_of}
+use Rattle.mesh_meaning.specs.Answers.{outcome_in, IsDoneInMesh}
+use Rattle.mesh_text.specs.Schedule.{Moment, Sums, world_of, outcome_at, stepped}
+use Rattle.mesh_run.specs.Sums.{AreCounts}
+use Rattle.mesh_world.specs.Seen.{WorldSeen}
+use Rattle.mesh_world.specs.declared.steps.StepError.{StepError}
+use Rattle.mesh_world.specs.declared.steps.StepError.TheVariants.{Full, NoMemory}
+use Rattle.mesh_run.specs.declared.stop.Stop.{Stop}
+use Rattle.mesh_run.specs.declared.stop.Stop.TheVariants as stop
 
--- a datum in a queue is for a node of the mesh, and has at most 512 bytes
-abbrev pub AreItemsWithin : ℕ → List Item → Type 0
-AreItemsWithin count [] = ⊤
-AreItemsWithin count (New dest body ∷ items) = ((dest < count) × (length body ≤ 512)) × AreItemsWithin count items
+-- a world of this mesh, which has taken at most as many steps as there were events
+pub record IsWorldAt (nodes : Nodes) (events : ℕ) (w : WorldSeen) : Type 0 where
+  pub mesh : w.mesh ≡ nodes
+  pub steps : w.steps ≤ events
 
-abbrev pub AreQueuesWithin : ℕ → List Node → Type 0
-AreQueuesWithin count [] = ⊤
-AreQueuesWithin count (n ∷ ns) = AreItemsWithin count n.queue × AreQueuesWithin count ns
+-- no sum is above the number of events, and the world is of this mesh
+pub record IsSound (nodes : Nodes) (seen : Option WorldSeen) (sums : Sums) : Type 0 where
+  pub counts : AreCounts sums
+  pub world : ForSome seen (IsWorldAt nodes sums.events)
 
--- a world of the nodes of the mesh
-pub record IsWorldOf (count : ℕ) (w : World) : Type 0 where
-  pub sized : length w.nodes ≡ count
-  pub queues : AreQueuesWithin count w.nodes
+-- the event was done, or was idle: the answer, with the packet that was cast, says what came of it, and names nodes of
+-- the mesh only
+pub record IsAnswer (m : Moment) (e : Event) (done : Done) (n : Moment) (packet : List ℕ) : Type 0 where
+  pub moment : n ≡ stepped m e
+  pub outcome : outcome_at m e ≡ outcome_in m.mesh (place_of e) (world_of n) done packet
+  pub in_mesh : IsDoneInMesh m.mesh done packet
 
--- an event of a mesh of so many nodes
-abbrev pub IsEventOf : ℕ → Event → Type 0
-IsEventOf count (Give i d body) = (i < count) × (d < count) × (length body ≤ 512)
-IsEventOf count (Turn i) = i < count
+-- the event was refused for a full counter
+abbrev pub IsRefusal : Moment → Event → StepError → Type 0
+IsRefusal m e (Full node field) = outcome_at m e ≡ Stops node field
+IsRefusal m e NoMemory = ⊤
 
--- what was taken names a node of the mesh, and has at most 512 bytes
-abbrev pub IsTookWithin : ℕ → Took → Type 0
-IsTookWithin count (Own body) = length body ≤ 512
-IsTookWithin count (Stored dest) = dest < count
+-- what then stops the run
+abbrev pub stop_of : EventGiven → StepError → Stop
+stop_of e (Full node field) = stop.Full e field
+stop_of e NoMemory = stop.NoMemory
 
-abbrev pub IsOutcomeWithin : ℕ → Outcome → Type 0
-IsOutcomeWithin count Idle = ⊤
-IsOutcomeWithin count (Goes w Changed) = ⊤
-IsOutcomeWithin count (Goes w (Taken took effect)) = IsTookWithin count took
+-- ---- a code, by which proofs tell moments apart
 
--- no count is above the number of events, the account of data balances, and the world is of this mesh
-pub record IsSound (m : Moment) : Type 0 where
-  pub idle : m.sums.idle ≤ m.sums.events
-  pub given : m.sums.given ≤ m.sums.events
-  pub balance : IsBalanced m
-  pub world : ForSome m.world (IsWorldOf (length m.mesh))
+abbrev Parts : Type 0
+Parts = ℕ × (ℕ × (ℕ × (ℕ × ℕ)))
+
+abbrev sums_code : Coded Sums
+sums_code =
+    code_by Parts (coded× coded_ℕ (coded× coded_ℕ (coded× coded_ℕ (coded× coded_ℕ coded_ℕ))))
+    (λ s. (s.events, (s.idle, (s.given, (s.delivered, s.lost)))))
+    (λ p. record { events = p.0; idle = p.1.0; given = p.1.1.0; delivered = p.1.1.1.0; lost = p.1.1.1.1 })
+    (λ _. refl)
+
+abbrev pub moment_code : Coded Moment
+moment_code =
+    code_by (Nodes × (Option World × (Sums × ℕ)))
+    (coded× (coded_list (coded× coded_ℕ coded_ℕ)) (coded× (coded_option world_code) (coded× sums_code coded_ℕ)))
+    (λ m. (m.mesh, (m.world, (m.sums, m.lines))))
+    (λ p. record { mesh = p.0; world = p.1.0; sums = p.1.1.0; lines = p.1.1.1 })
+    (λ _. refl)

@@ -1,118 +1,67 @@
 //! A moment of a run: the mesh, its world, what was counted, and how many lines were read.
-ghost use Rattle.std.specs.Prelude.{◌≡◌, ◌<◌, ◌≤◌, ◌^◌, length, is_some, Some, None, IfOk, OnOk, OnErr};
-ghost use Rattle.std.specs.Option.{unwrap_or, ForSome};
+ghost use Rattle.std.specs.Prelude.{◌≡◌, ◌<◌, ◌≤◌, ◌^◌, length, is_some, true, Some, None, IfOk, OnOk, OnErr, IfErr, IfSome};
 ghost use Rattle.mesh_base.specs.Meshes.{index_of, with_node};
-ghost use Rattle.mesh_text.specs.World as nodes;
+ghost use Rattle.mesh_model.specs.Places.{IsEvent};
+ghost use Rattle.mesh_model.specs.Accounts.{any, waiting, queued, in_flight};
+ghost use Rattle.mesh_meaning.specs.Events.{event_of};
 ghost use Rattle.mesh_text.specs.Schedule as model;
-ghost use Rattle.mesh_text.specs.Events.{event_of, IsWithin};
-ghost use Rattle.mesh_run.specs.Outcomes.{outcome_of, IsDoneWithin};
+ghost use Rattle.mesh_report.specs.Sums as report;
+ghost use Rattle.mesh_run.specs.Moments.{IsAnswer, IsRefusal};
 
-use crate::world::{Done, World};
-use mesh_base::{Addr, Event, Mesh, NoMemory};
+use crate::sums::Sums;
+use mesh_base::{Addr, Done, Event, Mesh, NoMemory, Packet};
+use mesh_report::Summary;
+use mesh_world::{StepError, Steps, Totals, World};
 use std::alloc::Global;
 use std::marker::Model;
 
-/// What was counted so far: events, those that were idle, and data.
-#[derive(Clone, Copy)]
-pub struct Sums {
-    pub events: u64,
-    pub idle: u64,
-    pub given: u64,
-    pub delivered: u64,
-    pub lost: u64,
-}
-
-impl Sums {
-    ghost use Rattle.mesh_run.specs.Sums.{sums_of};
-
-    // Counts an event.
-    fn add(&mut self, e: &Event<'_>, done: &Done)
-        requires few { self.old.events < 2 ^ 62 }
-        requires idle { self.old.idle ≤ self.old.events }
-        requires given { self.old.given ≤ self.old.events }
-        requires delivered { self.old.delivered ≤ self.old.given }
-        ensures { (w : nodes.World) → sums_of self.new ≡ model.summed (sums_of self.old) (event_of e.now) (outcome_of w done.now) }
-    {
-        self.events += 1;
-        match done {
-            Done::Idle => {
-                self.idle += 1;
-                return;
-            }
-            Done::Delivered { .. } => self.delivered += 1,
-            Done::Changed | Done::Stored { .. } => {}
-        }
-        if let Event::Give { .. } = e {
-            self.given += 1;
-        }
-    }
-}
-
-// Steps the world, which the first event makes. An `Err` changes nothing.
-fn step_world(
-    alloc: Global,
-    world: &mut Option<World>,
-    count: usize,
-    e: &Event<'_>,
-) -> Result<Done, NoMemory>
-    requires sized { ForSome world.old (λ w. length w.nodes ≡ count) }
-    requires within { IsWithin count e.now }
-    ensures world { OnOk result (world.new ≡ Some (nodes.after (unwrap_or world.old (nodes.opening_world count)) (nodes.step (unwrap_or world.old (nodes.opening_world count)) (event_of e.now)))) }
-    ensures outcome { IfOk result (λ done. outcome_of (unwrap_or world.new (nodes.opening_world count)) done ≡ nodes.step (unwrap_or world.old (nodes.opening_world count)) (event_of e.now)) }
-    ensures err { OnErr result (world.new ≡ world.old) }
-{
-    if let Some(world) = world {
-        return world.step(alloc, e);
-    }
-    let mut opening = World::new(alloc, count)?;
-    let done = opening.step(alloc, e)?;
-    *world = Some(opening);
-    Ok(done)
-}
-
 /// A moment of a run.
 #[derive(Drop)]
-pub struct Point {
-    mesh: Mesh,
-    world: Option<World>,
-    sums: Sums,
+pub struct Point<S: Steps> {
+    pub(crate) mesh: Mesh,
+    pub(crate) world: Option<S>,
+    pub(crate) sums: Sums,
     lines: u64,
 }
 
-impl Model for Point {
+impl<S: Steps> Model for Point<S> {
+    ghost use Rattle.std.specs.Prelude.{option_map};
     ghost use Rattle.mesh_text.specs.Schedule.{Moment};
+    ghost use Rattle.mesh_run.specs.Moments.{moment_code};
 
     ghost Value = { Moment };
+
+    ghost coded = { moment_code };
 
     ghost use Rattle.mesh_run.specs.Sums.{sums_of};
     ghost use Rattle.mesh_run.specs.Moments.{IsSound};
 
-    ghost view = { λ p. record { mesh = p.mesh; world = p.world; sums = sums_of p.sums; lines = p.lines } };
+    ghost view = { λ p. record {
+      mesh = p.mesh;
+      world = option_map (λ s. (S.seen s).world) p.world;
+      sums = sums_of p.sums;
+      lines = p.lines;
+    } };
 
-    ghost invariant = { λ p. IsSound (record { mesh = p.mesh; world = p.world; sums = sums_of p.sums; lines = p.lines }) };
+    ghost invariant = { λ p. IsSound p.mesh (option_map S.seen p.world) (sums_of p.sums) };
 }
 
-impl Point {
+impl<S: Steps> Point<S> {
     ghost use Rattle.mesh_run.specs.Sums.{sums_of};
 
     /// The moment before the first line.
-    pub fn start() -> Point
+    pub fn start() -> Point<S>
         ensures { result ≡ model.opening }
     {
         Point {
             mesh: Mesh::new(),
             world: None,
-            sums: Sums {
-                events: 0,
-                idle: 0,
-                given: 0,
-                delivered: 0,
-                lost: 0,
-            },
+            sums: Sums::new(),
             lines: 0,
         }
     }
 
+    /// The mesh so far.
     pub fn mesh(&self) -> &Mesh
         ensures { result.now ≡ self.now.mesh }
     {
@@ -126,6 +75,7 @@ impl Point {
         self.world.is_some()
     }
 
+    /// What was counted.
     pub fn sums(&self) -> Sums
         ensures { sums_of result ≡ self.now.sums }
     {
@@ -139,25 +89,50 @@ impl Point {
         self.lines
     }
 
-    /// The data in stores.
-    pub fn waiting(&self) -> u64
-        ensures { result ≡ nodes.waiting (model.world_of self.now) }
+    /// The world, once the run has started.
+    pub fn world(&self) -> Option<&World>
+        ensures some { is_some result ≡ is_some self.now.world }
+        ensures value { IfSome result (λ w. (w.now.world ≡ model.world_of self.now) × (w.now.mesh ≡ self.now.mesh)) }
     {
-        let _events = self.sums.events;
         match &self.world {
-            None => 0,
-            Some(w) => w.waiting(),
+            Some(s) => Some(s.world()),
+            None => None,
         }
     }
 
-    /// The data in queues.
-    pub fn queued(&self) -> u64
-        ensures { result ≡ nodes.queued (model.world_of self.now) }
+    /// What is said at the end of the run.
+    pub fn summary(&self) -> Summary
+        ensures sums { report.sums_of result ≡ self.now.sums }
+        ensures waiting { result.waiting ≡ waiting any (model.world_of self.now) }
+        ensures queued { result.queued ≡ queued any (model.world_of self.now) }
+        ensures flying { result.flying ≡ in_flight any (model.world_of self.now) }
     {
-        let _events = self.sums.events;
-        match &self.world {
-            None => 0,
-            Some(w) => w.queued(),
+        let totals = self.totals();
+        Summary {
+            events: self.sums.events,
+            idle: self.sums.idle,
+            given: self.sums.given,
+            delivered: self.sums.delivered,
+            waiting: totals.waiting,
+            queued: totals.queued,
+            flying: totals.flying,
+            lost: self.sums.lost,
+        }
+    }
+
+    // The data of the world; there are none before the run has started.
+    fn totals(&self) -> Totals
+        ensures waiting { result.waiting ≡ waiting any (model.world_of self.now) }
+        ensures queued { result.queued ≡ queued any (model.world_of self.now) }
+        ensures flying { result.flying ≡ in_flight any (model.world_of self.now) }
+    {
+        match self.world() {
+            Some(world) => world.totals(),
+            None => Totals {
+                waiting: 0,
+                queued: 0,
+                flying: 0,
+            },
         }
     }
 
@@ -182,18 +157,29 @@ impl Point {
         }
     }
 
-    /// Does an event. An `Err` changes nothing.
-    #[tactic(auto, unfolding(mesh_text::specs::Schedule::stepped))]
-    pub fn step(&mut self, alloc: Global, e: &Event<'_>) -> Result<Done, NoMemory>
-        requires few { self.old.sums.events < 2 ^ 62 }
-        requires within { IsWithin (length self.old.mesh) e.now }
-        ensures moment { OnOk result (self.new ≡ model.stepped self.old (event_of e.now)) }
-        ensures outcome { IfOk result (λ done. outcome_of (model.world_of self.new) done ≡ model.outcome_at self.old (event_of e.now)) }
-        ensures answer { IfOk result (λ done. IsDoneWithin (length self.old.mesh) done) }
+    /// Makes the opening world, unless the run has started. An `Err` changes nothing.
+    pub fn begin(&mut self, alloc: Global) -> Result<(), NoMemory>
+        requires { 1 ≤ length self.old.mesh }
+        ensures ok { OnOk result (self.new ≡ model.started self.old) }
         ensures err { OnErr result (self.new ≡ self.old) }
     {
-        let done = step_world(alloc, &mut self.world, self.mesh.len(), e)?;
-        self.sums.add(e, &done);
-        Ok(done)
+        if self.started() {
+            return Ok(());
+        }
+        self.open(alloc)
+    }
+
+    // Makes the opening world. It stands apart, so that no other line pays for its frame.
+    #[cold]
+    #[inline(never)]
+    fn open(&mut self, alloc: Global) -> Result<(), NoMemory>
+        requires some { 1 ≤ length self.old.mesh }
+        requires before { self.old.world ≡ None }
+        ensures ok { OnOk result (self.new ≡ model.started self.old) }
+        ensures err { OnErr result (self.new ≡ self.old) }
+    {
+        let world = S::new(alloc, &self.mesh)?;
+        self.world = Some(world);
+        Ok(())
     }
 }

@@ -4,12 +4,14 @@ ghost use Rattle.std.specs.Prelude.{◌≡◌};
 /// What a run came to.
 #[derive(Clone, Copy, Debug, PartialEq, Eq)]
 pub enum Status {
-    /// The input was read to its end, and every line was allowed.
+    /// The input was read to its end, and every line was allowed and done.
     Done,
     /// The words of the command line are of no form.
     Usage,
     /// This line, counted from 1, isn't allowed.
     BadLine { line: u64 },
+    /// An event of this line, counted from 1, would raise a counter past its field's greatest value.
+    Full { line: u64 },
     /// The source failed.
     ReadFault,
     /// The sink failed.
@@ -29,6 +31,7 @@ impl Status {
             Status::Done => 0,
             Status::Usage => 2,
             Status::BadLine { .. } => 3,
+            Status::Full { .. } => 4,
             Status::ReadFault => 5,
             Status::WriteFault => 6,
             Status::NoMemory => 7,

@@ -1,1 +1,5 @@
-pub mod Balance
+pub mod Printed
+pub mod InRange
+pub mod Picks
+pub mod Moments
+pub mod RunLaws

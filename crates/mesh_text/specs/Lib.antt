@@ -1,15 +1,23 @@
 -- Read in this order.
 -- Grammar: what a line says by itself, and the faults of a line by itself.
--- World: the nodes with their data, events, and the atomic step.
--- Schedule: the moments of a run, the faults of a line at its place, and what an event leaves.
--- Lines: the text of each line.
--- Text: the lines of an input one after another, the whole text and its verdict.
--- Accounts: what becomes of the data that were given.
--- Events: an event of the program as World has it.
 pub mod Grammar
-pub mod World
+-- Schedule: the moments of a run, the faults of a line at its place, and what an event leaves.
 pub mod Schedule
+-- Lines: the text of a schedule's lines, as they are written back, and of the last line of a run.
 pub mod Lines
+-- Effects: the text of what an event did.
+pub mod Effects
+-- Tables: the text of a node's state, of a route's end, and of the copies in flight.
+pub mod Tables
+-- Auto: events that are chosen one after another.
+pub mod Auto
+-- Text: the lines of an input one after another, the whole text and its verdict.
 pub mod Text
+-- Accounts: what becomes of the data that were given.
 pub mod Accounts
-pub mod Events
+-- Runs: the events that an input's lines do, and the worlds that they lead through.
+pub mod Runs
+-- Ranges: the lines that have a text which is read back.
+pub mod Ranges
+-- Laws: what is proved of these definitions.
+pub mod Laws

@@ -1,88 +1,90 @@
--- The text of each line that a run writes. An effect stands below its event, after two spaces.
-use Rattle.std.specs.Prelude.{ℕ, ◌+◌, ◌/◌, ◌%◌, ◌==◌, ◌&&◌, not, List, [], ◌∷◌, ◌++◌, codes, if◌then◌else◌, nat_le, nat_lt}
+-- The text of a schedule's lines in the form in which they are written back, and of the last line of a run.
+use Rattle.std.specs.Prelude.{ℕ, ◌/◌, ◌%◌, ◌+◌, List, [], ◌∷◌, ◌++◌, codes, if◌then◌else◌, nat_lt}
 use Rattle.std.specs.List.{flat_map}
 use Rattle.std.specs.Fmt.{decimal}
 use Rattle.mesh_base.specs.Addresses.{dotted}
 use Rattle.mesh_base.specs.Meshes.{Nodes, addr_at}
+use Rattle.mesh_base.specs.declared.events.Full as full
+use Rattle.mesh_base.specs.declared.events.Full.TheVariants as field
+use Rattle.mesh_model.specs.Worlds.{Event, Give, Turn, Send, Ask, Link, Cut, Deliver, Lose, Double}
+use Rattle.mesh_model.specs.Accounts.{any, waiting, queued, in_flight}
 use Rattle.mesh_text.specs.declared.fault.Span.{Span}
 use Rattle.mesh_text.specs.declared.fault.LineFault.{LineFault}
 use Rattle.mesh_text.specs.declared.fault.LineFault.TheVariants.{Word, Count, BadAddress, BadNumber, BadText, Late, Early, TwiceNode, TooManyNodes, Unknown, Same}
 use Rattle.mesh_text.specs.declared.fault.BadWhy.{BadWhy}
 use Rattle.mesh_text.specs.declared.fault.BadWhy.TheVariants.{Fault, TooLong, TooMuch}
-use Rattle.mesh_text.specs.World.{Event, Give, Turn, Took, Own, Stored, Effect, Happening, Changed, Taken, Outcome, Idle, Goes}
-use Rattle.mesh_text.specs.Schedule.{Sums}
+use Rattle.mesh_text.specs.Schedule.{Sums, Moment, Accepted, Nothing, NewNode, Does, Chooses, ShowsNode, ShowsRoute, ShowsFlight, world_of}
 
 -- a text with the LF that ends it
 abbrev pub line : List ℕ → List ℕ
 line text = text ++ 10 ∷ []
 
+-- a label and a number
+abbrev pub labelled : List ℕ → ℕ → List ℕ
+labelled label n = label ++ decimal n
+
 -- the address of a node, as it is written
 abbrev pub name_of : Nodes → ℕ → List ℕ
 name_of mesh i = dotted (addr_at mesh i)
 
--- ---- lines of a schedule, in the form in which they are written back
+-- ---- lines of a schedule, without their LF
 
-unfoldable pub node_text : ℕ → ℕ → List ℕ
-node_text address first = line (codes "node " ++ dotted address ++ codes " sn " ++ decimal first)
+-- a command and its arguments
+abbrev pub of_one : List ℕ → Nodes → ℕ → List ℕ
+of_one command mesh x = command ++ name_of mesh x
 
-abbrev pub event_text : Nodes → Event → List ℕ
-event_text mesh (Give node dest body) = line (codes "data " ++ name_of mesh node ++ 32 ∷ name_of mesh dest ++ 32 ∷ body)
-event_text mesh (Turn node) = line (codes "turn " ++ name_of mesh node)
+abbrev pub of_two : List ℕ → Nodes → ℕ → ℕ → List ℕ
+of_two command mesh x y = command ++ name_of mesh x ++ 32 ∷ name_of mesh y
 
--- ---- what an event did
+unfoldable pub node_words : ℕ → ℕ → List ℕ
+node_words address first = codes "node " ++ dotted address ++ codes " sn " ++ decimal first
+
+-- no command of a schedule doubles a copy
+unfoldable pub event_words : Nodes → Event → List ℕ
+event_words mesh (Give x d body) = of_two (codes "data ") mesh x d ++ 32 ∷ body
+event_words mesh (Turn x) = of_one (codes "turn ") mesh x
+event_words mesh (Send x d) = of_two (codes "send ") mesh x d
+event_words mesh (Ask x d) = of_two (codes "ask ") mesh x d
+event_words mesh (Link a b) = of_two (codes "link ") mesh a b
+event_words mesh (Cut a b) = of_two (codes "cut ") mesh a b
+event_words mesh (Deliver id) = labelled (codes "deliver ") id
+event_words mesh (Lose id) = labelled (codes "lose ") id
+event_words mesh (Double id) = []
+
+-- an allowed line; a blank one is written as none
+unfoldable pub words_of : Nodes → Accepted → List ℕ
+words_of mesh Nothing = []
+words_of mesh (NewNode address first) = node_words address first
+words_of mesh (Does e) = event_words mesh e
+words_of mesh (Chooses count) = labelled (codes "auto ") count
+words_of mesh (ShowsNode x) = of_one (codes "show ") mesh x
+words_of mesh (ShowsRoute x d) = of_two (codes "route ") mesh x d
+words_of mesh ShowsFlight = codes "flight"
+
+-- ---- bytes
 
 -- a digit of a number below 16: 0 to 9, and then a to f
 abbrev pub hex_digit : ℕ → ℕ
 hex_digit d = if nat_lt d 10 then 48 + d else 87 + d
 
--- a byte of a datum: from the space to the tilde it stands for itself, but for the backslash; any other is \x and its two digits
-abbrev pub shown_byte : ℕ → List ℕ
-shown_byte b = if nat_le 32 b && nat_le b 126 && not (b == 92) then b ∷ [] else codes "\\x" ++ hex_digit (b / 16) ∷ hex_digit (b % 16) ∷ []
+abbrev pub hex_byte : ℕ → List ℕ
+hex_byte b = hex_digit (b / 16) ∷ hex_digit (b % 16) ∷ []
 
-abbrev pub took_text : Nodes → ℕ → Took → List ℕ
-took_text mesh i (Own body) = line (codes "  took new " ++ name_of mesh i)
-took_text mesh i (Stored dest) = line (codes "  took new " ++ name_of mesh dest)
-
--- a datum of one node for another was delivered
-abbrev pub delivered_text : Nodes → ℕ → ℕ → List ℕ → List ℕ
-delivered_text mesh origin dest body = line (codes "  delivered " ++ name_of mesh origin ++ 32 ∷ name_of mesh dest ++ 32 ∷ flat_map shown_byte body)
-
--- node i has delivered what it took
-abbrev pub delivery_text : Nodes → ℕ → Took → List ℕ
-delivery_text mesh i (Own body) = delivered_text mesh i i body
-delivery_text mesh i (Stored dest) = []
-
-abbrev pub effect_text : Nodes → ℕ → Took → Effect → List ℕ
-effect_text mesh i took effect = if effect.deliver then delivery_text mesh i took else []
-
-abbrev pub happening_text : Nodes → ℕ → Happening → List ℕ
-happening_text mesh i Changed = []
-happening_text mesh i (Taken took effect) = took_text mesh i took ++ effect_text mesh i took effect
-
--- the node at which an event is
-abbrev pub place_of : Event → ℕ
-place_of (Give node dest body) = node
-place_of (Turn node) = node
-
-abbrev pub outcome_text : Nodes → Event → Outcome → List ℕ
-outcome_text mesh e Idle = line (codes "  idle")
-outcome_text mesh e (Goes w happening) = happening_text mesh (place_of e) happening
-
--- an event, and below it what came of it
-unfoldable pub outcome_lines : Nodes → Event → Outcome → List ℕ
-outcome_lines mesh e o = event_text mesh e ++ outcome_text mesh e o
+-- bytes in hexadecimal
+abbrev pub hex : List ℕ → List ℕ
+hex bytes = flat_map hex_byte bytes
 
 -- ---- the last line of a run
 
-abbrev pub labelled : List ℕ → ℕ → List ℕ
-labelled label n = label ++ decimal n
-
--- of a run that read its whole input. The data in flight are none
-unfoldable pub summary_text : Sums → ℕ → ℕ → List ℕ
-summary_text s waiting queued =
+-- of a run that read its whole input: what was counted, and the data in stores, in queues and in flight
+unfoldable pub summary_text : Sums → ℕ → ℕ → ℕ → List ℕ
+summary_text s waits queues flies =
     labelled (codes "done events ") s.events ++ labelled (codes " idle ") s.idle ++ labelled (codes " given ") s.given
-    ++ labelled (codes " delivered ") s.delivered ++ labelled (codes " waiting ") waiting ++ labelled (codes " queued ") queued
-    ++ labelled (codes " flying ") 0 ++ line (labelled (codes " lost ") s.lost)
+    ++ labelled (codes " delivered ") s.delivered ++ labelled (codes " waiting ") waits ++ labelled (codes " queued ") queues
+    ++ labelled (codes " flying ") flies ++ line (labelled (codes " lost ") s.lost)
+
+abbrev pub done_line : Moment → List ℕ
+done_line m = summary_text m.sums (waiting any (world_of m)) (queued any (world_of m)) (in_flight any (world_of m))
 
 -- why a line is refused, in words
 abbrev pub at_bytes : Span → List ℕ
@@ -106,6 +108,16 @@ why_text (Fault fault) = fault_text fault
 why_text TooLong = codes "line longer than 600 bytes"
 why_text TooMuch = codes "input longer than 16777216 bytes"
 
--- of a run that a line has ended. It names the line alone; why_text has the words for the reason, which no line gives yet
+-- of a run that a line has ended
 unfoldable pub bad_line : ℕ → BadWhy → List ℕ
-bad_line number why = line (labelled (codes "bad line ") number)
+bad_line number why = line (labelled (codes "bad line ") number ++ codes ": " ++ why_text why)
+
+-- the counter that is full
+abbrev pub field_text : full.Full → List ℕ
+field_text field.Hops = codes "hops"
+field_text field.Number = codes "number"
+field_text field.Id = codes "id"
+
+-- of a run that an event of this line has ended, since a counter is full
+unfoldable pub full_line : Nodes → ℕ → Event → full.Full → List ℕ
+full_line mesh number e field = line (labelled (codes "full line ") number ++ codes ": " ++ event_words mesh e ++ codes ": " ++ field_text field)

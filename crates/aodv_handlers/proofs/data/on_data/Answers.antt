@@ -4,7 +4,7 @@ use Rattle.aodv_model.specs.Handlers.{data_error}
 use Rattle.aodv_meaning.specs.Meaning.{index}
 use Rattle.aodv_meaning.specs.Sent.{IsPacket}
 use Rattle.aodv_handlers.specs.Shown.{shown}
-use Rattle.aodv_handlers.specs.Made.{cast_of}
+use Rattle.aodv_meaning.specs.Effects.{cast_of}
 use Rattle.aodv_handlers.proofs.Delivered.{data_here, data_lost}
 use Rattle.aodv_handlers.proofs.data.on_data.Goals as goal
 

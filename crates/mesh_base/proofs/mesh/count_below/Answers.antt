@@ -1,7 +1,5 @@
 use Rattle.std.proofs.Common.{ltb, rules, arith}
 use Rattle.std.proofs.lemmas.List.Sorted.{IsPartitionPoint-from_clause, IsPartitionedBy-ltb}
-use Rattle.std.proofs.lemmas.Bool.{cases_lt, lt-ltb}
-use Rattle.std.proofs.lemmas.Bool.Decides.{nat_tests}
 use Rattle.mesh_base.proofs.MeshLaws.{falls_nowhere, below_if, from_if}
 use Rattle.mesh_base.proofs.mesh.count_below.Goals as goal
 

@@ -1,4 +1,4 @@
-use Rattle.std.proofs.Common.{rules, arith}
+use Rattle.std.proofs.Common.{rules}
 use Rattle.mesh_base.proofs.PartLaws.{split_at_place, split_nowhere}
 use Rattle.mesh_base.proofs.text.cut.Goals as goal
 

@@ -1,4 +1,4 @@
-use Rattle.std.proofs.Common.{rules, arith, ◌∙◌, sym, ◌≤◌, ◌≡◌, get_or, drop, ◌+◌, ◌*◌, ◌-◌, ◌<◌, Some, ap, true}
+use Rattle.std.proofs.Common.{arith, ◌∙◌, sym, ◌≡◌, get_or, drop, ◌+◌, ◌*◌, ◌-◌, ◌<◌, Some, ap, true}
 use Rattle.std.specs.Str.{all_ascii_digits}
 use Rattle.std.proofs.lemmas.List.{at_drop_all}
 use Rattle.mesh_base.specs.Numbers.{read_on}

@@ -1,4 +1,4 @@
 use Rattle.mesh_cli.proofs.top.mesh.Given as goal
 
-abbrev pub ghosts-run_through : goal.ghosts-run_through
-ghosts-run_through g a = record { name = a.out.ghost_name; start = g.O.Sink.held a.out.now }
+abbrev pub ghosts-do_through : goal.ghosts-do_through
+ghosts-do_through g a = record { name = a.out.ghost_name; start = g.O.Sink.held a.out.now }

@@ -1,6 +1,6 @@
 use Rattle.std.proofs.Common.{ap, ◌∙◌}
 use Rattle.aodv_node.specs.Seen.{NodeSeen}
-use Rattle.aodv_node.proofs.Plain.{sent}
+use Rattle.aodv_node.proofs.Nodes.{sent}
 use Rattle.aodv_node.proofs.node.Node.send.Goals as goal
 
 pub invariant_of-self : goal.invariant_of-self

@@ -1,6 +1,6 @@
 use Rattle.std.proofs.Common.{ap, ◌∙◌}
 use Rattle.aodv_node.specs.Seen.{NodeSeen}
-use Rattle.aodv_node.proofs.Plain.{turned}
+use Rattle.aodv_node.proofs.Nodes.{turned}
 use Rattle.aodv_node.proofs.node.Node.turn.Goals as goal
 
 pub invariant_of-self : goal.invariant_of-self

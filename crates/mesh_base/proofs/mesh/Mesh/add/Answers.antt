@@ -1,7 +1,7 @@
-use Rattle.std.proofs.Common.{rules, ◌≡◌, ◌<◌, ◌≢◌, None, arith, ap, sym, subst, ◌∙◌, length}
+use Rattle.std.proofs.Common.{rules, ◌≡◌, ◌<◌, None, arith, ap, sym, subst, ◌∙◌, length}
 use Rattle.std.proofs.lemmas.Bool.Decides.{nat_tests}
-use Rattle.mesh_base.specs.Meshes.{IsMesh, index_of, addr_at, with_node}
-use Rattle.mesh_base.proofs.MeshLaws.{IsPlace, place_along, insert_is_mesh, absent_is, with_node-is}
+use Rattle.mesh_base.specs.Meshes.{IsMesh, index_of, with_node}
+use Rattle.mesh_base.proofs.MeshLaws.{place_along, insert_is_mesh, absent_is, with_node-is}
 use Rattle.mesh_base.proofs.mesh.Mesh.add.Goals as goal
 
 pub invariant_of-self : goal.invariant_of-self

@@ -1,4 +1,4 @@
-use Rattle.std.proofs.Common.{◌∙◌, ap, subst, Some}
+use Rattle.std.proofs.Common.{◌∙◌, subst}
 use Rattle.mesh_radio.specs.Kept.{Flights, IsPlaceOf}
 use Rattle.mesh_radio.proofs.Finds.{find-None, without-None, find-Some, without-Some, place-within}
 use Rattle.mesh_radio.proofs.copies.Copies.take.Goals as goal
@@ -12,29 +12,17 @@ returns-in_err-place-clause-others c =
     let now : Flights = c.args.self.now in
     λ i. record { flying = rest i; next_copy = now.next_copy; room = now.room; most = now.most }
 
-pub take_later-requires : goal.take_later-requires
-take_later-requires c = place-within c.args.self.now.flying c.args.id c.in_ok-place.place (subst (IsPlaceOf c.args.id c.args.self.now.flying) c.in_ok-place.was c.place_of.ensures.place)
+pub take_at-requires : goal.take_at-requires
+take_at-requires c = place-within c.args.self.now.flying c.args.id c.in_ok-place.place (subst (IsPlaceOf c.args.id c.args.self.now.flying) c.in_ok-place.was c.place_of.ensures.place)
 
-pub returns-then-place-eq0-clause-taken : goal.returns-then-place-eq0-clause-taken
-returns-then-place-eq0-clause-taken c =
-    find-Some c.args.self.now.flying 1 c.args.self.now.next_copy c.args.id 0 c.take_first.result c.place_of.ensures.numbered
-    (subst (IsPlaceOf c.args.id c.args.self.now.flying) (c.in_ok-place.was ∙ ap Some c.if-place-eq0.true) c.place_of.ensures.place) c.take_first.ensures.taken
+pub returns-clause-taken : goal.returns-clause-taken
+returns-clause-taken c =
+    find-Some c.args.self.now.flying 1 c.args.self.now.next_copy c.args.id c.in_ok-place.place c.take_at.result c.place_of.ensures.numbered
+    (subst (IsPlaceOf c.args.id c.args.self.now.flying) c.in_ok-place.was c.place_of.ensures.place) c.take_at.ensures.taken
 
-pub returns-then-place-eq0-clause-others : goal.returns-then-place-eq0-clause-others
-returns-then-place-eq0-clause-others c =
-    let rest = without-Some c.args.self.now.flying 1 c.args.self.now.next_copy c.args.id 0 c.place_of.ensures.numbered
-    (subst (IsPlaceOf c.args.id c.args.self.now.flying) (c.in_ok-place.was ∙ ap Some c.if-place-eq0.true) c.place_of.ensures.place) in
-    let now : Flights = c.args.self.now in
-    c.take_first.ensures.others ∙ (λ i. record { flying = rest i; next_copy = now.next_copy; room = now.room; most = now.most })
-
-pub returns-else-place-eq0-clause-taken : goal.returns-else-place-eq0-clause-taken
-returns-else-place-eq0-clause-taken c =
-    find-Some c.args.self.now.flying 1 c.args.self.now.next_copy c.args.id c.in_ok-place.place c.take_later.result c.place_of.ensures.numbered
-    (subst (IsPlaceOf c.args.id c.args.self.now.flying) c.in_ok-place.was c.place_of.ensures.place) c.take_later.ensures.taken
-
-pub returns-else-place-eq0-clause-others : goal.returns-else-place-eq0-clause-others
-returns-else-place-eq0-clause-others c =
+pub returns-clause-others : goal.returns-clause-others
+returns-clause-others c =
     let rest = without-Some c.args.self.now.flying 1 c.args.self.now.next_copy c.args.id c.in_ok-place.place c.place_of.ensures.numbered
     (subst (IsPlaceOf c.args.id c.args.self.now.flying) c.in_ok-place.was c.place_of.ensures.place) in
     let now : Flights = c.args.self.now in
-    c.take_later.ensures.others ∙ (λ i. record { flying = rest i; next_copy = now.next_copy; room = now.room; most = now.most })
+    c.take_at.ensures.others ∙ (λ i. record { flying = rest i; next_copy = now.next_copy; room = now.room; most = now.most })

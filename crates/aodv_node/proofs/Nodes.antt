@@ -1,0 +1,74 @@
+-- Over the table of a node: every call keeps what a node keeps.
+use Rattle.std.proofs.Common.{◌≡◌, ◌<◌, ◌≤◌, ℕ, List, [], length, Result, refl, sym, ap, subst, ◌∙◌}
+use Rattle.std.specs.FinMap as maps
+use Rattle.std.specs.FinSet as sets
+use Rattle.mesh_base.specs.Meshes.{Nodes}
+use Rattle.mesh_base.specs.Members.{NodeIds}
+use Rattle.mesh_base.specs.declared.events.Effect as code
+use Rattle.mesh_base.specs.declared.events.Variant.TheVariants.{Base}
+use Rattle.aodv_model.specs.Cores.{opening}
+use Rattle.aodv_table.specs.Calls.{nodes_below}
+use Rattle.aodv_table.specs.declared.rows.RowTable.{RowTable}
+use Rattle.aodv_handlers.specs.declared.cores.Core as core
+use Rattle.aodv_handlers.specs.Shown.{IsReady}
+use Rattle.aodv_inbox.specs.Queues.{Queue}
+use Rattle.aodv_node.specs.declared.answers.TurnError.{TurnError}
+use Rattle.aodv_node.specs.declared.answers.SendError.{SendError}
+use Rattle.aodv_node.specs.declared.answers.AskError.{AskError}
+use Rattle.aodv_node.specs.declared.answers.TurnDone as done
+use Rattle.aodv_node.specs.Seen.{NodeSeen, seen, IsSoundNode}
+use Rattle.aodv_node.specs.Turned.{IsTurn}
+use Rattle.aodv_node.specs.Discovered.{IsSend, IsAsk}
+use Rattle.aodv_node.proofs.Keeps.{Follows, turn_keeps, send_keeps, ask_keeps, opened}
+
+abbrev pub seen_node : core.Core RowTable → Queue → NodeSeen
+seen_node c inbox = seen (λ t. t.nodes) (λ t. t.entries) c inbox
+
+abbrev pub Ready : ℕ → core.Core RowTable → Type 0
+Ready size c = IsReady (λ t. t.nodes) (λ t. t.entries) size c
+
+abbrev pub Kept : core.Core RowTable → Queue → Type 0
+Kept c inbox = Ready (c.table).nodes c × IsSoundNode (seen_node c inbox)
+
+ready_here : (size : ℕ) (c : core.Core RowTable) → Ready size c → Ready (c.table).nodes c
+ready_here size c r = subst (λ (n : ℕ). Ready n c) (sym r.table) r
+
+pub ready_for : (size : ℕ) (c : core.Core RowTable) (inbox : Queue) (value : NodeSeen) → size ≡ value.size → seen_node c inbox ≡ value → Kept c inbox → Ready size c
+ready_for size c inbox value is view kept = subst (λ (n : ℕ). Ready n c) (sym (is ∙ ap (λ (n : NodeSeen). n.size) (sym view))) kept.0
+
+-- the number of nodes is the same
+same_size : (size : ℕ) (old new : core.Core RowTable) (q : Queue) (value : NodeSeen) → size ≡ value.size → seen_node old q ≡ value → Ready size new → (new.table).nodes ≡ (old.table).nodes
+same_size size old new q value is view ready = ready.table ∙ is ∙ ap (λ (n : NodeSeen). n.size) (sym view)
+
+-- what a call leaves: what a node keeps, and the node is the same one
+pub record Leaves (old new : core.Core RowTable) (q : Queue) : Type 0 where
+  pub kept : Kept new q
+  pub me : new.me ≡ old.me
+  pub nodes : (new.table).nodes ≡ (old.table).nodes
+
+leaves : (size : ℕ) (old new : core.Core RowTable) (q q' : Queue) (value : NodeSeen) → size ≡ value.size → seen_node old q ≡ value → Ready size new → Follows (seen_node old q) (seen_node new q') → Leaves old new q'
+leaves size old new q q' value is view ready f = record { kept = (ready_here size new ready, f.sound); me = f.me; nodes = same_size size old new q value is view ready }
+
+pub turned : (mesh : Nodes) (range : NodeIds) (old new : core.Core RowTable) (q q' : Queue) (r : Result done.TurnDone TurnError) (out : List ℕ) (value : NodeSeen)
+    → length mesh ≡ value.size → seen_node old q ≡ value → Kept old q → Ready (length mesh) new → IsTurn mesh range (seen_node old q) r (seen_node new q') out → Leaves old new q'
+turned mesh range old new q q' r out value size view kept ready did =
+    leaves (length mesh) old new q q' value size view ready (turn_keeps mesh range (seen_node old q) r (seen_node new q') out (size ∙ ap (λ (n : NodeSeen). n.size) (sym view)) kept.1 refl did)
+
+pub sent : (mesh : Nodes) (range : NodeIds) (d : ℕ) (old new : core.Core RowTable) (q : Queue) (r : Result code.Effect SendError) (out : List ℕ) (value : NodeSeen)
+    → length mesh ≡ value.size → seen_node old q ≡ value → Kept old q → Ready (length mesh) new → IsSend mesh range (seen_node old q).core d r (seen_node new q).core out → Leaves old new q
+sent mesh range d old new q r out value size view kept ready did =
+    leaves (length mesh) old new q q value size view ready (send_keeps mesh range (seen_node old q) d r (seen_node new q) out kept.1 refl (same_size (length mesh) old new q value size view ready) refl did)
+
+pub asked_for : (mesh : Nodes) (d : ℕ) (old new : core.Core RowTable) (q : Queue) (r : Result code.Effect AskError) (out : List ℕ) (value : NodeSeen)
+    → length mesh ≡ value.size → seen_node old q ≡ value → Kept old q → Ready (length mesh) new → IsAsk mesh (seen_node old q).core d r (seen_node new q).core out → Leaves old new q
+asked_for mesh d old new q r out value size view kept ready did =
+    leaves (length mesh) old new q q value size view ready (ask_keeps mesh (seen_node old q) d r (seen_node new q) out kept.1 refl (same_size (length mesh) old new q value size view ready) refl did)
+
+pub opens : (c : core.Core RowTable) (inbox : Queue) (size : ℕ) → c.me < size → 1 ≤ c.sn → c.table ≡ record { entries = maps.empty; rooms = nodes_below size; nodes = size }
+    → (c.asked).pairs ≡ sets.empty → length (c.asked).rooms ≡ size → (c.waiting).store ≡ maps.empty → length (c.waiting).rooms ≡ size → inbox.items ≡ [] → Kept c inbox
+opens c inbox size below positive table pairs asked store waiting none =
+    let nodes : (c.table).nodes ≡ size = ap (λ t. t.nodes) table in
+    let mine : c.me < (c.table).nodes = subst (λ (n : ℕ). c.me < n) (sym nodes) below in
+    let open_core : (seen_node c inbox).core ≡ opening Base c.me c.sn = λ i. record { ip = c.me; variant = Base; sn = c.sn; rt = (table i).entries; seen = pairs i; store = store i } in
+    let sound = opened (seen_node c inbox) c.me c.sn mine positive open_core none in
+    (record { table = refl; asked = asked ∙ sym nodes; waiting = waiting ∙ sym nodes; mine = mine; sound = sound.sound }, sound)

@@ -1,0 +1,19 @@
+-- A table kept as a row for every node, in the order of the nodes: a row holds the entry of its node, or none.
+use Rattle.std.specs.Prelude.{◌≡◌, ◌≤◌, ℕ, ◌+◌, List, [], ◌∷◌, length, Option}
+use Rattle.std.specs.FinMap as maps
+use Rattle.mesh_base.specs.Members.{NodeIds}
+use Rattle.aodv_entry.specs.declared.entry.Entry.{Entry}
+use Rattle.aodv_model.specs.Tables.{Table}
+use Rattle.aodv_table.specs.Calls.{with_entry, valid_dests}
+
+-- the table that rows show, of which the first is the row of node d
+unfoldable pub entries_from : ℕ → List (Option Entry) → Table
+entries_from d [] = maps.empty
+entries_from d (row ∷ rows) = with_entry (entries_from (d + 1) rows) d row
+
+-- what such a table keeps: a number of nodes that a mesh may have, a row for each of them, and the set of the valid
+-- destinations
+pub record AreIndexed (nodes : ℕ) (rows : List (Option Entry)) (valid : NodeIds) : Type 0 where
+  pub few : nodes ≤ 200
+  pub each : length rows ≡ nodes
+  pub valid_are : valid ≡ valid_dests (entries_from 0 rows)

@@ -1,0 +1,97 @@
+//! A table with a row for every node.
+ghost use Rattle.std.specs.Prelude.{◌≡◌, ◌<◌, ◌≤◌, ℕ, true, length, slice_set, IsOk, IsSome, IfOk, OnOk, OnErr, None};
+ghost use Rattle.std.specs.FinMap as maps;
+ghost use Rattle.std.specs.FinSet as sets;
+ghost use Rattle.aodv_table.specs.Calls.{with_entry, nodes_below};
+
+use crate::merge::mark;
+use crate::table::Table;
+use aodv_entry::Entry;
+use mesh_base::{NoMemory, NodeSet};
+use std::alloc::Global;
+use std::marker::Model;
+
+/// A table with a row for every node of the mesh, made once. A row holds the entry of its node, or
+/// none. So an entry is read and written at its place, with no search and no memory.
+#[derive(Drop)]
+pub struct RowTable {
+    nodes: usize,
+    rows: Vec<Option<Entry>>,
+    valid: NodeSet,
+}
+
+impl Model for RowTable {
+    ghost use Rattle.aodv_table.specs.Calls.{nodes_below};
+    ghost use Rattle.aodv_table.specs.Seen.{TableSeen, seen_code};
+    ghost use Rattle.aodv_table.specs.Indexed.{entries_from, AreIndexed};
+
+    ghost Value = { TableSeen };
+
+    ghost coded = { seen_code };
+
+    ghost view = { λ t. record { entries = entries_from 0 t.rows.items; rooms = nodes_below t.nodes; nodes = t.nodes } };
+
+    ghost invariant = { λ t. AreIndexed t.nodes t.rows.items t.valid };
+}
+
+impl RowTable {
+    /// A table of no entries, with room for an entry of every node of a mesh of so many.
+    pub fn new(alloc: Global, nodes: usize) -> Result<RowTable, NoMemory>
+        requires { nodes ≤ 200 }
+        ensures { IfOk result (λ t. t ≡ record { entries = maps.empty; rooms = nodes_below nodes; nodes = nodes }) }
+    {
+        let mut rows = Vec::with_capacity(alloc, nodes)?;
+        for _ in 0..nodes {
+            rows.push(None)?;
+        }
+        Ok(RowTable {
+            nodes,
+            rows,
+            valid: NodeSet::new(),
+        })
+    }
+}
+
+impl Table for RowTable {
+    ghost entries = { λ t. t.entries };
+
+    ghost rooms = { λ t. t.rooms };
+
+    ghost nodes = { λ t. t.nodes };
+
+    fn nodes(&self) -> usize {
+        self.nodes
+    }
+
+    fn get(&self, d: usize) -> Option<Entry> {
+        self.rows[d]
+    }
+
+    fn has_room(&self, d: usize) -> bool {
+        d < self.nodes
+    }
+
+    /// Changes nothing: every row is there from the start.
+    fn make_room(&mut self, d: usize) -> Result<(), NoMemory>
+        requires { d < self.old.nodes }
+        ensures always { IsOk result }
+        ensures nothing { self.new ≡ self.old }
+        ensures here { OnOk result (sets.contains self.new.rooms d ≡ true) }
+        ensures keeps { (q : ℕ) → sets.contains self.old.rooms q ≡ true → sets.contains self.new.rooms q ≡ true }
+        ensures refused { OnErr result (self.new.rooms ≡ self.old.rooms) }
+        ensures entries { self.new.entries ≡ self.old.entries }
+        ensures nodes { self.new.nodes ≡ self.old.nodes }
+    {
+        prove!(d < self.nodes);
+        Ok(())
+    }
+
+    fn put(&mut self, d: usize, e: Option<Entry>) {
+        self.rows[d] = e;
+        mark(&mut self.valid, d, &e);
+    }
+
+    fn valid(&self) -> NodeSet {
+        self.valid
+    }
+}

@@ -1,0 +1,56 @@
+-- A mesh with one more node.
+use Rattle.std.proofs.Common.{◌≡◌, ◌≢◌, ℕ, ◌+◌, ◌-◌, ◌^◌, ◌<◌, ◌≤◌, not, ltb, length, Some, None, insert, sym, ap, ◌∙◌, inl, inr, arith}
+use Rattle.std.specs.List.{position_or_len}
+use Rattle.std.proofs.lemmas.Bool.{cases_eq}
+use Rattle.std.proofs.lemmas.List.Sums.{fails_before_first, passes_at_first}
+use Rattle.std.proofs.lemmas.List.Edits.{length-insert}
+use Rattle.mesh_base.specs.Meshes.{Nodes, IsMesh, addr_at, index_of, with_node}
+use Rattle.mesh_base.proofs.PartLaws.{place_le}
+use Rattle.mesh_base.proofs.MeshLaws.{rising_le, below_if, from_if, IsPlace, at_insert, insert_is_mesh}
+use Rattle.mesh_base.proofs.Spelling.{index_of-at}
+
+pub absent_at : (mesh : Nodes) (a i : ℕ) → IsMesh mesh → index_of mesh a ≡ None → i < length mesh → addr_at mesh i ≢ a
+absent_at mesh a i is none lt e =
+    let there : index_of mesh a ≡ Some i = sym (ap (index_of mesh) e) ∙ index_of-at mesh i is lt in
+    let clash : Some i ≡ None = sym there ∙ none in
+    cc
+
+-- before the first of a greater address
+abbrev place_of : Nodes → ℕ → ℕ
+place_of mesh a = position_or_len (λ p. ltb a p.0) mesh
+
+is_place : (mesh : Nodes) (a : ℕ) → IsMesh mesh → index_of mesh a ≡ None → IsPlace mesh a (place_of mesh a)
+is_place mesh a is none =
+    let within : place_of mesh a ≤ length mesh = place_le (λ p. not (ltb a p.0)) mesh in
+    record {
+      within = within;
+      below = λ i early.
+          let le = from_if a (addr_at mesh i) (fails_before_first (λ p. ltb a p.0) mesh i (0, 0) early) in
+          let other = absent_at mesh a i is none (omega arith) in
+          elim (cases_eq (addr_at mesh i) a) [ inl same ↦ absurd (other same) | inr apart ↦ omega arith ];
+      above = λ i late lt.
+          let first = below_if a (addr_at mesh (place_of mesh a)) (passes_at_first (λ p. ltb a p.0) mesh (0, 0) (omega arith)) in
+          let up = rising_le mesh (place_of mesh a) i is late lt in
+          omega arith;
+    }
+
+-- one more node keeps the order
+pub grown_is_mesh : (mesh : Nodes) (a first : ℕ) → IsMesh mesh → index_of mesh a ≡ None → length mesh < 200 → 1 ≤ first → IsMesh (with_node mesh a first)
+unfolding with_node
+grown_is_mesh mesh a first is none few one = insert_is_mesh mesh a first (place_of mesh a) is (is_place mesh a is none) (λ lt. absent_at mesh a (place_of mesh a) is none lt) few one
+
+-- and the addresses have 32 bits where they had before
+pub grown_fits : (mesh : Nodes) (a first : ℕ) → ((i : ℕ) → i < length mesh → addr_at mesh i < 2 ^ 32) → a < 2 ^ 32
+    → (i : ℕ) → i < length (with_node mesh a first) → addr_at (with_node mesh a first) i < 2 ^ 32
+unfolding with_node
+grown_fits mesh a first fit fits i lt =
+    let within : place_of mesh a ≤ length mesh = place_le (λ p. not (ltb a p.0)) mesh in
+    let longer : length (insert mesh (place_of mesh a) (a, first)) ≡ length mesh + 1 = length-insert mesh (place_of mesh a) (a, first) within in
+    elim (at_insert mesh (place_of mesh a) (a, first) i within) [
+      | inl early ↦ let same : addr_at (insert mesh (place_of mesh a) (a, first)) i ≡ addr_at mesh i = ap (λ p. p.0) early.1 in let small = fit i (omega (arith, early.0)) in omega arith
+      | inr (inl at) ↦ let same : addr_at (insert mesh (place_of mesh a) (a, first)) i ≡ a = ap (λ p. p.0) at.1 in omega arith
+      | inr (inr late) ↦
+          let same : addr_at (insert mesh (place_of mesh a) (a, first)) i ≡ addr_at mesh (i - 1) = ap (λ p. p.0) late.1 in
+          let small = fit (i - 1) (omega (arith, late.0)) in
+          omega arith
+    ]

@@ -1,0 +1,5 @@
+use Rattle.mesh_make.proofs.Allowed as lemmas
+use Rattle.mesh_make.proofs.laws.made_schedules_are_short.Goals as goal
+
+pub returns : goal.returns
+returns c = lemmas.made_short

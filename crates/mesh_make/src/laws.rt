@@ -1,0 +1,12 @@
+//! Laws of the definitions. Each function has an empty body and a contract that states a law.
+ghost use Rattle.mesh_make.specs.Laws.{MadeSchedulesAreAllowed, MadeSchedulesAreShort};
+
+/// The run of a made schedule ends at no line that is refused.
+pub fn made_schedules_are_allowed()
+    ensures { MadeSchedulesAreAllowed }
+{}
+
+/// A made schedule has at most 4000000 bytes, fewer than an input may have.
+pub fn made_schedules_are_short()
+    ensures { MadeSchedulesAreShort }
+{}

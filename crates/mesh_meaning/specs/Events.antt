@@ -1,0 +1,27 @@
+-- An event of the program, as the definitions have it.
+use Rattle.std.specs.Prelude.{ℕ}
+use Rattle.mesh_base.specs.declared.events.Event.{Event}
+use Rattle.mesh_base.specs.declared.events.Event.TheVariants as events
+use Rattle.mesh_model.specs.Worlds as model
+
+abbrev pub event_of : Event → model.Event
+event_of (events.Give node dest body) = model.Give node dest body.now
+event_of (events.Turn node) = model.Turn node
+event_of (events.Send node dest) = model.Send node dest
+event_of (events.Ask node dest) = model.Ask node dest
+event_of (events.Link a b) = model.Link a b
+event_of (events.Cut a b) = model.Cut a b
+event_of (events.Deliver id) = model.Deliver id
+event_of (events.Lose id) = model.Lose id
+
+-- the node at which an event is. A link or a copy is at none, and 0 stands for that
+abbrev pub place_of : model.Event → ℕ
+place_of (model.Give node dest body) = node
+place_of (model.Turn node) = node
+place_of (model.Send node dest) = node
+place_of (model.Ask node dest) = node
+place_of (model.Link a b) = 0
+place_of (model.Cut a b) = 0
+place_of (model.Deliver id) = 0
+place_of (model.Lose id) = 0
+place_of (model.Double id) = 0

@@ -1,0 +1,7 @@
+-- Read in this order.
+-- Events: an event of the program as the definitions have it.
+pub mod Events
+-- Packets: the packet that is written of a message, items and copies that hold one, and nodes and worlds of them.
+pub mod Packets
+-- Answers: what a step's answer and the packet beside it say of what happened.
+pub mod Answers

@@ -1,0 +1,5 @@
+pub mod Members
+pub mod Packets
+pub mod Copies
+pub mod Lengths
+pub mod Dones

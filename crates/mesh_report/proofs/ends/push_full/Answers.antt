@@ -1,0 +1,19 @@
+use Rattle.std.proofs.Common.{append_assoc, ◌∷◌, [], ◌++◌, List, ℕ, ◌≡◌, ap, ◌∙◌}
+use Rattle.mesh_text.specs.Lines.{line, full_line}
+use Rattle.mesh_report.proofs.ends.push_full.Goals as goal
+
+first : (old number colon event l1 l2 l3 : List ℕ) → l1 ≡ old ++ number → l2 ≡ l1 ++ colon → l3 ≡ l2 ++ event → l3 ≡ old ++ (number ++ colon ++ event)
+first old number colon event l1 l2 l3 p1 p2 p3 = rw (p3, p2, p1) (simp append_assoc)
+
+second : (old front colon field l3 l4 l5 l6 : List ℕ) → l3 ≡ old ++ front → l4 ≡ l3 ++ colon → l5 ≡ l4 ++ field → l6 ≡ l5 ++ 10 ∷ [] → l6 ≡ old ++ line (front ++ colon ++ field)
+second old front colon field l3 l4 l5 l6 p3 p4 p5 p6 = rw (p6, p5, p4, p3) (simp append_assoc)
+
+pub returns : goal.returns
+unfolding full_line
+returns c = record {
+  text =
+      second c.args.out.now.items _ _ _ c.push_event.new.out.items c.push_text-2.new.out.items c.push_text-3.new.out.items c.push.new.self.items
+      (first c.args.out.now.items _ _ _ c.push_labelled.new.out.items c.push_text.new.out.items c.push_event.new.out.items
+      c.push_labelled.ensures.text c.push_text.ensures.text c.push_event.ensures.text)
+      c.push_text-2.ensures.text (c.push_text-3.ensures.text ∙ ap (λ (l : List ℕ). c.push_text-2.new.out.items ++ l) c.field_word.ensures.text) c.push.ensures.items;
+}

@@ -1,0 +1,400 @@
+//! What an event did.
+ghost use Rattle.std.specs.Prelude.{◌≡◌, ℕ, ◌+◌, ◌*◌, ◌<◌, ◌≤◌, ◌^◌, ◌++◌, ◌∷◌, List, [], length, codes, IfSome};
+ghost use Rattle.std.specs.List.{flat_map};
+ghost use Rattle.arrayvec.specs.ArrayVec.{array_vec_len};
+ghost use Rattle.mesh_base.specs.Addresses.{dotted};
+ghost use Rattle.mesh_base.specs.Meshes.{Nodes};
+ghost use Rattle.aodv_model.specs.Cores.{Message as a_message};
+ghost use Rattle.aodv_model.specs.Soundness.{AreBelow};
+ghost use Rattle.aodv_meaning.specs.Meaning.{meaning};
+ghost use Rattle.aodv_meaning.specs.Effects.{kind_of};
+ghost use Rattle.mesh_model.specs.Worlds.{World, members_below, copies_to};
+ghost use Rattle.mesh_meaning.specs.Packets.{IsWritten, IsWrittenCopy};
+ghost use Rattle.mesh_meaning.specs.Events.{event_of, place_of as place_of_lem};
+ghost use Rattle.mesh_meaning.specs.Answers.{cast_in, effect_in, took_in, copies_in, happening_in, outcome_in, IsCastWritten, IsEffectInMesh, IsTookInMesh, IsDoneInMesh};
+ghost use Rattle.mesh_text.specs.Lines.{line, labelled, name_of};
+ghost use Rattle.mesh_text.specs.Effects.{shown_byte, datum_in, kind_text, took_text, delivery_text, drop_text, datum_fate, broken_text, cast_text, copies_text, sent_text, outcome_text};
+ghost use Rattle.mesh_io.specs.Cause.{HasCause};
+ghost use Rattle.mesh_io.specs.Puts.{Puts};
+
+use crate::text::{push_labelled, push_one, push_packet, push_set, push_shown, push_two};
+use aodv_wire::{Message, read};
+use mesh_base::{
+    Addr, Air, Cast, Done, Effect, Event, Flying, Kind, LineBuf, Mesh, Packet, Took, push_text,
+    write_dotted,
+};
+use mesh_io::{PutFault, Sink, put_all};
+
+// ---- data
+
+// A datum of one address for another, after a label.
+fn push_datum(out: &mut LineBuf, label: &[u8], origin: Addr, dest: Addr, body: &[u8])
+    requires short { length body.now ≤ 512 }
+    requires room { array_vec_len out.old + length label.now + 2081 ≤ 8192 }
+    ensures text { out.new.items ≡ out.old.items
+        ++ line (label.now ++ dotted origin.0 ++ 32 ∷ dotted dest.0 ++ 32 ∷ flat_map shown_byte body.now) }
+    ensures length { array_vec_len out.new ≤ array_vec_len out.old + length label.now + 2081 }
+{
+    push_text(out, label);
+    write_dotted(origin, out);
+    out.push(b' ');
+    write_dotted(dest, out);
+    out.push(b' ');
+    push_shown(out, body);
+    out.push(b'\n');
+}
+
+// The datum of a packet, if it has one, after a label.
+fn push_datum_in(out: &mut LineBuf, label: &[u8], packet: &[u8])
+    requires room { array_vec_len out.old + length label.now + 2081 ≤ 8192 }
+    ensures text { (mesh : Nodes) → IsWritten mesh packet.now
+        → out.new.items ≡ out.old.items ++ datum_in label.now mesh (meaning mesh packet.now) }
+    ensures length { array_vec_len out.new ≤ array_vec_len out.old + length label.now + 2081 }
+{
+    if let Ok(Message::Parcel(datum)) = read(packet) {
+        push_datum(out, label, datum.oip(), datum.dip(), datum.body());
+    }
+}
+
+// ---- what a turn took
+
+fn took_label(kind: Kind) -> &'static [u8]
+    ensures text { (m : a_message) → kind ≡ kind_of m → result.now ≡ codes "  took " ++ kind_text m }
+    ensures length { length result.now ≡ 12 }
+{
+    match kind {
+        Kind::Data => b"  took data ",
+        Kind::Rreq => b"  took rreq ",
+        Kind::Rrep => b"  took rrep ",
+        Kind::Rerr => b"  took rerr ",
+    }
+}
+
+// What node `me` took.
+fn push_took(out: &mut LineBuf, mesh: &Mesh, me: usize, took: &Took)
+    requires me { me < length mesh.now }
+    requires took { IsTookInMesh mesh.now took.now }
+    requires room { array_vec_len out.old + 28 ≤ 8192 }
+    ensures text { out.new.items ≡ out.old.items ++ took_text mesh.now me (took_in mesh.now took.now) }
+    ensures length { array_vec_len out.new ≤ array_vec_len out.old + 28 }
+{
+    match took {
+        Took::Own { .. } => push_one(out, b"  took new ", mesh, me),
+        Took::Stored { dest } => push_one(out, b"  took new ", mesh, *dest),
+        Took::Heard { from, kind, .. } => push_one(out, took_label(*kind), mesh, *from),
+    }
+    out.push(b'\n');
+}
+
+// The datum that node `me` took, which it has delivered.
+fn push_delivery(out: &mut LineBuf, mesh: &Mesh, me: usize, took: &Took)
+    requires me { me < length mesh.now }
+    requires took { IsTookInMesh mesh.now took.now }
+    requires room { array_vec_len out.old + 2093 ≤ 8192 }
+    ensures text { out.new.items ≡ out.old.items ++ delivery_text mesh.now me (took_in mesh.now took.now) }
+    ensures length { array_vec_len out.new ≤ array_vec_len out.old + 2093 }
+{
+    match took {
+        Took::Own { body } => {
+            let a = mesh.at(me);
+            push_datum(out, b"  delivered ", a, a, body.as_slice());
+        }
+        Took::Stored { .. } => {}
+        Took::Heard { bytes, .. } => {
+            push_datum_in(out, b"  delivered ", bytes.as_slice());
+        }
+    }
+}
+
+// The datum that was taken, which is dropped.
+fn push_drop(out: &mut LineBuf, took: &Took)
+    requires room { array_vec_len out.old + 2091 ≤ 8192 }
+    ensures text { (mesh : Nodes) → IsTookInMesh mesh took.now
+        → out.new.items ≡ out.old.items ++ drop_text mesh (took_in mesh took.now) }
+    ensures length { array_vec_len out.new ≤ array_vec_len out.old + 2091 }
+{
+    if let Took::Heard { bytes, .. } = took {
+        push_datum_in(out, b"  dropped ", bytes.as_slice());
+    }
+}
+
+// The datum that node `me` took, if it was delivered or dropped. The packet that was cast has no
+// part in that.
+fn push_fate(out: &mut LineBuf, mesh: &Mesh, me: usize, took: &Took, effect: &Effect)
+    requires me { me < length mesh.now }
+    requires took { IsTookInMesh mesh.now took.now }
+    requires room { array_vec_len out.old + 4184 ≤ 8192 }
+    ensures text { out.new.items ≡ out.old.items
+        ++ datum_fate mesh.now me (took_in mesh.now took.now) (effect_in mesh.now effect.now []) }
+{
+    if effect.deliver {
+        push_delivery(out, mesh, me, took);
+    }
+    if effect.lost {
+        push_drop(out, took);
+    }
+}
+
+// What node `me` took, and what became of it.
+#[tactic(auto, using(std::proofs::lemmas::List::append_assoc))]
+fn push_turn(out: &mut LineBuf, mesh: &Mesh, me: usize, took: &Took, effect: &Effect)
+    requires me { me < length mesh.now }
+    requires took { IsTookInMesh mesh.now took.now }
+    requires room { array_vec_len out.old + 4212 ≤ 8192 }
+    ensures text { out.new.items ≡ out.old.items ++ (took_text mesh.now me (took_in mesh.now took.now)
+        ++ datum_fate mesh.now me (took_in mesh.now took.now) (effect_in mesh.now effect.now [])) }
+{
+    push_took(out, mesh, me, took);
+    push_fate(out, mesh, me, took, effect);
+}
+
+fn put_turn<O: Sink>(
+    mesh: &Mesh,
+    me: usize,
+    took: &Took,
+    effect: &Effect,
+    buf: &mut LineBuf,
+    out: &mut O,
+) -> Result<(), PutFault>
+    requires me { me < length mesh.now }
+    requires took { IsTookInMesh mesh.now took.now }
+    ensures text { Puts (O.held out.old) (O.held out.new) (took_text mesh.now me (took_in mesh.now took.now)
+        ++ datum_fate mesh.now me (took_in mesh.now took.now) (effect_in mesh.now effect.now [])) result }
+    ensures cause { HasCause (O.faults out.old) (O.faults out.new) result }
+{
+    buf.clear();
+    push_turn(buf, mesh, me, took, effect);
+    put_all(out, buf.as_slice())
+}
+
+// ---- what was cast
+
+fn push_broken(out: &mut LineBuf, mesh: &Mesh, broken: Option<usize>)
+    requires broken { IfSome broken (λ y. y < length mesh.now) }
+    requires room { array_vec_len out.old + 25 ≤ 8192 }
+    ensures text { out.new.items ≡ out.old.items ++ broken_text mesh.now broken }
+    ensures length { array_vec_len out.new ≤ array_vec_len out.old + 25 }
+{
+    if let Some(y) = broken {
+        push_one(out, b"  broken ", mesh, y);
+        out.push(b'\n');
+    }
+}
+
+// To whom a packet was cast, and the packet. The longest such line names 200 nodes and has the two
+// digits of each of 1604 bytes.
+#[tactic(auto, using(std::proofs::lemmas::List::append_assoc))]
+fn push_cast(out: &mut LineBuf, mesh: &Mesh, cast: &Cast, packet: &Packet)
+    requires cast { IsCastWritten mesh.now cast.now packet.now.items }
+    requires room { array_vec_len out.old + 6422 ≤ 8192 }
+    ensures text { out.new.items ≡ out.old.items ++ cast_text mesh.now (cast_in mesh.now cast.now packet.now.items) }
+{
+    let bytes = packet.as_slice();
+    match cast {
+        Cast::Nothing => {}
+        Cast::One(y) => {
+            push_one(out, b"  sent one ", mesh, *y);
+            push_packet(out, bytes);
+        }
+        Cast::Many(set) => {
+            push_text(out, b"  sent many ");
+            push_set(out, mesh, set);
+            push_packet(out, bytes);
+        }
+        Cast::All => {
+            push_text(out, b"  sent all");
+            push_packet(out, bytes);
+        }
+    }
+}
+
+fn put_copy<O: Sink>(
+    mesh: &Mesh,
+    id: u64,
+    to: usize,
+    buf: &mut LineBuf,
+    out: &mut O,
+) -> Result<(), PutFault>
+    requires to { to < length mesh.now }
+    ensures text { Puts (O.held out.old) (O.held out.new)
+        (line (labelled (codes "  copy ") id ++ 32 ∷ name_of mesh.now to)) result }
+    ensures cause { HasCause (O.faults out.old) (O.faults out.new) result }
+{
+    buf.clear();
+    push_labelled(buf, b"  copy ", id);
+    push_one(buf, b" ", mesh, to);
+    buf.push(b'\n');
+    put_all(out, buf.as_slice())
+}
+
+// The copies of a cast, one line each: a buffer is too short for all of them.
+fn put_air<O: Sink>(mesh: &Mesh, air: &Air, buf: &mut LineBuf, out: &mut O) -> Result<(), PutFault>
+    requires receivers { AreBelow (length mesh.now) air.now.to }
+    requires few { air.now.first + 200 < 2 ^ 64 }
+    ensures text { (from : ℕ) (m : a_message) → Puts (O.held out.old) (O.held out.new)
+        (copies_text mesh.now (copies_to (members_below (length mesh.now) air.now.to) air.now.first from m)) result }
+    ensures cause { HasCause (O.faults out.old) (O.faults out.new) result }
+{
+    let _nodes = mesh.len();
+    let mut id = air.first;
+    let mut start = 0;
+    while let Some(to) = air.to.next_from(start) {
+        put_copy(mesh, id, to, buf, out)?;
+        id += 1;
+        start = to + 1;
+    }
+    Ok(())
+}
+
+// The copies of a cast, if there is one.
+#[tactic(auto, unfolding(mesh_meaning::specs::Answers::copies_in))]
+fn put_copies<O: Sink>(
+    mesh: &Mesh,
+    cast: &Cast,
+    air: &Air,
+    buf: &mut LineBuf,
+    out: &mut O,
+) -> Result<(), PutFault>
+    requires receivers { AreBelow (length mesh.now) air.now.to }
+    requires few { air.now.first + 200 < 2 ^ 64 }
+    ensures text { (from : ℕ) (packet : List ℕ) → Puts (O.held out.old) (O.held out.new)
+        (copies_text mesh.now (copies_in mesh.now from cast.now air.now packet)) result }
+    ensures cause { HasCause (O.faults out.old) (O.faults out.new) result }
+{
+    match cast {
+        Cast::Nothing => Ok(()),
+        Cast::One(_) => put_air(mesh, air, buf, out),
+        Cast::Many(_) => put_air(mesh, air, buf, out),
+        Cast::All => put_air(mesh, air, buf, out),
+    }
+}
+
+fn put_cast<O: Sink>(
+    mesh: &Mesh,
+    effect: &Effect,
+    packet: &Packet,
+    buf: &mut LineBuf,
+    out: &mut O,
+) -> Result<(), PutFault>
+    requires broken { IfSome effect.now.broken (λ y. y < length mesh.now) }
+    requires cast { IsCastWritten mesh.now effect.now.cast packet.now.items }
+    ensures text { Puts (O.held out.old) (O.held out.new) (broken_text mesh.now effect.now.broken
+        ++ cast_text mesh.now (cast_in mesh.now effect.now.cast packet.now.items)) result }
+    ensures cause { HasCause (O.faults out.old) (O.faults out.new) result }
+{
+    buf.clear();
+    push_broken(buf, mesh, effect.broken);
+    push_cast(buf, mesh, &effect.cast, packet);
+    put_all(out, buf.as_slice())
+}
+
+// A failed unicast, what was cast, and its copies.
+fn put_sent<O: Sink>(
+    mesh: &Mesh,
+    effect: &Effect,
+    air: &Air,
+    packet: &Packet,
+    buf: &mut LineBuf,
+    out: &mut O,
+) -> Result<(), PutFault>
+    requires effect { IsEffectInMesh mesh.now effect.now air.now packet.now.items }
+    ensures text { (from : ℕ) → Puts (O.held out.old) (O.held out.new)
+        (sent_text mesh.now (effect_in mesh.now effect.now packet.now.items)
+        (copies_in mesh.now from effect.now.cast air.now packet.now.items)) result }
+    ensures cause { HasCause (O.faults out.old) (O.faults out.new) result }
+{
+    put_cast(mesh, effect, packet, buf, out)?;
+    put_copies(mesh, &effect.cast, air, buf, out)
+}
+
+// ---- copies
+
+fn put_heard<O: Sink>(
+    mesh: &Mesh,
+    from: usize,
+    to: usize,
+    buf: &mut LineBuf,
+    out: &mut O,
+) -> Result<(), PutFault>
+    requires from { from < length mesh.now }
+    requires to { to < length mesh.now }
+    ensures text { Puts (O.held out.old) (O.held out.new)
+        (line (codes "  heard " ++ name_of mesh.now from ++ 32 ∷ name_of mesh.now to)) result }
+    ensures cause { HasCause (O.faults out.old) (O.faults out.new) result }
+{
+    buf.clear();
+    push_two(buf, b"  heard ", mesh, from, to);
+    buf.push(b'\n');
+    put_all(out, buf.as_slice())
+}
+
+// A lost copy, and the datum that is dropped with it.
+fn put_lost<O: Sink>(
+    mesh: &Mesh,
+    flying: &Flying,
+    buf: &mut LineBuf,
+    out: &mut O,
+) -> Result<(), PutFault>
+    requires from { flying.now.from < length mesh.now }
+    requires to { flying.now.to < length mesh.now }
+    requires written { IsWrittenCopy mesh.now flying.now }
+    ensures text { Puts (O.held out.old) (O.held out.new)
+        (line (codes "  lost " ++ name_of mesh.now flying.now.from ++ 32 ∷ name_of mesh.now flying.now.to)
+        ++ datum_in (codes "  dropped ") mesh.now (meaning mesh.now flying.now.bytes)) result }
+    ensures cause { HasCause (O.faults out.old) (O.faults out.new) result }
+{
+    buf.clear();
+    push_two(buf, b"  lost ", mesh, flying.from, flying.to);
+    buf.push(b'\n');
+    push_datum_in(buf, b"  dropped ", flying.bytes.as_slice());
+    put_all(out, buf.as_slice())
+}
+
+// ---- events
+
+// The node at which an event is. A link or a copy is at none, and 0 stands for that.
+fn place_of(e: &Event<'_>) -> usize
+    ensures { result ≡ place_of_lem (event_of e.now) }
+{
+    match *e {
+        Event::Give { node, .. } => node,
+        Event::Turn { node } => node,
+        Event::Send { node, .. } => node,
+        Event::Ask { node, .. } => node,
+        Event::Link { .. } => 0,
+        Event::Cut { .. } => 0,
+        Event::Deliver { .. } => 0,
+        Event::Lose { .. } => 0,
+    }
+}
+
+/// Writes what an event did, one line for each effect. The packet is the one that was cast, if any.
+/// Nothing is written of a datum that joined an inbox or of a link that changed.
+#[tactic(auto, unfolding(mesh_text::specs::Effects::happening_text))]
+pub fn put_done<O: Sink>(
+    mesh: &Mesh,
+    e: &Event<'_>,
+    done: &Done,
+    packet: &Packet,
+    buf: &mut LineBuf,
+    out: &mut O,
+) -> Result<(), PutFault>
+    requires place { place_of_lem (event_of e.now) < length mesh.now }
+    requires in_mesh { IsDoneInMesh mesh.now done.now packet.now.items }
+    ensures text { (w : World) → Puts (O.held out.old) (O.held out.new)
+        (outcome_text mesh.now (place_of_lem (event_of e.now))
+        (outcome_in mesh.now (place_of_lem (event_of e.now)) w done.now packet.now.items)) result }
+    ensures cause { HasCause (O.faults out.old) (O.faults out.new) result }
+{
+    match done {
+        Done::Idle => put_all(out, b"  idle\n"),
+        Done::Changed => Ok(()),
+        Done::Taken { took, effect, air } => {
+            put_turn(mesh, place_of(e), took, effect, buf, out)?;
+            put_sent(mesh, effect, air, packet, buf, out)
+        }
+        Done::Sent { effect, air } => put_sent(mesh, effect, air, packet, buf, out),
+        Done::Heard { from, to } => put_heard(mesh, *from, *to, buf, out),
+        Done::Lost { flying } => put_lost(mesh, flying, buf, out),
+    }
+}

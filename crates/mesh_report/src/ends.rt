@@ -1,0 +1,231 @@
+//! The last line of a run, and the line after chosen events.
+ghost use Rattle.std.specs.Prelude.{◌≡◌, ◌+◌, ◌<◌, ◌≤◌, ◌++◌, ◌∷◌, length, codes};
+ghost use Rattle.arrayvec.specs.ArrayVec.{array_vec_len};
+ghost use Rattle.mesh_model.specs.Places.{IsEvent};
+ghost use Rattle.mesh_meaning.specs.Events.{event_of};
+ghost use Rattle.mesh_text.specs.Lines.{labelled, at_bytes, event_words, fault_text, why_text, bad_line, field_text, full_line, summary_text};
+ghost use Rattle.mesh_text.specs.Auto.{auto_end};
+ghost use Rattle.mesh_io.specs.Cause.{HasCause};
+ghost use Rattle.mesh_io.specs.Puts.{Puts};
+ghost use Rattle.mesh_report.specs.Sums.{sums_of};
+
+use crate::text::{push_labelled, push_one, push_two};
+use mesh_base::{Event, Full, LineBuf, Mesh, push_text};
+use mesh_io::{PutFault, Sink, put_all};
+use mesh_text::{BadWhy, LineFault, Span};
+
+// ---- the whole input was read
+
+/// What was counted in a run, and where the data are at its end.
+#[derive(Clone, Copy, Debug, PartialEq, Eq)]
+pub struct Summary {
+    /// Events that were done, idle ones too.
+    pub events: u64,
+    /// Events that were idle.
+    pub idle: u64,
+    /// Data that were given.
+    pub given: u64,
+    /// Data that were delivered.
+    pub delivered: u64,
+    /// Data in stores.
+    pub waiting: u64,
+    /// Data in queues.
+    pub queued: u64,
+    /// Data in flight.
+    pub flying: u64,
+    /// Data that were dropped.
+    pub lost: u64,
+}
+
+// The counts of events, and of the data that were given and delivered.
+fn push_done(out: &mut LineBuf, s: &Summary)
+    requires room { array_vec_len out.old + 116 ≤ 8192 }
+    ensures text { out.new.items ≡ out.old.items
+        ++ (labelled (codes "done events ") s.now.events ++ labelled (codes " idle ") s.now.idle
+        ++ labelled (codes " given ") s.now.given ++ labelled (codes " delivered ") s.now.delivered) }
+    ensures length { array_vec_len out.new ≤ array_vec_len out.old + 116 }
+{
+    push_labelled(out, b"done events ", s.events);
+    push_labelled(out, b" idle ", s.idle);
+    push_labelled(out, b" given ", s.given);
+    push_labelled(out, b" delivered ", s.delivered);
+}
+
+fn push_summary(out: &mut LineBuf, s: &Summary)
+    requires room { array_vec_len out.old + 228 ≤ 8192 }
+    ensures text { out.new.items ≡ out.old.items
+        ++ summary_text (sums_of s.now) s.now.waiting s.now.queued s.now.flying }
+{
+    push_done(out, s);
+    push_labelled(out, b" waiting ", s.waiting);
+    push_labelled(out, b" queued ", s.queued);
+    push_labelled(out, b" flying ", s.flying);
+    push_labelled(out, b" lost ", s.lost);
+    out.push(b'\n');
+}
+
+/// Writes the last line of a run that read its whole input.
+pub fn put_summary<O: Sink>(s: &Summary, buf: &mut LineBuf, out: &mut O) -> Result<(), PutFault>
+    ensures text { Puts (O.held out.old) (O.held out.new)
+        (summary_text (sums_of s.now) s.now.waiting s.now.queued s.now.flying) result }
+    ensures cause { HasCause (O.faults out.old) (O.faults out.new) result }
+{
+    buf.clear();
+    push_summary(buf, s);
+    put_all(out, buf.as_slice())
+}
+
+// ---- a line is refused
+
+// A fault, and the bytes of the line that it is about.
+#[tactic(auto, using(std::proofs::lemmas::List::append_assoc))]
+fn push_at(out: &mut LineBuf, fault: &[u8], span: Span)
+    requires room { array_vec_len out.old + length fault.now + 54 ≤ 8192 }
+    ensures text { out.new.items ≡ out.old.items ++ (fault.now ++ at_bytes span) }
+    ensures length { array_vec_len out.new ≤ array_vec_len out.old + length fault.now + 54 }
+{
+    push_text(out, fault);
+    push_labelled(out, b" at bytes ", span.from as u64);
+    push_labelled(out, b" to ", span.to as u64);
+}
+
+fn push_fault(out: &mut LineBuf, fault: &LineFault)
+    requires room { array_vec_len out.old + 70 ≤ 8192 }
+    ensures text { out.new.items ≡ out.old.items ++ fault_text fault.now }
+    ensures length { array_vec_len out.new ≤ array_vec_len out.old + 70 }
+{
+    match *fault {
+        LineFault::Word(span) => push_at(out, b"no command", span),
+        LineFault::Count => push_text(out, b"wrong number of words"),
+        LineFault::BadAddress(span) => push_at(out, b"no address", span),
+        LineFault::BadNumber(span) => push_at(out, b"no number", span),
+        LineFault::BadText(span) => push_at(out, b"no text", span),
+        LineFault::Late => push_text(out, b"node after the first event"),
+        LineFault::Early => push_text(out, b"no node yet"),
+        LineFault::TwiceNode(span) => push_at(out, b"node named twice", span),
+        LineFault::TooManyNodes => push_text(out, b"more than 200 nodes"),
+        LineFault::Unknown(span) => push_at(out, b"unknown node", span),
+        LineFault::Same => push_text(out, b"link to itself"),
+    }
+}
+
+#[tactic(auto, unfolding(mesh_text::specs::Lines::why_text))]
+fn push_why(out: &mut LineBuf, why: &BadWhy)
+    requires room { array_vec_len out.old + 70 ≤ 8192 }
+    ensures text { out.new.items ≡ out.old.items ++ why_text why.now }
+    ensures length { array_vec_len out.new ≤ array_vec_len out.old + 70 }
+{
+    match why {
+        BadWhy::Fault(fault) => push_fault(out, fault),
+        BadWhy::TooLong => push_text(out, b"line longer than 600 bytes"),
+        BadWhy::TooMuch => push_text(out, b"input longer than 16777216 bytes"),
+    }
+}
+
+#[tactic(auto, using(std::proofs::lemmas::List::append_assoc), unfolding(mesh_text::specs::Lines::bad_line))]
+fn push_bad(out: &mut LineBuf, line: u64, why: &BadWhy)
+    requires room { array_vec_len out.old + 102 ≤ 8192 }
+    ensures text { out.new.items ≡ out.old.items ++ bad_line line why.now }
+{
+    push_labelled(out, b"bad line ", line);
+    push_text(out, b": ");
+    push_why(out, why);
+    out.push(b'\n');
+}
+
+/// Writes the last line of a run that a line has ended. Lines count from 1.
+pub fn put_bad<O: Sink>(
+    line: u64,
+    why: &BadWhy,
+    buf: &mut LineBuf,
+    out: &mut O,
+) -> Result<(), PutFault>
+    ensures text { Puts (O.held out.old) (O.held out.new) (bad_line line why.now) result }
+    ensures cause { HasCause (O.faults out.old) (O.faults out.new) result }
+{
+    buf.clear();
+    push_bad(buf, line, why);
+    put_all(out, buf.as_slice())
+}
+
+// ---- a counter is full
+
+// An event as a line of a schedule, without its LF.
+#[tactic(auto, unfolding(mesh_text::specs::Lines::event_words))]
+fn push_event(out: &mut LineBuf, mesh: &Mesh, e: &Event<'_>)
+    requires event { IsEvent (length mesh.now) (event_of e.now) }
+    requires room { array_vec_len out.old + 549 ≤ 8192 }
+    ensures text { out.new.items ≡ out.old.items ++ event_words mesh.now (event_of e.now) }
+    ensures length { array_vec_len out.new ≤ array_vec_len out.old + 549 }
+{
+    match *e {
+        Event::Give { node, dest, body } => {
+            push_two(out, b"data ", mesh, node, dest);
+            out.push(b' ');
+            push_text(out, body);
+        }
+        Event::Turn { node } => push_one(out, b"turn ", mesh, node),
+        Event::Send { node, dest } => push_two(out, b"send ", mesh, node, dest),
+        Event::Ask { node, dest } => push_two(out, b"ask ", mesh, node, dest),
+        Event::Link { a, b } => push_two(out, b"link ", mesh, a, b),
+        Event::Cut { a, b } => push_two(out, b"cut ", mesh, a, b),
+        Event::Deliver { id } => push_labelled(out, b"deliver ", id),
+        Event::Lose { id } => push_labelled(out, b"lose ", id),
+    }
+}
+
+fn field_word(field: &Full) -> &'static [u8]
+    ensures text { result.now ≡ field_text field.now }
+    ensures length { length result.now ≤ 6 }
+{
+    match field {
+        Full::Hops => b"hops",
+        Full::Number => b"number",
+        Full::Id => b"id",
+    }
+}
+
+fn push_full(out: &mut LineBuf, mesh: &Mesh, line: u64, e: &Event<'_>, field: &Full)
+    requires event { IsEvent (length mesh.now) (event_of e.now) }
+    requires room { array_vec_len out.old + 590 ≤ 8192 }
+    ensures text { out.new.items ≡ out.old.items ++ full_line mesh.now line (event_of e.now) field.now }
+{
+    push_labelled(out, b"full line ", line);
+    push_text(out, b": ");
+    push_event(out, mesh, e);
+    push_text(out, b": ");
+    push_text(out, field_word(field));
+    out.push(b'\n');
+}
+
+/// Writes the last line of a run that an event of this line has ended, since a counter is full.
+/// Lines count from 1.
+pub fn put_full<O: Sink>(
+    mesh: &Mesh,
+    line: u64,
+    e: &Event<'_>,
+    field: &Full,
+    buf: &mut LineBuf,
+    out: &mut O,
+) -> Result<(), PutFault>
+    requires event { IsEvent (length mesh.now) (event_of e.now) }
+    ensures text { Puts (O.held out.old) (O.held out.new) (full_line mesh.now line (event_of e.now) field.now) result }
+    ensures cause { HasCause (O.faults out.old) (O.faults out.new) result }
+{
+    buf.clear();
+    push_full(buf, mesh, line, e, field);
+    put_all(out, buf.as_slice())
+}
+
+// ---- chosen events
+
+/// Writes how many events an `auto` line did.
+pub fn put_auto_end<O: Sink>(did: u32, buf: &mut LineBuf, out: &mut O) -> Result<(), PutFault>
+    ensures text { Puts (O.held out.old) (O.held out.new) (auto_end did) result }
+    ensures cause { HasCause (O.faults out.old) (O.faults out.new) result }
+{
+    buf.clear();
+    push_labelled(buf, b"auto did ", u64::from(did));
+    buf.push(b'\n');
+    put_all(out, buf.as_slice())
+}

@@ -1,0 +1,19 @@
+//! The texts of a run, each written to a sink: a schedule's line, what an event did, a node's state,
+//! a route's end, the copies in flight, and the last line.
+//!
+//! Each call takes a line's buffer and may replace what it holds, so that no call makes one. A call
+//! takes no memory, and fails only where the sink does.
+#![tactic(auto)]
+
+mod effects;
+mod ends;
+mod line;
+mod tables;
+#[cfg(test)]
+mod tests;
+mod text;
+
+pub use effects::put_done;
+pub use ends::{Summary, put_auto_end, put_bad, put_full, put_summary};
+pub use line::put_line;
+pub use tables::{put_asked, put_entry, put_flying, put_number, put_stuck, put_waits};

@@ -1,0 +1,214 @@
+-- Events that the run chooses, one after another.
+use Rattle.std.proofs.Common.{◌≡◌, ℕ, suc, ◌+◌, ◌-◌, ◌<◌, ◌≤◌, Bool, List, [], ◌++◌, Option, Some, None, Result, Ok, Err, length, refl, sym, ap, subst, ◌∙◌, arith}
+use Rattle.std.specs.Io.KnownBytes.{Appends}
+use Rattle.mesh_io.specs.Puts.{AppendsFront}
+use Rattle.mesh_model.specs.Worlds.{Event, Outcome, Idle, Stops as Refuses, Goes as Happens}
+use Rattle.mesh_model.specs.Places.{IsEvent}
+use Rattle.mesh_model.specs.Choices.{pick}
+use Rattle.mesh_meaning.specs.Events.{event_of}
+use Rattle.mesh_text.specs.Schedule.{Moment, Chooses, counted, started, stepped, outcome_at, world_of}
+use Rattle.mesh_text.specs.Lines.{line, words_of}
+use Rattle.mesh_text.specs.Effects.{outcome_lines}
+use Rattle.mesh_text.specs.Auto.{Ran, Ended, Refused as RanRefused, before, done_then, chosen_then, auto_from, auto_end}
+use Rattle.mesh_text.specs.Text.{Came, On, Refused, Over, came_of_auto, came_of_line, text_in}
+use Rattle.mesh_run.specs.declared.stop.Stop.{Stop}
+use Rattle.mesh_run.specs.declared.stop.Stop.TheVariants as stop
+use Rattle.mesh_run.specs.Runs.{shown, Goes, Stops, came_by, Ends, RanTo, text_of}
+use Rattle.mesh_run.proofs.Shown.{shown_none, shown_join, front_join, front_more}
+
+-- ---- how many are left
+
+one_less : (most did : ℕ) → did < most → most - did ≡ suc (most - (did + 1))
+one_less most did h = omega arith
+
+auto_from-suc : (n did : ℕ) (m : Moment) → auto_from (suc n) did m ≡ chosen_then m did (pick (world_of m)) (λ p. auto_from n (did + 1) p)
+unfolding auto_from
+auto_from-suc n did m = refl
+
+auto_from-zero : (did : ℕ) (m : Moment) → auto_from 0 did m ≡ Ended [] did m
+unfolding auto_from
+auto_from-zero did m = refl
+
+auto_from-step : (most did : ℕ) (m : Moment) (o : Option Event) → did < most → o ≡ pick (world_of m)
+    → auto_from (most - did) did m ≡ chosen_then m did o (λ p. auto_from (most - (did + 1)) (did + 1) p)
+auto_from-step most did m o h e =
+    ap (λ n. auto_from n did m) (one_less most did h) ∙ auto_from-suc _ did m ∙ ap (λ c. chosen_then m did c (λ p. auto_from (most - (did + 1)) (did + 1) p)) (sym e)
+
+-- as many were done as were asked for
+auto_from-all : (most did : ℕ) (m : Moment) → most ≤ did → auto_from (most - did) did m ≡ Ended [] did m
+auto_from-all most did m h = ap (λ n. auto_from n did m) (let z : most - did ≡ 0 = omega arith in z) ∙ auto_from-zero did m
+
+-- none left to be chosen
+auto_from-none : (most did : ℕ) (m : Moment) → did < most → None ≡ pick (world_of m) → auto_from (most - did) did m ≡ Ended [] did m
+auto_from-none most did m h e = auto_from-step most did m None h e
+
+nothing_more : (quiet : Bool) (m : Moment) (ran : Ran) (did : ℕ) (a : Option (List ℕ)) → ran ≡ Ended [] did m → Ends quiet ran m a a did
+nothing_more quiet m ran did a e = record { text = []; is = e; grown = shown_none quiet a }
+
+pub ends_all : (quiet : Bool) (most did : ℕ) (m : Moment) (a : Option (List ℕ)) → most ≤ did → Ends quiet (auto_from (most - did) did m) m a a did
+ends_all quiet most did m a h = nothing_more quiet m (auto_from (most - did) did m) did a (auto_from-all most did m h)
+
+pub ends_none : (quiet : Bool) (most did : ℕ) (m : Moment) (a : Option (List ℕ)) → did < most → None ≡ pick (world_of m) → Ends quiet (auto_from (most - did) did m) m a a did
+ends_none quiet most did m a h e = nothing_more quiet m (auto_from (most - did) did m) did a (auto_from-none most did m h e)
+
+-- ---- one event, and then the others
+
+text-before : (text : List ℕ) (ran : Ran) → text_of (before text ran) ≡ text ++ text_of ran
+text-before text (Ended others did after) = refl
+text-before text (RanRefused others e field) = refl
+
+before_to : (quiet : Bool) (m n k : Moment) (text : List ℕ) (ran : Ran) (a b c : Option (List ℕ)) (r : Result ℕ Stop) → n.mesh ≡ m.mesh → n.lines ≡ m.lines
+    → Appends a b (shown quiet text) → RanTo quiet n ran k b c r → RanTo quiet m (before text ran) k a c r
+before_to quiet m n k text ran a b c (Ok did) em el p q =
+    record { text = text ++ q.text; is = ap (before text) q.is; grown = shown_join quiet a b c text q.text p q.grown }
+before_to quiet m n k text ran a b c (Err (stop.BadLine f)) em el p q = q
+before_to quiet m n k text ran a b c (Err (stop.Full event field)) em el p q = record {
+  text = text ++ q.text;
+  is = ap (before text) q.is;
+  grown = shown_join quiet a b c text q.text p q.grown;
+  still = record { event = subst (λ l. IsEvent (length l) (event_of event)) em q.still.event; mesh = q.still.mesh ∙ em; lines = q.still.lines ∙ el };
+}
+before_to quiet m n k text ran a b c (Err stop.WriteFault) em el p q =
+    let P : List ℕ → Type 0 = λ l. AppendsFront a c (shown quiet l) in
+    subst P (sym (text-before text ran)) (front_join quiet a b c text (text_of ran) p q)
+before_to quiet m n k text ran a b c (Err stop.NoMemory) em el p q =
+    let P : List ℕ → Type 0 = λ l. AppendsFront a c (shown quiet l) in
+    subst P (sym (text-before text ran)) (front_join quiet a b c text (text_of ran) p q)
+
+-- the moment after what came of an event
+moment_in : Moment → Came → Moment
+moment_in m (On text n) = n
+moment_in m (Refused why) = m
+moment_in m (Over text e field) = m
+
+-- an event that was done
+on_then : (quiet : Bool) (m n k : Moment) (e : Event) (text : List ℕ) (ran : Moment → Ran) (a b c : Option (List ℕ)) (r : Result ℕ Stop)
+    → (g : Goes quiet (On text (stepped m e)) n a b) → RanTo quiet n (ran n) k b c r → RanTo quiet m (before text (ran (stepped m e))) k a c r
+unfolding stepped moment_in
+on_then quiet m n k e text ran a b c r g q =
+    let same : stepped m e ≡ n = ap (moment_in m) g.is in
+    let words : text ≡ g.text = ap text_in g.is in
+    let P : Moment → Type 0 = λ p. RanTo quiet m (before text (ran p)) k a c r in
+    let Q : List ℕ → Type 0 = λ l. Appends a b (shown quiet l) in
+    subst P (sym same) (before_to quiet m n k text (ran n) a b c r (ap (λ p. p.mesh) (sym same)) (ap (λ p. p.lines) (sym same)) (subst Q (sym words) g.grown) q)
+
+then_goes : (quiet : Bool) (m n k : Moment) (e : Event) (o : Outcome) (others : Moment → Ran) (a b c : Option (List ℕ)) (r : Result ℕ Stop)
+    → Goes quiet (came_by m e o) n a b → RanTo quiet n (others n) k b c r → RanTo quiet m (done_then m e o others) k a c r
+then_goes quiet m n k e Idle others a b c r g q = on_then quiet m n k e (outcome_lines m.mesh e Idle) others a b c r g q
+then_goes quiet m n k e (Refuses x field) others a b c r g q = absurd (let h : Over [] e field ≡ On g.text n = g.is in let P : ⊥ = cc in P)
+then_goes quiet m n k e (Happens w i) others a b c r g q = on_then quiet m n k e (outcome_lines m.mesh e (Happens w i)) others a b c r g q
+
+ran_in : Ran → Came → Ran
+ran_in d (On text n) = d
+ran_in d (Refused why) = d
+ran_in d (Over text e field) = RanRefused text e field
+
+-- an event that was not done, or not written whole
+then_stops : (quiet : Bool) (m n : Moment) (e : Event) (o : Outcome) (others : Moment → Ran) (a b : Option (List ℕ)) (t : Stop)
+    → Stops quiet m (came_by m e o) n a b t → RanTo quiet m (done_then m e o others) n a b (Err t)
+unfolding ran_in
+then_stops quiet m n e Idle others a b (stop.BadLine f) g = absurd (let h = g.0 in let P : ⊥ = cc in P)
+then_stops quiet m n e Idle others a b (stop.Full event field) g = absurd (let h : On (outcome_lines m.mesh e Idle) (stepped m e) ≡ Over g.text (event_of event) field = g.is in let P : ⊥ = cc in P)
+then_stops quiet m n e Idle others a b stop.WriteFault g =
+    let P : List ℕ → Type 0 = λ l. AppendsFront a b (shown quiet l) in
+    subst P (sym (text-before (outcome_lines m.mesh e Idle) (others (stepped m e)))) (front_more quiet a b (outcome_lines m.mesh e Idle) _ g)
+then_stops quiet m n e Idle others a b stop.NoMemory g =
+    let P : List ℕ → Type 0 = λ l. AppendsFront a b (shown quiet l) in
+    subst P (sym (text-before (outcome_lines m.mesh e Idle) (others (stepped m e)))) (front_more quiet a b (outcome_lines m.mesh e Idle) _ g)
+then_stops quiet m n e (Refuses x full) others a b (stop.BadLine f) g = absurd (let h = g.0 in let P : ⊥ = cc in P)
+then_stops quiet m n e (Refuses x full) others a b (stop.Full event field) g = record {
+  text = g.text;
+  is = ap (ran_in (RanRefused [] e full)) g.is;
+  grown = g.grown;
+  still = g.still;
+}
+then_stops quiet m n e (Refuses x full) others a b stop.WriteFault g = g
+then_stops quiet m n e (Refuses x full) others a b stop.NoMemory g = g
+then_stops quiet m n e (Happens w i) others a b (stop.BadLine f) g = absurd (let h = g.0 in let P : ⊥ = cc in P)
+then_stops quiet m n e (Happens w i) others a b (stop.Full event field) g = absurd (let h : On (outcome_lines m.mesh e (Happens w i)) (stepped m e) ≡ Over g.text (event_of event) field = g.is in let P : ⊥ = cc in P)
+then_stops quiet m n e (Happens w i) others a b stop.WriteFault g =
+    let P : List ℕ → Type 0 = λ l. AppendsFront a b (shown quiet l) in
+    subst P (sym (text-before (outcome_lines m.mesh e (Happens w i)) (others (stepped m e)))) (front_more quiet a b (outcome_lines m.mesh e (Happens w i)) _ g)
+then_stops quiet m n e (Happens w i) others a b stop.NoMemory g =
+    let P : List ℕ → Type 0 = λ l. AppendsFront a b (shown quiet l) in
+    subst P (sym (text-before (outcome_lines m.mesh e (Happens w i)) (others (stepped m e)))) (front_more quiet a b (outcome_lines m.mesh e (Happens w i)) _ g)
+
+-- one event more
+pub ran_goes : (quiet : Bool) (most did : ℕ) (m n k : Moment) (e : Event) (a b c : Option (List ℕ)) (r : Result ℕ Stop) → did < most → Some e ≡ pick (world_of m)
+    → Goes quiet (came_by m e (outcome_at m e)) n a b → RanTo quiet n (auto_from (most - (did + 1)) (did + 1) n) k b c r
+    → RanTo quiet m (auto_from (most - did) did m) k a c r
+ran_goes quiet most did m n k e a b c r h p g q =
+    let P : Ran → Type 0 = λ ran. RanTo quiet m ran k a c r in
+    subst P (sym (auto_from-step most did m (Some e) h p)) (then_goes quiet m n k e (outcome_at m e) (λ x. auto_from (most - (did + 1)) (did + 1) x) a b c r g q)
+
+pub ran_stops : (quiet : Bool) (most did : ℕ) (m n : Moment) (e : Event) (a b : Option (List ℕ)) (t : Stop) → did < most → Some e ≡ pick (world_of m)
+    → Stops quiet m (came_by m e (outcome_at m e)) n a b t → RanTo quiet m (auto_from (most - did) did m) n a b (Err t)
+ran_stops quiet most did m n e a b t h p g =
+    let P : Ran → Type 0 = λ ran. RanTo quiet m ran n a b (Err t) in
+    subst P (sym (auto_from-step most did m (Some e) h p)) (then_stops quiet m n e (outcome_at m e) (λ x. auto_from (most - (did + 1)) (did + 1) x) a b t g)
+
+-- ---- the line of chosen events
+
+came-chooses : (m s : Moment) (count : ℕ) → s ≡ started m → came_of_line m (Chooses count) ≡ came_of_auto (line (words_of m.mesh (Chooses count))) (auto_from count 0 s)
+unfolding came_of_line
+came-chooses m s count same = ap (λ k. came_of_auto (line (words_of m.mesh (Chooses count))) (auto_from count 0 k)) (sym same)
+
+pub auto_goes : (quiet : Bool) (m s n k : Moment) (count did : ℕ) (a b c d : Option (List ℕ)) → s ≡ started m → Appends a b (shown quiet (line (words_of m.mesh (Chooses count))))
+    → Ends quiet (auto_from count 0 s) n b c did → Appends c d (shown quiet (auto_end did)) → k ≡ counted n → Goes quiet (came_of_line m (Chooses count)) k a d
+auto_goes quiet m s n k count did a b c d same p q r next =
+    let w : List ℕ = line (words_of m.mesh (Chooses count)) in
+    record {
+      text = w ++ q.text ++ auto_end did;
+      is = came-chooses m s count same ∙ ap (came_of_auto w) q.is ∙ ap (λ x. On (w ++ q.text ++ auto_end did) x) (sym next);
+      grown = shown_join quiet a c d (w ++ q.text) (auto_end did) (shown_join quiet a b c w q.text p q.grown) r;
+    }
+
+front_in : (quiet : Bool) (w : List ℕ) (ran : Ran) (a b c : Option (List ℕ)) → Appends a b (shown quiet w) → AppendsFront b c (shown quiet (text_of ran))
+    → AppendsFront a c (shown quiet (text_in (came_of_auto w ran)))
+front_in quiet w (Ended others did after) a b c p q = front_more quiet a c (w ++ others) (auto_end did) (front_join quiet a b c w others p q)
+front_in quiet w (RanRefused others e field) a b c p q = front_join quiet a b c w others p q
+
+front_at : (quiet : Bool) (w : List ℕ) (ran : Ran) (a b : Option (List ℕ)) → AppendsFront a b (shown quiet w) → AppendsFront a b (shown quiet (text_in (came_of_auto w ran)))
+front_at quiet w (Ended others did after) a b p = front_more quiet a b (w ++ others) (auto_end did) (front_more quiet a b w others p)
+front_at quiet w (RanRefused others e field) a b p = front_more quiet a b w others p
+
+-- the line itself is not written whole
+pub auto_front : (quiet : Bool) (m s : Moment) (count : ℕ) (a b : Option (List ℕ)) → s ≡ started m → AppendsFront a b (shown quiet (line (words_of m.mesh (Chooses count))))
+    → AppendsFront a b (shown quiet (text_in (came_of_line m (Chooses count))))
+auto_front quiet m s count a b same p =
+    let P : Came → Type 0 = λ k. AppendsFront a b (shown quiet (text_in k)) in
+    subst P (sym (came-chooses m s count same)) (front_at quiet (line (words_of m.mesh (Chooses count))) (auto_from count 0 s) a b p)
+
+-- nor the line after the events
+pub auto_end_front : (quiet : Bool) (m s n : Moment) (count did : ℕ) (a b c d : Option (List ℕ)) → s ≡ started m
+    → Appends a b (shown quiet (line (words_of m.mesh (Chooses count)))) → Ends quiet (auto_from count 0 s) n b c did → AppendsFront c d (shown quiet (auto_end did))
+    → AppendsFront a d (shown quiet (text_in (came_of_line m (Chooses count))))
+auto_end_front quiet m s n count did a b c d same p q r =
+    let w : List ℕ = line (words_of m.mesh (Chooses count)) in
+    let P : Came → Type 0 = λ k. AppendsFront a d (shown quiet (text_in k)) in
+    subst P (sym (came-chooses m s count same ∙ ap (came_of_auto w) q.is))
+    (front_join quiet a c d (w ++ q.text) (auto_end did) (shown_join quiet a b c w q.text p q.grown) r)
+
+-- an event was not done, or not written whole
+pub auto_stops : (quiet : Bool) (m s n : Moment) (count : ℕ) (a b c : Option (List ℕ)) (t : Stop) → s ≡ started m
+    → Appends a b (shown quiet (line (words_of m.mesh (Chooses count)))) → RanTo quiet s (auto_from count 0 s) n b c (Err t)
+    → Stops quiet m (came_of_line m (Chooses count)) n a c t
+auto_stops quiet m s n count a b c (stop.BadLine f) same p q = absurd q
+auto_stops quiet m s n count a b c (stop.Full event field) same p q =
+    let w : List ℕ = line (words_of m.mesh (Chooses count)) in
+    record {
+      text = w ++ q.text;
+      is = came-chooses m s count same ∙ ap (came_of_auto w) q.is;
+      grown = shown_join quiet a b c w q.text p q.grown;
+      still = record {
+        event = subst (λ k. IsEvent (length k.mesh) (event_of event)) same q.still.event;
+        mesh = q.still.mesh ∙ ap (λ k. k.mesh) same;
+        lines = q.still.lines ∙ ap (λ k. k.lines) same;
+      };
+    }
+auto_stops quiet m s n count a b c stop.WriteFault same p q =
+    let P : Came → Type 0 = λ k. AppendsFront a c (shown quiet (text_in k)) in
+    subst P (sym (came-chooses m s count same)) (front_in quiet (line (words_of m.mesh (Chooses count))) (auto_from count 0 s) a b c p q)
+auto_stops quiet m s n count a b c stop.NoMemory same p q =
+    let P : Came → Type 0 = λ k. AppendsFront a c (shown quiet (text_in k)) in
+    subst P (sym (came-chooses m s count same)) (front_in quiet (line (words_of m.mesh (Chooses count))) (auto_from count 0 s) a b c p q)

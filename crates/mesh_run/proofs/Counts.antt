@@ -1,0 +1,191 @@
+-- What an answer counts.
+use Rattle.std.proofs.Common.{◌≡◌, ℕ, ◌+◌, Bool, true, false, cond, eqb, List, Option, Some, None, length, refl, sym, ap, subst, ◌∙◌}
+use Rattle.std.specs.List.{slice_get}
+use Rattle.std.proofs.lemmas.Bool.{eqb-true}
+use Rattle.mesh_base.specs.Meshes.{Nodes}
+use Rattle.mesh_base.specs.declared.events.Full.{Full}
+use Rattle.aodv_wire.specs.declared.error.WireError.{WireError}
+use Rattle.aodv_wire.specs.declared.error.WireError.TheVariants.{Short, UnknownType}
+use Rattle.aodv_wire.specs.declared.message.Message as wire
+use Rattle.aodv_wire.specs.declared.message.Message.TheVariants as messages
+use Rattle.aodv_wire.specs.DataPacket as data_packet
+use Rattle.aodv_wire.specs.RouteRequest as request
+use Rattle.aodv_wire.specs.RouteReply as reply
+use Rattle.aodv_wire.specs.RouteError as route_error
+use Rattle.aodv_wire.specs.Spells.{kind, refusal, said}
+use Rattle.aodv_meaning.specs.Meaning.{meaning, in_mesh}
+use Rattle.aodv_model.specs.Cores.{New}
+use Rattle.aodv_model.specs.Handlers.{Effect, Took}
+use Rattle.mesh_model.specs.Worlds.{World, Node, Copy, Event, Give, Turn, Send, Ask, Link, Cut, Deliver, Lose, Double, Happening, Changed, Taken, Sent, CopyHeard, CopyLost, CopyDoubled, Outcome, Idle, Stops, Goes, unless_full, send_of, ask_of, at_node, at_copy, find_copy, are_linked, push, step}
+use Rattle.mesh_model.specs.Accounts.{any, given, delivered, delivered_at, dropped, in_taken, in_message}
+use Rattle.mesh_meaning.specs.Answers.{IsPacketInMesh}
+use mir.Val.{bool_byte}
+use Rattle.mesh_text.specs.Schedule.{Sums, summed, idle_by}
+use Rattle.mesh_run.specs.Sums.{count_of}
+
+-- ---- given
+
+happening_in : Outcome → Happening
+happening_in Idle = Changed
+happening_in (Stops x f) = Changed
+happening_in (Goes w h) = h
+
+-- more than a datum given or a link changed
+abbrev pub NotChanged : Happening → Type 0
+NotChanged Changed = ⊥
+NotChanged (Taken t f cs) = Unit {0}
+NotChanged (Sent f cs) = Unit {0}
+NotChanged (CopyHeard from to) = Unit {0}
+NotChanged (CopyLost c) = Unit {0}
+NotChanged (CopyDoubled c) = Unit {0}
+
+give_changes : (w : World) (x d : ℕ) (b : List ℕ) → happening_in (step w (Give x d b)) ≡ Changed
+unfolding step happening_in
+give_changes w x d b = by_node (slice_get w.nodes x)
+  where
+    by_node : (o : Option Node) → happening_in (at_node o (λ core queue. Goes (push w x (New b d)) Changed)) ≡ Changed
+    by_node None = refl
+    by_node (Some n) = refl
+
+pub gives_none : (old new : World) (e : Event) (h : Happening) → NotChanged h → step old e ≡ Goes new h → given any e (step old e) ≡ 0
+unfolding happening_in
+gives_none old new (Give x d b) h other is =
+    let same : h ≡ Changed = ap happening_in (sym is) ∙ give_changes old x d b in
+    absurd (subst NotChanged same other)
+gives_none old new (Turn x) h other is = refl
+gives_none old new (Send x d) h other is = refl
+gives_none old new (Ask x d) h other is = refl
+gives_none old new (Link a b) h other is = refl
+gives_none old new (Cut a b) h other is = refl
+gives_none old new (Deliver id) h other is = refl
+gives_none old new (Lose id) h other is = refl
+gives_none old new (Double id) h other is = refl
+
+-- ---- delivered
+
+-- nothing was taken
+abbrev NoTake : Outcome → Type 0
+NoTake Idle = Unit {0}
+NoTake (Stops x f) = Unit {0}
+NoTake (Goes w Changed) = Unit {0}
+NoTake (Goes w (Taken t f cs)) = ⊥
+NoTake (Goes w (Sent f cs)) = Unit {0}
+NoTake (Goes w (CopyHeard from to)) = Unit {0}
+NoTake (Goes w (CopyLost c)) = Unit {0}
+NoTake (Goes w (CopyDoubled c)) = Unit {0}
+
+no_take_sent : (b : Bool) (x : ℕ) (f : Option Full) (w : World) (ef : Effect) (cs : List Copy) → NoTake (cond b (unless_full x f (Goes w (Sent ef cs))) Idle)
+no_take_sent true x None w ef cs = tt
+no_take_sent true x (Some f) w ef cs = tt
+no_take_sent false x f w ef cs = tt
+
+no_take_give : (w : World) (x d : ℕ) (b : List ℕ) → NoTake (step w (Give x d b))
+unfolding step
+no_take_give w x d b = by_node (slice_get w.nodes x)
+  where
+    by_node : (o : Option Node) → NoTake (at_node o (λ core queue. Goes (push w x (New b d)) Changed))
+    by_node None = tt
+    by_node (Some n) = tt
+
+no_take_send : (w : World) (x d : ℕ) → NoTake (step w (Send x d))
+unfolding step
+no_take_send w x d = by_node (slice_get w.nodes x)
+  where
+    by_node : (o : Option Node) → NoTake (at_node o (send_of w x d))
+    by_node None = tt
+    by_node (Some n) = no_take_sent _ x _ _ _ _
+
+no_take_ask : (w : World) (x d : ℕ) → NoTake (step w (Ask x d))
+unfolding step
+no_take_ask w x d = by_node (slice_get w.nodes x)
+  where
+    by_node : (o : Option Node) → NoTake (at_node o (ask_of w x d))
+    by_node None = tt
+    by_node (Some n) = no_take_sent _ x _ _ _ _
+
+no_take_link : (w : World) (a b : ℕ) → NoTake (step w (Link a b)) × NoTake (step w (Cut a b))
+unfolding step
+no_take_link w a b = (on (are_linked w.links a b) _, off (are_linked w.links a b) _)
+  where
+    on : (t : Bool) (v : World) → NoTake (cond t Idle (Goes v Changed))
+    on true v = tt
+    on false v = tt
+
+    off : (t : Bool) (v : World) → NoTake (cond t (Goes v Changed) Idle)
+    off true v = tt
+    off false v = tt
+
+no_take_copy : (w : World) (id : ℕ) → NoTake (step w (Deliver id)) × NoTake (step w (Lose id)) × NoTake (step w (Double id))
+unfolding step
+no_take_copy w id = (heard (find_copy w.flying id) _, lost (find_copy w.flying id) _, doubled (find_copy w.flying id) _ _)
+  where
+    heard : (o : Option Copy) (v : Copy → World) → NoTake (at_copy o (λ c. Goes (v c) (CopyHeard c.from c.to)))
+    heard None v = tt
+    heard (Some c) v = tt
+
+    lost : (o : Option Copy) (v : Copy → World) → NoTake (at_copy o (λ c. Goes (v c) (CopyLost c)))
+    lost None v = tt
+    lost (Some c) v = tt
+
+    doubled : (o : Option Copy) (v : Copy → World) (k : Copy → Copy) → NoTake (at_copy o (λ c. Goes (v c) (CopyDoubled (k c))))
+    doubled None v k = tt
+    doubled (Some c) v k = tt
+
+pub delivers_taken : (old new : World) (e : Event) (t : Took) (f : Effect) (cs : List Copy) (r : Bool) → step old e ≡ Goes new (Taken t f cs) → f.deliver ≡ true
+    → ((x : ℕ) → in_taken any x t ≡ count_of r) → delivered any e (step old e) ≡ count_of r
+delivers_taken old new (Turn x) t f cs r is true_is counts = ap (delivered_at any x) is ∙ ap (λ b. cond b (in_taken any x t) 0) true_is ∙ counts x
+delivers_taken old new (Give x d b) t f cs r is true_is counts = absurd (subst NoTake is (no_take_give old x d b))
+delivers_taken old new (Send x d) t f cs r is true_is counts = absurd (subst NoTake is (no_take_send old x d))
+delivers_taken old new (Ask x d) t f cs r is true_is counts = absurd (subst NoTake is (no_take_ask old x d))
+delivers_taken old new (Link a b) t f cs r is true_is counts = absurd (subst NoTake is (no_take_link old a b).0)
+delivers_taken old new (Cut a b) t f cs r is true_is counts = absurd (subst NoTake is (no_take_link old a b).1)
+delivers_taken old new (Deliver id) t f cs r is true_is counts = absurd (subst NoTake is (no_take_copy old id).0)
+delivers_taken old new (Lose id) t f cs r is true_is counts = absurd (subst NoTake is (no_take_copy old id).1)
+delivers_taken old new (Double id) t f cs r is true_is counts = absurd (subst NoTake is (no_take_copy old id).2)
+
+-- ---- the datum of a packet
+
+first_if : (t : Bool) (rest : Option WireError) → true ≡ t → cond t (Some Short) rest ≡ None → ⊥
+first_if true rest h e = cc
+first_if false rest h e = cc
+
+-- bytes that say something are not empty
+pub data_none : (mesh : Nodes) (b : List ℕ) → IsPacketInMesh mesh b → true ≡ eqb (length b) 0 → in_message any (meaning mesh b) ≡ 0
+unfolding refusal
+data_none mesh b is h = absurd (first_if (eqb (length b) 0) _ h is.written.spells.allowed)
+
+if_rest : (t : Bool) (rest : Option WireError) → false ≡ t → cond t (Some Short) rest ≡ None → rest ≡ None
+if_rest true rest h e = absurd (let P : ⊥ = cc in P)
+if_rest false rest h e = e
+
+by_kind : (f : wire.Message → ℕ) (n k : ℕ) (p q r s : Bool) (r1 r2 r3 r4 : Option WireError) (m1 m2 m3 m4 : wire.Message)
+    → eqb n 1 ≡ p → eqb n 2 ≡ q → eqb n 3 ≡ r → eqb n 16 ≡ s → k ≡ n → f m1 ≡ 0 → f m2 ≡ 0 → f m3 ≡ 0 → f m4 ≡ 1
+    → cond p r1 (cond q r2 (cond r r3 (cond s r4 (Some (UnknownType n))))) ≡ None
+    → f (cond p m1 (cond q m2 (cond r m3 m4))) ≡ count_of (eqb k 16)
+by_kind f n k true q r s r1 r2 r3 r4 m1 m2 m3 m4 ep eq er es is f1 f2 f3 f4 h = f1 ∙ sym (ap (λ x. count_of (eqb x 16)) (is ∙ eqb-true n 1 ep))
+by_kind f n k false true r s r1 r2 r3 r4 m1 m2 m3 m4 ep eq er es is f1 f2 f3 f4 h = f2 ∙ sym (ap (λ x. count_of (eqb x 16)) (is ∙ eqb-true n 2 eq))
+by_kind f n k false false true s r1 r2 r3 r4 m1 m2 m3 m4 ep eq er es is f1 f2 f3 f4 h = f3 ∙ sym (ap (λ x. count_of (eqb x 16)) (is ∙ eqb-true n 3 er))
+by_kind f n k false false false true r1 r2 r3 r4 m1 m2 m3 m4 ep eq er es is f1 f2 f3 f4 h = f4 ∙ sym (ap (λ x. count_of (eqb x 16)) is ∙ ap count_of es)
+by_kind f n k false false false false r1 r2 r3 r4 m1 m2 m3 m4 ep eq er es is f1 f2 f3 f4 h = absurd (let P : ⊥ = cc in P)
+
+-- a packet has a datum where its first octet says so
+pub data_is : (mesh : Nodes) (b : List ℕ) (k : ℕ) → IsPacketInMesh mesh b → false ≡ eqb (length b) 0 → k ≡ kind b → in_message any (meaning mesh b) ≡ count_of (eqb k 16)
+unfolding meaning said refusal
+data_is mesh b k is h first =
+    by_kind (λ m. in_message any (in_mesh mesh m)) (kind b) k (eqb (kind b) 1) (eqb (kind b) 2) (eqb (kind b) 3) (eqb (kind b) 16) _ _ _ _
+    (messages.Rreq (request.request b)) (messages.Rrep (reply.reply b)) (messages.Rerr (route_error.destinations b)) (messages.Parcel (data_packet.datum b))
+    refl refl refl refl first refl refl refl refl (if_rest (eqb (length b) 0) _ h is.written.spells.allowed)
+
+-- ---- all sums
+
+byte_is : (b : Bool) (n : ℕ) → n ≡ bool_byte b → n ≡ count_of b
+byte_is true n h = h
+byte_is false n h = h
+
+pub summed_is : (s : Sums) (e : Event) (o : Outcome) (idle gives delivers drops : Bool) (a b c d : ℕ) → a ≡ bool_byte idle → b ≡ bool_byte gives → c ≡ bool_byte delivers → d ≡ bool_byte drops
+    → idle_by o ≡ count_of idle → given any e o ≡ count_of gives → delivered any e o ≡ count_of delivers → dropped any e o ≡ count_of drops
+    → record { events = s.events + 1; idle = s.idle + a; given = s.given + b; delivered = s.delivered + c; lost = s.lost + d } ≡ summed s e o
+summed_is s e o idle gives delivers drops a b c d ea eb ec ed ia gb dc ld =
+    let t : ℕ → ℕ → ℕ → ℕ → Sums = λ w x y z. record { events = s.events + 1; idle = s.idle + w; given = s.given + x; delivered = s.delivered + y; lost = s.lost + z } in
+    ap (λ w. t w b c d) (byte_is idle a ea ∙ sym ia) ∙ ap (λ x. t (idle_by o) x c d) (byte_is gives b eb ∙ sym gb)
+    ∙ ap (λ y. t (idle_by o) (given any e o) y d) (byte_is delivers c ec ∙ sym dc) ∙ ap (λ z. t (idle_by o) (given any e o) (delivered any e o) z) (byte_is drops d ed ∙ sym ld)

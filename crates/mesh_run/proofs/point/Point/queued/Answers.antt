@@ -1,6 +1,0 @@
-use Rattle.std.proofs.Common.{arith}
-use Rattle.mesh_run.proofs.Sound.{sound_held}
-use Rattle.mesh_run.proofs.point.Point.queued.Goals as goal
-
-pub queued-requires : goal.queued-requires
-queued-requires c = omega (arith, sound_held _ c.in-Some.w c.self.invariant c.in-Some.is)

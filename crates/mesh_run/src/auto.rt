@@ -1,0 +1,113 @@
+//! Events that the run chooses, one after another.
+ghost use Rattle.std.specs.Prelude.{◌≡◌, ◌<◌, ◌≤◌, ◌+◌, ◌^◌, is_some, true, OnOk, IsErrOf, Ok, Err, IfSome, option_map};
+ghost use Rattle.mesh_model.specs.Choices.{pick as pick_lem};
+ghost use Rattle.mesh_meaning.specs.Events.{event_of};
+ghost use Rattle.mesh_text.specs.Schedule.{Chooses, world_of};
+ghost use Rattle.mesh_text.specs.Auto.{auto_from, auto_end};
+ghost use Rattle.mesh_text.specs.Text.{came_of_line};
+ghost use Rattle.mesh_io.specs.Cause.{Rose, HasCause};
+ghost use Rattle.mesh_io.specs.Puts.{Puts};
+ghost use Rattle.mesh_script.specs.Seen.{IsPrintable};
+ghost use Rattle.mesh_run.specs.Runs.{shown, Comes, RanTo};
+
+use crate::choice::pick;
+use crate::commands::{do_event, say_line};
+use crate::point::Point;
+use crate::stop::{Scratch, Stop};
+use mesh_base::{Event, LineBuf};
+use mesh_io::{PutFault, Sink};
+use mesh_report::put_auto_end;
+use mesh_script::Line;
+use mesh_world::Steps;
+use std::alloc::Global;
+
+// The event that comes next.
+fn next_event<S: Steps>(at: &Point<S>) -> Option<Event<'static>>
+    requires { is_some at.now.world ≡ true }
+    ensures value { option_map event_of result ≡ pick_lem (world_of at.now) }
+    ensures printable { IfSome result (λ e. IsPrintable at.now.mesh (Line.Step e)) }
+{
+    let Some(world) = at.world() else {
+        unreachable!();
+    };
+    let _nodes = world.mesh();
+    pick(world)
+}
+
+// Does up to so many events, each chosen when the one before it is done. It answers how many there
+// were.
+fn do_events<S: Steps, O: Sink>(
+    alloc: Global,
+    at: &mut Point<S>,
+    count: u32,
+    quiet: bool,
+    scratch: &mut Scratch,
+    out: &mut O,
+) -> Result<u32, Stop<'static>>
+    requires started { is_some at.old.world ≡ true }
+    requires few { at.old.sums.events + count < 2 ^ 48 }
+    ensures ran { RanTo quiet at.old (auto_from count 0 at.old) at.new (O.held out.old) (O.held out.new) result }
+    ensures lines { OnOk result (at.new.lines ≡ at.old.lines) }
+    ensures events { OnOk result (at.new.sums.events ≤ at.old.sums.events + count) }
+    ensures later { O.faults out.old ≤ O.faults out.new }
+    ensures fault { IsErrOf result Stop.WriteFault → Rose (O.faults out.old) (O.faults out.new) }
+{
+    let mut did: u32 = 0;
+    'events: while did < count {
+        let Some(event) = next_event(at) else {
+            return Ok(did);
+        };
+        if let Err(stop) = do_event(alloc, at, event, quiet, scratch, out) {
+            return Err(stop);
+        }
+        did += 1;
+    }
+    Ok(did)
+}
+
+// How many events there were.
+fn say_end<O: Sink>(did: u32, quiet: bool, buf: &mut LineBuf, out: &mut O) -> Result<(), PutFault>
+    ensures text { Puts (O.held out.old) (O.held out.new) (shown quiet (auto_end did)) result }
+    ensures cause { HasCause (O.faults out.old) (O.faults out.new) result }
+{
+    if quiet {
+        return Ok(());
+    }
+    put_auto_end(did, buf, out)
+}
+
+/// Does up to so many events that the run chooses, and writes them and their number.
+pub fn do_auto<S: Steps, O: Sink>(
+    alloc: Global,
+    at: &mut Point<S>,
+    count: u32,
+    quiet: bool,
+    scratch: &mut Scratch,
+    out: &mut O,
+) -> Result<(), Stop<'static>>
+    requires few { at.old.lines < 2 ^ 62 }
+    requires steps { at.old.sums.events < 2 ^ 47 }
+    requires printable { IsPrintable at.old.mesh (Line.Auto count) }
+    ensures comes { Comes quiet at.old (came_of_line at.old (Chooses count))
+        at.new (O.held out.old) (O.held out.new) result }
+    ensures lines { OnOk result (at.new.lines ≡ at.old.lines + 1) }
+    ensures events { OnOk result (at.new.sums.events ≤ at.old.sums.events + count) }
+    ensures later { O.faults out.old ≤ O.faults out.new }
+    ensures fault { IsErrOf result Stop.WriteFault → Rose (O.faults out.old) (O.faults out.new) }
+{
+    at.begin(alloc)?;
+    say_line(
+        at.mesh(),
+        &Line::Auto { count },
+        quiet,
+        &mut scratch.line,
+        out,
+    )?;
+    let did = match do_events(alloc, at, count, quiet, scratch, out) {
+        Ok(did) => did,
+        Err(stop) => return Err(stop),
+    };
+    say_end(did, quiet, &mut scratch.line, out)?;
+    at.count_line();
+    Ok(())
+}

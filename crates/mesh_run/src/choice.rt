@@ -1,0 +1,40 @@
+//! The choice of the next event.
+ghost use Rattle.std.specs.Prelude.{◌≡◌, ◌<◌, ◌≤◌, length, IfSome, option_map};
+ghost use Rattle.mesh_model.specs.Places.{IsEvent};
+ghost use Rattle.mesh_model.specs.Choices.{pick as pick_lem, first_copy};
+ghost use Rattle.mesh_meaning.specs.Events.{event_of};
+ghost use Rattle.mesh_script.specs.Seen.{IsSpelled};
+
+use mesh_base::Event;
+use mesh_world::World;
+
+// The least copy in flight.
+fn first_copy_of(world: &World) -> Option<u64>
+    ensures value { result ≡ first_copy world.now.world }
+    ensures some { IfSome result (λ id. 1 ≤ id) }
+{
+    let radio = world.radio();
+    let _copies = radio.count();
+    radio.first_id()
+}
+
+/// The event that comes next where a run chooses: the first that there is of a turn, a delivery, the
+/// send of a stored datum, and a request, each at the least node, copy or destination. It searches
+/// through nothing.
+pub fn pick(world: &World) -> Option<Event<'static>>
+    ensures value { option_map event_of result ≡ pick_lem world.now.world }
+    ensures within { IfSome result (λ e. IsEvent (length world.now.mesh) (event_of e)) }
+    ensures spelled { IfSome result (λ e. IsSpelled (event_of e)) }
+{
+    if let Some(node) = world.first_turn() {
+        return Some(Event::Turn { node });
+    }
+    if let Some(id) = first_copy_of(world) {
+        return Some(Event::Deliver { id });
+    }
+    if let Some((node, dest)) = world.first_send() {
+        return Some(Event::Send { node, dest });
+    }
+    let (node, dest) = world.first_ask()?;
+    Some(Event::Ask { node, dest })
+}

@@ -1,0 +1,42 @@
+//! Why a line isn't done, and what a run lends to its lines.
+ghost use Rattle.std.specs.Prelude.{◌≡◌};
+ghost use Rattle.mesh_run.specs.declared.stop.Stop.TheVariants as stops;
+
+use mesh_base::{Event, Full, LineBuf, NoMemory, Packet};
+use mesh_io::PutFault;
+use mesh_text::LineFault;
+
+/// Why a line wasn't done, or not written whole.
+#[derive(Clone, Copy)]
+pub enum Stop<'a> {
+    /// The line isn't allowed.
+    BadLine(LineFault),
+    /// This event would raise this counter past its field's greatest value.
+    Full { event: Event<'a>, field: Full },
+    WriteFault,
+    NoMemory,
+}
+
+impl From<PutFault> for Stop<'_> {
+    ghost from_gives = { λ _ stop. stop ≡ stops.WriteFault };
+
+    fn from(_fault: PutFault) -> Self {
+        Stop::WriteFault
+    }
+}
+
+impl From<NoMemory> for Stop<'_> {
+    ghost from_gives = { λ _ stop. stop ≡ stops.NoMemory };
+
+    fn from(_none: NoMemory) -> Self {
+        Stop::NoMemory
+    }
+}
+
+/// A line to be written and a packet that is cast: one of each for a whole run, so that none is made
+/// for a line.
+#[derive(Drop)]
+pub struct Scratch {
+    pub line: LineBuf,
+    pub packet: Packet,
+}

@@ -1,0 +1,178 @@
+//! What a run counts.
+ghost use Rattle.std.specs.Prelude.{◌≡◌, ◌<◌, ◌^◌, ℕ, List, length};
+ghost use Rattle.mesh_base.specs.Meshes.{Nodes};
+ghost use Rattle.aodv_wire.specs.Spells.{kind};
+ghost use Rattle.aodv_meaning.specs.Meaning.{meaning};
+ghost use Rattle.mesh_model.specs.Worlds.{World, Event as an_event, Changed, Goes, step};
+ghost use Rattle.mesh_model.specs.Accounts.{any, given, delivered, dropped, in_taken, in_dropped, in_message};
+ghost use Rattle.mesh_meaning.specs.Events.{event_of};
+ghost use Rattle.mesh_meaning.specs.Answers.{outcome_in, took_in, IsDoneInMesh, IsTookInMesh, IsPacketInMesh};
+ghost use Rattle.mesh_text.specs.Schedule.{summed, idle_by};
+ghost use Rattle.mesh_run.specs.Sums.{sums_of, AreCounts, count_of};
+
+use mesh_base::{Done, Event, Kind, Took};
+
+/// The first octet of a data packet.
+const DATA: u8 = 16;
+
+/// What was counted so far: events, those that were idle, and the data that were given, delivered
+/// and dropped.
+#[derive(Clone, Copy)]
+pub struct Sums {
+    pub events: u64,
+    pub idle: u64,
+    pub given: u64,
+    pub delivered: u64,
+    pub lost: u64,
+}
+
+// The first octet of a packet.
+fn first_octet(packet: &[u8]) -> u8
+    requires { 0 < length packet.now }
+    ensures { result ≡ kind packet.now }
+{
+    packet[0]
+}
+
+// Whether a packet has a datum.
+fn is_data(packet: &[u8]) -> bool
+    ensures { (mesh : Nodes) → IsPacketInMesh mesh packet.now
+        → in_message any (meaning mesh packet.now) ≡ count_of result }
+{
+    if packet.is_empty() {
+        return false;
+    }
+    first_octet(packet) == DATA
+}
+
+// Whether what was taken is a datum of the node's own, or a packet with one.
+fn is_own_or_data(took: &Took) -> bool
+    ensures { (mesh : Nodes) (x : ℕ) → IsTookInMesh mesh took.now
+        → in_taken any x (took_in mesh took.now) ≡ count_of result }
+{
+    match took {
+        Took::Own { .. } => true,
+        Took::Stored { .. } => false,
+        Took::Heard { kind, .. } => *kind == Kind::Data,
+    }
+}
+
+// Whether what was taken is a packet with a datum.
+fn is_heard_data(took: &Took) -> bool
+    ensures { (mesh : Nodes) → IsTookInMesh mesh took.now → in_dropped any (took_in mesh took.now) ≡ count_of result }
+{
+    match took {
+        Took::Own { .. } => false,
+        Took::Stored { .. } => false,
+        Took::Heard { kind, .. } => *kind == Kind::Data,
+    }
+}
+
+// Whether nothing was done.
+fn is_idle(done: &Done) -> bool
+    ensures { (mesh : Nodes) (x : ℕ) (w : World) (packet : List ℕ)
+        → idle_by (outcome_in mesh x w done.now packet) ≡ count_of result }
+{
+    match done {
+        Done::Idle => true,
+        Done::Changed => false,
+        Done::Taken { .. } => false,
+        Done::Sent { .. } => false,
+        Done::Heard { .. } => false,
+        Done::Lost { .. } => false,
+    }
+}
+
+fn is_give(e: &Event<'_>) -> bool
+    ensures { (w : World) → given any (event_of e.now) (Goes w Changed) ≡ count_of result }
+{
+    match e {
+        Event::Give { .. } => true,
+        Event::Turn { .. } => false,
+        Event::Send { .. } => false,
+        Event::Ask { .. } => false,
+        Event::Link { .. } => false,
+        Event::Cut { .. } => false,
+        Event::Deliver { .. } => false,
+        Event::Lose { .. } => false,
+    }
+}
+
+// Whether a datum was given.
+fn gives(e: &Event<'_>, done: &Done) -> bool
+    ensures { (mesh : Nodes) (x : ℕ) (old new : World) (packet : List ℕ)
+        → step old (event_of e.now) ≡ outcome_in mesh x new done.now packet
+        → given any (event_of e.now) (step old (event_of e.now)) ≡ count_of result }
+{
+    match done {
+        Done::Changed => is_give(e),
+        Done::Idle => false,
+        Done::Taken { .. } => false,
+        Done::Sent { .. } => false,
+        Done::Heard { .. } => false,
+        Done::Lost { .. } => false,
+    }
+}
+
+// Whether a datum was delivered. Only a turn takes something.
+fn delivers(done: &Done) -> bool
+    ensures { (mesh : Nodes) (x : ℕ) (old new : World) (packet : List ℕ) (e : an_event)
+        → IsDoneInMesh mesh done.now packet
+        → step old e ≡ outcome_in mesh x new done.now packet
+        → delivered any e (step old e) ≡ count_of result }
+{
+    match done {
+        Done::Taken { took, effect, .. } => effect.deliver && is_own_or_data(took),
+        Done::Idle => false,
+        Done::Changed => false,
+        Done::Sent { .. } => false,
+        Done::Heard { .. } => false,
+        Done::Lost { .. } => false,
+    }
+}
+
+// Whether a datum was dropped, by a turn or with a lost copy.
+fn drops(done: &Done) -> bool
+    ensures { (mesh : Nodes) (x : ℕ) (w : World) (packet : List ℕ) (e : an_event) → IsDoneInMesh mesh done.now packet
+        → dropped any e (outcome_in mesh x w done.now packet) ≡ count_of result }
+{
+    match done {
+        Done::Taken { took, effect, .. } => effect.lost && is_heard_data(took),
+        Done::Lost { flying } => is_data(flying.bytes.as_slice()),
+        Done::Idle => false,
+        Done::Changed => false,
+        Done::Sent { .. } => false,
+        Done::Heard { .. } => false,
+    }
+}
+
+impl Sums {
+    /// Nothing yet.
+    pub fn new() -> Sums
+        ensures { result ≡ record { events = 0; idle = 0; given = 0; delivered = 0; lost = 0 } }
+    {
+        Sums {
+            events: 0,
+            idle: 0,
+            given: 0,
+            delivered: 0,
+            lost: 0,
+        }
+    }
+
+    /// Counts an event, and what came of it.
+    pub fn add(&mut self, e: &Event<'_>, done: &Done)
+        requires few { self.old.events < 2 ^ 62 }
+        requires counts { AreCounts (sums_of self.old) }
+        ensures counted { (mesh : Nodes) (x : ℕ) (old new : World) (packet : List ℕ) → IsDoneInMesh mesh done.now packet
+            → step old (event_of e.now) ≡ outcome_in mesh x new done.now packet
+            → sums_of self.new ≡ summed (sums_of self.old) (event_of e.now) (step old (event_of e.now)) }
+        ensures counts { AreCounts (sums_of self.new) }
+    {
+        self.events += 1;
+        self.idle += u64::from(is_idle(done));
+        self.given += u64::from(gives(e, done));
+        self.delivered += u64::from(delivers(done));
+        self.lost += u64::from(drops(done));
+    }
+}

@@ -1,0 +1,5 @@
+use Rattle.mesh_text.proofs.Moments as lemmas
+use Rattle.mesh_text.proofs.laws.the_sums_are_in_order.Goals as goal
+
+pub returns : goal.returns
+returns c = lemmas.sums_are_in_order

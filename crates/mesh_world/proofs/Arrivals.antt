@@ -1,0 +1,263 @@
+-- What joins a queue: a datum that is given, and a copy that is delivered; and a copy that is lost.
+use Rattle.std.proofs.Common.{◌≡◌, ◌≢◌, ◌==◌, ℕ, ◌<◌, ◌+◌, ◌-◌, Bool, true, false, not, List, [], ◌∷◌, ◌++◌, map, length, Some, None, Option, Ok, refl, ap, sym, ◌∙◌, subst, arith}
+use Rattle.std.specs.Prelude.{slice_get, slice_set, option_map, filter, if◌then◌else◌}
+use Rattle.std.specs.List.{AllByRecursion}
+use Rattle.std.proofs.lemmas.Option.{same_Some, none-some}
+use Rattle.mesh_base.specs.Meshes.{Nodes}
+use Rattle.mesh_base.specs.declared.events.Flying.{Flying}
+use Rattle.mesh_base.specs.declared.events.Item as items
+use Rattle.mesh_base.specs.declared.events.Item.TheVariants as item
+use Rattle.mesh_base.specs.declared.events.Done.TheVariants as done
+use Rattle.aodv_model.specs.Cores.{Body, New, Heard}
+use Rattle.aodv_model.specs.Soundness.{IsDatum, IsMessageInMesh}
+use Rattle.aodv_meaning.specs.Meaning.{meaning}
+use Rattle.aodv_meaning.specs.Effects.{item_in}
+use Rattle.aodv_node.specs.Seen.{NodeSeen, IsSoundNode}
+use Rattle.mesh_model.specs.Worlds as worlds
+use Rattle.mesh_model.specs.Worlds.{World, Copy, Give, Deliver, Lose, Outcome, Idle, Goes, Changed, CopyHeard, CopyLost, step, at_node, at_copy, push, with_item}
+use Rattle.mesh_model.specs.Places.{IsCopyInMesh}
+use Rattle.mesh_model.proofs.Steps.{found_honest}
+use Rattle.mesh_radio.specs.Copies as radios
+use Rattle.mesh_radio.specs.Radios.{RadioState, without_copy}
+use Rattle.mesh_meaning.specs.Packets.{IsWritten, IsWrittenItem, IsWrittenCopy, copy_in}
+use Rattle.mesh_world.specs.Seen.{node_in}
+use Rattle.mesh_world.specs.Kept.{Ready, IsKept, IsKeptNode, shown}
+use Rattle.mesh_world.specs.Noted.{noted}
+use Rattle.mesh_world.proofs.Frames.{Ends, Beside, ends_done, ends_idle, beside, later, shown_at, noted_beside, map-set, each_set, each_append, set_again, count_of}
+use Rattle.mesh_world.proofs.ReadySets.{noted_ready}
+use Rattle.mesh_world.proofs.Turns.{stands, kept_node}
+
+-- ---- one more item
+
+-- a node with one item more
+pub record Joined (n new : NodeSeen) (i : items.Item) : Type 0 where
+  pub core : new.core ≡ n.core
+  pub items : new.items ≡ n.items ++ i ∷ []
+  pub size : new.size ≡ n.size
+  pub sound : IsSoundNode new
+
+pub joined : (n roomy new : NodeSeen) (i : items.Item) → roomy.core ≡ n.core → roomy.items ≡ n.items → roomy.size ≡ n.size → new ≡ record roomy { items = roomy.items ++ i ∷ []; room = roomy.room - 1 } → IsSoundNode new → Joined n new i
+joined n roomy new i core same size is sound = record {
+  core = ap (λ (m : NodeSeen). m.core) is ∙ core;
+  items = ap (λ (m : NodeSeen). m.items) is ∙ ap (λ (xs : List items.Item). xs ++ i ∷ []) same;
+  size = ap (λ (m : NodeSeen). m.size) is ∙ size;
+  sound = sound;
+}
+
+map-push : {A B : Type 0} (f : A → B) (xs : List A) (x : A) → map f (xs ++ x ∷ []) ≡ map f xs ++ f x ∷ []
+map-push f [] x = refl
+map-push f (y ∷ ys) x = ap (λ zs. f y ∷ zs) (map-push f ys x)
+
+pushed : (mesh : Nodes) (nodes : List NodeSeen) (radio : RadioState) (x : ℕ) (n new : NodeSeen) (i : items.Item) → slice_get nodes x ≡ Some n → Joined n new i → push (shown mesh nodes radio) x (item_in mesh i) ≡ shown mesh (slice_set nodes x new) radio
+unfolding push shown
+pushed mesh nodes radio x n new i at j =
+    let w = shown mesh nodes radio in
+    let queue : map (item_in mesh) new.items ≡ map (item_in mesh) n.items ++ item_in mesh i ∷ [] = ap (map (item_in mesh)) j.items ∙ map-push (item_in mesh) n.items i in
+    let node : record { core = n.core; queue = map (item_in mesh) n.items ++ item_in mesh i ∷ [] } ≡ node_in mesh new = λ k. record { core = sym j.core k; queue = sym queue k } in
+    ap (λ o. with_item w x o (item_in mesh i)) (shown_at mesh nodes radio x n at)
+    ∙ (λ k. record w { nodes = (ap (slice_set (map (node_in mesh) nodes) x) node ∙ sym (map-set (node_in mesh) nodes x new)) k })
+
+beside_joined : (mesh : Nodes) (nodes : List NodeSeen) (radio radio' : RadioState) (ready ready' : Ready) (steps x : ℕ) (n new : NodeSeen) (i : items.Item) → IsKept mesh nodes radio ready steps → x < length mesh → slice_get nodes x ≡ Some n → IsWrittenItem mesh i → Joined n new i
+    → AllByRecursion (IsWrittenCopy mesh) radio'.flying → radio'.size ≡ radio.size → radio'.next_copy ≡ radio.next_copy → ready' ≡ noted ready x new (length mesh) → Beside mesh (slice_set nodes x new) radio' ready' (steps + 1)
+beside_joined mesh nodes radio radio' ready ready' steps x n new i k l at written j flying size next noted_is =
+    let had = kept_node mesh nodes radio ready steps x n k at in
+    noted_beside mesh (slice_set nodes x new) radio' ready' (noted ready x new (length mesh)) (steps + 1) noted_is
+    (record {
+      each = each_set (IsKeptNode mesh) nodes x new k.each
+          (record { items = subst (AllByRecursion (IsWrittenItem mesh)) (sym j.items) (each_append (IsWrittenItem mesh) n.items (i ∷ []) had.items (written, tt)); size = j.size ∙ had.size; sound = j.sound });
+      flying = flying;
+      size = size ∙ k.size;
+      numbers = (let numbers = k.numbers in omega arith);
+      sets = noted_ready mesh nodes ready x new k.sets (let c = count_of mesh nodes radio ready steps k in omega arith);
+    })
+
+-- ---- a datum is given
+
+give_at : (w : World) (x d : ℕ) (b : Body) (n : worlds.Node) → slice_get w.nodes x ≡ Some n → step w (Give x d b) ≡ Goes (push w x (New b d)) Changed
+unfolding step
+give_at w x d b n e = ap (λ o. at_node o (λ core queue. Goes (push w x (New b d)) Changed)) e
+
+pub give_done : (mesh : Nodes) (nodes : List NodeSeen) (radio : RadioState) (ready ready' : Ready) (steps x dest : ℕ) (body copy : Body) (n new : NodeSeen) (packet : List ℕ)
+    → IsKept mesh nodes radio ready steps → x < length mesh → dest < length mesh → IsDatum body → copy ≡ body → slice_get nodes x ≡ Some n → Joined n new (item.New dest copy) → ready' ≡ noted ready x new (length mesh)
+    → Ends (Give x dest body) mesh nodes radio steps (Ok done.Changed) (slice_set nodes x new) radio ready' (steps + 1) packet
+give_done mesh nodes radio ready ready' steps x dest body copy n new packet k l below datum copied at j' noted_is =
+    let w = shown mesh nodes radio in
+    let j : Joined n new (item.New dest body) = subst (λ (b : Body). Joined n new (item.New dest b)) copied j' in
+    let world : push w x (New body dest) ≡ shown mesh (slice_set nodes x new) radio = pushed mesh nodes radio x n new (item.New dest body) at j in
+    ends_done (Give x dest body) mesh nodes radio ready steps done.Changed (slice_set nodes x new) radio ready' packet (Goes (push w x (New body dest)) Changed)
+    k (l, below, datum) (give_at w x dest body (node_in mesh n) (shown_at mesh nodes radio x n at)) refl (omega arith) world (λ i. Goes (world i) Changed) tt
+    (beside_joined mesh nodes radio radio ready ready' steps x n new (item.New dest body) k l at tt j k.flying refl refl noted_is)
+
+-- ---- copies
+
+found_if : (mesh : Nodes) (b : Bool) (f : Flying) (o : Option Copy) (p : Option Flying) → o ≡ option_map (copy_in mesh) p → (if b then Some (copy_in mesh f) else o) ≡ option_map (copy_in mesh) (if b then Some f else p)
+found_if mesh true f o p e = refl
+found_if mesh false f o p e = e
+
+find_shown : (mesh : Nodes) (cs : List Flying) (id : ℕ) → worlds.find_copy (map (copy_in mesh) cs) id ≡ option_map (copy_in mesh) (radios.find_copy cs id)
+find_shown mesh [] id = refl
+find_shown mesh (f ∷ cs) id = found_if mesh (f.id == id) f (worlds.find_copy (map (copy_in mesh) cs) id) (radios.find_copy cs id) (find_shown mesh cs id)
+
+kept_if : (mesh : Nodes) (b : Bool) (f : Flying) (cs : List Copy) (fs : List Flying) → cs ≡ map (copy_in mesh) fs → (if b then copy_in mesh f ∷ cs else cs) ≡ map (copy_in mesh) (if b then f ∷ fs else fs)
+kept_if mesh true f cs fs e = ap (λ zs. copy_in mesh f ∷ zs) e
+kept_if mesh false f cs fs e = e
+
+without_shown : (mesh : Nodes) (fs : List Flying) (id : ℕ) → worlds.without (map (copy_in mesh) fs) id ≡ map (copy_in mesh) (radios.without fs id)
+unfolding worlds.without radios.without
+without_shown mesh [] id = refl
+without_shown mesh (f ∷ fs) id = kept_if mesh (not (f.id == id)) f (filter (λ c. not (c.id == id)) (map (copy_in mesh) fs)) (filter (λ c. not (c.id == id)) fs) (without_shown mesh fs id)
+
+all_if : (P : Flying → Type 0) (b : Bool) (f : Flying) (fs : List Flying) → P f → AllByRecursion P fs → AllByRecursion P (if b then f ∷ fs else fs)
+all_if P true f fs p all = (p, all)
+all_if P false f fs p all = all
+
+without_all : (P : Flying → Type 0) (fs : List Flying) (id : ℕ) → AllByRecursion P fs → AllByRecursion P (radios.without fs id)
+unfolding radios.without
+without_all P [] id all = all
+without_all P (f ∷ fs) id all = all_if P (not (f.id == id)) f (filter (λ c. not (c.id == id)) fs) all.0 (without_all P fs id all.1)
+
+none_if : (b : Bool) (f : Flying) (o : Option Flying) (fs gs : List Flying) → (if b then Some f else o) ≡ None → (o ≡ None → gs ≡ fs) → (if not b then f ∷ gs else gs) ≡ f ∷ fs
+none_if true f o fs gs e h = absurd (none-some f (sym e))
+none_if false f o fs gs e h = ap (λ zs. f ∷ zs) (h e)
+
+without_none : (fs : List Flying) (id : ℕ) → radios.find_copy fs id ≡ None → radios.without fs id ≡ fs
+unfolding radios.without
+without_none [] id e = refl
+without_none (f ∷ fs) id e = none_if (f.id == id) f (radios.find_copy fs id) fs (filter (λ c. not (c.id == id)) fs) e (without_none fs id)
+
+found_if_all : (P : Flying → Type 0) (b : Bool) (f g : Flying) (o : Option Flying) → P f → (o ≡ Some g → P g) → (if b then Some f else o) ≡ Some g → P g
+found_if_all P true f g o p h e = subst P (same_Some f g e) p
+found_if_all P false f g o p h e = h e
+
+found_all : (P : Flying → Type 0) (fs : List Flying) (id : ℕ) (g : Flying) → AllByRecursion P fs → radios.find_copy fs id ≡ Some g → P g
+found_all P [] id g all e = absurd (none-some g e)
+found_all P (f ∷ fs) id g all e = found_if_all P (f.id == id) f g (radios.find_copy fs id) all.0 (found_all P fs id g all.1) e
+
+found_to : (r : Option Flying) (to : ℕ) → option_map (λ c. c.to) r ≡ Some to → (f : Flying) × (r ≡ Some f) × (f.to ≡ to)
+found_to None to e = absurd (none-some to e)
+found_to (Some f) to e = (f, refl, same_Some f.to to e)
+
+none_found : (r : Option Flying) → option_map (λ c. c.to) r ≡ None → r ≡ None
+none_found None e = refl
+none_found (Some f) e = absurd (none-some f.to (sym e))
+
+-- what the world keeps of a copy in flight
+pub record InFlight (mesh : Nodes) (f : Flying) : Type 0 where
+  pub from : f.from < length mesh
+  pub to : f.to < length mesh
+  pub differ : f.from ≢ f.to
+  pub written : IsWritten mesh f.bytes
+  pub in_mesh : IsMessageInMesh (length mesh) (meaning mesh f.bytes)
+
+shown_found : (mesh : Nodes) (nodes : List NodeSeen) (radio : RadioState) (id : ℕ) (f : Flying) → radios.find_copy radio.flying id ≡ Some f → worlds.find_copy (shown mesh nodes radio).flying id ≡ Some (copy_in mesh f)
+unfolding shown
+shown_found mesh nodes radio id f e = find_shown mesh radio.flying id ∙ ap (option_map (copy_in mesh)) e
+
+shown_none : (mesh : Nodes) (nodes : List NodeSeen) (radio : RadioState) (id : ℕ) → radios.find_copy radio.flying id ≡ None → worlds.find_copy (shown mesh nodes radio).flying id ≡ None
+unfolding shown
+shown_none mesh nodes radio id e = find_shown mesh radio.flying id ∙ ap (option_map (copy_in mesh)) e
+
+in_flight : (mesh : Nodes) (nodes : List NodeSeen) (radio : RadioState) (ready : Ready) (steps id : ℕ) (f : Flying) → IsKept mesh nodes radio ready steps → radios.find_copy radio.flying id ≡ Some f → InFlight mesh f
+in_flight mesh nodes radio ready steps id f k e =
+    let w = shown mesh nodes radio in
+    let all : AllByRecursion (IsCopyInMesh (length mesh)) w.flying = subst (λ (n : ℕ). AllByRecursion (IsCopyInMesh n) w.flying) (k.sound).count ((k.sound).invariant).in_mesh.flying in
+    let c : IsCopyInMesh (length mesh) (copy_in mesh f) = found_honest (IsCopyInMesh (length mesh)) w.flying id (copy_in mesh f) all (shown_found mesh nodes radio id f e) in
+    record { from = c.0; to = c.1; differ = c.2; written = found_all (IsWrittenCopy mesh) radio.flying id f k.flying e; in_mesh = c.3 }
+
+-- the receiver that was found is a node
+pub receiver_in : (mesh : Nodes) (nodes : List NodeSeen) (radio : RadioState) (ready : Ready) (steps id to : ℕ) (o : Option ℕ) → IsKept mesh nodes radio ready steps → o ≡ option_map (λ c. c.to) (radios.find_copy radio.flying id) → o ≡ Some to → to < length mesh
+receiver_in mesh nodes radio ready steps id to o k is some =
+    let f = found_to (radios.find_copy radio.flying id) to (sym is ∙ some) in
+    subst (λ (y : ℕ). y < length mesh) f.2 (in_flight mesh nodes radio ready steps id f.0 k f.1).to
+
+-- the copy that was taken is that whose receiver was found
+pub record Taken (mesh : Nodes) (radio : RadioState) (id to : ℕ) (f : Flying) : Type 0 where
+  pub found : radios.find_copy radio.flying id ≡ Some f
+  pub receiver : f.to ≡ to
+  pub flies : InFlight mesh f
+
+pub taken : (mesh : Nodes) (nodes : List NodeSeen) (radio : RadioState) (ready : Ready) (steps id to : ℕ) (o : Option ℕ) (t : Option Flying) (f : Flying) → IsKept mesh nodes radio ready steps
+    → o ≡ option_map (λ c. c.to) (radios.find_copy radio.flying id) → o ≡ Some to → t ≡ radios.find_copy radio.flying id → t ≡ Some f → Taken mesh radio id to f
+taken mesh nodes radio ready steps id to o t f k is some t_is t_some =
+    let here : radios.find_copy radio.flying id ≡ Some f = sym t_is ∙ t_some in
+    let g = found_to (radios.find_copy radio.flying id) to (sym is ∙ some) in
+    record { found = here; receiver = ap (λ (h : Flying). h.to) (same_Some f g.0 (sym here ∙ g.1)) ∙ g.2; flies = in_flight mesh nodes radio ready steps id f k here }
+
+shown_without : (mesh : Nodes) (nodes : List NodeSeen) (old new : RadioState) (id : ℕ) → new ≡ without_copy old id → worlds.without_copy (shown mesh nodes old) id ≡ shown mesh nodes new
+unfolding shown
+shown_without mesh nodes old new id is =
+    (λ i. record { nodes = map (node_in mesh) nodes; links = old.links; ever = old.ever; flying = without_shown mesh old.flying id i; next_copy = old.next_copy }) ∙ ap (shown mesh nodes) (sym is)
+
+deliver_at : (w : World) (id : ℕ) (o : Option Copy) → worlds.find_copy w.flying id ≡ o → step w (Deliver id) ≡ at_copy o (λ c. Goes (push (worlds.without_copy w id) c.to (Heard c.from c.message)) (CopyHeard c.from c.to))
+unfolding step
+deliver_at w id o e = ap (λ o. at_copy o (λ c. Goes (push (worlds.without_copy w id) c.to (Heard c.from c.message)) (CopyHeard c.from c.to))) e
+
+lose_at : (w : World) (id : ℕ) (o : Option Copy) → worlds.find_copy w.flying id ≡ o → step w (Lose id) ≡ at_copy o (λ c. Goes (worlds.without_copy w id) (CopyLost c))
+unfolding step
+lose_at w id o e = ap (λ o. at_copy o (λ c. Goes (worlds.without_copy w id) (CopyLost c))) e
+
+without_flying : (mesh : Nodes) (old new : RadioState) (id : ℕ) → new ≡ without_copy old id → AllByRecursion (IsWrittenCopy mesh) old.flying → AllByRecursion (IsWrittenCopy mesh) new.flying
+without_flying mesh old new id is all = subst (λ (r : RadioState). AllByRecursion (IsWrittenCopy mesh) r.flying) (sym is) (without_all (IsWrittenCopy mesh) old.flying id all)
+
+deliver_here : (mesh : Nodes) (nodes : List NodeSeen) (radio radio' : RadioState) (ready ready' : Ready) (steps id : ℕ) (f : Flying) (n new : NodeSeen) (packet : List ℕ)
+    → IsKept mesh nodes radio ready steps → radios.find_copy radio.flying id ≡ Some f → InFlight mesh f → radio' ≡ without_copy radio id → slice_get nodes f.to ≡ Some n → Joined n new (item.Heard f.from f.bytes) → ready' ≡ noted ready f.to new (length mesh)
+    → Ends (Deliver id) mesh nodes radio steps (Ok (done.Heard f.from f.to)) (slice_set nodes f.to new) radio' ready' (steps + 1) packet
+deliver_here mesh nodes radio radio' ready ready' steps id f n new packet k found flies gone at j noted_is =
+    let w = shown mesh nodes radio in
+    let i = item.Heard f.from f.bytes in
+    let pushing = push (worlds.without_copy w id) f.to (Heard f.from (meaning mesh f.bytes)) in
+    let world : pushing ≡ shown mesh (slice_set nodes f.to new) radio' =
+    ap (λ (v : World). push v f.to (Heard f.from (meaning mesh f.bytes))) (shown_without mesh nodes radio radio' id gone) ∙ pushed mesh nodes radio' f.to n new i at j in
+    ends_done (Deliver id) mesh nodes radio ready steps (done.Heard f.from f.to) (slice_set nodes f.to new) radio' ready' packet (Goes pushing (CopyHeard f.from f.to))
+    k tt (deliver_at w id (Some (copy_in mesh f)) (shown_found mesh nodes radio id f found)) refl (omega arith) world (λ m. Goes (world m) (CopyHeard f.from f.to)) (flies.from, flies.to)
+    (beside_joined mesh nodes radio radio' ready ready' steps f.to n new i k flies.to at flies.written j (without_flying mesh radio radio' id gone k.flying) (ap (λ (r : RadioState). r.size) gone) (ap (λ (r : RadioState). r.next_copy) gone) noted_is)
+
+pub deliver_done : (mesh : Nodes) (nodes : List NodeSeen) (radio radio' : RadioState) (ready ready' : Ready) (steps id to : ℕ) (f : Flying) (n roomy new : NodeSeen) (packet : List ℕ)
+    → IsKept mesh nodes radio ready steps → Taken mesh radio id to f → radio' ≡ without_copy radio id → slice_get nodes to ≡ Some n → Joined n new (item.Heard f.from f.bytes) → ready' ≡ noted ready to new (length mesh)
+    → Ends (Deliver id) mesh nodes radio steps (Ok (done.Heard f.from to)) (slice_set (slice_set nodes to roomy) to new) radio' ready' (steps + 1) packet
+deliver_done mesh nodes radio radio' ready ready' steps id to f n roomy new packet k t gone at j noted_is =
+    subst (λ (ns : List NodeSeen). Ends (Deliver id) mesh nodes radio steps (Ok (done.Heard f.from to)) ns radio' ready' (steps + 1) packet) (sym (set_again nodes to roomy new))
+    (subst (λ (y : ℕ). slice_get nodes y ≡ Some n → ready' ≡ noted ready y new (length mesh) → Ends (Deliver id) mesh nodes radio steps (Ok (done.Heard f.from y)) (slice_set nodes y new) radio' ready' (steps + 1) packet) t.receiver
+    (λ here are. deliver_here mesh nodes radio radio' ready ready' steps id f n new packet k t.found t.flies gone here j are) at noted_is)
+
+pub deliver_idle : (mesh : Nodes) (nodes : List NodeSeen) (radio : RadioState) (ready : Ready) (steps id : ℕ) (o : Option ℕ) (packet : List ℕ) → IsKept mesh nodes radio ready steps → o ≡ option_map (λ c. c.to) (radios.find_copy radio.flying id) → o ≡ None
+    → Ends (Deliver id) mesh nodes radio steps (Ok done.Idle) nodes radio ready (steps + 1) packet
+deliver_idle mesh nodes radio ready steps id o packet k is none =
+    let e = none_found (radios.find_copy radio.flying id) (sym is ∙ none) in
+    ends_idle (Deliver id) mesh nodes radio ready steps nodes radio packet k (deliver_at (shown mesh nodes radio) id None (shown_none mesh nodes radio id e)) refl (later mesh nodes radio ready steps (beside mesh nodes radio ready steps k))
+
+pub lose_done : (mesh : Nodes) (nodes : List NodeSeen) (radio radio' : RadioState) (ready : Ready) (steps id : ℕ) (t : Option Flying) (f : Flying) (packet : List ℕ) → IsKept mesh nodes radio ready steps
+    → t ≡ radios.find_copy radio.flying id → t ≡ Some f → radio' ≡ without_copy radio id → Ends (Lose id) mesh nodes radio steps (Ok (done.Lost f)) nodes radio' ready (steps + 1) packet
+lose_done mesh nodes radio radio' ready steps id t f packet k is some gone =
+    let w = shown mesh nodes radio in
+    let found : radios.find_copy radio.flying id ≡ Some f = sym is ∙ some in
+    let flies = in_flight mesh nodes radio ready steps id f k found in
+    let world : worlds.without_copy w id ≡ shown mesh nodes radio' = shown_without mesh nodes radio radio' id gone in
+    ends_done (Lose id) mesh nodes radio ready steps (done.Lost f) nodes radio' ready packet (Goes (worlds.without_copy w id) (CopyLost (copy_in mesh f)))
+    k tt (lose_at w id (Some (copy_in mesh f)) (shown_found mesh nodes radio id f found)) refl (omega arith) world (λ i. Goes (world i) (CopyLost (copy_in mesh f)))
+    (flies.from, flies.to, record { written = flies.written; in_mesh = flies.in_mesh })
+    (record {
+      each = k.each;
+      flying = without_flying mesh radio radio' id gone k.flying;
+      size = ap (λ (r : RadioState). r.size) gone ∙ k.size;
+      numbers = (let numbers = k.numbers in let next = ap (λ (r : RadioState). r.next_copy) gone in omega arith);
+      sets = k.sets;
+    })
+
+pub lose_idle : (mesh : Nodes) (nodes : List NodeSeen) (radio radio' : RadioState) (ready : Ready) (steps id : ℕ) (t : Option Flying) (packet : List ℕ) → IsKept mesh nodes radio ready steps
+    → t ≡ radios.find_copy radio.flying id → t ≡ None → radio' ≡ without_copy radio id → Ends (Lose id) mesh nodes radio steps (Ok done.Idle) nodes radio' ready (steps + 1) packet
+lose_idle mesh nodes radio radio' ready steps id t packet k is none gone =
+    let e : radios.find_copy radio.flying id ≡ None = sym is ∙ none in
+    let same : radio' ≡ radio = gone ∙ (λ i. record radio { flying = without_none radio.flying id e i }) in
+    ends_idle (Lose id) mesh nodes radio ready steps nodes radio' packet k (lose_at (shown mesh nodes radio) id None (shown_none mesh nodes radio id e)) (ap (shown mesh nodes) same)
+    (subst (λ (r : RadioState). Beside mesh nodes r ready (steps + 1)) (sym same) (later mesh nodes radio ready steps (beside mesh nodes radio ready steps k)))
+
+-- the receiver may hear the copy
+pub may_hear : (mesh : Nodes) (nodes : List NodeSeen) (radio : RadioState) (ready : Ready) (steps id to : ℕ) (f : Flying) (n roomy heard : NodeSeen) → IsKept mesh nodes radio ready steps → slice_get nodes to ≡ Some n → Taken mesh radio id to f
+    → roomy.core ≡ n.core → roomy.size ≡ n.size → heard ≡ roomy → (f.from < heard.size) × (f.from ≢ (heard.core).ip)
+may_hear mesh nodes radio ready steps id to f n roomy heard k at t core size is =
+    let s = stands mesh nodes radio ready steps to n k at in
+    let from : f.from < length mesh = (t.flies).from in
+    let sized : heard.size ≡ length mesh = ap (λ (m : NodeSeen). m.size) is ∙ size ∙ (kept_node mesh nodes radio ready steps to n k at).size in
+    let me : (heard.core).ip ≡ f.to = ap (λ (m : NodeSeen). (m.core).ip) is ∙ ap (λ c. c.ip) core ∙ s.named ∙ sym t.receiver in
+    (omega arith, λ same. (t.flies).differ (same ∙ me))

@@ -1,0 +1,15 @@
+pub mod ReadySets
+pub mod Choosing
+pub mod Ways
+pub mod Counts
+pub mod Receivers
+pub mod Frames
+pub mod Casts
+pub mod Reactions
+pub mod Turns
+pub mod Moves
+pub mod Sendings
+pub mod Arrivals
+pub mod Linking
+pub mod Views
+pub mod Openings

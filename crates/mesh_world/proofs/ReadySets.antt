@@ -1,0 +1,188 @@
+-- The kept sets of nodes follow the nodes.
+use Rattle.std.proofs.Common.{◌≡◌, ◌≢◌, ◌↔◌, ℕ, zero, suc, ◌+◌, ◌<◌, ◌≤◌, Bool, true, false, not, ◌&&◌, ◌||◌, ◌==◌, nat_lt, List, [], ◌∷◌, length, map, get_or, Some, None, refl, ap, sym, ◌∙◌, arith, inl, inr}
+use Rattle.std.specs.Prelude.{if◌then◌else◌, is_some, option_map, slice_get, slice_set, IsTrue}
+use Rattle.std.specs.List.{AllByRecursion}
+use Rattle.std.specs.Ordering.{nat_cmp}
+use Rattle.std.specs.FinMap as maps
+use Rattle.std.specs.FinSet as sets
+use Rattle.std.specs.Cmp.{nat_cmp_total, unsigned_tied}
+use Rattle.std.proofs.lemmas.Bool.{cases_lt, cases_eq, le-ltb, lt-ltb, eqb-true, eqb-false}
+use Rattle.std.proofs.lemmas.Option.{slice_get-map, slice_get-get_or}
+use Rattle.mesh_base.specs.Members.{NodeIds}
+use Rattle.mesh_base.specs.Meshes.{Nodes}
+use Rattle.mesh_base.specs.declared.events.Item.{Item}
+use Rattle.aodv_model.specs.Tables.{in_vD}
+use Rattle.aodv_model.specs.Cores.{Core, Store, bodies_in, needs_in, has_data, in_qD}
+use Rattle.aodv_model.specs.Handlers.{may_send, may_ask}
+use Rattle.aodv_meaning.specs.Effects.{item_in}
+use Rattle.aodv_node.specs.Seen.{NodeSeen}
+use Rattle.mesh_model.specs.Worlds.{Node}
+use Rattle.mesh_model.specs.Choices.{least_from, waits, may_turn_in, may_send_in, may_ask_in, first_send_in, first_ask_in}
+use Rattle.mesh_model.proofs.Lists.{set_same, set_other}
+use Rattle.mesh_world.specs.Seen.{node_in}
+use Rattle.mesh_world.specs.Kept.{Ready, IsReadyFor}
+use Rattle.mesh_world.specs.Noted.{none_ready, with_or_without, has_items, has_below, noted}
+
+-- ---- whether a member is below n
+
+-- none is found where none below n passes
+pub none_passes : (k i n : ℕ) (p : ℕ → Bool) → i + k ≡ n → ((q : ℕ) → i ≤ q → q < n → p q ≡ false) → least_from k i p ≡ None
+none_passes zero i n p all none = refl
+none_passes (suc k) i n p all none = first (p i) (none i (omega arith) (omega arith)) (none_passes k (i + 1) n p (omega arith) (λ q above under. none q (omega arith) under))
+  where
+    first : (b : Bool) → b ≡ false → least_from k (i + 1) p ≡ None → (if b then Some i else least_from k (i + 1) p) ≡ None
+    first true e rest = cc
+    first false e rest = rest
+
+-- the least number that passes is found
+pub least_found : (k i n m : ℕ) (p : ℕ → Bool) → i + k ≡ n → i ≤ m → m < n → p m ≡ true → ((q : ℕ) → i ≤ q → q < m → p q ≡ false) → least_from k i p ≡ Some m
+least_found zero i n m p all above under is none = absurd (omega arith)
+least_found (suc k) i n m p all above under is none = elim (cases_eq i m) [
+  | inl same ↦ ap (λ b. if b then Some i else least_from k (i + 1) p) (ap p same ∙ is) ∙ ap Some same
+  | inr other ↦ ap (λ b. if b then Some i else least_from k (i + 1) p) (none i (omega arith) (omega arith)) ∙ least_found k (i + 1) n m p (omega arith) (omega arith) under is (λ q above under. none q (omega arith) under)
+]
+
+abbrev IsLeast : NodeIds → ℕ → Type 0
+IsLeast s m = (sets.contains s m ≡ true) × ((q : ℕ) → 0 ≤ q → q < m → sets.contains s q ≡ false)
+
+pub below_of : (n : ℕ) (s : NodeIds) (m : ℕ) → IsLeast s m → nat_lt m n ≡ has_below n (sets.contains s)
+below_of n s m least = elim (cases_lt m n) [
+  | inl lt ↦ lt-ltb m n lt ∙ sym (ap is_some (least_found n 0 n m (sets.contains s) (omega arith) (omega arith) lt least.0 least.1))
+  | inr le ↦ le-ltb m n le ∙ sym (ap is_some (none_passes n 0 n (sets.contains s) (omega arith) (λ q above under. least.1 q above (omega arith))))
+]
+
+pub below_none : (n : ℕ) (s : NodeIds) → ((q : ℕ) → 0 ≤ q → sets.contains s q ≡ false) → false ≡ has_below n (sets.contains s)
+below_none n s none = sym (ap is_some (none_passes n 0 n (sets.contains s) (omega arith) (λ q above under. none q above)))
+
+-- the same test finds the same
+pub least_same : (k i : ℕ) (p p' : ℕ → Bool) → ((q : ℕ) → p q ≡ p' q) → least_from k i p ≡ least_from k i p'
+least_same zero i p p' same = refl
+least_same (suc k) i p p' same =
+    ap (λ b. if b then Some i else least_from k (i + 1) p) (same i) ∙ ap (λ o. if p' i then Some i else o) (least_same k (i + 1) p p' same)
+
+pub below_same : (n : ℕ) (p p' : ℕ → Bool) → ((q : ℕ) → p q ≡ p' q) → has_below n p ≡ has_below n p'
+below_same n p p' same = ap is_some (least_same n 0 p p' same)
+
+-- ---- the code of `note`
+
+pub filled : (items : List Item) (empty : Bool) → (IsTrue empty ↔ (items ≡ [])) → not empty ≡ has_items items
+filled [] empty e = ap not (e.1 refl)
+filled (item ∷ items) true e = absurd (cons_nil (e.0 refl))
+  where
+    cons_nil : (item ∷ items) ≡ [] → ⊥
+    cons_nil same = cc
+filled (item ∷ items) false e = refl
+
+pub note_is : (r : Ready) (n : NodeSeen) (x nodes : ℕ) (turns sends asks turns' sends' asks' : NodeIds) (t s a : Bool) → record { turns = turns; sends = sends; asks = asks } ≡ r
+    → turns' ≡ with_or_without t turns x → sends' ≡ with_or_without s sends x → asks' ≡ with_or_without a asks x
+    → t ≡ has_items n.items → s ≡ has_below nodes (may_send n.core) → a ≡ has_below nodes (may_ask n.core)
+    → record { turns = turns'; sends = sends'; asks = asks' } ≡ noted r x n nodes
+unfolding noted
+note_is r n x nodes turns sends asks turns' sends' asks' t s a was et es ea bt bs ba =
+    let to_turns : turns' ≡ with_or_without (has_items n.items) r.turns x = et ∙ (ap (λ b. with_or_without b turns x) bt ∙ ap (λ (r : Ready). with_or_without (has_items n.items) r.turns x) was) in
+    let to_sends : sends' ≡ with_or_without (has_below nodes (may_send n.core)) r.sends x = es ∙ (ap (λ b. with_or_without b sends x) bs ∙ ap (λ (r : Ready). with_or_without (has_below nodes (may_send n.core)) r.sends x) was) in
+    let to_asks : asks' ≡ with_or_without (has_below nodes (may_ask n.core)) r.asks x = ea ∙ (ap (λ b. with_or_without b asks x) ba ∙ ap (λ (r : Ready). with_or_without (has_below nodes (may_ask n.core)) r.asks x) was) in
+    λ i. record { turns = to_turns i; sends = to_sends i; asks = to_asks i }
+
+-- ---- the kept sets follow a node that changed
+
+other_number : (q x : ℕ) → q ≢ x → (q == x) ≡ false
+other_number q x apart = either (q == x) refl
+  where
+    either : (b : Bool) → (q == x) ≡ b → b ≡ false
+    either true e = absurd (apart (eqb-true q x e))
+    either false e = refl
+
+same_number : (x : ℕ) → (x == x) ≡ true
+same_number x = either (x == x) refl
+  where
+    either : (b : Bool) → (x == x) ≡ b → b ≡ true
+    either true e = refl
+    either false e = absurd (eqb-false x x e refl)
+
+at_it : (b : Bool) (s : NodeIds) (x : ℕ) → sets.contains (with_or_without b s x) x ≡ b
+at_it true s x = sets.contains-insert nat_cmp_total s x x ∙ ap (λ c. c || sets.contains s x) (unsigned_tied x x ∙ same_number x)
+at_it false s x = sets.contains-remove nat_cmp_total s x x ∙ ap (λ c. not c && sets.contains s x) (unsigned_tied x x ∙ same_number x)
+
+at_other : (b : Bool) (s : NodeIds) (x q : ℕ) → q ≢ x → sets.contains (with_or_without b s x) q ≡ sets.contains s q
+at_other true s x q apart = sets.contains-insert nat_cmp_total s x q ∙ ap (λ c. c || sets.contains s q) (unsigned_tied q x ∙ other_number q x apart)
+at_other false s x q apart = sets.contains-remove nat_cmp_total s x q ∙ ap (λ c. not c && sets.contains s q) (unsigned_tied q x ∙ other_number q x apart)
+
+follows : (s : NodeIds) (x : ℕ) (b : Bool) (f f' : ℕ → Bool) → ((q : ℕ) → sets.contains s q ≡ f q) → f' x ≡ b → ((q : ℕ) → q ≢ x → f' q ≡ f q) → (q : ℕ) → sets.contains (with_or_without b s x) q ≡ f' q
+follows s x b f f' is here there q = elim (cases_eq q x) [
+  | inl same ↦ ap (sets.contains (with_or_without b s x)) same ∙ (at_it b s x ∙ (sym here ∙ ap f' (sym same)))
+  | inr other ↦ at_other b s x q other ∙ (is q ∙ sym (there q other))
+]
+
+node_here : (mesh : Nodes) (nodes : List NodeSeen) (x : ℕ) (n : NodeSeen) → x < length nodes → slice_get (map (node_in mesh) (slice_set nodes x n)) x ≡ Some (node_in mesh n)
+node_here mesh nodes x n l = slice_get-map (node_in mesh) (slice_set nodes x n) x ∙ ap (option_map (node_in mesh)) (set_same nodes x n (get_or nodes x n) (slice_get-get_or nodes x n l))
+
+node_there : (mesh : Nodes) (nodes : List NodeSeen) (x q : ℕ) (n : NodeSeen) → q ≢ x → slice_get (map (node_in mesh) (slice_set nodes x n)) q ≡ slice_get (map (node_in mesh) nodes) q
+node_there mesh nodes x q n apart =
+    slice_get-map (node_in mesh) (slice_set nodes x n) q ∙ (ap (option_map (node_in mesh)) (set_other nodes x q n apart) ∙ sym (slice_get-map (node_in mesh) nodes q))
+
+waits_in : (mesh : Nodes) (items : List Item) → waits (map (item_in mesh) items) ≡ has_items items
+waits_in mesh [] = refl
+waits_in mesh (item ∷ items) = refl
+
+sends_in : (size : ℕ) (n : Node) → is_some (first_send_in size (Some n)) ≡ has_below size (may_send n.core)
+unfolding first_send_in
+sends_in size n = below_same size (may_send_in (Some n)) (may_send n.core) (λ q. refl)
+
+asks_in : (size : ℕ) (n : Node) → is_some (first_ask_in size (Some n)) ≡ has_below size (may_ask n.core)
+unfolding first_ask_in
+asks_in size n = below_same size (may_ask_in (Some n)) (may_ask n.core) (λ q. refl)
+
+-- where a node changes and is noted, the sets are again those of the nodes
+pub noted_ready : (mesh : Nodes) (nodes : List NodeSeen) (r : Ready) (x : ℕ) (n : NodeSeen) → IsReadyFor mesh nodes r → x < length nodes → IsReadyFor mesh (slice_set nodes x n) (noted r x n (length mesh))
+unfolding noted
+noted_ready mesh nodes r x n ready l =
+    let here : slice_get (map (node_in mesh) (slice_set nodes x n)) x ≡ Some (node_in mesh n) = node_here mesh nodes x n l in
+    record {
+      turns = follows r.turns x (has_items n.items) (λ q. may_turn_in (slice_get (map (node_in mesh) nodes) q)) (λ q. may_turn_in (slice_get (map (node_in mesh) (slice_set nodes x n)) q))
+          ready.turns (ap may_turn_in here ∙ waits_in mesh n.items) (λ q apart. ap may_turn_in (node_there mesh nodes x q n apart));
+      sends = follows r.sends x (has_below (length mesh) (may_send n.core)) (λ q. is_some (first_send_in (length mesh) (slice_get (map (node_in mesh) nodes) q))) (λ q. is_some (first_send_in (length mesh) (slice_get (map (node_in mesh) (slice_set nodes x n)) q)))
+          ready.sends (ap (λ o. is_some (first_send_in (length mesh) o)) here ∙ sends_in (length mesh) (node_in mesh n)) (λ q apart. ap (λ o. is_some (first_send_in (length mesh) o)) (node_there mesh nodes x q n apart));
+      asks = follows r.asks x (has_below (length mesh) (may_ask n.core)) (λ q. is_some (first_ask_in (length mesh) (slice_get (map (node_in mesh) nodes) q))) (λ q. is_some (first_ask_in (length mesh) (slice_get (map (node_in mesh) (slice_set nodes x n)) q)))
+          ready.asks (ap (λ o. is_some (first_ask_in (length mesh) o)) here ∙ asks_in (length mesh) (node_in mesh n)) (λ q apart. ap (λ o. is_some (first_ask_in (length mesh) o)) (node_there mesh nodes x q n apart));
+    }
+
+-- ---- nodes that have done nothing yet
+
+-- nothing waits, in the inbox or in the store
+pub record HasNothing (n : NodeSeen) : Type 0 where
+  pub items : n.items ≡ []
+  pub store : (n.core).store ≡ maps.empty
+
+no_data : (core : Core) (d : ℕ) → core.store ≡ maps.empty → in_qD core.store d ≡ false
+no_data core d empty = ap (λ (s : Store). in_qD s d) empty ∙ ap (λ o. has_data (bodies_in o)) (maps.get-empty nat_cmp d)
+
+may_not_send : (core : Core) (d : ℕ) → core.store ≡ maps.empty → may_send core d ≡ false
+may_not_send core d empty = ap (λ b. b && in_vD core.rt d) (no_data core d empty)
+
+may_not_ask : (core : Core) (d : ℕ) → core.store ≡ maps.empty → may_ask core d ≡ false
+may_not_ask core d empty = ap (λ b. b && (needs_in (maps.get core.store d) && not (in_vD core.rt d))) (no_data core d empty)
+
+-- no set has a member
+pub opening_ready : (mesh : Nodes) (nodes : List NodeSeen) → AllByRecursion HasNothing nodes → IsReadyFor mesh nodes none_ready
+unfolding first_send_in first_ask_in
+opening_ready mesh nodes all = record {
+  turns = λ x. sets.contains-empty nat_cmp x ∙ sym (no_turn nodes all x);
+  sends = λ x. sets.contains-empty nat_cmp x ∙ sym (no_send nodes all x);
+  asks = λ x. sets.contains-empty nat_cmp x ∙ sym (no_ask nodes all x);
+}
+  where
+    no_turn : (nodes : List NodeSeen) → AllByRecursion HasNothing nodes → (x : ℕ) → may_turn_in (slice_get (map (node_in mesh) nodes) x) ≡ false
+    no_turn [] all x = refl
+    no_turn (n ∷ nodes) all zero = waits_in mesh n.items ∙ ap has_items all.0.items
+    no_turn (n ∷ nodes) all (suc x) = no_turn nodes all.1 x
+
+    no_send : (nodes : List NodeSeen) → AllByRecursion HasNothing nodes → (x : ℕ) → is_some (first_send_in (length mesh) (slice_get (map (node_in mesh) nodes) x)) ≡ false
+    no_send [] all x = ap is_some (none_passes (length mesh) 0 (length mesh) (may_send_in None) (omega arith) (λ q above under. refl))
+    no_send (n ∷ nodes) all zero = ap is_some (none_passes (length mesh) 0 (length mesh) (may_send_in (Some (node_in mesh n))) (omega arith) (λ q above under. may_not_send n.core q all.0.store))
+    no_send (n ∷ nodes) all (suc x) = no_send nodes all.1 x
+
+    no_ask : (nodes : List NodeSeen) → AllByRecursion HasNothing nodes → (x : ℕ) → is_some (first_ask_in (length mesh) (slice_get (map (node_in mesh) nodes) x)) ≡ false
+    no_ask [] all x = ap is_some (none_passes (length mesh) 0 (length mesh) (may_ask_in None) (omega arith) (λ q above under. refl))
+    no_ask (n ∷ nodes) all zero = ap is_some (none_passes (length mesh) 0 (length mesh) (may_ask_in (Some (node_in mesh n))) (omega arith) (λ q above under. may_not_ask n.core q all.0.store))
+    no_ask (n ∷ nodes) all (suc x) = no_ask nodes all.1 x

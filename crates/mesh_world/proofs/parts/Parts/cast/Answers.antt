@@ -1,0 +1,15 @@
+use Rattle.std.proofs.Common.{arith}
+use Rattle.mesh_radio.proofs.Casts.{members_few}
+use Rattle.mesh_world.proofs.Receivers.{reached_near, reached_apart}
+use Rattle.mesh_world.proofs.parts.Parts.cast.Goals as goal
+
+pub cast-requires-clause-below : goal.cast-requires-clause-below
+cast-requires-clause-below c = λ q t.
+    c.requires.within q (reached_near c.args.self.now.mesh c.args.range.now c.args.cast.now c.args.packet.now.items c.receivers-to.result (c.receivers-to.ensures c.args.self.now.mesh c.args.packet.now.items) q t)
+
+pub cast-requires-clause-apart : goal.cast-requires-clause-apart
+cast-requires-clause-apart c =
+    reached_apart c.args.self.now.mesh c.args.range.now c.args.cast.now c.args.packet.now.items c.receivers-to.result c.args.x (c.receivers-to.ensures c.args.self.now.mesh c.args.packet.now.items) c.requires.apart
+
+pub cast-requires-clause-room : goal.cast-requires-clause-room
+cast-requires-clause-room c = let few = members_few c.args.self.now.radio.size c.receivers-to.result in let r = c.requires.room.0 in let n = c.requires.few in omega arith

@@ -1,0 +1,71 @@
+use Rattle.std.proofs.Common.{sym, arith, length}
+use Rattle.aodv_node.specs.Seen.{IsSoundNode}
+use Rattle.mesh_world.proofs.Frames.{count_of, count_set, node_at, size_at, set_got}
+use Rattle.mesh_world.proofs.Turns.{turn_done_end, turn_idle_end, turn_full_end, no_memory_end, no_refusal, no_stranger}
+use Rattle.mesh_world.proofs.Moves.{of_ends, after_cast, noted_before, sound_before, changed, within, still_within, still_few}
+use Rattle.mesh_world.proofs.parts.Parts.turn.Goals as goal
+
+pub index_mut-requires : goal.index_mut-requires
+index_mut-requires c =
+    let old = c.args.self.now in
+    within old.nodes c.args.x (length old.mesh) (count_of old.mesh old.nodes.items old.radio old.ready old.steps c.requires.kept) c.requires.node
+
+pub turn-requires : goal.turn-requires
+turn-requires c =
+    let old = c.args.self.now in
+    record { mesh = size_at old.mesh old.nodes.items old.radio old.ready old.steps c.args.x c.index_mut.result.now c.requires.kept c.requires.node c.index_mut.ensures.value }
+
+pub end_at-requires-clause-node : goal.end_at-requires-clause-node
+end_at-requires-clause-node c =
+    let old = c.args.self.now in
+    still_within (changed old c.args.x c.turn.new.self c.make_room.new.self) c.cast-air.new.self c.args.x (length old.mesh) c.cast-air.ensures.others (count_set old.mesh old.nodes.items old.radio old.ready old.steps c.args.x c.turn.new.self c.requires.kept) c.requires.node
+
+pub end_at-requires-clause-few : goal.end_at-requires-clause-few
+end_at-requires-clause-few c =
+    let old = c.args.self.now in
+    still_few (changed old c.args.x c.turn.new.self c.make_room.new.self) c.cast-air.new.self (length old.mesh) c.cast-air.ensures.others (count_set old.mesh old.nodes.items old.radio old.ready old.steps c.args.x c.turn.new.self c.requires.kept) c.requires.kept.sound.mesh.few
+
+pub unreachable-requires : goal.unreachable-requires
+unreachable-requires c =
+    let old = c.args.self.now in
+    no_refusal old.mesh old.nodes.items old.radio old.ready old.steps c.args.x c.index_mut.result.now c.turn.new.self c.in-Err-Refused.field-0-0 c.in-Err-Refused.field-0-1 c.requires.kept
+    (node_at old.mesh old.nodes.items old.radio old.ready old.steps c.args.x c.index_mut.result.now c.requires.kept c.requires.node c.index_mut.ensures.value)
+    (rw c.in-Err-Refused.field-0-is at c.in-Err-Refused.ensures.turn)
+
+pub unreachable-requires-in-Err-Stranger : goal.unreachable-requires-in-Err-Stranger
+unreachable-requires-in-Err-Stranger c =
+    let old = c.args.self.now in
+    no_stranger old.mesh old.nodes.items old.radio old.ready old.steps c.args.x c.index_mut.result.now c.turn.new.self c.in-Err-Stranger.field-0-0 c.in-Err-Stranger.field-0-1 c.requires.kept
+    (node_at old.mesh old.nodes.items old.radio old.ready old.steps c.args.x c.index_mut.result.now c.requires.kept c.requires.node c.index_mut.ensures.value)
+    (rw c.in-Err-Stranger.field-0-is at c.in-Err-Stranger.ensures.turn)
+
+pub returns-in-Err-Idle-clause-done : goal.returns-in-Err-Idle-clause-done
+returns-in-Err-Idle-clause-done c =
+    let old = c.args.self.now in
+    of_ends _ old _ _ _ _ _ _ (turn_idle_end old.mesh old.nodes.items old.radio c.make_room.new.self old.ready old.steps c.args.x c.index_mut.result.now c.turn.new.self c.turn.new.out.items
+    c.requires.kept c.make_room.ensures.same c.requires.node c.index_mut.ensures.value (rw c.in-Err-Idle.field-0-is at c.in-Err-Idle.ensures.turn))
+
+pub returns-in-Err-Full-clause-done : goal.returns-in-Err-Full-clause-done
+returns-in-Err-Full-clause-done c =
+    let old = c.args.self.now in
+    of_ends _ old _ _ _ _ _ _ (turn_full_end old.mesh old.nodes.items old.radio c.make_room.new.self old.ready old.steps c.args.x c.range-range.result c.in-Err-Full.field _ c.index_mut.result.now c.turn.new.self c.turn.new.out.items
+    c.requires.kept c.make_room.ensures.same c.requires.node c.index_mut.ensures.value c.range-range.ensures.value (sym c.in-Err-Full.field-is) (rw c.in-Err-Full.field-0-is at c.in-Err-Full.ensures.turn))
+
+pub returns-in-Err-NoMemory-clause-done : goal.returns-in-Err-NoMemory-clause-done
+returns-in-Err-NoMemory-clause-done c =
+    let old = c.args.self.now in
+    of_ends _ old _ _ _ _ _ _ (no_memory_end _ old.mesh old.nodes.items old.radio c.make_room.new.self old.ready old.steps c.args.x c.index_mut.result.now c.turn.new.self c.turn.new.out.items
+    c.requires.kept c.make_room.ensures.same c.requires.node c.index_mut.ensures.value (rw c.in-Err-NoMemory.field-0-is at c.in-Err-NoMemory.ensures.turn))
+
+pub returns-in-Ok-clause-done : goal.returns-in-Ok-clause-done
+returns-in-Ok-clause-done c =
+    let old = c.args.self.now in
+    let count = count_set old.mesh old.nodes.items old.radio old.ready old.steps c.args.x c.turn.new.self c.requires.kept in
+    let at = set_got old.nodes.items c.args.x c.turn.new.self (let n = count_of old.mesh old.nodes.items old.radio old.ready old.steps c.requires.kept in let l = c.requires.node in omega arith) in
+    after_cast _ old (changed old c.args.x c.turn.new.self c.make_room.new.self) c.cast-air.new.self c.end_at.new.self _ _ c.cast-air.ensures.others c.end_at.ensures.others
+    (of_ends _ old _ _ _ _ _ _ (turn_done_end old.mesh old.nodes.items old.radio c.make_room.new.self c.cast-air.new.self.radio old.ready c.end_at.new.self.ready old.steps c.args.x c.range-range.result c.index_mut.result.now c.turn.new.self
+    c.in-Ok.field-0 c.turn.new.out.items c.cast-air.result c.requires.kept c.make_room.ensures.same c.requires.few c.requires.node c.index_mut.ensures.value c.range-range.ensures.value
+    (sound_before IsSoundNode (changed old c.args.x c.turn.new.self c.make_room.new.self) c.cast-air.new.self c.args.x c.turn.new.self c.cast-air.ensures.others at c.end_at.ensures.sound)
+    c.in-Ok.ensures.turn
+    (record { radio = c.cast-air.ensures.radio; answer = c.cast-air.ensures.air; few = c.cast-air.ensures.few })
+    (noted_before (changed old c.args.x c.turn.new.self c.make_room.new.self) c.cast-air.new.self c.end_at.new.self.ready c.args.x (length old.mesh) c.turn.new.self c.cast-air.ensures.others at count c.end_at.ensures.ready)))

@@ -1,0 +1,16 @@
+-- What a world is seen as. Read in this order; mesh_model defines what happens in a world, and mesh_meaning what the
+-- program's events, copies and answers mean.
+-- Seen: what is seen of a world, and what every world keeps.
+pub mod Seen
+-- Steps: what a step answers, and what is then seen of the world.
+pub mod Steps
+-- Kept: how the code keeps a world. No public contract cites it.
+pub mod Kept
+-- Noted: how the kept sets follow the nodes. No public contract cites it either.
+pub mod Noted
+-- Parts: the parts of a world, and an event as it is done to them. No public contract cites it.
+pub mod Parts
+-- Ends: where a route ends.
+pub mod Ends
+-- Counted: the data, as they are counted. No public contract cites it.
+pub mod Counted

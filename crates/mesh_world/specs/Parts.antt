@@ -1,0 +1,54 @@
+-- The parts of a world, and an event as it is done to them. No public contract cites this file.
+use Rattle.std.specs.Prelude.{◌≡◌, ℕ, ◌+◌, List, [], ◌∷◌, length, Result, ⊤}
+use Rattle.mesh_base.specs.Members.{NodeIds}
+use Rattle.mesh_base.specs.Meshes.{Nodes, first_at}
+use Rattle.mesh_base.specs.declared.events.Air.{Air}
+use Rattle.mesh_base.specs.declared.events.Cast.{Cast}
+use Rattle.mesh_base.specs.declared.events.Done.{Done}
+use Rattle.mesh_base.specs.declared.events.Variant.TheVariants.{Base}
+use Rattle.aodv_model.specs.Cores.{opening}
+use Rattle.aodv_node.specs.Seen.{NodeSeen}
+use Rattle.mesh_model.specs.Worlds.{Event, receivers}
+use Rattle.mesh_radio.specs.Radios.{RadioState, with_copies}
+use Rattle.mesh_meaning.specs.Answers.{cast_in}
+use Rattle.mesh_world.specs.Seen.{WorldSeen}
+use Rattle.mesh_world.specs.Steps.{IsStep}
+use Rattle.mesh_world.specs.Kept.{seen_of, IsKept}
+use Rattle.mesh_world.specs.declared.parts.Parts.{Parts}
+use Rattle.mesh_world.specs.declared.steps.StepError.{StepError}
+
+-- the world that they are
+abbrev pub seen_in : Parts → WorldSeen
+seen_in p = seen_of p.mesh (p.nodes).items p.radio p.steps
+
+-- they are in order
+abbrev pub AreKept : Parts → Type 0
+AreKept p = IsKept p.mesh (p.nodes).items p.radio p.ready p.steps
+
+-- an event was done to the parts, or refused, and they are in order
+pub record IsDoneTo (e : Event) (old : Parts) (answer : Result Done StepError) (new : Parts) (packet : List ℕ) : Type 0 where
+  pub step : IsStep e (seen_in old) answer (seen_in new) packet
+  pub kept : AreKept new
+
+-- a node of the mesh in its opening state
+pub record IsOpened (mesh : Nodes) (me : ℕ) (n : NodeSeen) : Type 0 where
+  pub core : n.core ≡ opening Base me (first_at mesh me)
+  pub items : n.items ≡ []
+  pub size : n.size ≡ length mesh
+
+-- nodes from `me` on, each in its opening state
+abbrev pub AreOpened : Nodes → ℕ → List NodeSeen → Type 0
+AreOpened mesh me [] = ⊤
+AreOpened mesh me (n ∷ ns) = IsOpened mesh me n × AreOpened mesh (me + 1) ns
+
+-- those of the nodes in range to whom a cast goes
+abbrev pub reached : Nodes → NodeIds → Cast → List ℕ → NodeIds
+reached mesh range cast packet = receivers range (cast_in mesh cast packet)
+
+-- the radio after such a cast of node x
+abbrev pub with_cast : Nodes → RadioState → ℕ → NodeIds → Cast → List ℕ → RadioState
+with_cast mesh radio x range cast packet = with_copies radio x packet (reached mesh range cast packet)
+
+-- the copies of it
+abbrev pub air_of : Nodes → RadioState → NodeIds → Cast → List ℕ → Air
+air_of mesh radio range cast packet = record { first = radio.next_copy; to = reached mesh range cast packet }

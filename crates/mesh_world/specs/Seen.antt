@@ -1,0 +1,42 @@
+-- What is seen of a world, and what every world keeps.
+use Rattle.std.specs.Prelude.{◌≡◌, ◌≤◌, ◌+◌, ℕ, length, map, refl}
+use Rattle.std.specs.Coded.{Coded, code_by, coded×, coded_ℕ, coded_list}
+use Rattle.mesh_base.specs.Meshes.{Nodes, IsMesh}
+use Rattle.mesh_base.specs.declared.events.Variant.TheVariants.{Base}
+use Rattle.aodv_meaning.specs.Effects.{item_in}
+use Rattle.aodv_node.specs.Seen.{NodeSeen}
+use Rattle.mesh_model.specs.Worlds.{World, Node, start, first_numbers}
+use Rattle.mesh_model.specs.Walks.{Cycle}
+use Rattle.mesh_model.specs.Invariants.{IsInvariant}
+use Rattle.mesh_model.specs.Accounts.{any, waiting, queued, in_flight}
+use Rattle.mesh_model.specs.Codes.{world_code}
+
+-- the mesh, the world of its nodes, and how many steps were taken
+pub record WorldSeen : Type 0 where
+  pub mesh : Nodes
+  pub world : World
+  pub steps : ℕ
+
+-- before the first step
+abbrev pub opening : Nodes → WorldSeen
+opening mesh = record { mesh = mesh; world = start Base (first_numbers mesh); steps = 0 }
+
+-- a node, with what its packets mean
+abbrev pub node_in : Nodes → NodeSeen → Node
+node_in mesh n = record { core = n.core; queue = map (item_in mesh) n.items }
+
+-- what every world of the program keeps: there is a node for each address of the mesh; what excludes cycles, and that
+-- all is in its place; so no destination has a cycle; and there are at most as many data as steps were taken
+pub record IsSoundWorld (w : WorldSeen) : Type 0 where
+  pub mesh : IsMesh w.mesh
+  pub some : 1 ≤ length w.mesh
+  pub count : length (w.world).nodes ≡ length w.mesh
+  pub invariant : IsInvariant w.world
+  pub acyclic : (d : ℕ) → ¬ (Cycle w.world d)
+  pub few : waiting any w.world + queued any w.world + in_flight any w.world ≤ w.steps
+
+-- a code, by which proofs tell such values apart
+abbrev pub seen_code : Coded WorldSeen
+seen_code =
+    code_by (Nodes × (World × ℕ)) (coded× (coded_list (coded× coded_ℕ coded_ℕ)) (coded× world_code coded_ℕ))
+    (λ w. (w.mesh, (w.world, w.steps))) (λ p. record { mesh = p.0; world = p.1.0; steps = p.1.1 }) (λ _. refl)

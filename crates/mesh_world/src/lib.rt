@@ -1,0 +1,22 @@
+//! All nodes of a mesh and the air between them: the world of the emulator. One step is one event,
+//! and is the definitions' step (mesh_model), so that no world ever has a cycle of next hops, and no
+//! datum is invented or lost unseen.
+#![tactic(auto)]
+
+mod choices;
+mod parts;
+mod ready;
+mod route;
+mod steps;
+mod totals;
+mod world;
+
+pub use route::End;
+pub use steps::{StepError, Steps};
+pub use totals::Totals;
+pub use world::World;
+
+#[cfg(test)]
+mod late_tests;
+#[cfg(test)]
+mod tests;

@@ -1,0 +1,57 @@
+//! What steps a world.
+ghost use Rattle.std.specs.Prelude.{◌≡◌, ◌≤◌, ◌<◌, ◌^◌, length, IfOk};
+ghost use Rattle.mesh_model.specs.Places.{IsEvent};
+ghost use Rattle.mesh_meaning.specs.Events.{event_of};
+ghost use Rattle.mesh_world.specs.Seen.{WorldSeen, opening, IsSoundWorld};
+ghost use Rattle.mesh_world.specs.Steps.{IsStep};
+
+use crate::world::World;
+use mesh_base::{Done, Event, Full, Mesh, NoMemory, Packet};
+use std::alloc::Global;
+use thiserror::Error;
+
+/// Why an event isn't done. The world is then as it was.
+#[derive(Clone, Copy, Debug, PartialEq, Eq, Error)]
+pub enum StepError {
+    /// The node's step would raise this counter past its field's greatest value.
+    #[error("a counter is full")]
+    Full { node: usize, field: Full },
+    /// Memory was asked for and not found.
+    #[error("no memory")]
+    NoMemory,
+}
+
+impl From<NoMemory> for StepError {
+    ghost use Rattle.std.specs.Prelude.{◌≡◌};
+    ghost use Rattle.mesh_world.specs.declared.steps.StepError.TheVariants as errors;
+
+    ghost from_gives = { λ n e. e ≡ errors.NoMemory };
+
+    fn from(_: NoMemory) -> StepError {
+        StepError::NoMemory
+    }
+}
+
+/// A world that takes steps, however much more it keeps beside it.
+pub trait Steps: Drop {
+    /// The world.
+    ghost seen: { Self → WorldSeen };
+
+    /// The opening world: each node has its first sequence number and nothing else, no link stands,
+    /// and no copy is in flight.
+    fn new(alloc: Global, mesh: &Mesh) -> Result<Self, NoMemory>
+        requires { 1 ≤ length mesh.now }
+        ensures { IfOk result (λ world. seen world ≡ opening mesh.now) };
+
+    /// Does one event. All memory is taken before the first change. The packet that is cast is left
+    /// in `out`. No step ends at 2^48 steps, which is more than any schedule asks for.
+    fn step(&mut self, alloc: Global, e: &Event<'_>, out: &mut Packet) -> Result<Done, StepError>
+        requires event { IsEvent (length (seen self.old).mesh) (event_of e.now) }
+        requires few { (seen self.old).steps < 2 ^ 48 }
+        ensures step { IsStep (event_of e.now) (seen self.old) result (seen self.new) out.new.items }
+        ensures sound { IsSoundWorld (seen self.new) };
+
+    /// The world itself.
+    fn world(&self) -> &World
+        ensures { result.now ≡ seen self.now };
+}

@@ -1,0 +1,167 @@
+//! The world.
+ghost use Rattle.std.specs.Prelude.{◌≡◌, ◌<◌, ◌≤◌, length, map, slice_get, Some, IfOk, IfSome};
+ghost use Rattle.std.specs.List.{AllByRecursion};
+ghost use Rattle.mesh_model.specs.Choices as choices;
+ghost use Rattle.mesh_model.specs.Routes as routes;
+ghost use Rattle.mesh_model.specs.Accounts as accounts;
+ghost use Rattle.mesh_meaning.specs.Packets.{IsWrittenCopy, copy_in};
+ghost use Rattle.mesh_meaning.specs.Events.{event_of};
+ghost use Rattle.mesh_world.specs.Seen.{WorldSeen, opening, IsSoundWorld, node_in};
+ghost use Rattle.mesh_model.specs.Accounts.{any};
+ghost use Rattle.mesh_world.specs.Steps.{IsStep};
+ghost use Rattle.mesh_world.specs.Ends.{end_in, IsEndIn};
+ghost use Rattle.mesh_world.specs.Parts.{AreOpened};
+
+use crate::choices::{first_ask, first_send, first_turn};
+use crate::parts::Parts;
+use crate::ready::Ready;
+use crate::route::{End, follow};
+use crate::steps::{StepError, Steps};
+use crate::totals::{Totals, count_data};
+use aodv_node::Node;
+use mesh_base::{Done, Event, Mesh, NoMemory, Packet};
+use mesh_radio::Radio;
+use std::alloc::Global;
+use std::marker::Model;
+
+/// All nodes of a mesh and the air between them.
+#[derive(Drop)]
+pub struct World {
+    parts: Parts,
+}
+
+impl Model for World {
+    ghost use Rattle.mesh_world.specs.Seen.{WorldSeen, seen_code};
+    ghost use Rattle.mesh_world.specs.Parts.{seen_in, AreKept};
+
+    ghost Value = { WorldSeen };
+
+    ghost coded = { seen_code };
+
+    ghost view = { λ w. seen_in w.parts };
+
+    ghost invariant = { λ w. AreKept w.parts };
+}
+
+impl World {
+    /// The mesh.
+    pub fn mesh(&self) -> &Mesh
+        ensures value { result.now ≡ self.now.mesh }
+        ensures sound { IsSoundWorld self.now }
+    {
+        &self.parts.mesh
+    }
+
+    /// How many steps were taken.
+    pub fn steps(&self) -> u64
+        ensures { result ≡ self.now.steps }
+    {
+        self.parts.steps
+    }
+
+    /// Node i.
+    pub fn node(&self, i: usize) -> &Node
+        requires { i < length self.now.mesh }
+        ensures node { slice_get self.now.world.nodes i ≡ Some (node_in self.now.mesh result.now) }
+        ensures size { result.now.size ≡ length self.now.mesh }
+    {
+        &self.parts.nodes[i]
+    }
+
+    /// The links and the copies in flight.
+    pub fn radio(&self) -> &Radio
+        ensures flying { map (copy_in self.now.mesh) result.now.flying ≡ self.now.world.flying }
+        ensures written { AllByRecursion (IsWrittenCopy self.now.mesh) result.now.flying }
+        ensures size { result.now.size ≡ length self.now.mesh }
+        ensures links { (result.now.links ≡ self.now.world.links) × (result.now.ever ≡ self.now.world.ever) }
+        ensures next { result.now.next_copy ≡ self.now.world.next_copy }
+    {
+        &self.parts.radio
+    }
+
+    /// The least node that may take a turn. No node is searched for.
+    pub fn first_turn(&self) -> Option<usize>
+        ensures first { result ≡ choices.first_turn self.now.world }
+        ensures within { IfSome result (λ x. x < length self.now.mesh) }
+    {
+        first_turn(&self.parts.ready)
+    }
+
+    /// The least node that may send a datum that waits, and the least destination of such a datum.
+    /// No node is searched for.
+    pub fn first_send(&self) -> Option<(usize, usize)>
+        ensures first { result ≡ choices.first_send self.now.world }
+        ensures within { IfSome result (λ p. (p.0 < length self.now.mesh) × (p.1 < length self.now.mesh)) }
+    {
+        first_send(&self.parts.ready, &self.parts.nodes)
+    }
+
+    /// The least node that may ask for a route, and the least destination for which it may. No node
+    /// is searched for.
+    pub fn first_ask(&self) -> Option<(usize, usize)>
+        ensures first { result ≡ choices.first_ask self.now.world }
+        ensures within { IfSome result (λ p. (p.0 < length self.now.mesh) × (p.1 < length self.now.mesh)) }
+    {
+        first_ask(&self.parts.ready, &self.parts.nodes)
+    }
+
+    /// Where the route from one node to another ends.
+    pub fn follow(&self, from: usize, to: usize) -> End
+        requires from { from < length self.now.mesh }
+        requires to { to < length self.now.mesh }
+        ensures value { end_in result ≡ routes.route_end self.now.world from to }
+        ensures walk { routes.IsRouteEnd self.now.world from to (end_in result) }
+        ensures within { IsEndIn (length self.now.mesh) result }
+    {
+        follow(&self.parts.nodes, from, to)
+    }
+
+    /// How many data there are, and where. All destinations with data, items and copies are looked
+    /// at.
+    pub fn totals(&self) -> Totals
+        ensures waiting { result.waiting ≡ accounts.waiting any self.now.world }
+        ensures queued { result.queued ≡ accounts.queued any self.now.world }
+        ensures flying { result.flying ≡ accounts.in_flight any self.now.world }
+    {
+        let _most = self.steps();
+        count_data(&self.parts.nodes, &self.parts.radio)
+    }
+}
+
+impl Steps for World {
+    ghost seen = { λ w. w };
+
+    fn new(alloc: Global, mesh: &Mesh) -> Result<World, NoMemory> {
+        let nodes = opening_nodes(alloc, mesh)?;
+        let radio = Radio::new(alloc, mesh.len())?;
+        let parts = Parts {
+            mesh: mesh.copy(),
+            nodes,
+            radio,
+            ready: Ready::new(),
+            steps: 0,
+        };
+        Ok(World { parts })
+    }
+
+    fn step(&mut self, alloc: Global, e: &Event<'_>, out: &mut Packet) -> Result<Done, StepError> {
+        self.parts.step(alloc, e, out)
+    }
+
+    fn world(&self) -> &World {
+        self
+    }
+}
+
+// The nodes of the mesh, each in its opening state.
+fn opening_nodes(alloc: Global, mesh: &Mesh) -> Result<Vec<Node>, NoMemory>
+    ensures count { IfOk result (λ nodes. length nodes.items ≡ length mesh.now) }
+    ensures opened { IfOk result (λ nodes. AreOpened mesh.now 0 nodes.items) }
+{
+    let count = mesh.len();
+    let mut nodes = Vec::with_capacity(alloc, count)?;
+    for i in 0..count {
+        nodes.push(Node::new(alloc, mesh, i)?)?;
+    }
+    Ok(nodes)
+}
