@@ -1,6 +1,7 @@
 //! What a table does with an entry that comes, and with a number that can't be raised: over both kinds
 //! of table.
 ghost use Rattle.std.specs.Prelude.{◌≡◌, ◌<◌};
+ghost use Rattle.aodv_entry.specs.declared.entry.Flag.TheVariants.{Val};
 
 use crate::{PlainTable, RowTable, Table};
 use aodv_entry::{Dests, Entry, Flag, Known};
