@@ -1,4 +1,4 @@
-use Rattle.std.proofs.Common.{◌≡◌, ◌<◌, ap, length, arith}
+use Rattle.std.proofs.Common.{◌≡◌, ap, arith}
 use Rattle.aodv_table.specs.Seen.{TableSeen}
 use Rattle.aodv_table.proofs.IndexLaws.{row_read, has_row}
 use Rattle.aodv_table.proofs.rows.RowTableTable.get.Goals as goal

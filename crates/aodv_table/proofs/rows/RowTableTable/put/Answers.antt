@@ -1,5 +1,4 @@
-use Rattle.std.proofs.Common.{◌≡◌, ◌<◌, ap, ◌∙◌, length, arith}
-use Rattle.aodv_model.specs.Tables.{Table}
+use Rattle.std.proofs.Common.{◌≡◌, ap, ◌∙◌, arith}
 use Rattle.aodv_table.specs.Calls.{with_entry}
 use Rattle.aodv_table.specs.Seen.{TableSeen}
 use Rattle.aodv_table.proofs.IndexLaws.{row_written, indexed_kept}

@@ -1,4 +1,4 @@
-use Rattle.std.proofs.Common.{subst, sym, ap, ◌∙◌, arith, ◌+◌, ◌<◌, ◌≡◌, refl}
+use Rattle.std.proofs.Common.{subst, sym, ◌∙◌, arith, ◌+◌, ◌<◌, ◌≡◌, refl}
 use Rattle.aodv_table.proofs.Searches.{Raised, by_read, valid_below, raised_none, raised_to, raised_one, raised_other, raised_all, raised_room, raised_above, least_past, true_false}
 use Rattle.aodv_table.proofs.table.Table.dests_via.Goals as goal
 use Rattle.aodv_table.proofs.table.Table.dests_via.Goals.{in-Some-entry_by+in-Some-inc, in_default-entry_by}
