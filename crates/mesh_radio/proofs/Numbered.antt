@@ -1,99 +1,196 @@
--- Numbered copies that come and go.
-use Rattle.std.proofs.lemmas.Bool.{cases_lt, cases_eq}
-use Rattle.std.proofs.Common.{◌≡◌, ◌≢◌, sym, inl, inr, ℕ, zero, suc, ◌+◌, ◌<◌, ◌≤◌, List, [], ◌∷◌, ◌++◌, length, get_or, slice_get, Some, refl, ap, arith, ◌∙◌}
-use Rattle.std.specs.List.{remove}
+-- The slots of copies in flight: which copies they have, and which after one comes or goes.
+use Rattle.std.proofs.Common.{◌≡◌, ◌≢◌, ℕ, zero, suc, ◌+◌, ◌-◌, ◌^◌, ◌<◌, ◌≤◌, ◌⊎◌, inl, inr, true, false, eqb, leb, List, [], ◌∷◌, ◌++◌, length, drop, get_or, Option, Some, None, refl, sym, ap, subst, ◌∙◌, arith, All, Bor, eq-eqb}
+use Rattle.std.specs.Prelude.{slice_get, slice_set, IfSome, IfNone}
+use Rattle.std.proofs.lemmas.Bool.{ne_eqb, le-leb, lt-leb, cases_lt}
+use Rattle.std.proofs.lemmas.Option.{same_Some, slice_get_within}
 use Rattle.mesh_base.specs.declared.events.Flying.{Flying}
-use Rattle.mesh_radio.specs.Copies.{AreNumbered}
+use Rattle.mesh_radio.specs.Copies.{find_copy, without, from_id, AreNumbered}
+use Rattle.mesh_radio.specs.Kept.{copies_in, AreSlots}
+use Rattle.mesh_radio.proofs.Finds.{absent}
 
--- one more, with the next id
-pub numbered_push : (fs : List Flying) (low next : ℕ) (f : Flying) → AreNumbered low fs next → f.id ≡ next → AreNumbered low (fs ++ f ∷ []) (next + 1)
-numbered_push [] low next f are e = (omega arith, omega arith)
-numbered_push (g ∷ gs) low next f are e = (are.0, numbered_push gs (g.id + 1) next f are.1 e)
+abbrev Slots : Type 0
+Slots = List (Option Flying)
 
-numbered_from : (fs : List Flying) (low after next : ℕ) → low ≤ after → AreNumbered after fs next → AreNumbered low fs next
-numbered_from [] low after next le are = omega arith
-numbered_from (g ∷ gs) low after next le are = let first = are.0 in (omega arith, are.1)
+-- ---- ids
 
--- one less
-pub numbered_remove : (fs : List Flying) (low next k : ℕ) → AreNumbered low fs next → AreNumbered low (remove fs k) next
-numbered_remove [] low next zero are = are
-numbered_remove [] low next (suc k) are = are
-numbered_remove (g ∷ gs) low next zero are = let first = are.0 in numbered_from gs low (g.id + 1) next (omega arith) are.1
-numbered_remove (g ∷ gs) low next (suc k) are = (are.0, numbered_remove gs (g.id + 1) next k are.1)
+-- the copies of slots are numbered
+pub numbered : (slots : Slots) (id low : ℕ) → low ≤ id → AreSlots id slots → AreNumbered low (copies_in slots) (id + length slots)
+numbered [] id low le are = omega arith
+numbered (None ∷ slots) id low le are = subst (AreNumbered low (copies_in slots)) (omega arith) (numbered slots (id + 1) low (omega arith) are)
+numbered (Some c ∷ slots) id low le are =
+    let here = are.0 in
+    (omega arith, subst (AreNumbered (c.id + 1) (copies_in slots)) (omega arith) (numbered slots (id + 1) (c.id + 1) (omega arith) are.1))
 
-above : (fs : List Flying) (low next : ℕ) → AreNumbered low fs next → (k : ℕ) (d : Flying) → k < length fs → low ≤ (get_or fs k d).id
-above [] low next are k d h = absurd (omega arith)
-above (f ∷ fs) low next are zero d h = are.0
-above (f ∷ fs) low next are (suc k) d h = let rest = above fs (f.id + 1) next are.1 k d (omega arith) in let first = are.0 in omega arith
+-- the copy in a slot has the slot's id
+pub id_at : (slots : Slots) (first k : ℕ) (c : Flying) → AreSlots first slots → slice_get slots k ≡ Some (Some c) → c.id ≡ first + k
+id_at [] first zero c are e = absurd cc
+id_at [] first (suc k) c are e = absurd cc
+id_at (None ∷ slots) first zero c are e = absurd cc
+id_at (Some d ∷ slots) first zero c are e = let same : d ≡ c = cc in let id = ap (λ (x : Flying). x.id) same in let here = are.0 in omega arith
+id_at (None ∷ slots) first (suc k) c are e = let rest = id_at slots (first + 1) k c are e in omega arith
+id_at (Some d ∷ slots) first (suc k) c are e = let rest = id_at slots (first + 1) k c are.1 e in omega arith
 
--- the ids rise
-pub rising : (fs : List Flying) (low next : ℕ) → AreNumbered low fs next → (j k : ℕ) (d : Flying) → j < k → k < length fs → (get_or fs j d).id < (get_or fs k d).id
-rising [] low next are j k d lt h = absurd (omega arith)
-rising (f ∷ fs) low next are j zero d lt h = absurd (omega arith)
-rising (f ∷ fs) low next are zero (suc k) d lt h = let rest = above fs (f.id + 1) next are.1 k d (omega arith) in omega arith
-rising (f ∷ fs) low next are (suc j) (suc k) d lt h = rising fs (f.id + 1) next are.1 j k d (omega arith) (omega arith)
-
-pub at_place : (fs : List Flying) (k : ℕ) (f : Flying) → k < length fs → f ≡ get_or fs k f → slice_get fs k ≡ Some f
-at_place [] k f h e = absurd (omega arith)
-at_place (g ∷ gs) zero f h e = ap (λ (x : Flying). Some x) (flip e)
+all-cons : (id : ℕ) (c : Flying) (cs : List Flying) → c.id ≢ id → All (λ f. f.id ≢ id) cs → All (λ f. f.id ≢ id) (c ∷ cs)
+all-cons id c cs ne all = at
   where
-    flip : f ≡ g → g ≡ f
-    flip e = cc
-at_place (g ∷ gs) (suc k) f h e = at_place gs k f (omega arith) e
+    at : (k : ℕ) (d : Flying) → k < length (c ∷ cs) → (get_or (c ∷ cs) k d).id ≢ id
+    at zero d h = ne
+    at (suc k) d h = all k d (omega arith)
 
--- ---- the search by halves
+-- no slot is for that id
+pub outside : (slots : Slots) (first id : ℕ) → AreSlots first slots → (id < first) ⊎ (first + length slots ≤ id) → All (λ f. f.id ≢ id) (copies_in slots)
+outside [] first id are out = λ k d h. absurd (omega arith)
+outside (None ∷ slots) first id are out = outside slots (first + 1) id are (elim out [ inl less ↦ inl (omega arith) | inr more ↦ inr (omega arith) ])
+outside (Some c ∷ slots) first id are out =
+    let here = are.0 in
+    all-cons id c (copies_in slots) (λ e. elim out [ inl less ↦ omega arith | inr more ↦ omega arith ])
+    (outside slots (first + 1) id are.1 (elim out [ inl less ↦ inl (omega arith) | inr more ↦ inr (omega arith) ]))
 
-default_free : (fs : List Flying) (k : ℕ) (d e : Flying) → k < length fs → get_or fs k d ≡ get_or fs k e
-default_free [] k d e h = absurd (omega arith)
-default_free (f ∷ fs) zero d e h = refl
-default_free (f ∷ fs) (suc k) d e h = default_free fs k d e (omega arith)
+-- ---- a copy that is found, and taken
 
--- what is known of the places below `low` and from `high` on
-pub record Halves (fs : List Flying) (id low high : ℕ) : Type 0 where
-  pub le : low ≤ high
-  pub within : high ≤ length fs
-  pub below : (k : ℕ) (d : Flying) → k < low → (get_or fs k d).id < id
-  pub above : (k : ℕ) (d : Flying) → high ≤ k → k < length fs → id < (get_or fs k d).id
+pub found_in : (slots : Slots) (first k id : ℕ) (o : Option Flying) → AreSlots first slots → slice_get slots k ≡ Some o → id ≡ first + k → find_copy (copies_in slots) id ≡ o
+found_in [] first zero id o are e is = absurd cc
+found_in [] first (suc k) id o are e is = absurd cc
+found_in (None ∷ slots) first zero id o are e is = (absent (copies_in slots) id (outside slots (first + 1) id are (inl (omega arith)))).0 ∙ same_Some None o e
+found_in (Some c ∷ slots) first zero id o are e is =
+    let here = are.0 in
+    let hit : eqb c.id id ≡ true = eq-eqb c.id id (omega arith) in
+    rw hit (same_Some (Some c) o e)
+found_in (None ∷ slots) first (suc k) id o are e is = found_in slots (first + 1) k id o are e (omega arith)
+found_in (Some c ∷ slots) first (suc k) id o are e is =
+    let here = are.0 in
+    let other : eqb c.id id ≡ false = ne_eqb c.id id (λ eq. omega arith) in
+    rw other (found_in slots (first + 1) k id o are.1 e (omega arith))
 
-pub halves_start : (fs : List Flying) (id high : ℕ) → high ≡ length fs → Halves fs id 0 high
-halves_start fs id high e = record { le = omega arith; within = omega arith; below = λ k d lt. absurd (omega arith); above = λ k d le lt. absurd (omega arith) }
+pub taken_in : (slots : Slots) (first k id : ℕ) (c : Flying) → AreSlots first slots → slice_get slots k ≡ Some (Some c) → id ≡ first + k → copies_in (slice_set slots k None) ≡ without (copies_in slots) id
+unfolding without
+taken_in [] first zero id c are e is = absurd cc
+taken_in [] first (suc k) id c are e is = absurd cc
+taken_in (None ∷ slots) first zero id c are e is = absurd cc
+taken_in (Some d ∷ slots) first zero id c are e is =
+    let here = are.0 in
+    let hit : eqb d.id id ≡ true = eq-eqb d.id id (omega arith) in
+    rw hit (sym (absent (copies_in slots) id (outside slots (first + 1) id are.1 (inl (omega arith)))).1)
+taken_in (None ∷ slots) first (suc k) id c are e is = taken_in slots (first + 1) k id c are e (omega arith)
+taken_in (Some d ∷ slots) first (suc k) id c are e is =
+    let here = are.0 in
+    let other : eqb d.id id ≡ false = ne_eqb d.id id (λ eq. omega arith) in
+    rw other (ap (λ (cs : List Flying). d ∷ cs) (taken_in slots (first + 1) k id c are.1 e (omega arith)))
 
-id_at : (fs : List Flying) (m : ℕ) (f d : Flying) → m < length fs → f ≡ get_or fs m f → (get_or fs m d).id ≡ f.id
-id_at fs m f d lt e = ap (λ (x : Flying). x.id) (default_free fs m d f lt) ∙ ap (λ (x : Flying). x.id) (sym e)
+-- one copy less
+pub one_less : (slots : Slots) (k : ℕ) (c : Flying) → slice_get slots k ≡ Some (Some c) → length (copies_in slots) ≡ length (copies_in (slice_set slots k None)) + 1
+one_less [] zero c e = absurd cc
+one_less [] (suc k) c e = absurd cc
+one_less (None ∷ slots) zero c e = absurd cc
+one_less (Some d ∷ slots) zero c e = omega arith
+one_less (None ∷ slots) (suc k) c e = one_less slots k c e
+one_less (Some d ∷ slots) (suc k) c e = let rest = one_less slots k c e in omega arith
 
-pub halves_up : (fs : List Flying) (next id low high m : ℕ) (f : Flying) → AreNumbered 1 fs next → Halves fs id low high → low ≤ m → m < high → f ≡ get_or fs m f
-    → f.id < id → Halves fs id (m + 1) high
-halves_up fs next id low high m f are h le lt e less = record {
-  le = omega arith;
-  within = h.within;
-  below = λ k d before.
-      let inside = h.within in
-      let here = id_at fs m f d (omega arith) e in
-      elim (cases_lt k m) [
-        | inl early ↦ let up = rising fs 1 next are k m d early (omega arith) in omega arith
-        | inr late ↦ let same : k ≡ m = omega arith in rw same (omega arith)
-      ];
-  above = h.above;
-}
+pub slots_set : (slots : Slots) (first k : ℕ) → AreSlots first slots → AreSlots first (slice_set slots k None)
+slots_set [] first zero are = are
+slots_set [] first (suc k) are = are
+slots_set (None ∷ slots) first zero are = are
+slots_set (Some d ∷ slots) first zero are = are.1
+slots_set (None ∷ slots) first (suc k) are = slots_set slots (first + 1) k are
+slots_set (Some d ∷ slots) first (suc k) are = (are.0, slots_set slots (first + 1) k are.1)
 
-pub halves_down : (fs : List Flying) (next id low high m : ℕ) (f : Flying) → AreNumbered 1 fs next → Halves fs id low high → low ≤ m → m < high → f ≡ get_or fs m f
-    → f.id ≢ id → id ≤ f.id → Halves fs id low m
-halves_down fs next id low high m f are h le lt e other more = record {
-  le = omega arith;
-  within = let inside = h.within in omega arith;
-  below = h.below;
-  above = λ k d from inside.
-      let far = h.within in
-      let here = id_at fs m f d (omega arith) e in
-      let apart : id < f.id = elim (cases_eq f.id id) [ inl same ↦ absurd (other same) | inr differs ↦ omega arith ] in
-      elim (cases_lt m k) [
-        | inl later ↦ let up = rising fs 1 next are m k d later inside in omega arith
-        | inr same ↦ let it : k ≡ m = omega arith in rw it (omega arith)
-      ];
-}
+-- an empty slot is emptied
+pub set_empty : (slots : Slots) (k : ℕ) → slice_get slots k ≡ Some None → slice_set slots k None ≡ slots
+set_empty [] zero e = refl
+set_empty [] (suc k) e = refl
+set_empty (o ∷ slots) zero e = ap (λ (p : Option Flying). p ∷ slots) (sym (same_Some o None e))
+set_empty (o ∷ slots) (suc k) e = ap (λ (os : Slots). o ∷ os) (set_empty slots k e)
 
-pub halves_end : (fs : List Flying) (id low high k : ℕ) (d : Flying) → Halves fs id low high → high ≤ low → k < length fs → (get_or fs k d).id ≢ id
-halves_end fs id low high k d h met lt e = elim (cases_lt k low) [
-  | inl before ↦ let less = h.below k d before in omega arith
-  | inr after ↦ let more = h.above k d (omega arith) lt in omega arith
+-- ---- a copy that comes
+
+-- there are no more copies than slots
+pub few_copies : (slots : Slots) → length (copies_in slots) ≤ length slots
+few_copies [] = omega arith
+few_copies (None ∷ slots) = let rest = few_copies slots in omega arith
+few_copies (Some d ∷ slots) = let rest = few_copies slots in omega arith
+
+pub copies_push : (slots : Slots) (c : Flying) → copies_in (slots ++ Some c ∷ []) ≡ copies_in slots ++ c ∷ []
+copies_push [] c = refl
+copies_push (None ∷ slots) c = copies_push slots c
+copies_push (Some d ∷ slots) c = ap (λ (cs : List Flying). d ∷ cs) (copies_push slots c)
+
+pub slots_push : (slots : Slots) (first : ℕ) (c : Flying) → AreSlots first slots → c.id ≡ first + length slots → AreSlots first (slots ++ Some c ∷ [])
+slots_push [] first c are is = (omega arith, tt)
+slots_push (None ∷ slots) first c are is = slots_push slots (first + 1) c are (omega arith)
+slots_push (Some d ∷ slots) first c are is = (are.0, slots_push slots (first + 1) c are.1 (omega arith))
+
+-- ---- the copies from an id on
+
+from_all : (slots : Slots) (at id : ℕ) → AreSlots at slots → id ≤ at → from_id (copies_in slots) id ≡ copies_in slots
+unfolding from_id
+from_all [] at id are le = refl
+from_all (None ∷ slots) at id are le = from_all slots (at + 1) id are (omega arith)
+from_all (Some c ∷ slots) at id are le =
+    let here = are.0 in
+    let hit : leb id c.id ≡ true = le-leb id c.id (omega arith) in
+    rw hit (ap (λ (cs : List Flying). c ∷ cs) (from_all slots (at + 1) id are.1 (omega arith)))
+
+pub from_place : (slots : Slots) (first k id : ℕ) → AreSlots first slots → id ≡ first + k → from_id (copies_in slots) id ≡ copies_in (drop k slots)
+unfolding from_id
+from_place slots first zero id are is = from_all slots first id are (omega arith)
+from_place [] first (suc k) id are is = refl
+from_place (None ∷ slots) first (suc k) id are is = from_place slots (first + 1) k id are (omega arith)
+from_place (Some c ∷ slots) first (suc k) id are is =
+    let here = are.0 in
+    let miss : leb id c.id ≡ false = lt-leb id c.id (omega arith) in
+    rw miss (from_place slots (first + 1) k id are.1 (omega arith))
+
+-- from an id on that is less than the first
+pub from_here : (slots : Slots) (first id : ℕ) → AreSlots first slots → from_id (copies_in slots) id ≡ copies_in (drop (id - first) slots)
+from_here slots first id are = elim (cases_lt id first) [
+  | inl less ↦ let none : id - first ≡ 0 = omega arith in from_all slots first id are (omega arith) ∙ ap (λ (k : ℕ). copies_in (drop k slots)) (sym none)
+  | inr more ↦ from_place slots first (id - first) id are (omega arith)
 ]
+
+next_place : (slots : Slots) (o : Option Flying) (k : ℕ) → copies_in (drop (k + 1) slots) ≡ copies_in (drop (suc k + 1) (o ∷ slots))
+next_place slots o k = let same : suc (k + 1) ≡ suc k + 1 = omega arith in ap (λ (n : ℕ). copies_in (drop n (o ∷ slots))) same
+
+pub drop_empty : (slots : Slots) (k : ℕ) → slice_get slots k ≡ Some None → copies_in (drop k slots) ≡ copies_in (drop (k + 1) slots)
+drop_empty [] zero e = absurd cc
+drop_empty [] (suc k) e = absurd cc
+drop_empty (o ∷ slots) zero e = ap (λ (p : Option Flying). copies_in (p ∷ slots)) (same_Some o None e)
+drop_empty (o ∷ slots) (suc k) e = drop_empty slots k e ∙ next_place slots o k
+
+pub drop_copy : (slots : Slots) (k : ℕ) (c : Flying) → slice_get slots k ≡ Some (Some c) → copies_in (drop k slots) ≡ c ∷ copies_in (drop (k + 1) slots)
+drop_copy [] zero c e = absurd cc
+drop_copy [] (suc k) c e = absurd cc
+drop_copy (o ∷ slots) zero c e = ap (λ (p : Option Flying). copies_in (p ∷ slots)) (same_Some o (Some c) e)
+drop_copy (o ∷ slots) (suc k) c e = drop_copy slots k c e ∙ ap (λ (cs : List Flying). c ∷ cs) (next_place slots o k)
+
+pub drop_past : (slots : Slots) (k : ℕ) → length slots ≤ k → copies_in (drop k slots) ≡ []
+drop_past [] zero le = refl
+drop_past [] (suc k) le = refl
+drop_past (o ∷ slots) zero le = absurd (omega arith)
+drop_past (o ∷ slots) (suc k) le = drop_past slots k (omega arith)
+
+-- ---- what a walk over the slots tells
+
+-- the copy in the k-th slot is the first from this place on
+abbrev pub IsNextAt : Slots → ℕ → Flying → Type 0
+IsNextAt slots place c = (k : ℕ) × (slice_get slots k ≡ Some (Some c)) × (place ≤ k) × (copies_in (drop place slots) ≡ c ∷ copies_in (drop (k + 1) slots))
+
+pub next_some : (slots : Slots) (first id place : ℕ) (r : Option (Bor Flying)) → AreSlots first slots → place ≡ id - first → IfSome r (λ f. IsNextAt slots place f.now)
+    → IfSome r (λ f. from_id (copies_in slots) id ≡ f.now ∷ from_id (copies_in slots) (f.now.id + 1))
+next_some slots first id place None are is h = tt
+next_some slots first id place (Some f) are is (k, at, le, e) =
+    let c = f.now in
+    let named = id_at slots first k c are at in
+    from_here slots first id are ∙ ap (λ (n : ℕ). copies_in (drop n slots)) (sym is) ∙ e
+    ∙ ap (λ (cs : List Flying). c ∷ cs) (sym (from_place slots first (k + 1) (c.id + 1) are (omega arith)))
+
+pub next_below : (slots : Slots) (first id place : ℕ) (r : Option (Bor Flying)) → AreSlots first slots → first + length slots < 2 ^ 64 → place ≡ id - first → IfSome r (λ f. IsNextAt slots place f.now)
+    → IfSome r (λ f. (id ≤ f.now.id) × (f.now.id < first + length slots) × (first + length slots < 2 ^ 64))
+next_below slots first id place None are few is h = tt
+next_below slots first id place (Some f) are few is (k, at, le, e) =
+    let named = id_at slots first k f.now are at in
+    let inside = slice_get_within slots k (Some f.now) at in
+    (omega arith, omega arith, few)
+
+pub next_none : (slots : Slots) (first id place : ℕ) (r : Option (Bor Flying)) → AreSlots first slots → place ≡ id - first → IfNone r (copies_in (drop place slots) ≡ []) → IfNone r (from_id (copies_in slots) id ≡ [])
+next_none slots first id place None are is h = from_here slots first id are ∙ ap (λ (n : ℕ). copies_in (drop n slots)) (sym is) ∙ h
+next_none slots first id place (Some f) are is h = tt

@@ -1,5 +1,5 @@
 -- The copies of packets in flight. They are the mesh's copies, with bytes in place of messages.
-use Rattle.std.specs.Prelude.{◌≢◌, ◌<◌, ◌≤◌, ℕ, ◌+◌, ◌==◌, not, if◌then◌else◌, Option, Some, None, List, [], ◌∷◌, filter}
+use Rattle.std.specs.Prelude.{◌≢◌, ◌<◌, ◌≤◌, ℕ, ◌+◌, ◌==◌, nat_le, not, if◌then◌else◌, Option, Some, None, List, [], ◌∷◌, filter}
 use Rattle.mesh_base.specs.declared.events.Flying.{Flying}
 
 -- the copy of that id
@@ -10,6 +10,10 @@ find_copy (c ∷ cs) id = if c.id == id then Some c else find_copy cs id
 -- the copies but that of that id
 unfoldable pub without : List Flying → ℕ → List Flying
 without cs id = filter (λ c. not (c.id == id)) cs
+
+-- the copies of that id and of later ones
+unfoldable pub from_id : List Flying → ℕ → List Flying
+from_id cs id = filter (λ c. nat_le id c.id) cs
 
 -- one copy for each receiver, with ids that rise from `id` on
 abbrev pub copies_to : List ℕ → ℕ → ℕ → List ℕ → List Flying

@@ -1,5 +1,5 @@
 -- How the code keeps a graph, the copies in flight and memory for more. No public contract cites this file.
-use Rattle.std.specs.Prelude.{◌≡◌, ◌≢◌, ℕ, zero, suc, ◌+◌, ◌-◌, ◌≤◌, false, if◌then◌else◌, Option, Some, None, List, ◌++◌, length, unwrap_or, slice_get, All, refl}
+use Rattle.std.specs.Prelude.{◌≡◌, ℕ, zero, suc, ◌+◌, ◌-◌, ◌^◌, ◌<◌, ◌≤◌, ◌⊎◌, false, if◌then◌else◌, Option, Some, None, List, [], ◌∷◌, ◌++◌, length, unwrap_or, slice_get, ⊤, refl}
 use Rattle.std.specs.List.{AllByRecursion}
 use Rattle.std.specs.Coded.{Coded, code_by, coded×, coded_ℕ, coded_list}
 use Rattle.std.specs.FinSet as sets
@@ -49,10 +49,28 @@ pub record Flights : Type 0 where
   pub room : ℕ
   pub most : ℕ
 
--- the k-th copy has that id, or none has
-abbrev pub IsPlaceOf : ℕ → List Flying → Option ℕ → Type 0
-IsPlaceOf id fs None = All (λ f. f.id ≢ id) fs
-IsPlaceOf id fs (Some k) = (f : Flying) × (slice_get fs k ≡ Some f) × (f.id ≡ id)
+-- the copies in these slots
+abbrev pub copies_in : List (Option Flying) → List Flying
+copies_in [] = []
+copies_in (None ∷ slots) = copies_in slots
+copies_in (Some c ∷ slots) = c ∷ copies_in slots
+
+-- a slot for each id from `id` on, with the copy of that id, if it is in flight
+abbrev pub AreSlots : ℕ → List (Option Flying) → Type 0
+AreSlots id [] = ⊤
+AreSlots id (None ∷ slots) = AreSlots (id + 1) slots
+AreSlots id (Some c ∷ slots) = (c.id ≡ id) × AreSlots (id + 1) slots
+
+-- slots from id `first` on, with `count` copies in all
+pub record AreKept (slots : List (Option Flying)) (first count : ℕ) : Type 0 where
+  pub numbered : AreSlots first slots
+  pub ids : (1 ≤ first) × (first + length slots < 2 ^ 64)
+  pub counted : count ≡ length (copies_in slots)
+
+-- of slots from id `first` on, so many, the k-th is that of this id, or none is
+abbrev pub IsPlaceOf : ℕ → ℕ → ℕ → Option ℕ → Type 0
+IsPlaceOf first count id None = (id < first) ⊎ (first + count ≤ id)
+IsPlaceOf first count id (Some k) = (k < count) × (id ≡ first + k)
 
 -- a copy to each receiver joins
 abbrev pub with_flights : Flights → ℕ → List ℕ → List ℕ → Flights

@@ -1,7 +1,8 @@
 //! Copies of packets in flight, by rising id.
-ghost use Rattle.std.specs.Prelude.{◌≡◌, ℕ, ◌<◌, ◌≤◌, ◌+◌, ◌-◌, ◌^◌, ◌++◌, ◌∷◌, [], length, slice_get, option_map, Some, OnOk, OnErr, remove};
-ghost use Rattle.mesh_radio.specs.Copies.{find_copy, without, AreNumbered};
-ghost use Rattle.mesh_radio.specs.Kept.{IsPlaceOf};
+ghost use Rattle.std.specs.Prelude.{◌≡◌, ℕ, ◌<◌, ◌≤◌, ◌+◌, ◌-◌, ◌^◌, ◌++◌, ◌∷◌, [], length, slice_get, drop, option_copied, Some, OnOk, OnErr, IfSome, IfNone};
+ghost use Rattle.std.specs.VecDeque.{deque_capacity};
+ghost use Rattle.mesh_radio.specs.Copies.{find_copy, without, from_id, AreNumbered};
+ghost use Rattle.mesh_radio.specs.Kept.{copies_in, AreSlots, IsPlaceOf};
 
 use crate::rooms::Rooms;
 use mesh_base::{Flying, NoMemory};
@@ -9,58 +10,69 @@ use std::alloc::Global;
 use std::collections::VecDeque;
 use std::marker::Model;
 
-/// The copies in flight, in a ring by rising id. The least is taken without moving another, any other
-/// by moving those on its shorter side.
+/// The copies in flight, in a ring with a slot for each id from the first on. A copy is found by its
+/// id and taken without moving another; slots that are empty go from the front.
 #[derive(Drop)]
 pub struct Copies {
-    ring: VecDeque<Flying>,
-    next: u64,
+    slots: VecDeque<Option<Flying>>,
+    first: u64,
+    count: usize,
     rooms: Rooms,
 }
 
 impl Model for Copies {
-    ghost use Rattle.std.specs.Prelude.{◌≤◌, ◌+◌};
+    ghost use Rattle.std.specs.Prelude.{◌+◌, ◌≤◌, length};
     ghost use Rattle.std.specs.VecDeque.{deque_len, deque_capacity};
-    ghost use Rattle.mesh_radio.specs.Copies.{AreNumbered};
-    ghost use Rattle.mesh_radio.specs.Kept.{Flights};
+    ghost use Rattle.mesh_radio.specs.Kept.{Flights, copies_in, AreKept};
 
     ghost Value = { Flights };
 
-    ghost view = { λ a. record { flying = a.ring.items; next_copy = a.next; room = a.rooms.room; most = a.rooms.most } };
+    ghost view = { λ a. record { flying = copies_in a.slots.items; next_copy = a.first + length a.slots.items; room = a.rooms.room; most = a.rooms.most } };
 
-    ghost invariant = { λ a. AreNumbered 1 a.ring.items a.next × (a.rooms.room + deque_len a.ring ≤ deque_capacity a.ring) };
+    ghost invariant = { λ a. AreKept a.slots.items a.first a.count × (a.rooms.room + deque_len a.slots ≤ deque_capacity a.slots) };
 }
 
-// The place of the copy of this id: a binary search.
-fn search(ring: &VecDeque<Flying>, id: u64) -> Option<usize>
-    requires { (next : ℕ) × AreNumbered 1 ring.now.items next }
-    ensures { IsPlaceOf id ring.now.items result }
+// The place of the slot of this id.
+fn place_of(slots: &VecDeque<Option<Flying>>, first: u64, id: u64) -> Option<usize>
+    ensures { IsPlaceOf first (length slots.now.items) id result }
 {
-    let mut low = 0;
-    let mut high = ring.len();
-    'halves: while low < high {
-        let middle = low + (high - low) / 2;
-        let there = ring[middle].id;
-        if there == id {
-            return Some(middle);
+    if id < first || id - first >= slots.len() as u64 {
+        return None;
+    }
+    Some((id - first) as usize)
+}
+
+// The empty slots at the front go. The answer is the id of the first slot then.
+fn trim(slots: &mut VecDeque<Option<Flying>>, first: u64) -> u64
+    requires slots { AreSlots first slots.old.items }
+    requires next { first + length slots.old.items < 2 ^ 64 }
+    ensures copies { copies_in slots.new.items ≡ copies_in slots.old.items }
+    ensures slots { AreSlots result slots.new.items }
+    ensures next { result + length slots.new.items ≡ first + length slots.old.items }
+    ensures from { first ≤ result }
+    ensures capacity { deque_capacity slots.new ≡ deque_capacity slots.old }
+{
+    let mut first = first;
+    while let Some(None) = slots.front() {
+        slots.pop_front();
+        first += 1;
+    }
+    first
+}
+
+// The first copy from this place on.
+fn copy_from(slots: &VecDeque<Option<Flying>>, place: usize) -> Option<&Flying>
+    ensures some { IfSome result (λ f. (k : ℕ) × (slice_get slots.now.items k ≡ Some (Some f.now)) × (place ≤ k) × (copies_in (drop place slots.now.items) ≡ f.now ∷ copies_in (drop (k + 1) slots.now.items))) }
+    ensures none { IfNone result (copies_in (drop place slots.now.items) ≡ []) }
+{
+    let mut place = place;
+    while let Some(slot) = slots.get(place) {
+        if let Some(flying) = slot {
+            return Some(flying);
         }
-        if there < id {
-            low = middle + 1;
-        } else {
-            high = middle;
-        }
+        place += 1;
     }
     None
-}
-
-// The id of the first copy.
-fn first_id(ring: &VecDeque<Flying>) -> Option<u64>
-    ensures { result ≡ option_map (λ c. c.id) (slice_get ring.now.items 0) }
-{
-    match ring.front() {
-        Some(first) => Some(first.id),
-        None => None,
-    }
 }
 
 impl Copies {
@@ -69,8 +81,9 @@ impl Copies {
         ensures { result ≡ record { flying = []; next_copy = 1; room = 0; most = 0 } }
     {
         Copies {
-            ring: VecDeque::new(alloc),
-            next: 1,
+            slots: VecDeque::new(alloc),
+            first: 1,
+            count: 0,
             rooms: Rooms::new(alloc),
         }
     }
@@ -80,36 +93,32 @@ impl Copies {
         ensures value { result ≡ length self.now.flying }
         ensures numbered { AreNumbered 1 self.now.flying self.now.next_copy }
     {
-        self.ring.len()
+        self.count
     }
 
     /// The id of the next copy.
     pub fn next_id(&self) -> u64
         ensures { result ≡ self.now.next_copy }
     {
-        self.next
+        self.first + self.slots.len() as u64
     }
 
-    /// The k-th copy by rising id.
-    pub fn at(&self, k: usize) -> &Flying
-        requires { k < length self.now.flying }
-        ensures { slice_get self.now.flying k ≡ Some result.now }
+    /// The copy of this id.
+    pub fn get(&self, id: u64) -> Option<&Flying>
+        ensures { option_copied result ≡ find_copy self.now.flying id }
     {
-        match self.ring.get(k) {
-            Some(flying) => flying,
-            None => unreachable!(),
-        }
+        let place = place_of(&self.slots, self.first, id)?;
+        self.slots[place].as_ref()
     }
 
-    /// The place of the copy of this id among the copies in flight.
-    pub fn place_of(&self, id: u64) -> Option<usize>
-        ensures place { IsPlaceOf id self.now.flying result }
-        ensures numbered { AreNumbered 1 self.now.flying self.now.next_copy }
+    /// The copy of the least id from this one on.
+    pub fn next_from(&self, id: u64) -> Option<&Flying>
+        ensures some { IfSome result (λ f. from_id self.now.flying id ≡ f.now ∷ from_id self.now.flying (f.now.id + 1)) }
+        ensures below { IfSome result (λ f. (id ≤ f.now.id) × (f.now.id < self.now.next_copy) × (self.now.next_copy < 2 ^ 64)) }
+        ensures none { IfNone result (from_id self.now.flying id ≡ []) }
     {
-        if first_id(&self.ring) == Some(id) {
-            return Some(0);
-        }
-        search(&self.ring, id)
+        let place = id.saturating_sub(self.first) as usize;
+        copy_from(&self.slots, place)
     }
 
     /// One copy more flies, and has the next id.
@@ -120,13 +129,13 @@ impl Copies {
         ensures { self.new ≡ record self.old { flying = self.old.flying ++ record { id = self.old.next_copy; from = from; to = to; bytes = bytes.now } ∷ []; next_copy = self.old.next_copy + 1; room = self.old.room - 1 } }
     {
         let flying = Flying {
-            id: self.next,
+            id: self.next_id(),
             from,
             to,
             bytes: self.rooms.fill(bytes),
         };
-        self.ring.push_back_reserved(flying);
-        self.next += 1;
+        self.slots.push_back_reserved(Some(flying));
+        self.count += 1;
     }
 
     /// Takes the copy of this id.
@@ -134,20 +143,11 @@ impl Copies {
         ensures taken { result ≡ find_copy self.old.flying id }
         ensures others { self.new ≡ record self.old { flying = without self.old.flying id } }
     {
-        let place = self.place_of(id)?;
-        Some(self.take_at(place))
-    }
-
-    // Takes the copy at this place.
-    fn take_at(&mut self, place: usize) -> Flying
-        requires { place < length self.old.flying }
-        ensures taken { slice_get self.old.flying place ≡ Some result }
-        ensures others { self.new ≡ record self.old { flying = remove self.old.flying place } }
-    {
-        match self.ring.remove(place) {
-            Some(flying) => flying,
-            None => unreachable!(),
-        }
+        let place = place_of(&self.slots, self.first, id)?;
+        let flying = self.slots[place].take()?;
+        self.count -= 1;
+        self.first = trim(&mut self.slots, self.first);
+        Some(flying)
     }
 
     /// Makes room for this many copies more, each of at most this many bytes.
@@ -158,7 +158,7 @@ impl Copies {
         ensures ok { OnOk result ((copies ≤ self.new.room) × (bytes ≤ self.new.most)) }
         ensures refused { OnErr result (self.new ≡ self.old) }
     {
-        self.ring.reserve(copies)?;
+        self.slots.reserve(copies)?;
         self.rooms.make(copies, bytes)
     }
 }

@@ -1,10 +1,10 @@
 //! The radio of a mesh.
-ghost use Rattle.std.specs.Prelude.{◌≡◌, ◌≢◌, ◌<◌, ◌≤◌, ◌+◌, ◌^◌, ℕ, true, false, not, length, slice_get, Some, OnOk, OnErr, IfOk, option_map};
+ghost use Rattle.std.specs.Prelude.{◌≡◌, ◌≢◌, ◌<◌, ◌≤◌, ◌+◌, ◌^◌, ◌∷◌, [], ℕ, true, false, not, length, slice_get, OnOk, OnErr, IfOk, IfSome, IfNone, option_map};
 ghost use Rattle.std.specs.Bool.{OnTrue, OnFalse};
 ghost use Rattle.std.specs.List.{AllByRecursion};
 ghost use Rattle.std.specs.FinSet as sets;
 ghost use Rattle.mesh_model.specs.Worlds.{are_linked, linked_below, members_below};
-ghost use Rattle.mesh_radio.specs.Copies.{find_copy, AreNumbered, IsBetween};
+ghost use Rattle.mesh_radio.specs.Copies.{find_copy, from_id, AreNumbered, IsBetween};
 ghost use Rattle.mesh_radio.specs.Radios.{opening, with_link, without_link, with_copies, without_copy, receivers};
 ghost use Rattle.mesh_radio.specs.Kept.{with_flights};
 
@@ -147,8 +147,8 @@ impl Radio {
     pub fn find(&self, id: u64) -> Option<usize>
         ensures { result ≡ option_map (λ c. c.to) (find_copy self.now.flying id) }
     {
-        let place = self.copies.place_of(id)?;
-        Some(self.copies.at(place).to)
+        let flying = self.copies.get(id)?;
+        Some(flying.to)
     }
 
     /// How many copies are in flight.
@@ -160,12 +160,14 @@ impl Radio {
         self.copies.count()
     }
 
-    /// The k-th copy in flight by rising id.
-    pub fn at(&self, k: usize) -> &Flying
-        requires { k < length self.now.flying }
-        ensures { slice_get self.now.flying k ≡ Some result.now }
+    /// The copy in flight of the least id from this one on: all copies come one after the other where
+    /// each is asked for by the id after the last.
+    pub fn next_from(&self, id: u64) -> Option<&Flying>
+        ensures some { IfSome result (λ f. from_id self.now.flying id ≡ f.now ∷ from_id self.now.flying (f.now.id + 1)) }
+        ensures within { IfSome result (λ f. (id ≤ f.now.id) × (f.now.id < self.now.next_copy) × (self.now.next_copy < 2 ^ 64) × IsBetween self.now.size f.now) }
+        ensures none { IfNone result (from_id self.now.flying id ≡ []) }
     {
-        self.copies.at(k)
+        self.copies.next_from(id)
     }
 
     /// The id that the next copy gets.
@@ -179,10 +181,8 @@ impl Radio {
     pub fn first_id(&self) -> Option<u64>
         ensures { result ≡ option_map (λ c. c.id) (slice_get self.now.flying 0) }
     {
-        if self.copies.count() == 0 {
-            return None;
-        }
-        Some(self.copies.at(0).id)
+        let first = self.copies.next_from(0)?;
+        Some(first.id)
     }
 }
 
@@ -230,6 +230,7 @@ mod tests {
         assert_eq!(rt; last.bytes.as_slice(), b"hi".as_slice());
         assert!(rt; radio.take(2).is_none());
         assert_eq!(rt; radio.first_id(), Some(1));
+        assert!(rt; radio.next_from(2).is_none());
         assert_eq!(rt; radio.next_id(), 3);
         Ok(())
     }

@@ -10,7 +10,7 @@ use std::marker::Model;
 const SHORT: usize = 64;
 
 /// Memory for packets to come, whatever their lengths are: as many rooms for short packets as for
-/// the longest, so that a short packet doesn't use up a long room.
+/// the longest, so that a short packet doesn't use up a long room. The shortest use up none.
 #[derive(Drop)]
 pub struct Rooms {
     alloc: Global,
@@ -72,6 +72,9 @@ impl Rooms {
         ensures room { self.new ≡ record self.old { room = self.old.room - 1 } }
     {
         self.ready -= 1;
+        if let Some(own) = Bytes::short(bytes) {
+            return own;
+        }
         if bytes.len() <= SHORT {
             self.short.take().fill(bytes)
         } else {

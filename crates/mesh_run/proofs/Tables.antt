@@ -66,39 +66,28 @@ shows_front quiet xs xs' ys a b loud ex p =
 
 -- ---- the copies in flight
 
-copies-step : (mesh : Nodes) (fs : List Flying) (k : ℕ) (f : Flying) → slice_get fs k ≡ Some f
-    → flight_text mesh (map (copy_in mesh) (drop k fs)) ≡ flying_text mesh (copy_in mesh f) ++ flight_text mesh (map (copy_in mesh) (drop (k + 1) fs))
-copies-step mesh fs k f is =
-    let next : suc k ≡ k + 1 = omega arith in
-    ap (λ l. flight_text mesh (map (copy_in mesh) l)) (drop_next fs k f is ∙ ap (λ n. f ∷ drop n fs) next)
-  where
-    drop_next : (fs : List Flying) (k : ℕ) (f : Flying) → slice_get fs k ≡ Some f → drop k fs ≡ f ∷ drop (suc k) fs
-    drop_next [] k f is = absurd (let P : ⊥ = cc in P)
-    drop_next (x ∷ xs) zero f is = let same : x ≡ f = cc in ap (λ y. y ∷ xs) same
-    drop_next (x ∷ xs) (suc k) f is = drop_next xs k f is
+copies-step : (mesh : Nodes) (fs : List Flying) (start : ℕ) (f : Flying) → from_id fs start ≡ f ∷ from_id fs (f.id + 1)
+    → flight_text mesh (map (copy_in mesh) (from_id fs start)) ≡ flying_text mesh (copy_in mesh f) ++ flight_text mesh (map (copy_in mesh) (from_id fs (f.id + 1)))
+copies-step mesh fs start f is = ap (λ l. flight_text mesh (map (copy_in mesh) l)) is
 
-pub copies-goes : {T E : Type 0} (mesh : Nodes) (fs : List Flying) (k : ℕ) (f : Flying) (a b c : Option (List ℕ)) (r : Result T E) → slice_get fs k ≡ Some f
-    → Appends a b (flying_text mesh (copy_in mesh f)) → Puts b c (flight_text mesh (map (copy_in mesh) (drop (k + 1) fs))) r → Puts a c (flight_text mesh (map (copy_in mesh) (drop k fs))) r
-copies-goes mesh fs k f a b c r is p q = Puts-join a b c (flying_text mesh (copy_in mesh f)) _ _ r (copies-step mesh fs k f is) p q
+-- the copies from one id on are all of them, from 0 on
+pub copies-start : {T E : Type 0} (mesh : Nodes) (fs : List Flying) (a b : Option (List ℕ)) (r : Result T E) → Puts a b (flight_text mesh (map (copy_in mesh) (from_id fs 0))) r → Puts a b (flight_text mesh (map (copy_in mesh) fs)) r
+copies-start mesh fs a b r p = subst (λ l. Puts a b (flight_text mesh (map (copy_in mesh) l)) r) (from_zero fs) p
 
-pub copies-stops : (mesh : Nodes) (fs : List Flying) (k : ℕ) (f : Flying) (a b : Option (List ℕ)) → slice_get fs k ≡ Some f
-    → AppendsFront a b (flying_text mesh (copy_in mesh f)) → AppendsFront a b (flight_text mesh (map (copy_in mesh) (drop k fs)))
-copies-stops mesh fs k f a b is p = AppendsFront-more a b (flying_text mesh (copy_in mesh f)) _ _ (copies-step mesh fs k f is) p
+pub copies-goes : {T E : Type 0} (mesh : Nodes) (fs : List Flying) (start : ℕ) (f : Flying) (a b c : Option (List ℕ)) (r : Result T E) → from_id fs start ≡ f ∷ from_id fs (f.id + 1)
+    → Appends a b (flying_text mesh (copy_in mesh f)) → Puts b c (flight_text mesh (map (copy_in mesh) (from_id fs (f.id + 1)))) r → Puts a c (flight_text mesh (map (copy_in mesh) (from_id fs start))) r
+copies-goes mesh fs start f a b c r is p q = Puts-join a b c (flying_text mesh (copy_in mesh f)) _ _ r (copies-step mesh fs start f is) p q
 
-pub copies-ends : (mesh : Nodes) (fs : List Flying) (k : ℕ) (a : Option (List ℕ)) → length fs ≤ k → Appends a a (flight_text mesh (map (copy_in mesh) (drop k fs)))
-copies-ends mesh fs k a h = let P : List Flying → Type 0 = λ l. Appends a a (flight_text mesh (map (copy_in mesh) l)) in subst P (sym (drop-past fs k h)) (Appends-none a)
-  where
-    drop-past : (fs : List Flying) (k : ℕ) → length fs ≤ k → drop k fs ≡ []
-    drop-past [] zero h = refl
-    drop-past [] (suc k) h = refl
-    drop-past (x ∷ xs) zero h = absurd (omega arith)
-    drop-past (x ∷ xs) (suc k) h = drop-past xs k (omega arith)
+pub copies-stops : (mesh : Nodes) (fs : List Flying) (start : ℕ) (f : Flying) (a b : Option (List ℕ)) → from_id fs start ≡ f ∷ from_id fs (f.id + 1)
+    → AppendsFront a b (flying_text mesh (copy_in mesh f)) → AppendsFront a b (flight_text mesh (map (copy_in mesh) (from_id fs start)))
+copies-stops mesh fs start f a b is p = AppendsFront-more a b (flying_text mesh (copy_in mesh f)) _ _ (copies-step mesh fs start f is) p
 
--- each copy is written, and between two nodes of the mesh
-pub copy_at : (P : Flying → Type 0) (fs : List Flying) (k : ℕ) (f : Flying) → AllByRecursion P fs → slice_get fs k ≡ Some f → P f
-copy_at P [] k f all is = absurd (let Q : ⊥ = cc in Q)
-copy_at P (x ∷ xs) zero f all is = let same : x ≡ f = cc in subst P same all.0
-copy_at P (x ∷ xs) (suc k) f all is = copy_at P xs k f all.1 is
+pub copies-ends : (mesh : Nodes) (fs : List Flying) (start : ℕ) (a : Option (List ℕ)) → from_id fs start ≡ [] → Appends a a (flight_text mesh (map (copy_in mesh) (from_id fs start)))
+copies-ends mesh fs start a none = let P : List Flying → Type 0 = λ l. Appends a a (flight_text mesh (map (copy_in mesh) l)) in subst P (sym none) (Appends-none a)
+
+-- each copy is written
+pub copy_next : (P : Flying → Type 0) (fs : List Flying) (start : ℕ) (f : Flying) → AllByRecursion P fs → from_id fs start ≡ f ∷ from_id fs (f.id + 1) → P f
+copy_next P fs start f all is = (subst (AllByRecursion P) is (all-from P fs start all)).0
 
 -- ---- five texts in turn
 

@@ -243,8 +243,10 @@ fn put_copies<O: Sink>(
         (flight_text mesh.now (map (copy_in mesh.now) radio.now.flying)) result }
     ensures cause { HasCause (O.faults out.old) (O.faults out.new) result }
 {
-    for k in 0..radio.count() {
-        put_flying(mesh, radio.at(k), buf, out)?;
+    let mut start = 0;
+    while let Some(flying) = radio.next_from(start) {
+        put_flying(mesh, flying, buf, out)?;
+        start = flying.id + 1;
     }
     Ok(())
 }

@@ -13,6 +13,8 @@ use Rattle.mesh_base.specs.Meshes.{Nodes}
 use Rattle.mesh_base.specs.declared.events.Flying.{Flying}
 use Rattle.mesh_base.specs.declared.events.Item.{Item}
 use Rattle.mesh_base.specs.declared.events.Item.TheVariants as item
+use Rattle.mesh_radio.specs.Copies.{from_id}
+use Rattle.mesh_radio.proofs.Finds.{from_zero}
 use Rattle.aodv_wire.specs.declared.error.WireError.{WireError}
 use Rattle.aodv_wire.specs.Spells.{kind, refusal}
 use Rattle.aodv_wire.proofs.Lines.{said_rreq, said_rrep, said_rerr, said_data}
@@ -226,27 +228,33 @@ item_fits items k i b old there is was yes' =
     omega arith
 
 -- one copy more
-pub copy_next : (copies : List Flying) (k : ℕ) (f : Flying) (b : Bool) (old new : ℕ) → slice_get copies k ≡ Some f → b ≡ is_data f.bytes → old ≡ flying_in (take k copies) → new ≡ old + one_if b → new ≡ flying_in (take (k + 1) copies)
+-- a copy is counted, and those after it are left
+pub copy_next : (copies : List Flying) (start total : ℕ) (f : Flying) (b : Bool) (old new : ℕ) → from_id copies start ≡ f ∷ from_id copies (f.id + 1) → b ≡ is_data f.bytes → old + flying_in (from_id copies start) ≡ total → new ≡ old + one_if b
+    → new + flying_in (from_id copies (f.id + 1)) ≡ total
 unfolding flying_in
-copy_next copies k f b old new there is was now =
-    let next : sum_by (λ f. one_if (is_data f.bytes)) (take (k + 1) copies) ≡ sum_by (λ f. one_if (is_data f.bytes)) (take k copies) + one_if (is_data f.bytes) = sum_next (λ f. one_if (is_data f.bytes)) copies k f there in
+copy_next copies start total f b old new there is was now =
+    let next : sum_by (λ f. one_if (is_data f.bytes)) (from_id copies start) ≡ one_if (is_data f.bytes) + sum_by (λ f. one_if (is_data f.bytes)) (from_id copies (f.id + 1)) = ap (λ cs. sum_by (λ f. one_if (is_data f.bytes)) cs) there ∙ sum_by-cons (λ f. one_if (is_data f.bytes)) f (from_id copies (f.id + 1)) in
     let same : one_if b ≡ one_if (is_data f.bytes) = ap one_if is in
     omega arith
 
-pub copy_fits : (copies : List Flying) (k : ℕ) (f : Flying) (b : Bool) (old : ℕ) → slice_get copies k ≡ Some f → b ≡ is_data f.bytes → old ≡ flying_in (take k copies) → b ≡ true → old + 1 ≤ flying_in copies
+pub copy_fits : (copies : List Flying) (start total : ℕ) (f : Flying) (b : Bool) (old : ℕ) → from_id copies start ≡ f ∷ from_id copies (f.id + 1) → b ≡ is_data f.bytes → old + flying_in (from_id copies start) ≡ total → b ≡ true → old + 1 ≤ total
 unfolding flying_in
-copy_fits copies k f b old there is was yes' =
-    let fits : sum_by (λ f. one_if (is_data f.bytes)) (take k copies) + one_if (is_data f.bytes) ≤ sum_by (λ f. one_if (is_data f.bytes)) copies = sum_fits (λ f. one_if (is_data f.bytes)) copies k f there in
+copy_fits copies start total f b old there is was yes' =
+    let next : sum_by (λ f. one_if (is_data f.bytes)) (from_id copies start) ≡ one_if (is_data f.bytes) + sum_by (λ f. one_if (is_data f.bytes)) (from_id copies (f.id + 1)) = ap (λ cs. sum_by (λ f. one_if (is_data f.bytes)) cs) there ∙ sum_by-cons (λ f. one_if (is_data f.bytes)) f (from_id copies (f.id + 1)) in
     let same : one_if (is_data f.bytes) ≡ 1 = ap one_if (sym is ∙ yes') in
     omega arith
+
+pub all_flying : (copies : List Flying) → 0 + flying_in (from_id copies 0) ≡ flying_in copies
+all_flying copies = let same = ap flying_in (from_zero copies) in omega arith
+
+pub no_more_flying : (copies : List Flying) (start total count : ℕ) → from_id copies start ≡ [] → count + flying_in (from_id copies start) ≡ total → count ≡ total
+unfolding flying_in
+no_more_flying copies start total count none is = let left : sum_by (λ f. one_if (is_data f.bytes)) (from_id copies start) ≡ 0 = ap (λ cs. sum_by (λ f. one_if (is_data f.bytes)) cs) none in omega arith
 
 pub none_queued : 0 ≡ queued_in []
 unfolding queued_in
 none_queued = refl
 
-pub none_flying : 0 ≡ flying_in []
-unfolding flying_in
-none_flying = refl
 
 -- the nodes before the k-th are counted
 pub record IsTallied (nodes : List NodeSeen) (k waits queues : ℕ) : Type 0 where

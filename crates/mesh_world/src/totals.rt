@@ -80,10 +80,12 @@ fn count_flying(radio: &Radio) -> u64
     ensures { result ≡ flying_in radio.now.flying }
 {
     let mut count = 0;
-    for k in 0..radio.count() {
-        if is_data(radio.at(k).bytes.as_slice()) {
+    let mut start = 0;
+    while let Some(flying) = radio.next_from(start) {
+        if is_data(flying.bytes.as_slice()) {
             count += 1;
         }
+        start = flying.id + 1;
     }
     count
 }
