@@ -1,12 +1,14 @@
 -- Texts of all nodes one after another, and of the copies in flight.
-use Rattle.std.proofs.Common.{◌≡◌, ℕ, zero, suc, ◌+◌, ◌-◌, ◌<◌, ◌≤◌, Bool, false, List, [], ◌∷◌, ◌++◌, Option, Some, Result, length, map, drop, refl, sym, ap, subst, ◌∙◌, arith}
+use Rattle.std.proofs.Common.{◌≡◌, ℕ, suc, ◌+◌, ◌-◌, ◌<◌, ◌≤◌, Bool, false, List, [], ◌∷◌, ◌++◌, Option, Some, Result, length, map, refl, sym, ap, subst, ◌∙◌, arith}
 use Rattle.std.specs.Prelude.{codes}
 use Rattle.std.specs.FinMap as maps
-use Rattle.std.specs.List.{slice_get, AllByRecursion}
+use Rattle.std.specs.List.{AllByRecursion}
 use Rattle.std.proofs.lemmas.List.{length-map}
 use Rattle.std.specs.Io.KnownBytes.{Appends}
 use Rattle.mesh_base.specs.Meshes.{Nodes}
 use Rattle.mesh_base.specs.declared.events.Flying.{Flying}
+use Rattle.mesh_radio.specs.Copies.{from_id}
+use Rattle.mesh_radio.proofs.Finds.{from_zero, all-from}
 use Rattle.mesh_io.specs.Puts.{AppendsFront, Puts}
 use Rattle.mesh_io.proofs.Writing.{Appends-none, Appends-join, AppendsFront-join, AppendsFront-more, Puts-join}
 use Rattle.aodv_meaning.specs.Effects.{item_in}

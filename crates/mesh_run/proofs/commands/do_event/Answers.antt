@@ -1,4 +1,4 @@
-use Rattle.std.proofs.Common.{◌≡◌, ◌∙◌, true, false, Some, subst}
+use Rattle.std.proofs.Common.{true, false, Some, subst}
 use Rattle.std.specs.Io.KnownBytes.{Appends}
 use Rattle.mesh_base.specs.Meshes.{Nodes}
 use Rattle.mesh_io.specs.Puts.{AppendsFront}
@@ -9,7 +9,7 @@ use Rattle.mesh_meaning.specs.Answers.{outcome_in}
 use Rattle.mesh_text.specs.Schedule.{Moment, world_of}
 use Rattle.mesh_text.specs.Effects.{outcome_lines}
 use Rattle.mesh_run.specs.Sums.{sums_of}
-use Rattle.mesh_run.proofs.Events.{answer_goes, answer_front, answer_mesh, refusal_stops}
+use Rattle.mesh_run.proofs.Events.{answer_goes, answer_front, answer_mesh}
 use Rattle.mesh_run.proofs.Sound.{answered}
 use Rattle.mesh_run.proofs.commands.do_event.Goals as goal
 

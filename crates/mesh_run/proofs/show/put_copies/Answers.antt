@@ -1,22 +1,28 @@
-use Rattle.std.proofs.Common.{◌≤◌, ◌∙◌, Ok, Err, length, arith}
+use Rattle.std.proofs.Common.{◌∙◌, Ok, Err, refl}
 use Rattle.std.proofs.lemmas.Result.{err_from_is_err_and}
-use Rattle.mesh_run.proofs.Tables.{copies-goes, copies-stops, copies-ends}
+use Rattle.mesh_meaning.specs.Packets.{IsWrittenCopy}
+use Rattle.mesh_run.proofs.Tables.{copies-start, copies-goes, copies-stops, copies-ends, copy_next}
 use Rattle.mesh_run.proofs.show.put_copies.Goals as goal
+
+pub loop-flying-init : goal.loop-flying-init
+loop-flying-init g c = record { text = λ now r p. copies-start c.args.mesh.now c.args.radio.now.flying _ now r p; faults = refl }
+
+pub put_flying-requires-clause-written : goal.put_flying-requires-clause-written
+put_flying-requires-clause-written g c = copy_next (IsWrittenCopy c.args.mesh.now) c.args.radio.now.flying c.loop-flying.start c.in-Some.flying.now c.requires.written c.in-Some.ensures.some
 
 pub returns-in_err-put_flying-clause-text : goal.returns-in_err-put_flying-clause-text
 returns-in_err-put_flying-clause-text g c =
     let p = err_from_is_err_and c.from_residual.result c.from_residual.ensures.1 in
-    rw p.1 (c.loop-k.invariant.text (g.O.Sink.held c.put_flying.new.out) (Err p.0)
-    (copies-stops c.args.mesh.now c.args.radio.now.flying c.loop-k.k c.at.result.now _ _ c.at.ensures c.in_err-put_flying.ensures.text))
+    rw p.1 (c.loop-flying.invariant.text (g.O.Sink.held c.put_flying.new.out) (Err p.0)
+    (copies-stops c.args.mesh.now c.args.radio.now.flying c.loop-flying.start c.in-Some.flying.now _ _ c.in-Some.ensures.some c.in_err-put_flying.ensures.text))
 
-pub loop-k-preserved : goal.loop-k-preserved
-loop-k-preserved g c = record {
-  text = λ now r p. c.loop-k.invariant.text now r
-      (copies-goes c.args.mesh.now c.args.radio.now.flying c.loop-k.k c.at.result.now (g.O.Sink.held c.loop-k.out) (g.O.Sink.held c.put_flying.new.out) now r c.at.ensures c.in_ok-put_flying.ensures.text p);
-  faults = c.in_ok-put_flying.ensures.cause.none ∙ c.loop-k.invariant.faults;
+pub loop-flying-preserved : goal.loop-flying-preserved
+loop-flying-preserved g c = record {
+  text = λ now r p. c.loop-flying.invariant.text now r
+      (copies-goes c.args.mesh.now c.args.radio.now.flying c.loop-flying.start c.in-Some.flying.now (g.O.Sink.held c.loop-flying.out) (g.O.Sink.held c.put_flying.new.out) now r c.in-Some.ensures.some c.in_ok-put_flying.ensures.text p);
+  faults = c.in_ok-put_flying.ensures.cause.none ∙ c.loop-flying.invariant.faults;
 }
 
 pub returns-clause-text : goal.returns-clause-text
 returns-clause-text g c =
-    let le : length c.args.radio.now.flying ≤ c.loop-k.k = omega (arith, c.loop-k-test.false, c.count-k-end.ensures.value) in
-    c.loop-k.invariant.text _ (Ok tt) (copies-ends c.args.mesh.now c.args.radio.now.flying c.loop-k.k _ le)
+    c.loop-flying.invariant.text _ (Ok tt) (copies-ends c.args.mesh.now c.args.radio.now.flying c.loop-flying.start _ c.in_default.ensures.none)
