@@ -1,10 +1,12 @@
 -- Finding and taking copies of a numbered list.
-use Rattle.std.proofs.Common.{◌≡◌, ◌≢◌, ℕ, suc, ◌+◌, ◌^◌, ◌<◌, ◌≤◌, Bool, true, false, cond, not, eqb, leb, List, [], ◌∷◌, Option, Some, None, Bor, refl, sym, ap, subst, arith, All}
+use Rattle.std.proofs.Common.{◌≡◌, ◌≢◌, ℕ, suc, ◌+◌, ◌^◌, ◌<◌, ◌≤◌, Bool, true, false, cond, not, eqb, leb, List, [], ◌∷◌, Option, Some, None, refl, sym, ap, subst, arith, All}
 use Rattle.std.specs.List.{AllByRecursion}
 use Rattle.std.specs.Prelude.{IfSome}
 use Rattle.std.proofs.lemmas.Bool.{ne_eqb, le-leb}
 use Rattle.std.proofs.lemmas.Option.{none-some}
+use Rattle.mesh_base.specs.Views.{flying_seen}
 use Rattle.mesh_base.specs.declared.events.Flying.{Flying}
+use Rattle.mesh_base.specs.declared.events.FlyingView.{FlyingView}
 use Rattle.mesh_radio.specs.Copies.{find_copy, without, from_id}
 
 -- ---- where no copy has the id
@@ -45,8 +47,8 @@ all-from P (f ∷ fs) id all = elim (leb id f.id) as (λ b. AllByRecursion P (co
   | false ↦ all-from P fs id all.1
 ]
 
-pub next_all : (P : Flying → Type 0) (fs : List Flying) (id next : ℕ) (r : Option (Bor Flying)) → AllByRecursion P fs → IfSome r (λ f. from_id fs id ≡ f.now ∷ from_id fs (f.now.id + 1))
-    → IfSome r (λ f. (id ≤ f.now.id) × (f.now.id < next) × (next < 2 ^ 64)) → IfSome r (λ f. (id ≤ f.now.id) × (f.now.id < next) × (next < 2 ^ 64) × P f.now)
+pub next_all : (P : Flying → Type 0) (fs : List Flying) (id next : ℕ) (r : Option FlyingView) → AllByRecursion P fs → IfSome r (λ f. from_id fs id ≡ flying_seen f ∷ from_id fs (f.id + 1))
+    → IfSome r (λ f. (id ≤ f.id) × (f.id < next) × (next < 2 ^ 64)) → IfSome r (λ f. (id ≤ f.id) × (f.id < next) × (next < 2 ^ 64) × P (flying_seen f))
 next_all P fs id next None all is within = tt
 next_all P fs id next (Some f) all is within = (within.0, within.1, within.2, (subst (AllByRecursion P) is (all-from P fs id all)).0)
 

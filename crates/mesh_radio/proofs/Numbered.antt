@@ -1,9 +1,11 @@
 -- The slots of copies in flight: which copies they have, and which after one comes or goes.
-use Rattle.std.proofs.Common.{◌≡◌, ◌≢◌, ℕ, zero, suc, ◌+◌, ◌-◌, ◌^◌, ◌<◌, ◌≤◌, ◌⊎◌, inl, inr, true, false, eqb, leb, List, [], ◌∷◌, ◌++◌, length, drop, get_or, Option, Some, None, refl, sym, ap, subst, ◌∙◌, arith, All, Bor, eq-eqb}
+use Rattle.std.proofs.Common.{◌≡◌, ◌≢◌, ℕ, zero, suc, ◌+◌, ◌-◌, ◌^◌, ◌<◌, ◌≤◌, ◌⊎◌, inl, inr, true, false, eqb, leb, List, [], ◌∷◌, ◌++◌, length, drop, get_or, Option, Some, None, refl, sym, ap, subst, ◌∙◌, arith, All, eq-eqb}
 use Rattle.std.specs.Prelude.{slice_get, slice_set, IfSome, IfNone}
 use Rattle.std.proofs.lemmas.Bool.{ne_eqb, le-leb, lt-leb, cases_lt}
 use Rattle.std.proofs.lemmas.Option.{same_Some, slice_get_within}
+use Rattle.mesh_base.specs.Views.{flying_seen}
 use Rattle.mesh_base.specs.declared.events.Flying.{Flying}
+use Rattle.mesh_base.specs.declared.events.FlyingView.{FlyingView}
 use Rattle.mesh_radio.specs.Copies.{find_copy, without, from_id, AreNumbered}
 use Rattle.mesh_radio.specs.Kept.{copies_in, AreSlots}
 use Rattle.mesh_radio.proofs.Finds.{absent}
@@ -174,23 +176,23 @@ drop_past (o ∷ slots) (suc k) le = drop_past slots k (omega arith)
 abbrev pub IsNextAt : Slots → ℕ → Flying → Type 0
 IsNextAt slots place c = (k : ℕ) × (slice_get slots k ≡ Some (Some c)) × (place ≤ k) × (copies_in (drop place slots) ≡ c ∷ copies_in (drop (k + 1) slots))
 
-pub next_some : (slots : Slots) (first id place : ℕ) (r : Option (Bor Flying)) → AreSlots first slots → place ≡ id - first → IfSome r (λ f. IsNextAt slots place f.now)
-    → IfSome r (λ f. from_id (copies_in slots) id ≡ f.now ∷ from_id (copies_in slots) (f.now.id + 1))
+pub next_some : (slots : Slots) (first id place : ℕ) (r : Option FlyingView) → AreSlots first slots → place ≡ id - first → IfSome r (λ f. IsNextAt slots place (flying_seen f))
+    → IfSome r (λ f. from_id (copies_in slots) id ≡ flying_seen f ∷ from_id (copies_in slots) (f.id + 1))
 next_some slots first id place None are is h = tt
 next_some slots first id place (Some f) are is (k, at, le, e) =
-    let c = f.now in
+    let c = flying_seen f in
     let named = id_at slots first k c are at in
     from_here slots first id are ∙ ap (λ (n : ℕ). copies_in (drop n slots)) (sym is) ∙ e
     ∙ ap (λ (cs : List Flying). c ∷ cs) (sym (from_place slots first (k + 1) (c.id + 1) are (omega arith)))
 
-pub next_below : (slots : Slots) (first id place : ℕ) (r : Option (Bor Flying)) → AreSlots first slots → first + length slots < 2 ^ 64 → place ≡ id - first → IfSome r (λ f. IsNextAt slots place f.now)
-    → IfSome r (λ f. (id ≤ f.now.id) × (f.now.id < first + length slots) × (first + length slots < 2 ^ 64))
+pub next_below : (slots : Slots) (first id place : ℕ) (r : Option FlyingView) → AreSlots first slots → first + length slots < 2 ^ 64 → place ≡ id - first → IfSome r (λ f. IsNextAt slots place (flying_seen f))
+    → IfSome r (λ f. (id ≤ f.id) × (f.id < first + length slots) × (first + length slots < 2 ^ 64))
 next_below slots first id place None are few is h = tt
 next_below slots first id place (Some f) are few is (k, at, le, e) =
-    let named = id_at slots first k f.now are at in
-    let inside = slice_get_within slots k (Some f.now) at in
+    let named = id_at slots first k (flying_seen f) are at in
+    let inside = slice_get_within slots k (Some (flying_seen f)) at in
     (omega arith, omega arith, few)
 
-pub next_none : (slots : Slots) (first id place : ℕ) (r : Option (Bor Flying)) → AreSlots first slots → place ≡ id - first → IfNone r (copies_in (drop place slots) ≡ []) → IfNone r (from_id (copies_in slots) id ≡ [])
+pub next_none : (slots : Slots) (first id place : ℕ) (r : Option FlyingView) → AreSlots first slots → place ≡ id - first → IfNone r (copies_in (drop place slots) ≡ []) → IfNone r (from_id (copies_in slots) id ≡ [])
 next_none slots first id place None are is h = from_here slots first id are ∙ ap (λ (n : ℕ). copies_in (drop n slots)) (sym is) ∙ h
 next_none slots first id place (Some f) are is h = tt

@@ -1,11 +1,12 @@
 //! Copies of packets in flight, by rising id.
-ghost use Rattle.std.specs.Prelude.{◌≡◌, ℕ, ◌<◌, ◌≤◌, ◌+◌, ◌-◌, ◌^◌, ◌++◌, ◌∷◌, [], length, slice_get, drop, option_copied, Some, OnOk, OnErr, IfSome, IfNone};
+ghost use Rattle.std.specs.Prelude.{◌≡◌, ℕ, ◌<◌, ◌≤◌, ◌+◌, ◌-◌, ◌^◌, ◌++◌, ◌∷◌, [], length, slice_get, drop, option_map, Some, OnOk, OnErr, IfSome, IfNone};
 ghost use Rattle.std.specs.VecDeque.{deque_capacity};
+ghost use Rattle.mesh_base.specs.Views.{flying_seen};
 ghost use Rattle.mesh_radio.specs.Copies.{find_copy, without, from_id, AreNumbered};
 ghost use Rattle.mesh_radio.specs.Kept.{copies_in, AreSlots, IsPlaceOf};
 
 use crate::rooms::Rooms;
-use mesh_base::{Flying, NoMemory};
+use mesh_base::{Flying, FlyingView, NoMemory, Room};
 use std::alloc::Global;
 use std::collections::VecDeque;
 use std::marker::Model;
@@ -60,15 +61,27 @@ fn trim(slots: &mut VecDeque<Option<Flying>>, first: u64) -> u64
     first
 }
 
+// The copy, as it is looked at.
+fn view_of(flying: &Flying) -> FlyingView<'_>
+    ensures { flying_seen result ≡ flying.now }
+{
+    FlyingView {
+        id: flying.id,
+        from: flying.from,
+        to: flying.to,
+        bytes: flying.bytes.as_slice(),
+    }
+}
+
 // The first copy from this place on.
-fn copy_from(slots: &VecDeque<Option<Flying>>, place: usize) -> Option<&Flying>
-    ensures some { IfSome result (λ f. (k : ℕ) × (slice_get slots.now.items k ≡ Some (Some f.now)) × (place ≤ k) × (copies_in (drop place slots.now.items) ≡ f.now ∷ copies_in (drop (k + 1) slots.now.items))) }
+fn copy_from(slots: &VecDeque<Option<Flying>>, place: usize) -> Option<FlyingView<'_>>
+    ensures some { IfSome result (λ f. (k : ℕ) × (slice_get slots.now.items k ≡ Some (Some (flying_seen f))) × (place ≤ k) × (copies_in (drop place slots.now.items) ≡ flying_seen f ∷ copies_in (drop (k + 1) slots.now.items))) }
     ensures none { IfNone result (copies_in (drop place slots.now.items) ≡ []) }
 {
     let mut place = place;
     while let Some(slot) = slots.get(place) {
         if let Some(flying) = slot {
-            return Some(flying);
+            return Some(view_of(flying));
         }
         place += 1;
     }
@@ -104,17 +117,20 @@ impl Copies {
     }
 
     /// The copy of this id.
-    pub fn get(&self, id: u64) -> Option<&Flying>
-        ensures { option_copied result ≡ find_copy self.now.flying id }
+    pub fn get(&self, id: u64) -> Option<FlyingView<'_>>
+        ensures { option_map flying_seen result ≡ find_copy self.now.flying id }
     {
         let place = place_of(&self.slots, self.first, id)?;
-        self.slots[place].as_ref()
+        match &self.slots[place] {
+            Some(flying) => Some(view_of(flying)),
+            None => None,
+        }
     }
 
     /// The copy of the least id from this one on.
-    pub fn next_from(&self, id: u64) -> Option<&Flying>
-        ensures some { IfSome result (λ f. from_id self.now.flying id ≡ f.now ∷ from_id self.now.flying (f.now.id + 1)) }
-        ensures below { IfSome result (λ f. (id ≤ f.now.id) × (f.now.id < self.now.next_copy) × (self.now.next_copy < 2 ^ 64)) }
+    pub fn next_from(&self, id: u64) -> Option<FlyingView<'_>>
+        ensures some { IfSome result (λ f. from_id self.now.flying id ≡ flying_seen f ∷ from_id self.now.flying (f.id + 1)) }
+        ensures below { IfSome result (λ f. (id ≤ f.id) × (f.id < self.now.next_copy) × (self.now.next_copy < 2 ^ 64)) }
         ensures none { IfNone result (from_id self.now.flying id ≡ []) }
     {
         let place = id.saturating_sub(self.first) as usize;
@@ -139,7 +155,7 @@ impl Copies {
     }
 
     /// Takes the copy of this id.
-    pub fn take(&mut self, id: u64) -> Option<Flying>
+    pub fn take(&mut self, id: u64, _room: Room) -> Option<Flying>
         ensures taken { result ≡ find_copy self.old.flying id }
         ensures others { self.new ≡ record self.old { flying = without self.old.flying id } }
     {

@@ -3,6 +3,8 @@ ghost use Rattle.std.specs.Prelude.{◌≡◌, ◌≢◌, ◌<◌, ◌≤◌, �
 ghost use Rattle.std.specs.Bool.{OnTrue, OnFalse};
 ghost use Rattle.std.specs.List.{AllByRecursion};
 ghost use Rattle.std.specs.FinSet as sets;
+ghost use Rattle.mesh_base.specs.Views.{flying_seen};
+ghost use Rattle.mesh_base.specs.declared.events.Flying.{Flying};
 ghost use Rattle.mesh_model.specs.Worlds.{are_linked, linked_below, members_below};
 ghost use Rattle.mesh_radio.specs.Copies.{find_copy, from_id, AreNumbered, IsBetween};
 ghost use Rattle.mesh_radio.specs.Radios.{opening, with_link, without_link, with_copies, without_copy, receivers};
@@ -10,7 +12,7 @@ ghost use Rattle.mesh_radio.specs.Kept.{with_flights};
 
 use crate::adjacency::Adjacency;
 use crate::copies::Copies;
-use mesh_base::{Air, Flying, NoMemory, NodeSet, Packet};
+use mesh_base::{Air, Flying, FlyingView, NoMemory, NodeSet, Packet, Room};
 use std::alloc::Global;
 use std::marker::Model;
 
@@ -135,20 +137,21 @@ impl Radio {
         Air { first, to: *to }
     }
 
-    /// Takes the copy of this id out of the air. None where no copy in flight has it.
-    pub fn take(&mut self, id: u64) -> Option<Flying>
+    /// Takes the copy of this id out of the air, its bytes in this room's memory. None where no copy in
+    /// flight has it.
+    pub fn take(&mut self, id: u64, room: Room) -> Option<Flying>
+        requires fits { (f : Flying) → find_copy self.old.flying id ≡ Some f → length f.bytes ≤ room }
         ensures taken { result ≡ find_copy self.old.flying id }
         ensures others { self.new ≡ without_copy self.old id }
     {
-        self.copies.take(id)
+        self.copies.take(id, room)
     }
 
-    /// The receiver of the copy of this id. None where no copy in flight has it.
-    pub fn find(&self, id: u64) -> Option<usize>
-        ensures { result ≡ option_map (λ c. c.to) (find_copy self.now.flying id) }
+    /// The copy of this id, which flies on. None where no copy in flight has it.
+    pub fn find(&self, id: u64) -> Option<FlyingView<'_>>
+        ensures { option_map flying_seen result ≡ find_copy self.now.flying id }
     {
-        let flying = self.copies.get(id)?;
-        Some(flying.to)
+        self.copies.get(id)
     }
 
     /// How many copies are in flight.
@@ -162,9 +165,9 @@ impl Radio {
 
     /// The copy in flight of the least id from this one on: all copies come one after the other where
     /// each is asked for by the id after the last.
-    pub fn next_from(&self, id: u64) -> Option<&Flying>
-        ensures some { IfSome result (λ f. from_id self.now.flying id ≡ f.now ∷ from_id self.now.flying (f.now.id + 1)) }
-        ensures within { IfSome result (λ f. (id ≤ f.now.id) × (f.now.id < self.now.next_copy) × (self.now.next_copy < 2 ^ 64) × IsBetween self.now.size f.now) }
+    pub fn next_from(&self, id: u64) -> Option<FlyingView<'_>>
+        ensures some { IfSome result (λ f. from_id self.now.flying id ≡ flying_seen f ∷ from_id self.now.flying (f.id + 1)) }
+        ensures within { IfSome result (λ f. (id ≤ f.id) × (f.id < self.now.next_copy) × (self.now.next_copy < 2 ^ 64) × IsBetween self.now.size (flying_seen f)) }
         ensures none { IfNone result (from_id self.now.flying id ≡ []) }
     {
         self.copies.next_from(id)
@@ -222,13 +225,17 @@ mod tests {
         assert!(rt; radio.cut(0, 1));
         assert!(rt; radio.stood(1, 0));
         assert_eq!(rt; radio.count(), 2);
-        assert_eq!(rt; radio.find(1), Some(1));
-        let Some(last) = radio.take(2) else {
+        let Some(found) = radio.find(2) else {
             return Err(Fail::new("no copy 2"));
+        };
+        assert_eq!(rt; found.from, 0);
+        let room = Room::new(rt.alloc(), found.bytes.len())?;
+        let Some(last) = radio.take(2, room) else {
+            return Err(Fail::new("copy 2 is not taken"));
         };
         assert_eq!(rt; last.to, 2);
         assert_eq!(rt; last.bytes.as_slice(), b"hi".as_slice());
-        assert!(rt; radio.take(2).is_none());
+        assert!(rt; radio.find(2).is_none());
         assert_eq!(rt; radio.first_id(), Some(1));
         assert!(rt; radio.next_from(2).is_none());
         assert_eq!(rt; radio.next_id(), 3);

@@ -1,5 +1,6 @@
 use Rattle.std.proofs.Common.{subst, ◌∷◌, ◌≡◌, ◌≤◌, ◌<◌, [], ◌+◌, ◌^◌}
 use Rattle.std.specs.Prelude.{IfSome, IfNone}
+use Rattle.mesh_base.specs.Views.{flying_seen}
 use Rattle.mesh_radio.specs.Copies.{from_id}
 use Rattle.mesh_radio.specs.Kept.{Flights}
 use Rattle.mesh_radio.proofs.Numbered.{next_some, next_below, next_none}
@@ -7,12 +8,12 @@ use Rattle.mesh_radio.proofs.copies.Copies.next_from.Goals as goal
 
 pub returns-clause-some : goal.returns-clause-some
 returns-clause-some c =
-    subst (λ (v : Flights). IfSome c.copy_from.result (λ f. from_id v.flying c.args.id ≡ f.now ∷ from_id v.flying (f.now.id + 1))) c.self.view_is
+    subst (λ (v : Flights). IfSome c.copy_from.result (λ f. from_id v.flying c.args.id ≡ flying_seen f ∷ from_id v.flying (f.id + 1))) c.self.view_is
     (next_some c.self.inside.slots.items c.self.inside.first c.args.id c.saturating_sub-place.result c.copy_from.result c.self.invariant.0.numbered c.saturating_sub-place.ensures c.copy_from.ensures.some)
 
 pub returns-clause-below : goal.returns-clause-below
 returns-clause-below c =
-    subst (λ (v : Flights). IfSome c.copy_from.result (λ f. (c.args.id ≤ f.now.id) × (f.now.id < v.next_copy) × (v.next_copy < 2 ^ 64))) c.self.view_is
+    subst (λ (v : Flights). IfSome c.copy_from.result (λ f. (c.args.id ≤ f.id) × (f.id < v.next_copy) × (v.next_copy < 2 ^ 64))) c.self.view_is
     (next_below c.self.inside.slots.items c.self.inside.first c.args.id c.saturating_sub-place.result c.copy_from.result c.self.invariant.0.numbered c.self.invariant.0.ids.1 c.saturating_sub-place.ensures c.copy_from.ensures.some)
 
 pub returns-clause-none : goal.returns-clause-none
