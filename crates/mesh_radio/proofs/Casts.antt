@@ -121,3 +121,7 @@ cast-between size a from bytes n s all lt below apart =
     all-append (IsBetween size) a.flying (copies_to (members_below n s) a.next_copy from bytes) all
     (copies-between size (members_below n s) a.next_copy from bytes lt
     (members-all (λ q. (q < size) × (from ≢ q)) n s (λ q is. (below q is, λ e. let same : contains s from ≡ contains s q = ap (contains s) e in cc))))
+
+pub copies_to-length : (tos : List ℕ) (id from : ℕ) (bytes : List ℕ) → length (copies_to tos id from bytes) ≡ length tos
+copies_to-length [] id from bytes = refl
+copies_to-length (to ∷ tos) id from bytes = let rest = copies_to-length tos (id + 1) from bytes in omega arith

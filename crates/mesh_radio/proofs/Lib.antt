@@ -3,3 +3,4 @@ pub mod Graphs
 pub mod Finds
 pub mod Casts
 pub mod Numbered
+pub mod Opened

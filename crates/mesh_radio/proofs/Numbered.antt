@@ -1,5 +1,5 @@
 -- The slots of copies in flight: which copies they have, and which after one comes or goes.
-use Rattle.std.proofs.Common.{◌≡◌, ◌≢◌, ℕ, zero, suc, ◌+◌, ◌-◌, ◌^◌, ◌<◌, ◌≤◌, ◌⊎◌, inl, inr, true, false, eqb, leb, List, [], ◌∷◌, ◌++◌, length, drop, get_or, Option, Some, None, refl, sym, ap, subst, ◌∙◌, arith, All, eq-eqb}
+use Rattle.std.proofs.Common.{◌≡◌, ◌≢◌, ℕ, zero, suc, ◌+◌, ◌-◌, ◌^◌, ◌<◌, ◌≤◌, ◌⊎◌, inl, inr, true, false, eqb, leb, List, [], ◌∷◌, length, drop, get_or, Option, Some, None, refl, sym, ap, subst, ◌∙◌, arith, All, eq-eqb}
 use Rattle.std.specs.Prelude.{slice_get, slice_set, IfSome, IfNone}
 use Rattle.std.proofs.lemmas.Bool.{ne_eqb, le-leb, lt-leb, cases_lt}
 use Rattle.std.proofs.lemmas.Option.{same_Some, slice_get_within}
@@ -7,7 +7,7 @@ use Rattle.mesh_base.specs.Views.{flying_seen}
 use Rattle.mesh_base.specs.declared.events.Flying.{Flying}
 use Rattle.mesh_base.specs.declared.events.FlyingView.{FlyingView}
 use Rattle.mesh_radio.specs.Copies.{find_copy, without, from_id, AreNumbered}
-use Rattle.mesh_radio.specs.Kept.{copies_in, AreSlots}
+use Rattle.mesh_radio.specs.Kept.{copies_in, AreSlots, IsNextAt}
 use Rattle.mesh_radio.proofs.Finds.{absent}
 
 abbrev Slots : Type 0
@@ -88,38 +88,11 @@ one_less (Some d ∷ slots) zero c e = omega arith
 one_less (None ∷ slots) (suc k) c e = one_less slots k c e
 one_less (Some d ∷ slots) (suc k) c e = let rest = one_less slots k c e in omega arith
 
-pub slots_set : (slots : Slots) (first k : ℕ) → AreSlots first slots → AreSlots first (slice_set slots k None)
-slots_set [] first zero are = are
-slots_set [] first (suc k) are = are
-slots_set (None ∷ slots) first zero are = are
-slots_set (Some d ∷ slots) first zero are = are.1
-slots_set (None ∷ slots) first (suc k) are = slots_set slots (first + 1) k are
-slots_set (Some d ∷ slots) first (suc k) are = (are.0, slots_set slots (first + 1) k are.1)
-
--- an empty slot is emptied
-pub set_empty : (slots : Slots) (k : ℕ) → slice_get slots k ≡ Some None → slice_set slots k None ≡ slots
-set_empty [] zero e = refl
-set_empty [] (suc k) e = refl
-set_empty (o ∷ slots) zero e = ap (λ (p : Option Flying). p ∷ slots) (sym (same_Some o None e))
-set_empty (o ∷ slots) (suc k) e = ap (λ (os : Slots). o ∷ os) (set_empty slots k e)
-
--- ---- a copy that comes
-
 -- there are no more copies than slots
 pub few_copies : (slots : Slots) → length (copies_in slots) ≤ length slots
 few_copies [] = omega arith
 few_copies (None ∷ slots) = let rest = few_copies slots in omega arith
 few_copies (Some d ∷ slots) = let rest = few_copies slots in omega arith
-
-pub copies_push : (slots : Slots) (c : Flying) → copies_in (slots ++ Some c ∷ []) ≡ copies_in slots ++ c ∷ []
-copies_push [] c = refl
-copies_push (None ∷ slots) c = copies_push slots c
-copies_push (Some d ∷ slots) c = ap (λ (cs : List Flying). d ∷ cs) (copies_push slots c)
-
-pub slots_push : (slots : Slots) (first : ℕ) (c : Flying) → AreSlots first slots → c.id ≡ first + length slots → AreSlots first (slots ++ Some c ∷ [])
-slots_push [] first c are is = (omega arith, tt)
-slots_push (None ∷ slots) first c are is = slots_push slots (first + 1) c are (omega arith)
-slots_push (Some d ∷ slots) first c are is = (are.0, slots_push slots (first + 1) c are.1 (omega arith))
 
 -- ---- the copies from an id on
 
@@ -171,10 +144,6 @@ drop_past (o ∷ slots) zero le = absurd (omega arith)
 drop_past (o ∷ slots) (suc k) le = drop_past slots k (omega arith)
 
 -- ---- what a walk over the slots tells
-
--- the copy in the k-th slot is the first from this place on
-abbrev pub IsNextAt : Slots → ℕ → Flying → Type 0
-IsNextAt slots place c = (k : ℕ) × (slice_get slots k ≡ Some (Some c)) × (place ≤ k) × (copies_in (drop place slots) ≡ c ∷ copies_in (drop (k + 1) slots))
 
 pub next_some : (slots : Slots) (first id place : ℕ) (r : Option FlyingView) → AreSlots first slots → place ≡ id - first → IfSome r (λ f. IsNextAt slots place (flying_seen f))
     → IfSome r (λ f. from_id (copies_in slots) id ≡ flying_seen f ∷ from_id (copies_in slots) (f.id + 1))

@@ -1,10 +1,12 @@
 -- How the code keeps a graph, the copies in flight and memory for more. No public contract cites this file.
-use Rattle.std.specs.Prelude.{◌≡◌, ℕ, zero, suc, ◌+◌, ◌-◌, ◌^◌, ◌<◌, ◌≤◌, ◌⊎◌, false, if◌then◌else◌, Option, Some, None, List, [], ◌∷◌, ◌++◌, length, unwrap_or, slice_get, ⊤, refl}
+use Rattle.std.specs.Prelude.{◌≡◌, ℕ, zero, suc, ◌+◌, ◌-◌, ◌^◌, ◌<◌, ◌≤◌, ◌⊎◌, false, if◌then◌else◌, Option, Some, None, List, [], ◌∷◌, ◌++◌, length, drop, unwrap_or, slice_get, ⊤, refl}
 use Rattle.std.specs.List.{AllByRecursion}
 use Rattle.std.specs.Coded.{Coded, code_by, coded×, coded_ℕ, coded_list}
 use Rattle.std.specs.FinSet as sets
 use Rattle.mesh_base.specs.Members.{NodeIds}
 use Rattle.mesh_base.specs.declared.events.Flying.{Flying}
+use Rattle.mesh_radio.specs.declared.copies.Slot.{Slot}
+use Rattle.mesh_radio.specs.declared.copies.Sent.{Sent}
 use Rattle.aodv_model.specs.Pairs.{Pairs}
 use Rattle.aodv_model.specs.Codes.{pairs_code}
 use Rattle.mesh_radio.specs.Copies.{copies_to, IsBetween}
@@ -61,11 +63,47 @@ AreSlots id [] = ⊤
 AreSlots id (None ∷ slots) = AreSlots (id + 1) slots
 AreSlots id (Some c ∷ slots) = (c.id ≡ id) × AreSlots (id + 1) slots
 
--- slots from id `first` on, with `count` copies in all
-pub record AreKept (slots : List (Option Flying)) (first count : ℕ) : Type 0 where
-  pub numbered : AreSlots first slots
+-- the copy c is in the k-th slot, and is the first from this place on
+abbrev pub IsNextAt : List (Option Flying) → ℕ → Flying → Type 0
+IsNextAt slots place c = (k : ℕ) × (slice_get slots k ≡ Some (Some c)) × (place ≤ k) × (copies_in (drop place slots) ≡ c ∷ copies_in (drop (k + 1) slots))
+
+-- ---- packets that copies share, with numbers from `gone` on
+
+-- the copy of that id and that packet
+abbrev pub copy_with : ℕ → ℕ → Option Sent → Option Flying
+copy_with id to None = None
+copy_with id to (Some p) = Some (record { id = id; from = p.from; to = to; bytes = p.bytes })
+
+-- the copy that the slot of that id has
+abbrev pub copy_at : List Sent → ℕ → ℕ → ℕ → Option ℕ → Option Flying
+copy_at packets gone id n None = None
+copy_at packets gone id n (Some to) = copy_with id to (slice_get packets (n - gone))
+
+-- the copies that the slots from that id on have
+abbrev pub opened : List Sent → ℕ → ℕ → List Slot → List (Option Flying)
+opened packets gone id [] = []
+opened packets gone id (s ∷ slots) = copy_at packets gone id s.packet s.to ∷ opened packets gone (id + 1) slots
+
+-- where the slot of that id has a copy, its packet is there, until all its ids are past
+abbrev pub IsHeld : List Sent → ℕ → ℕ → ℕ → Option ℕ → Type 0
+IsHeld packets gone id n None = ⊤
+IsHeld packets gone id n (Some to) = (p : Sent) × (slice_get packets (n - gone) ≡ Some p) × (gone ≤ n) × (id < p.end)
+
+abbrev pub AreHeld : List Sent → ℕ → ℕ → List Slot → Type 0
+AreHeld packets gone id [] = ⊤
+AreHeld packets gone id (s ∷ slots) = IsHeld packets gone id s.packet s.to × AreHeld packets gone (id + 1) slots
+
+-- a slot for each of these receivers
+abbrev pub slots_to : ℕ → List ℕ → List Slot
+slots_to n [] = []
+slots_to n (to ∷ tos) = record { packet = n; to = Some to } ∷ slots_to n tos
+
+-- slots from id `first` on, with `count` copies in all, and their packets
+pub record AreKept (packets : List Sent) (gone : ℕ) (slots : List Slot) (first count : ℕ) : Type 0 where
+  pub held : AreHeld packets gone first slots
   pub ids : (1 ≤ first) × (first + length slots < 2 ^ 64)
-  pub counted : count ≡ length (copies_in slots)
+  pub numbers : gone + length packets < first + length slots
+  pub counted : count ≡ length (copies_in (opened packets gone first slots))
 
 -- of slots from id `first` on, so many, the k-th is that of this id, or none is
 abbrev pub IsPlaceOf : ℕ → ℕ → ℕ → Option ℕ → Type 0

@@ -5,10 +5,9 @@ ghost use Rattle.std.specs.List.{AllByRecursion};
 ghost use Rattle.std.specs.FinSet as sets;
 ghost use Rattle.mesh_base.specs.Views.{flying_seen};
 ghost use Rattle.mesh_base.specs.declared.events.Flying.{Flying};
-ghost use Rattle.mesh_model.specs.Worlds.{are_linked, linked_below, members_below};
+ghost use Rattle.mesh_model.specs.Worlds.{are_linked, linked_below};
 ghost use Rattle.mesh_radio.specs.Copies.{find_copy, from_id, AreNumbered, IsBetween};
 ghost use Rattle.mesh_radio.specs.Radios.{opening, with_link, without_link, with_copies, without_copy, receivers};
-ghost use Rattle.mesh_radio.specs.Kept.{with_flights};
 
 use crate::adjacency::Adjacency;
 use crate::copies::Copies;
@@ -133,7 +132,7 @@ impl Radio {
         ensures air { result ≡ record { first = self.old.next_copy; to = to.now } }
     {
         let first = self.copies.next_id();
-        cast_from(&mut self.copies, from, packet.as_slice(), to);
+        self.copies.cast(from, packet.as_slice(), to);
         Air { first, to: *to }
     }
 
@@ -186,20 +185,6 @@ impl Radio {
     {
         let first = self.copies.next_from(0)?;
         Some(first.id)
-    }
-}
-
-// One copy to each member, by rising member.
-fn cast_from(copies: &mut Copies, from: usize, bytes: &[u8], to: &NodeSet)
-    requires room { length (members_below 256 to.now) ≤ copies.old.room }
-    requires fits { length bytes.now ≤ copies.old.most }
-    requires next { copies.old.next_copy + length (members_below 256 to.now) < 2 ^ 64 }
-    ensures { copies.new ≡ with_flights copies.old from bytes.now (members_below 256 to.now) }
-{
-    let mut start = 0;
-    while let Some(receiver) = to.next_from(start) {
-        copies.send(from, receiver, bytes);
-        start = receiver + 1;
     }
 }
 

@@ -64,14 +64,14 @@ impl Rooms {
         Ok(())
     }
 
-    /// The bytes, in the memory of one room.
-    pub fn fill(&mut self, bytes: &[u8]) -> Bytes
-        requires room { 0 < self.old.room }
+    /// The bytes of a packet of which this many copies fly, in the memory of one room.
+    pub fn fill(&mut self, bytes: &[u8], copies: usize) -> Bytes
+        requires room { (1 ≤ copies) × (copies ≤ self.old.room) }
         requires fits { length bytes.now ≤ self.old.most }
         ensures bytes { result ≡ bytes.now }
-        ensures room { self.new ≡ record self.old { room = self.old.room - 1 } }
+        ensures room { self.new ≡ record self.old { room = self.old.room - copies } }
     {
-        self.ready -= 1;
+        self.ready -= copies;
         if let Some(own) = Bytes::short(bytes) {
             return own;
         }

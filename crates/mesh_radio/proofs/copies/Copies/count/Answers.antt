@@ -1,10 +1,17 @@
-use Rattle.std.proofs.Common.{subst}
+use Rattle.std.proofs.Common.{◌+◌, ap, subst}
 use Rattle.mesh_radio.specs.Copies.{AreNumbered}
-use Rattle.mesh_radio.specs.Kept.{Flights}
+use Rattle.mesh_radio.specs.Kept.{Flights, copies_in, opened}
 use Rattle.mesh_radio.proofs.Numbered.{numbered}
+use Rattle.mesh_radio.proofs.Opened.{opened_slots, opened_length}
 use Rattle.mesh_radio.proofs.copies.Copies.count.Goals as goal
 
 pub returns-clause-numbered : goal.returns-clause-numbered
 returns-clause-numbered c =
     let kept = c.self.invariant.0 in
-    subst (λ (v : Flights). AreNumbered 1 v.flying v.next_copy) c.self.view_is (numbered c.self.inside.slots.items c.self.inside.first 1 kept.ids.0 kept.numbered)
+    let packets = c.self.inside.packets.items in
+    let gone = c.self.inside.gone in
+    let first = c.self.inside.first in
+    let slots = c.self.inside.slots.items in
+    let all = opened packets gone first slots in
+    subst (λ (v : Flights). AreNumbered 1 v.flying v.next_copy) c.self.view_is
+    (subst (AreNumbered 1 (copies_in all)) (ap (λ n. first + n) (opened_length packets gone first slots)) (numbered all first 1 kept.ids.0 (opened_slots packets gone first slots)))

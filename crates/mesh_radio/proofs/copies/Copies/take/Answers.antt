@@ -1,103 +1,163 @@
-use Rattle.std.proofs.Common.{◌≡◌, rules, deque_len, ◌+◌, length, ap, subst, sym, refl, arith, ◌∙◌, Some, None}
-use Rattle.std.specs.Prelude.{slice_set}
+use Rattle.std.proofs.Common.{◌≡◌, ◌+◌, rules, length, deque_len, ap, sym, refl, arith, ◌∙◌, Some, None}
+use Rattle.std.specs.Prelude.{slice_set, option_map}
 use Rattle.std.proofs.lemmas.Option.{slice_get_read}
 use Rattle.std.proofs.lemmas.List.{length-set}
+use Rattle.mesh_base.specs.Views.{flying_seen}
 use Rattle.mesh_radio.specs.Copies.{find_copy, without}
-use Rattle.mesh_radio.specs.Kept.{Flights, AreSlots, copies_in}
+use Rattle.mesh_radio.specs.Kept.{Flights, copies_in, opened}
 use Rattle.mesh_radio.proofs.Finds.{absent, without_none}
-use Rattle.mesh_radio.proofs.Numbered.{found_in, taken_in, one_less, slots_set, set_empty, outside}
+use Rattle.mesh_radio.proofs.Numbered.{found_in, taken_in, one_less, outside}
+use Rattle.mesh_radio.proofs.Opened.{opened_slots, opened_at, opened_set, held_at, held_set, past_opened}
 use Rattle.mesh_radio.proofs.copies.Copies.take.Goals as goal
-
-pub returns-in_err-flying-clause-taken : goal.returns-in_err-flying-clause-taken
-returns-in_err-flying-clause-taken c =
-    let slots = c.self.inside.slots.items in
-    let place = c.in_ok-place.ensures in
-    let at = slice_get_read slots (length slots) c.in_ok-place.place c.index_mut.result.now refl place.0 c.index_mut.ensures.value in
-    c.from_residual-in_err-flying.ensures ∙ sym c.in_err-flying.was ∙ c.take.ensures.value
-    ∙ sym (found_in slots c.self.inside.first c.in_ok-place.place c.args.id c.index_mut.result.now c.self.invariant.0.numbered at place.1)
-    ∙ ap (λ (v : Flights). find_copy v.flying c.args.id) c.self.view_is
-
-pub returns-in_err-flying-clause-others : goal.returns-in_err-flying-clause-others
-returns-in_err-flying-clause-others c =
-    let slots = c.self.inside.slots.items in
-    let first = c.self.inside.first in
-    let k = c.in_ok-place.place in
-    let place = c.in_ok-place.ensures in
-    let inside = c.self.inside in
-    let at = slice_get_read slots (length slots) k c.index_mut.result.now refl place.0 c.index_mut.ensures.value ∙ ap Some (sym c.take.ensures.value ∙ c.in_err-flying.was) in
-    let same : slice_set slots k c.take.new.self ≡ slots = ap (slice_set slots k) c.take.ensures.after ∙ set_empty slots k at in
-    let none : find_copy (copies_in slots) c.args.id ≡ None = found_in slots first k c.args.id None c.self.invariant.0.numbered at place.1 in
-    (λ i. record { flying = copies_in (same i); next_copy = first + length (same i); room = inside.rooms.room; most = inside.rooms.most })
-    ∙ (λ i. record { flying = sym (without_none (copies_in slots) c.args.id none) i; next_copy = first + length slots; room = inside.rooms.room; most = inside.rooms.most })
-    ∙ ap (λ (v : Flights). record v { flying = without v.flying c.args.id }) c.self.view_is
 
 pub returns-in_err-place-clause-taken : goal.returns-in_err-place-clause-taken
 returns-in_err-place-clause-taken c =
-    let slots = c.self.inside.slots.items in
-    c.from_residual.ensures
-    ∙ sym (absent (copies_in slots) c.args.id (outside slots c.self.inside.first c.args.id c.self.invariant.0.numbered c.in_err-place.ensures)).0
-    ∙ ap (λ (v : Flights). find_copy v.flying c.args.id) c.self.view_is
+    let inside = c.self.inside in
+    let slots = inside.slots.items in
+    let all = opened inside.packets.items inside.gone inside.first slots in
+    let out = outside all inside.first c.args.id (opened_slots inside.packets.items inside.gone inside.first slots) (past_opened inside.packets.items inside.gone inside.first c.args.id slots c.in_err-place.ensures) in
+    c.from_residual.ensures ∙ sym (absent (copies_in all) c.args.id out).0 ∙ ap (λ (v : Flights). find_copy v.flying c.args.id) c.self.view_is
 
 pub returns-in_err-place-clause-others : goal.returns-in_err-place-clause-others
 returns-in_err-place-clause-others c =
-    let slots = c.self.inside.slots.items in
+    let inside = c.self.inside in
+    let slots = inside.slots.items in
+    let all = opened inside.packets.items inside.gone inside.first slots in
+    let out = outside all inside.first c.args.id (opened_slots inside.packets.items inside.gone inside.first slots) (past_opened inside.packets.items inside.gone inside.first c.args.id slots c.in_err-place.ensures) in
     let now : Flights = c.args.self.now in
     let same = ap (λ (v : Flights). v.flying) c.self.view_is in
-    let gone = sym (absent (copies_in slots) c.args.id (outside slots c.self.inside.first c.args.id c.self.invariant.0.numbered c.in_err-place.ensures)).1 in
-    let flying : now.flying ≡ without now.flying c.args.id = sym same ∙ gone ∙ ap (λ fs. without fs c.args.id) same in
+    let flying : now.flying ≡ without now.flying c.args.id = sym same ∙ sym (absent (copies_in all) c.args.id out).1 ∙ ap (λ fs. without fs c.args.id) same in
     (λ i. record now { flying = flying i })
+
+pub copy_at-requires : goal.copy_at-requires
+copy_at-requires c =
+    let inside = c.self.inside in
+    let slots = inside.slots.items in
+    let place = c.in_ok-place.ensures in
+    let at = slice_get_read slots (length slots) c.in_ok-place.place c.index-slot.result.now refl place.0 c.index-slot.ensures in
+    held_at inside.packets.items inside.gone inside.first c.args.id c.in_ok-place.place slots c.index-slot.result.now c.self.invariant.0.held at place.1
+
+pub returns-in_err-found-clause-taken : goal.returns-in_err-found-clause-taken
+returns-in_err-found-clause-taken c =
+    let inside = c.self.inside in
+    let slots = inside.slots.items in
+    let all = opened inside.packets.items inside.gone inside.first slots in
+    let place = c.in_ok-place.ensures in
+    let at = slice_get_read slots (length slots) c.in_ok-place.place c.index-slot.result.now refl place.0 c.index-slot.ensures in
+    let copy = opened_at inside.packets.items inside.gone inside.first c.args.id c.in_ok-place.place slots c.index-slot.result.now at place.1 in
+    let none = ap (option_map flying_seen) (sym c.in_err-found.was) ∙ c.copy_at.ensures in
+    c.from_residual-in_err-found.ensures ∙ none
+    ∙ sym (found_in all inside.first c.in_ok-place.place c.args.id _ (opened_slots inside.packets.items inside.gone inside.first slots) copy place.1)
+    ∙ ap (λ (v : Flights). find_copy v.flying c.args.id) c.self.view_is
+
+pub returns-in_err-found-clause-others : goal.returns-in_err-found-clause-others
+returns-in_err-found-clause-others c =
+    let inside = c.self.inside in
+    let slots = inside.slots.items in
+    let all = opened inside.packets.items inside.gone inside.first slots in
+    let place = c.in_ok-place.ensures in
+    let at = slice_get_read slots (length slots) c.in_ok-place.place c.index-slot.result.now refl place.0 c.index-slot.ensures in
+    let copy = opened_at inside.packets.items inside.gone inside.first c.args.id c.in_ok-place.place slots c.index-slot.result.now at place.1 in
+    let none = ap (option_map flying_seen) (sym c.in_err-found.was) ∙ c.copy_at.ensures in
+    let missing : find_copy (copies_in all) c.args.id ≡ None = found_in all inside.first c.in_ok-place.place c.args.id _ (opened_slots inside.packets.items inside.gone inside.first slots) copy place.1 ∙ sym none in
+    let now : Flights = c.args.self.now in
+    let same = ap (λ (v : Flights). v.flying) c.self.view_is in
+    let flying : now.flying ≡ without now.flying c.args.id = sym same ∙ sym (without_none (copies_in all) c.args.id missing) ∙ ap (λ fs. without fs c.args.id) same in
+    (λ i. record now { flying = flying i })
+
+pub fill-requires : goal.fill-requires
+fill-requires c =
+    let inside = c.self.inside in
+    let slots = inside.slots.items in
+    let all = opened inside.packets.items inside.gone inside.first slots in
+    let place = c.in_ok-place.ensures in
+    let at = slice_get_read slots (length slots) c.in_ok-place.place c.index-slot.result.now refl place.0 c.index-slot.ensures in
+    let copy = opened_at inside.packets.items inside.gone inside.first c.args.id c.in_ok-place.place slots c.index-slot.result.now at place.1 in
+    let some = ap (option_map flying_seen) (sym c.in_ok-found.was) ∙ c.copy_at.ensures in
+    c.requires.fits (flying_seen c.in_ok-found.found)
+    (sym (ap (λ (v : Flights). find_copy v.flying c.args.id) c.self.view_is)
+    ∙ found_in all inside.first c.in_ok-place.place c.args.id _ (opened_slots inside.packets.items inside.gone inside.first slots) copy place.1 ∙ sym some)
 
 pub overflow_sub-self : goal.overflow_sub-self
 overflow_sub-self c =
-    let slots = c.self.inside.slots.items in
+    let inside = c.self.inside in
+    let slots = inside.slots.items in
+    let all = opened inside.packets.items inside.gone inside.first slots in
     let place = c.in_ok-place.ensures in
-    let at = slice_get_read slots (length slots) c.in_ok-place.place c.index_mut.result.now refl place.0 c.index_mut.ensures.value ∙ ap Some (sym c.take.ensures.value ∙ c.in_ok-flying.was) in
-    omega (arith, one_less slots c.in_ok-place.place c.in_ok-flying.flying at, c.self.invariant.0.counted)
+    let at = slice_get_read slots (length slots) c.in_ok-place.place c.index-slot.result.now refl place.0 c.index-slot.ensures in
+    let some = ap (option_map flying_seen) (sym c.in_ok-found.was) ∙ c.copy_at.ensures in
+    let copy = opened_at inside.packets.items inside.gone inside.first c.args.id c.in_ok-place.place slots c.index-slot.result.now at place.1 ∙ ap Some (sym some) in
+    omega (arith, one_less all c.in_ok-place.place (flying_seen c.in_ok-found.found) copy, c.self.invariant.0.counted)
 
-pub trim-self-inside-requires-clause-slots : goal.trim-self-inside-requires-clause-slots
-trim-self-inside-requires-clause-slots c =
-    let slots = c.self.inside.slots.items in
-    let first = c.self.inside.first in
-    subst (λ o. AreSlots first (slice_set slots c.in_ok-place.place o)) (sym c.take.ensures.after) (slots_set slots first c.in_ok-place.place c.self.invariant.0.numbered)
-
-pub invariant_of-self-2 : goal.invariant_of-self-2
-invariant_of-self-2 c =
-    let slots = c.self.inside.slots.items in
+pub invariant_of-self : goal.invariant_of-self
+invariant_of-self c =
+    let inside = c.self.inside in
     let k = c.in_ok-place.place in
+    let packets = inside.packets.items in
+    let gone = inside.gone in
+    let first = inside.first in
+    let slots = inside.slots.items in
     let kept = c.self.invariant.0 in
+    let all = opened packets gone first slots in
     let place = c.in_ok-place.ensures in
-    let at = slice_get_read slots (length slots) k c.index_mut.result.now refl place.0 c.index_mut.ensures.value ∙ ap Some (sym c.take.ensures.value ∙ c.in_ok-flying.was) in
-    let empty : slice_set slots k c.take.new.self ≡ slice_set slots k None = ap (slice_set slots k) c.take.ensures.after in
-    let trim = c.trim-self-inside.ensures in
-    let long : deque_len c.trim-self-inside.new.slots ≡ length c.trim-self-inside.new.slots.items = search rules in
-    let was : deque_len c.self.inside.slots ≡ length slots = search rules in
-    let size = length-set slots k c.take.new.self in (
+    let at = slice_get_read slots (length slots) k c.index-slot.result.now refl place.0 c.index-slot.ensures in
+    let some = ap (option_map flying_seen) (sym c.in_ok-found.was) ∙ c.copy_at.ensures in
+    let copy = opened_at packets gone first c.args.id k slots c.index-slot.result.now at place.1 ∙ ap Some (sym some) in
+    let n = c.index-slot.result.now.packet in
+    let emptied = slice_set slots k (record { packet = n; to = None }) in
+    let trim = c.trim_slots-self-inside.ensures in
+    let cut = c.trim_packets-self-inside.ensures in
+    let held = trim.held packets gone (held_set packets gone first k n slots kept.held) in
+    let both = cut.slots c.trim_slots-self-inside.new.slots.items held in
+    let size = length-set slots k (record { packet = n; to = None }) in
+    let long : deque_len c.trim_slots-self-inside.new.slots ≡ length c.trim_slots-self-inside.new.slots.items = search rules in
+    let was : deque_len inside.slots ≡ length slots = search rules in
+    let long2 : deque_len c.trim_packets-self-inside.new.packets ≡ length c.trim_packets-self-inside.new.packets.items = search rules in
+    let was2 : deque_len inside.packets ≡ length packets = search rules in
+    let copies = ap (λ os. length (copies_in os)) both.1 ∙ ap length (trim.copies packets gone) ∙ ap (λ os. length (copies_in os)) (opened_set packets gone first k n slots) in (
       record {
-        numbered = trim.slots;
+        held = both.0;
         ids = (omega (arith, trim.from, kept.ids.0), omega (arith, trim.next, size, kept.ids.1));
-        counted = omega (arith, ap length trim.copies, ap (λ ss. length (copies_in ss)) empty, one_less slots k c.in_ok-flying.flying at, kept.counted);
+        numbers = omega (arith, cut.next, trim.next, size, kept.numbers);
+        counted = omega (arith, copies, one_less all k (flying_seen c.in_ok-found.found) copy, kept.counted);
       },
       omega (arith, long, was, trim.from, trim.next, size, trim.capacity, c.self.invariant.1),
+      omega (arith, long2, was2, cut.next, cut.from, cut.capacity, c.self.invariant.2),
     )
 
 pub returns-clause-taken : goal.returns-clause-taken
 returns-clause-taken c =
-    let slots = c.self.inside.slots.items in
+    let inside = c.self.inside in
+    let slots = inside.slots.items in
+    let all = opened inside.packets.items inside.gone inside.first slots in
     let place = c.in_ok-place.ensures in
-    let at = slice_get_read slots (length slots) c.in_ok-place.place c.index_mut.result.now refl place.0 c.index_mut.ensures.value ∙ ap Some (sym c.take.ensures.value ∙ c.in_ok-flying.was) in
-    sym (found_in slots c.self.inside.first c.in_ok-place.place c.args.id (Some c.in_ok-flying.flying) c.self.invariant.0.numbered at place.1)
+    let at = slice_get_read slots (length slots) c.in_ok-place.place c.index-slot.result.now refl place.0 c.index-slot.ensures in
+    let copy = opened_at inside.packets.items inside.gone inside.first c.args.id c.in_ok-place.place slots c.index-slot.result.now at place.1 in
+    let some = ap (option_map flying_seen) (sym c.in_ok-found.was) ∙ c.copy_at.ensures in
+    (λ i. Some (record { id = c.in_ok-found.found.id; from = c.in_ok-found.found.from; to = c.in_ok-found.found.to; bytes = c.fill.ensures i }))
+    ∙ some
+    ∙ sym (found_in all inside.first c.in_ok-place.place c.args.id _ (opened_slots inside.packets.items inside.gone inside.first slots) copy place.1)
     ∙ ap (λ (v : Flights). find_copy v.flying c.args.id) c.self.view_is
 
 pub returns-clause-others : goal.returns-clause-others
 returns-clause-others c =
-    let slots = c.self.inside.slots.items in
-    let first = c.self.inside.first in
-    let k = c.in_ok-place.place in
     let inside = c.self.inside in
+    let k = c.in_ok-place.place in
+    let packets = inside.packets.items in
+    let gone = inside.gone in
+    let first = inside.first in
+    let slots = inside.slots.items in
+    let all = opened packets gone first slots in
     let place = c.in_ok-place.ensures in
-    let at = slice_get_read slots (length slots) k c.index_mut.result.now refl place.0 c.index_mut.ensures.value ∙ ap Some (sym c.take.ensures.value ∙ c.in_ok-flying.was) in
-    let copies : copies_in c.trim-self-inside.new.slots.items ≡ without (copies_in slots) c.args.id =
-        c.trim-self-inside.ensures.copies ∙ ap (λ o. copies_in (slice_set slots k o)) c.take.ensures.after ∙ taken_in slots first k c.args.id c.in_ok-flying.flying c.self.invariant.0.numbered at place.1 in
-    let next : c.trim-self-inside.result + length c.trim-self-inside.new.slots.items ≡ first + length slots = omega (arith, c.trim-self-inside.ensures.next, length-set slots k c.take.new.self) in
+    let at = slice_get_read slots (length slots) k c.index-slot.result.now refl place.0 c.index-slot.ensures in
+    let some = ap (option_map flying_seen) (sym c.in_ok-found.was) ∙ c.copy_at.ensures in
+    let copy = opened_at packets gone first c.args.id k slots c.index-slot.result.now at place.1 ∙ ap Some (sym some) in
+    let n = c.index-slot.result.now.packet in
+    let trim = c.trim_slots-self-inside.ensures in
+    let held = trim.held packets gone (held_set packets gone first k n slots c.self.invariant.0.held) in
+    let both = c.trim_packets-self-inside.ensures.slots c.trim_slots-self-inside.new.slots.items held in
+    let copies = ap copies_in both.1 ∙ trim.copies packets gone ∙ ap copies_in (opened_set packets gone first k n slots)
+        ∙ taken_in all first k c.args.id (flying_seen c.in_ok-found.found) (opened_slots packets gone first slots) copy place.1 in
+    let next : c.trim_slots-self-inside.result + length c.trim_slots-self-inside.new.slots.items ≡ first + length slots = omega (arith, trim.next, length-set slots k (record { packet = n; to = None })) in
     (λ i. record { flying = copies i; next_copy = next i; room = inside.rooms.room; most = inside.rooms.most })
     ∙ ap (λ (v : Flights). record v { flying = without v.flying c.args.id }) c.self.view_is

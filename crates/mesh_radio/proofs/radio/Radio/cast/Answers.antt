@@ -6,15 +6,15 @@ use Rattle.mesh_radio.specs.Kept.{Flights, with_flights, radio_of}
 use Rattle.mesh_radio.proofs.Casts.{members-size, members_few, cast-between}
 use Rattle.mesh_radio.proofs.radio.Radio.cast.Goals as goal
 
-pub cast_from-requires-clause-room : goal.cast_from-requires-clause-room
-cast_from-requires-clause-room c =
+pub cast-requires-clause-room : goal.cast-requires-clause-room
+cast-requires-clause-room c =
     let size = ap (λ (r : RadioState). r.size) c.self.view_is in
     let few = c.self.invariant.few in
     let same = ap length (members-size 256 c.args.self.now.size c.args.to.now (omega arith) c.requires.below) in
     omega (arith, c.requires.room, ap (λ (r : RadioState). r.room) c.self.view_is)
 
-pub cast_from-requires-clause-next : goal.cast_from-requires-clause-next
-cast_from-requires-clause-next c =
+pub cast-requires-clause-next : goal.cast-requires-clause-next
+cast-requires-clause-next c =
     let size = ap (λ (r : RadioState). r.size) c.self.view_is in
     let few = c.self.invariant.few in
     let same = ap length (members-size 256 c.args.self.now.size c.args.to.now (omega arith) c.requires.below) in
@@ -28,7 +28,7 @@ invariant_of-self c =
     record {
       few = c.self.invariant.few;
       same = c.self.invariant.same;
-      between = subst (λ (v : Flights). AllByRecursion (IsBetween n) v.flying) (sym c.cast_from.ensures)
+      between = subst (λ (v : Flights). AllByRecursion (IsBetween n) v.flying) (sym c.cast.ensures)
           (cast-between n c.self.inside.copies c.args.from c.as_slice.result.now 256 c.args.to.now c.self.invariant.between (omega (arith, c.requires.from)) (λ q is. let lt = c.requires.below q is in omega arith) c.requires.apart);
     }
 
@@ -39,7 +39,7 @@ returns-clause-copies c =
     let n = c.self.inside.links.size in
     let same = members-size 256 n c.args.to.now (omega arith) (λ q is. let lt = c.requires.below q is in omega arith) in
     let bytes : c.as_slice.result.now ≡ c.args.packet.now.items = c.as_slice.ensures.value in
-    ap (radio_of c.self.inside.links c.self.inside.ever) (c.cast_from.ensures
+    ap (radio_of c.self.inside.links c.self.inside.ever) (c.cast.ensures
     ∙ (λ i. with_flights c.self.inside.copies c.args.from (bytes i) (same i)))
     ∙ ap (λ (r : RadioState). with_copies r c.args.from c.args.packet.now.items c.args.to.now) c.self.view_is
 
@@ -47,7 +47,7 @@ pub returns-clause-few : goal.returns-clause-few
 returns-clause-few c =
     let size = ap (λ (r : RadioState). r.size) c.self.view_is in
     let few = c.self.invariant.few in
-    let next = ap (λ (v : Flights). v.next_copy) c.cast_from.ensures in
+    let next = ap (λ (v : Flights). v.next_copy) c.cast.ensures in
     let same = ap length (members-size 256 c.args.self.now.size c.args.to.now (omega arith) c.requires.below) in
     let most = members_few c.args.self.now.size c.args.to.now in
     omega (arith, ap (λ (r : RadioState). r.next_copy) c.self.view_is)
