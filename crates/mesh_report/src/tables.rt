@@ -2,6 +2,7 @@
 ghost use Rattle.std.specs.Prelude.{◌≡◌, ◌+◌, ◌*◌, ◌<◌, ◌≤◌, ◌++◌, ◌∷◌, length};
 ghost use Rattle.std.specs.Fmt.{decimal};
 ghost use Rattle.arrayvec.specs.ArrayVec.{array_vec_len};
+ghost use Rattle.mesh_base.specs.Views.{flying_seen};
 ghost use Rattle.aodv_model.specs.Soundness.{AreBelow};
 ghost use Rattle.mesh_meaning.specs.Packets.{copy_in, IsWrittenCopy};
 ghost use Rattle.mesh_text.specs.Tables.{number_line, asked_line, known_text, flag_text, entry_text, req_text, waits_line, stuck_line, flying_text};
@@ -10,7 +11,7 @@ ghost use Rattle.mesh_io.specs.Puts.{Puts};
 
 use crate::text::{push_labelled, push_one, push_packet, push_set, push_two};
 use aodv_entry::{Entry, Flag, Known};
-use mesh_base::{Flying, LineBuf, Mesh, push_number, push_text};
+use mesh_base::{FlyingView, LineBuf, Mesh, push_number, push_text};
 use mesh_io::{PutFault, Sink, put_all};
 
 // ---- a node
@@ -184,29 +185,29 @@ pub fn put_stuck<O: Sink>(
 // ---- the air
 
 // A copy in flight. A packet that is not refused has at most 2044 bytes.
-fn push_flying(out: &mut LineBuf, mesh: &Mesh, f: &Flying)
+fn push_flying(out: &mut LineBuf, mesh: &Mesh, f: &FlyingView<'_>)
     requires from { f.now.from < length mesh.now }
     requires to { f.now.to < length mesh.now }
-    requires written { IsWrittenCopy mesh.now f.now }
+    requires written { IsWrittenCopy mesh.now (flying_seen f.now) }
     requires room { array_vec_len out.old + 4149 ≤ 8192 }
-    ensures text { out.new.items ≡ out.old.items ++ flying_text mesh.now (copy_in mesh.now f.now) }
+    ensures text { out.new.items ≡ out.old.items ++ flying_text mesh.now (copy_in mesh.now (flying_seen f.now)) }
 {
     push_labelled(out, b"  copy ", f.id);
     push_two(out, b" ", mesh, f.from, f.to);
-    push_packet(out, f.bytes.as_slice());
+    push_packet(out, f.bytes);
 }
 
 /// Writes a copy in flight.
 pub fn put_flying<O: Sink>(
     mesh: &Mesh,
-    f: &Flying,
+    f: &FlyingView<'_>,
     buf: &mut LineBuf,
     out: &mut O,
 ) -> Result<(), PutFault>
     requires from { f.now.from < length mesh.now }
     requires to { f.now.to < length mesh.now }
-    requires written { IsWrittenCopy mesh.now f.now }
-    ensures text { Puts (O.held out.old) (O.held out.new) (flying_text mesh.now (copy_in mesh.now f.now)) result }
+    requires written { IsWrittenCopy mesh.now (flying_seen f.now) }
+    ensures text { Puts (O.held out.old) (O.held out.new) (flying_text mesh.now (copy_in mesh.now (flying_seen f.now))) result }
     ensures cause { HasCause (O.faults out.old) (O.faults out.new) result }
 {
     buf.clear();

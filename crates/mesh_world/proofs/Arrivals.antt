@@ -1,10 +1,12 @@
 -- What joins a queue: a datum that is given, and a copy that is delivered; and a copy that is lost.
-use Rattle.std.proofs.Common.{◌≡◌, ◌≢◌, ◌==◌, ℕ, ◌<◌, ◌+◌, ◌-◌, Bool, true, false, not, List, [], ◌∷◌, ◌++◌, map, length, Some, None, Option, Ok, refl, ap, sym, ◌∙◌, subst, arith}
+use Rattle.std.proofs.Common.{◌≡◌, ◌≢◌, ◌==◌, ℕ, ◌<◌, ◌≤◌, ◌+◌, ◌-◌, Bool, true, false, not, List, [], ◌∷◌, ◌++◌, map, length, Some, None, Option, Ok, refl, ap, sym, ◌∙◌, subst, arith}
 use Rattle.std.specs.Prelude.{slice_get, slice_set, option_map, filter, if◌then◌else◌}
 use Rattle.std.specs.List.{AllByRecursion}
 use Rattle.std.proofs.lemmas.Option.{same_Some, none-some}
 use Rattle.mesh_base.specs.Meshes.{Nodes}
+use Rattle.mesh_base.specs.Views.{flying_seen}
 use Rattle.mesh_base.specs.declared.events.Flying.{Flying}
+use Rattle.mesh_base.specs.declared.events.FlyingView.{FlyingView}
 use Rattle.mesh_base.specs.declared.events.Item as items
 use Rattle.mesh_base.specs.declared.events.Item.TheVariants as item
 use Rattle.mesh_base.specs.declared.events.Done.TheVariants as done
@@ -116,15 +118,6 @@ unfolding radios.without
 without_all P [] id all = all
 without_all P (f ∷ fs) id all = all_if P (not (f.id == id)) f (filter (λ c. not (c.id == id)) fs) all.0 (without_all P fs id all.1)
 
-none_if : (b : Bool) (f : Flying) (o : Option Flying) (fs gs : List Flying) → (if b then Some f else o) ≡ None → (o ≡ None → gs ≡ fs) → (if not b then f ∷ gs else gs) ≡ f ∷ fs
-none_if true f o fs gs e h = absurd (none-some f (sym e))
-none_if false f o fs gs e h = ap (λ zs. f ∷ zs) (h e)
-
-without_none : (fs : List Flying) (id : ℕ) → radios.find_copy fs id ≡ None → radios.without fs id ≡ fs
-unfolding radios.without
-without_none [] id e = refl
-without_none (f ∷ fs) id e = none_if (f.id == id) f (radios.find_copy fs id) fs (filter (λ c. not (c.id == id)) fs) e (without_none fs id)
-
 found_if_all : (P : Flying → Type 0) (b : Bool) (f g : Flying) (o : Option Flying) → P f → (o ≡ Some g → P g) → (if b then Some f else o) ≡ Some g → P g
 found_if_all P true f g o p h e = subst P (same_Some f g e) p
 found_if_all P false f g o p h e = h e
@@ -133,13 +126,21 @@ found_all : (P : Flying → Type 0) (fs : List Flying) (id : ℕ) (g : Flying) �
 found_all P [] id g all e = absurd (none-some g e)
 found_all P (f ∷ fs) id g all e = found_if_all P (f.id == id) f g (radios.find_copy fs id) all.0 (found_all P fs id g all.1) e
 
-found_to : (r : Option Flying) (to : ℕ) → option_map (λ c. c.to) r ≡ Some to → (f : Flying) × (r ≡ Some f) × (f.to ≡ to)
-found_to None to e = absurd (none-some to e)
-found_to (Some f) to e = (f, refl, same_Some f.to to e)
+-- the copy that is looked at is the one in flight
+abbrev pub IsFound : Option FlyingView → RadioState → ℕ → Type 0
+IsFound o radio id = option_map flying_seen o ≡ radios.find_copy radio.flying id
 
-none_found : (r : Option Flying) → option_map (λ c. c.to) r ≡ None → r ≡ None
-none_found None e = refl
-none_found (Some f) e = absurd (none-some f.to (sym e))
+found_seen : (radio : RadioState) (id : ℕ) (o : Option FlyingView) (seen : FlyingView) → IsFound o radio id → o ≡ Some seen → radios.find_copy radio.flying id ≡ Some (flying_seen seen)
+found_seen radio id o seen is some = sym is ∙ ap (option_map flying_seen) some
+
+none_seen : (radio : RadioState) (id : ℕ) (o : Option FlyingView) → IsFound o radio id → o ≡ None → radios.find_copy radio.flying id ≡ None
+none_seen radio id o is none = sym is ∙ ap (option_map flying_seen) none
+
+-- it fits a room for so many bytes
+pub seen_fits : (radio : RadioState) (id room : ℕ) (o : Option FlyingView) (seen : FlyingView) → IsFound o radio id → o ≡ Some seen → room ≡ length seen.bytes.now → (f : Flying) → radios.find_copy radio.flying id ≡ Some f → length f.bytes ≤ room
+seen_fits radio id room o seen is some size f found =
+    let same : length f.bytes ≡ length seen.bytes.now = ap (λ (g : Flying). length g.bytes) (same_Some f (flying_seen seen) (sym found ∙ found_seen radio id o seen is some)) in
+    omega arith
 
 -- what the world keeps of a copy in flight
 pub record InFlight (mesh : Nodes) (f : Flying) : Type 0 where
@@ -164,24 +165,21 @@ in_flight mesh nodes radio ready steps id f k e =
     let c : IsCopyInMesh (length mesh) (copy_in mesh f) = found_honest (IsCopyInMesh (length mesh)) w.flying id (copy_in mesh f) all (shown_found mesh nodes radio id f e) in
     record { from = c.0; to = c.1; differ = c.2; written = found_all (IsWrittenCopy mesh) radio.flying id f k.flying e; in_mesh = c.3 }
 
--- the receiver that was found is a node
-pub receiver_in : (mesh : Nodes) (nodes : List NodeSeen) (radio : RadioState) (ready : Ready) (steps id to : ℕ) (o : Option ℕ) → IsKept mesh nodes radio ready steps → o ≡ option_map (λ c. c.to) (radios.find_copy radio.flying id) → o ≡ Some to → to < length mesh
-receiver_in mesh nodes radio ready steps id to o k is some =
-    let f = found_to (radios.find_copy radio.flying id) to (sym is ∙ some) in
-    subst (λ (y : ℕ). y < length mesh) f.2 (in_flight mesh nodes radio ready steps id f.0 k f.1).to
+-- its receiver is a node
+pub receiver_in : (mesh : Nodes) (nodes : List NodeSeen) (radio : RadioState) (ready : Ready) (steps id : ℕ) (o : Option FlyingView) (seen : FlyingView) → IsKept mesh nodes radio ready steps → IsFound o radio id → o ≡ Some seen → seen.to < length mesh
+receiver_in mesh nodes radio ready steps id o seen k is some = (in_flight mesh nodes radio ready steps id (flying_seen seen) k (found_seen radio id o seen is some)).to
 
--- the copy that was taken is that whose receiver was found
+-- the copy that was taken goes to that receiver
 pub record Taken (mesh : Nodes) (radio : RadioState) (id to : ℕ) (f : Flying) : Type 0 where
   pub found : radios.find_copy radio.flying id ≡ Some f
   pub receiver : f.to ≡ to
   pub flies : InFlight mesh f
 
-pub taken : (mesh : Nodes) (nodes : List NodeSeen) (radio : RadioState) (ready : Ready) (steps id to : ℕ) (o : Option ℕ) (t : Option Flying) (f : Flying) → IsKept mesh nodes radio ready steps
-    → o ≡ option_map (λ c. c.to) (radios.find_copy radio.flying id) → o ≡ Some to → t ≡ radios.find_copy radio.flying id → t ≡ Some f → Taken mesh radio id to f
-taken mesh nodes radio ready steps id to o t f k is some t_is t_some =
+pub taken : (mesh : Nodes) (nodes : List NodeSeen) (radio : RadioState) (ready : Ready) (steps id : ℕ) (o : Option FlyingView) (seen : FlyingView) (t : Option Flying) (f : Flying) → IsKept mesh nodes radio ready steps
+    → IsFound o radio id → o ≡ Some seen → t ≡ radios.find_copy radio.flying id → t ≡ Some f → Taken mesh radio id seen.to f
+taken mesh nodes radio ready steps id o seen t f k is some t_is t_some =
     let here : radios.find_copy radio.flying id ≡ Some f = sym t_is ∙ t_some in
-    let g = found_to (radios.find_copy radio.flying id) to (sym is ∙ some) in
-    record { found = here; receiver = ap (λ (h : Flying). h.to) (same_Some f g.0 (sym here ∙ g.1)) ∙ g.2; flies = in_flight mesh nodes radio ready steps id f k here }
+    record { found = here; receiver = ap (λ (h : Flying). h.to) (same_Some f (flying_seen seen) (sym here ∙ found_seen radio id o seen is some)); flies = in_flight mesh nodes radio ready steps id f k here }
 
 shown_without : (mesh : Nodes) (nodes : List NodeSeen) (old new : RadioState) (id : ℕ) → new ≡ without_copy old id → worlds.without_copy (shown mesh nodes old) id ≡ shown mesh nodes new
 unfolding shown
@@ -220,10 +218,10 @@ deliver_done mesh nodes radio radio' ready ready' steps id to f n roomy new pack
     (subst (λ (y : ℕ). slice_get nodes y ≡ Some n → ready' ≡ noted ready y new (length mesh) → Ends (Deliver id) mesh nodes radio steps (Ok (done.Heard f.from y)) (slice_set nodes y new) radio' ready' (steps + 1) packet) t.receiver
     (λ here are. deliver_here mesh nodes radio radio' ready ready' steps id f n new packet k t.found t.flies gone here j are) at noted_is)
 
-pub deliver_idle : (mesh : Nodes) (nodes : List NodeSeen) (radio : RadioState) (ready : Ready) (steps id : ℕ) (o : Option ℕ) (packet : List ℕ) → IsKept mesh nodes radio ready steps → o ≡ option_map (λ c. c.to) (radios.find_copy radio.flying id) → o ≡ None
+pub deliver_idle : (mesh : Nodes) (nodes : List NodeSeen) (radio : RadioState) (ready : Ready) (steps id : ℕ) (o : Option FlyingView) (packet : List ℕ) → IsKept mesh nodes radio ready steps → IsFound o radio id → o ≡ None
     → Ends (Deliver id) mesh nodes radio steps (Ok done.Idle) nodes radio ready (steps + 1) packet
 deliver_idle mesh nodes radio ready steps id o packet k is none =
-    let e = none_found (radios.find_copy radio.flying id) (sym is ∙ none) in
+    let e = none_seen radio id o is none in
     ends_idle (Deliver id) mesh nodes radio ready steps nodes radio packet k (deliver_at (shown mesh nodes radio) id None (shown_none mesh nodes radio id e)) refl (later mesh nodes radio ready steps (beside mesh nodes radio ready steps k))
 
 pub lose_done : (mesh : Nodes) (nodes : List NodeSeen) (radio radio' : RadioState) (ready : Ready) (steps id : ℕ) (t : Option Flying) (f : Flying) (packet : List ℕ) → IsKept mesh nodes radio ready steps
@@ -244,13 +242,11 @@ lose_done mesh nodes radio radio' ready steps id t f packet k is some gone =
       sets = k.sets;
     })
 
-pub lose_idle : (mesh : Nodes) (nodes : List NodeSeen) (radio radio' : RadioState) (ready : Ready) (steps id : ℕ) (t : Option Flying) (packet : List ℕ) → IsKept mesh nodes radio ready steps
-    → t ≡ radios.find_copy radio.flying id → t ≡ None → radio' ≡ without_copy radio id → Ends (Lose id) mesh nodes radio steps (Ok done.Idle) nodes radio' ready (steps + 1) packet
-lose_idle mesh nodes radio radio' ready steps id t packet k is none gone =
-    let e : radios.find_copy radio.flying id ≡ None = sym is ∙ none in
-    let same : radio' ≡ radio = gone ∙ (λ i. record radio { flying = without_none radio.flying id e i }) in
-    ends_idle (Lose id) mesh nodes radio ready steps nodes radio' packet k (lose_at (shown mesh nodes radio) id None (shown_none mesh nodes radio id e)) (ap (shown mesh nodes) same)
-    (subst (λ (r : RadioState). Beside mesh nodes r ready (steps + 1)) (sym same) (later mesh nodes radio ready steps (beside mesh nodes radio ready steps k)))
+pub lose_idle : (mesh : Nodes) (nodes : List NodeSeen) (radio : RadioState) (ready : Ready) (steps id : ℕ) (o : Option FlyingView) (packet : List ℕ) → IsKept mesh nodes radio ready steps → IsFound o radio id → o ≡ None
+    → Ends (Lose id) mesh nodes radio steps (Ok done.Idle) nodes radio ready (steps + 1) packet
+lose_idle mesh nodes radio ready steps id o packet k is none =
+    let e = none_seen radio id o is none in
+    ends_idle (Lose id) mesh nodes radio ready steps nodes radio packet k (lose_at (shown mesh nodes radio) id None (shown_none mesh nodes radio id e)) refl (later mesh nodes radio ready steps (beside mesh nodes radio ready steps k))
 
 -- the receiver may hear the copy
 pub may_hear : (mesh : Nodes) (nodes : List NodeSeen) (radio : RadioState) (ready : Ready) (steps id to : ℕ) (f : Flying) (n roomy heard : NodeSeen) → IsKept mesh nodes radio ready steps → slice_get nodes to ≡ Some n → Taken mesh radio id to f

@@ -255,7 +255,6 @@ pub none_queued : 0 ≡ queued_in []
 unfolding queued_in
 none_queued = refl
 
-
 -- the nodes before the k-th are counted
 pub record IsTallied (nodes : List NodeSeen) (k waits queues : ℕ) : Type 0 where
   pub in_stores : waits ≡ sum_by waiting_at (take k nodes)

@@ -82,7 +82,7 @@ fn count_flying(radio: &Radio) -> u64
     let mut count = 0;
     let mut start = 0;
     while let Some(flying) = radio.next_from(start) {
-        if is_data(flying.bytes.as_slice()) {
+        if is_data(flying.bytes) {
             count += 1;
         }
         start = flying.id + 1;

@@ -17,4 +17,4 @@ pub returns-in-Deliver-clause-done : goal.returns-in-Deliver-clause-done
 returns-in-Deliver-clause-done c = subst (λ (e : Event). IsDoneTo (event_of e) c.args.self.now c.deliver.result c.deliver.new.self c.args.out.now.items) (sym c.in-Deliver.is) (c.deliver.ensures.done c.args.out.now.items)
 
 pub returns-in-Lose-clause-done : goal.returns-in-Lose-clause-done
-returns-in-Lose-clause-done c = subst (λ (e : Event). IsDoneTo (event_of e) c.args.self.now (Ok c.lose.result) c.lose.new.self c.args.out.now.items) (sym c.in-Lose.is) (c.lose.ensures.done c.args.out.now.items)
+returns-in-Lose-clause-done c = subst (λ (e : Event). IsDoneTo (event_of e) c.args.self.now c.lose.result c.lose.new.self c.args.out.now.items) (sym c.in-Lose.is) (c.lose.ensures.done c.args.out.now.items)
