@@ -245,7 +245,7 @@ fn put_copies<O: Sink>(
 {
     let mut start = 0;
     while let Some(flying) = radio.next_from(start) {
-        put_flying(mesh, flying, buf, out)?;
+        put_flying(mesh, &flying, buf, out)?;
         start = flying.id + 1;
     }
     Ok(())

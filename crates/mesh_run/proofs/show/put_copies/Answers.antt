@@ -1,5 +1,6 @@
 use Rattle.std.proofs.Common.{◌∙◌, Ok, Err, refl}
 use Rattle.std.proofs.lemmas.Result.{err_from_is_err_and}
+use Rattle.mesh_base.specs.Views.{flying_seen}
 use Rattle.mesh_meaning.specs.Packets.{IsWrittenCopy}
 use Rattle.mesh_run.proofs.Tables.{copies-start, copies-goes, copies-stops, copies-ends, copy_next}
 use Rattle.mesh_run.proofs.show.put_copies.Goals as goal
@@ -8,18 +9,18 @@ pub loop-flying-init : goal.loop-flying-init
 loop-flying-init g c = record { text = λ now r p. copies-start c.args.mesh.now c.args.radio.now.flying _ now r p; faults = refl }
 
 pub put_flying-requires-clause-written : goal.put_flying-requires-clause-written
-put_flying-requires-clause-written g c = copy_next (IsWrittenCopy c.args.mesh.now) c.args.radio.now.flying c.loop-flying.start c.in-Some.flying.now c.requires.written c.in-Some.ensures.some
+put_flying-requires-clause-written g c = copy_next (IsWrittenCopy c.args.mesh.now) c.args.radio.now.flying c.loop-flying.start (flying_seen c.in-Some.flying) c.requires.written c.in-Some.ensures.some
 
 pub returns-in_err-put_flying-clause-text : goal.returns-in_err-put_flying-clause-text
 returns-in_err-put_flying-clause-text g c =
     let p = err_from_is_err_and c.from_residual.result c.from_residual.ensures.1 in
     rw p.1 (c.loop-flying.invariant.text (g.O.Sink.held c.put_flying.new.out) (Err p.0)
-    (copies-stops c.args.mesh.now c.args.radio.now.flying c.loop-flying.start c.in-Some.flying.now _ _ c.in-Some.ensures.some c.in_err-put_flying.ensures.text))
+    (copies-stops c.args.mesh.now c.args.radio.now.flying c.loop-flying.start (flying_seen c.in-Some.flying) _ _ c.in-Some.ensures.some c.in_err-put_flying.ensures.text))
 
 pub loop-flying-preserved : goal.loop-flying-preserved
 loop-flying-preserved g c = record {
   text = λ now r p. c.loop-flying.invariant.text now r
-      (copies-goes c.args.mesh.now c.args.radio.now.flying c.loop-flying.start c.in-Some.flying.now (g.O.Sink.held c.loop-flying.out) (g.O.Sink.held c.put_flying.new.out) now r c.in-Some.ensures.some c.in_ok-put_flying.ensures.text p);
+      (copies-goes c.args.mesh.now c.args.radio.now.flying c.loop-flying.start (flying_seen c.in-Some.flying) (g.O.Sink.held c.loop-flying.out) (g.O.Sink.held c.put_flying.new.out) now r c.in-Some.ensures.some c.in_ok-put_flying.ensures.text p);
   faults = c.in_ok-put_flying.ensures.cause.none ∙ c.loop-flying.invariant.faults;
 }
 
