@@ -1,11 +1,10 @@
 -- How the code keeps a graph, the copies in flight and memory for more. No public contract cites this file.
-use Rattle.std.specs.Prelude.{◌≡◌, ℕ, zero, suc, ◌+◌, ◌-◌, ◌^◌, ◌<◌, ◌≤◌, ◌⊎◌, false, if◌then◌else◌, Option, Some, None, List, [], ◌∷◌, ◌++◌, length, drop, unwrap_or, slice_get, ⊤, refl}
+use Rattle.std.specs.Prelude.{◌≡◌, ℕ, zero, suc, ◌+◌, ◌-◌, ◌^◌, ◌<◌, ◌≤◌, ◌⊎◌, false, nat_lt, if◌then◌else◌, Option, Some, None, List, [], ◌∷◌, ◌++◌, length, get_or, drop, unwrap_or, slice_get, ⊤, refl}
 use Rattle.std.specs.List.{AllByRecursion}
 use Rattle.std.specs.Coded.{Coded, code_by, coded×, coded_ℕ, coded_list}
 use Rattle.std.specs.FinSet as sets
 use Rattle.mesh_base.specs.Members.{NodeIds}
 use Rattle.mesh_base.specs.declared.events.Flying.{Flying}
-use Rattle.mesh_radio.specs.declared.copies.Slot.{Slot}
 use Rattle.mesh_radio.specs.declared.copies.Sent.{Sent}
 use Rattle.aodv_model.specs.Pairs.{Pairs}
 use Rattle.aodv_model.specs.Codes.{pairs_code}
@@ -67,43 +66,47 @@ AreSlots id (Some c ∷ slots) = (c.id ≡ id) × AreSlots (id + 1) slots
 abbrev pub IsNextAt : List (Option Flying) → ℕ → Flying → Type 0
 IsNextAt slots place c = (k : ℕ) × (slice_get slots k ≡ Some (Some c)) × (place ≤ k) × (copies_in (drop place slots) ≡ c ∷ copies_in (drop (k + 1) slots))
 
--- ---- packets that copies share, with numbers from `gone` on
+-- ---- packets that copies share
+
+-- the packet of the copy of that id: the first of which the ids go beyond it
+abbrev pub packet_of : List Sent → ℕ → Option Sent
+packet_of [] id = None
+packet_of (p ∷ packets) id = if nat_lt id p.end then Some p else packet_of packets id
 
 -- the copy of that id and that packet
 abbrev pub copy_with : ℕ → ℕ → Option Sent → Option Flying
 copy_with id to None = None
 copy_with id to (Some p) = Some (record { id = id; from = p.from; to = to; bytes = p.bytes })
 
--- the copy that the slot of that id has
-abbrev pub copy_at : List Sent → ℕ → ℕ → ℕ → Option ℕ → Option Flying
-copy_at packets gone id n None = None
-copy_at packets gone id n (Some to) = copy_with id to (slice_get packets (n - gone))
+-- the copy of that id, where its slot has a receiver
+abbrev pub copy_at : List Sent → ℕ → Option ℕ → Option Flying
+copy_at packets id None = None
+copy_at packets id (Some to) = copy_with id to (packet_of packets id)
 
 -- the copies that the slots from that id on have
-abbrev pub opened : List Sent → ℕ → ℕ → List Slot → List (Option Flying)
-opened packets gone id [] = []
-opened packets gone id (s ∷ slots) = copy_at packets gone id s.packet s.to ∷ opened packets gone (id + 1) slots
+abbrev pub opened : List Sent → ℕ → List (Option ℕ) → List (Option Flying)
+opened packets id [] = []
+opened packets id (to ∷ slots) = copy_at packets id to ∷ opened packets (id + 1) slots
 
--- where the slot of that id has a copy, its packet is there, until all its ids are past
-abbrev pub IsHeld : List Sent → ℕ → ℕ → ℕ → Option ℕ → Type 0
-IsHeld packets gone id n None = ⊤
-IsHeld packets gone id n (Some to) = (p : Sent) × (slice_get packets (n - gone) ≡ Some p) × (gone ≤ n) × (id < p.end)
+-- the ids of one packet end where those of the next begin, from `low` on, and those of the last at `next`
+abbrev pub AreEnding : ℕ → List Sent → ℕ → Type 0
+AreEnding low [] next = low ≡ next
+AreEnding low (p ∷ packets) next = (low ≤ p.end) × AreEnding p.end packets next
 
-abbrev pub AreHeld : List Sent → ℕ → ℕ → List Slot → Type 0
-AreHeld packets gone id [] = ⊤
-AreHeld packets gone id (s ∷ slots) = IsHeld packets gone id s.packet s.to × AreHeld packets gone (id + 1) slots
+-- the ids of the first k packets end by that id
+abbrev pub HaveEnded : List Sent → ℕ → ℕ → Type 0
+HaveEnded packets id k = (j : ℕ) (d : Sent) → j < k → (get_or packets j d).end ≤ id
 
 -- a slot for each of these receivers
-abbrev pub slots_to : ℕ → List ℕ → List Slot
-slots_to n [] = []
-slots_to n (to ∷ tos) = record { packet = n; to = Some to } ∷ slots_to n tos
+abbrev pub slots_to : List ℕ → List (Option ℕ)
+slots_to [] = []
+slots_to (to ∷ tos) = Some to ∷ slots_to tos
 
 -- slots from id `first` on, with `count` copies in all, and their packets
-pub record AreKept (packets : List Sent) (gone : ℕ) (slots : List Slot) (first count : ℕ) : Type 0 where
-  pub held : AreHeld packets gone first slots
+pub record AreKept (packets : List Sent) (slots : List (Option ℕ)) (first count : ℕ) : Type 0 where
+  pub ending : AreEnding first packets (first + length slots)
   pub ids : (1 ≤ first) × (first + length slots < 2 ^ 64)
-  pub numbers : gone + length packets < first + length slots
-  pub counted : count ≡ length (copies_in (opened packets gone first slots))
+  pub counted : count ≡ length (copies_in (opened packets first slots))
 
 -- of slots from id `first` on, so many, the k-th is that of this id, or none is
 abbrev pub IsPlaceOf : ℕ → ℕ → ℕ → Option ℕ → Type 0

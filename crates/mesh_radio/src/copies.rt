@@ -4,10 +4,9 @@ ghost use Rattle.std.specs.VecDeque.{deque_len, deque_capacity};
 ghost use Rattle.mesh_base.specs.Views.{flying_seen};
 ghost use Rattle.mesh_base.specs.declared.events.Flying.{Flying};
 ghost use Rattle.mesh_model.specs.Worlds.{members_below};
-ghost use Rattle.mesh_radio.specs.declared.copies.Slot.{Slot};
 ghost use Rattle.mesh_radio.specs.declared.copies.Sent.{Sent};
 ghost use Rattle.mesh_radio.specs.Copies.{find_copy, without, from_id, AreNumbered};
-ghost use Rattle.mesh_radio.specs.Kept.{copies_in, opened, slots_to, copy_at as copy_lem, with_flights, IsHeld, AreHeld, IsNextAt, IsPlaceOf};
+ghost use Rattle.mesh_radio.specs.Kept.{copies_in, opened, slots_to, packet_of, copy_at as copy_lem, with_flights, AreEnding, HaveEnded, IsNextAt, IsPlaceOf};
 
 use crate::rooms::Rooms;
 use mesh_base::{Bytes, Flying, FlyingView, NoMemory, NodeSet, Room};
@@ -15,15 +14,7 @@ use std::alloc::Global;
 use std::collections::VecDeque;
 use std::marker::Model;
 
-/// The slot of an id: the number of the packet that its copy has, and to whom the copy flies, if it
-/// still does.
-#[derive(Clone, Copy)]
-struct Slot {
-    packet: u64,
-    to: Option<u8>,
-}
-
-/// A packet that was cast. Its copies share it; their ids are below `end`.
+/// A packet that was cast. Its copies share it: those of the ids from the end of the packet before it.
 #[derive(Drop)]
 struct Sent {
     from: usize,
@@ -31,15 +22,14 @@ struct Sent {
     end: u64,
 }
 
-/// The copies in flight, in a ring with a slot for each id from `first` on, and their packets, in a
-/// ring from number `gone` on. A copy is found by its id and taken without moving another. Slots and
-/// packets that no copy needs go from the front.
+/// The copies in flight, in a ring with a slot for each id from `first` on, which has the receiver of
+/// a copy that still flies, and their packets, in a ring by rising ids. A copy is found by its id and
+/// taken without moving another. Slots and packets that no copy needs go from the front.
 #[derive(Drop)]
 pub struct Copies {
-    slots: VecDeque<Slot>,
+    slots: VecDeque<Option<u8>>,
     first: u64,
     packets: VecDeque<Sent>,
-    gone: u64,
     count: usize,
     rooms: Rooms,
 }
@@ -51,13 +41,13 @@ impl Model for Copies {
 
     ghost Value = { Flights };
 
-    ghost view = { λ a. record { flying = copies_in (opened a.packets.items a.gone a.first a.slots.items); next_copy = a.first + length a.slots.items; room = a.rooms.room; most = a.rooms.most } };
+    ghost view = { λ a. record { flying = copies_in (opened a.packets.items a.first a.slots.items); next_copy = a.first + length a.slots.items; room = a.rooms.room; most = a.rooms.most } };
 
-    ghost invariant = { λ a. AreKept a.packets.items a.gone a.slots.items a.first a.count × (a.rooms.room + deque_len a.slots ≤ deque_capacity a.slots) × (a.rooms.room + deque_len a.packets ≤ deque_capacity a.packets) };
+    ghost invariant = { λ a. AreKept a.packets.items a.slots.items a.first a.count × (a.rooms.room + deque_len a.slots ≤ deque_capacity a.slots) × (a.rooms.room + deque_len a.packets ≤ deque_capacity a.packets) };
 }
 
 // The place of the slot of this id.
-fn place_of(slots: &VecDeque<Slot>, first: u64, id: u64) -> Option<usize>
+fn place_of(slots: &VecDeque<Option<u8>>, first: u64, id: u64) -> Option<usize>
     ensures { IsPlaceOf first (length slots.now.items) id result }
 {
     if id < first || id - first >= slots.len() as u64 {
@@ -66,13 +56,57 @@ fn place_of(slots: &VecDeque<Slot>, first: u64, id: u64) -> Option<usize>
     Some((id - first) as usize)
 }
 
-// The copy that the slot of this id has.
-fn copy_at(packets: &VecDeque<Sent>, gone: u64, id: u64, slot: Slot) -> Option<FlyingView<'_>>
-    requires { IsHeld packets.now.items gone id slot.packet slot.to }
-    ensures { option_map flying_seen result ≡ copy_lem packets.now.items gone id slot.packet slot.to }
+// The hint, if the packets before it end by this id, else 0.
+fn start_at(packets: &VecDeque<Sent>, id: u64, hint: usize) -> usize
+    requires { (low : ℕ) × (next : ℕ) × AreEnding low packets.now.items next }
+    ensures within { result ≤ length packets.now.items }
+    ensures ended { HaveEnded packets.now.items id result }
 {
-    let to = slot.to?;
-    let sent = &packets[(slot.packet - gone) as usize];
+    let start = hint.min(packets.len());
+    if start == 0 {
+        return 0;
+    }
+    if id < packets[start - 1].end {
+        return 0;
+    }
+    start
+}
+
+// The place of the packet of this id: a binary search, unless it is at the hint.
+fn place_of_packet(packets: &VecDeque<Sent>, id: u64, hint: usize) -> usize
+    requires { (low : ℕ) × (next : ℕ) × AreEnding low packets.now.items next }
+    ensures { packet_of packets.now.items id ≡ slice_get packets.now.items result }
+{
+    let mut low = start_at(packets, id, hint);
+    let mut high = packets.len();
+    if low < high && id < packets[low].end {
+        return low;
+    }
+    'halves: while low < high {
+        let middle = low + (high - low) / 2;
+        if packets[middle].end <= id {
+            low = middle + 1;
+        } else {
+            high = middle;
+        }
+    }
+    low
+}
+
+// The copy of this id, where its slot has this receiver. The hint comes to be where its packet is.
+fn copy_at<'a>(
+    packets: &'a VecDeque<Sent>,
+    id: u64,
+    slot: Option<u8>,
+    hint: &mut usize,
+) -> Option<FlyingView<'a>>
+    requires { (low : ℕ) × (next : ℕ) × AreEnding low packets.now.items next }
+    ensures { option_map flying_seen result ≡ copy_lem packets.now.items id slot }
+{
+    let to = slot?;
+    let place = place_of_packet(packets, id, *hint);
+    *hint = place;
+    let sent = packets.get(place)?;
     Some(FlyingView {
         id,
         from: sent.from,
@@ -83,20 +117,20 @@ fn copy_at(packets: &VecDeque<Sent>, gone: u64, id: u64, slot: Slot) -> Option<F
 
 // The first copy from this place on.
 fn copy_from<'a>(
-    slots: &VecDeque<Slot>,
+    slots: &VecDeque<Option<u8>>,
     first: u64,
     packets: &'a VecDeque<Sent>,
-    gone: u64,
     place: usize,
+    hint: &mut usize,
 ) -> Option<FlyingView<'a>>
-    requires held { AreHeld packets.now.items gone first slots.now.items }
+    requires ending { (low : ℕ) × (next : ℕ) × AreEnding low packets.now.items next }
     requires next { first + length slots.now.items < 2 ^ 64 }
-    ensures some { IfSome result (λ f. IsNextAt (opened packets.now.items gone first slots.now.items) place (flying_seen f)) }
-    ensures none { IfNone result (copies_in (drop place (opened packets.now.items gone first slots.now.items)) ≡ []) }
+    ensures some { IfSome result (λ f. IsNextAt (opened packets.now.items first slots.now.items) place (flying_seen f)) }
+    ensures none { IfNone result (copies_in (drop place (opened packets.now.items first slots.now.items)) ≡ []) }
 {
     let mut place = place;
     while let Some(slot) = slots.get(place) {
-        if let Some(flying) = copy_at(packets, gone, first + place as u64, *slot) {
+        if let Some(flying) = copy_at(packets, first + place as u64, *slot, hint) {
             return Some(flying);
         }
         place += 1;
@@ -105,57 +139,47 @@ fn copy_from<'a>(
 }
 
 // A slot for each member, by rising member.
-fn push_slots(slots: &mut VecDeque<Slot>, packet: u64, to: &NodeSet)
+fn push_slots(slots: &mut VecDeque<Option<u8>>, to: &NodeSet)
     requires { deque_len slots.old + length (members_below 256 to.now) ≤ deque_capacity slots.old }
-    ensures items { slots.new.items ≡ slots.old.items ++ slots_to packet (members_below 256 to.now) }
+    ensures items { slots.new.items ≡ slots.old.items ++ slots_to (members_below 256 to.now) }
     ensures capacity { deque_capacity slots.new ≡ deque_capacity slots.old }
 {
     let mut start = 0;
     while let Some(receiver) = to.next_from(start) {
-        slots.push_back_reserved(Slot {
-            packet,
-            to: Some(receiver as u8),
-        });
+        slots.push_back_reserved(Some(receiver as u8));
         start = receiver + 1;
     }
 }
 
 // The empty slots at the front go. The answer is the id of the first slot then.
-fn trim_slots(slots: &mut VecDeque<Slot>, first: u64) -> u64
+fn trim_slots(slots: &mut VecDeque<Option<u8>>, first: u64) -> u64
     requires { first + length slots.old.items < 2 ^ 64 }
-    ensures copies { (packets : List Sent) (gone : ℕ) → copies_in (opened packets gone result slots.new.items) ≡ copies_in (opened packets gone first slots.old.items) }
-    ensures held { (packets : List Sent) (gone : ℕ) → AreHeld packets gone first slots.old.items → AreHeld packets gone result slots.new.items }
+    ensures copies { (packets : List Sent) → copies_in (opened packets result slots.new.items) ≡ copies_in (opened packets first slots.old.items) }
     ensures next { result + length slots.new.items ≡ first + length slots.old.items }
     ensures from { first ≤ result }
     ensures capacity { deque_capacity slots.new ≡ deque_capacity slots.old }
 {
     let mut first = first;
-    while let Some(Slot { to: None, .. }) = slots.front() {
+    while let Some(None) = slots.front() {
         slots.pop_front();
         first += 1;
     }
     first
 }
 
-// The packets at the front go that no slot from this id on has. The answer is the number of the first
-// packet then.
-fn trim_packets(packets: &mut VecDeque<Sent>, gone: u64, first: u64) -> u64
-    requires { gone + length packets.old.items < 2 ^ 64 }
-    ensures slots { (slots : List Slot) → AreHeld packets.old.items gone first slots →
-        AreHeld packets.new.items result first slots × (opened packets.new.items result first slots ≡ opened packets.old.items gone first slots) }
-    ensures next { result + length packets.new.items ≡ gone + length packets.old.items }
-    ensures from { gone ≤ result }
+// The packets at the front go of which the ids end at this one or before.
+fn trim_packets(packets: &mut VecDeque<Sent>, first: u64)
+    ensures ending { (low next : ℕ) → AreEnding low packets.old.items next → low ≤ first → first ≤ next → AreEnding first packets.new.items next }
+    ensures same { (id : ℕ) → first ≤ id → packet_of packets.new.items id ≡ packet_of packets.old.items id }
+    ensures less { length packets.new.items ≤ length packets.old.items }
     ensures capacity { deque_capacity packets.new ≡ deque_capacity packets.old }
 {
-    let mut gone = gone;
     while let Some(sent) = packets.front() {
         if first < sent.end {
-            return gone;
+            return;
         }
         packets.pop_front();
-        gone += 1;
     }
-    gone
 }
 
 impl Copies {
@@ -167,7 +191,6 @@ impl Copies {
             slots: VecDeque::new(alloc),
             first: 1,
             packets: VecDeque::new(alloc),
-            gone: 0,
             count: 0,
             rooms: Rooms::new(alloc),
         }
@@ -193,17 +216,18 @@ impl Copies {
         ensures { option_map flying_seen result ≡ find_copy self.now.flying id }
     {
         let place = place_of(&self.slots, self.first, id)?;
-        copy_at(&self.packets, self.gone, id, self.slots[place])
+        copy_at(&self.packets, id, self.slots[place], &mut 0)
     }
 
-    /// The copy of the least id from this one on.
-    pub fn next_from(&self, id: u64) -> Option<FlyingView<'_>>
+    /// The copy of the least id from this one on. The hint, whatever it is, makes no difference but to
+    /// how long it takes: it comes to be the place of the copy's packet.
+    pub fn next_from(&self, id: u64, hint: &mut usize) -> Option<FlyingView<'_>>
         ensures some { IfSome result (λ f. from_id self.now.flying id ≡ flying_seen f ∷ from_id self.now.flying (f.id + 1)) }
         ensures below { IfSome result (λ f. (id ≤ f.id) × (f.id < self.now.next_copy) × (self.now.next_copy < 2 ^ 64)) }
         ensures none { IfNone result (from_id self.now.flying id ≡ []) }
     {
         let place = id.saturating_sub(self.first) as usize;
-        copy_from(&self.slots, self.first, &self.packets, self.gone, place)
+        copy_from(&self.slots, self.first, &self.packets, place, hint)
     }
 
     /// A copy of the packet flies to each member of the set. They have the next ids, by rising member.
@@ -214,8 +238,7 @@ impl Copies {
         ensures { self.new ≡ with_flights self.old from bytes.now (members_below 256 to.now) }
     {
         let before = self.slots.len();
-        let packet = self.gone + self.packets.len() as u64;
-        push_slots(&mut self.slots, packet, to);
+        push_slots(&mut self.slots, to);
         let copies = self.slots.len() - before;
         if copies == 0 {
             return;
@@ -236,18 +259,17 @@ impl Copies {
         ensures others { self.new ≡ record self.old { flying = without self.old.flying id } }
     {
         let place = place_of(&self.slots, self.first, id)?;
-        let slot = self.slots[place];
-        let found = copy_at(&self.packets, self.gone, id, slot)?;
+        let found = copy_at(&self.packets, id, self.slots[place], &mut 0)?;
         let flying = Flying {
             id: found.id,
             from: found.from,
             to: found.to,
             bytes: room.fill(found.bytes),
         };
-        self.slots[place] = Slot { to: None, ..slot };
+        self.slots[place] = None;
         self.count -= 1;
         self.first = trim_slots(&mut self.slots, self.first);
-        self.gone = trim_packets(&mut self.packets, self.gone, self.first);
+        trim_packets(&mut self.packets, self.first);
         Some(flying)
     }
 

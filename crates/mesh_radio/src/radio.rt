@@ -163,13 +163,14 @@ impl Radio {
     }
 
     /// The copy in flight of the least id from this one on: all copies come one after the other where
-    /// each is asked for by the id after the last.
-    pub fn next_from(&self, id: u64) -> Option<FlyingView<'_>>
+    /// each is asked for by the id after the last. The hint makes no difference but to how long that
+    /// takes: begin with 0, and hand on what the last call left in it.
+    pub fn next_from(&self, id: u64, hint: &mut usize) -> Option<FlyingView<'_>>
         ensures some { IfSome result (λ f. from_id self.now.flying id ≡ flying_seen f ∷ from_id self.now.flying (f.id + 1)) }
         ensures within { IfSome result (λ f. (id ≤ f.id) × (f.id < self.now.next_copy) × (self.now.next_copy < 2 ^ 64) × IsBetween self.now.size (flying_seen f)) }
         ensures none { IfNone result (from_id self.now.flying id ≡ []) }
     {
-        self.copies.next_from(id)
+        self.copies.next_from(id, hint)
     }
 
     /// The id that the next copy gets.
@@ -183,7 +184,7 @@ impl Radio {
     pub fn first_id(&self) -> Option<u64>
         ensures { result ≡ option_map (λ c. c.id) (slice_get self.now.flying 0) }
     {
-        let first = self.copies.next_from(0)?;
+        let first = self.copies.next_from(0, &mut 0)?;
         Some(first.id)
     }
 }
@@ -222,7 +223,7 @@ mod tests {
         assert_eq!(rt; last.bytes.as_slice(), b"hi".as_slice());
         assert!(rt; radio.find(2).is_none());
         assert_eq!(rt; radio.first_id(), Some(1));
-        assert!(rt; radio.next_from(2).is_none());
+        assert!(rt; radio.next_from(2, &mut 0).is_none());
         assert_eq!(rt; radio.next_id(), 3);
         Ok(())
     }

@@ -244,7 +244,8 @@ fn put_copies<O: Sink>(
     ensures cause { HasCause (O.faults out.old) (O.faults out.new) result }
 {
     let mut start = 0;
-    while let Some(flying) = radio.next_from(start) {
+    let mut hint = 0;
+    while let Some(flying) = radio.next_from(start, &mut hint) {
         put_flying(mesh, &flying, buf, out)?;
         start = flying.id + 1;
     }

@@ -81,7 +81,8 @@ fn count_flying(radio: &Radio) -> u64
 {
     let mut count = 0;
     let mut start = 0;
-    while let Some(flying) = radio.next_from(start) {
+    let mut hint = 0;
+    while let Some(flying) = radio.next_from(start, &mut hint) {
         if is_data(flying.bytes) {
             count += 1;
         }

@@ -8,7 +8,7 @@ use Rattle.mesh_radio.proofs.copies.push_slots.Goals as goal
 
 pub loop-receiver-init : goal.loop-receiver-init
 loop-receiver-init c = (
-  nil_append c.args.slots.now.items ∙ ap (λ ms. c.args.slots.now.items ++ slots_to c.args.packet ms) (sym (members-zero c.args.to.now)),
+  nil_append c.args.slots.now.items ∙ ap (λ ms. c.args.slots.now.items ++ slots_to ms) (sym (members-zero c.args.to.now)),
   omega arith,
   refl,
 )
@@ -25,22 +25,21 @@ push_back_reserved-requires c =
     let long : deque_len now ≡ length now.items = search rules in
     let was : deque_len old ≡ length old.items = search rules in
     let size = ap length c.loop-receiver.invariant.0 in
-    let sum = length-append old.items (slots_to c.args.packet (members_below start c.args.to.now)) in
-    let each = slots_to-length c.args.packet (members_below start c.args.to.now) in
+    let sum = length-append old.items (slots_to (members_below start c.args.to.now)) in
+    let each = slots_to-length (members_below start c.args.to.now) in
     omega (arith, c.requires, c.loop-receiver.invariant.2)
 
 pub loop-receiver-preserved : goal.loop-receiver-preserved
 loop-receiver-preserved c =
     let start = c.loop-receiver.start in
     let m = c.in-Some.receiver in
-    let n = c.args.packet in
     let old = c.args.slots.now.items in
     let one = members-next m start c.args.to.now c.in-Some.ensures.least.0 c.in-Some.ensures.least.1 c.in-Some.ensures.least.2 in (
       c.push_back_reserved.ensures.items
-          ∙ ap (λ ss. ss ++ record { packet = n; to = Some m } ∷ []) c.loop-receiver.invariant.0
-          ∙ append_assoc old (slots_to n (members_below start c.args.to.now)) (record { packet = n; to = Some m } ∷ [])
-          ∙ ap (λ ss. old ++ ss) (sym (slots_to-push n m (members_below start c.args.to.now)))
-          ∙ ap (λ ms. old ++ slots_to n ms) (sym one),
+          ∙ ap (λ ss. ss ++ Some m ∷ []) c.loop-receiver.invariant.0
+          ∙ append_assoc old (slots_to (members_below start c.args.to.now)) (Some m ∷ [])
+          ∙ ap (λ ss. old ++ ss) (sym (slots_to-push m (members_below start c.args.to.now)))
+          ∙ ap (λ ms. old ++ slots_to ms) (sym one),
       let below = c.in-Some.ensures.below in omega arith,
       c.push_back_reserved.ensures.capacity ∙ c.loop-receiver.invariant.2,
     )
@@ -48,4 +47,4 @@ loop-receiver-preserved c =
 pub returns-clause-items : goal.returns-clause-items
 returns-clause-items c =
     c.loop-receiver.invariant.0
-    ∙ ap (λ ms. c.args.slots.now.items ++ slots_to c.args.packet ms) (sym (members-none 256 c.loop-receiver.start c.args.to.now c.loop-receiver.invariant.1 (λ q le lt. c.in_default.ensures.least q le)))
+    ∙ ap (λ ms. c.args.slots.now.items ++ slots_to ms) (sym (members-none 256 c.loop-receiver.start c.args.to.now c.loop-receiver.invariant.1 (λ q le lt. c.in_default.ensures.least q le)))

@@ -6,7 +6,7 @@ use Rattle.mesh_radio.proofs.copies.push_slots.Given as goal
 
 abbrev pub invariant-loop-receiver : goal.invariant-loop-receiver
 invariant-loop-receiver l =
-    (l.slots.items ≡ l.fn.slots.items ++ slots_to l.packet (members_below l.start l.to)) × (l.start ≤ 256) × (deque_capacity l.slots ≡ deque_capacity l.fn.slots)
+    (l.slots.items ≡ l.fn.slots.items ++ slots_to (members_below l.start l.to)) × (l.start ≤ 256) × (deque_capacity l.slots ≡ deque_capacity l.fn.slots)
 
 abbrev pub decreases-loop-receiver : goal.decreases-loop-receiver
 decreases-loop-receiver l = 256 - l.start

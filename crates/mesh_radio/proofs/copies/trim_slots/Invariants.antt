@@ -1,13 +1,12 @@
-use Rattle.std.proofs.Common.{◌≡◌, ◌≤◌, ◌+◌, ℕ, List, length}
+use Rattle.std.proofs.Common.{◌≡◌, ◌≤◌, ◌+◌, List, length}
 use Rattle.std.specs.VecDeque.{deque_capacity}
 use Rattle.mesh_radio.specs.declared.copies.Sent.{Sent}
-use Rattle.mesh_radio.specs.Kept.{copies_in, opened, AreHeld}
+use Rattle.mesh_radio.specs.Kept.{copies_in, opened}
 use Rattle.mesh_radio.proofs.copies.trim_slots.Given as goal
 
 abbrev pub invariant-loop-slots : goal.invariant-loop-slots
 invariant-loop-slots l = record {
-  copies : (packets : List Sent) (gone : ℕ) → copies_in (opened packets gone l.first l.slots.items) ≡ copies_in (opened packets gone l.fn.first l.fn.slots.items);
-  held : (packets : List Sent) (gone : ℕ) → AreHeld packets gone l.fn.first l.fn.slots.items → AreHeld packets gone l.first l.slots.items;
+  copies : (packets : List Sent) → copies_in (opened packets l.first l.slots.items) ≡ copies_in (opened packets l.fn.first l.fn.slots.items);
   next : l.first + length l.slots.items ≡ l.fn.first + length l.fn.slots.items;
   from : l.fn.first ≤ l.first;
   capacity : deque_capacity l.slots ≡ deque_capacity l.fn.slots;

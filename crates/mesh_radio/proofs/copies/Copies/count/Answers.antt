@@ -9,9 +9,8 @@ pub returns-clause-numbered : goal.returns-clause-numbered
 returns-clause-numbered c =
     let kept = c.self.invariant.0 in
     let packets = c.self.inside.packets.items in
-    let gone = c.self.inside.gone in
     let first = c.self.inside.first in
     let slots = c.self.inside.slots.items in
-    let all = opened packets gone first slots in
+    let all = opened packets first slots in
     subst (λ (v : Flights). AreNumbered 1 v.flying v.next_copy) c.self.view_is
-    (subst (AreNumbered 1 (copies_in all)) (ap (λ n. first + n) (opened_length packets gone first slots)) (numbered all first 1 kept.ids.0 (opened_slots packets gone first slots)))
+    (subst (AreNumbered 1 (copies_in all)) (ap (λ n. first + n) (opened_length packets first slots)) (numbered all first 1 kept.ids.0 (opened_slots packets first slots)))
