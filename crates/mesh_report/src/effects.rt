@@ -13,7 +13,8 @@ ghost use Rattle.mesh_meaning.specs.Packets.{IsWritten, IsWrittenCopy};
 ghost use Rattle.mesh_meaning.specs.Events.{event_of, place_of as place_of_lem};
 ghost use Rattle.mesh_meaning.specs.Answers.{cast_in, effect_in, took_in, copies_in, happening_in, outcome_in, IsCastWritten, IsEffectInMesh, IsTookInMesh, IsDoneInMesh};
 ghost use Rattle.mesh_text.specs.Lines.{line, labelled, name_of};
-ghost use Rattle.mesh_text.specs.Effects.{shown_byte, datum_in, kind_text, took_text, delivery_text, drop_text, datum_fate, broken_text, cast_text, copies_text, sent_text, outcome_text};
+ghost use Rattle.mesh_text.specs.Effects.{shown_byte, datum_in, kind_text, took_text, delivery_text, drop_text, datum_fate, broken_text, cast_text, copies_text, sent_text, outcome_text, outcome_lines};
+ghost use Rattle.mesh_script.specs.Seen.{IsPrintable};
 ghost use Rattle.mesh_io.specs.Cause.{HasCause};
 ghost use Rattle.mesh_io.specs.Puts.{Puts};
 ghost use Rattle.mesh_report.specs.Gathering.{MakesRoom};
@@ -25,6 +26,7 @@ use mesh_base::{
     write_dotted,
 };
 use mesh_io::{PutFault, Sink, put_all};
+use mesh_script::{Line, print_line};
 
 // ---- data
 
@@ -294,45 +296,41 @@ fn put_sent<O: Sink>(
 
 // ---- copies
 
-fn put_heard<O: Sink>(
-    mesh: &Mesh,
-    from: usize,
-    to: usize,
-    buf: &mut LineBuf,
-    out: &mut O,
-) -> Result<(), PutFault>
+fn push_heard(out: &mut LineBuf, mesh: &Mesh, from: usize, to: usize)
     requires from { from < length mesh.now }
     requires to { to < length mesh.now }
-    ensures text { Puts (O.held out.old) (O.held out.new)
-        (line (codes "  heard " ++ name_of mesh.now from ++ 32 ∷ name_of mesh.now to)) result }
-    ensures cause { HasCause (O.faults out.old) (O.faults out.new) result }
+    requires room { array_vec_len out.old + 40 ≤ 8192 }
+    ensures text { out.new.items ≡ out.old.items
+        ++ line (codes "  heard " ++ name_of mesh.now from ++ 32 ∷ name_of mesh.now to) }
 {
-    buf.clear();
-    push_two(buf, b"  heard ", mesh, from, to);
-    buf.push(b'\n');
-    put_all(out, buf.as_slice())
+    push_two(out, b"  heard ", mesh, from, to);
+    out.push(b'\n');
+}
+
+fn push_lost_copy(out: &mut LineBuf, mesh: &Mesh, from: usize, to: usize)
+    requires from { from < length mesh.now }
+    requires to { to < length mesh.now }
+    requires room { array_vec_len out.old + 40 ≤ 8192 }
+    ensures text { out.new.items ≡ out.old.items
+        ++ line (codes "  lost " ++ name_of mesh.now from ++ 32 ∷ name_of mesh.now to) }
+    ensures length { array_vec_len out.new ≤ array_vec_len out.old + 40 }
+{
+    push_two(out, b"  lost ", mesh, from, to);
+    out.push(b'\n');
 }
 
 // A lost copy, and the datum that is dropped with it.
-fn put_lost<O: Sink>(
-    mesh: &Mesh,
-    flying: &Flying,
-    buf: &mut LineBuf,
-    out: &mut O,
-) -> Result<(), PutFault>
+fn push_lost(out: &mut LineBuf, mesh: &Mesh, flying: &Flying)
     requires from { flying.now.from < length mesh.now }
     requires to { flying.now.to < length mesh.now }
     requires written { IsWrittenCopy mesh.now flying.now }
-    ensures text { Puts (O.held out.old) (O.held out.new)
-        (line (codes "  lost " ++ name_of mesh.now flying.now.from ++ 32 ∷ name_of mesh.now flying.now.to)
-        ++ datum_in (codes "  dropped ") mesh.now (meaning mesh.now flying.now.bytes)) result }
-    ensures cause { HasCause (O.faults out.old) (O.faults out.new) result }
+    requires room { array_vec_len out.old + 2131 ≤ 8192 }
+    ensures text { out.new.items ≡ out.old.items
+        ++ (line (codes "  lost " ++ name_of mesh.now flying.now.from ++ 32 ∷ name_of mesh.now flying.now.to)
+        ++ datum_in (codes "  dropped ") mesh.now (meaning mesh.now flying.now.bytes)) }
 {
-    buf.clear();
-    push_two(buf, b"  lost ", mesh, flying.from, flying.to);
-    buf.push(b'\n');
-    push_datum_in(buf, b"  dropped ", flying.bytes.as_slice());
-    put_all(out, buf.as_slice())
+    push_lost_copy(out, mesh, flying.from, flying.to);
+    push_datum_in(out, b"  dropped ", flying.bytes.as_slice());
 }
 
 // ---- events
@@ -353,9 +351,40 @@ fn place_of(e: &Event<'_>) -> usize
     }
 }
 
+// What the buffer has, and then what an event did.
+#[tactic(auto, unfolding(mesh_text::specs::Effects::happening_text))]
+fn put_after<O: Sink>(
+    mesh: &Mesh,
+    e: &Event<'_>,
+    done: &Done,
+    packet: &Packet,
+    buf: &mut LineBuf,
+    out: &mut O,
+) -> Result<(), PutFault>
+    requires place { place_of_lem (event_of e.now) < length mesh.now }
+    requires in_mesh { IsDoneInMesh mesh.now done.now packet.now.items }
+    requires room { array_vec_len buf.old ≤ 550 }
+    ensures text { (w : World) → Puts (O.held out.old) (O.held out.new) (buf.old.items
+        ++ outcome_text mesh.now (place_of_lem (event_of e.now))
+        (outcome_in mesh.now (place_of_lem (event_of e.now)) w done.now packet.now.items)) result }
+    ensures cause { HasCause (O.faults out.old) (O.faults out.new) result }
+{
+    match done {
+        Done::Idle => push_text(buf, b"  idle\n"),
+        Done::Changed => {}
+        Done::Taken { took, effect, air } => {
+            push_turn(buf, mesh, place_of(e), took, effect);
+            return put_sent(mesh, effect, air, packet, buf, out);
+        }
+        Done::Sent { effect, air } => return put_sent(mesh, effect, air, packet, buf, out),
+        Done::Heard { from, to } => push_heard(buf, mesh, *from, *to),
+        Done::Lost { flying } => push_lost(buf, mesh, flying),
+    }
+    put_all(out, buf.as_slice())
+}
+
 /// Writes what an event did, one line for each effect. The packet is the one that was cast, if any.
 /// Nothing is written of a datum that joined an inbox or of a link that changed.
-#[tactic(auto, unfolding(mesh_text::specs::Effects::happening_text))]
 pub fn put_done<O: Sink>(
     mesh: &Mesh,
     e: &Event<'_>,
@@ -371,19 +400,27 @@ pub fn put_done<O: Sink>(
         (outcome_in mesh.now (place_of_lem (event_of e.now)) w done.now packet.now.items)) result }
     ensures cause { HasCause (O.faults out.old) (O.faults out.new) result }
 {
-    match done {
-        Done::Idle => put_all(out, b"  idle\n"),
-        Done::Changed => Ok(()),
-        Done::Taken { took, effect, air } => {
-            buf.clear();
-            push_turn(buf, mesh, place_of(e), took, effect);
-            put_sent(mesh, effect, air, packet, buf, out)
-        }
-        Done::Sent { effect, air } => {
-            buf.clear();
-            put_sent(mesh, effect, air, packet, buf, out)
-        }
-        Done::Heard { from, to } => put_heard(mesh, *from, *to, buf, out),
-        Done::Lost { flying } => put_lost(mesh, flying, buf, out),
-    }
+    buf.clear();
+    put_after(mesh, e, done, packet, buf, out)
+}
+
+/// Writes an event in canonical form, and below it what it did.
+pub fn put_event<O: Sink>(
+    mesh: &Mesh,
+    e: &Event<'_>,
+    done: &Done,
+    packet: &Packet,
+    buf: &mut LineBuf,
+    out: &mut O,
+) -> Result<(), PutFault>
+    requires printable { IsPrintable mesh.now (Line.Step e.now) }
+    requires in_mesh { IsDoneInMesh mesh.now done.now packet.now.items }
+    ensures text { (w : World) → Puts (O.held out.old) (O.held out.new)
+        (outcome_lines mesh.now (event_of e.now)
+        (outcome_in mesh.now (place_of_lem (event_of e.now)) w done.now packet.now.items)) result }
+    ensures cause { HasCause (O.faults out.old) (O.faults out.new) result }
+{
+    print_line(&Line::Step(*e), mesh, buf);
+    buf.push(b'\n');
+    put_after(mesh, e, done, packet, buf, out)
 }
