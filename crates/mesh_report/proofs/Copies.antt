@@ -1,8 +1,7 @@
 -- The lines of copies, one after another.
-use Rattle.std.proofs.Common.{◌≡◌, ◌<◌, ◌≤◌, ℕ, zero, suc, ◌+◌, Bool, true, false, cond, List, [], ◌∷◌, ◌++◌, length, Option, refl, sym, ap, subst, ◌∙◌, append_assoc, append-nil, arith, inl, inr}
+use Rattle.std.proofs.Common.{◌≡◌, ◌<◌, ◌≤◌, ℕ, zero, suc, ◌+◌, Bool, true, false, cond, List, [], ◌∷◌, ◌++◌, length, Option, Result, refl, sym, ap, subst, ◌∙◌, append_assoc, append-nil, arith, inl, inr}
 use Rattle.std.specs.Prelude.{codes}
 use Rattle.std.specs.FinSet.{contains}
-use Rattle.std.specs.Io.KnownBytes.{Appends}
 use Rattle.std.proofs.lemmas.Bool.{cases_eq}
 use Rattle.std.proofs.lemmas.List.{length_push}
 use Rattle.mesh_base.specs.Members.{NodeIds}
@@ -11,8 +10,10 @@ use Rattle.aodv_model.specs.Cores.{Message}
 use Rattle.mesh_model.specs.Worlds.{members_below, copies_to}
 use Rattle.mesh_text.specs.Lines.{line, labelled, name_of}
 use Rattle.mesh_text.specs.Effects.{copies_text}
-use Rattle.mesh_io.specs.Puts.{AppendsFront}
-use Rattle.mesh_io.proofs.Writing.{Appends-none, Appends-join, AppendsFront-join, AppendsFront-more}
+use Rattle.mesh_io.specs.Puts.{AppendsFront, Puts}
+use Rattle.mesh_io.proofs.Writing.{Puts-join}
+use Rattle.mesh_report.specs.Gathering.{Gathers}
+use Rattle.mesh_report.proofs.Gathering.{Gathers-none, Gathers-more, Gathers-join, Gathers-front}
 use Rattle.mesh_report.proofs.Members.{members-none, members-next}
 
 -- the line of a copy
@@ -78,36 +79,45 @@ no_copy : (mesh : Nodes) (s : NodeIds) (first from : ℕ) (m : Message) → air_
 unfolding members_below
 no_copy mesh s first from m = refl
 
--- the copy for the next member
-pub next_copy : (mesh : Nodes) (s : NodeIds) (first from : ℕ) (m : Message) (to i id : ℕ) (a b c : Option (List ℕ)) → i ≤ to → contains s to ≡ true → ((q : ℕ) → i ≤ q → q < to → contains s q ≡ false)
-    → id ≡ first + length (members_below i s) → Appends a b (air_text mesh from m (members_below i s) first) → Appends b c (copy_line mesh id to) → Appends a c (air_text mesh from m (members_below (to + 1) s) first)
-next_copy mesh s first from m to i id a b c le is none e p q =
-    let whole : air_text mesh from m (members_below (to + 1) s) first ≡ air_text mesh from m (members_below i s) first ++ copy_line mesh id to =
+-- the copy for the next member goes into the buffer, once it has room
+pub next_copy : (mesh : Nodes) (s : NodeIds) (first from : ℕ) (m : Message) (to i id : ℕ) (a b c : Option (List ℕ)) (start pending made longer : List ℕ)
+    → i ≤ to → contains s to ≡ true → ((q : ℕ) → i ≤ q → q < to → contains s q ≡ false) → id ≡ first + length (members_below i s)
+    → Gathers a b pending (start ++ air_text mesh from m (members_below i s) first) → Gathers b c made pending → longer ≡ made ++ copy_line mesh id to
+    → Gathers a c longer (start ++ air_text mesh from m (members_below (to + 1) s) first)
+next_copy mesh s first from m to i id a b c start pending made longer le is none e p q f =
+    let before : List ℕ = air_text mesh from m (members_below i s) first in
+    let whole : air_text mesh from m (members_below (to + 1) s) first ≡ before ++ copy_line mesh id to =
     ap (λ (ms : List ℕ). air_text mesh from m ms first) (members-next to i s le is none) ∙ air-push mesh from m (members_below i s) to first
-    ∙ ap (λ (n : ℕ). air_text mesh from m (members_below i s) first ++ copy_line mesh n to) (sym e) in
-    Appends-join a b c _ _ _ whole p q
+    ∙ ap (λ (n : ℕ). before ++ copy_line mesh n to) (sym e) in
+    Gathers-more a c made (start ++ before) (copy_line mesh id to) longer (start ++ air_text mesh from m (members_below (to + 1) s) first) f
+    (ap (λ (l : List ℕ). start ++ l) whole ∙ sym (append_assoc start before (copy_line mesh id to)))
+    (Gathers-join a b c pending made (start ++ before) p q)
 
--- a front of the line for the next member
-pub front_copy : (mesh : Nodes) (s : NodeIds) (first from : ℕ) (m : Message) (to i id : ℕ) (a b c : Option (List ℕ)) → to < length mesh → i ≤ to → contains s to ≡ true → ((q : ℕ) → i ≤ q → q < to → contains s q ≡ false)
-    → id ≡ first + length (members_below i s) → Appends a b (air_text mesh from m (members_below i s) first) → AppendsFront b c (copy_line mesh id to)
-    → AppendsFront a c (air_text mesh from m (members_below (length mesh) s) first)
-front_copy mesh s first from m to i id a b c lt le is none e p q =
-    let up : to + 1 ≤ length mesh = omega arith in
-    let split : Rest (length mesh) (members_below (to + 1) s) s = members-front (length mesh) (to + 1) s up in
-    let whole : air_text mesh from m (members_below (to + 1) s) first ≡ air_text mesh from m (members_below i s) first ++ copy_line mesh id to =
-    ap (λ (ms : List ℕ). air_text mesh from m ms first) (members-next to i s le is none) ∙ air-push mesh from m (members_below i s) to first
-    ∙ ap (λ (n : ℕ). air_text mesh from m (members_below i s) first ++ copy_line mesh n to) (sym e) in
-    let all : air_text mesh from m (members_below (length mesh) s) first
-    ≡ air_text mesh from m (members_below (to + 1) s) first ++ air_text mesh from m split.0 (first + length (members_below (to + 1) s)) =
-    ap (λ (ms : List ℕ). air_text mesh from m ms first) split.1 ∙ air-append mesh from m (members_below (to + 1) s) split.0 first in
-    AppendsFront-more a c _ _ _ all (AppendsFront-join a b c _ _ _ whole p q)
+-- a front of what is in the buffer is put
+pub front_copy : (mesh : Nodes) (s : NodeIds) (first from : ℕ) (m : Message) (i : ℕ) (a b c : Option (List ℕ)) (start pending : List ℕ) → i ≤ length mesh
+    → Gathers a b pending (start ++ air_text mesh from m (members_below i s) first) → AppendsFront b c pending
+    → AppendsFront a c (start ++ air_text mesh from m (members_below (length mesh) s) first)
+front_copy mesh s first from m i a b c start pending le p q =
+    let split : Rest (length mesh) (members_below i s) s = members-front (length mesh) i s le in
+    let before : List ℕ = air_text mesh from m (members_below i s) first in
+    let others : List ℕ = air_text mesh from m split.0 (first + length (members_below i s)) in
+    let all : air_text mesh from m (members_below (length mesh) s) first ≡ before ++ others =
+    ap (λ (ms : List ℕ). air_text mesh from m ms first) split.1 ∙ air-append mesh from m (members_below i s) split.0 first in
+    Gathers-front a b c pending (start ++ before) others (start ++ air_text mesh from m (members_below (length mesh) s) first)
+    (ap (λ (l : List ℕ). start ++ l) all ∙ sym (append_assoc start before others)) p q
 
 -- there is no further member
-pub all_copies : (mesh : Nodes) (s : NodeIds) (first from : ℕ) (m : Message) (i : ℕ) (a b : Option (List ℕ)) → i ≤ length mesh → ((q : ℕ) → i ≤ q → contains s q ≡ false)
-    → Appends a b (air_text mesh from m (members_below i s) first) → Appends a b (air_text mesh from m (members_below (length mesh) s) first)
-all_copies mesh s first from m i a b le none p =
-    let P : List ℕ → Type 0 = λ ms. Appends a b (air_text mesh from m ms first) in
-    subst P (sym (members-none (length mesh) i s le (λ q up lt. none q up))) p
+pub all_copies : {T E : Type 0} (mesh : Nodes) (s : NodeIds) (first from : ℕ) (m : Message) (i : ℕ) (a b c : Option (List ℕ)) (start pending piece : List ℕ) (r : Result T E)
+    → i ≤ length mesh → ((q : ℕ) → i ≤ q → contains s q ≡ false) → piece ≡ pending
+    → Gathers a b pending (start ++ air_text mesh from m (members_below i s) first) → Puts b c piece r
+    → Puts a c (start ++ air_text mesh from m (members_below (length mesh) s) first) r
+all_copies mesh s first from m i a b c start pending piece r le none e p q =
+    let P : List ℕ → Type 0 = λ ms. Gathers a b pending (start ++ air_text mesh from m ms first) in
+    let g : Gathers a b pending (start ++ air_text mesh from m (members_below (length mesh) s) first) = subst P (sym (members-none (length mesh) i s le (λ q up lt. none q up))) p in
+    let Q : List ℕ → Type 0 = λ l. Puts b c l r in
+    Puts-join a b c g.front pending (start ++ air_text mesh from m (members_below (length mesh) s) first) r g.whole g.grown (subst Q e q)
 
-pub none_yet : (mesh : Nodes) (s : NodeIds) (first from : ℕ) (m : Message) (a : Option (List ℕ)) → Appends a a (air_text mesh from m (members_below 0 s) first)
-none_yet mesh s first from m a = let P : List ℕ → Type 0 = λ l. Appends a a l in subst P (sym (no_copy mesh s first from m)) (Appends-none a)
+pub none_yet : (mesh : Nodes) (s : NodeIds) (first from : ℕ) (m : Message) (a : Option (List ℕ)) (start : List ℕ) → Gathers a a start (start ++ air_text mesh from m (members_below 0 s) first)
+none_yet mesh s first from m a start =
+    let P : List ℕ → Type 0 = λ l. Gathers a a start l in
+    subst P (sym (ap (λ (l : List ℕ). start ++ l) (no_copy mesh s first from m) ∙ append-nil start)) (Gathers-none a start)

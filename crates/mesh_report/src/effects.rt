@@ -1,5 +1,5 @@
 //! What an event did.
-ghost use Rattle.std.specs.Prelude.{◌≡◌, ℕ, ◌+◌, ◌*◌, ◌<◌, ◌≤◌, ◌^◌, ◌++◌, ◌∷◌, List, [], length, codes, IfSome};
+ghost use Rattle.std.specs.Prelude.{◌≡◌, ℕ, ◌+◌, ◌*◌, ◌<◌, ◌≤◌, ◌^◌, ◌++◌, ◌∷◌, List, [], length, codes, IfSome, OnOk};
 ghost use Rattle.std.specs.List.{flat_map};
 ghost use Rattle.arrayvec.specs.ArrayVec.{array_vec_len};
 ghost use Rattle.mesh_base.specs.Addresses.{dotted};
@@ -13,9 +13,11 @@ ghost use Rattle.mesh_meaning.specs.Packets.{IsWritten, IsWrittenCopy};
 ghost use Rattle.mesh_meaning.specs.Events.{event_of, place_of as place_of_lem};
 ghost use Rattle.mesh_meaning.specs.Answers.{cast_in, effect_in, took_in, copies_in, happening_in, outcome_in, IsCastWritten, IsEffectInMesh, IsTookInMesh, IsDoneInMesh};
 ghost use Rattle.mesh_text.specs.Lines.{line, labelled, name_of};
-ghost use Rattle.mesh_text.specs.Effects.{shown_byte, datum_in, kind_text, took_text, delivery_text, drop_text, datum_fate, broken_text, cast_text, copies_text, sent_text, outcome_text};
+ghost use Rattle.mesh_text.specs.Effects.{shown_byte, datum_in, kind_text, took_text, delivery_text, drop_text, datum_fate, broken_text, cast_text, copies_text, sent_text, outcome_text, outcome_lines};
+ghost use Rattle.mesh_script.specs.Seen.{IsPrintable};
 ghost use Rattle.mesh_io.specs.Cause.{HasCause};
 ghost use Rattle.mesh_io.specs.Puts.{Puts};
+ghost use Rattle.mesh_report.specs.Gathering.{MakesRoom};
 
 use crate::text::{push_labelled, push_one, push_packet, push_set, push_shown, push_two};
 use aodv_wire::{Message, read};
@@ -24,6 +26,7 @@ use mesh_base::{
     write_dotted,
 };
 use mesh_io::{PutFault, Sink, put_all};
+use mesh_script::{Line, print_line};
 
 // ---- data
 
@@ -148,25 +151,6 @@ fn push_turn(out: &mut LineBuf, mesh: &Mesh, me: usize, took: &Took, effect: &Ef
     push_fate(out, mesh, me, took, effect);
 }
 
-fn put_turn<O: Sink>(
-    mesh: &Mesh,
-    me: usize,
-    took: &Took,
-    effect: &Effect,
-    buf: &mut LineBuf,
-    out: &mut O,
-) -> Result<(), PutFault>
-    requires me { me < length mesh.now }
-    requires took { IsTookInMesh mesh.now took.now }
-    ensures text { Puts (O.held out.old) (O.held out.new) (took_text mesh.now me (took_in mesh.now took.now)
-        ++ datum_fate mesh.now me (took_in mesh.now took.now) (effect_in mesh.now effect.now [])) result }
-    ensures cause { HasCause (O.faults out.old) (O.faults out.new) result }
-{
-    buf.clear();
-    push_turn(buf, mesh, me, took, effect);
-    put_all(out, buf.as_slice())
-}
-
 // ---- what was cast
 
 fn push_broken(out: &mut LineBuf, mesh: &Mesh, broken: Option<usize>)
@@ -208,45 +192,54 @@ fn push_cast(out: &mut LineBuf, mesh: &Mesh, cast: &Cast, packet: &Packet)
     }
 }
 
-fn put_copy<O: Sink>(
-    mesh: &Mesh,
-    id: u64,
-    to: usize,
-    buf: &mut LineBuf,
-    out: &mut O,
-) -> Result<(), PutFault>
-    requires to { to < length mesh.now }
-    ensures text { Puts (O.held out.old) (O.held out.new)
-        (line (labelled (codes "  copy ") id ++ 32 ∷ name_of mesh.now to)) result }
+// Hands on what the buffer has, where there is no room in it for so many bytes more.
+fn make_room<O: Sink>(buf: &mut LineBuf, bytes: usize, out: &mut O) -> Result<(), PutFault>
+    requires { bytes ≤ 8192 }
+    ensures room { OnOk result (array_vec_len buf.new + bytes ≤ 8192) }
+    ensures text { MakesRoom (O.held out.old) (O.held out.new) buf.new.items buf.old.items result }
     ensures cause { HasCause (O.faults out.old) (O.faults out.new) result }
 {
+    if bytes <= buf.remaining_capacity() {
+        return Ok(());
+    }
+    put_all(out, buf.as_slice())?;
     buf.clear();
-    push_labelled(buf, b"  copy ", id);
-    push_one(buf, b" ", mesh, to);
-    buf.push(b'\n');
-    put_all(out, buf.as_slice())
+    Ok(())
 }
 
-// The copies of a cast, one line each: a buffer is too short for all of them.
+// The longest such line has a number of 20 digits and an address of 15 bytes.
+fn push_copy(out: &mut LineBuf, mesh: &Mesh, id: u64, to: usize)
+    requires to { to < length mesh.now }
+    requires room { array_vec_len out.old + 44 ≤ 8192 }
+    ensures text { out.new.items ≡ out.old.items ++ line (labelled (codes "  copy ") id ++ 32 ∷ name_of mesh.now to) }
+{
+    push_labelled(out, b"  copy ", id);
+    push_one(out, b" ", mesh, to);
+    out.push(b'\n');
+}
+
+// What the buffer has, and then the copies of a cast, one line each: a buffer is too short for all
+// of them.
 fn put_air<O: Sink>(mesh: &Mesh, air: &Air, buf: &mut LineBuf, out: &mut O) -> Result<(), PutFault>
     requires receivers { AreBelow (length mesh.now) air.now.to }
     requires few { air.now.first + 200 < 2 ^ 64 }
-    ensures text { (from : ℕ) (m : a_message) → Puts (O.held out.old) (O.held out.new)
-        (copies_text mesh.now (copies_to (members_below (length mesh.now) air.now.to) air.now.first from m)) result }
+    ensures text { (from : ℕ) (m : a_message) → Puts (O.held out.old) (O.held out.new) (buf.old.items
+        ++ copies_text mesh.now (copies_to (members_below (length mesh.now) air.now.to) air.now.first from m)) result }
     ensures cause { HasCause (O.faults out.old) (O.faults out.new) result }
 {
     let _nodes = mesh.len();
     let mut id = air.first;
     let mut start = 0;
     while let Some(to) = air.to.next_from(start) {
-        put_copy(mesh, id, to, buf, out)?;
+        make_room(buf, 44, out)?;
+        push_copy(buf, mesh, id, to);
         id += 1;
         start = to + 1;
     }
-    Ok(())
+    put_all(out, buf.as_slice())
 }
 
-// The copies of a cast, if there is one.
+// What the buffer has, and then the copies of a cast, if there is one.
 #[tactic(auto, unfolding(mesh_meaning::specs::Answers::copies_in))]
 fn put_copies<O: Sink>(
     mesh: &Mesh,
@@ -258,37 +251,30 @@ fn put_copies<O: Sink>(
     requires receivers { AreBelow (length mesh.now) air.now.to }
     requires few { air.now.first + 200 < 2 ^ 64 }
     ensures text { (from : ℕ) (packet : List ℕ) → Puts (O.held out.old) (O.held out.new)
-        (copies_text mesh.now (copies_in mesh.now from cast.now air.now packet)) result }
+        (buf.old.items ++ copies_text mesh.now (copies_in mesh.now from cast.now air.now packet)) result }
     ensures cause { HasCause (O.faults out.old) (O.faults out.new) result }
 {
     match cast {
-        Cast::Nothing => Ok(()),
+        Cast::Nothing => put_all(out, buf.as_slice()),
         Cast::One(_) => put_air(mesh, air, buf, out),
         Cast::Many(_) => put_air(mesh, air, buf, out),
         Cast::All => put_air(mesh, air, buf, out),
     }
 }
 
-fn put_cast<O: Sink>(
-    mesh: &Mesh,
-    effect: &Effect,
-    packet: &Packet,
-    buf: &mut LineBuf,
-    out: &mut O,
-) -> Result<(), PutFault>
+// A failed unicast, and what was cast.
+fn push_sent(out: &mut LineBuf, mesh: &Mesh, effect: &Effect, packet: &Packet)
     requires broken { IfSome effect.now.broken (λ y. y < length mesh.now) }
     requires cast { IsCastWritten mesh.now effect.now.cast packet.now.items }
-    ensures text { Puts (O.held out.old) (O.held out.new) (broken_text mesh.now effect.now.broken
-        ++ cast_text mesh.now (cast_in mesh.now effect.now.cast packet.now.items)) result }
-    ensures cause { HasCause (O.faults out.old) (O.faults out.new) result }
+    requires room { array_vec_len out.old + 6447 ≤ 8192 }
+    ensures text { out.new.items ≡ out.old.items ++ (broken_text mesh.now effect.now.broken
+        ++ cast_text mesh.now (cast_in mesh.now effect.now.cast packet.now.items)) }
 {
-    buf.clear();
-    push_broken(buf, mesh, effect.broken);
-    push_cast(buf, mesh, &effect.cast, packet);
-    put_all(out, buf.as_slice())
+    push_broken(out, mesh, effect.broken);
+    push_cast(out, mesh, &effect.cast, packet);
 }
 
-// A failed unicast, what was cast, and its copies.
+// What the buffer has, and then a failed unicast, what was cast, and its copies.
 fn put_sent<O: Sink>(
     mesh: &Mesh,
     effect: &Effect,
@@ -298,56 +284,53 @@ fn put_sent<O: Sink>(
     out: &mut O,
 ) -> Result<(), PutFault>
     requires effect { IsEffectInMesh mesh.now effect.now air.now packet.now.items }
-    ensures text { (from : ℕ) → Puts (O.held out.old) (O.held out.new)
-        (sent_text mesh.now (effect_in mesh.now effect.now packet.now.items)
+    ensures text { (from : ℕ) → Puts (O.held out.old) (O.held out.new) (buf.old.items
+        ++ sent_text mesh.now (effect_in mesh.now effect.now packet.now.items)
         (copies_in mesh.now from effect.now.cast air.now packet.now.items)) result }
     ensures cause { HasCause (O.faults out.old) (O.faults out.new) result }
 {
-    put_cast(mesh, effect, packet, buf, out)?;
+    make_room(buf, 6447, out)?;
+    push_sent(buf, mesh, effect, packet);
     put_copies(mesh, &effect.cast, air, buf, out)
 }
 
 // ---- copies
 
-fn put_heard<O: Sink>(
-    mesh: &Mesh,
-    from: usize,
-    to: usize,
-    buf: &mut LineBuf,
-    out: &mut O,
-) -> Result<(), PutFault>
+fn push_heard(out: &mut LineBuf, mesh: &Mesh, from: usize, to: usize)
     requires from { from < length mesh.now }
     requires to { to < length mesh.now }
-    ensures text { Puts (O.held out.old) (O.held out.new)
-        (line (codes "  heard " ++ name_of mesh.now from ++ 32 ∷ name_of mesh.now to)) result }
-    ensures cause { HasCause (O.faults out.old) (O.faults out.new) result }
+    requires room { array_vec_len out.old + 40 ≤ 8192 }
+    ensures text { out.new.items ≡ out.old.items
+        ++ line (codes "  heard " ++ name_of mesh.now from ++ 32 ∷ name_of mesh.now to) }
 {
-    buf.clear();
-    push_two(buf, b"  heard ", mesh, from, to);
-    buf.push(b'\n');
-    put_all(out, buf.as_slice())
+    push_two(out, b"  heard ", mesh, from, to);
+    out.push(b'\n');
+}
+
+fn push_lost_copy(out: &mut LineBuf, mesh: &Mesh, from: usize, to: usize)
+    requires from { from < length mesh.now }
+    requires to { to < length mesh.now }
+    requires room { array_vec_len out.old + 40 ≤ 8192 }
+    ensures text { out.new.items ≡ out.old.items
+        ++ line (codes "  lost " ++ name_of mesh.now from ++ 32 ∷ name_of mesh.now to) }
+    ensures length { array_vec_len out.new ≤ array_vec_len out.old + 40 }
+{
+    push_two(out, b"  lost ", mesh, from, to);
+    out.push(b'\n');
 }
 
 // A lost copy, and the datum that is dropped with it.
-fn put_lost<O: Sink>(
-    mesh: &Mesh,
-    flying: &Flying,
-    buf: &mut LineBuf,
-    out: &mut O,
-) -> Result<(), PutFault>
+fn push_lost(out: &mut LineBuf, mesh: &Mesh, flying: &Flying)
     requires from { flying.now.from < length mesh.now }
     requires to { flying.now.to < length mesh.now }
     requires written { IsWrittenCopy mesh.now flying.now }
-    ensures text { Puts (O.held out.old) (O.held out.new)
-        (line (codes "  lost " ++ name_of mesh.now flying.now.from ++ 32 ∷ name_of mesh.now flying.now.to)
-        ++ datum_in (codes "  dropped ") mesh.now (meaning mesh.now flying.now.bytes)) result }
-    ensures cause { HasCause (O.faults out.old) (O.faults out.new) result }
+    requires room { array_vec_len out.old + 2131 ≤ 8192 }
+    ensures text { out.new.items ≡ out.old.items
+        ++ (line (codes "  lost " ++ name_of mesh.now flying.now.from ++ 32 ∷ name_of mesh.now flying.now.to)
+        ++ datum_in (codes "  dropped ") mesh.now (meaning mesh.now flying.now.bytes)) }
 {
-    buf.clear();
-    push_two(buf, b"  lost ", mesh, flying.from, flying.to);
-    buf.push(b'\n');
-    push_datum_in(buf, b"  dropped ", flying.bytes.as_slice());
-    put_all(out, buf.as_slice())
+    push_lost_copy(out, mesh, flying.from, flying.to);
+    push_datum_in(out, b"  dropped ", flying.bytes.as_slice());
 }
 
 // ---- events
@@ -368,9 +351,40 @@ fn place_of(e: &Event<'_>) -> usize
     }
 }
 
+// What the buffer has, and then what an event did.
+#[tactic(auto, unfolding(mesh_text::specs::Effects::happening_text))]
+fn put_after<O: Sink>(
+    mesh: &Mesh,
+    e: &Event<'_>,
+    done: &Done,
+    packet: &Packet,
+    buf: &mut LineBuf,
+    out: &mut O,
+) -> Result<(), PutFault>
+    requires place { place_of_lem (event_of e.now) < length mesh.now }
+    requires in_mesh { IsDoneInMesh mesh.now done.now packet.now.items }
+    requires room { array_vec_len buf.old ≤ 550 }
+    ensures text { (w : World) → Puts (O.held out.old) (O.held out.new) (buf.old.items
+        ++ outcome_text mesh.now (place_of_lem (event_of e.now))
+        (outcome_in mesh.now (place_of_lem (event_of e.now)) w done.now packet.now.items)) result }
+    ensures cause { HasCause (O.faults out.old) (O.faults out.new) result }
+{
+    match done {
+        Done::Idle => push_text(buf, b"  idle\n"),
+        Done::Changed => {}
+        Done::Taken { took, effect, air } => {
+            push_turn(buf, mesh, place_of(e), took, effect);
+            return put_sent(mesh, effect, air, packet, buf, out);
+        }
+        Done::Sent { effect, air } => return put_sent(mesh, effect, air, packet, buf, out),
+        Done::Heard { from, to } => push_heard(buf, mesh, *from, *to),
+        Done::Lost { flying } => push_lost(buf, mesh, flying),
+    }
+    put_all(out, buf.as_slice())
+}
+
 /// Writes what an event did, one line for each effect. The packet is the one that was cast, if any.
 /// Nothing is written of a datum that joined an inbox or of a link that changed.
-#[tactic(auto, unfolding(mesh_text::specs::Effects::happening_text))]
 pub fn put_done<O: Sink>(
     mesh: &Mesh,
     e: &Event<'_>,
@@ -386,15 +400,27 @@ pub fn put_done<O: Sink>(
         (outcome_in mesh.now (place_of_lem (event_of e.now)) w done.now packet.now.items)) result }
     ensures cause { HasCause (O.faults out.old) (O.faults out.new) result }
 {
-    match done {
-        Done::Idle => put_all(out, b"  idle\n"),
-        Done::Changed => Ok(()),
-        Done::Taken { took, effect, air } => {
-            put_turn(mesh, place_of(e), took, effect, buf, out)?;
-            put_sent(mesh, effect, air, packet, buf, out)
-        }
-        Done::Sent { effect, air } => put_sent(mesh, effect, air, packet, buf, out),
-        Done::Heard { from, to } => put_heard(mesh, *from, *to, buf, out),
-        Done::Lost { flying } => put_lost(mesh, flying, buf, out),
-    }
+    buf.clear();
+    put_after(mesh, e, done, packet, buf, out)
+}
+
+/// Writes an event in canonical form, and below it what it did.
+pub fn put_event<O: Sink>(
+    mesh: &Mesh,
+    e: &Event<'_>,
+    done: &Done,
+    packet: &Packet,
+    buf: &mut LineBuf,
+    out: &mut O,
+) -> Result<(), PutFault>
+    requires printable { IsPrintable mesh.now (Line.Step e.now) }
+    requires in_mesh { IsDoneInMesh mesh.now done.now packet.now.items }
+    ensures text { (w : World) → Puts (O.held out.old) (O.held out.new)
+        (outcome_lines mesh.now (event_of e.now)
+        (outcome_in mesh.now (place_of_lem (event_of e.now)) w done.now packet.now.items)) result }
+    ensures cause { HasCause (O.faults out.old) (O.faults out.new) result }
+{
+    print_line(&Line::Step(*e), mesh, buf);
+    buf.push(b'\n');
+    put_after(mesh, e, done, packet, buf, out)
 }

@@ -1,22 +1,22 @@
 -- What comes of an event, of a line with one event, and of events that were chosen after a line.
-use Rattle.std.proofs.Common.{◌≡◌, ℕ, ◌+◌, Bool, true, is_some, List, [], ◌++◌, Option, Result, length, refl, sym, ap, subst, ◌∙◌}
+use Rattle.std.proofs.Common.{◌≡◌, ℕ, ◌+◌, Bool, true, is_some, List, [], ◌++◌, Option, length, refl, sym, ap, subst, ◌∙◌}
 use Rattle.std.specs.Io.KnownBytes.{Appends}
 use Rattle.mesh_base.specs.declared.events.Full.{Full as Field}
 use Rattle.mesh_base.specs.declared.events.Done.{Done}
 use Rattle.mesh_base.specs.declared.events.Done.TheVariants as done
 use Rattle.mesh_base.specs.declared.events.Event.{Event as EventGiven}
 use Rattle.mesh_base.specs.Meshes.{Nodes, with_node}
-use Rattle.mesh_io.specs.Puts.{AppendsFront, Puts}
-use Rattle.mesh_io.proofs.Writing.{AppendsFront-more, AppendsFront-none, Puts-join}
+use Rattle.mesh_io.specs.Puts.{AppendsFront}
+use Rattle.mesh_io.proofs.Writing.{AppendsFront-none}
 use Rattle.mesh_model.specs.Worlds.{World, Event, Outcome, Idle, Stops as Refuses, Goes as Happens}
 use Rattle.mesh_model.specs.Places.{IsEvent}
 use Rattle.mesh_meaning.specs.Events.{event_of, place_of}
 use Rattle.mesh_meaning.specs.Answers.{outcome_in}
 use Rattle.mesh_text.specs.declared.fault.BadWhy.{BadWhy}
 use Rattle.mesh_text.specs.declared.fault.BadWhy.TheVariants.{Fault}
-use Rattle.mesh_text.specs.Lines.{line, words_of, event_words}
+use Rattle.mesh_text.specs.Lines.{line, words_of}
 use Rattle.mesh_text.specs.Schedule.{Moment, Accepted, Does, NewNode, ShowsNode, ShowsRoute, ShowsFlight, counted, started, stepped, outcome_at, world_of}
-use Rattle.mesh_text.specs.Effects.{outcome_lines, outcome_text}
+use Rattle.mesh_text.specs.Effects.{outcome_lines}
 use Rattle.mesh_text.specs.Tables.{node_text_in, end_text, flight_text}
 use Rattle.mesh_model.specs.Routes.{route_end}
 use Rattle.std.specs.List.{slice_get}
@@ -159,16 +159,6 @@ unfolding stepped
 step_events m s n e same next = ap (λ k. (k.sums).events) next ∙ ap (λ k. (k.sums).events + 1) same
 
 -- ---- what an event and other lines are written as
-
--- an event's line, and then what came of it
-pub event_puts : {T E : Type 0} (mesh : Nodes) (e : Event) (o : Outcome) (a b c : Option (List ℕ)) (r : Result T E) → Appends a b (line (words_of mesh (Does e)))
-    → Puts b c (outcome_text mesh (place_of e) o) r → Puts a c (outcome_lines mesh e o) r
-unfolding outcome_lines words_of
-event_puts mesh e o a b c r p q = Puts-join a b c (line (event_words mesh e)) (outcome_text mesh (place_of e) o) (outcome_lines mesh e o) r refl p q
-
-pub event_front : (mesh : Nodes) (e : Event) (o : Outcome) (a b : Option (List ℕ)) → AppendsFront a b (line (words_of mesh (Does e))) → AppendsFront a b (outcome_lines mesh e o)
-unfolding outcome_lines words_of
-event_front mesh e o a b p = AppendsFront-more a b (line (event_words mesh e)) (outcome_text mesh (place_of e) o) (outcome_lines mesh e o) refl p
 
 -- one more node
 pub node_goes : (quiet : Bool) (m n k : Moment) (mesh : Nodes) (address first : ℕ) (a b : Option (List ℕ)) → mesh ≡ m.mesh

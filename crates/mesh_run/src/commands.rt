@@ -1,11 +1,8 @@
 //! What each command does.
 ghost use Rattle.std.specs.Prelude.{◌≡◌, ◌≢◌, ◌<◌, ◌≤◌, ◌+◌, ◌^◌, length, is_some, true, OnOk, IsErrOf};
-ghost use Rattle.mesh_model.specs.Worlds.{World as a_world};
-ghost use Rattle.mesh_meaning.specs.Events.{event_of, place_of};
-ghost use Rattle.mesh_meaning.specs.Answers.{outcome_in, IsDoneInMesh};
+ghost use Rattle.mesh_meaning.specs.Events.{event_of};
 ghost use Rattle.mesh_text.specs.Schedule.{stepped, NewNode, Does, ShowsNode, ShowsRoute, ShowsFlight};
 ghost use Rattle.mesh_text.specs.Lines.{line as line_of_words, words_of};
-ghost use Rattle.mesh_text.specs.Effects.{outcome_lines};
 ghost use Rattle.mesh_text.specs.Text.{came_of_line};
 ghost use Rattle.mesh_io.specs.Cause.{Rose, HasCause};
 ghost use Rattle.mesh_io.specs.Puts.{Puts};
@@ -17,33 +14,12 @@ use crate::auto::do_auto;
 use crate::point::Point;
 use crate::show::{show_flight, show_node, show_route};
 use crate::stop::{Scratch, Stop};
-use mesh_base::{Addr, Done, Event, LineBuf, Mesh, Packet};
+use mesh_base::{Addr, Event, LineBuf, Mesh};
 use mesh_io::{PutFault, Sink};
-use mesh_report::{put_done, put_line};
+use mesh_report::{put_event, put_line};
 use mesh_script::Line;
 use mesh_world::{StepError, Steps};
 use std::alloc::Global;
-
-// Writes an event, and below it what came of it.
-#[tactic(auto, unfolding(mesh_text::specs::Effects::outcome_lines))]
-fn put_event<O: Sink>(
-    mesh: &Mesh,
-    e: &Event<'_>,
-    done: &Done,
-    packet: &Packet,
-    buf: &mut LineBuf,
-    out: &mut O,
-) -> Result<(), PutFault>
-    requires printable { IsPrintable mesh.now (Line.Step e.now) }
-    requires in_mesh { IsDoneInMesh mesh.now done.now packet.now.items }
-    ensures text { (w : a_world) → Puts (O.held out.old) (O.held out.new)
-        (outcome_lines mesh.now (event_of e.now)
-        (outcome_in mesh.now (place_of (event_of e.now)) w done.now packet.now.items)) result }
-    ensures cause { HasCause (O.faults out.old) (O.faults out.new) result }
-{
-    put_line(mesh, &Line::Step(*e), buf, out)?;
-    put_done(mesh, e, done, packet, buf, out)
-}
 
 /// Does an event once the run has started, and writes it.
 pub fn do_event<'a, S: Steps, O: Sink>(
@@ -90,6 +66,7 @@ pub fn do_event<'a, S: Steps, O: Sink>(
 }
 
 // What stops the run where an event isn't done.
+#[cold]
 fn stop_of<'a>(event: Event<'a>, error: StepError) -> Stop<'a>
     ensures { result ≡ stop_of_lem event.entry error }
 {

@@ -49,6 +49,7 @@ fn one<'a, S: Steps, O: Sink>(
 }
 
 // Ends the run at a line that isn't allowed.
+#[cold]
 fn refuse<S: Steps, O: Sink>(at: &Point<S>, why: BadWhy, buf: &mut LineBuf, out: &mut O) -> Status
     requires { at.now.lines < 2 ^ 62 }
     ensures told { Told (O.held out.old) (O.held out.new) (refused at.now why) result }
@@ -66,6 +67,8 @@ fn refuse<S: Steps, O: Sink>(at: &Point<S>, why: BadWhy, buf: &mut LineBuf, out:
 }
 
 // Ends the run at an event that is refused for a full counter.
+#[cold]
+#[inline(never)]
 fn fill<S: Steps, O: Sink>(
     at: &Point<S>,
     event: Event<'_>,

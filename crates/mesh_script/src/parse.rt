@@ -1,8 +1,10 @@
 //! Whether a line is allowed at its place.
-ghost use Rattle.std.specs.Prelude.{◌≡◌, ◌<◌, ◌≤◌, ◌≢◌, length, IfOk, IfErr, OnOk, Some, None};
+ghost use Rattle.std.specs.Prelude.{◌≡◌, ◌<◌, ◌≤◌, ◌≢◌, Bool, length, IfOk, IfErr, OnOk, Some, None, Ok};
 ghost use Rattle.mesh_base.specs.Meshes.{index_of};
-ghost use Rattle.mesh_text.specs.Schedule.{line_of, accepted, new_node as new_node_lem};
-ghost use Rattle.mesh_script.specs.Seen.{seen_line, IsAllowed};
+ghost use Rattle.mesh_model.specs.Worlds.{Give, Turn, Send, Ask, Link, Cut};
+ghost use Rattle.mesh_text.specs.Ranges.{IsText};
+ghost use Rattle.mesh_text.specs.Schedule.{line_of, accepted, Does, ShowsNode, ShowsRoute, after_nodes as after_nodes_lem, known as known_lem, known_two as known_two_lem, known_pair as known_pair_lem, new_node as new_node_lem};
+ghost use Rattle.mesh_script.specs.Seen.{seen_line, accepted_of, IsAllowed};
 ghost use Rattle.mesh_script.specs.Shapes.{mention_of, shape_seen, IsShape};
 ghost use Rattle.mesh_script.specs.Places.{HasNodes, IsKnown, AreKnown, AreNodes, ArePair, IsFaultOfPair};
 
@@ -92,6 +94,88 @@ fn new_node(
     })
 }
 
+// ---- a line of each shape, in a function of its own, so that no line pays for the frame of another
+
+fn link_at(mesh: &Mesh, a: Mention, b: Mention) -> Result<Line<'static>, LineFault>
+    ensures value { seen_line result ≡ known_pair_lem mesh.now (mention_of a) (mention_of b) Link }
+    ensures allowed { (started : Bool) → IfOk result (IsAllowed mesh.now started) }
+{
+    let (a, b) = known_pair(mesh, a, b)?;
+    Ok(Line::Step(Event::Link { a, b }))
+}
+
+fn cut_at(mesh: &Mesh, a: Mention, b: Mention) -> Result<Line<'static>, LineFault>
+    ensures value { seen_line result ≡ known_pair_lem mesh.now (mention_of a) (mention_of b) Cut }
+    ensures allowed { (started : Bool) → IfOk result (IsAllowed mesh.now started) }
+{
+    let (a, b) = known_pair(mesh, a, b)?;
+    Ok(Line::Step(Event::Cut { a, b }))
+}
+
+fn send_at(mesh: &Mesh, node: Mention, dest: Mention) -> Result<Line<'static>, LineFault>
+    ensures value { seen_line result ≡ known_two_lem mesh.now (mention_of node) (mention_of dest) (λ x y. Does (Send x y)) }
+    ensures allowed { (started : Bool) → IfOk result (IsAllowed mesh.now started) }
+{
+    let (node, dest) = known_two(mesh, node, dest)?;
+    Ok(Line::Step(Event::Send { node, dest }))
+}
+
+fn ask_at(mesh: &Mesh, node: Mention, dest: Mention) -> Result<Line<'static>, LineFault>
+    ensures value { seen_line result ≡ known_two_lem mesh.now (mention_of node) (mention_of dest) (λ x y. Does (Ask x y)) }
+    ensures allowed { (started : Bool) → IfOk result (IsAllowed mesh.now started) }
+{
+    let (node, dest) = known_two(mesh, node, dest)?;
+    Ok(Line::Step(Event::Ask { node, dest }))
+}
+
+fn route_at(mesh: &Mesh, node: Mention, dest: Mention) -> Result<Line<'static>, LineFault>
+    ensures value { seen_line result ≡ known_two_lem mesh.now (mention_of node) (mention_of dest) ShowsRoute }
+    ensures allowed { (started : Bool) → IfOk result (IsAllowed mesh.now started) }
+{
+    let (node, dest) = known_two(mesh, node, dest)?;
+    Ok(Line::Route { node, dest })
+}
+
+fn data_at<'a>(
+    mesh: &Mesh,
+    node: Mention,
+    dest: Mention,
+    body: &'a [u8],
+) -> Result<Line<'a>, LineFault>
+    requires { IsText body.now }
+    ensures value { seen_line result ≡ known_two_lem mesh.now (mention_of node) (mention_of dest) (λ x y. Does (Give x y body.now)) }
+    ensures allowed { (started : Bool) → IfOk result (IsAllowed mesh.now started) }
+{
+    let (node, dest) = known_two(mesh, node, dest)?;
+    Ok(Line::Step(Event::Give { node, dest, body }))
+}
+
+fn turn_at(mesh: &Mesh, node: Mention) -> Result<Line<'static>, LineFault>
+    ensures value { seen_line result ≡ after_nodes_lem mesh.now (known_lem mesh.now (mention_of node) (λ x. Ok (Does (Turn x)))) }
+    ensures allowed { (started : Bool) → IfOk result (IsAllowed mesh.now started) }
+{
+    let node = known(mesh, node)?;
+    Ok(Line::Step(Event::Turn { node }))
+}
+
+fn show_at(mesh: &Mesh, node: Mention) -> Result<Line<'static>, LineFault>
+    ensures value { seen_line result ≡ after_nodes_lem mesh.now (known_lem mesh.now (mention_of node) (λ x. Ok (ShowsNode x))) }
+    ensures allowed { (started : Bool) → IfOk result (IsAllowed mesh.now started) }
+{
+    let node = known(mesh, node)?;
+    Ok(Line::Show { node })
+}
+
+// A line that names no node.
+fn plain_at<'a>(mesh: &Mesh, line: Line<'a>) -> Result<Line<'a>, LineFault>
+    requires { (1 ≤ length mesh.now) → (started : Bool) → IsAllowed mesh.now started line }
+    ensures value { seen_line result ≡ after_nodes_lem mesh.now (Ok (accepted_of line.entry)) }
+    ensures allowed { (started : Bool) → IfOk result (IsAllowed mesh.now started) }
+{
+    after_nodes(mesh)?;
+    Ok(line)
+}
+
 #[tactic(auto, unfolding(mesh_text::specs::Schedule::accepted))]
 fn line_at<'a>(shape: Shape<'a>, mesh: &Mesh, started: bool) -> Result<Line<'a>, LineFault>
     requires { IsShape shape }
@@ -101,54 +185,18 @@ fn line_at<'a>(shape: Shape<'a>, mesh: &Mesh, started: bool) -> Result<Line<'a>,
     match shape {
         Shape::Blank => Ok(Line::Blank),
         Shape::Node { node, first } => new_node(mesh, started, node, first),
-        Shape::Link { a, b } => {
-            let (a, b) = known_pair(mesh, a, b)?;
-            Ok(Line::Step(Event::Link { a, b }))
-        }
-        Shape::Cut { a, b } => {
-            let (a, b) = known_pair(mesh, a, b)?;
-            Ok(Line::Step(Event::Cut { a, b }))
-        }
-        Shape::Data { node, dest, body } => {
-            let (node, dest) = known_two(mesh, node, dest)?;
-            Ok(Line::Step(Event::Give { node, dest, body }))
-        }
-        Shape::Turn { node } => {
-            let node = known(mesh, node)?;
-            Ok(Line::Step(Event::Turn { node }))
-        }
-        Shape::Send { node, dest } => {
-            let (node, dest) = known_two(mesh, node, dest)?;
-            Ok(Line::Step(Event::Send { node, dest }))
-        }
-        Shape::Ask { node, dest } => {
-            let (node, dest) = known_two(mesh, node, dest)?;
-            Ok(Line::Step(Event::Ask { node, dest }))
-        }
-        Shape::Deliver { id } => {
-            after_nodes(mesh)?;
-            Ok(Line::Step(Event::Deliver { id }))
-        }
-        Shape::Lose { id } => {
-            after_nodes(mesh)?;
-            Ok(Line::Step(Event::Lose { id }))
-        }
-        Shape::Auto { count } => {
-            after_nodes(mesh)?;
-            Ok(Line::Auto { count })
-        }
-        Shape::Show { node } => {
-            let node = known(mesh, node)?;
-            Ok(Line::Show { node })
-        }
-        Shape::Route { node, dest } => {
-            let (node, dest) = known_two(mesh, node, dest)?;
-            Ok(Line::Route { node, dest })
-        }
-        Shape::Flight => {
-            after_nodes(mesh)?;
-            Ok(Line::Flight)
-        }
+        Shape::Link { a, b } => link_at(mesh, a, b),
+        Shape::Cut { a, b } => cut_at(mesh, a, b),
+        Shape::Data { node, dest, body } => data_at(mesh, node, dest, body),
+        Shape::Turn { node } => turn_at(mesh, node),
+        Shape::Send { node, dest } => send_at(mesh, node, dest),
+        Shape::Ask { node, dest } => ask_at(mesh, node, dest),
+        Shape::Deliver { id } => plain_at(mesh, Line::Step(Event::Deliver { id })),
+        Shape::Lose { id } => plain_at(mesh, Line::Step(Event::Lose { id })),
+        Shape::Auto { count } => plain_at(mesh, Line::Auto { count }),
+        Shape::Show { node } => show_at(mesh, node),
+        Shape::Route { node, dest } => route_at(mesh, node, dest),
+        Shape::Flight => plain_at(mesh, Line::Flight),
     }
 }
 

@@ -1,5 +1,5 @@
 //! What a line says by itself, and the faults of a line by itself.
-ghost use Rattle.std.specs.Prelude.{◌≡◌, ◌<◌, ◌≤◌, ◌+◌, ◌^◌, ◌∷◌, ◌&&◌, nat_le, length, IfOk, IfErr, IsTrue, IfSome, Some, None};
+ghost use Rattle.std.specs.Prelude.{◌≡◌, ℕ, ◌<◌, ◌≤◌, ◌+◌, ◌^◌, ◌∷◌, ◌&&◌, nat_le, length, IfOk, IfErr, IsTrue, IfSome, Some, None};
 ghost use Rattle.std.specs.List.{list_all};
 ghost use Rattle.mesh_base.specs.Addresses.{address_of};
 ghost use Rattle.mesh_base.specs.Numbers.{number_up_to as number_up_to_lem, positive};
@@ -284,6 +284,108 @@ fn data_line(at: usize, arguments: Option<&[u8]>) -> Result<Shape<'_>, LineFault
     Ok(Shape::Data { node, dest, body })
 }
 
+// A line of each command stands in a function of its own, so that no line pays for the frame of another.
+
+fn link_line(at: usize, arguments: Option<&[u8]>) -> Result<Shape<'static>, LineFault>
+    requires { IfSome arguments (λ words. at + length words.now < 2 ^ 63) }
+    ensures value { seen_shape result ≡ arguments_of_lem Command.Link at (rest_parts 32 arguments.entry) }
+    ensures within { IfOk result IsShape }
+{
+    let (a, b) = two_addresses(at, arguments)?;
+    Ok(Shape::Link { a, b })
+}
+
+fn cut_line(at: usize, arguments: Option<&[u8]>) -> Result<Shape<'static>, LineFault>
+    requires { IfSome arguments (λ words. at + length words.now < 2 ^ 63) }
+    ensures value { seen_shape result ≡ arguments_of_lem Command.Cut at (rest_parts 32 arguments.entry) }
+    ensures within { IfOk result IsShape }
+{
+    let (a, b) = two_addresses(at, arguments)?;
+    Ok(Shape::Cut { a, b })
+}
+
+fn send_line(at: usize, arguments: Option<&[u8]>) -> Result<Shape<'static>, LineFault>
+    requires { IfSome arguments (λ words. at + length words.now < 2 ^ 63) }
+    ensures value { seen_shape result ≡ arguments_of_lem Command.Send at (rest_parts 32 arguments.entry) }
+    ensures within { IfOk result IsShape }
+{
+    let (node, dest) = two_addresses(at, arguments)?;
+    Ok(Shape::Send { node, dest })
+}
+
+fn ask_line(at: usize, arguments: Option<&[u8]>) -> Result<Shape<'static>, LineFault>
+    requires { IfSome arguments (λ words. at + length words.now < 2 ^ 63) }
+    ensures value { seen_shape result ≡ arguments_of_lem Command.Ask at (rest_parts 32 arguments.entry) }
+    ensures within { IfOk result IsShape }
+{
+    let (node, dest) = two_addresses(at, arguments)?;
+    Ok(Shape::Ask { node, dest })
+}
+
+fn route_line(at: usize, arguments: Option<&[u8]>) -> Result<Shape<'static>, LineFault>
+    requires { IfSome arguments (λ words. at + length words.now < 2 ^ 63) }
+    ensures value { seen_shape result ≡ arguments_of_lem Command.Route at (rest_parts 32 arguments.entry) }
+    ensures within { IfOk result IsShape }
+{
+    let (node, dest) = two_addresses(at, arguments)?;
+    Ok(Shape::Route { node, dest })
+}
+
+fn turn_line(at: usize, arguments: Option<&[u8]>) -> Result<Shape<'static>, LineFault>
+    requires { IfSome arguments (λ words. at + length words.now < 2 ^ 63) }
+    ensures value { seen_shape result ≡ arguments_of_lem Command.Turn at (rest_parts 32 arguments.entry) }
+    ensures within { IfOk result IsShape }
+{
+    let node = one_address(at, arguments)?;
+    Ok(Shape::Turn { node })
+}
+
+fn show_line(at: usize, arguments: Option<&[u8]>) -> Result<Shape<'static>, LineFault>
+    requires { IfSome arguments (λ words. at + length words.now < 2 ^ 63) }
+    ensures value { seen_shape result ≡ arguments_of_lem Command.Show at (rest_parts 32 arguments.entry) }
+    ensures within { IfOk result IsShape }
+{
+    let node = one_address(at, arguments)?;
+    Ok(Shape::Show { node })
+}
+
+fn deliver_line(at: usize, arguments: Option<&[u8]>) -> Result<Shape<'static>, LineFault>
+    requires { IfSome arguments (λ words. at + length words.now < 2 ^ 63) }
+    ensures value { seen_shape result ≡ arguments_of_lem Command.Deliver at (rest_parts 32 arguments.entry) }
+    ensures within { IfOk result IsShape }
+{
+    let id = one_number(u64::MAX, at, arguments)?;
+    Ok(Shape::Deliver { id })
+}
+
+fn lose_line(at: usize, arguments: Option<&[u8]>) -> Result<Shape<'static>, LineFault>
+    requires { IfSome arguments (λ words. at + length words.now < 2 ^ 63) }
+    ensures value { seen_shape result ≡ arguments_of_lem Command.Lose at (rest_parts 32 arguments.entry) }
+    ensures within { IfOk result IsShape }
+{
+    let id = one_number(u64::MAX, at, arguments)?;
+    Ok(Shape::Lose { id })
+}
+
+fn auto_line(at: usize, arguments: Option<&[u8]>) -> Result<Shape<'static>, LineFault>
+    requires { IfSome arguments (λ words. at + length words.now < 2 ^ 63) }
+    ensures value { seen_shape result ≡ arguments_of_lem Command.Auto at (rest_parts 32 arguments.entry) }
+    ensures within { IfOk result IsShape }
+{
+    let count = one_number(MOST_EVENTS, at, arguments)?;
+    Ok(Shape::Auto {
+        count: count as u32,
+    })
+}
+
+fn flight_line(arguments: Option<&[u8]>) -> Result<Shape<'static>, LineFault>
+    ensures value { (at : ℕ) → seen_shape result ≡ arguments_of_lem Command.Flight at (rest_parts 32 arguments.entry) }
+    ensures within { IfOk result IsShape }
+{
+    no_argument(arguments)?;
+    Ok(Shape::Flight)
+}
+
 fn arguments_of<'a>(
     command: Command,
     at: usize,
@@ -295,53 +397,18 @@ fn arguments_of<'a>(
 {
     match command {
         Command::Node => node_line(at, arguments),
-        Command::Link => {
-            let (a, b) = two_addresses(at, arguments)?;
-            Ok(Shape::Link { a, b })
-        }
-        Command::Cut => {
-            let (a, b) = two_addresses(at, arguments)?;
-            Ok(Shape::Cut { a, b })
-        }
+        Command::Link => link_line(at, arguments),
+        Command::Cut => cut_line(at, arguments),
         Command::Data => data_line(at, arguments),
-        Command::Turn => {
-            let node = one_address(at, arguments)?;
-            Ok(Shape::Turn { node })
-        }
-        Command::Send => {
-            let (node, dest) = two_addresses(at, arguments)?;
-            Ok(Shape::Send { node, dest })
-        }
-        Command::Ask => {
-            let (node, dest) = two_addresses(at, arguments)?;
-            Ok(Shape::Ask { node, dest })
-        }
-        Command::Deliver => {
-            let id = one_number(u64::MAX, at, arguments)?;
-            Ok(Shape::Deliver { id })
-        }
-        Command::Lose => {
-            let id = one_number(u64::MAX, at, arguments)?;
-            Ok(Shape::Lose { id })
-        }
-        Command::Auto => {
-            let count = one_number(MOST_EVENTS, at, arguments)?;
-            Ok(Shape::Auto {
-                count: count as u32,
-            })
-        }
-        Command::Show => {
-            let node = one_address(at, arguments)?;
-            Ok(Shape::Show { node })
-        }
-        Command::Route => {
-            let (node, dest) = two_addresses(at, arguments)?;
-            Ok(Shape::Route { node, dest })
-        }
-        Command::Flight => {
-            no_argument(arguments)?;
-            Ok(Shape::Flight)
-        }
+        Command::Turn => turn_line(at, arguments),
+        Command::Send => send_line(at, arguments),
+        Command::Ask => ask_line(at, arguments),
+        Command::Deliver => deliver_line(at, arguments),
+        Command::Lose => lose_line(at, arguments),
+        Command::Auto => auto_line(at, arguments),
+        Command::Show => show_line(at, arguments),
+        Command::Route => route_line(at, arguments),
+        Command::Flight => flight_line(arguments),
     }
 }
 
