@@ -1,12 +1,12 @@
 -- The slots of copies in flight: which copies they have, and which after one comes or goes.
-use Rattle.std.proofs.Common.{◌≡◌, ◌≢◌, ℕ, zero, suc, ◌+◌, ◌-◌, ◌^◌, ◌<◌, ◌≤◌, ◌⊎◌, inl, inr, true, false, eqb, leb, List, [], ◌∷◌, length, drop, get_or, Option, Some, None, refl, sym, ap, subst, ◌∙◌, arith, All, eq-eqb}
+use Rattle.std.proofs.Common.{◌≡◌, ◌≢◌, ℕ, zero, suc, ◌+◌, ◌-◌, ◌^◌, ◌<◌, ◌≤◌, ◌⊎◌, inl, inr, true, false, eqb, leb, List, [], ◌∷◌, length, drop, get_or, Option, Some, None, refl, sym, ap, subst, ◌∙◌, arith, All, eq-eqb, cond, Bool, ◌++◌}
 use Rattle.std.specs.Prelude.{slice_get, slice_set, IfSome, IfNone}
 use Rattle.std.proofs.lemmas.Bool.{ne_eqb, le-leb, lt-leb, cases_lt}
 use Rattle.std.proofs.lemmas.Option.{same_Some, slice_get_within}
 use Rattle.mesh_base.specs.Views.{flying_seen}
 use Rattle.mesh_base.specs.declared.events.Flying.{Flying}
 use Rattle.mesh_base.specs.declared.events.FlyingView.{FlyingView}
-use Rattle.mesh_radio.specs.Copies.{find_copy, without, from_id, AreNumbered}
+use Rattle.mesh_radio.specs.Copies.{find_copy, without, from_id, copies_to, is_data, data_in, AreNumbered}
 use Rattle.mesh_radio.specs.Kept.{copies_in, AreSlots, IsNextAt}
 use Rattle.mesh_radio.proofs.Finds.{absent}
 
@@ -87,6 +87,42 @@ one_less (None ∷ slots) zero c e = absurd cc
 one_less (Some d ∷ slots) zero c e = omega arith
 one_less (None ∷ slots) (suc k) c e = one_less slots k c e
 one_less (Some d ∷ slots) (suc k) c e = let rest = one_less slots k c e in omega arith
+
+-- and one of data less, if it was of data
+pub data_less : (slots : Slots) (k : ℕ) (c : Flying) → slice_get slots k ≡ Some (Some c) → data_in (copies_in slots) ≡ data_in (copies_in (slice_set slots k None)) + cond (is_data c.bytes) 1 0
+data_less [] zero c e = absurd cc
+data_less [] (suc k) c e = absurd cc
+data_less (None ∷ slots) zero c e = absurd cc
+data_less (Some d ∷ slots) zero c e =
+    let same : d ≡ c = cc in
+    let kind : ◌≡◌ {A = ℕ} (cond (is_data d.bytes) 1 0) (cond (is_data c.bytes) 1 0) = ap (λ (x : Flying). cond (is_data x.bytes) 1 0) same in
+    omega arith
+data_less (None ∷ slots) (suc k) c e = data_less slots k c e
+data_less (Some d ∷ slots) (suc k) c e = let rest = data_less slots k c e in omega arith
+
+pub at_most_all : (b : Bool) (n : ℕ) → cond b n 0 ≤ n
+at_most_all true n = omega arith
+at_most_all false n = omega arith
+
+pub data_few : (cs : List Flying) → data_in cs ≤ length cs
+data_few [] = omega arith
+data_few (c ∷ cs) = let rest = data_few cs in let one = at_most_all (is_data c.bytes) 1 in omega arith
+
+pub data_append : (xs ys : List Flying) → data_in (xs ++ ys) ≡ data_in xs + data_in ys
+data_append [] ys = omega arith
+data_append (x ∷ xs) ys = let rest = data_append xs ys in omega arith
+
+pub data_cast : (tos : List ℕ) (id from : ℕ) (bytes : List ℕ) → data_in (copies_to tos id from bytes) ≡ cond (is_data bytes) (length tos) 0
+data_cast [] id from bytes = none (is_data bytes)
+  where
+    none : (b : Bool) → ◌≡◌ {A = ℕ} 0 (cond b 0 0)
+    none true = refl
+    none false = refl
+data_cast (to ∷ tos) id from bytes = one (is_data bytes) (length tos) (data_in (copies_to tos (id + 1) from bytes)) (data_cast tos (id + 1) from bytes)
+  where
+    one : (b : Bool) (n m : ℕ) → m ≡ cond b n 0 → cond b 1 0 + m ≡ cond b (suc n) 0
+    one true n m e = omega arith
+    one false n m e = omega arith
 
 -- there are no more copies than slots
 pub few_copies : (slots : Slots) → length (copies_in slots) ≤ length slots

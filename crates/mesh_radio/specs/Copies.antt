@@ -1,6 +1,8 @@
 -- The copies of packets in flight. They are the mesh's copies, with bytes in place of messages.
-use Rattle.std.specs.Prelude.{◌≢◌, ◌<◌, ◌≤◌, ℕ, ◌+◌, ◌==◌, nat_le, not, if◌then◌else◌, Option, Some, None, List, [], ◌∷◌, filter}
+use Rattle.std.specs.Prelude.{◌≢◌, ◌<◌, ◌≤◌, ℕ, ◌+◌, ◌==◌, nat_le, not, Bool, if◌then◌else◌, Option, Some, None, List, [], ◌∷◌, filter}
 use Rattle.mesh_base.specs.declared.events.Flying.{Flying}
+use Rattle.aodv_wire.specs.Spells.{kind}
+use Rattle.aodv_wire.specs.DataPacket.{type_number}
 
 -- the copy of that id
 abbrev pub find_copy : List Flying → ℕ → Option Flying
@@ -28,3 +30,12 @@ AreNumbered low (c ∷ cs) next = (low ≤ c.id) × AreNumbered (c.id + 1) cs ne
 -- a copy is between two nodes, each below the number of nodes
 abbrev pub IsBetween : ℕ → Flying → Type 0
 IsBetween size c = (c.from < size) × (c.to < size) × (c.from ≢ c.to)
+
+-- the packet is a datum's
+abbrev pub is_data : List ℕ → Bool
+is_data bytes = kind bytes == type_number
+
+-- how many of these copies are of data
+abbrev pub data_in : List Flying → ℕ
+data_in [] = 0
+data_in (c ∷ cs) = (if is_data c.bytes then 1 else 0) + data_in cs

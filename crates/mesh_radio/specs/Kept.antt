@@ -8,7 +8,7 @@ use Rattle.mesh_base.specs.declared.events.Flying.{Flying}
 use Rattle.mesh_radio.specs.declared.copies.Sent.{Sent}
 use Rattle.aodv_model.specs.Pairs.{Pairs}
 use Rattle.aodv_model.specs.Codes.{pairs_code}
-use Rattle.mesh_radio.specs.Copies.{copies_to, IsBetween}
+use Rattle.mesh_radio.specs.Copies.{copies_to, data_in, IsBetween}
 use Rattle.mesh_radio.specs.Radios.{RadioState}
 
 -- ---- a graph, kept as the set of neighbours of each node
@@ -102,11 +102,12 @@ abbrev pub slots_to : List ℕ → List (Option ℕ)
 slots_to [] = []
 slots_to (to ∷ tos) = Some to ∷ slots_to tos
 
--- slots from id `first` on, with `count` copies in all, and their packets
-pub record AreKept (packets : List Sent) (slots : List (Option ℕ)) (first count : ℕ) : Type 0 where
+-- slots from id `first` on, with `count` copies in all, `of_data` of them of data, and their packets
+pub record AreKept (packets : List Sent) (slots : List (Option ℕ)) (first count of_data : ℕ) : Type 0 where
   pub ending : AreEnding first packets (first + length slots)
   pub ids : (1 ≤ first) × (first + length slots < 2 ^ 64)
   pub counted : count ≡ length (copies_in (opened packets first slots))
+  pub with_data : of_data ≡ data_in (copies_in (opened packets first slots))
 
 -- of slots from id `first` on, so many, the k-th is that of this id, or none is
 abbrev pub IsPlaceOf : ℕ → ℕ → ℕ → Option ℕ → Type 0

@@ -1,11 +1,11 @@
 //! Copies of packets in flight, by rising id.
-ghost use Rattle.std.specs.Prelude.{◌≡◌, ℕ, ◌<◌, ◌≤◌, ◌+◌, ◌-◌, ◌^◌, ◌++◌, ◌∷◌, [], List, length, slice_get, drop, option_map, Some, OnOk, OnErr, IfSome, IfNone};
+ghost use Rattle.std.specs.Prelude.{◌≡◌, ℕ, ◌<◌, ◌≤◌, ◌+◌, ◌-◌, ◌^◌, ◌++◌, ◌∷◌, [], List, length, slice_get, drop, option_map, Some, OnOk, OnErr, IfSome, IfNone, if◌then◌else◌};
 ghost use Rattle.std.specs.VecDeque.{deque_len, deque_capacity};
 ghost use Rattle.mesh_base.specs.Views.{flying_seen};
 ghost use Rattle.mesh_base.specs.declared.events.Flying.{Flying};
 ghost use Rattle.mesh_model.specs.Worlds.{members_below};
 ghost use Rattle.mesh_radio.specs.declared.copies.Sent.{Sent};
-ghost use Rattle.mesh_radio.specs.Copies.{find_copy, without, from_id, AreNumbered};
+ghost use Rattle.mesh_radio.specs.Copies.{find_copy, without, from_id, is_data, data_in, AreNumbered};
 ghost use Rattle.mesh_radio.specs.Kept.{copies_in, opened, slots_to, packet_of, copy_at as copy_lem, with_flights, AreEnding, HaveEnded, IsNextAt, IsPlaceOf};
 
 use crate::rooms::Rooms;
@@ -13,6 +13,9 @@ use mesh_base::{Bytes, Flying, FlyingView, NoMemory, NodeSet, Room};
 use std::alloc::Global;
 use std::collections::VecDeque;
 use std::marker::Model;
+
+/// The type of a data packet, in its first byte.
+const DATA_TYPE: u8 = 16;
 
 /// A packet that was cast. Its copies share it: those of the ids from the end of the packet before it.
 #[derive(Drop)]
@@ -31,6 +34,7 @@ pub struct Copies {
     first: u64,
     packets: VecDeque<Sent>,
     count: usize,
+    of_data: usize,
     rooms: Rooms,
 }
 
@@ -43,7 +47,18 @@ impl Model for Copies {
 
     ghost view = { λ a. record { flying = copies_in (opened a.packets.items a.first a.slots.items); next_copy = a.first + length a.slots.items; room = a.rooms.room; most = a.rooms.most } };
 
-    ghost invariant = { λ a. AreKept a.packets.items a.slots.items a.first a.count × (a.rooms.room + deque_len a.slots ≤ deque_capacity a.slots) × (a.rooms.room + deque_len a.packets ≤ deque_capacity a.packets) };
+    ghost invariant = { λ a. AreKept a.packets.items a.slots.items a.first a.count a.of_data × (a.rooms.room + deque_len a.slots ≤ deque_capacity a.slots) × (a.rooms.room + deque_len a.packets ≤ deque_capacity a.packets) };
+}
+
+// So many copies, if the packet is a datum's, else none.
+fn if_data(packet: &[u8], copies: usize) -> usize
+    ensures { result ≡ (if is_data packet.now then copies else 0) }
+{
+    if !packet.is_empty() && packet[0] == DATA_TYPE {
+        copies
+    } else {
+        0
+    }
 }
 
 // The place of the slot of this id.
@@ -192,6 +207,7 @@ impl Copies {
             first: 1,
             packets: VecDeque::new(alloc),
             count: 0,
+            of_data: 0,
             rooms: Rooms::new(alloc),
         }
     }
@@ -202,6 +218,13 @@ impl Copies {
         ensures numbered { AreNumbered 1 self.now.flying self.now.next_copy }
     {
         self.count
+    }
+
+    /// How many of the copies in flight are of data.
+    pub fn data_count(&self) -> usize
+        ensures { result ≡ data_in self.now.flying }
+    {
+        self.of_data
     }
 
     /// The id of the next copy.
@@ -250,6 +273,7 @@ impl Copies {
         };
         self.packets.push_back_reserved(sent);
         self.count += copies;
+        self.of_data += if_data(bytes, copies);
     }
 
     /// Takes the copy of this id, its bytes in this room's memory.
@@ -266,8 +290,10 @@ impl Copies {
             to: found.to,
             bytes: room.fill(found.bytes),
         };
+        let less = if_data(found.bytes, 1);
         self.slots[place] = None;
         self.count -= 1;
+        self.of_data -= less;
         self.first = trim_slots(&mut self.slots, self.first);
         trim_packets(&mut self.packets, self.first);
         Some(flying)

@@ -6,7 +6,7 @@ ghost use Rattle.std.specs.FinSet as sets;
 ghost use Rattle.mesh_base.specs.Views.{flying_seen};
 ghost use Rattle.mesh_base.specs.declared.events.Flying.{Flying};
 ghost use Rattle.mesh_model.specs.Worlds.{are_linked, linked_below};
-ghost use Rattle.mesh_radio.specs.Copies.{find_copy, from_id, AreNumbered, IsBetween};
+ghost use Rattle.mesh_radio.specs.Copies.{find_copy, from_id, data_in, AreNumbered, IsBetween};
 ghost use Rattle.mesh_radio.specs.Radios.{opening, with_link, without_link, with_copies, without_copy, receivers};
 
 use crate::adjacency::Adjacency;
@@ -160,6 +160,13 @@ impl Radio {
         ensures between { AllByRecursion (IsBetween self.now.size) self.now.flying }
     {
         self.copies.count()
+    }
+
+    /// How many of the copies in flight are of data. No copy is looked at.
+    pub fn data_count(&self) -> usize
+        ensures { result ≡ data_in self.now.flying }
+    {
+        self.copies.data_count()
     }
 
     /// The copy in flight of the least id from this one on: all copies come one after the other where

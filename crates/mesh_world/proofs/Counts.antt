@@ -13,8 +13,7 @@ use Rattle.mesh_base.specs.Meshes.{Nodes}
 use Rattle.mesh_base.specs.declared.events.Flying.{Flying}
 use Rattle.mesh_base.specs.declared.events.Item.{Item}
 use Rattle.mesh_base.specs.declared.events.Item.TheVariants as item
-use Rattle.mesh_radio.specs.Copies.{from_id}
-use Rattle.mesh_radio.proofs.Finds.{from_zero}
+use Rattle.mesh_radio.specs.Copies.{is_data, data_in}
 use Rattle.aodv_wire.specs.declared.error.WireError.{WireError}
 use Rattle.aodv_wire.specs.Spells.{kind, refusal}
 use Rattle.aodv_wire.proofs.Lines.{said_rreq, said_rrep, said_rerr, said_data}
@@ -30,7 +29,7 @@ use Rattle.mesh_model.specs.Accounts.{total, total_below, counts, in_message, in
 use Rattle.mesh_world.specs.Seen.{node_in}
 use Rattle.mesh_model.specs.Accounts.{any}
 use Rattle.mesh_world.specs.Kept.{shown}
-use Rattle.mesh_world.specs.Counted.{is_data, has_datum, one_if, waiting_for, waiting_at, queued_in, flying_in, AreCounted}
+use Rattle.mesh_world.specs.Counted.{has_datum, one_if, waiting_for, waiting_at, queued_in, flying_in, AreCounted}
 
 -- ---- sums over lists
 
@@ -207,9 +206,6 @@ module _ (mesh : Nodes) (nodes : List NodeSeen) (radio : RadioState) (are : AreC
   pub queued_fits : sum_by (λ n. queued_in n.items) nodes < 2 ^ 64
   queued_fits = let few = are.few in let is = queued_means in omega arith
 
-  pub flying_fits : flying_in radio.flying < 2 ^ 64
-  flying_fits = let few = are.few in let is = flying_means in omega arith
-
 -- ---- the loops
 
 -- one item more
@@ -228,28 +224,13 @@ item_fits items k i b old there is was yes' =
     omega arith
 
 -- one copy more
--- a copy is counted, and those after it are left
-pub copy_next : (copies : List Flying) (start total : ℕ) (f : Flying) (b : Bool) (old new : ℕ) → from_id copies start ≡ f ∷ from_id copies (f.id + 1) → b ≡ is_data f.bytes → old + flying_in (from_id copies start) ≡ total → new ≡ old + one_if b
-    → new + flying_in (from_id copies (f.id + 1)) ≡ total
+-- the radio's count is this
+pub data_flying : (copies : List Flying) → data_in copies ≡ flying_in copies
 unfolding flying_in
-copy_next copies start total f b old new there is was now =
-    let next : sum_by (λ f. one_if (is_data f.bytes)) (from_id copies start) ≡ one_if (is_data f.bytes) + sum_by (λ f. one_if (is_data f.bytes)) (from_id copies (f.id + 1)) = ap (λ cs. sum_by (λ f. one_if (is_data f.bytes)) cs) there ∙ sum_by-cons (λ f. one_if (is_data f.bytes)) f (from_id copies (f.id + 1)) in
-    let same : one_if b ≡ one_if (is_data f.bytes) = ap one_if is in
-    omega arith
-
-pub copy_fits : (copies : List Flying) (start total : ℕ) (f : Flying) (b : Bool) (old : ℕ) → from_id copies start ≡ f ∷ from_id copies (f.id + 1) → b ≡ is_data f.bytes → old + flying_in (from_id copies start) ≡ total → b ≡ true → old + 1 ≤ total
-unfolding flying_in
-copy_fits copies start total f b old there is was yes' =
-    let next : sum_by (λ f. one_if (is_data f.bytes)) (from_id copies start) ≡ one_if (is_data f.bytes) + sum_by (λ f. one_if (is_data f.bytes)) (from_id copies (f.id + 1)) = ap (λ cs. sum_by (λ f. one_if (is_data f.bytes)) cs) there ∙ sum_by-cons (λ f. one_if (is_data f.bytes)) f (from_id copies (f.id + 1)) in
-    let same : one_if (is_data f.bytes) ≡ 1 = ap one_if (sym is ∙ yes') in
-    omega arith
-
-pub all_flying : (copies : List Flying) → 0 + flying_in (from_id copies 0) ≡ flying_in copies
-all_flying copies = let same = ap flying_in (from_zero copies) in omega arith
-
-pub no_more_flying : (copies : List Flying) (start total count : ℕ) → from_id copies start ≡ [] → count + flying_in (from_id copies start) ≡ total → count ≡ total
-unfolding flying_in
-no_more_flying copies start total count none is = let left : sum_by (λ f. one_if (is_data f.bytes)) (from_id copies start) ≡ 0 = ap (λ cs. sum_by (λ f. one_if (is_data f.bytes)) cs) none in omega arith
+data_flying [] = refl
+data_flying (c ∷ cs) =
+    let rest : data_in cs ≡ sum_by (λ f. one_if (is_data f.bytes)) cs = data_flying cs in
+    ap (λ n. one_if (is_data c.bytes) + n) rest ∙ sym (sum_by-cons (λ f. one_if (is_data f.bytes)) c cs)
 
 pub none_queued : 0 ≡ queued_in []
 unfolding queued_in

@@ -1,13 +1,12 @@
 -- The data in stores, inboxes and packets, as they are counted. No public contract cites this file.
-use Rattle.std.specs.Prelude.{◌≡◌, ℕ, ◌+◌, ◌<◌, ◌^◌, ◌==◌, Bool, true, if◌then◌else◌, List, length}
+use Rattle.std.specs.Prelude.{◌≡◌, ℕ, ◌+◌, ◌<◌, ◌^◌, Bool, true, if◌then◌else◌, List, length}
 use Rattle.std.specs.List.{AllByRecursion, sum_by}
 use Rattle.std.specs.FinMap as maps
 use Rattle.mesh_base.specs.Meshes.{Nodes}
 use Rattle.mesh_base.specs.declared.events.Flying.{Flying}
 use Rattle.mesh_base.specs.declared.events.Item.{Item}
 use Rattle.mesh_base.specs.declared.events.Item.TheVariants.{New, Heard}
-use Rattle.aodv_wire.specs.Spells.{kind}
-use Rattle.aodv_wire.specs.DataPacket.{type_number}
+use Rattle.mesh_radio.specs.Copies.{is_data}
 use Rattle.aodv_model.specs.Cores.{bodies_in}
 use Rattle.aodv_node.specs.Seen.{NodeSeen}
 use Rattle.mesh_model.specs.Worlds.{World}
@@ -16,10 +15,6 @@ use Rattle.mesh_radio.specs.Radios.{RadioState}
 use Rattle.mesh_meaning.specs.Packets.{IsWrittenItem, IsWrittenCopy}
 use Rattle.mesh_model.specs.Accounts.{any}
 use Rattle.mesh_world.specs.Kept.{shown}
-
--- the packet is a datum's
-abbrev pub is_data : List ℕ → Bool
-is_data bytes = kind bytes == type_number
 
 -- the item is a datum, or a datum's packet
 abbrev pub has_datum : Item → Bool

@@ -3,7 +3,8 @@ ghost use Rattle.std.specs.Prelude.{◌≡◌, ◌<◌, ◌+◌, ◌^◌, ℕ, l
 ghost use Rattle.mesh_base.specs.Meshes.{Nodes};
 ghost use Rattle.mesh_model.specs.Accounts as model;
 ghost use Rattle.mesh_model.specs.Accounts.{any};
-ghost use Rattle.mesh_world.specs.Counted.{is_data, has_datum, waiting_at, queued_in, flying_in, AreCounted, IsCountOf};
+ghost use Rattle.mesh_radio.specs.Copies.{is_data};
+ghost use Rattle.mesh_world.specs.Counted.{has_datum, waiting_at, queued_in, AreCounted, IsCountOf};
 
 use aodv_inbox::Inbox;
 use aodv_node::Node;
@@ -24,7 +25,7 @@ pub struct Totals {
     pub flying: u64,
 }
 
-/// Counts the data. All destinations with data, items and copies are looked at.
+/// Counts the data. All destinations with data and all items are looked at.
 pub(crate) fn count_data(nodes: &[Node], radio: &Radio) -> Totals
     requires few { (mesh : Nodes) × AreCounted mesh nodes.now radio.now }
     ensures waiting { IsCountOf nodes.now radio.now (model.waiting any) result.waiting }
@@ -40,7 +41,7 @@ pub(crate) fn count_data(nodes: &[Node], radio: &Radio) -> Totals
     Totals {
         waiting,
         queued,
-        flying: count_flying(radio),
+        flying: radio.data_count() as u64,
     }
 }
 
@@ -70,23 +71,6 @@ fn count_queued(inbox: &Inbox) -> u64
         if has_datum(inbox.at(k)) {
             count += 1;
         }
-    }
-    count
-}
-
-// The data in flight.
-fn count_flying(radio: &Radio) -> u64
-    requires { flying_in radio.now.flying < 2 ^ 64 }
-    ensures { result ≡ flying_in radio.now.flying }
-{
-    let mut count = 0;
-    let mut start = 0;
-    let mut hint = 0;
-    while let Some(flying) = radio.next_from(start, &mut hint) {
-        if is_data(flying.bytes) {
-            count += 1;
-        }
-        start = flying.id + 1;
     }
     count
 }

@@ -1,7 +1,7 @@
 use Rattle.std.proofs.Common.{◌≡◌, ◌<◌, ◌+◌, ◌^◌, refl, ap, ◌∙◌, arith}
 use Rattle.std.proofs.lemmas.Option.{slice_get_read}
 use Rattle.mesh_world.specs.Counted.{waiting_at, queued_in}
-use Rattle.mesh_world.proofs.Counts.{flying_fits, flying_means, tally_waiting_fits, tally_queued_fits, tally_waiting, tally_queued}
+use Rattle.mesh_world.proofs.Counts.{data_flying, flying_means, tally_waiting_fits, tally_queued_fits, tally_waiting, tally_queued}
 use Rattle.mesh_world.proofs.totals.count_data.Goals as goal
 
 pub count_waiting-waiting-requires : goal.count_waiting-waiting-requires
@@ -31,9 +31,6 @@ overflow_add-queued c =
     let is : c.count_queued-queued.result ≡ queued_in c.node-item.result.items = c.count_queued-queued.ensures ∙ ap queued_in c.inbox.ensures.items in
     omega arith
 
-pub count_flying-requires : goal.count_flying-requires
-count_flying-requires c = flying_fits c.requires.few.0 c.args.nodes.now c.args.radio.now c.requires.few.1
-
 pub returns-clause-waiting : goal.returns-clause-waiting
 returns-clause-waiting c = λ mesh are. tally_waiting mesh c.args.nodes.now c.args.radio.now are c.loop-node.node-index c.loop-node.waiting c.loop-node.queued (omega (arith, c.loop-node-test.false)) c.loop-node.invariant
 
@@ -41,4 +38,4 @@ pub returns-clause-queued : goal.returns-clause-queued
 returns-clause-queued c = λ mesh are. tally_queued mesh c.args.nodes.now c.args.radio.now are c.loop-node.node-index c.loop-node.waiting c.loop-node.queued (omega (arith, c.loop-node-test.false)) c.loop-node.invariant
 
 pub returns-clause-flying : goal.returns-clause-flying
-returns-clause-flying c = λ mesh are. c.count_flying.ensures ∙ flying_means mesh c.args.nodes.now c.args.radio.now are
+returns-clause-flying c = λ mesh are. c.data_count.ensures ∙ data_flying c.args.radio.now.flying ∙ flying_means mesh c.args.nodes.now c.args.radio.now are

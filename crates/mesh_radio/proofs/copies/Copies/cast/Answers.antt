@@ -1,11 +1,11 @@
-use Rattle.std.proofs.Common.{◌≡◌, ◌+◌, ◌-◌, ◌++◌, ◌∷◌, [], rules, length, deque_len, ap, subst, sym, arith, ◌∙◌}
+use Rattle.std.proofs.Common.{◌≡◌, ◌+◌, ◌-◌, ◌++◌, ◌∷◌, [], rules, length, deque_len, ap, subst, sym, arith, ◌∙◌, cond}
 use Rattle.std.proofs.lemmas.List.{length_push, length-append}
 use Rattle.mesh_model.specs.Worlds.{members_below}
 use Rattle.mesh_radio.specs.declared.copies.Sent.{Sent}
-use Rattle.mesh_radio.specs.Copies.{copies_to}
+use Rattle.mesh_radio.specs.Copies.{copies_to, is_data, data_in}
 use Rattle.mesh_radio.specs.Kept.{Memory, Flights, with_flights, copies_in, opened, slots_to, AreEnding}
 use Rattle.mesh_radio.proofs.Casts.{with_flights-none, copies_to-length}
-use Rattle.mesh_radio.proofs.Numbered.{few_copies}
+use Rattle.mesh_radio.proofs.Numbered.{few_copies, at_most_all, data_few, data_append, data_cast}
 use Rattle.mesh_radio.proofs.Opened.{cast_copies, ending_more, pushed, no_items, nil_append, opened_length}
 use Rattle.mesh_radio.proofs.copies.Copies.cast.Goals as goal
 
@@ -64,6 +64,24 @@ overflow_add-self c =
     let all = opened_length inside.packets.items inside.first slots in
     omega (arith, c.len.ensures, c.len-2.ensures, c.len-before.ensures, kept.counted, c.requires.next)
 
+pub overflow_add-self-2 : goal.overflow_add-self-2
+overflow_add-self-2 c =
+    let inside = c.self.inside in
+    let slots = inside.slots.items in
+    let ms = members_below 256 c.args.to.now in
+    let now = c.push_slots.new.slots in
+    let kept = c.self.invariant.0 in
+    let size = pushed slots now.items ms c.push_slots.ensures.items in
+    let long : deque_len now ≡ length now.items = search rules in
+    let was : deque_len inside.slots ≡ length slots = search rules in
+    let next = ap (λ (v : Flights). v.next_copy) c.self.view_is in
+    let all = opened inside.packets.items inside.first slots in
+    let few = few_copies all in
+    let fewer = data_few (copies_in all) in
+    let size-all = opened_length inside.packets.items inside.first slots in
+    let more = at_most_all (is_data c.args.bytes.now) (c.len.result - c.len-before.result) in
+    omega (arith, c.len.ensures, c.len-before.ensures, kept.with_data, c.if_data.ensures, c.requires.next)
+
 pub invariant_of-self-2 : goal.invariant_of-self-2
 invariant_of-self-2 c =
     let inside = c.self.inside in
@@ -86,12 +104,20 @@ invariant_of-self-2 c =
     let total = ap length copies ∙ length-append (copies_in (opened packets first slots)) (copies_to ms (first + length slots) sent.from sent.bytes) in
     let each = copies_to-length ms (first + length slots) sent.from sent.bytes in
     let room = ap (λ (m : Memory). m.room) c.fill.ensures.room in
+    let spent : c.len.result - c.len-before.result ≡ length ms = omega (arith, c.len.ensures, c.len-before.ensures) in
     let grows : first + length now.items ≡ sent.end = omega (arith, c.len.ensures, c.len-2.ensures) in
     let grown = ap length c.push_back_reserved.ensures.items in
     let one = length_push packets sent in (
       record {
         ending = subst (λ e. AreEnding first later.items e) (sym grows) (subst (λ ps. AreEnding first ps sent.end) (sym c.push_back_reserved.ensures.items) ending);
         ids = (kept.ids.0, omega (arith, c.requires.next));
+        with_data = omega (
+            arith, kept.with_data, ap data_in copies, data_append (copies_in (opened packets first slots)) (copies_to ms (first + length slots) sent.from sent.bytes),
+            data_cast ms (first + length slots) sent.from sent.bytes, c.if_data.ensures, ap (λ bs. cond (is_data bs) (length ms) 0) c.fill.ensures.bytes,
+            ap (λ n. cond (is_data c.args.bytes.now) n 0) spent,
+            ap (λ ps. data_in (copies_in (opened ps first now.items))) c.push_back_reserved.ensures.items,
+            ap (λ ss. data_in (copies_in (opened (packets ++ sent ∷ []) first ss))) c.push_slots.ensures.items,
+        );
         counted = omega (
             arith, kept.counted, total, each, c.len.ensures, c.len-2.ensures, c.len-before.ensures,
             ap (λ ps. length (copies_in (opened ps first now.items))) c.push_back_reserved.ensures.items,

@@ -1,12 +1,12 @@
 use Rattle.std.proofs.Common.{◌≡◌, ◌+◌, rules, length, deque_len, ap, subst, sym, refl, arith, ◌∙◌, Some, None}
-use Rattle.std.specs.Prelude.{slice_set, option_map}
+use Rattle.std.specs.Prelude.{option_map}
 use Rattle.std.proofs.lemmas.Option.{slice_get_read}
 use Rattle.std.proofs.lemmas.List.{length-set}
 use Rattle.mesh_base.specs.Views.{flying_seen}
-use Rattle.mesh_radio.specs.Copies.{find_copy, without}
+use Rattle.mesh_radio.specs.Copies.{find_copy, without, data_in}
 use Rattle.mesh_radio.specs.Kept.{Flights, copies_in, opened, AreEnding}
 use Rattle.mesh_radio.proofs.Finds.{absent, without_none}
-use Rattle.mesh_radio.proofs.Numbered.{found_in, taken_in, one_less, outside}
+use Rattle.mesh_radio.proofs.Numbered.{found_in, taken_in, one_less, data_less, outside}
 use Rattle.mesh_radio.proofs.Opened.{opened_slots, opened_at, opened_set, opened_same, past_opened}
 use Rattle.mesh_radio.proofs.copies.Copies.take.Goals as goal
 
@@ -81,6 +81,17 @@ overflow_sub-self c =
     let copy = opened_at inside.packets.items inside.first c.args.id c.in_ok-place.place slots c.index.result.now at place.1 ∙ ap Some (sym some) in
     omega (arith, one_less all c.in_ok-place.place (flying_seen c.in_ok-found.found) copy, c.self.invariant.0.counted)
 
+pub overflow_sub-self-2 : goal.overflow_sub-self-2
+overflow_sub-self-2 c =
+    let inside = c.self.inside in
+    let slots = inside.slots.items in
+    let all = opened inside.packets.items inside.first slots in
+    let place = c.in_ok-place.ensures in
+    let at = slice_get_read slots (length slots) c.in_ok-place.place c.index.result.now refl place.0 c.index.ensures in
+    let some = ap (option_map flying_seen) (sym c.in_ok-found.was) ∙ c.copy_at.ensures in
+    let copy = opened_at inside.packets.items inside.first c.args.id c.in_ok-place.place slots c.index.result.now at place.1 ∙ ap Some (sym some) in
+    omega (arith, data_less all c.in_ok-place.place (flying_seen c.in_ok-found.found) copy, c.self.invariant.0.with_data, c.if_data-less.ensures)
+
 pub invariant_of-self : goal.invariant_of-self
 invariant_of-self c =
     let inside = c.self.inside in
@@ -111,6 +122,10 @@ invariant_of-self c =
       record {
         ending = subst (AreEnding later kept-packets) (sym next) ending;
         ids = (omega (arith, trim.from, kept.ids.0), omega (arith, kept.ids.1));
+        with_data = omega (
+            arith, ap (λ os. data_in (copies_in os)) same, ap data_in (trim.copies packets), ap (λ os. data_in (copies_in os)) (opened_set packets first k slots),
+            data_less all k (flying_seen c.in_ok-found.found) copy, kept.with_data, c.if_data-less.ensures,
+        );
         counted = omega (arith, copies, one_less all k (flying_seen c.in_ok-found.found) copy, kept.counted);
       },
       omega (arith, long, was, trim.from, next, trim.capacity, c.self.invariant.1),
