@@ -145,7 +145,16 @@ impl Steps for World {
     }
 
     fn step(&mut self, alloc: Global, e: &Event<'_>, out: &mut Packet) -> Result<Done, StepError> {
-        self.parts.step(alloc, e, out)
+        match *e {
+            Event::Give { node, dest, body } => self.parts.give(alloc, node, dest, body),
+            Event::Turn { node } => self.parts.turn(node, out),
+            Event::Send { node, dest } => self.parts.send(node, dest, out),
+            Event::Ask { node, dest } => self.parts.ask(node, dest, out),
+            Event::Link { a, b } => Ok(self.parts.link(a, b)),
+            Event::Cut { a, b } => Ok(self.parts.cut(a, b)),
+            Event::Deliver { id } => self.parts.deliver(alloc, id),
+            Event::Lose { id } => self.parts.lose(alloc, id),
+        }
     }
 
     fn world(&self) -> &World {
