@@ -50,8 +50,8 @@ returns-in-Err-NoMemory-clause-done c =
     of_ends _ old _ _ _ _ _ _ (ask_no_memory_end old.mesh old.nodes.items old.radio c.make_room.new.self old.ready old.steps c.args.x c.args.dest c.index_mut.result.now c.ask.new.self c.ask.new.out.items
     c.requires.kept c.make_room.ensures.same c.requires.node c.index_mut.ensures.value c.ask.ensures.others (rw c.in-Err-NoMemory.field-0-is at c.in-Err-NoMemory.ensures.does))
 
-pub returns-in-Ok-clause-done : goal.returns-in-Ok-clause-done
-returns-in-Ok-clause-done c =
+pub returns-clause-done : goal.returns-clause-done
+returns-clause-done c =
     let old = c.args.self.now in
     let count = count_set old.mesh old.nodes.items old.radio old.ready old.steps c.args.x c.ask.new.self c.requires.kept in
     let at = set_got old.nodes.items c.args.x c.ask.new.self (let n = count_of old.mesh old.nodes.items old.radio old.ready old.steps c.requires.kept in let l = c.requires.node in omega arith) in

@@ -44,8 +44,8 @@ returns-in-Err-Full-clause-done c =
     of_ends _ old _ _ _ _ _ _ (send_full_end old.mesh old.nodes.items old.radio c.make_room.new.self old.ready old.steps c.args.x c.args.dest c.range-range.result c.in-Err-Full.field _ c.index_mut.result.now c.send.new.self c.send.new.out.items
     c.requires.kept c.make_room.ensures.same c.requires.node c.index_mut.ensures.value c.range-range.ensures.value (sym c.in-Err-Full.field-is) c.send.ensures.others (rw c.in-Err-Full.field-0-is at c.in-Err-Full.ensures.does))
 
-pub returns-in-Ok-clause-done : goal.returns-in-Ok-clause-done
-returns-in-Ok-clause-done c =
+pub returns-clause-done : goal.returns-clause-done
+returns-clause-done c =
     let old = c.args.self.now in
     let count = count_set old.mesh old.nodes.items old.radio old.ready old.steps c.args.x c.send.new.self c.requires.kept in
     let at = set_got old.nodes.items c.args.x c.send.new.self (let n = count_of old.mesh old.nodes.items old.radio old.ready old.steps c.requires.kept in let l = c.requires.node in omega arith) in

@@ -57,14 +57,14 @@ returns-in-Err-NoMemory-clause-done c =
     of_ends _ old _ _ _ _ _ _ (no_memory_end _ old.mesh old.nodes.items old.radio c.make_room.new.self old.ready old.steps c.args.x c.index_mut.result.now c.turn.new.self c.turn.new.out.items
     c.requires.kept c.make_room.ensures.same c.requires.node c.index_mut.ensures.value (rw c.in-Err-NoMemory.field-0-is at c.in-Err-NoMemory.ensures.turn))
 
-pub returns-in-Ok-clause-done : goal.returns-in-Ok-clause-done
-returns-in-Ok-clause-done c =
+pub returns-clause-done : goal.returns-clause-done
+returns-clause-done c =
     let old = c.args.self.now in
     let count = count_set old.mesh old.nodes.items old.radio old.ready old.steps c.args.x c.turn.new.self c.requires.kept in
     let at = set_got old.nodes.items c.args.x c.turn.new.self (let n = count_of old.mesh old.nodes.items old.radio old.ready old.steps c.requires.kept in let l = c.requires.node in omega arith) in
     after_cast _ old (changed old c.args.x c.turn.new.self c.make_room.new.self) c.cast-air.new.self c.end_at.new.self _ _ c.cast-air.ensures.others c.end_at.ensures.others
     (of_ends _ old _ _ _ _ _ _ (turn_done_end old.mesh old.nodes.items old.radio c.make_room.new.self c.cast-air.new.self.radio old.ready c.end_at.new.self.ready old.steps c.args.x c.range-range.result c.index_mut.result.now c.turn.new.self
-    c.in-Ok.field-0 c.turn.new.out.items c.cast-air.result c.requires.kept c.make_room.ensures.same c.requires.few c.requires.node c.index_mut.ensures.value c.range-range.ensures.value
+    c.in-Ok.done c.turn.new.out.items c.cast-air.result c.requires.kept c.make_room.ensures.same c.requires.few c.requires.node c.index_mut.ensures.value c.range-range.ensures.value
     (sound_before IsSoundNode (changed old c.args.x c.turn.new.self c.make_room.new.self) c.cast-air.new.self c.args.x c.turn.new.self c.cast-air.ensures.others at c.end_at.ensures.sound)
     c.in-Ok.ensures.turn
     (record { radio = c.cast-air.ensures.radio; answer = c.cast-air.ensures.air; few = c.cast-air.ensures.few })
