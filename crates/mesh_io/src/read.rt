@@ -31,7 +31,7 @@ pub struct Whole {
 }
 
 /// Reads the input, or its first 16777216 bytes where it has more. The source is asked with a
-/// buffer of 4096 bytes until it ends or has given a byte too many.
+/// buffer of 65536 bytes until it ends or has given a byte too many.
 pub fn read_all<S: Source>(alloc: Global, source: &mut S) -> Result<Whole, ReadAllError>
     ensures bytes { IfOk result (λ whole. IfSome (S.left source.old) (λ input.
         IsFront input whole.bytes whole.more)) }
@@ -43,7 +43,7 @@ pub fn read_all<S: Source>(alloc: Global, source: &mut S) -> Result<Whole, ReadA
     ensures none { ¬ IsErrOf result ReadAllError.ReadFault → S.faults source.new ≡ S.faults source.old }
 {
     let mut bytes: Vec<u8> = Vec::new(alloc);
-    let mut buf = [0u8; 4096];
+    let mut buf = [0u8; 65536];
     while bytes.len() <= LIMIT {
         match source.take(&mut buf) {
             Ok(0) => {
