@@ -112,16 +112,27 @@ invariant_of-self-2 c =
         ending = subst (λ e. AreEnding first later.items e) (sym grows) (subst (λ ps. AreEnding first ps sent.end) (sym c.push_back_reserved.ensures.items) ending);
         ids = (kept.ids.0, omega (arith, c.requires.next));
         with_data = omega (
-            arith, kept.with_data, ap data_in copies, data_append (copies_in (opened packets first slots)) (copies_to ms (first + length slots) sent.from sent.bytes),
-            data_cast ms (first + length slots) sent.from sent.bytes, c.if_data.ensures, ap (λ bs. cond (is_data bs) (length ms) 0) c.fill.ensures.bytes,
-            ap (λ n. cond (is_data c.args.bytes.now) n 0) spent,
-            ap (λ ps. data_in (copies_in (opened ps first now.items))) c.push_back_reserved.ensures.items,
-            ap (λ ss. data_in (copies_in (opened (packets ++ sent ∷ []) first ss))) c.push_slots.ensures.items,
+          arith,
+          kept.with_data,
+          ap data_in copies,
+          data_append (copies_in (opened packets first slots)) (copies_to ms (first + length slots) sent.from sent.bytes),
+          data_cast ms (first + length slots) sent.from sent.bytes,
+          c.if_data.ensures,
+          ap (λ bs. cond (is_data bs) (length ms) 0) c.fill.ensures.bytes,
+          ap (λ n. cond (is_data c.args.bytes.now) n 0) spent,
+          ap (λ ps. data_in (copies_in (opened ps first now.items))) c.push_back_reserved.ensures.items,
+          ap (λ ss. data_in (copies_in (opened (packets ++ sent ∷ []) first ss))) c.push_slots.ensures.items,
         );
         counted = omega (
-            arith, kept.counted, total, each, c.len.ensures, c.len-2.ensures, c.len-before.ensures,
-            ap (λ ps. length (copies_in (opened ps first now.items))) c.push_back_reserved.ensures.items,
-            ap (λ ss. length (copies_in (opened (packets ++ sent ∷ []) first ss))) c.push_slots.ensures.items,
+          arith,
+          kept.counted,
+          total,
+          each,
+          c.len.ensures,
+          c.len-2.ensures,
+          c.len-before.ensures,
+          ap (λ ps. length (copies_in (opened ps first now.items))) c.push_back_reserved.ensures.items,
+          ap (λ ss. length (copies_in (opened (packets ++ sent ∷ []) first ss))) c.push_slots.ensures.items,
         );
       },
       omega (arith, c.len.ensures, c.len-2.ensures, c.len-before.ensures, c.push_slots.ensures.capacity, c.self.invariant.1, room),
@@ -144,9 +155,9 @@ returns c =
     let sent : Sent = record { from = c.args.from; bytes = c.fill.result; end = first + c.len-2.result } in
     let ends : first + length slots + length ms ≡ sent.end = omega (arith, c.len.ensures, c.len-2.ensures) in
     let copies = ap (λ ps. copies_in (opened ps first now.items)) c.push_back_reserved.ensures.items
-        ∙ ap (λ ss. copies_in (opened (packets ++ sent ∷ []) first ss)) c.push_slots.ensures.items
-        ∙ cast_copies packets first slots sent ms kept.ending (omega arith)
-        ∙ ap (λ bs. copies_in (opened packets first slots) ++ copies_to ms (first + length slots) c.args.from bs) c.fill.ensures.bytes in
+    ∙ ap (λ ss. copies_in (opened (packets ++ sent ∷ []) first ss)) c.push_slots.ensures.items
+    ∙ cast_copies packets first slots sent ms kept.ending (omega arith)
+    ∙ ap (λ bs. copies_in (opened packets first slots) ++ copies_to ms (first + length slots) c.args.from bs) c.fill.ensures.bytes in
     let next : first + length now.items ≡ first + length slots + length ms = omega arith in
     let spent : c.len.result - c.len-before.result ≡ length ms = omega (arith, c.len.ensures, c.len-2.ensures, c.len-before.ensures) in
     let room = ap (λ (m : Memory). m.room) c.fill.ensures.room ∙ ap (λ k. inside.rooms.room - k) spent in

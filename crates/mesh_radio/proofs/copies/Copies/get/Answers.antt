@@ -15,7 +15,7 @@ returns-in_err-place c =
     let all = opened inside.packets.items inside.first inside.slots.items in
     ap (option_map flying_seen) c.from_residual.ensures
     ∙ sym (absent (copies_in all) c.args.id (outside all inside.first c.args.id (opened_slots inside.packets.items inside.first inside.slots.items)
-        (past_opened inside.packets.items inside.first c.args.id inside.slots.items c.in_err-place.ensures))).0
+    (past_opened inside.packets.items inside.first c.args.id inside.slots.items c.in_err-place.ensures))).0
     ∙ ap (λ (v : Flights). find_copy v.flying c.args.id) c.self.view_is
 
 pub returns : goal.returns

@@ -22,7 +22,7 @@ returns-clause-below c =
     subst (λ (v : Flights). IfSome c.copy_from.result (λ f. (c.args.id ≤ f.id) × (f.id < v.next_copy) × (v.next_copy < 2 ^ 64))) c.self.view_is
     (subst (λ n. IfSome c.copy_from.result (λ f. (c.args.id ≤ f.id) × (f.id < inside.first + n) × (inside.first + n < 2 ^ 64))) size
     (next_below all inside.first c.args.id c.saturating_sub-place.result c.copy_from.result (opened_slots inside.packets.items inside.first inside.slots.items)
-        (subst (λ n. inside.first + n < 2 ^ 64) (sym size) c.self.invariant.0.ids.1) c.saturating_sub-place.ensures c.copy_from.ensures.some))
+    (subst (λ n. inside.first + n < 2 ^ 64) (sym size) c.self.invariant.0.ids.1) c.saturating_sub-place.ensures c.copy_from.ensures.some))
 
 pub returns-clause-none : goal.returns-clause-none
 returns-clause-none c =

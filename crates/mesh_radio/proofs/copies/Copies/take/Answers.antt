@@ -123,8 +123,13 @@ invariant_of-self c =
         ending = subst (AreEnding later kept-packets) (sym next) ending;
         ids = (omega (arith, trim.from, kept.ids.0), omega (arith, kept.ids.1));
         with_data = omega (
-            arith, ap (λ os. data_in (copies_in os)) same, ap data_in (trim.copies packets), ap (λ os. data_in (copies_in os)) (opened_set packets first k slots),
-            data_less all k (flying_seen c.in_ok-found.found) copy, kept.with_data, c.if_data-less.ensures,
+          arith,
+          ap (λ os. data_in (copies_in os)) same,
+          ap data_in (trim.copies packets),
+          ap (λ os. data_in (copies_in os)) (opened_set packets first k slots),
+          data_less all k (flying_seen c.in_ok-found.found) copy,
+          kept.with_data,
+          c.if_data-less.ensures,
         );
         counted = omega (arith, copies, one_less all k (flying_seen c.in_ok-found.found) copy, kept.counted);
       },
@@ -163,7 +168,7 @@ returns-clause-others c =
     let left = c.trim_slots-self-inside.new.slots.items in
     let same = opened_same c.trim_packets.new.packets.items packets later left (λ id from below. c.trim_packets.ensures.same id from) in
     let copies = ap copies_in same ∙ trim.copies packets ∙ ap copies_in (opened_set packets first k slots)
-        ∙ taken_in all first k c.args.id (flying_seen c.in_ok-found.found) (opened_slots packets first slots) copy place.1 in
+    ∙ taken_in all first k c.args.id (flying_seen c.in_ok-found.found) (opened_slots packets first slots) copy place.1 in
     let next : later + length left ≡ first + length slots = omega (arith, trim.next, length-set slots k None) in
     (λ i. record { flying = copies i; next_copy = next i; room = inside.rooms.room; most = inside.rooms.most })
     ∙ ap (λ (v : Flights). record v { flying = without v.flying c.args.id }) c.self.view_is
