@@ -9,7 +9,6 @@ use Rattle.std.specs.Cmp.{unsigned_tied}
 use Rattle.std.proofs.lemmas.Bool.{ne_eqb, cases_eq}
 use Rattle.std.specs.FinMap as maps
 use Rattle.std.specs.FinSet as sets
-use Rattle.circular_buffer.specs.Buffer.{Buffer}
 use Rattle.mesh_base.specs.Members.{NodeIds}
 use Rattle.aodv_model.specs.Tables.{Dests}
 use Rattle.aodv_model.specs.Cores as cores
@@ -35,7 +34,7 @@ came false needing d [] x e = rw (in_here needing d) refl
 came true needing d (b ∷ bs) x e = refl
 came false needing d (b ∷ bs) x e = cc
 
-pub added : (rows : Rows) (with_data needing : NodeIds) (d : ℕ) (row : Buffer Body) (x : Body) → AreRows rows with_data needing → d < length rows → row.items ≡ bodies_at rows d ++ x ∷ []
+pub added : (rows : Rows) (with_data needing : NodeIds) (d : ℕ) (row : List Body) (x : Body) → AreRows rows with_data needing → d < length rows → row ≡ bodies_at rows d ++ x ∷ []
     → store_of (marks_new needing with_data d) (put rows d row) ≡ cores.add (store_of needing rows) d x
 unfolding cores.add
 added rows with_data needing d row x are lt is =
@@ -55,7 +54,7 @@ all_after : (bs : List Body) (x : Body) → AllByRecursion IsDatum bs → IsDatu
 all_after [] x all is = (is, tt)
 all_after (b ∷ bs) x all is = (all.0, all_after bs x all.1 is)
 
-pub added_kept : (rows : Rows) (with_data needing : NodeIds) (d : ℕ) (row : Buffer Body) (x : Body) → AreRows rows with_data needing → d < length rows → row.items ≡ bodies_at rows d ++ x ∷ [] → IsDatum x
+pub added_kept : (rows : Rows) (with_data needing : NodeIds) (d : ℕ) (row : List Body) (x : Body) → AreRows rows with_data needing → d < length rows → row ≡ bodies_at rows d ++ x ∷ [] → IsDatum x
     → AreRows (put rows d row) (sets.insert with_data d) (marks_new needing with_data d)
 added_kept rows with_data needing d row x are lt is datum =
     rows_kept rows with_data needing (sets.insert with_data d) (marks_new needing with_data d) d row are lt
@@ -85,11 +84,11 @@ needs_there needing rows d some = ap needs_in (get-store_of needing rows d) ∙ 
     needs_of needs [] some = cc
     needs_of needs (b ∷ bs) some = refl
 
-left : (needing : NodeIds) (rows : Rows) (d : ℕ) (row : Buffer Body) → row.items ≡ from 1 (bodies_at rows d) → rest (bodies_in (maps.get (store_of needing rows) d)) ≡ row.items
+left : (needing : NodeIds) (rows : Rows) (d : ℕ) (row : List Body) → row ≡ from 1 (bodies_at rows d) → rest (bodies_in (maps.get (store_of needing rows) d)) ≡ row
 left needing rows d row is = ap rest (bodies_there needing rows d) ∙ rest_is (bodies_at rows d) ∙ sym is
 
 -- it was the last
-pub dropped_last : (rows : Rows) (with_data needing : NodeIds) (d : ℕ) (row : Buffer Body) → AreRows rows with_data needing → d < length rows → row.items ≡ from 1 (bodies_at rows d) → row.items ≡ []
+pub dropped_last : (rows : Rows) (with_data needing : NodeIds) (d : ℕ) (row : List Body) → AreRows rows with_data needing → d < length rows → row ≡ from 1 (bodies_at rows d) → row ≡ []
     → store_of (sets.remove needing d) (put rows d row) ≡ cores.drop (store_of needing rows) d
 unfolding cores.drop
 dropped_last rows with_data needing d row are lt is none =
@@ -113,22 +112,22 @@ some_before [] some = some
 some_before (b ∷ bs) some = refl
 
 -- there are more
-pub dropped_more : (rows : Rows) (with_data needing : NodeIds) (d : ℕ) (row : Buffer Body) → AreRows rows with_data needing → d < length rows → row.items ≡ from 1 (bodies_at rows d) → has_data row.items ≡ true
+pub dropped_more : (rows : Rows) (with_data needing : NodeIds) (d : ℕ) (row : List Body) → AreRows rows with_data needing → d < length rows → row ≡ from 1 (bodies_at rows d) → has_data row ≡ true
     → store_of needing (put rows d row) ≡ cores.drop (store_of needing rows) d
 unfolding cores.drop
 dropped_more rows with_data needing d row are lt is some =
     let store = store_of needing rows in
     rw (left needing rows d row is, needs_there needing rows d (some_before (bodies_at rows d) (ap has_data (sym is) ∙ some)))
-    (row_shown needing needing rows d row (drop_first store d row.items (sets.contains needing d)) lt
-    (dropped_at store d row.items (sets.contains needing d) some)
+    (row_shown needing needing rows d row (drop_first store d row (sets.contains needing d)) lt
+    (dropped_at store d row (sets.contains needing d) some)
     (λ q apart. refl)
-    (λ q apart. dropped_to store d row.items (sets.contains needing d) q some apart))
+    (λ q apart. dropped_to store d row (sets.contains needing d) q some apart))
 
 all_rest : (bs : List Body) → AllByRecursion IsDatum bs → AllByRecursion IsDatum (from 1 bs)
 all_rest [] all = tt
 all_rest (b ∷ bs) all = all.1
 
-pub dropped_last_kept : (rows : Rows) (with_data needing : NodeIds) (d : ℕ) (row : Buffer Body) → AreRows rows with_data needing → d < length rows → row.items ≡ from 1 (bodies_at rows d) → row.items ≡ []
+pub dropped_last_kept : (rows : Rows) (with_data needing : NodeIds) (d : ℕ) (row : List Body) → AreRows rows with_data needing → d < length rows → row ≡ from 1 (bodies_at rows d) → row ≡ []
     → AreRows (put rows d row) (sets.remove with_data d) (sets.remove needing d)
 dropped_last_kept rows with_data needing d row are lt is none =
     rows_kept rows with_data needing (sets.remove with_data d) (sets.remove needing d) d row are lt
@@ -141,7 +140,7 @@ dropped_last_kept rows with_data needing d row are lt is none =
     not_both : false ≡ true → ⊥
     not_both e = cc
 
-pub dropped_more_kept : (rows : Rows) (with_data needing : NodeIds) (d : ℕ) (row : Buffer Body) → AreRows rows with_data needing → d < length rows → row.items ≡ from 1 (bodies_at rows d) → has_data row.items ≡ true
+pub dropped_more_kept : (rows : Rows) (with_data needing : NodeIds) (d : ℕ) (row : List Body) → AreRows rows with_data needing → d < length rows → row ≡ from 1 (bodies_at rows d) → has_data row ≡ true
     → AreRows (put rows d row) with_data needing
 dropped_more_kept rows with_data needing d row are lt is some =
     rows_kept rows with_data needing with_data needing d row are lt

@@ -1,6 +1,7 @@
 -- What rows show: what the store that they show says of each destination, and how it changes with them.
-use Rattle.std.proofs.Common.{◌≡◌, ◌≢◌, ◌<◌, ◌≤◌, ℕ, zero, suc, ◌+◌, ◌-◌, Bool, true, false, cond, eqb, ◌&&◌, ◌||◌, List, [], ◌∷◌, ◌++◌, length, get_or, Option, Some, None, refl, sym, ap, subst, ◌∙◌, arith, eq-eqb, inl, inr}
-use Rattle.std.proofs.Math.ListN.{set as put, drop as from}
+use Rattle.std.proofs.Common.{◌≡◌, ◌≢◌, ◌<◌, ◌≤◌, ℕ, zero, suc, ◌+◌, ◌-◌, Bool, true, false, cond, eqb, ◌&&◌, ◌||◌, List, [], ◌∷◌, ◌++◌, map, length, get_or, Option, Some, None, refl, sym, ap, subst, ◌∙◌, arith, eq-eqb, inl, inr}
+use Rattle.std.proofs.Math.ListN.{set as put}
+use Rattle.std.proofs.Math.Seq.{map-set_same}
 use Rattle.std.specs.Prelude.{not, slice_get, OnOk}
 use Rattle.std.proofs.Common.{Result, Ok, Err}
 use Rattle.std.proofs.lemmas.Bool.Decides.{nat_tests}
@@ -11,15 +12,14 @@ use Rattle.std.specs.Ordering.{nat_cmp}
 use Rattle.std.specs.Cmp.{unsigned_tied}
 use Rattle.std.proofs.lemmas.Bool.{ne_eqb, cases_eq, cases_lt}
 use Rattle.std.proofs.lemmas.Cmp.{nat_cmp_total}
-use Rattle.std.proofs.lemmas.List.{get_or-set_same, get_or-set_other, length-set, length-append, length-map, map-set, get_or-map, get_or_default, get_or_past}
+use Rattle.std.proofs.lemmas.List.{get_or-set_same, get_or-set_other, length-set, length-map, map-set, get_or-map, get_or_past}
 use Rattle.std.specs.FinMap as maps
 use Rattle.std.specs.FinMap.{nat_cmp-IsAntisymmetric}
 use Rattle.std.specs.FinSet as sets
-use Rattle.circular_buffer.specs.Buffer.{Buffer, buffer}
 use Rattle.mesh_base.specs.Members.{NodeIds}
 use Rattle.aodv_model.specs.Cores.{Body, Waiting, Store, has_data, bodies_in, needs_in, in_qD}
 use Rattle.aodv_model.specs.Soundness.{IsDatum, IsStoreInMesh}
-use Rattle.aodv_waiting.specs.Rows.{Rows, bodies_at, waiting_of, with_waiting, store_from, store_of, room_of, rooms_of, AreRows}
+use Rattle.aodv_waiting.specs.Rows.{Rows, bodies_at, waiting_of, with_waiting, store_from, store_of, AreRows}
 
 -- ---- maps and sets of nodes, node by node
 
@@ -63,17 +63,17 @@ waits_apart m d (Some s) q apart = get_apart m d s q apart
 before : (needing : NodeIds) (rows : Rows) (i q : ℕ) → q < i → maps.get (store_from needing i rows) q ≡ None
 unfolding store_from
 before needing [] i q lt = maps.get-empty nat_cmp q
-before needing (row ∷ rows) i q lt = waits_apart (store_from needing (i + 1) rows) i (waiting_of (sets.contains needing i) row.items) q (λ e. omega arith) ∙ before needing rows (i + 1) q (omega arith)
+before needing (row ∷ rows) i q lt = waits_apart (store_from needing (i + 1) rows) i (waiting_of (sets.contains needing i) row) q (λ e. omega arith) ∙ before needing rows (i + 1) q (omega arith)
 
 from_place : (needing : NodeIds) (rows : Rows) (i k : ℕ) → maps.get (store_from needing i rows) (i + k) ≡ waiting_of (sets.contains needing (i + k)) (bodies_at rows k)
 unfolding store_from
 from_place needing [] i k = maps.get-empty nat_cmp (i + k)
 from_place needing (row ∷ rows) i zero =
     let none : i + 0 ≡ i = omega arith in
-    rw none (waits_here (store_from needing (i + 1) rows) i (waiting_of (sets.contains needing i) row.items) (before needing rows (i + 1) i (omega arith)))
+    rw none (waits_here (store_from needing (i + 1) rows) i (waiting_of (sets.contains needing i) row) (before needing rows (i + 1) i (omega arith)))
 from_place needing (row ∷ rows) i (suc k) =
     let next : i + suc k ≡ (i + 1) + k = omega arith in
-    waits_apart (store_from needing (i + 1) rows) i (waiting_of (sets.contains needing i) row.items) (i + suc k) (λ e. omega arith)
+    waits_apart (store_from needing (i + 1) rows) i (waiting_of (sets.contains needing i) row) (i + suc k) (λ e. omega arith)
     ∙ ap (λ (q : ℕ). maps.get (store_from needing (i + 1) rows) q) next
     ∙ from_place needing rows (i + 1) k
     ∙ ap (λ (q : ℕ). waiting_of (sets.contains needing q) (bodies_at rows k)) (sym next)
@@ -106,7 +106,7 @@ pub data_shown : (with_data needing : NodeIds) (rows : Rows) (store : Store) (q 
 data_shown with_data needing rows store q are shown = ap has_data (bodies_shown needing rows store q shown) ∙ sym (are.data_are q)
 
 pub bodies_past : (rows : Rows) (q : ℕ) → length rows ≤ q → bodies_at rows q ≡ []
-bodies_past rows q past = ap (λ (r : Buffer Body). r.items) (get_or_past rows q (buffer [] 0) past)
+bodies_past rows q past = get_or_past rows q [] past
 
 -- a destination with data has a row
 pub row_there : (rows : Rows) (q : ℕ) → has_data (bodies_at rows q) ≡ true → q < length rows
@@ -138,15 +138,15 @@ in_mesh with_data needing rows store size are shown nodes d waiting at =
 
 -- ---- one row is written
 
-pub bodies_put_here : (rows : Rows) (d : ℕ) (row : Buffer Body) → d < length rows → bodies_at (put rows d row) d ≡ row.items
-bodies_put_here rows d row lt = ap (λ (r : Buffer Body). r.items) (get_or-set_same rows d row (buffer [] 0) lt)
+pub bodies_put_here : (rows : Rows) (d : ℕ) (row : List Body) → d < length rows → bodies_at (put rows d row) d ≡ row
+bodies_put_here rows d row lt = get_or-set_same rows d row [] lt
 
-pub bodies_put_apart : (rows : Rows) (d : ℕ) (row : Buffer Body) (q : ℕ) → q ≢ d → bodies_at (put rows d row) q ≡ bodies_at rows q
-bodies_put_apart rows d row q apart = ap (λ (r : Buffer Body). r.items) (get_or-set_other rows d q row (buffer [] 0) apart)
+pub bodies_put_apart : (rows : Rows) (d : ℕ) (row : List Body) (q : ℕ) → q ≢ d → bodies_at (put rows d row) q ≡ bodies_at rows q
+bodies_put_apart rows d row q apart = get_or-set_other rows d q row [] apart
 
 -- the rows show the store in which only d's data and d's mark have changed
-pub row_shown : (needing needing' : NodeIds) (rows : Rows) (d : ℕ) (row : Buffer Body) (store : Store) → d < length rows
-    → waiting_of (sets.contains needing' d) row.items ≡ maps.get store d
+pub row_shown : (needing needing' : NodeIds) (rows : Rows) (d : ℕ) (row : List Body) (store : Store) → d < length rows
+    → waiting_of (sets.contains needing' d) row ≡ maps.get store d
     → ((q : ℕ) → q ≢ d → sets.contains needing' q ≡ sets.contains needing q)
     → ((q : ℕ) → q ≢ d → maps.get (store_of needing rows) q ≡ maps.get store q)
     → store_of needing' (put rows d row) ≡ store
@@ -161,10 +161,10 @@ row_shown needing needing' rows d row store lt here marks rest =
           ∙ sym (get-store_of needing rows q) ∙ rest q apart
     ])
 
-pub rows_kept : (rows : Rows) (with_data needing with_data' needing' : NodeIds) (d : ℕ) (row : Buffer Body) → AreRows rows with_data needing → d < length rows
-    → sets.contains with_data' d ≡ has_data row.items
+pub rows_kept : (rows : Rows) (with_data needing with_data' needing' : NodeIds) (d : ℕ) (row : List Body) → AreRows rows with_data needing → d < length rows
+    → sets.contains with_data' d ≡ has_data row
     → (sets.contains needing' d ≡ true → sets.contains with_data' d ≡ true)
-    → AllByRecursion IsDatum row.items
+    → AllByRecursion IsDatum row
     → ((q : ℕ) → q ≢ d → sets.contains with_data' q ≡ sets.contains with_data q)
     → ((q : ℕ) → q ≢ d → sets.contains needing' q ≡ sets.contains needing q)
     → AreRows (put rows d row) with_data' needing'
@@ -184,76 +184,61 @@ rows_kept rows with_data needing with_data' needing' d row are lt here marked ea
   ];
 }
 
--- ---- a datum comes
+-- ---- the rings that hold the rows
 
--- ---- one row is read
+pub row_read : {X : Type 0} (items : X → List Body) (rings : List X) (d : ℕ) (ring : X) → d < length rings → ring ≡ get_or rings d ring → bodies_at (map items rings) d ≡ items ring
+row_read items rings d ring lt at = get_or-map items rings d ring [] lt ∙ ap items (sym at)
 
-pub row_read : (rows : Rows) (d : ℕ) (row : Buffer Body) → d < length rows → row ≡ get_or rows d row → bodies_at rows d ≡ row.items
-row_read rows d row lt at = ap (λ (r : Buffer Body). r.items) (get_or_default rows d (buffer [] 0) row lt ∙ sym at)
+pub row_within : {X : Type 0} (items : X → List Body) (rings : List X) (d : ℕ) → d < length rings → d < length (map items rings)
+row_within items rings d lt = omega (arith, length-map rings items)
 
-pub rows_len : (rows : Rows) (rooms : List ℕ) → rooms_of rows ≡ rooms → length rows ≡ length rooms
-rows_len rows rooms shown = sym (length-map rows room_of) ∙ ap length shown
-
-room_read : (rows : Rows) (d : ℕ) (row : Buffer Body) → d < length rows → row ≡ get_or rows d row → get_or (rooms_of rows) d 0 ≡ room_of row
-room_read rows d row lt at = get_or-map room_of rows d row 0 lt ∙ ap room_of (sym at)
-
--- one more datum uses up the room for one
-pub room_used : (rows : Rows) (d : ℕ) (row row' : Buffer Body) (x : Body) (rooms : List ℕ) → d < length rows → row ≡ get_or rows d row → row' ≡ buffer (row.items ++ x ∷ []) row.capacity → rooms_of rows ≡ rooms
-    → rooms_of (put rows d row') ≡ put rooms d (get_or rooms d 0 - 1)
-room_used rows d row row' x rooms lt at is shown =
-    let here : room_of row ≡ get_or rooms d 0 = sym (room_read rows d row lt at) ∙ ap (λ (rs : List ℕ). get_or rs d 0) shown in
-    let less : room_of row' ≡ get_or rooms d 0 - 1 = ap room_of is ∙ ap (λ (n : ℕ). row.capacity - n) (length-append row.items (x ∷ [])) ∙ one_less row.capacity (length row.items) ∙ ap (λ (n : ℕ). n - 1) here in
-    map-set room_of rows d row' ∙ ap (λ (rs : List ℕ). put rs d (room_of row')) shown ∙ ap (put rooms d) less
-  where
-    one_less : (a n : ℕ) → a - (n + 1) ≡ (a - n) - 1
-    one_less a n = omega arith
+-- a ring is written, but not what f says of it
+pub none_changed : {X Y : Type 0} (f : X → Y) (rings : List X) (d : ℕ) (ring ring' : X) → ring ≡ get_or rings d ring → f ring' ≡ f ring → map f (put rings d ring') ≡ map f rings
+none_changed f rings d ring ring' at same = map-set_same f rings d ring' ring (same ∙ ap f at)
 
 -- the nodes stay, and no room is lost
 pub record KeepsRooms (old new : List ℕ) : Type 0 where
   pub nodes : length new ≡ length old
   pub room : (q : ℕ) → get_or old q 0 ≤ get_or new q 0
 
--- a row that has no less room than before
-pub rooms_kept : (rows : Rows) (d : ℕ) (row row' : Buffer Body) (rooms : List ℕ) → d < length rows → row ≡ get_or rows d row → room_of row ≤ room_of row' → rooms_of rows ≡ rooms → KeepsRooms rooms (rooms_of (put rows d row'))
-rooms_kept rows d row row' rooms lt at le shown =
-    let len : length (rooms_of (put rows d row')) ≡ length rooms = length-map (put rows d row') room_of ∙ length-set rows d row' ∙ rows_len rows rooms shown in
-    record {
-      nodes = len;
-      room = λ q. elim (cases_eq q d) [
-        | inl same ↦
-            let old : get_or rooms d 0 ≡ room_of row = ap (λ (rs : List ℕ). get_or rs d 0) (sym shown) ∙ room_read rows d row lt at in
-            let new : get_or (rooms_of (put rows d row')) d 0 ≡ room_of row' = ap (λ (rs : List ℕ). get_or rs d 0) (map-set room_of rows d row') ∙ get_or-set_same (rooms_of rows) d (room_of row') 0 (omega (arith, length-map rows room_of)) in
-            subst (λ p. get_or rooms p 0 ≤ get_or (rooms_of (put rows d row')) p 0) (sym same) (omega arith)
-        | inr apart ↦
-            let new : get_or (rooms_of (put rows d row')) q 0 ≡ get_or rooms q 0 = ap (λ (rs : List ℕ). get_or rs q 0) (map-set room_of rows d row') ∙ get_or-set_other (rooms_of rows) d q (room_of row') 0 apart ∙ ap (λ (rs : List ℕ). get_or rs q 0) shown in
-            omega arith
-      ];
-    }
+module _ {X : Type 0} (room_of : X → ℕ) (rings : List X) where
+  pub rings_len : (rooms : List ℕ) → map room_of rings ≡ rooms → length rings ≡ length rooms
+  rings_len rooms shown = sym (length-map rings room_of) ∙ ap length shown
 
--- only the room of a row has changed
-pub same_items : (needing : NodeIds) (rows : Rows) (d : ℕ) (row : Buffer Body) → d < length rows → row.items ≡ bodies_at rows d → store_of needing (put rows d row) ≡ store_of needing rows
-same_items needing rows d row lt is =
-    row_shown needing needing rows d row (store_of needing rows) lt (ap (waiting_of (sets.contains needing d)) is ∙ sym (get-store_of needing rows d)) (λ q apart. refl) (λ q apart. refl)
+  pub room_read : (d : ℕ) (ring : X) (rooms : List ℕ) → d < length rings → ring ≡ get_or rings d ring → map room_of rings ≡ rooms → room_of ring ≡ get_or rooms d 0
+  room_read d ring rooms lt at shown = sym (get_or-map room_of rings d ring 0 lt ∙ ap room_of (sym at)) ∙ ap (λ (rs : List ℕ). get_or rs d 0) shown
 
-pub room_made : (rows : Rows) (d : ℕ) (row : Buffer Body) (r : Result (Unit {0}) NoMemory) → d < length rows → OnOk r (length row.items < row.capacity) → OnOk r (0 < get_or (rooms_of (put rows d row)) d 0)
-room_made rows d row (Ok u) lt made =
-    let new : get_or (rooms_of (put rows d row)) d 0 ≡ room_of row = ap (λ (rs : List ℕ). get_or rs d 0) (map-set room_of rows d row) ∙ get_or-set_same (rooms_of rows) d (room_of row) 0 (omega (arith, length-map rows room_of)) in
-    omega arith
-room_made rows d row (Err e) lt made = made
+  room_put_here : (d : ℕ) (ring : X) → d < length rings → get_or (map room_of (put rings d ring)) d 0 ≡ room_of ring
+  room_put_here d ring lt = ap (λ (rs : List ℕ). get_or rs d 0) (map-set room_of rings d ring) ∙ get_or-set_same (map room_of rings) d (room_of ring) 0 (omega (arith, length-map rings room_of))
+
+  -- one more datum uses up the room for one
+  pub room_used : (d : ℕ) (ring ring' : X) (rooms : List ℕ) → d < length rings → ring ≡ get_or rings d ring → room_of ring' ≡ room_of ring - 1 → map room_of rings ≡ rooms → map room_of (put rings d ring') ≡ put rooms d (get_or rooms d 0 - 1)
+  room_used d ring ring' rooms lt at less shown =
+      map-set room_of rings d ring' ∙ ap (λ (rs : List ℕ). put rs d (room_of ring')) shown
+      ∙ ap (put rooms d) (less ∙ ap (λ (n : ℕ). n - 1) (room_read d ring rooms lt at shown))
+
+  -- a ring that has no less room than before
+  pub rooms_kept : (d : ℕ) (ring ring' : X) (rooms : List ℕ) → d < length rings → ring ≡ get_or rings d ring → room_of ring ≤ room_of ring' → map room_of rings ≡ rooms → KeepsRooms rooms (map room_of (put rings d ring'))
+  rooms_kept d ring ring' rooms lt at le shown = record {
+    nodes = length-map (put rings d ring') room_of ∙ length-set rings d ring' ∙ rings_len rooms shown;
+    room = λ q. elim (cases_eq q d) [
+      | inl same ↦
+          let old = room_read d ring rooms lt at shown in
+          let new = room_put_here d ring' lt in
+          subst (λ p. get_or rooms p 0 ≤ get_or (map room_of (put rings d ring')) p 0) (sym same) (omega arith)
+      | inr apart ↦
+          let new : get_or (map room_of (put rings d ring')) q 0 ≡ get_or rooms q 0 = ap (λ (rs : List ℕ). get_or rs q 0) (map-set room_of rings d ring') ∙ get_or-set_other (map room_of rings) d q (room_of ring') 0 apart ∙ ap (λ (rs : List ℕ). get_or rs q 0) shown in
+          omega arith
+    ];
+  }
+
+  pub room_made : (d : ℕ) (ring : X) (r : Result (Unit {0}) NoMemory) (len capacity : ℕ) → d < length rings → room_of ring ≡ capacity - len → OnOk r (len < capacity) → OnOk r (0 < get_or (map room_of (put rings d ring)) d 0)
+  room_made d ring (Ok u) len capacity lt room made = let new = room_put_here d ring lt in omega arith
+  room_made d ring (Err e) len capacity lt room made = made
 
 pub room_there : (rooms : List ℕ) (d : ℕ) → 0 < get_or rooms d 0 → d < length rooms
 room_there rooms d some =
     elim (cases_lt d (length rooms)) [ inl lt ↦ lt | inr past ↦ absurd (let none : get_or rooms d 0 ≡ 0 = get_or_past rooms d 0 past in omega arith) ]
-
-pub less_full : (row row' : Buffer Body) → row' ≡ buffer (from 1 row.items) row.capacity → room_of row ≤ room_of row'
-less_full row row' is =
-    let less : length (from 1 row.items) ≤ length row.items = shorter row.items in
-    let room : room_of row' ≡ row.capacity - length (from 1 row.items) = ap room_of is in
-    omega arith
-  where
-    shorter : (bs : List Body) → length (from 1 bs) ≤ length bs
-    shorter [] = omega arith
-    shorter (b ∷ bs) = omega arith
 
 pub none_left : (bs : List Body) → eqb (length bs) 0 ≡ true → bs ≡ []
 none_left [] e = refl
@@ -268,36 +253,36 @@ some_left (b ∷ bs) e = refl
 
 -- ---- data of a row
 
-pub front_some : (bs : List Body) (b : Body) → Some b ≡ slice_get bs 0 → (has_data bs ≡ true) × (b ≡ first_body bs) × (AllByRecursion IsDatum bs → IsDatum b)
-front_some [] b e = cc
-front_some (x ∷ bs) b e = let same : b ≡ x = cc in (refl, same, λ all. subst IsDatum (sym same) all.0)
+pub front_some : (bs : List Body) (b : Body) → 0 < length bs → b ≡ get_or bs 0 b → (has_data bs ≡ true) × (b ≡ first_body bs) × (AllByRecursion IsDatum bs → IsDatum b)
+front_some [] b lt at = absurd (omega arith)
+front_some (x ∷ bs) b lt at = (refl, at, λ all. subst IsDatum (sym at) all.0)
 
-pub front_none : (bs : List Body) → None ≡ slice_get bs 0 → has_data bs ≡ false
-front_none [] e = refl
-front_none (x ∷ bs) e = cc
+pub front_none : (bs : List Body) → (0 < length bs → false ≡ true) → has_data bs ≡ false
+front_none [] none = refl
+front_none (x ∷ bs) none = sym (none (omega arith))
 
 pub some_of_len : (bs : List Body) (k : ℕ) → k < length bs → has_data bs ≡ true
 some_of_len [] k lt = absurd (omega arith)
 some_of_len (b ∷ bs) k lt = refl
 
-pub get_none : (bs : List Body) (k : ℕ) → None ≡ slice_get bs k → k < length bs → ⊥
-get_none [] k e lt = omega arith
-get_none (b ∷ bs) zero e lt = cc
-get_none (b ∷ bs) (suc k) e lt = get_none bs k e (omega arith)
+pub get_read : (bs : List Body) (k : ℕ) (b : Body) → k < length bs → b ≡ get_or bs k b → slice_get bs k ≡ Some b
+get_read [] k b lt at = absurd (omega arith)
+get_read (x ∷ bs) zero b lt at = ap (λ (y : Body). Some y) (sym at)
+get_read (x ∷ bs) (suc k) b lt at = get_read bs k b (omega arith) at
 
-pub get_all : (bs : List Body) (k : ℕ) (b : Body) → Some b ≡ slice_get bs k → AllByRecursion IsDatum bs → IsDatum b
-get_all [] k b e all = cc
-get_all (x ∷ bs) zero b e all = let same : b ≡ x = cc in subst IsDatum (sym same) all.0
-get_all (x ∷ bs) (suc k) b e all = get_all bs k b e all.1
+pub get_all : (bs : List Body) (k : ℕ) (b : Body) → k < length bs → b ≡ get_or bs k b → AllByRecursion IsDatum bs → IsDatum b
+get_all [] k b lt at all = absurd (omega arith)
+get_all (x ∷ bs) zero b lt at all = subst IsDatum (sym at) all.0
+get_all (x ∷ bs) (suc k) b lt at all = get_all bs k b (omega arith) at all.1
 
 -- ---- rows without data
 
 abbrev pub AreEmpty : Rows → Type 0
-AreEmpty rows = AllByRecursion (λ r. r.items ≡ []) rows
+AreEmpty rows = AllByRecursion (λ row. row ≡ []) rows
 
-pub empty_push : (rows : Rows) (row : Buffer Body) → AreEmpty rows → row.items ≡ [] → AreEmpty (rows ++ row ∷ [])
-empty_push [] row all none = (none, tt)
-empty_push (r ∷ rows) row all none = (all.0, empty_push rows row all.1 none)
+pub empty_push : {X : Type 0} (items : X → List Body) (rings : List X) (ring : X) → AreEmpty (map items rings) → items ring ≡ [] → AreEmpty (map items (rings ++ ring ∷ []))
+empty_push items [] ring all none = (none, tt)
+empty_push items (r ∷ rings) ring all none = (all.0, empty_push items rings ring all.1 none)
 
 empty_at : (rows : Rows) (q : ℕ) → AreEmpty rows → bodies_at rows q ≡ []
 empty_at [] q all = refl

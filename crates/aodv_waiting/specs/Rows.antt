@@ -1,21 +1,22 @@
--- A store kept as one ring of data for each node, the set of the destinations with data, and the set of those that need
+-- A store kept as a list of data for each node, the set of the destinations with data, and the set of those that need
 -- a request.
-use Rattle.std.specs.Prelude.{◌≡◌, ◌≤◌, ℕ, ◌+◌, ◌-◌, Bool, true, List, [], ◌∷◌, length, map, slice_index_or, Option, Some, None}
+use Rattle.std.specs.Prelude.{◌≡◌, ◌≤◌, ℕ, ◌+◌, ◌-◌, Bool, true, List, [], ◌∷◌, length, slice_index_or, Option, Some, None}
 use Rattle.std.specs.List.{AllByRecursion}
 use Rattle.std.specs.FinMap as maps
 use Rattle.std.specs.FinSet as sets
-use Rattle.circular_buffer.specs.Buffer.{Buffer, buffer}
+use Rattle.std.specs.declared.collections.VecDeque.{VecDeque}
+use Rattle.std.specs.VecDeque.{deque_len, deque_capacity}
 use Rattle.mesh_base.specs.Members.{NodeIds}
 use Rattle.aodv_model.specs.Cores.{Body, Waiting, Store, has_data}
 use Rattle.aodv_model.specs.Soundness.{IsDatum}
 
--- the ring of each node
+-- the data for each node, the one that came first at the head
 abbrev pub Rows : Type 0
-Rows = List (Buffer Body)
+Rows = List (List Body)
 
 -- the data for d
 abbrev pub bodies_at : Rows → ℕ → List Body
-bodies_at rows d = (slice_index_or rows d (buffer [] 0)).items
+bodies_at rows d = slice_index_or rows d []
 
 -- what waits for one destination, if there are data
 abbrev pub waiting_of : Bool → List Body → Option Waiting
@@ -30,19 +31,15 @@ with_waiting store d (Some s) = maps.insert store d s
 -- the store of the rows, the first of which is that of node i
 unfoldable pub store_from : NodeIds → ℕ → Rows → Store
 store_from needing i [] = maps.empty
-store_from needing i (row ∷ rows) = with_waiting (store_from needing (i + 1) rows) i (waiting_of (sets.contains needing i) row.items)
+store_from needing i (row ∷ rows) = with_waiting (store_from needing (i + 1) rows) i (waiting_of (sets.contains needing i) row)
 
 -- the store that the rows show, with a request needed for the marked destinations
 unfoldable pub store_of : NodeIds → Rows → Store
 store_of needing rows = store_from needing 0 rows
 
--- for how many more data there is room
-abbrev pub room_of : Buffer Body → ℕ
-room_of row = row.capacity - length row.items
-
--- the same for each node
-abbrev pub rooms_of : Rows → List ℕ
-rooms_of rows = map room_of rows
+-- for how many more data a ring has room
+abbrev pub room_of : {X Z : Type 0} → VecDeque X Z → ℕ
+room_of ring = deque_capacity ring - deque_len ring
 
 -- what the rows and the two sets keep: no more rows than a mesh has nodes; the destinations with data; only such need a request;
 -- each datum has its size

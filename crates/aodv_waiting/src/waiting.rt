@@ -2,28 +2,30 @@
 ghost use Rattle.std.specs.Prelude.{◌≡◌, ◌<◌, ◌≤◌, ◌+◌, ◌-◌, ◌↔◌, if◌then◌else◌, ℕ, true, length, slice_index, slice_set, slice_get, IfOk, IfSome, IsSome, OnOk, OnErr, IsTrue, Some};
 ghost use Rattle.std.specs.FinMap as maps;
 ghost use Rattle.std.specs.FinSet as sets;
+ghost use Rattle.std.specs.VecDeque.{deque_len, deque_capacity};
 ghost use Rattle.aodv_model.specs.Cores.{add, drop, unset, set, in_qD, bodies_in, needs_in};
 ghost use Rattle.aodv_model.specs.Handlers.{first_body};
 ghost use Rattle.aodv_model.specs.Soundness.{IsDatum, IsStoreInMesh};
 
 use aodv_entry::Dests;
-use circular_buffer::HeapCircularBuffer;
 use mesh_base::{Bytes, NoMemory, NodeSet};
 use std::alloc::Global;
+use std::collections::VecDeque;
 use std::marker::Model;
 
 /// The data that wait for each destination, and which destinations need a route request.
 #[derive(Drop)]
 pub struct Waiting {
     // The data for each destination, the one that came first at the front.
-    rows: Vec<HeapCircularBuffer<Bytes>>,
+    rows: Vec<VecDeque<Bytes>>,
     with_data: NodeSet,
     // Those of `with_data` that need a request.
     needing: NodeSet,
 }
 
 impl Model for Waiting {
-    ghost use Rattle.std.specs.Prelude.{ℕ, List};
+    ghost use Rattle.std.specs.Prelude.{ℕ, List, map};
+    ghost use Rattle.std.specs.VecDeque.{deque_items};
     ghost use Rattle.std.specs.Coded.{coded_ℕ, coded_list, coded×, code_by};
     ghost use Rattle.std.specs.FinMap as maps;
     ghost use Rattle.std.proofs.Common.{refl};
@@ -35,26 +37,28 @@ impl Model for Waiting {
 
     ghost coded = { code_by (Store × List ℕ) (coded× (maps.code coded_ℕ waiting_code) (coded_list coded_ℕ)) (λ s. (s.store, s.rooms)) (λ p. record { store = p.0; rooms = p.1 }) (λ _. refl) };
 
-    ghost use Rattle.aodv_waiting.specs.Rows.{store_of, rooms_of, AreRows};
+    ghost use Rattle.aodv_waiting.specs.Rows.{store_of, room_of, AreRows};
 
-    ghost view = { λ a. record { store = store_of a.needing a.rows.items; rooms = rooms_of a.rows.items } };
+    ghost view = { λ a. record { store = store_of a.needing (map deque_items a.rows.items); rooms = map room_of a.rows.items } };
 
-    ghost invariant = { λ a. AreRows a.rows.items a.with_data a.needing };
+    ghost invariant = { λ a. AreRows (map deque_items a.rows.items) a.with_data a.needing };
 }
 
-// Room for one more datum. A full ring doubles.
-fn make_room_in(ring: &mut HeapCircularBuffer<Bytes>) -> Result<(), NoMemory>
+// Room for one more datum. A full ring doubles, so that many data take time in proportion to their
+// number.
+fn make_room_in(ring: &mut VecDeque<Bytes>) -> Result<(), NoMemory>
     ensures items { ring.new.items ≡ ring.old.items }
-    ensures here { OnOk result (length ring.new.items < ring.new.capacity) }
-    ensures keeps { ring.old.capacity ≤ ring.new.capacity }
-    ensures refused { OnErr result (ring.new ≡ ring.old) }
+    ensures len { deque_len ring.new ≡ deque_len ring.old }
+    ensures here { OnOk result (deque_len ring.new < deque_capacity ring.new) }
+    ensures keeps { deque_capacity ring.old ≤ deque_capacity ring.new }
+    ensures refused { OnErr result (deque_capacity ring.new ≡ deque_capacity ring.old) }
 {
     let most = ring.capacity();
     if ring.len() < most {
         return Ok(());
     }
-    let more = if most < 4 { 4 } else { 2 * most };
-    match ring.resize(more) {
+    let more = most.max(4);
+    match ring.reserve_exact(more) {
         Ok(()) => Ok(()),
         Err(_) => Err(NoMemory),
     }
@@ -88,7 +92,7 @@ impl Waiting {
     {
         let mut rows = Vec::with_capacity(alloc, nodes)?;
         for _ in 0..nodes {
-            rows.push(HeapCircularBuffer::with_capacity(alloc, 0)?)?;
+            rows.push(VecDeque::new(alloc))?;
         }
         Ok(Waiting {
             rows,
@@ -119,10 +123,7 @@ impl Waiting {
         ensures rooms { self.new.rooms ≡ slice_set self.old.rooms d (slice_index self.old.rooms d - 1) }
     {
         let row = &mut self.rows[d];
-        match row.try_push_back(body) {
-            Ok(()) => {}
-            Err(_) => unreachable!(),
-        }
+        row.push_back_reserved(body);
         mark_if_new(&mut self.needing, &self.with_data, d);
         self.with_data.add(d);
     }
