@@ -35,6 +35,5 @@ returns-clause-store c =
 pub returns-clause-rooms : goal.returns-clause-rooms
 returns-clause-rooms c =
     let rings = c.self.inside.rows.items in
-    let rows = map deque_items rings in
     let lt : c.args.d < length rings = omega (arith, room_there c.args.self.now.rooms c.args.d c.requires.room, rings_len _ rings _ (ap (λ s. s.rooms) c.self.view_is)) in
     room_used room_of rings c.args.d c.index_mut-row.result.now c.push_back_reserved.new.self c.args.self.now.rooms lt c.index_mut-row.ensures.value (omega (arith, c.push_back_reserved.ensures.len, c.push_back_reserved.ensures.capacity)) (ap (λ s. s.rooms) c.self.view_is)

@@ -32,7 +32,6 @@ returns-in-Some-clause-value c =
 pub returns-in-Some-clause-datum : goal.returns-in-Some-clause-datum
 returns-in-Some-clause-datum c =
     let rings = c.self.inside.rows.items in
-    let rows = map deque_items rings in
     let lt : c.args.d < length rings = omega (arith, c.requires, rings_len _ rings _ (ap (λ s. s.rooms) c.self.view_is)) in
     let len : deque_len c.index.result.now ≡ length c.index.result.now.items = search rules in
     let there : 0 < length c.index.result.now.items = omega (arith, c.in-Some.ensures.variant.0 refl) in

@@ -1,4 +1,4 @@
-use Rattle.std.proofs.Common.{map, ◌≡◌, ◌<◌, length, ap, refl, ◌∙◌, arith}
+use Rattle.std.proofs.Common.{◌≡◌, ◌<◌, length, ap, refl, ◌∙◌, arith}
 use Rattle.std.specs.VecDeque.{deque_items, deque_len, deque_capacity}
 use Rattle.std.proofs.lemmas.Result.{on_err_weaker}
 use Rattle.aodv_waiting.specs.Rows.{store_of, room_of}
@@ -30,20 +30,17 @@ returns-clause-refused c =
 pub returns-clause-here : goal.returns-clause-here
 returns-clause-here c =
     let rings = c.self.inside.rows.items in
-    let rows = map deque_items rings in
     let lt : c.args.d < length rings = omega (arith, c.requires, rings_len _ rings _ (ap (λ s. s.rooms) c.self.view_is)) in
     room_made room_of rings c.args.d c.make_room_in.new.ring c.make_room_in.result (deque_len c.make_room_in.new.ring) (deque_capacity c.make_room_in.new.ring) lt refl c.make_room_in.ensures.here
 
 pub returns-clause-nodes : goal.returns-clause-nodes
 returns-clause-nodes c =
     let rings = c.self.inside.rows.items in
-    let rows = map deque_items rings in
     let lt : c.args.d < length rings = omega (arith, c.requires, rings_len _ rings _ (ap (λ s. s.rooms) c.self.view_is)) in
     (rooms_kept room_of rings c.args.d c.index_mut-row.result.now c.make_room_in.new.ring c.args.self.now.rooms lt c.index_mut-row.ensures.value (omega (arith, c.make_room_in.ensures.len, c.make_room_in.ensures.keeps)) (ap (λ s. s.rooms) c.self.view_is)).nodes
 
 pub returns-clause-keeps : goal.returns-clause-keeps
 returns-clause-keeps c =
     let rings = c.self.inside.rows.items in
-    let rows = map deque_items rings in
     let lt : c.args.d < length rings = omega (arith, c.requires, rings_len _ rings _ (ap (λ s. s.rooms) c.self.view_is)) in
     (rooms_kept room_of rings c.args.d c.index_mut-row.result.now c.make_room_in.new.ring c.args.self.now.rooms lt c.index_mut-row.ensures.value (omega (arith, c.make_room_in.ensures.len, c.make_room_in.ensures.keeps)) (ap (λ s. s.rooms) c.self.view_is)).room
