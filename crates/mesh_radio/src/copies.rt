@@ -109,6 +109,7 @@ fn place_of_packet(packets: &VecDeque<Sent>, id: u64, hint: usize) -> usize
 }
 
 // The copy of this id, where its slot has this receiver. The hint comes to be where its packet is.
+#[inline(always)]
 fn copy_at<'a>(
     packets: &'a VecDeque<Sent>,
     id: u64,

@@ -144,6 +144,7 @@ impl Steps for World {
         Ok(World { parts })
     }
 
+    #[inline(always)]
     fn step(&mut self, alloc: Global, e: &Event<'_>, out: &mut Packet) -> Result<Done, StepError> {
         match *e {
             Event::Give { node, dest, body } => self.parts.give(alloc, node, dest, body),
