@@ -138,6 +138,7 @@ impl Radio {
 
     /// Takes the copy of this id out of the air, its bytes in this room's memory. None where no copy in
     /// flight has it.
+    #[inline(always)]
     pub fn take(&mut self, id: u64, room: Room) -> Option<Flying>
         requires fits { (f : Flying) → find_copy self.old.flying id ≡ Some f → length f.bytes ≤ room }
         ensures taken { result ≡ find_copy self.old.flying id }
