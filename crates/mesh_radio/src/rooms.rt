@@ -51,6 +51,9 @@ impl Rooms {
         ensures bounded { OnOk result (self.new.room ≤ max self.old.room count) }
         ensures refused { OnErr result (self.new ≡ self.old) }
     {
+        if count <= self.ready && bytes <= self.long.bytes() {
+            return Ok(());
+        }
         let ready = self.ready.max(count);
         self.short.fill_up(self.alloc, ready)?;
         if bytes <= self.long.bytes() {

@@ -119,6 +119,7 @@ fn next_at(at: usize, word: &[u8]) -> usize
     at + word.len() + 1
 }
 
+#[inline(always)]
 fn address(at: usize, word: &[u8]) -> Result<Mention, LineFault>
     requires { at + length word.now < 2 ^ 63 }
     ensures ok { IfOk result (λ a. (address_of word.now ≡ Some (mention_of a).address) × ((mention_of a).span ≡ span_at_lem at word.now)) }
