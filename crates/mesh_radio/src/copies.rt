@@ -302,6 +302,7 @@ impl Copies {
     }
 
     /// Makes room for this many copies more, each of at most this many bytes.
+    #[inline(always)]
     pub fn make_room(&mut self, copies: usize, bytes: usize) -> Result<(), NoMemory>
         requires few { copies ≤ 200 }
         requires next { self.old.next_copy + 200 < 2 ^ 64 }

@@ -109,6 +109,7 @@ impl Radio {
 
     /// Makes room for this many copies more, each of at most this many bytes. It asks for at most
     /// that much. Rooms that are long enough stay.
+    #[inline(always)]
     pub fn make_room(&mut self, copies: usize, bytes: usize) -> Result<(), NoMemory>
         requires few { copies ≤ 200 }
         requires next { self.old.next_copy + 200 < 2 ^ 64 }

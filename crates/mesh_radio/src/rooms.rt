@@ -46,6 +46,7 @@ impl Rooms {
 
     /// Makes sure of room for this many packets, each of this many bytes. What is there stays, where
     /// it is large enough.
+    #[inline(always)]
     pub fn make(&mut self, count: usize, bytes: usize) -> Result<(), NoMemory>
         ensures ok { OnOk result ((count ≤ self.new.room) × (bytes ≤ self.new.most)) }
         ensures bounded { OnOk result (self.new.room ≤ max self.old.room count) }
@@ -54,6 +55,17 @@ impl Rooms {
         if count <= self.ready && bytes <= self.long.bytes() {
             return Ok(());
         }
+        self.make_more(count, bytes)
+    }
+
+    // The same, where rooms may be missing.
+    #[cold]
+    #[inline(never)]
+    fn make_more(&mut self, count: usize, bytes: usize) -> Result<(), NoMemory>
+        ensures ok { OnOk result ((count ≤ self.new.room) × (bytes ≤ self.new.most)) }
+        ensures bounded { OnOk result (self.new.room ≤ max self.old.room count) }
+        ensures refused { OnErr result (self.new ≡ self.old) }
+    {
         let ready = self.ready.max(count);
         self.short.fill_up(self.alloc, ready)?;
         if bytes <= self.long.bytes() {
