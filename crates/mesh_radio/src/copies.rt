@@ -1,5 +1,5 @@
 //! Copies of packets in flight, by rising id.
-ghost use Rattle.std.specs.Prelude.{◌≡◌, ℕ, ◌<◌, ◌≤◌, ◌+◌, ◌-◌, ◌^◌, ◌++◌, ◌∷◌, [], List, length, slice_get, drop, option_map, Some, OnOk, OnErr, IfSome, IfNone, if◌then◌else◌};
+ghost use Rattle.std.specs.Prelude.{◌≡◌, ℕ, ◌<◌, ◌≤◌, ◌+◌, ◌-◌, ◌^◌, ◌++◌, ◌∷◌, [], List, length, max, slice_get, drop, option_map, Some, OnOk, OnErr, IfSome, IfNone, if◌then◌else◌};
 ghost use Rattle.std.specs.VecDeque.{deque_len, deque_capacity};
 ghost use Rattle.mesh_base.specs.Views.{flying_seen};
 ghost use Rattle.mesh_base.specs.declared.events.Flying.{Flying};
@@ -50,15 +50,18 @@ impl Model for Copies {
     ghost invariant = { λ a. AreKept a.packets.items a.slots.items a.first a.count a.of_data × (a.rooms.room + deque_len a.slots ≤ deque_capacity a.slots) × (a.rooms.room + deque_len a.packets ≤ deque_capacity a.packets) };
 }
 
+/// Whether the packet is a datum's.
+pub fn is_data(packet: &[u8]) -> bool
+    ensures { result ≡ is_data packet.now }
+{
+    !packet.is_empty() && packet[0] == DATA_TYPE
+}
+
 // So many copies, if the packet is a datum's, else none.
 fn if_data(packet: &[u8], copies: usize) -> usize
     ensures { result ≡ (if is_data packet.now then copies else 0) }
 {
-    if !packet.is_empty() && packet[0] == DATA_TYPE {
-        copies
-    } else {
-        0
-    }
+    if is_data(packet) { copies } else { 0 }
 }
 
 // The place of the slot of this id.
@@ -308,6 +311,7 @@ impl Copies {
         requires next { self.old.next_copy + 200 < 2 ^ 64 }
         ensures same { self.new ≡ record self.old { room = self.new.room; most = self.new.most } }
         ensures ok { OnOk result ((copies ≤ self.new.room) × (bytes ≤ self.new.most)) }
+        ensures exact { OnOk result (self.new ≡ record self.old { room = max self.old.room copies; most = max self.old.most bytes }) }
         ensures refused { OnErr result (self.new ≡ self.old) }
     {
         self.slots.reserve(copies)?;

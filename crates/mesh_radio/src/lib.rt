@@ -9,4 +9,5 @@ mod radio;
 mod rooms;
 mod shelf;
 
+pub use copies::is_data;
 pub use radio::Radio;

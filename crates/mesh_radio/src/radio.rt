@@ -1,5 +1,5 @@
 //! The radio of a mesh.
-ghost use Rattle.std.specs.Prelude.{◌≡◌, ◌≢◌, ◌<◌, ◌≤◌, ◌+◌, ◌^◌, ◌∷◌, [], ℕ, true, false, not, length, slice_get, OnOk, OnErr, IfOk, IfSome, IfNone, option_map};
+ghost use Rattle.std.specs.Prelude.{◌≡◌, ◌≢◌, ◌<◌, ◌≤◌, ◌+◌, ◌^◌, ◌∷◌, [], ℕ, true, false, not, length, max, slice_get, OnOk, OnErr, IfOk, IfSome, IfNone, option_map};
 ghost use Rattle.std.specs.Bool.{OnTrue, OnFalse};
 ghost use Rattle.std.specs.List.{AllByRecursion};
 ghost use Rattle.std.specs.FinSet as sets;
@@ -107,14 +107,14 @@ impl Radio {
         self.ever.has(a, b)
     }
 
-    /// Makes room for this many copies more, each of at most this many bytes. It asks for at most
-    /// that much. Rooms that are long enough stay.
+    /// Makes room for this many copies more, each of at most this many bytes. What room there is stays.
     #[inline(always)]
     pub fn make_room(&mut self, copies: usize, bytes: usize) -> Result<(), NoMemory>
         requires few { copies ≤ 200 }
         requires next { self.old.next_copy + 200 < 2 ^ 64 }
         ensures same { self.new ≡ record self.old { room = self.new.room; most = self.new.most } }
         ensures ok { OnOk result ((copies ≤ self.new.room) × (bytes ≤ self.new.most)) }
+        ensures exact { OnOk result (self.new ≡ record self.old { room = max self.old.room copies; most = max self.old.most bytes }) }
         ensures refused { OnErr result (self.new ≡ self.old) }
     {
         self.copies.make_room(copies, bytes)

@@ -3,16 +3,12 @@ ghost use Rattle.std.specs.Prelude.{◌≡◌, ◌<◌, ◌+◌, ◌^◌, ℕ, l
 ghost use Rattle.mesh_base.specs.Meshes.{Nodes};
 ghost use Rattle.mesh_model.specs.Accounts as model;
 ghost use Rattle.mesh_model.specs.Accounts.{any};
-ghost use Rattle.mesh_radio.specs.Copies.{is_data};
 ghost use Rattle.mesh_world.specs.Counted.{has_datum, waiting_at, queued_in, AreCounted, IsCountOf};
 
 use aodv_inbox::Inbox;
 use aodv_node::Node;
 use mesh_base::Item;
-use mesh_radio::Radio;
-
-/// The type of a data packet, in its first byte.
-const DATA_TYPE: u8 = 16;
+use mesh_radio::{Radio, is_data};
 
 /// Where the data of a world are.
 #[derive(Clone, Copy, Debug, PartialEq, Eq)]
@@ -83,11 +79,4 @@ fn has_datum(item: &Item) -> bool
         Item::New { .. } => true,
         Item::Heard { bytes, .. } => is_data(bytes.as_slice()),
     }
-}
-
-// Whether the packet is a datum's.
-fn is_data(packet: &[u8]) -> bool
-    ensures { result ≡ is_data packet.now }
-{
-    !packet.is_empty() && packet[0] == DATA_TYPE
 }
