@@ -2,6 +2,8 @@ pub mod Ops
 pub mod Least
 pub mod PartLaws
 pub mod NumberLaws
+pub mod OctetLaws
+pub mod AddressLaws
 pub mod MeshLaws
 pub mod Spelling
 pub mod Readings

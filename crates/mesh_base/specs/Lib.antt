@@ -1,6 +1,7 @@
 -- Read in this order: the spelling of numbers and addresses, the parts of a text, meshes, sets of nodes,
 -- what is only looked at.
--- Words has the proof that a set gives its words back, and nothing that a contract says.
+-- Words has the proof that a set gives its words back, and Octets an address number by number; no public contract
+-- says either.
 pub mod Numbers
 pub mod Parts
 pub mod Addresses
@@ -9,3 +10,4 @@ pub mod Bytes
 pub mod Members
 pub mod Views
 pub mod Words
+pub mod Octets

@@ -1,5 +1,5 @@
 //! Owned bytes, and memory for them.
-ghost use Rattle.std.specs.Prelude.{◌≡◌, ◌≤◌, ◌↔◌, [], length, IfOk, IfSome, IsSome, vec_capacity};
+ghost use Rattle.std.specs.Prelude.{◌≡◌, ◌≤◌, ◌↔◌, [], length, IfOk, IsOk, IfSome, IsSome, vec_capacity};
 
 use arrayvec::ArrayVec;
 use std::alloc::{AllocError, AllocFailed, Global};
@@ -46,7 +46,8 @@ impl Model for Bytes {
 impl Bytes {
     /// A copy of b.
     pub fn copy_of(alloc: Global, b: &[u8]) -> Result<Bytes, NoMemory>
-        ensures { IfOk result (λ copy. copy ≡ b.now) }
+        ensures copy { IfOk result (λ copy. copy ≡ b.now) }
+        ensures short { length b.now ≤ 32 → IsOk result }
     {
         match Bytes::short(b) {
             Some(short) => Ok(short),
@@ -121,7 +122,8 @@ impl Model for Room {
 impl Room {
     /// Room for `most` bytes. It takes no memory for up to 32 of them.
     pub fn new(alloc: Global, most: usize) -> Result<Room, NoMemory>
-        ensures { IfOk result (λ room. room ≡ most) }
+        ensures room { IfOk result (λ room. room ≡ most) }
+        ensures short { most ≤ 32 → IsOk result }
     {
         if most <= 32 {
             return Ok(Room { items: None, most });
