@@ -4,6 +4,7 @@ pub mod Events
 pub mod Counts
 pub mod Sound
 pub mod Chosen
+pub mod Cuts
 pub mod Tables
 pub mod Asked
 pub mod Choices

@@ -1,6 +1,6 @@
 //! The lines of an input, one after another.
 ghost use Rattle.std.specs.Prelude.{◌≡◌, ◌≢◌, ◌<◌, ◌≤◌, ◌+◌, ◌^◌, ◌∷◌, [], List, false, length, OnOk, IfSome, IfNone, IsErrOf, Some};
-ghost use Rattle.mesh_base.specs.Parts.{parts};
+ghost use Rattle.mesh_base.specs.Parts.{parts, rest_parts};
 ghost use Rattle.mesh_model.specs.Places.{IsEvent};
 ghost use Rattle.mesh_meaning.specs.Events.{event_of};
 ghost use Rattle.mesh_text.specs.Schedule.{opening};
@@ -14,7 +14,8 @@ use crate::point::Point;
 use crate::status::Status;
 use crate::stop::{Scratch, Stop};
 use arrayvec::ArrayVec;
-use mesh_base::{Event, Full, LineBuf, cut};
+use memchr::memchr;
+use mesh_base::{Event, Full, LineBuf};
 use mesh_io::Sink;
 use mesh_report::{put_bad, put_full, put_summary};
 use mesh_script::parse_line;
@@ -45,6 +46,18 @@ fn one<'a, S: Steps, O: Sink>(
     match parse_line(bytes, at.mesh(), at.started()) {
         Err(fault) => Err(Stop::BadLine(fault)),
         Ok(line) => do_line(alloc, at, line, quiet, scratch, out),
+    }
+}
+
+// The first line, and what stands after its LF.
+fn split_line(bytes: &[u8]) -> (&[u8], Option<&[u8]>)
+    ensures whole { IfNone result.1 (result.0.now ≡ bytes.now) }
+    ensures parts { parts 10 bytes.now ≡ result.0.now ∷ rest_parts 10 result.1 }
+    ensures length { IfSome result.1 (λ rest. length result.0.now + 1 + length rest.now ≡ length bytes.now) }
+{
+    match memchr(b'\n', bytes) {
+        None => (bytes, None),
+        Some(at) => (&bytes[..at], Some(&bytes[at + 1..])),
     }
 }
 
@@ -202,7 +215,7 @@ pub fn run_lines<S: Steps, O: Sink>(
     };
     let mut rest = bytes;
     'lines: loop {
-        let (bytes, others) = cut(rest, b'\n');
+        let (bytes, others) = split_line(rest);
         match others {
             None => return last(alloc, &mut at, bytes, more, quiet, &mut scratch, out),
             Some(next) => {

@@ -8,29 +8,29 @@ use Rattle.mesh_run.proofs.lines.run_lines.Goals as goal
 
 pub lines-preserved : goal.lines-preserved
 lines-preserved g c =
-    let cut : parts 10 c.lines.rest.now ≡ c.cut.result.0.now ∷ parts 10 c.in-Some.next.now = search rules in
+    let cut : parts 10 c.lines.rest.now ≡ c.split_line.result.0.now ∷ parts 10 c.in-Some.next.now = search rules in
     record {
       told = λ now s t. c.lines.invariant.told now s
-          (told_first c.args.quiet c.lines.at c.row.new.at c.args.more c.lines.rest.now c.cut.result.0.now c.in-Some.next.now _ (g.O.Sink.held c.row.new.out) now s cut c.in_default.ensures.goes t);
+          (told_first c.args.quiet c.lines.at c.row.new.at c.args.more c.lines.rest.now c.split_line.result.0.now c.in-Some.next.now _ (g.O.Sink.held c.row.new.out) now s cut c.in_default.ensures.goes t);
       later = search rules;
       lines =
-          let len : length c.cut.result.0.now + 1 + length c.in-Some.next.now ≡ length c.lines.rest.now = search rules in
+          let len : length c.split_line.result.0.now + 1 + length c.in-Some.next.now ≡ length c.lines.rest.now = search rules in
           omega (arith, c.in_default.ensures.lines, len, c.lines.invariant.lines);
       events = omega (arith, c.in_default.ensures.lines, c.in_default.ensures.events, c.lines.invariant.events);
     }
 
 pub returns-in-None-clause-told : goal.returns-in-None-clause-told
 returns-in-None-clause-told g c =
-    let cut : parts 10 c.lines.rest.now ≡ c.cut.result.0.now ∷ [] = search rules in
+    let cut : parts 10 c.lines.rest.now ≡ c.split_line.result.0.now ∷ [] = search rules in
     let t = c.lines.invariant.told (g.O.Sink.held c.last.new.out) c.last.result
-    (told_last c.args.quiet c.lines.at c.args.more c.lines.rest.now c.cut.result.0.now _ _ _ cut c.last.ensures.told) in
+    (told_last c.args.quiet c.lines.at c.args.more c.lines.rest.now c.split_line.result.0.now _ _ _ cut c.last.ensures.told) in
     let P : Moment → Type 0 = λ m. Told (g.O.Sink.held c.args.out.now) (g.O.Sink.held c.last.new.out) (said c.args.quiet (text_from m (rows_of c.args.more (parts 10 c.args.bytes.now)))) c.last.result in
     subst P c.start-at.ensures t
 
 pub returns-in-Some-row-clause-told : goal.returns-in-Some-row-clause-told
 returns-in-Some-row-clause-told g c =
-    let cut : parts 10 c.lines.rest.now ≡ c.cut.result.0.now ∷ parts 10 c.in-Some.next.now = search rules in
+    let cut : parts 10 c.lines.rest.now ≡ c.split_line.result.0.now ∷ parts 10 c.in-Some.next.now = search rules in
     let t = c.lines.invariant.told (g.O.Sink.held c.row.new.out) c.in-Some-row.status
-    (told_at_first c.args.quiet c.lines.at c.args.more c.lines.rest.now c.cut.result.0.now c.in-Some.next.now _ _ _ cut c.in-Some-row.ensures.told) in
+    (told_at_first c.args.quiet c.lines.at c.args.more c.lines.rest.now c.split_line.result.0.now c.in-Some.next.now _ _ _ cut c.in-Some-row.ensures.told) in
     let P : Moment → Type 0 = λ m. Told (g.O.Sink.held c.args.out.now) (g.O.Sink.held c.row.new.out) (said c.args.quiet (text_from m (rows_of c.args.more (parts 10 c.args.bytes.now)))) c.in-Some-row.status in
     subst P c.start-at.ensures t

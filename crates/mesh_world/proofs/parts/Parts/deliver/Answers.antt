@@ -18,7 +18,7 @@ index_mut-requires c =
 pub take-requires : goal.take-requires
 take-requires c =
     let old = c.args.self.now in
-    record { fits = seen_fits old.radio c.args.id c.in_ok-room.room c.find.result c.in-Some.flying c.find.ensures c.in-Some.is c.in_ok-room.ensures }
+    record { fits = seen_fits old.radio c.args.id c.in_ok-room.room c.find.result c.in-Some.flying c.find.ensures c.in-Some.is c.in_ok-room.ensures.room }
 
 pub index_mut-requires-2 : goal.index_mut-requires-2
 index_mut-requires-2 c =

@@ -10,7 +10,7 @@ returns-in_default-clause-done c = λ packet.
 pub take-requires : goal.take-requires
 take-requires c =
     let old = c.args.self.now in
-    record { fits = seen_fits old.radio c.args.id c.in_ok-room.room c.find.result c.in-Some.flying c.find.ensures c.in-Some.is c.in_ok-room.ensures }
+    record { fits = seen_fits old.radio c.args.id c.in_ok-room.room c.find.result c.in-Some.flying c.find.ensures c.in-Some.is c.in_ok-room.ensures.room }
 
 pub returns-clause-done : goal.returns-clause-done
 returns-clause-done c = λ packet.
