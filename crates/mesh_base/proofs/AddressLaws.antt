@@ -1,16 +1,19 @@
 -- An address by its numbers, one after another.
-use Rattle.std.proofs.Common.{◌≡◌, ℕ, ◌+◌, ◌-◌, ◌*◌, ◌<◌, ◌≤◌, Bool, true, false, eqb, List, [], ◌∷◌, Option, Some, None, length, take, drop, position, refl, ap, subst, ◌∙◌, sym, arith}
+use Rattle.std.proofs.Common.{◌≡◌, ℕ, ◌+◌, ◌-◌, ◌*◌, ◌<◌, ◌≤◌, Bool, true, false, eqb, List, [], ◌∷◌, ◌++◌, Option, Some, None, length, take, drop, position, refl, ap, subst, ◌∙◌, sym, arith}
 use Rattle.std.specs.Option.{option_map, option_and_then}
 use Rattle.std.specs.Str.{all_ascii_digits}
 use Rattle.std.specs.Char.{is_ascii_digit}
-use Rattle.std.specs.List.{onto_first}
+use Rattle.std.specs.List.{onto_first, join_with_byte}
 use Rattle.std.proofs.lemmas.Bool.{ne_eqb, and_parts}
-use Rattle.std.proofs.lemmas.List.Splits.{length-slice_split, slice_split-cons_no}
+use Rattle.std.proofs.lemmas.List.Elements.{All-append}
+use Rattle.std.proofs.lemmas.Option.{option_and_then_some}
+use Rattle.std.proofs.lemmas.List.Splits.{length-slice_split, slice_split-cons_no, join_with_byte-slice_split}
 use Rattle.mesh_base.specs.Numbers.{number_up_to}
 use Rattle.mesh_base.specs.Parts.{parts}
 use Rattle.mesh_base.specs.Addresses.{address_of, address_from}
 use Rattle.mesh_base.specs.Octets.{number_and, first_octet}
 use Rattle.mesh_base.proofs.PartLaws.{split_at_place, split_nowhere}
+use Rattle.mesh_base.proofs.Spelling.{Lacks, one_lacks, parts_none}
 use Rattle.mesh_base.proofs.OctetLaws.{no_digits, digit_range}
 
 -- ---- the first number is found
@@ -37,13 +40,13 @@ found (p ∷ q ∷ ps) n qs h =
 
 -- ---- the last number
 
-digits_whole : (ds : List ℕ) → all_ascii_digits ds ≡ true → parts 46 ds ≡ ds ∷ []
-digits_whole [] h = refl
-digits_whole (d ∷ ds) h =
+pub digits_whole : (sep : ℕ) (ds : List ℕ) → sep < 48 → all_ascii_digits ds ≡ true → parts sep ds ≡ ds ∷ []
+digits_whole sep [] low h = refl
+digits_whole sep (d ∷ ds) low h =
     let both = and_parts (is_ascii_digit d) (all_ascii_digits ds) h in
     let range = digit_range d both.0 in
-    slice_split-cons_no (λ b. eqb b 46) d ds (ne_eqb d 46 (λ e. omega (arith, range.0)))
-    ∙ ap (λ ps. onto_first d ps) (digits_whole ds both.1)
+    slice_split-cons_no (λ b. eqb b sep) d ds (ne_eqb d sep (λ e. omega (arith, range.0)))
+    ∙ ap (λ ps. onto_first d ps) (digits_whole sep ds low both.1)
 
 -- the number that the only one of these parts spells
 abbrev last_octet : List (List ℕ) → Option ℕ
@@ -64,7 +67,7 @@ by_test P false f g = g refl
 
 last_is : (text : List ℕ) → last_octet (parts 46 text) ≡ number_up_to 255 text
 last_is text =
-    by_test _ (all_ascii_digits text) (λ h. ap last_octet (digits_whole text h)) (λ h.
+    by_test _ (all_ascii_digits text) (λ h. ap last_octet (digits_whole 46 text (omega arith) h)) (λ h.
     by_option _ (position (λ b. eqb b 46) text)
     (λ is. ap last_octet (split_nowhere (λ b. eqb b 46) text is))
     (λ i is.
@@ -171,3 +174,49 @@ module _ (text : List ℕ) where
             found_last (parts 46 after_y) z (last_is after_y ∙ h) _ (λ d d_is value.
             ap address_from (three ∙ ap (λ ps. first.part ∷ second.part ∷ third.part ∷ ps) d_is)
             ∙ four_are first.part second.part third.part d w x y z first.value second.value third.value value)
+
+-- ---- the words of a line: a number or an address has no space
+
+by_digits : (P : Type 0) (b : Bool) (o : Option ℕ) (n : ℕ) → (b ≡ false → o ≡ None) → o ≡ Some n → (b ≡ true → P) → P
+by_digits P true o n f h k = k refl
+by_digits P false o n f h k = absurd (let none = f refl in let Q : ⊥ = cc in Q)
+
+number_digits : (most : ℕ) (ds : List ℕ) (n : ℕ) → number_up_to most ds ≡ Some n → all_ascii_digits ds ≡ true
+number_digits most ds n h = by_digits _ (all_ascii_digits ds) (number_up_to most ds) n (no_digits most ds) h (λ e. e)
+
+pub number_word : (most : ℕ) (ds : List ℕ) (n : ℕ) → number_up_to most ds ≡ Some n → parts 32 ds ≡ ds ∷ []
+number_word most ds n h = digits_whole 32 ds (omega arith) (number_digits most ds n h)
+
+digits_lack : (ds : List ℕ) → all_ascii_digits ds ≡ true → Lacks 32 ds
+digits_lack [] h = λ k d lt. absurd (omega arith)
+digits_lack (b ∷ ds) h =
+    let both = and_parts (is_ascii_digit b) (all_ascii_digits ds) h in
+    let range = digit_range b both.0 in
+    one_lacks 32 b ds (ne_eqb b 32 (λ e. omega (arith, range.0))) (digits_lack ds both.1)
+
+four_lack : (a b c d : List ℕ) (n : ℕ) → address_from (a ∷ b ∷ c ∷ d ∷ []) ≡ Some n → Lacks 32 (join_with_byte 46 (a ∷ b ∷ c ∷ d ∷ []))
+unfolding address_from
+four_lack a b c d n h =
+    let P : ℕ → Type 0 = λ x. eqb x 32 ≡ false in
+    option_and_then_some _ (number_up_to 255 a) n h (λ w w_is h1.
+    option_and_then_some _ (number_up_to 255 b) n h1 (λ x x_is h2.
+    option_and_then_some _ (number_up_to 255 c) n h2 (λ y y_is h3.
+    option_and_then_some _ (number_up_to 255 d) n h3 (λ z z_is h4.
+    All-append P a (46 ∷ (b ++ 46 ∷ (c ++ 46 ∷ d))) (digits_lack a (number_digits 255 a w w_is)) (one_lacks 32 46 _ refl
+    (All-append P b (46 ∷ (c ++ 46 ∷ d)) (digits_lack b (number_digits 255 b x x_is)) (one_lacks 32 46 _ refl
+    (All-append P c (46 ∷ d) (digits_lack c (number_digits 255 c y y_is)) (one_lacks 32 46 _ refl
+    (digits_lack d (number_digits 255 d z z_is)))))))))))
+
+from_lacks : (ps : List (List ℕ)) (n : ℕ) → address_from ps ≡ Some n → Lacks 32 (join_with_byte 46 ps)
+unfolding address_from
+from_lacks [] n h = absurd (let Q : ⊥ = cc in Q)
+from_lacks (a ∷ []) n h = absurd (let Q : ⊥ = cc in Q)
+from_lacks (a ∷ b ∷ []) n h = absurd (let Q : ⊥ = cc in Q)
+from_lacks (a ∷ b ∷ c ∷ []) n h = absurd (let Q : ⊥ = cc in Q)
+from_lacks (a ∷ b ∷ c ∷ d ∷ []) n h = four_lack a b c d n h
+from_lacks (a ∷ b ∷ c ∷ d ∷ e ∷ ps) n h = absurd (let Q : ⊥ = cc in Q)
+
+pub address_word : (text : List ℕ) (n : ℕ) → address_of text ≡ Some n → parts 32 text ≡ text ∷ []
+unfolding address_of
+address_word text n h =
+    parts_none 32 text (subst (Lacks 32) (join_with_byte-slice_split 46 text) (from_lacks (parts 46 text) n h))

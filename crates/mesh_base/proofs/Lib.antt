@@ -3,8 +3,8 @@ pub mod Least
 pub mod PartLaws
 pub mod NumberLaws
 pub mod OctetLaws
-pub mod AddressLaws
 pub mod MeshLaws
 pub mod Spelling
 pub mod Readings
 pub mod Grown
+pub mod AddressLaws

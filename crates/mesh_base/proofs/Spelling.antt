@@ -113,7 +113,7 @@ address_of-dotted a fits =
     ∙ from_octets (a / 16777216) (a / 65536 % 256) (a / 256 % 256) (a % 256) w x y z
     ∙ ap Some value
 
-one_lacks : (sep b : ℕ) (text : List ℕ) → eqb b sep ≡ false → Lacks sep text → Lacks sep (b ∷ text)
+pub one_lacks : (sep b : ℕ) (text : List ℕ) → eqb b sep ≡ false → Lacks sep text → Lacks sep (b ∷ text)
 one_lacks sep b text other lacks = All-append (λ c. eqb c sep ≡ false) (b ∷ []) text (single sep b other) lacks
   where
     single : (sep b : ℕ) → eqb b sep ≡ false → Lacks sep (b ∷ [])

@@ -113,6 +113,25 @@ fn push_three(out: &mut LineBuf, n: u32)
     out.push(b'0' + (n % 10) as u8);
 }
 
+// Appends a number of four to nine digits.
+#[inline]
+#[tactic(auto, using(crate::proofs::NumberLaws::appended_thousands, crate::proofs::NumberLaws::three_longer))]
+fn push_middle(out: &mut LineBuf, n: u32)
+    requires low { 1000 ≤ n }
+    requires high { n < 1000000000 }
+    requires room { array_vec_len out.old + length (decimal n) ≤ 8192 }
+    ensures text { out.new.items ≡ out.old.items ++ decimal n }
+    ensures length { array_vec_len out.new ≡ array_vec_len out.old + length (decimal n) }
+{
+    if n < 1_000_000 {
+        push_short(out, n / 1000);
+    } else {
+        push_short(out, n / 1000 / 1000);
+        push_three(out, n / 1000 % 1000);
+    }
+    push_three(out, n % 1000);
+}
+
 /// Appends a number in decimal digits.
 #[tactic(auto, using(crate::proofs::NumberLaws::appended_thousands, crate::proofs::NumberLaws::three_longer))]
 pub fn push_decimal(out: &mut LineBuf, n: u64)
@@ -124,11 +143,11 @@ pub fn push_decimal(out: &mut LineBuf, n: u64)
         push_short(out, n as u32);
         return;
     }
-    if n < 1_000_000 {
-        push_short(out, (n / 1000) as u32);
-    } else {
-        push_decimal(out, n / 1000);
+    if n < 1_000_000_000 {
+        push_middle(out, n as u32);
+        return;
     }
+    push_decimal(out, n / 1000);
     push_three(out, (n % 1000) as u32);
 }
 

@@ -1,10 +1,13 @@
 -- Lists of words that go on, and words that spell a command or none.
-use Rattle.std.proofs.Common.{◌≡◌, ◌≢◌, ℕ, ◌<◌, ◌≤◌, List, [], ◌∷◌, Bool, true, false, Result, Ok, Err, length, refl, ◌∙◌, eqb, arith, sym, subst}
+use Rattle.std.proofs.Common.{◌≡◌, ◌≢◌, ℕ, zero, suc, ◌<◌, ◌≤◌, List, [], ◌∷◌, Bool, true, false, Option, Some, None, Result, Ok, Err, length, refl, ap, ◌∙◌, eqb, arith, sym, subst}
 use Rattle.std.specs.Str.{bytes_eq}
 use Rattle.std.specs.List.{join_with_byte}
 use Rattle.std.proofs.lemmas.Slice.Eq.{bytes_eq-Decides}
 use Rattle.std.proofs.lemmas.List.Splits.{length-slice_split, join_with_byte-slice_split}
+use Rattle.mesh_base.specs.Addresses.{address_of}
+use Rattle.mesh_base.specs.Numbers.{number_up_to, positive}
 use Rattle.mesh_base.specs.Parts.{parts}
+use Rattle.mesh_base.proofs.AddressLaws.{address_word, number_word}
 use Rattle.mesh_base.specs.Meshes.{Nodes}
 use Rattle.mesh_text.specs.declared.fault.LineFault.{LineFault}
 use Rattle.mesh_text.specs.declared.fault.LineFault.TheVariants.{Count, Word}
@@ -120,3 +123,22 @@ some_node (p ∷ ps) h = omega arith
 pub after_some : (mesh : Nodes) (r : Result Accepted LineFault) → 0 < length mesh → after_nodes mesh r ≡ r
 after_some [] r h = absurd (omega arith)
 after_some (p ∷ ps) r h = refl
+
+-- ---- an address or a number is the only word of what it is read from
+
+pub only_address : (at : ℕ) (text : List ℕ) (m : Mention) → address_of text ≡ Some (m.address) → m.span ≡ span_at at text
+    → (shape : Mention → Shape) → one_address at (parts 32 text) shape ≡ Ok (shape m)
+only_address at text m h span_is shape =
+    ap (λ ps. one_address at ps shape) (address_word text m.address h)
+    ∙ rw h (ap (λ s. Ok (shape (record { address = m.address; span = s }))) (sym span_is))
+
+from_positive : (o : Option ℕ) (n : ℕ) → positive o ≡ Some n → o ≡ Some n
+from_positive None n h = absurd (let Q : ⊥ = cc in Q)
+from_positive (Some zero) n h = absurd (let Q : ⊥ = cc in Q)
+from_positive (Some (suc k)) n h = h
+
+pub only_number : (most at : ℕ) (text : List ℕ) (n : ℕ) → positive (number_up_to most text) ≡ Some n
+    → (shape : ℕ → Shape) → one_number most at (parts 32 text) shape ≡ Ok (shape n)
+only_number most at text n h shape =
+    ap (λ ps. one_number most at ps shape) (number_word most text n (from_positive (number_up_to most text) n h))
+    ∙ rw h refl

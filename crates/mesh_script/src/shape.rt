@@ -133,6 +133,7 @@ fn address(at: usize, word: &[u8]) -> Result<Mention, LineFault>
 }
 
 // A number from 1 to `most`.
+#[inline(always)]
 fn number(most: u64, at: usize, word: &[u8]) -> Result<u64, LineFault>
     requires { at + length word.now < 2 ^ 63 }
     ensures ok { IfOk result (λ n. positive (number_up_to_lem most word.now) ≡ Some n) }
@@ -157,6 +158,8 @@ fn no_argument(arguments: Option<&[u8]>) -> Result<(), LineFault>
     }
 }
 
+// An address has no space, so a line's only argument is looked through for another one only where it
+// is no address.
 #[tactic(auto, using(crate::proofs::Words::one_address_more))]
 fn one_address(at: usize, arguments: Option<&[u8]>) -> Result<Mention, LineFault>
     requires { IfSome arguments (λ words. at + length words.now < 2 ^ 63) }
@@ -165,12 +168,15 @@ fn one_address(at: usize, arguments: Option<&[u8]>) -> Result<Mention, LineFault
     let Some(words) = arguments else {
         return Err(LineFault::Count);
     };
-    let (word, more) = cut(words, b' ');
+    let fault = match address(at, words) {
+        Ok(mention) => return Ok(mention),
+        Err(fault) => fault,
+    };
+    let (_word, more) = cut(words, b' ');
     if let Some(_more) = more {
         return Err(LineFault::Count);
     }
-    let mention = address(at, word)?;
-    Ok(mention)
+    Err(fault)
 }
 
 #[tactic(auto, using(crate::proofs::Words::two_addresses_more))]
@@ -195,6 +201,7 @@ fn two_addresses(at: usize, arguments: Option<&[u8]>) -> Result<(Mention, Mentio
     Ok((a, b))
 }
 
+// The same for a number.
 #[tactic(auto, using(crate::proofs::Words::one_number_more))]
 fn one_number(most: u64, at: usize, arguments: Option<&[u8]>) -> Result<u64, LineFault>
     requires { IfSome arguments (λ words. at + length words.now < 2 ^ 63) }
@@ -204,12 +211,15 @@ fn one_number(most: u64, at: usize, arguments: Option<&[u8]>) -> Result<u64, Lin
     let Some(words) = arguments else {
         return Err(LineFault::Count);
     };
-    let (word, more) = cut(words, b' ');
+    let fault = match number(most, at, words) {
+        Ok(n) => return Ok(n),
+        Err(fault) => fault,
+    };
+    let (_word, more) = cut(words, b' ');
     if let Some(_more) = more {
         return Err(LineFault::Count);
     }
-    let n = number(most, at, word)?;
-    Ok(n)
+    Err(fault)
 }
 
 // `node ADDR sn NUM`: what follows ADDR begins the second and third word.

@@ -5,5 +5,4 @@ use Rattle.mesh_base.proofs.text.+push_decimal.Goals as goal
 
 pub returns-clause-text : goal.returns-clause-text
 returns-clause-text t c =
-    let before : c.if-n-lt1000000.out.items ≡ c.args.out.now.items ++ decimal (c.args.n / 1000) = search rules in
-    appended_thousands _ _ _ c.args.n (omega arith) (omega arith) before c.push_three.ensures.text
+    appended_thousands _ _ _ c.args.n (omega arith) (omega arith) c.push_decimal.ensures.text c.push_three.ensures.text
