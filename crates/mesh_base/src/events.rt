@@ -150,8 +150,8 @@ pub enum Took {
 /// The copies of one cast, numbered from `first` by rising receiver.
 #[derive(Clone, Copy)]
 pub struct Air {
-    pub first: u64,
     pub to: NodeSet,
+    pub first: u64,
 }
 
 /// What a step did.
