@@ -1,5 +1,5 @@
 -- An address by its numbers, one after another.
-use Rattle.std.proofs.Common.{◌≡◌, ℕ, ◌+◌, ◌-◌, ◌*◌, ◌<◌, ◌≤◌, Bool, true, false, eqb, List, [], ◌∷◌, ◌++◌, Option, Some, None, length, take, drop, position, refl, ap, subst, ◌∙◌, sym, arith}
+use Rattle.std.proofs.Common.{◌≡◌, ℕ, ◌+◌, ◌-◌, ◌*◌, ◌<◌, true, false, eqb, List, [], ◌∷◌, ◌++◌, Option, Some, None, length, take, drop, position, refl, ap, subst, ◌∙◌, sym, arith}
 use Rattle.std.specs.Option.{option_map, option_and_then}
 use Rattle.std.specs.Str.{all_ascii_digits}
 use Rattle.std.specs.Char.{is_ascii_digit}
@@ -14,7 +14,7 @@ use Rattle.mesh_base.specs.Addresses.{address_of, address_from}
 use Rattle.mesh_base.specs.Octets.{number_and, first_octet}
 use Rattle.mesh_base.proofs.PartLaws.{split_at_place, split_nowhere}
 use Rattle.mesh_base.proofs.Spelling.{Lacks, one_lacks, parts_none}
-use Rattle.mesh_base.proofs.OctetLaws.{no_digits, digit_range}
+use Rattle.mesh_base.proofs.OctetLaws.{by_test, no_digits, digit_range}
 
 -- ---- the first number is found
 
@@ -61,20 +61,16 @@ by_option : {X : Type 0} (P : Type 0) (o : Option X) → (o ≡ None → P) → 
 by_option P None f g = f refl
 by_option P (Some x) f g = g x refl
 
-by_test : (P : Type 0) (b : Bool) → (b ≡ true → P) → (b ≡ false → P) → P
-by_test P true f g = f refl
-by_test P false f g = g refl
-
 last_is : (text : List ℕ) → last_octet (parts 46 text) ≡ number_up_to 255 text
 last_is text =
     by_test _ (all_ascii_digits text) (λ h. ap last_octet (digits_whole 46 text (omega arith) h)) (λ h.
     by_option _ (position (λ b. eqb b 46) text)
     (λ is. ap last_octet (split_nowhere (λ b. eqb b 46) text is))
     (λ i is.
-      let rest : List ℕ = take (length text - (i + 1)) (drop (i + 1) text) in
-      ap last_octet (split_at_place (λ b. eqb b 46) text i is)
-      ∙ more_none (take i text) (parts 46 rest) (omega (arith, length-slice_split (λ b. eqb b 46) rest))
-      ∙ sym (no_digits 255 text h)))
+    let rest : List ℕ = take (length text - (i + 1)) (drop (i + 1) text) in
+    ap last_octet (split_at_place (λ b. eqb b 46) text i is)
+    ∙ more_none (take i text) (parts 46 rest) (omega (arith, length-slice_split (λ b. eqb b 46) rest))
+    ∙ sym (no_digits 255 text h)))
 
 found_last : (ps : List (List ℕ)) (n : ℕ) → last_octet ps ≡ Some n → (P : Type 0) → ((d : List ℕ) → ps ≡ d ∷ [] → number_up_to 255 d ≡ Some n → P) → P
 found_last [] n h P k = absurd (let Q : ⊥ = cc in Q)
@@ -177,12 +173,12 @@ module _ (text : List ℕ) where
 
 -- ---- the words of a line: a number or an address has no space
 
-by_digits : (P : Type 0) (b : Bool) (o : Option ℕ) (n : ℕ) → (b ≡ false → o ≡ None) → o ≡ Some n → (b ≡ true → P) → P
-by_digits P true o n f h k = k refl
-by_digits P false o n f h k = absurd (let none = f refl in let Q : ⊥ = cc in Q)
+not_none : {P : Type 0} (o : Option ℕ) (n : ℕ) → o ≡ Some n → o ≡ None → P
+not_none None n h none = absurd (let Q : ⊥ = cc in Q)
+not_none (Some k) n h none = absurd (let Q : ⊥ = cc in Q)
 
 number_digits : (most : ℕ) (ds : List ℕ) (n : ℕ) → number_up_to most ds ≡ Some n → all_ascii_digits ds ≡ true
-number_digits most ds n h = by_digits _ (all_ascii_digits ds) (number_up_to most ds) n (no_digits most ds) h (λ e. e)
+number_digits most ds n h = by_test _ (all_ascii_digits ds) (λ digits. digits) (λ other. not_none (number_up_to most ds) n h (no_digits most ds other))
 
 pub number_word : (most : ℕ) (ds : List ℕ) (n : ℕ) → number_up_to most ds ≡ Some n → parts 32 ds ≡ ds ∷ []
 number_word most ds n h = digits_whole 32 ds (omega arith) (number_digits most ds n h)

@@ -1,5 +1,5 @@
 -- The numbers of an address by their digits.
-use Rattle.std.proofs.Common.{◌≡◌, ℕ, zero, suc, ◌+◌, ◌-◌, ◌*◌, ◌<◌, ◌≤◌, Bool, true, false, eqb, not, cond, ◌&&◌, List, [], ◌∷◌, Option, Some, None, length, take, drop, position, refl, ap, subst, ◌∙◌, sym, arith, ⊎_elim, inl, inr, eq-eqb}
+use Rattle.std.proofs.Common.{◌≡◌, ℕ, ◌+◌, ◌-◌, ◌*◌, ◌<◌, ◌≤◌, Bool, true, false, eqb, not, cond, ◌&&◌, List, [], ◌∷◌, Option, Some, None, length, drop, refl, ap, subst, ◌∙◌, sym, arith, inl, inr}
 use Rattle.std.specs.Prelude.{slice_index}
 use Rattle.std.specs.Option.{option_map}
 use Rattle.std.specs.Str.{all_ascii_digits}
@@ -10,12 +10,14 @@ use Rattle.std.proofs.lemmas.Bool.Decides.{nat_tests}
 use Rattle.std.proofs.lemmas.List.Splits.{length-slice_split, slice_split-cons_no, slice_split-cons_yes}
 use Rattle.mesh_base.specs.Numbers.{read_on, is_canonical, digits_up_to, number_up_to}
 use Rattle.mesh_base.specs.Parts.{parts}
-use Rattle.mesh_base.specs.Addresses.{address_of, address_from}
 use Rattle.mesh_base.specs.Octets.{number_and, first_octet, IsDotAt}
 use Rattle.mesh_base.proofs.NumberLaws.{read_on-ge, digits_up_to-fits, digits_up_to-not_digits, digits_up_to-too_large}
-use Rattle.mesh_base.proofs.PartLaws.{split_at_place, split_nowhere}
 
 -- ---- numbers
+
+pub by_test : (P : Type 0) (b : Bool) → (b ≡ true → P) → (b ≡ false → P) → P
+by_test P true f g = f refl
+by_test P false f g = g refl
 
 either_none : (b : Bool) (o : Option ℕ) → o ≡ None → cond b o None ≡ None
 either_none true o h = h
@@ -88,10 +90,6 @@ pub third_no_digit : (a b c : ℕ) (ds : List ℕ) → is_ascii_digit c ≡ fals
 third_no_digit a b c ds h = no_digits 255 (a ∷ b ∷ c ∷ ds) (later_other a (b ∷ c ∷ ds) (later_other b (c ∷ ds) (first_other c ds h)))
 
 -- four digits are too many
-by_test : (P : Type 0) (b : Bool) → (b ≡ true → P) → (b ≡ false → P) → P
-by_test P true f g = f refl
-by_test P false f g = g refl
-
 pub digit_range : (a : ℕ) → is_ascii_digit a ≡ true → (48 ≤ a) × (a ≤ 57)
 digit_range a h = (grind (h, arith, nat_tests), grind (h, arith, nat_tests))
 

@@ -1,4 +1,4 @@
-use Rattle.std.proofs.Common.{◌≡◌, ◌∙◌, drop, sym, ap}
+use Rattle.std.proofs.Common.{◌∙◌, drop, sym, ap}
 use Rattle.std.specs.Option.{option_map}
 use Rattle.mesh_base.specs.Parts.{parts}
 use Rattle.mesh_base.specs.Octets.{number_and}

@@ -1,5 +1,4 @@
-use Rattle.std.proofs.Common.{rules, arith, ◌≡◌, ◌++◌, ◌/◌}
-use Rattle.std.specs.Fmt.{decimal}
+use Rattle.std.proofs.Common.{arith}
 use Rattle.mesh_base.proofs.NumberLaws.{appended_thousands}
 use Rattle.mesh_base.proofs.text.+push_decimal.Goals as goal
 
