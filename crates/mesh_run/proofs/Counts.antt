@@ -1,24 +1,11 @@
 -- What an answer counts.
-use Rattle.std.proofs.Common.{◌≡◌, ℕ, ◌+◌, Bool, true, false, cond, eqb, List, Option, Some, None, length, refl, sym, ap, subst, ◌∙◌}
+use Rattle.std.proofs.Common.{◌≡◌, ℕ, ◌+◌, Bool, true, false, cond, List, Option, Some, None, refl, sym, ap, subst, ◌∙◌}
 use Rattle.std.specs.List.{slice_get}
-use Rattle.std.proofs.lemmas.Bool.{eqb-true}
-use Rattle.mesh_base.specs.Meshes.{Nodes}
 use Rattle.mesh_base.specs.declared.events.Full.{Full}
-use Rattle.aodv_wire.specs.declared.error.WireError.{WireError}
-use Rattle.aodv_wire.specs.declared.error.WireError.TheVariants.{Short, UnknownType}
-use Rattle.aodv_wire.specs.declared.message.Message as wire
-use Rattle.aodv_wire.specs.declared.message.Message.TheVariants as messages
-use Rattle.aodv_wire.specs.DataPacket as data_packet
-use Rattle.aodv_wire.specs.RouteRequest as request
-use Rattle.aodv_wire.specs.RouteReply as reply
-use Rattle.aodv_wire.specs.RouteError as route_error
-use Rattle.aodv_wire.specs.Spells.{kind, refusal, said}
-use Rattle.aodv_meaning.specs.Meaning.{meaning, in_mesh}
 use Rattle.aodv_model.specs.Cores.{New}
 use Rattle.aodv_model.specs.Handlers.{Effect, Took}
 use Rattle.mesh_model.specs.Worlds.{World, Node, Copy, Event, Give, Turn, Send, Ask, Link, Cut, Deliver, Lose, Double, Happening, Changed, Taken, Sent, CopyHeard, CopyLost, CopyDoubled, Outcome, Idle, Stops, Goes, unless_full, send_of, ask_of, at_node, at_copy, find_copy, are_linked, push, step}
-use Rattle.mesh_model.specs.Accounts.{any, given, delivered, delivered_at, dropped, in_taken, in_message}
-use Rattle.mesh_meaning.specs.Answers.{IsPacketInMesh}
+use Rattle.mesh_model.specs.Accounts.{any, given, delivered, delivered_at, dropped, in_taken}
 use mir.Val.{bool_byte}
 use Rattle.mesh_text.specs.Schedule.{Sums, summed, idle_by}
 use Rattle.mesh_run.specs.Sums.{count_of}
@@ -142,39 +129,6 @@ delivers_taken old new (Cut a b) t f cs r is true_is counts = absurd (subst NoTa
 delivers_taken old new (Deliver id) t f cs r is true_is counts = absurd (subst NoTake is (no_take_copy old id).0)
 delivers_taken old new (Lose id) t f cs r is true_is counts = absurd (subst NoTake is (no_take_copy old id).1)
 delivers_taken old new (Double id) t f cs r is true_is counts = absurd (subst NoTake is (no_take_copy old id).2)
-
--- ---- the datum of a packet
-
-first_if : (t : Bool) (rest : Option WireError) → true ≡ t → cond t (Some Short) rest ≡ None → ⊥
-first_if true rest h e = cc
-first_if false rest h e = cc
-
--- bytes that say something are not empty
-pub data_none : (mesh : Nodes) (b : List ℕ) → IsPacketInMesh mesh b → true ≡ eqb (length b) 0 → in_message any (meaning mesh b) ≡ 0
-unfolding refusal
-data_none mesh b is h = absurd (first_if (eqb (length b) 0) _ h is.written.spells.allowed)
-
-if_rest : (t : Bool) (rest : Option WireError) → false ≡ t → cond t (Some Short) rest ≡ None → rest ≡ None
-if_rest true rest h e = absurd (let P : ⊥ = cc in P)
-if_rest false rest h e = e
-
-by_kind : (f : wire.Message → ℕ) (n k : ℕ) (p q r s : Bool) (r1 r2 r3 r4 : Option WireError) (m1 m2 m3 m4 : wire.Message)
-    → eqb n 1 ≡ p → eqb n 2 ≡ q → eqb n 3 ≡ r → eqb n 16 ≡ s → k ≡ n → f m1 ≡ 0 → f m2 ≡ 0 → f m3 ≡ 0 → f m4 ≡ 1
-    → cond p r1 (cond q r2 (cond r r3 (cond s r4 (Some (UnknownType n))))) ≡ None
-    → f (cond p m1 (cond q m2 (cond r m3 m4))) ≡ count_of (eqb k 16)
-by_kind f n k true q r s r1 r2 r3 r4 m1 m2 m3 m4 ep eq er es is f1 f2 f3 f4 h = f1 ∙ sym (ap (λ x. count_of (eqb x 16)) (is ∙ eqb-true n 1 ep))
-by_kind f n k false true r s r1 r2 r3 r4 m1 m2 m3 m4 ep eq er es is f1 f2 f3 f4 h = f2 ∙ sym (ap (λ x. count_of (eqb x 16)) (is ∙ eqb-true n 2 eq))
-by_kind f n k false false true s r1 r2 r3 r4 m1 m2 m3 m4 ep eq er es is f1 f2 f3 f4 h = f3 ∙ sym (ap (λ x. count_of (eqb x 16)) (is ∙ eqb-true n 3 er))
-by_kind f n k false false false true r1 r2 r3 r4 m1 m2 m3 m4 ep eq er es is f1 f2 f3 f4 h = f4 ∙ sym (ap (λ x. count_of (eqb x 16)) is ∙ ap count_of es)
-by_kind f n k false false false false r1 r2 r3 r4 m1 m2 m3 m4 ep eq er es is f1 f2 f3 f4 h = absurd (let P : ⊥ = cc in P)
-
--- a packet has a datum where its first octet says so
-pub data_is : (mesh : Nodes) (b : List ℕ) (k : ℕ) → IsPacketInMesh mesh b → false ≡ eqb (length b) 0 → k ≡ kind b → in_message any (meaning mesh b) ≡ count_of (eqb k 16)
-unfolding meaning said refusal
-data_is mesh b k is h first =
-    by_kind (λ m. in_message any (in_mesh mesh m)) (kind b) k (eqb (kind b) 1) (eqb (kind b) 2) (eqb (kind b) 3) (eqb (kind b) 16) _ _ _ _
-    (messages.Rreq (request.request b)) (messages.Rrep (reply.reply b)) (messages.Rerr (route_error.destinations b)) (messages.Parcel (data_packet.datum b))
-    refl refl refl refl first refl refl refl refl (if_rest (eqb (length b) 0) _ h is.written.spells.allowed)
 
 -- ---- all sums
 

@@ -1,19 +1,15 @@
 //! What a run counts.
-ghost use Rattle.std.specs.Prelude.{◌≡◌, ◌<◌, ◌^◌, ℕ, List, length};
+ghost use Rattle.std.specs.Prelude.{◌≡◌, ◌<◌, ◌^◌, ℕ, List};
 ghost use Rattle.mesh_base.specs.Meshes.{Nodes};
-ghost use Rattle.aodv_wire.specs.Spells.{kind};
-ghost use Rattle.aodv_meaning.specs.Meaning.{meaning};
 ghost use Rattle.mesh_model.specs.Worlds.{World, Event as an_event, Changed, Goes, step};
-ghost use Rattle.mesh_model.specs.Accounts.{any, given, delivered, dropped, in_taken, in_dropped, in_message};
+ghost use Rattle.mesh_model.specs.Accounts.{any, given, delivered, dropped, in_taken, in_dropped};
 ghost use Rattle.mesh_meaning.specs.Events.{event_of};
-ghost use Rattle.mesh_meaning.specs.Answers.{outcome_in, took_in, IsDoneInMesh, IsTookInMesh, IsPacketInMesh};
+ghost use Rattle.mesh_meaning.specs.Answers.{outcome_in, took_in, IsDoneInMesh, IsTookInMesh};
 ghost use Rattle.mesh_text.specs.Schedule.{summed, idle_by};
 ghost use Rattle.mesh_run.specs.Sums.{sums_of, AreCounts, count_of};
 
 use mesh_base::{Done, Event, Kind, Took};
-
-/// The first octet of a data packet.
-const DATA: u8 = 16;
+use mesh_radio::is_data;
 
 /// What was counted so far: events, those that were idle, and the data that were given, delivered
 /// and dropped.
@@ -24,25 +20,6 @@ pub struct Sums {
     pub given: u64,
     pub delivered: u64,
     pub lost: u64,
-}
-
-// The first octet of a packet.
-fn first_octet(packet: &[u8]) -> u8
-    requires { 0 < length packet.now }
-    ensures { result ≡ kind packet.now }
-{
-    packet[0]
-}
-
-// Whether a packet has a datum.
-fn is_data(packet: &[u8]) -> bool
-    ensures { (mesh : Nodes) → IsPacketInMesh mesh packet.now
-        → in_message any (meaning mesh packet.now) ≡ count_of result }
-{
-    if packet.is_empty() {
-        return false;
-    }
-    first_octet(packet) == DATA
 }
 
 // Whether what was taken is a datum of the node's own, or a packet with one.
@@ -132,6 +109,7 @@ fn delivers(done: &Done) -> bool
 }
 
 // Whether a datum was dropped, by a turn or with a lost copy.
+#[tactic(auto, using(mesh_world::proofs::Counts::packet_counts))]
 fn drops(done: &Done) -> bool
     ensures { (mesh : Nodes) (x : ℕ) (w : World) (packet : List ℕ) (e : an_event) → IsDoneInMesh mesh done.now packet
         → dropped any e (outcome_in mesh x w done.now packet) ≡ count_of result }

@@ -154,7 +154,7 @@ last_kind b allowed n1 n2 n3 = elim (cases_eq (kind b) 16) [
 kind_other : (b : List ℕ) (k : ℕ) → kind b ≡ k → (k == 16) ≡ false → one_if (is_data b) ≡ 0
 kind_other b k is other = ap (λ (j : ℕ). one_if (j == 16)) is ∙ ap one_if other
 
-packet_counts : (mesh : Nodes) (b : List ℕ) → refusal b ≡ None → in_message any (meaning mesh b) ≡ one_if (is_data b)
+pub packet_counts : (mesh : Nodes) (b : List ℕ) → refusal b ≡ None → in_message any (meaning mesh b) ≡ one_if (is_data b)
 unfolding meaning
 packet_counts mesh b allowed = elim (cases_eq (kind b) 1) [
   | inl k ↦ ap (λ m. in_message any (in_mesh mesh m)) (said_rreq b k) ∙ sym (kind_other b 1 k refl)
