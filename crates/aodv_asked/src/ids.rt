@@ -1,29 +1,32 @@
 //! Ids as rising intervals that neither meet nor adjoin.
-ghost use Rattle.std.specs.Prelude.{◌≡◌, ◌<◌, ◌≤◌, ◌+◌, ◌-◌, ◌⊎◌, ℕ, OnOk, OnErr, IsTrue, length, insert, vec_len, vec_capacity};
+ghost use Rattle.std.specs.Prelude.{◌≡◌, ◌<◌, ◌≤◌, ◌+◌, ◌-◌, ◌⊎◌, ℕ, OnOk, OnErr, IsTrue, length, insert};
+ghost use Rattle.smallvec.specs.SmallVec.{small_vec_len};
 ghost use Rattle.std.specs.FinSet as sets;
 ghost use Rattle.mesh_base.specs.Members.{IsLeastFrom};
 ghost use Rattle.aodv_asked.specs.Intervals.{AreApart, is_near_in, IsGreatest};
 ghost use Rattle.aodv_asked.specs.Insertions.{interval_at, with_id, is_near_to};
 
 use mesh_base::NoMemory;
+use smallvec::SmallVec;
 use std::alloc::Global;
 use std::marker::Model;
 
 /// The ids from `first` to `last`.
-#[derive(Clone, Copy)]
+#[derive(Clone, Copy, Default)]
 struct Interval {
     first: u32,
     last: u32,
 }
 
-/// A set of ids.
+/// A set of ids. Two intervals take no memory: most sets have no more.
 #[derive(Drop)]
 pub(crate) struct Ids {
-    intervals: Vec<Interval>,
+    intervals: SmallVec<Interval, 2>,
 }
 
 impl Model for Ids {
-    ghost use Rattle.std.specs.Prelude.{◌-◌, vec_capacity, vec_len};
+    ghost use Rattle.std.specs.Prelude.{◌-◌};
+    ghost use Rattle.smallvec.specs.SmallVec.{small_vec_len};
     ghost use Rattle.aodv_asked.specs.Intervals.{RoomyIds, ids_code};
 
     ghost Value = { RoomyIds };
@@ -32,7 +35,7 @@ impl Model for Ids {
 
     ghost use Rattle.aodv_asked.specs.Intervals.{ids_in, AreApart};
 
-    ghost view = { λ a. record { ids = ids_in a.intervals.items; room = vec_capacity a.intervals - vec_len a.intervals } };
+    ghost view = { λ a. record { ids = ids_in a.intervals.items; room = (a.intervals).capacity - small_vec_len a.intervals } };
 
     ghost invariant = { λ a. AreApart 0 a.intervals.items };
 }
@@ -47,6 +50,15 @@ fn count_before(intervals: &[Interval], from: u64) -> usize
     intervals.partition_point(|v| u64::from(v.last) < from)
 }
 
+// A number that is at most this one of 32 bits.
+fn narrowed(n: u64, most: u32) -> u32
+    requires { n ≤ most }
+    ensures { result ≡ n }
+{
+    let _most = most;
+    n as u32
+}
+
 // The first interval that doesn't end before the id and apart from it.
 fn place_of(intervals: &[Interval], id: u32) -> usize
     requires { AreApart 0 intervals.now }
@@ -58,13 +70,13 @@ fn place_of(intervals: &[Interval], id: u32) -> usize
 }
 
 // The intervals with one more id.
-fn put(intervals: &mut Vec<Interval>, id: u32)
+fn put(intervals: &mut SmallVec<Interval, 2>, id: u32)
     requires apart { AreApart 0 intervals.old.items }
-    requires room { (vec_len intervals.old < vec_capacity intervals.old)
+    requires room { (small_vec_len intervals.old < intervals.old.capacity)
         ⊎ IsTrue (is_near_to intervals.old.items id) }
     ensures items { intervals.new.items ≡ with_id intervals.old.items id }
-    ensures room { vec_capacity intervals.old - vec_len intervals.old
-        ≤ vec_capacity intervals.new - vec_len intervals.new + 1 }
+    ensures room { intervals.old.capacity - small_vec_len intervals.old
+        ≤ intervals.new.capacity - small_vec_len intervals.new + 1 }
 {
     let place = place_of(intervals.as_slice(), id);
     let len = intervals.len();
@@ -110,12 +122,12 @@ fn put(intervals: &mut Vec<Interval>, id: u32)
 }
 
 // One more interval, where there is room.
-fn put_new(intervals: &mut Vec<Interval>, place: usize, only: Interval)
+fn put_new(intervals: &mut SmallVec<Interval, 2>, place: usize, only: Interval)
     requires place { place ≤ length intervals.old.items }
-    requires room { vec_len intervals.old < vec_capacity intervals.old }
+    requires room { small_vec_len intervals.old < intervals.old.capacity }
     ensures items { intervals.new.items ≡ insert intervals.old.items place only }
-    ensures room { vec_capacity intervals.old - vec_len intervals.old
-        ≤ vec_capacity intervals.new - vec_len intervals.new + 1 }
+    ensures room { intervals.old.capacity - small_vec_len intervals.old
+        ≤ intervals.new.capacity - small_vec_len intervals.new + 1 }
 {
     match intervals.insert(place, only) {
         Ok(()) => {}
@@ -129,7 +141,7 @@ impl Ids {
         ensures { result.ids ≡ sets.empty }
     {
         Ids {
-            intervals: Vec::new(alloc),
+            intervals: SmallVec::new(alloc),
         }
     }
 
@@ -177,17 +189,12 @@ impl Ids {
     pub(crate) fn least_from(&self, from: u64) -> Option<u32>
         ensures { IsLeastFrom self.now.ids from result }
     {
-        let place = count_before(self.intervals.as_slice(), from);
-        if place >= self.intervals.len() {
-            return None;
+        let intervals = self.intervals.as_slice();
+        let place = count_before(intervals, from);
+        let here = intervals.get(place)?;
+        if from <= u64::from(here.first) {
+            return Some(here.first);
         }
-        let first = self.intervals[place].first;
-        let last = self.intervals[place].last;
-        if from <= u64::from(first) {
-            return Some(first);
-        }
-        let inside = from <= u64::from(last);
-        prove!(inside);
-        Some(from as u32)
+        Some(narrowed(from, here.last))
     }
 }

@@ -1,8 +1,7 @@
 use Rattle.std.proofs.Common.{◌≡◌, ◌<◌, ◌≤◌, ◌+◌, length, set, get_or, ap, sym, ◌∙◌, arith}
-use Rattle.std.proofs.lemmas.List.{get_or_read}
 use Rattle.aodv_asked.specs.Insertions.{interval}
 use Rattle.aodv_asked.proofs.IntervalLaws.{all_before}
-use Rattle.aodv_asked.proofs.PlaceLaws.{put_end, put_early, put_touch, put_within, put_both, put_behind, room_at_end, room_early}
+use Rattle.aodv_asked.proofs.PlaceLaws.{written, put_end, put_early, put_touch, put_within, put_both, put_behind, room_at_end, room_early}
 use Rattle.aodv_asked.proofs.ids.put.Goals as goal
 use Rattle.aodv_asked.proofs.ids.put.Goals.{then-place-len-2+else-next-from-3, else-place-len-2}
 
@@ -10,92 +9,92 @@ pub put_new-requires-clause-room : goal.put_new-requires-clause-room
 put_new-requires-clause-room c =
     let vs = c.args.intervals.now.items in
     let k = c.place_of-place.result in
-    let len = ap length c.as_slice.ensures.value in
-    let before = all_before _ vs k c.args.id c.as_slice.ensures.value c.place_of-place.ensures.within c.place_of-place.ensures.before in
-    room_at_end vs k c.args.id _ before (omega (arith, c.as_slice.ensures.len)) c.requires.room
+    let len = ap length c.as_slice.ensures in
+    let before = all_before _ vs k c.args.id c.as_slice.ensures c.place_of-place.ensures.within c.place_of-place.ensures.before in
+    room_at_end vs k c.args.id _ before (omega (arith, len)) c.requires.room
 
 pub returns-then-place-len-clause-items : goal.returns-then-place-len-clause-items
 returns-then-place-len-clause-items c =
     let vs = c.args.intervals.now.items in
     let k = c.place_of-place.result in
-    let len = ap length c.as_slice.ensures.value in
-    let before = all_before _ vs k c.args.id c.as_slice.ensures.value c.place_of-place.ensures.within c.place_of-place.ensures.before in
-    c.put_new.ensures.items ∙ put_end vs k c.args.id c.requires.apart before (omega (arith, c.as_slice.ensures.len))
+    let len = ap length c.as_slice.ensures in
+    let before = all_before _ vs k c.args.id c.as_slice.ensures c.place_of-place.ensures.within c.place_of-place.ensures.before in
+    c.put_new.ensures.items ∙ put_end vs k c.args.id c.requires.apart before (omega (arith, len))
 
 pub put_new-requires-then-next-from-clause-room : goal.put_new-requires-then-next-from-clause-room
 put_new-requires-then-next-from-clause-room c =
     let vs = c.args.intervals.now.items in
     let k = c.place_of-place.result in
-    let len = ap length c.as_slice.ensures.value in
-    let before = all_before _ vs k c.args.id c.as_slice.ensures.value c.place_of-place.ensures.within c.place_of-place.ensures.before in
-    let h : k < length vs = omega (arith, c.as_slice.ensures.len, c.place_of-place.ensures.within) in
-    let v = c.index-here.result.now in
-    let at : get_or vs k (interval 0 0) ≡ v = sym (get_or_read vs k v h c.index-here.ensures (interval 0 0)) in
+    let len = ap length c.as_slice.ensures in
+    let before = all_before _ vs k c.args.id c.as_slice.ensures c.place_of-place.ensures.within c.place_of-place.ensures.before in
+    let h : k < length vs = omega (arith, len, c.place_of-place.ensures.within) in
+    let v = get_or c.deref.result.now k (interval 0 0) in
+    let at : get_or vs k (interval 0 0) ≡ v = ap (λ xs. get_or xs k (interval 0 0)) (sym c.deref.ensures) in
     room_early vs k c.args.id v _ c.requires.apart before h at (omega arith) c.requires.room
 
 pub returns-then-next-from-clause-items : goal.returns-then-next-from-clause-items
 returns-then-next-from-clause-items c =
     let vs = c.args.intervals.now.items in
     let k = c.place_of-place.result in
-    let len = ap length c.as_slice.ensures.value in
-    let before = all_before _ vs k c.args.id c.as_slice.ensures.value c.place_of-place.ensures.within c.place_of-place.ensures.before in
-    let h : k < length vs = omega (arith, c.as_slice.ensures.len, c.place_of-place.ensures.within) in
-    let v = c.index-here.result.now in
-    let at : get_or vs k (interval 0 0) ≡ v = sym (get_or_read vs k v h c.index-here.ensures (interval 0 0)) in
+    let len = ap length c.as_slice.ensures in
+    let before = all_before _ vs k c.args.id c.as_slice.ensures c.place_of-place.ensures.within c.place_of-place.ensures.before in
+    let h : k < length vs = omega (arith, len, c.place_of-place.ensures.within) in
+    let v = get_or c.deref.result.now k (interval 0 0) in
+    let at : get_or vs k (interval 0 0) ≡ v = ap (λ xs. get_or xs k (interval 0 0)) (sym c.deref.ensures) in
     c.put_new-then-next-from.ensures.items ∙ put_early vs k c.args.id v c.requires.apart before h at (omega arith)
 
 pub returns-then-next-from-2-clause-items : goal.returns-then-next-from-2-clause-items
 returns-then-next-from-2-clause-items c =
     let vs = c.args.intervals.now.items in
     let k = c.place_of-place.result in
-    let len = ap length c.as_slice.ensures.value in
-    let before = all_before _ vs k c.args.id c.as_slice.ensures.value c.place_of-place.ensures.within c.place_of-place.ensures.before in
-    let h : k < length vs = omega (arith, c.as_slice.ensures.len, c.place_of-place.ensures.within) in
-    let v = c.index-here.result.now in
-    let at : get_or vs k (interval 0 0) ≡ v = sym (get_or_read vs k v h c.index-here.ensures (interval 0 0)) in
-    put_touch vs k c.args.id v c.requires.apart before h at (omega arith)
+    let len = ap length c.as_slice.ensures in
+    let before = all_before _ vs k c.args.id c.as_slice.ensures c.place_of-place.ensures.within c.place_of-place.ensures.before in
+    let h : k < length vs = omega (arith, len, c.place_of-place.ensures.within) in
+    let v = get_or c.deref.result.now k (interval 0 0) in
+    let at : get_or vs k (interval 0 0) ≡ v = ap (λ xs. get_or xs k (interval 0 0)) (sym c.deref.ensures) in
+    written vs c.deref_mut.result.now k (interval c.args.id v.last) c.deref_mut.ensures.value ∙ put_touch vs k c.args.id v c.requires.apart before h at (omega arith)
 
 pub returns-then-id-here-clause-items : goal.returns-then-id-here-clause-items
 returns-then-id-here-clause-items c =
     let vs = c.args.intervals.now.items in
     let k = c.place_of-place.result in
-    let len = ap length c.as_slice.ensures.value in
-    let before = all_before _ vs k c.args.id c.as_slice.ensures.value c.place_of-place.ensures.within c.place_of-place.ensures.before in
-    let h : k < length vs = omega (arith, c.as_slice.ensures.len, c.place_of-place.ensures.within) in
-    let v = c.index-here.result.now in
-    let at : get_or vs k (interval 0 0) ≡ v = sym (get_or_read vs k v h c.index-here.ensures (interval 0 0)) in
+    let len = ap length c.as_slice.ensures in
+    let before = all_before _ vs k c.args.id c.as_slice.ensures c.place_of-place.ensures.within c.place_of-place.ensures.before in
+    let h : k < length vs = omega (arith, len, c.place_of-place.ensures.within) in
+    let v = get_or c.deref.result.now k (interval 0 0) in
+    let at : get_or vs k (interval 0 0) ≡ v = ap (λ xs. get_or xs k (interval 0 0)) (sym c.deref.ensures) in
     put_within vs k c.args.id v c.requires.apart before h at (omega arith) (omega arith)
 
 pub returns-then-next-from-3-clause-items : goal.returns-then-next-from-3-clause-items
 returns-then-next-from-3-clause-items c =
     let vs = c.args.intervals.now.items in
     let k = c.place_of-place.result in
-    let len = ap length c.as_slice.ensures.value in
-    let before = all_before _ vs k c.args.id c.as_slice.ensures.value c.place_of-place.ensures.within c.place_of-place.ensures.before in
-    let h : k < length vs = omega (arith, c.as_slice.ensures.len, c.place_of-place.ensures.within) in
-    let v = c.index-here.result.now in
-    let at : get_or vs k (interval 0 0) ≡ v = sym (get_or_read vs k v h c.index-here.ensures (interval 0 0)) in
-    let near : c.args.id ≤ v.last + 1 = (let e = c.place_of-place.ensures.here (omega arith) in omega (arith, e, ap (λ xs. (get_or xs k (interval 0 0)).last) c.as_slice.ensures.value, ap (λ x. x.last) at)) in
-    let h2 : k + 1 < length vs = omega (arith, c.as_slice.ensures.len) in
-    let w = c.index-after.result.now in
-    let at2 : get_or vs (k + 1) (interval 0 0) ≡ w = sym (get_or_read vs (k + 1) w h2 c.index-after.ensures (interval 0 0)) in
-    ap (λ xs. set xs k (interval v.first w.last)) c.remove.ensures.items ∙ put_both vs k c.args.id v w c.requires.apart before h2 at at2 (omega arith) near (omega arith)
+    let len = ap length c.as_slice.ensures in
+    let before = all_before _ vs k c.args.id c.as_slice.ensures c.place_of-place.ensures.within c.place_of-place.ensures.before in
+    let h : k < length vs = omega (arith, len, c.place_of-place.ensures.within) in
+    let v = get_or c.deref.result.now k (interval 0 0) in
+    let at : get_or vs k (interval 0 0) ≡ v = ap (λ xs. get_or xs k (interval 0 0)) (sym c.deref.ensures) in
+    let near : c.args.id ≤ v.last + 1 = (let e = c.place_of-place.ensures.here (omega arith) in omega (arith, e, ap (λ xs. (get_or xs k (interval 0 0)).last) c.as_slice.ensures, ap (λ x. x.last) at)) in
+    let h2 : k + 1 < length vs = omega (arith, len) in
+    let w = get_or c.deref-then-place-len-2.result.now (k + 1) (interval 0 0) in
+    let at2 : get_or vs (k + 1) (interval 0 0) ≡ w = ap (λ xs. get_or xs (k + 1) (interval 0 0)) (sym c.deref-then-place-len-2.ensures) in
+    written c.remove.new.self.items c.deref_mut-then-next-from-3.result.now k (interval v.first w.last) c.deref_mut-then-next-from-3.ensures.value
+    ∙ ap (λ xs. set xs k (interval v.first w.last)) c.remove.ensures.items ∙ put_both vs k c.args.id v w c.requires.apart before h2 at at2 (omega arith) near (omega arith)
 
 pub returns-clause-items : goal.returns-clause-items
 returns-clause-items c =
     let vs = c.args.intervals.now.items in
     let k = c.place_of-place.result in
-    let len = ap length c.as_slice.ensures.value in
-    let before = all_before _ vs k c.args.id c.as_slice.ensures.value c.place_of-place.ensures.within c.place_of-place.ensures.before in
-    let h : k < length vs = omega (arith, c.as_slice.ensures.len, c.place_of-place.ensures.within) in
-    let v = c.index-here.result.now in
-    let at : get_or vs k (interval 0 0) ≡ v = sym (get_or_read vs k v h c.index-here.ensures (interval 0 0)) in
-    let near : c.args.id ≤ v.last + 1 = (let e = c.place_of-place.ensures.here (omega arith) in omega (arith, e, ap (λ xs. (get_or xs k (interval 0 0)).last) c.as_slice.ensures.value, ap (λ x. x.last) at)) in
-    put_behind vs k c.args.id v c.requires.apart before h at (omega arith) near (λ inside e.
+    let len = ap length c.as_slice.ensures in
+    let before = all_before _ vs k c.args.id c.as_slice.ensures c.place_of-place.ensures.within c.place_of-place.ensures.before in
+    let h : k < length vs = omega (arith, len, c.place_of-place.ensures.within) in
+    let v = get_or c.deref.result.now k (interval 0 0) in
+    let at : get_or vs k (interval 0 0) ≡ v = ap (λ xs. get_or xs k (interval 0 0)) (sym c.deref.ensures) in
+    let near : c.args.id ≤ v.last + 1 = (let e = c.place_of-place.ensures.here (omega arith) in omega (arith, e, ap (λ xs. (get_or xs k (interval 0 0)).last) c.as_slice.ensures, ap (λ x. x.last) at)) in
+    written vs c.deref_mut-2.result.now k (interval v.first c.args.id) c.deref_mut-2.ensures.value ∙ put_behind vs k c.args.id v c.requires.apart before h at (omega arith) near (λ inside e.
     elim c.if-place-len-2.branch [
       | then-place-len-2+else-next-from-3 b ↦
-          let w = b.index-after.result.now in
-          let at2 : w ≡ get_or vs (k + 1) (interval 0 0) = get_or_read vs (k + 1) w inside b.index-after.ensures (interval 0 0) in
+          let at2 = ap (λ xs. get_or xs (k + 1) (interval 0 0)) b.deref-then-place-len-2.ensures in
           b.if-next-from-3.false (omega (arith, e, ap (λ x. x.first) at2, b.from-then-place-len-2.ensures))
-      | else-place-len-2 b ↦ absurd (omega (arith, b.if-place-len-2.false, c.as_slice.ensures.len))
+      | else-place-len-2 b ↦ absurd (omega (arith, b.if-place-len-2.false, len))
     ])
