@@ -22,7 +22,7 @@ written vs ws k v same =
     let len : length (set vs k v) ≡ length vs = length-set vs k v in
     let none : drop (length (set vs k v)) vs ≡ [] = ap (λ n. drop n vs) len ∙ drop-length vs in
     let whole : take (length vs) (set vs k v ++ []) ≡ set vs k v =
-        ap (λ xs. take (length vs) xs) (append-nil (set vs k v)) ∙ take_all (length vs) (set vs k v) (omega (arith, len)) in
+    ap (λ xs. take (length vs) xs) (append-nil (set vs k v)) ∙ take_all (length vs) (set vs k v) (omega (arith, len)) in
     ap (λ xs. refill (length vs) vs (set xs k v)) same ∙ ap (λ xs. take (length vs) (set vs k v ++ xs)) none ∙ whole
 
 early : (v : Interval) (r : List Interval) (q : ℕ) → q + 1 < v.first → with_id (v ∷ r) q ≡ interval q q ∷ v ∷ r

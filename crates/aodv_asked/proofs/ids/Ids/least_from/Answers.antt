@@ -26,7 +26,7 @@ returns-then-from c =
     let below : k < length xs = ltb-true k (length xs) (sym c.in_ok-here.ensures.lookup.0) in
     let lt : k < length vs = omega (arith, below, ap length c.as_slice-intervals.ensures) in
     let is : interval_at vs k ≡ v =
-        ap (λ ys. interval_at ys k) (sym c.as_slice-intervals.ensures) ∙ sym (get_or_read xs k v below c.in_ok-here.ensures.lookup.1 (interval 0 0)) in
+    ap (λ ys. interval_at ys k) (sym c.as_slice-intervals.ensures) ∙ sym (get_or_read xs k v below c.in_ok-here.ensures.lookup.1 (interval 0 0)) in
     subst (λ s. IsLeastFrom s.ids c.args.from (Some v.first)) c.self.view_is (least_first vs c.args.from k v c.self.invariant at lt is (omega arith))
 
 pub returns : goal.returns
@@ -39,5 +39,5 @@ returns c =
     let below : k < length xs = ltb-true k (length xs) (sym c.in_ok-here.ensures.lookup.0) in
     let lt : k < length vs = omega (arith, below, ap length c.as_slice-intervals.ensures) in
     let is : interval_at vs k ≡ v =
-        ap (λ ys. interval_at ys k) (sym c.as_slice-intervals.ensures) ∙ sym (get_or_read xs k v below c.in_ok-here.ensures.lookup.1 (interval 0 0)) in
+    ap (λ ys. interval_at ys k) (sym c.as_slice-intervals.ensures) ∙ sym (get_or_read xs k v below c.in_ok-here.ensures.lookup.1 (interval 0 0)) in
     rw c.narrowed.ensures (subst (λ s. IsLeastFrom s.ids c.args.from (Some c.args.from)) c.self.view_is (least_inside vs c.args.from k v c.self.invariant at lt is (omega arith)))
