@@ -1,6 +1,7 @@
 //! Copies of packets in flight, by rising id.
-ghost use Rattle.std.specs.Prelude.{◌≡◌, ℕ, ◌<◌, ◌≤◌, ◌+◌, ◌-◌, ◌^◌, ◌++◌, ◌∷◌, [], List, length, max, slice_get, drop, option_map, Some, OnOk, OnErr, IfSome, IfNone, if◌then◌else◌};
+ghost use Rattle.std.specs.Prelude.{◌≡◌, ℕ, ◌<◌, ◌≤◌, ◌+◌, ◌-◌, ◌^◌, ◌++◌, ◌∷◌, [], List, length, max, slice_get, drop, option_map, true, Some, None, OnOk, OnErr, IfSome, IfNone, if◌then◌else◌};
 ghost use Rattle.std.specs.VecDeque.{deque_len, deque_capacity};
+ghost use Rattle.std.specs.FinSet as sets;
 ghost use Rattle.mesh_base.specs.Views.{flying_seen};
 ghost use Rattle.mesh_base.specs.declared.events.Flying.{Flying};
 ghost use Rattle.mesh_model.specs.Worlds.{members_below};
@@ -17,6 +18,9 @@ use std::marker::Model;
 /// The type of a data packet, in its first byte.
 const DATA_TYPE: u8 = 16;
 
+/// The mark of a slot that has no receiver. A mesh has no such node.
+const NO_RECEIVER: u8 = 255;
+
 /// A packet that was cast. Its copies share it: those of the ids from the end of the packet before it.
 #[derive(Drop)]
 struct Sent {
@@ -25,12 +29,47 @@ struct Sent {
     end: u64,
 }
 
+/// The receiver of a copy that still flies, or none, in one byte.
+#[derive(Drop)]
+struct Slot {
+    receiver: u8,
+}
+
+impl Model for Slot {
+    ghost use Rattle.std.specs.Prelude.{◌==◌, ℕ, Option, Some, None, if◌then◌else◌};
+
+    ghost Value = { Option ℕ };
+
+    ghost view = { λ s. if s.receiver == 255 then None else Some s.receiver };
+}
+
+impl Slot {
+    fn of(receiver: usize) -> Slot
+        requires { receiver < 255 }
+        ensures { result ≡ Some receiver }
+    {
+        Slot {
+            receiver: receiver as u8,
+        }
+    }
+
+    fn receiver(&self) -> Option<u8>
+        ensures { result ≡ self.now }
+    {
+        if self.receiver == NO_RECEIVER {
+            None
+        } else {
+            Some(self.receiver)
+        }
+    }
+}
+
 /// The copies in flight, in a ring with a slot for each id from `first` on, which has the receiver of
 /// a copy that still flies, and their packets, in a ring by rising ids. A copy is found by its id and
 /// taken without moving another. Slots and packets that no copy needs go from the front.
 #[derive(Drop)]
 pub struct Copies {
-    slots: VecDeque<Option<u8>>,
+    slots: VecDeque<Slot>,
     first: u64,
     packets: VecDeque<Sent>,
     count: usize,
@@ -65,7 +104,7 @@ fn if_data(packet: &[u8], copies: usize) -> usize
 }
 
 // The place of the slot of this id.
-fn place_of(slots: &VecDeque<Option<u8>>, first: u64, id: u64) -> Option<usize>
+fn place_of(slots: &VecDeque<Slot>, first: u64, id: u64) -> Option<usize>
     ensures { IsPlaceOf first (length slots.now.items) id result }
 {
     if id < first || id - first >= slots.len() as u64 {
@@ -116,13 +155,13 @@ fn place_of_packet(packets: &VecDeque<Sent>, id: u64, hint: usize) -> usize
 fn copy_at<'a>(
     packets: &'a VecDeque<Sent>,
     id: u64,
-    slot: Option<u8>,
+    slot: &Slot,
     hint: &mut usize,
 ) -> Option<FlyingView<'a>>
     requires { (low : ℕ) × (next : ℕ) × AreEnding low packets.now.items next }
-    ensures { option_map flying_seen result ≡ copy_lem packets.now.items id slot }
+    ensures { option_map flying_seen result ≡ copy_lem packets.now.items id slot.now }
 {
-    let to = slot?;
+    let to = slot.receiver()?;
     let place = place_of_packet(packets, id, *hint);
     *hint = place;
     let sent = packets.get(place)?;
@@ -136,7 +175,7 @@ fn copy_at<'a>(
 
 // The first copy from this place on.
 fn copy_from<'a>(
-    slots: &VecDeque<Option<u8>>,
+    slots: &VecDeque<Slot>,
     first: u64,
     packets: &'a VecDeque<Sent>,
     place: usize,
@@ -149,7 +188,7 @@ fn copy_from<'a>(
 {
     let mut place = place;
     while let Some(slot) = slots.get(place) {
-        if let Some(flying) = copy_at(packets, first + place as u64, *slot, hint) {
+        if let Some(flying) = copy_at(packets, first + place as u64, slot, hint) {
             return Some(flying);
         }
         place += 1;
@@ -158,20 +197,21 @@ fn copy_from<'a>(
 }
 
 // A slot for each member, by rising member.
-fn push_slots(slots: &mut VecDeque<Option<u8>>, to: &NodeSet)
-    requires { deque_len slots.old + length (members_below 256 to.now) ≤ deque_capacity slots.old }
+fn push_slots(slots: &mut VecDeque<Slot>, to: &NodeSet)
+    requires below { (q : ℕ) → sets.contains to.now q ≡ true → q < 255 }
+    requires room { deque_len slots.old + length (members_below 256 to.now) ≤ deque_capacity slots.old }
     ensures items { slots.new.items ≡ slots.old.items ++ slots_to (members_below 256 to.now) }
     ensures capacity { deque_capacity slots.new ≡ deque_capacity slots.old }
 {
     let mut start = 0;
     while let Some(receiver) = to.next_from(start) {
-        slots.push_back_reserved(Some(receiver as u8));
+        slots.push_back_reserved(Slot::of(receiver));
         start = receiver + 1;
     }
 }
 
 // The empty slots at the front go. The answer is the id of the first slot then.
-fn trim_slots(slots: &mut VecDeque<Option<u8>>, first: u64) -> u64
+fn trim_slots(slots: &mut VecDeque<Slot>, first: u64) -> u64
     requires { first + length slots.old.items < 2 ^ 64 }
     ensures copies { (packets : List Sent) → copies_in (opened packets result slots.new.items) ≡ copies_in (opened packets first slots.old.items) }
     ensures next { result + length slots.new.items ≡ first + length slots.old.items }
@@ -179,7 +219,10 @@ fn trim_slots(slots: &mut VecDeque<Option<u8>>, first: u64) -> u64
     ensures capacity { deque_capacity slots.new ≡ deque_capacity slots.old }
 {
     let mut first = first;
-    while let Some(None) = slots.front() {
+    while let Some(slot) = slots.front() {
+        if slot.receiver().is_some() {
+            break;
+        }
         slots.pop_front();
         first += 1;
     }
@@ -243,7 +286,7 @@ impl Copies {
         ensures { option_map flying_seen result ≡ find_copy self.now.flying id }
     {
         let place = place_of(&self.slots, self.first, id)?;
-        copy_at(&self.packets, id, self.slots[place], &mut 0)
+        copy_at(&self.packets, id, &self.slots[place], &mut 0)
     }
 
     /// The copy of the least id from this one on. The hint, whatever it is, makes no difference but to
@@ -259,6 +302,7 @@ impl Copies {
 
     /// A copy of the packet flies to each member of the set. They have the next ids, by rising member.
     pub fn cast(&mut self, from: usize, bytes: &[u8], to: &NodeSet)
+        requires below { (q : ℕ) → sets.contains to.now q ≡ true → q < 255 }
         requires room { length (members_below 256 to.now) ≤ self.old.room }
         requires fits { length bytes.now ≤ self.old.most }
         requires next { self.old.next_copy + length (members_below 256 to.now) < 2 ^ 64 }
@@ -288,7 +332,7 @@ impl Copies {
         ensures others { self.new ≡ record self.old { flying = without self.old.flying id } }
     {
         let place = place_of(&self.slots, self.first, id)?;
-        let found = copy_at(&self.packets, id, self.slots[place], &mut 0)?;
+        let found = copy_at(&self.packets, id, &self.slots[place], &mut 0)?;
         let flying = Flying {
             id: found.id,
             from: found.from,
@@ -296,7 +340,9 @@ impl Copies {
             bytes: room.fill(found.bytes),
         };
         let less = if_data(found.bytes, 1);
-        self.slots[place] = None;
+        self.slots[place] = Slot {
+            receiver: NO_RECEIVER,
+        };
         self.count -= 1;
         self.of_data -= less;
         self.first = trim_slots(&mut self.slots, self.first);

@@ -36,6 +36,7 @@ loop-receiver-preserved c =
     let old = c.args.slots.now.items in
     let one = members-next m start c.args.to.now c.in-Some.ensures.least.0 c.in-Some.ensures.least.1 c.in-Some.ensures.least.2 in (
       c.push_back_reserved.ensures.items
+          ∙ ap (λ s. c.loop-receiver.slots.items ++ s ∷ []) c.of.ensures
           ∙ ap (λ ss. ss ++ Some m ∷ []) c.loop-receiver.invariant.0
           ∙ append_assoc old (slots_to (members_below start c.args.to.now)) (Some m ∷ [])
           ∙ ap (λ ss. old ++ ss) (sym (slots_to-push m (members_below start c.args.to.now)))
