@@ -6,7 +6,8 @@ use Rattle.std.proofs.Common.{Result, Ok, Err}
 use Rattle.mesh_base.specs.declared.bytes.NoMemory.{NoMemory}
 use Rattle.std.specs.declared.cmp.Ordering.{Ordering}
 use Rattle.std.specs.declared.cmp.Ordering.TheVariants.{Less, Equal, Greater}
-use Rattle.std.specs.List.{list_any, AllByRecursion}
+use Rattle.std.specs.List.{list_any, All, AllByRecursion}
+use Rattle.std.proofs.lemmas.List.Elements.{All-append}
 use Rattle.std.specs.Ordering.{nat_cmp, eq_by_cmp, ordering_then, is_eq}
 use Rattle.std.specs.Cmp.{unsigned_tied}
 use Rattle.std.proofs.lemmas.Bool.{ne_eqb, cases_eq, cases_lt, eqb-true}
@@ -140,8 +141,8 @@ near_here rows seen o id row lt is at =
 
 -- ---- rooms
 
-room_read : (rows : List RoomyIds) (o : ℕ) (row : RoomyIds) → o < length rows → row ≡ get_or rows o row → get_or (rooms_of rows) o 0 ≡ row.room
-room_read rows o row lt at = get_or-map (λ (r : RoomyIds). r.room) rows o row 0 lt ∙ ap (λ (r : RoomyIds). r.room) (sym at)
+room_read : (rows : List RoomyIds) (o : ℕ) (ids : RoomyIds) → o < length rows → ids ≡ get_or rows o ids → get_or (rooms_of rows) o 0 ≡ ids.room
+room_read rows o ids lt at = get_or-map (λ (r : RoomyIds). r.room) rows o ids 0 lt ∙ ap (λ (r : RoomyIds). r.room) (sym at)
 
 pub room_shown : (rows : List RoomyIds) (rooms : List ℕ) (o : ℕ) (row : RoomyIds) → o < length rows → rooms_of rows ≡ rooms → row ≡ get_or rows o row → get_or rooms o 0 ≡ row.room
 room_shown rows rooms o row lt is at = ap (λ (rs : List ℕ). get_or rs o 0) (sym is) ∙ room_read rows o row lt at
@@ -284,3 +285,16 @@ next_is seen o g is = ap (λ (n : ℕ). n + 1) is
 pub room_made : (rows : List RoomyIds) (o : ℕ) (row : RoomyIds) (r : Result (Unit {0}) NoMemory) → o < length rows → OnOk r (0 < row.room) → OnOk r (0 < get_or (rooms_of (put rows o row)) o 0)
 room_made rows o row (Ok u) lt made = let new = room_put_here rows o row lt in omega arith
 room_made rows o row (Err e) lt made = made
+
+-- ---- rows that are just made
+
+pub rooms_are : (rows : List RoomyIds) (o n : ℕ) → All (λ (r : RoomyIds). r.room ≡ n) rows → o < length rows → get_or (rooms_of rows) o 0 ≡ n
+rooms_are rows o n each lt = get_or-map (λ (r : RoomyIds). r.room) rows o no_ids 0 lt ∙ each o no_ids lt
+
+one_room : (ids : RoomyIds) (n : ℕ) → ids.room ≡ n → All (λ (r : RoomyIds). r.room ≡ n) (ids ∷ [])
+one_room ids n is zero d lt = is
+one_room ids n is (suc k) d lt = absurd (omega arith)
+
+pub rooms_push : (rows : List RoomyIds) (ids : RoomyIds) (n : ℕ) → All (λ (r : RoomyIds). r.room ≡ n) rows → ids.room ≡ n
+    → All (λ (r : RoomyIds). r.room ≡ n) (rows ++ ids ∷ [])
+rooms_push rows ids n each is = All-append (λ (r : RoomyIds). r.room ≡ n) rows (ids ∷ []) each (one_room ids n is)

@@ -1,5 +1,5 @@
 //! The requests that a node has seen.
-ghost use Rattle.std.specs.Prelude.{◌≡◌, ◌≢◌, ◌<◌, ◌≤◌, ◌+◌, ◌⊎◌, ◌↔◌, ℕ, length, slice_index, IfOk, IfSome, IsNone, OnOk, OnErr, IsTrue};
+ghost use Rattle.std.specs.Prelude.{◌≡◌, ◌≢◌, ◌<◌, ◌≤◌, ◌+◌, ◌⊎◌, ◌↔◌, ℕ, length, slice_index, IfOk, IfSome, IsNone, IsOk, OnOk, OnErr, IsTrue};
 ghost use Rattle.std.specs.FinSet as sets;
 ghost use Rattle.aodv_model.specs.Cores.{last_request_id, next_request_id};
 ghost use Rattle.aodv_asked.specs.Requests.{is_near, IsLeastIdFrom};
@@ -33,10 +33,11 @@ impl Model for Asked {
 }
 
 impl Asked {
-    /// No requests, in a mesh of so many nodes.
+    /// No requests, in a mesh of so many nodes, and room for two ids of each.
     pub fn new(alloc: Global, nodes: usize) -> Result<Asked, NoMemory>
         ensures pairs { IfOk result (λ asked. asked.pairs ≡ sets.empty) }
         ensures nodes { IfOk result (λ asked. length asked.rooms ≡ nodes) }
+        ensures rooms { IfOk result (λ asked. (o : ℕ) → o < nodes → slice_index asked.rooms o ≡ 2) }
     {
         let mut rows = Vec::with_capacity(alloc, nodes)?;
         for _ in 0..nodes {
@@ -53,12 +54,13 @@ impl Asked {
         self.rows[o].has(id)
     }
 
-    /// Makes room for one more id of o.
+    /// Makes room for one more id of o. It asks for memory only where there is none.
     pub fn make_room(&mut self, o: usize) -> Result<(), NoMemory>
         requires { o < length self.old.rooms }
         ensures pairs { self.new.pairs ≡ self.old.pairs }
         ensures nodes { length self.new.rooms ≡ length self.old.rooms }
         ensures here { OnOk result (0 < slice_index self.new.rooms o) }
+        ensures there { 0 < slice_index self.old.rooms o → IsOk result }
         ensures keeps { (q : ℕ) → slice_index self.old.rooms q ≤ slice_index self.new.rooms q }
         ensures refused { OnErr result (self.new ≡ self.old) }
     {

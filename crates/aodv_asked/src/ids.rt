@@ -1,5 +1,5 @@
 //! Ids as rising intervals that neither meet nor adjoin.
-ghost use Rattle.std.specs.Prelude.{◌≡◌, ◌<◌, ◌≤◌, ◌+◌, ◌-◌, ◌⊎◌, ℕ, OnOk, OnErr, IsTrue, length, insert};
+ghost use Rattle.std.specs.Prelude.{◌≡◌, ◌<◌, ◌≤◌, ◌+◌, ◌-◌, ◌⊎◌, ℕ, IsOk, OnOk, OnErr, IsTrue, length, insert};
 ghost use Rattle.smallvec.specs.SmallVec.{small_vec_len};
 ghost use Rattle.std.specs.FinSet as sets;
 ghost use Rattle.mesh_base.specs.Members.{IsLeastFrom};
@@ -18,7 +18,7 @@ struct Interval {
     last: u32,
 }
 
-/// A set of ids. Two intervals take no memory: most sets have no more.
+/// A set of ids. Two intervals take no memory.
 #[derive(Drop)]
 pub(crate) struct Ids {
     intervals: SmallVec<Interval, 2>,
@@ -138,7 +138,8 @@ fn put_new(intervals: &mut SmallVec<Interval, 2>, place: usize, only: Interval)
 impl Ids {
     /// No ids.
     pub(crate) fn new(alloc: Global) -> Ids
-        ensures { result.ids ≡ sets.empty }
+        ensures ids { result.ids ≡ sets.empty }
+        ensures room { result.room ≡ 2 }
     {
         Ids {
             intervals: SmallVec::new(alloc),
@@ -149,6 +150,7 @@ impl Ids {
     pub(crate) fn make_room(&mut self) -> Result<(), NoMemory>
         ensures ids { self.new.ids ≡ self.old.ids }
         ensures here { OnOk result (0 < self.new.room) }
+        ensures there { 0 < self.old.room → IsOk result }
         ensures keeps { self.old.room ≤ self.new.room }
         ensures refused { OnErr result (self.new ≡ self.old) }
     {

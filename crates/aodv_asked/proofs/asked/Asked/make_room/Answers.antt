@@ -1,5 +1,5 @@
 use Rattle.std.proofs.Common.{◌<◌, length, ap, sym, ◌∙◌, arith}
-use Rattle.aodv_asked.proofs.RowLaws.{rows_len, row_read, same_ids, room_made, rooms_kept}
+use Rattle.aodv_asked.proofs.RowLaws.{rows_len, row_read, same_ids, room_made, room_shown, rooms_kept}
 use Rattle.aodv_asked.proofs.asked.Asked.make_room.Goals as goal
 
 pub returns-clause-pairs : goal.returns-clause-pairs
@@ -19,3 +19,10 @@ returns-clause-keeps c =
     let rows = c.self.inside.rows.items in
     let lt : c.args.o < length rows = omega (arith, c.requires, rows_len rows _ (ap (λ s. s.rooms) c.self.view_is)) in
     rooms_kept rows c.args.self.now.rooms c.args.o c.index_mut-ids.result.now c.make_room.new.self lt (ap (λ s. s.rooms) c.self.view_is) c.index_mut-ids.ensures.value c.make_room.ensures.keeps
+
+pub returns-clause-there : goal.returns-clause-there
+returns-clause-there c = λ some.
+    let rows = c.self.inside.rows.items in
+    let lt : c.args.o < length rows = omega (arith, c.requires, rows_len rows _ (ap (λ s. s.rooms) c.self.view_is)) in
+    let room = room_shown rows c.args.self.now.rooms c.args.o c.index_mut-ids.result.now lt (ap (λ s. s.rooms) c.self.view_is) c.index_mut-ids.ensures.value in
+    c.make_room.ensures.there (omega (arith, room, some))
