@@ -52,7 +52,7 @@ impl Dests {
     /// The number of destinations.
     pub fn len(&self) -> usize
         ensures value { result ≡ length (maps.entries self.now) }
-        ensures most { result ≤ 200 }
+        ensures most { result ≤ MOST_NODES }
     {
         self.pairs.len()
     }
@@ -90,7 +90,7 @@ impl Dests {
 
     /// Adds a destination above the last.
     pub fn push(&mut self, d: usize, n: u32)
-        requires room { length (maps.entries self.old) < 200 }
+        requires room { length (maps.entries self.old) < MOST_NODES }
         requires above { (q : ℕ) → d ≤ q → maps.get self.old q ≡ None }
         ensures map { self.new ≡ maps.insert self.old d n }
         ensures entries { maps.entries self.new ≡ maps.entries self.old ++ (d, n) ∷ [] }

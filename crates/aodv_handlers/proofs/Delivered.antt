@@ -1,5 +1,5 @@
 -- Data that arrive, that go on, and that are lost; route errors from neighbours.
-use Rattle.std.proofs.Common.{◌≡◌, ◌≢◌, ◌<◌, ℕ, length, Bool, true, false, not, ◌&&◌, Some, None, List, [], ◌∷◌, map, refl, sym, ap, subst, ◌∙◌, eq-eqb}
+use Rattle.std.proofs.Common.{◌≡◌, ◌≢◌, ◌<◌, ℕ, length, Bool, true, false, not, cond, ◌&&◌, ◌||◌, Some, None, List, [], ◌∷◌, map, refl, sym, ap, subst, ◌∙◌, eq-eqb}
 use Rattle.std.specs.FinMap as maps
 use Rattle.std.specs.FinMap.Entries.{put}
 use Rattle.std.specs.FinSet as sets
@@ -10,14 +10,13 @@ use Rattle.mesh_base.specs.declared.addr.Addr.{Addr}
 use Rattle.mesh_base.specs.declared.events.Effect as code
 use Rattle.mesh_base.specs.declared.events.Cast as cast
 use Rattle.mesh_base.specs.declared.events.Cast.TheVariants as casts
-use Rattle.mesh_base.specs.declared.events.Variant.TheVariants.{Base}
 use Rattle.mesh_base.specs.Members.{NodeIds}
 use Rattle.mesh_base.specs.Meshes.{Nodes, addr_at}
 use Rattle.aodv_entry.specs.declared.entry.Entry.{Entry}
 use Rattle.aodv_entry.specs.Quality.{is_val}
 use Rattle.aodv_model.specs.Tables.{Table, Dests, in_vD, nhop, update, accepted_unreachable}
 use Rattle.aodv_model.specs.Cores.{Core, Body, Store, Pkt, Rerr, bodies_in, drop}
-use Rattle.aodv_model.specs.Handlers.{One, casting, delivering, unicast, data_error, on_pkt, is_empty, send, first_body, retract, on_rerr, after_hearing, neighbour_entry, error_cast}
+use Rattle.aodv_model.specs.Handlers.{Nothing, One, Many, All, casting, is_error, delivering, unicast, data_error, on_pkt, is_empty, send, first_body, retract, on_rerr, after_hearing, neighbour_entry, error_cast}
 use Rattle.aodv_model.specs.Fullness.{send_full}
 use Rattle.aodv_model.specs.Soundness.{IsSoundCore, IsSoundTable, AreDestsBelow}
 use Rattle.aodv_model.proofs.Changes.{Raises, accepted_raises}
@@ -41,17 +40,19 @@ one_pair mesh d n a is =
     let alone : maps.entries (maps.insert (maps.empty {X = ℕ} {R = nat_cmp}) d n) ≡ (d, n) ∷ [] = maps.entries-insert nat_cmp_total maps.empty d n ∙ ap (λ es. put nat_cmp d n es) no_entries in
     (λ i. (record { 0 = is i }, n) ∷ []) ∙ ap (map (λ e. (addr mesh e.0, e.1))) (sym alone)
 
-pub error_packet : (mesh : Nodes) (core : Core) (d : ℕ) (e : Entry) (a : Addr) (out : List ℕ) → core.variant ≡ Base → maps.get core.rt d ≡ Some e → (not (is_val e.flag) && not (is_empty e.pre)) ≡ true → a.0 ≡ addr_at mesh d
+pub error_packet : (mesh : Nodes) (core : Core) (d : ℕ) (e : Entry) (a : Addr) (out : List ℕ) → maps.get core.rt d ≡ Some e → (not (is_val e.flag) && (is_error core.variant || not (is_empty e.pre))) ≡ true → a.0 ≡ addr_at mesh d
     → out ≡ written (messages.Rerr ((a, e.dsn) ∷ [])) → Spells out (messages.Rerr ((a, e.dsn) ∷ [])) → IsPacket mesh out (data_error core d)
 unfolding data_error
-error_packet mesh core d e a out base is both at w s =
-    let parts = and_parts (not (is_val e.flag)) (not (is_empty e.pre)) both in
-    let some : is_empty e.pre ≡ false = no (is_empty e.pre) parts.1 in
-    rw (base, is, parts.0, some) (sent_same mesh out (Rerr (maps.insert maps.empty d e.dsn)) (messages.Rerr ((a, e.dsn) ∷ [])) (ap messages.Rerr (one_pair mesh d e.dsn a at)) w s)
+error_packet mesh core d e a out is both at w s =
+    let parts = and_parts (not (is_val e.flag)) (is_error core.variant || not (is_empty e.pre)) both in
+    let sent = sent_same mesh out (Rerr (maps.insert maps.empty d e.dsn)) (messages.Rerr ((a, e.dsn) ∷ [])) (ap messages.Rerr (one_pair mesh d e.dsn a at)) w s in
+    rw (is, parts.0) (by (is_error core.variant) (is_empty e.pre) sent parts.1)
   where
-    no : (b : Bool) → not b ≡ true → b ≡ false
-    no true h = cc
-    no false h = refl
+    by : (b none : Bool) → IsSent mesh out (Rerr (maps.insert maps.empty d e.dsn)) → (b || not none) ≡ true
+        → IsPacket mesh out (cond b (All (Rerr (maps.insert maps.empty d e.dsn))) (cond none Nothing (Many e.pre (Rerr (maps.insert maps.empty d e.dsn)))))
+    by true none sent h = sent
+    by false true sent h = cc
+    by false false sent h = sent
 
 -- ---- a data packet
 

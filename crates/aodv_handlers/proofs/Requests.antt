@@ -5,7 +5,6 @@ use Rattle.std.specs.FinMap as maps
 use Rattle.std.specs.FinSet as sets
 use Rattle.mesh_base.specs.declared.events.Effect as code
 use Rattle.mesh_base.specs.declared.events.Full.{Full}
-use Rattle.mesh_base.specs.declared.events.Variant.TheVariants.{Base}
 use Rattle.mesh_base.specs.Members.{NodeIds}
 use Rattle.mesh_base.specs.Meshes.{Nodes}
 use Rattle.aodv_entry.specs.declared.entry.Entry.{Entry}
@@ -96,11 +95,11 @@ and_not : (b : Bool) → (b && not true) ≡ false
 and_not true = refl
 and_not false = refl
 
-pub seen_made : (mesh : Nodes) (c : Core) (range : NodeIds) (from : ℕ) (m : RouteRequest) (rt1 : Table) (effect : code.Effect) (out : List ℕ) → c.variant ≡ Base → has_seen c.seen (m.oip, m.id) ≡ true → rt1 ≡ update c.rt from (neighbour_entry from) → effect ≡ effect_of quiet → out ≡ []
+pub seen_made : (mesh : Nodes) (c : Core) (range : NodeIds) (from : ℕ) (m : RouteRequest) (key : ℕ × ℕ) (rt1 : Table) (effect : code.Effect) (out : List ℕ) → key_of c.variant m ≡ key → has_seen c.seen key ≡ true → rt1 ≡ update c.rt from (neighbour_entry from) → effect ≡ effect_of quiet → out ≡ []
     → IsMade mesh (turn_full c range (item from m)) (turn c range (item from m)) effect (record c { rt = rt1 }) out
 unfolding on_rreq after_hearing
-seen_made mesh c range from m rt1 effect out base seen rt_is effect_is out_is =
-    let known : has_seen c.seen (key_of c.variant m) ≡ true = rw base seen in
+seen_made mesh c range from m key rt1 effect out key_is seen rt_is effect_is out_is =
+    let known : has_seen c.seen (key_of c.variant m) ≡ true = ap (has_seen c.seen) key_is ∙ seen in
     let did : turn c range (item from m) ≡ only (after_hearing c from) = rw known refl in
     let none : turn_full c range (item from m) ≡ None = rw (known, and_not (m.hops == 255)) (plain_free (after_hearing c from) quiet) in
     record {
@@ -118,26 +117,25 @@ asked_table size ip rt rt2 from o n h lf apart lo one sound is =
 
 -- what is done is what is done after the updates, with the request among those seen
 pub record Ends (c : Core) (range : NodeIds) (from : ℕ) (m : RouteRequest) (did' : Reaction) : Type 0 where
-  pub turned : turn c range (item from m) ≡ with_seen (sets.insert c.seen (m.oip, m.id)) did'
+  pub turned : turn c range (item from m) ≡ with_seen (sets.insert c.seen (key_of c.variant m)) did'
   pub full : turn_full c range (item from m) ≡ number_full did'
 
-pub ends : (c : Core) (range : NodeIds) (from : ℕ) (m : RouteRequest) (rt2 : Table) → c.variant ≡ Base → has_seen c.seen (m.oip, m.id) ≡ false → (m.hops == 255) ≡ false → rt2 ≡ update (update c.rt from (neighbour_entry from)) m.oip (route_entry m.osn m.hops from)
+pub ends : (c : Core) (range : NodeIds) (from : ℕ) (m : RouteRequest) (key : ℕ × ℕ) (rt2 : Table) → key_of c.variant m ≡ key → has_seen c.seen key ≡ false → (m.hops == 255) ≡ false → rt2 ≡ update (update c.rt from (neighbour_entry from)) m.oip (route_entry m.osn m.hops from)
     → Ends c range from m (on_new_rreq (record c { rt = rt2 }) range from m)
 unfolding on_rreq after_request after_hearing
-ends c range from m rt2 base unseen hops is =
-    let unknown : has_seen c.seen (key_of c.variant m) ≡ false = rw base unseen in
-    let key : key_of c.variant m ≡ (m.oip, m.id) = rw base refl in
-    let s = sets.insert c.seen (m.oip, m.id) in
-    let core : after_request c from m ≡ record c { rt = rt2; seen = s } = λ i. record c { rt = sym is i; seen = sets.insert c.seen (key i) } in
+ends c range from m key rt2 key_is unseen hops is =
+    let unknown : has_seen c.seen (key_of c.variant m) ≡ false = ap (has_seen c.seen) key_is ∙ unseen in
+    let s = sets.insert c.seen (key_of c.variant m) in
+    let core : after_request c from m ≡ record c { rt = rt2; seen = s } = λ i. record c { rt = sym is i; seen = s } in
     let did : turn c range (item from m) ≡ with_seen s (on_new_rreq (record c { rt = rt2 }) range from m) =
     rw unknown (ap (λ (a : Core). on_new_rreq a range from m) core ∙ new_seen (record c { rt = rt2 }) range from m s) in
     record { turned = did; full = rw hops (ap number_full did) }
 
-pub new_made : (mesh : Nodes) (c new : Core) (range : NodeIds) (from : ℕ) (m : RouteRequest) (did' : Reaction) (effect : code.Effect) (s : Pairs) (out : List ℕ)
-    → Ends c range from m did' → IsMade mesh (number_full did') did' effect new out → new.seen ≡ c.seen → s ≡ sets.insert new.seen (m.oip, m.id)
+pub new_made : (mesh : Nodes) (c new : Core) (range : NodeIds) (from : ℕ) (m : RouteRequest) (key : ℕ × ℕ) (did' : Reaction) (effect : code.Effect) (s : Pairs) (out : List ℕ)
+    → Ends c range from m did' → key_of c.variant m ≡ key → IsMade mesh (number_full did') did' effect new out → new.seen ≡ c.seen → s ≡ sets.insert new.seen key
     → IsMade mesh (turn_full c range (item from m)) (turn c range (item from m)) effect (record new { seen = s }) out
-new_made mesh c new range from m did' effect s out end made seen s_is =
-    let s_now : s ≡ sets.insert c.seen (m.oip, m.id) = s_is ∙ ap (λ (t : Pairs). sets.insert t (m.oip, m.id)) seen in
+new_made mesh c new range from m key did' effect s out end key_is made seen s_is =
+    let s_now : s ≡ sets.insert c.seen (key_of c.variant m) = s_is ∙ (λ i. sets.insert (seen i) (sym key_is i)) in
     record {
       free = end.full ∙ made.free;
       did = made.did ∙ (λ i. effect_of (sym end.turned i).effect);

@@ -1,6 +1,6 @@
 -- Route errors: who is told, and of what.
-use Rattle.std.proofs.Common.{◌≡◌, ℕ, suc, ◌+◌, ◌<◌, ◌≤◌, Bool, true, false, not, cond, Option, Some, None, List, [], ◌∷◌, ◌++◌, length, map, refl, sym, ap, subst, ◌∙◌, append_assoc, length-append, arith}
-use Rattle.std.specs.Prelude.{slice_get, is_some, T}
+use Rattle.std.proofs.Common.{◌≡◌, ℕ, zero, suc, ◌+◌, ◌<◌, ◌≤◌, Bool, true, false, not, cond, ◌↔◌, IsTrue, eq-eqb, Option, Some, None, List, [], ◌∷◌, ◌++◌, length, map, refl, sym, ap, subst, ◌∙◌, append_assoc, length-append, arith}
+use Rattle.std.specs.Prelude.{◌==◌, slice_get, is_some, T}
 use Rattle.std.specs.Ordering.{nat_cmp, is_lt}
 use Rattle.std.specs.FinMap as maps
 use Rattle.std.specs.FinMap.Entries.{where_key, is_sorted, below_all}
@@ -8,18 +8,22 @@ use Rattle.std.specs.FinSet as sets
 use Rattle.std.specs.Cmp.{ranked}
 use Rattle.std.specs.declared.cmp.Ordering.{Ordering}
 use Rattle.std.specs.declared.cmp.Ordering.TheVariants.{Less, Equal, Greater}
-use Rattle.std.proofs.lemmas.Bool.{and_parts}
+use Rattle.std.proofs.lemmas.Bool.{and_parts, ne_eqb}
 use Rattle.std.proofs.Math.ListN.{drop}
 use Rattle.mesh_base.specs.declared.addr.Addr.{Addr}
+use Rattle.mesh_base.specs.declared.events.Variant.{Variant}
+use Rattle.mesh_base.specs.declared.events.Variant.TheVariants.{Base, Number, Reply, Error}
 use Rattle.mesh_base.specs.Members.{NodeIds}
 use Rattle.mesh_base.specs.Meshes.{Nodes, IsMesh}
 use Rattle.aodv_model.specs.Tables.{Table, Dests, precs}
-use Rattle.aodv_model.specs.Handlers.{is_empty, all_precs, precs_of, with_precs}
+use Rattle.aodv_model.specs.Cores.{Rerr}
+use Rattle.aodv_model.specs.Handlers.{Nothing, All, is_empty, is_error, all_precs, precs_of, with_precs, error_cast}
 use Rattle.aodv_model.specs.Soundness.{AreDestsBelow}
 use Rattle.aodv_model.proofs.Lookups.{get-kept}
 use Rattle.aodv_model.proofs.PlacedTables.{kept_of}
 use Rattle.aodv_wire.specs.RouteError.{IsRising, AreDestinations}
 use Rattle.aodv_meaning.specs.Sent.{addressed, pairs_of}
+use Rattle.aodv_handlers.specs.Parts.{tells, told}
 use Rattle.aodv_handlers.proofs.Lists.{from_place, from_end, empty_union, union_empty, union_assoc, empty_is, is_empty_same, entries_where, any_there}
 
 some_of : (o : Option ℕ) → is_some o ≡ true → (n : ℕ) × (o ≡ Some n)
@@ -68,63 +72,75 @@ joined_all rt dests k all has end =
 
 -- ---- of what
 
-abbrev pub has_precs : Table → ℕ → Bool
-has_precs rt d = not (is_empty (precs rt d))
-
-pub told : Nodes → Table → List (ℕ × ℕ) → List (Addr × ℕ)
-told mesh rt es = map (addressed mesh) (where_key nat_cmp (has_precs rt) es)
+pub told_of : Nodes → Variant → Table → List (ℕ × ℕ) → List (Addr × ℕ)
+told_of mesh v rt es = map (addressed mesh) (where_key nat_cmp (tells v rt) es)
 
 -- all pairs are those that were taken before place k, and those from there on
-pub record HasTold (mesh : Nodes) (rt : Table) (dests : Dests) (k : ℕ) (pairs : List (Addr × ℕ)) : Type 0 where
-  pub whole : pairs ++ told mesh rt (drop k (maps.entries dests)) ≡ told mesh rt (maps.entries dests)
+pub record HasTold (mesh : Nodes) (v : Variant) (rt : Table) (dests : Dests) (k : ℕ) (pairs : List (Addr × ℕ)) : Type 0 where
+  pub whole : pairs ++ told_of mesh v rt (drop k (maps.entries dests)) ≡ told_of mesh v rt (maps.entries dests)
   pub few : length pairs ≤ k
 
-pub told_none : (mesh : Nodes) (rt : Table) (dests : Dests) (pairs : List (Addr × ℕ)) → pairs ≡ [] → HasTold mesh rt dests 0 pairs
-told_none mesh rt dests pairs is = record { whole = ap (λ ps. ps ++ told mesh rt (maps.entries dests)) is; few = let e = ap length is in omega arith }
+pub told_none : (mesh : Nodes) (v : Variant) (rt : Table) (dests : Dests) (pairs : List (Addr × ℕ)) → pairs ≡ [] → HasTold mesh v rt dests 0 pairs
+told_none mesh v rt dests pairs is = record { whole = ap (λ ps. ps ++ told_of mesh v rt (maps.entries dests)) is; few = let e = ap length is in omega arith }
 
-told_first : (mesh : Nodes) (rt : Table) (p : ℕ × ℕ) (es : List (ℕ × ℕ)) (b : Bool) → has_precs rt p.0 ≡ b → told mesh rt (p ∷ es) ≡ cond b (addressed mesh p ∷ told mesh rt es) (told mesh rt es)
-unfolding told
-told_first mesh rt p es true is = rw is refl
-told_first mesh rt p es false is = rw is refl
+told_first : (mesh : Nodes) (v : Variant) (rt : Table) (p : ℕ × ℕ) (es : List (ℕ × ℕ)) (b : Bool) → tells v rt p.0 ≡ b → told_of mesh v rt (p ∷ es) ≡ cond b (addressed mesh p ∷ told_of mesh v rt es) (told_of mesh v rt es)
+unfolding told_of
+told_first mesh v rt p es true is = rw is refl
+told_first mesh v rt p es false is = rw is refl
 
-told_step : (mesh : Nodes) (rt : Table) (dests : Dests) (k : ℕ) (p : ℕ × ℕ) (b : Bool) → slice_get (maps.entries dests) k ≡ Some p → has_precs rt p.0 ≡ b → told mesh rt (drop k (maps.entries dests)) ≡ cond b (addressed mesh p ∷ told mesh rt (drop (k + 1) (maps.entries dests))) (told mesh rt (drop (k + 1) (maps.entries dests)))
-told_step mesh rt dests k p b is has =
+told_step : (mesh : Nodes) (v : Variant) (rt : Table) (dests : Dests) (k : ℕ) (p : ℕ × ℕ) (b : Bool) → slice_get (maps.entries dests) k ≡ Some p → tells v rt p.0 ≡ b → told_of mesh v rt (drop k (maps.entries dests)) ≡ cond b (addressed mesh p ∷ told_of mesh v rt (drop (k + 1) (maps.entries dests))) (told_of mesh v rt (drop (k + 1) (maps.entries dests)))
+told_step mesh v rt dests k p b is has =
     let up : suc k ≡ k + 1 = omega arith in
-    ap (told mesh rt) (from_place (maps.entries dests) k p is)
-    ∙ told_first mesh rt p (drop (suc k) (maps.entries dests)) b has
-    ∙ ap (λ n. cond b (addressed mesh p ∷ told mesh rt (drop n (maps.entries dests))) (told mesh rt (drop n (maps.entries dests)))) up
+    ap (told_of mesh v rt) (from_place (maps.entries dests) k p is)
+    ∙ told_first mesh v rt p (drop (suc k) (maps.entries dests)) b has
+    ∙ ap (λ n. cond b (addressed mesh p ∷ told_of mesh v rt (drop n (maps.entries dests))) (told_of mesh v rt (drop n (maps.entries dests)))) up
 
-pub told_more : (mesh : Nodes) (rt : Table) (dests : Dests) (k : ℕ) (pairs pairs' : List (Addr × ℕ)) (p : ℕ × ℕ) (x : Addr × ℕ) → HasTold mesh rt dests k pairs → slice_get (maps.entries dests) k ≡ Some p → has_precs rt p.0 ≡ true → x ≡ addressed mesh p → pairs' ≡ pairs ++ x ∷ [] → HasTold mesh rt dests (k + 1) pairs'
-told_more mesh rt dests k pairs pairs' p x has is some x_is next =
-    let after = told mesh rt (drop (k + 1) (maps.entries dests)) in
+pub told_more : (mesh : Nodes) (v : Variant) (rt : Table) (dests : Dests) (k : ℕ) (pairs pairs' : List (Addr × ℕ)) (p : ℕ × ℕ) (x : Addr × ℕ) → HasTold mesh v rt dests k pairs → slice_get (maps.entries dests) k ≡ Some p → tells v rt p.0 ≡ true → x ≡ addressed mesh p → pairs' ≡ pairs ++ x ∷ [] → HasTold mesh v rt dests (k + 1) pairs'
+told_more mesh v rt dests k pairs pairs' p x has is some x_is next =
+    let after = told_of mesh v rt (drop (k + 1) (maps.entries dests)) in
     let few : length pairs ≤ k = has.few in
     let size : length pairs' ≡ length pairs + 1 = ap length next ∙ simp length-append in
     record {
       whole = ap (λ ps. ps ++ after) (next ∙ ap (λ y. pairs ++ y ∷ []) x_is)
           ∙ append_assoc pairs (addressed mesh p ∷ []) after
-          ∙ ap (λ ps. pairs ++ ps) (sym (told_step mesh rt dests k p true is some))
+          ∙ ap (λ ps. pairs ++ ps) (sym (told_step mesh v rt dests k p true is some))
           ∙ has.whole;
       few = omega arith;
     }
 
-pub told_same : (mesh : Nodes) (rt : Table) (dests : Dests) (k : ℕ) (pairs : List (Addr × ℕ)) (p : ℕ × ℕ) → HasTold mesh rt dests k pairs → slice_get (maps.entries dests) k ≡ Some p → has_precs rt p.0 ≡ false → HasTold mesh rt dests (k + 1) pairs
-told_same mesh rt dests k pairs p has is none =
+pub told_same : (mesh : Nodes) (v : Variant) (rt : Table) (dests : Dests) (k : ℕ) (pairs : List (Addr × ℕ)) (p : ℕ × ℕ) → HasTold mesh v rt dests k pairs → slice_get (maps.entries dests) k ≡ Some p → tells v rt p.0 ≡ false → HasTold mesh v rt dests (k + 1) pairs
+told_same mesh v rt dests k pairs p has is none =
     let few : length pairs ≤ k = has.few in
-    record { whole = ap (λ ps. pairs ++ ps) (sym (told_step mesh rt dests k p false is none)) ∙ has.whole; few = omega arith }
+    record { whole = ap (λ ps. pairs ++ ps) (sym (told_step mesh v rt dests k p false is none)) ∙ has.whole; few = omega arith }
 
 append-nil : {A : Type 0} (xs : List A) → xs ++ [] ≡ xs
 append-nil [] = refl
 append-nil (x ∷ xs) = ap (λ ys. x ∷ ys) (append-nil xs)
 
-pub told_all : (mesh : Nodes) (rt : Table) (dests : Dests) (k : ℕ) (pairs : List (Addr × ℕ)) → HasTold mesh rt dests k pairs → length (maps.entries dests) ≤ k → pairs ≡ pairs_of mesh (with_precs rt dests)
-unfolding told with_precs
-told_all mesh rt dests k pairs has end =
+all_kept : (es : List (ℕ × ℕ)) → where_key nat_cmp (λ _. true) es ≡ es
+all_kept [] = refl
+all_kept (e ∷ es) = ap (λ (l : List (ℕ × ℕ)). e ∷ l) (all_kept es)
+
+-- the pairs of the destinations that are told of
+told_entries : (v : Variant) (rt : Table) (dests : Dests) → where_key nat_cmp (tells v rt) (maps.entries dests) ≡ maps.entries (told v rt dests)
+unfolding with_precs
+told_entries Base rt dests = sym (entries_where dests (λ d. not (is_empty (precs rt d))))
+told_entries Number rt dests = sym (entries_where dests (λ d. not (is_empty (precs rt d))))
+told_entries Reply rt dests = sym (entries_where dests (λ d. not (is_empty (precs rt d))))
+told_entries Error rt dests = all_kept (maps.entries dests)
+
+pub told_all : (mesh : Nodes) (v : Variant) (rt : Table) (dests : Dests) (k : ℕ) (pairs : List (Addr × ℕ)) → HasTold mesh v rt dests k pairs → length (maps.entries dests) ≤ k → pairs ≡ pairs_of mesh (told v rt dests)
+unfolding told_of
+told_all mesh v rt dests k pairs has end =
     sym (append-nil pairs)
-    ∙ ap (λ es. pairs ++ told mesh rt es) (sym (from_end (maps.entries dests) k end))
+    ∙ ap (λ es. pairs ++ told_of mesh v rt es) (sym (from_end (maps.entries dests) k end))
     ∙ has.whole
-    ∙ ap (map (addressed mesh)) (sym (entries_where dests (has_precs rt)))
+    ∙ ap (map (addressed mesh)) (told_entries v rt dests)
 
 -- ---- what can be written
+
+abbrev has_precs : Table → ℕ → Bool
+has_precs rt d = not (is_empty (precs rt d))
 
 no_cons : {A : Type 0} (x : A) (xs : List A) → x ∷ xs ≡ [] → ⊥
 no_cons x xs e = cc
@@ -145,18 +161,42 @@ length_map : {A B : Type 0} (f : A → B) (xs : List A) → length (map f xs) �
 length_map f [] = refl
 length_map f (x ∷ xs) = ap suc (length_map f xs)
 
-pub some_told : (mesh : Nodes) (rt : Table) (dests : Dests) → is_empty (precs_of rt dests) ≡ false → 1 ≤ length (pairs_of mesh (with_precs rt dests))
+-- some destination is told of, where there are precursors, or where all are told of and there is one
+pub some_told : (v : Variant) (rt : Table) (dests : Dests) → is_error v ≡ false → is_empty (precs_of rt dests) ≡ false → 1 ≤ maps.len (told v rt dests)
 unfolding precs_of with_precs
-some_told mesh rt dests some =
+some_told v rt dests base some =
     let list = maps.entries (with_precs rt dests) in
     let there : 1 ≤ length list = positive list (λ none.
     let all = none_told rt (maps.entries dests) (sym (entries_where dests (has_precs rt)) ∙ none) in
     different (sym (ap is_empty all ∙ empty_is) ∙ some)) in
-    let same = length_map (addressed mesh) list in
-    omega arith
+    let count : maps.len (with_precs rt dests) ≡ length list = maps.len-entries (with_precs rt dests) in
+    rw base (omega arith)
   where
     different : true ≡ false → ⊥
     different e = cc
+
+pub all_told : (v : Variant) (rt : Table) (dests : Dests) (r : Bool) → is_error v ≡ true → IsTrue r ↔ (dests ≡ maps.empty) → r ≡ false → 1 ≤ maps.len (told v rt dests)
+all_told v rt dests r error test some = rw error (above (maps.len dests) refl)
+  where
+    different : true ≡ false → ⊥
+    different e = cc
+
+    above : (n : ℕ) → maps.len dests ≡ n → 1 ≤ n
+    above zero none = absurd (different (sym (test.1 (maps.empty_of_len dests none)) ∙ some))
+    above (suc n) is = omega arith
+
+-- without destinations nothing is cast
+pub none_there : (v : Variant) (rt : Table) (dests : Dests) (r : Bool) → is_error v ≡ true → IsTrue r ↔ (dests ≡ maps.empty) → r ≡ true → error_cast v rt dests ≡ Nothing
+unfolding error_cast
+none_there v rt dests r error test all = rw (error, eq-eqb (maps.len dests) 0 (ap maps.len (test.0 all) ∙ maps.len-empty nat_cmp ℕ)) refl
+
+-- all of them are cast to all
+pub all_there : (v : Variant) (rt : Table) (dests : Dests) (r : Bool) → is_error v ≡ true → IsTrue r ↔ (dests ≡ maps.empty) → r ≡ false → error_cast v rt dests ≡ All (Rerr (told v rt dests))
+unfolding error_cast
+all_there v rt dests r error test some =
+    let more : 1 ≤ maps.len dests = rw error at (all_told v rt dests r error test some) in
+    let not : (maps.len dests == 0) ≡ false = ne_eqb (maps.len dests) 0 (λ e. absurd (omega arith)) in
+    rw (error, not) refl
 
 true_of : (b : Bool) → T b → b ≡ true
 true_of true t = refl
@@ -182,18 +222,27 @@ rising mesh (e ∷ f ∷ es) is sorted below =
     let first = and_parts (is_lt (nat_cmp e.0 f.0)) (below_all nat_cmp e.0 es) parts.0 in
     (is.rising e.0 f.0 (lt_of e.0 f.0 first.0) (below 1 f refl), rising mesh (f ∷ es) is (of_true _ parts.1) (λ k p at. below (suc k) p at))
 
-pub told_below : (size : ℕ) (rt : Table) (dests : Dests) → AreDestsBelow size dests → AreDestsBelow size (with_precs rt dests)
+kept_below : (size : ℕ) (rt : Table) (dests : Dests) → AreDestsBelow size dests → AreDestsBelow size (with_precs rt dests)
 unfolding with_precs
-told_below size rt dests below d n is =
+kept_below size rt dests below d n is =
     below d n (kept_of (maps.get dests d) (has_precs rt d) n (sym (get-kept dests (has_precs rt) d) ∙ is))
 
-pub writable : (mesh : Nodes) (rt : Table) (dests : Dests) (pairs : List (Addr × ℕ)) → IsMesh mesh → AreDestsBelow (length mesh) dests → is_empty (precs_of rt dests) ≡ false → pairs ≡ pairs_of mesh (with_precs rt dests) → length pairs ≤ 200 → AreDestinations pairs
-writable mesh rt dests pairs mesh_is below some is few =
-    let from = some_told mesh rt dests some in
-    let long : length pairs ≡ length (pairs_of mesh (with_precs rt dests)) = ap length is in
+pub told_below : (size : ℕ) (v : Variant) (rt : Table) (dests : Dests) → AreDestsBelow size dests → AreDestsBelow size (told v rt dests)
+told_below size v rt dests below = by (is_error v)
+  where
+    by : (b : Bool) → AreDestsBelow size (cond b dests (with_precs rt dests))
+    by true = below
+    by false = kept_below size rt dests below
+
+pub writable : (mesh : Nodes) (v : Variant) (rt : Table) (dests : Dests) (pairs : List (Addr × ℕ)) → IsMesh mesh → AreDestsBelow (length mesh) dests → 1 ≤ maps.len (told v rt dests) → pairs ≡ pairs_of mesh (told v rt dests) → length pairs ≤ 200 → AreDestinations pairs
+writable mesh v rt dests pairs mesh_is below some is few =
+    let list = maps.entries (told v rt dests) in
+    let count : maps.len (told v rt dests) ≡ length list = maps.len-entries (told v rt dests) in
+    let same : length (map (addressed mesh) list) ≡ length list = length_map (addressed mesh) list in
+    let long : length pairs ≡ length (map (addressed mesh) list) = ap length is in
     record {
       some = omega arith;
       few = few;
-      rising = subst IsRising (sym is) (rising mesh (maps.entries (with_precs rt dests)) mesh_is (maps.entries_sorted (with_precs rt dests))
-          (λ k p at. dest_below (length mesh) (with_precs rt dests) k p (told_below (length mesh) rt dests below) at));
+      rising = subst IsRising (sym is) (rising mesh list mesh_is (maps.entries_sorted (told v rt dests))
+          (λ k p at. dest_below (length mesh) (told v rt dests) k p (told_below (length mesh) v rt dests below) at));
     }

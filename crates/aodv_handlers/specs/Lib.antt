@@ -3,3 +3,5 @@
 pub mod Shown
 -- Made: what it means that a handler did what the model does, or refused.
 pub mod Made
+-- Parts: what the variants of the model's handlers share.
+pub mod Parts

@@ -1,6 +1,5 @@
 -- The state of the model that a core shows, and what every handler asks of a core and keeps.
 use Rattle.std.specs.Prelude.{◌≡◌, ◌<◌, ℕ, length}
-use Rattle.mesh_base.specs.declared.events.Variant.TheVariants.{Base}
 use Rattle.aodv_model.specs.Tables.{Table}
 use Rattle.aodv_model.specs.Cores.{Core, RouteRequest, RouteReply}
 use Rattle.aodv_model.specs.Soundness.{IsSoundCore}
@@ -9,9 +8,9 @@ use Rattle.aodv_handlers.specs.declared.cores.Core as code
 use Rattle.aodv_handlers.specs.declared.rreq.Wanted.{Wanted}
 use Rattle.aodv_handlers.specs.declared.unicast.Reply.{Reply}
 
--- the model's core, of the protocol as AWN has it. `entries` says what the table's entries are
+-- the model's core. `entries` says what the table's entries are
 abbrev pub shown : {T : Type 0} → (T → Table) → code.Core T → Core
-shown entries c = record { ip = c.me; variant = Base; sn = c.sn; rt = entries c.table; seen = (c.asked).pairs; store = (c.waiting).store }
+shown entries c = record { ip = c.me; variant = c.variant; sn = c.sn; rt = entries c.table; seen = (c.asked).pairs; store = (c.waiting).store }
 
 -- the core is that of a node of a mesh of this size: its parts are made for that size, and what it shows is sound
 pub record IsReady {T : Type 0} (nodes : T → ℕ) (entries : T → Table) (size : ℕ) (c : code.Core T) : Type 0 where

@@ -1,6 +1,7 @@
 //! The state of a node.
 use aodv_asked::Asked;
 use aodv_waiting::Waiting;
+use mesh_base::Variant;
 
 /// The state of a node, but for its inbox.
 #[derive(Drop)]
@@ -9,6 +10,8 @@ pub struct Core<T> {
     pub me: usize,
     /// Its own sequence number, at least 1.
     pub sn: u32,
+    /// The variant of the protocol that it runs. No step changes it.
+    pub variant: Variant,
     /// Its routing table.
     pub table: T,
     /// The route requests that it has seen.

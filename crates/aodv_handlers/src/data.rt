@@ -1,11 +1,11 @@
 //! Data: given to the node, and on their way through it (AWN's NEWPKT and PKT; RFC 3561, section
 //! 6.11).
-ghost use Rattle.std.specs.Prelude.{◌≡◌, ◌≢◌, ◌<◌, ◌≤◌, ℕ, ◌==◌, ◌&&◌, not, if◌then◌else◌, true, false, length, slice_index, Option, Some, None};
+ghost use Rattle.std.specs.Prelude.{◌≡◌, ◌≢◌, ◌<◌, ◌≤◌, ℕ, ◌==◌, ◌&&◌, ◌||◌, not, if◌then◌else◌, true, false, length, slice_index, Option, Some, None};
 ghost use Rattle.std.specs.FinMap as maps;
 ghost use Rattle.mesh_base.specs.Members.{NodeIds};
 ghost use Rattle.aodv_model.specs.Cores.{New};
 ghost use Rattle.aodv_entry.specs.Quality.{is_val};
-ghost use Rattle.aodv_model.specs.Handlers.{on_new, on_pkt, data_error as the_data_error, is_empty as no_node};
+ghost use Rattle.aodv_model.specs.Handlers.{is_error, on_new, on_pkt, data_error as the_data_error, is_empty as no_node};
 ghost use Rattle.aodv_model.specs.Fullness.{turn_full};
 ghost use Rattle.aodv_model.specs.Soundness.{IsDatum};
 ghost use Rattle.aodv_wire.specs.declared.message.Message.TheVariants.{Parcel as a_parcel};
@@ -16,14 +16,14 @@ ghost use Rattle.aodv_meaning.specs.Effects.{cast_of};
 ghost use Rattle.aodv_handlers.specs.Made.{Does, number_full};
 
 use crate::cores::Core;
-use crate::errors::is_empty;
+use crate::errors::{is_broadcast, is_empty};
 use crate::places::place_of;
 use crate::routes::{has_route, next_hop};
 use crate::unicast::send_datum;
 use aodv_entry::{Entry, Flag};
 use aodv_table::Table;
 use aodv_wire::{DataView, write_rerr};
-use mesh_base::{Bytes, Cast, Effect, Full, Mesh, NodeSet, Packet};
+use mesh_base::{Bytes, Cast, Effect, Full, Mesh, NodeSet, Packet, Variant};
 
 /// A datum given to the node. It comes back where it is for the node itself, which delivers it; else
 /// it waits.
@@ -45,14 +45,16 @@ pub fn new_packet<T: Table>(core: &mut Core<T>, dest: usize, body: Bytes) -> Opt
     None
 }
 
-// Whether the entry is invalid and has precursors.
-fn has_lost_users(e: &Entry) -> bool
-    ensures { result ≡ (not (is_val e.now.flag) && not (no_node e.now.pre)) }
+// Whether data that can't go on by this entry make an error: where it is invalid, and there is
+// somebody to tell.
+fn makes_an_error(variant: Variant, e: &Entry) -> bool
+    ensures { result ≡ (not (is_val e.now.flag) && (is_error variant || not (no_node e.now.pre))) }
 {
-    e.flag == Flag::Inv && !is_empty(&e.pre)
+    e.flag == Flag::Inv && (is_broadcast(variant) || !is_empty(&e.pre))
 }
 
-// The error for data to d that can't go on: to d's precursors, where its entry is invalid.
+// The error for data to d that can't go on, where its entry is invalid: to all nodes in range, or
+// to d's precursors.
 #[tactic(auto, unfolding(aodv_model::specs::Handlers::data_error))]
 fn data_error<T: Table>(core: &Core<T>, mesh: &Mesh, d: usize, out: &mut Packet) -> Cast
     requires nodes { T.nodes core.now.table ≡ length mesh.now }
@@ -61,9 +63,13 @@ fn data_error<T: Table>(core: &Core<T>, mesh: &Mesh, d: usize, out: &mut Packet)
     ensures packet { IsPacket mesh.now out.new.items (the_data_error (shown T.entries core.now) d) }
 {
     match core.table.get(d) {
-        Some(e) if has_lost_users(&e) => {
+        Some(e) if makes_an_error(core.variant, &e) => {
             write_rerr(&[(mesh.at(d), e.dsn)], out);
-            Cast::Many(e.pre)
+            if is_broadcast(core.variant) {
+                Cast::All
+            } else {
+                Cast::Many(e.pre)
+            }
         }
         _ => {
             out.clear();

@@ -1,11 +1,11 @@
 //! What a node does of its own accord: it sends a datum that waited, and asks for a route (AWN's
 //! main process; RFC 3561, section 6.3).
-ghost use Rattle.std.specs.Prelude.{◌≡◌, ◌≢◌, ◌<◌, ◌≤◌, ℕ, true, false, length, slice_index, Some, None};
+ghost use Rattle.std.specs.Prelude.{◌≡◌, ◌≢◌, ◌<◌, ◌≤◌, ◌+◌, ℕ, true, false, length, slice_index, Some, None, IfSome, is_none};
 ghost use Rattle.std.specs.FinMap as maps;
 ghost use Rattle.aodv_model.specs.Tables.{sqn, sqnf};
-ghost use Rattle.aodv_model.specs.Handlers.{may_send as can_send, may_ask as can_ask, send, ask};
-ghost use Rattle.aodv_model.specs.Fullness.{send_full, ask_full};
-ghost use Rattle.aodv_entry.specs.Quality.{is_kno};
+ghost use Rattle.aodv_model.specs.Handlers.{fresh_id, may_send as can_send, may_ask as can_ask, send, ask};
+ghost use Rattle.aodv_model.specs.Fullness.{is_id_full, send_full, ask_full};
+ghost use Rattle.aodv_entry.specs.Quality.{is_kno, inc as raised};
 ghost use Rattle.aodv_handlers.specs.Shown.{shown, IsReady};
 ghost use Rattle.aodv_handlers.specs.Made.{Does};
 
@@ -15,7 +15,7 @@ use crate::unicast::{casting, fail};
 use aodv_entry::{Known, inc};
 use aodv_table::Table;
 use aodv_wire::{Rreq, write_data, write_rreq};
-use mesh_base::{Cast, Effect, Full, Mesh, NodeSet, Packet};
+use mesh_base::{Cast, Effect, Full, Mesh, NodeSet, Packet, Variant};
 
 /// Whether a datum waits for `dest` and there is a valid route to it.
 pub fn may_send<T: Table>(core: &Core<T>, dest: usize) -> bool
@@ -75,6 +75,19 @@ fn last_known<T: Table>(table: &T, d: usize) -> (u32, bool)
     }
 }
 
+// The id of the node's next request, whose number is sn. None says that there is none left.
+fn request_id<T: Table>(core: &Core<T>, sn: u32) -> Option<u32>
+    requires within { core.now.me < length core.now.asked.rooms }
+    requires raised { sn ≡ raised core.now.sn }
+    ensures full { is_none result ≡ is_id_full core.now.variant (shown T.entries core.now) }
+    ensures value { IfSome result (λ id. id ≡ fresh_id core.now.variant (shown T.entries core.now)) }
+{
+    match core.variant {
+        Variant::Number => Some(sn),
+        _ => core.asked.next_id(core.me),
+    }
+}
+
 /// Asks for a route to `dest`: the node raises its own number, and broadcasts a request with it.
 #[tactic(auto, unfolding(aodv_model::specs::Handlers::ask))]
 pub fn start_request<T: Table>(
@@ -95,7 +108,7 @@ pub fn start_request<T: Table>(
     let Some(sn) = inc(core.sn) else {
         return Err(Full::Number);
     };
-    let Some(id) = core.asked.next_id(core.me) else {
+    let Some(id) = request_id(core, sn) else {
         return Err(Full::Id);
     };
     let (dsn, known) = last_known(&core.table, dest);

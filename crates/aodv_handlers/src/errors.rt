@@ -1,22 +1,22 @@
 //! Route errors, and links that are broken (RFC 3561, section 6.11).
-ghost use Rattle.std.specs.Prelude.{◌≡◌, ◌<◌, ◌≤◌, ℕ, false, length, MatchResult};
+ghost use Rattle.std.specs.Prelude.{◌≡◌, ◌<◌, ◌≤◌, ℕ, length, MatchResult};
 ghost use Rattle.std.specs.FinMap as maps;
 ghost use Rattle.aodv_model.specs.Tables.{precs};
 ghost use Rattle.aodv_model.specs.Cores.{Rerr};
-ghost use Rattle.aodv_model.specs.Handlers.{is_empty as no_node, precs_of, with_precs, error_cast as the_error_cast, retract as retracted, link_broken as broken};
+ghost use Rattle.aodv_model.specs.Handlers.{is_empty as no_node, is_error, precs_of, error_cast as the_error_cast, retract as retracted, link_broken as broken};
 ghost use Rattle.aodv_model.specs.Soundness.{AreDestsBelow};
-ghost use Rattle.mesh_base.specs.declared.events.Variant.TheVariants.{Base};
 ghost use Rattle.aodv_meaning.specs.Sent.{IsSent, IsPacket};
 ghost use Rattle.aodv_handlers.specs.Shown.{shown, IsReady};
 ghost use Rattle.aodv_meaning.specs.Effects.{cast_of};
 ghost use Rattle.aodv_handlers.specs.Made.{only_cast, IsMade, IsRefused, number_full};
+ghost use Rattle.aodv_handlers.specs.Parts.{tells, told};
 
 use crate::cores::Core;
 use aodv_entry::Dests;
 use aodv_table::Table;
 use aodv_wire::write_rerr;
 use arrayvec::ArrayVec;
-use mesh_base::{Addr, Cast, Full, MOST_NODES, Mesh, NodeSet, Packet};
+use mesh_base::{Addr, Cast, Full, MOST_NODES, Mesh, NodeSet, Packet, Variant};
 
 /// The precursors of d.
 pub(crate) fn precursors<T: Table>(table: &T, d: usize) -> NodeSet
@@ -49,43 +49,72 @@ fn all_precursors<T: Table>(table: &T, dests: &Dests) -> NodeSet
     all
 }
 
-// Writes the route error of those destinations that have precursors. There is one.
-fn write_error<T: Table>(table: &T, mesh: &Mesh, dests: &Dests, out: &mut Packet)
+/// Whether route errors are broadcast, and tell of each destination.
+pub(crate) fn is_broadcast(variant: Variant) -> bool
+    ensures { result ≡ is_error variant }
+{
+    matches!(variant, Variant::Error)
+}
+
+// Whether a route error tells of d, if its route is gone.
+fn is_told<T: Table>(variant: Variant, table: &T, d: usize) -> bool
+    requires { d < T.nodes table.now }
+    ensures { result ≡ tells variant (T.entries table.now) d }
+{
+    is_broadcast(variant) || !is_empty(&precursors(table, d))
+}
+
+// Writes the route error of these destinations. It tells of one or more.
+fn write_error<T: Table>(variant: Variant, table: &T, mesh: &Mesh, dests: &Dests, out: &mut Packet)
     requires nodes { T.nodes table.now ≡ length mesh.now }
     requires below { AreDestsBelow (length mesh.now) dests.now }
-    requires some { no_node (precs_of (T.entries table.now) dests.now) ≡ false }
-    ensures { IsSent mesh.now out.new.items (Rerr (with_precs (T.entries table.now) dests.now)) }
+    requires some { 1 ≤ maps.len (told variant (T.entries table.now) dests.now) }
+    ensures { IsSent mesh.now out.new.items (Rerr (told variant (T.entries table.now) dests.now)) }
 {
     let _rising = mesh.len();
     let mut pairs: ArrayVec<(Addr, u32), MOST_NODES> = ArrayVec::new();
     for k in 0..dests.len() {
         let (d, number) = dests.pair(k);
-        if !is_empty(&precursors(table, d)) {
+        if is_told(variant, table, d) {
             pairs.push((mesh.at(d), number));
         }
     }
     write_rerr(pairs.as_slice(), out);
 }
 
-// The route error of these destinations, to all their precursors.
+// The route error of these destinations: to all nodes in range, or to all their precursors.
 #[tactic(auto, unfolding(aodv_model::specs::Handlers::error_cast))]
-fn error_cast<T: Table>(table: &T, mesh: &Mesh, dests: &Dests, out: &mut Packet) -> Cast
+fn error_cast<T: Table>(
+    variant: Variant,
+    table: &T,
+    mesh: &Mesh,
+    dests: &Dests,
+    out: &mut Packet,
+) -> Cast
     requires nodes { T.nodes table.now ≡ length mesh.now }
     requires below { AreDestsBelow (length mesh.now) dests.now }
-    ensures cast { result ≡ cast_of (the_error_cast Base (T.entries table.now) dests.now) }
-    ensures packet { IsPacket mesh.now out.new.items (the_error_cast Base (T.entries table.now) dests.now) }
+    ensures cast { result ≡ cast_of (the_error_cast variant (T.entries table.now) dests.now) }
+    ensures packet { IsPacket mesh.now out.new.items (the_error_cast variant (T.entries table.now) dests.now) }
 {
+    if is_broadcast(variant) {
+        if dests.is_empty() {
+            out.clear();
+            return Cast::Nothing;
+        }
+        write_error(variant, table, mesh, dests, out);
+        return Cast::All;
+    }
     let to = all_precursors(table, dests);
     if is_empty(&to) {
         out.clear();
         return Cast::Nothing;
     }
-    write_error(table, mesh, dests, out);
+    write_error(variant, table, mesh, dests, out);
     Cast::Many(to)
 }
 
 /// The routes to these destinations are gone: their entries become invalid with the numbers stated,
-/// data that wait for them need a request, and their precursors are told.
+/// data that wait for them need a request, and a route error tells of them.
 #[tactic(auto, unfolding(aodv_model::specs::Handlers::retract))]
 pub(crate) fn retract<T: Table>(
     core: &mut Core<T>,
@@ -103,14 +132,14 @@ pub(crate) fn retract<T: Table>(
     ensures asked { core.new.asked ≡ core.old.asked }
     ensures waiting { core.new.waiting.rooms ≡ core.old.waiting.rooms }
 {
-    let cast = error_cast(&core.table, mesh, dests, out);
+    let cast = error_cast(core.variant, &core.table, mesh, dests, out);
     core.table.invalidate(dests);
     core.waiting.set_req(dests);
     cast
 }
 
 /// The link to `next` is broken: all valid routes by it are gone, each with its number raised, and
-/// their precursors are told. Where a number can't be raised, nothing changes.
+/// a route error tells of them. Where a number can't be raised, nothing changes.
 #[tactic(auto, unfolding(aodv_model::specs::Handlers::link_broken))]
 pub fn link_broken<T: Table>(
     core: &mut Core<T>,

@@ -21,7 +21,7 @@ use mesh_base::{Effect, MOST_NODES, Mesh, Packet};
 
 // No number for any node.
 fn no_numbers() -> [Option<u32>; MOST_NODES]
-    ensures size { length result ≡ 200 }
+    ensures size { length result ≡ MOST_NODES }
     ensures none { (d : ℕ) → get_or result d None ≡ None }
 {
     [None; MOST_NODES]
@@ -40,7 +40,7 @@ fn state_number(numbers: &mut [Option<u32>], d: usize, number: u32)
 // The number that a route error states for each node of the mesh. Where it states two, the first.
 fn stated_numbers(mesh: &Mesh, m: &RerrView<'_>) -> [Option<u32>; MOST_NODES]
     requires { stranger mesh.now (a_rerr m.now) ≡ None }
-    ensures size { length result ≡ 200 }
+    ensures size { length result ≡ MOST_NODES }
     ensures numbers { (d : ℕ) → get_or result d None ≡ maps.get (dests_in mesh.now m.now) d }
 {
     let _few = mesh.len();

@@ -1,27 +1,31 @@
 //! Route replies (AWN's RREP; RFC 3561, section 6.7).
-ghost use Rattle.std.specs.Prelude.{◌≡◌, ◌≢◌, ◌<◌, ◌≤◌, ℕ, ◌==◌, ◌||◌, not, true, false, length, Some, None};
+ghost use Rattle.std.specs.Prelude.{◌≡◌, ◌≢◌, ◌<◌, ◌≤◌, ℕ, Bool, ◌||◌, not, true, false, length, Some, None, IfSome};
 ghost use Rattle.std.specs.FinMap as maps;
 ghost use Rattle.std.specs.FinSet as sets;
-ghost use Rattle.aodv_model.specs.Tables.{in_kD, in_vD, nhop};
+ghost use Rattle.mesh_base.specs.Members.{NodeIds};
+ghost use Rattle.mesh_base.specs.declared.events.Variant.TheVariants as variants;
+ghost use Rattle.aodv_model.specs.Tables.{in_kD, in_vD, nhop, sqn};
 ghost use Rattle.aodv_model.specs.Cores.{Rrep as a_reply, Heard};
-ghost use Rattle.aodv_model.specs.Handlers.{forward_reply as forwarded, turn};
+ghost use Rattle.aodv_model.specs.Handlers.{reply_on, turn};
 ghost use Rattle.aodv_model.specs.Fullness.{turn_full};
 ghost use Rattle.aodv_wire.specs.declared.message.Message.TheVariants.{Rrep as a_rrep};
 ghost use Rattle.aodv_meaning.specs.Meaning.{index, reply_in, stranger};
 ghost use Rattle.aodv_handlers.specs.Shown.{shown, IsReady, reply_of};
 ghost use Rattle.aodv_handlers.specs.Made.{Does, number_full};
+ghost use Rattle.aodv_handlers.specs.Parts.{IsNumberedAs, end_of_rrep, pass_on as passed_on, passing};
 
 use crate::cores::Core;
 use crate::places::place_of;
 use crate::routes::{has_route, join_precursor, neighbour_entry, next_hop, route_entry};
 use crate::unicast::{Reply, casting, send_reply};
+use aodv_entry::Flag;
 use aodv_table::Table;
 use aodv_wire::Rrep;
-use mesh_base::{Cast, Effect, Full, Mesh, NodeSet, Packet};
+use mesh_base::{Cast, Effect, Full, Mesh, NodeSet, Packet, Variant};
 
-// The node passes the reply on towards its originator.
-#[tactic(auto, unfolding(aodv_model::specs::Handlers::forward_reply))]
-fn forward_reply<T: Table>(
+// This reply goes on towards its originator.
+#[tactic(auto, unfolding(crate::specs::Parts::pass_on))]
+fn pass_on<T: Table>(
     core: &mut Core<T>,
     mesh: &Mesh,
     range: &NodeSet,
@@ -32,9 +36,8 @@ fn forward_reply<T: Table>(
     requires dip { m.dip < length mesh.now }
     requires oip { m.oip < length mesh.now }
     requires dsn { 1 ≤ m.dsn }
-    requires hops { m.hops < 255 }
     requires entry { in_kD (T.entries core.old.table) m.dip ≡ true }
-    ensures does { let did = forwarded (shown T.entries core.old) range.now (reply_of m) in
+    ensures does { let did = passed_on (shown T.entries core.old) range.now (reply_of m) in
         Does mesh.now (number_full did) (shown T.entries core.old) did result (shown T.entries core.new) out.new.items }
     ensures ready { IsReady T.nodes T.entries (length mesh.now) core.new }
     ensures rooms { T.rooms core.new.table ≡ T.rooms core.old.table }
@@ -47,13 +50,7 @@ fn forward_reply<T: Table>(
     let kept_onward = core.table.get(onward);
     join_precursor(&mut core.table, m.dip, towards);
     join_precursor(&mut core.table, onward, towards);
-    let reply = Reply {
-        hops: m.hops + 1,
-        dip: m.dip,
-        dsn: m.dsn,
-        oip: m.oip,
-    };
-    match send_reply(core, mesh, range, towards, reply, out) {
+    match send_reply(core, mesh, range, towards, m, out) {
         Ok(effect) => Ok(effect),
         Err(full) => {
             core.table.put(onward, kept_onward);
@@ -63,16 +60,54 @@ fn forward_reply<T: Table>(
     }
 }
 
-// Whether a reply for oip goes no further.
-fn ends_here<T: Table>(core: &Core<T>, changed: bool, oip: usize) -> bool
-    requires { oip < T.nodes core.now.table }
-    ensures { result ≡ (not changed || ((oip == core.now.me) || not (in_vD (T.entries core.now.table) oip))) }
+// What the node's own entry says in place of the reply, where that entry is valid.
+fn own_reply<T: Table>(core: &Core<T>, m: Reply) -> Option<Reply>
+    requires dip { m.dip < T.nodes core.now.table }
+    requires number { 1 ≤ sqn (T.entries core.now.table) m.dip }
+    ensures does { let c = shown T.entries core.now in (stale : Bool) (range : NodeIds) →
+        reply_on variants.Reply c stale range (reply_of m) ≡ passing c range result }
+    ensures same { IfSome result (IsNumberedAs m) }
 {
-    !changed || oip == core.me || !has_route(&core.table, oip)
+    match core.table.get(m.dip) {
+        Some(e) if e.flag == Flag::Val => Some(Reply {
+            hops: e.hops,
+            dip: m.dip,
+            dsn: e.dsn,
+            oip: m.oip,
+        }),
+        _ => None,
+    }
 }
 
-/// A route reply from a neighbour. It ends here where the node asked for it, where it teaches
-/// nothing, and where the node has no route back to who did ask.
+// The reply that goes on where m was heard, if one does, in the core after its updates.
+fn reply_to_pass_on<T: Table>(core: &Core<T>, changed: bool, m: Reply) -> Option<Reply>
+    requires dip { m.dip < T.nodes core.now.table }
+    requires oip { m.oip < T.nodes core.now.table }
+    requires dsn { 1 ≤ m.dsn }
+    requires hops { m.hops < 255 }
+    requires number { 1 ≤ sqn (T.entries core.now.table) m.dip }
+    ensures does { let c = shown T.entries core.now in (range : NodeIds) →
+        end_of_rrep c (not changed) range (reply_of m) ≡ passing c range result }
+    ensures same { IfSome result (IsNumberedAs m) }
+{
+    if m.oip == core.me || !has_route(&core.table, m.oip) {
+        return None;
+    }
+    match core.variant {
+        Variant::Reply => own_reply(core, m),
+        _ if changed => Some(Reply {
+            hops: m.hops + 1,
+            dip: m.dip,
+            dsn: m.dsn,
+            oip: m.oip,
+        }),
+        _ => None,
+    }
+}
+
+/// A route reply from a neighbour. It ends here where the node asked for it, where the node has no
+/// route back to who did ask, and where it teaches nothing. In the variant `Reply` a node with a
+/// valid route to the destination passes on what that says, whatever it was taught.
 pub fn on_rrep<T: Table>(
     core: &mut Core<T>,
     mesh: &Mesh,
@@ -104,17 +139,17 @@ pub fn on_rrep<T: Table>(
     let kept_dip = core.table.get(dip);
     core.table.update(from, neighbour_entry(from));
     let changed = core.table.update(dip, route_entry(m.dsn, m.hops, from));
-    if ends_here(core, changed, oip) {
-        out.clear();
-        return Ok(casting(Cast::Nothing));
-    }
-    let reply = Reply {
+    let heard = Reply {
         hops: m.hops,
         dip,
         dsn: m.dsn,
         oip,
     };
-    match forward_reply(core, mesh, range, reply, out) {
+    let Some(reply) = reply_to_pass_on(core, changed, heard) else {
+        out.clear();
+        return Ok(casting(Cast::Nothing));
+    };
+    match pass_on(core, mesh, range, reply, out) {
         Ok(effect) => Ok(effect),
         Err(full) => {
             core.table.put(dip, kept_dip);

@@ -3,7 +3,8 @@ ghost use Rattle.std.specs.Prelude.{◌≡◌, ◌≢◌, ◌<◌, ◌≤◌, �
 ghost use Rattle.std.specs.FinMap as maps;
 ghost use Rattle.std.specs.FinSet as sets;
 ghost use Rattle.aodv_model.specs.Cores.{Rreq as a_request, Heard};
-ghost use Rattle.aodv_model.specs.Handlers.{reply_for_self as own_reply, reply_from_table as table_reply, forward_request as forwarded, on_new_rreq, can_answer, turn};
+ghost use Rattle.mesh_base.specs.Meshes.{Nodes};
+ghost use Rattle.aodv_model.specs.Handlers.{key_of, reply_for_self as own_reply, reply_from_table as table_reply, forward_request as forwarded, on_new_rreq, can_answer, turn};
 ghost use Rattle.aodv_model.specs.Fullness.{turn_full};
 ghost use Rattle.aodv_wire.specs.declared.message.Message.TheVariants.{Rreq as a_rreq};
 ghost use Rattle.aodv_meaning.specs.Meaning.{index, request_in, stranger};
@@ -17,7 +18,7 @@ use crate::unicast::{Reply, casting, send_reply};
 use aodv_entry::{Entry, Flag, Known};
 use aodv_table::Table;
 use aodv_wire::{Rreq, write_rreq};
-use mesh_base::{Cast, Effect, Full, Mesh, NodeSet, Packet};
+use mesh_base::{Cast, Effect, Full, Mesh, NodeSet, Packet, Variant};
 
 /// A route request, over indices.
 #[derive(Clone, Copy)]
@@ -191,6 +192,16 @@ fn on_new<T: Table>(
     }
 }
 
+// By what a request is known again, beside its originator: its id, or its originator's number.
+fn mark_of(variant: Variant, m: &Rreq) -> u32
+    ensures { (mesh : Nodes) → key_of variant (request_in mesh m.now) ≡ (index mesh m.now.oip, result) }
+{
+    match variant {
+        Variant::Number => m.osn,
+        _ => m.id,
+    }
+}
+
 /// A route request from a neighbour. One that was seen before teaches no more than that the
 /// neighbour is there.
 pub fn on_rreq<T: Table>(
@@ -217,7 +228,8 @@ pub fn on_rreq<T: Table>(
 {
     let dip = place_of(mesh, m.dip);
     let oip = place_of(mesh, m.oip);
-    if core.asked.has(oip, m.id) {
+    let mark = mark_of(core.variant, m);
+    if core.asked.has(oip, mark) {
         core.table.update(from, neighbour_entry(from));
         out.clear();
         return Ok(casting(Cast::Nothing));
@@ -240,7 +252,7 @@ pub fn on_rreq<T: Table>(
     core.table.update(oip, route_entry(m.osn, m.hops, from));
     match on_new(core, mesh, range, from, wanted, out) {
         Ok(effect) => {
-            core.asked.insert(oip, m.id);
+            core.asked.insert(oip, mark);
             Ok(effect)
         }
         Err(full) => {

@@ -13,7 +13,7 @@ use aodv_asked::Asked;
 use aodv_table::{PlainTable, Table};
 use aodv_waiting::Waiting;
 use aodv_wire::{DataView, Message, RerrView, Rrep, Rreq, read};
-use mesh_base::{Addr, Bytes, Cast, Mesh, NoMemory, NodeSet, Packet};
+use mesh_base::{Addr, Bytes, Cast, Mesh, NoMemory, NodeSet, Packet, Variant};
 use std::alloc::Global;
 use std::test::Fail;
 
@@ -29,6 +29,7 @@ fn opening<T: Table>(alloc: Global, table: T, mesh: &Mesh) -> Result<Core<T>, No
     Ok(Core {
         me: 0,
         sn: 1,
+        variant: Variant::Base,
         table,
         asked,
         waiting,

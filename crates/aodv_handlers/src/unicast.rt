@@ -9,7 +9,7 @@ use crate::cores::Core;
 use crate::errors::link_broken;
 use aodv_table::Table;
 use aodv_wire::{Rrep, write_data, write_rrep};
-use mesh_base::{Cast, Effect, Full, Mesh, NodeSet, Packet};
+use mesh_base::{Cast, Effect, Full, LONGEST_DATUM, Mesh, NodeSet, Packet};
 
 /// A route reply, over indices.
 #[derive(Clone, Copy)]
@@ -104,7 +104,7 @@ pub(crate) fn send_datum<T: Table>(
     requires dip { d < length mesh.now }
     requires oip { o < length mesh.now }
     requires some { 1 ≤ length body.now }
-    requires few { length body.now ≤ 512 }
+    requires few { length body.now ≤ LONGEST_DATUM }
     ensures does { let did = unicast (shown T.entries core.old) (a_packet body.now d o) y range.now in
         Does mesh.now (number_full did) (shown T.entries core.old) did result (shown T.entries core.new) out.new.items }
     ensures ready { IsReady T.nodes T.entries (length mesh.now) core.new }

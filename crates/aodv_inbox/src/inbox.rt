@@ -1,5 +1,5 @@
 //! What waits for a node's turns.
-ghost use Rattle.std.specs.Prelude.{◌≡◌, ◌<◌, ◌≤◌, ◌++◌, ◌∷◌, [], ◌+◌, ◌-◌, ◌↔◌, length, drop, slice_get, option_copied, IfOk, IfSome, OnOk, OnErr, IsTrue, Some, None};
+ghost use Rattle.std.specs.Prelude.{◌≡◌, ◌<◌, ◌≤◌, ◌++◌, ◌∷◌, [], ◌+◌, ◌-◌, ◌↔◌, length, drop, slice_get, option_copied, IfOk, IfSome, OnOk, OnErr, IsTrue, Some, None, IsOk};
 ghost use Rattle.std.specs.List.{AllByRecursion};
 ghost use Rattle.aodv_inbox.specs.Queues.{IsItem};
 
@@ -36,11 +36,13 @@ impl Inbox {
         })
     }
 
-    /// Makes room for one more item. A full ring doubles, so that many pushes take time in
-    /// proportion to their number.
+    /// Makes room for one more item. It asks for memory only where there is none. A full ring
+    /// doubles, so that many pushes take time in proportion to their number.
     pub fn make_room(&mut self) -> Result<(), NoMemory>
         ensures items { self.new.items ≡ self.old.items }
         ensures here { OnOk result (0 < self.new.room) }
+        ensures there { 0 < self.old.room → IsOk result }
+        ensures still { 0 < self.old.room → self.new ≡ self.old }
         ensures keeps { self.old.room ≤ self.new.room }
         ensures refused { OnErr result (self.new ≡ self.old) }
     {

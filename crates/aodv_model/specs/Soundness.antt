@@ -4,6 +4,7 @@ use Rattle.std.specs.Prelude.{◌≡◌, ◌≢◌, ℕ, ◌<◌, ◌≤◌, tru
 use Rattle.std.specs.List.{AllByRecursion}
 use Rattle.std.specs.FinMap as maps
 use Rattle.std.specs.FinSet as sets
+use Rattle.mesh_base.specs.declared.limits.TheConstants.{LONGEST_DATUM}
 use Rattle.mesh_base.specs.Members.{NodeIds}
 use Rattle.aodv_entry.specs.declared.entry.Entry.{Entry}
 use Rattle.aodv_entry.specs.declared.entry.Known.TheVariants.{Kno}
@@ -61,7 +62,7 @@ pub record IsSoundCore (size : ℕ) (core : Core) : Type 0 where
 
 -- a datum has 1 to 512 bytes
 abbrev pub IsDatum : Body → Type 0
-IsDatum b = (1 ≤ length b) × (length b ≤ 512)
+IsDatum b = (1 ≤ length b) × (length b ≤ LONGEST_DATUM)
 
 -- what waits for d: d is in the mesh, and there are data
 pub record IsWaitingInMesh (size d : ℕ) (waiting : Waiting) : Type 0 where

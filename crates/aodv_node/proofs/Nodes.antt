@@ -5,7 +5,6 @@ use Rattle.std.specs.FinSet as sets
 use Rattle.mesh_base.specs.Meshes.{Nodes}
 use Rattle.mesh_base.specs.Members.{NodeIds}
 use Rattle.mesh_base.specs.declared.events.Effect as code
-use Rattle.mesh_base.specs.declared.events.Variant.TheVariants.{Base}
 use Rattle.aodv_model.specs.Cores.{opening}
 use Rattle.aodv_table.specs.Calls.{nodes_below}
 use Rattle.aodv_table.specs.declared.rows.RowTable.{RowTable}
@@ -52,23 +51,23 @@ leaves size old new q q' value is view ready f = record { kept = (ready_here siz
 pub turned : (mesh : Nodes) (range : NodeIds) (old new : core.Core RowTable) (q q' : Queue) (r : Result done.TurnDone TurnError) (out : List ℕ) (value : NodeSeen)
     → length mesh ≡ value.size → seen_node old q ≡ value → Kept old q → Ready (length mesh) new → IsTurn mesh range (seen_node old q) r (seen_node new q') out → Leaves old new q'
 turned mesh range old new q q' r out value size view kept ready did =
-    leaves (length mesh) old new q q' value size view ready (turn_keeps mesh range (seen_node old q) r (seen_node new q') out (size ∙ ap (λ (n : NodeSeen). n.size) (sym view)) kept.1 refl did)
+    leaves (length mesh) old new q q' value size view ready (turn_keeps mesh range (seen_node old q) r (seen_node new q') out (size ∙ ap (λ (n : NodeSeen). n.size) (sym view)) kept.1 did)
 
 pub sent : (mesh : Nodes) (range : NodeIds) (d : ℕ) (old new : core.Core RowTable) (q : Queue) (r : Result code.Effect SendError) (out : List ℕ) (value : NodeSeen)
     → length mesh ≡ value.size → seen_node old q ≡ value → Kept old q → Ready (length mesh) new → IsSend mesh range (seen_node old q).core d r (seen_node new q).core out → Leaves old new q
 sent mesh range d old new q r out value size view kept ready did =
-    leaves (length mesh) old new q q value size view ready (send_keeps mesh range (seen_node old q) d r (seen_node new q) out kept.1 refl (same_size (length mesh) old new q value size view ready) refl did)
+    leaves (length mesh) old new q q value size view ready (send_keeps mesh range (seen_node old q) d r (seen_node new q) out kept.1 (same_size (length mesh) old new q value size view ready) refl did)
 
 pub asked_for : (mesh : Nodes) (d : ℕ) (old new : core.Core RowTable) (q : Queue) (r : Result code.Effect AskError) (out : List ℕ) (value : NodeSeen)
     → length mesh ≡ value.size → seen_node old q ≡ value → Kept old q → Ready (length mesh) new → IsAsk mesh (seen_node old q).core d r (seen_node new q).core out → Leaves old new q
 asked_for mesh d old new q r out value size view kept ready did =
-    leaves (length mesh) old new q q value size view ready (ask_keeps mesh (seen_node old q) d r (seen_node new q) out kept.1 refl (same_size (length mesh) old new q value size view ready) refl did)
+    leaves (length mesh) old new q q value size view ready (ask_keeps mesh (seen_node old q) d r (seen_node new q) out kept.1 (same_size (length mesh) old new q value size view ready) refl did)
 
 pub opens : (c : core.Core RowTable) (inbox : Queue) (size : ℕ) → c.me < size → 1 ≤ c.sn → c.table ≡ record { entries = maps.empty; rooms = nodes_below size; nodes = size }
     → (c.asked).pairs ≡ sets.empty → length (c.asked).rooms ≡ size → (c.waiting).store ≡ maps.empty → length (c.waiting).rooms ≡ size → inbox.items ≡ [] → Kept c inbox
 opens c inbox size below positive table pairs asked store waiting none =
     let nodes : (c.table).nodes ≡ size = ap (λ t. t.nodes) table in
     let mine : c.me < (c.table).nodes = subst (λ (n : ℕ). c.me < n) (sym nodes) below in
-    let open_core : (seen_node c inbox).core ≡ opening Base c.me c.sn = λ i. record { ip = c.me; variant = Base; sn = c.sn; rt = (table i).entries; seen = pairs i; store = store i } in
-    let sound = opened (seen_node c inbox) c.me c.sn mine positive open_core none in
+    let open_core : (seen_node c inbox).core ≡ opening c.variant c.me c.sn = λ i. record { ip = c.me; variant = c.variant; sn = c.sn; rt = (table i).entries; seen = pairs i; store = store i } in
+    let sound = opened (seen_node c inbox) c.variant c.me c.sn mine positive open_core none in
     (record { table = refl; asked = asked ∙ sym nodes; waiting = waiting ∙ sym nodes; mine = mine; sound = sound.sound }, sound)

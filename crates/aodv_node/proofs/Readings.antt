@@ -17,7 +17,7 @@ use Rattle.aodv_handlers.specs.Made.{IsMade, IsRefused}
 use Rattle.aodv_node.specs.declared.answers.TurnError.{TurnError}
 use Rattle.aodv_node.specs.declared.answers.TurnError.TheVariants as errors
 use Rattle.aodv_meaning.specs.Effects.{kind_of}
-use Rattle.aodv_node.specs.Turned.{IsReadable}
+use Rattle.aodv_node.specs.Turned.{IsReadable, needs_memory}
 use Rattle.aodv_node.specs.Heard.{IsHeard, Tries, kinded}
 
 means : (mesh : Nodes) (bytes : List ℕ) (m : wire.Message) → Spells bytes m → meaning mesh bytes ≡ in_mesh mesh m
@@ -45,7 +45,7 @@ at_message mesh c range from bytes m k (Err (errors.Refused f why)) new out ok i
 at_message mesh c range from bytes m k (Err (errors.Stranger f who)) new out ok is kind did = absurd did
 at_message mesh c range from bytes m k (Err (errors.Full f)) new out ok is kind did =
     (ok, subst (λ (m : Message). IsRefused (turn_full c range (Heard from m)) c f new) is did)
-at_message mesh c range from bytes m k (Err errors.NoMemory) new out ok is kind did = did
+at_message mesh c range from bytes m k (Err errors.NoMemory) new out ok is kind did = (ok, ap (λ (m : Message). needs_memory c (Heard from m)) (sym is) ∙ did.0, did.1)
 
 pub strange : (mesh : Nodes) (bytes : List ℕ) (m : wire.Message) (o : Option Addr) (who : Addr) → Spells bytes m → o ≡ stranger mesh m → o ≡ Some who → stranger mesh (said bytes) ≡ Some who
 strange mesh bytes m o who s is some = ap (stranger mesh) s.stands ∙ sym is ∙ some

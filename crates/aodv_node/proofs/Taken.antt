@@ -1,9 +1,12 @@
 -- What was taken.
-use Rattle.std.proofs.Common.{◌≡◌, ◌==◌, ℕ, Bool, true, false, List, [], Option, Some, None, Err, sym, ap, subst}
+use Rattle.std.proofs.Common.{◌≡◌, ◌≢◌, ◌==◌, ℕ, Bool, true, false, List, [], ◌∷◌, Option, Some, None, Result, Ok, Err, refl, sym, ap, subst}
+use Rattle.std.proofs.lemmas.Bool.{ne_eqb}
 use Rattle.std.specs.Prelude.{if◌then◌else◌}
+use Rattle.std.specs.Result.{IsErr, IsErrAnd}
 use Rattle.mesh_base.specs.Meshes.{Nodes}
 use Rattle.mesh_base.specs.Members.{NodeIds}
 use Rattle.mesh_base.specs.declared.events.Full.{Full}
+use Rattle.mesh_base.specs.declared.events.Item as items
 use Rattle.mesh_base.specs.declared.events.Item.TheVariants as item
 use Rattle.aodv_model.specs.Tables.{Table}
 use Rattle.aodv_model.specs.Cores.{Body, Core, New, Heard, add}
@@ -19,8 +22,8 @@ use Rattle.aodv_inbox.specs.Queues.{Queue}
 use Rattle.aodv_node.specs.declared.answers.TurnError.{TurnError}
 use Rattle.aodv_node.specs.declared.answers.TurnError.TheVariants as errors
 use Rattle.aodv_node.specs.declared.answers.TurnDone as done
-use Rattle.aodv_node.specs.Seen.{seen}
-use Rattle.aodv_node.specs.Turned.{IsReadable, taken_of}
+use Rattle.aodv_node.specs.Seen.{NodeSeen, seen}
+use Rattle.aodv_node.specs.Turned.{IsReadable, IsTurn, needs_memory, taken_of}
 use Rattle.aodv_node.specs.Heard.{IsHeard, done_with}
 
 took_by : (b : Bool) (dest : ℕ) (body : Body) (own : Option Body) → own ≡ (if b then Some body else None) → (done_with own dest).took ≡ taken_of (item.New dest body) (if b then Own body else Stored dest)
@@ -62,6 +65,24 @@ datum_taken mesh range k old dest body own d new out same e is core free empty =
 pub stopped : (mesh : Nodes) (c : Core) (range : NodeIds) (from : ℕ) (bytes : List ℕ) (w : TurnError) (field : Full) (new : Core) (out : List ℕ)
     → w ≡ errors.Full field → IsHeard mesh c range from bytes (Err w) new out → IsReadable mesh bytes × IsRefused (turn_full c range (Heard from (meaning mesh bytes))) c field new
 stopped mesh c range from bytes w field new out is heard = subst (λ (x : TurnError). IsHeard mesh c range from bytes (Err x) new out) is heard
+
+pub stopped_short : (mesh : Nodes) (c : Core) (range : NodeIds) (from : ℕ) (bytes : List ℕ) (w : TurnError) (new : Core) (out : List ℕ)
+    → w ≡ errors.NoMemory → IsHeard mesh c range from bytes (Err w) new out → IsReadable mesh bytes × (needs_memory c (Heard from (meaning mesh bytes)) ≡ true) × (new ≡ c)
+stopped_short mesh c range from bytes w new out is heard = subst (λ (x : TurnError). IsHeard mesh c range from bytes (Err x) new out) is heard
+
+pub no_memory : (r : Result done.TurnDone TurnError) → IsErr r × IsErrAnd r (λ e. e ≡ errors.NoMemory) → r ≡ Err errors.NoMemory
+no_memory (Ok d) h = absurd (not_error h.0)
+  where
+    not_error : false ≡ true → ⊥
+    not_error e = cc
+no_memory (Err e) h = ap Err h.1
+
+-- no memory for a datum that is for another node
+pub short_of : (mesh : Nodes) (range : NodeIds) (old new : NodeSeen) (dest : ℕ) (body : Body) (rest : List items.Item) (r : Result done.TurnDone TurnError) (out : List ℕ)
+    → r ≡ Err errors.NoMemory → old.items ≡ item.New dest body ∷ rest → dest ≢ (old.core).ip → new ≡ old → IsTurn mesh range old r new out
+short_of mesh range old new dest body rest r out is was other same =
+    subst (λ (x : Result done.TurnDone TurnError). IsTurn mesh range old x new out) (sym is)
+    (record { front = item.New dest body; rest = rest; was = was; readable = tt; needs = rw (ne_eqb dest (old.core).ip other) refl }, same)
 
 pub seen_same : {T : Type 0} (nodes : T → ℕ) (entries : T → Table) (new old : core.Core T) (inbox : Queue) → shown entries new ≡ shown entries old → nodes new.table ≡ nodes old.table → seen nodes entries new inbox ≡ seen nodes entries old inbox
 seen_same nodes entries new old inbox same size = λ i. record { core = same i; items = inbox.items; room = inbox.room; size = size i }

@@ -16,7 +16,7 @@ use Rattle.aodv_node.specs.declared.answers.TurnError.{TurnError}
 use Rattle.aodv_node.specs.declared.answers.TurnError.TheVariants as errors
 use Rattle.aodv_node.specs.declared.answers.TurnDone as done
 use Rattle.aodv_meaning.specs.Effects.{kind_of}
-use Rattle.aodv_node.specs.Turned.{IsReadable}
+use Rattle.aodv_node.specs.Turned.{IsReadable, needs_memory}
 
 -- a turn on a message, which may find no memory
 abbrev pub Tries : Nodes → Core → NodeIds → Item → Result code.Effect TurnError → Core → List ℕ → Type 0
@@ -25,7 +25,7 @@ Tries mesh c range i (Err errors.Idle) new out = ⊥
 Tries mesh c range i (Err (errors.Refused f why)) new out = ⊥
 Tries mesh c range i (Err (errors.Stranger f who)) new out = ⊥
 Tries mesh c range i (Err (errors.Full field)) new out = IsRefused (turn_full c range i) c field new
-Tries mesh c range i (Err errors.NoMemory) new out = new ≡ c
+Tries mesh c range i (Err errors.NoMemory) new out = (needs_memory c i ≡ true) × (new ≡ c)
 
 -- a turn on bytes heard from a node
 abbrev pub IsHeard : Nodes → Core → NodeIds → ℕ → List ℕ → Result (Kind × code.Effect) TurnError → Core → List ℕ → Type 0
@@ -36,7 +36,7 @@ IsHeard mesh c range from bytes (Err errors.Idle) new out = ⊥
 IsHeard mesh c range from bytes (Err (errors.Refused f why)) new out = (f ≡ from) × (refusal bytes ≡ Some why) × (new ≡ c)
 IsHeard mesh c range from bytes (Err (errors.Stranger f who)) new out = (f ≡ from) × (refusal bytes ≡ None) × (stranger mesh (said bytes) ≡ Some who) × (new ≡ c)
 IsHeard mesh c range from bytes (Err (errors.Full field)) new out = IsReadable mesh bytes × IsRefused (turn_full c range (Heard from (meaning mesh bytes))) c field new
-IsHeard mesh c range from bytes (Err errors.NoMemory) new out = new ≡ c
+IsHeard mesh c range from bytes (Err errors.NoMemory) new out = IsReadable mesh bytes × (needs_memory c (Heard from (meaning mesh bytes)) ≡ true) × (new ≡ c)
 
 -- the same answer, with the kind of the packet
 abbrev pub kinded : Kind → Result code.Effect TurnError → Result (Kind × code.Effect) TurnError

@@ -5,7 +5,6 @@ use Rattle.std.specs.Coded.{Coded, code_by, coded×, coded⊎, coded_ℕ, coded_
 use Rattle.std.specs.List.{AllByRecursion}
 use Rattle.mesh_base.specs.declared.events.Item.{Item}
 use Rattle.mesh_base.specs.declared.events.Item.TheVariants.{New, Heard}
-use Rattle.mesh_base.specs.declared.events.Variant.TheVariants.{Base}
 use Rattle.aodv_model.specs.Tables.{Table}
 use Rattle.aodv_model.specs.Cores.{Core}
 use Rattle.aodv_model.specs.Codes.{core_code}
@@ -32,11 +31,9 @@ abbrev pub IsItemAt : ℕ → ℕ → Item → Type 0
 IsItemAt size me (New dest body) = (dest < size) × IsDatum body
 IsItemAt size me (Heard from bytes) = (from < size) × (from ≢ me)
 
--- what every node keeps: it is in its mesh and runs the protocol as AWN has it, its state is in order, and so are the
--- data that wait and the items of its inbox
+-- what every node keeps: it is in its mesh, its state is in order, and so are the data that wait and the items of its inbox
 pub record IsSoundNode (node : NodeSeen) : Type 0 where
   pub mine : (node.core).ip < node.size
-  pub base : (node.core).variant ≡ Base
   pub sound : IsSoundCore node.size node.core
   pub store : IsStoreInMesh node.size (node.core).store
   pub each : AllByRecursion (IsItemAt node.size (node.core).ip) node.items

@@ -1,5 +1,6 @@
 -- What a turn answers, and what is then seen of the node.
-use Rattle.std.specs.Prelude.{◌≡◌, ◌≤◌, ℕ, Some, None, Result, Ok, Err, List, [], ◌∷◌, ⊤}
+use Rattle.std.specs.Prelude.{◌≡◌, ◌<◌, ◌≤◌, ◌==◌, ℕ, Bool, true, false, not, Some, None, Result, Ok, Err, List, [], ◌∷◌, ⊤}
+use Rattle.std.specs.FinSet as sets
 use Rattle.mesh_base.specs.Meshes.{Nodes}
 use Rattle.mesh_base.specs.Members.{NodeIds}
 use Rattle.mesh_base.specs.declared.events.Full.{Full}
@@ -7,6 +8,7 @@ use Rattle.mesh_base.specs.declared.events.Item as items
 use Rattle.mesh_base.specs.declared.events.Item.TheVariants as item
 use Rattle.mesh_base.specs.declared.events.Took as taken
 use Rattle.mesh_base.specs.declared.events.Took.TheVariants as takes
+use Rattle.aodv_model.specs.Cores.{Core, Item, New, Heard, Pkt, Rreq, Rrep, Rerr}
 use Rattle.aodv_model.specs.Handlers.{turn, Took, Own, Stored, FromNeighbour, took}
 use Rattle.aodv_model.specs.Fullness.{turn_full}
 use Rattle.aodv_wire.specs.Spells.{refusal, said}
@@ -29,6 +31,10 @@ pub record IsReadable (mesh : Nodes) (bytes : List ℕ) : Type 0 where
 abbrev pub IsReadableItem : Nodes → items.Item → Type 0
 IsReadableItem mesh (item.New dest body) = ⊤
 IsReadableItem mesh (item.Heard from bytes) = IsReadable mesh bytes
+
+-- a table has room for an entry of each node
+abbrev pub HasAllRooms : {T : Type 0} → (T → ℕ) → (T → NodeIds) → T → Type 0
+HasAllRooms nodes rooms t = (d : ℕ) → d < nodes t → sets.contains (rooms t) d ≡ true
 
 -- ---- what is taken
 
@@ -70,6 +76,22 @@ pub record IsStopped (mesh : Nodes) (range : NodeIds) (old : NodeSeen) (field : 
   pub readable : IsReadableItem mesh front
   pub full : turn_full old.core range (item_in mesh front) ≡ Some field
 
+-- a turn on the item may need memory: a datum for another node waits, and a request is kept among those seen
+abbrev pub needs_memory : Core → Item → Bool
+needs_memory core (New b d) = not (d == core.ip)
+needs_memory core (Heard from (Pkt b d o)) = false
+needs_memory core (Heard from (Rreq m)) = true
+needs_memory core (Heard from (Rrep m)) = false
+needs_memory core (Heard from (Rerr dests)) = false
+
+-- the turn on the front item needs memory
+pub record IsShort (mesh : Nodes) (old : NodeSeen) : Type 0 where
+  pub front : items.Item
+  pub rest : List items.Item
+  pub was : old.items ≡ front ∷ rest
+  pub readable : IsReadableItem mesh front
+  pub needs : needs_memory old.core (item_in mesh front) ≡ true
+
 -- a turn of the node `old`, with the nodes of `range` in range: its answer, the node after it, and the packet that is cast
 abbrev pub IsTurn : Nodes → NodeIds → NodeSeen → Result done.TurnDone TurnError → NodeSeen → List ℕ → Type 0
 IsTurn mesh range old (Ok d) new out = IsTaken mesh range old d new out
@@ -77,4 +99,4 @@ IsTurn mesh range old (Err errors.Idle) new out = (old.items ≡ []) × (new ≡
 IsTurn mesh range old (Err (errors.Refused from why)) new out = (bytes : List ℕ) × (refusal bytes ≡ Some why) × IsDropped old from bytes new
 IsTurn mesh range old (Err (errors.Stranger from who)) new out = (bytes : List ℕ) × (refusal bytes ≡ None) × (stranger mesh (said bytes) ≡ Some who) × IsDropped old from bytes new
 IsTurn mesh range old (Err (errors.Full field)) new out = IsStopped mesh range old field × (new ≡ old)
-IsTurn mesh range old (Err errors.NoMemory) new out = new ≡ old
+IsTurn mesh range old (Err errors.NoMemory) new out = IsShort mesh old × (new ≡ old)

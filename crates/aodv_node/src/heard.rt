@@ -7,6 +7,7 @@ ghost use Rattle.aodv_wire.specs.declared.message.Message.TheVariants as message
 ghost use Rattle.aodv_meaning.specs.Meaning.{stranger, strange_pair, unless_in, in_mesh, index};
 ghost use Rattle.aodv_handlers.specs.Shown.{shown, IsReady};
 ghost use Rattle.aodv_node.specs.Heard.{IsHeard, Tries, kinded};
+ghost use Rattle.aodv_node.specs.Turned.{HasAllRooms};
 
 use crate::answers::TurnError;
 use crate::rooms::{make_request, make_row};
@@ -62,6 +63,7 @@ pub(crate) fn hear<T: Table>(
     requires ready { IsReady T.nodes T.entries (length mesh.now) core.old }
     requires from { from < length mesh.now }
     requires other { from ≢ core.old.me }
+    requires rows { HasAllRooms T.nodes T.rooms core.old.table }
     ensures does { IsHeard mesh.now (shown T.entries core.old) range.now from bytes.now result (shown T.entries core.new) out.new.items }
     ensures ready { IsReady T.nodes T.entries (length mesh.now) core.new }
 {
@@ -135,6 +137,7 @@ fn hear_rrep<T: Table>(
     requires says { IsMessageInMesh (length mesh.now) (in_mesh mesh.now (messages.Rrep m.now)) }
     requires from { from < length mesh.now }
     requires other { from ≢ core.old.me }
+    requires rows { HasAllRooms T.nodes T.rooms core.old.table }
     ensures does { Tries mesh.now (shown T.entries core.old) range.now (Heard from (in_mesh mesh.now (messages.Rrep m.now))) result (shown T.entries core.new) out.new.items }
     ensures ready { IsReady T.nodes T.entries (length mesh.now) core.new }
 {
@@ -159,6 +162,7 @@ fn hear_rerr<T: Table>(
     requires known { stranger mesh.now (messages.Rerr m.now) ≡ None }
     requires from { from < length mesh.now }
     requires other { from ≢ core.old.me }
+    requires rows { HasAllRooms T.nodes T.rooms core.old.table }
     ensures does { Tries mesh.now (shown T.entries core.old) range.now (Heard from (in_mesh mesh.now (messages.Rerr m.now))) result (shown T.entries core.new) out.new.items }
     ensures ready { IsReady T.nodes T.entries (length mesh.now) core.new }
 {

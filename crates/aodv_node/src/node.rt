@@ -1,5 +1,5 @@
 //! A router.
-ghost use Rattle.std.specs.Prelude.{◌≡◌, ◌≢◌, ◌<◌, ◌≤◌, ℕ, ◌++◌, ◌∷◌, [], ◌-◌, length, IfOk, OnOk, OnErr, Some, None};
+ghost use Rattle.std.specs.Prelude.{◌≡◌, ◌≢◌, ◌<◌, ◌≤◌, ℕ, ◌++◌, ◌∷◌, [], ◌-◌, length, IfOk, IsOk, OnOk, OnErr, Some, None};
 ghost use Rattle.std.specs.FinMap as maps;
 ghost use Rattle.std.specs.FinSet as sets;
 ghost use Rattle.mesh_base.specs.Meshes.{first_at};
@@ -21,7 +21,7 @@ use aodv_handlers::Core;
 use aodv_inbox::Inbox;
 use aodv_table::{RowTable, Table};
 use aodv_waiting::Waiting;
-use mesh_base::{Bytes, Effect, Item, Mesh, NoMemory, NodeSet, Packet};
+use mesh_base::{Bytes, Effect, Item, Mesh, NoMemory, NodeSet, Packet, Variant};
 use std::alloc::Global;
 use std::marker::Model;
 
@@ -46,11 +46,21 @@ impl Model for Node {
 }
 
 impl Node {
-    /// Node `me` of the mesh, in its opening state: it has no routes, its own number is the mesh's
-    /// first for it, and nothing waits.
+    /// Node `me` of the mesh, in its opening state, as AWN has the protocol.
     pub fn new(alloc: Global, mesh: &Mesh, me: usize) -> Result<Node, NoMemory>
         requires { me < length mesh.now }
         ensures core { IfOk result (λ node. node.core ≡ opening Base me (first_at mesh.now me)) }
+        ensures items { IfOk result (λ node. node.items ≡ []) }
+        ensures size { IfOk result (λ node. node.size ≡ length mesh.now) }
+    {
+        Node::with(alloc, mesh, me, Variant::Base)
+    }
+
+    /// Node `me` of the mesh, in its opening state, with this variant of the protocol: it has no
+    /// routes, its own number is the mesh's first for it, and nothing waits.
+    pub fn with(alloc: Global, mesh: &Mesh, me: usize, variant: Variant) -> Result<Node, NoMemory>
+        requires { me < length mesh.now }
+        ensures core { IfOk result (λ n. n.core ≡ opening variant me (first_at mesh.now me)) }
         ensures items { IfOk result (λ node. node.items ≡ []) }
         ensures size { IfOk result (λ node. node.size ≡ length mesh.now) }
     {
@@ -58,6 +68,7 @@ impl Node {
         let core = Core {
             me,
             sn: mesh.first(me),
+            variant,
             table: RowTable::new(alloc, nodes)?,
             asked: Asked::new(alloc, nodes)?,
             waiting: Waiting::new(alloc, nodes)?,
@@ -68,12 +79,14 @@ impl Node {
         })
     }
 
-    /// Makes room for one more item in the inbox.
+    /// Makes room for one more item in the inbox. It asks for memory only where there is none.
     pub fn make_room(&mut self) -> Result<(), NoMemory>
         ensures core { self.new.core ≡ self.old.core }
         ensures items { self.new.items ≡ self.old.items }
         ensures size { self.new.size ≡ self.old.size }
         ensures here { OnOk result (0 < self.new.room) }
+        ensures there { 0 < self.old.room → IsOk result }
+        ensures still { 0 < self.old.room → self.new ≡ self.old }
         ensures keeps { self.old.room ≤ self.new.room }
         ensures refused { OnErr result (self.new ≡ self.old) }
     {
@@ -102,7 +115,8 @@ impl Node {
 
     /// Takes the front item of the inbox and does what AODV does with it; `range` has the nodes that
     /// are in range. The packet that is cast is left in `out`. A refusal is the first that applies of
-    /// Idle, Refused, Stranger and Full, unless memory is short.
+    /// Idle, Refused, Stranger and Full. Memory can be short only where the item needs some: a datum
+    /// for another node, or a route request.
     pub fn turn(
         &mut self,
         mesh: &Mesh,
@@ -114,6 +128,8 @@ impl Node {
         ensures me { self.new.core.ip ≡ self.old.core.ip }
         ensures size { self.new.size ≡ self.old.size }
     {
+        // It says that the table has a row for every node.
+        let _nodes = self.core.table.nodes();
         take_turn(&mut self.core, &mut self.inbox, mesh, range, out)
     }
 

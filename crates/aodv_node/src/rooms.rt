@@ -1,5 +1,5 @@
 //! Room in a core, made before anything in it changes.
-ghost use Rattle.std.specs.Prelude.{◌≡◌, ◌≢◌, ◌<◌, ℕ, true, length, slice_index, OnOk};
+ghost use Rattle.std.specs.Prelude.{◌≡◌, ◌≢◌, ◌<◌, ℕ, true, length, slice_index, IsOk, OnOk, OnErr};
 ghost use Rattle.std.specs.FinSet as sets;
 ghost use Rattle.aodv_handlers.specs.Shown.{shown, IsReady};
 
@@ -12,6 +12,7 @@ pub(crate) fn make_row<T: Table>(core: &mut Core<T>, d: usize) -> Result<(), NoM
     requires ready { IsReady T.nodes T.entries (T.nodes core.old.table) core.old }
     requires below { d < T.nodes core.old.table }
     ensures here { OnOk result (sets.contains (T.rooms core.new.table) d ≡ true) }
+    ensures there { sets.contains (T.rooms core.old.table) d ≡ true → IsOk result }
     ensures keeps { (q : ℕ) → sets.contains (T.rooms core.old.table) q ≡ true → sets.contains (T.rooms core.new.table) q ≡ true }
     ensures shown { shown T.entries core.new ≡ shown T.entries core.old }
     ensures nodes { T.nodes core.new.table ≡ T.nodes core.old.table }
@@ -25,6 +26,7 @@ pub(crate) fn make_store<T: Table>(core: &mut Core<T>, d: usize) -> Result<(), N
     requires ready { IsReady T.nodes T.entries (T.nodes core.old.table) core.old }
     requires below { d < T.nodes core.old.table }
     ensures here { OnOk result (d ≢ core.new.me → 0 < slice_index core.new.waiting.rooms d) }
+    ensures short { OnErr result (d ≢ core.old.me) }
     ensures shown { shown T.entries core.new ≡ shown T.entries core.old }
     ensures nodes { T.nodes core.new.table ≡ T.nodes core.old.table }
     ensures ready { IsReady T.nodes T.entries (T.nodes core.old.table) core.new }

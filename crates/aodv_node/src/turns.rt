@@ -3,7 +3,7 @@ ghost use Rattle.std.specs.Prelude.{◌≡◌, length};
 ghost use Rattle.std.specs.List.{AllByRecursion};
 ghost use Rattle.aodv_handlers.specs.Shown.{IsReady};
 ghost use Rattle.aodv_node.specs.Seen.{seen, IsItemAt};
-ghost use Rattle.aodv_node.specs.Turned.{IsTurn};
+ghost use Rattle.aodv_node.specs.Turned.{HasAllRooms, IsTurn};
 ghost use Rattle.aodv_node.specs.Heard.{done_with as so_done};
 
 use crate::answers::{TurnDone, TurnError};
@@ -46,6 +46,7 @@ pub(crate) fn take_turn<T: Table>(
 ) -> Result<TurnDone, TurnError>
     requires ready { IsReady T.nodes T.entries (length mesh.now) core.old }
     requires each { AllByRecursion (IsItemAt (length mesh.now) core.old.me) inbox.old.items }
+    requires rows { HasAllRooms T.nodes T.rooms core.old.table }
     ensures turn { IsTurn mesh.now range.now (seen T.nodes T.entries core.old inbox.old) result (seen T.nodes T.entries core.new inbox.new) out.new.items }
     ensures ready { IsReady T.nodes T.entries (length mesh.now) core.new }
 {

@@ -123,6 +123,13 @@ already s d is = same_nodes s (sets.insert s d) (λ q.
 pub had_room : (rows : Rows) (d : ℕ) (b : Bool) → b ≡ is_some (row_of rows d) → b ≡ true → rooms_in rows ≡ sets.insert (rooms_in rows) d
 had_room rows d b is held = already (rooms_in rows) d (contains-rooms_in rows d ∙ sym is ∙ held)
 
+-- where there is no row there is no room
+pub lacks_room : (rows : Rows) (d : ℕ) (b : Bool) → b ≡ is_some (row_of rows d) → b ≡ false → sets.contains (rooms_in rows) d ≡ true → ⊥
+lacks_room rows d b is none there = different (sym there ∙ contains-rooms_in rows d ∙ sym is ∙ none)
+  where
+    different : true ≡ false → ⊥
+    different e = cc
+
 nothing_put : (rt : Table) (d : ℕ) → maps.get rt d ≡ None → with_entry rt d None ≡ rt
 nothing_put rt d none = same_table (with_entry rt d None) rt (λ q.
     get-with_entry rt d None q

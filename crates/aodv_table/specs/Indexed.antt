@@ -1,6 +1,7 @@
 -- A table kept as a row for every node, in the order of the nodes: a row holds the entry of its node, or none.
 use Rattle.std.specs.Prelude.{◌≡◌, ◌≤◌, ℕ, ◌+◌, List, [], ◌∷◌, length, Option}
 use Rattle.std.specs.FinMap as maps
+use Rattle.mesh_base.specs.declared.limits.TheConstants.{MOST_NODES}
 use Rattle.mesh_base.specs.Members.{NodeIds}
 use Rattle.aodv_entry.specs.declared.entry.Entry.{Entry}
 use Rattle.aodv_model.specs.Tables.{Table}
@@ -14,6 +15,6 @@ entries_from d (row ∷ rows) = with_entry (entries_from (d + 1) rows) d row
 -- what such a table keeps: a number of nodes that a mesh may have, a row for each of them, and the set of the valid
 -- destinations
 pub record AreIndexed (nodes : ℕ) (rows : List (Option Entry)) (valid : NodeIds) : Type 0 where
-  pub few : nodes ≤ 200
+  pub few : nodes ≤ MOST_NODES
   pub each : length rows ≡ nodes
   pub valid_are : valid ≡ valid_dests (entries_from 0 rows)

@@ -2,6 +2,7 @@
 use Rattle.std.specs.Prelude.{◌≡◌, ◌≤◌, ℕ, List, [], ◌∷◌, map, Option}
 use Rattle.std.specs.FinMap as maps
 use Rattle.std.specs.FinSet as sets
+use Rattle.mesh_base.specs.declared.limits.TheConstants.{MOST_NODES}
 use Rattle.mesh_base.specs.Members.{NodeIds}
 use Rattle.aodv_entry.specs.declared.entry.Entry.{Entry}
 use Rattle.aodv_model.specs.Tables.{Table}
@@ -19,6 +20,6 @@ rooms_in rows = sets.from_list (map (λ row. row.0) rows)
 -- what a table of rows keeps: a number of nodes that a mesh may have, no entry of any other destination, and the
 -- set of the valid destinations
 pub record AreRows (nodes : ℕ) (rows : List (ℕ × Option Entry)) (valid : NodeIds) : Type 0 where
-  pub few : nodes ≤ 200
+  pub few : nodes ≤ MOST_NODES
   pub below : IsBelow nodes (entries_in rows)
   pub valid_are : valid ≡ valid_dests (entries_in rows)

@@ -1,5 +1,5 @@
 //! A table over an ordered map.
-ghost use Rattle.std.specs.Prelude.{◌≡◌, ◌≤◌, true, IsSome, OnOk, OnErr};
+ghost use Rattle.std.specs.Prelude.{◌≡◌, ◌≤◌, true, IsSome, OnOk, OnErr, IsOk};
 ghost use Rattle.std.specs.FinMap as maps;
 ghost use Rattle.std.specs.FinSet as sets;
 ghost use Rattle.aodv_table.specs.Calls.{with_entry};
@@ -8,7 +8,7 @@ ghost use Rattle.aodv_table.specs.Rows.{entries_in, rooms_in};
 use crate::merge::mark;
 use crate::table::Table;
 use aodv_entry::Entry;
-use mesh_base::{NoMemory, NodeSet};
+use mesh_base::{MOST_NODES, NoMemory, NodeSet};
 use std::alloc::Global;
 use std::collections::BTreeMap;
 use std::marker::Model;
@@ -62,6 +62,8 @@ fn write_row(rows: &mut BTreeMap<usize, Option<Entry>>, d: usize, row: Option<En
 fn add_row(rows: &mut BTreeMap<usize, Option<Entry>>, d: usize) -> Result<(), NoMemory>
     ensures entries { entries_in rows.new.entries ≡ entries_in rows.old.entries }
     ensures rooms { OnOk result (rooms_in rows.new.entries ≡ sets.insert (rooms_in rows.old.entries) d) }
+    ensures there { sets.contains (rooms_in rows.old.entries) d ≡ true → IsOk result }
+    ensures still { sets.contains (rooms_in rows.old.entries) d ≡ true → rooms_in rows.new.entries ≡ rooms_in rows.old.entries }
     ensures refused { OnErr result (rooms_in rows.new.entries ≡ rooms_in rows.old.entries) }
 {
     if rows.contains_key(&d) {
@@ -75,7 +77,7 @@ impl PlainTable {
     /// A table of no entries and no room, for a mesh of so many nodes. It takes no memory, but keeps the
     /// allocator from which room is made.
     pub fn new(alloc: Global, nodes: usize) -> PlainTable
-        requires { nodes ≤ 200 }
+        requires { nodes ≤ MOST_NODES }
         ensures { result ≡ record { entries = maps.empty; rooms = sets.empty; nodes = nodes } }
     {
         PlainTable {

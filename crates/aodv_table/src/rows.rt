@@ -2,12 +2,12 @@
 ghost use Rattle.std.specs.Prelude.{◌≡◌, ◌<◌, ◌≤◌, ℕ, true, length, slice_set, IsOk, IsSome, IfOk, OnOk, OnErr, None};
 ghost use Rattle.std.specs.FinMap as maps;
 ghost use Rattle.std.specs.FinSet as sets;
-ghost use Rattle.aodv_table.specs.Calls.{with_entry, nodes_below};
+ghost use Rattle.aodv_table.specs.Calls.{IsBelow, with_entry, nodes_below};
 
 use crate::merge::mark;
 use crate::table::Table;
 use aodv_entry::Entry;
-use mesh_base::{NoMemory, NodeSet};
+use mesh_base::{MOST_NODES, NoMemory, NodeSet};
 use std::alloc::Global;
 use std::marker::Model;
 
@@ -37,7 +37,7 @@ impl Model for RowTable {
 impl RowTable {
     /// A table of no entries, with room for an entry of every node of a mesh of so many.
     pub fn new(alloc: Global, nodes: usize) -> Result<RowTable, NoMemory>
-        requires { nodes ≤ 200 }
+        requires { nodes ≤ MOST_NODES }
         ensures { IfOk result (λ t. t ≡ record { entries = maps.empty; rooms = nodes_below nodes; nodes = nodes }) }
     {
         let mut rows = Vec::with_capacity(alloc, nodes)?;
@@ -59,7 +59,12 @@ impl Table for RowTable {
 
     ghost nodes = { λ t. t.nodes };
 
-    fn nodes(&self) -> usize {
+    fn nodes(&self) -> usize
+        ensures value { result ≡ self.now.nodes }
+        ensures most { result ≤ MOST_NODES }
+        ensures below { IsBelow self.now.nodes self.now.entries }
+        ensures rooms { self.now.rooms ≡ nodes_below self.now.nodes }
+    {
         self.nodes
     }
 
@@ -77,6 +82,8 @@ impl Table for RowTable {
         ensures always { IsOk result }
         ensures nothing { self.new ≡ self.old }
         ensures here { OnOk result (sets.contains self.new.rooms d ≡ true) }
+        ensures there { sets.contains self.old.rooms d ≡ true → IsOk result }
+        ensures still { sets.contains self.old.rooms d ≡ true → self.new.rooms ≡ self.old.rooms }
         ensures keeps { (q : ℕ) → sets.contains self.old.rooms q ≡ true → sets.contains self.new.rooms q ≡ true }
         ensures refused { OnErr result (self.new.rooms ≡ self.old.rooms) }
         ensures entries { self.new.entries ≡ self.old.entries }

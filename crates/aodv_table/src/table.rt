@@ -1,5 +1,5 @@
 //! What a routing table does.
-ghost use Rattle.std.specs.Prelude.{◌≡◌, ◌<◌, ◌≤◌, ◌↔◌, ℕ, true, false, not, MatchResult, IsSome, OnOk, OnErr};
+ghost use Rattle.std.specs.Prelude.{◌≡◌, ◌<◌, ◌≤◌, ◌↔◌, ℕ, true, false, not, MatchResult, IsSome, OnOk, OnErr, IsOk};
 ghost use Rattle.std.specs.FinMap as maps;
 ghost use Rattle.std.specs.FinSet as sets;
 ghost use Rattle.mesh_base.specs.Members.{NodeIds};
@@ -10,7 +10,7 @@ ghost use Rattle.aodv_table.specs.Calls.{IsBelow, with_entry, valid_dests, dests
 
 use crate::merge::{entry_after, entry_by, is_changed};
 use aodv_entry::{Dests, Entry, Flag, inc};
-use mesh_base::{NoMemory, NodeSet};
+use mesh_base::{MOST_NODES, NoMemory, NodeSet};
 
 /// The routing table of a node, however it is kept. Destinations and next hops are nodes of one mesh.
 ///
@@ -30,7 +30,7 @@ pub trait Table: Drop {
     /// The number of nodes of the mesh.
     fn nodes(&self) -> usize
         ensures value { result ≡ nodes self.now }
-        ensures most { result ≤ 200 }
+        ensures most { result ≤ MOST_NODES }
         ensures below { IsBelow (nodes self.now) (entries self.now) };
 
     /// The entry of d, if it has one. No other entry is looked at.
@@ -44,10 +44,12 @@ pub trait Table: Drop {
         requires { d < nodes self.now }
         ensures { result ≡ sets.contains (rooms self.now) d };
 
-    /// Makes room for an entry of d.
+    /// Makes room for an entry of d. It asks for memory only where there is none.
     fn make_room(&mut self, d: usize) -> Result<(), NoMemory>
         requires { d < nodes self.old }
         ensures here { OnOk result (sets.contains (rooms self.new) d ≡ true) }
+        ensures there { sets.contains (rooms self.old) d ≡ true → IsOk result }
+        ensures still { sets.contains (rooms self.old) d ≡ true → rooms self.new ≡ rooms self.old }
         ensures keeps { (q : ℕ) → sets.contains (rooms self.old) q ≡ true → sets.contains (rooms self.new) q ≡ true }
         ensures refused { OnErr result (rooms self.new ≡ rooms self.old) }
         ensures entries { entries self.new ≡ entries self.old }

@@ -6,6 +6,7 @@ use Rattle.std.specs.FinMap as maps
 use Rattle.std.specs.FinSet as sets
 use Rattle.std.specs.declared.collections.VecDeque.{VecDeque}
 use Rattle.std.specs.VecDeque.{deque_len, deque_capacity}
+use Rattle.mesh_base.specs.declared.limits.TheConstants.{MOST_NODES}
 use Rattle.mesh_base.specs.Members.{NodeIds}
 use Rattle.aodv_model.specs.Cores.{Body, Waiting, Store, has_data}
 use Rattle.aodv_model.specs.Soundness.{IsDatum}
@@ -44,7 +45,7 @@ room_of ring = deque_capacity ring - deque_len ring
 -- what the rows and the two sets keep: no more rows than a mesh has nodes; the destinations with data; only such need a request;
 -- each datum has its size
 pub record AreRows (rows : Rows) (with_data needing : NodeIds) : Type 0 where
-  pub few : length rows ≤ 200
+  pub few : length rows ≤ MOST_NODES
   pub data_are : (d : ℕ) → sets.contains with_data d ≡ has_data (bodies_at rows d)
   pub needing_are : (d : ℕ) → sets.contains needing d ≡ true → sets.contains with_data d ≡ true
   pub bodies_are : (d : ℕ) → AllByRecursion IsDatum (bodies_at rows d)

@@ -1,5 +1,5 @@
 //! Data that wait for a route.
-ghost use Rattle.std.specs.Prelude.{◌≡◌, ◌<◌, ◌≤◌, ◌+◌, ◌-◌, ◌↔◌, if◌then◌else◌, ℕ, true, length, slice_index, slice_set, slice_get, IfOk, IfSome, IsSome, OnOk, OnErr, IsTrue, Some};
+ghost use Rattle.std.specs.Prelude.{◌≡◌, ◌<◌, ◌≤◌, ◌+◌, ◌-◌, ◌↔◌, if◌then◌else◌, ℕ, true, length, slice_index, slice_set, slice_get, IfOk, IfSome, IsSome, OnOk, OnErr, IsTrue, Some, IsOk};
 ghost use Rattle.std.specs.FinMap as maps;
 ghost use Rattle.std.specs.FinSet as sets;
 ghost use Rattle.std.specs.VecDeque.{deque_len, deque_capacity};
@@ -8,7 +8,7 @@ ghost use Rattle.aodv_model.specs.Handlers.{first_body};
 ghost use Rattle.aodv_model.specs.Soundness.{IsDatum, IsStoreInMesh};
 
 use aodv_entry::Dests;
-use mesh_base::{Bytes, NoMemory, NodeSet};
+use mesh_base::{Bytes, MOST_NODES, NoMemory, NodeSet};
 use std::alloc::Global;
 use std::collections::VecDeque;
 use std::marker::Model;
@@ -50,6 +50,8 @@ fn make_room_in(ring: &mut VecDeque<Bytes>) -> Result<(), NoMemory>
     ensures items { ring.new.items ≡ ring.old.items }
     ensures len { deque_len ring.new ≡ deque_len ring.old }
     ensures here { OnOk result (deque_len ring.new < deque_capacity ring.new) }
+    ensures there { deque_len ring.old < deque_capacity ring.old → IsOk result }
+    ensures still { deque_len ring.old < deque_capacity ring.old → deque_capacity ring.new ≡ deque_capacity ring.old }
     ensures keeps { deque_capacity ring.old ≤ deque_capacity ring.new }
     ensures refused { OnErr result (deque_capacity ring.new ≡ deque_capacity ring.old) }
 {
@@ -86,7 +88,7 @@ fn mark_if_waiting(needing: &mut NodeSet, with_data: &NodeSet, d: usize)
 impl Waiting {
     /// A store without data, for a mesh with so many nodes.
     pub fn new(alloc: Global, nodes: usize) -> Result<Waiting, NoMemory>
-        requires { nodes ≤ 200 }
+        requires { nodes ≤ MOST_NODES }
         ensures store { IfOk result (λ waiting. waiting.store ≡ maps.empty) }
         ensures nodes { IfOk result (λ waiting. length waiting.rooms ≡ nodes) }
     {
@@ -101,11 +103,13 @@ impl Waiting {
         })
     }
 
-    /// Makes room for one more datum for d.
+    /// Makes room for one more datum for d. It asks for memory only where there is none.
     pub fn make_room(&mut self, d: usize) -> Result<(), NoMemory>
         requires { d < length self.old.rooms }
         ensures store { self.new.store ≡ self.old.store }
         ensures here { OnOk result (0 < slice_index self.new.rooms d) }
+        ensures there { 0 < slice_index self.old.rooms d → IsOk result }
+        ensures still { 0 < slice_index self.old.rooms d → self.new ≡ self.old }
         ensures nodes { length self.new.rooms ≡ length self.old.rooms }
         ensures keeps { (q : ℕ) → slice_index self.old.rooms q ≤ slice_index self.new.rooms q }
         ensures refused { OnErr result (self.new ≡ self.old) }

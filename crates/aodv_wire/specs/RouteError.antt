@@ -1,6 +1,7 @@
 -- A route error, RERR: RFC 3561 section 5.3. It has one line, and two for each destination that can't be reached.
 use Rattle.std.specs.Prelude.{◌<◌, ◌≤◌, ℕ, zero, suc, ◌+◌, ◌*◌, ◌==◌, not, nat_lt, if◌then◌else◌, List, [], ◌∷◌, ◌++◌, length, map, drop, Option, Some, None, option_map}
 use Rattle.std.specs.List.{flat_map, list_any}
+use Rattle.mesh_base.specs.declared.limits.TheConstants.{MOST_NODES}
 use Rattle.mesh_base.specs.declared.addr.Addr.{Addr}
 use Rattle.aodv_wire.specs.declared.error.WireError.{WireError}
 use Rattle.aodv_wire.specs.declared.error.WireError.TheVariants.{WrongLength, OutsideProfile, NoDestinations, Repeated}
@@ -103,5 +104,5 @@ IsRising (p ∷ q ∷ ps) = (p.0.0 < q.0.0) × IsRising (q ∷ ps)
 -- what can be written: 1 to 200 destinations, by rising address
 pub record AreDestinations (ps : List (Addr × ℕ)) : Type 0 where
   pub some : 1 ≤ length ps
-  pub few : length ps ≤ 200
+  pub few : length ps ≤ MOST_NODES
   pub rising : IsRising ps

@@ -4,7 +4,7 @@ ghost use Rattle.std.specs.List.{list_any};
 ghost use Rattle.aodv_wire.specs.RouteError.{addresses, repeated};
 
 use crate::field::line_at;
-use mesh_base::Addr;
+use mesh_base::{Addr, LONGEST_DATUM};
 use std::marker::Model;
 
 /// A route request: RFC 3561 section 5.1. `dip` is the destination, `oip` the originator, and `dsn` and `osn` are their sequence numbers.
@@ -121,13 +121,14 @@ pub struct DataView<'a> {
 
 impl<'a> Model for DataView<'a> {
     ghost use Rattle.std.specs.Prelude.{◌≤◌, length};
+    ghost use Rattle.mesh_base.specs.declared.limits.TheConstants.{LONGEST_DATUM};
     ghost use Rattle.aodv_wire.specs.DataPacket.{Datum};
 
     ghost Value = { Datum };
 
     ghost view = { λ v. record { dip = v.dip; oip = v.oip; body = v.body.now } };
 
-    ghost invariant = { λ v. (1 ≤ length v.body.now) × (length v.body.now ≤ 512) };
+    ghost invariant = { λ v. (1 ≤ length v.body.now) × (length v.body.now ≤ LONGEST_DATUM) };
 }
 
 impl<'a> DataView<'a> {
@@ -149,7 +150,7 @@ impl<'a> DataView<'a> {
     pub fn body(&self) -> &'a [u8]
         ensures bytes { result.now ≡ self.now.body }
         ensures some { 1 ≤ length result.now }
-        ensures few { length result.now ≤ 512 }
+        ensures few { length result.now ≤ LONGEST_DATUM }
     {
         self.body
     }

@@ -8,10 +8,10 @@ ghost use Rattle.aodv_wire.specs.declared.message.Message.TheVariants.{Rreq as a
 use crate::field::UNKNOWN_NUMBER;
 use crate::message::{Rrep, Rreq};
 use byteorder::{BigEndian, ByteOrder};
-use mesh_base::{Addr, Packet};
+use mesh_base::{Addr, LONGEST_DATUM, LONGEST_PACKET, Packet};
 
 fn put_bytes(out: &mut Packet, bytes: &[u8])
-    requires { length out.old.items + length bytes.now ≤ 1604 }
+    requires { length out.old.items + length bytes.now ≤ LONGEST_PACKET }
     ensures { out.new.items ≡ out.old.items ++ bytes.now }
 {
     if out.try_extend_from_slice(bytes).is_err() {
@@ -21,7 +21,7 @@ fn put_bytes(out: &mut Packet, bytes: &[u8])
 
 // The first line: a type, its flags, eight bits that are 0, and eight more.
 fn put_first_line(out: &mut Packet, kind: u8, flags: u8, last: u8)
-    requires { length out.old.items + 4 ≤ 1604 }
+    requires { length out.old.items + 4 ≤ LONGEST_PACKET }
     ensures bytes { out.new.items ≡ out.old.items ++ kind ∷ flags ∷ 0 ∷ last ∷ [] }
     ensures fits { last < 2 ^ 8 }
 {
@@ -29,7 +29,7 @@ fn put_first_line(out: &mut Packet, kind: u8, flags: u8, last: u8)
 }
 
 fn put_line(out: &mut Packet, number: u32)
-    requires { length out.old.items + 4 ≤ 1604 }
+    requires { length out.old.items + 4 ≤ LONGEST_PACKET }
     ensures bytes { out.new.items ≡ out.old.items ++ big_bytes 4 number }
     ensures fits { number < 2 ^ 32 }
 {
@@ -85,7 +85,7 @@ pub fn write_rerr(pairs: &[(Addr, u32)], out: &mut Packet)
 /// Writes a datum of 1 to 512 bytes in place of what `out` held.
 pub fn write_data(dip: Addr, oip: Addr, body: &[u8], out: &mut Packet)
     requires some { 1 ≤ length body.now }
-    requires few { length body.now ≤ 512 }
+    requires few { length body.now ≤ LONGEST_DATUM }
     ensures written { out.new.items ≡ written (a_parcel (record { dip = dip; oip = oip; body = body.now })) }
     ensures spells { Spells out.new.items (a_parcel (record { dip = dip; oip = oip; body = body.now })) }
 {

@@ -35,22 +35,8 @@ is_place mesh a is none =
     }
 
 -- one more node keeps the order
-pub grown_is_mesh : (mesh : Nodes) (a first : ℕ) → IsMesh mesh → index_of mesh a ≡ None → length mesh < 200 → 1 ≤ first → IsMesh (with_node mesh a first)
+pub grown_is_mesh : (mesh : Nodes) (a first : ℕ) → IsMesh mesh → index_of mesh a ≡ None → length mesh < 200 → 1 ≤ first → a < 2 ^ 32 → first < 2 ^ 32
+    → IsMesh (with_node mesh a first)
 unfolding with_node
-grown_is_mesh mesh a first is none few one = insert_is_mesh mesh a first (place_of mesh a) is (is_place mesh a is none) (λ lt. absent_at mesh a (place_of mesh a) is none lt) few one
-
--- and the addresses have 32 bits where they had before
-pub grown_fits : (mesh : Nodes) (a first : ℕ) → ((i : ℕ) → i < length mesh → addr_at mesh i < 2 ^ 32) → a < 2 ^ 32
-    → (i : ℕ) → i < length (with_node mesh a first) → addr_at (with_node mesh a first) i < 2 ^ 32
-unfolding with_node
-grown_fits mesh a first fit fits i lt =
-    let within : place_of mesh a ≤ length mesh = place_le (λ p. not (ltb a p.0)) mesh in
-    let longer : length (insert mesh (place_of mesh a) (a, first)) ≡ length mesh + 1 = length-insert mesh (place_of mesh a) (a, first) within in
-    elim (at_insert mesh (place_of mesh a) (a, first) i within) [
-      | inl early ↦ let same : addr_at (insert mesh (place_of mesh a) (a, first)) i ≡ addr_at mesh i = ap (λ p. p.0) early.1 in let small = fit i (omega (arith, early.0)) in omega arith
-      | inr (inl at) ↦ let same : addr_at (insert mesh (place_of mesh a) (a, first)) i ≡ a = ap (λ p. p.0) at.1 in omega arith
-      | inr (inr late) ↦
-          let same : addr_at (insert mesh (place_of mesh a) (a, first)) i ≡ addr_at mesh (i - 1) = ap (λ p. p.0) late.1 in
-          let small = fit (i - 1) (omega (arith, late.0)) in
-          omega arith
-    ]
+grown_is_mesh mesh a first is none few one a_fits first_fits =
+    insert_is_mesh mesh a first (place_of mesh a) is (is_place mesh a is none) (λ lt. absent_at mesh a (place_of mesh a) is none lt) few one a_fits first_fits

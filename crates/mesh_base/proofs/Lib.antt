@@ -8,3 +8,5 @@ pub mod Spelling
 pub mod Readings
 pub mod Grown
 pub mod AddressLaws
+pub mod Ranks
+pub mod BitCounts

@@ -1,5 +1,5 @@
 -- A mesh by rising addresses: where an address stands, and one more node.
-use Rattle.std.proofs.Common.{◌≡◌, ◌≢◌, ℕ, ◌+◌, ◌-◌, ◌<◌, ◌≤◌, true, false, eqb, ltb, length, Some, None, get_or, insert, refl, sym, ap, subst, ◌∙◌, ◌⊎◌, arith, inl, inr, eq-eqb}
+use Rattle.std.proofs.Common.{◌^◌, ◌≡◌, ◌≢◌, ℕ, ◌+◌, ◌-◌, ◌<◌, ◌≤◌, true, false, eqb, ltb, length, Some, None, get_or, insert, refl, sym, ap, subst, ◌∙◌, ◌⊎◌, arith, inl, inr, eq-eqb}
 use Rattle.std.specs.List.{position_or_len}
 use Rattle.std.specs.List.Sorted.{IsNonDecreasingBy}
 use Rattle.std.proofs.lemmas.Bool.{ne_eqb, cases_lt, cases_eq, lt-ltb, le-ltb}
@@ -121,20 +121,23 @@ insert_rises mesh a first place i j is at not lt within (inr (inr (late, x))) (i
     let up = is.rising (i - 1) (j - 1) (omega arith) (omega arith) in
     omega (arith, up, ap (λ p. p.0) x, ap (λ p. p.0) y)
 
-insert_positive : (mesh : Nodes) (a first place i : ℕ) → IsMesh mesh → 1 ≤ first → i < length mesh + 1 → place ≤ length mesh
-    → Standing mesh place (a, first) i → 1 ≤ first_at (insert mesh place (a, first)) i
-insert_positive mesh a first place i is one within le (inl (early, x)) = omega (arith, is.positive i (omega arith), ap (λ p. p.1) x)
-insert_positive mesh a first place i is one within le (inr (inl (same, x))) = omega (arith, one, ap (λ p. p.1) x)
-insert_positive mesh a first place i is one within le (inr (inr (late, x))) = omega (arith, is.positive (i - 1) (omega arith), ap (λ p. p.1) x)
+-- what each node has, each has after one more that has it
+insert_each : (P : ℕ × ℕ → Type 0) (mesh : Nodes) (node : ℕ × ℕ) (place i : ℕ) → ((k : ℕ) → k < length mesh → P (get_or mesh k (0, 0))) → P node
+    → i < length mesh + 1 → place ≤ length mesh → Standing mesh place node i → P (get_or (insert mesh place node) i (0, 0))
+insert_each P mesh node place i each new within le (inl (early, x)) = subst P (sym x) (each i (omega arith))
+insert_each P mesh node place i each new within le (inr (inl (same, x))) = subst P (sym x) new
+insert_each P mesh node place i each new within le (inr (inr (late, x))) = subst P (sym x) (each (i - 1) (omega arith))
 
-pub insert_is_mesh : (mesh : Nodes) (a first place : ℕ) → IsMesh mesh → IsPlace mesh a place → (place < length mesh → addr_at mesh place ≢ a) → length mesh < 200 → 1 ≤ first
-    → IsMesh (insert mesh place (a, first))
-insert_is_mesh mesh a first place is at not few one =
+pub insert_is_mesh : (mesh : Nodes) (a first place : ℕ) → IsMesh mesh → IsPlace mesh a place → (place < length mesh → addr_at mesh place ≢ a) → length mesh < 200
+    → 1 ≤ first → a < 2 ^ 32 → first < 2 ^ 32 → IsMesh (insert mesh place (a, first))
+insert_is_mesh mesh a first place is at not few one a_fits first_fits =
     let longer : length (insert mesh place (a, first)) ≡ length mesh + 1 = length-insert mesh place (a, first) at.within in
     record {
       rising = λ i j lt within. insert_rises mesh a first place i j is at not lt (omega arith) (at_insert mesh place (a, first) i at.within) (at_insert mesh place (a, first) j at.within);
       few = omega arith;
-      positive = λ i within. insert_positive mesh a first place i is one (omega arith) at.within (at_insert mesh place (a, first) i at.within);
+      positive = λ i within. insert_each (λ p. 1 ≤ p.1) mesh (a, first) place i is.positive one (omega arith) at.within (at_insert mesh place (a, first) i at.within);
+      addresses = λ i within. insert_each (λ p. p.0 < 2 ^ 32) mesh (a, first) place i is.addresses a_fits (omega arith) at.within (at_insert mesh place (a, first) i at.within);
+      firsts = λ i within. insert_each (λ p. p.1 < 2 ^ 32) mesh (a, first) place i is.firsts first_fits (omega arith) at.within (at_insert mesh place (a, first) i at.within);
     }
 
 -- where an address is absent, what stands at its place is another

@@ -1,7 +1,8 @@
 -- A set of nodes, as the bits of four words of 64 bits, the lowest first. A node is an index below 256.
-use Rattle.std.specs.Prelude.{◌≡◌, ◌<◌, ◌≤◌, ◌==◌, ℕ, zero, suc, ◌+◌, ◌*◌, ◌/◌, ◌%◌, ◌^◌, true, false, if◌then◌else◌, List, [], ◌∷◌, length, slice_index, Option, Some, None}
+use Rattle.std.specs.Prelude.{◌≡◌, ◌<◌, ◌≤◌, ◌==◌, ℕ, zero, suc, ◌+◌, ◌*◌, ◌/◌, ◌%◌, ◌^◌, true, false, if◌then◌else◌, List, [], ◌∷◌, ◌++◌, length, slice_index, Option, Some, None}
 use Rattle.std.specs.Ordering.{nat_cmp}
 use Rattle.std.specs.Int.{bit_at}
+use Rattle.std.specs.Int.RustNames.{count_ones}
 use Rattle.std.specs.FinSet.{FinSet, empty, insert, contains}
 
 abbrev pub NodeIds : Type 0
@@ -36,6 +37,19 @@ pub record AreWords (ws : List ℕ) : Type 0 where
   pub four : length ws ≡ 4
   pub fit : (i : ℕ) → slice_index ws i < 2 ^ 64
 
+-- the members of a set that are below n, by rising index
+unfoldable pub members_below : ℕ → NodeIds → List ℕ
+members_below zero s = []
+members_below (suc n) s = if contains s n then members_below n s ++ n ∷ [] else members_below n s
+
+-- all members of a set, by rising index
+abbrev pub member_list : NodeIds → List ℕ
+member_list s = members_below 256 s
+
+-- the rank of a member: how many members are below it
+abbrev pub rank : NodeIds → ℕ → ℕ
+rank s i = length (members_below i s)
+
 -- the least member that is not below i
 abbrev pub IsLeastFrom : NodeIds → ℕ → Option ℕ → Type 0
 IsLeastFrom s i None = (q : ℕ) → i ≤ q → contains s q ≡ false
@@ -45,3 +59,7 @@ IsLeastFrom s i (Some m) = (i ≤ m) × (contains s m ≡ true) × ((q : ℕ) �
 abbrev pub IsLeastBit : ℕ → ℕ → Option ℕ → Type 0
 IsLeastBit w i None = (q : ℕ) → i ≤ q → bit_at w q ≡ 0
 IsLeastBit w i (Some m) = (i ≤ m) × (m < 64) × (bit_at w m ≡ 1) × ((q : ℕ) → i ≤ q → q < m → bit_at w q ≡ 0)
+
+-- the word has a bit at that place, and k bits below it
+abbrev pub IsNthBit : ℕ → ℕ → ℕ → Type 0
+IsNthBit w k place = (place < 64) × (bit_at w place ≡ 1) × (count_ones (w % 2 ^ place) ≡ k)

@@ -9,6 +9,7 @@ ghost use Rattle.mesh_base.specs.Parts.{parts};
 ghost use Rattle.mesh_base.specs.Addresses.{address_of, dotted};
 ghost use Rattle.mesh_base.specs.Octets.{first_octet, IsDotAt};
 
+use crate::limits::LINE_ROOM;
 use crate::text::{LineBuf, push_short};
 
 /// The address of a node: its four numbers, the first the highest.
@@ -126,7 +127,7 @@ impl Addr {
 #[tactic(auto, using(crate::proofs::NumberLaws::short))]
 fn push_octet(out: &mut LineBuf, n: u32)
     requires octet { n < 256 }
-    requires room { array_vec_len out.old + 3 ≤ 8192 }
+    requires room { array_vec_len out.old + 3 ≤ LINE_ROOM }
     ensures text { out.new.items ≡ out.old.items ++ decimal n }
     ensures length { array_vec_len out.new ≤ array_vec_len out.old + 3 }
 {
@@ -135,7 +136,7 @@ fn push_octet(out: &mut LineBuf, n: u32)
 
 /// Appends an address as it is spelled: at most 15 bytes.
 pub fn write_dotted(a: Addr, out: &mut LineBuf)
-    requires { array_vec_len out.old + 15 ≤ 8192 }
+    requires { array_vec_len out.old + 15 ≤ LINE_ROOM }
     ensures text { out.new.items ≡ out.old.items ++ dotted a.0 }
     ensures length { array_vec_len out.new ≤ array_vec_len out.old + 15 }
 {

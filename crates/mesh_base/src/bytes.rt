@@ -89,6 +89,15 @@ impl Bytes {
         }
     }
 
+    /// Gives back what memory the bytes don't need.
+    pub fn shrink(&mut self)
+        ensures { self.new ≡ self.old }
+    {
+        if let Kept::Long(items) = &mut self.kept {
+            items.shrink_to_fit();
+        }
+    }
+
     /// The bytes.
     pub fn as_slice(&self) -> &[u8]
         ensures { result.now ≡ self.now }
@@ -178,7 +187,8 @@ mod tests {
         let long = b"as long as no list of bytes can be without memory";
         let copy = Bytes::copy_of(rt.alloc(), long)?;
         assert_eq!(rt; copy.as_slice(), long.as_slice());
-        let filled = Room::new(rt.alloc(), 60)?.fill(long);
+        let mut filled = Room::new(rt.alloc(), 60)?.fill(long);
+        filled.shrink();
         assert_eq!(rt; filled.as_slice(), long.as_slice());
         assert!(rt; Bytes::short(long).is_none());
         Ok(())

@@ -45,6 +45,10 @@ pub enum Event<'a> {
     Lose {
         id: u64,
     },
+    /// A second copy joins that of this id in flight.
+    Double {
+        id: u64,
+    },
 }
 
 /// Which variant of the protocol a node runs.
@@ -180,5 +184,11 @@ pub enum Done {
     /// This copy was lost.
     Lost {
         flying: Flying,
+    },
+    /// A copy was doubled: the new copy's id and receiver, and whether it is of a data packet.
+    Doubled {
+        id: u64,
+        to: usize,
+        parcel: bool,
     },
 }

@@ -7,6 +7,7 @@
 mod addr;
 mod bytes;
 mod events;
+mod limits;
 mod mesh;
 mod set;
 mod text;
@@ -16,6 +17,9 @@ pub use bytes::{Bytes, NoMemory, Room};
 pub use events::{
     Air, Cast, Done, Effect, Event, Flying, FlyingView, Full, Item, Kind, Took, Variant,
 };
-pub use mesh::{MOST_NODES, Mesh, MeshError};
+pub use limits::{
+    LINE_ROOM, LONGEST_DATUM, LONGEST_INPUT, LONGEST_LINE, LONGEST_PACKET, MOST_EVENTS, MOST_NODES,
+};
+pub use mesh::{Mesh, MeshError};
 pub use set::NodeSet;
 pub use text::{LineBuf, Packet, cut, number_up_to, push_decimal, push_number, push_text};

@@ -3,12 +3,10 @@ ghost use Rattle.std.specs.Prelude.{◌≡◌, ◌≤◌, ◌<◌, ◌↔◌, �
 ghost use Rattle.mesh_base.specs.Meshes.{Nodes, IsMesh, addr_at, first_at, index_of, with_node};
 
 use crate::addr::Addr;
+use crate::limits::MOST_NODES;
 use arrayvec::ArrayVec;
 use std::marker::Model;
 use thiserror::Error;
-
-/// The most nodes of a mesh.
-pub const MOST_NODES: usize = 200;
 
 /// Why a node isn't added to a mesh.
 #[derive(Clone, Copy, Debug, PartialEq, Eq, Error)]
@@ -130,7 +128,7 @@ impl Mesh {
         requires { 1 ≤ first }
         ensures added { OnOk result (self.new ≡ with_node self.old a.0 first) }
         ensures twice { IsErrOf result MeshError.Twice ↔ IsSome (index_of self.old a.0) }
-        ensures too_many { IsErrOf result MeshError.TooMany ↔ ((index_of self.old a.0 ≡ None) × (length self.old ≡ 200)) }
+        ensures too_many { IsErrOf result MeshError.TooMany ↔ ((index_of self.old a.0 ≡ None) × (length self.old ≡ MOST_NODES)) }
         ensures same { OnErr result (self.new ≡ self.old) }
     {
         let None = self.index_of(a) else {

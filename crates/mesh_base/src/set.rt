@@ -1,7 +1,8 @@
 //! Sets of nodes.
-ghost use Rattle.std.specs.Prelude.{◌≡◌, ◌<◌, ◌↔◌, IsTrue, IfSome};
+ghost use Rattle.std.specs.Prelude.{◌≡◌, ◌<◌, ◌≤◌, ◌↔◌, IsTrue, IfSome, length, slice_get};
 ghost use Rattle.std.specs.FinSet as set;
-ghost use Rattle.mesh_base.specs.Members.{IsLeastFrom, IsLeastBit};
+ghost use Rattle.std.specs.Int.RustNames.{count_ones};
+ghost use Rattle.mesh_base.specs.Members.{IsLeastFrom, IsLeastBit, IsNthBit, member_list, rank};
 
 use std::marker::Model;
 
@@ -122,6 +123,53 @@ impl NodeSet {
         None
     }
 
+    /// How many members there are.
+    pub fn count(&self) -> usize
+        ensures value { result ≡ length (member_list self.now) }
+        ensures few { result ≤ 256 }
+    {
+        let words = &self.words;
+        let low = words[0].count_ones() + words[1].count_ones();
+        let high = words[2].count_ones() + words[3].count_ones();
+        (low + high) as usize
+    }
+
+    /// The rank of i: how many members are below it. Bits are counted, and no member is looked at.
+    pub fn count_below(&self, i: usize) -> usize
+        ensures value { result ≡ rank self.now i }
+        ensures few { result ≤ 256 }
+    {
+        let words = &self.words;
+        if i >= 256 {
+            return self.count();
+        }
+        let word = i / 64;
+        let mut count = 0;
+        for k in 0..word {
+            count += words[k].count_ones() as usize;
+        }
+        let below = (1 << (i % 64)) - 1;
+        count + (words[word] & below).count_ones() as usize
+    }
+
+    /// The member of rank k: the k-th from 0, by rising index. None where there are not so many. Bits
+    /// are counted, and no other member is looked at.
+    pub fn nth(&self, k: usize) -> Option<usize>
+        ensures value { result ≡ slice_get (member_list self.now) k }
+        ensures below { IfSome result (λ m. m < 256) }
+    {
+        let words = &self.words;
+        let mut rest = k;
+        for at in 0..4 {
+            let here = words[at].count_ones() as usize;
+            if rest < here {
+                return Some(64 * at + nth_bit(words[at], rest));
+            }
+            rest -= here;
+        }
+        None
+    }
+
     /// Whether there is no member.
     #[tactic(auto, using(crate::proofs::Least::none_from_empty, crate::proofs::Least::some_not_empty))]
     pub fn is_empty(&self) -> bool
@@ -142,4 +190,27 @@ fn least_bit(word: u64, from: usize) -> Option<usize>
         return None;
     }
     Some(from + rest.trailing_zeros() as usize)
+}
+
+// The place of the bit that has k bits of the word below it. Six halvings find it: the one of `rest` in
+// the `width` bits from `base` on is in their lower half, if there are more than `rest`, or else above.
+fn nth_bit(word: u64, k: usize) -> usize
+    requires { k < count_ones word }
+    ensures { IsNthBit word k result }
+{
+    let mut base = 0;
+    let mut rest = k;
+    let mut width = 64;
+    'halves: while width > 1 {
+        let half = width / 2;
+        let low = ((word >> base) & ((1 << half) - 1)).count_ones() as usize;
+        if rest < low {
+            width = half;
+        } else {
+            rest -= low;
+            base += half;
+            width -= half;
+        }
+    }
+    base
 }

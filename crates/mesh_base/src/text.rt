@@ -5,13 +5,14 @@ ghost use Rattle.arrayvec.specs.ArrayVec.{array_vec_len};
 ghost use Rattle.mesh_base.specs.Parts.{parts, rest_parts};
 ghost use Rattle.mesh_base.specs.Numbers.{is_canonical as is_canonical_lem, digits_up_to as digits_up_to_lem, number_up_to as number_up_to_lem};
 
+use crate::limits::{LINE_ROOM, LONGEST_PACKET};
 use arrayvec::ArrayVec;
 
 /// A line to be written.
-pub type LineBuf = ArrayVec<u8, 8192>;
+pub type LineBuf = ArrayVec<u8, LINE_ROOM>;
 
-/// The bytes of one packet. The longest that is written is a route error of 200 pairs.
-pub type Packet = ArrayVec<u8, 1604>;
+/// The bytes of one packet.
+pub type Packet = ArrayVec<u8, LONGEST_PACKET>;
 
 fn place_of(bytes: &[u8], sep: u8) -> Option<usize>
     ensures value { result ≡ position (λ b. b == sep) bytes.now }
@@ -71,7 +72,7 @@ pub fn number_up_to(bytes: &[u8], most: u64) -> Option<u64>
 
 /// Appends a text.
 pub fn push_text(out: &mut LineBuf, text: &[u8])
-    requires { array_vec_len out.old + length text.now ≤ 8192 }
+    requires { array_vec_len out.old + length text.now ≤ LINE_ROOM }
     ensures text { out.new.items ≡ out.old.items ++ text.now }
     ensures length { array_vec_len out.new ≡ array_vec_len out.old + length text.now }
 {
@@ -85,7 +86,7 @@ pub fn push_text(out: &mut LineBuf, text: &[u8])
 #[tactic(auto, using(std::proofs::lemmas::Fmt::decimal_digit, crate::proofs::NumberLaws::appended_two, crate::proofs::NumberLaws::two_long, crate::proofs::NumberLaws::three_digits))]
 pub(crate) fn push_short(out: &mut LineBuf, n: u32)
     requires short { n < 1000 }
-    requires room { array_vec_len out.old + length (decimal n) ≤ 8192 }
+    requires room { array_vec_len out.old + length (decimal n) ≤ LINE_ROOM }
     ensures text { out.new.items ≡ out.old.items ++ decimal n }
     ensures length { array_vec_len out.new ≡ array_vec_len out.old + length (decimal n) }
 {
@@ -104,7 +105,7 @@ pub(crate) fn push_short(out: &mut LineBuf, n: u32)
 // Appends the last three digits of a number.
 #[inline]
 fn push_three(out: &mut LineBuf, n: u32)
-    requires { array_vec_len out.old + 3 ≤ 8192 }
+    requires { array_vec_len out.old + 3 ≤ LINE_ROOM }
     ensures text { out.new.items ≡ out.old.items ++ (48 + n / 100 % 10) ∷ (48 + n / 10 % 10) ∷ (48 + n % 10) ∷ [] }
     ensures length { array_vec_len out.new ≡ array_vec_len out.old + 3 }
 {
@@ -119,7 +120,7 @@ fn push_three(out: &mut LineBuf, n: u32)
 fn push_middle(out: &mut LineBuf, n: u32)
     requires low { 1000 ≤ n }
     requires high { n < 1000000000 }
-    requires room { array_vec_len out.old + length (decimal n) ≤ 8192 }
+    requires room { array_vec_len out.old + length (decimal n) ≤ LINE_ROOM }
     ensures text { out.new.items ≡ out.old.items ++ decimal n }
     ensures length { array_vec_len out.new ≡ array_vec_len out.old + length (decimal n) }
 {
@@ -135,7 +136,7 @@ fn push_middle(out: &mut LineBuf, n: u32)
 /// Appends a number in decimal digits.
 #[tactic(auto, using(crate::proofs::NumberLaws::appended_thousands, crate::proofs::NumberLaws::three_longer))]
 pub fn push_decimal(out: &mut LineBuf, n: u64)
-    requires { array_vec_len out.old + length (decimal n) ≤ 8192 }
+    requires { array_vec_len out.old + length (decimal n) ≤ LINE_ROOM }
     ensures text { out.new.items ≡ out.old.items ++ decimal n }
     ensures length { array_vec_len out.new ≡ array_vec_len out.old + length (decimal n) }
 {
@@ -154,7 +155,7 @@ pub fn push_decimal(out: &mut LineBuf, n: u64)
 /// Appends any number in decimal digits.
 #[tactic(auto, using(crate::proofs::NumberLaws::at_most_twenty))]
 pub fn push_number(out: &mut LineBuf, n: u64)
-    requires { array_vec_len out.old + 20 ≤ 8192 }
+    requires { array_vec_len out.old + 20 ≤ LINE_ROOM }
     ensures text { out.new.items ≡ out.old.items ++ decimal n }
     ensures length { array_vec_len out.new ≤ array_vec_len out.old + 20 }
 {

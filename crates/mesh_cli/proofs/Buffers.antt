@@ -1,9 +1,9 @@
 -- What was told to a buffer was told to the sink behind it.
-use Rattle.std.proofs.Common.{◌≡◌, ◌≢◌, ◌≤◌, ◌+◌, ◌-◌, ◌^◌, min, true, arith, ℕ, List, [], Option, IfSome, Some, None, sym, subst, append-nil}
+use Rattle.std.proofs.Common.{◌≡◌, ◌≢◌, ◌≤◌, ◌+◌, ◌-◌, ◌^◌, min, true, arith, ℕ, List, [], Option, Some, None, sym, subst, append-nil}
 use Rattle.std.specs.Io.KnownBytes.{Appends, Keeps}
 use Rattle.mesh_io.specs.Puts.{AppendsFront}
 use Rattle.mesh_io.proofs.Writing.{Appends-keeps, AppendsFront-keeps, AppendsFront-through}
-use Rattle.mesh_text.specs.Text.{Written, whole, said, text_of_input}
+use Rattle.mesh_text.specs.Text.{Written, whole, output, text_of_input}
 use Rattle.mesh_run.specs.Told.{Told}
 use Rattle.mesh_run.specs.declared.status.Status.{Status}
 use Rattle.mesh_run.specs.declared.status.Status.TheVariants as status
@@ -102,29 +102,29 @@ written_through before start opened closed now gathered text status.Usage s e al
 
 -- after it a write failed
 pub does_faulted : (command : Command) (left a b c : Option (List ℕ)) (s : Status) → Does command left a b s → Keeps b c → Does command left a c status.WriteFault
-does_faulted (Run quiet) None a b c s t k = t
-does_faulted (Run quiet) (Some bytes) a b c s t k = told_faulted a b c (said quiet (text_of_input bytes)) s t k
+does_faulted (Run variant quiet) None a b c s t k = t
+does_faulted (Run variant quiet) (Some bytes) a b c s t k = told_faulted a b c (output quiet (text_of_input variant bytes)) s t k
 does_faulted (Make plan) left a b c s t k = AppendsFront-keeps a b c (made_by plan) (written_front a b (made_by plan) s t) k
-does_faulted (Trial plan) left a b c s t k = told_faulted a b c (said true (text_of_input (made_by plan))) s t k
+does_faulted (Trial variant plan) left a b c s t k = told_faulted a b c (output true (text_of_input variant (made_by plan))) s t k
 
 pub does_keeps : (command : Command) (left a b c : Option (List ℕ)) (s : Status) → Does command left a b s → Keeps b c → Does command left a c s
-does_keeps (Run quiet) None a b c s t k = t
-does_keeps (Run quiet) (Some bytes) a b c s t k = told_keeps a b c (said quiet (text_of_input bytes)) s t k
+does_keeps (Run variant quiet) None a b c s t k = t
+does_keeps (Run variant quiet) (Some bytes) a b c s t k = told_keeps a b c (output quiet (text_of_input variant bytes)) s t k
 does_keeps (Make plan) left a b c s t k = written_keeps a b c (made_by plan) s t k
-does_keeps (Trial plan) left a b c s t k = told_keeps a b c (said true (text_of_input (made_by plan))) s t k
+does_keeps (Trial variant plan) left a b c s t k = told_keeps a b c (output true (text_of_input variant (made_by plan))) s t k
 
 pub does_through : (command : Command) (left before start opened closed now : Option (List ℕ)) (gathered : List ℕ) (s : Status)
     → before ≡ start → opened ≡ before → (s ≢ status.WriteFault → gathered ≡ []) → (gathered ≡ [] → now ≡ closed)
     → ((text : List ℕ) → AppendsFront start closed text → AppendsFront start now text)
     → Does command left opened closed s → Does command left before now s
-does_through (Run quiet) None before start opened closed now gathered s st e all whole_is front t = t
-does_through (Run quiet) (Some bytes) before start opened closed now gathered s st e all whole_is front t =
-    let w = said quiet (text_of_input bytes) in
+does_through (Run variant quiet) None before start opened closed now gathered s st e all whole_is front t = t
+does_through (Run variant quiet) (Some bytes) before start opened closed now gathered s st e all whole_is front t =
+    let w = output quiet (text_of_input variant bytes) in
     told_through before start opened closed now gathered w s st e all whole_is (front (whole w)) t
 does_through (Make plan) left before start opened closed now gathered s st e all whole_is front t =
     written_through before start opened closed now gathered (made_by plan) s st e all whole_is (front (made_by plan)) t
-does_through (Trial plan) left before start opened closed now gathered s st e all whole_is front t =
-    let w = said true (text_of_input (made_by plan)) in
+does_through (Trial variant plan) left before start opened closed now gathered s st e all whole_is front t =
+    let w = output true (text_of_input variant (made_by plan)) in
     told_through before start opened closed now gathered w s st e all whole_is (front (whole w)) t
 
 -- a count that rose after it didn't fall has risen

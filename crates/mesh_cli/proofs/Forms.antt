@@ -1,7 +1,7 @@
 -- Lists of words, by their number.
-use Rattle.std.proofs.Common.{◌≡◌, ◌≤◌, ◌<◌, ℕ, List, [], ◌∷◌, length, map, get_or, arith, refl, None}
+use Rattle.std.proofs.Common.{◌≡◌, ◌≤◌, ◌<◌, ℕ, List, [], ◌∷◌, length, map, get_or, arith, false, refl, None}
 use Rattle.std.specs.Borrow.{Bor}
-use Rattle.mesh_cli.specs.Words.{command_of, of_one, of_two, of_four}
+use Rattle.mesh_cli.specs.Words.{command_of, of_one, of_two, run_of, of_four, of_six}
 
 abbrev texts : List (Bor (List ℕ)) → List (List ℕ)
 texts ws = map (λ w. w.now) ws
@@ -35,19 +35,44 @@ unfolding command_of
 no_words [] b = refl
 no_words (w ∷ ws) b = absurd (omega arith)
 
-pub three_words : (ws : List (Bor (List ℕ))) → 3 ≤ length ws → length ws < 4 → None ≡ command_of (texts ws)
+pub three_words : (ws : List (Bor (List ℕ))) (d : Bor (List ℕ)) → 3 ≤ length ws → length ws < 4
+    → run_of false (get_or ws 0 d).now (get_or ws 1 d).now (get_or ws 2 d).now ≡ command_of (texts ws)
 unfolding command_of
-three_words [] a b = absurd (omega arith)
-three_words (w ∷ []) a b = absurd (omega arith)
-three_words (w ∷ x ∷ []) a b = absurd (omega arith)
-three_words (w ∷ x ∷ y ∷ []) a b = refl
-three_words (w ∷ x ∷ y ∷ z ∷ ws) a b = absurd (omega arith)
+three_words [] d a b = absurd (omega arith)
+three_words (w ∷ []) d a b = absurd (omega arith)
+three_words (w ∷ x ∷ []) d a b = absurd (omega arith)
+three_words (w ∷ x ∷ y ∷ []) d a b = refl
+three_words (w ∷ x ∷ y ∷ z ∷ ws) d a b = absurd (omega arith)
 
-pub more_words : (ws : List (Bor (List ℕ))) → 5 ≤ length ws → None ≡ command_of (texts ws)
+pub five_words : (ws : List (Bor (List ℕ))) → 5 ≤ length ws → length ws < 6 → None ≡ command_of (texts ws)
+unfolding command_of
+five_words [] a b = absurd (omega arith)
+five_words (w ∷ []) a b = absurd (omega arith)
+five_words (w ∷ x ∷ []) a b = absurd (omega arith)
+five_words (w ∷ x ∷ y ∷ []) a b = absurd (omega arith)
+five_words (w ∷ x ∷ y ∷ z ∷ []) a b = absurd (omega arith)
+five_words (w ∷ x ∷ y ∷ z ∷ v ∷ []) a b = refl
+five_words (w ∷ x ∷ y ∷ z ∷ v ∷ u ∷ ws) a b = absurd (omega arith)
+
+pub six_words : (ws : List (Bor (List ℕ))) (d : Bor (List ℕ)) → 6 ≤ length ws → length ws < 7
+    → of_six (get_or ws 0 d).now (get_or ws 1 d).now (get_or ws 2 d).now (get_or ws 3 d).now (get_or ws 4 d).now (get_or ws 5 d).now ≡ command_of (texts ws)
+unfolding command_of
+six_words [] d a b = absurd (omega arith)
+six_words (w ∷ []) d a b = absurd (omega arith)
+six_words (w ∷ x ∷ []) d a b = absurd (omega arith)
+six_words (w ∷ x ∷ y ∷ []) d a b = absurd (omega arith)
+six_words (w ∷ x ∷ y ∷ z ∷ []) d a b = absurd (omega arith)
+six_words (w ∷ x ∷ y ∷ z ∷ v ∷ []) d a b = absurd (omega arith)
+six_words (w ∷ x ∷ y ∷ z ∷ v ∷ u ∷ []) d a b = refl
+six_words (w ∷ x ∷ y ∷ z ∷ v ∷ u ∷ t ∷ ws) d a b = absurd (omega arith)
+
+pub more_words : (ws : List (Bor (List ℕ))) → 7 ≤ length ws → None ≡ command_of (texts ws)
 unfolding command_of
 more_words [] a = absurd (omega arith)
 more_words (w ∷ []) a = absurd (omega arith)
 more_words (w ∷ x ∷ []) a = absurd (omega arith)
 more_words (w ∷ x ∷ y ∷ []) a = absurd (omega arith)
 more_words (w ∷ x ∷ y ∷ z ∷ []) a = absurd (omega arith)
-more_words (w ∷ x ∷ y ∷ z ∷ v ∷ ws) a = refl
+more_words (w ∷ x ∷ y ∷ z ∷ v ∷ []) a = absurd (omega arith)
+more_words (w ∷ x ∷ y ∷ z ∷ v ∷ u ∷ []) a = absurd (omega arith)
+more_words (w ∷ x ∷ y ∷ z ∷ v ∷ u ∷ t ∷ ws) a = refl

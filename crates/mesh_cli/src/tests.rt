@@ -95,10 +95,30 @@ fn reads_nothing_for_words_of_no_form(rt: HostRuntime) -> Result<(), Fail> {
     assert!(rt;
         is_told(
             &rt,
-            &["run", "--quiet", "--quiet"],
+            &["run", "--quiet", "--variant", "number"],
             DATUM,
             Status::Usage,
             ""
+        )?
+    );
+    assert!(rt; is_told(&rt, &["run", "--variant", "Base"], DATUM, Status::Usage, "")?);
+    Ok(())
+}
+
+// A request that goes by the originator's number, where the protocol as it stands has the id 1.
+#[test]
+fn runs_the_variant_that_is_named(rt: HostRuntime) -> Result<(), Fail> {
+    let schedule =
+        "node 10.0.0.1\nnode 10.0.0.2\ndata 10.0.0.1 10.0.0.2 x\nturn 10.0.0.1\nask 10.0.0.1 10.0.0.2\n";
+    let text =
+        "node 10.0.0.1 sn 1\nnode 10.0.0.2 sn 1\ndata 10.0.0.1 10.0.0.2 x\nturn 10.0.0.1\n  took new 10.0.0.2\nask 10.0.0.1 10.0.0.2\n  sent all 01080000000000020a000002000000000a00000100000002\ndone events 3 idle 0 given 1 delivered 0 waiting 1 queued 0 flying 0 lost 0\n";
+    assert!(rt;
+        is_told(
+            &rt,
+            &["run", "--variant", "number"],
+            schedule,
+            Status::Done,
+            text
         )?
     );
     Ok(())

@@ -5,7 +5,7 @@ ghost use Rattle.mesh_text.specs.Runs.{world_after};
 ghost use Rattle.mesh_io.specs.Cause.{Rose};
 ghost use Rattle.mesh_io.specs.Buffering.{inner_of, gathered_in, held_by};
 ghost use Rattle.mesh_cli.specs.Words.{command_of as command_of_lem, IsAllowed};
-ghost use Rattle.mesh_cli.specs.Does.{Does, Completes, IsReadBy, reads, schedule_of};
+ghost use Rattle.mesh_cli.specs.Does.{Does, Completes, IsReadBy, reads, schedule_of, variant_of};
 
 use crate::words::{Command, command_of};
 use mesh_io::{Buffered, Loan, Sink, Source, Through};
@@ -34,14 +34,14 @@ fn do_command<I: Source, O: Sink>(
     ensures words { result ≢ Status.Usage }
 {
     match command {
-        Command::Run { quiet } => run::<World, I, O>(alloc, quiet, input, out),
+        Command::Run { variant, quiet } => run::<World, I, O>(alloc, quiet, variant, input, out),
         Command::Make(plan) => match make(plan.seed, plan.nodes, plan.steps, out) {
             Ok(()) => Status::Done,
             Err(_) => Status::WriteFault,
         },
-        Command::Trial(plan) => {
+        Command::Trial { variant, plan } => {
             let mut schedule = MadeSource::new(plan.seed, plan.nodes, plan.steps);
-            run::<World, MadeSource, O>(alloc, true, &mut schedule, out)
+            run::<World, MadeSource, O>(alloc, true, variant, &mut schedule, out)
         }
     }
 }
@@ -55,13 +55,15 @@ fn do_gathered<I: Source, S: Sink>(
 ) -> Status
     requires gathered { gathered_in buffer.old ≡ [] }
     requires allowed { IsAllowed command }
-    ensures told { Does command (I.left input.old) (held_by S.held buffer.old) (held_by S.held buffer.new) result }
+    ensures told { Does command (I.left input.old)
+        (held_by S.held buffer.old) (held_by S.held buffer.new) result }
     ensures handed_on { result ≢ Status.WriteFault → gathered_in buffer.new ≡ [] }
     ensures untouched { reads command ≡ false → input.new ≡ input.old }
     ensures end { result ≡ Status.Done → IsReadBy command (I.left input.new) }
     ensures read { result ≡ Status.ReadFault → Rose (I.faults input.old) (I.faults input.new) }
     ensures reads { result ≡ Status.ReadFault → reads command ≡ true }
-    ensures write { result ≡ Status.WriteFault → Rose (S.faults (inner_of buffer.old)) (S.faults (inner_of buffer.new)) }
+    ensures write { result ≡ Status.WriteFault
+        → Rose (S.faults (inner_of buffer.old)) (S.faults (inner_of buffer.new)) }
     ensures nothing { result ≡ Status.ReadFault → buffer.new ≡ buffer.old }
     ensures words { result ≢ Status.Usage }
 {
@@ -87,12 +89,14 @@ fn do_through<'s, I: Source, O: Sink, L: Loan>(
     requires name { out.ghost_name ≡ L.name }
     requires start { O.held out.now ≡ L.start }
     ensures same { result.ghost_name ≡ out.entry.ghost_name }
-    ensures told { Does command (I.left input.old) (O.held out.entry.now) (O.held result.now) status.new }
+    ensures told { Does command (I.left input.old)
+        (O.held out.entry.now) (O.held result.now) status.new }
     ensures untouched { reads command ≡ false → input.new ≡ input.old }
     ensures end { status.new ≡ Status.Done → IsReadBy command (I.left input.new) }
     ensures read { status.new ≡ Status.ReadFault → Rose (I.faults input.old) (I.faults input.new) }
     ensures reads { status.new ≡ Status.ReadFault → reads command ≡ true }
-    ensures write { status.new ≡ Status.WriteFault → Rose (O.faults out.entry.now) (O.faults result.now) }
+    ensures write { status.new ≡ Status.WriteFault
+        → Rose (O.faults out.entry.now) (O.faults result.now) }
     ensures nothing { status.new ≡ Status.ReadFault → result.now ≡ out.entry.now }
     ensures words { status.new ≢ Status.Usage }
 {
@@ -104,21 +108,27 @@ fn do_through<'s, I: Source, O: Sink, L: Loan>(
 /// Does what the words of the command line say, from the source to the sink. `run` reads a schedule
 /// and writes the text of its run, `run --quiet` the text's last line alone; `make` writes the
 /// schedule that a seed makes; `trial` runs such a schedule, and writes the last line of its text.
+/// `run --variant NAME` and `trial --variant NAME` let all nodes run that variant of the protocol.
 /// What is written is gathered in a buffer of 65536 bytes, and handed on when that is full and at
 /// the end, whatever the answer.
 pub fn mesh<I: Source, O: Sink>(alloc: Global, words: &[&str], input: &mut I, out: &mut O) -> Status
     // The words are of no form: nothing is read or written.
-    ensures usage_exactly_for_other_words { (result ≡ Status.Usage) ↔ (command_of_lem (map (λ w. w.now) words.now) ≡ None) }
-    ensures untouched_by_other_words { result ≡ Status.Usage → (input.new ≡ input.old) × (out.new ≡ out.old) }
+    ensures usage_exactly_for_other_words { (result ≡ Status.Usage)
+        ↔ (command_of_lem (map (λ w. w.now) words.now) ≡ None) }
+    ensures untouched_by_other_words { result ≡ Status.Usage
+        → (input.new ≡ input.old) × (out.new ≡ out.old) }
 
     // What is written is the text that the command asks for, and the answer its verdict. After a
-    // failed read or write, or want of memory, it is a front of that text. `make` answers no want of memory.
+    // failed read or write, or want of memory, it is a front of that text. `make` answers no want
+    // of memory.
     ensures text_and_verdict { IfSome (command_of_lem (map (λ w. w.now) words.now)) (λ command.
         Does command (I.left input.old) (O.held out.old) (O.held out.new) result) }
 
-    // In no world that the run comes to, after any number of its events, does a destination have a cycle.
-    ensures no_circles { IfSome (command_of_lem (map (λ w. w.now) words.now)) (λ command.
-        IfSome (schedule_of command (I.left input.old)) (λ schedule. (k d : ℕ) → ¬ (Cycle (world_after schedule k) d))) }
+    // In no world that the run comes to, after any number of its events, does a destination have a
+    // cycle.
+    ensures loop_free { IfSome (command_of_lem (map (λ w. w.now) words.now)) (λ command.
+        IfSome (schedule_of command (I.left input.old)) (λ schedule.
+        (k d : ℕ) → ¬ (Cycle (world_after (variant_of command) schedule k) d))) }
 
     // `run` is done only where the input was read to its end; `make` and `trial` read nothing.
     ensures done_at_the_end { IfSome (command_of_lem (map (λ w. w.now) words.now)) (λ command.
@@ -131,15 +141,19 @@ pub fn mesh<I: Source, O: Sink>(alloc: Global, words: &[&str], input: &mut I, ou
         reads command ≡ false → (n : ℕ) → result ≢ Status.BadLine n) }
 
     // A fault is answered only where the source or the sink has failed in this call.
-    ensures cause_of_read_fault { result ≡ Status.ReadFault → Rose (I.faults input.old) (I.faults input.new) }
-    ensures cause_of_write_fault { result ≡ Status.WriteFault → Rose (O.faults out.old) (O.faults out.new) }
+    ensures cause_of_read_fault { result ≡ Status.ReadFault
+        → Rose (I.faults input.old) (I.faults input.new) }
+    ensures cause_of_write_fault { result ≡ Status.WriteFault
+        → Rose (O.faults out.old) (O.faults out.new) }
 
     // After a failed read nothing was written.
     ensures nothing_written_after_read_fault { result ≡ Status.ReadFault → out.new ≡ out.old }
 
-    // Where every line is allowed and nothing has failed, the whole text is written, unless memory runs out.
+    // Where every line is allowed and nothing has failed, the whole text is written, unless memory
+    // runs out.
     ensures complete { IfSome (command_of_lem (map (λ w. w.now) words.now)) (λ command.
-        (Rose (I.faults input.old) (I.faults input.new) → ⊥) → (Rose (O.faults out.old) (O.faults out.new) → ⊥)
+        (Rose (I.faults input.old) (I.faults input.new) → ⊥)
+        → (Rose (O.faults out.old) (O.faults out.new) → ⊥)
         → Completes command (I.left input.old) result) }
 {
     match command_of(words) {

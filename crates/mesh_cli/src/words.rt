@@ -1,8 +1,9 @@
 //! The words of a command line.
 ghost use Rattle.std.specs.Prelude.{◌≡◌, ◌≤◌, map, IfSome};
-ghost use Rattle.mesh_cli.specs.Words.{number_in as number_in_lem, plan_of as plan_of_lem, of_one as of_one_lem, of_two as of_two_lem, of_four as of_four_lem, command_of as command_of_lem, IsPlan, IsAllowed};
+ghost use Rattle.mesh_cli.specs.Words.{number_in as number_in_lem, plan_of as plan_of_lem, variant_named as variant_named_lem, of_one as of_one_lem, of_two as of_two_lem, run_of as run_of_lem, of_four as of_four_lem, of_six as of_six_lem, command_of as command_of_lem, IsPlan, IsAllowed};
 
-use mesh_base::number_up_to;
+use mesh_base::{MOST_NODES, Variant, number_up_to};
+use mesh_make::MOST_STEPS;
 
 /// What a schedule is made from.
 #[derive(Clone, Copy, Debug, PartialEq, Eq)]
@@ -17,12 +18,14 @@ pub struct Plan {
 /// What the words ask for.
 #[derive(Clone, Copy, Debug, PartialEq, Eq)]
 pub enum Command {
-    /// To run the schedule that is read, and to write its text, or the last line alone.
-    Run { quiet: bool },
+    /// To run the schedule that is read, where all nodes run this variant of the protocol, and to
+    /// write its text, or the last line alone.
+    Run { variant: Variant, quiet: bool },
     /// To write the made schedule.
     Make(Plan),
-    /// To run the made schedule, and to write the last line of its text.
-    Trial(Plan),
+    /// To run the made schedule, where all nodes run this variant of the protocol, and to write the
+    /// last line of its text.
+    Trial { variant: Variant, plan: Plan },
 }
 
 // The number that a word spells, where it is from `least` to `most`.
@@ -42,13 +45,30 @@ fn plan_of(seed: &str, nodes: &str, steps: &str) -> Option<Plan>
     ensures plan { IfSome result IsPlan }
 {
     let seed = number_in(seed, 0, u64::MAX)?;
-    let nodes = number_in(nodes, 2, 200)?;
-    let steps = number_in(steps, 1, 100_000)?;
+    let nodes = number_in(nodes, 2, MOST_NODES as u64)?;
+    let steps = number_in(steps, 1, u64::from(MOST_STEPS))?;
     Some(Plan {
         seed,
         nodes: nodes as u32,
         steps: steps as u32,
     })
+}
+
+// The variant of the protocol that a word names.
+fn variant_named(name: &str) -> Option<Variant>
+    ensures { result ≡ variant_named_lem name.now }
+{
+    if name == "base" {
+        Some(Variant::Base)
+    } else if name == "number" {
+        Some(Variant::Number)
+    } else if name == "reply" {
+        Some(Variant::Reply)
+    } else if name == "error" {
+        Some(Variant::Error)
+    } else {
+        None
+    }
 }
 
 // `run`
@@ -57,7 +77,10 @@ fn of_one(word: &str) -> Option<Command>
     ensures allowed { IfSome result IsAllowed }
 {
     if word == "run" {
-        Some(Command::Run { quiet: false })
+        Some(Command::Run {
+            variant: Variant::Base,
+            quiet: false,
+        })
     } else {
         None
     }
@@ -69,29 +92,73 @@ fn of_two(word: &str, option: &str) -> Option<Command>
     ensures allowed { IfSome result IsAllowed }
 {
     if word == "run" && option == "--quiet" {
-        Some(Command::Run { quiet: true })
+        Some(Command::Run {
+            variant: Variant::Base,
+            quiet: true,
+        })
     } else {
         None
     }
 }
 
-// `make` and `trial` with their numbers
-fn of_four(word: &str, seed: &str, nodes: &str, steps: &str) -> Option<Command>
-    ensures value { result ≡ of_four_lem word.now seed.now nodes.now steps.now }
+// `run --variant NAME`
+fn run_of(quiet: bool, word: &str, option: &str, name: &str) -> Option<Command>
+    ensures value { result ≡ run_of_lem quiet word.now option.now name.now }
     ensures allowed { IfSome result IsAllowed }
 {
-    let plan = plan_of(seed, nodes, steps)?;
+    if word == "run" && option == "--variant" {
+        let variant = variant_named(name)?;
+        Some(Command::Run { variant, quiet })
+    } else {
+        None
+    }
+}
+
+// `run --variant NAME --quiet`, and `make` and `trial` with their numbers
+fn of_four(word: &str, second: &str, third: &str, last: &str) -> Option<Command>
+    ensures value { result ≡ of_four_lem word.now second.now third.now last.now }
+    ensures allowed { IfSome result IsAllowed }
+{
+    if last == "--quiet" {
+        return run_of(true, word, second, third);
+    }
+    let plan = plan_of(second, third, last)?;
     if word == "make" {
         Some(Command::Make(plan))
     } else if word == "trial" {
-        Some(Command::Trial(plan))
+        Some(Command::Trial {
+            variant: Variant::Base,
+            plan,
+        })
     } else {
         None
     }
 }
 
-/// What the words ask for, if they are of a form: `run`, `run --quiet`, `make SEED NODES STEPS` or
-/// `trial SEED NODES STEPS`.
+// `trial --variant NAME` with its numbers
+fn of_six(
+    word: &str,
+    option: &str,
+    name: &str,
+    seed: &str,
+    nodes: &str,
+    steps: &str,
+) -> Option<Command>
+    ensures value { result ≡ of_six_lem word.now option.now name.now seed.now nodes.now steps.now }
+    ensures allowed { IfSome result IsAllowed }
+{
+    if word == "trial" && option == "--variant" {
+        let variant = variant_named(name)?;
+        let plan = plan_of(seed, nodes, steps)?;
+        Some(Command::Trial { variant, plan })
+    } else {
+        None
+    }
+}
+
+/// What the words ask for, if they are of a form: `run` or `trial SEED NODES STEPS`, each with
+/// `--variant NAME` after its first word or without; either form of `run` with `--quiet` at its end;
+/// or `make SEED NODES STEPS`. The names are `base`, `number`, `reply` and `error`.
 pub fn command_of(words: &[&str]) -> Option<Command>
     ensures value { result ≡ command_of_lem (map (λ w. w.now) words.now) }
     ensures allowed { IfSome result IsAllowed }
@@ -99,7 +166,9 @@ pub fn command_of(words: &[&str]) -> Option<Command>
     match words {
         [word] => of_one(word),
         [word, option] => of_two(word, option),
-        [word, seed, nodes, steps] => of_four(word, seed, nodes, steps),
+        [word, option, name] => run_of(false, word, option, name),
+        [word, second, third, last] => of_four(word, second, third, last),
+        [word, option, name, seed, nodes, steps] => of_six(word, option, name, seed, nodes, steps),
         _ => None,
     }
 }

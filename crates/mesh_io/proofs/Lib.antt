@@ -1,4 +1,11 @@
 pub mod Writing
-pub mod Reading
+pub mod Giving
+pub mod WholeReads
 pub mod Counting
 pub mod Causes
+pub mod FirstLines
+pub mod Deciding
+pub mod Following
+pub mod Ahead
+pub mod Staying
+pub mod Readers

@@ -1,14 +1,21 @@
 //! Where the bytes of a run come from and where its text goes: sources and sinks with a count of
-//! their faults, in memory and over std's readers and writers, and a buffer before a sink. A
-//! reader or writer that fails is told from one that ends, and each refusal has a fault as its cause.
+//! their faults, in memory and over std's readers and writers, the lines of a source, and a buffer
+//! before a sink. A reader or writer that fails is told from one that ends, and each refusal by one
+//! has a fault as its cause.
 #![tactic(auto)]
 
 mod buffered;
 mod calls;
+mod cutter;
+mod decision;
+mod limits;
+mod line_error;
+mod lines;
 mod mem_sink;
 mod mem_source;
 mod put;
 mod read;
+mod read_buffer;
 mod sink;
 mod source;
 mod stream;
@@ -18,6 +25,8 @@ mod tests;
 mod through;
 
 pub use buffered::Buffered;
+pub use line_error::LineError;
+pub use lines::Lines;
 pub use mem_sink::MemSink;
 pub use mem_source::MemSource;
 pub use put::{PutFault, put_all};

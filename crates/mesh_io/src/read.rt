@@ -2,15 +2,12 @@
 ghost use Rattle.std.specs.Prelude.{◌≡◌, ◌≤◌, length, true, false, IfSome, IfOk, IsErrOf};
 ghost use Rattle.std.specs.Io.KnownBytes.{IsAtEnd};
 ghost use Rattle.mesh_io.specs.Cause.{Rose};
-ghost use Rattle.mesh_io.specs.Input.{limit, IsFront};
+ghost use Rattle.mesh_io.specs.Input.{IsFront};
 
 use crate::source::Source;
-use mesh_base::Bytes;
+use mesh_base::{Bytes, LONGEST_INPUT};
 use std::alloc::Global;
 use thiserror::Error;
-
-/// The most bytes of an input.
-const LIMIT: usize = 16777216;
 
 /// Why an input wasn't read.
 #[derive(Clone, Copy, Debug, PartialEq, Eq, Error)]
@@ -30,21 +27,21 @@ pub struct Whole {
     pub more: bool,
 }
 
-/// Reads the input, or its first 16777216 bytes where it has more. The source is asked with a
-/// buffer of 65536 bytes until it ends or has given a byte too many.
+/// Reads the input, or its first `LONGEST_INPUT` bytes where it has more. The source is asked with
+/// a buffer of 65536 bytes until it ends or has given a byte too many.
 pub fn read_all<S: Source>(alloc: Global, source: &mut S) -> Result<Whole, ReadAllError>
     ensures bytes { IfOk result (λ whole. IfSome (S.left source.old) (λ input.
         IsFront input whole.bytes whole.more)) }
     ensures end { IfOk result (λ whole. whole.more ≡ false → IsAtEnd (S.left source.new)) }
-    ensures fits { IfOk result (λ whole. length whole.bytes ≤ limit) }
-    ensures full { IfOk result (λ whole. whole.more ≡ true → length whole.bytes ≡ limit) }
+    ensures fits { IfOk result (λ whole. length whole.bytes ≤ LONGEST_INPUT) }
+    ensures full { IfOk result (λ whole. whole.more ≡ true → length whole.bytes ≡ LONGEST_INPUT) }
     ensures later { S.faults source.old ≤ S.faults source.new }
     ensures fault { IsErrOf result ReadAllError.ReadFault → Rose (S.faults source.old) (S.faults source.new) }
     ensures none { ¬ IsErrOf result ReadAllError.ReadFault → S.faults source.new ≡ S.faults source.old }
 {
     let mut bytes: Vec<u8> = Vec::new(alloc);
     let mut buf = [0u8; 65536];
-    while bytes.len() <= LIMIT {
+    while bytes.len() <= LONGEST_INPUT {
         match source.take(&mut buf) {
             Ok(0) => {
                 return Ok(Whole {
@@ -60,7 +57,7 @@ pub fn read_all<S: Source>(alloc: Global, source: &mut S) -> Result<Whole, ReadA
             Err(_) => return Err(ReadAllError::ReadFault),
         }
     }
-    bytes.truncate(LIMIT);
+    bytes.truncate(LONGEST_INPUT);
     Ok(Whole {
         bytes: Bytes::from_vec(bytes),
         more: true,

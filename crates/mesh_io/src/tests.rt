@@ -1,8 +1,10 @@
 //! Each call that can find no memory, and the sizes of what passes through.
 use crate::{
-    Buffered, Failed, MemSink, MemSource, PutFault, ReadAllError, Source, put_all, read_all,
+    Buffered, Failed, LineError, Lines, MemSink, MemSource, PutFault, ReadAllError, Source,
+    StdSink, StdSource, put_all, read_all,
 };
 use mesh_base::Bytes;
+use std::fs::File;
 use std::test::Fail;
 
 #[test]
@@ -50,5 +52,60 @@ fn pieces_are_gathered_to_one_call(rt: HostRuntime) -> Result<(), Fail> {
     assert_eq!(rt; buffer.flush(), Err(PutFault));
     let sink = buffer.into_inner();
     assert_eq!(rt; sink.held(), b"node 10.0.0.1".as_slice());
+    Ok(())
+}
+
+// The lines of these bytes, from a source that gives 7 bytes a call and fails at its second.
+#[test]
+fn lines_come_one_by_one(rt: HostRuntime) -> Result<(), Fail> {
+    let bytes = Bytes::copy_of(rt.alloc(), b"node 10.0.0.1\n\nturn")?;
+    let mut source = MemSource::new(rt.alloc(), bytes, 7, &[2])?;
+    let mut lines = Lines::new(&mut source);
+    for answer in [
+        Err(LineError::ReadFault),
+        Ok(Some(b"node 10.0.0.1".as_slice())),
+        Ok(Some(b"".as_slice())),
+        Ok(Some(b"turn".as_slice())),
+        Ok(None),
+        Ok(None),
+    ] {
+        assert_eq!(rt; lines.next(), answer);
+    }
+    Ok(())
+}
+
+#[test]
+fn a_line_has_at_most_600_bytes(rt: HostRuntime) -> Result<(), Fail> {
+    let mut bytes = vec![in rt.alloc(); b'x'; 1202]?;
+    bytes[600] = b'\n';
+    let mut source = MemSource::new(rt.alloc(), Bytes::from_vec(bytes), 4096, &[])?;
+    let mut lines = Lines::new(&mut source);
+    assert_eq!(rt; lines.next(), Ok(Some([b'x'; 600].as_slice())));
+    assert!(rt; lines.is_decided());
+    assert_eq!(rt; lines.next(), Err(LineError::TooLong));
+    assert_eq!(rt; lines.next(), Err(LineError::TooLong));
+    Ok(())
+}
+
+#[test]
+fn lines_pass_through_a_pipe(rt: HostRuntime) -> Result<(), Fail> {
+    let (reader, writer) = std::io::pipe(&rt)?;
+    let mut sink = StdSink::new(writer);
+    assert_eq!(rt; put_all(&mut sink, b"node 10.0.0.1\n"), Ok(()));
+    let mut source = StdSource::new(reader);
+    let mut lines = Lines::new(&mut source);
+    assert_eq!(rt; lines.next(), Ok(Some(b"node 10.0.0.1".as_slice())));
+    drop(sink);
+    assert_eq!(rt; lines.next(), Ok(None));
+    Ok(())
+}
+
+#[test]
+fn what_the_system_refuses_is_a_fault(rt: HostRuntime) -> Result<(), Fail> {
+    let mut sink = StdSink::new(File::create(&rt, "/dev/full")?);
+    assert_eq!(rt; put_all(&mut sink, b"turn"), Err(PutFault));
+    let mut source = StdSource::new(File::open(&rt, "/")?);
+    let mut lines = Lines::new(&mut source);
+    assert_eq!(rt; lines.next(), Err(LineError::ReadFault));
     Ok(())
 }

@@ -1,7 +1,10 @@
-pub mod Places
-pub mod LineByLine
-pub mod Pieces
+pub mod Actions
 pub mod Texts
-pub mod Named
+pub mod Grown
 pub mod Safe
+pub mod Fits
 pub mod Allowed
+pub mod Places
+pub mod Pieces
+pub mod LineByLine
+pub mod Seen

@@ -23,3 +23,8 @@ stops a b c all rest line more h e q = record {
       ∙ sym (append_assoc h.handed q.front (q.rest ++ more));
   grown = Appends-join a b c h.handed q.front (h.handed ++ q.front) refl h.grown q.grown;
 }
+
+-- a line that joins what stands before it
+pub joined_on : (old words last rest whole : List ℕ) → whole ≡ (words ++ last) ++ rest → old ++ whole ≡ ((old ++ words) ++ last) ++ rest
+joined_on old words last rest whole e =
+    ap (λ (w : List ℕ). old ++ w) e ∙ sym (append_assoc old (words ++ last) rest) ∙ ap (λ (w : List ℕ). w ++ rest) (sym (append_assoc old words last))

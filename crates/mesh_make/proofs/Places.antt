@@ -1,112 +1,146 @@
 -- One line more of a schedule.
-use Rattle.std.proofs.Common.{◌≡◌, ℕ, zero, suc, ◌+◌, ◌-◌, ◌<◌, ◌≤◌, false, List, [], ◌∷◌, ◌++◌, length, refl, sym, append_assoc, append-nil, length-append, arith, inl, inr}
+use Rattle.std.proofs.Common.{◌≡◌, ℕ, suc, ◌+◌, ◌-◌, ◌<◌, ◌≤◌, true, false, List, [], ◌∷◌, ◌++◌, refl, sym, ap, ◌∙◌, arith, inl, inr}
 use Rattle.std.proofs.lemmas.Bool.{cases_lt, le-ltb, lt-ltb}
 use Rattle.rand_pcg.specs.Lcg.{Lcg}
+use Rattle.mesh_grammar.specs.Written.{line}
+use Rattle.mesh_base.specs.Meshes.{Nodes}
+use Rattle.mesh_text.specs.Schedule.{Accepted, Nothing, NewNode, Does, Chooses, ShowsNode, ShowsRoute, ShowsFlight}
+use Rattle.mesh_text.specs.Ranges.{IsInRange, IsInTime}
+use Rattle.mesh_text.specs.Lines.{words_of}
 use Rattle.mesh_make.specs.declared.maker.Place.{Place}
 use Rattle.mesh_make.specs.declared.maker.Place.TheVariants.{Node, Link, Step, Last, End}
 use Rattle.mesh_make.specs.Words.{of_seed}
-use Rattle.mesh_make.specs.Lines.{ended, node_line, link_line, auto_line}
 use Rattle.mesh_make.specs.Drawn.{step_line}
-use Rattle.mesh_make.specs.Made.{node_lines, chain, step_lines, made}
-use Rattle.mesh_make.specs.Places.{IsPlace, is_end, line_at, place_after, text_from, from_step, from_link}
+use Rattle.mesh_make.specs.Made.{node_line, link_line, node_lines, chain, step_lines, mesh_of, text_in, lines_of, made}
+use Rattle.mesh_make.proofs.Grown.{IsMeshOf, is_new, mesh_of-is, next_mesh}
+use Rattle.mesh_make.proofs.Fits.{IsFit, fit_chain, fit_last, fit_step}
+use Rattle.mesh_make.specs.Places.{IsPlace, IsSize, is_end, nodes_at, mesh_after, line_at, place_after, lines_from}
 
-node_on : (i count : ℕ) → 0 < count → node_lines i count ≡ ended (node_line i) ++ node_lines (i + 1) (count - 1)
-unfolding node_lines
-node_on i zero h = absurd (omega arith)
-node_on i (suc count) h = let e : suc count - 1 ≡ count = omega arith in rw e refl
+-- the lines from a place on are its line and those from the next place, before which there are so many nodes
+record IsNext (nodes steps : ℕ) (place : Place) (line : Accepted) (rng next : Lcg) (there : ℕ) : Type 0 where
+  lines : lines_from nodes steps place rng ≡ line ∷ lines_from nodes steps (place_after nodes steps place) next
+  nodes_next : nodes_at nodes (place_after nodes steps place) ≡ there
 
-link_on : (i count : ℕ) → 0 < count → chain i count ≡ ended (link_line i (i + 1)) ++ chain (i + 1) (count - 1)
-unfolding chain
-link_on i zero h = absurd (omega arith)
-link_on i (suc count) h = let e : suc count - 1 ≡ count = omega arith in rw e refl
+module _ (nodes steps : ℕ) where
+  at_node : (i : ℕ) (rng : Lcg) → i < nodes → IsNext nodes steps (Node i) (node_line i) rng rng (i + 1)
+  unfolding lines_from place_after node_lines
+  at_node i rng lt =
+      let on : nodes - i ≡ suc (nodes - (i + 1)) = omega arith in
+      elim (cases_lt (i + 1) nodes) [
+        | inl more ↦ let yes = lt-ltb (i + 1) nodes more in record { lines = rw (yes, on) refl; nodes_next = rw yes refl }
+        | inr ge ↦
+            let no = le-ltb (i + 1) nodes ge in
+            let none : nodes - (i + 1) ≡ 0 = omega arith in
+            record { lines = rw (no, on, none) refl; nodes_next = rw no (let e : nodes ≡ i + 1 = omega arith in e) }
+      ]
 
-step_on : (nodes s count : ℕ) (rng : Lcg) → 0 < count → step_lines nodes s count rng ≡ ended (step_line nodes s rng).line ++ step_lines nodes (s + 1) (count - 1) (step_line nodes s rng).rng
-unfolding step_lines
-step_on nodes s zero rng h = absurd (omega arith)
-step_on nodes s (suc count) rng h = let e : suc count - 1 ≡ count = omega arith in rw e refl
+  at_link : (i : ℕ) (rng : Lcg) → i + 1 < nodes → IsNext nodes steps (Link i) (link_line i) rng rng nodes
+  unfolding lines_from place_after chain
+  at_link i rng lt =
+      let on : nodes - (i + 1) ≡ suc (nodes - (i + 2)) = omega arith in
+      let same : nodes - (i + 1 + 1) ≡ nodes - (i + 2) = omega arith in
+      elim (cases_lt (i + 2) nodes) [
+        | inl more ↦ let yes = lt-ltb (i + 2) nodes more in record { lines = rw (yes, on, same) refl; nodes_next = rw yes refl }
+        | inr ge ↦
+            let no = le-ltb (i + 2) nodes ge in
+            let none : nodes - (i + 2) ≡ 0 = omega arith in
+            let all : steps + 1 - 1 ≡ steps = omega arith in
+            record { lines = rw (no, on, none, all) refl; nodes_next = rw no refl }
+      ]
 
-node_none : (i : ℕ) → node_lines i 0 ≡ []
-unfolding node_lines
-node_none i = refl
+  at_step : (s : ℕ) (rng : Lcg) → s ≤ steps → let d = step_line nodes s rng in IsNext nodes steps (Step s) d.value rng d.rng nodes
+  unfolding lines_from place_after step_lines
+  at_step s rng le =
+      let on : steps + 1 - s ≡ suc (steps - s) = omega arith in
+      let same : steps + 1 - (s + 1) ≡ steps - s = omega arith in
+      elim (cases_lt s steps) [
+        | inl more ↦ let yes = lt-ltb s steps more in record { lines = rw (yes, on, same) refl; nodes_next = rw yes refl }
+        | inr ge ↦
+            let no = le-ltb s steps ge in
+            let none : steps - s ≡ 0 = omega arith in
+            record { lines = rw (no, on, none) refl; nodes_next = rw no refl }
+      ]
 
-link_none : (i : ℕ) → chain i 0 ≡ []
-unfolding chain
-link_none i = refl
+  -- how many nodes are there after the line
+  abbrev after : Place → ℕ
+  after (Node i) = i + 1
+  after others = nodes
 
-step_none : (nodes s : ℕ) (rng : Lcg) → step_lines nodes s 0 rng ≡ []
-unfolding step_lines
-step_none nodes s rng = refl
+  next : (place : Place) (rng : Lcg) → IsPlace nodes steps place → is_end place ≡ false → let d = line_at nodes place rng in IsNext nodes steps place d.value rng d.rng (after place)
+  unfolding line_at
+  next (Node i) rng is more = at_node i rng is
+  next (Link i) rng is more = at_link i rng is
+  next (Step s) rng is more = at_step s rng is.1
+  next Last rng is more = unfold lines_from in unfold place_after in record { lines = refl; nodes_next = refl }
+  next End rng is more = cc
 
--- a first part, and then the others
-joined : (first rest all others : List ℕ) → all ≡ first ++ rest → all ++ others ≡ first ++ (rest ++ others)
-joined first rest all others e = rw e (append_assoc first rest others)
+  -- a line names no node that isn't there yet
+  words_at : (place : Place) (rng : Lcg) → let d = line_at nodes place rng in words_of (mesh_of (nodes_at nodes place)) d.value ≡ words_of (mesh_of nodes) d.value
+  unfolding line_at words_of
+  words_at (Node i) rng = refl
+  words_at (Link i) rng = refl
+  words_at (Step s) rng = refl
+  words_at Last rng = refl
+  words_at End rng = refl
 
-at_node : (nodes steps i : ℕ) (rng : Lcg) → i ≤ nodes → text_from nodes steps (Node i) rng ≡ ended (node_line i) ++ text_from nodes steps (place_after nodes steps (Node i)) rng
-unfolding text_from place_after
-at_node nodes steps i rng le =
-    let e : node_lines i (nodes + 1 - i) ++ from_link nodes steps 1 rng ≡ ended (node_line i) ++ (node_lines (i + 1) (nodes + 1 - i - 1) ++ from_link nodes steps 1 rng) =
-    joined (ended (node_line i)) (node_lines (i + 1) (nodes + 1 - i - 1)) (node_lines i (nodes + 1 - i)) (from_link nodes steps 1 rng) (node_on i (nodes + 1 - i) (omega arith)) in
-    elim (cases_lt i nodes) [
-      | inl lt ↦
-          let n : nodes + 1 - i - 1 ≡ nodes + 1 - (i + 1) = omega arith in
-          rw (lt-ltb i nodes lt) (rw n at e)
-      | inr ge ↦
-          let n : nodes + 1 - i - 1 ≡ 0 = omega arith in
-          rw (le-ltb i nodes ge) (rw (n, node_none) at e)
-    ]
+  -- the text from a place on
+  pub text_more : (place : Place) (rng : Lcg) → IsPlace nodes steps place → is_end place ≡ false
+      → let d = line_at nodes place rng in
+      text_in (mesh_of nodes) (lines_from nodes steps place rng)
+      ≡ line (words_of (mesh_of (nodes_at nodes place)) d.value) ++ text_in (mesh_of nodes) (lines_from nodes steps (place_after nodes steps place) d.rng)
+  text_more place rng is more =
+      let rest : List Accepted = lines_from nodes steps (place_after nodes steps place) (line_at nodes place rng).rng in
+      ap (text_in (mesh_of nodes)) (next place rng is more).lines
+      ∙ ap (λ words. line words ++ text_in (mesh_of nodes) rest) (sym (words_at place rng))
 
-at_link : (nodes steps i : ℕ) (rng : Lcg) → i < nodes → text_from nodes steps (Link i) rng ≡ ended (link_line i (i + 1)) ++ text_from nodes steps (place_after nodes steps (Link i)) rng
-unfolding text_from place_after
-at_link nodes steps i rng lt =
-    let e : chain i (nodes - i) ++ from_step nodes steps 1 rng ≡ ended (link_line i (i + 1)) ++ (chain (i + 1) (nodes - i - 1) ++ from_step nodes steps 1 rng) =
-    joined (ended (link_line i (i + 1))) (chain (i + 1) (nodes - i - 1)) (chain i (nodes - i)) (from_step nodes steps 1 rng) (link_on i (nodes - i) (omega arith)) in
-    elim (cases_lt (i + 1) nodes) [
-      | inl more ↦
-          let n : nodes - i - 1 ≡ nodes - (i + 1) = omega arith in
-          rw (lt-ltb (i + 1) nodes more) (rw n at e)
-      | inr ge ↦
-          let n : nodes - i - 1 ≡ 0 = omega arith in
-          rw (le-ltb (i + 1) nodes ge) (rw (n, link_none) at e)
-    ]
+same_mesh : (mesh : Nodes) (a : Accepted) → IsInTime true a → mesh_after mesh a ≡ mesh
+same_mesh mesh Nothing late = refl
+same_mesh mesh (NewNode address first) late = cc
+same_mesh mesh (Does e) late = refl
+same_mesh mesh (Chooses count) late = refl
+same_mesh mesh (ShowsNode x) late = refl
+same_mesh mesh (ShowsRoute x d) late = refl
+same_mesh mesh ShowsFlight late = refl
 
-at_step : (nodes steps s : ℕ) (rng : Lcg) → s ≤ steps → text_from nodes steps (Step s) rng ≡ ended (step_line nodes s rng).line ++ text_from nodes steps (place_after nodes steps (Step s)) (step_line nodes s rng).rng
-unfolding text_from place_after
-at_step nodes steps s rng le =
-    let next = (step_line nodes s rng).rng in
-    let e : step_lines nodes s (steps + 1 - s) rng ++ ended (auto_line 100000) ≡ ended (step_line nodes s rng).line ++ (step_lines nodes (s + 1) (steps + 1 - s - 1) next ++ ended (auto_line 100000)) =
-    joined (ended (step_line nodes s rng).line) (step_lines nodes (s + 1) (steps + 1 - s - 1) next) (step_lines nodes s (steps + 1 - s) rng) (ended (auto_line 100000)) (step_on nodes s (steps + 1 - s) rng (omega arith)) in
-    elim (cases_lt s steps) [
-      | inl lt ↦
-          let n : steps + 1 - s - 1 ≡ steps + 1 - (s + 1) = omega arith in
-          rw (lt-ltb s steps lt) (rw n at e)
-      | inr ge ↦
-          let n : steps + 1 - s - 1 ≡ 0 = omega arith in
-          rw (le-ltb s steps ge) (rw (n, step_none) at e)
-    ]
+module _ (nodes steps : ℕ) (size : IsSize nodes steps) where
+  all_nodes : IsMeshOf nodes (mesh_of nodes)
+  all_nodes = mesh_of-is nodes size.nodes_most
 
--- the line at a place, and then what comes from the next place
-pub line_more : (nodes steps : ℕ) (place : Place) (rng : Lcg) → IsPlace nodes steps place → is_end place ≡ false
-    → text_from nodes steps place rng ≡ ended (line_at nodes place rng).line ++ text_from nodes steps (place_after nodes steps place) (line_at nodes place rng).rng
-unfolding line_at
-line_more nodes steps (Node i) rng is more = at_node nodes steps i rng is.1
-line_more nodes steps (Link i) rng is more = at_link nodes steps i rng is.1
-line_more nodes steps (Step s) rng is more = at_step nodes steps s rng is.1
-line_more nodes steps Last rng is more = unfold text_from in unfold place_after in sym (append-nil (ended (auto_line 100000)))
-line_more nodes steps End rng is more = cc
+  step_fits : (s : ℕ) (rng : Lcg) → IsPlace nodes steps (Step s) → IsFit (mesh_of nodes) (step_line nodes s rng).value
+  step_fits s rng is = fit_step nodes (mesh_of nodes) size.two size.nodes_most all_nodes s is.0 (omega (arith, is.1, size.steps_most)) rng
+
+  -- the line is allowed where it stands
+  pub line_fits : (place : Place) (rng : Lcg) → IsPlace nodes steps place → IsInRange (mesh_of (nodes_at nodes place)) (line_at nodes place rng).value
+  unfolding line_at
+  line_fits (Node i) rng is = is_new i (mesh_of i) (omega (arith, size.nodes_most)) (mesh_of-is i (omega (arith, size.nodes_most)))
+  line_fits (Link i) rng is = (fit_chain nodes (mesh_of nodes) size.two size.nodes_most all_nodes i is).range
+  line_fits (Step s) rng is = (step_fits s rng is).range
+  line_fits Last rng is = (fit_last nodes (mesh_of nodes) size.two size.nodes_most all_nodes).range
+  line_fits End rng is = tt
+
+  -- the nodes that are there after the line
+  mesh_left : (place : Place) (rng : Lcg) → IsPlace nodes steps place → mesh_after (mesh_of (nodes_at nodes place)) (line_at nodes place rng).value ≡ mesh_of (after nodes steps place)
+  unfolding line_at
+  mesh_left (Node i) rng is = next_mesh i
+  mesh_left (Link i) rng is = refl
+  mesh_left (Step s) rng is = same_mesh (mesh_of nodes) (step_line nodes s rng).value ((step_fits s rng is).later true)
+  mesh_left Last rng is = refl
+  mesh_left End rng is = refl
+
+  pub mesh_next : (place : Place) (rng : Lcg) → IsPlace nodes steps place → is_end place ≡ false
+      → mesh_after (mesh_of (nodes_at nodes place)) (line_at nodes place rng).value ≡ mesh_of (nodes_at nodes (place_after nodes steps place))
+  mesh_next place rng is more = mesh_left place rng is ∙ ap mesh_of (sym (next nodes steps place rng is more).nodes_next)
 
 -- all of it
-pub from_start : (seed nodes steps : ℕ) → text_from nodes steps (Node 1) (of_seed seed) ≡ made seed nodes steps
-unfolding text_from made
-from_start seed nodes steps =
-    let n : nodes + 1 - 1 ≡ nodes = omega arith in
-    let s : steps + 1 - 1 ≡ steps = omega arith in
-    rw (n, s) refl
-
--- a line has at least its LF
-pub some_of_ended : (line : List ℕ) → 0 < length (ended line)
-some_of_ended line = omega (arith, length-append line (10 ∷ []))
+pub from_start : (seed nodes steps : ℕ) → text_in (mesh_of nodes) (lines_from nodes steps (Node 0) (of_seed seed)) ≡ made seed nodes steps
+unfolding lines_from made lines_of
+from_start seed nodes steps = let all : nodes - 0 ≡ nodes = omega arith in rw all refl
 
 -- nothing is left at the end
-pub none_at_end : (nodes steps : ℕ) (place : Place) (rng : Lcg) → place ≡ End → text_from nodes steps place rng ≡ []
-unfolding text_from
+pub none_at_end : (nodes steps : ℕ) (place : Place) (rng : Lcg) → place ≡ End → lines_from nodes steps place rng ≡ []
+unfolding lines_from
 none_at_end nodes steps place rng e = rw e refl
+
+pub no_nodes : mesh_of 0 ≡ []
+unfolding mesh_of
+no_nodes = refl

@@ -1,12 +1,10 @@
 -- Read in this order.
 -- Words: the random words of a seed.
--- Lines: the text of each line.
 -- Drawn: a line of the steps, by the words that are drawn for it.
 -- Made: the whole schedule.
 -- Laws: what is proved of it.
 -- Places, Making: how far a schedule is made. Only private functions speak of them.
 pub mod Words
-pub mod Lines
 pub mod Drawn
 pub mod Made
 pub mod Laws

@@ -1,35 +1,51 @@
 //! What a line of the steps does.
-ghost use Rattle.std.specs.Prelude.{◌≡◌, ◌%◌};
+ghost use Rattle.std.specs.Prelude.{◌≡◌};
 ghost use Rattle.mesh_make.specs.Drawn.{action_of};
 
-/// What a line of the steps does.
-#[derive(Clone, Copy)]
-pub enum Action {
-    Link,
-    Cut,
-    Data,
-    Lose,
-    Deliver,
-    Turn,
-    Route,
-    Ask,
-    Auto,
+use mesh_grammar::Command;
+
+/// What is drawn for the arguments of a command.
+#[derive(Clone, Copy, Debug, PartialEq, Eq)]
+pub enum Draws {
+    /// A node.
+    OneNode,
+    /// A node and another one.
+    TwoNodes,
+    /// A node and another one. The datum's text is made of the line's number.
+    Datum,
+    /// The number of a copy.
+    Copy,
+    /// Nothing: the number is `EVENTS_BETWEEN`.
+    Events,
 }
 
+/// A command, and what is drawn for its arguments.
+#[derive(Clone, Copy, Debug, PartialEq, Eq)]
+pub struct Action(pub Command, pub Draws);
+
+/// What a line does, by the remainder by 16 of the word that is drawn for it.
+pub const ACTIONS: [Action; 16] = [
+    Action(Command::Link, Draws::TwoNodes),
+    Action(Command::Link, Draws::TwoNodes),
+    Action(Command::Cut, Draws::TwoNodes),
+    Action(Command::Data, Draws::Datum),
+    Action(Command::Data, Draws::Datum),
+    Action(Command::Data, Draws::Datum),
+    Action(Command::Lose, Draws::Copy),
+    Action(Command::Deliver, Draws::Copy),
+    Action(Command::Turn, Draws::OneNode),
+    Action(Command::Turn, Draws::OneNode),
+    Action(Command::Route, Draws::TwoNodes),
+    Action(Command::Ask, Draws::TwoNodes),
+    Action(Command::Auto, Draws::Events),
+    Action(Command::Auto, Draws::Events),
+    Action(Command::Auto, Draws::Events),
+    Action(Command::Auto, Draws::Events),
+];
+
 /// What a line does that has this first word.
-#[tactic(auto, unfolding(crate::specs::Drawn::action_of))]
 pub fn action_of(word: u32) -> Action
-    ensures { result ≡ action_of (word % 16) }
+    ensures { result ≡ action_of word }
 {
-    match word % 16 {
-        0 | 1 => Action::Link,
-        2 => Action::Cut,
-        3..=5 => Action::Data,
-        6 => Action::Lose,
-        7 => Action::Deliver,
-        8 | 9 => Action::Turn,
-        10 => Action::Route,
-        11 => Action::Ask,
-        _ => Action::Auto,
-    }
+    ACTIONS[(word % 16) as usize]
 }

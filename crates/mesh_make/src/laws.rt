@@ -6,7 +6,7 @@ pub fn made_schedules_are_allowed()
     ensures { MadeSchedulesAreAllowed }
 {}
 
-/// A made schedule has at most 4000000 bytes, fewer than an input may have.
+/// A made schedule has fewer than 4000000 bytes, and so fewer than an input may have.
 pub fn made_schedules_are_short()
     ensures { MadeSchedulesAreShort }
 {}

@@ -6,14 +6,16 @@
 
 mod action;
 mod laws;
-mod line;
 mod maker;
+mod sizes;
 mod source;
+mod step;
 #[cfg(test)]
 mod tests;
 mod word;
 mod writing;
 
 pub use laws::{made_schedules_are_allowed, made_schedules_are_short};
+pub use sizes::MOST_STEPS;
 pub use source::MadeSource;
 pub use writing::make;

@@ -1,18 +1,21 @@
 //! A schedule that is made line by line.
 ghost use Rattle.std.specs.Prelude.{◌≡◌, ◌<◌, ◌≤◌, ◌+◌, ◌++◌, [], length, false, IsTrue};
 ghost use Rattle.arrayvec.specs.ArrayVec.{array_vec_len};
-ghost use Rattle.mesh_make.specs.Places.{IsPlace, IsSize, is_end, line_at, place_after, text_from};
-ghost use Rattle.mesh_make.specs.Made.{made};
+ghost use Rattle.mesh_script.specs.Seen.{accepted_of, IsPrintable};
+ghost use Rattle.mesh_make.specs.Places.{IsPlace, IsSize, line_at, place_after, mesh_after};
+ghost use Rattle.mesh_make.specs.Made.{mesh_of, made};
 
-use crate::line::{push_node, push_step, push_two, push_with_number};
+use crate::sizes::{EVENTS_AT_END, FIRST_ADDRESS};
+use crate::step::step_line;
 use crate::word::start;
-use mesh_base::LineBuf;
+use mesh_base::{Addr, Event, LINE_ROOM, LONGEST_LINE, LineBuf, Mesh};
+use mesh_script::{Line, push_line};
 use rand_pcg::Lcg64Xsh32;
 
 /// A place in a schedule: the line that comes next.
 #[derive(Clone, Copy)]
 pub enum Place {
-    /// The line of a node.
+    /// A node, counted from 0.
     Node(u32),
     /// The link from a node to the next.
     Link(u32),
@@ -24,48 +27,75 @@ pub enum Place {
     End,
 }
 
-/// How far a schedule is made.
-#[derive(Drop)]
-pub struct Maker {
+/// How many nodes and steps a schedule has.
+#[derive(Clone, Copy)]
+pub struct Size {
     pub nodes: u32,
     pub steps: u32,
-    pub place: Place,
-    pub rng: Lcg64Xsh32,
 }
 
-// The line at the place, without its LF.
+/// How far a schedule is made. The mesh has the nodes that were made; `text` is room for a datum's
+/// text, from which the line that gives it borrows.
+#[derive(Drop)]
+pub struct Maker {
+    pub size: Size,
+    pub place: Place,
+    pub rng: Lcg64Xsh32,
+    pub mesh: Mesh,
+    pub text: LineBuf,
+}
+
+// The line at the place, and what it draws.
 #[tactic(auto, unfolding(crate::specs::Places::line_at))]
-fn push_line(nodes: u32, steps: u32, place: Place, rng: &mut Lcg64Xsh32, out: &mut LineBuf)
-    requires size { IsSize nodes steps }
-    requires place { IsPlace nodes steps place }
-    requires room { array_vec_len out.old + 80 ≤ 8192 }
-    ensures text { out.new.items ≡ out.old.items ++ (line_at nodes place rng.old).line }
-    ensures length { array_vec_len out.new ≤ array_vec_len out.old + 80 }
-    ensures rng { rng.new ≡ (line_at nodes place rng.old).rng }
+fn line_at<'a>(size: Size, place: Place, rng: &mut Lcg64Xsh32, text: &'a mut LineBuf) -> Line<'a>
+    requires size { IsSize size.nodes size.steps }
+    requires place { IsPlace size.nodes size.steps place }
+    ensures line { accepted_of result ≡ (line_at size.nodes place rng.old).value }
+    ensures rng { rng.new ≡ (line_at size.nodes place rng.old).rng }
 {
     match place {
-        Place::Node(i) => push_node(out, i),
-        Place::Link(i) => push_two(out, b"link ", (i, i + 1)),
-        Place::Step(step) => push_step(out, nodes, step, rng),
-        Place::Last => push_with_number(out, b"auto ", 100000),
-        Place::End => {}
+        Place::Node(i) => Line::Node {
+            addr: Addr(FIRST_ADDRESS + i),
+            first: 1,
+        },
+        Place::Link(i) => Line::Step(Event::Link {
+            a: i as usize,
+            b: i as usize + 1,
+        }),
+        Place::Step(step) => step_line(size.nodes, step, rng, text),
+        Place::Last => Line::Auto {
+            count: EVENTS_AT_END,
+        },
+        Place::End => Line::Blank,
+    }
+}
+
+// The mesh after the line.
+fn grow(mesh: &mut Mesh, line: &Line<'_>)
+    requires { IsPrintable mesh.old line.now }
+    ensures { mesh.new ≡ mesh_after mesh.old (accepted_of line.now) }
+{
+    if let Line::Node { addr, first } = line {
+        if mesh.add(*addr, *first).is_err() {
+            unreachable!();
+        }
     }
 }
 
 // The place of the next line.
 #[tactic(auto, unfolding(crate::specs::Places::place_after))]
-fn place_after(nodes: u32, steps: u32, place: Place) -> Place
-    requires size { IsSize nodes steps }
-    requires place { IsPlace nodes steps place }
-    ensures after { result ≡ place_after nodes steps place }
-    ensures is_place { IsPlace nodes steps result }
+fn place_after(size: Size, place: Place) -> Place
+    requires size { IsSize size.nodes size.steps }
+    requires place { IsPlace size.nodes size.steps place }
+    ensures after { result ≡ place_after size.nodes size.steps place }
+    ensures is_place { IsPlace size.nodes size.steps result }
 {
     match place {
-        Place::Node(i) if i < nodes => Place::Node(i + 1),
-        Place::Node(_) => Place::Link(1),
-        Place::Link(i) if i + 1 < nodes => Place::Link(i + 1),
+        Place::Node(i) if i + 1 < size.nodes => Place::Node(i + 1),
+        Place::Node(_) => Place::Link(0),
+        Place::Link(i) if i + 2 < size.nodes => Place::Link(i + 1),
         Place::Link(_) => Place::Step(1),
-        Place::Step(step) if step < steps => Place::Step(step + 1),
+        Place::Step(step) if step < size.steps => Place::Step(step + 1),
         Place::Step(_) => Place::Last,
         Place::Last | Place::End => Place::End,
     }
@@ -81,10 +111,11 @@ impl Maker {
         ensures text { still_to_come result ≡ made seed nodes steps }
     {
         Maker {
-            nodes,
-            steps,
-            place: Place::Node(1),
+            size: Size { nodes, steps },
+            place: Place::Node(0),
             rng: start(seed),
+            mesh: Mesh::new(),
+            text: LineBuf::new(),
         }
     }
 
@@ -96,17 +127,36 @@ impl Maker {
         matches!(self.place, Place::End)
     }
 
-    /// Makes the next line, with its LF, in this buffer.
-    pub fn next_line(&mut self, line: &mut LineBuf)
+    // Appends the next line, with its LF.
+    fn push_next(&mut self, out: &mut LineBuf)
         requires making { IsMaking self.old }
         requires more { is_done self.old ≡ false }
-        ensures text { still_to_come self.old ≡ line.new.items ++ still_to_come self.new }
-        ensures some { 0 < length line.new.items }
+        requires room { array_vec_len out.old + LONGEST_LINE ≤ LINE_ROOM }
+        ensures text { out.old.items ++ still_to_come self.old ≡ out.new.items ++ still_to_come self.new }
+        ensures longer { array_vec_len out.old < array_vec_len out.new }
+        ensures length { array_vec_len out.new ≤ array_vec_len out.old + LONGEST_LINE }
         ensures making { IsMaking self.new }
     {
-        line.clear();
-        push_line(self.nodes, self.steps, self.place, &mut self.rng, line);
-        line.push(b'\n');
-        self.place = place_after(self.nodes, self.steps, self.place);
+        let line = line_at(self.size, self.place, &mut self.rng, &mut self.text);
+        push_line(out, &self.mesh, &line);
+        out.push(b'\n');
+        grow(&mut self.mesh, &line);
+        self.place = place_after(self.size, self.place);
+    }
+
+    /// Makes the next lines, each with its LF, in this buffer: at least one, and as many as are sure to
+    /// find room.
+    pub fn next_lines(&mut self, out: &mut LineBuf)
+        requires making { IsMaking self.old }
+        requires more { is_done self.old ≡ false }
+        ensures text { still_to_come self.old ≡ out.new.items ++ still_to_come self.new }
+        ensures some { 0 < length out.new.items }
+        ensures making { IsMaking self.new }
+    {
+        out.clear();
+        self.push_next(out);
+        'lines: while !self.is_done() && out.len() + LONGEST_LINE <= LINE_ROOM {
+            self.push_next(out);
+        }
     }
 }

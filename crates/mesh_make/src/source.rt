@@ -3,6 +3,8 @@ ghost use Rattle.std.specs.Prelude.{◌≡◌, ◌≤◌, ◌<◌, ◌+◌, ◌+
 ghost use Rattle.std.specs.Io.{ReadsAtMost};
 ghost use Rattle.std.specs.Io.KnownBytes.{ReadConsumes};
 ghost use Rattle.mesh_io.specs.Cause.{HasCause};
+ghost use Rattle.mesh_base.specs.declared.limits.TheConstants.{MOST_NODES};
+ghost use Rattle.mesh_make.specs.declared.sizes.TheConstants.{MOST_STEPS};
 ghost use Rattle.mesh_make.specs.Made.{made};
 ghost use Rattle.mesh_make.specs.Making.{IsMaking, still_to_come, unread};
 
@@ -43,7 +45,7 @@ fn refill(maker: &mut Maker, line: &mut LineBuf, at: usize) -> usize
     if at < line.len() || maker.is_done() {
         return at;
     }
-    maker.next_line(line);
+    maker.next_lines(line);
     0
 }
 
@@ -61,9 +63,9 @@ impl MadeSource {
     /// A source of the whole schedule.
     pub fn new(seed: u64, nodes: u32, steps: u32) -> MadeSource
         requires two { 2 ≤ nodes }
-        requires nodes_most { nodes ≤ 200 }
+        requires nodes_most { nodes ≤ MOST_NODES }
         requires one { 1 ≤ steps }
-        requires steps_most { steps ≤ 100000 }
+        requires steps_most { steps ≤ MOST_STEPS }
         ensures { result ≡ made seed nodes steps }
     {
         MadeSource {

@@ -1,5 +1,6 @@
 -- What a step's answer, with the packet beside it, says of what happened.
 use Rattle.std.specs.Prelude.{◌≡◌, ℕ, ◌+◌, ◌<◌, ◌^◌, List, [], length, IfSome, ⊤}
+use Rattle.mesh_base.specs.declared.limits.TheConstants.{MOST_NODES}
 use Rattle.mesh_base.specs.Meshes.{Nodes}
 use Rattle.mesh_base.specs.declared.events.Air.{Air}
 use Rattle.mesh_base.specs.declared.events.Cast as cast
@@ -13,7 +14,7 @@ use Rattle.aodv_model.specs.Soundness.{AreBelow, IsDatum, IsMessageInMesh}
 use Rattle.aodv_model.specs.Handlers.{Cast, Nothing, One, Many, All, Effect, Took, Own, Stored, FromNeighbour}
 use Rattle.aodv_meaning.specs.Meaning.{meaning}
 use Rattle.aodv_meaning.specs.Effects.{kind_of}
-use Rattle.mesh_model.specs.Worlds.{World, Copy, Happening, Changed, Taken, Sent, CopyHeard, CopyLost, Outcome, Idle, Goes, members_below, copies_of}
+use Rattle.mesh_model.specs.Worlds.{World, Copy, Happening, Changed, Taken, Sent, CopyHeard, CopyLost, CopyDoubled, Outcome, Idle, Goes, members_below, copies_of}
 use Rattle.mesh_meaning.specs.Packets.{IsWritten, copy_in}
 
 -- ---- what is said
@@ -46,6 +47,7 @@ happening_in mesh x (done.Taken took effect air) packet = Taken (took_in mesh to
 happening_in mesh x (done.Sent effect air) packet = Sent (effect_in mesh effect packet) (copies_in mesh x effect.cast air packet)
 happening_in mesh x (done.Heard from to) packet = CopyHeard from to
 happening_in mesh x (done.Lost flying) packet = CopyLost (copy_in mesh flying)
+happening_in mesh x (done.Doubled id to parcel) packet = CopyDoubled id to parcel
 
 -- what came of an event at node x, where the world is now w
 abbrev pub outcome_in : Nodes → ℕ → World → Done → List ℕ → Outcome
@@ -71,7 +73,7 @@ pub record IsEffectInMesh (mesh : Nodes) (e : effects.Effect) (air : Air) (packe
   pub broken : IfSome e.broken (λ y. y < length mesh)
   pub cast : IsCastWritten mesh e.cast packet
   pub receivers : AreBelow (length mesh) air.to
-  pub few : air.first + 200 < 2 ^ 64
+  pub few : air.first + MOST_NODES < 2 ^ 64
 
 abbrev pub IsTookInMesh : Nodes → taken.Took → Type 0
 IsTookInMesh mesh (takes.Own body) = IsDatum body
@@ -85,3 +87,4 @@ IsDoneInMesh mesh (done.Taken took effect air) packet = IsTookInMesh mesh took �
 IsDoneInMesh mesh (done.Sent effect air) packet = IsEffectInMesh mesh effect air packet
 IsDoneInMesh mesh (done.Heard from to) packet = (from < length mesh) × (to < length mesh)
 IsDoneInMesh mesh (done.Lost flying) packet = (flying.from < length mesh) × (flying.to < length mesh) × IsPacketInMesh mesh flying.bytes
+IsDoneInMesh mesh (done.Doubled id to parcel) packet = to < length mesh

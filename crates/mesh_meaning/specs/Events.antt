@@ -13,6 +13,7 @@ event_of (events.Link a b) = model.Link a b
 event_of (events.Cut a b) = model.Cut a b
 event_of (events.Deliver id) = model.Deliver id
 event_of (events.Lose id) = model.Lose id
+event_of (events.Double id) = model.Double id
 
 -- the node at which an event is. A link or a copy is at none, and 0 stands for that
 abbrev pub place_of : model.Event → ℕ
@@ -20,8 +21,4 @@ place_of (model.Give node dest body) = node
 place_of (model.Turn node) = node
 place_of (model.Send node dest) = node
 place_of (model.Ask node dest) = node
-place_of (model.Link a b) = 0
-place_of (model.Cut a b) = 0
-place_of (model.Deliver id) = 0
-place_of (model.Lose id) = 0
-place_of (model.Double id) = 0
+place_of others = 0

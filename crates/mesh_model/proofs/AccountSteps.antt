@@ -13,9 +13,9 @@ use Rattle.aodv_model.specs.Handlers.{Effect, Reaction, took, turn, send, may_se
 use Rattle.aodv_model.specs.Fullness.{turn_full, send_full, ask_full}
 use Rattle.aodv_model.proofs.Entries.{if_case}
 use Rattle.aodv_model.proofs.SoundTurns.{Stands, Settles, turn_settles, send_settles, ask_settles}
-use Rattle.mesh_model.specs.Worlds.{World, Node, Copy, Event, Give, Turn, Send, Ask, Link, Cut, Deliver, Lose, Double, range, copies, done_by, push, with_item, find_copy, without, Changed, Taken, Sent, CopyHeard, CopyLost, CopyDoubled, Outcome, Idle, Goes, unless_full, turn_of, send_of, ask_of, at_node, at_copy, with_link, without_link, without_copy, with_double, double_of, step, after, run, openings, start, are_linked}
+use Rattle.mesh_model.specs.Worlds.{is_parcel, World, Node, Copy, Event, Give, Turn, Send, Ask, Link, Cut, Deliver, Lose, Double, range, copies, done_by, push, with_item, find_copy, without, Changed, Taken, Sent, CopyHeard, CopyLost, CopyDoubled, Outcome, Idle, Goes, unless_full, turn_of, send_of, ask_of, at_node, at_copy, with_link, without_link, without_copy, with_double, double_of, step, after, run, openings, start, are_linked}
 use Rattle.mesh_model.specs.Places.{IsNodeInMesh, IsCopyInMesh, AreNumbered, IsInMesh, IsEvent}
-use Rattle.mesh_model.specs.Accounts.{Test, total, total_below, counts, in_item, in_store, in_copy, waiting, queued, in_flight, given, doubled, in_taken, delivered, in_dropped, dropped, over_run}
+use Rattle.mesh_model.specs.Accounts.{Test, total, total_below, counts, in_item, in_store, in_copy, waiting, queued, in_flight, given, doubled, in_found, in_taken, delivered, in_dropped, dropped, over_run, over_worlds}
 use Rattle.mesh_model.proofs.Totals.{total-append, total-set, total_below_same}
 use Rattle.mesh_model.proofs.AccountTurns.{IsAccounted, turn_accounted, send_accounted, ask_accounted}
 use Rattle.mesh_model.proofs.Steps.{found_honest}
@@ -102,7 +102,7 @@ is_there (x ∷ xs) (suc i) l = is_there xs i (omega arith)
 
 -- what comes and what goes
 abbrev Balanced : Test → World → Event → Outcome → Type 0
-Balanced t w e o = in_world t (after w o) + delivered t e o + dropped t e o ≡ in_world t w + given t e o + doubled t e o
+Balanced t w e o = in_world t (after w o) + delivered t e o + dropped t e o ≡ in_world t w + given t e o + doubled t w e
 
 turn_case : (t : Test) (w : World) (x : ℕ) (core : Core) (item : Item) (items : List Item) (full : Option Full)
     → in_world t (done_by w x (turn core (range w x) item) items) + (if ((turn core (range w x) item).effect).deliver then in_taken t x (took core item) else 0) + (if ((turn core (range w x) item).effect).lost then in_dropped t (took core item) else 0) ≡ in_world t w
@@ -188,10 +188,13 @@ lose_case : (t : Test) (w : World) (id : ℕ) (o : Option Copy) → IsInMesh w �
 lose_case t w id None places is = refl
 lose_case t w id (Some c) places is = let light = lighter_sum t w id c places is in omega arith
 
-double_case : (t : Test) (w : World) (id : ℕ) (o : Option Copy) → Balanced t w (Double id) (at_copy o (λ c. Goes (with_double w c) (CopyDoubled (double_of w c))))
+double_case : (t : Test) (w : World) (id : ℕ) (o : Option Copy) → find_copy w.flying id ≡ o → Balanced t w (Double id) (at_copy o (λ c. Goes (with_double w c) (CopyDoubled w.next_copy c.to (is_parcel c.message))))
 unfolding waiting queued in_flight
-double_case t w id None = refl
-double_case t w id (Some c) = let e = total-append (in_copy t) w.flying (double_of w c ∷ []) in omega arith
+double_case t w id None is = let none = ap (in_found t) is in omega arith
+double_case t w id (Some c) is =
+    let all = total-append (in_copy t) w.flying (double_of w c ∷ []) in
+    let one = ap (in_found t) is in
+    omega arith
 
 step_balanced_sum : (t : Test) (w : World) (e : Event) → IsEvent (length w.nodes) e → IsInMesh w → Balanced t w e (step w e)
 unfolding step waiting queued in_flight
@@ -203,18 +206,18 @@ step_balanced_sum t w (Link a b) ok places = if_case (Balanced t w (Link a b)) (
 step_balanced_sum t w (Cut a b) ok places = if_case (Balanced t w (Cut a b)) (are_linked w.links a b) (Goes (without_link w a b) Changed) Idle (λ _. refl) (λ _. refl)
 step_balanced_sum t w (Deliver id) ok places = deliver_case t w id (find_copy w.flying id) places refl
 step_balanced_sum t w (Lose id) ok places = lose_case t w id (find_copy w.flying id) places refl
-step_balanced_sum t w (Double id) ok places = double_case t w id (find_copy w.flying id)
+step_balanced_sum t w (Double id) ok places = double_case t w id (find_copy w.flying id) refl
 
 pub step_balanced : (t : Test) (w : World) (e : Event) → IsEvent (length w.nodes) e → IsInMesh w
     → waiting t (after w (step w e)) + queued t (after w (step w e)) + in_flight t (after w (step w e)) + delivered t e (step w e) + dropped t e (step w e)
-    ≡ waiting t w + queued t w + in_flight t w + given t e (step w e) + doubled t e (step w e)
+    ≡ waiting t w + queued t w + in_flight t w + given t e (step w e) + doubled t w e
 step_balanced t w e ok places = step_balanced_sum t w e ok places
 
 -- ---- runs
 
 run_balanced : (t : Test) (w : World) (es : List Event) → AllByRecursion (IsEvent (length w.nodes)) es → IsInMesh w
-    → in_world t w + over_run (given t) w es + over_run (doubled t) w es ≡ over_run (delivered t) w es + in_world t (run w es) + over_run (dropped t) w es
-unfolding over_run run
+    → in_world t w + over_run (given t) w es + over_worlds (doubled t) w es ≡ over_run (delivered t) w es + in_world t (run w es) + over_run (dropped t) w es
+unfolding over_run over_worlds run
 run_balanced t w [] all places = omega arith
 run_balanced t w (e ∷ es) all places =
     let w' : World = after w (step w e) in
@@ -243,7 +246,7 @@ unfolding start waiting queued in_flight
 start_empty t v firsts = let a = none_stored t (length (openings v 0 firsts)) v 0 firsts in let b = none_lined t v 0 firsts in omega arith
 
 pub account : (t : Test) (v : Variant) (firsts : List ℕ) (es : List Event) → AllByRecursion (λ n. 1 ≤ n) firsts → AllByRecursion (IsEvent (length firsts)) es
-    → over_run (given t) (start v firsts) es + over_run (doubled t) (start v firsts) es
+    → over_run (given t) (start v firsts) es + over_worlds (doubled t) (start v firsts) es
     ≡ over_run (delivered t) (start v firsts) es
     + waiting t (run (start v firsts) es) + queued t (run (start v firsts) es) + in_flight t (run (start v firsts) es)
     + over_run (dropped t) (start v firsts) es

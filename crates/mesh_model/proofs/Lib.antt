@@ -7,6 +7,8 @@ pub mod Acyclic
 pub mod Short
 pub mod RouteEnds
 pub mod Picks
+pub mod Chosen
+pub mod LeastPicks
 pub mod Sizes
 pub mod MeshSteps
 pub mod TrailTables
@@ -16,5 +18,6 @@ pub mod Honest
 pub mod Totals
 pub mod AccountTurns
 pub mod AccountSteps
+pub mod Doublings
 pub mod NumberSteps
 pub mod OnlyNumbers

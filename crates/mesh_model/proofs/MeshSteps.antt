@@ -27,7 +27,7 @@ use Rattle.mesh_base.specs.declared.events.Full.{Full}
 use Rattle.mesh_model.proofs.Lists.{each_append, each_map}
 use Rattle.mesh_model.proofs.Steps.{each_node, found_honest, without_honest}
 use Rattle.mesh_model.specs.Places.{AreLinks, AreNumbered, IsCopyInMesh, IsEvent, IsInMesh, IsNodeInMesh}
-use Rattle.mesh_model.specs.Worlds.{Ask, Changed, Copy, CopyDoubled, CopyHeard, CopyLost, Cut, Deliver, Double, Event, Give, Goes, Idle, Link, Lose, Node, Outcome, Send, Sent, Turn, World, after, are_linked, ask_of, at_copy, at_node, copies, copies_of, copies_to, done_by, double_of, find_copy, linked_below, members_below, pair, push, range, receivers, send_of, step, turn_of, unless_full, with_double, with_item, with_link, without, without_copy, without_link}
+use Rattle.mesh_model.specs.Worlds.{is_parcel, Ask, Changed, Copy, CopyDoubled, CopyHeard, CopyLost, Cut, Deliver, Double, Event, Give, Goes, Idle, Link, Lose, Node, Outcome, Send, Sent, Turn, World, after, are_linked, ask_of, at_copy, at_node, copies, copies_of, copies_to, done_by, double_of, find_copy, linked_below, members_below, pair, push, range, receivers, send_of, step, turn_of, unless_full, with_double, with_item, with_link, without, without_copy, without_link}
 
 below_case : (links : Pairs) (a n y : ℕ) (b : Bool) → are_linked links a n ≡ b → (sets.contains (linked_below links a n) y ≡ true → (y < n) × (are_linked links a y ≡ true))
     → sets.contains (if b then sets.insert (linked_below links a n) n else linked_below links a n) y ≡ true → (y < suc n) × (are_linked links a y ≡ true)
@@ -282,7 +282,7 @@ step_placed w (Deliver id) ok places =
     push_placed (without_copy w id) c.to (Heard c.from c.message) (lighter w id places) (p.0, p.2, p.3))
 step_placed w (Lose id) ok places = copy_case w (λ c. Goes (without_copy w id) (CopyLost c)) (find_copy w.flying id) places (λ c is. lighter w id places)
 step_placed w (Double id) ok places =
-    copy_case w (λ c. Goes (with_double w c) (CopyDoubled (double_of w c))) (find_copy w.flying id) places
+    copy_case w (λ c. Goes (with_double w c) (CopyDoubled w.next_copy c.to (is_parcel c.message))) (find_copy w.flying id) places
     (λ c is. same_placed w (with_double w c) refl places
     (each_append (IsCopyInMesh (length w.nodes)) w.flying (double_of w c ∷ []) places.flying (found_honest (IsCopyInMesh (length w.nodes)) w.flying id c places.flying is, tt))
     (numbered_append 1 w.next_copy (w.next_copy + 1) w.flying (double_of w c ∷ []) places.numbered (omega arith, omega arith))

@@ -16,7 +16,7 @@ use Rattle.mesh_model.proofs.Steps.{each_node, found_honest, step_kept, without_
 use Rattle.mesh_model.proofs.TrailSteps.{step_trails}
 use Rattle.mesh_model.specs.Invariants.{IsLoopSafe}
 use Rattle.mesh_model.specs.Trails.{Around, HasRequestWalk, HasWalks, IsBackedWalk, ItemHasWalk, NodeHasWalks, around, seen_in}
-use Rattle.mesh_model.specs.Worlds.{Ask, Changed, Copy, CopyDoubled, CopyHeard, CopyLost, Cut, Deliver, Double, Event, Give, Goes, Idle, Link, Lose, Node, Outcome, Send, Sent, Turn, World, after, are_linked, ask_of, at_copy, at_node, copies, copies_of, copies_to, done_by, double_of, find_copy, members_below, openings, push, range, receivers, run, send_of, start, step, turn_of, unless_full, with_double, with_item, with_link, without_copy, without_link}
+use Rattle.mesh_model.specs.Worlds.{is_parcel, Ask, Changed, Copy, CopyDoubled, CopyHeard, CopyLost, Cut, Deliver, Double, Event, Give, Goes, Idle, Link, Lose, Node, Outcome, Send, Sent, Turn, World, after, are_linked, ask_of, at_copy, at_node, copies, copies_of, copies_to, done_by, double_of, find_copy, members_below, openings, push, range, receivers, run, send_of, start, step, turn_of, unless_full, with_double, with_item, with_link, without_copy, without_link}
 
 abbrev pub IsCopyWithin : Copy → Type 0
 IsCopyWithin c = IsMessageWithin greatest c.message
@@ -159,7 +159,7 @@ step_within v w (Deliver id) inv trails all =
     (λ c is. push_within (without_copy w id) c.to (Heard c.from c.message) (lighter w id all) (found_honest IsCopyWithin w.flying id c all.flying is))
 step_within v w (Lose id) inv trails all = copy_case w (λ c. Goes (without_copy w id) (CopyLost c)) (find_copy w.flying id) all (λ c is. lighter w id all)
 step_within v w (Double id) inv trails all =
-    copy_case w (λ c. Goes (with_double w c) (CopyDoubled (double_of w c))) (find_copy w.flying id) all
+    copy_case w (λ c. Goes (with_double w c) (CopyDoubled w.next_copy c.to (is_parcel c.message))) (find_copy w.flying id) all
     (λ c is. same_within w (with_double w c) refl all (each_append IsCopyWithin w.flying (double_of w c ∷ []) all.flying (found_honest IsCopyWithin w.flying id c all.flying is, tt)))
 
 -- ---- runs

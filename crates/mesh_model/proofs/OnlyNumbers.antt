@@ -19,7 +19,7 @@ use Rattle.mesh_model.proofs.Sizes.{run_size, start_size}
 use Rattle.mesh_model.proofs.Steps.{start_kept}
 use Rattle.mesh_model.specs.Invariants.{IsLoopSafe}
 use Rattle.mesh_model.specs.Trails.{HasReplyWalk, HasRequestWalk, HasWalks, IsBackedWalk, ItemHasWalk, NodeHasWalks, around, front}
-use Rattle.mesh_model.specs.Worlds.{AreFirstNumbers, Ask, Changed, Copy, CopyDoubled, CopyHeard, CopyLost, Cut, Deliver, Double, Event, Give, Goes, Happening, Idle, Link, Lose, Node, Outcome, Send, Sent, Stops, Taken, Turn, World, are_linked, ask_of, at_copy, at_node, copies, done_by, double_of, find_copy, push, range, run, send_of, start, step, turn_of, unless_full, with_double, with_link, without_copy, without_link}
+use Rattle.mesh_model.specs.Worlds.{is_parcel, AreFirstNumbers, Ask, Changed, Copy, CopyDoubled, CopyHeard, CopyLost, Cut, Deliver, Double, Event, Give, Goes, Happening, Idle, Link, Lose, Node, Outcome, Send, Sent, Stops, Taken, Turn, World, are_linked, ask_of, at_copy, at_node, copies, done_by, find_copy, push, range, run, send_of, start, step, turn_of, unless_full, with_double, with_link, without_copy, without_link}
 
 -- ---- hops
 
@@ -117,7 +117,7 @@ step_fills v w (Link a b) few trails all = if_case Fills (are_linked w.links a b
 step_fills v w (Cut a b) few trails all = if_case Fills (are_linked w.links a b) (Goes (without_link w a b) Changed) Idle (λ _. goes_fills (without_link w a b) Changed) (λ _. idle_fills)
 step_fills v w (Deliver id) few trails all = copy_case (λ c. push (without_copy w id) c.to (Heard c.from c.message)) (λ c. CopyHeard c.from c.to) (find_copy w.flying id)
 step_fills v w (Lose id) few trails all = copy_case (λ c. without_copy w id) CopyLost (find_copy w.flying id)
-step_fills v w (Double id) few trails all = copy_case (with_double w) (λ c. CopyDoubled (double_of w c)) (find_copy w.flying id)
+step_fills v w (Double id) few trails all = copy_case (with_double w) (λ c. CopyDoubled w.next_copy c.to (is_parcel c.message)) (find_copy w.flying id)
 
 pub only_numbers_fill : (v : Variant) (firsts : List ℕ) (events : List Event) (event : Event) (x : ℕ) (f : Full) → AreFirstNumbers firsts → step (run (start v firsts) events) event ≡ Stops x f → f ≡ full.Number
 only_numbers_fill v firsts events event x f ok =

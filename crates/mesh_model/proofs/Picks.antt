@@ -144,9 +144,9 @@ enabled_by : {A : Type 0} (w : World) (e : Event) (event : A → Event) (o : Opt
 enabled_by w e event None others first rest is = rest is
 enabled_by w e event (Some a) others first rest is = subst (λ k. step w k ≢ Idle) (same_Some (event a) e is) (first a refl)
 
-pub pick_is_enabled : (w : World) (e : Event) → pick w ≡ Some e → step w e ≢ Idle
+pub pick_goes : (w : World) (e : Event) → pick w ≡ Some e → step w e ≢ Idle
 unfolding pick
-pick_is_enabled w e is =
+pick_goes w e is =
     enabled_by w e Turn (first_turn w) _ (enabled_turn w)
     (enabled_by w e Deliver (first_copy w) _ (enabled_deliver w)
     (enabled_by w e (λ p. Send p.0 p.1) (first_send w) _ (enabled_send w)

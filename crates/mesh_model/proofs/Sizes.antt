@@ -7,7 +7,7 @@ use Rattle.aodv_model.specs.Cores.{Item, New, Heard, Core}
 use Rattle.aodv_model.specs.Handlers.{Reaction, turn, send, may_send, ask, may_ask}
 use Rattle.aodv_model.specs.Fullness.{turn_full, send_full, ask_full}
 use Rattle.aodv_model.proofs.Entries.{if_case}
-use Rattle.mesh_model.specs.Worlds.{World, Node, Copy, Event, Give, Turn, Send, Ask, Link, Cut, Deliver, Lose, Double, range, copies, done_by, push, with_item, find_copy, Changed, Sent, CopyHeard, CopyLost, CopyDoubled, Outcome, Idle, Goes, unless_full, turn_of, send_of, ask_of, at_node, at_copy, with_link, without_link, without_copy, with_double, double_of, step, after, run, openings, start, are_linked}
+use Rattle.mesh_model.specs.Worlds.{is_parcel, World, Node, Copy, Event, Give, Turn, Send, Ask, Link, Cut, Deliver, Lose, Double, range, copies, done_by, push, with_item, find_copy, Changed, Sent, CopyHeard, CopyLost, CopyDoubled, Outcome, Idle, Goes, unless_full, turn_of, send_of, ask_of, at_node, at_copy, with_link, without_link, without_copy, with_double, step, after, run, openings, start, are_linked}
 
 abbrev Same : World → Outcome → Type 0
 Same w o = length (after w o).nodes ≡ length w.nodes
@@ -60,7 +60,7 @@ same_size w (Link a b) = if_case (Same w) (are_linked w.links a b) Idle (Goes (w
 same_size w (Cut a b) = if_case (Same w) (are_linked w.links a b) (Goes (without_link w a b) Changed) Idle (λ _. refl) (λ _. refl)
 same_size w (Deliver id) = copy_case w (λ c. Goes (push (without_copy w id) c.to (Heard c.from c.message)) (CopyHeard c.from c.to)) (find_copy w.flying id) (λ c. push_same (without_copy w id) c.to (Heard c.from c.message))
 same_size w (Lose id) = copy_case w (λ c. Goes (without_copy w id) (CopyLost c)) (find_copy w.flying id) (λ c. refl)
-same_size w (Double id) = copy_case w (λ c. Goes (with_double w c) (CopyDoubled (double_of w c))) (find_copy w.flying id) (λ c. refl)
+same_size w (Double id) = copy_case w (λ c. Goes (with_double w c) (CopyDoubled w.next_copy c.to (is_parcel c.message))) (find_copy w.flying id) (λ c. refl)
 
 pub run_size : (w : World) (es : List Event) → length (run w es).nodes ≡ length w.nodes
 unfolding run

@@ -19,7 +19,7 @@ use Rattle.mesh_model.proofs.Lists.{each_append, each_filter, each_map, set_othe
 use Rattle.mesh_model.proofs.Turns.{IsFit, IsHonestCast, IsOk, ask_ok, send_ok, turn_ok}
 use Rattle.mesh_model.specs.Invariants.{AllBacked, AtLeast, IsHonest, IsHonestCopy, IsHonestItem, IsLoopSafe, IsLoopSafeNode}
 use Rattle.mesh_model.specs.Walks.{rt_in, table}
-use Rattle.mesh_model.specs.Worlds.{Ask, Changed, Copy, CopyDoubled, CopyHeard, CopyLost, Cut, Deliver, Double, Event, Give, Goes, Idle, Link, Lose, Node, Outcome, Send, Sent, Turn, World, after, are_linked, ask_of, at_copy, at_node, copies, copies_of, copies_to, done_by, double_of, find_copy, members_below, openings, push, range, receivers, run, send_of, start, step, turn_of, unless_full, with_double, with_item, with_link, without, without_copy, without_link}
+use Rattle.mesh_model.specs.Worlds.{is_parcel, Ask, Changed, Copy, CopyDoubled, CopyHeard, CopyLost, Cut, Deliver, Double, Event, Give, Goes, Idle, Link, Lose, Node, Outcome, Send, Sent, Turn, World, after, are_linked, ask_of, at_copy, at_node, copies, copies_of, copies_to, done_by, double_of, find_copy, members_below, openings, push, range, receivers, run, send_of, start, step, turn_of, unless_full, with_double, with_item, with_link, without, without_copy, without_link}
 
 pub record Follows (old new : ℕ → Table) : Type 0 where
   pub keeps : (x d n h : ℕ) → 1 ≤ n → AtLeast (old x) d n h → AtLeast (new x) d n h
@@ -228,7 +228,7 @@ step_kept w (Deliver id) inv =
     (λ c is. push_kept (without_copy w id) c.to (Heard c.from c.message) (lighter w id inv) (found_honest (IsHonestCopy (table w)) w.flying id c inv.flying is))
 step_kept w (Lose id) inv = copy_case w (λ c. Goes (without_copy w id) (CopyLost c)) (find_copy w.flying id) inv (λ c is. lighter w id inv)
 step_kept w (Double id) inv =
-    copy_case w (λ c. Goes (with_double w c) (CopyDoubled (double_of w c))) (find_copy w.flying id) inv
+    copy_case w (λ c. Goes (with_double w c) (CopyDoubled w.next_copy c.to (is_parcel c.message))) (find_copy w.flying id) inv
     (λ c is. same_nodes w (with_double w c) refl inv
     (each_append (IsHonestCopy (table w)) w.flying (double_of w c ∷ []) inv.flying (found_honest (IsHonestCopy (table w)) w.flying id c inv.flying is, tt)))
 

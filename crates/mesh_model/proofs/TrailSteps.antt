@@ -20,7 +20,7 @@ use Rattle.mesh_model.proofs.Turns.{IsOk, ask_ok, send_ok, turn_ok}
 use Rattle.mesh_model.specs.Invariants.{AtLeast, IsLoopSafe, IsLoopSafeNode}
 use Rattle.mesh_model.specs.Trails.{Around, CopyHasWalk, EntriesHaveWalks, HasWalks, IsAbsent, IsBackedWalk, ItemHasWalk, MessageHasWalk, NodeHasWalks, around, front, seen_in}
 use Rattle.mesh_model.specs.Walks.{rt_in, table}
-use Rattle.mesh_model.specs.Worlds.{Ask, Changed, Copy, CopyDoubled, CopyHeard, CopyLost, Cut, Deliver, Double, Event, Give, Goes, Idle, Link, Lose, Node, Outcome, Send, Sent, Turn, World, after, are_linked, ask_of, at_copy, at_node, copies, copies_of, copies_to, done_by, double_of, find_copy, members_below, pair, push, range, receivers, send_of, step, turn_of, unless_full, with_double, with_item, with_link, without_copy, without_link}
+use Rattle.mesh_model.specs.Worlds.{is_parcel, Ask, Changed, Copy, CopyDoubled, CopyHeard, CopyLost, Cut, Deliver, Double, Event, Give, Goes, Idle, Link, Lose, Node, Outcome, Send, Sent, Turn, World, after, are_linked, ask_of, at_copy, at_node, copies, copies_of, copies_to, done_by, double_of, find_copy, members_below, pair, push, range, receivers, send_of, step, turn_of, unless_full, with_double, with_item, with_link, without_copy, without_link}
 
 message_stays : (a b : Around) → Later a b → (from : ℕ) (m : Message) → MessageHasWalk a from m → MessageHasWalk b from m
 message_stays a b later from (Pkt x d o) t = tt
@@ -249,6 +249,6 @@ step_trails v w (Deliver id) inv trails =
     (λ c is. push_trails v (without_copy w id) c.to (Heard c.from c.message) (lighter v w id trails) (found_honest (CopyHasWalk (around v w)) w.flying id c trails.flying is))
 step_trails v w (Lose id) inv trails = copy_case v w (λ c. Goes (without_copy w id) (CopyLost c)) (find_copy w.flying id) trails (λ c is. lighter v w id trails)
 step_trails v w (Double id) inv trails =
-    copy_case v w (λ c. Goes (with_double w c) (CopyDoubled (double_of w c))) (find_copy w.flying id) trails
+    copy_case v w (λ c. Goes (with_double w c) (CopyDoubled w.next_copy c.to (is_parcel c.message))) (find_copy w.flying id) trails
     (λ c is. same_trails v w (with_double w c) refl (λ p e. e) trails
     (λ _. each_append (CopyHasWalk (around v w)) w.flying (double_of w c ∷ []) trails.flying (found_honest (CopyHasWalk (around v w)) w.flying id c trails.flying is, tt)) trails.stood)

@@ -1,10 +1,10 @@
 -- Where the data are, and how they come and go. All counts are of the data that pass a test of their
 -- originator, destination and body: of one datum, or of all.
-use Rattle.std.specs.Prelude.{ℕ, ◌+◌, Bool, true, if◌then◌else◌, List, [], ◌∷◌, zero, suc, length}
+use Rattle.std.specs.Prelude.{ℕ, ◌+◌, Bool, true, if◌then◌else◌, List, [], ◌∷◌, zero, suc, length, Option, Some, None}
 use Rattle.std.specs.FinMap as maps
 use Rattle.aodv_model.specs.Cores.{Body, Message, Pkt, Rreq, Rrep, Rerr, Item, New, Heard, Store, bodies_in}
 use Rattle.aodv_model.specs.Handlers.{Took, Own, Stored, FromNeighbour}
-use Rattle.mesh_model.specs.Worlds.{World, Copy, Event, Give, Turn, Happening, Taken, CopyLost, CopyDoubled, Outcome, Idle, Stops, Goes, step, after}
+use Rattle.mesh_model.specs.Worlds.{World, Copy, Event, Give, Turn, Double, find_copy, Happening, Taken, CopyLost, CopyDoubled, Outcome, Idle, Stops, Goes, step, after}
 
 -- of an originator, a destination and a body
 abbrev pub Test : Type 0
@@ -75,15 +75,25 @@ abbrev pub given : Test → Event → Outcome → ℕ
 given t (Give x d b) o = if_goes o (counts t x d b)
 given t others o = 0
 
--- the datum of a copy that was doubled
-abbrev pub doubled_in : Test → Happening → ℕ
-doubled_in t (CopyDoubled c) = in_copy t c
-doubled_in t others = 0
+-- the datum of a copy, if there is one
+abbrev pub in_found : Test → Option Copy → ℕ
+in_found t None = 0
+in_found t (Some c) = in_copy t c
 
--- the data packets doubled
-abbrev pub doubled : Test → Event → Outcome → ℕ
-doubled t e (Goes w happening) = doubled_in t happening
-doubled t e others = 0
+-- the datum that an event doubles in this world
+abbrev pub doubled : Test → World → Event → ℕ
+doubled t w (Double id) = in_found t (find_copy w.flying id)
+doubled t w others = 0
+
+-- 1 where a data packet was doubled: what happened tells no more of it
+abbrev pub doubled_in : Happening → ℕ
+doubled_in (CopyDoubled id to parcel) = if parcel then 1 else 0
+doubled_in others = 0
+
+-- the same of an outcome
+abbrev pub doubled_at : Outcome → ℕ
+doubled_at (Goes w happening) = doubled_in happening
+doubled_at others = 0
 
 -- what node x took, where it is delivered: its own datum, or that of a packet
 abbrev pub in_taken : Test → ℕ → Took → ℕ
@@ -127,3 +137,8 @@ dropped t e others = 0
 unfoldable pub over_run : (Event → Outcome → ℕ) → World → List Event → ℕ
 over_run f w [] = 0
 over_run f w (e ∷ es) = f e (step w e) + over_run f (after w (step w e)) es
+
+-- the sum over a run of what each event counts in the world before it
+unfoldable pub over_worlds : (World → Event → ℕ) → World → List Event → ℕ
+over_worlds f w [] = 0
+over_worlds f w (e ∷ es) = f w e + over_worlds f (after w (step w e)) es

@@ -1,6 +1,6 @@
 -- What may be done next in a world, and the choice of the next event: the first that there is of a turn, a delivery, the
 -- send of a stored datum, and a request, each at the least node, copy or destination.
-use Rattle.std.specs.Prelude.{ℕ, zero, suc, ◌+◌, Bool, true, false, if◌then◌else◌, Option, Some, None, option_map, List, [], ◌∷◌, length, slice_get}
+use Rattle.std.specs.Prelude.{◌≡◌, ◌<◌, ◌≤◌, ◌⊎◌, ⊤, ℕ, zero, suc, ◌+◌, Bool, true, false, if◌then◌else◌, Option, Some, None, option_map, List, [], ◌∷◌, length, slice_get}
 use Rattle.aodv_model.specs.Cores.{Item}
 use Rattle.aodv_model.specs.Handlers.{may_send, may_ask}
 use Rattle.mesh_model.specs.Worlds.{World, Node, Event, Turn, Send, Ask, Deliver}
@@ -81,3 +81,31 @@ pick w = first_of
     ∷ option_map (λ p. Send p.0 p.1) (first_send w)
     ∷ option_map (λ p. Ask p.0 p.1) (first_ask w)
     ∷ [])
+
+-- ---- the order of choices
+
+-- an event of a kind that is chosen
+abbrev pub IsChoice : Event → Type 0
+IsChoice (Turn x) = ⊤
+IsChoice (Deliver id) = ⊤
+IsChoice (Send x d) = ⊤
+IsChoice (Ask x d) = ⊤
+IsChoice others = ⊥
+
+-- by node, and then by destination
+abbrev pub IsPairNoLater : ℕ → ℕ → ℕ → ℕ → Type 0
+IsPairNoLater x d y c = (x < y) ⊎ ((x ≡ y) × (d ≤ c))
+
+-- turns by node, then deliveries by copy, then sends and then requests, each by node and destination
+abbrev pub IsNoLater : Event → Event → Type 0
+IsNoLater (Turn x) (Turn y) = x ≤ y
+IsNoLater (Turn x) (Deliver id) = ⊤
+IsNoLater (Turn x) (Send y c) = ⊤
+IsNoLater (Turn x) (Ask y c) = ⊤
+IsNoLater (Deliver id) (Deliver other) = id ≤ other
+IsNoLater (Deliver id) (Send y c) = ⊤
+IsNoLater (Deliver id) (Ask y c) = ⊤
+IsNoLater (Send x d) (Send y c) = IsPairNoLater x d y c
+IsNoLater (Send x d) (Ask y c) = ⊤
+IsNoLater (Ask x d) (Ask y c) = IsPairNoLater x d y c
+IsNoLater e f = ⊥

@@ -12,10 +12,10 @@ use Rattle.mesh_model.specs.Worlds.{World, Event, Idle, Stops, step, after, run,
 use Rattle.mesh_model.specs.Walks.{table, Edge, IsWalk, Cycle}
 use Rattle.mesh_model.specs.Places.{IsInMesh, IsEvent}
 use Rattle.mesh_model.specs.Invariants.{IsLoopSafe, IsInvariant}
-use Rattle.mesh_model.specs.Accounts.{Test, waiting, queued, in_flight, given, doubled, delivered, dropped, over_run}
+use Rattle.mesh_model.specs.Accounts.{Test, waiting, queued, in_flight, given, doubled, doubled_at, delivered, dropped, any, over_run, over_worlds}
 use Rattle.mesh_model.specs.Trails.{HonestWalk, HasWalks}
 use Rattle.mesh_model.specs.Routes.{route_end, IsRouteEnd}
-use Rattle.mesh_model.specs.Choices.{pick}
+use Rattle.mesh_model.specs.Choices.{pick, IsChoice, IsNoLater}
 
 -- a number of at least 1 for each node
 abbrev pub ArePositive : List ℕ → Type 0
@@ -65,9 +65,16 @@ RouteEnds = (w : World) (x d : ℕ) → IsInvariant w → x < length w.nodes →
 
 -- ---- choices
 
--- an event that is chosen is enabled
+-- an event that is chosen is of a kind that is chosen, is one of the mesh, and is enabled
 abbrev pub PickIsEnabled : Type 0
-PickIsEnabled = (w : World) (e : Event) → pick w ≡ Some e → step w e ≢ Idle
+PickIsEnabled = (w : World) (e : Event) → pick w ≡ Some e
+    → IsChoice e × IsEvent (length w.nodes) e × (step w e ≢ Idle)
+
+-- where such an event is enabled, one is chosen, and it comes no later. So none is chosen exactly
+-- where none is enabled
+abbrev pub PickIsLeast : Type 0
+PickIsLeast = (w : World) (e : Event) → IsInMesh w → IsEvent (length w.nodes) e → IsChoice e
+    → step w e ≢ Idle → (chosen : Event) × (pick w ≡ Some chosen) × IsNoLater chosen e
 
 -- ---- the account
 
@@ -75,15 +82,19 @@ PickIsEnabled = (w : World) (e : Event) → pick w ≡ Some e → step w e ≢ I
 abbrev pub StepBalances : Type 0
 StepBalances = (t : Test) (w : World) (e : Event) → IsEvent (length w.nodes) e → IsInMesh w
     → waiting t (after w (step w e)) + queued t (after w (step w e)) + in_flight t (after w (step w e)) + delivered t e (step w e) + dropped t e (step w e)
-    ≡ waiting t w + queued t w + in_flight t w + given t e (step w e) + doubled t e (step w e)
+    ≡ waiting t w + queued t w + in_flight t w + given t e (step w e) + doubled t w e
 
 -- a run: each datum that was given, or doubled in flight, was delivered, waits in a store or a queue, is in flight, or was dropped
 abbrev pub Account : Type 0
 Account = (t : Test) (variant : Variant) (firsts : List ℕ) (events : List Event) → ArePositive firsts → AllByRecursion (IsEvent (length firsts)) events
-    → over_run (given t) (start variant firsts) events + over_run (doubled t) (start variant firsts) events
+    → over_run (given t) (start variant firsts) events + over_worlds (doubled t) (start variant firsts) events
     ≡ over_run (delivered t) (start variant firsts) events
     + waiting t (run (start variant firsts) events) + queued t (run (start variant firsts) events) + in_flight t (run (start variant firsts) events)
     + over_run (dropped t) (start variant firsts) events
+
+-- what happened tells how many data, whatever they are, an event doubles
+abbrev pub DoublingIsTold : Type 0
+DoublingIsTold = (w : World) (e : Event) → doubled any w e ≡ doubled_at (step w e)
 
 -- ---- honest hops
 

@@ -4,7 +4,7 @@ use Rattle.std.specs.List.{AllByRecursion}
 use Rattle.std.specs.FinSet as sets
 use Rattle.aodv_model.specs.Pairs.{Pairs}
 use Rattle.aodv_model.specs.Soundness.{IsSoundCore, IsDatum, IsStoreInMesh, IsMessageInMesh, IsItemInMesh}
-use Rattle.mesh_model.specs.Worlds.{World, Node, Copy, Event, Give, Turn, Send, Ask, Link, Cut, Deliver, Lose, Double}
+use Rattle.mesh_model.specs.Worlds.{World, Node, Copy, Event, Give, Turn, Send, Ask, Link, Cut}
 
 -- a copy is between two nodes of the mesh, and its message names nodes of the mesh
 abbrev pub IsCopyInMesh : ℕ → Copy → Type 0
@@ -43,6 +43,4 @@ IsEvent size (Send x d) = (x < size) × (d < size)
 IsEvent size (Ask x d) = (x < size) × (d < size)
 IsEvent size (Link a b) = (a < size) × (b < size) × (a ≢ b)
 IsEvent size (Cut a b) = (a < size) × (b < size) × (a ≢ b)
-IsEvent size (Deliver id) = ⊤
-IsEvent size (Lose id) = ⊤
-IsEvent size (Double id) = ⊤
+IsEvent size others = ⊤

@@ -1,13 +1,15 @@
 -- The state of the whole mesh, its events, one step, and a run of them. One event is one atomic step of the mesh.
-use Rattle.std.specs.Prelude.{ℕ, zero, suc, ◌+◌, ◌≤◌, Bool, not, ◌==◌, if◌then◌else◌, Option, Some, None, List, [], ◌∷◌, ◌++◌, length, map, filter, slice_get, slice_set, min, max}
+use Rattle.std.specs.Prelude.{ℕ, zero, suc, ◌+◌, ◌≤◌, Bool, true, false, not, ◌==◌, if◌then◌else◌, Option, Some, None, List, [], ◌∷◌, ◌++◌, length, map, filter, slice_get, slice_set, min, max}
 use Rattle.std.specs.List.{AllByRecursion}
 use Rattle.std.specs.FinSet as sets
+use Rattle.mesh_base.specs.declared.limits.TheConstants.{MOST_NODES}
 use Rattle.mesh_base.specs.Members.{NodeIds}
+unfoldable pub use Rattle.mesh_base.specs.Members.{members_below}
 use Rattle.mesh_base.specs.Meshes as meshes
 use Rattle.mesh_base.specs.declared.events.Full.{Full}
 use Rattle.mesh_base.specs.declared.events.Variant.{Variant}
 use Rattle.aodv_model.specs.Pairs.{Pairs}
-use Rattle.aodv_model.specs.Cores.{Body, Message, Item, New, Heard, Core, opening}
+use Rattle.aodv_model.specs.Cores.{Body, Message, Pkt, Rreq, Rrep, Rerr, Item, New, Heard, Core, opening}
 use Rattle.aodv_model.specs.Handlers.{Cast, Nothing, One, Many, All, Effect, Reaction, Took, one, turn, took, may_send, send, may_ask, ask}
 use Rattle.aodv_model.specs.Fullness.{greatest, turn_full, send_full, ask_full}
 
@@ -70,11 +72,6 @@ unfoldable pub range : World → ℕ → NodeIds
 range w a = linked_below w.links a (length w.nodes)
 
 -- ---- casts
-
--- the members of a set that are below n, by rising index
-unfoldable pub members_below : ℕ → NodeIds → List ℕ
-members_below zero s = []
-members_below (suc n) s = if sets.contains s n then members_below n s ++ n ∷ [] else members_below n s
 
 -- those in range to whom the cast goes
 unfoldable pub receivers : NodeIds → Cast → NodeIds
@@ -141,8 +138,8 @@ pub data Happening : Type 0 where
   CopyHeard : (from to : ℕ) → Happening
   -- this copy was lost
   CopyLost : Copy → Happening
-  -- this new copy doubles another
-  CopyDoubled : Copy → Happening
+  -- a new copy of this id, to this node, doubles another; and whether it is of a data packet
+  CopyDoubled : (id to : ℕ) (parcel : Bool) → Happening
 
 -- what comes of an event: nothing where it isn't enabled, the refusal of a node whose counter stands at its end,
 -- or a new world and what happened
@@ -202,6 +199,13 @@ without_link w a b = record w { links = sets.remove w.links (pair a b) }
 abbrev pub without_copy : World → ℕ → World
 without_copy w id = record w { flying = without w.flying id }
 
+-- the message is a data packet
+abbrev pub is_parcel : Message → Bool
+is_parcel (Pkt body d o) = true
+is_parcel (Rreq m) = false
+is_parcel (Rrep m) = false
+is_parcel (Rerr dests) = false
+
 -- one more copy like c, with the next id
 abbrev pub double_of : World → Copy → Copy
 double_of w c = record c { id = w.next_copy }
@@ -220,7 +224,7 @@ step w (Link a b) = if are_linked w.links a b then Idle else Goes (with_link w a
 step w (Cut a b) = if are_linked w.links a b then Goes (without_link w a b) Changed else Idle
 step w (Deliver id) = at_copy (find_copy w.flying id) (λ c. Goes (push (without_copy w id) c.to (Heard c.from c.message)) (CopyHeard c.from c.to))
 step w (Lose id) = at_copy (find_copy w.flying id) (λ c. Goes (without_copy w id) (CopyLost c))
-step w (Double id) = at_copy (find_copy w.flying id) (λ c. Goes (with_double w c) (CopyDoubled (double_of w c)))
+step w (Double id) = at_copy (find_copy w.flying id) (λ c. Goes (with_double w c) (CopyDoubled w.next_copy c.to (is_parcel c.message)))
 
 -- ---- runs
 
@@ -251,5 +255,5 @@ first_numbers mesh = map (λ p. p.1) mesh
 -- the first sequence numbers that a mesh may have: 1 to 200, each from 1 to the greatest
 pub record AreFirstNumbers (firsts : List ℕ) : Type 0 where
   pub some : 1 ≤ length firsts
-  pub few : length firsts ≤ 200
+  pub few : length firsts ≤ MOST_NODES
   pub numbers : AllByRecursion (λ n. (1 ≤ n) × (n ≤ greatest)) firsts

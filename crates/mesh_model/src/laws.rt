@@ -1,5 +1,5 @@
 //! Laws of all runs. Each function has an empty body and a contract that states a law.
-ghost use Rattle.mesh_model.specs.Laws.{StepKeeps, StepKeepsLoopSafe, StartKeeps, RunKeeps, NoCycleIn, LoopFree, BetterAlongEdges, WalkIsShort, RouteEnds, PickIsEnabled, StepBalances, Account, StartHasWalks, StepKeepsWalks, HonestHops, OnlyNumbersFill};
+ghost use Rattle.mesh_model.specs.Laws.{StepKeeps, StepKeepsLoopSafe, StartKeeps, RunKeeps, NoCycleIn, LoopFree, BetterAlongEdges, WalkIsShort, RouteEnds, PickIsEnabled, PickIsLeast, StepBalances, Account, DoublingIsTold, StartHasWalks, StepKeepsWalks, HonestHops, OnlyNumbersFill};
 
 /// Every event of the mesh keeps the invariant.
 pub fn step_keeps()
@@ -46,9 +46,15 @@ pub fn route_ends()
     ensures { RouteEnds }
 {}
 
-/// An event that is chosen is enabled.
+/// An event that is chosen is a turn, a delivery, a send or a request of the mesh, and is enabled.
 pub fn pick_is_enabled()
     ensures { PickIsEnabled }
+{}
+
+/// Where a turn, a delivery, a send or a request is enabled, one is chosen, and none that is enabled
+/// comes before it.
+pub fn pick_is_least()
+    ensures { PickIsLeast }
 {}
 
 /// Every event of the mesh keeps the account of the data.
@@ -59,6 +65,11 @@ pub fn step_balances()
 /// Over a run no datum is invented, and none is lost without a trace.
 pub fn account()
     ensures { Account }
+{}
+
+/// What happened tells how many data an event doubles.
+pub fn doubling_is_told()
+    ensures { DoublingIsTold }
 {}
 
 /// The opening world has its walks.

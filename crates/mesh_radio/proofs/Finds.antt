@@ -3,7 +3,7 @@ use Rattle.std.proofs.Common.{◌≡◌, ◌≢◌, ℕ, suc, ◌+◌, ◌^◌, 
 use Rattle.std.specs.List.{AllByRecursion}
 use Rattle.std.specs.Prelude.{IfSome}
 use Rattle.std.proofs.lemmas.Bool.{ne_eqb, le-leb}
-use Rattle.std.proofs.lemmas.Option.{none-some}
+use Rattle.std.proofs.lemmas.Option.{none-some, same_Some}
 use Rattle.mesh_base.specs.Views.{flying_seen}
 use Rattle.mesh_base.specs.declared.events.Flying.{Flying}
 use Rattle.mesh_base.specs.declared.events.FlyingView.{FlyingView}
@@ -57,3 +57,13 @@ pub from_zero : (fs : List Flying) → from_id fs 0 ≡ fs
 unfolding from_id
 from_zero [] = refl
 from_zero (f ∷ fs) = let hit : leb 0 f.id ≡ true = le-leb 0 f.id (omega arith) in rw hit (ap (λ (gs : List Flying). f ∷ gs) (from_zero fs))
+
+-- ---- what holds of all copies holds of the one that is found
+
+found_if : (P : Flying → Type 0) (b : Bool) (f g : Flying) (o : Option Flying) → P f → (o ≡ Some g → P g) → cond b (Some f) o ≡ Some g → P g
+found_if P true f g o p h e = subst P (same_Some f g e) p
+found_if P false f g o p h e = h e
+
+pub all-found : (P : Flying → Type 0) (fs : List Flying) (id : ℕ) (g : Flying) → AllByRecursion P fs → find_copy fs id ≡ Some g → P g
+all-found P [] id g all e = absurd (none-some g e)
+all-found P (f ∷ fs) id g all e = found_if P (eqb f.id id) f g (find_copy fs id) all.0 (all-found P fs id g all.1) e

@@ -1,6 +1,10 @@
 pub mod Orders
 pub mod Graphs
 pub mod Finds
-pub mod Casts
+pub mod CastCopies
 pub mod Numbered
-pub mod Opened
+pub mod Entries
+pub mod Nexts
+pub mod Sweeps
+pub mod Leasts
+pub mod Changes

@@ -1,13 +1,11 @@
 -- The slots of copies in flight: which copies they have, and which after one comes or goes.
-use Rattle.std.proofs.Common.{◌≡◌, ◌≢◌, ℕ, zero, suc, ◌+◌, ◌-◌, ◌^◌, ◌<◌, ◌≤◌, ◌⊎◌, inl, inr, true, false, eqb, leb, List, [], ◌∷◌, length, drop, get_or, Option, Some, None, refl, sym, ap, subst, ◌∙◌, arith, All, eq-eqb, cond, Bool, ◌++◌}
-use Rattle.std.specs.Prelude.{slice_get, slice_set, IfSome, IfNone}
-use Rattle.std.proofs.lemmas.Bool.{ne_eqb, le-leb, lt-leb, cases_lt}
-use Rattle.std.proofs.lemmas.Option.{same_Some, slice_get_within}
-use Rattle.mesh_base.specs.Views.{flying_seen}
+use Rattle.std.proofs.Common.{◌≡◌, ◌≢◌, ℕ, zero, suc, ◌+◌, ◌<◌, ◌≤◌, ◌⊎◌, inl, inr, true, false, eqb, List, [], ◌∷◌, length, get_or, Option, Some, None, refl, sym, ap, subst, ◌∙◌, arith, All, eq-eqb, cond, Bool, ◌++◌}
+use Rattle.std.specs.Prelude.{slice_get, slice_set}
+use Rattle.std.proofs.lemmas.Bool.{ne_eqb}
+use Rattle.std.proofs.lemmas.Option.{same_Some}
 use Rattle.mesh_base.specs.declared.events.Flying.{Flying}
-use Rattle.mesh_base.specs.declared.events.FlyingView.{FlyingView}
-use Rattle.mesh_radio.specs.Copies.{find_copy, without, from_id, copies_to, is_data, data_in, AreNumbered}
-use Rattle.mesh_radio.specs.Kept.{copies_in, AreSlots, IsNextAt}
+use Rattle.mesh_radio.specs.Copies.{find_copy, without, copies_to, is_data, data_in, AreNumbered}
+use Rattle.mesh_radio.specs.Kept.{copies_in, AreSlots}
 use Rattle.mesh_radio.proofs.Finds.{absent}
 
 abbrev Slots : Type 0
@@ -22,15 +20,6 @@ numbered (None ∷ slots) id low le are = subst (AreNumbered low (copies_in slot
 numbered (Some c ∷ slots) id low le are =
     let here = are.0 in
     (omega arith, subst (AreNumbered (c.id + 1) (copies_in slots)) (omega arith) (numbered slots (id + 1) (c.id + 1) (omega arith) are.1))
-
--- the copy in a slot has the slot's id
-pub id_at : (slots : Slots) (first k : ℕ) (c : Flying) → AreSlots first slots → slice_get slots k ≡ Some (Some c) → c.id ≡ first + k
-id_at [] first zero c are e = absurd cc
-id_at [] first (suc k) c are e = absurd cc
-id_at (None ∷ slots) first zero c are e = absurd cc
-id_at (Some d ∷ slots) first zero c are e = let same : d ≡ c = cc in let id = ap (λ (x : Flying). x.id) same in let here = are.0 in omega arith
-id_at (None ∷ slots) first (suc k) c are e = let rest = id_at slots (first + 1) k c are e in omega arith
-id_at (Some d ∷ slots) first (suc k) c are e = let rest = id_at slots (first + 1) k c are.1 e in omega arith
 
 all-cons : (id : ℕ) (c : Flying) (cs : List Flying) → c.id ≢ id → All (λ f. f.id ≢ id) cs → All (λ f. f.id ≢ id) (c ∷ cs)
 all-cons id c cs ne all = at
@@ -129,75 +118,3 @@ pub few_copies : (slots : Slots) → length (copies_in slots) ≤ length slots
 few_copies [] = omega arith
 few_copies (None ∷ slots) = let rest = few_copies slots in omega arith
 few_copies (Some d ∷ slots) = let rest = few_copies slots in omega arith
-
--- ---- the copies from an id on
-
-from_all : (slots : Slots) (at id : ℕ) → AreSlots at slots → id ≤ at → from_id (copies_in slots) id ≡ copies_in slots
-unfolding from_id
-from_all [] at id are le = refl
-from_all (None ∷ slots) at id are le = from_all slots (at + 1) id are (omega arith)
-from_all (Some c ∷ slots) at id are le =
-    let here = are.0 in
-    let hit : leb id c.id ≡ true = le-leb id c.id (omega arith) in
-    rw hit (ap (λ (cs : List Flying). c ∷ cs) (from_all slots (at + 1) id are.1 (omega arith)))
-
-pub from_place : (slots : Slots) (first k id : ℕ) → AreSlots first slots → id ≡ first + k → from_id (copies_in slots) id ≡ copies_in (drop k slots)
-unfolding from_id
-from_place slots first zero id are is = from_all slots first id are (omega arith)
-from_place [] first (suc k) id are is = refl
-from_place (None ∷ slots) first (suc k) id are is = from_place slots (first + 1) k id are (omega arith)
-from_place (Some c ∷ slots) first (suc k) id are is =
-    let here = are.0 in
-    let miss : leb id c.id ≡ false = lt-leb id c.id (omega arith) in
-    rw miss (from_place slots (first + 1) k id are.1 (omega arith))
-
--- from an id on that is less than the first
-pub from_here : (slots : Slots) (first id : ℕ) → AreSlots first slots → from_id (copies_in slots) id ≡ copies_in (drop (id - first) slots)
-from_here slots first id are = elim (cases_lt id first) [
-  | inl less ↦ let none : id - first ≡ 0 = omega arith in from_all slots first id are (omega arith) ∙ ap (λ (k : ℕ). copies_in (drop k slots)) (sym none)
-  | inr more ↦ from_place slots first (id - first) id are (omega arith)
-]
-
-next_place : (slots : Slots) (o : Option Flying) (k : ℕ) → copies_in (drop (k + 1) slots) ≡ copies_in (drop (suc k + 1) (o ∷ slots))
-next_place slots o k = let same : suc (k + 1) ≡ suc k + 1 = omega arith in ap (λ (n : ℕ). copies_in (drop n (o ∷ slots))) same
-
-pub drop_empty : (slots : Slots) (k : ℕ) → slice_get slots k ≡ Some None → copies_in (drop k slots) ≡ copies_in (drop (k + 1) slots)
-drop_empty [] zero e = absurd cc
-drop_empty [] (suc k) e = absurd cc
-drop_empty (o ∷ slots) zero e = ap (λ (p : Option Flying). copies_in (p ∷ slots)) (same_Some o None e)
-drop_empty (o ∷ slots) (suc k) e = drop_empty slots k e ∙ next_place slots o k
-
-pub drop_copy : (slots : Slots) (k : ℕ) (c : Flying) → slice_get slots k ≡ Some (Some c) → copies_in (drop k slots) ≡ c ∷ copies_in (drop (k + 1) slots)
-drop_copy [] zero c e = absurd cc
-drop_copy [] (suc k) c e = absurd cc
-drop_copy (o ∷ slots) zero c e = ap (λ (p : Option Flying). copies_in (p ∷ slots)) (same_Some o (Some c) e)
-drop_copy (o ∷ slots) (suc k) c e = drop_copy slots k c e ∙ ap (λ (cs : List Flying). c ∷ cs) (next_place slots o k)
-
-pub drop_past : (slots : Slots) (k : ℕ) → length slots ≤ k → copies_in (drop k slots) ≡ []
-drop_past [] zero le = refl
-drop_past [] (suc k) le = refl
-drop_past (o ∷ slots) zero le = absurd (omega arith)
-drop_past (o ∷ slots) (suc k) le = drop_past slots k (omega arith)
-
--- ---- what a walk over the slots tells
-
-pub next_some : (slots : Slots) (first id place : ℕ) (r : Option FlyingView) → AreSlots first slots → place ≡ id - first → IfSome r (λ f. IsNextAt slots place (flying_seen f))
-    → IfSome r (λ f. from_id (copies_in slots) id ≡ flying_seen f ∷ from_id (copies_in slots) (f.id + 1))
-next_some slots first id place None are is h = tt
-next_some slots first id place (Some f) are is (k, at, le, e) =
-    let c = flying_seen f in
-    let named = id_at slots first k c are at in
-    from_here slots first id are ∙ ap (λ (n : ℕ). copies_in (drop n slots)) (sym is) ∙ e
-    ∙ ap (λ (cs : List Flying). c ∷ cs) (sym (from_place slots first (k + 1) (c.id + 1) are (omega arith)))
-
-pub next_below : (slots : Slots) (first id place : ℕ) (r : Option FlyingView) → AreSlots first slots → first + length slots < 2 ^ 64 → place ≡ id - first → IfSome r (λ f. IsNextAt slots place (flying_seen f))
-    → IfSome r (λ f. (id ≤ f.id) × (f.id < first + length slots) × (first + length slots < 2 ^ 64))
-next_below slots first id place None are few is h = tt
-next_below slots first id place (Some f) are few is (k, at, le, e) =
-    let named = id_at slots first k (flying_seen f) are at in
-    let inside = slice_get_within slots k (Some (flying_seen f)) at in
-    (omega arith, omega arith, few)
-
-pub next_none : (slots : Slots) (first id place : ℕ) (r : Option FlyingView) → AreSlots first slots → place ≡ id - first → IfNone r (copies_in (drop place slots) ≡ []) → IfNone r (from_id (copies_in slots) id ≡ [])
-next_none slots first id place None are is h = from_here slots first id are ∙ ap (λ (n : ℕ). copies_in (drop n slots)) (sym is) ∙ h
-next_none slots first id place (Some f) are is h = tt

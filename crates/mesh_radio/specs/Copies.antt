@@ -1,5 +1,6 @@
 -- The copies of packets in flight. They are the mesh's copies, with bytes in place of messages.
-use Rattle.std.specs.Prelude.{◌≢◌, ◌<◌, ◌≤◌, ℕ, ◌+◌, ◌==◌, nat_le, not, Bool, if◌then◌else◌, Option, Some, None, List, [], ◌∷◌, filter}
+use Rattle.std.specs.Prelude.{◌≢◌, ◌<◌, ◌≤◌, ℕ, ◌+◌, ◌==◌, nat_le, not, Bool, if◌then◌else◌, Option, Some, None, List, [], ◌∷◌, length, filter}
+use Rattle.mesh_base.specs.declared.limits.TheConstants.{LONGEST_PACKET}
 use Rattle.mesh_base.specs.declared.events.Flying.{Flying}
 use Rattle.aodv_wire.specs.Spells.{kind}
 use Rattle.aodv_wire.specs.DataPacket.{type_number}
@@ -30,6 +31,14 @@ AreNumbered low (c ∷ cs) next = (low ≤ c.id) × AreNumbered (c.id + 1) cs ne
 -- a copy is between two nodes, each below the number of nodes
 abbrev pub IsBetween : ℕ → Flying → Type 0
 IsBetween size c = (c.from < size) × (c.to < size) × (c.from ≢ c.to)
+
+-- the bytes of the longest packet
+abbrev pub longest_packet : ℕ
+longest_packet = LONGEST_PACKET
+
+-- the packet of a copy is no longer than that
+abbrev pub IsPacketLong : Flying → Type 0
+IsPacketLong c = length c.bytes ≤ longest_packet
 
 -- the packet is a datum's
 abbrev pub is_data : List ℕ → Bool

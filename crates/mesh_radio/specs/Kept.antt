@@ -1,14 +1,14 @@
 -- How the code keeps a graph, the copies in flight and memory for more. No public contract cites this file.
-use Rattle.std.specs.Prelude.{◌≡◌, ℕ, zero, suc, ◌+◌, ◌-◌, ◌^◌, ◌<◌, ◌≤◌, ◌⊎◌, false, nat_lt, if◌then◌else◌, Option, Some, None, List, [], ◌∷◌, ◌++◌, length, get_or, drop, unwrap_or, slice_get, ⊤, refl}
+use Rattle.std.specs.Prelude.{◌≡◌, ℕ, zero, suc, ◌+◌, ◌-◌, ◌≤◌, false, if◌then◌else◌, Option, Some, None, List, [], ◌∷◌, ◌++◌, length, unwrap_or, slice_get, ⊤, refl}
 use Rattle.std.specs.List.{AllByRecursion}
 use Rattle.std.specs.Coded.{Coded, code_by, coded×, coded_ℕ, coded_list}
 use Rattle.std.specs.FinSet as sets
+use Rattle.mesh_base.specs.declared.limits.TheConstants.{MOST_NODES}
 use Rattle.mesh_base.specs.Members.{NodeIds}
 use Rattle.mesh_base.specs.declared.events.Flying.{Flying}
-use Rattle.mesh_radio.specs.declared.copies.Sent.{Sent}
 use Rattle.aodv_model.specs.Pairs.{Pairs}
 use Rattle.aodv_model.specs.Codes.{pairs_code}
-use Rattle.mesh_radio.specs.Copies.{copies_to, data_in, IsBetween}
+use Rattle.mesh_radio.specs.Copies.{copies_to, IsBetween, IsPacketLong}
 use Rattle.mesh_radio.specs.Radios.{RadioState}
 
 -- ---- a graph, kept as the set of neighbours of each node
@@ -37,7 +37,7 @@ graph_of rows = record { size = length rows; pairs = pairs_below (length rows) r
 
 -- neighbours are so both ways, and no node is its own
 pub record AreMutual (rows : List NodeIds) : Type 0 where
-  pub few : length rows ≤ 200
+  pub few : length rows ≤ MOST_NODES
   pub both_ways : (a b : ℕ) → sets.contains (row rows a) b ≡ sets.contains (row rows b) a
   pub apart : (a : ℕ) → sets.contains (row rows a) a ≡ false
 
@@ -62,58 +62,6 @@ AreSlots id [] = ⊤
 AreSlots id (None ∷ slots) = AreSlots (id + 1) slots
 AreSlots id (Some c ∷ slots) = (c.id ≡ id) × AreSlots (id + 1) slots
 
--- the copy c is in the k-th slot, and is the first from this place on
-abbrev pub IsNextAt : List (Option Flying) → ℕ → Flying → Type 0
-IsNextAt slots place c = (k : ℕ) × (slice_get slots k ≡ Some (Some c)) × (place ≤ k) × (copies_in (drop place slots) ≡ c ∷ copies_in (drop (k + 1) slots))
-
--- ---- packets that copies share
-
--- the packet of the copy of that id: the first of which the ids go beyond it
-abbrev pub packet_of : List Sent → ℕ → Option Sent
-packet_of [] id = None
-packet_of (p ∷ packets) id = if nat_lt id p.end then Some p else packet_of packets id
-
--- the copy of that id and that packet
-abbrev pub copy_with : ℕ → ℕ → Option Sent → Option Flying
-copy_with id to None = None
-copy_with id to (Some p) = Some (record { id = id; from = p.from; to = to; bytes = p.bytes })
-
--- the copy of that id, where its slot has a receiver
-abbrev pub copy_at : List Sent → ℕ → Option ℕ → Option Flying
-copy_at packets id None = None
-copy_at packets id (Some to) = copy_with id to (packet_of packets id)
-
--- the copies that the slots from that id on have
-abbrev pub opened : List Sent → ℕ → List (Option ℕ) → List (Option Flying)
-opened packets id [] = []
-opened packets id (to ∷ slots) = copy_at packets id to ∷ opened packets (id + 1) slots
-
--- the ids of one packet end where those of the next begin, from `low` on, and those of the last at `next`
-abbrev pub AreEnding : ℕ → List Sent → ℕ → Type 0
-AreEnding low [] next = low ≡ next
-AreEnding low (p ∷ packets) next = (low ≤ p.end) × AreEnding p.end packets next
-
--- the ids of the first k packets end by that id
-abbrev pub HaveEnded : List Sent → ℕ → ℕ → Type 0
-HaveEnded packets id k = (j : ℕ) (d : Sent) → j < k → (get_or packets j d).end ≤ id
-
--- a slot for each of these receivers
-abbrev pub slots_to : List ℕ → List (Option ℕ)
-slots_to [] = []
-slots_to (to ∷ tos) = Some to ∷ slots_to tos
-
--- slots from id `first` on, with `count` copies in all, `of_data` of them of data, and their packets
-pub record AreKept (packets : List Sent) (slots : List (Option ℕ)) (first count of_data : ℕ) : Type 0 where
-  pub ending : AreEnding first packets (first + length slots)
-  pub ids : (1 ≤ first) × (first + length slots < 2 ^ 64)
-  pub counted : count ≡ length (copies_in (opened packets first slots))
-  pub with_data : of_data ≡ data_in (copies_in (opened packets first slots))
-
--- of slots from id `first` on, so many, the k-th is that of this id, or none is
-abbrev pub IsPlaceOf : ℕ → ℕ → ℕ → Option ℕ → Type 0
-IsPlaceOf first count id None = (id < first) ⊎ (first + count ≤ id)
-IsPlaceOf first count id (Some k) = (k < count) × (id ≡ first + k)
-
 -- a copy to each receiver joins
 abbrev pub with_flights : Flights → ℕ → List ℕ → List ℕ → Flights
 with_flights a from bytes tos = record a {
@@ -121,6 +69,11 @@ with_flights a from bytes tos = record a {
   next_copy = a.next_copy + length tos;
   room = a.room - length tos;
 }
+
+-- a second copy like this one joins, with the next id, if there is such a copy
+abbrev pub with_second : Flights → Option Flying → Flights
+with_second a None = a
+with_second a (Some c) = record a { flying = a.flying ++ record c { id = a.next_copy } ∷ []; next_copy = a.next_copy + 1; room = a.room - 1 }
 
 -- ---- memory for copies to come
 
@@ -146,11 +99,12 @@ radio_of links ever a = record {
   most = a.most;
 }
 
--- both graphs are of the same nodes, at most 200, and copies are between these
+-- both graphs are of the same nodes, at most 200; copies are between these, and none has more bytes than a packet can
 pub record IsRadio (links ever : Graph) (a : Flights) : Type 0 where
-  pub few : links.size ≤ 200
+  pub few : links.size ≤ MOST_NODES
   pub same : ever.size ≡ links.size
   pub between : AllByRecursion (IsBetween links.size) a.flying
+  pub long : AllByRecursion IsPacketLong a.flying
 
 -- ---- codes, so that types of the code can be seen as these
 

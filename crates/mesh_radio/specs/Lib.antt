@@ -5,3 +5,5 @@ pub mod Copies
 pub mod Radios
 -- Kept: how the code keeps links, copies and memory. No public contract says anything of it.
 pub mod Kept
+-- Casts: how it keeps the copies, as casts by their first copies.
+pub mod Casts

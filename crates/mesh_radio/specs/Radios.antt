@@ -1,5 +1,5 @@
 -- The links of a mesh and the copies in flight, and what is done to them.
-use Rattle.std.specs.Prelude.{ℕ, ◌+◌, ◌-◌, List, [], ◌++◌, length}
+use Rattle.std.specs.Prelude.{ℕ, ◌+◌, ◌-◌, Option, Some, None, List, [], ◌∷◌, ◌++◌, length}
 use Rattle.std.specs.FinSet as sets
 use Rattle.mesh_base.specs.Members.{NodeIds}
 use Rattle.mesh_base.specs.declared.events.Flying.{Flying}
@@ -45,3 +45,8 @@ with_copies r from bytes to = record r {
 -- the copy of that id isn't in flight any more
 abbrev pub without_copy : RadioState → ℕ → RadioState
 without_copy r id = record r { flying = without r.flying id }
+
+-- a second copy like this one flies, with the next id, if there is such a copy
+abbrev pub with_double : RadioState → Option Flying → RadioState
+with_double r None = r
+with_double r (Some c) = record r { flying = r.flying ++ record c { id = r.next_copy } ∷ []; next_copy = r.next_copy + 1; room = r.room - 1 }

@@ -4,7 +4,7 @@ ghost use Rattle.std.specs.FinSet as sets;
 ghost use Rattle.mesh_model.specs.Worlds.{pair, are_linked, linked_below};
 ghost use Rattle.mesh_radio.specs.Kept.{row};
 
-use mesh_base::{NoMemory, NodeSet};
+use mesh_base::{MOST_NODES, NoMemory, NodeSet};
 use std::alloc::Global;
 use std::marker::Model;
 
@@ -29,7 +29,7 @@ impl Model for Adjacency {
 impl Adjacency {
     /// The graph of this many nodes, none joined.
     pub fn new(alloc: Global, nodes: usize) -> Result<Adjacency, NoMemory>
-        requires { nodes ≤ 200 }
+        requires { nodes ≤ MOST_NODES }
         ensures { IfOk result (λ g. g ≡ record { size = nodes; pairs = sets.empty }) }
     {
         let rows = no_neighbours(alloc, nodes)?;

@@ -4,7 +4,10 @@
 #![tactic(auto)]
 
 mod adjacency;
+mod casts;
+mod clearing;
 mod copies;
+mod places;
 mod radio;
 mod rooms;
 mod shelf;

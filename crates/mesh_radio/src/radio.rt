@@ -1,17 +1,17 @@
 //! The radio of a mesh.
-ghost use Rattle.std.specs.Prelude.{◌≡◌, ◌≢◌, ◌<◌, ◌≤◌, ◌+◌, ◌^◌, ◌∷◌, [], ℕ, true, false, not, length, max, slice_get, OnOk, OnErr, IfOk, IfSome, IfNone, option_map};
+ghost use Rattle.std.specs.Prelude.{◌≡◌, ◌≢◌, ◌<◌, ◌≤◌, ◌+◌, ◌^◌, ◌∷◌, [], ℕ, true, false, not, length, max, slice_get, OnOk, OnErr, IsOk, IfOk, IfSome, IfNone, option_map};
 ghost use Rattle.std.specs.Bool.{OnTrue, OnFalse};
 ghost use Rattle.std.specs.List.{AllByRecursion};
 ghost use Rattle.std.specs.FinSet as sets;
 ghost use Rattle.mesh_base.specs.Views.{flying_seen};
 ghost use Rattle.mesh_base.specs.declared.events.Flying.{Flying};
 ghost use Rattle.mesh_model.specs.Worlds.{are_linked, linked_below};
-ghost use Rattle.mesh_radio.specs.Copies.{find_copy, from_id, data_in, AreNumbered, IsBetween};
-ghost use Rattle.mesh_radio.specs.Radios.{opening, with_link, without_link, with_copies, without_copy, receivers};
+ghost use Rattle.mesh_radio.specs.Copies.{find_copy, from_id, data_in, AreNumbered, IsBetween, longest_packet};
+ghost use Rattle.mesh_radio.specs.Radios.{opening, with_link, without_link, with_copies, with_double, without_copy, receivers};
 
 use crate::adjacency::Adjacency;
 use crate::copies::Copies;
-use mesh_base::{Air, Flying, FlyingView, NoMemory, NodeSet, Packet, Room};
+use mesh_base::{Air, Flying, FlyingView, MOST_NODES, NoMemory, NodeSet, Packet, Room};
 use std::alloc::Global;
 use std::marker::Model;
 
@@ -42,7 +42,7 @@ impl Model for Radio {
 impl Radio {
     /// The radio of a mesh of this many nodes: no link, and no copy. The first copy gets id 1.
     pub fn new(alloc: Global, nodes: usize) -> Result<Radio, NoMemory>
-        requires { nodes ≤ 200 }
+        requires { nodes ≤ MOST_NODES }
         ensures { IfOk result (λ radio. radio ≡ opening nodes) }
     {
         let links = Adjacency::new(alloc, nodes)?;
@@ -110,11 +110,12 @@ impl Radio {
     /// Makes room for this many copies more, each of at most this many bytes. What room there is stays.
     #[inline(always)]
     pub fn make_room(&mut self, copies: usize, bytes: usize) -> Result<(), NoMemory>
-        requires few { copies ≤ 200 }
-        requires next { self.old.next_copy + 200 < 2 ^ 64 }
+        requires few { copies ≤ MOST_NODES }
+        requires next { self.old.next_copy + MOST_NODES < 2 ^ 64 }
         ensures same { self.new ≡ record self.old { room = self.new.room; most = self.new.most } }
         ensures ok { OnOk result ((copies ≤ self.new.room) × (bytes ≤ self.new.most)) }
         ensures exact { OnOk result (self.new ≡ record self.old { room = max self.old.room copies; most = max self.old.most bytes }) }
+        ensures ready { copies ≤ self.old.room → bytes ≤ self.old.most → IsOk result × (self.new ≡ self.old) }
         ensures refused { OnErr result (self.new ≡ self.old) }
     {
         self.copies.make_room(copies, bytes)
@@ -127,14 +128,25 @@ impl Radio {
         requires apart { sets.contains to.now from ≡ false }
         requires room { length (receivers self.old to.now) ≤ self.old.room }
         requires fits { length packet.now.items ≤ self.old.most }
-        requires next { self.old.next_copy + 200 < 2 ^ 64 }
+        requires next { self.old.next_copy + MOST_NODES < 2 ^ 64 }
         ensures copies { self.new ≡ with_copies self.old from packet.now.items to.now }
-        ensures few { self.new.next_copy ≤ self.old.next_copy + 200 }
+        ensures few { self.new.next_copy ≤ self.old.next_copy + MOST_NODES }
         ensures air { result ≡ record { first = self.old.next_copy; to = to.now } }
     {
         let first = self.copies.next_id();
         self.copies.cast(from, packet.as_slice(), to);
         Air { first, to: *to }
+    }
+
+    /// The copy of this id is doubled: a second copy like it flies, with the next id. The answer is its
+    /// id and receiver. None where no copy in flight has this id.
+    pub fn double(&mut self, id: u64) -> Option<(u64, usize)>
+        requires room { (1 ≤ self.old.room) × (longest_packet ≤ self.old.most) }
+        requires next { self.old.next_copy + MOST_NODES < 2 ^ 64 }
+        ensures told { result ≡ option_map (λ c. (self.old.next_copy, c.to)) (find_copy self.old.flying id) }
+        ensures doubled { self.new ≡ with_double self.old (find_copy self.old.flying id) }
+    {
+        self.copies.double(id)
     }
 
     /// Takes the copy of this id out of the air, its bytes in this room's memory. None where no copy in
@@ -193,8 +205,7 @@ impl Radio {
     pub fn first_id(&self) -> Option<u64>
         ensures { result ≡ option_map (λ c. c.id) (slice_get self.now.flying 0) }
     {
-        let first = self.copies.next_from(0, &mut 0)?;
-        Some(first.id)
+        self.copies.first_id()
     }
 }
 
@@ -204,7 +215,7 @@ mod tests {
     use std::test::Fail;
 
     #[test]
-    #[tactic(auto, using(crate::proofs::Casts::members_few))]
+    #[tactic(auto, using(mesh_base::proofs::Ranks::members_few))]
     fn copies_fly_on_by_themselves(rt: HostRuntime) -> Result<(), Fail> {
         let mut radio = Radio::new(rt.alloc(), 3)?;
         assert!(rt; radio.link(0, 2));

@@ -8,7 +8,8 @@ use Rattle.mesh_base.specs.Members.{NodeIds}
 use Rattle.mesh_base.specs.Meshes.{Nodes}
 use Rattle.aodv_model.specs.Cores.{Message}
 use Rattle.mesh_model.specs.Worlds.{members_below, copies_to}
-use Rattle.mesh_text.specs.Lines.{line, labelled, name_of}
+use Rattle.mesh_grammar.specs.Written.{line, labelled}
+use Rattle.mesh_text.specs.Lines.{name_of}
 use Rattle.mesh_text.specs.Effects.{copies_text}
 use Rattle.mesh_io.specs.Puts.{AppendsFront, Puts}
 use Rattle.mesh_io.proofs.Writing.{Puts-join}

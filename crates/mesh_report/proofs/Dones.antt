@@ -10,7 +10,8 @@ use Rattle.mesh_model.specs.Worlds.{World, Event, Outcome}
 use Rattle.aodv_meaning.specs.Meaning.{meaning}
 use Rattle.mesh_meaning.specs.Events.{place_of}
 use Rattle.mesh_meaning.specs.Answers.{effect_in, took_in, copies_in, outcome_in}
-use Rattle.mesh_text.specs.Lines.{line, event_words}
+use Rattle.mesh_grammar.specs.Written.{line}
+use Rattle.mesh_text.specs.Lines.{event_words}
 use Rattle.mesh_text.specs.Effects.{took_text, datum_in, datum_fate, sent_text, outcome_text, outcome_lines, happening_text}
 use Rattle.mesh_io.specs.Puts.{Puts}
 

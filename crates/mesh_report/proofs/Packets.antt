@@ -8,7 +8,8 @@ use Rattle.mesh_base.specs.declared.events.Cast.TheVariants as cast
 use Rattle.aodv_meaning.specs.Meaning.{meaning}
 use Rattle.mesh_meaning.specs.Packets.{IsWritten, packet_of}
 use Rattle.mesh_meaning.specs.Answers.{cast_in, IsCastWritten}
-use Rattle.mesh_text.specs.Lines.{line, hex, name_of}
+use Rattle.mesh_grammar.specs.Written.{line}
+use Rattle.mesh_text.specs.Lines.{hex, name_of}
 use Rattle.mesh_text.specs.Effects.{set_text, cast_text}
 
 -- the packet of what written bytes mean is those bytes

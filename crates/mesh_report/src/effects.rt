@@ -12,9 +12,10 @@ ghost use Rattle.mesh_model.specs.Worlds.{World, members_below, copies_to};
 ghost use Rattle.mesh_meaning.specs.Packets.{IsWritten, IsWrittenCopy};
 ghost use Rattle.mesh_meaning.specs.Events.{event_of, place_of as place_of_lem};
 ghost use Rattle.mesh_meaning.specs.Answers.{cast_in, effect_in, took_in, copies_in, happening_in, outcome_in, IsCastWritten, IsEffectInMesh, IsTookInMesh, IsDoneInMesh};
-ghost use Rattle.mesh_text.specs.Lines.{line, labelled, name_of};
+ghost use Rattle.mesh_grammar.specs.Written.{line, labelled};
+ghost use Rattle.mesh_text.specs.Lines.{name_of, words_of};
 ghost use Rattle.mesh_text.specs.Effects.{shown_byte, datum_in, kind_text, took_text, delivery_text, drop_text, datum_fate, broken_text, cast_text, copies_text, sent_text, outcome_text, outcome_lines};
-ghost use Rattle.mesh_script.specs.Seen.{IsPrintable};
+ghost use Rattle.mesh_script.specs.Seen.{accepted_of, IsPrintable};
 ghost use Rattle.mesh_io.specs.Cause.{HasCause};
 ghost use Rattle.mesh_io.specs.Puts.{Puts};
 ghost use Rattle.mesh_report.specs.Gathering.{MakesRoom};
@@ -22,8 +23,8 @@ ghost use Rattle.mesh_report.specs.Gathering.{MakesRoom};
 use crate::text::{push_labelled, push_one, push_packet, push_set, push_shown, push_two};
 use aodv_wire::{Message, read};
 use mesh_base::{
-    Addr, Air, Cast, Done, Effect, Event, Flying, Kind, LineBuf, Mesh, Packet, Took, push_text,
-    write_dotted,
+    Addr, Air, Cast, Done, Effect, Event, Flying, Kind, LINE_ROOM, LONGEST_DATUM, LONGEST_LINE,
+    LineBuf, MOST_NODES, Mesh, Packet, Took, push_text, write_dotted,
 };
 use mesh_io::{PutFault, Sink, put_all};
 use mesh_script::{Line, print_line};
@@ -32,8 +33,8 @@ use mesh_script::{Line, print_line};
 
 // A datum of one address for another, after a label.
 fn push_datum(out: &mut LineBuf, label: &[u8], origin: Addr, dest: Addr, body: &[u8])
-    requires short { length body.now ≤ 512 }
-    requires room { array_vec_len out.old + length label.now + 2081 ≤ 8192 }
+    requires short { length body.now ≤ LONGEST_DATUM }
+    requires room { array_vec_len out.old + length label.now + 2081 ≤ LINE_ROOM }
     ensures text { out.new.items ≡ out.old.items
         ++ line (label.now ++ dotted origin.0 ++ 32 ∷ dotted dest.0 ++ 32 ∷ flat_map shown_byte body.now) }
     ensures length { array_vec_len out.new ≤ array_vec_len out.old + length label.now + 2081 }
@@ -49,7 +50,7 @@ fn push_datum(out: &mut LineBuf, label: &[u8], origin: Addr, dest: Addr, body: &
 
 // The datum of a packet, if it has one, after a label.
 fn push_datum_in(out: &mut LineBuf, label: &[u8], packet: &[u8])
-    requires room { array_vec_len out.old + length label.now + 2081 ≤ 8192 }
+    requires room { array_vec_len out.old + length label.now + 2081 ≤ LINE_ROOM }
     ensures text { (mesh : Nodes) → IsWritten mesh packet.now
         → out.new.items ≡ out.old.items ++ datum_in label.now mesh (meaning mesh packet.now) }
     ensures length { array_vec_len out.new ≤ array_vec_len out.old + length label.now + 2081 }
@@ -62,7 +63,8 @@ fn push_datum_in(out: &mut LineBuf, label: &[u8], packet: &[u8])
 // ---- what a turn took
 
 fn took_label(kind: Kind) -> &'static [u8]
-    ensures text { (m : a_message) → kind ≡ kind_of m → result.now ≡ codes "  took " ++ kind_text m }
+    ensures text { (m : a_message) → kind
+        ≡ kind_of m → result.now ≡ codes "  took " ++ kind_text m }
     ensures length { length result.now ≡ 12 }
 {
     match kind {
@@ -77,8 +79,9 @@ fn took_label(kind: Kind) -> &'static [u8]
 fn push_took(out: &mut LineBuf, mesh: &Mesh, me: usize, took: &Took)
     requires me { me < length mesh.now }
     requires took { IsTookInMesh mesh.now took.now }
-    requires room { array_vec_len out.old + 28 ≤ 8192 }
-    ensures text { out.new.items ≡ out.old.items ++ took_text mesh.now me (took_in mesh.now took.now) }
+    requires room { array_vec_len out.old + 28 ≤ LINE_ROOM }
+    ensures text { out.new.items
+        ≡ out.old.items ++ took_text mesh.now me (took_in mesh.now took.now) }
     ensures length { array_vec_len out.new ≤ array_vec_len out.old + 28 }
 {
     match took {
@@ -93,8 +96,9 @@ fn push_took(out: &mut LineBuf, mesh: &Mesh, me: usize, took: &Took)
 fn push_delivery(out: &mut LineBuf, mesh: &Mesh, me: usize, took: &Took)
     requires me { me < length mesh.now }
     requires took { IsTookInMesh mesh.now took.now }
-    requires room { array_vec_len out.old + 2093 ≤ 8192 }
-    ensures text { out.new.items ≡ out.old.items ++ delivery_text mesh.now me (took_in mesh.now took.now) }
+    requires room { array_vec_len out.old + 2093 ≤ LINE_ROOM }
+    ensures text { out.new.items
+        ≡ out.old.items ++ delivery_text mesh.now me (took_in mesh.now took.now) }
     ensures length { array_vec_len out.new ≤ array_vec_len out.old + 2093 }
 {
     match took {
@@ -111,7 +115,7 @@ fn push_delivery(out: &mut LineBuf, mesh: &Mesh, me: usize, took: &Took)
 
 // The datum that was taken, which is dropped.
 fn push_drop(out: &mut LineBuf, took: &Took)
-    requires room { array_vec_len out.old + 2091 ≤ 8192 }
+    requires room { array_vec_len out.old + 2091 ≤ LINE_ROOM }
     ensures text { (mesh : Nodes) → IsTookInMesh mesh took.now
         → out.new.items ≡ out.old.items ++ drop_text mesh (took_in mesh took.now) }
     ensures length { array_vec_len out.new ≤ array_vec_len out.old + 2091 }
@@ -126,7 +130,7 @@ fn push_drop(out: &mut LineBuf, took: &Took)
 fn push_fate(out: &mut LineBuf, mesh: &Mesh, me: usize, took: &Took, effect: &Effect)
     requires me { me < length mesh.now }
     requires took { IsTookInMesh mesh.now took.now }
-    requires room { array_vec_len out.old + 4184 ≤ 8192 }
+    requires room { array_vec_len out.old + 4184 ≤ LINE_ROOM }
     ensures text { out.new.items ≡ out.old.items
         ++ datum_fate mesh.now me (took_in mesh.now took.now) (effect_in mesh.now effect.now []) }
 {
@@ -143,8 +147,9 @@ fn push_fate(out: &mut LineBuf, mesh: &Mesh, me: usize, took: &Took, effect: &Ef
 fn push_turn(out: &mut LineBuf, mesh: &Mesh, me: usize, took: &Took, effect: &Effect)
     requires me { me < length mesh.now }
     requires took { IsTookInMesh mesh.now took.now }
-    requires room { array_vec_len out.old + 4212 ≤ 8192 }
-    ensures text { out.new.items ≡ out.old.items ++ (took_text mesh.now me (took_in mesh.now took.now)
+    requires room { array_vec_len out.old + 4212 ≤ LINE_ROOM }
+    ensures text { out.new.items
+        ≡ out.old.items ++ (took_text mesh.now me (took_in mesh.now took.now)
         ++ datum_fate mesh.now me (took_in mesh.now took.now) (effect_in mesh.now effect.now [])) }
 {
     push_took(out, mesh, me, took);
@@ -155,7 +160,7 @@ fn push_turn(out: &mut LineBuf, mesh: &Mesh, me: usize, took: &Took, effect: &Ef
 
 fn push_broken(out: &mut LineBuf, mesh: &Mesh, broken: Option<usize>)
     requires broken { IfSome broken (λ y. y < length mesh.now) }
-    requires room { array_vec_len out.old + 25 ≤ 8192 }
+    requires room { array_vec_len out.old + 25 ≤ LINE_ROOM }
     ensures text { out.new.items ≡ out.old.items ++ broken_text mesh.now broken }
     ensures length { array_vec_len out.new ≤ array_vec_len out.old + 25 }
 {
@@ -170,8 +175,9 @@ fn push_broken(out: &mut LineBuf, mesh: &Mesh, broken: Option<usize>)
 #[tactic(auto, using(std::proofs::lemmas::List::append_assoc))]
 fn push_cast(out: &mut LineBuf, mesh: &Mesh, cast: &Cast, packet: &Packet)
     requires cast { IsCastWritten mesh.now cast.now packet.now.items }
-    requires room { array_vec_len out.old + 6422 ≤ 8192 }
-    ensures text { out.new.items ≡ out.old.items ++ cast_text mesh.now (cast_in mesh.now cast.now packet.now.items) }
+    requires room { array_vec_len out.old + 6422 ≤ LINE_ROOM }
+    ensures text { out.new.items
+        ≡ out.old.items ++ cast_text mesh.now (cast_in mesh.now cast.now packet.now.items) }
 {
     let bytes = packet.as_slice();
     match cast {
@@ -194,8 +200,8 @@ fn push_cast(out: &mut LineBuf, mesh: &Mesh, cast: &Cast, packet: &Packet)
 
 // Hands on what the buffer has, where there is no room in it for so many bytes more.
 fn make_room<O: Sink>(buf: &mut LineBuf, bytes: usize, out: &mut O) -> Result<(), PutFault>
-    requires { bytes ≤ 8192 }
-    ensures room { OnOk result (array_vec_len buf.new + bytes ≤ 8192) }
+    requires { bytes ≤ LINE_ROOM }
+    ensures room { OnOk result (array_vec_len buf.new + bytes ≤ LINE_ROOM) }
     ensures text { MakesRoom (O.held out.old) (O.held out.new) buf.new.items buf.old.items result }
     ensures cause { HasCause (O.faults out.old) (O.faults out.new) result }
 {
@@ -210,8 +216,9 @@ fn make_room<O: Sink>(buf: &mut LineBuf, bytes: usize, out: &mut O) -> Result<()
 // The longest such line has a number of 20 digits and an address of 15 bytes.
 fn push_copy(out: &mut LineBuf, mesh: &Mesh, id: u64, to: usize)
     requires to { to < length mesh.now }
-    requires room { array_vec_len out.old + 44 ≤ 8192 }
-    ensures text { out.new.items ≡ out.old.items ++ line (labelled (codes "  copy ") id ++ 32 ∷ name_of mesh.now to) }
+    requires room { array_vec_len out.old + 44 ≤ LINE_ROOM }
+    ensures text { out.new.items
+        ≡ out.old.items ++ line (labelled (codes "  copy ") id ++ 32 ∷ name_of mesh.now to) }
 {
     push_labelled(out, b"  copy ", id);
     push_one(out, b" ", mesh, to);
@@ -222,7 +229,7 @@ fn push_copy(out: &mut LineBuf, mesh: &Mesh, id: u64, to: usize)
 // of them.
 fn put_air<O: Sink>(mesh: &Mesh, air: &Air, buf: &mut LineBuf, out: &mut O) -> Result<(), PutFault>
     requires receivers { AreBelow (length mesh.now) air.now.to }
-    requires few { air.now.first + 200 < 2 ^ 64 }
+    requires few { air.now.first + MOST_NODES < 2 ^ 64 }
     ensures text { (from : ℕ) (m : a_message) → Puts (O.held out.old) (O.held out.new) (buf.old.items
         ++ copies_text mesh.now (copies_to (members_below (length mesh.now) air.now.to) air.now.first from m)) result }
     ensures cause { HasCause (O.faults out.old) (O.faults out.new) result }
@@ -249,7 +256,7 @@ fn put_copies<O: Sink>(
     out: &mut O,
 ) -> Result<(), PutFault>
     requires receivers { AreBelow (length mesh.now) air.now.to }
-    requires few { air.now.first + 200 < 2 ^ 64 }
+    requires few { air.now.first + MOST_NODES < 2 ^ 64 }
     ensures text { (from : ℕ) (packet : List ℕ) → Puts (O.held out.old) (O.held out.new)
         (buf.old.items ++ copies_text mesh.now (copies_in mesh.now from cast.now air.now packet)) result }
     ensures cause { HasCause (O.faults out.old) (O.faults out.new) result }
@@ -266,7 +273,7 @@ fn put_copies<O: Sink>(
 fn push_sent(out: &mut LineBuf, mesh: &Mesh, effect: &Effect, packet: &Packet)
     requires broken { IfSome effect.now.broken (λ y. y < length mesh.now) }
     requires cast { IsCastWritten mesh.now effect.now.cast packet.now.items }
-    requires room { array_vec_len out.old + 6447 ≤ 8192 }
+    requires room { array_vec_len out.old + 6447 ≤ LINE_ROOM }
     ensures text { out.new.items ≡ out.old.items ++ (broken_text mesh.now effect.now.broken
         ++ cast_text mesh.now (cast_in mesh.now effect.now.cast packet.now.items)) }
 {
@@ -299,7 +306,7 @@ fn put_sent<O: Sink>(
 fn push_heard(out: &mut LineBuf, mesh: &Mesh, from: usize, to: usize)
     requires from { from < length mesh.now }
     requires to { to < length mesh.now }
-    requires room { array_vec_len out.old + 40 ≤ 8192 }
+    requires room { array_vec_len out.old + 40 ≤ LINE_ROOM }
     ensures text { out.new.items ≡ out.old.items
         ++ line (codes "  heard " ++ name_of mesh.now from ++ 32 ∷ name_of mesh.now to) }
 {
@@ -310,7 +317,7 @@ fn push_heard(out: &mut LineBuf, mesh: &Mesh, from: usize, to: usize)
 fn push_lost_copy(out: &mut LineBuf, mesh: &Mesh, from: usize, to: usize)
     requires from { from < length mesh.now }
     requires to { to < length mesh.now }
-    requires room { array_vec_len out.old + 40 ≤ 8192 }
+    requires room { array_vec_len out.old + 40 ≤ LINE_ROOM }
     ensures text { out.new.items ≡ out.old.items
         ++ line (codes "  lost " ++ name_of mesh.now from ++ 32 ∷ name_of mesh.now to) }
     ensures length { array_vec_len out.new ≤ array_vec_len out.old + 40 }
@@ -324,7 +331,7 @@ fn push_lost(out: &mut LineBuf, mesh: &Mesh, flying: &Flying)
     requires from { flying.now.from < length mesh.now }
     requires to { flying.now.to < length mesh.now }
     requires written { IsWrittenCopy mesh.now flying.now }
-    requires room { array_vec_len out.old + 2131 ≤ 8192 }
+    requires room { array_vec_len out.old + 2131 ≤ LINE_ROOM }
     ensures text { out.new.items ≡ out.old.items
         ++ (line (codes "  lost " ++ name_of mesh.now flying.now.from ++ 32 ∷ name_of mesh.now flying.now.to)
         ++ datum_in (codes "  dropped ") mesh.now (meaning mesh.now flying.now.bytes)) }
@@ -344,10 +351,7 @@ fn place_of(e: &Event<'_>) -> usize
         Event::Turn { node } => node,
         Event::Send { node, .. } => node,
         Event::Ask { node, .. } => node,
-        Event::Link { .. } => 0,
-        Event::Cut { .. } => 0,
-        Event::Deliver { .. } => 0,
-        Event::Lose { .. } => 0,
+        _ => 0,
     }
 }
 
@@ -363,7 +367,7 @@ fn put_after<O: Sink>(
 ) -> Result<(), PutFault>
     requires place { place_of_lem (event_of e.now) < length mesh.now }
     requires in_mesh { IsDoneInMesh mesh.now done.now packet.now.items }
-    requires room { array_vec_len buf.old ≤ 550 }
+    requires room { array_vec_len buf.old ≤ LONGEST_LINE + 1 }
     ensures text { (w : World) → Puts (O.held out.old) (O.held out.new) (buf.old.items
         ++ outcome_text mesh.now (place_of_lem (event_of e.now))
         (outcome_in mesh.now (place_of_lem (event_of e.now)) w done.now packet.now.items)) result }
@@ -379,6 +383,7 @@ fn put_after<O: Sink>(
         Done::Sent { effect, air } => return put_sent(mesh, effect, air, packet, buf, out),
         Done::Heard { from, to } => push_heard(buf, mesh, *from, *to),
         Done::Lost { flying } => push_lost(buf, mesh, flying),
+        Done::Doubled { id, to, .. } => push_copy(buf, mesh, *id, *to),
     }
     put_all(out, buf.as_slice())
 }
@@ -421,6 +426,32 @@ pub fn put_event<O: Sink>(
     ensures cause { HasCause (O.faults out.old) (O.faults out.new) result }
 {
     print_line(&Line::Step(*e), mesh, buf);
+    buf.push(b'\n');
+    put_after(mesh, e, done, packet, buf, out)
+}
+
+/// Writes the line of an event as it stands, and below it what the event did. The line is in
+/// canonical form already.
+pub fn put_echoed_event<O: Sink>(
+    bytes: &[u8],
+    mesh: &Mesh,
+    e: &Event<'_>,
+    done: &Done,
+    packet: &Packet,
+    buf: &mut LineBuf,
+    out: &mut O,
+) -> Result<(), PutFault>
+    requires short { length bytes.now ≤ LONGEST_LINE }
+    requires echo { bytes.now ≡ words_of mesh.now (accepted_of (Line.Step e.now)) }
+    requires printable { IsPrintable mesh.now (Line.Step e.now) }
+    requires in_mesh { IsDoneInMesh mesh.now done.now packet.now.items }
+    ensures text { (w : World) → Puts (O.held out.old) (O.held out.new)
+        (outcome_lines mesh.now (event_of e.now)
+        (outcome_in mesh.now (place_of_lem (event_of e.now)) w done.now packet.now.items)) result }
+    ensures cause { HasCause (O.faults out.old) (O.faults out.new) result }
+{
+    buf.clear();
+    push_text(buf, bytes);
     buf.push(b'\n');
     put_after(mesh, e, done, packet, buf, out)
 }

@@ -3,16 +3,19 @@ ghost use Rattle.std.specs.Prelude.{◌≡◌, ◌+◌, ◌<◌, ◌≤◌, ◌+
 ghost use Rattle.arrayvec.specs.ArrayVec.{array_vec_len};
 ghost use Rattle.mesh_model.specs.Places.{IsEvent};
 ghost use Rattle.mesh_meaning.specs.Events.{event_of};
-ghost use Rattle.mesh_text.specs.Lines.{labelled, at_bytes, event_words, fault_text, why_text, bad_line, field_text, full_line, summary_text};
+ghost use Rattle.mesh_grammar.specs.Faults.{at_bytes, fault_text, why_text, bad_line};
+ghost use Rattle.mesh_grammar.specs.Written.{labelled};
+ghost use Rattle.mesh_text.specs.Lines.{copied_words, field_text, full_line, summary_text};
 ghost use Rattle.mesh_text.specs.Auto.{auto_end};
 ghost use Rattle.mesh_io.specs.Cause.{HasCause};
 ghost use Rattle.mesh_io.specs.Puts.{Puts};
 ghost use Rattle.mesh_report.specs.Sums.{sums_of};
 
-use crate::text::{push_labelled, push_one, push_two};
-use mesh_base::{Event, Full, LineBuf, Mesh, push_text};
+use crate::text::push_labelled;
+use mesh_base::{Event, Full, LINE_ROOM, LineBuf, Mesh, push_text};
+use mesh_grammar::{BadWhy, LineFault, Span};
 use mesh_io::{PutFault, Sink, put_all};
-use mesh_text::{BadWhy, LineFault, Span};
+use mesh_script::push_event;
 
 // ---- the whole input was read
 
@@ -35,11 +38,13 @@ pub struct Summary {
     pub flying: u64,
     /// Data that were dropped.
     pub lost: u64,
+    /// Data packets that were doubled in flight.
+    pub copied: u64,
 }
 
 // The counts of events, and of the data that were given and delivered.
 fn push_done(out: &mut LineBuf, s: &Summary)
-    requires room { array_vec_len out.old + 116 ≤ 8192 }
+    requires room { array_vec_len out.old + 116 ≤ LINE_ROOM }
     ensures text { out.new.items ≡ out.old.items
         ++ (labelled (codes "done events ") s.now.events ++ labelled (codes " idle ") s.now.idle
         ++ labelled (codes " given ") s.now.given ++ labelled (codes " delivered ") s.now.delivered) }
@@ -51,8 +56,19 @@ fn push_done(out: &mut LineBuf, s: &Summary)
     push_labelled(out, b" delivered ", s.delivered);
 }
 
+// How many data packets were doubled, where any were.
+fn push_copied(out: &mut LineBuf, copied: u64)
+    requires room { array_vec_len out.old + 28 ≤ LINE_ROOM }
+    ensures text { out.new.items ≡ out.old.items ++ copied_words copied }
+    ensures length { array_vec_len out.new ≤ array_vec_len out.old + 28 }
+{
+    if copied > 0 {
+        push_labelled(out, b" copied ", copied);
+    }
+}
+
 fn push_summary(out: &mut LineBuf, s: &Summary)
-    requires room { array_vec_len out.old + 228 ≤ 8192 }
+    requires room { array_vec_len out.old + 256 ≤ LINE_ROOM }
     ensures text { out.new.items ≡ out.old.items
         ++ summary_text (sums_of s.now) s.now.waiting s.now.queued s.now.flying }
 {
@@ -61,6 +77,7 @@ fn push_summary(out: &mut LineBuf, s: &Summary)
     push_labelled(out, b" queued ", s.queued);
     push_labelled(out, b" flying ", s.flying);
     push_labelled(out, b" lost ", s.lost);
+    push_copied(out, s.copied);
     out.push(b'\n');
 }
 
@@ -80,7 +97,7 @@ pub fn put_summary<O: Sink>(s: &Summary, buf: &mut LineBuf, out: &mut O) -> Resu
 // A fault, and the bytes of the line that it is about.
 #[tactic(auto, using(std::proofs::lemmas::List::append_assoc))]
 fn push_at(out: &mut LineBuf, fault: &[u8], span: Span)
-    requires room { array_vec_len out.old + length fault.now + 54 ≤ 8192 }
+    requires room { array_vec_len out.old + length fault.now + 54 ≤ LINE_ROOM }
     ensures text { out.new.items ≡ out.old.items ++ (fault.now ++ at_bytes span) }
     ensures length { array_vec_len out.new ≤ array_vec_len out.old + length fault.now + 54 }
 {
@@ -90,7 +107,7 @@ fn push_at(out: &mut LineBuf, fault: &[u8], span: Span)
 }
 
 fn push_fault(out: &mut LineBuf, fault: &LineFault)
-    requires room { array_vec_len out.old + 70 ≤ 8192 }
+    requires room { array_vec_len out.old + 70 ≤ LINE_ROOM }
     ensures text { out.new.items ≡ out.old.items ++ fault_text fault.now }
     ensures length { array_vec_len out.new ≤ array_vec_len out.old + 70 }
 {
@@ -109,9 +126,9 @@ fn push_fault(out: &mut LineBuf, fault: &LineFault)
     }
 }
 
-#[tactic(auto, unfolding(mesh_text::specs::Lines::why_text))]
+#[tactic(auto, unfolding(mesh_grammar::specs::Faults::why_text))]
 fn push_why(out: &mut LineBuf, why: &BadWhy)
-    requires room { array_vec_len out.old + 70 ≤ 8192 }
+    requires room { array_vec_len out.old + 70 ≤ LINE_ROOM }
     ensures text { out.new.items ≡ out.old.items ++ why_text why.now }
     ensures length { array_vec_len out.new ≤ array_vec_len out.old + 70 }
 {
@@ -122,9 +139,9 @@ fn push_why(out: &mut LineBuf, why: &BadWhy)
     }
 }
 
-#[tactic(auto, using(std::proofs::lemmas::List::append_assoc), unfolding(mesh_text::specs::Lines::bad_line))]
+#[tactic(auto, using(std::proofs::lemmas::List::append_assoc), unfolding(mesh_grammar::specs::Faults::bad_line))]
 fn push_bad(out: &mut LineBuf, line: u64, why: &BadWhy)
-    requires room { array_vec_len out.old + 102 ≤ 8192 }
+    requires room { array_vec_len out.old + 102 ≤ LINE_ROOM }
     ensures text { out.new.items ≡ out.old.items ++ bad_line line why.now }
 {
     push_labelled(out, b"bad line ", line);
@@ -150,30 +167,6 @@ pub fn put_bad<O: Sink>(
 
 // ---- a counter is full
 
-// An event as a line of a schedule, without its LF.
-#[tactic(auto, unfolding(mesh_text::specs::Lines::event_words))]
-fn push_event(out: &mut LineBuf, mesh: &Mesh, e: &Event<'_>)
-    requires event { IsEvent (length mesh.now) (event_of e.now) }
-    requires room { array_vec_len out.old + 549 ≤ 8192 }
-    ensures text { out.new.items ≡ out.old.items ++ event_words mesh.now (event_of e.now) }
-    ensures length { array_vec_len out.new ≤ array_vec_len out.old + 549 }
-{
-    match *e {
-        Event::Give { node, dest, body } => {
-            push_two(out, b"data ", mesh, node, dest);
-            out.push(b' ');
-            push_text(out, body);
-        }
-        Event::Turn { node } => push_one(out, b"turn ", mesh, node),
-        Event::Send { node, dest } => push_two(out, b"send ", mesh, node, dest),
-        Event::Ask { node, dest } => push_two(out, b"ask ", mesh, node, dest),
-        Event::Link { a, b } => push_two(out, b"link ", mesh, a, b),
-        Event::Cut { a, b } => push_two(out, b"cut ", mesh, a, b),
-        Event::Deliver { id } => push_labelled(out, b"deliver ", id),
-        Event::Lose { id } => push_labelled(out, b"lose ", id),
-    }
-}
-
 fn field_word(field: &Full) -> &'static [u8]
     ensures text { result.now ≡ field_text field.now }
     ensures length { length result.now ≤ 6 }
@@ -187,8 +180,9 @@ fn field_word(field: &Full) -> &'static [u8]
 
 fn push_full(out: &mut LineBuf, mesh: &Mesh, line: u64, e: &Event<'_>, field: &Full)
     requires event { IsEvent (length mesh.now) (event_of e.now) }
-    requires room { array_vec_len out.old + 590 ≤ 8192 }
-    ensures text { out.new.items ≡ out.old.items ++ full_line mesh.now line (event_of e.now) field.now }
+    requires room { array_vec_len out.old + 590 ≤ LINE_ROOM }
+    ensures text { out.new.items
+        ≡ out.old.items ++ full_line mesh.now line (event_of e.now) field.now }
 {
     push_labelled(out, b"full line ", line);
     push_text(out, b": ");
@@ -209,7 +203,8 @@ pub fn put_full<O: Sink>(
     out: &mut O,
 ) -> Result<(), PutFault>
     requires event { IsEvent (length mesh.now) (event_of e.now) }
-    ensures text { Puts (O.held out.old) (O.held out.new) (full_line mesh.now line (event_of e.now) field.now) result }
+    ensures text { Puts (O.held out.old) (O.held out.new)
+        (full_line mesh.now line (event_of e.now) field.now) result }
     ensures cause { HasCause (O.faults out.old) (O.faults out.new) result }
 {
     buf.clear();

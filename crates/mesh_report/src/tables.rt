@@ -11,14 +11,14 @@ ghost use Rattle.mesh_io.specs.Puts.{Puts};
 
 use crate::text::{push_labelled, push_one, push_packet, push_set, push_two};
 use aodv_entry::{Entry, Flag, Known};
-use mesh_base::{FlyingView, LineBuf, Mesh, push_number, push_text};
+use mesh_base::{FlyingView, LINE_ROOM, LineBuf, Mesh, push_number, push_text};
 use mesh_io::{PutFault, Sink, put_all};
 
 // ---- a node
 
 #[tactic(auto, unfolding(mesh_text::specs::Tables::number_line))]
 fn push_number_line(out: &mut LineBuf, label: &[u8], n: u64)
-    requires room { array_vec_len out.old + length label.now + 24 ≤ 8192 }
+    requires room { array_vec_len out.old + length label.now + 24 ≤ LINE_ROOM }
     ensures text { out.new.items ≡ out.old.items ++ number_line label.now n }
 {
     push_text(out, b"  ");
@@ -86,7 +86,7 @@ fn flag_word(flag: Flag) -> &'static [u8]
 // The number of an entry and whether it is known, whether the route is valid, and its hops.
 #[tactic(auto, using(std::proofs::lemmas::List::append_assoc))]
 fn push_quality(out: &mut LineBuf, e: &Entry)
-    requires room { array_vec_len out.old + 50 ≤ 8192 }
+    requires room { array_vec_len out.old + 50 ≤ LINE_ROOM }
     ensures text { out.new.items ≡ out.old.items
         ++ (32 ∷ decimal e.now.dsn ++ known_text e.now.dsk ++ flag_text e.now.flag ++ decimal e.now.hops) }
     ensures length { array_vec_len out.new ≤ array_vec_len out.old + 50 }
@@ -102,7 +102,7 @@ fn push_entry(out: &mut LineBuf, mesh: &Mesh, d: usize, e: &Entry)
     requires dest { d < length mesh.now }
     requires next { e.now.next < length mesh.now }
     requires precursors { AreBelow (length mesh.now) e.now.pre }
-    requires room { array_vec_len out.old + 3291 ≤ 8192 }
+    requires room { array_vec_len out.old + 3291 ≤ LINE_ROOM }
     ensures text { out.new.items ≡ out.old.items ++ entry_text mesh.now d e.now }
 {
     push_one(out, b"  entry ", mesh, d);
@@ -150,7 +150,8 @@ pub fn put_waits<O: Sink>(
     out: &mut O,
 ) -> Result<(), PutFault>
     requires dest { d < length mesh.now }
-    ensures text { Puts (O.held out.old) (O.held out.new) (waits_line mesh.now d needs_request count) result }
+    ensures text { Puts (O.held out.old) (O.held out.new)
+        (waits_line mesh.now d needs_request count) result }
     ensures cause { HasCause (O.faults out.old) (O.faults out.new) result }
 {
     buf.clear();
@@ -189,8 +190,9 @@ fn push_flying(out: &mut LineBuf, mesh: &Mesh, f: &FlyingView<'_>)
     requires from { f.now.from < length mesh.now }
     requires to { f.now.to < length mesh.now }
     requires written { IsWrittenCopy mesh.now (flying_seen f.now) }
-    requires room { array_vec_len out.old + 4149 ≤ 8192 }
-    ensures text { out.new.items ≡ out.old.items ++ flying_text mesh.now (copy_in mesh.now (flying_seen f.now)) }
+    requires room { array_vec_len out.old + 4149 ≤ LINE_ROOM }
+    ensures text { out.new.items
+        ≡ out.old.items ++ flying_text mesh.now (copy_in mesh.now (flying_seen f.now)) }
 {
     push_labelled(out, b"  copy ", f.id);
     push_two(out, b" ", mesh, f.from, f.to);
@@ -207,7 +209,8 @@ pub fn put_flying<O: Sink>(
     requires from { f.now.from < length mesh.now }
     requires to { f.now.to < length mesh.now }
     requires written { IsWrittenCopy mesh.now (flying_seen f.now) }
-    ensures text { Puts (O.held out.old) (O.held out.new) (flying_text mesh.now (copy_in mesh.now (flying_seen f.now))) result }
+    ensures text { Puts (O.held out.old) (O.held out.new)
+        (flying_text mesh.now (copy_in mesh.now (flying_seen f.now))) result }
     ensures cause { HasCause (O.faults out.old) (O.faults out.new) result }
 {
     buf.clear();

@@ -5,16 +5,17 @@ ghost use Rattle.arrayvec.specs.ArrayVec.{array_vec_len};
 ghost use Rattle.mesh_base.specs.Meshes.{Nodes};
 ghost use Rattle.aodv_meaning.specs.Meaning.{meaning};
 ghost use Rattle.mesh_meaning.specs.Packets.{IsWritten, packet_of};
-ghost use Rattle.mesh_text.specs.Lines.{line, labelled, name_of, of_one, of_two, hex, hex_byte, hex_digit as hex_digit_lem};
+ghost use Rattle.mesh_grammar.specs.Written.{line, labelled};
+ghost use Rattle.mesh_text.specs.Lines.{name_of, of_one, of_two, hex, hex_byte, hex_digit as hex_digit_lem};
 ghost use Rattle.mesh_text.specs.Effects.{shown_byte, set_text};
 ghost use Rattle.aodv_model.specs.Soundness.{AreBelow};
 
-use mesh_base::{LineBuf, Mesh, NodeSet, push_number, push_text, write_dotted};
+use mesh_base::{LINE_ROOM, LineBuf, Mesh, NodeSet, push_number, push_text, write_dotted};
 
 /// A node's address.
 pub(crate) fn push_name(out: &mut LineBuf, mesh: &Mesh, i: usize)
     requires node { i < length mesh.now }
-    requires room { array_vec_len out.old + 15 ≤ 8192 }
+    requires room { array_vec_len out.old + 15 ≤ LINE_ROOM }
     ensures text { out.new.items ≡ out.old.items ++ name_of mesh.now i }
     ensures length { array_vec_len out.new ≤ array_vec_len out.old + 15 }
 {
@@ -24,7 +25,7 @@ pub(crate) fn push_name(out: &mut LineBuf, mesh: &Mesh, i: usize)
 /// A label, and a node's address.
 pub(crate) fn push_one(out: &mut LineBuf, label: &[u8], mesh: &Mesh, i: usize)
     requires node { i < length mesh.now }
-    requires room { array_vec_len out.old + length label.now + 15 ≤ 8192 }
+    requires room { array_vec_len out.old + length label.now + 15 ≤ LINE_ROOM }
     ensures text { out.new.items ≡ out.old.items ++ of_one label.now mesh.now i }
     ensures length { array_vec_len out.new ≤ array_vec_len out.old + length label.now + 15 }
 {
@@ -36,7 +37,7 @@ pub(crate) fn push_one(out: &mut LineBuf, label: &[u8], mesh: &Mesh, i: usize)
 pub(crate) fn push_two(out: &mut LineBuf, label: &[u8], mesh: &Mesh, i: usize, j: usize)
     requires first { i < length mesh.now }
     requires second { j < length mesh.now }
-    requires room { array_vec_len out.old + length label.now + 31 ≤ 8192 }
+    requires room { array_vec_len out.old + length label.now + 31 ≤ LINE_ROOM }
     ensures text { out.new.items ≡ out.old.items ++ of_two label.now mesh.now i j }
     ensures length { array_vec_len out.new ≤ array_vec_len out.old + length label.now + 31 }
 {
@@ -47,7 +48,7 @@ pub(crate) fn push_two(out: &mut LineBuf, label: &[u8], mesh: &Mesh, i: usize, j
 
 /// A label, and a number.
 pub(crate) fn push_labelled(out: &mut LineBuf, label: &[u8], n: u64)
-    requires room { array_vec_len out.old + length label.now + 20 ≤ 8192 }
+    requires room { array_vec_len out.old + length label.now + 20 ≤ LINE_ROOM }
     ensures text { out.new.items ≡ out.old.items ++ labelled label.now n }
     ensures length { array_vec_len out.new ≤ array_vec_len out.old + length label.now + 20 }
 {
@@ -64,7 +65,7 @@ fn hex_digit(d: u8) -> u8
 
 // The two digits of a byte.
 fn push_hex_byte(out: &mut LineBuf, b: u8)
-    requires room { array_vec_len out.old + 2 ≤ 8192 }
+    requires room { array_vec_len out.old + 2 ≤ LINE_ROOM }
     ensures text { out.new.items ≡ out.old.items ++ hex_byte b }
     ensures length { array_vec_len out.new ≡ array_vec_len out.old + 2 }
 {
@@ -74,7 +75,7 @@ fn push_hex_byte(out: &mut LineBuf, b: u8)
 
 /// Bytes in hexadecimal.
 pub(crate) fn push_hex(out: &mut LineBuf, bytes: &[u8])
-    requires room { array_vec_len out.old + 2 * length bytes.now ≤ 8192 }
+    requires room { array_vec_len out.old + 2 * length bytes.now ≤ LINE_ROOM }
     ensures text { out.new.items ≡ out.old.items ++ hex bytes.now }
     ensures length { array_vec_len out.new ≡ array_vec_len out.old + 2 * length bytes.now }
 {
@@ -85,7 +86,7 @@ pub(crate) fn push_hex(out: &mut LineBuf, bytes: &[u8])
 
 /// A packet in hexadecimal after a space, to the line's end.
 pub(crate) fn push_packet(out: &mut LineBuf, packet: &[u8])
-    requires room { array_vec_len out.old + 2 * length packet.now + 2 ≤ 8192 }
+    requires room { array_vec_len out.old + 2 * length packet.now + 2 ≤ LINE_ROOM }
     ensures text { (mesh : Nodes) → IsWritten mesh packet.now
         → out.new.items ≡ out.old.items ++ line (32 ∷ hex (packet_of mesh (meaning mesh packet.now))) }
     ensures length { array_vec_len out.new ≡ array_vec_len out.old + 2 * length packet.now + 2 }
@@ -97,7 +98,7 @@ pub(crate) fn push_packet(out: &mut LineBuf, packet: &[u8])
 
 // A byte of a datum.
 fn push_shown_byte(out: &mut LineBuf, b: u8)
-    requires room { array_vec_len out.old + 4 ≤ 8192 }
+    requires room { array_vec_len out.old + 4 ≤ LINE_ROOM }
     ensures text { out.new.items ≡ out.old.items ++ shown_byte b }
     ensures length { array_vec_len out.new ≤ array_vec_len out.old + 4 }
 {
@@ -111,7 +112,7 @@ fn push_shown_byte(out: &mut LineBuf, b: u8)
 
 /// A datum, as it is shown.
 pub(crate) fn push_shown(out: &mut LineBuf, body: &[u8])
-    requires room { array_vec_len out.old + 4 * length body.now ≤ 8192 }
+    requires room { array_vec_len out.old + 4 * length body.now ≤ LINE_ROOM }
     ensures text { out.new.items ≡ out.old.items ++ flat_map shown_byte body.now }
     ensures length { array_vec_len out.new ≤ array_vec_len out.old + 4 * length body.now }
 {
@@ -124,7 +125,7 @@ pub(crate) fn push_shown(out: &mut LineBuf, body: &[u8])
 /// each with its comma.
 pub(crate) fn push_set(out: &mut LineBuf, mesh: &Mesh, set: &NodeSet)
     requires members { AreBelow (length mesh.now) set.now }
-    requires room { array_vec_len out.old + 3200 ≤ 8192 }
+    requires room { array_vec_len out.old + 3200 ≤ LINE_ROOM }
     ensures text { out.new.items ≡ out.old.items ++ set_text mesh.now set.now }
     ensures length { array_vec_len out.new ≤ array_vec_len out.old + 3200 }
 {

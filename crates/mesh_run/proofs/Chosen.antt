@@ -7,7 +7,8 @@ use Rattle.mesh_model.specs.Places.{IsEvent}
 use Rattle.mesh_model.specs.Choices.{pick}
 use Rattle.mesh_meaning.specs.Events.{event_of}
 use Rattle.mesh_text.specs.Schedule.{Moment, Chooses, counted, started, stepped, outcome_at, world_of}
-use Rattle.mesh_text.specs.Lines.{line, words_of}
+use Rattle.mesh_text.specs.Lines.{words_of}
+use Rattle.mesh_grammar.specs.Written.{line}
 use Rattle.mesh_text.specs.Effects.{outcome_lines}
 use Rattle.mesh_text.specs.Auto.{Ran, Ended, Refused as RanRefused, before, done_then, chosen_then, auto_from, auto_end}
 use Rattle.mesh_text.specs.Text.{Came, On, Refused, Over, came_of_auto, came_of_line, text_in}
@@ -55,7 +56,7 @@ ends_none quiet most did m a h e = nothing_more quiet m (auto_from (most - did) 
 
 text-before : (text : List ℕ) (ran : Ran) → text_of (before text ran) ≡ text ++ text_of ran
 text-before text (Ended others did after) = refl
-text-before text (RanRefused others e field) = refl
+text-before text (RanRefused others n e field) = refl
 
 before_to : (quiet : Bool) (m n k : Moment) (text : List ℕ) (ran : Ran) (a b c : Option (List ℕ)) (r : Result ℕ Stop) → n.mesh ≡ m.mesh → n.lines ≡ m.lines
     → Appends a b (shown quiet text) → RanTo quiet n ran k b c r → RanTo quiet m (before text ran) k a c r
@@ -76,17 +77,17 @@ before_to quiet m n k text ran a b c (Err stop.NoMemory) em el p q =
     subst P (sym (text-before text ran)) (front_join quiet a b c text (text_of ran) p q)
 
 -- the moment after what came of an event
-moment_in : Moment → Came → Moment
-moment_in m (On text n) = n
-moment_in m (Refused why) = m
-moment_in m (Over text e field) = m
+moment_of_came : Moment → Came → Moment
+moment_of_came m (On text n) = n
+moment_of_came m (Refused why) = m
+moment_of_came m (Over text n e field) = m
 
 -- an event that was done
 on_then : (quiet : Bool) (m n k : Moment) (e : Event) (text : List ℕ) (ran : Moment → Ran) (a b c : Option (List ℕ)) (r : Result ℕ Stop)
     → (g : Goes quiet (On text (stepped m e)) n a b) → RanTo quiet n (ran n) k b c r → RanTo quiet m (before text (ran (stepped m e))) k a c r
-unfolding stepped moment_in
+unfolding stepped moment_of_came
 on_then quiet m n k e text ran a b c r g q =
-    let same : stepped m e ≡ n = ap (moment_in m) g.is in
+    let same : stepped m e ≡ n = ap (moment_of_came m) g.is in
     let words : text ≡ g.text = ap text_in g.is in
     let P : Moment → Type 0 = λ p. RanTo quiet m (before text (ran p)) k a c r in
     let Q : List ℕ → Type 0 = λ l. Appends a b (shown quiet l) in
@@ -95,20 +96,20 @@ on_then quiet m n k e text ran a b c r g q =
 then_goes : (quiet : Bool) (m n k : Moment) (e : Event) (o : Outcome) (others : Moment → Ran) (a b c : Option (List ℕ)) (r : Result ℕ Stop)
     → Goes quiet (came_by m e o) n a b → RanTo quiet n (others n) k b c r → RanTo quiet m (done_then m e o others) k a c r
 then_goes quiet m n k e Idle others a b c r g q = on_then quiet m n k e (outcome_lines m.mesh e Idle) others a b c r g q
-then_goes quiet m n k e (Refuses x field) others a b c r g q = absurd (let h : Over [] e field ≡ On g.text n = g.is in let P : ⊥ = cc in P)
+then_goes quiet m n k e (Refuses x field) others a b c r g q = absurd (let h : Over [] m e field ≡ On g.text n = g.is in let P : ⊥ = cc in P)
 then_goes quiet m n k e (Happens w i) others a b c r g q = on_then quiet m n k e (outcome_lines m.mesh e (Happens w i)) others a b c r g q
 
 ran_in : Ran → Came → Ran
 ran_in d (On text n) = d
 ran_in d (Refused why) = d
-ran_in d (Over text e field) = RanRefused text e field
+ran_in d (Over text n e field) = RanRefused text n e field
 
 -- an event that was not done, or not written whole
 then_stops : (quiet : Bool) (m n : Moment) (e : Event) (o : Outcome) (others : Moment → Ran) (a b : Option (List ℕ)) (t : Stop)
     → Stops quiet m (came_by m e o) n a b t → RanTo quiet m (done_then m e o others) n a b (Err t)
 unfolding ran_in
 then_stops quiet m n e Idle others a b (stop.BadLine f) g = absurd (let h = g.0 in let P : ⊥ = cc in P)
-then_stops quiet m n e Idle others a b (stop.Full event field) g = absurd (let h : On (outcome_lines m.mesh e Idle) (stepped m e) ≡ Over g.text (event_of event) field = g.is in let P : ⊥ = cc in P)
+then_stops quiet m n e Idle others a b (stop.Full event field) g = absurd (let h : On (outcome_lines m.mesh e Idle) (stepped m e) ≡ Over g.text n (event_of event) field = g.is in let P : ⊥ = cc in P)
 then_stops quiet m n e Idle others a b stop.WriteFault g =
     let P : List ℕ → Type 0 = λ l. AppendsFront a b (shown quiet l) in
     subst P (sym (text-before (outcome_lines m.mesh e Idle) (others (stepped m e)))) (front_more quiet a b (outcome_lines m.mesh e Idle) _ g)
@@ -118,14 +119,14 @@ then_stops quiet m n e Idle others a b stop.NoMemory g =
 then_stops quiet m n e (Refuses x full) others a b (stop.BadLine f) g = absurd (let h = g.0 in let P : ⊥ = cc in P)
 then_stops quiet m n e (Refuses x full) others a b (stop.Full event field) g = record {
   text = g.text;
-  is = ap (ran_in (RanRefused [] e full)) g.is;
+  is = ap (ran_in (RanRefused [] m e full)) g.is;
   grown = g.grown;
   still = g.still;
 }
 then_stops quiet m n e (Refuses x full) others a b stop.WriteFault g = g
 then_stops quiet m n e (Refuses x full) others a b stop.NoMemory g = g
 then_stops quiet m n e (Happens w i) others a b (stop.BadLine f) g = absurd (let h = g.0 in let P : ⊥ = cc in P)
-then_stops quiet m n e (Happens w i) others a b (stop.Full event field) g = absurd (let h : On (outcome_lines m.mesh e (Happens w i)) (stepped m e) ≡ Over g.text (event_of event) field = g.is in let P : ⊥ = cc in P)
+then_stops quiet m n e (Happens w i) others a b (stop.Full event field) g = absurd (let h : On (outcome_lines m.mesh e (Happens w i)) (stepped m e) ≡ Over g.text n (event_of event) field = g.is in let P : ⊥ = cc in P)
 then_stops quiet m n e (Happens w i) others a b stop.WriteFault g =
     let P : List ℕ → Type 0 = λ l. AppendsFront a b (shown quiet l) in
     subst P (sym (text-before (outcome_lines m.mesh e (Happens w i)) (others (stepped m e)))) (front_more quiet a b (outcome_lines m.mesh e (Happens w i)) _ g)
@@ -166,11 +167,11 @@ auto_goes quiet m s n k count did a b c d same p q r next =
 front_in : (quiet : Bool) (w : List ℕ) (ran : Ran) (a b c : Option (List ℕ)) → Appends a b (shown quiet w) → AppendsFront b c (shown quiet (text_of ran))
     → AppendsFront a c (shown quiet (text_in (came_of_auto w ran)))
 front_in quiet w (Ended others did after) a b c p q = front_more quiet a c (w ++ others) (auto_end did) (front_join quiet a b c w others p q)
-front_in quiet w (RanRefused others e field) a b c p q = front_join quiet a b c w others p q
+front_in quiet w (RanRefused others n e field) a b c p q = front_join quiet a b c w others p q
 
 front_at : (quiet : Bool) (w : List ℕ) (ran : Ran) (a b : Option (List ℕ)) → AppendsFront a b (shown quiet w) → AppendsFront a b (shown quiet (text_in (came_of_auto w ran)))
 front_at quiet w (Ended others did after) a b p = front_more quiet a b (w ++ others) (auto_end did) (front_more quiet a b w others p)
-front_at quiet w (RanRefused others e field) a b p = front_more quiet a b w others p
+front_at quiet w (RanRefused others n e field) a b p = front_more quiet a b w others p
 
 -- the line itself is not written whole
 pub auto_front : (quiet : Bool) (m s : Moment) (count : ℕ) (a b : Option (List ℕ)) → s ≡ started m → AppendsFront a b (shown quiet (line (words_of m.mesh (Chooses count))))

@@ -4,8 +4,8 @@ use Rattle.std.specs.List.{slice_get}
 use Rattle.mesh_base.specs.declared.events.Full.{Full}
 use Rattle.aodv_model.specs.Cores.{New}
 use Rattle.aodv_model.specs.Handlers.{Effect, Took}
-use Rattle.mesh_model.specs.Worlds.{World, Node, Copy, Event, Give, Turn, Send, Ask, Link, Cut, Deliver, Lose, Double, Happening, Changed, Taken, Sent, CopyHeard, CopyLost, CopyDoubled, Outcome, Idle, Stops, Goes, unless_full, send_of, ask_of, at_node, at_copy, find_copy, are_linked, push, step}
-use Rattle.mesh_model.specs.Accounts.{any, given, delivered, delivered_at, dropped, in_taken}
+use Rattle.mesh_model.specs.Worlds.{World, Node, Copy, Event, Give, Turn, Send, Ask, Link, Cut, Deliver, Lose, Double, Happening, Changed, Taken, Sent, CopyHeard, CopyLost, CopyDoubled, Outcome, Idle, Stops, Goes, unless_full, send_of, ask_of, at_node, at_copy, find_copy, is_parcel, are_linked, push, step}
+use Rattle.mesh_model.specs.Accounts.{any, given, delivered, delivered_at, doubled_at, dropped, in_taken}
 use mir.Val.{bool_byte}
 use Rattle.mesh_text.specs.Schedule.{Sums, summed, idle_by}
 use Rattle.mesh_run.specs.Sums.{count_of}
@@ -24,7 +24,7 @@ NotChanged (Taken t f cs) = Unit {0}
 NotChanged (Sent f cs) = Unit {0}
 NotChanged (CopyHeard from to) = Unit {0}
 NotChanged (CopyLost c) = Unit {0}
-NotChanged (CopyDoubled c) = Unit {0}
+NotChanged (CopyDoubled id to parcel) = Unit {0}
 
 give_changes : (w : World) (x d : ℕ) (b : List ℕ) → happening_in (step w (Give x d b)) ≡ Changed
 unfolding step happening_in
@@ -59,7 +59,7 @@ NoTake (Goes w (Taken t f cs)) = ⊥
 NoTake (Goes w (Sent f cs)) = Unit {0}
 NoTake (Goes w (CopyHeard from to)) = Unit {0}
 NoTake (Goes w (CopyLost c)) = Unit {0}
-NoTake (Goes w (CopyDoubled c)) = Unit {0}
+NoTake (Goes w (CopyDoubled id to parcel)) = Unit {0}
 
 no_take_sent : (b : Bool) (x : ℕ) (f : Option Full) (w : World) (ef : Effect) (cs : List Copy) → NoTake (cond b (unless_full x f (Goes w (Sent ef cs))) Idle)
 no_take_sent true x None w ef cs = tt
@@ -104,7 +104,7 @@ no_take_link w a b = (on (are_linked w.links a b) _, off (are_linked w.links a b
 
 no_take_copy : (w : World) (id : ℕ) → NoTake (step w (Deliver id)) × NoTake (step w (Lose id)) × NoTake (step w (Double id))
 unfolding step
-no_take_copy w id = (heard (find_copy w.flying id) _, lost (find_copy w.flying id) _, doubled (find_copy w.flying id) _ _)
+no_take_copy w id = (heard (find_copy w.flying id) _, lost (find_copy w.flying id) _, doubled (find_copy w.flying id) _ w.next_copy)
   where
     heard : (o : Option Copy) (v : Copy → World) → NoTake (at_copy o (λ c. Goes (v c) (CopyHeard c.from c.to)))
     heard None v = tt
@@ -114,7 +114,7 @@ no_take_copy w id = (heard (find_copy w.flying id) _, lost (find_copy w.flying i
     lost None v = tt
     lost (Some c) v = tt
 
-    doubled : (o : Option Copy) (v : Copy → World) (k : Copy → Copy) → NoTake (at_copy o (λ c. Goes (v c) (CopyDoubled (k c))))
+    doubled : (o : Option Copy) (v : Copy → World) (k : ℕ) → NoTake (at_copy o (λ c. Goes (v c) (CopyDoubled k c.to (is_parcel c.message))))
     doubled None v k = tt
     doubled (Some c) v k = tt
 
@@ -136,10 +136,12 @@ byte_is : (b : Bool) (n : ℕ) → n ≡ bool_byte b → n ≡ count_of b
 byte_is true n h = h
 byte_is false n h = h
 
-pub summed_is : (s : Sums) (e : Event) (o : Outcome) (idle gives delivers drops : Bool) (a b c d : ℕ) → a ≡ bool_byte idle → b ≡ bool_byte gives → c ≡ bool_byte delivers → d ≡ bool_byte drops
-    → idle_by o ≡ count_of idle → given any e o ≡ count_of gives → delivered any e o ≡ count_of delivers → dropped any e o ≡ count_of drops
-    → record { events = s.events + 1; idle = s.idle + a; given = s.given + b; delivered = s.delivered + c; lost = s.lost + d } ≡ summed s e o
-summed_is s e o idle gives delivers drops a b c d ea eb ec ed ia gb dc ld =
-    let t : ℕ → ℕ → ℕ → ℕ → Sums = λ w x y z. record { events = s.events + 1; idle = s.idle + w; given = s.given + x; delivered = s.delivered + y; lost = s.lost + z } in
-    ap (λ w. t w b c d) (byte_is idle a ea ∙ sym ia) ∙ ap (λ x. t (idle_by o) x c d) (byte_is gives b eb ∙ sym gb)
-    ∙ ap (λ y. t (idle_by o) (given any e o) y d) (byte_is delivers c ec ∙ sym dc) ∙ ap (λ z. t (idle_by o) (given any e o) (delivered any e o) z) (byte_is drops d ed ∙ sym ld)
+pub summed_is : (s : Sums) (e : Event) (o : Outcome) (idle gives delivers drops doubles : Bool) (a b c d k : ℕ)
+    → a ≡ bool_byte idle → b ≡ bool_byte gives → c ≡ bool_byte delivers → d ≡ bool_byte drops → k ≡ bool_byte doubles
+    → idle_by o ≡ count_of idle → given any e o ≡ count_of gives → delivered any e o ≡ count_of delivers → dropped any e o ≡ count_of drops → doubled_at o ≡ count_of doubles
+    → record { events = s.events + 1; idle = s.idle + a; given = s.given + b; delivered = s.delivered + c; lost = s.lost + d; copied = s.copied + k } ≡ summed s e o
+summed_is s e o idle gives delivers drops doubles a b c d k ea eb ec ed ek ia gb dc ld ck =
+    let t : ℕ → ℕ → ℕ → ℕ → ℕ → Sums = λ v w x y z. record { events = s.events + 1; idle = s.idle + v; given = s.given + w; delivered = s.delivered + x; lost = s.lost + y; copied = s.copied + z } in
+    ap (λ v. t v b c d k) (byte_is idle a ea ∙ sym ia) ∙ ap (λ w. t (idle_by o) w c d k) (byte_is gives b eb ∙ sym gb)
+    ∙ ap (λ x. t (idle_by o) (given any e o) x d k) (byte_is delivers c ec ∙ sym dc) ∙ ap (λ y. t (idle_by o) (given any e o) (delivered any e o) y k) (byte_is drops d ed ∙ sym ld)
+    ∙ ap (t (idle_by o) (given any e o) (delivered any e o) (dropped any e o)) (byte_is doubles k ek ∙ sym ck)

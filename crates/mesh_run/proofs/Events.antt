@@ -12,9 +12,10 @@ use Rattle.mesh_model.specs.Worlds.{World, Event, Outcome, Idle, Stops as Refuse
 use Rattle.mesh_model.specs.Places.{IsEvent}
 use Rattle.mesh_meaning.specs.Events.{event_of, place_of}
 use Rattle.mesh_meaning.specs.Answers.{outcome_in}
-use Rattle.mesh_text.specs.declared.fault.BadWhy.{BadWhy}
-use Rattle.mesh_text.specs.declared.fault.BadWhy.TheVariants.{Fault}
-use Rattle.mesh_text.specs.Lines.{line, words_of}
+use Rattle.mesh_grammar.specs.declared.fault.BadWhy.{BadWhy}
+use Rattle.mesh_grammar.specs.declared.fault.BadWhy.TheVariants.{Fault}
+use Rattle.mesh_text.specs.Lines.{words_of}
+use Rattle.mesh_grammar.specs.Written.{line}
 use Rattle.mesh_text.specs.Schedule.{Moment, Accepted, Does, NewNode, ShowsNode, ShowsRoute, ShowsFlight, counted, started, stepped, outcome_at, world_of}
 use Rattle.mesh_text.specs.Effects.{outcome_lines}
 use Rattle.mesh_text.specs.Tables.{node_text_in, end_text, flight_text}
@@ -39,6 +40,7 @@ by_done m e mesh x w (done.Taken took effect air) packet = refl
 by_done m e mesh x w (done.Sent effect air) packet = refl
 by_done m e mesh x w (done.Heard from to) packet = refl
 by_done m e mesh x w (done.Lost flying) packet = refl
+by_done m e mesh x w (done.Doubled id to parcel) packet = refl
 
 -- an event that has an answer goes on
 answer_came : (m n : Moment) (e : Event) (d : Done) (packet : List ℕ) → IsAnswer m e d n packet → came_by m e (outcome_at m e) ≡ On (outcome_lines m.mesh e (outcome_at m e)) n
@@ -68,7 +70,7 @@ pub refusal_fills : (quiet : Bool) (m n : Moment) (e : Event) (x : ℕ) (field :
     → n ≡ m → Fills quiet m (came_by m e (outcome_at m e)) n a a e field
 refusal_fills quiet m n e x field a ev is same = record {
   text = [];
-  is = ap (came_by m e) is;
+  is = ap (came_by m e) is ∙ ap (λ k. Over [] k e field) (sym same);
   grown = shown_none quiet a;
   still = record { event = ev; mesh = ap (λ k. k.mesh) same; lines = ap (λ k. k.lines) same };
 }
@@ -84,32 +86,26 @@ refusal_stops quiet m n e errors.NoMemory a ev is same = AppendsFront-none a _
 count : Came → Came
 count (On text n) = On text (counted n)
 count (Refused why) = Refused why
-count (Over text e field) = Over text e field
+count (Over text n e field) = Over text n e field
 
-came-counted : (m : Moment) (e : Event) (o : Outcome) → came_of_event m e o ≡ count (came_by m e o)
-unfolding count
+came-counted : (m : Moment) (e : Event) (o : Outcome) → came_of_event m e o ≡ count (came_by (started m) e o)
+unfolding count stepped
 came-counted m e Idle = refl
 came-counted m e (Refuses x field) = refl
 came-counted m e (Happens w h) = refl
-
-came-started : (m : Moment) (e : Event) (o : Outcome) → came_by (started m) e o ≡ came_by m e o
-unfolding stepped
-came-started m e Idle = refl
-came-started m e (Refuses x field) = refl
-came-started m e (Happens w h) = refl
 
 text-counted : (k : Came) → text_in (count k) ≡ text_in k
 unfolding count
 text-counted (On text n) = refl
 text-counted (Refused why) = refl
-text-counted (Over text e field) = refl
+text-counted (Over text n e field) = refl
 
 -- the line of an event, by what came of the event once the run had started
 came-does : (m s : Moment) (e : Event) → s ≡ started m → came_of_line m (Does e) ≡ count (came_by s e (outcome_at s e))
 unfolding came_of_line
 came-does m s e same =
     let P : Moment → Type 0 = λ k. came_of_event m e (outcome_at m e) ≡ count (came_by k e (outcome_at k e)) in
-    subst P (sym same) (came-counted m e (outcome_at m e) ∙ ap count (sym (came-started m e (outcome_at m e))))
+    subst P (sym same) (came-counted m e (outcome_at m e))
 
 -- an event is no line that isn't allowed
 never_bad : (m : Moment) (e : Event) (o : Outcome) (why : BadWhy) → came_by m e o ≡ Refused why → ⊥

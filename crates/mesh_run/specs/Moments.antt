@@ -3,9 +3,11 @@ use Rattle.std.specs.Prelude.{◌≡◌, ◌≤◌, ℕ, List, Option, ⊤, refl
 use Rattle.std.specs.Coded.{Coded, code_by, coded×, coded_ℕ, coded_list, coded_option}
 use Rattle.std.specs.Option.{ForSome}
 use Rattle.mesh_base.specs.Meshes.{Nodes}
+use Rattle.mesh_base.specs.declared.events.Variant.{Variant}
 use Rattle.mesh_base.specs.declared.events.Done.{Done}
 use Rattle.mesh_base.specs.declared.events.Event.{Event as EventGiven}
 use Rattle.mesh_model.specs.Worlds.{World, Event, Stops}
+use Rattle.aodv_model.specs.Codes.{variant_code}
 use Rattle.mesh_model.specs.Codes.{world_code}
 use Rattle.mesh_meaning.specs.Events.{place_of}
 use Rattle.mesh_meaning.specs.Answers.{outcome_in, IsDoneInMesh}
@@ -47,19 +49,35 @@ stop_of e NoMemory = stop.NoMemory
 -- ---- a code, by which proofs tell moments apart
 
 abbrev Parts : Type 0
-Parts = ℕ × (ℕ × (ℕ × (ℕ × ℕ)))
+Parts = ℕ × (ℕ × (ℕ × (ℕ × (ℕ × ℕ))))
 
 abbrev sums_code : Coded Sums
 sums_code =
-    code_by Parts (coded× coded_ℕ (coded× coded_ℕ (coded× coded_ℕ (coded× coded_ℕ coded_ℕ))))
-    (λ s. (s.events, (s.idle, (s.given, (s.delivered, s.lost)))))
-    (λ p. record { events = p.0; idle = p.1.0; given = p.1.1.0; delivered = p.1.1.1.0; lost = p.1.1.1.1 })
+    code_by Parts (coded× coded_ℕ (coded× coded_ℕ (coded× coded_ℕ (coded× coded_ℕ (coded× coded_ℕ coded_ℕ)))))
+    (λ s. (s.events, (s.idle, (s.given, (s.delivered, (s.lost, s.copied))))))
+    (λ p. record {
+      events = p.0;
+      idle = p.1.0;
+      given = p.1.1.0;
+      delivered = p.1.1.1.0;
+      lost = p.1.1.1.1.0;
+      copied = p.1.1.1.1.1;
+    })
     (λ _. refl)
 
 abbrev pub moment_code : Coded Moment
 moment_code =
-    code_by (Nodes × (Option World × (Sums × ℕ)))
-    (coded× (coded_list (coded× coded_ℕ coded_ℕ)) (coded× (coded_option world_code) (coded× sums_code coded_ℕ)))
-    (λ m. (m.mesh, (m.world, (m.sums, m.lines))))
-    (λ p. record { mesh = p.0; world = p.1.0; sums = p.1.1.0; lines = p.1.1.1 })
+    code_by (Variant × (Nodes × (Option World × (Sums × (ℕ × ℕ)))))
+    (coded× variant_code
+    (coded× (coded_list (coded× coded_ℕ coded_ℕ))
+    (coded× (coded_option world_code) (coded× sums_code (coded× coded_ℕ coded_ℕ)))))
+    (λ m. (m.variant, (m.mesh, (m.world, (m.sums, (m.lines, m.steps))))))
+    (λ p. record {
+      variant = p.0;
+      mesh = p.1.0;
+      world = p.1.1.0;
+      sums = p.1.1.1.0;
+      lines = p.1.1.1.1.0;
+      steps = p.1.1.1.1.1;
+    })
     (λ _. refl)

@@ -1,13 +1,16 @@
 -- What was told of one line, of one event, and of events that were chosen. A text is left out where a run is quiet.
-use Rattle.std.specs.Prelude.{ℕ, ◌≡◌, List, [], Bool, if◌then◌else◌, Option, Result, Ok, Err, MatchResult, length}
+use Rattle.std.specs.Prelude.{ℕ, ◌≡◌, ◌≤◌, List, [], Bool, if◌then◌else◌, Option, Result, Ok, Err, MatchResult, length}
 use Rattle.std.specs.Io.KnownBytes.{Appends, Keeps}
 use Rattle.mesh_base.specs.declared.events.Full as full
 use Rattle.mesh_io.specs.Puts.{AppendsFront}
 use Rattle.mesh_model.specs.Worlds.{Event, Outcome, Idle, Stops as Refuses, Goes as Happens}
 use Rattle.mesh_model.specs.Places.{IsEvent}
 use Rattle.mesh_meaning.specs.Events.{event_of}
-use Rattle.mesh_text.specs.declared.fault.BadWhy.TheVariants.{Fault}
-use Rattle.mesh_text.specs.Schedule.{Moment, outcome_at, stepped}
+use Rattle.mesh_grammar.specs.declared.fault.BadWhy.TheVariants.{Fault}
+use Rattle.mesh_base.specs.Meshes.{Nodes}
+use Rattle.mesh_base.specs.declared.limits.TheConstants.{LONGEST_LINE}
+use Rattle.mesh_text.specs.Lines.{words_of}
+use Rattle.mesh_text.specs.Schedule.{Moment, Accepted, outcome_at, stepped}
 use Rattle.mesh_text.specs.Effects.{outcome_lines}
 use Rattle.mesh_text.specs.Auto.{Ran, Ended, Refused as RanRefused}
 use Rattle.mesh_text.specs.Text.{Came, On, Refused, Over, text_in}
@@ -17,6 +20,10 @@ use Rattle.mesh_run.specs.declared.stop.Stop.TheVariants as stop
 -- what a quiet run leaves out
 abbrev pub shown : Bool → List ℕ → List ℕ
 shown quiet text = if quiet then [] else text
+
+-- the bytes of a line are what the line is written back as
+abbrev pub IsLineOf : Nodes → Accepted → List ℕ → Type 0
+IsLineOf mesh l bytes = (length bytes ≤ LONGEST_LINE) × (bytes ≡ words_of mesh l)
 
 -- ---- what came of a line, or of one event
 
@@ -32,11 +39,11 @@ pub record IsStill (m n : Moment) (e : Event) : Type 0 where
   pub mesh : n.mesh ≡ m.mesh
   pub lines : n.lines ≡ m.lines
 
--- an event was refused for a full counter, after a text
+-- an event was refused for a full counter at the moment that is left, after a text
 pub record Fills
     (quiet : Bool) (m : Moment) (k : Came) (n : Moment) (before now : Option (List ℕ)) (e : Event) (field : full.Full) : Type 0 where
   pub text : List ℕ
-  pub is : k ≡ Over text e field
+  pub is : k ≡ Over text n e field
   pub grown : Appends before now (shown quiet text)
   pub still : IsStill m n e
 
@@ -56,7 +63,7 @@ Comes quiet m k n before now result = MatchResult result (λ _. Goes quiet k n b
 -- what an event comes to, by its outcome, where no line is counted
 abbrev pub came_by : Moment → Event → Outcome → Came
 came_by m e Idle = On (outcome_lines m.mesh e Idle) (stepped m e)
-came_by m e (Refuses x field) = Over [] e field
+came_by m e (Refuses x field) = Over [] m e field
 came_by m e (Happens w happening) = On (outcome_lines m.mesh e (Happens w happening)) (stepped m e)
 
 abbrev pub came_at : Moment → Event → Came
@@ -70,17 +77,17 @@ pub record Ends (quiet : Bool) (ran : Ran) (n : Moment) (before now : Option (Li
   pub is : ran ≡ Ended text did n
   pub grown : Appends before now (shown quiet text)
 
--- one was refused for a full counter, after the text of the others
+-- one was refused for a full counter at the moment that is left, after the text of the others
 pub record EndsFull
     (quiet : Bool) (m : Moment) (ran : Ran) (n : Moment) (before now : Option (List ℕ)) (e : Event) (field : full.Full) : Type 0 where
   pub text : List ℕ
-  pub is : ran ≡ RanRefused text e field
+  pub is : ran ≡ RanRefused text n e field
   pub grown : Appends before now (shown quiet text)
   pub still : IsStill m n e
 
 abbrev pub text_of : Ran → List ℕ
 text_of (Ended text did n) = text
-text_of (RanRefused text e field) = text
+text_of (RanRefused text n e field) = text
 
 -- what was told of them, from moment m to moment n. None of them is a line that is refused
 abbrev pub RanTo : Bool → Moment → Ran → Moment → Option (List ℕ) → Option (List ℕ) → Result ℕ Stop → Type 0

@@ -4,7 +4,14 @@ use Rattle.mesh_text.specs.Schedule as model
 use Rattle.mesh_run.specs.declared.sums.Sums.{Sums}
 
 abbrev pub sums_of : Sums → model.Sums
-sums_of s = record { events = s.events; idle = s.idle; given = s.given; delivered = s.delivered; lost = s.lost }
+sums_of s = record {
+  events = s.events;
+  idle = s.idle;
+  given = s.given;
+  delivered = s.delivered;
+  lost = s.lost;
+  copied = s.copied;
+}
 
 -- each event counts at most once in each sum
 pub record AreCounts (s : model.Sums) : Type 0 where
@@ -12,6 +19,7 @@ pub record AreCounts (s : model.Sums) : Type 0 where
   pub given : s.given ≤ s.events
   pub delivered : s.delivered ≤ s.events
   pub lost : s.lost ≤ s.events
+  pub copied : s.copied ≤ s.events
 
 -- 1 where it is so
 abbrev pub count_of : Bool → ℕ

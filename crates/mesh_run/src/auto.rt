@@ -8,10 +8,10 @@ ghost use Rattle.mesh_text.specs.Text.{came_of_line};
 ghost use Rattle.mesh_io.specs.Cause.{Rose, HasCause};
 ghost use Rattle.mesh_io.specs.Puts.{Puts};
 ghost use Rattle.mesh_script.specs.Seen.{IsPrintable};
-ghost use Rattle.mesh_run.specs.Runs.{shown, Comes, RanTo};
+ghost use Rattle.mesh_run.specs.Runs.{shown, IsLineOf, Comes, RanTo};
 
 use crate::choice::pick;
-use crate::commands::{do_event, say_line};
+use crate::commands::{do_event, say_echo};
 use crate::point::Point;
 use crate::stop::{Scratch, Stop};
 use mesh_base::{Event, LineBuf};
@@ -46,7 +46,8 @@ fn do_events<S: Steps, O: Sink>(
 ) -> Result<u32, Stop<'static>>
     requires started { is_some at.old.world ≡ true }
     requires few { at.old.sums.events + count < 2 ^ 48 }
-    ensures ran { RanTo quiet at.old (auto_from count 0 at.old) at.new (O.held out.old) (O.held out.new) result }
+    ensures ran { RanTo quiet at.old (auto_from count 0 at.old)
+        at.new (O.held out.old) (O.held out.new) result }
     ensures lines { OnOk result (at.new.lines ≡ at.old.lines) }
     ensures events { OnOk result (at.new.sums.events ≤ at.old.sums.events + count) }
     ensures later { O.faults out.old ≤ O.faults out.new }
@@ -57,7 +58,7 @@ fn do_events<S: Steps, O: Sink>(
         let Some(event) = next_event(at) else {
             return Ok(did);
         };
-        if let Err(stop) = do_event(alloc, at, event, quiet, scratch, out) {
+        if let Err(stop) = do_event(alloc, at, None, event, quiet, scratch, out) {
             return Err(stop);
         }
         did += 1;
@@ -76,10 +77,12 @@ fn say_end<O: Sink>(did: u32, quiet: bool, buf: &mut LineBuf, out: &mut O) -> Re
     put_auto_end(did, buf, out)
 }
 
-/// Does up to so many events that the run chooses, and writes them and their number.
+/// Does up to so many events that the run chooses, and writes the line as it stands, the events and
+/// their number.
 pub fn do_auto<S: Steps, O: Sink>(
     alloc: Global,
     at: &mut Point<S>,
+    bytes: &[u8],
     count: u32,
     quiet: bool,
     scratch: &mut Scratch,
@@ -88,6 +91,7 @@ pub fn do_auto<S: Steps, O: Sink>(
     requires few { at.old.lines < 2 ^ 62 }
     requires steps { at.old.sums.events < 2 ^ 47 }
     requires printable { IsPrintable at.old.mesh (Line.Auto count) }
+    requires echo { IsLineOf at.old.mesh (Chooses count) bytes.now }
     ensures comes { Comes quiet at.old (came_of_line at.old (Chooses count))
         at.new (O.held out.old) (O.held out.new) result }
     ensures lines { OnOk result (at.new.lines ≡ at.old.lines + 1) }
@@ -96,13 +100,7 @@ pub fn do_auto<S: Steps, O: Sink>(
     ensures fault { IsErrOf result Stop.WriteFault → Rose (O.faults out.old) (O.faults out.new) }
 {
     at.begin(alloc)?;
-    say_line(
-        at.mesh(),
-        &Line::Auto { count },
-        quiet,
-        &mut scratch.line,
-        out,
-    )?;
+    say_echo(bytes, quiet, &mut scratch.line, out)?;
     let did = match do_events(alloc, at, count, quiet, scratch, out) {
         Ok(did) => did,
         Err(stop) => return Err(stop),

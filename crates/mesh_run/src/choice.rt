@@ -3,7 +3,8 @@ ghost use Rattle.std.specs.Prelude.{◌≡◌, ◌<◌, ◌≤◌, length, IfSom
 ghost use Rattle.mesh_model.specs.Places.{IsEvent};
 ghost use Rattle.mesh_model.specs.Choices.{pick as pick_lem, first_copy};
 ghost use Rattle.mesh_meaning.specs.Events.{event_of};
-ghost use Rattle.mesh_script.specs.Seen.{IsSpelled};
+ghost use Rattle.mesh_text.specs.Lines.{event_spelling};
+ghost use Rattle.mesh_text.specs.Ranges.{AreSpellable};
 
 use mesh_base::Event;
 use mesh_world::World;
@@ -24,7 +25,8 @@ fn first_copy_of(world: &World) -> Option<u64>
 pub fn pick(world: &World) -> Option<Event<'static>>
     ensures value { option_map event_of result ≡ pick_lem world.now.world }
     ensures within { IfSome result (λ e. IsEvent (length world.now.mesh) (event_of e)) }
-    ensures spelled { IfSome result (λ e. IsSpelled (event_of e)) }
+    ensures spelled { IfSome result (λ e.
+        AreSpellable (event_spelling world.now.mesh (event_of e)).arguments) }
 {
     if let Some(node) = world.first_turn() {
         return Some(Event::Turn { node });

@@ -1,30 +1,60 @@
 //! What each command does.
-ghost use Rattle.std.specs.Prelude.{◌≡◌, ◌≢◌, ◌<◌, ◌≤◌, ◌+◌, ◌^◌, length, is_some, true, OnOk, IsErrOf};
-ghost use Rattle.mesh_meaning.specs.Events.{event_of};
+ghost use Rattle.std.specs.Prelude.{◌≡◌, ◌≢◌, ◌<◌, ◌≤◌, ◌+◌, ◌^◌, length, is_some, true, OnOk, IfSome, IsErrOf};
+ghost use Rattle.mesh_model.specs.Worlds.{World};
+ghost use Rattle.mesh_meaning.specs.Answers.{outcome_in, IsDoneInMesh};
+ghost use Rattle.mesh_meaning.specs.Events.{event_of, place_of};
 ghost use Rattle.mesh_text.specs.Schedule.{stepped, NewNode, Does, ShowsNode, ShowsRoute, ShowsFlight};
-ghost use Rattle.mesh_text.specs.Lines.{line as line_of_words, words_of};
+ghost use Rattle.mesh_text.specs.Lines.{words_of};
+ghost use Rattle.mesh_grammar.specs.Written.{line as line_of_words};
+ghost use Rattle.mesh_text.specs.Effects.{outcome_lines};
+ghost use Rattle.mesh_text.specs.Ranges.{IsEcho};
 ghost use Rattle.mesh_text.specs.Text.{came_of_line};
 ghost use Rattle.mesh_io.specs.Cause.{Rose, HasCause};
 ghost use Rattle.mesh_io.specs.Puts.{Puts};
 ghost use Rattle.mesh_script.specs.Seen.{accepted_of, IsPrintable, IsAllowed};
 ghost use Rattle.mesh_run.specs.Moments.{stop_of as stop_of_lem};
-ghost use Rattle.mesh_run.specs.Runs.{shown, came_at, Comes};
+ghost use Rattle.mesh_run.specs.Runs.{shown, came_at, IsLineOf, Comes};
 
 use crate::auto::do_auto;
 use crate::point::Point;
 use crate::show::{show_flight, show_node, show_route};
 use crate::stop::{Scratch, Stop};
-use mesh_base::{Addr, Event, LineBuf, Mesh};
+use mesh_base::{Addr, Done, Event, LONGEST_LINE, LineBuf, MOST_EVENTS, Mesh, Packet};
 use mesh_io::{PutFault, Sink};
-use mesh_report::{put_event, put_line};
+use mesh_report::{put_echo, put_echoed_event, put_event, put_line};
 use mesh_script::Line;
 use mesh_world::{StepError, Steps};
 use std::alloc::Global;
 
-/// Does an event once the run has started, and writes it.
+// An event as its line stands, or in canonical form where it has none, and what it did.
+fn say_event<O: Sink>(
+    mesh: &Mesh,
+    bytes: Option<&[u8]>,
+    event: &Event<'_>,
+    done: &Done,
+    packet: &Packet,
+    buf: &mut LineBuf,
+    out: &mut O,
+) -> Result<(), PutFault>
+    requires printable { IsPrintable mesh.now (Line.Step event.now) }
+    requires in_mesh { IsDoneInMesh mesh.now done.now packet.now.items }
+    requires echo { IfSome bytes (λ b. IsLineOf mesh.now (Does (event_of event.now)) b.now) }
+    ensures text { (w : World) → Puts (O.held out.old) (O.held out.new)
+        (outcome_lines mesh.now (event_of event.now)
+        (outcome_in mesh.now (place_of (event_of event.now)) w done.now packet.now.items)) result }
+    ensures cause { HasCause (O.faults out.old) (O.faults out.new) result }
+{
+    match bytes {
+        Some(bytes) => put_echoed_event(bytes, mesh, event, done, packet, buf, out),
+        None => put_event(mesh, event, done, packet, buf, out),
+    }
+}
+
+/// Does an event once the run has started, and writes it: as its line stands, where it has one.
 pub fn do_event<'a, S: Steps, O: Sink>(
     alloc: Global,
     at: &mut Point<S>,
+    bytes: Option<&[u8]>,
     event: Event<'a>,
     quiet: bool,
     scratch: &mut Scratch,
@@ -33,6 +63,7 @@ pub fn do_event<'a, S: Steps, O: Sink>(
     requires started { is_some at.old.world ≡ true }
     requires few { at.old.sums.events < 2 ^ 48 }
     requires printable { IsPrintable at.old.mesh (Line.Step event) }
+    requires echo { IfSome bytes (λ b. IsLineOf at.old.mesh (Does (event_of event)) b.now) }
     ensures comes { Comes quiet at.old (came_at at.old (event_of event.entry))
         at.new (O.held out.old) (O.held out.new) result }
     ensures moment { OnOk result (at.new ≡ stepped at.old (event_of event.entry)) }
@@ -49,8 +80,9 @@ pub fn do_event<'a, S: Steps, O: Sink>(
             if quiet {
                 return Ok(());
             }
-            match put_event(
+            match say_event(
                 &at.mesh,
+                bytes,
                 &event,
                 done,
                 &scratch.packet,
@@ -80,6 +112,7 @@ fn stop_of<'a>(event: Event<'a>, error: StepError) -> Stop<'a>
 fn do_step<'a, S: Steps, O: Sink>(
     alloc: Global,
     at: &mut Point<S>,
+    bytes: &[u8],
     event: Event<'a>,
     quiet: bool,
     scratch: &mut Scratch,
@@ -88,6 +121,7 @@ fn do_step<'a, S: Steps, O: Sink>(
     requires few { at.old.lines < 2 ^ 62 }
     requires steps { at.old.sums.events < 2 ^ 47 }
     requires printable { IsPrintable at.old.mesh (Line.Step event) }
+    requires echo { IsLineOf at.old.mesh (Does (event_of event)) bytes.now }
     ensures comes { Comes quiet at.old (came_of_line at.old (Does (event_of event.entry)))
         at.new (O.held out.old) (O.held out.new) result }
     ensures lines { OnOk result (at.new.lines ≡ at.old.lines + 1) }
@@ -96,7 +130,7 @@ fn do_step<'a, S: Steps, O: Sink>(
     ensures fault { IsErrOf result Stop.WriteFault → Rose (O.faults out.old) (O.faults out.new) }
 {
     at.begin(alloc)?;
-    if let Err(stop) = do_event(alloc, at, event, quiet, scratch, out) {
+    if let Err(stop) = do_event(alloc, at, Some(bytes), event, quiet, scratch, out) {
         return Err(stop);
     }
     at.count_line();
@@ -104,7 +138,7 @@ fn do_step<'a, S: Steps, O: Sink>(
 }
 
 // A line as it is written back, unless the run is quiet.
-pub fn say_line<O: Sink>(
+fn say_line<O: Sink>(
     mesh: &Mesh,
     line: &Line<'_>,
     quiet: bool,
@@ -121,6 +155,24 @@ pub fn say_line<O: Sink>(
         return Ok(());
     }
     put_line(mesh, line, buf, out)
+}
+
+// A line as it stands, unless the run is quiet.
+pub fn say_echo<O: Sink>(
+    bytes: &[u8],
+    quiet: bool,
+    buf: &mut LineBuf,
+    out: &mut O,
+) -> Result<(), PutFault>
+    requires { length bytes.now ≤ LONGEST_LINE }
+    ensures text { Puts (O.held out.old) (O.held out.new)
+        (shown quiet (line_of_words bytes.now)) result }
+    ensures cause { HasCause (O.faults out.old) (O.faults out.new) result }
+{
+    if quiet {
+        return Ok(());
+    }
+    put_echo(bytes, buf, out)
 }
 
 // One more node.
@@ -156,6 +208,7 @@ fn do_node<S: Steps, O: Sink>(
 fn do_show<S: Steps, O: Sink>(
     alloc: Global,
     at: &mut Point<S>,
+    bytes: &[u8],
     node: usize,
     quiet: bool,
     scratch: &mut Scratch,
@@ -163,6 +216,7 @@ fn do_show<S: Steps, O: Sink>(
 ) -> Result<(), Stop<'static>>
     requires few { at.old.lines < 2 ^ 62 }
     requires node { node < length at.old.mesh }
+    requires echo { IsLineOf at.old.mesh (ShowsNode node) bytes.now }
     ensures comes { Comes quiet at.old (came_of_line at.old (ShowsNode node))
         at.new (O.held out.old) (O.held out.new) result }
     ensures lines { OnOk result (at.new.lines ≡ at.old.lines + 1) }
@@ -171,7 +225,7 @@ fn do_show<S: Steps, O: Sink>(
     ensures fault { IsErrOf result Stop.WriteFault → Rose (O.faults out.old) (O.faults out.new) }
 {
     at.begin(alloc)?;
-    show_node(at, node, quiet, &mut scratch.line, out)?;
+    show_node(at, bytes, node, quiet, &mut scratch.line, out)?;
     at.count_line();
     Ok(())
 }
@@ -179,6 +233,7 @@ fn do_show<S: Steps, O: Sink>(
 fn do_route<S: Steps, O: Sink>(
     alloc: Global,
     at: &mut Point<S>,
+    bytes: &[u8],
     node: usize,
     dest: usize,
     quiet: bool,
@@ -188,6 +243,7 @@ fn do_route<S: Steps, O: Sink>(
     requires few { at.old.lines < 2 ^ 62 }
     requires node { node < length at.old.mesh }
     requires dest { dest < length at.old.mesh }
+    requires echo { IsLineOf at.old.mesh (ShowsRoute node dest) bytes.now }
     ensures comes { Comes quiet at.old (came_of_line at.old (ShowsRoute node dest))
         at.new (O.held out.old) (O.held out.new) result }
     ensures lines { OnOk result (at.new.lines ≡ at.old.lines + 1) }
@@ -196,7 +252,7 @@ fn do_route<S: Steps, O: Sink>(
     ensures fault { IsErrOf result Stop.WriteFault → Rose (O.faults out.old) (O.faults out.new) }
 {
     at.begin(alloc)?;
-    show_route(at, node, dest, quiet, &mut scratch.line, out)?;
+    show_route(at, bytes, node, dest, quiet, &mut scratch.line, out)?;
     at.count_line();
     Ok(())
 }
@@ -204,12 +260,14 @@ fn do_route<S: Steps, O: Sink>(
 fn do_flight<S: Steps, O: Sink>(
     alloc: Global,
     at: &mut Point<S>,
+    bytes: &[u8],
     quiet: bool,
     scratch: &mut Scratch,
     out: &mut O,
 ) -> Result<(), Stop<'static>>
     requires few { at.old.lines < 2 ^ 62 }
     requires some { 1 ≤ length at.old.mesh }
+    requires echo { IsLineOf at.old.mesh ShowsFlight bytes.now }
     ensures comes { Comes quiet at.old (came_of_line at.old ShowsFlight)
         at.new (O.held out.old) (O.held out.new) result }
     ensures lines { OnOk result (at.new.lines ≡ at.old.lines + 1) }
@@ -218,16 +276,18 @@ fn do_flight<S: Steps, O: Sink>(
     ensures fault { IsErrOf result Stop.WriteFault → Rose (O.faults out.old) (O.faults out.new) }
 {
     at.begin(alloc)?;
-    show_flight(at, quiet, &mut scratch.line, out)?;
+    show_flight(at, bytes, quiet, &mut scratch.line, out)?;
     at.count_line();
     Ok(())
 }
 
-/// Does an allowed line, and writes its text unless the run is quiet.
+/// Does an allowed line, and writes its text unless the run is quiet. Every line but that of a node
+/// is written back as it stands.
 #[tactic(auto, unfolding(mesh_text::specs::Text::came_of_line))]
 pub fn do_line<'a, S: Steps, O: Sink>(
     alloc: Global,
     at: &mut Point<S>,
+    bytes: &[u8],
     line: Line<'a>,
     quiet: bool,
     scratch: &mut Scratch,
@@ -236,10 +296,12 @@ pub fn do_line<'a, S: Steps, O: Sink>(
     requires few { at.old.lines < 2 ^ 62 }
     requires steps { at.old.sums.events < 2 ^ 47 }
     requires allowed { IsAllowed at.old.mesh (is_some at.old.world) line }
+    requires short { length bytes.now ≤ LONGEST_LINE }
+    requires echo { IsEcho at.old.mesh bytes.now (accepted_of line) }
     ensures comes { Comes quiet at.old (came_of_line at.old (accepted_of line.entry))
         at.new (O.held out.old) (O.held out.new) result }
     ensures lines { OnOk result (at.new.lines ≡ at.old.lines + 1) }
-    ensures events { OnOk result (at.new.sums.events ≤ at.old.sums.events + 1000000) }
+    ensures events { OnOk result (at.new.sums.events ≤ at.old.sums.events + MOST_EVENTS) }
     ensures later { O.faults out.old ≤ O.faults out.new }
     ensures fault { IsErrOf result Stop.WriteFault → Rose (O.faults out.old) (O.faults out.new) }
 {
@@ -249,10 +311,10 @@ pub fn do_line<'a, S: Steps, O: Sink>(
             Ok(())
         }
         Line::Node { addr, first } => do_node(at, addr, first, quiet, scratch, out),
-        Line::Step(event) => do_step(alloc, at, event, quiet, scratch, out),
-        Line::Auto { count } => do_auto(alloc, at, count, quiet, scratch, out),
-        Line::Show { node } => do_show(alloc, at, node, quiet, scratch, out),
-        Line::Route { node, dest } => do_route(alloc, at, node, dest, quiet, scratch, out),
-        Line::Flight => do_flight(alloc, at, quiet, scratch, out),
+        Line::Step(event) => do_step(alloc, at, bytes, event, quiet, scratch, out),
+        Line::Auto { count } => do_auto(alloc, at, bytes, count, quiet, scratch, out),
+        Line::Show { node } => do_show(alloc, at, bytes, node, quiet, scratch, out),
+        Line::Route { node, dest } => do_route(alloc, at, bytes, node, dest, quiet, scratch, out),
+        Line::Flight => do_flight(alloc, at, bytes, quiet, scratch, out),
     }
 }

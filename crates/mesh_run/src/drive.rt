@@ -1,29 +1,32 @@
 //! A run from its source to its sink.
 ghost use Rattle.std.specs.Prelude.{◌≡◌, ◌≢◌, ◌≤◌, IfSome};
 ghost use Rattle.std.specs.Io.KnownBytes.{IsAtEnd};
-ghost use Rattle.mesh_text.specs.Text.{text_of_input, said};
+ghost use Rattle.mesh_text.specs.Text.{text_of_input, output};
 ghost use Rattle.mesh_io.specs.Cause.{Rose};
 ghost use Rattle.mesh_run.specs.Told.{Told};
 
 use crate::lines::run_lines;
 use crate::status::Status;
+use mesh_base::Variant;
 use mesh_io::{ReadAllError, Sink, Source, read_all};
 use mesh_world::Steps;
 use std::alloc::Global;
 
-/// Runs the schedule that the source gives, in a world of its own, and writes its text to the sink,
-/// line by line; a quiet run writes the last line alone.
-#[tactic(auto, unfolding(mesh_text::specs::Text::text_of_input))]
+/// Runs the schedule that the source gives, in a world of its own where all nodes run this variant
+/// of the protocol, and writes its text to the sink, line by line; a quiet run writes the last line
+/// alone.
+#[tactic(auto, unfolding(mesh_text::specs::Text::text_of_input, mesh_text::specs::Text::text_on))]
 pub fn run<S: Steps, I: Source, O: Sink>(
     alloc: Global,
     quiet: bool,
+    variant: Variant,
     input: &mut I,
     out: &mut O,
 ) -> Status
     // What is written is the text of the input, and the answer its verdict. After a failed read or
     // write, or want of memory, it is a front of that text.
-    ensures told { IfSome (I.left input.old) (λ bytes.
-        Told (O.held out.old) (O.held out.new) (said quiet (text_of_input bytes)) result) }
+    ensures told { IfSome (I.left input.old) (λ bytes. Told (O.held out.old) (O.held out.new)
+        (output quiet (text_of_input variant bytes)) result) }
 
     // Done only where the input was read to its end.
     ensures end { result ≡ Status.Done → IsAtEnd (I.left input.new) }
@@ -42,6 +45,15 @@ pub fn run<S: Steps, I: Source, O: Sink>(
     match read_all(alloc, input) {
         Err(ReadAllError::ReadFault) => Status::ReadFault,
         Err(ReadAllError::NoMemory) => Status::NoMemory,
-        Ok(whole) => run_lines::<S, O>(alloc, whole.bytes.as_slice(), whole.more, quiet, out),
+        Ok(whole) => {
+            run_lines::<S, O>(
+                alloc,
+                variant,
+                whole.bytes.as_slice(),
+                whole.more,
+                quiet,
+                out,
+            )
+        },
     }
 }

@@ -4,7 +4,8 @@ ghost use Rattle.mesh_base.specs.Parts.{parts, rest_parts};
 ghost use Rattle.mesh_model.specs.Places.{IsEvent};
 ghost use Rattle.mesh_meaning.specs.Events.{event_of};
 ghost use Rattle.mesh_text.specs.Schedule.{opening};
-ghost use Rattle.mesh_text.specs.Text.{text_from, rows_of, row_of, last_row, refused, overfull, limit, Row, Whole, came, ended, said};
+ghost use Rattle.mesh_grammar.specs.Lines.{Piece, Whole, piece_of, last_piece, pieces_of};
+ghost use Rattle.mesh_text.specs.Text.{text_from, refused_run, overfull_run, came, finished_run, output};
 ghost use Rattle.mesh_io.specs.Cause.{Rose};
 ghost use Rattle.mesh_run.specs.Told.{Told};
 ghost use Rattle.mesh_run.specs.Runs.{Goes, Comes};
@@ -15,18 +16,15 @@ use crate::status::Status;
 use crate::stop::{Scratch, Stop};
 use arrayvec::ArrayVec;
 use memchr::memchr;
-use mesh_base::{Event, Full, LineBuf};
+use mesh_base::{Event, Full, LONGEST_INPUT, LONGEST_LINE, LineBuf, MOST_EVENTS, Variant};
+use mesh_grammar::BadWhy;
 use mesh_io::Sink;
 use mesh_report::{put_bad, put_full, put_summary};
 use mesh_script::parse_line;
-use mesh_text::BadWhy;
 use mesh_world::Steps;
 use std::alloc::Global;
 
-/// The most bytes of a line.
-const LONGEST: usize = 600;
-
-/// Does one line of at most 600 bytes, and writes its text unless the run is quiet.
+/// Does one line that isn't too long, and writes its text unless the run is quiet.
 fn one<'a, S: Steps, O: Sink>(
     alloc: Global,
     at: &mut Point<S>,
@@ -37,15 +35,17 @@ fn one<'a, S: Steps, O: Sink>(
 ) -> Result<(), Stop<'a>>
     requires few { at.old.lines < 2 ^ 62 }
     requires steps { at.old.sums.events < 2 ^ 47 }
-    ensures comes { Comes quiet at.old (came at.old (Whole bytes.now)) at.new (O.held out.old) (O.held out.new) result }
+    requires short { length bytes.now ≤ LONGEST_LINE }
+    ensures comes { Comes quiet at.old (came at.old (Whole bytes.now))
+        at.new (O.held out.old) (O.held out.new) result }
     ensures lines { OnOk result (at.new.lines ≡ at.old.lines + 1) }
-    ensures events { OnOk result (at.new.sums.events ≤ at.old.sums.events + 1000000) }
+    ensures events { OnOk result (at.new.sums.events ≤ at.old.sums.events + MOST_EVENTS) }
     ensures later { O.faults out.old ≤ O.faults out.new }
     ensures fault { IsErrOf result Stop.WriteFault → Rose (O.faults out.old) (O.faults out.new) }
 {
     match parse_line(bytes, at.mesh(), at.started()) {
         Err(fault) => Err(Stop::BadLine(fault)),
-        Ok(line) => do_line(alloc, at, line, quiet, scratch, out),
+        Ok(line) => do_line(alloc, at, bytes, line, quiet, scratch, out),
     }
 }
 
@@ -53,7 +53,8 @@ fn one<'a, S: Steps, O: Sink>(
 fn split_line(bytes: &[u8]) -> (&[u8], Option<&[u8]>)
     ensures whole { IfNone result.1 (result.0.now ≡ bytes.now) }
     ensures parts { parts 10 bytes.now ≡ result.0.now ∷ rest_parts 10 result.1 }
-    ensures length { IfSome result.1 (λ rest. length result.0.now + 1 + length rest.now ≡ length bytes.now) }
+    ensures length { IfSome result.1 (λ rest.
+        length result.0.now + 1 + length rest.now ≡ length bytes.now) }
 {
     match memchr(b'\n', bytes) {
         None => (bytes, None),
@@ -65,7 +66,7 @@ fn split_line(bytes: &[u8]) -> (&[u8], Option<&[u8]>)
 #[cold]
 fn refuse<S: Steps, O: Sink>(at: &Point<S>, why: BadWhy, buf: &mut LineBuf, out: &mut O) -> Status
     requires { at.now.lines < 2 ^ 62 }
-    ensures told { Told (O.held out.old) (O.held out.new) (refused at.now why) result }
+    ensures told { Told (O.held out.old) (O.held out.new) (refused_run at.now why) result }
     ensures later { O.faults out.old ≤ O.faults out.new }
     ensures write { result ≡ Status.WriteFault → Rose (O.faults out.old) (O.faults out.new) }
     ensures read { result ≢ Status.ReadFault }
@@ -91,7 +92,8 @@ fn fill<S: Steps, O: Sink>(
 ) -> Status
     requires lines { at.now.lines < 2 ^ 62 }
     requires event { IsEvent (length at.now.mesh) (event_of event) }
-    ensures told { Told (O.held out.old) (O.held out.new) (overfull at.now [] (event_of event.entry) field) result }
+    ensures told { Told (O.held out.old) (O.held out.new)
+        (overfull_run at.now [] (event_of event.entry) field) result }
     ensures later { O.faults out.old ≤ O.faults out.new }
     ensures write { result ≡ Status.WriteFault → Rose (O.faults out.old) (O.faults out.new) }
     ensures read { result ≢ Status.ReadFault }
@@ -107,7 +109,7 @@ fn fill<S: Steps, O: Sink>(
 
 // Ends the run at its end.
 fn finish<S: Steps, O: Sink>(at: &Point<S>, buf: &mut LineBuf, out: &mut O) -> Status
-    ensures told { Told (O.held out.old) (O.held out.new) (ended at.now) result }
+    ensures told { Told (O.held out.old) (O.held out.new) (finished_run at.now) result }
     ensures later { O.faults out.old ≤ O.faults out.new }
     ensures write { result ≡ Status.WriteFault → Rose (O.faults out.old) (O.faults out.new) }
     ensures read { result ≢ Status.ReadFault }
@@ -120,7 +122,7 @@ fn finish<S: Steps, O: Sink>(at: &Point<S>, buf: &mut LineBuf, out: &mut O) -> S
 }
 
 // Does one line, or ends the run.
-fn row<S: Steps, O: Sink>(
+fn piece<S: Steps, O: Sink>(
     alloc: Global,
     at: &mut Point<S>,
     bytes: &[u8],
@@ -131,18 +133,19 @@ fn row<S: Steps, O: Sink>(
     requires few { at.old.lines < 2 ^ 62 }
     requires steps { at.old.sums.events < 2 ^ 47 }
     ensures goes { IfNone result
-        (Goes quiet (came at.old (row_of bytes.now)) at.new (O.held out.old) (O.held out.new)) }
+        (Goes quiet (came at.old (piece_of bytes.now)) at.new (O.held out.old) (O.held out.new)) }
     ensures lines { IfNone result (at.new.lines ≡ at.old.lines + 1) }
-    ensures events { IfNone result (at.new.sums.events ≤ at.old.sums.events + 1000000) }
-    ensures told { IfSome result (λ status. (rows : List Row)
-        → Told (O.held out.old) (O.held out.new) (said quiet (text_from at.old (row_of bytes.now ∷ rows))) status) }
+    ensures events { IfNone result (at.new.sums.events ≤ at.old.sums.events + MOST_EVENTS) }
+    ensures told { IfSome result (λ status. (pieces : List Piece)
+        → Told (O.held out.old) (O.held out.new)
+        (output quiet (text_from at.old (piece_of bytes.now ∷ pieces))) status) }
     ensures later { O.faults out.old ≤ O.faults out.new }
     ensures write { result ≡ Some Status.WriteFault → Rose (O.faults out.old) (O.faults out.new) }
     ensures read { result ≢ Some Status.ReadFault }
     ensures stopped { result ≢ Some Status.Done }
     ensures words { result ≢ Some Status.Usage }
 {
-    if bytes.len() > LONGEST {
+    if bytes.len() > LONGEST_LINE {
         return Some(refuse(at, BadWhy::TooLong, &mut scratch.line, out));
     }
     match one(alloc, at, bytes, quiet, scratch, out) {
@@ -169,7 +172,7 @@ fn last<S: Steps, O: Sink>(
     requires few { at.old.lines < 2 ^ 61 }
     requires steps { at.old.sums.events < 2 ^ 47 }
     ensures told { Told (O.held out.old) (O.held out.new)
-        (said quiet (text_from at.old (last_row more bytes.now))) result }
+        (output quiet (text_from at.old (last_piece more bytes.now))) result }
     ensures later { O.faults out.old ≤ O.faults out.new }
     ensures write { result ≡ Status.WriteFault → Rose (O.faults out.old) (O.faults out.new) }
     ensures read { result ≢ Status.ReadFault }
@@ -177,7 +180,7 @@ fn last<S: Steps, O: Sink>(
     ensures words { result ≢ Status.Usage }
 {
     if more {
-        if bytes.len() > LONGEST {
+        if bytes.len() > LONGEST_LINE {
             return refuse(at, BadWhy::TooLong, &mut scratch.line, out);
         }
         return refuse(at, BadWhy::TooMuch, &mut scratch.line, out);
@@ -185,30 +188,32 @@ fn last<S: Steps, O: Sink>(
     if bytes.is_empty() {
         return finish(at, &mut scratch.line, out);
     }
-    match row(alloc, at, bytes, quiet, scratch, out) {
+    match piece(alloc, at, bytes, quiet, scratch, out) {
         Some(status) => status,
         None => finish(at, &mut scratch.line, out),
     }
 }
 
-/// The lines of an input, or of its front where it goes on.
+/// The lines of an input, or of its front where it goes on, where all nodes run this variant of the
+/// protocol.
 pub fn run_lines<S: Steps, O: Sink>(
     alloc: Global,
+    variant: Variant,
     bytes: &[u8],
     more: bool,
     quiet: bool,
     out: &mut O,
 ) -> Status
-    requires { length bytes.now ≤ limit }
+    requires { length bytes.now ≤ LONGEST_INPUT }
     ensures told { Told (O.held out.old) (O.held out.new)
-        (said quiet (text_from opening (rows_of more (parts 10 bytes.now)))) result }
+        (output quiet (text_from (opening variant) (pieces_of more (parts 10 bytes.now)))) result }
     ensures later { O.faults out.old ≤ O.faults out.new }
     ensures write { result ≡ Status.WriteFault → Rose (O.faults out.old) (O.faults out.new) }
     ensures read { result ≢ Status.ReadFault }
     ensures ended { result ≡ Status.Done → more ≡ false }
     ensures words { result ≢ Status.Usage }
 {
-    let mut at: Point<S> = Point::start();
+    let mut at: Point<S> = Point::with(variant);
     let mut scratch = Scratch {
         line: ArrayVec::new(),
         packet: ArrayVec::new(),
@@ -219,7 +224,7 @@ pub fn run_lines<S: Steps, O: Sink>(
         match others {
             None => return last(alloc, &mut at, bytes, more, quiet, &mut scratch, out),
             Some(next) => {
-                if let Some(status) = row(alloc, &mut at, bytes, quiet, &mut scratch, out) {
+                if let Some(status) = piece(alloc, &mut at, bytes, quiet, &mut scratch, out) {
                     return status;
                 }
                 rest = next;

@@ -1,4 +1,5 @@
-//! A moment of a run: the mesh, its world, what was counted, and how many lines were read.
+//! A moment of a run: its variant of the protocol and its mesh, its world, what was counted, how
+//! many lines were read, and how many events the world has gone through.
 ghost use Rattle.std.specs.Prelude.{◌≡◌, ◌<◌, ◌≤◌, ◌^◌, length, is_some, true, Some, None, IfOk, OnOk, OnErr, IfErr, IfSome};
 ghost use Rattle.mesh_base.specs.Meshes.{index_of, with_node};
 ghost use Rattle.mesh_model.specs.Places.{IsEvent};
@@ -9,7 +10,7 @@ ghost use Rattle.mesh_report.specs.Sums as report;
 ghost use Rattle.mesh_run.specs.Moments.{IsAnswer, IsRefusal};
 
 use crate::sums::Sums;
-use mesh_base::{Addr, Done, Event, Mesh, NoMemory, Packet};
+use mesh_base::{Addr, Done, Event, MOST_NODES, Mesh, NoMemory, Packet, Variant};
 use mesh_report::Summary;
 use mesh_world::{StepError, Steps, Totals, World};
 use std::alloc::Global;
@@ -18,6 +19,7 @@ use std::marker::Model;
 /// A moment of a run.
 #[derive(Drop)]
 pub struct Point<S: Steps> {
+    variant: Variant,
     pub(crate) mesh: Mesh,
     pub(crate) world: Option<S>,
     pub(crate) sums: Sums,
@@ -26,6 +28,7 @@ pub struct Point<S: Steps> {
 
 impl<S: Steps> Model for Point<S> {
     ghost use Rattle.std.specs.Prelude.{option_map};
+    ghost use Rattle.std.specs.Option.{unwrap_or};
     ghost use Rattle.mesh_text.specs.Schedule.{Moment};
     ghost use Rattle.mesh_run.specs.Moments.{moment_code};
 
@@ -37,10 +40,12 @@ impl<S: Steps> Model for Point<S> {
     ghost use Rattle.mesh_run.specs.Moments.{IsSound};
 
     ghost view = { λ p. record {
+      variant = p.variant;
       mesh = p.mesh;
       world = option_map (λ s. (S.seen s).world) p.world;
       sums = sums_of p.sums;
       lines = p.lines;
+      steps = unwrap_or (option_map (λ s. (S.seen s).steps) p.world) 0;
     } };
 
     ghost invariant = { λ p. IsSound p.mesh (option_map S.seen p.world) (sums_of p.sums) };
@@ -49,11 +54,12 @@ impl<S: Steps> Model for Point<S> {
 impl<S: Steps> Point<S> {
     ghost use Rattle.mesh_run.specs.Sums.{sums_of};
 
-    /// The moment before the first line.
-    pub fn start() -> Point<S>
-        ensures { result ≡ model.opening }
+    /// The moment before the first line, where all nodes run this variant of the protocol.
+    pub fn with(variant: Variant) -> Point<S>
+        ensures { result ≡ model.opening variant }
     {
         Point {
+            variant,
             mesh: Mesh::new(),
             world: None,
             sums: Sums::new(),
@@ -92,7 +98,8 @@ impl<S: Steps> Point<S> {
     /// The world, once the run has started.
     pub fn world(&self) -> Option<&World>
         ensures some { is_some result ≡ is_some self.now.world }
-        ensures value { IfSome result (λ w. (w.now.world ≡ model.world_of self.now) × (w.now.mesh ≡ self.now.mesh)) }
+        ensures value { IfSome result (λ w.
+            (w.now.world ≡ model.world_of self.now) × (w.now.mesh ≡ self.now.mesh)) }
     {
         match &self.world {
             Some(s) => Some(s.world()),
@@ -117,6 +124,7 @@ impl<S: Steps> Point<S> {
             queued: totals.queued,
             flying: totals.flying,
             lost: self.sums.lost,
+            copied: self.sums.copied,
         }
     }
 
@@ -148,7 +156,7 @@ impl<S: Steps> Point<S> {
     pub fn add_node(&mut self, a: Addr, first: u32)
         requires before { self.old.world ≡ None }
         requires absent { index_of self.old.mesh a.0 ≡ None }
-        requires room { length self.old.mesh < 200 }
+        requires room { length self.old.mesh < MOST_NODES }
         requires positive { 1 ≤ first }
         ensures { self.new ≡ record self.old { mesh = with_node self.old.mesh a.0 first } }
     {
@@ -178,7 +186,7 @@ impl<S: Steps> Point<S> {
         ensures ok { OnOk result (self.new ≡ model.started self.old) }
         ensures err { OnErr result (self.new ≡ self.old) }
     {
-        let world = S::new(alloc, &self.mesh)?;
+        let world = S::with(alloc, &self.mesh, self.variant)?;
         self.world = Some(world);
         Ok(())
     }

@@ -5,12 +5,13 @@ ghost use Rattle.aodv_node.specs.Seen.{IsSoundNode};
 ghost use Rattle.mesh_model.specs.Routes.{route_end};
 ghost use Rattle.mesh_meaning.specs.Packets.{IsWrittenCopy, copy_in};
 ghost use Rattle.mesh_text.specs.Schedule.{ShowsNode, ShowsRoute, ShowsFlight, world_of};
-ghost use Rattle.mesh_text.specs.Lines.{line, words_of};
+ghost use Rattle.mesh_text.specs.Lines.{words_of};
+ghost use Rattle.mesh_grammar.specs.Written.{line};
 ghost use Rattle.mesh_text.specs.Tables.{each_from, all_asked_text, entry_of, waits_of, node_text, node_text_in, end_text, flight_text};
 ghost use Rattle.mesh_io.specs.Cause.{HasCause};
 ghost use Rattle.mesh_io.specs.Puts.{Puts};
 ghost use Rattle.std.specs.FinMap as maps;
-ghost use Rattle.mesh_run.specs.Runs.{shown};
+ghost use Rattle.mesh_run.specs.Runs.{shown, IsLineOf};
 ghost use Rattle.mesh_world.specs.Ends.{end_in, IsEndIn};
 
 use crate::point::Point;
@@ -20,8 +21,7 @@ use aodv_waiting::Waiting;
 use mesh_base::{LineBuf, Mesh};
 use mesh_io::{PutFault, Sink};
 use mesh_radio::Radio;
-use mesh_report::{put_asked, put_entry, put_flying, put_line, put_number, put_stuck, put_waits};
-use mesh_script::Line;
+use mesh_report::{put_asked, put_echo, put_entry, put_flying, put_number, put_stuck, put_waits};
 use mesh_world::{End, Steps};
 
 // The requests of one originator that were seen, by rising id.
@@ -34,7 +34,8 @@ fn put_asked_of<O: Sink>(
 ) -> Result<(), PutFault>
     requires node { o < length mesh.now }
     requires size { length asked.now.rooms ≡ length mesh.now }
-    ensures text { Puts (O.held out.old) (O.held out.new) (all_asked_text mesh.now asked.now.pairs o) result }
+    ensures text { Puts (O.held out.old) (O.held out.new)
+        (all_asked_text mesh.now asked.now.pairs o) result }
     ensures cause { HasCause (O.faults out.old) (O.faults out.new) result }
 {
     let mut next = asked.first(o);
@@ -74,7 +75,8 @@ fn put_entry_of<O: Sink>(
     requires dest { d < length mesh.now }
     requires size { node.now.size ≡ length mesh.now }
     requires sound { IsSoundNode node.now }
-    ensures text { Puts (O.held out.old) (O.held out.new) (entry_of mesh.now d (maps.get node.now.core.rt d)) result }
+    ensures text { Puts (O.held out.old) (O.held out.new)
+        (entry_of mesh.now d (maps.get node.now.core.rt d)) result }
     ensures cause { HasCause (O.faults out.old) (O.faults out.new) result }
 {
     match node.entry(d) {
@@ -92,8 +94,8 @@ fn put_entries<O: Sink>(
 ) -> Result<(), PutFault>
     requires size { node.now.size ≡ length mesh.now }
     requires sound { IsSoundNode node.now }
-    ensures text { Puts (O.held out.old) (O.held out.new)
-        (each_from (length mesh.now) 0 (λ d. entry_of mesh.now d (maps.get node.now.core.rt d))) result }
+    ensures text { Puts (O.held out.old) (O.held out.new) (each_from (length mesh.now) 0
+        (λ d. entry_of mesh.now d (maps.get node.now.core.rt d))) result }
     ensures cause { HasCause (O.faults out.old) (O.faults out.new) result }
 {
     for d in 0..mesh.len() {
@@ -112,7 +114,8 @@ fn put_waits_of<O: Sink>(
 ) -> Result<(), PutFault>
     requires dest { d < length mesh.now }
     requires size { length waiting.now.rooms ≡ length mesh.now }
-    ensures text { Puts (O.held out.old) (O.held out.new) (waits_of mesh.now waiting.now.store d) result }
+    ensures text { Puts (O.held out.old) (O.held out.new)
+        (waits_of mesh.now waiting.now.store d) result }
     ensures cause { HasCause (O.faults out.old) (O.faults out.new) result }
 {
     if !waiting.has(d) {
@@ -166,9 +169,10 @@ fn put_node<O: Sink>(
     put_number(b"inbox", node.inbox().len() as u64, buf, out)
 }
 
-/// Shows a node, unless the run is quiet.
+/// Writes the line that shows a node, as it stands, and the node's state, unless the run is quiet.
 pub fn show_node<S: Steps, O: Sink>(
     at: &Point<S>,
+    bytes: &[u8],
     node: usize,
     quiet: bool,
     buf: &mut LineBuf,
@@ -176,6 +180,7 @@ pub fn show_node<S: Steps, O: Sink>(
 ) -> Result<(), PutFault>
     requires started { is_some at.now.world ≡ true }
     requires node { node < length at.now.mesh }
+    requires echo { IsLineOf at.now.mesh (ShowsNode node) bytes.now }
     ensures text { Puts (O.held out.old) (O.held out.new) (shown quiet
         (line (words_of at.now.mesh (ShowsNode node))
         ++ node_text_in at.now.mesh (slice_get (world_of at.now).nodes node))) result }
@@ -187,7 +192,7 @@ pub fn show_node<S: Steps, O: Sink>(
     let Some(world) = at.world() else {
         unreachable!();
     };
-    put_line(world.mesh(), &Line::Show { node }, buf, out)?;
+    put_echo(bytes, buf, out)?;
     put_node(world.mesh(), world.node(node), buf, out)
 }
 
@@ -203,9 +208,11 @@ fn put_end<O: Sink>(mesh: &Mesh, end: End, buf: &mut LineBuf, out: &mut O) -> Re
     }
 }
 
-/// Shows where the valid routes of a node lead, unless the run is quiet.
+/// Writes the line that shows a route, as it stands, and where the valid routes of the node lead,
+/// unless the run is quiet.
 pub fn show_route<S: Steps, O: Sink>(
     at: &Point<S>,
+    bytes: &[u8],
     node: usize,
     dest: usize,
     quiet: bool,
@@ -215,6 +222,7 @@ pub fn show_route<S: Steps, O: Sink>(
     requires started { is_some at.now.world ≡ true }
     requires node { node < length at.now.mesh }
     requires dest { dest < length at.now.mesh }
+    requires echo { IsLineOf at.now.mesh (ShowsRoute node dest) bytes.now }
     ensures text { Puts (O.held out.old) (O.held out.new) (shown quiet
         (line (words_of at.now.mesh (ShowsRoute node dest))
         ++ end_text at.now.mesh (route_end (world_of at.now) node dest))) result }
@@ -226,7 +234,7 @@ pub fn show_route<S: Steps, O: Sink>(
     let Some(world) = at.world() else {
         unreachable!();
     };
-    put_line(world.mesh(), &Line::Route { node, dest }, buf, out)?;
+    put_echo(bytes, buf, out)?;
     put_end(world.mesh(), world.follow(node, dest), buf, out)
 }
 
@@ -252,17 +260,20 @@ fn put_copies<O: Sink>(
     Ok(())
 }
 
-/// Shows the copies in flight, unless the run is quiet.
+/// Writes the line that shows the copies in flight, as it stands, and the copies, unless the run is
+/// quiet.
 pub fn show_flight<S: Steps, O: Sink>(
     at: &Point<S>,
+    bytes: &[u8],
     quiet: bool,
     buf: &mut LineBuf,
     out: &mut O,
 ) -> Result<(), PutFault>
     requires started { is_some at.now.world ≡ true }
-    requires some { 1 ≤ length at.now.mesh }
+    requires echo { IsLineOf at.now.mesh ShowsFlight bytes.now }
     ensures text { Puts (O.held out.old) (O.held out.new) (shown quiet
-        (line (words_of at.now.mesh ShowsFlight) ++ flight_text at.now.mesh (world_of at.now).flying)) result }
+        (line (words_of at.now.mesh ShowsFlight)
+        ++ flight_text at.now.mesh (world_of at.now).flying)) result }
     ensures cause { HasCause (O.faults out.old) (O.faults out.new) result }
 {
     if quiet {
@@ -271,6 +282,6 @@ pub fn show_flight<S: Steps, O: Sink>(
     let Some(world) = at.world() else {
         unreachable!();
     };
-    put_line(world.mesh(), &Line::Flight, buf, out)?;
+    put_echo(bytes, buf, out)?;
     put_copies(world.mesh(), world.radio(), buf, out)
 }

@@ -3,8 +3,8 @@ ghost use Rattle.std.specs.Prelude.{◌≡◌};
 ghost use Rattle.mesh_run.specs.declared.stop.Stop.TheVariants as stops;
 
 use mesh_base::{Event, Full, LineBuf, NoMemory, Packet};
+use mesh_grammar::LineFault;
 use mesh_io::PutFault;
-use mesh_text::LineFault;
 
 /// Why a line wasn't done, or not written whole.
 #[derive(Clone, Copy)]

@@ -2,7 +2,7 @@
 ghost use Rattle.std.specs.Prelude.{◌≡◌, ◌<◌, ◌^◌, ℕ, List};
 ghost use Rattle.mesh_base.specs.Meshes.{Nodes};
 ghost use Rattle.mesh_model.specs.Worlds.{World, Event as an_event, Changed, Goes, step};
-ghost use Rattle.mesh_model.specs.Accounts.{any, given, delivered, dropped, in_taken, in_dropped};
+ghost use Rattle.mesh_model.specs.Accounts.{any, given, delivered, doubled_at, dropped, in_taken, in_dropped};
 ghost use Rattle.mesh_meaning.specs.Events.{event_of};
 ghost use Rattle.mesh_meaning.specs.Answers.{outcome_in, took_in, IsDoneInMesh, IsTookInMesh};
 ghost use Rattle.mesh_text.specs.Schedule.{summed, idle_by};
@@ -11,8 +11,8 @@ ghost use Rattle.mesh_run.specs.Sums.{sums_of, AreCounts, count_of};
 use mesh_base::{Done, Event, Kind, Took};
 use mesh_radio::is_data;
 
-/// What was counted so far: events, those that were idle, and the data that were given, delivered
-/// and dropped.
+/// What was counted so far: events, those that were idle, the data that were given, delivered and
+/// dropped, and the data packets that were doubled.
 #[derive(Clone, Copy)]
 pub struct Sums {
     pub events: u64,
@@ -20,6 +20,7 @@ pub struct Sums {
     pub given: u64,
     pub delivered: u64,
     pub lost: u64,
+    pub copied: u64,
 }
 
 // Whether what was taken is a datum of the node's own, or a packet with one.
@@ -36,7 +37,8 @@ fn is_own_or_data(took: &Took) -> bool
 
 // Whether what was taken is a packet with a datum.
 fn is_heard_data(took: &Took) -> bool
-    ensures { (mesh : Nodes) → IsTookInMesh mesh took.now → in_dropped any (took_in mesh took.now) ≡ count_of result }
+    ensures { (mesh : Nodes) → IsTookInMesh mesh took.now
+        → in_dropped any (took_in mesh took.now) ≡ count_of result }
 {
     match took {
         Took::Own { .. } => false,
@@ -57,6 +59,7 @@ fn is_idle(done: &Done) -> bool
         Done::Sent { .. } => false,
         Done::Heard { .. } => false,
         Done::Lost { .. } => false,
+        Done::Doubled { .. } => false,
     }
 }
 
@@ -65,13 +68,7 @@ fn is_give(e: &Event<'_>) -> bool
 {
     match e {
         Event::Give { .. } => true,
-        Event::Turn { .. } => false,
-        Event::Send { .. } => false,
-        Event::Ask { .. } => false,
-        Event::Link { .. } => false,
-        Event::Cut { .. } => false,
-        Event::Deliver { .. } => false,
-        Event::Lose { .. } => false,
+        _ => false,
     }
 }
 
@@ -88,6 +85,7 @@ fn gives(e: &Event<'_>, done: &Done) -> bool
         Done::Sent { .. } => false,
         Done::Heard { .. } => false,
         Done::Lost { .. } => false,
+        Done::Doubled { .. } => false,
     }
 }
 
@@ -105,13 +103,15 @@ fn delivers(done: &Done) -> bool
         Done::Sent { .. } => false,
         Done::Heard { .. } => false,
         Done::Lost { .. } => false,
+        Done::Doubled { .. } => false,
     }
 }
 
 // Whether a datum was dropped, by a turn or with a lost copy.
 #[tactic(auto, using(mesh_world::proofs::Counts::packet_counts))]
 fn drops(done: &Done) -> bool
-    ensures { (mesh : Nodes) (x : ℕ) (w : World) (packet : List ℕ) (e : an_event) → IsDoneInMesh mesh done.now packet
+    ensures { (mesh : Nodes) (x : ℕ) (w : World) (packet : List ℕ) (e : an_event)
+        → IsDoneInMesh mesh done.now packet
         → dropped any e (outcome_in mesh x w done.now packet) ≡ count_of result }
 {
     match done {
@@ -121,13 +121,37 @@ fn drops(done: &Done) -> bool
         Done::Changed => false,
         Done::Sent { .. } => false,
         Done::Heard { .. } => false,
+        Done::Doubled { .. } => false,
+    }
+}
+
+// Whether a data packet was doubled.
+fn doubles(done: &Done) -> bool
+    ensures { (mesh : Nodes) (x : ℕ) (w : World) (packet : List ℕ)
+        → doubled_at (outcome_in mesh x w done.now packet) ≡ count_of result }
+{
+    match done {
+        Done::Doubled { parcel, .. } => *parcel,
+        Done::Idle => false,
+        Done::Changed => false,
+        Done::Taken { .. } => false,
+        Done::Sent { .. } => false,
+        Done::Heard { .. } => false,
+        Done::Lost { .. } => false,
     }
 }
 
 impl Sums {
     /// Nothing yet.
     pub fn new() -> Sums
-        ensures { result ≡ record { events = 0; idle = 0; given = 0; delivered = 0; lost = 0 } }
+        ensures { result ≡ record {
+          events = 0;
+          idle = 0;
+          given = 0;
+          delivered = 0;
+          lost = 0;
+          copied = 0;
+        } }
     {
         Sums {
             events: 0,
@@ -135,6 +159,7 @@ impl Sums {
             given: 0,
             delivered: 0,
             lost: 0,
+            copied: 0,
         }
     }
 
@@ -142,9 +167,11 @@ impl Sums {
     pub fn add(&mut self, e: &Event<'_>, done: &Done)
         requires few { self.old.events < 2 ^ 62 }
         requires counts { AreCounts (sums_of self.old) }
-        ensures counted { (mesh : Nodes) (x : ℕ) (old new : World) (packet : List ℕ) → IsDoneInMesh mesh done.now packet
+        ensures counted { (mesh : Nodes) (x : ℕ) (old new : World) (packet : List ℕ)
+            → IsDoneInMesh mesh done.now packet
             → step old (event_of e.now) ≡ outcome_in mesh x new done.now packet
-            → sums_of self.new ≡ summed (sums_of self.old) (event_of e.now) (step old (event_of e.now)) }
+            → sums_of self.new
+            ≡ summed (sums_of self.old) (event_of e.now) (step old (event_of e.now)) }
         ensures counts { AreCounts (sums_of self.new) }
     {
         self.events += 1;
@@ -152,5 +179,6 @@ impl Sums {
         self.given += u64::from(gives(e, done));
         self.delivered += u64::from(delivers(done));
         self.lost += u64::from(drops(done));
+        self.copied += u64::from(doubles(done));
     }
 }

@@ -1,7 +1,7 @@
 //! Runs of whole schedules.
 use crate::drive::run;
 use crate::status::Status;
-use mesh_base::Bytes;
+use mesh_base::{Bytes, Variant};
 use mesh_io::{MemSink, MemSource};
 use mesh_world::World;
 use std::test::Fail;
@@ -24,7 +24,7 @@ fn is_told(
     let bytes = Bytes::copy_of(rt.alloc(), schedule.as_bytes())?;
     let mut input = MemSource::new(rt.alloc(), bytes, 7, &[])?;
     let mut out = MemSink::new(rt.alloc(), 1000, 5, &[])?;
-    let answer = run::<World, _, _>(rt.alloc(), quiet, &mut input, &mut out);
+    let answer = run::<World, _, _>(rt.alloc(), quiet, Variant::Base, &mut input, &mut out);
     Ok(answer == status && out.held() == text.as_bytes())
 }
 

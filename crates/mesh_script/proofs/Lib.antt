@@ -1,2 +1,2 @@
-pub mod Words
-pub mod Again
+pub mod Cuts
+pub mod Allowed

@@ -3,16 +3,18 @@
 //! Nothing here takes memory: a line is read as parts of the bytes that it is given.
 #![tactic(auto)]
 
-mod command;
+mod forms;
 mod line;
 mod parse;
 mod print;
 mod shape;
+mod words;
 
+pub use forms::Arguments;
 pub use line::Line;
-pub use mesh_text::{LineFault, Span};
-pub use parse::parse_line;
-pub use print::print_line;
+pub use mesh_grammar::{Command, LineFault, Span};
+pub use parse::{make_line, parse_line};
+pub use print::{LONGEST_WRITTEN, print_line, push_event, push_line};
 
 #[cfg(test)]
 mod tests;

@@ -1,23 +1,23 @@
 //! Whether a line is allowed at its place.
-ghost use Rattle.std.specs.Prelude.{◌≡◌, ◌<◌, ◌≤◌, ◌≢◌, Bool, length, IfOk, IfErr, OnOk, Some, None, Ok};
+ghost use Rattle.std.specs.Prelude.{◌≡◌, ◌<◌, length, IfOk, IfErr, Some, None, Ok};
 ghost use Rattle.mesh_base.specs.Meshes.{index_of};
-ghost use Rattle.mesh_model.specs.Worlds.{Give, Turn, Send, Ask, Link, Cut};
-ghost use Rattle.mesh_text.specs.Ranges.{IsText};
-ghost use Rattle.mesh_text.specs.Schedule.{line_of, accepted, Does, ShowsNode, ShowsRoute, after_nodes as after_nodes_lem, known as known_lem, known_two as known_two_lem, known_pair as known_pair_lem, new_node as new_node_lem};
-ghost use Rattle.mesh_script.specs.Seen.{seen_line, accepted_of, IsAllowed};
-ghost use Rattle.mesh_script.specs.Shapes.{mention_of, shape_seen, IsShape};
-ghost use Rattle.mesh_script.specs.Places.{HasNodes, IsKnown, AreKnown, AreNodes, ArePair, IsFaultOfPair};
+ghost use Rattle.mesh_meaning.specs.Events.{event_of};
+ghost use Rattle.mesh_text.specs.Ranges.{IsEcho};
+ghost use Rattle.mesh_text.specs.Schedule as schedule;
+ghost use Rattle.mesh_script.specs.Arguments.{mention_of, mentions_of, places_of, places_in};
+ghost use Rattle.mesh_script.specs.Shapes.{said_of};
+ghost use Rattle.mesh_script.specs.Seen.{seen_line, accepted_of, counted, IsAllowed, HasNodes};
 
+use crate::forms::Arguments;
 use crate::line::Line;
-use crate::shape::{Mention, Shape, shape_of};
+use crate::shape::{Shape, shape_of};
+use crate::words::Mention;
 use mesh_base::{Event, MOST_NODES, Mesh};
-use mesh_text::LineFault;
+use mesh_grammar::{Command, LineFault};
 
 // No line but a `node` line comes before the first node.
-#[tactic(auto, using(crate::proofs::Words::after_some, crate::proofs::Words::some_node))]
 fn after_nodes(mesh: &Mesh) -> Result<(), LineFault>
-    ensures value { HasNodes mesh.now result }
-    ensures some { OnOk result (1 ≤ length mesh.now) }
+    ensures { HasNodes mesh.now result }
 {
     if mesh.is_empty() {
         return Err(LineFault::Early);
@@ -26,46 +26,98 @@ fn after_nodes(mesh: &Mesh) -> Result<(), LineFault>
 }
 
 fn index(mesh: &Mesh, node: Mention) -> Result<usize, LineFault>
-    ensures ok { IfOk result (λ i. (index_of mesh.now (mention_of node).address ≡ Some i) × (i < length mesh.now)) }
-    ensures err { IfErr result (λ f. (index_of mesh.now (mention_of node).address ≡ None) × (f ≡ LineFault.Unknown node.span)) }
+    ensures value { IfOk result (λ i. index_of mesh.now (mention_of node).address ≡ Some i) }
+    ensures none { IfErr result (λ f. index_of mesh.now (mention_of node).address ≡ None) }
+    ensures fault { IfErr result (λ f. f ≡ LineFault.Unknown node.span) }
 {
     mesh.index_of(node.addr)
         .ok_or(LineFault::Unknown(node.span))
 }
 
-fn known(mesh: &Mesh, node: Mention) -> Result<usize, LineFault>
-    ensures value { IsKnown mesh.now (mention_of node) result }
-    ensures within { IfOk result (λ x. x < length mesh.now) }
+// Arguments with each node by its index. The leftmost address that is no node is the fault.
+fn placed<'a>(
+    mesh: &Mesh,
+    arguments: &Arguments<'a, Mention>,
+) -> Result<Arguments<'a, usize>, LineFault>
+    ensures { places_in result ≡ schedule.placed mesh.now (mentions_of arguments.now) }
 {
-    after_nodes(mesh)?;
-    let node = index(mesh, node)?;
-    Ok(node)
+    match *arguments {
+        Arguments::NoArgument => Ok(Arguments::NoArgument),
+        Arguments::OneAddress(a) => {
+            let x = index(mesh, a)?;
+            Ok(Arguments::OneAddress(x))
+        }
+        Arguments::TwoAddresses(a, b) => {
+            let x = index(mesh, a)?;
+            let y = index(mesh, b)?;
+            Ok(Arguments::TwoAddresses(x, y))
+        }
+        Arguments::OneNumber(n) => Ok(Arguments::OneNumber(n)),
+        Arguments::NumberedAddress(a, first) => {
+            let x = index(mesh, a)?;
+            Ok(Arguments::NumberedAddress(x, first))
+        }
+        Arguments::AddressesAndText(a, b, text) => {
+            let x = index(mesh, a)?;
+            let y = index(mesh, b)?;
+            Ok(Arguments::AddressesAndText(x, y, text))
+        }
+    }
 }
 
-fn known_two(mesh: &Mesh, a: Mention, b: Mention) -> Result<(usize, usize), LineFault>
-    ensures value { AreKnown mesh.now (mention_of a) (mention_of b) result }
-    ensures nodes { IfOk result (AreNodes mesh.now (mention_of a) (mention_of b)) }
-    ensures pair { IfErr result (IsFaultOfPair mesh.now (mention_of a) (mention_of b)) }
-    ensures within { IfOk result (λ p. (p.0 < length mesh.now) × (p.1 < length mesh.now)) }
+// An event of two nodes that are not the same.
+fn of_pair<'a>(a: usize, b: usize, event: Event<'a>) -> Result<Line<'a>, LineFault>
+    ensures { seen_line result ≡ schedule.of_pair a b (event_of event.entry) }
 {
-    after_nodes(mesh)?;
-    let a = index(mesh, a)?;
-    let b = index(mesh, b)?;
-    Ok((a, b))
-}
-
-// The ends of a link.
-#[tactic(auto, using(crate::proofs::Words::after_some))]
-fn known_pair(mesh: &Mesh, a: Mention, b: Mention) -> Result<(usize, usize), LineFault>
-    ensures value { ArePair mesh.now (mention_of a) (mention_of b) result }
-    ensures within { IfOk result (λ p. (p.0 < length mesh.now) × (p.1 < length mesh.now)) }
-    ensures apart { IfOk result (λ p. p.0 ≢ p.1) }
-{
-    let (a, b) = known_two(mesh, a, b)?;
     if a == b {
         return Err(LineFault::Same);
     }
-    Ok((a, b))
+    Ok(Line::Step(event))
+}
+
+// A count of events has 32 bits.
+fn auto(count: u64) -> Result<Line<'static>, LineFault>
+    ensures { seen_line result ≡ counted (Ok (schedule.Chooses count)) }
+{
+    if count > u64::from(u32::MAX) {
+        return Err(LineFault::Count);
+    }
+    Ok(Line::Auto {
+        count: count as u32,
+    })
+}
+
+/// The line that a command makes of its arguments, with each node by its index. Arguments of
+/// another command are a fault, and so is a count of events past 32 bits.
+#[inline(always)]
+pub fn make_line<'a>(
+    command: Command,
+    arguments: Arguments<'a, usize>,
+) -> Result<Line<'a>, LineFault>
+    ensures { seen_line result ≡ counted (schedule.made command (places_of arguments.entry)) }
+{
+    match (command, arguments) {
+        (Command::Link, Arguments::TwoAddresses(a, b)) => of_pair(a, b, Event::Link { a, b }),
+        (Command::Cut, Arguments::TwoAddresses(a, b)) => of_pair(a, b, Event::Cut { a, b }),
+        (Command::Data, Arguments::AddressesAndText(node, dest, body)) => {
+            Ok(Line::Step(Event::Give { node, dest, body }))
+        }
+        (Command::Turn, Arguments::OneAddress(node)) => Ok(Line::Step(Event::Turn { node })),
+        (Command::Send, Arguments::TwoAddresses(node, dest)) => {
+            Ok(Line::Step(Event::Send { node, dest }))
+        }
+        (Command::Ask, Arguments::TwoAddresses(node, dest)) => {
+            Ok(Line::Step(Event::Ask { node, dest }))
+        }
+        (Command::Deliver, Arguments::OneNumber(id)) => Ok(Line::Step(Event::Deliver { id })),
+        (Command::Lose, Arguments::OneNumber(id)) => Ok(Line::Step(Event::Lose { id })),
+        (Command::Copy, Arguments::OneNumber(id)) => Ok(Line::Step(Event::Double { id })),
+        (Command::Auto, Arguments::OneNumber(count)) => auto(count),
+        (Command::Show, Arguments::OneAddress(node)) => Ok(Line::Show { node }),
+        (Command::Route, Arguments::TwoAddresses(node, dest)) => Ok(Line::Route { node, dest }),
+        (Command::Flight, Arguments::NoArgument) => Ok(Line::Flight),
+        _ => Err(LineFault::Count),
+    }
 }
 
 // A node that isn't there yet, before the run has started.
@@ -75,9 +127,7 @@ fn new_node(
     node: Mention,
     first: u32,
 ) -> Result<Line<'static>, LineFault>
-    requires { 1 ≤ first }
-    ensures value { seen_line result ≡ new_node_lem mesh.now started (mention_of node) first }
-    ensures allowed { IfOk result (IsAllowed mesh.now started) }
+    ensures { seen_line result ≡ schedule.new_node mesh.now started (mention_of node) first }
 {
     if started {
         return Err(LineFault::Late);
@@ -94,119 +144,35 @@ fn new_node(
     })
 }
 
-// ---- a line of each shape, in a function of its own, so that no line pays for the frame of another
-
-fn link_at(mesh: &Mesh, a: Mention, b: Mention) -> Result<Line<'static>, LineFault>
-    ensures value { seen_line result ≡ known_pair_lem mesh.now (mention_of a) (mention_of b) Link }
-    ensures allowed { (started : Bool) → IfOk result (IsAllowed mesh.now started) }
+// What a line says, with this mesh. A shape is looked at where it stands: it is too large to be moved
+// for nothing.
+fn line_at<'a>(said: &Option<Shape<'a>>, mesh: &Mesh, started: bool) -> Result<Line<'a>, LineFault>
+    ensures { seen_line result
+        ≡ counted (schedule.accepted_shape mesh.now started (said_of said.now)) }
 {
-    let (a, b) = known_pair(mesh, a, b)?;
-    Ok(Line::Step(Event::Link { a, b }))
-}
-
-fn cut_at(mesh: &Mesh, a: Mention, b: Mention) -> Result<Line<'static>, LineFault>
-    ensures value { seen_line result ≡ known_pair_lem mesh.now (mention_of a) (mention_of b) Cut }
-    ensures allowed { (started : Bool) → IfOk result (IsAllowed mesh.now started) }
-{
-    let (a, b) = known_pair(mesh, a, b)?;
-    Ok(Line::Step(Event::Cut { a, b }))
-}
-
-fn send_at(mesh: &Mesh, node: Mention, dest: Mention) -> Result<Line<'static>, LineFault>
-    ensures value { seen_line result ≡ known_two_lem mesh.now (mention_of node) (mention_of dest) (λ x y. Does (Send x y)) }
-    ensures allowed { (started : Bool) → IfOk result (IsAllowed mesh.now started) }
-{
-    let (node, dest) = known_two(mesh, node, dest)?;
-    Ok(Line::Step(Event::Send { node, dest }))
-}
-
-fn ask_at(mesh: &Mesh, node: Mention, dest: Mention) -> Result<Line<'static>, LineFault>
-    ensures value { seen_line result ≡ known_two_lem mesh.now (mention_of node) (mention_of dest) (λ x y. Does (Ask x y)) }
-    ensures allowed { (started : Bool) → IfOk result (IsAllowed mesh.now started) }
-{
-    let (node, dest) = known_two(mesh, node, dest)?;
-    Ok(Line::Step(Event::Ask { node, dest }))
-}
-
-fn route_at(mesh: &Mesh, node: Mention, dest: Mention) -> Result<Line<'static>, LineFault>
-    ensures value { seen_line result ≡ known_two_lem mesh.now (mention_of node) (mention_of dest) ShowsRoute }
-    ensures allowed { (started : Bool) → IfOk result (IsAllowed mesh.now started) }
-{
-    let (node, dest) = known_two(mesh, node, dest)?;
-    Ok(Line::Route { node, dest })
-}
-
-fn data_at<'a>(
-    mesh: &Mesh,
-    node: Mention,
-    dest: Mention,
-    body: &'a [u8],
-) -> Result<Line<'a>, LineFault>
-    requires { IsText body.now }
-    ensures value { seen_line result ≡ known_two_lem mesh.now (mention_of node) (mention_of dest) (λ x y. Does (Give x y body.now)) }
-    ensures allowed { (started : Bool) → IfOk result (IsAllowed mesh.now started) }
-{
-    let (node, dest) = known_two(mesh, node, dest)?;
-    Ok(Line::Step(Event::Give { node, dest, body }))
-}
-
-fn turn_at(mesh: &Mesh, node: Mention) -> Result<Line<'static>, LineFault>
-    ensures value { seen_line result ≡ after_nodes_lem mesh.now (known_lem mesh.now (mention_of node) (λ x. Ok (Does (Turn x)))) }
-    ensures allowed { (started : Bool) → IfOk result (IsAllowed mesh.now started) }
-{
-    let node = known(mesh, node)?;
-    Ok(Line::Step(Event::Turn { node }))
-}
-
-fn show_at(mesh: &Mesh, node: Mention) -> Result<Line<'static>, LineFault>
-    ensures value { seen_line result ≡ after_nodes_lem mesh.now (known_lem mesh.now (mention_of node) (λ x. Ok (ShowsNode x))) }
-    ensures allowed { (started : Bool) → IfOk result (IsAllowed mesh.now started) }
-{
-    let node = known(mesh, node)?;
-    Ok(Line::Show { node })
-}
-
-// A line that names no node.
-fn plain_at<'a>(mesh: &Mesh, line: Line<'a>) -> Result<Line<'a>, LineFault>
-    requires { (1 ≤ length mesh.now) → (started : Bool) → IsAllowed mesh.now started line }
-    ensures value { seen_line result ≡ after_nodes_lem mesh.now (Ok (accepted_of line.entry)) }
-    ensures allowed { (started : Bool) → IfOk result (IsAllowed mesh.now started) }
-{
-    after_nodes(mesh)?;
-    Ok(line)
-}
-
-#[tactic(auto, unfolding(mesh_text::specs::Schedule::accepted))]
-fn line_at<'a>(shape: Shape<'a>, mesh: &Mesh, started: bool) -> Result<Line<'a>, LineFault>
-    requires { IsShape shape }
-    ensures value { seen_line result ≡ accepted mesh.now started (shape_seen shape.entry) }
-    ensures allowed { IfOk result (IsAllowed mesh.now started) }
-{
-    match shape {
-        Shape::Blank => Ok(Line::Blank),
-        Shape::Node { node, first } => new_node(mesh, started, node, first),
-        Shape::Link { a, b } => link_at(mesh, a, b),
-        Shape::Cut { a, b } => cut_at(mesh, a, b),
-        Shape::Data { node, dest, body } => data_at(mesh, node, dest, body),
-        Shape::Turn { node } => turn_at(mesh, node),
-        Shape::Send { node, dest } => send_at(mesh, node, dest),
-        Shape::Ask { node, dest } => ask_at(mesh, node, dest),
-        Shape::Deliver { id } => plain_at(mesh, Line::Step(Event::Deliver { id })),
-        Shape::Lose { id } => plain_at(mesh, Line::Step(Event::Lose { id })),
-        Shape::Auto { count } => plain_at(mesh, Line::Auto { count }),
-        Shape::Show { node } => show_at(mesh, node),
-        Shape::Route { node, dest } => route_at(mesh, node, dest),
-        Shape::Flight => plain_at(mesh, Line::Flight),
+    let Some(shape) = said else {
+        return Ok(Line::Blank);
+    };
+    if let Arguments::NumberedAddress(node, first) = shape.arguments {
+        return new_node(mesh, started, node, first);
     }
+    after_nodes(mesh)?;
+    let arguments = placed(mesh, &shape.arguments)?;
+    make_line(shape.command, arguments)
 }
 
 /// What a line comes to with the mesh so far: the first fault of it, or the line. `started` says
-/// whether an earlier line was neither blank nor a `node` line.
-#[tactic(auto, unfolding(mesh_text::specs::Schedule::line_of))]
+/// whether an earlier line was neither blank nor a `node` line. An allowed line is written back as
+/// it stands, but that a line may name a node without its number, which is 1 then.
 pub fn parse_line<'a>(bytes: &'a [u8], mesh: &Mesh, started: bool) -> Result<Line<'a>, LineFault>
-    ensures value { seen_line result ≡ line_of mesh.now started bytes.now }
+    ensures value { seen_line result ≡ schedule.line_of mesh.now started bytes.now }
     ensures allowed { IfOk result (IsAllowed mesh.now started) }
+    ensures echo { IfOk result (λ l. IsEcho mesh.now bytes.now (accepted_of l)) }
 {
-    let shape = shape_of(bytes)?;
-    line_at(shape, mesh, started)
+    // There are at most 200 nodes.
+    let _size = mesh.len();
+    match &shape_of(bytes) {
+        Ok(said) => line_at(said, mesh, started),
+        Err(fault) => Err(*fault),
+    }
 }

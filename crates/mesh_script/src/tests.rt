@@ -18,7 +18,7 @@ fn span(from: usize, to: usize) -> Span {
 #[test]
 fn the_first_fault_is_told(rt: HostRuntime) -> Result<(), Fail> {
     let none = Mesh::new();
-    let cases: [(&[u8], LineFault); 7] = [
+    let cases: [(&[u8], LineFault); 8] = [
         (b"nodes 10.0.0.1", LineFault::Word(span(0, 5))),
         (b"turn", LineFault::Count),
         (b"turns", LineFault::Word(span(0, 5))),
@@ -26,6 +26,7 @@ fn the_first_fault_is_told(rt: HostRuntime) -> Result<(), Fail> {
         (b"node 10.0.0.1 sn 0", LineFault::BadNumber(span(17, 18))),
         (b"data 10.0.0.1 10.0.0.2 ", LineFault::BadText(span(23, 23))),
         (b"flight", LineFault::Early),
+        (b"deliver 1", LineFault::Early),
     ];
     for (line, fault) in cases {
         assert_eq!(rt; parse_line(line, &none, false).err(), Some(fault));

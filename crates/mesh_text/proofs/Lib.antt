@@ -1,5 +1,15 @@
+pub mod Shapes
 pub mod Printed
 pub mod InRange
+pub mod Echoes
 pub mod Picks
 pub mod Moments
 pub mod RunLaws
+pub mod MomentLaws
+pub mod LineLaws
+pub mod Clean
+pub mod Tellings
+pub mod TableTexts
+pub mod NamedData
+pub mod Seams
+pub mod StepLaws

@@ -1,39 +1,41 @@
 -- What holds of every moment of a run.
-use Rattle.std.proofs.Common.{◌≡◌, ℕ, zero, suc, ◌+◌, ◌<◌, ◌≤◌, false, List, [], ◌∷◌, Option, Some, None, Result, Ok, Err, length, get_or, refl, sym, ap, subst, ◌∙◌, arith, is_some}
+use Rattle.std.proofs.Common.{◌≡◌, ℕ, zero, suc, ◌+◌, ◌<◌, ◌≤◌, true, false, List, [], ◌∷◌, Option, Some, None, Result, Ok, Err, length, get_or, refl, sym, ap, subst, ◌∙◌, arith, is_some}
 use Rattle.std.specs.Option.{unwrap_or}
 use Rattle.std.specs.List.{AllByRecursion}
 use Rattle.std.proofs.lemmas.List.{length-map, get_or_default}
 use Rattle.std.proofs.lemmas.List.Elements.{recursion_from_All}
 use Rattle.mesh_base.specs.Meshes.{Nodes, IsMesh, first_at, with_node}
-use Rattle.mesh_base.specs.declared.events.Variant.TheVariants.{Base}
-use Rattle.mesh_base.proofs.Grown.{grown_is_mesh, grown_fits}
-use Rattle.mesh_model.specs.Worlds.{World, Event, Give, Turn, Send, Ask, Link, Cut, Deliver, Lose, Double, Outcome, Idle, Stops, Goes, start, first_numbers}
-use Rattle.mesh_model.specs.Accounts.{any, waiting, queued, in_flight, given, if_goes}
+use Rattle.mesh_base.specs.declared.events.Variant.{Variant}
+use Rattle.mesh_base.proofs.Grown.{grown_is_mesh}
+use Rattle.mesh_model.specs.Worlds.{World, Event, Give, Double, Happening, CopyDoubled, Outcome, Idle, Stops, Goes, step, start, first_numbers}
+use Rattle.mesh_model.specs.Accounts.{any, waiting, queued, in_flight, given, doubled, doubled_in, doubled_at, if_goes}
 use Rattle.mesh_model.specs.Choices.{pick}
 use Rattle.mesh_model.specs.Places.{IsEvent}
 use Rattle.mesh_model.specs.Invariants.{IsInvariant}
 use Rattle.mesh_model.proofs.Sizes.{same_size, start_size}
 use Rattle.mesh_model.proofs.MeshSteps.{step_keeps, start_keeps}
 use Rattle.mesh_model.proofs.AccountSteps.{step_balanced, start_empty}
-use Rattle.mesh_text.specs.declared.fault.LineFault.{LineFault}
+use Rattle.mesh_model.proofs.Doublings.{doubling_told}
+use Rattle.mesh_grammar.specs.declared.fault.LineFault.{LineFault}
 use Rattle.mesh_text.specs.Schedule.{Moment, opening, Accepted, Nothing, NewNode, Does, Chooses, ShowsNode, ShowsRoute, ShowsFlight, line_of, world_of, started, outcome_at, stepped, counted, idle_by}
-use Rattle.mesh_text.specs.Lines.{line, words_of}
-use Rattle.mesh_text.specs.Ranges.{HaveAddresses, IsEventLine, IsNewNode, IsInRange, IsInTime}
+use Rattle.mesh_grammar.specs.Lines.{Piece, Whole, Long, Beyond}
+use Rattle.mesh_grammar.specs.Written.{line}
+use Rattle.mesh_text.specs.Lines.{words_of}
+use Rattle.mesh_text.specs.Ranges.{IsNewNode, IsInRange, IsInTime}
 use Rattle.mesh_text.specs.Auto as auto
-use Rattle.mesh_text.specs.Text.{Came, On, Refused, Over, came_of_event, came_of_auto, came_of_line, came_from, came, Row, Whole, Long, Beyond, Written, goes_on, text_from, text_of_input}
+use Rattle.mesh_text.specs.Text.{Came, On, Refused, Over, came_of_event, came_of_auto, came_of_line, came_from, came, Written, goes_on, text_from, text_on, text_of_input}
 use Rattle.mesh_text.specs.Accounts.{IsBalanced}
-use Rattle.mesh_text.specs.Laws.{DataAreAccountedFor, SumsAreInOrder}
+use Rattle.mesh_text.specs.Laws.{EventKeepsAccount, DataAreAccountedFor, SumsAreInOrder}
 use Rattle.mesh_text.proofs.InRange.{Allowed, line_allowed}
-use Rattle.mesh_text.proofs.Picks.{OnSome, IsUsual, picked, none_doubled}
+use Rattle.mesh_text.proofs.Picks.{OnSome, picked}
 
 -- what holds of a moment
 pub record IsKept (m : Moment) : Type 0 where
   pub mesh : IsMesh m.mesh
-  pub addresses : HaveAddresses m.mesh
   pub size : length (world_of m).nodes ≡ length m.mesh
   pub invariant : IsInvariant (world_of m)
   pub balanced : IsBalanced m
-  pub ordered : m.sums.idle + m.sums.given ≤ m.sums.events
+  pub ordered : m.sums.idle + m.sums.given + m.sums.copied ≤ m.sums.events
 
 -- ---- before a world is made
 
@@ -47,46 +49,54 @@ all_positive mesh is = through mesh (recursion_from_All (λ p. 1 ≤ p.1) mesh (
     through [] all = tt
     through (p ∷ ps) all = (all.0, through ps all.1)
 
-fresh_world : (m : Moment) → m.world ≡ None → world_of m ≡ start Base (first_numbers m.mesh)
-fresh_world m fresh = ap (λ o. unwrap_or o (start Base (first_numbers m.mesh))) fresh
+fresh_world : (m : Moment) → m.world ≡ None → world_of m ≡ start m.variant (first_numbers m.mesh)
+fresh_world m fresh = ap (λ o. unwrap_or o (start m.variant (first_numbers m.mesh))) fresh
 
 -- no datum is in the mesh
 fresh_empty : (m : Moment) → m.world ≡ None → waiting any (world_of m) + queued any (world_of m) + in_flight any (world_of m) ≡ 0
-fresh_empty m fresh = ap (λ w. waiting any w + queued any w + in_flight any w) (fresh_world m fresh) ∙ start_empty any Base (first_numbers m.mesh)
+fresh_empty m fresh = ap (λ w. waiting any w + queued any w + in_flight any w) (fresh_world m fresh) ∙ start_empty any m.variant (first_numbers m.mesh)
 
-fresh_kept : (m : Moment) → m.world ≡ None → IsMesh m.mesh → HaveAddresses m.mesh → m.sums.given ≡ m.sums.delivered + m.sums.lost → m.sums.idle + m.sums.given ≤ m.sums.events → IsKept m
-fresh_kept m fresh is have sums ordered =
+fresh_kept : (m : Moment) → m.world ≡ None → IsMesh m.mesh → m.sums.given + m.sums.copied ≡ m.sums.delivered + m.sums.lost
+    → m.sums.idle + m.sums.given + m.sums.copied ≤ m.sums.events → IsKept m
+fresh_kept m fresh is sums ordered =
     let nothing = fresh_empty m fresh in
     record {
       mesh = is;
-      addresses = have;
-      size = ap (λ w. length w.nodes) (fresh_world m fresh) ∙ start_size Base (first_numbers m.mesh) ∙ length-map m.mesh (λ p. p.1);
-      invariant = subst IsInvariant (sym (fresh_world m fresh)) (start_keeps Base (first_numbers m.mesh) (all_positive m.mesh is));
+      size = ap (λ w. length w.nodes) (fresh_world m fresh) ∙ start_size m.variant (first_numbers m.mesh) ∙ length-map m.mesh (λ p. p.1);
+      invariant = subst IsInvariant (sym (fresh_world m fresh)) (start_keeps m.variant (first_numbers m.mesh) (all_positive m.mesh is));
       balanced = omega arith;
       ordered = ordered;
     }
 
-fresh_sums : (m : Moment) → m.world ≡ None → IsBalanced m → m.sums.given ≡ m.sums.delivered + m.sums.lost
+fresh_sums : (m : Moment) → m.world ≡ None → IsBalanced m → m.sums.given + m.sums.copied ≡ m.sums.delivered + m.sums.lost
 fresh_sums m fresh is = let nothing = fresh_empty m fresh in omega arith
 
-pub opening_kept : IsKept opening
-opening_kept = fresh_kept opening refl (record { rising = λ i j lt within. absurd (omega arith); few = omega arith; positive = λ i lt. absurd (omega arith) }) (λ i lt. absurd (omega arith)) refl (omega arith)
+no_nodes : IsMesh []
+no_nodes = record {
+  rising = λ i j lt within. absurd (omega arith);
+  few = omega arith;
+  positive = λ i lt. absurd (omega arith);
+  addresses = λ i lt. absurd (omega arith);
+  firsts = λ i lt. absurd (omega arith);
+}
+
+pub opening_kept : (v : Variant) → IsKept (opening v)
+opening_kept v = fresh_kept (opening v) refl no_nodes refl (omega arith)
 
 grown_kept : (m : Moment) (address first : ℕ) → m.world ≡ None → IsNewNode m.mesh address first → IsKept m → IsKept (counted (record m { mesh = with_node m.mesh address first }))
 grown_kept m address first fresh new is =
     fresh_kept (counted (record m { mesh = with_node m.mesh address first })) fresh
-    (grown_is_mesh m.mesh address first is.mesh new.absent new.few new.positive)
-    (grown_fits m.mesh address first is.addresses new.fits)
+    (grown_is_mesh m.mesh address first is.mesh new.absent new.few new.positive new.fits (let most = new.most in omega arith))
     (fresh_sums m fresh is.balanced)
     is.ordered
 
 -- ---- events
 
 counted_kept : (m : Moment) → IsKept m → IsKept (counted m)
-counted_kept m is = record { mesh = is.mesh; addresses = is.addresses; size = is.size; invariant = is.invariant; balanced = is.balanced; ordered = is.ordered }
+counted_kept m is = record { mesh = is.mesh; size = is.size; invariant = is.invariant; balanced = is.balanced; ordered = is.ordered }
 
 pub started_kept : (m : Moment) → IsKept m → IsKept (started m)
-started_kept m is = record { mesh = is.mesh; addresses = is.addresses; size = is.size; invariant = is.invariant; balanced = is.balanced; ordered = is.ordered }
+started_kept m is = record { mesh = is.mesh; size = is.size; invariant = is.invariant; balanced = is.balanced; ordered = is.ordered }
 
 given_at_most : (e : Event) (o : Outcome) → given any e o ≤ if_goes o 1
 given_at_most (Give x d body) Idle = omega arith
@@ -94,53 +104,62 @@ given_at_most (Give x d body) (Stops y field) = omega arith
 given_at_most (Give x d body) (Goes w happening) = omega arith
 given_at_most others o = omega arith
 
--- an event is idle, or gives a datum, or neither
-one_at_most : (e : Event) (o : Outcome) → idle_by o + given any e o ≤ 1
-one_at_most e Idle = omega (arith, given_at_most e Idle)
-one_at_most e (Stops x field) = omega (arith, given_at_most e (Stops x field))
-one_at_most e (Goes w happening) = omega (arith, given_at_most e (Goes w happening))
+doubled_at_most : (h : Happening) → doubled_in h ≤ 1
+doubled_at_most (CopyDoubled id to true) = omega arith
+doubled_at_most (CopyDoubled id to false) = omega arith
+doubled_at_most others = omega arith
 
-pub stepped_kept : (m : Moment) (e : Event) → IsUsual (length m.mesh) e → IsKept m → IsKept (stepped m e)
+copied_at_most : (o : Outcome) → doubled_at o ≤ if_goes o 1
+copied_at_most Idle = omega arith
+copied_at_most (Stops x field) = omega arith
+copied_at_most (Goes w happening) = doubled_at_most happening
+
+not_both : (w : World) (e : Event) → given any e (step w e) + doubled any w e ≤ if_goes (step w e) 1
+not_both w (Give x d body) = omega (arith, given_at_most (Give x d body) (step w (Give x d body)))
+not_both w (Double id) = omega (arith, copied_at_most (step w (Double id)), doubling_told w (Double id))
+not_both w others = omega arith
+
+goes_or_idle : (o : Outcome) → idle_by o + if_goes o 1 ≤ 1
+goes_or_idle Idle = omega arith
+goes_or_idle (Stops x field) = omega arith
+goes_or_idle (Goes w happening) = omega arith
+
+-- an event is idle, or gives a datum, or doubles one, or none of these
+one_at_most : (w : World) (e : Event) → idle_by (step w e) + given any e (step w e) + doubled_at (step w e) ≤ 1
+one_at_most w e = omega (arith, not_both w e, doubling_told w e, goes_or_idle (step w e))
+
+pub event_keeps_account : EventKeepsAccount
 unfolding stepped
-stepped_kept m e usual is =
+event_keeps_account m e in_mesh within before =
+    let account = step_balanced any (world_of m) e within in_mesh in
+    let copied = doubling_told (world_of m) e in
+    omega arith
+
+pub stepped_kept : (m : Moment) (e : Event) → IsEvent (length m.mesh) e → IsKept m → IsKept (stepped m e)
+unfolding stepped
+stepped_kept m e within is =
     let w : World = world_of m in
-    let event : IsEvent (length w.nodes) e = subst (λ k. IsEvent k e) (sym is.size) usual.0 in
-    let account = step_balanced any w e event is.invariant.in_mesh in
-    let none = none_doubled any w e usual.1 in
-    let before = is.balanced in
+    let event : IsEvent (length w.nodes) e = subst (λ k. IsEvent k e) (sym is.size) within in
     let ordered = is.ordered in
-    let one = one_at_most e (outcome_at m e) in
+    let one = one_at_most w e in
     record {
       mesh = is.mesh;
-      addresses = is.addresses;
       size = same_size w e ∙ is.size;
       invariant = step_keeps w e event is.invariant;
-      balanced = omega arith;
+      balanced = event_keeps_account m e is.invariant.in_mesh event is.balanced;
       ordered = omega arith;
     }
-
--- a line's event is one of the mesh
-pub line_usual : (size : ℕ) (e : Event) → IsEventLine size e → IsUsual size e
-line_usual size (Give x d body) range = ((range.0, range.1, (range.2.0, range.2.1)), tt)
-line_usual size (Turn x) range = (range, tt)
-line_usual size (Send x d) range = (range, tt)
-line_usual size (Ask x d) range = (range, tt)
-line_usual size (Link a b) range = (range, tt)
-line_usual size (Cut a b) range = (range, tt)
-line_usual size (Deliver id) range = (tt, tt)
-line_usual size (Lose id) range = (tt, tt)
-line_usual size (Double id) range = absurd range
 
 -- ---- chosen events
 
 IsKeptRan : auto.Ran → Type 0
 IsKeptRan (auto.Ended text did n) = IsKept n
-IsKeptRan (auto.Refused text e field) = Unit {0}
+IsKeptRan (auto.Refused text n e field) = Unit {0}
 
 before_kept : (text : List ℕ) (r : auto.Ran) → IsKeptRan r → IsKeptRan (auto.before text r)
 unfolding IsKeptRan
 before_kept text (auto.Ended others did n) is = is
-before_kept text (auto.Refused others e field) is = tt
+before_kept text (auto.Refused others n e field) is = tt
 
 done_kept : (m : Moment) (e : Event) (o : Outcome) (others : Moment → auto.Ran) → IsKeptRan (others (stepped m e)) → IsKeptRan (auto.done_then m e o others)
 unfolding IsKeptRan
@@ -148,13 +167,13 @@ done_kept m e Idle others is = before_kept _ (others (stepped m e)) is
 done_kept m e (Stops x field) others is = tt
 done_kept m e (Goes w happening) others is = before_kept _ (others (stepped m e)) is
 
-chosen_kept : (m : Moment) (did : ℕ) (o : Option Event) (others : Moment → auto.Ran) → IsKept m → OnSome (IsUsual (length m.mesh)) o → ((n : Moment) → IsKept n → IsKeptRan (others n)) → IsKeptRan (auto.chosen_then m did o others)
+chosen_kept : (m : Moment) (did : ℕ) (o : Option Event) (others : Moment → auto.Ran) → IsKept m → OnSome (IsEvent (length m.mesh)) o → ((n : Moment) → IsKept n → IsKeptRan (others n)) → IsKeptRan (auto.chosen_then m did o others)
 unfolding IsKeptRan OnSome
 chosen_kept m did None others is usual rest = is
 chosen_kept m did (Some e) others is usual rest = done_kept m e (outcome_at m e) others (rest (stepped m e) (stepped_kept m e usual is))
 
-pub picked_usual : (m : Moment) → IsKept m → OnSome (IsUsual (length m.mesh)) (pick (world_of m))
-picked_usual m is = subst (λ k. OnSome (IsUsual k) (pick (world_of m))) is.size (picked (world_of m))
+pub picked_usual : (m : Moment) → IsKept m → OnSome (IsEvent (length m.mesh)) (pick (world_of m))
+picked_usual m is = subst (λ k. OnSome (IsEvent k) (pick (world_of m))) is.size (picked (world_of m))
 
 auto_kept : (most did : ℕ) (m : Moment) → IsKept m → IsKeptRan (auto.auto_from most did m)
 unfolding IsKeptRan auto.auto_from
@@ -166,7 +185,7 @@ auto_kept (suc most) did m is = chosen_kept m did (pick (world_of m)) (λ n. aut
 unfoldable pub IsKeptCame : Came → Type 0
 IsKeptCame (On text n) = IsKept n
 IsKeptCame (Refused why) = Unit {0}
-IsKeptCame (Over text e field) = Unit {0}
+IsKeptCame (Over text n e field) = Unit {0}
 
 event_kept : (m : Moment) (e : Event) (o : Outcome) → IsKept (counted (stepped m e)) → IsKeptCame (came_of_event m e o)
 unfolding IsKeptCame
@@ -177,7 +196,7 @@ event_kept m e (Goes w happening) is = is
 ran_kept : (text : List ℕ) (r : auto.Ran) → IsKeptRan r → IsKeptCame (came_of_auto text r)
 unfolding IsKeptCame IsKeptRan
 ran_kept text (auto.Ended others did n) is = counted_kept n is
-ran_kept text (auto.Refused others e field) is = tt
+ran_kept text (auto.Refused others n e field) is = tt
 
 pub not_made : (o : Option World) → is_some o ≡ false → o ≡ None
 not_made None h = refl
@@ -187,7 +206,7 @@ line_kept : (m : Moment) (a : Accepted) → IsInRange m.mesh a → IsInTime (is_
 unfolding IsKeptCame came_of_line
 line_kept m Nothing range early is = counted_kept m is
 line_kept m (NewNode address first) range early is = grown_kept m address first (not_made m.world early) range is
-line_kept m (Does e) range early is = event_kept m e (outcome_at m e) (counted_kept (stepped m e) (stepped_kept m e (line_usual (length m.mesh) e range) is))
+line_kept m (Does e) range early is = event_kept m e (outcome_at m e) (counted_kept (stepped m e) (stepped_kept m e range.1 is))
 line_kept m (Chooses count) range early is = ran_kept (line (words_of m.mesh (Chooses count))) (auto.auto_from count 0 (started m)) (auto_kept count 0 (started m) (started_kept m is))
 line_kept m (ShowsNode x) range early is = counted_kept (started m) (started_kept m is)
 line_kept m (ShowsRoute x d) range early is = counted_kept (started m) (started_kept m is)
@@ -198,11 +217,11 @@ unfolding IsKeptCame Allowed
 result_kept m (Ok a) allowed is = line_kept m a allowed.0 allowed.1 is
 result_kept m (Err f) allowed is = tt
 
-pub row_kept : (m : Moment) (row : Row) → IsKept m → IsKeptCame (came m row)
+pub piece_kept : (m : Moment) (piece : Piece) → IsKept m → IsKeptCame (came m piece)
 unfolding IsKeptCame came
-row_kept m (Whole line) is = result_kept m (line_of m.mesh (is_some m.world) line) (line_allowed m.mesh (is_some m.world) line is.mesh.few) is
-row_kept m Long is = tt
-row_kept m Beyond is = tt
+piece_kept m (Whole line) is = result_kept m (line_of m.mesh (is_some m.world) line) (line_allowed m.mesh (is_some m.world) line is.mesh.few) is
+piece_kept m Long is = tt
+piece_kept m Beyond is = tt
 
 -- ---- whole runs
 
@@ -210,22 +229,22 @@ goes_kept : (m : Moment) (c : Came) (others : Moment → Written) → IsKeptCame
 unfolding IsKeptCame
 goes_kept m (On text n) others came is rest = rest n came
 goes_kept m (Refused why) others came is rest = is
-goes_kept m (Over text e field) others came is rest = is
+goes_kept m (Over text n e field) others came is rest = is
 
-text_kept : (m : Moment) (rows : List Row) → IsKept m → IsKept (text_from m rows).after
+pub text_kept : (m : Moment) (pieces : List Piece) → IsKept m → IsKept (text_from m pieces).after
 unfolding text_from
 text_kept m [] is = is
-text_kept m (row ∷ rows) is = goes_kept m (came m row) (λ n. text_from n rows) (row_kept m row is) is (λ n kept. text_kept n rows kept)
+text_kept m (piece ∷ pieces) is = goes_kept m (came m piece) (λ n. text_from n pieces) (piece_kept m piece is) is (λ n kept. text_kept n pieces kept)
 
-pub input_kept : (input : List ℕ) → IsKept (text_of_input input).after
-unfolding text_of_input
-input_kept input = text_kept opening _ opening_kept
+pub input_kept : (v : Variant) (input : List ℕ) → IsKept (text_of_input v input).after
+unfolding text_of_input text_on
+input_kept v input = text_kept (opening v) _ (opening_kept v)
 
 pub data_are_accounted_for : DataAreAccountedFor
-data_are_accounted_for input = (input_kept input).balanced
+data_are_accounted_for v input = (input_kept v input).balanced
 
 pub sums_are_in_order : SumsAreInOrder
-sums_are_in_order input =
-    let is = input_kept input in
+sums_are_in_order v input =
+    let is = input_kept v input in
     let balanced = is.balanced in
     (is.ordered, omega arith)

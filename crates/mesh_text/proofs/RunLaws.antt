@@ -1,35 +1,37 @@
 -- The worlds of a run are those of the run of its events.
-use Rattle.std.proofs.Common.{◌≡◌, ◌≢◌, ℕ, zero, suc, ◌+◌, ◌-◌, ◌≤◌, ◌⊎◌, inl, inr, true, false, List, [], ◌∷◌, ◌++◌, Option, Some, None, Result, Ok, Err, length, length-append, append-nil, take, refl, sym, ap, subst, ◌∙◌, arith, is_some}
+use Rattle.std.proofs.Common.{◌≡◌, ◌≢◌, ℕ, zero, suc, ◌+◌, ◌-◌, ◌≤◌, ◌⊎◌, inl, inr, true, false, List, [], ◌∷◌, ◌++◌, Option, Some, None, Result, Ok, Err, length, length-append, append-nil, take, refl, sym, ap, ap₂, subst, ◌∙◌, arith, is_some}
 use Rattle.std.proofs.lemmas.List.{length-map}
 use Rattle.std.proofs.Math.Seq.{take-append-add}
 use Rattle.std.specs.Option.{unwrap_or}
 use Rattle.std.specs.List.{AllByRecursion}
 use Rattle.mesh_base.specs.Meshes.{Nodes}
-use Rattle.mesh_base.specs.declared.events.Variant.TheVariants.{Base}
+use Rattle.mesh_base.specs.declared.events.Variant.{Variant}
 use Rattle.mesh_model.specs.Worlds.{World, Event, Outcome, Idle, Stops, Goes, step, after, run, start, first_numbers}
 use Rattle.mesh_model.specs.Choices.{pick}
 use Rattle.mesh_model.specs.Places.{IsEvent}
-use Rattle.mesh_model.proofs.Lists.{each_map, each_append}
+use Rattle.mesh_model.proofs.Lists.{each_append}
 use Rattle.mesh_model.proofs.MeshSteps.{run_keeps}
 use Rattle.mesh_model.proofs.Acyclic.{loop_free}
-use Rattle.mesh_text.specs.declared.fault.LineFault.{LineFault}
+use Rattle.mesh_grammar.specs.declared.fault.LineFault.{LineFault}
 use Rattle.mesh_text.specs.Schedule.{Moment, opening, Accepted, Nothing, NewNode, Does, Chooses, ShowsNode, ShowsRoute, ShowsFlight, line_of, world_of, started, outcome_at, stepped, counted}
-use Rattle.mesh_text.specs.Lines.{line, words_of}
+use Rattle.mesh_grammar.specs.Lines.{Piece, Whole, Long, Beyond}
+use Rattle.mesh_grammar.specs.Written.{line}
+use Rattle.mesh_text.specs.Lines.{words_of}
 use Rattle.mesh_text.specs.Ranges.{IsInRange, IsInTime}
 use Rattle.mesh_text.specs.Auto as auto
-use Rattle.mesh_text.specs.Text.{Came, On, Refused, Over, came_of_event, came_of_auto, came_of_line, came_from, came, Row, Whole, Long, Beyond, Verdict, FullAt, Written, goes_on, text_from, text_of_input}
-use Rattle.mesh_text.specs.Runs.{event_then, choice_then, events_chosen, events_of_line, events_read, events_of_row, events_after, events_from, events_of_input, mesh_of_input, world_after}
-use Rattle.mesh_text.specs.Laws.{RunIsRunOfEvents, AllEventsCount, EventsAreOfMesh, NoCircles, RunKeepsInvariant}
+use Rattle.mesh_text.specs.Text.{Came, On, Refused, Over, came_of_event, came_of_auto, came_of_line, came_from, came, Verdict, FullAt, Written, goes_on, text_from, text_on, text_of_input}
+use Rattle.mesh_text.specs.Runs.{event_then, choice_then, events_chosen, events_of_line, events_read, events_of_piece, events_after, events_from, events_of_input, mesh_of_input, world_after}
+use Rattle.mesh_text.specs.Laws.{RunIsRunOfEvents, AllEventsCount, EventsAreOfMesh, RunsAreLoopFree, RunKeepsInvariant}
 use Rattle.mesh_text.proofs.InRange.{Allowed, line_allowed}
-use Rattle.mesh_text.proofs.Picks.{OnSome, IsUsual}
-use Rattle.mesh_text.proofs.Moments.{IsKept, all_positive, stepped_kept, started_kept, line_usual, picked_usual, IsKeptCame, row_kept, input_kept, opening_kept}
+use Rattle.mesh_text.proofs.Picks.{OnSome}
+use Rattle.mesh_text.proofs.Moments.{IsKept, all_positive, stepped_kept, started_kept, picked_usual, IsKeptCame, piece_kept, input_kept, opening_kept}
 
-run_append : (w : World) (xs ys : List Event) → run w (xs ++ ys) ≡ run (run w xs) ys
+pub run_append : (w : World) (xs ys : List Event) → run w (xs ++ ys) ≡ run (run w xs) ys
 unfolding run
 run_append w [] ys = refl
 run_append w (e ∷ es) ys = run_append (after w (step w e)) es ys
 
-run_none : (w : World) → run w [] ≡ w
+pub run_none : (w : World) → run w [] ≡ w
 unfolding run
 run_none w = refl
 
@@ -41,6 +43,7 @@ run_one w e = refl
 
 -- from m to n by these events
 record Ran (m n : Moment) (es : List Event) : Type 0 where
+  variant : n.variant ≡ m.variant
   mesh : n.mesh ≡ m.mesh
   made : is_some n.world ≡ true
   world : world_of n ≡ run (world_of m) es
@@ -48,16 +51,16 @@ record Ran (m n : Moment) (es : List Event) : Type 0 where
 
 ran_more : (m : Moment) (e : Event) (n : Moment) (es : List Event) → Ran (stepped m e) n es → Ran m n (e ∷ es)
 unfolding stepped run
-ran_more m e n es is = record { mesh = is.mesh; made = is.made; world = is.world; count = let count = is.count in omega arith }
+ran_more m e n es is = record { variant = is.variant; mesh = is.mesh; made = is.made; world = is.world; count = let count = is.count in omega arith }
 
 RanTo : Moment → auto.Ran → List Event → Type 0
 RanTo m (auto.Ended text did n) es = Ran m n es
-RanTo m (auto.Refused text e field) es = Unit {0}
+RanTo m (auto.Refused text n e field) es = Unit {0}
 
 ran_before : (m : Moment) (e : Event) (text : List ℕ) (r : auto.Ran) (es : List Event) → RanTo (stepped m e) r es → RanTo m (auto.before text r) (e ∷ es)
 unfolding RanTo
 ran_before m e text (auto.Ended others did n) es is = ran_more m e n es is
-ran_before m e text (auto.Refused others f field) es is = tt
+ran_before m e text (auto.Refused others n f field) es is = tt
 
 done_ran : (m : Moment) (e : Event) (o : Outcome) (others : Moment → auto.Ran) (more : Moment → List Event) → RanTo (stepped m e) (others (stepped m e)) (more (stepped m e))
     → RanTo m (auto.done_then m e o others) (event_then m e o more)
@@ -69,7 +72,7 @@ done_ran m e (Goes w happening) others more is = ran_before m e _ (others (stepp
 chosen_ran : (m : Moment) (did : ℕ) (o : Option Event) (others : Moment → auto.Ran) (more : Moment → List Event) → is_some m.world ≡ true
     → ((e : Event) → RanTo (stepped m e) (others (stepped m e)) (more (stepped m e))) → RanTo m (auto.chosen_then m did o others) (choice_then m o more)
 unfolding RanTo
-chosen_ran m did None others more made rest = record { mesh = refl; made = made; world = sym (run_none (world_of m)); count = omega arith }
+chosen_ran m did None others more made rest = record { variant = refl; mesh = refl; made = made; world = sym (run_none (world_of m)); count = omega arith }
 chosen_ran m did (Some e) others more made rest = done_ran m e (outcome_at m e) others more (rest e)
 
 stepped_made : (m : Moment) (e : Event) → is_some (stepped m e).world ≡ true
@@ -78,7 +81,7 @@ stepped_made m e = refl
 
 auto_ran : (most did : ℕ) (m : Moment) → is_some m.world ≡ true → RanTo m (auto.auto_from most did m) (events_chosen most m)
 unfolding RanTo auto.auto_from events_chosen
-auto_ran zero did m made = record { mesh = refl; made = made; world = sym (run_none (world_of m)); count = omega arith }
+auto_ran zero did m made = record { variant = refl; mesh = refl; made = made; world = sym (run_none (world_of m)); count = omega arith }
 auto_ran (suc most) did m made =
     chosen_ran m did (pick (world_of m)) (λ n. auto.auto_from most (did + 1) n) (λ n. events_chosen most n) made
     (λ e. auto_ran most (did + 1) (stepped m e) (stepped_made m e))
@@ -86,15 +89,15 @@ auto_ran (suc most) did m made =
 -- each of them is an event of the mesh
 
 UsualList : ℕ → List Event → Type 0
-UsualList size es = AllByRecursion (IsUsual size) es
+UsualList size es = AllByRecursion (IsEvent size) es
 
-event_usual : (m : Moment) (e : Event) (o : Outcome) (more : Moment → List Event) → IsUsual (length m.mesh) e → UsualList (length m.mesh) (more (stepped m e)) → UsualList (length m.mesh) (event_then m e o more)
+event_usual : (m : Moment) (e : Event) (o : Outcome) (more : Moment → List Event) → IsEvent (length m.mesh) e → UsualList (length m.mesh) (more (stepped m e)) → UsualList (length m.mesh) (event_then m e o more)
 unfolding UsualList
 event_usual m e Idle more one rest = (one, rest)
 event_usual m e (Stops x field) more one rest = (one, tt)
 event_usual m e (Goes w happening) more one rest = (one, rest)
 
-choice_usual : (m : Moment) (o : Option Event) (more : Moment → List Event) → OnSome (IsUsual (length m.mesh)) o → ((e : Event) → IsUsual (length m.mesh) e → UsualList (length m.mesh) (more (stepped m e)))
+choice_usual : (m : Moment) (o : Option Event) (more : Moment → List Event) → OnSome (IsEvent (length m.mesh)) o → ((e : Event) → IsEvent (length m.mesh) e → UsualList (length m.mesh) (more (stepped m e)))
     → UsualList (length m.mesh) (choice_then m o more)
 unfolding UsualList OnSome
 choice_usual m None more usual rest = tt
@@ -115,7 +118,7 @@ line_events_usual : (m : Moment) (a : Accepted) → IsInRange m.mesh a → IsKep
 unfolding UsualList
 line_events_usual m Nothing range is = tt
 line_events_usual m (NewNode address first) range is = tt
-line_events_usual m (Does e) range is = (line_usual (length m.mesh) e range, tt)
+line_events_usual m (Does e) range is = (range.1, tt)
 line_events_usual m (Chooses count) range is = chosen_usual count (started m) (started_kept m is)
 line_events_usual m (ShowsNode x) range is = tt
 line_events_usual m (ShowsRoute x d) range is = tt
@@ -126,16 +129,17 @@ unfolding Allowed UsualList
 read_usual m (Ok a) allowed is = line_events_usual m a allowed.0 is
 read_usual m (Err f) allowed is = tt
 
-row_usual : (m : Moment) (row : Row) → IsKept m → UsualList (length m.mesh) (events_of_row m row)
+piece_usual : (m : Moment) (piece : Piece) → IsKept m → UsualList (length m.mesh) (events_of_piece m piece)
 unfolding UsualList
-row_usual m (Whole line) is = read_usual m (line_of m.mesh (is_some m.world) line) (line_allowed m.mesh (is_some m.world) line is.mesh.few) is
-row_usual m Long is = tt
-row_usual m Beyond is = tt
+piece_usual m (Whole line) is = read_usual m (line_of m.mesh (is_some m.world) line) (line_allowed m.mesh (is_some m.world) line is.mesh.few) is
+piece_usual m Long is = tt
+piece_usual m Beyond is = tt
 
--- ---- a row
+-- ---- a line
 
 -- no event, and at most one more node
 record Quiet (m n : Moment) (es : List Event) : Type 0 where
+  variant : n.variant ≡ m.variant
   mesh : is_some m.world ≡ true → n.mesh ≡ m.mesh
   world : n.world ≡ m.world
   none : es ≡ []
@@ -144,40 +148,41 @@ record Quiet (m n : Moment) (es : List Event) : Type 0 where
 GoesBy : Moment → List Event → Came → Type 0
 GoesBy m es (On text n) = Quiet m n es ⊎ Ran m n es
 GoesBy m es (Refused why) = es ≡ []
-GoesBy m es (Over text e field) = Unit {0}
+GoesBy m es (Over text n e field) = Unit {0}
 
 event_goes : (m : Moment) (e : Event) (o : Outcome) → GoesBy m (e ∷ []) (came_of_event m e o)
 unfolding GoesBy stepped run
-event_goes m e Idle = inr (record { mesh = refl; made = refl; world = refl; count = refl })
+event_goes m e Idle = inr (record { variant = refl; mesh = refl; made = refl; world = refl; count = refl })
 event_goes m e (Stops x field) = tt
-event_goes m e (Goes w happening) = inr (record { mesh = refl; made = refl; world = refl; count = refl })
+event_goes m e (Goes w happening) = inr (record { variant = refl; mesh = refl; made = refl; world = refl; count = refl })
 
 auto_goes : (m : Moment) (text : List ℕ) (r : auto.Ran) (es : List Event) → RanTo m r es → GoesBy m es (came_of_auto text r)
 unfolding GoesBy RanTo
-auto_goes m text (auto.Ended others did n) es is = inr (record { mesh = is.mesh; made = is.made; world = is.world; count = is.count })
-auto_goes m text (auto.Refused others e field) es is = tt
+auto_goes m text (auto.Ended others did n) es is = inr (record { variant = is.variant; mesh = is.mesh; made = is.made; world = is.world; count = is.count })
+auto_goes m text (auto.Refused others n e field) es is = tt
 
 start_goes : (m : Moment) (es : List Event) (c : Came) → GoesBy (started m) es c → GoesBy m es c
 unfolding GoesBy
 start_goes m es (On text n) (inl is) =
     let same : n.world ≡ Some (world_of m) = is.world in
     inr (record {
+      variant = is.variant;
       mesh = is.mesh refl;
       made = ap is_some same;
-      world = ap (λ o. unwrap_or o (start Base (first_numbers n.mesh))) same ∙ sym (run_none (world_of m)) ∙ ap (run (world_of m)) (sym is.none);
+      world = ap (λ o. unwrap_or o (start n.variant (first_numbers n.mesh))) same ∙ sym (run_none (world_of m)) ∙ ap (run (world_of m)) (sym is.none);
       count = let count = is.count in let none : length es ≡ 0 = ap length is.none in omega arith;
     })
-start_goes m es (On text n) (inr is) = inr (record { mesh = is.mesh; made = is.made; world = is.world; count = is.count })
+start_goes m es (On text n) (inr is) = inr (record { variant = is.variant; mesh = is.mesh; made = is.made; world = is.world; count = is.count })
 start_goes m es (Refused why) is = is
-start_goes m es (Over text e field) is = tt
+start_goes m es (Over text n e field) is = tt
 
 shown : (m : Moment) → Ran m (counted (started m)) []
-shown m = record { mesh = refl; made = refl; world = sym (run_none (world_of m)); count = omega arith }
+shown m = record { variant = refl; mesh = refl; made = refl; world = sym (run_none (world_of m)); count = omega arith }
 
 line_goes : (m : Moment) (a : Accepted) → IsInTime (is_some m.world) a → GoesBy m (events_of_line m a) (came_of_line m a)
 unfolding GoesBy came_of_line
-line_goes m Nothing early = inl (record { mesh = λ _. refl; world = refl; none = refl; count = refl })
-line_goes m (NewNode address first) early = inl (record { mesh = λ made. absurd (let clash : true ≡ false = sym made ∙ early in let P : ⊥ = cc in P); world = refl; none = refl; count = refl })
+line_goes m Nothing early = inl (record { variant = refl; mesh = λ _. refl; world = refl; none = refl; count = refl })
+line_goes m (NewNode address first) early = inl (record { variant = refl; mesh = λ made. absurd (let clash : true ≡ false = sym made ∙ early in let P : ⊥ = cc in P); world = refl; none = refl; count = refl })
 line_goes m (Does e) early = event_goes m e (outcome_at m e)
 line_goes m (Chooses count) early =
     start_goes m (events_chosen count (started m)) (came_of_auto (line (words_of m.mesh (Chooses count))) (auto.auto_from count 0 (started m)))
@@ -191,37 +196,37 @@ unfolding Allowed GoesBy
 result_goes m (Ok a) allowed = line_goes m a allowed.1
 result_goes m (Err f) allowed = refl
 
-row_goes : (m : Moment) (row : Row) → IsKept m → GoesBy m (events_of_row m row) (came m row)
+piece_goes : (m : Moment) (piece : Piece) → IsKept m → GoesBy m (events_of_piece m piece) (came m piece)
 unfolding came GoesBy
-row_goes m (Whole line) is = result_goes m (line_of m.mesh (is_some m.world) line) (line_allowed m.mesh (is_some m.world) line is.mesh.few)
-row_goes m Long is = refl
-row_goes m Beyond is = refl
+piece_goes m (Whole line) is = result_goes m (line_of m.mesh (is_some m.world) line) (line_allowed m.mesh (is_some m.world) line is.mesh.few)
+piece_goes m Long is = refl
+piece_goes m Beyond is = refl
 
 -- ---- whole runs
 
 -- the world of a moment, where the mesh came to be this before a world was made
-abbrev base : Moment → Nodes → World
-base m mesh = unwrap_or m.world (start Base (first_numbers mesh))
+abbrev pub base : Moment → Nodes → World
+base m mesh = unwrap_or m.world (start m.variant (first_numbers mesh))
 
 made_base : (o : Option World) (v w : World) → is_some o ≡ true → unwrap_or o v ≡ unwrap_or o w
 made_base None v w made = absurd (let P : ⊥ = cc in P)
 made_base (Some x) v w made = refl
 
-NotFull : Verdict → Type 0
+unfoldable pub NotFull : Verdict → Type 0
 NotFull v = (number : ℕ) → v ≢ FullAt number
 
 -- what was written from m on, where these events were done
-record Follows (m : Moment) (es : List Event) (w : Written) : Type 0 where
-  mesh : is_some m.world ≡ true → w.after.mesh ≡ m.mesh
-  low : m.sums.events ≤ w.after.sums.events
-  world : world_of w.after ≡ run (base m w.after.mesh) (take (w.after.sums.events - m.sums.events) es)
-  all : NotFull w.verdict → w.after.sums.events ≡ m.sums.events + length es
-  usual : AllByRecursion (IsUsual (length w.after.mesh)) es
+pub record Follows (m : Moment) (es : List Event) (w : Written) : Type 0 where
+  pub mesh : is_some m.world ≡ true → w.after.mesh ≡ m.mesh
+  pub low : m.sums.events ≤ w.after.sums.events
+  pub world : world_of w.after ≡ run (base m w.after.mesh) (take (w.after.sums.events - m.sums.events) es)
+  pub all : NotFull w.verdict → w.after.sums.events ≡ m.sums.events + length es
+  pub usual : AllByRecursion (IsEvent (length w.after.mesh)) es
 
 take_none : (k : ℕ) (es : List Event) → k ≡ 0 → take k es ≡ []
 take_none k es none = ap (λ n. take n es) none
 
--- where the run ends at a row
+-- where the run ends at a line
 ends_at : (m : Moment) (es : List Event) (w : Written) → w.after ≡ m → UsualList (length m.mesh) es → (NotFull w.verdict → es ≡ []) → Follows m es w
 unfolding UsualList
 ends_at m es w same usual none =
@@ -233,10 +238,10 @@ ends_at m es w same usual none =
       low = omega arith;
       world = world ∙ ap (base m) (sym mesh) ∙ sym (run_none (base m w.after.mesh)) ∙ ap (run (base m w.after.mesh)) (sym (take_none (w.after.sums.events - m.sums.events) es (omega arith)));
       all = λ not_full. let nothing : length es ≡ 0 = ap length (none not_full) in omega arith;
-      usual = subst (λ k. AllByRecursion (IsUsual k) es) (ap length (sym mesh)) usual;
+      usual = subst (λ k. AllByRecursion (IsEvent k) es) (ap length (sym mesh)) usual;
     }
 
--- after a row with no event
+-- after a line with no event
 quiet_follows : (m n : Moment) (es more : List Event) (w : Written) → Quiet m n es → Follows n more w → Follows m (es ++ more) w
 quiet_follows m n es more w quiet rest =
     let whole : es ++ more ≡ more = ap (λ l. l ++ more) quiet.none in
@@ -245,13 +250,14 @@ quiet_follows m n es more w quiet rest =
     subst (λ l. Follows m l w) (sym whole) (record {
       mesh = λ made. rest.mesh (ap is_some quiet.world ∙ made) ∙ quiet.mesh made;
       low = omega arith;
-      world = rest.world ∙ ap (λ o. run (unwrap_or o (start Base (first_numbers w.after.mesh))) (take (w.after.sums.events - n.sums.events) more)) quiet.world
+      world = rest.world
+          ∙ ap₂ (λ o v. run (unwrap_or o (start v (first_numbers w.after.mesh))) (take (w.after.sums.events - n.sums.events) more)) quiet.world quiet.variant
           ∙ ap (λ k. run (base m w.after.mesh) (take (w.after.sums.events - k) more)) count;
       all = λ not_full. let all = rest.all not_full in omega arith;
       usual = rest.usual;
     })
 
--- after a row with events
+-- after a line with events
 ran_follows : (m n : Moment) (es more : List Event) (w : Written) → Ran m n es → UsualList (length m.mesh) es → Follows n more w → Follows m (es ++ more) w
 unfolding UsualList
 ran_follows m n es more w ran usual rest =
@@ -261,7 +267,7 @@ ran_follows m n es more w ran usual rest =
     let k : ℕ = w.after.sums.events - n.sums.events in
     let sum : w.after.sums.events - m.sums.events ≡ length es + k = omega arith in
     let before : base n w.after.mesh ≡ run (base m w.after.mesh) es =
-    made_base n.world (start Base (first_numbers w.after.mesh)) (start Base (first_numbers n.mesh)) ran.made
+    made_base n.world (start n.variant (first_numbers w.after.mesh)) (start n.variant (first_numbers n.mesh)) ran.made
     ∙ ran.world ∙ ap (λ nodes. run (base m nodes) es) (sym mesh) in
     record {
       mesh = λ _. mesh;
@@ -269,7 +275,7 @@ ran_follows m n es more w ran usual rest =
       world = rest.world ∙ ap (λ x. run x (take k more)) before ∙ sym (run_append (base m w.after.mesh) es (take k more))
           ∙ ap (run (base m w.after.mesh)) (sym (take-append-add es more k)) ∙ ap (λ j. run (base m w.after.mesh) (take j (es ++ more))) (sym sum);
       all = λ not_full. let all = rest.all not_full in omega (arith, length-append es more);
-      usual = each_append (IsUsual (length w.after.mesh)) es more (subst (λ j. AllByRecursion (IsUsual j) es) (ap length (sym mesh)) usual) rest.usual;
+      usual = each_append (IsEvent (length w.after.mesh)) es more (subst (λ j. AllByRecursion (IsEvent j) es) (ap length (sym mesh)) usual) rest.usual;
     }
 
 goes_follows : (m : Moment) (es : List Event) (c : Came) (others : Moment → Written) (more : Moment → List Event) → GoesBy m es c → IsKeptCame c → UsualList (length m.mesh) es
@@ -284,41 +290,40 @@ goes_follows m es (On text n) others more (inr ran) kept usual rest =
 goes_follows m es (Refused why) others more none kept usual rest =
     let alone : es ++ [] ≡ es = append-nil es in
     subst (λ l. Follows m l (goes_on m (Refused why) others)) (sym alone) (ends_at m es (goes_on m (Refused why) others) refl usual (λ _. none))
-goes_follows m es (Over text e field) others more goes kept usual rest =
+goes_follows m es (Over text n e field) others more goes kept usual rest =
     let alone : es ++ [] ≡ es = append-nil es in
-    subst (λ l. Follows m l (goes_on m (Over text e field) others)) (sym alone)
-    (ends_at m es (goes_on m (Over text e field) others) refl usual (λ not_full. absurd (not_full (m.lines + 1) refl)))
+    subst (λ l. Follows m l (goes_on m (Over text n e field) others)) (sym alone)
+    (ends_at m es (goes_on m (Over text n e field) others) refl usual (λ not_full. absurd (not_full (m.lines + 1) refl)))
 
-follows : (m : Moment) (rows : List Row) → IsKept m → Follows m (events_from m rows) (text_from m rows)
+pub follows : (m : Moment) (pieces : List Piece) → IsKept m → Follows m (events_from m pieces) (text_from m pieces)
 unfolding events_from text_from UsualList
 follows m [] is = ends_at m [] (text_from m []) refl tt (λ _. refl)
-follows m (row ∷ rows) is =
-    goes_follows m (events_of_row m row) (came m row) (λ n. text_from n rows) (λ n. events_from n rows) (row_goes m row is) (row_kept m row is) (row_usual m row is)
-    (λ n kept. follows n rows kept)
+follows m (piece ∷ pieces) is =
+    goes_follows m (events_of_piece m piece) (came m piece) (λ n. text_from n pieces) (λ n. events_from n pieces) (piece_goes m piece is) (piece_kept m piece is) (piece_usual m piece is)
+    (λ n kept. follows n pieces kept)
 
-input_follows : (input : List ℕ) → Follows opening (events_of_input input) (text_of_input input)
-unfolding events_of_input text_of_input
-input_follows input = follows opening _ opening_kept
+input_follows : (v : Variant) (input : List ℕ) → Follows (opening v) (events_of_input v input) (text_of_input v input)
+unfolding events_of_input text_of_input text_on
+input_follows v input = follows (opening v) _ (opening_kept v)
 
 -- ---- the laws
 
 pub run_of_events : RunIsRunOfEvents
-run_of_events input =
-    let is = input_follows input in
-    let count : (text_of_input input).after.sums.events - 0 ≡ (text_of_input input).after.sums.events = omega arith in
-    is.world ∙ ap (λ k. world_after input k) count
+run_of_events v input =
+    let is = input_follows v input in
+    let count : (text_of_input v input).after.sums.events - 0 ≡ (text_of_input v input).after.sums.events = omega arith in
+    is.world ∙ ap (λ k. world_after v input k) count
 
 pub all_events_count : AllEventsCount
 unfolding NotFull
-all_events_count input not_full = let is = input_follows input in let all = is.all not_full in omega arith
+all_events_count v input not_full = let is = input_follows v input in let all = is.all not_full in omega arith
 
 pub events_are_of_mesh : EventsAreOfMesh
-events_are_of_mesh input =
-    let is = input_follows input in
-    each_map (IsUsual (length (mesh_of_input input))) (IsEvent (length (mesh_of_input input))) (λ e usual. usual.0) (events_of_input input) is.usual
+events_are_of_mesh v input = (input_follows v input).usual
 
-pub no_circles : NoCircles
-no_circles input k d = loop_free Base (first_numbers (mesh_of_input input)) (take k (events_of_input input)) d (all_positive (mesh_of_input input) (input_kept input).mesh)
+pub runs_are_loop_free : RunsAreLoopFree
+runs_are_loop_free v input k d =
+    loop_free v (first_numbers (mesh_of_input v input)) (take k (events_of_input v input)) d (all_positive (mesh_of_input v input) (input_kept v input).mesh)
 
 each_take : (P : Event → Type 0) (k : ℕ) (es : List Event) → AllByRecursion P es → AllByRecursion P (take k es)
 each_take P zero es all = tt
@@ -326,9 +331,10 @@ each_take P (suc k) [] all = tt
 each_take P (suc k) (e ∷ es) all = (all.0, each_take P k es all.1)
 
 pub run_keeps_invariant : RunKeepsInvariant
-run_keeps_invariant input k =
-    let mesh : Nodes = mesh_of_input input in
+run_keeps_invariant v input k =
+    let mesh : Nodes = mesh_of_input v input in
     let size : length (first_numbers mesh) ≡ length mesh = length-map mesh (λ p. p.1) in
-    let events : AllByRecursion (IsEvent (length (first_numbers mesh))) (take k (events_of_input input)) =
-    subst (λ n. AllByRecursion (IsEvent n) (take k (events_of_input input))) (sym size) (each_take (IsEvent (length mesh)) k (events_of_input input) (events_are_of_mesh input)) in
-    (run_keeps Base (first_numbers mesh) (take k (events_of_input input)) (all_positive mesh (input_kept input).mesh) events).0
+    let events : AllByRecursion (IsEvent (length (first_numbers mesh))) (take k (events_of_input v input)) =
+    subst (λ n. AllByRecursion (IsEvent n) (take k (events_of_input v input))) (sym size)
+    (each_take (IsEvent (length mesh)) k (events_of_input v input) (events_are_of_mesh v input)) in
+    (run_keeps v (first_numbers mesh) (take k (events_of_input v input)) (all_positive mesh (input_kept v input).mesh) events).0

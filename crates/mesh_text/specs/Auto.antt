@@ -4,25 +4,26 @@ use Rattle.mesh_base.specs.declared.events.Full.{Full}
 use Rattle.mesh_model.specs.Worlds.{Event, Outcome, Idle, Stops, Goes}
 use Rattle.mesh_model.specs.Choices.{pick}
 use Rattle.mesh_text.specs.Schedule.{Moment, world_of, outcome_at, stepped}
-use Rattle.mesh_text.specs.Lines.{line, labelled}
+use Rattle.mesh_grammar.specs.Written.{line, labelled}
 use Rattle.mesh_text.specs.Effects.{outcome_lines}
 
--- what came of the events: their text, how many there were, and the moment after them; or the text before an event that
--- is refused for a full counter, and that event
+-- what came of the events: their text, how many there were, and the moment after them; or the text
+-- before an event that is refused for a full counter, the moment at which it is, and that event
 pub data Ran : Type 0 where
   Ended : (text : List ℕ) (did : ℕ) (after : Moment) → Ran
-  Refused : (text : List ℕ) → Event → Full → Ran
+  Refused : (text : List ℕ) (at : Moment) → Event → Full → Ran
 
 -- a text before that of the others
 abbrev pub before : List ℕ → Ran → Ran
 before text (Ended others did after) = Ended (text ++ others) did after
-before text (Refused others e field) = Refused (text ++ others) e field
+before text (Refused others n e field) = Refused (text ++ others) n e field
 
 -- one chosen event, and then the others from the moment after it
 abbrev pub done_then : Moment → Event → Outcome → (Moment → Ran) → Ran
 done_then m e Idle others = before (outcome_lines m.mesh e Idle) (others (stepped m e))
-done_then m e (Stops x field) others = Refused [] e field
-done_then m e (Goes w happening) others = before (outcome_lines m.mesh e (Goes w happening)) (others (stepped m e))
+done_then m e (Stops x field) others = Refused [] m e field
+done_then m e (Goes w happening) others =
+    before (outcome_lines m.mesh e (Goes w happening)) (others (stepped m e))
 
 -- the event that is chosen, if any
 abbrev pub chosen_then : Moment → ℕ → Option Event → (Moment → Ran) → Ran

@@ -8,17 +8,22 @@ use Rattle.aodv_model.specs.Handlers.{Cast, Nothing, One, Many, All, Effect, Too
 use Rattle.mesh_model.specs.Worlds.{Copy, Event, Happening, Changed, Taken, Sent, CopyHeard, CopyLost, CopyDoubled, Outcome, Idle, Stops, Goes, members_below}
 use Rattle.mesh_meaning.specs.Events.{place_of}
 use Rattle.mesh_meaning.specs.Packets.{packet_of}
-use Rattle.mesh_text.specs.Lines.{line, labelled, name_of, hex, hex_byte, event_words}
+use Rattle.mesh_grammar.specs.Written.{line, labelled}
+use Rattle.mesh_text.specs.Lines.{name_of, hex, hex_byte, event_words}
 
 -- ---- data
 
--- a byte of a datum: from the space to the tilde it stands for itself, but for the backslash; any other is \x and its two digits
+-- a byte of a datum: from the space to the tilde it stands for itself, but for the backslash; any
+-- other is \x and its two digits
 abbrev pub shown_byte : ℕ → List ℕ
-shown_byte b = if nat_le 32 b && nat_le b 126 && not (b == 92) then b ∷ [] else codes "\\x" ++ hex_byte b
+shown_byte b =
+    if nat_le 32 b && nat_le b 126 && not (b == 92) then b ∷ [] else codes "\\x" ++ hex_byte b
 
 -- a datum of one node for another, after what became of it
 abbrev pub datum_text : List ℕ → Nodes → ℕ → ℕ → Body → List ℕ
-datum_text label mesh origin dest body = line (label ++ name_of mesh origin ++ 32 ∷ name_of mesh dest ++ 32 ∷ flat_map shown_byte body)
+datum_text label mesh origin dest body =
+    line (label ++ name_of mesh origin ++ 32 ∷ name_of mesh dest
+    ++ 32 ∷ flat_map shown_byte body)
 
 -- the datum of a message: only a data packet has one
 abbrev pub datum_in : List ℕ → Nodes → Message → List ℕ
@@ -75,32 +80,43 @@ broken_text mesh (Some y) = line (codes "  broken " ++ name_of mesh y)
 
 abbrev pub cast_text : Nodes → Cast → List ℕ
 cast_text mesh Nothing = []
-cast_text mesh (One y m) = line (codes "  sent one " ++ name_of mesh y ++ 32 ∷ hex (packet_of mesh m))
-cast_text mesh (Many s m) = line (codes "  sent many " ++ set_text mesh s ++ 32 ∷ hex (packet_of mesh m))
+cast_text mesh (One y m) =
+    line (codes "  sent one " ++ name_of mesh y ++ 32 ∷ hex (packet_of mesh m))
+cast_text mesh (Many s m) =
+    line (codes "  sent many " ++ set_text mesh s ++ 32 ∷ hex (packet_of mesh m))
 cast_text mesh (All m) = line (codes "  sent all " ++ hex (packet_of mesh m))
 
 -- the copies of a cast, by their numbers
 abbrev pub copies_text : Nodes → List Copy → List ℕ
 copies_text mesh [] = []
-copies_text mesh (c ∷ cs) = line (labelled (codes "  copy ") c.id ++ 32 ∷ name_of mesh c.to) ++ copies_text mesh cs
+copies_text mesh (c ∷ cs) =
+    line (labelled (codes "  copy ") c.id ++ 32 ∷ name_of mesh c.to) ++ copies_text mesh cs
 
 -- a failed unicast, what was cast, and its copies
 abbrev pub sent_text : Nodes → Effect → List Copy → List ℕ
-sent_text mesh e copies = broken_text mesh e.broken ++ cast_text mesh e.cast ++ copies_text mesh copies
+sent_text mesh e copies =
+    broken_text mesh e.broken ++ cast_text mesh e.cast ++ copies_text mesh copies
 
 -- ---- events
 
 -- a datum that node x took: delivered, dropped, or neither
 abbrev pub datum_fate : Nodes → ℕ → Took → Effect → List ℕ
-datum_fate mesh x took e = (if e.deliver then delivery_text mesh x took else []) ++ (if e.lost then drop_text mesh took else [])
+datum_fate mesh x took e =
+    (if e.deliver then delivery_text mesh x took else [])
+    ++ (if e.lost then drop_text mesh took else [])
 
 unfoldable pub happening_text : Nodes → ℕ → Happening → List ℕ
 happening_text mesh x Changed = []
-happening_text mesh x (Taken took e copies) = took_text mesh x took ++ datum_fate mesh x took e ++ sent_text mesh e copies
+happening_text mesh x (Taken took e copies) =
+    took_text mesh x took ++ datum_fate mesh x took e ++ sent_text mesh e copies
 happening_text mesh x (Sent e copies) = sent_text mesh e copies
-happening_text mesh x (CopyHeard from to) = line (codes "  heard " ++ name_of mesh from ++ 32 ∷ name_of mesh to)
-happening_text mesh x (CopyLost c) = line (codes "  lost " ++ name_of mesh c.from ++ 32 ∷ name_of mesh c.to) ++ datum_in (codes "  dropped ") mesh c.message
-happening_text mesh x (CopyDoubled c) = []
+happening_text mesh x (CopyHeard from to) =
+    line (codes "  heard " ++ name_of mesh from ++ 32 ∷ name_of mesh to)
+happening_text mesh x (CopyLost c) =
+    line (codes "  lost " ++ name_of mesh c.from ++ 32 ∷ name_of mesh c.to)
+    ++ datum_in (codes "  dropped ") mesh c.message
+happening_text mesh x (CopyDoubled id to parcel) =
+    line (labelled (codes "  copy ") id ++ 32 ∷ name_of mesh to)
 
 -- what came of an event at node x. A refused event isn't written
 abbrev pub outcome_text : Nodes → ℕ → Outcome → List ℕ

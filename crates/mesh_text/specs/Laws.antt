@@ -1,59 +1,152 @@
 -- The statements that this crate proves of its definitions.
-use Rattle.std.specs.Prelude.{◌≡◌, ◌≢◌, ◌≤◌, ◌+◌, ℕ, List, length, Bool, Ok}
+use Rattle.std.specs.Prelude.{◌≡◌, ◌≢◌, ◌≤◌, ◌+◌, ◌*◌, ℕ, List, ◌++◌, length, take, Bool, Ok, codes}
 use Rattle.std.specs.List.{AllByRecursion}
+use Rattle.mesh_base.specs.declared.limits.TheConstants.{MOST_NODES, MOST_EVENTS, LONGEST_INPUT}
+use Rattle.mesh_base.specs.declared.events.Full.{Full}
+use Rattle.mesh_base.specs.declared.events.Variant.{Variant}
 use Rattle.mesh_base.specs.Meshes.{Nodes, IsMesh}
 use Rattle.mesh_model.specs.Walks.{Cycle}
-use Rattle.mesh_model.specs.Places.{IsEvent}
+use Rattle.mesh_model.specs.Worlds.{Event, Stops, run, start, first_numbers}
+use Rattle.mesh_model.specs.Places.{IsInMesh, IsEvent}
 use Rattle.mesh_model.specs.Invariants.{IsInvariant}
-use Rattle.mesh_text.specs.Schedule.{Accepted, line_of, world_of}
-use Rattle.mesh_text.specs.Lines.{words_of}
-use Rattle.mesh_text.specs.Text.{FullAt, text_of_input}
-use Rattle.mesh_text.specs.Accounts.{IsBalanced}
-use Rattle.mesh_text.specs.Runs.{events_of_input, mesh_of_input, world_after}
-use Rattle.mesh_text.specs.Ranges.{HaveAddresses, IsInRange, IsInTime}
+use Rattle.mesh_text.specs.Schedule.{Moment, Accepted, Chooses, line_of, world_of, started, stepped, outcome_at}
+use Rattle.mesh_grammar.specs.Lines.{Piece, Whole, complete}
+use Rattle.mesh_text.specs.Lines.{words_of, done_line}
+use Rattle.mesh_text.specs.Text.{Over, came, Finished, FullAt, lines_before, text_on, text_of_input}
+use Rattle.mesh_text.specs.Accounts.{IsBalanced, lines_with}
+use Rattle.mesh_text.specs.Runs.{events_of_piece, events_of_input, moment_after, front_of_input, moment_at, mesh_of_input, world_after}
+use Rattle.mesh_text.specs.Ranges.{IsInRange, IsInTime, IsEcho}
 
 -- ---- lines
 
 -- what a line is read as is in its range
 abbrev pub ReadLineIsInRange : Type 0
-ReadLineIsInRange = (mesh : Nodes) (started : Bool) (line : List ℕ) (a : Accepted) → length mesh ≤ 200 → line_of mesh started line ≡ Ok a
+ReadLineIsInRange = (mesh : Nodes) (started : Bool) (line : List ℕ) (a : Accepted)
+    → length mesh ≤ MOST_NODES → line_of mesh started line ≡ Ok a
     → IsInRange mesh a × IsInTime started a
 
 -- a line, as it is written back, is read as that line
 abbrev pub PrintedLineParses : Type 0
-PrintedLineParses = (mesh : Nodes) (started : Bool) (a : Accepted) → IsMesh mesh → HaveAddresses mesh → IsInRange mesh a → IsInTime started a
+PrintedLineParses = (mesh : Nodes) (started : Bool) (a : Accepted)
+    → IsMesh mesh → IsInRange mesh a → IsInTime started a
     → line_of mesh started (words_of mesh a) ≡ Ok a
+
+-- a line that is read is written back as it stands, but for `node ADDR`
+abbrev pub ReadLineIsWrittenAsItWas : Type 0
+ReadLineIsWrittenAsItWas = (mesh : Nodes) (started : Bool) (line : List ℕ) (a : Accepted)
+    → line_of mesh started line ≡ Ok a → IsEcho mesh line a
+
+-- a line of chosen events has at least 4 bytes
+abbrev pub AutoLineHasFourBytes : Type 0
+AutoLineHasFourBytes = (mesh : Nodes) (started : Bool) (line : List ℕ) (count : ℕ)
+    → line_of mesh started line ≡ Ok (Chooses count) → 4 ≤ length line
+
+-- so a line does at most a quarter of the most events for each of its bytes
+abbrev pub LineHasFewEvents : Type 0
+LineHasFewEvents = (m : Moment) (line : List ℕ) → length m.mesh ≤ MOST_NODES
+    → 4 * length (events_of_piece m (Whole line)) ≤ MOST_EVENTS * length line
 
 -- ---- runs
 
--- after the last allowed line of any input each datum that was given was delivered, waits in a store or a queue, is in
--- flight, or was dropped
+-- an event of the mesh keeps the account
+abbrev pub EventKeepsAccount : Type 0
+EventKeepsAccount = (m : Moment) (e : Event) → IsInMesh (world_of m)
+    → IsEvent (length (world_of m).nodes) e → IsBalanced m → IsBalanced (stepped m e)
+
+-- after the last allowed line of any input each datum that was given or doubled was delivered,
+-- waits in a store or a queue, is in flight, or was dropped
 abbrev pub DataAreAccountedFor : Type 0
-DataAreAccountedFor = (input : List ℕ) → IsBalanced (text_of_input input).after
+DataAreAccountedFor = (variant : Variant) (input : List ℕ)
+    → IsBalanced (text_of_input variant input).after
 
--- no event is idle and gives a datum; and no more data were delivered and dropped than were given
+-- unless a full counter has ended the run, its text names each datum that was delivered or dropped,
+-- in a line each
+abbrev pub DataAreNamed : Type 0
+DataAreNamed = (variant : Variant) (input : List ℕ)
+    → ((number : ℕ) → (text_of_input variant input).verdict ≢ FullAt number)
+    → let w = text_of_input variant input in
+    (lines_with (codes "  delivered ") w.lines ≡ w.after.sums.delivered)
+    × (lines_with (codes "  dropped ") w.lines ≡ w.after.sums.lost)
+
+-- no event is idle and gives or doubles a datum; and no more data were delivered and dropped than
+-- were given and doubled
 abbrev pub SumsAreInOrder : Type 0
-SumsAreInOrder = (input : List ℕ) →
-    let sums = (text_of_input input).after.sums in
-    (sums.idle + sums.given ≤ sums.events) × (sums.delivered + sums.lost ≤ sums.given)
+SumsAreInOrder = (variant : Variant) (input : List ℕ) →
+    let sums = (text_of_input variant input).after.sums in
+    (sums.idle + sums.given + sums.copied ≤ sums.events)
+    × (sums.delivered + sums.lost ≤ sums.given + sums.copied)
 
--- the world after the last allowed line is the one after as many of the input's events as were counted
+-- the world after the last allowed line is the one after as many of the input's events as were
+-- counted
 abbrev pub RunIsRunOfEvents : Type 0
-RunIsRunOfEvents = (input : List ℕ) → world_of (text_of_input input).after ≡ world_after input (text_of_input input).after.sums.events
+RunIsRunOfEvents = (variant : Variant) (input : List ℕ)
+    → world_of (text_of_input variant input).after
+    ≡ world_after variant input (text_of_input variant input).after.sums.events
+
+-- the same of each moment before: after the first i lines, which were all allowed, and k events of
+-- the next
+abbrev pub MomentIsOfRun : Type 0
+MomentIsOfRun = (variant : Variant) (input : List ℕ) (i k : ℕ)
+    → (front_of_input variant input i).verdict ≡ Finished
+    → let m = moment_at variant input i k in
+    world_of m
+    ≡ run (start variant (first_numbers m.mesh))
+    (take m.sums.events (events_of_input variant input))
 
 -- unless a full counter has ended the run, each event of the input was counted
 abbrev pub AllEventsCount : Type 0
-AllEventsCount = (input : List ℕ) → ((number : ℕ) → (text_of_input input).verdict ≢ FullAt number)
-    → (text_of_input input).after.sums.events ≡ length (events_of_input input)
+AllEventsCount = (variant : Variant) (input : List ℕ)
+    → ((number : ℕ) → (text_of_input variant input).verdict ≢ FullAt number)
+    → (text_of_input variant input).after.sums.events ≡ length (events_of_input variant input)
 
 -- each event of an input is one of its mesh
 abbrev pub EventsAreOfMesh : Type 0
-EventsAreOfMesh = (input : List ℕ) → AllByRecursion (IsEvent (length (mesh_of_input input))) (events_of_input input)
+EventsAreOfMesh = (variant : Variant) (input : List ℕ)
+    → AllByRecursion (IsEvent (length (mesh_of_input variant input)))
+    (events_of_input variant input)
 
--- after any number of an input's events no destination's valid routes go round
-abbrev pub NoCircles : Type 0
-NoCircles = (input : List ℕ) (k d : ℕ) → ¬ (Cycle (world_after input k) d)
+-- after any number of an input's events no destination's valid routes have a loop
+abbrev pub RunsAreLoopFree : Type 0
+RunsAreLoopFree = (variant : Variant) (input : List ℕ) (k d : ℕ)
+    → ¬ (Cycle (world_after variant input k) d)
 
--- and the world has the invariant
+-- nor have they one at any moment: after the first i lines, and k events of the next
+abbrev pub MomentIsLoopFree : Type 0
+MomentIsLoopFree = (variant : Variant) (input : List ℕ) (i k d : ℕ)
+    → ¬ (Cycle (world_of (moment_at variant input i k)) d)
+
+-- after any number of an input's events the world has the invariant
 abbrev pub RunKeepsInvariant : Type 0
-RunKeepsInvariant = (input : List ℕ) (k : ℕ) → IsInvariant (world_after input k)
+RunKeepsInvariant = (variant : Variant) (input : List ℕ) (k : ℕ)
+    → IsInvariant (world_after variant input k)
+
+-- ---- runs that go on
+
+-- the run of complete lines and of what follows is that of the lines, and then, where they were all
+-- allowed, that of what follows from their last moment on
+abbrev pub RunGoesOn : Type 0
+RunGoesOn = (m : Moment) (front rest : List ℕ) → complete front ≡ front
+    → length (front ++ rest) ≤ LONGEST_INPUT → (text_on m front).verdict ≡ Finished
+    → text_on m (front ++ rest)
+    ≡ lines_before (text_on m front).lines (text_on (text_on m front).after rest)
+
+-- on any input the steps rise as the events do that are counted
+abbrev pub StepsAreEvents : Type 0
+StepsAreEvents = (m : Moment) (input : List ℕ) →
+    let n = (text_on m input).after in
+    n.steps + m.sums.events ≡ m.steps + n.sums.events
+
+-- where a full counter ends a line, the event is refused at the moment after some of the line's
+-- events
+abbrev pub RefusedEventStands : Type 0
+RefusedEventStands = (m : Moment) (piece : Piece) (text : List ℕ) (n : Moment) (e : Event)
+    (field : Full) → came m piece ≡ Over text n e field
+    → (k : ℕ) × (n ≡ moment_after (started m) (take k (events_of_piece m piece)))
+    × (node : ℕ) × (outcome_at n e ≡ Stops node field)
+
+-- ---- the last line
+
+-- the last line of a finished run tells what was counted at its last moment, and what is there then
+abbrev pub LastLineIsOfLastMoment : Type 0
+LastLineIsOfLastMoment = (m : Moment) (input : List ℕ) → (text_on m input).verdict ≡ Finished
+    → (text_on m input).last ≡ done_line (text_on m input).after

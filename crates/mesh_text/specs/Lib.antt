@@ -1,6 +1,4 @@
 -- Read in this order.
--- Grammar: what a line says by itself, and the faults of a line by itself.
-pub mod Grammar
 -- Schedule: the moments of a run, the faults of a line at its place, and what an event leaves.
 pub mod Schedule
 -- Lines: the text of a schedule's lines, as they are written back, and of the last line of a run.
@@ -13,9 +11,9 @@ pub mod Tables
 pub mod Auto
 -- Text: the lines of an input one after another, the whole text and its verdict.
 pub mod Text
--- Accounts: what becomes of the data that were given.
+-- Accounts: what becomes of the data that were given, and the lines that name them.
 pub mod Accounts
--- Runs: the events that an input's lines do, and the worlds that they lead through.
+-- Runs: the events that an input's lines do, and the moments and worlds that they lead through.
 pub mod Runs
 -- Ranges: the lines that have a text which is read back.
 pub mod Ranges

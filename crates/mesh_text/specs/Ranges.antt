@@ -1,41 +1,33 @@
--- The lines that have a text which is read back: the nodes that they name are in the mesh, and their numbers and texts are
--- those that a line may have.
-use Rattle.std.specs.Prelude.{◌≡◌, ℕ, ◌^◌, ◌<◌, ◌≤◌, ◌≢◌, Bool, false, List, length, None, ⊤}
-use Rattle.std.specs.List.{AllByRecursion}
-use Rattle.mesh_base.specs.Meshes.{Nodes, addr_at, index_of}
-use Rattle.mesh_model.specs.Worlds.{Event, Give, Turn, Send, Ask, Link, Cut, Deliver, Lose, Double}
-use Rattle.mesh_text.specs.Grammar.{greatest_id, greatest_first, most_events}
+-- The lines that have a text which is read back: the nodes that they name are in the mesh, and
+-- their numbers and texts are those that a line may have.
+use Rattle.std.specs.Prelude.{◌≡◌, ℕ, ◌^◌, ◌<◌, ◌≤◌, ◌⊎◌, Bool, true, false, List, length, None, codes, ⊤}
+use Rattle.mesh_base.specs.declared.limits.TheConstants.{MOST_NODES, MOST_EVENTS}
+use Rattle.mesh_base.specs.Meshes.{Nodes, index_of}
+use Rattle.mesh_model.specs.Worlds.{Event}
+use Rattle.mesh_model.specs.Places.{IsEvent}
+use Rattle.mesh_grammar.specs.Words.{is_blank}
+use Rattle.mesh_grammar.specs.Forms.{Arguments, OneAddress, OneNumber, AddressesAndText, greatest_first, IsText}
+use Rattle.mesh_grammar.specs.Commands.{greatest_id}
+use Rattle.mesh_grammar.specs.Written.{written}
 use Rattle.mesh_text.specs.Schedule.{Accepted, Nothing, NewNode, Does, Chooses, ShowsNode, ShowsRoute, ShowsFlight}
+use Rattle.mesh_text.specs.Lines.{event_spelling, words_of}
 
--- each node's address has 32 bits
-abbrev pub HaveAddresses : Nodes → Type 0
-HaveAddresses mesh = (i : ℕ) → i < length mesh → addr_at mesh i < 2 ^ 32
+-- arguments that the line of an event may have: the number of a copy, from 1; and a datum's text
+abbrev pub AreSpellable : Arguments ℕ → Type 0
+AreSpellable (OneNumber id) = (1 ≤ id) × (id ≤ greatest_id)
+AreSpellable (AddressesAndText a b text) = IsText text
+AreSpellable others = ⊤
 
--- 1 to 512 bytes from the space to the tilde
-abbrev pub IsText : List ℕ → Type 0
-IsText body = (1 ≤ length body) × (length body ≤ 512) × AllByRecursion (λ b. (32 ≤ b) × (b ≤ 126)) body
-
--- the number of a copy, in a mesh of this size: there is a node
-abbrev pub IsCopyLine : ℕ → ℕ → Type 0
-IsCopyLine size id = (1 ≤ size) × (1 ≤ id) × (id ≤ greatest_id)
-
--- an event that a line may be, in a mesh of this size. No line doubles a copy
-abbrev pub IsEventLine : ℕ → Event → Type 0
-IsEventLine size (Give x d body) = (x < size) × (d < size) × IsText body
-IsEventLine size (Turn x) = x < size
-IsEventLine size (Send x d) = (x < size) × (d < size)
-IsEventLine size (Ask x d) = (x < size) × (d < size)
-IsEventLine size (Link a b) = (a < size) × (b < size) × (a ≢ b)
-IsEventLine size (Cut a b) = (a < size) × (b < size) × (a ≢ b)
-IsEventLine size (Deliver id) = IsCopyLine size id
-IsEventLine size (Lose id) = IsCopyLine size id
-IsEventLine size (Double id) = ⊥
+-- an event that a line may be, in this mesh. There is a node
+abbrev pub IsEventLine : Nodes → Event → Type 0
+IsEventLine mesh e =
+    (1 ≤ length mesh) × IsEvent (length mesh) e × AreSpellable (event_spelling mesh e).arguments
 
 -- a node that isn't there yet
 pub record IsNewNode (mesh : Nodes) (address first : ℕ) : Type 0 where
   pub fits : address < 2 ^ 32
   pub absent : index_of mesh address ≡ None
-  pub few : length mesh < 200
+  pub few : length mesh < MOST_NODES
   pub positive : 1 ≤ first
   pub most : first ≤ greatest_first
 
@@ -43,8 +35,8 @@ pub record IsNewNode (mesh : Nodes) (address first : ℕ) : Type 0 where
 abbrev pub IsInRange : Nodes → Accepted → Type 0
 IsInRange mesh Nothing = ⊤
 IsInRange mesh (NewNode address first) = IsNewNode mesh address first
-IsInRange mesh (Does e) = IsEventLine (length mesh) e
-IsInRange mesh (Chooses count) = (1 ≤ length mesh) × (1 ≤ count) × (count ≤ most_events)
+IsInRange mesh (Does e) = IsEventLine mesh e
+IsInRange mesh (Chooses count) = (1 ≤ length mesh) × (1 ≤ count) × (count ≤ MOST_EVENTS)
 IsInRange mesh (ShowsNode x) = x < length mesh
 IsInRange mesh (ShowsRoute x d) = (x < length mesh) × (d < length mesh)
 IsInRange mesh ShowsFlight = 1 ≤ length mesh
@@ -53,3 +45,12 @@ IsInRange mesh ShowsFlight = 1 ≤ length mesh
 abbrev pub IsInTime : Bool → Accepted → Type 0
 IsInTime started (NewNode address first) = started ≡ false
 IsInTime started others = ⊤
+
+-- the line that was read is as it is written back, but that it may name a node without its number,
+-- which is 1 then
+abbrev pub IsEcho : Nodes → List ℕ → Accepted → Type 0
+IsEcho mesh line Nothing = is_blank line ≡ true
+IsEcho mesh line (NewNode address first) =
+    (line ≡ words_of mesh (NewNode address first))
+    ⊎ ((first ≡ 1) × (line ≡ written (codes "node") (OneAddress address)))
+IsEcho mesh line other = line ≡ words_of mesh other

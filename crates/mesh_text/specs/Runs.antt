@@ -1,17 +1,19 @@
--- The events that the lines of an input do, one after another, and the worlds that they lead through.
-use Rattle.std.specs.Prelude.{ℕ, zero, suc, List, [], ◌∷◌, ◌++◌, Option, Some, None, Result, Ok, Err, length, nat_lt, take, is_some}
-use Rattle.mesh_base.specs.Parts.{parts}
+-- The events that the lines of an input do, one after another, and the moments and worlds that they
+-- lead through.
+use Rattle.std.specs.Prelude.{ℕ, zero, suc, List, [], ◌∷◌, ◌++◌, Option, Some, None, Result, Ok, Err, take, is_some, slice_get}
 use Rattle.mesh_base.specs.Meshes.{Nodes}
-use Rattle.mesh_base.specs.declared.events.Variant.TheVariants.{Base}
+use Rattle.mesh_base.specs.declared.events.Variant.{Variant}
 use Rattle.mesh_model.specs.Worlds.{World, Event, Outcome, Idle, Stops, Goes, run, start, first_numbers}
 use Rattle.mesh_model.specs.Choices.{pick}
-use Rattle.mesh_text.specs.declared.fault.LineFault.{LineFault}
+use Rattle.mesh_grammar.specs.declared.fault.LineFault.{LineFault}
 use Rattle.mesh_text.specs.Schedule.{Moment, Accepted, Does, Chooses, line_of, started, stepped, outcome_at, world_of, opening}
-use Rattle.mesh_text.specs.Text.{Came, On, Refused, Over, came, Row, Whole, Long, Beyond, rows_of, limit, text_of_input}
+use Rattle.mesh_grammar.specs.Lines.{Piece, Whole, Long, Beyond, pieces_of_input}
+use Rattle.mesh_text.specs.Text.{Came, On, Refused, Over, came, Written, text_from, text_of_input}
 
 -- ---- the events of a line
 
--- an event, and then the others from the moment after it; an event that is refused for a full counter is the last
+-- an event, and then the others from the moment after it; an event that is refused for a full
+-- counter is the last
 abbrev pub event_then : Moment → Event → Outcome → (Moment → List Event) → List Event
 event_then m e Idle others = e ∷ others (stepped m e)
 event_then m e (Stops x field) others = e ∷ []
@@ -37,32 +39,59 @@ abbrev pub events_read : Moment → Result Accepted LineFault → List Event
 events_read m (Ok a) = events_of_line m a
 events_read m (Err fault) = []
 
-abbrev pub events_of_row : Moment → Row → List Event
-events_of_row m (Whole line) = events_read m (line_of m.mesh (is_some m.world) line)
-events_of_row m Long = []
-events_of_row m Beyond = []
+abbrev pub events_of_piece : Moment → Piece → List Event
+events_of_piece m (Whole line) = events_read m (line_of m.mesh (is_some m.world) line)
+events_of_piece m Long = []
+events_of_piece m Beyond = []
 
 -- ---- the events of an input
 
--- those of the rows that follow, unless the run has ended
+-- those of the lines that follow, unless the run has ended
 abbrev pub events_after : Came → (Moment → List Event) → List Event
 events_after (On text n) others = others n
 events_after (Refused why) others = []
-events_after (Over text e field) others = []
+events_after (Over text n e field) others = []
 
-unfoldable pub events_from : Moment → List Row → List Event
+unfoldable pub events_from : Moment → List Piece → List Event
 events_from m [] = []
-events_from m (row ∷ rows) = events_of_row m row ++ events_after (came m row) (λ n. events_from n rows)
+events_from m (piece ∷ pieces) =
+    events_of_piece m piece ++ events_after (came m piece) (λ n. events_from n pieces)
 
-unfoldable pub events_of_input : List ℕ → List Event
-events_of_input input = events_from opening (rows_of (nat_lt limit (length input)) (parts 10 (take limit input)))
+unfoldable pub events_of_input : Variant → List ℕ → List Event
+events_of_input variant input = events_from (opening variant) (pieces_of_input input)
+
+-- ---- the moments
+
+-- the moment after these events
+unfoldable pub moment_after : Moment → List Event → Moment
+moment_after m [] = m
+moment_after m (e ∷ es) = moment_after (stepped m e) es
+
+-- after the first k events of a line
+abbrev pub moment_in : Moment → Piece → ℕ → Moment
+moment_in m piece k = moment_after m (take k (events_of_piece m piece))
+
+abbrev pub moment_in_next : Moment → Option Piece → ℕ → Moment
+moment_in_next m None k = m
+moment_in_next m (Some piece) k = moment_in m piece k
+
+-- the run of the first i lines of an input
+abbrev pub front_of_input : Variant → List ℕ → ℕ → Written
+front_of_input variant input i = text_from (opening variant) (take i (pieces_of_input input))
+
+-- after those lines, and k events of the next
+abbrev pub moment_at : Variant → List ℕ → ℕ → ℕ → Moment
+moment_at variant input i k =
+    moment_in_next (front_of_input variant input i).after (slice_get (pieces_of_input input) i) k
 
 -- ---- the worlds
 
 -- the nodes of an input
-abbrev pub mesh_of_input : List ℕ → Nodes
-mesh_of_input input = (text_of_input input).after.mesh
+abbrev pub mesh_of_input : Variant → List ℕ → Nodes
+mesh_of_input variant input = (text_of_input variant input).after.mesh
 
 -- the world after the first k events of an input
-abbrev pub world_after : List ℕ → ℕ → World
-world_after input k = run (start Base (first_numbers (mesh_of_input input))) (take k (events_of_input input))
+abbrev pub world_after : Variant → List ℕ → ℕ → World
+world_after variant input k =
+    run (start variant (first_numbers (mesh_of_input variant input)))
+    (take k (events_of_input variant input))

@@ -2,30 +2,52 @@
 use Rattle.std.specs.Prelude.{ℕ, ◌+◌, ◌==◌, Bool, List, [], ◌∷◌, Option, None, Some, Result, Ok, Err, length, if◌then◌else◌, is_some}
 use Rattle.std.specs.Option.{unwrap_or}
 use Rattle.mesh_base.specs.Meshes.{Nodes, index_of}
-use Rattle.mesh_base.specs.declared.events.Variant.TheVariants.{Base}
-use Rattle.mesh_model.specs.Worlds.{World, Event, Give, Turn, Send, Ask, Link, Cut, Deliver, Lose, Outcome, Idle, Stops, Goes, step, after, start, first_numbers}
-use Rattle.mesh_model.specs.Accounts.{any, given, delivered, dropped}
-use Rattle.mesh_text.specs.declared.fault.LineFault.{LineFault}
-use Rattle.mesh_text.specs.declared.fault.LineFault.TheVariants.{Late, Early, TwiceNode, TooManyNodes, Unknown, Same}
-use Rattle.mesh_text.specs.Grammar.{Mention, Shape, Blank, NodeLine, LinkLine, CutLine, DataLine, TurnLine, SendLine, AskLine, DeliverLine, LoseLine, AutoLine, ShowLine, RouteLine, FlightLine, with_argument, shape_of}
+use Rattle.mesh_base.specs.declared.events.Variant.{Variant}
+use Rattle.mesh_model.specs.Worlds.{World, Event, Give, Turn, Send, Ask, Link, Cut, Deliver, Lose, Double, Outcome, Idle, Stops, Goes, step, after, start, first_numbers}
+use Rattle.mesh_model.specs.Accounts.{any, given, doubled_at, delivered, dropped}
+use Rattle.mesh_base.specs.declared.limits.TheConstants.{MOST_NODES}
+use Rattle.mesh_grammar.specs.declared.command.Command.{Command}
+use Rattle.mesh_grammar.specs.declared.command.Command.TheVariants as command
+use Rattle.mesh_grammar.specs.declared.fault.LineFault.{LineFault}
+use Rattle.mesh_grammar.specs.declared.fault.LineFault.TheVariants.{Count, Late, Early, TwiceNode, TooManyNodes, Unknown, Same}
+use Rattle.mesh_grammar.specs.Words.{Mention, with_argument}
+use Rattle.mesh_grammar.specs.Forms.{Arguments, NoArgument, OneAddress, TwoAddresses, OneNumber, NumberedAddress, AddressesAndText}
+use Rattle.mesh_grammar.specs.Scripts.{Shape}
+use Rattle.mesh_grammar.specs.Commands.{shape_of}
 
--- what was counted: events, those that were idle, data given, delivered and dropped
+-- what was counted: events, those that were idle, data given, delivered and dropped, and data
+-- packets that were doubled
 pub record Sums : Type 0 where
   pub events : ℕ
   pub idle : ℕ
   pub given : ℕ
   pub delivered : ℕ
   pub lost : ℕ
+  pub copied : ℕ
 
--- a moment of a run: its mesh, its world once a line has made one, what was counted, and how many lines were read
+-- a moment of a run: its variant of the protocol and its mesh, its world once a line has made one,
+-- what was counted, how many lines were read, and how many events the world has gone through
 pub record Moment : Type 0 where
+  pub variant : Variant
   pub mesh : Nodes
   pub world : Option World
   pub sums : Sums
   pub lines : ℕ
+  pub steps : ℕ
 
-abbrev pub opening : Moment
-opening = record { mesh = []; world = None; sums = record { events = 0; idle = 0; given = 0; delivered = 0; lost = 0 }; lines = 0 }
+abbrev pub no_sums : Sums
+no_sums = record { events = 0; idle = 0; given = 0; delivered = 0; lost = 0; copied = 0 }
+
+-- before the first line
+abbrev pub opening : Variant → Moment
+opening variant = record {
+  variant = variant;
+  mesh = [];
+  world = None;
+  sums = no_sums;
+  lines = 0;
+  steps = 0;
+}
 
 -- ---- whether a line is allowed
 
@@ -50,54 +72,75 @@ after_nodes [] r = Err Early
 after_nodes (p ∷ ps) r = r
 
 -- an address as a node of the mesh
-abbrev pub known : Nodes → Mention → (ℕ → Result Accepted LineFault) → Result Accepted LineFault
+abbrev pub known : {B : Type 0} → Nodes → Mention → (ℕ → Result B LineFault) → Result B LineFault
 known mesh a next = with_argument (index_of mesh a.address) (Unknown a.span) next
 
-abbrev pub known_two : Nodes → Mention → Mention → (ℕ → ℕ → Accepted) → Result Accepted LineFault
-known_two mesh a b line = after_nodes mesh (known mesh a (λ x. known mesh b (λ y. Ok (line x y))))
+-- arguments with each node by its index. The leftmost address that is no node is the fault
+abbrev pub placed : Nodes → Arguments Mention → Result (Arguments ℕ) LineFault
+placed mesh NoArgument = Ok NoArgument
+placed mesh (OneAddress a) = known mesh a (λ x. Ok (OneAddress x))
+placed mesh (TwoAddresses a b) = known mesh a (λ x. known mesh b (λ y. Ok (TwoAddresses x y)))
+placed mesh (OneNumber n) = Ok (OneNumber n)
+placed mesh (NumberedAddress a first) = known mesh a (λ x. Ok (NumberedAddress x first))
+placed mesh (AddressesAndText a b text) =
+    known mesh a (λ x. known mesh b (λ y. Ok (AddressesAndText x y text)))
 
--- two nodes that are not the same
-abbrev pub known_pair : Nodes → Mention → Mention → (ℕ → ℕ → Event) → Result Accepted LineFault
-known_pair mesh a b event = after_nodes mesh (known mesh a (λ x. known mesh b (λ y. if x == y then Err Same else Ok (Does (event x y)))))
+-- an event of two nodes that are not the same
+abbrev pub of_pair : ℕ → ℕ → Event → Result Accepted LineFault
+of_pair a b e = if a == b then Err Same else Ok (Does e)
+
+-- the line that a command makes of its arguments, with each node by its index. Arguments of another
+-- command make none
+abbrev pub made : Command → Arguments ℕ → Result Accepted LineFault
+made command.Link (TwoAddresses a b) = of_pair a b (Link a b)
+made command.Cut (TwoAddresses a b) = of_pair a b (Cut a b)
+made command.Data (AddressesAndText x d body) = Ok (Does (Give x d body))
+made command.Turn (OneAddress x) = Ok (Does (Turn x))
+made command.Send (TwoAddresses x d) = Ok (Does (Send x d))
+made command.Ask (TwoAddresses x d) = Ok (Does (Ask x d))
+made command.Deliver (OneNumber id) = Ok (Does (Deliver id))
+made command.Lose (OneNumber id) = Ok (Does (Lose id))
+made command.Copy (OneNumber id) = Ok (Does (Double id))
+made command.Auto (OneNumber count) = Ok (Chooses count)
+made command.Show (OneAddress x) = Ok (ShowsNode x)
+made command.Route (TwoAddresses x d) = Ok (ShowsRoute x d)
+made command.Flight NoArgument = Ok ShowsFlight
+made others arguments = Err Count
 
 -- a node that isn't there yet, before the run has started
 abbrev pub new_node : Nodes → Bool → Mention → ℕ → Result Accepted LineFault
 new_node mesh started a first =
     if started then Err Late else
     if is_some (index_of mesh a.address) then Err (TwiceNode a.span) else
-    if length mesh == 200 then Err TooManyNodes else
+    if length mesh == MOST_NODES then Err TooManyNodes else
     Ok (NewNode a.address first)
-
--- a line of this shape with this mesh. A run has started once a line was neither blank nor a `node` line
-unfoldable pub accepted : Nodes → Bool → Shape → Result Accepted LineFault
-accepted mesh started Blank = Ok Nothing
-accepted mesh started (NodeLine a first) = new_node mesh started a first
-accepted mesh started (LinkLine a b) = known_pair mesh a b Link
-accepted mesh started (CutLine a b) = known_pair mesh a b Cut
-accepted mesh started (DataLine a b body) = known_two mesh a b (λ x y. Does (Give x y body))
-accepted mesh started (TurnLine a) = after_nodes mesh (known mesh a (λ x. Ok (Does (Turn x))))
-accepted mesh started (SendLine a b) = known_two mesh a b (λ x y. Does (Send x y))
-accepted mesh started (AskLine a b) = known_two mesh a b (λ x y. Does (Ask x y))
-accepted mesh started (DeliverLine id) = after_nodes mesh (Ok (Does (Deliver id)))
-accepted mesh started (LoseLine id) = after_nodes mesh (Ok (Does (Lose id)))
-accepted mesh started (AutoLine count) = after_nodes mesh (Ok (Chooses count))
-accepted mesh started (ShowLine a) = after_nodes mesh (known mesh a (λ x. Ok (ShowsNode x)))
-accepted mesh started (RouteLine a b) = known_two mesh a b ShowsRoute
-accepted mesh started FlightLine = after_nodes mesh (Ok ShowsFlight)
 
 abbrev pub result_and_then : {A B E : Type 0} → (A → Result B E) → Result A E → Result B E
 result_and_then next (Ok x) = next x
 result_and_then next (Err e) = Err e
 
+-- a command and its arguments with this mesh: one more node, or a line about the nodes that are
+-- there. A run has started once a line was neither blank nor a `node` line
+abbrev pub accepted : Nodes → Bool → Command → Arguments Mention → Result Accepted LineFault
+accepted mesh started command (NumberedAddress a first) = new_node mesh started a first
+accepted mesh started command others =
+    after_nodes mesh (result_and_then (made command) (placed mesh others))
+
+abbrev pub accepted_shape : Nodes → Bool → Option (Shape Command Mention)
+    → Result Accepted LineFault
+accepted_shape mesh started None = Ok Nothing
+accepted_shape mesh started (Some s) = accepted mesh started s.command s.arguments
+
 -- what a line comes to: its own faults first, then those of its place
 unfoldable pub line_of : Nodes → Bool → List ℕ → Result Accepted LineFault
-line_of mesh started line = result_and_then (accepted mesh started) (shape_of line)
+line_of mesh started line = result_and_then (accepted_shape mesh started) (shape_of line)
 
 -- ---- what lines and events leave
 
--- the world of a moment. The first line that is allowed, and is neither blank nor a `node` line, makes it
+-- the world of a moment. The first line that is allowed, and is neither blank nor a `node` line,
+-- makes it
 abbrev pub world_of : Moment → World
-world_of m = unwrap_or m.world (start Base (first_numbers m.mesh))
+world_of m = unwrap_or m.world (start m.variant (first_numbers m.mesh))
 
 -- the same moment, with its world made
 abbrev pub started : Moment → Moment
@@ -116,15 +159,20 @@ summed s e o = record {
   given = s.given + given any e o;
   delivered = s.delivered + delivered any e o;
   lost = s.lost + dropped any e o;
+  copied = s.copied + doubled_at o;
 }
 
 -- what comes of an event at a moment
 abbrev pub outcome_at : Moment → Event → Outcome
 outcome_at m e = step (world_of m) e
 
--- the moment after an event that isn't refused
+-- the moment after an event that isn't refused. One that is idle is a step too
 unfoldable pub stepped : Moment → Event → Moment
-stepped m e = record m { world = Some (after (world_of m) (outcome_at m e)); sums = summed m.sums e (outcome_at m e) }
+stepped m e = record m {
+  world = Some (after (world_of m) (outcome_at m e));
+  sums = summed m.sums e (outcome_at m e);
+  steps = m.steps + 1;
+}
 
 -- one more line was read
 abbrev pub counted : Moment → Moment

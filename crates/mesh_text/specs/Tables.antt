@@ -12,7 +12,8 @@ use Rattle.aodv_model.specs.Cores.{Body, Seen, Store, Core, has_seen, next_reque
 use Rattle.mesh_model.specs.Worlds.{Node, Copy}
 use Rattle.mesh_model.specs.Routes.{End, Arrived, Stuck}
 use Rattle.mesh_meaning.specs.Packets.{packet_of}
-use Rattle.mesh_text.specs.Lines.{line, labelled, name_of, hex}
+use Rattle.mesh_grammar.specs.Written.{line, labelled}
+use Rattle.mesh_text.specs.Lines.{name_of, hex}
 use Rattle.mesh_text.specs.Effects.{set_text}
 
 -- the texts of so many numbers from i on, one after another
@@ -49,7 +50,8 @@ flag_text Inv = codes "inv "
 -- destination, number, status, flag, hops, next hop, precursors
 unfoldable pub entry_text : Nodes → ℕ → Entry → List ℕ
 entry_text mesh d e =
-    line (codes "  entry " ++ name_of mesh d ++ 32 ∷ decimal e.dsn ++ known_text e.dsk ++ flag_text e.flag ++ decimal e.hops
+    line (codes "  entry " ++ name_of mesh d ++ 32 ∷ decimal e.dsn ++ known_text e.dsk
+    ++ flag_text e.flag ++ decimal e.hops
     ++ 32 ∷ name_of mesh e.next ++ 32 ∷ set_text mesh e.pre)
 
 -- the entry of d, if it has one
@@ -62,7 +64,8 @@ req_text needs = if needs then codes " req " else codes " noreq "
 
 -- so many data wait for d, and whether a request is still to be made
 unfoldable pub waits_line : Nodes → ℕ → Bool → ℕ → List ℕ
-waits_line mesh d needs count = line (codes "  waits " ++ name_of mesh d ++ req_text needs ++ decimal count)
+waits_line mesh d needs count =
+    line (codes "  waits " ++ name_of mesh d ++ req_text needs ++ decimal count)
 
 -- the same, where there are any
 abbrev pub waits_text : Nodes → ℕ → Bool → List Body → List ℕ
@@ -70,10 +73,11 @@ waits_text mesh d needs [] = []
 waits_text mesh d needs (b ∷ bs) = waits_line mesh d needs (length (b ∷ bs))
 
 abbrev pub waits_of : Nodes → Store → ℕ → List ℕ
-waits_of mesh store d = waits_text mesh d (needs_in (maps.get store d)) (bodies_in (maps.get store d))
+waits_of mesh store d =
+    waits_text mesh d (needs_in (maps.get store d)) (bodies_in (maps.get store d))
 
--- its own number; the requests that it has seen, its entries and its waiting data, each by rising address; and how many
--- items its queue has
+-- its own number; the requests that it has seen, its entries and its waiting data, each by rising
+-- address; and how many items its queue has
 unfoldable pub node_text : Nodes → Core → ℕ → List ℕ
 node_text mesh core queue =
     number_line (codes "sn") core.sn
@@ -99,7 +103,9 @@ end_text mesh (Stuck at hops) = stuck_line mesh at hops
 
 -- a copy in flight
 unfoldable pub flying_text : Nodes → Copy → List ℕ
-flying_text mesh c = line (labelled (codes "  copy ") c.id ++ 32 ∷ name_of mesh c.from ++ 32 ∷ name_of mesh c.to ++ 32 ∷ hex (packet_of mesh c.message))
+flying_text mesh c =
+    line (labelled (codes "  copy ") c.id ++ 32 ∷ name_of mesh c.from ++ 32 ∷ name_of mesh c.to
+    ++ 32 ∷ hex (packet_of mesh c.message))
 
 abbrev pub flight_text : Nodes → List Copy → List ℕ
 flight_text mesh [] = []

@@ -1,5 +1,5 @@
 //! Laws of the definitions. Each function has an empty body and a contract that states a law.
-ghost use Rattle.mesh_text.specs.Laws.{PrintedLineParses, ReadLineIsInRange, DataAreAccountedFor, SumsAreInOrder, RunIsRunOfEvents, AllEventsCount, EventsAreOfMesh, NoCircles, RunKeepsInvariant};
+ghost use Rattle.mesh_text.specs.Laws.{PrintedLineParses, ReadLineIsInRange, ReadLineIsWrittenAsItWas, DataAreAccountedFor, DataAreNamed, SumsAreInOrder, RunIsRunOfEvents, AllEventsCount, EventsAreOfMesh, RunsAreLoopFree, RunKeepsInvariant, AutoLineHasFourBytes, LineHasFewEvents, EventKeepsAccount, MomentIsOfRun, MomentIsLoopFree, RunGoesOn, StepsAreEvents, RefusedEventStands, LastLineIsOfLastMoment};
 
 /// A line that is written back is read as the same line.
 pub fn a_printed_line_parses()
@@ -12,13 +12,20 @@ pub fn a_read_line_is_in_range()
     ensures { ReadLineIsInRange }
 {}
 
-/// In every run each datum that was given was delivered, waits, is in flight, or was dropped.
+/// A line that is read is written back as it stands, but that `node ADDR` is written back with the
+/// number 1.
+pub fn a_read_line_is_written_as_it_was()
+    ensures { ReadLineIsWrittenAsItWas }
+{}
+
+/// In every run each datum that was given or doubled was delivered, waits, is in flight, or was
+/// dropped.
 pub fn data_are_accounted_for()
     ensures { DataAreAccountedFor }
 {}
 
-/// The sums of a run are in order: idle events and given data are no more than the events, and
-/// delivered and dropped data no more than those given.
+/// The sums of a run are in order: idle events, given data and doubled data are no more than the
+/// events, and delivered and dropped data no more than those given and doubled.
 pub fn the_sums_are_in_order()
     ensures { SumsAreInOrder }
 {}
@@ -38,12 +45,64 @@ pub fn events_are_of_the_mesh()
     ensures { EventsAreOfMesh }
 {}
 
-/// After any number of an input's events no destination's valid routes go round.
-pub fn no_circles()
-    ensures { NoCircles }
+/// After any number of an input's events no destination's valid routes have a loop.
+pub fn runs_are_loop_free()
+    ensures { RunsAreLoopFree }
 {}
 
 /// After any number of an input's events the world has the invariant.
 pub fn a_run_keeps_the_invariant()
     ensures { RunKeepsInvariant }
+{}
+
+/// A line of chosen events has at least 4 bytes.
+pub fn an_auto_line_has_four_bytes()
+    ensures { AutoLineHasFourBytes }
+{}
+
+/// A line does at most a quarter of the most events for each of its bytes.
+pub fn a_line_has_few_events()
+    ensures { LineHasFewEvents }
+{}
+
+/// An event of the mesh keeps the account of the data.
+pub fn an_event_keeps_the_account()
+    ensures { EventKeepsAccount }
+{}
+
+/// At each moment of a run, after any line and after any event within one, the world is that of the
+/// run of the events so far.
+pub fn every_moment_is_of_the_run()
+    ensures { MomentIsOfRun }
+{}
+
+/// At no moment of a run have a destination's valid routes a loop.
+pub fn every_moment_is_loop_free()
+    ensures { MomentIsLoopFree }
+{}
+
+/// The last line of a finished run is that of its last moment.
+pub fn the_last_line_is_of_the_last_moment()
+    ensures { LastLineIsOfLastMoment }
+{}
+
+/// Unless a full counter has ended a run, its text names each datum that was delivered or dropped.
+pub fn data_are_named()
+    ensures { DataAreNamed }
+{}
+
+/// A run of complete lines and of what follows them is the run of what follows, from the last
+/// moment of the lines on.
+pub fn a_run_goes_on()
+    ensures { RunGoesOn }
+{}
+
+/// The steps of a run rise as the events do that are counted.
+pub fn steps_are_events()
+    ensures { StepsAreEvents }
+{}
+
+/// An event that a full counter refuses is refused at a moment after some of its line's events.
+pub fn a_refused_event_stands_in_its_line()
+    ensures { RefusedEventStands }
 {}

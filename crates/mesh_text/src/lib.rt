@@ -1,15 +1,16 @@
-//! What a schedule and the text of its run are: the grammar of a line, the faults for which a line
-//! is refused, the step of a mesh, and the text and verdict that an input's bytes have. These are
-//! definitions for the contracts of other crates, with their laws, and a program has only the faults of
-//! them.
+//! What a schedule and the text of its run are: whether a line is allowed at a moment, what an
+//! event of it does, and the text and verdict that an input's bytes have. These are definitions
+//! for the contracts of other crates, with their laws; a program has nothing of them.
 #![tactic(auto)]
 
-mod fault;
 mod laws;
 
-pub use fault::{BadWhy, LineFault, Span};
 pub use laws::{
-    a_printed_line_parses, a_read_line_is_in_range, a_run_is_a_run_of_events,
-    a_run_keeps_the_invariant, all_events_count, data_are_accounted_for, events_are_of_the_mesh,
-    no_circles, the_sums_are_in_order,
+    a_line_has_few_events, a_printed_line_parses, a_read_line_is_in_range,
+    a_read_line_is_written_as_it_was, a_refused_event_stands_in_its_line, a_run_goes_on,
+    a_run_is_a_run_of_events, a_run_keeps_the_invariant, all_events_count,
+    an_auto_line_has_four_bytes, an_event_keeps_the_account, data_are_accounted_for,
+    data_are_named, events_are_of_the_mesh, every_moment_is_loop_free, every_moment_is_of_the_run,
+    runs_are_loop_free, steps_are_events, the_last_line_is_of_the_last_moment,
+    the_sums_are_in_order,
 };

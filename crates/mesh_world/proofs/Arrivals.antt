@@ -46,7 +46,7 @@ joined n roomy new i core same size is sound = record {
   sound = sound;
 }
 
-map-push : {A B : Type 0} (f : A → B) (xs : List A) (x : A) → map f (xs ++ x ∷ []) ≡ map f xs ++ f x ∷ []
+pub map-push : {A B : Type 0} (f : A → B) (xs : List A) (x : A) → map f (xs ++ x ∷ []) ≡ map f xs ++ f x ∷ []
 map-push f [] x = refl
 map-push f (y ∷ ys) x = ap (λ zs. f y ∷ zs) (map-push f ys x)
 
@@ -87,7 +87,7 @@ give_done mesh nodes radio ready ready' steps x dest body copy n new packet k l 
     let j : Joined n new (item.New dest body) = subst (λ (b : Body). Joined n new (item.New dest b)) copied j' in
     let world : push w x (New body dest) ≡ shown mesh (slice_set nodes x new) radio = pushed mesh nodes radio x n new (item.New dest body) at j in
     ends_done (Give x dest body) mesh nodes radio ready steps done.Changed (slice_set nodes x new) radio ready' packet (Goes (push w x (New body dest)) Changed)
-    k (l, below, datum) (give_at w x dest body (node_in mesh n) (shown_at mesh nodes radio x n at)) refl (omega arith) world (λ i. Goes (world i) Changed) tt
+    k (l, below, datum) (give_at w x dest body (node_in mesh n) (shown_at mesh nodes radio x n at)) (omega arith) world (λ i. Goes (world i) Changed) tt
     (beside_joined mesh nodes radio radio ready ready' steps x n new (item.New dest body) k l at tt j k.flying refl refl noted_is)
 
 -- ---- copies
@@ -130,10 +130,10 @@ found_all P (f ∷ fs) id g all e = found_if_all P (f.id == id) f g (radios.find
 abbrev pub IsFound : Option FlyingView → RadioState → ℕ → Type 0
 IsFound o radio id = option_map flying_seen o ≡ radios.find_copy radio.flying id
 
-found_seen : (radio : RadioState) (id : ℕ) (o : Option FlyingView) (seen : FlyingView) → IsFound o radio id → o ≡ Some seen → radios.find_copy radio.flying id ≡ Some (flying_seen seen)
+pub found_seen : (radio : RadioState) (id : ℕ) (o : Option FlyingView) (seen : FlyingView) → IsFound o radio id → o ≡ Some seen → radios.find_copy radio.flying id ≡ Some (flying_seen seen)
 found_seen radio id o seen is some = sym is ∙ ap (option_map flying_seen) some
 
-none_seen : (radio : RadioState) (id : ℕ) (o : Option FlyingView) → IsFound o radio id → o ≡ None → radios.find_copy radio.flying id ≡ None
+pub none_seen : (radio : RadioState) (id : ℕ) (o : Option FlyingView) → IsFound o radio id → o ≡ None → radios.find_copy radio.flying id ≡ None
 none_seen radio id o is none = sym is ∙ ap (option_map flying_seen) none
 
 -- it fits a room for so many bytes
@@ -150,15 +150,15 @@ pub record InFlight (mesh : Nodes) (f : Flying) : Type 0 where
   pub written : IsWritten mesh f.bytes
   pub in_mesh : IsMessageInMesh (length mesh) (meaning mesh f.bytes)
 
-shown_found : (mesh : Nodes) (nodes : List NodeSeen) (radio : RadioState) (id : ℕ) (f : Flying) → radios.find_copy radio.flying id ≡ Some f → worlds.find_copy (shown mesh nodes radio).flying id ≡ Some (copy_in mesh f)
+pub shown_found : (mesh : Nodes) (nodes : List NodeSeen) (radio : RadioState) (id : ℕ) (f : Flying) → radios.find_copy radio.flying id ≡ Some f → worlds.find_copy (shown mesh nodes radio).flying id ≡ Some (copy_in mesh f)
 unfolding shown
 shown_found mesh nodes radio id f e = find_shown mesh radio.flying id ∙ ap (option_map (copy_in mesh)) e
 
-shown_none : (mesh : Nodes) (nodes : List NodeSeen) (radio : RadioState) (id : ℕ) → radios.find_copy radio.flying id ≡ None → worlds.find_copy (shown mesh nodes radio).flying id ≡ None
+pub shown_none : (mesh : Nodes) (nodes : List NodeSeen) (radio : RadioState) (id : ℕ) → radios.find_copy radio.flying id ≡ None → worlds.find_copy (shown mesh nodes radio).flying id ≡ None
 unfolding shown
 shown_none mesh nodes radio id e = find_shown mesh radio.flying id ∙ ap (option_map (copy_in mesh)) e
 
-in_flight : (mesh : Nodes) (nodes : List NodeSeen) (radio : RadioState) (ready : Ready) (steps id : ℕ) (f : Flying) → IsKept mesh nodes radio ready steps → radios.find_copy radio.flying id ≡ Some f → InFlight mesh f
+pub in_flight : (mesh : Nodes) (nodes : List NodeSeen) (radio : RadioState) (ready : Ready) (steps id : ℕ) (f : Flying) → IsKept mesh nodes radio ready steps → radios.find_copy radio.flying id ≡ Some f → InFlight mesh f
 in_flight mesh nodes radio ready steps id f k e =
     let w = shown mesh nodes radio in
     let all : AllByRecursion (IsCopyInMesh (length mesh)) w.flying = subst (λ (n : ℕ). AllByRecursion (IsCopyInMesh n) w.flying) (k.sound).count ((k.sound).invariant).in_mesh.flying in
@@ -207,7 +207,7 @@ deliver_here mesh nodes radio radio' ready ready' steps id f n new packet k foun
     let world : pushing ≡ shown mesh (slice_set nodes f.to new) radio' =
     ap (λ (v : World). push v f.to (Heard f.from (meaning mesh f.bytes))) (shown_without mesh nodes radio radio' id gone) ∙ pushed mesh nodes radio' f.to n new i at j in
     ends_done (Deliver id) mesh nodes radio ready steps (done.Heard f.from f.to) (slice_set nodes f.to new) radio' ready' packet (Goes pushing (CopyHeard f.from f.to))
-    k tt (deliver_at w id (Some (copy_in mesh f)) (shown_found mesh nodes radio id f found)) refl (omega arith) world (λ m. Goes (world m) (CopyHeard f.from f.to)) (flies.from, flies.to)
+    k tt (deliver_at w id (Some (copy_in mesh f)) (shown_found mesh nodes radio id f found)) (omega arith) world (λ m. Goes (world m) (CopyHeard f.from f.to)) (flies.from, flies.to)
     (beside_joined mesh nodes radio radio' ready ready' steps f.to n new i k flies.to at flies.written j (without_flying mesh radio radio' id gone k.flying) (ap (λ (r : RadioState). r.size) gone) (ap (λ (r : RadioState). r.next_copy) gone) noted_is)
 
 pub deliver_done : (mesh : Nodes) (nodes : List NodeSeen) (radio radio' : RadioState) (ready ready' : Ready) (steps id to : ℕ) (f : Flying) (n roomy new : NodeSeen) (packet : List ℕ)
@@ -232,7 +232,7 @@ lose_done mesh nodes radio radio' ready steps id t f packet k is some gone =
     let flies = in_flight mesh nodes radio ready steps id f k found in
     let world : worlds.without_copy w id ≡ shown mesh nodes radio' = shown_without mesh nodes radio radio' id gone in
     ends_done (Lose id) mesh nodes radio ready steps (done.Lost f) nodes radio' ready packet (Goes (worlds.without_copy w id) (CopyLost (copy_in mesh f)))
-    k tt (lose_at w id (Some (copy_in mesh f)) (shown_found mesh nodes radio id f found)) refl (omega arith) world (λ i. Goes (world i) (CopyLost (copy_in mesh f)))
+    k tt (lose_at w id (Some (copy_in mesh f)) (shown_found mesh nodes radio id f found)) (omega arith) world (λ i. Goes (world i) (CopyLost (copy_in mesh f)))
     (flies.from, flies.to, record { written = flies.written; in_mesh = flies.in_mesh })
     (record {
       each = k.each;

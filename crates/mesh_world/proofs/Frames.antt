@@ -30,17 +30,17 @@ use Rattle.mesh_world.specs.declared.steps.StepError.TheVariants as errors
 
 -- ---- the invariant follows from the one equation of a step
 
-pub sound_after : (w : WorldSeen) (e : Event) (o : Outcome) → IsSoundWorld w → IsEvent (length w.mesh) e → step w.world e ≡ o → doubled any e o ≡ 0 → given any e o ≤ 1
+pub sound_after : (w : WorldSeen) (e : Event) (o : Outcome) → IsSoundWorld w → IsEvent (length w.mesh) e → step w.world e ≡ o → given any e o + doubled any w.world e ≤ 1
     → IsSoundWorld (record w { world = after w.world o; steps = w.steps + 1 })
-sound_after w e o s ok is none one =
+sound_after w e o s ok is one =
     let here : IsEvent (length (w.world).nodes) e = subst (λ (n : ℕ). IsEvent n e) (sym s.count) ok in
     let world : after w.world (step w.world e) ≡ after w.world o = ap (after w.world) is in
     let kept : IsInvariant (after w.world o) = subst IsInvariant world (step_keeps w.world e here s.invariant) in
     let size : length (after w.world o).nodes ≡ length (w.world).nodes = sym (ap (λ (v : World). length v.nodes) world) ∙ same_size w.world e in
     let sum : waiting any (after w.world o) + queued any (after w.world o) + in_flight any (after w.world o) + delivered any e o + dropped any e o
-    ≡ waiting any w.world + queued any w.world + in_flight any w.world + given any e o + doubled any e o =
+    ≡ waiting any w.world + queued any w.world + in_flight any w.world + given any e o + doubled any w.world e =
     subst (λ (p : Outcome). waiting any (after w.world p) + queued any (after w.world p) + in_flight any (after w.world p) + delivered any e p + dropped any e p
-    ≡ waiting any w.world + queued any w.world + in_flight any w.world + given any e p + doubled any e p) is (step_balanced any w.world e here (s.invariant).in_mesh) in
+    ≡ waiting any w.world + queued any w.world + in_flight any w.world + given any e p + doubled any w.world e) is (step_balanced any w.world e here (s.invariant).in_mesh) in
     let few = s.few in
     record {
       mesh = s.mesh;
@@ -84,13 +84,13 @@ keeps : (mesh : Nodes) (nodes : List NodeSeen) (radio : RadioState) (ready : Rea
 keeps mesh nodes radio ready steps s b = record { sound = s; each = b.each; flying = b.flying; size = b.size; numbers = b.numbers; sets = b.sets }
 
 pub ends_done : (e : Event) (mesh : Nodes) (nodes : List NodeSeen) (radio : RadioState) (ready : Ready) (steps : ℕ) (d : Done) (nodes' : List NodeSeen) (radio' : RadioState) (ready' : Ready) (packet : List ℕ) (o : Outcome)
-    → IsKept mesh nodes radio ready steps → IsEvent (length mesh) e → step (shown mesh nodes radio) e ≡ o → doubled any e o ≡ 0 → given any e o ≤ 1
+    → IsKept mesh nodes radio ready steps → IsEvent (length mesh) e → step (shown mesh nodes radio) e ≡ o → given any e o + doubled any (shown mesh nodes radio) e ≤ 1
     → after (shown mesh nodes radio) o ≡ shown mesh nodes' radio' → o ≡ outcome_in mesh (place_of e) (shown mesh nodes' radio') d packet → IsDoneInMesh mesh d packet
     → Beside mesh nodes' radio' ready' (steps + 1) → Ends e mesh nodes radio steps (Ok d) nodes' radio' ready' (steps + 1) packet
-ends_done e mesh nodes radio ready steps d nodes' radio' ready' packet o kept ok is none one world outcome in_mesh b =
+ends_done e mesh nodes radio ready steps d nodes' radio' ready' packet o kept ok is one world outcome in_mesh b =
     let now : after (shown mesh nodes radio) (step (shown mesh nodes radio) e) ≡ shown mesh nodes' radio' = ap (after (shown mesh nodes radio)) is ∙ world in
     let sound : IsSoundWorld (seen_of mesh nodes' radio' (steps + 1)) =
-    subst (λ (v : World). IsSoundWorld (record { mesh = mesh; world = v; steps = steps + 1 })) world (sound_after (seen_of mesh nodes radio steps) e o kept.sound ok is none one) in
+    subst (λ (v : World). IsSoundWorld (record { mesh = mesh; world = v; steps = steps + 1 })) world (sound_after (seen_of mesh nodes radio steps) e o kept.sound ok is one) in
     record {
       step = record { outcome = is ∙ outcome; world = λ i. record { mesh = mesh; world = sym now i; steps = steps + 1 }; in_mesh = in_mesh };
       kept = keeps mesh nodes' radio' ready' (steps + 1) sound b;

@@ -10,6 +10,7 @@ pub mod Turns
 pub mod Moves
 pub mod Sendings
 pub mod Arrivals
+pub mod Doublings
 pub mod Linking
 pub mod Views
 pub mod Openings

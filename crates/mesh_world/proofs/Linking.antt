@@ -49,7 +49,7 @@ link_done mesh nodes radio radio' ready steps a b packet k ok none is =
     let world : worlds.with_link w a b ≡ shown mesh nodes radio' = with_shown mesh nodes radio radio' a b is in
     let old : Beside mesh nodes (with_link radio a b) ready (steps + 1) = (let b = later mesh nodes radio ready steps (beside mesh nodes radio ready steps k) in record { each = b.each; flying = b.flying; size = b.size; numbers = b.numbers; sets = b.sets }) in
     ends_done (Link a b) mesh nodes radio ready steps done.Changed nodes radio' ready packet (Goes (worlds.with_link w a b) Changed)
-    k ok (link_at w a b false (shown_linked mesh nodes radio a b ∙ not_linked (are_linked radio.links a b) none)) refl (omega arith) world (λ i. Goes (world i) Changed) tt
+    k ok (link_at w a b false (shown_linked mesh nodes radio a b ∙ not_linked (are_linked radio.links a b) none)) (omega arith) world (λ i. Goes (world i) Changed) tt
     (subst (λ (r : RadioState). Beside mesh nodes r ready (steps + 1)) (sym is) old)
 
 pub link_idle : (mesh : Nodes) (nodes : List NodeSeen) (radio radio' : RadioState) (ready : Ready) (steps a b : ℕ) (packet : List ℕ) → IsKept mesh nodes radio ready steps
@@ -65,7 +65,7 @@ cut_done mesh nodes radio radio' ready steps a b packet k ok stood is =
     let world : worlds.without_link w a b ≡ shown mesh nodes radio' = without_shown mesh nodes radio radio' a b is in
     let old : Beside mesh nodes (without_link radio a b) ready (steps + 1) = (let b = later mesh nodes radio ready steps (beside mesh nodes radio ready steps k) in record { each = b.each; flying = b.flying; size = b.size; numbers = b.numbers; sets = b.sets }) in
     ends_done (Cut a b) mesh nodes radio ready steps done.Changed nodes radio' ready packet (Goes (worlds.without_link w a b) Changed)
-    k ok (cut_at w a b true (shown_linked mesh nodes radio a b ∙ sym stood)) refl (omega arith) world (λ i. Goes (world i) Changed) tt
+    k ok (cut_at w a b true (shown_linked mesh nodes radio a b ∙ sym stood)) (omega arith) world (λ i. Goes (world i) Changed) tt
     (subst (λ (r : RadioState). Beside mesh nodes r ready (steps + 1)) (sym is) old)
 
 pub cut_idle : (mesh : Nodes) (nodes : List NodeSeen) (radio radio' : RadioState) (ready : Ready) (steps a b : ℕ) (packet : List ℕ) → IsKept mesh nodes radio ready steps

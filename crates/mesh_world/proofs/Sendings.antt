@@ -21,7 +21,7 @@ use Rattle.aodv_handlers.specs.Made.{IsMade, IsRefused}
 use Rattle.aodv_node.specs.Seen.{NodeSeen, IsSoundNode}
 use Rattle.mesh_model.specs.Worlds.{World, Event, Send, Ask, Outcome, Idle, Stops, Goes, Sent, step, range, linked_below, send_of, ask_of, unless_full, at_node, done_by, copies}
 use Rattle.mesh_model.specs.Places.{IsEvent}
-use Rattle.mesh_model.specs.Accounts.{given}
+use Rattle.mesh_model.specs.Accounts.{given, doubled}
 use Rattle.mesh_radio.specs.Radios.{RadioState}
 use Rattle.mesh_meaning.specs.Events.{place_of}
 use Rattle.mesh_meaning.specs.Packets.{IsWrittenItem}
@@ -41,7 +41,7 @@ same_node old new others core = others ∙ (λ i. record old { core = core i })
 -- ---- a reaction that is cast, and takes nothing from the queue
 
 pub sent_done : (e : Event) (mesh : Nodes) (nodes : List NodeSeen) (radio radio' : RadioState) (ready ready' : Ready) (steps x : ℕ) (near : NodeIds) (n new : NodeSeen) (reaction : Reaction) (effect : code.Effect) (out : List ℕ) (air : Air)
-    → IsKept mesh nodes radio ready steps → steps < 2 ^ 48 → x < length mesh → IsEvent (length mesh) e → ((o : Outcome) → given any e o ≤ 1) → place_of e ≡ x
+    → IsKept mesh nodes radio ready steps → steps < 2 ^ 48 → x < length mesh → IsEvent (length mesh) e → ((o : Outcome) (w : World) → given any e o + doubled any w e ≤ 1) → place_of e ≡ x
     → near ≡ range (shown mesh nodes radio) x
     → step (shown mesh nodes radio) e ≡ Goes (done_by (shown mesh nodes radio) x reaction (map (item_in mesh) n.items)) (Sent reaction.effect (copies (shown mesh nodes radio) x (reaction.effect).cast))
     → new.items ≡ n.items → Acts mesh x new reaction effect out → Sends mesh x near effect out air radio radio' → ready' ≡ noted ready x new (length mesh)
@@ -53,7 +53,7 @@ sent_done e mesh nodes radio radio' ready ready' steps x near n new reaction eff
     let world : done_by w x reaction (map (item_in mesh) n.items) ≡ w' = ap (λ (is : List items.Item). done_by w x reaction (map (item_in mesh) is)) (sym same) ∙ c.world in
     let o = Goes (done_by w x reaction (map (item_in mesh) n.items)) (Sent reaction.effect (copies w x (reaction.effect).cast)) in
     ends_done e mesh nodes radio ready steps (done.Sent effect air) (slice_set nodes x new) radio' ready' out o
-    k ok goes refl (one o) world
+    k ok goes (one o w) world
     (subst (λ (y : ℕ). o ≡ outcome_in mesh y w' (done.Sent effect air) out) (sym place) (λ j. Goes (world j) (Sent (c.means j) (c.copies j))))
     c.in_mesh
     (noted_beside mesh (slice_set nodes x new) radio' ready' (noted ready x new (length mesh)) (steps + 1) noted_is c.beside)
@@ -123,7 +123,7 @@ send_done_end mesh nodes old radio radio' ready ready' steps x d near n new effe
     let s = stands mesh nodes old ready steps x n k at in
     let mine : (n.core).ip < length mesh = subst (λ (me : ℕ). me < length mesh) (sym s.named) l in
     began (Send x d) mesh nodes old radio steps (Ok (done.Sent effect air)) (slice_set nodes x new) radio' ready' (steps + 1) out rooms
-    (sent_done (Send x d) mesh nodes radio radio' ready ready' steps x near n new (send n.core near d) effect out air r few l (l, below) (λ o. omega arith) refl near_at
+    (sent_done (Send x d) mesh nodes radio radio' ready ready' steps x near n new (send n.core near d) effect out air r few l (l, below) (λ o w. omega arith) refl near_at
     (send_at mesh nodes radio x d n true at t.0
     ∙ goes x (send_full n.core (range w x) d) (send_outcome w x d n.core (map (item_in mesh) n.items) (range w x)) (ap (λ (r : NodeIds). send_full n.core r d) (sym near_at) ∙ (t.1).free)
     ∙ ap (send_outcome w x d n.core (map (item_in mesh) n.items)) (sym near_at))
@@ -184,7 +184,7 @@ ask_done_end mesh nodes old radio radio' ready ready' steps x d near n new effec
     let s = stands mesh nodes old ready steps x n k at in
     let mine : (n.core).ip < length mesh = subst (λ (me : ℕ). me < length mesh) (sym s.named) l in
     began (Ask x d) mesh nodes old radio steps (Ok (done.Sent effect air)) (slice_set nodes x new) radio' ready' (steps + 1) out rooms
-    (sent_done (Ask x d) mesh nodes radio radio' ready ready' steps x near n new (ask n.core d) effect out air r few l (l, below) (λ o. omega arith) refl near_at
+    (sent_done (Ask x d) mesh nodes radio radio' ready ready' steps x near n new (ask n.core d) effect out air r few l (l, below) (λ o w. omega arith) refl near_at
     (ask_at mesh nodes radio x d n true at t.0 ∙ goes x (ask_full n.core) (ask_outcome w x d n.core (map (item_in mesh) n.items)) (t.1).free)
     (ap (λ (m : NodeSeen). m.items) others)
     (acts mesh nodes old ready steps x n new (ask n.core d) (ask_full n.core) effect out k at sound others t.1

@@ -146,7 +146,7 @@ turn_done mesh nodes radio radio' ready ready' steps x near n new d out air k fe
     let placed = front_in mesh x n t.front new.items (stands mesh nodes radio ready steps x n k at) t.was in
     ends_done (Turn x) mesh nodes radio ready steps (done.Taken d.took d.effect air) (slice_set nodes x new) radio' ready' out
     (Goes (done_by w x (turn n.core near i) (map (item_in mesh) new.items)) (Taken (took n.core i) (turn n.core near i).effect (copies w x ((turn n.core near i).effect).cast)))
-    k l (turn_goes mesh nodes radio x n near t.front new.items at near_at t.was (t.made).free) refl (omega arith) c.world
+    k l (turn_goes mesh nodes radio x n near t.front new.items at near_at t.was (t.made).free) (omega arith) c.world
     (λ j. Goes (c.world j) (Taken (took_is j) (c.means j) (c.copies j)))
     (subst (IsTookInMesh mesh) (sym t.took) (took_in_mesh mesh n.core t.front placed front_written), c.in_mesh)
     (noted_beside mesh (slice_set nodes x new) radio' ready' (noted ready x new (length mesh)) (steps + 1) noted_is c.beside)

@@ -2,6 +2,7 @@
 use Rattle.std.specs.Prelude.{◌≡◌, ◌≤◌, ◌+◌, ◌*◌, ℕ, List, length, map, slice_get, is_some}
 use Rattle.std.specs.List.{AllByRecursion}
 use Rattle.std.specs.FinSet as sets
+use Rattle.mesh_base.specs.declared.limits.TheConstants.{MOST_NODES}
 use Rattle.mesh_base.specs.Members.{NodeIds}
 use Rattle.mesh_base.specs.Meshes.{Nodes}
 use Rattle.aodv_node.specs.Seen.{NodeSeen, IsSoundNode}
@@ -49,5 +50,5 @@ pub record IsKept (mesh : Nodes) (nodes : List NodeSeen) (radio : RadioState) (r
   pub flying : AllByRecursion (IsWrittenCopy mesh) radio.flying
   pub size : radio.size ≡ length mesh
   -- so that no number of a copy ends
-  pub numbers : radio.next_copy ≤ 1 + 200 * steps
+  pub numbers : radio.next_copy ≤ 1 + MOST_NODES * steps
   pub sets : IsReadyFor mesh nodes ready

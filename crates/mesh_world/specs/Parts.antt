@@ -5,7 +5,7 @@ use Rattle.mesh_base.specs.Meshes.{Nodes, first_at}
 use Rattle.mesh_base.specs.declared.events.Air.{Air}
 use Rattle.mesh_base.specs.declared.events.Cast.{Cast}
 use Rattle.mesh_base.specs.declared.events.Done.{Done}
-use Rattle.mesh_base.specs.declared.events.Variant.TheVariants.{Base}
+use Rattle.mesh_base.specs.declared.events.Variant.{Variant}
 use Rattle.aodv_model.specs.Cores.{opening}
 use Rattle.aodv_node.specs.Seen.{NodeSeen}
 use Rattle.mesh_model.specs.Worlds.{Event, receivers}
@@ -30,16 +30,16 @@ pub record IsDoneTo (e : Event) (old : Parts) (answer : Result Done StepError) (
   pub step : IsStep e (seen_in old) answer (seen_in new) packet
   pub kept : AreKept new
 
--- a node of the mesh in its opening state
-pub record IsOpened (mesh : Nodes) (me : ℕ) (n : NodeSeen) : Type 0 where
-  pub core : n.core ≡ opening Base me (first_at mesh me)
+-- a node of the mesh in its opening state, with this variant
+pub record IsOpened (v : Variant) (mesh : Nodes) (me : ℕ) (n : NodeSeen) : Type 0 where
+  pub core : n.core ≡ opening v me (first_at mesh me)
   pub items : n.items ≡ []
   pub size : n.size ≡ length mesh
 
 -- nodes from `me` on, each in its opening state
-abbrev pub AreOpened : Nodes → ℕ → List NodeSeen → Type 0
-AreOpened mesh me [] = ⊤
-AreOpened mesh me (n ∷ ns) = IsOpened mesh me n × AreOpened mesh (me + 1) ns
+abbrev pub AreOpened : Variant → Nodes → ℕ → List NodeSeen → Type 0
+AreOpened v mesh me [] = ⊤
+AreOpened v mesh me (n ∷ ns) = IsOpened v mesh me n × AreOpened v mesh (me + 1) ns
 
 -- those of the nodes in range to whom a cast goes
 abbrev pub reached : Nodes → NodeIds → Cast → List ℕ → NodeIds

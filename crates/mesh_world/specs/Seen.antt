@@ -2,7 +2,7 @@
 use Rattle.std.specs.Prelude.{◌≡◌, ◌≤◌, ◌+◌, ℕ, length, map, refl}
 use Rattle.std.specs.Coded.{Coded, code_by, coded×, coded_ℕ, coded_list}
 use Rattle.mesh_base.specs.Meshes.{Nodes, IsMesh}
-use Rattle.mesh_base.specs.declared.events.Variant.TheVariants.{Base}
+use Rattle.mesh_base.specs.declared.events.Variant.{Variant}
 use Rattle.aodv_meaning.specs.Effects.{item_in}
 use Rattle.aodv_node.specs.Seen.{NodeSeen}
 use Rattle.mesh_model.specs.Worlds.{World, Node, start, first_numbers}
@@ -17,9 +17,9 @@ pub record WorldSeen : Type 0 where
   pub world : World
   pub steps : ℕ
 
--- before the first step
-abbrev pub opening : Nodes → WorldSeen
-opening mesh = record { mesh = mesh; world = start Base (first_numbers mesh); steps = 0 }
+-- before the first step, where all nodes run this variant
+abbrev pub opening : Variant → Nodes → WorldSeen
+opening v mesh = record { mesh = mesh; world = start v (first_numbers mesh); steps = 0 }
 
 -- a node, with what its packets mean
 abbrev pub node_in : Nodes → NodeSeen → Node

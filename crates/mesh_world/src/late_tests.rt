@@ -23,6 +23,7 @@ fn is_event(e: &Event<'_>, nodes: usize) -> bool
         Event::Cut { a, b } => a < nodes && b < nodes && a != b,
         Event::Deliver { .. } => true,
         Event::Lose { .. } => true,
+        Event::Double { .. } => true,
     }
 }
 

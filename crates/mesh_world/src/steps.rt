@@ -1,12 +1,13 @@
 //! What steps a world.
 ghost use Rattle.std.specs.Prelude.{◌≡◌, ◌≤◌, ◌<◌, ◌^◌, length, IfOk};
+ghost use Rattle.mesh_base.specs.declared.events.Variant.TheVariants.{Base};
 ghost use Rattle.mesh_model.specs.Places.{IsEvent};
 ghost use Rattle.mesh_meaning.specs.Events.{event_of};
 ghost use Rattle.mesh_world.specs.Seen.{WorldSeen, opening, IsSoundWorld};
 ghost use Rattle.mesh_world.specs.Steps.{IsStep};
 
 use crate::world::World;
-use mesh_base::{Done, Event, Full, Mesh, NoMemory, Packet};
+use mesh_base::{Done, Event, Full, Mesh, NoMemory, Packet, Variant};
 use std::alloc::Global;
 use thiserror::Error;
 
@@ -37,11 +38,19 @@ pub trait Steps: Drop {
     /// The world.
     ghost seen: { Self → WorldSeen };
 
-    /// The opening world: each node has its first sequence number and nothing else, no link stands,
-    /// and no copy is in flight.
+    /// The opening world, where all nodes run this variant of the protocol: each node has its first
+    /// sequence number and nothing else, no link stands, and no copy is in flight.
+    fn with(alloc: Global, mesh: &Mesh, variant: Variant) -> Result<Self, NoMemory>
+        requires { 1 ≤ length mesh.now }
+        ensures { IfOk result (λ world. seen world ≡ opening variant mesh.now) };
+
+    /// The opening world of the protocol as AWN has it.
     fn new(alloc: Global, mesh: &Mesh) -> Result<Self, NoMemory>
         requires { 1 ≤ length mesh.now }
-        ensures { IfOk result (λ world. seen world ≡ opening mesh.now) };
+        ensures { IfOk result (λ world. seen world ≡ opening Base mesh.now) }
+    {
+        Self::with(alloc, mesh, Variant::Base)
+    }
 
     /// Does one event. All memory is taken before the first change. The packet that is cast is left
     /// in `out`. No step ends at 2^48 steps, which is more than any schedule asks for.

@@ -31,10 +31,21 @@ fn find_route<S: Steps>(world: &mut S, alloc: Global) -> Result<(), Fail> {
     Ok(())
 }
 
-// Whether the datum of node 0 is delivered.
+// Whether the datum of node 0 is delivered, by a second copy of its packet.
 fn arrives<S: Steps>(world: &mut S, alloc: Global) -> Result<bool, Fail> {
     advance(world, alloc, &Event::Send { node: 0, dest: 1 })?;
-    advance(world, alloc, &Event::Deliver { id: 3 })?;
+    let doubled = advance(world, alloc, &Event::Double { id: 3 })?;
+    if !matches!(
+        &doubled,
+        Done::Doubled {
+            id: 4,
+            to: 1,
+            parcel: true
+        }
+    ) {
+        return Ok(false);
+    }
+    advance(world, alloc, &Event::Deliver { id: 4 })?;
     let done = advance(world, alloc, &Event::Turn { node: 1 })?;
     Ok(matches!(&done, Done::Taken { effect, .. } if effect.deliver))
 }

@@ -19,7 +19,7 @@ use crate::route::{End, follow};
 use crate::steps::{StepError, Steps};
 use crate::totals::{Totals, count_data};
 use aodv_node::Node;
-use mesh_base::{Done, Event, Mesh, NoMemory, Packet};
+use mesh_base::{Done, Event, Mesh, NoMemory, Packet, Variant};
 use mesh_radio::Radio;
 use std::alloc::Global;
 use std::marker::Model;
@@ -131,8 +131,8 @@ impl World {
 impl Steps for World {
     ghost seen = { λ w. w };
 
-    fn new(alloc: Global, mesh: &Mesh) -> Result<World, NoMemory> {
-        let nodes = opening_nodes(alloc, mesh)?;
+    fn with(alloc: Global, mesh: &Mesh, variant: Variant) -> Result<World, NoMemory> {
+        let nodes = opening_nodes(alloc, mesh, variant)?;
         let radio = Radio::new(alloc, mesh.len())?;
         let parts = Parts {
             mesh: mesh.copy(),
@@ -153,8 +153,9 @@ impl Steps for World {
             Event::Ask { node, dest } => self.parts.ask(node, dest, out),
             Event::Link { a, b } => Ok(self.parts.link(a, b)),
             Event::Cut { a, b } => Ok(self.parts.cut(a, b)),
-            Event::Deliver { id } => self.parts.deliver(alloc, id),
-            Event::Lose { id } => self.parts.lose(alloc, id),
+            Event::Deliver { id } => self.parts.deliver_copy(alloc, id),
+            Event::Lose { id } => self.parts.lose_copy(alloc, id),
+            Event::Double { id } => self.parts.double_copy(id),
         }
     }
 
@@ -164,14 +165,14 @@ impl Steps for World {
 }
 
 // The nodes of the mesh, each in its opening state.
-fn opening_nodes(alloc: Global, mesh: &Mesh) -> Result<Vec<Node>, NoMemory>
+fn opening_nodes(alloc: Global, mesh: &Mesh, variant: Variant) -> Result<Vec<Node>, NoMemory>
     ensures count { IfOk result (λ nodes. length nodes.items ≡ length mesh.now) }
-    ensures opened { IfOk result (λ nodes. AreOpened mesh.now 0 nodes.items) }
+    ensures opened { IfOk result (λ nodes. AreOpened variant mesh.now 0 nodes.items) }
 {
     let count = mesh.len();
     let mut nodes = Vec::with_capacity(alloc, count)?;
     for i in 0..count {
-        nodes.push(Node::new(alloc, mesh, i)?)?;
+        nodes.push(Node::with(alloc, mesh, i, variant)?)?;
     }
     Ok(nodes)
 }

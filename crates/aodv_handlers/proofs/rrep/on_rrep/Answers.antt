@@ -1,40 +1,43 @@
-use Rattle.std.proofs.Common.{◌≡◌, ℕ, not, Option, ap, refl, subst, ◌∙◌, length}
+use Rattle.std.proofs.Common.{◌≡◌, ◌≤◌, ℕ, true, not, Option, ap, refl, sym, subst, ◌∙◌, length}
 use Rattle.std.proofs.lemmas.Bool.{ne_eqb}
 use Rattle.std.specs.FinMap as maps
 use Rattle.aodv_entry.specs.declared.entry.Entry.{Entry}
-use Rattle.aodv_model.specs.Tables.{Table, update, in_kD}
+use Rattle.aodv_model.specs.Tables.{Table, update, in_kD, sqn}
 use Rattle.aodv_model.specs.Cores.{Core, RouteReply, Rrep, Heard}
-use Rattle.aodv_model.specs.Handlers.{neighbour_entry, route_entry, changes_nothing, turn}
+use Rattle.aodv_model.specs.Handlers.{only, neighbour_entry, route_entry, changes_nothing, turn}
 use Rattle.aodv_model.specs.Fullness.{turn_full}
 use Rattle.aodv_model.proofs.PlacedTables.{update_has}
+use Rattle.aodv_model.proofs.Readings.{route_above}
 use Rattle.aodv_table.specs.Calls.{with_entry}
-use Rattle.aodv_handlers.specs.Shown.{shown}
+use Rattle.aodv_handlers.specs.Shown.{shown, reply_of}
+use Rattle.aodv_handlers.specs.Parts.{pass_on}
 use Rattle.aodv_handlers.specs.Made.{IsMade, IsRefused}
 use Rattle.aodv_handlers.proofs.Ready.{ready_table, ready_back}
 use Rattle.aodv_handlers.proofs.Restored.{updates_back}
 use Rattle.aodv_handlers.proofs.Requests.{asked_table}
-use Rattle.aodv_handlers.proofs.Replies.{ends, ended_made, forwarded_made, forwarded_refused, same_reply}
+use Rattle.aodv_handlers.proofs.Replies.{ends, ended_made, passed_made, passed_refused, chosen_none, chosen_some, same_reply}
 use Rattle.aodv_handlers.proofs.rrep.on_rrep.Goals as goal
 
 both : (rt rt1 rt2 : Table) (a b : ℕ) (r s : Entry) → rt1 ≡ update rt a r → rt2 ≡ update rt1 b s → rt2 ≡ update (update rt a r) b s
 both rt rt1 rt2 a b r s one_is two_is = two_is ∙ ap (λ (t : Table). update t b s) one_is
 
-pub returns-then-ends_here-clause-does : goal.returns-then-ends_here-clause-does
-returns-then-ends_here-clause-does g c =
+pub returns-in_default-clause-does : goal.returns-in_default-clause-does
+returns-in_default-clause-does g c =
     let mesh = c.args.mesh.now in
     let core = shown g.T.Table.entries c.args.core.now in
     let rt1 = g.T.Table.entries c.update.new.self in
     let rt2 = g.T.Table.entries c.update-changed.new.self in
     let m : RouteReply = record { hops = c.args.m.now.hops; dip = c.place_of-dip.result; dsn = c.args.m.now.dsn; oip = c.place_of-oip.result } in
-    let end = ends core c.args.range.now c.args.from m rt1 rt2 c.update-changed.result c.ends_here.result refl (ne_eqb m.hops 255 c.if-m.false)
+    let end = ends core c.args.range.now c.args.from m rt1 rt2 c.update-changed.result (only (record core { rt = rt2 })) (ne_eqb m.hops 255 c.if-m.false)
     (c.update.ensures.entries ∙ ap (update core.rt c.args.from) c.neighbour_entry.ensures) (c.update-changed.ensures.entries ∙ ap (update rt1 m.dip) c.route_entry.ensures)
-    (c.update-changed.ensures.changed ∙ ap (λ (r : Entry). not (changes_nothing rt1 m.dip r)) c.route_entry.ensures) c.ends_here.ensures in
+    (c.update-changed.ensures.changed ∙ ap (λ (r : Entry). not (changes_nothing rt1 m.dip r)) c.route_entry.ensures)
+    (chosen_none (record core { rt = rt2 }) c.args.range.now _ c.reply_to_pass_on.result (c.reply_to_pass_on.ensures.does c.args.range.now) c.in_default.is) in
     subst (λ (m : RouteReply). IsMade mesh (turn_full core c.args.range.now (Heard c.args.from (Rrep m))) (turn core c.args.range.now (Heard c.args.from (Rrep m))) c.casting.result (record core { rt = rt2 }) c.clear.new.self.items)
     (same_reply mesh c.args.m.now c.place_of-dip.result c.place_of-oip.result c.place_of-dip.ensures.value c.place_of-oip.ensures.value)
-    (ended_made mesh core c.args.range.now c.args.from m rt2 c.ends_here.result c.casting.result c.clear.new.self.items end c.if-ends_here.true c.casting.ensures c.clear.ensures)
+    (ended_made mesh core c.args.range.now c.args.from m rt2 c.casting.result c.clear.new.self.items end c.casting.ensures c.clear.ensures)
 
-pub returns-then-ends_here-clause-ready : goal.returns-then-ends_here-clause-ready
-returns-then-ends_here-clause-ready g c =
+pub returns-in_default-clause-ready : goal.returns-in_default-clause-ready
+returns-in_default-clause-ready g c =
     let core = c.args.core.now in
     let rt = g.T.Table.entries core.table in
     let rt1 = g.T.Table.entries c.update.new.self in
@@ -44,8 +47,8 @@ returns-then-ends_here-clause-ready g c =
     (both rt rt1 (g.T.Table.entries c.update-changed.new.self) c.args.from c.place_of-dip.result (neighbour_entry c.args.from) (route_entry m.dsn m.hops c.args.from)
     (c.update.ensures.entries ∙ ap (update rt c.args.from) c.neighbour_entry.ensures) (c.update-changed.ensures.entries ∙ ap (update rt1 c.place_of-dip.result) c.route_entry.ensures)))
 
-pub forward_reply-requires-clause-ready : goal.forward_reply-requires-clause-ready
-forward_reply-requires-clause-ready g c =
+pub pass_on-requires-clause-ready : goal.pass_on-requires-clause-ready
+pass_on-requires-clause-ready g c =
     let core = c.args.core.now in
     let rt = g.T.Table.entries core.table in
     let rt1 = g.T.Table.entries c.update.new.self in
@@ -55,9 +58,18 @@ forward_reply-requires-clause-ready g c =
     (both rt rt1 (g.T.Table.entries c.update-changed.new.self) c.args.from c.place_of-dip.result (neighbour_entry c.args.from) (route_entry m.dsn m.hops c.args.from)
     (c.update.ensures.entries ∙ ap (update rt c.args.from) c.neighbour_entry.ensures) (c.update-changed.ensures.entries ∙ ap (update rt1 c.place_of-dip.result) c.route_entry.ensures)))
 
-pub forward_reply-requires-clause-entry : goal.forward_reply-requires-clause-entry
-forward_reply-requires-clause-entry g c =
-    ap (λ (t : Table). in_kD t c.place_of-dip.result) c.update-changed.ensures.entries ∙ update_has (g.T.Table.entries c.update.new.self) c.place_of-dip.result c.route_entry.result
+pub pass_on-requires-clause-entry : goal.pass_on-requires-clause-entry
+pass_on-requires-clause-entry g c =
+    let rt2 = g.T.Table.entries c.update-changed.new.self in
+    let here : in_kD rt2 c.place_of-dip.result ≡ true = ap (λ (t : Table). in_kD t c.place_of-dip.result) c.update-changed.ensures.entries ∙ update_has (g.T.Table.entries c.update.new.self) c.place_of-dip.result c.route_entry.result in
+    ap (in_kD rt2) c.in-Some.ensures.same.dip ∙ here
+
+pub reply_to_pass_on-requires-clause-number : goal.reply_to_pass_on-requires-clause-number
+reply_to_pass_on-requires-clause-number g c =
+    let m = c.args.m.now in
+    let rt1 = g.T.Table.entries c.update.new.self in
+    subst (λ (t : Table). 1 ≤ sqn t c.place_of-dip.result) (sym (c.update-changed.ensures.entries ∙ ap (update rt1 c.place_of-dip.result) c.route_entry.ensures))
+    (route_above rt1 c.place_of-dip.result m.dsn m.hops c.args.from c.requires.dsn)
 
 pub returns-in-Ok-clause-does : goal.returns-in-Ok-clause-does
 returns-in-Ok-clause-does g c =
@@ -66,12 +78,13 @@ returns-in-Ok-clause-does g c =
     let rt1 = g.T.Table.entries c.update.new.self in
     let rt2 = g.T.Table.entries c.update-changed.new.self in
     let m : RouteReply = record { hops = c.args.m.now.hops; dip = c.place_of-dip.result; dsn = c.args.m.now.dsn; oip = c.place_of-oip.result } in
-    let end = ends core c.args.range.now c.args.from m rt1 rt2 c.update-changed.result c.ends_here.result refl (ne_eqb m.hops 255 c.if-m.false)
+    let end = ends core c.args.range.now c.args.from m rt1 rt2 c.update-changed.result (pass_on (record core { rt = rt2 }) c.args.range.now (reply_of c.in-Some.reply)) (ne_eqb m.hops 255 c.if-m.false)
     (c.update.ensures.entries ∙ ap (update core.rt c.args.from) c.neighbour_entry.ensures) (c.update-changed.ensures.entries ∙ ap (update rt1 m.dip) c.route_entry.ensures)
-    (c.update-changed.ensures.changed ∙ ap (λ (r : Entry). not (changes_nothing rt1 m.dip r)) c.route_entry.ensures) c.ends_here.ensures in
-    subst (λ (m : RouteReply). IsMade mesh (turn_full core c.args.range.now (Heard c.args.from (Rrep m))) (turn core c.args.range.now (Heard c.args.from (Rrep m))) c.in-Ok.effect (shown g.T.Table.entries c.forward_reply.new.core) c.forward_reply.new.out.items)
+    (c.update-changed.ensures.changed ∙ ap (λ (r : Entry). not (changes_nothing rt1 m.dip r)) c.route_entry.ensures)
+    (chosen_some (record core { rt = rt2 }) c.args.range.now _ c.reply_to_pass_on.result c.in-Some.reply (c.reply_to_pass_on.ensures.does c.args.range.now) c.in-Some.is) in
+    subst (λ (m : RouteReply). IsMade mesh (turn_full core c.args.range.now (Heard c.args.from (Rrep m))) (turn core c.args.range.now (Heard c.args.from (Rrep m))) c.in-Ok.effect (shown g.T.Table.entries c.pass_on.new.core) c.pass_on.new.out.items)
     (same_reply mesh c.args.m.now c.place_of-dip.result c.place_of-oip.result c.place_of-dip.ensures.value c.place_of-oip.ensures.value)
-    (forwarded_made mesh core (shown g.T.Table.entries c.forward_reply.new.core) c.args.range.now c.args.from m rt2 c.ends_here.result c.in-Ok.effect c.forward_reply.new.out.items end c.if-ends_here.false c.in-Ok.ensures.does)
+    (passed_made mesh core (shown g.T.Table.entries c.pass_on.new.core) c.args.range.now c.args.from m _ c.in-Ok.effect c.pass_on.new.out.items end c.in-Ok.ensures.does)
 
 back : (rt rt1 rt2 rt3 rt4 new : Table) (a b : ℕ) (r s : Entry) (kept_a kept_b : Option Entry) → rt1 ≡ update rt a r → rt2 ≡ update rt1 b s → kept_a ≡ maps.get rt a → kept_b ≡ maps.get rt b → new ≡ rt2 → rt3 ≡ with_entry new b kept_b → rt4 ≡ with_entry rt3 a kept_a → rt4 ≡ rt
 back rt rt1 rt2 rt3 rt4 new a b r s kept_a kept_b one_is two_is a_is b_is new_is three_is four_is =
@@ -85,20 +98,21 @@ returns-in-Err-clause-does g c =
     let rt1 = g.T.Table.entries c.update.new.self in
     let rt2 = g.T.Table.entries c.update-changed.new.self in
     let rt4 = g.T.Table.entries c.put-in-Err.new.self in
-    let new = shown g.T.Table.entries c.forward_reply.new.core in
+    let new = shown g.T.Table.entries c.pass_on.new.core in
     let m : RouteReply = record { hops = c.args.m.now.hops; dip = c.place_of-dip.result; dsn = c.args.m.now.dsn; oip = c.place_of-oip.result } in
-    let end = ends core c.args.range.now c.args.from m rt1 rt2 c.update-changed.result c.ends_here.result refl (ne_eqb m.hops 255 c.if-m.false)
+    let end = ends core c.args.range.now c.args.from m rt1 rt2 c.update-changed.result (pass_on (record core { rt = rt2 }) c.args.range.now (reply_of c.in-Some.reply)) (ne_eqb m.hops 255 c.if-m.false)
     (c.update.ensures.entries ∙ ap (update core.rt c.args.from) c.neighbour_entry.ensures) (c.update-changed.ensures.entries ∙ ap (update rt1 m.dip) c.route_entry.ensures)
-    (c.update-changed.ensures.changed ∙ ap (λ (r : Entry). not (changes_nothing rt1 m.dip r)) c.route_entry.ensures) c.ends_here.ensures in
+    (c.update-changed.ensures.changed ∙ ap (λ (r : Entry). not (changes_nothing rt1 m.dip r)) c.route_entry.ensures)
+    (chosen_some (record core { rt = rt2 }) c.args.range.now _ c.reply_to_pass_on.result c.in-Some.reply (c.reply_to_pass_on.ensures.does c.args.range.now) c.in-Some.is) in
     let rows = back core.rt rt1 rt2 (g.T.Table.entries c.put.new.self) rt4 new.rt c.args.from c.place_of-dip.result c.neighbour_entry.result c.route_entry.result c.get-kept_from.result c.get-kept_dip.result
     c.update.ensures.entries c.update-changed.ensures.entries c.get-kept_from.ensures.value c.get-kept_dip.ensures.value (ap (λ (c : Core). c.rt) c.in-Err.ensures.does.same) c.put.ensures.entries c.put-in-Err.ensures.entries in
     subst (λ (m : RouteReply). IsRefused (turn_full core c.args.range.now (Heard c.args.from (Rrep m))) core c.in-Err.full (record new { rt = rt4 }))
     (same_reply mesh c.args.m.now c.place_of-dip.result c.place_of-oip.result c.place_of-dip.ensures.value c.place_of-oip.ensures.value)
-    (forwarded_refused core new c.args.range.now c.args.from m rt2 rt4 c.ends_here.result c.in-Err.full end c.if-ends_here.false c.in-Err.ensures.does rows)
+    (passed_refused core new c.args.range.now c.args.from m rt2 rt4 _ c.in-Err.full end c.in-Err.ensures.does rows)
 
 pub returns-in-Err-clause-ready : goal.returns-in-Err-clause-ready
 returns-in-Err-clause-ready g c =
     let core = shown g.T.Table.entries c.args.core.now in
-    let rows = back core.rt (g.T.Table.entries c.update.new.self) (g.T.Table.entries c.update-changed.new.self) (g.T.Table.entries c.put.new.self) (g.T.Table.entries c.put-in-Err.new.self) (g.T.Table.entries c.forward_reply.new.core.table) c.args.from c.place_of-dip.result c.neighbour_entry.result c.route_entry.result c.get-kept_from.result c.get-kept_dip.result
+    let rows = back core.rt (g.T.Table.entries c.update.new.self) (g.T.Table.entries c.update-changed.new.self) (g.T.Table.entries c.put.new.self) (g.T.Table.entries c.put-in-Err.new.self) (g.T.Table.entries c.pass_on.new.core.table) c.args.from c.place_of-dip.result c.neighbour_entry.result c.route_entry.result c.get-kept_from.result c.get-kept_dip.result
     c.update.ensures.entries c.update-changed.ensures.entries c.get-kept_from.ensures.value c.get-kept_dip.ensures.value (ap (λ (c : Core). c.rt) c.in-Err.ensures.does.same) c.put.ensures.entries c.put-in-Err.ensures.entries in
-    ready_back g.T.Table.nodes g.T.Table.entries (length c.args.mesh.now) c.args.core.now c.forward_reply.new.core _ c.requires.ready c.in-Err.ensures.ready (c.put-in-Err.ensures.nodes ∙ c.put.ensures.nodes) refl refl (λ i. record (c.in-Err.ensures.does.same i) { rt = rows i })
+    ready_back g.T.Table.nodes g.T.Table.entries (length c.args.mesh.now) c.args.core.now c.pass_on.new.core _ c.requires.ready c.in-Err.ensures.ready (c.put-in-Err.ensures.nodes ∙ c.put.ensures.nodes) refl refl (λ i. record (c.in-Err.ensures.does.same i) { rt = rows i })

@@ -4,7 +4,7 @@ use Rattle.mesh_base.specs.declared.events.Item.TheVariants as item
 use Rattle.aodv_handlers.specs.Shown.{shown, IsReady}
 use Rattle.aodv_node.specs.Seen.{IsItemAt}
 use Rattle.aodv_node.proofs.Fronts.{front_of, none_of, first_has}
-use Rattle.aodv_node.proofs.Taken.{datum_taken, stopped, seen_same}
+use Rattle.aodv_node.proofs.Taken.{datum_taken, stopped, stopped_short, no_memory, short_of, seen_same}
 use Rattle.aodv_node.proofs.turns.take_turn.Goals as goal
 
 pub returns-in_default-clause-turn : goal.returns-in_default-clause-turn
@@ -54,3 +54,25 @@ returns-in-Err-Full-clause-turn g c =
 pub returns-in-Some-New-clause-ready : goal.returns-in-Some-New-clause-ready
 returns-in-Some-New-clause-ready g c =
     c.new_packet-own.ensures.ready (length c.args.mesh.now) (subst (λ (n : ℕ). IsReady g.T.Table.nodes g.T.Table.entries n c.make_store.new.core) c.requires.ready.table c.make_store.ensures.ready)
+
+pub returns-in_err-make_store-in-New-clause-turn : goal.returns-in_err-make_store-in-New-clause-turn
+returns-in_err-make_store-in-New-clause-turn g c =
+    short_of c.args.mesh.now c.args.range.now _ _ c.in-New.dest c.in-New.body (drop 1 c.args.inbox.now.items) c.from_residual.result c.args.out.now.items
+    (no_memory c.from_residual.result c.from_residual.ensures)
+    (front_of c.args.inbox.now.items (item.New c.in-New.dest c.in-New.body) (drop 1 c.args.inbox.now.items) (option_copied c.front.result) c.front.ensures.front (ap option_copied c.in-Some.is ∙ ap Some c.in-New.is) refl)
+    c.in_err-make_store-in-New.ensures.short
+    (seen_same g.T.Table.nodes g.T.Table.entries c.make_store.new.core c.args.core.now c.args.inbox.now c.make_store.ensures.shown c.make_store.ensures.nodes)
+
+pub returns-in-Err-NoMemory-clause-turn : goal.returns-in-Err-NoMemory-clause-turn
+returns-in-Err-NoMemory-clause-turn g c =
+    let short = stopped_short c.args.mesh.now (shown g.T.Table.entries c.args.core.now) c.args.range.now c.in-Heard.from c.as_slice.result.now c.in-Err-NoMemory.field-0 (shown g.T.Table.entries c.hear.new.core) c.hear.new.out.items c.in-Err-NoMemory.field-0-is c.in-Err-NoMemory.ensures.does in (
+      record {
+        front = item.Heard c.in-Heard.from c.as_slice.result.now;
+        rest = drop 1 c.args.inbox.now.items;
+        was = front_of c.args.inbox.now.items (item.Heard c.in-Heard.from c.as_slice.result.now) (drop 1 c.args.inbox.now.items) (option_copied c.front.result) c.front.ensures.front
+            (ap option_copied c.in-Some.is ∙ ap Some (c.in-Heard.is ∙ ap (item.Heard c.in-Heard.from) (sym c.as_slice.ensures))) refl;
+        readable = short.0;
+        needs = short.1;
+      },
+      seen_same g.T.Table.nodes g.T.Table.entries c.hear.new.core c.args.core.now c.args.inbox.now short.2 (c.hear.ensures.ready.table ∙ sym c.requires.ready.table),
+    )

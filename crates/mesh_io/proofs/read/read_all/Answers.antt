@@ -1,5 +1,5 @@
 use Rattle.std.proofs.Common.{rules}
-use Rattle.mesh_io.proofs.Reading.{front_at_last, front_past}
+use Rattle.mesh_io.proofs.WholeReads.{front_at_last, front_past}
 use Rattle.mesh_io.proofs.read.read_all.Goals as goal
 
 pub returns-in-Ok-eq0-clause-bytes : goal.returns-in-Ok-eq0-clause-bytes

@@ -1,5 +1,6 @@
 -- What was taken and what is left is the input.
-use Rattle.std.proofs.Common.{◌≡◌, ◌-◌, length}
+use Rattle.std.proofs.Common.{◌≡◌, ◌+◌, ◌-◌, length}
+use Rattle.mesh_base.specs.declared.limits.TheConstants.{LONGEST_INPUT}
 use Rattle.std.specs.Io.KnownBytes.{Consumes}
 use Rattle.mesh_io.proofs.read.read_all.Given as goal
 
@@ -10,4 +11,4 @@ invariant-loop-buf g l = record {
 }
 
 abbrev pub decreases-loop-buf : goal.decreases-loop-buf
-decreases-loop-buf g l = 16777217 - length l.bytes.items
+decreases-loop-buf g l = LONGEST_INPUT + 1 - length l.bytes.items

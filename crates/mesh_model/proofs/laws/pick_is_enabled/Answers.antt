@@ -1,4 +1,4 @@
-use Rattle.mesh_model.proofs.Picks as lemmas
+use Rattle.mesh_model.proofs.Chosen as lemmas
 use Rattle.mesh_model.proofs.laws.pick_is_enabled.Goals as goal
 
 pub returns : goal.returns

@@ -1,11 +1,12 @@
 use Rattle.std.proofs.Common.{◌≡◌, ℕ, List, [], ◌∷◌, ◌++◌, ap, ◌∙◌}
 use Rattle.mesh_meaning.specs.Events.{event_of}
-use Rattle.mesh_text.specs.Lines.{line, event_words, words_of}
+use Rattle.mesh_grammar.specs.Written.{line}
+use Rattle.mesh_text.specs.Lines.{event_words, words_of}
 use Rattle.mesh_report.proofs.Dones.{event_whole}
 use Rattle.mesh_report.proofs.effects.put_event.Goals as goal
 
 pub returns-clause-text : goal.returns-clause-text
-unfolding words_of
+unfolding words_of event_words
 returns-clause-text g c = λ w.
     let is : c.push.new.self.items ≡ line (event_words c.args.mesh.now (event_of c.args.e.now)) =
     c.push.ensures.items ∙ ap (λ (l : List ℕ). l ++ 10 ∷ []) c.print_line.ensures.text in

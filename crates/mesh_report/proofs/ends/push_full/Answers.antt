@@ -1,5 +1,6 @@
 use Rattle.std.proofs.Common.{append_assoc, ◌∷◌, [], ◌++◌, List, ℕ, ◌≡◌, ap, ◌∙◌}
-use Rattle.mesh_text.specs.Lines.{line, full_line}
+use Rattle.mesh_grammar.specs.Written.{line}
+use Rattle.mesh_text.specs.Lines.{full_line}
 use Rattle.mesh_report.proofs.ends.push_full.Goals as goal
 
 first : (old number colon event l1 l2 l3 : List ℕ) → l1 ≡ old ++ number → l2 ≡ l1 ++ colon → l3 ≡ l2 ++ event → l3 ≡ old ++ (number ++ colon ++ event)

@@ -1,19 +1,21 @@
 use Rattle.std.proofs.Common.{append_assoc, ◌∷◌, [], ◌++◌, List, ℕ, ◌≡◌}
-use Rattle.mesh_text.specs.Lines.{line, summary_text}
+use Rattle.mesh_grammar.specs.Written.{line}
+use Rattle.mesh_text.specs.Lines.{summary_text}
 use Rattle.mesh_report.proofs.ends.push_summary.Goals as goal
 
 first : (old front waiting queued l1 l2 l3 : List ℕ) → l1 ≡ old ++ front → l2 ≡ l1 ++ waiting → l3 ≡ l2 ++ queued → l3 ≡ old ++ (front ++ waiting ++ queued)
 first old front waiting queued l1 l2 l3 p1 p2 p3 = rw (p3, p2, p1) (simp append_assoc)
 
-second : (old front flying lost l3 l4 l5 l6 : List ℕ) → l3 ≡ old ++ front → l4 ≡ l3 ++ flying → l5 ≡ l4 ++ lost → l6 ≡ l5 ++ 10 ∷ [] → l6 ≡ old ++ (front ++ flying ++ line lost)
-second old front flying lost l3 l4 l5 l6 p3 p4 p5 p6 = rw (p6, p5, p4, p3) (simp append_assoc)
+second : (old front flying lost copied l3 l4 l5 l6 l7 : List ℕ) → l3 ≡ old ++ front → l4 ≡ l3 ++ flying → l5 ≡ l4 ++ lost → l6 ≡ l5 ++ copied
+    → l7 ≡ l6 ++ 10 ∷ [] → l7 ≡ old ++ (front ++ flying ++ line (lost ++ copied))
+second old front flying lost copied l3 l4 l5 l6 l7 p3 p4 p5 p6 p7 = rw (p7, p6, p5, p4, p3) (simp append_assoc)
 
 pub returns : goal.returns
 unfolding summary_text
 returns c = record {
   text =
-      second c.args.out.now.items _ _ _ c.push_labelled-2.new.out.items c.push_labelled-3.new.out.items c.push_labelled-4.new.out.items c.push.new.self.items
+      second c.args.out.now.items _ _ _ _ c.push_labelled-2.new.out.items c.push_labelled-3.new.out.items c.push_labelled-4.new.out.items c.push_copied.new.out.items c.push.new.self.items
       (first c.args.out.now.items _ _ _ c.push_done.new.out.items c.push_labelled.new.out.items c.push_labelled-2.new.out.items
       c.push_done.ensures.text c.push_labelled.ensures.text c.push_labelled-2.ensures.text)
-      c.push_labelled-3.ensures.text c.push_labelled-4.ensures.text c.push.ensures.items;
+      c.push_labelled-3.ensures.text c.push_labelled-4.ensures.text c.push_copied.ensures.text c.push.ensures.items;
 }

@@ -1,5 +1,5 @@
 use Rattle.std.proofs.Common.{◌≡◌, ℕ, List, [], ◌∷◌, ◌++◌, append_assoc}
-use Rattle.mesh_text.specs.Lines.{line}
+use Rattle.mesh_grammar.specs.Written.{line}
 use Rattle.mesh_text.specs.Tables.{entry_text}
 use Rattle.mesh_report.proofs.tables.push_entry.Goals as goal
 

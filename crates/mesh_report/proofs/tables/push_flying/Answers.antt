@@ -1,5 +1,5 @@
 use Rattle.std.proofs.Common.{◌≡◌, ◌≤◌, ℕ, List, ◌∷◌, ◌++◌, length, append_assoc, arith}
-use Rattle.mesh_text.specs.Lines.{line}
+use Rattle.mesh_grammar.specs.Written.{line}
 use Rattle.mesh_text.specs.Tables.{flying_text}
 use Rattle.mesh_report.proofs.Lengths.{written_short}
 use Rattle.mesh_report.proofs.tables.push_flying.Goals as goal

@@ -2,7 +2,8 @@ use Rattle.std.proofs.Common.{◌++◌, List, ℕ}
 use Rattle.std.proofs.lemmas.Result.{err_from_is_err_and}
 use Rattle.mesh_text.specs.Tables.{flight_text}
 use Rattle.mesh_text.specs.Schedule.{Moment, ShowsFlight, world_of}
-use Rattle.mesh_text.specs.Lines.{line, words_of}
+use Rattle.mesh_text.specs.Lines.{words_of}
+use Rattle.mesh_grammar.specs.Written.{line}
 use Rattle.mesh_run.proofs.Events.{shows_goes, shows_stops, flight_came}
 use Rattle.mesh_run.proofs.commands.do_flight.Goals as goal
 

@@ -3,7 +3,8 @@ use Rattle.std.proofs.lemmas.Result.{err_from_is_err_and}
 use Rattle.mesh_model.specs.Routes.{route_end}
 use Rattle.mesh_text.specs.Tables.{end_text}
 use Rattle.mesh_text.specs.Schedule.{Moment, ShowsRoute, world_of}
-use Rattle.mesh_text.specs.Lines.{line, words_of}
+use Rattle.mesh_text.specs.Lines.{words_of}
+use Rattle.mesh_grammar.specs.Written.{line}
 use Rattle.mesh_run.proofs.Events.{shows_goes, shows_stops, route_came}
 use Rattle.mesh_run.proofs.commands.do_route.Goals as goal
 

@@ -3,7 +3,8 @@ use Rattle.std.proofs.lemmas.Result.{err_from_is_err_and}
 use Rattle.std.specs.List.{slice_get}
 use Rattle.mesh_text.specs.Tables.{node_text_in}
 use Rattle.mesh_text.specs.Schedule.{Moment, ShowsNode, world_of}
-use Rattle.mesh_text.specs.Lines.{line, words_of}
+use Rattle.mesh_text.specs.Lines.{words_of}
+use Rattle.mesh_grammar.specs.Written.{line}
 use Rattle.mesh_run.proofs.Events.{shows_goes, shows_stops, node_came}
 use Rattle.mesh_run.proofs.commands.do_show.Goals as goal
 

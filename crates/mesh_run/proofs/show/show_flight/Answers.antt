@@ -2,29 +2,27 @@ use Rattle.std.proofs.Common.{◌≡◌, ◌∙◌, ap, sym}
 use Rattle.std.proofs.lemmas.Result.{err_from_is_err_and}
 use Rattle.mesh_base.specs.Meshes.{Nodes}
 use Rattle.mesh_model.specs.Worlds.{World}
-use Rattle.mesh_text.specs.Schedule.{ShowsFlight, world_of}
-use Rattle.mesh_text.specs.Lines.{line, words_of}
+use Rattle.mesh_text.specs.Schedule.{world_of}
+use Rattle.mesh_grammar.specs.Written.{line}
 use Rattle.mesh_text.specs.Tables.{flight_text}
 use Rattle.mesh_meaning.specs.Packets.{copy_in}
 use Rattle.std.proofs.Common.{map}
 use Rattle.mesh_run.proofs.Tables.{shows_whole, shows_front}
 use Rattle.mesh_run.proofs.show.show_flight.Goals as goal
 
-pub returns-in_err-put_line-clause-text : goal.returns-in_err-put_line-clause-text
-returns-in_err-put_line-clause-text g c =
+pub returns-in_err-put_echo-clause-text : goal.returns-in_err-put_echo-clause-text
+returns-in_err-put_echo-clause-text g c =
     let p = err_from_is_err_and c.from_residual.result c.from_residual.ensures.1 in
-    let same : c.mesh.result.now ≡ c.args.at.now.mesh = c.mesh.ensures.value ∙ c.in-Some.ensures.value.1 in
-    let words = ap (λ (m : Nodes). line (words_of m ShowsFlight)) same in
-    rw p.1 (shows_front c.args.quiet _ _ _ _ _ c.if-quiet.false words c.in_err-put_line.ensures.text)
+    let words = ap line c.requires.echo.1 in
+    rw p.1 (shows_front c.args.quiet _ _ _ _ _ c.if-quiet.false words c.in_err-put_echo.ensures.text)
 
 pub returns-clause-text : goal.returns-clause-text
 returns-clause-text g c =
-    let same : c.mesh.result.now ≡ c.args.at.now.mesh = c.mesh.ensures.value ∙ c.in-Some.ensures.value.1 in
-    let again : c.mesh-2.result.now ≡ c.args.at.now.mesh = c.mesh-2.ensures.value ∙ c.in-Some.ensures.value.1 in
-    let words = ap (λ (m : Nodes). line (words_of m ShowsFlight)) same in
-    let shown : flight_text c.mesh-2.result.now (map (copy_in c.mesh-2.result.now) c.radio.result.now.flying) ≡ flight_text c.args.at.now.mesh (world_of c.args.at.now).flying =
+    let again : c.mesh.result.now ≡ c.args.at.now.mesh = c.mesh.ensures.value ∙ c.in-Some.ensures.value.1 in
+    let words = ap line c.requires.echo.1 in
+    let shown : flight_text c.mesh.result.now (map (copy_in c.mesh.result.now) c.radio.result.now.flying) ≡ flight_text c.args.at.now.mesh (world_of c.args.at.now).flying =
     ap (λ (m : Nodes). flight_text m (map (copy_in m) c.radio.result.now.flying)) again
     ∙ ap (λ (m : Nodes). flight_text c.args.at.now.mesh (map (copy_in m) c.radio.result.now.flying)) (sym c.in-Some.ensures.value.1)
     ∙ ap (flight_text c.args.at.now.mesh) c.radio.ensures.flying
     ∙ ap (λ (w : World). flight_text c.args.at.now.mesh w.flying) c.in-Some.ensures.value.0 in
-    shows_whole c.args.quiet _ _ _ _ _ (g.O.Sink.held c.put_line.new.out) _ c.put_copies.result c.if-quiet.false words shown c.in_ok-put_line.ensures.text c.put_copies.ensures.text
+    shows_whole c.args.quiet _ _ _ _ _ (g.O.Sink.held c.put_echo.new.out) _ c.put_copies.result c.if-quiet.false words shown c.in_ok-put_echo.ensures.text c.put_copies.ensures.text

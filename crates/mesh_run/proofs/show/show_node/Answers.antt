@@ -2,28 +2,26 @@ use Rattle.std.proofs.Common.{◌≡◌, ◌∙◌, ap}
 use Rattle.std.proofs.lemmas.Result.{err_from_is_err_and}
 use Rattle.mesh_base.specs.Meshes.{Nodes}
 use Rattle.mesh_model.specs.Worlds.{World}
-use Rattle.mesh_text.specs.Schedule.{ShowsNode, world_of}
-use Rattle.mesh_text.specs.Lines.{line, words_of}
+use Rattle.mesh_text.specs.Schedule.{world_of}
+use Rattle.mesh_grammar.specs.Written.{line}
 use Rattle.mesh_text.specs.Tables.{node_text, node_text_in}
 use Rattle.std.specs.List.{slice_get}
 use Rattle.std.proofs.Common.{length}
 use Rattle.mesh_run.proofs.Tables.{node_shown, shows_whole, shows_front}
 use Rattle.mesh_run.proofs.show.show_node.Goals as goal
 
-pub returns-in_err-put_line-clause-text : goal.returns-in_err-put_line-clause-text
-returns-in_err-put_line-clause-text g c =
+pub returns-in_err-put_echo-clause-text : goal.returns-in_err-put_echo-clause-text
+returns-in_err-put_echo-clause-text g c =
     let p = err_from_is_err_and c.from_residual.result c.from_residual.ensures.1 in
-    let same : c.mesh.result.now ≡ c.args.at.now.mesh = c.mesh.ensures.value ∙ c.in-Some.ensures.value.1 in
-    let words = ap (λ (m : Nodes). line (words_of m (ShowsNode c.args.node))) same in
-    rw p.1 (shows_front c.args.quiet _ _ _ _ _ c.if-quiet.false words c.in_err-put_line.ensures.text)
+    let words = ap line c.requires.echo.1 in
+    rw p.1 (shows_front c.args.quiet _ _ _ _ _ c.if-quiet.false words c.in_err-put_echo.ensures.text)
 
 pub returns-clause-text : goal.returns-clause-text
 returns-clause-text g c =
-    let same : c.mesh.result.now ≡ c.args.at.now.mesh = c.mesh.ensures.value ∙ c.in-Some.ensures.value.1 in
-    let words = ap (λ (m : Nodes). line (words_of m (ShowsNode c.args.node))) same in
-    let shown : node_text c.mesh-2.result.now c.node.result.now.core (length c.node.result.now.items) ≡ node_text_in c.args.at.now.mesh (slice_get (world_of c.args.at.now).nodes c.args.node) =
-    ap (λ (m : Nodes). node_text m c.node.result.now.core (length c.node.result.now.items)) c.mesh-2.ensures.value
+    let words = ap line c.requires.echo.1 in
+    let shown : node_text c.mesh.result.now c.node.result.now.core (length c.node.result.now.items) ≡ node_text_in c.args.at.now.mesh (slice_get (world_of c.args.at.now).nodes c.args.node) =
+    ap (λ (m : Nodes). node_text m c.node.result.now.core (length c.node.result.now.items)) c.mesh.ensures.value
     ∙ node_shown c.in-Some.world.now.mesh _ c.node.result.now c.node.ensures.node
     ∙ ap (λ (m : Nodes). node_text_in m (slice_get (c.in-Some.world.now.world).nodes c.args.node)) c.in-Some.ensures.value.1
     ∙ ap (λ (w : World). node_text_in c.args.at.now.mesh (slice_get w.nodes c.args.node)) c.in-Some.ensures.value.0 in
-    shows_whole c.args.quiet _ _ _ _ _ (g.O.Sink.held c.put_line.new.out) _ c.put_node.result c.if-quiet.false words shown c.in_ok-put_line.ensures.text c.put_node.ensures.text
+    shows_whole c.args.quiet _ _ _ _ _ (g.O.Sink.held c.put_echo.new.out) _ c.put_node.result c.if-quiet.false words shown c.in_ok-put_echo.ensures.text c.put_node.ensures.text

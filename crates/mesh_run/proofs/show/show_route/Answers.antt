@@ -3,26 +3,24 @@ use Rattle.std.proofs.lemmas.Result.{err_from_is_err_and}
 use Rattle.mesh_base.specs.Meshes.{Nodes}
 use Rattle.mesh_model.specs.Worlds.{World}
 use Rattle.mesh_model.specs.Routes.{route_end}
-use Rattle.mesh_text.specs.Schedule.{ShowsRoute, world_of}
-use Rattle.mesh_text.specs.Lines.{line, words_of}
+use Rattle.mesh_text.specs.Schedule.{world_of}
+use Rattle.mesh_grammar.specs.Written.{line}
 use Rattle.mesh_text.specs.Tables.{end_text}
 use Rattle.mesh_world.specs.Ends.{end_in}
 use Rattle.mesh_run.proofs.Tables.{shows_whole, shows_front}
 use Rattle.mesh_run.proofs.show.show_route.Goals as goal
 
-pub returns-in_err-put_line-clause-text : goal.returns-in_err-put_line-clause-text
-returns-in_err-put_line-clause-text g c =
+pub returns-in_err-put_echo-clause-text : goal.returns-in_err-put_echo-clause-text
+returns-in_err-put_echo-clause-text g c =
     let p = err_from_is_err_and c.from_residual.result c.from_residual.ensures.1 in
-    let same : c.mesh.result.now ≡ c.args.at.now.mesh = c.mesh.ensures.value ∙ c.in-Some.ensures.value.1 in
-    let words = ap (λ (m : Nodes). line (words_of m (ShowsRoute c.args.node c.args.dest))) same in
-    rw p.1 (shows_front c.args.quiet _ _ _ _ _ c.if-quiet.false words c.in_err-put_line.ensures.text)
+    let words = ap line c.requires.echo.1 in
+    rw p.1 (shows_front c.args.quiet _ _ _ _ _ c.if-quiet.false words c.in_err-put_echo.ensures.text)
 
 pub returns-clause-text : goal.returns-clause-text
 returns-clause-text g c =
-    let same : c.mesh.result.now ≡ c.args.at.now.mesh = c.mesh.ensures.value ∙ c.in-Some.ensures.value.1 in
-    let again : c.mesh-2.result.now ≡ c.args.at.now.mesh = c.mesh-2.ensures.value ∙ c.in-Some.ensures.value.1 in
-    let words = ap (λ (m : Nodes). line (words_of m (ShowsRoute c.args.node c.args.dest))) same in
-    let end : end_text c.mesh-2.result.now (end_in c.follow.result) ≡ end_text c.args.at.now.mesh (route_end (world_of c.args.at.now) c.args.node c.args.dest) =
+    let again : c.mesh.result.now ≡ c.args.at.now.mesh = c.mesh.ensures.value ∙ c.in-Some.ensures.value.1 in
+    let words = ap line c.requires.echo.1 in
+    let end : end_text c.mesh.result.now (end_in c.follow.result) ≡ end_text c.args.at.now.mesh (route_end (world_of c.args.at.now) c.args.node c.args.dest) =
     ap (λ (m : Nodes). end_text m (end_in c.follow.result)) again ∙ ap (end_text c.args.at.now.mesh) c.follow.ensures.value
     ∙ ap (λ (w : World). end_text c.args.at.now.mesh (route_end w c.args.node c.args.dest)) c.in-Some.ensures.value.0 in
-    shows_whole c.args.quiet _ _ _ _ _ (g.O.Sink.held c.put_line.new.out) _ c.put_end.result c.if-quiet.false words end c.in_ok-put_line.ensures.text c.put_end.ensures.text
+    shows_whole c.args.quiet _ _ _ _ _ (g.O.Sink.held c.put_echo.new.out) _ c.put_end.result c.if-quiet.false words end c.in_ok-put_echo.ensures.text c.put_end.ensures.text

@@ -15,3 +15,6 @@ returns-in-Heard c = λ mesh x old new packet is. gives_none old new (event_of c
 
 pub returns-in-Lost : goal.returns-in-Lost
 returns-in-Lost c = λ mesh x old new packet is. gives_none old new (event_of c.args.e.now) _ tt (is ∙ ap (λ d. outcome_in mesh x new d packet) c.in-Lost.is)
+
+pub returns-in-Doubled : goal.returns-in-Doubled
+returns-in-Doubled c = λ mesh x old new packet is. gives_none old new (event_of c.args.e.now) _ tt (is ∙ ap (λ d. outcome_in mesh x new d packet) c.in-Doubled.is)

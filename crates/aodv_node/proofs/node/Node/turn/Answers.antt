@@ -1,7 +1,11 @@
-use Rattle.std.proofs.Common.{ap, ◌∙◌}
+use Rattle.std.proofs.Common.{sym, ap, ◌∙◌}
+use Rattle.aodv_table.proofs.IndexLaws.{has_row}
 use Rattle.aodv_node.specs.Seen.{NodeSeen}
 use Rattle.aodv_node.proofs.Nodes.{turned}
 use Rattle.aodv_node.proofs.node.Node.turn.Goals as goal
+
+pub take_turn-requires-clause-rows : goal.take_turn-requires-clause-rows
+take_turn-requires-clause-rows c = λ d lt. has_row c.self.inside.core.table.nodes d c.self.inside.core.table.rooms (sym c.nodes-nodes.ensures.rooms) lt
 
 pub invariant_of-self : goal.invariant_of-self
 invariant_of-self c =

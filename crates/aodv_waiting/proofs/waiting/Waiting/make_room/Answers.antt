@@ -2,7 +2,7 @@ use Rattle.std.proofs.Common.{◌≡◌, ◌<◌, length, ap, refl, ◌∙◌, a
 use Rattle.std.specs.VecDeque.{deque_items, deque_len, deque_capacity}
 use Rattle.std.proofs.lemmas.Result.{on_err_weaker}
 use Rattle.aodv_waiting.specs.Rows.{store_of, room_of}
-use Rattle.aodv_waiting.proofs.StoreLaws.{rings_len, none_changed, rooms_kept, room_made}
+use Rattle.aodv_waiting.proofs.StoreLaws.{rings_len, none_changed, room_read, rooms_kept, room_made}
 use Rattle.aodv_waiting.proofs.waiting.Waiting.make_room.Goals as goal
 
 pub invariant_of-self : goal.invariant_of-self
@@ -44,3 +44,15 @@ returns-clause-keeps c =
     let rings = c.self.inside.rows.items in
     let lt : c.args.d < length rings = omega (arith, c.requires, rings_len _ rings _ (ap (λ s. s.rooms) c.self.view_is)) in
     (rooms_kept room_of rings c.args.d c.index_mut-row.result.now c.make_room_in.new.ring c.args.self.now.rooms lt c.index_mut-row.ensures.value (omega (arith, c.make_room_in.ensures.len, c.make_room_in.ensures.keeps)) (ap (λ s. s.rooms) c.self.view_is)).room
+
+pub returns-clause-still : goal.returns-clause-still
+returns-clause-still c = λ some.
+    let rings = c.self.inside.rows.items in
+    let lt : c.args.d < length rings = omega (arith, c.requires, rings_len _ rings _ (ap (λ s. s.rooms) c.self.view_is)) in
+    let read = room_read room_of rings c.args.d c.index_mut-row.result.now c.args.self.now.rooms lt c.index_mut-row.ensures.value (ap (λ s. s.rooms) c.self.view_is) in
+    let capacity = c.make_room_in.ensures.still (omega (arith, read, some)) in
+    rw (
+      none_changed deque_items rings c.args.d c.index_mut-row.result.now c.make_room_in.new.ring c.index_mut-row.ensures.value c.make_room_in.ensures.items,
+      none_changed room_of rings c.args.d c.index_mut-row.result.now c.make_room_in.new.ring c.index_mut-row.ensures.value (omega (arith, capacity, c.make_room_in.ensures.len)),
+    )
+    c.self.view_is

@@ -10,7 +10,7 @@ invariant_of-self c =
     let place = place_along _ _ c.args.a.0 c.count_below-place.result c.as_slice.ensures.value at.within at.below at.above in
     let none : index_of c.self.inside.nodes.items c.args.a.0 ≡ None = ap (λ m. index_of m c.args.a.0) c.self.view_is ∙ search rules in
     let few : length c.self.inside.nodes.items < 200 = grind (arith, nat_tests, c.if-is_full.ensures.value, c.self.invariant.few) in
-    subst IsMesh (sym c.insert.ensures.items) (insert_is_mesh _ c.args.a.0 c.args.first _ c.self.invariant place (absent_is _ _ _ place none) few c.requires)
+    subst IsMesh (sym c.insert.ensures.items) (insert_is_mesh _ c.args.a.0 c.args.first _ c.self.invariant place (absent_is _ _ _ place none) few c.requires (search rules) (search rules))
 
 pub returns-clause-added : goal.returns-clause-added
 returns-clause-added c =

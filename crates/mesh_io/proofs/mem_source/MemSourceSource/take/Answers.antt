@@ -1,6 +1,6 @@
 use Rattle.std.proofs.Common.{ap}
 use Rattle.std.proofs.lemmas.List.{take_rest}
-use Rattle.mesh_io.proofs.Reading.{gives}
+use Rattle.mesh_io.proofs.Giving.{gives}
 use Rattle.mesh_io.proofs.mem_source.MemSourceSource.take.Goals as goal
 
 pub returns-clause-bytes : goal.returns-clause-bytes

@@ -1,6 +1,6 @@
 use Rattle.std.proofs.Common.{lit<}
 use Rattle.std.proofs.lemmas.List.{take_rest}
-use Rattle.mesh_io.proofs.Reading.{gives}
+use Rattle.mesh_io.proofs.Giving.{gives}
 use Rattle.mesh_io.proofs.sure.SureSourceSource.take.Goals as goal
 
 pub returns-clause-bytes : goal.returns-clause-bytes

@@ -1,32 +1,46 @@
-use Rattle.std.proofs.Common.{subst, sym, ◌∷◌, ◌≡◌, ◌≤◌, ◌<◌, [], ◌+◌, ◌^◌}
-use Rattle.std.specs.Prelude.{IfSome, IfNone}
-use Rattle.mesh_base.specs.Views.{flying_seen}
+use Rattle.std.proofs.Common.{◌+◌, ◌∷◌, ◌∙◌, ap, sym, arith}
 use Rattle.mesh_radio.specs.Copies.{from_id}
-use Rattle.mesh_radio.specs.Kept.{Flights, opened}
-use Rattle.mesh_radio.proofs.Numbered.{next_some, next_below, next_none}
-use Rattle.mesh_radio.proofs.Opened.{opened_slots, opened_length}
+use Rattle.mesh_radio.specs.Kept.{Flights}
+use Rattle.mesh_radio.specs.Casts.{copies_of}
+use Rattle.mesh_radio.proofs.Entries.{find-all, copies-numbered, none-or}
+use Rattle.mesh_radio.proofs.Nexts.{from-none, next-told, next-within}
 use Rattle.mesh_radio.proofs.copies.Copies.next_from.Goals as goal
+
+pub returns-in_err-spot-clause-none : goal.returns-in_err-spot-clause-none
+returns-in_err-spot-clause-none c =
+    let inside = c.self.inside in
+    let es = inside.casts.entries in
+    let kept = c.self.invariant.0 in
+    none-or c.from_residual.result _
+    (ap (λ (v : Flights). from_id v.flying c.args.id) (sym c.self.view_is)
+    ∙ from-none c.args.id 1 inside.next (copies_of es) (copies-numbered 1 inside.next es kept.casts.rising) (λ q le. find-all 1 inside.next q es kept.casts.rising ∙ c.in_err-spot.ensures.none q le))
+
+pub overflow_add-result : goal.overflow_add-result
+overflow_add-result c =
+    let inside = c.self.inside in
+    let kept = c.self.invariant.0 in
+    let within = next-within inside.casts.entries inside.next c.args.id c.in_ok-spot.spot.place c.in_ok-spot.spot.to (c.in_ok-first.first.now, c.in_ok-first.cast.now) kept.casts.rising kept.casts.lefts c.in_ok-spot.ensures.some (sym c.in_ok-first.ensures.entry) in
+    omega (arith, c.count_below.ensures.value, within.1, kept.casts.few)
 
 pub returns-clause-some : goal.returns-clause-some
 returns-clause-some c =
     let inside = c.self.inside in
-    let all = opened inside.packets.items inside.first inside.slots.items in
-    subst (λ (v : Flights). IfSome c.copy_from.result (λ f. from_id v.flying c.args.id ≡ flying_seen f ∷ from_id v.flying (f.id + 1))) c.self.view_is
-    (next_some all inside.first c.args.id c.saturating_sub-place.result c.copy_from.result (opened_slots inside.packets.items inside.first inside.slots.items) c.saturating_sub-place.ensures c.copy_from.ensures.some)
+    let es = inside.casts.entries in
+    let kept = c.self.invariant.0 in
+    let first = c.in_ok-first.first.now in
+    let cast = c.in_ok-first.cast.now in
+    let to = c.in_ok-spot.spot.to in
+    let told = next-told es inside.next c.args.id c.in_ok-spot.spot.place to (first, cast) kept.casts.rising kept.casts.lefts c.in_ok-spot.ensures.some (sym c.in_ok-first.ensures.entry) in
+    ap (λ (v : Flights). from_id v.flying c.args.id) (sym c.self.view_is)
+    ∙ told
+    ∙ ap (λ n. record { id = first + n; from = cast.from; to = to; bytes = cast.bytes } ∷ from_id (copies_of es) (first + n + 1)) (sym c.count_below.ensures.value)
+    ∙ ap (λ bs. record { id = first + c.count_below.result; from = cast.from; to = to; bytes = bs } ∷ from_id (copies_of es) (first + c.count_below.result + 1)) (sym c.as_slice.ensures)
+    ∙ ap (λ (v : Flights). record { id = first + c.count_below.result; from = cast.from; to = to; bytes = c.as_slice.result.now } ∷ from_id v.flying (first + c.count_below.result + 1)) c.self.view_is
 
 pub returns-clause-below : goal.returns-clause-below
 returns-clause-below c =
     let inside = c.self.inside in
-    let all = opened inside.packets.items inside.first inside.slots.items in
-    let size = opened_length inside.packets.items inside.first inside.slots.items in
-    subst (λ (v : Flights). IfSome c.copy_from.result (λ f. (c.args.id ≤ f.id) × (f.id < v.next_copy) × (v.next_copy < 2 ^ 64))) c.self.view_is
-    (subst (λ n. IfSome c.copy_from.result (λ f. (c.args.id ≤ f.id) × (f.id < inside.first + n) × (inside.first + n < 2 ^ 64))) size
-    (next_below all inside.first c.args.id c.saturating_sub-place.result c.copy_from.result (opened_slots inside.packets.items inside.first inside.slots.items)
-    (subst (λ n. inside.first + n < 2 ^ 64) (sym size) c.self.invariant.0.ids.1) c.saturating_sub-place.ensures c.copy_from.ensures.some))
-
-pub returns-clause-none : goal.returns-clause-none
-returns-clause-none c =
-    let inside = c.self.inside in
-    let all = opened inside.packets.items inside.first inside.slots.items in
-    subst (λ (v : Flights). IfNone c.copy_from.result (from_id v.flying c.args.id ≡ [])) c.self.view_is
-    (next_none all inside.first c.args.id c.saturating_sub-place.result c.copy_from.result (opened_slots inside.packets.items inside.first inside.slots.items) c.saturating_sub-place.ensures c.copy_from.ensures.none)
+    let kept = c.self.invariant.0 in
+    let within = next-within inside.casts.entries inside.next c.args.id c.in_ok-spot.spot.place c.in_ok-spot.spot.to (c.in_ok-first.first.now, c.in_ok-first.cast.now) kept.casts.rising kept.casts.lefts c.in_ok-spot.ensures.some (sym c.in_ok-first.ensures.entry) in
+    let next = ap (λ (v : Flights). v.next_copy) c.self.view_is in
+    (omega (arith, c.count_below.ensures.value, within.0), omega (arith, c.count_below.ensures.value, within.1), omega (arith, kept.casts.few))

@@ -1,9 +1,11 @@
 use Rattle.std.proofs.Common.{◌≡◌, length, sym, ap, subst, ◌∙◌, arith}
 use Rattle.std.specs.List.{AllByRecursion}
-use Rattle.mesh_radio.specs.Copies.{IsBetween}
+use Rattle.mesh_radio.specs.Copies.{IsBetween, IsPacketLong}
 use Rattle.mesh_radio.specs.Radios.{RadioState, with_copies}
 use Rattle.mesh_radio.specs.Kept.{Flights, with_flights, radio_of}
-use Rattle.mesh_radio.proofs.Casts.{members-size, members_few, cast-between}
+use Rattle.mesh_base.specs.Members.{member_list}
+use Rattle.mesh_base.proofs.Ranks.{members-size, members_few}
+use Rattle.mesh_radio.proofs.CastCopies.{cast-between, cast-long}
 use Rattle.mesh_radio.proofs.radio.Radio.cast.Goals as goal
 
 pub cast-requires-clause-room : goal.cast-requires-clause-room
@@ -30,6 +32,8 @@ invariant_of-self c =
       same = c.self.invariant.same;
       between = subst (λ (v : Flights). AllByRecursion (IsBetween n) v.flying) (sym c.cast.ensures)
           (cast-between n c.self.inside.copies c.args.from c.as_slice.result.now 256 c.args.to.now c.self.invariant.between (omega (arith, c.requires.from)) (λ q is. let lt = c.requires.below q is in omega arith) c.requires.apart);
+      long = subst (λ (v : Flights). AllByRecursion IsPacketLong v.flying) (sym c.cast.ensures)
+          (cast-long c.self.inside.copies c.args.from c.as_slice.result.now (member_list c.args.to.now) c.self.invariant.long c.as_slice.ensures.fits);
     }
 
 pub returns-clause-copies : goal.returns-clause-copies

@@ -1,5 +1,5 @@
 use Rattle.std.proofs.Common.{arith}
-use Rattle.mesh_radio.proofs.Casts.{members_few}
+use Rattle.mesh_base.proofs.Ranks.{members_few}
 use Rattle.mesh_world.proofs.Receivers.{reached_near, reached_apart}
 use Rattle.mesh_world.proofs.parts.Parts.cast.Goals as goal
 

@@ -54,8 +54,9 @@ returns-in-Err-Full-clause-done c =
 pub returns-in-Err-NoMemory-clause-done : goal.returns-in-Err-NoMemory-clause-done
 returns-in-Err-NoMemory-clause-done c =
     let old = c.args.self.now in
+    let short = rw c.in-Err-NoMemory.field-0-is at c.in-Err-NoMemory.ensures.turn in
     of_ends _ old _ _ _ _ _ _ (no_memory_end _ old.mesh old.nodes.items old.radio c.make_room.new.self old.ready old.steps c.args.x c.index_mut.result.now c.turn.new.self c.turn.new.out.items
-    c.requires.kept c.make_room.ensures.same c.requires.node c.index_mut.ensures.value (rw c.in-Err-NoMemory.field-0-is at c.in-Err-NoMemory.ensures.turn))
+    c.requires.kept c.make_room.ensures.same c.requires.node c.index_mut.ensures.value short.1)
 
 pub returns-clause-done : goal.returns-clause-done
 returns-clause-done c =

@@ -25,16 +25,22 @@ pub returns-in-Cut-clause-sound : goal.returns-in-Cut-clause-sound
 returns-in-Cut-clause-sound c = (c.cut.ensures.done c.args.out.now.items).kept.sound
 
 pub invariant_of-self-in-Deliver : goal.invariant_of-self-in-Deliver
-invariant_of-self-in-Deliver c = (c.deliver.ensures.done c.args.out.now.items).kept
+invariant_of-self-in-Deliver c = (c.deliver_copy.ensures.done c.args.out.now.items).kept
 
 pub returns-in-Deliver-clause-sound : goal.returns-in-Deliver-clause-sound
-returns-in-Deliver-clause-sound c = (c.deliver.ensures.done c.args.out.now.items).kept.sound
+returns-in-Deliver-clause-sound c = (c.deliver_copy.ensures.done c.args.out.now.items).kept.sound
 
 pub invariant_of-self-in-Lose : goal.invariant_of-self-in-Lose
-invariant_of-self-in-Lose c = (c.lose.ensures.done c.args.out.now.items).kept
+invariant_of-self-in-Lose c = (c.lose_copy.ensures.done c.args.out.now.items).kept
 
 pub returns-in-Lose-clause-sound : goal.returns-in-Lose-clause-sound
-returns-in-Lose-clause-sound c = (c.lose.ensures.done c.args.out.now.items).kept.sound
+returns-in-Lose-clause-sound c = (c.lose_copy.ensures.done c.args.out.now.items).kept.sound
+
+pub invariant_of-self-in-Double : goal.invariant_of-self-in-Double
+invariant_of-self-in-Double c = (c.double_copy.ensures.done c.args.out.now.items).kept
+
+pub returns-in-Double-clause-sound : goal.returns-in-Double-clause-sound
+returns-in-Double-clause-sound c = (c.double_copy.ensures.done c.args.out.now.items).kept.sound
 
 pub returns-in-Link-clause-step : goal.returns-in-Link-clause-step
 returns-in-Link-clause-step c = subst (λ (e : Event). IsStep (event_of e) c.args.self.now (Ok c.link.result) (seen_in c.link.new.self) c.args.out.now.items) (sym c.in-Link.is)

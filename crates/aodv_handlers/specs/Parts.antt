@@ -1,0 +1,40 @@
+-- Parts of the model's handlers that its variants share.
+use Rattle.std.specs.Prelude.{◌≡◌, ◌≤◌, ℕ, Bool, not, ◌||◌, ◌==◌, if◌then◌else◌, Option, Some, None}
+use Rattle.mesh_base.specs.declared.events.Variant.{Variant}
+use Rattle.mesh_base.specs.Members.{NodeIds}
+use Rattle.aodv_model.specs.Tables.{Table, Dests, in_vD, nhop, precs}
+use Rattle.aodv_model.specs.Cores.{Core, RouteReply, Rrep}
+use Rattle.aodv_model.specs.Handlers.{Reaction, is_empty, is_error, with_precs, only, join_reply_precursors, reply_on, unicast}
+use Rattle.aodv_handlers.specs.declared.unicast.Reply.{Reply}
+use Rattle.aodv_handlers.specs.Shown.{reply_of}
+
+-- a route error tells of d: always in the variant `Error`, and else where d has precursors
+abbrev pub tells : Variant → Table → ℕ → Bool
+tells v rt d = is_error v || not (is_empty (precs rt d))
+
+-- the destinations of a route error, of these
+abbrev pub told : Variant → Table → Dests → Dests
+told v rt dests = if is_error v then dests else with_precs rt dests
+
+-- what is done with a reply in the core after its updates
+abbrev pub end_of_rrep : Core → Bool → NodeIds → RouteReply → Reaction
+end_of_rrep core stale range m =
+    if (m.oip == core.ip) || not (in_vD core.rt m.oip) then only core
+    else reply_on core.variant core stale range m
+
+-- this reply goes on towards its originator: the next hop to the originator joins the precursors
+unfoldable pub pass_on : Core → NodeIds → RouteReply → Reaction
+pass_on core range m =
+    let rt = join_reply_precursors core.rt m.dip m.oip in
+    unicast (record core { rt = rt }) (Rrep m) (nhop rt m.oip) range
+
+-- the reply goes on as it stands here, if any does
+abbrev pub passing : Core → NodeIds → Option Reply → Reaction
+passing core range None = only core
+passing core range (Some m) = pass_on core range (reply_of m)
+
+-- the reply r is for the nodes that m is for, and its number isn't 0
+pub record IsNumberedAs (m r : Reply) : Type 0 where
+  pub dip : r.dip ≡ m.dip
+  pub oip : r.oip ≡ m.oip
+  pub dsn : 1 ≤ r.dsn

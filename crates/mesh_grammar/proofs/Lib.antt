@@ -1,0 +1,3 @@
+pub mod Canonical
+pub mod Readings
+pub mod Spellings

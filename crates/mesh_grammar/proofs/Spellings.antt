@@ -1,0 +1,198 @@
+-- What is written is read as it was.
+use Rattle.std.proofs.Common.{◌≡◌, ◌≢◌, ℕ, ◌^◌, ◌<◌, ◌≤◌, Bool, true, false, eqb, leb, cond, ◌&&◌, List, [], ◌∷◌, ◌++◌, Some, None, Result, Ok, length, refl, sym, ap, ◌∙◌, arith, append_assoc, codes}
+use Rattle.std.specs.List.{AllByRecursion, join_with_byte}
+use Rattle.std.specs.Fmt.{decimal}
+use Rattle.std.proofs.lemmas.Bool.{ne_eqb, le-leb, and_from}
+use Rattle.std.proofs.lemmas.List.Splits.{length-slice_split, join_with_byte-slice_split}
+use Rattle.mesh_base.specs.declared.limits.TheConstants.{LONGEST_DATUM}
+use Rattle.mesh_base.specs.Parts.{parts}
+use Rattle.mesh_base.specs.Addresses.{dotted}
+use Rattle.mesh_base.proofs.Spelling.{Lacks, one_lacks, parts_at, parts_none, decimal_lacks, dotted_lacks, positive-decimal, address_of-dotted}
+use Rattle.mesh_grammar.specs.declared.fault.LineFault.{LineFault}
+use Rattle.mesh_grammar.specs.declared.fault.LineFault.TheVariants.{BadAddress, BadNumber, BadText}
+use Rattle.mesh_grammar.specs.declared.form.Form.{Form}
+use Rattle.mesh_grammar.specs.declared.form.Form.TheVariants as form
+use Rattle.mesh_grammar.specs.Words.{Mention, span_at, next_at, with_argument, address_at, number_at, are_printable, is_text, text_of, text_at, is_blank}
+use Rattle.mesh_grammar.specs.Forms.{Arguments, NoArgument, OneAddress, TwoAddresses, OneNumber, NumberedAddress, AddressesAndText, greatest_first, numbered_address, addresses_and_text, arguments_of, IsText, AreOfForm}
+use Rattle.mesh_grammar.specs.Scripts.{Row, row_in, shape_with, by_row, by_words, shape_by}
+use Rattle.mesh_grammar.specs.Written.{written}
+use Rattle.mesh_grammar.proofs.Readings.{sn_text, three_texts}
+use Rattle.mesh_grammar.specs.Laws.{mention, after_address, mentioned, HaveAddresses, IsReadable, WrittenLineIsRead}
+
+-- ---- one argument
+
+pub address_there : {B : Type 0} (at a : ℕ) (next : Mention → Result B LineFault) → a < 2 ^ 32 → address_at at (dotted a) next ≡ next (mention at a)
+address_there {B} at a next fits =
+    let next_of : ℕ → Result B LineFault = λ n. next (record { address = n; span = span_at at (dotted a) }) in
+    ap (λ o. with_argument o (BadAddress (span_at at (dotted a))) next_of) (address_of-dotted a fits)
+
+pub number_there : {B : Type 0} (most at n : ℕ) (next : ℕ → Result B LineFault) → 1 ≤ n → n ≤ most → n < 2 ^ 64 → number_at most at (decimal n) next ≡ next n
+number_there most at n next one le fits = ap (λ o. with_argument o (BadNumber (span_at at (decimal n))) next) (positive-decimal most n one le fits)
+
+all_shown : (body : List ℕ) → AllByRecursion (λ b. (32 ≤ b) × (b ≤ 126)) body → are_printable body ≡ true
+all_shown [] all = refl
+all_shown (b ∷ bs) all =
+    and_from (leb 32 b && leb b 126) _ (and_from (leb 32 b) (leb b 126) (le-leb 32 b all.0.0) (le-leb b 126 all.0.1)) (all_shown bs all.1)
+
+is_text_of : (body : List ℕ) → IsText body → text_of body ≡ Some body
+is_text_of body is =
+    let low : leb 1 (length body) ≡ true = le-leb 1 (length body) is.0 in
+    let high : leb (length body) LONGEST_DATUM ≡ true = le-leb (length body) LONGEST_DATUM is.1 in
+    let short : leb 1 (length body) && leb (length body) LONGEST_DATUM ≡ true = and_from (leb 1 (length body)) (leb (length body) LONGEST_DATUM) low high in
+    let all : is_text body ≡ true = and_from (leb 1 (length body) && leb (length body) LONGEST_DATUM) _ short (all_shown body is.2) in
+    rw all refl
+
+pub text_there : {B : Type 0} (at : ℕ) (body : List ℕ) (next : List ℕ → Result B LineFault) → IsText body → text_at at body next ≡ next body
+text_there at body next is = ap (λ o. with_argument o (BadText (span_at at body)) next) (is_text_of body is)
+
+-- ---- the words of arguments
+
+words_in : Arguments ℕ → List (List ℕ)
+words_in NoArgument = []
+words_in (OneAddress a) = dotted a ∷ []
+words_in (TwoAddresses a b) = dotted a ∷ dotted b ∷ []
+words_in (OneNumber n) = decimal n ∷ []
+words_in (NumberedAddress a first) = dotted a ∷ codes "sn" ∷ decimal first ∷ []
+words_in (AddressesAndText a b text) = dotted a ∷ dotted b ∷ parts 32 text
+
+-- numbers have at most 64 bits
+HaveNumbers : Arguments ℕ → Type 0
+HaveNumbers (OneNumber n) = n < 2 ^ 64
+HaveNumbers (NumberedAddress a first) = first < 2 ^ 64
+HaveNumbers others = Unit {0}
+
+module _ (word : List ℕ) (lacks : Lacks 32 word) where
+  after_name : (a : ℕ) (rest : List ℕ) → a < 2 ^ 32 → parts 32 (word ++ 32 ∷ (dotted a ++ 32 ∷ rest)) ≡ word ∷ dotted a ∷ parts 32 rest
+  after_name a rest fits =
+      parts_at 32 word (dotted a ++ 32 ∷ rest) lacks
+      ∙ ap (λ ws. word ∷ ws) (parts_at 32 (dotted a) rest (dotted_lacks 32 a (omega arith) fits))
+
+  only_name : (a : ℕ) → a < 2 ^ 32 → parts 32 (dotted a) ≡ dotted a ∷ []
+  only_name a fits = parts_none 32 (dotted a) (dotted_lacks 32 a (omega arith) fits)
+
+  only_number : (n : ℕ) → n < 2 ^ 64 → parts 32 (decimal n) ≡ decimal n ∷ []
+  only_number n fits = parts_none 32 (decimal n) (decimal_lacks 32 n (omega arith) fits)
+
+  words_written : (arguments : Arguments ℕ) → HaveAddresses arguments → HaveNumbers arguments → parts 32 (written word arguments) ≡ word ∷ words_in arguments
+  unfolding written words_in HaveNumbers
+  words_written NoArgument fit low = parts_none 32 word lacks
+  words_written (OneAddress a) fit low = parts_at 32 word (dotted a) lacks ∙ ap (λ ws. word ∷ ws) (only_name a fit)
+  words_written (TwoAddresses a b) fit low =
+      ap (parts 32) (append_assoc word (32 ∷ dotted a) (32 ∷ dotted b))
+      ∙ after_name a (dotted b) fit.0
+      ∙ ap (λ ws. word ∷ dotted a ∷ ws) (only_name b fit.1)
+  words_written (OneNumber n) fit low = parts_at 32 word (decimal n) lacks ∙ ap (λ ws. word ∷ ws) (only_number n low)
+  words_written (NumberedAddress a first) fit low =
+      ap (parts 32) (sym (sn_text word (dotted a) (decimal first)))
+      ∙ after_name a (codes "sn" ++ 32 ∷ decimal first) fit
+      ∙ ap (λ ws. word ∷ dotted a ∷ codes "sn" ∷ ws) (only_number first low)
+  words_written (AddressesAndText a b text) fit low =
+      ap (parts 32) (sym (three_texts word (dotted a) (dotted b) text))
+      ∙ after_name a (dotted b ++ 32 ∷ text) fit.0
+      ∙ ap (λ ws. word ∷ dotted a ∷ ws) (parts_at 32 (dotted b) text (dotted_lacks 32 b (omega arith) fit.1))
+
+-- ---- the arguments of each form
+
+module _ (at : ℕ) where
+  one_there : (a : ℕ) → a < 2 ^ 32 → arguments_of form.Address at (dotted a ∷ []) ≡ Ok (OneAddress (mention at a))
+  one_there a fits = address_there at a (λ x. Ok (OneAddress x)) fits
+
+  two_there : (a b : ℕ) → a < 2 ^ 32 → b < 2 ^ 32
+      → arguments_of form.Addresses at (dotted a ∷ dotted b ∷ []) ≡ Ok (TwoAddresses (mention at a) (mention (after_address at a) b))
+  two_there a b a_fits b_fits =
+      address_there at a (λ x. address_at (after_address at a) (dotted b) (λ y. Ok (TwoAddresses x y))) a_fits
+      ∙ address_there (after_address at a) b (λ y. Ok (TwoAddresses (mention at a) y)) b_fits
+
+  count_there : (most n : ℕ) → most < 2 ^ 64 → 1 ≤ n → n ≤ most → arguments_of (form.Number most) at (decimal n ∷ []) ≡ Ok (OneNumber n)
+  count_there most n fits one le = number_there most at n (λ k. Ok (OneNumber k)) one le (omega arith)
+
+  numbered_there : (a first : ℕ) → a < 2 ^ 32 → 1 ≤ first → first ≤ greatest_first
+      → arguments_of form.Numbered at (dotted a ∷ codes "sn" ∷ decimal first ∷ []) ≡ Ok (NumberedAddress (mention at a) first)
+  unfolding numbered_address
+  numbered_there a first fits one le =
+      let third : ℕ = next_at (after_address at a) (codes "sn") in
+      address_there at a (λ x. number_at greatest_first third (decimal first) (λ n. Ok (NumberedAddress x n))) fits
+      ∙ number_there greatest_first third first (λ n. Ok (NumberedAddress (mention at a) n)) one le (omega arith)
+
+  -- the words of the text, joined again
+  text_joined : (a b : ℕ) (text : List ℕ) (ws : List (List ℕ)) → 1 ≤ length ws → join_with_byte 32 ws ≡ text → a < 2 ^ 32 → b < 2 ^ 32 → IsText text
+      → arguments_of form.Text at (dotted a ∷ dotted b ∷ ws) ≡ Ok (AddressesAndText (mention at a) (mention (after_address at a) b) text)
+  unfolding addresses_and_text
+  text_joined a b text [] some joined a_fits b_fits is = absurd (omega arith)
+  text_joined a b text (t ∷ ts) some joined a_fits b_fits is =
+      let second : ℕ = after_address at a in
+      let third : ℕ = after_address second b in
+      let body : List ℕ = join_with_byte 32 (t ∷ ts) in
+      address_there at a (λ x. address_at second (dotted b) (λ y. text_at third body (λ z. Ok (AddressesAndText x y z)))) a_fits
+      ∙ address_there second b (λ y. text_at third body (λ z. Ok (AddressesAndText (mention at a) y z))) b_fits
+      ∙ ap (λ l. text_at third l (λ z. Ok (AddressesAndText (mention at a) (mention second b) z))) joined
+      ∙ text_there third text (λ z. Ok (AddressesAndText (mention at a) (mention second b) z)) is
+
+  texts_there : (a b : ℕ) (text : List ℕ) → a < 2 ^ 32 → b < 2 ^ 32 → IsText text
+      → arguments_of form.Text at (dotted a ∷ dotted b ∷ parts 32 text) ≡ Ok (AddressesAndText (mention at a) (mention (after_address at a) b) text)
+  texts_there a b text a_fits b_fits is =
+      text_joined a b text (parts 32 text) (omega (arith, length-slice_split (λ c. eqb c 32) text)) (join_with_byte-slice_split 32 text) a_fits b_fits is
+
+  arguments_there : (f : Form) (arguments : Arguments ℕ) → IsReadable f → AreOfForm f arguments → HaveAddresses arguments
+      → arguments_of f at (words_in arguments) ≡ Ok (mentioned at arguments)
+  unfolding words_in
+  arguments_there form.Bare NoArgument readable is fit = refl
+  arguments_there form.Address (OneAddress a) readable is fit = one_there a fit
+  arguments_there form.Addresses (TwoAddresses a b) readable is fit = two_there a b fit.0 fit.1
+  arguments_there (form.Number most) (OneNumber n) readable is fit = count_there most n readable is.0 is.1
+  arguments_there form.Numbered (NumberedAddress a first) readable is fit = numbered_there a first fit is.0 is.1
+  arguments_there form.Text (AddressesAndText a b text) readable is fit = texts_there a b text fit.0 fit.1 is
+  arguments_there other arguments readable is fit = absurd is
+
+numbers_fit : (f : Form) (arguments : Arguments ℕ) → IsReadable f → AreOfForm f arguments → HaveNumbers arguments
+unfolding HaveNumbers
+numbers_fit (form.Number most) (OneNumber n) readable is = omega (arith, is.1)
+numbers_fit form.Numbered (NumberedAddress a first) readable is = omega (arith, is.1)
+numbers_fit form.Bare NoArgument readable is = tt
+numbers_fit form.Address (OneAddress a) readable is = tt
+numbers_fit form.Addresses (TwoAddresses a b) readable is = tt
+numbers_fit form.Text (AddressesAndText a b text) readable is = tt
+numbers_fit other arguments readable is = absurd is
+
+-- ---- the line
+
+lacks_space : (word : List ℕ) → AllByRecursion (λ b. b ≢ 32) word → Lacks 32 word
+lacks_space [] whole = λ k d lt. absurd (omega arith)
+lacks_space (b ∷ bs) whole = one_lacks 32 b bs (ne_eqb b 32 whole.0) (lacks_space bs whole.1)
+
+not_shown : (b : Bool) → b ≢ true → b ≡ false
+not_shown true h = absurd (h refl)
+not_shown false h = refl
+
+-- a line that begins with a word is not blank
+begins : (word : List ℕ) (arguments : Arguments ℕ) → is_blank word ≢ true → is_blank (written word arguments) ≡ false
+unfolding written
+begins [] arguments shown = absurd (shown refl)
+begins (b ∷ bs) NoArgument shown = not_shown (eqb b 35) shown
+begins (b ∷ bs) arguments shown = not_shown (eqb b 35) shown
+
+module _ {C : Type 0} where
+  by_words_there : (rows : List (Row C)) (row : Row C) (words : List (List ℕ)) (arguments : Arguments Mention)
+      → row_in rows row.word ≡ Some row → arguments_of row.form (next_at 0 row.word) words ≡ Ok arguments
+      → by_words rows (row.word ∷ words) ≡ Ok (Some (record { command = row.command; arguments = arguments }))
+  by_words_there rows row words arguments found is =
+      ap (λ o. by_row o row.word words) found ∙ ap (shape_with row.command) is
+
+  line_there : (rows : List (Row C)) (row : Row C) (line : List ℕ) (words : List (List ℕ)) (arguments : Arguments Mention)
+      → is_blank line ≡ false → parts 32 line ≡ row.word ∷ words
+      → row_in rows row.word ≡ Some row → arguments_of row.form (next_at 0 row.word) words ≡ Ok arguments
+      → shape_by rows line ≡ Ok (Some (record { command = row.command; arguments = arguments }))
+  unfolding shape_by
+  line_there rows row line words arguments shown cut found is =
+      ap (λ b. cond b (Ok None) (by_words rows (parts 32 line))) shown
+      ∙ ap (by_words rows) cut ∙ by_words_there rows row words arguments found is
+
+pub written_line_is_read : (C : Type 0) → WrittenLineIsRead C
+written_line_is_read C rows row arguments is =
+    let lacks : Lacks 32 row.word = lacks_space row.word is.word.whole in
+    let numbers : HaveNumbers arguments = numbers_fit row.form arguments is.readable is.form in
+    line_there rows row (written row.word arguments) (words_in arguments) (mentioned (next_at 0 row.word) arguments)
+    (begins row.word arguments is.word.shown)
+    (words_written row.word lacks arguments is.addresses numbers)
+    is.found
+    (arguments_there (next_at 0 row.word) row.form arguments is.readable is.form is.addresses)

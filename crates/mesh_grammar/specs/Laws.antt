@@ -1,0 +1,105 @@
+-- The statements that this crate proves of its definitions, for the table of any script.
+use Rattle.std.specs.Prelude.{◌≡◌, ◌≢◌, ◌<◌, ◌^◌, ◌⊎◌, ℕ, true, List, Some, Ok, ⊤}
+use Rattle.std.specs.List.{AllByRecursion}
+use Rattle.mesh_base.specs.Addresses.{dotted}
+use Rattle.mesh_grammar.specs.declared.form.Form.{Form}
+use Rattle.mesh_grammar.specs.declared.form.Form.TheVariants as form
+use Rattle.mesh_grammar.specs.Words.{Mention, span_at, next_at, is_blank}
+use Rattle.mesh_grammar.specs.Forms.{Arguments, NoArgument, OneAddress, TwoAddresses, OneNumber, NumberedAddress, AddressesAndText, AreOfForm}
+use Rattle.mesh_grammar.specs.Scripts.{Row, Shape, row_in, shape_by}
+use Rattle.mesh_grammar.specs.Written.{written}
+
+-- ---- what is written is read
+
+-- an address and where it stands
+abbrev pub mention : ℕ → ℕ → Mention
+mention at a = record { address = a; span = span_at at (dotted a) }
+
+-- where the word after an address stands
+abbrev pub after_address : ℕ → ℕ → ℕ
+after_address at a = next_at at (dotted a)
+
+-- written arguments, the first at this byte, as they are read
+abbrev pub mentioned : ℕ → Arguments ℕ → Arguments Mention
+mentioned at NoArgument = NoArgument
+mentioned at (OneAddress a) = OneAddress (mention at a)
+mentioned at (TwoAddresses a b) = TwoAddresses (mention at a) (mention (after_address at a) b)
+mentioned at (OneNumber n) = OneNumber n
+mentioned at (NumberedAddress a first) = NumberedAddress (mention at a) first
+mentioned at (AddressesAndText a b text) =
+    AddressesAndText (mention at a) (mention (after_address at a) b) text
+
+-- addresses have 32 bits
+abbrev pub HaveAddresses : Arguments ℕ → Type 0
+HaveAddresses (OneAddress a) = a < 2 ^ 32
+HaveAddresses (TwoAddresses a b) = (a < 2 ^ 32) × (b < 2 ^ 32)
+HaveAddresses (NumberedAddress a first) = a < 2 ^ 32
+HaveAddresses (AddressesAndText a b text) = (a < 2 ^ 32) × (b < 2 ^ 32)
+HaveAddresses others = ⊤
+
+-- no number that a form allows has more than 64 bits
+abbrev pub IsReadable : Form → Type 0
+IsReadable (form.Number most) = most < 2 ^ 64
+IsReadable others = ⊤
+
+-- a table of such forms
+abbrev pub AreReadable : {C : Type 0} → List (Row C) → Type 0
+AreReadable rows = AllByRecursion (λ row. IsReadable row.form) rows
+
+-- a word with no space, which begins no remark
+pub record IsWord (word : List ℕ) : Type 0 where
+  pub whole : AllByRecursion (λ b. b ≢ 32) word
+  pub shown : is_blank word ≢ true
+
+-- a row that its word finds in the table, with arguments that it allows
+pub record IsLine {C : Type 0} (rows : List (Row C)) (row : Row C) (arguments : Arguments ℕ) :
+    Type 0 where
+  pub found : row_in rows row.word ≡ Some row
+  pub word : IsWord row.word
+  pub readable : IsReadable row.form
+  pub form : AreOfForm row.form arguments
+  pub addresses : HaveAddresses arguments
+
+-- a command and its arguments, as they are written, are read as they were
+abbrev pub WrittenLineIsRead : (C : Type 0) → Type 0
+WrittenLineIsRead C = (rows : List (Row C)) (row : Row C) (arguments : Arguments ℕ)
+    → IsLine rows row arguments
+    → shape_by rows (written row.word arguments)
+    ≡ Ok (Some (record {
+      command = row.command;
+      arguments = mentioned (next_at 0 row.word) arguments;
+    }))
+
+-- ---- what is read is as it is written
+
+-- arguments with each mention's address
+abbrev pub addresses_of : Arguments Mention → Arguments ℕ
+addresses_of NoArgument = NoArgument
+addresses_of (OneAddress a) = OneAddress a.address
+addresses_of (TwoAddresses a b) = TwoAddresses a.address b.address
+addresses_of (OneNumber n) = OneNumber n
+addresses_of (NumberedAddress a first) = NumberedAddress a.address first
+addresses_of (AddressesAndText a b text) = AddressesAndText a.address b.address text
+
+-- the line is the text of this word and these arguments, or names an address without its number,
+-- which is 1
+abbrev pub IsTextOf : List ℕ → List ℕ → Arguments ℕ → Type 0
+IsTextOf line word (NumberedAddress a first) =
+    (line ≡ written word (NumberedAddress a first))
+    ⊎ ((first ≡ 1) × (line ≡ written word (OneAddress a)))
+IsTextOf line word arguments = line ≡ written word arguments
+
+-- a row of the table that the line's first word finds, with what the line says after it
+pub record IsRead {C : Type 0} (rows : List (Row C)) (line : List ℕ) (s : Shape C Mention)
+    (row : Row C) : Type 0 where
+  pub found : row_in rows row.word ≡ Some row
+  pub command : row.command ≡ s.command
+  pub form : AreOfForm row.form s.arguments
+  pub addresses : HaveAddresses (addresses_of s.arguments)
+  pub text : IsTextOf line row.word (addresses_of s.arguments)
+
+-- a line that is read as a command and its arguments has arguments of the command's form, and is
+-- their text
+abbrev pub ReadLineIsWritten : (C : Type 0) → Type 0
+ReadLineIsWritten C = (rows : List (Row C)) (line : List ℕ) (s : Shape C Mention) → AreReadable rows
+    → shape_by rows line ≡ Ok (Some s) → (row : Row C) × IsRead rows line s row

@@ -1,0 +1,75 @@
+-- What is seen of a source that is cut into lines, and what it answers.
+use Rattle.std.specs.Prelude.{ℕ, ◌+◌, ◌-◌, ◌≡◌, Bool, true, false, if◌then◌else◌, List, [], length, take, drop, Option, Some, None, Result, Ok, Err, ⊤}
+use Rattle.std.specs.Io.KnownBytes.{prepend_known}
+use Rattle.mesh_io.specs.NextLines.{FirstLine, first_line, line_size, Line, TooLong, TooMuch, next_of}
+use Rattle.mesh_io.specs.Decisions.{decides}
+use Rattle.mesh_io.specs.declared.limits.Limits.{Limits}
+use Rattle.mesh_io.specs.declared.source.Source.{Ghosts}
+use Rattle.mesh_io.specs.declared.cutter.Cutter.{Cutter}
+use Rattle.mesh_io.specs.declared.decision.Decision.{Decision}
+use Rattle.mesh_io.specs.declared.decision.Decision.TheVariants as decision
+use Rattle.mesh_io.specs.declared.line_error.LineError.{LineError}
+use Rattle.mesh_io.specs.declared.line_error.LineError.TheVariants as error
+
+-- the line that was found last
+abbrev pub line_in : {S : Type 0} {G : Ghosts S} → Cutter S G → List ℕ
+line_in cutter = take cutter.len cutter.buffer
+
+-- the bytes that were read and not yet given
+abbrev pub pending_in : {S : Type 0} {G : Ghosts S} → Cutter S G → List ℕ
+pending_in cutter = drop cutter.size cutter.buffer
+
+-- the bytes to come, where the source tells them
+abbrev pub ahead_in : {S : Type 0} {G : Ghosts S} → (S → Option (List ℕ)) → Cutter S G → Option (List ℕ)
+ahead_in left cutter = prepend_known (pending_in cutter) (left (cutter.source).now)
+
+-- how often its source has failed
+abbrev pub faults_in : {S : Type 0} {G : Ghosts S} → (S → ℕ) → Cutter S G → ℕ
+faults_in faults cutter = faults (cutter.source).now
+
+-- the pending bytes decide what comes next
+abbrev pub decides_in : {S : Type 0} {G : Ghosts S} → Cutter S G → Bool
+decides_in cutter = decides cutter.most cutter.given cutter.ended (pending_in cutter)
+
+-- the most reads that can still be asked for the next line
+abbrev pub reads_to_come : {S : Type 0} {G : Ghosts S} → Cutter S G → ℕ
+reads_to_come cutter = if cutter.ended then 0 else 1 + (cutter.most.line + 1 - length (pending_in cutter))
+
+-- a decision that is a refusal
+abbrev pub refusal_by : Decision → Option LineError
+refusal_by decision.Open = None
+refusal_by decision.End = None
+refusal_by (decision.Line len size) = None
+refusal_by decision.TooLong = Some error.TooLong
+refusal_by decision.TooMuch = Some error.TooMuch
+
+-- the refusal that each call from now on answers, if there is one
+abbrev pub refusal_in : {S : Type 0} {G : Ghosts S} → Cutter S G → Option LineError
+refusal_in cutter = refusal_by cutter.decision
+
+-- a refusal by a limit is answered from now on
+abbrev pub Refuses : Result Bool LineError → Option LineError → Type 0
+Refuses (Ok found) refusal = ⊤
+Refuses (Err error.ReadFault) refusal = ⊤
+Refuses (Err error.TooMuch) refusal = refusal ≡ Some error.TooMuch
+Refuses (Err error.TooLong) refusal = refusal ≡ Some error.TooLong
+
+-- no byte is an LF
+abbrev pub HasNoLf : List ℕ → Type 0
+HasNoLf bytes = (first_line bytes).ends ≡ false
+
+-- a line found is the first of the bytes to come
+pub record FindsLine (most : Limits) (given : ℕ) (bytes line : List ℕ) (after : ℕ) (left : Option (List ℕ)) : Type 0 where
+  pub first : FirstLine
+  pub next : next_of most given bytes ≡ Line first
+  pub line_is : line ≡ first.line
+  pub after_is : after ≡ given + line_size first
+  pub left_is : left ≡ Some first.rest
+
+-- what is answered where the bytes to come are known, the line found, how many are given, and which are then to come
+abbrev pub Tells : Limits → ℕ → List ℕ → Result Bool LineError → List ℕ → ℕ → Option (List ℕ) → Type 0
+Tells most given bytes (Ok true) line after left = FindsLine most given bytes line after left
+Tells most given bytes (Ok false) line after left = (bytes ≡ []) × (after ≡ given) × (left ≡ Some bytes)
+Tells most given bytes (Err error.ReadFault) line after left = (after ≡ given) × (left ≡ Some bytes)
+Tells most given bytes (Err error.TooMuch) line after left = (next_of most given bytes ≡ TooMuch) × (after ≡ given) × (left ≡ Some bytes)
+Tells most given bytes (Err error.TooLong) line after left = (next_of most given bytes ≡ TooLong) × (after ≡ given) × (left ≡ Some bytes)

@@ -1,0 +1,151 @@
+//! A source cut into lines.
+ghost use Rattle.std.specs.Prelude.{◌≡◌, ◌≢◌, ◌≤◌, ◌<◌, ◌+◌, [], Ok, Err, true, false, length, take, drop, IfSome, OnOk, OnErr, IsErrOf};
+ghost use Rattle.std.specs.Io.KnownBytes.{IsAtEnd, Keeps};
+ghost use Rattle.mesh_io.specs.Cause.{HasCause, HasReadCause};
+ghost use Rattle.mesh_io.specs.NextLines.{known_after};
+ghost use Rattle.mesh_io.specs.Decisions.{decision_of};
+ghost use Rattle.mesh_io.specs.declared.read_buffer.TheConstants.{ASKED, ROOM};
+
+use crate::decision::{Decision, decide};
+use crate::limits::Limits;
+use crate::line_error::LineError;
+use crate::read_buffer::{ASKED, ROOM, ReadBuffer};
+use crate::source::{Failed, Source};
+
+/// Cuts what a source gives into lines within these limits. The line that was found last stands at
+/// the buffer's front, with its LF, and behind it the bytes that were read and not yet given.
+#[derive(Drop)]
+pub struct Cutter<'s, S: Source> {
+    source: &'s mut S,
+    buffer: ReadBuffer,
+    most: Limits,
+    // Of the line that was found last: its bytes, and with its LF.
+    len: usize,
+    size: usize,
+    // The bytes of all lines found, each LF among them.
+    given: usize,
+    ended: bool,
+    // What the bytes behind the line decide: made once, when they come or the line is given.
+    decision: Decision,
+    ghost whole: { size ≤ length buffer },
+    ghost within: { len ≤ size },
+    ghost few: { given ≤ most.input },
+    ghost room: { most.line + ASKED ≤ ROOM },
+    ghost decided: { decision ≡ decision_of most given ended (drop size buffer) },
+    ghost at_end: { known_after ended (S.left source.now) ≡ [] },
+}
+
+impl<'s, S: Source> Cutter<'s, S> {
+    ghost use Rattle.mesh_io.specs.Cutting.{line_in, pending_in, ahead_in, faults_in, decides_in, reads_to_come, Tells, Refuses, HasNoLf, refusal_in};
+
+    /// At the front of the source.
+    pub fn new(source: &'s mut S, most: Limits) -> Cutter<'s, S>
+        requires { most.line + ASKED ≤ ROOM }
+        ensures same { result.source.ghost_name ≡ source.entry.ghost_name }
+        ensures source { result.source.now ≡ source.old }
+        ensures most { result.most ≡ most }
+        ensures pending { pending_in result ≡ [] }
+        ensures given { result.given ≡ 0 }
+        ensures ended { result.ended ≡ false }
+    {
+        Cutter {
+            source,
+            buffer: ReadBuffer::new(),
+            most,
+            len: 0,
+            size: 0,
+            given: 0,
+            ended: false,
+            decision: Decision::Open,
+        }
+    }
+
+    /// The line that was found last.
+    pub fn line(&self) -> &[u8]
+        ensures { result.now ≡ line_in self.now }
+    {
+        &self.buffer.bytes()[..self.len]
+    }
+
+    /// The next answer needs no read.
+    pub fn is_decided(&self) -> bool
+        ensures { result ≡ decides_in self.now }
+    {
+        !matches!(self.decision, Decision::Open)
+    }
+
+    // Puts bytes behind those that are pending.
+    fn read(&mut self) -> Result<(), Failed>
+        requires { decides_in self.old ≡ false }
+        ensures same { self.new.source.ghost_name ≡ self.old.source.ghost_name }
+        ensures most { self.new.most ≡ self.old.most }
+        ensures given { self.new.given ≡ self.old.given }
+        ensures ahead { Keeps (ahead_in S.left self.old) (ahead_in S.left self.new) }
+        ensures fewer { OnOk result (reads_to_come self.new < reads_to_come self.old) }
+        ensures pending { OnErr result (pending_in self.new ≡ pending_in self.old) }
+        ensures cause { HasCause (faults_in S.faults self.old)
+            (faults_in S.faults self.new) result }
+    {
+        self.buffer.drop_front(self.size);
+        self.len = 0;
+        self.size = 0;
+        let count = self.buffer.read(self.source)?;
+        self.ended = count == 0;
+        self.decision = decide(self.most, self.given, self.ended, self.buffer.bytes());
+        Ok(())
+    }
+
+    // Gives the front of what is pending as a line.
+    fn give(&mut self, len: usize, size: usize)
+        requires within { len ≤ size }
+        requires whole { size ≤ length (pending_in self.old) }
+        requires few { self.old.given + size ≤ self.old.most.input }
+        ensures same { self.new.source ≡ self.old.source }
+        ensures most { self.new.most ≡ self.old.most }
+        ensures line { line_in self.new ≡ take len (pending_in self.old) }
+        ensures pending { pending_in self.new ≡ drop size (pending_in self.old) }
+        ensures given { self.new.given ≡ self.old.given + size }
+    {
+        self.buffer.drop_front(self.size);
+        self.len = len;
+        self.size = size;
+        self.given += size;
+        let pending = &self.buffer.bytes()[size..];
+        self.decision = decide(self.most, self.given, self.ended, pending);
+    }
+
+    /// Finds the next line, if there is one.
+    pub fn advance(&mut self) -> Result<bool, LineError>
+        ensures same { self.new.source.ghost_name ≡ self.old.source.ghost_name }
+        ensures most { self.new.most ≡ self.old.most }
+        ensures told { IfSome (ahead_in S.left self.old) (λ bytes.
+            Tells self.old.most self.old.given bytes result
+            (line_in self.new) self.new.given (ahead_in S.left self.new)) }
+        ensures unread { decides_in self.old ≡ true → self.new.source.now ≡ self.old.source.now }
+        ensures stays { IfSome (refusal_in self.old) (λ refusal.
+            (result ≡ Err refusal) × (self.new ≡ self.old)) }
+        ensures kept { Refuses result (refusal_in self.new) }
+        ensures grows { result ≡ Ok true → self.old.given < self.new.given }
+        ensures few { self.new.given ≤ self.new.most.input }
+        ensures end { result ≡ Ok false → IsAtEnd (S.left self.new.source.now) }
+        ensures pending { IsErrOf result LineError.ReadFault → HasNoLf (pending_in self.new) }
+        ensures cause { HasReadCause (faults_in S.faults self.old)
+            (faults_in S.faults self.new) result }
+    {
+        'reads: loop {
+            match self.decision {
+                Decision::Open => {}
+                Decision::End => return Ok(false),
+                Decision::Line { len, size } => {
+                    self.give(len, size);
+                    return Ok(true);
+                }
+                Decision::TooLong => return Err(LineError::TooLong),
+                Decision::TooMuch => return Err(LineError::TooMuch),
+            }
+            if self.read().is_err() {
+                return Err(LineError::ReadFault);
+            }
+        }
+    }
+}

@@ -1,0 +1,105 @@
+//! The lines of an input, one by one.
+ghost use Rattle.std.specs.Prelude.{◌≡◌, ◌≤◌, ◌<◌, [], Ok, Err, true, false, IfSome, IsErrOf};
+ghost use Rattle.std.specs.Io.KnownBytes.{IsAtEnd};
+ghost use Rattle.mesh_io.specs.Cause.{HasReadCause};
+ghost use Rattle.mesh_io.specs.NextLines.{schedule_limits};
+
+use crate::cutter::Cutter;
+use crate::limits::Limits;
+use crate::line_error::LineError;
+use crate::source::Source;
+use mesh_base::{LONGEST_INPUT, LONGEST_LINE};
+
+/// Reads a source line by line: a line has at most `LONGEST_LINE` bytes, and the input at most
+/// `LONGEST_INPUT`. What goes past a limit first, in the order of the bytes, is refused, and where
+/// one byte goes past both it is the input's that counts.
+///
+/// The source is asked for 4096 bytes at a time, and only where the bytes that it gave don't decide
+/// what comes next. No memory is taken: a line is lent from the reader, which has about 4800 bytes
+/// in itself and is best made where it stays.
+#[derive(Drop)]
+pub struct Lines<'s, S: Source> {
+    cutter: Cutter<'s, S>,
+    ghost most: { cutter.most ≡ schedule_limits },
+}
+
+impl<'s, S: Source> Lines<'s, S> {
+    ghost use Rattle.mesh_io.specs.Reading.{source_of, pending_of, line_of, given_of, has_ended, is_decided_at, refusal_of, ahead_of, faults_of};
+    ghost use Rattle.mesh_io.specs.Cutting.{Tells, Refuses, HasNoLf};
+
+    /// A reader at the front of the source.
+    pub fn new(source: &'s mut S) -> Lines<'s, S>
+        ensures same { (source_of result).ghost_name ≡ source.entry.ghost_name }
+        ensures source { (source_of result).now ≡ source.old }
+        ensures pending { pending_of result ≡ [] }
+        ensures given { given_of result ≡ 0 }
+        ensures ended { has_ended result ≡ false }
+    {
+        let most = Limits {
+            line: LONGEST_LINE,
+            input: LONGEST_INPUT,
+        };
+        Lines {
+            cutter: Cutter::new(source, most),
+        }
+    }
+
+    /// The next answer needs no read.
+    pub fn is_decided(&self) -> bool
+        ensures { result ≡ is_decided_at self.now }
+    {
+        self.cutter.is_decided()
+    }
+
+    /// The line that was found last, without its LF.
+    pub fn line(&self) -> &[u8]
+        ensures { result.now ≡ line_of self.now }
+    {
+        self.cutter.line()
+    }
+
+    /// Finds the next line: false only where the input has ended. After a limit's refusal each
+    /// later call answers the same; after a ReadFault the next call goes on, and no line that was
+    /// read whole was held back.
+    pub fn advance(&mut self) -> Result<bool, LineError>
+        ensures same { (source_of self.new).ghost_name ≡ (source_of self.old).ghost_name }
+        ensures told { IfSome (ahead_of S.left self.old) (λ bytes.
+            Tells schedule_limits (given_of self.old) bytes result
+            (line_of self.new) (given_of self.new) (ahead_of S.left self.new)) }
+        ensures unread { is_decided_at self.old ≡ true →
+            (source_of self.new).now ≡ (source_of self.old).now }
+        ensures stays { IfSome (refusal_of self.old) (λ refusal.
+            (result ≡ Err refusal) × (self.new ≡ self.old)) }
+        ensures kept { Refuses result (refusal_of self.new) }
+        ensures grows { result ≡ Ok true → given_of self.old < given_of self.new }
+        ensures few { given_of self.new ≤ LONGEST_INPUT }
+        ensures end { result ≡ Ok false → IsAtEnd (S.left (source_of self.new).now) }
+        ensures pending { IsErrOf result LineError.ReadFault → HasNoLf (pending_of self.new) }
+        ensures cause { HasReadCause (faults_of S.faults self.old)
+            (faults_of S.faults self.new) result }
+    {
+        self.cutter.advance()
+    }
+}
+
+impl<'s, S: Source> Lines<'s, S> {
+    ghost use Rattle.std.specs.Borrow.{sem};
+    ghost use Rattle.std.specs.Io.BufRead.{Rests};
+    ghost use mir.Syntax.{named};
+    ghost use Rattle.mesh_io.specs.contracts.lines.Lines.{the_row};
+    ghost use Rattle.mesh_io.specs.Reading.{NextTells};
+
+    /// The next line without its LF, in one call: None is the end of the input. Where a caller
+    /// states what it makes of a line, `advance` and `line` serve better: the line lent here is the
+    /// reader's own, so nothing is known of the reader until it is given back.
+    pub fn next(&mut self) -> Result<Option<&[u8]>, LineError>
+        ensures* after { sem 𝓛 (Rests (the_row (record { mir = named 0; lft = [] }) S.row S.Source)
+            self.entry (λ now. NextTells S.left self.old result now)) }
+    {
+        if self.advance()? {
+            Ok(Some(self.line()))
+        } else {
+            Ok(None)
+        }
+    }
+}

@@ -1,0 +1,44 @@
+use Rattle.std.proofs.Common.{◌≡◌, sym, subst, ap, ◌∙◌}
+use Rattle.mesh_text.specs.Schedule.{Accepted}
+use Rattle.mesh_text.specs.Ranges.{IsInRange}
+use Rattle.mesh_script.specs.Seen.{accepted_of}
+use Rattle.mesh_base.specs.Meshes.{Nodes}
+use Rattle.mesh_make.specs.Made.{mesh_of}
+use Rattle.mesh_script.specs.declared.line.Line.{Line}
+use Rattle.mesh_make.specs.declared.maker.Maker.{Maker}
+use Rattle.mesh_make.specs.Making.{IsMaking}
+use Rattle.mesh_make.specs.Places.{nodes_at, line_at, mesh_after}
+use Rattle.mesh_make.proofs.Places.{text_more, line_fits, mesh_next}
+use Rattle.mesh_make.proofs.LineByLine.{joined_on}
+use Rattle.mesh_make.proofs.maker.Maker.push_next.Goals as goal
+
+printable : (m : Maker) (line : Line) → IsMaking m → accepted_of line ≡ (line_at m.size.nodes m.place m.rng).value → IsInRange m.mesh (accepted_of line)
+printable m line making is =
+    subst (λ (mesh : Nodes). IsInRange mesh (accepted_of line)) (sym making.mesh)
+    (subst (λ (a : Accepted). IsInRange (mesh_of (nodes_at m.size.nodes m.place)) a) (sym is) (line_fits m.size.nodes m.size.steps making.size m.place m.rng making.place))
+
+pub push_line-requires-clause-printable : goal.push_line-requires-clause-printable
+push_line-requires-clause-printable c = printable c.args.self.now c.line_at-line.result c.requires.making c.line_at-line.ensures.line
+
+pub grow-requires : goal.grow-requires
+grow-requires c = printable c.args.self.now c.line_at-line.result c.requires.making c.line_at-line.ensures.line
+
+pub returns-clause-text : goal.returns-clause-text
+returns-clause-text c =
+    let m = c.args.self.now in
+    rw (c.push.ensures.items, c.push_line.ensures.text, c.line_at-line.ensures.line, c.requires.making.mesh, c.place_after-self.ensures.after, c.line_at-line.ensures.rng)
+    (joined_on _ _ _ _ _ (text_more m.size.nodes m.size.steps m.place m.rng c.requires.making.place c.requires.more))
+
+pub returns-clause-making : goal.returns-clause-making
+returns-clause-making c =
+    let m = c.args.self.now in
+    let making = c.requires.making in
+    record {
+      size = making.size;
+      place = c.place_after-self.ensures.is_place;
+      mesh =
+          c.grow.ensures ∙ ap (λ (mesh : Nodes). mesh_after mesh (accepted_of c.line_at-line.result)) making.mesh
+          ∙ ap (λ (line : Accepted). mesh_after (mesh_of (nodes_at m.size.nodes m.place)) line) c.line_at-line.ensures.line
+          ∙ mesh_next m.size.nodes m.size.steps making.size m.place m.rng making.place c.requires.more
+          ∙ ap (λ place. mesh_of (nodes_at m.size.nodes place)) (sym c.place_after-self.ensures.after);
+    }

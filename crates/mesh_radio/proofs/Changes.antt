@@ -1,0 +1,45 @@
+-- What stays true of the casts when one comes, a copy goes, or casts that are done with go.
+use Rattle.std.proofs.Common.{◌≡◌, ℕ, ◌+◌, ◌^◌, ◌<◌, List, [], ◌∷◌, ◌++◌, Some, length, subst, sym, ap, ◌∙◌}
+use Rattle.std.specs.Prelude.{slice_get}
+use Rattle.indexmap.specs.IndexMap.{set_value_at}
+use Rattle.std.specs.FinSet.{insert, empty}
+use Rattle.mesh_base.specs.Members.{member_list}
+use Rattle.mesh_base.proofs.Ranks.{member_list-one}
+use Rattle.mesh_radio.specs.Copies.{copies_to}
+use Rattle.mesh_radio.specs.Casts.{Entry, AreCasts, AreLeft, IsTidied, size, copies_of, without_to}
+use Rattle.mesh_radio.specs.declared.casts.Cast.{Cast}
+use Rattle.mesh_radio.proofs.Entries.{rising-push, lefts-push, rising-taken, lefts-taken, cast-copies}
+
+pub casts-push : (es now : List Entry) (next : ℕ) (c : Cast) → AreCasts es next → now ≡ es ++ (next, c) ∷ [] → 0 < size c → AreLeft c → next + size c < 2 ^ 64 → AreCasts now (next + size c)
+casts-push es now next c are is some left few = subst (λ xs. AreCasts xs (next + size c)) (sym is) (record {
+  rising = rising-push 1 next es c are.rising some;
+  few = few;
+  lefts = lefts-push es (next, c) are.lefts left;
+})
+
+-- ---- a cast to one node
+
+pub size-one : (c : Cast) (m : ℕ) → m < 256 → c.to ≡ insert empty m → size c ≡ 1
+size-one c m lt is = ap (λ s. length (member_list s)) is ∙ ap length (member_list-one m lt)
+
+pub copies-one : (es now : List Entry) (next m : ℕ) (c : Cast) → now ≡ es ++ (next, c) ∷ [] → m < 256 → c.to ≡ insert empty m → c.left ≡ c.to
+    → copies_of now ≡ copies_of es ++ record { id = next; from = c.from; to = m; bytes = c.bytes } ∷ []
+copies-one es now next m c is lt one left =
+    ap copies_of is ∙ cast-copies es next c left
+    ∙ ap (λ tos. copies_of es ++ copies_to tos next c.from c.bytes) (ap member_list one ∙ member_list-one m lt)
+
+-- ---- a copy that goes
+
+pub casts-taken : (es now : List Entry) (next place to : ℕ) (e : Entry) → AreCasts es next → slice_get es place ≡ Some e → now ≡ set_value_at es place (without_to e.1 to) → AreCasts now next
+casts-taken es now next place to e are at is = subst (λ xs. AreCasts xs next) (sym is) (record {
+  rising = rising-taken 1 next place to es e are.rising at;
+  few = are.few;
+  lefts = lefts-taken place to es e are.lefts at;
+})
+
+pub casts-tidied : (es now : List Entry) (next : ℕ) → IsTidied es now → AreCasts es next → AreCasts now next
+casts-tidied es now next t are = record {
+  rising = t.rising 1 next are.rising;
+  few = are.few;
+  lefts = t.lefts are.lefts;
+}

@@ -1,0 +1,197 @@
+//! Casts by the ids of their first copies: what is found among them, and how they change.
+ghost use Rattle.std.specs.Prelude.{◌≡◌, ℕ, ◌<◌, ◌≤◌, ◌+◌, ◌-◌, ◌^◌, ◌++◌, ◌∷◌, [], slice_get, Some, IfSome, IfNone};
+ghost use Rattle.std.specs.Map.{keys_of};
+ghost use Rattle.indexmap.specs.IndexMap.{spare, with_value_at};
+ghost use Rattle.mesh_radio.specs.Casts.{Entry, AreCasts, AreLeft, IsFound, IsNext, IsSplit, IsFrom, AreGone, IsLeast, IsLeastOf, NoneUpTo, HasNone, HasNoneFrom, size, without_to};
+
+use crate::places::place_near;
+use indexmap::IndexMap;
+use mesh_base::{Bytes, NodeSet};
+
+/// A packet that was cast, to whom, and those of them to whom its copy still flies. Its copies have the
+/// ids from the cast's first on, by rising receiver.
+#[derive(Drop)]
+pub struct Cast {
+    pub to: NodeSet,
+    pub left: NodeSet,
+    pub from: usize,
+    pub bytes: Bytes,
+}
+
+/// Casts by the ids of their first copies, which rise.
+pub type Casts = IndexMap<u64, Cast>;
+
+/// Where a copy stands: the place of its cast, and its receiver.
+#[derive(Clone, Copy)]
+pub struct Spot {
+    pub place: usize,
+    pub to: usize,
+}
+
+/// The least copy in flight: its id, and where it stands.
+#[derive(Clone, Copy)]
+pub struct Least {
+    pub id: u64,
+    pub spot: Spot,
+}
+
+// Where the copy of this id stands: the place of its cast is sought by halves, and its receiver by its
+// rank. The hint makes no difference but to how long that takes.
+fn find_near(casts: &Casts, id: u64, hint: usize) -> Option<Spot>
+    requires { (next : ℕ) × AreCasts casts.now.entries next }
+    ensures some { IfSome result (λ s. IsFound casts.now.entries id s.place s.to) }
+    ensures below { IfSome result (λ s. s.to < 256) }
+    ensures none { IfNone result (HasNone casts.now.entries id) }
+{
+    let after = place_near(casts.keys().as_slice(), id, hint);
+    if after == 0 {
+        return None;
+    }
+    let (first, cast) = casts.get_index(after - 1)?;
+    let to = cast.to.nth((id - *first) as usize)?;
+    if cast.left.has(to) {
+        return Some(Spot {
+            place: after - 1,
+            to,
+        });
+    }
+    None
+}
+
+/// Where the copy of this id stands. The least copy is found at once.
+pub fn find(casts: &Casts, least: Option<Least>, id: u64) -> Option<Spot>
+    requires casts { (next : ℕ) × AreCasts casts.now.entries next }
+    requires least { IsLeastOf casts.now.entries least }
+    ensures some { IfSome result (λ s. IsFound casts.now.entries id s.place s.to) }
+    ensures below { IfSome result (λ s. s.to < 256) }
+    ensures none { IfNone result (HasNone casts.now.entries id) }
+{
+    let Some(least) = least else {
+        return None;
+    };
+    if id == least.id {
+        return Some(least.spot);
+    }
+    find_near(casts, id, least.spot.place)
+}
+
+// The receiver of the first copy from this id on of the cast before this place, which is the id's own.
+fn rest_of(casts: &Casts, after: usize, id: u64) -> Option<usize>
+    requires casts { (next : ℕ) × AreCasts casts.now.entries next }
+    requires split { IsSplit (keys_of casts.now.entries) id after }
+    ensures some { IfSome result (λ to. (0 < after) × IsNext casts.now.entries id (after - 1) to) }
+    ensures none { IfNone result (NoneUpTo casts.now.entries id after) }
+{
+    if after == 0 {
+        return None;
+    }
+    let (first, cast) = casts.get_index(after - 1)?;
+    let start = cast.to.nth((id - *first) as usize)?;
+    cast.left.next_from(start)
+}
+
+// Where the first copy stands of the casts from this place on.
+fn walk(casts: &Casts, place: usize, id: u64) -> Option<Spot>
+    requires casts { (next : ℕ) × AreCasts casts.now.entries next }
+    requires none { NoneUpTo casts.now.entries id place }
+    requires from { IsFrom casts.now.entries place id }
+    ensures some { IfSome result (λ s. IsNext casts.now.entries id s.place s.to) }
+    ensures none { IfNone result (HasNoneFrom casts.now.entries id) }
+{
+    let len = casts.len();
+    let mut place = place;
+    'casts: while place < len {
+        let (_, cast) = casts.get_index(place)?;
+        if let Some(to) = cast.left.next_from(0) {
+            return Some(Spot { place, to });
+        }
+        place += 1;
+    }
+    None
+}
+
+/// Where the first copy from this id on stands. The hint makes no difference but to how long that takes.
+pub fn find_next(casts: &Casts, id: u64, hint: usize) -> Option<Spot>
+    requires { (next : ℕ) × AreCasts casts.now.entries next }
+    ensures some { IfSome result (λ s. IsNext casts.now.entries id s.place s.to) }
+    ensures none { IfNone result (HasNoneFrom casts.now.entries id) }
+{
+    let place = place_near(casts.keys().as_slice(), id, hint);
+    if let Some(to) = rest_of(casts, place, id) {
+        return Some(Spot {
+            place: place - 1,
+            to,
+        });
+    }
+    walk(casts, place, id)
+}
+
+/// The least copy, where so many casts at the front have none in flight.
+pub fn least_from(casts: &Casts, gone: usize) -> Option<Least>
+    requires casts { (next : ℕ) × AreCasts casts.now.entries next }
+    requires gone { AreGone casts.now.entries gone }
+    ensures { IsLeastOf casts.now.entries result }
+{
+    let spot = walk(casts, gone, 0)?;
+    let (first, cast) = casts.get_index(spot.place)?;
+    Some(Least {
+        id: *first + cast.to.count_below(spot.to) as u64,
+        spot,
+    })
+}
+
+// The least copy: this one, or, if none was known, the least after so many casts at the front.
+fn least_or(casts: &Casts, least: Option<Least>, gone: usize) -> Option<Least>
+    requires casts { (next : ℕ) × AreCasts casts.now.entries next }
+    requires least { IfSome least (λ l. IsLeast casts.now.entries l.spot.place l.id l.spot.to) }
+    requires gone { IfNone least (AreGone casts.now.entries gone) }
+    ensures { IsLeastOf casts.now.entries result }
+{
+    match least {
+        Some(least) => Some(least),
+        None => least_from(casts, gone),
+    }
+}
+
+/// A cast joins, at the next id: its copies fly. The answer is the least copy then, where this one was.
+pub fn launch(casts: &mut Casts, least: Option<Least>, next: u64, cast: Cast) -> Option<Least>
+    requires casts { AreCasts casts.old.entries next }
+    requires least { IsLeastOf casts.old.entries least }
+    requires room { 0 < spare casts.old }
+    requires some { 0 < size cast }
+    requires left { AreLeft cast }
+    requires few { next + size cast < 2 ^ 64 }
+    ensures entries { casts.new.entries ≡ casts.old.entries ++ (next, cast) ∷ [] }
+    ensures casts { AreCasts casts.new.entries (next + size cast) }
+    ensures least { IsLeastOf casts.new.entries result }
+    ensures spare { spare casts.old ≤ spare casts.new + 1 }
+{
+    let place = casts.len();
+    match casts.insert(next, cast) {
+        Ok(_) => {}
+        Err(_) => unreachable!(),
+    }
+    least_or(casts, least, place)
+}
+
+/// How many casts at the front have no copy in flight.
+pub fn front_of(least: Option<Least>) -> usize
+    ensures some { IfSome least (λ l. result ≡ l.spot.place) }
+    ensures none { IfNone least (result ≡ 0) }
+{
+    match least {
+        Some(least) => least.spot.place,
+        None => 0,
+    }
+}
+
+/// The copy to this receiver of the cast at this place flies no more.
+pub fn remove_at(casts: &mut Casts, place: usize, to: usize)
+    requires { to < 256 }
+    ensures { (e : Entry) → slice_get casts.old.entries place ≡ Some e →
+        casts.new ≡ with_value_at casts.old place (without_to e.1 to) }
+{
+    if let Some(cast) = casts.get_index_mut(place) {
+        cast.left.remove(to);
+    }
+}

@@ -1,0 +1,71 @@
+//! What becomes of casts that are done with.
+ghost use Rattle.std.specs.Prelude.{◌≡◌, ℕ, ◌≤◌, filter, slice_get, Some, true, false};
+ghost use Rattle.std.specs.Bool.{OnTrue};
+ghost use Rattle.indexmap.specs.IndexMap.{spare, with_value_at};
+ghost use Rattle.mesh_radio.specs.Casts.{Entry, AreRising, AreGone, IsTidied, has_left, without_packet};
+
+use crate::casts::{Cast, Casts};
+use mesh_base::Bytes;
+
+/// So few casts that are done with are left to lie: to sweep them would cost more than they take up.
+const LYING: usize = 64;
+
+// Whether no copy of the cast at this place flies.
+fn is_done(casts: &Casts, place: usize) -> bool
+    ensures { OnTrue result
+        ((e : Entry) × (slice_get casts.now.entries place ≡ Some e) × (has_left e.1 ≡ false)) }
+{
+    match casts.get_index(place) {
+        Some((_, cast)) => cast.left.next_from(0).is_none(),
+        None => false,
+    }
+}
+
+// The packet of the cast at this place goes.
+fn drop_packet(casts: &mut Casts, place: usize)
+    ensures { (e : Entry) → slice_get casts.old.entries place ≡ Some e →
+        casts.new ≡ with_value_at casts.old place (without_packet e.1) }
+{
+    if let Some(cast) = casts.get_index_mut(place) {
+        cast.bytes = Bytes::empty();
+    }
+}
+
+// The casts go of which no copy flies. It is a call of its own, since the memory of its locals would
+// be cleared at each take.
+#[cold]
+#[inline(never)]
+fn sweep(casts: &mut Casts)
+    ensures entries { casts.new.entries ≡ filter (λ e. has_left e.1) casts.old.entries }
+    ensures spare { spare casts.old ≤ spare casts.new }
+{
+    casts.retain(
+        |_first: &u64, cast: &mut Cast| -> bool
+            ensures { (result ≡ has_left cast.old) × (cast.new ≡ cast.old) }
+        { cast.left.nth(0).is_some() },
+    );
+}
+
+/// What a take of a copy of the cast at this place leaves to do, where so many casts at the front have no
+/// copy in flight. With the last copy of a cast its packet goes, and once more casts are done with than
+/// are not, those go too, wherever they stand: about `done` of them lie there. The answer is how many
+/// casts at the front have no copy in flight then.
+pub fn clear(casts: &mut Casts, place: usize, gone: usize, done: &mut usize) -> usize
+    requires rising { (next : ℕ) × AreRising 1 casts.old.entries next }
+    requires gone { AreGone casts.old.entries gone }
+    ensures tidied { IsTidied casts.old.entries casts.new.entries }
+    ensures gone { AreGone casts.new.entries result }
+    ensures spare { spare casts.old ≤ spare casts.new }
+{
+    if !is_done(casts, place) {
+        return gone;
+    }
+    drop_packet(casts, place);
+    *done = done.saturating_add(1);
+    if *done < LYING || *done <= casts.len() / 2 {
+        return gone;
+    }
+    sweep(casts);
+    *done = 0;
+    0
+}

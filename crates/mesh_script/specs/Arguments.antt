@@ -1,0 +1,50 @@
+-- The arguments of a line of the program, as the definitions have them.
+use Rattle.std.specs.Prelude.{ℕ, ◌+◌, length, Result, Ok, Err}
+use Rattle.mesh_base.specs.declared.addr.Addr.{Addr}
+use Rattle.mesh_grammar.specs.declared.fault.LineFault.{LineFault}
+use Rattle.mesh_grammar.specs.Words as words
+use Rattle.mesh_grammar.specs.Forms as forms
+use Rattle.mesh_script.specs.declared.forms.Arguments.{Arguments}
+use Rattle.mesh_script.specs.declared.forms.Arguments.TheVariants as arguments
+use Rattle.mesh_script.specs.declared.words.Mention.{Mention}
+
+abbrev pub mention_of : Mention → words.Mention
+mention_of a = record { address = (a.addr).0; span = a.span }
+
+-- arguments with what the definitions have for each address
+abbrev pub arguments_by : {A B : Type 0} → (A → B) → Arguments A → forms.Arguments B
+arguments_by f arguments.NoArgument = forms.NoArgument
+arguments_by f (arguments.OneAddress a) = forms.OneAddress (f a)
+arguments_by f (arguments.TwoAddresses a b) = forms.TwoAddresses (f a) (f b)
+arguments_by f (arguments.OneNumber n) = forms.OneNumber n
+arguments_by f (arguments.NumberedAddress a first) = forms.NumberedAddress (f a) first
+arguments_by f (arguments.AddressesAndText a b text) = forms.AddressesAndText (f a) (f b) text.now
+
+-- as they are read, placed in a mesh, and written
+abbrev pub mentions_of : Arguments Mention → forms.Arguments words.Mention
+mentions_of a = arguments_by mention_of a
+
+abbrev pub places_of : Arguments ℕ → forms.Arguments ℕ
+places_of a = arguments_by (λ x. x) a
+
+abbrev pub addresses_of : Arguments Addr → forms.Arguments ℕ
+addresses_of a = arguments_by (λ x. x.0) a
+
+-- the same, where there is no fault
+abbrev pub mentions_in : Result (Arguments Mention) LineFault
+    → Result (forms.Arguments words.Mention) LineFault
+mentions_in (Ok a) = Ok (mentions_of a)
+mentions_in (Err f) = Err f
+
+abbrev pub places_in : Result (Arguments ℕ) LineFault → Result (forms.Arguments ℕ) LineFault
+places_in (Ok a) = Ok (places_of a)
+places_in (Err f) = Err f
+
+-- the most bytes that arguments have as they are written, each after its space
+abbrev pub width_of : forms.Arguments ℕ → ℕ
+width_of forms.NoArgument = 0
+width_of (forms.OneAddress a) = 16
+width_of (forms.TwoAddresses a b) = 32
+width_of (forms.OneNumber n) = 21
+width_of (forms.NumberedAddress a first) = 40
+width_of (forms.AddressesAndText a b text) = 33 + length text

@@ -1,0 +1,189 @@
+//! The arguments of a command, by their form.
+ghost use Rattle.std.specs.Prelude.{◌≡◌, ◌<◌, ◌+◌, ◌^◌, ◌∷◌, length, IfSome};
+ghost use Rattle.mesh_base.specs.Parts.{parts, rest_parts};
+ghost use Rattle.mesh_grammar.specs.Forms as forms;
+ghost use Rattle.mesh_script.specs.Arguments.{mentions_in};
+
+use crate::words::{Mention, address, next_at, number, text};
+use mesh_base::cut;
+use mesh_grammar::{Form, LineFault};
+
+/// The arguments of a command, in which an `A` stands for each address: a mention where a line is
+/// read, a node's index once it is allowed, and the address itself where a line is written.
+#[derive(Clone, Copy)]
+pub enum Arguments<'a, A> {
+    NoArgument,
+    OneAddress(A),
+    TwoAddresses(A, A),
+    OneNumber(u64),
+    /// An address, and a first sequence number of at least 1.
+    NumberedAddress(A, u32),
+    /// Two addresses, and a text of 1 to 512 bytes.
+    AddressesAndText(A, A, &'a [u8]),
+}
+
+/// What a line says after its command.
+pub(crate) type Read<'a> = Result<Arguments<'a, Mention>, LineFault>;
+
+// Each form stands in a function of its own, so that no line pays for the frame of another form.
+// The arguments begin at `at`; without a space after the command there are none.
+
+#[tactic(auto, using(crate::proofs::Cuts::no_argument_some))]
+fn no_argument(arguments: Option<&[u8]>) -> Read<'static>
+    ensures { mentions_in result
+        ≡ forms.no_argument (rest_parts 32 arguments.entry) forms.NoArgument }
+{
+    match arguments {
+        None => Ok(Arguments::NoArgument),
+        Some(_words) => Err(LineFault::Count),
+    }
+}
+
+// An address has no space, so a line's only argument is looked through for another one only where it
+// is no address.
+#[tactic(auto, using(crate::proofs::Cuts::one_address_more))]
+fn one_address(at: usize, arguments: Option<&[u8]>) -> Read<'static>
+    requires { IfSome arguments (λ words. at + length words.now < 2 ^ 63) }
+    ensures { mentions_in result
+        ≡ forms.one_address at (rest_parts 32 arguments.entry) forms.OneAddress }
+{
+    let Some(words) = arguments else {
+        return Err(LineFault::Count);
+    };
+    let fault = match address(at, words) {
+        Ok(mention) => return Ok(Arguments::OneAddress(mention)),
+        Err(fault) => fault,
+    };
+    let (_word, more) = cut(words, b' ');
+    if let Some(_more) = more {
+        return Err(LineFault::Count);
+    }
+    Err(fault)
+}
+
+#[tactic(auto, using(crate::proofs::Cuts::two_addresses_more))]
+fn two_addresses(at: usize, arguments: Option<&[u8]>) -> Read<'static>
+    requires { IfSome arguments (λ words. at + length words.now < 2 ^ 63) }
+    ensures { mentions_in result
+        ≡ forms.two_addresses at (rest_parts 32 arguments.entry) forms.TwoAddresses }
+{
+    let Some(words) = arguments else {
+        return Err(LineFault::Count);
+    };
+    let (first, words) = cut(words, b' ');
+    let Some(words) = words else {
+        return Err(LineFault::Count);
+    };
+    let (second, more) = cut(words, b' ');
+    if let Some(_more) = more {
+        return Err(LineFault::Count);
+    }
+    let second_at = next_at(at, first);
+    let a = address(at, first)?;
+    let b = address(second_at, second)?;
+    Ok(Arguments::TwoAddresses(a, b))
+}
+
+// As with an only address, an only number is looked through for another word where it is none.
+#[tactic(auto, using(crate::proofs::Cuts::one_number_more))]
+fn one_number(most: u64, at: usize, arguments: Option<&[u8]>) -> Read<'static>
+    requires { IfSome arguments (λ words. at + length words.now < 2 ^ 63) }
+    ensures { mentions_in result
+        ≡ forms.one_number most at (rest_parts 32 arguments.entry) forms.OneNumber }
+{
+    let Some(words) = arguments else {
+        return Err(LineFault::Count);
+    };
+    let fault = match number(most, at, words) {
+        Ok(n) => return Ok(Arguments::OneNumber(n)),
+        Err(fault) => fault,
+    };
+    let (_word, more) = cut(words, b' ');
+    if let Some(_more) = more {
+        return Err(LineFault::Count);
+    }
+    Err(fault)
+}
+
+// `ADDR sn NUM`: what follows ADDR begins the second and third word.
+#[tactic(auto, using(crate::proofs::Cuts::numbered_address_more), unfolding(mesh_grammar::specs::Forms::numbered_address))]
+fn address_sn(at: usize, word: &[u8], others: &[u8]) -> Read<'static>
+    requires { at + length word.now + 1 + length others.now < 2 ^ 63 }
+    ensures { mentions_in result
+        ≡ forms.numbered_address at (word.now ∷ parts 32 others.now) forms.NumberedAddress }
+{
+    let (sn, others) = cut(others, b' ');
+    let Some(others) = others else {
+        return Err(LineFault::Count);
+    };
+    let (first, more) = cut(others, b' ');
+    if let Some(_more) = more {
+        return Err(LineFault::Count);
+    }
+    if sn != b"sn".as_slice() {
+        return Err(LineFault::Count);
+    }
+    let sn_at = next_at(at, word);
+    let first_at = next_at(sn_at, sn);
+    let a = address(at, word)?;
+    let first = number(u64::from(u32::MAX), first_at, first)?;
+    Ok(Arguments::NumberedAddress(a, first as u32))
+}
+
+#[tactic(auto, unfolding(mesh_grammar::specs::Forms::numbered_address))]
+fn numbered_address(at: usize, arguments: Option<&[u8]>) -> Read<'static>
+    requires { IfSome arguments (λ words. at + length words.now < 2 ^ 63) }
+    ensures { mentions_in result
+        ≡ forms.numbered_address at (rest_parts 32 arguments.entry) forms.NumberedAddress }
+{
+    let Some(words) = arguments else {
+        return Err(LineFault::Count);
+    };
+    let (word, others) = cut(words, b' ');
+    let Some(others) = others else {
+        let a = address(at, word)?;
+        return Ok(Arguments::NumberedAddress(a, 1));
+    };
+    address_sn(at, word, others)
+}
+
+// The text is all that follows the second address.
+#[tactic(auto, using(crate::proofs::Cuts::addresses_and_text_of), unfolding(mesh_grammar::specs::Forms::addresses_and_text))]
+fn addresses_and_text(at: usize, arguments: Option<&[u8]>) -> Read<'_>
+    requires { IfSome arguments (λ words. at + length words.now < 2 ^ 63) }
+    ensures { mentions_in result
+        ≡ forms.addresses_and_text at (rest_parts 32 arguments.entry) forms.AddressesAndText }
+{
+    let Some(words) = arguments else {
+        return Err(LineFault::Count);
+    };
+    let (first, words) = cut(words, b' ');
+    let Some(words) = words else {
+        return Err(LineFault::Count);
+    };
+    let (second, body) = cut(words, b' ');
+    let Some(body) = body else {
+        return Err(LineFault::Count);
+    };
+    let second_at = next_at(at, first);
+    let body_at = next_at(second_at, second);
+    let a = address(at, first)?;
+    let b = address(second_at, second)?;
+    let text = text(body_at, body)?;
+    Ok(Arguments::AddressesAndText(a, b, text))
+}
+
+/// The arguments of a form, the first of which begins at `at`.
+pub(crate) fn arguments_of(form: Form, at: usize, arguments: Option<&[u8]>) -> Read<'_>
+    requires { IfSome arguments (λ words. at + length words.now < 2 ^ 63) }
+    ensures { mentions_in result ≡ forms.arguments_of form at (rest_parts 32 arguments.entry) }
+{
+    match form {
+        Form::Bare => no_argument(arguments),
+        Form::Address => one_address(at, arguments),
+        Form::Addresses => two_addresses(at, arguments),
+        Form::Number { most } => one_number(most, at, arguments),
+        Form::Numbered => numbered_address(at, arguments),
+        Form::Text => addresses_and_text(at, arguments),
+    }
+}

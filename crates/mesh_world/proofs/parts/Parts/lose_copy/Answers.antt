@@ -1,0 +1,18 @@
+use Rattle.mesh_world.proofs.Arrivals.{lose_done, lose_idle, seen_fits}
+use Rattle.mesh_world.proofs.Moves.{of_ends}
+use Rattle.mesh_world.proofs.parts.Parts.lose_copy.Goals as goal
+
+pub returns-in_default-clause-done : goal.returns-in_default-clause-done
+returns-in_default-clause-done c = λ packet.
+    let old = c.args.self.now in
+    of_ends _ old _ _ _ _ _ _ (lose_idle old.mesh old.nodes.items old.radio old.ready old.steps c.args.id c.find.result packet c.requires.kept c.find.ensures c.in_default.is)
+
+pub take-requires : goal.take-requires
+take-requires c =
+    let old = c.args.self.now in
+    record { fits = seen_fits old.radio c.args.id c.in_ok-room.room c.find.result c.in-Some.flying c.find.ensures c.in-Some.is c.in_ok-room.ensures.room }
+
+pub returns-clause-done : goal.returns-clause-done
+returns-clause-done c = λ packet.
+    let old = c.args.self.now in
+    of_ends _ old _ _ _ _ _ _ (lose_done old.mesh old.nodes.items old.radio c.take.new.self old.ready old.steps c.args.id c.take.result c.in-Some-take.flying packet c.requires.kept c.take.ensures.taken c.in-Some-take.is c.take.ensures.others)
