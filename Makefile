@@ -1,0 +1,32 @@
+# `make` proves and builds the programs, `make install PREFIX=..` puts them and their manual pages where
+# a package would, and `make check` runs all that is checked outside the merge gate.
+PREFIX = /usr/local
+DESTDIR =
+libexec = $(DESTDIR)$(PREFIX)/libexec/mesh
+man = $(DESTDIR)$(PREFIX)/share/man
+examples = $(DESTDIR)$(PREFIX)/share/doc/mesh/examples
+
+all:
+	./build mesh_cli
+
+check:
+	checks/all
+
+# The start script finds the program beside itself, and links are followed to it.
+install: all
+	install -d $(libexec)/tools $(DESTDIR)$(PREFIX)/bin $(man)/man1 $(man)/man5 $(examples)
+	install -m 755 mesh $(libexec)/mesh
+	install -m 644 tools/start.sh $(libexec)/tools/start.sh
+	install -m 755 crates/mesh_cli/out/mesh_cli $(libexec)/mesh_cli
+	./mesh --version | sed 's/.* of commit \([^,]*\),.*/\1/' >$(libexec)/COMMIT
+	chmod 644 $(libexec)/COMMIT
+	ln -sf ../libexec/mesh/mesh $(DESTDIR)$(PREFIX)/bin/mesh
+	install -m 644 docs/man/mesh.1 $(man)/man1/mesh.1
+	install -m 644 docs/man/mesh.5 $(man)/man5/mesh.5
+	install -m 644 examples/*.mesh examples/*.txt $(examples)
+
+uninstall:
+	rm -rf $(libexec) $(examples)
+	rm -f $(DESTDIR)$(PREFIX)/bin/mesh $(man)/man1/mesh.1 $(man)/man5/mesh.5
+
+.PHONY: all check install uninstall
