@@ -59,6 +59,7 @@ fn find_near(casts: &Casts, id: u64, hint: usize) -> Option<Spot>
 }
 
 /// Where the copy of this id stands. The least copy is found at once.
+#[inline(always)]
 pub fn find(casts: &Casts, least: Option<Least>, id: u64) -> Option<Spot>
     requires casts { (next : ℕ) × AreCasts casts.now.entries next }
     requires least { IsLeastOf casts.now.entries least }
@@ -154,6 +155,7 @@ fn least_or(casts: &Casts, least: Option<Least>, gone: usize) -> Option<Least>
 }
 
 /// A cast joins, at the next id: its copies fly. The answer is the least copy then, where this one was.
+#[inline(always)]
 pub fn launch(casts: &mut Casts, least: Option<Least>, next: u64, cast: Cast) -> Option<Least>
     requires casts { AreCasts casts.old.entries next }
     requires least { IsLeastOf casts.old.entries least }
@@ -175,6 +177,7 @@ pub fn launch(casts: &mut Casts, least: Option<Least>, next: u64, cast: Cast) ->
 }
 
 /// How many casts at the front have no copy in flight.
+#[inline(always)]
 pub fn front_of(least: Option<Least>) -> usize
     ensures some { IfSome least (λ l. result ≡ l.spot.place) }
     ensures none { IfNone least (result ≡ 0) }
@@ -186,6 +189,7 @@ pub fn front_of(least: Option<Least>) -> usize
 }
 
 /// The copy to this receiver of the cast at this place flies no more.
+#[inline(always)]
 pub fn remove_at(casts: &mut Casts, place: usize, to: usize)
     requires { to < 256 }
     ensures { (e : Entry) → slice_get casts.old.entries place ≡ Some e →

@@ -195,6 +195,7 @@ impl Copies {
     }
 
     /// Takes the copy of this id, its bytes in this room's memory.
+    #[inline(always)]
     pub fn take(&mut self, id: u64, room: Room) -> Option<Flying>
         requires fits { (f : Flying) → find_copy self.old.flying id ≡ Some f → length f.bytes ≤ room }
         ensures taken { result ≡ find_copy self.old.flying id }
