@@ -22,7 +22,8 @@ is_near_to vs id = is_in vs id || (is_in vs (id + 1) || (nat_lt 0 id && is_in vs
 -- the interval grows at its end, and joins the next where they come to adjoin
 abbrev pub joined : Interval → ℕ → List Interval → List Interval
 joined v id [] = interval v.first id ∷ []
-joined v id (w ∷ ws) = if id + 1 == w.first then interval v.first w.last ∷ ws else interval v.first id ∷ w ∷ ws
+joined v id (w ∷ ws) =
+    if id + 1 == w.first then interval v.first w.last ∷ ws else interval v.first id ∷ w ∷ ws
 
 -- the intervals with one more id
 abbrev pub with_id : List Interval → ℕ → List Interval

@@ -33,13 +33,17 @@ pub record RoomyIds : Type 0 where
 
 -- a code, by which proofs tell such values apart
 abbrev pub ids_code : Coded RoomyIds
-ids_code = code_by (IdSet × ℕ) (coded× (sets.code coded_ℕ) coded_ℕ) (λ s. (s.ids, s.room)) (λ p. record { ids = p.0; room = p.1 }) (λ _. refl)
+ids_code =
+    code_by (IdSet × ℕ) (coded× (sets.code coded_ℕ) coded_ℕ)
+    (λ s. (s.ids, s.room)) (λ p. record { ids = p.0; room = p.1 }) (λ _. refl)
 
 -- the id, the one after it or the one before it is there
 abbrev pub is_near_in : IdSet → ℕ → Bool
-is_near_in ids id = contains ids id || (contains ids (id + 1) || (nat_lt 0 id && contains ids (id - 1)))
+is_near_in ids id =
+    contains ids id || (contains ids (id + 1) || (nat_lt 0 id && contains ids (id - 1)))
 
 -- the greatest id
 abbrev pub IsGreatest : IdSet → Option ℕ → Type 0
 IsGreatest ids None = (id : ℕ) → contains ids id ≡ false
-IsGreatest ids (Some greatest) = (contains ids greatest ≡ true) × ((id : ℕ) → greatest < id → contains ids id ≡ false)
+IsGreatest ids (Some greatest) =
+    (contains ids greatest ≡ true) × ((id : ℕ) → greatest < id → contains ids id ≡ false)

@@ -1,4 +1,5 @@
--- Read in this order. The requests that a node has seen are a set of pairs of aodv_model (its specs/Cores).
+-- Read in this order. The requests that a node has seen are a set of pairs of aodv_model (its
+-- specs/Cores).
 -- Requests: what is seen of them, what is next to a request, and the least id from a number on.
 pub mod Requests
 -- Intervals: the ids beside one originator, kept as intervals.

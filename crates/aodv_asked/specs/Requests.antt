@@ -1,20 +1,32 @@
 -- The route requests that a node has seen: for each its originator and its id.
-use Rattle.std.specs.Prelude.{◌≡◌, ◌<◌, ◌≤◌, ℕ, ◌+◌, ◌-◌, Bool, true, false, ◌||◌, ◌&&◌, nat_lt, List, Option, Some, None}
+use Rattle.std.specs.Prelude.{◌≡◌, ◌<◌, ◌≤◌, ℕ, ◌+◌, ◌-◌, Bool, true, false, ◌||◌, ◌&&◌, nat_lt, List, Option, Some, None, refl}
+use Rattle.std.specs.Coded.{Coded, code_by, coded×, coded_list, coded_ℕ}
 use Rattle.std.specs.FinSet as sets
 use Rattle.aodv_model.specs.Cores.{Seen}
+use Rattle.aodv_model.specs.Codes.{pairs_code}
 
--- what is seen: the requests, and for each node of the mesh for how many more ids of its own there is room, whatever
--- they are
+-- what is seen: the requests, and for each node of the mesh for how many more ids of its own there
+-- is room, whatever they are
 pub record RoomySeen : Type 0 where
   pub pairs : Seen
   pub rooms : List ℕ
 
+-- a code, by which proofs tell such values apart
+abbrev pub seen_code : Coded RoomySeen
+seen_code =
+    code_by (Seen × List ℕ) (coded× pairs_code (coded_list coded_ℕ))
+    (λ s. (s.pairs, s.rooms)) (λ p. record { pairs = p.0; rooms = p.1 }) (λ _. refl)
+
 -- the id, the one after it or the one before it stands beside o
 abbrev pub is_near : Seen → ℕ → ℕ → Bool
-is_near seen o id = sets.contains seen (o, id) || (sets.contains seen (o, id + 1) || (nat_lt 0 id && sets.contains seen (o, id - 1)))
+is_near seen o id =
+    sets.contains seen (o, id)
+    || (sets.contains seen (o, id + 1) || (nat_lt 0 id && sets.contains seen (o, id - 1)))
 
 -- the least id beside o that is not below `from`
 abbrev pub IsLeastIdFrom : Seen → ℕ → ℕ → Option ℕ → Type 0
 IsLeastIdFrom seen o from None = (id : ℕ) → from ≤ id → sets.contains seen (o, id) ≡ false
 IsLeastIdFrom seen o from (Some least) =
-    (from ≤ least) × (sets.contains seen (o, least) ≡ true) × ((id : ℕ) → from ≤ id → id < least → sets.contains seen (o, id) ≡ false)
+    (from ≤ least)
+    × (sets.contains seen (o, least) ≡ true)
+    × ((id : ℕ) → from ≤ id → id < least → sets.contains seen (o, id) ≡ false)

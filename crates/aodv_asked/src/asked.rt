@@ -16,16 +16,11 @@ pub struct Asked {
 }
 
 impl Model for Asked {
-    ghost use Rattle.std.specs.Prelude.{ℕ, List};
-    ghost use Rattle.std.specs.Coded.{coded_ℕ, coded_list, coded×, code_by};
-    ghost use Rattle.std.proofs.Common.{refl};
-    ghost use Rattle.aodv_model.specs.Cores.{Seen};
-    ghost use Rattle.aodv_model.specs.Codes.{pairs_code};
-    ghost use Rattle.aodv_asked.specs.Requests.{RoomySeen};
+    ghost use Rattle.aodv_asked.specs.Requests.{RoomySeen, seen_code};
 
     ghost Value = { RoomySeen };
 
-    ghost coded = { code_by (Seen × List ℕ) (coded× pairs_code (coded_list coded_ℕ)) (λ s. (s.pairs, s.rooms)) (λ p. record { pairs = p.0; rooms = p.1 }) (λ _. refl) };
+    ghost coded = { seen_code };
 
     ghost use Rattle.aodv_asked.specs.Rows.{pairs_of, rooms_of};
 
@@ -76,7 +71,8 @@ impl Asked {
         ensures pairs { self.new.pairs ≡ sets.insert self.old.pairs (o, id) }
         ensures nodes { length self.new.rooms ≡ length self.old.rooms }
         ensures used { slice_index self.old.rooms o ≤ slice_index self.new.rooms o + 1 }
-        ensures others { (q : ℕ) → q ≢ o → slice_index self.new.rooms q ≡ slice_index self.old.rooms q }
+        ensures others { (q : ℕ) → q ≢ o
+            → slice_index self.new.rooms q ≡ slice_index self.old.rooms q }
     {
         let ids = &mut self.rows[o];
         ids.insert(id);

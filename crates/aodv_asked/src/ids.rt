@@ -4,7 +4,7 @@ ghost use Rattle.smallvec.specs.SmallVec.{small_vec_len};
 ghost use Rattle.std.specs.FinSet as sets;
 ghost use Rattle.mesh_base.specs.Members.{IsLeastFrom};
 ghost use Rattle.aodv_asked.specs.Intervals.{AreApart, is_near_in, IsGreatest};
-ghost use Rattle.aodv_asked.specs.Insertions.{interval_at, with_id, is_near_to};
+ghost use Rattle.aodv_asked.specs.Insertions.{interval, interval_at, with_id, is_near_to};
 
 use mesh_base::NoMemory;
 use smallvec::SmallVec;
@@ -35,7 +35,10 @@ impl Model for Ids {
 
     ghost use Rattle.aodv_asked.specs.Intervals.{ids_in, AreApart};
 
-    ghost view = { λ a. record { ids = ids_in a.intervals.items; room = (a.intervals).capacity - small_vec_len a.intervals } };
+    ghost view = { λ a. record {
+      ids = ids_in a.intervals.items;
+      room = (a.intervals).capacity - small_vec_len a.intervals;
+    } };
 
     ghost invariant = { λ a. AreApart 0 a.intervals.items };
 }
@@ -45,7 +48,8 @@ fn count_before(intervals: &[Interval], from: u64) -> usize
     requires { AreApart 0 intervals.now }
     ensures within { result ≤ length intervals.now }
     ensures before { (i : ℕ) → i < result → (interval_at intervals.now i).last < from }
-    ensures after { (i : ℕ) → result ≤ i → i < length intervals.now → from ≤ (interval_at intervals.now i).last }
+    ensures after { (i : ℕ) → result ≤ i → i < length intervals.now
+        → from ≤ (interval_at intervals.now i).last }
 {
     intervals.partition_point(|v| u64::from(v.last) < from)
 }
@@ -55,6 +59,7 @@ fn narrowed(n: u64, most: u32) -> u32
     requires { n ≤ most }
     ensures { result ≡ n }
 {
+    // It says that `most` is a number of 32 bits.
     let _most = most;
     n as u32
 }
@@ -64,7 +69,8 @@ fn place_of(intervals: &[Interval], id: u32) -> usize
     requires { AreApart 0 intervals.now }
     ensures within { result ≤ length intervals.now }
     ensures before { (i : ℕ) → i < result → (interval_at intervals.now i).last + 1 < id }
-    ensures here { result < length intervals.now → id ≤ (interval_at intervals.now result).last + 1 }
+    ensures here { result < length intervals.now
+        → id ≤ (interval_at intervals.now result).last + 1 }
 {
     count_before(intervals, u64::from(id.saturating_sub(1)))
 }
@@ -80,18 +86,14 @@ fn put(intervals: &mut SmallVec<Interval, 2>, id: u32)
 {
     let place = place_of(intervals.as_slice(), id);
     let len = intervals.len();
-    let only = Interval {
-        first: id,
-        last: id,
-    };
     if place == len {
-        put_new(intervals, place, only);
+        put_new(intervals, place, id);
         return;
     }
     let here = intervals[place];
     let next = u64::from(id) + 1;
     if next < u64::from(here.first) {
-        put_new(intervals, place, only);
+        put_new(intervals, place, id);
         return;
     }
     if next == u64::from(here.first) {
@@ -121,14 +123,18 @@ fn put(intervals: &mut SmallVec<Interval, 2>, id: u32)
     };
 }
 
-// One more interval, where there is room.
-fn put_new(intervals: &mut SmallVec<Interval, 2>, place: usize, only: Interval)
+// One more interval, of this id alone, where there is room.
+fn put_new(intervals: &mut SmallVec<Interval, 2>, place: usize, id: u32)
     requires place { place ≤ length intervals.old.items }
     requires room { small_vec_len intervals.old < intervals.old.capacity }
-    ensures items { intervals.new.items ≡ insert intervals.old.items place only }
+    ensures items { intervals.new.items ≡ insert intervals.old.items place (interval id id) }
     ensures room { intervals.old.capacity - small_vec_len intervals.old
         ≤ intervals.new.capacity - small_vec_len intervals.new + 1 }
 {
+    let only = Interval {
+        first: id,
+        last: id,
+    };
     match intervals.insert(place, only) {
         Ok(()) => {}
         Err(_) => unreachable!(),

@@ -33,7 +33,8 @@ fn count_below(pairs: &[(usize, u32)], d: usize) -> usize
     requires { IsRising pairs.now }
     ensures within { result ≤ length pairs.now }
     ensures below { (i : ℕ) → i < result → (get_or pairs.now i (0, 0)).0 < d }
-    ensures above { (i : ℕ) → result ≤ i → i < length pairs.now → d ≤ (get_or pairs.now i (0, 0)).0 }
+    ensures above { (i : ℕ) → result ≤ i → i < length pairs.now
+        → d ≤ (get_or pairs.now i (0, 0)).0 }
 {
     pairs.partition_point(|pair| pair.0 < d)
 }

@@ -17,7 +17,8 @@ pub enum Known {
 pub enum Flag {
     /// The entry may be used.
     Val,
-    /// The route broke. The entry keeps its hop count and next hop, and the number that the break gave it.
+    /// The route broke. The entry keeps its hop count and next hop, and the number that the break
+    /// gave it.
     Inv,
 }
 

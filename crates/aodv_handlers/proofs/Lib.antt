@@ -5,5 +5,6 @@ pub mod Unicasts
 pub mod Restored
 pub mod Requests
 pub mod Stated
+pub mod Refused
 pub mod Replies
 pub mod Delivered

@@ -7,10 +7,10 @@ use Rattle.aodv_model.specs.Soundness.{IsSoundCore, IsSoundTable}
 use Rattle.aodv_model.proofs.Changes.{Raises, unreachable_by_raises}
 use Rattle.aodv_model.proofs.SoundTables.{invalidate_table}
 use Rattle.aodv_handlers.specs.declared.cores.Core as code
-use Rattle.aodv_handlers.specs.Shown.{shown, IsReady}
+use Rattle.aodv_handlers.specs.Shown.{core_of, IsReady}
 
 pub ready_after : {T : Type 0} (nodes : T → ℕ) (entries : T → Table) (size : ℕ) (old new : code.Core T) (after : Core) → IsReady nodes entries size old → nodes new.table ≡ nodes old.table → length (new.asked).rooms ≡ length (old.asked).rooms → length (new.waiting).rooms ≡ length (old.waiting).rooms
-    → shown entries new ≡ after → after.ip ≡ old.me → IsSoundCore size after → IsReady nodes entries size new
+    → core_of entries new ≡ after → after.ip ≡ old.me → IsSoundCore size after → IsReady nodes entries size new
 ready_after nodes entries size old new after ready same asked waiting is me sound = record {
   table = same ∙ ready.table;
   asked = asked ∙ ready.asked;
@@ -40,7 +40,7 @@ ready_table nodes entries size old new ready same asked waiting me own table = r
 
 -- a core that shows what an earlier one showed, made from a ready one with other rows
 pub ready_back : {T : Type 0} (nodes : T → ℕ) (entries : T → Table) (size : ℕ) (old mid new : code.Core T) → IsReady nodes entries size old → IsReady nodes entries size mid → nodes new.table ≡ nodes mid.table → (new.asked).rooms ≡ (mid.asked).rooms → (new.waiting).rooms ≡ (mid.waiting).rooms
-    → shown entries new ≡ shown entries old → IsReady nodes entries size new
+    → core_of entries new ≡ core_of entries old → IsReady nodes entries size new
 ready_back nodes entries size old mid new ready later same asked waiting is = record {
   table = same ∙ later.table;
   asked = ap length asked ∙ later.asked;

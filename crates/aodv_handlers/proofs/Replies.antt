@@ -3,7 +3,7 @@ use Rattle.std.proofs.Common.{◌≡◌, ℕ, ◌+◌, Bool, true, false, not, O
 use Rattle.std.specs.FinMap as maps
 use Rattle.std.specs.Prelude.{◌==◌}
 use Rattle.mesh_base.specs.declared.events.Effect as code
-use Rattle.mesh_base.specs.declared.events.Full.{Full}
+use Rattle.mesh_base.specs.declared.events.Counter.{Counter}
 use Rattle.mesh_base.specs.declared.events.Variant.{Variant}
 use Rattle.mesh_base.specs.declared.events.Variant.TheVariants as variant
 use Rattle.mesh_base.specs.Members.{NodeIds}
@@ -18,7 +18,7 @@ use Rattle.aodv_wire.specs.declared.message.Rrep as rrep
 use Rattle.aodv_meaning.specs.Meaning.{index, reply_in}
 use Rattle.aodv_meaning.specs.Sent.{IsPacket}
 use Rattle.aodv_meaning.specs.Effects.{effect_of}
-use Rattle.aodv_handlers.specs.Made.{IsMade, IsRefused, number_full}
+use Rattle.aodv_handlers.specs.Made.{IsMade, IsFull, number_full}
 use Rattle.aodv_handlers.specs.declared.unicast.Reply.{Reply}
 use Rattle.aodv_handlers.specs.Shown.{reply_of}
 use Rattle.aodv_handlers.specs.Parts.{end_of_rrep, pass_on, passing}
@@ -133,9 +133,9 @@ passed_made mesh c new range from m did effect out end made = record {
   packet = subst (λ (d : Reaction). IsPacket mesh out d.effect.cast) (sym end.turned) made.packet;
 }
 
-pub passed_refused : (c new : Core) (range : NodeIds) (from : ℕ) (m : RouteReply) (rt2 rt4 : Table) (did : Reaction) (field : Full) → Ends c range from m did
-    → IsRefused (number_full did) (record c { rt = rt2 }) field new → rt4 ≡ c.rt
-    → IsRefused (turn_full c range (item from m)) c field (record new { rt = rt4 })
+pub passed_refused : (c new : Core) (range : NodeIds) (from : ℕ) (m : RouteReply) (rt2 rt4 : Table) (did : Reaction) (field : Counter) → Ends c range from m did
+    → IsFull (number_full did) (record c { rt = rt2 }) field new → rt4 ≡ c.rt
+    → IsFull (turn_full c range (item from m)) c field (record new { rt = rt4 })
 passed_refused c new range from m rt2 rt4 did field end refused back = record {
   overfull = end.full ∙ refused.overfull;
   same = λ i. record (refused.same i) { rt = back i };

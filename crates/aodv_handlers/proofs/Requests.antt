@@ -4,7 +4,7 @@ use Rattle.std.specs.Prelude.{◌==◌}
 use Rattle.std.specs.FinMap as maps
 use Rattle.std.specs.FinSet as sets
 use Rattle.mesh_base.specs.declared.events.Effect as code
-use Rattle.mesh_base.specs.declared.events.Full.{Full}
+use Rattle.mesh_base.specs.declared.events.Counter.{Counter}
 use Rattle.mesh_base.specs.Members.{NodeIds}
 use Rattle.mesh_base.specs.Meshes.{Nodes}
 use Rattle.aodv_entry.specs.declared.entry.Entry.{Entry}
@@ -21,14 +21,14 @@ use Rattle.aodv_wire.specs.declared.message.Rreq as rreq
 use Rattle.aodv_meaning.specs.Meaning.{index, status_of, request_in}
 use Rattle.aodv_meaning.specs.Sent.{IsPacket}
 use Rattle.aodv_meaning.specs.Effects.{effect_of}
-use Rattle.aodv_handlers.specs.Made.{IsMade, IsRefused, number_full}
+use Rattle.aodv_handlers.specs.Made.{IsMade, IsFull, number_full}
 use Rattle.aodv_handlers.proofs.Unicasts.{plain_free}
 
 -- the same of an equal reaction
 pub made_at : (mesh : Nodes) (did did' : Reaction) (effect : code.Effect) (new : Core) (out : List ℕ) → did ≡ did' → IsMade mesh (number_full did) did effect new out → IsMade mesh (number_full did') did' effect new out
 made_at mesh did did' effect new out same made = subst (λ (d : Reaction). IsMade mesh (number_full d) d effect new out) same made
 
-pub refused_at : (did did' : Reaction) (old old' : Core) (field : Full) (new new' : Core) → did ≡ did' → new' ≡ old' → IsRefused (number_full did) old field new → IsRefused (number_full did') old' field new'
+pub refused_at : (did did' : Reaction) (old old' : Core) (field : Counter) (new new' : Core) → did ≡ did' → new' ≡ old' → IsFull (number_full did) old field new → IsFull (number_full did') old' field new'
 refused_at did did' old old' field new new' same is refused = record { overfull = ap number_full (sym same) ∙ refused.overfull; same = is }
 
 -- ---- a node that answers from its table
@@ -143,9 +143,9 @@ new_made mesh c new range from m key did' effect s out end key_is made seen s_is
       packet = subst (λ (d : Reaction). IsPacket mesh out d.effect.cast) (sym end.turned) made.packet;
     }
 
-pub stop_made : (c new : Core) (range : NodeIds) (from : ℕ) (m : RouteRequest) (rt2 rt4 : Table) (did' : Reaction) (field : Full)
-    → Ends c range from m did' → IsRefused (number_full did') (record c { rt = rt2 }) field new → rt4 ≡ c.rt
-    → IsRefused (turn_full c range (item from m)) c field (record new { rt = rt4 })
+pub stop_made : (c new : Core) (range : NodeIds) (from : ℕ) (m : RouteRequest) (rt2 rt4 : Table) (did' : Reaction) (field : Counter)
+    → Ends c range from m did' → IsFull (number_full did') (record c { rt = rt2 }) field new → rt4 ≡ c.rt
+    → IsFull (turn_full c range (item from m)) c field (record new { rt = rt4 })
 stop_made c new range from m rt2 rt4 did' field end refused back = record {
   overfull = end.full ∙ refused.overfull;
   same = λ i. record (refused.same i) { rt = back i };

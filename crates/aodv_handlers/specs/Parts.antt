@@ -2,9 +2,9 @@
 use Rattle.std.specs.Prelude.{◌≡◌, ◌≤◌, ℕ, Bool, not, ◌||◌, ◌==◌, if◌then◌else◌, Option, Some, None}
 use Rattle.mesh_base.specs.declared.events.Variant.{Variant}
 use Rattle.mesh_base.specs.Members.{NodeIds}
-use Rattle.aodv_model.specs.Tables.{Table, Dests, in_vD, nhop, precs}
+use Rattle.aodv_model.specs.Tables.{Table, Dests, in_vD, nhop, precs, accepted_unreachable}
 use Rattle.aodv_model.specs.Cores.{Core, RouteReply, Rrep}
-use Rattle.aodv_model.specs.Handlers.{Reaction, is_empty, is_error, with_precs, only, join_reply_precursors, reply_on, unicast}
+use Rattle.aodv_model.specs.Handlers.{Reaction, is_empty, is_error, with_precs, only, join_reply_precursors, reply_on, retract, unicast}
 use Rattle.aodv_handlers.specs.declared.unicast.Reply.{Reply}
 use Rattle.aodv_handlers.specs.Shown.{reply_of}
 
@@ -15,6 +15,10 @@ tells v rt d = is_error v || not (is_empty (precs rt d))
 -- the destinations of a route error, of these
 abbrev pub told : Variant → Table → Dests → Dests
 told v rt dests = if is_error v then dests else with_precs rt dests
+
+-- the routes by `from` are gone that a route error from there names, with these numbers
+abbrev pub gone_by : Core → ℕ → Dests → Reaction
+gone_by core from dests = retract core (accepted_unreachable core.rt from dests)
 
 -- what is done with a reply in the core after its updates
 abbrev pub end_of_rrep : Core → Bool → NodeIds → RouteReply → Reaction

@@ -9,20 +9,36 @@ use Rattle.aodv_handlers.specs.declared.rreq.Wanted.{Wanted}
 use Rattle.aodv_handlers.specs.declared.unicast.Reply.{Reply}
 
 -- the model's core. `entries` says what the table's entries are
-abbrev pub shown : {T : Type 0} → (T → Table) → code.Core T → Core
-shown entries c = record { ip = c.me; variant = c.variant; sn = c.sn; rt = entries c.table; seen = (c.asked).pairs; store = (c.waiting).store }
+abbrev pub core_of : {T : Type 0} → (T → Table) → code.Core T → Core
+core_of entries c = record {
+  ip = c.me;
+  variant = c.variant;
+  sn = c.sn;
+  rt = entries c.table;
+  seen = (c.asked).pairs;
+  store = (c.waiting).store;
+}
 
--- the core is that of a node of a mesh of this size: its parts are made for that size, and what it shows is sound
+-- the core is that of a node of a mesh of this size: its parts are made for that size, and what it
+-- shows is sound
 pub record IsReady {T : Type 0} (nodes : T → ℕ) (entries : T → Table) (size : ℕ) (c : code.Core T) : Type 0 where
   pub table : nodes c.table ≡ size
   pub asked : length (c.asked).rooms ≡ size
   pub waiting : length (c.waiting).rooms ≡ size
   pub mine : c.me < size
-  pub sound : IsSoundCore size (shown entries c)
+  pub sound : IsSoundCore size (core_of entries c)
 
 -- a request and a reply of the code, over indices
 abbrev pub request_of : Wanted → RouteRequest
-request_of m = record { hops = m.hops; id = m.id; dip = m.dip; dsn = m.dsn; dsk = status_of m.known; oip = m.oip; osn = m.osn }
+request_of m = record {
+  hops = m.hops;
+  id = m.id;
+  dip = m.dip;
+  dsn = m.dsn;
+  dsk = status_of m.known;
+  oip = m.oip;
+  osn = m.osn;
+}
 
 abbrev pub reply_of : Reply → RouteReply
 reply_of m = record { hops = m.hops; dip = m.dip; dsn = m.dsn; oip = m.oip }

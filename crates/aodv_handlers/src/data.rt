@@ -11,30 +11,31 @@ ghost use Rattle.aodv_model.specs.Soundness.{IsDatum};
 ghost use Rattle.aodv_wire.specs.declared.message.Message.TheVariants.{Parcel as a_parcel};
 ghost use Rattle.aodv_meaning.specs.Meaning.{index, stranger};
 ghost use Rattle.aodv_meaning.specs.Sent.{IsPacket};
-ghost use Rattle.aodv_handlers.specs.Shown.{shown, IsReady};
+ghost use Rattle.aodv_handlers.specs.Shown.{core_of, IsReady};
 ghost use Rattle.aodv_meaning.specs.Effects.{cast_of};
-ghost use Rattle.aodv_handlers.specs.Made.{Does, number_full};
+ghost use Rattle.aodv_handlers.specs.Made.{Reacts};
 
 use crate::cores::Core;
 use crate::errors::{is_broadcast, is_empty};
-use crate::places::place_of;
 use crate::routes::{has_route, next_hop};
 use crate::unicast::send_datum;
 use aodv_entry::{Entry, Flag};
 use aodv_table::Table;
 use aodv_wire::{DataView, write_rerr};
-use mesh_base::{Bytes, Cast, Effect, Full, Mesh, NodeSet, Packet, Variant};
+use mesh_base::{Bytes, Cast, Counter, Effect, Mesh, NodeSet, Packet, Variant};
 
-/// A datum given to the node. It comes back where it is for the node itself, which delivers it; else
-/// it waits.
+/// A datum given to the node. It comes back where it is for the node itself, which delivers it;
+/// else it waits.
 #[tactic(auto, unfolding(aodv_model::specs::Handlers::on_new))]
 pub fn new_packet<T: Table>(core: &mut Core<T>, dest: usize, body: Bytes) -> Option<Bytes>
     requires datum { IsDatum body }
     requires room { dest ≢ core.old.me → 0 < slice_index core.old.waiting.rooms dest }
     ensures result { result ≡ (if dest == core.old.me then Some body else None) }
-    ensures core { shown T.entries core.new ≡ (on_new (shown T.entries core.old) body dest).core }
-    ensures free { (range : NodeIds) → turn_full (shown T.entries core.old) range (New body dest) ≡ None }
-    ensures ready { (size : ℕ) → IsReady T.nodes T.entries size core.old → IsReady T.nodes T.entries size core.new }
+    ensures core { core_of T.entries core.new ≡ (on_new (core_of T.entries core.old) body dest).core }
+    ensures free { let c = core_of T.entries core.old in
+        (range : NodeIds) → turn_full c range (New body dest) ≡ None }
+    ensures ready { (size : ℕ) → IsReady T.nodes T.entries size core.old
+        → IsReady T.nodes T.entries size core.new }
     ensures table { core.new.table ≡ core.old.table }
     ensures asked { core.new.asked ≡ core.old.asked }
 {
@@ -59,8 +60,8 @@ fn makes_an_error(variant: Variant, e: &Entry) -> bool
 fn data_error<T: Table>(core: &Core<T>, mesh: &Mesh, d: usize, out: &mut Packet) -> Cast
     requires nodes { T.nodes core.now.table ≡ length mesh.now }
     requires below { d < length mesh.now }
-    ensures cast { result ≡ cast_of (the_data_error (shown T.entries core.now) d) }
-    ensures packet { IsPacket mesh.now out.new.items (the_data_error (shown T.entries core.now) d) }
+    ensures cast { result ≡ cast_of (the_data_error (core_of T.entries core.now) d) }
+    ensures packet { IsPacket mesh.now out.new.items (the_data_error (core_of T.entries core.now) d) }
 {
     match core.table.get(d) {
         Some(e) if makes_an_error(core.variant, &e) => {
@@ -87,18 +88,19 @@ pub fn on_data<T: Table>(
     range: &NodeSet,
     m: &DataView<'_>,
     out: &mut Packet,
-) -> Result<Effect, Full>
+) -> Result<Effect, Counter>
     requires ready { IsReady T.nodes T.entries (length mesh.now) core.old }
     requires known { stranger mesh.now (a_parcel m.now) ≡ None }
     requires datum { IsDatum m.now.body }
-    ensures does { let did = on_pkt (shown T.entries core.old) range.now m.now.body (index mesh.now m.now.dip) (index mesh.now m.now.oip) in
-        Does mesh.now (number_full did) (shown T.entries core.old) did result (shown T.entries core.new) out.new.items }
+    ensures does { let dip = index mesh.now m.now.dip in let oip = index mesh.now m.now.oip in
+        Reacts T.entries mesh.now (λ c. on_pkt c range.now m.now.body dip oip)
+        core.old result core.new out.new.items }
     ensures ready { IsReady T.nodes T.entries (length mesh.now) core.new }
     ensures rooms { T.rooms core.new.table ≡ T.rooms core.old.table }
     ensures asked { core.new.asked ≡ core.old.asked }
 {
-    let dip = place_of(mesh, m.dip());
-    let oip = place_of(mesh, m.oip());
+    let dip = mesh.index_in(m.dip());
+    let oip = mesh.index_in(m.oip());
     if dip == core.me {
         out.clear();
         return Ok(Effect {

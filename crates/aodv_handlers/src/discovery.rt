@@ -3,11 +3,11 @@
 ghost use Rattle.std.specs.Prelude.{◌≡◌, ◌≢◌, ◌<◌, ◌≤◌, ◌+◌, ℕ, true, false, length, slice_index, Some, None, IfSome, is_none};
 ghost use Rattle.std.specs.FinMap as maps;
 ghost use Rattle.aodv_model.specs.Tables.{sqn, sqnf};
-ghost use Rattle.aodv_model.specs.Handlers.{fresh_id, may_send as can_send, may_ask as can_ask, send, ask};
-ghost use Rattle.aodv_model.specs.Fullness.{is_id_full, send_full, ask_full};
+ghost use Rattle.aodv_model.specs.Handlers.{fresh_id, may_send as can_send, may_ask as can_ask};
+ghost use Rattle.aodv_model.specs.Fullness.{is_id_full};
 ghost use Rattle.aodv_entry.specs.Quality.{is_kno, inc as raised};
-ghost use Rattle.aodv_handlers.specs.Shown.{shown, IsReady};
-ghost use Rattle.aodv_handlers.specs.Made.{Does};
+ghost use Rattle.aodv_handlers.specs.Shown.{core_of, IsReady};
+ghost use Rattle.aodv_handlers.specs.Made.{Sends, Asks};
 
 use crate::cores::Core;
 use crate::routes::{has_route, next_hop};
@@ -15,12 +15,12 @@ use crate::unicast::{casting, fail};
 use aodv_entry::{Known, inc};
 use aodv_table::Table;
 use aodv_wire::{Rreq, write_data, write_rreq};
-use mesh_base::{Cast, Effect, Full, Mesh, NodeSet, Packet, Variant};
+use mesh_base::{Cast, Counter, Effect, Mesh, NodeSet, Packet, Variant};
 
 /// Whether a datum waits for `dest` and there is a valid route to it.
 pub fn may_send<T: Table>(core: &Core<T>, dest: usize) -> bool
     requires { dest < T.nodes core.now.table }
-    ensures { result ≡ can_send (shown T.entries core.now) dest }
+    ensures { result ≡ can_send (core_of T.entries core.now) dest }
 {
     core.waiting.has(dest) && has_route(&core.table, dest)
 }
@@ -29,7 +29,7 @@ pub fn may_send<T: Table>(core: &Core<T>, dest: usize) -> bool
 /// to be made.
 pub fn may_ask<T: Table>(core: &Core<T>, dest: usize) -> bool
     requires { dest < T.nodes core.now.table }
-    ensures { result ≡ can_ask (shown T.entries core.now) dest }
+    ensures { result ≡ can_ask (core_of T.entries core.now) dest }
 {
     core.waiting.has(dest) && core.waiting.needs_request(dest) && !has_route(&core.table, dest)
 }
@@ -42,12 +42,11 @@ pub fn send_stored<T: Table>(
     range: &NodeSet,
     dest: usize,
     out: &mut Packet,
-) -> Result<Effect, Full>
+) -> Result<Effect, Counter>
     requires ready { IsReady T.nodes T.entries (length mesh.now) core.old }
     requires dest { dest < length mesh.now }
-    requires may { can_send (shown T.entries core.old) dest ≡ true }
-    ensures does { let c = shown T.entries core.old in
-        Does mesh.now (send_full c range.now dest) c (send c range.now dest) result (shown T.entries core.new) out.new.items }
+    requires may { can_send (core_of T.entries core.old) dest ≡ true }
+    ensures does { Sends T.entries mesh.now range.now dest core.old result core.new out.new.items }
     ensures ready { IsReady T.nodes T.entries (length mesh.now) core.new }
     ensures rooms { T.rooms core.new.table ≡ T.rooms core.old.table }
     ensures asked { core.new.asked ≡ core.old.asked }
@@ -79,8 +78,9 @@ fn last_known<T: Table>(table: &T, d: usize) -> (u32, bool)
 fn request_id<T: Table>(core: &Core<T>, sn: u32) -> Option<u32>
     requires within { core.now.me < length core.now.asked.rooms }
     requires raised { sn ≡ raised core.now.sn }
-    ensures full { is_none result ≡ is_id_full core.now.variant (shown T.entries core.now) }
-    ensures value { IfSome result (λ id. id ≡ fresh_id core.now.variant (shown T.entries core.now)) }
+    ensures full { let c = core_of T.entries core.now in is_none result ≡ is_id_full c.variant c }
+    ensures value { let c = core_of T.entries core.now in
+        IfSome result (λ id. id ≡ fresh_id c.variant c) }
 {
     match core.variant {
         Variant::Number => Some(sn),
@@ -95,21 +95,20 @@ pub fn start_request<T: Table>(
     mesh: &Mesh,
     dest: usize,
     out: &mut Packet,
-) -> Result<Effect, Full>
+) -> Result<Effect, Counter>
     requires ready { IsReady T.nodes T.entries (length mesh.now) core.old }
     requires dest { dest < length mesh.now }
-    requires may { can_ask (shown T.entries core.old) dest ≡ true }
+    requires may { can_ask (core_of T.entries core.old) dest ≡ true }
     requires asked { 0 < slice_index core.old.asked.rooms core.old.me }
-    ensures does { let c = shown T.entries core.old in
-        Does mesh.now (ask_full c) c (ask c dest) result (shown T.entries core.new) out.new.items }
+    ensures does { Asks T.entries mesh.now dest core.old result core.new out.new.items }
     ensures ready { IsReady T.nodes T.entries (length mesh.now) core.new }
     ensures table { core.new.table ≡ core.old.table }
 {
     let Some(sn) = inc(core.sn) else {
-        return Err(Full::Number);
+        return Err(Counter::Number);
     };
     let Some(id) = request_id(core, sn) else {
-        return Err(Full::Id);
+        return Err(Counter::Id);
     };
     let (dsn, known) = last_known(&core.table, dest);
     let request = Rreq {

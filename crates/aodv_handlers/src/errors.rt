@@ -1,14 +1,14 @@
 //! Route errors, and links that are broken (RFC 3561, section 6.11).
-ghost use Rattle.std.specs.Prelude.{◌≡◌, ◌<◌, ◌≤◌, ℕ, length, MatchResult};
+ghost use Rattle.std.specs.Prelude.{◌≡◌, ◌<◌, ◌≤◌, ℕ, length};
 ghost use Rattle.std.specs.FinMap as maps;
 ghost use Rattle.aodv_model.specs.Tables.{precs};
 ghost use Rattle.aodv_model.specs.Cores.{Rerr};
 ghost use Rattle.aodv_model.specs.Handlers.{is_empty as no_node, is_error, precs_of, error_cast as the_error_cast, retract as retracted, link_broken as broken};
 ghost use Rattle.aodv_model.specs.Soundness.{AreDestsBelow};
 ghost use Rattle.aodv_meaning.specs.Sent.{IsSent, IsPacket};
-ghost use Rattle.aodv_handlers.specs.Shown.{shown, IsReady};
+ghost use Rattle.aodv_handlers.specs.Shown.{core_of, IsReady};
 ghost use Rattle.aodv_meaning.specs.Effects.{cast_of};
-ghost use Rattle.aodv_handlers.specs.Made.{only_cast, IsMade, IsRefused, number_full};
+ghost use Rattle.aodv_handlers.specs.Made.{as_effect, Reacts};
 ghost use Rattle.aodv_handlers.specs.Parts.{tells, told};
 
 use crate::cores::Core;
@@ -16,7 +16,7 @@ use aodv_entry::Dests;
 use aodv_table::Table;
 use aodv_wire::write_rerr;
 use arrayvec::ArrayVec;
-use mesh_base::{Addr, Cast, Full, MOST_NODES, Mesh, NodeSet, Packet, Variant};
+use mesh_base::{Addr, Cast, Counter, MOST_NODES, Mesh, NodeSet, Packet, Variant};
 
 /// The precursors of d.
 pub(crate) fn precursors<T: Table>(table: &T, d: usize) -> NodeSet
@@ -71,6 +71,7 @@ fn write_error<T: Table>(variant: Variant, table: &T, mesh: &Mesh, dests: &Dests
     requires some { 1 ≤ maps.len (told variant (T.entries table.now) dests.now) }
     ensures { IsSent mesh.now out.new.items (Rerr (told variant (T.entries table.now) dests.now)) }
 {
+    // It says that the addresses of a mesh rise, so pairs by rising node have rising addresses.
     let _rising = mesh.len();
     let mut pairs: ArrayVec<(Addr, u32), MOST_NODES> = ArrayVec::new();
     for k in 0..dests.len() {
@@ -94,7 +95,8 @@ fn error_cast<T: Table>(
     requires nodes { T.nodes table.now ≡ length mesh.now }
     requires below { AreDestsBelow (length mesh.now) dests.now }
     ensures cast { result ≡ cast_of (the_error_cast variant (T.entries table.now) dests.now) }
-    ensures packet { IsPacket mesh.now out.new.items (the_error_cast variant (T.entries table.now) dests.now) }
+    ensures packet { let cast = the_error_cast variant (T.entries table.now) dests.now in
+        IsPacket mesh.now out.new.items cast }
 {
     if is_broadcast(variant) {
         if dests.is_empty() {
@@ -124,9 +126,12 @@ pub(crate) fn retract<T: Table>(
 ) -> Cast
     requires nodes { T.nodes core.old.table ≡ length mesh.now }
     requires below { AreDestsBelow (length mesh.now) dests.now }
-    ensures core { shown T.entries core.new ≡ (retracted (shown T.entries core.old) dests.now).core }
-    ensures cast { result ≡ cast_of (retracted (shown T.entries core.old) dests.now).effect.cast }
-    ensures packet { IsPacket mesh.now out.new.items (retracted (shown T.entries core.old) dests.now).effect.cast }
+    ensures core { let did = retracted (core_of T.entries core.old) dests.now in
+        core_of T.entries core.new ≡ did.core }
+    ensures cast { let did = retracted (core_of T.entries core.old) dests.now in
+        result ≡ cast_of did.effect.cast }
+    ensures packet { let did = retracted (core_of T.entries core.old) dests.now in
+        IsPacket mesh.now out.new.items did.effect.cast }
     ensures rooms { T.rooms core.new.table ≡ T.rooms core.old.table }
     ensures nodes { T.nodes core.new.table ≡ T.nodes core.old.table }
     ensures asked { core.new.asked ≡ core.old.asked }
@@ -146,12 +151,10 @@ pub fn link_broken<T: Table>(
     mesh: &Mesh,
     next: usize,
     out: &mut Packet,
-) -> Result<Cast, Full>
+) -> Result<Cast, Counter>
     requires ready { IsReady T.nodes T.entries (length mesh.now) core.old }
-    ensures does { let did = broken (shown T.entries core.old) next in
-        MatchResult result
-        (λ cast. IsMade mesh.now (number_full did) did (only_cast cast) (shown T.entries core.new) out.new.items)
-        (λ full. IsRefused (number_full did) (shown T.entries core.old) full (shown T.entries core.new)) }
+    ensures does { Reacts T.entries mesh.now (λ c. broken c next)
+        core.old (as_effect result) core.new out.new.items }
     ensures ready { IsReady T.nodes T.entries (length mesh.now) core.new }
     ensures rooms { T.rooms core.new.table ≡ T.rooms core.old.table }
     ensures asked { core.new.asked ≡ core.old.asked }
@@ -159,6 +162,6 @@ pub fn link_broken<T: Table>(
     let mut dests = Dests::new();
     match core.table.dests_via(next, &mut dests) {
         Ok(()) => Ok(retract(core, mesh, &dests, out)),
-        Err(_) => Err(Full::Number),
+        Err(_) => Err(Counter::Number),
     }
 }

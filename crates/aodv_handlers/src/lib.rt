@@ -7,7 +7,6 @@ mod cores;
 mod data;
 mod discovery;
 mod errors;
-mod places;
 mod rerr;
 mod routes;
 mod rrep;

@@ -1,23 +1,26 @@
 //! Route errors from neighbours (AWN's RERR; RFC 3561, section 6.11).
-ghost use Rattle.std.specs.Prelude.{◌≡◌, ◌≢◌, ◌<◌, ◌≤◌, ℕ, ◌&&◌, ◌==◌, nat_lt, if◌then◌else◌, unwrap_or, true, length, get_or, Some, None};
+ghost use Rattle.std.specs.Prelude.{◌≡◌, ◌≢◌, ◌<◌, ◌≤◌, ℕ, ◌&&◌, ◌==◌, nat_lt, if◌then◌else◌, unwrap_or, true, length, get_or, Some, None, Ok};
+ghost use Rattle.std.specs.Bool.{OnFalse};
 ghost use Rattle.std.specs.FinMap as maps;
 ghost use Rattle.std.specs.FinSet as sets;
 ghost use Rattle.aodv_model.specs.Tables.{goes_by, sqn, accepted_unreachable};
 ghost use Rattle.aodv_model.specs.Handlers.{on_rerr as turned};
 ghost use Rattle.aodv_wire.specs.declared.message.Message.TheVariants.{Rerr as a_rerr};
+ghost use Rattle.aodv_meaning.specs.Effects.{cast_of};
 ghost use Rattle.aodv_meaning.specs.Meaning.{dests_in, stranger};
-ghost use Rattle.aodv_handlers.specs.Shown.{shown, IsReady};
-ghost use Rattle.aodv_handlers.specs.Made.{IsMade, number_full};
+ghost use Rattle.aodv_meaning.specs.Sent.{IsPacket};
+ghost use Rattle.aodv_handlers.specs.Shown.{core_of, IsReady};
+ghost use Rattle.aodv_handlers.specs.Made.{Reacts, IsMade, number_full};
+ghost use Rattle.aodv_handlers.specs.Parts.{gone_by};
 
 use crate::cores::Core;
 use crate::errors::retract;
-use crate::places::place_of;
 use crate::routes::neighbour_entry;
 use crate::unicast::casting;
 use aodv_entry::{Dests, Flag};
 use aodv_table::Table;
 use aodv_wire::RerrView;
-use mesh_base::{Effect, MOST_NODES, Mesh, Packet};
+use mesh_base::{Cast, Effect, MOST_NODES, Mesh, Packet};
 
 // No number for any node.
 fn no_numbers() -> [Option<u32>; MOST_NODES]
@@ -30,7 +33,8 @@ fn no_numbers() -> [Option<u32>; MOST_NODES]
 // States the number for d, where none is stated.
 fn state_number(numbers: &mut [Option<u32>], d: usize, number: u32)
     requires { d < length numbers.old }
-    ensures { (q : ℕ) → get_or numbers.new q None ≡ (if q == d then Some (unwrap_or (get_or numbers.old d None) number) else get_or numbers.old q None) }
+    ensures { let stated = Some (unwrap_or (get_or numbers.old d None) number) in (q : ℕ) →
+        get_or numbers.new q None ≡ (if q == d then stated else get_or numbers.old q None) }
 {
     if numbers[d].is_none() {
         numbers[d] = Some(number);
@@ -43,11 +47,12 @@ fn stated_numbers(mesh: &Mesh, m: &RerrView<'_>) -> [Option<u32>; MOST_NODES]
     ensures size { length result ≡ MOST_NODES }
     ensures numbers { (d : ℕ) → get_or result d None ≡ maps.get (dests_in mesh.now m.now) d }
 {
+    // It says that a mesh has at most 200 nodes, so the list has a place for each of them.
     let _few = mesh.len();
     let mut numbers = no_numbers();
     for k in 0..m.len() {
         let (a, number) = m.pair(k);
-        let d = place_of(mesh, a);
+        let d = mesh.index_in(a);
         state_number(&mut numbers, d, number);
     }
     numbers
@@ -57,7 +62,8 @@ fn stated_numbers(mesh: &Mesh, m: &RerrView<'_>) -> [Option<u32>; MOST_NODES]
 fn accepted_number<T: Table>(table: &T, from: usize, d: usize, stated: Option<u32>) -> Option<u32>
     requires { d < T.nodes table.now }
     ensures { let rt = T.entries table.now in
-        result ≡ (if goes_by (maps.get rt d) from && nat_lt (sqn rt d) (unwrap_or stated 0) then stated else None) }
+        let newer = nat_lt (sqn rt d) (unwrap_or stated 0) in
+        result ≡ (if goes_by (maps.get rt d) from && newer then stated else None) }
 {
     let number = stated?;
     match table.get(d) {
@@ -82,6 +88,79 @@ fn accepted_dests<T: Table>(table: &T, mesh: &Mesh, from: usize, m: &RerrView<'_
     dests
 }
 
+// Whether a pair names a destination whose route goes by that neighbour, with a larger number than
+// the route's. Where two pairs name one destination, it may be the second, which isn't accepted.
+fn may_accept<T: Table>(table: &T, mesh: &Mesh, from: usize, m: &RerrView<'_>) -> bool
+    requires nodes { T.nodes table.now ≡ length mesh.now }
+    requires known { stranger mesh.now (a_rerr m.now) ≡ None }
+    ensures { let gone = accepted_unreachable (T.entries table.now) from (dests_in mesh.now m.now) in
+        OnFalse result (gone ≡ maps.empty) }
+{
+    for k in 0..m.len() {
+        let (a, number) = m.pair(k);
+        let d = mesh.index_in(a);
+        if accepted_number(table, from, d, Some(number)).is_some() {
+            return true;
+        }
+    }
+    false
+}
+
+// The routes that a route error names are gone. It is a call of its own, since the memory of its
+// locals would be cleared for each error, also where it names none.
+#[inline(never)]
+fn retract_accepted<T: Table>(
+    core: &mut Core<T>,
+    mesh: &Mesh,
+    from: usize,
+    m: &RerrView<'_>,
+    out: &mut Packet,
+) -> Cast
+    requires nodes { T.nodes core.old.table ≡ length mesh.now }
+    requires known { stranger mesh.now (a_rerr m.now) ≡ None }
+    ensures core { let did = gone_by (core_of T.entries core.old) from (dests_in mesh.now m.now) in
+        core_of T.entries core.new ≡ did.core }
+    ensures cast { let did = gone_by (core_of T.entries core.old) from (dests_in mesh.now m.now) in
+        result ≡ cast_of did.effect.cast }
+    ensures packet { let did = gone_by (core_of T.entries core.old) from (dests_in mesh.now m.now) in
+        IsPacket mesh.now out.new.items did.effect.cast }
+    ensures rooms { T.rooms core.new.table ≡ T.rooms core.old.table }
+    ensures nodes { T.nodes core.new.table ≡ T.nodes core.old.table }
+    ensures asked { core.new.asked ≡ core.old.asked }
+    ensures waiting { core.new.waiting.rooms ≡ core.old.waiting.rooms }
+{
+    let dests = accepted_dests(&core.table, mesh, from, m);
+    retract(core, mesh, &dests, out)
+}
+
+// The same: most errors name no route that goes by their sender, and change nothing.
+fn retract_stated<T: Table>(
+    core: &mut Core<T>,
+    mesh: &Mesh,
+    from: usize,
+    m: &RerrView<'_>,
+    out: &mut Packet,
+) -> Cast
+    requires nodes { T.nodes core.old.table ≡ length mesh.now }
+    requires known { stranger mesh.now (a_rerr m.now) ≡ None }
+    ensures core { let did = gone_by (core_of T.entries core.old) from (dests_in mesh.now m.now) in
+        core_of T.entries core.new ≡ did.core }
+    ensures cast { let did = gone_by (core_of T.entries core.old) from (dests_in mesh.now m.now) in
+        result ≡ cast_of did.effect.cast }
+    ensures packet { let did = gone_by (core_of T.entries core.old) from (dests_in mesh.now m.now) in
+        IsPacket mesh.now out.new.items did.effect.cast }
+    ensures rooms { T.rooms core.new.table ≡ T.rooms core.old.table }
+    ensures nodes { T.nodes core.new.table ≡ T.nodes core.old.table }
+    ensures asked { core.new.asked ≡ core.old.asked }
+    ensures waiting { core.new.waiting.rooms ≡ core.old.waiting.rooms }
+{
+    if may_accept(&core.table, mesh, from, m) {
+        return retract_accepted(core, mesh, from, m, out);
+    }
+    out.clear();
+    Cast::Nothing
+}
+
 /// A route error from a neighbour. Only routes by that neighbour are gone, and only those with a
 /// smaller number than stated.
 #[tactic(auto, unfolding(aodv_model::specs::Handlers::on_rerr, aodv_model::specs::Handlers::after_hearing))]
@@ -97,13 +176,12 @@ pub fn on_rerr<T: Table>(
     requires from { from < length mesh.now }
     requires other { from ≢ core.old.me }
     requires row_from { sets.contains (T.rooms core.old.table) from ≡ true }
-    ensures does { let did = turned (shown T.entries core.old) from (dests_in mesh.now m.now) in
-        IsMade mesh.now (number_full did) did result (shown T.entries core.new) out.new.items }
+    ensures does { Reacts T.entries mesh.now (λ c. turned c from (dests_in mesh.now m.now))
+        core.old (Ok result) core.new out.new.items }
     ensures ready { IsReady T.nodes T.entries (length mesh.now) core.new }
     ensures rooms { T.rooms core.new.table ≡ T.rooms core.old.table }
     ensures asked { core.new.asked ≡ core.old.asked }
 {
     core.table.update(from, neighbour_entry(from));
-    let dests = accepted_dests(&core.table, mesh, from, m);
-    casting(retract(core, mesh, &dests, out))
+    casting(retract_stated(core, mesh, from, m, out))
 }

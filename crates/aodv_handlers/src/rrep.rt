@@ -6,22 +6,20 @@ ghost use Rattle.mesh_base.specs.Members.{NodeIds};
 ghost use Rattle.mesh_base.specs.declared.events.Variant.TheVariants as variants;
 ghost use Rattle.aodv_model.specs.Tables.{in_kD, in_vD, nhop, sqn};
 ghost use Rattle.aodv_model.specs.Cores.{Rrep as a_reply, Heard};
-ghost use Rattle.aodv_model.specs.Handlers.{reply_on, turn};
-ghost use Rattle.aodv_model.specs.Fullness.{turn_full};
+ghost use Rattle.aodv_model.specs.Handlers.{reply_on};
 ghost use Rattle.aodv_wire.specs.declared.message.Message.TheVariants.{Rrep as a_rrep};
 ghost use Rattle.aodv_meaning.specs.Meaning.{index, reply_in, stranger};
-ghost use Rattle.aodv_handlers.specs.Shown.{shown, IsReady, reply_of};
-ghost use Rattle.aodv_handlers.specs.Made.{Does, number_full};
+ghost use Rattle.aodv_handlers.specs.Shown.{core_of, IsReady, reply_of};
+ghost use Rattle.aodv_handlers.specs.Made.{Reacts, TakesTurn};
 ghost use Rattle.aodv_handlers.specs.Parts.{IsNumberedAs, end_of_rrep, pass_on as passed_on, passing};
 
 use crate::cores::Core;
-use crate::places::place_of;
 use crate::routes::{has_route, join_precursor, neighbour_entry, next_hop, route_entry};
 use crate::unicast::{Reply, casting, send_reply};
 use aodv_entry::Flag;
 use aodv_table::Table;
 use aodv_wire::Rrep;
-use mesh_base::{Cast, Effect, Full, Mesh, NodeSet, Packet, Variant};
+use mesh_base::{Cast, Counter, Effect, Mesh, NodeSet, Packet, Variant};
 
 // This reply goes on towards its originator.
 #[tactic(auto, unfolding(crate::specs::Parts::pass_on))]
@@ -31,18 +29,19 @@ fn pass_on<T: Table>(
     range: &NodeSet,
     m: Reply,
     out: &mut Packet,
-) -> Result<Effect, Full>
+) -> Result<Effect, Counter>
     requires ready { IsReady T.nodes T.entries (length mesh.now) core.old }
     requires dip { m.dip < length mesh.now }
     requires oip { m.oip < length mesh.now }
     requires dsn { 1 ≤ m.dsn }
     requires entry { in_kD (T.entries core.old.table) m.dip ≡ true }
-    ensures does { let did = passed_on (shown T.entries core.old) range.now (reply_of m) in
-        Does mesh.now (number_full did) (shown T.entries core.old) did result (shown T.entries core.new) out.new.items }
+    ensures does { Reacts T.entries mesh.now (λ c. passed_on c range.now (reply_of m))
+        core.old result core.new out.new.items }
     ensures ready { IsReady T.nodes T.entries (length mesh.now) core.new }
     ensures rooms { T.rooms core.new.table ≡ T.rooms core.old.table }
     ensures asked { core.new.asked ≡ core.old.asked }
 {
+    // It says that a mesh has at most 200 nodes, so each of them can be in a set of nodes.
     let _few = mesh.len();
     let towards = next_hop(&core.table, m.oip);
     let onward = next_hop(&core.table, m.dip);
@@ -64,7 +63,7 @@ fn pass_on<T: Table>(
 fn own_reply<T: Table>(core: &Core<T>, m: Reply) -> Option<Reply>
     requires dip { m.dip < T.nodes core.now.table }
     requires number { 1 ≤ sqn (T.entries core.now.table) m.dip }
-    ensures does { let c = shown T.entries core.now in (stale : Bool) (range : NodeIds) →
+    ensures does { let c = core_of T.entries core.now in (stale : Bool) (range : NodeIds) →
         reply_on variants.Reply c stale range (reply_of m) ≡ passing c range result }
     ensures same { IfSome result (IsNumberedAs m) }
 {
@@ -86,7 +85,7 @@ fn reply_to_pass_on<T: Table>(core: &Core<T>, changed: bool, m: Reply) -> Option
     requires dsn { 1 ≤ m.dsn }
     requires hops { m.hops < 255 }
     requires number { 1 ≤ sqn (T.entries core.now.table) m.dip }
-    ensures does { let c = shown T.entries core.now in (range : NodeIds) →
+    ensures does { let c = core_of T.entries core.now in (range : NodeIds) →
         end_of_rrep c (not changed) range (reply_of m) ≡ passing c range result }
     ensures same { IfSome result (IsNumberedAs m) }
 {
@@ -115,7 +114,7 @@ pub fn on_rrep<T: Table>(
     from: usize,
     m: &Rrep,
     out: &mut Packet,
-) -> Result<Effect, Full>
+) -> Result<Effect, Counter>
     requires ready { IsReady T.nodes T.entries (length mesh.now) core.old }
     requires known { stranger mesh.now (a_rrep m.now) ≡ None }
     requires dsn { 1 ≤ m.now.dsn }
@@ -123,18 +122,17 @@ pub fn on_rrep<T: Table>(
     requires other { from ≢ core.old.me }
     requires row_from { sets.contains (T.rooms core.old.table) from ≡ true }
     requires row_dip { sets.contains (T.rooms core.old.table) (index mesh.now m.now.dip) ≡ true }
-    ensures does { let c = shown T.entries core.old in
-        let item = Heard from (a_reply (reply_in mesh.now m.now)) in
-        Does mesh.now (turn_full c range.now item) c (turn c range.now item) result (shown T.entries core.new) out.new.items }
+    ensures does { let item = Heard from (a_reply (reply_in mesh.now m.now)) in
+        TakesTurn T.entries mesh.now range.now item core.old result core.new out.new.items }
     ensures ready { IsReady T.nodes T.entries (length mesh.now) core.new }
     ensures rooms { T.rooms core.new.table ≡ T.rooms core.old.table }
     ensures asked { core.new.asked ≡ core.old.asked }
 {
     if m.hops == 255 {
-        return Err(Full::Hops);
+        return Err(Counter::Hops);
     }
-    let dip = place_of(mesh, m.dip);
-    let oip = place_of(mesh, m.oip);
+    let dip = mesh.index_in(m.dip);
+    let oip = mesh.index_in(m.oip);
     let kept_from = core.table.get(from);
     let kept_dip = core.table.get(dip);
     core.table.update(from, neighbour_entry(from));

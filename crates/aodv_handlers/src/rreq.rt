@@ -1,24 +1,22 @@
 //! Route requests (AWN's RREQ; RFC 3561, sections 6.5 and 6.6).
-ghost use Rattle.std.specs.Prelude.{◌≡◌, ◌≢◌, ◌<◌, ◌≤◌, ℕ, true, length, Some, None, IfSome, IsNone, is_some, max, slice_index};
+ghost use Rattle.std.specs.Prelude.{◌≡◌, ◌≢◌, ◌<◌, ◌≤◌, ℕ, true, length, Some, None, Ok, IfSome, IsNone, is_some, max, slice_index};
 ghost use Rattle.std.specs.FinMap as maps;
 ghost use Rattle.std.specs.FinSet as sets;
 ghost use Rattle.aodv_model.specs.Cores.{Rreq as a_request, Heard};
 ghost use Rattle.mesh_base.specs.Meshes.{Nodes};
-ghost use Rattle.aodv_model.specs.Handlers.{key_of, reply_for_self as own_reply, reply_from_table as table_reply, forward_request as forwarded, on_new_rreq, can_answer, turn};
-ghost use Rattle.aodv_model.specs.Fullness.{turn_full};
+ghost use Rattle.aodv_model.specs.Handlers.{key_of, reply_for_self as own_reply, reply_from_table as table_reply, forward_request as forwarded, on_new_rreq, can_answer};
 ghost use Rattle.aodv_wire.specs.declared.message.Message.TheVariants.{Rreq as a_rreq};
 ghost use Rattle.aodv_meaning.specs.Meaning.{index, request_in, stranger};
-ghost use Rattle.aodv_handlers.specs.Shown.{shown, IsReady, request_of};
-ghost use Rattle.aodv_handlers.specs.Made.{Does, IsMade, number_full};
+ghost use Rattle.aodv_handlers.specs.Shown.{core_of, IsReady, request_of};
+ghost use Rattle.aodv_handlers.specs.Made.{Reacts, TakesTurn};
 
 use crate::cores::Core;
-use crate::places::place_of;
 use crate::routes::{join_precursor, neighbour_entry, next_hop, number, route_entry};
 use crate::unicast::{Reply, casting, send_reply};
 use aodv_entry::{Entry, Flag, Known};
 use aodv_table::Table;
 use aodv_wire::{Rreq, write_rreq};
-use mesh_base::{Cast, Effect, Full, Mesh, NodeSet, Packet, Variant};
+use mesh_base::{Cast, Counter, Effect, Mesh, NodeSet, Packet, Variant};
 
 /// A route request, over indices.
 #[derive(Clone, Copy)]
@@ -46,12 +44,12 @@ fn reply_for_self<T: Table>(
     range: &NodeSet,
     m: Wanted,
     out: &mut Packet,
-) -> Result<Effect, Full>
+) -> Result<Effect, Counter>
     requires ready { IsReady T.nodes T.entries (length mesh.now) core.old }
     requires dip { m.dip < length mesh.now }
     requires oip { m.oip < length mesh.now }
-    ensures does { let did = own_reply (shown T.entries core.old) range.now (request_of m) in
-        Does mesh.now (number_full did) (shown T.entries core.old) did result (shown T.entries core.new) out.new.items }
+    ensures does { Reacts T.entries mesh.now (λ c. own_reply c range.now (request_of m))
+        core.old result core.new out.new.items }
     ensures ready { IsReady T.nodes T.entries (length mesh.now) core.new }
     ensures rooms { T.rooms core.new.table ≡ T.rooms core.old.table }
     ensures asked { core.new.asked ≡ core.old.asked }
@@ -77,7 +75,7 @@ fn reply_for_self<T: Table>(
 // The entry of the node that is asked for, where it is new enough to answer with.
 fn route_to_answer_with<T: Table>(core: &Core<T>, m: Wanted) -> Option<Entry>
     requires { m.dip < T.nodes core.now.table }
-    ensures can { is_some result ≡ can_answer (shown T.entries core.now) (request_of m) }
+    ensures can { is_some result ≡ can_answer (core_of T.entries core.now) (request_of m) }
     ensures route { IfSome result (λ e. maps.get (T.entries core.now.table) m.dip ≡ Some e) }
     ensures room { IfSome result (λ _. sets.contains (T.rooms core.now.table) m.dip ≡ true) }
 {
@@ -99,7 +97,7 @@ fn reply_from_table<T: Table>(
     m: Wanted,
     route: Entry,
     out: &mut Packet,
-) -> Result<Effect, Full>
+) -> Result<Effect, Counter>
     requires ready { IsReady T.nodes T.entries (length mesh.now) core.old }
     requires dip { m.dip < length mesh.now }
     requires oip { m.oip < length mesh.now }
@@ -107,13 +105,14 @@ fn reply_from_table<T: Table>(
     requires room_dip { sets.contains (T.rooms core.old.table) m.dip ≡ true }
     requires room_oip { sets.contains (T.rooms core.old.table) m.oip ≡ true }
     requires route { maps.get (T.entries core.old.table) m.dip ≡ Some route }
-    requires can { can_answer (shown T.entries core.old) (request_of m) ≡ true }
-    ensures does { let did = table_reply (shown T.entries core.old) range.now from (request_of m) in
-        Does mesh.now (number_full did) (shown T.entries core.old) did result (shown T.entries core.new) out.new.items }
+    requires can { can_answer (core_of T.entries core.old) (request_of m) ≡ true }
+    ensures does { Reacts T.entries mesh.now (λ c. table_reply c range.now from (request_of m))
+        core.old result core.new out.new.items }
     ensures ready { IsReady T.nodes T.entries (length mesh.now) core.new }
     ensures rooms { T.rooms core.new.table ≡ T.rooms core.old.table }
     ensures asked { core.new.asked ≡ core.old.asked }
 {
+    // It says that a mesh has at most 200 nodes, so each of them can be in a set of nodes.
     let _few = mesh.len();
     let kept_oip = core.table.get(m.oip);
     let towards = next_hop(&core.table, m.oip);
@@ -143,8 +142,8 @@ fn forward_request<T: Table>(core: &Core<T>, mesh: &Mesh, m: Wanted, out: &mut P
     requires oip { m.oip < length mesh.now }
     requires osn { 1 ≤ m.osn }
     requires hops { m.hops < 255 }
-    ensures { let did = forwarded (shown T.entries core.now) (request_of m) in
-        IsMade mesh.now (number_full did) did result (shown T.entries core.now) out.new.items }
+    ensures { Reacts T.entries mesh.now (λ c. forwarded c (request_of m))
+        core.now (Ok result) core.now out.new.items }
 {
     let mine = number(&core.table, m.dip);
     let request = Rreq {
@@ -169,7 +168,7 @@ fn on_new<T: Table>(
     from: usize,
     m: Wanted,
     out: &mut Packet,
-) -> Result<Effect, Full>
+) -> Result<Effect, Counter>
     requires ready { IsReady T.nodes T.entries (length mesh.now) core.old }
     requires dip { m.dip < length mesh.now }
     requires oip { m.oip < length mesh.now }
@@ -177,8 +176,8 @@ fn on_new<T: Table>(
     requires osn { 1 ≤ m.osn }
     requires hops { m.hops < 255 }
     requires room { sets.contains (T.rooms core.old.table) m.oip ≡ true }
-    ensures does { let did = on_new_rreq (shown T.entries core.old) range.now from (request_of m) in
-        Does mesh.now (number_full did) (shown T.entries core.old) did result (shown T.entries core.new) out.new.items }
+    ensures does { Reacts T.entries mesh.now (λ c. on_new_rreq c range.now from (request_of m))
+        core.old result core.new out.new.items }
     ensures ready { IsReady T.nodes T.entries (length mesh.now) core.new }
     ensures rooms { T.rooms core.new.table ≡ T.rooms core.old.table }
     ensures asked { core.new.asked ≡ core.old.asked }
@@ -194,7 +193,8 @@ fn on_new<T: Table>(
 
 // By what a request is known again, beside its originator: its id, or its originator's number.
 fn mark_of(variant: Variant, m: &Rreq) -> u32
-    ensures { (mesh : Nodes) → key_of variant (request_in mesh m.now) ≡ (index mesh m.now.oip, result) }
+    ensures { (mesh : Nodes) →
+        key_of variant (request_in mesh m.now) ≡ (index mesh m.now.oip, result) }
 {
     match variant {
         Variant::Number => m.osn,
@@ -211,7 +211,7 @@ pub fn on_rreq<T: Table>(
     from: usize,
     m: &Rreq,
     out: &mut Packet,
-) -> Result<Effect, Full>
+) -> Result<Effect, Counter>
     requires ready { IsReady T.nodes T.entries (length mesh.now) core.old }
     requires known { stranger mesh.now (a_rreq m.now) ≡ None }
     requires osn { 1 ≤ m.now.osn }
@@ -220,14 +220,13 @@ pub fn on_rreq<T: Table>(
     requires row_from { sets.contains (T.rooms core.old.table) from ≡ true }
     requires row_oip { sets.contains (T.rooms core.old.table) (index mesh.now m.now.oip) ≡ true }
     requires asked { 0 < slice_index core.old.asked.rooms (index mesh.now m.now.oip) }
-    ensures does { let c = shown T.entries core.old in
-        let item = Heard from (a_request (request_in mesh.now m.now)) in
-        Does mesh.now (turn_full c range.now item) c (turn c range.now item) result (shown T.entries core.new) out.new.items }
+    ensures does { let item = Heard from (a_request (request_in mesh.now m.now)) in
+        TakesTurn T.entries mesh.now range.now item core.old result core.new out.new.items }
     ensures ready { IsReady T.nodes T.entries (length mesh.now) core.new }
     ensures rooms { T.rooms core.new.table ≡ T.rooms core.old.table }
 {
-    let dip = place_of(mesh, m.dip);
-    let oip = place_of(mesh, m.oip);
+    let dip = mesh.index_in(m.dip);
+    let oip = mesh.index_in(m.oip);
     let mark = mark_of(core.variant, m);
     if core.asked.has(oip, mark) {
         core.table.update(from, neighbour_entry(from));
@@ -235,7 +234,7 @@ pub fn on_rreq<T: Table>(
         return Ok(casting(Cast::Nothing));
     }
     if m.hops == 255 {
-        return Err(Full::Hops);
+        return Err(Counter::Hops);
     }
     let wanted = Wanted {
         hops: m.hops,

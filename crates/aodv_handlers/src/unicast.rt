@@ -2,14 +2,14 @@
 ghost use Rattle.std.specs.Prelude.{◌≡◌, ◌<◌, ◌≤◌, ℕ, false, length};
 ghost use Rattle.aodv_model.specs.Cores.{Rrep as a_reply, Pkt as a_packet};
 ghost use Rattle.aodv_model.specs.Handlers.{unicast, broken_by, link_broken as broken};
-ghost use Rattle.aodv_handlers.specs.Shown.{shown, IsReady, reply_of};
-ghost use Rattle.aodv_handlers.specs.Made.{Does, number_full};
+ghost use Rattle.aodv_handlers.specs.Shown.{core_of, IsReady, reply_of};
+ghost use Rattle.aodv_handlers.specs.Made.{Reacts};
 
 use crate::cores::Core;
 use crate::errors::link_broken;
 use aodv_table::Table;
 use aodv_wire::{Rrep, write_data, write_rrep};
-use mesh_base::{Cast, Effect, Full, LONGEST_DATUM, Mesh, NodeSet, Packet};
+use mesh_base::{Cast, Counter, Effect, LONGEST_DATUM, Mesh, NodeSet, Packet};
 
 /// A route reply, over indices.
 #[derive(Clone, Copy)]
@@ -38,10 +38,10 @@ pub(crate) fn fail<T: Table>(
     mesh: &Mesh,
     y: usize,
     out: &mut Packet,
-) -> Result<Effect, Full>
+) -> Result<Effect, Counter>
     requires ready { IsReady T.nodes T.entries (length mesh.now) core.old }
-    ensures does { let did = broken_by y (broken (shown T.entries core.old) y) in
-        Does mesh.now (number_full did) (shown T.entries core.old) did result (shown T.entries core.new) out.new.items }
+    ensures does { Reacts T.entries mesh.now (λ c. broken_by y (broken c y))
+        core.old result core.new out.new.items }
     ensures ready { IsReady T.nodes T.entries (length mesh.now) core.new }
     ensures rooms { T.rooms core.new.table ≡ T.rooms core.old.table }
     ensures asked { core.new.asked ≡ core.old.asked }
@@ -64,13 +64,13 @@ pub(crate) fn send_reply<T: Table>(
     y: usize,
     m: Reply,
     out: &mut Packet,
-) -> Result<Effect, Full>
+) -> Result<Effect, Counter>
     requires ready { IsReady T.nodes T.entries (length mesh.now) core.old }
     requires dip { m.dip < length mesh.now }
     requires oip { m.oip < length mesh.now }
     requires dsn { 1 ≤ m.dsn }
-    ensures does { let did = unicast (shown T.entries core.old) (a_reply (reply_of m)) y range.now in
-        Does mesh.now (number_full did) (shown T.entries core.old) did result (shown T.entries core.new) out.new.items }
+    ensures does { Reacts T.entries mesh.now (λ c. unicast c (a_reply (reply_of m)) y range.now)
+        core.old result core.new out.new.items }
     ensures ready { IsReady T.nodes T.entries (length mesh.now) core.new }
     ensures rooms { T.rooms core.new.table ≡ T.rooms core.old.table }
     ensures asked { core.new.asked ≡ core.old.asked }
@@ -99,14 +99,14 @@ pub(crate) fn send_datum<T: Table>(
     o: usize,
     body: &[u8],
     out: &mut Packet,
-) -> Result<Effect, Full>
+) -> Result<Effect, Counter>
     requires ready { IsReady T.nodes T.entries (length mesh.now) core.old }
     requires dip { d < length mesh.now }
     requires oip { o < length mesh.now }
     requires some { 1 ≤ length body.now }
     requires few { length body.now ≤ LONGEST_DATUM }
-    ensures does { let did = unicast (shown T.entries core.old) (a_packet body.now d o) y range.now in
-        Does mesh.now (number_full did) (shown T.entries core.old) did result (shown T.entries core.new) out.new.items }
+    ensures does { Reacts T.entries mesh.now (λ c. unicast c (a_packet body.now d o) y range.now)
+        core.old result core.new out.new.items }
     ensures ready { IsReady T.nodes T.entries (length mesh.now) core.new }
     ensures rooms { T.rooms core.new.table ≡ T.rooms core.old.table }
     ensures asked { core.new.asked ≡ core.old.asked }

@@ -4,7 +4,8 @@ use Rattle.mesh_base.specs.declared.events.Item.{Item}
 use Rattle.mesh_base.specs.declared.events.Item.TheVariants.{New, Heard}
 use Rattle.aodv_model.specs.Soundness.{IsDatum}
 
--- what is seen: the items that wait, from the front to the back, and for how many more there is room
+-- what is seen: the items that wait, from the front to the back, and for how many more there is
+-- room
 pub record Queue : Type 0 where
   pub items : List Item
   pub room : ℕ

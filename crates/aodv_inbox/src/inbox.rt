@@ -21,7 +21,10 @@ impl Model for Inbox {
 
     ghost Value = { Queue };
 
-    ghost view = { λ a. record { items = a.ring.items; room = a.ring.capacity - length a.ring.items } };
+    ghost view = { λ a. record {
+      items = a.ring.items;
+      room = a.ring.capacity - length a.ring.items;
+    } };
 
     ghost invariant = { λ a. AllByRecursion IsItem a.ring.items };
 }

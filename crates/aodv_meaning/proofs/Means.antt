@@ -30,7 +30,7 @@ use Rattle.aodv_wire.specs.RouteRequest as rreq
 use Rattle.aodv_wire.specs.RouteReply as rrep
 use Rattle.aodv_wire.specs.RouteError as rerr
 use Rattle.aodv_wire.specs.DataPacket as packet
-use Rattle.aodv_wire.specs.Spells.{said, kind, refusal}
+use Rattle.aodv_wire.specs.Spells.{message_in_fields, kind, refusal}
 use Rattle.aodv_meaning.specs.Meaning.{status_of, index, indexed, dests_in, in_mesh, meaning, unless_in, strange_pair, stranger}
 use Rattle.aodv_meaning.specs.Sent.{addressed, out_of, pairs_of, IsSent}
 
@@ -128,7 +128,7 @@ no_stranger mesh (Rrep m) is all = rw (is_there mesh m.dip is all.0, is_there me
 no_stranger mesh (Pkt b d o) is all = rw (is_there mesh d is all.0, is_there mesh o is all.1) refl
 no_stranger mesh (Rerr dests) is all = no_strange_pair mesh (maps.entries dests) is (dests_keys (length mesh) dests all)
 
-pub sent_means : (mesh : Nodes) (b : List ℕ) (m : Message) → IsMesh mesh → IsMessageInMesh (length mesh) m → IsSent mesh b m → (meaning mesh b ≡ m) × (stranger mesh (said b) ≡ None)
+pub sent_means : (mesh : Nodes) (b : List ℕ) (m : Message) → IsMesh mesh → IsMessageInMesh (length mesh) m → IsSent mesh b m → (meaning mesh b ≡ m) × (stranger mesh (message_in_fields b) ≡ None)
 unfolding meaning
 sent_means mesh b m is all sent =
     let e = (sent.spells).stands in
@@ -250,6 +250,6 @@ by_kind mesh b false false false false true h s =
     (two.0, two.1, body_is_datum b h)
 by_kind mesh b false false false false false h s = absurd (none-some (UnknownType (kind b)) (sym h))
 
-pub spelled_in : (mesh : Nodes) (b : List ℕ) → refusal b ≡ None → stranger mesh (said b) ≡ None → IsMessageInMesh (length mesh) (meaning mesh b)
-unfolding refusal said meaning
+pub spelled_in : (mesh : Nodes) (b : List ℕ) → refusal b ≡ None → stranger mesh (message_in_fields b) ≡ None → IsMessageInMesh (length mesh) (meaning mesh b)
+unfolding refusal message_in_fields meaning
 spelled_in mesh b h s = by_kind mesh b (eqb (length b) 0) (eqb (kind b) 1) (eqb (kind b) 2) (eqb (kind b) 3) (eqb (kind b) 16) h s

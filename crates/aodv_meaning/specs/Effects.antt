@@ -1,4 +1,5 @@
--- What a node's effects, kinds and items of the program say of the model's. A message stands in its packet.
+-- What a node's effects, kinds and items of the program say of the model's. A message stands in its
+-- packet.
 use Rattle.mesh_base.specs.Meshes.{Nodes}
 use Rattle.mesh_base.specs.declared.events.Effect as effects
 use Rattle.mesh_base.specs.declared.events.Cast as cast
@@ -19,7 +20,12 @@ cast_of (Many s m) = casts.Many s
 cast_of (All m) = casts.All
 
 abbrev pub effect_of : Effect → effects.Effect
-effect_of e = record { deliver = e.deliver; lost = e.lost; broken = e.broken; cast = cast_of e.cast }
+effect_of e = record {
+  deliver = e.deliver;
+  lost = e.lost;
+  broken = e.broken;
+  cast = cast_of e.cast;
+}
 
 abbrev pub kind_of : Message → Kind
 kind_of (Pkt b d o) = kinds.Data

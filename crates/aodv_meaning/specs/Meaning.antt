@@ -11,7 +11,7 @@ use Rattle.aodv_wire.specs.declared.message.Rreq as rreq
 use Rattle.aodv_wire.specs.declared.message.Rrep as rrep
 use Rattle.aodv_wire.specs.declared.message.Message as wire
 use Rattle.aodv_wire.specs.declared.message.Message.TheVariants as messages
-use Rattle.aodv_wire.specs.Spells.{said}
+use Rattle.aodv_wire.specs.Spells.{message_in_fields}
 
 -- ---- over indices
 
@@ -25,10 +25,23 @@ status_of false = Unk
 
 abbrev pub request_in : Nodes → rreq.Rreq → RouteRequest
 request_in mesh m =
-    record { hops = m.hops; id = m.id; dip = index mesh m.dip; dsn = m.dsn; dsk = status_of m.known; oip = index mesh m.oip; osn = m.osn }
+    record {
+      hops = m.hops;
+      id = m.id;
+      dip = index mesh m.dip;
+      dsn = m.dsn;
+      dsk = status_of m.known;
+      oip = index mesh m.oip;
+      osn = m.osn;
+    }
 
 abbrev pub reply_in : Nodes → rrep.Rrep → RouteReply
-reply_in mesh m = record { hops = m.hops; dip = index mesh m.dip; dsn = m.dsn; oip = index mesh m.oip }
+reply_in mesh m = record {
+  hops = m.hops;
+  dip = index mesh m.dip;
+  dsn = m.dsn;
+  oip = index mesh m.oip;
+}
 
 abbrev pub indexed : Nodes → Addr × ℕ → ℕ × ℕ
 indexed mesh p = (index mesh p.0, p.1)
@@ -45,7 +58,7 @@ in_mesh mesh (messages.Parcel p) = Pkt p.body (index mesh p.dip) (index mesh p.o
 
 -- what the bytes say in this mesh
 unfoldable pub meaning : Nodes → List ℕ → Message
-meaning mesh b = in_mesh mesh (said b)
+meaning mesh b = in_mesh mesh (message_in_fields b)
 
 -- ---- strangers
 

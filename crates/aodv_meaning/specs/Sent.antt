@@ -18,7 +18,15 @@ addr mesh i = record { 0 = addr_at mesh i }
 
 abbrev pub rreq_of : Nodes → RouteRequest → rreq.Rreq
 rreq_of mesh m =
-    record { hops = m.hops; id = m.id; dip = addr mesh m.dip; dsn = m.dsn; known = is_kno m.dsk; oip = addr mesh m.oip; osn = m.osn }
+    record {
+      hops = m.hops;
+      id = m.id;
+      dip = addr mesh m.dip;
+      dsn = m.dsn;
+      known = is_kno m.dsk;
+      oip = addr mesh m.oip;
+      osn = m.osn;
+    }
 
 abbrev pub rrep_of : Nodes → RouteReply → rrep.Rrep
 rrep_of mesh m = record { hops = m.hops; dip = addr mesh m.dip; dsn = m.dsn; oip = addr mesh m.oip }
@@ -35,7 +43,8 @@ abbrev pub out_of : Nodes → Message → wire.Message
 out_of mesh (Rreq m) = messages.Rreq (rreq_of mesh m)
 out_of mesh (Rrep m) = messages.Rrep (rrep_of mesh m)
 out_of mesh (Rerr dests) = messages.Rerr (pairs_of mesh dests)
-out_of mesh (Pkt b d o) = messages.Parcel (record { dip = addr mesh d; oip = addr mesh o; body = b })
+out_of mesh (Pkt b d o) =
+    messages.Parcel (record { dip = addr mesh d; oip = addr mesh o; body = b })
 
 -- the bytes are what is written of the message, and spell it
 pub record IsSent (mesh : Nodes) (b : List ℕ) (m : Message) : Type 0 where

@@ -11,8 +11,8 @@ use Rattle.std.proofs.lemmas.Option.{none-some, same_Some}
 use Rattle.std.specs.FinMap as maps
 use Rattle.std.specs.FinSet as sets
 use Rattle.mesh_base.specs.Members.{NodeIds}
-use Rattle.mesh_base.specs.declared.events.Full.{Full}
-use Rattle.mesh_base.specs.declared.events.Full.TheVariants as full
+use Rattle.mesh_base.specs.declared.events.Counter.{Counter}
+use Rattle.mesh_base.specs.declared.events.Counter.TheVariants as full
 use Rattle.mesh_base.specs.declared.events.Variant.{Variant}
 use Rattle.mesh_base.specs.declared.events.Variant.TheVariants.{Base, Number, Reply, Error}
 use Rattle.aodv_entry.specs.declared.entry.Entry.{Entry}
@@ -432,7 +432,7 @@ id_free variant core l m apart = at variant
     at Error = free (last_request_id core.seen core.ip) core.sn greatest l m apart
 
 -- only its own number
-pub ask_fills_number : (ip : ℕ) (core : Core) (f : Full) → IsCoreWithin greatest ip core → ask_full core ≡ Some f → f ≡ full.Number
+pub ask_fills_number : (ip : ℕ) (core : Core) (f : Counter) → IsCoreWithin greatest ip core → ask_full core ≡ Some f → f ≡ full.Number
 ask_fills_number ip core f w is =
     at (core.sn == greatest) (is_id_full core.variant core) (λ below. id_free core.variant core (own_last_within greatest ip core w) w.own (eqb-false core.sn greatest below)) is
   where

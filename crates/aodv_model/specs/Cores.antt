@@ -16,8 +16,8 @@ abbrev pub Body : Type 0
 Body = List ℕ
 
 -- a route request (RFC 3561, section 5.1), passed on by as many nodes as it has hops.
--- oip asks for dip: osn is oip's own number; dsn is the number of dip that is wanted, and dsk says whether oip knew it
--- (nodes on the way raise dsn to what they know, and leave dsk)
+-- oip asks for dip: osn is oip's own number; dsn is the number of dip that is wanted, and dsk says
+-- whether oip knew it (nodes on the way raise dsn to what they know, and leave dsk)
 pub record RouteRequest : Type 0 where
   pub hops : ℕ
   pub id : ℕ
@@ -27,21 +27,24 @@ pub record RouteRequest : Type 0 where
   pub oip : ℕ
   pub osn : ℕ
 
--- a route reply (RFC 3561, section 5.2) on its way to oip: the sender has a route to dip with that number and so many hops
+-- a route reply (RFC 3561, section 5.2) on its way to oip: the sender has a route to dip with that
+-- number and so many hops
 pub record RouteReply : Type 0 where
   pub hops : ℕ
   pub dip : ℕ
   pub dsn : ℕ
   pub oip : ℕ
 
--- a data packet from oip to dip, a route request, a route reply, or a route error (RFC 3561, section 5.3)
+-- a data packet from oip to dip, a route request, a route reply, or a route error (RFC 3561,
+-- section 5.3)
 pub data Message : Type 0 where
   Pkt : (body : Body) (dip oip : ℕ) → Message
   Rreq : RouteRequest → Message
   Rrep : RouteReply → Message
   Rerr : Dests → Message
 
--- what waits in a node's queue: a datum given to the node for a destination, or a message heard from a neighbour
+-- what waits in a node's queue: a datum given to the node for a destination, or a message heard
+-- from a neighbour
 pub data Item : Type 0 where
   New : (body : Body) (dip : ℕ) → Item
   Heard : (from : ℕ) → Message → Item
@@ -84,11 +87,13 @@ rest (b ∷ bs) = bs
 -- the store with these data for d, or without d where there are none
 abbrev pub drop_first : Store → ℕ → List Body → Bool → Store
 drop_first store d [] needs = maps.remove store d
-drop_first store d (b ∷ bs) needs = maps.insert store d (record { needs_request = needs; bodies = b ∷ bs })
+drop_first store d (b ∷ bs) needs =
+    maps.insert store d (record { needs_request = needs; bodies = b ∷ bs })
 
 -- d's first datum is gone, and d with its last datum
 unfoldable pub drop : Store → ℕ → Store
-drop store d = drop_first store d (rest (bodies_in (maps.get store d))) (needs_in (maps.get store d))
+drop store d =
+    drop_first store d (rest (bodies_in (maps.get store d))) (needs_in (maps.get store d))
 
 -- the store where d, if it has data, needs a request or not
 abbrev pub marked : Bool → Option Waiting → Store → ℕ → Store
@@ -119,7 +124,8 @@ in_qD store d = has_data (bodies_in (maps.get store d))
 
 -- ---- the core
 
--- the route requests that a node has seen: for each its originator, beside its id or (in one variant) its number
+-- the route requests that a node has seen: for each its originator, beside its id or (in one
+-- variant) its number
 abbrev pub Seen : Type 0
 Seen = Pairs
 
@@ -130,7 +136,8 @@ has_seen seen key = sets.contains seen key
 -- the greatest second member beside o, or 0
 abbrev pub greatest_beside : List (ℕ × ℕ) → ℕ → ℕ
 greatest_beside [] o = 0
-greatest_beside (k ∷ ks) o = if k.0 == o then max k.1 (greatest_beside ks o) else greatest_beside ks o
+greatest_beside (k ∷ ks) o =
+    if k.0 == o then max k.1 (greatest_beside ks o) else greatest_beside ks o
 
 -- the greatest id beside o, or 0 where there is none
 unfoldable pub last_request_id : Seen → ℕ → ℕ
@@ -140,8 +147,8 @@ last_request_id seen o = greatest_beside (sets.items seen) o
 unfoldable pub next_request_id : Seen → ℕ → ℕ
 next_request_id seen o = last_request_id seen o + 1
 
--- the state of a node but for its queue: its address, its variant of the protocol, its own sequence number,
--- its routing table, the requests that it has seen, and its store
+-- the state of a node but for its queue: its address, its variant of the protocol, its own sequence
+-- number, its routing table, the requests that it has seen, and its store
 pub record Core : Type 0 where
   pub ip : ℕ
   pub variant : Variant
@@ -152,4 +159,11 @@ pub record Core : Type 0 where
 
 -- a node that has done nothing yet, with its first sequence number
 abbrev pub opening : Variant → ℕ → ℕ → Core
-opening variant ip first = record { ip = ip; variant = variant; sn = first; rt = maps.empty; seen = sets.empty; store = maps.empty }
+opening variant ip first = record {
+  ip = ip;
+  variant = variant;
+  sn = first;
+  rt = maps.empty;
+  seen = sets.empty;
+  store = maps.empty;
+}

@@ -3,8 +3,8 @@ use Rattle.std.specs.Prelude.{ℕ, ◌+◌, Bool, false, not, ◌&&◌, ◌==◌
 use Rattle.std.specs.List.{list_any}
 use Rattle.std.specs.FinMap as maps
 use Rattle.mesh_base.specs.Members.{NodeIds}
-use Rattle.mesh_base.specs.declared.events.Full.{Full}
-use Rattle.mesh_base.specs.declared.events.Full.TheVariants as full
+use Rattle.mesh_base.specs.declared.events.Counter.{Counter}
+use Rattle.mesh_base.specs.declared.events.Counter.TheVariants as full
 use Rattle.mesh_base.specs.declared.events.Variant.{Variant}
 use Rattle.mesh_base.specs.declared.events.Variant.TheVariants as variant
 use Rattle.aodv_model.specs.Cores.{Core, Item, New, Heard, Pkt, Rreq, Rrep, Rerr, has_seen, last_request_id}
@@ -22,7 +22,8 @@ greatest_hops = 255
 abbrev pub is_hop_full : Core → Item → Bool
 is_hop_full core (New b d) = false
 is_hop_full core (Heard from (Pkt b d o)) = false
-is_hop_full core (Heard from (Rreq m)) = (m.hops == greatest_hops) && not (has_seen core.seen (key_of core.variant m))
+is_hop_full core (Heard from (Rreq m)) =
+    (m.hops == greatest_hops) && not (has_seen core.seen (key_of core.variant m))
 is_hop_full core (Heard from (Rrep m)) = m.hops == greatest_hops
 is_hop_full core (Heard from (Rerr dests)) = false
 
@@ -31,14 +32,14 @@ abbrev pub is_number_full : Reaction → Bool
 is_number_full reaction = list_any (λ n. n == greatest + 1) (maps.values reaction.raised)
 
 -- the field that a turn would overfill: the hop count comes before the number
-abbrev pub turn_full : Core → NodeIds → Item → Option Full
+abbrev pub turn_full : Core → NodeIds → Item → Option Counter
 turn_full core range item =
     if is_hop_full core item then Some full.Hops
     else if is_number_full (turn core range item) then Some full.Number
     else None
 
 -- the field that the send of a stored datum would overfill
-abbrev pub send_full : Core → NodeIds → ℕ → Option Full
+abbrev pub send_full : Core → NodeIds → ℕ → Option Counter
 send_full core range d = if is_number_full (send core range d) then Some full.Number else None
 
 -- the node's own requests have come to the greatest id. In the variant `Number` they need none
@@ -49,7 +50,7 @@ is_id_full variant.Reply core = last_request_id core.seen core.ip == greatest
 is_id_full variant.Error core = last_request_id core.seen core.ip == greatest
 
 -- the field that a request of the node's own would overfill: its number comes before the id
-abbrev pub ask_full : Core → Option Full
+abbrev pub ask_full : Core → Option Counter
 ask_full core =
     if core.sn == greatest then Some full.Number
     else if is_id_full core.variant core then Some full.Id

@@ -17,29 +17,31 @@ use Rattle.aodv_model.specs.Cores.{Body, RouteRequest, RouteReply, Message, Pkt,
 
 -- ---- effects
 
--- to whom a message goes: to nobody, to one neighbour (unicast), to those of a set (groupcast), or to all (broadcast)
+-- to whom a message goes: to nobody, to one neighbour (unicast), to those of a set (groupcast), or
+-- to all (broadcast)
 pub data Cast : Type 0 where
   Nothing : Cast
   One : ℕ → Message → Cast
   Many : NodeIds → Message → Cast
   All : Message → Cast
 
--- what a step does beside its new state: a datum is delivered here; a datum is lost; the next hop that a unicast
--- failed to reach; and the message that is cast
+-- what a step does beside its new state: a datum is delivered here; a datum is lost; the next hop
+-- that a unicast failed to reach; and the message that is cast
 pub record Effect : Type 0 where
   pub deliver : Bool
   pub lost : Bool
   pub broken : Option ℕ
   pub cast : Cast
 
--- a new core, the effect with it, and the destinations with the new numbers that the break of a link gave them
--- (empty where no link broke)
+-- a new core, the effect with it, and the destinations with the new numbers that the break of a
+-- link gave them (empty where no link broke)
 pub record Reaction : Type 0 where
   pub core : Core
   pub effect : Effect
   pub raised : Dests
 
--- what is taken from the queue: a datum for the node itself, a datum that now waits for a route, or a neighbour's message
+-- what is taken from the queue: a datum for the node itself, a datum that now waits for a route, or
+-- a neighbour's message
 pub data Took : Type 0 where
   Own : (body : Body) → Took
   Stored : (dip : ℕ) → Took
@@ -73,7 +75,9 @@ losing reaction = record reaction { effect = record (reaction.effect) { lost = t
 
 -- the same, and a datum is lost where a link broke
 abbrev pub losing_if_broken : Reaction → Reaction
-losing_if_broken reaction = record reaction { effect = record (reaction.effect) { lost = is_some (reaction.effect).broken } }
+losing_if_broken reaction = record reaction {
+  effect = record (reaction.effect) { lost = is_some (reaction.effect).broken };
+}
 
 -- the same, where the unicast to y failed
 abbrev pub broken_by : ℕ → Reaction → Reaction
@@ -114,7 +118,8 @@ with_precs rt dests = maps.retain_keys dests (λ d. not (is_empty (precs rt d)))
 unfoldable pub error_cast : Variant → Table → Dests → Cast
 error_cast v rt dests =
     if is_error v then (if maps.len dests == 0 then Nothing else All (Rerr dests))
-    else (if is_empty (precs_of rt dests) then Nothing else Many (precs_of rt dests) (Rerr (with_precs rt dests)))
+    else (if is_empty (precs_of rt dests) then Nothing
+    else Many (precs_of rt dests) (Rerr (with_precs rt dests)))
 
 -- The routes to dests are gone (steps 2 to 5 of the break of a link):
 --   1. dests is found: `link_broken` below, or the accepted pairs of a route error
@@ -124,13 +129,16 @@ error_cast v rt dests =
 --   5. the route error is cast to them
 unfoldable pub retract : Core → Dests → Reaction
 retract core dests =
-    plain (record core { rt = invalidate core.rt dests; store = set core.store dests }) (casting (error_cast core.variant core.rt dests))
+    plain (record core { rt = invalidate core.rt dests; store = set core.store dests })
+    (casting (error_cast core.variant core.rt dests))
 
 -- the link to y is broken: all valid routes by y are gone, each with the next number
 unfoldable pub link_broken : Core → ℕ → Reaction
-link_broken core y = record (retract core (unreachable_by core.rt y)) { raised = unreachable_by core.rt y }
+link_broken core y =
+    record (retract core (unreachable_by core.rt y)) { raised = unreachable_by core.rt y }
 
--- a unicast to y: it arrives where y is in range, and else the link to y is broken (AWN's conditional unicast)
+-- a unicast to y: it arrives where y is in range, and else the link to y is broken (AWN's
+-- conditional unicast)
 unfoldable pub unicast : Core → Message → ℕ → NodeIds → Reaction
 unicast core m y range =
     if sets.contains range y then plain core (casting (One y m))
@@ -140,11 +148,25 @@ unicast core m y range =
 
 -- the entry of a neighbour that was heard: its number is unknown
 abbrev pub neighbour_entry : ℕ → Entry
-neighbour_entry from = record { dsn = 0; dsk = Unk; flag = Val; hops = 1; next = from; pre = sets.empty }
+neighbour_entry from = record {
+  dsn = 0;
+  dsk = Unk;
+  flag = Val;
+  hops = 1;
+  next = from;
+  pre = sets.empty;
+}
 
 -- the entry that a request or reply with this number and so many hops leads to, by its sender
 abbrev pub route_entry : ℕ → ℕ → ℕ → Entry
-route_entry n hops from = record { dsn = n; dsk = Kno; flag = Val; hops = hops + 1; next = from; pre = sets.empty }
+route_entry n hops from = record {
+  dsn = n;
+  dsk = Kno;
+  flag = Val;
+  hops = hops + 1;
+  next = from;
+  pre = sets.empty;
+}
 
 -- the core once a message has come from a neighbour
 unfoldable pub after_hearing : Core → ℕ → Core
@@ -152,14 +174,15 @@ after_hearing core from = record core { rt = update core.rt from (neighbour_entr
 
 -- ---- data
 
--- a datum given to this node (AWN's NEWPKT): delivered where it is for the node itself, else it waits
+-- a datum given to this node (AWN's NEWPKT): delivered where it is for the node itself, else it
+-- waits
 unfoldable pub on_new : Core → Body → ℕ → Reaction
 on_new core b d =
     if d == core.ip then plain core delivering
     else only (record core { store = add core.store d b })
 
--- the error for data to d that can't go on: sent where d has an invalid entry, to its precursors if there are any.
--- In the variant `Error` it is broadcast
+-- the error for data to d that can't go on: sent where d has an invalid entry, to its precursors if
+-- there are any. In the variant `Error` it is broadcast
 unfoldable pub data_error : Core → ℕ → Cast
 data_error core d =
     if not (in_iD core.rt d) then Nothing
@@ -176,14 +199,16 @@ on_pkt core range b d o =
 
 -- ---- route requests (AWN's RREQ; RFC 3561, sections 6.5 and 6.6)
 
--- by what a node knows a request again: its originator and id, or in the variant `Number` its originator and that one's number
+-- by what a node knows a request again: its originator and id, or in the variant `Number` its
+-- originator and that one's number
 abbrev pub key_of : Variant → RouteRequest → ℕ × ℕ
 key_of variant.Base m = (m.oip, m.id)
 key_of variant.Number m = (m.oip, m.osn)
 key_of variant.Reply m = (m.oip, m.id)
 key_of variant.Error m = (m.oip, m.id)
 
--- the core once a new request has come: it has a route back to the originator, and will know the request again
+-- the core once a new request has come: it has a route back to the originator, and will know the
+-- request again
 unfoldable pub after_request : Core → ℕ → RouteRequest → Core
 after_request core from m =
     record (after_hearing core from) {
@@ -194,26 +219,33 @@ after_request core from m =
 -- the node is the destination asked for (RFC 3561, section 6.6.1)
 unfoldable pub reply_for_self : Core → NodeIds → RouteRequest → Reaction
 reply_for_self core range m =
-    unicast (record core { sn = max core.sn m.dsn }) (Rrep (record { hops = 0; dip = m.dip; dsn = max core.sn m.dsn; oip = m.oip })) (nhop core.rt m.oip) range
+    unicast (record core { sn = max core.sn m.dsn })
+    (Rrep (record { hops = 0; dip = m.dip; dsn = max core.sn m.dsn; oip = m.oip }))
+    (nhop core.rt m.oip) range
 
 -- the node has a valid route whose number is known and as new as is asked for
 abbrev pub can_answer : Core → RouteRequest → Bool
-can_answer core m = in_vD core.rt m.dip && (nat_le m.dsn (sqn core.rt m.dip) && is_kno (sqnf core.rt m.dip))
+can_answer core m =
+    in_vD core.rt m.dip && (nat_le m.dsn (sqn core.rt m.dip) && is_kno (sqnf core.rt m.dip))
 
 -- the table where the sender joins the precursors of d, and then d's next hop those of o
 unfoldable pub join_answer_precursors : Table → ℕ → ℕ → ℕ → Table
-join_answer_precursors rt d o from = let rt1 = add_pre rt d (one from) in add_pre rt1 o (one (nhop rt1 d))
+join_answer_precursors rt d o from =
+    let rt1 = add_pre rt d (one from) in add_pre rt1 o (one (nhop rt1 d))
 
 -- the node answers from its table (RFC 3561, section 6.6.2)
 unfoldable pub reply_from_table : Core → NodeIds → ℕ → RouteRequest → Reaction
 reply_from_table core range from m =
     let rt = join_answer_precursors core.rt m.dip m.oip from in
-    unicast (record core { rt = rt }) (Rrep (record { hops = dhops rt m.dip; dip = m.dip; dsn = sqn rt m.dip; oip = m.oip })) (nhop rt m.oip) range
+    unicast (record core { rt = rt })
+    (Rrep (record { hops = dhops rt m.dip; dip = m.dip; dsn = sqn rt m.dip; oip = m.oip }))
+    (nhop rt m.oip) range
 
 -- the node passes the request on, with one hop more and the greatest number of dip that is known
 unfoldable pub forward_request : Core → RouteRequest → Reaction
 forward_request core m =
-    plain core (casting (All (Rreq (record m { hops = m.hops + 1; dsn = max (sqn core.rt m.dip) m.dsn }))))
+    plain core
+    (casting (All (Rreq (record m { hops = m.hops + 1; dsn = max (sqn core.rt m.dip) m.dsn }))))
 
 -- a request that is new, in the core after its updates
 unfoldable pub on_new_rreq : Core → NodeIds → ℕ → RouteRequest → Reaction
@@ -222,7 +254,8 @@ on_new_rreq core range from m =
     else if can_answer core m then reply_from_table core range from m
     else forward_request core m
 
--- a route request from a neighbour: one that was seen before teaches no more than that the neighbour is there
+-- a route request from a neighbour: one that was seen before teaches no more than that the
+-- neighbour is there
 unfoldable pub on_rreq : Core → NodeIds → ℕ → RouteRequest → Reaction
 on_rreq core range from m =
     if has_seen core.seen (key_of core.variant m) then only (after_hearing core from)
@@ -232,7 +265,9 @@ on_rreq core range from m =
 
 -- the core once a reply has come: it may have a new route to the destination
 unfoldable pub after_reply : Core → ℕ → RouteReply → Core
-after_reply core from m = record (after_hearing core from) { rt = update (after_hearing core from).rt m.dip (route_entry m.dsn m.hops from) }
+after_reply core from m = record (after_hearing core from) {
+  rt = update (after_hearing core from).rt m.dip (route_entry m.dsn m.hops from);
+}
 
 -- both known, or both unknown
 abbrev pub same_known : Known → Known → Bool
@@ -269,7 +304,8 @@ changes_nothing rt d r = leaves (maps.get rt d) r
 
 -- the table where o's next hop joins the precursors of d, and then of d's next hop
 unfoldable pub join_reply_precursors : Table → ℕ → ℕ → Table
-join_reply_precursors rt d o = let rt1 = add_pre rt d (one (nhop rt o)) in add_pre rt1 (nhop rt1 d) (one (nhop rt1 o))
+join_reply_precursors rt d o =
+    let rt1 = add_pre rt d (one (nhop rt o)) in add_pre rt1 (nhop rt1 d) (one (nhop rt1 o))
 
 -- the node passes the reply on towards its originator, with one hop more
 unfoldable pub forward_reply : Core → NodeIds → RouteReply → Reaction
@@ -281,27 +317,34 @@ forward_reply core range m =
 unfoldable pub forward_own_entry : Core → NodeIds → RouteReply → Reaction
 forward_own_entry core range m =
     let rt = join_reply_precursors core.rt m.dip m.oip in
-    unicast (record core { rt = rt }) (Rrep (record m { hops = dhops rt m.dip; dsn = sqn rt m.dip })) (nhop rt m.oip) range
+    unicast (record core { rt = rt })
+    (Rrep (record m { hops = dhops rt m.dip; dsn = sqn rt m.dip })) (nhop rt m.oip) range
 
--- The reply goes on, in the core after its updates: only where it taught something new (it isn't stale).
--- In the variant `Reply` it goes on wherever the node has a valid route, as that route says
+-- The reply goes on, in the core after its updates: only where it taught something new (it isn't
+-- stale). In the variant `Reply` it goes on wherever the node has a valid route, as that route says
 abbrev pub reply_on : Variant → Core → Bool → NodeIds → RouteReply → Reaction
 reply_on variant.Base core stale range m = if stale then only core else forward_reply core range m
 reply_on variant.Number core stale range m = if stale then only core else forward_reply core range m
-reply_on variant.Reply core stale range m = if in_vD core.rt m.dip then forward_own_entry core range m else only core
+reply_on variant.Reply core stale range m =
+    if in_vD core.rt m.dip then forward_own_entry core range m else only core
 reply_on variant.Error core stale range m = if stale then only core else forward_reply core range m
 
--- a route reply from a neighbour: it ends here where the node asked for it, or has no route back to who did
+-- a route reply from a neighbour: it ends here where the node asked for it, or has no route back to
+-- who did
 unfoldable pub on_rrep : Core → NodeIds → ℕ → RouteReply → Reaction
 on_rrep core range from m =
-    if (m.oip == core.ip) || not (in_vD (after_reply core from m).rt m.oip) then only (after_reply core from m)
-    else reply_on core.variant (after_reply core from m) (changes_nothing (after_hearing core from).rt m.dip (route_entry m.dsn m.hops from)) range m
+    if (m.oip == core.ip) || not (in_vD (after_reply core from m).rt m.oip)
+    then only (after_reply core from m)
+    else reply_on core.variant (after_reply core from m)
+    (changes_nothing (after_hearing core from).rt m.dip (route_entry m.dsn m.hops from)) range m
 
 -- ---- route errors (AWN's RERR; RFC 3561, section 6.11)
 
--- a route error from a neighbour: only routes by that neighbour are gone, and only by a greater number
+-- a route error from a neighbour: only routes by that neighbour are gone, and only by a greater
+-- number
 unfoldable pub on_rerr : Core → ℕ → Dests → Reaction
-on_rerr core from dests = retract (after_hearing core from) (accepted_unreachable (after_hearing core from).rt from dests)
+on_rerr core from dests =
+    retract (after_hearing core from) (accepted_unreachable (after_hearing core from).rt from dests)
 
 -- ---- turns (the choice of a message's handler in AWN's main process AODV)
 
@@ -335,11 +378,15 @@ first_body (b ∷ bs) = b
 
 -- the datum is removed only if the unicast succeeded
 abbrev pub drop_if_sent : Reaction → ℕ → Reaction
-drop_if_sent reaction d = if is_some (reaction.effect).broken then reaction else record reaction { core = record (reaction.core) { store = drop (reaction.core).store d } }
+drop_if_sent reaction d =
+    if is_some (reaction.effect).broken then reaction
+    else record reaction { core = record (reaction.core) { store = drop (reaction.core).store d } }
 
 -- the first datum that waits for d goes to the next hop
 unfoldable pub send : Core → NodeIds → ℕ → Reaction
-send core range d = drop_if_sent (unicast core (Pkt (first_body (bodies_in (maps.get core.store d))) d core.ip) (nhop core.rt d) range) d
+send core range d =
+    drop_if_sent
+    (unicast core (Pkt (first_body (bodies_in (maps.get core.store d))) d core.ip) (nhop core.rt d) range) d
 
 -- ---- a request of the node's own (AWN's AODV, where it initiates a route discovery; RFC 3561, section 6.3)
 

@@ -13,48 +13,66 @@ use Rattle.aodv_model.specs.Soundness.{IsSoundCore, IsStoreInMesh, IsItemInMesh,
 
 -- a reply is stale exactly where its update leaves the table equal
 abbrev pub StaleIsUnchanged : Type 0
-StaleIsUnchanged = (rt : Table) (d : ℕ) (r : Entry) → (changes_nothing rt d r ≡ true) ↔ (update rt d r ≡ rt)
+StaleIsUnchanged =
+    (rt : Table) (d : ℕ) (r : Entry) → (changes_nothing rt d r ≡ true) ↔ (update rt d r ≡ rt)
 
 -- a valid entry with next hop y has the greatest number
 abbrev pub HasGreatestBy : Table → ℕ → Type 0
-HasGreatestBy rt y = (d : ℕ) × (e : Entry) × (maps.get rt d ≡ Some e) × (e.flag ≡ Val) × (e.next ≡ y) × (e.dsn ≡ greatest)
+HasGreatestBy rt y =
+    (d : ℕ) × (e : Entry) × (maps.get rt d ≡ Some e) × (e.flag ≡ Val) × (e.next ≡ y)
+    × (e.dsn ≡ greatest)
 
--- the break of the link to y overfills a number exactly where a valid entry with next hop y has the greatest number
+-- the break of the link to y overfills a number exactly where a valid entry with next hop y has the
+-- greatest number
 abbrev pub FullNumber : Type 0
-FullNumber = (core : Core) (y : ℕ) → (is_number_full (link_broken core y) ≡ true) ↔ HasGreatestBy core.rt y
+FullNumber =
+    (core : Core) (y : ℕ) → (is_number_full (link_broken core y) ≡ true) ↔ HasGreatestBy core.rt y
 
 -- ---- every handler keeps a core in order, whatever the messages are that it is told: each message that a packet of
 -- the mesh can spell, from another node, also one that no node of the mesh would send
 
 -- a node that has done nothing yet is in order
 abbrev pub OpeningIsSound : Type 0
-OpeningIsSound = (size : ℕ) (variant : Variant) (ip first : ℕ) → 1 ≤ first → IsSoundCore size (opening variant ip first) × IsStoreInMesh size (opening variant ip first).store
+OpeningIsSound =
+    (size : ℕ) (variant : Variant) (ip first : ℕ) → 1 ≤ first
+    → IsSoundCore size (opening variant ip first)
+    × IsStoreInMesh size (opening variant ip first).store
 
 -- a turn
 abbrev pub TurnKeepsCore : Type 0
-TurnKeepsCore = (size : ℕ) (core : Core) (range : NodeIds) (item : Item) → IsSoundCore size core → IsStoreInMesh size core.store → IsItemInMesh size core.ip item
+TurnKeepsCore =
+    (size : ℕ) (core : Core) (range : NodeIds) (item : Item) → IsSoundCore size core
+    → IsStoreInMesh size core.store → IsItemInMesh size core.ip item
     → IsSoundReaction size core.ip (turn core range item)
 
 -- the send of a stored datum
 abbrev pub SendKeepsCore : Type 0
-SendKeepsCore = (size : ℕ) (core : Core) (range : NodeIds) (d : ℕ) → IsSoundCore size core → IsStoreInMesh size core.store → core.ip < size → may_send core d ≡ true
+SendKeepsCore =
+    (size : ℕ) (core : Core) (range : NodeIds) (d : ℕ) → IsSoundCore size core
+    → IsStoreInMesh size core.store → core.ip < size → may_send core d ≡ true
     → IsSoundReaction size core.ip (send core range d)
 
 -- a request of the node's own
 abbrev pub AskKeepsCore : Type 0
-AskKeepsCore = (size : ℕ) (core : Core) (d : ℕ) → IsSoundCore size core → IsStoreInMesh size core.store → core.ip < size → may_ask core d ≡ true
+AskKeepsCore =
+    (size : ℕ) (core : Core) (d : ℕ) → IsSoundCore size core → IsStoreInMesh size core.store
+    → core.ip < size → may_ask core d ≡ true
     → IsSoundReaction size core.ip (ask core d)
 
 -- ---- the effect of a reaction names nodes of the mesh only: the next hop that wasn't reached, and those that a cast goes to
 
 -- a turn
 abbrev pub TurnNamesTheMesh : Type 0
-TurnNamesTheMesh = (size : ℕ) (core : Core) (range : NodeIds) (item : Item) → core.ip < size → IsSoundCore size core → IsItemInMesh size core.ip item
+TurnNamesTheMesh =
+    (size : ℕ) (core : Core) (range : NodeIds) (item : Item) → core.ip < size
+    → IsSoundCore size core → IsItemInMesh size core.ip item
     → IsEffectInMesh size (turn core range item).effect
 
 -- the send of a stored datum
 abbrev pub SendNamesTheMesh : Type 0
-SendNamesTheMesh = (size : ℕ) (core : Core) (range : NodeIds) (d : ℕ) → core.ip < size → IsSoundCore size core → may_send core d ≡ true
+SendNamesTheMesh =
+    (size : ℕ) (core : Core) (range : NodeIds) (d : ℕ) → core.ip < size → IsSoundCore size core
+    → may_send core d ≡ true
     → IsEffectInMesh size (send core range d).effect
 
 -- a request of the node's own

@@ -1,7 +1,8 @@
 -- One AODV node. Read in this order.
 -- Pairs: sets of pairs of numbers.
 pub mod Pairs
--- Tables: what a routing table says of a destination, and how update, invalidation and precursors change it.
+-- Tables: what a routing table says of a destination, and how update, invalidation and precursors
+-- change it.
 pub mod Tables
 -- Cores: messages, stores of waiting data, and the state of a node.
 pub mod Cores

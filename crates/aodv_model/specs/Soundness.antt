@@ -14,7 +14,8 @@ use Rattle.aodv_model.specs.Cores.{Body, Message, Pkt, Rreq, Rrep, Rerr, Item, N
 
 -- ---- numbers
 
--- an entry for d: it has a hop or more; a number that is known isn't 0; an entry with number 0 is a neighbour's own
+-- an entry for d: it has a hop or more; a number that is known isn't 0; an entry with number 0 is a
+-- neighbour's own
 pub record HasSoundNumber (d : ℕ) (e : Entry) : Type 0 where
   pub hops : 1 ≤ e.hops
   pub known : e.dsk ≡ Kno → 1 ≤ e.dsn
@@ -35,8 +36,8 @@ pub record HasSoundNumbers (core : Core) : Type 0 where
 abbrev pub AreBelow : ℕ → NodeIds → Type 0
 AreBelow size s = (p : ℕ) → sets.contains s p ≡ true → p < size
 
--- an entry for d of node ip: its next hop is another node of the mesh, for which there is an entry too,
--- and its precursors are in the mesh
+-- an entry for d of node ip: its next hop is another node of the mesh, for which there is an entry
+-- too, and its precursors are in the mesh
 pub record IsPlaced (size ip : ℕ) (rt : Table) (d : ℕ) (e : Entry) : Type 0 where
   pub dest : d < size
   pub near : e.next < size
@@ -72,15 +73,16 @@ pub record IsWaitingInMesh (size d : ℕ) (waiting : Waiting) : Type 0 where
 
 -- whatever waits is in the mesh
 abbrev pub IsStoreInMesh : ℕ → Store → Type 0
-IsStoreInMesh size store = (d : ℕ) (waiting : Waiting) → maps.get store d ≡ Some waiting → IsWaitingInMesh size d waiting
+IsStoreInMesh size store =
+    (d : ℕ) (waiting : Waiting) → maps.get store d ≡ Some waiting → IsWaitingInMesh size d waiting
 
 -- each destination is in the mesh
 abbrev pub AreDestsBelow : ℕ → Dests → Type 0
 AreDestsBelow size dests = (d n : ℕ) → maps.get dests d ≡ Some n → d < size
 
--- what a message of the mesh has, whatever node sent it: it names nodes of the mesh only, its datum has 1 to 512 bytes,
--- and neither the number of a request's originator nor that of a reply's destination is 0.
--- The greatest values of its fields are no part of this
+-- what a message of the mesh has, whatever node sent it: it names nodes of the mesh only, its datum
+-- has 1 to 512 bytes, and neither the number of a request's originator nor that of a reply's
+-- destination is 0. The greatest values of its fields are no part of this
 abbrev pub IsMessageInMesh : ℕ → Message → Type 0
 IsMessageInMesh size (Pkt b d o) = (d < size) × (o < size) × IsDatum b
 IsMessageInMesh size (Rreq m) = (m.dip < size) × (m.oip < size) × (1 ≤ m.osn)

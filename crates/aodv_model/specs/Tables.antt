@@ -1,6 +1,7 @@
--- Routing tables: what they say of a destination, and how they change (RFC 3561, sections 2 and 6.2;
--- AWN's functions sqn, sqnf, nhop, dhops, precs, update, invalidate and addpreRT).
--- A node is its index in the mesh. Numbers have no greatest value here: Fullness says where a step ends at one.
+-- Routing tables: what they say of a destination, and how they change (RFC 3561, sections 2 and
+-- 6.2; AWN's functions sqn, sqnf, nhop, dhops, precs, update, invalidate and addpreRT).
+-- A node is its index in the mesh. Numbers have no greatest value here: Fullness says where a step
+-- ends at one.
 use Rattle.std.specs.Prelude.{ℕ, Bool, true, false, not, ◌&&◌, ◌||◌, ◌==◌, nat_lt, if◌then◌else◌, Option, Some, None, map, unwrap_or}
 use Rattle.std.specs.Ordering.{nat_cmp}
 use Rattle.std.specs.FinMap as maps
@@ -97,17 +98,19 @@ precs rt d = pre_in (maps.get rt d)
 
 -- ---- update
 
--- What becomes of the entry s where r comes for the same destination. r is valid. The first case that applies:
---   1. there is no s (entry_after, below)            r is added
+-- What becomes of the entry s where r comes for the same destination. r is valid. The first case
+-- that applies:   1. there is no s (entry_after, below)            r is added
 --   2. r has the greater number                      r, with the precursors of both
 --   3. the same number, and fewer hops in r,
 --      or s is invalid                               r, with the precursors of both
---   4. r's number is unknown                         r, with the precursors of both and the number of s
---   5. otherwise                                     s, with the precursors of both
+--   4. r's number is unknown                         r, with the precursors of both and the number
+-- of s   5. otherwise                                     s, with the precursors of both
 unfoldable pub merged : Entry → Entry → Entry
 merged s r =
     if nat_lt s.dsn r.dsn then record r { pre = sets.union s.pre r.pre }
-    else if (s.dsn == r.dsn) && (nat_lt r.hops s.hops || not (is_val s.flag)) then record r { pre = sets.union s.pre r.pre }
+    else if (s.dsn == r.dsn) && (nat_lt r.hops s.hops || not (is_val s.flag)) then record r {
+      pre = sets.union s.pre r.pre;
+    }
     else if not (is_kno r.dsk) then record r { dsn = s.dsn; pre = sets.union s.pre r.pre }
     else record s { pre = sets.union s.pre r.pre }
 
@@ -131,7 +134,8 @@ abbrev pub invalidated : Entry → Option ℕ → Entry
 invalidated e None = e
 invalidated e (Some n) = record e { dsn = n; flag = Inv }
 
--- each entry whose destination is in the map has the number stated there, and is invalid; all else stays
+-- each entry whose destination is in the map has the number stated there, and is invalid; all else
+-- stays
 unfoldable pub invalidate : Table → Dests → Table
 invalidate rt dests = mapped (λ d e. invalidated e (maps.get dests d)) rt
 
@@ -150,10 +154,15 @@ abbrev pub goes_by : Option Entry → ℕ → Bool
 goes_by None y = false
 goes_by (Some e) y = is_val e.flag && (e.next == y)
 
--- where the link to y broke: each destination of a valid entry with next hop y, with the next number (an unknown number stays so)
+-- where the link to y broke: each destination of a valid entry with next hop y, with the next
+-- number (an unknown number stays so)
 unfoldable pub unreachable_by : Table → ℕ → Dests
-unreachable_by rt y = mapped (λ d e. inc e.dsn) (maps.retain_keys rt (λ d. goes_by (maps.get rt d) y))
+unreachable_by rt y =
+    mapped (λ d e. inc e.dsn) (maps.retain_keys rt (λ d. goes_by (maps.get rt d) y))
 
--- of the pairs of a route error from y: those whose destination has a valid entry with next hop y and a smaller number
+-- of the pairs of a route error from y: those whose destination has a valid entry with next hop y
+-- and a smaller number
 unfoldable pub accepted_unreachable : Table → ℕ → Dests → Dests
-accepted_unreachable rt y dests = maps.retain_keys dests (λ d. goes_by (maps.get rt d) y && nat_lt (sqn rt d) (unwrap_or (maps.get dests d) 0))
+accepted_unreachable rt y dests =
+    maps.retain_keys dests
+    (λ d. goes_by (maps.get rt d) y && nat_lt (sqn rt d) (unwrap_or (maps.get dests d) 0))

@@ -10,10 +10,10 @@ use Rattle.aodv_model.specs.Handlers.{turn}
 use Rattle.aodv_model.specs.Fullness.{turn_full}
 use Rattle.aodv_model.specs.Soundness.{IsMessageInMesh}
 use Rattle.aodv_wire.specs.declared.message.Message as wire
-use Rattle.aodv_wire.specs.Spells.{Spells, said}
+use Rattle.aodv_wire.specs.Spells.{Spells, message_in_fields}
 use Rattle.aodv_meaning.specs.Meaning.{in_mesh, meaning, stranger}
 use Rattle.aodv_meaning.proofs.Means.{spelled_in}
-use Rattle.aodv_handlers.specs.Made.{IsMade, IsRefused}
+use Rattle.aodv_handlers.specs.Made.{IsMade, IsFull}
 use Rattle.aodv_node.specs.declared.answers.TurnError.{TurnError}
 use Rattle.aodv_node.specs.declared.answers.TurnError.TheVariants as errors
 use Rattle.aodv_meaning.specs.Effects.{kind_of}
@@ -41,13 +41,13 @@ at_message : (mesh : Nodes) (c : Core) (range : NodeIds) (from : ℕ) (bytes : L
 at_message mesh c range from bytes m k (Ok e) new out ok is kind did =
     (ok, kind ∙ ap kind_of is, subst (λ (m : Message). IsMade mesh (turn_full c range (Heard from m)) (turn c range (Heard from m)) e new out) is did)
 at_message mesh c range from bytes m k (Err errors.Idle) new out ok is kind did = did
-at_message mesh c range from bytes m k (Err (errors.Refused f why)) new out ok is kind did = absurd did
+at_message mesh c range from bytes m k (Err (errors.Unreadable f why)) new out ok is kind did = absurd did
 at_message mesh c range from bytes m k (Err (errors.Stranger f who)) new out ok is kind did = absurd did
 at_message mesh c range from bytes m k (Err (errors.Full f)) new out ok is kind did =
-    (ok, subst (λ (m : Message). IsRefused (turn_full c range (Heard from m)) c f new) is did)
+    (ok, subst (λ (m : Message). IsFull (turn_full c range (Heard from m)) c f new) is did)
 at_message mesh c range from bytes m k (Err errors.NoMemory) new out ok is kind did = (ok, ap (λ (m : Message). needs_memory c (Heard from m)) (sym is) ∙ did.0, did.1)
 
-pub strange : (mesh : Nodes) (bytes : List ℕ) (m : wire.Message) (o : Option Addr) (who : Addr) → Spells bytes m → o ≡ stranger mesh m → o ≡ Some who → stranger mesh (said bytes) ≡ Some who
+pub strange : (mesh : Nodes) (bytes : List ℕ) (m : wire.Message) (o : Option Addr) (who : Addr) → Spells bytes m → o ≡ stranger mesh m → o ≡ Some who → stranger mesh (message_in_fields bytes) ≡ Some who
 strange mesh bytes m o who s is some = ap (stranger mesh) s.stands ∙ sym is ∙ some
 
 pub heard_as : (mesh : Nodes) (c : Core) (range : NodeIds) (from : ℕ) (bytes : List ℕ) (msg m : wire.Message) (o : Option Addr) (k : Kind) (r : Result code.Effect TurnError) (r' : Result (Kind × code.Effect) TurnError) (new : Core) (out : List ℕ)

@@ -5,7 +5,7 @@ use Rattle.std.specs.Prelude.{if◌then◌else◌}
 use Rattle.std.specs.Result.{IsErr, IsErrAnd}
 use Rattle.mesh_base.specs.Meshes.{Nodes}
 use Rattle.mesh_base.specs.Members.{NodeIds}
-use Rattle.mesh_base.specs.declared.events.Full.{Full}
+use Rattle.mesh_base.specs.declared.events.Counter.{Counter}
 use Rattle.mesh_base.specs.declared.events.Item as items
 use Rattle.mesh_base.specs.declared.events.Item.TheVariants as item
 use Rattle.aodv_model.specs.Tables.{Table}
@@ -15,9 +15,9 @@ use Rattle.aodv_model.specs.Fullness.{turn_full}
 use Rattle.aodv_meaning.specs.Meaning.{meaning}
 use Rattle.aodv_meaning.specs.Sent.{IsPacket}
 use Rattle.aodv_handlers.specs.declared.cores.Core as core
-use Rattle.aodv_handlers.specs.Shown.{shown}
+use Rattle.aodv_handlers.specs.Shown.{core_of}
 use Rattle.aodv_meaning.specs.Effects.{effect_of}
-use Rattle.aodv_handlers.specs.Made.{IsMade, IsRefused}
+use Rattle.aodv_handlers.specs.Made.{IsMade, IsFull}
 use Rattle.aodv_inbox.specs.Queues.{Queue}
 use Rattle.aodv_node.specs.declared.answers.TurnError.{TurnError}
 use Rattle.aodv_node.specs.declared.answers.TurnError.TheVariants as errors
@@ -62,8 +62,8 @@ datum_taken mesh range k old dest body own d new out same e is core free empty =
     subst (λ (c : Core). IsDatumTaken mesh range c dest body d new out) same
     (subst (λ (x : done.TurnDone). IsDatumTaken mesh range k dest body x new out) (sym is) (datum_taken' mesh range k dest body own new out e core free empty))
 
-pub stopped : (mesh : Nodes) (c : Core) (range : NodeIds) (from : ℕ) (bytes : List ℕ) (w : TurnError) (field : Full) (new : Core) (out : List ℕ)
-    → w ≡ errors.Full field → IsHeard mesh c range from bytes (Err w) new out → IsReadable mesh bytes × IsRefused (turn_full c range (Heard from (meaning mesh bytes))) c field new
+pub stopped : (mesh : Nodes) (c : Core) (range : NodeIds) (from : ℕ) (bytes : List ℕ) (w : TurnError) (field : Counter) (new : Core) (out : List ℕ)
+    → w ≡ errors.Full field → IsHeard mesh c range from bytes (Err w) new out → IsReadable mesh bytes × IsFull (turn_full c range (Heard from (meaning mesh bytes))) c field new
 stopped mesh c range from bytes w field new out is heard = subst (λ (x : TurnError). IsHeard mesh c range from bytes (Err x) new out) is heard
 
 pub stopped_short : (mesh : Nodes) (c : Core) (range : NodeIds) (from : ℕ) (bytes : List ℕ) (w : TurnError) (new : Core) (out : List ℕ)
@@ -84,5 +84,5 @@ short_of mesh range old new dest body rest r out is was other same =
     subst (λ (x : Result done.TurnDone TurnError). IsTurn mesh range old x new out) (sym is)
     (record { front = item.New dest body; rest = rest; was = was; readable = tt; needs = rw (ne_eqb dest (old.core).ip other) refl }, same)
 
-pub seen_same : {T : Type 0} (nodes : T → ℕ) (entries : T → Table) (new old : core.Core T) (inbox : Queue) → shown entries new ≡ shown entries old → nodes new.table ≡ nodes old.table → seen nodes entries new inbox ≡ seen nodes entries old inbox
+pub seen_same : {T : Type 0} (nodes : T → ℕ) (entries : T → Table) (new old : core.Core T) (inbox : Queue) → core_of entries new ≡ core_of entries old → nodes new.table ≡ nodes old.table → seen nodes entries new inbox ≡ seen nodes entries old inbox
 seen_same nodes entries new old inbox same size = λ i. record { core = same i; items = inbox.items; room = inbox.room; size = size i }

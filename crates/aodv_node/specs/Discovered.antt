@@ -1,4 +1,5 @@
--- What the send of a stored datum and a request of the node's own answer, and what is then seen of the node.
+-- What the send of a stored datum and a request of the node's own answer, and what is then seen of
+-- the node.
 use Rattle.std.specs.Prelude.{◌≡◌, ℕ, true, false, Result, Ok, Err, List}
 use Rattle.mesh_base.specs.Meshes.{Nodes}
 use Rattle.mesh_base.specs.Members.{NodeIds}
@@ -6,21 +7,27 @@ use Rattle.mesh_base.specs.declared.events.Effect as code
 use Rattle.aodv_model.specs.Cores.{Core}
 use Rattle.aodv_model.specs.Handlers.{may_send, send, may_ask, ask}
 use Rattle.aodv_model.specs.Fullness.{send_full, ask_full}
-use Rattle.aodv_handlers.specs.Made.{IsMade, IsRefused}
+use Rattle.aodv_handlers.specs.Made.{IsMade, IsFull}
 use Rattle.aodv_node.specs.declared.answers.SendError.{SendError}
 use Rattle.aodv_node.specs.declared.answers.SendError.TheVariants as sends
 use Rattle.aodv_node.specs.declared.answers.AskError.{AskError}
 use Rattle.aodv_node.specs.declared.answers.AskError.TheVariants as asks
 
--- the send of a datum that waits for d, by the core `old`: its answer, the core after it, and the packet that is cast
-abbrev pub IsSend : Nodes → NodeIds → Core → ℕ → Result code.Effect SendError → Core → List ℕ → Type 0
-IsSend mesh range old d (Ok effect) new out = (may_send old d ≡ true) × IsMade mesh (send_full old range d) (send old range d) effect new out
+-- the send of a datum that waits for d, by the core `old`: its answer, the core after it, and the
+-- packet that is cast
+abbrev pub IsSend : Nodes → NodeIds → Core → ℕ → Result code.Effect SendError → Core → List ℕ
+    → Type 0
+IsSend mesh range old d (Ok effect) new out =
+    (may_send old d ≡ true) × IsMade mesh (send_full old range d) (send old range d) effect new out
 IsSend mesh range old d (Err sends.Idle) new out = (may_send old d ≡ false) × (new ≡ old)
-IsSend mesh range old d (Err (sends.Full field)) new out = (may_send old d ≡ true) × IsRefused (send_full old range d) old field new
+IsSend mesh range old d (Err (sends.Full field)) new out =
+    (may_send old d ≡ true) × IsFull (send_full old range d) old field new
 
 -- a request for a route to d, by the core `old`
 abbrev pub IsAsk : Nodes → Core → ℕ → Result code.Effect AskError → Core → List ℕ → Type 0
-IsAsk mesh old d (Ok effect) new out = (may_ask old d ≡ true) × IsMade mesh (ask_full old) (ask old d) effect new out
+IsAsk mesh old d (Ok effect) new out =
+    (may_ask old d ≡ true) × IsMade mesh (ask_full old) (ask old d) effect new out
 IsAsk mesh old d (Err asks.Idle) new out = (may_ask old d ≡ false) × (new ≡ old)
-IsAsk mesh old d (Err (asks.Full field)) new out = (may_ask old d ≡ true) × IsRefused (ask_full old) old field new
+IsAsk mesh old d (Err (asks.Full field)) new out =
+    (may_ask old d ≡ true) × IsFull (ask_full old) old field new
 IsAsk mesh old d (Err asks.NoMemory) new out = (may_ask old d ≡ true) × (new ≡ old)

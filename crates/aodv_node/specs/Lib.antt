@@ -1,5 +1,5 @@
--- Read in this order. What a node does is defined by aodv_model (its specs/Handlers and specs/Fullness), and what a
--- packet means in a mesh by aodv_meaning.
+-- Read in this order. What a node does is defined by aodv_model (its specs/Handlers and
+-- specs/Fullness), and what a packet means in a mesh by aodv_meaning.
 -- Seen: what is seen of a node, and what every node keeps.
 pub mod Seen
 -- Turned: what a turn answers, and what is then seen of the node.

@@ -1,5 +1,5 @@
 -- What is seen of a node, and what every node keeps.
-use Rattle.std.specs.Prelude.{◌≡◌, ◌≢◌, ◌<◌, ◌⊎◌, ℕ, List, refl}
+use Rattle.std.specs.Prelude.{◌≡◌, ◌≢◌, ◌<◌, ◌⊎◌, ℕ, ◌-◌, List, [], ◌∷◌, ◌++◌, refl}
 use Rattle.std.proofs.Common.{inl, inr}
 use Rattle.std.specs.Coded.{Coded, code_by, coded×, coded⊎, coded_ℕ, coded_list}
 use Rattle.std.specs.List.{AllByRecursion}
@@ -11,10 +11,10 @@ use Rattle.aodv_model.specs.Codes.{core_code}
 use Rattle.aodv_model.specs.Soundness.{IsDatum, IsSoundCore, IsStoreInMesh}
 use Rattle.aodv_inbox.specs.Queues.{Queue}
 use Rattle.aodv_handlers.specs.declared.cores.Core as code
-use Rattle.aodv_handlers.specs.Shown.{shown}
+use Rattle.aodv_handlers.specs.Shown.{core_of}
 
--- what is seen: the state of the model, the items that wait with their packets as bytes, for how many more items there
--- is room, and the number of nodes of the mesh
+-- what is seen: the state of the model, the items that wait with their packets as bytes, for how
+-- many more items there is room, and the number of nodes of the mesh
 pub record NodeSeen : Type 0 where
   pub core : Core
   pub items : List Item
@@ -23,15 +23,25 @@ pub record NodeSeen : Type 0 where
 
 -- what is seen of a core of the code and an inbox
 abbrev pub seen : {T : Type 0} → (T → ℕ) → (T → Table) → code.Core T → Queue → NodeSeen
-seen nodes entries core inbox = record { core = shown entries core; items = inbox.items; room = inbox.room; size = nodes core.table }
+seen nodes entries core inbox = record {
+  core = core_of entries core;
+  items = inbox.items;
+  room = inbox.room;
+  size = nodes core.table;
+}
 
--- an item that may wait at node `me` of a mesh of this size: a datum of 1 to 512 bytes for a node of the mesh, or a
--- packet from another node of the mesh. Its bytes may be any
+-- the item joins the inbox, and uses up the room for one
+abbrev pub with_queued : NodeSeen → Item → NodeSeen
+with_queued node item = record node { items = node.items ++ item ∷ []; room = node.room - 1 }
+
+-- an item that may wait at node `me` of a mesh of this size: a datum of 1 to 512 bytes for a node
+-- of the mesh, or a packet from another node of the mesh. Its bytes may be any
 abbrev pub IsItemAt : ℕ → ℕ → Item → Type 0
 IsItemAt size me (New dest body) = (dest < size) × IsDatum body
 IsItemAt size me (Heard from bytes) = (from < size) × (from ≢ me)
 
--- what every node keeps: it is in its mesh, its state is in order, and so are the data that wait and the items of its inbox
+-- what every node keeps: it is in its mesh, its state is in order, and so are the data that wait
+-- and the items of its inbox
 pub record IsSoundNode (node : NodeSeen) : Type 0 where
   pub mine : (node.core).ip < node.size
   pub sound : IsSoundCore node.size node.core
@@ -55,10 +65,13 @@ item_back (Heard from bytes) = refl
 -- of items
 abbrev pub item_code : Coded Item
 item_code =
-    code_by ((ℕ × List ℕ) ⊎ (ℕ × List ℕ)) (coded⊎ (coded× coded_ℕ (coded_list coded_ℕ)) (coded× coded_ℕ (coded_list coded_ℕ))) item_parts item_of item_back
+    code_by ((ℕ × List ℕ) ⊎ (ℕ × List ℕ))
+    (coded⊎ (coded× coded_ℕ (coded_list coded_ℕ)) (coded× coded_ℕ (coded_list coded_ℕ))) item_parts item_of item_back
 
 -- of what is seen of a node
 abbrev pub node_code : Coded NodeSeen
 node_code =
-    code_by (Core × (List Item × (ℕ × ℕ))) (coded× core_code (coded× (coded_list item_code) (coded× coded_ℕ coded_ℕ)))
-    (λ n. (n.core, (n.items, (n.room, n.size)))) (λ p. record { core = p.0; items = p.1.0; room = p.1.1.0; size = p.1.1.1 }) (λ _. refl)
+    code_by (Core × (List Item × (ℕ × ℕ)))
+    (coded× core_code (coded× (coded_list item_code) (coded× coded_ℕ coded_ℕ)))
+    (λ n. (n.core, (n.items, (n.room, n.size))))
+    (λ p. record { core = p.0; items = p.1.0; room = p.1.1.0; size = p.1.1.1 }) (λ _. refl)

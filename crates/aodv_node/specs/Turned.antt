@@ -3,7 +3,7 @@ use Rattle.std.specs.Prelude.{◌≡◌, ◌<◌, ◌≤◌, ◌==◌, ℕ, Bool
 use Rattle.std.specs.FinSet as sets
 use Rattle.mesh_base.specs.Meshes.{Nodes}
 use Rattle.mesh_base.specs.Members.{NodeIds}
-use Rattle.mesh_base.specs.declared.events.Full.{Full}
+use Rattle.mesh_base.specs.declared.events.Counter.{Counter}
 use Rattle.mesh_base.specs.declared.events.Item as items
 use Rattle.mesh_base.specs.declared.events.Item.TheVariants as item
 use Rattle.mesh_base.specs.declared.events.Took as taken
@@ -11,7 +11,7 @@ use Rattle.mesh_base.specs.declared.events.Took.TheVariants as takes
 use Rattle.aodv_model.specs.Cores.{Core, Item, New, Heard, Pkt, Rreq, Rrep, Rerr}
 use Rattle.aodv_model.specs.Handlers.{turn, Took, Own, Stored, FromNeighbour, took}
 use Rattle.aodv_model.specs.Fullness.{turn_full}
-use Rattle.aodv_wire.specs.Spells.{refusal, said}
+use Rattle.aodv_wire.specs.Spells.{refusal, message_in_fields}
 use Rattle.aodv_meaning.specs.Meaning.{stranger}
 use Rattle.aodv_meaning.specs.Effects.{item_in, kind_of}
 use Rattle.aodv_handlers.specs.Made.{IsMade}
@@ -25,7 +25,7 @@ use Rattle.aodv_node.specs.Seen.{NodeSeen}
 -- the bytes spell a message, and it names nodes of the mesh only
 pub record IsReadable (mesh : Nodes) (bytes : List ℕ) : Type 0 where
   pub allowed : refusal bytes ≡ None
-  pub known : stranger mesh (said bytes) ≡ None
+  pub known : stranger mesh (message_in_fields bytes) ≡ None
 
 -- the same of an item; a datum is nothing to be read
 abbrev pub IsReadableItem : Nodes → items.Item → Type 0
@@ -43,7 +43,8 @@ abbrev pub packet_of : items.Item → List ℕ
 packet_of (item.New dest body) = []
 packet_of (item.Heard from bytes) = bytes
 
--- what the model takes, with a neighbour's message as the packet that stood in the item, and its kind
+-- what the model takes, with a neighbour's message as the packet that stood in the item, and its
+-- kind
 abbrev pub taken_of : items.Item → Took → taken.Took
 taken_of front (Own body) = takes.Own body
 taken_of front (Stored dip) = takes.Stored dip
@@ -57,7 +58,8 @@ pub record IsTaken (mesh : Nodes) (range : NodeIds) (old : NodeSeen) (d : done.T
   pub was : old.items ≡ front ∷ new.items
   pub readable : IsReadableItem mesh front
   pub took : d.took ≡ taken_of front (took old.core (item_in mesh front))
-  pub made : IsMade mesh (turn_full old.core range (item_in mesh front)) (turn old.core range (item_in mesh front)) d.effect new.core out
+  pub made : IsMade mesh (turn_full old.core range (item_in mesh front))
+      (turn old.core range (item_in mesh front)) d.effect new.core out
   pub room : old.room ≤ new.room
   pub size : new.size ≡ old.size
 
@@ -69,14 +71,15 @@ pub record IsDropped (old : NodeSeen) (from : ℕ) (bytes : List ℕ) (new : Nod
   pub size : new.size ≡ old.size
 
 -- the turn on the front item would overfill this field
-pub record IsStopped (mesh : Nodes) (range : NodeIds) (old : NodeSeen) (field : Full) : Type 0 where
+pub record IsFullAt (mesh : Nodes) (range : NodeIds) (old : NodeSeen) (field : Counter) : Type 0 where
   pub front : items.Item
   pub rest : List items.Item
   pub was : old.items ≡ front ∷ rest
   pub readable : IsReadableItem mesh front
   pub full : turn_full old.core range (item_in mesh front) ≡ Some field
 
--- a turn on the item may need memory: a datum for another node waits, and a request is kept among those seen
+-- a turn on the item may need memory: a datum for another node waits, and a request is kept among
+-- those seen
 abbrev pub needs_memory : Core → Item → Bool
 needs_memory core (New b d) = not (d == core.ip)
 needs_memory core (Heard from (Pkt b d o)) = false
@@ -92,11 +95,17 @@ pub record IsShort (mesh : Nodes) (old : NodeSeen) : Type 0 where
   pub readable : IsReadableItem mesh front
   pub needs : needs_memory old.core (item_in mesh front) ≡ true
 
--- a turn of the node `old`, with the nodes of `range` in range: its answer, the node after it, and the packet that is cast
-abbrev pub IsTurn : Nodes → NodeIds → NodeSeen → Result done.TurnDone TurnError → NodeSeen → List ℕ → Type 0
+-- a turn of the node `old`, with the nodes of `range` in range: its answer, the node after it, and
+-- the packet that is cast
+abbrev pub IsTurn : Nodes → NodeIds → NodeSeen → Result done.TurnDone TurnError → NodeSeen → List ℕ
+    → Type 0
 IsTurn mesh range old (Ok d) new out = IsTaken mesh range old d new out
 IsTurn mesh range old (Err errors.Idle) new out = (old.items ≡ []) × (new ≡ old)
-IsTurn mesh range old (Err (errors.Refused from why)) new out = (bytes : List ℕ) × (refusal bytes ≡ Some why) × IsDropped old from bytes new
-IsTurn mesh range old (Err (errors.Stranger from who)) new out = (bytes : List ℕ) × (refusal bytes ≡ None) × (stranger mesh (said bytes) ≡ Some who) × IsDropped old from bytes new
-IsTurn mesh range old (Err (errors.Full field)) new out = IsStopped mesh range old field × (new ≡ old)
+IsTurn mesh range old (Err (errors.Unreadable from why)) new out =
+    (bytes : List ℕ) × (refusal bytes ≡ Some why) × IsDropped old from bytes new
+IsTurn mesh range old (Err (errors.Stranger from who)) new out =
+    (bytes : List ℕ) × (refusal bytes ≡ None) × (stranger mesh (message_in_fields bytes) ≡ Some who)
+    × IsDropped old from bytes new
+IsTurn mesh range old (Err (errors.Full field)) new out =
+    IsFullAt mesh range old field × (new ≡ old)
 IsTurn mesh range old (Err errors.NoMemory) new out = IsShort mesh old × (new ≡ old)

@@ -1,6 +1,6 @@
 //! What a node's calls answer.
 use aodv_wire::WireError;
-use mesh_base::{Addr, Effect, Full, NoMemory, Took};
+use mesh_base::{Addr, Counter, Effect, NoMemory, Took};
 use thiserror::Error;
 
 /// What a turn did.
@@ -20,14 +20,14 @@ pub enum TurnError {
     Idle,
     /// The bytes from that node spell no message. They are taken.
     #[error("a packet that can't be read")]
-    Refused { from: usize, why: WireError },
+    Unreadable { from: usize, why: WireError },
     /// The message from that node names an address outside the mesh, the first in the packet's
     /// order. It is taken.
     #[error("a packet that names a stranger")]
     Stranger { from: usize, who: Addr },
     /// The turn would raise this counter past its field's greatest value.
     #[error("a counter is full")]
-    Full(Full),
+    Full(Counter),
     /// Memory was asked for and not found.
     #[error("no memory")]
     NoMemory,
@@ -52,7 +52,7 @@ pub enum SendError {
     Idle,
     /// The send would raise this counter past its field's greatest value.
     #[error("a counter is full")]
-    Full(Full),
+    Full(Counter),
 }
 
 /// Why no request is made.
@@ -63,7 +63,7 @@ pub enum AskError {
     Idle,
     /// The request would raise this counter past its field's greatest value.
     #[error("a counter is full")]
-    Full(Full),
+    Full(Counter),
     /// Memory was asked for and not found.
     #[error("no memory")]
     NoMemory,

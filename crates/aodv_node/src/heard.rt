@@ -1,12 +1,11 @@
 //! A turn on the bytes of a packet that was heard.
-ghost use Rattle.std.specs.Prelude.{◌≡◌, ◌≢◌, ◌<◌, ℕ, length, None, IsTrue, is_some};
-ghost use Rattle.mesh_base.specs.Meshes.{index_of};
+ghost use Rattle.std.specs.Prelude.{◌≡◌, ◌≢◌, ◌<◌, ℕ, length, None};
 ghost use Rattle.aodv_model.specs.Cores.{Heard};
 ghost use Rattle.aodv_model.specs.Soundness.{IsMessageInMesh};
 ghost use Rattle.aodv_wire.specs.declared.message.Message.TheVariants as messages;
-ghost use Rattle.aodv_meaning.specs.Meaning.{stranger, strange_pair, unless_in, in_mesh, index};
-ghost use Rattle.aodv_handlers.specs.Shown.{shown, IsReady};
-ghost use Rattle.aodv_node.specs.Heard.{IsHeard, Tries, kinded};
+ghost use Rattle.aodv_meaning.specs.Meaning.{stranger, strange_pair, unless_in, in_mesh};
+ghost use Rattle.aodv_handlers.specs.Shown.{core_of, IsReady};
+ghost use Rattle.aodv_node.specs.Heard.{IsHeard, TakesIfRoom, kinded};
 ghost use Rattle.aodv_node.specs.Turned.{HasAllRooms};
 
 use crate::answers::TurnError;
@@ -64,11 +63,12 @@ pub(crate) fn hear<T: Table>(
     requires from { from < length mesh.now }
     requires other { from ≢ core.old.me }
     requires rows { HasAllRooms T.nodes T.rooms core.old.table }
-    ensures does { IsHeard mesh.now (shown T.entries core.old) range.now from bytes.now result (shown T.entries core.new) out.new.items }
+    ensures does { let old = core_of T.entries core.old in let new = core_of T.entries core.new in
+        IsHeard mesh.now old range.now from bytes.now result new out.new.items }
     ensures ready { IsReady T.nodes T.entries (length mesh.now) core.new }
 {
     match read(bytes) {
-        Err(why) => Err(TurnError::Refused { from, why }),
+        Err(why) => Err(TurnError::Unreadable { from, why }),
         Ok(message) => match find_stranger(mesh, &message) {
             Some(who) => Err(TurnError::Stranger { from, who }),
             None => match message {
@@ -111,10 +111,11 @@ fn hear_rreq<T: Table>(
     requires says { IsMessageInMesh (length mesh.now) (in_mesh mesh.now (messages.Rreq m.now)) }
     requires from { from < length mesh.now }
     requires other { from ≢ core.old.me }
-    ensures does { Tries mesh.now (shown T.entries core.old) range.now (Heard from (in_mesh mesh.now (messages.Rreq m.now))) result (shown T.entries core.new) out.new.items }
+    ensures does { let message = Heard from (in_mesh mesh.now (messages.Rreq m.now)) in
+        TakesIfRoom T.entries mesh.now range.now message core.old result core.new out.new.items }
     ensures ready { IsReady T.nodes T.entries (length mesh.now) core.new }
 {
-    let oip = known_place(mesh, m.oip);
+    let oip = mesh.index_in(m.oip);
     make_row(core, from)?;
     make_row(core, oip)?;
     make_request(core, oip)?;
@@ -138,10 +139,11 @@ fn hear_rrep<T: Table>(
     requires from { from < length mesh.now }
     requires other { from ≢ core.old.me }
     requires rows { HasAllRooms T.nodes T.rooms core.old.table }
-    ensures does { Tries mesh.now (shown T.entries core.old) range.now (Heard from (in_mesh mesh.now (messages.Rrep m.now))) result (shown T.entries core.new) out.new.items }
+    ensures does { let message = Heard from (in_mesh mesh.now (messages.Rrep m.now)) in
+        TakesIfRoom T.entries mesh.now range.now message core.old result core.new out.new.items }
     ensures ready { IsReady T.nodes T.entries (length mesh.now) core.new }
 {
-    let dip = known_place(mesh, m.dip);
+    let dip = mesh.index_in(m.dip);
     make_row(core, from)?;
     make_row(core, dip)?;
     match on_rrep(core, mesh, range, from, m, out) {
@@ -163,7 +165,8 @@ fn hear_rerr<T: Table>(
     requires from { from < length mesh.now }
     requires other { from ≢ core.old.me }
     requires rows { HasAllRooms T.nodes T.rooms core.old.table }
-    ensures does { Tries mesh.now (shown T.entries core.old) range.now (Heard from (in_mesh mesh.now (messages.Rerr m.now))) result (shown T.entries core.new) out.new.items }
+    ensures does { let message = Heard from (in_mesh mesh.now (messages.Rerr m.now)) in
+        TakesIfRoom T.entries mesh.now range.now message core.old result core.new out.new.items }
     ensures ready { IsReady T.nodes T.entries (length mesh.now) core.new }
 {
     make_row(core, from)?;
@@ -181,24 +184,12 @@ fn hear_data<T: Table>(
     requires ready { IsReady T.nodes T.entries (length mesh.now) core.old }
     requires known { stranger mesh.now (messages.Parcel m.now) ≡ None }
     requires says { IsMessageInMesh (length mesh.now) (in_mesh mesh.now (messages.Parcel m.now)) }
-    ensures does { Tries mesh.now (shown T.entries core.old) range.now (Heard from (in_mesh mesh.now (messages.Parcel m.now))) result (shown T.entries core.new) out.new.items }
+    ensures does { let message = Heard from (in_mesh mesh.now (messages.Parcel m.now)) in
+        TakesIfRoom T.entries mesh.now range.now message core.old result core.new out.new.items }
     ensures ready { IsReady T.nodes T.entries (length mesh.now) core.new }
 {
     match on_data(core, mesh, range, m, out) {
         Ok(effect) => Ok(effect),
         Err(full) => Err(TurnError::Full(full)),
-    }
-}
-
-// The node of an address that is in the mesh.
-#[tactic(auto, unfolding(mesh_base::specs::Meshes::index_in))]
-fn known_place(mesh: &Mesh, a: Addr) -> usize
-    requires { IsTrue (is_some (index_of mesh.now a.0)) }
-    ensures value { result ≡ index mesh.now a }
-    ensures within { result < length mesh.now }
-{
-    match mesh.index_of(a) {
-        Some(i) => i,
-        None => unreachable!(),
     }
 }

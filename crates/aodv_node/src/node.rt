@@ -1,5 +1,5 @@
 //! A router.
-ghost use Rattle.std.specs.Prelude.{◌≡◌, ◌≢◌, ◌<◌, ◌≤◌, ℕ, ◌++◌, ◌∷◌, [], ◌-◌, length, IfOk, IsOk, OnOk, OnErr, Some, None};
+ghost use Rattle.std.specs.Prelude.{◌≡◌, ◌≢◌, ◌<◌, ◌≤◌, ℕ, [], length, IfOk, IsOk, OnOk, OnErr, Some, None};
 ghost use Rattle.std.specs.FinMap as maps;
 ghost use Rattle.std.specs.FinSet as sets;
 ghost use Rattle.mesh_base.specs.Meshes.{first_at};
@@ -8,7 +8,7 @@ ghost use Rattle.mesh_base.specs.declared.events.Variant.TheVariants.{Base};
 ghost use Rattle.aodv_model.specs.Cores.{opening};
 ghost use Rattle.aodv_model.specs.Handlers.{may_send, may_ask};
 ghost use Rattle.aodv_model.specs.Soundness.{IsDatum};
-ghost use Rattle.aodv_node.specs.Seen.{NodeSeen, IsSoundNode};
+ghost use Rattle.aodv_node.specs.Seen.{NodeSeen, IsSoundNode, with_queued};
 ghost use Rattle.aodv_node.specs.Turned.{IsTurn};
 ghost use Rattle.aodv_node.specs.Discovered.{IsSend, IsAsk};
 
@@ -42,7 +42,8 @@ impl Model for Node {
 
     ghost view = { λ a. seen (λ t. t.nodes) (λ t. t.entries) a.core a.inbox };
 
-    ghost invariant = { λ a. IsReady (λ t. t.nodes) (λ t. t.entries) (a.core).table.nodes a.core × IsSoundNode (seen (λ t. t.nodes) (λ t. t.entries) a.core a.inbox) };
+    ghost invariant = { λ a. IsReady (λ t. t.nodes) (λ t. t.entries) (a.core).table.nodes a.core
+        × IsSoundNode (seen (λ t. t.nodes) (λ t. t.entries) a.core a.inbox) };
 }
 
 impl Node {
@@ -98,7 +99,7 @@ impl Node {
         requires room { 0 < self.old.room }
         requires dest { dest < self.old.size }
         requires datum { IsDatum body }
-        ensures { self.new ≡ record (self.old) { items = self.old.items ++ items.New dest body ∷ []; room = self.old.room - 1 } }
+        ensures { self.new ≡ with_queued self.old (items.New dest body) }
     {
         self.inbox.push(Item::New { dest, body });
     }
@@ -108,15 +109,15 @@ impl Node {
         requires room { 0 < self.old.room }
         requires from { from < self.old.size }
         requires other { from ≢ self.old.core.ip }
-        ensures { self.new ≡ record (self.old) { items = self.old.items ++ items.Heard from bytes ∷ []; room = self.old.room - 1 } }
+        ensures { self.new ≡ with_queued self.old (items.Heard from bytes) }
     {
         self.inbox.push(Item::Heard { from, bytes });
     }
 
-    /// Takes the front item of the inbox and does what AODV does with it; `range` has the nodes that
-    /// are in range. The packet that is cast is left in `out`. A refusal is the first that applies of
-    /// Idle, Refused, Stranger and Full. Memory can be short only where the item needs some: a datum
-    /// for another node, or a route request.
+    /// Takes the front item of the inbox and does what AODV does with it; `range` has the nodes
+    /// that are in range. The packet that is cast is left in `out`. A refusal is the first that
+    /// applies of Idle, Unreadable, Stranger and Full. Memory can be short only where the item needs
+    /// some: a datum for another node, or a route request.
     pub fn turn(
         &mut self,
         mesh: &Mesh,
@@ -144,7 +145,8 @@ impl Node {
     ) -> Result<Effect, SendError>
         requires mesh { length mesh.now ≡ self.old.size }
         requires dest { dest < self.old.size }
-        ensures does { IsSend mesh.now range.now self.old.core dest result self.new.core out.new.items }
+        ensures does { let new = self.new.core in
+            IsSend mesh.now range.now self.old.core dest result new out.new.items }
         ensures others { self.new ≡ record (self.old) { core = self.new.core } }
         ensures me { self.new.core.ip ≡ self.old.core.ip }
     {

@@ -1,7 +1,8 @@
 //! Room in a core, made before anything in it changes.
 ghost use Rattle.std.specs.Prelude.{◌≡◌, ◌≢◌, ◌<◌, ℕ, true, length, slice_index, IsOk, OnOk, OnErr};
 ghost use Rattle.std.specs.FinSet as sets;
-ghost use Rattle.aodv_handlers.specs.Shown.{shown, IsReady};
+ghost use Rattle.mesh_base.specs.Members.{AreAmong};
+ghost use Rattle.aodv_handlers.specs.Shown.{core_of, IsReady};
 
 use aodv_handlers::Core;
 use aodv_table::Table;
@@ -13,8 +14,8 @@ pub(crate) fn make_row<T: Table>(core: &mut Core<T>, d: usize) -> Result<(), NoM
     requires below { d < T.nodes core.old.table }
     ensures here { OnOk result (sets.contains (T.rooms core.new.table) d ≡ true) }
     ensures there { sets.contains (T.rooms core.old.table) d ≡ true → IsOk result }
-    ensures keeps { (q : ℕ) → sets.contains (T.rooms core.old.table) q ≡ true → sets.contains (T.rooms core.new.table) q ≡ true }
-    ensures shown { shown T.entries core.new ≡ shown T.entries core.old }
+    ensures keeps { AreAmong (T.rooms core.old.table) (T.rooms core.new.table) }
+    ensures shown { core_of T.entries core.new ≡ core_of T.entries core.old }
     ensures nodes { T.nodes core.new.table ≡ T.nodes core.old.table }
     ensures ready { IsReady T.nodes T.entries (T.nodes core.old.table) core.new }
 {
@@ -27,7 +28,7 @@ pub(crate) fn make_store<T: Table>(core: &mut Core<T>, d: usize) -> Result<(), N
     requires below { d < T.nodes core.old.table }
     ensures here { OnOk result (d ≢ core.new.me → 0 < slice_index core.new.waiting.rooms d) }
     ensures short { OnErr result (d ≢ core.old.me) }
-    ensures shown { shown T.entries core.new ≡ shown T.entries core.old }
+    ensures shown { core_of T.entries core.new ≡ core_of T.entries core.old }
     ensures nodes { T.nodes core.new.table ≡ T.nodes core.old.table }
     ensures ready { IsReady T.nodes T.entries (T.nodes core.old.table) core.new }
 {
@@ -43,7 +44,7 @@ pub(crate) fn make_request<T: Table>(core: &mut Core<T>, o: usize) -> Result<(),
     requires below { o < T.nodes core.old.table }
     ensures here { OnOk result (0 < slice_index core.new.asked.rooms o) }
     ensures table { core.new.table ≡ core.old.table }
-    ensures shown { shown T.entries core.new ≡ shown T.entries core.old }
+    ensures shown { core_of T.entries core.new ≡ core_of T.entries core.old }
     ensures ready { IsReady T.nodes T.entries (T.nodes core.old.table) core.new }
 {
     core.asked.make_room(o)

@@ -3,7 +3,7 @@ ghost use Rattle.std.specs.Prelude.{◌≡◌, length, IfOk};
 
 use crate::{AskError, Node, SendError, TurnError};
 use aodv_wire::WireError;
-use mesh_base::{Addr, Bytes, Cast, Full, Kind, Mesh, NoMemory, NodeSet, Packet, Took};
+use mesh_base::{Addr, Bytes, Cast, Counter, Kind, Mesh, NoMemory, NodeSet, Packet, Took};
 use std::alloc::Global;
 use std::test::Fail;
 
@@ -38,7 +38,7 @@ fn a_turn_is_refused(rt: HostRuntime) -> Result<(), Fail> {
     let rows: [(&[u8], TurnError, usize); 3] = [
         (
             &[],
-            TurnError::Refused {
+            TurnError::Unreadable {
                 from: 1,
                 why: WireError::Short,
             },
@@ -52,7 +52,7 @@ fn a_turn_is_refused(rt: HostRuntime) -> Result<(), Fail> {
             },
             0,
         ),
-        (&reply, TurnError::Full(Full::Hops), 1),
+        (&reply, TurnError::Full(Counter::Hops), 1),
     ];
     let mut out = Packet::new();
     for (bytes, error, left) in rows {

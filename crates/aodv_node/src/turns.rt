@@ -47,7 +47,9 @@ pub(crate) fn take_turn<T: Table>(
     requires ready { IsReady T.nodes T.entries (length mesh.now) core.old }
     requires each { AllByRecursion (IsItemAt (length mesh.now) core.old.me) inbox.old.items }
     requires rows { HasAllRooms T.nodes T.rooms core.old.table }
-    ensures turn { IsTurn mesh.now range.now (seen T.nodes T.entries core.old inbox.old) result (seen T.nodes T.entries core.new inbox.new) out.new.items }
+    ensures turn { let old = seen T.nodes T.entries core.old inbox.old in
+        let new = seen T.nodes T.entries core.new inbox.new in
+        IsTurn mesh.now range.now old result new out.new.items }
     ensures ready { IsReady T.nodes T.entries (length mesh.now) core.new }
 {
     let Some(item) = inbox.front() else {
@@ -76,9 +78,9 @@ pub(crate) fn take_turn<T: Table>(
                     }),
                     _ => unreachable!(),
                 },
-                Err(TurnError::Refused { from, why }) => {
+                Err(TurnError::Unreadable { from, why }) => {
                     inbox.pop();
-                    Err(TurnError::Refused { from, why })
+                    Err(TurnError::Unreadable { from, why })
                 }
                 Err(TurnError::Stranger { from, who }) => {
                     inbox.pop();

@@ -1,4 +1,5 @@
--- A table kept as a row for every node, in the order of the nodes: a row holds the entry of its node, or none.
+-- A table kept as a row for every node, in the order of the nodes: a row holds the entry of its
+-- node, or none.
 use Rattle.std.specs.Prelude.{◌≡◌, ◌≤◌, ℕ, ◌+◌, List, [], ◌∷◌, length, Option}
 use Rattle.std.specs.FinMap as maps
 use Rattle.mesh_base.specs.declared.limits.TheConstants.{MOST_NODES}
@@ -12,8 +13,8 @@ unfoldable pub entries_from : ℕ → List (Option Entry) → Table
 entries_from d [] = maps.empty
 entries_from d (row ∷ rows) = with_entry (entries_from (d + 1) rows) d row
 
--- what such a table keeps: a number of nodes that a mesh may have, a row for each of them, and the set of the valid
--- destinations
+-- what such a table keeps: a number of nodes that a mesh may have, a row for each of them, and the
+-- set of the valid destinations
 pub record AreIndexed (nodes : ℕ) (rows : List (Option Entry)) (valid : NodeIds) : Type 0 where
   pub few : nodes ≤ MOST_NODES
   pub each : length rows ≡ nodes

@@ -1,4 +1,5 @@
--- Read in this order. What a table is, and how it changes, is defined by aodv_model (its specs/Tables).
+-- Read in this order. What a table is, and how it changes, is defined by aodv_model (its
+-- specs/Tables).
 -- Calls: what the calls of a table say beside those changes.
 pub mod Calls
 -- Seen: what the contracts of a type of table see of it.

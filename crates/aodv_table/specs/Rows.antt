@@ -1,4 +1,5 @@
--- A table kept as rows: a destination with a row has room for an entry, and its row holds one or none.
+-- A table kept as rows: a destination with a row has room for an entry, and its row holds one or
+-- none.
 use Rattle.std.specs.Prelude.{◌≡◌, ◌≤◌, ℕ, List, [], ◌∷◌, map, Option}
 use Rattle.std.specs.FinMap as maps
 use Rattle.std.specs.FinSet as sets
@@ -17,8 +18,8 @@ entries_in (row ∷ rows) = with_entry (entries_in rows) row.0 row.1
 unfoldable pub rooms_in : List (ℕ × Option Entry) → NodeIds
 rooms_in rows = sets.from_list (map (λ row. row.0) rows)
 
--- what a table of rows keeps: a number of nodes that a mesh may have, no entry of any other destination, and the
--- set of the valid destinations
+-- what a table of rows keeps: a number of nodes that a mesh may have, no entry of any other
+-- destination, and the set of the valid destinations
 pub record AreRows (nodes : ℕ) (rows : List (ℕ × Option Entry)) (valid : NodeIds) : Type 0 where
   pub few : nodes ≤ MOST_NODES
   pub below : IsBelow nodes (entries_in rows)

@@ -1,5 +1,6 @@
 -- What the contracts of a type of table see of it.
 use Rattle.std.specs.Prelude.{ℕ, refl}
+use Rattle.std.specs.FinMap as maps
 use Rattle.std.specs.FinSet as sets
 use Rattle.std.specs.Coded.{Coded, code_by, coded×, coded_ℕ}
 use Rattle.mesh_base.specs.Members.{NodeIds}
@@ -12,8 +13,13 @@ pub record TableSeen : Type 0 where
   pub rooms : NodeIds
   pub nodes : ℕ
 
+-- a table of no entries
+abbrev pub without_entries : NodeIds → ℕ → TableSeen
+without_entries rooms nodes = record { entries = maps.empty; rooms = rooms; nodes = nodes }
+
 -- a code, by which proofs tell such values apart
 abbrev pub seen_code : Coded TableSeen
 seen_code =
     code_by (Table × (NodeIds × ℕ)) (coded× table_code (coded× (sets.code coded_ℕ) coded_ℕ))
-    (λ t. (t.entries, (t.rooms, t.nodes))) (λ p. record { entries = p.0; rooms = p.1.0; nodes = p.1.1 }) (λ _. refl)
+    (λ t. (t.entries, (t.rooms, t.nodes)))
+    (λ p. record { entries = p.0; rooms = p.1.0; nodes = p.1.1 }) (λ _. refl)

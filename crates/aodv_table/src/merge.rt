@@ -1,4 +1,5 @@
-//! What becomes of an entry where another comes for the same destination, and what an entry is found by.
+//! What becomes of an entry where another comes for the same destination, and what an entry is
+//! found by.
 ghost use Rattle.std.specs.Prelude.{◌≡◌, ◌<◌, ◌↔◌, if◌then◌else◌, false, Some, None};
 ghost use Rattle.std.specs.FinSet as sets;
 ghost use Rattle.aodv_model.specs.Tables.{entry_after, goes_by, is_valid_in};
@@ -55,7 +56,8 @@ pub(crate) fn entry_by(entry: Option<Entry>, next: usize) -> Option<Entry>
 /// Whether d is valid, as its row says.
 pub(crate) fn mark(valid: &mut NodeSet, d: usize, row: &Option<Entry>)
     requires { d < 256 }
-    ensures { valid.new ≡ (if is_valid_in row.now then sets.insert valid.old d else sets.remove valid.old d) }
+    ensures { valid.new
+        ≡ (if is_valid_in row.now then sets.insert valid.old d else sets.remove valid.old d) }
 {
     match row {
         Some(entry) if entry.flag == Flag::Val => valid.add(d),

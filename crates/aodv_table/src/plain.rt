@@ -3,6 +3,7 @@ ghost use Rattle.std.specs.Prelude.{◌≡◌, ◌≤◌, true, IsSome, OnOk, On
 ghost use Rattle.std.specs.FinMap as maps;
 ghost use Rattle.std.specs.FinSet as sets;
 ghost use Rattle.aodv_table.specs.Calls.{with_entry};
+ghost use Rattle.aodv_table.specs.Seen.{without_entries};
 ghost use Rattle.aodv_table.specs.Rows.{entries_in, rooms_in};
 
 use crate::merge::mark;
@@ -13,8 +14,8 @@ use std::alloc::Global;
 use std::collections::BTreeMap;
 use std::marker::Model;
 
-/// A table over an ordered map. A destination with room has a row, which holds its entry or none, so
-/// that an entry comes and goes without memory.
+/// A table over an ordered map. A destination with room has a row, which holds its entry or none,
+/// so that an entry comes and goes without memory.
 #[derive(Drop)]
 pub struct PlainTable {
     nodes: usize,
@@ -30,7 +31,11 @@ impl Model for PlainTable {
 
     ghost coded = { seen_code };
 
-    ghost view = { λ t. record { entries = entries_in t.rows.entries; rooms = rooms_in t.rows.entries; nodes = t.nodes } };
+    ghost view = { λ t. record {
+      entries = entries_in t.rows.entries;
+      rooms = rooms_in t.rows.entries;
+      nodes = t.nodes;
+    } };
 
     ghost invariant = { λ t. AreRows t.nodes t.rows.entries t.valid };
 }
@@ -61,9 +66,11 @@ fn write_row(rows: &mut BTreeMap<usize, Option<Entry>>, d: usize, row: Option<En
 // Makes a row for d, if there is none.
 fn add_row(rows: &mut BTreeMap<usize, Option<Entry>>, d: usize) -> Result<(), NoMemory>
     ensures entries { entries_in rows.new.entries ≡ entries_in rows.old.entries }
-    ensures rooms { OnOk result (rooms_in rows.new.entries ≡ sets.insert (rooms_in rows.old.entries) d) }
+    ensures rooms { OnOk result
+        (rooms_in rows.new.entries ≡ sets.insert (rooms_in rows.old.entries) d) }
     ensures there { sets.contains (rooms_in rows.old.entries) d ≡ true → IsOk result }
-    ensures still { sets.contains (rooms_in rows.old.entries) d ≡ true → rooms_in rows.new.entries ≡ rooms_in rows.old.entries }
+    ensures still { sets.contains (rooms_in rows.old.entries) d ≡ true
+        → rooms_in rows.new.entries ≡ rooms_in rows.old.entries }
     ensures refused { OnErr result (rooms_in rows.new.entries ≡ rooms_in rows.old.entries) }
 {
     if rows.contains_key(&d) {
@@ -74,11 +81,11 @@ fn add_row(rows: &mut BTreeMap<usize, Option<Entry>>, d: usize) -> Result<(), No
 }
 
 impl PlainTable {
-    /// A table of no entries and no room, for a mesh of so many nodes. It takes no memory, but keeps the
-    /// allocator from which room is made.
+    /// A table of no entries and no room, for a mesh of so many nodes. It takes no memory, but
+    /// keeps the allocator from which room is made.
     pub fn new(alloc: Global, nodes: usize) -> PlainTable
         requires { nodes ≤ MOST_NODES }
-        ensures { result ≡ record { entries = maps.empty; rooms = sets.empty; nodes = nodes } }
+        ensures { result ≡ without_entries sets.empty nodes }
     {
         PlainTable {
             nodes,

@@ -2,7 +2,9 @@
 ghost use Rattle.std.specs.Prelude.{◌≡◌, ◌<◌, ◌≤◌, ℕ, true, length, slice_set, IsOk, IsSome, IfOk, OnOk, OnErr, None};
 ghost use Rattle.std.specs.FinMap as maps;
 ghost use Rattle.std.specs.FinSet as sets;
+ghost use Rattle.mesh_base.specs.Members.{AreAmong};
 ghost use Rattle.aodv_table.specs.Calls.{IsBelow, with_entry, nodes_below};
+ghost use Rattle.aodv_table.specs.Seen.{without_entries};
 
 use crate::merge::mark;
 use crate::table::Table;
@@ -29,7 +31,11 @@ impl Model for RowTable {
 
     ghost coded = { seen_code };
 
-    ghost view = { λ t. record { entries = entries_from 0 t.rows.items; rooms = nodes_below t.nodes; nodes = t.nodes } };
+    ghost view = { λ t. record {
+      entries = entries_from 0 t.rows.items;
+      rooms = nodes_below t.nodes;
+      nodes = t.nodes;
+    } };
 
     ghost invariant = { λ t. AreIndexed t.nodes t.rows.items t.valid };
 }
@@ -38,7 +44,7 @@ impl RowTable {
     /// A table of no entries, with room for an entry of every node of a mesh of so many.
     pub fn new(alloc: Global, nodes: usize) -> Result<RowTable, NoMemory>
         requires { nodes ≤ MOST_NODES }
-        ensures { IfOk result (λ t. t ≡ record { entries = maps.empty; rooms = nodes_below nodes; nodes = nodes }) }
+        ensures { IfOk result (λ t. t ≡ without_entries (nodes_below nodes) nodes) }
     {
         let mut rows = Vec::with_capacity(alloc, nodes)?;
         for _ in 0..nodes {
@@ -84,7 +90,7 @@ impl Table for RowTable {
         ensures here { OnOk result (sets.contains self.new.rooms d ≡ true) }
         ensures there { sets.contains self.old.rooms d ≡ true → IsOk result }
         ensures still { sets.contains self.old.rooms d ≡ true → self.new.rooms ≡ self.old.rooms }
-        ensures keeps { (q : ℕ) → sets.contains self.old.rooms q ≡ true → sets.contains self.new.rooms q ≡ true }
+        ensures keeps { AreAmong self.old.rooms self.new.rooms }
         ensures refused { OnErr result (self.new.rooms ≡ self.old.rooms) }
         ensures entries { self.new.entries ≡ self.old.entries }
         ensures nodes { self.new.nodes ≡ self.old.nodes }

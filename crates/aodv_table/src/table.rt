@@ -2,7 +2,7 @@
 ghost use Rattle.std.specs.Prelude.{◌≡◌, ◌<◌, ◌≤◌, ◌↔◌, ℕ, true, false, not, MatchResult, IsSome, OnOk, OnErr, IsOk};
 ghost use Rattle.std.specs.FinMap as maps;
 ghost use Rattle.std.specs.FinSet as sets;
-ghost use Rattle.mesh_base.specs.Members.{NodeIds};
+ghost use Rattle.mesh_base.specs.Members.{NodeIds, AreAmong};
 ghost use Rattle.aodv_entry.specs.declared.entry.Flag.TheVariants.{Val};
 ghost use Rattle.aodv_model.specs.Tables.{Table as Entries, update, invalidate, add_pre, unreachable_by};
 ghost use Rattle.aodv_model.specs.Handlers.{changes_nothing};
@@ -12,7 +12,8 @@ use crate::merge::{entry_after, entry_by, is_changed};
 use aodv_entry::{Dests, Entry, Flag, inc};
 use mesh_base::{MOST_NODES, NoMemory, NodeSet};
 
-/// The routing table of a node, however it is kept. Destinations and next hops are nodes of one mesh.
+/// The routing table of a node, however it is kept. Destinations and next hops are nodes of one
+/// mesh.
 ///
 /// A destination gets room for an entry by `make_room`, and keeps it. No other call takes memory. A
 /// table says how it reads and writes one entry, and keeps the set of its valid destinations. What
@@ -50,7 +51,7 @@ pub trait Table: Drop {
         ensures here { OnOk result (sets.contains (rooms self.new) d ≡ true) }
         ensures there { sets.contains (rooms self.old) d ≡ true → IsOk result }
         ensures still { sets.contains (rooms self.old) d ≡ true → rooms self.new ≡ rooms self.old }
-        ensures keeps { (q : ℕ) → sets.contains (rooms self.old) q ≡ true → sets.contains (rooms self.new) q ≡ true }
+        ensures keeps { AreAmong (rooms self.old) (rooms self.new) }
         ensures refused { OnErr result (rooms self.new ≡ rooms self.old) }
         ensures entries { entries self.new ≡ entries self.old }
         ensures nodes { nodes self.new ≡ nodes self.old };
@@ -63,8 +64,8 @@ pub trait Table: Drop {
         ensures rooms { rooms self.new ≡ rooms self.old }
         ensures nodes { nodes self.new ≡ nodes self.old };
 
-    /// Takes r, a valid entry, for the destination d (AWN's update), and answers whether the entries
-    /// changed.
+    /// Takes r, a valid entry, for the destination d (AWN's update), and answers whether the
+    /// entries changed.
     fn update(&mut self, d: usize, r: Entry) -> bool
         requires below { d < nodes self.old }
         requires room { sets.contains (rooms self.old) d ≡ true }
@@ -122,7 +123,8 @@ pub trait Table: Drop {
     fn valid(&self) -> NodeSet
         ensures { result ≡ valid_dests (entries self.now) };
 
-    /// The destinations that have a valid entry with that next hop. All valid entries are looked at.
+    /// The destinations that have a valid entry with that next hop. All valid entries are looked
+    /// at.
     fn through(&self, next: usize) -> NodeSet
         ensures { result ≡ dests_by (entries self.now) next }
     {
@@ -140,12 +142,13 @@ pub trait Table: Drop {
         found
     }
 
-    /// The destinations that have a valid entry with that next hop, each with its number raised: they
-    /// take the place of what `out` held. Or the least of them whose number is the greatest and can't
-    /// be raised; what `out` holds is then left open. All valid entries are looked at.
+    /// The destinations that have a valid entry with that next hop, each with its number raised:
+    /// they take the place of what `out` held. Or the least of them whose number is the greatest
+    /// and can't be raised; what `out` holds is then left open. All valid entries are looked at.
     fn dests_via(&self, next: usize, out: &mut Dests) -> Result<(), usize>
         ensures { let raised = unreachable_by (entries self.now) next in
-            MatchResult result (λ _. (is_past raised ≡ false) × (out.new ≡ raised)) (IsLeastPast raised) }
+            MatchResult result
+            (λ _. (is_past raised ≡ false) × (out.new ≡ raised)) (IsLeastPast raised) }
     {
         out.clear();
         let nodes = self.nodes();

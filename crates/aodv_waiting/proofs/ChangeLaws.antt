@@ -27,12 +27,12 @@ marks_apart : (b : Bool) (needing : NodeIds) (d q : ℕ) → q ≢ d → sets.co
 marks_apart true needing d q apart = refl
 marks_apart false needing d q apart = in_apart needing d q apart
 
-came : (b : Bool) (needing : NodeIds) (d : ℕ) (bs : List Body) (x : Body) → b ≡ has_data bs
+outcome_of_piece : (b : Bool) (needing : NodeIds) (d : ℕ) (bs : List Body) (x : Body) → b ≡ has_data bs
     → waiting_of (sets.contains (cond b needing (sets.insert needing d)) d) (bs ++ x ∷ []) ≡ Some (with_body (waiting_of (sets.contains needing d) bs) x)
-came true needing d [] x e = cc
-came false needing d [] x e = rw (in_here needing d) refl
-came true needing d (b ∷ bs) x e = refl
-came false needing d (b ∷ bs) x e = cc
+outcome_of_piece true needing d [] x e = cc
+outcome_of_piece false needing d [] x e = rw (in_here needing d) refl
+outcome_of_piece true needing d (b ∷ bs) x e = refl
+outcome_of_piece false needing d (b ∷ bs) x e = cc
 
 pub added : (rows : Rows) (with_data needing : NodeIds) (d : ℕ) (row : List Body) (x : Body) → AreRows rows with_data needing → d < length rows → row ≡ bodies_at rows d ++ x ∷ []
     → store_of (marks_new needing with_data d) (put rows d row) ≡ cores.add (store_of needing rows) d x
@@ -40,7 +40,7 @@ unfolding cores.add
 added rows with_data needing d row x are lt is =
     row_shown needing (marks_new needing with_data d) rows d row (cores.add (store_of needing rows) d x) lt
     (ap (waiting_of (sets.contains (marks_new needing with_data d) d)) is
-    ∙ came (sets.contains with_data d) needing d (bodies_at rows d) x (are.data_are d)
+    ∙ outcome_of_piece (sets.contains with_data d) needing d (bodies_at rows d) x (are.data_are d)
     ∙ ap (λ (o : Option Waiting). Some (with_body o x)) (sym (get-store_of needing rows d))
     ∙ sym (get_here (store_of needing rows) d (with_body (maps.get (store_of needing rows) d) x)))
     (λ q apart. marks_apart (sets.contains with_data d) needing d q apart)

@@ -1,4 +1,5 @@
--- Read in this order. What a store is, and its changes, are definitions of aodv_model (its specs/Cores).
+-- Read in this order. What a store is, and its changes, are definitions of aodv_model (its
+-- specs/Cores).
 -- Seen: what is seen of a store: its data, and for how many more there is room.
 pub mod Seen
 -- Rows: how one ring of data for each destination, and two sets of destinations, show a store.

@@ -1,5 +1,5 @@
--- A store kept as a list of data for each node, the set of the destinations with data, and the set of those that need
--- a request.
+-- A store kept as a list of data for each node, the set of the destinations with data, and the set
+-- of those that need a request.
 use Rattle.std.specs.Prelude.{◌≡◌, ◌≤◌, ℕ, ◌+◌, ◌-◌, Bool, true, List, [], ◌∷◌, length, slice_index_or, Option, Some, None}
 use Rattle.std.specs.List.{AllByRecursion}
 use Rattle.std.specs.FinMap as maps
@@ -32,7 +32,8 @@ with_waiting store d (Some s) = maps.insert store d s
 -- the store of the rows, the first of which is that of node i
 unfoldable pub store_from : NodeIds → ℕ → Rows → Store
 store_from needing i [] = maps.empty
-store_from needing i (row ∷ rows) = with_waiting (store_from needing (i + 1) rows) i (waiting_of (sets.contains needing i) row)
+store_from needing i (row ∷ rows) =
+    with_waiting (store_from needing (i + 1) rows) i (waiting_of (sets.contains needing i) row)
 
 -- the store that the rows show, with a request needed for the marked destinations
 unfoldable pub store_of : NodeIds → Rows → Store
@@ -42,8 +43,8 @@ store_of needing rows = store_from needing 0 rows
 abbrev pub room_of : {X Z : Type 0} → VecDeque X Z → ℕ
 room_of ring = deque_capacity ring - deque_len ring
 
--- what the rows and the two sets keep: no more rows than a mesh has nodes; the destinations with data; only such need a request;
--- each datum has its size
+-- what the rows and the two sets keep: no more rows than a mesh has nodes; the destinations with
+-- data; only such need a request; each datum has its size
 pub record AreRows (rows : Rows) (with_data needing : NodeIds) : Type 0 where
   pub few : length rows ≤ MOST_NODES
   pub data_are : (d : ℕ) → sets.contains with_data d ≡ has_data (bodies_at rows d)

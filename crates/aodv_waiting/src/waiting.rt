@@ -24,22 +24,20 @@ pub struct Waiting {
 }
 
 impl Model for Waiting {
-    ghost use Rattle.std.specs.Prelude.{ℕ, List, map};
+    ghost use Rattle.std.specs.Prelude.{map};
     ghost use Rattle.std.specs.VecDeque.{deque_items};
-    ghost use Rattle.std.specs.Coded.{coded_ℕ, coded_list, coded×, code_by};
-    ghost use Rattle.std.specs.FinMap as maps;
-    ghost use Rattle.std.proofs.Common.{refl};
-    ghost use Rattle.aodv_model.specs.Cores.{Store};
-    ghost use Rattle.aodv_model.specs.Codes.{waiting_code};
-    ghost use Rattle.aodv_waiting.specs.Seen.{RoomyStore};
+    ghost use Rattle.aodv_waiting.specs.Seen.{RoomyStore, store_code};
 
     ghost Value = { RoomyStore };
 
-    ghost coded = { code_by (Store × List ℕ) (coded× (maps.code coded_ℕ waiting_code) (coded_list coded_ℕ)) (λ s. (s.store, s.rooms)) (λ p. record { store = p.0; rooms = p.1 }) (λ _. refl) };
+    ghost coded = { store_code };
 
     ghost use Rattle.aodv_waiting.specs.Rows.{store_of, room_of, AreRows};
 
-    ghost view = { λ a. record { store = store_of a.needing (map deque_items a.rows.items); rooms = map room_of a.rows.items } };
+    ghost view = { λ a. record {
+      store = store_of a.needing (map deque_items a.rows.items);
+      rooms = map room_of a.rows.items;
+    } };
 
     ghost invariant = { λ a. AreRows (map deque_items a.rows.items) a.with_data a.needing };
 }
@@ -51,7 +49,8 @@ fn make_room_in(ring: &mut VecDeque<Bytes>) -> Result<(), NoMemory>
     ensures len { deque_len ring.new ≡ deque_len ring.old }
     ensures here { OnOk result (deque_len ring.new < deque_capacity ring.new) }
     ensures there { deque_len ring.old < deque_capacity ring.old → IsOk result }
-    ensures still { deque_len ring.old < deque_capacity ring.old → deque_capacity ring.new ≡ deque_capacity ring.old }
+    ensures still { deque_len ring.old < deque_capacity ring.old
+        → deque_capacity ring.new ≡ deque_capacity ring.old }
     ensures keeps { deque_capacity ring.old ≤ deque_capacity ring.new }
     ensures refused { OnErr result (deque_capacity ring.new ≡ deque_capacity ring.old) }
 {
@@ -69,7 +68,8 @@ fn make_room_in(ring: &mut VecDeque<Bytes>) -> Result<(), NoMemory>
 // A destination without data before needs a request.
 fn mark_if_new(needing: &mut NodeSet, with_data: &NodeSet, d: usize)
     requires { d < 256 }
-    ensures { needing.new ≡ (if sets.contains with_data.now d then needing.old else sets.insert needing.old d) }
+    ensures { needing.new
+        ≡ (if sets.contains with_data.now d then needing.old else sets.insert needing.old d) }
 {
     if !with_data.has(d) {
         needing.add(d);
@@ -78,7 +78,8 @@ fn mark_if_new(needing: &mut NodeSet, with_data: &NodeSet, d: usize)
 
 // A destination with data needs a request.
 fn mark_if_waiting(needing: &mut NodeSet, with_data: &NodeSet, d: usize)
-    ensures { needing.new ≡ (if sets.contains with_data.now d then sets.insert needing.old d else needing.old) }
+    ensures { needing.new
+        ≡ (if sets.contains with_data.now d then sets.insert needing.old d else needing.old) }
 {
     if with_data.has(d) {
         needing.add(d);
@@ -124,7 +125,8 @@ impl Waiting {
         requires room { 0 < slice_index self.old.rooms d }
         requires datum { IsDatum body }
         ensures store { self.new.store ≡ add self.old.store d body }
-        ensures rooms { self.new.rooms ≡ slice_set self.old.rooms d (slice_index self.old.rooms d - 1) }
+        ensures rooms { let room = slice_index self.old.rooms d in
+            self.new.rooms ≡ slice_set self.old.rooms d (room - 1) }
     {
         let row = &mut self.rows[d];
         row.push_back_reserved(body);
@@ -143,7 +145,8 @@ impl Waiting {
     pub fn first(&self, d: usize) -> Option<&[u8]>
         requires { d < length self.now.rooms }
         ensures some { IsSome result ↔ IsTrue (in_qD self.now.store d) }
-        ensures value { IfSome result (λ body. body.now ≡ first_body (bodies_in (maps.get self.now.store d))) }
+        ensures value { let bodies = bodies_in (maps.get self.now.store d) in
+            IfSome result (λ body. body.now ≡ first_body bodies) }
         ensures datum { IfSome result (λ body. IsDatum body.now) }
     {
         match self.rows[d].front() {

@@ -9,7 +9,7 @@ use Rattle.aodv_wire.specs.RouteRequest as rreq
 use Rattle.aodv_wire.specs.RouteReply as rrep
 use Rattle.aodv_wire.specs.RouteError as rerr
 use Rattle.aodv_wire.specs.DataPacket as data_packet
-use Rattle.aodv_wire.specs.Spells.{kind, refusal, said}
+use Rattle.aodv_wire.specs.Spells.{kind, refusal, message_in_fields}
 
 abbrev pub AreBytes : List ℕ → Type 0
 AreBytes b = (k : ℕ) → slice_index b k < 256
@@ -46,18 +46,18 @@ pub refusal_data : (b : List ℕ) → 0 < length b → kind b ≡ 16 → refusal
 unfolding refusal
 refusal_data b some is = rw (ne_eqb (length b) 0 (λ e. omega arith), is) refl
 
-pub said_rreq : (b : List ℕ) → kind b ≡ 1 → said b ≡ Rreq (rreq.request b)
-unfolding said
+pub said_rreq : (b : List ℕ) → kind b ≡ 1 → message_in_fields b ≡ Rreq (rreq.request b)
+unfolding message_in_fields
 said_rreq b is = rw is refl
 
-pub said_rrep : (b : List ℕ) → kind b ≡ 2 → said b ≡ Rrep (rrep.reply b)
-unfolding said
+pub said_rrep : (b : List ℕ) → kind b ≡ 2 → message_in_fields b ≡ Rrep (rrep.reply b)
+unfolding message_in_fields
 said_rrep b is = rw is refl
 
-pub said_rerr : (b : List ℕ) → kind b ≡ 3 → said b ≡ Rerr (rerr.destinations b)
-unfolding said
+pub said_rerr : (b : List ℕ) → kind b ≡ 3 → message_in_fields b ≡ Rerr (rerr.destinations b)
+unfolding message_in_fields
 said_rerr b is = rw is refl
 
-pub said_data : (b : List ℕ) → kind b ≡ 16 → said b ≡ Parcel (data_packet.datum b)
-unfolding said
+pub said_data : (b : List ℕ) → kind b ≡ 16 → message_in_fields b ≡ Parcel (data_packet.datum b)
+unfolding message_in_fields
 said_data b is = rw is refl

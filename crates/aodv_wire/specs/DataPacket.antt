@@ -1,4 +1,5 @@
--- A data packet: three lines and a body of 1 to 512 bytes. RFC 3561 has none; this layout is this project's own.
+-- A data packet: three lines and a body of 1 to 512 bytes. RFC 3561 has none; this layout is this
+-- project's own.
 use Rattle.std.specs.Prelude.{ℕ, ◌==◌, not, nat_lt, List, [], ◌∷◌, ◌++◌, length, drop, Option}
 use Rattle.mesh_base.specs.declared.addr.Addr.{Addr}
 use Rattle.aodv_wire.specs.declared.error.WireError.{WireError}

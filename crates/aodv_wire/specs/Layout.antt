@@ -23,19 +23,23 @@ number_at b p = big_from (4 * p.line) 4 b / unit p % 2 ^ p.bits
 -- writing: the number of a line in which each of these fields has its value
 abbrev pub line_of : {F : Type 0} → (F → Place) → (F → ℕ) → ℕ → List F → ℕ
 line_of place value line [] = 0
-line_of place value line (f ∷ fs) = (if (place f).line == line then value f * unit (place f) else 0) + line_of place value line fs
+line_of place value line (f ∷ fs) =
+    (if (place f).line == line then value f * unit (place f) else 0) + line_of place value line fs
 
 -- the bytes of so many lines, from this one on
 abbrev pub lines_from : {F : Type 0} → (F → Place) → (F → ℕ) → List F → ℕ → ℕ → List ℕ
 lines_from place value fs line zero = []
-lines_from place value fs line (suc n) = big_bytes 4 (line_of place value line fs) ++ lines_from place value fs (suc line) n
+lines_from place value fs line (suc n) =
+    big_bytes 4 (line_of place value line fs) ++ lines_from place value fs (suc line) n
 
 -- the bytes of n lines in which each of these fields has its value
 abbrev pub laid_out : {F : Type 0} → (F → Place) → (F → ℕ) → List F → ℕ → List ℕ
 laid_out place value fs n = lines_from place value fs 0 n
 
--- a table is whole: its fields stand one after the other from bit `from` to bit `to`, none across the end of a line
+-- a table is whole: its fields stand one after the other from bit `from` to bit `to`, none across
+-- the end of a line
 abbrev pub is_whole : {F : Type 0} → (F → Place) → List F → ℕ → ℕ → Bool
 is_whole place [] from to = from == to
 is_whole place (f ∷ fs) from to =
-    (32 * (place f).line + (place f).bit == from) && nat_le ((place f).bit + (place f).bits) 32 && is_whole place fs (from + (place f).bits) to
+    (32 * (place f).line + (place f).bit == from) && nat_le
+    ((place f).bit + (place f).bits) 32 && is_whole place fs (from + (place f).bits) to

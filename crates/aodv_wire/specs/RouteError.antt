@@ -1,4 +1,5 @@
--- A route error, RERR: RFC 3561 section 5.3. It has one line, and two for each destination that can't be reached.
+-- A route error, RERR: RFC 3561 section 5.3. It has one line, and two for each destination that
+-- can't be reached.
 use Rattle.std.specs.Prelude.{◌<◌, ◌≤◌, ℕ, zero, suc, ◌+◌, ◌*◌, ◌==◌, not, nat_lt, if◌then◌else◌, List, [], ◌∷◌, ◌++◌, length, map, drop, Option, Some, None, option_map}
 use Rattle.std.specs.List.{flat_map, list_any}
 use Rattle.mesh_base.specs.declared.limits.TheConstants.{MOST_NODES}
@@ -42,7 +43,8 @@ found b f = number_at b (table f)
 
 -- the pair of address and number in the first eight bytes
 abbrev pub pair : List ℕ → Addr × ℕ
-pair b = (record { 0 = number_at b (pair_table UnreachableAddress) }, number_at b (pair_table UnreachableNumber))
+pair b =
+    (record { 0 = number_at b (pair_table UnreachableAddress) }, number_at b (pair_table UnreachableNumber))
 
 -- n pairs, one after the other
 abbrev pub pairs : ℕ → List ℕ → List (Addr × ℕ)
@@ -56,7 +58,8 @@ destinations b = pairs (found b DestCount) (drop 4 b)
 -- the first of these addresses that stands among those before it, or among these
 abbrev pub first_repeated : List Addr → List Addr → Option Addr
 first_repeated before [] = None
-first_repeated before (a ∷ after) = if list_any (λ s. s.0 == a.0) before then Some a else first_repeated (before ++ a ∷ []) after
+first_repeated before (a ∷ after) =
+    if list_any (λ s. s.0 == a.0) before then Some a else first_repeated (before ++ a ∷ []) after
 
 abbrev pub addresses : List (Addr × ℕ) → List Addr
 addresses ps = map (λ p. p.0) ps

@@ -27,7 +27,8 @@ table OriginatorAddress = place 3 0 32
 table Lifetime = place 4 0 32
 
 abbrev pub fields : List Field
-fields = Kind ∷ R ∷ A ∷ Reserved ∷ PrefixSize ∷ HopCount ∷ DestinationAddress ∷ DestinationNumber ∷ OriginatorAddress ∷ Lifetime ∷ []
+fields =
+    Kind ∷ R ∷ A ∷ Reserved ∷ PrefixSize ∷ HopCount ∷ DestinationAddress ∷ DestinationNumber ∷ OriginatorAddress ∷ Lifetime ∷ []
 
 -- reading: what the bytes have in a field
 abbrev pub found : List ℕ → Field → ℕ
@@ -47,11 +48,13 @@ abbrev pub refusal : List ℕ → Option WireError
 refusal b = first_of (
     -- 5.2: five lines
     refuse_if (not (length b == 20)) WrongLength
-    -- 5.2: R serves multicast; 6.7: A asks for an acknowledgment; 7: a prefix size makes it a route to a subnet
+    -- 5.2: R serves multicast; 6.7: A asks for an acknowledgment; 7: a prefix size makes it a route
+    -- to a subnet
     ∷ refuse_if (found b R == 1) OutsideProfile
     ∷ refuse_if (found b A == 1) OutsideProfile
     ∷ refuse_if (not (found b PrefixSize == 0)) OutsideProfile
-    -- 6.6.1, 6.6.2: the number is the destination's own, or that of a valid route; in AWN neither is 0
+    -- 6.6.1, 6.6.2: the number is the destination's own, or that of a valid route; in AWN neither
+    -- is 0
     ∷ refuse_if (found b DestinationNumber == 0) ZeroNumber
     ∷ [])
 

@@ -9,7 +9,8 @@ use Rattle.aodv_wire.specs.Refused.{refuse_if, first_of}
 abbrev pub type_number : ℕ
 type_number = 1
 
--- the fields, as the section's figure names them: J join, R repair, G gratuitous reply, D destination only, U unknown number
+-- the fields, as the section's figure names them: J join, R repair, G gratuitous reply, D
+-- destination only, U unknown number
 pub data Field : Type 0 where
   Kind J R G D U Reserved HopCount RreqId DestinationAddress DestinationNumber OriginatorAddress OriginatorNumber : Field
 
@@ -30,7 +31,8 @@ table OriginatorAddress = place 4 0 32
 table OriginatorNumber = place 5 0 32
 
 abbrev pub fields : List Field
-fields = Kind ∷ J ∷ R ∷ G ∷ D ∷ U ∷ Reserved ∷ HopCount ∷ RreqId ∷ DestinationAddress ∷ DestinationNumber ∷ OriginatorAddress ∷ OriginatorNumber ∷ []
+fields =
+    Kind ∷ J ∷ R ∷ G ∷ D ∷ U ∷ Reserved ∷ HopCount ∷ RreqId ∷ DestinationAddress ∷ DestinationNumber ∷ OriginatorAddress ∷ OriginatorNumber ∷ []
 
 -- reading: what the bytes have in a field
 abbrev pub found : List ℕ → Field → ℕ
@@ -53,12 +55,14 @@ abbrev pub refusal : List ℕ → Option WireError
 refusal b = first_of (
     -- 5.1: six lines
     refuse_if (not (length b == 24)) WrongLength
-    -- 5.1: J and R serve multicast; 6.6.3: G asks for a gratuitous reply; 6.3: D lets only the destination answer
+    -- 5.1: J and R serve multicast; 6.6.3: G asks for a gratuitous reply; 6.3: D lets only the
+    -- destination answer
     ∷ refuse_if (found b J == 1) OutsideProfile
     ∷ refuse_if (found b R == 1) OutsideProfile
     ∷ refuse_if (found b G == 1) OutsideProfile
     ∷ refuse_if (found b D == 1) OutsideProfile
-    -- 6.1: a node raises its own number before it sends a request; AWN lets it begin at 1, so 0 is no number
+    -- 6.1: a node raises its own number before it sends a request; AWN lets it begin at 1, so 0 is
+    -- no number
     ∷ refuse_if (found b OriginatorNumber == 0) ZeroNumber
     ∷ [])
 

@@ -1,5 +1,5 @@
 -- Which bytes spell which message, why others spell none, and what is written of a message.
-use Rattle.std.specs.Prelude.{◌≡◌, ℕ, ◌==◌, if◌then◌else◌, List, length, Option, Some, None}
+use Rattle.std.specs.Prelude.{◌≡◌, ℕ, ◌==◌, Bool, if◌then◌else◌, List, length, Option, Some, None}
 use Rattle.aodv_wire.specs.declared.error.WireError.{WireError}
 use Rattle.aodv_wire.specs.declared.error.WireError.TheVariants.{Short, UnknownType}
 use Rattle.aodv_wire.specs.declared.message.Message.{Message}
@@ -14,6 +14,10 @@ use Rattle.aodv_wire.specs.DataPacket as data_packet
 abbrev pub kind : List ℕ → ℕ
 kind b = number_at b (place 0 0 8)
 
+-- the packet is a datum's
+abbrev pub is_data : List ℕ → Bool
+is_data b = kind b == data_packet.type_number
+
 -- the first refusal that applies to the bytes
 unfoldable pub refusal : List ℕ → Option WireError
 refusal b =
@@ -25,8 +29,8 @@ refusal b =
     else Some (UnknownType (kind b))
 
 -- the message that stands in the fields of the packet's type, whether or not it is refused
-unfoldable pub said : List ℕ → Message
-said b =
+unfoldable pub message_in_fields : List ℕ → Message
+message_in_fields b =
     if kind b == rreq.type_number then Rreq (rreq.request b)
     else if kind b == rrep.type_number then Rrep (rrep.reply b)
     else if kind b == rerr.type_number then Rerr (rerr.destinations b)
@@ -35,7 +39,7 @@ said b =
 -- the bytes spell the message: no refusal applies, and it stands in their fields
 pub record Spells (b : List ℕ) (m : Message) : Type 0 where
   pub allowed : refusal b ≡ None
-  pub stands : said b ≡ m
+  pub stands : message_in_fields b ≡ m
 
 -- the one spelling that is written of a message
 unfoldable pub written : Message → List ℕ

@@ -23,7 +23,8 @@ pub enum WireError {
     /// A route error names no destination.
     #[error("no destination")]
     NoDestinations,
-    /// A route error names a destination twice: the first, in the order of its pairs, that an earlier pair has too.
+    /// A route error names a destination twice: the first, in the order of its pairs, that an
+    /// earlier pair has too.
     #[error("a destination named twice")]
     Repeated(Addr),
     /// One of a data packet's bytes 1 to 3 isn't 0.

@@ -1,6 +1,7 @@
 //! The fields of a packet's first line, and reading numbers.
 ghost use Rattle.std.specs.Prelude.{◌≡◌, ◌+◌, ◌*◌, ◌≤◌, ◌<◌, length};
 ghost use Rattle.aodv_wire.specs.Layout.{number_at, place};
+ghost use Rattle.aodv_wire.specs.Spells.{is_data};
 
 use byteorder::{BigEndian, ByteOrder};
 
@@ -19,11 +20,15 @@ pub(crate) const PREFIX_SIZE: u8 = 0x1f;
 /// N of a route error.
 pub(crate) const NO_DELETE: u8 = 0x80;
 
+/// The type of a data packet.
+const DATA_TYPE: u8 = 16;
+
 /// The number in a whole line.
 pub(crate) fn line_at(bytes: &[u8], line: usize) -> u32
     requires { 4 * line + 4 ≤ length bytes.now }
     ensures { result ≡ number_at bytes.now (place line 0 32) }
 {
+    // It says that there are fewer than 2^64 bytes, so their places are numbers of a usize.
     let _len = bytes.len();
     let (_, rest) = bytes.split_at(4 * line);
     BigEndian::read_u32(rest)
@@ -35,6 +40,13 @@ pub(crate) fn kind(bytes: &[u8]) -> u8
     ensures { result ≡ number_at bytes.now (place 0 0 8) }
 {
     bytes[0]
+}
+
+/// Whether the packet is a datum's.
+pub fn is_data(packet: &[u8]) -> bool
+    ensures { result ≡ is_data packet.now }
+{
+    !packet.is_empty() && packet[0] == DATA_TYPE
 }
 
 /// The number in the last eight bits of the first line.

@@ -11,7 +11,8 @@ pub fn one_message()
     ensures { SpellsOne }
 {}
 
-/// The address of a refusal is the first that stands earlier too; where no address is refused, they are distinct.
+/// The address of a refusal is the first that stands earlier too; where no address is refused, they
+/// are distinct.
 pub fn repeated_is_first()
     ensures some { RepeatedIsFirst }
     ensures none { OthersAreDistinct }

@@ -11,6 +11,7 @@ mod reading;
 mod writing;
 
 pub use error::WireError;
+pub use field::is_data;
 pub use laws::{each_bit_once, one_message, repeated_is_first};
 pub use message::{DataView, Message, RerrView, Rrep, Rreq};
 pub use reading::read;

@@ -7,7 +7,8 @@ use crate::field::line_at;
 use mesh_base::{Addr, LONGEST_DATUM};
 use std::marker::Model;
 
-/// A route request: RFC 3561 section 5.1. `dip` is the destination, `oip` the originator, and `dsn` and `osn` are their sequence numbers.
+/// A route request: RFC 3561 section 5.1. `dip` is the destination, `oip` the originator, and `dsn`
+/// and `osn` are their sequence numbers.
 #[derive(Clone, Copy, Debug, PartialEq, Eq)]
 pub struct Rreq {
     pub hops: u8,
@@ -20,7 +21,8 @@ pub struct Rreq {
     pub osn: u32,
 }
 
-/// A route reply: RFC 3561 section 5.2. `dip` is the destination that was asked for, with its number `dsn`, and `oip` who asked.
+/// A route reply: RFC 3561 section 5.2. `dip` is the destination that was asked for, with its
+/// number `dsn`, and `oip` who asked.
 #[derive(Clone, Copy, Debug, PartialEq, Eq)]
 pub struct Rrep {
     pub hops: u8,
@@ -29,7 +31,8 @@ pub struct Rrep {
     pub oip: Addr,
 }
 
-/// A route error, RFC 3561 section 5.3: pairs of a destination and its number, as they lie in the packet.
+/// A route error, RFC 3561 section 5.3: pairs of a destination and its number, as they lie in the
+/// packet.
 #[derive(Drop)]
 pub struct RerrView<'a> {
     pub(crate) lines: &'a [u8],
@@ -44,7 +47,8 @@ impl<'a> Model for RerrView<'a> {
 
     ghost view = { λ v. pairs (length v.lines.now / 8) v.lines.now };
 
-    ghost invariant = { λ v. (length v.lines.now ≡ 8 * (length v.lines.now / 8)) × (length v.lines.now / 8 ≤ 255) };
+    ghost invariant = { λ v. (length v.lines.now ≡ 8 * (length v.lines.now / 8))
+        × (length v.lines.now / 8 ≤ 255) };
 }
 
 impl RerrView<'_> {
@@ -64,6 +68,7 @@ impl RerrView<'_> {
         ensures { slice_get self.now k ≡ Some result }
     {
         let lines = self.lines;
+        // It says that the lines have fewer than 2^64 bytes.
         let _len = lines.len();
         (Addr(line_at(lines, 2 * k)), line_at(lines, 2 * k + 1))
     }
@@ -75,6 +80,7 @@ impl RerrView<'_> {
         ensures { slice_get (addresses self.now) k ≡ Some result }
     {
         let lines = self.lines;
+        // It says that the lines have fewer than 2^64 bytes.
         let _len = lines.len();
         Addr(line_at(lines, 2 * k))
     }

@@ -1,7 +1,8 @@
 //! Reading a packet.
 ghost use Rattle.std.specs.Prelude.{◌≡◌, ◌<◌, length, Some, Ok, MatchResult};
 ghost use Rattle.aodv_wire.specs.declared.message.Message.{Message as a_message};
-ghost use Rattle.aodv_wire.specs.Spells.{Spells, kind as kind_lem, refusal};
+ghost use Rattle.aodv_wire.specs.Spells.{Spells, refusal};
+ghost use Rattle.aodv_wire.specs.Spells as packets;
 
 use crate::error::WireError;
 use crate::field::{
@@ -10,10 +11,10 @@ use crate::field::{
 use crate::message::{DataView, Message, RerrView, Rrep, Rreq};
 use mesh_base::Addr;
 
-#[tactic(auto, unfolding(crate::specs::Spells::refusal, crate::specs::Spells::said))]
+#[tactic(auto, unfolding(crate::specs::Spells::refusal, crate::specs::Spells::message_in_fields))]
 fn read_rreq(bytes: &[u8]) -> Result<Message<'_>, WireError>
     requires some { 0 < length bytes.now }
-    requires kind { kind_lem bytes.now ≡ 1 }
+    requires kind { packets.kind bytes.now ≡ 1 }
     ensures { MatchResult result (Spells bytes.now) (λ e. refusal bytes.now ≡ Some e) }
 {
     if bytes.len() != 24 {
@@ -37,10 +38,10 @@ fn read_rreq(bytes: &[u8]) -> Result<Message<'_>, WireError>
     }))
 }
 
-#[tactic(auto, unfolding(crate::specs::Spells::refusal, crate::specs::Spells::said))]
+#[tactic(auto, unfolding(crate::specs::Spells::refusal, crate::specs::Spells::message_in_fields))]
 fn read_rrep(bytes: &[u8]) -> Result<Message<'_>, WireError>
     requires some { 0 < length bytes.now }
-    requires kind { kind_lem bytes.now ≡ 2 }
+    requires kind { packets.kind bytes.now ≡ 2 }
     ensures { MatchResult result (Spells bytes.now) (λ e. refusal bytes.now ≡ Some e) }
 {
     if bytes.len() != 20 {
@@ -61,10 +62,10 @@ fn read_rrep(bytes: &[u8]) -> Result<Message<'_>, WireError>
     }))
 }
 
-#[tactic(auto, unfolding(crate::specs::Spells::refusal, crate::specs::Spells::said))]
+#[tactic(auto, unfolding(crate::specs::Spells::refusal, crate::specs::Spells::message_in_fields))]
 fn read_rerr(bytes: &[u8]) -> Result<Message<'_>, WireError>
     requires some { 0 < length bytes.now }
-    requires kind { kind_lem bytes.now ≡ 3 }
+    requires kind { packets.kind bytes.now ≡ 3 }
     ensures { MatchResult result (Spells bytes.now) (λ e. refusal bytes.now ≡ Some e) }
 {
     let len = bytes.len();
@@ -89,10 +90,10 @@ fn read_rerr(bytes: &[u8]) -> Result<Message<'_>, WireError>
     }
 }
 
-#[tactic(auto, unfolding(crate::specs::Spells::refusal, crate::specs::Spells::said))]
+#[tactic(auto, unfolding(crate::specs::Spells::refusal, crate::specs::Spells::message_in_fields))]
 fn read_data(bytes: &[u8]) -> Result<Message<'_>, WireError>
     requires some { 0 < length bytes.now }
-    requires kind { kind_lem bytes.now ≡ 16 }
+    requires kind { packets.kind bytes.now ≡ 16 }
     ensures { MatchResult result (Spells bytes.now) (λ e. refusal bytes.now ≡ Some e) }
 {
     if bytes.len() < 13 || bytes.len() > 524 {

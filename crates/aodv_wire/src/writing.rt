@@ -54,7 +54,8 @@ pub fn write_rreq(m: &Rreq, out: &mut Packet)
     put_line(out, m.osn);
 }
 
-/// Writes a route reply in place of what `out` held: RFC 3561 section 5.2. Its lifetime is the longest.
+/// Writes a route reply in place of what `out` held: RFC 3561 section 5.2. Its lifetime is the
+/// longest.
 pub fn write_rrep(m: &Rrep, out: &mut Packet)
     requires { 1 ≤ m.now.dsn }
     ensures written { out.new.items ≡ written (a_rrep m.now) }
@@ -86,8 +87,10 @@ pub fn write_rerr(pairs: &[(Addr, u32)], out: &mut Packet)
 pub fn write_data(dip: Addr, oip: Addr, body: &[u8], out: &mut Packet)
     requires some { 1 ≤ length body.now }
     requires few { length body.now ≤ LONGEST_DATUM }
-    ensures written { out.new.items ≡ written (a_parcel (record { dip = dip; oip = oip; body = body.now })) }
-    ensures spells { Spells out.new.items (a_parcel (record { dip = dip; oip = oip; body = body.now })) }
+    ensures written { out.new.items
+        ≡ written (a_parcel (record { dip = dip; oip = oip; body = body.now })) }
+    ensures spells { Spells out.new.items
+        (a_parcel (record { dip = dip; oip = oip; body = body.now })) }
 {
     out.clear();
     put_first_line(out, 16, 0, 0);

@@ -1,4 +1,5 @@
--- An address, a number below 2 ^ 32, as four numbers from 0 to 255 without leading zeros, joined by dots.
+-- An address, a number below 2 ^ 32, as four numbers from 0 to 255 without leading zeros, joined by
+-- dots.
 use Rattle.std.specs.Prelude.{ℕ, ◌+◌, ◌*◌, ◌/◌, ◌%◌, List, [], ◌∷◌, ◌++◌, Option, Some, None, option_and_then}
 use Rattle.std.specs.Fmt.{decimal}
 use Rattle.mesh_base.specs.Numbers.{number_up_to}
@@ -17,4 +18,6 @@ address_of bytes = address_from (parts 46 bytes)
 
 -- an address as it is written
 abbrev pub dotted : ℕ → List ℕ
-dotted a = decimal (a / 16777216) ++ 46 ∷ decimal (a / 65536 % 256) ++ 46 ∷ decimal (a / 256 % 256) ++ 46 ∷ decimal (a % 256)
+dotted a =
+    decimal (a / 16777216) ++ 46 ∷ decimal (a / 65536 % 256) ++ 46 ∷ decimal (a / 256 % 256)
+    ++ 46 ∷ decimal (a % 256)

@@ -1,7 +1,7 @@
--- Read in this order: the spelling of numbers and addresses, the parts of a text, meshes, sets of nodes,
--- what is only looked at.
--- Words has the proof that a set gives its words back, and Octets an address number by number; no public contract
--- says either.
+-- Read in this order: the spelling of numbers and addresses, the parts of a text, meshes, sets of
+-- nodes, what is only looked at.
+-- Words has the proof that a set gives its words back, and Octets an address number by number; no
+-- public contract says either.
 pub mod Numbers
 pub mod Parts
 pub mod Addresses

@@ -1,4 +1,5 @@
--- A set of nodes, as the bits of four words of 64 bits, the lowest first. A node is an index below 256.
+-- A set of nodes, as the bits of four words of 64 bits, the lowest first. A node is an index below
+-- 256.
 use Rattle.std.specs.Prelude.{◌≡◌, ◌<◌, ◌≤◌, ◌==◌, ℕ, zero, suc, ◌+◌, ◌*◌, ◌/◌, ◌%◌, ◌^◌, true, false, if◌then◌else◌, List, [], ◌∷◌, ◌++◌, length, slice_index, Option, Some, None}
 use Rattle.std.specs.Ordering.{nat_cmp}
 use Rattle.std.specs.Int.{bit_at}
@@ -46,6 +47,10 @@ members_below (suc n) s = if contains s n then members_below n s ++ n ∷ [] els
 abbrev pub member_list : NodeIds → List ℕ
 member_list s = members_below 256 s
 
+-- each member of the first set is one of the second
+abbrev pub AreAmong : NodeIds → NodeIds → Type 0
+AreAmong s t = (q : ℕ) → contains s q ≡ true → contains t q ≡ true
+
 -- the rank of a member: how many members are below it
 abbrev pub rank : NodeIds → ℕ → ℕ
 rank s i = length (members_below i s)
@@ -53,12 +58,14 @@ rank s i = length (members_below i s)
 -- the least member that is not below i
 abbrev pub IsLeastFrom : NodeIds → ℕ → Option ℕ → Type 0
 IsLeastFrom s i None = (q : ℕ) → i ≤ q → contains s q ≡ false
-IsLeastFrom s i (Some m) = (i ≤ m) × (contains s m ≡ true) × ((q : ℕ) → i ≤ q → q < m → contains s q ≡ false)
+IsLeastFrom s i (Some m) =
+    (i ≤ m) × (contains s m ≡ true) × ((q : ℕ) → i ≤ q → q < m → contains s q ≡ false)
 
 -- the least place from i on at which the word has a bit
 abbrev pub IsLeastBit : ℕ → ℕ → Option ℕ → Type 0
 IsLeastBit w i None = (q : ℕ) → i ≤ q → bit_at w q ≡ 0
-IsLeastBit w i (Some m) = (i ≤ m) × (m < 64) × (bit_at w m ≡ 1) × ((q : ℕ) → i ≤ q → q < m → bit_at w q ≡ 0)
+IsLeastBit w i (Some m) =
+    (i ≤ m) × (m < 64) × (bit_at w m ≡ 1) × ((q : ℕ) → i ≤ q → q < m → bit_at w q ≡ 0)
 
 -- the word has a bit at that place, and k bits below it
 abbrev pub IsNthBit : ℕ → ℕ → ℕ → Type 0

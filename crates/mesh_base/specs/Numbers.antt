@@ -15,7 +15,8 @@ is_canonical (d ∷ e ∷ ds) = not (d == 48)
 
 -- the number that digits stand for, where it is at most this
 unfoldable pub digits_up_to : ℕ → List ℕ → Option ℕ
-digits_up_to most ds = if all_ascii_digits ds && nat_le (read_on 0 ds) most then Some (read_on 0 ds) else None
+digits_up_to most ds =
+    if all_ascii_digits ds && nat_le (read_on 0 ds) most then Some (read_on 0 ds) else None
 
 -- the number that a text spells, where it is at most this
 unfoldable pub number_up_to : ℕ → List ℕ → Option ℕ

@@ -11,7 +11,8 @@ number_and ps n = (n, ps)
 unfoldable pub first_octet : List (List ℕ) → Option (ℕ × List (List ℕ))
 first_octet [] = None
 first_octet (last ∷ []) = None
-first_octet (first ∷ next ∷ others) = option_map (number_and (next ∷ others)) (number_up_to 255 first)
+first_octet (first ∷ next ∷ others) =
+    option_map (number_and (next ∷ others)) (number_up_to 255 first)
 
 -- a dot stands at this place
 abbrev pub IsDotAt : List ℕ → ℕ → Type 0

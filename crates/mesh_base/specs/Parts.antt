@@ -1,4 +1,5 @@
--- A text cut at each byte of one value: lines at LF, words at a space, an address's numbers at a dot.
+-- A text cut at each byte of one value: lines at LF, words at a space, an address's numbers at a
+-- dot.
 use Rattle.std.specs.Prelude.{ℕ, ◌==◌, List, [], Option, Some, None}
 use Rattle.std.specs.Borrow.{Bor}
 use Rattle.std.specs.List.{slice_split}

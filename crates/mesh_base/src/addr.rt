@@ -4,7 +4,7 @@ ghost use Rattle.std.specs.Char.{is_ascii_digit};
 ghost use Rattle.std.specs.Fmt.{decimal};
 ghost use Rattle.std.specs.Option.{option_map};
 ghost use Rattle.arrayvec.specs.ArrayVec.{array_vec_len};
-ghost use Rattle.mesh_base.specs.Numbers.{number_up_to as number_up_to_lem};
+ghost use Rattle.mesh_base.specs.Numbers.{number_up_to};
 ghost use Rattle.mesh_base.specs.Parts.{parts};
 ghost use Rattle.mesh_base.specs.Addresses.{address_of, dotted};
 ghost use Rattle.mesh_base.specs.Octets.{first_octet, IsDotAt};
@@ -32,7 +32,7 @@ fn digit(b: u8) -> Option<u32>
 
 #[inline(always)]
 fn of_one(a: u8) -> Option<u32>
-    ensures value { result ≡ number_up_to_lem 255 (a ∷ []) }
+    ensures value { result ≡ number_up_to 255 (a ∷ []) }
     ensures within { IfSome result (λ n. n ≤ 255) }
 {
     let n = digit(a)?;
@@ -41,7 +41,7 @@ fn of_one(a: u8) -> Option<u32>
 
 #[inline(always)]
 fn of_two(a: u8, b: u8) -> Option<u32>
-    ensures value { result ≡ number_up_to_lem 255 (a ∷ b ∷ []) }
+    ensures value { result ≡ number_up_to 255 (a ∷ b ∷ []) }
     ensures within { IfSome result (λ n. n ≤ 255) }
 {
     if a == b'0' {
@@ -54,7 +54,7 @@ fn of_two(a: u8, b: u8) -> Option<u32>
 
 #[inline(always)]
 fn of_three(a: u8, b: u8, c: u8) -> Option<u32>
-    ensures value { result ≡ number_up_to_lem 255 (a ∷ b ∷ c ∷ []) }
+    ensures value { result ≡ number_up_to 255 (a ∷ b ∷ c ∷ []) }
     ensures within { IfSome result (λ n. n ≤ 255) }
 {
     if a == b'0' {
@@ -73,7 +73,7 @@ fn of_three(a: u8, b: u8, c: u8) -> Option<u32>
 // The whole text as one number.
 #[inline(always)]
 fn octet(text: &[u8]) -> Option<u32>
-    ensures value { result ≡ number_up_to_lem 255 text.now }
+    ensures value { result ≡ number_up_to 255 text.now }
     ensures within { IfSome result (λ n. n ≤ 255) }
 {
     match text {
@@ -96,7 +96,8 @@ fn is_dot(text: &[u8], at: usize) -> bool
 // The number before the first dot, and what stands after the dot.
 #[inline(always)]
 fn octet_and_rest(text: &[u8]) -> Option<(u32, &[u8])>
-    ensures value { option_map (λ r. (r.0, parts 46 r.1.now)) result ≡ first_octet (parts 46 text.now) }
+    ensures value { option_map (λ r. (r.0, parts 46 r.1.now)) result
+        ≡ first_octet (parts 46 text.now) }
     ensures within { IfSome result (λ r. r.0 ≤ 255) }
 {
     if is_dot(text, 1) {
@@ -112,7 +113,8 @@ fn octet_and_rest(text: &[u8]) -> Option<(u32, &[u8])>
 }
 
 impl Addr {
-    /// Reads four numbers from 0 to 255 without leading zeros, joined by dots. None is any other text.
+    /// Reads four numbers from 0 to 255 without leading zeros, joined by dots. None is any other
+    /// text.
     pub fn parse(text: &[u8]) -> Option<Addr>
         ensures { option_map (λ a. a.0) result ≡ address_of text.now }
     {

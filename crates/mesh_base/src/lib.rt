@@ -15,7 +15,7 @@ mod text;
 pub use addr::{Addr, write_dotted};
 pub use bytes::{Bytes, NoMemory, Room};
 pub use events::{
-    Air, Cast, Done, Effect, Event, Flying, FlyingView, Full, Item, Kind, Took, Variant,
+    Air, Cast, Counter, Done, Effect, Event, Flying, FlyingView, Item, Kind, Took, Variant,
 };
 pub use limits::{
     LINE_ROOM, LONGEST_DATUM, LONGEST_INPUT, LONGEST_LINE, LONGEST_PACKET, MOST_EVENTS, MOST_NODES,

@@ -1,6 +1,6 @@
 //! The nodes of a mesh.
-ghost use Rattle.std.specs.Prelude.{◌≡◌, ◌≤◌, ◌<◌, ◌↔◌, ℕ, [], length, None, IsTrue, IsSome, IsErrOf, IsOk, OnOk, OnErr, IfSome};
-ghost use Rattle.mesh_base.specs.Meshes.{Nodes, IsMesh, addr_at, first_at, index_of, with_node};
+ghost use Rattle.std.specs.Prelude.{◌≡◌, ◌≤◌, ◌<◌, ◌↔◌, ℕ, [], length, None, IsTrue, IsSome, is_some, IsErrOf, IsOk, OnOk, OnErr, IfSome};
+ghost use Rattle.mesh_base.specs.Meshes.{Nodes, IsMesh, addr_at, first_at, index_of, index_in, with_node};
 
 use crate::addr::Addr;
 use crate::limits::MOST_NODES;
@@ -46,7 +46,8 @@ fn count_below(nodes: &[(u32, u32)], a: u32) -> usize
     nodes.partition_point(|node| node.0 < a)
 }
 
-// The place of an address where the addresses up to it are consecutive, as those of most meshes are.
+// The place of an address where the addresses up to it are consecutive, as those of most meshes
+// are.
 #[inline]
 fn consecutive_place(nodes: &[(u32, u32)], a: u32) -> Option<usize>
     ensures { IfSome result (λ i. (i < length nodes.now) × (addr_at nodes.now i ≡ a)) }
@@ -123,12 +124,26 @@ impl Mesh {
         }
     }
 
+    /// The node of an address that is there.
+    #[tactic(auto, unfolding(crate::specs::Meshes::index_in))]
+    pub fn index_in(&self, a: Addr) -> usize
+        requires { IsTrue (is_some (index_of self.now a.0)) }
+        ensures value { result ≡ index_in self.now a.0 }
+        ensures within { result < length self.now }
+    {
+        match self.index_of(a) {
+            Some(i) => i,
+            None => unreachable!(),
+        }
+    }
+
     /// Adds a node.
     pub fn add(&mut self, a: Addr, first: u32) -> Result<(), MeshError>
         requires { 1 ≤ first }
         ensures added { OnOk result (self.new ≡ with_node self.old a.0 first) }
         ensures twice { IsErrOf result MeshError.Twice ↔ IsSome (index_of self.old a.0) }
-        ensures too_many { IsErrOf result MeshError.TooMany ↔ ((index_of self.old a.0 ≡ None) × (length self.old ≡ MOST_NODES)) }
+        ensures too_many { IsErrOf result MeshError.TooMany
+            ↔ ((index_of self.old a.0 ≡ None) × (length self.old ≡ MOST_NODES)) }
         ensures same { OnErr result (self.new ≡ self.old) }
     {
         let None = self.index_of(a) else {

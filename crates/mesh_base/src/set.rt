@@ -152,8 +152,8 @@ impl NodeSet {
         count + (words[word] & below).count_ones() as usize
     }
 
-    /// The member of rank k: the k-th from 0, by rising index. None where there are not so many. Bits
-    /// are counted, and no other member is looked at.
+    /// The member of rank k: the k-th from 0, by rising index. None where there are not so many.
+    /// Bits are counted, and no other member is looked at.
     pub fn nth(&self, k: usize) -> Option<usize>
         ensures value { result ≡ slice_get (member_list self.now) k }
         ensures below { IfSome result (λ m. m < 256) }
@@ -192,8 +192,9 @@ fn least_bit(word: u64, from: usize) -> Option<usize>
     Some(from + rest.trailing_zeros() as usize)
 }
 
-// The place of the bit that has k bits of the word below it. Six halvings find it: the one of `rest` in
-// the `width` bits from `base` on is in their lower half, if there are more than `rest`, or else above.
+// The place of the bit that has k bits of the word below it. Six halvings find it: the one of
+// `rest` in the `width` bits from `base` on is in their lower half, if there are more than `rest`,
+// or else above.
 fn nth_bit(word: u64, k: usize) -> usize
     requires { k < count_ones word }
     ensures { IsNthBit word k result }

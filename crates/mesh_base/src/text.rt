@@ -3,7 +3,7 @@ ghost use Rattle.std.specs.Prelude.{◌≡◌, ◌+◌, ◌/◌, ◌%◌, ◌<�
 ghost use Rattle.std.specs.Fmt.{decimal};
 ghost use Rattle.arrayvec.specs.ArrayVec.{array_vec_len};
 ghost use Rattle.mesh_base.specs.Parts.{parts, rest_parts};
-ghost use Rattle.mesh_base.specs.Numbers.{is_canonical as is_canonical_lem, digits_up_to as digits_up_to_lem, number_up_to as number_up_to_lem};
+ghost use Rattle.mesh_base.specs.Numbers as numbers;
 
 use crate::limits::{LINE_ROOM, LONGEST_PACKET};
 use arrayvec::ArrayVec;
@@ -14,7 +14,7 @@ pub type LineBuf = ArrayVec<u8, LINE_ROOM>;
 /// The bytes of one packet.
 pub type Packet = ArrayVec<u8, LONGEST_PACKET>;
 
-fn place_of(bytes: &[u8], sep: u8) -> Option<usize>
+fn position_of(bytes: &[u8], sep: u8) -> Option<usize>
     ensures value { result ≡ position (λ b. b == sep) bytes.now }
     ensures within { IfSome result (λ i. i < length bytes.now) }
 {
@@ -25,16 +25,17 @@ fn place_of(bytes: &[u8], sep: u8) -> Option<usize>
 pub fn cut(bytes: &[u8], sep: u8) -> (&[u8], Option<&[u8]>)
     ensures whole { IfNone result.1 (result.0.now ≡ bytes.now) }
     ensures parts { parts sep bytes.now ≡ result.0.now ∷ rest_parts sep result.1 }
-    ensures length { IfSome result.1 (λ rest. length result.0.now + 1 + length rest.now ≡ length bytes.now) }
+    ensures length { IfSome result.1
+        (λ rest. length result.0.now + 1 + length rest.now ≡ length bytes.now) }
 {
-    match place_of(bytes, sep) {
+    match position_of(bytes, sep) {
         None => (bytes, None),
         Some(at) => (&bytes[..at], Some(&bytes[at + 1..])),
     }
 }
 
 fn is_canonical(bytes: &[u8]) -> bool
-    ensures { result ≡ is_canonical_lem bytes.now }
+    ensures { result ≡ numbers.is_canonical bytes.now }
 {
     match bytes {
         [] => false,
@@ -44,7 +45,7 @@ fn is_canonical(bytes: &[u8]) -> bool
 }
 
 fn digits_up_to(ds: &[u8], most: u64) -> Option<u64>
-    ensures value { result ≡ digits_up_to_lem most ds.now }
+    ensures value { result ≡ numbers.digits_up_to most ds.now }
     ensures within { IfSome result (λ n. n ≤ most) }
 {
     let mut n: u64 = 0;
@@ -57,10 +58,11 @@ fn digits_up_to(ds: &[u8], most: u64) -> Option<u64>
     if n <= most { Some(n) } else { None }
 }
 
-/// The number that these bytes spell in decimal digits without a leading zero, where it is at most `most`.
+/// The number that these bytes spell in decimal digits without a leading zero, where it is at most
+/// `most`.
 #[tactic(auto, unfolding(crate::specs::Numbers::number_up_to))]
 pub fn number_up_to(bytes: &[u8], most: u64) -> Option<u64>
-    ensures value { result ≡ number_up_to_lem most bytes.now }
+    ensures value { result ≡ numbers.number_up_to most bytes.now }
     ensures within { IfSome result (λ n. n ≤ most) }
 {
     if is_canonical(bytes) {
@@ -106,7 +108,8 @@ pub(crate) fn push_short(out: &mut LineBuf, n: u32)
 #[inline]
 fn push_three(out: &mut LineBuf, n: u32)
     requires { array_vec_len out.old + 3 ≤ LINE_ROOM }
-    ensures text { out.new.items ≡ out.old.items ++ (48 + n / 100 % 10) ∷ (48 + n / 10 % 10) ∷ (48 + n % 10) ∷ [] }
+    ensures text { out.new.items
+        ≡ out.old.items ++ (48 + n / 100 % 10) ∷ (48 + n / 10 % 10) ∷ (48 + n % 10) ∷ [] }
     ensures length { array_vec_len out.new ≡ array_vec_len out.old + 3 }
 {
     out.push(b'0' + (n / 100 % 10) as u8);

@@ -10,7 +10,7 @@ use Rattle.mesh_run.specs.declared.status.Status.TheVariants as status
 use Rattle.mesh_cli.specs.declared.words.Command.{Command}
 use Rattle.mesh_cli.specs.declared.words.Command.TheVariants.{Run, Make, Trial}
 use Rattle.mesh_cli.specs.Words.{IsAllowed}
-use Rattle.mesh_cli.specs.Does.{Does, IsWritten, reads, schedule_of, variant_of, made_by}
+use Rattle.mesh_cli.specs.Does.{IsCommandRun, IsWritten, reads, schedule_of, variant_of, made_by}
 
 none_round : (v : Variant) (schedule : Option (List ℕ)) → IfSome schedule (λ bytes. (k d : ℕ) → ¬ (Cycle (world_after v bytes k) d))
 none_round v None = tt
@@ -22,15 +22,15 @@ pub no_command_loops : (command : Option Command) (left : Option (List ℕ))
 no_command_loops None left = tt
 no_command_loops (Some c) left = none_round (variant_of c) (schedule_of c left)
 
-no_bad : (c : Command) (left a b : Option (List ℕ)) (s : Status) (n : ℕ) → IsAllowed c → Does c left a b s → reads c ≡ false → s ≢ status.BadLine n
+no_bad : (c : Command) (left a b : Option (List ℕ)) (s : Status) (n : ℕ) → IsAllowed c → IsCommandRun c left a b s → reads c ≡ false → s ≢ status.BadLine n
 no_bad (Run variant quiet) left a b s n allowed t reads_not e = cc
 no_bad (Make plan) left a b s n allowed t reads_not e = let P : Status → Type 0 = λ answer. IsWritten a b (made_by plan) answer in subst P e t
 no_bad (Trial variant plan) left a b s n allowed t reads_not e =
-    let P : Status → Type 0 = λ answer. Does (Trial variant plan) left a b answer in
+    let P : Status → Type 0 = λ answer. IsCommandRun (Trial variant plan) left a b answer in
     made_allowed variant plan.seed plan.nodes plan.steps n allowed.0 allowed.1 allowed.2 allowed.3 (subst P e t).0
 
 -- no line of a made schedule is refused
-pub no_command_bad : (command : Option Command) (c : Command) (left a b : Option (List ℕ)) (s : Status) → Some c ≡ command → IsAllowed c → Does c left a b s
+pub no_command_bad : (command : Option Command) (c : Command) (left a b : Option (List ℕ)) (s : Status) → Some c ≡ command → IsAllowed c → IsCommandRun c left a b s
     → IfSome command (λ x. reads x ≡ false → (n : ℕ) → s ≢ status.BadLine n)
 no_command_bad command c left a b s e allowed t =
     let P : Option Command → Type 0 = λ o. IfSome o (λ x. reads x ≡ false → (n : ℕ) → s ≢ status.BadLine n) in

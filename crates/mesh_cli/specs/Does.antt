@@ -1,14 +1,14 @@
 -- What a command has written and answered.
 use Rattle.std.specs.Prelude.{ℕ, ◌≡◌, ◌⊎◌, true, false, Bool, List, Option, Some, None, IfSome, ⊤}
 use Rattle.std.specs.Io.KnownBytes.{Appends, IsAtEnd}
-use Rattle.mesh_io.specs.Puts.{AppendsFront}
+use Rattle.mesh_io.specs.Puts.{AppendsPrefix}
 use Rattle.mesh_base.specs.declared.events.Variant.{Variant}
 use Rattle.mesh_base.specs.declared.events.Variant.TheVariants.{Base}
 use Rattle.mesh_make.specs.Made.{made}
 use Rattle.mesh_text.specs.Text.{output, text_of_input, Finished}
 use Rattle.mesh_run.specs.declared.status.Status.{Status}
 use Rattle.mesh_run.specs.declared.status.Status.TheVariants as status
-use Rattle.mesh_run.specs.Told.{Told}
+use Rattle.mesh_run.specs.Told.{IsOutput}
 use Rattle.mesh_cli.specs.declared.words.Plan.{Plan}
 use Rattle.mesh_cli.specs.declared.words.Command.{Command}
 use Rattle.mesh_cli.specs.declared.words.Command.TheVariants.{Run, Make, Trial}
@@ -35,22 +35,22 @@ reads (Run variant quiet) = true
 reads (Make plan) = false
 reads (Trial variant plan) = false
 
--- a text was written whole, or a front of it before a failed write
+-- a text was written whole, or a prefix of it before a failed write
 abbrev pub IsWritten : Option (List ℕ) → Option (List ℕ) → List ℕ → Status → Type 0
 IsWritten before now text status.Done = Appends before now text
 IsWritten before now text status.Usage = ⊥
 IsWritten before now text (status.BadLine n) = ⊥
 IsWritten before now text (status.Full n) = ⊥
 IsWritten before now text status.ReadFault = ⊥
-IsWritten before now text status.WriteFault = AppendsFront before now text
+IsWritten before now text status.WriteFault = AppendsPrefix before now text
 IsWritten before now text status.NoMemory = ⊥
 
 -- what the sink held before and holds now, and the answer. `run` writes the text of the schedule that the source has left;
 -- `run --quiet` its last line alone; `make` the made schedule; `trial` the last line of the text of the made schedule
-abbrev pub Does : Command → Option (List ℕ) → Option (List ℕ) → Option (List ℕ) → Status → Type 0
-Does (Run variant quiet) left before now s = IfSome left (λ bytes. Told before now (output quiet (text_of_input variant bytes)) s)
-Does (Make plan) left before now s = IsWritten before now (made_by plan) s
-Does (Trial variant plan) left before now s = Told before now (output true (text_of_input variant (made_by plan))) s
+abbrev pub IsCommandRun : Command → Option (List ℕ) → Option (List ℕ) → Option (List ℕ) → Status → Type 0
+IsCommandRun (Run variant quiet) left before now s = IfSome left (λ bytes. IsOutput before now (output quiet (text_of_input variant bytes)) s)
+IsCommandRun (Make plan) left before now s = IsWritten before now (made_by plan) s
+IsCommandRun (Trial variant plan) left before now s = IsOutput before now (output true (text_of_input variant (made_by plan))) s
 
 -- the command was done, or memory ran out
 abbrev pub IsDoneOrShort : Status → Type 0

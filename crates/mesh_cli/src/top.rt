@@ -4,8 +4,8 @@ ghost use Rattle.mesh_model.specs.Walks.{Cycle};
 ghost use Rattle.mesh_text.specs.Runs.{world_after};
 ghost use Rattle.mesh_io.specs.Cause.{Rose};
 ghost use Rattle.mesh_io.specs.Buffering.{inner_of, gathered_in, held_by};
-ghost use Rattle.mesh_cli.specs.Words.{command_of as command_of_lem, IsAllowed};
-ghost use Rattle.mesh_cli.specs.Does.{Does, Completes, IsReadBy, reads, schedule_of, variant_of};
+ghost use Rattle.mesh_cli.specs.Words.{command_of, IsAllowed};
+ghost use Rattle.mesh_cli.specs.Does.{IsCommandRun, Completes, IsReadBy, reads, schedule_of, variant_of};
 
 use crate::words::{Command, command_of};
 use mesh_io::{Buffered, Loan, Sink, Source, Through};
@@ -23,7 +23,7 @@ fn do_command<I: Source, O: Sink>(
     out: &mut O,
 ) -> Status
     requires { IsAllowed command }
-    ensures told { Does command (I.left input.old) (O.held out.old) (O.held out.new) result }
+    ensures told { IsCommandRun command (I.left input.old) (O.held out.old) (O.held out.new) result }
     ensures untouched { reads command ≡ false → input.new ≡ input.old }
     ensures end { result ≡ Status.Done → IsReadBy command (I.left input.new) }
     ensures read { result ≡ Status.ReadFault → Rose (I.faults input.old) (I.faults input.new) }
@@ -55,7 +55,7 @@ fn do_gathered<I: Source, S: Sink>(
 ) -> Status
     requires gathered { gathered_in buffer.old ≡ [] }
     requires allowed { IsAllowed command }
-    ensures told { Does command (I.left input.old)
+    ensures told { IsCommandRun command (I.left input.old)
         (held_by S.held buffer.old) (held_by S.held buffer.new) result }
     ensures handed_on { result ≢ Status.WriteFault → gathered_in buffer.new ≡ [] }
     ensures untouched { reads command ≡ false → input.new ≡ input.old }
@@ -89,7 +89,7 @@ fn do_through<'s, I: Source, O: Sink, L: Loan>(
     requires name { out.ghost_name ≡ L.name }
     requires start { O.held out.now ≡ L.start }
     ensures same { result.ghost_name ≡ out.entry.ghost_name }
-    ensures told { Does command (I.left input.old)
+    ensures told { IsCommandRun command (I.left input.old)
         (O.held out.entry.now) (O.held result.now) status.new }
     ensures untouched { reads command ≡ false → input.new ≡ input.old }
     ensures end { status.new ≡ Status.Done → IsReadBy command (I.left input.new) }
@@ -114,30 +114,30 @@ fn do_through<'s, I: Source, O: Sink, L: Loan>(
 pub fn mesh<I: Source, O: Sink>(alloc: Global, words: &[&str], input: &mut I, out: &mut O) -> Status
     // The words are of no form: nothing is read or written.
     ensures usage_exactly_for_other_words { (result ≡ Status.Usage)
-        ↔ (command_of_lem (map (λ w. w.now) words.now) ≡ None) }
+        ↔ (command_of (map (λ w. w.now) words.now) ≡ None) }
     ensures untouched_by_other_words { result ≡ Status.Usage
         → (input.new ≡ input.old) × (out.new ≡ out.old) }
 
     // What is written is the text that the command asks for, and the answer its verdict. After a
-    // failed read or write, or want of memory, it is a front of that text. `make` answers no want
+    // failed read or write, or want of memory, it is a prefix of that text. `make` answers no want
     // of memory.
-    ensures text_and_verdict { IfSome (command_of_lem (map (λ w. w.now) words.now)) (λ command.
-        Does command (I.left input.old) (O.held out.old) (O.held out.new) result) }
+    ensures text_and_verdict { IfSome (command_of (map (λ w. w.now) words.now)) (λ command.
+        IsCommandRun command (I.left input.old) (O.held out.old) (O.held out.new) result) }
 
     // In no world that the run comes to, after any number of its events, does a destination have a
     // cycle.
-    ensures loop_free { IfSome (command_of_lem (map (λ w. w.now) words.now)) (λ command.
+    ensures loop_free { IfSome (command_of (map (λ w. w.now) words.now)) (λ command.
         IfSome (schedule_of command (I.left input.old)) (λ schedule.
         (k d : ℕ) → ¬ (Cycle (world_after (variant_of command) schedule k) d))) }
 
     // `run` is done only where the input was read to its end; `make` and `trial` read nothing.
-    ensures done_at_the_end { IfSome (command_of_lem (map (λ w. w.now) words.now)) (λ command.
+    ensures done_at_the_end { IfSome (command_of (map (λ w. w.now) words.now)) (λ command.
         result ≡ Status.Done → IsReadBy command (I.left input.new)) }
-    ensures nothing_read { IfSome (command_of_lem (map (λ w. w.now) words.now)) (λ command.
+    ensures nothing_read { IfSome (command_of (map (λ w. w.now) words.now)) (λ command.
         reads command ≡ false → (input.new ≡ input.old) × (result ≢ Status.ReadFault)) }
 
     // No line of a made schedule is refused.
-    ensures no_bad_line { IfSome (command_of_lem (map (λ w. w.now) words.now)) (λ command.
+    ensures no_bad_line { IfSome (command_of (map (λ w. w.now) words.now)) (λ command.
         reads command ≡ false → (n : ℕ) → result ≢ Status.BadLine n) }
 
     // A fault is answered only where the source or the sink has failed in this call.
@@ -151,7 +151,7 @@ pub fn mesh<I: Source, O: Sink>(alloc: Global, words: &[&str], input: &mut I, ou
 
     // Where every line is allowed and nothing has failed, the whole text is written, unless memory
     // runs out.
-    ensures complete { IfSome (command_of_lem (map (λ w. w.now) words.now)) (λ command.
+    ensures complete { IfSome (command_of (map (λ w. w.now) words.now)) (λ command.
         (Rose (I.faults input.old) (I.faults input.new) → ⊥)
         → (Rose (O.faults out.old) (O.faults out.new) → ⊥)
         → Completes command (I.left input.old) result) }

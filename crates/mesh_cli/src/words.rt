@@ -1,6 +1,6 @@
 //! The words of a command line.
 ghost use Rattle.std.specs.Prelude.{◌≡◌, ◌≤◌, map, IfSome};
-ghost use Rattle.mesh_cli.specs.Words.{number_in as number_in_lem, plan_of as plan_of_lem, variant_named as variant_named_lem, of_one as of_one_lem, of_two as of_two_lem, run_of as run_of_lem, of_four as of_four_lem, of_six as of_six_lem, command_of as command_of_lem, IsPlan, IsAllowed};
+ghost use Rattle.mesh_cli.specs.Words.{number_in, plan_of, variant_named, of_one, of_two, run_of, of_four, of_six, command_of, IsPlan, IsAllowed};
 
 use mesh_base::{MOST_NODES, Variant, number_up_to};
 use mesh_make::MOST_STEPS;
@@ -31,7 +31,7 @@ pub enum Command {
 // The number that a word spells, where it is from `least` to `most`.
 #[tactic(auto, unfolding(crate::specs::Words::number_in))]
 fn number_in(word: &str, least: u64, most: u64) -> Option<u64>
-    ensures value { result ≡ number_in_lem least most word.now }
+    ensures value { result ≡ number_in least most word.now }
     ensures least { IfSome result (λ n. least ≤ n) }
     ensures most { IfSome result (λ n. n ≤ most) }
 {
@@ -41,7 +41,7 @@ fn number_in(word: &str, least: u64, most: u64) -> Option<u64>
 
 #[tactic(auto, unfolding(crate::specs::Words::plan_of))]
 fn plan_of(seed: &str, nodes: &str, steps: &str) -> Option<Plan>
-    ensures value { result ≡ plan_of_lem seed.now nodes.now steps.now }
+    ensures value { result ≡ plan_of seed.now nodes.now steps.now }
     ensures plan { IfSome result IsPlan }
 {
     let seed = number_in(seed, 0, u64::MAX)?;
@@ -56,7 +56,7 @@ fn plan_of(seed: &str, nodes: &str, steps: &str) -> Option<Plan>
 
 // The variant of the protocol that a word names.
 fn variant_named(name: &str) -> Option<Variant>
-    ensures { result ≡ variant_named_lem name.now }
+    ensures { result ≡ variant_named name.now }
 {
     if name == "base" {
         Some(Variant::Base)
@@ -73,7 +73,7 @@ fn variant_named(name: &str) -> Option<Variant>
 
 // `run`
 fn of_one(word: &str) -> Option<Command>
-    ensures value { result ≡ of_one_lem word.now }
+    ensures value { result ≡ of_one word.now }
     ensures allowed { IfSome result IsAllowed }
 {
     if word == "run" {
@@ -88,7 +88,7 @@ fn of_one(word: &str) -> Option<Command>
 
 // `run --quiet`
 fn of_two(word: &str, option: &str) -> Option<Command>
-    ensures value { result ≡ of_two_lem word.now option.now }
+    ensures value { result ≡ of_two word.now option.now }
     ensures allowed { IfSome result IsAllowed }
 {
     if word == "run" && option == "--quiet" {
@@ -103,7 +103,7 @@ fn of_two(word: &str, option: &str) -> Option<Command>
 
 // `run --variant NAME`
 fn run_of(quiet: bool, word: &str, option: &str, name: &str) -> Option<Command>
-    ensures value { result ≡ run_of_lem quiet word.now option.now name.now }
+    ensures value { result ≡ run_of quiet word.now option.now name.now }
     ensures allowed { IfSome result IsAllowed }
 {
     if word == "run" && option == "--variant" {
@@ -116,7 +116,7 @@ fn run_of(quiet: bool, word: &str, option: &str, name: &str) -> Option<Command>
 
 // `run --variant NAME --quiet`, and `make` and `trial` with their numbers
 fn of_four(word: &str, second: &str, third: &str, last: &str) -> Option<Command>
-    ensures value { result ≡ of_four_lem word.now second.now third.now last.now }
+    ensures value { result ≡ of_four word.now second.now third.now last.now }
     ensures allowed { IfSome result IsAllowed }
 {
     if last == "--quiet" {
@@ -144,7 +144,7 @@ fn of_six(
     nodes: &str,
     steps: &str,
 ) -> Option<Command>
-    ensures value { result ≡ of_six_lem word.now option.now name.now seed.now nodes.now steps.now }
+    ensures value { result ≡ of_six word.now option.now name.now seed.now nodes.now steps.now }
     ensures allowed { IfSome result IsAllowed }
 {
     if word == "trial" && option == "--variant" {
@@ -160,7 +160,7 @@ fn of_six(
 /// `--variant NAME` after its first word or without; either form of `run` with `--quiet` at its end;
 /// or `make SEED NODES STEPS`. The names are `base`, `number`, `reply` and `error`.
 pub fn command_of(words: &[&str]) -> Option<Command>
-    ensures value { result ≡ command_of_lem (map (λ w. w.now) words.now) }
+    ensures value { result ≡ command_of (map (λ w. w.now) words.now) }
     ensures allowed { IfSome result IsAllowed }
 {
     match words {

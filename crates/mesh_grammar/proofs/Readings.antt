@@ -17,7 +17,7 @@ use Rattle.mesh_grammar.specs.declared.fault.LineFault.TheVariants.{BadAddress, 
 use Rattle.mesh_grammar.specs.declared.form.Form.{Form}
 use Rattle.mesh_grammar.specs.declared.form.Form.TheVariants as form
 use Rattle.mesh_grammar.specs.Words.{Mention, span_at, next_at, with_argument, address_at, number_at, are_printable, is_text, text_of, text_at, is_blank}
-use Rattle.mesh_grammar.specs.Forms.{Arguments, NoArgument, OneAddress, TwoAddresses, OneNumber, NumberedAddress, AddressesAndText, greatest_first, no_argument, one_address, two_addresses, one_number, address_sn, numbered_address, addresses_and_text, arguments_of, IsText, AreOfForm}
+use Rattle.mesh_grammar.specs.Forms.{Arguments, NoArgument, OneAddress, TwoAddresses, OneNumber, NumberedAddress, AddressesAndText, AddressAndNumber, AddressAndText, greatest_first, no_argument, one_address, two_addresses, one_number, address_sn, numbered_address, addresses_and_text, address_and_number, address_and_text, arguments_of, IsText, AreOfForm}
 use Rattle.mesh_grammar.specs.Scripts.{Row, Shape, row_in, shape_with, by_row, by_words, shape_by}
 use Rattle.mesh_grammar.specs.Written.{written}
 use Rattle.mesh_grammar.specs.Laws.{HaveAddresses, IsReadable, AreReadable, addresses_of, IsTextOf, IsRead, ReadLineIsWritten}
@@ -102,7 +102,7 @@ one_given at (a ∷ []) =
     record { form = tt; addresses = fits; text = λ word. ap (λ t. word ++ 32 ∷ t) (sym is) })
 one_given at (a ∷ b ∷ ws) = tt
 
-two_texts : (word a b : List ℕ) → word ++ 32 ∷ (a ++ 32 ∷ b) ≡ word ++ 32 ∷ a ++ 32 ∷ b
+pub two_texts : (word a b : List ℕ) → word ++ 32 ∷ (a ++ 32 ∷ b) ≡ word ++ 32 ∷ a ++ 32 ∷ b
 two_texts word a b = simp append_assoc
 
 two_given : (at : ℕ) (words : List (List ℕ)) → Given form.Addresses words (two_addresses at words TwoAddresses)
@@ -167,6 +167,31 @@ text_given at (a ∷ b ∷ t ∷ ts) =
     text_case form.Text ws third body (λ text. Ok (AddressesAndText m n text)) (λ is.
     record { form = is; addresses = (m_fits, n_fits); text = λ word. rw (m_is, n_is) (three_texts word a b body) })))
 
+address_number_given : (most at : ℕ) (words : List (List ℕ)) → most < 2 ^ 64
+    → Given (form.AddressNumber most) words (address_and_number most at words AddressAndNumber)
+unfolding Given written
+address_number_given most at [] fits = tt
+address_number_given most at (a ∷ []) fits = tt
+address_number_given most at (a ∷ n ∷ []) fits =
+    let f : Form = form.AddressNumber most in
+    let ws : List (List ℕ) = a ∷ n ∷ [] in
+    address_case f ws at a (λ m. number_at most (next_at at a) n (λ k. Ok (AddressAndNumber m k))) (λ m m_fits m_is.
+    number_case f ws most (next_at at a) n (λ k. Ok (AddressAndNumber m k)) fits (λ k one le k_is.
+    record { form = (one, le); addresses = m_fits; text = λ word. rw (m_is, k_is) (two_texts word a n) }))
+address_number_given most at (a ∷ n ∷ w ∷ ws) fits = tt
+
+address_text_given : (at : ℕ) (words : List (List ℕ)) → Given form.AddressText words (address_and_text at words AddressAndText)
+unfolding Given written address_and_text
+address_text_given at [] = tt
+address_text_given at (a ∷ []) = tt
+address_text_given at (a ∷ t ∷ ts) =
+    let ws : List (List ℕ) = a ∷ t ∷ ts in
+    let body : List ℕ = join_with_byte 32 (t ∷ ts) in
+    let second : ℕ = next_at at a in
+    address_case form.AddressText ws at a (λ m. text_at second body (λ text. Ok (AddressAndText m text))) (λ m m_fits m_is.
+    text_case form.AddressText ws second body (λ text. Ok (AddressAndText m text)) (λ is.
+    record { form = is; addresses = m_fits; text = λ word. rw m_is (two_texts word a body) }))
+
 arguments_given : (f : Form) (at : ℕ) (words : List (List ℕ)) → IsReadable f → Given f words (arguments_of f at words)
 arguments_given form.Bare at words readable = none_given words
 arguments_given form.Address at words readable = one_given at words
@@ -174,6 +199,8 @@ arguments_given form.Addresses at words readable = two_given at words
 arguments_given (form.Number most) at words readable = number_given most at words readable
 arguments_given form.Numbered at words readable = numbered_given at words
 arguments_given form.Text at words readable = text_given at words
+arguments_given (form.AddressNumber most) at words readable = address_number_given most at words readable
+arguments_given form.AddressText at words readable = address_text_given at words
 
 -- ---- the row of the first word
 

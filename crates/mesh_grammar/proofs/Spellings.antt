@@ -13,10 +13,10 @@ use Rattle.mesh_grammar.specs.declared.fault.LineFault.TheVariants.{BadAddress, 
 use Rattle.mesh_grammar.specs.declared.form.Form.{Form}
 use Rattle.mesh_grammar.specs.declared.form.Form.TheVariants as form
 use Rattle.mesh_grammar.specs.Words.{Mention, span_at, next_at, with_argument, address_at, number_at, are_printable, is_text, text_of, text_at, is_blank}
-use Rattle.mesh_grammar.specs.Forms.{Arguments, NoArgument, OneAddress, TwoAddresses, OneNumber, NumberedAddress, AddressesAndText, greatest_first, numbered_address, addresses_and_text, arguments_of, IsText, AreOfForm}
+use Rattle.mesh_grammar.specs.Forms.{Arguments, NoArgument, OneAddress, TwoAddresses, OneNumber, NumberedAddress, AddressesAndText, AddressAndNumber, AddressAndText, greatest_first, numbered_address, addresses_and_text, address_and_text, arguments_of, IsText, AreOfForm}
 use Rattle.mesh_grammar.specs.Scripts.{Row, row_in, shape_with, by_row, by_words, shape_by}
 use Rattle.mesh_grammar.specs.Written.{written}
-use Rattle.mesh_grammar.proofs.Readings.{sn_text, three_texts}
+use Rattle.mesh_grammar.proofs.Readings.{sn_text, two_texts, three_texts}
 use Rattle.mesh_grammar.specs.Laws.{mention, after_address, mentioned, HaveAddresses, IsReadable, WrittenLineIsRead}
 
 -- ---- one argument
@@ -54,11 +54,14 @@ words_in (TwoAddresses a b) = dotted a ∷ dotted b ∷ []
 words_in (OneNumber n) = decimal n ∷ []
 words_in (NumberedAddress a first) = dotted a ∷ codes "sn" ∷ decimal first ∷ []
 words_in (AddressesAndText a b text) = dotted a ∷ dotted b ∷ parts 32 text
+words_in (AddressAndNumber a n) = dotted a ∷ decimal n ∷ []
+words_in (AddressAndText a text) = dotted a ∷ parts 32 text
 
 -- numbers have at most 64 bits
 HaveNumbers : Arguments ℕ → Type 0
 HaveNumbers (OneNumber n) = n < 2 ^ 64
 HaveNumbers (NumberedAddress a first) = first < 2 ^ 64
+HaveNumbers (AddressAndNumber a n) = n < 2 ^ 64
 HaveNumbers others = Unit {0}
 
 module _ (word : List ℕ) (lacks : Lacks 32 word) where
@@ -90,6 +93,12 @@ module _ (word : List ℕ) (lacks : Lacks 32 word) where
       ap (parts 32) (sym (three_texts word (dotted a) (dotted b) text))
       ∙ after_name a (dotted b ++ 32 ∷ text) fit.0
       ∙ ap (λ ws. word ∷ dotted a ∷ ws) (parts_at 32 (dotted b) text (dotted_lacks 32 b (omega arith) fit.1))
+  words_written (AddressAndNumber a n) fit low =
+      ap (parts 32) (sym (two_texts word (dotted a) (decimal n)))
+      ∙ after_name a (decimal n) fit
+      ∙ ap (λ ws. word ∷ dotted a ∷ ws) (only_number n low)
+  words_written (AddressAndText a text) fit low =
+      ap (parts 32) (sym (two_texts word (dotted a) text)) ∙ after_name a text fit
 
 -- ---- the arguments of each form
 
@@ -133,6 +142,28 @@ module _ (at : ℕ) where
   texts_there a b text a_fits b_fits is =
       text_joined a b text (parts 32 text) (omega (arith, length-slice_split (λ c. eqb c 32) text)) (join_with_byte-slice_split 32 text) a_fits b_fits is
 
+  number_after : (most a n : ℕ) → most < 2 ^ 64 → a < 2 ^ 32 → 1 ≤ n → n ≤ most
+      → arguments_of (form.AddressNumber most) at (dotted a ∷ decimal n ∷ []) ≡ Ok (AddressAndNumber (mention at a) n)
+  number_after most a n fits a_fits one le =
+      address_there at a (λ x. number_at most (after_address at a) (decimal n) (λ k. Ok (AddressAndNumber x k))) a_fits
+      ∙ number_there most (after_address at a) n (λ k. Ok (AddressAndNumber (mention at a) k)) one le (omega arith)
+
+  -- the words of the text, joined again
+  one_text_joined : (a : ℕ) (text : List ℕ) (ws : List (List ℕ)) → 1 ≤ length ws → join_with_byte 32 ws ≡ text → a < 2 ^ 32 → IsText text
+      → arguments_of form.AddressText at (dotted a ∷ ws) ≡ Ok (AddressAndText (mention at a) text)
+  unfolding address_and_text
+  one_text_joined a text [] some joined fits is = absurd (omega arith)
+  one_text_joined a text (t ∷ ts) some joined fits is =
+      let second : ℕ = after_address at a in
+      address_there at a (λ x. text_at second (join_with_byte 32 (t ∷ ts)) (λ z. Ok (AddressAndText x z))) fits
+      ∙ ap (λ l. text_at second l (λ z. Ok (AddressAndText (mention at a) z))) joined
+      ∙ text_there second text (λ z. Ok (AddressAndText (mention at a) z)) is
+
+  text_after : (a : ℕ) (text : List ℕ) → a < 2 ^ 32 → IsText text
+      → arguments_of form.AddressText at (dotted a ∷ parts 32 text) ≡ Ok (AddressAndText (mention at a) text)
+  text_after a text fits is =
+      one_text_joined a text (parts 32 text) (omega (arith, length-slice_split (λ c. eqb c 32) text)) (join_with_byte-slice_split 32 text) fits is
+
   arguments_there : (f : Form) (arguments : Arguments ℕ) → IsReadable f → AreOfForm f arguments → HaveAddresses arguments
       → arguments_of f at (words_in arguments) ≡ Ok (mentioned at arguments)
   unfolding words_in
@@ -142,6 +173,8 @@ module _ (at : ℕ) where
   arguments_there (form.Number most) (OneNumber n) readable is fit = count_there most n readable is.0 is.1
   arguments_there form.Numbered (NumberedAddress a first) readable is fit = numbered_there a first fit is.0 is.1
   arguments_there form.Text (AddressesAndText a b text) readable is fit = texts_there a b text fit.0 fit.1 is
+  arguments_there (form.AddressNumber most) (AddressAndNumber a n) readable is fit = number_after most a n readable fit is.0 is.1
+  arguments_there form.AddressText (AddressAndText a text) readable is fit = text_after a text fit is
   arguments_there other arguments readable is fit = absurd is
 
 numbers_fit : (f : Form) (arguments : Arguments ℕ) → IsReadable f → AreOfForm f arguments → HaveNumbers arguments
@@ -152,6 +185,8 @@ numbers_fit form.Bare NoArgument readable is = tt
 numbers_fit form.Address (OneAddress a) readable is = tt
 numbers_fit form.Addresses (TwoAddresses a b) readable is = tt
 numbers_fit form.Text (AddressesAndText a b text) readable is = tt
+numbers_fit (form.AddressNumber most) (AddressAndNumber a n) readable is = omega (arith, is.1)
+numbers_fit form.AddressText (AddressAndText a text) readable is = tt
 numbers_fit other arguments readable is = absurd is
 
 -- ---- the line

@@ -19,6 +19,8 @@ pub data Arguments (A : Type 0) : Type 0 where
   OneNumber : (n : ℕ) → Arguments A
   NumberedAddress : (a : A) (first : ℕ) → Arguments A
   AddressesAndText : (a b : A) (text : List ℕ) → Arguments A
+  AddressAndNumber : (a : A) (n : ℕ) → Arguments A
+  AddressAndText : (a : A) (text : List ℕ) → Arguments A
 
 -- the greatest first sequence number, which has 32 bits
 abbrev pub greatest_first : ℕ
@@ -70,6 +72,21 @@ addresses_and_text at (a ∷ b ∷ t ∷ ts) make =
     text_at (next_at (next_at at a) b) (join_with_byte 32 (t ∷ ts)) (λ text. Ok (make x y text))))
 addresses_and_text at others make = Err Count
 
+-- an address, and a number from 1 to the most that is allowed
+abbrev pub address_and_number : {B : Type 0} → ℕ → ℕ → List (List ℕ) → (Mention → ℕ → B)
+    → Result B LineFault
+address_and_number most at (a ∷ n ∷ []) make =
+    address_at at a (λ x. number_at most (next_at at a) n (λ k. Ok (make x k)))
+address_and_number most at others make = Err Count
+
+-- an address, and a text that is all that follows
+unfoldable pub address_and_text : {B : Type 0} → ℕ → List (List ℕ) → (Mention → List ℕ → B)
+    → Result B LineFault
+address_and_text at (a ∷ t ∷ ts) make =
+    address_at at a (λ x.
+    text_at (next_at at a) (join_with_byte 32 (t ∷ ts)) (λ text. Ok (make x text)))
+address_and_text at others make = Err Count
+
 -- the arguments of this form
 abbrev pub arguments_of : Form → ℕ → List (List ℕ) → Result (Arguments Mention) LineFault
 arguments_of form.Bare at words = no_argument words NoArgument
@@ -78,6 +95,8 @@ arguments_of form.Addresses at words = two_addresses at words TwoAddresses
 arguments_of (form.Number most) at words = one_number most at words OneNumber
 arguments_of form.Numbered at words = numbered_address at words NumberedAddress
 arguments_of form.Text at words = addresses_and_text at words AddressesAndText
+arguments_of (form.AddressNumber most) at words = address_and_number most at words AddressAndNumber
+arguments_of form.AddressText at words = address_and_text at words AddressAndText
 
 -- ---- the arguments that a form may have
 
@@ -95,4 +114,6 @@ AreOfForm form.Addresses (TwoAddresses a b) = ⊤
 AreOfForm (form.Number most) (OneNumber n) = (1 ≤ n) × (n ≤ most)
 AreOfForm form.Numbered (NumberedAddress a first) = (1 ≤ first) × (first ≤ greatest_first)
 AreOfForm form.Text (AddressesAndText a b text) = IsText text
+AreOfForm (form.AddressNumber most) (AddressAndNumber a n) = (1 ≤ n) × (n ≤ most)
+AreOfForm form.AddressText (AddressAndText a text) = IsText text
 AreOfForm other arguments = ⊥

@@ -5,7 +5,7 @@ use Rattle.mesh_base.specs.Addresses.{dotted}
 use Rattle.mesh_grammar.specs.declared.form.Form.{Form}
 use Rattle.mesh_grammar.specs.declared.form.Form.TheVariants as form
 use Rattle.mesh_grammar.specs.Words.{Mention, span_at, next_at, is_blank}
-use Rattle.mesh_grammar.specs.Forms.{Arguments, NoArgument, OneAddress, TwoAddresses, OneNumber, NumberedAddress, AddressesAndText, AreOfForm}
+use Rattle.mesh_grammar.specs.Forms.{Arguments, NoArgument, OneAddress, TwoAddresses, OneNumber, NumberedAddress, AddressesAndText, AddressAndNumber, AddressAndText, AreOfForm}
 use Rattle.mesh_grammar.specs.Scripts.{Row, Shape, row_in, shape_by}
 use Rattle.mesh_grammar.specs.Written.{written}
 
@@ -28,6 +28,8 @@ mentioned at (OneNumber n) = OneNumber n
 mentioned at (NumberedAddress a first) = NumberedAddress (mention at a) first
 mentioned at (AddressesAndText a b text) =
     AddressesAndText (mention at a) (mention (after_address at a) b) text
+mentioned at (AddressAndNumber a n) = AddressAndNumber (mention at a) n
+mentioned at (AddressAndText a text) = AddressAndText (mention at a) text
 
 -- addresses have 32 bits
 abbrev pub HaveAddresses : Arguments ℕ → Type 0
@@ -35,11 +37,14 @@ HaveAddresses (OneAddress a) = a < 2 ^ 32
 HaveAddresses (TwoAddresses a b) = (a < 2 ^ 32) × (b < 2 ^ 32)
 HaveAddresses (NumberedAddress a first) = a < 2 ^ 32
 HaveAddresses (AddressesAndText a b text) = (a < 2 ^ 32) × (b < 2 ^ 32)
+HaveAddresses (AddressAndNumber a n) = a < 2 ^ 32
+HaveAddresses (AddressAndText a text) = a < 2 ^ 32
 HaveAddresses others = ⊤
 
 -- no number that a form allows has more than 64 bits
 abbrev pub IsReadable : Form → Type 0
 IsReadable (form.Number most) = most < 2 ^ 64
+IsReadable (form.AddressNumber most) = most < 2 ^ 64
 IsReadable others = ⊤
 
 -- a table of such forms
@@ -80,6 +85,8 @@ addresses_of (TwoAddresses a b) = TwoAddresses a.address b.address
 addresses_of (OneNumber n) = OneNumber n
 addresses_of (NumberedAddress a first) = NumberedAddress a.address first
 addresses_of (AddressesAndText a b text) = AddressesAndText a.address b.address text
+addresses_of (AddressAndNumber a n) = AddressAndNumber a.address n
+addresses_of (AddressAndText a text) = AddressAndText a.address text
 
 -- the line is the text of this word and these arguments, or names an address without its number,
 -- which is 1

@@ -15,4 +15,8 @@ pub enum Form {
     Numbered,
     /// Two addresses, and a text that goes to the line's end.
     Text,
+    /// An address, and a number from 1 to the most that is allowed.
+    AddressNumber { most: u64 },
+    /// An address, and a text that goes to the line's end.
+    AddressText,
 }

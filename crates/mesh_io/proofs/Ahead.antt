@@ -85,7 +85,7 @@ told_line most given after ended pending line now known left d len size few e no
     let first = first_is pending in record {
       first = with_rest rest (first_line pending);
       next = next ∙ ap (next_with rest) decided.next;
-      line_is = shown ∙ ap (λ n. take n pending) decided.len_is ∙ sym first.front;
+      line_is = shown ∙ ap (λ n. take n pending) decided.len_is ∙ sym first.prefix;
       after_is = more ∙ ap (λ n. given + n) decided.size_is;
       left_is = ap (prepend_known now) l ∙ ap (λ p. Some (p ++ rest)) (later ∙ ap (λ n. drop n pending) decided.size_is ∙ sym first.back);
     })

@@ -105,7 +105,7 @@ pub decision_long : (most : Limits) (given : ℕ) (ended : Bool) (bytes : List �
 decision_long most given ended bytes few long =
     let f = first_line bytes in
     let within = (first_is bytes).within in
-    let front : length f.line ≤ line_size f = longer f in
+    let prefix : length f.line ≤ line_size f = longer f in
     sym (
     decision_next most given ended bytes _ (decides_long most given ended bytes (omega arith)) (omega arith) (by_long most given f long)
     ∙ same (leb (given + most.line + 1) most.input) ∙ ap (λ b. cond b decision.TooLong decision.TooMuch) tests)

@@ -7,23 +7,23 @@ use Rattle.std.proofs.Math.Seq.{drop-cons}
 use Rattle.memchr.specs.Find.{Nowhere, Passes, is_byte}
 use Rattle.mesh_io.specs.NextLines.{FirstLine, first_line, with_byte, line_size}
 
--- the line is the bytes' front, what stands after it their back
+-- the line is the bytes' prefix, what stands after it their back
 pub record IsFirst (bytes : List ℕ) (first : FirstLine) : Type 0 where
-  pub front : first.line ≡ take (length first.line) bytes
+  pub prefix : first.line ≡ take (length first.line) bytes
   pub back : first.rest ≡ drop (line_size first) bytes
   pub within : line_size first ≤ length bytes
 
 pub first_is : (bytes : List ℕ) → IsFirst bytes (first_line bytes)
-first_is [] = record { front = refl; back = refl; within = omega arith }
+first_is [] = record { prefix = refl; back = refl; within = omega arith }
 first_is (b ∷ bs) = by_test (eqb b 10) (first_line bs) (first_is bs)
   where
     by_test : (t : Bool) (first : FirstLine) → IsFirst bs first
         → IsFirst (b ∷ bs) (cond t (record { line = []; ends = true; rest = bs }) (with_byte b first))
-    by_test true first h = record { front = refl; back = refl; within = omega arith }
+    by_test true first h = record { prefix = refl; back = refl; within = omega arith }
     by_test false first h =
         let size : line_size (with_byte b first) ≡ suc (line_size first) = omega arith in
         let low = h.within in record
-        { front = ap (λ l. b ∷ l) h.front; back = h.back ∙ sym (ap (λ n. drop n (b ∷ bs)) size); within = omega arith }
+        { prefix = ap (λ l. b ∷ l) h.prefix; back = h.back ∙ sym (ap (λ n. drop n (b ∷ bs)) size); within = omega arith }
 
 -- a line that has its LF, with these bytes behind
 abbrev pub with_rest : List ℕ → FirstLine → FirstLine

@@ -1,13 +1,15 @@
 -- What the bytes at hand decide stays so whatever comes after them.
-use Rattle.std.proofs.Common.{◌≡◌, ◌≢◌, ℕ, ◌+◌, ◌<◌, ◌≤◌, Bool, true, false, cond, leb, ltb, List, [], ◌∷◌, ◌++◌, length, eqb, inl, inr, refl, sym, ap, ◌∙◌, arith, append-nil, length-append, ◌||◌}
+use Rattle.std.proofs.Common.{◌≡◌, ◌≢◌, ℕ, ◌+◌, ◌<◌, ◌≤◌, Bool, true, false, cond, leb, ltb, List, [], ◌∷◌, ◌++◌, length, take, eqb, inl, inr, refl, sym, ap, ◌∙◌, arith, append-nil, length-append, ◌||◌}
 use Rattle.std.proofs.lemmas.Bool.{cases_lt, lt-leb}
 use Rattle.std.proofs.lemmas.Bool.Decides.{nat_tests}
+use Rattle.std.proofs.lemmas.List.{length-take-le}
 use Rattle.mesh_io.specs.NextLines.{FirstLine, first_line, with_byte, line_size, NextLine, End, Line, TooLong, TooMuch, next_by, next_of}
 use Rattle.mesh_io.specs.Decisions.{decides, decision_by, decision_of}
+use Rattle.mesh_io.specs.Cutting.{IsCounted}
 use Rattle.mesh_io.specs.declared.limits.Limits.{Limits}
 use Rattle.mesh_io.specs.declared.decision.Decision.{Decision}
 use Rattle.mesh_io.specs.declared.decision.Decision.TheVariants as decision
-use Rattle.mesh_io.proofs.FirstLines.{with_rest, after, first_ended, first_open, first_whole}
+use Rattle.mesh_io.proofs.FirstLines.{with_rest, after, first_ended, first_open, first_whole, first_is}
 use Rattle.mesh_io.proofs.Deciding.{by_long, by_much, next_is}
 
 -- a line found, with these bytes behind it
@@ -105,6 +107,13 @@ next_same most given ended bytes rest few d none =
     not_below : (x y : ℕ) → ltb x y ≡ false → y ≤ x
     not_below x y e = grind (arith, nat_tests)
 
+-- bytes within the limits that have no LF decide only where none come after them
+ended_by : (most : Limits) (given : ℕ) (ended : Bool) (bytes : List ℕ) → decides most given ended bytes ≡ true → (first_line bytes).ends ≡ false
+    → length bytes ≤ most.line → given + length bytes ≤ most.input → ended ≡ true
+ended_by most given ended bytes d none short few =
+    by_reasons ended (first_line bytes).ends (ltb most.line (length bytes)) (ltb most.input (given + length bytes)) d
+    (λ a. a) (λ b. absurd (let clash : true ≡ false = sym b ∙ none in cc)) (λ b c. absurd (grind (arith, nat_tests))) (λ b c e. absurd (grind (arith, nat_tests)))
+
 -- ---- what a decision says
 
 -- a decision of a line
@@ -115,6 +124,8 @@ pub record DecidesLine (most : Limits) (given : ℕ) (ended : Bool) (bytes : Lis
   pub size_is : size ≡ line_size (first_line bytes)
   pub some : 1 ≤ size
   pub few : given + size ≤ most.input
+  pub short : len ≤ most.line
+  pub last : (first_line bytes).ends ≡ false → ended ≡ true
 
 some_size : (b : ℕ) (bs : List ℕ) → 1 ≤ line_size (first_line (b ∷ bs))
 some_size b bs = by_test (eqb b 10)
@@ -152,11 +163,38 @@ decides_line most given ended (b ∷ bs) d len size e is =
           size_is = size_is;
           some = omega arith;
           few = let fits : given + line_size f ≤ most.input = grind (arith, nat_tests) in omega arith;
+          short = let low : length f.line ≤ most.line = grind (arith, nat_tests) in omega arith;
+          last = λ none.
+              let low : length f.line ≤ most.line = grind (arith, nat_tests) in
+              let fits : given + line_size f ≤ most.input = grind (arith, nat_tests) in
+              let all : length f.line ≡ length (b ∷ bs) = ap (λ x. length x.line) (first_whole (b ∷ bs) none) in
+              ended_by most given ended (b ∷ bs) et none (omega arith) (omega arith);
         }
     by_tests true true true z et ex ez e = absurd cc
     by_tests true true false z et ex ez e = absurd cc
     by_tests true false y false et ex ez e = absurd cc
     by_tests false x y z et ex ez e = absurd cc
+
+-- a line that is given is counted with its LF, or is the last
+pub counted_by : (most : Limits) (before given after : ℕ) (ended ended' : Bool) (bytes line : List ℕ) (len size : ℕ) → DecidesLine most given ended bytes len size
+    → given ≡ before → after ≡ given + size → ended' ≡ ended → line ≡ take len bytes → IsCounted (length line) before after ended'
+counted_by most before given after ended ended' bytes line len size d same more stays shown =
+    let whole = first_is bytes in
+    let within = whole.within in
+    let len_is = d.len_is in
+    let size_is = d.size_is in
+    let some : length line ≡ len = ap length shown ∙ length-take-le len bytes (omega arith) in
+    by_end (first_line bytes).ends refl some
+  where
+    by_end : (b : Bool) → (first_line bytes).ends ≡ b → length line ≡ len → IsCounted (length line) before after ended'
+    by_end true e some =
+        let len_is = d.len_is in
+        let lf : size ≡ length (first_line bytes).line + 1 = d.size_is ∙ ap (λ b. length (first_line bytes).line + cond b 1 0) e in
+        inl (omega arith)
+    by_end false e some =
+        let len_is = d.len_is in
+        let none : size ≡ length (first_line bytes).line + 0 = d.size_is ∙ ap (λ b. length (first_line bytes).line + cond b 1 0) e in
+        inr (omega arith, stays ∙ d.last e)
 
 -- the input ends only where it has ended and no bytes are at hand
 pub decides_end : (most : Limits) (given : ℕ) (ended : Bool) (bytes : List ℕ) (d : Decision) → given ≤ most.input → d ≡ decision_of most given ended bytes

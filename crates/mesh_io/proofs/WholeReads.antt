@@ -20,7 +20,7 @@ front_at_end (Some x) None bytes p q le = absurd p
 front_at_end (Some x) (Some y) bytes p q le =
     let e : x ≡ bytes = p ∙ ap (λ l. bytes ++ l) q ∙ append-nil bytes in
     let P : List ℕ → Type 0 = λ l. IsFront l bytes false in
-    subst P (sym e) (record { front = sym (take_all LONGEST_INPUT bytes le); goes_on = grind (arith, nat_tests) })
+    subst P (sym e) (record { prefix = sym (take_all LONGEST_INPUT bytes le); goes_on = grind (arith, nat_tests) })
 
 -- more than the limit was taken
 pub front_past : (a b : Option (List ℕ)) (bytes : List ℕ) → Consumes a b bytes → LONGEST_INPUT < length bytes → IfSome a (λ input. IsFront input (take LONGEST_INPUT bytes) true)
@@ -29,7 +29,7 @@ front_past (Some x) None bytes p lt = absurd p
 front_past (Some x) (Some y) bytes p lt =
     let P : List ℕ → Type 0 = λ l. IsFront l (take LONGEST_INPUT bytes) true in
     let len = length-append bytes y in
-    subst P (sym p) (record { front = sym (take-append-le LONGEST_INPUT bytes y (omega arith)); goes_on = longer bytes y lt })
+    subst P (sym p) (record { prefix = sym (take-append-le LONGEST_INPUT bytes y (omega arith)); goes_on = longer bytes y lt })
   where
     longer : (xs ys : List ℕ) → LONGEST_INPUT < length xs → true ≡ ltb LONGEST_INPUT (length (xs ++ ys))
     longer xs ys h = let len = length-append xs ys in grind (arith, nat_tests, len)

@@ -5,7 +5,7 @@ use Rattle.std.proofs.Math.Seq.{take-add, drop-append_seam}
 use Rattle.std.specs.Result.{IsErr}
 use Rattle.std.specs.Io.KnownBytes.{Appends, Keeps, append_known}
 use Rattle.mesh_io.specs.Growth.{known_front}
-use Rattle.mesh_io.specs.Puts.{AppendsFront, Puts}
+use Rattle.mesh_io.specs.Puts.{AppendsPrefix, Puts}
 
 -- a part and then the rest is the whole
 pub Appends-join : (a b c : Option (List ℕ)) (xs ys zs : List ℕ) → zs ≡ xs ++ ys → Appends a b xs → Appends b c ys → Appends a c zs
@@ -26,33 +26,33 @@ Appends-none None = tt
 Appends-none (Some x) = sym (append-nil x)
 
 -- nothing of it was written
-pub AppendsFront-none : (a : Option (List ℕ)) (text : List ℕ) → AppendsFront a a text
-AppendsFront-none a text = record { front = []; rest = text; whole = refl; grown = Appends-none a }
+pub AppendsPrefix-none : (a : Option (List ℕ)) (text : List ℕ) → AppendsPrefix a a text
+AppendsPrefix-none a text = record { prefix = []; rest = text; whole = refl; grown = Appends-none a }
 
 -- nor where what is held stays
-pub AppendsFront-kept : (a b : Option (List ℕ)) (text : List ℕ) → Keeps a b → AppendsFront a b text
-AppendsFront-kept a b text h = record { front = []; rest = text; whole = refl; grown = Appends-kept a b h }
+pub AppendsPrefix-kept : (a b : Option (List ℕ)) (text : List ℕ) → Keeps a b → AppendsPrefix a b text
+AppendsPrefix-kept a b text h = record { prefix = []; rest = text; whole = refl; grown = Appends-kept a b h }
 
--- a front of the second part
-pub AppendsFront-join : (a b c : Option (List ℕ)) (xs ys zs : List ℕ) → zs ≡ xs ++ ys → Appends a b xs → AppendsFront b c ys → AppendsFront a c zs
-AppendsFront-join a b c xs ys zs e p q = record {
-  front = xs ++ q.front;
+-- a prefix of the second part
+pub AppendsPrefix-join : (a b c : Option (List ℕ)) (xs ys zs : List ℕ) → zs ≡ xs ++ ys → Appends a b xs → AppendsPrefix b c ys → AppendsPrefix a c zs
+AppendsPrefix-join a b c xs ys zs e p q = record {
+  prefix = xs ++ q.prefix;
   rest = q.rest;
-  whole = e ∙ ap (λ l. xs ++ l) q.whole ∙ sym (append_assoc xs q.front q.rest);
-  grown = Appends-join a b c xs q.front (xs ++ q.front) refl p q.grown;
+  whole = e ∙ ap (λ l. xs ++ l) q.whole ∙ sym (append_assoc xs q.prefix q.rest);
+  grown = Appends-join a b c xs q.prefix (xs ++ q.prefix) refl p q.grown;
 }
 
 -- a part and then the rest
 pub Puts-join : {T E : Type 0} (a b c : Option (List ℕ)) (xs ys zs : List ℕ) (r : Result T E) → zs ≡ xs ++ ys → Appends a b xs → Puts b c ys r → Puts a c zs r
 Puts-join a b c xs ys zs (Ok x) e p q = Appends-join a b c xs ys zs e p q
-Puts-join a b c xs ys zs (Err x) e p q = AppendsFront-join a b c xs ys zs e p q
+Puts-join a b c xs ys zs (Err x) e p q = AppendsPrefix-join a b c xs ys zs e p q
 
 -- the end of a piece
 pub Puts-end : {T : Type 0} (E : Type 0) (a : Option (List ℕ)) (xs : List ℕ) (x : T) → length xs ≡ 0 → Puts {T = T} {E = E} a a xs (Ok x)
 Puts-end E a [] x h = Appends-none a
 Puts-end E a (y ∷ ys) x h = absurd (omega Rattle.std.proofs.Common.arith)
 
--- a front goes on with a front of the rest
+-- a prefix goes on with a prefix of the rest
 pub take_on : (i n : ℕ) (xs : List ℕ) → take (i + n) xs ≡ take i xs ++ take n (take (length xs - i) (drop i xs))
 take_on i n xs = rw take_rest (take-add i n xs)
 
@@ -63,14 +63,14 @@ Appends-keeps (Some x) None c xs p h = absurd p
 Appends-keeps (Some x) (Some y) None xs p h = absurd h
 Appends-keeps (Some x) (Some y) (Some z) xs p h = h ∙ p
 
--- what is held stays after a front of the text
-pub AppendsFront-keeps : (a b c : Option (List ℕ)) (text : List ℕ) → AppendsFront a b text → Keeps b c → AppendsFront a c text
-AppendsFront-keeps a b c text p h = record { front = p.front; rest = p.rest; whole = p.whole; grown = Appends-keeps a b c p.front p.grown h }
+-- what is held stays after a prefix of the text
+pub AppendsPrefix-keeps : (a b c : Option (List ℕ)) (text : List ℕ) → AppendsPrefix a b text → Keeps b c → AppendsPrefix a c text
+AppendsPrefix-keeps a b c text p h = record { prefix = p.prefix; rest = p.rest; whole = p.whole; grown = Appends-keeps a b c p.prefix p.grown h }
 
 -- what is held stays after what was put
 pub Puts-keeps : {T E : Type 0} (a b c : Option (List ℕ)) (text : List ℕ) (r : Result T E) → Puts a b text r → Keeps b c → Puts a c text r
 Puts-keeps a b c text (Ok x) p h = Appends-keeps a b c text p h
-Puts-keeps a b c text (Err x) p h = AppendsFront-keeps a b c text p h
+Puts-keeps a b c text (Err x) p h = AppendsPrefix-keeps a b c text p h
 
 -- a buffer that gathers nothing holds what its sink holds
 pub append_known-nil : (known : Option (List ℕ)) (gathered : List ℕ) → gathered ≡ [] → append_known known gathered ≡ known
@@ -83,13 +83,13 @@ pub Appends-handed : (before now : Option (List ℕ)) (gathered text : List ℕ)
 Appends-handed before now gathered text e p =
     let P : Option (List ℕ) → Type 0 = λ known. Appends before known text in subst P (append_known-nil now gathered e) p
 
--- a front of a text went into a buffer, which has handed on a part of it
-pub AppendsFront-handed : (before now : Option (List ℕ)) (gathered text : List ℕ)
-    → known_front before now ≡ before → AppendsFront before (append_known now gathered) text → AppendsFront before now text
-AppendsFront-handed None now gathered text e p = record { front = []; rest = text; whole = refl; grown = tt }
-AppendsFront-handed (Some xs) None gathered text e p = absurd p.grown
-AppendsFront-handed (Some xs) (Some ys) gathered text e p = record
-    { front = zs; rest = gathered ++ p.rest; whole = p.whole ∙ ap (λ l. l ++ p.rest) split ∙ append_assoc zs gathered p.rest; grown = on }
+-- a prefix of a text went into a buffer, which has handed on a part of it
+pub AppendsPrefix-handed : (before now : Option (List ℕ)) (gathered text : List ℕ)
+    → known_front before now ≡ before → AppendsPrefix before (append_known now gathered) text → AppendsPrefix before now text
+AppendsPrefix-handed None now gathered text e p = record { prefix = []; rest = text; whole = refl; grown = tt }
+AppendsPrefix-handed (Some xs) None gathered text e p = absurd p.grown
+AppendsPrefix-handed (Some xs) (Some ys) gathered text e p = record
+    { prefix = zs; rest = gathered ++ p.rest; whole = p.whole ∙ ap (λ l. l ++ p.rest) split ∙ append_assoc zs gathered p.rest; grown = on }
   where
     zs : List ℕ
     zs = drop (length xs) ys
@@ -99,19 +99,19 @@ AppendsFront-handed (Some xs) (Some ys) gathered text e p = record
         let kept : take (length xs) ys ≡ xs = cc in
         sym (take-append-drop (length xs) ys) ∙ ap (λ l. l ++ drop (length xs) ys) kept
 
-    split : p.front ≡ drop (length xs) ys ++ gathered
+    split : p.prefix ≡ drop (length xs) ys ++ gathered
     split =
         let long = ap length on in
         let both = length-append xs (drop (length xs) ys) in
-        sym (drop-append_seam xs p.front) ∙ ap (drop (length xs)) (sym p.grown) ∙ drop-append-le (length xs) ys gathered (omega arith)
+        sym (drop-append_seam xs p.prefix) ∙ ap (drop (length xs)) (sym p.grown) ∙ drop-append-le (length xs) ys gathered (omega arith)
 
--- a front of a text that was put through a buffer was put to its sink
-pub AppendsFront-through : (before start opened closed now : Option (List ℕ)) (text : List ℕ) → before ≡ start → opened ≡ before
-    → (AppendsFront start closed text → AppendsFront start now text) → AppendsFront opened closed text → AppendsFront before now text
-AppendsFront-through before start opened closed now text s e front p =
-    let P : Option (List ℕ) → Type 0 = λ known. AppendsFront known closed text in
-    let Q : Option (List ℕ) → Type 0 = λ known. AppendsFront known now text in
-    subst Q (sym s) (front (subst P (e ∙ s) p))
+-- a prefix of a text that was put through a buffer was put to its sink
+pub AppendsPrefix-through : (before start opened closed now : Option (List ℕ)) (text : List ℕ) → before ≡ start → opened ≡ before
+    → (AppendsPrefix start closed text → AppendsPrefix start now text) → AppendsPrefix opened closed text → AppendsPrefix before now text
+AppendsPrefix-through before start opened closed now text s e prefix p =
+    let P : Option (List ℕ) → Type 0 = λ known. AppendsPrefix known closed text in
+    let Q : Option (List ℕ) → Type 0 = λ known. AppendsPrefix known now text in
+    subst Q (sym s) (prefix (subst P (e ∙ s) p))
 
 -- a text that was put whole through a buffer, which handed on all, was put to its sink
 pub Appends-through : (before opened closed now : Option (List ℕ)) (text : List ℕ) → opened ≡ before → now ≡ closed
@@ -124,29 +124,29 @@ Appends-through before opened closed now text e whole p =
 -- what was put through a buffer was put to its sink, once the buffer has given it back
 pub Puts-through : {T E : Type 0} (before start opened closed now : Option (List ℕ)) (gathered text : List ℕ) (r : Result T E)
     → before ≡ start → opened ≡ before → OnOk r (gathered ≡ []) → (gathered ≡ [] → now ≡ closed)
-    → (AppendsFront start closed text → AppendsFront start now text) → Puts opened closed text r → Puts before now text r
-Puts-through before start opened closed now gathered text (Ok x) s e all whole front p =
+    → (AppendsPrefix start closed text → AppendsPrefix start now text) → Puts opened closed text r → Puts before now text r
+Puts-through before start opened closed now gathered text (Ok x) s e all whole prefix p =
     Appends-through before opened closed now text e (whole all) p
-Puts-through before start opened closed now gathered text (Err x) s e all whole front p =
-    AppendsFront-through before start opened closed now text s e front p
+Puts-through before start opened closed now gathered text (Err x) s e all whole prefix p =
+    AppendsPrefix-through before start opened closed now text s e prefix p
 
--- a front of a text is one of a longer text
-pub AppendsFront-more : (a b : Option (List ℕ)) (xs ys zs : List ℕ) → zs ≡ xs ++ ys → AppendsFront a b xs → AppendsFront a b zs
-AppendsFront-more a b xs ys zs e p = record
-    { front = p.front; rest = p.rest ++ ys; whole = e ∙ ap (λ l. l ++ ys) p.whole ∙ append_assoc p.front p.rest ys; grown = p.grown }
+-- a prefix of a text is one of a longer text
+pub AppendsPrefix-more : (a b : Option (List ℕ)) (xs ys zs : List ℕ) → zs ≡ xs ++ ys → AppendsPrefix a b xs → AppendsPrefix a b zs
+AppendsPrefix-more a b xs ys zs e p = record
+    { prefix = p.prefix; rest = p.rest ++ ys; whole = e ∙ ap (λ l. l ++ ys) p.whole ∙ append_assoc p.prefix p.rest ys; grown = p.grown }
 
--- what was written of a text, whether whole or not, is a front of it
-pub Puts-front : {T E : Type 0} (a b : Option (List ℕ)) (xs ys zs : List ℕ) (r : Result T E) → zs ≡ xs ++ ys → Puts a b xs r → AppendsFront a b zs
-Puts-front a b xs ys zs (Ok x) e p = record { front = xs; rest = ys; whole = e; grown = p }
-Puts-front a b xs ys zs (Err x) e p = AppendsFront-more a b xs ys zs e p
+-- what was written of a text, whether whole or not, is a prefix of it
+pub Puts-front : {T E : Type 0} (a b : Option (List ℕ)) (xs ys zs : List ℕ) (r : Result T E) → zs ≡ xs ++ ys → Puts a b xs r → AppendsPrefix a b zs
+Puts-front a b xs ys zs (Ok x) e p = record { prefix = xs; rest = ys; whole = e; grown = p }
+Puts-front a b xs ys zs (Err x) e p = AppendsPrefix-more a b xs ys zs e p
 
 -- where nothing failed the text was written whole
 pub Puts-whole : {T E : Type 0} (a b : Option (List ℕ)) (xs : List ℕ) (r : Result T E) → is_err r ≡ false → Puts a b xs r → Appends a b xs
 Puts-whole a b xs (Ok x) e p = p
 Puts-whole a b xs (Err x) e p = absurd cc
 
--- a failed call ends the whole text, of which a front was written
-pub Puts-fault : {T E : Type 0} (a b : Option (List ℕ)) (text : List ℕ) (r : Result T E) → IsErr r → AppendsFront a b text → Puts a b text r
+-- a failed call ends the whole text, of which a prefix was written
+pub Puts-fault : {T E : Type 0} (a b : Option (List ℕ)) (text : List ℕ) (r : Result T E) → IsErr r → AppendsPrefix a b text → Puts a b text r
 Puts-fault a b text (Ok x) is p = absurd cc
 Puts-fault a b text (Err e) is p = p
 

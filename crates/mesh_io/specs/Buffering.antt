@@ -19,7 +19,7 @@ buffer_size = 65536
 abbrev pub held_by : {S : Type 0} → (S → Option (List ℕ)) → Buffered S → Option (List ℕ)
 held_by held buffer = append_known (held (inner_of buffer)) (gathered_in buffer)
 
--- a sink took a front of what was gathered, and the rest stayed
+-- a sink took a prefix of what was gathered, and the rest stayed
 pub record HandsOn (before now : Option (List ℕ)) (gathered rest : List ℕ) : Type 0 where
   pub handed : List ℕ
   pub whole : gathered ≡ handed ++ rest

@@ -1,5 +1,5 @@
 -- What is seen of a source that is cut into lines, and what it answers.
-use Rattle.std.specs.Prelude.{ℕ, ◌+◌, ◌-◌, ◌≡◌, Bool, true, false, if◌then◌else◌, List, [], length, take, drop, Option, Some, None, Result, Ok, Err, ⊤}
+use Rattle.std.specs.Prelude.{ℕ, ◌+◌, ◌-◌, ◌≡◌, ◌⊎◌, Bool, true, false, if◌then◌else◌, List, [], length, take, drop, Option, Some, None, Result, Ok, Err, ⊤}
 use Rattle.std.specs.Io.KnownBytes.{prepend_known}
 use Rattle.mesh_io.specs.NextLines.{FirstLine, first_line, line_size, Line, TooLong, TooMuch, next_of}
 use Rattle.mesh_io.specs.Decisions.{decides}
@@ -57,6 +57,10 @@ Refuses (Err error.TooLong) refusal = refusal ≡ Some error.TooLong
 -- no byte is an LF
 abbrev pub HasNoLf : List ℕ → Type 0
 HasNoLf bytes = (first_line bytes).ends ≡ false
+
+-- a line of this length was counted with its LF; only the last of an input, whose source has ended, may have none
+abbrev pub IsCounted : (len before after : ℕ) → Bool → Type 0
+IsCounted len before after ended = (after ≡ before + len + 1) ⊎ ((after ≡ before + len) × (ended ≡ true))
 
 -- a line found is the first of the bytes to come
 pub record FindsLine (most : Limits) (given : ℕ) (bytes line : List ℕ) (after : ℕ) (left : Option (List ℕ)) : Type 0 where

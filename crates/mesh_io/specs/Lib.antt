@@ -1,8 +1,8 @@
 -- Read in this order: what causes a refusal, what was written of a text, bytes that only grow, the
--- front of an input, calls that fail by plan, sources and sinks in memory, those over std's readers
+-- prefix of an input, calls that fail by plan, sources and sinks in memory, those over std's readers
 -- and writers, a buffer before a sink; the next line of an input, when the bytes at hand decide it,
 -- what is seen of a source that is cut into lines,
--- and of a reader of lines.
+-- of a reader of lines, and of one of a printed text's lines.
 pub mod Cause
 pub mod Puts
 pub mod Growth
@@ -15,3 +15,4 @@ pub mod NextLines
 pub mod Decisions
 pub mod Cutting
 pub mod Reading
+pub mod LongReading

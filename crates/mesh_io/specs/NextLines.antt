@@ -2,10 +2,15 @@
 use Rattle.std.specs.Prelude.{ℕ, ◌+◌, ◌==◌, Bool, true, false, nat_lt, nat_le, if◌then◌else◌, List, [], ◌∷◌, length, Option, Some, None}
 use Rattle.mesh_base.specs.declared.limits.TheConstants.{LONGEST_LINE, LONGEST_INPUT}
 use Rattle.mesh_io.specs.declared.limits.Limits.{Limits}
+use Rattle.mesh_io.specs.declared.limits.TheConstants.{LONGEST_TEXT_LINE, LONGEST_TEXT}
 
 -- the limits of a schedule
 abbrev pub schedule_limits : Limits
 schedule_limits = record { line = LONGEST_LINE; input = LONGEST_INPUT }
+
+-- the limits of a printed text
+abbrev pub text_limits : Limits
+text_limits = record { line = LONGEST_TEXT_LINE; input = LONGEST_TEXT }
 
 -- the bytes before the first LF, whether there is one, and the bytes after it
 pub record FirstLine : Type 0 where

@@ -3,7 +3,7 @@ ghost use Rattle.std.specs.Prelude.{◌≡◌, ◌≤◌, ◌<◌, ◌+◌, ◌-
 ghost use Rattle.std.specs.Io.KnownBytes.{Keeps, WriteAppends};
 ghost use Rattle.arrayvec.specs.ArrayVec.{array_vec_len};
 ghost use Rattle.mesh_io.specs.Cause.{HasCause};
-ghost use Rattle.mesh_io.specs.Puts.{AppendsFront};
+ghost use Rattle.mesh_io.specs.Puts.{AppendsPrefix};
 ghost use Rattle.mesh_io.specs.Buffering.{inner_of, gathered_in, held_by, buffer_size, HandsOn};
 
 use crate::put::{PutFault, put_front};
@@ -130,8 +130,8 @@ impl<'s, O: Sink, L: Loan> Buffered<Through<'s, O, L>> {
         ensures name { result.ghost_name ≡ L.name }
         ensures sink { result.now ≡ (inner_of self.entry).to.now }
         ensures whole { gathered_in self.entry ≡ [] → O.held result.now ≡ held_by (λ t. O.held t.to.now) self.entry }
-        ensures front { (text : List ℕ) → AppendsFront L.start (held_by (λ t. O.held t.to.now) self.entry) text
-            → AppendsFront L.start (O.held result.now) text }
+        ensures prefix { (text : List ℕ) → AppendsPrefix L.start (held_by (λ t. O.held t.to.now) self.entry) text
+            → AppendsPrefix L.start (O.held result.now) text }
     {
         let Through { to, loan: _ } = self.into_inner();
         to

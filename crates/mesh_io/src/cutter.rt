@@ -13,7 +13,7 @@ use crate::read_buffer::{ASKED, ROOM, ReadBuffer};
 use crate::source::{Failed, Source};
 
 /// Cuts what a source gives into lines within these limits. The line that was found last stands at
-/// the buffer's front, with its LF, and behind it the bytes that were read and not yet given.
+/// the buffer's prefix, with its LF, and behind it the bytes that were read and not yet given.
 #[derive(Drop)]
 pub struct Cutter<'s, S: Source> {
     source: &'s mut S,
@@ -36,9 +36,9 @@ pub struct Cutter<'s, S: Source> {
 }
 
 impl<'s, S: Source> Cutter<'s, S> {
-    ghost use Rattle.mesh_io.specs.Cutting.{line_in, pending_in, ahead_in, faults_in, decides_in, reads_to_come, Tells, Refuses, HasNoLf, refusal_in};
+    ghost use Rattle.mesh_io.specs.Cutting.{line_in, pending_in, ahead_in, faults_in, decides_in, reads_to_come, Tells, Refuses, IsCounted, HasNoLf, refusal_in};
 
-    /// At the front of the source.
+    /// At the prefix of the source.
     pub fn new(source: &'s mut S, most: Limits) -> Cutter<'s, S>
         requires { most.line + ASKED ≤ ROOM }
         ensures same { result.source.ghost_name ≡ source.entry.ghost_name }
@@ -58,6 +58,24 @@ impl<'s, S: Source> Cutter<'s, S> {
             ended: false,
             decision: Decision::Open,
         }
+    }
+
+    /// The source. What was read of it and not given is lost.
+    pub fn give_back(self) -> &'s mut S
+        ensures same { result.ghost_name ≡ self.entry.source.ghost_name }
+        ensures source { result.now ≡ self.entry.source.now }
+    {
+        let Cutter {
+            source,
+            buffer: _,
+            most: _,
+            len: _,
+            size: _,
+            given: _,
+            ended: _,
+            decision: _,
+        } = self;
+        source
     }
 
     /// The line that was found last.
@@ -95,13 +113,14 @@ impl<'s, S: Source> Cutter<'s, S> {
         Ok(())
     }
 
-    // Gives the front of what is pending as a line.
+    // Gives the prefix of what is pending as a line.
     fn give(&mut self, len: usize, size: usize)
         requires within { len ≤ size }
         requires whole { size ≤ length (pending_in self.old) }
         requires few { self.old.given + size ≤ self.old.most.input }
         ensures same { self.new.source ≡ self.old.source }
         ensures most { self.new.most ≡ self.old.most }
+        ensures ended { self.new.ended ≡ self.old.ended }
         ensures line { line_in self.new ≡ take len (pending_in self.old) }
         ensures pending { pending_in self.new ≡ drop size (pending_in self.old) }
         ensures given { self.new.given ≡ self.old.given + size }
@@ -125,6 +144,10 @@ impl<'s, S: Source> Cutter<'s, S> {
         ensures stays { IfSome (refusal_in self.old) (λ refusal.
             (result ≡ Err refusal) × (self.new ≡ self.old)) }
         ensures kept { Refuses result (refusal_in self.new) }
+        ensures unasked { decides_in self.old ≡ true → ¬ IsErrOf result LineError.ReadFault }
+        ensures short { result ≡ Ok true → length (line_in self.new) ≤ self.old.most.line }
+        ensures counted { result ≡ Ok true → IsCounted (length (line_in self.new))
+            self.old.given self.new.given self.new.ended }
         ensures grows { result ≡ Ok true → self.old.given < self.new.given }
         ensures few { self.new.given ≤ self.new.most.input }
         ensures end { result ≡ Ok false → IsAtEnd (S.left self.new.source.now) }

@@ -1,5 +1,12 @@
 //! The limits of the lines of an input.
 
+/// The most bytes of a line of a printed text, without its LF. The longest that `mesh run` writes,
+/// a route error cast to 200 nodes, has some 6,430.
+pub const LONGEST_TEXT_LINE: usize = 8192;
+
+/// The most bytes of a printed text.
+pub const LONGEST_TEXT: usize = 268_435_456;
+
 /// The most bytes of a line, without its LF, and of an input.
 #[derive(Clone, Copy)]
 pub struct Limits {

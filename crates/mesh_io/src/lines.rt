@@ -1,5 +1,5 @@
 //! The lines of an input, one by one.
-ghost use Rattle.std.specs.Prelude.{◌≡◌, ◌≤◌, ◌<◌, [], Ok, Err, true, false, IfSome, IsErrOf};
+ghost use Rattle.std.specs.Prelude.{◌≡◌, ◌≤◌, ◌<◌, [], Ok, Err, true, false, length, IfSome, IsErrOf};
 ghost use Rattle.std.specs.Io.KnownBytes.{IsAtEnd};
 ghost use Rattle.mesh_io.specs.Cause.{HasReadCause};
 ghost use Rattle.mesh_io.specs.NextLines.{schedule_limits};
@@ -15,7 +15,7 @@ use mesh_base::{LONGEST_INPUT, LONGEST_LINE};
 /// one byte goes past both it is the input's that counts.
 ///
 /// The source is asked for 4096 bytes at a time, and only where the bytes that it gave don't decide
-/// what comes next. No memory is taken: a line is lent from the reader, which has about 4800 bytes
+/// what comes next. No memory is taken: a line is lent from the reader, which has about 12400 bytes
 /// in itself and is best made where it stays.
 #[derive(Drop)]
 pub struct Lines<'s, S: Source> {
@@ -25,9 +25,9 @@ pub struct Lines<'s, S: Source> {
 
 impl<'s, S: Source> Lines<'s, S> {
     ghost use Rattle.mesh_io.specs.Reading.{source_of, pending_of, line_of, given_of, has_ended, is_decided_at, refusal_of, ahead_of, faults_of};
-    ghost use Rattle.mesh_io.specs.Cutting.{Tells, Refuses, HasNoLf};
+    ghost use Rattle.mesh_io.specs.Cutting.{Tells, Refuses, IsCounted, HasNoLf};
 
-    /// A reader at the front of the source.
+    /// A reader at the prefix of the source.
     pub fn new(source: &'s mut S) -> Lines<'s, S>
         ensures same { (source_of result).ghost_name ≡ source.entry.ghost_name }
         ensures source { (source_of result).now ≡ source.old }
@@ -60,7 +60,7 @@ impl<'s, S: Source> Lines<'s, S> {
 
     /// Finds the next line: false only where the input has ended. After a limit's refusal each
     /// later call answers the same; after a ReadFault the next call goes on, and no line that was
-    /// read whole was held back.
+    /// read whole was held back. Where no read is needed, none fails.
     pub fn advance(&mut self) -> Result<bool, LineError>
         ensures same { (source_of self.new).ghost_name ≡ (source_of self.old).ghost_name }
         ensures told { IfSome (ahead_of S.left self.old) (λ bytes.
@@ -71,6 +71,10 @@ impl<'s, S: Source> Lines<'s, S> {
         ensures stays { IfSome (refusal_of self.old) (λ refusal.
             (result ≡ Err refusal) × (self.new ≡ self.old)) }
         ensures kept { Refuses result (refusal_of self.new) }
+        ensures unasked { is_decided_at self.old ≡ true → ¬ IsErrOf result LineError.ReadFault }
+        ensures short { result ≡ Ok true → length (line_of self.new) ≤ LONGEST_LINE }
+        ensures counted { result ≡ Ok true → IsCounted (length (line_of self.new))
+            (given_of self.old) (given_of self.new) (has_ended self.new) }
         ensures grows { result ≡ Ok true → given_of self.old < given_of self.new }
         ensures few { given_of self.new ≤ LONGEST_INPUT }
         ensures end { result ≡ Ok false → IsAtEnd (S.left (source_of self.new).now) }

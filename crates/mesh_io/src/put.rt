@@ -31,7 +31,7 @@ pub fn put_front<O: Sink>(out: &mut O, piece: &[u8]) -> usize
     written
 }
 
-/// Writes the whole piece, or a front of it where the sink fails. An empty piece is written by no
+/// Writes the whole piece, or a prefix of it where the sink fails. An empty piece is written by no
 /// call.
 pub fn put_all<O: Sink>(out: &mut O, piece: &[u8]) -> Result<(), PutFault>
     ensures text { Puts (O.held out.old) (O.held out.new) piece.now result }

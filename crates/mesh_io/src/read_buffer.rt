@@ -3,15 +3,15 @@ ghost use Rattle.std.specs.Prelude.{◌≡◌, ◌≤◌, ◌+◌, ◌-◌, ◌+
 ghost use Rattle.std.specs.Io.KnownBytes.{Consumes, IsAtEnd, Keeps};
 ghost use Rattle.mesh_io.specs.Cause.{HasCause};
 
+use crate::limits::LONGEST_TEXT_LINE;
 use crate::source::{Failed, Source};
-use mesh_base::LONGEST_LINE;
 use std::marker::Model;
 
 /// How many bytes a read asks for.
 pub const ASKED: usize = 4096;
 
 /// The most bytes of a buffer: the longest line, its LF not among them, and one read.
-pub const ROOM: usize = LONGEST_LINE + ASKED;
+pub const ROOM: usize = LONGEST_TEXT_LINE + ASKED;
 
 /// Bytes that were read, in one piece.
 #[derive(Drop)]

@@ -13,7 +13,7 @@ pub trait Sink {
     /// How often it has failed: a number that never falls.
     ghost faults: { Self → ℕ };
 
-    /// Takes at least one byte of the front of the piece, and says how many.
+    /// Takes at least one byte of the prefix of the piece, and says how many.
     fn put(&mut self, piece: &[u8]) -> Result<usize, Failed>
         requires { 0 < length piece.now }
         ensures some { IfOk result (λ n. (0 < n) × (n ≤ length piece.now)) }

@@ -19,7 +19,7 @@ pub trait Source {
     /// How often it has failed: a number that never falls.
     ghost faults: { Self → ℕ };
 
-    /// Fills the front of the buffer with the next bytes, and says with how many. `Ok(0)` for a
+    /// Fills the prefix of the buffer with the next bytes, and says with how many. `Ok(0)` for a
     /// buffer that isn't empty is the end of the input.
     fn take(&mut self, buf: &mut [u8]) -> Result<usize, Failed>
         ensures bound { ReadsAtMost result buf.new }

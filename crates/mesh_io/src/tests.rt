@@ -1,7 +1,7 @@
 //! Each call that can find no memory, and the sizes of what passes through.
 use crate::{
-    Buffered, Failed, LineError, Lines, MemSink, MemSource, PutFault, ReadAllError, Source,
-    StdSink, StdSource, put_all, read_all,
+    Buffered, Failed, LineError, Lines, LongLines, MemSink, MemSource, PutFault, ReadAllError,
+    Source, StdSink, StdSource, put_all, read_all,
 };
 use mesh_base::Bytes;
 use std::fs::File;
@@ -12,14 +12,14 @@ fn a_source_gives_seven_bytes_a_call(rt: HostRuntime) -> Result<(), Fail> {
     let bytes = Bytes::copy_of(rt.alloc(), b"node 10.0.0.1")?;
     let mut source = MemSource::new(rt.alloc(), bytes, 7, &[2])?;
     let mut buf = [0u8; 9];
-    for (answer, front) in [
+    for (answer, prefix) in [
         (Ok(7), b"node 10".as_slice()),
         (Err(Failed), b"".as_slice()),
         (Ok(6), b".0.0.1".as_slice()),
         (Ok(0), b"".as_slice()),
     ] {
         assert_eq!(rt; source.take(&mut buf), answer);
-        assert!(rt; buf.starts_with(front));
+        assert!(rt; buf.starts_with(prefix));
     }
     Ok(())
 }
@@ -82,6 +82,18 @@ fn a_line_has_at_most_600_bytes(rt: HostRuntime) -> Result<(), Fail> {
     let mut lines = Lines::new(&mut source);
     assert_eq!(rt; lines.next(), Ok(Some([b'x'; 600].as_slice())));
     assert!(rt; lines.is_decided());
+    assert_eq!(rt; lines.next(), Err(LineError::TooLong));
+    assert_eq!(rt; lines.next(), Err(LineError::TooLong));
+    Ok(())
+}
+
+#[test]
+fn a_line_of_a_printed_text_has_at_most_8192_bytes(rt: HostRuntime) -> Result<(), Fail> {
+    let mut bytes = vec![in rt.alloc(); b'x'; 16386]?;
+    bytes[8192] = b'\n';
+    let mut source = MemSource::new(rt.alloc(), Bytes::from_vec(bytes), 4096, &[])?;
+    let mut lines = LongLines::new(&mut source);
+    assert_eq!(rt; lines.next(), Ok(Some([b'x'; 8192].as_slice())));
     assert_eq!(rt; lines.next(), Err(LineError::TooLong));
     assert_eq!(rt; lines.next(), Err(LineError::TooLong));
     Ok(())

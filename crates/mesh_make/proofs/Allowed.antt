@@ -11,7 +11,7 @@ use Rattle.mesh_grammar.specs.Lines.{pieces_of}
 use Rattle.mesh_grammar.specs.Written.{line}
 use Rattle.mesh_text.specs.Schedule.{Moment, Accepted, opening, line_of}
 use Rattle.mesh_text.specs.Lines.{words_of}
-use Rattle.mesh_text.specs.Text.{came_of_line, text_from, text_on, text_of_input}
+use Rattle.mesh_text.specs.Text.{outcome_of_line, text_from, text_on, text_of_input}
 use Rattle.mesh_make.specs.Words.{of_seed}
 use Rattle.mesh_make.specs.Drawn.{step_line}
 use Rattle.mesh_make.specs.Made.{node_address, mesh_of, node_line, node_lines, chain, step_lines, from_step, lines_of, text_in, made}
@@ -107,8 +107,8 @@ same_words : (mesh other : Nodes) (i : ℕ) → words_of mesh (node_line i) ≡ 
 unfolding words_of
 same_words mesh other i = refl
 
-one_grown : (k : ℕ) (m : Moment) → IsBefore k m → Fine (IsBefore (k + 1)) (came_of_line m (node_line k))
-unfolding Fine came_of_line
+one_grown : (k : ℕ) (m : Moment) → IsBefore k m → Fine (IsBefore (k + 1)) (outcome_of_line m (node_line k))
+unfolding Fine outcome_of_line
 one_grown k m is = record { has = ap (λ mesh. with_node mesh (node_address k) 1) is.has ∙ next_mesh k; waits = is.waits }
 
 nodes_go : (nodes k count : ℕ) (m : Moment) (others : List Accepted) → nodes ≤ 200 → k + count ≡ nodes → IsBefore k m → ((n : Moment) → Has (mesh_of nodes) n → IsSafe (run_of n (text_in (mesh_of nodes) others)))

@@ -7,12 +7,13 @@ use Rattle.mesh_base.specs.Meshes.{Nodes}
 use Rattle.mesh_base.proofs.Spelling.{parts_at}
 use Rattle.mesh_grammar.specs.Lines.{Piece, Whole, piece_of, pieces_of}
 use Rattle.mesh_grammar.specs.Written.{line}
-use Rattle.mesh_model.specs.Worlds.{Event, Outcome, Idle, Stops, Goes}
+use Rattle.mesh_model.specs.Worlds as worlds
+use Rattle.mesh_model.specs.Worlds.{Event, Outcome, Idle, Next}
 use Rattle.mesh_model.specs.Choices.{pick}
 use Rattle.mesh_text.specs.Schedule.{Moment, Accepted, Nothing, NewNode, Does, Chooses, ShowsNode, ShowsRoute, ShowsFlight, line_of, world_of, started, outcome_at, stepped}
 use Rattle.mesh_text.specs.Ranges.{IsInTime}
 use Rattle.mesh_text.specs.Auto as auto
-use Rattle.mesh_text.specs.Text.{Came, On, Refused, Over, came_of_event, came_of_auto, came_of_line, came_from, came, Written, RefusedAt, goes_on, text_from}
+use Rattle.mesh_text.specs.Text.{LineOutcome, On, Refused, Full, outcome_of_event, outcome_of_auto, outcome_of_line, outcome_of_read, outcome_of_piece, Written, RefusedAt, goes_on, text_from}
 use Rattle.mesh_make.proofs.Texts.{IsShort, short_lacks}
 
 -- the run of a text from a moment on
@@ -24,10 +25,10 @@ pub record IsSafe (w : Written) : Type 0 where
   pub never : (n : ℕ) → w.verdict ≢ RefusedAt n
 
 -- a line wasn't refused, and P holds of the next moment
-unfoldable pub Fine : (Moment → Type 0) → Came → Type 0
+unfoldable pub Fine : (Moment → Type 0) → LineOutcome → Type 0
 Fine P (On text n) = P n
 Fine P (Refused why) = ⊥
-Fine P (Over text at e field) = Unit {0}
+Fine P (Full text at e field) = Unit {0}
 
 -- ---- lines that leave the mesh as it is
 
@@ -36,26 +37,26 @@ module _ (mesh : Nodes) where
   abbrev pub Has : Moment → Type 0
   Has m = m.mesh ≡ mesh
 
-  HasRan : auto.Ran → Type 0
+  HasRan : auto.AutoOutcome → Type 0
   HasRan (auto.Ended text did n) = Has n
-  HasRan (auto.Refused text at e field) = Unit {0}
+  HasRan (auto.Full text at e field) = Unit {0}
 
-  before_has : (text : List ℕ) (r : auto.Ran) → HasRan r → HasRan (auto.before text r)
+  before_has : (text : List ℕ) (r : auto.AutoOutcome) → HasRan r → HasRan (auto.before text r)
   unfolding HasRan
   before_has text (auto.Ended others did n) is = is
-  before_has text (auto.Refused others at e field) is = tt
+  before_has text (auto.Full others at e field) is = tt
 
-  done_has : (m : Moment) (e : Event) (o : Outcome) (others : Moment → auto.Ran) → HasRan (others (stepped m e)) → HasRan (auto.done_then m e o others)
+  done_has : (m : Moment) (e : Event) (o : Outcome) (others : Moment → auto.AutoOutcome) → HasRan (others (stepped m e)) → HasRan (auto.done_then m e o others)
   unfolding HasRan
   done_has m e Idle others is = before_has _ (others (stepped m e)) is
-  done_has m e (Stops x field) others is = tt
-  done_has m e (Goes w happening) others is = before_has _ (others (stepped m e)) is
+  done_has m e (worlds.Full x field) others is = tt
+  done_has m e (Next w happening) others is = before_has _ (others (stepped m e)) is
 
   stepped_has : (m : Moment) (e : Event) → Has m → Has (stepped m e)
   unfolding stepped
   stepped_has m e is = is
 
-  chosen_has : (m : Moment) (did : ℕ) (o : Option Event) (others : Moment → auto.Ran) → Has m → ((n : Moment) → Has n → HasRan (others n)) → HasRan (auto.chosen_then m did o others)
+  chosen_has : (m : Moment) (did : ℕ) (o : Option Event) (others : Moment → auto.AutoOutcome) → Has m → ((n : Moment) → Has n → HasRan (others n)) → HasRan (auto.chosen_then m did o others)
   unfolding HasRan
   chosen_has m did None others is rest = is
   chosen_has m did (Some e) others is rest = done_has m e (outcome_at m e) others (rest (stepped m e) (stepped_has m e is))
@@ -65,20 +66,20 @@ module _ (mesh : Nodes) where
   auto_has zero did m is = is
   auto_has (suc most) did m is = chosen_has m did (pick (world_of m)) (λ n. auto.auto_from most (did + 1) n) is (λ n kept. auto_has most (did + 1) n kept)
 
-  ran_fine : (text : List ℕ) (r : auto.Ran) → HasRan r → Fine Has (came_of_auto text r)
+  ran_fine : (text : List ℕ) (r : auto.AutoOutcome) → HasRan r → Fine Has (outcome_of_auto text r)
   unfolding Fine HasRan
   ran_fine text (auto.Ended others did n) is = is
-  ran_fine text (auto.Refused others at e field) is = tt
+  ran_fine text (auto.Full others at e field) is = tt
 
-  event_fine : (m : Moment) (e : Event) (o : Outcome) → Has m → Fine Has (came_of_event m e o)
+  event_fine : (m : Moment) (e : Event) (o : Outcome) → Has m → Fine Has (outcome_of_event m e o)
   unfolding Fine
   event_fine m e Idle is = stepped_has m e is
-  event_fine m e (Stops x field) is = tt
-  event_fine m e (Goes w happening) is = stepped_has m e is
+  event_fine m e (worlds.Full x field) is = tt
+  event_fine m e (Next w happening) is = stepped_has m e is
 
   -- a line that may come at any time is no `node` line
-  pub line_fine : (m : Moment) (a : Accepted) → ((early : Bool) → IsInTime early a) → Has m → Fine Has (came_of_line m a)
-  unfolding Fine came_of_line
+  pub line_fine : (m : Moment) (a : Accepted) → ((early : Bool) → IsInTime early a) → Has m → Fine Has (outcome_of_line m a)
+  unfolding Fine outcome_of_line
   line_fine m Nothing later is = is
   line_fine m (NewNode address first) later is = absurd (let clash : true ≡ false = later true in let Q : ⊥ = cc in Q)
   line_fine m (Does e) later is = event_fine m e (outcome_at m e) is
@@ -94,11 +95,11 @@ unfolding pieces_of
 more_pieces words [] some = absurd (omega arith)
 more_pieces words (p ∷ ps) some = refl
 
-first_piece : (m : Moment) (piece : Piece) (pieces : List Piece) → text_from m (piece ∷ pieces) ≡ goes_on m (came m piece) (λ n. text_from n pieces)
+first_piece : (m : Moment) (piece : Piece) (pieces : List Piece) → text_from m (piece ∷ pieces) ≡ goes_on m (outcome_of_piece m piece) (λ n. text_from n pieces)
 unfolding text_from
 first_piece m piece pieces = refl
 
-after_line : (m : Moment) (words rest : List ℕ) → IsShort 38 words → run_of m (line words ++ rest) ≡ goes_on m (came m (Whole words)) (λ n. run_of n rest)
+after_line : (m : Moment) (words rest : List ℕ) → IsShort 38 words → run_of m (line words ++ rest) ≡ goes_on m (outcome_of_piece m (Whole words)) (λ n. run_of n rest)
 after_line m words rest short =
     let cut : parts 10 (line words ++ rest) ≡ words ∷ parts 10 rest = ap (parts 10) (append_assoc words (10 ∷ []) rest) ∙ parts_at 10 words rest (short_lacks 38 words short) in
     let whole : piece_of words ≡ Whole words = rw (le-leb (length words) 600 (omega (arith, short.within))) refl in
@@ -107,17 +108,17 @@ after_line m words rest short =
     ∙ ap (λ piece. text_from m (piece ∷ pieces_of false (parts 10 rest))) whole
     ∙ first_piece m (Whole words) (pieces_of false (parts 10 rest))
 
-goes_safe : (P : Moment → Type 0) (m : Moment) (c : Came) (others : Moment → Written) → Fine P c → ((n : Moment) → P n → IsSafe (others n)) → IsSafe (goes_on m c others)
+goes_safe : (P : Moment → Type 0) (m : Moment) (c : LineOutcome) (others : Moment → Written) → Fine P c → ((n : Moment) → P n → IsSafe (others n)) → IsSafe (goes_on m c others)
 unfolding Fine
 goes_safe P m (On text n) others fine rest = record { never = (rest n fine).never }
 goes_safe P m (Refused why) others fine rest = absurd fine
-goes_safe P m (Over text at e field) others fine rest = record { never = λ n e. let Q : ⊥ = cc in Q }
+goes_safe P m (Full text at e field) others fine rest = record { never = λ n e. let Q : ⊥ = cc in Q }
 
-came_fine : (P : Moment → Type 0) (m : Moment) (words : List ℕ) (a : Accepted) → line_of m.mesh (is_some m.world) words ≡ Ok a → Fine P (came_of_line m a) → Fine P (came m (Whole words))
-unfolding came
-came_fine P m words a parses fine = subst (λ r. Fine P (came_from m r)) (sym parses) fine
+came_fine : (P : Moment → Type 0) (m : Moment) (words : List ℕ) (a : Accepted) → line_of m.mesh (is_some m.world) words ≡ Ok a → Fine P (outcome_of_line m a) → Fine P (outcome_of_piece m (Whole words))
+unfolding outcome_of_piece
+came_fine P m words a parses fine = subst (λ r. Fine P (outcome_of_read m r)) (sym parses) fine
 
 pub line_safe : (P : Moment → Type 0) (m : Moment) (words rest : List ℕ) (a : Accepted) → IsShort 38 words → line_of m.mesh (is_some m.world) words ≡ Ok a
-    → Fine P (came_of_line m a) → ((n : Moment) → P n → IsSafe (run_of n rest)) → IsSafe (run_of m (line words ++ rest))
+    → Fine P (outcome_of_line m a) → ((n : Moment) → P n → IsSafe (run_of n rest)) → IsSafe (run_of m (line words ++ rest))
 line_safe P m words rest a short parses fine others =
-    subst IsSafe (sym (after_line m words rest short)) (goes_safe P m (came m (Whole words)) (λ n. run_of n rest) (came_fine P m words a parses fine) others)
+    subst IsSafe (sym (after_line m words rest short)) (goes_safe P m (outcome_of_piece m (Whole words)) (λ n. run_of n rest) (came_fine P m words a parses fine) others)

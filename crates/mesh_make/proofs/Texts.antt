@@ -8,7 +8,7 @@ use Rattle.std.proofs.lemmas.List.Folds.{list_all-append}
 use Rattle.std.proofs.lemmas.List.Sums.{AllPass-from_list_all, list_all-from_AllPass}
 use Rattle.mesh_base.specs.Addresses.{dotted}
 use Rattle.mesh_base.proofs.Spelling.{Lacks, decimal_lacks}
-use Rattle.mesh_grammar.specs.Forms.{Arguments, NoArgument, OneAddress, TwoAddresses, OneNumber, NumberedAddress, AddressesAndText}
+use Rattle.mesh_grammar.specs.Forms.{Arguments, NoArgument, OneAddress, TwoAddresses, OneNumber, NumberedAddress, AddressesAndText, AddressAndNumber, AddressAndText}
 use Rattle.mesh_grammar.specs.Written.{written}
 use Rattle.mesh_make.specs.Made.{node_address}
 
@@ -67,6 +67,8 @@ AreShort (TwoAddresses a b) = IsShort 10 (dotted a) × IsShort 10 (dotted b)
 AreShort (OneNumber n) = IsShort 6 (decimal n)
 AreShort (NumberedAddress a first) = IsShort 10 (dotted a) × IsShort 6 (decimal first)
 AreShort (AddressesAndText a b text) = IsShort 10 (dotted a) × IsShort 10 (dotted b) × IsShort 7 text
+AreShort (AddressAndNumber a n) = IsShort 10 (dotted a) × IsShort 6 (decimal n)
+AreShort (AddressAndText a text) = IsShort 10 (dotted a) × IsShort 7 text
 
 -- a command of at most seven letters, and its arguments
 pub written_short : (command : List ℕ) (arguments : Arguments ℕ) → IsShort 7 command → AreShort arguments → IsShort 38 (written command arguments)
@@ -81,3 +83,7 @@ written_short command (NumberedAddress a first) short are =
 written_short command (AddressesAndText a b text) short are =
     parted 29 7 38 32 _ text refl (omega arith)
     (parted 18 10 29 32 _ (dotted b) refl (omega arith) (parted 7 10 18 32 command (dotted a) refl (omega arith) short are.0) are.1) are.2
+written_short command (AddressAndNumber a n) short are =
+    parted 18 6 38 32 _ (decimal n) refl (omega arith) (parted 7 10 18 32 command (dotted a) refl (omega arith) short are.0) are.1
+written_short command (AddressAndText a text) short are =
+    parted 18 7 38 32 _ text refl (omega arith) (parted 7 10 18 32 command (dotted a) refl (omega arith) short are.0) are.1

@@ -48,20 +48,27 @@ two_nodes arguments nodes rng =
 
 -- the arguments of line s
 abbrev pub arguments_by : Draws → ℕ → ℕ → Lcg → Draw (Arguments ℕ)
-arguments_by OneNode nodes s rng = record { value = OneAddress (node_by nodes (word rng)); rng = after rng }
+arguments_by OneNode nodes s rng = record {
+  value = OneAddress (node_by nodes (word rng));
+  rng = after rng;
+}
 arguments_by TwoNodes nodes s rng = two_nodes TwoAddresses nodes rng
 arguments_by Datum nodes s rng = two_nodes (λ a b. AddressesAndText a b (datum_text s)) nodes rng
 arguments_by Copy nodes s rng = record { value = OneNumber (copy_by s (word rng)); rng = after rng }
 arguments_by Events nodes s rng = record { value = OneNumber EVENTS_BETWEEN; rng = rng }
 
--- the line that a command makes of drawn arguments. There is one: they are of its form, and two nodes differ
+-- the line that a command makes of drawn arguments. There is one: they are of its form, and two
+-- nodes differ
 abbrev pub line_of : Command → Arguments ℕ → Accepted
 line_of command arguments = result_unwrap_or (lines.made command arguments) Nothing
 
 -- line s, once what it does is known
 abbrev pub action_line : Action → ℕ → ℕ → Lcg → Draw Accepted
 action_line action nodes s rng =
-    let drawn = arguments_by action.1 nodes s rng in record { value = line_of action.0 drawn.value; rng = drawn.rng }
+    let drawn = arguments_by action.1 nodes s rng in record {
+      value = line_of action.0 drawn.value;
+      rng = drawn.rng;
+    }
 
 -- line s of the steps: its first word chooses what it does
 unfoldable pub step_line : ℕ → ℕ → Lcg → Draw Accepted

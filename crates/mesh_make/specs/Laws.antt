@@ -8,10 +8,13 @@ use Rattle.mesh_make.specs.Made.{made}
 
 -- each line of a made schedule is allowed: in no variant its run ends at a line that is refused
 abbrev pub MadeSchedulesAreAllowed : Type 0
-MadeSchedulesAreAllowed = (variant : Variant) (seed nodes steps n : ℕ) → 2 ≤ nodes → nodes ≤ MOST_NODES → 1 ≤ steps → steps ≤ MOST_STEPS
+MadeSchedulesAreAllowed =
+    (variant : Variant) (seed nodes steps n : ℕ) → 2 ≤ nodes → nodes ≤ MOST_NODES → 1 ≤ steps
+    → steps ≤ MOST_STEPS
     → (text_of_input variant (made seed nodes steps)).verdict ≢ RefusedAt n
 
 -- a made schedule has fewer than 4000000 bytes, and so fewer than an input may have
 abbrev pub MadeSchedulesAreShort : Type 0
-MadeSchedulesAreShort = (seed nodes steps : ℕ) → 2 ≤ nodes → nodes ≤ MOST_NODES → 1 ≤ steps → steps ≤ MOST_STEPS
+MadeSchedulesAreShort =
+    (seed nodes steps : ℕ) → 2 ≤ nodes → nodes ≤ MOST_NODES → 1 ≤ steps → steps ≤ MOST_STEPS
     → length (made seed nodes steps) < 4000000

@@ -54,7 +54,8 @@ from_step nodes s count rng = step_lines nodes s count rng ++ last_line ∷ []
 
 -- the lines: the nodes, the chain that links them, the steps, and a last line
 unfoldable pub lines_of : ℕ → ℕ → ℕ → List Accepted
-lines_of seed nodes steps = node_lines 0 nodes ++ (chain 0 (nodes - 1) ++ from_step nodes 1 steps (of_seed seed))
+lines_of seed nodes steps =
+    node_lines 0 nodes ++ (chain 0 (nodes - 1) ++ from_step nodes 1 steps (of_seed seed))
 
 -- the text of lines, each with its LF
 abbrev pub text_in : Nodes → List Accepted → List ℕ

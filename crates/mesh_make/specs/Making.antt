@@ -6,13 +6,16 @@ use Rattle.mesh_make.specs.Places.{IsPlace, IsSize, is_end, nodes_at, lines_from
 
 -- the text of the lines that aren't made yet
 abbrev pub still_to_come : Maker → List ℕ
-still_to_come maker = text_in (mesh_of maker.size.nodes) (lines_from maker.size.nodes maker.size.steps maker.place maker.rng)
+still_to_come maker =
+    text_in (mesh_of maker.size.nodes)
+    (lines_from maker.size.nodes maker.size.steps maker.place maker.rng)
 
 -- all lines are made
 abbrev pub is_done : Maker → Bool
 is_done maker = is_end maker.place
 
--- the schedule has a size that is allowed; the next line is one of its lines; and the mesh has the nodes so far
+-- the schedule has a size that is allowed; the next line is one of its lines; and the mesh has the
+-- nodes so far
 pub record IsMaking (maker : Maker) : Type 0 where
   pub size : IsSize maker.size.nodes maker.size.steps
   pub place : IsPlace maker.size.nodes maker.size.steps maker.place

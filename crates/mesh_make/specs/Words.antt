@@ -1,4 +1,5 @@
--- The words of a seed: the outputs of 32 bits, one after the other, of the PCG32 generator that the seed makes.
+-- The words of a seed: the outputs of 32 bits, one after the other, of the PCG32 generator that the
+-- seed makes.
 use Rattle.std.specs.Prelude.{ℕ}
 use Rattle.rand_core.specs.Pcg32Seed.{pcg32_seed}
 use Rattle.rand_pcg.specs.Lcg.{Lcg}

@@ -132,7 +132,8 @@ impl Maker {
         requires making { IsMaking self.old }
         requires more { is_done self.old ≡ false }
         requires room { array_vec_len out.old + LONGEST_LINE ≤ LINE_ROOM }
-        ensures text { out.old.items ++ still_to_come self.old ≡ out.new.items ++ still_to_come self.new }
+        ensures text { out.old.items ++ still_to_come self.old
+            ≡ out.new.items ++ still_to_come self.new }
         ensures longer { array_vec_len out.old < array_vec_len out.new }
         ensures length { array_vec_len out.new ≤ array_vec_len out.old + LONGEST_LINE }
         ensures making { IsMaking self.new }
@@ -144,8 +145,8 @@ impl Maker {
         self.place = place_after(self.size, self.place);
     }
 
-    /// Makes the next lines, each with its LF, in this buffer: at least one, and as many as are sure to
-    /// find room.
+    /// Makes the next lines, each with its LF, in this buffer: at least one, and as many as are
+    /// sure to find room.
     pub fn next_lines(&mut self, out: &mut LineBuf)
         requires making { IsMaking self.old }
         requires more { is_done self.old ≡ false }

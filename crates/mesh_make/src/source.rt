@@ -49,7 +49,7 @@ fn refill(maker: &mut Maker, line: &mut LineBuf, at: usize) -> usize
     0
 }
 
-// Copies the front of the bytes to the buffer's front, and says how many.
+// Copies the prefix of the bytes to the buffer's prefix, and says how many.
 fn copy_front(bytes: &[u8], buf: &mut [u8]) -> usize
     ensures count { result ≡ min (length bytes.now) (length buf.old) }
     ensures copied { buf.new ≡ take result bytes.now ++ drop result buf.old }
@@ -75,7 +75,7 @@ impl MadeSource {
         }
     }
 
-    // Gives a front of what is left, as far as one line goes.
+    // Gives a prefix of what is left, as far as one line goes.
     fn give_piece(&mut self, buf: &mut [u8]) -> usize
         ensures room { result ≤ length buf.old }
         ensures within { result ≤ length self.old }

@@ -30,7 +30,8 @@ fn draw_two(rng: &mut Lcg64Xsh32, nodes: u32) -> (usize, usize)
     requires two { 2 ≤ nodes }
     requires few { nodes ≤ MOST_NODES }
     ensures first { result.0 ≡ node_by nodes (word rng.old) }
-    ensures second { result.1 ≡ other_by nodes (node_by nodes (word rng.old)) (word (after rng.old)) }
+    ensures second { result.1
+        ≡ other_by nodes (node_by nodes (word rng.old)) (word (after rng.old)) }
     ensures after { rng.new ≡ after (after rng.old) }
 {
     let a = draw_node(rng, nodes);
@@ -91,8 +92,8 @@ fn draw<'a>(
     }
 }
 
-/// Line `step` of the steps, counted from 1. The text of a datum stands in `text`. Each action has arguments
-/// of its command's form, and two nodes differ, so that there is a line.
+/// Line `step` of the steps, counted from 1. The text of a datum stands in `text`. Each action has
+/// arguments of its command's form, and two nodes differ, so that there is a line.
 #[tactic(auto, unfolding(crate::specs::Drawn::step_line))]
 pub fn step_line<'a>(nodes: u32, step: u32, rng: &mut Lcg64Xsh32, text: &'a mut LineBuf) -> Line<'a>
     requires two { 2 ≤ nodes }

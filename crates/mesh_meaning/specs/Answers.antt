@@ -14,7 +14,7 @@ use Rattle.aodv_model.specs.Soundness.{AreBelow, IsDatum, IsMessageInMesh}
 use Rattle.aodv_model.specs.Handlers.{Cast, Nothing, One, Many, All, Effect, Took, Own, Stored, FromNeighbour}
 use Rattle.aodv_meaning.specs.Meaning.{meaning}
 use Rattle.aodv_meaning.specs.Effects.{kind_of}
-use Rattle.mesh_model.specs.Worlds.{World, Copy, Happening, Changed, Taken, Sent, CopyHeard, CopyLost, CopyDoubled, Outcome, Idle, Goes, members_below, copies_of}
+use Rattle.mesh_model.specs.Worlds.{World, Copy, Happening, Changed, Taken, Sent, CopyHeard, CopyLost, CopyDoubled, Outcome, Idle, Next, members_below, copies_of}
 use Rattle.mesh_meaning.specs.Packets.{IsWritten, copy_in}
 
 -- ---- what is said
@@ -27,7 +27,12 @@ cast_in mesh (casts.Many s) packet = Many s (meaning mesh packet)
 cast_in mesh casts.All packet = All (meaning mesh packet)
 
 abbrev pub effect_in : Nodes → effects.Effect → List ℕ → Effect
-effect_in mesh e packet = record { deliver = e.deliver; lost = e.lost; broken = e.broken; cast = cast_in mesh e.cast packet }
+effect_in mesh e packet = record {
+  deliver = e.deliver;
+  lost = e.lost;
+  broken = e.broken;
+  cast = cast_in mesh e.cast packet;
+}
 
 -- what was taken, with what a neighbour's packet means
 abbrev pub took_in : Nodes → taken.Took → Took
@@ -37,14 +42,18 @@ took_in mesh (takes.Heard from kind bytes) = FromNeighbour from (meaning mesh by
 
 -- the copies of a cast of node x, by rising receiver
 unfoldable pub copies_in : Nodes → ℕ → cast.Cast → Air → List ℕ → List Copy
-copies_in mesh x cast air packet = copies_of (cast_in mesh cast packet) (members_below (length mesh) air.to) air.first x
+copies_in mesh x cast air packet =
+    copies_of (cast_in mesh cast packet) (members_below (length mesh) air.to) air.first x
 
 -- what happened at node x; where nothing did, this says no more than that
 abbrev pub happening_in : Nodes → ℕ → Done → List ℕ → Happening
 happening_in mesh x done.Idle packet = Changed
 happening_in mesh x done.Changed packet = Changed
-happening_in mesh x (done.Taken took effect air) packet = Taken (took_in mesh took) (effect_in mesh effect packet) (copies_in mesh x effect.cast air packet)
-happening_in mesh x (done.Sent effect air) packet = Sent (effect_in mesh effect packet) (copies_in mesh x effect.cast air packet)
+happening_in mesh x (done.Taken took effect air) packet =
+    Taken (took_in mesh took) (effect_in mesh effect packet)
+    (copies_in mesh x effect.cast air packet)
+happening_in mesh x (done.Sent effect air) packet =
+    Sent (effect_in mesh effect packet) (copies_in mesh x effect.cast air packet)
 happening_in mesh x (done.Heard from to) packet = CopyHeard from to
 happening_in mesh x (done.Lost flying) packet = CopyLost (copy_in mesh flying)
 happening_in mesh x (done.Doubled id to parcel) packet = CopyDoubled id to parcel
@@ -52,7 +61,7 @@ happening_in mesh x (done.Doubled id to parcel) packet = CopyDoubled id to parce
 -- what came of an event at node x, where the world is now w
 abbrev pub outcome_in : Nodes → ℕ → World → Done → List ℕ → Outcome
 outcome_in mesh x w done.Idle packet = Idle
-outcome_in mesh x w d packet = Goes w (happening_in mesh x d packet)
+outcome_in mesh x w d packet = Next w (happening_in mesh x d packet)
 
 -- ---- what an answer keeps: all that it names is in the mesh, and its packets are written of messages of the mesh
 
@@ -78,13 +87,16 @@ pub record IsEffectInMesh (mesh : Nodes) (e : effects.Effect) (air : Air) (packe
 abbrev pub IsTookInMesh : Nodes → taken.Took → Type 0
 IsTookInMesh mesh (takes.Own body) = IsDatum body
 IsTookInMesh mesh (takes.Stored dest) = dest < length mesh
-IsTookInMesh mesh (takes.Heard from kind bytes) = (from < length mesh) × (kind ≡ kind_of (meaning mesh bytes)) × IsPacketInMesh mesh bytes
+IsTookInMesh mesh (takes.Heard from kind bytes) =
+    (from < length mesh) × (kind ≡ kind_of (meaning mesh bytes)) × IsPacketInMesh mesh bytes
 
 abbrev pub IsDoneInMesh : Nodes → Done → List ℕ → Type 0
 IsDoneInMesh mesh done.Idle packet = ⊤
 IsDoneInMesh mesh done.Changed packet = ⊤
-IsDoneInMesh mesh (done.Taken took effect air) packet = IsTookInMesh mesh took × IsEffectInMesh mesh effect air packet
+IsDoneInMesh mesh (done.Taken took effect air) packet =
+    IsTookInMesh mesh took × IsEffectInMesh mesh effect air packet
 IsDoneInMesh mesh (done.Sent effect air) packet = IsEffectInMesh mesh effect air packet
 IsDoneInMesh mesh (done.Heard from to) packet = (from < length mesh) × (to < length mesh)
-IsDoneInMesh mesh (done.Lost flying) packet = (flying.from < length mesh) × (flying.to < length mesh) × IsPacketInMesh mesh flying.bytes
+IsDoneInMesh mesh (done.Lost flying) packet =
+    (flying.from < length mesh) × (flying.to < length mesh) × IsPacketInMesh mesh flying.bytes
 IsDoneInMesh mesh (done.Doubled id to parcel) packet = to < length mesh

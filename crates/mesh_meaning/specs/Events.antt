@@ -16,9 +16,9 @@ event_of (events.Lose id) = model.Lose id
 event_of (events.Double id) = model.Double id
 
 -- the node at which an event is. A link or a copy is at none, and 0 stands for that
-abbrev pub place_of : model.Event → ℕ
-place_of (model.Give node dest body) = node
-place_of (model.Turn node) = node
-place_of (model.Send node dest) = node
-place_of (model.Ask node dest) = node
-place_of others = 0
+abbrev pub node_of : model.Event → ℕ
+node_of (model.Give node dest body) = node
+node_of (model.Turn node) = node
+node_of (model.Send node dest) = node
+node_of (model.Ask node dest) = node
+node_of others = 0

@@ -1,7 +1,8 @@
 -- Read in this order.
 -- Events: an event of the program as the definitions have it.
 pub mod Events
--- Packets: the packet that is written of a message, items and copies that hold one, and nodes and worlds of them.
+-- Packets: the packet that is written of a message, items and copies that hold one, and nodes and
+-- worlds of them.
 pub mod Packets
 -- Answers: what a step's answer and the packet beside it say of what happened.
 pub mod Answers

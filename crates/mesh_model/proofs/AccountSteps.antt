@@ -6,14 +6,14 @@ use Rattle.std.specs.Ordering.{nat_cmp}
 use Rattle.std.proofs.lemmas.Bool.{eqb-true}
 use Rattle.std.proofs.lemmas.Option.{none-some, same_Some, slice_get_within as is_within}
 use Rattle.std.specs.FinMap as maps
-use Rattle.mesh_base.specs.declared.events.Full.{Full}
+use Rattle.mesh_base.specs.declared.events.Counter.{Counter}
 use Rattle.mesh_base.specs.declared.events.Variant.{Variant}
 use Rattle.aodv_model.specs.Cores.{Body, Item, New, Heard, Core, bodies_in}
 use Rattle.aodv_model.specs.Handlers.{Effect, Reaction, took, turn, send, may_send, ask, may_ask}
 use Rattle.aodv_model.specs.Fullness.{turn_full, send_full, ask_full}
 use Rattle.aodv_model.proofs.Entries.{if_case}
 use Rattle.aodv_model.proofs.SoundTurns.{Stands, Settles, turn_settles, send_settles, ask_settles}
-use Rattle.mesh_model.specs.Worlds.{is_parcel, World, Node, Copy, Event, Give, Turn, Send, Ask, Link, Cut, Deliver, Lose, Double, range, copies, done_by, push, with_item, find_copy, without, Changed, Taken, Sent, CopyHeard, CopyLost, CopyDoubled, Outcome, Idle, Goes, unless_full, turn_of, send_of, ask_of, at_node, at_copy, with_link, without_link, without_copy, with_double, double_of, step, after, run, openings, start, are_linked}
+use Rattle.mesh_model.specs.Worlds.{is_parcel, World, Node, Copy, Event, Give, Turn, Send, Ask, Link, Cut, Deliver, Lose, Double, range, copies, done_by, push, with_item, find_copy, without, Changed, Taken, Sent, CopyHeard, CopyLost, CopyDoubled, Outcome, Idle, Next, unless_full, turn_of, send_of, ask_of, at_node, at_copy, with_link, without_link, without_copy, with_double, double_of, step, after, run, openings, start, are_linked}
 use Rattle.mesh_model.specs.Places.{IsNodeInMesh, IsCopyInMesh, AreNumbered, IsInMesh, IsEvent}
 use Rattle.mesh_model.specs.Accounts.{Test, total, total_below, counts, in_item, in_store, in_copy, waiting, queued, in_flight, given, doubled, in_found, in_taken, delivered, in_dropped, dropped, over_run, over_worlds}
 use Rattle.mesh_model.proofs.Totals.{total-append, total-set, total_below_same}
@@ -104,9 +104,9 @@ is_there (x ∷ xs) (suc i) l = is_there xs i (omega arith)
 abbrev Balanced : Test → World → Event → Outcome → Type 0
 Balanced t w e o = in_world t (after w o) + delivered t e o + dropped t e o ≡ in_world t w + given t e o + doubled t w e
 
-turn_case : (t : Test) (w : World) (x : ℕ) (core : Core) (item : Item) (items : List Item) (full : Option Full)
+turn_case : (t : Test) (w : World) (x : ℕ) (core : Core) (item : Item) (items : List Item) (full : Option Counter)
     → in_world t (done_by w x (turn core (range w x) item) items) + (if ((turn core (range w x) item).effect).deliver then in_taken t x (took core item) else 0) + (if ((turn core (range w x) item).effect).lost then in_dropped t (took core item) else 0) ≡ in_world t w
-    → Balanced t w (Turn x) (unless_full x full (Goes (done_by w x (turn core (range w x) item) items) (Taken (took core item) (turn core (range w x) item).effect (copies w x ((turn core (range w x) item).effect).cast))))
+    → Balanced t w (Turn x) (unless_full x full (Next (done_by w x (turn core (range w x) item) items) (Taken (took core item) (turn core (range w x) item).effect (copies w x ((turn core (range w x) item).effect).cast))))
 turn_case t w x core item items (Some f) sum = omega arith
 turn_case t w x core item items None sum = omega arith
 
@@ -124,11 +124,11 @@ turn_balanced t w x core (item ∷ items) places is =
     (ap (λ k. in_item t core.ip item + total (in_item t k) items) named))
 
 -- a send, or a request
-sent_case : (t : Test) (w w' : World) (x d : ℕ) (e : Effect) (cs : List Copy) (full : Option Full) → in_world t w' ≡ in_world t w → Balanced t w (Send x d) (unless_full x full (Goes w' (Sent e cs)))
+sent_case : (t : Test) (w w' : World) (x d : ℕ) (e : Effect) (cs : List Copy) (full : Option Counter) → in_world t w' ≡ in_world t w → Balanced t w (Send x d) (unless_full x full (Next w' (Sent e cs)))
 sent_case t w w' x d e cs (Some f) sum = refl
 sent_case t w w' x d e cs None sum = omega arith
 
-asked_case : (t : Test) (w w' : World) (x d : ℕ) (e : Effect) (cs : List Copy) (full : Option Full) → in_world t w' ≡ in_world t w → Balanced t w (Ask x d) (unless_full x full (Goes w' (Sent e cs)))
+asked_case : (t : Test) (w w' : World) (x d : ℕ) (e : Effect) (cs : List Copy) (full : Option Counter) → in_world t w' ≡ in_world t w → Balanced t w (Ask x d) (unless_full x full (Next w' (Sent e cs)))
 asked_case t w w' x d e cs (Some f) sum = refl
 asked_case t w w' x d e cs None sum = omega arith
 
@@ -143,7 +143,7 @@ send_balanced : (t : Test) (w : World) (x d : ℕ) (core : Core) (queue : List I
 send_balanced t w x d core queue places ld is =
     let n : Node = record { core = core; queue = queue } in
     let p : IsNodeInMesh (length w.nodes) x n = places.nodes x n is in
-    if_case (Balanced t w (Send x d)) (may_send core d) (unless_full x (send_full core (range w x) d) (Goes (done_by w x (send core (range w x) d) queue) (Sent (send core (range w x) d).effect (copies w x ((send core (range w x) d).effect).cast)))) Idle
+    if_case (Balanced t w (Send x d)) (may_send core d) (unless_full x (send_full core (range w x) d) (Next (done_by w x (send core (range w x) d) queue) (Sent (send core (range w x) d).effect (copies w x ((send core (range w x) d).effect).cast)))) Idle
     (λ may. sent_case t w (done_by w x (send core (range w x) d) queue) x d (send core (range w x) d).effect (copies w x ((send core (range w x) d).effect).cast) (send_full core (range w x) d)
     (let s : Settles (length w.nodes) x (send core (range w x) d) = send_settles (length w.nodes) x core (range w x) d (own w x n places is) (is_within w.nodes x n is) may in
     let c : Stands (length w.nodes) x (send core (range w x) d).core = s.core in
@@ -157,7 +157,7 @@ ask_balanced : (t : Test) (w : World) (x d : ℕ) (core : Core) (queue : List It
 ask_balanced t w x d core queue places ld is =
     let n : Node = record { core = core; queue = queue } in
     let p : IsNodeInMesh (length w.nodes) x n = places.nodes x n is in
-    if_case (Balanced t w (Ask x d)) (may_ask core d) (unless_full x (ask_full core) (Goes (done_by w x (ask core d) queue) (Sent (ask core d).effect (copies w x ((ask core d).effect).cast)))) Idle
+    if_case (Balanced t w (Ask x d)) (may_ask core d) (unless_full x (ask_full core) (Next (done_by w x (ask core d) queue) (Sent (ask core d).effect (copies w x ((ask core d).effect).cast)))) Idle
     (λ may. asked_case t w (done_by w x (ask core d) queue) x d (ask core d).effect (copies w x ((ask core d).effect).cast) (ask_full core)
     (let s : Settles (length w.nodes) x (ask core d) = ask_settles (length w.nodes) x core d (own w x n places is) (is_within w.nodes x n is) ld in
     let c : Stands (length w.nodes) x (ask core d).core = s.core in
@@ -167,7 +167,7 @@ ask_balanced t w x d core queue places ld is =
     omega arith))
     (λ _. refl)
 
-give_case : (t : Test) (w : World) (x d : ℕ) (b : Body) (o : Option Node) → IsInMesh w → slice_get w.nodes x ≡ o → Balanced t w (Give x d b) (at_node o (λ core queue. Goes (push w x (New b d)) Changed))
+give_case : (t : Test) (w : World) (x d : ℕ) (b : Body) (o : Option Node) → IsInMesh w → slice_get w.nodes x ≡ o → Balanced t w (Give x d b) (at_node o (λ core queue. Next (push w x (New b d)) Changed))
 give_case t w x d b None places is = refl
 give_case t w x d b (Some n) places is = let e = push_sum t w x n (New b d) is (places.nodes x n is).named in omega arith
 
@@ -175,7 +175,7 @@ node_at : (t : Test) (w : World) (e : Event) (f : Core → List Item → Outcome
 node_at t w e f None idle some = idle
 node_at t w e f (Some n) idle some = some n refl
 
-deliver_case : (t : Test) (w : World) (id : ℕ) (o : Option Copy) → IsInMesh w → find_copy w.flying id ≡ o → Balanced t w (Deliver id) (at_copy o (λ c. Goes (push (without_copy w id) c.to (Heard c.from c.message)) (CopyHeard c.from c.to)))
+deliver_case : (t : Test) (w : World) (id : ℕ) (o : Option Copy) → IsInMesh w → find_copy w.flying id ≡ o → Balanced t w (Deliver id) (at_copy o (λ c. Next (push (without_copy w id) c.to (Heard c.from c.message)) (CopyHeard c.from c.to)))
 deliver_case t w id None places is = refl
 deliver_case t w id (Some c) places is =
     let p : IsCopyInMesh (length w.nodes) c = found_honest (IsCopyInMesh (length w.nodes)) w.flying id c places.flying is in
@@ -184,11 +184,11 @@ deliver_case t w id (Some c) places is =
     let e = push_sum t (without_copy w id) c.to n.0 (Heard c.from c.message) n.1 (places.nodes c.to n.0 n.1).named in
     omega arith
 
-lose_case : (t : Test) (w : World) (id : ℕ) (o : Option Copy) → IsInMesh w → find_copy w.flying id ≡ o → Balanced t w (Lose id) (at_copy o (λ c. Goes (without_copy w id) (CopyLost c)))
+lose_case : (t : Test) (w : World) (id : ℕ) (o : Option Copy) → IsInMesh w → find_copy w.flying id ≡ o → Balanced t w (Lose id) (at_copy o (λ c. Next (without_copy w id) (CopyLost c)))
 lose_case t w id None places is = refl
 lose_case t w id (Some c) places is = let light = lighter_sum t w id c places is in omega arith
 
-double_case : (t : Test) (w : World) (id : ℕ) (o : Option Copy) → find_copy w.flying id ≡ o → Balanced t w (Double id) (at_copy o (λ c. Goes (with_double w c) (CopyDoubled w.next_copy c.to (is_parcel c.message))))
+double_case : (t : Test) (w : World) (id : ℕ) (o : Option Copy) → find_copy w.flying id ≡ o → Balanced t w (Double id) (at_copy o (λ c. Next (with_double w c) (CopyDoubled w.next_copy c.to (is_parcel c.message))))
 unfolding waiting queued in_flight
 double_case t w id None is = let none = ap (in_found t) is in omega arith
 double_case t w id (Some c) is =
@@ -202,8 +202,8 @@ step_balanced_sum t w (Give x d b) ok places = give_case t w x d b (slice_get w.
 step_balanced_sum t w (Turn x) ok places = node_at t w (Turn x) (turn_of w x) (slice_get w.nodes x) refl (λ n is. turn_balanced t w x n.core n.queue places is)
 step_balanced_sum t w (Send x d) ok places = node_at t w (Send x d) (send_of w x d) (slice_get w.nodes x) refl (λ n is. send_balanced t w x d n.core n.queue places ok.1 is)
 step_balanced_sum t w (Ask x d) ok places = node_at t w (Ask x d) (ask_of w x d) (slice_get w.nodes x) refl (λ n is. ask_balanced t w x d n.core n.queue places ok.1 is)
-step_balanced_sum t w (Link a b) ok places = if_case (Balanced t w (Link a b)) (are_linked w.links a b) Idle (Goes (with_link w a b) Changed) (λ _. refl) (λ _. refl)
-step_balanced_sum t w (Cut a b) ok places = if_case (Balanced t w (Cut a b)) (are_linked w.links a b) (Goes (without_link w a b) Changed) Idle (λ _. refl) (λ _. refl)
+step_balanced_sum t w (Link a b) ok places = if_case (Balanced t w (Link a b)) (are_linked w.links a b) Idle (Next (with_link w a b) Changed) (λ _. refl) (λ _. refl)
+step_balanced_sum t w (Cut a b) ok places = if_case (Balanced t w (Cut a b)) (are_linked w.links a b) (Next (without_link w a b) Changed) Idle (λ _. refl) (λ _. refl)
 step_balanced_sum t w (Deliver id) ok places = deliver_case t w id (find_copy w.flying id) places refl
 step_balanced_sum t w (Lose id) ok places = lose_case t w id (find_copy w.flying id) places refl
 step_balanced_sum t w (Double id) ok places = double_case t w id (find_copy w.flying id) refl

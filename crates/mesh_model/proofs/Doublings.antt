@@ -1,12 +1,12 @@
 -- What happened tells how many data an event doubles.
 use Rattle.std.proofs.Common.{◌≡◌, ◌≤◌, ℕ, ◌+◌, List, [], ◌∷◌, Some, None, Option, refl, arith}
 use Rattle.std.specs.Prelude.{slice_get}
-use Rattle.mesh_base.specs.declared.events.Full.{Full}
+use Rattle.mesh_base.specs.declared.events.Counter.{Counter}
 use Rattle.aodv_model.specs.Cores.{Message, Pkt, Rreq, Rrep, Rerr, Item, Core}
 use Rattle.aodv_model.specs.Handlers.{Reaction, took, turn, send, may_send, ask, may_ask}
 use Rattle.aodv_model.specs.Fullness.{turn_full, send_full, ask_full}
 use Rattle.aodv_model.proofs.Entries.{if_case}
-use Rattle.mesh_model.specs.Worlds.{World, Node, Copy, Event, Give, Turn, Send, Ask, Link, Cut, Deliver, Lose, Double, Outcome, Idle, Goes, Taken, Sent, CopyDoubled, range, copies, done_by, are_linked, find_copy, is_parcel, with_double, turn_of, send_of, ask_of, unless_full, at_node, at_copy, step}
+use Rattle.mesh_model.specs.Worlds.{World, Node, Copy, Event, Give, Turn, Send, Ask, Link, Cut, Deliver, Lose, Double, Outcome, Idle, Next, Taken, Sent, CopyDoubled, range, copies, done_by, are_linked, find_copy, is_parcel, with_double, turn_of, send_of, ask_of, unless_full, at_node, at_copy, step}
 use Rattle.mesh_model.specs.Accounts.{any, in_message, in_found, doubled, doubled_at}
 
 -- no data packet was doubled
@@ -21,7 +21,7 @@ copy_none : (f : Copy → Outcome) (o : Option Copy) → ((c : Copy) → Doubles
 copy_none f None each = refl
 copy_none f (Some c) each = each c
 
-unless_none : (x : ℕ) (full : Option Full) (o : Outcome) → Doubles_none o → Doubles_none (unless_full x full o)
+unless_none : (x : ℕ) (full : Option Counter) (o : Outcome) → Doubles_none o → Doubles_none (unless_full x full o)
 unless_none x None o h = h
 unless_none x (Some f) o h = refl
 
@@ -29,27 +29,27 @@ turn_none : (w : World) (x : ℕ) (core : Core) (queue : List Item) → Doubles_
 turn_none w x core [] = refl
 turn_none w x core (item ∷ items) =
     let did : Reaction = turn core (range w x) item in
-    unless_none x (turn_full core (range w x) item) (Goes (done_by w x did items) (Taken (took core item) did.effect (copies w x (did.effect).cast))) refl
+    unless_none x (turn_full core (range w x) item) (Next (done_by w x did items) (Taken (took core item) did.effect (copies w x (did.effect).cast))) refl
 
 send_none : (w : World) (x d : ℕ) (core : Core) (queue : List Item) → Doubles_none (send_of w x d core queue)
 send_none w x d core queue =
     let did : Reaction = send core (range w x) d in
-    let goes : Outcome = Goes (done_by w x did queue) (Sent did.effect (copies w x (did.effect).cast)) in
+    let goes : Outcome = Next (done_by w x did queue) (Sent did.effect (copies w x (did.effect).cast)) in
     if_case Doubles_none (may_send core d) (unless_full x (send_full core (range w x) d) goes) Idle (λ _. unless_none x (send_full core (range w x) d) goes refl) (λ _. refl)
 
 ask_none : (w : World) (x d : ℕ) (core : Core) (queue : List Item) → Doubles_none (ask_of w x d core queue)
 ask_none w x d core queue =
     let did : Reaction = ask core d in
-    let goes : Outcome = Goes (done_by w x did queue) (Sent did.effect (copies w x (did.effect).cast)) in
+    let goes : Outcome = Next (done_by w x did queue) (Sent did.effect (copies w x (did.effect).cast)) in
     if_case Doubles_none (may_ask core d) (unless_full x (ask_full core) goes) Idle (λ _. unless_none x (ask_full core) goes refl) (λ _. refl)
 
-parcel_told : (w : World) (id to : ℕ) (m : Message) → in_message any m ≡ doubled_at (Goes w (CopyDoubled id to (is_parcel m)))
+parcel_told : (w : World) (id to : ℕ) (m : Message) → in_message any m ≡ doubled_at (Next w (CopyDoubled id to (is_parcel m)))
 parcel_told w id to (Pkt b d o) = refl
 parcel_told w id to (Rreq m) = refl
 parcel_told w id to (Rrep m) = refl
 parcel_told w id to (Rerr dests) = refl
 
-double_told : (w : World) (o : Option Copy) → in_found any o ≡ doubled_at (at_copy o (λ c. Goes (with_double w c) (CopyDoubled w.next_copy c.to (is_parcel c.message))))
+double_told : (w : World) (o : Option Copy) → in_found any o ≡ doubled_at (at_copy o (λ c. Next (with_double w c) (CopyDoubled w.next_copy c.to (is_parcel c.message))))
 double_told w None = refl
 double_told w (Some c) = parcel_told (with_double w c) w.next_copy c.to c.message
 

@@ -3,8 +3,8 @@ use Rattle.std.proofs.Common.{◌≡◌, ℕ, zero, suc, ◌+◌, ◌≤◌, Boo
 use Rattle.std.specs.Prelude.{slice_get, if◌then◌else◌}
 use Rattle.std.specs.List.{AllByRecursion}
 use Rattle.std.proofs.lemmas.Option.{none-some, same_Some}
-use Rattle.mesh_base.specs.declared.events.Full.{Full}
-use Rattle.mesh_base.specs.declared.events.Full.TheVariants as full
+use Rattle.mesh_base.specs.declared.events.Counter.{Counter}
+use Rattle.mesh_base.specs.declared.events.Counter.TheVariants as full
 use Rattle.mesh_base.specs.declared.events.Variant.{Variant}
 use Rattle.aodv_model.proofs.Entries.{if_case}
 use Rattle.aodv_model.proofs.Numbers.{IsCastWithin, IsCoreWithin, IsItemWithin, IsMessageWithin, IsReactionWithin, KnowsOwn, ask_below, ask_keeps, opening_within, send_keeps, turn_keeps}
@@ -16,7 +16,7 @@ use Rattle.mesh_model.proofs.Steps.{each_node, found_honest, step_kept, without_
 use Rattle.mesh_model.proofs.TrailSteps.{step_trails}
 use Rattle.mesh_model.specs.Invariants.{IsLoopSafe}
 use Rattle.mesh_model.specs.Trails.{Around, HasRequestWalk, HasWalks, IsBackedWalk, ItemHasWalk, NodeHasWalks, around, seen_in}
-use Rattle.mesh_model.specs.Worlds.{is_parcel, Ask, Changed, Copy, CopyDoubled, CopyHeard, CopyLost, Cut, Deliver, Double, Event, Give, Goes, Idle, Link, Lose, Node, Outcome, Send, Sent, Turn, World, after, are_linked, ask_of, at_copy, at_node, copies, copies_of, copies_to, done_by, double_of, find_copy, members_below, openings, push, range, receivers, run, send_of, start, step, turn_of, unless_full, with_double, with_item, with_link, without_copy, without_link}
+use Rattle.mesh_model.specs.Worlds.{is_parcel, Ask, Changed, Copy, CopyDoubled, CopyHeard, CopyLost, Cut, Deliver, Double, Event, Give, Next, Idle, Link, Lose, Node, Outcome, Send, Sent, Turn, World, after, are_linked, ask_of, at_copy, at_node, copies, copies_of, copies_to, done_by, double_of, find_copy, members_below, openings, push, range, receivers, run, send_of, start, step, turn_of, unless_full, with_double, with_item, with_link, without_copy, without_link}
 
 abbrev pub IsCopyWithin : Copy → Type 0
 IsCopyWithin c = IsMessageWithin greatest c.message
@@ -97,7 +97,7 @@ push_within w x item all inside = item_within w x (slice_get w.nodes x) item all
 abbrev Stays : World → Outcome → Type 0
 Stays w o = IsWithin (after w o)
 
-unless_within : (w : World) (x : ℕ) (o : Option Full) (outcome : Outcome) → IsWithin w → (o ≡ None → Stays w outcome) → Stays w (unless_full x o outcome)
+unless_within : (w : World) (x : ℕ) (o : Option Counter) (outcome : Outcome) → IsWithin w → (o ≡ None → Stays w outcome) → Stays w (unless_full x o outcome)
 unless_within w x (Some f) outcome all kept = all
 unless_within w x None outcome all kept = kept refl
 
@@ -120,7 +120,7 @@ send_within : (w : World) (x d : ℕ) (core : Core) (queue : List Item) → IsWi
 send_within w x d core queue all is =
     let n : Node = record { core = core; queue = queue } in
     let p : IsNodeWithin x n = all.nodes x n is in
-    if_case (Stays w) (may_send core d) (unless_full x (send_full core (range w x) d) (Goes (done_by w x (send core (range w x) d) queue) (Sent (send core (range w x) d).effect (copies w x ((send core (range w x) d).effect).cast)))) Idle
+    if_case (Stays w) (may_send core d) (unless_full x (send_full core (range w x) d) (Next (done_by w x (send core (range w x) d) queue) (Sent (send core (range w x) d).effect (copies w x ((send core (range w x) d).effect).cast)))) Idle
     (λ _. unless_within w x (send_full core (range w x) d) _ all
     (λ free. done_within w x n (send core (range w x) d) queue all is p.queue (send_keeps greatest x core (range w x) d p.core (turn_free false (is_number_full (send core (range w x) d)) free))))
     (λ _. all)
@@ -129,7 +129,7 @@ ask_within : (w : World) (x d : ℕ) (core : Core) (queue : List Item) → IsLoo
 ask_within w x d core queue inv all is =
     let n : Node = record { core = core; queue = queue } in
     let p : IsNodeWithin x n = all.nodes x n is in
-    if_case (Stays w) (may_ask core d) (unless_full x (ask_full core) (Goes (done_by w x (ask core d) queue) (Sent (ask core d).effect (copies w x ((ask core d).effect).cast)))) Idle
+    if_case (Stays w) (may_ask core d) (unless_full x (ask_full core) (Next (done_by w x (ask core d) queue) (Sent (ask core d).effect (copies w x ((ask core d).effect).cast)))) Idle
     (λ _. unless_within w x (ask_full core) _ all
     (λ free. done_within w x n (ask core d) queue all is p.queue (ask_keeps greatest x core d p.core (inv.nodes x n is).numbers.own (ask_below core free))))
     (λ _. all)
@@ -148,18 +148,18 @@ lighter w id all = same_within w (without_copy w id) refl all (without_honest Is
 
 pub step_within : (v : Variant) (w : World) (e : Event) → IsLoopSafe w → HasWalks v w → IsWithin w → IsWithin (after w (step w e))
 unfolding step
-step_within v w (Give x d b) inv trails all = node_case w (λ core queue. Goes (push w x (New b d)) Changed) (slice_get w.nodes x) all (λ n is. push_within w x (New b d) all tt)
+step_within v w (Give x d b) inv trails all = node_case w (λ core queue. Next (push w x (New b d)) Changed) (slice_get w.nodes x) all (λ n is. push_within w x (New b d) all tt)
 step_within v w (Turn x) inv trails all = node_case w (turn_of w x) (slice_get w.nodes x) all (λ n is. turn_within v w x n.core n.queue trails all is)
 step_within v w (Send x d) inv trails all = node_case w (send_of w x d) (slice_get w.nodes x) all (λ n is. send_within w x d n.core n.queue all is)
 step_within v w (Ask x d) inv trails all = node_case w (ask_of w x d) (slice_get w.nodes x) all (λ n is. ask_within w x d n.core n.queue inv all is)
-step_within v w (Link a b) inv trails all = if_case (Stays w) (are_linked w.links a b) Idle (Goes (with_link w a b) Changed) (λ _. all) (λ _. same_within w (with_link w a b) refl all all.flying)
-step_within v w (Cut a b) inv trails all = if_case (Stays w) (are_linked w.links a b) (Goes (without_link w a b) Changed) Idle (λ _. same_within w (without_link w a b) refl all all.flying) (λ _. all)
+step_within v w (Link a b) inv trails all = if_case (Stays w) (are_linked w.links a b) Idle (Next (with_link w a b) Changed) (λ _. all) (λ _. same_within w (with_link w a b) refl all all.flying)
+step_within v w (Cut a b) inv trails all = if_case (Stays w) (are_linked w.links a b) (Next (without_link w a b) Changed) Idle (λ _. same_within w (without_link w a b) refl all all.flying) (λ _. all)
 step_within v w (Deliver id) inv trails all =
-    copy_case w (λ c. Goes (push (without_copy w id) c.to (Heard c.from c.message)) (CopyHeard c.from c.to)) (find_copy w.flying id) all
+    copy_case w (λ c. Next (push (without_copy w id) c.to (Heard c.from c.message)) (CopyHeard c.from c.to)) (find_copy w.flying id) all
     (λ c is. push_within (without_copy w id) c.to (Heard c.from c.message) (lighter w id all) (found_honest IsCopyWithin w.flying id c all.flying is))
-step_within v w (Lose id) inv trails all = copy_case w (λ c. Goes (without_copy w id) (CopyLost c)) (find_copy w.flying id) all (λ c is. lighter w id all)
+step_within v w (Lose id) inv trails all = copy_case w (λ c. Next (without_copy w id) (CopyLost c)) (find_copy w.flying id) all (λ c is. lighter w id all)
 step_within v w (Double id) inv trails all =
-    copy_case w (λ c. Goes (with_double w c) (CopyDoubled w.next_copy c.to (is_parcel c.message))) (find_copy w.flying id) all
+    copy_case w (λ c. Next (with_double w c) (CopyDoubled w.next_copy c.to (is_parcel c.message))) (find_copy w.flying id) all
     (λ c is. same_within w (with_double w c) refl all (each_append IsCopyWithin w.flying (double_of w c ∷ []) all.flying (found_honest IsCopyWithin w.flying id c all.flying is, tt)))
 
 -- ---- runs

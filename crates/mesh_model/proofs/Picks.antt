@@ -5,11 +5,11 @@ use Rattle.std.proofs.lemmas.Bool.{cases_eq, eqb-false}
 use Rattle.std.proofs.lemmas.Option.{none-some, same_Some}
 use Rattle.std.specs.FinSet as sets
 use Rattle.mesh_base.specs.Members.{NodeIds, IsLeastFrom}
-use Rattle.mesh_base.specs.declared.events.Full.{Full}
+use Rattle.mesh_base.specs.declared.events.Counter.{Counter}
 use Rattle.aodv_model.specs.Cores.{Item}
 use Rattle.aodv_model.specs.Handlers.{send, ask}
 use Rattle.aodv_model.specs.Fullness.{turn_full, send_full, ask_full}
-use Rattle.mesh_model.specs.Worlds.{World, Node, Copy, Event, Turn, Send, Ask, Deliver, Happening, Sent, Outcome, Idle, Goes, range, done_by, copies, unless_full, turn_of, send_of, ask_of, at_node, at_copy, find_copy, step}
+use Rattle.mesh_model.specs.Worlds.{World, Node, Copy, Event, Turn, Send, Ask, Deliver, Happening, Sent, Outcome, Idle, Next, range, done_by, copies, unless_full, turn_of, send_of, ask_of, at_node, at_copy, find_copy, step}
 use Rattle.mesh_model.specs.Choices.{waits, least_from, beside, least_pair_from, may_turn_in, may_send_in, may_ask_in, first_turn, first_send_in, first_ask_in, first_send, first_ask, first_copy, first_of, pick}
 
 -- ---- the least by a set
@@ -85,7 +85,7 @@ least_pair_found (suc k) i m found is = pair_here k i m found (found i) refl is 
 
 -- ---- what passes is enabled
 
-unless_goes : (x : ℕ) (f : Option Full) (w : World) (h : Happening) → unless_full x f (Goes w h) ≢ Idle
+unless_goes : (x : ℕ) (f : Option Counter) (w : World) (h : Happening) → unless_full x f (Next w h) ≢ Idle
 unless_goes x None w h = λ e. cc
 unless_goes x (Some f) w h = λ e. cc
 
@@ -99,11 +99,11 @@ turn_enabled w x (Some n) may = by_queue n.queue may
 
 send_enabled : (w : World) (x d : ℕ) (o : Option Node) → may_send_in o d ≡ true → at_node o (send_of w x d) ≢ Idle
 send_enabled w x d None may = λ e. cc
-send_enabled w x d (Some n) may = subst (λ b. (if b then unless_full x (send_full n.core (range w x) d) (Goes (done_by w x (send n.core (range w x) d) n.queue) (Sent (send n.core (range w x) d).effect (copies w x ((send n.core (range w x) d).effect).cast))) else Idle) ≢ Idle) (sym may) (unless_goes x (send_full n.core (range w x) d) _ _)
+send_enabled w x d (Some n) may = subst (λ b. (if b then unless_full x (send_full n.core (range w x) d) (Next (done_by w x (send n.core (range w x) d) n.queue) (Sent (send n.core (range w x) d).effect (copies w x ((send n.core (range w x) d).effect).cast))) else Idle) ≢ Idle) (sym may) (unless_goes x (send_full n.core (range w x) d) _ _)
 
 ask_enabled : (w : World) (x d : ℕ) (o : Option Node) → may_ask_in o d ≡ true → at_node o (ask_of w x d) ≢ Idle
 ask_enabled w x d None may = λ e. cc
-ask_enabled w x d (Some n) may = subst (λ b. (if b then unless_full x (ask_full n.core) (Goes (done_by w x (ask n.core d) n.queue) (Sent (ask n.core d).effect (copies w x ((ask n.core d).effect).cast))) else Idle) ≢ Idle) (sym may) (unless_goes x (ask_full n.core) _ _)
+ask_enabled w x d (Some n) may = subst (λ b. (if b then unless_full x (ask_full n.core) (Next (done_by w x (ask n.core d) n.queue) (Sent (ask n.core d).effect (copies w x ((ask n.core d).effect).cast))) else Idle) ≢ Idle) (sym may) (unless_goes x (ask_full n.core) _ _)
 
 same_number : (d : ℕ) → (d == d) ≡ true
 same_number d = either (d == d) refl

@@ -1,10 +1,10 @@
--- Where the data are, and how they come and go. All counts are of the data that pass a test of their
--- originator, destination and body: of one datum, or of all.
+-- Where the data are, and how they come and go. All counts are of the data that pass a test of
+-- their originator, destination and body: of one datum, or of all.
 use Rattle.std.specs.Prelude.{ℕ, ◌+◌, Bool, true, if◌then◌else◌, List, [], ◌∷◌, zero, suc, length, Option, Some, None}
 use Rattle.std.specs.FinMap as maps
 use Rattle.aodv_model.specs.Cores.{Body, Message, Pkt, Rreq, Rrep, Rerr, Item, New, Heard, Store, bodies_in}
 use Rattle.aodv_model.specs.Handlers.{Took, Own, Stored, FromNeighbour}
-use Rattle.mesh_model.specs.Worlds.{World, Copy, Event, Give, Turn, Double, find_copy, Happening, Taken, CopyLost, CopyDoubled, Outcome, Idle, Stops, Goes, step, after}
+use Rattle.mesh_model.specs.Worlds.{World, Copy, Event, Give, Turn, Double, find_copy, Happening, Taken, CopyLost, CopyDoubled, Outcome, Idle, Full, Next, step, after}
 
 -- of an originator, a destination and a body
 abbrev pub Test : Type 0
@@ -44,7 +44,8 @@ in_item t x (Heard from m) = in_message t m
 
 -- in the store of node x, for destinations below the size. A store holds only data of its own node
 unfoldable pub in_store : Test → ℕ → ℕ → Store → ℕ
-in_store t size x store = total_below size (λ d. total (counts t x d) (bodies_in (maps.get store d)))
+in_store t size x store =
+    total_below size (λ d. total (counts t x d) (bodies_in (maps.get store d)))
 
 -- in a copy in flight
 abbrev pub in_copy : Test → Copy → ℕ
@@ -67,8 +68,8 @@ in_flight t w = total (in_copy t) w.flying
 -- n where the event was done, and 0 where it was idle or refused
 abbrev pub if_goes : Outcome → ℕ → ℕ
 if_goes Idle n = 0
-if_goes (Stops x f) n = 0
-if_goes (Goes w happening) n = n
+if_goes (Full x f) n = 0
+if_goes (Next w happening) n = n
 
 -- the data given by an event with that outcome
 abbrev pub given : Test → Event → Outcome → ℕ
@@ -92,7 +93,7 @@ doubled_in others = 0
 
 -- the same of an outcome
 abbrev pub doubled_at : Outcome → ℕ
-doubled_at (Goes w happening) = doubled_in happening
+doubled_at (Next w happening) = doubled_in happening
 doubled_at others = 0
 
 -- what node x took, where it is delivered: its own datum, or that of a packet
@@ -108,7 +109,7 @@ delivered_in t x others = 0
 
 -- the same of an outcome
 abbrev pub delivered_at : Test → ℕ → Outcome → ℕ
-delivered_at t x (Goes w happening) = delivered_in t x happening
+delivered_at t x (Next w happening) = delivered_in t x happening
 delivered_at t x others = 0
 
 -- the data delivered: by turns
@@ -130,7 +131,7 @@ dropped_in t others = 0
 
 -- the data dropped: by turns, and with lost copies
 abbrev pub dropped : Test → Event → Outcome → ℕ
-dropped t e (Goes w happening) = dropped_in t happening
+dropped t e (Next w happening) = dropped_in t happening
 dropped t e others = 0
 
 -- the sum over a run of what each event's outcome counts

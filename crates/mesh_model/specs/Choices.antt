@@ -1,5 +1,6 @@
--- What may be done next in a world, and the choice of the next event: the first that there is of a turn, a delivery, the
--- send of a stored datum, and a request, each at the least node, copy or destination.
+-- What may be done next in a world, and the choice of the next event: the first that there is of a
+-- turn, a delivery, the send of a stored datum, and a request, each at the least node, copy or
+-- destination.
 use Rattle.std.specs.Prelude.{◌≡◌, ◌<◌, ◌≤◌, ◌⊎◌, ⊤, ℕ, zero, suc, ◌+◌, Bool, true, false, if◌then◌else◌, Option, Some, None, option_map, List, [], ◌∷◌, length, slice_get}
 use Rattle.aodv_model.specs.Cores.{Item}
 use Rattle.aodv_model.specs.Handlers.{may_send, may_ask}
@@ -56,11 +57,13 @@ first_ask_in size n = least_from size 0 (may_ask_in n)
 
 -- the least node that may send, with its least destination
 unfoldable pub first_send : World → Option (ℕ × ℕ)
-first_send w = least_pair_from (length w.nodes) 0 (λ x. first_send_in (length w.nodes) (slice_get w.nodes x))
+first_send w =
+    least_pair_from (length w.nodes) 0 (λ x. first_send_in (length w.nodes) (slice_get w.nodes x))
 
 -- the least node that may ask, with its least destination
 unfoldable pub first_ask : World → Option (ℕ × ℕ)
-first_ask w = least_pair_from (length w.nodes) 0 (λ x. first_ask_in (length w.nodes) (slice_get w.nodes x))
+first_ask w =
+    least_pair_from (length w.nodes) 0 (λ x. first_ask_in (length w.nodes) (slice_get w.nodes x))
 
 -- the least copy in flight: they stand by rising id
 unfoldable pub first_copy : World → Option ℕ
@@ -96,7 +99,8 @@ IsChoice others = ⊥
 abbrev pub IsPairNoLater : ℕ → ℕ → ℕ → ℕ → Type 0
 IsPairNoLater x d y c = (x < y) ⊎ ((x ≡ y) × (d ≤ c))
 
--- turns by node, then deliveries by copy, then sends and then requests, each by node and destination
+-- turns by node, then deliveries by copy, then sends and then requests, each by node and
+-- destination
 abbrev pub IsNoLater : Event → Event → Type 0
 IsNoLater (Turn x) (Turn y) = x ≤ y
 IsNoLater (Turn x) (Deliver id) = ⊤

@@ -1,7 +1,7 @@
 -- What holds of every world of every run, and why its routes have no cycle.
--- Along the valid routes for a destination the next node, unless it is the destination, knows more: its number is
--- greater, or equal with fewer hops. What a message told when it was sent stays true of its sender. So round a cycle
--- the pair of number and fewer hops would rise strictly.
+-- Along the valid routes for a destination the next node, unless it is the destination, knows more:
+-- its number is greater, or equal with fewer hops. What a message told when it was sent stays true
+-- of its sender. So round a cycle the pair of number and fewer hops would rise strictly.
 use Rattle.std.specs.Prelude.{◌≡◌, ◌≢◌, ℕ, ◌-◌, ◌<◌, ◌≤◌, ◌⊎◌, Some, slice_get, ⊤}
 use Rattle.std.specs.List.{AllByRecursion}
 use Rattle.std.specs.FinMap as maps
@@ -26,8 +26,8 @@ pub record AtLeast (rt : Table) (d n h : ℕ) : Type 0 where
 
 -- ---- what a request or a reply says of its sender's table
 
--- a request has its originator's number, and a reply its destination's, not 0; and where that node isn't the sender,
--- the sender has at least what it says
+-- a request has its originator's number, and a reply its destination's, not 0; and where that node
+-- isn't the sender, the sender has at least what it says
 abbrev pub IsHonest : Table → ℕ → Message → Type 0
 IsHonest rt from (Pkt b d o) = ⊤
 IsHonest rt from (Rreq m) = (1 ≤ m.osn) × (from ≢ m.oip → AtLeast rt m.oip m.osn m.hops)

@@ -2,13 +2,13 @@
 use Rattle.std.specs.Prelude.{◌≡◌, ◌≢◌, ℕ, ◌+◌, ◌≤◌, ◌<◌, true, List, ◌∷◌, length, Some}
 use Rattle.std.specs.List.{AllByRecursion}
 use Rattle.std.specs.FinMap as maps
-use Rattle.mesh_base.specs.declared.events.Full.{Full}
-use Rattle.mesh_base.specs.declared.events.Full.TheVariants as full
+use Rattle.mesh_base.specs.declared.events.Counter.{Counter}
+use Rattle.mesh_base.specs.declared.events.Counter.TheVariants as full
 use Rattle.mesh_base.specs.declared.events.Variant.{Variant}
 use Rattle.aodv_entry.specs.declared.entry.Entry.{Entry}
 use Rattle.aodv_entry.specs.declared.entry.Flag.TheVariants.{Val}
 use Rattle.aodv_entry.specs.Quality.{is_better}
-use Rattle.mesh_model.specs.Worlds.{World, Event, Idle, Stops, step, after, run, start, AreFirstNumbers}
+use Rattle.mesh_model.specs.Worlds.{World, Event, Idle, Full, step, after, run, start, AreFirstNumbers}
 use Rattle.mesh_model.specs.Walks.{table, Edge, IsWalk, Cycle}
 use Rattle.mesh_model.specs.Places.{IsInMesh, IsEvent}
 use Rattle.mesh_model.specs.Invariants.{IsLoopSafe, IsInvariant}
@@ -25,7 +25,9 @@ ArePositive firsts = AllByRecursion (λ n. 1 ≤ n) firsts
 
 -- every event of the mesh keeps the invariant
 abbrev pub StepKeeps : Type 0
-StepKeeps = (w : World) (e : Event) → IsEvent (length w.nodes) e → IsInvariant w → IsInvariant (after w (step w e))
+StepKeeps =
+    (w : World) (e : Event) → IsEvent (length w.nodes) e → IsInvariant w
+    → IsInvariant (after w (step w e))
 
 -- every event keeps what excludes cycles
 abbrev pub StepKeepsLoopSafe : Type 0
@@ -33,12 +35,17 @@ StepKeepsLoopSafe = (w : World) (e : Event) → IsLoopSafe w → IsLoopSafe (aft
 
 -- the opening world has the invariant
 abbrev pub StartKeeps : Type 0
-StartKeeps = (variant : Variant) (firsts : List ℕ) → ArePositive firsts → IsInvariant (start variant firsts)
+StartKeeps =
+    (variant : Variant) (firsts : List ℕ) → ArePositive firsts → IsInvariant (start variant firsts)
 
--- every world of every run of events of the mesh has the invariant, and as many nodes as there were at the start
+-- every world of every run of events of the mesh has the invariant, and as many nodes as there were
+-- at the start
 abbrev pub RunKeeps : Type 0
-RunKeeps = (variant : Variant) (firsts : List ℕ) (events : List Event) → ArePositive firsts → AllByRecursion (IsEvent (length firsts)) events
-    → IsInvariant (run (start variant firsts) events) × (length (run (start variant firsts) events).nodes ≡ length firsts)
+RunKeeps =
+    (variant : Variant) (firsts : List ℕ) (events : List Event) → ArePositive firsts
+    → AllByRecursion (IsEvent (length firsts)) events
+    → IsInvariant (run (start variant firsts) events)
+    × (length (run (start variant firsts) events).nodes ≡ length firsts)
 
 -- ---- no cycles
 
@@ -46,22 +53,31 @@ RunKeeps = (variant : Variant) (firsts : List ℕ) (events : List Event) → Are
 abbrev pub NoCycleIn : Type 0
 NoCycleIn = (w : World) (d : ℕ) → IsLoopSafe w → ¬ (Cycle w d)
 
--- in no world of any run does a destination have a cycle: for every variant and every list of events, doublings included
+-- in no world of any run does a destination have a cycle: for every variant and every list of
+-- events, doublings included
 abbrev pub LoopFree : Type 0
-LoopFree = (variant : Variant) (firsts : List ℕ) (events : List Event) (d : ℕ) → ArePositive firsts → ¬ (Cycle (run (start variant firsts) events) d)
+LoopFree =
+    (variant : Variant) (firsts : List ℕ) (events : List Event) (d : ℕ) → ArePositive firsts
+    → ¬ (Cycle (run (start variant firsts) events) d)
 
--- along each edge for d from x to y, where y isn't d and has a valid entry for d, y's entry is the better one
+-- along each edge for d from x to y, where y isn't d and has a valid entry for d, y's entry is the
+-- better one
 abbrev pub BetterAlongEdges : Type 0
-BetterAlongEdges = (w : World) (d x y : ℕ) (edge : Edge w d x y) (e : Entry) → IsLoopSafe w → y ≢ d → maps.get (table w y) d ≡ Some e → e.flag ≡ Val
+BetterAlongEdges =
+    (w : World) (d x y : ℕ) (edge : Edge w d x y) (e : Entry) → IsLoopSafe w → y ≢ d
+    → maps.get (table w y) d ≡ Some e → e.flag ≡ Val
     → is_better e edge.entry ≡ true
 
 -- a walk from a node has at most as many places as there are nodes
 abbrev pub WalkIsShort : Type 0
-WalkIsShort = (w : World) (d x : ℕ) (ys : List ℕ) → IsInvariant w → x < length w.nodes → IsWalk w d (x ∷ ys) → length (x ∷ ys) ≤ length w.nodes
+WalkIsShort =
+    (w : World) (d x : ℕ) (ys : List ℕ) → IsInvariant w → x < length w.nodes → IsWalk w d (x ∷ ys)
+    → length (x ∷ ys) ≤ length w.nodes
 
 -- the end of a route is found: its walk is there, and arrives, or stops where no edge leads on
 abbrev pub RouteEnds : Type 0
-RouteEnds = (w : World) (x d : ℕ) → IsInvariant w → x < length w.nodes → IsRouteEnd w x d (route_end w x d)
+RouteEnds =
+    (w : World) (x d : ℕ) → IsInvariant w → x < length w.nodes → IsRouteEnd w x d (route_end w x d)
 
 -- ---- choices
 
@@ -78,18 +94,25 @@ PickIsLeast = (w : World) (e : Event) → IsInMesh w → IsEvent (length w.nodes
 
 -- ---- the account
 
--- one event: what is there afterwards, was delivered or was dropped, is what was there, was given or was doubled
+-- one event: what is there afterwards, was delivered or was dropped, is what was there, was given
+-- or was doubled
 abbrev pub StepBalances : Type 0
 StepBalances = (t : Test) (w : World) (e : Event) → IsEvent (length w.nodes) e → IsInMesh w
-    → waiting t (after w (step w e)) + queued t (after w (step w e)) + in_flight t (after w (step w e)) + delivered t e (step w e) + dropped t e (step w e)
+    → waiting t (after w (step w e)) + queued t (after w (step w e))
+    + in_flight t (after w (step w e)) + delivered t e (step w e) + dropped t e (step w e)
     ≡ waiting t w + queued t w + in_flight t w + given t e (step w e) + doubled t w e
 
--- a run: each datum that was given, or doubled in flight, was delivered, waits in a store or a queue, is in flight, or was dropped
+-- a run: each datum that was given, or doubled in flight, was delivered, waits in a store or a
+-- queue, is in flight, or was dropped
 abbrev pub Account : Type 0
-Account = (t : Test) (variant : Variant) (firsts : List ℕ) (events : List Event) → ArePositive firsts → AllByRecursion (IsEvent (length firsts)) events
-    → over_run (given t) (start variant firsts) events + over_worlds (doubled t) (start variant firsts) events
+Account =
+    (t : Test) (variant : Variant) (firsts : List ℕ) (events : List Event) → ArePositive firsts
+    → AllByRecursion (IsEvent (length firsts)) events
+    → over_run (given t) (start variant firsts) events
+    + over_worlds (doubled t) (start variant firsts) events
     ≡ over_run (delivered t) (start variant firsts) events
-    + waiting t (run (start variant firsts) events) + queued t (run (start variant firsts) events) + in_flight t (run (start variant firsts) events)
+    + waiting t (run (start variant firsts) events) + queued t (run (start variant firsts) events)
+    + in_flight t (run (start variant firsts) events)
     + over_run (dropped t) (start variant firsts) events
 
 -- what happened tells how many data, whatever they are, an event doubles
@@ -104,18 +127,26 @@ StartHasWalks = (variant : Variant) (firsts : List ℕ) → HasWalks variant (st
 
 -- every event keeps a walk for each valid entry and each request and reply
 abbrev pub StepKeepsWalks : Type 0
-StepKeepsWalks = (variant : Variant) (w : World) (e : Event) → IsLoopSafe w → HasWalks variant w → HasWalks variant (after w (step w e))
+StepKeepsWalks =
+    (variant : Variant) (w : World) (e : Event) → IsLoopSafe w → HasWalks variant w
+    → HasWalks variant (after w (step w e))
 
--- each valid entry of each world of each run has an honest walk with its hops, which are at most the number of nodes
+-- each valid entry of each world of each run has an honest walk with its hops, which are at most
+-- the number of nodes
 abbrev pub HonestHops : Type 0
-HonestHops = (variant : Variant) (firsts : List ℕ) (events : List Event) (x d : ℕ) (e : Entry) → ArePositive firsts
+HonestHops =
+    (variant : Variant) (firsts : List ℕ) (events : List Event) (x d : ℕ) (e : Entry)
+    → ArePositive firsts
     → maps.get (table (run (start variant firsts) events) x) d ≡ Some e → e.flag ≡ Val
-    → HonestWalk (run (start variant firsts) events) x d e.hops × (e.hops ≤ length (run (start variant firsts) events).nodes)
+    → HonestWalk (run (start variant firsts) events) x d e.hops
+    × (e.hops ≤ length (run (start variant firsts) events).nodes)
 
 -- ---- counters
 
--- whatever was done before, an event that is refused is refused for a sequence number: neither a hop count nor a
--- request id ever comes to the end of its field
+-- whatever was done before, an event that is refused is refused for a sequence number: no step of
+-- a run is refused for a hop count or for a request id
 abbrev pub OnlyNumbersFill : Type 0
-OnlyNumbersFill = (variant : Variant) (firsts : List ℕ) (events : List Event) (event : Event) (x : ℕ) (f : Full) → AreFirstNumbers firsts
-    → step (run (start variant firsts) events) event ≡ Stops x f → f ≡ full.Number
+OnlyNumbersFill =
+    (variant : Variant) (firsts : List ℕ) (events : List Event) (event : Event) (x : ℕ) (f : Counter)
+    → AreFirstNumbers firsts
+    → step (run (start variant firsts) events) event ≡ Full x f → f ≡ full.Number

@@ -1,4 +1,5 @@
--- That all which a world names is in its mesh, that copies are numbered in order, and which events are of a mesh.
+-- That all which a world names is in its mesh, that copies are numbered in order, and which events
+-- are of a mesh.
 use Rattle.std.specs.Prelude.{◌≡◌, ◌≢◌, ℕ, ◌+◌, ◌<◌, ◌≤◌, true, List, [], ◌∷◌, length, Some, slice_get, ⊤}
 use Rattle.std.specs.List.{AllByRecursion}
 use Rattle.std.specs.FinSet as sets
@@ -8,7 +9,8 @@ use Rattle.mesh_model.specs.Worlds.{World, Node, Copy, Event, Give, Turn, Send, 
 
 -- a copy is between two nodes of the mesh, and its message names nodes of the mesh
 abbrev pub IsCopyInMesh : ℕ → Copy → Type 0
-IsCopyInMesh size c = (c.from < size) × (c.to < size) × (c.from ≢ c.to) × IsMessageInMesh size c.message
+IsCopyInMesh size c =
+    (c.from < size) × (c.to < size) × (c.from ≢ c.to) × IsMessageInMesh size c.message
 
 -- the ids rise from `low` on, and are below `next`
 abbrev pub AreNumbered : ℕ → List Copy → ℕ → Type 0
@@ -26,7 +28,8 @@ pub record IsNodeInMesh (size x : ℕ) (n : Node) : Type 0 where
   pub store : IsStoreInMesh size (n.core).store
   pub queue : AllByRecursion (IsItemInMesh size x) n.queue
 
--- all that the world names is in its mesh; copies are numbered in order; a link that stands has ever stood
+-- all that the world names is in its mesh; copies are numbered in order; a link that stands has
+-- ever stood
 pub record IsInMesh (w : World) : Type 0 where
   pub nodes : (x : ℕ) (n : Node) → slice_get w.nodes x ≡ Some n → IsNodeInMesh (length w.nodes) x n
   pub flying : AllByRecursion (IsCopyInMesh (length w.nodes)) w.flying

@@ -7,7 +7,8 @@ use Rattle.aodv_entry.specs.declared.entry.Flag.TheVariants.{Val, Inv}
 use Rattle.mesh_model.specs.Worlds.{World}
 use Rattle.mesh_model.specs.Walks.{table, Edge, IsWalk, last}
 
--- where a route ends: at its destination, or at another node that has no valid entry for it; after so many hops
+-- where a route ends: at its destination, or at another node that has no valid entry for it; after
+-- so many hops
 pub data End : Type 0 where
   Arrived : (hops : ℕ) → End
   Stuck : (at hops : ℕ) → End
@@ -29,12 +30,16 @@ abbrev pub end_at : ℕ → ℕ → Option ℕ → (ℕ → End) → End
 end_at x hops None rest = Stuck x hops
 end_at x hops (Some y) rest = rest y
 
--- the end of the route for d from x on, that has come so many hops, and goes by at most `most` nodes more
+-- the end of the route for d from x on, that has come so many hops, and goes by at most `most`
+-- nodes more
 abbrev pub end_from : ℕ → World → ℕ → ℕ → ℕ → End
 end_from zero w d x hops = Stuck x hops
-end_from (suc most) w d x hops = if x == d then Arrived hops else end_at x hops (next_hop w x d) (λ y. end_from most w d y (hops + 1))
+end_from (suc most) w d x hops =
+    if x == d then Arrived hops
+    else end_at x hops (next_hop w x d) (λ y. end_from most w d y (hops + 1))
 
--- the end of the route from x to d. Routes don't go round, so that it goes by each node at most once
+-- the end of the route from x to d. Routes don't go round, so that it goes by each node at most
+-- once
 unfoldable pub route_end : World → ℕ → ℕ → End
 route_end w x d = end_from (length w.nodes) w d x 0
 

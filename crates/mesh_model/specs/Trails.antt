@@ -1,4 +1,5 @@
--- Honest walks: the links over which a route came. They bound the hops of every valid entry by the number of nodes.
+-- Honest walks: the links over which a route came. They bound the hops of every valid entry by the
+-- number of nodes.
 use Rattle.std.specs.Prelude.{◌≡◌, ◌≢◌, ℕ, ◌+◌, ◌≤◌, ◌==◌, true, List, [], ◌∷◌, length, Option, Some, None, slice_get, ⊤}
 use Rattle.std.specs.List.{AllByRecursion, IsDistinct}
 use Rattle.std.specs.FinMap as maps
@@ -20,12 +21,13 @@ HaveStood ever [] = ⊤
 HaveStood ever (x ∷ []) = ⊤
 HaveStood ever (x ∷ (y ∷ ys)) = (are_linked ever x y ≡ true) × HaveStood ever (y ∷ ys)
 
--- An honest walk of x for d with h hops: h + 1 nodes from d to x, in which each two neighbours have been linked at
--- some time, and whose nodes after the first are all different
+-- An honest walk of x for d with h hops: h + 1 nodes from d to x, in which each two neighbours have
+-- been linked at some time, and whose nodes after the first are all different
 abbrev pub IsHonestWalk : Pairs → ℕ → ℕ → ℕ → List ℕ → Type 0
 IsHonestWalk ever x d h [] = ⊥
 IsHonestWalk ever x d h (first ∷ others) =
-    (first ≡ d) × (last first others ≡ x) × (length others ≡ h) × HaveStood ever (first ∷ others) × IsDistinct (λ a b. a == b) others
+    (first ≡ d) × (last first others ≡ x) × (length others ≡ h) × HaveStood ever (first ∷ others)
+    × IsDistinct (λ a b. a == b) others
 
 -- there is an honest walk over the links of the world
 pub record HonestWalk (w : World) (x d h : ℕ) : Type 0 where
@@ -33,7 +35,8 @@ pub record HonestWalk (w : World) (x d h : ℕ) : Type 0 where
   pub honest : IsHonestWalk w.ever x d h walk
 
 -- ---- what each step keeps, so that each valid entry has an honest walk.
--- Here a walk has its holder first and its destination last, so that a node that takes a route puts itself in front.
+-- Here a walk has its holder first and its destination last, so that a node that takes a route puts
+-- itself in front.
 
 -- all but the last
 abbrev pub front : List ℕ → List ℕ
@@ -45,22 +48,26 @@ front (x ∷ (y ∷ ys)) = x ∷ front (y ∷ ys)
 abbrev pub IsAbsent : ℕ → List ℕ → Type 0
 IsAbsent x zs = AllByRecursion (λ z. x ≢ z) zs
 
--- what walks speak of: the variant, the tables, the requests that each node has seen, and the links that ever stood
+-- what walks speak of: the variant, the tables, the requests that each node has seen, and the links
+-- that ever stood
 pub record Around : Type 0 where
   pub variant : Variant
   pub tables : ℕ → Table
   pub seen : ℕ → Seen
   pub ever : Pairs
 
--- a walk to d, its holder first: neighbours have been linked; the nodes before the last are all different; and each of
--- them has at least the number n, which isn't 0, with as many hops as there are nodes behind it
+-- a walk to d, its holder first: neighbours have been linked; the nodes before the last are all
+-- different; and each of them has at least the number n, which isn't 0, with as many hops as there
+-- are nodes behind it
 abbrev pub IsBackedWalk : Around → ℕ → ℕ → List ℕ → Type 0
 IsBackedWalk a d n [] = ⊥
 IsBackedWalk a d n (x ∷ []) = x ≡ d
 IsBackedWalk a d n (x ∷ (y ∷ ys)) =
-    (are_linked a.ever y x ≡ true) × (1 ≤ n) × AtLeast (a.tables x) d n (length (y ∷ ys)) × IsAbsent x (front (y ∷ ys)) × IsBackedWalk a d n (y ∷ ys)
+    (are_linked a.ever y x ≡ true) × (1 ≤ n) × AtLeast (a.tables x) d n (length (y ∷ ys))
+    × IsAbsent x (front (y ∷ ys)) × IsBackedWalk a d n (y ∷ ys)
 
--- the walk of x's entry for d with number n, h hops and next hop y: that of y, on which x doesn't stand before the end
+-- the walk of x's entry for d with number n, h hops and next hop y: that of y, on which x doesn't
+-- stand before the end
 pub record HasEntryWalk (a : Around) (x d n h y : ℕ) : Type 0 where
   pub others : List ℕ
   pub walk : IsBackedWalk a d n (y ∷ others)
@@ -112,7 +119,12 @@ seen_in (Some n) = (n.core).seen
 
 -- what walks of this world speak of
 abbrev pub around : Variant → World → Around
-around variant w = record { variant = variant; tables = table w; seen = λ x. seen_in (slice_get w.nodes x); ever = w.ever }
+around variant w = record {
+  variant = variant;
+  tables = table w;
+  seen = λ x. seen_in (slice_get w.nodes x);
+  ever = w.ever;
+}
 
 -- node x: its variant, the walks of its entries, and those of what is in its queue
 pub record NodeHasWalks (a : Around) (x : ℕ) (n : Node) : Type 0 where
@@ -120,9 +132,10 @@ pub record NodeHasWalks (a : Around) (x : ℕ) (n : Node) : Type 0 where
   pub entries : EntriesHaveWalks a x (n.core).rt
   pub queue : AllByRecursion (ItemHasWalk a x) n.queue
 
--- all nodes are of the variant; each valid entry, and each request and reply in a queue or in flight, has a walk;
--- and a link that stands has ever stood
+-- all nodes are of the variant; each valid entry, and each request and reply in a queue or in
+-- flight, has a walk; and a link that stands has ever stood
 pub record HasWalks (variant : Variant) (w : World) : Type 0 where
-  pub nodes : (x : ℕ) (n : Node) → slice_get w.nodes x ≡ Some n → NodeHasWalks (around variant w) x n
+  pub nodes : (x : ℕ) (n : Node) → slice_get w.nodes x ≡ Some n
+      → NodeHasWalks (around variant w) x n
   pub flying : AllByRecursion (CopyHasWalk (around variant w)) w.flying
   pub stood : (p : ℕ × ℕ) → sets.contains w.links p ≡ true → sets.contains w.ever p ≡ true

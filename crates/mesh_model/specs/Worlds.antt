@@ -1,4 +1,5 @@
--- The state of the whole mesh, its events, one step, and a run of them. One event is one atomic step of the mesh.
+-- The state of the whole mesh, its events, one step, and a run of them. One event is one atomic
+-- step of the mesh.
 use Rattle.std.specs.Prelude.{ℕ, zero, suc, ◌+◌, ◌≤◌, Bool, true, false, not, ◌==◌, if◌then◌else◌, Option, Some, None, List, [], ◌∷◌, ◌++◌, length, map, filter, slice_get, slice_set, min, max}
 use Rattle.std.specs.List.{AllByRecursion}
 use Rattle.std.specs.FinSet as sets
@@ -6,7 +7,7 @@ use Rattle.mesh_base.specs.declared.limits.TheConstants.{MOST_NODES}
 use Rattle.mesh_base.specs.Members.{NodeIds}
 unfoldable pub use Rattle.mesh_base.specs.Members.{members_below}
 use Rattle.mesh_base.specs.Meshes as meshes
-use Rattle.mesh_base.specs.declared.events.Full.{Full}
+use Rattle.mesh_base.specs.declared.events.Counter.{Counter}
 use Rattle.mesh_base.specs.declared.events.Variant.{Variant}
 use Rattle.aodv_model.specs.Pairs.{Pairs}
 use Rattle.aodv_model.specs.Cores.{Body, Message, Pkt, Rreq, Rrep, Rerr, Item, New, Heard, Core, opening}
@@ -25,8 +26,8 @@ pub record Copy : Type 0 where
   pub to : ℕ
   pub message : Message
 
--- the nodes by their index; the links that stand, and those that ever stood, each with the smaller node first;
--- the copies in flight by rising id; and the id of the next copy
+-- the nodes by their index; the links that stand, and those that ever stood, each with the smaller
+-- node first; the copies in flight by rising id; and the id of the next copy
 pub record World : Type 0 where
   pub nodes : List Node
   pub links : Pairs
@@ -65,7 +66,8 @@ are_linked links a b = sets.contains links (pair a b)
 -- the nodes below n that are linked to a
 abbrev pub linked_below : Pairs → ℕ → ℕ → NodeIds
 linked_below links a zero = sets.empty
-linked_below links a (suc n) = if are_linked links a n then sets.insert (linked_below links a n) n else linked_below links a n
+linked_below links a (suc n) =
+    if are_linked links a n then sets.insert (linked_below links a n) n else linked_below links a n
 
 -- the nodes in range of a: those linked to it
 unfoldable pub range : World → ℕ → NodeIds
@@ -83,7 +85,8 @@ receivers near (All m) = near
 -- one copy for each receiver, with ids that rise from `id` on
 abbrev pub copies_to : List ℕ → ℕ → ℕ → Message → List Copy
 copies_to [] id from m = []
-copies_to (to ∷ tos) id from m = record { id = id; from = from; to = to; message = m } ∷ copies_to tos (id + 1) from m
+copies_to (to ∷ tos) id from m =
+    record { id = id; from = from; to = to; message = m } ∷ copies_to tos (id + 1) from m
 
 -- the copies of a cast for these receivers
 abbrev pub copies_of : Cast → List ℕ → ℕ → ℕ → List Copy
@@ -94,7 +97,8 @@ copies_of (All m) tos id from = copies_to tos id from m
 
 -- the copies that a cast of node x makes
 unfoldable pub copies : World → ℕ → Cast → List Copy
-copies w x cast = copies_of cast (members_below (length w.nodes) (receivers (range w x) cast)) w.next_copy x
+copies w x cast =
+    copies_of cast (members_below (length w.nodes) (receivers (range w x) cast)) w.next_copy x
 
 -- ---- steps
 
@@ -111,7 +115,9 @@ done_by w x reaction queue =
 -- the world where the item joins the queue of node x, if there is one
 abbrev pub with_item : World → ℕ → Option Node → Item → World
 with_item w x None item = w
-with_item w x (Some n) item = record w { nodes = slice_set w.nodes x (record n { queue = n.queue ++ item ∷ [] }) }
+with_item w x (Some n) item = record w {
+  nodes = slice_set w.nodes x (record n { queue = n.queue ++ item ∷ [] });
+}
 
 -- the item joins x's queue
 unfoldable pub push : World → ℕ → Item → World
@@ -141,16 +147,16 @@ pub data Happening : Type 0 where
   -- a new copy of this id, to this node, doubles another; and whether it is of a data packet
   CopyDoubled : (id to : ℕ) (parcel : Bool) → Happening
 
--- what comes of an event: nothing where it isn't enabled, the refusal of a node whose counter stands at its end,
--- or a new world and what happened
+-- what comes of an event: nothing where it isn't enabled, the refusal of a node whose counter
+-- stands at its end, or a new world and what happened
 pub data Outcome : Type 0 where
   Idle : Outcome
-  Stops : (node : ℕ) → Full → Outcome
-  Goes : World → Happening → Outcome
+  Full : (node : ℕ) → Counter → Outcome
+  Next : World → Happening → Outcome
 
 -- the outcome, unless a counter stands at its end
-abbrev pub unless_full : ℕ → Option Full → Outcome → Outcome
-unless_full x (Some f) o = Stops x f
+abbrev pub unless_full : ℕ → Option Counter → Outcome → Outcome
+unless_full x (Some f) o = Full x f
 unless_full x None o = o
 
 -- node x takes the front of its queue
@@ -159,14 +165,15 @@ turn_of w x core [] = Idle
 turn_of w x core (item ∷ items) =
     let reaction = turn core (range w x) item in
     unless_full x (turn_full core (range w x) item)
-    (Goes (done_by w x reaction items) (Taken (took core item) reaction.effect (copies w x (reaction.effect).cast)))
+    (Next (done_by w x reaction items) (Taken (took core item) reaction.effect (copies w x (reaction.effect).cast)))
 
 -- node x sends a datum that waits for d
 abbrev pub send_of : World → ℕ → ℕ → Core → List Item → Outcome
 send_of w x d core items =
     let reaction = send core (range w x) d in
     if may_send core d
-    then unless_full x (send_full core (range w x) d) (Goes (done_by w x reaction items) (Sent reaction.effect (copies w x (reaction.effect).cast)))
+    then unless_full x (send_full core (range w x) d)
+    (Next (done_by w x reaction items) (Sent reaction.effect (copies w x (reaction.effect).cast)))
     else Idle
 
 -- node x asks for a route to d
@@ -174,7 +181,8 @@ abbrev pub ask_of : World → ℕ → ℕ → Core → List Item → Outcome
 ask_of w x d core items =
     let reaction = ask core d in
     if may_ask core d
-    then unless_full x (ask_full core) (Goes (done_by w x reaction items) (Sent reaction.effect (copies w x (reaction.effect).cast)))
+    then unless_full x (ask_full core)
+    (Next (done_by w x reaction items) (Sent reaction.effect (copies w x (reaction.effect).cast)))
     else Idle
 
 -- what is done where there is such a node
@@ -189,7 +197,10 @@ at_copy (Some c) f = f c
 
 -- the link between a and b stands, now and among those that ever stood
 abbrev pub with_link : World → ℕ → ℕ → World
-with_link w a b = record w { links = sets.insert w.links (pair a b); ever = sets.insert w.ever (pair a b) }
+with_link w a b = record w {
+  links = sets.insert w.links (pair a b);
+  ever = sets.insert w.ever (pair a b);
+}
 
 -- the link between a and b doesn't stand any more
 abbrev pub without_link : World → ℕ → ℕ → World
@@ -216,23 +227,28 @@ with_double w c = record w { flying = w.flying ++ double_of w c ∷ []; next_cop
 
 -- one event
 unfoldable pub step : World → Event → Outcome
-step w (Give x d b) = at_node (slice_get w.nodes x) (λ core queue. Goes (push w x (New b d)) Changed)
+step w (Give x d b) =
+    at_node (slice_get w.nodes x) (λ core queue. Next (push w x (New b d)) Changed)
 step w (Turn x) = at_node (slice_get w.nodes x) (turn_of w x)
 step w (Send x d) = at_node (slice_get w.nodes x) (send_of w x d)
 step w (Ask x d) = at_node (slice_get w.nodes x) (ask_of w x d)
-step w (Link a b) = if are_linked w.links a b then Idle else Goes (with_link w a b) Changed
-step w (Cut a b) = if are_linked w.links a b then Goes (without_link w a b) Changed else Idle
-step w (Deliver id) = at_copy (find_copy w.flying id) (λ c. Goes (push (without_copy w id) c.to (Heard c.from c.message)) (CopyHeard c.from c.to))
-step w (Lose id) = at_copy (find_copy w.flying id) (λ c. Goes (without_copy w id) (CopyLost c))
-step w (Double id) = at_copy (find_copy w.flying id) (λ c. Goes (with_double w c) (CopyDoubled w.next_copy c.to (is_parcel c.message)))
+step w (Link a b) = if are_linked w.links a b then Idle else Next (with_link w a b) Changed
+step w (Cut a b) = if are_linked w.links a b then Next (without_link w a b) Changed else Idle
+step w (Deliver id) =
+    at_copy (find_copy w.flying id)
+    (λ c. Next (push (without_copy w id) c.to (Heard c.from c.message)) (CopyHeard c.from c.to))
+step w (Lose id) = at_copy (find_copy w.flying id) (λ c. Next (without_copy w id) (CopyLost c))
+step w (Double id) =
+    at_copy (find_copy w.flying id)
+    (λ c. Next (with_double w c) (CopyDoubled w.next_copy c.to (is_parcel c.message)))
 
 -- ---- runs
 
 -- the world after an event. Where the event is idle or refused it is as before
 abbrev pub after : World → Outcome → World
 after w Idle = w
-after w (Stops x f) = w
-after w (Goes w' happening) = w'
+after w (Full x f) = w
+after w (Next w' happening) = w'
 
 -- the world after a list of events
 unfoldable pub run : World → List Event → World
@@ -242,11 +258,18 @@ run w (e ∷ es) = run (after w (step w e)) es
 -- nodes that have done nothing yet, with addresses from ip on
 abbrev pub openings : Variant → ℕ → List ℕ → List Node
 openings variant ip [] = []
-openings variant ip (first ∷ firsts) = record { core = opening variant ip first; queue = [] } ∷ openings variant (ip + 1) firsts
+openings variant ip (first ∷ firsts) =
+    record { core = opening variant ip first; queue = [] } ∷ openings variant (ip + 1) firsts
 
 -- the opening world of nodes of one variant with these first sequence numbers
 unfoldable pub start : Variant → List ℕ → World
-start variant firsts = record { nodes = openings variant 0 firsts; links = sets.empty; ever = sets.empty; flying = []; next_copy = 1 }
+start variant firsts = record {
+  nodes = openings variant 0 firsts;
+  links = sets.empty;
+  ever = sets.empty;
+  flying = [];
+  next_copy = 1;
+}
 
 -- the first sequence numbers of a mesh's nodes
 abbrev pub first_numbers : meshes.Nodes → List ℕ

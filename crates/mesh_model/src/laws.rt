@@ -51,8 +51,8 @@ pub fn pick_is_enabled()
     ensures { PickIsEnabled }
 {}
 
-/// Where a turn, a delivery, a send or a request is enabled, one is chosen, and none that is enabled
-/// comes before it.
+/// Where a turn, a delivery, a send or a request is enabled, one is chosen, and none that is
+/// enabled comes before it.
 pub fn pick_is_least()
     ensures { PickIsLeast }
 {}
@@ -87,7 +87,7 @@ pub fn honest_hops()
     ensures { HonestHops }
 {}
 
-/// In no run does a hop count or a request id come to the end of its field.
+/// No step of a run is refused for a hop count or for a request id.
 pub fn only_numbers_fill()
     ensures { OnlyNumbersFill }
 {}

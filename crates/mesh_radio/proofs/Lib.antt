@@ -3,6 +3,7 @@ pub mod Graphs
 pub mod Finds
 pub mod CastCopies
 pub mod Numbered
+pub mod Receivers
 pub mod Entries
 pub mod Nexts
 pub mod Sweeps

@@ -1,4 +1,5 @@
--- How the code keeps copies in flight: casts by the ids of their first copies. No public contract cites this file.
+-- How the code keeps copies in flight: casts by the ids of their first copies. No public contract
+-- cites this file.
 use Rattle.std.specs.Prelude.{◌≡◌, ℕ, ◌+◌, ◌-◌, ◌^◌, ◌<◌, ◌≤◌, Bool, true, nat_le, if◌then◌else◌, Option, Some, None, List, [], ◌∷◌, ◌++◌, length, slice_get, slice_index, unwrap_or, is_some, IfSome}
 use Rattle.std.specs.List.{AllByRecursion}
 use Rattle.std.specs.FinSet.{contains, remove}
@@ -23,7 +24,9 @@ copies_before c to = rank c.to to
 
 -- the copy of that id to that receiver, where it still flies
 abbrev pub slot : Cast → ℕ → ℕ → Option Flying
-slot c id to = if contains c.left to then Some (record { id = id; from = c.from; to = to; bytes = c.bytes }) else None
+slot c id to =
+    if contains c.left to then Some (record { id = id; from = c.from; to = to; bytes = c.bytes })
+    else None
 
 -- a slot for each of these receivers, with ids that rise from `id` on
 abbrev pub slots_of : Cast → ℕ → List ℕ → List (Option Flying)
@@ -40,7 +43,8 @@ copies_of (e ∷ es) = copies_in (slots_at e) ++ copies_of es
 
 -- ---- what always holds
 
--- each cast made a copy, and its ids are after those of the casts before it; they go from `low` on, and are below `next`
+-- each cast made a copy, and its ids are after those of the casts before it; they go from `low` on,
+-- and are below `next`
 abbrev pub AreRising : ℕ → List Entry → ℕ → Type 0
 AreRising low [] next = low ≤ next
 AreRising low (e ∷ es) next = (low ≤ e.0) × (0 < size e.1) × AreRising (e.0 + size e.1) es next
@@ -65,7 +69,8 @@ pub record AreKept (es : List Entry) (next count of_data : ℕ) : Type 0 where
 
 -- these numbers rise
 abbrev pub AreSorted : List ℕ → Type 0
-AreSorted firsts = (i j : ℕ) → i ≤ j → j < length firsts → slice_index firsts i ≤ slice_index firsts j
+AreSorted firsts =
+    (i j : ℕ) → i ≤ j → j < length firsts → slice_index firsts i ≤ slice_index firsts j
 
 -- the first k of these numbers are at most that one, and the others are greater
 pub record IsSplit (firsts : List ℕ) (id k : ℕ) : Type 0 where
@@ -161,7 +166,8 @@ without_packet c = record c { bytes = [] }
 abbrev pub has_left : Cast → Bool
 has_left c = is_some (slice_get (member_list c.left) 0)
 
--- packets and casts may go of which no copy flies: the copies in flight are the same, and the casts that stay, in their order
+-- packets and casts may go of which no copy flies: the copies in flight are the same, and the casts
+-- that stay, in their order
 pub record IsTidied (before now : List Entry) : Type 0 where
   pub same : copies_of now ≡ copies_of before
   pub rising : (low next : ℕ) → AreRising low before next → AreRising low now next

@@ -1,14 +1,17 @@
 -- The copies of packets in flight. They are the mesh's copies, with bytes in place of messages.
-use Rattle.std.specs.Prelude.{◌≢◌, ◌<◌, ◌≤◌, ℕ, ◌+◌, ◌==◌, nat_le, not, Bool, if◌then◌else◌, Option, Some, None, List, [], ◌∷◌, length, filter}
+use Rattle.std.specs.Prelude.{◌≡◌, ◌≢◌, ◌<◌, ◌≤◌, ℕ, ◌+◌, ◌==◌, nat_le, not, if◌then◌else◌, Option, Some, None, List, [], ◌∷◌, length, filter}
 use Rattle.mesh_base.specs.declared.limits.TheConstants.{LONGEST_PACKET}
 use Rattle.mesh_base.specs.declared.events.Flying.{Flying}
-use Rattle.aodv_wire.specs.Spells.{kind}
-use Rattle.aodv_wire.specs.DataPacket.{type_number}
+use Rattle.aodv_wire.specs.Spells.{is_data}
 
 -- the copy of that id
 abbrev pub find_copy : List Flying → ℕ → Option Flying
 find_copy [] id = None
 find_copy (c ∷ cs) id = if c.id == id then Some c else find_copy cs id
+
+-- the packet of the copy of that id, if there is one, has at most so many bytes
+abbrev pub IsCopyWithin : List Flying → ℕ → ℕ → Type 0
+IsCopyWithin cs id most = (c : Flying) → find_copy cs id ≡ Some c → length c.bytes ≤ most
 
 -- the copies but that of that id
 unfoldable pub without : List Flying → ℕ → List Flying
@@ -21,7 +24,8 @@ from_id cs id = filter (λ c. nat_le id c.id) cs
 -- one copy for each receiver, with ids that rise from `id` on
 abbrev pub copies_to : List ℕ → ℕ → ℕ → List ℕ → List Flying
 copies_to [] id from bytes = []
-copies_to (to ∷ tos) id from bytes = record { id = id; from = from; to = to; bytes = bytes } ∷ copies_to tos (id + 1) from bytes
+copies_to (to ∷ tos) id from bytes =
+    record { id = id; from = from; to = to; bytes = bytes } ∷ copies_to tos (id + 1) from bytes
 
 -- the ids rise from `low` on, and are below `next`
 abbrev pub AreNumbered : ℕ → List Flying → ℕ → Type 0
@@ -39,10 +43,6 @@ longest_packet = LONGEST_PACKET
 -- the packet of a copy is no longer than that
 abbrev pub IsPacketLong : Flying → Type 0
 IsPacketLong c = length c.bytes ≤ longest_packet
-
--- the packet is a datum's
-abbrev pub is_data : List ℕ → Bool
-is_data bytes = kind bytes == type_number
 
 -- how many of these copies are of data
 abbrev pub data_in : List Flying → ℕ

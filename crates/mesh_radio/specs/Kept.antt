@@ -1,5 +1,6 @@
--- How the code keeps a graph, the copies in flight and memory for more. No public contract cites this file.
-use Rattle.std.specs.Prelude.{◌≡◌, ℕ, zero, suc, ◌+◌, ◌-◌, ◌≤◌, false, if◌then◌else◌, Option, Some, None, List, [], ◌∷◌, ◌++◌, length, unwrap_or, slice_get, ⊤, refl}
+-- How the code keeps a graph, the copies in flight and memory for more. No public contract cites
+-- this file.
+use Rattle.std.specs.Prelude.{◌≡◌, ℕ, zero, suc, ◌+◌, ◌-◌, ◌≤◌, false, if◌then◌else◌, Option, Some, None, List, [], ◌∷◌, ◌++◌, length, max, unwrap_or, slice_get, ⊤, refl}
 use Rattle.std.specs.List.{AllByRecursion}
 use Rattle.std.specs.Coded.{Coded, code_by, coded×, coded_ℕ, coded_list}
 use Rattle.std.specs.FinSet as sets
@@ -25,7 +26,8 @@ row rows a = unwrap_or (slice_get rows a) sets.empty
 -- the pairs (b, a) for members b of s below n, beside other pairs
 unfoldable pub with_row : ℕ → NodeIds → ℕ → Pairs → Pairs
 with_row a s zero pairs = pairs
-with_row a s (suc n) pairs = if sets.contains s n then sets.insert (with_row a s n pairs) (n, a) else with_row a s n pairs
+with_row a s (suc n) pairs =
+    if sets.contains s n then sets.insert (with_row a s n pairs) (n, a) else with_row a s n pairs
 
 -- the pairs whose greater node is below n
 unfoldable pub pairs_below : ℕ → List NodeIds → Pairs
@@ -73,7 +75,15 @@ with_flights a from bytes tos = record a {
 -- a second copy like this one joins, with the next id, if there is such a copy
 abbrev pub with_second : Flights → Option Flying → Flights
 with_second a None = a
-with_second a (Some c) = record a { flying = a.flying ++ record c { id = a.next_copy } ∷ []; next_copy = a.next_copy + 1; room = a.room - 1 }
+with_second a (Some c) = record a {
+  flying = a.flying ++ record c { id = a.next_copy } ∷ [];
+  next_copy = a.next_copy + 1;
+  room = a.room - 1;
+}
+
+-- room for this many copies more, of this many bytes each; what room there is stays
+abbrev pub with_room : Flights → ℕ → ℕ → Flights
+with_room a copies bytes = record a { room = max a.room copies; most = max a.most bytes }
 
 -- ---- memory for copies to come
 
@@ -81,6 +91,10 @@ with_second a (Some c) = record a { flying = a.flying ++ record c { id = a.next_
 pub record Memory : Type 0 where
   pub room : ℕ
   pub most : ℕ
+
+-- memory for this many copies, of this many bytes each; what there is stays
+abbrev pub more_memory : Memory → ℕ → ℕ → Memory
+more_memory m copies bytes = record { room = max m.room copies; most = max m.most bytes }
 
 -- each room is large enough for this many bytes
 abbrev pub AreLarge : ℕ → List ℕ → Type 0
@@ -99,7 +113,8 @@ radio_of links ever a = record {
   most = a.most;
 }
 
--- both graphs are of the same nodes, at most 200; copies are between these, and none has more bytes than a packet can
+-- both graphs are of the same nodes, at most 200; copies are between these, and none has more bytes
+-- than a packet can
 pub record IsRadio (links ever : Graph) (a : Flights) : Type 0 where
   pub few : links.size ≤ MOST_NODES
   pub same : ever.size ≡ links.size
@@ -109,16 +124,31 @@ pub record IsRadio (links ever : Graph) (a : Flights) : Type 0 where
 -- ---- codes, so that types of the code can be seen as these
 
 abbrev pub graph_code : Coded Graph
-graph_code = code_by (ℕ × Pairs) (coded× coded_ℕ pairs_code) (λ g. (g.size, g.pairs)) (λ p. record { size = p.0; pairs = p.1 }) (λ _. refl)
+graph_code =
+    code_by (ℕ × Pairs) (coded× coded_ℕ pairs_code)
+    (λ g. (g.size, g.pairs)) (λ p. record { size = p.0; pairs = p.1 }) (λ _. refl)
 
 abbrev pub flying_code : Coded Flying
 flying_code =
-    code_by (ℕ × (ℕ × (ℕ × List ℕ))) (coded× coded_ℕ (coded× coded_ℕ (coded× coded_ℕ (coded_list coded_ℕ))))
-    (λ f. (f.id, (f.from, (f.to, f.bytes)))) (λ p. record { id = p.0; from = p.1.0; to = p.1.1.0; bytes = p.1.1.1 }) (λ _. refl)
+    code_by (ℕ × (ℕ × (ℕ × List ℕ)))
+    (coded× coded_ℕ (coded× coded_ℕ (coded× coded_ℕ (coded_list coded_ℕ))))
+    (λ f. (f.id, (f.from, (f.to, f.bytes))))
+    (λ p. record { id = p.0; from = p.1.0; to = p.1.1.0; bytes = p.1.1.1 })
+    (λ _. refl)
 
 abbrev pub radio_code : Coded RadioState
 radio_code =
-    code_by (ℕ × (Pairs × (Pairs × (List Flying × (ℕ × (ℕ × ℕ)))))) (coded× coded_ℕ (coded× pairs_code (coded× pairs_code (coded× (coded_list flying_code) (coded× coded_ℕ (coded× coded_ℕ coded_ℕ))))))
+    code_by (ℕ × (Pairs × (Pairs × (List Flying × (ℕ × (ℕ × ℕ))))))
+    (coded× coded_ℕ (coded× pairs_code (coded× pairs_code
+    (coded× (coded_list flying_code) (coded× coded_ℕ (coded× coded_ℕ coded_ℕ))))))
     (λ r. (r.size, (r.links, (r.ever, (r.flying, (r.next_copy, (r.room, r.most)))))))
-    (λ p. record { size = p.0; links = p.1.0; ever = p.1.1.0; flying = p.1.1.1.0; next_copy = p.1.1.1.1.0; room = p.1.1.1.1.1.0; most = p.1.1.1.1.1.1 })
+    (λ p. record {
+      size = p.0;
+      links = p.1.0;
+      ever = p.1.1.0;
+      flying = p.1.1.1.0;
+      next_copy = p.1.1.1.1.0;
+      room = p.1.1.1.1.1.0;
+      most = p.1.1.1.1.1.1;
+    })
     (λ _. refl)

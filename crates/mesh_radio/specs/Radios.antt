@@ -1,5 +1,5 @@
 -- The links of a mesh and the copies in flight, and what is done to them.
-use Rattle.std.specs.Prelude.{ℕ, ◌+◌, ◌-◌, Option, Some, None, List, [], ◌∷◌, ◌++◌, length}
+use Rattle.std.specs.Prelude.{ℕ, ◌+◌, ◌-◌, Option, Some, None, List, [], ◌∷◌, ◌++◌, length, max}
 use Rattle.std.specs.FinSet as sets
 use Rattle.mesh_base.specs.Members.{NodeIds}
 use Rattle.mesh_base.specs.declared.events.Flying.{Flying}
@@ -7,8 +7,9 @@ use Rattle.aodv_model.specs.Pairs.{Pairs}
 use Rattle.mesh_model.specs.Worlds.{pair, members_below}
 use Rattle.mesh_radio.specs.Copies.{without, copies_to}
 
--- the number of nodes; the links that stand, and those that ever stood, each with the smaller node first;
--- the copies in flight by rising id; the id of the next copy; and memory: for how many copies more, of how many bytes each
+-- the number of nodes; the links that stand, and those that ever stood, each with the smaller node
+-- first; the copies in flight by rising id; the id of the next copy; and memory: for how many
+-- copies more, of how many bytes each
 pub record RadioState : Type 0 where
   pub size : ℕ
   pub links : Pairs
@@ -20,11 +21,26 @@ pub record RadioState : Type 0 where
 
 -- no link, no copy, and no memory yet
 abbrev pub opening : ℕ → RadioState
-opening size = record { size = size; links = sets.empty; ever = sets.empty; flying = []; next_copy = 1; room = 0; most = 0 }
+opening size = record {
+  size = size;
+  links = sets.empty;
+  ever = sets.empty;
+  flying = [];
+  next_copy = 1;
+  room = 0;
+  most = 0;
+}
+
+-- room for this many copies more, of this many bytes each; what room there is stays
+abbrev pub with_more_room : RadioState → ℕ → ℕ → RadioState
+with_more_room r copies bytes = record r { room = max r.room copies; most = max r.most bytes }
 
 -- the link between a and b stands, now and among those that ever stood
 abbrev pub with_link : RadioState → ℕ → ℕ → RadioState
-with_link r a b = record r { links = sets.insert r.links (pair a b); ever = sets.insert r.ever (pair a b) }
+with_link r a b = record r {
+  links = sets.insert r.links (pair a b);
+  ever = sets.insert r.ever (pair a b);
+}
 
 -- the link between a and b doesn't stand any more
 abbrev pub without_link : RadioState → ℕ → ℕ → RadioState
@@ -49,4 +65,8 @@ without_copy r id = record r { flying = without r.flying id }
 -- a second copy like this one flies, with the next id, if there is such a copy
 abbrev pub with_double : RadioState → Option Flying → RadioState
 with_double r None = r
-with_double r (Some c) = record r { flying = r.flying ++ record c { id = r.next_copy } ∷ []; next_copy = r.next_copy + 1; room = r.room - 1 }
+with_double r (Some c) = record r {
+  flying = r.flying ++ record c { id = r.next_copy } ∷ [];
+  next_copy = r.next_copy + 1;
+  room = r.room - 1;
+}

@@ -2,14 +2,15 @@
 ghost use Rattle.std.specs.Prelude.{◌≡◌, ℕ, ◌<◌, ◌≤◌, ◌+◌, ◌-◌, ◌^◌, ◌++◌, ◌∷◌, [], slice_get, Some, IfSome, IfNone};
 ghost use Rattle.std.specs.Map.{keys_of};
 ghost use Rattle.indexmap.specs.IndexMap.{spare, with_value_at};
+ghost use Rattle.mesh_base.specs.Members.{member_list};
 ghost use Rattle.mesh_radio.specs.Casts.{Entry, AreCasts, AreLeft, IsFound, IsNext, IsSplit, IsFrom, AreGone, IsLeast, IsLeastOf, NoneUpTo, HasNone, HasNoneFrom, size, without_to};
 
 use crate::places::place_near;
 use indexmap::IndexMap;
 use mesh_base::{Bytes, NodeSet};
 
-/// A packet that was cast, to whom, and those of them to whom its copy still flies. Its copies have the
-/// ids from the cast's first on, by rising receiver.
+/// A packet that was cast, to whom, and those of them to whom its copy still flies. Its copies have
+/// the ids from the cast's first on, by rising receiver.
 #[derive(Drop)]
 pub struct Cast {
     pub to: NodeSet,
@@ -35,6 +36,24 @@ pub struct Least {
     pub spot: Spot,
 }
 
+// The member of this rank. Where all nodes below it are members, or all but one, as in a mesh
+// where all are linked, it is found at once.
+#[tactic(auto, using(crate::proofs::Receivers::member_of_rank))]
+fn receiver(to: &NodeSet, rank: usize) -> Option<usize>
+    ensures value { result ≡ slice_get (member_list to.now) rank }
+    ensures below { IfSome result (λ m. m < 256) }
+{
+    if rank < 255 {
+        if to.has(rank) && to.count_below(rank) == rank {
+            return Some(rank);
+        }
+        if to.has(rank + 1) && to.count_below(rank + 1) == rank {
+            return Some(rank + 1);
+        }
+    }
+    to.nth(rank)
+}
+
 // Where the copy of this id stands: the place of its cast is sought by halves, and its receiver by its
 // rank. The hint makes no difference but to how long that takes.
 fn find_near(casts: &Casts, id: u64, hint: usize) -> Option<Spot>
@@ -48,7 +67,7 @@ fn find_near(casts: &Casts, id: u64, hint: usize) -> Option<Spot>
         return None;
     }
     let (first, cast) = casts.get_index(after - 1)?;
-    let to = cast.to.nth((id - *first) as usize)?;
+    let to = receiver(&cast.to, (id - *first) as usize)?;
     if cast.left.has(to) {
         return Some(Spot {
             place: after - 1,
@@ -76,7 +95,8 @@ pub fn find(casts: &Casts, least: Option<Least>, id: u64) -> Option<Spot>
     find_near(casts, id, least.spot.place)
 }
 
-// The receiver of the first copy from this id on of the cast before this place, which is the id's own.
+// The receiver of the first copy from this id on of the cast before this place, which is the id's
+// own.
 fn rest_of(casts: &Casts, after: usize, id: u64) -> Option<usize>
     requires casts { (next : ℕ) × AreCasts casts.now.entries next }
     requires split { IsSplit (keys_of casts.now.entries) id after }
@@ -111,7 +131,8 @@ fn walk(casts: &Casts, place: usize, id: u64) -> Option<Spot>
     None
 }
 
-/// Where the first copy from this id on stands. The hint makes no difference but to how long that takes.
+/// Where the first copy from this id on stands. The hint makes no difference but to how long that
+/// takes.
 pub fn find_next(casts: &Casts, id: u64, hint: usize) -> Option<Spot>
     requires { (next : ℕ) × AreCasts casts.now.entries next }
     ensures some { IfSome result (λ s. IsNext casts.now.entries id s.place s.to) }
@@ -154,7 +175,8 @@ fn least_or(casts: &Casts, least: Option<Least>, gone: usize) -> Option<Least>
     }
 }
 
-/// A cast joins, at the next id: its copies fly. The answer is the least copy then, where this one was.
+/// A cast joins, at the next id: its copies fly. The answer is the least copy then, where this one
+/// was.
 #[inline(always)]
 pub fn launch(casts: &mut Casts, least: Option<Least>, next: u64, cast: Cast) -> Option<Least>
     requires casts { AreCasts casts.old.entries next }

@@ -7,7 +7,8 @@ ghost use Rattle.mesh_radio.specs.Casts.{Entry, AreRising, AreGone, IsTidied, ha
 use crate::casts::{Cast, Casts};
 use mesh_base::Bytes;
 
-/// So few casts that are done with are left to lie: to sweep them would cost more than they take up.
+/// So few casts that are done with are left to lie: to sweep them would cost more than they take
+/// up.
 const LYING: usize = 64;
 
 // Whether no copy of the cast at this place flies.
@@ -31,8 +32,8 @@ fn drop_packet(casts: &mut Casts, place: usize)
     }
 }
 
-// The casts go of which no copy flies. It is a call of its own, since the memory of its locals would
-// be cleared at each take.
+// The casts go of which no copy flies. It is a call of its own, since the memory of its locals
+// would be cleared at each take.
 #[cold]
 #[inline(never)]
 fn sweep(casts: &mut Casts)
@@ -46,10 +47,10 @@ fn sweep(casts: &mut Casts)
     );
 }
 
-/// What a take of a copy of the cast at this place leaves to do, where so many casts at the front have no
-/// copy in flight. With the last copy of a cast its packet goes, and once more casts are done with than
-/// are not, those go too, wherever they stand: about `done` of them lie there. The answer is how many
-/// casts at the front have no copy in flight then.
+/// What a take of a copy of the cast at this place leaves to do, where so many casts at the front
+/// have no copy in flight. With the last copy of a cast its packet goes, and once more casts are
+/// done with than are not, those go too, wherever they stand: about `done` of them lie there. The
+/// answer is how many casts at the front have no copy in flight then.
 pub fn clear(casts: &mut Casts, place: usize, gone: usize, done: &mut usize) -> usize
     requires rising { (next : ℕ) × AreRising 1 casts.old.entries next }
     requires gone { AreGone casts.old.entries gone }

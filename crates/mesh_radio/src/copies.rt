@@ -1,24 +1,23 @@
 //! Copies of packets in flight, by rising id.
-ghost use Rattle.std.specs.Prelude.{◌≡◌, ℕ, ◌<◌, ◌≤◌, ◌+◌, ◌^◌, ◌∷◌, [], length, max, slice_get, option_map, Some, OnOk, OnErr, IsOk, IfSome, IfNone, if◌then◌else◌};
+ghost use Rattle.std.specs.Prelude.{◌≡◌, ℕ, ◌<◌, ◌≤◌, ◌+◌, ◌^◌, ◌∷◌, [], length, slice_get, option_map, OnOk, OnErr, IsOk, IfSome, IfNone, if◌then◌else◌};
 ghost use Rattle.mesh_base.specs.Views.{flying_seen};
 ghost use Rattle.mesh_base.specs.Members.{member_list};
-ghost use Rattle.mesh_base.specs.declared.events.Flying.{Flying};
-ghost use Rattle.mesh_radio.specs.Copies.{find_copy, without, from_id, is_data, data_in, AreNumbered};
-ghost use Rattle.mesh_radio.specs.Kept.{with_flights, with_second};
+ghost use Rattle.aodv_wire.specs.Spells.{is_data};
+ghost use Rattle.mesh_radio.specs.Copies.{find_copy, IsCopyWithin, without, from_id, data_in, AreNumbered};
+ghost use Rattle.mesh_radio.specs.Kept.{with_flights, with_second, with_room};
 
 use crate::casts::{Cast, Casts, Least, find, find_next, front_of, launch, least_from, remove_at};
 use crate::clearing::clear;
 use crate::rooms::Rooms;
+use aodv_wire::is_data;
 use mesh_base::{Flying, FlyingView, MOST_NODES, NoMemory, NodeSet, Room};
 use std::alloc::Global;
 use std::marker::Model;
 
-/// The type of a data packet, in its first byte.
-const DATA_TYPE: u8 = 16;
-
-/// The copies in flight, as casts: a cast stands at the id of its first copy, and its copies have that
-/// id and the next ones, by rising receiver. A copy is found by the place of its cast, a search by
-/// halves, and by its rank among the receivers; it is taken by one bit. The least copy is kept apart.
+/// The copies in flight, as casts: a cast stands at the id of its first copy, and its copies have
+/// that id and the next ones, by rising receiver. A copy is found by the place of its cast, a
+/// search by halves, and by its rank among the receivers; it is taken by one bit. The least copy is
+/// kept apart.
 #[derive(Drop)]
 pub struct Copies {
     casts: Casts,
@@ -49,13 +48,6 @@ impl Model for Copies {
     ghost invariant = { λ a. AreKept a.casts.entries a.next a.count a.of_data
         × (a.rooms.room ≤ spare a.casts)
         × IsLeastOf a.casts.entries a.least };
-}
-
-/// Whether the packet is a datum's.
-pub fn is_data(packet: &[u8]) -> bool
-    ensures { result ≡ is_data packet.now }
-{
-    !packet.is_empty() && packet[0] == DATA_TYPE
 }
 
 // So many copies, if the packet is a datum's, else none.
@@ -125,11 +117,13 @@ impl Copies {
         })
     }
 
-    /// The copy of the least id from this one on. The hint, whatever it is, makes no difference but to
-    /// how long it takes: it comes to be the place of the copy's cast.
+    /// The copy of the least id from this one on. The hint, whatever it is, makes no difference but
+    /// to how long it takes: it comes to be the place of the copy's cast.
     pub fn next_from(&self, id: u64, hint: &mut usize) -> Option<FlyingView<'_>>
-        ensures some { IfSome result (λ f. from_id self.now.flying id ≡ flying_seen f ∷ from_id self.now.flying (f.id + 1)) }
-        ensures below { IfSome result (λ f. (id ≤ f.id) × (f.id < self.now.next_copy) × (self.now.next_copy < 2 ^ 64)) }
+        ensures some { let copies = self.now.flying in
+            IfSome result (λ f. from_id copies id ≡ flying_seen f ∷ from_id copies (f.id + 1)) }
+        ensures below { let next = self.now.next_copy in
+            IfSome result (λ f. (id ≤ f.id) × (f.id < next) × (next < 2 ^ 64)) }
         ensures none { IfNone result (from_id self.now.flying id ≡ []) }
     {
         let spot = find_next(&self.casts, id, *hint)?;
@@ -143,7 +137,8 @@ impl Copies {
         })
     }
 
-    /// A copy of the packet flies to each member of the set. They have the next ids, by rising member.
+    /// A copy of the packet flies to each member of the set. They have the next ids, by rising
+    /// member.
     pub fn cast(&mut self, from: usize, bytes: &[u8], to: &NodeSet)
         requires room { length (member_list to.now) ≤ self.old.room }
         requires fits { length bytes.now ≤ self.old.most }
@@ -166,13 +161,14 @@ impl Copies {
         self.of_data += if_data(bytes, copies);
     }
 
-    /// A second copy like that of this id flies, with the next id and a packet of its own. The answer is
-    /// its id and receiver.
+    /// A second copy like that of this id flies, with the next id and a packet of its own. The
+    /// answer is its id and receiver.
     pub fn double(&mut self, id: u64) -> Option<(u64, usize)>
         requires room { 1 ≤ self.old.room }
-        requires fits { (f : Flying) → find_copy self.old.flying id ≡ Some f → length f.bytes ≤ self.old.most }
+        requires fits { IsCopyWithin self.old.flying id self.old.most }
         requires next { self.old.next_copy + 1 < 2 ^ 64 }
-        ensures told { result ≡ option_map (λ c. (self.old.next_copy, c.to)) (find_copy self.old.flying id) }
+        ensures told { let copy = find_copy self.old.flying id in
+            result ≡ option_map (λ c. (self.old.next_copy, c.to)) copy }
         ensures doubled { self.new ≡ with_second self.old (find_copy self.old.flying id) }
     {
         let spot = find(&self.casts, self.least, id)?;
@@ -197,7 +193,7 @@ impl Copies {
     /// Takes the copy of this id, its bytes in this room's memory.
     #[inline(always)]
     pub fn take(&mut self, id: u64, room: Room) -> Option<Flying>
-        requires fits { (f : Flying) → find_copy self.old.flying id ≡ Some f → length f.bytes ≤ room }
+        requires fits { IsCopyWithin self.old.flying id room }
         ensures taken { result ≡ find_copy self.old.flying id }
         ensures others { self.new ≡ record self.old { flying = without self.old.flying id } }
     {
@@ -225,8 +221,9 @@ impl Copies {
         requires next { self.old.next_copy + MOST_NODES < 2 ^ 64 }
         ensures same { self.new ≡ record self.old { room = self.new.room; most = self.new.most } }
         ensures ok { OnOk result ((copies ≤ self.new.room) × (bytes ≤ self.new.most)) }
-        ensures exact { OnOk result (self.new ≡ record self.old { room = max self.old.room copies; most = max self.old.most bytes }) }
-        ensures ready { copies ≤ self.old.room → bytes ≤ self.old.most → IsOk result × (self.new ≡ self.old) }
+        ensures exact { OnOk result (self.new ≡ with_room self.old copies bytes) }
+        ensures ready { copies ≤ self.old.room → bytes ≤ self.old.most
+            → IsOk result × (self.new ≡ self.old) }
         ensures refused { OnErr result (self.new ≡ self.old) }
     {
         self.casts.reserve(copies)?;

@@ -12,5 +12,4 @@ mod radio;
 mod rooms;
 mod shelf;
 
-pub use copies::is_data;
 pub use radio::Radio;

@@ -1,5 +1,5 @@
 //! Places of ids among rising ids.
-ghost use Rattle.std.specs.Prelude.{ℕ};
+ghost use Rattle.std.specs.Prelude.{ℕ, IfSome};
 ghost use Rattle.mesh_radio.specs.Casts.{IsSplit, AreSorted};
 
 // How many of the rising ids are at most this one: a search by halves.
@@ -20,20 +20,50 @@ fn place_after(firsts: &[u64], id: u64) -> usize
     low
 }
 
+// The same, where the id stands at this place or at the one after it.
+fn place_by(firsts: &[u64], id: u64, place: usize) -> Option<usize>
+    requires { AreSorted firsts.now }
+    ensures { IfSome result (IsSplit firsts.now id) }
+{
+    if place >= firsts.len() || firsts[place] > id {
+        return None;
+    }
+    let after = place + 1;
+    if after == firsts.len() || id < firsts[after] {
+        return Some(after);
+    }
+    if after + 1 == firsts.len() || id < firsts[after + 1] {
+        return Some(after + 1);
+    }
+    None
+}
+
+// Where the id would stand if the ids rose evenly, as those of casts to equally many do. It is only
+// where to look first.
+fn even_place(firsts: &[u64], id: u64) -> usize {
+    let len = firsts.len();
+    if len == 0 {
+        return 0;
+    }
+    let first = firsts[0];
+    let last = firsts[len - 1];
+    if id < first || last <= first {
+        return 0;
+    }
+    ((id - first).wrapping_mul(len as u64 - 1) / (last - first)) as usize
+}
+
 /// How many of the rising ids are at most this one. The hint makes no difference but to how long that
-/// takes: a place at it or next to it is found at once.
+/// takes: a place at it or next to it is found at once, and so is one of ids that rise evenly.
 pub fn place_near(firsts: &[u64], id: u64, hint: usize) -> usize
     requires { AreSorted firsts.now }
     ensures { IsSplit firsts.now id result }
 {
-    if hint < firsts.len() && firsts[hint] <= id {
-        let after = hint + 1;
-        if after == firsts.len() || id < firsts[after] {
-            return after;
-        }
-        if after + 1 == firsts.len() || id < firsts[after + 1] {
-            return after + 1;
-        }
+    if let Some(place) = place_by(firsts, id, hint) {
+        return place;
+    }
+    if let Some(place) = place_by(firsts, id, even_place(firsts, id)) {
+        return place;
     }
     place_after(firsts, id)
 }

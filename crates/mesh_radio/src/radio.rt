@@ -1,13 +1,12 @@
 //! The radio of a mesh.
-ghost use Rattle.std.specs.Prelude.{◌≡◌, ◌≢◌, ◌<◌, ◌≤◌, ◌+◌, ◌^◌, ◌∷◌, [], ℕ, true, false, not, length, max, slice_get, OnOk, OnErr, IsOk, IfOk, IfSome, IfNone, option_map};
+ghost use Rattle.std.specs.Prelude.{◌≡◌, ◌≢◌, ◌<◌, ◌≤◌, ◌+◌, ◌^◌, ◌∷◌, [], ℕ, true, false, not, length, slice_get, OnOk, OnErr, IsOk, IfOk, IfSome, IfNone, option_map};
 ghost use Rattle.std.specs.Bool.{OnTrue, OnFalse};
 ghost use Rattle.std.specs.List.{AllByRecursion};
 ghost use Rattle.std.specs.FinSet as sets;
 ghost use Rattle.mesh_base.specs.Views.{flying_seen};
-ghost use Rattle.mesh_base.specs.declared.events.Flying.{Flying};
 ghost use Rattle.mesh_model.specs.Worlds.{are_linked, linked_below};
-ghost use Rattle.mesh_radio.specs.Copies.{find_copy, from_id, data_in, AreNumbered, IsBetween, longest_packet};
-ghost use Rattle.mesh_radio.specs.Radios.{opening, with_link, without_link, with_copies, with_double, without_copy, receivers};
+ghost use Rattle.mesh_radio.specs.Copies.{find_copy, IsCopyWithin, from_id, data_in, AreNumbered, IsBetween, longest_packet};
+ghost use Rattle.mesh_radio.specs.Radios.{opening, with_more_room, with_link, without_link, with_copies, with_double, without_copy, receivers};
 
 use crate::adjacency::Adjacency;
 use crate::copies::Copies;
@@ -107,15 +106,17 @@ impl Radio {
         self.ever.has(a, b)
     }
 
-    /// Makes room for this many copies more, each of at most this many bytes. What room there is stays.
+    /// Makes room for this many copies more, each of at most this many bytes. What room there is
+    /// stays.
     #[inline(always)]
     pub fn make_room(&mut self, copies: usize, bytes: usize) -> Result<(), NoMemory>
         requires few { copies ≤ MOST_NODES }
         requires next { self.old.next_copy + MOST_NODES < 2 ^ 64 }
         ensures same { self.new ≡ record self.old { room = self.new.room; most = self.new.most } }
         ensures ok { OnOk result ((copies ≤ self.new.room) × (bytes ≤ self.new.most)) }
-        ensures exact { OnOk result (self.new ≡ record self.old { room = max self.old.room copies; most = max self.old.most bytes }) }
-        ensures ready { copies ≤ self.old.room → bytes ≤ self.old.most → IsOk result × (self.new ≡ self.old) }
+        ensures exact { OnOk result (self.new ≡ with_more_room self.old copies bytes) }
+        ensures ready { copies ≤ self.old.room → bytes ≤ self.old.most
+            → IsOk result × (self.new ≡ self.old) }
         ensures refused { OnErr result (self.new ≡ self.old) }
     {
         self.copies.make_room(copies, bytes)
@@ -138,22 +139,23 @@ impl Radio {
         Air { first, to: *to }
     }
 
-    /// The copy of this id is doubled: a second copy like it flies, with the next id. The answer is its
-    /// id and receiver. None where no copy in flight has this id.
+    /// The copy of this id is doubled: a second copy like it flies, with the next id. The answer is
+    /// its id and receiver. None where no copy in flight has this id.
     pub fn double(&mut self, id: u64) -> Option<(u64, usize)>
         requires room { (1 ≤ self.old.room) × (longest_packet ≤ self.old.most) }
         requires next { self.old.next_copy + MOST_NODES < 2 ^ 64 }
-        ensures told { result ≡ option_map (λ c. (self.old.next_copy, c.to)) (find_copy self.old.flying id) }
+        ensures told { let copy = find_copy self.old.flying id in
+            result ≡ option_map (λ c. (self.old.next_copy, c.to)) copy }
         ensures doubled { self.new ≡ with_double self.old (find_copy self.old.flying id) }
     {
         self.copies.double(id)
     }
 
-    /// Takes the copy of this id out of the air, its bytes in this room's memory. None where no copy in
-    /// flight has it.
+    /// Takes the copy of this id out of the air, its bytes in this room's memory. None where no
+    /// copy in flight has it.
     #[inline(always)]
     pub fn take(&mut self, id: u64, room: Room) -> Option<Flying>
-        requires fits { (f : Flying) → find_copy self.old.flying id ≡ Some f → length f.bytes ≤ room }
+        requires fits { IsCopyWithin self.old.flying id room }
         ensures taken { result ≡ find_copy self.old.flying id }
         ensures others { self.new ≡ without_copy self.old id }
     {
@@ -183,12 +185,16 @@ impl Radio {
         self.copies.data_count()
     }
 
-    /// The copy in flight of the least id from this one on: all copies come one after the other where
-    /// each is asked for by the id after the last. The hint makes no difference but to how long that
-    /// takes: begin with 0, and hand on what the last call left in it.
+    /// The copy in flight of the least id from this one on: all copies come one after the other
+    /// where each is asked for by the id after the last. The hint makes no difference but to how
+    /// long that takes: begin with 0, and hand on what the last call left in it.
     pub fn next_from(&self, id: u64, hint: &mut usize) -> Option<FlyingView<'_>>
-        ensures some { IfSome result (λ f. from_id self.now.flying id ≡ flying_seen f ∷ from_id self.now.flying (f.id + 1)) }
-        ensures within { IfSome result (λ f. (id ≤ f.id) × (f.id < self.now.next_copy) × (self.now.next_copy < 2 ^ 64) × IsBetween self.now.size (flying_seen f)) }
+        ensures some { let copies = self.now.flying in
+            IfSome result (λ f. from_id copies id ≡ flying_seen f ∷ from_id copies (f.id + 1)) }
+        ensures within { let next = self.now.next_copy in
+            let between = IsBetween self.now.size in
+            IfSome result
+            (λ f. (id ≤ f.id) × (f.id < next) × (next < 2 ^ 64) × between (flying_seen f)) }
         ensures none { IfNone result (from_id self.now.flying id ≡ []) }
     {
         self.copies.next_from(id, hint)

@@ -11,7 +11,7 @@ use Rattle.mesh_model.specs.Worlds.{members_below, copies_to}
 use Rattle.mesh_grammar.specs.Written.{line, labelled}
 use Rattle.mesh_text.specs.Lines.{name_of}
 use Rattle.mesh_text.specs.Effects.{copies_text}
-use Rattle.mesh_io.specs.Puts.{AppendsFront, Puts}
+use Rattle.mesh_io.specs.Puts.{AppendsPrefix, Puts}
 use Rattle.mesh_io.proofs.Writing.{Puts-join}
 use Rattle.mesh_report.specs.Gathering.{Gathers}
 use Rattle.mesh_report.proofs.Gathering.{Gathers-none, Gathers-more, Gathers-join, Gathers-front}
@@ -41,14 +41,14 @@ air-push mesh from m xs y id =
 
 -- ---- the members of a set below n begin with those below i
 
-abbrev Rest : ℕ → List ℕ → NodeIds → Type 0
-Rest n front s = (rest : List ℕ) × (members_below n s ≡ front ++ rest)
+abbrev pub Rest : ℕ → List ℕ → NodeIds → Type 0
+Rest n prefix s = (rest : List ℕ) × (members_below n s ≡ prefix ++ rest)
 
-one_more : (b : Bool) (n : ℕ) (front ms rest : List ℕ) → ms ≡ front ++ rest → (more : List ℕ) × (cond b (ms ++ n ∷ []) ms ≡ front ++ more)
-one_more true n front ms rest e = (rest ++ n ∷ [], ap (λ (l : List ℕ). l ++ n ∷ []) e ∙ append_assoc front rest (n ∷ []))
-one_more false n front ms rest e = (rest, e)
+one_more : (b : Bool) (n : ℕ) (prefix ms rest : List ℕ) → ms ≡ prefix ++ rest → (more : List ℕ) × (cond b (ms ++ n ∷ []) ms ≡ prefix ++ more)
+one_more true n prefix ms rest e = (rest ++ n ∷ [], ap (λ (l : List ℕ). l ++ n ∷ []) e ∙ append_assoc prefix rest (n ∷ []))
+one_more false n prefix ms rest e = (rest, e)
 
-members-front : (n i : ℕ) (s : NodeIds) → i ≤ n → Rest n (members_below i s) s
+pub members-front : (n i : ℕ) (s : NodeIds) → i ≤ n → Rest n (members_below i s) s
 unfolding members_below
 members-front zero i s le = let is : 0 ≡ i = omega arith in ([], ap (λ (k : ℕ). members_below k s) is ∙ sym (append-nil (members_below i s)))
 members-front (suc n) i s le = elim (cases_eq i (suc n)) [
@@ -94,10 +94,10 @@ next_copy mesh s first from m to i id a b c start pending made longer le is none
     (ap (λ (l : List ℕ). start ++ l) whole ∙ sym (append_assoc start before (copy_line mesh id to)))
     (Gathers-join a b c pending made (start ++ before) p q)
 
--- a front of what is in the buffer is put
+-- a prefix of what is in the buffer is put
 pub front_copy : (mesh : Nodes) (s : NodeIds) (first from : ℕ) (m : Message) (i : ℕ) (a b c : Option (List ℕ)) (start pending : List ℕ) → i ≤ length mesh
-    → Gathers a b pending (start ++ air_text mesh from m (members_below i s) first) → AppendsFront b c pending
-    → AppendsFront a c (start ++ air_text mesh from m (members_below (length mesh) s) first)
+    → Gathers a b pending (start ++ air_text mesh from m (members_below i s) first) → AppendsPrefix b c pending
+    → AppendsPrefix a c (start ++ air_text mesh from m (members_below (length mesh) s) first)
 front_copy mesh s first from m i a b c start pending le p q =
     let split : Rest (length mesh) (members_below i s) s = members-front (length mesh) i s le in
     let before : List ℕ = air_text mesh from m (members_below i s) first in
@@ -116,7 +116,7 @@ all_copies mesh s first from m i a b c start pending piece r le none e p q =
     let P : List ℕ → Type 0 = λ ms. Gathers a b pending (start ++ air_text mesh from m ms first) in
     let g : Gathers a b pending (start ++ air_text mesh from m (members_below (length mesh) s) first) = subst P (sym (members-none (length mesh) i s le (λ q up lt. none q up))) p in
     let Q : List ℕ → Type 0 = λ l. Puts b c l r in
-    Puts-join a b c g.front pending (start ++ air_text mesh from m (members_below (length mesh) s) first) r g.whole g.grown (subst Q e q)
+    Puts-join a b c g.prefix pending (start ++ air_text mesh from m (members_below (length mesh) s) first) r g.whole g.grown (subst Q e q)
 
 pub none_yet : (mesh : Nodes) (s : NodeIds) (first from : ℕ) (m : Message) (a : Option (List ℕ)) (start : List ℕ) → Gathers a a start (start ++ air_text mesh from m (members_below 0 s) first)
 none_yet mesh s first from m a start =

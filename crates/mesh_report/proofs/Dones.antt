@@ -8,7 +8,7 @@ use Rattle.mesh_base.specs.declared.events.Done as dones
 use Rattle.mesh_base.specs.declared.events.Done.TheVariants as done
 use Rattle.mesh_model.specs.Worlds.{World, Event, Outcome}
 use Rattle.aodv_meaning.specs.Meaning.{meaning}
-use Rattle.mesh_meaning.specs.Events.{place_of}
+use Rattle.mesh_meaning.specs.Events.{node_of}
 use Rattle.mesh_meaning.specs.Answers.{effect_in, took_in, copies_in, outcome_in}
 use Rattle.mesh_grammar.specs.Written.{line}
 use Rattle.mesh_text.specs.Lines.{event_words}
@@ -38,17 +38,17 @@ unfolding happening_text
 taken_whole mesh x me w d took effect air packet start made a b r same is e p =
     let P : dones.Done → Type 0 = λ k. Puts a b (start ++ outcome_text mesh x (outcome_in mesh x w k packet)) r in
     let Q : List ℕ → Type 0 = λ l. Puts a b l r in
-    let front : made ≡ start ++ front_text mesh x took effect packet = e ∙ ap (λ (n : ℕ). start ++ front_text mesh n took effect packet) same in
+    let prefix : made ≡ start ++ front_text mesh x took effect packet = e ∙ ap (λ (n : ℕ). start ++ front_text mesh n took effect packet) same in
     let whole : made ++ rest_text mesh x effect air packet ≡ start ++ (front_text mesh x took effect packet ++ rest_text mesh x effect air packet) =
-    ap (λ (l : List ℕ). l ++ rest_text mesh x effect air packet) front ∙ append_assoc start (front_text mesh x took effect packet) (rest_text mesh x effect air packet) in
+    ap (λ (l : List ℕ). l ++ rest_text mesh x effect air packet) prefix ∙ append_assoc start (front_text mesh x took effect packet) (rest_text mesh x effect air packet) in
     subst P (sym is) (subst Q whole p)
 
 -- an event, and then what came of it
 pub event_whole : {T E : Type 0} (mesh : Nodes) (e : Event) (o : Outcome) (start : List ℕ) (a b : Option (List ℕ)) (r : Result T E)
-    → start ≡ line (event_words mesh e) → Puts a b (start ++ outcome_text mesh (place_of e) o) r → Puts a b (outcome_lines mesh e o) r
+    → start ≡ line (event_words mesh e) → Puts a b (start ++ outcome_text mesh (node_of e) o) r → Puts a b (outcome_lines mesh e o) r
 unfolding outcome_lines
 event_whole mesh e o start a b r is p =
-    let P : List ℕ → Type 0 = λ l. Puts a b (l ++ outcome_text mesh (place_of e) o) r in subst P is p
+    let P : List ℕ → Type 0 = λ l. Puts a b (l ++ outcome_text mesh (node_of e) o) r in subst P is p
 
 -- a line, and then the datum of a packet
 pub lost_whole : (mesh : Nodes) (label start first made piece bytes now : List ℕ) → piece ≡ bytes → made ≡ start ++ first

@@ -3,5 +3,6 @@ pub mod Packets
 pub mod Copies
 pub mod Lengths
 pub mod Dones
+pub mod Legible
 -- Gathering: texts that are put in part.
 pub mod Gathering

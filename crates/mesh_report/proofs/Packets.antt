@@ -18,10 +18,10 @@ unfolding packet_of
 packet_back mesh b w = sym w.written
 
 -- the packet after what was pushed before it
-pub after : (mesh : Nodes) (packet bytes front new : List ℕ) → bytes ≡ packet → IsWritten mesh packet → (IsWritten mesh bytes → new ≡ front ++ line (32 ∷ hex (packet_of mesh (meaning mesh bytes))))
-    → new ≡ front ++ line (32 ∷ hex (packet_of mesh (meaning mesh packet)))
-after mesh packet bytes front new same written pushed =
-    let P : List ℕ → Type 0 = λ b. IsWritten mesh b → new ≡ front ++ line (32 ∷ hex (packet_of mesh (meaning mesh b))) in
+pub after : (mesh : Nodes) (packet bytes prefix new : List ℕ) → bytes ≡ packet → IsWritten mesh packet → (IsWritten mesh bytes → new ≡ prefix ++ line (32 ∷ hex (packet_of mesh (meaning mesh bytes))))
+    → new ≡ prefix ++ line (32 ∷ hex (packet_of mesh (meaning mesh packet)))
+after mesh packet bytes prefix new same written pushed =
+    let P : List ℕ → Type 0 = λ b. IsWritten mesh b → new ≡ prefix ++ line (32 ∷ hex (packet_of mesh (meaning mesh b))) in
     subst P same pushed written
 
 in_turn : (old label one x new : List ℕ) → one ≡ old ++ label → new ≡ one ++ line x → new ≡ old ++ line (label ++ x)

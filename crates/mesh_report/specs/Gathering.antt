@@ -1,14 +1,14 @@
--- A text of which a front is put, while the rest still stands in a buffer.
+-- A text of which a prefix is put, while the rest still stands in a buffer.
 use Rattle.std.specs.Prelude.{ℕ, ◌≡◌, List, ◌++◌, Option, Result, MatchResult}
 use Rattle.std.specs.Io.KnownBytes.{Appends}
-use Rattle.mesh_io.specs.Puts.{AppendsFront}
+use Rattle.mesh_io.specs.Puts.{AppendsPrefix}
 
 -- known bytes grew by the text up to what is pending
 pub record Gathers (before now : Option (List ℕ)) (pending text : List ℕ) : Type 0 where
-  pub front : List ℕ
-  pub whole : text ≡ front ++ pending
-  pub grown : Appends before now front
+  pub prefix : List ℕ
+  pub whole : text ≡ prefix ++ pending
+  pub grown : Appends before now prefix
 
--- at Ok the text is put up to what is pending, and at Err a front of it is put
+-- at Ok the text is put up to what is pending, and at Err a prefix of it is put
 abbrev pub MakesRoom : {T E : Type 0} → Option (List ℕ) → Option (List ℕ) → List ℕ → List ℕ → Result T E → Type 0
-MakesRoom before now pending text result = MatchResult result (λ _. Gathers before now pending text) (λ _. AppendsFront before now text)
+MakesRoom before now pending text result = MatchResult result (λ _. Gathers before now pending text) (λ _. AppendsPrefix before now text)

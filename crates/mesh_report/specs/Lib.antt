@@ -2,3 +2,5 @@
 pub mod Sums
 -- Gathering: texts that are put in part.
 pub mod Gathering
+-- Legible: what a node's step did, whoever wrote what it took.
+pub mod Legible

@@ -10,8 +10,8 @@ ghost use Rattle.aodv_meaning.specs.Meaning.{meaning};
 ghost use Rattle.aodv_meaning.specs.Effects.{kind_of};
 ghost use Rattle.mesh_model.specs.Worlds.{World, members_below, copies_to};
 ghost use Rattle.mesh_meaning.specs.Packets.{IsWritten, IsWrittenCopy};
-ghost use Rattle.mesh_meaning.specs.Events.{event_of, place_of as place_of_lem};
-ghost use Rattle.mesh_meaning.specs.Answers.{cast_in, effect_in, took_in, copies_in, happening_in, outcome_in, IsCastWritten, IsEffectInMesh, IsTookInMesh, IsDoneInMesh};
+ghost use Rattle.mesh_meaning.specs.Events.{event_of, node_of};
+ghost use Rattle.mesh_meaning.specs.Answers.{cast_in, effect_in, took_in, copies_in, happening_in, outcome_in, IsCastWritten, IsEffectInMesh, IsDoneInMesh};
 ghost use Rattle.mesh_grammar.specs.Written.{line, labelled};
 ghost use Rattle.mesh_text.specs.Lines.{name_of, words_of};
 ghost use Rattle.mesh_text.specs.Effects.{shown_byte, datum_in, kind_text, took_text, delivery_text, drop_text, datum_fate, broken_text, cast_text, copies_text, sent_text, outcome_text, outcome_lines};
@@ -19,7 +19,9 @@ ghost use Rattle.mesh_script.specs.Seen.{accepted_of, IsPrintable};
 ghost use Rattle.mesh_io.specs.Cause.{HasCause};
 ghost use Rattle.mesh_io.specs.Puts.{Puts};
 ghost use Rattle.mesh_report.specs.Gathering.{MakesRoom};
+ghost use Rattle.mesh_report.specs.Legible.{IsLegible, IsTookLegible, taken_text, effect_text};
 
+use crate::event::node_of;
 use crate::text::{push_labelled, push_one, push_packet, push_set, push_shown, push_two};
 use aodv_wire::{Message, read};
 use mesh_base::{
@@ -53,10 +55,18 @@ fn push_datum_in(out: &mut LineBuf, label: &[u8], packet: &[u8])
     requires room { array_vec_len out.old + length label.now + 2081 ≤ LINE_ROOM }
     ensures text { (mesh : Nodes) → IsWritten mesh packet.now
         → out.new.items ≡ out.old.items ++ datum_in label.now mesh (meaning mesh packet.now) }
+    ensures legible { (mesh : Nodes) → IsLegible mesh packet.now
+        → out.new.items ≡ out.old.items ++ datum_in label.now mesh (meaning mesh packet.now) }
     ensures length { array_vec_len out.new ≤ array_vec_len out.old + length label.now + 2081 }
 {
-    if let Ok(Message::Parcel(datum)) = read(packet) {
-        push_datum(out, label, datum.oip(), datum.dip(), datum.body());
+    match read(packet) {
+        Ok(Message::Parcel(datum)) => {
+            push_datum(out, label, datum.oip(), datum.dip(), datum.body());
+        }
+        Ok(Message::Rreq(_)) => {}
+        Ok(Message::Rrep(_)) => {}
+        Ok(Message::Rerr(_)) => {}
+        Err(_) => {}
     }
 }
 
@@ -78,7 +88,7 @@ fn took_label(kind: Kind) -> &'static [u8]
 // What node `me` took.
 fn push_took(out: &mut LineBuf, mesh: &Mesh, me: usize, took: &Took)
     requires me { me < length mesh.now }
-    requires took { IsTookInMesh mesh.now took.now }
+    requires took { IsTookLegible mesh.now took.now }
     requires room { array_vec_len out.old + 28 ≤ LINE_ROOM }
     ensures text { out.new.items
         ≡ out.old.items ++ took_text mesh.now me (took_in mesh.now took.now) }
@@ -95,7 +105,7 @@ fn push_took(out: &mut LineBuf, mesh: &Mesh, me: usize, took: &Took)
 // The datum that node `me` took, which it has delivered.
 fn push_delivery(out: &mut LineBuf, mesh: &Mesh, me: usize, took: &Took)
     requires me { me < length mesh.now }
-    requires took { IsTookInMesh mesh.now took.now }
+    requires took { IsTookLegible mesh.now took.now }
     requires room { array_vec_len out.old + 2093 ≤ LINE_ROOM }
     ensures text { out.new.items
         ≡ out.old.items ++ delivery_text mesh.now me (took_in mesh.now took.now) }
@@ -116,7 +126,7 @@ fn push_delivery(out: &mut LineBuf, mesh: &Mesh, me: usize, took: &Took)
 // The datum that was taken, which is dropped.
 fn push_drop(out: &mut LineBuf, took: &Took)
     requires room { array_vec_len out.old + 2091 ≤ LINE_ROOM }
-    ensures text { (mesh : Nodes) → IsTookInMesh mesh took.now
+    ensures text { (mesh : Nodes) → IsTookLegible mesh took.now
         → out.new.items ≡ out.old.items ++ drop_text mesh (took_in mesh took.now) }
     ensures length { array_vec_len out.new ≤ array_vec_len out.old + 2091 }
 {
@@ -129,7 +139,7 @@ fn push_drop(out: &mut LineBuf, took: &Took)
 // part in that.
 fn push_fate(out: &mut LineBuf, mesh: &Mesh, me: usize, took: &Took, effect: &Effect)
     requires me { me < length mesh.now }
-    requires took { IsTookInMesh mesh.now took.now }
+    requires took { IsTookLegible mesh.now took.now }
     requires room { array_vec_len out.old + 4184 ≤ LINE_ROOM }
     ensures text { out.new.items ≡ out.old.items
         ++ datum_fate mesh.now me (took_in mesh.now took.now) (effect_in mesh.now effect.now []) }
@@ -146,7 +156,7 @@ fn push_fate(out: &mut LineBuf, mesh: &Mesh, me: usize, took: &Took, effect: &Ef
 #[tactic(auto, using(std::proofs::lemmas::List::append_assoc))]
 fn push_turn(out: &mut LineBuf, mesh: &Mesh, me: usize, took: &Took, effect: &Effect)
     requires me { me < length mesh.now }
-    requires took { IsTookInMesh mesh.now took.now }
+    requires took { IsTookLegible mesh.now took.now }
     requires room { array_vec_len out.old + 4212 ≤ LINE_ROOM }
     ensures text { out.new.items
         ≡ out.old.items ++ (took_text mesh.now me (took_in mesh.now took.now)
@@ -154,6 +164,19 @@ fn push_turn(out: &mut LineBuf, mesh: &Mesh, me: usize, took: &Took, effect: &Ef
 {
     push_took(out, mesh, me, took);
     push_fate(out, mesh, me, took, effect);
+}
+
+// The same, where there was a turn.
+fn push_taken(out: &mut LineBuf, mesh: &Mesh, me: usize, took: Option<&Took>, effect: &Effect)
+    requires me { me < length mesh.now }
+    requires took { IfSome took (λ t. IsTookLegible mesh.now t.now) }
+    requires room { array_vec_len out.old + 4212 ≤ LINE_ROOM }
+    ensures text { out.new.items
+        ≡ out.old.items ++ taken_text mesh.now me took.entry effect.now }
+{
+    if let Some(took) = took {
+        push_turn(out, mesh, me, took, effect);
+    }
 }
 
 // ---- what was cast
@@ -234,6 +257,7 @@ fn put_air<O: Sink>(mesh: &Mesh, air: &Air, buf: &mut LineBuf, out: &mut O) -> R
         ++ copies_text mesh.now (copies_to (members_below (length mesh.now) air.now.to) air.now.first from m)) result }
     ensures cause { HasCause (O.faults out.old) (O.faults out.new) result }
 {
+    // There are at most 200 nodes, so at most 200 copies.
     let _nodes = mesh.len();
     let mut id = air.first;
     let mut start = 0;
@@ -301,6 +325,32 @@ fn put_sent<O: Sink>(
     put_copies(mesh, &effect.cast, air, buf, out)
 }
 
+/// Writes what a node's step did beside its copies: what node `me` took from its inbox, if the step
+/// was a turn, and what became of that; then a failed unicast, and what was cast, with the packet.
+pub fn put_effect<O: Sink>(
+    mesh: &Mesh,
+    me: usize,
+    took: Option<&Took>,
+    effect: &Effect,
+    packet: &Packet,
+    buf: &mut LineBuf,
+    out: &mut O,
+) -> Result<(), PutFault>
+    requires me { me < length mesh.now }
+    requires took { IfSome took (λ t. IsTookLegible mesh.now t.now) }
+    requires broken { IfSome effect.now.broken (λ y. y < length mesh.now) }
+    requires cast { IsCastWritten mesh.now effect.now.cast packet.now.items }
+    ensures text { Puts (O.held out.old) (O.held out.new)
+        (effect_text mesh.now me took.entry effect.now packet.now.items) result }
+    ensures cause { HasCause (O.faults out.old) (O.faults out.new) result }
+{
+    buf.clear();
+    push_taken(buf, mesh, me, took, effect);
+    make_room(buf, 6447, out)?;
+    push_sent(buf, mesh, effect, packet);
+    put_all(out, buf.as_slice())
+}
+
 // ---- copies
 
 fn push_heard(out: &mut LineBuf, mesh: &Mesh, from: usize, to: usize)
@@ -342,19 +392,6 @@ fn push_lost(out: &mut LineBuf, mesh: &Mesh, flying: &Flying)
 
 // ---- events
 
-// The node at which an event is. A link or a copy is at none, and 0 stands for that.
-fn place_of(e: &Event<'_>) -> usize
-    ensures { result ≡ place_of_lem (event_of e.now) }
-{
-    match *e {
-        Event::Give { node, .. } => node,
-        Event::Turn { node } => node,
-        Event::Send { node, .. } => node,
-        Event::Ask { node, .. } => node,
-        _ => 0,
-    }
-}
-
 // What the buffer has, and then what an event did.
 #[tactic(auto, unfolding(mesh_text::specs::Effects::happening_text))]
 fn put_after<O: Sink>(
@@ -365,19 +402,21 @@ fn put_after<O: Sink>(
     buf: &mut LineBuf,
     out: &mut O,
 ) -> Result<(), PutFault>
-    requires place { place_of_lem (event_of e.now) < length mesh.now }
+    requires place { node_of (event_of e.now) < length mesh.now }
     requires in_mesh { IsDoneInMesh mesh.now done.now packet.now.items }
     requires room { array_vec_len buf.old ≤ LONGEST_LINE + 1 }
     ensures text { (w : World) → Puts (O.held out.old) (O.held out.new) (buf.old.items
-        ++ outcome_text mesh.now (place_of_lem (event_of e.now))
-        (outcome_in mesh.now (place_of_lem (event_of e.now)) w done.now packet.now.items)) result }
+        ++ outcome_text mesh.now (node_of (event_of e.now))
+        (outcome_in mesh.now (node_of (event_of e.now)) w done.now packet.now.items)) result }
     ensures cause { HasCause (O.faults out.old) (O.faults out.new) result }
 {
+    // The mesh has distinct addresses.
+    let _nodes = mesh.len();
     match done {
         Done::Idle => push_text(buf, b"  idle\n"),
         Done::Changed => {}
         Done::Taken { took, effect, air } => {
-            push_turn(buf, mesh, place_of(e), took, effect);
+            push_turn(buf, mesh, node_of(e), took, effect);
             return put_sent(mesh, effect, air, packet, buf, out);
         }
         Done::Sent { effect, air } => return put_sent(mesh, effect, air, packet, buf, out),
@@ -398,11 +437,11 @@ pub fn put_done<O: Sink>(
     buf: &mut LineBuf,
     out: &mut O,
 ) -> Result<(), PutFault>
-    requires place { place_of_lem (event_of e.now) < length mesh.now }
+    requires place { node_of (event_of e.now) < length mesh.now }
     requires in_mesh { IsDoneInMesh mesh.now done.now packet.now.items }
     ensures text { (w : World) → Puts (O.held out.old) (O.held out.new)
-        (outcome_text mesh.now (place_of_lem (event_of e.now))
-        (outcome_in mesh.now (place_of_lem (event_of e.now)) w done.now packet.now.items)) result }
+        (outcome_text mesh.now (node_of (event_of e.now))
+        (outcome_in mesh.now (node_of (event_of e.now)) w done.now packet.now.items)) result }
     ensures cause { HasCause (O.faults out.old) (O.faults out.new) result }
 {
     buf.clear();
@@ -422,7 +461,7 @@ pub fn put_event<O: Sink>(
     requires in_mesh { IsDoneInMesh mesh.now done.now packet.now.items }
     ensures text { (w : World) → Puts (O.held out.old) (O.held out.new)
         (outcome_lines mesh.now (event_of e.now)
-        (outcome_in mesh.now (place_of_lem (event_of e.now)) w done.now packet.now.items)) result }
+        (outcome_in mesh.now (node_of (event_of e.now)) w done.now packet.now.items)) result }
     ensures cause { HasCause (O.faults out.old) (O.faults out.new) result }
 {
     print_line(&Line::Step(*e), mesh, buf);
@@ -447,7 +486,7 @@ pub fn put_echoed_event<O: Sink>(
     requires in_mesh { IsDoneInMesh mesh.now done.now packet.now.items }
     ensures text { (w : World) → Puts (O.held out.old) (O.held out.new)
         (outcome_lines mesh.now (event_of e.now)
-        (outcome_in mesh.now (place_of_lem (event_of e.now)) w done.now packet.now.items)) result }
+        (outcome_in mesh.now (node_of (event_of e.now)) w done.now packet.now.items)) result }
     ensures cause { HasCause (O.faults out.old) (O.faults out.new) result }
 {
     buf.clear();

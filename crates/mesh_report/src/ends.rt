@@ -12,7 +12,7 @@ ghost use Rattle.mesh_io.specs.Puts.{Puts};
 ghost use Rattle.mesh_report.specs.Sums.{sums_of};
 
 use crate::text::push_labelled;
-use mesh_base::{Event, Full, LINE_ROOM, LineBuf, Mesh, push_text};
+use mesh_base::{Counter, Event, LINE_ROOM, LineBuf, Mesh, push_text};
 use mesh_grammar::{BadWhy, LineFault, Span};
 use mesh_io::{PutFault, Sink, put_all};
 use mesh_script::push_event;
@@ -167,18 +167,18 @@ pub fn put_bad<O: Sink>(
 
 // ---- a counter is full
 
-fn field_word(field: &Full) -> &'static [u8]
+fn field_word(field: &Counter) -> &'static [u8]
     ensures text { result.now ≡ field_text field.now }
     ensures length { length result.now ≤ 6 }
 {
     match field {
-        Full::Hops => b"hops",
-        Full::Number => b"number",
-        Full::Id => b"id",
+        Counter::Hops => b"hops",
+        Counter::Number => b"number",
+        Counter::Id => b"id",
     }
 }
 
-fn push_full(out: &mut LineBuf, mesh: &Mesh, line: u64, e: &Event<'_>, field: &Full)
+fn push_full(out: &mut LineBuf, mesh: &Mesh, line: u64, e: &Event<'_>, field: &Counter)
     requires event { IsEvent (length mesh.now) (event_of e.now) }
     requires room { array_vec_len out.old + 590 ≤ LINE_ROOM }
     ensures text { out.new.items
@@ -198,7 +198,7 @@ pub fn put_full<O: Sink>(
     mesh: &Mesh,
     line: u64,
     e: &Event<'_>,
-    field: &Full,
+    field: &Counter,
     buf: &mut LineBuf,
     out: &mut O,
 ) -> Result<(), PutFault>

@@ -6,7 +6,7 @@ ghost use Rattle.mesh_base.specs.Meshes.{Nodes};
 ghost use Rattle.aodv_meaning.specs.Meaning.{meaning};
 ghost use Rattle.mesh_meaning.specs.Packets.{IsWritten, packet_of};
 ghost use Rattle.mesh_grammar.specs.Written.{line, labelled};
-ghost use Rattle.mesh_text.specs.Lines.{name_of, of_one, of_two, hex, hex_byte, hex_digit as hex_digit_lem};
+ghost use Rattle.mesh_text.specs.Lines.{name_of, of_one, of_two, hex, hex_byte, hex_digit};
 ghost use Rattle.mesh_text.specs.Effects.{shown_byte, set_text};
 ghost use Rattle.aodv_model.specs.Soundness.{AreBelow};
 
@@ -58,7 +58,7 @@ pub(crate) fn push_labelled(out: &mut LineBuf, label: &[u8], n: u64)
 
 fn hex_digit(d: u8) -> u8
     requires { d < 16 }
-    ensures { result ≡ hex_digit_lem d }
+    ensures { result ≡ hex_digit d }
 {
     if d < 10 { b'0' + d } else { b'a' - 10 + d }
 }
@@ -129,6 +129,7 @@ pub(crate) fn push_set(out: &mut LineBuf, mesh: &Mesh, set: &NodeSet)
     ensures text { out.new.items ≡ out.old.items ++ set_text mesh.now set.now }
     ensures length { array_vec_len out.new ≤ array_vec_len out.old + 3200 }
 {
+    // There are at most 200 nodes.
     let _nodes = mesh.len();
     let Some(first) = set.next_from(0) else {
         out.push(b'-');

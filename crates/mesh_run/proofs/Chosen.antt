@@ -1,8 +1,9 @@
 -- Events that the run chooses, one after another.
 use Rattle.std.proofs.Common.{◌≡◌, ℕ, suc, ◌+◌, ◌-◌, ◌<◌, ◌≤◌, Bool, List, [], ◌++◌, Option, Some, None, Result, Ok, Err, length, refl, sym, ap, subst, ◌∙◌, arith}
 use Rattle.std.specs.Io.KnownBytes.{Appends}
-use Rattle.mesh_io.specs.Puts.{AppendsFront}
-use Rattle.mesh_model.specs.Worlds.{Event, Outcome, Idle, Stops as Refuses, Goes as Happens}
+use Rattle.mesh_io.specs.Puts.{AppendsPrefix}
+use Rattle.mesh_model.specs.Worlds as worlds
+use Rattle.mesh_model.specs.Worlds.{Event, Outcome, Idle, Next}
 use Rattle.mesh_model.specs.Places.{IsEvent}
 use Rattle.mesh_model.specs.Choices.{pick}
 use Rattle.mesh_meaning.specs.Events.{event_of}
@@ -10,11 +11,11 @@ use Rattle.mesh_text.specs.Schedule.{Moment, Chooses, counted, started, stepped,
 use Rattle.mesh_text.specs.Lines.{words_of}
 use Rattle.mesh_grammar.specs.Written.{line}
 use Rattle.mesh_text.specs.Effects.{outcome_lines}
-use Rattle.mesh_text.specs.Auto.{Ran, Ended, Refused as RanRefused, before, done_then, chosen_then, auto_from, auto_end}
-use Rattle.mesh_text.specs.Text.{Came, On, Refused, Over, came_of_auto, came_of_line, text_in}
+use Rattle.mesh_text.specs.Auto.{AutoOutcome, Ended, Full as AutoFull, before, done_then, chosen_then, auto_from, auto_end}
+use Rattle.mesh_text.specs.Text.{LineOutcome, On, Refused, Full, outcome_of_auto, outcome_of_line, text_in}
 use Rattle.mesh_run.specs.declared.stop.Stop.{Stop}
 use Rattle.mesh_run.specs.declared.stop.Stop.TheVariants as stop
-use Rattle.mesh_run.specs.Runs.{shown, Goes, Stops, came_by, Ends, RanTo, text_of}
+use Rattle.mesh_run.specs.Runs.{output_if, IsLineDone, IsLineStopped, outcome_by, IsAutoDone, IsAutoRun, text_of}
 use Rattle.mesh_run.proofs.Shown.{shown_none, shown_join, front_join, front_more}
 
 -- ---- how many are left
@@ -43,23 +44,23 @@ auto_from-all most did m h = ap (λ n. auto_from n did m) (let z : most - did �
 auto_from-none : (most did : ℕ) (m : Moment) → did < most → None ≡ pick (world_of m) → auto_from (most - did) did m ≡ Ended [] did m
 auto_from-none most did m h e = auto_from-step most did m None h e
 
-nothing_more : (quiet : Bool) (m : Moment) (ran : Ran) (did : ℕ) (a : Option (List ℕ)) → ran ≡ Ended [] did m → Ends quiet ran m a a did
+nothing_more : (quiet : Bool) (m : Moment) (ran : AutoOutcome) (did : ℕ) (a : Option (List ℕ)) → ran ≡ Ended [] did m → IsAutoDone quiet ran m a a did
 nothing_more quiet m ran did a e = record { text = []; is = e; grown = shown_none quiet a }
 
-pub ends_all : (quiet : Bool) (most did : ℕ) (m : Moment) (a : Option (List ℕ)) → most ≤ did → Ends quiet (auto_from (most - did) did m) m a a did
+pub ends_all : (quiet : Bool) (most did : ℕ) (m : Moment) (a : Option (List ℕ)) → most ≤ did → IsAutoDone quiet (auto_from (most - did) did m) m a a did
 ends_all quiet most did m a h = nothing_more quiet m (auto_from (most - did) did m) did a (auto_from-all most did m h)
 
-pub ends_none : (quiet : Bool) (most did : ℕ) (m : Moment) (a : Option (List ℕ)) → did < most → None ≡ pick (world_of m) → Ends quiet (auto_from (most - did) did m) m a a did
+pub ends_none : (quiet : Bool) (most did : ℕ) (m : Moment) (a : Option (List ℕ)) → did < most → None ≡ pick (world_of m) → IsAutoDone quiet (auto_from (most - did) did m) m a a did
 ends_none quiet most did m a h e = nothing_more quiet m (auto_from (most - did) did m) did a (auto_from-none most did m h e)
 
 -- ---- one event, and then the others
 
-text-before : (text : List ℕ) (ran : Ran) → text_of (before text ran) ≡ text ++ text_of ran
+text-before : (text : List ℕ) (ran : AutoOutcome) → text_of (before text ran) ≡ text ++ text_of ran
 text-before text (Ended others did after) = refl
-text-before text (RanRefused others n e field) = refl
+text-before text (AutoFull others n e field) = refl
 
-before_to : (quiet : Bool) (m n k : Moment) (text : List ℕ) (ran : Ran) (a b c : Option (List ℕ)) (r : Result ℕ Stop) → n.mesh ≡ m.mesh → n.lines ≡ m.lines
-    → Appends a b (shown quiet text) → RanTo quiet n ran k b c r → RanTo quiet m (before text ran) k a c r
+before_to : (quiet : Bool) (m n k : Moment) (text : List ℕ) (ran : AutoOutcome) (a b c : Option (List ℕ)) (r : Result ℕ Stop) → n.mesh ≡ m.mesh → n.lines ≡ m.lines
+    → Appends a b (output_if quiet text) → IsAutoRun quiet n ran k b c r → IsAutoRun quiet m (before text ran) k a c r
 before_to quiet m n k text ran a b c (Ok did) em el p q =
     record { text = text ++ q.text; is = ap (before text) q.is; grown = shown_join quiet a b c text q.text p q.grown }
 before_to quiet m n k text ran a b c (Err (stop.BadLine f)) em el p q = q
@@ -70,136 +71,136 @@ before_to quiet m n k text ran a b c (Err (stop.Full event field)) em el p q = r
   still = record { event = subst (λ l. IsEvent (length l) (event_of event)) em q.still.event; mesh = q.still.mesh ∙ em; lines = q.still.lines ∙ el };
 }
 before_to quiet m n k text ran a b c (Err stop.WriteFault) em el p q =
-    let P : List ℕ → Type 0 = λ l. AppendsFront a c (shown quiet l) in
+    let P : List ℕ → Type 0 = λ l. AppendsPrefix a c (output_if quiet l) in
     subst P (sym (text-before text ran)) (front_join quiet a b c text (text_of ran) p q)
 before_to quiet m n k text ran a b c (Err stop.NoMemory) em el p q =
-    let P : List ℕ → Type 0 = λ l. AppendsFront a c (shown quiet l) in
+    let P : List ℕ → Type 0 = λ l. AppendsPrefix a c (output_if quiet l) in
     subst P (sym (text-before text ran)) (front_join quiet a b c text (text_of ran) p q)
 
 -- the moment after what came of an event
-moment_of_came : Moment → Came → Moment
+moment_of_came : Moment → LineOutcome → Moment
 moment_of_came m (On text n) = n
 moment_of_came m (Refused why) = m
-moment_of_came m (Over text n e field) = m
+moment_of_came m (Full text n e field) = m
 
 -- an event that was done
-on_then : (quiet : Bool) (m n k : Moment) (e : Event) (text : List ℕ) (ran : Moment → Ran) (a b c : Option (List ℕ)) (r : Result ℕ Stop)
-    → (g : Goes quiet (On text (stepped m e)) n a b) → RanTo quiet n (ran n) k b c r → RanTo quiet m (before text (ran (stepped m e))) k a c r
+on_then : (quiet : Bool) (m n k : Moment) (e : Event) (text : List ℕ) (ran : Moment → AutoOutcome) (a b c : Option (List ℕ)) (r : Result ℕ Stop)
+    → (g : IsLineDone quiet (On text (stepped m e)) n a b) → IsAutoRun quiet n (ran n) k b c r → IsAutoRun quiet m (before text (ran (stepped m e))) k a c r
 unfolding stepped moment_of_came
 on_then quiet m n k e text ran a b c r g q =
     let same : stepped m e ≡ n = ap (moment_of_came m) g.is in
     let words : text ≡ g.text = ap text_in g.is in
-    let P : Moment → Type 0 = λ p. RanTo quiet m (before text (ran p)) k a c r in
-    let Q : List ℕ → Type 0 = λ l. Appends a b (shown quiet l) in
+    let P : Moment → Type 0 = λ p. IsAutoRun quiet m (before text (ran p)) k a c r in
+    let Q : List ℕ → Type 0 = λ l. Appends a b (output_if quiet l) in
     subst P (sym same) (before_to quiet m n k text (ran n) a b c r (ap (λ p. p.mesh) (sym same)) (ap (λ p. p.lines) (sym same)) (subst Q (sym words) g.grown) q)
 
-then_goes : (quiet : Bool) (m n k : Moment) (e : Event) (o : Outcome) (others : Moment → Ran) (a b c : Option (List ℕ)) (r : Result ℕ Stop)
-    → Goes quiet (came_by m e o) n a b → RanTo quiet n (others n) k b c r → RanTo quiet m (done_then m e o others) k a c r
+then_goes : (quiet : Bool) (m n k : Moment) (e : Event) (o : Outcome) (others : Moment → AutoOutcome) (a b c : Option (List ℕ)) (r : Result ℕ Stop)
+    → IsLineDone quiet (outcome_by m e o) n a b → IsAutoRun quiet n (others n) k b c r → IsAutoRun quiet m (done_then m e o others) k a c r
 then_goes quiet m n k e Idle others a b c r g q = on_then quiet m n k e (outcome_lines m.mesh e Idle) others a b c r g q
-then_goes quiet m n k e (Refuses x field) others a b c r g q = absurd (let h : Over [] m e field ≡ On g.text n = g.is in let P : ⊥ = cc in P)
-then_goes quiet m n k e (Happens w i) others a b c r g q = on_then quiet m n k e (outcome_lines m.mesh e (Happens w i)) others a b c r g q
+then_goes quiet m n k e (worlds.Full x field) others a b c r g q = absurd (let h : Full [] m e field ≡ On g.text n = g.is in let P : ⊥ = cc in P)
+then_goes quiet m n k e (Next w i) others a b c r g q = on_then quiet m n k e (outcome_lines m.mesh e (Next w i)) others a b c r g q
 
-ran_in : Ran → Came → Ran
+ran_in : AutoOutcome → LineOutcome → AutoOutcome
 ran_in d (On text n) = d
 ran_in d (Refused why) = d
-ran_in d (Over text n e field) = RanRefused text n e field
+ran_in d (Full text n e field) = AutoFull text n e field
 
 -- an event that was not done, or not written whole
-then_stops : (quiet : Bool) (m n : Moment) (e : Event) (o : Outcome) (others : Moment → Ran) (a b : Option (List ℕ)) (t : Stop)
-    → Stops quiet m (came_by m e o) n a b t → RanTo quiet m (done_then m e o others) n a b (Err t)
+then_stops : (quiet : Bool) (m n : Moment) (e : Event) (o : Outcome) (others : Moment → AutoOutcome) (a b : Option (List ℕ)) (t : Stop)
+    → IsLineStopped quiet m (outcome_by m e o) n a b t → IsAutoRun quiet m (done_then m e o others) n a b (Err t)
 unfolding ran_in
 then_stops quiet m n e Idle others a b (stop.BadLine f) g = absurd (let h = g.0 in let P : ⊥ = cc in P)
-then_stops quiet m n e Idle others a b (stop.Full event field) g = absurd (let h : On (outcome_lines m.mesh e Idle) (stepped m e) ≡ Over g.text n (event_of event) field = g.is in let P : ⊥ = cc in P)
+then_stops quiet m n e Idle others a b (stop.Full event field) g = absurd (let h : On (outcome_lines m.mesh e Idle) (stepped m e) ≡ Full g.text n (event_of event) field = g.is in let P : ⊥ = cc in P)
 then_stops quiet m n e Idle others a b stop.WriteFault g =
-    let P : List ℕ → Type 0 = λ l. AppendsFront a b (shown quiet l) in
+    let P : List ℕ → Type 0 = λ l. AppendsPrefix a b (output_if quiet l) in
     subst P (sym (text-before (outcome_lines m.mesh e Idle) (others (stepped m e)))) (front_more quiet a b (outcome_lines m.mesh e Idle) _ g)
 then_stops quiet m n e Idle others a b stop.NoMemory g =
-    let P : List ℕ → Type 0 = λ l. AppendsFront a b (shown quiet l) in
+    let P : List ℕ → Type 0 = λ l. AppendsPrefix a b (output_if quiet l) in
     subst P (sym (text-before (outcome_lines m.mesh e Idle) (others (stepped m e)))) (front_more quiet a b (outcome_lines m.mesh e Idle) _ g)
-then_stops quiet m n e (Refuses x full) others a b (stop.BadLine f) g = absurd (let h = g.0 in let P : ⊥ = cc in P)
-then_stops quiet m n e (Refuses x full) others a b (stop.Full event field) g = record {
+then_stops quiet m n e (worlds.Full x full) others a b (stop.BadLine f) g = absurd (let h = g.0 in let P : ⊥ = cc in P)
+then_stops quiet m n e (worlds.Full x full) others a b (stop.Full event field) g = record {
   text = g.text;
-  is = ap (ran_in (RanRefused [] m e full)) g.is;
+  is = ap (ran_in (AutoFull [] m e full)) g.is;
   grown = g.grown;
   still = g.still;
 }
-then_stops quiet m n e (Refuses x full) others a b stop.WriteFault g = g
-then_stops quiet m n e (Refuses x full) others a b stop.NoMemory g = g
-then_stops quiet m n e (Happens w i) others a b (stop.BadLine f) g = absurd (let h = g.0 in let P : ⊥ = cc in P)
-then_stops quiet m n e (Happens w i) others a b (stop.Full event field) g = absurd (let h : On (outcome_lines m.mesh e (Happens w i)) (stepped m e) ≡ Over g.text n (event_of event) field = g.is in let P : ⊥ = cc in P)
-then_stops quiet m n e (Happens w i) others a b stop.WriteFault g =
-    let P : List ℕ → Type 0 = λ l. AppendsFront a b (shown quiet l) in
-    subst P (sym (text-before (outcome_lines m.mesh e (Happens w i)) (others (stepped m e)))) (front_more quiet a b (outcome_lines m.mesh e (Happens w i)) _ g)
-then_stops quiet m n e (Happens w i) others a b stop.NoMemory g =
-    let P : List ℕ → Type 0 = λ l. AppendsFront a b (shown quiet l) in
-    subst P (sym (text-before (outcome_lines m.mesh e (Happens w i)) (others (stepped m e)))) (front_more quiet a b (outcome_lines m.mesh e (Happens w i)) _ g)
+then_stops quiet m n e (worlds.Full x full) others a b stop.WriteFault g = g
+then_stops quiet m n e (worlds.Full x full) others a b stop.NoMemory g = g
+then_stops quiet m n e (Next w i) others a b (stop.BadLine f) g = absurd (let h = g.0 in let P : ⊥ = cc in P)
+then_stops quiet m n e (Next w i) others a b (stop.Full event field) g = absurd (let h : On (outcome_lines m.mesh e (Next w i)) (stepped m e) ≡ Full g.text n (event_of event) field = g.is in let P : ⊥ = cc in P)
+then_stops quiet m n e (Next w i) others a b stop.WriteFault g =
+    let P : List ℕ → Type 0 = λ l. AppendsPrefix a b (output_if quiet l) in
+    subst P (sym (text-before (outcome_lines m.mesh e (Next w i)) (others (stepped m e)))) (front_more quiet a b (outcome_lines m.mesh e (Next w i)) _ g)
+then_stops quiet m n e (Next w i) others a b stop.NoMemory g =
+    let P : List ℕ → Type 0 = λ l. AppendsPrefix a b (output_if quiet l) in
+    subst P (sym (text-before (outcome_lines m.mesh e (Next w i)) (others (stepped m e)))) (front_more quiet a b (outcome_lines m.mesh e (Next w i)) _ g)
 
 -- one event more
 pub ran_goes : (quiet : Bool) (most did : ℕ) (m n k : Moment) (e : Event) (a b c : Option (List ℕ)) (r : Result ℕ Stop) → did < most → Some e ≡ pick (world_of m)
-    → Goes quiet (came_by m e (outcome_at m e)) n a b → RanTo quiet n (auto_from (most - (did + 1)) (did + 1) n) k b c r
-    → RanTo quiet m (auto_from (most - did) did m) k a c r
+    → IsLineDone quiet (outcome_by m e (outcome_at m e)) n a b → IsAutoRun quiet n (auto_from (most - (did + 1)) (did + 1) n) k b c r
+    → IsAutoRun quiet m (auto_from (most - did) did m) k a c r
 ran_goes quiet most did m n k e a b c r h p g q =
-    let P : Ran → Type 0 = λ ran. RanTo quiet m ran k a c r in
+    let P : AutoOutcome → Type 0 = λ ran. IsAutoRun quiet m ran k a c r in
     subst P (sym (auto_from-step most did m (Some e) h p)) (then_goes quiet m n k e (outcome_at m e) (λ x. auto_from (most - (did + 1)) (did + 1) x) a b c r g q)
 
 pub ran_stops : (quiet : Bool) (most did : ℕ) (m n : Moment) (e : Event) (a b : Option (List ℕ)) (t : Stop) → did < most → Some e ≡ pick (world_of m)
-    → Stops quiet m (came_by m e (outcome_at m e)) n a b t → RanTo quiet m (auto_from (most - did) did m) n a b (Err t)
+    → IsLineStopped quiet m (outcome_by m e (outcome_at m e)) n a b t → IsAutoRun quiet m (auto_from (most - did) did m) n a b (Err t)
 ran_stops quiet most did m n e a b t h p g =
-    let P : Ran → Type 0 = λ ran. RanTo quiet m ran n a b (Err t) in
+    let P : AutoOutcome → Type 0 = λ ran. IsAutoRun quiet m ran n a b (Err t) in
     subst P (sym (auto_from-step most did m (Some e) h p)) (then_stops quiet m n e (outcome_at m e) (λ x. auto_from (most - (did + 1)) (did + 1) x) a b t g)
 
 -- ---- the line of chosen events
 
-came-chooses : (m s : Moment) (count : ℕ) → s ≡ started m → came_of_line m (Chooses count) ≡ came_of_auto (line (words_of m.mesh (Chooses count))) (auto_from count 0 s)
-unfolding came_of_line
-came-chooses m s count same = ap (λ k. came_of_auto (line (words_of m.mesh (Chooses count))) (auto_from count 0 k)) (sym same)
+came-chooses : (m s : Moment) (count : ℕ) → s ≡ started m → outcome_of_line m (Chooses count) ≡ outcome_of_auto (line (words_of m.mesh (Chooses count))) (auto_from count 0 s)
+unfolding outcome_of_line
+came-chooses m s count same = ap (λ k. outcome_of_auto (line (words_of m.mesh (Chooses count))) (auto_from count 0 k)) (sym same)
 
-pub auto_goes : (quiet : Bool) (m s n k : Moment) (count did : ℕ) (a b c d : Option (List ℕ)) → s ≡ started m → Appends a b (shown quiet (line (words_of m.mesh (Chooses count))))
-    → Ends quiet (auto_from count 0 s) n b c did → Appends c d (shown quiet (auto_end did)) → k ≡ counted n → Goes quiet (came_of_line m (Chooses count)) k a d
+pub auto_goes : (quiet : Bool) (m s n k : Moment) (count did : ℕ) (a b c d : Option (List ℕ)) → s ≡ started m → Appends a b (output_if quiet (line (words_of m.mesh (Chooses count))))
+    → IsAutoDone quiet (auto_from count 0 s) n b c did → Appends c d (output_if quiet (auto_end did)) → k ≡ counted n → IsLineDone quiet (outcome_of_line m (Chooses count)) k a d
 auto_goes quiet m s n k count did a b c d same p q r next =
     let w : List ℕ = line (words_of m.mesh (Chooses count)) in
     record {
       text = w ++ q.text ++ auto_end did;
-      is = came-chooses m s count same ∙ ap (came_of_auto w) q.is ∙ ap (λ x. On (w ++ q.text ++ auto_end did) x) (sym next);
+      is = came-chooses m s count same ∙ ap (outcome_of_auto w) q.is ∙ ap (λ x. On (w ++ q.text ++ auto_end did) x) (sym next);
       grown = shown_join quiet a c d (w ++ q.text) (auto_end did) (shown_join quiet a b c w q.text p q.grown) r;
     }
 
-front_in : (quiet : Bool) (w : List ℕ) (ran : Ran) (a b c : Option (List ℕ)) → Appends a b (shown quiet w) → AppendsFront b c (shown quiet (text_of ran))
-    → AppendsFront a c (shown quiet (text_in (came_of_auto w ran)))
+front_in : (quiet : Bool) (w : List ℕ) (ran : AutoOutcome) (a b c : Option (List ℕ)) → Appends a b (output_if quiet w) → AppendsPrefix b c (output_if quiet (text_of ran))
+    → AppendsPrefix a c (output_if quiet (text_in (outcome_of_auto w ran)))
 front_in quiet w (Ended others did after) a b c p q = front_more quiet a c (w ++ others) (auto_end did) (front_join quiet a b c w others p q)
-front_in quiet w (RanRefused others n e field) a b c p q = front_join quiet a b c w others p q
+front_in quiet w (AutoFull others n e field) a b c p q = front_join quiet a b c w others p q
 
-front_at : (quiet : Bool) (w : List ℕ) (ran : Ran) (a b : Option (List ℕ)) → AppendsFront a b (shown quiet w) → AppendsFront a b (shown quiet (text_in (came_of_auto w ran)))
+front_at : (quiet : Bool) (w : List ℕ) (ran : AutoOutcome) (a b : Option (List ℕ)) → AppendsPrefix a b (output_if quiet w) → AppendsPrefix a b (output_if quiet (text_in (outcome_of_auto w ran)))
 front_at quiet w (Ended others did after) a b p = front_more quiet a b (w ++ others) (auto_end did) (front_more quiet a b w others p)
-front_at quiet w (RanRefused others n e field) a b p = front_more quiet a b w others p
+front_at quiet w (AutoFull others n e field) a b p = front_more quiet a b w others p
 
 -- the line itself is not written whole
-pub auto_front : (quiet : Bool) (m s : Moment) (count : ℕ) (a b : Option (List ℕ)) → s ≡ started m → AppendsFront a b (shown quiet (line (words_of m.mesh (Chooses count))))
-    → AppendsFront a b (shown quiet (text_in (came_of_line m (Chooses count))))
+pub auto_front : (quiet : Bool) (m s : Moment) (count : ℕ) (a b : Option (List ℕ)) → s ≡ started m → AppendsPrefix a b (output_if quiet (line (words_of m.mesh (Chooses count))))
+    → AppendsPrefix a b (output_if quiet (text_in (outcome_of_line m (Chooses count))))
 auto_front quiet m s count a b same p =
-    let P : Came → Type 0 = λ k. AppendsFront a b (shown quiet (text_in k)) in
+    let P : LineOutcome → Type 0 = λ k. AppendsPrefix a b (output_if quiet (text_in k)) in
     subst P (sym (came-chooses m s count same)) (front_at quiet (line (words_of m.mesh (Chooses count))) (auto_from count 0 s) a b p)
 
 -- nor the line after the events
 pub auto_end_front : (quiet : Bool) (m s n : Moment) (count did : ℕ) (a b c d : Option (List ℕ)) → s ≡ started m
-    → Appends a b (shown quiet (line (words_of m.mesh (Chooses count)))) → Ends quiet (auto_from count 0 s) n b c did → AppendsFront c d (shown quiet (auto_end did))
-    → AppendsFront a d (shown quiet (text_in (came_of_line m (Chooses count))))
+    → Appends a b (output_if quiet (line (words_of m.mesh (Chooses count)))) → IsAutoDone quiet (auto_from count 0 s) n b c did → AppendsPrefix c d (output_if quiet (auto_end did))
+    → AppendsPrefix a d (output_if quiet (text_in (outcome_of_line m (Chooses count))))
 auto_end_front quiet m s n count did a b c d same p q r =
     let w : List ℕ = line (words_of m.mesh (Chooses count)) in
-    let P : Came → Type 0 = λ k. AppendsFront a d (shown quiet (text_in k)) in
-    subst P (sym (came-chooses m s count same ∙ ap (came_of_auto w) q.is))
+    let P : LineOutcome → Type 0 = λ k. AppendsPrefix a d (output_if quiet (text_in k)) in
+    subst P (sym (came-chooses m s count same ∙ ap (outcome_of_auto w) q.is))
     (front_join quiet a c d (w ++ q.text) (auto_end did) (shown_join quiet a b c w q.text p q.grown) r)
 
 -- an event was not done, or not written whole
 pub auto_stops : (quiet : Bool) (m s n : Moment) (count : ℕ) (a b c : Option (List ℕ)) (t : Stop) → s ≡ started m
-    → Appends a b (shown quiet (line (words_of m.mesh (Chooses count)))) → RanTo quiet s (auto_from count 0 s) n b c (Err t)
-    → Stops quiet m (came_of_line m (Chooses count)) n a c t
+    → Appends a b (output_if quiet (line (words_of m.mesh (Chooses count)))) → IsAutoRun quiet s (auto_from count 0 s) n b c (Err t)
+    → IsLineStopped quiet m (outcome_of_line m (Chooses count)) n a c t
 auto_stops quiet m s n count a b c (stop.BadLine f) same p q = absurd q
 auto_stops quiet m s n count a b c (stop.Full event field) same p q =
     let w : List ℕ = line (words_of m.mesh (Chooses count)) in
     record {
       text = w ++ q.text;
-      is = came-chooses m s count same ∙ ap (came_of_auto w) q.is;
+      is = came-chooses m s count same ∙ ap (outcome_of_auto w) q.is;
       grown = shown_join quiet a b c w q.text p q.grown;
       still = record {
         event = subst (λ k. IsEvent (length k.mesh) (event_of event)) same q.still.event;
@@ -208,8 +209,8 @@ auto_stops quiet m s n count a b c (stop.Full event field) same p q =
       };
     }
 auto_stops quiet m s n count a b c stop.WriteFault same p q =
-    let P : Came → Type 0 = λ k. AppendsFront a c (shown quiet (text_in k)) in
+    let P : LineOutcome → Type 0 = λ k. AppendsPrefix a c (output_if quiet (text_in k)) in
     subst P (sym (came-chooses m s count same)) (front_in quiet (line (words_of m.mesh (Chooses count))) (auto_from count 0 s) a b c p q)
 auto_stops quiet m s n count a b c stop.NoMemory same p q =
-    let P : Came → Type 0 = λ k. AppendsFront a c (shown quiet (text_in k)) in
+    let P : LineOutcome → Type 0 = λ k. AppendsPrefix a c (output_if quiet (text_in k)) in
     subst P (sym (came-chooses m s count same)) (front_in quiet (line (words_of m.mesh (Chooses count))) (auto_from count 0 s) a b c p q)

@@ -1,10 +1,11 @@
 -- What an answer counts.
 use Rattle.std.proofs.Common.{◌≡◌, ℕ, ◌+◌, Bool, true, false, cond, List, Option, Some, None, refl, sym, ap, subst, ◌∙◌}
 use Rattle.std.specs.List.{slice_get}
-use Rattle.mesh_base.specs.declared.events.Full.{Full}
+use Rattle.mesh_base.specs.declared.events.Counter.{Counter}
 use Rattle.aodv_model.specs.Cores.{New}
 use Rattle.aodv_model.specs.Handlers.{Effect, Took}
-use Rattle.mesh_model.specs.Worlds.{World, Node, Copy, Event, Give, Turn, Send, Ask, Link, Cut, Deliver, Lose, Double, Happening, Changed, Taken, Sent, CopyHeard, CopyLost, CopyDoubled, Outcome, Idle, Stops, Goes, unless_full, send_of, ask_of, at_node, at_copy, find_copy, is_parcel, are_linked, push, step}
+use Rattle.mesh_model.specs.Worlds as worlds
+use Rattle.mesh_model.specs.Worlds.{World, Node, Copy, Event, Give, Turn, Send, Ask, Link, Cut, Deliver, Lose, Double, Happening, Changed, Taken, Sent, CopyHeard, CopyLost, CopyDoubled, Outcome, Idle, Next, unless_full, send_of, ask_of, at_node, at_copy, find_copy, is_parcel, are_linked, push, step}
 use Rattle.mesh_model.specs.Accounts.{any, given, delivered, delivered_at, doubled_at, dropped, in_taken}
 use mir.Val.{bool_byte}
 use Rattle.mesh_text.specs.Schedule.{Sums, summed, idle_by}
@@ -14,8 +15,8 @@ use Rattle.mesh_run.specs.Sums.{count_of}
 
 happening_in : Outcome → Happening
 happening_in Idle = Changed
-happening_in (Stops x f) = Changed
-happening_in (Goes w h) = h
+happening_in (worlds.Full x f) = Changed
+happening_in (Next w h) = h
 
 -- more than a datum given or a link changed
 abbrev pub NotChanged : Happening → Type 0
@@ -30,11 +31,11 @@ give_changes : (w : World) (x d : ℕ) (b : List ℕ) → happening_in (step w (
 unfolding step happening_in
 give_changes w x d b = by_node (slice_get w.nodes x)
   where
-    by_node : (o : Option Node) → happening_in (at_node o (λ core queue. Goes (push w x (New b d)) Changed)) ≡ Changed
+    by_node : (o : Option Node) → happening_in (at_node o (λ core queue. Next (push w x (New b d)) Changed)) ≡ Changed
     by_node None = refl
     by_node (Some n) = refl
 
-pub gives_none : (old new : World) (e : Event) (h : Happening) → NotChanged h → step old e ≡ Goes new h → given any e (step old e) ≡ 0
+pub gives_none : (old new : World) (e : Event) (h : Happening) → NotChanged h → step old e ≡ Next new h → given any e (step old e) ≡ 0
 unfolding happening_in
 gives_none old new (Give x d b) h other is =
     let same : h ≡ Changed = ap happening_in (sym is) ∙ give_changes old x d b in
@@ -53,15 +54,15 @@ gives_none old new (Double id) h other is = refl
 -- nothing was taken
 abbrev NoTake : Outcome → Type 0
 NoTake Idle = Unit {0}
-NoTake (Stops x f) = Unit {0}
-NoTake (Goes w Changed) = Unit {0}
-NoTake (Goes w (Taken t f cs)) = ⊥
-NoTake (Goes w (Sent f cs)) = Unit {0}
-NoTake (Goes w (CopyHeard from to)) = Unit {0}
-NoTake (Goes w (CopyLost c)) = Unit {0}
-NoTake (Goes w (CopyDoubled id to parcel)) = Unit {0}
+NoTake (worlds.Full x f) = Unit {0}
+NoTake (Next w Changed) = Unit {0}
+NoTake (Next w (Taken t f cs)) = ⊥
+NoTake (Next w (Sent f cs)) = Unit {0}
+NoTake (Next w (CopyHeard from to)) = Unit {0}
+NoTake (Next w (CopyLost c)) = Unit {0}
+NoTake (Next w (CopyDoubled id to parcel)) = Unit {0}
 
-no_take_sent : (b : Bool) (x : ℕ) (f : Option Full) (w : World) (ef : Effect) (cs : List Copy) → NoTake (cond b (unless_full x f (Goes w (Sent ef cs))) Idle)
+no_take_sent : (b : Bool) (x : ℕ) (f : Option Counter) (w : World) (ef : Effect) (cs : List Copy) → NoTake (cond b (unless_full x f (Next w (Sent ef cs))) Idle)
 no_take_sent true x None w ef cs = tt
 no_take_sent true x (Some f) w ef cs = tt
 no_take_sent false x f w ef cs = tt
@@ -70,7 +71,7 @@ no_take_give : (w : World) (x d : ℕ) (b : List ℕ) → NoTake (step w (Give x
 unfolding step
 no_take_give w x d b = by_node (slice_get w.nodes x)
   where
-    by_node : (o : Option Node) → NoTake (at_node o (λ core queue. Goes (push w x (New b d)) Changed))
+    by_node : (o : Option Node) → NoTake (at_node o (λ core queue. Next (push w x (New b d)) Changed))
     by_node None = tt
     by_node (Some n) = tt
 
@@ -94,11 +95,11 @@ no_take_link : (w : World) (a b : ℕ) → NoTake (step w (Link a b)) × NoTake 
 unfolding step
 no_take_link w a b = (on (are_linked w.links a b) _, off (are_linked w.links a b) _)
   where
-    on : (t : Bool) (v : World) → NoTake (cond t Idle (Goes v Changed))
+    on : (t : Bool) (v : World) → NoTake (cond t Idle (Next v Changed))
     on true v = tt
     on false v = tt
 
-    off : (t : Bool) (v : World) → NoTake (cond t (Goes v Changed) Idle)
+    off : (t : Bool) (v : World) → NoTake (cond t (Next v Changed) Idle)
     off true v = tt
     off false v = tt
 
@@ -106,19 +107,19 @@ no_take_copy : (w : World) (id : ℕ) → NoTake (step w (Deliver id)) × NoTake
 unfolding step
 no_take_copy w id = (heard (find_copy w.flying id) _, lost (find_copy w.flying id) _, doubled (find_copy w.flying id) _ w.next_copy)
   where
-    heard : (o : Option Copy) (v : Copy → World) → NoTake (at_copy o (λ c. Goes (v c) (CopyHeard c.from c.to)))
+    heard : (o : Option Copy) (v : Copy → World) → NoTake (at_copy o (λ c. Next (v c) (CopyHeard c.from c.to)))
     heard None v = tt
     heard (Some c) v = tt
 
-    lost : (o : Option Copy) (v : Copy → World) → NoTake (at_copy o (λ c. Goes (v c) (CopyLost c)))
+    lost : (o : Option Copy) (v : Copy → World) → NoTake (at_copy o (λ c. Next (v c) (CopyLost c)))
     lost None v = tt
     lost (Some c) v = tt
 
-    doubled : (o : Option Copy) (v : Copy → World) (k : ℕ) → NoTake (at_copy o (λ c. Goes (v c) (CopyDoubled k c.to (is_parcel c.message))))
+    doubled : (o : Option Copy) (v : Copy → World) (k : ℕ) → NoTake (at_copy o (λ c. Next (v c) (CopyDoubled k c.to (is_parcel c.message))))
     doubled None v k = tt
     doubled (Some c) v k = tt
 
-pub delivers_taken : (old new : World) (e : Event) (t : Took) (f : Effect) (cs : List Copy) (r : Bool) → step old e ≡ Goes new (Taken t f cs) → f.deliver ≡ true
+pub delivers_taken : (old new : World) (e : Event) (t : Took) (f : Effect) (cs : List Copy) (r : Bool) → step old e ≡ Next new (Taken t f cs) → f.deliver ≡ true
     → ((x : ℕ) → in_taken any x t ≡ count_of r) → delivered any e (step old e) ≡ count_of r
 delivers_taken old new (Turn x) t f cs r is true_is counts = ap (delivered_at any x) is ∙ ap (λ b. cond b (in_taken any x t) 0) true_is ∙ counts x
 delivers_taken old new (Give x d b) t f cs r is true_is counts = absurd (subst NoTake is (no_take_give old x d b))

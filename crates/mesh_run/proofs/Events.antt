@@ -1,16 +1,17 @@
 -- What comes of an event, of a line with one event, and of events that were chosen after a line.
 use Rattle.std.proofs.Common.{◌≡◌, ℕ, ◌+◌, Bool, true, is_some, List, [], ◌++◌, Option, length, refl, sym, ap, subst, ◌∙◌}
 use Rattle.std.specs.Io.KnownBytes.{Appends}
-use Rattle.mesh_base.specs.declared.events.Full.{Full as Field}
+use Rattle.mesh_base.specs.declared.events.Counter.{Counter as Field}
 use Rattle.mesh_base.specs.declared.events.Done.{Done}
 use Rattle.mesh_base.specs.declared.events.Done.TheVariants as done
 use Rattle.mesh_base.specs.declared.events.Event.{Event as EventGiven}
 use Rattle.mesh_base.specs.Meshes.{Nodes, with_node}
-use Rattle.mesh_io.specs.Puts.{AppendsFront}
-use Rattle.mesh_io.proofs.Writing.{AppendsFront-none}
-use Rattle.mesh_model.specs.Worlds.{World, Event, Outcome, Idle, Stops as Refuses, Goes as Happens}
+use Rattle.mesh_io.specs.Puts.{AppendsPrefix}
+use Rattle.mesh_io.proofs.Writing.{AppendsPrefix-none}
+use Rattle.mesh_model.specs.Worlds as worlds
+use Rattle.mesh_model.specs.Worlds.{World, Event, Outcome, Idle, Next}
 use Rattle.mesh_model.specs.Places.{IsEvent}
-use Rattle.mesh_meaning.specs.Events.{event_of, place_of}
+use Rattle.mesh_meaning.specs.Events.{event_of, node_of}
 use Rattle.mesh_meaning.specs.Answers.{outcome_in}
 use Rattle.mesh_grammar.specs.declared.fault.BadWhy.{BadWhy}
 use Rattle.mesh_grammar.specs.declared.fault.BadWhy.TheVariants.{Fault}
@@ -21,19 +22,19 @@ use Rattle.mesh_text.specs.Effects.{outcome_lines}
 use Rattle.mesh_text.specs.Tables.{node_text_in, end_text, flight_text}
 use Rattle.mesh_model.specs.Routes.{route_end}
 use Rattle.std.specs.List.{slice_get}
-use Rattle.mesh_text.specs.Text.{Came, On, Refused, Over, came_of_event, came_of_line, text_in}
+use Rattle.mesh_text.specs.Text.{LineOutcome, On, Refused, Full, outcome_of_event, outcome_of_line, text_in}
 use Rattle.mesh_run.specs.declared.stop.Stop.{Stop}
 use Rattle.mesh_run.specs.declared.stop.Stop.TheVariants as stop
 use Rattle.mesh_world.specs.declared.steps.StepError.{StepError}
 use Rattle.mesh_world.specs.declared.steps.StepError.TheVariants as errors
 use Rattle.mesh_run.specs.Moments.{IsAnswer, IsRefusal, stop_of}
-use Rattle.mesh_run.specs.Runs.{shown, Goes, Fills, Stops, came_by}
+use Rattle.mesh_run.specs.Runs.{output_if, IsLineDone, IsLineFull, IsLineStopped, outcome_by}
 use Rattle.mesh_run.proofs.Shown.{shown_none}
 
 -- ---- an event by itself
 
 by_done : (m : Moment) (e : Event) (mesh : Nodes) (x : ℕ) (w : World) (d : Done) (packet : List ℕ)
-    → came_by m e (outcome_in mesh x w d packet) ≡ On (outcome_lines m.mesh e (outcome_in mesh x w d packet)) (stepped m e)
+    → outcome_by m e (outcome_in mesh x w d packet) ≡ On (outcome_lines m.mesh e (outcome_in mesh x w d packet)) (stepped m e)
 by_done m e mesh x w done.Idle packet = refl
 by_done m e mesh x w done.Changed packet = refl
 by_done m e mesh x w (done.Taken took effect air) packet = refl
@@ -43,84 +44,84 @@ by_done m e mesh x w (done.Lost flying) packet = refl
 by_done m e mesh x w (done.Doubled id to parcel) packet = refl
 
 -- an event that has an answer goes on
-answer_came : (m n : Moment) (e : Event) (d : Done) (packet : List ℕ) → IsAnswer m e d n packet → came_by m e (outcome_at m e) ≡ On (outcome_lines m.mesh e (outcome_at m e)) n
+answer_came : (m n : Moment) (e : Event) (d : Done) (packet : List ℕ) → IsAnswer m e d n packet → outcome_by m e (outcome_at m e) ≡ On (outcome_lines m.mesh e (outcome_at m e)) n
 answer_came m n e d packet a =
-    ap (came_by m e) a.outcome ∙ by_done m e m.mesh (place_of e) (world_of n) d packet ∙ ap (λ o. On (outcome_lines m.mesh e o) (stepped m e)) (sym a.outcome)
+    ap (outcome_by m e) a.outcome ∙ by_done m e m.mesh (node_of e) (world_of n) d packet ∙ ap (λ o. On (outcome_lines m.mesh e o) (stepped m e)) (sym a.outcome)
     ∙ ap (λ k. On (outcome_lines m.mesh e (outcome_at m e)) k) (sym a.moment)
 
 -- the text of an answer, whichever world is told of
 pub answer_text : (m n : Moment) (e : Event) (d : Done) (packet : List ℕ) → IsAnswer m e d n packet
-    → outcome_lines m.mesh e (outcome_in m.mesh (place_of e) (world_of n) d packet) ≡ outcome_lines m.mesh e (outcome_at m e)
+    → outcome_lines m.mesh e (outcome_in m.mesh (node_of e) (world_of n) d packet) ≡ outcome_lines m.mesh e (outcome_at m e)
 answer_text m n e d packet a = ap (outcome_lines m.mesh e) (sym a.outcome)
 
 pub answer_goes : (quiet : Bool) (m n : Moment) (e : Event) (d : Done) (packet : List ℕ) (a b : Option (List ℕ)) → IsAnswer m e d n packet
-    → Appends a b (shown quiet (outcome_lines m.mesh e (outcome_in m.mesh (place_of e) (world_of n) d packet))) → Goes quiet (came_by m e (outcome_at m e)) n a b
+    → Appends a b (output_if quiet (outcome_lines m.mesh e (outcome_in m.mesh (node_of e) (world_of n) d packet))) → IsLineDone quiet (outcome_by m e (outcome_at m e)) n a b
 answer_goes quiet m n e d packet a b is p =
-    let P : List ℕ → Type 0 = λ l. Appends a b (shown quiet l) in
+    let P : List ℕ → Type 0 = λ l. Appends a b (output_if quiet l) in
     record { text = outcome_lines m.mesh e (outcome_at m e); is = answer_came m n e d packet is; grown = subst P (answer_text m n e d packet is) p }
 
 pub answer_front : (quiet : Bool) (m n : Moment) (e : Event) (d : Done) (packet : List ℕ) (a b : Option (List ℕ)) → IsAnswer m e d n packet
-    → AppendsFront a b (shown quiet (outcome_lines m.mesh e (outcome_in m.mesh (place_of e) (world_of n) d packet)))
-    → AppendsFront a b (shown quiet (text_in (came_by m e (outcome_at m e))))
+    → AppendsPrefix a b (output_if quiet (outcome_lines m.mesh e (outcome_in m.mesh (node_of e) (world_of n) d packet)))
+    → AppendsPrefix a b (output_if quiet (text_in (outcome_by m e (outcome_at m e))))
 answer_front quiet m n e d packet a b is p =
-    let P : List ℕ → Type 0 = λ l. AppendsFront a b (shown quiet l) in
+    let P : List ℕ → Type 0 = λ l. AppendsPrefix a b (output_if quiet l) in
     subst P (answer_text m n e d packet is ∙ sym (ap text_in (answer_came m n e d packet is))) p
 
-pub refusal_fills : (quiet : Bool) (m n : Moment) (e : Event) (x : ℕ) (field : Field) (a : Option (List ℕ)) → IsEvent (length m.mesh) e → outcome_at m e ≡ Refuses x field
-    → n ≡ m → Fills quiet m (came_by m e (outcome_at m e)) n a a e field
+pub refusal_fills : (quiet : Bool) (m n : Moment) (e : Event) (x : ℕ) (field : Field) (a : Option (List ℕ)) → IsEvent (length m.mesh) e → outcome_at m e ≡ worlds.Full x field
+    → n ≡ m → IsLineFull quiet m (outcome_by m e (outcome_at m e)) n a a e field
 refusal_fills quiet m n e x field a ev is same = record {
   text = [];
-  is = ap (came_by m e) is ∙ ap (λ k. Over [] k e field) (sym same);
+  is = ap (outcome_by m e) is ∙ ap (λ k. Full [] k e field) (sym same);
   grown = shown_none quiet a;
   still = record { event = ev; mesh = ap (λ k. k.mesh) same; lines = ap (λ k. k.lines) same };
 }
 
 -- an event that isn't done stops the run
 pub refusal_stops : (quiet : Bool) (m n : Moment) (e : EventGiven) (error : StepError) (a : Option (List ℕ)) → IsEvent (length m.mesh) (event_of e) → IsRefusal m (event_of e) error
-    → n ≡ m → Stops quiet m (came_by m (event_of e) (outcome_at m (event_of e))) n a a (stop_of e error)
+    → n ≡ m → IsLineStopped quiet m (outcome_by m (event_of e) (outcome_at m (event_of e))) n a a (stop_of e error)
 refusal_stops quiet m n e (errors.Full node field) a ev is same = refusal_fills quiet m n (event_of e) node field a ev is same
-refusal_stops quiet m n e errors.NoMemory a ev is same = AppendsFront-none a _
+refusal_stops quiet m n e errors.NoMemory a ev is same = AppendsPrefix-none a _
 
 -- ---- a line with one event
 
-count : Came → Came
+count : LineOutcome → LineOutcome
 count (On text n) = On text (counted n)
 count (Refused why) = Refused why
-count (Over text n e field) = Over text n e field
+count (Full text n e field) = Full text n e field
 
-came-counted : (m : Moment) (e : Event) (o : Outcome) → came_of_event m e o ≡ count (came_by (started m) e o)
+came-counted : (m : Moment) (e : Event) (o : Outcome) → outcome_of_event m e o ≡ count (outcome_by (started m) e o)
 unfolding count stepped
 came-counted m e Idle = refl
-came-counted m e (Refuses x field) = refl
-came-counted m e (Happens w h) = refl
+came-counted m e (worlds.Full x field) = refl
+came-counted m e (Next w h) = refl
 
-text-counted : (k : Came) → text_in (count k) ≡ text_in k
+text-counted : (k : LineOutcome) → text_in (count k) ≡ text_in k
 unfolding count
 text-counted (On text n) = refl
 text-counted (Refused why) = refl
-text-counted (Over text n e field) = refl
+text-counted (Full text n e field) = refl
 
 -- the line of an event, by what came of the event once the run had started
-came-does : (m s : Moment) (e : Event) → s ≡ started m → came_of_line m (Does e) ≡ count (came_by s e (outcome_at s e))
-unfolding came_of_line
+came-does : (m s : Moment) (e : Event) → s ≡ started m → outcome_of_line m (Does e) ≡ count (outcome_by s e (outcome_at s e))
+unfolding outcome_of_line
 came-does m s e same =
-    let P : Moment → Type 0 = λ k. came_of_event m e (outcome_at m e) ≡ count (came_by k e (outcome_at k e)) in
+    let P : Moment → Type 0 = λ k. outcome_of_event m e (outcome_at m e) ≡ count (outcome_by k e (outcome_at k e)) in
     subst P (sym same) (came-counted m e (outcome_at m e))
 
 -- an event is no line that isn't allowed
-never_bad : (m : Moment) (e : Event) (o : Outcome) (why : BadWhy) → came_by m e o ≡ Refused why → ⊥
+never_bad : (m : Moment) (e : Event) (o : Outcome) (why : BadWhy) → outcome_by m e o ≡ Refused why → ⊥
 never_bad m e Idle why h = cc
-never_bad m e (Refuses x field) why h = cc
-never_bad m e (Happens w i) why h = cc
+never_bad m e (worlds.Full x field) why h = cc
+never_bad m e (Next w i) why h = cc
 
-pub step_goes : (quiet : Bool) (m s n k : Moment) (e : Event) (a b : Option (List ℕ)) → s ≡ started m → Goes quiet (came_by s e (outcome_at s e)) n a b → k ≡ counted n
-    → Goes quiet (came_of_line m (Does e)) k a b
+pub step_goes : (quiet : Bool) (m s n k : Moment) (e : Event) (a b : Option (List ℕ)) → s ≡ started m → IsLineDone quiet (outcome_by s e (outcome_at s e)) n a b → k ≡ counted n
+    → IsLineDone quiet (outcome_of_line m (Does e)) k a b
 unfolding count
 step_goes quiet m s n k e a b same g next =
     record { text = g.text; is = came-does m s e same ∙ ap count g.is ∙ ap (λ q. On g.text q) (sym next); grown = g.grown }
 
-pub step_stops : (quiet : Bool) (m s n : Moment) (e : Event) (a b : Option (List ℕ)) (t : Stop) → s ≡ started m → Stops quiet s (came_by s e (outcome_at s e)) n a b t
-    → Stops quiet m (came_of_line m (Does e)) n a b t
+pub step_stops : (quiet : Bool) (m s n : Moment) (e : Event) (a b : Option (List ℕ)) (t : Stop) → s ≡ started m → IsLineStopped quiet s (outcome_by s e (outcome_at s e)) n a b t
+    → IsLineStopped quiet m (outcome_of_line m (Does e)) n a b t
 unfolding count
 step_stops quiet m s n e a b (stop.BadLine f) same g = absurd (never_bad s e (outcome_at s e) (Fault f) g.0)
 step_stops quiet m s n e a b (stop.Full event field) same g = record {
@@ -134,11 +135,11 @@ step_stops quiet m s n e a b (stop.Full event field) same g = record {
   };
 }
 step_stops quiet m s n e a b stop.WriteFault same g =
-    let P : List ℕ → Type 0 = λ l. AppendsFront a b (shown quiet l) in
-    subst P (sym (ap text_in (came-does m s e same) ∙ text-counted (came_by s e (outcome_at s e)))) g
+    let P : List ℕ → Type 0 = λ l. AppendsPrefix a b (output_if quiet l) in
+    subst P (sym (ap text_in (came-does m s e same) ∙ text-counted (outcome_by s e (outcome_at s e)))) g
 step_stops quiet m s n e a b stop.NoMemory same g =
-    let P : List ℕ → Type 0 = λ l. AppendsFront a b (shown quiet l) in
-    subst P (sym (ap text_in (came-does m s e same) ∙ text-counted (came_by s e (outcome_at s e)))) g
+    let P : List ℕ → Type 0 = λ l. AppendsPrefix a b (output_if quiet l) in
+    subst P (sym (ap text_in (came-does m s e same) ∙ text-counted (outcome_by s e (outcome_at s e)))) g
 
 -- an event changes no mesh
 pub answer_mesh : (m n : Moment) (e : Event) (d : Done) (packet : List ℕ) → IsAnswer m e d n packet → n.mesh ≡ m.mesh
@@ -158,18 +159,18 @@ step_events m s n e same next = ap (λ k. (k.sums).events) next ∙ ap (λ k. (k
 
 -- one more node
 pub node_goes : (quiet : Bool) (m n k : Moment) (mesh : Nodes) (address first : ℕ) (a b : Option (List ℕ)) → mesh ≡ m.mesh
-    → Appends a b (shown quiet (line (words_of mesh (NewNode address first)))) → n ≡ record m { mesh = with_node m.mesh address first } → k ≡ counted n
-    → Goes quiet (came_of_line m (NewNode address first)) k a b
-unfolding came_of_line
+    → Appends a b (output_if quiet (line (words_of mesh (NewNode address first)))) → n ≡ record m { mesh = with_node m.mesh address first } → k ≡ counted n
+    → IsLineDone quiet (outcome_of_line m (NewNode address first)) k a b
+unfolding outcome_of_line
 node_goes quiet m n k mesh address first a b same p next last =
-    let P : Nodes → Type 0 = λ l. Appends a b (shown quiet (line (words_of l (NewNode address first)))) in
+    let P : Nodes → Type 0 = λ l. Appends a b (output_if quiet (line (words_of l (NewNode address first)))) in
     record { text = line (words_of m.mesh (NewNode address first)); is = ap (λ x. On (line (words_of m.mesh (NewNode address first))) x) (sym (last ∙ ap counted next)); grown = subst P same p }
 
 pub node_front : (quiet : Bool) (m : Moment) (mesh : Nodes) (address first : ℕ) (a b : Option (List ℕ)) → mesh ≡ m.mesh
-    → AppendsFront a b (shown quiet (line (words_of mesh (NewNode address first)))) → AppendsFront a b (shown quiet (text_in (came_of_line m (NewNode address first))))
-unfolding came_of_line
+    → AppendsPrefix a b (output_if quiet (line (words_of mesh (NewNode address first)))) → AppendsPrefix a b (output_if quiet (text_in (outcome_of_line m (NewNode address first))))
+unfolding outcome_of_line
 node_front quiet m mesh address first a b same p =
-    let P : Nodes → Type 0 = λ l. AppendsFront a b (shown quiet (line (words_of l (NewNode address first)))) in
+    let P : Nodes → Type 0 = λ l. AppendsPrefix a b (output_if quiet (line (words_of l (NewNode address first)))) in
     subst P same p
 
 -- ---- the moment after an event
@@ -188,27 +189,27 @@ stepped_events m n e next = ap (λ k. (k.sums).events) next
 
 -- ---- lines that show something
 
-pub shows_goes : (quiet : Bool) (m s k : Moment) (l : Accepted) (text : Moment → List ℕ) (a b : Option (List ℕ)) → came_of_line m l ≡ On (text (started m)) (counted (started m)) → s ≡ started m
-    → Appends a b (shown quiet (text s)) → k ≡ counted s → Goes quiet (came_of_line m l) k a b
-shows_goes quiet m s k l text a b came same p next =
-    let P : Moment → Type 0 = λ x. Appends a b (shown quiet (text x)) in
-    record { text = text (started m); is = came ∙ ap (λ x. On (text (started m)) x) (sym (next ∙ ap counted same)); grown = subst P same p }
+pub shows_goes : (quiet : Bool) (m s k : Moment) (l : Accepted) (text : Moment → List ℕ) (a b : Option (List ℕ)) → outcome_of_line m l ≡ On (text (started m)) (counted (started m)) → s ≡ started m
+    → Appends a b (output_if quiet (text s)) → k ≡ counted s → IsLineDone quiet (outcome_of_line m l) k a b
+shows_goes quiet m s k l text a b outcome_of_piece same p next =
+    let P : Moment → Type 0 = λ x. Appends a b (output_if quiet (text x)) in
+    record { text = text (started m); is = outcome_of_piece ∙ ap (λ x. On (text (started m)) x) (sym (next ∙ ap counted same)); grown = subst P same p }
 
-pub shows_stops : (quiet : Bool) (m s : Moment) (l : Accepted) (text : Moment → List ℕ) (a b : Option (List ℕ)) → came_of_line m l ≡ On (text (started m)) (counted (started m)) → s ≡ started m
-    → AppendsFront a b (shown quiet (text s)) → AppendsFront a b (shown quiet (text_in (came_of_line m l)))
-shows_stops quiet m s l text a b came same p =
-    let P : Moment → Type 0 = λ x. AppendsFront a b (shown quiet (text x)) in
-    let Q : List ℕ → Type 0 = λ x. AppendsFront a b (shown quiet x) in
-    subst Q (sym (ap text_in came)) (subst P same p)
+pub shows_stops : (quiet : Bool) (m s : Moment) (l : Accepted) (text : Moment → List ℕ) (a b : Option (List ℕ)) → outcome_of_line m l ≡ On (text (started m)) (counted (started m)) → s ≡ started m
+    → AppendsPrefix a b (output_if quiet (text s)) → AppendsPrefix a b (output_if quiet (text_in (outcome_of_line m l)))
+shows_stops quiet m s l text a b outcome_of_piece same p =
+    let P : Moment → Type 0 = λ x. AppendsPrefix a b (output_if quiet (text x)) in
+    let Q : List ℕ → Type 0 = λ x. AppendsPrefix a b (output_if quiet x) in
+    subst Q (sym (ap text_in outcome_of_piece)) (subst P same p)
 
-pub node_came : (m : Moment) (x : ℕ) → came_of_line m (ShowsNode x) ≡ On (line (words_of m.mesh (ShowsNode x)) ++ node_text_in m.mesh (slice_get (world_of m).nodes x)) (counted (started m))
-unfolding came_of_line
+pub node_came : (m : Moment) (x : ℕ) → outcome_of_line m (ShowsNode x) ≡ On (line (words_of m.mesh (ShowsNode x)) ++ node_text_in m.mesh (slice_get (world_of m).nodes x)) (counted (started m))
+unfolding outcome_of_line
 node_came m x = refl
 
-pub route_came : (m : Moment) (x d : ℕ) → came_of_line m (ShowsRoute x d) ≡ On (line (words_of m.mesh (ShowsRoute x d)) ++ end_text m.mesh (route_end (world_of m) x d)) (counted (started m))
-unfolding came_of_line
+pub route_came : (m : Moment) (x d : ℕ) → outcome_of_line m (ShowsRoute x d) ≡ On (line (words_of m.mesh (ShowsRoute x d)) ++ end_text m.mesh (route_end (world_of m) x d)) (counted (started m))
+unfolding outcome_of_line
 route_came m x d = refl
 
-pub flight_came : (m : Moment) → came_of_line m ShowsFlight ≡ On (line (words_of m.mesh ShowsFlight) ++ flight_text m.mesh (world_of m).flying) (counted (started m))
-unfolding came_of_line
+pub flight_came : (m : Moment) → outcome_of_line m ShowsFlight ≡ On (line (words_of m.mesh ShowsFlight) ++ flight_text m.mesh (world_of m).flying) (counted (started m))
+unfolding outcome_of_line
 flight_came m = refl

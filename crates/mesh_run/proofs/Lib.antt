@@ -6,5 +6,4 @@ pub mod Sound
 pub mod Chosen
 pub mod Cuts
 pub mod Tables
-pub mod Asked
 pub mod Choices

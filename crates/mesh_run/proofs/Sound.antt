@@ -7,7 +7,7 @@ use Rattle.mesh_base.specs.declared.events.Done.{Done}
 use Rattle.mesh_model.specs.Worlds.{World, Event, step, after, start, first_numbers}
 use Rattle.mesh_model.specs.Accounts.{any, waiting, queued, in_flight}
 use Rattle.mesh_model.proofs.AccountSteps.{start_empty}
-use Rattle.mesh_meaning.specs.Events.{place_of}
+use Rattle.mesh_meaning.specs.Events.{node_of}
 use Rattle.mesh_meaning.specs.Answers.{outcome_in, IsDoneInMesh}
 use Rattle.mesh_text.specs.Schedule.{Sums, Moment, world_of, stepped, summed}
 use Rattle.mesh_world.specs.Seen.{WorldSeen}
@@ -68,7 +68,7 @@ answer_at m variant nodes old new s t lines e d packet is same done sum =
       moment = ap (λ w. let x : Moment = record { variant = variant; mesh = nodes; world = Some w; sums = t; lines = lines; steps = new.steps } in x) world
           ∙ ap (λ u. let x : Moment = record { variant = variant; mesh = nodes; world = Some (after old.world (step old.world e)); sums = u; lines = lines; steps = new.steps } in x) sum
           ∙ ap (λ j. let x : Moment = record { variant = variant; mesh = nodes; world = Some (after old.world (step old.world e)); sums = summed s e (step old.world e); lines = lines; steps = j } in x) steps;
-      outcome = done.outcome ∙ ap (λ x. outcome_in x (place_of e) new.world d packet) same;
+      outcome = done.outcome ∙ ap (λ x. outcome_in x (node_of e) new.world d packet) same;
       in_mesh = subst (λ x. IsDoneInMesh x d packet) same done.in_mesh;
     })
 
@@ -85,7 +85,7 @@ pub answered : {D : Type 0} (seen : D → WorldSeen) (o : Option D) (w : D) (m :
 answered {D} seen o w m variant nodes new s t lines e r d packet is view sound stepped ok counts sums =
     let old = seen w in
     let done : IsDone e old d new packet = subst (λ x. IsStep e old x new packet) ok stepped in
-    let sum : t ≡ summed s e (step old.world e) = sums old.mesh (place_of e) old.world new.world packet done.in_mesh done.outcome in
+    let sum : t ≡ summed s e (step old.world e) = sums old.mesh (node_of e) old.world new.world packet done.in_mesh done.outcome in
     let P : Option D → Type 0 = λ x. IsSound nodes (option_map seen x) s in
     let Q : Option D → Type 0 = λ x. m ≡ record { variant = variant; mesh = nodes; world = option_map (λ y. (seen y).world) x; sums = s; lines = lines; steps = unwrap_or (option_map (λ y. (seen y).steps) x) 0 } in
     let before : IsSound nodes (Some old) s = subst P is sound in

@@ -6,10 +6,11 @@ use Rattle.mesh_base.specs.Meshes.{Nodes}
 use Rattle.mesh_base.specs.declared.events.Variant.{Variant}
 use Rattle.mesh_base.specs.declared.events.Done.{Done}
 use Rattle.mesh_base.specs.declared.events.Event.{Event as EventGiven}
-use Rattle.mesh_model.specs.Worlds.{World, Event, Stops}
+use Rattle.mesh_model.specs.Worlds as worlds
+use Rattle.mesh_model.specs.Worlds.{World, Event}
 use Rattle.aodv_model.specs.Codes.{variant_code}
 use Rattle.mesh_model.specs.Codes.{world_code}
-use Rattle.mesh_meaning.specs.Events.{place_of}
+use Rattle.mesh_meaning.specs.Events.{node_of}
 use Rattle.mesh_meaning.specs.Answers.{outcome_in, IsDoneInMesh}
 use Rattle.mesh_text.specs.Schedule.{Moment, Sums, world_of, outcome_at, stepped}
 use Rattle.mesh_run.specs.Sums.{AreCounts}
@@ -33,12 +34,12 @@ pub record IsSound (nodes : Nodes) (seen : Option WorldSeen) (sums : Sums) : Typ
 -- the mesh only
 pub record IsAnswer (m : Moment) (e : Event) (done : Done) (n : Moment) (packet : List ℕ) : Type 0 where
   pub moment : n ≡ stepped m e
-  pub outcome : outcome_at m e ≡ outcome_in m.mesh (place_of e) (world_of n) done packet
+  pub outcome : outcome_at m e ≡ outcome_in m.mesh (node_of e) (world_of n) done packet
   pub in_mesh : IsDoneInMesh m.mesh done packet
 
 -- the event was refused for a full counter
 abbrev pub IsRefusal : Moment → Event → StepError → Type 0
-IsRefusal m e (Full node field) = outcome_at m e ≡ Stops node field
+IsRefusal m e (Full node field) = outcome_at m e ≡ worlds.Full node field
 IsRefusal m e NoMemory = ⊤
 
 -- what then stops the run

@@ -1,14 +1,14 @@
 //! Events that the run chooses, one after another.
 ghost use Rattle.std.specs.Prelude.{◌≡◌, ◌<◌, ◌≤◌, ◌+◌, ◌^◌, is_some, true, OnOk, IsErrOf, Ok, Err, IfSome, option_map};
-ghost use Rattle.mesh_model.specs.Choices.{pick as pick_lem};
+ghost use Rattle.mesh_model.specs.Choices.{pick};
 ghost use Rattle.mesh_meaning.specs.Events.{event_of};
 ghost use Rattle.mesh_text.specs.Schedule.{Chooses, world_of};
 ghost use Rattle.mesh_text.specs.Auto.{auto_from, auto_end};
-ghost use Rattle.mesh_text.specs.Text.{came_of_line};
+ghost use Rattle.mesh_text.specs.Text.{outcome_of_line};
 ghost use Rattle.mesh_io.specs.Cause.{Rose, HasCause};
 ghost use Rattle.mesh_io.specs.Puts.{Puts};
 ghost use Rattle.mesh_script.specs.Seen.{IsPrintable};
-ghost use Rattle.mesh_run.specs.Runs.{shown, IsLineOf, Comes, RanTo};
+ghost use Rattle.mesh_run.specs.Runs.{output_if, IsLineOf, IsLineRun, IsAutoRun};
 
 use crate::choice::pick;
 use crate::commands::{do_event, say_echo};
@@ -24,7 +24,7 @@ use std::alloc::Global;
 // The event that comes next.
 fn next_event<S: Steps>(at: &Point<S>) -> Option<Event<'static>>
     requires { is_some at.now.world ≡ true }
-    ensures value { option_map event_of result ≡ pick_lem (world_of at.now) }
+    ensures value { option_map event_of result ≡ pick (world_of at.now) }
     ensures printable { IfSome result (λ e. IsPrintable at.now.mesh (Line.Step e)) }
 {
     let Some(world) = at.world() else {
@@ -46,7 +46,7 @@ fn do_events<S: Steps, O: Sink>(
 ) -> Result<u32, Stop<'static>>
     requires started { is_some at.old.world ≡ true }
     requires few { at.old.sums.events + count < 2 ^ 48 }
-    ensures ran { RanTo quiet at.old (auto_from count 0 at.old)
+    ensures ran { IsAutoRun quiet at.old (auto_from count 0 at.old)
         at.new (O.held out.old) (O.held out.new) result }
     ensures lines { OnOk result (at.new.lines ≡ at.old.lines) }
     ensures events { OnOk result (at.new.sums.events ≤ at.old.sums.events + count) }
@@ -68,7 +68,7 @@ fn do_events<S: Steps, O: Sink>(
 
 // How many events there were.
 fn say_end<O: Sink>(did: u32, quiet: bool, buf: &mut LineBuf, out: &mut O) -> Result<(), PutFault>
-    ensures text { Puts (O.held out.old) (O.held out.new) (shown quiet (auto_end did)) result }
+    ensures text { Puts (O.held out.old) (O.held out.new) (output_if quiet (auto_end did)) result }
     ensures cause { HasCause (O.faults out.old) (O.faults out.new) result }
 {
     if quiet {
@@ -92,7 +92,7 @@ pub fn do_auto<S: Steps, O: Sink>(
     requires steps { at.old.sums.events < 2 ^ 47 }
     requires printable { IsPrintable at.old.mesh (Line.Auto count) }
     requires echo { IsLineOf at.old.mesh (Chooses count) bytes.now }
-    ensures comes { Comes quiet at.old (came_of_line at.old (Chooses count))
+    ensures comes { IsLineRun quiet at.old (outcome_of_line at.old (Chooses count))
         at.new (O.held out.old) (O.held out.new) result }
     ensures lines { OnOk result (at.new.lines ≡ at.old.lines + 1) }
     ensures events { OnOk result (at.new.sums.events ≤ at.old.sums.events + count) }

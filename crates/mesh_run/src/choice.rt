@@ -1,7 +1,7 @@
 //! The choice of the next event.
 ghost use Rattle.std.specs.Prelude.{◌≡◌, ◌<◌, ◌≤◌, length, IfSome, option_map};
 ghost use Rattle.mesh_model.specs.Places.{IsEvent};
-ghost use Rattle.mesh_model.specs.Choices.{pick as pick_lem, first_copy};
+ghost use Rattle.mesh_model.specs.Choices.{pick, first_copy};
 ghost use Rattle.mesh_meaning.specs.Events.{event_of};
 ghost use Rattle.mesh_text.specs.Lines.{event_spelling};
 ghost use Rattle.mesh_text.specs.Ranges.{AreSpellable};
@@ -23,7 +23,7 @@ fn first_copy_of(world: &World) -> Option<u64>
 /// send of a stored datum, and a request, each at the least node, copy or destination. It searches
 /// through nothing.
 pub fn pick(world: &World) -> Option<Event<'static>>
-    ensures value { option_map event_of result ≡ pick_lem world.now.world }
+    ensures value { option_map event_of result ≡ pick world.now.world }
     ensures within { IfSome result (λ e. IsEvent (length world.now.mesh) (event_of e)) }
     ensures spelled { IfSome result (λ e.
         AreSpellable (event_spelling world.now.mesh (event_of e)).arguments) }

@@ -2,18 +2,18 @@
 ghost use Rattle.std.specs.Prelude.{◌≡◌, ◌≢◌, ◌<◌, ◌≤◌, ◌+◌, ◌^◌, length, is_some, true, OnOk, IfSome, IsErrOf};
 ghost use Rattle.mesh_model.specs.Worlds.{World};
 ghost use Rattle.mesh_meaning.specs.Answers.{outcome_in, IsDoneInMesh};
-ghost use Rattle.mesh_meaning.specs.Events.{event_of, place_of};
+ghost use Rattle.mesh_meaning.specs.Events.{event_of, node_of};
 ghost use Rattle.mesh_text.specs.Schedule.{stepped, NewNode, Does, ShowsNode, ShowsRoute, ShowsFlight};
 ghost use Rattle.mesh_text.specs.Lines.{words_of};
 ghost use Rattle.mesh_grammar.specs.Written.{line as line_of_words};
 ghost use Rattle.mesh_text.specs.Effects.{outcome_lines};
 ghost use Rattle.mesh_text.specs.Ranges.{IsEcho};
-ghost use Rattle.mesh_text.specs.Text.{came_of_line};
+ghost use Rattle.mesh_text.specs.Text.{outcome_of_line};
 ghost use Rattle.mesh_io.specs.Cause.{Rose, HasCause};
 ghost use Rattle.mesh_io.specs.Puts.{Puts};
 ghost use Rattle.mesh_script.specs.Seen.{accepted_of, IsPrintable, IsAllowed};
-ghost use Rattle.mesh_run.specs.Moments.{stop_of as stop_of_lem};
-ghost use Rattle.mesh_run.specs.Runs.{shown, came_at, IsLineOf, Comes};
+ghost use Rattle.mesh_run.specs.Moments.{stop_of};
+ghost use Rattle.mesh_run.specs.Runs.{output_if, line_outcome_at, IsLineOf, IsLineRun};
 
 use crate::auto::do_auto;
 use crate::point::Point;
@@ -41,7 +41,7 @@ fn say_event<O: Sink>(
     requires echo { IfSome bytes (λ b. IsLineOf mesh.now (Does (event_of event.now)) b.now) }
     ensures text { (w : World) → Puts (O.held out.old) (O.held out.new)
         (outcome_lines mesh.now (event_of event.now)
-        (outcome_in mesh.now (place_of (event_of event.now)) w done.now packet.now.items)) result }
+        (outcome_in mesh.now (node_of (event_of event.now)) w done.now packet.now.items)) result }
     ensures cause { HasCause (O.faults out.old) (O.faults out.new) result }
 {
     match bytes {
@@ -64,7 +64,7 @@ pub fn do_event<'a, S: Steps, O: Sink>(
     requires few { at.old.sums.events < 2 ^ 48 }
     requires printable { IsPrintable at.old.mesh (Line.Step event) }
     requires echo { IfSome bytes (λ b. IsLineOf at.old.mesh (Does (event_of event)) b.now) }
-    ensures comes { Comes quiet at.old (came_at at.old (event_of event.entry))
+    ensures comes { IsLineRun quiet at.old (line_outcome_at at.old (event_of event.entry))
         at.new (O.held out.old) (O.held out.new) result }
     ensures moment { OnOk result (at.new ≡ stepped at.old (event_of event.entry)) }
     ensures later { O.faults out.old ≤ O.faults out.new }
@@ -100,7 +100,7 @@ pub fn do_event<'a, S: Steps, O: Sink>(
 // What stops the run where an event isn't done.
 #[cold]
 fn stop_of<'a>(event: Event<'a>, error: StepError) -> Stop<'a>
-    ensures { result ≡ stop_of_lem event.entry error }
+    ensures { result ≡ stop_of event.entry error }
 {
     match error {
         StepError::Full { field, .. } => Stop::Full { event, field },
@@ -122,7 +122,7 @@ fn do_step<'a, S: Steps, O: Sink>(
     requires steps { at.old.sums.events < 2 ^ 47 }
     requires printable { IsPrintable at.old.mesh (Line.Step event) }
     requires echo { IsLineOf at.old.mesh (Does (event_of event)) bytes.now }
-    ensures comes { Comes quiet at.old (came_of_line at.old (Does (event_of event.entry)))
+    ensures comes { IsLineRun quiet at.old (outcome_of_line at.old (Does (event_of event.entry)))
         at.new (O.held out.old) (O.held out.new) result }
     ensures lines { OnOk result (at.new.lines ≡ at.old.lines + 1) }
     ensures events { OnOk result (at.new.sums.events ≤ at.old.sums.events + 1) }
@@ -148,7 +148,7 @@ fn say_line<O: Sink>(
     requires printable { IsPrintable mesh.now line.now }
     requires some { line.now ≢ Line.Blank }
     ensures text { Puts (O.held out.old) (O.held out.new)
-        (shown quiet (line_of_words (words_of mesh.now (accepted_of line.now)))) result }
+        (output_if quiet (line_of_words (words_of mesh.now (accepted_of line.now)))) result }
     ensures cause { HasCause (O.faults out.old) (O.faults out.new) result }
 {
     if quiet {
@@ -166,7 +166,7 @@ pub fn say_echo<O: Sink>(
 ) -> Result<(), PutFault>
     requires { length bytes.now ≤ LONGEST_LINE }
     ensures text { Puts (O.held out.old) (O.held out.new)
-        (shown quiet (line_of_words bytes.now)) result }
+        (output_if quiet (line_of_words bytes.now)) result }
     ensures cause { HasCause (O.faults out.old) (O.faults out.new) result }
 {
     if quiet {
@@ -186,7 +186,7 @@ fn do_node<S: Steps, O: Sink>(
 ) -> Result<(), Stop<'static>>
     requires few { at.old.lines < 2 ^ 62 }
     requires allowed { IsAllowed at.old.mesh (is_some at.old.world) (Line.Node addr first) }
-    ensures comes { Comes quiet at.old (came_of_line at.old (NewNode addr.0 first))
+    ensures comes { IsLineRun quiet at.old (outcome_of_line at.old (NewNode addr.0 first))
         at.new (O.held out.old) (O.held out.new) result }
     ensures lines { OnOk result (at.new.lines ≡ at.old.lines + 1) }
     ensures events { OnOk result (at.new.sums.events ≡ at.old.sums.events) }
@@ -217,7 +217,7 @@ fn do_show<S: Steps, O: Sink>(
     requires few { at.old.lines < 2 ^ 62 }
     requires node { node < length at.old.mesh }
     requires echo { IsLineOf at.old.mesh (ShowsNode node) bytes.now }
-    ensures comes { Comes quiet at.old (came_of_line at.old (ShowsNode node))
+    ensures comes { IsLineRun quiet at.old (outcome_of_line at.old (ShowsNode node))
         at.new (O.held out.old) (O.held out.new) result }
     ensures lines { OnOk result (at.new.lines ≡ at.old.lines + 1) }
     ensures events { OnOk result (at.new.sums.events ≡ at.old.sums.events) }
@@ -244,7 +244,7 @@ fn do_route<S: Steps, O: Sink>(
     requires node { node < length at.old.mesh }
     requires dest { dest < length at.old.mesh }
     requires echo { IsLineOf at.old.mesh (ShowsRoute node dest) bytes.now }
-    ensures comes { Comes quiet at.old (came_of_line at.old (ShowsRoute node dest))
+    ensures comes { IsLineRun quiet at.old (outcome_of_line at.old (ShowsRoute node dest))
         at.new (O.held out.old) (O.held out.new) result }
     ensures lines { OnOk result (at.new.lines ≡ at.old.lines + 1) }
     ensures events { OnOk result (at.new.sums.events ≡ at.old.sums.events) }
@@ -268,7 +268,7 @@ fn do_flight<S: Steps, O: Sink>(
     requires few { at.old.lines < 2 ^ 62 }
     requires some { 1 ≤ length at.old.mesh }
     requires echo { IsLineOf at.old.mesh ShowsFlight bytes.now }
-    ensures comes { Comes quiet at.old (came_of_line at.old ShowsFlight)
+    ensures comes { IsLineRun quiet at.old (outcome_of_line at.old ShowsFlight)
         at.new (O.held out.old) (O.held out.new) result }
     ensures lines { OnOk result (at.new.lines ≡ at.old.lines + 1) }
     ensures events { OnOk result (at.new.sums.events ≡ at.old.sums.events) }
@@ -283,7 +283,7 @@ fn do_flight<S: Steps, O: Sink>(
 
 /// Does an allowed line, and writes its text unless the run is quiet. Every line but that of a node
 /// is written back as it stands.
-#[tactic(auto, unfolding(mesh_text::specs::Text::came_of_line))]
+#[tactic(auto, unfolding(mesh_text::specs::Text::outcome_of_line))]
 pub fn do_line<'a, S: Steps, O: Sink>(
     alloc: Global,
     at: &mut Point<S>,
@@ -298,7 +298,7 @@ pub fn do_line<'a, S: Steps, O: Sink>(
     requires allowed { IsAllowed at.old.mesh (is_some at.old.world) line }
     requires short { length bytes.now ≤ LONGEST_LINE }
     requires echo { IsEcho at.old.mesh bytes.now (accepted_of line) }
-    ensures comes { Comes quiet at.old (came_of_line at.old (accepted_of line.entry))
+    ensures comes { IsLineRun quiet at.old (outcome_of_line at.old (accepted_of line.entry))
         at.new (O.held out.old) (O.held out.new) result }
     ensures lines { OnOk result (at.new.lines ≡ at.old.lines + 1) }
     ensures events { OnOk result (at.new.sums.events ≤ at.old.sums.events + MOST_EVENTS) }

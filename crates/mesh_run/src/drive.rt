@@ -3,7 +3,7 @@ ghost use Rattle.std.specs.Prelude.{◌≡◌, ◌≢◌, ◌≤◌, IfSome};
 ghost use Rattle.std.specs.Io.KnownBytes.{IsAtEnd};
 ghost use Rattle.mesh_text.specs.Text.{text_of_input, output};
 ghost use Rattle.mesh_io.specs.Cause.{Rose};
-ghost use Rattle.mesh_run.specs.Told.{Told};
+ghost use Rattle.mesh_run.specs.Told.{IsOutput};
 
 use crate::lines::run_lines;
 use crate::status::Status;
@@ -24,8 +24,8 @@ pub fn run<S: Steps, I: Source, O: Sink>(
     out: &mut O,
 ) -> Status
     // What is written is the text of the input, and the answer its verdict. After a failed read or
-    // write, or want of memory, it is a front of that text.
-    ensures told { IfSome (I.left input.old) (λ bytes. Told (O.held out.old) (O.held out.new)
+    // write, or want of memory, it is a prefix of that text.
+    ensures told { IfSome (I.left input.old) (λ bytes. IsOutput (O.held out.old) (O.held out.new)
         (output quiet (text_of_input variant bytes)) result) }
 
     // Done only where the input was read to its end.

@@ -5,10 +5,10 @@ ghost use Rattle.mesh_model.specs.Places.{IsEvent};
 ghost use Rattle.mesh_meaning.specs.Events.{event_of};
 ghost use Rattle.mesh_text.specs.Schedule.{opening};
 ghost use Rattle.mesh_grammar.specs.Lines.{Piece, Whole, piece_of, last_piece, pieces_of};
-ghost use Rattle.mesh_text.specs.Text.{text_from, refused_run, overfull_run, came, finished_run, output};
+ghost use Rattle.mesh_text.specs.Text.{text_from, refused_run, overfull_run, outcome_of_piece, finished_run, output};
 ghost use Rattle.mesh_io.specs.Cause.{Rose};
-ghost use Rattle.mesh_run.specs.Told.{Told};
-ghost use Rattle.mesh_run.specs.Runs.{Goes, Comes};
+ghost use Rattle.mesh_run.specs.Told.{IsOutput};
+ghost use Rattle.mesh_run.specs.Runs.{IsLineDone, IsLineRun};
 
 use crate::commands::do_line;
 use crate::point::Point;
@@ -16,7 +16,7 @@ use crate::status::Status;
 use crate::stop::{Scratch, Stop};
 use arrayvec::ArrayVec;
 use memchr::memchr;
-use mesh_base::{Event, Full, LONGEST_INPUT, LONGEST_LINE, LineBuf, MOST_EVENTS, Variant};
+use mesh_base::{Counter, Event, LONGEST_INPUT, LONGEST_LINE, LineBuf, MOST_EVENTS, Variant};
 use mesh_grammar::BadWhy;
 use mesh_io::Sink;
 use mesh_report::{put_bad, put_full, put_summary};
@@ -36,7 +36,7 @@ fn one<'a, S: Steps, O: Sink>(
     requires few { at.old.lines < 2 ^ 62 }
     requires steps { at.old.sums.events < 2 ^ 47 }
     requires short { length bytes.now ≤ LONGEST_LINE }
-    ensures comes { Comes quiet at.old (came at.old (Whole bytes.now))
+    ensures comes { IsLineRun quiet at.old (outcome_of_piece at.old (Whole bytes.now))
         at.new (O.held out.old) (O.held out.new) result }
     ensures lines { OnOk result (at.new.lines ≡ at.old.lines + 1) }
     ensures events { OnOk result (at.new.sums.events ≤ at.old.sums.events + MOST_EVENTS) }
@@ -66,7 +66,7 @@ fn split_line(bytes: &[u8]) -> (&[u8], Option<&[u8]>)
 #[cold]
 fn refuse<S: Steps, O: Sink>(at: &Point<S>, why: BadWhy, buf: &mut LineBuf, out: &mut O) -> Status
     requires { at.now.lines < 2 ^ 62 }
-    ensures told { Told (O.held out.old) (O.held out.new) (refused_run at.now why) result }
+    ensures told { IsOutput (O.held out.old) (O.held out.new) (refused_run at.now why) result }
     ensures later { O.faults out.old ≤ O.faults out.new }
     ensures write { result ≡ Status.WriteFault → Rose (O.faults out.old) (O.faults out.new) }
     ensures read { result ≢ Status.ReadFault }
@@ -86,13 +86,13 @@ fn refuse<S: Steps, O: Sink>(at: &Point<S>, why: BadWhy, buf: &mut LineBuf, out:
 fn fill<S: Steps, O: Sink>(
     at: &Point<S>,
     event: Event<'_>,
-    field: Full,
+    field: Counter,
     buf: &mut LineBuf,
     out: &mut O,
 ) -> Status
     requires lines { at.now.lines < 2 ^ 62 }
     requires event { IsEvent (length at.now.mesh) (event_of event) }
-    ensures told { Told (O.held out.old) (O.held out.new)
+    ensures told { IsOutput (O.held out.old) (O.held out.new)
         (overfull_run at.now [] (event_of event.entry) field) result }
     ensures later { O.faults out.old ≤ O.faults out.new }
     ensures write { result ≡ Status.WriteFault → Rose (O.faults out.old) (O.faults out.new) }
@@ -109,7 +109,7 @@ fn fill<S: Steps, O: Sink>(
 
 // Ends the run at its end.
 fn finish<S: Steps, O: Sink>(at: &Point<S>, buf: &mut LineBuf, out: &mut O) -> Status
-    ensures told { Told (O.held out.old) (O.held out.new) (finished_run at.now) result }
+    ensures told { IsOutput (O.held out.old) (O.held out.new) (finished_run at.now) result }
     ensures later { O.faults out.old ≤ O.faults out.new }
     ensures write { result ≡ Status.WriteFault → Rose (O.faults out.old) (O.faults out.new) }
     ensures read { result ≢ Status.ReadFault }
@@ -133,11 +133,11 @@ fn piece<S: Steps, O: Sink>(
     requires few { at.old.lines < 2 ^ 62 }
     requires steps { at.old.sums.events < 2 ^ 47 }
     ensures goes { IfNone result
-        (Goes quiet (came at.old (piece_of bytes.now)) at.new (O.held out.old) (O.held out.new)) }
+        (IsLineDone quiet (outcome_of_piece at.old (piece_of bytes.now)) at.new (O.held out.old) (O.held out.new)) }
     ensures lines { IfNone result (at.new.lines ≡ at.old.lines + 1) }
     ensures events { IfNone result (at.new.sums.events ≤ at.old.sums.events + MOST_EVENTS) }
     ensures told { IfSome result (λ status. (pieces : List Piece)
-        → Told (O.held out.old) (O.held out.new)
+        → IsOutput (O.held out.old) (O.held out.new)
         (output quiet (text_from at.old (piece_of bytes.now ∷ pieces))) status) }
     ensures later { O.faults out.old ≤ O.faults out.new }
     ensures write { result ≡ Some Status.WriteFault → Rose (O.faults out.old) (O.faults out.new) }
@@ -171,7 +171,7 @@ fn last<S: Steps, O: Sink>(
 ) -> Status
     requires few { at.old.lines < 2 ^ 61 }
     requires steps { at.old.sums.events < 2 ^ 47 }
-    ensures told { Told (O.held out.old) (O.held out.new)
+    ensures told { IsOutput (O.held out.old) (O.held out.new)
         (output quiet (text_from at.old (last_piece more bytes.now))) result }
     ensures later { O.faults out.old ≤ O.faults out.new }
     ensures write { result ≡ Status.WriteFault → Rose (O.faults out.old) (O.faults out.new) }
@@ -194,7 +194,7 @@ fn last<S: Steps, O: Sink>(
     }
 }
 
-/// The lines of an input, or of its front where it goes on, where all nodes run this variant of the
+/// The lines of an input, or of its prefix where it goes on, where all nodes run this variant of the
 /// protocol.
 pub fn run_lines<S: Steps, O: Sink>(
     alloc: Global,
@@ -205,7 +205,7 @@ pub fn run_lines<S: Steps, O: Sink>(
     out: &mut O,
 ) -> Status
     requires { length bytes.now ≤ LONGEST_INPUT }
-    ensures told { Told (O.held out.old) (O.held out.new)
+    ensures told { IsOutput (O.held out.old) (O.held out.new)
         (output quiet (text_from (opening variant) (pieces_of more (parts 10 bytes.now)))) result }
     ensures later { O.faults out.old ≤ O.faults out.new }
     ensures write { result ≡ Status.WriteFault → Rose (O.faults out.old) (O.faults out.new) }

@@ -1,173 +1,24 @@
 //! What a run shows of its world: a node, where a route leads, and the copies in flight.
 ghost use Rattle.std.specs.Prelude.{◌≡◌, ◌<◌, ◌≤◌, ◌+◌, ◌++◌, length, map, slice_get, is_some, true, Some};
 ghost use Rattle.std.specs.List.{AllByRecursion};
-ghost use Rattle.aodv_node.specs.Seen.{IsSoundNode};
 ghost use Rattle.mesh_model.specs.Routes.{route_end};
 ghost use Rattle.mesh_meaning.specs.Packets.{IsWrittenCopy, copy_in};
 ghost use Rattle.mesh_text.specs.Schedule.{ShowsNode, ShowsRoute, ShowsFlight, world_of};
 ghost use Rattle.mesh_text.specs.Lines.{words_of};
 ghost use Rattle.mesh_grammar.specs.Written.{line};
-ghost use Rattle.mesh_text.specs.Tables.{each_from, all_asked_text, entry_of, waits_of, node_text, node_text_in, end_text, flight_text};
+ghost use Rattle.mesh_text.specs.Tables.{node_text_in, end_text, flight_text};
 ghost use Rattle.mesh_io.specs.Cause.{HasCause};
 ghost use Rattle.mesh_io.specs.Puts.{Puts};
-ghost use Rattle.std.specs.FinMap as maps;
-ghost use Rattle.mesh_run.specs.Runs.{shown, IsLineOf};
+ghost use Rattle.mesh_run.specs.Runs.{output_if, IsLineOf};
 ghost use Rattle.mesh_world.specs.Ends.{end_in, IsEndIn};
 
 use crate::point::Point;
-use aodv_asked::Asked;
-use aodv_node::Node;
-use aodv_waiting::Waiting;
 use mesh_base::{LineBuf, Mesh};
 use mesh_io::{PutFault, Sink};
 use mesh_radio::Radio;
-use mesh_report::{put_asked, put_echo, put_entry, put_flying, put_number, put_stuck, put_waits};
+use mesh_report::{put_echo, put_flying, put_number, put_stuck};
+use mesh_show::put_node;
 use mesh_world::{End, Steps};
-
-// The requests of one originator that were seen, by rising id.
-fn put_asked_of<O: Sink>(
-    mesh: &Mesh,
-    asked: &Asked,
-    o: usize,
-    buf: &mut LineBuf,
-    out: &mut O,
-) -> Result<(), PutFault>
-    requires node { o < length mesh.now }
-    requires size { length asked.now.rooms ≡ length mesh.now }
-    ensures text { Puts (O.held out.old) (O.held out.new)
-        (all_asked_text mesh.now asked.now.pairs o) result }
-    ensures cause { HasCause (O.faults out.old) (O.faults out.new) result }
-{
-    let mut next = asked.first(o);
-    'ids: while let Some(id) = next {
-        put_asked(mesh, o, id, buf, out)?;
-        next = asked.after(o, id);
-    }
-    Ok(())
-}
-
-// All requests that were seen, by rising originator.
-fn put_all_asked<O: Sink>(
-    mesh: &Mesh,
-    asked: &Asked,
-    buf: &mut LineBuf,
-    out: &mut O,
-) -> Result<(), PutFault>
-    requires { length asked.now.rooms ≡ length mesh.now }
-    ensures text { Puts (O.held out.old) (O.held out.new)
-        (each_from (length mesh.now) 0 (all_asked_text mesh.now asked.now.pairs)) result }
-    ensures cause { HasCause (O.faults out.old) (O.faults out.new) result }
-{
-    for o in 0..mesh.len() {
-        put_asked_of(mesh, asked, o, buf, out)?;
-    }
-    Ok(())
-}
-
-// The entry of one destination, if there is one.
-fn put_entry_of<O: Sink>(
-    mesh: &Mesh,
-    node: &Node,
-    d: usize,
-    buf: &mut LineBuf,
-    out: &mut O,
-) -> Result<(), PutFault>
-    requires dest { d < length mesh.now }
-    requires size { node.now.size ≡ length mesh.now }
-    requires sound { IsSoundNode node.now }
-    ensures text { Puts (O.held out.old) (O.held out.new)
-        (entry_of mesh.now d (maps.get node.now.core.rt d)) result }
-    ensures cause { HasCause (O.faults out.old) (O.faults out.new) result }
-{
-    match node.entry(d) {
-        Some(entry) => put_entry(mesh, d, &entry, buf, out),
-        None => Ok(()),
-    }
-}
-
-// The routing table, by rising destination.
-fn put_entries<O: Sink>(
-    mesh: &Mesh,
-    node: &Node,
-    buf: &mut LineBuf,
-    out: &mut O,
-) -> Result<(), PutFault>
-    requires size { node.now.size ≡ length mesh.now }
-    requires sound { IsSoundNode node.now }
-    ensures text { Puts (O.held out.old) (O.held out.new) (each_from (length mesh.now) 0
-        (λ d. entry_of mesh.now d (maps.get node.now.core.rt d))) result }
-    ensures cause { HasCause (O.faults out.old) (O.faults out.new) result }
-{
-    for d in 0..mesh.len() {
-        put_entry_of(mesh, node, d, buf, out)?;
-    }
-    Ok(())
-}
-
-// What waits for one destination, if anything does.
-fn put_waits_of<O: Sink>(
-    mesh: &Mesh,
-    waiting: &Waiting,
-    d: usize,
-    buf: &mut LineBuf,
-    out: &mut O,
-) -> Result<(), PutFault>
-    requires dest { d < length mesh.now }
-    requires size { length waiting.now.rooms ≡ length mesh.now }
-    ensures text { Puts (O.held out.old) (O.held out.new)
-        (waits_of mesh.now waiting.now.store d) result }
-    ensures cause { HasCause (O.faults out.old) (O.faults out.new) result }
-{
-    if !waiting.has(d) {
-        return Ok(());
-    }
-    put_waits(
-        mesh,
-        d,
-        waiting.needs_request(d),
-        waiting.count(d),
-        buf,
-        out,
-    )
-}
-
-// All data that wait, by rising destination.
-fn put_all_waits<O: Sink>(
-    mesh: &Mesh,
-    waiting: &Waiting,
-    buf: &mut LineBuf,
-    out: &mut O,
-) -> Result<(), PutFault>
-    requires { length waiting.now.rooms ≡ length mesh.now }
-    ensures text { Puts (O.held out.old) (O.held out.new)
-        (each_from (length mesh.now) 0 (waits_of mesh.now waiting.now.store)) result }
-    ensures cause { HasCause (O.faults out.old) (O.faults out.new) result }
-{
-    for d in 0..mesh.len() {
-        put_waits_of(mesh, waiting, d, buf, out)?;
-    }
-    Ok(())
-}
-
-// The state of a node.
-#[tactic(auto, unfolding(mesh_text::specs::Tables::node_text))]
-fn put_node<O: Sink>(
-    mesh: &Mesh,
-    node: &Node,
-    buf: &mut LineBuf,
-    out: &mut O,
-) -> Result<(), PutFault>
-    requires { node.now.size ≡ length mesh.now }
-    ensures text { Puts (O.held out.old) (O.held out.new)
-        (node_text mesh.now node.now.core (length node.now.items)) result }
-    ensures cause { HasCause (O.faults out.old) (O.faults out.new) result }
-{
-    put_number(b"sn", u64::from(node.sn()), buf, out)?;
-    put_all_asked(mesh, node.asked(), buf, out)?;
-    put_entries(mesh, node, buf, out)?;
-    put_all_waits(mesh, node.waiting(), buf, out)?;
-    put_number(b"inbox", node.inbox().len() as u64, buf, out)
-}
 
 /// Writes the line that shows a node, as it stands, and the node's state, unless the run is quiet.
 pub fn show_node<S: Steps, O: Sink>(
@@ -181,7 +32,7 @@ pub fn show_node<S: Steps, O: Sink>(
     requires started { is_some at.now.world ≡ true }
     requires node { node < length at.now.mesh }
     requires echo { IsLineOf at.now.mesh (ShowsNode node) bytes.now }
-    ensures text { Puts (O.held out.old) (O.held out.new) (shown quiet
+    ensures text { Puts (O.held out.old) (O.held out.new) (output_if quiet
         (line (words_of at.now.mesh (ShowsNode node))
         ++ node_text_in at.now.mesh (slice_get (world_of at.now).nodes node))) result }
     ensures cause { HasCause (O.faults out.old) (O.faults out.new) result }
@@ -223,7 +74,7 @@ pub fn show_route<S: Steps, O: Sink>(
     requires node { node < length at.now.mesh }
     requires dest { dest < length at.now.mesh }
     requires echo { IsLineOf at.now.mesh (ShowsRoute node dest) bytes.now }
-    ensures text { Puts (O.held out.old) (O.held out.new) (shown quiet
+    ensures text { Puts (O.held out.old) (O.held out.new) (output_if quiet
         (line (words_of at.now.mesh (ShowsRoute node dest))
         ++ end_text at.now.mesh (route_end (world_of at.now) node dest))) result }
     ensures cause { HasCause (O.faults out.old) (O.faults out.new) result }
@@ -271,7 +122,7 @@ pub fn show_flight<S: Steps, O: Sink>(
 ) -> Result<(), PutFault>
     requires started { is_some at.now.world ≡ true }
     requires echo { IsLineOf at.now.mesh ShowsFlight bytes.now }
-    ensures text { Puts (O.held out.old) (O.held out.new) (shown quiet
+    ensures text { Puts (O.held out.old) (O.held out.new) (output_if quiet
         (line (words_of at.now.mesh ShowsFlight)
         ++ flight_text at.now.mesh (world_of at.now).flying)) result }
     ensures cause { HasCause (O.faults out.old) (O.faults out.new) result }

@@ -2,7 +2,7 @@
 ghost use Rattle.std.specs.Prelude.{◌≡◌};
 ghost use Rattle.mesh_run.specs.declared.stop.Stop.TheVariants as stops;
 
-use mesh_base::{Event, Full, LineBuf, NoMemory, Packet};
+use mesh_base::{Counter, Event, LineBuf, NoMemory, Packet};
 use mesh_grammar::LineFault;
 use mesh_io::PutFault;
 
@@ -12,7 +12,7 @@ pub enum Stop<'a> {
     /// The line isn't allowed.
     BadLine(LineFault),
     /// This event would raise this counter past its field's greatest value.
-    Full { event: Event<'a>, field: Full },
+    Full { event: Event<'a>, field: Counter },
     WriteFault,
     NoMemory,
 }

@@ -1,15 +1,15 @@
 //! What a run counts.
 ghost use Rattle.std.specs.Prelude.{◌≡◌, ◌<◌, ◌^◌, ℕ, List};
 ghost use Rattle.mesh_base.specs.Meshes.{Nodes};
-ghost use Rattle.mesh_model.specs.Worlds.{World, Event as an_event, Changed, Goes, step};
+ghost use Rattle.mesh_model.specs.Worlds.{World, Event as an_event, Changed, Next, step};
 ghost use Rattle.mesh_model.specs.Accounts.{any, given, delivered, doubled_at, dropped, in_taken, in_dropped};
 ghost use Rattle.mesh_meaning.specs.Events.{event_of};
 ghost use Rattle.mesh_meaning.specs.Answers.{outcome_in, took_in, IsDoneInMesh, IsTookInMesh};
 ghost use Rattle.mesh_text.specs.Schedule.{summed, idle_by};
 ghost use Rattle.mesh_run.specs.Sums.{sums_of, AreCounts, count_of};
 
+use aodv_wire::is_data;
 use mesh_base::{Done, Event, Kind, Took};
-use mesh_radio::is_data;
 
 /// What was counted so far: events, those that were idle, the data that were given, delivered and
 /// dropped, and the data packets that were doubled.
@@ -64,7 +64,7 @@ fn is_idle(done: &Done) -> bool
 }
 
 fn is_give(e: &Event<'_>) -> bool
-    ensures { (w : World) → given any (event_of e.now) (Goes w Changed) ≡ count_of result }
+    ensures { (w : World) → given any (event_of e.now) (Next w Changed) ≡ count_of result }
 {
     match e {
         Event::Give { .. } => true,

@@ -63,6 +63,28 @@ pub addresses_and_text_of : (at : ℕ) (a b text : List ℕ)
 addresses_and_text_of at a b text =
     text_of_rest at a b (parts 32 text) (some_part text) ∙ rw (join_with_byte-slice_split 32 text) refl
 
+two_and_number : (most at : ℕ) (a b : List ℕ) (ps : List (List ℕ)) → 0 < length ps
+    → forms.address_and_number most at (a ∷ b ∷ ps) forms.AddressAndNumber ≡ Err Count
+two_and_number most at a b [] h = absurd (omega arith)
+two_and_number most at a b (p ∷ ps) h = refl
+
+pub address_and_number_more : (most at : ℕ) (a b rest : List ℕ)
+    → forms.address_and_number most at (a ∷ b ∷ parts 32 rest) forms.AddressAndNumber ≡ Err Count
+address_and_number_more most at a b rest = two_and_number most at a b (parts 32 rest) (some_part rest)
+
+text_after : (at : ℕ) (a : List ℕ) (ps : List (List ℕ)) → 0 < length ps
+    → forms.address_and_text at (a ∷ ps) forms.AddressAndText
+    ≡ address_at at a (λ x. text_at (next_at at a) (join_with_byte 32 ps) (λ body. Ok (forms.AddressAndText x body)))
+unfolding forms.address_and_text
+text_after at a [] h = absurd (omega arith)
+text_after at a (p ∷ ps) h = refl
+
+pub address_and_text_of : (at : ℕ) (a text : List ℕ)
+    → forms.address_and_text at (a ∷ parts 32 text) forms.AddressAndText
+    ≡ address_at at a (λ x. text_at (next_at at a) text (λ body. Ok (forms.AddressAndText x body)))
+address_and_text_of at a text =
+    text_after at a (parts 32 text) (some_part text) ∙ rw (join_with_byte-slice_split 32 text) refl
+
 -- ---- an address or a number is the only word of what it is read from
 
 pub only_address : (at : ℕ) (text : List ℕ) (m : Mention) → address_of text ≡ Some (m.address) → m.span ≡ span_at at text

@@ -19,6 +19,8 @@ arguments_by f (arguments.TwoAddresses a b) = forms.TwoAddresses (f a) (f b)
 arguments_by f (arguments.OneNumber n) = forms.OneNumber n
 arguments_by f (arguments.NumberedAddress a first) = forms.NumberedAddress (f a) first
 arguments_by f (arguments.AddressesAndText a b text) = forms.AddressesAndText (f a) (f b) text.now
+arguments_by f (arguments.AddressAndNumber a n) = forms.AddressAndNumber (f a) n
+arguments_by f (arguments.AddressAndText a text) = forms.AddressAndText (f a) text.now
 
 -- as they are read, placed in a mesh, and written
 abbrev pub mentions_of : Arguments Mention → forms.Arguments words.Mention
@@ -48,3 +50,5 @@ width_of (forms.TwoAddresses a b) = 32
 width_of (forms.OneNumber n) = 21
 width_of (forms.NumberedAddress a first) = 40
 width_of (forms.AddressesAndText a b text) = 33 + length text
+width_of (forms.AddressAndNumber a n) = 37
+width_of (forms.AddressAndText a text) = 17 + length text

@@ -20,10 +20,13 @@ pub enum Arguments<'a, A> {
     NumberedAddress(A, u32),
     /// Two addresses, and a text of 1 to 512 bytes.
     AddressesAndText(A, A, &'a [u8]),
+    AddressAndNumber(A, u64),
+    /// An address, and a text of 1 to 512 bytes.
+    AddressAndText(A, &'a [u8]),
 }
 
 /// What a line says after its command.
-pub(crate) type Read<'a> = Result<Arguments<'a, Mention>, LineFault>;
+pub type Read<'a> = Result<Arguments<'a, Mention>, LineFault>;
 
 // Each form stands in a function of its own, so that no line pays for the frame of another form.
 // The arguments begin at `at`; without a space after the command there are none.
@@ -173,8 +176,50 @@ fn addresses_and_text(at: usize, arguments: Option<&[u8]>) -> Read<'_>
     Ok(Arguments::AddressesAndText(a, b, text))
 }
 
-/// The arguments of a form, the first of which begins at `at`.
-pub(crate) fn arguments_of(form: Form, at: usize, arguments: Option<&[u8]>) -> Read<'_>
+#[tactic(auto, using(crate::proofs::Cuts::address_and_number_more))]
+fn address_and_number(most: u64, at: usize, arguments: Option<&[u8]>) -> Read<'static>
+    requires { IfSome arguments (λ words. at + length words.now < 2 ^ 63) }
+    ensures { mentions_in result
+        ≡ forms.address_and_number most at (rest_parts 32 arguments.entry) forms.AddressAndNumber }
+{
+    let Some(words) = arguments else {
+        return Err(LineFault::Count);
+    };
+    let (word, others) = cut(words, b' ');
+    let Some(others) = others else {
+        return Err(LineFault::Count);
+    };
+    let (second, more) = cut(others, b' ');
+    if let Some(_more) = more {
+        return Err(LineFault::Count);
+    }
+    let a = address(at, word)?;
+    let n = number(most, next_at(at, word), second)?;
+    Ok(Arguments::AddressAndNumber(a, n))
+}
+
+// The text is all that follows the address.
+#[tactic(auto, using(crate::proofs::Cuts::address_and_text_of), unfolding(mesh_grammar::specs::Forms::address_and_text))]
+fn address_and_text(at: usize, arguments: Option<&[u8]>) -> Read<'_>
+    requires { IfSome arguments (λ words. at + length words.now < 2 ^ 63) }
+    ensures { mentions_in result
+        ≡ forms.address_and_text at (rest_parts 32 arguments.entry) forms.AddressAndText }
+{
+    let Some(words) = arguments else {
+        return Err(LineFault::Count);
+    };
+    let (word, body) = cut(words, b' ');
+    let Some(body) = body else {
+        return Err(LineFault::Count);
+    };
+    let a = address(at, word)?;
+    let text = text(next_at(at, word), body)?;
+    Ok(Arguments::AddressAndText(a, text))
+}
+
+/// The arguments of a form, the first of which begins at `at`: the bytes after the command and its
+/// space, or none.
+pub fn arguments_of(form: Form, at: usize, arguments: Option<&[u8]>) -> Read<'_>
     requires { IfSome arguments (λ words. at + length words.now < 2 ^ 63) }
     ensures { mentions_in result ≡ forms.arguments_of form at (rest_parts 32 arguments.entry) }
 {
@@ -185,5 +230,7 @@ pub(crate) fn arguments_of(form: Form, at: usize, arguments: Option<&[u8]>) -> R
         Form::Number { most } => one_number(most, at, arguments),
         Form::Numbered => numbered_address(at, arguments),
         Form::Text => addresses_and_text(at, arguments),
+        Form::AddressNumber { most } => address_and_number(most, at, arguments),
+        Form::AddressText => address_and_text(at, arguments),
     }
 }

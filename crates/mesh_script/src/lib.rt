@@ -10,11 +10,12 @@ mod print;
 mod shape;
 mod words;
 
-pub use forms::Arguments;
+pub use forms::{Arguments, Read, arguments_of};
 pub use line::Line;
 pub use mesh_grammar::{Command, LineFault, Span};
-pub use parse::{make_line, parse_line};
-pub use print::{LONGEST_WRITTEN, print_line, push_event, push_line};
+pub use parse::{make_line, parse_line, placed};
+pub use print::{LONGEST_WRITTEN, print_line, push_event, push_line, push_written};
+pub use words::{Mention, is_blank, next_at, span_at};
 
 #[cfg(test)]
 mod tests;

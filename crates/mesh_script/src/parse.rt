@@ -34,8 +34,8 @@ fn index(mesh: &Mesh, node: Mention) -> Result<usize, LineFault>
         .ok_or(LineFault::Unknown(node.span))
 }
 
-// Arguments with each node by its index. The leftmost address that is no node is the fault.
-fn placed<'a>(
+/// Arguments with each node by its index. The leftmost address that is no node is the fault.
+pub fn placed<'a>(
     mesh: &Mesh,
     arguments: &Arguments<'a, Mention>,
 ) -> Result<Arguments<'a, usize>, LineFault>
@@ -61,6 +61,14 @@ fn placed<'a>(
             let x = index(mesh, a)?;
             let y = index(mesh, b)?;
             Ok(Arguments::AddressesAndText(x, y, text))
+        }
+        Arguments::AddressAndNumber(a, n) => {
+            let x = index(mesh, a)?;
+            Ok(Arguments::AddressAndNumber(x, n))
+        }
+        Arguments::AddressAndText(a, text) => {
+            let x = index(mesh, a)?;
+            Ok(Arguments::AddressAndText(x, text))
         }
     }
 }

@@ -71,6 +71,15 @@ pub fn push_written(out: &mut LineBuf, word: &[u8], arguments: &Arguments<'_, Ad
             out.push(b' ');
             push_text(out, text);
         }
+        Arguments::AddressAndNumber(a, n) => {
+            push_address(out, *a);
+            push_argument(out, *n);
+        }
+        Arguments::AddressAndText(a, text) => {
+            push_address(out, *a);
+            out.push(b' ');
+            push_text(out, text);
+        }
     }
 }
 

@@ -16,7 +16,7 @@ pub struct Mention {
 }
 
 /// Whether a line is empty or a remark.
-pub(crate) fn is_blank(line: &[u8]) -> bool
+pub fn is_blank(line: &[u8]) -> bool
     ensures { result ≡ words.is_blank line.now }
 {
     match line {
@@ -41,7 +41,7 @@ fn is_text(bytes: &[u8]) -> bool
 }
 
 /// The bytes of a word that begins at `at`.
-pub(crate) fn span_at(at: usize, word: &[u8]) -> Span
+pub fn span_at(at: usize, word: &[u8]) -> Span
     requires { at + length word.now < 2 ^ 63 }
     ensures { result ≡ words.span_at at word.now }
 {
@@ -52,7 +52,7 @@ pub(crate) fn span_at(at: usize, word: &[u8]) -> Span
 }
 
 /// Where the word after this one begins.
-pub(crate) fn next_at(at: usize, word: &[u8]) -> usize
+pub fn next_at(at: usize, word: &[u8]) -> usize
     requires { at + length word.now < 2 ^ 63 }
     ensures { result ≡ words.next_at at word.now }
 {
@@ -61,7 +61,7 @@ pub(crate) fn next_at(at: usize, word: &[u8]) -> usize
 
 /// A word as an address.
 #[inline(always)]
-pub(crate) fn address(at: usize, word: &[u8]) -> Result<Mention, LineFault>
+pub fn address(at: usize, word: &[u8]) -> Result<Mention, LineFault>
     requires { at + length word.now < 2 ^ 63 }
     ensures value { IfOk result (λ a. address_of word.now ≡ Some (mention_of a).address) }
     ensures span { IfOk result (λ a. (mention_of a).span ≡ words.span_at at word.now) }
@@ -77,7 +77,7 @@ pub(crate) fn address(at: usize, word: &[u8]) -> Result<Mention, LineFault>
 
 /// A word as a number from 1 to `most`.
 #[inline(always)]
-pub(crate) fn number(most: u64, at: usize, word: &[u8]) -> Result<u64, LineFault>
+pub fn number(most: u64, at: usize, word: &[u8]) -> Result<u64, LineFault>
     requires { at + length word.now < 2 ^ 63 }
     ensures value { IfOk result
         (λ n. numbers.positive (numbers.number_up_to most word.now) ≡ Some n) }
@@ -93,7 +93,7 @@ pub(crate) fn number(most: u64, at: usize, word: &[u8]) -> Result<u64, LineFault
 }
 
 /// What stands from here to the line's end, as a datum's text.
-pub(crate) fn text(at: usize, bytes: &[u8]) -> Result<&[u8], LineFault>
+pub fn text(at: usize, bytes: &[u8]) -> Result<&[u8], LineFault>
     requires { at + length bytes.now < 2 ^ 63 }
     ensures value { IfOk result (λ text. words.text_of bytes.now ≡ Some text.now) }
     ensures none { IfErr result (λ f. words.text_of bytes.now ≡ None) }

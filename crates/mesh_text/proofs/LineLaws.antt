@@ -2,7 +2,8 @@
 use Rattle.std.proofs.Common.{◌≡◌, ℕ, zero, suc, ◌*◌, ◌≤◌, List, Option, Some, None, Result, Ok, Err, length, ap, arith, is_some}
 use Rattle.mesh_base.specs.declared.limits.TheConstants.{MOST_EVENTS}
 use Rattle.mesh_base.specs.Meshes.{Nodes}
-use Rattle.mesh_model.specs.Worlds.{Event, Give, Turn, Send, Ask, Link, Cut, Deliver, Lose, Double, Outcome, Idle, Stops, Goes}
+use Rattle.mesh_model.specs.Worlds as worlds
+use Rattle.mesh_model.specs.Worlds.{Event, Give, Turn, Send, Ask, Link, Cut, Deliver, Lose, Double, Outcome, Idle, Next}
 use Rattle.mesh_model.specs.Choices.{pick}
 use Rattle.mesh_grammar.specs.declared.fault.LineFault.{LineFault}
 use Rattle.mesh_grammar.specs.Written.{written}
@@ -42,8 +43,8 @@ auto_line_has_four_bytes mesh started line count is =
 event_few : (most : ℕ) (m : Moment) (e : Event) (o : Outcome) (more : Moment → List Event) → length (more (stepped m e)) ≤ most
     → length (event_then m e o more) ≤ suc most
 event_few most m e Idle more few = omega arith
-event_few most m e (Stops x field) more few = omega arith
-event_few most m e (Goes w happening) more few = omega arith
+event_few most m e (worlds.Full x field) more few = omega arith
+event_few most m e (Next w happening) more few = omega arith
 
 choice_few : (most : ℕ) (m : Moment) (o : Option Event) (more : Moment → List Event) → ((n : Moment) → length (more n) ≤ most)
     → length (choice_then m o more) ≤ suc most

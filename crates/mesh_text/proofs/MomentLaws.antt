@@ -12,8 +12,8 @@ use Rattle.mesh_model.proofs.Acyclic.{no_cycle}
 use Rattle.mesh_grammar.specs.Lines.{Piece, pieces_of_input}
 use Rattle.mesh_text.specs.Schedule.{Moment, opening, world_of, stepped}
 use Rattle.mesh_text.specs.Lines.{done_line}
-use Rattle.mesh_text.specs.Text.{Came, On, Refused, Over, came, Finished, FullAt, Written, goes_on, text_from, text_on}
-use Rattle.mesh_text.specs.Runs.{events_of_piece, events_after, events_from, events_of_input, moment_after, moment_in_next, front_of_input, moment_at}
+use Rattle.mesh_text.specs.Text.{LineOutcome, On, Refused, Full, outcome_of_piece, Finished, FullAt, Written, goes_on, text_from, text_on}
+use Rattle.mesh_text.specs.Runs.{events_of_piece, events_after, events_from, events_of_input, moment_after, moment_in_next, prefix_of_input, moment_at}
 use Rattle.mesh_text.specs.Laws.{MomentIsOfRun, MomentIsLoopFree, LastLineIsOfLastMoment}
 use Rattle.mesh_text.proofs.Moments.{IsKept, opening_kept, text_kept}
 use Rattle.mesh_text.proofs.RunLaws.{run_append, NotFull, Follows, follows}
@@ -67,7 +67,7 @@ reached_more v n all rest es others parts is = record {
 Splits : Moment → ℕ → List Piece → Written → Type 0
 Splits m i pieces w = w.verdict ≡ Finished → events_from m pieces ≡ events_from m (take i pieces) ++ events_from w.after (drop i pieces)
 
-goes_splits : (m : Moment) (es : List Event) (c : Came) (i : ℕ) (pieces : List Piece)
+goes_splits : (m : Moment) (es : List Event) (c : LineOutcome) (i : ℕ) (pieces : List Piece)
     → ((n : Moment) → Splits n i pieces (text_from n (take i pieces)))
     → (goes_on m c (λ n. text_from n (take i pieces))).verdict ≡ Finished
     → es ++ events_after c (λ n. events_from n pieces)
@@ -76,14 +76,14 @@ unfolding Splits
 goes_splits m es (On text n) i pieces rest finished =
     ap (λ l. es ++ l) (rest n finished) ∙ sym (append_assoc es (events_from n (take i pieces)) _)
 goes_splits m es (Refused why) i pieces rest finished = absurd (let P : ⊥ = cc in P)
-goes_splits m es (Over text n e field) i pieces rest finished = absurd (let P : ⊥ = cc in P)
+goes_splits m es (Full text n e field) i pieces rest finished = absurd (let P : ⊥ = cc in P)
 
 splits : (m : Moment) (i : ℕ) (pieces : List Piece) → Splits m i pieces (text_from m (take i pieces))
 unfolding Splits text_from events_from
 splits m zero pieces finished = refl
 splits m (suc i) [] finished = refl
 splits m (suc i) (piece ∷ pieces) finished =
-    goes_splits m (events_of_piece m piece) (came m piece) i pieces (λ n. splits n i pieces) finished
+    goes_splits m (events_of_piece m piece) (outcome_of_piece m piece) i pieces (λ n. splits n i pieces) finished
 
 take_whole : (k : ℕ) (es : List Event) → k ≡ length es → take k es ≡ es
 take_whole k es same = ap (λ j. take j es) same ∙ ap (take (length es)) (sym (append-nil es)) ∙ take-append_seam es []
@@ -100,11 +100,11 @@ follows_reached v w es all rest finished is split =
       split = split;
     }
 
-front_reached : (v : Variant) (input : List ℕ) (i : ℕ) → (front_of_input v input i).verdict ≡ Finished
-    → IsReached v (front_of_input v input i).after (events_of_input v input) (events_from (front_of_input v input i).after (drop i (pieces_of_input input)))
+front_reached : (v : Variant) (input : List ℕ) (i : ℕ) → (prefix_of_input v input i).verdict ≡ Finished
+    → IsReached v (prefix_of_input v input i).after (events_of_input v input) (events_from (prefix_of_input v input i).after (drop i (pieces_of_input input)))
 unfolding events_of_input Splits
 front_reached v input i finished =
-    follows_reached v (front_of_input v input i) (events_from (opening v) (take i (pieces_of_input input))) (events_of_input v input) _ finished
+    follows_reached v (prefix_of_input v input i) (events_from (opening v) (take i (pieces_of_input input))) (events_of_input v input) _ finished
     (follows (opening v) (take i (pieces_of_input input)) (opening_kept v)) (splits (opening v) i (pieces_of_input input) finished)
 
 next_is : (i : ℕ) (pieces : List Piece) (p : Piece) → slice_get pieces i ≡ Some p → drop i pieces ≡ p ∷ drop (suc i) pieces
@@ -112,7 +112,7 @@ next_is i [] p is = absurd (none-some p is)
 next_is zero (q ∷ qs) p is = ap (λ x. x ∷ qs) (same_Some q p is)
 next_is (suc i) (q ∷ qs) p is = next_is i qs p is
 
-begun : (n : Moment) (p : Piece) (ps : List Piece) → events_from n (p ∷ ps) ≡ events_of_piece n p ++ events_after (came n p) (λ m. events_from m ps)
+begun : (n : Moment) (p : Piece) (ps : List Piece) → events_from n (p ∷ ps) ≡ events_of_piece n p ++ events_after (outcome_of_piece n p) (λ m. events_from m ps)
 unfolding events_from
 begun n p ps = refl
 
@@ -121,7 +121,7 @@ moment_reached : (v : Variant) (n : Moment) (all : List Event) (i k : ℕ) (piec
 moment_reached v n all i k pieces None is reached = (events_from n (drop i pieces), reached)
 moment_reached v n all i k pieces (Some p) is reached =
     let es : List Event = events_of_piece n p in
-    let others : List Event = events_after (came n p) (λ m. events_from m (drop (suc i) pieces)) in
+    let others : List Event = events_after (outcome_of_piece n p) (λ m. events_from m (drop (suc i) pieces)) in
     let parts : es ≡ take k es ++ drop k es = sym (take-append-drop k es) in
     let split : events_from n (drop i pieces) ≡ take k es ++ (drop k es ++ others) =
     ap (events_from n) (next_is i pieces p is) ∙ begun n p (drop (suc i) pieces) ∙ ap (λ l. l ++ others) parts ∙ append_assoc (take k es) (drop k es) others in
@@ -131,7 +131,7 @@ moment_reached v n all i k pieces (Some p) is reached =
 
 pub moment_is_of_run : MomentIsOfRun
 moment_is_of_run v input i k finished =
-    let there = moment_reached v (front_of_input v input i).after (events_of_input v input) i k (pieces_of_input input) (slice_get (pieces_of_input input) i) refl (front_reached v input i finished) in
+    let there = moment_reached v (prefix_of_input v input i).after (events_of_input v input) i k (pieces_of_input input) (slice_get (pieces_of_input input) i) refl (front_reached v input i finished) in
     reached_by v (moment_at v input i k) (events_of_input v input) there.0 there.1
 
 next_safe : (n : Moment) (o : Option Piece) (k : ℕ) → IsLoopSafe (world_of n) → IsLoopSafe (world_of (moment_in_next n o k))
@@ -142,24 +142,24 @@ next_safe n (Some p) k safe =
 
 pub moment_is_loop_free : MomentIsLoopFree
 moment_is_loop_free v input i k d =
-    let is : IsKept (front_of_input v input i).after = text_kept (opening v) (take i (pieces_of_input input)) (opening_kept v) in
-    no_cycle (world_of (moment_at v input i k)) d (next_safe (front_of_input v input i).after (slice_get (pieces_of_input input) i) k is.invariant.loop_safe)
+    let is : IsKept (prefix_of_input v input i).after = text_kept (opening v) (take i (pieces_of_input input)) (opening_kept v) in
+    no_cycle (world_of (moment_at v input i k)) d (next_safe (prefix_of_input v input i).after (slice_get (pieces_of_input input) i) k is.invariant.loop_safe)
 
 -- ---- the last line
 
 EndsWell : Written → Type 0
 EndsWell w = w.verdict ≡ Finished → w.last ≡ done_line w.after
 
-goes_well : (m : Moment) (c : Came) (others : Moment → Written) → ((n : Moment) → EndsWell (others n)) → EndsWell (goes_on m c others)
+goes_well : (m : Moment) (c : LineOutcome) (others : Moment → Written) → ((n : Moment) → EndsWell (others n)) → EndsWell (goes_on m c others)
 unfolding EndsWell
 goes_well m (On text n) others rest finished = rest n finished
 goes_well m (Refused why) others rest finished = absurd (let P : ⊥ = cc in P)
-goes_well m (Over text n e field) others rest finished = absurd (let P : ⊥ = cc in P)
+goes_well m (Full text n e field) others rest finished = absurd (let P : ⊥ = cc in P)
 
 ends_well : (m : Moment) (pieces : List Piece) → EndsWell (text_from m pieces)
 unfolding EndsWell text_from
 ends_well m [] finished = refl
-ends_well m (piece ∷ pieces) finished = goes_well m (came m piece) (λ n. text_from n pieces) (λ n. ends_well n pieces) finished
+ends_well m (piece ∷ pieces) finished = goes_well m (outcome_of_piece m piece) (λ n. text_from n pieces) (λ n. ends_well n pieces) finished
 
 pub last_line_is_of_last_moment : LastLineIsOfLastMoment
 unfolding EndsWell text_on

@@ -7,7 +7,8 @@ use Rattle.std.proofs.lemmas.List.Elements.{recursion_from_All}
 use Rattle.mesh_base.specs.Meshes.{Nodes, IsMesh, first_at, with_node}
 use Rattle.mesh_base.specs.declared.events.Variant.{Variant}
 use Rattle.mesh_base.proofs.Grown.{grown_is_mesh}
-use Rattle.mesh_model.specs.Worlds.{World, Event, Give, Double, Happening, CopyDoubled, Outcome, Idle, Stops, Goes, step, start, first_numbers}
+use Rattle.mesh_model.specs.Worlds as worlds
+use Rattle.mesh_model.specs.Worlds.{World, Event, Give, Double, Happening, CopyDoubled, Outcome, Idle, Next, step, start, first_numbers}
 use Rattle.mesh_model.specs.Accounts.{any, waiting, queued, in_flight, given, doubled, doubled_in, doubled_at, if_goes}
 use Rattle.mesh_model.specs.Choices.{pick}
 use Rattle.mesh_model.specs.Places.{IsEvent}
@@ -23,7 +24,7 @@ use Rattle.mesh_grammar.specs.Written.{line}
 use Rattle.mesh_text.specs.Lines.{words_of}
 use Rattle.mesh_text.specs.Ranges.{IsNewNode, IsInRange, IsInTime}
 use Rattle.mesh_text.specs.Auto as auto
-use Rattle.mesh_text.specs.Text.{Came, On, Refused, Over, came_of_event, came_of_auto, came_of_line, came_from, came, Written, goes_on, text_from, text_on, text_of_input}
+use Rattle.mesh_text.specs.Text.{LineOutcome, On, Refused, Full, outcome_of_event, outcome_of_auto, outcome_of_line, outcome_of_read, outcome_of_piece, Written, goes_on, text_from, text_on, text_of_input}
 use Rattle.mesh_text.specs.Accounts.{IsBalanced}
 use Rattle.mesh_text.specs.Laws.{EventKeepsAccount, DataAreAccountedFor, SumsAreInOrder}
 use Rattle.mesh_text.proofs.InRange.{Allowed, line_allowed}
@@ -100,8 +101,8 @@ started_kept m is = record { mesh = is.mesh; size = is.size; invariant = is.inva
 
 given_at_most : (e : Event) (o : Outcome) → given any e o ≤ if_goes o 1
 given_at_most (Give x d body) Idle = omega arith
-given_at_most (Give x d body) (Stops y field) = omega arith
-given_at_most (Give x d body) (Goes w happening) = omega arith
+given_at_most (Give x d body) (worlds.Full y field) = omega arith
+given_at_most (Give x d body) (Next w happening) = omega arith
 given_at_most others o = omega arith
 
 doubled_at_most : (h : Happening) → doubled_in h ≤ 1
@@ -111,8 +112,8 @@ doubled_at_most others = omega arith
 
 copied_at_most : (o : Outcome) → doubled_at o ≤ if_goes o 1
 copied_at_most Idle = omega arith
-copied_at_most (Stops x field) = omega arith
-copied_at_most (Goes w happening) = doubled_at_most happening
+copied_at_most (worlds.Full x field) = omega arith
+copied_at_most (Next w happening) = doubled_at_most happening
 
 not_both : (w : World) (e : Event) → given any e (step w e) + doubled any w e ≤ if_goes (step w e) 1
 not_both w (Give x d body) = omega (arith, given_at_most (Give x d body) (step w (Give x d body)))
@@ -121,8 +122,8 @@ not_both w others = omega arith
 
 goes_or_idle : (o : Outcome) → idle_by o + if_goes o 1 ≤ 1
 goes_or_idle Idle = omega arith
-goes_or_idle (Stops x field) = omega arith
-goes_or_idle (Goes w happening) = omega arith
+goes_or_idle (worlds.Full x field) = omega arith
+goes_or_idle (Next w happening) = omega arith
 
 -- an event is idle, or gives a datum, or doubles one, or none of these
 one_at_most : (w : World) (e : Event) → idle_by (step w e) + given any e (step w e) + doubled_at (step w e) ≤ 1
@@ -152,22 +153,22 @@ stepped_kept m e within is =
 
 -- ---- chosen events
 
-IsKeptRan : auto.Ran → Type 0
+IsKeptRan : auto.AutoOutcome → Type 0
 IsKeptRan (auto.Ended text did n) = IsKept n
-IsKeptRan (auto.Refused text n e field) = Unit {0}
+IsKeptRan (auto.Full text n e field) = Unit {0}
 
-before_kept : (text : List ℕ) (r : auto.Ran) → IsKeptRan r → IsKeptRan (auto.before text r)
+before_kept : (text : List ℕ) (r : auto.AutoOutcome) → IsKeptRan r → IsKeptRan (auto.before text r)
 unfolding IsKeptRan
 before_kept text (auto.Ended others did n) is = is
-before_kept text (auto.Refused others n e field) is = tt
+before_kept text (auto.Full others n e field) is = tt
 
-done_kept : (m : Moment) (e : Event) (o : Outcome) (others : Moment → auto.Ran) → IsKeptRan (others (stepped m e)) → IsKeptRan (auto.done_then m e o others)
+done_kept : (m : Moment) (e : Event) (o : Outcome) (others : Moment → auto.AutoOutcome) → IsKeptRan (others (stepped m e)) → IsKeptRan (auto.done_then m e o others)
 unfolding IsKeptRan
 done_kept m e Idle others is = before_kept _ (others (stepped m e)) is
-done_kept m e (Stops x field) others is = tt
-done_kept m e (Goes w happening) others is = before_kept _ (others (stepped m e)) is
+done_kept m e (worlds.Full x field) others is = tt
+done_kept m e (Next w happening) others is = before_kept _ (others (stepped m e)) is
 
-chosen_kept : (m : Moment) (did : ℕ) (o : Option Event) (others : Moment → auto.Ran) → IsKept m → OnSome (IsEvent (length m.mesh)) o → ((n : Moment) → IsKept n → IsKeptRan (others n)) → IsKeptRan (auto.chosen_then m did o others)
+chosen_kept : (m : Moment) (did : ℕ) (o : Option Event) (others : Moment → auto.AutoOutcome) → IsKept m → OnSome (IsEvent (length m.mesh)) o → ((n : Moment) → IsKept n → IsKeptRan (others n)) → IsKeptRan (auto.chosen_then m did o others)
 unfolding IsKeptRan OnSome
 chosen_kept m did None others is usual rest = is
 chosen_kept m did (Some e) others is usual rest = done_kept m e (outcome_at m e) others (rest (stepped m e) (stepped_kept m e usual is))
@@ -182,28 +183,28 @@ auto_kept (suc most) did m is = chosen_kept m did (pick (world_of m)) (λ n. aut
 
 -- ---- lines
 
-unfoldable pub IsKeptCame : Came → Type 0
+unfoldable pub IsKeptCame : LineOutcome → Type 0
 IsKeptCame (On text n) = IsKept n
 IsKeptCame (Refused why) = Unit {0}
-IsKeptCame (Over text n e field) = Unit {0}
+IsKeptCame (Full text n e field) = Unit {0}
 
-event_kept : (m : Moment) (e : Event) (o : Outcome) → IsKept (counted (stepped m e)) → IsKeptCame (came_of_event m e o)
+event_kept : (m : Moment) (e : Event) (o : Outcome) → IsKept (counted (stepped m e)) → IsKeptCame (outcome_of_event m e o)
 unfolding IsKeptCame
 event_kept m e Idle is = is
-event_kept m e (Stops x field) is = tt
-event_kept m e (Goes w happening) is = is
+event_kept m e (worlds.Full x field) is = tt
+event_kept m e (Next w happening) is = is
 
-ran_kept : (text : List ℕ) (r : auto.Ran) → IsKeptRan r → IsKeptCame (came_of_auto text r)
+ran_kept : (text : List ℕ) (r : auto.AutoOutcome) → IsKeptRan r → IsKeptCame (outcome_of_auto text r)
 unfolding IsKeptCame IsKeptRan
 ran_kept text (auto.Ended others did n) is = counted_kept n is
-ran_kept text (auto.Refused others n e field) is = tt
+ran_kept text (auto.Full others n e field) is = tt
 
 pub not_made : (o : Option World) → is_some o ≡ false → o ≡ None
 not_made None h = refl
 not_made (Some w) h = absurd (let P : ⊥ = cc in P)
 
-line_kept : (m : Moment) (a : Accepted) → IsInRange m.mesh a → IsInTime (is_some m.world) a → IsKept m → IsKeptCame (came_of_line m a)
-unfolding IsKeptCame came_of_line
+line_kept : (m : Moment) (a : Accepted) → IsInRange m.mesh a → IsInTime (is_some m.world) a → IsKept m → IsKeptCame (outcome_of_line m a)
+unfolding IsKeptCame outcome_of_line
 line_kept m Nothing range early is = counted_kept m is
 line_kept m (NewNode address first) range early is = grown_kept m address first (not_made m.world early) range is
 line_kept m (Does e) range early is = event_kept m e (outcome_at m e) (counted_kept (stepped m e) (stepped_kept m e range.1 is))
@@ -212,29 +213,29 @@ line_kept m (ShowsNode x) range early is = counted_kept (started m) (started_kep
 line_kept m (ShowsRoute x d) range early is = counted_kept (started m) (started_kept m is)
 line_kept m ShowsFlight range early is = counted_kept (started m) (started_kept m is)
 
-result_kept : (m : Moment) (r : Result Accepted LineFault) → Allowed m.mesh (is_some m.world) r → IsKept m → IsKeptCame (came_from m r)
+result_kept : (m : Moment) (r : Result Accepted LineFault) → Allowed m.mesh (is_some m.world) r → IsKept m → IsKeptCame (outcome_of_read m r)
 unfolding IsKeptCame Allowed
 result_kept m (Ok a) allowed is = line_kept m a allowed.0 allowed.1 is
 result_kept m (Err f) allowed is = tt
 
-pub piece_kept : (m : Moment) (piece : Piece) → IsKept m → IsKeptCame (came m piece)
-unfolding IsKeptCame came
+pub piece_kept : (m : Moment) (piece : Piece) → IsKept m → IsKeptCame (outcome_of_piece m piece)
+unfolding IsKeptCame outcome_of_piece
 piece_kept m (Whole line) is = result_kept m (line_of m.mesh (is_some m.world) line) (line_allowed m.mesh (is_some m.world) line is.mesh.few) is
 piece_kept m Long is = tt
 piece_kept m Beyond is = tt
 
 -- ---- whole runs
 
-goes_kept : (m : Moment) (c : Came) (others : Moment → Written) → IsKeptCame c → IsKept m → ((n : Moment) → IsKept n → IsKept (others n).after) → IsKept (goes_on m c others).after
+goes_kept : (m : Moment) (c : LineOutcome) (others : Moment → Written) → IsKeptCame c → IsKept m → ((n : Moment) → IsKept n → IsKept (others n).after) → IsKept (goes_on m c others).after
 unfolding IsKeptCame
-goes_kept m (On text n) others came is rest = rest n came
-goes_kept m (Refused why) others came is rest = is
-goes_kept m (Over text n e field) others came is rest = is
+goes_kept m (On text n) others outcome_of_piece is rest = rest n outcome_of_piece
+goes_kept m (Refused why) others outcome_of_piece is rest = is
+goes_kept m (Full text n e field) others outcome_of_piece is rest = is
 
 pub text_kept : (m : Moment) (pieces : List Piece) → IsKept m → IsKept (text_from m pieces).after
 unfolding text_from
 text_kept m [] is = is
-text_kept m (piece ∷ pieces) is = goes_kept m (came m piece) (λ n. text_from n pieces) (piece_kept m piece is) is (λ n kept. text_kept n pieces kept)
+text_kept m (piece ∷ pieces) is = goes_kept m (outcome_of_piece m piece) (λ n. text_from n pieces) (piece_kept m piece is) is (λ n kept. text_kept n pieces kept)
 
 pub input_kept : (v : Variant) (input : List ℕ) → IsKept (text_of_input v input).after
 unfolding text_of_input text_on

@@ -2,7 +2,7 @@
 use Rattle.std.proofs.Common.{◌≡◌, ℕ, zero, suc, ◌+◌, true, List, [], ◌∷◌, ◌++◌, codes, Option, Some, None, Result, Ok, Err, refl, ap, subst, arith, append-nil, is_some}
 use Rattle.std.specs.Prelude.{slice_get}
 use Rattle.std.specs.Fmt.{decimal}
-use Rattle.mesh_base.specs.declared.events.Full.{Full}
+use Rattle.mesh_base.specs.declared.events.Counter.{Counter}
 use Rattle.mesh_base.specs.declared.events.Variant.{Variant}
 use Rattle.mesh_base.specs.Addresses.{dotted}
 use Rattle.mesh_base.specs.Meshes.{Nodes, addr_at, with_node}
@@ -10,12 +10,13 @@ use Rattle.aodv_model.specs.Cores.{Item, Core}
 use Rattle.aodv_model.specs.Handlers.{Reaction, may_send, send, may_ask, ask}
 use Rattle.aodv_model.specs.Fullness.{send_full, ask_full}
 use Rattle.aodv_model.proofs.Entries.{if_case}
-use Rattle.mesh_model.specs.Worlds.{World, Node, Copy, Event, Give, Turn, Send, Ask, Link, Cut, Deliver, Lose, Double, Outcome, Idle, Stops, Goes, Sent, range, copies, done_by, are_linked, find_copy, send_of, ask_of, unless_full, at_node, at_copy, step}
+use Rattle.mesh_model.specs.Worlds as worlds
+use Rattle.mesh_model.specs.Worlds.{World, Node, Copy, Event, Give, Turn, Send, Ask, Link, Cut, Deliver, Lose, Double, Outcome, Idle, Next, Sent, range, copies, done_by, are_linked, find_copy, send_of, ask_of, unless_full, at_node, at_copy, step}
 use Rattle.mesh_model.specs.Accounts.{any, delivered_at, delivered, dropped}
 use Rattle.mesh_model.specs.Choices.{pick, IsChoice}
 use Rattle.mesh_model.specs.Routes.{route_end}
 use Rattle.mesh_model.proofs.Chosen.{pick_is_enabled}
-use Rattle.mesh_meaning.specs.Events.{place_of}
+use Rattle.mesh_meaning.specs.Events.{node_of}
 use Rattle.mesh_grammar.specs.declared.fault.LineFault.{LineFault}
 use Rattle.mesh_grammar.specs.Lines.{Piece, Whole, Long, Beyond}
 use Rattle.mesh_grammar.specs.Written.{line, written}
@@ -25,7 +26,7 @@ use Rattle.mesh_text.specs.Effects.{outcome_text, outcome_lines}
 use Rattle.mesh_text.specs.Tables.{node_text_in, end_text, flight_text}
 use Rattle.mesh_text.specs.Ranges.{IsEventLine, IsInRange}
 use Rattle.mesh_text.specs.Auto as auto
-use Rattle.mesh_text.specs.Text.{Came, On, Refused, Over, came_of_event, came_of_auto, came_of_line, came_from, came, Written, goes_on, text_from, text_on, text_of_input}
+use Rattle.mesh_text.specs.Text.{LineOutcome, On, Refused, Full, outcome_of_event, outcome_of_auto, outcome_of_line, outcome_of_read, outcome_of_piece, Written, goes_on, text_from, text_on, text_of_input}
 use Rattle.mesh_text.specs.Laws.{DataAreNamed}
 use Rattle.mesh_text.proofs.InRange.{Allowed, line_allowed}
 use Rattle.mesh_text.proofs.Picks.{OnSome}
@@ -50,7 +51,7 @@ unfolding NoDelivery
 copy_none f None each = λ x. refl
 copy_none f (Some c) each = each c
 
-unless_none : (x : ℕ) (full : Option Full) (o : Outcome) → NoDelivery o → NoDelivery (unless_full x full o)
+unless_none : (x : ℕ) (full : Option Counter) (o : Outcome) → NoDelivery o → NoDelivery (unless_full x full o)
 unfolding NoDelivery
 unless_none x None o h = h
 unless_none x (Some f) o h = λ y. refl
@@ -59,18 +60,18 @@ send_none : (w : World) (x d : ℕ) (core : Core) (queue : List Item) → NoDeli
 unfolding NoDelivery
 send_none w x d core queue =
     let did : Reaction = send core (range w x) d in
-    let goes : Outcome = Goes (done_by w x did queue) (Sent did.effect (copies w x (did.effect).cast)) in
+    let goes : Outcome = Next (done_by w x did queue) (Sent did.effect (copies w x (did.effect).cast)) in
     if_case NoDelivery (may_send core d) (unless_full x (send_full core (range w x) d) goes) Idle (λ _. unless_none x (send_full core (range w x) d) goes (λ y. refl)) (λ _ y. refl)
 
 ask_none : (w : World) (x d : ℕ) (core : Core) (queue : List Item) → NoDelivery (ask_of w x d core queue)
 unfolding NoDelivery
 ask_none w x d core queue =
     let did : Reaction = ask core d in
-    let goes : Outcome = Goes (done_by w x did queue) (Sent did.effect (copies w x (did.effect).cast)) in
+    let goes : Outcome = Next (done_by w x did queue) (Sent did.effect (copies w x (did.effect).cast)) in
     if_case NoDelivery (may_ask core d) (unless_full x (ask_full core) goes) Idle (λ _. unless_none x (ask_full core) goes (λ y. refl)) (λ _ y. refl)
 
 -- what an event delivers, at the node at which it is
-delivered_here : (w : World) (e : Event) → delivered_at any (place_of e) (step w e) ≡ delivered any e (step w e)
+delivered_here : (w : World) (e : Event) → delivered_at any (node_of e) (step w e) ≡ delivered any e (step w e)
 unfolding step NoDelivery
 delivered_here w (Give x d b) = node_none _ (slice_get w.nodes x) (λ core queue y. refl) x
 delivered_here w (Turn x) = refl
@@ -111,8 +112,8 @@ event_silent mesh (Double id) clean = silent_line (event_words mesh (Double id))
 
 outcome_told : (mesh : Nodes) (x : ℕ) (e : Event) (o : Outcome) → Tells (delivered_at any x o) (dropped any e o) (outcome_text mesh x o)
 outcome_told mesh x e Idle = silent_line (codes "  idle") refl refl refl
-outcome_told mesh x e (Stops y field) = tells_none
-outcome_told mesh x e (Goes w happening) = happening_told mesh x happening
+outcome_told mesh x e (worlds.Full y field) = tells_none
+outcome_told mesh x e (Next w happening) = happening_told mesh x happening
 
 -- from m to n by a text
 record Told (m n : Moment) (text : List ℕ) : Type 0 where
@@ -143,30 +144,30 @@ event_told m e clean =
     record {
       d = delivered any e o;
       x = dropped any e o;
-      tells = silent_before (delivered any e o) (dropped any e o) (line (event_words m.mesh e)) (outcome_text m.mesh (place_of e) o)
+      tells = silent_before (delivered any e o) (dropped any e o) (line (event_words m.mesh e)) (outcome_text m.mesh (node_of e) o)
           (event_silent m.mesh e clean)
-          (subst (λ d. Tells d (dropped any e o) (outcome_text m.mesh (place_of e) o)) (delivered_here (world_of m) e) (outcome_told m.mesh (place_of e) e o));
+          (subst (λ d. Tells d (dropped any e o) (outcome_text m.mesh (node_of e) o)) (delivered_here (world_of m) e) (outcome_told m.mesh (node_of e) e o));
       delivered = refl;
       lost = refl;
     }
 
 -- ---- chosen events
 
-ToldRan : Moment → auto.Ran → Type 0
+ToldRan : Moment → auto.AutoOutcome → Type 0
 ToldRan m (auto.Ended text did n) = Told m n text
-ToldRan m (auto.Refused text n e field) = Unit {0}
+ToldRan m (auto.Full text n e field) = Unit {0}
 
-before_told : (m n : Moment) (text : List ℕ) (r : auto.Ran) → Told m n text → ToldRan n r → ToldRan m (auto.before text r)
+before_told : (m n : Moment) (text : List ℕ) (r : auto.AutoOutcome) → Told m n text → ToldRan n r → ToldRan m (auto.before text r)
 unfolding ToldRan
 before_told m n text (auto.Ended others did k) first is = told_then m n k text others first is
-before_told m n text (auto.Refused others k e field) first is = tt
+before_told m n text (auto.Full others k e field) first is = tt
 
-done_told : (m : Moment) (e : Event) (o : Outcome) (others : Moment → auto.Ran) → Told m (stepped m e) (outcome_lines m.mesh e o) → ToldRan (stepped m e) (others (stepped m e))
+done_told : (m : Moment) (e : Event) (o : Outcome) (others : Moment → auto.AutoOutcome) → Told m (stepped m e) (outcome_lines m.mesh e o) → ToldRan (stepped m e) (others (stepped m e))
     → ToldRan m (auto.done_then m e o others)
 unfolding ToldRan
 done_told m e Idle others first is = before_told m (stepped m e) _ (others (stepped m e)) first is
-done_told m e (Stops x field) others first is = tt
-done_told m e (Goes w happening) others first is = before_told m (stepped m e) _ (others (stepped m e)) first is
+done_told m e (worlds.Full x field) others first is = tt
+done_told m e (Next w happening) others first is = before_told m (stepped m e) _ (others (stepped m e)) first is
 
 choice_clean : (e : Event) → IsChoice e → HasCleanBody e
 choice_clean (Give x d body) choice = absurd choice
@@ -180,7 +181,7 @@ picked_clean w = by (pick w) refl
     by None is = tt
     by (Some e) is = choice_clean e (pick_is_enabled w e is).0
 
-chosen_told : (m : Moment) (did : ℕ) (o : Option Event) (others : Moment → auto.Ran) → OnSome HasCleanBody o → ((n : Moment) → ToldRan n (others n)) → ToldRan m (auto.chosen_then m did o others)
+chosen_told : (m : Moment) (did : ℕ) (o : Option Event) (others : Moment → auto.AutoOutcome) → OnSome HasCleanBody o → ((n : Moment) → ToldRan n (others n)) → ToldRan m (auto.chosen_then m did o others)
 unfolding ToldRan OnSome
 chosen_told m did None others clean rest = silent_told m m [] tells_none refl refl
 chosen_told m did (Some e) others clean rest = done_told m e (outcome_at m e) others (event_told m e clean) (rest (stepped m e))
@@ -192,18 +193,18 @@ auto_told (suc most) did m = chosen_told m did (pick (world_of m)) (λ n. auto.a
 
 -- ---- a line
 
-ToldCame : Moment → Came → Type 0
+ToldCame : Moment → LineOutcome → Type 0
 ToldCame m (On text n) = Told m n text
 ToldCame m (Refused why) = Unit {0}
-ToldCame m (Over text n e field) = Unit {0}
+ToldCame m (Full text n e field) = Unit {0}
 
-came_event_told : (m : Moment) (e : Event) (o : Outcome) → Told m (stepped m e) (outcome_lines m.mesh e o) → ToldCame m (came_of_event m e o)
+came_event_told : (m : Moment) (e : Event) (o : Outcome) → Told m (stepped m e) (outcome_lines m.mesh e o) → ToldCame m (outcome_of_event m e o)
 unfolding ToldCame
 came_event_told m e Idle is = record { d = is.d; x = is.x; tells = is.tells; delivered = is.delivered; lost = is.lost }
-came_event_told m e (Stops x field) is = tt
-came_event_told m e (Goes w happening) is = record { d = is.d; x = is.x; tells = is.tells; delivered = is.delivered; lost = is.lost }
+came_event_told m e (worlds.Full x field) is = tt
+came_event_told m e (Next w happening) is = record { d = is.d; x = is.x; tells = is.tells; delivered = is.delivered; lost = is.lost }
 
-ran_told : (m : Moment) (text : List ℕ) (r : auto.Ran) → Tells 0 0 text → ToldRan (started m) r → ToldCame m (came_of_auto text r)
+ran_told : (m : Moment) (text : List ℕ) (r : auto.AutoOutcome) → Tells 0 0 text → ToldRan (started m) r → ToldCame m (outcome_of_auto text r)
 unfolding ToldCame ToldRan
 ran_told m text (auto.Ended others did n) silent is =
     let end : Tells 0 0 (auto.auto_end did) = silent_line (codes "auto did " ++ decimal did) (decimal_clean did) refl refl in
@@ -214,7 +215,7 @@ ran_told m text (auto.Ended others did n) silent is =
       delivered = is.delivered;
       lost = is.lost;
     }
-ran_told m text (auto.Refused others n e field) silent is = tt
+ran_told m text (auto.Full others n e field) silent is = tt
 
 event_line_clean : (mesh : Nodes) (e : Event) → IsEventLine mesh e → HasCleanBody e
 event_line_clean mesh (Give x d body) range = clean_body body range.2.2
@@ -224,8 +225,8 @@ node_words_clean : (address first : ℕ) → is_clean (dotted address ++ codes "
 node_words_clean address first =
     clean_append (dotted address ++ codes " sn ") (decimal first) (clean_append (dotted address) (codes " sn ") (dotted_clean address) refl) (decimal_clean first)
 
-line_told : (m : Moment) (a : Accepted) → IsInRange m.mesh a → ToldCame m (came_of_line m a)
-unfolding ToldCame came_of_line words_of written
+line_told : (m : Moment) (a : Accepted) → IsInRange m.mesh a → ToldCame m (outcome_of_line m a)
+unfolding ToldCame outcome_of_line words_of written
 line_told m Nothing range = silent_told m (counted m) [] tells_none refl refl
 line_told m (NewNode address first) range =
     silent_told m (counted (record m { mesh = with_node m.mesh address first })) (line (words_of m.mesh (NewNode address first)))
@@ -250,13 +251,13 @@ line_told m ShowsFlight range =
     (silent_append (line (words_of m.mesh ShowsFlight)) shown
     (silent_line (words_of m.mesh ShowsFlight) refl refl refl) (flight_silent m.mesh (world_of m).flying)) refl refl
 
-read_told : (m : Moment) (r : Result Accepted LineFault) → Allowed m.mesh (is_some m.world) r → ToldCame m (came_from m r)
+read_told : (m : Moment) (r : Result Accepted LineFault) → Allowed m.mesh (is_some m.world) r → ToldCame m (outcome_of_read m r)
 unfolding ToldCame Allowed
 read_told m (Ok a) allowed = line_told m a allowed.0
 read_told m (Err f) allowed = tt
 
-piece_told : (m : Moment) (piece : Piece) → IsKept m → ToldCame m (came m piece)
-unfolding ToldCame came
+piece_told : (m : Moment) (piece : Piece) → IsKept m → ToldCame m (outcome_of_piece m piece)
+unfolding ToldCame outcome_of_piece
 piece_told m (Whole line) is = read_told m (line_of m.mesh (is_some m.world) line) (line_allowed m.mesh (is_some m.world) line is.mesh.few)
 piece_told m Long is = tt
 piece_told m Beyond is = tt
@@ -266,17 +267,17 @@ piece_told m Beyond is = tt
 ToldRun : Moment → Written → Type 0
 ToldRun m w = NotFull w.verdict → Told m w.after w.lines
 
-goes_told : (m : Moment) (c : Came) (others : Moment → Written) → ToldCame m c → IsKeptCame c → ((n : Moment) → IsKept n → ToldRun n (others n)) → ToldRun m (goes_on m c others)
+goes_told : (m : Moment) (c : LineOutcome) (others : Moment → Written) → ToldCame m c → IsKeptCame c → ((n : Moment) → IsKept n → ToldRun n (others n)) → ToldRun m (goes_on m c others)
 unfolding ToldCame IsKeptCame ToldRun NotFull
 goes_told m (On text n) others is kept rest not_full = told_then m n (others n).after text (others n).lines is (rest n kept not_full)
 goes_told m (Refused why) others is kept rest not_full = silent_told m m [] tells_none refl refl
-goes_told m (Over text n e field) others is kept rest not_full = absurd (not_full (m.lines + 1) refl)
+goes_told m (Full text n e field) others is kept rest not_full = absurd (not_full (m.lines + 1) refl)
 
 text_told : (m : Moment) (pieces : List Piece) → IsKept m → ToldRun m (text_from m pieces)
 unfolding ToldRun text_from
 text_told m [] is not_full = silent_told m m [] tells_none refl refl
 text_told m (piece ∷ pieces) is not_full =
-    goes_told m (came m piece) (λ n. text_from n pieces) (piece_told m piece is) (piece_kept m piece is) (λ n kept. text_told n pieces kept) not_full
+    goes_told m (outcome_of_piece m piece) (λ n. text_from n pieces) (piece_told m piece is) (piece_kept m piece is) (λ n kept. text_told n pieces kept) not_full
 
 told_whole : (v : Variant) (n : Moment) (text : List ℕ) → Told (opening v) n text → (deliveries text ≡ n.sums.delivered) × (drops text ≡ n.sums.lost)
 told_whole v n text is =

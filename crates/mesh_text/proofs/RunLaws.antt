@@ -6,7 +6,8 @@ use Rattle.std.specs.Option.{unwrap_or}
 use Rattle.std.specs.List.{AllByRecursion}
 use Rattle.mesh_base.specs.Meshes.{Nodes}
 use Rattle.mesh_base.specs.declared.events.Variant.{Variant}
-use Rattle.mesh_model.specs.Worlds.{World, Event, Outcome, Idle, Stops, Goes, step, after, run, start, first_numbers}
+use Rattle.mesh_model.specs.Worlds as worlds
+use Rattle.mesh_model.specs.Worlds.{World, Event, Outcome, Idle, Next, step, after, run, start, first_numbers}
 use Rattle.mesh_model.specs.Choices.{pick}
 use Rattle.mesh_model.specs.Places.{IsEvent}
 use Rattle.mesh_model.proofs.Lists.{each_append}
@@ -19,7 +20,7 @@ use Rattle.mesh_grammar.specs.Written.{line}
 use Rattle.mesh_text.specs.Lines.{words_of}
 use Rattle.mesh_text.specs.Ranges.{IsInRange, IsInTime}
 use Rattle.mesh_text.specs.Auto as auto
-use Rattle.mesh_text.specs.Text.{Came, On, Refused, Over, came_of_event, came_of_auto, came_of_line, came_from, came, Verdict, FullAt, Written, goes_on, text_from, text_on, text_of_input}
+use Rattle.mesh_text.specs.Text.{LineOutcome, On, Refused, Full, outcome_of_event, outcome_of_auto, outcome_of_line, outcome_of_read, outcome_of_piece, Verdict, FullAt, Written, goes_on, text_from, text_on, text_of_input}
 use Rattle.mesh_text.specs.Runs.{event_then, choice_then, events_chosen, events_of_line, events_read, events_of_piece, events_after, events_from, events_of_input, mesh_of_input, world_after}
 use Rattle.mesh_text.specs.Laws.{RunIsRunOfEvents, AllEventsCount, EventsAreOfMesh, RunsAreLoopFree, RunKeepsInvariant}
 use Rattle.mesh_text.proofs.InRange.{Allowed, line_allowed}
@@ -42,34 +43,34 @@ run_one w e = refl
 -- ---- chosen events
 
 -- from m to n by these events
-record Ran (m n : Moment) (es : List Event) : Type 0 where
+record AutoOutcome (m n : Moment) (es : List Event) : Type 0 where
   variant : n.variant ≡ m.variant
   mesh : n.mesh ≡ m.mesh
   made : is_some n.world ≡ true
   world : world_of n ≡ run (world_of m) es
   count : n.sums.events ≡ m.sums.events + length es
 
-ran_more : (m : Moment) (e : Event) (n : Moment) (es : List Event) → Ran (stepped m e) n es → Ran m n (e ∷ es)
+ran_more : (m : Moment) (e : Event) (n : Moment) (es : List Event) → AutoOutcome (stepped m e) n es → AutoOutcome m n (e ∷ es)
 unfolding stepped run
 ran_more m e n es is = record { variant = is.variant; mesh = is.mesh; made = is.made; world = is.world; count = let count = is.count in omega arith }
 
-RanTo : Moment → auto.Ran → List Event → Type 0
-RanTo m (auto.Ended text did n) es = Ran m n es
-RanTo m (auto.Refused text n e field) es = Unit {0}
+RanTo : Moment → auto.AutoOutcome → List Event → Type 0
+RanTo m (auto.Ended text did n) es = AutoOutcome m n es
+RanTo m (auto.Full text n e field) es = Unit {0}
 
-ran_before : (m : Moment) (e : Event) (text : List ℕ) (r : auto.Ran) (es : List Event) → RanTo (stepped m e) r es → RanTo m (auto.before text r) (e ∷ es)
+ran_before : (m : Moment) (e : Event) (text : List ℕ) (r : auto.AutoOutcome) (es : List Event) → RanTo (stepped m e) r es → RanTo m (auto.before text r) (e ∷ es)
 unfolding RanTo
 ran_before m e text (auto.Ended others did n) es is = ran_more m e n es is
-ran_before m e text (auto.Refused others n f field) es is = tt
+ran_before m e text (auto.Full others n f field) es is = tt
 
-done_ran : (m : Moment) (e : Event) (o : Outcome) (others : Moment → auto.Ran) (more : Moment → List Event) → RanTo (stepped m e) (others (stepped m e)) (more (stepped m e))
+done_ran : (m : Moment) (e : Event) (o : Outcome) (others : Moment → auto.AutoOutcome) (more : Moment → List Event) → RanTo (stepped m e) (others (stepped m e)) (more (stepped m e))
     → RanTo m (auto.done_then m e o others) (event_then m e o more)
 unfolding RanTo
 done_ran m e Idle others more is = ran_before m e _ (others (stepped m e)) (more (stepped m e)) is
-done_ran m e (Stops x field) others more is = tt
-done_ran m e (Goes w happening) others more is = ran_before m e _ (others (stepped m e)) (more (stepped m e)) is
+done_ran m e (worlds.Full x field) others more is = tt
+done_ran m e (Next w happening) others more is = ran_before m e _ (others (stepped m e)) (more (stepped m e)) is
 
-chosen_ran : (m : Moment) (did : ℕ) (o : Option Event) (others : Moment → auto.Ran) (more : Moment → List Event) → is_some m.world ≡ true
+chosen_ran : (m : Moment) (did : ℕ) (o : Option Event) (others : Moment → auto.AutoOutcome) (more : Moment → List Event) → is_some m.world ≡ true
     → ((e : Event) → RanTo (stepped m e) (others (stepped m e)) (more (stepped m e))) → RanTo m (auto.chosen_then m did o others) (choice_then m o more)
 unfolding RanTo
 chosen_ran m did None others more made rest = record { variant = refl; mesh = refl; made = made; world = sym (run_none (world_of m)); count = omega arith }
@@ -94,8 +95,8 @@ UsualList size es = AllByRecursion (IsEvent size) es
 event_usual : (m : Moment) (e : Event) (o : Outcome) (more : Moment → List Event) → IsEvent (length m.mesh) e → UsualList (length m.mesh) (more (stepped m e)) → UsualList (length m.mesh) (event_then m e o more)
 unfolding UsualList
 event_usual m e Idle more one rest = (one, rest)
-event_usual m e (Stops x field) more one rest = (one, tt)
-event_usual m e (Goes w happening) more one rest = (one, rest)
+event_usual m e (worlds.Full x field) more one rest = (one, tt)
+event_usual m e (Next w happening) more one rest = (one, rest)
 
 choice_usual : (m : Moment) (o : Option Event) (more : Moment → List Event) → OnSome (IsEvent (length m.mesh)) o → ((e : Event) → IsEvent (length m.mesh) e → UsualList (length m.mesh) (more (stepped m e)))
     → UsualList (length m.mesh) (choice_then m o more)
@@ -145,23 +146,23 @@ record Quiet (m n : Moment) (es : List Event) : Type 0 where
   none : es ≡ []
   count : n.sums.events ≡ m.sums.events
 
-GoesBy : Moment → List Event → Came → Type 0
-GoesBy m es (On text n) = Quiet m n es ⊎ Ran m n es
+GoesBy : Moment → List Event → LineOutcome → Type 0
+GoesBy m es (On text n) = Quiet m n es ⊎ AutoOutcome m n es
 GoesBy m es (Refused why) = es ≡ []
-GoesBy m es (Over text n e field) = Unit {0}
+GoesBy m es (Full text n e field) = Unit {0}
 
-event_goes : (m : Moment) (e : Event) (o : Outcome) → GoesBy m (e ∷ []) (came_of_event m e o)
+event_goes : (m : Moment) (e : Event) (o : Outcome) → GoesBy m (e ∷ []) (outcome_of_event m e o)
 unfolding GoesBy stepped run
 event_goes m e Idle = inr (record { variant = refl; mesh = refl; made = refl; world = refl; count = refl })
-event_goes m e (Stops x field) = tt
-event_goes m e (Goes w happening) = inr (record { variant = refl; mesh = refl; made = refl; world = refl; count = refl })
+event_goes m e (worlds.Full x field) = tt
+event_goes m e (Next w happening) = inr (record { variant = refl; mesh = refl; made = refl; world = refl; count = refl })
 
-auto_goes : (m : Moment) (text : List ℕ) (r : auto.Ran) (es : List Event) → RanTo m r es → GoesBy m es (came_of_auto text r)
+auto_goes : (m : Moment) (text : List ℕ) (r : auto.AutoOutcome) (es : List Event) → RanTo m r es → GoesBy m es (outcome_of_auto text r)
 unfolding GoesBy RanTo
 auto_goes m text (auto.Ended others did n) es is = inr (record { variant = is.variant; mesh = is.mesh; made = is.made; world = is.world; count = is.count })
-auto_goes m text (auto.Refused others n e field) es is = tt
+auto_goes m text (auto.Full others n e field) es is = tt
 
-start_goes : (m : Moment) (es : List Event) (c : Came) → GoesBy (started m) es c → GoesBy m es c
+start_goes : (m : Moment) (es : List Event) (c : LineOutcome) → GoesBy (started m) es c → GoesBy m es c
 unfolding GoesBy
 start_goes m es (On text n) (inl is) =
     let same : n.world ≡ Some (world_of m) = is.world in
@@ -174,30 +175,30 @@ start_goes m es (On text n) (inl is) =
     })
 start_goes m es (On text n) (inr is) = inr (record { variant = is.variant; mesh = is.mesh; made = is.made; world = is.world; count = is.count })
 start_goes m es (Refused why) is = is
-start_goes m es (Over text n e field) is = tt
+start_goes m es (Full text n e field) is = tt
 
-shown : (m : Moment) → Ran m (counted (started m)) []
+shown : (m : Moment) → AutoOutcome m (counted (started m)) []
 shown m = record { variant = refl; mesh = refl; made = refl; world = sym (run_none (world_of m)); count = omega arith }
 
-line_goes : (m : Moment) (a : Accepted) → IsInTime (is_some m.world) a → GoesBy m (events_of_line m a) (came_of_line m a)
-unfolding GoesBy came_of_line
+line_goes : (m : Moment) (a : Accepted) → IsInTime (is_some m.world) a → GoesBy m (events_of_line m a) (outcome_of_line m a)
+unfolding GoesBy outcome_of_line
 line_goes m Nothing early = inl (record { variant = refl; mesh = λ _. refl; world = refl; none = refl; count = refl })
 line_goes m (NewNode address first) early = inl (record { variant = refl; mesh = λ made. absurd (let clash : true ≡ false = sym made ∙ early in let P : ⊥ = cc in P); world = refl; none = refl; count = refl })
 line_goes m (Does e) early = event_goes m e (outcome_at m e)
 line_goes m (Chooses count) early =
-    start_goes m (events_chosen count (started m)) (came_of_auto (line (words_of m.mesh (Chooses count))) (auto.auto_from count 0 (started m)))
+    start_goes m (events_chosen count (started m)) (outcome_of_auto (line (words_of m.mesh (Chooses count))) (auto.auto_from count 0 (started m)))
     (auto_goes (started m) (line (words_of m.mesh (Chooses count))) (auto.auto_from count 0 (started m)) (events_chosen count (started m)) (auto_ran count 0 (started m) refl))
 line_goes m (ShowsNode x) early = inr (shown m)
 line_goes m (ShowsRoute x d) early = inr (shown m)
 line_goes m ShowsFlight early = inr (shown m)
 
-result_goes : (m : Moment) (r : Result Accepted LineFault) → Allowed m.mesh (is_some m.world) r → GoesBy m (events_read m r) (came_from m r)
+result_goes : (m : Moment) (r : Result Accepted LineFault) → Allowed m.mesh (is_some m.world) r → GoesBy m (events_read m r) (outcome_of_read m r)
 unfolding Allowed GoesBy
 result_goes m (Ok a) allowed = line_goes m a allowed.1
 result_goes m (Err f) allowed = refl
 
-piece_goes : (m : Moment) (piece : Piece) → IsKept m → GoesBy m (events_of_piece m piece) (came m piece)
-unfolding came GoesBy
+piece_goes : (m : Moment) (piece : Piece) → IsKept m → GoesBy m (events_of_piece m piece) (outcome_of_piece m piece)
+unfolding outcome_of_piece GoesBy
 piece_goes m (Whole line) is = result_goes m (line_of m.mesh (is_some m.world) line) (line_allowed m.mesh (is_some m.world) line is.mesh.few)
 piece_goes m Long is = refl
 piece_goes m Beyond is = refl
@@ -258,7 +259,7 @@ quiet_follows m n es more w quiet rest =
     })
 
 -- after a line with events
-ran_follows : (m n : Moment) (es more : List Event) (w : Written) → Ran m n es → UsualList (length m.mesh) es → Follows n more w → Follows m (es ++ more) w
+ran_follows : (m n : Moment) (es more : List Event) (w : Written) → AutoOutcome m n es → UsualList (length m.mesh) es → Follows n more w → Follows m (es ++ more) w
 unfolding UsualList
 ran_follows m n es more w ran usual rest =
     let count : n.sums.events ≡ m.sums.events + length es = ran.count in
@@ -278,7 +279,7 @@ ran_follows m n es more w ran usual rest =
       usual = each_append (IsEvent (length w.after.mesh)) es more (subst (λ j. AllByRecursion (IsEvent j) es) (ap length (sym mesh)) usual) rest.usual;
     }
 
-goes_follows : (m : Moment) (es : List Event) (c : Came) (others : Moment → Written) (more : Moment → List Event) → GoesBy m es c → IsKeptCame c → UsualList (length m.mesh) es
+goes_follows : (m : Moment) (es : List Event) (c : LineOutcome) (others : Moment → Written) (more : Moment → List Event) → GoesBy m es c → IsKeptCame c → UsualList (length m.mesh) es
     → ((n : Moment) → IsKept n → Follows n (more n) (others n)) → Follows m (es ++ events_after c more) (goes_on m c others)
 unfolding GoesBy IsKeptCame NotFull
 goes_follows m es (On text n) others more (inl quiet) kept usual rest =
@@ -290,16 +291,16 @@ goes_follows m es (On text n) others more (inr ran) kept usual rest =
 goes_follows m es (Refused why) others more none kept usual rest =
     let alone : es ++ [] ≡ es = append-nil es in
     subst (λ l. Follows m l (goes_on m (Refused why) others)) (sym alone) (ends_at m es (goes_on m (Refused why) others) refl usual (λ _. none))
-goes_follows m es (Over text n e field) others more goes kept usual rest =
+goes_follows m es (Full text n e field) others more goes kept usual rest =
     let alone : es ++ [] ≡ es = append-nil es in
-    subst (λ l. Follows m l (goes_on m (Over text n e field) others)) (sym alone)
-    (ends_at m es (goes_on m (Over text n e field) others) refl usual (λ not_full. absurd (not_full (m.lines + 1) refl)))
+    subst (λ l. Follows m l (goes_on m (Full text n e field) others)) (sym alone)
+    (ends_at m es (goes_on m (Full text n e field) others) refl usual (λ not_full. absurd (not_full (m.lines + 1) refl)))
 
 pub follows : (m : Moment) (pieces : List Piece) → IsKept m → Follows m (events_from m pieces) (text_from m pieces)
 unfolding events_from text_from UsualList
 follows m [] is = ends_at m [] (text_from m []) refl tt (λ _. refl)
 follows m (piece ∷ pieces) is =
-    goes_follows m (events_of_piece m piece) (came m piece) (λ n. text_from n pieces) (λ n. events_from n pieces) (piece_goes m piece is) (piece_kept m piece is) (piece_usual m piece is)
+    goes_follows m (events_of_piece m piece) (outcome_of_piece m piece) (λ n. text_from n pieces) (λ n. events_from n pieces) (piece_goes m piece is) (piece_kept m piece is) (piece_usual m piece is)
     (λ n kept. follows n pieces kept)
 
 input_follows : (v : Variant) (input : List ℕ) → Follows (opening v) (events_of_input v input) (text_of_input v input)

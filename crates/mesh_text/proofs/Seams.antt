@@ -9,7 +9,7 @@ use Rattle.mesh_base.specs.declared.limits.TheConstants.{LONGEST_INPUT}
 use Rattle.mesh_base.specs.Parts.{parts}
 use Rattle.mesh_grammar.specs.Lines.{Piece, piece_of, pieces_of, pieces_of_input, complete, complete_parts}
 use Rattle.mesh_text.specs.Schedule.{Moment}
-use Rattle.mesh_text.specs.Text.{Came, On, Refused, Over, came, Finished, Written, lines_before, goes_on, text_from, text_on}
+use Rattle.mesh_text.specs.Text.{LineOutcome, On, Refused, Full, outcome_of_piece, Finished, Written, lines_before, goes_on, text_from, text_on}
 use Rattle.mesh_text.specs.Laws.{RunGoesOn}
 
 -- ---- parts
@@ -111,7 +111,7 @@ pieces_seam a b whole few =
 GoesOn : Moment → Written → List Piece → List Piece → Type 0
 GoesOn m w ps qs = w.verdict ≡ Finished → text_from m (ps ++ qs) ≡ lines_before w.lines (text_from w.after qs)
 
-came_goes_on : (m : Moment) (c : Came) (ps qs : List Piece) → ((n : Moment) → GoesOn n (text_from n ps) ps qs)
+came_goes_on : (m : Moment) (c : LineOutcome) (ps qs : List Piece) → ((n : Moment) → GoesOn n (text_from n ps) ps qs)
     → (goes_on m c (λ n. text_from n ps)).verdict ≡ Finished
     → goes_on m c (λ n. text_from n (ps ++ qs))
     ≡ lines_before (goes_on m c (λ n. text_from n ps)).lines (text_from (goes_on m c (λ n. text_from n ps)).after qs)
@@ -121,12 +121,12 @@ came_goes_on m (On text n) ps qs rest finished =
     let v : Written = text_from w.after qs in
     ap (lines_before text) (rest n finished) ∙ ap (λ l. record v { lines = l }) (sym (append_assoc text w.lines v.lines))
 came_goes_on m (Refused why) ps qs rest finished = absurd (let P : ⊥ = cc in P)
-came_goes_on m (Over text n e field) ps qs rest finished = absurd (let P : ⊥ = cc in P)
+came_goes_on m (Full text n e field) ps qs rest finished = absurd (let P : ⊥ = cc in P)
 
 goes_on_from : (m : Moment) (ps qs : List Piece) → GoesOn m (text_from m ps) ps qs
 unfolding GoesOn text_from
 goes_on_from m [] qs finished = refl
-goes_on_from m (p ∷ ps) qs finished = came_goes_on m (came m p) ps qs (λ n. goes_on_from n ps qs) finished
+goes_on_from m (p ∷ ps) qs finished = came_goes_on m (outcome_of_piece m p) ps qs (λ n. goes_on_from n ps qs) finished
 
 pub run_goes_on : RunGoesOn
 unfolding text_on GoesOn

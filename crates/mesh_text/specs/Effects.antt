@@ -5,8 +5,9 @@ use Rattle.mesh_base.specs.Members.{NodeIds}
 use Rattle.mesh_base.specs.Meshes.{Nodes}
 use Rattle.aodv_model.specs.Cores.{Body, Message, Pkt, Rreq, Rrep, Rerr}
 use Rattle.aodv_model.specs.Handlers.{Cast, Nothing, One, Many, All, Effect, Took, Own, Stored, FromNeighbour}
-use Rattle.mesh_model.specs.Worlds.{Copy, Event, Happening, Changed, Taken, Sent, CopyHeard, CopyLost, CopyDoubled, Outcome, Idle, Stops, Goes, members_below}
-use Rattle.mesh_meaning.specs.Events.{place_of}
+use Rattle.mesh_model.specs.Worlds as worlds
+use Rattle.mesh_model.specs.Worlds.{Copy, Event, Happening, Changed, Taken, Sent, CopyHeard, CopyLost, CopyDoubled, Outcome, Idle, Next, members_below}
+use Rattle.mesh_meaning.specs.Events.{node_of}
 use Rattle.mesh_meaning.specs.Packets.{packet_of}
 use Rattle.mesh_grammar.specs.Written.{line, labelled}
 use Rattle.mesh_text.specs.Lines.{name_of, hex, hex_byte, event_words}
@@ -121,9 +122,9 @@ happening_text mesh x (CopyDoubled id to parcel) =
 -- what came of an event at node x. A refused event isn't written
 abbrev pub outcome_text : Nodes → ℕ → Outcome → List ℕ
 outcome_text mesh x Idle = line (codes "  idle")
-outcome_text mesh x (Stops node field) = []
-outcome_text mesh x (Goes w happening) = happening_text mesh x happening
+outcome_text mesh x (worlds.Full node field) = []
+outcome_text mesh x (Next w happening) = happening_text mesh x happening
 
 -- an event, and below it what came of it
 unfoldable pub outcome_lines : Nodes → Event → Outcome → List ℕ
-outcome_lines mesh e o = line (event_words mesh e) ++ outcome_text mesh (place_of e) o
+outcome_lines mesh e o = line (event_words mesh e) ++ outcome_text mesh (node_of e) o

@@ -2,19 +2,20 @@
 use Rattle.std.specs.Prelude.{◌≡◌, ◌≢◌, ◌≤◌, ◌+◌, ◌*◌, ℕ, List, ◌++◌, length, take, Bool, Ok, codes}
 use Rattle.std.specs.List.{AllByRecursion}
 use Rattle.mesh_base.specs.declared.limits.TheConstants.{MOST_NODES, MOST_EVENTS, LONGEST_INPUT}
-use Rattle.mesh_base.specs.declared.events.Full.{Full}
+use Rattle.mesh_base.specs.declared.events.Counter.{Counter}
 use Rattle.mesh_base.specs.declared.events.Variant.{Variant}
 use Rattle.mesh_base.specs.Meshes.{Nodes, IsMesh}
 use Rattle.mesh_model.specs.Walks.{Cycle}
-use Rattle.mesh_model.specs.Worlds.{Event, Stops, run, start, first_numbers}
+use Rattle.mesh_model.specs.Worlds as worlds
+use Rattle.mesh_model.specs.Worlds.{Event, run, start, first_numbers}
 use Rattle.mesh_model.specs.Places.{IsInMesh, IsEvent}
 use Rattle.mesh_model.specs.Invariants.{IsInvariant}
 use Rattle.mesh_text.specs.Schedule.{Moment, Accepted, Chooses, line_of, world_of, started, stepped, outcome_at}
 use Rattle.mesh_grammar.specs.Lines.{Piece, Whole, complete}
 use Rattle.mesh_text.specs.Lines.{words_of, done_line}
-use Rattle.mesh_text.specs.Text.{Over, came, Finished, FullAt, lines_before, text_on, text_of_input}
+use Rattle.mesh_text.specs.Text.{Full, outcome_of_piece, Finished, FullAt, lines_before, text_on, text_of_input}
 use Rattle.mesh_text.specs.Accounts.{IsBalanced, lines_with}
-use Rattle.mesh_text.specs.Runs.{events_of_piece, events_of_input, moment_after, front_of_input, moment_at, mesh_of_input, world_after}
+use Rattle.mesh_text.specs.Runs.{events_of_piece, events_of_input, moment_after, prefix_of_input, moment_at, mesh_of_input, world_after}
 use Rattle.mesh_text.specs.Ranges.{IsInRange, IsInTime, IsEcho}
 
 -- ---- lines
@@ -87,7 +88,7 @@ RunIsRunOfEvents = (variant : Variant) (input : List ℕ)
 -- the next
 abbrev pub MomentIsOfRun : Type 0
 MomentIsOfRun = (variant : Variant) (input : List ℕ) (i k : ℕ)
-    → (front_of_input variant input i).verdict ≡ Finished
+    → (prefix_of_input variant input i).verdict ≡ Finished
     → let m = moment_at variant input i k in
     world_of m
     ≡ run (start variant (first_numbers m.mesh))
@@ -138,11 +139,11 @@ StepsAreEvents = (m : Moment) (input : List ℕ) →
 
 -- where a full counter ends a line, the event is refused at the moment after some of the line's
 -- events
-abbrev pub RefusedEventStands : Type 0
-RefusedEventStands = (m : Moment) (piece : Piece) (text : List ℕ) (n : Moment) (e : Event)
-    (field : Full) → came m piece ≡ Over text n e field
+abbrev pub FullEventStands : Type 0
+FullEventStands = (m : Moment) (piece : Piece) (text : List ℕ) (n : Moment) (e : Event)
+    (field : Counter) → outcome_of_piece m piece ≡ Full text n e field
     → (k : ℕ) × (n ≡ moment_after (started m) (take k (events_of_piece m piece)))
-    × (node : ℕ) × (outcome_at n e ≡ Stops node field)
+    × (node : ℕ) × (outcome_at n e ≡ worlds.Full node field)
 
 -- ---- the last line
 

@@ -3,12 +3,13 @@
 use Rattle.std.specs.Prelude.{ℕ, zero, suc, List, [], ◌∷◌, ◌++◌, Option, Some, None, Result, Ok, Err, take, is_some, slice_get}
 use Rattle.mesh_base.specs.Meshes.{Nodes}
 use Rattle.mesh_base.specs.declared.events.Variant.{Variant}
-use Rattle.mesh_model.specs.Worlds.{World, Event, Outcome, Idle, Stops, Goes, run, start, first_numbers}
+use Rattle.mesh_model.specs.Worlds as worlds
+use Rattle.mesh_model.specs.Worlds.{World, Event, Outcome, Idle, Next, run, start, first_numbers}
 use Rattle.mesh_model.specs.Choices.{pick}
 use Rattle.mesh_grammar.specs.declared.fault.LineFault.{LineFault}
 use Rattle.mesh_text.specs.Schedule.{Moment, Accepted, Does, Chooses, line_of, started, stepped, outcome_at, world_of, opening}
 use Rattle.mesh_grammar.specs.Lines.{Piece, Whole, Long, Beyond, pieces_of_input}
-use Rattle.mesh_text.specs.Text.{Came, On, Refused, Over, came, Written, text_from, text_of_input}
+use Rattle.mesh_text.specs.Text.{LineOutcome, On, Refused, Full, outcome_of_piece, Written, text_from, text_of_input}
 
 -- ---- the events of a line
 
@@ -16,8 +17,8 @@ use Rattle.mesh_text.specs.Text.{Came, On, Refused, Over, came, Written, text_fr
 -- counter is the last
 abbrev pub event_then : Moment → Event → Outcome → (Moment → List Event) → List Event
 event_then m e Idle others = e ∷ others (stepped m e)
-event_then m e (Stops x field) others = e ∷ []
-event_then m e (Goes w happening) others = e ∷ others (stepped m e)
+event_then m e (worlds.Full x field) others = e ∷ []
+event_then m e (Next w happening) others = e ∷ others (stepped m e)
 
 -- the event that is chosen, if any, and then the others
 abbrev pub choice_then : Moment → Option Event → (Moment → List Event) → List Event
@@ -47,15 +48,15 @@ events_of_piece m Beyond = []
 -- ---- the events of an input
 
 -- those of the lines that follow, unless the run has ended
-abbrev pub events_after : Came → (Moment → List Event) → List Event
+abbrev pub events_after : LineOutcome → (Moment → List Event) → List Event
 events_after (On text n) others = others n
 events_after (Refused why) others = []
-events_after (Over text n e field) others = []
+events_after (Full text n e field) others = []
 
 unfoldable pub events_from : Moment → List Piece → List Event
 events_from m [] = []
 events_from m (piece ∷ pieces) =
-    events_of_piece m piece ++ events_after (came m piece) (λ n. events_from n pieces)
+    events_of_piece m piece ++ events_after (outcome_of_piece m piece) (λ n. events_from n pieces)
 
 unfoldable pub events_of_input : Variant → List ℕ → List Event
 events_of_input variant input = events_from (opening variant) (pieces_of_input input)
@@ -76,13 +77,13 @@ moment_in_next m None k = m
 moment_in_next m (Some piece) k = moment_in m piece k
 
 -- the run of the first i lines of an input
-abbrev pub front_of_input : Variant → List ℕ → ℕ → Written
-front_of_input variant input i = text_from (opening variant) (take i (pieces_of_input input))
+abbrev pub prefix_of_input : Variant → List ℕ → ℕ → Written
+prefix_of_input variant input i = text_from (opening variant) (take i (pieces_of_input input))
 
 -- after those lines, and k events of the next
 abbrev pub moment_at : Variant → List ℕ → ℕ → ℕ → Moment
 moment_at variant input i k =
-    moment_in_next (front_of_input variant input i).after (slice_get (pieces_of_input input) i) k
+    moment_in_next (prefix_of_input variant input i).after (slice_get (pieces_of_input input) i) k
 
 -- ---- the worlds
 

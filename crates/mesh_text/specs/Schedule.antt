@@ -3,7 +3,8 @@ use Rattle.std.specs.Prelude.{ℕ, ◌+◌, ◌==◌, Bool, List, [], ◌∷◌,
 use Rattle.std.specs.Option.{unwrap_or}
 use Rattle.mesh_base.specs.Meshes.{Nodes, index_of}
 use Rattle.mesh_base.specs.declared.events.Variant.{Variant}
-use Rattle.mesh_model.specs.Worlds.{World, Event, Give, Turn, Send, Ask, Link, Cut, Deliver, Lose, Double, Outcome, Idle, Stops, Goes, step, after, start, first_numbers}
+use Rattle.mesh_model.specs.Worlds as worlds
+use Rattle.mesh_model.specs.Worlds.{World, Event, Give, Turn, Send, Ask, Link, Cut, Deliver, Lose, Double, Outcome, Idle, Next, step, after, start, first_numbers}
 use Rattle.mesh_model.specs.Accounts.{any, given, doubled_at, delivered, dropped}
 use Rattle.mesh_base.specs.declared.limits.TheConstants.{MOST_NODES}
 use Rattle.mesh_grammar.specs.declared.command.Command.{Command}
@@ -11,7 +12,7 @@ use Rattle.mesh_grammar.specs.declared.command.Command.TheVariants as command
 use Rattle.mesh_grammar.specs.declared.fault.LineFault.{LineFault}
 use Rattle.mesh_grammar.specs.declared.fault.LineFault.TheVariants.{Count, Late, Early, TwiceNode, TooManyNodes, Unknown, Same}
 use Rattle.mesh_grammar.specs.Words.{Mention, with_argument}
-use Rattle.mesh_grammar.specs.Forms.{Arguments, NoArgument, OneAddress, TwoAddresses, OneNumber, NumberedAddress, AddressesAndText}
+use Rattle.mesh_grammar.specs.Forms.{Arguments, NoArgument, OneAddress, TwoAddresses, OneNumber, NumberedAddress, AddressesAndText, AddressAndNumber, AddressAndText}
 use Rattle.mesh_grammar.specs.Scripts.{Shape}
 use Rattle.mesh_grammar.specs.Commands.{shape_of}
 
@@ -84,6 +85,8 @@ placed mesh (OneNumber n) = Ok (OneNumber n)
 placed mesh (NumberedAddress a first) = known mesh a (λ x. Ok (NumberedAddress x first))
 placed mesh (AddressesAndText a b text) =
     known mesh a (λ x. known mesh b (λ y. Ok (AddressesAndText x y text)))
+placed mesh (AddressAndNumber a n) = known mesh a (λ x. Ok (AddressAndNumber x n))
+placed mesh (AddressAndText a text) = known mesh a (λ x. Ok (AddressAndText x text))
 
 -- an event of two nodes that are not the same
 abbrev pub of_pair : ℕ → ℕ → Event → Result Accepted LineFault
@@ -148,8 +151,8 @@ started m = record m { world = Some (world_of m) }
 
 abbrev pub idle_by : Outcome → ℕ
 idle_by Idle = 1
-idle_by (Stops x f) = 0
-idle_by (Goes w happening) = 0
+idle_by (worlds.Full x f) = 0
+idle_by (Next w happening) = 0
 
 -- what was counted, with one more event and what came of it
 abbrev pub summed : Sums → Event → Outcome → Sums

@@ -1,9 +1,10 @@
 -- The text of a run and its verdict, from the bytes of its input.
 use Rattle.std.specs.Prelude.{ℕ, ◌+◌, Bool, List, [], ◌∷◌, ◌++◌, Result, Ok, Err, if◌then◌else◌, is_some, slice_get}
 use Rattle.mesh_base.specs.Meshes.{with_node}
-use Rattle.mesh_base.specs.declared.events.Full.{Full}
+use Rattle.mesh_base.specs.declared.events.Counter.{Counter}
 use Rattle.mesh_base.specs.declared.events.Variant.{Variant}
-use Rattle.mesh_model.specs.Worlds.{Event, Outcome, Idle, Stops, Goes}
+use Rattle.mesh_model.specs.Worlds as worlds
+use Rattle.mesh_model.specs.Worlds.{Event, Outcome, Idle, Next}
 use Rattle.mesh_model.specs.Routes.{route_end}
 use Rattle.mesh_grammar.specs.declared.fault.LineFault.{LineFault}
 use Rattle.mesh_grammar.specs.declared.fault.BadWhy.{BadWhy}
@@ -21,61 +22,61 @@ use Rattle.mesh_text.specs.Auto as auto
 
 -- what a line comes to at a moment: its text and the next moment; why it is refused; or its text
 -- before an event that is refused for a full counter, the moment at which it is, and that event
-pub data Came : Type 0 where
-  On : List ℕ → Moment → Came
-  Refused : BadWhy → Came
-  Over : List ℕ → Moment → Event → Full → Came
+pub data LineOutcome : Type 0 where
+  On : List ℕ → Moment → LineOutcome
+  Refused : BadWhy → LineOutcome
+  Full : List ℕ → Moment → Event → Counter → LineOutcome
 
 -- an event
-abbrev pub came_of_event : Moment → Event → Outcome → Came
-came_of_event m e Idle = On (outcome_lines m.mesh e Idle) (counted (stepped m e))
-came_of_event m e (Stops x field) = Over [] (started m) e field
-came_of_event m e (Goes w happening) =
-    On (outcome_lines m.mesh e (Goes w happening)) (counted (stepped m e))
+abbrev pub outcome_of_event : Moment → Event → Outcome → LineOutcome
+outcome_of_event m e Idle = On (outcome_lines m.mesh e Idle) (counted (stepped m e))
+outcome_of_event m e (worlds.Full x field) = Full [] (started m) e field
+outcome_of_event m e (Next w happening) =
+    On (outcome_lines m.mesh e (Next w happening)) (counted (stepped m e))
 
 -- events that were chosen, after a line
-abbrev pub came_of_auto : List ℕ → auto.Ran → Came
-came_of_auto text (auto.Ended others did after) =
+abbrev pub outcome_of_auto : List ℕ → auto.AutoOutcome → LineOutcome
+outcome_of_auto text (auto.Ended others did after) =
     On (text ++ others ++ auto.auto_end did) (counted after)
-came_of_auto text (auto.Refused others n e field) = Over (text ++ others) n e field
+outcome_of_auto text (auto.Full others n e field) = Full (text ++ others) n e field
 
 -- a line that changes nothing but that the run has started
-abbrev pub came_of_show : Moment → List ℕ → Came
-came_of_show m text = On text (counted (started m))
+abbrev pub outcome_of_show : Moment → List ℕ → LineOutcome
+outcome_of_show m text = On text (counted (started m))
 
 -- an allowed line at a moment
-unfoldable pub came_of_line : Moment → Accepted → Came
-came_of_line m Nothing = On [] (counted m)
-came_of_line m (NewNode address first) =
+unfoldable pub outcome_of_line : Moment → Accepted → LineOutcome
+outcome_of_line m Nothing = On [] (counted m)
+outcome_of_line m (NewNode address first) =
     On (line (words_of m.mesh (NewNode address first)))
     (counted (record m { mesh = with_node m.mesh address first }))
-came_of_line m (Does e) = came_of_event m e (outcome_at m e)
-came_of_line m (Chooses count) =
-    came_of_auto (line (words_of m.mesh (Chooses count))) (auto.auto_from count 0 (started m))
-came_of_line m (ShowsNode x) =
-    came_of_show m (line (words_of m.mesh (ShowsNode x))
+outcome_of_line m (Does e) = outcome_of_event m e (outcome_at m e)
+outcome_of_line m (Chooses count) =
+    outcome_of_auto (line (words_of m.mesh (Chooses count))) (auto.auto_from count 0 (started m))
+outcome_of_line m (ShowsNode x) =
+    outcome_of_show m (line (words_of m.mesh (ShowsNode x))
     ++ node_text_in m.mesh (slice_get (world_of m).nodes x))
-came_of_line m (ShowsRoute x d) =
-    came_of_show m (line (words_of m.mesh (ShowsRoute x d))
+outcome_of_line m (ShowsRoute x d) =
+    outcome_of_show m (line (words_of m.mesh (ShowsRoute x d))
     ++ end_text m.mesh (route_end (world_of m) x d))
-came_of_line m ShowsFlight =
-    came_of_show m (line (words_of m.mesh ShowsFlight) ++ flight_text m.mesh (world_of m).flying)
+outcome_of_line m ShowsFlight =
+    outcome_of_show m (line (words_of m.mesh ShowsFlight) ++ flight_text m.mesh (world_of m).flying)
 
-abbrev pub came_from : Moment → Result Accepted LineFault → Came
-came_from m (Ok a) = came_of_line m a
-came_from m (Err fault) = Refused (Fault fault)
+abbrev pub outcome_of_read : Moment → Result Accepted LineFault → LineOutcome
+outcome_of_read m (Ok a) = outcome_of_line m a
+outcome_of_read m (Err fault) = Refused (Fault fault)
 
 -- what a line of the input comes to at a moment
-unfoldable pub came : Moment → Piece → Came
-came m (Whole line) = came_from m (line_of m.mesh (is_some m.world) line)
-came m Long = Refused TooLong
-came m Beyond = Refused TooMuch
+unfoldable pub outcome_of_piece : Moment → Piece → LineOutcome
+outcome_of_piece m (Whole line) = outcome_of_read m (line_of m.mesh (is_some m.world) line)
+outcome_of_piece m Long = Refused TooLong
+outcome_of_piece m Beyond = Refused TooMuch
 
 -- the text of a line, as far as it was done
-abbrev pub text_in : Came → List ℕ
+abbrev pub text_in : LineOutcome → List ℕ
 text_in (On text n) = text
 text_in (Refused why) = []
-text_in (Over text n e field) = text
+text_in (Full text n e field) = text
 
 -- ---- all lines
 
@@ -115,7 +116,7 @@ refused_run m why = record {
 }
 
 -- at a line with an event that is refused for a full counter, after a text
-abbrev pub overfull_run : Moment → List ℕ → Event → Full → Written
+abbrev pub overfull_run : Moment → List ℕ → Event → Counter → Written
 overfull_run m text e field = record {
   lines = text;
   last = full_line m.mesh (m.lines + 1) e field;
@@ -128,15 +129,15 @@ abbrev pub lines_before : List ℕ → Written → Written
 lines_before text w = record w { lines = text ++ w.lines }
 
 -- what a line came to, and then the rest of the run from the next moment on
-abbrev pub goes_on : Moment → Came → (Moment → Written) → Written
+abbrev pub goes_on : Moment → LineOutcome → (Moment → Written) → Written
 goes_on m (On text n) others = lines_before text (others n)
 goes_on m (Refused why) others = refused_run m why
-goes_on m (Over text n e field) others = overfull_run m text e field
+goes_on m (Full text n e field) others = overfull_run m text e field
 
 -- the run of these lines from a moment on
 unfoldable pub text_from : Moment → List Piece → Written
 text_from m [] = finished_run m
-text_from m (piece ∷ pieces) = goes_on m (came m piece) (λ n. text_from n pieces)
+text_from m (piece ∷ pieces) = goes_on m (outcome_of_piece m piece) (λ n. text_from n pieces)
 
 -- what a run writes for an input from a moment on, and what it comes to
 unfoldable pub text_on : Moment → List ℕ → Written

@@ -1,5 +1,5 @@
 //! Laws of the definitions. Each function has an empty body and a contract that states a law.
-ghost use Rattle.mesh_text.specs.Laws.{PrintedLineParses, ReadLineIsInRange, ReadLineIsWrittenAsItWas, DataAreAccountedFor, DataAreNamed, SumsAreInOrder, RunIsRunOfEvents, AllEventsCount, EventsAreOfMesh, RunsAreLoopFree, RunKeepsInvariant, AutoLineHasFourBytes, LineHasFewEvents, EventKeepsAccount, MomentIsOfRun, MomentIsLoopFree, RunGoesOn, StepsAreEvents, RefusedEventStands, LastLineIsOfLastMoment};
+ghost use Rattle.mesh_text.specs.Laws.{PrintedLineParses, ReadLineIsInRange, ReadLineIsWrittenAsItWas, DataAreAccountedFor, DataAreNamed, SumsAreInOrder, RunIsRunOfEvents, AllEventsCount, EventsAreOfMesh, RunsAreLoopFree, RunKeepsInvariant, AutoLineHasFourBytes, LineHasFewEvents, EventKeepsAccount, MomentIsOfRun, MomentIsLoopFree, RunGoesOn, StepsAreEvents, FullEventStands, LastLineIsOfLastMoment};
 
 /// A line that is written back is read as the same line.
 pub fn a_printed_line_parses()
@@ -104,5 +104,5 @@ pub fn steps_are_events()
 
 /// An event that a full counter refuses is refused at a moment after some of its line's events.
 pub fn a_refused_event_stands_in_its_line()
-    ensures { RefusedEventStands }
+    ensures { FullEventStands }
 {}

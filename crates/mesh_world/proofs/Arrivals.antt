@@ -16,14 +16,14 @@ use Rattle.aodv_meaning.specs.Meaning.{meaning}
 use Rattle.aodv_meaning.specs.Effects.{item_in}
 use Rattle.aodv_node.specs.Seen.{NodeSeen, IsSoundNode}
 use Rattle.mesh_model.specs.Worlds as worlds
-use Rattle.mesh_model.specs.Worlds.{World, Copy, Give, Deliver, Lose, Outcome, Idle, Goes, Changed, CopyHeard, CopyLost, step, at_node, at_copy, push, with_item}
+use Rattle.mesh_model.specs.Worlds.{World, Copy, Give, Deliver, Lose, Outcome, Idle, Next, Changed, CopyHeard, CopyLost, step, at_node, at_copy, push, with_item}
 use Rattle.mesh_model.specs.Places.{IsCopyInMesh}
 use Rattle.mesh_model.proofs.Steps.{found_honest}
 use Rattle.mesh_radio.specs.Copies as radios
 use Rattle.mesh_radio.specs.Radios.{RadioState, without_copy}
 use Rattle.mesh_meaning.specs.Packets.{IsWritten, IsWrittenItem, IsWrittenCopy, copy_in}
 use Rattle.mesh_world.specs.Seen.{node_in}
-use Rattle.mesh_world.specs.Kept.{Ready, IsKept, IsKeptNode, shown}
+use Rattle.mesh_world.specs.Kept.{Ready, IsKept, IsKeptNode, world_in}
 use Rattle.mesh_world.specs.Noted.{noted}
 use Rattle.mesh_world.proofs.Frames.{Ends, Beside, ends_done, ends_idle, beside, later, shown_at, noted_beside, map-set, each_set, each_append, set_again, count_of}
 use Rattle.mesh_world.proofs.ReadySets.{noted_ready}
@@ -50,10 +50,10 @@ pub map-push : {A B : Type 0} (f : A → B) (xs : List A) (x : A) → map f (xs 
 map-push f [] x = refl
 map-push f (y ∷ ys) x = ap (λ zs. f y ∷ zs) (map-push f ys x)
 
-pushed : (mesh : Nodes) (nodes : List NodeSeen) (radio : RadioState) (x : ℕ) (n new : NodeSeen) (i : items.Item) → slice_get nodes x ≡ Some n → Joined n new i → push (shown mesh nodes radio) x (item_in mesh i) ≡ shown mesh (slice_set nodes x new) radio
-unfolding push shown
+pushed : (mesh : Nodes) (nodes : List NodeSeen) (radio : RadioState) (x : ℕ) (n new : NodeSeen) (i : items.Item) → slice_get nodes x ≡ Some n → Joined n new i → push (world_in mesh nodes radio) x (item_in mesh i) ≡ world_in mesh (slice_set nodes x new) radio
+unfolding push world_in
 pushed mesh nodes radio x n new i at j =
-    let w = shown mesh nodes radio in
+    let w = world_in mesh nodes radio in
     let queue : map (item_in mesh) new.items ≡ map (item_in mesh) n.items ++ item_in mesh i ∷ [] = ap (map (item_in mesh)) j.items ∙ map-push (item_in mesh) n.items i in
     let node : record { core = n.core; queue = map (item_in mesh) n.items ++ item_in mesh i ∷ [] } ≡ node_in mesh new = λ k. record { core = sym j.core k; queue = sym queue k } in
     ap (λ o. with_item w x o (item_in mesh i)) (shown_at mesh nodes radio x n at)
@@ -75,19 +75,19 @@ beside_joined mesh nodes radio radio' ready ready' steps x n new i k l at writte
 
 -- ---- a datum is given
 
-give_at : (w : World) (x d : ℕ) (b : Body) (n : worlds.Node) → slice_get w.nodes x ≡ Some n → step w (Give x d b) ≡ Goes (push w x (New b d)) Changed
+give_at : (w : World) (x d : ℕ) (b : Body) (n : worlds.Node) → slice_get w.nodes x ≡ Some n → step w (Give x d b) ≡ Next (push w x (New b d)) Changed
 unfolding step
-give_at w x d b n e = ap (λ o. at_node o (λ core queue. Goes (push w x (New b d)) Changed)) e
+give_at w x d b n e = ap (λ o. at_node o (λ core queue. Next (push w x (New b d)) Changed)) e
 
 pub give_done : (mesh : Nodes) (nodes : List NodeSeen) (radio : RadioState) (ready ready' : Ready) (steps x dest : ℕ) (body copy : Body) (n new : NodeSeen) (packet : List ℕ)
     → IsKept mesh nodes radio ready steps → x < length mesh → dest < length mesh → IsDatum body → copy ≡ body → slice_get nodes x ≡ Some n → Joined n new (item.New dest copy) → ready' ≡ noted ready x new (length mesh)
     → Ends (Give x dest body) mesh nodes radio steps (Ok done.Changed) (slice_set nodes x new) radio ready' (steps + 1) packet
 give_done mesh nodes radio ready ready' steps x dest body copy n new packet k l below datum copied at j' noted_is =
-    let w = shown mesh nodes radio in
+    let w = world_in mesh nodes radio in
     let j : Joined n new (item.New dest body) = subst (λ (b : Body). Joined n new (item.New dest b)) copied j' in
-    let world : push w x (New body dest) ≡ shown mesh (slice_set nodes x new) radio = pushed mesh nodes radio x n new (item.New dest body) at j in
-    ends_done (Give x dest body) mesh nodes radio ready steps done.Changed (slice_set nodes x new) radio ready' packet (Goes (push w x (New body dest)) Changed)
-    k (l, below, datum) (give_at w x dest body (node_in mesh n) (shown_at mesh nodes radio x n at)) (omega arith) world (λ i. Goes (world i) Changed) tt
+    let world : push w x (New body dest) ≡ world_in mesh (slice_set nodes x new) radio = pushed mesh nodes radio x n new (item.New dest body) at j in
+    ends_done (Give x dest body) mesh nodes radio ready steps done.Changed (slice_set nodes x new) radio ready' packet (Next (push w x (New body dest)) Changed)
+    k (l, below, datum) (give_at w x dest body (node_in mesh n) (shown_at mesh nodes radio x n at)) (omega arith) world (λ i. Next (world i) Changed) tt
     (beside_joined mesh nodes radio radio ready ready' steps x n new (item.New dest body) k l at tt j k.flying refl refl noted_is)
 
 -- ---- copies
@@ -150,17 +150,17 @@ pub record InFlight (mesh : Nodes) (f : Flying) : Type 0 where
   pub written : IsWritten mesh f.bytes
   pub in_mesh : IsMessageInMesh (length mesh) (meaning mesh f.bytes)
 
-pub shown_found : (mesh : Nodes) (nodes : List NodeSeen) (radio : RadioState) (id : ℕ) (f : Flying) → radios.find_copy radio.flying id ≡ Some f → worlds.find_copy (shown mesh nodes radio).flying id ≡ Some (copy_in mesh f)
-unfolding shown
+pub shown_found : (mesh : Nodes) (nodes : List NodeSeen) (radio : RadioState) (id : ℕ) (f : Flying) → radios.find_copy radio.flying id ≡ Some f → worlds.find_copy (world_in mesh nodes radio).flying id ≡ Some (copy_in mesh f)
+unfolding world_in
 shown_found mesh nodes radio id f e = find_shown mesh radio.flying id ∙ ap (option_map (copy_in mesh)) e
 
-pub shown_none : (mesh : Nodes) (nodes : List NodeSeen) (radio : RadioState) (id : ℕ) → radios.find_copy radio.flying id ≡ None → worlds.find_copy (shown mesh nodes radio).flying id ≡ None
-unfolding shown
+pub shown_none : (mesh : Nodes) (nodes : List NodeSeen) (radio : RadioState) (id : ℕ) → radios.find_copy radio.flying id ≡ None → worlds.find_copy (world_in mesh nodes radio).flying id ≡ None
+unfolding world_in
 shown_none mesh nodes radio id e = find_shown mesh radio.flying id ∙ ap (option_map (copy_in mesh)) e
 
 pub in_flight : (mesh : Nodes) (nodes : List NodeSeen) (radio : RadioState) (ready : Ready) (steps id : ℕ) (f : Flying) → IsKept mesh nodes radio ready steps → radios.find_copy radio.flying id ≡ Some f → InFlight mesh f
 in_flight mesh nodes radio ready steps id f k e =
-    let w = shown mesh nodes radio in
+    let w = world_in mesh nodes radio in
     let all : AllByRecursion (IsCopyInMesh (length mesh)) w.flying = subst (λ (n : ℕ). AllByRecursion (IsCopyInMesh n) w.flying) (k.sound).count ((k.sound).invariant).in_mesh.flying in
     let c : IsCopyInMesh (length mesh) (copy_in mesh f) = found_honest (IsCopyInMesh (length mesh)) w.flying id (copy_in mesh f) all (shown_found mesh nodes radio id f e) in
     record { from = c.0; to = c.1; differ = c.2; written = found_all (IsWrittenCopy mesh) radio.flying id f k.flying e; in_mesh = c.3 }
@@ -181,18 +181,18 @@ taken mesh nodes radio ready steps id o seen t f k is some t_is t_some =
     let here : radios.find_copy radio.flying id ≡ Some f = sym t_is ∙ t_some in
     record { found = here; receiver = ap (λ (h : Flying). h.to) (same_Some f (flying_seen seen) (sym here ∙ found_seen radio id o seen is some)); flies = in_flight mesh nodes radio ready steps id f k here }
 
-shown_without : (mesh : Nodes) (nodes : List NodeSeen) (old new : RadioState) (id : ℕ) → new ≡ without_copy old id → worlds.without_copy (shown mesh nodes old) id ≡ shown mesh nodes new
-unfolding shown
+shown_without : (mesh : Nodes) (nodes : List NodeSeen) (old new : RadioState) (id : ℕ) → new ≡ without_copy old id → worlds.without_copy (world_in mesh nodes old) id ≡ world_in mesh nodes new
+unfolding world_in
 shown_without mesh nodes old new id is =
-    (λ i. record { nodes = map (node_in mesh) nodes; links = old.links; ever = old.ever; flying = without_shown mesh old.flying id i; next_copy = old.next_copy }) ∙ ap (shown mesh nodes) (sym is)
+    (λ i. record { nodes = map (node_in mesh) nodes; links = old.links; ever = old.ever; flying = without_shown mesh old.flying id i; next_copy = old.next_copy }) ∙ ap (world_in mesh nodes) (sym is)
 
-deliver_at : (w : World) (id : ℕ) (o : Option Copy) → worlds.find_copy w.flying id ≡ o → step w (Deliver id) ≡ at_copy o (λ c. Goes (push (worlds.without_copy w id) c.to (Heard c.from c.message)) (CopyHeard c.from c.to))
+deliver_at : (w : World) (id : ℕ) (o : Option Copy) → worlds.find_copy w.flying id ≡ o → step w (Deliver id) ≡ at_copy o (λ c. Next (push (worlds.without_copy w id) c.to (Heard c.from c.message)) (CopyHeard c.from c.to))
 unfolding step
-deliver_at w id o e = ap (λ o. at_copy o (λ c. Goes (push (worlds.without_copy w id) c.to (Heard c.from c.message)) (CopyHeard c.from c.to))) e
+deliver_at w id o e = ap (λ o. at_copy o (λ c. Next (push (worlds.without_copy w id) c.to (Heard c.from c.message)) (CopyHeard c.from c.to))) e
 
-lose_at : (w : World) (id : ℕ) (o : Option Copy) → worlds.find_copy w.flying id ≡ o → step w (Lose id) ≡ at_copy o (λ c. Goes (worlds.without_copy w id) (CopyLost c))
+lose_at : (w : World) (id : ℕ) (o : Option Copy) → worlds.find_copy w.flying id ≡ o → step w (Lose id) ≡ at_copy o (λ c. Next (worlds.without_copy w id) (CopyLost c))
 unfolding step
-lose_at w id o e = ap (λ o. at_copy o (λ c. Goes (worlds.without_copy w id) (CopyLost c))) e
+lose_at w id o e = ap (λ o. at_copy o (λ c. Next (worlds.without_copy w id) (CopyLost c))) e
 
 without_flying : (mesh : Nodes) (old new : RadioState) (id : ℕ) → new ≡ without_copy old id → AllByRecursion (IsWrittenCopy mesh) old.flying → AllByRecursion (IsWrittenCopy mesh) new.flying
 without_flying mesh old new id is all = subst (λ (r : RadioState). AllByRecursion (IsWrittenCopy mesh) r.flying) (sym is) (without_all (IsWrittenCopy mesh) old.flying id all)
@@ -201,13 +201,13 @@ deliver_here : (mesh : Nodes) (nodes : List NodeSeen) (radio radio' : RadioState
     → IsKept mesh nodes radio ready steps → radios.find_copy radio.flying id ≡ Some f → InFlight mesh f → radio' ≡ without_copy radio id → slice_get nodes f.to ≡ Some n → Joined n new (item.Heard f.from f.bytes) → ready' ≡ noted ready f.to new (length mesh)
     → Ends (Deliver id) mesh nodes radio steps (Ok (done.Heard f.from f.to)) (slice_set nodes f.to new) radio' ready' (steps + 1) packet
 deliver_here mesh nodes radio radio' ready ready' steps id f n new packet k found flies gone at j noted_is =
-    let w = shown mesh nodes radio in
+    let w = world_in mesh nodes radio in
     let i = item.Heard f.from f.bytes in
     let pushing = push (worlds.without_copy w id) f.to (Heard f.from (meaning mesh f.bytes)) in
-    let world : pushing ≡ shown mesh (slice_set nodes f.to new) radio' =
+    let world : pushing ≡ world_in mesh (slice_set nodes f.to new) radio' =
     ap (λ (v : World). push v f.to (Heard f.from (meaning mesh f.bytes))) (shown_without mesh nodes radio radio' id gone) ∙ pushed mesh nodes radio' f.to n new i at j in
-    ends_done (Deliver id) mesh nodes radio ready steps (done.Heard f.from f.to) (slice_set nodes f.to new) radio' ready' packet (Goes pushing (CopyHeard f.from f.to))
-    k tt (deliver_at w id (Some (copy_in mesh f)) (shown_found mesh nodes radio id f found)) (omega arith) world (λ m. Goes (world m) (CopyHeard f.from f.to)) (flies.from, flies.to)
+    ends_done (Deliver id) mesh nodes radio ready steps (done.Heard f.from f.to) (slice_set nodes f.to new) radio' ready' packet (Next pushing (CopyHeard f.from f.to))
+    k tt (deliver_at w id (Some (copy_in mesh f)) (shown_found mesh nodes radio id f found)) (omega arith) world (λ m. Next (world m) (CopyHeard f.from f.to)) (flies.from, flies.to)
     (beside_joined mesh nodes radio radio' ready ready' steps f.to n new i k flies.to at flies.written j (without_flying mesh radio radio' id gone k.flying) (ap (λ (r : RadioState). r.size) gone) (ap (λ (r : RadioState). r.next_copy) gone) noted_is)
 
 pub deliver_done : (mesh : Nodes) (nodes : List NodeSeen) (radio radio' : RadioState) (ready ready' : Ready) (steps id to : ℕ) (f : Flying) (n roomy new : NodeSeen) (packet : List ℕ)
@@ -222,17 +222,17 @@ pub deliver_idle : (mesh : Nodes) (nodes : List NodeSeen) (radio : RadioState) (
     → Ends (Deliver id) mesh nodes radio steps (Ok done.Idle) nodes radio ready (steps + 1) packet
 deliver_idle mesh nodes radio ready steps id o packet k is none =
     let e = none_seen radio id o is none in
-    ends_idle (Deliver id) mesh nodes radio ready steps nodes radio packet k (deliver_at (shown mesh nodes radio) id None (shown_none mesh nodes radio id e)) refl (later mesh nodes radio ready steps (beside mesh nodes radio ready steps k))
+    ends_idle (Deliver id) mesh nodes radio ready steps nodes radio packet k (deliver_at (world_in mesh nodes radio) id None (shown_none mesh nodes radio id e)) refl (later mesh nodes radio ready steps (beside mesh nodes radio ready steps k))
 
 pub lose_done : (mesh : Nodes) (nodes : List NodeSeen) (radio radio' : RadioState) (ready : Ready) (steps id : ℕ) (t : Option Flying) (f : Flying) (packet : List ℕ) → IsKept mesh nodes radio ready steps
     → t ≡ radios.find_copy radio.flying id → t ≡ Some f → radio' ≡ without_copy radio id → Ends (Lose id) mesh nodes radio steps (Ok (done.Lost f)) nodes radio' ready (steps + 1) packet
 lose_done mesh nodes radio radio' ready steps id t f packet k is some gone =
-    let w = shown mesh nodes radio in
+    let w = world_in mesh nodes radio in
     let found : radios.find_copy radio.flying id ≡ Some f = sym is ∙ some in
     let flies = in_flight mesh nodes radio ready steps id f k found in
-    let world : worlds.without_copy w id ≡ shown mesh nodes radio' = shown_without mesh nodes radio radio' id gone in
-    ends_done (Lose id) mesh nodes radio ready steps (done.Lost f) nodes radio' ready packet (Goes (worlds.without_copy w id) (CopyLost (copy_in mesh f)))
-    k tt (lose_at w id (Some (copy_in mesh f)) (shown_found mesh nodes radio id f found)) (omega arith) world (λ i. Goes (world i) (CopyLost (copy_in mesh f)))
+    let world : worlds.without_copy w id ≡ world_in mesh nodes radio' = shown_without mesh nodes radio radio' id gone in
+    ends_done (Lose id) mesh nodes radio ready steps (done.Lost f) nodes radio' ready packet (Next (worlds.without_copy w id) (CopyLost (copy_in mesh f)))
+    k tt (lose_at w id (Some (copy_in mesh f)) (shown_found mesh nodes radio id f found)) (omega arith) world (λ i. Next (world i) (CopyLost (copy_in mesh f)))
     (flies.from, flies.to, record { written = flies.written; in_mesh = flies.in_mesh })
     (record {
       each = k.each;
@@ -246,7 +246,7 @@ pub lose_idle : (mesh : Nodes) (nodes : List NodeSeen) (radio : RadioState) (rea
     → Ends (Lose id) mesh nodes radio steps (Ok done.Idle) nodes radio ready (steps + 1) packet
 lose_idle mesh nodes radio ready steps id o packet k is none =
     let e = none_seen radio id o is none in
-    ends_idle (Lose id) mesh nodes radio ready steps nodes radio packet k (lose_at (shown mesh nodes radio) id None (shown_none mesh nodes radio id e)) refl (later mesh nodes radio ready steps (beside mesh nodes radio ready steps k))
+    ends_idle (Lose id) mesh nodes radio ready steps nodes radio packet k (lose_at (world_in mesh nodes radio) id None (shown_none mesh nodes radio id e)) refl (later mesh nodes radio ready steps (beside mesh nodes radio ready steps k))
 
 -- the receiver may hear the copy
 pub may_hear : (mesh : Nodes) (nodes : List NodeSeen) (radio : RadioState) (ready : Ready) (steps id to : ℕ) (f : Flying) (n roomy heard : NodeSeen) → IsKept mesh nodes radio ready steps → slice_get nodes to ≡ Some n → Taken mesh radio id to f

@@ -14,7 +14,7 @@ use Rattle.mesh_model.specs.Worlds.{Node}
 use Rattle.mesh_model.specs.Choices.{least_from, may_turn_in, may_send_in, may_ask_in, first_turn, first_send_in, first_ask_in, first_send, first_ask}
 use Rattle.mesh_model.proofs.Picks.{least_of, with_found, least_pair_of}
 use Rattle.mesh_world.specs.Seen.{node_in}
-use Rattle.mesh_world.specs.Kept.{shown, Ready}
+use Rattle.mesh_world.specs.Kept.{world_in, Ready}
 use Rattle.mesh_world.specs.Noted.{AreReadyIn}
 use Rattle.mesh_world.proofs.ReadySets.{none_passes, least_found, least_same}
 
@@ -76,8 +76,8 @@ module _ (mesh : Nodes) (nodes : List NodeSeen) (ready : Ready) (are : AreReadyI
 
   -- ---- turns
 
-  pub turn_first : (radio : RadioState) (r : Option ℕ) → IsLeastFrom ready.turns 0 r → r ≡ first_turn (shown mesh nodes radio)
-  unfolding first_turn shown
+  pub turn_first : (radio : RadioState) (r : Option ℕ) → IsLeastFrom ready.turns 0 r → r ≡ first_turn (world_in mesh nodes radio)
+  unfolding first_turn world_in
   turn_first radio r least =
       least_of (length (map (node_in mesh) nodes)) ready.turns (λ x. may_turn_in (slice_get (map (node_in mesh) nodes) x)) (λ q l. are.sets.turns q)
       (λ q is. subst (λ k. q < k) (sym (count_in mesh nodes)) (turn_within q is)) r least
@@ -97,8 +97,8 @@ module _ (mesh : Nodes) (nodes : List NodeSeen) (ready : Ready) (are : AreReadyI
   sends_same : (q : ℕ) → sets.contains ready.sends q ≡ is_some (first_send_in (length (map (node_in mesh) nodes)) (slice_get (map (node_in mesh) nodes) q))
   sends_same q = are.sets.sends q ∙ ap (λ k. is_some (first_send_in k (slice_get (map (node_in mesh) nodes) q))) (sym size_is)
 
-  pub send_first : (radio : RadioState) (r : Option ℕ) → IsLeastFrom ready.sends 0 r → with_found (λ x. first_send_in (length (map (node_in mesh) nodes)) (slice_get (map (node_in mesh) nodes) x)) r ≡ first_send (shown mesh nodes radio)
-  unfolding first_send shown
+  pub send_first : (radio : RadioState) (r : Option ℕ) → IsLeastFrom ready.sends 0 r → with_found (λ x. first_send_in (length (map (node_in mesh) nodes)) (slice_get (map (node_in mesh) nodes) x)) r ≡ first_send (world_in mesh nodes radio)
+  unfolding first_send world_in
   send_first radio r least =
       least_pair_of (length (map (node_in mesh) nodes)) ready.sends (λ x. first_send_in (length (map (node_in mesh) nodes)) (slice_get (map (node_in mesh) nodes) x)) (λ q l. sends_same q)
       (λ q is. subst (λ k. q < k) (sym (count_in mesh nodes)) (send_within q is)) r least
@@ -118,8 +118,8 @@ module _ (mesh : Nodes) (nodes : List NodeSeen) (ready : Ready) (are : AreReadyI
   asks_same : (q : ℕ) → sets.contains ready.asks q ≡ is_some (first_ask_in (length (map (node_in mesh) nodes)) (slice_get (map (node_in mesh) nodes) q))
   asks_same q = are.sets.asks q ∙ ap (λ k. is_some (first_ask_in k (slice_get (map (node_in mesh) nodes) q))) (sym size_is)
 
-  pub ask_first : (radio : RadioState) (r : Option ℕ) → IsLeastFrom ready.asks 0 r → with_found (λ x. first_ask_in (length (map (node_in mesh) nodes)) (slice_get (map (node_in mesh) nodes) x)) r ≡ first_ask (shown mesh nodes radio)
-  unfolding first_ask shown
+  pub ask_first : (radio : RadioState) (r : Option ℕ) → IsLeastFrom ready.asks 0 r → with_found (λ x. first_ask_in (length (map (node_in mesh) nodes)) (slice_get (map (node_in mesh) nodes) x)) r ≡ first_ask (world_in mesh nodes radio)
+  unfolding first_ask world_in
   ask_first radio r least =
       least_pair_of (length (map (node_in mesh) nodes)) ready.asks (λ x. first_ask_in (length (map (node_in mesh) nodes)) (slice_get (map (node_in mesh) nodes) x)) (λ q l. asks_same q)
       (λ q is. subst (λ k. q < k) (sym (count_in mesh nodes)) (ask_within q is)) r least

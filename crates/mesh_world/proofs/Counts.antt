@@ -13,9 +13,9 @@ use Rattle.mesh_base.specs.Meshes.{Nodes}
 use Rattle.mesh_base.specs.declared.events.Flying.{Flying}
 use Rattle.mesh_base.specs.declared.events.Item.{Item}
 use Rattle.mesh_base.specs.declared.events.Item.TheVariants as item
-use Rattle.mesh_radio.specs.Copies.{is_data, data_in}
+use Rattle.mesh_radio.specs.Copies.{data_in}
 use Rattle.aodv_wire.specs.declared.error.WireError.{WireError}
-use Rattle.aodv_wire.specs.Spells.{kind, refusal}
+use Rattle.aodv_wire.specs.Spells.{kind, refusal, is_data}
 use Rattle.aodv_wire.proofs.Lines.{said_rreq, said_rrep, said_rerr, said_data}
 use Rattle.aodv_model.specs.Cores.{Body, Store, bodies_in, has_data, in_qD}
 use Rattle.aodv_model.specs.Soundness.{IsStoreInMesh}
@@ -28,7 +28,7 @@ use Rattle.mesh_meaning.specs.Packets.{IsWrittenItem, IsWrittenCopy, copy_in}
 use Rattle.mesh_model.specs.Accounts.{total, total_below, counts, in_message, in_item, in_store, in_copy, waiting, queued, in_flight}
 use Rattle.mesh_world.specs.Seen.{node_in}
 use Rattle.mesh_model.specs.Accounts.{any}
-use Rattle.mesh_world.specs.Kept.{shown}
+use Rattle.mesh_world.specs.Kept.{world_in}
 use Rattle.mesh_world.specs.Counted.{has_datum, one_if, waiting_for, waiting_at, queued_in, flying_in, AreCounted}
 
 -- ---- sums over lists
@@ -185,18 +185,18 @@ store_counts size n same =
     total_same size _ (waiting_for n) (λ d. bodies_count (n.core).ip d (bodies_in (maps.get (n.core).store d))) ∙ ap (λ k. total_below k (waiting_for n)) (sym same)
 
 module _ (mesh : Nodes) (nodes : List NodeSeen) (radio : RadioState) (are : AreCounted mesh nodes radio) where
-  pub waiting_means : sum_by waiting_at nodes ≡ waiting any (shown mesh nodes radio)
-  unfolding waiting shown
+  pub waiting_means : sum_by waiting_at nodes ≡ waiting any (world_in mesh nodes radio)
+  unfolding waiting world_in
   waiting_means = sym (total_map (λ n. n.size ≡ length nodes) (node_in mesh) (λ n. in_store any (length (map (node_in mesh) nodes)) (n.core).ip (n.core).store) waiting_at nodes are.sizes
       (λ n same. store_counts (length (map (node_in mesh) nodes)) n (same ∙ sym (length-map nodes (node_in mesh)))))
 
-  pub queued_means : sum_by (λ n. queued_in n.items) nodes ≡ queued any (shown mesh nodes radio)
-  unfolding queued shown
+  pub queued_means : sum_by (λ n. queued_in n.items) nodes ≡ queued any (world_in mesh nodes radio)
+  unfolding queued world_in
   queued_means = sym (total_map (λ n. AllByRecursion (IsWrittenItem mesh) n.items) (node_in mesh) (λ n. total (in_item any (n.core).ip) n.queue) (λ n. queued_in n.items) nodes are.items
       (λ n all. items_count mesh (n.core).ip n.items all))
 
-  pub flying_means : flying_in radio.flying ≡ in_flight any (shown mesh nodes radio)
-  unfolding in_flight flying_in shown
+  pub flying_means : flying_in radio.flying ≡ in_flight any (world_in mesh nodes radio)
+  unfolding in_flight flying_in world_in
   flying_means = sym (total_map (IsWrittenCopy mesh) (copy_in mesh) (in_copy any) (λ f. one_if (is_data f.bytes)) radio.flying are.flying (λ f written. packet_counts mesh f.bytes written.spells.allowed))
 
   -- each part of the sum fits
@@ -265,8 +265,8 @@ module _ (mesh : Nodes) (nodes : List NodeSeen) (radio : RadioState) (are : AreC
       omega arith
 
   -- all nodes are counted
-  pub tally_waiting : (k waits queues : ℕ) → length nodes ≤ k → IsTallied nodes k waits queues → waits ≡ waiting any (shown mesh nodes radio)
+  pub tally_waiting : (k waits queues : ℕ) → length nodes ≤ k → IsTallied nodes k waits queues → waits ≡ waiting any (world_in mesh nodes radio)
   tally_waiting k waits queues end was = was.in_stores ∙ (ap (sum_by waiting_at) (take_all k nodes end) ∙ waiting_means mesh nodes radio are)
 
-  pub tally_queued : (k waits queues : ℕ) → length nodes ≤ k → IsTallied nodes k waits queues → queues ≡ queued any (shown mesh nodes radio)
+  pub tally_queued : (k waits queues : ℕ) → length nodes ≤ k → IsTallied nodes k waits queues → queues ≡ queued any (world_in mesh nodes radio)
   tally_queued k waits queues end was = was.in_inboxes ∙ (ap (sum_by (λ n. queued_in n.items)) (take_all k nodes end) ∙ queued_means mesh nodes radio are)

@@ -5,26 +5,27 @@ use Rattle.std.specs.List.{AllByRecursion}
 use Rattle.std.proofs.lemmas.Option.{slice_get-map, slice_get_read, same_Some, none-some}
 use Rattle.std.proofs.lemmas.List.{length-map, length-set}
 use Rattle.mesh_base.specs.Meshes.{Nodes}
-use Rattle.mesh_base.specs.declared.events.Full.{Full}
+use Rattle.mesh_base.specs.declared.events.Counter.{Counter}
 use Rattle.mesh_base.specs.declared.events.Done.{Done}
 use Rattle.mesh_base.specs.declared.events.Done.TheVariants as done
 use Rattle.aodv_node.specs.Seen.{NodeSeen}
-use Rattle.mesh_model.specs.Worlds.{World, Event, Outcome, Idle, Stops, step, after}
+use Rattle.mesh_model.specs.Worlds as worlds
+use Rattle.mesh_model.specs.Worlds.{World, Event, Outcome, Idle, step, after}
 use Rattle.mesh_model.specs.Places.{IsEvent}
 use Rattle.mesh_model.specs.Invariants.{IsInvariant}
 use Rattle.mesh_model.specs.Accounts.{waiting, queued, in_flight, given, doubled, delivered, dropped}
 use Rattle.mesh_model.proofs.Sizes.{same_size}
 use Rattle.mesh_model.proofs.MeshSteps.{step_keeps}
 use Rattle.mesh_model.proofs.AccountSteps.{step_balanced}
-use Rattle.mesh_model.proofs.Acyclic.{no_cycle}
+use Rattle.mesh_model.proofs.Acyclic.{no_cycle, better_along}
 use Rattle.mesh_radio.specs.Radios.{RadioState}
-use Rattle.mesh_meaning.specs.Events.{place_of}
+use Rattle.mesh_meaning.specs.Events.{node_of}
 use Rattle.mesh_meaning.specs.Packets.{IsWrittenCopy}
 use Rattle.mesh_meaning.specs.Answers.{outcome_in, IsDoneInMesh}
 use Rattle.mesh_world.specs.Seen.{WorldSeen, IsSoundWorld, node_in}
 use Rattle.mesh_model.specs.Accounts.{any}
 use Rattle.mesh_world.specs.Steps.{IsStep}
-use Rattle.mesh_world.specs.Kept.{Ready, IsKept, IsKeptNode, IsReadyFor, shown, seen_of}
+use Rattle.mesh_world.specs.Kept.{Ready, IsKept, IsKeptNode, IsReadyFor, world_in, seen_of}
 use Rattle.mesh_world.specs.declared.steps.StepError.{StepError}
 use Rattle.mesh_world.specs.declared.steps.StepError.TheVariants as errors
 
@@ -48,6 +49,7 @@ sound_after w e o s ok is one =
       count = size ∙ s.count;
       invariant = kept;
       acyclic = λ d. no_cycle (after w.world o) d kept.loop_safe;
+      better = λ d x y edge e apart there valid. better_along (after w.world o) d x y edge e kept.loop_safe apart there valid;
       few = omega arith;
     }
 
@@ -84,11 +86,11 @@ keeps : (mesh : Nodes) (nodes : List NodeSeen) (radio : RadioState) (ready : Rea
 keeps mesh nodes radio ready steps s b = record { sound = s; each = b.each; flying = b.flying; size = b.size; numbers = b.numbers; sets = b.sets }
 
 pub ends_done : (e : Event) (mesh : Nodes) (nodes : List NodeSeen) (radio : RadioState) (ready : Ready) (steps : ℕ) (d : Done) (nodes' : List NodeSeen) (radio' : RadioState) (ready' : Ready) (packet : List ℕ) (o : Outcome)
-    → IsKept mesh nodes radio ready steps → IsEvent (length mesh) e → step (shown mesh nodes radio) e ≡ o → given any e o + doubled any (shown mesh nodes radio) e ≤ 1
-    → after (shown mesh nodes radio) o ≡ shown mesh nodes' radio' → o ≡ outcome_in mesh (place_of e) (shown mesh nodes' radio') d packet → IsDoneInMesh mesh d packet
+    → IsKept mesh nodes radio ready steps → IsEvent (length mesh) e → step (world_in mesh nodes radio) e ≡ o → given any e o + doubled any (world_in mesh nodes radio) e ≤ 1
+    → after (world_in mesh nodes radio) o ≡ world_in mesh nodes' radio' → o ≡ outcome_in mesh (node_of e) (world_in mesh nodes' radio') d packet → IsDoneInMesh mesh d packet
     → Beside mesh nodes' radio' ready' (steps + 1) → Ends e mesh nodes radio steps (Ok d) nodes' radio' ready' (steps + 1) packet
 ends_done e mesh nodes radio ready steps d nodes' radio' ready' packet o kept ok is one world outcome in_mesh b =
-    let now : after (shown mesh nodes radio) (step (shown mesh nodes radio) e) ≡ shown mesh nodes' radio' = ap (after (shown mesh nodes radio)) is ∙ world in
+    let now : after (world_in mesh nodes radio) (step (world_in mesh nodes radio) e) ≡ world_in mesh nodes' radio' = ap (after (world_in mesh nodes radio)) is ∙ world in
     let sound : IsSoundWorld (seen_of mesh nodes' radio' (steps + 1)) =
     subst (λ (v : World). IsSoundWorld (record { mesh = mesh; world = v; steps = steps + 1 })) world (sound_after (seen_of mesh nodes radio steps) e o kept.sound ok is one) in
     record {
@@ -98,27 +100,27 @@ ends_done e mesh nodes radio ready steps d nodes' radio' ready' packet o kept ok
 
 -- the same world, perhaps after a step in which nothing was enabled
 still : (mesh : Nodes) (nodes : List NodeSeen) (radio : RadioState) (ready : Ready) (steps steps' : ℕ) (nodes' : List NodeSeen) (radio' : RadioState)
-    → IsKept mesh nodes radio ready steps → steps ≤ steps' → shown mesh nodes' radio' ≡ shown mesh nodes radio → Beside mesh nodes' radio' ready steps' → IsKept mesh nodes' radio' ready steps'
+    → IsKept mesh nodes radio ready steps → steps ≤ steps' → world_in mesh nodes' radio' ≡ world_in mesh nodes radio → Beside mesh nodes' radio' ready steps' → IsKept mesh nodes' radio' ready steps'
 still mesh nodes radio ready steps steps' nodes' radio' kept le same b =
     let s = kept.sound in
     let few = s.few in
-    let sound : IsSoundWorld (record { mesh = mesh; world = shown mesh nodes radio; steps = steps' }) = record { mesh = s.mesh; some = s.some; count = s.count; invariant = s.invariant; acyclic = s.acyclic; few = omega arith } in
+    let sound : IsSoundWorld (record { mesh = mesh; world = world_in mesh nodes radio; steps = steps' }) = record { mesh = s.mesh; some = s.some; count = s.count; invariant = s.invariant; acyclic = s.acyclic; better = s.better; few = omega arith } in
     keeps mesh nodes' radio' ready steps' (subst (λ (v : World). IsSoundWorld (record { mesh = mesh; world = v; steps = steps' })) (sym same) sound) b
 
 pub ends_idle : (e : Event) (mesh : Nodes) (nodes : List NodeSeen) (radio : RadioState) (ready : Ready) (steps : ℕ) (nodes' : List NodeSeen) (radio' : RadioState) (packet : List ℕ)
-    → IsKept mesh nodes radio ready steps → step (shown mesh nodes radio) e ≡ Idle → shown mesh nodes' radio' ≡ shown mesh nodes radio → Beside mesh nodes' radio' ready (steps + 1)
+    → IsKept mesh nodes radio ready steps → step (world_in mesh nodes radio) e ≡ Idle → world_in mesh nodes' radio' ≡ world_in mesh nodes radio → Beside mesh nodes' radio' ready (steps + 1)
     → Ends e mesh nodes radio steps (Ok done.Idle) nodes' radio' ready (steps + 1) packet
 ends_idle e mesh nodes radio ready steps nodes' radio' packet kept is same b = record {
   step = record {
     outcome = is;
-    world = λ i. record { mesh = mesh; world = (same ∙ sym (ap (after (shown mesh nodes radio)) is)) i; steps = steps + 1 };
+    world = λ i. record { mesh = mesh; world = (same ∙ sym (ap (after (world_in mesh nodes radio)) is)) i; steps = steps + 1 };
     in_mesh = tt;
   };
   kept = still mesh nodes radio ready steps (steps + 1) nodes' radio' kept (omega arith) same b;
 }
 
-pub ends_full : (e : Event) (mesh : Nodes) (nodes : List NodeSeen) (radio : RadioState) (ready : Ready) (steps x : ℕ) (field : Full) (nodes' : List NodeSeen) (radio' : RadioState) (packet : List ℕ)
-    → IsKept mesh nodes radio ready steps → step (shown mesh nodes radio) e ≡ Stops x field → shown mesh nodes' radio' ≡ shown mesh nodes radio → Beside mesh nodes' radio' ready steps
+pub ends_full : (e : Event) (mesh : Nodes) (nodes : List NodeSeen) (radio : RadioState) (ready : Ready) (steps x : ℕ) (field : Counter) (nodes' : List NodeSeen) (radio' : RadioState) (packet : List ℕ)
+    → IsKept mesh nodes radio ready steps → step (world_in mesh nodes radio) e ≡ worlds.Full x field → world_in mesh nodes' radio' ≡ world_in mesh nodes radio → Beside mesh nodes' radio' ready steps
     → Ends e mesh nodes radio steps (Err (errors.Full x field)) nodes' radio' ready steps packet
 ends_full e mesh nodes radio ready steps x field nodes' radio' packet kept is same b = record {
   step = (is, λ i. record { mesh = mesh; world = same i; steps = steps });
@@ -126,7 +128,7 @@ ends_full e mesh nodes radio ready steps x field nodes' radio' packet kept is sa
 }
 
 pub ends_no_memory : (e : Event) (mesh : Nodes) (nodes : List NodeSeen) (radio : RadioState) (ready : Ready) (steps : ℕ) (nodes' : List NodeSeen) (radio' : RadioState) (packet : List ℕ)
-    → IsKept mesh nodes radio ready steps → shown mesh nodes' radio' ≡ shown mesh nodes radio → Beside mesh nodes' radio' ready steps
+    → IsKept mesh nodes radio ready steps → world_in mesh nodes' radio' ≡ world_in mesh nodes radio → Beside mesh nodes' radio' ready steps
     → Ends e mesh nodes radio steps (Err errors.NoMemory) nodes' radio' ready steps packet
 ends_no_memory e mesh nodes radio ready steps nodes' radio' packet kept same b = record {
   step = λ i. record { mesh = mesh; world = same i; steps = steps };
@@ -135,13 +137,13 @@ ends_no_memory e mesh nodes radio ready steps nodes' radio' packet kept same b =
 
 -- ---- rooms of the radio are not seen
 
-pub roomed_shown : (mesh : Nodes) (nodes : List NodeSeen) (old new : RadioState) → new ≡ record old { room = new.room; most = new.most } → shown mesh nodes new ≡ shown mesh nodes old
-unfolding shown
-roomed_shown mesh nodes old new same = ap (shown mesh nodes) same
+pub roomed_shown : (mesh : Nodes) (nodes : List NodeSeen) (old new : RadioState) → new ≡ record old { room = new.room; most = new.most } → world_in mesh nodes new ≡ world_in mesh nodes old
+unfolding world_in
+roomed_shown mesh nodes old new same = ap (world_in mesh nodes) same
 
 pub roomed : (mesh : Nodes) (nodes : List NodeSeen) (old new : RadioState) (ready : Ready) (steps : ℕ) → new ≡ record old { room = new.room; most = new.most }
     → IsKept mesh nodes old ready steps → IsKept mesh nodes new ready steps
-unfolding shown
+unfolding world_in
 roomed mesh nodes old new ready steps same k =
     subst (λ (r : RadioState). IsKept mesh nodes r ready steps) (sym same)
     (record { sound = k.sound; each = k.each; flying = k.flying; size = k.size; numbers = k.numbers; sets = k.sets })
@@ -195,14 +197,14 @@ set_got (x ∷ xs) (suc i) v l = set_got xs i v (let m = l in omega arith)
 
 -- as many nodes as the mesh has
 pub count_of : (mesh : Nodes) (nodes : List NodeSeen) (radio : RadioState) (ready : Ready) (steps : ℕ) → IsKept mesh nodes radio ready steps → length nodes ≡ length mesh
-unfolding shown
+unfolding world_in
 count_of mesh nodes radio ready steps k = sym (length-map nodes (node_in mesh)) ∙ (k.sound).count
 
 pub node_at : (mesh : Nodes) (nodes : List NodeSeen) (radio : RadioState) (ready : Ready) (steps x : ℕ) (n : NodeSeen) → IsKept mesh nodes radio ready steps → x < length mesh → n ≡ slice_index_or nodes x n → slice_get nodes x ≡ Some n
 node_at mesh nodes radio ready steps x n k l is = slice_get_read nodes (length nodes) x n refl (let c = count_of mesh nodes radio ready steps k in omega arith) is
 
-pub shown_at : (mesh : Nodes) (nodes : List NodeSeen) (radio : RadioState) (x : ℕ) (n : NodeSeen) → slice_get nodes x ≡ Some n → slice_get (shown mesh nodes radio).nodes x ≡ Some (node_in mesh n)
-unfolding shown
+pub shown_at : (mesh : Nodes) (nodes : List NodeSeen) (radio : RadioState) (x : ℕ) (n : NodeSeen) → slice_get nodes x ≡ Some n → slice_get (world_in mesh nodes radio).nodes x ≡ Some (node_in mesh n)
+unfolding world_in
 shown_at mesh nodes radio x n at = slice_get-map (node_in mesh) nodes x ∙ ap (λ o. option_map (node_in mesh) o) at
 
 -- a node's size

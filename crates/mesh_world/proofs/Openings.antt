@@ -12,14 +12,14 @@ use Rattle.aodv_node.proofs.Keeps.{opened}
 use Rattle.mesh_model.specs.Worlds.{World, start, openings, first_numbers}
 use Rattle.mesh_model.proofs.MeshSteps.{start_keeps}
 use Rattle.mesh_model.proofs.AccountSteps.{start_empty}
-use Rattle.mesh_model.proofs.Acyclic.{no_cycle}
+use Rattle.mesh_model.proofs.Acyclic.{no_cycle, better_along}
 use Rattle.mesh_radio.specs.Radios.{RadioState}
 use Rattle.mesh_radio.specs.Radios as radios
 use Rattle.mesh_meaning.specs.Packets.{IsWrittenItem}
 use Rattle.mesh_world.specs.Seen.{WorldSeen, IsSoundWorld, node_in}
 use Rattle.mesh_model.specs.Accounts.{any}
 use Rattle.mesh_world.specs.Seen as worlds
-use Rattle.mesh_world.specs.Kept.{Ready, IsKept, IsKeptNode, shown, seen_of}
+use Rattle.mesh_world.specs.Kept.{Ready, IsKept, IsKeptNode, world_in, seen_of}
 use Rattle.mesh_world.specs.Noted.{none_ready}
 use Rattle.mesh_world.specs.Parts.{IsOpened, AreOpened}
 use Rattle.mesh_world.proofs.ReadySets.{HasNothing, opening_ready}
@@ -79,8 +79,8 @@ nothing v mesh me (n ∷ ns) all = (record { items = (all.0).items; store = ap (
 
 -- ---- the world
 
-world_opens : (v : Variant) (mesh : Nodes) (nodes : List NodeSeen) (size : ℕ) → length nodes ≡ length mesh → AreOpened v mesh 0 nodes → shown mesh nodes (radios.opening size) ≡ start v (first_numbers mesh)
-unfolding shown start
+world_opens : (v : Variant) (mesh : Nodes) (nodes : List NodeSeen) (size : ℕ) → length nodes ≡ length mesh → AreOpened v mesh 0 nodes → world_in mesh nodes (radios.opening size) ≡ start v (first_numbers mesh)
+unfolding world_in start
 world_opens v mesh nodes size count all =
     let ns : map (node_in mesh) nodes ≡ openings v 0 (map (λ p. p.1) mesh) = nodes_open v mesh 0 mesh nodes count (λ j l. let e : 0 + j ≡ j = omega arith in ap (first_at mesh) e) all in
     λ i. record { nodes = ns i; links = (radios.opening size).links; ever = (radios.opening size).ever; flying = []; next_copy = 1 }
@@ -89,14 +89,22 @@ sound_opening : (v : Variant) (mesh : Nodes) → IsMesh mesh → 1 ≤ length me
 sound_opening v mesh is some count =
     let kept = start_keeps v (first_numbers mesh) (positive mesh is.positive) in
     let none = start_empty any v (first_numbers mesh) in
-    record { mesh = is; some = some; count = count; invariant = kept; acyclic = λ d. no_cycle (start v (first_numbers mesh)) d kept.loop_safe; few = omega arith }
+    record {
+      mesh = is;
+      some = some;
+      count = count;
+      invariant = kept;
+      acyclic = λ d. no_cycle (start v (first_numbers mesh)) d kept.loop_safe;
+      better = λ d x y edge e apart there valid. better_along (start v (first_numbers mesh)) d x y edge e kept.loop_safe apart there valid;
+      few = omega arith;
+    }
 
-count_opens : (mesh : Nodes) (nodes : List NodeSeen) (size : ℕ) → length nodes ≡ length mesh → length (shown mesh nodes (radios.opening size)).nodes ≡ length mesh
-unfolding shown
+count_opens : (mesh : Nodes) (nodes : List NodeSeen) (size : ℕ) → length nodes ≡ length mesh → length (world_in mesh nodes (radios.opening size)).nodes ≡ length mesh
+unfolding world_in
 count_opens mesh nodes size count = length-map nodes (node_in mesh) ∙ count
 
 pub seen_opening : (v : Variant) (mesh : Nodes) (nodes : List NodeSeen) (radio : RadioState) → radio ≡ radios.opening (length mesh) → length nodes ≡ length mesh → AreOpened v mesh 0 nodes → seen_of mesh nodes radio 0 ≡ worlds.opening v mesh
-seen_opening v mesh nodes radio is count all = λ i. record { mesh = mesh; world = (ap (shown mesh nodes) is ∙ world_opens v mesh nodes (length mesh) count all) i; steps = 0 }
+seen_opening v mesh nodes radio is count all = λ i. record { mesh = mesh; world = (ap (world_in mesh nodes) is ∙ world_opens v mesh nodes (length mesh) count all) i; steps = 0 }
 
 pub kept_opening : (v : Variant) (mesh : Nodes) (nodes : List NodeSeen) (radio : RadioState) (ready : Ready) → IsMesh mesh → 1 ≤ length mesh → radio ≡ radios.opening (length mesh) → ready ≡ none_ready → length nodes ≡ length mesh → AreOpened v mesh 0 nodes
     → IsKept mesh nodes radio ready 0

@@ -22,7 +22,7 @@ use Rattle.mesh_radio.specs.Radios.{RadioState, with_copies}
 use Rattle.mesh_meaning.specs.Packets.{IsWrittenCopy, copy_in}
 use Rattle.mesh_meaning.specs.Answers.{cast_in, effect_in, copies_in, IsCastWritten, IsEffectInMesh}
 use Rattle.mesh_world.specs.Seen.{node_in}
-use Rattle.mesh_world.specs.Kept.{Ready, IsKept, IsKeptNode, shown}
+use Rattle.mesh_world.specs.Kept.{Ready, IsKept, IsKeptNode, world_in}
 use Rattle.mesh_world.specs.Noted.{noted}
 use Rattle.mesh_world.specs.Parts.{reached}
 use Rattle.mesh_world.proofs.Receivers.{reached_near}
@@ -31,13 +31,13 @@ use Rattle.mesh_world.proofs.Casts.{Flies, flies, flights_length}
 use Rattle.mesh_world.proofs.ReadySets.{noted_ready}
 
 -- the nodes in range
-pub near_is : (mesh : Nodes) (nodes : List NodeSeen) (radio : RadioState) (ready : Ready) (steps x : ℕ) (near : NodeIds) → IsKept mesh nodes radio ready steps → near ≡ linked_below radio.links x radio.size → near ≡ range (shown mesh nodes radio) x
-unfolding shown range
+pub near_is : (mesh : Nodes) (nodes : List NodeSeen) (radio : RadioState) (ready : Ready) (steps x : ℕ) (near : NodeIds) → IsKept mesh nodes radio ready steps → near ≡ linked_below radio.links x radio.size → near ≡ range (world_in mesh nodes radio) x
+unfolding world_in range
 near_is mesh nodes radio ready steps x near k e = e ∙ ap (linked_below radio.links x) (k.size ∙ sym (k.sound).count)
 
-pub near_below : (mesh : Nodes) (nodes : List NodeSeen) (radio : RadioState) (ready : Ready) (steps x : ℕ) (near : NodeIds) → IsKept mesh nodes radio ready steps → near ≡ range (shown mesh nodes radio) x → sound.AreBelow (length mesh) near
+pub near_below : (mesh : Nodes) (nodes : List NodeSeen) (radio : RadioState) (ready : Ready) (steps x : ℕ) (near : NodeIds) → IsKept mesh nodes radio ready steps → near ≡ range (world_in mesh nodes radio) x → sound.AreBelow (length mesh) near
 near_below mesh nodes radio ready steps x near k e q t =
-    subst (λ (n : ℕ). q < n) (k.sound).count (range_has (shown mesh nodes radio) x q (ap (λ (s : NodeIds). sets.contains s q) (sym e) ∙ t)).0
+    subst (λ (n : ℕ). q < n) (k.sound).count (range_has (world_in mesh nodes radio) x q (ap (λ (s : NodeIds). sets.contains s q) (sym e) ∙ t)).0
 
 -- what node x did, by the reaction of the model
 pub record Acts (mesh : Nodes) (x : ℕ) (new : NodeSeen) (reaction : Reaction) (effect : code.Effect) (out : List ℕ) : Type 0 where
@@ -56,8 +56,8 @@ pub record Sends (mesh : Nodes) (x : ℕ) (near : NodeIds) (effect : code.Effect
 
 -- what came of both
 pub record Comes (mesh : Nodes) (nodes : List NodeSeen) (radio : RadioState) (ready : Ready) (steps x : ℕ) (new : NodeSeen) (reaction : Reaction) (effect : code.Effect) (out : List ℕ) (air : Air) (radio' : RadioState) : Type 0 where
-  pub world : done_by (shown mesh nodes radio) x reaction (map (item_in mesh) new.items) ≡ shown mesh (slice_set nodes x new) radio'
-  pub copies : copies (shown mesh nodes radio) x (reaction.effect).cast ≡ copies_in mesh x effect.cast air out
+  pub world : done_by (world_in mesh nodes radio) x reaction (map (item_in mesh) new.items) ≡ world_in mesh (slice_set nodes x new) radio'
+  pub copies : copies (world_in mesh nodes radio) x (reaction.effect).cast ≡ copies_in mesh x effect.cast air out
   pub means : reaction.effect ≡ effect_in mesh effect out
   pub in_mesh : IsEffectInMesh mesh effect air out
   pub beside : Beside mesh (slice_set nodes x new) radio' (noted ready x new (length mesh)) (steps + 1)
@@ -72,12 +72,12 @@ same_reached mesh near e effect out is means = ap (λ (k : code.Effect). reached
 
 -- the world after it, where the copies are those of the radio
 made : (mesh : Nodes) (nodes : List NodeSeen) (old new : RadioState) (x : ℕ) (n : NodeSeen) (reaction : Reaction) (out : List ℕ) (to : NodeIds) → n.core ≡ reaction.core
-    → copies (shown mesh nodes old) x (reaction.effect).cast ≡ map (copy_in mesh) (radio.copies_to (members_below old.size to) old.next_copy x out) → new ≡ with_copies old x out to
-    → done_by (shown mesh nodes old) x reaction (map (item_in mesh) n.items) ≡ shown mesh (slice_set nodes x n) new
-unfolding shown done_by
+    → copies (world_in mesh nodes old) x (reaction.effect).cast ≡ map (copy_in mesh) (radio.copies_to (members_below old.size to) old.next_copy x out) → new ≡ with_copies old x out to
+    → done_by (world_in mesh nodes old) x reaction (map (item_in mesh) n.items) ≡ world_in mesh (slice_set nodes x n) new
+unfolding world_in done_by
 made mesh nodes old new x n reaction out to core_is copies_are sent =
     let tos = members_below old.size to in
-    let cs = copies (shown mesh nodes old) x (reaction.effect).cast in
+    let cs = copies (world_in mesh nodes old) x (reaction.effect).cast in
     let fs = radio.copies_to tos old.next_copy x out in
     let count : length cs ≡ length tos = ap length copies_are ∙ length-map fs (copy_in mesh) ∙ flights_length tos old.next_copy x out in
     let node : record { core = reaction.core; queue = map (item_in mesh) n.items } ≡ node_in mesh n = λ i. record { core = sym core_is i; queue = map (item_in mesh) n.items } in
@@ -86,11 +86,11 @@ made mesh nodes old new x n reaction out to core_is copies_are sent =
     let flying : map (copy_in mesh) old.flying ++ cs ≡ map (copy_in mesh) (old.flying ++ fs) =
     ap (λ zs. map (copy_in mesh) old.flying ++ zs) copies_are ∙ sym (map-append (copy_in mesh) old.flying fs) in
     (λ i. record { nodes = ns i; links = old.links; ever = old.ever; flying = flying i; next_copy = old.next_copy + count i })
-    ∙ ap (shown mesh (slice_set nodes x n)) (sym sent)
+    ∙ ap (world_in mesh (slice_set nodes x n)) (sym sent)
 
-world_copies : (mesh : Nodes) (nodes : List NodeSeen) (old : RadioState) (ready : Ready) (steps x : ℕ) (near : NodeIds) (c : Cast) → IsKept mesh nodes old ready steps → near ≡ range (shown mesh nodes old) x
-    → copies (shown mesh nodes old) x c ≡ copies_of c (members_below (length mesh) (receivers near c)) old.next_copy x
-unfolding copies shown
+world_copies : (mesh : Nodes) (nodes : List NodeSeen) (old : RadioState) (ready : Ready) (steps x : ℕ) (near : NodeIds) (c : Cast) → IsKept mesh nodes old ready steps → near ≡ range (world_in mesh nodes old) x
+    → copies (world_in mesh nodes old) x c ≡ copies_of c (members_below (length mesh) (receivers near c)) old.next_copy x
+unfolding copies world_in
 world_copies mesh nodes old ready steps x near c k near_is =
     λ i. copies_of c (members_below ((k.sound).count i) (receivers (sym near_is i) c)) old.next_copy x
 
@@ -101,11 +101,11 @@ said_copies mesh old x ec c near out air to casts to_is air_is =
     (λ i. copies_of (sym casts i) (members_below (length mesh) (sym to_is i)) old.next_copy x) ∙ ap (λ (r : Air). copies_of (cast_in mesh ec out) (members_below (length mesh) r.to) r.first x) (sym air_is)
 
 pub comes : (mesh : Nodes) (nodes : List NodeSeen) (old new : RadioState) (ready : Ready) (steps x : ℕ) (near : NodeIds) (n : NodeSeen) (reaction : Reaction) (effect : code.Effect) (out : List ℕ) (air : Air)
-    → IsKept mesh nodes old ready steps → steps < 2 ^ 48 → x < length mesh → near ≡ range (shown mesh nodes old) x → Acts mesh x n reaction effect out → Sends mesh x near effect out air old new
+    → IsKept mesh nodes old ready steps → steps < 2 ^ 48 → x < length mesh → near ≡ range (world_in mesh nodes old) x → Acts mesh x n reaction effect out → Sends mesh x near effect out air old new
     → Comes mesh nodes old ready steps x n reaction effect out air new
 comes mesh nodes old new ready steps x near n reaction effect out air k few l near_is a s =
     let c = (reaction.effect).cast in
-    let w = shown mesh nodes old in
+    let w = world_in mesh nodes old in
     let f : Flies mesh near c old.next_copy x out = flies mesh near c old.next_copy x out (k.sound).mesh a.cast (a.aimed).cast a.packet in
     let to : NodeIds = reached mesh near effect.cast out in
     let to_is : to ≡ receivers near c = same_reached mesh near effect reaction.effect out a.did f.means in

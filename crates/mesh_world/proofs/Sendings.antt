@@ -4,7 +4,7 @@ use Rattle.std.specs.Prelude.{slice_get, slice_set, slice_index_or, if◌then◌
 use Rattle.std.specs.List.{AllByRecursion}
 use Rattle.mesh_base.specs.Members.{NodeIds}
 use Rattle.mesh_base.specs.Meshes.{Nodes}
-use Rattle.mesh_base.specs.declared.events.Full.{Full}
+use Rattle.mesh_base.specs.declared.events.Counter.{Counter}
 use Rattle.mesh_base.specs.declared.events.Air.{Air}
 use Rattle.mesh_base.specs.declared.events.Item as items
 use Rattle.mesh_base.specs.declared.events.Effect as code
@@ -17,17 +17,18 @@ use Rattle.aodv_model.specs.Soundness as sound
 use Rattle.aodv_model.proofs.SoundTurns.{send_keeps_core, ask_keeps_core}
 use Rattle.aodv_model.proofs.MeshNames.{send_names_the_mesh, ask_names_the_mesh}
 use Rattle.aodv_meaning.specs.Effects.{item_in}
-use Rattle.aodv_handlers.specs.Made.{IsMade, IsRefused}
+use Rattle.aodv_handlers.specs.Made.{IsMade, IsFull}
 use Rattle.aodv_node.specs.Seen.{NodeSeen, IsSoundNode}
-use Rattle.mesh_model.specs.Worlds.{World, Event, Send, Ask, Outcome, Idle, Stops, Goes, Sent, step, range, linked_below, send_of, ask_of, unless_full, at_node, done_by, copies}
+use Rattle.mesh_model.specs.Worlds as worlds
+use Rattle.mesh_model.specs.Worlds.{World, Event, Send, Ask, Outcome, Idle, Next, Sent, step, range, linked_below, send_of, ask_of, unless_full, at_node, done_by, copies}
 use Rattle.mesh_model.specs.Places.{IsEvent}
 use Rattle.mesh_model.specs.Accounts.{given, doubled}
 use Rattle.mesh_radio.specs.Radios.{RadioState}
-use Rattle.mesh_meaning.specs.Events.{place_of}
+use Rattle.mesh_meaning.specs.Events.{node_of}
 use Rattle.mesh_meaning.specs.Packets.{IsWrittenItem}
 use Rattle.mesh_meaning.specs.Answers.{outcome_in}
 use Rattle.mesh_model.specs.Accounts.{any}
-use Rattle.mesh_world.specs.Kept.{Ready, IsKept, shown}
+use Rattle.mesh_world.specs.Kept.{Ready, IsKept, world_in}
 use Rattle.mesh_world.specs.Noted.{noted}
 use Rattle.mesh_world.specs.declared.steps.StepError.TheVariants as errors
 use Rattle.mesh_world.proofs.Frames.{Ends, ends_done, shown_at, noted_beside, roomed, began, node_at}
@@ -41,24 +42,24 @@ same_node old new others core = others ∙ (λ i. record old { core = core i })
 -- ---- a reaction that is cast, and takes nothing from the queue
 
 pub sent_done : (e : Event) (mesh : Nodes) (nodes : List NodeSeen) (radio radio' : RadioState) (ready ready' : Ready) (steps x : ℕ) (near : NodeIds) (n new : NodeSeen) (reaction : Reaction) (effect : code.Effect) (out : List ℕ) (air : Air)
-    → IsKept mesh nodes radio ready steps → steps < 2 ^ 48 → x < length mesh → IsEvent (length mesh) e → ((o : Outcome) (w : World) → given any e o + doubled any w e ≤ 1) → place_of e ≡ x
-    → near ≡ range (shown mesh nodes radio) x
-    → step (shown mesh nodes radio) e ≡ Goes (done_by (shown mesh nodes radio) x reaction (map (item_in mesh) n.items)) (Sent reaction.effect (copies (shown mesh nodes radio) x (reaction.effect).cast))
+    → IsKept mesh nodes radio ready steps → steps < 2 ^ 48 → x < length mesh → IsEvent (length mesh) e → ((o : Outcome) (w : World) → given any e o + doubled any w e ≤ 1) → node_of e ≡ x
+    → near ≡ range (world_in mesh nodes radio) x
+    → step (world_in mesh nodes radio) e ≡ Next (done_by (world_in mesh nodes radio) x reaction (map (item_in mesh) n.items)) (Sent reaction.effect (copies (world_in mesh nodes radio) x (reaction.effect).cast))
     → new.items ≡ n.items → Acts mesh x new reaction effect out → Sends mesh x near effect out air radio radio' → ready' ≡ noted ready x new (length mesh)
     → Ends e mesh nodes radio steps (Ok (done.Sent effect air)) (slice_set nodes x new) radio' ready' (steps + 1) out
 sent_done e mesh nodes radio radio' ready ready' steps x near n new reaction effect out air k few l ok one place near_at goes same a sends noted_is =
-    let w = shown mesh nodes radio in
-    let w' = shown mesh (slice_set nodes x new) radio' in
+    let w = world_in mesh nodes radio in
+    let w' = world_in mesh (slice_set nodes x new) radio' in
     let c : Comes mesh nodes radio ready steps x new reaction effect out air radio' = comes mesh nodes radio radio' ready steps x near new reaction effect out air k few l near_at a sends in
     let world : done_by w x reaction (map (item_in mesh) n.items) ≡ w' = ap (λ (is : List items.Item). done_by w x reaction (map (item_in mesh) is)) (sym same) ∙ c.world in
-    let o = Goes (done_by w x reaction (map (item_in mesh) n.items)) (Sent reaction.effect (copies w x (reaction.effect).cast)) in
+    let o = Next (done_by w x reaction (map (item_in mesh) n.items)) (Sent reaction.effect (copies w x (reaction.effect).cast)) in
     ends_done e mesh nodes radio ready steps (done.Sent effect air) (slice_set nodes x new) radio' ready' out o
     k ok goes (one o w) world
-    (subst (λ (y : ℕ). o ≡ outcome_in mesh y w' (done.Sent effect air) out) (sym place) (λ j. Goes (world j) (Sent (c.means j) (c.copies j))))
+    (subst (λ (y : ℕ). o ≡ outcome_in mesh y w' (done.Sent effect air) out) (sym place) (λ j. Next (world j) (Sent (c.means j) (c.copies j))))
     c.in_mesh
     (noted_beside mesh (slice_set nodes x new) radio' ready' (noted ready x new (length mesh)) (steps + 1) noted_is c.beside)
 
-acts : (mesh : Nodes) (nodes : List NodeSeen) (radio : RadioState) (ready : Ready) (steps x : ℕ) (n new : NodeSeen) (reaction : Reaction) (o : Option Full) (effect : code.Effect) (out : List ℕ)
+acts : (mesh : Nodes) (nodes : List NodeSeen) (radio : RadioState) (ready : Ready) (steps x : ℕ) (n new : NodeSeen) (reaction : Reaction) (o : Option Counter) (effect : code.Effect) (out : List ℕ)
     → IsKept mesh nodes radio ready steps → slice_get nodes x ≡ Some n → IsSoundNode new → new ≡ record n { core = new.core } → IsMade mesh o reaction effect new.core out
     → IsSoundReaction (length mesh) (n.core).ip reaction → sound.IsEffectInMesh (length mesh) reaction.effect → Acts mesh x new reaction effect out
 acts mesh nodes radio ready steps x n new reaction o effect out k at sound others made reacted aimed =
@@ -79,14 +80,14 @@ acts mesh nodes radio ready steps x n new reaction o effect out k at sound other
 -- ---- the send of a stored datum
 
 abbrev send_outcome : World → ℕ → ℕ → Core → List Item → NodeIds → Outcome
-send_outcome w x d core queue near = Goes (done_by w x (send core near d) queue) (Sent (send core near d).effect (copies w x ((send core near d).effect).cast))
+send_outcome w x d core queue near = Next (done_by w x (send core near d) queue) (Sent (send core near d).effect (copies w x ((send core near d).effect).cast))
 
 send_at : (mesh : Nodes) (nodes : List NodeSeen) (radio : RadioState) (x d : ℕ) (n : NodeSeen) (b : Bool) → slice_get nodes x ≡ Some n → may_send n.core d ≡ b
-    → step (shown mesh nodes radio) (Send x d)
-    ≡ (if b then unless_full x (send_full n.core (range (shown mesh nodes radio) x) d) (send_outcome (shown mesh nodes radio) x d n.core (map (item_in mesh) n.items) (range (shown mesh nodes radio) x)) else Idle)
+    → step (world_in mesh nodes radio) (Send x d)
+    ≡ (if b then unless_full x (send_full n.core (range (world_in mesh nodes radio) x) d) (send_outcome (world_in mesh nodes radio) x d n.core (map (item_in mesh) n.items) (range (world_in mesh nodes radio) x)) else Idle)
 unfolding step
 send_at mesh nodes radio x d n b at may =
-    let w = shown mesh nodes radio in
+    let w = world_in mesh nodes radio in
     ap (λ o. at_node o (send_of w x d)) (shown_at mesh nodes radio x n at)
     ∙ ap (λ (b : Bool). if b then unless_full x (send_full n.core (range w x) d) (send_outcome w x d n.core (map (item_in mesh) n.items) (range w x)) else Idle) may
 
@@ -98,17 +99,17 @@ send_idle_end mesh nodes old radio ready steps x d n new out k rooms l is others
     idle_end (Send x d) mesh nodes old radio ready steps x n new out k rooms l is (same_node n new others t.1)
     (send_at mesh nodes radio x d n false (node_at mesh nodes old ready steps x n k l is) t.0)
 
-pub send_full_end : (mesh : Nodes) (nodes : List NodeSeen) (old radio : RadioState) (ready : Ready) (steps x d : ℕ) (near : NodeIds) (f field : Full) (n new : NodeSeen) (out : List ℕ)
+pub send_full_end : (mesh : Nodes) (nodes : List NodeSeen) (old radio : RadioState) (ready : Ready) (steps x d : ℕ) (near : NodeIds) (f field : Counter) (n new : NodeSeen) (out : List ℕ)
     → IsKept mesh nodes old ready steps → radio ≡ record old { room = radio.room; most = radio.most } → x < length mesh → n ≡ slice_index_or nodes x n → near ≡ linked_below radio.links x radio.size
-    → f ≡ field → new ≡ record n { core = new.core } → (may_send n.core d ≡ true) × IsRefused (send_full n.core near d) n.core f new.core
+    → f ≡ field → new ≡ record n { core = new.core } → (may_send n.core d ≡ true) × IsFull (send_full n.core near d) n.core f new.core
     → Ends (Send x d) mesh nodes old steps (Err (errors.Full x field)) (slice_set nodes x new) radio ready steps out
 send_full_end mesh nodes old radio ready steps x d near f field n new out k rooms l is linked which others t =
-    let w = shown mesh nodes radio in
+    let w = world_in mesh nodes radio in
     let near_at : near ≡ range w x = near_is mesh nodes radio ready steps x near (roomed mesh nodes old radio ready steps rooms k) linked in
     full_end (Send x d) mesh nodes old radio ready steps x field n new out k rooms l is (same_node n new others (t.1).same)
     (send_at mesh nodes radio x d n true (node_at mesh nodes old ready steps x n k l is) t.0
     ∙ stops x (send_full n.core (range w x) d) f (send_outcome w x d n.core (map (item_in mesh) n.items) (range w x)) (ap (λ (r : NodeIds). send_full n.core r d) (sym near_at) ∙ (t.1).overfull)
-    ∙ ap (λ (h : Full). Stops x h) which)
+    ∙ ap (λ (h : Counter). worlds.Full x h) which)
 
 pub send_done_end : (mesh : Nodes) (nodes : List NodeSeen) (old radio radio' : RadioState) (ready ready' : Ready) (steps x d : ℕ) (near : NodeIds) (n new : NodeSeen) (effect : code.Effect) (out : List ℕ) (air : Air)
     → IsKept mesh nodes old ready steps → radio ≡ record old { room = radio.room; most = radio.most } → steps < 2 ^ 48 → x < length mesh → d < length mesh → n ≡ slice_index_or nodes x n → near ≡ linked_below radio.links x radio.size
@@ -116,7 +117,7 @@ pub send_done_end : (mesh : Nodes) (nodes : List NodeSeen) (old radio radio' : R
     → Sends mesh x near effect out air radio radio' → ready' ≡ noted ready x new (length mesh)
     → Ends (Send x d) mesh nodes old steps (Ok (done.Sent effect air)) (slice_set nodes x new) radio' ready' (steps + 1) out
 send_done_end mesh nodes old radio radio' ready ready' steps x d near n new effect out air k rooms few l below is linked sound others t sends noted_is =
-    let w = shown mesh nodes radio in
+    let w = world_in mesh nodes radio in
     let r = roomed mesh nodes old radio ready steps rooms k in
     let at = node_at mesh nodes old ready steps x n k l is in
     let near_at : near ≡ range w x = near_is mesh nodes radio ready steps x near r linked in
@@ -135,13 +136,13 @@ send_done_end mesh nodes old radio radio' ready ready' steps x d near n new effe
 -- ---- a request of the node's own
 
 abbrev ask_outcome : World → ℕ → ℕ → Core → List Item → Outcome
-ask_outcome w x d core queue = Goes (done_by w x (ask core d) queue) (Sent (ask core d).effect (copies w x ((ask core d).effect).cast))
+ask_outcome w x d core queue = Next (done_by w x (ask core d) queue) (Sent (ask core d).effect (copies w x ((ask core d).effect).cast))
 
 ask_at : (mesh : Nodes) (nodes : List NodeSeen) (radio : RadioState) (x d : ℕ) (n : NodeSeen) (b : Bool) → slice_get nodes x ≡ Some n → may_ask n.core d ≡ b
-    → step (shown mesh nodes radio) (Ask x d) ≡ (if b then unless_full x (ask_full n.core) (ask_outcome (shown mesh nodes radio) x d n.core (map (item_in mesh) n.items)) else Idle)
+    → step (world_in mesh nodes radio) (Ask x d) ≡ (if b then unless_full x (ask_full n.core) (ask_outcome (world_in mesh nodes radio) x d n.core (map (item_in mesh) n.items)) else Idle)
 unfolding step
 ask_at mesh nodes radio x d n b at may =
-    let w = shown mesh nodes radio in
+    let w = world_in mesh nodes radio in
     ap (λ o. at_node o (ask_of w x d)) (shown_at mesh nodes radio x n at)
     ∙ ap (λ (b : Bool). if b then unless_full x (ask_full n.core) (ask_outcome w x d n.core (map (item_in mesh) n.items)) else Idle) may
 
@@ -160,16 +161,16 @@ pub ask_no_memory_end : (mesh : Nodes) (nodes : List NodeSeen) (old radio : Radi
 ask_no_memory_end mesh nodes old radio ready steps x d n new out k rooms l is others t =
     no_memory_end (Ask x d) mesh nodes old radio ready steps x n new out k rooms l is (same_node n new others t.1)
 
-pub ask_full_end : (mesh : Nodes) (nodes : List NodeSeen) (old radio : RadioState) (ready : Ready) (steps x d : ℕ) (f field : Full) (n new : NodeSeen) (out : List ℕ)
+pub ask_full_end : (mesh : Nodes) (nodes : List NodeSeen) (old radio : RadioState) (ready : Ready) (steps x d : ℕ) (f field : Counter) (n new : NodeSeen) (out : List ℕ)
     → IsKept mesh nodes old ready steps → radio ≡ record old { room = radio.room; most = radio.most } → x < length mesh → n ≡ slice_index_or nodes x n
-    → f ≡ field → new ≡ record n { core = new.core } → (may_ask n.core d ≡ true) × IsRefused (ask_full n.core) n.core f new.core
+    → f ≡ field → new ≡ record n { core = new.core } → (may_ask n.core d ≡ true) × IsFull (ask_full n.core) n.core f new.core
     → Ends (Ask x d) mesh nodes old steps (Err (errors.Full x field)) (slice_set nodes x new) radio ready steps out
 ask_full_end mesh nodes old radio ready steps x d f field n new out k rooms l is which others t =
-    let w = shown mesh nodes radio in
+    let w = world_in mesh nodes radio in
     full_end (Ask x d) mesh nodes old radio ready steps x field n new out k rooms l is (same_node n new others (t.1).same)
     (ask_at mesh nodes radio x d n true (node_at mesh nodes old ready steps x n k l is) t.0
     ∙ stops x (ask_full n.core) f (ask_outcome w x d n.core (map (item_in mesh) n.items)) (t.1).overfull
-    ∙ ap (λ (h : Full). Stops x h) which)
+    ∙ ap (λ (h : Counter). worlds.Full x h) which)
 
 pub ask_done_end : (mesh : Nodes) (nodes : List NodeSeen) (old radio radio' : RadioState) (ready ready' : Ready) (steps x d : ℕ) (near : NodeIds) (n new : NodeSeen) (effect : code.Effect) (out : List ℕ) (air : Air)
     → IsKept mesh nodes old ready steps → radio ≡ record old { room = radio.room; most = radio.most } → steps < 2 ^ 48 → x < length mesh → d < length mesh → n ≡ slice_index_or nodes x n → near ≡ linked_below radio.links x radio.size
@@ -177,7 +178,7 @@ pub ask_done_end : (mesh : Nodes) (nodes : List NodeSeen) (old radio radio' : Ra
     → Sends mesh x near effect out air radio radio' → ready' ≡ noted ready x new (length mesh)
     → Ends (Ask x d) mesh nodes old steps (Ok (done.Sent effect air)) (slice_set nodes x new) radio' ready' (steps + 1) out
 ask_done_end mesh nodes old radio radio' ready ready' steps x d near n new effect out air k rooms few l below is linked sound others t sends noted_is =
-    let w = shown mesh nodes radio in
+    let w = world_in mesh nodes radio in
     let r = roomed mesh nodes old radio ready steps rooms k in
     let at = node_at mesh nodes old ready steps x n k l is in
     let near_at : near ≡ range w x = near_is mesh nodes radio ready steps x near r linked in

@@ -6,7 +6,7 @@ use Rattle.std.proofs.lemmas.Option.{same_Some, none-some}
 use Rattle.mesh_base.specs.Members.{NodeIds}
 use Rattle.mesh_base.specs.Meshes.{Nodes}
 use Rattle.mesh_base.specs.declared.addr.Addr.{Addr}
-use Rattle.mesh_base.specs.declared.events.Full.{Full}
+use Rattle.mesh_base.specs.declared.events.Counter.{Counter}
 use Rattle.mesh_base.specs.declared.events.Air.{Air}
 use Rattle.mesh_base.specs.declared.events.Item as items
 use Rattle.mesh_base.specs.declared.events.Item.TheVariants as item
@@ -18,21 +18,22 @@ use Rattle.aodv_model.specs.Soundness.{IsItemInMesh, IsDatum}
 use Rattle.aodv_model.proofs.SoundTurns.{turn_keeps_core}
 use Rattle.aodv_model.proofs.MeshNames.{turn_names_the_mesh}
 use Rattle.aodv_wire.specs.declared.error.WireError.{WireError}
-use Rattle.aodv_wire.specs.Spells.{refusal, said}
+use Rattle.aodv_wire.specs.Spells.{refusal, message_in_fields}
 use Rattle.aodv_meaning.specs.Meaning.{meaning, stranger}
 use Rattle.aodv_meaning.specs.Effects.{item_in}
 use Rattle.aodv_meaning.proofs.Means.{sent_means}
 use Rattle.aodv_node.specs.Seen.{NodeSeen, IsSoundNode}
-use Rattle.aodv_node.specs.Turned.{IsTaken, IsDropped, IsStopped, taken_of}
+use Rattle.aodv_node.specs.Turned.{IsTaken, IsDropped, IsFullAt, taken_of}
 use Rattle.aodv_node.specs.declared.answers.TurnDone.{TurnDone}
 use Rattle.mesh_world.specs.declared.steps.StepError.TheVariants as errors
-use Rattle.mesh_model.specs.Worlds.{World, Node, Event, Turn, Outcome, Idle, Stops, Goes, Taken, step, range, linked_below, turn_of, unless_full, at_node, done_by, copies}
+use Rattle.mesh_model.specs.Worlds as worlds
+use Rattle.mesh_model.specs.Worlds.{World, Node, Event, Turn, Outcome, Idle, Next, Taken, step, range, linked_below, turn_of, unless_full, at_node, done_by, copies}
 use Rattle.mesh_model.specs.Places.{IsNodeInMesh}
 use Rattle.mesh_radio.specs.Radios.{RadioState}
 use Rattle.mesh_meaning.specs.Packets.{IsWritten, IsWrittenItem}
 use Rattle.mesh_meaning.specs.Answers.{took_in, IsTookInMesh}
 use Rattle.mesh_world.specs.Seen.{node_in}
-use Rattle.mesh_world.specs.Kept.{Ready, IsKept, IsKeptNode, shown}
+use Rattle.mesh_world.specs.Kept.{Ready, IsKept, IsKeptNode, world_in}
 use Rattle.mesh_world.specs.Noted.{noted}
 use Rattle.mesh_world.proofs.Frames.{Ends, ends_done, ends_idle, ends_full, ends_no_memory, beside, shown_at, each_get, set_back, noted_beside, later, with_same, roomed, began, node_at}
 use Rattle.mesh_world.proofs.Reactions.{near_is, Acts, Sends, Comes, comes}
@@ -76,43 +77,43 @@ turn_at : (w : World) (x : ℕ) (n : Node) → slice_get w.nodes x ≡ Some n �
 unfolding step
 turn_at w x n e = ap (λ o. at_node o (turn_of w x)) e
 
-pub turn_idle : (mesh : Nodes) (nodes : List NodeSeen) (radio : RadioState) (x : ℕ) (n : NodeSeen) → slice_get nodes x ≡ Some n → n.items ≡ [] → step (shown mesh nodes radio) (Turn x) ≡ Idle
+pub turn_idle : (mesh : Nodes) (nodes : List NodeSeen) (radio : RadioState) (x : ℕ) (n : NodeSeen) → slice_get nodes x ≡ Some n → n.items ≡ [] → step (world_in mesh nodes radio) (Turn x) ≡ Idle
 turn_idle mesh nodes radio x n at none =
-    turn_at (shown mesh nodes radio) x (node_in mesh n) (shown_at mesh nodes radio x n at) ∙ ap (λ (is : List items.Item). turn_of (shown mesh nodes radio) x n.core (map (item_in mesh) is)) none
+    turn_at (world_in mesh nodes radio) x (node_in mesh n) (shown_at mesh nodes radio x n at) ∙ ap (λ (is : List items.Item). turn_of (world_in mesh nodes radio) x n.core (map (item_in mesh) is)) none
 
-pub stops : (x : ℕ) (o : Option Full) (f : Full) (k : Outcome) → o ≡ Some f → unless_full x o k ≡ Stops x f
+pub stops : (x : ℕ) (o : Option Counter) (f : Counter) (k : Outcome) → o ≡ Some f → unless_full x o k ≡ worlds.Full x f
 stops x None f k e = absurd (none-some f e)
-stops x (Some g) f k e = ap (λ (h : Full). Stops x h) (same_Some g f e)
+stops x (Some g) f k e = ap (λ (h : Counter). worlds.Full x h) (same_Some g f e)
 
-pub goes : (x : ℕ) (o : Option Full) (k : Outcome) → o ≡ None → unless_full x o k ≡ k
+pub goes : (x : ℕ) (o : Option Counter) (k : Outcome) → o ≡ None → unless_full x o k ≡ k
 goes x None k e = refl
 goes x (Some f) k e = absurd (none-some f (sym e))
 
 abbrev turn_outcome : World → ℕ → Core → Item → List Item → Outcome
 turn_outcome w x core front rest =
     let reaction = turn core (range w x) front in
-    Goes (done_by w x reaction rest) (Taken (took core front) reaction.effect (copies w x (reaction.effect).cast))
+    Next (done_by w x reaction rest) (Taken (took core front) reaction.effect (copies w x (reaction.effect).cast))
 
-pub turn_stops : (mesh : Nodes) (nodes : List NodeSeen) (radio : RadioState) (x : ℕ) (n : NodeSeen) (near : NodeIds) (f : Full) → slice_get nodes x ≡ Some n → near ≡ range (shown mesh nodes radio) x → IsStopped mesh near n f
-    → step (shown mesh nodes radio) (Turn x) ≡ Stops x f
+pub turn_stops : (mesh : Nodes) (nodes : List NodeSeen) (radio : RadioState) (x : ℕ) (n : NodeSeen) (near : NodeIds) (f : Counter) → slice_get nodes x ≡ Some n → near ≡ range (world_in mesh nodes radio) x → IsFullAt mesh near n f
+    → step (world_in mesh nodes radio) (Turn x) ≡ worlds.Full x f
 turn_stops mesh nodes radio x n near f at near_is s =
-    let w = shown mesh nodes radio in
+    let w = world_in mesh nodes radio in
     let front = item_in mesh s.front in
     turn_at w x (node_in mesh n) (shown_at mesh nodes radio x n at)
     ∙ ap (λ (is : List items.Item). turn_of w x n.core (map (item_in mesh) is)) s.was
     ∙ stops x (turn_full n.core (range w x) front) f (turn_outcome w x n.core front (map (item_in mesh) s.rest)) (ap (λ (r : NodeIds). turn_full n.core r front) (sym near_is) ∙ s.full)
 
-turn_goes : (mesh : Nodes) (nodes : List NodeSeen) (radio : RadioState) (x : ℕ) (n : NodeSeen) (near : NodeIds) (front : items.Item) (rest : List items.Item) → slice_get nodes x ≡ Some n → near ≡ range (shown mesh nodes radio) x → n.items ≡ front ∷ rest
+turn_goes : (mesh : Nodes) (nodes : List NodeSeen) (radio : RadioState) (x : ℕ) (n : NodeSeen) (near : NodeIds) (front : items.Item) (rest : List items.Item) → slice_get nodes x ≡ Some n → near ≡ range (world_in mesh nodes radio) x → n.items ≡ front ∷ rest
     → turn_full n.core near (item_in mesh front) ≡ None
-    → step (shown mesh nodes radio) (Turn x) ≡ Goes (done_by (shown mesh nodes radio) x (turn n.core near (item_in mesh front)) (map (item_in mesh) rest))
-    (Taken (took n.core (item_in mesh front)) (turn n.core near (item_in mesh front)).effect (copies (shown mesh nodes radio) x ((turn n.core near (item_in mesh front)).effect).cast))
+    → step (world_in mesh nodes radio) (Turn x) ≡ Next (done_by (world_in mesh nodes radio) x (turn n.core near (item_in mesh front)) (map (item_in mesh) rest))
+    (Taken (took n.core (item_in mesh front)) (turn n.core near (item_in mesh front)).effect (copies (world_in mesh nodes radio) x ((turn n.core near (item_in mesh front)).effect).cast))
 turn_goes mesh nodes radio x n near front rest at near_is was free =
-    let w = shown mesh nodes radio in
+    let w = world_in mesh nodes radio in
     let i = item_in mesh front in
     turn_at w x (node_in mesh n) (shown_at mesh nodes radio x n at)
     ∙ ap (λ (is : List items.Item). turn_of w x n.core (map (item_in mesh) is)) was
     ∙ goes x (turn_full n.core (range w x) i) (turn_outcome w x n.core i (map (item_in mesh) rest)) (ap (λ (r : NodeIds). turn_full n.core r i) (sym near_is) ∙ free)
-    ∙ ap (λ (r : NodeIds). Goes (done_by w x (turn n.core r i) (map (item_in mesh) rest)) (Taken (took n.core i) (turn n.core r i).effect (copies w x ((turn n.core r i).effect).cast))) (sym near_is)
+    ∙ ap (λ (r : NodeIds). Next (done_by w x (turn n.core r i) (map (item_in mesh) rest)) (Taken (took n.core i) (turn n.core r i).effect (copies w x ((turn n.core r i).effect).cast))) (sym near_is)
 
 acts : (mesh : Nodes) (nodes : List NodeSeen) (radio : RadioState) (ready : Ready) (steps x : ℕ) (near : NodeIds) (n new : NodeSeen) (d : TurnDone) (out : List ℕ)
     → IsKept mesh nodes radio ready steps → x < length mesh → slice_get nodes x ≡ Some n → IsSoundNode new → (t : IsTaken mesh near n d new out) → Acts mesh x new (turn n.core near (item_in mesh t.front)) d.effect out
@@ -135,7 +136,7 @@ pub turn_done : (mesh : Nodes) (nodes : List NodeSeen) (radio radio' : RadioStat
     → Sends mesh x near d.effect out air radio radio' → ready' ≡ noted ready x new (length mesh)
     → Ends (Turn x) mesh nodes radio steps (Ok (done.Taken d.took d.effect air)) (slice_set nodes x new) radio' ready' (steps + 1) out
 turn_done mesh nodes radio radio' ready ready' steps x near n new d out air k few l at linked sound t sends noted_is =
-    let w = shown mesh nodes radio in
+    let w = world_in mesh nodes radio in
     let i = item_in mesh t.front in
     let near_at : near ≡ range w x = near_is mesh nodes radio ready steps x near k linked in
     let c : Comes mesh nodes radio ready steps x new (turn n.core near i) d.effect out air radio' =
@@ -145,16 +146,16 @@ turn_done mesh nodes radio radio' ready ready' steps x near n new d out air k fe
     let front_written : IsWrittenItem mesh t.front = (subst (AllByRecursion (IsWrittenItem mesh)) t.was had.items).0 in
     let placed = front_in mesh x n t.front new.items (stands mesh nodes radio ready steps x n k at) t.was in
     ends_done (Turn x) mesh nodes radio ready steps (done.Taken d.took d.effect air) (slice_set nodes x new) radio' ready' out
-    (Goes (done_by w x (turn n.core near i) (map (item_in mesh) new.items)) (Taken (took n.core i) (turn n.core near i).effect (copies w x ((turn n.core near i).effect).cast)))
+    (Next (done_by w x (turn n.core near i) (map (item_in mesh) new.items)) (Taken (took n.core i) (turn n.core near i).effect (copies w x ((turn n.core near i).effect).cast)))
     k l (turn_goes mesh nodes radio x n near t.front new.items at near_at t.was (t.made).free) (omega arith) c.world
-    (λ j. Goes (c.world j) (Taken (took_is j) (c.means j) (c.copies j)))
+    (λ j. Next (c.world j) (Taken (took_is j) (c.means j) (c.copies j)))
     (subst (IsTookInMesh mesh) (sym t.took) (took_in_mesh mesh n.core t.front placed front_written), c.in_mesh)
     (noted_beside mesh (slice_set nodes x new) radio' ready' (noted ready x new (length mesh)) (steps + 1) noted_is c.beside)
 
 -- ---- no packet of a world is refused, or names a stranger
 
 readable : (mesh : Nodes) (nodes : List NodeSeen) (radio : RadioState) (ready : Ready) (steps x : ℕ) (n new : NodeSeen) (from : ℕ) (bytes : List ℕ) → IsKept mesh nodes radio ready steps → slice_get nodes x ≡ Some n → IsDropped n from bytes new
-    → (refusal bytes ≡ None) × (stranger mesh (said bytes) ≡ None)
+    → (refusal bytes ≡ None) × (stranger mesh (message_in_fields bytes) ≡ None)
 readable mesh nodes radio ready steps x n new from bytes k at dropped =
     let had = kept_node mesh nodes radio ready steps x n k at in
     let sent : IsWritten mesh bytes = (subst (AllByRecursion (IsWrittenItem mesh)) dropped.was had.items).0 in
@@ -166,7 +167,7 @@ pub no_refusal : (mesh : Nodes) (nodes : List NodeSeen) (radio : RadioState) (re
 no_refusal mesh nodes radio ready steps x n new from why k at d = none-some why (sym (readable mesh nodes radio ready steps x n new from d.0 k at d.2).0 ∙ d.1)
 
 pub no_stranger : (mesh : Nodes) (nodes : List NodeSeen) (radio : RadioState) (ready : Ready) (steps x : ℕ) (n new : NodeSeen) (from : ℕ) (who : Addr) → IsKept mesh nodes radio ready steps → slice_get nodes x ≡ Some n
-    → (bytes : List ℕ) × (refusal bytes ≡ None) × (stranger mesh (said bytes) ≡ Some who) × IsDropped n from bytes new → ⊥
+    → (bytes : List ℕ) × (refusal bytes ≡ None) × (stranger mesh (message_in_fields bytes) ≡ Some who) × IsDropped n from bytes new → ⊥
 no_stranger mesh nodes radio ready steps x n new from who k at d = none-some who (sym (readable mesh nodes radio ready steps x n new from d.0 k at d.3).1 ∙ d.2)
 
 -- ---- each end of a turn, with rooms made in the radio first
@@ -178,27 +179,27 @@ no_memory_end e mesh nodes old radio ready steps x n new out k rooms l is same =
     let r = roomed mesh nodes old radio ready steps rooms k in
     let back : slice_set nodes x new ≡ nodes = set_back nodes x n new (node_at mesh nodes old ready steps x n k l is) same in
     began e mesh nodes old radio steps (Err errors.NoMemory) (slice_set nodes x new) radio ready steps out rooms
-    (ends_no_memory e mesh nodes radio ready steps (slice_set nodes x new) radio out r (ap (λ (ns : List NodeSeen). shown mesh ns radio) back) (with_same mesh nodes (slice_set nodes x new) radio ready steps back (beside mesh nodes radio ready steps r)))
+    (ends_no_memory e mesh nodes radio ready steps (slice_set nodes x new) radio out r (ap (λ (ns : List NodeSeen). world_in mesh ns radio) back) (with_same mesh nodes (slice_set nodes x new) radio ready steps back (beside mesh nodes radio ready steps r)))
 
-pub full_end : (e : Event) (mesh : Nodes) (nodes : List NodeSeen) (old radio : RadioState) (ready : Ready) (steps x : ℕ) (field : Full) (n new : NodeSeen) (out : List ℕ)
+pub full_end : (e : Event) (mesh : Nodes) (nodes : List NodeSeen) (old radio : RadioState) (ready : Ready) (steps x : ℕ) (field : Counter) (n new : NodeSeen) (out : List ℕ)
     → IsKept mesh nodes old ready steps → radio ≡ record old { room = radio.room; most = radio.most } → x < length mesh → n ≡ slice_index_or nodes x n → new ≡ n
-    → step (shown mesh nodes radio) e ≡ Stops x field
+    → step (world_in mesh nodes radio) e ≡ worlds.Full x field
     → Ends e mesh nodes old steps (Err (errors.Full x field)) (slice_set nodes x new) radio ready steps out
 full_end e mesh nodes old radio ready steps x field n new out k rooms l is same stop =
     let r = roomed mesh nodes old radio ready steps rooms k in
     let back : slice_set nodes x new ≡ nodes = set_back nodes x n new (node_at mesh nodes old ready steps x n k l is) same in
     began e mesh nodes old radio steps (Err (errors.Full x field)) (slice_set nodes x new) radio ready steps out rooms
-    (ends_full e mesh nodes radio ready steps x field (slice_set nodes x new) radio out r stop (ap (λ (ns : List NodeSeen). shown mesh ns radio) back) (with_same mesh nodes (slice_set nodes x new) radio ready steps back (beside mesh nodes radio ready steps r)))
+    (ends_full e mesh nodes radio ready steps x field (slice_set nodes x new) radio out r stop (ap (λ (ns : List NodeSeen). world_in mesh ns radio) back) (with_same mesh nodes (slice_set nodes x new) radio ready steps back (beside mesh nodes radio ready steps r)))
 
 pub idle_end : (e : Event) (mesh : Nodes) (nodes : List NodeSeen) (old radio : RadioState) (ready : Ready) (steps x : ℕ) (n new : NodeSeen) (out : List ℕ)
     → IsKept mesh nodes old ready steps → radio ≡ record old { room = radio.room; most = radio.most } → x < length mesh → n ≡ slice_index_or nodes x n → new ≡ n
-    → step (shown mesh nodes radio) e ≡ Idle
+    → step (world_in mesh nodes radio) e ≡ Idle
     → Ends e mesh nodes old steps (Ok done.Idle) (slice_set nodes x new) radio ready (steps + 1) out
 idle_end e mesh nodes old radio ready steps x n new out k rooms l is same idle =
     let r = roomed mesh nodes old radio ready steps rooms k in
     let back : slice_set nodes x new ≡ nodes = set_back nodes x n new (node_at mesh nodes old ready steps x n k l is) same in
     began e mesh nodes old radio steps (Ok done.Idle) (slice_set nodes x new) radio ready (steps + 1) out rooms
-    (ends_idle e mesh nodes radio ready steps (slice_set nodes x new) radio out r idle (ap (λ (ns : List NodeSeen). shown mesh ns radio) back)
+    (ends_idle e mesh nodes radio ready steps (slice_set nodes x new) radio out r idle (ap (λ (ns : List NodeSeen). world_in mesh ns radio) back)
     (with_same mesh nodes (slice_set nodes x new) radio ready (steps + 1) back (later mesh nodes radio ready steps (beside mesh nodes radio ready steps r))))
 
 pub turn_idle_end : (mesh : Nodes) (nodes : List NodeSeen) (old radio : RadioState) (ready : Ready) (steps x : ℕ) (n new : NodeSeen) (out : List ℕ)
@@ -207,14 +208,14 @@ pub turn_idle_end : (mesh : Nodes) (nodes : List NodeSeen) (old radio : RadioSta
 turn_idle_end mesh nodes old radio ready steps x n new out k rooms l is t =
     idle_end (Turn x) mesh nodes old radio ready steps x n new out k rooms l is t.1 (turn_idle mesh nodes radio x n (node_at mesh nodes old ready steps x n k l is) t.0)
 
-pub turn_full_end : (mesh : Nodes) (nodes : List NodeSeen) (old radio : RadioState) (ready : Ready) (steps x : ℕ) (near : NodeIds) (f field : Full) (n new : NodeSeen) (out : List ℕ)
+pub turn_full_end : (mesh : Nodes) (nodes : List NodeSeen) (old radio : RadioState) (ready : Ready) (steps x : ℕ) (near : NodeIds) (f field : Counter) (n new : NodeSeen) (out : List ℕ)
     → IsKept mesh nodes old ready steps → radio ≡ record old { room = radio.room; most = radio.most } → x < length mesh → n ≡ slice_index_or nodes x n → near ≡ linked_below radio.links x radio.size
-    → f ≡ field → IsStopped mesh near n f × (new ≡ n)
+    → f ≡ field → IsFullAt mesh near n f × (new ≡ n)
     → Ends (Turn x) mesh nodes old steps (Err (errors.Full x field)) (slice_set nodes x new) radio ready steps out
 turn_full_end mesh nodes old radio ready steps x near f field n new out k rooms l is linked which t =
     full_end (Turn x) mesh nodes old radio ready steps x field n new out k rooms l is t.1
     (turn_stops mesh nodes radio x n near f (node_at mesh nodes old ready steps x n k l is) (near_is mesh nodes radio ready steps x near (roomed mesh nodes old radio ready steps rooms k) linked) t.0
-    ∙ ap (λ (h : Full). Stops x h) which)
+    ∙ ap (λ (h : Counter). worlds.Full x h) which)
 
 pub turn_done_end : (mesh : Nodes) (nodes : List NodeSeen) (old radio radio' : RadioState) (ready ready' : Ready) (steps x : ℕ) (near : NodeIds) (n new : NodeSeen) (d : TurnDone) (out : List ℕ) (air : Air)
     → IsKept mesh nodes old ready steps → radio ≡ record old { room = radio.room; most = radio.most } → steps < 2 ^ 48 → x < length mesh → n ≡ slice_index_or nodes x n → near ≡ linked_below radio.links x radio.size

@@ -9,7 +9,7 @@ use Rattle.mesh_radio.specs.Radios.{RadioState}
 use Rattle.mesh_meaning.specs.Packets.{IsWrittenItem, copy_in}
 use Rattle.mesh_world.specs.Seen.{WorldSeen, node_in}
 use Rattle.mesh_model.specs.Accounts.{any}
-use Rattle.mesh_world.specs.Kept.{Ready, IsKept, IsKeptNode, shown, seen_of}
+use Rattle.mesh_world.specs.Kept.{Ready, IsKept, IsKeptNode, world_in, seen_of}
 use Rattle.mesh_world.specs.Noted.{AreReadyIn}
 use Rattle.mesh_world.specs.Ends.{AreOfWorld}
 use Rattle.mesh_world.specs.Counted.{AreCounted}
@@ -33,7 +33,7 @@ counted mesh nodes radio ready steps k most = record {
   items = each_by (IsKeptNode mesh) (λ n. AllByRecursion (IsWrittenItem mesh) n.items) nodes (λ n h. h.items) k.each;
   sizes = sizes mesh nodes radio ready steps k;
   flying = k.flying;
-  few = few (waiting any (shown mesh nodes radio)) (queued any (shown mesh nodes radio)) (in_flight any (shown mesh nodes radio)) steps (k.sound).few most;
+  few = few (waiting any (world_in mesh nodes radio)) (queued any (world_in mesh nodes radio)) (in_flight any (world_in mesh nodes radio)) steps (k.sound).few most;
 }
   where
     few : (a b c steps : ℕ) → a + b + c ≤ steps → steps < 2 ^ 64 → a + b + c < 2 ^ 64
@@ -62,7 +62,7 @@ count_seen mesh nodes radio ready steps w view k = count_of mesh nodes radio rea
 
 pub radio_seen : (mesh : Nodes) (nodes : List NodeSeen) (radio : RadioState) (steps : ℕ) (w : WorldSeen) → seen_of mesh nodes radio steps ≡ w
     → (map (copy_in w.mesh) radio.flying ≡ (w.world).flying) × ((radio.links ≡ (w.world).links) × (radio.ever ≡ (w.world).ever)) × (radio.next_copy ≡ (w.world).next_copy)
-unfolding shown
+unfolding world_in
 radio_seen mesh nodes radio steps w view =
     subst (λ (v : WorldSeen). (map (copy_in v.mesh) radio.flying ≡ (v.world).flying) × ((radio.links ≡ (v.world).links) × (radio.ever ≡ (v.world).ever)) × (radio.next_copy ≡ (v.world).next_copy)) view (refl, (refl, refl), refl)
 

@@ -6,7 +6,7 @@ use Rattle.mesh_base.specs.Meshes.{Nodes}
 use Rattle.mesh_base.specs.declared.events.Flying.{Flying}
 use Rattle.mesh_base.specs.declared.events.Item.{Item}
 use Rattle.mesh_base.specs.declared.events.Item.TheVariants.{New, Heard}
-use Rattle.mesh_radio.specs.Copies.{is_data}
+use Rattle.aodv_wire.specs.Spells.{is_data}
 use Rattle.aodv_model.specs.Cores.{bodies_in}
 use Rattle.aodv_node.specs.Seen.{NodeSeen}
 use Rattle.mesh_model.specs.Worlds.{World}
@@ -14,7 +14,7 @@ use Rattle.mesh_model.specs.Accounts.{total_below, waiting, queued, in_flight}
 use Rattle.mesh_radio.specs.Radios.{RadioState}
 use Rattle.mesh_meaning.specs.Packets.{IsWrittenItem, IsWrittenCopy}
 use Rattle.mesh_model.specs.Accounts.{any}
-use Rattle.mesh_world.specs.Kept.{shown}
+use Rattle.mesh_world.specs.Kept.{world_in}
 
 -- the item is a datum, or a datum's packet
 abbrev pub has_datum : Item → Bool
@@ -45,8 +45,8 @@ pub record AreCounted (mesh : Nodes) (nodes : List NodeSeen) (radio : RadioState
   pub items : AllByRecursion (λ n. AllByRecursion (IsWrittenItem mesh) n.items) nodes
   pub sizes : AllByRecursion (λ n. n.size ≡ length nodes) nodes
   pub flying : AllByRecursion (IsWrittenCopy mesh) radio.flying
-  pub few : waiting any (shown mesh nodes radio) + queued any (shown mesh nodes radio) + in_flight any (shown mesh nodes radio) < 2 ^ 64
+  pub few : waiting any (world_in mesh nodes radio) + queued any (world_in mesh nodes radio) + in_flight any (world_in mesh nodes radio) < 2 ^ 64
 
 -- n is this count of the world
 abbrev pub IsCountOf : List NodeSeen → RadioState → (World → ℕ) → ℕ → Type 0
-IsCountOf nodes radio count n = (mesh : Nodes) → AreCounted mesh nodes radio → n ≡ count (shown mesh nodes radio)
+IsCountOf nodes radio count n = (mesh : Nodes) → AreCounted mesh nodes radio → n ≡ count (world_in mesh nodes radio)

@@ -9,7 +9,7 @@ use Rattle.mesh_model.specs.Routes as model
 use Rattle.mesh_model.specs.Invariants.{IsInvariant}
 use Rattle.mesh_world.specs.declared.route.End.{End}
 use Rattle.mesh_world.specs.declared.route.End.TheVariants as ends
-use Rattle.mesh_world.specs.Kept.{shown}
+use Rattle.mesh_world.specs.Kept.{world_in}
 
 abbrev pub end_in : End → model.End
 end_in (ends.Arrived hops) = model.Arrived hops
@@ -24,9 +24,9 @@ IsEndIn size (ends.Stuck at hops) = (at < size) × (hops < size)
 pub record AreOfWorld (nodes : List NodeSeen) : Type 0 where
   pub mesh : Nodes
   pub radio : RadioState
-  pub invariant : IsInvariant (shown mesh nodes radio)
+  pub invariant : IsInvariant (world_in mesh nodes radio)
   pub sizes : AllByRecursion (λ n. n.size ≡ length nodes) nodes
 
 -- what holds of each world of these nodes that has the invariant
 abbrev pub InEachWorld : List NodeSeen → (World → Type 0) → Type 0
-InEachWorld nodes P = (mesh : Nodes) (radio : RadioState) → IsInvariant (shown mesh nodes radio) → P (shown mesh nodes radio)
+InEachWorld nodes P = (mesh : Nodes) (radio : RadioState) → IsInvariant (world_in mesh nodes radio) → P (world_in mesh nodes radio)

@@ -13,8 +13,8 @@ use Rattle.mesh_meaning.specs.Packets.{IsWrittenItem, IsWrittenCopy, copy_in}
 use Rattle.mesh_world.specs.Seen.{WorldSeen, IsSoundWorld, node_in}
 
 -- the world that these nodes and this radio are
-unfoldable pub shown : Nodes → List NodeSeen → RadioState → World
-shown mesh nodes radio = record {
+unfoldable pub world_in : Nodes → List NodeSeen → RadioState → World
+world_in mesh nodes radio = record {
   nodes = map (node_in mesh) nodes;
   links = radio.links;
   ever = radio.ever;
@@ -23,7 +23,7 @@ shown mesh nodes radio = record {
 }
 
 abbrev pub seen_of : Nodes → List NodeSeen → RadioState → ℕ → WorldSeen
-seen_of mesh nodes radio steps = record { mesh = mesh; world = shown mesh nodes radio; steps = steps }
+seen_of mesh nodes radio steps = record { mesh = mesh; world = world_in mesh nodes radio; steps = steps }
 
 -- a node of the mesh, each of whose packets is written of its message
 pub record IsKeptNode (mesh : Nodes) (n : NodeSeen) : Type 0 where

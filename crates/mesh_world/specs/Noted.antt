@@ -10,7 +10,7 @@ use Rattle.aodv_node.specs.Seen.{NodeSeen}
 use Rattle.mesh_radio.specs.Radios.{RadioState}
 use Rattle.mesh_model.specs.Worlds.{World}
 use Rattle.mesh_model.specs.Choices.{least_from}
-use Rattle.mesh_world.specs.Kept.{shown, Ready, IsReadyFor}
+use Rattle.mesh_world.specs.Kept.{world_in, Ready, IsReadyFor}
 
 -- a code, by which proofs tell such sets apart
 abbrev pub ready_code : Coded Ready
@@ -50,4 +50,4 @@ pub record AreReadyIn (mesh : Nodes) (nodes : List NodeSeen) (ready : Ready) : T
 
 -- what holds of each world of these nodes and any radio
 abbrev pub InEachWorld : List NodeSeen → Ready → (World → Type 0) → Type 0
-InEachWorld nodes ready P = (mesh : Nodes) (radio : RadioState) → AreReadyIn mesh nodes ready → P (shown mesh nodes radio)
+InEachWorld nodes ready P = (mesh : Nodes) (radio : RadioState) → AreReadyIn mesh nodes ready → P (world_in mesh nodes radio)

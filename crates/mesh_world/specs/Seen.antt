@@ -1,12 +1,16 @@
 -- What is seen of a world, and what every world keeps.
-use Rattle.std.specs.Prelude.{◌≡◌, ◌≤◌, ◌+◌, ℕ, length, map, refl}
+use Rattle.std.specs.Prelude.{◌≡◌, ◌≢◌, ◌≤◌, ◌+◌, ℕ, true, Some, length, map, refl}
+use Rattle.std.specs.FinMap as maps
 use Rattle.std.specs.Coded.{Coded, code_by, coded×, coded_ℕ, coded_list}
 use Rattle.mesh_base.specs.Meshes.{Nodes, IsMesh}
 use Rattle.mesh_base.specs.declared.events.Variant.{Variant}
 use Rattle.aodv_meaning.specs.Effects.{item_in}
 use Rattle.aodv_node.specs.Seen.{NodeSeen}
 use Rattle.mesh_model.specs.Worlds.{World, Node, start, first_numbers}
-use Rattle.mesh_model.specs.Walks.{Cycle}
+use Rattle.aodv_entry.specs.declared.entry.Entry.{Entry}
+use Rattle.aodv_entry.specs.declared.entry.Flag.TheVariants.{Val}
+use Rattle.aodv_entry.specs.Quality.{is_better}
+use Rattle.mesh_model.specs.Walks.{table, Edge, Cycle}
 use Rattle.mesh_model.specs.Invariants.{IsInvariant}
 use Rattle.mesh_model.specs.Accounts.{any, waiting, queued, in_flight}
 use Rattle.mesh_model.specs.Codes.{world_code}
@@ -25,14 +29,22 @@ opening v mesh = record { mesh = mesh; world = start v (first_numbers mesh); ste
 abbrev pub node_in : Nodes → NodeSeen → Node
 node_in mesh n = record { core = n.core; queue = map (item_in mesh) n.items }
 
+-- along each edge to a node that isn't the destination and has a valid entry for it too, that node's entry is the better
+-- one
+abbrev pub IsBetterAlongEdges : World → Type 0
+IsBetterAlongEdges w = (d x y : ℕ) (edge : Edge w d x y) (e : Entry) → y ≢ d → maps.get (table w y) d ≡ Some e → e.flag ≡ Val
+    → is_better e edge.entry ≡ true
+
 -- what every world of the program keeps: there is a node for each address of the mesh; what excludes cycles, and that
--- all is in its place; so no destination has a cycle; and there are at most as many data as steps were taken
+-- all is in its place; so no destination has a cycle, and quality rises along edges between valid entries; and there are at
+-- most as many data as steps were taken
 pub record IsSoundWorld (w : WorldSeen) : Type 0 where
   pub mesh : IsMesh w.mesh
   pub some : 1 ≤ length w.mesh
   pub count : length (w.world).nodes ≡ length w.mesh
   pub invariant : IsInvariant w.world
   pub acyclic : (d : ℕ) → ¬ (Cycle w.world d)
+  pub better : IsBetterAlongEdges w.world
   pub few : waiting any w.world + queued any w.world + in_flight any w.world ≤ w.steps
 
 -- a code, by which proofs tell such values apart

@@ -11,8 +11,10 @@ use aodv_node::Node;
 
 /// The least node that may take a turn.
 pub(crate) fn first_turn(ready: &Ready) -> Option<usize>
-    ensures first { (nodes : List NodeSeen) → InEachWorld nodes ready.now (λ w. result ≡ model.first_turn w) }
-    ensures within { (nodes : List NodeSeen) → InEachWorld nodes ready.now (λ w. IfSome result (λ x. x < length nodes)) }
+    ensures first { (nodes : List NodeSeen) →
+        InEachWorld nodes ready.now (λ w. result ≡ model.first_turn w) }
+    ensures within { (nodes : List NodeSeen) →
+        InEachWorld nodes ready.now (λ w. IfSome result (λ x. x < length nodes)) }
 {
     ready.first_turn()
 }

@@ -7,7 +7,7 @@ ghost use Rattle.mesh_world.specs.Seen.{WorldSeen, opening, IsSoundWorld};
 ghost use Rattle.mesh_world.specs.Steps.{IsStep};
 
 use crate::world::World;
-use mesh_base::{Done, Event, Full, Mesh, NoMemory, Packet, Variant};
+use mesh_base::{Counter, Done, Event, Mesh, NoMemory, Packet, Variant};
 use std::alloc::Global;
 use thiserror::Error;
 
@@ -16,7 +16,7 @@ use thiserror::Error;
 pub enum StepError {
     /// The node's step would raise this counter past its field's greatest value.
     #[error("a counter is full")]
-    Full { node: usize, field: Full },
+    Full { node: usize, field: Counter },
     /// Memory was asked for and not found.
     #[error("no memory")]
     NoMemory,
@@ -57,7 +57,8 @@ pub trait Steps: Drop {
     fn step(&mut self, alloc: Global, e: &Event<'_>, out: &mut Packet) -> Result<Done, StepError>
         requires event { IsEvent (length (seen self.old).mesh) (event_of e.now) }
         requires few { (seen self.old).steps < 2 ^ 48 }
-        ensures step { IsStep (event_of e.now) (seen self.old) result (seen self.new) out.new.items }
+        ensures step { let event = event_of e.now in
+            IsStep event (seen self.old) result (seen self.new) out.new.items }
         ensures sound { IsSoundWorld (seen self.new) };
 
     /// The world itself.

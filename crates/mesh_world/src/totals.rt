@@ -7,8 +7,9 @@ ghost use Rattle.mesh_world.specs.Counted.{has_datum, waiting_at, queued_in, Are
 
 use aodv_inbox::Inbox;
 use aodv_node::Node;
+use aodv_wire::is_data;
 use mesh_base::Item;
-use mesh_radio::{Radio, is_data};
+use mesh_radio::Radio;
 
 /// Where the data of a world are.
 #[derive(Clone, Copy, Debug, PartialEq, Eq)]

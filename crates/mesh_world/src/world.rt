@@ -73,7 +73,8 @@ impl World {
         ensures flying { map (copy_in self.now.mesh) result.now.flying ≡ self.now.world.flying }
         ensures written { AllByRecursion (IsWrittenCopy self.now.mesh) result.now.flying }
         ensures size { result.now.size ≡ length self.now.mesh }
-        ensures links { (result.now.links ≡ self.now.world.links) × (result.now.ever ≡ self.now.world.ever) }
+        ensures links { (result.now.links ≡ self.now.world.links)
+            × (result.now.ever ≡ self.now.world.ever) }
         ensures next { result.now.next_copy ≡ self.now.world.next_copy }
     {
         &self.parts.radio
@@ -91,7 +92,8 @@ impl World {
     /// No node is searched for.
     pub fn first_send(&self) -> Option<(usize, usize)>
         ensures first { result ≡ choices.first_send self.now.world }
-        ensures within { IfSome result (λ p. (p.0 < length self.now.mesh) × (p.1 < length self.now.mesh)) }
+        ensures within { let size = length self.now.mesh in
+            IfSome result (λ p. (p.0 < size) × (p.1 < size)) }
     {
         first_send(&self.parts.ready, &self.parts.nodes)
     }
@@ -100,7 +102,8 @@ impl World {
     /// is searched for.
     pub fn first_ask(&self) -> Option<(usize, usize)>
         ensures first { result ≡ choices.first_ask self.now.world }
-        ensures within { IfSome result (λ p. (p.0 < length self.now.mesh) × (p.1 < length self.now.mesh)) }
+        ensures within { let size = length self.now.mesh in
+            IfSome result (λ p. (p.0 < size) × (p.1 < size)) }
     {
         first_ask(&self.parts.ready, &self.parts.nodes)
     }
@@ -123,6 +126,7 @@ impl World {
         ensures queued { result.queued ≡ accounts.queued any self.now.world }
         ensures flying { result.flying ≡ accounts.in_flight any self.now.world }
     {
+        // There are at most as many data as steps, a number of 64 bits: no sum overflows.
         let _most = self.steps();
         count_data(&self.parts.nodes, &self.parts.radio)
     }

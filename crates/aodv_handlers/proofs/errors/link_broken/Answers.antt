@@ -5,7 +5,7 @@ use Rattle.aodv_model.specs.Cores.{Core}
 use Rattle.aodv_model.specs.Handlers.{link_broken, retract}
 use Rattle.aodv_model.specs.Soundness.{AreDestsBelow}
 use Rattle.aodv_model.proofs.PlacedTables.{unreachable_by_below}
-use Rattle.aodv_handlers.specs.Shown.{shown}
+use Rattle.aodv_handlers.specs.Shown.{core_of}
 use Rattle.aodv_handlers.proofs.Ready.{ready_after, broken_sound}
 use Rattle.aodv_handlers.proofs.Unicasts.{break_made}
 use Rattle.aodv_handlers.proofs.errors.link_broken.Goals as goal
@@ -17,7 +17,7 @@ retract-requires-clause-below g c =
 
 pub returns-in-Ok-clause-does : goal.returns-in-Ok-clause-does
 returns-in-Ok-clause-does g c =
-    break_made c.args.mesh.now (shown g.T.Table.entries c.args.core.now) (shown g.T.Table.entries c.retract.new.core) c.args.next c.dests_via.new.out c.retract.result c.retract.new.out.items
+    break_made c.args.mesh.now (core_of g.T.Table.entries c.args.core.now) (core_of g.T.Table.entries c.retract.new.core) c.args.next c.dests_via.new.out c.retract.result c.retract.new.out.items
     c.in-Ok.ensures.0 c.in-Ok.ensures.1 c.retract.ensures.core c.retract.ensures.cast c.retract.ensures.packet
 
 after : (core : Core) (y : ℕ) (dests : Dests) → dests ≡ unreachable_by core.rt y → (retract core dests).core ≡ (link_broken core y).core
@@ -30,6 +30,6 @@ me core y = refl
 
 pub returns-in-Ok-clause-ready : goal.returns-in-Ok-clause-ready
 returns-in-Ok-clause-ready g c =
-    let core = shown g.T.Table.entries c.args.core.now in
+    let core = core_of g.T.Table.entries c.args.core.now in
     ready_after g.T.Table.nodes g.T.Table.entries (length c.args.mesh.now) c.args.core.now c.retract.new.core (link_broken core c.args.next).core c.requires.ready c.retract.ensures.nodes (ap (λ (a : RoomySeen). length a.rooms) c.retract.ensures.asked) (ap length c.retract.ensures.waiting)
     (c.retract.ensures.core ∙ after core c.args.next c.dests_via.new.out c.in-Ok.ensures.1) (me core c.args.next) (broken_sound (length c.args.mesh.now) core c.args.next c.requires.ready.sound)

@@ -5,12 +5,12 @@ use Rattle.aodv_handlers.proofs.rerr.stated_numbers.Goals as goal
 pub loop-k-init : goal.loop-k-init
 loop-k-init c = stated_none c.args.mesh.now c.args.m.now c.no_numbers-numbers.result c.no_numbers-numbers.ensures.size c.no_numbers-numbers.ensures.none
 
-pub place_of-d-requires : goal.place_of-d-requires
-place_of-d-requires c = known_at c.args.mesh.now c.args.m.now c.loop-k.k c.pair-number.result c.requires c.pair-number.ensures
+pub index_in-d-requires : goal.index_in-d-requires
+index_in-d-requires c = known_at c.args.mesh.now c.args.m.now c.loop-k.k c.pair-number.result c.requires c.pair-number.ensures
 
 pub loop-k-preserved : goal.loop-k-preserved
 loop-k-preserved c =
-    stated_more c.args.mesh.now c.args.m.now c.loop-k.k c.place_of-d.result c.pair-number.result c.loop-k.numbers c.state_number.new.numbers c.loop-k.invariant c.pair-number.ensures c.place_of-d.ensures.value c.state_number.auto.numbers c.state_number.ensures
+    stated_more c.args.mesh.now c.args.m.now c.loop-k.k c.index_in-d.result c.pair-number.result c.loop-k.numbers c.state_number.new.numbers c.loop-k.invariant c.pair-number.ensures c.index_in-d.ensures.value c.state_number.auto.numbers c.state_number.ensures
 
 pub returns-clause-size : goal.returns-clause-size
 returns-clause-size c = c.loop-k.invariant.size

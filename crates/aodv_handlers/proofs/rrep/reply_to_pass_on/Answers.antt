@@ -3,7 +3,7 @@ use Rattle.std.specs.Prelude.{◌==◌}
 use Rattle.std.proofs.lemmas.Bool.{ne_eqb}
 use Rattle.aodv_model.specs.Tables.{in_vD}
 use Rattle.aodv_model.specs.Handlers.{reply_on}
-use Rattle.aodv_handlers.specs.Shown.{shown, reply_of}
+use Rattle.aodv_handlers.specs.Shown.{core_of, reply_of}
 use Rattle.aodv_handlers.proofs.Replies.{new_goes_on}
 use Rattle.aodv_handlers.proofs.rrep.reply_to_pass_on.Goals as goal
 
@@ -13,14 +13,14 @@ goes oip ip r r' other same there = rw (ne_eqb oip ip other, sym same ∙ there)
 
 pub returns-in-Reply-clause-does : goal.returns-in-Reply-clause-does
 returns-in-Reply-clause-does g c =
-    let core = shown g.T.Table.entries c.args.core.now in
+    let core = core_of g.T.Table.entries c.args.core.now in
     let m = reply_of c.args.m in
     let on = goes m.oip core.ip c.has_route.result (in_vD core.rt m.oip) c.if-m-core.false c.has_route.ensures c.if-not-has_route.false in
     λ range. rw on (ap (λ v. reply_on v core (not c.args.changed) range m) c.in-Reply.is ∙ c.own_reply.ensures.does (not c.args.changed) range)
 
 pub returns-in_default : goal.returns-in_default
 returns-in_default g c =
-    let core = shown g.T.Table.entries c.args.core.now in
+    let core = core_of g.T.Table.entries c.args.core.now in
     let m = reply_of c.args.m in
     let on = goes m.oip core.ip c.has_route.result (in_vD core.rt m.oip) c.if-m-core.false c.has_route.ensures c.if-not-has_route.false in
     record {

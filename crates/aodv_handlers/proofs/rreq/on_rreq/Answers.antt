@@ -11,8 +11,8 @@ use Rattle.aodv_model.specs.Soundness.{IsSoundTable}
 use Rattle.aodv_model.proofs.SoundTables.{neighbour_table}
 use Rattle.aodv_table.specs.Calls.{with_entry}
 use Rattle.aodv_meaning.specs.Meaning.{index, request_in}
-use Rattle.aodv_handlers.specs.Shown.{shown}
-use Rattle.aodv_handlers.specs.Made.{IsMade, IsRefused, number_full}
+use Rattle.aodv_handlers.specs.Shown.{core_of}
+use Rattle.aodv_handlers.specs.Made.{IsMade, IsFull, number_full}
 use Rattle.aodv_handlers.proofs.Ready.{ready_table, ready_back}
 use Rattle.aodv_handlers.proofs.Restored.{updates_back, updated_twice}
 use Rattle.aodv_handlers.proofs.Requests.{seen_made, asked_table, ends, new_made, stop_made, same_request}
@@ -20,8 +20,8 @@ use Rattle.aodv_handlers.proofs.rreq.on_rreq.Goals as goal
 
 pub returns-then-has-clause-does : goal.returns-then-has-clause-does
 returns-then-has-clause-does g c =
-    seen_made c.args.mesh.now (shown g.T.Table.entries c.args.core.now) c.args.range.now c.args.from (request_in c.args.mesh.now c.args.m.now) (index c.args.mesh.now c.args.m.now.oip, c.mark_of-mark.result) (g.T.Table.entries c.update.new.self) c.casting.result c.clear.new.self.items (c.mark_of-mark.ensures c.args.mesh.now)
-    (ap (λ (o : ℕ). sets.contains c.args.core.now.asked.pairs (o, c.mark_of-mark.result)) (sym c.place_of-oip.ensures.value) ∙ sym c.has.ensures ∙ c.if-has.true)
+    seen_made c.args.mesh.now (core_of g.T.Table.entries c.args.core.now) c.args.range.now c.args.from (request_in c.args.mesh.now c.args.m.now) (index c.args.mesh.now c.args.m.now.oip, c.mark_of-mark.result) (g.T.Table.entries c.update.new.self) c.casting.result c.clear.new.self.items (c.mark_of-mark.ensures c.args.mesh.now)
+    (ap (λ (o : ℕ). sets.contains c.args.core.now.asked.pairs (o, c.mark_of-mark.result)) (sym c.index_in-oip.ensures.value) ∙ sym c.has.ensures ∙ c.if-has.true)
     (c.update.ensures.entries ∙ ap (update (g.T.Table.entries c.args.core.now.table) c.args.from) c.neighbour_entry.ensures) c.casting.ensures c.clear.ensures
 
 pub returns-then-has-clause-ready : goal.returns-then-has-clause-ready
@@ -40,9 +40,9 @@ on_new-requires-clause-ready g c =
     let rt2 = g.T.Table.entries c.update-3.new.self in
     let m = c.args.m.now in
     let oip = index c.args.mesh.now m.oip in
-    let lo : oip < length c.args.mesh.now = let w = c.place_of-oip.ensures.within in let e = c.place_of-oip.ensures.value in omega arith in
-    let is = updated_twice rt rt1 rt2 c.args.from c.place_of-oip.result oip c.neighbour_entry-2.result (neighbour_entry c.args.from) c.route_entry.result (route_entry m.osn m.hops c.args.from)
-    c.update-2.ensures.entries c.neighbour_entry-2.ensures c.update-3.ensures.entries c.place_of-oip.ensures.value c.route_entry.ensures in
+    let lo : oip < length c.args.mesh.now = let w = c.index_in-oip.ensures.within in let e = c.index_in-oip.ensures.value in omega arith in
+    let is = updated_twice rt rt1 rt2 c.args.from c.index_in-oip.result oip c.neighbour_entry-2.result (neighbour_entry c.args.from) c.route_entry.result (route_entry m.osn m.hops c.args.from)
+    c.update-2.ensures.entries c.neighbour_entry-2.ensures c.update-3.ensures.entries c.index_in-oip.ensures.value c.route_entry.ensures in
     ready_table g.T.Table.nodes g.T.Table.entries (length c.args.mesh.now) core _ c.requires.ready (c.update-3.ensures.nodes ∙ c.update-2.ensures.nodes) refl refl refl c.requires.ready.sound.own
     (asked_table (length c.args.mesh.now) core.me rt rt2 c.args.from oip m.osn m.hops c.requires.from c.requires.other lo c.requires.osn c.requires.ready.sound.table is)
 
@@ -50,17 +50,17 @@ pub returns-in-Ok-clause-does : goal.returns-in-Ok-clause-does
 returns-in-Ok-clause-does g c =
     let mesh = c.args.mesh.now in
     let m = c.args.m.now in
-    let core = shown g.T.Table.entries c.args.core.now in
+    let core = core_of g.T.Table.entries c.args.core.now in
     let rt2 = g.T.Table.entries c.update-3.new.self in
-    let is = updated_twice core.rt (g.T.Table.entries c.update-2.new.self) rt2 c.args.from c.place_of-oip.result (index mesh m.oip) c.neighbour_entry-2.result (neighbour_entry c.args.from) c.route_entry.result (route_entry m.osn m.hops c.args.from)
-    c.update-2.ensures.entries c.neighbour_entry-2.ensures c.update-3.ensures.entries c.place_of-oip.ensures.value c.route_entry.ensures in
+    let is = updated_twice core.rt (g.T.Table.entries c.update-2.new.self) rt2 c.args.from c.index_in-oip.result (index mesh m.oip) c.neighbour_entry-2.result (neighbour_entry c.args.from) c.route_entry.result (route_entry m.osn m.hops c.args.from)
+    c.update-2.ensures.entries c.neighbour_entry-2.ensures c.update-3.ensures.entries c.index_in-oip.ensures.value c.route_entry.ensures in
     let end = ends core c.args.range.now c.args.from (request_in mesh m) (index mesh m.oip, c.mark_of-mark.result) rt2 (c.mark_of-mark.ensures mesh)
-    (ap (λ (o : ℕ). sets.contains core.seen (o, c.mark_of-mark.result)) (sym c.place_of-oip.ensures.value) ∙ sym c.has.ensures ∙ c.if-has.false) (ne_eqb m.hops 255 c.if-m.false) is in
-    new_made mesh core (shown g.T.Table.entries c.on_new.new.core) c.args.range.now c.args.from (request_in mesh m) (index mesh m.oip, c.mark_of-mark.result) (on_new_rreq (record core { rt = rt2 }) c.args.range.now c.args.from (request_in mesh m)) c.in-Ok.effect c.insert.new.self.pairs c.on_new.new.out.items end (c.mark_of-mark.ensures mesh)
-    (subst (λ (m : RouteRequest). IsMade mesh (number_full (on_new_rreq (record core { rt = rt2 }) c.args.range.now c.args.from m)) (on_new_rreq (record core { rt = rt2 }) c.args.range.now c.args.from m) c.in-Ok.effect (shown g.T.Table.entries c.on_new.new.core) c.on_new.new.out.items)
-    (same_request mesh m c.place_of-dip.result c.place_of-oip.result c.place_of-dip.ensures.value c.place_of-oip.ensures.value) c.in-Ok.ensures.does)
+    (ap (λ (o : ℕ). sets.contains core.seen (o, c.mark_of-mark.result)) (sym c.index_in-oip.ensures.value) ∙ sym c.has.ensures ∙ c.if-has.false) (ne_eqb m.hops 255 c.if-m.false) is in
+    new_made mesh core (core_of g.T.Table.entries c.on_new.new.core) c.args.range.now c.args.from (request_in mesh m) (index mesh m.oip, c.mark_of-mark.result) (on_new_rreq (record core { rt = rt2 }) c.args.range.now c.args.from (request_in mesh m)) c.in-Ok.effect c.insert.new.self.pairs c.on_new.new.out.items end (c.mark_of-mark.ensures mesh)
+    (subst (λ (m : RouteRequest). IsMade mesh (number_full (on_new_rreq (record core { rt = rt2 }) c.args.range.now c.args.from m)) (on_new_rreq (record core { rt = rt2 }) c.args.range.now c.args.from m) c.in-Ok.effect (core_of g.T.Table.entries c.on_new.new.core) c.on_new.new.out.items)
+    (same_request mesh m c.index_in-dip.result c.index_in-oip.result c.index_in-dip.ensures.value c.index_in-oip.ensures.value) c.in-Ok.ensures.does)
     (ap (λ (a : RoomySeen). a.pairs) c.in-Ok.ensures.asked)
-    (c.insert.ensures.pairs ∙ ap (λ (o : ℕ). sets.insert c.on_new.new.core.asked.pairs (o, c.mark_of-mark.result)) c.place_of-oip.ensures.value)
+    (c.insert.ensures.pairs ∙ ap (λ (o : ℕ). sets.insert c.on_new.new.core.asked.pairs (o, c.mark_of-mark.result)) c.index_in-oip.ensures.value)
 
 back : (rt rt1 rt2 rt3 rt4 new : Table) (a b : ℕ) (r s : Entry) (kept_a kept_b : Option Entry) → rt1 ≡ update rt a r → rt2 ≡ update rt1 b s → kept_a ≡ maps.get rt a → kept_b ≡ maps.get rt b → new ≡ rt2 → rt3 ≡ with_entry new b kept_b → rt4 ≡ with_entry rt3 a kept_a → rt4 ≡ rt
 back rt rt1 rt2 rt3 rt4 new a b r s kept_a kept_b one_is two_is a_is b_is new_is three_is four_is =
@@ -71,22 +71,22 @@ pub returns-in-Err-clause-does : goal.returns-in-Err-clause-does
 returns-in-Err-clause-does g c =
     let mesh = c.args.mesh.now in
     let m = c.args.m.now in
-    let core = shown g.T.Table.entries c.args.core.now in
+    let core = core_of g.T.Table.entries c.args.core.now in
     let rt2 = g.T.Table.entries c.update-3.new.self in
-    let is = updated_twice core.rt (g.T.Table.entries c.update-2.new.self) rt2 c.args.from c.place_of-oip.result (index mesh m.oip) c.neighbour_entry-2.result (neighbour_entry c.args.from) c.route_entry.result (route_entry m.osn m.hops c.args.from)
-    c.update-2.ensures.entries c.neighbour_entry-2.ensures c.update-3.ensures.entries c.place_of-oip.ensures.value c.route_entry.ensures in
+    let is = updated_twice core.rt (g.T.Table.entries c.update-2.new.self) rt2 c.args.from c.index_in-oip.result (index mesh m.oip) c.neighbour_entry-2.result (neighbour_entry c.args.from) c.route_entry.result (route_entry m.osn m.hops c.args.from)
+    c.update-2.ensures.entries c.neighbour_entry-2.ensures c.update-3.ensures.entries c.index_in-oip.ensures.value c.route_entry.ensures in
     let end = ends core c.args.range.now c.args.from (request_in mesh m) (index mesh m.oip, c.mark_of-mark.result) rt2 (c.mark_of-mark.ensures mesh)
-    (ap (λ (o : ℕ). sets.contains core.seen (o, c.mark_of-mark.result)) (sym c.place_of-oip.ensures.value) ∙ sym c.has.ensures ∙ c.if-has.false) (ne_eqb m.hops 255 c.if-m.false) is in
-    let rows = back core.rt (g.T.Table.entries c.update-2.new.self) rt2 (g.T.Table.entries c.put.new.self) (g.T.Table.entries c.put-in-Err.new.self) (g.T.Table.entries c.on_new.new.core.table) c.args.from c.place_of-oip.result c.neighbour_entry-2.result c.route_entry.result c.get-kept_from.result c.get-kept_oip.result
+    (ap (λ (o : ℕ). sets.contains core.seen (o, c.mark_of-mark.result)) (sym c.index_in-oip.ensures.value) ∙ sym c.has.ensures ∙ c.if-has.false) (ne_eqb m.hops 255 c.if-m.false) is in
+    let rows = back core.rt (g.T.Table.entries c.update-2.new.self) rt2 (g.T.Table.entries c.put.new.self) (g.T.Table.entries c.put-in-Err.new.self) (g.T.Table.entries c.on_new.new.core.table) c.args.from c.index_in-oip.result c.neighbour_entry-2.result c.route_entry.result c.get-kept_from.result c.get-kept_oip.result
     c.update-2.ensures.entries c.update-3.ensures.entries c.get-kept_from.ensures.value c.get-kept_oip.ensures.value (ap (λ (c : Core). c.rt) c.in-Err.ensures.does.same) c.put.ensures.entries c.put-in-Err.ensures.entries in
-    stop_made core (shown g.T.Table.entries c.on_new.new.core) c.args.range.now c.args.from (request_in mesh m) rt2 (g.T.Table.entries c.put-in-Err.new.self) (on_new_rreq (record core { rt = rt2 }) c.args.range.now c.args.from (request_in mesh m)) c.in-Err.full end
-    (subst (λ (m : RouteRequest). IsRefused (number_full (on_new_rreq (record core { rt = rt2 }) c.args.range.now c.args.from m)) (record core { rt = rt2 }) c.in-Err.full (shown g.T.Table.entries c.on_new.new.core))
-    (same_request mesh m c.place_of-dip.result c.place_of-oip.result c.place_of-dip.ensures.value c.place_of-oip.ensures.value) c.in-Err.ensures.does)
+    stop_made core (core_of g.T.Table.entries c.on_new.new.core) c.args.range.now c.args.from (request_in mesh m) rt2 (g.T.Table.entries c.put-in-Err.new.self) (on_new_rreq (record core { rt = rt2 }) c.args.range.now c.args.from (request_in mesh m)) c.in-Err.full end
+    (subst (λ (m : RouteRequest). IsFull (number_full (on_new_rreq (record core { rt = rt2 }) c.args.range.now c.args.from m)) (record core { rt = rt2 }) c.in-Err.full (core_of g.T.Table.entries c.on_new.new.core))
+    (same_request mesh m c.index_in-dip.result c.index_in-oip.result c.index_in-dip.ensures.value c.index_in-oip.ensures.value) c.in-Err.ensures.does)
     rows
 
 pub returns-in-Err-clause-ready : goal.returns-in-Err-clause-ready
 returns-in-Err-clause-ready g c =
-    let core = shown g.T.Table.entries c.args.core.now in
-    let rows = back core.rt (g.T.Table.entries c.update-2.new.self) (g.T.Table.entries c.update-3.new.self) (g.T.Table.entries c.put.new.self) (g.T.Table.entries c.put-in-Err.new.self) (g.T.Table.entries c.on_new.new.core.table) c.args.from c.place_of-oip.result c.neighbour_entry-2.result c.route_entry.result c.get-kept_from.result c.get-kept_oip.result
+    let core = core_of g.T.Table.entries c.args.core.now in
+    let rows = back core.rt (g.T.Table.entries c.update-2.new.self) (g.T.Table.entries c.update-3.new.self) (g.T.Table.entries c.put.new.self) (g.T.Table.entries c.put-in-Err.new.self) (g.T.Table.entries c.on_new.new.core.table) c.args.from c.index_in-oip.result c.neighbour_entry-2.result c.route_entry.result c.get-kept_from.result c.get-kept_oip.result
     c.update-2.ensures.entries c.update-3.ensures.entries c.get-kept_from.ensures.value c.get-kept_oip.ensures.value (ap (λ (c : Core). c.rt) c.in-Err.ensures.does.same) c.put.ensures.entries c.put-in-Err.ensures.entries in
     ready_back g.T.Table.nodes g.T.Table.entries (length c.args.mesh.now) c.args.core.now c.on_new.new.core _ c.requires.ready c.in-Err.ensures.ready (c.put-in-Err.ensures.nodes ∙ c.put.ensures.nodes) refl refl (λ i. record (c.in-Err.ensures.does.same i) { rt = rows i })

@@ -1,7 +1,7 @@
 use Rattle.std.proofs.Common.{ℕ, refl, sym, ap, subst, ◌∙◌, drop, Some}
 use Rattle.std.specs.Prelude.{length, option_copied}
 use Rattle.mesh_base.specs.declared.events.Item.TheVariants as item
-use Rattle.aodv_handlers.specs.Shown.{shown, IsReady}
+use Rattle.aodv_handlers.specs.Shown.{core_of, IsReady}
 use Rattle.aodv_node.specs.Seen.{IsItemAt}
 use Rattle.aodv_node.proofs.Fronts.{front_of, none_of, first_has}
 use Rattle.aodv_node.proofs.Taken.{datum_taken, stopped, stopped_short, no_memory, short_of, seen_same}
@@ -25,7 +25,7 @@ hear-requires-clause-other g c =
 
 pub returns-in-Some-New-clause-turn : goal.returns-in-Some-New-clause-turn
 returns-in-Some-New-clause-turn g c =
-    let did = datum_taken c.args.mesh.now c.args.range.now (shown g.T.Table.entries c.make_store.new.core) (shown g.T.Table.entries c.args.core.now) c.in-Some-New.dest c.in-Some-New.body c.new_packet-own.result c.done_with.result (shown g.T.Table.entries c.new_packet-own.new.core) c.clear.new.self.items
+    let did = datum_taken c.args.mesh.now c.args.range.now (core_of g.T.Table.entries c.make_store.new.core) (core_of g.T.Table.entries c.args.core.now) c.in-Some-New.dest c.in-Some-New.body c.new_packet-own.result c.done_with.result (core_of g.T.Table.entries c.new_packet-own.new.core) c.clear.new.self.items
     c.make_store.ensures.shown c.new_packet-own.ensures.result c.done_with.ensures c.new_packet-own.ensures.core (c.new_packet-own.ensures.free c.args.range.now) c.clear.ensures in
     record {
       front = item.New c.in-Some-New.dest c.in-Some-New.body;
@@ -39,7 +39,7 @@ returns-in-Some-New-clause-turn g c =
 
 pub returns-in-Err-Full-clause-turn : goal.returns-in-Err-Full-clause-turn
 returns-in-Err-Full-clause-turn g c =
-    let full = stopped c.args.mesh.now (shown g.T.Table.entries c.args.core.now) c.args.range.now c.in-Heard.from c.as_slice.result.now c.in-Err-Full.field-0 c.in-Err-Full.field (shown g.T.Table.entries c.hear.new.core) c.hear.new.out.items c.in-Err-Full.field-0-is c.in-Err-Full.ensures.does in (
+    let full = stopped c.args.mesh.now (core_of g.T.Table.entries c.args.core.now) c.args.range.now c.in-Heard.from c.as_slice.result.now c.in-Err-Full.field-0 c.in-Err-Full.field (core_of g.T.Table.entries c.hear.new.core) c.hear.new.out.items c.in-Err-Full.field-0-is c.in-Err-Full.ensures.does in (
       record {
         front = item.Heard c.in-Heard.from c.as_slice.result.now;
         rest = drop 1 c.args.inbox.now.items;
@@ -65,7 +65,7 @@ returns-in_err-make_store-in-New-clause-turn g c =
 
 pub returns-in-Err-NoMemory-clause-turn : goal.returns-in-Err-NoMemory-clause-turn
 returns-in-Err-NoMemory-clause-turn g c =
-    let short = stopped_short c.args.mesh.now (shown g.T.Table.entries c.args.core.now) c.args.range.now c.in-Heard.from c.as_slice.result.now c.in-Err-NoMemory.field-0 (shown g.T.Table.entries c.hear.new.core) c.hear.new.out.items c.in-Err-NoMemory.field-0-is c.in-Err-NoMemory.ensures.does in (
+    let short = stopped_short c.args.mesh.now (core_of g.T.Table.entries c.args.core.now) c.args.range.now c.in-Heard.from c.as_slice.result.now c.in-Err-NoMemory.field-0 (core_of g.T.Table.entries c.hear.new.core) c.hear.new.out.items c.in-Err-NoMemory.field-0-is c.in-Err-NoMemory.ensures.does in (
       record {
         front = item.Heard c.in-Heard.from c.as_slice.result.now;
         rest = drop 1 c.args.inbox.now.items;

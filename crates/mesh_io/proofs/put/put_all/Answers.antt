@@ -3,4 +3,4 @@ use Rattle.mesh_io.proofs.put.put_all.Goals as goal
 
 pub returns-then-put_front-piece-clause-text : goal.returns-then-put_front-piece-clause-text
 returns-then-put_front-piece-clause-text g c = record
-    { front = _; rest = _; whole = sym (take-append-drop c.put_front.result c.args.piece.now); grown = c.put_front.ensures.text }
+    { prefix = _; rest = _; whole = sym (take-append-drop c.put_front.result c.args.piece.now); grown = c.put_front.ensures.text }

@@ -1,4 +1,4 @@
--- A front of the piece is written, and no fault came.
+-- A prefix of the piece is written, and no fault came.
 use Rattle.std.proofs.Common.{length, ◌-◌, ◌≡◌, ◌≤◌, take}
 use Rattle.std.specs.Io.KnownBytes.{Appends}
 use Rattle.mesh_io.proofs.put.put_front.Given as goal

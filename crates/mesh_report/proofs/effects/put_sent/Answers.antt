@@ -1,12 +1,12 @@
 use Rattle.std.proofs.Common.{refl}
-use Rattle.mesh_io.proofs.Writing.{Puts-fault, AppendsFront-more}
+use Rattle.mesh_io.proofs.Writing.{Puts-fault, AppendsPrefix-more}
 use Rattle.mesh_report.proofs.Gathering.{Gathers-sent}
 use Rattle.mesh_report.proofs.effects.put_sent.Goals as goal
 
 pub returns-in_err-make_room-clause-text : goal.returns-in_err-make_room-clause-text
 returns-in_err-make_room-clause-text g c = λ from.
     Puts-fault (g.O.Sink.held c.args.out.now) (g.O.Sink.held c.make_room.new.out) _ c.from_residual.result c.from_residual.ensures.0
-    (AppendsFront-more (g.O.Sink.held c.args.out.now) (g.O.Sink.held c.make_room.new.out) _ _ _ refl c.in_err-make_room.ensures.text)
+    (AppendsPrefix-more (g.O.Sink.held c.args.out.now) (g.O.Sink.held c.make_room.new.out) _ _ _ refl c.in_err-make_room.ensures.text)
 
 pub returns-clause-text : goal.returns-clause-text
 returns-clause-text g c = λ from.

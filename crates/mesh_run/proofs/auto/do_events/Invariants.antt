@@ -3,14 +3,14 @@ use Rattle.std.proofs.Common.{◌≡◌, ◌≤◌, ◌+◌, ◌-◌, ℕ, List,
 use Rattle.mesh_text.specs.Schedule.{Moment}
 use Rattle.mesh_text.specs.Auto.{auto_from}
 use Rattle.mesh_run.specs.declared.stop.Stop.{Stop}
-use Rattle.mesh_run.specs.Runs.{RanTo}
+use Rattle.mesh_run.specs.Runs.{IsAutoRun}
 use Rattle.mesh_run.proofs.auto.do_events.Given as goal
 
 abbrev pub invariant-events : goal.invariant-events
 invariant-events g l = record {
   ran : (now : Option (List ℕ)) (n : Moment) (r : Result ℕ Stop)
-      → RanTo l.quiet l.at (auto_from (l.count - l.did) l.did l.at) n (g.O.Sink.held l.out) now r
-      → RanTo l.quiet l.initial.at (auto_from l.count 0 l.initial.at) n (g.O.Sink.held l.initial.out) now r;
+      → IsAutoRun l.quiet l.at (auto_from (l.count - l.did) l.did l.at) n (g.O.Sink.held l.out) now r
+      → IsAutoRun l.quiet l.initial.at (auto_from l.count 0 l.initial.at) n (g.O.Sink.held l.initial.out) now r;
   started : is_some l.at.world ≡ true;
   lines : l.at.lines ≡ l.initial.at.lines;
   later : g.O.Sink.faults l.initial.out ≤ g.O.Sink.faults l.out;

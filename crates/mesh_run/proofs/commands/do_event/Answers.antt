@@ -1,10 +1,10 @@
 use Rattle.std.proofs.Common.{true, false, Some, subst}
 use Rattle.std.specs.Io.KnownBytes.{Appends}
 use Rattle.mesh_base.specs.Meshes.{Nodes}
-use Rattle.mesh_io.specs.Puts.{AppendsFront}
+use Rattle.mesh_io.specs.Puts.{AppendsPrefix}
 use Rattle.mesh_io.proofs.Writing.{Appends-none}
 use Rattle.mesh_model.specs.Worlds.{World, Event}
-use Rattle.mesh_meaning.specs.Events.{event_of, place_of}
+use Rattle.mesh_meaning.specs.Events.{event_of, node_of}
 use Rattle.mesh_meaning.specs.Answers.{outcome_in}
 use Rattle.mesh_text.specs.Schedule.{Moment, world_of}
 use Rattle.mesh_text.specs.Effects.{outcome_lines}
@@ -54,7 +54,7 @@ returns-in-Ok-say_event-clause-comes g c =
     let same = answer_mesh c.args.at.now n (event_of c.args.event) c.in-Ok.done c.step-answer.new.out.items is.answer in
     let w : World = world_of n in
     let e : Event = event_of c.args.event in
-    let P : Nodes → Type 0 = λ k. Appends (g.O.Sink.held c.args.out.now) (g.O.Sink.held c.say_event.new.out) (outcome_lines k e (outcome_in k (place_of e) w c.in-Ok.done c.step-answer.new.out.items)) in
+    let P : Nodes → Type 0 = λ k. Appends (g.O.Sink.held c.args.out.now) (g.O.Sink.held c.say_event.new.out) (outcome_lines k e (outcome_in k (node_of e) w c.in-Ok.done c.step-answer.new.out.items)) in
     rw c.if-quiet.false
     (answer_goes false c.args.at.now n e c.in-Ok.done c.step-answer.new.out.items _ _ is.answer (subst P same (c.in-Ok-say_event.ensures.text w)))
 
@@ -66,6 +66,6 @@ returns-in-Ok-clause-comes g c =
     let same = answer_mesh c.args.at.now n (event_of c.args.event) c.in-Ok.done c.step-answer.new.out.items is.answer in
     let w : World = world_of n in
     let e : Event = event_of c.args.event in
-    let P : Nodes → Type 0 = λ k. AppendsFront (g.O.Sink.held c.args.out.now) (g.O.Sink.held c.say_event.new.out) (outcome_lines k e (outcome_in k (place_of e) w c.in-Ok.done c.step-answer.new.out.items)) in
+    let P : Nodes → Type 0 = λ k. AppendsPrefix (g.O.Sink.held c.args.out.now) (g.O.Sink.held c.say_event.new.out) (outcome_lines k e (outcome_in k (node_of e) w c.in-Ok.done c.step-answer.new.out.items)) in
     rw c.if-quiet.false
     (answer_front false c.args.at.now n e c.in-Ok.done c.step-answer.new.out.items _ _ is.answer (subst P same (c.in-Err-say_event.ensures.text w)))

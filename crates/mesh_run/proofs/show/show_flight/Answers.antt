@@ -20,9 +20,9 @@ pub returns-clause-text : goal.returns-clause-text
 returns-clause-text g c =
     let again : c.mesh.result.now ≡ c.args.at.now.mesh = c.mesh.ensures.value ∙ c.in-Some.ensures.value.1 in
     let words = ap line c.requires.echo.1 in
-    let shown : flight_text c.mesh.result.now (map (copy_in c.mesh.result.now) c.radio.result.now.flying) ≡ flight_text c.args.at.now.mesh (world_of c.args.at.now).flying =
+    let output_if : flight_text c.mesh.result.now (map (copy_in c.mesh.result.now) c.radio.result.now.flying) ≡ flight_text c.args.at.now.mesh (world_of c.args.at.now).flying =
     ap (λ (m : Nodes). flight_text m (map (copy_in m) c.radio.result.now.flying)) again
     ∙ ap (λ (m : Nodes). flight_text c.args.at.now.mesh (map (copy_in m) c.radio.result.now.flying)) (sym c.in-Some.ensures.value.1)
     ∙ ap (flight_text c.args.at.now.mesh) c.radio.ensures.flying
     ∙ ap (λ (w : World). flight_text c.args.at.now.mesh w.flying) c.in-Some.ensures.value.0 in
-    shows_whole c.args.quiet _ _ _ _ _ (g.O.Sink.held c.put_echo.new.out) _ c.put_copies.result c.if-quiet.false words shown c.in_ok-put_echo.ensures.text c.put_copies.ensures.text
+    shows_whole c.args.quiet _ _ _ _ _ (g.O.Sink.held c.put_echo.new.out) _ c.put_copies.result c.if-quiet.false words output_if c.in_ok-put_echo.ensures.text c.put_copies.ensures.text

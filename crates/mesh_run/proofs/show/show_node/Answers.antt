@@ -19,9 +19,9 @@ returns-in_err-put_echo-clause-text g c =
 pub returns-clause-text : goal.returns-clause-text
 returns-clause-text g c =
     let words = ap line c.requires.echo.1 in
-    let shown : node_text c.mesh.result.now c.node.result.now.core (length c.node.result.now.items) ≡ node_text_in c.args.at.now.mesh (slice_get (world_of c.args.at.now).nodes c.args.node) =
+    let output_if : node_text c.mesh.result.now c.node.result.now.core (length c.node.result.now.items) ≡ node_text_in c.args.at.now.mesh (slice_get (world_of c.args.at.now).nodes c.args.node) =
     ap (λ (m : Nodes). node_text m c.node.result.now.core (length c.node.result.now.items)) c.mesh.ensures.value
     ∙ node_shown c.in-Some.world.now.mesh _ c.node.result.now c.node.ensures.node
     ∙ ap (λ (m : Nodes). node_text_in m (slice_get (c.in-Some.world.now.world).nodes c.args.node)) c.in-Some.ensures.value.1
     ∙ ap (λ (w : World). node_text_in c.args.at.now.mesh (slice_get w.nodes c.args.node)) c.in-Some.ensures.value.0 in
-    shows_whole c.args.quiet _ _ _ _ _ (g.O.Sink.held c.put_echo.new.out) _ c.put_node.result c.if-quiet.false words shown c.in_ok-put_echo.ensures.text c.put_node.ensures.text
+    shows_whole c.args.quiet _ _ _ _ _ (g.O.Sink.held c.put_echo.new.out) _ c.put_node.result c.if-quiet.false words output_if c.in_ok-put_echo.ensures.text c.put_node.ensures.text

@@ -1,12 +1,13 @@
-use Rattle.std.proofs.Common.{rules, ◌≡◌, ◌+◌, true, false, Err, sym, ap, subst, arith, Ok, Result, Bool, ◌∙◌}
+use Rattle.std.proofs.Common.{rules, ◌≡◌, ◌+◌, true, false, Err, sym, ap, subst, arith, Ok, Result, Bool, ◌∙◌, length, min}
 use Rattle.std.specs.Option.{IfSome}
+use Rattle.std.proofs.lemmas.List.{length-take}
 use Rattle.std.specs.Io.KnownBytes.{prepend_known}
 use Rattle.mesh_io.specs.Cutting.{line_in, pending_in, ahead_in, HasNoLf, FindsLine, refusal_by}
 use Rattle.mesh_io.specs.declared.line_error.LineError.{LineError}
 use Rattle.mesh_io.specs.declared.line_error.LineError.TheVariants as error
 use Rattle.mesh_io.proofs.Deciding.{open_is}
 use Rattle.mesh_io.proofs.FirstLines.{first_is}
-use Rattle.mesh_io.proofs.Following.{decides_line, decides_end}
+use Rattle.mesh_io.proofs.Following.{decides_line, decides_end, counted_by}
 use Rattle.mesh_io.proofs.Ahead.{told_end, told_line, told_long, told_much, at_end, decided_then, Keeps-join}
 use Rattle.mesh_io.proofs.Staying.{undecided_end, was_open, stays_none, stays_same}
 use Rattle.mesh_io.proofs.cutter.Cutter.advance.Goals as goal
@@ -136,3 +137,22 @@ reads-preserved g c =
       unread = λ d. absurd (was_open old now kept.unread c.in-Open.is d);
       faults = faults ∙ kept.faults;
     }
+
+pub returns-in-Line-clause-short : goal.returns-in-Line-clause-short
+returns-in-Line-clause-short g c =
+    λ e. let now = c.reads.self in
+    let line = decides_line now.most now.given now.ended (pending_in now) now.decision c.in-Line.len c.in-Line.size now.decided c.in-Line.is in
+    let short = line.short in
+    let most = ap (λ m. m.line) c.reads.invariant.most in
+    let len : length (line_in c.give.new.self) ≡ min c.in-Line.len (length (pending_in now)) = ap length c.give.ensures.line ∙ length-take c.in-Line.len (pending_in now) in
+    omega arith
+
+pub returns-in-Line-clause-counted : goal.returns-in-Line-clause-counted
+returns-in-Line-clause-counted g c =
+    λ e. let now = c.reads.self in
+    let line = decides_line now.most now.given now.ended (pending_in now) now.decision c.in-Line.len c.in-Line.size now.decided c.in-Line.is in
+    counted_by now.most c.args.self.now.given now.given c.give.new.self.given now.ended c.give.new.self.ended (pending_in now) (line_in c.give.new.self) c.in-Line.len c.in-Line.size
+    line c.reads.invariant.given c.give.ensures.given c.give.ensures.ended c.give.ensures.line
+
+pub returns-then-is_err-clause-unasked : goal.returns-then-is_err-clause-unasked
+returns-then-is_err-clause-unasked g c = λ d. absurd (was_open c.args.self.now c.reads.self c.reads.invariant.unread c.in-Open.is d)

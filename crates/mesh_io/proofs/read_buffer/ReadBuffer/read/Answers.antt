@@ -11,19 +11,19 @@ returns-clause-more g c =
     let len = b.end - b.at in
     let n = c.in_ok-n.n in
     let new = c.read_behind.new.store in
-    let all : length b.store ≡ 4696 = search rules in
-    let size : length new ≡ 4696 = search rules in
+    let all : length b.store ≡ 12288 = search rules in
+    let size : length new ≡ 12288 = search rules in
     let size-drop : length (drop b.at b.store) ≡ length b.store - b.at = length-drop b.at b.store in
     let size-rest : length (drop len new) ≡ length new - len = length-drop len new in
     let size-seen : length (take len (drop b.at b.store)) ≡ _ = length-take len (drop b.at b.store) in
     let seen-size : length (take len (drop b.at b.store)) ≡ length c.args.self.now = ap length c.self.view_is in
-    let few : len + 4096 ≤ 4696 = search rules in
+    let few : len + 4096 ≤ 12288 = search rules in
     let most : n ≤ 4096 = search rules in
     let whole : len + n - 0 ≡ len + n = omega arith in
-    let front : len ≡ 0 + len = omega arith in
+    let prefix : len ≡ 0 + len = omega arith in
     let seen : take len new ≡ c.args.self.now =
     c.read_behind.ensures.kept ∙ ap (take len) c.copy_within.ensures.after
-    ∙ ap (λ k. take k (paste b.store 0 (drop b.at b.store) len)) front ∙ take-paste b.store 0 (drop b.at b.store) len (omega arith) (omega arith) ∙ c.self.view_is in (
+    ∙ ap (λ k. take k (paste b.store 0 (drop b.at b.store) len)) prefix ∙ take-paste b.store 0 (drop b.at b.store) len (omega arith) (omega arith) ∙ c.self.view_is in (
       take n (drop len new),
       ap (λ k. take k new) whole ∙ take_both new len n ∙ ap (λ l. l ++ take n (drop len new)) seen,
       length-take-le n (drop len new) (omega arith),

@@ -1,7 +1,8 @@
 use Rattle.std.proofs.Common.{◌≡◌, ◌+◌, ◌-◌, ◌++◌, length, refl, ap, subst, sym, arith, ◌∙◌, cond}
 use Rattle.std.proofs.lemmas.List.{length-append}
 use Rattle.mesh_base.specs.Members.{member_list}
-use Rattle.mesh_radio.specs.Copies.{copies_to, is_data, data_in}
+use Rattle.aodv_wire.specs.Spells.{is_data}
+use Rattle.mesh_radio.specs.Copies.{copies_to, data_in}
 use Rattle.mesh_radio.specs.Kept.{Memory, Flights, with_flights}
 use Rattle.mesh_radio.proofs.CastCopies.{copies_to-length}
 use Rattle.mesh_radio.proofs.Numbered.{at_most_all, data_few, data_append, data_cast}

@@ -3,7 +3,8 @@ use Rattle.std.specs.Prelude.{option_map}
 use Rattle.std.specs.FinSet.{insert}
 use Rattle.std.proofs.lemmas.List.{length-append}
 use Rattle.mesh_base.specs.declared.events.Flying.{Flying}
-use Rattle.mesh_radio.specs.Copies.{find_copy, is_data, data_in}
+use Rattle.aodv_wire.specs.Spells.{is_data}
+use Rattle.mesh_radio.specs.Copies.{find_copy, data_in}
 use Rattle.mesh_radio.specs.Kept.{Memory, Flights, with_second}
 use Rattle.mesh_radio.specs.Casts.{Entry, AreCasts, copies_of, size}
 use Rattle.mesh_radio.specs.declared.casts.Cast.{Cast}

@@ -28,9 +28,9 @@ end_at-requires-clause-few c =
 pub unreachable-requires : goal.unreachable-requires
 unreachable-requires c =
     let old = c.args.self.now in
-    no_refusal old.mesh old.nodes.items old.radio old.ready old.steps c.args.x c.index_mut.result.now c.turn.new.self c.in-Err-Refused.field-0-0 c.in-Err-Refused.field-0-1 c.requires.kept
+    no_refusal old.mesh old.nodes.items old.radio old.ready old.steps c.args.x c.index_mut.result.now c.turn.new.self c.in-Err-Unreadable.field-0-0 c.in-Err-Unreadable.field-0-1 c.requires.kept
     (node_at old.mesh old.nodes.items old.radio old.ready old.steps c.args.x c.index_mut.result.now c.requires.kept c.requires.node c.index_mut.ensures.value)
-    (rw c.in-Err-Refused.field-0-is at c.in-Err-Refused.ensures.turn)
+    (rw c.in-Err-Unreadable.field-0-is at c.in-Err-Unreadable.ensures.turn)
 
 pub unreachable-requires-in-Err-Stranger : goal.unreachable-requires-in-Err-Stranger
 unreachable-requires-in-Err-Stranger c =

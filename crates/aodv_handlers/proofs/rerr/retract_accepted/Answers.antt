@@ -1,0 +1,6 @@
+use Rattle.aodv_handlers.proofs.Delivered.{error_below}
+use Rattle.aodv_handlers.proofs.rerr.retract_accepted.Goals as goal
+
+pub retract-requires-clause-below : goal.retract-requires-clause-below
+retract-requires-clause-below g c =
+    error_below c.args.mesh.now (g.T.Table.entries c.args.core.now.table) c.args.from c.args.m.now c.accepted_dests-dests.result c.requires.known c.accepted_dests-dests.ensures

@@ -1,0 +1,108 @@
+//! The lines of a printed text, one by one.
+ghost use Rattle.std.specs.Prelude.{◌≡◌, ◌≤◌, ◌<◌, [], Ok, Err, true, false, IfSome, IsErrOf};
+ghost use Rattle.std.specs.Io.KnownBytes.{IsAtEnd};
+ghost use Rattle.mesh_io.specs.Cause.{HasReadCause};
+ghost use Rattle.mesh_io.specs.NextLines.{text_limits};
+
+use crate::cutter::Cutter;
+use crate::limits::{LONGEST_TEXT, LONGEST_TEXT_LINE, Limits};
+use crate::line_error::LineError;
+use crate::source::Source;
+
+/// Reads a printed text line by line, by the rules of `Lines` with greater limits: a line has at
+/// most `LONGEST_TEXT_LINE` bytes, and the text at most `LONGEST_TEXT`.
+#[derive(Drop)]
+pub struct LongLines<'s, S: Source> {
+    cutter: Cutter<'s, S>,
+    ghost most: { cutter.most ≡ text_limits },
+}
+
+impl<'s, S: Source> LongLines<'s, S> {
+    ghost use Rattle.mesh_io.specs.LongReading.{source_of, pending_of, line_of, given_of, has_ended, is_decided_at, refusal_of, ahead_of, faults_of};
+    ghost use Rattle.mesh_io.specs.Cutting.{Tells, Refuses, HasNoLf};
+
+    /// A reader at the prefix of the source.
+    pub fn new(source: &'s mut S) -> LongLines<'s, S>
+        ensures same { (source_of result).ghost_name ≡ source.entry.ghost_name }
+        ensures source { (source_of result).now ≡ source.old }
+        ensures pending { pending_of result ≡ [] }
+        ensures given { given_of result ≡ 0 }
+        ensures ended { has_ended result ≡ false }
+    {
+        let most = Limits {
+            line: LONGEST_TEXT_LINE,
+            input: LONGEST_TEXT,
+        };
+        LongLines {
+            cutter: Cutter::new(source, most),
+        }
+    }
+
+    /// The source. What was read of it and not given is lost.
+    pub fn give_back(self) -> &'s mut S
+        ensures same { result.ghost_name ≡ (source_of self.entry).ghost_name }
+        ensures source { result.now ≡ (source_of self.entry).now }
+    {
+        let LongLines { cutter } = self;
+        cutter.give_back()
+    }
+
+    /// The next answer needs no read.
+    pub fn is_decided(&self) -> bool
+        ensures { result ≡ is_decided_at self.now }
+    {
+        self.cutter.is_decided()
+    }
+
+    /// The line that was found last, without its LF.
+    pub fn line(&self) -> &[u8]
+        ensures { result.now ≡ line_of self.now }
+    {
+        self.cutter.line()
+    }
+
+    /// Finds the next line: false only where the input has ended. After a limit's refusal each
+    /// later call answers the same; after a ReadFault the next call goes on, and no line that was
+    /// read whole was held back.
+    pub fn advance(&mut self) -> Result<bool, LineError>
+        ensures same { (source_of self.new).ghost_name ≡ (source_of self.old).ghost_name }
+        ensures told { IfSome (ahead_of S.left self.old) (λ bytes.
+            Tells text_limits (given_of self.old) bytes result
+            (line_of self.new) (given_of self.new) (ahead_of S.left self.new)) }
+        ensures unread { is_decided_at self.old ≡ true →
+            (source_of self.new).now ≡ (source_of self.old).now }
+        ensures stays { IfSome (refusal_of self.old) (λ refusal.
+            (result ≡ Err refusal) × (self.new ≡ self.old)) }
+        ensures kept { Refuses result (refusal_of self.new) }
+        ensures grows { result ≡ Ok true → given_of self.old < given_of self.new }
+        ensures few { given_of self.new ≤ LONGEST_TEXT }
+        ensures end { result ≡ Ok false → IsAtEnd (S.left (source_of self.new).now) }
+        ensures pending { IsErrOf result LineError.ReadFault → HasNoLf (pending_of self.new) }
+        ensures cause { HasReadCause (faults_of S.faults self.old)
+            (faults_of S.faults self.new) result }
+    {
+        self.cutter.advance()
+    }
+}
+
+impl<'s, S: Source> LongLines<'s, S> {
+    ghost use Rattle.std.specs.Borrow.{sem};
+    ghost use Rattle.std.specs.Io.BufRead.{Rests};
+    ghost use mir.Syntax.{named};
+    ghost use Rattle.mesh_io.specs.contracts.long_lines.LongLines.{the_row};
+    ghost use Rattle.mesh_io.specs.LongReading.{NextTells};
+
+    /// The next line without its LF, in one call: None is the end of the input. Where a caller
+    /// states what it makes of a line, `advance` and `line` serve better: the line lent here is the
+    /// reader's own, so nothing is known of the reader until it is given back.
+    pub fn next(&mut self) -> Result<Option<&[u8]>, LineError>
+        ensures* after { sem 𝓛 (Rests (the_row (record { mir = named 0; lft = [] }) S.row S.Source)
+            self.entry (λ now. NextTells S.left self.old result now)) }
+    {
+        if self.advance()? {
+            Ok(Some(self.line()))
+        } else {
+            Ok(None)
+        }
+    }
+}

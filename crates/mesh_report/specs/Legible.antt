@@ -1,0 +1,40 @@
+-- What a node's step did, where what it took may be any packet that can be read, whoever wrote it.
+use Rattle.std.specs.Prelude.{◌≡◌, ◌<◌, ℕ, List, [], ◌++◌, length, Option, Some, None}
+use Rattle.std.specs.Borrow.{Bor}
+use Rattle.mesh_base.specs.Meshes.{Nodes}
+use Rattle.mesh_base.specs.declared.events.Effect as effects
+use Rattle.mesh_base.specs.declared.events.Took as taken
+use Rattle.mesh_base.specs.declared.events.Took.TheVariants as takes
+use Rattle.aodv_model.specs.Soundness.{IsDatum}
+use Rattle.aodv_wire.specs.Spells.{refusal, message_in_fields}
+use Rattle.aodv_meaning.specs.Meaning.{meaning, stranger}
+use Rattle.aodv_meaning.specs.Effects.{kind_of}
+use Rattle.mesh_meaning.specs.Answers.{effect_in, took_in}
+use Rattle.mesh_text.specs.Effects.{took_text, datum_fate, broken_text, cast_text}
+
+-- the bytes spell a message, and it names nodes of the mesh only
+pub record IsLegible (mesh : Nodes) (bytes : List ℕ) : Type 0 where
+  pub allowed : refusal bytes ≡ None
+  pub known : stranger mesh (message_in_fields bytes) ≡ None
+
+-- what a turn may have taken: a datum for the node itself or for a node of the mesh, or a packet of
+-- this kind from one
+abbrev pub IsTookLegible : Nodes → taken.Took → Type 0
+IsTookLegible mesh (takes.Own body) = IsDatum body
+IsTookLegible mesh (takes.Stored dest) = dest < length mesh
+IsTookLegible mesh (takes.Heard from kind bytes) =
+    (from < length mesh) × (kind ≡ kind_of (meaning mesh bytes)) × IsLegible mesh bytes
+
+-- what node x took, if its step was a turn, and what became of that. The packet that was cast has
+-- no part in it
+abbrev pub taken_text : Nodes → ℕ → Option (Bor taken.Took) → effects.Effect → List ℕ
+taken_text mesh x None e = []
+taken_text mesh x (Some took) e =
+    took_text mesh x (took_in mesh took.now)
+    ++ datum_fate mesh x (took_in mesh took.now) (effect_in mesh e [])
+
+-- the same, and then a failed unicast and what was cast
+abbrev pub effect_text : Nodes → ℕ → Option (Bor taken.Took) → effects.Effect → List ℕ → List ℕ
+effect_text mesh x took e packet =
+    taken_text mesh x took e
+    ++ (broken_text mesh e.broken ++ cast_text mesh (effect_in mesh e packet).cast)

@@ -1,0 +1,29 @@
+use Rattle.std.proofs.Common.{◌<◌, ◌≤◌, ◌∙◌, ℕ, List, Ok, Err, length, arith}
+use Rattle.std.proofs.lemmas.Result.{err_from_is_err_and}
+use Rattle.mesh_text.specs.Tables.{waits_of}
+use Rattle.mesh_show.proofs.Tables.{each-goes, each-front, each-ends}
+use Rattle.mesh_show.proofs.node.put_all_waits.Goals as goal
+
+pub returns-in_err-put_waits_of-clause-text : goal.returns-in_err-put_waits_of-clause-text
+returns-in_err-put_waits_of-clause-text g c =
+    let p = err_from_is_err_and c.from_residual.result c.from_residual.ensures.1 in
+    let lt : c.loop-d.d < length c.args.mesh.now = omega (arith, c.loop-d-test.true, c.len-d-end.ensures.value) in
+    let f : ℕ → List ℕ = waits_of c.args.mesh.now c.args.waiting.now.store in
+    rw p.1 (c.loop-d.invariant.text (g.O.Sink.held c.put_waits_of.new.out) (Err p.0)
+    (each-front (length c.args.mesh.now) c.loop-d.d f _ _ lt c.in_err-put_waits_of.ensures.text))
+
+pub loop-d-preserved : goal.loop-d-preserved
+loop-d-preserved g c =
+    let lt : c.loop-d.d < length c.args.mesh.now = omega (arith, c.loop-d-test.true, c.len-d-end.ensures.value) in
+    let f : ℕ → List ℕ = waits_of c.args.mesh.now c.args.waiting.now.store in
+    record {
+      text = λ now r p. c.loop-d.invariant.text now r
+          (each-goes (length c.args.mesh.now) c.loop-d.d f (g.O.Sink.held c.loop-d.out) (g.O.Sink.held c.put_waits_of.new.out) now r lt c.in_ok-put_waits_of.ensures.text p);
+      faults = c.in_ok-put_waits_of.ensures.cause.none ∙ c.loop-d.invariant.faults;
+    }
+
+pub returns-clause-text : goal.returns-clause-text
+returns-clause-text g c =
+    let le : length c.args.mesh.now ≤ c.loop-d.d = omega (arith, c.loop-d-test.false, c.len-d-end.ensures.value) in
+    let f : ℕ → List ℕ = waits_of c.args.mesh.now c.args.waiting.now.store in
+    c.loop-d.invariant.text _ (Ok tt) (each-ends (length c.args.mesh.now) c.loop-d.d f _ le)

@@ -1,0 +1,161 @@
+//! The state of a node, line by line.
+ghost use Rattle.std.specs.Prelude.{◌≡◌, ◌<◌, length};
+ghost use Rattle.std.specs.FinMap as maps;
+ghost use Rattle.aodv_node.specs.Seen.{IsSoundNode};
+ghost use Rattle.mesh_text.specs.Tables.{each_from, all_asked_text, entry_of, waits_of, node_text};
+ghost use Rattle.mesh_io.specs.Cause.{HasCause};
+ghost use Rattle.mesh_io.specs.Puts.{Puts};
+
+use aodv_asked::Asked;
+use aodv_node::Node;
+use aodv_waiting::Waiting;
+use mesh_base::{LineBuf, Mesh};
+use mesh_io::{PutFault, Sink};
+use mesh_report::{put_asked, put_entry, put_number, put_waits};
+
+// The requests of one originator that were seen, by rising id.
+fn put_asked_of<O: Sink>(
+    mesh: &Mesh,
+    asked: &Asked,
+    o: usize,
+    buf: &mut LineBuf,
+    out: &mut O,
+) -> Result<(), PutFault>
+    requires node { o < length mesh.now }
+    requires size { length asked.now.rooms ≡ length mesh.now }
+    ensures text { Puts (O.held out.old) (O.held out.new)
+        (all_asked_text mesh.now asked.now.pairs o) result }
+    ensures cause { HasCause (O.faults out.old) (O.faults out.new) result }
+{
+    let mut next = asked.first(o);
+    'ids: while let Some(id) = next {
+        put_asked(mesh, o, id, buf, out)?;
+        next = asked.after(o, id);
+    }
+    Ok(())
+}
+
+// All requests that were seen, by rising originator.
+fn put_all_asked<O: Sink>(
+    mesh: &Mesh,
+    asked: &Asked,
+    buf: &mut LineBuf,
+    out: &mut O,
+) -> Result<(), PutFault>
+    requires { length asked.now.rooms ≡ length mesh.now }
+    ensures text { Puts (O.held out.old) (O.held out.new)
+        (each_from (length mesh.now) 0 (all_asked_text mesh.now asked.now.pairs)) result }
+    ensures cause { HasCause (O.faults out.old) (O.faults out.new) result }
+{
+    for o in 0..mesh.len() {
+        put_asked_of(mesh, asked, o, buf, out)?;
+    }
+    Ok(())
+}
+
+// The entry of one destination, if there is one.
+fn put_entry_of<O: Sink>(
+    mesh: &Mesh,
+    node: &Node,
+    d: usize,
+    buf: &mut LineBuf,
+    out: &mut O,
+) -> Result<(), PutFault>
+    requires dest { d < length mesh.now }
+    requires size { node.now.size ≡ length mesh.now }
+    requires sound { IsSoundNode node.now }
+    ensures text { Puts (O.held out.old) (O.held out.new)
+        (entry_of mesh.now d (maps.get node.now.core.rt d)) result }
+    ensures cause { HasCause (O.faults out.old) (O.faults out.new) result }
+{
+    match node.entry(d) {
+        Some(entry) => put_entry(mesh, d, &entry, buf, out),
+        None => Ok(()),
+    }
+}
+
+// The routing table, by rising destination.
+fn put_entries<O: Sink>(
+    mesh: &Mesh,
+    node: &Node,
+    buf: &mut LineBuf,
+    out: &mut O,
+) -> Result<(), PutFault>
+    requires size { node.now.size ≡ length mesh.now }
+    requires sound { IsSoundNode node.now }
+    ensures text { Puts (O.held out.old) (O.held out.new) (each_from (length mesh.now) 0
+        (λ d. entry_of mesh.now d (maps.get node.now.core.rt d))) result }
+    ensures cause { HasCause (O.faults out.old) (O.faults out.new) result }
+{
+    for d in 0..mesh.len() {
+        put_entry_of(mesh, node, d, buf, out)?;
+    }
+    Ok(())
+}
+
+// What waits for one destination, if anything does.
+fn put_waits_of<O: Sink>(
+    mesh: &Mesh,
+    waiting: &Waiting,
+    d: usize,
+    buf: &mut LineBuf,
+    out: &mut O,
+) -> Result<(), PutFault>
+    requires dest { d < length mesh.now }
+    requires size { length waiting.now.rooms ≡ length mesh.now }
+    ensures text { Puts (O.held out.old) (O.held out.new)
+        (waits_of mesh.now waiting.now.store d) result }
+    ensures cause { HasCause (O.faults out.old) (O.faults out.new) result }
+{
+    if !waiting.has(d) {
+        return Ok(());
+    }
+    put_waits(
+        mesh,
+        d,
+        waiting.needs_request(d),
+        waiting.count(d),
+        buf,
+        out,
+    )
+}
+
+// All data that wait, by rising destination.
+fn put_all_waits<O: Sink>(
+    mesh: &Mesh,
+    waiting: &Waiting,
+    buf: &mut LineBuf,
+    out: &mut O,
+) -> Result<(), PutFault>
+    requires { length waiting.now.rooms ≡ length mesh.now }
+    ensures text { Puts (O.held out.old) (O.held out.new)
+        (each_from (length mesh.now) 0 (waits_of mesh.now waiting.now.store)) result }
+    ensures cause { HasCause (O.faults out.old) (O.faults out.new) result }
+{
+    for d in 0..mesh.len() {
+        put_waits_of(mesh, waiting, d, buf, out)?;
+    }
+    Ok(())
+}
+
+/// Writes the state of a node: its own number, the requests that it has seen, its entries and its
+/// waiting data, each by rising address, and how many items its inbox has. It takes no memory, and
+/// each line is one piece for the sink.
+#[tactic(auto, unfolding(mesh_text::specs::Tables::node_text))]
+pub fn put_node<O: Sink>(
+    mesh: &Mesh,
+    node: &Node,
+    buf: &mut LineBuf,
+    out: &mut O,
+) -> Result<(), PutFault>
+    requires { node.now.size ≡ length mesh.now }
+    ensures text { Puts (O.held out.old) (O.held out.new)
+        (node_text mesh.now node.now.core (length node.now.items)) result }
+    ensures cause { HasCause (O.faults out.old) (O.faults out.new) result }
+{
+    put_number(b"sn", u64::from(node.sn()), buf, out)?;
+    put_all_asked(mesh, node.asked(), buf, out)?;
+    put_entries(mesh, node, buf, out)?;
+    put_all_waits(mesh, node.waiting(), buf, out)?;
+    put_number(b"inbox", node.inbox().len() as u64, buf, out)
+}
