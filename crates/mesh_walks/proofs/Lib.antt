@@ -1,0 +1,5 @@
+pub mod Stems
+pub mod Listed
+pub mod Casts
+pub mod Steps
+pub mod Turned
