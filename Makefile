@@ -8,25 +8,28 @@ examples = $(DESTDIR)$(PREFIX)/share/doc/mesh/examples
 
 all:
 	./build mesh_cli
+	./build mesh_check
 
 check:
 	checks/all
 
 # The start script finds the program beside itself, and links are followed to it.
 install: all
-	install -d $(libexec)/tools $(DESTDIR)$(PREFIX)/bin $(man)/man1 $(man)/man5 $(examples)
-	install -m 755 mesh $(libexec)/mesh
+	install -d $(libexec)/tools $(libexec)/programs $(DESTDIR)$(PREFIX)/bin $(man)/man1 $(man)/man5 $(examples)
+	install -m 755 mesh mesh_check $(libexec)
 	install -m 644 tools/start.sh $(libexec)/tools/start.sh
-	install -m 755 crates/mesh_cli/out/mesh_cli $(libexec)/mesh_cli
+	install -m 755 crates/mesh_cli/out/mesh_cli crates/mesh_check/out/mesh_check $(libexec)/programs
 	./mesh --version | sed 's/.* of commit \([^,]*\),.*/\1/' >$(libexec)/COMMIT
 	chmod 644 $(libexec)/COMMIT
 	ln -sf ../libexec/mesh/mesh $(DESTDIR)$(PREFIX)/bin/mesh
-	install -m 644 docs/man/mesh.1 $(man)/man1/mesh.1
+	ln -sf ../libexec/mesh/mesh_check $(DESTDIR)$(PREFIX)/bin/mesh_check
+	install -m 644 docs/man/mesh.1 docs/man/mesh_check.1 $(man)/man1
 	install -m 644 docs/man/mesh.5 $(man)/man5/mesh.5
-	install -m 644 examples/*.mesh examples/*.txt $(examples)
+	install -m 644 examples/*.mesh examples/*.txt examples/*.tables $(examples)
 
 uninstall:
 	rm -rf $(libexec) $(examples)
-	rm -f $(DESTDIR)$(PREFIX)/bin/mesh $(man)/man1/mesh.1 $(man)/man5/mesh.5
+	rm -f $(DESTDIR)$(PREFIX)/bin/mesh $(DESTDIR)$(PREFIX)/bin/mesh_check
+	rm -f $(man)/man1/mesh.1 $(man)/man1/mesh_check.1 $(man)/man5/mesh.5
 
 .PHONY: all check install uninstall

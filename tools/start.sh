@@ -90,6 +90,7 @@ meaning_of() {
     5) echo "the input could not be read" ;;
     6) echo "the text could not be written to its end" ;;
     7) echo "there was not enough memory" ;;
+    9) echo "the tables are not sound; the line names the first next hop that is no better" ;;
     129 | 130 | 131 | 13? | 14? | 15?) echo "a signal ended it (number $(($1 - 128)))" ;;
     *) echo "no status of this program" ;;
     esac
@@ -124,13 +125,13 @@ run_and_tell() {
 }
 
 # start CRATE WORD..: starts the program of the crate with these words, and builds it first where that
-# is due. Beside an installed start script the program lies ready.
+# is due. Beside an installed start script the program lies ready, in the folder programs.
 start() {
     crate=$1
     shift
     program=$top/crates/$crate/out/$crate
-    if [ -x "$top/$crate" ]; then
-        program=$top/$crate
+    if [ -x "$top/programs/$crate" ]; then
+        program=$top/programs/$crate
     elif ! is_current "$crate" "$program"; then
         if is_current "$crate" "$program.tried"; then
             program=$program.tried

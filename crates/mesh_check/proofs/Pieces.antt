@@ -1,0 +1,268 @@
+-- The pieces of the bytes that a text has left, by the next line of them.
+use Rattle.std.proofs.Common.{◌≡◌, ℕ, zero, suc, ◌+◌, ◌-◌, ◌<◌, ◌≤◌, Bool, true, false, cond, leb, ltb, eqb, List, [], ◌∷◌, length, take, refl, sym, ap, ap₂, ◌∙◌, arith}
+use Rattle.std.specs.Prelude.{nat_lt}
+use Rattle.std.specs.List.{onto_first}
+use Rattle.std.proofs.lemmas.Bool.Decides.{nat_tests}
+use Rattle.std.proofs.lemmas.List.Splits.{length-slice_split}
+use Rattle.std.proofs.Math.Seq.{take_all}
+use Rattle.mesh_base.specs.Parts.{parts}
+use Rattle.mesh_io.specs.declared.limits.Limits.{Limits}
+use Rattle.mesh_io.specs.NextLines.{FirstLine, first_line, with_byte, line_size, NextLine, End, Line, TooLong, TooMuch, next_of}
+use Rattle.mesh_check.specs.Pieces.{Piece, Whole, Past, piece_of, last_piece, pieces_of}
+
+-- ---- the parts at the first LF
+
+-- how many bytes come after the first line, and its LF
+abbrev after_line : FirstLine → ℕ
+after_line f = cond f.ends (1 + length f.rest) 0
+
+first_length : (bytes : List ℕ) → length bytes ≡ length (first_line bytes).line + after_line (first_line bytes)
+first_length [] = refl
+first_length (b ∷ bs) = by_test (eqb b 10) (first_line bs) (first_length bs)
+  where
+    by_test : (t : Bool) (f : FirstLine) → length bs ≡ length f.line + after_line f
+        → length (b ∷ bs) ≡ length (cond t (record { line = []; ends = true; rest = bs }) (with_byte b f)).line + after_line (cond t (record { line = []; ends = true; rest = bs }) (with_byte b f))
+    by_test true f h = omega arith
+    by_test false f h = omega arith
+
+pub nothing_after : (bytes : List ℕ) → (first_line bytes).ends ≡ false → (first_line bytes).rest ≡ []
+nothing_after [] unended = refl
+nothing_after (b ∷ bs) unended = by_test (eqb b 10) (first_line bs) (nothing_after bs) unended
+  where
+    by_test : (t : Bool) (f : FirstLine) → (f.ends ≡ false → f.rest ≡ []) → (cond t (record { line = []; ends = true; rest = bs }) (with_byte b f)).ends ≡ false
+        → (cond t (record { line = []; ends = true; rest = bs }) (with_byte b f)).rest ≡ []
+    by_test true f h unended = absurd (let P : ⊥ = cc in P)
+    by_test false f h unended = h unended
+
+whole_line : (bytes : List ℕ) → (first_line bytes).ends ≡ false → (first_line bytes).line ≡ bytes
+whole_line [] unended = refl
+whole_line (b ∷ bs) unended = by_test (eqb b 10) (first_line bs) (whole_line bs) unended
+  where
+    by_test : (t : Bool) (f : FirstLine) → (f.ends ≡ false → f.line ≡ bs) → (cond t (record { line = []; ends = true; rest = bs }) (with_byte b f)).ends ≡ false
+        → (cond t (record { line = []; ends = true; rest = bs }) (with_byte b f)).line ≡ b ∷ bs
+    by_test true f h unended = absurd (let P : ⊥ = cc in P)
+    by_test false f h unended = ap (λ l. b ∷ l) (h unended)
+
+-- a line whose LF is among the first bytes
+parts_within : (bytes : List ℕ) (room : ℕ) → (first_line bytes).ends ≡ true → length (first_line bytes).line < room
+    → parts 10 (take room bytes) ≡ (first_line bytes).line ∷ parts 10 (take (room - (length (first_line bytes).line + 1)) (first_line bytes).rest)
+parts_within [] room ends short = absurd (let P : ⊥ = cc in P)
+parts_within (b ∷ bs) zero ends short = absurd (omega arith)
+parts_within (b ∷ bs) (suc r) ends short = by_test (eqb b 10) (first_line bs) (parts_within bs r) ends short
+  where
+    by_test : (t : Bool) (f : FirstLine) → (f.ends ≡ true → length f.line < r → parts 10 (take r bs) ≡ f.line ∷ parts 10 (take (r - (length f.line + 1)) f.rest))
+        → (cond t (record { line = []; ends = true; rest = bs }) (with_byte b f)).ends ≡ true
+        → length (cond t (record { line = []; ends = true; rest = bs }) (with_byte b f)).line < suc r
+        → cond t ([] ∷ parts 10 (take r bs)) (onto_first b (parts 10 (take r bs)))
+        ≡ (cond t (record { line = []; ends = true; rest = bs }) (with_byte b f)).line
+        ∷ parts 10 (take (suc r - (length (cond t (record { line = []; ends = true; rest = bs }) (with_byte b f)).line + 1)) (cond t (record { line = []; ends = true; rest = bs }) (with_byte b f)).rest)
+    by_test true f h ends short =
+        let same : r ≡ suc r - (0 + 1) = omega arith in
+        ap (λ k. [] ∷ parts 10 (take k bs)) same
+    by_test false f h ends short =
+        let same : r - (length f.line + 1) ≡ suc r - (suc (length f.line) + 1) = omega arith in
+        ap (onto_first b) (h ends (omega arith)) ∙ ap (λ k. (b ∷ f.line) ∷ parts 10 (take k f.rest)) same
+
+-- and where it isn't
+parts_past : (bytes : List ℕ) (room : ℕ) → ((first_line bytes).ends ≡ true → room ≤ length (first_line bytes).line) → parts 10 (take room bytes) ≡ take room bytes ∷ []
+parts_past bytes zero past = refl
+parts_past [] (suc r) past = refl
+parts_past (b ∷ bs) (suc r) past = by_test (eqb b 10) (first_line bs) (parts_past bs r) past
+  where
+    by_test : (t : Bool) (f : FirstLine) → ((f.ends ≡ true → r ≤ length f.line) → parts 10 (take r bs) ≡ take r bs ∷ [])
+        → ((cond t (record { line = []; ends = true; rest = bs }) (with_byte b f)).ends ≡ true → suc r ≤ length (cond t (record { line = []; ends = true; rest = bs }) (with_byte b f)).line)
+        → cond t ([] ∷ parts 10 (take r bs)) (onto_first b (parts 10 (take r bs))) ≡ (b ∷ take r bs) ∷ []
+    by_test true f h past = absurd (let low : suc r ≤ 0 = past refl in omega arith)
+    by_test false f h past = ap (onto_first b) (h (λ e. let low = past e in omega arith))
+
+-- ---- pieces
+
+-- the pieces of these bytes, where so many were given
+abbrev pub pieces_at : Limits → ℕ → List ℕ → List Piece
+pieces_at most given bytes = pieces_of most (nat_lt (most.input - given) (length bytes)) (parts 10 (take (most.input - given) bytes))
+
+some_parts : (bytes : List ℕ) → 1 ≤ length (parts 10 bytes)
+some_parts bytes = omega (arith, length-slice_split (λ b. eqb b 10) bytes)
+
+first_piece : (most : Limits) (more : Bool) (l : List ℕ) (ls : List (List ℕ)) → 1 ≤ length ls → pieces_of most more (l ∷ ls) ≡ piece_of most l ∷ pieces_of most more ls
+unfolding pieces_of
+first_piece most more l [] some = absurd (omega arith)
+first_piece most more l (m ∷ ls) some = refl
+
+only_piece : (most : Limits) (more : Bool) (l : List ℕ) → pieces_of most more (l ∷ []) ≡ last_piece most more l
+unfolding pieces_of
+only_piece most more l = refl
+
+piece_short : (most : Limits) (l : List ℕ) → length l ≤ most.line → piece_of most l ≡ Whole l
+piece_short most l h = by_test (leb (length l) most.line) refl
+  where
+    by_test : (b : Bool) → leb (length l) most.line ≡ b → cond b (Whole l) Past ≡ Whole l
+    by_test true e = refl
+    by_test false e = absurd (grind (arith, nat_tests))
+
+piece_long : (most : Limits) (l : List ℕ) → most.line < length l → piece_of most l ≡ Past
+piece_long most l h = by_test (leb (length l) most.line) refl
+  where
+    by_test : (b : Bool) → leb (length l) most.line ≡ b → cond b (Whole l) Past ≡ Past
+    by_test true e = absurd (grind (arith, nat_tests))
+    by_test false e = refl
+
+-- a last part that is too long, or where the text goes on
+last_long : (most : Limits) (l : List ℕ) → most.line < length l → last_piece most false l ≡ Past ∷ []
+last_long most [] h = absurd (omega arith)
+last_long most (b ∷ bs) h = ap (λ p. p ∷ []) (piece_long most (b ∷ bs) h)
+
+last_more : (most : Limits) (l : List ℕ) → last_piece most true l ≡ Past ∷ []
+last_more most [] = refl
+last_more most (b ∷ bs) = refl
+
+last_short : (most : Limits) (l : List ℕ) → 1 ≤ length l → length l ≤ most.line → last_piece most false l ≡ Whole l ∷ []
+last_short most [] some h = absurd (omega arith)
+last_short most (b ∷ bs) some h = ap (λ p. p ∷ []) (piece_short most (b ∷ bs) h)
+
+goes_past : (room count : ℕ) → room < count → nat_lt room count ≡ true
+goes_past room count h = by_test (ltb room count) refl
+  where
+    by_test : (b : Bool) → ltb room count ≡ b → b ≡ true
+    by_test true e = refl
+    by_test false e = absurd (grind (arith, nat_tests))
+
+fits_in : (room count : ℕ) → count ≤ room → nat_lt room count ≡ false
+fits_in room count h = by_test (ltb room count) refl
+  where
+    by_test : (b : Bool) → ltb room count ≡ b → b ≡ false
+    by_test false e = refl
+    by_test true e = absurd (grind (arith, nat_tests))
+
+-- none are left
+pub pieces_none : (most : Limits) (given : ℕ) → pieces_at most given [] ≡ []
+pieces_none most given =
+    ap₂ (pieces_of most) (fits_in (most.input - given) 0 (omega arith)) (ap (parts 10) (take_all (most.input - given) [] (omega arith)))
+    ∙ only_piece most false []
+
+-- the first line has its LF within what a text may have
+pieces_line : (most : Limits) (given : ℕ) (bytes : List ℕ) → (first_line bytes).ends ≡ true → given + length (first_line bytes).line + 1 ≤ most.input
+    → pieces_at most given bytes ≡ piece_of most (first_line bytes).line ∷ pieces_at most (given + length (first_line bytes).line + 1) (first_line bytes).rest
+pieces_line most given bytes ends fits =
+    let f : FirstLine = first_line bytes in
+    let room : ℕ = most.input - given in
+    let rest : room - (length f.line + 1) ≡ most.input - (given + length f.line + 1) = omega arith in
+    let all : length bytes ≡ length f.line + (1 + length f.rest) = first_length bytes ∙ ap (λ b. length f.line + cond b (1 + length f.rest) 0) ends in
+    let more : nat_lt room (length bytes) ≡ nat_lt (most.input - (given + length f.line + 1)) (length f.rest) = shifted room (length bytes) (most.input - (given + length f.line + 1)) (length f.rest) (length f.line + 1) (omega arith) (omega arith) in
+    ap₂ (pieces_of most) more (parts_within bytes room ends (omega arith) ∙ ap (λ k. f.line ∷ parts 10 (take k f.rest)) rest)
+    ∙ first_piece most (nat_lt (most.input - (given + length f.line + 1)) (length f.rest)) f.line (parts 10 (take (most.input - (given + length f.line + 1)) f.rest)) (some_parts (take (most.input - (given + length f.line + 1)) f.rest))
+  where
+    shifted : (a b c d k : ℕ) → a ≡ c + k → b ≡ d + k → nat_lt a b ≡ nat_lt c d
+    shifted a b c d k ea eb = by_test (ltb c d) refl
+      where
+        by_test : (t : Bool) → ltb c d ≡ t → nat_lt a b ≡ t
+        by_test true e = goes_past a b (let low : c < d = grind (arith, nat_tests) in omega arith)
+        by_test false e = fits_in a b (let low : d ≤ c = grind (arith, nat_tests) in omega arith)
+
+-- it has not: what is left of the text's bytes is one part
+pieces_open : (most : Limits) (given : ℕ) (bytes : List ℕ) → ((first_line bytes).ends ≡ true → most.input - given ≤ length (first_line bytes).line)
+    → pieces_at most given bytes ≡ last_piece most (nat_lt (most.input - given) (length bytes)) (take (most.input - given) bytes)
+pieces_open most given bytes past =
+    ap (pieces_of most (nat_lt (most.input - given) (length bytes))) (parts_past bytes (most.input - given) past)
+    ∙ only_piece most _ (take (most.input - given) bytes)
+
+-- ---- by what comes next
+
+-- a line within the limits
+pub ahead_line : (most : Limits) (given : ℕ) (bytes : List ℕ) → 1 ≤ length bytes → length (first_line bytes).line ≤ most.line → given + line_size (first_line bytes) ≤ most.input
+    → pieces_at most given bytes ≡ Whole (first_line bytes).line ∷ pieces_at most (given + line_size (first_line bytes)) (first_line bytes).rest
+ahead_line most given bytes some short fits = by_end (first_line bytes).ends refl
+  where
+    f : FirstLine
+    f = first_line bytes
+
+    by_end : (b : Bool) → (first_line bytes).ends ≡ b → pieces_at most given bytes ≡ Whole f.line ∷ pieces_at most (given + line_size f) f.rest
+    by_end true e =
+        let size : line_size f ≡ length f.line + 1 = ap (λ b. length f.line + cond b 1 0) e in
+        let there : given + length f.line + 1 ≡ given + line_size f = omega arith in
+        pieces_line most given bytes e (omega arith) ∙ ap₂ (λ p k. p ∷ pieces_at most k f.rest) (piece_short most f.line short) there
+    by_end false e =
+        let size : line_size f ≡ length f.line + 0 = ap (λ b. length f.line + cond b 1 0) e in
+        let same : f.line ≡ bytes = whole_line bytes e in
+        let count : length f.line ≡ length bytes = ap length same in
+        let none : f.rest ≡ [] = nothing_after bytes e in
+        pieces_open most given bytes (λ ends. absurd (let clash : true ≡ false = sym ends ∙ e in let P : ⊥ = cc in P))
+        ∙ ap₂ (last_piece most) (fits_in (most.input - given) (length bytes) (omega arith)) (take_all (most.input - given) bytes (omega arith))
+        ∙ last_short most bytes some (omega arith)
+        ∙ ap₂ (λ l ps. Whole l ∷ ps) (sym same) (sym (ap (pieces_at most (given + line_size f)) none ∙ pieces_none most (given + line_size f)))
+
+-- the first piece goes past a limit
+abbrev pub GoesPast : List Piece → Type 0
+GoesPast pieces = (others : List Piece) × (pieces ≡ Past ∷ others)
+
+-- a line with a byte too many
+pub ahead_long : (most : Limits) (given : ℕ) (bytes : List ℕ) → most.line < length (first_line bytes).line → GoesPast (pieces_at most given bytes)
+ahead_long most given bytes long = by_end (first_line bytes).ends refl (leb (given + length (first_line bytes).line + 1) most.input) refl
+  where
+    f : FirstLine
+    f = first_line bytes
+
+    by_more : (t : Bool) → nat_lt (most.input - given) (length bytes) ≡ t → last_piece most (nat_lt (most.input - given) (length bytes)) (take (most.input - given) bytes) ≡ Past ∷ []
+    by_more true e = ap (λ t. last_piece most t (take (most.input - given) bytes)) e ∙ last_more most (take (most.input - given) bytes)
+    by_more false e =
+        let fits : length bytes ≤ most.input - given = grind (arith, nat_tests) in
+        let all = first_length bytes in
+        ap₂ (last_piece most) e (take_all (most.input - given) bytes fits) ∙ last_long most bytes (omega arith)
+
+    unended : ((first_line bytes).ends ≡ true → most.input - given ≤ length f.line) → GoesPast (pieces_at most given bytes)
+    unended past = ([], pieces_open most given bytes past ∙ by_more (nat_lt (most.input - given) (length bytes)) refl)
+
+    by_end : (b : Bool) → (first_line bytes).ends ≡ b → (t : Bool) → leb (given + length f.line + 1) most.input ≡ t → GoesPast (pieces_at most given bytes)
+    by_end true e true lf =
+        let there : given + length f.line + 1 ≤ most.input = grind (arith, nat_tests) in
+        (pieces_at most (given + length f.line + 1) f.rest, pieces_line most given bytes e there ∙ ap (λ p. p ∷ pieces_at most (given + length f.line + 1) f.rest) (piece_long most f.line long))
+    by_end true e false lf =
+        let past : most.input < given + length f.line + 1 = grind (arith, nat_tests) in
+        unended (λ ends. omega arith)
+    by_end false e t lf = unended (λ ends. absurd (let clash : true ≡ false = sym ends ∙ e in let P : ⊥ = cc in P))
+
+-- the text has a byte too many
+pub ahead_much : (most : Limits) (given : ℕ) (bytes : List ℕ) → most.input < given + line_size (first_line bytes) → given ≤ most.input → GoesPast (pieces_at most given bytes)
+ahead_much most given bytes past few = by_end (first_line bytes).ends refl
+  where
+    f : FirstLine
+    f = first_line bytes
+
+    unended : ((first_line bytes).ends ≡ true → most.input - given ≤ length f.line) → most.input - given < length bytes → GoesPast (pieces_at most given bytes)
+    unended over more = (
+      [],
+      pieces_open most given bytes over ∙ ap (λ t. last_piece most t (take (most.input - given) bytes)) (goes_past (most.input - given) (length bytes) more)
+          ∙ last_more most (take (most.input - given) bytes),
+    )
+
+    by_end : (b : Bool) → (first_line bytes).ends ≡ b → GoesPast (pieces_at most given bytes)
+    by_end true e =
+        let size : line_size f ≡ length f.line + 1 = ap (λ b. length f.line + cond b 1 0) e in
+        let all : length bytes ≡ length f.line + (1 + length f.rest) = first_length bytes ∙ ap (λ b. length f.line + cond b (1 + length f.rest) 0) e in
+        unended (λ ends. omega arith) (omega arith)
+    by_end false e =
+        let size : line_size f ≡ length f.line + 0 = ap (λ b. length f.line + cond b 1 0) e in
+        let count : length f.line ≡ length bytes = ap length (whole_line bytes e) in
+        unended (λ ends. absurd (let clash : true ≡ false = sym ends ∙ e in let P : ⊥ = cc in P)) (omega arith)
+
+-- what the pieces are, by what comes next
+abbrev pub IsAhead : Limits → ℕ → List ℕ → NextLine → Type 0
+IsAhead most given bytes End = pieces_at most given bytes ≡ []
+IsAhead most given bytes (Line f) = (f ≡ first_line bytes) × (pieces_at most given bytes ≡ Whole f.line ∷ pieces_at most (given + line_size f) f.rest)
+IsAhead most given bytes TooLong = GoesPast (pieces_at most given bytes)
+IsAhead most given bytes TooMuch = GoesPast (pieces_at most given bytes)
+
+pub ahead : (most : Limits) (given : ℕ) (bytes : List ℕ) → given ≤ most.input → IsAhead most given bytes (next_of most given bytes)
+unfolding next_of
+ahead most given [] few = pieces_none most given
+ahead most given (b ∷ bs) few = by_tests (ltb most.line (length f.line)) (leb (given + most.line + 1) most.input) (leb (given + line_size f) most.input) refl refl refl
+  where
+    f : FirstLine
+    f = first_line (b ∷ bs)
+
+    by_tests : (x y z : Bool) → ltb most.line (length f.line) ≡ x → leb (given + most.line + 1) most.input ≡ y → leb (given + line_size f) most.input ≡ z
+        → IsAhead most given (b ∷ bs) (cond x (cond y TooLong TooMuch) (cond z (Line f) TooMuch))
+    by_tests true true z ex ey ez = ahead_long most given (b ∷ bs) (grind (arith, nat_tests))
+    by_tests true false z ex ey ez = ahead_long most given (b ∷ bs) (grind (arith, nat_tests))
+    by_tests false y true ex ey ez = (refl, ahead_line most given (b ∷ bs) (omega arith) (grind (arith, nat_tests)) (grind (arith, nat_tests)))
+    by_tests false y false ex ey ez = ahead_much most given (b ∷ bs) (grind (arith, nat_tests)) few

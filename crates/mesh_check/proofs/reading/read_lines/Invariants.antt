@@ -1,0 +1,18 @@
+-- What the lines to come say, after those that were read, is what the text says.
+use Rattle.std.proofs.Common.{◌≡◌, ◌≤◌, ◌-◌}
+use Rattle.mesh_io.specs.declared.limits.TheConstants.{LONGEST_TEXT}
+use Rattle.mesh_io.specs.LongReading.{source_of, given_of, ahead_of, faults_of}
+use Rattle.mesh_check.proofs.Follows.{IsFollowed}
+use Rattle.mesh_check.proofs.reading.read_lines.Given as goal
+
+abbrev pub invariant-lines : goal.invariant-lines
+invariant-lines g l = record {
+  same : (source_of l.lines).ghost_name ≡ (source_of l.fn.lines).ghost_name;
+  faults : faults_of g.I.Source.faults l.lines ≡ faults_of g.I.Source.faults l.fn.lines;
+  followed : IsFollowed (g.I.Source.left (source_of l.fn.lines).now) (ahead_of g.I.Source.left l.lines) (given_of l.lines) l.tables;
+  few : given_of l.lines ≤ LONGEST_TEXT;
+  lines : (l.tables).lines ≤ given_of l.lines;
+}
+
+abbrev pub decreases-lines : goal.decreases-lines
+decreases-lines g l = LONGEST_TEXT - given_of l.lines

@@ -1,0 +1,13 @@
+-- Read in this order.
+-- Pieces: the lines of a printed text.
+pub mod Pieces
+-- Says: what a printed text says.
+pub mod Says
+-- Answers: the answer that is right for it, and the line that is written.
+pub mod Verdicts
+-- Codes: the status with which the process ends.
+pub mod Codes
+-- Laws: each text has one right answer.
+pub mod Laws
+-- Reads: what was read of a text. No public contract cites it.
+pub mod Reads

@@ -1,0 +1,88 @@
+-- The answer that is right for what a text says, and the line that is written.
+use Rattle.std.specs.Prelude.{ℕ, ◌≡◌, List, ◌∷◌, ◌++◌, length, codes, Option, ⊤}
+use Rattle.std.specs.Io.KnownBytes.{Appends}
+use Rattle.mesh_base.specs.Addresses.{dotted}
+use Rattle.mesh_grammar.specs.Written.{line, labelled}
+use Rattle.mesh_io.specs.Puts.{AppendsPrefix}
+use Rattle.mesh_tables.specs.declared.search.FailingEdge.{FailingEdge}
+use Rattle.mesh_tables.specs.Tables.{Cycle, IsSound, IsFirstFailing}
+use Rattle.mesh_tables.specs.Printed.{Shown, tables_of, edges_in}
+use Rattle.mesh_check.specs.Says.{Says, Refuses, Shows}
+use Rattle.mesh_check.specs.declared.status.CheckStatus.{CheckStatus}
+use Rattle.mesh_check.specs.declared.status.CheckStatus.TheVariants.{Yes, No, Usage, BadLine, ReadFault, WriteFault, NoMemory}
+
+unfoldable pub bad_line : ℕ → List ℕ
+bad_line n = line (labelled (codes "bad line ") n)
+
+-- how many nodes were shown, and how many edges they have
+unfoldable pub yes_line : Shown → List ℕ
+yes_line shown =
+    line (labelled (codes "yes nodes ") (length shown)
+    ++ labelled (codes " edges ") (edges_in shown))
+
+-- destination, node and next hop
+unfoldable pub no_line : FailingEdge → List ℕ
+no_line e = line (codes "no " ++ dotted e.dest ++ 32 ∷ dotted e.node ++ 32 ∷ dotted e.next)
+
+-- an edge of these tables is the first that fails, and the line names it
+pub record IsNo (shown : Shown) (text : List ℕ) : Type 0 where
+  pub edge : FailingEdge
+  pub first : IsFirstFailing (tables_of shown) edge
+  pub line_is : text ≡ no_line edge
+
+-- this is the right answer, and this the line that goes with it. The answers that come of words or
+-- of a failure are never right
+abbrev pub IsRight : Says → CheckStatus → List ℕ → Type 0
+IsRight (Refuses n) Yes text = ⊥
+IsRight (Refuses n) No text = ⊥
+IsRight (Refuses n) (BadLine m) text = (m ≡ n) × (text ≡ bad_line n)
+IsRight (Refuses n) Usage text = ⊥
+IsRight (Refuses n) ReadFault text = ⊥
+IsRight (Refuses n) WriteFault text = ⊥
+IsRight (Refuses n) NoMemory text = ⊥
+IsRight (Shows shown) Yes text = IsSound (tables_of shown) × (text ≡ yes_line shown)
+IsRight (Shows shown) No text = IsNo shown text
+IsRight (Shows shown) (BadLine m) text = ⊥
+IsRight (Shows shown) Usage text = ⊥
+IsRight (Shows shown) ReadFault text = ⊥
+IsRight (Shows shown) WriteFault text = ⊥
+IsRight (Shows shown) NoMemory text = ⊥
+
+-- the right answer was given and its line written
+pub record IsTold (before now : Option (List ℕ)) (s : Says) (status : CheckStatus) : Type 0 where
+  pub text : List ℕ
+  pub right : IsRight s status text
+  pub written : Appends before now text
+
+-- a prefix of the line that goes with a right answer was written
+pub record IsCutShort (before now : Option (List ℕ)) (s : Says) : Type 0 where
+  pub status : CheckStatus
+  pub text : List ℕ
+  pub right : IsRight s status text
+  pub written : AppendsPrefix before now text
+
+-- what the sink held before and holds now, and the answer: nothing is written of a text that
+-- couldn't be read
+abbrev pub Told : Option (List ℕ) → Option (List ℕ) → Says → CheckStatus → Type 0
+Told before now s Yes = IsTold before now s Yes
+Told before now s No = IsTold before now s No
+Told before now s (BadLine n) = IsTold before now s (BadLine n)
+Told before now s Usage = ⊥
+Told before now s ReadFault = now ≡ before
+Told before now s WriteFault = IsCutShort before now s
+Told before now s NoMemory = now ≡ before
+
+-- no destination has a cycle in the tables that a text shows
+abbrev pub HasNoCycle : Says → Type 0
+HasNoCycle (Refuses n) = ⊥
+HasNoCycle (Shows shown) = (d : ℕ) → ¬ (Cycle (tables_of shown) d)
+
+-- the text was decided
+abbrev pub IsDecided : CheckStatus → Type 0
+IsDecided Yes = ⊤
+IsDecided No = ⊤
+IsDecided (BadLine n) = ⊤
+IsDecided Usage = ⊥
+IsDecided ReadFault = ⊥
+IsDecided WriteFault = ⊥
+IsDecided NoMemory = ⊥

@@ -1,0 +1,40 @@
+//! What a check answers.
+ghost use Rattle.std.specs.Prelude.{◌≡◌};
+
+/// What a check came to.
+#[derive(Clone, Copy, Debug, PartialEq, Eq)]
+pub enum CheckStatus {
+    /// Every line was read, and the tables are sound: they have no cycle.
+    Yes,
+    /// Every line was read, and some next hop has no better entry.
+    No,
+    /// The command line has a word.
+    Usage,
+    /// This line, counted from 1, is refused.
+    BadLine { line: u64 },
+    /// The source failed.
+    ReadFault,
+    /// The sink failed.
+    WriteFault,
+    /// Memory was asked for and not found.
+    NoMemory,
+}
+
+impl CheckStatus {
+    ghost use Rattle.mesh_check.specs.Codes.{code_of};
+
+    /// The status with which the process ends.
+    pub fn code(&self) -> u8
+        ensures { result ≡ code_of self.now }
+    {
+        match self {
+            CheckStatus::Yes => 0,
+            CheckStatus::No => 9,
+            CheckStatus::Usage => 2,
+            CheckStatus::BadLine { .. } => 3,
+            CheckStatus::ReadFault => 5,
+            CheckStatus::WriteFault => 6,
+            CheckStatus::NoMemory => 7,
+        }
+    }
+}

@@ -1,0 +1,107 @@
+//! The top call.
+ghost use Rattle.std.specs.Prelude.{◌≡◌, ◌≢◌, ◌↔◌, ◌<◌, ◌⊎◌, length, IfSome};
+ghost use Rattle.std.specs.Io.KnownBytes.{IsAtEnd};
+ghost use Rattle.mesh_io.specs.Cause.{Rose};
+ghost use Rattle.mesh_check.specs.Says.{says, Refuses, Shows};
+ghost use Rattle.mesh_check.specs.Verdicts.{Told, HasNoCycle, IsDecided};
+
+use crate::lines::{put_bad, put_no, put_yes};
+use crate::reading::{Unread, read_tables};
+use crate::status::CheckStatus;
+use mesh_io::{Sink, Source};
+use mesh_tables::PrintedTables;
+use std::alloc::Global;
+
+// Says whether tables are sound.
+fn tell<O: Sink>(tables: &PrintedTables, out: &mut O) -> CheckStatus
+    ensures told { Told (O.held out.old) (O.held out.new) (Shows tables.now.closed) result }
+    ensures acyclic { result ≡ CheckStatus.Yes → HasNoCycle (Shows tables.now.closed) }
+    ensures write { result ≡ CheckStatus.WriteFault
+        → Rose (O.faults out.old) (O.faults out.new) }
+    ensures read { result ≢ CheckStatus.ReadFault }
+    ensures memory { result ≢ CheckStatus.NoMemory }
+    ensures words { result ≢ CheckStatus.Usage }
+{
+    match tables.first_failing() {
+        None => match put_yes(tables, out) {
+            Ok(()) => CheckStatus::Yes,
+            Err(_) => CheckStatus::WriteFault,
+        },
+        Some(edge) => match put_no(&edge, out) {
+            Ok(()) => CheckStatus::No,
+            Err(_) => CheckStatus::WriteFault,
+        },
+    }
+}
+
+// Says that a line is refused.
+fn refuse<O: Sink>(line: u64, out: &mut O) -> CheckStatus
+    ensures told { Told (O.held out.old) (O.held out.new) (Refuses line) result }
+    ensures write { result ≡ CheckStatus.WriteFault
+        → Rose (O.faults out.old) (O.faults out.new) }
+    ensures yes { result ≢ CheckStatus.Yes }
+    ensures no { result ≢ CheckStatus.No }
+    ensures read { result ≢ CheckStatus.ReadFault }
+    ensures memory { result ≢ CheckStatus.NoMemory }
+    ensures words { result ≢ CheckStatus.Usage }
+{
+    match put_bad(line, out) {
+        Ok(()) => CheckStatus::BadLine { line },
+        Err(_) => CheckStatus::WriteFault,
+    }
+}
+
+/// Checks the tables that a printed text shows, from the source to the sink. One line is written at
+/// the end: `yes nodes N edges E` where they are sound, `no D X Y` with the first edge that fails,
+/// by rising destination and then by rising node, or `bad line N`.
+pub fn check<I: Source, O: Sink>(
+    alloc: Global,
+    words: &[&str],
+    input: &mut I,
+    out: &mut O,
+) -> CheckStatus
+    // There is a word: nothing is read or written.
+    ensures usage_exactly_for_a_word { (result ≡ CheckStatus.Usage) ↔ (0 < length words.now) }
+    ensures untouched_with_a_word { result ≡ CheckStatus.Usage
+        → (input.new ≡ input.old) × (out.new ≡ out.old) }
+
+    // The answer is the one that is right for the text, and its line is what is written. After a
+    // failed write it is a prefix of that line; after a failed read, or want of memory, nothing.
+    ensures answer_and_line { length words.now ≡ 0 → IfSome (I.left input.old) (λ text.
+        Told (O.held out.old) (O.held out.new) (says text) result) }
+
+    // Where the answer is Yes, no destination has a cycle in the tables that were shown.
+    ensures loop_free { result ≡ CheckStatus.Yes
+        → IfSome (I.left input.old) (λ text. HasNoCycle (says text)) }
+
+    // The tables are judged only where the input was read to its end.
+    ensures yes_at_the_end { result ≡ CheckStatus.Yes → IsAtEnd (I.left input.new) }
+    ensures no_at_the_end { result ≡ CheckStatus.No → IsAtEnd (I.left input.new) }
+
+    // A fault is answered only where the source or the sink has failed in this call.
+    ensures cause_of_read_fault { result ≡ CheckStatus.ReadFault
+        → Rose (I.faults input.old) (I.faults input.new) }
+    ensures cause_of_write_fault { result ≡ CheckStatus.WriteFault
+        → Rose (O.faults out.old) (O.faults out.new) }
+
+    // Nothing is written of a text that couldn't be read.
+    ensures nothing_written_after_read_fault { result ≡ CheckStatus.ReadFault → out.new ≡ out.old }
+    ensures nothing_written_without_memory { result ≡ CheckStatus.NoMemory → out.new ≡ out.old }
+
+    // Where nothing has failed the text is decided, unless memory runs out.
+    ensures complete { length words.now ≡ 0
+        → (Rose (I.faults input.old) (I.faults input.new) → ⊥)
+        → (Rose (O.faults out.old) (O.faults out.new) → ⊥)
+        → IsDecided result ⊎ (result ≡ CheckStatus.NoMemory) }
+{
+    if !words.is_empty() {
+        return CheckStatus::Usage;
+    }
+    let mut tables = PrintedTables::new(alloc);
+    match read_tables(&mut tables, input) {
+        Ok(()) => tell(&tables, out),
+        Err(Unread::BadLine { line }) => refuse(line, out),
+        Err(Unread::ReadFault) => CheckStatus::ReadFault,
+        Err(Unread::NoMemory) => CheckStatus::NoMemory,
+    }
+}

@@ -1,0 +1,4 @@
+pub mod Cycles
+pub mod Kept
+pub mod Leasts
+pub mod Lines
