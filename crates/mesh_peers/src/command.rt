@@ -1,0 +1,17 @@
+//! The commands of a router's script.
+
+/// The first word of a line.
+#[derive(Clone, Copy, Debug, PartialEq, Eq)]
+pub enum Command {
+    /// `self`.
+    Own,
+    Peer,
+    Up,
+    Down,
+    Data,
+    Poll,
+    Turn,
+    Send,
+    Ask,
+    Show,
+}

@@ -1,0 +1,24 @@
+//! The script of a router on a socket: its peers and their ports, what a line says, why it is
+//! refused, and its canonical text.
+//!
+//! Nothing here takes memory: a line is read as parts of the bytes that it is given.
+#![tactic(auto)]
+
+mod command;
+mod limits;
+mod line;
+mod parse;
+mod peers;
+mod print;
+mod shape;
+
+pub use command::Command;
+pub use limits::{GREATEST_PORT, MOST_AT_ONCE};
+pub use line::NodeLine;
+pub use mesh_grammar::{LineFault, Span};
+pub use parse::parse_node_line;
+pub use peers::Peers;
+pub use print::{print_node_line, push_node_line};
+
+#[cfg(test)]
+mod tests;

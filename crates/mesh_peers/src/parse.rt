@@ -1,0 +1,181 @@
+//! Whether a line is allowed at its place.
+ghost use Rattle.std.specs.Prelude.{◌≡◌, ◌≤◌, length, IfOk};
+ghost use Rattle.std.specs.Fmt.{decimal};
+ghost use Rattle.mesh_grammar.specs.Forms.{AreOfForm};
+ghost use Rattle.mesh_script.specs.Arguments.{mention_of, mentions_of, places_of};
+ghost use Rattle.mesh_peers.specs.Lines as lines;
+ghost use Rattle.mesh_peers.specs.Seen.{said_of, accepted_of, seen_line, form_of, IsSaidIn, HasSelf, IsAllowed};
+
+use crate::command::Command;
+use crate::line::NodeLine;
+use crate::peers::Peers;
+use crate::shape::{Shape, shape_of};
+use mesh_base::MOST_NODES;
+use mesh_grammar::{LineFault, Span};
+use mesh_script::{Arguments, Mention, placed};
+
+// No line but `self` and `peer` comes before the node itself is named.
+fn after_self(peers: &Peers) -> Result<(), LineFault>
+    ensures { HasSelf peers.now.me result }
+{
+    match peers.me() {
+        Some(_me) => Ok(()),
+        None => Err(LineFault::Early),
+    }
+}
+
+// A line about a peer, which is not the node itself.
+fn of_other<'a>(peers: &Peers, node: usize, line: NodeLine<'a>) -> Result<NodeLine<'a>, LineFault>
+    ensures { seen_line result ≡ lines.of_other peers.now.me node (accepted_of line.entry) }
+{
+    match peers.me() {
+        Some(me) if node == me => Err(LineFault::Same),
+        _ => Ok(line),
+    }
+}
+
+// The line that a command makes of its arguments, with each node by its index.
+fn make_line<'a>(
+    peers: &Peers,
+    command: Command,
+    arguments: Arguments<'a, usize>,
+) -> Result<NodeLine<'a>, LineFault>
+    requires form { AreOfForm (form_of command) (places_of arguments) }
+    ensures { seen_line result ≡ lines.made peers.now.me command (places_of arguments.entry) }
+{
+    match (command, arguments) {
+        (Command::Up, Arguments::OneAddress(node)) => of_other(peers, node, NodeLine::Up { node }),
+        (Command::Down, Arguments::OneAddress(node)) => {
+            of_other(peers, node, NodeLine::Down { node })
+        }
+        (Command::Data, Arguments::AddressAndText(dest, body)) => Ok(NodeLine::Give { dest, body }),
+        (Command::Poll, Arguments::OneNumber(count)) => Ok(NodeLine::Poll {
+            count: count as u32,
+        }),
+        (Command::Turn, Arguments::OneNumber(count)) => Ok(NodeLine::Turn {
+            count: count as u32,
+        }),
+        (Command::Send, Arguments::OneAddress(dest)) => Ok(NodeLine::Send { dest }),
+        (Command::Ask, Arguments::OneAddress(dest)) => Ok(NodeLine::Ask { dest }),
+        (Command::Show, Arguments::NoArgument) => Ok(NodeLine::Show),
+        _ => Err(LineFault::Count),
+    }
+}
+
+// The node itself, once, before the run has started.
+fn new_self(
+    peers: &Peers,
+    started: bool,
+    node: Mention,
+    first: u32,
+) -> Result<NodeLine<'static>, LineFault>
+    ensures { seen_line result ≡ lines.new_self peers.now started (mention_of node) first }
+{
+    if started {
+        return Err(LineFault::Late);
+    }
+    if peers.me().is_some() || peers.mesh().index_of(node.addr).is_some() {
+        return Err(LineFault::TwiceNode(node.span));
+    }
+    if peers.mesh().len() == MOST_NODES {
+        return Err(LineFault::TooManyNodes);
+    }
+    Ok(NodeLine::Own {
+        addr: node.addr,
+        first,
+    })
+}
+
+// How many digits a number has.
+#[tactic(auto, using(std::proofs::lemmas::Fmt::decimal_digit, std::proofs::lemmas::Fmt::decimal_step, std::proofs::lemmas::List::length_push))]
+fn digits(n: u64) -> usize
+    ensures value { result ≡ length (decimal n) }
+    ensures few { result ≤ 20 }
+{
+    if n < 10 { 1 } else { digits(n / 10) + 1 }
+}
+
+// The bytes of a port that ends a line of `size` bytes.
+fn last_span(size: usize, port: u16) -> Span
+    requires { length (decimal port) ≤ size }
+    ensures { result ≡ lines.last_span size port }
+{
+    Span {
+        from: size - digits(u64::from(port)),
+        to: size,
+    }
+}
+
+// A peer with an address and a port of its own, before the run has started. The line has `size`
+// bytes.
+fn new_peer(
+    peers: &Peers,
+    started: bool,
+    size: usize,
+    node: Mention,
+    port: u16,
+) -> Result<NodeLine<'static>, LineFault>
+    requires { length (decimal port) ≤ size }
+    ensures { seen_line result ≡ lines.new_peer peers.now started size (mention_of node) port }
+{
+    if started {
+        return Err(LineFault::Late);
+    }
+    if peers.mesh().index_of(node.addr).is_some() {
+        return Err(LineFault::TwiceNode(node.span));
+    }
+    if peers.at_port(port).is_some() {
+        return Err(LineFault::TwiceNode(last_span(size, port)));
+    }
+    if peers.mesh().len() == MOST_NODES {
+        return Err(LineFault::TooManyNodes);
+    }
+    Ok(NodeLine::Peer {
+        addr: node.addr,
+        port,
+    })
+}
+
+// What a line of `size` bytes says, with these peers. A shape is looked at where it stands: it is
+// too large to be moved for nothing.
+fn line_at<'a>(
+    said: &Option<Shape<'a>>,
+    peers: &Peers,
+    started: bool,
+    size: usize,
+) -> Result<NodeLine<'a>, LineFault>
+    requires said { IsSaidIn size said.now }
+    ensures { seen_line result
+        ≡ lines.accepted_shape peers.now started size (said_of said.now) }
+{
+    let Some(shape) = said else {
+        return Ok(NodeLine::Blank);
+    };
+    if let Arguments::NumberedAddress(node, first) = shape.arguments {
+        return new_self(peers, started, node, first);
+    }
+    if let Arguments::AddressAndNumber(node, port) = shape.arguments {
+        return new_peer(peers, started, size, node, port as u16);
+    }
+    after_self(peers)?;
+    let arguments = placed(peers.mesh(), &shape.arguments)?;
+    make_line(peers, shape.command, arguments)
+}
+
+/// What a line comes to with the peers so far: the first fault of it, or the line. `started` says
+/// whether an earlier line was neither blank nor a `self` or `peer` line.
+pub fn parse_node_line<'a>(
+    bytes: &'a [u8],
+    peers: &Peers,
+    started: bool,
+) -> Result<NodeLine<'a>, LineFault>
+    ensures value { seen_line result ≡ lines.line_of peers.now started bytes.now }
+    ensures allowed { IfOk result (IsAllowed peers.now started) }
+{
+    // There are at most 200 nodes.
+    let _nodes = peers.mesh().len();
+    match &shape_of(bytes) {
+        Ok(said) => line_at(said, peers, started, bytes.len()),
+        Err(fault) => Err(*fault),
+    }
+}

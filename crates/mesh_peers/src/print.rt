@@ -1,0 +1,83 @@
+//! The text in which a line is written back: each node by its address, and the node itself with its
+//! number.
+ghost use Rattle.std.specs.Prelude.{◌≡◌, ◌<◌, ◌≤◌, ◌+◌, ◌++◌, length, false, Ok};
+ghost use Rattle.arrayvec.specs.ArrayVec.{array_vec_len};
+ghost use Rattle.mesh_base.specs.Meshes.{addr_at};
+ghost use Rattle.mesh_grammar.specs.Forms.{OneAddress};
+ghost use Rattle.mesh_grammar.specs.Written.{written};
+ghost use Rattle.mesh_peers.specs.Lines as lines;
+ghost use Rattle.mesh_peers.specs.Seen.{accepted_of, IsPrintable};
+
+use crate::line::NodeLine;
+use crate::peers::Peers;
+use mesh_base::{LINE_ROOM, LineBuf, Mesh};
+use mesh_script::{Arguments, LONGEST_WRITTEN, push_written};
+
+// A word and the address of a node.
+fn push_of_node(out: &mut LineBuf, word: &[u8], mesh: &Mesh, node: usize)
+    requires node { node < length mesh.now }
+    requires room { array_vec_len out.old + length word.now + 16 ≤ LINE_ROOM }
+    ensures text { out.new.items
+        ≡ out.old.items ++ written word.now (OneAddress (addr_at mesh.now node)) }
+    ensures length { array_vec_len out.new ≤ array_vec_len out.old + length word.now + 16 }
+{
+    push_written(out, word, &Arguments::OneAddress(mesh.at(node)));
+}
+
+/// Appends a line in canonical form, without LF. A blank line is written as none.
+#[tactic(auto, using(crate::proofs::Allowed::append_none), unfolding(crate::specs::Lines::words_of))]
+pub fn push_node_line(out: &mut LineBuf, peers: &Peers, line: &NodeLine<'_>)
+    requires printable { IsPrintable peers.now line.now }
+    requires room { array_vec_len out.old + LONGEST_WRITTEN ≤ LINE_ROOM }
+    ensures text { out.new.items
+        ≡ out.old.items ++ lines.words_of peers.now.mesh (accepted_of line.now) }
+    ensures length { array_vec_len out.new ≤ array_vec_len out.old + LONGEST_WRITTEN }
+{
+    let mesh = peers.mesh();
+    match *line {
+        NodeLine::Blank => {}
+        NodeLine::Own { addr, first } => {
+            push_written(out, b"self", &Arguments::NumberedAddress(addr, first));
+        }
+        NodeLine::Peer { addr, port } => {
+            push_written(
+                out,
+                b"peer",
+                &Arguments::AddressAndNumber(addr, u64::from(port)),
+            );
+        }
+        NodeLine::Up { node } => push_of_node(out, b"up", mesh, node),
+        NodeLine::Down { node } => push_of_node(out, b"down", mesh, node),
+        NodeLine::Give { dest, body } => {
+            push_written(
+                out,
+                b"data",
+                &Arguments::AddressAndText(mesh.at(dest), body),
+            );
+        }
+        NodeLine::Poll { count } => {
+            push_written(out, b"poll", &Arguments::OneNumber(u64::from(count)));
+        }
+        NodeLine::Turn { count } => {
+            push_written(out, b"turn", &Arguments::OneNumber(u64::from(count)));
+        }
+        NodeLine::Send { dest } => push_of_node(out, b"send", mesh, dest),
+        NodeLine::Ask { dest } => push_of_node(out, b"ask", mesh, dest),
+        NodeLine::Show => push_written(out, b"show", &Arguments::NoArgument),
+    }
+}
+
+/// The line in canonical form, without LF, takes the place of what `out` held. A blank line is
+/// written as none.
+#[tactic(auto, using(crate::proofs::Allowed::again))]
+pub fn print_node_line(line: &NodeLine<'_>, peers: &Peers, out: &mut LineBuf)
+    requires { IsPrintable peers.now line.now }
+    ensures text { out.new.items ≡ lines.words_of peers.now.mesh (accepted_of line.now) }
+    ensures short { array_vec_len out.new ≤ LONGEST_WRITTEN }
+    ensures again { lines.line_of peers.now false out.new.items ≡ Ok (accepted_of line.now) }
+{
+    // The mesh has distinct addresses, each of 32 bits.
+    let _size = peers.mesh().len();
+    out.clear();
+    push_node_line(out, peers, line);
+}

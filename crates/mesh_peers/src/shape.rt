@@ -1,0 +1,78 @@
+//! What a line says by itself, and the faults of a line by itself.
+ghost use Rattle.std.specs.Prelude.{◌≡◌, IfSome, IfNone, Some, None};
+ghost use Rattle.mesh_grammar.specs.Scripts.{row_in};
+ghost use Rattle.mesh_peers.specs.Commands as commands;
+ghost use Rattle.mesh_peers.specs.Seen.{row_with, seen_shape};
+
+use crate::command::Command;
+use crate::limits::{GREATEST_PORT, MOST_AT_ONCE};
+use mesh_base::cut;
+use mesh_grammar::{Form, LineFault};
+use mesh_script::{Arguments, Mention, arguments_of, is_blank, next_at, span_at};
+
+/// A command with its arguments.
+#[derive(Clone, Copy)]
+pub struct Shape<'a> {
+    pub command: Command,
+    pub arguments: Arguments<'a, Mention>,
+}
+
+/// A command and the form of its arguments.
+#[derive(Clone, Copy)]
+pub struct Row {
+    pub command: Command,
+    pub form: Form,
+}
+
+fn found(command: Command, form: Form) -> Option<Row>
+    ensures { result ≡ Some (record { command = command; form = form }) }
+{
+    Some(Row { command, form })
+}
+
+/// The row of the script's table that a word spells.
+fn row_of(word: &[u8]) -> Option<Row>
+    ensures some { IfSome result
+        (λ r. row_in commands.router_script word.now ≡ Some (row_with word.now r)) }
+    ensures none { IfNone result (row_in commands.router_script word.now ≡ None) }
+{
+    match word {
+        b"self" => found(Command::Own, Form::Numbered),
+        b"peer" => found(
+            Command::Peer,
+            Form::AddressNumber {
+                most: GREATEST_PORT,
+            },
+        ),
+        b"up" => found(Command::Up, Form::Address),
+        b"down" => found(Command::Down, Form::Address),
+        b"data" => found(Command::Data, Form::AddressText),
+        b"poll" => found(Command::Poll, Form::Number { most: MOST_AT_ONCE }),
+        b"turn" => found(Command::Turn, Form::Number { most: MOST_AT_ONCE }),
+        b"send" => found(Command::Send, Form::Address),
+        b"ask" => found(Command::Ask, Form::Address),
+        b"show" => found(Command::Show, Form::Bare),
+        _ => None,
+    }
+}
+
+/// A line by itself, or its first fault. A blank line says nothing.
+#[tactic(auto, unfolding(mesh_grammar::specs::Scripts::shape_by))]
+pub fn shape_of(line: &[u8]) -> Result<Option<Shape<'_>>, LineFault>
+    ensures { seen_shape result ≡ commands.shape_of line.now }
+{
+    if is_blank(line) {
+        return Ok(None);
+    }
+    let (word, arguments) = cut(line, b' ');
+    // A slice has fewer than 2 ^ 63 bytes: no place in it overflows.
+    let _length = line.len();
+    let Some(row) = row_of(word) else {
+        return Err(LineFault::Word(span_at(0, word)));
+    };
+    let arguments = arguments_of(row.form, next_at(0, word), arguments)?;
+    Ok(Some(Shape {
+        command: row.command,
+        arguments,
+    }))
+}
