@@ -1,0 +1,271 @@
+-- That the events of a schedule's lines lead through a run, line by line: the lemmas that mesh_text keeps to itself.
+use Rattle.std.proofs.Common.{◌≡◌, ℕ, zero, suc, ◌+◌, ◌-◌, ◌≤◌, ◌⊎◌, inl, inr, true, false, List, [], ◌∷◌, ◌++◌, Option, Some, None, Result, Ok, Err, length, length-append, append-nil, take, refl, sym, ap, ap₂, subst, ◌∙◌, arith, is_some}
+use Rattle.std.proofs.Math.Seq.{take-append-add}
+use Rattle.std.specs.Option.{unwrap_or}
+use Rattle.std.specs.List.{AllByRecursion}
+use Rattle.mesh_model.specs.Worlds as worlds
+use Rattle.mesh_model.specs.Worlds.{World, Event, Outcome, Idle, Next, run, start, first_numbers}
+use Rattle.mesh_model.specs.Choices.{pick}
+use Rattle.mesh_model.specs.Places.{IsEvent}
+use Rattle.mesh_model.proofs.Lists.{each_append}
+use Rattle.mesh_grammar.specs.declared.fault.LineFault.{LineFault}
+use Rattle.mesh_text.specs.Schedule.{Moment, Accepted, Nothing, NewNode, Does, Chooses, ShowsNode, ShowsRoute, ShowsFlight, world_of, started, outcome_at, stepped, counted}
+use Rattle.mesh_grammar.specs.Written.{line}
+use Rattle.mesh_text.specs.Lines.{words_of}
+use Rattle.mesh_text.specs.Ranges.{IsInRange, IsInTime}
+use Rattle.mesh_text.specs.Auto as auto
+use Rattle.mesh_text.specs.Text.{LineOutcome, On, Refused, Full, outcome_of_event, outcome_of_auto, outcome_of_line, outcome_of_read, Written, goes_on}
+use Rattle.mesh_text.specs.Runs.{event_then, choice_then, events_chosen, events_of_line, events_read, events_after, moment_after}
+use Rattle.mesh_text.proofs.InRange.{Allowed}
+use Rattle.mesh_text.proofs.Picks.{OnSome}
+use Rattle.mesh_text.proofs.Moments.{IsKept, stepped_kept, started_kept, picked_usual, IsKeptCame}
+use Rattle.mesh_text.proofs.RunLaws.{run_append, run_none, base, NotFull, Follows}
+
+-- ---- chosen events
+
+-- from m to n by these events
+pub record AutoOutcome (m n : Moment) (es : List Event) : Type 0 where
+  pub variant : n.variant ≡ m.variant
+  pub mesh : n.mesh ≡ m.mesh
+  pub made : is_some n.world ≡ true
+  pub world : world_of n ≡ run (world_of m) es
+  pub count : n.sums.events ≡ m.sums.events + length es
+
+ran_more : (m : Moment) (e : Event) (n : Moment) (es : List Event) → AutoOutcome (stepped m e) n es → AutoOutcome m n (e ∷ es)
+unfolding stepped run
+ran_more m e n es is = record { variant = is.variant; mesh = is.mesh; made = is.made; world = is.world; count = let count = is.count in omega arith }
+
+RanTo : Moment → auto.AutoOutcome → List Event → Type 0
+RanTo m (auto.Ended text did n) es = AutoOutcome m n es
+RanTo m (auto.Full text n e field) es = Unit {0}
+
+ran_before : (m : Moment) (e : Event) (text : List ℕ) (r : auto.AutoOutcome) (es : List Event) → RanTo (stepped m e) r es → RanTo m (auto.before text r) (e ∷ es)
+unfolding RanTo
+ran_before m e text (auto.Ended others did n) es is = ran_more m e n es is
+ran_before m e text (auto.Full others n f field) es is = tt
+
+done_ran : (m : Moment) (e : Event) (o : Outcome) (others : Moment → auto.AutoOutcome) (more : Moment → List Event) → RanTo (stepped m e) (others (stepped m e)) (more (stepped m e))
+    → RanTo m (auto.done_then m e o others) (event_then m e o more)
+unfolding RanTo
+done_ran m e Idle others more is = ran_before m e _ (others (stepped m e)) (more (stepped m e)) is
+done_ran m e (worlds.Full x field) others more is = tt
+done_ran m e (Next w happening) others more is = ran_before m e _ (others (stepped m e)) (more (stepped m e)) is
+
+chosen_ran : (m : Moment) (did : ℕ) (o : Option Event) (others : Moment → auto.AutoOutcome) (more : Moment → List Event) → is_some m.world ≡ true
+    → ((e : Event) → RanTo (stepped m e) (others (stepped m e)) (more (stepped m e))) → RanTo m (auto.chosen_then m did o others) (choice_then m o more)
+unfolding RanTo
+chosen_ran m did None others more made rest = record { variant = refl; mesh = refl; made = made; world = sym (run_none (world_of m)); count = omega arith }
+chosen_ran m did (Some e) others more made rest = done_ran m e (outcome_at m e) others more (rest e)
+
+stepped_made : (m : Moment) (e : Event) → is_some (stepped m e).world ≡ true
+unfolding stepped
+stepped_made m e = refl
+
+auto_ran : (most did : ℕ) (m : Moment) → is_some m.world ≡ true → RanTo m (auto.auto_from most did m) (events_chosen most m)
+unfolding RanTo auto.auto_from events_chosen
+auto_ran zero did m made = record { variant = refl; mesh = refl; made = made; world = sym (run_none (world_of m)); count = omega arith }
+auto_ran (suc most) did m made =
+    chosen_ran m did (pick (world_of m)) (λ n. auto.auto_from most (did + 1) n) (λ n. events_chosen most n) made
+    (λ e. auto_ran most (did + 1) (stepped m e) (stepped_made m e))
+
+-- each of them is an event of the mesh
+
+unfoldable pub UsualList : ℕ → List Event → Type 0
+UsualList size es = AllByRecursion (IsEvent size) es
+
+event_usual : (m : Moment) (e : Event) (o : Outcome) (more : Moment → List Event) → IsEvent (length m.mesh) e → UsualList (length m.mesh) (more (stepped m e)) → UsualList (length m.mesh) (event_then m e o more)
+unfolding UsualList
+event_usual m e Idle more one rest = (one, rest)
+event_usual m e (worlds.Full x field) more one rest = (one, tt)
+event_usual m e (Next w happening) more one rest = (one, rest)
+
+choice_usual : (m : Moment) (o : Option Event) (more : Moment → List Event) → OnSome (IsEvent (length m.mesh)) o → ((e : Event) → IsEvent (length m.mesh) e → UsualList (length m.mesh) (more (stepped m e)))
+    → UsualList (length m.mesh) (choice_then m o more)
+unfolding UsualList OnSome
+choice_usual m None more usual rest = tt
+choice_usual m (Some e) more usual rest = event_usual m e (outcome_at m e) more usual (rest e usual)
+
+stepped_mesh : (m : Moment) (e : Event) → (stepped m e).mesh ≡ m.mesh
+unfolding stepped
+stepped_mesh m e = refl
+
+chosen_usual : (most : ℕ) (m : Moment) → IsKept m → UsualList (length m.mesh) (events_chosen most m)
+unfolding UsualList events_chosen
+chosen_usual zero m is = tt
+chosen_usual (suc most) m is =
+    choice_usual m (pick (world_of m)) (λ n. events_chosen most n) (picked_usual m is)
+    (λ e usual. subst (λ mesh. UsualList (length mesh) (events_chosen most (stepped m e))) (stepped_mesh m e) (chosen_usual most (stepped m e) (stepped_kept m e usual is)))
+
+line_events_usual : (m : Moment) (a : Accepted) → IsInRange m.mesh a → IsKept m → UsualList (length m.mesh) (events_of_line m a)
+unfolding UsualList
+line_events_usual m Nothing range is = tt
+line_events_usual m (NewNode address first) range is = tt
+line_events_usual m (Does e) range is = (range.1, tt)
+line_events_usual m (Chooses count) range is = chosen_usual count (started m) (started_kept m is)
+line_events_usual m (ShowsNode x) range is = tt
+line_events_usual m (ShowsRoute x d) range is = tt
+line_events_usual m ShowsFlight range is = tt
+
+pub read_usual : (m : Moment) (r : Result Accepted LineFault) → Allowed m.mesh (is_some m.world) r → IsKept m → UsualList (length m.mesh) (events_read m r)
+unfolding Allowed UsualList
+read_usual m (Ok a) allowed is = line_events_usual m a allowed.0 is
+read_usual m (Err f) allowed is = tt
+
+-- ---- a line
+
+-- no event, and at most one more node
+pub record Quiet (m n : Moment) (es : List Event) : Type 0 where
+  pub variant : n.variant ≡ m.variant
+  pub mesh : is_some m.world ≡ true → n.mesh ≡ m.mesh
+  pub world : n.world ≡ m.world
+  pub none : es ≡ []
+  pub count : n.sums.events ≡ m.sums.events
+
+unfoldable pub GoesBy : Moment → List Event → LineOutcome → Type 0
+GoesBy m es (On text n) = Quiet m n es ⊎ AutoOutcome m n es
+GoesBy m es (Refused why) = es ≡ []
+GoesBy m es (Full text n e field) = Unit {0}
+
+event_goes : (m : Moment) (e : Event) (o : Outcome) → GoesBy m (e ∷ []) (outcome_of_event m e o)
+unfolding GoesBy stepped run
+event_goes m e Idle = inr (record { variant = refl; mesh = refl; made = refl; world = refl; count = refl })
+event_goes m e (worlds.Full x field) = tt
+event_goes m e (Next w happening) = inr (record { variant = refl; mesh = refl; made = refl; world = refl; count = refl })
+
+auto_goes : (m : Moment) (text : List ℕ) (r : auto.AutoOutcome) (es : List Event) → RanTo m r es → GoesBy m es (outcome_of_auto text r)
+unfolding GoesBy RanTo
+auto_goes m text (auto.Ended others did n) es is = inr (record { variant = is.variant; mesh = is.mesh; made = is.made; world = is.world; count = is.count })
+auto_goes m text (auto.Full others n e field) es is = tt
+
+start_goes : (m : Moment) (es : List Event) (c : LineOutcome) → GoesBy (started m) es c → GoesBy m es c
+unfolding GoesBy
+start_goes m es (On text n) (inl is) =
+    let same : n.world ≡ Some (world_of m) = is.world in
+    inr (record {
+      variant = is.variant;
+      mesh = is.mesh refl;
+      made = ap is_some same;
+      world = ap (λ o. unwrap_or o (start n.variant (first_numbers n.mesh))) same ∙ sym (run_none (world_of m)) ∙ ap (run (world_of m)) (sym is.none);
+      count = let count = is.count in let none : length es ≡ 0 = ap length is.none in omega arith;
+    })
+start_goes m es (On text n) (inr is) = inr (record { variant = is.variant; mesh = is.mesh; made = is.made; world = is.world; count = is.count })
+start_goes m es (Refused why) is = is
+start_goes m es (Full text n e field) is = tt
+
+shown : (m : Moment) → AutoOutcome m (counted (started m)) []
+shown m = record { variant = refl; mesh = refl; made = refl; world = sym (run_none (world_of m)); count = omega arith }
+
+line_goes : (m : Moment) (a : Accepted) → IsInTime (is_some m.world) a → GoesBy m (events_of_line m a) (outcome_of_line m a)
+unfolding GoesBy outcome_of_line
+line_goes m Nothing early = inl (record { variant = refl; mesh = λ _. refl; world = refl; none = refl; count = refl })
+line_goes m (NewNode address first) early = inl (record { variant = refl; mesh = λ made. absurd (let clash : true ≡ false = sym made ∙ early in let P : ⊥ = cc in P); world = refl; none = refl; count = refl })
+line_goes m (Does e) early = event_goes m e (outcome_at m e)
+line_goes m (Chooses count) early =
+    start_goes m (events_chosen count (started m)) (outcome_of_auto (line (words_of m.mesh (Chooses count))) (auto.auto_from count 0 (started m)))
+    (auto_goes (started m) (line (words_of m.mesh (Chooses count))) (auto.auto_from count 0 (started m)) (events_chosen count (started m)) (auto_ran count 0 (started m) refl))
+line_goes m (ShowsNode x) early = inr (shown m)
+line_goes m (ShowsRoute x d) early = inr (shown m)
+line_goes m ShowsFlight early = inr (shown m)
+
+pub result_goes : (m : Moment) (r : Result Accepted LineFault) → Allowed m.mesh (is_some m.world) r → GoesBy m (events_read m r) (outcome_of_read m r)
+unfolding Allowed GoesBy
+result_goes m (Ok a) allowed = line_goes m a allowed.1
+result_goes m (Err f) allowed = refl
+
+-- ---- whole runs
+
+made_base : (o : Option World) (v w : World) → is_some o ≡ true → unwrap_or o v ≡ unwrap_or o w
+made_base None v w made = absurd (let P : ⊥ = cc in P)
+made_base (Some x) v w made = refl
+
+take_none : (k : ℕ) (es : List Event) → k ≡ 0 → take k es ≡ []
+take_none k es none = ap (λ n. take n es) none
+
+-- where the run ends at a line
+ends_at : (m : Moment) (es : List Event) (w : Written) → w.after ≡ m → UsualList (length m.mesh) es → (NotFull w.verdict → es ≡ []) → Follows m es w
+unfolding UsualList
+ends_at m es w same usual none =
+    let mesh : w.after.mesh ≡ m.mesh = ap (λ n. n.mesh) same in
+    let count : w.after.sums.events ≡ m.sums.events = ap (λ n. n.sums.events) same in
+    let world : world_of w.after ≡ world_of m = ap (λ n. world_of n) same in
+    record {
+      mesh = λ _. mesh;
+      low = omega arith;
+      world = world ∙ ap (base m) (sym mesh) ∙ sym (run_none (base m w.after.mesh)) ∙ ap (run (base m w.after.mesh)) (sym (take_none (w.after.sums.events - m.sums.events) es (omega arith)));
+      all = λ not_full. let nothing : length es ≡ 0 = ap length (none not_full) in omega arith;
+      usual = subst (λ k. AllByRecursion (IsEvent k) es) (ap length (sym mesh)) usual;
+    }
+
+-- after a line with no event
+quiet_follows : (m n : Moment) (es more : List Event) (w : Written) → Quiet m n es → Follows n more w → Follows m (es ++ more) w
+quiet_follows m n es more w quiet rest =
+    let whole : es ++ more ≡ more = ap (λ l. l ++ more) quiet.none in
+    let count : n.sums.events ≡ m.sums.events = quiet.count in
+    let low = rest.low in
+    subst (λ l. Follows m l w) (sym whole) (record {
+      mesh = λ made. rest.mesh (ap is_some quiet.world ∙ made) ∙ quiet.mesh made;
+      low = omega arith;
+      world = rest.world
+          ∙ ap₂ (λ o v. run (unwrap_or o (start v (first_numbers w.after.mesh))) (take (w.after.sums.events - n.sums.events) more)) quiet.world quiet.variant
+          ∙ ap (λ k. run (base m w.after.mesh) (take (w.after.sums.events - k) more)) count;
+      all = λ not_full. let all = rest.all not_full in omega arith;
+      usual = rest.usual;
+    })
+
+-- after a line with events
+ran_follows : (m n : Moment) (es more : List Event) (w : Written) → AutoOutcome m n es → UsualList (length m.mesh) es → Follows n more w → Follows m (es ++ more) w
+unfolding UsualList
+ran_follows m n es more w ran usual rest =
+    let count : n.sums.events ≡ m.sums.events + length es = ran.count in
+    let low : n.sums.events ≤ w.after.sums.events = rest.low in
+    let mesh : w.after.mesh ≡ m.mesh = rest.mesh ran.made ∙ ran.mesh in
+    let k : ℕ = w.after.sums.events - n.sums.events in
+    let sum : w.after.sums.events - m.sums.events ≡ length es + k = omega arith in
+    let before : base n w.after.mesh ≡ run (base m w.after.mesh) es =
+    made_base n.world (start n.variant (first_numbers w.after.mesh)) (start n.variant (first_numbers n.mesh)) ran.made
+    ∙ ran.world ∙ ap (λ nodes. run (base m nodes) es) (sym mesh) in
+    record {
+      mesh = λ _. mesh;
+      low = omega arith;
+      world = rest.world ∙ ap (λ x. run x (take k more)) before ∙ sym (run_append (base m w.after.mesh) es (take k more))
+          ∙ ap (run (base m w.after.mesh)) (sym (take-append-add es more k)) ∙ ap (λ j. run (base m w.after.mesh) (take j (es ++ more))) (sym sum);
+      all = λ not_full. let all = rest.all not_full in omega (arith, length-append es more);
+      usual = each_append (IsEvent (length w.after.mesh)) es more (subst (λ j. AllByRecursion (IsEvent j) es) (ap length (sym mesh)) usual) rest.usual;
+    }
+
+pub goes_follows : (m : Moment) (es : List Event) (c : LineOutcome) (others : Moment → Written) (more : Moment → List Event) → GoesBy m es c → IsKeptCame c → UsualList (length m.mesh) es
+    → ((n : Moment) → IsKept n → Follows n (more n) (others n)) → Follows m (es ++ events_after c more) (goes_on m c others)
+unfolding GoesBy IsKeptCame NotFull
+goes_follows m es (On text n) others more (inl quiet) kept usual rest =
+    let next = quiet_follows m n es (more n) (others n) quiet (rest n kept) in
+    record { mesh = next.mesh; low = next.low; world = next.world; all = next.all; usual = next.usual }
+goes_follows m es (On text n) others more (inr ran) kept usual rest =
+    let next = ran_follows m n es (more n) (others n) ran usual (rest n kept) in
+    record { mesh = next.mesh; low = next.low; world = next.world; all = next.all; usual = next.usual }
+goes_follows m es (Refused why) others more none kept usual rest =
+    let alone : es ++ [] ≡ es = append-nil es in
+    subst (λ l. Follows m l (goes_on m (Refused why) others)) (sym alone) (ends_at m es (goes_on m (Refused why) others) refl usual (λ _. none))
+goes_follows m es (Full text n e field) others more goes kept usual rest =
+    let alone : es ++ [] ≡ es = append-nil es in
+    subst (λ l. Follows m l (goes_on m (Full text n e field) others)) (sym alone)
+    (ends_at m es (goes_on m (Full text n e field) others) refl usual (λ not_full. absurd (not_full (m.lines + 1) refl)))
+
+-- ---- after events
+
+pub world_after_events : (m : Moment) (es : List Event) → world_of (moment_after m es) ≡ run (world_of m) es
+unfolding moment_after stepped run
+world_after_events m [] = refl
+world_after_events m (e ∷ es) = world_after_events (stepped m e) es
+
+pub mesh_after_events : (m : Moment) (es : List Event) → (moment_after m es).mesh ≡ m.mesh
+unfolding moment_after stepped
+mesh_after_events m [] = refl
+mesh_after_events m (e ∷ es) = mesh_after_events (stepped m e) es
+
+pub count_after_events : (m : Moment) (es : List Event) → (moment_after m es).sums.events ≡ m.sums.events + length es
+unfolding moment_after stepped
+count_after_events m [] = omega arith
+count_after_events m (e ∷ es) = let rest = count_after_events (stepped m e) es in omega arith
+
+pub counted_kept : (m : Moment) → IsKept m → IsKept (counted m)
+counted_kept m is = record { mesh = is.mesh; size = is.size; invariant = is.invariant; balanced = is.balanced; ordered = is.ordered }

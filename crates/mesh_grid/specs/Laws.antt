@@ -1,0 +1,67 @@
+-- The statements that this crate proves of its definitions.
+use Rattle.std.specs.Prelude.{◌≡◌, ◌≢◌, ℕ, List, length, Some, None, Ok}
+use Rattle.std.specs.List.{AllByRecursion}
+use Rattle.mesh_base.specs.Meshes.{Nodes}
+use Rattle.mesh_base.specs.declared.events.Variant.{Variant}
+use Rattle.mesh_model.specs.Places.{IsEvent}
+use Rattle.mesh_model.specs.Walks.{Cycle}
+use Rattle.mesh_model.specs.Worlds.{are_linked}
+use Rattle.mesh_grammar.specs.Lines.{Whole}
+use Rattle.mesh_text.specs.Schedule.{Accepted, world_of}
+use Rattle.mesh_text.specs.Text as text
+use Rattle.mesh_text.specs.Text.{FullAt}
+use Rattle.mesh_text.specs.Accounts.{IsBalanced}
+use Rattle.mesh_grid.specs.declared.line.Placing.{Placing}
+use Rattle.mesh_grid.specs.Lines.{placing_of, place_words}
+use Rattle.mesh_grid.specs.Links.{is_due}
+use Rattle.mesh_grid.specs.Text.{Moment, other_line, outcome_of_piece, text_of_input}
+use Rattle.mesh_grid.specs.Runs.{moment_at, mesh_of_input, world_after, events_of_input}
+
+-- after each allowed line of an input the links that stand are those that are due: of two nodes
+-- with places, the one within reach of the other. Before there is a world none is due
+abbrev pub LinksFollowPlaces : Type 0
+LinksFollowPlaces = (reach : ℕ) (variant : Variant) (input : List ℕ) (i a b : ℕ)
+    → let m = moment_at reach variant input i in
+    are_linked (world_of m.run).links a b ≡ is_due reach m.places a b
+
+-- the world after the last allowed line is the one after as many of the input's events as were
+-- counted; and unless a full counter has ended the run, each of them was
+abbrev pub WorldsAreOfEvents : Type 0
+WorldsAreOfEvents = (reach : ℕ) (variant : Variant) (input : List ℕ) →
+    let w = text_of_input reach variant input in
+    (world_of w.after ≡ world_after reach variant input w.after.sums.events)
+    × (((number : ℕ) → w.verdict ≢ FullAt number)
+    → w.after.sums.events ≡ length (events_of_input reach variant input))
+
+-- after any number of an input's events no destination's valid routes have a loop
+abbrev pub RunsWithPlacesAreLoopFree : Type 0
+RunsWithPlacesAreLoopFree = (reach : ℕ) (variant : Variant) (input : List ℕ) (k d : ℕ)
+    → ¬ (Cycle (world_after reach variant input k) d)
+
+-- nor have they one after any line
+abbrev pub LinesAreLoopFree : Type 0
+LinesAreLoopFree = (reach : ℕ) (variant : Variant) (input : List ℕ) (i d : ℕ)
+    → ¬ (Cycle (world_of (moment_at reach variant input i).run) d)
+
+-- after the last allowed line each datum that was given or doubled was delivered, waits in a store
+-- or a queue, is in flight, or was dropped
+abbrev pub DataAreAccountedFor : Type 0
+DataAreAccountedFor = (reach : ℕ) (variant : Variant) (input : List ℕ)
+    → IsBalanced (text_of_input reach variant input).after
+
+-- each event of an input is one of its mesh
+abbrev pub EventsAreOfMesh : Type 0
+EventsAreOfMesh = (reach : ℕ) (variant : Variant) (input : List ℕ)
+    → AllByRecursion (IsEvent (length (mesh_of_input reach variant input)))
+    (events_of_input reach variant input)
+
+-- a line that is not about a place, where it is allowed, comes to what it comes to in a schedule
+abbrev pub OtherLineIsAsInSchedule : Type 0
+OtherLineIsAsInSchedule = (reach : ℕ) (m : Moment) (line : List ℕ) (a : Accepted)
+    → placing_of m.run.mesh line ≡ Ok None → other_line m line ≡ Ok a
+    → outcome_of_piece reach m (Whole line) ≡ text.outcome_of_piece m.run (Whole line)
+
+-- a line about a place stands as it is written
+abbrev pub PlaceLineIsWrittenAsItStands : Type 0
+PlaceLineIsWrittenAsItStands = (mesh : Nodes) (line : List ℕ) (new : Placing)
+    → placing_of mesh line ≡ Ok (Some new) → line ≡ place_words mesh new

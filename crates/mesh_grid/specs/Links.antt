@@ -1,0 +1,65 @@
+-- The links that are due between nodes with places, and the changes that follow where a node comes
+-- to a place.
+use Rattle.std.specs.Prelude.{ℕ, zero, suc, ◌==◌, not, ◌&&◌, min, max, Bool, true, false, if◌then◌else◌, List, [], ◌∷◌, ◌++◌, Option, Some, None}
+use Rattle.std.specs.FinSet as sets
+use Rattle.mesh_base.specs.Members.{NodeIds}
+use Rattle.mesh_model.specs.Worlds.{Event, Link, Cut}
+use Rattle.mesh_grid.specs.declared.place.Place.{Place}
+use Rattle.mesh_grid.specs.declared.place.Places.{Places}
+use Rattle.mesh_grid.specs.declared.line.Placing.{Placing}
+use Rattle.mesh_grid.specs.Places.{is_within, place_of, with_place}
+
+-- ---- links that are due
+
+-- both have a place, and the one is within reach of the other
+abbrev pub are_near : ℕ → Option Place → Option Place → Bool
+are_near reach (Some p) (Some q) = is_within reach p q
+are_near reach others place = false
+
+-- a link is due between two nodes
+abbrev pub is_due : ℕ → Places → ℕ → ℕ → Bool
+is_due reach places a b =
+    not (a == b) && are_near reach (place_of places a) (place_of places b)
+
+-- ---- changes
+
+-- the link of x and y, the smaller first, comes to stand where it is due and doesn't stand; it
+-- falls where it stands and isn't due
+abbrev pub change : (due stands : Bool) → ℕ → ℕ → List Event
+change true false x y = Link (min x y) (max x y) ∷ []
+change false true x y = Cut (min x y) (max x y) ∷ []
+change due stands x y = []
+
+-- the change between x, which has come to a place, and y, if y has a place
+abbrev pub change_with : ℕ → ℕ → Place → ℕ → Option Place → Bool → List Event
+change_with reach x p y None stands = []
+change_with reach x p y (Some q) stands = change (is_within reach p q) stands x y
+
+-- the same with any node; `near` are the nodes that x is linked to
+abbrev pub change_at : ℕ → Places → NodeIds → Placing → ℕ → List Event
+change_at reach places near new y =
+    if y == new.node then [] else
+    change_with reach new.node new.place y (place_of places y) (sets.contains near y)
+
+-- the changes with the nodes below n, by rising node
+abbrev pub changes_below : ℕ → Places → NodeIds → Placing → ℕ → List Event
+changes_below reach places near new zero = []
+changes_below reach places near new (suc n) =
+    changes_below reach places near new n ++ change_at reach places near new n
+
+-- ---- whether a node may come to a place
+
+-- `place` puts a node that has no place, `move` one that has a place
+abbrev pub is_enabled : Bool → Option Place → Bool
+is_enabled first None = first
+is_enabled first (Some p) = not first
+
+abbrev pub may_come : Places → Placing → Bool
+may_come places new = is_enabled new.first (place_of places new.node)
+
+-- where the nodes are after a line about a place
+abbrev pub come : Places → Placing → Places
+come places new =
+    record (if may_come places new then with_place places new.node new.place else places) {
+      begun = true;
+    }

@@ -1,0 +1,44 @@
+//! Laws of the definitions. Each function has an empty body and a contract that states a law.
+ghost use Rattle.mesh_grid.specs.Laws.{LinksFollowPlaces, WorldsAreOfEvents, RunsWithPlacesAreLoopFree, LinesAreLoopFree, DataAreAccountedFor, EventsAreOfMesh, OtherLineIsAsInSchedule, PlaceLineIsWrittenAsItStands};
+
+/// After each allowed line the links that stand are those that follow from the places.
+pub fn links_follow_places()
+    ensures { LinksFollowPlaces }
+{}
+
+/// The worlds of a run with places are those of the run of its events, one step after another. A
+/// line that puts a node to a place has the changes of links that follow.
+pub fn worlds_are_of_events()
+    ensures { WorldsAreOfEvents }
+{}
+
+/// After any number of events of a run with places no destination's valid routes have a loop.
+pub fn runs_with_places_are_loop_free()
+    ensures { RunsWithPlacesAreLoopFree }
+{}
+
+/// After no line of a run with places have a destination's valid routes a loop.
+pub fn lines_are_loop_free()
+    ensures { LinesAreLoopFree }
+{}
+
+/// In a run with places each datum that was given or doubled was delivered, waits, is in flight, or
+/// was dropped.
+pub fn data_are_accounted_for()
+    ensures { DataAreAccountedFor }
+{}
+
+/// Each event of a run with places is one of its mesh.
+pub fn events_are_of_the_mesh()
+    ensures { EventsAreOfMesh }
+{}
+
+/// A line that is not about a place, where it is allowed, comes to what it comes to in a schedule.
+pub fn other_lines_are_as_in_a_schedule()
+    ensures { OtherLineIsAsInSchedule }
+{}
+
+/// A line that puts a node to a place stands as it is written.
+pub fn a_place_line_is_written_as_it_stands()
+    ensures { PlaceLineIsWrittenAsItStands }
+{}
