@@ -24,9 +24,9 @@ use Rattle.mesh_radio.specs.Radios.{RadioState, without_copy}
 use Rattle.mesh_meaning.specs.Packets.{IsWritten, IsWrittenItem, IsWrittenCopy, copy_in}
 use Rattle.mesh_world.specs.Seen.{node_in}
 use Rattle.mesh_world.specs.Kept.{Ready, IsKept, IsKeptNode, world_in}
-use Rattle.mesh_world.specs.Noted.{noted}
+use Rattle.mesh_world.specs.Noted.{noted, with_turn, has_items}
 use Rattle.mesh_world.proofs.Frames.{Ends, Beside, ends_done, ends_idle, beside, later, shown_at, noted_beside, map-set, each_set, each_append, set_again, count_of}
-use Rattle.mesh_world.proofs.ReadySets.{noted_ready}
+use Rattle.mesh_world.proofs.ReadySets.{noted_ready, noted_by_turn, some_item}
 use Rattle.mesh_world.proofs.Turns.{stands, kept_node}
 
 -- ---- one more item
@@ -45,6 +45,10 @@ joined n roomy new i core same size is sound = record {
   size = ap (λ (m : NodeSeen). m.size) is ∙ size;
   sound = sound;
 }
+
+-- it is noted by its turn alone
+pub noted_joined : (mesh : Nodes) (nodes : List NodeSeen) (radio : RadioState) (ready ready' : Ready) (steps x : ℕ) (n new : NodeSeen) (i : items.Item) → IsKept mesh nodes radio ready steps → slice_get nodes x ≡ Some n → Joined n new i → ready' ≡ with_turn ready x → ready' ≡ noted ready x new (length mesh)
+noted_joined mesh nodes radio ready ready' steps x n new i k at j is = is ∙ noted_by_turn mesh nodes ready x n new k.sets at j.core (ap has_items j.items ∙ some_item n.items i)
 
 pub map-push : {A B : Type 0} (f : A → B) (xs : List A) (x : A) → map f (xs ++ x ∷ []) ≡ map f xs ++ f x ∷ []
 map-push f [] x = refl

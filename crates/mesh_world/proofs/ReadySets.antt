@@ -1,5 +1,5 @@
 -- The kept sets of nodes follow the nodes.
-use Rattle.std.proofs.Common.{◌≡◌, ◌≢◌, ◌↔◌, ℕ, zero, suc, ◌+◌, ◌<◌, ◌≤◌, Bool, true, false, not, ◌&&◌, ◌||◌, ◌==◌, nat_lt, List, [], ◌∷◌, length, map, get_or, Some, None, refl, ap, sym, ◌∙◌, arith, inl, inr}
+use Rattle.std.proofs.Common.{◌≡◌, ◌≢◌, ◌↔◌, ℕ, zero, suc, ◌+◌, ◌<◌, ◌≤◌, Bool, true, false, not, ◌&&◌, ◌||◌, ◌==◌, nat_lt, List, [], ◌∷◌, ◌++◌, length, map, get_or, Some, None, refl, ap, sym, ◌∙◌, arith, inl, inr}
 use Rattle.std.specs.Prelude.{if◌then◌else◌, is_some, option_map, slice_get, slice_set, IsTrue}
 use Rattle.std.specs.List.{AllByRecursion}
 use Rattle.std.specs.Ordering.{nat_cmp}
@@ -21,7 +21,7 @@ use Rattle.mesh_model.specs.Choices.{least_from, waits, may_turn_in, may_send_in
 use Rattle.mesh_model.proofs.Lists.{set_same, set_other}
 use Rattle.mesh_world.specs.Seen.{node_in}
 use Rattle.mesh_world.specs.Kept.{Ready, IsReadyFor}
-use Rattle.mesh_world.specs.Noted.{none_ready, with_or_without, has_items, has_below, noted}
+use Rattle.mesh_world.specs.Noted.{none_ready, with_or_without, with_turn, has_items, has_below, noted}
 
 -- ---- whether a member is below n
 
@@ -146,6 +146,29 @@ noted_ready mesh nodes r x n ready l =
       asks = follows r.asks x (has_below (length mesh) (may_ask n.core)) (λ q. is_some (first_ask_in (length mesh) (slice_get (map (node_in mesh) nodes) q))) (λ q. is_some (first_ask_in (length mesh) (slice_get (map (node_in mesh) (slice_set nodes x n)) q)))
           ready.asks (ap (λ o. is_some (first_ask_in (length mesh) o)) here ∙ asks_in (length mesh) (node_in mesh n)) (λ q apart. ap (λ o. is_some (first_ask_in (length mesh) o)) (node_there mesh nodes x q n apart));
     }
+
+-- ---- an item more in an inbox
+
+-- a set that has the node if it should is as it was
+as_it_was : (s : NodeIds) (x : ℕ) (b : Bool) → sets.contains s x ≡ b → s ≡ with_or_without b s x
+as_it_was s x b is = sets.same_set nat_cmp_total maps.nat_cmp-IsAntisymmetric s (with_or_without b s x)
+    (λ q. sym (follows s x b (sets.contains s) (sets.contains s) (λ q. refl) is (λ q apart. refl) q))
+
+pub some_item : (items : List Item) (i : Item) → has_items (items ++ i ∷ []) ≡ true
+some_item [] i = refl
+some_item (item ∷ items) i = refl
+
+-- where an item joins an inbox, and the core is the same, the node is noted by its turn alone
+pub noted_by_turn : (mesh : Nodes) (nodes : List NodeSeen) (r : Ready) (x : ℕ) (n new : NodeSeen) → IsReadyFor mesh nodes r → slice_get nodes x ≡ Some n → new.core ≡ n.core → has_items new.items ≡ true → with_turn r x ≡ noted r x new (length mesh)
+unfolding noted
+noted_by_turn mesh nodes r x n new ready at core some =
+    let shown : slice_get (map (node_in mesh) nodes) x ≡ Some (node_in mesh n) = slice_get-map (node_in mesh) nodes x ∙ ap (option_map (node_in mesh)) at in
+    let turns : sets.insert r.turns x ≡ with_or_without (has_items new.items) r.turns x = ap (λ b. with_or_without b r.turns x) (sym some) in
+    let sends : r.sends ≡ with_or_without (has_below (length mesh) (may_send new.core)) r.sends x = as_it_was r.sends x (has_below (length mesh) (may_send new.core))
+    (ready.sends x ∙ (ap (λ o. is_some (first_send_in (length mesh) o)) shown ∙ (sends_in (length mesh) (node_in mesh n) ∙ ap (λ c. has_below (length mesh) (may_send c)) (sym core)))) in
+    let asks : r.asks ≡ with_or_without (has_below (length mesh) (may_ask new.core)) r.asks x = as_it_was r.asks x (has_below (length mesh) (may_ask new.core))
+    (ready.asks x ∙ (ap (λ o. is_some (first_ask_in (length mesh) o)) shown ∙ (asks_in (length mesh) (node_in mesh n) ∙ ap (λ c. has_below (length mesh) (may_ask c)) (sym core)))) in
+    λ i. record { turns = turns i; sends = sends i; asks = asks i }
 
 -- ---- nodes that have done nothing yet
 

@@ -43,6 +43,10 @@ noted r x n nodes = record {
   asks = with_or_without (has_below nodes (may_ask n.core)) r.asks x;
 }
 
+-- the sets once an item has joined the inbox of node x, of which nothing else is new
+abbrev pub with_turn : Ready → ℕ → Ready
+with_turn r x = record r { turns = sets.insert r.turns x }
+
 -- these are all nodes of the mesh, and the sets are theirs
 pub record AreReadyIn (mesh : Nodes) (nodes : List NodeSeen) (ready : Ready) : Type 0 where
   pub count : length nodes ≡ length mesh

@@ -2,7 +2,7 @@
 ghost use Rattle.std.specs.Prelude.{◌≡◌, ◌<◌, IfSome};
 ghost use Rattle.std.specs.FinSet as sets;
 ghost use Rattle.mesh_base.specs.Members.{IsLeastFrom};
-ghost use Rattle.mesh_world.specs.Noted.{none_ready, noted, with_or_without, has_below};
+ghost use Rattle.mesh_world.specs.Noted.{none_ready, noted, with_turn, with_or_without, has_below};
 
 use aodv_node::Node;
 use mesh_base::NodeSet;
@@ -48,6 +48,14 @@ impl Ready {
         put(&mut self.turns, x, !node.inbox().is_empty());
         put(&mut self.sends, x, has_below(&node.sendable(), nodes));
         put(&mut self.asks, x, has_below(&node.askable(), nodes));
+    }
+
+    /// Notes that an item has joined the inbox of node x, of which nothing else is new.
+    pub(crate) fn note_item(&mut self, x: usize)
+        requires { x < 256 }
+        ensures { self.new ≡ with_turn self.old x }
+    {
+        self.turns.add(x);
     }
 
     /// The least node that may take a turn.

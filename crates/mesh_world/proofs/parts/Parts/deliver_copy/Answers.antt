@@ -1,7 +1,7 @@
 use Rattle.std.proofs.Common.{ap, ◌∙◌, length, arith}
 use Rattle.mesh_world.proofs.Frames.{count_of, is_there, node_at, set_got_again, count_again, read_back}
-use Rattle.mesh_world.proofs.Arrivals.{joined, receiver_in, taken, may_hear, deliver_done, deliver_idle, seen_fits}
-use Rattle.mesh_world.proofs.Moves.{of_ends, at_end, changed, within, noted_at}
+use Rattle.mesh_world.proofs.Arrivals.{joined, noted_joined, receiver_in, taken, may_hear, deliver_done, deliver_idle, seen_fits}
+use Rattle.mesh_world.proofs.Moves.{of_ends, at_end, changed, within}
 use Rattle.mesh_world.proofs.parts.Parts.deliver_copy.Goals as goal
 
 pub returns-in_default-clause-done : goal.returns-in_default-clause-done
@@ -45,15 +45,15 @@ hear-requires-clause-other c =
     (may_hear old.mesh old.nodes.items old.radio old.ready old.steps c.args.id c.in-Some.flying.to c.in-Some-take.taken c.index_mut.result.now c.make_room.new.self c.index_mut-2.result.now
     c.requires.kept (node_at old.mesh old.nodes.items old.radio old.ready old.steps c.in-Some.flying.to c.index_mut.result.now c.requires.kept (receiver_in old.mesh old.nodes.items old.radio old.ready old.steps c.args.id c.find.result c.in-Some.flying c.requires.kept c.find.ensures c.in-Some.is) c.index_mut.ensures.value) (taken old.mesh old.nodes.items old.radio old.ready old.steps c.args.id c.find.result c.in-Some.flying c.take.result c.in-Some-take.taken c.requires.kept c.find.ensures c.in-Some.is c.take.ensures.taken c.in-Some-take.is) c.make_room.ensures.core c.make_room.ensures.size (read_back old.nodes.items c.in-Some.flying.to c.make_room.new.self c.index_mut-2.result.now (is_there old.mesh old.nodes.items old.radio old.ready old.steps c.in-Some.flying.to c.requires.kept (receiver_in old.mesh old.nodes.items old.radio old.ready old.steps c.args.id c.find.result c.in-Some.flying c.requires.kept c.find.ensures c.in-Some.is)) c.index_mut-2.ensures.value)).1
 
-pub end_at-requires-clause-node : goal.end_at-requires-clause-node
-end_at-requires-clause-node c =
+pub end_with_item-requires-clause-node : goal.end_with_item-requires-clause-node
+end_with_item-requires-clause-node c =
     let old = c.args.self.now in
     let count = count_again old.mesh old.nodes.items old.radio old.ready old.steps c.in-Some.flying.to c.make_room.new.self c.hear.new.self c.requires.kept in
     let l = (receiver_in old.mesh old.nodes.items old.radio old.ready old.steps c.args.id c.find.result c.in-Some.flying c.requires.kept c.find.ensures c.in-Some.is) in
     omega arith
 
-pub end_at-requires-clause-few : goal.end_at-requires-clause-few
-end_at-requires-clause-few c =
+pub end_with_item-requires-clause-few : goal.end_with_item-requires-clause-few
+end_with_item-requires-clause-few c =
     let old = c.args.self.now in
     let count = count_again old.mesh old.nodes.items old.radio old.ready old.steps c.in-Some.flying.to c.make_room.new.self c.hear.new.self c.requires.kept in
     let few = c.requires.kept.sound.mesh.few in
@@ -62,11 +62,14 @@ end_at-requires-clause-few c =
 pub returns-clause-done : goal.returns-clause-done
 returns-clause-done c = λ packet.
     let old = c.args.self.now in
-    let at = set_got_again old.nodes.items c.in-Some.flying.to c.make_room.new.self c.hear.new.self (is_there old.mesh old.nodes.items old.radio old.ready old.steps c.in-Some.flying.to c.requires.kept (receiver_in old.mesh old.nodes.items old.radio old.ready old.steps c.args.id c.find.result c.in-Some.flying c.requires.kept c.find.ensures c.in-Some.is)) in
-    at_end _ old (changed (changed old c.in-Some.flying.to c.make_room.new.self old.radio) c.in-Some.flying.to c.hear.new.self c.take.new.self) c.end_at.new.self _ packet c.end_at.ensures.others
-    (of_ends _ old _ _ _ _ _ _ (deliver_done old.mesh old.nodes.items old.radio c.take.new.self old.ready c.end_at.new.self.ready old.steps c.args.id c.in-Some.flying.to c.in-Some-take.taken
-    c.index_mut.result.now c.make_room.new.self c.hear.new.self packet c.requires.kept (taken old.mesh old.nodes.items old.radio old.ready old.steps c.args.id c.find.result c.in-Some.flying c.take.result c.in-Some-take.taken c.requires.kept c.find.ensures c.in-Some.is c.take.ensures.taken c.in-Some-take.is) c.take.ensures.others (node_at old.mesh old.nodes.items old.radio old.ready old.steps c.in-Some.flying.to c.index_mut.result.now c.requires.kept (receiver_in old.mesh old.nodes.items old.radio old.ready old.steps c.args.id c.find.result c.in-Some.flying c.requires.kept c.find.ensures c.in-Some.is) c.index_mut.ensures.value)
-    (joined c.index_mut.result.now c.index_mut-2.result.now c.hear.new.self _ (ap (λ n. n.core) (read_back old.nodes.items c.in-Some.flying.to c.make_room.new.self c.index_mut-2.result.now (is_there old.mesh old.nodes.items old.radio old.ready old.steps c.in-Some.flying.to c.requires.kept (receiver_in old.mesh old.nodes.items old.radio old.ready old.steps c.args.id c.find.result c.in-Some.flying c.requires.kept c.find.ensures c.in-Some.is)) c.index_mut-2.ensures.value) ∙ c.make_room.ensures.core) (ap (λ n. n.items) (read_back old.nodes.items c.in-Some.flying.to c.make_room.new.self c.index_mut-2.result.now (is_there old.mesh old.nodes.items old.radio old.ready old.steps c.in-Some.flying.to c.requires.kept (receiver_in old.mesh old.nodes.items old.radio old.ready old.steps c.args.id c.find.result c.in-Some.flying c.requires.kept c.find.ensures c.in-Some.is)) c.index_mut-2.ensures.value) ∙ c.make_room.ensures.items) (ap (λ n. n.size) (read_back old.nodes.items c.in-Some.flying.to c.make_room.new.self c.index_mut-2.result.now (is_there old.mesh old.nodes.items old.radio old.ready old.steps c.in-Some.flying.to c.requires.kept (receiver_in old.mesh old.nodes.items old.radio old.ready old.steps c.args.id c.find.result c.in-Some.flying c.requires.kept c.find.ensures c.in-Some.is)) c.index_mut-2.ensures.value) ∙ c.make_room.ensures.size)
-    c.hear.ensures (c.end_at.ensures.sound c.hear.new.self at))
-    (noted_at _ old.ready c.end_at.new.self.ready c.in-Some.flying.to (length old.mesh) c.hear.new.self at
-    (count_again old.mesh old.nodes.items old.radio old.ready old.steps c.in-Some.flying.to c.make_room.new.self c.hear.new.self c.requires.kept) c.end_at.ensures.ready)))
+    let to = c.in-Some.flying.to in
+    let within = receiver_in old.mesh old.nodes.items old.radio old.ready old.steps c.args.id c.find.result c.in-Some.flying c.requires.kept c.find.ensures c.in-Some.is in
+    let there = is_there old.mesh old.nodes.items old.radio old.ready old.steps to c.requires.kept within in
+    let at = set_got_again old.nodes.items to c.make_room.new.self c.hear.new.self there in
+    let here = node_at old.mesh old.nodes.items old.radio old.ready old.steps to c.index_mut.result.now c.requires.kept within c.index_mut.ensures.value in
+    let same = read_back old.nodes.items to c.make_room.new.self c.index_mut-2.result.now there c.index_mut-2.ensures.value in
+    let j = joined c.index_mut.result.now c.index_mut-2.result.now c.hear.new.self _ (ap (λ n. n.core) same ∙ c.make_room.ensures.core) (ap (λ n. n.items) same ∙ c.make_room.ensures.items) (ap (λ n. n.size) same ∙ c.make_room.ensures.size) c.hear.ensures (c.end_with_item.ensures.sound c.hear.new.self at) in
+    at_end _ old (changed (changed old to c.make_room.new.self old.radio) to c.hear.new.self c.take.new.self) c.end_with_item.new.self _ packet c.end_with_item.ensures.others
+    (of_ends _ old _ _ _ _ _ _ (deliver_done old.mesh old.nodes.items old.radio c.take.new.self old.ready c.end_with_item.new.self.ready old.steps c.args.id to c.in-Some-take.taken
+    c.index_mut.result.now c.make_room.new.self c.hear.new.self packet c.requires.kept (taken old.mesh old.nodes.items old.radio old.ready old.steps c.args.id c.find.result c.in-Some.flying c.take.result c.in-Some-take.taken c.requires.kept c.find.ensures c.in-Some.is c.take.ensures.taken c.in-Some-take.is) c.take.ensures.others here j
+    (noted_joined old.mesh old.nodes.items old.radio old.ready c.end_with_item.new.self.ready old.steps to c.index_mut.result.now c.hear.new.self _ c.requires.kept here j c.end_with_item.ensures.ready)))
