@@ -1,12 +1,12 @@
 -- What an answer counts.
-use Rattle.std.proofs.Common.{◌≡◌, ℕ, ◌+◌, Bool, true, false, cond, List, Option, Some, None, refl, sym, ap, subst, ◌∙◌}
+use Rattle.std.proofs.Common.{◌≡◌, ℕ, ◌+◌, Bool, true, false, cond, List, Option, Some, None, refl, sym, ap, subst, ◌∙◌, arith}
 use Rattle.std.specs.List.{slice_get}
 use Rattle.mesh_base.specs.declared.events.Counter.{Counter}
 use Rattle.aodv_model.specs.Cores.{New}
 use Rattle.aodv_model.specs.Handlers.{Effect, Took}
 use Rattle.mesh_model.specs.Worlds as worlds
 use Rattle.mesh_model.specs.Worlds.{World, Node, Copy, Event, Give, Turn, Send, Ask, Link, Cut, Deliver, Lose, Double, Happening, Changed, Taken, Sent, CopyHeard, CopyLost, CopyDoubled, Outcome, Idle, Next, unless_full, send_of, ask_of, at_node, at_copy, find_copy, is_parcel, are_linked, push, step}
-use Rattle.mesh_model.specs.Accounts.{any, given, delivered, delivered_at, doubled_at, dropped, in_taken}
+use Rattle.mesh_model.specs.Accounts.{any, given, delivered, delivered_at, delivered_in, doubled_at, dropped, in_taken}
 use mir.Val.{bool_byte}
 use Rattle.mesh_text.specs.Schedule.{Sums, summed, idle_by}
 use Rattle.mesh_run.specs.Sums.{count_of}
@@ -131,18 +131,44 @@ delivers_taken old new (Deliver id) t f cs r is true_is counts = absurd (subst N
 delivers_taken old new (Lose id) t f cs r is true_is counts = absurd (subst NoTake is (no_take_copy old id).1)
 delivers_taken old new (Double id) t f cs r is true_is counts = absurd (subst NoTake is (no_take_copy old id).2)
 
+-- nothing was taken by what happened
+abbrev pub NotTaken : Happening → Type 0
+NotTaken Changed = Unit {0}
+NotTaken (Taken t f cs) = ⊥
+NotTaken (Sent f cs) = Unit {0}
+NotTaken (CopyHeard from to) = Unit {0}
+NotTaken (CopyLost c) = Unit {0}
+NotTaken (CopyDoubled id to parcel) = Unit {0}
+
+none_taken : (x : ℕ) (h : Happening) → NotTaken h → delivered_in any x h ≡ 0
+none_taken x Changed other = refl
+none_taken x (Taken t f cs) other = absurd other
+none_taken x (Sent f cs) other = refl
+none_taken x (CopyHeard from to) other = refl
+none_taken x (CopyLost c) other = refl
+none_taken x (CopyDoubled id to parcel) other = refl
+
+pub delivers_none : (old new : World) (e : Event) (h : Happening) → NotTaken h → step old e ≡ Next new h → delivered any e (step old e) ≡ 0
+delivers_none old new (Turn x) h other is = ap (delivered_at any x) is ∙ none_taken x h other
+delivers_none old new (Give x d b) h other is = refl
+delivers_none old new (Send x d) h other is = refl
+delivers_none old new (Ask x d) h other is = refl
+delivers_none old new (Link a b) h other is = refl
+delivers_none old new (Cut a b) h other is = refl
+delivers_none old new (Deliver id) h other is = refl
+delivers_none old new (Lose id) h other is = refl
+delivers_none old new (Double id) h other is = refl
+
 -- ---- all sums
 
-byte_is : (b : Bool) (n : ℕ) → n ≡ bool_byte b → n ≡ count_of b
+pub byte_is : (b : Bool) (n : ℕ) → n ≡ bool_byte b → n ≡ count_of b
 byte_is true n h = h
 byte_is false n h = h
 
-pub summed_is : (s : Sums) (e : Event) (o : Outcome) (idle gives delivers drops doubles : Bool) (a b c d k : ℕ)
-    → a ≡ bool_byte idle → b ≡ bool_byte gives → c ≡ bool_byte delivers → d ≡ bool_byte drops → k ≡ bool_byte doubles
-    → idle_by o ≡ count_of idle → given any e o ≡ count_of gives → delivered any e o ≡ count_of delivers → dropped any e o ≡ count_of drops → doubled_at o ≡ count_of doubles
-    → record { events = s.events + 1; idle = s.idle + a; given = s.given + b; delivered = s.delivered + c; lost = s.lost + d; copied = s.copied + k } ≡ summed s e o
-summed_is s e o idle gives delivers drops doubles a b c d k ea eb ec ed ek ia gb dc ld ck =
-    let t : ℕ → ℕ → ℕ → ℕ → ℕ → Sums = λ v w x y z. record { events = s.events + 1; idle = s.idle + v; given = s.given + w; delivered = s.delivered + x; lost = s.lost + y; copied = s.copied + z } in
-    ap (λ v. t v b c d k) (byte_is idle a ea ∙ sym ia) ∙ ap (λ w. t (idle_by o) w c d k) (byte_is gives b eb ∙ sym gb)
-    ∙ ap (λ x. t (idle_by o) (given any e o) x d k) (byte_is delivers c ec ∙ sym dc) ∙ ap (λ y. t (idle_by o) (given any e o) (delivered any e o) y k) (byte_is drops d ed ∙ sym ld)
-    ∙ ap (t (idle_by o) (given any e o) (delivered any e o) (dropped any e o)) (byte_is doubles k ek ∙ sym ck)
+pub no_more : (n k : ℕ) → k ≡ 0 → n ≡ n + k
+no_more n k none = omega arith
+
+-- each sum is what it was, and what the event adds
+pub summed_by : (s : Sums) (e : Event) (o : Outcome) (v w x y z : ℕ) → v ≡ s.idle + idle_by o → w ≡ s.given + given any e o → x ≡ s.delivered + delivered any e o → y ≡ s.lost + dropped any e o → z ≡ s.copied + doubled_at o
+    → record { events = s.events + 1; idle = v; given = w; delivered = x; lost = y; copied = z } ≡ summed s e o
+summed_by s e o v w x y z iv gw dx ly cz = λ i. record { events = s.events + 1; idle = iv i; given = gw i; delivered = dx i; lost = ly i; copied = cz i }

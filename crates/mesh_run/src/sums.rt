@@ -2,10 +2,10 @@
 ghost use Rattle.std.specs.Prelude.{◌≡◌, ◌<◌, ◌^◌, ℕ, List};
 ghost use Rattle.mesh_base.specs.Meshes.{Nodes};
 ghost use Rattle.mesh_model.specs.Worlds.{World, Event as an_event, Changed, Next, step};
-ghost use Rattle.mesh_model.specs.Accounts.{any, given, delivered, doubled_at, dropped, in_taken, in_dropped};
+ghost use Rattle.mesh_model.specs.Accounts.{any, given, delivered, dropped, in_taken, in_dropped};
 ghost use Rattle.mesh_meaning.specs.Events.{event_of};
 ghost use Rattle.mesh_meaning.specs.Answers.{outcome_in, took_in, IsDoneInMesh, IsTookInMesh};
-ghost use Rattle.mesh_text.specs.Schedule.{summed, idle_by};
+ghost use Rattle.mesh_text.specs.Schedule.{summed};
 ghost use Rattle.mesh_run.specs.Sums.{sums_of, AreCounts, count_of};
 
 use aodv_wire::is_data;
@@ -47,45 +47,13 @@ fn is_heard_data(took: &Took) -> bool
     }
 }
 
-// Whether nothing was done.
-fn is_idle(done: &Done) -> bool
-    ensures { (mesh : Nodes) (x : ℕ) (w : World) (packet : List ℕ)
-        → idle_by (outcome_in mesh x w done.now packet) ≡ count_of result }
-{
-    match done {
-        Done::Idle => true,
-        Done::Changed => false,
-        Done::Taken { .. } => false,
-        Done::Sent { .. } => false,
-        Done::Heard { .. } => false,
-        Done::Lost { .. } => false,
-        Done::Doubled { .. } => false,
-    }
-}
-
+// Whether a datum is given, where something changes.
 fn is_give(e: &Event<'_>) -> bool
     ensures { (w : World) → given any (event_of e.now) (Next w Changed) ≡ count_of result }
 {
     match e {
         Event::Give { .. } => true,
         _ => false,
-    }
-}
-
-// Whether a datum was given.
-fn gives(e: &Event<'_>, done: &Done) -> bool
-    ensures { (mesh : Nodes) (x : ℕ) (old new : World) (packet : List ℕ)
-        → step old (event_of e.now) ≡ outcome_in mesh x new done.now packet
-        → given any (event_of e.now) (step old (event_of e.now)) ≡ count_of result }
-{
-    match done {
-        Done::Changed => is_give(e),
-        Done::Idle => false,
-        Done::Taken { .. } => false,
-        Done::Sent { .. } => false,
-        Done::Heard { .. } => false,
-        Done::Lost { .. } => false,
-        Done::Doubled { .. } => false,
     }
 }
 
@@ -125,22 +93,6 @@ fn drops(done: &Done) -> bool
     }
 }
 
-// Whether a data packet was doubled.
-fn doubles(done: &Done) -> bool
-    ensures { (mesh : Nodes) (x : ℕ) (w : World) (packet : List ℕ)
-        → doubled_at (outcome_in mesh x w done.now packet) ≡ count_of result }
-{
-    match done {
-        Done::Doubled { parcel, .. } => *parcel,
-        Done::Idle => false,
-        Done::Changed => false,
-        Done::Taken { .. } => false,
-        Done::Sent { .. } => false,
-        Done::Heard { .. } => false,
-        Done::Lost { .. } => false,
-    }
-}
-
 impl Sums {
     /// Nothing yet.
     pub fn new() -> Sums
@@ -175,10 +127,17 @@ impl Sums {
         ensures counts { AreCounts (sums_of self.new) }
     {
         self.events += 1;
-        self.idle += u64::from(is_idle(done));
-        self.given += u64::from(gives(e, done));
-        self.delivered += u64::from(delivers(done));
-        self.lost += u64::from(drops(done));
-        self.copied += u64::from(doubles(done));
+        match done {
+            Done::Idle => self.idle += 1,
+            Done::Changed => self.given += u64::from(is_give(e)),
+            Done::Taken { .. } => {
+                self.delivered += u64::from(delivers(done));
+                self.lost += u64::from(drops(done));
+            }
+            Done::Sent { .. } => {}
+            Done::Heard { .. } => {}
+            Done::Lost { .. } => self.lost += u64::from(drops(done)),
+            Done::Doubled { parcel, .. } => self.copied += u64::from(*parcel),
+        }
     }
 }
