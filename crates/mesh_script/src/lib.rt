@@ -8,6 +8,7 @@ mod line;
 mod parse;
 mod print;
 mod shape;
+mod usual;
 mod words;
 
 pub use forms::{Arguments, Read, arguments_of};

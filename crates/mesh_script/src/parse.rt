@@ -11,12 +11,13 @@ ghost use Rattle.mesh_script.specs.Seen.{seen_line, accepted_of, counted, IsAllo
 use crate::forms::Arguments;
 use crate::line::Line;
 use crate::shape::{Shape, shape_of};
+use crate::usual::usual_line;
 use crate::words::Mention;
 use mesh_base::{Event, MOST_NODES, Mesh};
 use mesh_grammar::{Command, LineFault};
 
 // No line but a `node` line comes before the first node.
-fn after_nodes(mesh: &Mesh) -> Result<(), LineFault>
+pub(crate) fn after_nodes(mesh: &Mesh) -> Result<(), LineFault>
     ensures { HasNodes mesh.now result }
 {
     if mesh.is_empty() {
@@ -25,7 +26,7 @@ fn after_nodes(mesh: &Mesh) -> Result<(), LineFault>
     Ok(())
 }
 
-fn index(mesh: &Mesh, node: Mention) -> Result<usize, LineFault>
+pub(crate) fn index(mesh: &Mesh, node: Mention) -> Result<usize, LineFault>
     ensures value { IfOk result (λ i. index_of mesh.now (mention_of node).address ≡ Some i) }
     ensures none { IfErr result (λ f. index_of mesh.now (mention_of node).address ≡ None) }
     ensures fault { IfErr result (λ f. f ≡ LineFault.Unknown node.span) }
@@ -179,6 +180,9 @@ pub fn parse_line<'a>(bytes: &'a [u8], mesh: &Mesh, started: bool) -> Result<Lin
 {
     // There are at most 200 nodes.
     let _size = mesh.len();
+    if let Some(line) = usual_line(bytes, mesh) {
+        return Ok(line);
+    }
     match &shape_of(bytes) {
         Ok(said) => line_at(said, mesh, started),
         Err(fault) => Err(*fault),
