@@ -10,7 +10,7 @@ use crate::casts::{Cast, Casts, Least, find, find_next, front_of, launch, least_
 use crate::clearing::clear;
 use crate::rooms::Rooms;
 use aodv_wire::is_data;
-use mesh_base::{Flying, FlyingView, MOST_NODES, NoMemory, NodeSet, Room};
+use mesh_base::{Bytes, Flying, FlyingView, MOST_NODES, NoMemory, NodeSet, Room};
 use std::alloc::Global;
 use std::marker::Model;
 
@@ -55,6 +55,19 @@ fn if_data(packet: &[u8], copies: usize) -> usize
     ensures { result ≡ (if is_data packet.now then copies else 0) }
 {
     if is_data(packet) { copies } else { 0 }
+}
+
+// The bytes, in this room's memory. Short ones, which most packets have, are copied here without a
+// call.
+#[inline(always)]
+fn copied(bytes: &[u8], room: Room) -> Bytes
+    requires { length bytes.now ≤ room }
+    ensures { result ≡ bytes.now }
+{
+    match Bytes::short(bytes) {
+        Some(own) => own,
+        None => room.fill(bytes),
+    }
 }
 
 impl Copies {
@@ -203,7 +216,7 @@ impl Copies {
             id,
             from: cast.from,
             to: spot.to,
-            bytes: room.fill(cast.bytes.as_slice()),
+            bytes: copied(cast.bytes.as_slice(), room),
         };
         let less = if_data(cast.bytes.as_slice(), 1);
         let front = front_of(self.least);

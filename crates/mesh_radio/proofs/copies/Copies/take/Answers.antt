@@ -29,8 +29,8 @@ returns-in_err-spot-clause-others c =
     let flying : now.flying ≡ without now.flying c.args.id = sym same ∙ sym (without_none (copies_of es) c.args.id none) ∙ ap (λ fs. without fs c.args.id) same in
     (λ i. record now { flying = flying i })
 
-pub fill-requires : goal.fill-requires
-fill-requires c =
+pub copied-requires : goal.copied-requires
+copied-requires c =
     let inside = c.self.inside in
     let cast = c.in_ok-cast.cast.now in
     let copy = found-copy inside.casts.entries 1 inside.next c.args.id c.in_ok-spot.spot.place c.in_ok-spot.spot.to (c.in_ok-cast.field-0-0.now, cast) (c.self.invariant.0).casts.rising c.in_ok-spot.ensures.some (sym c.in_ok-cast.ensures.entry) in
@@ -114,7 +114,7 @@ pub returns-clause-taken : goal.returns-clause-taken
 returns-clause-taken c =
     let inside = c.self.inside in
     let cast = c.in_ok-cast.cast.now in
-    ap (λ bs. Some (record { id = c.args.id; from = cast.from; to = c.in_ok-spot.spot.to; bytes = bs })) (c.fill.ensures ∙ c.as_slice.ensures)
+    ap (λ bs. Some (record { id = c.args.id; from = cast.from; to = c.in_ok-spot.spot.to; bytes = bs })) (c.copied.ensures ∙ c.as_slice.ensures)
     ∙ sym (found-copy inside.casts.entries 1 inside.next c.args.id c.in_ok-spot.spot.place c.in_ok-spot.spot.to (c.in_ok-cast.field-0-0.now, cast) (c.self.invariant.0).casts.rising c.in_ok-spot.ensures.some (sym c.in_ok-cast.ensures.entry))
     ∙ ap (λ (v : Flights). find_copy v.flying c.args.id) c.self.view_is
 
