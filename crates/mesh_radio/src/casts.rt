@@ -2,7 +2,7 @@
 ghost use Rattle.std.specs.Prelude.{◌≡◌, ℕ, ◌<◌, ◌≤◌, ◌+◌, ◌-◌, ◌^◌, ◌++◌, ◌∷◌, [], slice_get, Some, IfSome, IfNone};
 ghost use Rattle.std.specs.Map.{keys_of};
 ghost use Rattle.indexmap.specs.IndexMap.{spare, with_value_at};
-ghost use Rattle.mesh_base.specs.Members.{member_list};
+ghost use Rattle.mesh_base.specs.Members.{member_list, rank};
 ghost use Rattle.mesh_radio.specs.Casts.{Entry, AreCasts, AreLeft, IsFound, IsNext, IsSplit, IsFrom, AreGone, IsLeast, IsLeastOf, NoneUpTo, HasNone, HasNoneFrom, size, without_to};
 
 use crate::places::place_near;
@@ -36,6 +36,16 @@ pub struct Least {
     pub spot: Spot,
 }
 
+// How many members are at most i, so many of them below it.
+#[tactic(auto, using(crate::proofs::Receivers::rank_after_member, crate::proofs::Receivers::rank_after_other))]
+fn count_through(to: &NodeSet, i: usize, below: usize) -> usize
+    requires below { below ≡ rank to.now i }
+    requires few { below ≤ 256 }
+    ensures { result ≡ rank to.now (i + 1) }
+{
+    if to.has(i) { below + 1 } else { below }
+}
+
 // The member of this rank. Where all nodes below it are members, or all but one, as in a mesh
 // where all are linked, it is found at once.
 #[tactic(auto, using(crate::proofs::Receivers::member_of_rank))]
@@ -44,10 +54,11 @@ fn receiver(to: &NodeSet, rank: usize) -> Option<usize>
     ensures below { IfSome result (λ m. m < 256) }
 {
     if rank < 255 {
-        if to.has(rank) && to.count_below(rank) == rank {
+        let below = to.count_below(rank);
+        if to.has(rank) && below == rank {
             return Some(rank);
         }
-        if to.has(rank + 1) && to.count_below(rank + 1) == rank {
+        if to.has(rank + 1) && count_through(to, rank, below) == rank {
             return Some(rank + 1);
         }
     }
