@@ -41,6 +41,7 @@ impl Ready {
     }
 
     /// Notes what node x, of so many nodes, may do now.
+    #[inline(always)]
     pub(crate) fn note(&mut self, x: usize, node: &Node, nodes: usize)
         requires { x < 256 }
         ensures { self.new ≡ noted self.old x node.now nodes }
