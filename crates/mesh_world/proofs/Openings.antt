@@ -85,7 +85,7 @@ world_opens v mesh nodes size count all =
     let ns : map (node_in mesh) nodes ≡ openings v 0 (map (λ p. p.1) mesh) = nodes_open v mesh 0 mesh nodes count (λ j l. let e : 0 + j ≡ j = omega arith in ap (first_at mesh) e) all in
     λ i. record { nodes = ns i; links = (radios.opening size).links; ever = (radios.opening size).ever; flying = []; next_copy = 1 }
 
-sound_opening : (v : Variant) (mesh : Nodes) → IsMesh mesh → 1 ≤ length mesh → length (start v (first_numbers mesh)).nodes ≡ length mesh → IsSoundWorld (worlds.opening v mesh)
+pub sound_opening : (v : Variant) (mesh : Nodes) → IsMesh mesh → 1 ≤ length mesh → length (start v (first_numbers mesh)).nodes ≡ length mesh → IsSoundWorld (worlds.opening v mesh)
 sound_opening v mesh is some count =
     let kept = start_keeps v (first_numbers mesh) (positive mesh is.positive) in
     let none = start_empty any v (first_numbers mesh) in

@@ -14,6 +14,7 @@ use Rattle.mesh_world.specs.Noted.{AreReadyIn}
 use Rattle.mesh_world.specs.Ends.{AreOfWorld}
 use Rattle.mesh_world.specs.Counted.{AreCounted}
 use Rattle.mesh_world.proofs.Frames.{count_of, node_at, shown_at, size_at}
+use Rattle.mesh_world.proofs.Turns.{kept_node}
 
 pub ready_in : (mesh : Nodes) (nodes : List NodeSeen) (radio : RadioState) (ready : Ready) (steps : ℕ) → IsKept mesh nodes radio ready steps → AreReadyIn mesh nodes ready
 ready_in mesh nodes radio ready steps k = record { count = count_of mesh nodes radio ready steps k; sets = k.sets }
@@ -51,6 +52,12 @@ pub node_seen : (mesh : Nodes) (nodes : List NodeSeen) (radio : RadioState) (rea
 node_seen mesh nodes radio ready steps x w n view k l is =
     subst (λ (v : WorldSeen). slice_get (v.world).nodes x ≡ Some (node_in v.mesh n)) view
     (shown_at mesh nodes radio x n (node_at mesh nodes radio ready steps x n k (subst (λ (v : WorldSeen). x < length v.mesh) (sym view) l) is))
+
+pub written_seen : (mesh : Nodes) (nodes : List NodeSeen) (radio : RadioState) (ready : Ready) (steps x : ℕ) (w : WorldSeen) (n : NodeSeen) → seen_of mesh nodes radio steps ≡ w → IsKept mesh nodes radio ready steps → x < length w.mesh → n ≡ slice_index_or nodes x n
+    → AllByRecursion (IsWrittenItem w.mesh) n.items
+written_seen mesh nodes radio ready steps x w n view k l is =
+    subst (λ (v : WorldSeen). AllByRecursion (IsWrittenItem v.mesh) n.items) view
+    (kept_node mesh nodes radio ready steps x n k (node_at mesh nodes radio ready steps x n k (subst (λ (v : WorldSeen). x < length v.mesh) (sym view) l) is)).items
 
 pub size_seen : (mesh : Nodes) (nodes : List NodeSeen) (radio : RadioState) (ready : Ready) (steps x : ℕ) (w : WorldSeen) (n : NodeSeen) → seen_of mesh nodes radio steps ≡ w → IsKept mesh nodes radio ready steps → x < length w.mesh → n ≡ slice_index_or nodes x n
     → n.size ≡ length w.mesh

@@ -4,7 +4,7 @@ ghost use Rattle.std.specs.List.{AllByRecursion};
 ghost use Rattle.mesh_model.specs.Choices as choices;
 ghost use Rattle.mesh_model.specs.Routes as routes;
 ghost use Rattle.mesh_model.specs.Accounts as accounts;
-ghost use Rattle.mesh_meaning.specs.Packets.{IsWrittenCopy, copy_in};
+ghost use Rattle.mesh_meaning.specs.Packets.{IsWrittenCopy, IsWrittenItem, copy_in};
 ghost use Rattle.mesh_meaning.specs.Events.{event_of};
 ghost use Rattle.mesh_world.specs.Seen.{WorldSeen, opening, IsSoundWorld, node_in};
 ghost use Rattle.mesh_model.specs.Accounts.{any};
@@ -63,6 +63,7 @@ impl World {
     pub fn node(&self, i: usize) -> &Node
         requires { i < length self.now.mesh }
         ensures node { slice_get self.now.world.nodes i ≡ Some (node_in self.now.mesh result.now) }
+        ensures written { AllByRecursion (IsWrittenItem self.now.mesh) result.now.items }
         ensures size { result.now.size ≡ length self.now.mesh }
     {
         &self.parts.nodes[i]

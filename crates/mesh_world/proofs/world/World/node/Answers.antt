@@ -1,6 +1,6 @@
 use Rattle.std.proofs.Common.{refl, length}
 use Rattle.mesh_world.proofs.Moves.{within}
-use Rattle.mesh_world.proofs.Views.{below_count, node_seen, size_seen}
+use Rattle.mesh_world.proofs.Views.{below_count, node_seen, size_seen, written_seen}
 use Rattle.mesh_world.proofs.world.World.node.Goals as goal
 
 pub index-requires : goal.index-requires
@@ -12,6 +12,11 @@ pub returns-clause-node : goal.returns-clause-node
 returns-clause-node c =
     let p = c.self.inside.parts in
     node_seen p.mesh p.nodes.items p.radio p.ready p.steps c.args.i c.args.self.now c.index.result.now c.self.view_is c.self.invariant c.requires c.index.ensures
+
+pub returns-clause-written : goal.returns-clause-written
+returns-clause-written c =
+    let p = c.self.inside.parts in
+    written_seen p.mesh p.nodes.items p.radio p.ready p.steps c.args.i c.args.self.now c.index.result.now c.self.view_is c.self.invariant c.requires c.index.ensures
 
 pub returns-clause-size : goal.returns-clause-size
 returns-clause-size c =
