@@ -1,88 +1,19 @@
 -- The pieces of the bytes that a text has left, by the next line of them.
-use Rattle.std.proofs.Common.{◌≡◌, ℕ, zero, suc, ◌+◌, ◌-◌, ◌<◌, ◌≤◌, Bool, true, false, cond, leb, ltb, eqb, List, [], ◌∷◌, length, take, refl, sym, ap, ap₂, ◌∙◌, arith}
+use Rattle.std.proofs.Common.{◌≡◌, ℕ, ◌+◌, ◌-◌, ◌<◌, ◌≤◌, Bool, true, false, cond, leb, ltb, List, [], ◌∷◌, length, take, refl, sym, ap, ap₂, ◌∙◌, arith}
 use Rattle.std.specs.Prelude.{nat_lt}
-use Rattle.std.specs.List.{onto_first}
 use Rattle.std.proofs.lemmas.Bool.Decides.{nat_tests}
-use Rattle.std.proofs.lemmas.List.Splits.{length-slice_split}
 use Rattle.std.proofs.Math.Seq.{take_all}
 use Rattle.mesh_base.specs.Parts.{parts}
 use Rattle.mesh_io.specs.declared.limits.Limits.{Limits}
-use Rattle.mesh_io.specs.NextLines.{FirstLine, first_line, with_byte, line_size, NextLine, End, Line, TooLong, TooMuch, next_of}
+use Rattle.mesh_io.proofs.FirstParts.{first_length, nothing_after, whole_line, parts_within, parts_past, some_parts, goes_past, fits_in}
+use Rattle.mesh_io.specs.NextLines.{FirstLine, first_line, line_size, NextLine, End, Line, TooLong, TooMuch, next_of}
 use Rattle.mesh_check.specs.Pieces.{Piece, Whole, Past, piece_of, last_piece, pieces_of}
-
--- ---- the parts at the first LF
-
--- how many bytes come after the first line, and its LF
-abbrev after_line : FirstLine → ℕ
-after_line f = cond f.ends (1 + length f.rest) 0
-
-first_length : (bytes : List ℕ) → length bytes ≡ length (first_line bytes).line + after_line (first_line bytes)
-first_length [] = refl
-first_length (b ∷ bs) = by_test (eqb b 10) (first_line bs) (first_length bs)
-  where
-    by_test : (t : Bool) (f : FirstLine) → length bs ≡ length f.line + after_line f
-        → length (b ∷ bs) ≡ length (cond t (record { line = []; ends = true; rest = bs }) (with_byte b f)).line + after_line (cond t (record { line = []; ends = true; rest = bs }) (with_byte b f))
-    by_test true f h = omega arith
-    by_test false f h = omega arith
-
-pub nothing_after : (bytes : List ℕ) → (first_line bytes).ends ≡ false → (first_line bytes).rest ≡ []
-nothing_after [] unended = refl
-nothing_after (b ∷ bs) unended = by_test (eqb b 10) (first_line bs) (nothing_after bs) unended
-  where
-    by_test : (t : Bool) (f : FirstLine) → (f.ends ≡ false → f.rest ≡ []) → (cond t (record { line = []; ends = true; rest = bs }) (with_byte b f)).ends ≡ false
-        → (cond t (record { line = []; ends = true; rest = bs }) (with_byte b f)).rest ≡ []
-    by_test true f h unended = absurd (let P : ⊥ = cc in P)
-    by_test false f h unended = h unended
-
-whole_line : (bytes : List ℕ) → (first_line bytes).ends ≡ false → (first_line bytes).line ≡ bytes
-whole_line [] unended = refl
-whole_line (b ∷ bs) unended = by_test (eqb b 10) (first_line bs) (whole_line bs) unended
-  where
-    by_test : (t : Bool) (f : FirstLine) → (f.ends ≡ false → f.line ≡ bs) → (cond t (record { line = []; ends = true; rest = bs }) (with_byte b f)).ends ≡ false
-        → (cond t (record { line = []; ends = true; rest = bs }) (with_byte b f)).line ≡ b ∷ bs
-    by_test true f h unended = absurd (let P : ⊥ = cc in P)
-    by_test false f h unended = ap (λ l. b ∷ l) (h unended)
-
--- a line whose LF is among the first bytes
-parts_within : (bytes : List ℕ) (room : ℕ) → (first_line bytes).ends ≡ true → length (first_line bytes).line < room
-    → parts 10 (take room bytes) ≡ (first_line bytes).line ∷ parts 10 (take (room - (length (first_line bytes).line + 1)) (first_line bytes).rest)
-parts_within [] room ends short = absurd (let P : ⊥ = cc in P)
-parts_within (b ∷ bs) zero ends short = absurd (omega arith)
-parts_within (b ∷ bs) (suc r) ends short = by_test (eqb b 10) (first_line bs) (parts_within bs r) ends short
-  where
-    by_test : (t : Bool) (f : FirstLine) → (f.ends ≡ true → length f.line < r → parts 10 (take r bs) ≡ f.line ∷ parts 10 (take (r - (length f.line + 1)) f.rest))
-        → (cond t (record { line = []; ends = true; rest = bs }) (with_byte b f)).ends ≡ true
-        → length (cond t (record { line = []; ends = true; rest = bs }) (with_byte b f)).line < suc r
-        → cond t ([] ∷ parts 10 (take r bs)) (onto_first b (parts 10 (take r bs)))
-        ≡ (cond t (record { line = []; ends = true; rest = bs }) (with_byte b f)).line
-        ∷ parts 10 (take (suc r - (length (cond t (record { line = []; ends = true; rest = bs }) (with_byte b f)).line + 1)) (cond t (record { line = []; ends = true; rest = bs }) (with_byte b f)).rest)
-    by_test true f h ends short =
-        let same : r ≡ suc r - (0 + 1) = omega arith in
-        ap (λ k. [] ∷ parts 10 (take k bs)) same
-    by_test false f h ends short =
-        let same : r - (length f.line + 1) ≡ suc r - (suc (length f.line) + 1) = omega arith in
-        ap (onto_first b) (h ends (omega arith)) ∙ ap (λ k. (b ∷ f.line) ∷ parts 10 (take k f.rest)) same
-
--- and where it isn't
-parts_past : (bytes : List ℕ) (room : ℕ) → ((first_line bytes).ends ≡ true → room ≤ length (first_line bytes).line) → parts 10 (take room bytes) ≡ take room bytes ∷ []
-parts_past bytes zero past = refl
-parts_past [] (suc r) past = refl
-parts_past (b ∷ bs) (suc r) past = by_test (eqb b 10) (first_line bs) (parts_past bs r) past
-  where
-    by_test : (t : Bool) (f : FirstLine) → ((f.ends ≡ true → r ≤ length f.line) → parts 10 (take r bs) ≡ take r bs ∷ [])
-        → ((cond t (record { line = []; ends = true; rest = bs }) (with_byte b f)).ends ≡ true → suc r ≤ length (cond t (record { line = []; ends = true; rest = bs }) (with_byte b f)).line)
-        → cond t ([] ∷ parts 10 (take r bs)) (onto_first b (parts 10 (take r bs))) ≡ (b ∷ take r bs) ∷ []
-    by_test true f h past = absurd (let low : suc r ≤ 0 = past refl in omega arith)
-    by_test false f h past = ap (onto_first b) (h (λ e. let low = past e in omega arith))
 
 -- ---- pieces
 
 -- the pieces of these bytes, where so many were given
 abbrev pub pieces_at : Limits → ℕ → List ℕ → List Piece
 pieces_at most given bytes = pieces_of most (nat_lt (most.input - given) (length bytes)) (parts 10 (take (most.input - given) bytes))
-
-some_parts : (bytes : List ℕ) → 1 ≤ length (parts 10 bytes)
-some_parts bytes = omega (arith, length-slice_split (λ b. eqb b 10) bytes)
 
 first_piece : (most : Limits) (more : Bool) (l : List ℕ) (ls : List (List ℕ)) → 1 ≤ length ls → pieces_of most more (l ∷ ls) ≡ piece_of most l ∷ pieces_of most more ls
 unfolding pieces_of
@@ -119,20 +50,6 @@ last_more most (b ∷ bs) = refl
 last_short : (most : Limits) (l : List ℕ) → 1 ≤ length l → length l ≤ most.line → last_piece most false l ≡ Whole l ∷ []
 last_short most [] some h = absurd (omega arith)
 last_short most (b ∷ bs) some h = ap (λ p. p ∷ []) (piece_short most (b ∷ bs) h)
-
-goes_past : (room count : ℕ) → room < count → nat_lt room count ≡ true
-goes_past room count h = by_test (ltb room count) refl
-  where
-    by_test : (b : Bool) → ltb room count ≡ b → b ≡ true
-    by_test true e = refl
-    by_test false e = absurd (grind (arith, nat_tests))
-
-fits_in : (room count : ℕ) → count ≤ room → nat_lt room count ≡ false
-fits_in room count h = by_test (ltb room count) refl
-  where
-    by_test : (b : Bool) → ltb room count ≡ b → b ≡ false
-    by_test false e = refl
-    by_test true e = absurd (grind (arith, nat_tests))
 
 -- none are left
 pub pieces_none : (most : Limits) (given : ℕ) → pieces_at most given [] ≡ []

@@ -1,37 +1,103 @@
 -- What the run of any schedule comes to.
-use Rattle.std.proofs.Common.{◌≡◌, ◌≢◌, ℕ, false, List, Option, Some, None, IfSome, subst}
+use Rattle.std.proofs.Common.{◌≡◌, ◌≢◌, ℕ, Bool, false, List, Option, Some, None, IfSome, refl, sym, subst, ◌∙◌, inl, inr}
 use Rattle.mesh_base.specs.declared.events.Variant.{Variant}
-use Rattle.mesh_model.specs.Walks.{Cycle}
-use Rattle.mesh_text.specs.Runs.{world_after}
+use Rattle.mesh_io.specs.Cause.{Rose}
+use Rattle.mesh_text.specs.Schedule.{Moment, opening}
+use Rattle.mesh_text.specs.Text.{Written, Finished, text_on, text_of_input}
 use Rattle.mesh_text.proofs.RunLaws.{runs_are_loop_free}
 use Rattle.mesh_make.proofs.Allowed.{made_allowed}
 use Rattle.mesh_run.specs.declared.status.Status.{Status}
 use Rattle.mesh_run.specs.declared.status.Status.TheVariants as status
+use Rattle.mesh_run.specs.declared.say.Say.{Say}
+use Rattle.mesh_run.specs.declared.say.Say.TheVariants.{All, Last, Faults}
+use Rattle.mesh_run.specs.Told.{said, say_by, IsOutput, IsOutputFrom}
+use Rattle.mesh_cli.specs.declared.words.Plan.{Plan}
 use Rattle.mesh_cli.specs.declared.words.Command.{Command}
 use Rattle.mesh_cli.specs.declared.words.Command.TheVariants.{Run, Make, Trial}
 use Rattle.mesh_cli.specs.Words.{IsAllowed}
-use Rattle.mesh_cli.specs.Does.{IsCommandRun, IsWritten, reads, schedule_of, variant_of, made_by}
+use Rattle.mesh_cli.specs.Does.{IsCommandRun, IsWritten, IsDoneOrShort, Completes, reads, made_by}
 
-none_round : (v : Variant) (schedule : Option (List ℕ)) → IfSome schedule (λ bytes. (k d : ℕ) → ¬ (Cycle (world_after v bytes k) d))
-none_round v None = tt
-none_round v (Some bytes) = λ k d. runs_are_loop_free v bytes k d
-
--- in no world of its schedule's run is there a cycle
-pub no_command_loops : (command : Option Command) (left : Option (List ℕ))
-    → IfSome command (λ c. IfSome (schedule_of c left) (λ bytes. (k d : ℕ) → ¬ (Cycle (world_after (variant_of c) bytes k) d)))
-no_command_loops None left = tt
-no_command_loops (Some c) left = none_round (variant_of c) (schedule_of c left)
-
-no_bad : (c : Command) (left a b : Option (List ℕ)) (s : Status) (n : ℕ) → IsAllowed c → IsCommandRun c left a b s → reads c ≡ false → s ≢ status.BadLine n
-no_bad (Run variant quiet) left a b s n allowed t reads_not e = cc
-no_bad (Make plan) left a b s n allowed t reads_not e = let P : Status → Type 0 = λ answer. IsWritten a b (made_by plan) answer in subst P e t
-no_bad (Trial variant plan) left a b s n allowed t reads_not e =
-    let P : Status → Type 0 = λ answer. IsCommandRun (Trial variant plan) left a b answer in
-    made_allowed variant plan.seed plan.nodes plan.steps n allowed.0 allowed.1 allowed.2 allowed.3 (subst P e t).0
+no_bad : (c : Command) (left after a b : Option (List ℕ)) (s : Status) (n : ℕ) → IsAllowed c → IsCommandRun c left after a b s → reads c ≡ false → s ≢ status.BadLine n
+no_bad (Run variant quiet) left after a b s n allowed t reads_not e = cc
+no_bad (Make plan) left after a b s n allowed t reads_not e = let P : Status → Type 0 = λ answer. IsWritten a b (made_by plan) answer in subst P e t
+no_bad (Trial variant plan) left after a b s n allowed t reads_not e =
+    let P : Status → Type 0 = λ answer. IsCommandRun (Trial variant plan) left after a b answer in
+    made_allowed variant plan.seed plan.nodes plan.steps n allowed.0 allowed.1 allowed.2 allowed.3 ((subst P e t).0).0
 
 -- no line of a made schedule is refused
-pub no_command_bad : (command : Option Command) (c : Command) (left a b : Option (List ℕ)) (s : Status) → Some c ≡ command → IsAllowed c → IsCommandRun c left a b s
+pub no_command_bad : (command : Option Command) (c : Command) (left after a b : Option (List ℕ)) (s : Status) → Some c ≡ command → IsAllowed c → IsCommandRun c left after a b s
     → IfSome command (λ x. reads x ≡ false → (n : ℕ) → s ≢ status.BadLine n)
-no_command_bad command c left a b s e allowed t =
+no_command_bad command c left after a b s e allowed t =
     let P : Option Command → Type 0 = λ o. IfSome o (λ x. reads x ≡ false → (n : ℕ) → s ≢ status.BadLine n) in
-    subst P e (λ reads_not n. no_bad c left a b s n allowed t reads_not)
+    subst P e (λ reads_not n. no_bad c left after a b s n allowed t reads_not)
+
+-- what was told of a run, and that it is loop free
+pub runs_so : (variant : Variant) (quiet : Bool) (left after a b : Option (List ℕ)) (s : Status) → IfSome left (λ bytes. IsOutputFrom (say_by quiet) (opening variant) bytes after a b s)
+    → IsCommandRun (Run variant quiet) left after a b s
+runs_so variant quiet None after a b s t = tt
+runs_so variant quiet (Some bytes) after a b s t = (t, λ k d. runs_are_loop_free variant bytes k d)
+
+-- the same of a made schedule, whose source has no fault
+pub trial_so : (variant : Variant) (plan : Plan) (bytes : List ℕ) (left after new a b : Option (List ℕ)) (s : Status) → bytes ≡ made_by plan → s ≢ status.ReadFault → IsOutputFrom Last (opening variant) bytes new a b s
+    → IsCommandRun (Trial variant plan) left after a b s
+unfolding text_of_input
+trial_so variant plan bytes left after new a b s same apart t =
+    (by_status s apart (subst (λ x. IsOutputFrom Last (opening variant) x new a b s) same t), λ k d. runs_are_loop_free variant (made_by plan) k d)
+  where
+    by_status : (s : Status) → s ≢ status.ReadFault → IsOutputFrom Last (opening variant) (made_by plan) new a b s → IsOutput a b (said Last (text_of_input variant (made_by plan))) s
+    by_status status.Done apart t = t
+    by_status (status.BadLine n) apart t = t
+    by_status (status.Full n) apart t = t
+    by_status status.ReadFault apart t = absurd (apart refl)
+    by_status status.WriteFault apart t = t
+    by_status status.NoMemory apart t = t
+    by_status status.Usage apart t = t
+
+-- ---- completeness
+
+-- where nothing has failed, and each line is allowed and no counter full, a run is done, unless memory runs out
+run_completes : (say : Say) (w : Written) (a b : Option (List ℕ)) (s : Status) → (s ≡ status.ReadFault → ⊥) → (s ≡ status.WriteFault → ⊥) → IsOutput a b (said say w) s → w.verdict ≡ Finished → IsDoneOrShort s
+run_completes say w a b status.Done read write t finished = inl refl
+run_completes All w a b (status.BadLine n) read write t finished = absurd (let clash = sym finished ∙ t.0 in let P : ⊥ = cc in P)
+run_completes Last w a b (status.BadLine n) read write t finished = absurd (let clash = sym finished ∙ t.0 in let P : ⊥ = cc in P)
+run_completes Faults w a b (status.BadLine n) read write t finished = absurd (let clash = sym finished ∙ t.0 in let P : ⊥ = cc in P)
+run_completes All w a b (status.Full n) read write t finished = absurd (let clash = sym finished ∙ t.0 in let P : ⊥ = cc in P)
+run_completes Last w a b (status.Full n) read write t finished = absurd (let clash = sym finished ∙ t.0 in let P : ⊥ = cc in P)
+run_completes Faults w a b (status.Full n) read write t finished = absurd (let clash = sym finished ∙ t.0 in let P : ⊥ = cc in P)
+run_completes say w a b status.ReadFault read write t finished = absurd (read refl)
+run_completes say w a b status.WriteFault read write t finished = absurd (write refl)
+run_completes say w a b status.NoMemory read write t finished = inr refl
+run_completes say w a b status.Usage read write t finished = absurd t
+
+from_completes : (say : Say) (m : Moment) (bytes : List ℕ) (new a b : Option (List ℕ)) (s : Status) → (s ≡ status.ReadFault → ⊥) → (s ≡ status.WriteFault → ⊥) → IsOutputFrom say m bytes new a b s → (text_on m bytes).verdict ≡ Finished
+    → IsDoneOrShort s
+from_completes say m bytes new a b status.Done read write t = run_completes say (text_on m bytes) a b status.Done read write t
+from_completes say m bytes new a b (status.BadLine n) read write t = run_completes say (text_on m bytes) a b (status.BadLine n) read write t
+from_completes say m bytes new a b (status.Full n) read write t = run_completes say (text_on m bytes) a b (status.Full n) read write t
+from_completes say m bytes new a b status.ReadFault read write t = absurd (read refl)
+from_completes say m bytes new a b status.WriteFault read write t = absurd (write refl)
+from_completes say m bytes new a b status.NoMemory read write t = run_completes say (text_on m bytes) a b status.NoMemory read write t
+from_completes say m bytes new a b status.Usage read write t = absurd t
+
+make_completes : (a b : Option (List ℕ)) (text : List ℕ) (s : Status) → (s ≡ status.WriteFault → ⊥) → IsWritten a b text s → s ≡ status.Done
+make_completes a b text status.Done write t = refl
+make_completes a b text (status.BadLine n) write t = absurd t
+make_completes a b text (status.Full n) write t = absurd t
+make_completes a b text status.ReadFault write t = absurd t
+make_completes a b text status.WriteFault write t = absurd (write refl)
+make_completes a b text status.NoMemory write t = absurd t
+make_completes a b text status.Usage write t = absurd t
+
+completes : (c : Command) (left after a b : Option (List ℕ)) (s : Status) → IsCommandRun c left after a b s → (s ≡ status.ReadFault → ⊥) → (s ≡ status.WriteFault → ⊥) → Completes c left s
+unfolding text_of_input
+completes (Run variant quiet) None after a b s t read write = tt
+completes (Run variant quiet) (Some bytes) after a b s t read write = from_completes (say_by quiet) (opening variant) bytes after a b s read write t.0
+completes (Make plan) left after a b s t read write = make_completes a b (made_by plan) s write t
+completes (Trial variant plan) left after a b s t read write = run_completes Last (text_of_input variant (made_by plan)) a b s read write t.0
+
+pub command_completes : (command : Option Command) (c : Command) (left after a b : Option (List ℕ)) (s : Status) (reads_before reads_after writes_before writes_after : ℕ) → Some c ≡ command → IsCommandRun c left after a b s
+    → (s ≡ status.ReadFault → Rose reads_before reads_after) → (s ≡ status.WriteFault → Rose writes_before writes_after)
+    → IfSome command (λ x. (Rose reads_before reads_after → ⊥) → (Rose writes_before writes_after → ⊥) → Completes x left s)
+command_completes command c left after a b s rb ra wb wa e t read write =
+    let P : Option Command → Type 0 = λ o. IfSome o (λ x. (Rose rb ra → ⊥) → (Rose wb wa → ⊥) → Completes x left s) in
+    subst P e (λ none nothing. completes c left after a b s t (λ x. none (read x)) (λ x. nothing (write x)))

@@ -1,14 +1,17 @@
 -- What a command has written and answered.
-use Rattle.std.specs.Prelude.{ℕ, ◌≡◌, ◌⊎◌, true, false, Bool, List, Option, Some, None, IfSome, ⊤}
+use Rattle.std.specs.Prelude.{ℕ, ◌≡◌, ◌⊎◌, true, false, Bool, List, Option, IfSome, ⊤}
 use Rattle.std.specs.Io.KnownBytes.{Appends, IsAtEnd}
 use Rattle.mesh_io.specs.Puts.{AppendsPrefix}
 use Rattle.mesh_base.specs.declared.events.Variant.{Variant}
-use Rattle.mesh_base.specs.declared.events.Variant.TheVariants.{Base}
 use Rattle.mesh_make.specs.Made.{made}
-use Rattle.mesh_text.specs.Text.{output, text_of_input, Finished}
+use Rattle.mesh_model.specs.Walks.{Cycle}
+use Rattle.mesh_text.specs.Schedule.{opening}
+use Rattle.mesh_text.specs.Text.{text_of_input, Finished}
+use Rattle.mesh_text.specs.Runs.{world_after}
 use Rattle.mesh_run.specs.declared.status.Status.{Status}
 use Rattle.mesh_run.specs.declared.status.Status.TheVariants as status
-use Rattle.mesh_run.specs.Told.{IsOutput}
+use Rattle.mesh_run.specs.declared.say.Say.TheVariants.{Last}
+use Rattle.mesh_run.specs.Told.{said, say_by, IsOutput, IsOutputFrom}
 use Rattle.mesh_cli.specs.declared.words.Plan.{Plan}
 use Rattle.mesh_cli.specs.declared.words.Command.{Command}
 use Rattle.mesh_cli.specs.declared.words.Command.TheVariants.{Run, Make, Trial}
@@ -17,17 +20,9 @@ use Rattle.mesh_cli.specs.declared.words.Command.TheVariants.{Run, Make, Trial}
 abbrev pub made_by : Plan → List ℕ
 made_by plan = made plan.seed plan.nodes plan.steps
 
--- the schedule that a command runs, where it is known. `left` is what the source has left, where that is told
-abbrev pub schedule_of : Command → Option (List ℕ) → Option (List ℕ)
-schedule_of (Run variant quiet) left = left
-schedule_of (Make plan) left = None
-schedule_of (Trial variant plan) left = Some (made_by plan)
-
--- the variant of the protocol that the nodes of its run have. `make` runs nothing
-abbrev pub variant_of : Command → Variant
-variant_of (Run variant quiet) = variant
-variant_of (Make plan) = Base
-variant_of (Trial variant plan) = variant
+-- in no world to which the run of a schedule comes, after any number of its events, has a destination a loop
+abbrev pub IsLoopFreeRun : Variant → List ℕ → Type 0
+IsLoopFreeRun variant schedule = (k d : ℕ) → ¬ (Cycle (world_after variant schedule k) d)
 
 -- the command reads its schedule from the source
 abbrev pub reads : Command → Bool
@@ -45,12 +40,15 @@ IsWritten before now text status.ReadFault = ⊥
 IsWritten before now text status.WriteFault = AppendsPrefix before now text
 IsWritten before now text status.NoMemory = ⊥
 
--- what the sink held before and holds now, and the answer. `run` writes the text of the schedule that the source has left;
--- `run --quiet` its last line alone; `make` the made schedule; `trial` the last line of the text of the made schedule
-abbrev pub IsCommandRun : Command → Option (List ℕ) → Option (List ℕ) → Option (List ℕ) → Status → Type 0
-IsCommandRun (Run variant quiet) left before now s = IfSome left (λ bytes. IsOutput before now (output quiet (text_of_input variant bytes)) s)
-IsCommandRun (Make plan) left before now s = IsWritten before now (made_by plan) s
-IsCommandRun (Trial variant plan) left before now s = IsOutput before now (output true (text_of_input variant (made_by plan))) s
+-- what the source has left before and after, what the sink held before and holds now, and the answer. `run` writes the
+-- text of the schedule that the source has left; `run --quiet` its last line alone; `make` the made schedule; `trial` the
+-- last line of the text of the made schedule. What runs is loop free
+abbrev pub IsCommandRun : Command → Option (List ℕ) → Option (List ℕ) → Option (List ℕ) → Option (List ℕ) → Status → Type 0
+IsCommandRun (Run variant quiet) left after before now s =
+    IfSome left (λ bytes. IsOutputFrom (say_by quiet) (opening variant) bytes after before now s × IsLoopFreeRun variant bytes)
+IsCommandRun (Make plan) left after before now s = IsWritten before now (made_by plan) s
+IsCommandRun (Trial variant plan) left after before now s =
+    IsOutput before now (said Last (text_of_input variant (made_by plan))) s × IsLoopFreeRun variant (made_by plan)
 
 -- the command was done, or memory ran out
 abbrev pub IsDoneOrShort : Status → Type 0

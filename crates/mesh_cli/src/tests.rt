@@ -77,13 +77,13 @@ fn stops_at_a_failed_write(rt: HostRuntime) -> Result<(), Fail> {
 }
 
 #[test]
-fn writes_nothing_after_a_failed_read(rt: HostRuntime) -> Result<(), Fail> {
+fn writes_the_lines_that_were_read_whole(rt: HostRuntime) -> Result<(), Fail> {
     let bytes = Bytes::copy_of(rt.alloc(), DATUM.as_bytes())?;
     let mut input = MemSource::new(rt.alloc(), bytes, 14, &[2])?;
     let mut out = MemSink::new(rt.alloc(), 1000, 1000, &[])?;
     let status = mesh(rt.alloc(), &["run"], &mut input, &mut out);
     assert_eq!(rt; status, Status::ReadFault);
-    assert_eq!(rt; out.held(), b"".as_slice());
+    assert_eq!(rt; out.held(), b"node 10.0.0.1 sn 1\n".as_slice());
     Ok(())
 }
 

@@ -1,9 +1,9 @@
 pub mod Writing
 pub mod Giving
-pub mod WholeReads
 pub mod Counting
 pub mod Causes
 pub mod FirstLines
+pub mod FirstParts
 pub mod Deciding
 pub mod Following
 pub mod Ahead

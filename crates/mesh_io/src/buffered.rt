@@ -49,10 +49,13 @@ impl<S: Sink> Buffered<S> {
     /// buffer and the rest stays gathered.
     pub fn flush(&mut self) -> Result<(), PutFault>
         ensures all { OnOk result (gathered_in self.new ≡ []) }
-        ensures handed { HandsOn (S.held (inner_of self.old)) (S.held (inner_of self.new)) (gathered_in self.old) (gathered_in self.new) }
+        ensures handed { HandsOn (S.held (inner_of self.old)) (S.held (inner_of self.new))
+            (gathered_in self.old) (gathered_in self.new) }
         ensures held { Keeps (held_by S.held self.old) (held_by S.held self.new) }
-        ensures cause { HasCause (S.faults (inner_of self.old)) (S.faults (inner_of self.new)) result }
-        ensures nothing { gathered_in self.old ≡ [] → IsOk result × (inner_of self.new ≡ inner_of self.old) }
+        ensures cause { HasCause (S.faults (inner_of self.old))
+            (S.faults (inner_of self.new)) result }
+        ensures nothing { gathered_in self.old ≡ []
+            → IsOk result × (inner_of self.new ≡ inner_of self.old) }
     {
         let handed = put_front(&mut self.inner, self.gathered.as_slice());
         if handed < self.gathered.len() {
@@ -65,7 +68,8 @@ impl<S: Sink> Buffered<S> {
 
     // Gathers as much of the piece as there is room for.
     fn gather(&mut self, piece: &[u8]) -> usize
-        ensures count { result ≡ min (length piece.now) (buffer_size - length (gathered_in self.old)) }
+        ensures count { result ≡ min (length piece.now)
+            (buffer_size - length (gathered_in self.old)) }
         ensures inner { inner_of self.new ≡ inner_of self.old }
         ensures gathered { gathered_in self.new ≡ gathered_in self.old ++ take result piece.now }
         ensures room { length (gathered_in self.old) ≤ buffer_size }
@@ -94,14 +98,19 @@ impl<S: Sink> Sink for Buffered<S> {
     fn put(&mut self, piece: &[u8]) -> Result<usize, Failed>
         requires { 0 < length piece.now }
         ensures some { IfOk result (λ n. (0 < n) × (n ≤ length piece.now)) }
-        ensures bytes { WriteAppends (held_by S.held self.old) (held_by S.held self.new) result piece.now }
-        ensures cause { HasCause (S.faults (inner_of self.old)) (S.faults (inner_of self.new)) result }
-        ensures gathers { length (gathered_in self.old) < buffer_size → (inner_of self.new ≡ inner_of self.old)
+        ensures bytes { WriteAppends (held_by S.held self.old)
+            (held_by S.held self.new) result piece.now }
+        ensures cause { HasCause (S.faults (inner_of self.old))
+            (S.faults (inner_of self.new)) result }
+        ensures gathers { length (gathered_in self.old) < buffer_size
+            → (inner_of self.new ≡ inner_of self.old)
             × (result ≡ Ok (min (length piece.now) (buffer_size - length (gathered_in self.old))))
             × IfOk result (λ n. gathered_in self.new ≡ gathered_in self.old ++ take n piece.now) }
         ensures full { buffer_size ≤ length (gathered_in self.old) → IfOk result (λ n.
             (n ≡ min (length piece.now) buffer_size) × (gathered_in self.new ≡ take n piece.now)) }
-        ensures refused { OnErr result (HandsOn (S.held (inner_of self.old)) (S.held (inner_of self.new)) (gathered_in self.old) (gathered_in self.new)) }
+        ensures refused { OnErr result (HandsOn
+            (S.held (inner_of self.old)) (S.held (inner_of self.new))
+            (gathered_in self.old) (gathered_in self.new)) }
     {
         if !self.gathered.is_full() {
             return Ok(self.gather(piece));
@@ -129,8 +138,10 @@ impl<'s, O: Sink, L: Loan> Buffered<Through<'s, O, L>> {
     pub fn give_back(self) -> &'s mut O
         ensures name { result.ghost_name ≡ L.name }
         ensures sink { result.now ≡ (inner_of self.entry).to.now }
-        ensures whole { gathered_in self.entry ≡ [] → O.held result.now ≡ held_by (λ t. O.held t.to.now) self.entry }
-        ensures prefix { (text : List ℕ) → AppendsPrefix L.start (held_by (λ t. O.held t.to.now) self.entry) text
+        ensures whole { gathered_in self.entry ≡ []
+            → O.held result.now ≡ held_by (λ t. O.held t.to.now) self.entry }
+        ensures prefix { (text : List ℕ)
+            → AppendsPrefix L.start (held_by (λ t. O.held t.to.now) self.entry) text
             → AppendsPrefix L.start (O.held result.now) text }
     {
         let Through { to, loan: _ } = self.into_inner();

@@ -44,6 +44,15 @@ impl<'s, S: Source> Lines<'s, S> {
         }
     }
 
+    /// The source. What was read of it and not given is lost.
+    pub fn give_back(self) -> &'s mut S
+        ensures same { result.ghost_name ≡ (source_of self.entry).ghost_name }
+        ensures source { result.now ≡ (source_of self.entry).now }
+    {
+        let Lines { cutter } = self;
+        cutter.give_back()
+    }
+
     /// The next answer needs no read.
     pub fn is_decided(&self) -> bool
         ensures { result ≡ is_decided_at self.now }

@@ -27,9 +27,15 @@ impl Model for MemSink {
 
     ghost Value = { Taking };
 
-    ghost view = { λ s. record { held = s.bytes.items; room = s.room; most = s.most; calls = s.calls } };
+    ghost view = { λ s. record {
+      held = s.bytes.items;
+      room = s.room;
+      most = s.most;
+      calls = s.calls;
+    } };
 
-    ghost invariant = { λ s. (length s.bytes.items ≤ s.room) × (s.room ≤ vec_capacity s.bytes) × (0 < s.most) };
+    ghost invariant = { λ s.
+        (length s.bytes.items ≤ s.room) × (s.room ≤ vec_capacity s.bytes) × (0 < s.most) };
 }
 
 impl MemSink {
@@ -37,7 +43,12 @@ impl MemSink {
     /// at the calls whose numbers, counted from 1, are in `fails`, and where it is full.
     pub fn new(alloc: Global, room: usize, most: usize, fails: &[u64]) -> Result<MemSink, NoMemory>
         requires { 0 < most }
-        ensures { IfOk result (λ sink. sink ≡ record { held = []; room = room; most = most; calls = no_calls fails.now }) }
+        ensures { IfOk result (λ sink. sink ≡ record {
+          held = [];
+          room = room;
+          most = most;
+          calls = no_calls fails.now;
+        }) }
     {
         Ok(MemSink {
             bytes: Vec::with_capacity(alloc, room)?,

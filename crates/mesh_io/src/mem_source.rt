@@ -52,7 +52,11 @@ impl MemSource {
         fails: &[u64],
     ) -> Result<MemSource, NoMemory>
         requires { 0 < most }
-        ensures { IfOk result (λ source. source ≡ record { left = bytes; most = most; calls = no_calls fails.now }) }
+        ensures { IfOk result (λ source. source ≡ record {
+          left = bytes;
+          most = most;
+          calls = no_calls fails.now;
+        }) }
     {
         Ok(MemSource {
             bytes,

@@ -35,7 +35,8 @@ impl<R: Read> Source for StdSource<R> {
         ensures bound { ReadsAtMost result buf.new }
         ensures bytes { ReadConsumes None None result buf.new }
         ensures cause { HasCause (read_faults self.old) (read_faults self.new) result }
-        ensures read { ReadConsumes (R.remaining (reader_of self.old)) (R.remaining (reader_of self.new)) result buf.new }
+        ensures read { ReadConsumes (R.remaining (reader_of self.old))
+            (R.remaining (reader_of self.new)) result buf.new }
     {
         match self.reader.read(buf) {
             Ok(n) => Ok(n),
@@ -74,7 +75,8 @@ impl<W: Write> Sink for StdSink<W> {
         ensures some { IfOk result (λ n. (0 < n) × (n ≤ length piece.now)) }
         ensures bytes { WriteAppends None None result piece.now }
         ensures cause { HasCause (write_faults self.old) (write_faults self.new) result }
-        ensures written { IfOk result (λ n. Appends (W.contents (writer_of self.old)) (W.contents (writer_of self.new)) (take n piece.now)) }
+        ensures written { IfOk result (λ n. Appends (W.contents (writer_of self.old))
+            (W.contents (writer_of self.new)) (take n piece.now)) }
     {
         let count = match self.writer.write(piece) {
             Ok(n) => n,

@@ -1,7 +1,7 @@
 //! Each call that can find no memory, and the sizes of what passes through.
 use crate::{
-    Buffered, Failed, LineError, Lines, LongLines, MemSink, MemSource, PutFault, ReadAllError,
-    Source, StdSink, StdSource, put_all, read_all,
+    Buffered, Failed, LineError, Lines, LongLines, MemSink, MemSource, PutFault, Source, StdSink,
+    StdSource, put_all,
 };
 use mesh_base::Bytes;
 use std::fs::File;
@@ -20,22 +20,6 @@ fn a_source_gives_seven_bytes_a_call(rt: HostRuntime) -> Result<(), Fail> {
     ] {
         assert_eq!(rt; source.take(&mut buf), answer);
         assert!(rt; buf.starts_with(prefix));
-    }
-    Ok(())
-}
-
-#[test]
-fn an_input_is_read_whole_or_not(rt: HostRuntime) -> Result<(), Fail> {
-    for (fails, fault) in [(3, false), (2, true)] {
-        let bytes = Bytes::copy_of(rt.alloc(), b"turn 10.0.0.1")?;
-        let mut source = MemSource::new(rt.alloc(), bytes, 7, &[fails + 1])?;
-        match read_all(rt.alloc(), &mut source) {
-            Ok(whole) => {
-                assert!(rt; !fault && !whole.more);
-                assert_eq!(rt; whole.bytes.as_slice(), b"turn 10.0.0.1".as_slice());
-            }
-            Err(error) => assert!(rt; fault && error == ReadAllError::ReadFault),
-        }
     }
     Ok(())
 }

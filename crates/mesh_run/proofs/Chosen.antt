@@ -64,9 +64,10 @@ before_to : (quiet : Bool) (m n k : Moment) (text : List ℕ) (ran : AutoOutcome
 before_to quiet m n k text ran a b c (Ok did) em el p q =
     record { text = text ++ q.text; is = ap (before text) q.is; grown = shown_join quiet a b c text q.text p q.grown }
 before_to quiet m n k text ran a b c (Err (stop.BadLine f)) em el p q = q
-before_to quiet m n k text ran a b c (Err (stop.Full event field)) em el p q = record {
+before_to quiet m n k text ran a b c (Err (stop.Full event node field)) em el p q = record {
   text = text ++ q.text;
   is = ap (before text) q.is;
+  refused = q.refused;
   grown = shown_join quiet a b c text q.text p q.grown;
   still = record { event = subst (λ l. IsEvent (length l) (event_of event)) em q.still.event; mesh = q.still.mesh ∙ em; lines = q.still.lines ∙ el };
 }
@@ -110,7 +111,7 @@ then_stops : (quiet : Bool) (m n : Moment) (e : Event) (o : Outcome) (others : M
     → IsLineStopped quiet m (outcome_by m e o) n a b t → IsAutoRun quiet m (done_then m e o others) n a b (Err t)
 unfolding ran_in
 then_stops quiet m n e Idle others a b (stop.BadLine f) g = absurd (let h = g.0 in let P : ⊥ = cc in P)
-then_stops quiet m n e Idle others a b (stop.Full event field) g = absurd (let h : On (outcome_lines m.mesh e Idle) (stepped m e) ≡ Full g.text n (event_of event) field = g.is in let P : ⊥ = cc in P)
+then_stops quiet m n e Idle others a b (stop.Full event node field) g = absurd (let h : On (outcome_lines m.mesh e Idle) (stepped m e) ≡ Full g.text n (event_of event) field = g.is in let P : ⊥ = cc in P)
 then_stops quiet m n e Idle others a b stop.WriteFault g =
     let P : List ℕ → Type 0 = λ l. AppendsPrefix a b (output_if quiet l) in
     subst P (sym (text-before (outcome_lines m.mesh e Idle) (others (stepped m e)))) (front_more quiet a b (outcome_lines m.mesh e Idle) _ g)
@@ -118,16 +119,17 @@ then_stops quiet m n e Idle others a b stop.NoMemory g =
     let P : List ℕ → Type 0 = λ l. AppendsPrefix a b (output_if quiet l) in
     subst P (sym (text-before (outcome_lines m.mesh e Idle) (others (stepped m e)))) (front_more quiet a b (outcome_lines m.mesh e Idle) _ g)
 then_stops quiet m n e (worlds.Full x full) others a b (stop.BadLine f) g = absurd (let h = g.0 in let P : ⊥ = cc in P)
-then_stops quiet m n e (worlds.Full x full) others a b (stop.Full event field) g = record {
+then_stops quiet m n e (worlds.Full x full) others a b (stop.Full event node field) g = record {
   text = g.text;
   is = ap (ran_in (AutoFull [] m e full)) g.is;
+  refused = g.refused;
   grown = g.grown;
   still = g.still;
 }
 then_stops quiet m n e (worlds.Full x full) others a b stop.WriteFault g = g
 then_stops quiet m n e (worlds.Full x full) others a b stop.NoMemory g = g
 then_stops quiet m n e (Next w i) others a b (stop.BadLine f) g = absurd (let h = g.0 in let P : ⊥ = cc in P)
-then_stops quiet m n e (Next w i) others a b (stop.Full event field) g = absurd (let h : On (outcome_lines m.mesh e (Next w i)) (stepped m e) ≡ Full g.text n (event_of event) field = g.is in let P : ⊥ = cc in P)
+then_stops quiet m n e (Next w i) others a b (stop.Full event node field) g = absurd (let h : On (outcome_lines m.mesh e (Next w i)) (stepped m e) ≡ Full g.text n (event_of event) field = g.is in let P : ⊥ = cc in P)
 then_stops quiet m n e (Next w i) others a b stop.WriteFault g =
     let P : List ℕ → Type 0 = λ l. AppendsPrefix a b (output_if quiet l) in
     subst P (sym (text-before (outcome_lines m.mesh e (Next w i)) (others (stepped m e)))) (front_more quiet a b (outcome_lines m.mesh e (Next w i)) _ g)
@@ -196,11 +198,12 @@ pub auto_stops : (quiet : Bool) (m s n : Moment) (count : ℕ) (a b c : Option (
     → Appends a b (output_if quiet (line (words_of m.mesh (Chooses count)))) → IsAutoRun quiet s (auto_from count 0 s) n b c (Err t)
     → IsLineStopped quiet m (outcome_of_line m (Chooses count)) n a c t
 auto_stops quiet m s n count a b c (stop.BadLine f) same p q = absurd q
-auto_stops quiet m s n count a b c (stop.Full event field) same p q =
+auto_stops quiet m s n count a b c (stop.Full event node field) same p q =
     let w : List ℕ = line (words_of m.mesh (Chooses count)) in
     record {
       text = w ++ q.text;
       is = came-chooses m s count same ∙ ap (outcome_of_auto w) q.is;
+      refused = q.refused;
       grown = shown_join quiet a b c w q.text p q.grown;
       still = record {
         event = subst (λ k. IsEvent (length k.mesh) (event_of event)) same q.still.event;

@@ -68,10 +68,11 @@ answer_front quiet m n e d packet a b is p =
     subst P (answer_text m n e d packet is ∙ sym (ap text_in (answer_came m n e d packet is))) p
 
 pub refusal_fills : (quiet : Bool) (m n : Moment) (e : Event) (x : ℕ) (field : Field) (a : Option (List ℕ)) → IsEvent (length m.mesh) e → outcome_at m e ≡ worlds.Full x field
-    → n ≡ m → IsLineFull quiet m (outcome_by m e (outcome_at m e)) n a a e field
+    → n ≡ m → IsLineFull quiet m (outcome_by m e (outcome_at m e)) n a a e x field
 refusal_fills quiet m n e x field a ev is same = record {
   text = [];
   is = ap (outcome_by m e) is ∙ ap (λ k. Full [] k e field) (sym same);
+  refused = ap (λ k. outcome_at k e) same ∙ is;
   grown = shown_none quiet a;
   still = record { event = ev; mesh = ap (λ k. k.mesh) same; lines = ap (λ k. k.lines) same };
 }
@@ -124,9 +125,10 @@ pub step_stops : (quiet : Bool) (m s n : Moment) (e : Event) (a b : Option (List
     → IsLineStopped quiet m (outcome_of_line m (Does e)) n a b t
 unfolding count
 step_stops quiet m s n e a b (stop.BadLine f) same g = absurd (never_bad s e (outcome_at s e) (Fault f) g.0)
-step_stops quiet m s n e a b (stop.Full event field) same g = record {
+step_stops quiet m s n e a b (stop.Full event node field) same g = record {
   text = g.text;
   is = came-does m s e same ∙ ap count g.is;
+  refused = g.refused;
   grown = g.grown;
   still = record {
     event = subst (λ k. IsEvent (length k.mesh) (event_of event)) same g.still.event;
@@ -150,10 +152,6 @@ answer_mesh m n e d packet a = ap (λ k. k.mesh) a.moment
 pub step_lines : (m s n : Moment) (e : Event) → s ≡ started m → n ≡ stepped s e → n.lines ≡ m.lines
 unfolding stepped
 step_lines m s n e same next = ap (λ k. k.lines) next ∙ ap (λ k. k.lines) same
-
-pub step_events : (m s n : Moment) (e : Event) → s ≡ started m → n ≡ stepped s e → (n.sums).events ≡ (m.sums).events + 1
-unfolding stepped
-step_events m s n e same next = ap (λ k. (k.sums).events) next ∙ ap (λ k. (k.sums).events + 1) same
 
 -- ---- what an event and other lines are written as
 
@@ -183,9 +181,9 @@ pub stepped_lines : (m n : Moment) (e : Event) → n ≡ stepped m e → n.lines
 unfolding stepped
 stepped_lines m n e next = ap (λ k. k.lines) next
 
-pub stepped_events : (m n : Moment) (e : Event) → n ≡ stepped m e → (n.sums).events ≡ (m.sums).events + 1
+pub stepped_steps : (m n : Moment) (e : Event) → n ≡ stepped m e → n.steps ≡ m.steps + 1
 unfolding stepped
-stepped_events m n e next = ap (λ k. (k.sums).events) next
+stepped_steps m n e next = ap (λ k. k.steps) next
 
 -- ---- lines that show something
 

@@ -4,6 +4,11 @@ pub mod Events
 pub mod Counts
 pub mod Sound
 pub mod Chosen
-pub mod Cuts
 pub mod Tables
 pub mod Choices
+pub mod Pieces
+pub mod Completes
+pub mod Story
+pub mod Growth
+pub mod Faults
+pub mod Buffers

@@ -1,7 +1,5 @@
 -- Texts of all nodes one after another, and of the copies in flight.
-use Rattle.std.proofs.Common.{◌≡◌, ℕ, suc, ◌+◌, ◌-◌, ◌<◌, ◌≤◌, Bool, false, List, [], ◌∷◌, ◌++◌, Option, Some, Result, length, map, refl, sym, ap, subst, ◌∙◌, arith}
-use Rattle.std.specs.Prelude.{codes}
-use Rattle.std.specs.FinMap as maps
+use Rattle.std.proofs.Common.{◌≡◌, ℕ, ◌+◌, Bool, false, List, [], ◌∷◌, ◌++◌, Option, Some, Result, length, map, refl, sym, ap, subst, ◌∙◌}
 use Rattle.std.specs.List.{AllByRecursion}
 use Rattle.std.proofs.lemmas.List.{length-map}
 use Rattle.std.specs.Io.KnownBytes.{Appends}
@@ -10,13 +8,12 @@ use Rattle.mesh_base.specs.declared.events.Flying.{Flying}
 use Rattle.mesh_radio.specs.Copies.{from_id}
 use Rattle.mesh_radio.proofs.Finds.{from_zero, all-from}
 use Rattle.mesh_io.specs.Puts.{AppendsPrefix, Puts}
-use Rattle.mesh_io.proofs.Writing.{Appends-none, Appends-join, AppendsPrefix-join, AppendsPrefix-more, Puts-join}
+use Rattle.mesh_io.proofs.Writing.{Appends-none, AppendsPrefix-more, Puts-join}
 use Rattle.aodv_meaning.specs.Effects.{item_in}
-use Rattle.aodv_model.specs.Cores.{Seen, Store, Core}
 use Rattle.aodv_node.specs.Seen.{NodeSeen}
 use Rattle.mesh_model.specs.Worlds.{Node}
 use Rattle.mesh_meaning.specs.Packets.{copy_in}
-use Rattle.mesh_text.specs.Tables.{each_from, number_line, all_asked_text, entry_of, waits_of, node_text, node_text_in, flying_text, flight_text}
+use Rattle.mesh_text.specs.Tables.{node_text, node_text_in, flying_text, flight_text}
 use Rattle.mesh_world.specs.Seen.{node_in}
 use Rattle.mesh_run.specs.Runs.{output_if}
 use Rattle.mesh_run.proofs.Shown.{front_more}

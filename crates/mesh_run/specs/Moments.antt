@@ -1,8 +1,8 @@
 -- What every moment of a run has, and what an event answers at one.
-use Rattle.std.specs.Prelude.{◌≡◌, ◌≤◌, ℕ, List, Option, ⊤, refl}
+use Rattle.std.specs.Prelude.{◌≡◌, ℕ, List, Option, IfSome, option_map, ⊤, refl}
 use Rattle.std.specs.Coded.{Coded, code_by, coded×, coded_ℕ, coded_list, coded_option}
-use Rattle.std.specs.Option.{ForSome}
-use Rattle.mesh_base.specs.Meshes.{Nodes}
+use Rattle.std.specs.Option.{ForSome, unwrap_or}
+use Rattle.mesh_base.specs.Meshes.{Nodes, IsMesh}
 use Rattle.mesh_base.specs.declared.events.Variant.{Variant}
 use Rattle.mesh_base.specs.declared.events.Done.{Done}
 use Rattle.mesh_base.specs.declared.events.Event.{Event as EventGiven}
@@ -10,25 +10,52 @@ use Rattle.mesh_model.specs.Worlds as worlds
 use Rattle.mesh_model.specs.Worlds.{World, Event}
 use Rattle.aodv_model.specs.Codes.{variant_code}
 use Rattle.mesh_model.specs.Codes.{world_code}
+use Rattle.mesh_model.specs.Invariants.{IsInvariant}
+use Rattle.mesh_model.specs.Walks.{Cycle}
 use Rattle.mesh_meaning.specs.Events.{node_of}
 use Rattle.mesh_meaning.specs.Answers.{outcome_in, IsDoneInMesh}
 use Rattle.mesh_text.specs.Schedule.{Moment, Sums, world_of, outcome_at, stepped}
+use Rattle.mesh_text.specs.Accounts.{IsBalanced}
 use Rattle.mesh_run.specs.Sums.{AreCounts}
-use Rattle.mesh_world.specs.Seen.{WorldSeen}
+use Rattle.mesh_world.specs.Seen.{WorldSeen, IsSoundWorld}
 use Rattle.mesh_world.specs.declared.steps.StepError.{StepError}
 use Rattle.mesh_world.specs.declared.steps.StepError.TheVariants.{Full, NoMemory}
 use Rattle.mesh_run.specs.declared.stop.Stop.{Stop}
 use Rattle.mesh_run.specs.declared.stop.Stop.TheVariants as stop
 
--- a world of this mesh, which has taken at most as many steps as there were events
-pub record IsWorldAt (nodes : Nodes) (events : ℕ) (w : WorldSeen) : Type 0 where
-  pub mesh : w.mesh ≡ nodes
-  pub steps : w.steps ≤ events
+-- the moment of a run whose world is seen so
+abbrev pub moment_seen : Variant → Nodes → Option WorldSeen → Sums → ℕ → Moment
+moment_seen variant nodes seen sums lines = record {
+  variant = variant;
+  mesh = nodes;
+  world = option_map (λ w. w.world) seen;
+  sums = sums;
+  lines = lines;
+  steps = unwrap_or (option_map (λ w. w.steps) seen) 0;
+}
 
--- no sum is above the number of events, and the world is of this mesh
-pub record IsSound (nodes : Nodes) (seen : Option WorldSeen) (sums : Sums) : Type 0 where
-  pub counts : AreCounts sums
-  pub world : ForSome seen (IsWorldAt nodes sums.events)
+-- a sound world of this mesh
+pub record IsWorldAt (nodes : Nodes) (w : WorldSeen) : Type 0 where
+  pub mesh : w.mesh ≡ nodes
+  pub sound : IsSoundWorld w
+
+-- the sums have not outgrown the steps, the world is sound and of the mesh, and the account of the data is balanced
+pub record IsSound (m : Moment) (seen : Option WorldSeen) : Type 0 where
+  pub mesh : IsMesh m.mesh
+  pub counts : AreCounts m.sums m.steps
+  pub world : ForSome seen (IsWorldAt m.mesh)
+  pub balanced : IsBalanced m
+
+-- a world with the invariant, in which no destination's valid routes have a loop
+pub record IsSafeWorld (w : World) : Type 0 where
+  pub invariant : IsInvariant w
+  pub loop_free : (d : ℕ) → ¬ (Cycle w d)
+
+-- what holds at each moment of a run: its world is safe, and each datum that was given or doubled was delivered, waits, is
+-- in flight, or was dropped
+pub record IsSafe (m : Moment) : Type 0 where
+  pub world : IfSome m.world IsSafeWorld
+  pub balanced : IsBalanced m
 
 -- the event was done, or was idle: the answer, with the packet that was cast, says what came of it, and names nodes of
 -- the mesh only
@@ -44,7 +71,7 @@ IsRefusal m e NoMemory = ⊤
 
 -- what then stops the run
 abbrev pub stop_of : EventGiven → StepError → Stop
-stop_of e (Full node field) = stop.Full e field
+stop_of e (Full node field) = stop.Full e node field
 stop_of e NoMemory = stop.NoMemory
 
 -- ---- a code, by which proofs tell moments apart

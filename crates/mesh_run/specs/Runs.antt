@@ -40,18 +40,19 @@ pub record IsStill (m n : Moment) (e : Event) : Type 0 where
   pub mesh : n.mesh ≡ m.mesh
   pub lines : n.lines ≡ m.lines
 
--- an event was refused for a full counter at the moment that is left, after a text
+-- an event was refused for this node's full counter at the moment that is left, after a text
 pub record IsLineFull
-    (quiet : Bool) (m : Moment) (k : LineOutcome) (n : Moment) (before now : Option (List ℕ)) (e : Event) (field : full.Counter) : Type 0 where
+    (quiet : Bool) (m : Moment) (k : LineOutcome) (n : Moment) (before now : Option (List ℕ)) (e : Event) (node : ℕ) (field : full.Counter) : Type 0 where
   pub text : List ℕ
   pub is : k ≡ Full text n e field
+  pub refused : outcome_at n e ≡ worlds.Full node field
   pub grown : Appends before now (output_if quiet text)
   pub still : IsStill m n e
 
 -- it was refused, or was not done or not written whole
 abbrev pub IsLineStopped : Bool → Moment → LineOutcome → Moment → Option (List ℕ) → Option (List ℕ) → Stop → Type 0
 IsLineStopped quiet m k n before now (stop.BadLine f) = (k ≡ Refused (Fault f)) × (n ≡ m) × Keeps before now
-IsLineStopped quiet m k n before now (stop.Full e field) = IsLineFull quiet m k n before now (event_of e) field
+IsLineStopped quiet m k n before now (stop.Full e node field) = IsLineFull quiet m k n before now (event_of e) node field
 IsLineStopped quiet m k n before now stop.WriteFault = AppendsPrefix before now (output_if quiet (text_in k))
 IsLineStopped quiet m k n before now stop.NoMemory = AppendsPrefix before now (output_if quiet (text_in k))
 
@@ -78,11 +79,12 @@ pub record IsAutoDone (quiet : Bool) (ran : AutoOutcome) (n : Moment) (before no
   pub is : ran ≡ Ended text did n
   pub grown : Appends before now (output_if quiet text)
 
--- one was refused for a full counter at the moment that is left, after the text of the others
+-- one was refused for this node's full counter at the moment that is left, after the text of the others
 pub record IsAutoFull
-    (quiet : Bool) (m : Moment) (ran : AutoOutcome) (n : Moment) (before now : Option (List ℕ)) (e : Event) (field : full.Counter) : Type 0 where
+    (quiet : Bool) (m : Moment) (ran : AutoOutcome) (n : Moment) (before now : Option (List ℕ)) (e : Event) (node : ℕ) (field : full.Counter) : Type 0 where
   pub text : List ℕ
   pub is : ran ≡ AutoFull text n e field
+  pub refused : outcome_at n e ≡ worlds.Full node field
   pub grown : Appends before now (output_if quiet text)
   pub still : IsStill m n e
 
@@ -94,6 +96,6 @@ text_of (AutoFull text n e field) = text
 abbrev pub IsAutoRun : Bool → Moment → AutoOutcome → Moment → Option (List ℕ) → Option (List ℕ) → Result ℕ Stop → Type 0
 IsAutoRun quiet m ran n before now (Ok did) = IsAutoDone quiet ran n before now did
 IsAutoRun quiet m ran n before now (Err (stop.BadLine f)) = ⊥
-IsAutoRun quiet m ran n before now (Err (stop.Full e field)) = IsAutoFull quiet m ran n before now (event_of e) field
+IsAutoRun quiet m ran n before now (Err (stop.Full e node field)) = IsAutoFull quiet m ran n before now (event_of e) node field
 IsAutoRun quiet m ran n before now (Err stop.WriteFault) = AppendsPrefix before now (output_if quiet (text_of ran))
 IsAutoRun quiet m ran n before now (Err stop.NoMemory) = AppendsPrefix before now (output_if quiet (text_of ran))

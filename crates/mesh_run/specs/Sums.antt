@@ -1,6 +1,7 @@
 -- What the program has counted, as the definitions have it.
-use Rattle.std.specs.Prelude.{ℕ, ◌≤◌, Bool, if◌then◌else◌}
+use Rattle.std.specs.Prelude.{ℕ, ◌≡◌, ◌≤◌, ◌+◌, ◌^◌, Bool, if◌then◌else◌}
 use Rattle.mesh_text.specs.Schedule as model
+use Rattle.mesh_text.specs.Schedule.{Moment}
 use Rattle.mesh_run.specs.declared.sums.Sums.{Sums}
 
 abbrev pub sums_of : Sums → model.Sums
@@ -13,13 +14,27 @@ sums_of s = record {
   copied = s.copied;
 }
 
--- each event counts at most once in each sum
-pub record AreCounts (s : model.Sums) : Type 0 where
-  pub idle : s.idle ≤ s.events
-  pub given : s.given ≤ s.events
-  pub delivered : s.delivered ≤ s.events
-  pub lost : s.lost ≤ s.events
-  pub copied : s.copied ≤ s.events
+-- no sum is above what may have been counted before a world's first step and the steps since
+abbrev pub counted_before : ℕ
+counted_before = 2 ^ 60
+
+pub record AreCounts (s : model.Sums) (steps : ℕ) : Type 0 where
+  pub events : s.events ≤ counted_before + steps
+  pub idle : s.idle ≤ counted_before + steps
+  pub given : s.given ≤ counted_before + steps
+  pub delivered : s.delivered ≤ counted_before + steps
+  pub lost : s.lost ≤ counted_before + steps
+  pub copied : s.copied ≤ counted_before + steps
+
+-- the events have grown by as much as the steps, and no sum by more
+pub record IsGrown (m n : Moment) : Type 0 where
+  pub steps : m.steps ≤ n.steps
+  pub events : n.sums.events + m.steps ≡ m.sums.events + n.steps
+  pub idle : n.sums.idle + m.steps ≤ m.sums.idle + n.steps
+  pub given : n.sums.given + m.steps ≤ m.sums.given + n.steps
+  pub delivered : n.sums.delivered + m.steps ≤ m.sums.delivered + n.steps
+  pub lost : n.sums.lost + m.steps ≤ m.sums.lost + n.steps
+  pub copied : n.sums.copied + m.steps ≤ m.sums.copied + n.steps
 
 -- 1 where it is so
 abbrev pub count_of : Bool → ℕ

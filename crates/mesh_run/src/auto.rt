@@ -27,10 +27,12 @@ fn next_event<S: Steps>(at: &Point<S>) -> Option<Event<'static>>
     ensures value { option_map event_of result ≡ pick (world_of at.now) }
     ensures printable { IfSome result (λ e. IsPrintable at.now.mesh (Line.Step e)) }
 {
-    let Some(world) = at.world() else {
+    let Some(state) = at.world() else {
         unreachable!();
     };
-    let _nodes = world.mesh();
+    let world = state.world();
+    // A world is sound: its mesh has nodes, and no more than a mesh may have.
+    let _mesh = world.mesh();
     pick(world)
 }
 
@@ -45,11 +47,10 @@ fn do_events<S: Steps, O: Sink>(
     out: &mut O,
 ) -> Result<u32, Stop<'static>>
     requires started { is_some at.old.world ≡ true }
-    requires few { at.old.sums.events + count < 2 ^ 48 }
+    requires few { at.old.steps + count < 2 ^ 48 }
     ensures ran { IsAutoRun quiet at.old (auto_from count 0 at.old)
         at.new (O.held out.old) (O.held out.new) result }
     ensures lines { OnOk result (at.new.lines ≡ at.old.lines) }
-    ensures events { OnOk result (at.new.sums.events ≤ at.old.sums.events + count) }
     ensures later { O.faults out.old ≤ O.faults out.new }
     ensures fault { IsErrOf result Stop.WriteFault → Rose (O.faults out.old) (O.faults out.new) }
 {
@@ -89,13 +90,11 @@ pub fn do_auto<S: Steps, O: Sink>(
     out: &mut O,
 ) -> Result<(), Stop<'static>>
     requires few { at.old.lines < 2 ^ 62 }
-    requires steps { at.old.sums.events < 2 ^ 47 }
+    requires steps { at.old.steps < 2 ^ 47 }
     requires printable { IsPrintable at.old.mesh (Line.Auto count) }
     requires echo { IsLineOf at.old.mesh (Chooses count) bytes.now }
     ensures comes { IsLineRun quiet at.old (outcome_of_line at.old (Chooses count))
         at.new (O.held out.old) (O.held out.new) result }
-    ensures lines { OnOk result (at.new.lines ≡ at.old.lines + 1) }
-    ensures events { OnOk result (at.new.sums.events ≤ at.old.sums.events + count) }
     ensures later { O.faults out.old ≤ O.faults out.new }
     ensures fault { IsErrOf result Stop.WriteFault → Rose (O.faults out.old) (O.faults out.new) }
 {

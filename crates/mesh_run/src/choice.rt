@@ -15,6 +15,7 @@ fn first_copy_of(world: &World) -> Option<u64>
     ensures some { IfSome result (λ id. 1 ≤ id) }
 {
     let radio = world.radio();
+    // The copies are numbered from 1.
     let _copies = radio.count();
     radio.first_id()
 }

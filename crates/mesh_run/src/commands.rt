@@ -19,7 +19,7 @@ use crate::auto::do_auto;
 use crate::point::Point;
 use crate::show::{show_flight, show_node, show_route};
 use crate::stop::{Scratch, Stop};
-use mesh_base::{Addr, Done, Event, LONGEST_LINE, LineBuf, MOST_EVENTS, Mesh, Packet};
+use mesh_base::{Addr, Done, Event, LONGEST_LINE, LineBuf, Mesh, Packet};
 use mesh_io::{PutFault, Sink};
 use mesh_report::{put_echo, put_echoed_event, put_event, put_line};
 use mesh_script::Line;
@@ -61,7 +61,7 @@ pub fn do_event<'a, S: Steps, O: Sink>(
     out: &mut O,
 ) -> Result<(), Stop<'a>>
     requires started { is_some at.old.world ≡ true }
-    requires few { at.old.sums.events < 2 ^ 48 }
+    requires few { at.old.steps < 2 ^ 48 }
     requires printable { IsPrintable at.old.mesh (Line.Step event) }
     requires echo { IfSome bytes (λ b. IsLineOf at.old.mesh (Does (event_of event)) b.now) }
     ensures comes { IsLineRun quiet at.old (line_outcome_at at.old (event_of event.entry))
@@ -70,18 +70,14 @@ pub fn do_event<'a, S: Steps, O: Sink>(
     ensures later { O.faults out.old ≤ O.faults out.new }
     ensures fault { IsErrOf result Stop.WriteFault → Rose (O.faults out.old) (O.faults out.new) }
 {
-    let Some(world) = &mut at.world else {
-        unreachable!();
-    };
-    let answer = world.step(alloc, &event, &mut scratch.packet);
+    let answer = at.step_made(alloc, &event, &mut scratch.packet);
     match &answer {
         Ok(done) => {
-            at.sums.add(&event, done);
             if quiet {
                 return Ok(());
             }
             match say_event(
-                &at.mesh,
+                at.mesh(),
                 bytes,
                 &event,
                 done,
@@ -103,7 +99,7 @@ fn stop_of<'a>(event: Event<'a>, error: StepError) -> Stop<'a>
     ensures { result ≡ stop_of event.entry error }
 {
     match error {
-        StepError::Full { field, .. } => Stop::Full { event, field },
+        StepError::Full { node, field } => Stop::Full { event, node, field },
         StepError::NoMemory => Stop::NoMemory,
     }
 }
@@ -119,13 +115,11 @@ fn do_step<'a, S: Steps, O: Sink>(
     out: &mut O,
 ) -> Result<(), Stop<'a>>
     requires few { at.old.lines < 2 ^ 62 }
-    requires steps { at.old.sums.events < 2 ^ 47 }
+    requires steps { at.old.steps < 2 ^ 47 }
     requires printable { IsPrintable at.old.mesh (Line.Step event) }
     requires echo { IsLineOf at.old.mesh (Does (event_of event)) bytes.now }
     ensures comes { IsLineRun quiet at.old (outcome_of_line at.old (Does (event_of event.entry)))
         at.new (O.held out.old) (O.held out.new) result }
-    ensures lines { OnOk result (at.new.lines ≡ at.old.lines + 1) }
-    ensures events { OnOk result (at.new.sums.events ≤ at.old.sums.events + 1) }
     ensures later { O.faults out.old ≤ O.faults out.new }
     ensures fault { IsErrOf result Stop.WriteFault → Rose (O.faults out.old) (O.faults out.new) }
 {
@@ -188,8 +182,6 @@ fn do_node<S: Steps, O: Sink>(
     requires allowed { IsAllowed at.old.mesh (is_some at.old.world) (Line.Node addr first) }
     ensures comes { IsLineRun quiet at.old (outcome_of_line at.old (NewNode addr.0 first))
         at.new (O.held out.old) (O.held out.new) result }
-    ensures lines { OnOk result (at.new.lines ≡ at.old.lines + 1) }
-    ensures events { OnOk result (at.new.sums.events ≡ at.old.sums.events) }
     ensures later { O.faults out.old ≤ O.faults out.new }
     ensures fault { IsErrOf result Stop.WriteFault → Rose (O.faults out.old) (O.faults out.new) }
 {
@@ -219,8 +211,6 @@ fn do_show<S: Steps, O: Sink>(
     requires echo { IsLineOf at.old.mesh (ShowsNode node) bytes.now }
     ensures comes { IsLineRun quiet at.old (outcome_of_line at.old (ShowsNode node))
         at.new (O.held out.old) (O.held out.new) result }
-    ensures lines { OnOk result (at.new.lines ≡ at.old.lines + 1) }
-    ensures events { OnOk result (at.new.sums.events ≡ at.old.sums.events) }
     ensures later { O.faults out.old ≤ O.faults out.new }
     ensures fault { IsErrOf result Stop.WriteFault → Rose (O.faults out.old) (O.faults out.new) }
 {
@@ -246,8 +236,6 @@ fn do_route<S: Steps, O: Sink>(
     requires echo { IsLineOf at.old.mesh (ShowsRoute node dest) bytes.now }
     ensures comes { IsLineRun quiet at.old (outcome_of_line at.old (ShowsRoute node dest))
         at.new (O.held out.old) (O.held out.new) result }
-    ensures lines { OnOk result (at.new.lines ≡ at.old.lines + 1) }
-    ensures events { OnOk result (at.new.sums.events ≡ at.old.sums.events) }
     ensures later { O.faults out.old ≤ O.faults out.new }
     ensures fault { IsErrOf result Stop.WriteFault → Rose (O.faults out.old) (O.faults out.new) }
 {
@@ -270,8 +258,6 @@ fn do_flight<S: Steps, O: Sink>(
     requires echo { IsLineOf at.old.mesh ShowsFlight bytes.now }
     ensures comes { IsLineRun quiet at.old (outcome_of_line at.old ShowsFlight)
         at.new (O.held out.old) (O.held out.new) result }
-    ensures lines { OnOk result (at.new.lines ≡ at.old.lines + 1) }
-    ensures events { OnOk result (at.new.sums.events ≡ at.old.sums.events) }
     ensures later { O.faults out.old ≤ O.faults out.new }
     ensures fault { IsErrOf result Stop.WriteFault → Rose (O.faults out.old) (O.faults out.new) }
 {
@@ -294,14 +280,12 @@ pub fn do_line<'a, S: Steps, O: Sink>(
     out: &mut O,
 ) -> Result<(), Stop<'a>>
     requires few { at.old.lines < 2 ^ 62 }
-    requires steps { at.old.sums.events < 2 ^ 47 }
+    requires steps { at.old.steps < 2 ^ 47 }
     requires allowed { IsAllowed at.old.mesh (is_some at.old.world) line }
     requires short { length bytes.now ≤ LONGEST_LINE }
     requires echo { IsEcho at.old.mesh bytes.now (accepted_of line) }
     ensures comes { IsLineRun quiet at.old (outcome_of_line at.old (accepted_of line.entry))
         at.new (O.held out.old) (O.held out.new) result }
-    ensures lines { OnOk result (at.new.lines ≡ at.old.lines + 1) }
-    ensures events { OnOk result (at.new.sums.events ≤ at.old.sums.events + MOST_EVENTS) }
     ensures later { O.faults out.old ≤ O.faults out.new }
     ensures fault { IsErrOf result Stop.WriteFault → Rose (O.faults out.old) (O.faults out.new) }
 {

@@ -6,17 +6,23 @@
 mod auto;
 mod choice;
 mod commands;
-mod drive;
+mod driving;
 mod lines;
 mod point;
+mod say;
 mod show;
 mod status;
 mod stop;
 mod sums;
 
 pub use choice::pick;
-pub use drive::run;
+pub use driving::{drive, run};
+pub use lines::one;
+pub use point::Point;
+pub use say::Say;
 pub use status::Status;
+pub use stop::{Scratch, Stop};
+pub use sums::Sums;
 
 #[cfg(test)]
 mod tests;

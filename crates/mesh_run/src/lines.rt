@@ -1,31 +1,39 @@
 //! The lines of an input, one after another.
-ghost use Rattle.std.specs.Prelude.{◌≡◌, ◌≢◌, ◌<◌, ◌≤◌, ◌+◌, ◌^◌, ◌∷◌, [], List, false, length, OnOk, IfSome, IfNone, IsErrOf, Some};
-ghost use Rattle.mesh_base.specs.Parts.{parts, rest_parts};
+ghost use Rattle.std.specs.Prelude.{◌≡◌, ◌≢◌, ◌<◌, ◌≤◌, ◌+◌, ◌*◌, ◌^◌, ◌∷◌, [], List, length, OnOk, IfSome, IfNone, IsErrOf, Some};
 ghost use Rattle.mesh_model.specs.Places.{IsEvent};
 ghost use Rattle.mesh_meaning.specs.Events.{event_of};
-ghost use Rattle.mesh_text.specs.Schedule.{opening};
-ghost use Rattle.mesh_grammar.specs.Lines.{Piece, Whole, piece_of, last_piece, pieces_of};
-ghost use Rattle.mesh_text.specs.Text.{text_from, refused_run, overfull_run, outcome_of_piece, finished_run, output};
-ghost use Rattle.mesh_io.specs.Cause.{Rose};
-ghost use Rattle.mesh_run.specs.Told.{IsOutput};
+ghost use Rattle.mesh_grammar.specs.Lines.{Piece, Whole};
+ghost use Rattle.mesh_text.specs.Text.{text_from, text_on, refused_run, overfull_run, outcome_of_piece, finished_run};
+ghost use Rattle.std.specs.Io.KnownBytes.{IsAtEnd, Keeps};
+ghost use Rattle.mesh_io.specs.Cause.{Rose, HasCause};
+ghost use Rattle.mesh_io.specs.Buffering.{inner_of, held_by};
+ghost use Rattle.mesh_io.specs.Reading.{faults_of, given_of, pending_of, source_of};
+ghost use Rattle.mesh_run.specs.Moments.{IsSafe};
+ghost use Rattle.mesh_run.specs.Sums.{IsGrown};
+ghost use Rattle.mesh_run.specs.Told.{said, is_quiet, IsOutput, IsOutputFrom};
 ghost use Rattle.mesh_run.specs.Runs.{IsLineDone, IsLineRun};
 
 use crate::commands::do_line;
 use crate::point::Point;
+use crate::say::Say;
 use crate::status::Status;
 use crate::stop::{Scratch, Stop};
-use arrayvec::ArrayVec;
-use memchr::memchr;
-use mesh_base::{Counter, Event, LONGEST_INPUT, LONGEST_LINE, LineBuf, MOST_EVENTS, Variant};
+use mesh_base::{Counter, Event, LONGEST_INPUT, LONGEST_LINE, LineBuf, MOST_EVENTS};
 use mesh_grammar::BadWhy;
-use mesh_io::Sink;
+use mesh_io::{Buffered, LineError, Lines, PutFault, Sink, Source};
 use mesh_report::{put_bad, put_full, put_summary};
 use mesh_script::parse_line;
 use mesh_world::Steps;
 use std::alloc::Global;
 
-/// Does one line that isn't too long, and writes its text unless the run is quiet.
-fn one<'a, S: Steps, O: Sink>(
+/// Does one line of at most `LONGEST_LINE` bytes, writes its text unless the run is quiet, and counts
+/// the line. It never writes a last line: where it answers BadLine or Full, its caller does.
+///
+/// BadLine comes exactly where the line isn't allowed, and the moment is then as it was. Full comes
+/// exactly where an event of the line would raise a node's counter past its field's greatest value;
+/// the events before it were done and written, and the line isn't counted. After WriteFault or
+/// NoMemory a prefix of the line's text was written.
+pub fn one<'a, S: Steps, O: Sink>(
     alloc: Global,
     at: &mut Point<S>,
     bytes: &'a [u8],
@@ -34,31 +42,20 @@ fn one<'a, S: Steps, O: Sink>(
     out: &mut O,
 ) -> Result<(), Stop<'a>>
     requires few { at.old.lines < 2 ^ 62 }
-    requires steps { at.old.sums.events < 2 ^ 47 }
+    requires steps { at.old.steps < 2 ^ 47 }
     requires short { length bytes.now ≤ LONGEST_LINE }
     ensures comes { IsLineRun quiet at.old (outcome_of_piece at.old (Whole bytes.now))
         at.new (O.held out.old) (O.held out.new) result }
     ensures lines { OnOk result (at.new.lines ≡ at.old.lines + 1) }
-    ensures events { OnOk result (at.new.sums.events ≤ at.old.sums.events + MOST_EVENTS) }
+    ensures grown { OnOk result (IsGrown at.old at.new) }
+    ensures steps { OnOk result
+        (4 * at.new.steps ≤ 4 * at.old.steps + MOST_EVENTS * length bytes.now) }
     ensures later { O.faults out.old ≤ O.faults out.new }
     ensures fault { IsErrOf result Stop.WriteFault → Rose (O.faults out.old) (O.faults out.new) }
 {
     match parse_line(bytes, at.mesh(), at.started()) {
         Err(fault) => Err(Stop::BadLine(fault)),
         Ok(line) => do_line(alloc, at, bytes, line, quiet, scratch, out),
-    }
-}
-
-// The first line, and what stands after its LF.
-fn split_line(bytes: &[u8]) -> (&[u8], Option<&[u8]>)
-    ensures whole { IfNone result.1 (result.0.now ≡ bytes.now) }
-    ensures parts { parts 10 bytes.now ≡ result.0.now ∷ rest_parts 10 result.1 }
-    ensures length { IfSome result.1 (λ rest.
-        length result.0.now + 1 + length rest.now ≡ length bytes.now) }
-{
-    match memchr(b'\n', bytes) {
-        None => (bytes, None),
-        Some(at) => (&bytes[..at], Some(&bytes[at + 1..])),
     }
 }
 
@@ -108,14 +105,19 @@ fn fill<S: Steps, O: Sink>(
 }
 
 // Ends the run at its end.
-fn finish<S: Steps, O: Sink>(at: &Point<S>, buf: &mut LineBuf, out: &mut O) -> Status
-    ensures told { IsOutput (O.held out.old) (O.held out.new) (finished_run at.now) result }
+fn finish<S: Steps, O: Sink>(at: &Point<S>, say: Say, buf: &mut LineBuf, out: &mut O) -> Status
+    ensures told { IsOutput (O.held out.old) (O.held out.new) (said say (finished_run at.now)) result }
+    ensures safe { IsSafe at.now }
     ensures later { O.faults out.old ≤ O.faults out.new }
     ensures write { result ≡ Status.WriteFault → Rose (O.faults out.old) (O.faults out.new) }
     ensures read { result ≢ Status.ReadFault }
     ensures words { result ≢ Status.Usage }
 {
-    match put_summary(&at.summary(), buf, out) {
+    let summary = at.summary();
+    if say == Say::Faults {
+        return Status::Done;
+    }
+    match put_summary(&summary, buf, out) {
         Ok(()) => Status::Done,
         Err(_) => Status::WriteFault,
     }
@@ -126,108 +128,103 @@ fn piece<S: Steps, O: Sink>(
     alloc: Global,
     at: &mut Point<S>,
     bytes: &[u8],
-    quiet: bool,
+    say: Say,
     scratch: &mut Scratch,
     out: &mut O,
 ) -> Option<Status>
     requires few { at.old.lines < 2 ^ 62 }
-    requires steps { at.old.sums.events < 2 ^ 47 }
-    ensures goes { IfNone result
-        (IsLineDone quiet (outcome_of_piece at.old (piece_of bytes.now)) at.new (O.held out.old) (O.held out.new)) }
+    requires steps { at.old.steps < 2 ^ 47 }
+    requires short { length bytes.now ≤ LONGEST_LINE }
+    ensures goes { IfNone result (IsLineDone (is_quiet say)
+        (outcome_of_piece at.old (Whole bytes.now)) at.new (O.held out.old) (O.held out.new)) }
     ensures lines { IfNone result (at.new.lines ≡ at.old.lines + 1) }
-    ensures events { IfNone result (at.new.sums.events ≤ at.old.sums.events + MOST_EVENTS) }
+    ensures grown { IfNone result (IsGrown at.old at.new) }
+    ensures steps { IfNone result
+        (4 * at.new.steps ≤ 4 * at.old.steps + MOST_EVENTS * length bytes.now) }
     ensures told { IfSome result (λ status. (pieces : List Piece)
         → IsOutput (O.held out.old) (O.held out.new)
-        (output quiet (text_from at.old (piece_of bytes.now ∷ pieces))) status) }
+        (said say (text_from at.old (Whole bytes.now ∷ pieces))) status) }
     ensures later { O.faults out.old ≤ O.faults out.new }
     ensures write { result ≡ Some Status.WriteFault → Rose (O.faults out.old) (O.faults out.new) }
     ensures read { result ≢ Some Status.ReadFault }
     ensures stopped { result ≢ Some Status.Done }
     ensures words { result ≢ Some Status.Usage }
 {
-    if bytes.len() > LONGEST_LINE {
-        return Some(refuse(at, BadWhy::TooLong, &mut scratch.line, out));
-    }
-    match one(alloc, at, bytes, quiet, scratch, out) {
+    match one(alloc, at, bytes, say.is_quiet(), scratch, out) {
         Ok(()) => None,
         Err(Stop::BadLine(fault)) => {
             Some(refuse(at, BadWhy::Fault(fault), &mut scratch.line, out))
         }
-        Err(Stop::Full { event, field }) => Some(fill(at, event, field, &mut scratch.line, out)),
+        Err(Stop::Full { event, field, .. }) => {
+            Some(fill(at, event, field, &mut scratch.line, out))
+        }
         Err(Stop::WriteFault) => Some(Status::WriteFault),
         Err(Stop::NoMemory) => Some(Status::NoMemory),
     }
 }
 
-// The last part of an input, and the end. `more` says that the input has a byte too many.
-fn last<S: Steps, O: Sink>(
-    alloc: Global,
-    at: &mut Point<S>,
-    bytes: &[u8],
-    more: bool,
-    quiet: bool,
-    scratch: &mut Scratch,
-    out: &mut O,
-) -> Status
-    requires few { at.old.lines < 2 ^ 61 }
-    requires steps { at.old.sums.events < 2 ^ 47 }
-    ensures told { IsOutput (O.held out.old) (O.held out.new)
-        (output quiet (text_from at.old (last_piece more bytes.now))) result }
-    ensures later { O.faults out.old ≤ O.faults out.new }
-    ensures write { result ≡ Status.WriteFault → Rose (O.faults out.old) (O.faults out.new) }
-    ensures read { result ≢ Status.ReadFault }
-    ensures ended { result ≡ Status.Done → more ≡ false }
-    ensures words { result ≢ Status.Usage }
+// Hands on what is gathered, unless the next answer needs no read.
+fn hand_on<I: Source, O: Sink>(lines: &Lines<'_, I>, out: &mut Buffered<O>) -> Result<(), PutFault>
+    ensures held { Keeps (held_by O.held out.old) (held_by O.held out.new) }
+    ensures cause { HasCause (O.faults (inner_of out.old)) (O.faults (inner_of out.new)) result }
 {
-    if more {
-        if bytes.len() > LONGEST_LINE {
-            return refuse(at, BadWhy::TooLong, &mut scratch.line, out);
-        }
-        return refuse(at, BadWhy::TooMuch, &mut scratch.line, out);
+    if lines.is_decided() {
+        return Ok(());
     }
-    if bytes.is_empty() {
-        return finish(at, &mut scratch.line, out);
-    }
-    match piece(alloc, at, bytes, quiet, scratch, out) {
-        Some(status) => status,
-        None => finish(at, &mut scratch.line, out),
-    }
+    out.flush()
 }
 
-/// The lines of an input, or of its prefix where it goes on, where all nodes run this variant of the
-/// protocol.
-pub fn run_lines<S: Steps, O: Sink>(
+/// Does the lines of a source from its front, up to its end or the first that stops the run. What is
+/// gathered is handed on before each read, so that a line's text is there before the next is
+/// awaited.
+pub fn do_lines<S: Steps, I: Source, O: Sink>(
     alloc: Global,
-    variant: Variant,
-    bytes: &[u8],
-    more: bool,
-    quiet: bool,
-    out: &mut O,
+    at: &mut Point<S>,
+    say: Say,
+    lines: &mut Lines<'_, I>,
+    out: &mut Buffered<O>,
 ) -> Status
-    requires { length bytes.now ≤ LONGEST_INPUT }
-    ensures told { IsOutput (O.held out.old) (O.held out.new)
-        (output quiet (text_from (opening variant) (pieces_of more (parts 10 bytes.now)))) result }
-    ensures later { O.faults out.old ≤ O.faults out.new }
-    ensures write { result ≡ Status.WriteFault → Rose (O.faults out.old) (O.faults out.new) }
-    ensures read { result ≢ Status.ReadFault }
-    ensures ended { result ≡ Status.Done → more ≡ false }
+    requires few { at.old.lines < 2 ^ 61 }
+    requires steps { at.old.steps < 2 ^ 46 }
+    requires pending { pending_of lines.old ≡ [] }
+    requires given { given_of lines.old ≡ 0 }
+    ensures same { (source_of lines.new).ghost_name ≡ (source_of lines.old).ghost_name }
+    ensures told { IfSome (I.left (source_of lines.old).now) (λ bytes. IsOutputFrom say at.old bytes
+        (I.left (source_of lines.new).now)
+        (held_by O.held out.old) (held_by O.held out.new) result) }
+    ensures after { result ≡ Status.Done → IfSome (I.left (source_of lines.old).now)
+        (λ bytes. at.new ≡ (text_on at.old bytes).after) }
+    ensures safe { result ≡ Status.Done → IsSafe at.new }
+    ensures grown { result ≡ Status.Done → IsGrown at.old at.new }
+    ensures lines { result ≡ Status.Done → at.new.lines ≤ at.old.lines + LONGEST_INPUT }
+    ensures steps { result ≡ Status.Done
+        → 4 * at.new.steps ≤ 4 * at.old.steps + MOST_EVENTS * LONGEST_INPUT }
+    ensures end { result ≡ Status.Done → IsAtEnd (I.left (source_of lines.new).now) }
+    ensures read { result ≡ Status.ReadFault
+        → Rose (faults_of I.faults lines.old) (faults_of I.faults lines.new) }
+    ensures write { result ≡ Status.WriteFault
+        → Rose (O.faults (inner_of out.old)) (O.faults (inner_of out.new)) }
+    ensures later { O.faults (inner_of out.old) ≤ O.faults (inner_of out.new) }
     ensures words { result ≢ Status.Usage }
 {
-    let mut at: Point<S> = Point::with(variant);
-    let mut scratch = Scratch {
-        line: ArrayVec::new(),
-        packet: ArrayVec::new(),
-    };
-    let mut rest = bytes;
+    let mut scratch = Scratch::new();
     'lines: loop {
-        let (bytes, others) = split_line(rest);
-        match others {
-            None => return last(alloc, &mut at, bytes, more, quiet, &mut scratch, out),
-            Some(next) => {
-                if let Some(status) = piece(alloc, &mut at, bytes, quiet, &mut scratch, out) {
+        if let Err(_) = hand_on(lines, out) {
+            return Status::WriteFault;
+        }
+        match lines.advance() {
+            Ok(true) => {
+                if let Some(status) = piece(alloc, at, lines.line(), say, &mut scratch, out) {
                     return status;
                 }
-                rest = next;
+            }
+            Ok(false) => return finish(at, say, &mut scratch.line, out),
+            Err(LineError::ReadFault) => return Status::ReadFault,
+            Err(LineError::TooLong) => {
+                return refuse(at, BadWhy::TooLong, &mut scratch.line, out);
+            }
+            Err(LineError::TooMuch) => {
+                return refuse(at, BadWhy::TooMuch, &mut scratch.line, out);
             }
         }
     }

@@ -1,58 +1,61 @@
 //! A moment of a run: its variant of the protocol and its mesh, its world, what was counted, how
 //! many lines were read, and how many events the world has gone through.
 ghost use Rattle.std.specs.Prelude.{◌≡◌, ◌<◌, ◌≤◌, ◌^◌, length, is_some, true, Some, None, IfOk, OnOk, OnErr, IfErr, IfSome};
-ghost use Rattle.mesh_base.specs.Meshes.{index_of, with_node};
+ghost use Rattle.mesh_base.specs.declared.events.Variant.TheVariants.{Base};
+ghost use Rattle.mesh_base.specs.Meshes.{IsMesh, with_node};
 ghost use Rattle.mesh_model.specs.Places.{IsEvent};
 ghost use Rattle.mesh_model.specs.Accounts.{any, waiting, queued, in_flight};
 ghost use Rattle.mesh_meaning.specs.Events.{event_of};
 ghost use Rattle.mesh_text.specs.Schedule as model;
+ghost use Rattle.mesh_text.specs.Ranges.{IsNewNode};
 ghost use Rattle.mesh_report.specs.Sums as report;
-ghost use Rattle.mesh_run.specs.Moments.{IsAnswer, IsRefusal};
+ghost use Rattle.mesh_run.specs.Moments.{IsAnswer, IsRefusal, IsSafe};
 
 use crate::sums::Sums;
-use mesh_base::{Addr, Done, Event, MOST_NODES, Mesh, NoMemory, Packet, Variant};
+use mesh_base::{Addr, Done, Event, Mesh, NoMemory, Packet, Variant};
 use mesh_report::Summary;
-use mesh_world::{StepError, Steps, Totals, World};
+use mesh_world::{StepError, Steps, Totals};
 use std::alloc::Global;
 use std::marker::Model;
 
-/// A moment of a run.
+/// A moment of a run. A contract sees its variant of the protocol, its mesh, its world or none, its
+/// sums, its number of lines, and its number of steps, which is 0 where there is no world.
 #[derive(Drop)]
 pub struct Point<S: Steps> {
     variant: Variant,
-    pub(crate) mesh: Mesh,
-    pub(crate) world: Option<S>,
-    pub(crate) sums: Sums,
+    mesh: Mesh,
+    world: Option<S>,
+    sums: Sums,
     lines: u64,
 }
 
 impl<S: Steps> Model for Point<S> {
     ghost use Rattle.std.specs.Prelude.{option_map};
-    ghost use Rattle.std.specs.Option.{unwrap_or};
     ghost use Rattle.mesh_text.specs.Schedule.{Moment};
-    ghost use Rattle.mesh_run.specs.Moments.{moment_code};
+    ghost use Rattle.mesh_run.specs.Sums.{sums_of};
+    ghost use Rattle.mesh_run.specs.Moments.{moment_code, moment_seen, IsSound};
 
     ghost Value = { Moment };
 
     ghost coded = { moment_code };
 
-    ghost use Rattle.mesh_run.specs.Sums.{sums_of};
-    ghost use Rattle.mesh_run.specs.Moments.{IsSound};
+    ghost view = { λ p.
+        moment_seen p.variant p.mesh (option_map S.seen p.world) (sums_of p.sums) p.lines };
 
-    ghost view = { λ p. record {
-      variant = p.variant;
-      mesh = p.mesh;
-      world = option_map (λ s. (S.seen s).world) p.world;
-      sums = sums_of p.sums;
-      lines = p.lines;
-      steps = unwrap_or (option_map (λ s. (S.seen s).steps) p.world) 0;
-    } };
-
-    ghost invariant = { λ p. IsSound p.mesh (option_map S.seen p.world) (sums_of p.sums) };
+    ghost invariant = { λ p. IsSound
+        (moment_seen p.variant p.mesh (option_map S.seen p.world) (sums_of p.sums) p.lines)
+        (option_map S.seen p.world) };
 }
 
 impl<S: Steps> Point<S> {
     ghost use Rattle.mesh_run.specs.Sums.{sums_of};
+
+    /// The moment before the first line, where all nodes run the protocol as AWN has it.
+    pub fn start() -> Point<S>
+        ensures { result ≡ model.opening Base }
+    {
+        Point::with(Variant::Base)
+    }
 
     /// The moment before the first line, where all nodes run this variant of the protocol.
     pub fn with(variant: Variant) -> Point<S>
@@ -69,13 +72,14 @@ impl<S: Steps> Point<S> {
 
     /// The mesh so far.
     pub fn mesh(&self) -> &Mesh
-        ensures { result.now ≡ self.now.mesh }
+        ensures value { result.now ≡ self.now.mesh }
+        ensures is_mesh { IsMesh self.now.mesh }
     {
         &self.mesh
     }
 
     /// Whether a line was neither blank nor a `node` line.
-    pub fn started(&self) -> bool
+    pub(crate) fn started(&self) -> bool
         ensures { result ≡ is_some self.now.world }
     {
         self.world.is_some()
@@ -95,20 +99,21 @@ impl<S: Steps> Point<S> {
         self.lines
     }
 
-    /// The world, once the run has started.
-    pub fn world(&self) -> Option<&World>
+    /// The world: none until an accepted line that is neither blank nor a `node` line, or a
+    /// `step`, has made it. It has the invariant, and no destination's valid routes have a loop.
+    pub fn world(&self) -> Option<&S>
+        ensures safe { IsSafe self.now }
         ensures some { is_some result ≡ is_some self.now.world }
-        ensures value { IfSome result (λ w.
-            (w.now.world ≡ model.world_of self.now) × (w.now.mesh ≡ self.now.mesh)) }
+        ensures world { IfSome result (λ s. (S.seen s.now).world ≡ model.world_of self.now) }
+        ensures mesh { IfSome result (λ s. (S.seen s.now).mesh ≡ self.now.mesh) }
+        ensures steps { IfSome result (λ s. (S.seen s.now).steps ≡ self.now.steps) }
     {
-        match &self.world {
-            Some(s) => Some(s.world()),
-            None => None,
-        }
+        self.world.as_ref()
     }
 
     /// What is said at the end of the run.
-    pub fn summary(&self) -> Summary
+    pub(crate) fn summary(&self) -> Summary
+        ensures safe { IsSafe self.now }
         ensures sums { report.sums_of result ≡ self.now.sums }
         ensures waiting { result.waiting ≡ waiting any (model.world_of self.now) }
         ensures queued { result.queued ≡ queued any (model.world_of self.now) }
@@ -135,7 +140,7 @@ impl<S: Steps> Point<S> {
         ensures flying { result.flying ≡ in_flight any (model.world_of self.now) }
     {
         match self.world() {
-            Some(world) => world.totals(),
+            Some(world) => world.world().totals(),
             None => Totals {
                 waiting: 0,
                 queued: 0,
@@ -145,7 +150,7 @@ impl<S: Steps> Point<S> {
     }
 
     /// Counts a line.
-    pub fn count_line(&mut self)
+    pub(crate) fn count_line(&mut self)
         requires { self.old.lines < 2 ^ 62 }
         ensures { self.new ≡ model.counted self.old }
     {
@@ -153,11 +158,9 @@ impl<S: Steps> Point<S> {
     }
 
     /// Adds a node.
-    pub fn add_node(&mut self, a: Addr, first: u32)
+    pub(crate) fn add_node(&mut self, a: Addr, first: u32)
         requires before { self.old.world ≡ None }
-        requires absent { index_of self.old.mesh a.0 ≡ None }
-        requires room { length self.old.mesh < MOST_NODES }
-        requires positive { 1 ≤ first }
+        requires new { IsNewNode self.old.mesh a.0 first }
         ensures { self.new ≡ record self.old { mesh = with_node self.old.mesh a.0 first } }
     {
         if self.mesh.add(a, first).is_err() {
@@ -165,8 +168,89 @@ impl<S: Steps> Point<S> {
         }
     }
 
+    /// Does one event, in the opening world where there is none yet, and counts it. The packet that
+    /// is cast is left in `out`. On a refusal the moment is as it was: there is still no world where
+    /// there was none. Full comes exactly where the event would raise a counter past its field's
+    /// greatest value.
+    pub fn step(
+        &mut self,
+        alloc: Global,
+        e: &Event<'_>,
+        out: &mut Packet,
+    ) -> Result<Done, StepError>
+        requires some { 1 ≤ length self.old.mesh }
+        requires event { IsEvent (length self.old.mesh) (event_of e.now) }
+        requires few { self.old.steps < 2 ^ 48 }
+        ensures done { IfOk result (λ done.
+            IsAnswer self.old (event_of e.now) done self.new out.new.items) }
+        ensures refused { IfErr result (IsRefusal self.old (event_of e.now)) }
+        ensures same { OnErr result (self.new ≡ self.old) }
+        ensures safe { IsSafe self.new }
+    {
+        if self.started() {
+            self.step_made(alloc, e, out)
+        } else {
+            self.first_step(alloc, e, out)
+        }
+    }
+
+    /// Does one event in the world that is there, and counts it.
+    #[inline(always)]
+    pub(crate) fn step_made(
+        &mut self,
+        alloc: Global,
+        e: &Event<'_>,
+        out: &mut Packet,
+    ) -> Result<Done, StepError>
+        requires made { is_some self.old.world ≡ true }
+        requires event { IsEvent (length self.old.mesh) (event_of e.now) }
+        requires few { self.old.steps < 2 ^ 48 }
+        ensures done { IfOk result (λ done.
+            IsAnswer self.old (event_of e.now) done self.new out.new.items) }
+        ensures refused { IfErr result (IsRefusal self.old (event_of e.now)) }
+        ensures same { OnErr result (self.new ≡ self.old) }
+        ensures safe { IsSafe self.new }
+    {
+        let Some(world) = &mut self.world else {
+            unreachable!();
+        };
+        let answer = world.step(alloc, e, out);
+        if let Ok(done) = &answer {
+            self.sums.add(e, done);
+        }
+        answer
+    }
+
+    // Does the first event. The world is kept only where the event was done.
+    #[cold]
+    fn first_step(
+        &mut self,
+        alloc: Global,
+        e: &Event<'_>,
+        out: &mut Packet,
+    ) -> Result<Done, StepError>
+        requires before { self.old.world ≡ None }
+        requires some { 1 ≤ length self.old.mesh }
+        requires event { IsEvent (length self.old.mesh) (event_of e.now) }
+        ensures done { IfOk result (λ done.
+            IsAnswer self.old (event_of e.now) done self.new out.new.items) }
+        ensures refused { IfErr result (IsRefusal self.old (event_of e.now)) }
+        ensures same { OnErr result (self.new ≡ self.old) }
+        ensures safe { IsSafe self.new }
+    {
+        let mut world = S::with(alloc, &self.mesh, self.variant)?;
+        match world.step(alloc, e, out) {
+            Ok(done) => {
+                self.sums.add(e, &done);
+                self.world = Some(world);
+                Ok(done)
+            }
+            Err(error) => Err(error),
+        }
+    }
+
     /// Makes the opening world, unless the run has started. An `Err` changes nothing.
-    pub fn begin(&mut self, alloc: Global) -> Result<(), NoMemory>
+    pub(crate) fn begin(&mut self, alloc: Global) -> Result<(), NoMemory>
         requires { 1 ≤ length self.old.mesh }
         ensures ok { OnOk result (self.new ≡ model.started self.old) }
         ensures err { OnErr result (self.new ≡ self.old) }

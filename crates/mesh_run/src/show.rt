@@ -40,9 +40,10 @@ pub fn show_node<S: Steps, O: Sink>(
     if quiet {
         return Ok(());
     }
-    let Some(world) = at.world() else {
+    let Some(state) = at.world() else {
         unreachable!();
     };
+    let world = state.world();
     put_echo(bytes, buf, out)?;
     put_node(world.mesh(), world.node(node), buf, out)
 }
@@ -82,9 +83,10 @@ pub fn show_route<S: Steps, O: Sink>(
     if quiet {
         return Ok(());
     }
-    let Some(world) = at.world() else {
+    let Some(state) = at.world() else {
         unreachable!();
     };
+    let world = state.world();
     put_echo(bytes, buf, out)?;
     put_end(world.mesh(), world.follow(node, dest), buf, out)
 }
@@ -130,9 +132,10 @@ pub fn show_flight<S: Steps, O: Sink>(
     if quiet {
         return Ok(());
     }
-    let Some(world) = at.world() else {
+    let Some(state) = at.world() else {
         unreachable!();
     };
+    let world = state.world();
     put_echo(bytes, buf, out)?;
     put_copies(world.mesh(), world.radio(), buf, out)
 }

@@ -2,6 +2,7 @@
 ghost use Rattle.std.specs.Prelude.{◌≡◌};
 ghost use Rattle.mesh_run.specs.declared.stop.Stop.TheVariants as stops;
 
+use arrayvec::ArrayVec;
 use mesh_base::{Counter, Event, LineBuf, NoMemory, Packet};
 use mesh_grammar::LineFault;
 use mesh_io::PutFault;
@@ -11,8 +12,12 @@ use mesh_io::PutFault;
 pub enum Stop<'a> {
     /// The line isn't allowed.
     BadLine(LineFault),
-    /// This event would raise this counter past its field's greatest value.
-    Full { event: Event<'a>, field: Counter },
+    /// This event would raise this counter of this node past its field's greatest value.
+    Full {
+        event: Event<'a>,
+        node: usize,
+        field: Counter,
+    },
     WriteFault,
     NoMemory,
 }
@@ -37,6 +42,16 @@ impl From<NoMemory> for Stop<'_> {
 /// for a line.
 #[derive(Drop)]
 pub struct Scratch {
-    pub line: LineBuf,
-    pub packet: Packet,
+    pub(crate) line: LineBuf,
+    pub(crate) packet: Packet,
+}
+
+impl Scratch {
+    /// An empty line and an empty packet.
+    pub fn new() -> Scratch {
+        Scratch {
+            line: ArrayVec::new(),
+            packet: ArrayVec::new(),
+        }
+    }
 }

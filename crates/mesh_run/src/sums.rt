@@ -1,5 +1,5 @@
 //! What a run counts.
-ghost use Rattle.std.specs.Prelude.{◌≡◌, ◌<◌, ◌^◌, ℕ, List};
+ghost use Rattle.std.specs.Prelude.{◌≡◌, ◌+◌, ◌^◌, ℕ, List};
 ghost use Rattle.mesh_base.specs.Meshes.{Nodes};
 ghost use Rattle.mesh_model.specs.Worlds.{World, Event as an_event, Changed, Next, step};
 ghost use Rattle.mesh_model.specs.Accounts.{any, given, delivered, dropped, in_taken, in_dropped};
@@ -117,14 +117,14 @@ impl Sums {
 
     /// Counts an event, and what came of it.
     pub fn add(&mut self, e: &Event<'_>, done: &Done)
-        requires few { self.old.events < 2 ^ 62 }
-        requires counts { AreCounts (sums_of self.old) }
+        requires few { AreCounts (sums_of self.old) (2 ^ 48) }
         ensures counted { (mesh : Nodes) (x : ℕ) (old new : World) (packet : List ℕ)
             → IsDoneInMesh mesh done.now packet
             → step old (event_of e.now) ≡ outcome_in mesh x new done.now packet
             → sums_of self.new
             ≡ summed (sums_of self.old) (event_of e.now) (step old (event_of e.now)) }
-        ensures counts { AreCounts (sums_of self.new) }
+        ensures counts { (steps : ℕ) → AreCounts (sums_of self.old) steps
+            → AreCounts (sums_of self.new) (steps + 1) }
     {
         self.events += 1;
         match done {

@@ -1,5 +1,5 @@
 //! Runs of whole schedules.
-use crate::drive::run;
+use crate::driving::run;
 use crate::status::Status;
 use mesh_base::{Bytes, Variant};
 use mesh_io::{MemSink, MemSource};

@@ -77,6 +77,26 @@ ends_empty (l ∷ m ∷ ls) same =
 complete_ends : (bytes : List ℕ) → complete bytes ≡ bytes → EndsEmpty (parts 10 bytes)
 complete_ends bytes whole = ends_empty (parts 10 bytes) (ap length (whole ∙ sym (join_with_byte-slice_split 10 bytes)))
 
+first_complete : (l : List ℕ) (ls : List (List ℕ)) → 1 ≤ length ls → complete_parts (l ∷ ls) ≡ l ++ 10 ∷ complete_parts ls
+unfolding complete_parts
+first_complete l [] some = absurd (omega arith)
+first_complete l (m ∷ ls) some = refl
+
+complete_glue : (ls rs : List (List ℕ)) → 1 ≤ length ls → 1 ≤ length rs → EndsEmpty ls → complete_parts (glue ls rs) ≡ complete_parts ls ++ complete_parts rs
+unfolding EndsEmpty glue complete_parts
+complete_glue [] rs some more empty = absurd (omega arith)
+complete_glue (l ∷ []) rs some more empty =
+    subst (λ k. complete_parts (glue (k ∷ []) rs) ≡ complete_parts rs) (sym empty) (ap complete_parts (glue_none rs more))
+complete_glue (l ∷ m ∷ ls) rs some more empty =
+    first_complete l (glue (m ∷ ls) rs) (glue_some (m ∷ ls) rs more)
+    ∙ ap (λ k. l ++ 10 ∷ k) (complete_glue (m ∷ ls) rs (omega arith) more empty)
+    ∙ sym (append_assoc l (10 ∷ complete_parts (m ∷ ls)) (complete_parts rs))
+
+-- what is complete after complete lines
+pub complete_seam : (a b : List ℕ) → complete a ≡ a → complete (a ++ b) ≡ a ++ complete b
+complete_seam a b whole =
+    ap complete_parts (parts_glue a b) ∙ complete_glue (parts 10 a) (parts 10 b) (some_parts a) (some_parts b) (complete_ends a whole) ∙ ap (λ l. l ++ complete b) whole
+
 -- ---- pieces
 
 first_piece : (l : List ℕ) (ls : List (List ℕ)) → 1 ≤ length ls → pieces_of false (l ∷ ls) ≡ piece_of l ∷ pieces_of false ls
@@ -92,7 +112,7 @@ pieces_glue (l ∷ []) rs some more empty =
 pieces_glue (l ∷ m ∷ ls) rs some more empty =
     first_piece l (glue (m ∷ ls) rs) (glue_some (m ∷ ls) rs more) ∙ ap (λ ps. piece_of l ∷ ps) (pieces_glue (m ∷ ls) rs (omega arith) more empty)
 
-short_pieces : (input : List ℕ) → length input ≤ LONGEST_INPUT → pieces_of_input input ≡ pieces_of false (parts 10 input)
+pub short_pieces : (input : List ℕ) → length input ≤ LONGEST_INPUT → pieces_of_input input ≡ pieces_of false (parts 10 input)
 short_pieces input few = ap₂ (λ more bytes. pieces_of more (parts 10 bytes)) (not_more (nat_lt LONGEST_INPUT (length input)) refl) (take_all LONGEST_INPUT input few)
   where
     not_more : (b : Bool) → nat_lt LONGEST_INPUT (length input) ≡ b → nat_lt LONGEST_INPUT (length input) ≡ false

@@ -1,7 +1,7 @@
 use Rattle.std.proofs.Common.{◌∙◌, Ok, Err, arith}
 use Rattle.mesh_meaning.specs.Events.{event_of}
 use Rattle.mesh_run.proofs.Chosen.{ends_all, ends_none, ran_goes, ran_stops}
-use Rattle.mesh_run.proofs.Events.{stepped_started, stepped_lines, stepped_events}
+use Rattle.mesh_run.proofs.Events.{stepped_started, stepped_lines, stepped_steps}
 use Rattle.mesh_run.proofs.auto.do_events.Goals as goal
 
 pub returns-in_default-clause-ran : goal.returns-in_default-clause-ran
@@ -18,7 +18,7 @@ pub events-preserved : goal.events-preserved
 events-preserved g c =
     let next = c.in_default-do_event.ensures.moment in
     let lines = stepped_lines c.events.at c.do_event.new.at (event_of c.in-Some.event) next in
-    let events = stepped_events c.events.at c.do_event.new.at (event_of c.in-Some.event) next in
+    let steps = stepped_steps c.events.at c.do_event.new.at (event_of c.in-Some.event) next in
     record {
       ran = λ now n r p. c.events.invariant.ran now n r
           (ran_goes c.args.quiet c.args.count c.events.did c.events.at c.do_event.new.at n (event_of c.in-Some.event) (g.O.Sink.held c.events.out) (g.O.Sink.held c.do_event.new.out) now r
@@ -27,7 +27,7 @@ events-preserved g c =
       lines = lines ∙ c.events.invariant.lines;
       later = omega (arith, c.in_default-do_event.ensures.later, c.events.invariant.later);
       within = omega (arith, c.events-test.true);
-      events = omega (arith, events, c.events.invariant.events);
+      steps = omega (arith, steps, c.events.invariant.steps);
     }
 
 pub returns-clause-ran : goal.returns-clause-ran

@@ -15,7 +15,7 @@ invariant-events g l = record {
   lines : l.at.lines ≡ l.initial.at.lines;
   later : g.O.Sink.faults l.initial.out ≤ g.O.Sink.faults l.out;
   within : l.did ≤ l.count;
-  events : (l.at.sums).events ≤ (l.initial.at.sums).events + l.did;
+  steps : l.at.steps ≤ l.initial.at.steps + l.did;
 }
 
 abbrev pub decreases-events : goal.decreases-events

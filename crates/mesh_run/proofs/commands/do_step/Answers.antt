@@ -1,6 +1,6 @@
-use Rattle.std.proofs.Common.{◌+◌, ◌∙◌, ap, arith}
+use Rattle.std.proofs.Common.{arith}
 use Rattle.mesh_meaning.specs.Events.{event_of}
-use Rattle.mesh_run.proofs.Events.{step_goes, step_stops, step_lines, step_events}
+use Rattle.mesh_run.proofs.Events.{step_goes, step_stops, step_lines}
 use Rattle.mesh_run.proofs.commands.do_step.Goals as goal
 
 pub returns-in-Err-clause-comes : goal.returns-in-Err-clause-comes
@@ -14,14 +14,3 @@ count_line-requires g c =
 pub returns-clause-comes : goal.returns-clause-comes
 returns-clause-comes g c =
     step_goes c.args.quiet c.args.at.now c.begin.new.self c.do_event.new.at c.count_line.new.self (event_of c.args.event) _ _ c.in_ok-begin.ensures.ok c.in_default.ensures.comes c.count_line.ensures
-
-pub returns-clause-lines : goal.returns-clause-lines
-returns-clause-lines g c =
-    let e = step_lines c.args.at.now c.begin.new.self c.do_event.new.at (event_of c.args.event) c.in_ok-begin.ensures.ok c.in_default.ensures.moment in
-    ap (λ k. k.lines) c.count_line.ensures ∙ ap (λ k. k + 1) e
-
-pub returns-clause-events : goal.returns-clause-events
-returns-clause-events g c =
-    let e = step_events c.args.at.now c.begin.new.self c.do_event.new.at (event_of c.args.event) c.in_ok-begin.ensures.ok c.in_default.ensures.moment in
-    let n = ap (λ k. (k.sums).events) c.count_line.ensures in
-    omega (arith, e, n)

@@ -2,6 +2,7 @@ use Rattle.std.proofs.Common.{◌≡◌, Ok, Err, is_some, refl, rules}
 use Rattle.std.proofs.lemmas.Result.{MatchResult-weaker}
 use Rattle.mesh_text.specs.Schedule.{line_of}
 use Rattle.mesh_script.specs.Seen.{accepted_of}
+use Rattle.mesh_run.proofs.Growth.{done_grows}
 use Rattle.mesh_run.proofs.Shown.{Keeps-same}
 use Rattle.mesh_run.proofs.Telling.{goes_accepted, stops_accepted, came-refused}
 use Rattle.mesh_run.proofs.lines.one.Goals as goal
@@ -17,3 +18,18 @@ returns-in-Ok-clause-comes g c =
     MatchResult-weaker c.do_line.result c.do_line.ensures.comes
     (λ _ p. goes_accepted c.args.quiet c.args.at.now c.do_line.new.at c.args.bytes.now (accepted_of c.in-Ok.line) _ _ e p)
     (λ stop p. stops_accepted c.args.quiet c.args.at.now c.do_line.new.at c.args.bytes.now (accepted_of c.in-Ok.line) _ _ stop e p)
+
+pub returns-in-Ok-clause-lines : goal.returns-in-Ok-clause-lines
+returns-in-Ok-clause-lines g c =
+    let e : line_of c.args.at.now.mesh (is_some c.args.at.now.world) c.args.bytes.now ≡ Ok (accepted_of c.in-Ok.line) = search rules in
+    done_grows c.args.quiet c.args.at.now c.do_line.new.at c.args.bytes.now (accepted_of c.in-Ok.line) _ _ c.do_line.result (λ g. g.lines) c.mesh.ensures.is_mesh.few e c.do_line.ensures.comes
+
+pub returns-in-Ok-clause-grown : goal.returns-in-Ok-clause-grown
+returns-in-Ok-clause-grown g c =
+    let e : line_of c.args.at.now.mesh (is_some c.args.at.now.world) c.args.bytes.now ≡ Ok (accepted_of c.in-Ok.line) = search rules in
+    done_grows c.args.quiet c.args.at.now c.do_line.new.at c.args.bytes.now (accepted_of c.in-Ok.line) _ _ c.do_line.result (λ g. g.grown) c.mesh.ensures.is_mesh.few e c.do_line.ensures.comes
+
+pub returns-in-Ok-clause-steps : goal.returns-in-Ok-clause-steps
+returns-in-Ok-clause-steps g c =
+    let e : line_of c.args.at.now.mesh (is_some c.args.at.now.world) c.args.bytes.now ≡ Ok (accepted_of c.in-Ok.line) = search rules in
+    done_grows c.args.quiet c.args.at.now c.do_line.new.at c.args.bytes.now (accepted_of c.in-Ok.line) _ _ c.do_line.result (λ g. g.steps) c.mesh.ensures.is_mesh.few e c.do_line.ensures.comes

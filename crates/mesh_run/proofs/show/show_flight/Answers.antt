@@ -7,6 +7,7 @@ use Rattle.mesh_grammar.specs.Written.{line}
 use Rattle.mesh_text.specs.Tables.{flight_text}
 use Rattle.mesh_meaning.specs.Packets.{copy_in}
 use Rattle.std.proofs.Common.{map}
+use Rattle.mesh_world.specs.Seen.{WorldSeen}
 use Rattle.mesh_run.proofs.Tables.{shows_whole, shows_front}
 use Rattle.mesh_run.proofs.show.show_flight.Goals as goal
 
@@ -18,11 +19,11 @@ returns-in_err-put_echo-clause-text g c =
 
 pub returns-clause-text : goal.returns-clause-text
 returns-clause-text g c =
-    let again : c.mesh.result.now ≡ c.args.at.now.mesh = c.mesh.ensures.value ∙ c.in-Some.ensures.value.1 in
+    let again : c.mesh.result.now ≡ c.args.at.now.mesh = c.mesh.ensures.value ∙ (ap (λ (w : WorldSeen). w.mesh) c.world-world.ensures ∙ c.in-Some.ensures.mesh) in
     let words = ap line c.requires.echo.1 in
     let output_if : flight_text c.mesh.result.now (map (copy_in c.mesh.result.now) c.radio.result.now.flying) ≡ flight_text c.args.at.now.mesh (world_of c.args.at.now).flying =
     ap (λ (m : Nodes). flight_text m (map (copy_in m) c.radio.result.now.flying)) again
-    ∙ ap (λ (m : Nodes). flight_text c.args.at.now.mesh (map (copy_in m) c.radio.result.now.flying)) (sym c.in-Some.ensures.value.1)
+    ∙ ap (λ (m : Nodes). flight_text c.args.at.now.mesh (map (copy_in m) c.radio.result.now.flying)) (sym (ap (λ (w : WorldSeen). w.mesh) c.world-world.ensures ∙ c.in-Some.ensures.mesh))
     ∙ ap (flight_text c.args.at.now.mesh) c.radio.ensures.flying
-    ∙ ap (λ (w : World). flight_text c.args.at.now.mesh w.flying) c.in-Some.ensures.value.0 in
+    ∙ ap (λ (w : World). flight_text c.args.at.now.mesh w.flying) (ap (λ (w : WorldSeen). w.world) c.world-world.ensures ∙ c.in-Some.ensures.world) in
     shows_whole c.args.quiet _ _ _ _ _ (g.O.Sink.held c.put_echo.new.out) _ c.put_copies.result c.if-quiet.false words output_if c.in_ok-put_echo.ensures.text c.put_copies.ensures.text

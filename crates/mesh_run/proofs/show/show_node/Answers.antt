@@ -7,6 +7,7 @@ use Rattle.mesh_grammar.specs.Written.{line}
 use Rattle.mesh_text.specs.Tables.{node_text, node_text_in}
 use Rattle.std.specs.List.{slice_get}
 use Rattle.std.proofs.Common.{length}
+use Rattle.mesh_world.specs.Seen.{WorldSeen}
 use Rattle.mesh_run.proofs.Tables.{node_shown, shows_whole, shows_front}
 use Rattle.mesh_run.proofs.show.show_node.Goals as goal
 
@@ -21,7 +22,7 @@ returns-clause-text g c =
     let words = ap line c.requires.echo.1 in
     let output_if : node_text c.mesh.result.now c.node.result.now.core (length c.node.result.now.items) ≡ node_text_in c.args.at.now.mesh (slice_get (world_of c.args.at.now).nodes c.args.node) =
     ap (λ (m : Nodes). node_text m c.node.result.now.core (length c.node.result.now.items)) c.mesh.ensures.value
-    ∙ node_shown c.in-Some.world.now.mesh _ c.node.result.now c.node.ensures.node
-    ∙ ap (λ (m : Nodes). node_text_in m (slice_get (c.in-Some.world.now.world).nodes c.args.node)) c.in-Some.ensures.value.1
-    ∙ ap (λ (w : World). node_text_in c.args.at.now.mesh (slice_get w.nodes c.args.node)) c.in-Some.ensures.value.0 in
+    ∙ node_shown c.world-world.result.now.mesh _ c.node.result.now c.node.ensures.node
+    ∙ ap (λ (m : Nodes). node_text_in m (slice_get (c.world-world.result.now.world).nodes c.args.node)) (ap (λ (w : WorldSeen). w.mesh) c.world-world.ensures ∙ c.in-Some.ensures.mesh)
+    ∙ ap (λ (w : World). node_text_in c.args.at.now.mesh (slice_get w.nodes c.args.node)) (ap (λ (w : WorldSeen). w.world) c.world-world.ensures ∙ c.in-Some.ensures.world) in
     shows_whole c.args.quiet _ _ _ _ _ (g.O.Sink.held c.put_echo.new.out) _ c.put_node.result c.if-quiet.false words output_if c.in_ok-put_echo.ensures.text c.put_node.ensures.text

@@ -7,6 +7,7 @@ use Rattle.mesh_text.specs.Schedule.{world_of}
 use Rattle.mesh_grammar.specs.Written.{line}
 use Rattle.mesh_text.specs.Tables.{end_text}
 use Rattle.mesh_world.specs.Ends.{end_in}
+use Rattle.mesh_world.specs.Seen.{WorldSeen}
 use Rattle.mesh_run.proofs.Tables.{shows_whole, shows_front}
 use Rattle.mesh_run.proofs.show.show_route.Goals as goal
 
@@ -18,9 +19,9 @@ returns-in_err-put_echo-clause-text g c =
 
 pub returns-clause-text : goal.returns-clause-text
 returns-clause-text g c =
-    let again : c.mesh.result.now ≡ c.args.at.now.mesh = c.mesh.ensures.value ∙ c.in-Some.ensures.value.1 in
+    let again : c.mesh.result.now ≡ c.args.at.now.mesh = c.mesh.ensures.value ∙ (ap (λ (w : WorldSeen). w.mesh) c.world-world.ensures ∙ c.in-Some.ensures.mesh) in
     let words = ap line c.requires.echo.1 in
     let end : end_text c.mesh.result.now (end_in c.follow.result) ≡ end_text c.args.at.now.mesh (route_end (world_of c.args.at.now) c.args.node c.args.dest) =
     ap (λ (m : Nodes). end_text m (end_in c.follow.result)) again ∙ ap (end_text c.args.at.now.mesh) c.follow.ensures.value
-    ∙ ap (λ (w : World). end_text c.args.at.now.mesh (route_end w c.args.node c.args.dest)) c.in-Some.ensures.value.0 in
+    ∙ ap (λ (w : World). end_text c.args.at.now.mesh (route_end w c.args.node c.args.dest)) (ap (λ (w : WorldSeen). w.world) c.world-world.ensures ∙ c.in-Some.ensures.world) in
     shows_whole c.args.quiet _ _ _ _ _ (g.O.Sink.held c.put_echo.new.out) _ c.put_end.result c.if-quiet.false words end c.in_ok-put_echo.ensures.text c.put_end.ensures.text

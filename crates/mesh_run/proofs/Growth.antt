@@ -1,0 +1,224 @@
+-- By how much a line lets the sums and the steps grow.
+use Rattle.std.proofs.Common.{◌≡◌, inl, inr, if◌then◌else◌, ℕ, zero, suc, ◌+◌, ◌*◌, ◌≤◌, Bool, true, false, List, Option, Some, None, Result, Ok, Err, OnOk, length, is_some, refl, ap, subst, ◌∙◌, arith}
+use Rattle.mesh_base.specs.declared.limits.TheConstants.{MOST_NODES, MOST_EVENTS}
+use Rattle.mesh_model.specs.Worlds as worlds
+use Rattle.mesh_model.specs.Worlds.{Event, Outcome, Idle, Next, Happening, Taken, CopyLost, CopyDoubled, Give, Turn}
+use Rattle.aodv_model.specs.Cores.{Message, Pkt, Rreq, Rrep, Rerr}
+use Rattle.aodv_model.specs.Handlers.{Took, Own, Stored, FromNeighbour}
+use Rattle.mesh_model.specs.Choices.{pick}
+use Rattle.mesh_model.specs.Accounts.{any, in_taken, in_dropped, in_message, given, delivered, delivered_in, dropped, dropped_in, doubled_in, doubled_at}
+use Rattle.mesh_grammar.specs.Lines.{Whole}
+use Rattle.mesh_grammar.specs.Written.{line}
+use Rattle.mesh_text.specs.Schedule.{Moment, Accepted, Nothing, NewNode, Does, Chooses, ShowsNode, ShowsRoute, ShowsFlight, line_of, world_of, started, stepped, counted, outcome_at, idle_by}
+use Rattle.mesh_text.specs.Lines.{words_of}
+use Rattle.mesh_text.specs.Auto as auto
+use Rattle.mesh_text.specs.Ranges.{IsInRange}
+use Rattle.mesh_text.specs.Text.{LineOutcome, On, Refused, Full, outcome_of_event, outcome_of_auto, outcome_of_line}
+use Rattle.mesh_text.specs.Runs.{events_read, events_of_piece}
+use Rattle.mesh_text.proofs.InRange.{in_range}
+use Rattle.mesh_text.proofs.LineLaws.{auto_line_has_four_bytes, line_has_few_events}
+use Rattle.mesh_io.specs.Cutting.{IsCounted}
+use Rattle.mesh_run.specs.declared.stop.Stop.{Stop}
+use Rattle.mesh_run.specs.Runs.{IsLineRun}
+use Rattle.mesh_run.specs.Sums.{IsGrown}
+
+-- ---- no sum grows by more than one
+
+idle_few : (o : Outcome) → idle_by o ≤ 1
+idle_few Idle = omega arith
+idle_few (worlds.Full x field) = omega arith
+idle_few (Next w happening) = omega arith
+
+given_few : (e : Event) (o : Outcome) → given any e o ≤ 1
+given_few (Give x d body) Idle = omega arith
+given_few (Give x d body) (worlds.Full y field) = omega arith
+given_few (Give x d body) (Next w happening) = omega arith
+given_few others o = omega arith
+
+message_few : (m : Message) → in_message any m ≤ 1
+message_few (Pkt b d o) = omega arith
+message_few (Rreq m) = omega arith
+message_few (Rrep m) = omega arith
+message_few (Rerr dests) = omega arith
+
+taken_few : (x : ℕ) (took : Took) → in_taken any x took ≤ 1
+taken_few x (Own b) = omega arith
+taken_few x (Stored d) = omega arith
+taken_few x (FromNeighbour from m) = message_few m
+
+delivered_in_few : (x : ℕ) (h : Happening) → delivered_in any x h ≤ 1
+delivered_in_few x (Taken took effect copies) = by_test effect.deliver
+  where
+    by_test : (b : Bool) → (if b then in_taken any x took else 0) ≤ 1
+    by_test true = taken_few x took
+    by_test false = omega arith
+delivered_in_few x others = omega arith
+
+delivered_few : (e : Event) (o : Outcome) → delivered any e o ≤ 1
+delivered_few (Turn x) Idle = omega arith
+delivered_few (Turn x) (worlds.Full y field) = omega arith
+delivered_few (Turn x) (Next w happening) = delivered_in_few x happening
+delivered_few others o = omega arith
+
+dropped_few : (took : Took) → in_dropped any took ≤ 1
+dropped_few (Own b) = omega arith
+dropped_few (Stored d) = omega arith
+dropped_few (FromNeighbour from m) = message_few m
+
+lost_in_few : (h : Happening) → dropped_in any h ≤ 1
+lost_in_few (Taken took effect copies) = by_test effect.lost
+  where
+    by_test : (b : Bool) → (if b then in_dropped any took else 0) ≤ 1
+    by_test true = dropped_few took
+    by_test false = omega arith
+lost_in_few (CopyLost c) = message_few c.message
+lost_in_few others = omega arith
+
+lost_few : (e : Event) (o : Outcome) → dropped any e o ≤ 1
+lost_few e Idle = omega arith
+lost_few e (worlds.Full x field) = omega arith
+lost_few e (Next w happening) = lost_in_few happening
+
+doubled_few : (h : Happening) → doubled_in h ≤ 1
+doubled_few (CopyDoubled id to true) = omega arith
+doubled_few (CopyDoubled id to false) = omega arith
+doubled_few others = omega arith
+
+copied_few : (o : Outcome) → doubled_at o ≤ 1
+copied_few Idle = omega arith
+copied_few (worlds.Full x field) = omega arith
+copied_few (Next w happening) = doubled_few happening
+
+-- ---- an event, and others
+
+pub grown_same : (m n : Moment) → n.steps ≡ m.steps → n.sums ≡ m.sums → IsGrown m n
+grown_same m n steps sums =
+    let events = ap (λ s. s.events) sums in let idle = ap (λ s. s.idle) sums in let given_is = ap (λ s. s.given) sums in
+    let delivered_is = ap (λ s. s.delivered) sums in let lost = ap (λ s. s.lost) sums in let copied = ap (λ s. s.copied) sums in
+    record { steps = omega arith; events = omega arith; idle = omega arith; given = omega arith; delivered = omega arith; lost = omega arith; copied = omega arith }
+
+pub grown_both : (m n k : Moment) → IsGrown m n → IsGrown n k → IsGrown m k
+grown_both m n k a b =
+    let a0 = a.steps in let a1 = a.events in let a2 = a.idle in let a3 = a.given in let a4 = a.delivered in let a5 = a.lost in let a6 = a.copied in
+    let b0 = b.steps in let b1 = b.events in let b2 = b.idle in let b3 = b.given in let b4 = b.delivered in let b5 = b.lost in let b6 = b.copied in
+    record { steps = omega arith; events = omega arith; idle = omega arith; given = omega arith; delivered = omega arith; lost = omega arith; copied = omega arith }
+
+grown_event : (m : Moment) (e : Event) → IsGrown m (stepped m e)
+unfolding stepped
+grown_event m e =
+    let o : Outcome = outcome_at m e in
+    let i = idle_few o in let g = given_few e o in let d = delivered_few e o in let l = lost_few e o in let c = copied_few o in
+    record { steps = omega arith; events = omega arith; idle = omega arith; given = omega arith; delivered = omega arith; lost = omega arith; copied = omega arith }
+
+-- from m to n by at most so many events
+record Grows (m n : Moment) (most : ℕ) : Type 0 where
+  grown : IsGrown m n
+  lines : n.lines ≡ m.lines
+  steps : n.steps ≤ m.steps + most
+
+grows_none : (m : Moment) (most : ℕ) → Grows m m most
+grows_none m most = record { grown = grown_same m m refl refl; lines = refl; steps = omega arith }
+
+grows_event : (m : Moment) (e : Event) → Grows m (stepped m e) 1
+unfolding stepped
+grows_event m e = record { grown = grown_event m e; lines = refl; steps = omega arith }
+
+grows_both : (m n k : Moment) (a b : ℕ) → Grows m n a → Grows n k b → Grows m k (a + b)
+grows_both m n k a b p q =
+    let ps = p.steps in let qs = q.steps in
+    record { grown = grown_both m n k p.grown q.grown; lines = q.lines ∙ p.lines; steps = omega arith }
+
+-- ---- chosen events
+
+GrowsTo : Moment → auto.AutoOutcome → ℕ → Type 0
+GrowsTo m (auto.Ended text did n) most = Grows m n most
+GrowsTo m (auto.Full text n e field) most = Unit {0}
+
+grows_before : (m : Moment) (e : Event) (text : List ℕ) (r : auto.AutoOutcome) (most : ℕ) → GrowsTo (stepped m e) r most → GrowsTo m (auto.before text r) (suc most)
+unfolding GrowsTo
+grows_before m e text (auto.Ended others did n) most g =
+    let both = grows_both m (stepped m e) n 1 most (grows_event m e) g in
+    let steps = both.steps in
+    record { grown = both.grown; lines = both.lines; steps = omega arith }
+grows_before m e text (auto.Full others n f field) most g = tt
+
+grows_done : (m : Moment) (e : Event) (o : Outcome) (others : Moment → auto.AutoOutcome) (most : ℕ) → GrowsTo (stepped m e) (others (stepped m e)) most → GrowsTo m (auto.done_then m e o others) (suc most)
+unfolding GrowsTo
+grows_done m e Idle others most g = grows_before m e _ (others (stepped m e)) most g
+grows_done m e (worlds.Full x field) others most g = tt
+grows_done m e (Next w happening) others most g = grows_before m e _ (others (stepped m e)) most g
+
+grows_chosen : (m : Moment) (did : ℕ) (o : Option Event) (others : Moment → auto.AutoOutcome) (most : ℕ) → ((n : Moment) → GrowsTo n (others n) most) → GrowsTo m (auto.chosen_then m did o others) (suc most)
+unfolding GrowsTo
+grows_chosen m did None others most g = grows_none m (suc most)
+grows_chosen m did (Some e) others most g = grows_done m e (outcome_at m e) others most (g (stepped m e))
+
+grows_auto : (most did : ℕ) (m : Moment) → GrowsTo m (auto.auto_from most did m) most
+unfolding GrowsTo auto.auto_from
+grows_auto zero did m = grows_none m zero
+grows_auto (suc most) did m = grows_chosen m did (pick (world_of m)) (λ n. auto.auto_from most (did + 1) n) most (λ n. grows_auto most (did + 1) n)
+
+-- ---- a line
+
+-- the line was counted, and it did at most a quarter of the most events for each of its bytes
+pub record LineGrows (m n : Moment) (bytes : ℕ) : Type 0 where
+  pub lines : n.lines ≡ m.lines + 1
+  pub grown : IsGrown m n
+  pub steps : 4 * n.steps ≤ 4 * m.steps + MOST_EVENTS * bytes
+
+GrowsOn : Moment → LineOutcome → ℕ → Type 0
+GrowsOn m (On text n) bytes = LineGrows m n bytes
+GrowsOn m (Refused why) bytes = Unit {0}
+GrowsOn m (Full text n e field) bytes = Unit {0}
+
+line_shown : (m : Moment) (bytes : ℕ) → LineGrows m (counted (started m)) bytes
+line_shown m bytes = record { lines = refl; grown = grown_same m (counted (started m)) refl refl; steps = omega arith }
+
+line_event : (m : Moment) (e : Event) (o : Outcome) (bytes : ℕ) → 1 ≤ bytes → GrowsOn m (outcome_of_event m e o) bytes
+unfolding GrowsOn stepped
+line_event m e Idle bytes some = let g = grown_event m e in record { lines = refl; grown = record { steps = g.steps; events = g.events; idle = g.idle; given = g.given; delivered = g.delivered; lost = g.lost; copied = g.copied }; steps = omega arith }
+line_event m e (worlds.Full x field) bytes some = tt
+line_event m e (Next w happening) bytes some = let g = grown_event m e in record { lines = refl; grown = record { steps = g.steps; events = g.events; idle = g.idle; given = g.given; delivered = g.delivered; lost = g.lost; copied = g.copied }; steps = omega arith }
+
+line_auto : (m : Moment) (text : List ℕ) (r : auto.AutoOutcome) (count bytes : ℕ) → GrowsTo (started m) r count → count ≤ MOST_EVENTS → 4 ≤ bytes → GrowsOn m (outcome_of_auto text r) bytes
+unfolding GrowsTo GrowsOn
+line_auto m text (auto.Ended others did n) count bytes g few four =
+    let steps = g.steps in let lines = g.lines in let is = g.grown in
+    record {
+      lines = omega arith;
+      grown = record { steps = is.steps; events = is.events; idle = is.idle; given = is.given; delivered = is.delivered; lost = is.lost; copied = is.copied };
+      steps = omega arith;
+    }
+line_auto m text (auto.Full others n e field) count bytes g few four = tt
+
+line_by : (m : Moment) (bytes : List ℕ) (a : Accepted) → IsInRange m.mesh a → line_of m.mesh (is_some m.world) bytes ≡ Ok a → 4 * length (events_of_piece m (Whole bytes)) ≤ MOST_EVENTS * length bytes
+    → GrowsOn m (outcome_of_line m a) (length bytes)
+unfolding GrowsOn outcome_of_line
+line_by m bytes Nothing range is few = record { lines = refl; grown = grown_same m (counted m) refl refl; steps = omega arith }
+line_by m bytes (NewNode address first) range is few = record { lines = refl; grown = grown_same m _ refl refl; steps = omega arith }
+line_by m bytes (Does e) range is few =
+    let one : 4 * 1 ≤ MOST_EVENTS * length bytes = subst (λ r. 4 * length (events_read m r) ≤ MOST_EVENTS * length bytes) is few in
+    line_event m e (outcome_at m e) (length bytes) (omega arith)
+line_by m bytes (Chooses count) range is few =
+    line_auto m (line (words_of m.mesh (Chooses count))) (auto.auto_from count 0 (started m)) count (length bytes) (grows_auto count 0 (started m)) range.2 (auto_line_has_four_bytes m.mesh (is_some m.world) bytes count is)
+line_by m bytes (ShowsNode x) range is few = line_shown m (length bytes)
+line_by m bytes (ShowsRoute x d) range is few = line_shown m (length bytes)
+line_by m bytes ShowsFlight range is few = line_shown m (length bytes)
+
+pub line_grows : (m n : Moment) (bytes text : List ℕ) (a : Accepted) → length m.mesh ≤ MOST_NODES → line_of m.mesh (is_some m.world) bytes ≡ Ok a → outcome_of_line m a ≡ On text n → LineGrows m n (length bytes)
+unfolding GrowsOn
+line_grows m n bytes text a few is on =
+    let range = in_range m.mesh (is_some m.world) bytes a few is in
+    subst (λ k. GrowsOn m k (length bytes)) on (line_by m bytes a range.0 is (line_has_few_events m bytes few))
+
+-- where it was done
+pub done_grows : {P : Type 0} (quiet : Bool) (m n : Moment) (bytes : List ℕ) (a : Accepted) (before now : Option (List ℕ)) (r : Result (Unit {0}) Stop) → (LineGrows m n (length bytes) → P) → length m.mesh ≤ MOST_NODES
+    → line_of m.mesh (is_some m.world) bytes ≡ Ok a → IsLineRun quiet m (outcome_of_line m a) n before now r → OnOk r P
+done_grows quiet m n bytes a before now (Ok done) of few is run = of (line_grows m n bytes run.text a few is run.is)
+done_grows quiet m n bytes a before now (Err stop) of few is run = tt
+
+-- lines that were done, and one more, by the bytes that were given
+pub steps_more : (len given after : ℕ) (ended : Bool) (n m s bytes : ℕ) → IsCounted len given after ended → bytes ≡ len → 4 * n ≤ 4 * m + MOST_EVENTS * bytes → 4 * m ≤ 4 * s + MOST_EVENTS * given
+    → 4 * n ≤ 4 * s + MOST_EVENTS * after
+steps_more len given after ended n m s bytes (inl lf) size more few = omega arith
+steps_more len given after ended n m s bytes (inr last) size more few = let count = last.0 in omega arith

@@ -1,0 +1,179 @@
+use Rattle.std.proofs.Common.{◌∷◌, Bool, Some, Ok, Err, length, Result, refl, ap, subst, ◌∙◌, arith}
+use Rattle.std.specs.Prelude.{IfSome}
+use Rattle.mesh_io.specs.Buffering.{held_by}
+use Rattle.mesh_io.specs.NextLines.{schedule_limits}
+use Rattle.mesh_io.specs.Cause.{Rose}
+use Rattle.mesh_io.specs.Cutting.{Tells}
+use Rattle.mesh_io.specs.Reading.{source_of, given_of, pending_of, line_of, has_ended, ahead_of, faults_of}
+use Rattle.mesh_io.specs.declared.line_error.LineError.{LineError}
+use Rattle.mesh_io.proofs.Deciding.{decides_ended}
+use Rattle.mesh_grammar.specs.Lines.{Whole}
+use Rattle.mesh_text.specs.Text.{text_from, outcome_of_piece}
+use Rattle.mesh_run.specs.Told.{said, is_quiet, IsOutput}
+use Rattle.mesh_run.specs.Runs.{IsLineDone}
+use Rattle.mesh_run.proofs.Faults.{rose_later}
+use Rattle.mesh_run.proofs.Growth.{grown_same, grown_both, steps_more}
+use Rattle.mesh_run.proofs.Story.{story_begins, story_kept, story_goes, story_stops, story_ends, story_after, story_long, story_much, story_breaks, story_cut}
+use Rattle.mesh_run.proofs.lines.do_lines.Goals as goal
+
+pub lines-init : goal.lines-init
+lines-init g c = record {
+  same = refl;
+  story = story_begins c.args.say c.args.at.now (g.I.Source.left (source_of c.args.lines.now).now) (pending_of c.args.lines.now) (given_of c.args.lines.now) (has_ended c.args.lines.now) (held_by g.O.Sink.held c.args.out.now) c.requires.pending c.requires.given;
+  few = omega (arith, c.requires.given);
+  reads = refl;
+  writes = omega arith;
+  grown = grown_same c.args.at.now c.args.at.now refl refl;
+  count = omega arith;
+  steps = omega arith;
+}
+
+pub lines-preserved : goal.lines-preserved
+lines-preserved g c =
+    let found = c.in-Ok-true.is ∙ ap Ok c.in-Ok-true.field-0-test in
+    let told =
+    subst (λ (r : Result Bool LineError). IfSome (ahead_of g.I.Source.left c.lines.lines) (λ bytes. Tells schedule_limits (given_of c.lines.lines) bytes r (line_of c.advance.new.self) (given_of c.advance.new.self) (ahead_of g.I.Source.left c.advance.new.self))) (found) c.advance.ensures.told in
+    let kept = story_kept c.args.say c.args.at.now c.lines.at (g.I.Source.left (source_of c.args.lines.now).now) (ahead_of g.I.Source.left c.lines.lines) (given_of c.lines.lines) (has_ended c.lines.lines) (held_by g.O.Sink.held c.args.out.now) (held_by g.O.Sink.held c.lines.out) (held_by g.O.Sink.held c.hand_on.new.out) c.hand_on.ensures.held c.lines.invariant.story in
+    let counted = c.advance.ensures.counted found in
+    let grows = c.advance.ensures.grows found in
+    let done : IsLineDone (is_quiet c.args.say) (outcome_of_piece c.lines.at (Whole (line_of c.advance.new.self))) c.piece.new.at (held_by g.O.Sink.held c.hand_on.new.out) (held_by g.O.Sink.held c.piece.new.out) =
+    subst (λ l. IsLineDone (is_quiet c.args.say) (outcome_of_piece c.lines.at (Whole l)) c.piece.new.at (held_by g.O.Sink.held c.hand_on.new.out) (held_by g.O.Sink.held c.piece.new.out)) c.line.ensures c.in_default-piece.ensures.goes in
+    let size = ap length c.line.ensures in
+    let lines = c.in_default-piece.ensures.lines in
+    let steps = c.in_default-piece.ensures.steps in
+    record {
+      same = c.advance.ensures.same ∙ c.lines.invariant.same;
+      story = story_goes c.args.say c.args.at.now c.lines.at c.piece.new.at (g.I.Source.left (source_of c.args.lines.now).now) (ahead_of g.I.Source.left c.lines.lines) (ahead_of g.I.Source.left c.advance.new.self) (line_of c.advance.new.self) (given_of c.lines.lines) (given_of c.advance.new.self) (has_ended c.lines.lines) (has_ended c.advance.new.self) (held_by g.O.Sink.held c.args.out.now) (held_by g.O.Sink.held c.hand_on.new.out) (held_by g.O.Sink.held c.piece.new.out)
+          c.lines.invariant.few c.advance.ensures.few (c.advance.ensures.short found) kept told counted done;
+      few = c.advance.ensures.few;
+      reads = c.in-Ok-true.ensures.cause.none (λ e. cc) ∙ c.lines.invariant.reads;
+      writes = omega (arith, c.piece.ensures.later, c.hand_on.ensures.cause.later, c.lines.invariant.writes);
+      grown = grown_both c.args.at.now c.lines.at c.piece.new.at c.lines.invariant.grown c.in_default-piece.ensures.grown;
+      count = omega (arith, grows, lines, c.lines.invariant.count);
+      steps = steps_more (length (line_of c.advance.new.self)) (given_of c.lines.lines) (given_of c.advance.new.self) (has_ended c.advance.new.self) c.piece.new.at.steps c.lines.at.steps c.args.at.now.steps _ counted size steps c.lines.invariant.steps;
+    }
+
+pub returns-in-Err : goal.returns-in-Err
+returns-in-Err g c = record {
+  same = c.lines.invariant.same;
+  told = story_breaks c.args.say c.args.at.now c.lines.at (g.I.Source.left (source_of c.args.lines.now).now) (ahead_of g.I.Source.left c.lines.lines) (g.I.Source.left (source_of c.lines.lines).now) (given_of c.lines.lines) (has_ended c.lines.lines) (held_by g.O.Sink.held c.args.out.now) (held_by g.O.Sink.held c.hand_on.new.out)
+      (story_kept c.args.say c.args.at.now c.lines.at (g.I.Source.left (source_of c.args.lines.now).now) (ahead_of g.I.Source.left c.lines.lines) (given_of c.lines.lines) (has_ended c.lines.lines) (held_by g.O.Sink.held c.args.out.now) (held_by g.O.Sink.held c.lines.out) (held_by g.O.Sink.held c.hand_on.new.out) c.hand_on.ensures.held c.lines.invariant.story);
+  after = λ e. cc;
+  safe = λ e. cc;
+  grown = λ e. cc;
+  lines = λ e. cc;
+  steps = λ e. cc;
+  end = λ e. cc;
+  read = λ e. cc;
+  write = λ e. rose_later _ _ _ c.lines.invariant.writes c.in-Err.ensures.cause.failed;
+  later = omega (arith, c.lines.invariant.writes, c.hand_on.ensures.cause.later);
+  words = λ e. cc;
+}
+
+pub returns-in-Some : goal.returns-in-Some
+returns-in-Some g c =
+    let found = c.in-Ok-true.is ∙ ap Ok c.in-Ok-true.field-0-test in
+    let told =
+    subst (λ (r : Result Bool LineError). IfSome (ahead_of g.I.Source.left c.lines.lines) (λ bytes. Tells schedule_limits (given_of c.lines.lines) bytes r (line_of c.advance.new.self) (given_of c.advance.new.self) (ahead_of g.I.Source.left c.advance.new.self))) (found) c.advance.ensures.told in
+    let kept = story_kept c.args.say c.args.at.now c.lines.at (g.I.Source.left (source_of c.args.lines.now).now) (ahead_of g.I.Source.left c.lines.lines) (given_of c.lines.lines) (has_ended c.lines.lines) (held_by g.O.Sink.held c.args.out.now) (held_by g.O.Sink.held c.lines.out) (held_by g.O.Sink.held c.hand_on.new.out) c.hand_on.ensures.held c.lines.invariant.story in
+    record {
+      same = c.advance.ensures.same ∙ c.lines.invariant.same;
+      told = story_stops c.args.say c.args.at.now c.lines.at (g.I.Source.left (source_of c.args.lines.now).now) (ahead_of g.I.Source.left c.lines.lines) (ahead_of g.I.Source.left c.advance.new.self) (g.I.Source.left (source_of c.advance.new.self).now) (line_of c.advance.new.self) (given_of c.lines.lines) (given_of c.advance.new.self) (has_ended c.lines.lines) (held_by g.O.Sink.held c.args.out.now) (held_by g.O.Sink.held c.hand_on.new.out) (held_by g.O.Sink.held c.piece.new.out) c.in-Some.status
+          c.lines.invariant.few kept told (λ e. c.in-Some.ensures.read (ap Some e))
+          (λ pieces. subst (λ l. IsOutput (held_by g.O.Sink.held c.hand_on.new.out) (held_by g.O.Sink.held c.piece.new.out) (said c.args.say (text_from c.lines.at (Whole l ∷ pieces))) c.in-Some.status) c.line.ensures (c.in-Some.ensures.told pieces));
+      after = λ e. absurd (c.in-Some.ensures.stopped (ap Some e));
+      safe = λ e. absurd (c.in-Some.ensures.stopped (ap Some e));
+      grown = λ e. absurd (c.in-Some.ensures.stopped (ap Some e));
+      lines = λ e. absurd (c.in-Some.ensures.stopped (ap Some e));
+      steps = λ e. absurd (c.in-Some.ensures.stopped (ap Some e));
+      end = λ e. absurd (c.in-Some.ensures.stopped (ap Some e));
+      read = λ e. absurd (c.in-Some.ensures.read (ap Some e));
+      write = λ e. rose_later _ _ _ (let a = c.lines.invariant.writes in let b = c.hand_on.ensures.cause.later in omega arith) (c.in-Some.ensures.write (ap Some e));
+      later = omega (arith, c.lines.invariant.writes, c.hand_on.ensures.cause.later, c.piece.ensures.later);
+      words = λ e. c.in-Some.ensures.words (ap Some e);
+    }
+
+pub returns-in-Ok-false : goal.returns-in-Ok-false
+returns-in-Ok-false g c =
+    let found = c.in-Ok-false.is ∙ ap Ok c.in-Ok-false.field-0-test in
+    let told =
+    subst (λ (r : Result Bool LineError). IfSome (ahead_of g.I.Source.left c.lines.lines) (λ bytes. Tells schedule_limits (given_of c.lines.lines) bytes r (line_of c.advance.new.self) (given_of c.advance.new.self) (ahead_of g.I.Source.left c.advance.new.self))) (found) c.advance.ensures.told in
+    let kept = story_kept c.args.say c.args.at.now c.lines.at (g.I.Source.left (source_of c.args.lines.now).now) (ahead_of g.I.Source.left c.lines.lines) (given_of c.lines.lines) (has_ended c.lines.lines) (held_by g.O.Sink.held c.args.out.now) (held_by g.O.Sink.held c.lines.out) (held_by g.O.Sink.held c.hand_on.new.out) c.hand_on.ensures.held c.lines.invariant.story in
+    record {
+      same = c.advance.ensures.same ∙ c.lines.invariant.same;
+      told = story_ends c.args.say c.args.at.now c.lines.at (g.I.Source.left (source_of c.args.lines.now).now) (ahead_of g.I.Source.left c.lines.lines) (ahead_of g.I.Source.left c.advance.new.self) (g.I.Source.left (source_of c.advance.new.self).now) (line_of c.advance.new.self) (given_of c.lines.lines) (given_of c.advance.new.self) (has_ended c.lines.lines) (held_by g.O.Sink.held c.args.out.now) (held_by g.O.Sink.held c.hand_on.new.out) (held_by g.O.Sink.held c.finish.new.out) c.finish.result kept told c.finish.ensures.read c.finish.ensures.told;
+      after = λ e. story_after c.args.say c.args.at.now c.lines.at (g.I.Source.left (source_of c.args.lines.now).now) (ahead_of g.I.Source.left c.lines.lines) (ahead_of g.I.Source.left c.advance.new.self) (line_of c.advance.new.self) (given_of c.lines.lines) (given_of c.advance.new.self) (has_ended c.lines.lines) (held_by g.O.Sink.held c.args.out.now) (held_by g.O.Sink.held c.hand_on.new.out) kept told;
+      safe = λ e. c.finish.ensures.safe;
+      grown = λ e. c.lines.invariant.grown;
+      lines = λ e. omega (arith, c.lines.invariant.count, c.lines.invariant.few);
+      steps = λ e. omega (arith, c.lines.invariant.steps, c.lines.invariant.few);
+      end = λ e. c.advance.ensures.end found;
+      read = λ e. absurd (c.finish.ensures.read e);
+      write = λ e. rose_later _ _ _ (let a = c.lines.invariant.writes in let b = c.hand_on.ensures.cause.later in omega arith) (c.finish.ensures.write e);
+      later = omega (arith, c.lines.invariant.writes, c.hand_on.ensures.cause.later, c.finish.ensures.later);
+      words = c.finish.ensures.words;
+    }
+
+pub returns-in-Err-ReadFault : goal.returns-in-Err-ReadFault
+returns-in-Err-ReadFault g c =
+    let found = c.in-Err-ReadFault.is ∙ ap Err c.in-Err-ReadFault.field-0-is in
+    let told =
+    subst (λ (r : Result Bool LineError). IfSome (ahead_of g.I.Source.left c.lines.lines) (λ bytes. Tells schedule_limits (given_of c.lines.lines) bytes r (line_of c.advance.new.self) (given_of c.advance.new.self) (ahead_of g.I.Source.left c.advance.new.self))) (found) c.advance.ensures.told in
+    let kept = story_kept c.args.say c.args.at.now c.lines.at (g.I.Source.left (source_of c.args.lines.now).now) (ahead_of g.I.Source.left c.lines.lines) (given_of c.lines.lines) (has_ended c.lines.lines) (held_by g.O.Sink.held c.args.out.now) (held_by g.O.Sink.held c.lines.out) (held_by g.O.Sink.held c.hand_on.new.out) c.hand_on.ensures.held c.lines.invariant.story in
+    record {
+      same = c.advance.ensures.same ∙ c.lines.invariant.same;
+      told = story_cut c.args.say c.args.at.now c.lines.at (g.I.Source.left (source_of c.args.lines.now).now) (ahead_of g.I.Source.left c.lines.lines) (g.I.Source.left (source_of c.advance.new.self).now) (pending_of c.advance.new.self) (line_of c.advance.new.self) (given_of c.lines.lines) (given_of c.advance.new.self) (has_ended c.lines.lines) (held_by g.O.Sink.held c.args.out.now) (held_by g.O.Sink.held c.hand_on.new.out) kept told (c.advance.ensures.pending found)
+          (λ ended. c.advance.ensures.unasked (decides_ended schedule_limits (given_of c.lines.lines) (has_ended c.lines.lines) (pending_of c.lines.lines) ended) found);
+      after = λ e. cc;
+      safe = λ e. cc;
+      grown = λ e. cc;
+      lines = λ e. cc;
+      steps = λ e. cc;
+      end = λ e. cc;
+      read = λ e. subst (λ n. Rose n (faults_of g.I.Source.faults c.advance.new.self)) c.lines.invariant.reads (c.advance.ensures.cause.failed found);
+      write = λ e. cc;
+      later = omega (arith, c.lines.invariant.writes, c.hand_on.ensures.cause.later);
+      words = λ e. cc;
+    }
+
+pub returns-in-Err-TooLong : goal.returns-in-Err-TooLong
+returns-in-Err-TooLong g c =
+    let found = c.in-Err-TooLong.is ∙ ap Err c.in-Err-TooLong.field-0-is in
+    let told =
+    subst (λ (r : Result Bool LineError). IfSome (ahead_of g.I.Source.left c.lines.lines) (λ bytes. Tells schedule_limits (given_of c.lines.lines) bytes r (line_of c.advance.new.self) (given_of c.advance.new.self) (ahead_of g.I.Source.left c.advance.new.self))) (found) c.advance.ensures.told in
+    let kept = story_kept c.args.say c.args.at.now c.lines.at (g.I.Source.left (source_of c.args.lines.now).now) (ahead_of g.I.Source.left c.lines.lines) (given_of c.lines.lines) (has_ended c.lines.lines) (held_by g.O.Sink.held c.args.out.now) (held_by g.O.Sink.held c.lines.out) (held_by g.O.Sink.held c.hand_on.new.out) c.hand_on.ensures.held c.lines.invariant.story in
+    record {
+      same = c.advance.ensures.same ∙ c.lines.invariant.same;
+      told = story_long c.args.say c.args.at.now c.lines.at (g.I.Source.left (source_of c.args.lines.now).now) (ahead_of g.I.Source.left c.lines.lines) (ahead_of g.I.Source.left c.advance.new.self) (g.I.Source.left (source_of c.advance.new.self).now) (line_of c.advance.new.self) (given_of c.lines.lines) (given_of c.advance.new.self) (has_ended c.lines.lines) (held_by g.O.Sink.held c.args.out.now) (held_by g.O.Sink.held c.hand_on.new.out) (held_by g.O.Sink.held c.refuse.new.out) c.refuse.result c.lines.invariant.few kept told c.refuse.ensures.read c.refuse.ensures.told;
+      after = λ e. absurd (c.refuse.ensures.refused e);
+      safe = λ e. absurd (c.refuse.ensures.refused e);
+      grown = λ e. absurd (c.refuse.ensures.refused e);
+      lines = λ e. absurd (c.refuse.ensures.refused e);
+      steps = λ e. absurd (c.refuse.ensures.refused e);
+      end = λ e. absurd (c.refuse.ensures.refused e);
+      read = λ e. absurd (c.refuse.ensures.read e);
+      write = λ e. rose_later _ _ _ (let a = c.lines.invariant.writes in let b = c.hand_on.ensures.cause.later in omega arith) (c.refuse.ensures.write e);
+      later = omega (arith, c.lines.invariant.writes, c.hand_on.ensures.cause.later, c.refuse.ensures.later);
+      words = c.refuse.ensures.words;
+    }
+
+pub returns-in-Err-TooMuch : goal.returns-in-Err-TooMuch
+returns-in-Err-TooMuch g c =
+    let found = c.in-Err-TooMuch.is ∙ ap Err c.in-Err-TooMuch.field-0-is in
+    let told =
+    subst (λ (r : Result Bool LineError). IfSome (ahead_of g.I.Source.left c.lines.lines) (λ bytes. Tells schedule_limits (given_of c.lines.lines) bytes r (line_of c.advance.new.self) (given_of c.advance.new.self) (ahead_of g.I.Source.left c.advance.new.self))) (found) c.advance.ensures.told in
+    let kept = story_kept c.args.say c.args.at.now c.lines.at (g.I.Source.left (source_of c.args.lines.now).now) (ahead_of g.I.Source.left c.lines.lines) (given_of c.lines.lines) (has_ended c.lines.lines) (held_by g.O.Sink.held c.args.out.now) (held_by g.O.Sink.held c.lines.out) (held_by g.O.Sink.held c.hand_on.new.out) c.hand_on.ensures.held c.lines.invariant.story in
+    record {
+      same = c.advance.ensures.same ∙ c.lines.invariant.same;
+      told = story_much c.args.say c.args.at.now c.lines.at (g.I.Source.left (source_of c.args.lines.now).now) (ahead_of g.I.Source.left c.lines.lines) (ahead_of g.I.Source.left c.advance.new.self) (g.I.Source.left (source_of c.advance.new.self).now) (line_of c.advance.new.self) (given_of c.lines.lines) (given_of c.advance.new.self) (has_ended c.lines.lines) (held_by g.O.Sink.held c.args.out.now) (held_by g.O.Sink.held c.hand_on.new.out) (held_by g.O.Sink.held c.refuse-in-Err-TooMuch.new.out) c.refuse-in-Err-TooMuch.result c.lines.invariant.few kept told c.refuse-in-Err-TooMuch.ensures.read c.refuse-in-Err-TooMuch.ensures.told;
+      after = λ e. absurd (c.refuse-in-Err-TooMuch.ensures.refused e);
+      safe = λ e. absurd (c.refuse-in-Err-TooMuch.ensures.refused e);
+      grown = λ e. absurd (c.refuse-in-Err-TooMuch.ensures.refused e);
+      lines = λ e. absurd (c.refuse-in-Err-TooMuch.ensures.refused e);
+      steps = λ e. absurd (c.refuse-in-Err-TooMuch.ensures.refused e);
+      end = λ e. absurd (c.refuse-in-Err-TooMuch.ensures.refused e);
+      read = λ e. absurd (c.refuse-in-Err-TooMuch.ensures.read e);
+      write = λ e. rose_later _ _ _ (let a = c.lines.invariant.writes in let b = c.hand_on.ensures.cause.later in omega arith) (c.refuse-in-Err-TooMuch.ensures.write e);
+      later = omega (arith, c.lines.invariant.writes, c.hand_on.ensures.cause.later, c.refuse-in-Err-TooMuch.ensures.later);
+      words = c.refuse-in-Err-TooMuch.ensures.words;
+    }

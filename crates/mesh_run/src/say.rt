@@ -1,0 +1,35 @@
+//! What is written of a run.
+ghost use Rattle.std.specs.Prelude.{◌≡◌};
+
+/// How much of its text a run writes.
+#[derive(Clone, Copy, Debug, PartialEq, Eq)]
+pub enum Say {
+    /// All of it.
+    All,
+    /// Its last line alone.
+    Last,
+    /// Its last line where a line is refused or a counter full, and else nothing.
+    Faults,
+}
+
+impl Say {
+    ghost use Rattle.mesh_run.specs.Told.{say_by, is_quiet};
+
+    /// The text, or its last line alone.
+    pub fn by(quiet: bool) -> Say
+        ensures { result ≡ say_by quiet }
+    {
+        if quiet { Say::Last } else { Say::All }
+    }
+
+    /// The lines are left out.
+    pub fn is_quiet(&self) -> bool
+        ensures { result ≡ is_quiet self.now }
+    {
+        match self {
+            Say::All => false,
+            Say::Last => true,
+            Say::Faults => true,
+        }
+    }
+}
