@@ -1,0 +1,11 @@
+pub mod Gets
+pub mod Places
+pub mod Fronts
+pub mod Rows
+pub mod Ways
+pub mod Moves
+pub mod Nodes
+pub mod Arrivals
+pub mod Sends
+pub mod Turns
+pub mod Starts

@@ -1,0 +1,198 @@
+-- The lists of a node, turned round, are those that mesh_walks defines.
+use Rattle.std.proofs.Common.{◌≡◌, ℕ, zero, suc, ◌<◌, ◌≤◌, Bool, true, false, not, ◌==◌, ◌&&◌, List, [], ◌∷◌, ◌++◌, map, drop, length, Option, Some, None, refl, sym, ap, subst, ◌∙◌, arith}
+use Rattle.std.specs.Prelude.{slice_get, slice_set, reverse, if◌then◌else◌}
+use Rattle.std.proofs.lemmas.Bool.{eqb-true, eqb-false}
+use Rattle.std.proofs.lemmas.Bool.Decides.{nat_tests}
+use Rattle.std.proofs.lemmas.List.{reverse-append}
+use Rattle.std.specs.FinMap as maps
+use Rattle.aodv_entry.specs.declared.entry.Entry.{Entry}
+use Rattle.aodv_model.specs.Tables.{Table}
+use Rattle.aodv_model.specs.Cores.{Message, Pkt, Rreq, Rrep, Rerr}
+use Rattle.mesh_model.proofs.Lists.{set_other}
+use Rattle.mesh_world.proofs.Frames.{set_got}
+use Rattle.mesh_walks.specs.Kept as walks
+use Rattle.mesh_walks.specs.Kept.{entries_after, entry_list, is_near, is_told, is_route, first_list, own_list}
+use Rattle.mesh_trail.specs.declared.said.Said.{Said}
+use Rattle.mesh_trail.specs.declared.heard.Front.TheVariants as fronts
+use Rattle.mesh_trail.specs.Said.{said_of, IsSaidIn}
+use Rattle.mesh_trail.specs.Heard.{leads_to, tells, lesson_of}
+use Rattle.mesh_trail.specs.Lists.{list_in, row, put, learnt, reply_list}
+use Rattle.mesh_trail.specs.Steps.{front_list, rows_after, sent_after}
+
+-- ---- lists turned round
+
+pub turned_push : (l : List ℕ) (x : ℕ) → reverse (l ++ x ∷ []) ≡ x ∷ reverse l
+turned_push l x = reverse-append l (x ∷ [])
+
+pub turned_drop : (queue : List (List ℕ)) → map reverse (drop 1 queue) ≡ drop 1 (map reverse queue)
+turned_drop [] = refl
+turned_drop (l ∷ ls) = refl
+
+pub turned_first : (queue : List (List ℕ)) → first_list (map reverse queue) ≡ reverse (front_list queue)
+turned_first [] = refl
+turned_first (l ∷ ls) = refl
+
+-- ---- a list that is put
+
+row_set : (rows : List (List ℕ)) (d : ℕ) (l : List ℕ) (q : ℕ) → d < length rows → row (slice_set rows d l) q ≡ (if q == d then l else row rows q)
+row_set rows d l q le = by (q == d) refl
+  where
+    by : (b : Bool) → (q == d) ≡ b → row (slice_set rows d l) q ≡ (if q == d then l else row rows q)
+    by true is = rw is (ap list_in (ap (slice_get (slice_set rows d l)) (eqb-true q d is) ∙ set_got rows d l le))
+    by false is = rw is (ap list_in (set_other rows d q l (eqb-false q d is)))
+
+row_put : (b : Bool) (rows : List (List ℕ)) (d : ℕ) (l : List ℕ) (q : ℕ) → d < length rows → row (put b d l rows) q ≡ (if b && (q == d) then l else row rows q)
+row_put true rows d l q le = row_set rows d l q le
+row_put false rows d l q le = refl
+
+put_length : (b : Bool) (rows : List (List ℕ)) (d : ℕ) (l : List ℕ) → length (put b d l rows) ≡ length rows
+put_length true rows d l = set_length rows d l
+  where
+    set_length : (rows : List (List ℕ)) (d : ℕ) (l : List ℕ) → length (slice_set rows d l) ≡ length rows
+    set_length [] d l = refl
+    set_length (r ∷ rows) zero l = refl
+    set_length (r ∷ rows) (suc d) l = ap suc (set_length rows d l)
+put_length false rows d l = refl
+
+set_within : (rows : List (List ℕ)) (d : ℕ) (l : List ℕ) (q k : ℕ) → length l ≤ k → length (row rows q) ≤ k → length (row (slice_set rows d l) q) ≤ k
+set_within [] d l q k new old = old
+set_within (r ∷ rows) zero l zero k new old = new
+set_within (r ∷ rows) zero l (suc q) k new old = old
+set_within (r ∷ rows) (suc d) l zero k new old = old
+set_within (r ∷ rows) (suc d) l (suc q) k new old = set_within rows d l q k new old
+
+pub put_within : (b : Bool) (rows : List (List ℕ)) (d : ℕ) (l : List ℕ) (q k : ℕ) → length l ≤ k → length (row rows q) ≤ k → length (row (put b d l rows) q) ≤ k
+put_within true rows d l q k new old = set_within rows d l q k new old
+put_within false rows d l q k new old = old
+
+-- ---- what is learnt
+
+abbrev pick : Bool → Bool → List ℕ → List ℕ → List ℕ → List ℕ
+pick a b near told old = if a then near else if b then told else old
+
+turned_pick : (a b : Bool) (near told old : List ℕ) → reverse (pick a b near told old) ≡ pick a b (reverse near) (reverse told) (reverse old)
+turned_pick true b near told old = refl
+turned_pick false true near told old = refl
+turned_pick false false near told old = refl
+
+same_dest : (t n a : Bool) (near told old : List ℕ) → (if (t && not (n && a)) && true then told else (if n && a then near else old)) ≡ pick (a && n) (true && t) near told old
+same_dest true true true near told old = refl
+same_dest true true false near told old = refl
+same_dest true false true near told old = refl
+same_dest true false false near told old = refl
+same_dest false true true near told old = refl
+same_dest false true false near told old = refl
+same_dest false false true near told old = refl
+same_dest false false false near told old = refl
+
+other_dest : (t n a b : Bool) (near told old : List ℕ) → (if (t && not (n && b)) && false then told else (if n && a then near else old)) ≡ pick (a && n) (false && t) near told old
+other_dest true true true true near told old = refl
+other_dest true true true false near told old = refl
+other_dest true true false true near told old = refl
+other_dest true true false false near told old = refl
+other_dest true false true b near told old = refl
+other_dest true false false b near told old = refl
+other_dest false true true true near told old = refl
+other_dest false true true false near told old = refl
+other_dest false true false true near told old = refl
+other_dest false true false false near told old = refl
+other_dest false false true b near told old = refl
+other_dest false false false b near told old = refl
+
+turned_eq : (y d q : ℕ) → q ≡ d → (y == d) ≡ (q == y)
+turned_eq y d q e = subst (λ (k : ℕ). (y == d) ≡ (k == y)) (sym e) (swap y d)
+  where
+    swap : (a b : ℕ) → (a == b) ≡ (b == a)
+    swap a b = grind (arith, nat_tests)
+
+row_learnt : (t n : Bool) (rows : List (List ℕ)) (y d : ℕ) (near told : List ℕ) (q : ℕ) → y < length rows → d < length rows
+    → row (put (t && not (n && (y == d))) d told (put n y near rows)) q ≡ pick ((q == y) && n) ((q == d) && t) near told (row rows q)
+row_learnt t n rows y d near told q ly ld =
+    let size = put_length n rows y near in
+    row_put (t && not (n && (y == d))) (put n y near rows) d told q (omega arith)
+    ∙ ap (λ (l : List ℕ). if (t && not (n && (y == d))) && (q == d) then told else l) (row_put n rows y near q ly)
+    ∙ by (q == d) refl
+  where
+    by : (b : Bool) → (q == d) ≡ b → (if (t && not (n && (y == d))) && (q == d) then told else (if n && (q == y) then near else row rows q)) ≡ pick ((q == y) && n) ((q == d) && t) near told (row rows q)
+    by true is = rw (is, turned_eq y d q (eqb-true q d is)) (same_dest t n (q == y) near told (row rows q))
+    by false is = rw is (other_dest t n (q == y) (y == d) near told (row rows q))
+
+-- a test at q where q is y
+same_at : (f : ℕ → Bool) (q y : ℕ) → ((q == y) && f q) ≡ ((q == y) && f y)
+same_at f q y = by (q == y) refl
+  where
+    by : (b : Bool) → (q == y) ≡ b → (b && f q) ≡ (b && f y)
+    by true is = ap f (eqb-true q y is)
+    by false is = refl
+
+and_false : (b : Bool) → (b && false) ≡ false
+and_false true = refl
+and_false false = refl
+
+-- what is said in an entry of the route from y to d
+entry_is : (x y d n h : ℕ) (m : Message) (l : List ℕ) (q : ℕ) (old : List ℕ) (o : Option Entry) → ((e : Entry) → is_told y m q e ≡ is_route y d n h q e)
+    → entry_list x y m l q old o ≡ pick ((q == y) && leads_to y o) ((q == d) && tells y n h o) (x ∷ y ∷ []) (x ∷ l) old
+entry_is x y d n h m l q old None told = rw (and_false (q == y), and_false (q == d)) refl
+entry_is x y d n h m l q old (Some e) told = ap (λ (b : Bool). pick (is_near y q e) b (x ∷ y ∷ []) (x ∷ l) old) (told e)
+
+entry_untold : (x y : ℕ) (m : Message) (l : List ℕ) (q : ℕ) (old : List ℕ) (o : Option Entry) → ((e : Entry) → is_told y m q e ≡ false)
+    → entry_list x y m l q old o ≡ pick ((q == y) && leads_to y o) false (x ∷ y ∷ []) (x ∷ l) old
+entry_untold x y m l q old None told = rw (and_false (q == y)) refl
+entry_untold x y m l q old (Some e) told = ap (λ (b : Bool). pick (is_near y q e) b (x ∷ y ∷ []) (x ∷ l) old) (told e)
+
+route_row : (rt : Table) (x y d n h : ℕ) (m : Message) (rows : List (List ℕ)) (l near told : List ℕ) (q : ℕ) → ((e : Entry) → is_told y m q e ≡ is_route y d n h q e)
+    → y < length rows → d < length rows → near ≡ y ∷ x ∷ [] → told ≡ l ++ x ∷ []
+    → reverse (row (put (tells y n h (maps.get rt d) && not (leads_to y (maps.get rt y) && (y == d))) d told (put (leads_to y (maps.get rt y)) y near rows)) q)
+    ≡ entry_list x y m (reverse l) q (reverse (row rows q)) (maps.get rt q)
+route_row rt x y d n h m rows l near told q says ly ld near_is told_is =
+    ap reverse (row_learnt (tells y n h (maps.get rt d)) (leads_to y (maps.get rt y)) rows y d near told q ly ld)
+    ∙ turned_pick ((q == y) && leads_to y (maps.get rt y)) ((q == d) && tells y n h (maps.get rt d)) near told (row rows q)
+    ∙ (λ i. pick (sym (same_at (λ k. leads_to y (maps.get rt k)) q y) i) (sym (same_at (λ k. tells y n h (maps.get rt k)) q d) i) (ap reverse near_is i) ((ap reverse told_is ∙ turned_push l x) i) (reverse (row rows q)))
+    ∙ sym (entry_is x y d n h m (reverse l) q (reverse (row rows q)) (maps.get rt q) says)
+
+pub turned_rows : (rt : Table) (x y : ℕ) (m : Message) (rows : List (List ℕ)) (l near told : List ℕ) (q : ℕ) → y < length rows → IsSaidIn (length rows) (said_of m) → near ≡ y ∷ x ∷ [] → told ≡ l ++ x ∷ []
+    → reverse (row (rows_after rt (fronts.Heard y (said_of m)) near told rows) q) ≡ entries_after x y m (reverse l) rt (λ d. reverse (row rows d)) q
+turned_rows rt x y (Pkt b d o) rows l near told q ly inside near_is told_is = refl
+turned_rows rt x y (Rreq m) rows l near told q ly inside near_is told_is = route_row rt x y m.oip m.osn m.hops (Rreq m) rows l near told q (λ e. refl) ly inside.0 near_is told_is
+turned_rows rt x y (Rrep m) rows l near told q ly inside near_is told_is = route_row rt x y m.dip m.dsn m.hops (Rrep m) rows l near told q (λ e. refl) ly inside near_is told_is
+turned_rows rt x y (Rerr dests) rows l near told q ly inside near_is told_is =
+    let n = leads_to y (maps.get rt y) in
+    ap reverse (row_put n rows y near q ly ∙ swapped n (q == y) near (row rows q))
+    ∙ turned_pick ((q == y) && n) false near told (row rows q)
+    ∙ (λ i. pick (sym (same_at (λ k. leads_to y (maps.get rt k)) q y) i) false (ap reverse near_is i) ((ap reverse told_is ∙ turned_push l x) i) (reverse (row rows q)))
+    ∙ sym (entry_untold x y (Rerr dests) (reverse l) q (reverse (row rows q)) (maps.get rt q) (λ e. refl))
+  where
+    swapped : (n a : Bool) (near old : List ℕ) → (if n && a then near else old) ≡ pick (a && n) false near told old
+    swapped true true near old = refl
+    swapped true false near old = refl
+    swapped false true near old = refl
+    swapped false false near old = refl
+
+pub rows_count : (rt : Table) (y : ℕ) (s : Said) (near told : List ℕ) (rows : List (List ℕ)) → length (learnt (lesson_of rt y s) near told rows) ≡ length rows
+rows_count rt y s near told rows =
+    let l = lesson_of rt y s in
+    put_length (l.told && not (l.near && (l.from == l.dest))) (put l.near l.from near rows) l.dest told ∙ put_length l.near rows l.from near
+
+-- ---- what is cast
+
+turned_choice : (b : Bool) (x : ℕ) (l : List ℕ) → reverse (if b then x ∷ [] else l) ≡ (if b then x ∷ [] else reverse l)
+turned_choice true x l = refl
+turned_choice false x l = refl
+
+turned_reply : (x : ℕ) (rows : List (List ℕ)) (m : Message) → reverse (reply_list x rows (said_of m)) ≡ walks.reply_list x (λ d. reverse (row rows d)) m
+turned_reply x rows (Pkt b d o) = refl
+turned_reply x rows (Rreq m) = turned_choice (m.dip == x) x (row rows m.dip)
+turned_reply x rows (Rrep m) = refl
+turned_reply x rows (Rerr dests) = refl
+
+pub turned_sent : (x y : ℕ) (rows : List (List ℕ)) (m : Message) (l : List ℕ) (cast : Message) → reverse (sent_after x (fronts.Heard y (said_of m)) rows l (said_of cast)) ≡ walks.sent_list x (λ d. reverse (row rows d)) m (reverse l) cast
+turned_sent x y rows m l (Pkt b d o) = refl
+turned_sent x y rows m l (Rreq r) = turned_push l x
+turned_sent x y rows m l (Rrep r) = turned_reply x rows m
+turned_sent x y rows m l (Rerr dests) = refl
+
+pub turned_own : (x : ℕ) (rows : List (List ℕ)) (l : List ℕ) (cast : Message) → reverse (sent_after x fronts.New rows l (said_of cast)) ≡ own_list x cast
+turned_own x rows l (Pkt b d o) = refl
+turned_own x rows l (Rreq r) = refl
+turned_own x rows l (Rrep r) = refl
+turned_own x rows l (Rerr dests) = refl

@@ -1,0 +1,47 @@
+-- What waits at the front of a queue, and what its node learns of it.
+use Rattle.std.specs.Prelude.{ℕ, ◌+◌, ◌<◌, ◌==◌, Bool, false, ◌&&◌, Option, Some, None, List, [], ◌∷◌, ⊤}
+use Rattle.std.specs.FinMap as maps
+use Rattle.aodv_entry.specs.declared.entry.Entry.{Entry}
+use Rattle.aodv_model.specs.Tables.{Table}
+use Rattle.aodv_model.specs.Cores.{Item, New, Heard}
+use Rattle.mesh_model.specs.Worlds.{Node}
+use Rattle.mesh_trail.specs.declared.said.Said.{Said}
+use Rattle.mesh_trail.specs.declared.said.Said.TheVariants as says
+use Rattle.mesh_trail.specs.declared.heard.Front as front
+use Rattle.mesh_trail.specs.declared.heard.Front.TheVariants as fronts
+use Rattle.mesh_trail.specs.declared.heard.Lesson.{Lesson}
+use Rattle.mesh_trail.specs.Said.{said_of, IsSaidIn}
+
+abbrev pub front_in : List Item → front.Front
+front_in [] = fronts.Empty
+front_in (New b d ∷ items) = fronts.New
+front_in (Heard y m ∷ items) = fronts.Heard y (said_of m)
+
+abbrev pub front_of : Option Node → front.Front
+front_of None = fronts.Empty
+front_of (Some n) = front_in n.queue
+
+-- it names nodes of a mesh of this size
+abbrev pub IsFrontIn : ℕ → front.Front → Type 0
+IsFrontIn size fronts.Empty = ⊤
+IsFrontIn size fronts.New = ⊤
+IsFrontIn size (fronts.Heard from said) = (from < size) × IsSaidIn size said
+
+-- the entry, if there is one, leads to the neighbour y itself
+abbrev pub leads_to : ℕ → Option Entry → Bool
+leads_to y None = false
+leads_to y (Some e) = (e.hops == 1) && (e.next == y)
+
+-- the entry, if there is one, has this number, a hop more than h, and leads by y
+abbrev pub tells : ℕ → ℕ → ℕ → Option Entry → Bool
+tells y n h None = false
+tells y n h (Some e) = (e.dsn == n) && ((e.hops == h + 1) && (e.next == y))
+
+-- what a node whose table is this now has learnt of what the neighbour y said
+abbrev pub lesson_of : Table → ℕ → Said → Lesson
+lesson_of rt y says.Parcel = record { from = y; near = false; dest = y; told = false }
+lesson_of rt y says.Error = record { from = y; near = leads_to y (maps.get rt y); dest = y; told = false }
+lesson_of rt y (says.Request origin n h dest) =
+    record { from = y; near = leads_to y (maps.get rt y); dest = origin; told = tells y n h (maps.get rt origin) }
+lesson_of rt y (says.Reply dest n h) =
+    record { from = y; near = leads_to y (maps.get rt y); dest = dest; told = tells y n h (maps.get rt dest) }

@@ -1,0 +1,68 @@
+-- The lists of a node as the code keeps them, from the destination to the holder, and how they change.
+use Rattle.std.specs.Prelude.{◌≡◌, ◌<◌, ℕ, ◌==◌, Bool, not, ◌&&◌, if◌then◌else◌, Option, Some, None, List, [], ◌∷◌, ◌++◌, length, slice_get, slice_set}
+use Rattle.std.specs.List.{AllByRecursion}
+use Rattle.std.specs.VecDeque.{deque_len, deque_capacity}
+use Rattle.mesh_trail.specs.declared.said.Said.{Said}
+use Rattle.mesh_trail.specs.declared.said.Said.TheVariants as says
+use Rattle.mesh_trail.specs.declared.heard.Lesson.{Lesson}
+use Rattle.mesh_trail.specs.declared.lists.NodeLists.{NodeLists}
+
+-- a node of a mesh of this size has no list yet
+pub record IsBlank (size : ℕ) (n : NodeLists) : Type 0 where
+  pub count : length (n.entries).items ≡ size
+  pub entries : AllByRecursion (λ l. l ≡ []) (n.entries).items
+  pub queue : (n.queue).items ≡ []
+
+-- room was made, or sought, beside the queue of node x
+pub record IsRoomed (x : ℕ) (old new : List NodeLists) : Type 0 where
+  pub node : NodeLists
+  pub now : NodeLists
+  pub there : slice_get old x ≡ Some node
+  pub entries : now.entries ≡ node.entries
+  pub queue : (now.queue).items ≡ (node.queue).items
+  pub is : new ≡ slice_set old x now
+
+-- there is room for one more list beside the queue of node x
+abbrev pub HasPlace : ℕ → List NodeLists → Type 0
+HasPlace x nodes = (n : NodeLists) → slice_get nodes x ≡ Some n → deque_len n.queue < deque_capacity n.queue
+
+-- the list has joined those beside the queue of node x
+pub record IsPushed (x : ℕ) (list : List ℕ) (old new : List NodeLists) : Type 0 where
+  pub node : NodeLists
+  pub now : NodeLists
+  pub there : slice_get old x ≡ Some node
+  pub entries : now.entries ≡ node.entries
+  pub queue : (now.queue).items ≡ (node.queue).items ++ list ∷ []
+  pub is : new ≡ slice_set old x now
+
+abbrev pub list_in : Option (List ℕ) → List ℕ
+list_in None = []
+list_in (Some l) = l
+
+-- the list of destination d
+abbrev pub row : List (List ℕ) → ℕ → List ℕ
+row rows d = list_in (slice_get rows d)
+
+-- this list for d, or as before
+abbrev pub put : Bool → ℕ → List ℕ → List (List ℕ) → List (List ℕ)
+put changes d l rows = if changes then slice_set rows d l else rows
+
+-- a node has learnt that a neighbour is near, with this list of two, or the longer list of the route that was told
+abbrev pub learnt : Lesson → List ℕ → List ℕ → List (List ℕ) → List (List ℕ)
+learnt l near told rows =
+    put (l.told && not (l.near && (l.from == l.dest))) l.dest told (put l.near l.from near rows)
+
+-- the list of a reply of x to what was said, or of one that it passes on
+abbrev pub reply_list : ℕ → List (List ℕ) → Said → List ℕ
+reply_list x rows says.Parcel = []
+reply_list x rows says.Error = []
+reply_list x rows (says.Request origin n h dest) = if dest == x then x ∷ [] else row rows dest
+reply_list x rows (says.Reply dest n h) = row rows dest
+
+-- the list of what x casts, once it has heard what was said, which had list l. Of its own accord it casts as if it had heard
+-- a datum
+abbrev pub sent_list : ℕ → List (List ℕ) → Said → List ℕ → Said → List ℕ
+sent_list x rows heard l says.Parcel = []
+sent_list x rows heard l says.Error = []
+sent_list x rows heard l (says.Request origin n h dest) = l ++ x ∷ []
+sent_list x rows heard l (says.Reply dest n h) = reply_list x rows heard

@@ -1,0 +1,112 @@
+//! What waits at the front of a queue, and what its node learns of it.
+ghost use Rattle.std.specs.Prelude.{◌≡◌, ◌<◌, ◌≤◌, Option, length, slice_get};
+ghost use Rattle.mesh_model.specs.Walks.{table};
+ghost use Rattle.mesh_trail.specs.Said.{IsSaidIn};
+ghost use Rattle.mesh_trail.specs.Heard.{front_of, IsFrontIn, leads_to, tells, lesson_of};
+
+use crate::said::{Said, read_said};
+use aodv_entry::Entry;
+use mesh_base::Item;
+use mesh_world::World;
+
+/// What waits at the front of a node's queue.
+#[derive(Clone, Copy)]
+pub(crate) enum Front {
+    /// Nothing.
+    Empty,
+    /// A datum that was given to the node.
+    New,
+    /// A message from a neighbour.
+    Heard { from: usize, said: Said },
+}
+
+/// What a node has learnt of a message: that it has a neighbour `from`, where `near`, and the route
+/// to `dest` that was told, where `told`.
+#[derive(Clone, Copy)]
+pub(crate) struct Lesson {
+    pub from: usize,
+    pub near: bool,
+    pub dest: usize,
+    pub told: bool,
+}
+
+/// What waits at the front of the queue of node x.
+pub(crate) fn front_at(world: &World, x: usize) -> Front
+    requires { x < length world.now.mesh }
+    ensures value { result ≡ front_of (slice_get world.now.world.nodes x) }
+    ensures within { IsFrontIn (length world.now.mesh) result }
+{
+    let mesh = world.mesh();
+    match world.node(x).inbox().front() {
+        None => Front::Empty,
+        Some(Item::New { .. }) => Front::New,
+        Some(Item::Heard { from, bytes }) => Front::Heard {
+            from: *from,
+            said: read_said(mesh, bytes.as_slice()),
+        },
+    }
+}
+
+// Whether the entry leads to the neighbour itself.
+fn is_near(entry: Option<Entry>, from: usize) -> bool
+    ensures { result ≡ leads_to from entry }
+{
+    match entry {
+        Some(e) => e.hops == 1 && e.next == from,
+        None => false,
+    }
+}
+
+// Whether the entry is the route that a neighbour told of, with this number and so many hops there.
+fn is_told(entry: Option<Entry>, from: usize, number: u32, hops: u8) -> bool
+    ensures { result ≡ tells from number hops entry }
+{
+    match entry {
+        Some(e) => e.dsn == number && u64::from(e.hops) == u64::from(hops) + 1 && e.next == from,
+        None => false,
+    }
+}
+
+/// What node x has learnt of what a neighbour said.
+pub(crate) fn lesson_at(world: &World, x: usize, from: usize, said: Said) -> Lesson
+    requires node { x < length world.now.mesh }
+    requires from { from < length world.now.mesh }
+    requires said { IsSaidIn (length world.now.mesh) said }
+    ensures value { result ≡ lesson_of (table world.now.world x) from said }
+    ensures from { result.from < length world.now.mesh }
+    ensures dest { result.dest < length world.now.mesh }
+{
+    let node = world.node(x);
+    let near = is_near(node.entry(from), from);
+    match said {
+        Said::Parcel => Lesson {
+            from,
+            near: false,
+            dest: from,
+            told: false,
+        },
+        Said::Error => Lesson {
+            from,
+            near,
+            dest: from,
+            told: false,
+        },
+        Said::Request {
+            origin,
+            number,
+            hops,
+            ..
+        } => Lesson {
+            from,
+            near,
+            dest: origin,
+            told: is_told(node.entry(origin), from, number, hops),
+        },
+        Said::Reply { dest, number, hops } => Lesson {
+            from,
+            near,
+            dest,
+            told: is_told(node.entry(dest), from, number, hops),
+        },
+    }
+}

@@ -1,0 +1,104 @@
+//! The lists of one node.
+ghost use Rattle.std.specs.Prelude.{◌≡◌, ◌<◌, [], length, slice_set, IfOk, OnOk};
+ghost use Rattle.std.specs.List.{AllByRecursion};
+ghost use Rattle.mesh_trail.specs.Lists.{IsBlank, IsRoomed, HasPlace, IsPushed, learnt};
+
+use crate::heard::Lesson;
+use crate::walk::{Room, Walk};
+use mesh_base::NoMemory;
+use std::alloc::Global;
+use std::collections::VecDeque;
+
+/// The lists that a node keeps: one for each destination, of its entry for it, and one beside each
+/// item of its queue.
+#[derive(Drop)]
+pub(crate) struct NodeLists {
+    pub entries: Vec<Walk>,
+    pub queue: VecDeque<Walk>,
+}
+
+/// Lists that a step may keep, written before it is done, and memory for that of a cast; and the
+/// list that was taken last from beside a queue, whose memory serves for one that joins another.
+/// What they are between steps is of no matter.
+#[derive(Drop)]
+pub(crate) struct Hand {
+    pub near: Walk,
+    pub told: Walk,
+    pub taken: Walk,
+    pub room: Room,
+}
+
+// No lists, one for each of so many nodes.
+fn empty_rows(alloc: Global, nodes: usize) -> Result<Vec<Walk>, NoMemory>
+    ensures count { IfOk result (λ rows. length rows.items ≡ nodes) }
+    ensures empty { IfOk result (λ rows. AllByRecursion (λ l. l ≡ []) rows.items) }
+{
+    let mut rows = Vec::with_capacity(alloc, nodes)?;
+    for _ in 0..nodes {
+        rows.push(Walk::new(alloc))?;
+    }
+    Ok(rows)
+}
+
+/// The lists of so many nodes, all empty.
+pub(crate) fn blank_lists(alloc: Global, nodes: usize) -> Result<Vec<NodeLists>, NoMemory>
+    ensures count { IfOk result (λ lists. length lists.items ≡ nodes) }
+    ensures blank { IfOk result (λ lists. AllByRecursion (IsBlank nodes) lists.items) }
+{
+    let mut lists = Vec::with_capacity(alloc, nodes)?;
+    for _ in 0..nodes {
+        lists.push(NodeLists {
+            entries: empty_rows(alloc, nodes)?,
+            queue: VecDeque::new(alloc),
+        })?;
+    }
+    Ok(lists)
+}
+
+/// Makes room for one more list beside the queue of node x.
+pub(crate) fn make_place(nodes: &mut Vec<NodeLists>, x: usize) -> Result<(), NoMemory>
+    requires { x < length nodes.old.items }
+    ensures same { IsRoomed x nodes.old.items nodes.new.items }
+    ensures room { OnOk result (HasPlace x nodes.new.items) }
+{
+    let lists = &mut nodes[x];
+    lists.queue.reserve(1)?;
+    Ok(())
+}
+
+/// The list joins those beside the queue of node x.
+pub(crate) fn push_list(nodes: &mut Vec<NodeLists>, x: usize, list: Walk)
+    requires node { x < length nodes.old.items }
+    requires room { HasPlace x nodes.old.items }
+    ensures { IsPushed x list nodes.old.items nodes.new.items }
+{
+    let lists = &mut nodes[x];
+    lists.queue.push_back_reserved(list);
+}
+
+// The list comes in place of that of destination d, which is left for it.
+fn exchange(rows: &mut Vec<Walk>, d: usize, list: &mut Walk)
+    requires { d < length rows.old.items }
+    ensures { rows.new.items ≡ slice_set rows.old.items d list.old }
+{
+    let row = &mut rows[d];
+    std::mem::swap(row, list);
+}
+
+/// What a node keeps of a message that it heard: the list of the two nodes where its neighbour's
+/// entry leads to the neighbour itself, and the longer list where the entry of the destination is
+/// the route that was told. The lists that are replaced are left in hand.
+pub(crate) fn learn(rows: &mut Vec<Walk>, lesson: Lesson, hand: &mut Hand)
+    requires from { lesson.from < length rows.old.items }
+    requires dest { lesson.dest < length rows.old.items }
+    ensures rows { rows.new.items ≡ learnt lesson hand.old.near hand.old.told rows.old.items }
+    ensures room { hand.new.room ≡ hand.old.room }
+{
+    if lesson.near {
+        exchange(rows, lesson.from, &mut hand.near);
+    }
+    let taken = lesson.near && lesson.from == lesson.dest;
+    if lesson.told && !taken {
+        exchange(rows, lesson.dest, &mut hand.told);
+    }
+}

@@ -1,0 +1,107 @@
+//! The trail.
+ghost use Rattle.std.specs.Prelude.{◌≡◌, ◌≤◌, ◌<◌, ◌+◌, ◌^◌, ◌↔◌, None, length, IsNone, IfSome};
+ghost use Rattle.mesh_model.specs.Places.{IsEvent};
+ghost use Rattle.mesh_model.specs.Routes.{next_hop};
+ghost use Rattle.mesh_meaning.specs.Events.{event_of};
+ghost use Rattle.mesh_world.specs.Seen.{WorldSeen, IsSoundWorld, opening};
+ghost use Rattle.mesh_world.specs.Steps.{IsStep};
+ghost use Rattle.mesh_trail.specs.Walks.{IsRouteWalk, FillsNumber};
+
+use crate::lists::{Hand, blank_lists};
+use crate::parts::{LYING, Parts};
+use crate::walk::{Room, Walk};
+use aodv_entry::Flag;
+use mesh_base::{Done, Event, Mesh, NoMemory, Packet, Variant};
+use mesh_world::{StepError, Steps, World};
+use std::alloc::Global;
+use std::marker::Model;
+
+/// A world, and the walk over which each of its valid routes came. As a `Steps` it is its world.
+///
+/// A node takes as much memory for walks as its routes have hops, and a copy in flight none beside
+/// that of its cast.
+#[derive(Drop)]
+pub struct Trail {
+    parts: Parts,
+}
+
+impl Model for Trail {
+    ghost use Rattle.mesh_world.specs.Seen.{WorldSeen, seen_code};
+    ghost use Rattle.mesh_trail.specs.Trails.{AreKept};
+
+    ghost Value = { WorldSeen };
+
+    ghost coded = { seen_code };
+
+    ghost view = { λ t. t.parts.world };
+
+    ghost invariant = { λ t. AreKept t.parts };
+}
+
+impl Trail {
+    /// The walk over which the valid route of a node to `dest` came: the nodes from `dest` to the
+    /// node, one more than the route has hops. Each is linked to the next at some time, though
+    /// maybe not now; and all after the first are different. None where the node has no valid
+    /// route to `dest`.
+    pub fn walk(&self, node: usize, dest: usize) -> Option<&[usize]>
+        requires node { node < length self.now.mesh }
+        requires dest { dest < length self.now.mesh }
+        ensures none { IsNone result ↔ (next_hop self.now.world node dest ≡ None) }
+        ensures walk { IfSome result (λ walk. IsRouteWalk self.now.world node dest walk.now) }
+        ensures short { IfSome result (λ walk. length walk.now ≤ length self.now.mesh + 1) }
+    {
+        let entry = self.parts.world.node(node).entry(dest)?;
+        if entry.flag != Flag::Val {
+            return None;
+        }
+        let lists = &self.parts.nodes[node];
+        Some(lists.entries[dest].as_slice())
+    }
+}
+
+impl Steps for Trail {
+    ghost seen = { λ t. t };
+
+    fn with(alloc: Global, mesh: &Mesh, variant: Variant) -> Result<Trail, NoMemory> {
+        let world = World::with(alloc, mesh, variant)?;
+        let nodes = blank_lists(alloc, world.mesh().len())?;
+        let hand = Hand {
+            near: Walk::new(alloc),
+            told: Walk::new(alloc),
+            taken: Walk::new(alloc),
+            room: Room::new(alloc),
+        };
+        let parts = Parts {
+            world,
+            nodes,
+            casts: Vec::new(alloc),
+            hand,
+            many: LYING,
+        };
+        Ok(Trail { parts })
+    }
+
+    fn step(&mut self, alloc: Global, e: &Event<'_>, out: &mut Packet) -> Result<Done, StepError>
+        requires event { IsEvent (length self.old.mesh) (event_of e.now) }
+        requires few { self.old.steps < 2 ^ 48 }
+        ensures step { IsStep (event_of e.now) self.old result self.new out.new.items }
+        ensures sound { IsSoundWorld self.new }
+        ensures number { FillsNumber result }
+    {
+        match *e {
+            Event::Give { node, dest, body } => self.parts.give(alloc, node, dest, body, out),
+            Event::Turn { node } => self.parts.turn(alloc, node, out),
+            Event::Send { node, .. } => self.parts.own(alloc, e, node, out),
+            Event::Ask { node, .. } => self.parts.own(alloc, e, node, out),
+            Event::Deliver { id } => self.parts.deliver(alloc, id, out),
+            Event::Double { id } => self.parts.double(alloc, id, out),
+            Event::Link { .. } | Event::Cut { .. } | Event::Lose { .. } => {
+                self.parts.pass(alloc, e, out)
+            }
+        }
+    }
+
+    fn world(&self) -> &World {
+        &self.parts.world
+    }
+}
