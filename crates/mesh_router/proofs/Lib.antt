@@ -1,0 +1,18 @@
+-- Saying: what was written and sent, one after another.
+pub mod Saying
+-- Peers: ports, and sets of peers.
+pub mod Peers
+-- Finds: what calls that receive have found.
+pub mod Finds
+-- Polling: what is done with datagrams that were received.
+pub mod Polling
+-- Turning: a turn of the node is the router's.
+pub mod Turning
+-- Acting: what a node does of its own accord, and what is told of a step.
+pub mod Acting
+-- Running: a line of the script, by what the router does for it.
+pub mod Running
+-- Pieces: the lines of the bytes that a script has left.
+pub mod Pieces
+-- Script: what is told of a script, one line after another.
+pub mod Script

@@ -1,0 +1,36 @@
+use Rattle.std.proofs.Common.{refl, subst}
+use Rattle.std.proofs.lemmas.Result.{err_from_is_err_and}
+use Rattle.mesh_grammar.specs.Written.{line}
+use Rattle.mesh_peers.specs.Lines.{words_of}
+use Rattle.mesh_peers.specs.Seen.{accepted_of}
+use Rattle.mesh_router.specs.Said.{written}
+use Rattle.mesh_router.specs.Routers.{Router}
+use Rattle.mesh_router.specs.Lines.{given}
+use Rattle.mesh_router.specs.Runs.{IsStepRun}
+use Rattle.mesh_router.proofs.Saying.{prefix-text, prefix-none}
+use Rattle.mesh_router.proofs.Turning.{router_as}
+use Rattle.mesh_router.proofs.Acting.{step_cut, not_full-write, not_full-memory}
+use Rattle.mesh_router.proofs.router.Router.give.Goals as goal
+
+pub returns-in_err-copied-clause-step : goal.returns-in_err-copied-clause-step
+returns-in_err-copied-clause-step g c =
+    let q = err_from_is_err_and c.from_residual.result c.from_residual.ensures.1 in
+    λ sent. step_cut _ _ _ _ c.from_residual.result q.0 q.1 (not_full-memory q.0 q.2) (prefix-none _ _)
+
+pub returns-in_err-make_room-clause-step : goal.returns-in_err-make_room-clause-step
+returns-in_err-make_room-clause-step g c =
+    let q = err_from_is_err_and c.from_residual-in_err-make_room.result c.from_residual-in_err-make_room.ensures.1 in
+    λ sent. step_cut _ _ _ _ c.from_residual-in_err-make_room.result q.0 q.1 (not_full-memory q.0 q.2) (prefix-none _ _)
+
+pub returns-in_err-put_line-clause-step : goal.returns-in_err-put_line-clause-step
+returns-in_err-put_line-clause-step g c =
+    let p = c.self.inside.peers in
+    let node = c.self.inside.node in
+    let near = c.self.inside.range in
+    let l = accepted_of c.args.line.now in
+    let words = words_of p.mesh l in
+    let q = err_from_is_err_and c.from_residual-in_err-put_line.result c.from_residual-in_err-put_line.ensures.1 in
+    λ sent.
+    let P : Router → Type 0 = λ r. IsStepRun (given r (words_of r.peers.mesh l) c.args.dest c.args.body.now) (g.O.Sink.held c.args.out.now, sent) (g.O.Sink.held c.put_line.new.out, sent) (router_as p c.give.new.self near c.self.inside.heard c.self.inside.sent c.self.inside.dropped) c.from_residual-in_err-put_line.result in
+    subst P c.self.view_is (step_cut _ _ _ _ c.from_residual-in_err-put_line.result q.0 q.1 (not_full-write q.0 q.2)
+    (prefix-text _ _ _ _ (written (line words)) refl c.in_err-put_line.ensures.text))

@@ -1,0 +1,48 @@
+use Rattle.std.proofs.Common.{◌-◌, ◌+◌, suc, refl, ◌∙◌, arith}
+use Rattle.mesh_router.proofs.Polling.{polls_begin, polls_next, polls_stop, polls_end, polls_failed, polls_at, found_one, found_nothing, polls_run_fault}
+use Rattle.mesh_router.proofs.router.Router.polls.Goals as goal
+
+pub loop-i-init : goal.loop-i-init
+loop-i-init g c = record {
+  polled = polls_at c.args.count c.args.count _ _ _ _ _ _ _ (polls_begin c.args.count c.args.self.now _ _) (omega arith);
+  grown = record { heard = omega arith; sent = omega arith; dropped = omega arith };
+  peers = refl;
+  sink = omega arith;
+  links = omega arith;
+  port = refl;
+}
+
+pub returns-in_err-poll-clause-polls : goal.returns-in_err-poll-clause-polls
+returns-in_err-poll-clause-polls g c =
+    let rest = c.args.count - (c.loop-i._i + 1) in
+    polls_run_fault _ _ _ _ _ _ _ c.from_residual.result c.from_residual.ensures.0
+    (polls_failed c.args.count rest _ _ _ _ _ _ _ _ (polls_at c.args.count _ (suc rest) _ _ _ _ _ _ c.loop-i.invariant.polled (omega arith)) (c.in_err-poll.ensures.poll rest))
+
+pub returns-then-not-branch-clause-polls : goal.returns-then-not-branch-clause-polls
+returns-then-not-branch-clause-polls g c =
+    let rest = c.args.count - (c.loop-i._i + 1) in
+    polls_stop c.args.count rest _ _ _ _ _ _ _ _ _ (polls_at c.args.count _ (suc rest) _ _ _ _ _ _ c.loop-i.invariant.polled (omega arith))
+    (found_nothing _ _ _ _ _ _ c.in_ok-poll.field-0 c.if-not-branch.true c.in_ok-poll.ensures.poll)
+
+pub returns-clause-polls : goal.returns-clause-polls
+returns-clause-polls g c =
+    polls_end c.args.count _ _ _ _ _ _ (polls_at c.args.count _ 0 _ _ _ _ _ _ c.loop-i.invariant.polled (omega arith))
+
+pub loop-i-preserved : goal.loop-i-preserved
+loop-i-preserved g c =
+    let rest = c.args.count - (c.loop-i._i + 1) in
+    let at = c.loop-i.invariant in
+    let call = c.in_ok-poll.ensures in
+    record {
+      polled = polls_next c.args.count rest _ _ _ _ _ _ _ _ _ (polls_at c.args.count _ (suc rest) _ _ _ _ _ _ at.polled (omega arith))
+          (found_one _ _ _ _ _ _ c.in_ok-poll.field-0 c.if-not-branch.false call.poll);
+      grown = record {
+        heard = omega (arith, at.grown.heard, call.grown.heard);
+        sent = omega (arith, at.grown.sent, call.grown.sent);
+        dropped = omega (arith, at.grown.dropped, call.grown.dropped);
+      };
+      peers = call.peers ∙ at.peers;
+      sink = omega (arith, at.sink, call.causes.sink_later);
+      links = omega (arith, at.links, call.causes.link_later);
+      port = call.port ∙ at.port;
+    }

@@ -1,0 +1,45 @@
+use Rattle.std.proofs.Common.{ℕ, ◌++◌, List, refl, ap, subst, length}
+use Rattle.std.proofs.lemmas.Result.{err_from_is_err_and}
+use Rattle.mesh_base.specs.Meshes.{Nodes}
+use Rattle.mesh_io.specs.Puts.{AppendsPrefix}
+use Rattle.mesh_io.proofs.Writing.{AppendsPrefix-join, AppendsPrefix-more}
+use Rattle.mesh_grammar.specs.Written.{line}
+use Rattle.mesh_text.specs.Tables.{node_text}
+use Rattle.mesh_peers.specs.Lines.{words_of}
+use Rattle.mesh_peers.specs.Seen.{accepted_of}
+use Rattle.mesh_router.specs.Said.{written}
+use Rattle.mesh_router.specs.Routers.{Router}
+use Rattle.mesh_router.specs.Lines.{shown}
+use Rattle.mesh_router.specs.Runs.{IsStepRun}
+use Rattle.mesh_router.proofs.Saying.{prefix-text}
+use Rattle.mesh_router.proofs.Acting.{step_cut, not_full-write}
+use Rattle.mesh_router.proofs.router.Router.show.Goals as goal
+
+pub returns-in_err-put_line-clause-step : goal.returns-in_err-put_line-clause-step
+returns-in_err-put_line-clause-step g c =
+    let p = c.self.inside.peers in
+    let node = c.self.inside.node in
+    let near = c.self.inside.range in
+    let l = accepted_of c.args.line.now in
+    let words = words_of p.mesh l in
+    let q = err_from_is_err_and c.from_residual.result c.from_residual.ensures.1 in
+    let more = node_text p.mesh node.core (length node.items) in
+    λ sent.
+    let P : Router → Type 0 = λ r. IsStepRun (shown r (words_of r.peers.mesh l)) (g.O.Sink.held c.args.out.now, sent) (g.O.Sink.held c.put_line.new.out, sent) c.args.self.now c.from_residual.result in
+    subst P c.self.view_is (step_cut _ _ _ _ c.from_residual.result q.0 q.1 (not_full-write q.0 q.2)
+    (prefix-text _ _ _ _ (written (line words ++ more)) refl (AppendsPrefix-more _ _ (line words) more (line words ++ more) refl c.in_err-put_line.ensures.text)))
+
+pub returns-in_err-put_node-clause-step : goal.returns-in_err-put_node-clause-step
+returns-in_err-put_node-clause-step g c =
+    let p = c.self.inside.peers in
+    let node = c.self.inside.node in
+    let near = c.self.inside.range in
+    let l = accepted_of c.args.line.now in
+    let words = words_of p.mesh l in
+    let q = err_from_is_err_and c.from_residual-in_err-put_node.result c.from_residual-in_err-put_node.ensures.1 in
+    let more : Nodes → List ℕ = λ m. node_text m node.core (length node.items) in
+    let put = subst (λ (t : List ℕ). AppendsPrefix (g.O.Sink.held c.put_line.new.out) (g.O.Sink.held c.put_node.new.out) t) (ap more c.mesh.ensures.mesh) c.in_err-put_node.ensures.text in
+    λ sent.
+    let P : Router → Type 0 = λ r. IsStepRun (shown r (words_of r.peers.mesh l)) (g.O.Sink.held c.args.out.now, sent) (g.O.Sink.held c.put_node.new.out, sent) c.args.self.now c.from_residual-in_err-put_node.result in
+    subst P c.self.view_is (step_cut _ _ _ _ c.from_residual-in_err-put_node.result q.0 q.1 (not_full-write q.0 q.2)
+    (prefix-text _ _ _ _ (written (line words ++ more p.mesh)) refl (AppendsPrefix-join _ _ _ (line words) (more p.mesh) (line words ++ more p.mesh) refl c.in_ok-put_line.ensures.text put)))

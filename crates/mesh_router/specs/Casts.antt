@@ -1,0 +1,59 @@
+-- To whom a packet that is cast goes, and what is written of what a router's step did.
+use Rattle.std.specs.Prelude.{ℕ, ◌+◌, List, [], ◌∷◌, ◌++◌, length, codes, get_or}
+use Rattle.std.specs.Fmt.{decimal}
+use Rattle.mesh_base.specs.Meshes.{Nodes}
+use Rattle.mesh_base.specs.declared.events.Item.{Item}
+use Rattle.aodv_model.specs.Handlers.{Cast, Nothing, One, Many, All, Effect, Reaction}
+use Rattle.mesh_model.specs.Worlds.{members_below, receivers}
+use Rattle.mesh_meaning.specs.Packets.{packet_of}
+use Rattle.mesh_grammar.specs.Written.{line}
+use Rattle.mesh_text.specs.Lines.{name_of}
+use Rattle.mesh_text.specs.Effects.{broken_text, cast_text}
+use Rattle.mesh_link.specs.Datagrams.{datagram}
+use Rattle.mesh_peers.specs.Peers.{PeersSeen}
+use Rattle.mesh_router.specs.Said.{Said, nothing, written, followed_by}
+use Rattle.mesh_router.specs.Routers.{Router}
+
+-- the port of a node
+abbrev pub port_at : PeersSeen → ℕ → ℕ
+port_at p x = get_or p.ports x 0
+
+-- a packet goes to a node: a line that says so, and the datagram
+abbrev pub to_line : PeersSeen → ℕ → List ℕ
+to_line p x = line (codes "  to " ++ name_of p.mesh x ++ 32 ∷ decimal (port_at p x))
+
+abbrev pub sent_to : PeersSeen → List ℕ → ℕ → Said
+sent_to p packet x = record { text = to_line p x; sent = datagram (port_at p x) packet ∷ [] }
+
+-- the same for some nodes, one after another
+abbrev pub sent_to_each : PeersSeen → List ℕ → List ℕ → Said
+sent_to_each p packet [] = nothing
+sent_to_each p packet (x ∷ xs) = followed_by (sent_to p packet x) (sent_to_each p packet xs)
+
+-- the nodes in range that a cast goes to, by rising address
+abbrev pub reached_by : Router → Cast → List ℕ
+reached_by r cast = members_below (length (r.peers).mesh) (receivers r.range cast)
+
+-- the packet of a cast
+abbrev pub cast_packet : Nodes → Cast → List ℕ
+cast_packet mesh Nothing = []
+cast_packet mesh (One y m) = packet_of mesh m
+cast_packet mesh (Many s m) = packet_of mesh m
+cast_packet mesh (All m) = packet_of mesh m
+
+abbrev pub cast_said : Router → Cast → Said
+cast_said r cast = sent_to_each r.peers (cast_packet (r.peers).mesh cast) (reached_by r cast)
+
+-- a failed unicast, what was cast, and to whom it goes
+abbrev pub effect_said : Router → Effect → Said
+effect_said r e =
+    followed_by (written (broken_text (r.peers).mesh e.broken ++ cast_text (r.peers).mesh e.cast))
+    (cast_said r e.cast)
+
+-- the router once its node has reacted, and has this queue
+abbrev pub reacted : Router → List Item → Reaction → Router
+reacted r queue reaction = record r {
+  core = reaction.core;
+  queue = queue;
+  sent = r.sent + length (reached_by r (reaction.effect).cast);
+}

@@ -1,0 +1,31 @@
+-- Read in this order.
+-- Said: what a router writes and sends.
+pub mod Said
+-- Routers: a router, and where its run stands.
+pub mod Routers
+-- Casts: to whom a packet goes, and what is written of a step.
+pub mod Casts
+-- Turns: its turns, its sends and its requests.
+pub mod Turns
+-- Finds: what the calls that receive datagrams find.
+pub mod Finds
+-- Polls: what it does with the datagrams that it receives.
+pub mod Polls
+-- Lines: what a line of its script comes to.
+pub mod Lines
+-- Text: what it writes and sends for its script, and its verdict.
+pub mod Text
+-- Told: what a call has put on a sink and sent over a link.
+pub mod Told
+-- Peers: what the code asks of a peer.
+pub mod Peers
+-- Seen: what is seen of a router, and what every one keeps.
+pub mod Seen
+-- Runs: what was told of a turn, of a command, and of datagrams that were received.
+pub mod Runs
+-- Stages: where a run of the code stands.
+pub mod Stages
+-- Codes: the status with which a process ends.
+pub mod Codes
+-- Output: what was told of the run of a script.
+pub mod Output

@@ -1,0 +1,34 @@
+-- What was told of the run of a script.
+use Rattle.std.specs.Prelude.{◌≡◌, ℕ, List, Option, IfSome}
+use Rattle.mesh_link.specs.Datagrams.{Datagram}
+use Rattle.mesh_text.specs.Text.{Finished, RefusedAt, FullAt}
+use Rattle.mesh_router.specs.declared.status.NodeStatus.{NodeStatus}
+use Rattle.mesh_router.specs.declared.status.NodeStatus.TheVariants.{Done, Usage, BadLine, Full, ReadFault, WriteFault, NoMemory, LinkFault}
+use Rattle.mesh_router.specs.Finds.{Find, AreNext, AreFound, arrivals}
+use Rattle.mesh_router.specs.Text.{Run, run_of_script}
+use Rattle.mesh_router.specs.Told.{Outputs, Adds, AddsPrefix}
+
+-- a run that was to say this has answered: all of it and its verdict, or a prefix of it and a fault
+-- or want of memory
+abbrev pub IsOutput : Outputs → Outputs → Run → NodeStatus → Type 0
+IsOutput before now run Done = (run.verdict ≡ Finished) × Adds before now run.said
+IsOutput before now run Usage = ⊥
+IsOutput before now run (BadLine n) = (run.verdict ≡ RefusedAt n) × Adds before now run.said
+IsOutput before now run (Full n) = (run.verdict ≡ FullAt n) × Adds before now run.said
+IsOutput before now run ReadFault = AddsPrefix before now run.said
+IsOutput before now run WriteFault = AddsPrefix before now run.said
+IsOutput before now run NoMemory = AddsPrefix before now run.said
+IsOutput before now run LinkFault = AddsPrefix before now run.said
+
+-- the same by what was found, whatever is found later
+pub record IsTold (run : List Find → Run) (arrived left : Option (List Datagram)) (before now : Outputs) (status : NodeStatus) : Type 0 where
+  pub found : List Find
+  pub taken : AreFound arrived left found
+  pub told : (finds : List Find) → AreNext finds found → IsOutput before now (run finds) status
+
+-- the run of a script, by what its calls that receive have found: where the datagrams that arrive
+-- are told, they are these
+pub record IsScriptRun (script : List ℕ) (arrived : Option (List Datagram)) (before now : Outputs) (status : NodeStatus) : Type 0 where
+  pub finds : List Find
+  pub arrivals_are : IfSome arrived (λ ds. finds ≡ arrivals ds)
+  pub output : IsOutput before now (run_of_script script finds) status

@@ -1,0 +1,69 @@
+-- What a router does with the datagrams that it receives.
+use Rattle.std.specs.Prelude.{ℕ, zero, suc, ◌+◌, List, [], ◌∷◌, ◌++◌, length, take, codes, Option, Some, None}
+use Rattle.std.specs.Fmt.{decimal}
+use Rattle.mesh_base.specs.Meshes.{Nodes}
+use Rattle.mesh_base.specs.declared.events.Item.TheVariants.{Heard}
+use Rattle.mesh_grammar.specs.Written.{line, labelled}
+use Rattle.mesh_text.specs.Lines.{name_of}
+use Rattle.mesh_link.specs.Datagrams.{Datagram}
+use Rattle.mesh_peers.specs.Peers.{at_port}
+use Rattle.mesh_router.specs.declared.limits.TheConstants.{MOST_RECEIVED}
+use Rattle.mesh_router.specs.Said.{Said, nothing, written, followed_by}
+use Rattle.mesh_router.specs.Routers.{Router}
+use Rattle.mesh_router.specs.Finds.{Find, next_find, later_finds}
+
+-- what is said, the router then, and what is left to be found
+pub record Polled : Type 0 where
+  pub said : Said
+  pub next : Router
+  pub left : List Find
+
+abbrev pub polled : Said → Router → List Find → Polled
+polled said next left = record { said = said; next = next; left = left }
+
+-- the first bytes of a datagram, as many as are received
+abbrev pub received : List ℕ → List ℕ
+received bytes = take MOST_RECEIVED bytes
+
+-- so many bytes were heard from a peer
+abbrev pub heard_line : Nodes → ℕ → ℕ → List ℕ
+heard_line mesh from size = line (codes "  heard " ++ name_of mesh from ++ 32 ∷ decimal size)
+
+-- a datagram of that port was dropped
+abbrev pub strange_port_line : ℕ → List ℕ
+strange_port_line port = line (labelled (codes "  drop port ") port)
+
+abbrev pub none_line : List ℕ
+none_line = line (codes "  none")
+
+-- what is written of a datagram of that port with these bytes, which is a peer's or nobody's
+abbrev pub found_text : Router → ℕ → List ℕ → Option ℕ → List ℕ
+found_text r port bytes (Some from) = heard_line (r.peers).mesh from (length bytes)
+found_text r port bytes None = strange_port_line port
+
+-- the router then: a peer's packet joins the queue, and any other is dropped
+abbrev pub found_next : Router → List ℕ → Option ℕ → Router
+found_next r bytes (Some from) =
+    record r { queue = r.queue ++ Heard from bytes ∷ []; heard = r.heard + 1 }
+found_next r bytes None = record r { dropped = r.dropped + 1 }
+
+abbrev pub datagram_said : Router → Datagram → Said
+datagram_said r d = written (found_text r d.port (received d.bytes) (at_port r.peers d.port))
+
+abbrev pub datagram_next : Router → Datagram → Router
+datagram_next r d = found_next r (received d.bytes) (at_port r.peers d.port)
+
+-- a datagram, and then others
+abbrev pub polled_after : Said → Polled → Polled
+polled_after said p = record p { said = followed_by said p.said }
+
+abbrev pub polled_by : Router → Find → List Find → (Router → List Find → Polled) → Polled
+polled_by r None left others = polled (written none_line) r left
+polled_by r (Some d) left others =
+    polled_after (datagram_said r d) (others (datagram_next r d) left)
+
+-- up to so many datagrams
+unfoldable pub polls_of : ℕ → Router → List Find → Polled
+polls_of zero r finds = polled nothing r finds
+polls_of (suc most) r finds =
+    polled_by r (next_find finds) (later_finds finds) (λ next left. polls_of most next left)

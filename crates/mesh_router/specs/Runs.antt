@@ -1,0 +1,216 @@
+-- What was told of a turn, of a command, and of datagrams that were received.
+use Rattle.std.specs.Prelude.{◌≡◌, ℕ, suc, List, [], ◌∷◌, Bool, true, false, Option, Some, None, Result, Ok, Err, MatchResult, ⊤}
+use Rattle.std.specs.Io.KnownBytes.{Appends}
+use Rattle.mesh_base.specs.declared.events.Counter.{Counter}
+use Rattle.mesh_io.specs.Puts.{AppendsPrefix}
+use Rattle.mesh_link.specs.Datagrams.{Datagram}
+use Rattle.mesh_peers.specs.Peers.{at_port}
+use Rattle.mesh_peers.specs.Lines.{Accepted, Nothing, Own, Peer, Polls}
+use Rattle.mesh_router.specs.declared.stop.Stop.{Stop}
+use Rattle.mesh_router.specs.declared.stop.Stop.TheVariants as stop
+use Rattle.mesh_grammar.specs.Written.{line}
+use Rattle.mesh_router.specs.Said.{Said, nothing, written, followed_by}
+use Rattle.mesh_router.specs.Routers.{Router, Moment}
+use Rattle.mesh_router.specs.Lines.{LineOutcome, On, Refused, Full}
+use Rattle.mesh_router.specs.Turns as turns
+use Rattle.mesh_router.specs.Turns.{TurnOutcome, StepOutcome, Goes, Stopped, idle_line}
+use Rattle.mesh_router.specs.Finds.{Find, AreNext, left_after, AreFound}
+use Rattle.mesh_router.specs.Polls.{polled, polls_of, found_next, found_text, datagram_next, datagram_said, none_line}
+use Rattle.mesh_router.specs.Told.{Outputs, Adds, AddsPrefix}
+
+-- ---- a turn
+
+-- all that a turn says
+abbrev pub said_by : TurnOutcome → Said
+said_by turns.Idle = written idle_line
+said_by (turns.Done said next) = said
+said_by (turns.Full field) = nothing
+
+-- it was done and told
+pub record IsTurnDone (t : TurnOutcome) (new : Router) (before now : Outputs) : Type 0 where
+  pub said : Said
+  pub is : t ≡ turns.Done said new
+  pub adds : Adds before now said
+
+-- there was none to do
+pub record IsTurnIdle (t : TurnOutcome) (old new : Router) (before now : Outputs) : Type 0 where
+  pub is : t ≡ turns.Idle
+  pub same : new ≡ old
+  pub adds : Adds before now (written idle_line)
+
+-- a counter is full
+pub record IsTurnFull (t : TurnOutcome) (field : Counter) (before now : Outputs) : Type 0 where
+  pub is : t ≡ turns.Full field
+  pub same : now ≡ before
+
+abbrev pub IsTurnRun : TurnOutcome → Router → Outputs → Outputs → Router → Result Bool Stop → Type 0
+IsTurnRun t old before now new (Ok true) = IsTurnDone t new before now
+IsTurnRun t old before now new (Ok false) = IsTurnIdle t old new before now
+IsTurnRun t old before now new (Err (stop.Full field)) = IsTurnFull t field before now
+IsTurnRun t old before now new (Err stop.WriteFault) = AddsPrefix before now (said_by t)
+IsTurnRun t old before now new (Err stop.LinkFault) = AddsPrefix before now (said_by t)
+IsTurnRun t old before now new (Err stop.NoMemory) = AddsPrefix before now (said_by t)
+
+-- ---- a command
+
+-- all that a command says
+abbrev pub said_in : StepOutcome → Said
+said_in (Goes said next) = said
+said_in (Stopped said field) = said
+
+pub record IsStepDone (s : StepOutcome) (new : Router) (before now : Outputs) : Type 0 where
+  pub said : Said
+  pub is : s ≡ Goes said new
+  pub adds : Adds before now said
+
+pub record IsStepFull (s : StepOutcome) (field : Counter) (before now : Outputs) : Type 0 where
+  pub said : Said
+  pub is : s ≡ Stopped said field
+  pub adds : Adds before now said
+
+abbrev pub IsStepStopped : StepOutcome → Outputs → Outputs → Stop → Type 0
+IsStepStopped s before now (stop.Full field) = IsStepFull s field before now
+IsStepStopped s before now stop.WriteFault = AddsPrefix before now (said_in s)
+IsStepStopped s before now stop.LinkFault = AddsPrefix before now (said_in s)
+IsStepStopped s before now stop.NoMemory = AddsPrefix before now (said_in s)
+
+abbrev pub IsStepRun : StepOutcome → Outputs → Outputs → Router → Result (Unit {0}) Stop → Type 0
+IsStepRun s before now new result =
+    MatchResult result (λ _. IsStepDone s new before now) (IsStepStopped s before now)
+
+-- ---- datagrams that are received
+
+-- a datagram of that port with these bytes was taken, and that was written
+abbrev pub IsTaken : Router → ℕ → List ℕ → Option (List ℕ) → Option (List ℕ) → Router
+    → Result (Unit {0}) Stop → Type 0
+IsTaken old port bytes before now new result =
+    MatchResult result
+    (λ _. (new ≡ found_next old bytes (at_port old.peers port))
+    × Appends before now (found_text old port bytes (at_port old.peers port)))
+    (λ _. AppendsPrefix before now (found_text old port bytes (at_port old.peers port)))
+
+-- a datagram was found, and what was done with it was told
+pub record IsFoundOne (old new : Router) (arrived left : Option (List Datagram)) (before now : Outputs) : Type 0 where
+  pub datagram : Datagram
+  pub taken : AreFound arrived left (Some datagram ∷ [])
+  pub next : new ≡ datagram_next old datagram
+  pub adds : Adds before now (datagram_said old datagram)
+
+-- nothing was there
+pub record IsFoundNone (old new : Router) (arrived left : Option (List Datagram)) (before now : Outputs) : Type 0 where
+  pub taken : AreFound arrived left (None ∷ [])
+  pub same : new ≡ old
+  pub adds : Adds before now (written none_line)
+
+-- these were found, and what was done with them was told
+pub record IsPolled (count : ℕ) (old new : Router) (arrived left : Option (List Datagram)) (before now : Outputs) : Type 0 where
+  pub found : List Find
+  pub taken : AreFound arrived left found
+  pub said : Said
+  pub adds : Adds before now said
+  pub is : (finds : List Find) → AreNext finds found
+      → polls_of count old finds ≡ polled said new (left_after finds found)
+
+-- these were found, and what was done with them was told in part
+pub record IsPolledInPart (count : ℕ) (old : Router) (arrived left : Option (List Datagram)) (before now : Outputs) : Type 0 where
+  pub found : List Find
+  pub taken : AreFound arrived left found
+  pub told : (finds : List Find) → AreNext finds found
+      → AddsPrefix before now (polls_of count old finds).said
+
+abbrev pub IsPollRun : ℕ → Router → Option (List Datagram) → Option (List Datagram) → Outputs
+    → Outputs → Router → Result (Unit {0}) Stop → Type 0
+IsPollRun count old arrived left before now new result =
+    MatchResult result (λ _. IsPolled count old new arrived left before now)
+    (λ _. IsPolledInPart count old arrived left before now)
+
+-- one call that receives, the first of some
+abbrev pub IsPollStep : Router → Option (List Datagram) → Option (List Datagram) → Outputs → Outputs
+    → Router → Result Bool Stop → Type 0
+IsPollStep old arrived left before now new (Ok true) =
+    IsFoundOne old new arrived left before now
+IsPollStep old arrived left before now new (Ok false) =
+    IsFoundNone old new arrived left before now
+IsPollStep old arrived left before now new (Err stop) =
+    (others : ℕ) → IsPolledInPart (suc others) old arrived left before now
+
+-- datagrams that are received, below their line
+pub record IsPollLineDone (count : ℕ) (words : List ℕ) (old new : Router) (arrived left : Option (List Datagram)) (before now : Outputs) : Type 0 where
+  pub found : List Find
+  pub taken : AreFound arrived left found
+  pub said : Said
+  pub adds : Adds before now (followed_by (written (line words)) said)
+  pub is : (finds : List Find) → AreNext finds found
+      → polls_of count old finds ≡ polled said new (left_after finds found)
+
+pub record IsPollLineInPart (count : ℕ) (words : List ℕ) (old : Router) (arrived left : Option (List Datagram)) (before now : Outputs) : Type 0 where
+  pub found : List Find
+  pub taken : AreFound arrived left found
+  pub told : (finds : List Find) → AreNext finds found
+      → AddsPrefix before now (followed_by (written (line words)) (polls_of count old finds).said)
+
+-- that stops it
+abbrev pub IsNotFull : Stop → Type 0
+IsNotFull (stop.Full field) = ⊥
+IsNotFull others = ⊤
+
+abbrev pub IsPollLine : ℕ → List ℕ → Router → Option (List Datagram) → Option (List Datagram)
+    → Outputs → Outputs → Router → Result (Unit {0}) Stop → Type 0
+IsPollLine count words old arrived left before now new result =
+    MatchResult result (λ _. IsPollLineDone count words old new arrived left before now)
+    (λ e. IsNotFull e × IsPollLineInPart count words old arrived left before now)
+
+-- ---- a line
+
+-- all that a line says
+abbrev pub said_of : LineOutcome → Said
+said_of (On said next left) = said
+said_of (Refused why) = nothing
+said_of (Full said words field) = said
+
+-- it was done and told, by what was found, and the run goes on from the next moment
+pub record IsLineDone (k : List Find → LineOutcome) (next : Moment) (arrived left : Option (List Datagram)) (before now : Outputs) : Type 0 where
+  pub found : List Find
+  pub taken : AreFound arrived left found
+  pub said : Said
+  pub adds : Adds before now said
+  pub is : (finds : List Find) → AreNext finds found
+      → k finds ≡ On said next (left_after finds found)
+
+-- a counter is full
+pub record IsLineFull (k : List Find → LineOutcome) (words : List ℕ) (field : Counter) (arrived left : Option (List Datagram)) (before now : Outputs) : Type 0 where
+  pub said : Said
+  pub adds : Adds before now said
+  pub is : (finds : List Find) → k finds ≡ Full said words field
+  pub same : left ≡ arrived
+
+-- it was told in part
+pub record IsLineInPart (k : List Find → LineOutcome) (arrived left : Option (List Datagram)) (before now : Outputs) : Type 0 where
+  pub found : List Find
+  pub taken : AreFound arrived left found
+  pub told : (finds : List Find) → AreNext finds found → AddsPrefix before now (said_of (k finds))
+
+abbrev pub IsLineStopped : (List Find → LineOutcome) → List ℕ → Option (List Datagram)
+    → Option (List Datagram) → Outputs → Outputs → Stop → Type 0
+IsLineStopped k words arrived left before now (stop.Full field) =
+    IsLineFull k words field arrived left before now
+IsLineStopped k words arrived left before now stop.WriteFault =
+    IsLineInPart k arrived left before now
+IsLineStopped k words arrived left before now stop.LinkFault =
+    IsLineInPart k arrived left before now
+IsLineStopped k words arrived left before now stop.NoMemory =
+    IsLineInPart k arrived left before now
+
+abbrev pub IsLineRun : (List Find → LineOutcome) → List ℕ → Moment → Option (List Datagram)
+    → Option (List Datagram) → Outputs → Outputs → Result (Unit {0}) Stop → Type 0
+IsLineRun k words next arrived left before now result =
+    MatchResult result (λ _. IsLineDone k next arrived left before now)
+    (IsLineStopped k words arrived left before now)
+
+-- a line that makes the router act, or shows it
+abbrev pub IsCommand : Accepted → Type 0
+IsCommand Nothing = ⊥
+IsCommand (Own a first) = ⊥
+IsCommand (Peer a port) = ⊥
+IsCommand (Polls count) = ⊥
+IsCommand others = ⊤

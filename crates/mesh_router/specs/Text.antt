@@ -1,0 +1,70 @@
+-- What a router writes and sends for its script, and its verdict, from the bytes of the script and
+-- from what the calls that receive datagrams find.
+use Rattle.std.specs.Prelude.{ℕ, ◌+◌, List, [], ◌∷◌, ◌++◌, codes}
+use Rattle.mesh_base.specs.declared.events.Counter.{Counter}
+use Rattle.mesh_grammar.specs.declared.fault.BadWhy.{BadWhy}
+use Rattle.mesh_grammar.specs.Faults.{bad_line}
+use Rattle.mesh_grammar.specs.Lines.{Piece, pieces_of_input}
+use Rattle.mesh_grammar.specs.Written.{line, labelled}
+use Rattle.mesh_text.specs.Lines.{field_text}
+use Rattle.mesh_text.specs.Text.{Verdict, Finished, RefusedAt, FullAt}
+use Rattle.mesh_router.specs.Said.{Said, written, followed_by}
+use Rattle.mesh_router.specs.Routers.{Router, router_in, Moment, opening_moment}
+use Rattle.mesh_router.specs.Finds.{Find}
+use Rattle.mesh_router.specs.Lines.{LineOutcome, On, Refused, Full, outcome_of_piece}
+
+-- what is said, the last line with it, and what it came to
+pub record Run : Type 0 where
+  pub said : Said
+  pub verdict : Verdict
+
+-- ---- the last line
+
+-- of a whole script
+abbrev pub counts_line : Router → List ℕ
+counts_line r =
+    line (labelled (codes "done heard ") r.heard ++ labelled (codes " sent ") r.sent
+    ++ labelled (codes " dropped ") r.dropped)
+
+-- of a run in which a counter is full at this line
+abbrev pub full_line : ℕ → List ℕ → Counter → List ℕ
+full_line number words field =
+    line (labelled (codes "full line ") number ++ codes ": " ++ words ++ codes ": "
+    ++ field_text field)
+
+-- ---- all lines
+
+abbrev pub finished_run : Moment → Run
+finished_run m = record { said = written (counts_line (router_in m.stage)); verdict = Finished }
+
+abbrev pub refused_run : Moment → BadWhy → Run
+refused_run m why = record {
+  said = written (bad_line (m.lines + 1) why);
+  verdict = RefusedAt (m.lines + 1);
+}
+
+abbrev pub overfull_run : Moment → Said → List ℕ → Counter → Run
+overfull_run m said words field = record {
+  said = followed_by said (written (full_line (m.lines + 1) words field));
+  verdict = FullAt (m.lines + 1);
+}
+
+-- what is said before the rest of a run
+abbrev pub run_after : Said → Run → Run
+run_after said run = record run { said = followed_by said run.said }
+
+-- what a line came to, and then the rest of the run from the next moment on
+abbrev pub goes_on : Moment → LineOutcome → (Moment → List Find → Run) → Run
+goes_on m (On said n finds) others = run_after said (others n finds)
+goes_on m (Refused why) others = refused_run m why
+goes_on m (Full said words field) others = overfull_run m said words field
+
+-- the run of these lines from a moment on
+unfoldable pub run_from : Moment → List Piece → List Find → Run
+run_from m [] finds = finished_run m
+run_from m (piece ∷ pieces) finds =
+    goes_on m (outcome_of_piece m piece finds) (λ n left. run_from n pieces left)
+
+-- what a router writes and sends for this script, where this is found
+unfoldable pub run_of_script : List ℕ → List Find → Run
+run_of_script script finds = run_from opening_moment (pieces_of_input script) finds

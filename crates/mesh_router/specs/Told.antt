@@ -1,0 +1,53 @@
+-- What a call has put on a sink and sent over a link, as far as they tell it, and when a fault may
+-- be answered.
+use Rattle.std.specs.Prelude.{ℕ, ◌≡◌, ◌≤◌, List, ◌++◌, Option, option_map, Result, MatchResult, IsErrOf, ⊤}
+use Rattle.std.specs.Io.KnownBytes.{Appends}
+use Rattle.mesh_io.specs.Cause.{Rose}
+use Rattle.mesh_link.specs.Datagrams.{Datagram}
+use Rattle.mesh_router.specs.declared.stop.Stop.{Stop}
+use Rattle.mesh_router.specs.declared.stop.Stop.TheVariants as stop
+use Rattle.mesh_router.specs.Said.{Said, followed_by}
+
+-- what a sink holds, and the datagrams that a link has sent
+abbrev pub Outputs : Type 0
+Outputs = Option (List ℕ) × Option (List Datagram)
+
+-- where they are told, these were sent too
+abbrev pub SendsAll : Option (List Datagram) → Option (List Datagram) → List Datagram → Type 0
+SendsAll before now ds = now ≡ option_map (λ xs. xs ++ ds) before
+
+-- this was written and sent
+pub record Adds (before now : Outputs) (said : Said) : Type 0 where
+  pub text : Appends before.0 now.0 said.text
+  pub sent : SendsAll before.1 now.1 said.sent
+
+-- a prefix of the text was written, and a prefix of the datagrams was sent
+pub record AddsPrefix (before now : Outputs) (said : Said) : Type 0 where
+  pub prefix : Said
+  pub rest : Said
+  pub whole : said ≡ followed_by prefix rest
+  pub adds : Adds before now prefix
+
+-- the whole at Ok, and a prefix at Err
+abbrev pub Says : {T : Type 0} → Outputs → Outputs → Said → Result T Stop → Type 0
+Says before now said result =
+    MatchResult result (λ _. Adds before now said) (λ _. AddsPrefix before now said)
+
+-- a fault is answered only where the sink or the link has failed in this call
+pub record HasCauses {T : Type 0} (sink sink_now link link_now : ℕ) (result : Result T Stop) : Type 0 where
+  pub sink_later : sink ≤ sink_now
+  pub link_later : link ≤ link_now
+  pub write : IsErrOf result stop.WriteFault → Rose sink sink_now
+  pub send : IsErrOf result stop.LinkFault → Rose link link_now
+
+-- the sink or the link has failed, and nothing else has stopped it
+abbrev pub IsFault : Stop → Type 0
+IsFault stop.WriteFault = ⊤
+IsFault stop.LinkFault = ⊤
+IsFault others = ⊥
+
+-- a call that has nothing to do with a link answers a fault only where the sink has failed
+pub record HasSinkCause {T : Type 0} (before now : ℕ) (result : Result T Stop) : Type 0 where
+  pub later : before ≤ now
+  pub write : IsErrOf result stop.WriteFault → Rose before now
+  pub link : ¬ IsErrOf result stop.LinkFault

@@ -1,0 +1,42 @@
+//! What a run of a router's script comes to.
+ghost use Rattle.std.specs.Prelude.{◌≡◌};
+ghost use Rattle.mesh_router.specs.Codes.{code_of};
+
+/// What the run of a script came to.
+#[derive(Clone, Copy, Debug, PartialEq, Eq)]
+pub enum NodeStatus {
+    /// The script was read to its end.
+    Done,
+    /// The words of the command line are no port.
+    Usage,
+    /// This line, counted from 1, is refused.
+    BadLine { line: u64 },
+    /// A counter is full at this line, counted from 1.
+    Full { line: u64 },
+    /// The source failed.
+    ReadFault,
+    /// The sink failed.
+    WriteFault,
+    /// Memory was asked for and not found.
+    NoMemory,
+    /// The link failed.
+    LinkFault,
+}
+
+impl NodeStatus {
+    /// The status with which the process ends.
+    pub fn code(&self) -> u8
+        ensures { result ≡ code_of self.now }
+    {
+        match self {
+            NodeStatus::Done => 0,
+            NodeStatus::Usage => 2,
+            NodeStatus::BadLine { .. } => 3,
+            NodeStatus::Full { .. } => 4,
+            NodeStatus::ReadFault => 5,
+            NodeStatus::WriteFault => 6,
+            NodeStatus::NoMemory => 7,
+            NodeStatus::LinkFault => 8,
+        }
+    }
+}
