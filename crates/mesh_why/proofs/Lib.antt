@@ -1,0 +1,4 @@
+pub mod Forms
+pub mod Places
+pub mod Told
+pub mod Completes

@@ -1,0 +1,57 @@
+-- What was written, from the run's last line and that of the route.
+use Rattle.std.proofs.Common.{◌≡◌, ◌∙◌, ℕ, ◌++◌, List, Option, Some, None, IfSome, sym, ap, subst, inr}
+use Rattle.std.specs.Io.KnownBytes.{Appends}
+use Rattle.mesh_base.specs.Meshes.{Nodes}
+use Rattle.mesh_base.specs.declared.events.Variant.TheVariants.{Base}
+use Rattle.mesh_io.specs.Puts.{AppendsPrefix}
+use Rattle.mesh_io.proofs.Writing.{Appends-join, AppendsPrefix-join}
+use Rattle.mesh_text.specs.Schedule.{Moment, opening}
+use Rattle.mesh_text.specs.Text.{Written, Finished, text_on}
+use Rattle.mesh_run.specs.declared.say.Say.TheVariants.{Last}
+use Rattle.mesh_run.specs.declared.status.Status.{Status}
+use Rattle.mesh_run.specs.declared.status.Status.TheVariants as status
+use Rattle.mesh_run.specs.Told.{IsOutputFrom}
+use Rattle.mesh_why.specs.Routes.{IsRoute, route_line}
+use Rattle.mesh_why.specs.Answers.{IsDone, IsCut, IsAnswered}
+
+-- the mesh of the last moment
+line_there : (w : Written) (at : Moment) (mesh : Nodes) (route : Option (List ℕ)) → at ≡ w.after → mesh ≡ at.mesh → w.last ++ route_line (w.after).mesh route ≡ w.last ++ route_line mesh route
+line_there w at mesh route e m = ap (λ n. w.last ++ route_line n route) (sym (m ∙ ap (λ x. x.mesh) e))
+
+both : (asked : ℕ × ℕ) (w : Written) (at : Moment) (mesh : Nodes) (a b c : Option (List ℕ)) (route : Option (List ℕ)) → at ≡ w.after → mesh ≡ at.mesh → w.verdict ≡ Finished → Appends a b w.last → IsRoute at asked route
+    → Appends b c (route_line mesh route) → IsDone asked w a c
+both asked w at mesh a b c route e m finished p is q = record {
+  finished = finished;
+  route = route;
+  is = subst (λ x. IsRoute x asked route) e is;
+  grown = Appends-join a b c w.last (route_line mesh route) _ (line_there w at mesh route e m) p q;
+}
+
+one : (asked : ℕ × ℕ) (w : Written) (at : Moment) (mesh : Nodes) (a b c : Option (List ℕ)) (route : Option (List ℕ)) → at ≡ w.after → mesh ≡ at.mesh → w.verdict ≡ Finished → Appends a b w.last → IsRoute at asked route
+    → AppendsPrefix b c (route_line mesh route) → IsCut asked w a c
+one asked w at mesh a b c route e m finished p is q = record {
+  finished = finished;
+  route = route;
+  is = subst (λ x. IsRoute x asked route) e is;
+  grown = AppendsPrefix-join a b c w.last (route_line mesh route) _ (line_there w at mesh route e m) p q;
+}
+
+-- the run came to this moment, and the line of the route was written
+pub done_told : (asked : ℕ × ℕ) (start at : Moment) (mesh : Nodes) (end : Option Moment) (left after a b c : Option (List ℕ)) (s : Status) (route : Option (List ℕ)) → start ≡ opening Base → end ≡ Some at → s ≡ status.Done → mesh ≡ at.mesh
+    → IfSome left (λ bytes. IsOutputFrom Last start bytes after a b s) → IfSome end (λ p. IfSome left (λ bytes. p ≡ (text_on start bytes).after)) → IsRoute at asked route → Appends b c (route_line mesh route)
+    → IfSome left (λ bytes. IsAnswered asked bytes after a c status.Done)
+done_told asked start at mesh end None after a b c s route e f d m told past is q = tt
+done_told asked start at mesh end (Some bytes) after a b c s route e f d m told past is q =
+    let so : IsOutputFrom Last (opening Base) bytes after a b status.Done = subst (λ x. IsOutputFrom Last (opening Base) bytes after a b x) d (subst (λ x. IsOutputFrom Last x bytes after a b s) e told) in
+    let there : IfSome (Some at) (λ p. p ≡ (text_on start bytes).after) = subst (λ o. IfSome o (λ p. p ≡ (text_on start bytes).after)) f past in
+    both asked (text_on (opening Base) bytes) at mesh a b c route (there ∙ ap (λ x. (text_on x bytes).after) e) m so.0 so.1 is q
+
+-- the same, and a prefix of that line was written
+pub cut_told : (asked : ℕ × ℕ) (start at : Moment) (mesh : Nodes) (end : Option Moment) (left after a b c : Option (List ℕ)) (s : Status) (route : Option (List ℕ)) → start ≡ opening Base → end ≡ Some at → s ≡ status.Done → mesh ≡ at.mesh
+    → IfSome left (λ bytes. IsOutputFrom Last start bytes after a b s) → IfSome end (λ p. IfSome left (λ bytes. p ≡ (text_on start bytes).after)) → IsRoute at asked route → AppendsPrefix b c (route_line mesh route)
+    → IfSome left (λ bytes. IsAnswered asked bytes after a c status.WriteFault)
+cut_told asked start at mesh end None after a b c s route e f d m told past is q = tt
+cut_told asked start at mesh end (Some bytes) after a b c s route e f d m told past is q =
+    let so : IsOutputFrom Last (opening Base) bytes after a b status.Done = subst (λ x. IsOutputFrom Last (opening Base) bytes after a b x) d (subst (λ x. IsOutputFrom Last x bytes after a b s) e told) in
+    let there : IfSome (Some at) (λ p. p ≡ (text_on start bytes).after) = subst (λ o. IfSome o (λ p. p ≡ (text_on start bytes).after)) f past in
+    inr (one asked (text_on (opening Base) bytes) at mesh a b c route (there ∙ ap (λ x. (text_on x bytes).after) e) m so.0 so.1 is q)

@@ -1,0 +1,79 @@
+//! The top call.
+ghost use Rattle.std.specs.Prelude.{◌≡◌, ◌≢◌, ◌↔◌, ◌⊎◌, map, None, IfSome};
+ghost use Rattle.std.specs.Io.KnownBytes.{IsAtEnd};
+ghost use Rattle.mesh_base.specs.declared.events.Variant.TheVariants.{Base};
+ghost use Rattle.mesh_io.specs.Cause.{Rose};
+ghost use Rattle.mesh_text.specs.Text.{text_of_input, Finished};
+ghost use Rattle.mesh_why.specs.Routes.{asked_of};
+ghost use Rattle.mesh_why.specs.Answers.{IsAnswered};
+
+use crate::route::{put_route, walk_at};
+use crate::words::{Asked, asked_of};
+use mesh_io::{Sink, Source};
+use mesh_run::{Point, Say, Status, drive};
+use mesh_trail::Trail;
+use std::alloc::Global;
+
+// Runs a schedule, and writes the last line of its text and the line of the route.
+fn answer<I: Source, O: Sink>(alloc: Global, asked: Asked, input: &mut I, out: &mut O) -> Status
+    ensures told { IfSome (I.left input.old) (λ bytes. IsAnswered (asked.node.0, asked.dest.0) bytes
+        (I.left input.new) (O.held out.old) (O.held out.new) result) }
+    ensures end { result ≡ Status.Done → IsAtEnd (I.left input.new) }
+    ensures read { result ≡ Status.ReadFault → Rose (I.faults input.old) (I.faults input.new) }
+    ensures write { result ≡ Status.WriteFault → Rose (O.faults out.old) (O.faults out.new) }
+    ensures words { result ≢ Status.Usage }
+{
+    let start: Point<Trail> = Point::start();
+    let (status, end) = drive(alloc, start, Say::Last, input, out);
+    let Some(at) = end else {
+        return status;
+    };
+    match put_route(at.mesh(), walk_at(&at, asked), out) {
+        Ok(()) => Status::Done,
+        Err(_) => Status::WriteFault,
+    }
+}
+
+/// Runs the schedule that the source gives, in a world of its own where all nodes run the protocol
+/// as AWN has it, and says over what links a node's route came. The words are two addresses: the
+/// node's, and that of the route's destination.
+///
+/// The last line of the run's text is written; and where the run is done a line `walk H` with the
+/// H + 1 addresses of the walk, from the destination to the node, or `none` where the node has no
+/// valid route to the destination.
+pub fn why<I: Source, O: Sink>(alloc: Global, words: &[&str], input: &mut I, out: &mut O) -> Status
+    // The words are no two addresses: nothing is read or written.
+    ensures usage_exactly_for_other_words { (result ≡ Status.Usage)
+        ↔ (asked_of (map (λ w. w.now) words.now) ≡ None) }
+    ensures untouched_by_other_words { result ≡ Status.Usage
+        → (input.new ≡ input.old) × (out.new ≡ out.old) }
+
+    // What is written is the last line of the text of the input, and where the run is done an
+    // honest walk with the hops of the valid route, or `none` exactly where there is no such
+    // route. The answer is the run's verdict. After a failed write, or want of memory, a prefix of
+    // that is written; after a failed read nothing.
+    ensures last_line_and_honest_walk { IfSome (asked_of (map (λ w. w.now) words.now)) (λ asked.
+        IfSome (I.left input.old) (λ bytes. IsAnswered asked bytes
+        (I.left input.new) (O.held out.old) (O.held out.new) result)) }
+
+    // Done only where the input was read to its end.
+    ensures done_at_the_end { result ≡ Status.Done → IsAtEnd (I.left input.new) }
+
+    // A fault is answered only where the source or the sink has failed in this call.
+    ensures cause_of_read_fault { result ≡ Status.ReadFault
+        → Rose (I.faults input.old) (I.faults input.new) }
+    ensures cause_of_write_fault { result ≡ Status.WriteFault
+        → Rose (O.faults out.old) (O.faults out.new) }
+
+    // Where every line is allowed and nothing has failed the route is told, unless memory runs out.
+    ensures complete { IfSome (asked_of (map (λ w. w.now) words.now)) (λ asked.
+        IfSome (I.left input.old) (λ bytes. (text_of_input Base bytes).verdict ≡ Finished
+        → (Rose (I.faults input.old) (I.faults input.new) → ⊥)
+        → (Rose (O.faults out.old) (O.faults out.new) → ⊥)
+        → (result ≡ Status.Done) ⊎ (result ≡ Status.NoMemory))) }
+{
+    match asked_of(words) {
+        Some(asked) => answer(alloc, asked, input, out),
+        None => Status::Usage,
+    }
+}
