@@ -9,6 +9,8 @@ examples = $(DESTDIR)$(PREFIX)/share/doc/mesh/examples
 all:
 	./build mesh_cli
 	./build mesh_check
+	./build mesh_node
+	./build mesh_why
 
 check:
 	checks/all
@@ -16,13 +18,16 @@ check:
 # The start script finds the program beside itself, and links are followed to it.
 install: all
 	install -d $(libexec)/tools $(libexec)/programs $(DESTDIR)$(PREFIX)/bin $(man)/man1 $(man)/man5 $(examples)
-	install -m 755 mesh mesh_check $(libexec)
+	install -m 755 mesh mesh_check mesh_node mesh_why $(libexec)
 	install -m 644 tools/start.sh $(libexec)/tools/start.sh
-	install -m 755 crates/mesh_cli/out/mesh_cli crates/mesh_check/out/mesh_check $(libexec)/programs
+	install -m 755 crates/mesh_cli/out/mesh_cli crates/mesh_check/out/mesh_check \
+	    crates/mesh_node/out/mesh_node crates/mesh_why/out/mesh_why $(libexec)/programs
 	./mesh --version | sed 's/.* of commit \([^,]*\),.*/\1/' >$(libexec)/COMMIT
 	chmod 644 $(libexec)/COMMIT
 	ln -sf ../libexec/mesh/mesh $(DESTDIR)$(PREFIX)/bin/mesh
 	ln -sf ../libexec/mesh/mesh_check $(DESTDIR)$(PREFIX)/bin/mesh_check
+	ln -sf ../libexec/mesh/mesh_node $(DESTDIR)$(PREFIX)/bin/mesh_node
+	ln -sf ../libexec/mesh/mesh_why $(DESTDIR)$(PREFIX)/bin/mesh_why
 	install -m 644 docs/man/mesh.1 docs/man/mesh_check.1 $(man)/man1
 	install -m 644 docs/man/mesh.5 $(man)/man5/mesh.5
 	install -m 644 examples/*.mesh examples/*.txt examples/*.tables $(examples)
@@ -30,6 +35,7 @@ install: all
 uninstall:
 	rm -rf $(libexec) $(examples)
 	rm -f $(DESTDIR)$(PREFIX)/bin/mesh $(DESTDIR)$(PREFIX)/bin/mesh_check
+	rm -f $(DESTDIR)$(PREFIX)/bin/mesh_node $(DESTDIR)$(PREFIX)/bin/mesh_why
 	rm -f $(man)/man1/mesh.1 $(man)/man1/mesh_check.1 $(man)/man5/mesh.5
 
 .PHONY: all check install uninstall
