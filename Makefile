@@ -28,7 +28,7 @@ install: all
 	ln -sf ../libexec/mesh/mesh_check $(DESTDIR)$(PREFIX)/bin/mesh_check
 	ln -sf ../libexec/mesh/mesh_node $(DESTDIR)$(PREFIX)/bin/mesh_node
 	ln -sf ../libexec/mesh/mesh_why $(DESTDIR)$(PREFIX)/bin/mesh_why
-	install -m 644 docs/man/mesh.1 docs/man/mesh_check.1 $(man)/man1
+	install -m 644 docs/man/*.1 $(man)/man1
 	install -m 644 docs/man/mesh.5 $(man)/man5/mesh.5
 	install -m 644 examples/*.mesh examples/*.txt examples/*.tables $(examples)
 
@@ -36,6 +36,7 @@ uninstall:
 	rm -rf $(libexec) $(examples)
 	rm -f $(DESTDIR)$(PREFIX)/bin/mesh $(DESTDIR)$(PREFIX)/bin/mesh_check
 	rm -f $(DESTDIR)$(PREFIX)/bin/mesh_node $(DESTDIR)$(PREFIX)/bin/mesh_why
-	rm -f $(man)/man1/mesh.1 $(man)/man1/mesh_check.1 $(man)/man5/mesh.5
+	rm -f $(man)/man1/mesh.1 $(man)/man1/mesh_check.1 $(man)/man1/mesh_node.1 $(man)/man1/mesh_why.1
+	rm -f $(man)/man5/mesh.5
 
 .PHONY: all check install uninstall
