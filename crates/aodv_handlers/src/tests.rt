@@ -10,9 +10,10 @@ use crate::{
     send_stored, start_request,
 };
 use aodv_asked::Asked;
-use aodv_table::{PlainTable, Table};
+use aodv_table::{PlainTable, RowTable, Table};
 use aodv_waiting::Waiting;
 use aodv_wire::{DataView, Message, RerrView, Rrep, Rreq, read};
+use arrayvec::ArrayVec;
 use mesh_base::{Addr, Bytes, Cast, Mesh, NoMemory, NodeSet, Packet, Variant};
 use std::alloc::Global;
 use std::test::Fail;
@@ -227,6 +228,70 @@ fn hears<T: Table>(
         Ok(Message::Rerr(m)) => hears_an_error(core, mesh, &m, out),
         _ => Ok(false),
     }
+}
+
+// The packets that a node casts on its way to a route and without it again, one after another. None
+// where it does another thing on the way.
+fn casts_over<T: Table>(
+    alloc: Global,
+    table: T,
+    mesh: &Mesh,
+) -> Result<Option<ArrayVec<u8, 256>>, NoMemory>
+    requires nodes { T.nodes table ≡ length mesh.now }
+    requires some { 0 < length mesh.now }
+    requires empty { T.entries table ≡ maps.empty }
+{
+    let mut casts: ArrayVec<u8, 256> = ArrayVec::new();
+    let mut out = Packet::new();
+    let mut range = NodeSet::new();
+    range.add(1);
+    let mut core = opening(alloc, table, mesh)?;
+    let body = Bytes::copy_of(alloc, b"hi")?;
+    let data = b"\x10\0\0\0\x0a\0\0\x02\x0a\0\0\x01hi";
+    let error = b"\x03\0\0\x01\x0a\0\0\x02\0\0\0\x09";
+    if !takes_a_datum(&mut core, mesh, body)? || !asks(&mut core, mesh, &mut out)? {
+        return Ok(None);
+    }
+    let asked = casts.try_extend_from_slice(out.as_slice()).is_ok();
+    if !hears_a_reply(&mut core, mesh, &mut out)? || !sends(&mut core, mesh, &range, &mut out) {
+        return Ok(None);
+    }
+    let sent = casts.try_extend_from_slice(out.as_slice()).is_ok();
+    if !hears_a_request(&mut core, mesh, &range, &mut out)? {
+        return Ok(None);
+    }
+    let answered = casts.try_extend_from_slice(out.as_slice()).is_ok();
+    if !hears(&mut core, mesh, &range, data, &mut out)?
+        || !hears(&mut core, mesh, &range, error, &mut out)?
+        || hears(&mut core, mesh, &range, data, &mut out)?
+        || !asked
+        || !sent
+        || !answered
+    {
+        return Ok(None);
+    }
+    Ok(Some(casts))
+}
+
+// Over a table that keeps a map, and over one that has a row for each node.
+#[test]
+fn both_tables_cast_the_same_packets(rt: HostRuntime) -> Result<(), Fail> {
+    let mut mesh = Mesh::new();
+    assert!(rt; mesh.add(Addr(0x0a00_0001), 1).is_ok());
+    assert!(rt; mesh.add(Addr(0x0a00_0002), 1).is_ok());
+    assert_eq!(rt; mesh.len(), 2);
+    let map = PlainTable::new(rt.alloc(), mesh.len());
+    let rows = RowTable::new(rt.alloc(), mesh.len())?;
+    let one = casts_over(rt.alloc(), map, &mesh)?;
+    let other = casts_over(rt.alloc(), rows, &mesh)?;
+    assert!(rt; one.is_some());
+    if let (Some(one), Some(other)) = (one, other) {
+        assert_eq!(rt; one.as_slice(), other.as_slice());
+        assert_eq!(rt; one.len(), 24 + 14 + 20);
+        return Ok(());
+    }
+    assert!(rt; false);
+    Ok(())
 }
 
 #[test]
