@@ -1,5 +1,5 @@
 -- What joins a queue: a datum that is given, and a copy that is delivered; and a copy that is lost.
-use Rattle.std.proofs.Common.{◌≡◌, ◌≢◌, ◌==◌, ℕ, ◌<◌, ◌≤◌, ◌+◌, ◌-◌, Bool, true, false, not, List, [], ◌∷◌, ◌++◌, map, length, Some, None, Option, Ok, refl, ap, sym, ◌∙◌, subst, arith}
+use Rattle.std.proofs.Common.{◌≡◌, ◌≢◌, ◌==◌, ℕ, ◌<◌, ◌≤◌, ◌+◌, ◌-◌, Bool, true, false, not, List, [], ◌∷◌, ◌++◌, map, length, Some, None, Option, Ok, refl, ap, sym, ◌∙◌, subst, arith, ◌^◌}
 use Rattle.std.specs.Prelude.{slice_get, slice_set, option_map, filter, if◌then◌else◌}
 use Rattle.std.specs.List.{AllByRecursion}
 use Rattle.std.proofs.lemmas.Option.{same_Some, none-some}
@@ -84,14 +84,14 @@ unfolding step
 give_at w x d b n e = ap (λ o. at_node o (λ core queue. Next (push w x (New b d)) Changed)) e
 
 pub give_done : (mesh : Nodes) (nodes : List NodeSeen) (radio : RadioState) (ready ready' : Ready) (steps x dest : ℕ) (body copy : Body) (n new : NodeSeen) (packet : List ℕ)
-    → IsKept mesh nodes radio ready steps → x < length mesh → dest < length mesh → IsDatum body → copy ≡ body → slice_get nodes x ≡ Some n → Joined n new (item.New dest copy) → ready' ≡ noted ready x new (length mesh)
+    → IsKept mesh nodes radio ready steps → steps < 2 ^ 48 → x < length mesh → dest < length mesh → IsDatum body → copy ≡ body → slice_get nodes x ≡ Some n → Joined n new (item.New dest copy) → ready' ≡ noted ready x new (length mesh)
     → Ends (Give x dest body) mesh nodes radio steps (Ok done.Changed) (slice_set nodes x new) radio ready' (steps + 1) packet
-give_done mesh nodes radio ready ready' steps x dest body copy n new packet k l below datum copied at j' noted_is =
+give_done mesh nodes radio ready ready' steps x dest body copy n new packet k few l below datum copied at j' noted_is =
     let w = world_in mesh nodes radio in
     let j : Joined n new (item.New dest body) = subst (λ (b : Body). Joined n new (item.New dest b)) copied j' in
     let world : push w x (New body dest) ≡ world_in mesh (slice_set nodes x new) radio = pushed mesh nodes radio x n new (item.New dest body) at j in
     ends_done (Give x dest body) mesh nodes radio ready steps done.Changed (slice_set nodes x new) radio ready' packet (Next (push w x (New body dest)) Changed)
-    k (l, below, datum) (give_at w x dest body (node_in mesh n) (shown_at mesh nodes radio x n at)) (omega arith) world (λ i. Next (world i) Changed) tt
+    k few (l, below, datum) (give_at w x dest body (node_in mesh n) (shown_at mesh nodes radio x n at)) (omega arith) world (λ i. Next (world i) Changed) tt
     (beside_joined mesh nodes radio radio ready ready' steps x n new (item.New dest body) k l at tt j k.flying refl refl noted_is)
 
 -- ---- copies
@@ -202,41 +202,40 @@ without_flying : (mesh : Nodes) (old new : RadioState) (id : ℕ) → new ≡ wi
 without_flying mesh old new id is all = subst (λ (r : RadioState). AllByRecursion (IsWrittenCopy mesh) r.flying) (sym is) (without_all (IsWrittenCopy mesh) old.flying id all)
 
 deliver_here : (mesh : Nodes) (nodes : List NodeSeen) (radio radio' : RadioState) (ready ready' : Ready) (steps id : ℕ) (f : Flying) (n new : NodeSeen) (packet : List ℕ)
-    → IsKept mesh nodes radio ready steps → radios.find_copy radio.flying id ≡ Some f → InFlight mesh f → radio' ≡ without_copy radio id → slice_get nodes f.to ≡ Some n → Joined n new (item.Heard f.from f.bytes) → ready' ≡ noted ready f.to new (length mesh)
+    → IsKept mesh nodes radio ready steps → steps < 2 ^ 48 → radios.find_copy radio.flying id ≡ Some f → InFlight mesh f → radio' ≡ without_copy radio id → slice_get nodes f.to ≡ Some n → Joined n new (item.Heard f.from f.bytes) → ready' ≡ noted ready f.to new (length mesh)
     → Ends (Deliver id) mesh nodes radio steps (Ok (done.Heard f.from f.to)) (slice_set nodes f.to new) radio' ready' (steps + 1) packet
-deliver_here mesh nodes radio radio' ready ready' steps id f n new packet k found flies gone at j noted_is =
+deliver_here mesh nodes radio radio' ready ready' steps id f n new packet k few found flies gone at j noted_is =
     let w = world_in mesh nodes radio in
     let i = item.Heard f.from f.bytes in
     let pushing = push (worlds.without_copy w id) f.to (Heard f.from (meaning mesh f.bytes)) in
     let world : pushing ≡ world_in mesh (slice_set nodes f.to new) radio' =
     ap (λ (v : World). push v f.to (Heard f.from (meaning mesh f.bytes))) (shown_without mesh nodes radio radio' id gone) ∙ pushed mesh nodes radio' f.to n new i at j in
     ends_done (Deliver id) mesh nodes radio ready steps (done.Heard f.from f.to) (slice_set nodes f.to new) radio' ready' packet (Next pushing (CopyHeard f.from f.to))
-    k tt (deliver_at w id (Some (copy_in mesh f)) (shown_found mesh nodes radio id f found)) (omega arith) world (λ m. Next (world m) (CopyHeard f.from f.to)) (flies.from, flies.to)
+    k few tt (deliver_at w id (Some (copy_in mesh f)) (shown_found mesh nodes radio id f found)) (omega arith) world (λ m. Next (world m) (CopyHeard f.from f.to)) (flies.from, flies.to)
     (beside_joined mesh nodes radio radio' ready ready' steps f.to n new i k flies.to at flies.written j (without_flying mesh radio radio' id gone k.flying) (ap (λ (r : RadioState). r.size) gone) (ap (λ (r : RadioState). r.next_copy) gone) noted_is)
 
 pub deliver_done : (mesh : Nodes) (nodes : List NodeSeen) (radio radio' : RadioState) (ready ready' : Ready) (steps id to : ℕ) (f : Flying) (n roomy new : NodeSeen) (packet : List ℕ)
-    → IsKept mesh nodes radio ready steps → Taken mesh radio id to f → radio' ≡ without_copy radio id → slice_get nodes to ≡ Some n → Joined n new (item.Heard f.from f.bytes) → ready' ≡ noted ready to new (length mesh)
+    → IsKept mesh nodes radio ready steps → steps < 2 ^ 48 → Taken mesh radio id to f → radio' ≡ without_copy radio id → slice_get nodes to ≡ Some n → Joined n new (item.Heard f.from f.bytes) → ready' ≡ noted ready to new (length mesh)
     → Ends (Deliver id) mesh nodes radio steps (Ok (done.Heard f.from to)) (slice_set (slice_set nodes to roomy) to new) radio' ready' (steps + 1) packet
-deliver_done mesh nodes radio radio' ready ready' steps id to f n roomy new packet k t gone at j noted_is =
+deliver_done mesh nodes radio radio' ready ready' steps id to f n roomy new packet k few t gone at j noted_is =
     subst (λ (ns : List NodeSeen). Ends (Deliver id) mesh nodes radio steps (Ok (done.Heard f.from to)) ns radio' ready' (steps + 1) packet) (sym (set_again nodes to roomy new))
     (subst (λ (y : ℕ). slice_get nodes y ≡ Some n → ready' ≡ noted ready y new (length mesh) → Ends (Deliver id) mesh nodes radio steps (Ok (done.Heard f.from y)) (slice_set nodes y new) radio' ready' (steps + 1) packet) t.receiver
-    (λ here are. deliver_here mesh nodes radio radio' ready ready' steps id f n new packet k t.found t.flies gone here j are) at noted_is)
+    (λ here are. deliver_here mesh nodes radio radio' ready ready' steps id f n new packet k few t.found t.flies gone here j are) at noted_is)
 
-pub deliver_idle : (mesh : Nodes) (nodes : List NodeSeen) (radio : RadioState) (ready : Ready) (steps id : ℕ) (o : Option FlyingView) (packet : List ℕ) → IsKept mesh nodes radio ready steps → IsFound o radio id → o ≡ None
+pub deliver_idle : (mesh : Nodes) (nodes : List NodeSeen) (radio : RadioState) (ready : Ready) (steps id : ℕ) (o : Option FlyingView) (packet : List ℕ) → IsKept mesh nodes radio ready steps → steps < 2 ^ 48 → IsFound o radio id → o ≡ None
     → Ends (Deliver id) mesh nodes radio steps (Ok done.Idle) nodes radio ready (steps + 1) packet
-deliver_idle mesh nodes radio ready steps id o packet k is none =
+deliver_idle mesh nodes radio ready steps id o packet k few is none =
     let e = none_seen radio id o is none in
-    ends_idle (Deliver id) mesh nodes radio ready steps nodes radio packet k (deliver_at (world_in mesh nodes radio) id None (shown_none mesh nodes radio id e)) refl (later mesh nodes radio ready steps (beside mesh nodes radio ready steps k))
+    ends_idle (Deliver id) mesh nodes radio ready steps nodes radio packet k few (deliver_at (world_in mesh nodes radio) id None (shown_none mesh nodes radio id e)) refl (later mesh nodes radio ready steps (beside mesh nodes radio ready steps k))
 
-pub lose_done : (mesh : Nodes) (nodes : List NodeSeen) (radio radio' : RadioState) (ready : Ready) (steps id : ℕ) (t : Option Flying) (f : Flying) (packet : List ℕ) → IsKept mesh nodes radio ready steps
-    → t ≡ radios.find_copy radio.flying id → t ≡ Some f → radio' ≡ without_copy radio id → Ends (Lose id) mesh nodes radio steps (Ok (done.Lost f)) nodes radio' ready (steps + 1) packet
-lose_done mesh nodes radio radio' ready steps id t f packet k is some gone =
+pub lose_done : (mesh : Nodes) (nodes : List NodeSeen) (radio radio' : RadioState) (ready : Ready) (steps id : ℕ) (t : Option Flying) (f : Flying) (packet : List ℕ) → IsKept mesh nodes radio ready steps → steps < 2 ^ 48 → t ≡ radios.find_copy radio.flying id → t ≡ Some f → radio' ≡ without_copy radio id → Ends (Lose id) mesh nodes radio steps (Ok (done.Lost f)) nodes radio' ready (steps + 1) packet
+lose_done mesh nodes radio radio' ready steps id t f packet k few is some gone =
     let w = world_in mesh nodes radio in
     let found : radios.find_copy radio.flying id ≡ Some f = sym is ∙ some in
     let flies = in_flight mesh nodes radio ready steps id f k found in
     let world : worlds.without_copy w id ≡ world_in mesh nodes radio' = shown_without mesh nodes radio radio' id gone in
     ends_done (Lose id) mesh nodes radio ready steps (done.Lost f) nodes radio' ready packet (Next (worlds.without_copy w id) (CopyLost (copy_in mesh f)))
-    k tt (lose_at w id (Some (copy_in mesh f)) (shown_found mesh nodes radio id f found)) (omega arith) world (λ i. Next (world i) (CopyLost (copy_in mesh f)))
+    k few tt (lose_at w id (Some (copy_in mesh f)) (shown_found mesh nodes radio id f found)) (omega arith) world (λ i. Next (world i) (CopyLost (copy_in mesh f)))
     (flies.from, flies.to, record { written = flies.written; in_mesh = flies.in_mesh })
     (record {
       each = k.each;
@@ -246,11 +245,11 @@ lose_done mesh nodes radio radio' ready steps id t f packet k is some gone =
       sets = k.sets;
     })
 
-pub lose_idle : (mesh : Nodes) (nodes : List NodeSeen) (radio : RadioState) (ready : Ready) (steps id : ℕ) (o : Option FlyingView) (packet : List ℕ) → IsKept mesh nodes radio ready steps → IsFound o radio id → o ≡ None
+pub lose_idle : (mesh : Nodes) (nodes : List NodeSeen) (radio : RadioState) (ready : Ready) (steps id : ℕ) (o : Option FlyingView) (packet : List ℕ) → IsKept mesh nodes radio ready steps → steps < 2 ^ 48 → IsFound o radio id → o ≡ None
     → Ends (Lose id) mesh nodes radio steps (Ok done.Idle) nodes radio ready (steps + 1) packet
-lose_idle mesh nodes radio ready steps id o packet k is none =
+lose_idle mesh nodes radio ready steps id o packet k few is none =
     let e = none_seen radio id o is none in
-    ends_idle (Lose id) mesh nodes radio ready steps nodes radio packet k (lose_at (world_in mesh nodes radio) id None (shown_none mesh nodes radio id e)) refl (later mesh nodes radio ready steps (beside mesh nodes radio ready steps k))
+    ends_idle (Lose id) mesh nodes radio ready steps nodes radio packet k few (lose_at (world_in mesh nodes radio) id None (shown_none mesh nodes radio id e)) refl (later mesh nodes radio ready steps (beside mesh nodes radio ready steps k))
 
 -- the receiver may hear the copy
 pub may_hear : (mesh : Nodes) (nodes : List NodeSeen) (radio : RadioState) (ready : Ready) (steps id to : ℕ) (f : Flying) (n roomy heard : NodeSeen) → IsKept mesh nodes radio ready steps → slice_get nodes to ≡ Some n → Taken mesh radio id to f

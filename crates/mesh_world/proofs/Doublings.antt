@@ -1,5 +1,5 @@
 -- A copy that is doubled.
-use Rattle.std.proofs.Common.{◌≡◌, ℕ, ◌<◌, ◌+◌, Bool, true, false, List, [], ◌∷◌, map, length, Some, None, Option, Ok, refl, ap, sym, ◌∙◌, subst, arith}
+use Rattle.std.proofs.Common.{◌≡◌, ℕ, ◌<◌, ◌+◌, Bool, true, false, List, [], ◌∷◌, map, length, Some, None, Option, Ok, refl, ap, sym, ◌∙◌, subst, arith, ◌^◌}
 use Rattle.std.specs.Prelude.{option_map}
 use Rattle.std.specs.List.{AllByRecursion}
 use Rattle.std.proofs.lemmas.Option.{same_Some}
@@ -59,11 +59,11 @@ parcel_is mesh b written = parcel_if (meaning mesh b) (packets.is_data b) (packe
 -- ---- the event
 
 pub double_done : (mesh : Nodes) (nodes : List NodeSeen) (old radio radio' : RadioState) (ready : Ready) (steps id new to : ℕ) (parcel : Bool) (o : Option FlyingView) (seen : FlyingView) (t : Option (ℕ × ℕ)) (packet : List ℕ)
-    → IsKept mesh nodes old ready steps → IsFound o old id → o ≡ Some seen → parcel ≡ packets.is_data seen.bytes.now → radio ≡ record old { room = radio.room; most = radio.most }
+    → IsKept mesh nodes old ready steps → steps < 2 ^ 48 → IsFound o old id → o ≡ Some seen → parcel ≡ packets.is_data seen.bytes.now → radio ≡ record old { room = radio.room; most = radio.most }
     → t ≡ option_map (λ (f : Flying). (radio.next_copy, f.to)) (radios.find_copy radio.flying id) → t ≡ Some (new, to) → radio' ≡ with_double radio (radios.find_copy radio.flying id)
     → Ends (Double id) mesh nodes old steps (Ok (done.Doubled new to parcel)) nodes radio' ready (steps + 1) packet
 unfolding world_in
-double_done mesh nodes old radio radio' ready steps id new to parcel o seen t packet k is some kind rooms told answer doubled =
+double_done mesh nodes old radio radio' ready steps id new to parcel o seen t packet k few is some kind rooms told answer doubled =
     let f = flying_seen seen in
     let w = world_in mesh nodes radio in
     let r = roomed mesh nodes old radio ready steps rooms k in
@@ -76,7 +76,7 @@ double_done mesh nodes old radio radio' ready steps id new to parcel o seen t pa
     began (Double id) mesh nodes old radio steps (Ok (done.Doubled new to parcel)) nodes radio' ready (steps + 1) packet rooms
     (ends_done (Double id) mesh nodes radio ready steps (done.Doubled new to parcel) nodes radio' ready packet
     (Next (worlds.with_double w (copy_in mesh f)) (CopyDoubled radio.next_copy f.to (is_parcel (meaning mesh f.bytes))))
-    r tt (double_at w id (Some (copy_in mesh f)) (shown_found mesh nodes radio id f found)) (doubling_few w id) world
+    r few tt (double_at w id (Some (copy_in mesh f)) (shown_found mesh nodes radio id f found)) (doubling_few w id) world
     (λ i. Next (world i) (CopyDoubled (sym pair i).0 (sym pair i).1 (parcel_at i)))
     (subst (λ (p : ℕ × ℕ). p.1 < length mesh) (sym pair) flies.to)
     (record {
@@ -88,8 +88,8 @@ double_done mesh nodes old radio radio' ready steps id new to parcel o seen t pa
       sets = r.sets;
     }))
 
-pub double_idle : (mesh : Nodes) (nodes : List NodeSeen) (radio : RadioState) (ready : Ready) (steps id : ℕ) (o : Option FlyingView) (packet : List ℕ) → IsKept mesh nodes radio ready steps → IsFound o radio id → o ≡ None
+pub double_idle : (mesh : Nodes) (nodes : List NodeSeen) (radio : RadioState) (ready : Ready) (steps id : ℕ) (o : Option FlyingView) (packet : List ℕ) → IsKept mesh nodes radio ready steps → steps < 2 ^ 48 → IsFound o radio id → o ≡ None
     → Ends (Double id) mesh nodes radio steps (Ok done.Idle) nodes radio ready (steps + 1) packet
-double_idle mesh nodes radio ready steps id o packet k is none =
+double_idle mesh nodes radio ready steps id o packet k few is none =
     let e = none_seen radio id o is none in
-    ends_idle (Double id) mesh nodes radio ready steps nodes radio packet k (double_at (world_in mesh nodes radio) id None (shown_none mesh nodes radio id e)) refl (later mesh nodes radio ready steps (beside mesh nodes radio ready steps k))
+    ends_idle (Double id) mesh nodes radio ready steps nodes radio packet k few (double_at (world_in mesh nodes radio) id None (shown_none mesh nodes radio id e)) refl (later mesh nodes radio ready steps (beside mesh nodes radio ready steps k))

@@ -1,5 +1,5 @@
 -- What every event keeps.
-use Rattle.std.proofs.Common.{◌≡◌, ℕ, ◌<◌, ◌≤◌, ◌+◌, ◌*◌, List, [], ◌∷◌, ◌++◌, map, length, Some, Result, Ok, Err, refl, ap, sym, ◌∙◌, subst, zero, suc, arith}
+use Rattle.std.proofs.Common.{◌≡◌, ℕ, ◌<◌, ◌≤◌, ◌+◌, ◌*◌, ◌^◌, List, [], ◌∷◌, ◌++◌, map, length, Some, Result, Ok, Err, refl, ap, sym, ◌∙◌, subst, zero, suc, arith}
 use Rattle.std.specs.Prelude.{slice_get, slice_set, slice_index_or, option_map}
 use Rattle.std.specs.List.{AllByRecursion}
 use Rattle.std.proofs.lemmas.Option.{slice_get-map, slice_get_read, same_Some, none-some}
@@ -31,9 +31,9 @@ use Rattle.mesh_world.specs.declared.steps.StepError.TheVariants as errors
 
 -- ---- the invariant follows from the one equation of a step
 
-pub sound_after : (w : WorldSeen) (e : Event) (o : Outcome) → IsSoundWorld w → IsEvent (length w.mesh) e → step w.world e ≡ o → given any e o + doubled any w.world e ≤ 1
+pub sound_after : (w : WorldSeen) (e : Event) (o : Outcome) → IsSoundWorld w → w.steps < 2 ^ 48 → IsEvent (length w.mesh) e → step w.world e ≡ o → given any e o + doubled any w.world e ≤ 1
     → IsSoundWorld (record w { world = after w.world o; steps = w.steps + 1 })
-sound_after w e o s ok is one =
+sound_after w e o s most ok is one =
     let here : IsEvent (length (w.world).nodes) e = subst (λ (n : ℕ). IsEvent n e) (sym s.count) ok in
     let world : after w.world (step w.world e) ≡ after w.world o = ap (after w.world) is in
     let kept : IsInvariant (after w.world o) = subst IsInvariant world (step_keeps w.world e here s.invariant) in
@@ -51,6 +51,7 @@ sound_after w e o s ok is one =
       acyclic = λ d. no_cycle (after w.world o) d kept.loop_safe;
       better = λ d x y edge e apart there valid. better_along (after w.world o) d x y edge e kept.loop_safe apart there valid;
       few = omega arith;
+      steps = omega arith;
     }
 
 -- ---- an event that is done, or refused, between two states of the parts
@@ -65,7 +66,7 @@ pub record Beside (mesh : Nodes) (nodes : List NodeSeen) (radio : RadioState) (r
   pub each : AllByRecursion (IsKeptNode mesh) nodes
   pub flying : AllByRecursion (IsWrittenCopy mesh) radio.flying
   pub size : radio.size ≡ length mesh
-  pub numbers : radio.next_copy ≤ 1 + 200 * steps
+  pub numbers : radio.next_copy ≤ 2 ^ 60 + 200 * steps
   pub sets : IsReadyFor mesh nodes ready
 
 pub beside : (mesh : Nodes) (nodes : List NodeSeen) (radio : RadioState) (ready : Ready) (steps : ℕ) → IsKept mesh nodes radio ready steps → Beside mesh nodes radio ready steps
@@ -86,13 +87,13 @@ keeps : (mesh : Nodes) (nodes : List NodeSeen) (radio : RadioState) (ready : Rea
 keeps mesh nodes radio ready steps s b = record { sound = s; each = b.each; flying = b.flying; size = b.size; numbers = b.numbers; sets = b.sets }
 
 pub ends_done : (e : Event) (mesh : Nodes) (nodes : List NodeSeen) (radio : RadioState) (ready : Ready) (steps : ℕ) (d : Done) (nodes' : List NodeSeen) (radio' : RadioState) (ready' : Ready) (packet : List ℕ) (o : Outcome)
-    → IsKept mesh nodes radio ready steps → IsEvent (length mesh) e → step (world_in mesh nodes radio) e ≡ o → given any e o + doubled any (world_in mesh nodes radio) e ≤ 1
+    → IsKept mesh nodes radio ready steps → steps < 2 ^ 48 → IsEvent (length mesh) e → step (world_in mesh nodes radio) e ≡ o → given any e o + doubled any (world_in mesh nodes radio) e ≤ 1
     → after (world_in mesh nodes radio) o ≡ world_in mesh nodes' radio' → o ≡ outcome_in mesh (node_of e) (world_in mesh nodes' radio') d packet → IsDoneInMesh mesh d packet
     → Beside mesh nodes' radio' ready' (steps + 1) → Ends e mesh nodes radio steps (Ok d) nodes' radio' ready' (steps + 1) packet
-ends_done e mesh nodes radio ready steps d nodes' radio' ready' packet o kept ok is one world outcome in_mesh b =
+ends_done e mesh nodes radio ready steps d nodes' radio' ready' packet o kept most ok is one world outcome in_mesh b =
     let now : after (world_in mesh nodes radio) (step (world_in mesh nodes radio) e) ≡ world_in mesh nodes' radio' = ap (after (world_in mesh nodes radio)) is ∙ world in
     let sound : IsSoundWorld (seen_of mesh nodes' radio' (steps + 1)) =
-    subst (λ (v : World). IsSoundWorld (record { mesh = mesh; world = v; steps = steps + 1 })) world (sound_after (seen_of mesh nodes radio steps) e o kept.sound ok is one) in
+    subst (λ (v : World). IsSoundWorld (record { mesh = mesh; world = v; steps = steps + 1 })) world (sound_after (seen_of mesh nodes radio steps) e o kept.sound most ok is one) in
     record {
       step = record { outcome = is ∙ outcome; world = λ i. record { mesh = mesh; world = sym now i; steps = steps + 1 }; in_mesh = in_mesh };
       kept = keeps mesh nodes' radio' ready' (steps + 1) sound b;
@@ -100,23 +101,23 @@ ends_done e mesh nodes radio ready steps d nodes' radio' ready' packet o kept ok
 
 -- the same world, perhaps after a step in which nothing was enabled
 still : (mesh : Nodes) (nodes : List NodeSeen) (radio : RadioState) (ready : Ready) (steps steps' : ℕ) (nodes' : List NodeSeen) (radio' : RadioState)
-    → IsKept mesh nodes radio ready steps → steps ≤ steps' → world_in mesh nodes' radio' ≡ world_in mesh nodes radio → Beside mesh nodes' radio' ready steps' → IsKept mesh nodes' radio' ready steps'
-still mesh nodes radio ready steps steps' nodes' radio' kept le same b =
+    → IsKept mesh nodes radio ready steps → steps ≤ steps' → steps' ≤ 2 ^ 48 → world_in mesh nodes' radio' ≡ world_in mesh nodes radio → Beside mesh nodes' radio' ready steps' → IsKept mesh nodes' radio' ready steps'
+still mesh nodes radio ready steps steps' nodes' radio' kept le most same b =
     let s = kept.sound in
     let few = s.few in
-    let sound : IsSoundWorld (record { mesh = mesh; world = world_in mesh nodes radio; steps = steps' }) = record { mesh = s.mesh; some = s.some; count = s.count; invariant = s.invariant; acyclic = s.acyclic; better = s.better; few = omega arith } in
+    let sound : IsSoundWorld (record { mesh = mesh; world = world_in mesh nodes radio; steps = steps' }) = record { mesh = s.mesh; some = s.some; count = s.count; invariant = s.invariant; acyclic = s.acyclic; better = s.better; few = omega arith; steps = most } in
     keeps mesh nodes' radio' ready steps' (subst (λ (v : World). IsSoundWorld (record { mesh = mesh; world = v; steps = steps' })) (sym same) sound) b
 
 pub ends_idle : (e : Event) (mesh : Nodes) (nodes : List NodeSeen) (radio : RadioState) (ready : Ready) (steps : ℕ) (nodes' : List NodeSeen) (radio' : RadioState) (packet : List ℕ)
-    → IsKept mesh nodes radio ready steps → step (world_in mesh nodes radio) e ≡ Idle → world_in mesh nodes' radio' ≡ world_in mesh nodes radio → Beside mesh nodes' radio' ready (steps + 1)
+    → IsKept mesh nodes radio ready steps → steps < 2 ^ 48 → step (world_in mesh nodes radio) e ≡ Idle → world_in mesh nodes' radio' ≡ world_in mesh nodes radio → Beside mesh nodes' radio' ready (steps + 1)
     → Ends e mesh nodes radio steps (Ok done.Idle) nodes' radio' ready (steps + 1) packet
-ends_idle e mesh nodes radio ready steps nodes' radio' packet kept is same b = record {
+ends_idle e mesh nodes radio ready steps nodes' radio' packet kept most is same b = record {
   step = record {
     outcome = is;
     world = λ i. record { mesh = mesh; world = (same ∙ sym (ap (after (world_in mesh nodes radio)) is)) i; steps = steps + 1 };
     in_mesh = tt;
   };
-  kept = still mesh nodes radio ready steps (steps + 1) nodes' radio' kept (omega arith) same b;
+  kept = still mesh nodes radio ready steps (steps + 1) nodes' radio' kept (omega arith) (let s = (kept.sound).steps in omega arith) same b;
 }
 
 pub ends_full : (e : Event) (mesh : Nodes) (nodes : List NodeSeen) (radio : RadioState) (ready : Ready) (steps x : ℕ) (field : Counter) (nodes' : List NodeSeen) (radio' : RadioState) (packet : List ℕ)
@@ -124,7 +125,7 @@ pub ends_full : (e : Event) (mesh : Nodes) (nodes : List NodeSeen) (radio : Radi
     → Ends e mesh nodes radio steps (Err (errors.Full x field)) nodes' radio' ready steps packet
 ends_full e mesh nodes radio ready steps x field nodes' radio' packet kept is same b = record {
   step = (is, λ i. record { mesh = mesh; world = same i; steps = steps });
-  kept = still mesh nodes radio ready steps steps nodes' radio' kept (omega arith) same b;
+  kept = still mesh nodes radio ready steps steps nodes' radio' kept (omega arith) (let s = (kept.sound).steps in omega arith) same b;
 }
 
 pub ends_no_memory : (e : Event) (mesh : Nodes) (nodes : List NodeSeen) (radio : RadioState) (ready : Ready) (steps : ℕ) (nodes' : List NodeSeen) (radio' : RadioState) (packet : List ℕ)
@@ -132,7 +133,7 @@ pub ends_no_memory : (e : Event) (mesh : Nodes) (nodes : List NodeSeen) (radio :
     → Ends e mesh nodes radio steps (Err errors.NoMemory) nodes' radio' ready steps packet
 ends_no_memory e mesh nodes radio ready steps nodes' radio' packet kept same b = record {
   step = λ i. record { mesh = mesh; world = same i; steps = steps };
-  kept = still mesh nodes radio ready steps steps nodes' radio' kept (omega arith) same b;
+  kept = still mesh nodes radio ready steps steps nodes' radio' kept (omega arith) (let s = (kept.sound).steps in omega arith) same b;
 }
 
 -- ---- rooms of the radio are not seen

@@ -1,5 +1,5 @@
 -- A link that comes to stand or falls is the model's.
-use Rattle.std.proofs.Common.{◌≡◌, ℕ, ◌+◌, Bool, true, false, not, List, length, Ok, refl, ap, sym, ◌∙◌, subst, arith}
+use Rattle.std.proofs.Common.{◌≡◌, ℕ, ◌+◌, Bool, true, false, not, List, length, Ok, refl, ap, sym, ◌∙◌, subst, arith, ◌<◌, ◌^◌}
 use Rattle.std.specs.Prelude.{if◌then◌else◌}
 use Rattle.mesh_base.specs.Meshes.{Nodes}
 use Rattle.mesh_base.specs.declared.events.Done.TheVariants as done
@@ -42,34 +42,32 @@ without_shown mesh nodes old new a b is = ap (world_in mesh nodes) (sym is)
 later_with : (mesh : Nodes) (nodes : List NodeSeen) (radio radio' : RadioState) (ready : Ready) (steps : ℕ) → IsKept mesh nodes radio ready steps → radio' ≡ radio → Beside mesh nodes radio' ready (steps + 1)
 later_with mesh nodes radio radio' ready steps k same = subst (λ (r : RadioState). Beside mesh nodes r ready (steps + 1)) (sym same) (later mesh nodes radio ready steps (beside mesh nodes radio ready steps k))
 
-pub link_done : (mesh : Nodes) (nodes : List NodeSeen) (radio radio' : RadioState) (ready : Ready) (steps a b : ℕ) (packet : List ℕ) → IsKept mesh nodes radio ready steps → IsEvent (length mesh) (Link a b)
+pub link_done : (mesh : Nodes) (nodes : List NodeSeen) (radio radio' : RadioState) (ready : Ready) (steps a b : ℕ) (packet : List ℕ) → IsKept mesh nodes radio ready steps → steps < 2 ^ 48 → IsEvent (length mesh) (Link a b)
     → true ≡ not (are_linked radio.links a b) → radio' ≡ with_link radio a b → Ends (Link a b) mesh nodes radio steps (Ok done.Changed) nodes radio' ready (steps + 1) packet
-link_done mesh nodes radio radio' ready steps a b packet k ok none is =
+link_done mesh nodes radio radio' ready steps a b packet k few ok none is =
     let w = world_in mesh nodes radio in
     let world : worlds.with_link w a b ≡ world_in mesh nodes radio' = with_shown mesh nodes radio radio' a b is in
     let old : Beside mesh nodes (with_link radio a b) ready (steps + 1) = (let b = later mesh nodes radio ready steps (beside mesh nodes radio ready steps k) in record { each = b.each; flying = b.flying; size = b.size; numbers = b.numbers; sets = b.sets }) in
     ends_done (Link a b) mesh nodes radio ready steps done.Changed nodes radio' ready packet (Next (worlds.with_link w a b) Changed)
-    k ok (link_at w a b false (shown_linked mesh nodes radio a b ∙ not_linked (are_linked radio.links a b) none)) (omega arith) world (λ i. Next (world i) Changed) tt
+    k few ok (link_at w a b false (shown_linked mesh nodes radio a b ∙ not_linked (are_linked radio.links a b) none)) (omega arith) world (λ i. Next (world i) Changed) tt
     (subst (λ (r : RadioState). Beside mesh nodes r ready (steps + 1)) (sym is) old)
 
-pub link_idle : (mesh : Nodes) (nodes : List NodeSeen) (radio radio' : RadioState) (ready : Ready) (steps a b : ℕ) (packet : List ℕ) → IsKept mesh nodes radio ready steps
-    → false ≡ not (are_linked radio.links a b) → radio' ≡ radio → Ends (Link a b) mesh nodes radio steps (Ok done.Idle) nodes radio' ready (steps + 1) packet
-link_idle mesh nodes radio radio' ready steps a b packet k stood same =
-    ends_idle (Link a b) mesh nodes radio ready steps nodes radio' packet k
+pub link_idle : (mesh : Nodes) (nodes : List NodeSeen) (radio radio' : RadioState) (ready : Ready) (steps a b : ℕ) (packet : List ℕ) → IsKept mesh nodes radio ready steps → steps < 2 ^ 48 → false ≡ not (are_linked radio.links a b) → radio' ≡ radio → Ends (Link a b) mesh nodes radio steps (Ok done.Idle) nodes radio' ready (steps + 1) packet
+link_idle mesh nodes radio radio' ready steps a b packet k few stood same =
+    ends_idle (Link a b) mesh nodes radio ready steps nodes radio' packet k few
     (link_at (world_in mesh nodes radio) a b true (shown_linked mesh nodes radio a b ∙ linked (are_linked radio.links a b) stood)) (ap (world_in mesh nodes) same) (later_with mesh nodes radio radio' ready steps k same)
 
-pub cut_done : (mesh : Nodes) (nodes : List NodeSeen) (radio radio' : RadioState) (ready : Ready) (steps a b : ℕ) (packet : List ℕ) → IsKept mesh nodes radio ready steps → IsEvent (length mesh) (Cut a b)
+pub cut_done : (mesh : Nodes) (nodes : List NodeSeen) (radio radio' : RadioState) (ready : Ready) (steps a b : ℕ) (packet : List ℕ) → IsKept mesh nodes radio ready steps → steps < 2 ^ 48 → IsEvent (length mesh) (Cut a b)
     → true ≡ are_linked radio.links a b → radio' ≡ without_link radio a b → Ends (Cut a b) mesh nodes radio steps (Ok done.Changed) nodes radio' ready (steps + 1) packet
-cut_done mesh nodes radio radio' ready steps a b packet k ok stood is =
+cut_done mesh nodes radio radio' ready steps a b packet k few ok stood is =
     let w = world_in mesh nodes radio in
     let world : worlds.without_link w a b ≡ world_in mesh nodes radio' = without_shown mesh nodes radio radio' a b is in
     let old : Beside mesh nodes (without_link radio a b) ready (steps + 1) = (let b = later mesh nodes radio ready steps (beside mesh nodes radio ready steps k) in record { each = b.each; flying = b.flying; size = b.size; numbers = b.numbers; sets = b.sets }) in
     ends_done (Cut a b) mesh nodes radio ready steps done.Changed nodes radio' ready packet (Next (worlds.without_link w a b) Changed)
-    k ok (cut_at w a b true (shown_linked mesh nodes radio a b ∙ sym stood)) (omega arith) world (λ i. Next (world i) Changed) tt
+    k few ok (cut_at w a b true (shown_linked mesh nodes radio a b ∙ sym stood)) (omega arith) world (λ i. Next (world i) Changed) tt
     (subst (λ (r : RadioState). Beside mesh nodes r ready (steps + 1)) (sym is) old)
 
-pub cut_idle : (mesh : Nodes) (nodes : List NodeSeen) (radio radio' : RadioState) (ready : Ready) (steps a b : ℕ) (packet : List ℕ) → IsKept mesh nodes radio ready steps
-    → false ≡ are_linked radio.links a b → radio' ≡ radio → Ends (Cut a b) mesh nodes radio steps (Ok done.Idle) nodes radio' ready (steps + 1) packet
-cut_idle mesh nodes radio radio' ready steps a b packet k none same =
-    ends_idle (Cut a b) mesh nodes radio ready steps nodes radio' packet k
+pub cut_idle : (mesh : Nodes) (nodes : List NodeSeen) (radio radio' : RadioState) (ready : Ready) (steps a b : ℕ) (packet : List ℕ) → IsKept mesh nodes radio ready steps → steps < 2 ^ 48 → false ≡ are_linked radio.links a b → radio' ≡ radio → Ends (Cut a b) mesh nodes radio steps (Ok done.Idle) nodes radio' ready (steps + 1) packet
+cut_idle mesh nodes radio radio' ready steps a b packet k few none same =
+    ends_idle (Cut a b) mesh nodes radio ready steps nodes radio' packet k few
     (cut_at (world_in mesh nodes radio) a b false (shown_linked mesh nodes radio a b ∙ sym none)) (ap (world_in mesh nodes) same) (later_with mesh nodes radio radio' ready steps k same)

@@ -97,6 +97,7 @@ sound_opening v mesh is some count =
       acyclic = λ d. no_cycle (start v (first_numbers mesh)) d kept.loop_safe;
       better = λ d x y edge e apart there valid. better_along (start v (first_numbers mesh)) d x y edge e kept.loop_safe apart there valid;
       few = omega arith;
+      steps = omega arith;
     }
 
 count_opens : (mesh : Nodes) (nodes : List NodeSeen) (size : ℕ) → length nodes ≡ length mesh → length (world_in mesh nodes (radios.opening size)).nodes ≡ length mesh

@@ -54,7 +54,7 @@ sent_done e mesh nodes radio radio' ready ready' steps x near n new reaction eff
     let world : done_by w x reaction (map (item_in mesh) n.items) ≡ w' = ap (λ (is : List items.Item). done_by w x reaction (map (item_in mesh) is)) (sym same) ∙ c.world in
     let o = Next (done_by w x reaction (map (item_in mesh) n.items)) (Sent reaction.effect (copies w x (reaction.effect).cast)) in
     ends_done e mesh nodes radio ready steps (done.Sent effect air) (slice_set nodes x new) radio' ready' out o
-    k ok goes (one o w) world
+    k few ok goes (one o w) world
     (subst (λ (y : ℕ). o ≡ outcome_in mesh y w' (done.Sent effect air) out) (sym place) (λ j. Next (world j) (Sent (c.means j) (c.copies j))))
     c.in_mesh
     (noted_beside mesh (slice_set nodes x new) radio' ready' (noted ready x new (length mesh)) (steps + 1) noted_is c.beside)
@@ -92,11 +92,11 @@ send_at mesh nodes radio x d n b at may =
     ∙ ap (λ (b : Bool). if b then unless_full x (send_full n.core (range w x) d) (send_outcome w x d n.core (map (item_in mesh) n.items) (range w x)) else Idle) may
 
 pub send_idle_end : (mesh : Nodes) (nodes : List NodeSeen) (old radio : RadioState) (ready : Ready) (steps x d : ℕ) (n new : NodeSeen) (out : List ℕ)
-    → IsKept mesh nodes old ready steps → radio ≡ record old { room = radio.room; most = radio.most } → x < length mesh → n ≡ slice_index_or nodes x n
+    → IsKept mesh nodes old ready steps → steps < 2 ^ 48 → radio ≡ record old { room = radio.room; most = radio.most } → x < length mesh → n ≡ slice_index_or nodes x n
     → new ≡ record n { core = new.core } → (may_send n.core d ≡ false) × (new.core ≡ n.core)
     → Ends (Send x d) mesh nodes old steps (Ok done.Idle) (slice_set nodes x new) radio ready (steps + 1) out
-send_idle_end mesh nodes old radio ready steps x d n new out k rooms l is others t =
-    idle_end (Send x d) mesh nodes old radio ready steps x n new out k rooms l is (same_node n new others t.1)
+send_idle_end mesh nodes old radio ready steps x d n new out k few rooms l is others t =
+    idle_end (Send x d) mesh nodes old radio ready steps x n new out k few rooms l is (same_node n new others t.1)
     (send_at mesh nodes radio x d n false (node_at mesh nodes old ready steps x n k l is) t.0)
 
 pub send_full_end : (mesh : Nodes) (nodes : List NodeSeen) (old radio : RadioState) (ready : Ready) (steps x d : ℕ) (near : NodeIds) (f field : Counter) (n new : NodeSeen) (out : List ℕ)
@@ -147,11 +147,11 @@ ask_at mesh nodes radio x d n b at may =
     ∙ ap (λ (b : Bool). if b then unless_full x (ask_full n.core) (ask_outcome w x d n.core (map (item_in mesh) n.items)) else Idle) may
 
 pub ask_idle_end : (mesh : Nodes) (nodes : List NodeSeen) (old radio : RadioState) (ready : Ready) (steps x d : ℕ) (n new : NodeSeen) (out : List ℕ)
-    → IsKept mesh nodes old ready steps → radio ≡ record old { room = radio.room; most = radio.most } → x < length mesh → n ≡ slice_index_or nodes x n
+    → IsKept mesh nodes old ready steps → steps < 2 ^ 48 → radio ≡ record old { room = radio.room; most = radio.most } → x < length mesh → n ≡ slice_index_or nodes x n
     → new ≡ record n { core = new.core } → (may_ask n.core d ≡ false) × (new.core ≡ n.core)
     → Ends (Ask x d) mesh nodes old steps (Ok done.Idle) (slice_set nodes x new) radio ready (steps + 1) out
-ask_idle_end mesh nodes old radio ready steps x d n new out k rooms l is others t =
-    idle_end (Ask x d) mesh nodes old radio ready steps x n new out k rooms l is (same_node n new others t.1)
+ask_idle_end mesh nodes old radio ready steps x d n new out k few rooms l is others t =
+    idle_end (Ask x d) mesh nodes old radio ready steps x n new out k few rooms l is (same_node n new others t.1)
     (ask_at mesh nodes radio x d n false (node_at mesh nodes old ready steps x n k l is) t.0)
 
 pub ask_no_memory_end : (mesh : Nodes) (nodes : List NodeSeen) (old radio : RadioState) (ready : Ready) (steps x d : ℕ) (n new : NodeSeen) (out : List ℕ)

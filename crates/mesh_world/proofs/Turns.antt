@@ -147,7 +147,7 @@ turn_done mesh nodes radio radio' ready ready' steps x near n new d out air k fe
     let placed = front_in mesh x n t.front new.items (stands mesh nodes radio ready steps x n k at) t.was in
     ends_done (Turn x) mesh nodes radio ready steps (done.Taken d.took d.effect air) (slice_set nodes x new) radio' ready' out
     (Next (done_by w x (turn n.core near i) (map (item_in mesh) new.items)) (Taken (took n.core i) (turn n.core near i).effect (copies w x ((turn n.core near i).effect).cast)))
-    k l (turn_goes mesh nodes radio x n near t.front new.items at near_at t.was (t.made).free) (omega arith) c.world
+    k few l (turn_goes mesh nodes radio x n near t.front new.items at near_at t.was (t.made).free) (omega arith) c.world
     (λ j. Next (c.world j) (Taken (took_is j) (c.means j) (c.copies j)))
     (subst (IsTookInMesh mesh) (sym t.took) (took_in_mesh mesh n.core t.front placed front_written), c.in_mesh)
     (noted_beside mesh (slice_set nodes x new) radio' ready' (noted ready x new (length mesh)) (steps + 1) noted_is c.beside)
@@ -192,21 +192,21 @@ full_end e mesh nodes old radio ready steps x field n new out k rooms l is same 
     (ends_full e mesh nodes radio ready steps x field (slice_set nodes x new) radio out r stop (ap (λ (ns : List NodeSeen). world_in mesh ns radio) back) (with_same mesh nodes (slice_set nodes x new) radio ready steps back (beside mesh nodes radio ready steps r)))
 
 pub idle_end : (e : Event) (mesh : Nodes) (nodes : List NodeSeen) (old radio : RadioState) (ready : Ready) (steps x : ℕ) (n new : NodeSeen) (out : List ℕ)
-    → IsKept mesh nodes old ready steps → radio ≡ record old { room = radio.room; most = radio.most } → x < length mesh → n ≡ slice_index_or nodes x n → new ≡ n
+    → IsKept mesh nodes old ready steps → steps < 2 ^ 48 → radio ≡ record old { room = radio.room; most = radio.most } → x < length mesh → n ≡ slice_index_or nodes x n → new ≡ n
     → step (world_in mesh nodes radio) e ≡ Idle
     → Ends e mesh nodes old steps (Ok done.Idle) (slice_set nodes x new) radio ready (steps + 1) out
-idle_end e mesh nodes old radio ready steps x n new out k rooms l is same idle =
+idle_end e mesh nodes old radio ready steps x n new out k few rooms l is same idle =
     let r = roomed mesh nodes old radio ready steps rooms k in
     let back : slice_set nodes x new ≡ nodes = set_back nodes x n new (node_at mesh nodes old ready steps x n k l is) same in
     began e mesh nodes old radio steps (Ok done.Idle) (slice_set nodes x new) radio ready (steps + 1) out rooms
-    (ends_idle e mesh nodes radio ready steps (slice_set nodes x new) radio out r idle (ap (λ (ns : List NodeSeen). world_in mesh ns radio) back)
+    (ends_idle e mesh nodes radio ready steps (slice_set nodes x new) radio out r few idle (ap (λ (ns : List NodeSeen). world_in mesh ns radio) back)
     (with_same mesh nodes (slice_set nodes x new) radio ready (steps + 1) back (later mesh nodes radio ready steps (beside mesh nodes radio ready steps r))))
 
 pub turn_idle_end : (mesh : Nodes) (nodes : List NodeSeen) (old radio : RadioState) (ready : Ready) (steps x : ℕ) (n new : NodeSeen) (out : List ℕ)
-    → IsKept mesh nodes old ready steps → radio ≡ record old { room = radio.room; most = radio.most } → x < length mesh → n ≡ slice_index_or nodes x n → (n.items ≡ []) × (new ≡ n)
+    → IsKept mesh nodes old ready steps → steps < 2 ^ 48 → radio ≡ record old { room = radio.room; most = radio.most } → x < length mesh → n ≡ slice_index_or nodes x n → (n.items ≡ []) × (new ≡ n)
     → Ends (Turn x) mesh nodes old steps (Ok done.Idle) (slice_set nodes x new) radio ready (steps + 1) out
-turn_idle_end mesh nodes old radio ready steps x n new out k rooms l is t =
-    idle_end (Turn x) mesh nodes old radio ready steps x n new out k rooms l is t.1 (turn_idle mesh nodes radio x n (node_at mesh nodes old ready steps x n k l is) t.0)
+turn_idle_end mesh nodes old radio ready steps x n new out k few rooms l is t =
+    idle_end (Turn x) mesh nodes old radio ready steps x n new out k few rooms l is t.1 (turn_idle mesh nodes radio x n (node_at mesh nodes old ready steps x n k l is) t.0)
 
 pub turn_full_end : (mesh : Nodes) (nodes : List NodeSeen) (old radio : RadioState) (ready : Ready) (steps x : ℕ) (near : NodeIds) (f field : Counter) (n new : NodeSeen) (out : List ℕ)
     → IsKept mesh nodes old ready steps → radio ≡ record old { room = radio.room; most = radio.most } → x < length mesh → n ≡ slice_index_or nodes x n → near ≡ linked_below radio.links x radio.size

@@ -29,16 +29,16 @@ sizes mesh nodes radio ready steps k = each_by (IsKeptNode mesh) (λ n. n.size �
 pub of_world : (mesh : Nodes) (nodes : List NodeSeen) (radio : RadioState) (ready : Ready) (steps : ℕ) → IsKept mesh nodes radio ready steps → AreOfWorld nodes
 of_world mesh nodes radio ready steps k = record { mesh = mesh; radio = radio; invariant = (k.sound).invariant; sizes = sizes mesh nodes radio ready steps k }
 
-pub counted : (mesh : Nodes) (nodes : List NodeSeen) (radio : RadioState) (ready : Ready) (steps : ℕ) → IsKept mesh nodes radio ready steps → steps < 2 ^ 64 → AreCounted mesh nodes radio
-counted mesh nodes radio ready steps k most = record {
+pub counted : (mesh : Nodes) (nodes : List NodeSeen) (radio : RadioState) (ready : Ready) (steps : ℕ) → IsKept mesh nodes radio ready steps → AreCounted mesh nodes radio
+counted mesh nodes radio ready steps k = record {
   items = each_by (IsKeptNode mesh) (λ n. AllByRecursion (IsWrittenItem mesh) n.items) nodes (λ n h. h.items) k.each;
   sizes = sizes mesh nodes radio ready steps k;
   flying = k.flying;
-  few = few (waiting any (world_in mesh nodes radio)) (queued any (world_in mesh nodes radio)) (in_flight any (world_in mesh nodes radio)) steps (k.sound).few most;
+  few = few (waiting any (world_in mesh nodes radio)) (queued any (world_in mesh nodes radio)) (in_flight any (world_in mesh nodes radio)) steps (k.sound).few (k.sound).steps;
 }
   where
-    few : (a b c steps : ℕ) → a + b + c ≤ steps → steps < 2 ^ 64 → a + b + c < 2 ^ 64
-    few a b c steps le lt = omega arith
+    few : (a b c steps : ℕ) → a + b + c ≤ 2 ^ 60 + steps → steps ≤ 2 ^ 48 → a + b + c < 2 ^ 64
+    few a b c steps le most = omega arith
 
 -- a node of the world that is seen
 pub below_count : (mesh : Nodes) (nodes : List NodeSeen) (radio : RadioState) (ready : Ready) (steps x : ℕ) (w : WorldSeen) → seen_of mesh nodes radio steps ≡ w → IsKept mesh nodes radio ready steps → x < length w.mesh → x < length nodes
@@ -72,7 +72,3 @@ pub radio_seen : (mesh : Nodes) (nodes : List NodeSeen) (radio : RadioState) (st
 unfolding world_in
 radio_seen mesh nodes radio steps w view =
     subst (λ (v : WorldSeen). (map (copy_in v.mesh) radio.flying ≡ (v.world).flying) × ((radio.links ≡ (v.world).links) × (radio.ever ≡ (v.world).ever)) × (radio.next_copy ≡ (v.world).next_copy)) view (refl, (refl, refl), refl)
-
--- fewer steps than a number of 64 bits can count
-pub fewer : (mesh : Nodes) (nodes : List NodeSeen) (radio : RadioState) (steps n : ℕ) (w : WorldSeen) → seen_of mesh nodes radio steps ≡ w → n ≡ w.steps → n < 2 ^ 64 → steps < 2 ^ 64
-fewer mesh nodes radio steps n w view is l = let e : steps ≡ w.steps = ap (λ (v : WorldSeen). v.steps) view in omega arith

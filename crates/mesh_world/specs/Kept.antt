@@ -1,5 +1,5 @@
 -- How the code keeps a world. No public contract cites this file.
-use Rattle.std.specs.Prelude.{◌≡◌, ◌≤◌, ◌+◌, ◌*◌, ℕ, List, length, map, slice_get, is_some}
+use Rattle.std.specs.Prelude.{◌≡◌, ◌≤◌, ◌+◌, ◌*◌, ◌^◌, ℕ, List, length, map, slice_get, is_some}
 use Rattle.std.specs.List.{AllByRecursion}
 use Rattle.std.specs.FinSet as sets
 use Rattle.mesh_base.specs.declared.limits.TheConstants.{MOST_NODES}
@@ -43,12 +43,16 @@ pub record IsReadyFor (mesh : Nodes) (nodes : List NodeSeen) (ready : Ready) : T
   pub sends : (x : ℕ) → sets.contains ready.sends x ≡ is_some (first_send_in (length mesh) (slice_get (map (node_in mesh) nodes) x))
   pub asks : (x : ℕ) → sets.contains ready.asks x ≡ is_some (first_ask_in (length mesh) (slice_get (map (node_in mesh) nodes) x))
 
+-- the greatest number of a copy that a world may begin with
+abbrev pub most_copies_at_first : ℕ
+most_copies_at_first = 2 ^ 60
+
 -- what the code of a world keeps
 pub record IsKept (mesh : Nodes) (nodes : List NodeSeen) (radio : RadioState) (ready : Ready) (steps : ℕ) : Type 0 where
   pub sound : IsSoundWorld (seen_of mesh nodes radio steps)
   pub each : AllByRecursion (IsKeptNode mesh) nodes
   pub flying : AllByRecursion (IsWrittenCopy mesh) radio.flying
   pub size : radio.size ≡ length mesh
-  -- so that no number of a copy ends
-  pub numbers : radio.next_copy ≤ 1 + MOST_NODES * steps
+  -- so that the numbers of copies don't end
+  pub numbers : radio.next_copy ≤ most_copies_at_first + MOST_NODES * steps
   pub sets : IsReadyFor mesh nodes ready

@@ -1,5 +1,5 @@
 -- What is seen of a world, and what every world keeps.
-use Rattle.std.specs.Prelude.{◌≡◌, ◌≢◌, ◌≤◌, ◌+◌, ℕ, true, Some, length, map, refl}
+use Rattle.std.specs.Prelude.{◌≡◌, ◌≢◌, ◌≤◌, ◌+◌, ◌^◌, ℕ, true, Some, length, map, refl}
 use Rattle.std.specs.FinMap as maps
 use Rattle.std.specs.Coded.{Coded, code_by, coded×, coded_ℕ, coded_list}
 use Rattle.mesh_base.specs.Meshes.{Nodes, IsMesh}
@@ -35,9 +35,20 @@ abbrev pub IsBetterAlongEdges : World → Type 0
 IsBetterAlongEdges w = (d x y : ℕ) (edge : Edge w d x y) (e : Entry) → y ≢ d → maps.get (table w y) d ≡ Some e → e.flag ≡ Val
     → is_better e edge.entry ≡ true
 
+-- the most data that a world may begin with, and the most steps that it takes
+abbrev pub most_data_at_first : ℕ
+most_data_at_first = 2 ^ 60
+
+abbrev pub most_steps : ℕ
+most_steps = 2 ^ 48
+
+-- the data of a world, wherever they are
+abbrev pub data_of : World → ℕ
+data_of w = waiting any w + queued any w + in_flight any w
+
 -- what every world of the program keeps: there is a node for each address of the mesh; what excludes cycles, and that
--- all is in its place; so no destination has a cycle, and quality rises along edges between valid entries; and there are at
--- most as many data as steps were taken
+-- all is in its place; so no destination has a cycle, and quality rises along edges between valid entries; and no step
+-- brings more than one datum
 pub record IsSoundWorld (w : WorldSeen) : Type 0 where
   pub mesh : IsMesh w.mesh
   pub some : 1 ≤ length w.mesh
@@ -45,7 +56,8 @@ pub record IsSoundWorld (w : WorldSeen) : Type 0 where
   pub invariant : IsInvariant w.world
   pub acyclic : (d : ℕ) → ¬ (Cycle w.world d)
   pub better : IsBetterAlongEdges w.world
-  pub few : waiting any w.world + queued any w.world + in_flight any w.world ≤ w.steps
+  pub few : data_of w.world ≤ most_data_at_first + w.steps
+  pub steps : w.steps ≤ most_steps
 
 -- a code, by which proofs tell such values apart
 abbrev pub seen_code : Coded WorldSeen

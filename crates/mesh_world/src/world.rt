@@ -127,8 +127,6 @@ impl World {
         ensures queued { result.queued ≡ accounts.queued any self.now.world }
         ensures flying { result.flying ≡ accounts.in_flight any self.now.world }
     {
-        // There are at most as many data as steps, a number of 64 bits: no sum overflows.
-        let _most = self.steps();
         count_data(&self.parts.nodes, &self.parts.radio)
     }
 }

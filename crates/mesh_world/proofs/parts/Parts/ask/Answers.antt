@@ -36,7 +36,7 @@ pub returns-in-Err-Idle-clause-done : goal.returns-in-Err-Idle-clause-done
 returns-in-Err-Idle-clause-done c =
     let old = c.args.self.now in
     of_ends _ old _ _ _ _ _ _ (ask_idle_end old.mesh old.nodes.items old.radio c.make_room.new.self old.ready old.steps c.args.x c.args.dest c.index_mut.result.now c.ask.new.self c.ask.new.out.items
-    c.requires.kept c.make_room.ensures.same c.requires.node c.index_mut.ensures.value c.ask.ensures.others (rw c.in-Err-Idle.field-0-is at c.in-Err-Idle.ensures.does))
+    c.requires.kept c.requires.few c.make_room.ensures.same c.requires.node c.index_mut.ensures.value c.ask.ensures.others (rw c.in-Err-Idle.field-0-is at c.in-Err-Idle.ensures.does))
 
 pub returns-in-Err-Full-clause-done : goal.returns-in-Err-Full-clause-done
 returns-in-Err-Full-clause-done c =

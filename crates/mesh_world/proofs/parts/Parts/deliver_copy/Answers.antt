@@ -7,7 +7,7 @@ use Rattle.mesh_world.proofs.parts.Parts.deliver_copy.Goals as goal
 pub returns-in_default-clause-done : goal.returns-in_default-clause-done
 returns-in_default-clause-done c = λ packet.
     let old = c.args.self.now in
-    of_ends _ old _ _ _ _ _ _ (deliver_idle old.mesh old.nodes.items old.radio old.ready old.steps c.args.id c.find.result packet c.requires.kept c.find.ensures c.in_default.is)
+    of_ends _ old _ _ _ _ _ _ (deliver_idle old.mesh old.nodes.items old.radio old.ready old.steps c.args.id c.find.result packet c.requires.kept c.requires.few c.find.ensures c.in_default.is)
 
 pub index_mut-requires : goal.index_mut-requires
 index_mut-requires c =
@@ -71,5 +71,5 @@ returns-clause-done c = λ packet.
     let j = joined c.index_mut.result.now c.index_mut-2.result.now c.hear.new.self _ (ap (λ n. n.core) same ∙ c.make_room.ensures.core) (ap (λ n. n.items) same ∙ c.make_room.ensures.items) (ap (λ n. n.size) same ∙ c.make_room.ensures.size) c.hear.ensures (c.end_with_item.ensures.sound c.hear.new.self at) in
     at_end _ old (changed (changed old to c.make_room.new.self old.radio) to c.hear.new.self c.take.new.self) c.end_with_item.new.self _ packet c.end_with_item.ensures.others
     (of_ends _ old _ _ _ _ _ _ (deliver_done old.mesh old.nodes.items old.radio c.take.new.self old.ready c.end_with_item.new.self.ready old.steps c.args.id to c.in-Some-take.taken
-    c.index_mut.result.now c.make_room.new.self c.hear.new.self packet c.requires.kept (taken old.mesh old.nodes.items old.radio old.ready old.steps c.args.id c.find.result c.in-Some.flying c.take.result c.in-Some-take.taken c.requires.kept c.find.ensures c.in-Some.is c.take.ensures.taken c.in-Some-take.is) c.take.ensures.others here j
+    c.index_mut.result.now c.make_room.new.self c.hear.new.self packet c.requires.kept c.requires.few (taken old.mesh old.nodes.items old.radio old.ready old.steps c.args.id c.find.result c.in-Some.flying c.take.result c.in-Some-take.taken c.requires.kept c.find.ensures c.in-Some.is c.take.ensures.taken c.in-Some-take.is) c.take.ensures.others here j
     (noted_joined old.mesh old.nodes.items old.radio old.ready c.end_with_item.new.self.ready old.steps to c.index_mut.result.now c.hear.new.self _ c.requires.kept here j c.end_with_item.ensures.ready)))

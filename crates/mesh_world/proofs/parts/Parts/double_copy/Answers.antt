@@ -5,10 +5,10 @@ use Rattle.mesh_world.proofs.parts.Parts.double_copy.Goals as goal
 pub returns-in_default-clause-done : goal.returns-in_default-clause-done
 returns-in_default-clause-done c = λ packet.
     let old = c.args.self.now in
-    of_ends _ old _ _ _ _ _ _ (double_idle old.mesh old.nodes.items old.radio old.ready old.steps c.args.id c.find.result packet c.requires.kept c.find.ensures c.in_default.is)
+    of_ends _ old _ _ _ _ _ _ (double_idle old.mesh old.nodes.items old.radio old.ready old.steps c.args.id c.find.result packet c.requires.kept c.requires.few c.find.ensures c.in_default.is)
 
 pub returns-clause-done : goal.returns-clause-done
 returns-clause-done c = λ packet.
     let old = c.args.self.now in
     of_ends _ old _ _ _ _ _ _ (double_done old.mesh old.nodes.items old.radio c.make_room.new.self c.double.new.self old.ready old.steps c.args.id c.in-Some-double.id c.in-Some-double.to c.is_data-parcel.result
-    c.find.result c.in-Some.flying c.double.result packet c.requires.kept c.find.ensures c.in-Some.is c.is_data-parcel.ensures c.make_room.ensures.same c.double.ensures.told c.in-Some-double.is c.double.ensures.doubled)
+    c.find.result c.in-Some.flying c.double.result packet c.requires.kept c.requires.few c.find.ensures c.in-Some.is c.is_data-parcel.ensures c.make_room.ensures.same c.double.ensures.told c.in-Some-double.is c.double.ensures.doubled)

@@ -5,7 +5,7 @@ use Rattle.mesh_world.proofs.parts.Parts.lose_copy.Goals as goal
 pub returns-in_default-clause-done : goal.returns-in_default-clause-done
 returns-in_default-clause-done c = λ packet.
     let old = c.args.self.now in
-    of_ends _ old _ _ _ _ _ _ (lose_idle old.mesh old.nodes.items old.radio old.ready old.steps c.args.id c.find.result packet c.requires.kept c.find.ensures c.in_default.is)
+    of_ends _ old _ _ _ _ _ _ (lose_idle old.mesh old.nodes.items old.radio old.ready old.steps c.args.id c.find.result packet c.requires.kept c.requires.few c.find.ensures c.in_default.is)
 
 pub take-requires : goal.take-requires
 take-requires c =
@@ -15,4 +15,4 @@ take-requires c =
 pub returns-clause-done : goal.returns-clause-done
 returns-clause-done c = λ packet.
     let old = c.args.self.now in
-    of_ends _ old _ _ _ _ _ _ (lose_done old.mesh old.nodes.items old.radio c.take.new.self old.ready old.steps c.args.id c.take.result c.in-Some-take.flying packet c.requires.kept c.take.ensures.taken c.in-Some-take.is c.take.ensures.others)
+    of_ends _ old _ _ _ _ _ _ (lose_done old.mesh old.nodes.items old.radio c.take.new.self old.ready old.steps c.args.id c.take.result c.in-Some-take.flying packet c.requires.kept c.requires.few c.take.ensures.taken c.in-Some-take.is c.take.ensures.others)

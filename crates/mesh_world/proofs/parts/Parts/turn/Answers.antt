@@ -43,7 +43,7 @@ pub returns-in-Err-Idle-clause-done : goal.returns-in-Err-Idle-clause-done
 returns-in-Err-Idle-clause-done c =
     let old = c.args.self.now in
     of_ends _ old _ _ _ _ _ _ (turn_idle_end old.mesh old.nodes.items old.radio c.make_room.new.self old.ready old.steps c.args.x c.index_mut.result.now c.turn.new.self c.turn.new.out.items
-    c.requires.kept c.make_room.ensures.same c.requires.node c.index_mut.ensures.value (rw c.in-Err-Idle.field-0-is at c.in-Err-Idle.ensures.turn))
+    c.requires.kept c.requires.few c.make_room.ensures.same c.requires.node c.index_mut.ensures.value (rw c.in-Err-Idle.field-0-is at c.in-Err-Idle.ensures.turn))
 
 pub returns-in-Err-Full-clause-done : goal.returns-in-Err-Full-clause-done
 returns-in-Err-Full-clause-done c =
