@@ -1,5 +1,5 @@
-//! Each handler once, over a table that keeps a map: the turns of one of two nodes.
-ghost use Rattle.std.specs.Prelude.{◌≡◌, ◌<◌, ◌≤◌, true, length, slice_index, IfOk, OnOk, IsTrue, None};
+//! The handlers over both kinds of table: a map, and a row for each node.
+ghost use Rattle.std.specs.Prelude.{◌≡◌, ◌<◌, ◌≤◌, ℕ, true, length, slice_index, IfOk, OnOk, IsTrue, None};
 ghost use Rattle.std.specs.FinMap as maps;
 ghost use Rattle.std.specs.FinSet as sets;
 ghost use Rattle.aodv_meaning.specs.Meaning.{unless_in, strange_pair};
@@ -14,13 +14,26 @@ use aodv_table::{PlainTable, RowTable, Table};
 use aodv_waiting::Waiting;
 use aodv_wire::{DataView, Message, RerrView, Rrep, Rreq, read};
 use arrayvec::ArrayVec;
-use mesh_base::{Addr, Bytes, Cast, Mesh, NoMemory, NodeSet, Packet, Variant};
+use mesh_base::{Addr, Bytes, Cast, Effect, Mesh, NoMemory, NodeSet, Packet, Variant};
 use std::alloc::Global;
 use std::test::Fail;
 
-fn opening<T: Table>(alloc: Global, table: T, mesh: &Mesh) -> Result<Core<T>, NoMemory>
+// What 10.0.0.1, which reaches 10.0.0.2 alone, casts for a route to 10.0.0.3, and what is cast then.
+const ASKED: &[u8] = b"\x01\x08\0\0\0\0\0\x01\x0a\0\0\x03\0\0\0\0\x0a\0\0\x01\0\0\0\x02";
+
+const ASKED_ON: &[u8] = b"\x01\x08\0\x01\0\0\0\x01\x0a\0\0\x03\0\0\0\0\x0a\0\0\x01\0\0\0\x02";
+
+const ANSWERED: &[u8] = b"\x02\0\0\0\x0a\0\0\x03\0\0\0\x01\x0a\0\0\x01\xff\xff\xff\xff";
+
+const ANSWERED_ON: &[u8] = b"\x02\0\0\x01\x0a\0\0\x03\0\0\0\x01\x0a\0\0\x01\xff\xff\xff\xff";
+
+const DATUM: &[u8] = b"\x10\0\0\0\x0a\0\0\x03\x0a\0\0\x01hi";
+// The second node has no route to the third any more.
+const BROKEN: &[u8] = b"\x03\0\0\x01\x0a\0\0\x03\0\0\0\x02";
+
+fn opening<T: Table>(alloc: Global, table: T, mesh: &Mesh, me: usize) -> Result<Core<T>, NoMemory>
     requires nodes { T.nodes table ≡ length mesh.now }
-    requires some { 0 < length mesh.now }
+    requires mine { me < length mesh.now }
     requires empty { T.entries table ≡ maps.empty }
     ensures { IfOk result (λ c. IsReady T.nodes T.entries (length mesh.now) c) }
 {
@@ -28,7 +41,7 @@ fn opening<T: Table>(alloc: Global, table: T, mesh: &Mesh) -> Result<Core<T>, No
     let asked = Asked::new(alloc, nodes)?;
     let waiting = Waiting::new(alloc, nodes)?;
     Ok(Core {
-        me: 0,
+        me,
         sn: 1,
         variant: Variant::Base,
         table,
@@ -41,9 +54,12 @@ fn make_rooms<T: Table>(core: &mut Core<T>, mesh: &Mesh, d: usize) -> Result<(),
     requires ready { IsReady T.nodes T.entries (length mesh.now) core.old }
     requires below { d < length mesh.now }
     ensures ready { IsReady T.nodes T.entries (length mesh.now) core.new }
+    ensures me { core.new.me ≡ core.old.me }
     ensures row { OnOk result (sets.contains (T.rooms core.new.table) d ≡ true) }
     ensures asked { OnOk result (0 < slice_index core.new.asked.rooms d) }
     ensures waiting { OnOk result (0 < slice_index core.new.waiting.rooms d) }
+    ensures keeps { (q : ℕ) → sets.contains (T.rooms core.old.table) q ≡ true
+        → sets.contains (T.rooms core.new.table) q ≡ true }
 {
     core.table.make_room(d)?;
     core.asked.make_room(d)?;
@@ -62,80 +78,55 @@ fn is_one_known(mesh: &Mesh, m: &RerrView<'_>) -> bool
     m.len() == 1 && mesh.index_of(m.pair(0).0).is_some()
 }
 
-fn to_one(cast: Cast) -> bool {
-    matches!(cast, Cast::One(1))
-}
-
-fn takes_a_datum<T: Table>(core: &mut Core<T>, mesh: &Mesh, body: Bytes) -> Result<bool, NoMemory>
+fn takes_a_datum<T: Table>(
+    core: &mut Core<T>,
+    mesh: &Mesh,
+    dest: usize,
+    body: Bytes,
+) -> Result<bool, NoMemory>
     requires ready { IsReady T.nodes T.entries (length mesh.now) core.old }
     requires some { 1 ≤ length body }
     requires few { length body ≤ 512 }
+    requires dest { dest < length mesh.now }
     ensures { IsReady T.nodes T.entries (length mesh.now) core.new }
 {
-    if mesh.len() < 2 {
-        return Ok(false);
-    }
-    make_rooms(core, mesh, 1)?;
-    Ok(new_packet(core, 1, body).is_none())
+    make_rooms(core, mesh, dest)?;
+    Ok(new_packet(core, dest, body).is_none())
 }
 
-fn asks<T: Table>(core: &mut Core<T>, mesh: &Mesh, out: &mut Packet) -> Result<bool, NoMemory>
-    requires ready { IsReady T.nodes T.entries (length mesh.now) core.old }
-    ensures { IsReady T.nodes T.entries (length mesh.now) core.new }
-{
-    make_rooms(core, mesh, 0)?;
-    if mesh.len() < 2 || core.me != 0 || !may_ask(core, 1) {
-        return Ok(false);
-    }
-    match start_request(core, mesh, 1, out) {
-        Ok(effect) => Ok(matches!(effect.cast, Cast::All)),
-        Err(_) => Ok(false),
-    }
-}
-
-#[tactic(auto, unfolding(mesh_base::specs::Meshes::index_in))]
-fn hears_a_reply<T: Table>(
+fn ask<T: Table>(
     core: &mut Core<T>,
     mesh: &Mesh,
+    dest: usize,
     out: &mut Packet,
-) -> Result<bool, NoMemory>
+) -> Result<Option<Effect>, NoMemory>
     requires ready { IsReady T.nodes T.entries (length mesh.now) core.old }
+    requires dest { dest < length mesh.now }
     ensures { IsReady T.nodes T.entries (length mesh.now) core.new }
 {
-    if mesh.len() < 2 {
-        return Ok(false);
+    let me = core.me;
+    make_rooms(core, mesh, me)?;
+    if !may_ask(core, dest) {
+        return Ok(None);
     }
-    let dip = mesh.at(1);
-    let Some(1) = mesh.index_of(dip) else {
-        return Ok(false);
-    };
-    make_rooms(core, mesh, 1)?;
-    let m = Rrep {
-        hops: 0,
-        dip,
-        dsn: 1,
-        oip: mesh.at(0),
-    };
-    if core.me == 1 || !are_known(mesh, m.dip, m.oip) {
-        return Ok(false);
-    }
-    match on_rrep(core, mesh, &NodeSet::new(), 1, &m, out) {
-        Ok(effect) => Ok(matches!(effect.cast, Cast::Nothing)),
-        Err(_) => Ok(false),
-    }
+    Ok(start_request(core, mesh, dest, out).ok())
 }
 
-fn sends<T: Table>(core: &mut Core<T>, mesh: &Mesh, range: &NodeSet, out: &mut Packet) -> bool
+fn send<T: Table>(
+    core: &mut Core<T>,
+    mesh: &Mesh,
+    range: &NodeSet,
+    dest: usize,
+    out: &mut Packet,
+) -> Option<Effect>
     requires ready { IsReady T.nodes T.entries (length mesh.now) core.old }
+    requires dest { dest < length mesh.now }
     ensures { IsReady T.nodes T.entries (length mesh.now) core.new }
 {
-    if mesh.len() < 2 || !may_send(core, 1) {
-        return false;
+    if !may_send(core, dest) {
+        return None;
     }
-    match send_stored(core, mesh, range, 1, out) {
-        Ok(effect) => to_one(effect.cast),
-        Err(_) => false,
-    }
+    send_stored(core, mesh, range, dest, out).ok()
 }
 
 #[tactic(auto, unfolding(mesh_base::specs::Meshes::index_in))]
@@ -143,35 +134,47 @@ fn hears_a_request<T: Table>(
     core: &mut Core<T>,
     mesh: &Mesh,
     range: &NodeSet,
+    from: usize,
+    m: &Rreq,
     out: &mut Packet,
-) -> Result<bool, NoMemory>
+) -> Result<Option<Effect>, NoMemory>
     requires ready { IsReady T.nodes T.entries (length mesh.now) core.old }
+    requires from { from < length mesh.now }
     ensures { IsReady T.nodes T.entries (length mesh.now) core.new }
 {
-    if mesh.len() < 2 {
-        return Ok(false);
-    }
-    let oip = mesh.at(1);
-    let Some(1) = mesh.index_of(oip) else {
-        return Ok(false);
+    let Some(oip) = mesh.index_of(m.oip) else {
+        return Ok(None);
     };
-    make_rooms(core, mesh, 1)?;
-    let m = Rreq {
-        hops: 0,
-        id: 1,
-        dip: mesh.at(0),
-        dsn: 0,
-        known: false,
-        oip,
-        osn: 2,
+    make_rooms(core, mesh, from)?;
+    make_rooms(core, mesh, oip)?;
+    if from == core.me || m.osn == 0 || !are_known(mesh, m.dip, m.oip) {
+        return Ok(None);
+    }
+    Ok(on_rreq(core, mesh, range, from, m, out).ok())
+}
+
+#[tactic(auto, unfolding(mesh_base::specs::Meshes::index_in))]
+fn hears_a_reply<T: Table>(
+    core: &mut Core<T>,
+    mesh: &Mesh,
+    range: &NodeSet,
+    from: usize,
+    m: &Rrep,
+    out: &mut Packet,
+) -> Result<Option<Effect>, NoMemory>
+    requires ready { IsReady T.nodes T.entries (length mesh.now) core.old }
+    requires from { from < length mesh.now }
+    ensures { IsReady T.nodes T.entries (length mesh.now) core.new }
+{
+    let Some(dip) = mesh.index_of(m.dip) else {
+        return Ok(None);
     };
-    if core.me == 1 || !are_known(mesh, m.dip, m.oip) {
-        return Ok(false);
+    make_rooms(core, mesh, from)?;
+    make_rooms(core, mesh, dip)?;
+    if from == core.me || m.dsn == 0 || !are_known(mesh, m.dip, m.oip) {
+        return Ok(None);
     }
-    match on_rreq(core, mesh, range, 1, &m, out) {
-        Ok(effect) => Ok(to_one(effect.cast)),
-        Err(_) => Ok(false),
-    }
+    Ok(on_rrep(core, mesh, range, from, m, out).ok())
 }
 
 fn hears_data<T: Table>(
@@ -180,175 +183,259 @@ fn hears_data<T: Table>(
     range: &NodeSet,
     m: &DataView<'_>,
     out: &mut Packet,
-) -> bool
+) -> Option<Effect>
     requires ready { IsReady T.nodes T.entries (length mesh.now) core.old }
     ensures { IsReady T.nodes T.entries (length mesh.now) core.new }
 {
     let long = m.body().len();
     if long < 1 || 512 < long || !are_known(mesh, m.dip(), m.oip()) {
-        return false;
+        return None;
     }
-    match on_data(core, mesh, range, m, out) {
-        Ok(effect) => to_one(effect.cast),
-        Err(_) => false,
-    }
+    on_data(core, mesh, range, m, out).ok()
 }
 
 fn hears_an_error<T: Table>(
     core: &mut Core<T>,
     mesh: &Mesh,
+    from: usize,
     m: &RerrView<'_>,
     out: &mut Packet,
-) -> Result<bool, NoMemory>
+) -> Result<Option<Effect>, NoMemory>
     requires ready { IsReady T.nodes T.entries (length mesh.now) core.old }
+    requires from { from < length mesh.now }
     ensures { IsReady T.nodes T.entries (length mesh.now) core.new }
 {
-    if mesh.len() < 2 {
-        return Ok(false);
+    make_rooms(core, mesh, from)?;
+    if from == core.me || !is_one_known(mesh, m) {
+        return Ok(None);
     }
-    make_rooms(core, mesh, 1)?;
-    if core.me == 1 || !is_one_known(mesh, m) {
-        return Ok(false);
-    }
-    Ok(matches!(on_rerr(core, mesh, 1, m, out).cast, Cast::Nothing))
+    Ok(Some(on_rerr(core, mesh, from, m, out)))
 }
 
-fn hears<T: Table>(
+// A turn on these bytes. None where they are of no use, or a counter is full.
+fn hear<T: Table>(
     core: &mut Core<T>,
     mesh: &Mesh,
     range: &NodeSet,
+    from: usize,
     bytes: &[u8],
     out: &mut Packet,
-) -> Result<bool, NoMemory>
+) -> Result<Option<Effect>, NoMemory>
     requires ready { IsReady T.nodes T.entries (length mesh.now) core.old }
     ensures { IsReady T.nodes T.entries (length mesh.now) core.new }
 {
+    if mesh.len() <= from {
+        return Ok(None);
+    }
     match read(bytes) {
+        Ok(Message::Rreq(m)) => hears_a_request(core, mesh, range, from, &m, out),
+        Ok(Message::Rrep(m)) => hears_a_reply(core, mesh, range, from, &m, out),
         Ok(Message::Parcel(m)) => Ok(hears_data(core, mesh, range, &m, out)),
-        Ok(Message::Rerr(m)) => hears_an_error(core, mesh, &m, out),
-        _ => Ok(false),
+        Ok(Message::Rerr(m)) => hears_an_error(core, mesh, from, &m, out),
+        Err(_) => Ok(None),
     }
 }
 
-// The packets that a node casts on its way to a route and without it again, one after another. None
-// where it does another thing on the way.
-fn casts_over<T: Table>(
-    alloc: Global,
-    table: T,
-    mesh: &Mesh,
-) -> Result<Option<ArrayVec<u8, 256>>, NoMemory>
-    requires nodes { T.nodes table ≡ length mesh.now }
-    requires some { 0 < length mesh.now }
-    requires empty { T.entries table ≡ maps.empty }
+// What a call did.
+#[derive(Clone, Copy, Debug, PartialEq, Eq)]
+enum Deed {
+    Nothing,
+    Delivered,
+    SentTo(usize),
+    SentToAll,
+    Other,
+}
+
+fn deed_of(effect: Option<Effect>) -> Deed {
+    let Some(effect) = effect else {
+        return Deed::Other;
+    };
+    if effect.lost || effect.broken.is_some() {
+        return Deed::Other;
+    }
+    match effect.cast {
+        Cast::Nothing if effect.deliver => Deed::Delivered,
+        Cast::Nothing => Deed::Nothing,
+        Cast::One(to) if !effect.deliver => Deed::SentTo(to),
+        Cast::All if !effect.deliver => Deed::SentToAll,
+        _ => Deed::Other,
+    }
+}
+
+// What nine calls did, one after another, and the packets that they cast.
+#[derive(Drop)]
+struct Log {
+    did: [Deed; 9],
+    packets: ArrayVec<u8, 256>,
+}
+
+fn join(all: &mut ArrayVec<u8, 256>, packet: &[u8]) {
+    let _joined = all.try_extend_from_slice(packet);
+}
+
+fn set_of(a: usize, b: usize) -> NodeSet
+    requires first { a < 256 }
+    requires second { b < 256 }
 {
-    let mut casts: ArrayVec<u8, 256> = ArrayVec::new();
-    let mut out = Packet::new();
-    let mut range = NodeSet::new();
-    range.add(1);
-    let mut core = opening(alloc, table, mesh)?;
-    let body = Bytes::copy_of(alloc, b"hi")?;
-    let data = b"\x10\0\0\0\x0a\0\0\x02\x0a\0\0\x01hi";
-    let error = b"\x03\0\0\x01\x0a\0\0\x02\0\0\0\x09";
-    if !takes_a_datum(&mut core, mesh, body)? || !asks(&mut core, mesh, &mut out)? {
-        return Ok(None);
-    }
-    let asked = casts.try_extend_from_slice(out.as_slice()).is_ok();
-    if !hears_a_reply(&mut core, mesh, &mut out)? || !sends(&mut core, mesh, &range, &mut out) {
-        return Ok(None);
-    }
-    let sent = casts.try_extend_from_slice(out.as_slice()).is_ok();
-    if !hears_a_request(&mut core, mesh, &range, &mut out)? {
-        return Ok(None);
-    }
-    let answered = casts.try_extend_from_slice(out.as_slice()).is_ok();
-    if !hears(&mut core, mesh, &range, data, &mut out)?
-        || !hears(&mut core, mesh, &range, error, &mut out)?
-        || hears(&mut core, mesh, &range, data, &mut out)?
-        || !asked
-        || !sent
-        || !answered
-    {
-        return Ok(None);
-    }
-    Ok(Some(casts))
+    let mut nodes = NodeSet::new();
+    nodes.add(a);
+    nodes.add(b);
+    nodes
 }
 
-// Over a table that keeps a map, and over one that has a row for each node.
+// The first of three nodes in a row asks for a route to the third, and hears of it.
+fn find<T: Table>(
+    first: &mut Core<T>,
+    second: &mut Core<T>,
+    third: &mut Core<T>,
+    mesh: &Mesh,
+    log: &mut Log,
+) -> Result<(), NoMemory>
+    requires mesh { length mesh.now ≡ 3 }
+    requires first { IsReady T.nodes T.entries (length mesh.now) first.old }
+    requires second { IsReady T.nodes T.entries (length mesh.now) second.old }
+    requires third { IsReady T.nodes T.entries (length mesh.now) third.old }
+    ensures first { IsReady T.nodes T.entries (length mesh.now) first.new }
+    ensures second { IsReady T.nodes T.entries (length mesh.now) second.new }
+    ensures third { IsReady T.nodes T.entries (length mesh.now) third.new }
+{
+    let end = set_of(1, 1);
+    let both_ends = set_of(0, 2);
+    let mut out = Packet::new();
+    log.did[0] = deed_of(ask(first, mesh, 2, &mut out)?);
+    join(&mut log.packets, out.as_slice());
+    log.did[1] = deed_of(hear(second, mesh, &both_ends, 0, ASKED, &mut out)?);
+    join(&mut log.packets, out.as_slice());
+    log.did[2] = deed_of(hear(first, mesh, &end, 1, ASKED_ON, &mut out)?);
+    join(&mut log.packets, out.as_slice());
+    log.did[3] = deed_of(hear(third, mesh, &end, 1, ASKED_ON, &mut out)?);
+    join(&mut log.packets, out.as_slice());
+    log.did[4] = deed_of(hear(second, mesh, &both_ends, 2, ANSWERED, &mut out)?);
+    join(&mut log.packets, out.as_slice());
+    log.did[5] = deed_of(hear(first, mesh, &end, 1, ANSWERED_ON, &mut out)?);
+    join(&mut log.packets, out.as_slice());
+    Ok(())
+}
+
+// The datum that waits at the first of three nodes comes to the third.
+fn pass_on<T: Table>(
+    first: &mut Core<T>,
+    second: &mut Core<T>,
+    third: &mut Core<T>,
+    mesh: &Mesh,
+    log: &mut Log,
+) -> Result<(), NoMemory>
+    requires mesh { length mesh.now ≡ 3 }
+    requires first { IsReady T.nodes T.entries (length mesh.now) first.old }
+    requires second { IsReady T.nodes T.entries (length mesh.now) second.old }
+    requires third { IsReady T.nodes T.entries (length mesh.now) third.old }
+{
+    let end = set_of(1, 1);
+    let mut out = Packet::new();
+    log.did[6] = deed_of(send(first, mesh, &end, 2, &mut out));
+    join(&mut log.packets, out.as_slice());
+    log.did[7] = deed_of(hear(second, mesh, &set_of(0, 2), 0, DATUM, &mut out)?);
+    join(&mut log.packets, out.as_slice());
+    log.did[8] = deed_of(hear(third, mesh, &end, 1, DATUM, &mut out)?);
+    join(&mut log.packets, out.as_slice());
+    Ok(())
+}
+
+// Three nodes in a row, each with one of these tables: the first has a datum for the third, finds a
+// route and sends the datum.
+fn discover<T: Table>(alloc: Global, one: T, two: T, three: T, mesh: &Mesh) -> Result<Log, NoMemory>
+    requires mesh { length mesh.now ≡ 3 }
+    requires one { (T.nodes one ≡ 3) × (T.entries one ≡ maps.empty) }
+    requires two { (T.nodes two ≡ 3) × (T.entries two ≡ maps.empty) }
+    requires three { (T.nodes three ≡ 3) × (T.entries three ≡ maps.empty) }
+{
+    let mut first = opening(alloc, one, mesh, 0)?;
+    let mut second = opening(alloc, two, mesh, 1)?;
+    let mut third = opening(alloc, three, mesh, 2)?;
+    let mut log = Log {
+        did: [Deed::Other; 9],
+        packets: ArrayVec::new(),
+    };
+    let body = Bytes::copy_of(alloc, b"hi")?;
+    let _waits = takes_a_datum(&mut first, mesh, 2, body)?;
+    find(&mut first, &mut second, &mut third, mesh, &mut log)?;
+    pass_on(&mut first, &mut second, &mut third, mesh, &mut log)?;
+    Ok(log)
+}
+
+fn mesh_of_three() -> Mesh {
+    let mut mesh = Mesh::new();
+    for a in 0x0a00_0001..0x0a00_0004 {
+        let _added = mesh.add(Addr(a), 1);
+    }
+    mesh
+}
+
+// The packets of the discovery, one after another.
+fn packets() -> ArrayVec<u8, 256> {
+    let mut all = ArrayVec::new();
+    join(&mut all, ASKED);
+    join(&mut all, ASKED_ON);
+    join(&mut all, ANSWERED);
+    join(&mut all, ANSWERED_ON);
+    join(&mut all, DATUM);
+    join(&mut all, DATUM);
+    all
+}
+
+// What the calls of the discovery do: they cast, and the last delivers.
+const DISCOVERY: [Deed; 9] = [
+    Deed::SentToAll,
+    Deed::SentToAll,
+    Deed::Nothing,
+    Deed::SentTo(1),
+    Deed::SentTo(0),
+    Deed::Nothing,
+    Deed::SentTo(1),
+    Deed::SentTo(2),
+    Deed::Delivered,
+];
+
+// Each call of a discovery over a map and over rows: the same effects, and the same packets.
 #[test]
 fn both_tables_cast_the_same_packets(rt: HostRuntime) -> Result<(), Fail> {
-    let mut mesh = Mesh::new();
-    assert!(rt; mesh.add(Addr(0x0a00_0001), 1).is_ok());
-    assert!(rt; mesh.add(Addr(0x0a00_0002), 1).is_ok());
-    assert_eq!(rt; mesh.len(), 2);
-    let map = PlainTable::new(rt.alloc(), mesh.len());
-    let rows = RowTable::new(rt.alloc(), mesh.len())?;
-    let one = casts_over(rt.alloc(), map, &mesh)?;
-    let other = casts_over(rt.alloc(), rows, &mesh)?;
-    assert!(rt; one.is_some());
-    if let (Some(one), Some(other)) = (one, other) {
-        assert_eq!(rt; one.as_slice(), other.as_slice());
-        assert_eq!(rt; one.len(), 24 + 14 + 20);
-        return Ok(());
+    let mesh = mesh_of_three();
+    assert_eq!(rt; mesh.len(), 3);
+    let alloc = rt.alloc();
+    let one = PlainTable::new(alloc, 3);
+    let two = PlainTable::new(alloc, 3);
+    let three = PlainTable::new(alloc, 3);
+    let plain = discover(alloc, one, two, three, &mesh)?;
+    let one = RowTable::new(alloc, 3)?;
+    let two = RowTable::new(alloc, 3)?;
+    let three = RowTable::new(alloc, 3)?;
+    let rows = discover(alloc, one, two, three, &mesh)?;
+    for k in 0..9 {
+        assert_eq!(rt; plain.did[k], DISCOVERY[k]);
+        assert_eq!(rt; rows.did[k], DISCOVERY[k]);
     }
-    assert!(rt; false);
+    assert_eq!(rt; plain.packets.as_slice(), packets().as_slice());
+    assert_eq!(rt; rows.packets.as_slice(), packets().as_slice());
     Ok(())
 }
 
 #[test]
-fn a_node_finds_a_route_and_loses_it(rt: HostRuntime) -> Result<(), Fail> {
-    let mut mesh = Mesh::new();
-    assert!(rt; mesh.add(Addr(0x0a00_0001), 1).is_ok());
-    assert!(rt; mesh.add(Addr(0x0a00_0002), 1).is_ok());
-    assert_eq!(rt; mesh.len(), 2);
+fn a_node_that_lost_its_route_asks_again(rt: HostRuntime) -> Result<(), Fail> {
+    let mesh = mesh_of_three();
+    assert_eq!(rt; mesh.len(), 3);
+    let alloc = rt.alloc();
+    let end = set_of(1, 1);
     let mut out = Packet::new();
-    let mut range = NodeSet::new();
-    range.add(1);
-    let mut core = opening(rt.alloc(), PlainTable::new(rt.alloc(), mesh.len()), &mesh)?;
-    let body = Bytes::copy_of(rt.alloc(), b"hi")?;
-    assert!(rt; takes_a_datum(&mut core, &mesh, body)?);
-    assert!(rt; asks(&mut core, &mesh, &mut out)?);
-    assert_eq!(rt;
-        out.as_slice(),
-        b"\x01\x08\0\0\0\0\0\x01\x0a\0\0\x02\0\0\0\0\x0a\0\0\x01\0\0\0\x02".as_slice()
-    );
-    assert!(rt; hears_a_reply(&mut core, &mesh, &mut out)?);
-    assert!(rt; sends(&mut core, &mesh, &range, &mut out));
-    assert_eq!(rt;
-        out.as_slice(),
-        b"\x10\0\0\0\x0a\0\0\x02\x0a\0\0\x01hi".as_slice()
-    );
-    assert!(rt; hears_a_request(&mut core, &mesh, &range, &mut out)?);
-    assert_eq!(rt;
-        out.as_slice(),
-        b"\x02\0\0\0\x0a\0\0\x01\0\0\0\x02\x0a\0\0\x02\xff\xff\xff\xff".as_slice()
-    );
-    assert!(rt;
-        hears(
-            &mut core,
-            &mesh,
-            &range,
-            b"\x10\0\0\0\x0a\0\0\x02\x0a\0\0\x01hi",
-            &mut out
-        )?
-    );
-    assert!(rt;
-        hears(
-            &mut core,
-            &mesh,
-            &range,
-            b"\x03\0\0\x01\x0a\0\0\x02\0\0\0\x09",
-            &mut out
-        )?
-    );
-    assert!(rt;
-        !hears(
-            &mut core,
-            &mesh,
-            &range,
-            b"\x10\0\0\0\x0a\0\0\x02\x0a\0\0\x01hi",
-            &mut out
-        )?
-    );
-    assert!(rt; link_broken(&mut core, &mesh, 1, &mut out).is_ok());
+    let mut first = opening(alloc, PlainTable::new(alloc, 3), &mesh, 0)?;
+    let body = Bytes::copy_of(alloc, b"hi")?;
+    assert!(rt; takes_a_datum(&mut first, &mesh, 2, body)?);
+    let found = hear(&mut first, &mesh, &end, 1, ANSWERED_ON, &mut out)?;
+    assert_eq!(rt; deed_of(found), Deed::Nothing);
+    let told = hear(&mut first, &mesh, &end, 1, BROKEN, &mut out)?;
+    assert_eq!(rt; deed_of(told), Deed::Nothing);
+    assert!(rt; send(&mut first, &mesh, &end, 2, &mut out).is_none());
+    let asks = ask(&mut first, &mesh, 2, &mut out)?;
+    assert_eq!(rt; deed_of(asks), Deed::SentToAll);
+    assert!(rt; link_broken(&mut first, &mesh, 1, &mut out).is_ok());
     Ok(())
 }

@@ -17,6 +17,6 @@ returns g c = record {
   table = c.requires.nodes;
   asked = c.in_ok-asked.ensures.nodes ∙ c.len-nodes.ensures.value;
   waiting = c.in_ok-waiting.ensures.nodes ∙ c.len-nodes.ensures.value;
-  mine = c.requires.some;
-  sound = record { own = omega arith; table = empty_table (length c.args.mesh.now) 0 (g.T.Table.entries c.args.table) c.requires.empty };
+  mine = c.requires.mine;
+  sound = record { own = omega arith; table = empty_table (length c.args.mesh.now) c.args.me (g.T.Table.entries c.args.table) c.requires.empty };
 }
