@@ -1,5 +1,5 @@
 -- What a turn, a send or a request casts has the walk that is stated for it.
-use Rattle.std.proofs.Common.{◌≡◌, ◌≢◌, ◌⊎◌, ℕ, ◌+◌, ◌<◌, ◌≤◌, Bool, true, false, ◌||◌, not, ◌==◌, List, [], ◌∷◌, length, Some, None, Option, refl, ap, sym, ◌∙◌, subst, arith, inl, inr}
+use Rattle.std.proofs.Common.{◌≡◌, ◌≢◌, ◌⊎◌, ℕ, ◌+◌, ◌≤◌, Bool, true, false, ◌||◌, not, ◌==◌, List, [], ◌∷◌, length, Some, None, Option, refl, ap, sym, ◌∙◌, subst, arith, inl, inr}
 use Rattle.std.specs.Prelude.{⊤, if◌then◌else◌, max, is_some}
 use Rattle.std.specs.List.{AllByRecursion}
 use Rattle.std.proofs.lemmas.Bool.{eqb-true}
@@ -16,8 +16,8 @@ use Rattle.aodv_model.proofs.Entries.{if_case}
 use Rattle.aodv_model.proofs.Lookups.{get-update}
 use Rattle.aodv_model.proofs.PairLaws.{pair_cmp_total}
 use Rattle.aodv_model.proofs.Readings.{join_answer_alike, join_reply_alike, known_number, valid_flag}
-use Rattle.aodv_model.specs.Cores.{Body, Core, Heard, Item, Message, New, Pkt, Rerr, RouteReply, RouteRequest, Rrep, Rreq, Store, add, bodies_in, drop, has_seen}
-use Rattle.aodv_model.specs.Handlers.{All, Cast, Many, Nothing, One, Reaction, after_hearing, after_reply, after_request, ask, broken_by, can_answer, casting, changes_nothing, data_error, delivering, drop_if_sent, error_cast, first_body, forward_own_entry, forward_reply, forward_request, fresh_id, is_empty, is_error, join_answer_precursors, join_reply_precursors, key_of, link_broken, losing, losing_if_broken, on_message, on_new, on_new_rreq, on_pkt, on_rerr, on_rrep, on_rreq, only, plain, precs_of, reply_for_self, reply_from_table, reply_on, retract, route_entry, send, turn, unicast, with_precs}
+use Rattle.aodv_model.specs.Cores.{Body, Core, Message, Pkt, Rerr, RouteReply, RouteRequest, Rrep, Rreq, add, bodies_in, drop, has_seen}
+use Rattle.aodv_model.specs.Handlers.{All, Cast, Many, Nothing, One, Reaction, after_hearing, after_reply, after_request, ask, broken_by, can_answer, casting, changes_nothing, data_error, delivering, error_cast, first_body, forward_own_entry, forward_reply, forward_request, fresh_id, is_empty, is_error, join_answer_precursors, join_reply_precursors, key_of, link_broken, losing, losing_if_broken, on_message, on_new, on_new_rreq, on_pkt, on_rerr, on_rrep, on_rreq, only, plain, precs_of, reply_for_self, reply_from_table, reply_on, retract, route_entry, send, unicast, with_precs}
 use Rattle.aodv_model.specs.Pairs.{Pairs, pair_cmp}
 use Rattle.aodv_model.specs.Tables.{Dests, Table, accepted_unreachable, dhops, entry_after, hops_in, in_vD, is_valid_in, merged, nhop, number_in, sqn, sqnf, status_in, unreachable_by, update}
 use Rattle.mesh_base.specs.Members.{NodeIds}

@@ -1,6 +1,6 @@
 -- The lists of a node's entries are walks after a turn.
-use Rattle.std.proofs.Common.{◌≡◌, ◌⊎◌, ℕ, ◌+◌, ◌<◌, ◌≤◌, Bool, true, false, ◌&&◌, ◌==◌, List, [], ◌∷◌, length, Some, None, Option, refl, ap, sym, ◌∙◌, subst, arith, inl, inr}
-use Rattle.std.specs.Prelude.{if◌then◌else◌, slice_get, ⊤}
+use Rattle.std.proofs.Common.{◌≡◌, ◌⊎◌, ℕ, ◌+◌, ◌<◌, ◌≤◌, true, false, List, [], ◌∷◌, length, Some, refl, ap, sym, ◌∙◌, subst, arith, inl, inr}
+use Rattle.std.specs.Prelude.{if◌then◌else◌}
 use Rattle.std.specs.List.{AllByRecursion}
 use Rattle.std.proofs.lemmas.Bool.Decides.{nat_tests}
 use Rattle.std.proofs.lemmas.Option.{same_Some}
@@ -14,10 +14,10 @@ use Rattle.aodv_model.specs.Tables.{Table}
 use Rattle.mesh_model.proofs.Lists.{each_map}
 use Rattle.mesh_model.proofs.TrailTables.{on_trail}
 use Rattle.mesh_model.specs.Invariants.{AtLeast, IsHonest}
-use Rattle.mesh_model.specs.Trails.{Around, CopyHasWalk, EntriesHaveWalks, HasEntryWalk, HasReplyWalk, HasRequestWalk, HasWalks, IsAbsent, IsBackedWalk, ItemHasWalk, MessageHasWalk, NodeHasWalks, around, front}
-use Rattle.mesh_model.specs.Worlds.{Copy, Node, World, are_linked, is_parcel}
+use Rattle.mesh_model.specs.Trails.{Around, CopyHasWalk, EntriesHaveWalks, HasEntryWalk, HasWalks, IsAbsent, IsBackedWalk, ItemHasWalk, MessageHasWalk, around, front}
+use Rattle.mesh_model.specs.Worlds.{World, are_linked, is_parcel}
 use Rattle.mesh_walks.proofs.Stems.{Had, IsFrom, Stays, Stems}
-use Rattle.mesh_walks.specs.Held.{CopyHolds, EntriesHold, Holds, IsEntryWalk, IsReplyWalk, IsRequestWalk, ItemHolds, ItemsHold, MessageHolds, NodeHolds}
+use Rattle.mesh_walks.specs.Held.{CopyHolds, EntriesHold, Holds, IsEntryWalk, ItemHolds, ItemsHold, MessageHolds, NodeHolds}
 use Rattle.mesh_walks.specs.Kept.{Kept, entries_after, entry_list, is_near, is_route, is_told}
 
 -- ---- where lists are walks there are walks

@@ -1,5 +1,5 @@
 -- Where the valid entries of a table come from: from the table before, or from what was heard.
-use Rattle.std.proofs.Common.{◌≡◌, ◌⊎◌, ℕ, ◌+◌, Bool, true, ◌&&◌, ◌||◌, not, ◌==◌, Some, None, Option, refl, sym, ◌∙◌, subst, arith, inl, inr}
+use Rattle.std.proofs.Common.{◌≡◌, ◌⊎◌, ℕ, ◌+◌, Bool, true, ◌||◌, not, ◌==◌, Some, None, Option, refl, sym, ◌∙◌, arith, inl, inr}
 use Rattle.std.specs.Prelude.{if◌then◌else◌, is_some}
 use Rattle.std.proofs.lemmas.Bool.Decides.{nat_tests}
 use Rattle.std.specs.FinMap as maps
@@ -10,9 +10,9 @@ use Rattle.aodv_entry.specs.declared.entry.Known.TheVariants.{Kno}
 use Rattle.aodv_model.proofs.Changes.{after_by, mapped_each, update_each}
 use Rattle.aodv_model.proofs.Entries.{Same, if_case}
 use Rattle.aodv_model.proofs.Lookups.{get-add_pre, get-invalidate}
-use Rattle.aodv_model.specs.Cores.{Body, Core, Heard, Item, Message, New, Pkt, Rerr, RouteReply, RouteRequest, Rrep, Rreq, add, bodies_in, drop, has_seen}
-use Rattle.aodv_model.specs.Handlers.{All, One, Reaction, after_hearing, after_reply, after_request, ask, broken_by, can_answer, casting, changes_nothing, data_error, delivering, drop_if_sent, first_body, forward_own_entry, forward_reply, forward_request, join_answer_precursors, join_reply_precursors, key_of, link_broken, losing, losing_if_broken, neighbour_entry, on_message, on_new, on_new_rreq, on_pkt, on_rerr, on_rrep, on_rreq, one, only, plain, reply_for_self, reply_from_table, reply_on, retract, route_entry, send, turn, unicast}
-use Rattle.aodv_model.specs.Tables.{Dests, Table, accepted_unreachable, add_pre, dhops, entry_after, in_vD, invalidate, invalidated, joined, merged, nhop, sqn, unreachable_by, update}
+use Rattle.aodv_model.specs.Cores.{Body, Core, Message, Pkt, Rerr, RouteReply, RouteRequest, Rrep, Rreq, add, bodies_in, drop, has_seen}
+use Rattle.aodv_model.specs.Handlers.{One, Reaction, after_hearing, after_reply, after_request, broken_by, can_answer, casting, changes_nothing, data_error, delivering, first_body, forward_own_entry, forward_reply, forward_request, join_answer_precursors, join_reply_precursors, key_of, link_broken, losing, losing_if_broken, neighbour_entry, on_message, on_new, on_new_rreq, on_pkt, on_rerr, on_rrep, on_rreq, one, only, plain, reply_for_self, reply_from_table, reply_on, retract, route_entry, send, unicast}
+use Rattle.aodv_model.specs.Tables.{Dests, Table, accepted_unreachable, add_pre, in_vD, invalidate, invalidated, joined, merged, nhop, unreachable_by, update}
 use Rattle.mesh_base.specs.Members.{NodeIds}
 use Rattle.mesh_base.specs.declared.events.Variant.{Variant}
 use Rattle.mesh_base.specs.declared.events.Variant.TheVariants.{Base, Error, Number, Reply}

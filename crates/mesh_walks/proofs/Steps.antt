@@ -9,8 +9,7 @@ use Rattle.std.specs.FinSet as sets
 use Rattle.aodv_model.proofs.Entries.{if_case}
 use Rattle.aodv_model.specs.Cores.{Body, Core, Heard, Item, Message, New, Pkt, Rerr, Rrep, Rreq, has_seen}
 use Rattle.aodv_model.specs.Fullness.{ask_full, send_full, turn_full}
-use Rattle.aodv_model.specs.Handlers.{All, Cast, Many, Nothing, One, Reaction, Took, ask, key_of, may_ask, may_send, send, took, turn}
-use Rattle.aodv_model.specs.Tables.{Table}
+use Rattle.aodv_model.specs.Handlers.{All, Cast, Many, Nothing, One, Reaction, ask, key_of, may_ask, may_send, send, took, turn}
 use Rattle.mesh_base.specs.declared.events.Counter.{Counter}
 use Rattle.mesh_base.specs.declared.events.Variant.{Variant}
 use Rattle.mesh_model.proofs.Leads.{Grows}
@@ -20,62 +19,18 @@ use Rattle.mesh_model.proofs.Steps.{Follows, fit, follows_of, found_honest, with
 use Rattle.mesh_model.proofs.TrailTables.{Later, trail_stays}
 use Rattle.mesh_model.proofs.TrailTurns.{Begins, IsHere, Traces, ask_traces, send_traces, turn_traces}
 use Rattle.mesh_model.proofs.Turns.{IsOk, ask_ok, send_ok, turn_ok}
-use Rattle.mesh_model.specs.Invariants.{AtLeast, IsHonestItem, IsInvariant, IsLoopSafe, IsLoopSafeNode}
+use Rattle.mesh_model.specs.Invariants.{AtLeast, IsInvariant, IsLoopSafe, IsLoopSafeNode}
 use Rattle.mesh_model.specs.Places.{AreNumbered}
 use Rattle.mesh_model.specs.Trails.{Around, EntriesHaveWalks, HasWalks, IsAbsent, IsBackedWalk, NodeHasWalks, around, front, seen_in}
 use Rattle.mesh_model.specs.Walks.{rt_in, table}
-use Rattle.mesh_model.specs.Worlds as worlds
-use Rattle.mesh_model.specs.Worlds.{is_parcel, Ask, Changed, Copy, CopyDoubled, CopyHeard, CopyLost, Cut, Deliver, Double, Event, Give, Next, Happening, Idle, Link, Lose, Node, Outcome, Send, Sent, Taken, Turn, World, after, are_linked, ask_of, at_copy, at_node, copies, copies_of, copies_to, done_by, double_of, find_copy, members_below, pair, push, range, receivers, send_of, step, turn_of, unless_full, with_double, with_item, with_link, without_copy, without_link}
-use Rattle.mesh_walks.proofs.Casts.{CastHolds, IsSentBy, SentBy, SentKeyed, ask_holds, message_tells, new_holds, send_holds}
-use Rattle.mesh_walks.proofs.Listed.{entries_have, entries_hold, has_walks, item_has, stays_hold}
+use Rattle.mesh_model.specs.Worlds.{is_parcel, Ask, Changed, Copy, CopyDoubled, CopyHeard, CopyLost, Cut, Deliver, Double, Event, Give, Next, Idle, Link, Lose, Node, Outcome, Send, Sent, Taken, Turn, World, after, are_linked, ask_of, at_copy, at_node, copies, copies_of, copies_to, done_by, double_of, find_copy, members_below, pair, push, range, receivers, send_of, step, turn_of, unless_full, with_double, with_item, with_link, without_copy, without_link}
+use Rattle.mesh_walks.proofs.Casts.{CastHolds, IsSentBy, ask_holds, message_tells, new_holds, send_holds}
+use Rattle.mesh_walks.proofs.Listed.{entries_hold, has_walks, item_has, stays_hold}
+use Rattle.mesh_walks.proofs.Stays.{copy_stays, entries_stay, items_more, items_stay, message_stays, node_stays}
 use Rattle.mesh_walks.proofs.Stems.{itself, message_stems, new_stays, parcel_stays, send_stays}
-use Rattle.mesh_walks.specs.Held.{CopyHolds, EntriesHold, Holds, IsEntryWalk, IsReplyWalk, IsRequestWalk, ItemHolds, ItemsHold, MessageHolds, NodeHolds}
+use Rattle.mesh_walks.specs.Held.{CopyHolds, EntriesHold, Holds, ItemHolds, ItemsHold, MessageHolds, NodeHolds}
 use Rattle.mesh_walks.specs.Kept as kept
-use Rattle.mesh_walks.specs.Kept.{Kept, after_event, after_item, after_turn, changed_at, copies_in, entries_after, first_list, from_id_on, own_list, sent_list, walked, walked_by, with_copies}
-
--- ---- what is later known
-
-held_stays : (a b : Around) → Later a b → (x d n h y : ℕ) (walk : List ℕ) → IsEntryWalk a x d n h y walk → IsEntryWalk b x d n h y walk
-held_stays a b later x d n h y walk t = record { others = t.others; is = t.is; backed = trail_stays a b later d n (y ∷ t.others) t.backed; long = t.long; linked = later.ever _ t.linked; absent = t.absent }
-
-entries_stay : (a b : Around) → Later a b → (x : ℕ) (rt : Table) (walks : ℕ → List ℕ) → EntriesHold a x rt walks → EntriesHold b x rt walks
-entries_stay a b later x rt walks all d e is valid = held_stays a b later x d e.dsn e.hops e.next (walks d) (all d e is valid)
-
-message_stays : (a b : Around) → Later a b → (from : ℕ) (m : Message) (walk : List ℕ) → MessageHolds a from m walk → MessageHolds b from m walk
-message_stays a b later from (Pkt x d o) walk t = tt
-message_stays a b later from (Rreq m) walk t = record {
-  others = t.others;
-  is = t.is;
-  backed = trail_stays a b later m.oip m.osn (from ∷ t.others) t.backed;
-  long = t.long;
-  keys = subst (λ v. AllByRecursion (λ z. has_seen (b.seen z) (key_of v m) ≡ true) (from ∷ t.others)) (sym later.variant)
-      (each_map (λ z. has_seen (a.seen z) (key_of a.variant m) ≡ true) (λ z. has_seen (b.seen z) (key_of a.variant m) ≡ true) (λ z e. later.seen z _ e) (from ∷ t.others) t.keys);
-}
-message_stays a b later from (Rrep m) walk t = record { others = t.others; is = t.is; backed = trail_stays a b later m.dip m.dsn (from ∷ t.others) t.backed; long = t.long }
-message_stays a b later from (Rerr dests) walk t = tt
-
-item_stays : (a b : Around) → Later a b → (x : ℕ) (item : Item) (walk : List ℕ) → ItemHolds a x item walk → ItemHolds b x item walk
-item_stays a b later x (New y d) walk t = tt
-item_stays a b later x (Heard from m) walk t = (later.ever _ t.0, message_stays a b later from m walk t.1)
-
-items_stay : (a b : Around) → Later a b → (x : ℕ) (items : List Item) (walks : List (List ℕ)) → ItemsHold a x items walks → ItemsHold b x items walks
-items_stay a b later x [] [] t = tt
-items_stay a b later x [] (walk ∷ walks) t = t
-items_stay a b later x (item ∷ items) [] t = t
-items_stay a b later x (item ∷ items) (walk ∷ walks) t = (item_stays a b later x item walk t.0, items_stay a b later x items walks t.1)
-
-items_more : (a : Around) (x : ℕ) (items : List Item) (walks : List (List ℕ)) (item : Item) (walk : List ℕ) → ItemsHold a x items walks → ItemHolds a x item walk → ItemsHold a x (items ++ item ∷ []) (walks ++ walk ∷ [])
-items_more a x [] [] item walk t more = (more, tt)
-items_more a x [] (w ∷ ws) item walk t more = absurd t
-items_more a x (i ∷ is) [] item walk t more = absurd t
-items_more a x (i ∷ is) (w ∷ ws) item walk t more = (t.0, items_more a x is ws item walk t.1 more)
-
-node_stays : (a b : Around) → Later a b → (x : ℕ) (n : Node) (walks : ℕ → List ℕ) (lists : List (List ℕ)) → NodeHolds a x n walks lists → NodeHolds b x n walks lists
-node_stays a b later x n walks lists t = record { variant = t.variant ∙ sym later.variant; entries = entries_stay a b later x (n.core).rt walks t.entries; queue = items_stay a b later x n.queue lists t.queue }
-
--- a copy whose list is the same
-copy_stays : (a b : Around) → Later a b → (old now : ℕ → List ℕ) (c : Copy) → now c.id ≡ old c.id → CopyHolds a old c → CopyHolds b now c
-copy_stays a b later old now c same t = (later.ever _ t.0, subst (MessageHolds b c.from c.message) (sym same) (message_stays a b later c.from c.message (old c.id) t.1))
+use Rattle.mesh_walks.specs.Kept.{Kept, after_item, after_turn, changed_at, entries_after, first_list, from_id_on, own_list, sent_list, walked, walked_by, with_copies}
 
 -- ---- the list of each id
 

@@ -1,6 +1,5 @@
 -- The statements that this crate proves of the lists that are kept.
 use Rattle.std.specs.Prelude.{◌≡◌, ℕ, ◌≤◌, List, length, reverse, Some}
-use Rattle.std.specs.List.{AllByRecursion}
 use Rattle.std.specs.FinMap as maps
 use Rattle.mesh_base.specs.declared.events.Variant.{Variant}
 use Rattle.aodv_entry.specs.declared.entry.Entry.{Entry}
