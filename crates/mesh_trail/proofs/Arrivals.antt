@@ -171,5 +171,22 @@ unheard id old new d packet nodes casts sound is idle t =
 pub found_at : (w : WorldSeen) (fs : List Flying) (id : ℕ) (f : Flying) → map (copy_in w.mesh) fs ≡ (w.world).flying → Some f ≡ radios.find_copy fs id → find_copy (w.world).flying id ≡ Some (copy_in w.mesh f)
 found_at w fs id f shown is = subst (λ cs. find_copy cs id ≡ Some (copy_in w.mesh f)) shown (find_shown w.mesh fs id f (sym is))
 
-pub none_at : (w : WorldSeen) (fs : List Flying) (id : ℕ) → map (copy_in w.mesh) fs ≡ (w.world).flying → None ≡ radios.find_copy fs id → step w.world (Deliver id) ≡ Idle
-none_at w fs id shown is = none_idle w.world id (subst (λ cs. find_copy cs id ≡ None) shown (none_shown w.mesh fs id (sym is)))
+pub none_at : (w : WorldSeen) (fs : List Flying) (id : ℕ) → map (copy_in w.mesh) fs ≡ (w.world).flying → None ≡ radios.find_copy fs id → find_copy (w.world).flying id ≡ None
+none_at w fs id shown is = subst (λ cs. find_copy cs id ≡ None) shown (none_shown w.mesh fs id (sym is))
+
+-- a copy that was heard flew
+pub heard_flew : (id : ℕ) (old new : WorldSeen) (d : Done) (packet : List ℕ) → IsDone (Deliver id) old d new packet → hears d ≡ true → (c : Copy) × (find_copy (old.world).flying id ≡ Some c)
+heard_flew id old new d packet is busy = by (find_copy (old.world).flying id) refl
+  where
+    idle : (d : Done) → hears d ≡ true → Idle ≡ outcome_in old.mesh 0 new.world d packet → ⊥
+    idle done.Idle busy is = cc
+    idle done.Changed busy is = cc
+    idle (done.Taken took effect air) busy is = cc
+    idle (done.Sent effect air) busy is = cc
+    idle (done.Heard from to) busy is = cc
+    idle (done.Lost flying) busy is = cc
+    idle (done.Doubled i to parcel) busy is = cc
+
+    by : (o : Option Copy) → find_copy (old.world).flying id ≡ o → (c : Copy) × (find_copy (old.world).flying id ≡ Some c)
+    by None none = absurd (idle d busy (sym (none_idle old.world id none) ∙ is.outcome))
+    by (Some c) found = (c, found)

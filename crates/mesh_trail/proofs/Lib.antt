@@ -9,3 +9,4 @@ pub mod Arrivals
 pub mod Sends
 pub mod Turns
 pub mod Starts
+pub mod Readiness

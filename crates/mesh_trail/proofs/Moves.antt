@@ -19,7 +19,7 @@ use Rattle.mesh_world.specs.declared.steps.StepError.{StepError}
 use Rattle.mesh_world.specs.declared.steps.StepError.TheVariants as errors
 use Rattle.mesh_trail.specs.Walks.{FillsNumber}
 use Rattle.mesh_trail.specs.Casts.{IsCovered, AreEnding, list_of, flies_in}
-use Rattle.mesh_trail.specs.Trails.{AreKept, AreWalks, IsDoneTo, IsOfRun, kept}
+use Rattle.mesh_trail.specs.Trails.{AreWalks, IsOfRun, kept}
 use Rattle.mesh_trail.specs.declared.lists.NodeLists.{NodeLists}
 use Rattle.mesh_trail.specs.declared.casts.Cast.{Cast}
 use Rattle.mesh_trail.specs.declared.parts.Parts.{Parts}
@@ -149,35 +149,18 @@ one_cast e old new nodes casts casts' c now then t more is first end same =
       ends = subst (AreEnding 0 (casts ++ c ∷ [])) end (ends_more 0 casts next c t.ends (omega arith));
     })
 
--- ---- refusals
+-- ---- answers
 
-fills : (v : Variant) (e : Event) (old new : WorldSeen) (answer : Result Done StepError) (packet : List ℕ) → IsOfRun v old.world → IsStep e old answer new packet → FillsNumber answer
+pub fills : (v : Variant) (e : Event) (old new : WorldSeen) (answer : Result Done StepError) (packet : List ℕ) → IsOfRun v old.world → IsStep e old answer new packet → FillsNumber answer
 fills v e old new (Ok d) packet r is = tt
 fills v e old new (Err (errors.Full node field)) packet r is =
     only_numbers_fill v r.firsts r.events e node field r.numbers (ap (λ (w : World). step w e) (sym r.is) ∙ is.0)
 fills v e old new (Err errors.NoMemory) packet r is = tt
-
-pub done_to : (e : Event) (old mid new : Parts) (answer : Result Done StepError) (packet : List ℕ) → mid.world ≡ old.world → AreKept mid → IsStep e mid.world answer new.world packet → AreKept new → IsDoneTo e old answer new packet
-done_to e old mid new answer packet same t is then = record {
-  step = subst (λ (w : WorldSeen). IsStep e w answer new.world packet) same is;
-  number = fills t.variant e mid.world new.world answer packet t.ran is;
-  kept = then;
-}
-
--- memory was short before anything changed
-pub short_to : (e : Event) (old new : Parts) (answer : Result Done StepError) (why : StepError) (packet : List ℕ) → answer ≡ Err why → why ≡ errors.NoMemory → new.world ≡ old.world → AreKept new → IsDoneTo e old answer new packet
-short_to e old new answer why packet is short same t =
-    subst (λ a. IsDoneTo e old a new packet) (sym (is ∙ ap (λ (y : StepError). Err y) short)) (record { step = same; number = tt; kept = t })
 
 same_after : (e : Event) (old new : WorldSeen) (why : StepError) (packet : List ℕ) → IsStep e old (Err why) new packet → new ≡ old
 same_after e old new (errors.Full node field) packet is = is.1
 same_after e old new errors.NoMemory packet is = is
 
 -- the world refused
-pub refused_to : (e : Event) (old mid new : Parts) (answer : Result Done StepError) (why : StepError) (packet : List ℕ) → mid.world ≡ old.world → AreKept mid → answer ≡ Err why → IsStep e mid.world (Err why) new.world packet
-    → (new.nodes).items ≡ (mid.nodes).items → (new.casts).items ≡ (mid.casts).items → IsDoneTo e old answer new packet
-refused_to e old mid new answer why packet same t is refused nodes casts =
-    let world : new.world ≡ mid.world = same_after e mid.world new.world why packet refused in
-    subst (λ a. IsDoneTo e old a new packet) (sym is)
-    (done_to e old mid new (Err why) packet same t refused
-    (subst (λ (w : WorldSeen). AreWalks w (new.nodes).items (new.casts).items) (sym world) (subst (λ ns. AreWalks mid.world ns (new.casts).items) (sym nodes) (subst (AreWalks mid.world (mid.nodes).items) (sym casts) t))))
+pub refused : (e : Event) (old new : WorldSeen) (why : StepError) (packet : List ℕ) (nodes : List NodeLists) (casts : List Cast) → IsStep e old (Err why) new packet → AreWalks old nodes casts → AreWalks new nodes casts
+refused e old new why packet nodes casts is t = subst (λ (w : WorldSeen). AreWalks w nodes casts) (sym (same_after e old new why packet is)) t

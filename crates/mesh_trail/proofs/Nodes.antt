@@ -19,11 +19,11 @@ use Rattle.mesh_walks.specs.Kept.{Kept, walked, walked_by, changed_at}
 use Rattle.mesh_trail.specs.Lists.{row}
 use Rattle.mesh_trail.specs.Casts.{list_of}
 use Rattle.mesh_trail.specs.Steps.{MovesNothing}
-use Rattle.mesh_trail.specs.Trails.{AreKept, AreWalks, IsDoneTo, kept, rows_of, queue_of}
+use Rattle.mesh_trail.specs.Trails.{AreWalks, kept, rows_of, queue_of}
 use Rattle.mesh_trail.specs.declared.lists.NodeLists.{NodeLists}
 use Rattle.mesh_trail.specs.declared.casts.Cast.{Cast}
 use Rattle.mesh_trail.specs.declared.parts.Parts.{Parts}
-use Rattle.mesh_trail.proofs.Moves.{AreFlying, IsAfter, after_done, done_to, goes_on, holds_so, no_cast, refused_to}
+use Rattle.mesh_trail.proofs.Moves.{AreFlying, IsAfter, after_done, goes_on, holds_so, no_cast}
 use Rattle.mesh_trail.proofs.Ways.{IsQuiet, quiet_next}
 
 -- ---- reading
@@ -140,26 +140,7 @@ quiet (worlds.Double id) still = absurd still
 pub quiet_after : (e : Event) (old new : WorldSeen) → IsAfter e old new → IsQuiet e → (new.world).next_copy ≡ (old.world).next_copy
 quiet_after e old new later quiet = ap (λ (w : World). w.next_copy) later.world ∙ quiet_next old.world e quiet
 
-pub pass_to : (e : Event) (old new : Parts) (answer : Result Done StepError) (packet : List ℕ) → MovesNothing e → AreKept old → IsSoundWorld new.world → IsStep e old.world answer new.world packet
-    → (new.nodes).items ≡ (old.nodes).items → (new.casts).items ≡ (old.casts).items → IsDoneTo e old answer new packet
-pass_to e old new (Err why) packet still t sound is nodes casts = refused_to e old old new (Err why) why packet refl t refl is nodes casts
-pass_to e old new (Ok d) packet still t sound is nodes casts =
-    let later = after_done e old.world new.world d packet is in
-    done_to e old old new (Ok d) packet refl t is
-    (subst (λ ns. AreWalks new.world ns (new.casts).items) (sym nodes) (subst (AreWalks new.world (old.nodes).items) (sym casts)
-    (unmoved e old.world new.world (old.nodes).items (old.casts).items later sound (walked_still (old.world).world e (kept (old.nodes).items (old.casts).items) still) (quiet_after e old.world new.world later (quiet e still)) t)))
-
--- the event wasn't enabled
-pub idle_to : (e : Event) (old mid new : Parts) (d : Done) (packet : List ℕ) → mid.world ≡ old.world → AreKept mid → IsSoundWorld new.world → IsStep e mid.world (Ok d) new.world packet → step (mid.world).world e ≡ Idle
-    → (new.nodes).items ≡ (mid.nodes).items → (new.casts).items ≡ (mid.casts).items → IsDoneTo e old (Ok d) new packet
-idle_to e old mid new d packet same t sound is idle nodes casts =
-    let later = after_done e mid.world new.world d packet is in
-    let next : ((new.world).world).next_copy ≡ ((mid.world).world).next_copy = ap (λ (w : World). w.next_copy) (later.world ∙ ap (worlds.after (mid.world).world) idle) in
-    done_to e old mid new (Ok d) packet same t is
-    (subst (λ ns. AreWalks new.world ns (new.casts).items) (sym nodes) (subst (AreWalks new.world (mid.nodes).items) (sym casts)
-    (unmoved e mid.world new.world (mid.nodes).items (mid.casts).items later sound (walked_is (mid.world).world e (kept (mid.nodes).items (mid.casts).items) Idle idle) next t)))
-
-pub still_to : (e : Event) (old new : Parts) (answer : Result Done StepError) (packet : List ℕ) → AreKept old → IsSoundWorld new.world → IsStep e old.world answer new.world packet → step (old.world).world e ≡ Idle
-    → (new.nodes).items ≡ (old.nodes).items → (new.casts).items ≡ (old.casts).items → IsDoneTo e old answer new packet
-still_to e old new (Ok d) packet t sound is idle nodes casts = idle_to e old old new d packet refl t sound is idle nodes casts
-still_to e old new (Err why) packet t sound is idle nodes casts = refused_to e old old new (Err why) why packet refl t refl is nodes casts
+pub passed : (e : Event) (old new : WorldSeen) (d : Done) (packet : List ℕ) (nodes : List NodeLists) (casts : List Cast) → MovesNothing e → IsSoundWorld new → IsStep e old (Ok d) new packet → AreWalks old nodes casts → AreWalks new nodes casts
+passed e old new d packet nodes casts still sound is t =
+    let later = after_done e old new d packet is in
+    unmoved e old new nodes casts later sound (walked_still old.world e (kept nodes casts) still) (quiet_after e old new later (quiet e still)) t

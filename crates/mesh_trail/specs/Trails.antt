@@ -1,15 +1,11 @@
 -- That the lists which a trail keeps are walks.
-use Rattle.std.specs.Prelude.{◌≡◌, ℕ, Option, Some, None, List, [], length, map, reverse, slice_get, Result}
+use Rattle.std.specs.Prelude.{◌≡◌, ℕ, Option, Some, None, List, [], length, map, reverse, slice_get}
 use Rattle.std.specs.List.{AllByRecursion}
-use Rattle.mesh_base.specs.declared.events.Done.{Done}
 use Rattle.mesh_base.specs.declared.events.Variant.{Variant}
 use Rattle.mesh_model.specs.Worlds.{World, Event, AreFirstNumbers, start, run}
 use Rattle.mesh_walks.specs.Kept.{Kept}
 use Rattle.mesh_walks.specs.Held.{Holds}
 use Rattle.mesh_world.specs.Seen.{WorldSeen, IsSoundWorld}
-use Rattle.mesh_world.specs.Steps.{IsStep}
-use Rattle.mesh_world.specs.declared.steps.StepError.{StepError}
-use Rattle.mesh_trail.specs.Walks.{FillsNumber}
 use Rattle.mesh_trail.specs.Lists.{row}
 use Rattle.mesh_trail.specs.Casts.{IsCovered, AreEnding, list_of}
 use Rattle.mesh_trail.specs.declared.lists.NodeLists.{NodeLists}
@@ -53,9 +49,3 @@ pub record AreWalks (w : WorldSeen) (nodes : List NodeLists) (casts : List Cast)
 -- the parts are in order
 abbrev pub AreKept : Parts → Type 0
 AreKept p = AreWalks p.world (p.nodes).items (p.casts).items
-
--- an event was done to the parts, or refused, and they are in order
-pub record IsDoneTo (e : Event) (old : Parts) (answer : Result Done StepError) (new : Parts) (packet : List ℕ) : Type 0 where
-  pub step : IsStep e old.world answer (new.world) packet
-  pub number : FillsNumber answer
-  pub kept : AreKept new

@@ -3,7 +3,7 @@ ghost use Rattle.std.specs.Prelude.{◌≡◌, ◌<◌, [], length, slice_set, I
 ghost use Rattle.std.specs.List.{AllByRecursion};
 ghost use Rattle.mesh_trail.specs.Lists.{IsBlank, IsRoomed, HasPlace, IsPushed, learnt};
 
-use crate::heard::Lesson;
+use crate::heard::{Front, Lesson};
 use crate::walk::{Room, Walk};
 use mesh_base::NoMemory;
 use std::alloc::Global;
@@ -26,6 +26,12 @@ pub(crate) struct Hand {
     pub told: Walk,
     pub taken: Walk,
     pub room: Room,
+    /// What waits at the front of the queue of the node that may take a turn.
+    pub front: Front,
+    /// The receiver of the copy that may come to it.
+    pub to: usize,
+    /// The id of the next copy in flight.
+    pub first: u64,
 }
 
 // No lists, one for each of so many nodes.

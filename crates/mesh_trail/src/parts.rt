@@ -1,13 +1,16 @@
 //! The parts of a trail, and each event as it is done to them. All memory is taken before the world
 //! takes its step; then the lists follow it.
-ghost use Rattle.std.specs.Prelude.{◌≡◌, ◌<◌, ◌≤◌, ◌+◌, ◌^◌, length, OnOk};
+ghost use Rattle.std.specs.Prelude.{◌≡◌, ◌<◌, ℕ, List, length, OnOk};
 ghost use Rattle.std.specs.Vec.{vec_len, vec_capacity};
-ghost use Rattle.aodv_model.specs.Soundness.{IsDatum};
+ghost use Rattle.mesh_base.specs.declared.events.Done.{Done};
 ghost use Rattle.mesh_model.specs.Worlds as model;
 ghost use Rattle.mesh_model.specs.Places.{IsEvent};
 ghost use Rattle.mesh_meaning.specs.Events.{event_of};
-ghost use Rattle.mesh_trail.specs.Steps.{MovesNothing, IsOwnOf, idles, hears};
-ghost use Rattle.mesh_trail.specs.Trails.{AreKept, IsDoneTo};
+ghost use Rattle.mesh_trail.specs.Walks.{FillsNumber};
+ghost use Rattle.mesh_trail.specs.Heard.{IsFrontIn};
+ghost use Rattle.mesh_trail.specs.Steps.{IsOwnOf, idles, hears};
+ghost use Rattle.mesh_trail.specs.Trails.{AreKept};
+ghost use Rattle.mesh_trail.specs.Ready.{IsNodeReady, IsReadyFor, HasDone, HasAnswered};
 
 use crate::casts::{Cast, find, sweep};
 use crate::hands::{list_for, ready_hand, take_front};
@@ -15,7 +18,7 @@ use crate::heard::{Front, front_at};
 use crate::lists::{Hand, NodeLists, make_place, push_list};
 use crate::walk::Walk;
 use mesh_base::{Done, Event, NoMemory, Packet};
-use mesh_world::{StepError, Steps, World};
+use mesh_world::{StepError, World};
 use std::alloc::Global;
 
 /// The parts of a trail. They are in order before and after each event, and not in the midst of
@@ -65,22 +68,86 @@ impl Parts {
         Ok(())
     }
 
-    /// One turn of node x.
-    pub fn turn(&mut self, alloc: Global, x: usize, out: &mut Packet) -> Result<Done, StepError>
+    // Makes ready what node x may keep and cast, with this at the front of its queue.
+    fn ready_node(&mut self, x: usize, front: Front) -> Result<(), NoMemory>
         requires kept { AreKept self.old }
         requires node { x < length self.old.world.mesh }
-        requires few { self.old.world.steps < 2 ^ 48 }
-        ensures done { IsDoneTo (model.Turn x) self.old result self.new out.new.items }
+        requires front { IsFrontIn (length self.old.world.mesh) front }
+        ensures kept { AreKept self.new }
+        ensures world { self.new.world ≡ self.old.world }
+        ensures ready { OnOk result (IsNodeReady x front self.new.world self.new) }
     {
-        let front = front_at(&self.world, x);
         self.make_room()?;
         let lists = &self.nodes[x];
         ready_hand(&mut self.hand, lists, x, front)?;
-        let first = self.world.radio().next_id();
-        let done = self.world.step(alloc, &Event::Turn { node: x }, out)?;
-        if is_idle(&done) {
-            return Ok(done);
+        self.hand.front = front;
+        self.hand.first = self.world.radio().next_id();
+        Ok(())
+    }
+
+    // Makes ready the list of the copy of this id, and room for it beside the queue of its receiver.
+    fn ready_copy(&mut self, id: u64) -> Result<(), NoMemory>
+        requires kept { AreKept self.old }
+        ensures kept { AreKept self.new }
+        ensures world { self.new.world ≡ self.old.world }
+        ensures ready { OnOk result (IsReadyFor (model.Deliver id) self.new.world self.new) }
+    {
+        let Some(copy) = self.world.radio().find(id) else {
+            return Ok(());
+        };
+        let to = copy.to;
+        self.hand.to = to;
+        self.hand.taken.copy(find(self.casts.as_slice(), id))?;
+        make_place(&mut self.nodes, to)?;
+        Ok(())
+    }
+
+    // Makes ready the list of a second copy beside that of this id.
+    fn ready_double(&mut self, id: u64) -> Result<(), NoMemory>
+        requires kept { AreKept self.old }
+        ensures kept { AreKept self.new }
+        ensures world { self.new.world ≡ self.old.world }
+        ensures ready { OnOk result (IsReadyFor (model.Double id) self.new.world self.new) }
+    {
+        self.make_room()?;
+        self.hand.taken.copy(find(self.casts.as_slice(), id))?;
+        self.hand.first = self.world.radio().next_id();
+        Ok(())
+    }
+
+    /// Takes all memory that the lists need for an event, before the world does it.
+    pub fn ready(&mut self, e: &Event<'_>) -> Result<(), NoMemory>
+        requires kept { AreKept self.old }
+        requires event { IsEvent (length self.old.world.mesh) (event_of e.now) }
+        ensures kept { AreKept self.new }
+        ensures world { self.new.world ≡ self.old.world }
+        ensures ready { OnOk result (IsReadyFor (event_of e.now) self.new.world self.new) }
+    {
+        match *e {
+            Event::Give { node, .. } => make_place(&mut self.nodes, node),
+            Event::Turn { node } => {
+                let front = front_at(&self.world, node);
+                self.ready_node(node, front)
+            }
+            Event::Send { node, .. } => self.ready_node(node, Front::New),
+            Event::Ask { node, .. } => self.ready_node(node, Front::New),
+            Event::Deliver { id } => self.ready_copy(id),
+            Event::Double { id } => self.ready_double(id),
+            Event::Link { .. } | Event::Cut { .. } | Event::Lose { .. } => Ok(()),
         }
+    }
+
+    // The lists follow a turn of node x.
+    fn follow_turn(&mut self, alloc: Global, x: usize, done: &Done, out: &Packet)
+        requires { HasDone (model.Turn x) self.old done.now out.now.items }
+        ensures kept { AreKept self.new }
+        ensures world { self.new.world ≡ self.old.world }
+    {
+        if is_idle(done) {
+            return;
+        }
+        let front = self.hand.front;
+        let first = self.hand.first;
         let end = self.world.radio().next_id();
         let lists = &mut self.nodes[x];
         take_front(lists, &self.world, &mut self.hand, x, front);
@@ -88,126 +155,92 @@ impl Parts {
             let list = list_for(alloc, &mut self.hand, lists, x, front, &self.world, out);
             self.casts.push_reserved(Cast { first, end, list });
         }
-        Ok(done)
     }
 
-    /// Node x sends a datum, or asks for a route.
-    pub fn own(
-        &mut self,
-        alloc: Global,
-        e: &Event<'_>,
-        x: usize,
-        out: &mut Packet,
-    ) -> Result<Done, StepError>
-        requires kept { AreKept self.old }
-        requires event { IsEvent (length self.old.world.mesh) (event_of e.now) }
-        requires own { IsOwnOf x (event_of e.now) }
-        requires few { self.old.world.steps < 2 ^ 48 }
-        ensures done { IsDoneTo (event_of e.now) self.old result self.new out.new.items }
+    // The lists follow what node x has sent or asked of its own accord.
+    fn follow_own(&mut self, alloc: Global, x: usize, out: &Packet)
+        requires { (e : model.Event) × (did : Done) × IsOwnOf x e
+            × HasDone e self.old did out.now.items }
+        ensures kept { AreKept self.new }
+        ensures world { self.new.world ≡ self.old.world }
     {
-        self.make_room()?;
-        let lists = &self.nodes[x];
-        ready_hand(&mut self.hand, lists, x, Front::New)?;
-        let first = self.world.radio().next_id();
-        let done = self.world.step(alloc, e, out)?;
+        let first = self.hand.first;
         let end = self.world.radio().next_id();
         if first < end {
             let lists = &self.nodes[x];
-            let list = list_for(
-                alloc,
-                &mut self.hand,
-                lists,
-                x,
-                Front::New,
-                &self.world,
-                out,
-            );
+            let front = Front::New;
+            let list = list_for(alloc, &mut self.hand, lists, x, front, &self.world, out);
             self.casts.push_reserved(Cast { first, end, list });
         }
-        Ok(done)
     }
 
-    /// A datum for `dest` is given to node x.
-    pub fn give(
-        &mut self,
-        alloc: Global,
-        x: usize,
-        dest: usize,
-        body: &[u8],
-        out: &mut Packet,
-    ) -> Result<Done, StepError>
-        requires kept { AreKept self.old }
-        requires node { x < length self.old.world.mesh }
-        requires dest { dest < length self.old.world.mesh }
-        requires datum { IsDatum body.now }
-        requires few { self.old.world.steps < 2 ^ 48 }
-        ensures done { let event = model.Give x dest body.now in
-            IsDoneTo event self.old result self.new out.new.items }
+    // The lists follow a datum that is given to node x.
+    fn follow_give(&mut self, alloc: Global, x: usize, done: &Done)
+        requires { (dest : ℕ) × (body : List ℕ) × (packet : List ℕ)
+            × HasDone (model.Give x dest body) self.old done.now packet }
+        ensures kept { AreKept self.new }
+        ensures world { self.new.world ≡ self.old.world }
     {
-        make_place(&mut self.nodes, x)?;
-        let e = Event::Give {
-            node: x,
-            dest,
-            body,
-        };
-        let done = self.world.step(alloc, &e, out)?;
-        if !is_idle(&done) {
-            push_list(&mut self.nodes, x, Walk::new(alloc));
+        if is_idle(done) {
+            return;
         }
-        Ok(done)
+        push_list(&mut self.nodes, x, Walk::new(alloc));
     }
 
-    /// The copy of this id comes to its receiver, and its list with it.
-    pub fn deliver(&mut self, alloc: Global, id: u64, out: &mut Packet) -> Result<Done, StepError>
-        requires kept { AreKept self.old }
-        requires few { self.old.world.steps < 2 ^ 48 }
-        ensures done { IsDoneTo (model.Deliver id) self.old result self.new out.new.items }
+    // The lists follow a copy that has come to its receiver.
+    fn follow_copy(&mut self, alloc: Global, done: &Done)
+        requires { (id : ℕ) × (packet : List ℕ)
+            × HasDone (model.Deliver id) self.old done.now packet }
+        ensures kept { AreKept self.new }
+        ensures world { self.new.world ≡ self.old.world }
     {
-        let e = Event::Deliver { id };
-        let Some(copy) = self.world.radio().find(id) else {
-            return self.world.step(alloc, &e, out);
-        };
-        let to = copy.to;
-        let mut list = std::mem::replace(&mut self.hand.taken, Walk::new(alloc));
-        list.copy(find(self.casts.as_slice(), id))?;
-        make_place(&mut self.nodes, to)?;
-        let done = self.world.step(alloc, &e, out)?;
-        if is_heard(&done) {
-            push_list(&mut self.nodes, to, list);
+        if !is_heard(done) {
+            return;
         }
-        Ok(done)
+        let to = self.hand.to;
+        let list = std::mem::replace(&mut self.hand.taken, Walk::new(alloc));
+        push_list(&mut self.nodes, to, list);
     }
 
-    /// The copy of this id is doubled, and its list with it.
-    pub fn double(&mut self, alloc: Global, id: u64, out: &mut Packet) -> Result<Done, StepError>
-        requires kept { AreKept self.old }
-        requires few { self.old.world.steps < 2 ^ 48 }
-        ensures done { IsDoneTo (model.Double id) self.old result self.new out.new.items }
+    // The lists follow a copy that is doubled.
+    fn follow_double(&mut self, alloc: Global)
+        requires { (id : ℕ) × (did : Done) × (packet : List ℕ)
+            × HasDone (model.Double id) self.old did packet }
+        ensures kept { AreKept self.new }
+        ensures world { self.new.world ≡ self.old.world }
     {
-        self.make_room()?;
-        let list = Walk::copy_of(alloc, find(self.casts.as_slice(), id))?;
-        let first = self.world.radio().next_id();
-        let done = self.world.step(alloc, &Event::Double { id }, out)?;
+        let first = self.hand.first;
         let end = self.world.radio().next_id();
         if first < end {
+            let list = std::mem::replace(&mut self.hand.taken, Walk::new(alloc));
             self.casts.push_reserved(Cast { first, end, list });
         }
-        Ok(done)
     }
 
-    /// A link comes to stand or falls, or a copy is lost.
-    pub fn pass(
+    /// The lists follow what the world has answered to an event for which they were made ready.
+    pub fn follow(
         &mut self,
         alloc: Global,
         e: &Event<'_>,
-        out: &mut Packet,
-    ) -> Result<Done, StepError>
-        requires kept { AreKept self.old }
-        requires event { IsEvent (length self.old.world.mesh) (event_of e.now) }
-        requires still { MovesNothing (event_of e.now) }
-        requires few { self.old.world.steps < 2 ^ 48 }
-        ensures done { IsDoneTo (event_of e.now) self.old result self.new out.new.items }
+        answer: &Result<Done, StepError>,
+        out: &Packet,
+    )
+        requires { HasAnswered (event_of e.now) self.old answer.now out.now.items }
+        ensures kept { AreKept self.new }
+        ensures world { self.new.world ≡ self.old.world }
+        ensures number { FillsNumber answer.now }
     {
-        self.world.step(alloc, e, out)
+        let Ok(done) = answer else {
+            return;
+        };
+        match *e {
+            Event::Give { node, .. } => self.follow_give(alloc, node, done),
+            Event::Turn { node } => self.follow_turn(alloc, node, done, out),
+            Event::Send { node, .. } => self.follow_own(alloc, node, out),
+            Event::Ask { node, .. } => self.follow_own(alloc, node, out),
+            Event::Deliver { .. } => self.follow_copy(alloc, done),
+            Event::Double { .. } => self.follow_double(alloc),
+            Event::Link { .. } | Event::Cut { .. } | Event::Lose { .. } => {}
+        }
     }
 }

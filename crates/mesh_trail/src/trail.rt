@@ -7,6 +7,7 @@ ghost use Rattle.mesh_world.specs.Seen.{WorldSeen, IsSoundWorld, opening};
 ghost use Rattle.mesh_world.specs.Steps.{IsStep};
 ghost use Rattle.mesh_trail.specs.Walks.{IsRouteWalk, FillsNumber};
 
+use crate::heard::Front;
 use crate::lists::{Hand, blank_lists};
 use crate::parts::{LYING, Parts};
 use crate::walk::{Room, Walk};
@@ -70,6 +71,9 @@ impl Steps for Trail {
             told: Walk::new(alloc),
             taken: Walk::new(alloc),
             room: Room::new(alloc),
+            front: Front::Empty,
+            to: 0,
+            first: 0,
         };
         let parts = Parts {
             world,
@@ -81,6 +85,7 @@ impl Steps for Trail {
         Ok(Trail { parts })
     }
 
+    #[inline(always)]
     fn step(&mut self, alloc: Global, e: &Event<'_>, out: &mut Packet) -> Result<Done, StepError>
         requires event { IsEvent (length self.old.mesh) (event_of e.now) }
         requires few { self.old.steps < 2 ^ 48 }
@@ -88,17 +93,10 @@ impl Steps for Trail {
         ensures sound { IsSoundWorld self.new }
         ensures number { FillsNumber result }
     {
-        match *e {
-            Event::Give { node, dest, body } => self.parts.give(alloc, node, dest, body, out),
-            Event::Turn { node } => self.parts.turn(alloc, node, out),
-            Event::Send { node, .. } => self.parts.own(alloc, e, node, out),
-            Event::Ask { node, .. } => self.parts.own(alloc, e, node, out),
-            Event::Deliver { id } => self.parts.deliver(alloc, id, out),
-            Event::Double { id } => self.parts.double(alloc, id, out),
-            Event::Link { .. } | Event::Cut { .. } | Event::Lose { .. } => {
-                self.parts.pass(alloc, e, out)
-            }
-        }
+        self.parts.ready(e)?;
+        let answer = self.parts.world.step(alloc, e, out);
+        self.parts.follow(alloc, e, &answer, out);
+        answer
     }
 
     fn world(&self) -> &World {

@@ -31,15 +31,6 @@ impl Walk {
         }
     }
 
-    /// These nodes.
-    pub fn copy_of(alloc: Global, nodes: &[usize]) -> Result<Walk, NoMemory>
-        ensures { IfOk result (λ w. w ≡ nodes.now) }
-    {
-        let mut copy = Vec::with_capacity(alloc, nodes.len())?;
-        copy.extend_from_slice(nodes)?;
-        Ok(Walk { nodes: copy })
-    }
-
     /// These nodes, in the memory that the list has. What it is where there is too little is left
     /// open.
     pub fn copy(&mut self, nodes: &[usize]) -> Result<(), NoMemory>
