@@ -1,5 +1,5 @@
 -- The lists of a node, among those of all nodes.
-use Rattle.std.proofs.Common.{◌≡◌, ℕ, ◌<◌, Bool, true, false, ◌==◌, List, [], ◌∷◌, map, length, Option, Some, Result, Ok, Err, refl, sym, ap, subst, ◌∙◌, arith}
+use Rattle.std.proofs.Common.{◌≡◌, ℕ, ◌<◌, Bool, true, false, ◌==◌, List, [], ◌∷◌, map, length, Option, Some, Ok, refl, sym, ap, ◌∙◌, arith}
 use Rattle.std.specs.Prelude.{slice_get, slice_set, slice_index_or, reverse, if◌then◌else◌}
 use Rattle.std.specs.List.{AllByRecursion}
 use Rattle.std.specs.Global.{Vec}
@@ -14,7 +14,6 @@ use Rattle.mesh_base.specs.declared.events.Done.{Done}
 use Rattle.mesh_world.proofs.Frames.{each_get, each_set, set_got}
 use Rattle.mesh_world.specs.Seen.{WorldSeen, IsSoundWorld}
 use Rattle.mesh_world.specs.Steps.{IsStep}
-use Rattle.mesh_world.specs.declared.steps.StepError.{StepError}
 use Rattle.mesh_walks.specs.Kept.{Kept, walked, walked_by, changed_at}
 use Rattle.mesh_trail.specs.Lists.{row}
 use Rattle.mesh_trail.specs.Casts.{list_of}
@@ -22,7 +21,6 @@ use Rattle.mesh_trail.specs.Steps.{MovesNothing}
 use Rattle.mesh_trail.specs.Trails.{AreWalks, kept, rows_of, queue_of}
 use Rattle.mesh_trail.specs.declared.lists.NodeLists.{NodeLists}
 use Rattle.mesh_trail.specs.declared.casts.Cast.{Cast}
-use Rattle.mesh_trail.specs.declared.parts.Parts.{Parts}
 use Rattle.mesh_trail.proofs.Moves.{AreFlying, IsAfter, after_done, goes_on, holds_so, no_cast}
 use Rattle.mesh_trail.proofs.Ways.{IsQuiet, quiet_next}
 

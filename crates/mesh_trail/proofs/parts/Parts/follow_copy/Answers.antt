@@ -1,4 +1,4 @@
-use Rattle.std.proofs.Common.{◌≡◌, ℕ, ◌<◌, List, true, false, length, sym, subst, ◌∙◌}
+use Rattle.std.proofs.Common.{ℕ, ◌<◌, length, sym, subst, ◌∙◌}
 use Rattle.mesh_trail.specs.Lists.{HasPlace, IsPushed}
 use Rattle.mesh_trail.proofs.Arrivals.{heard, heard_flew, receiver_below, unheard}
 use Rattle.mesh_trail.proofs.Nodes.{is_there}

@@ -1,4 +1,4 @@
-use Rattle.std.proofs.Common.{◌≡◌, List, ℕ, sym, subst}
+use Rattle.std.proofs.Common.{List, ℕ, sym, subst}
 use Rattle.mesh_trail.specs.Lists.{IsPushed}
 use Rattle.mesh_trail.proofs.Arrivals.{given}
 use Rattle.mesh_trail.proofs.parts.Parts.follow_give.Goals as goal

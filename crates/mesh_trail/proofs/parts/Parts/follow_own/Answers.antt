@@ -1,4 +1,4 @@
-use Rattle.std.proofs.Common.{◌≡◌, ◌<◌, ◌≤◌, sym, ap, ◌∙◌, arith}
+use Rattle.std.proofs.Common.{◌≡◌, ◌<◌, ◌≤◌, ap, ◌∙◌, arith}
 use Rattle.mesh_base.specs.Meshes.{Nodes}
 use Rattle.aodv_meaning.specs.Meaning.{meaning}
 use Rattle.mesh_trail.specs.Said.{said_of}
