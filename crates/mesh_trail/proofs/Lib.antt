@@ -9,4 +9,5 @@ pub mod Arrivals
 pub mod Sends
 pub mod Turns
 pub mod Starts
+pub mod Known
 pub mod Readiness

@@ -18,7 +18,7 @@ cast_in : (w v : WorldSeen) (p : Parts) → IsCastReady w p → IsCastReady w (r
 cast_in w v p r = record { room = r.room; first = r.first }
 
 node_in : (x : ℕ) (front : Front) (w v : WorldSeen) (p : Parts) → IsNodeReady x front w p → IsNodeReady x front w (record p { world = v })
-node_in x front w v p r = record { node = r.node; inside = r.inside; waits = r.waits; lists = r.lists; cast = cast_in w v p r.cast }
+node_in x front w v p r = record { node = r.node; inside = r.inside; waits = r.waits; lists = r.lists; known = r.known; cast = cast_in w v p r.cast }
 
 copy_in : (id to : ℕ) (v : WorldSeen) (p : Parts) → IsCopyReady id to p → IsCopyReady id to (record p { world = v })
 copy_in id to v p r = record { receiver = r.receiver; list = r.list; place = r.place }

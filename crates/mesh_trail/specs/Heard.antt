@@ -2,6 +2,7 @@
 use Rattle.std.specs.Prelude.{ℕ, ◌+◌, ◌<◌, ◌==◌, Bool, false, ◌&&◌, Option, Some, None, List, [], ◌∷◌, ⊤}
 use Rattle.std.specs.FinMap as maps
 use Rattle.aodv_entry.specs.declared.entry.Entry.{Entry}
+use Rattle.aodv_entry.specs.Quality.{is_val}
 use Rattle.aodv_model.specs.Tables.{Table}
 use Rattle.aodv_model.specs.Cores.{Item, New, Heard}
 use Rattle.mesh_model.specs.Worlds.{Node}
@@ -31,6 +32,17 @@ IsFrontIn size (fronts.Heard from said) = (from < size) × IsSaidIn size said
 abbrev pub leads_to : ℕ → Option Entry → Bool
 leads_to y None = false
 leads_to y (Some e) = (e.hops == 1) && (e.next == y)
+
+-- the entry is valid, and leads to the neighbour y itself
+abbrev pub is_known : ℕ → Option Entry → Bool
+is_known y None = false
+is_known y (Some e) = is_val e.flag && ((e.hops == 1) && (e.next == y))
+
+-- what waits is of a neighbour to whom the table has a valid route of one hop
+abbrev pub knows : Table → front.Front → Bool
+knows rt fronts.Empty = false
+knows rt fronts.New = false
+knows rt (fronts.Heard y s) = is_known y (maps.get rt y)
 
 -- the entry, if there is one, has this number, a hop more than h, and leads by y
 abbrev pub tells : ℕ → ℕ → ℕ → Option Entry → Bool

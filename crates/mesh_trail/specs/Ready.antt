@@ -12,7 +12,7 @@ use Rattle.mesh_trail.specs.declared.lists.NodeLists.{NodeLists}
 use Rattle.mesh_trail.specs.declared.parts.Parts.{Parts}
 use Rattle.mesh_trail.specs.Heard.{IsFrontIn, front_of}
 use Rattle.mesh_trail.specs.Lists.{HasPlace}
-use Rattle.mesh_trail.specs.Steps.{IsReady, front_list}
+use Rattle.mesh_trail.specs.Steps.{IsReady, KnowsNear, front_list}
 use Rattle.mesh_trail.specs.Casts.{list_of}
 use Rattle.mesh_trail.specs.Trails.{AreWalks}
 
@@ -27,6 +27,7 @@ pub record IsNodeReady (x : ℕ) (front : Front) (w : WorldSeen) (p : Parts) : T
   pub inside : IsFrontIn (length w.mesh) front
   pub waits : (p.hand).front ≡ front
   pub lists : (n : NodeLists) → slice_get (p.nodes).items x ≡ Some n → IsReady x front (n.entries).items (front_list (n.queue).items) p.hand
+  pub known : (n : NodeLists) → slice_get (p.nodes).items x ≡ Some n → KnowsNear front p.hand (n.entries).items
   pub cast : IsCastReady w p
 
 -- the list of a copy is at hand, and room for it beside the queue of its receiver

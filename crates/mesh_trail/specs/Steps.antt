@@ -48,6 +48,12 @@ IsReady x fronts.Empty rows l hand = 1 ≤ hand.room
 IsReady x fronts.New rows l hand = 1 ≤ hand.room
 IsReady x (fronts.Heard y s) rows l hand = IsInHand x y s rows l hand
 
+-- if the list of the neighbour's entry is known to be that of the two nodes, it is
+abbrev pub KnowsNear : Front → Hand → List (List ℕ) → Type 0
+KnowsNear fronts.Empty hand rows = ⊤
+KnowsNear fronts.New hand rows = ⊤
+KnowsNear (fronts.Heard y s) hand rows = hand.known ≡ true → row rows y ≡ hand.near
+
 -- there is room for the list of whatever it casts
 abbrev pub HasRoomFor : ℕ → Front → List (List ℕ) → List ℕ → ℕ → Type 0
 HasRoomFor x front rows l room = (cast : Said) → length (sent_after x front rows l cast) ≤ room

@@ -6,7 +6,7 @@ ghost use Rattle.mesh_model.specs.Walks.{table};
 ghost use Rattle.mesh_trail.specs.Said.{said_of};
 ghost use Rattle.mesh_trail.specs.Heard.{IsFrontIn};
 ghost use Rattle.mesh_trail.specs.Lists.{row, list_in, sent_list};
-ghost use Rattle.mesh_trail.specs.Steps.{IsReady, FitsReply, HasRoomFor, front_list, rows_after, sent_after};
+ghost use Rattle.mesh_trail.specs.Steps.{IsReady, KnowsNear, FitsReply, HasRoomFor, front_list, rows_after, sent_after};
 
 use crate::heard::{Front, lesson_at};
 use crate::lists::{Hand, NodeLists, learn};
@@ -79,6 +79,7 @@ pub(crate) fn take_front(
     requires node { x < length world.now.mesh }
     requires rows { length lists.old.entries.items ≡ length world.now.mesh }
     requires front { IsFrontIn (length world.now.mesh) front }
+    requires known { KnowsNear front hand.old lists.old.entries.items }
     ensures taken { hand.new.taken ≡ front_list lists.old.queue.items }
     ensures queue { lists.new.queue.items ≡ drop 1 lists.old.queue.items }
     ensures rows { let rt = table world.now.world x in let old = lists.old.entries.items in

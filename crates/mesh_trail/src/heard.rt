@@ -2,10 +2,10 @@
 ghost use Rattle.std.specs.Prelude.{◌≡◌, ◌<◌, ◌≤◌, Option, length, slice_get};
 ghost use Rattle.mesh_model.specs.Walks.{table};
 ghost use Rattle.mesh_trail.specs.Said.{IsSaidIn};
-ghost use Rattle.mesh_trail.specs.Heard.{front_of, IsFrontIn, leads_to, tells, lesson_of};
+ghost use Rattle.mesh_trail.specs.Heard.{front_of, IsFrontIn, leads_to, is_known, knows, tells, lesson_of};
 
 use crate::said::{Said, read_said};
-use aodv_entry::Entry;
+use aodv_entry::{Entry, Flag};
 use mesh_base::Item;
 use mesh_world::World;
 
@@ -57,6 +57,28 @@ fn is_near(entry: Option<Entry>, from: usize) -> bool
     }
 }
 
+// Whether the entry is a valid route to the neighbour itself.
+fn is_known(entry: Option<Entry>, from: usize) -> bool
+    ensures { result ≡ is_known from entry }
+{
+    match entry {
+        Some(e) => e.flag == Flag::Val && (e.hops == 1 && e.next == from),
+        None => false,
+    }
+}
+
+/// Whether what waits at node x is of a neighbour to whom the node has a valid route of one hop.
+pub(crate) fn knows(world: &World, x: usize, front: Front) -> bool
+    requires node { x < length world.now.mesh }
+    requires front { IsFrontIn (length world.now.mesh) front }
+    ensures { result ≡ knows (table world.now.world x) front }
+{
+    match front {
+        Front::Empty | Front::New => false,
+        Front::Heard { from, .. } => is_known(world.node(x).entry(from), from),
+    }
+}
+
 // Whether the entry is the route that a neighbour told of, with this number and so many hops there.
 fn is_told(entry: Option<Entry>, from: usize, number: u32, hops: u8) -> bool
     ensures { result ≡ tells from number hops entry }
@@ -73,6 +95,7 @@ pub(crate) fn lesson_at(world: &World, x: usize, from: usize, said: Said) -> Les
     requires from { from < length world.now.mesh }
     requires said { IsSaidIn (length world.now.mesh) said }
     ensures value { result ≡ lesson_of (table world.now.world x) from said }
+    ensures same { result.from ≡ from }
     ensures from { result.from < length world.now.mesh }
     ensures dest { result.dest < length world.now.mesh }
 {

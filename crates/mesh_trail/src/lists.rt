@@ -1,7 +1,7 @@
 //! The lists of one node.
-ghost use Rattle.std.specs.Prelude.{◌≡◌, ◌<◌, [], length, slice_set, IfOk, OnOk};
+ghost use Rattle.std.specs.Prelude.{◌≡◌, ◌<◌, [], true, length, slice_set, IfOk, OnOk};
 ghost use Rattle.std.specs.List.{AllByRecursion};
-ghost use Rattle.mesh_trail.specs.Lists.{IsBlank, IsRoomed, HasPlace, IsPushed, learnt};
+ghost use Rattle.mesh_trail.specs.Lists.{IsBlank, IsRoomed, HasPlace, IsPushed, row, put, learnt};
 
 use crate::heard::{Front, Lesson};
 use crate::walk::{Room, Walk};
@@ -32,6 +32,8 @@ pub(crate) struct Hand {
     pub to: usize,
     /// The id of the next copy in flight.
     pub first: u64,
+    /// Whether the node's entry for its neighbour is known to have the list in `near`.
+    pub known: bool,
 }
 
 // No lists, one for each of so many nodes.
@@ -91,18 +93,31 @@ fn exchange(rows: &mut Vec<Walk>, d: usize, list: &mut Walk)
     std::mem::swap(row, list);
 }
 
+// The list of two in hand comes in place of that of the neighbour's entry, if it leads to the
+// neighbour itself and isn't known to have it.
+fn exchange_near(rows: &mut Vec<Walk>, lesson: Lesson, hand: &mut Hand)
+    requires from { lesson.from < length rows.old.items }
+    requires known { hand.old.known ≡ true → row rows.old.items lesson.from ≡ hand.old.near }
+    ensures rows { rows.new.items ≡ put lesson.near lesson.from hand.old.near rows.old.items }
+    ensures told { hand.new.told ≡ hand.old.told }
+    ensures room { hand.new.room ≡ hand.old.room }
+{
+    if lesson.near && !hand.known {
+        exchange(rows, lesson.from, &mut hand.near);
+    }
+}
+
 /// What a node keeps of a message that it heard: the list of the two nodes where its neighbour's
 /// entry leads to the neighbour itself, and the longer list where the entry of the destination is
 /// the route that was told. The lists that are replaced are left in hand.
 pub(crate) fn learn(rows: &mut Vec<Walk>, lesson: Lesson, hand: &mut Hand)
     requires from { lesson.from < length rows.old.items }
     requires dest { lesson.dest < length rows.old.items }
+    requires known { hand.old.known ≡ true → row rows.old.items lesson.from ≡ hand.old.near }
     ensures rows { rows.new.items ≡ learnt lesson hand.old.near hand.old.told rows.old.items }
     ensures room { hand.new.room ≡ hand.old.room }
 {
-    if lesson.near {
-        exchange(rows, lesson.from, &mut hand.near);
-    }
+    exchange_near(rows, lesson, hand);
     let taken = lesson.near && lesson.from == lesson.dest;
     if lesson.told && !taken {
         exchange(rows, lesson.dest, &mut hand.told);

@@ -14,7 +14,7 @@ ghost use Rattle.mesh_trail.specs.Ready.{IsNodeReady, IsReadyFor, HasDone, HasAn
 
 use crate::casts::{Cast, find, sweep};
 use crate::hands::{list_for, ready_hand, take_front};
-use crate::heard::{Front, front_at};
+use crate::heard::{Front, front_at, knows};
 use crate::lists::{Hand, NodeLists, make_place, push_list};
 use crate::walk::Walk;
 use mesh_base::{Done, Event, NoMemory, Packet};
@@ -80,6 +80,7 @@ impl Parts {
         self.make_room()?;
         let lists = &self.nodes[x];
         ready_hand(&mut self.hand, lists, x, front)?;
+        self.hand.known = knows(&self.world, x, front);
         self.hand.front = front;
         self.hand.first = self.world.radio().next_id();
         Ok(())

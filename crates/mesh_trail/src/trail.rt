@@ -74,6 +74,7 @@ impl Steps for Trail {
             front: Front::Empty,
             to: 0,
             first: 0,
+            known: false,
         };
         let parts = Parts {
             world,
