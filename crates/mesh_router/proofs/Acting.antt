@@ -1,6 +1,6 @@
 -- What a node does of its own accord is the router's, with what it casts sent to those in range.
-use Rattle.std.proofs.Common.{◌≡◌, ℕ, ◌<◌, ◌+◌, true, List, Option, None, Result, Ok, Err, length, sym, ap, ◌∙◌, subst, arith}
-use Rattle.std.specs.Prelude.{IfSome}
+use Rattle.std.proofs.Common.{◌≡◌, ℕ, ◌<◌, ◌+◌, ◌++◌, Bool, true, false, List, Option, Some, None, Result, Ok, Err, length, refl, sym, ap, ◌∙◌, subst, arith}
+use Rattle.std.specs.Prelude.{IfSome, ⊤}
 use Rattle.mesh_base.specs.Members.{NodeIds}
 use Rattle.mesh_base.specs.Meshes.{IsMesh}
 use Rattle.mesh_base.specs.declared.events.Counter.{Counter}
@@ -15,17 +15,18 @@ use Rattle.aodv_node.specs.Seen.{NodeSeen, IsSoundNode}
 use Rattle.mesh_meaning.specs.Answers.{IsCastWritten}
 use Rattle.mesh_grammar.specs.Written.{line}
 use Rattle.mesh_peers.specs.Peers.{PeersSeen}
-use Rattle.mesh_peers.specs.Lines.{Accepted, words_of}
+use Rattle.mesh_peers.specs.Lines.{Accepted, Nothing, Own, Peer, Up, Down, Give, Polls, Turns, Sends, Asks, Shows, words_of}
 use Rattle.mesh_router.specs.declared.stop.Stop.{Stop}
 use Rattle.mesh_router.specs.declared.stop.Stop.TheVariants as stop
-use Rattle.mesh_router.specs.Said.{Said, written, followed_by}
+use Rattle.mesh_router.specs.Said.{Said, nothing, written, followed_by}
 use Rattle.mesh_router.specs.Routers.{Router}
 use Rattle.mesh_router.specs.Casts.{effect_said}
-use Rattle.mesh_router.specs.Turns.{StepOutcome, Goes, said_before, act_of}
+use Rattle.mesh_router.specs.Turns.{StepOutcome, Goes, said_before, act_of, idle_line}
+use Rattle.mesh_router.specs.Lines.{step_of}
 use Rattle.mesh_router.specs.Told.{Outputs, Adds, AddsPrefix, IsFault, HasCauses, HasSinkCause}
 use Rattle.mesh_router.specs.Peers.{reached, code_said, act_said}
 use Rattle.mesh_router.specs.Runs.{said_in, IsStepRun}
-use Rattle.mesh_router.proofs.Saying.{adds-join}
+use Rattle.mesh_router.proofs.Saying.{adds-none, adds-join}
 use Rattle.mesh_router.proofs.Turning.{router_as, IsEffectMeant, effect_meant, said_effect, reached_is, after-said}
 
 -- ---- a send or a request
@@ -120,3 +121,51 @@ causes_of_sink a b c r h = record {
   write = h.write;
   send = λ is. absurd (h.link is);
 }
+
+-- ---- a send or a request that isn't done
+
+-- the line is idle
+pub act_idle : (p : PeersSeen) (node new : NodeSeen) (near : NodeIds) (heard sent dropped : ℕ) (words : List ℕ) (may : Bool) (full : Option Counter) (reaction : Reaction) (a b : Outputs)
+    → may ≡ false → new.core ≡ node.core → new ≡ record node { core = new.core } → Adds a b (written (line words ++ idle_line))
+    → IsStepRun (act_of (router_as p node near heard sent dropped) words may full reaction) a b (router_as p new near heard sent dropped) (Ok tt)
+act_idle p node new near heard sent dropped words may full reaction a b idle same others adds =
+    let r = router_as p node near heard sent dropped in
+    let queue : new.items ≡ node.items = ap (λ (n : NodeSeen). n.items) others in
+    let told = written (line words ++ idle_line) in
+    step_done _ (router_as p new near heard sent dropped) a b told
+    (ap (λ (k : Bool). act_of r words k full reaction) idle ∙ (λ i. Goes told (record r { core = sym same i; queue = sym queue i }))) adds
+
+-- a counter is full
+pub act_full : (r new : Router) (words : List ℕ) (may : Bool) (full : Option Counter) (reaction : Reaction) (field : Counter) (a : Outputs)
+    → may ≡ true → full ≡ Some field → IsStepRun (act_of r words may full reaction) a a new (Err (stop.Full field))
+act_full r new words may full reaction field a is e = record {
+  said = nothing;
+  is = ap (λ (k : Bool). act_of r words k full reaction) is ∙ ap (λ (o : Option Counter). act_of r words true o reaction) e;
+  adds = adds-none a;
+}
+
+-- ---- lines that are no commands
+
+abbrev pub IsSkipped : Accepted → Type 0
+IsSkipped Nothing = ⊤
+IsSkipped (Own a first) = ⊤
+IsSkipped (Peer a port) = ⊤
+IsSkipped (Polls count) = ⊤
+IsSkipped others = ⊥
+
+step_skips : (r : Router) (words : List ℕ) (l : Accepted) → IsSkipped l → step_of r words l ≡ Goes nothing r
+unfolding step_of
+step_skips r words Nothing is = refl
+step_skips r words (Own a first) is = refl
+step_skips r words (Peer a port) is = refl
+step_skips r words (Polls count) is = refl
+step_skips r words (Up x) is = absurd is
+step_skips r words (Down x) is = absurd is
+step_skips r words (Give dest body) is = absurd is
+step_skips r words (Turns count) is = absurd is
+step_skips r words (Sends d) is = absurd is
+step_skips r words (Asks d) is = absurd is
+step_skips r words Shows is = absurd is
+
+pub skipped : (r : Router) (words : List ℕ) (l : Accepted) (a : Outputs) → IsSkipped l → IsStepRun (step_of r words l) a a r (Ok tt)
+skipped r words l a is = step_done _ r a a nothing (step_skips r words l is) (adds-none a)

@@ -1,5 +1,7 @@
 -- Saying: what was written and sent, one after another.
 pub mod Saying
+-- Memory: a call is short of memory where one that it makes is.
+pub mod Memory
 -- Peers: ports, and sets of peers.
 pub mod Peers
 -- Finds: what calls that receive have found.

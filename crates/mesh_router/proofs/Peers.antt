@@ -84,10 +84,6 @@ all_counted s n i count le none e = e ∙ ap (λ (l : List ℕ). length l) (sym 
 abbrev pub port_line : Nodes → ℕ → ℕ → List ℕ
 port_line mesh x port = line (codes "  to " ++ name_of mesh x ++ 32 ∷ decimal port)
 
--- the line that says that a packet goes to a peer
-pub to_text : (p : PeersSeen) (packet : List ℕ) (x port : ℕ) (mesh : Nodes) (text : List ℕ) → port_of p x ≡ Some port → mesh ≡ p.mesh → text ≡ port_line mesh x port → text ≡ (sent_to p packet x).text
-to_text p packet x port mesh text has m is = is ∙ ap (λ (k : Nodes). port_line k x port) m ∙ ap (port_line p.mesh x) (sym (port_is p x port has))
-
 -- what is written of an effect
 pub effect_is : (mesh : Nodes) (x : ℕ) (t : Option (Bor Took)) (e : Effect) (packet : List ℕ) → effect_text mesh x t e packet ≡ code_text mesh x (option_map (λ b. b.now) t) e packet
 effect_is mesh x None e packet = refl

@@ -1,6 +1,6 @@
 -- What is done with datagrams that were received.
-use Rattle.std.proofs.Common.{◌≡◌, ◌≢◌, ℕ, suc, ◌<◌, Bool, true, false, List, [], ◌∷◌, ◌++◌, Option, Some, None, Result, Ok, Err, length, refl, sym, ap, ◌∙◌, subst, get_or}
-use Rattle.std.specs.Prelude.{if◌then◌else◌, ◌==◌, IfSome, IfErr}
+use Rattle.std.proofs.Common.{◌≡◌, ◌≢◌, ℕ, suc, ◌<◌, Bool, true, false, List, [], ◌∷◌, ◌++◌, Option, Some, None, Result, Ok, Err, length, refl, sym, ap, ◌∙◌, subst, get_or, append_assoc}
+use Rattle.std.specs.Prelude.{is_some, if◌then◌else◌, ◌==◌, IfSome, IfErr}
 use Rattle.std.specs.List.{position}
 use Rattle.std.specs.Result.{IsErr}
 use Rattle.std.specs.Io.KnownBytes.{Appends}
@@ -15,9 +15,10 @@ use Rattle.mesh_router.specs.declared.stop.Stop.TheVariants as stop
 use Rattle.mesh_router.specs.Said.{Said, nothing, written, followed_by}
 use Rattle.mesh_router.specs.Routers.{Router}
 use Rattle.mesh_router.specs.Finds.{Find, next_find, later_finds, AreNext, left_after, AreFound}
-use Rattle.mesh_router.specs.Polls.{Polled, polled, polled_by, polls_of, found_next, found_text, datagram_next, datagram_said, none_line}
+use Rattle.mesh_router.specs.Polls.{Polled, polled, polled_by, polls_of, found_next, found_text, datagram_next, datagram_text, datagram_said, none_line}
 use Rattle.mesh_router.specs.Told.{Outputs, Adds, AddsPrefix}
 use Rattle.mesh_router.specs.Runs.{IsTaken, IsFoundOne, IsFoundNone, IsPolled, IsPolledInPart, IsPollStep, IsPollRun, IsPollLine, IsNotFull}
+use Rattle.mesh_router.specs.Short.{IsPollShort}
 use Rattle.mesh_router.proofs.Saying.{said-assoc, said-nil, adds-none, adds-join, adds-text, prefix-none, prefix-join, prefix-more, prefix-text}
 use Rattle.mesh_router.proofs.Finds.{next-front, next-rest, left-join, found-none, found-join, Received}
 
@@ -105,7 +106,7 @@ poll_fault old new arrived left a b (Ok more) is p = absurd cc
 poll_fault old new arrived left a b (Err e) is p = p
 
 -- what is written of a datagram that was received
-received_text : (old : Router) (arrived left : Option (List Datagram)) (port : ℕ) (bytes : List ℕ) (f : Received arrived left port bytes) → found_text old port bytes (at_port old.peers port) ≡ (datagram_said old f.datagram).text
+received_text : (old : Router) (arrived left : Option (List Datagram)) (port : ℕ) (bytes : List ℕ) (f : Received arrived left port bytes) → found_text old port bytes (at_port old.peers port) ≡ datagram_text old f.datagram
 received_text old arrived left port bytes f =
     (λ i. found_text old (sym f.port_is i) (sym f.bytes_are i) (at_port old.peers (sym f.port_is i)))
 
@@ -120,7 +121,7 @@ received_told old new arrived left port bytes a b s t same f next text = record 
   datagram = f.datagram;
   taken = f.taken;
   next = next ∙ received_next old arrived left port bytes f;
-  adds = adds-text a b s t (datagram_said old f.datagram).text same (subst (λ (l : List ℕ). Appends a b l) (received_text old arrived left port bytes f) text);
+  adds = adds-text a b s t (datagram_text old f.datagram) same (subst (λ (l : List ℕ). Appends a b l) (received_text old arrived left port bytes f) text);
 }
 
 -- it was told in part
@@ -128,7 +129,7 @@ pub received_in_part : (others : ℕ) (old : Router) (arrived left : Option (Lis
     → AppendsPrefix a b (found_text old port bytes (at_port old.peers port)) → IsPolledInPart (suc others) old arrived left (a, s) (b, t)
 received_in_part others old arrived left port bytes a b s t same f text =
     one_polled others old f.datagram arrived left (a, s) (b, t) f.taken
-    (prefix-text a b s t (datagram_said old f.datagram) same (subst (λ (l : List ℕ). AppendsPrefix a b l) (received_text old arrived left port bytes f) text))
+    (prefix-text a b s t (datagram_text old f.datagram) same (subst (λ (l : List ℕ). AppendsPrefix a b l) (received_text old arrived left port bytes f) text))
 
 -- ---- some calls, one after another
 
@@ -251,3 +252,24 @@ poll_line count words old new arrived left a b c (Ok u) p q full = record {
 }
 poll_line count words old new arrived left a b c (Err e) p q full =
     (full, record { found = q.found; taken = q.taken; told = λ finds are. prefix-join a b c (written (line words)) (polls_of count old finds).said p (q.told finds are) })
+
+-- ---- where memory is short
+
+-- the datagram of a peer was received first
+pub short_one : (p : PeersSeen) (arrived left : Option (List Datagram)) (port : ℕ) (bytes : List ℕ) → Received arrived left port bytes → is_some (at_port p port) ≡ true → IsPollShort p arrived left
+short_one p arrived left port bytes f is = record {
+  before = [];
+  datagram = f.datagram;
+  taken = f.taken;
+  peer = subst (λ (n : ℕ). is_some (at_port p n) ≡ true) (sym f.port_is) is;
+}
+
+-- or after others
+pub short_later : (count rest : ℕ) (old mid : Router) (x y z : Option (List Datagram)) (a b : Outputs) → ArePolled count rest old mid x y a b → mid.peers ≡ old.peers → IsPollShort mid.peers y z → IsPollShort old.peers x z
+short_later count rest old mid x y z a b p same q = record {
+  before = p.found ++ q.before;
+  datagram = q.datagram;
+  taken = subst (AreFound x z) (sym (append_assoc p.found q.before (Some q.datagram ∷ [])))
+      (found-join x y z p.found (q.before ++ Some q.datagram ∷ []) p.taken q.taken);
+  peer = subst (λ (k : PeersSeen). is_some (at_port k (q.datagram).port) ≡ true) same q.peer;
+}

@@ -6,9 +6,9 @@ use Rattle.std.specs.Result.{IsErr}
 use Rattle.mesh_io.specs.Cause.{Rose}
 use Rattle.mesh_io.specs.Puts.{AppendsPrefix}
 use Rattle.mesh_io.proofs.Writing.{Appends-join, Appends-none}
-use Rattle.mesh_link.specs.Datagrams.{Datagram, datagram}
+use Rattle.mesh_link.specs.Datagrams.{Datagram}
 use Rattle.mesh_router.specs.declared.stop.Stop.{Stop}
-use Rattle.mesh_router.specs.Said.{Said, nothing, written, followed_by}
+use Rattle.mesh_router.specs.Said.{Said, Byte, Sent, nothing, written, followed_by, text_of, sent_of}
 use Rattle.mesh_router.specs.Told.{Outputs, SendsAll, Adds, AddsPrefix, Says, HasCauses}
 
 -- ---- what is said
@@ -17,13 +17,55 @@ pub said-nil-left : (a : Said) → followed_by nothing a ≡ a
 said-nil-left a = refl
 
 pub said-nil : (a : Said) → followed_by a nothing ≡ a
-said-nil a = λ i. record { text = append-nil a.text i; sent = append-nil a.sent i }
+said-nil a = append-nil a
 
 pub said-assoc : (a b c : Said) → followed_by (followed_by a b) c ≡ followed_by a (followed_by b c)
-said-assoc a b c = λ i. record { text = append_assoc a.text b.text c.text i; sent = append_assoc a.sent b.sent c.sent i }
+said-assoc a b c = append_assoc a b c
 
 pub written-append : (a b : List ℕ) → written (a ++ b) ≡ followed_by (written a) (written b)
-written-append a b = refl
+unfolding written
+written-append [] b = refl
+written-append (c ∷ cs) b = ap (λ (s : Said). Byte c ∷ s) (written-append cs b)
+
+-- ---- its text and its datagrams
+
+text-none : text_of nothing ≡ []
+unfolding text_of
+text-none = refl
+
+sent-none : sent_of nothing ≡ []
+unfolding sent_of
+sent-none = refl
+
+text-join : (a b : Said) → text_of (followed_by a b) ≡ text_of a ++ text_of b
+unfolding text_of
+text-join [] b = refl
+text-join (Byte c ∷ more) b = ap (λ (l : List ℕ). c ∷ l) (text-join more b)
+text-join (Sent d ∷ more) b = text-join more b
+
+sent-join : (a b : Said) → sent_of (followed_by a b) ≡ sent_of a ++ sent_of b
+unfolding sent_of
+sent-join [] b = refl
+sent-join (Byte c ∷ more) b = sent-join more b
+sent-join (Sent d ∷ more) b = ap (λ (l : List Datagram). d ∷ l) (sent-join more b)
+
+text-written : (text : List ℕ) → text_of (written text) ≡ text
+unfolding text_of written
+text-written [] = refl
+text-written (c ∷ cs) = ap (λ (l : List ℕ). c ∷ l) (text-written cs)
+
+sent-written : (text : List ℕ) → sent_of (written text) ≡ []
+unfolding sent_of written
+sent-written [] = refl
+sent-written (c ∷ cs) = sent-written cs
+
+text-sent : (d : Datagram) → text_of (Sent d ∷ []) ≡ []
+unfolding text_of
+text-sent d = refl
+
+sent-sent : (d : Datagram) → sent_of (Sent d ∷ []) ≡ d ∷ []
+unfolding sent_of
+sent-sent d = refl
 
 -- ---- datagrams
 
@@ -38,12 +80,15 @@ sends-join (Some old) b c xs ys p q = q ∙ ap (option_map (λ l. l ++ ys)) p �
 -- ---- both
 
 pub adds-none : (a : Outputs) → Adds a a nothing
-adds-none a = record { text = Appends-none a.0; sent = sends-none a.1 }
+adds-none a = record {
+  text = subst (λ (l : List ℕ). Appends a.0 a.0 l) (sym text-none) (Appends-none a.0);
+  sent = subst (λ (l : List Datagram). SendsAll a.1 a.1 l) (sym sent-none) (sends-none a.1);
+}
 
 pub adds-join : (a b c : Outputs) (x y : Said) → Adds a b x → Adds b c y → Adds a c (followed_by x y)
 adds-join a b c x y p q = record {
-  text = Appends-join a.0 b.0 c.0 x.text y.text (x.text ++ y.text) refl p.text q.text;
-  sent = sends-join a.1 b.1 c.1 x.sent y.sent p.sent q.sent;
+  text = Appends-join a.0 b.0 c.0 (text_of x) (text_of y) (text_of (followed_by x y)) (text-join x y) p.text q.text;
+  sent = subst (λ (l : List Datagram). SendsAll a.1 c.1 l) (sym (sent-join x y)) (sends-join a.1 b.1 c.1 (sent_of x) (sent_of y) p.sent q.sent);
 }
 
 pub adds-equal : (a b : Outputs) (x y : Said) → x ≡ y → Adds a b x → Adds a b y
@@ -84,29 +129,34 @@ says-fault a b x (Err e) is p = p
 -- ---- a text alone, and a datagram alone
 
 pub adds-text : (a b : Option (List ℕ)) (s t : Option (List Datagram)) (text : List ℕ) → t ≡ s → Appends a b text → Adds (a, s) (b, t) (written text)
-adds-text a b s t text same p = record { text = p; sent = same ∙ sends-none s }
+adds-text a b s t text same p = record {
+  text = subst (λ (l : List ℕ). Appends a b l) (sym (text-written text)) p;
+  sent = subst (λ (l : List Datagram). SendsAll s t l) (sym (sent-written text)) (same ∙ sends-none s);
+}
+
+pub adds-datagram : (a : Option (List ℕ)) (s t : Option (List Datagram)) (d : Datagram) → SendsAll s t (d ∷ []) → Adds (a, s) (a, t) (Sent d ∷ [])
+adds-datagram a s t d p = record {
+  text = subst (λ (l : List ℕ). Appends a a l) (sym (text-sent d)) (Appends-none a);
+  sent = subst (λ (l : List Datagram). SendsAll s t l) (sym (sent-sent d)) p;
+}
 
 -- a prefix of the text was written, and nothing was sent
-pub prefix-text : (a b : Option (List ℕ)) (s t : Option (List Datagram)) (said : Said) → t ≡ s → AppendsPrefix a b said.text → AddsPrefix (a, s) (b, t) said
-prefix-text a b s t said same p = record {
+pub prefix-text : (a b : Option (List ℕ)) (s t : Option (List Datagram)) (text : List ℕ) → t ≡ s → AppendsPrefix a b text → AddsPrefix (a, s) (b, t) (written text)
+prefix-text a b s t text same p = record {
   prefix = written p.prefix;
-  rest = record { text = p.rest; sent = said.sent };
-  whole = λ i. record { text = p.whole i; sent = said.sent };
+  rest = written p.rest;
+  whole = ap written p.whole ∙ written-append p.prefix p.rest;
   adds = adds-text a b s t p.prefix same p.grown;
 }
 
--- the text was written, and nothing was sent
-pub prefix-unsent : (a b : Option (List ℕ)) (s t : Option (List Datagram)) (said : Said) → t ≡ s → Appends a b said.text → AddsPrefix (a, s) (b, t) said
-prefix-unsent a b s t said same p = record {
-  prefix = written said.text;
-  rest = record { text = []; sent = said.sent };
-  whole = λ i. record { text = sym (append-nil said.text) i; sent = said.sent };
-  adds = adds-text a b s t said.text same p;
+-- the text was written, and nothing after it was sent
+pub prefix-unsent : (a b : Option (List ℕ)) (s t : Option (List Datagram)) (text : List ℕ) (others : Said) → t ≡ s → Appends a b text → AddsPrefix (a, s) (b, t) (followed_by (written text) others)
+prefix-unsent a b s t text others same p = record {
+  prefix = written text;
+  rest = others;
+  whole = refl;
+  adds = adds-text a b s t text same p;
 }
-
-pub adds-datagram : (a : Option (List ℕ)) (s t : Option (List Datagram)) (port : ℕ) (bytes : List ℕ) → t ≡ option_map (λ ds. ds ++ datagram port bytes ∷ []) s
-    → Adds (a, s) (a, t) (record { text = []; sent = datagram port bytes ∷ [] })
-adds-datagram a s t port bytes p = record { text = Appends-none a; sent = p }
 
 -- ---- causes
 

@@ -28,7 +28,7 @@ use Rattle.mesh_router.specs.Runs.{said_of, IsLineDone, IsLineFull, IsLineInPart
 use Rattle.mesh_router.specs.Output.{IsOutput, IsTold, IsScriptRun}
 use Rattle.mesh_router.proofs.Saying.{adds-join, prefix-none, prefix-join, prefix-more}
 use Rattle.mesh_router.proofs.Finds.{next-front, next-rest, next-self, found-none, found-join, told-next}
-use Rattle.mesh_router.proofs.Pieces.{pieces_at, pieces_none, BeginsWith, IsAhead, ahead}
+use Rattle.mesh_router.proofs.Pieces.{pieces_at, pieces_none, IsAhead, Begins, ahead}
 
 -- ---- one line
 
@@ -203,7 +203,7 @@ leads_end (Some script) (Some bytes) after given given' line m x y a b c s h tol
     script_run script x y a c s
     (h y c s (subst (λ (ps : List Piece). IsTold (run_from m ps) y y b c s) (sym none) (record { found = []; taken = found-none y; told = λ finds are. subst (λ (r : Run). IsOutput b c r s) (sym (run-nil m finds)) p })))
 
-refused_ahead : (given : ℕ) (bytes : List ℕ) (piece : Piece) (why : BadWhy) (script : List ℕ) (m : Moment) (x y : Option (List Datagram)) (a b c : Outputs) (s : NodeStatus) → BeginsWith piece (pieces_at given bytes) → ((finds : List Find) → outcome_of_piece m piece finds ≡ Refused why)
+refused_ahead : (given : ℕ) (bytes : List ℕ) (piece : Piece) (why : BadWhy) (script : List ℕ) (m : Moment) (x y : Option (List Datagram)) (a b c : Outputs) (s : NodeStatus) → Begins piece (pieces_at given bytes) → ((finds : List Find) → outcome_of_piece m piece finds ≡ Refused why)
     → Leads (Some script) (Some bytes) given m x y a b → IsOutput b c (refused_run m why) s → IsScriptRun script x a c s
 refused_ahead given bytes piece why script m x y a b c s begins e h p =
     script_run script x y a c s (h y c s (subst (λ (ps : List Piece). IsTold (run_from m ps) y y b c s) (sym begins.1) (told_refused m piece why begins.0 y b c s e p)))

@@ -1,5 +1,5 @@
 -- A turn of the node is the router's, with what it casts sent to those in range.
-use Rattle.std.proofs.Common.{◌≡◌, ℕ, suc, ◌<◌, ◌+◌, Bool, true, false, List, [], ◌∷◌, ◌++◌, Option, Some, None, Result, Ok, Err, length, refl, sym, ap, ◌∙◌, subst}
+use Rattle.std.proofs.Common.{◌≡◌, ℕ, suc, ◌<◌, ◌+◌, Bool, true, false, List, [], ◌∷◌, ◌++◌, Option, Some, None, Result, Ok, Err, length, refl, sym, ap, ◌∙◌, subst, inl, inr}
 use Rattle.std.specs.Prelude.{IfSome, ◌==◌, if◌then◌else◌}
 use Rattle.std.specs.List.{AllByRecursion}
 use Rattle.mesh_base.specs.Members.{NodeIds}
@@ -22,7 +22,7 @@ use Rattle.aodv_meaning.specs.Effects.{item_in, cast_of, effect_of}
 use Rattle.aodv_meaning.specs.Sent.{IsSent, IsPacket}
 use Rattle.aodv_meaning.proofs.Means.{sent_means, spelled_in}
 use Rattle.aodv_node.specs.Seen.{NodeSeen, IsItemAt, IsSoundNode}
-use Rattle.aodv_node.specs.Turned.{IsReadableItem, IsTaken, IsDropped, IsFullAt, taken_of}
+use Rattle.aodv_node.specs.Turned.{IsReadableItem, IsTaken, IsDropped, IsFullAt, IsShort, taken_of}
 use Rattle.aodv_node.specs.declared.answers.TurnDone as done
 use Rattle.mesh_meaning.specs.Packets.{packet_of}
 use Rattle.mesh_meaning.specs.Answers.{cast_in, effect_in, took_in, IsCastWritten, IsPacketInMesh}
@@ -39,7 +39,8 @@ use Rattle.mesh_router.specs.Turns.{TurnOutcome, StepOutcome, Goes, Stopped, sai
 use Rattle.mesh_router.specs.Told.{Outputs, Adds, AddsPrefix, IsFault}
 use Rattle.mesh_router.specs.Peers.{reached, code_said}
 use Rattle.mesh_router.specs.Runs.{said_by, said_in, IsTurnDone, IsTurnIdle, IsTurnFull, IsTurnRun, IsStepDone, IsStepFull, IsStepRun}
-use Rattle.mesh_router.proofs.Saying.{said-assoc, said-nil, adds-none, adds-join, prefix-join, prefix-more}
+use Rattle.mesh_router.specs.Short.{IsTurnShort, HoldsAfter, AreTurnsShort}
+use Rattle.mesh_router.proofs.Saying.{said-assoc, said-nil, written-append, adds-none, adds-join, prefix-join, prefix-more}
 
 -- what is seen of a router of these parts
 abbrev pub router_as : PeersSeen → NodeSeen → NodeIds → ℕ → ℕ → ℕ → Router
@@ -118,10 +119,12 @@ pub said_turn : (r : Router) (t : taken.Took) (e : effects.Effect) (effect : Eff
     → code_said r.peers r.range (r.core).ip (Some t) e out ≡ turn_said r took effect
 said_turn r t e effect took out m is =
     let mesh = (r.peers).mesh in
-    let front : Took → Effect → Said = λ k f. written (took_text mesh (r.core).ip k ++ datum_fate mesh (r.core).ip k f) in
-    let sent = written (broken_text mesh e.broken ++ cast_text mesh (cast_in mesh e.cast out)) in
-    said-assoc (front (took_in mesh t) (effect_in mesh e out)) sent (sent_to_each r.peers out (reached r.peers r.range e.cast out))
-    ∙ ap (followed_by (front (took_in mesh t) (effect_in mesh e out))) (said_effect r e out m.packet)
+    let front : List ℕ = took_text mesh (r.core).ip (took_in mesh t) ++ datum_fate mesh (r.core).ip (took_in mesh t) (effect_in mesh e out) in
+    let others : List ℕ = broken_text mesh e.broken ++ cast_text mesh (cast_in mesh e.cast out) in
+    let each = sent_to_each r.peers out (reached r.peers r.range e.cast out) in
+    ap (λ (s : Said). followed_by s each) (written-append front others)
+    ∙ said-assoc (written front) (written others) each
+    ∙ ap (followed_by (written front)) (said_effect r e out m.packet)
     ∙ (λ i. turn_said r (is i) (sym m.means i))
 
 -- how many they are
@@ -356,3 +359,17 @@ turn_was_done t old new a b more e p = subst (λ (k : Bool). IsTurnRun t old a b
 
 pub turn_was_idle : (t : TurnOutcome) (old new : Router) (a b : Outputs) (more : Bool) → more ≡ false → IsTurnRun t old a b new (Ok more) → IsTurnIdle t old new a b
 turn_was_idle t old new a b more e p = subst (λ (k : Bool). IsTurnRun t old a b new (Ok k)) e p
+
+-- ---- where memory is short
+
+pub router_short : (p : PeersSeen) (node : NodeSeen) (near : NodeIds) (heard sent dropped : ℕ) → IsShort p.mesh node → IsTurnShort (router_as p node near heard sent dropped)
+router_short p node near heard sent dropped h = record { front = h.front; rest = h.rest; was = h.was; readable = h.readable; needs = h.needs }
+
+pub turns_short_here : (rest : ℕ) (mid : Router) → IsTurnShort mid → AreTurnsShort (suc rest) mid
+turns_short_here rest mid h = inl h
+
+pub turns_short_later : (rest : ℕ) (mid new : Router) (a b : Outputs) → IsTurnDone (next_turn mid) new a b → AreTurnsShort rest new → AreTurnsShort (suc rest) mid
+turns_short_later rest mid new a b q h = inr (subst (λ (t : TurnOutcome). HoldsAfter t (λ next. AreTurnsShort rest next)) (sym q.is) h)
+
+pub turns_short_at : (n k : ℕ) (r : Router) → AreTurnsShort k r → k ≡ n → AreTurnsShort n r
+turns_short_at n k r h e = subst (λ (m : ℕ). AreTurnsShort m r) e h

@@ -11,19 +11,20 @@ use Rattle.mesh_text.specs.Lines.{name_of}
 use Rattle.mesh_text.specs.Effects.{broken_text, cast_text}
 use Rattle.mesh_link.specs.Datagrams.{datagram}
 use Rattle.mesh_peers.specs.Peers.{PeersSeen}
-use Rattle.mesh_router.specs.Said.{Said, nothing, written, followed_by}
+use Rattle.mesh_router.specs.Said.{Said, Sent, nothing, written, followed_by}
 use Rattle.mesh_router.specs.Routers.{Router}
 
 -- the port of a node
 abbrev pub port_at : PeersSeen → ℕ → ℕ
 port_at p x = get_or p.ports x 0
 
--- a packet goes to a node: a line that says so, and the datagram
+-- a packet goes to a node: a line that says so, and then the datagram
 abbrev pub to_line : PeersSeen → ℕ → List ℕ
 to_line p x = line (codes "  to " ++ name_of p.mesh x ++ 32 ∷ decimal (port_at p x))
 
 abbrev pub sent_to : PeersSeen → List ℕ → ℕ → Said
-sent_to p packet x = record { text = to_line p x; sent = datagram (port_at p x) packet ∷ [] }
+sent_to p packet x =
+    followed_by (written (to_line p x)) (Sent (datagram (port_at p x) packet) ∷ [])
 
 -- the same for some nodes, one after another
 abbrev pub sent_to_each : PeersSeen → List ℕ → List ℕ → Said

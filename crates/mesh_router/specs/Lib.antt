@@ -1,5 +1,5 @@
 -- Read in this order.
--- Said: what a router writes and sends.
+-- Said: what a router writes and sends, in order.
 pub mod Said
 -- Routers: a router, and where its run stands.
 pub mod Routers
@@ -21,6 +21,8 @@ pub mod Told
 pub mod Peers
 -- Seen: what is seen of a router, and what every one keeps.
 pub mod Seen
+-- Short: when a router may be short of memory.
+pub mod Short
 -- Runs: what was told of a turn, of a command, and of datagrams that were received.
 pub mod Runs
 -- Stages: where a run of the code stands.

@@ -47,8 +47,11 @@ found_next r bytes (Some from) =
     record r { queue = r.queue ++ Heard from bytes ∷ []; heard = r.heard + 1 }
 found_next r bytes None = record r { dropped = r.dropped + 1 }
 
+abbrev pub datagram_text : Router → Datagram → List ℕ
+datagram_text r d = found_text r d.port (received d.bytes) (at_port r.peers d.port)
+
 abbrev pub datagram_said : Router → Datagram → Said
-datagram_said r d = written (found_text r d.port (received d.bytes) (at_port r.peers d.port))
+datagram_said r d = written (datagram_text r d)
 
 abbrev pub datagram_next : Router → Datagram → Router
 datagram_next r d = found_next r (received d.bytes) (at_port r.peers d.port)

@@ -6,7 +6,7 @@ use Rattle.mesh_io.specs.Cause.{Rose}
 use Rattle.mesh_link.specs.Datagrams.{Datagram}
 use Rattle.mesh_router.specs.declared.stop.Stop.{Stop}
 use Rattle.mesh_router.specs.declared.stop.Stop.TheVariants as stop
-use Rattle.mesh_router.specs.Said.{Said, followed_by}
+use Rattle.mesh_router.specs.Said.{Said, followed_by, text_of, sent_of}
 
 -- what a sink holds, and the datagrams that a link has sent
 abbrev pub Outputs : Type 0
@@ -18,10 +18,11 @@ SendsAll before now ds = now ≡ option_map (λ xs. xs ++ ds) before
 
 -- this was written and sent
 pub record Adds (before now : Outputs) (said : Said) : Type 0 where
-  pub text : Appends before.0 now.0 said.text
-  pub sent : SendsAll before.1 now.1 said.sent
+  pub text : Appends before.0 now.0 (text_of said)
+  pub sent : SendsAll before.1 now.1 (sent_of said)
 
--- a prefix of the text was written, and a prefix of the datagrams was sent
+-- a prefix of it was: the text before a datagram that was sent is written, and a datagram before
+-- text that is written was sent
 pub record AddsPrefix (before now : Outputs) (said : Said) : Type 0 where
   pub prefix : Said
   pub rest : Said

@@ -1,12 +1,14 @@
 //! The datagrams that a router receives.
-ghost use Rattle.std.specs.Prelude.{◌≡◌, ◌<◌, ◌≤◌, ◌+◌, ◌^◌, ◌++◌, ◌∷◌, [], ℕ, List, length, codes, is_some, true, OnOk, IfErr};
+ghost use Rattle.std.specs.Prelude.{◌≡◌, ◌<◌, ◌≤◌, ◌+◌, ◌^◌, ◌++◌, ◌∷◌, [], ℕ, List, length, codes, is_some, true, OnOk, IfErr, IsErrOf};
 ghost use Rattle.arrayvec.specs.ArrayVec.{array_vec_len};
 ghost use Rattle.mesh_io.specs.Cause.{HasCause};
 ghost use Rattle.mesh_io.specs.Puts.{Puts};
 ghost use Rattle.mesh_router.specs.Polls.{heard_line, strange_port_line};
 ghost use Rattle.mesh_router.specs.Told.{HasCauses, HasSinkCause};
 ghost use Rattle.mesh_router.specs.Seen.{HasCounts, IsGrown};
+ghost use Rattle.mesh_peers.specs.Peers.{at_port};
 ghost use Rattle.mesh_router.specs.Runs.{IsNotFull, IsTaken, IsPollStep, IsPollRun};
+ghost use Rattle.mesh_router.specs.Short.{IsPollShort};
 
 use crate::casts::push_node;
 use crate::limits::MOST_RECEIVED;
@@ -68,6 +70,8 @@ impl Router {
         requires few { HasCounts (2 ^ 62) self.old }
         ensures taken { IsTaken self.old port bytes.now (O.held out.old) (O.held out.new)
             self.new result }
+        ensures memory { IsErrOf result Stop.NoMemory
+            → is_some (at_port self.old.peers port) ≡ true }
         ensures grown { OnOk result (IsGrown 1 self.old self.new) }
         ensures peers { self.new.peers ≡ self.old.peers }
         ensures cause { HasSinkCause (O.faults out.old) (O.faults out.new) result }
@@ -105,6 +109,8 @@ impl Router {
         requires few { HasCounts (2 ^ 62) self.old }
         ensures poll { IsPollStep self.old (L.arrived link.old) (L.arrived link.new)
             (O.held out.old, L.sent link.old) (O.held out.new, L.sent link.new) self.new result }
+        ensures memory { IsErrOf result Stop.NoMemory
+            → IsPollShort self.old.peers (L.arrived link.old) (L.arrived link.new) }
         ensures grown { OnOk result (IsGrown 1 self.old self.new) }
         ensures peers { self.new.peers ≡ self.old.peers }
         ensures causes { HasCauses (O.faults out.old) (O.faults out.new)
@@ -138,6 +144,8 @@ impl Router {
         requires few { HasCounts (2 ^ 61) self.old }
         ensures polls { IsPollRun count self.old (L.arrived link.old) (L.arrived link.new)
             (O.held out.old, L.sent link.old) (O.held out.new, L.sent link.new) self.new result }
+        ensures memory { IsErrOf result Stop.NoMemory
+            → IsPollShort self.old.peers (L.arrived link.old) (L.arrived link.new) }
         ensures grown { OnOk result (IsGrown count self.old self.new) }
         ensures peers { self.new.peers ≡ self.old.peers }
         ensures causes { HasCauses (O.faults out.old) (O.faults out.new)

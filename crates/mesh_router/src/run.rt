@@ -120,35 +120,6 @@ fn run_lines<I: Source, O: Sink, L: Link>(
     }
 }
 
-// Runs the lines of a source.
-fn run_source<I: Source, O: Sink, L: Link>(
-    alloc: Global,
-    at: &mut Point,
-    input: &mut I,
-    scratch: &mut Scratch,
-    out: &mut O,
-    link: &mut L,
-) -> NodeStatus
-    requires opening { at.old ≡ opening_moment }
-    requires open { is_some (L.port link.old) ≡ true }
-    ensures told { IfSome (I.left input.old) (λ script. IsScriptRun script (L.arrived link.old)
-        (O.held out.old, L.sent link.old) (O.held out.new, L.sent link.new) result) }
-    ensures end { result ≡ NodeStatus.Done → IsAtEnd (I.left input.new) }
-    ensures read { result ≡ NodeStatus.ReadFault → Rose (I.faults input.old) (I.faults input.new) }
-    ensures write { result ≡ NodeStatus.WriteFault → Rose (O.faults out.old) (O.faults out.new) }
-    ensures send { result ≡ NodeStatus.LinkFault
-        → Rose (L.faults link.old) (L.faults link.new) }
-    ensures sink { O.faults out.old ≤ O.faults out.new }
-    ensures links { L.faults link.old ≤ L.faults link.new }
-    ensures port { L.port link.new ≡ L.port link.old }
-    ensures words { result ≢ NodeStatus.Usage }
-{
-    let mut lines = Lines::new(input);
-    let status = run_lines(alloc, at, &mut lines, scratch, out, link);
-    let _source = lines.give_back();
-    status
-}
-
 /// Runs a router's script over an open link, from its source to the sink and the link: each line of
 /// text is put as soon as it is known, and each datagram is sent after the line that says so.
 pub fn run_script<I: Source, O: Sink, L: Link>(
@@ -160,7 +131,8 @@ pub fn run_script<I: Source, O: Sink, L: Link>(
     requires open { is_some (L.port link.old) ≡ true }
 
     // What is written and sent is what the script says with what was found, and the answer its
-    // verdict. After a fault, or want of memory, it is a prefix of that.
+    // verdict. After a fault, or want of memory, it is a prefix of that, in the order in which it is
+    // said: a datagram is sent only once all text before it is written.
     ensures told { IfSome (I.left input.old) (λ script. IsScriptRun script (L.arrived link.old)
         (O.held out.old, L.sent link.old) (O.held out.new, L.sent link.new) result) }
 
@@ -181,5 +153,8 @@ pub fn run_script<I: Source, O: Sink, L: Link>(
 {
     let mut at = Point::new();
     let mut scratch = Scratch::new();
-    run_source(alloc, &mut at, input, &mut scratch, out, link)
+    let mut lines = Lines::new(input);
+    let status = run_lines(alloc, &mut at, &mut lines, &mut scratch, out, link);
+    let _source = lines.give_back();
+    status
 }

@@ -1,5 +1,5 @@
 //! What the other commands make a router do.
-ghost use Rattle.std.specs.Prelude.{◌≡◌, ◌≢◌, ◌<◌, ◌≤◌, ◌+◌, ◌*◌, ◌^◌, ◌++◌, ◌∷◌, [], not, length, codes, is_some, true, OnOk, IfOk, IfErr, IfSome, Option, List};
+ghost use Rattle.std.specs.Prelude.{◌≡◌, ◌≢◌, ◌<◌, ◌≤◌, ◌+◌, ◌*◌, ◌^◌, ◌++◌, ◌∷◌, [], not, length, codes, is_some, true, OnOk, IfOk, IfErr, IfSome, IsErrOf, Option, List};
 ghost use Rattle.std.specs.FinSet as sets;
 ghost use Rattle.aodv_model.specs.Handlers as model;
 ghost use Rattle.aodv_model.specs.Fullness.{send_full, ask_full};
@@ -18,6 +18,7 @@ ghost use Rattle.mesh_router.specs.Peers.{IsPeer, ArePeers, reached, act_said};
 ghost use Rattle.mesh_router.specs.Told.{Says, HasCauses, HasSinkCause, IsFault};
 ghost use Rattle.mesh_router.specs.Seen.{HasCounts, IsGrown, most_grown};
 ghost use Rattle.mesh_router.specs.Runs.{IsStepRun, IsPollLine};
+ghost use Rattle.mesh_router.specs.Short.{AreTurnsShort, IsStepShort, IsPollShort};
 
 use crate::casts::tell_effect;
 use crate::router::Router;
@@ -132,6 +133,7 @@ impl Router {
             (model.may_send r.core dest) (send_full r.core r.range dest)
             (model.send r.core r.range dest)) (O.held out.old, L.sent link.old)
             (O.held out.new, L.sent link.new) self.new result }
+        ensures memory { ¬ IsErrOf result Stop.NoMemory }
         ensures grown { OnOk result (IsGrown MOST_NODES self.old self.new) }
         ensures peers { self.new.peers ≡ self.old.peers }
         ensures causes { HasCauses (O.faults out.old) (O.faults out.new)
@@ -176,6 +178,7 @@ impl Router {
             IsStepRun (act_of r (words_of r.peers.mesh (accepted_of line.now))
             (model.may_ask r.core dest) (ask_full r.core) (model.ask r.core dest))
             (O.held out.old, L.sent link.old) (O.held out.new, L.sent link.new) self.new result }
+        ensures memory { IsErrOf result Stop.NoMemory → model.may_ask self.old.core dest ≡ true }
         ensures grown { OnOk result (IsGrown MOST_NODES self.old self.new) }
         ensures peers { self.new.peers ≡ self.old.peers }
         ensures causes { HasCauses (O.faults out.old) (O.faults out.new)
@@ -215,6 +218,7 @@ impl Router {
             IsStepRun (ranged r (words_of r.peers.mesh (accepted_of line.now))
             (not (sets.contains r.range node)) (sets.insert r.range node))
             (O.held out.old, sent) (O.held out.new, sent) self.new result }
+        ensures memory { ¬ IsErrOf result Stop.NoMemory }
         ensures grown { OnOk result (IsGrown 0 self.old self.new) }
         ensures peers { self.new.peers ≡ self.old.peers }
         ensures cause { HasSinkCause (O.faults out.old) (O.faults out.new) result }
@@ -243,6 +247,7 @@ impl Router {
             IsStepRun (ranged r (words_of r.peers.mesh (accepted_of line.now))
             (sets.contains r.range node) (sets.remove r.range node))
             (O.held out.old, sent) (O.held out.new, sent) self.new result }
+        ensures memory { ¬ IsErrOf result Stop.NoMemory }
         ensures grown { OnOk result (IsGrown 0 self.old self.new) }
         ensures peers { self.new.peers ≡ self.old.peers }
         ensures cause { HasSinkCause (O.faults out.old) (O.faults out.new) result }
@@ -289,6 +294,7 @@ impl Router {
         ensures step { (sent : Option (List Datagram)) → let r = self.now in
             IsStepRun (shown r (words_of r.peers.mesh (accepted_of line.now)))
             (O.held out.old, sent) (O.held out.new, sent) self.now result }
+        ensures memory { ¬ IsErrOf result Stop.NoMemory }
         ensures cause { HasSinkCause (O.faults out.old) (O.faults out.new) result }
     {
         put_line(line, &self.peers, buf, out)?;
@@ -312,6 +318,7 @@ impl Router {
             let words = words_of r.peers.mesh (accepted_of line.now) in
             IsStepRun (said_before (written (ended words)) (turns_of count r))
             (O.held out.old, L.sent link.old) (O.held out.new, L.sent link.new) self.new result }
+        ensures memory { IsErrOf result Stop.NoMemory → AreTurnsShort count self.old }
         ensures grown { OnOk result (IsGrown (MOST_NODES * count) self.old self.new) }
         ensures peers { self.new.peers ≡ self.old.peers }
         ensures causes { HasCauses (O.faults out.old) (O.faults out.new)
@@ -340,6 +347,11 @@ impl Router {
         ensures step { let r = self.old in let l = accepted_of line.now in
             IsStepRun (step_of r (words_of r.peers.mesh l) l) (O.held out.old, L.sent link.old)
             (O.held out.new, L.sent link.new) self.new result }
+
+        // Memory is short only where the command needs some.
+        ensures memory { IsErrOf result Stop.NoMemory
+            → IsStepShort self.old (accepted_of line.now) }
+
         ensures grown { OnOk result (IsGrown most_grown self.old self.new) }
         ensures peers { self.new.peers ≡ self.old.peers }
         ensures causes { HasCauses (O.faults out.old) (O.faults out.new)
@@ -381,6 +393,11 @@ impl Router {
             IsPollLine count words self.old (L.arrived link.old) (L.arrived link.new)
             (O.held out.old, L.sent link.old) (O.held out.new, L.sent link.new)
             self.new result }
+
+        // Memory is short only where a peer's datagram was received.
+        ensures memory { IsErrOf result Stop.NoMemory
+            → IsPollShort self.old.peers (L.arrived link.old) (L.arrived link.new) }
+
         ensures grown { OnOk result (IsGrown count self.old self.new) }
         ensures peers { self.new.peers ≡ self.old.peers }
         ensures causes { HasCauses (O.faults out.old) (O.faults out.new)

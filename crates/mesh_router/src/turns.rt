@@ -1,5 +1,5 @@
 //! The turns of a router.
-ghost use Rattle.std.specs.Prelude.{◌≡◌, ◌<◌, ◌≤◌, ◌+◌, ◌*◌, ◌^◌, ◌++◌, ◌∷◌, [], length, codes, is_some, true, OnOk, IfErr, IfSome, Some};
+ghost use Rattle.std.specs.Prelude.{◌≡◌, ◌<◌, ◌≤◌, ◌+◌, ◌*◌, ◌^◌, ◌++◌, ◌∷◌, [], length, codes, is_some, true, OnOk, IfErr, IfSome, IsErrOf, Some};
 ghost use Rattle.arrayvec.specs.ArrayVec.{array_vec_len};
 ghost use Rattle.mesh_base.specs.Addresses.{dotted};
 ghost use Rattle.mesh_io.specs.Cause.{HasCause};
@@ -8,6 +8,7 @@ ghost use Rattle.mesh_router.specs.Turns.{refusal_words, stranger_words, drop_li
 ghost use Rattle.mesh_router.specs.Told.{HasCauses};
 ghost use Rattle.mesh_router.specs.Seen.{HasCounts, IsGrown};
 ghost use Rattle.mesh_router.specs.Runs.{IsTurnRun, IsStepRun};
+ghost use Rattle.mesh_router.specs.Short.{IsTurnShort, AreTurnsShort};
 
 use crate::casts::{push_node, tell_turn};
 use crate::router::Router;
@@ -116,6 +117,7 @@ impl Router {
         requires few { HasCounts (2 ^ 62) self.old }
         ensures turn { IsTurnRun (next_turn self.old) self.old (O.held out.old, L.sent link.old)
             (O.held out.new, L.sent link.new) self.new result }
+        ensures memory { IsErrOf result Stop.NoMemory → IsTurnShort self.old }
         ensures grown { OnOk result (IsGrown MOST_NODES self.old self.new) }
         ensures peers { self.new.peers ≡ self.old.peers }
         ensures causes { HasCauses (O.faults out.old) (O.faults out.new)
@@ -170,6 +172,7 @@ impl Router {
         requires few { HasCounts (2 ^ 61) self.old }
         ensures turns { IsStepRun (turns_of count self.old) (O.held out.old, L.sent link.old)
             (O.held out.new, L.sent link.new) self.new result }
+        ensures memory { IsErrOf result Stop.NoMemory → AreTurnsShort count self.old }
         ensures grown { OnOk result (IsGrown (MOST_NODES * count) self.old self.new) }
         ensures peers { self.new.peers ≡ self.old.peers }
         ensures causes { HasCauses (O.faults out.old) (O.faults out.new)

@@ -28,7 +28,7 @@ returns-in_err-put_effect-clause-says g c =
     let e : text c.mesh-2.result.now ≡ said = ap text c.mesh-2.ensures.mesh ∙ effect_is p.mesh c.args.me c.args.took c.args.effect.now packet in
     says-fault _ _ _ c.from_residual.result c.from_residual.ensures.0
     (prefix-more _ _ (written said) (sent_to_each p packet (members_below (length p.mesh) (receivers c.args.range.now (cast_in p.mesh c.args.effect.now.cast packet))))
-    (prefix-text _ _ _ _ (written said) refl
+    (prefix-text _ _ _ _ said refl
     (subst (λ (l : List ℕ). AppendsPrefix (g.O.Sink.held c.args.out.now) (g.O.Sink.held c.put_effect.new.out) l) e c.in_err-put_effect.ensures.text)))
 
 pub send_to_each-requires-clause-peers : goal.send_to_each-requires-clause-peers

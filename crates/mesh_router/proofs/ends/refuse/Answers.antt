@@ -1,10 +1,18 @@
-use Rattle.std.proofs.Common.{◌+◌, ℕ, refl, subst}
+use Rattle.std.proofs.Common.{◌+◌, ℕ, refl, sym, ap, subst}
 use Rattle.mesh_grammar.specs.Faults.{bad_line}
+use Rattle.std.specs.Io.KnownBytes.{Appends}
 use Rattle.mesh_io.specs.Puts.{AppendsPrefix}
-use Rattle.mesh_router.specs.Said.{written}
-use Rattle.mesh_router.proofs.Saying.{prefix-text}
+use Rattle.mesh_text.specs.Text.{RefusedAt}
+use Rattle.mesh_router.proofs.Saying.{adds-text, prefix-text}
 use Rattle.mesh_router.proofs.ends.refuse.Goals as goal
 
 pub returns-in-Err-clause-told : goal.returns-in-Err-clause-told
-returns-in-Err-clause-told g c = λ sent. prefix-text _ _ _ _ (written (bad_line (c.args.at.now.lines + 1) c.args.why)) refl
+returns-in-Err-clause-told g c = λ sent. prefix-text _ _ _ _ (bad_line (c.args.at.now.lines + 1) c.args.why) refl
     (subst (λ (n : ℕ). AppendsPrefix (g.O.Sink.held c.args.out.now) (g.O.Sink.held c.put_bad.new.out) (bad_line (n + 1) c.args.why)) c.lines-line.ensures c.in-Err.ensures.text)
+
+pub returns-in-Ok-clause-told : goal.returns-in-Ok-clause-told
+returns-in-Ok-clause-told g c = λ sent. (
+  ap (λ (n : ℕ). RefusedAt (n + 1)) (sym c.lines-line.ensures),
+  adds-text _ _ _ _ (bad_line (c.args.at.now.lines + 1) c.args.why) refl
+      (subst (λ (n : ℕ). Appends (g.O.Sink.held c.args.out.now) (g.O.Sink.held c.put_bad.new.out) (bad_line (n + 1) c.args.why)) c.lines-line.ensures c.in-Ok.ensures.text),
+)

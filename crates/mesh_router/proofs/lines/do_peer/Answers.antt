@@ -6,7 +6,6 @@ use Rattle.mesh_grammar.specs.Written.{line}
 use Rattle.mesh_peers.specs.Peers.{PeersSeen, with_peer}
 use Rattle.mesh_peers.specs.Lines.{Accepted, Peer, words_of}
 use Rattle.mesh_peers.specs.Seen.{accepted_of}
-use Rattle.mesh_router.specs.Said.{written}
 use Rattle.mesh_router.specs.Routers.{Joining, Moment, peers_in, router_in, counted_at}
 use Rattle.mesh_router.specs.Finds.{Find}
 use Rattle.mesh_router.specs.Lines.{outcome_of_line, joined, words_at, refused_words}
@@ -25,7 +24,7 @@ returns-in_err-put_line-clause-line g c =
     let text : PeersSeen → List ℕ = λ p. line (words_of p.mesh l) in
     let q = err_from_is_err_and c.from_residual.result c.from_residual.ensures.1 in
     let put = subst (λ (t : List ℕ). AppendsPrefix (g.O.Sink.held c.args.out.now) (g.O.Sink.held c.put_line.new.out) t) (ap text c.peers.ensures) c.in_err-put_line.ensures.text in
-    λ arrived sent. joined_cut m l stage _ _ arrived _ _ c.from_residual.result q.0 is q.1 q.2 (prefix-text _ _ _ _ (written (line (words_at m.stage l))) refl put)
+    λ arrived sent. joined_cut m l stage _ _ arrived _ _ c.from_residual.result q.0 is q.1 q.2 (prefix-text _ _ _ _ (line (words_at m.stage l)) refl put)
 
 pub returns-clause-line : goal.returns-clause-line
 returns-clause-line g c =

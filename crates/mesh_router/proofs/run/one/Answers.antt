@@ -6,7 +6,6 @@ use Rattle.mesh_grammar.specs.declared.fault.BadWhy.TheVariants.{Fault}
 use Rattle.mesh_peers.specs.Peers.{PeersSeen}
 use Rattle.mesh_peers.specs.Seen.{accepted_of}
 use Rattle.mesh_router.specs.declared.stop.Stop.{Stop}
-use Rattle.mesh_router.specs.Said.{written}
 use Rattle.mesh_router.specs.Lines.{outcome_of_line, refused_in, refused_words}
 use Rattle.mesh_router.specs.declared.status.NodeStatus.TheVariants as status
 use Rattle.mesh_router.specs.Routers.{peers_in}
@@ -57,7 +56,7 @@ returns-in-Err-put_full-clause-stops g c =
     let same : text c.lines-number.result c.peers-in-Err-Full.result.now ≡ text m.lines (peers_in m.stage) = λ i. text (c.lines-number.ensures i) ((c.peers-in-Err-Full.ensures ∙ c.in-Err-Full.ensures.peers) i) in
     let words = refused_words m.stage l in
     let put = subst (λ (t : List ℕ). AppendsPrefix (g.O.Sink.held c.do_line.new.out) (g.O.Sink.held c.put_full.new.out) t) same c.in-Err-put_full.ensures.text in
-    λ pieces. told_full_cut m (Whole bytes) l words c.in-Err-Full.field pieces _ _ _ (g.O.Sink.held c.do_line.new.out, g.L.Link.sent c.do_line.new.link) _ e full (prefix-text _ _ _ _ (written (full_line (m.lines + 1) words c.in-Err-Full.field)) refl put)
+    λ pieces. told_full_cut m (Whole bytes) l words c.in-Err-Full.field pieces _ _ _ (g.O.Sink.held c.do_line.new.out, g.L.Link.sent c.do_line.new.link) _ e full (prefix-text _ _ _ _ (full_line (m.lines + 1) words c.in-Err-Full.field) refl put)
 
 pub returns-in-Err-WriteFault-clause-stops : goal.returns-in-Err-WriteFault-clause-stops
 returns-in-Err-WriteFault-clause-stops g c =

@@ -13,7 +13,7 @@ returns-in_err-put_line-clause-says g c =
     let words = words_of p.mesh (accepted_of c.args.line.now) in
     says-fault _ _ _ c.from_residual.result c.from_residual.ensures.0
     (prefix-more _ _ (written (line words)) (code_said p c.args.range.now c.args.me None c.args.effect c.args.scratch.now.packet.items)
-    (prefix-text _ _ _ _ (written (line words)) refl c.in_err-put_line.ensures.text))
+    (prefix-text _ _ _ _ (line words) refl c.in_err-put_line.ensures.text))
 
 pub returns-clause-says : goal.returns-clause-says
 returns-clause-says g c =

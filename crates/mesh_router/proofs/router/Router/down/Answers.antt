@@ -1,4 +1,4 @@
-use Rattle.std.proofs.Common.{◌++◌, Bool, refl, ap, ◌∙◌, sym, subst}
+use Rattle.std.proofs.Common.{Ok, ◌++◌, Bool, refl, ap, ◌∙◌, sym, subst}
 use Rattle.std.proofs.lemmas.Result.{err_from_is_err_and}
 use Rattle.std.specs.FinSet as sets
 use Rattle.mesh_base.specs.Members.{NodeIds}
@@ -7,14 +7,14 @@ use Rattle.mesh_peers.specs.Lines.{words_of}
 use Rattle.mesh_peers.specs.Seen.{accepted_of}
 use Rattle.mesh_router.specs.Said.{written}
 use Rattle.mesh_router.specs.Routers.{Router}
-use Rattle.mesh_router.specs.Turns.{idle_line}
+use Rattle.mesh_router.specs.Turns.{Goes, idle_line}
 use Rattle.mesh_router.specs.Lines.{ranged}
 use Rattle.mesh_router.specs.Peers.{ArePeers}
 use Rattle.mesh_router.specs.Runs.{IsStepRun}
-use Rattle.mesh_router.proofs.Saying.{prefix-text}
+use Rattle.mesh_router.proofs.Saying.{adds-text, prefix-text}
 use Rattle.mesh_router.proofs.Peers.{are_fewer}
 use Rattle.mesh_router.proofs.Turning.{router_as}
-use Rattle.mesh_router.proofs.Acting.{step_cut_in, not_full-write}
+use Rattle.mesh_router.proofs.Acting.{step_done, step_cut_in, not_full-write}
 use Rattle.mesh_router.proofs.router.Router.down.Goals as goal
 
 pub returns-in_err-put_idle-clause-step : goal.returns-in_err-put_idle-clause-step
@@ -29,7 +29,7 @@ returns-in_err-put_idle-clause-step g c =
     let P : Router → Type 0 = λ r. IsStepRun (ranged r (words_of r.peers.mesh l) (sets.contains r.range c.args.node) (sets.remove r.range c.args.node)) (g.O.Sink.held c.args.out.now, sent) (g.O.Sink.held c.put_idle.new.out, sent) c.args.self.now c.from_residual.result in
     subst P c.self.view_is (step_cut_in _ (router_as p node near c.self.inside.heard c.self.inside.sent c.self.inside.dropped) _ _ _ (written (line words ++ idle_line)) c.from_residual.result q.0 q.1 (not_full-write q.0 q.2)
     (ap (λ (b : Bool). ranged (router_as p node near c.self.inside.heard c.self.inside.sent c.self.inside.dropped) words b (sets.remove near c.args.node)) (sym c.has.ensures.value ∙ c.if-not-has.true))
-    (prefix-text _ _ _ _ (written (line words ++ idle_line)) refl c.in_err-put_idle.ensures.text))
+    (prefix-text _ _ _ _ (line words ++ idle_line) refl c.in_err-put_idle.ensures.text))
 
 pub returns-in_err-put_line-clause-step : goal.returns-in_err-put_line-clause-step
 returns-in_err-put_line-clause-step g c =
@@ -43,7 +43,7 @@ returns-in_err-put_line-clause-step g c =
     let P : Router → Type 0 = λ r. IsStepRun (ranged r (words_of r.peers.mesh l) (sets.contains r.range c.args.node) (sets.remove r.range c.args.node)) (g.O.Sink.held c.args.out.now, sent) (g.O.Sink.held c.put_line.new.out, sent) (router_as p node c.remove.new.self c.self.inside.heard c.self.inside.sent c.self.inside.dropped) c.from_residual-in_err-put_line.result in
     subst P c.self.view_is (step_cut_in _ (router_as p node (sets.remove near c.args.node) c.self.inside.heard c.self.inside.sent c.self.inside.dropped) _ _ _ (written (line words)) c.from_residual-in_err-put_line.result q.0 q.1 (not_full-write q.0 q.2)
     (ap (λ (b : Bool). ranged (router_as p node near c.self.inside.heard c.self.inside.sent c.self.inside.dropped) words b (sets.remove near c.args.node)) (sym c.has.ensures.value ∙ c.if-not-has.false))
-    (prefix-text _ _ _ _ (written (line words)) refl c.in_err-put_line.ensures.text))
+    (prefix-text _ _ _ _ (line words) refl c.in_err-put_line.ensures.text))
 
 pub invariant_of-self : goal.invariant_of-self
 invariant_of-self g c =
@@ -60,3 +60,30 @@ invariant_of-self-2 g c =
       size = c.self.invariant.size;
       range = subst (λ (s : NodeIds). ArePeers c.self.inside.peers s) (sym c.remove.ensures) (are_fewer c.self.inside.peers c.self.inside.range c.args.node c.self.invariant.range);
     }
+
+pub returns-then-not-has-clause-step : goal.returns-then-not-has-clause-step
+returns-then-not-has-clause-step g c =
+    let p = c.self.inside.peers in
+    let node = c.self.inside.node in
+    let near = c.self.inside.range in
+    let l = accepted_of c.args.line.now in
+    let words = words_of p.mesh l in
+    λ sent.
+    let P : Router → Type 0 = λ r. IsStepRun (ranged r (words_of r.peers.mesh l) (sets.contains r.range c.args.node) (sets.remove r.range c.args.node)) (g.O.Sink.held c.args.out.now, sent) (g.O.Sink.held c.put_idle.new.out, sent) r (Ok tt) in
+    subst P c.self.view_is (step_done _ (router_as p node near c.self.inside.heard c.self.inside.sent c.self.inside.dropped) _ _ (written (line words ++ idle_line))
+    (ap (λ (b : Bool). ranged (router_as p node near c.self.inside.heard c.self.inside.sent c.self.inside.dropped) words (b) (sets.remove near c.args.node)) (sym c.has.ensures.value ∙ c.if-not-has.true))
+    (adds-text _ _ _ _ (line words ++ idle_line) refl c.in_ok-put_idle.ensures.text))
+
+pub returns-clause-step : goal.returns-clause-step
+returns-clause-step g c =
+    let p = c.self.inside.peers in
+    let node = c.self.inside.node in
+    let near = c.self.inside.range in
+    let l = accepted_of c.args.line.now in
+    let words = words_of p.mesh l in
+    λ sent.
+    let P : Router → Type 0 = λ r. IsStepRun (ranged r (words_of r.peers.mesh l) (sets.contains r.range c.args.node) (sets.remove r.range c.args.node)) (g.O.Sink.held c.args.out.now, sent) (g.O.Sink.held c.put_line.new.out, sent) (router_as p node c.remove.new.self c.self.inside.heard c.self.inside.sent c.self.inside.dropped) (Ok tt) in
+    subst P c.self.view_is (step_done _ (router_as p node c.remove.new.self c.self.inside.heard c.self.inside.sent c.self.inside.dropped) _ _ (written (line words))
+    (ap (λ (b : Bool). ranged (router_as p node near c.self.inside.heard c.self.inside.sent c.self.inside.dropped) words (b) (sets.remove near c.args.node)) (sym c.has.ensures.value ∙ c.if-not-has.false)
+    ∙ ap (λ (s : NodeIds). Goes (written (line words)) (router_as p node s c.self.inside.heard c.self.inside.sent c.self.inside.dropped)) (sym c.remove.ensures))
+    (adds-text _ _ _ _ (line words) refl c.in_ok-put_line.ensures.text))

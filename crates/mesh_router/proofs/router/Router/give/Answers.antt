@@ -1,4 +1,4 @@
-use Rattle.std.proofs.Common.{refl, subst}
+use Rattle.std.proofs.Common.{◌≡◌, ◌++◌, ◌∷◌, [], Ok, refl, ap, ◌∙◌, sym, subst}
 use Rattle.std.proofs.lemmas.Result.{err_from_is_err_and}
 use Rattle.mesh_grammar.specs.Written.{line}
 use Rattle.mesh_peers.specs.Lines.{words_of}
@@ -6,10 +6,13 @@ use Rattle.mesh_peers.specs.Seen.{accepted_of}
 use Rattle.mesh_router.specs.Said.{written}
 use Rattle.mesh_router.specs.Routers.{Router}
 use Rattle.mesh_router.specs.Lines.{given}
+use Rattle.mesh_router.specs.Turns.{Goes}
+use Rattle.mesh_base.specs.declared.events.Item.TheVariants.{New}
+use Rattle.aodv_node.specs.Seen.{NodeSeen}
 use Rattle.mesh_router.specs.Runs.{IsStepRun}
-use Rattle.mesh_router.proofs.Saying.{prefix-text, prefix-none}
+use Rattle.mesh_router.proofs.Saying.{adds-text, prefix-text, prefix-none}
 use Rattle.mesh_router.proofs.Turning.{router_as}
-use Rattle.mesh_router.proofs.Acting.{step_cut, not_full-write, not_full-memory}
+use Rattle.mesh_router.proofs.Acting.{step_done, step_cut, not_full-write, not_full-memory}
 use Rattle.mesh_router.proofs.router.Router.give.Goals as goal
 
 pub returns-in_err-copied-clause-step : goal.returns-in_err-copied-clause-step
@@ -33,4 +36,21 @@ returns-in_err-put_line-clause-step g c =
     λ sent.
     let P : Router → Type 0 = λ r. IsStepRun (given r (words_of r.peers.mesh l) c.args.dest c.args.body.now) (g.O.Sink.held c.args.out.now, sent) (g.O.Sink.held c.put_line.new.out, sent) (router_as p c.give.new.self near c.self.inside.heard c.self.inside.sent c.self.inside.dropped) c.from_residual-in_err-put_line.result in
     subst P c.self.view_is (step_cut _ _ _ _ c.from_residual-in_err-put_line.result q.0 q.1 (not_full-write q.0 q.2)
-    (prefix-text _ _ _ _ (written (line words)) refl c.in_err-put_line.ensures.text))
+    (prefix-text _ _ _ _ (line words) refl c.in_err-put_line.ensures.text))
+
+pub returns-clause-step : goal.returns-clause-step
+returns-clause-step g c =
+    let p = c.self.inside.peers in
+    let node = c.self.inside.node in
+    let near = c.self.inside.range in
+    let l = accepted_of c.args.line.now in
+    let words = words_of p.mesh l in
+    let r = router_as p node near c.self.inside.heard c.self.inside.sent c.self.inside.dropped in
+    let core : node.core ≡ c.give.new.self.core = sym (ap (λ (n : NodeSeen). n.core) c.give.ensures ∙ c.make_room.ensures.core) in
+    let items : node.items ++ New c.args.dest c.args.body.now ∷ [] ≡ c.give.new.self.items = sym (ap (λ (n : NodeSeen). n.items) c.give.ensures
+    ∙ (λ i. c.make_room.ensures.items i ++ New c.args.dest (c.in_ok-copied.ensures.copy i) ∷ [])) in
+    λ sent.
+    let P : Router → Type 0 = λ k. IsStepRun (given k (words_of k.peers.mesh l) c.args.dest c.args.body.now) (g.O.Sink.held c.args.out.now, sent) (g.O.Sink.held c.put_line.new.out, sent) (router_as p c.give.new.self near c.self.inside.heard c.self.inside.sent c.self.inside.dropped) (Ok tt) in
+    subst P c.self.view_is (step_done _ (router_as p c.give.new.self near c.self.inside.heard c.self.inside.sent c.self.inside.dropped) _ _ (written (line words))
+    (λ i. Goes (written (line words)) (record r { core = core i; queue = items i }))
+    (adds-text _ _ _ _ (line words) refl c.in_ok-put_line.ensures.text))

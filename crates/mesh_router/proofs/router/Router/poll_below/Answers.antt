@@ -3,7 +3,6 @@ use Rattle.std.proofs.lemmas.Result.{err_from_is_err_and}
 use Rattle.mesh_grammar.specs.Written.{line}
 use Rattle.mesh_peers.specs.Lines.{words_of}
 use Rattle.mesh_peers.specs.Seen.{accepted_of}
-use Rattle.mesh_router.specs.Said.{written}
 use Rattle.mesh_router.specs.Routers.{Router}
 use Rattle.mesh_router.proofs.Saying.{adds-text, prefix-text}
 use Rattle.mesh_router.specs.Runs.{IsPollLine}
@@ -16,7 +15,7 @@ returns-in_err-put_line-clause-polls g c =
     let words = words_of p.mesh (accepted_of c.args.line.now) in
     let q = err_from_is_err_and c.from_residual.result c.from_residual.ensures.1 in
     let P : Router → Type 0 = λ r. IsPollLine c.args.count (words_of r.peers.mesh (accepted_of c.args.line.now)) c.args.self.now (g.L.Link.arrived c.args.link.now) (g.L.Link.arrived c.args.link.now) (g.O.Sink.held c.args.out.now, g.L.Link.sent c.args.link.now) (g.O.Sink.held c.put_line.new.out, g.L.Link.sent c.args.link.now) c.args.self.now c.from_residual.result in
-    subst P c.self.view_is (poll_line_cut _ words _ _ _ _ _ c.from_residual.result q.0 q.1 q.2 (prefix-text _ _ _ _ (written (line words)) refl c.in_err-put_line.ensures.text))
+    subst P c.self.view_is (poll_line_cut _ words _ _ _ _ _ c.from_residual.result q.0 q.1 q.2 (prefix-text _ _ _ _ (line words) refl c.in_err-put_line.ensures.text))
 
 pub returns-clause-polls : goal.returns-clause-polls
 returns-clause-polls g c =

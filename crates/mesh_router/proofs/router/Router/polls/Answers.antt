@@ -1,5 +1,7 @@
 use Rattle.std.proofs.Common.{◌-◌, ◌+◌, suc, refl, ◌∙◌, arith}
-use Rattle.mesh_router.proofs.Polling.{polls_begin, polls_next, polls_stop, polls_end, polls_failed, polls_at, found_one, found_nothing, polls_run_fault}
+use Rattle.std.proofs.lemmas.Result.{err_from_is_err_and}
+use Rattle.mesh_router.proofs.Memory.{memory_of}
+use Rattle.mesh_router.proofs.Polling.{polls_begin, polls_next, polls_stop, polls_end, polls_failed, polls_at, found_one, found_nothing, polls_run_fault, short_later}
 use Rattle.mesh_router.proofs.router.Router.polls.Goals as goal
 
 pub loop-i-init : goal.loop-i-init
@@ -46,3 +48,10 @@ loop-i-preserved g c =
       links = omega (arith, at.links, call.causes.link_later);
       port = call.port ∙ at.port;
     }
+
+pub returns-in_err-poll-clause-memory : goal.returns-in_err-poll-clause-memory
+returns-in_err-poll-clause-memory g c = λ is.
+    let rest = c.args.count - (c.loop-i._i + 1) in
+    let q = err_from_is_err_and c.from_residual.result c.from_residual.ensures.1 in
+    short_later c.args.count (suc rest) _ _ _ _ _ _ _ (polls_at c.args.count _ (suc rest) _ _ _ _ _ _ c.loop-i.invariant.polled (omega arith)) c.loop-i.invariant.peers
+    (c.in_err-poll.ensures.memory (memory_of _ q.0 _ q.1 q.2 is))

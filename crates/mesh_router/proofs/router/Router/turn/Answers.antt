@@ -1,7 +1,6 @@
 use Rattle.std.proofs.Common.{◌≡◌, ℕ, true, false, Ok, Err, refl, ap, ◌∙◌, sym, subst}
 use Rattle.std.proofs.lemmas.Result.{err_from_is_err_and}
 use Rattle.mesh_base.specs.Meshes.{Nodes, IsMesh}
-use Rattle.mesh_router.specs.Said.{written}
 use Rattle.mesh_router.specs.Turns.{next_turn, idle_line, drop_line, refusal_words, stranger_words}
 use Rattle.mesh_router.specs.Routers.{Router}
 use Rattle.aodv_wire.specs.Spells.{refusal, message_in_fields}
@@ -13,12 +12,13 @@ use Rattle.aodv_node.specs.Seen.{NodeSeen}
 use Rattle.mesh_router.specs.declared.stop.Stop.TheVariants.{Full}
 use Rattle.mesh_router.specs.Turns.{TurnOutcome, Done}
 use Rattle.mesh_router.specs.Peers.{code_said}
-use Rattle.aodv_node.specs.Turned.{IsTaken, IsFullAt, IsDropped, IsTurn}
+use Rattle.aodv_node.specs.Turned.{IsTaken, IsFullAt, IsDropped, IsShort, IsTurn}
 use Rattle.aodv_node.specs.declared.answers.TurnError.{TurnError}
 use Rattle.mesh_router.specs.Told.{IsFault, AddsPrefix}
 use Rattle.mesh_router.specs.Runs.{IsTurnRun, said_by}
+use Rattle.mesh_router.specs.Short.{IsTurnShort}
 use Rattle.mesh_router.proofs.Saying.{adds-text, prefix-text, prefix-none}
-use Rattle.mesh_router.proofs.Turning.{router_as, turn_meant, turn_refused, turn_strange, turn_idle, turn_full_at, told_in_part, told_fault, told_done, same_me}
+use Rattle.mesh_router.proofs.Turning.{router_as, turn_meant, turn_refused, turn_strange, turn_idle, turn_full_at, router_short, told_in_part, told_fault, told_done, same_me}
 use Rattle.mesh_router.proofs.router.Router.turn.Goals as goal
 
 pub tell_turn-requires-clause-broken : goal.tell_turn-requires-clause-broken
@@ -64,7 +64,7 @@ returns-in_err-put_all-in-Err-Idle-clause-turn g c =
     let q = err_from_is_err_and c.from_residual-in_err-put_all-in-Err-Idle.result c.from_residual-in_err-put_all-in-Err-Idle.ensures.1 in
     let is = turn_idle p node near c.self.inside.heard c.self.inside.sent c.self.inside.dropped ((subst (λ (e : TurnError). IsTurn c.mesh-2.result.now near node (Err e) c.turn.new.self c.turn.new.out.items) c.in-Err-Idle.field-0-is c.in-Err-Idle.ensures.turn)).0 in
     let P : Router → Type 0 = λ r. IsTurnRun (next_turn r) r (g.O.Sink.held c.args.out.now, g.L.Link.sent c.args.link.now) (g.O.Sink.held c.put_all.new.out, g.L.Link.sent c.args.link.now) (router_as p c.turn.new.self near c.self.inside.heard c.self.inside.sent c.self.inside.dropped) c.from_residual-in_err-put_all-in-Err-Idle.result in
-    subst P c.self.view_is (told_fault _ _ _ _ _ c.from_residual-in_err-put_all-in-Err-Idle.result q.0 q.1 (subst IsFault (sym q.2) tt) (subst (λ (t : TurnOutcome). AddsPrefix (g.O.Sink.held c.args.out.now, g.L.Link.sent c.args.link.now) (g.O.Sink.held c.put_all.new.out, g.L.Link.sent c.args.link.now) (said_by t)) (sym is) (prefix-text _ _ _ _ (written idle_line) refl c.in_err-put_all-in-Err-Idle.ensures.text)))
+    subst P c.self.view_is (told_fault _ _ _ _ _ c.from_residual-in_err-put_all-in-Err-Idle.result q.0 q.1 (subst IsFault (sym q.2) tt) (subst (λ (t : TurnOutcome). AddsPrefix (g.O.Sink.held c.args.out.now, g.L.Link.sent c.args.link.now) (g.O.Sink.held c.put_all.new.out, g.L.Link.sent c.args.link.now) (said_by t)) (sym is) (prefix-text _ _ _ _ idle_line refl c.in_err-put_all-in-Err-Idle.ensures.text)))
 
 pub returns-in_err-put_unreadable-in-Err-Unreadable-clause-turn : goal.returns-in_err-put_unreadable-in-Err-Unreadable-clause-turn
 returns-in_err-put_unreadable-in-Err-Unreadable-clause-turn g c =
@@ -76,7 +76,7 @@ returns-in_err-put_unreadable-in-Err-Unreadable-clause-turn g c =
     let q = err_from_is_err_and c.from_residual-in_err-put_unreadable-in-Err-Unreadable.result c.from_residual-in_err-put_unreadable-in-Err-Unreadable.ensures.1 in
     let P : Router → Type 0 = λ r. IsTurnRun (next_turn r) r (g.O.Sink.held c.args.out.now, g.L.Link.sent c.args.link.now) (g.O.Sink.held c.put_unreadable.new.out, g.L.Link.sent c.args.link.now) (router_as p c.turn.new.self near c.self.inside.heard c.self.inside.sent (c.self.inside.dropped + 1)) c.from_residual-in_err-put_unreadable-in-Err-Unreadable.result in
     let put = subst (λ (l : List ℕ). AppendsPrefix (g.O.Sink.held c.args.out.now) (g.O.Sink.held c.put_unreadable.new.out) l) (ap text c.mesh-in-Err-Unreadable.ensures.mesh) c.in_err-put_unreadable-in-Err-Unreadable.ensures.text in
-    subst P c.self.view_is (told_in_part _ _ _ _ _ _ _ c.from_residual-in_err-put_unreadable-in-Err-Unreadable.result q.0 is (prefix-text _ _ _ _ (written (text p.mesh)) refl put) q.1 (subst IsFault (sym q.2) tt))
+    subst P c.self.view_is (told_in_part _ _ _ _ _ _ _ c.from_residual-in_err-put_unreadable-in-Err-Unreadable.result q.0 is (prefix-text _ _ _ _ (text p.mesh) refl put) q.1 (subst IsFault (sym q.2) tt))
 
 pub returns-in_err-put_stranger-in-Err-Stranger-clause-turn : goal.returns-in_err-put_stranger-in-Err-Stranger-clause-turn
 returns-in_err-put_stranger-in-Err-Stranger-clause-turn g c =
@@ -88,7 +88,7 @@ returns-in_err-put_stranger-in-Err-Stranger-clause-turn g c =
     let q = err_from_is_err_and c.from_residual-in_err-put_stranger-in-Err-Stranger.result c.from_residual-in_err-put_stranger-in-Err-Stranger.ensures.1 in
     let P : Router → Type 0 = λ r. IsTurnRun (next_turn r) r (g.O.Sink.held c.args.out.now, g.L.Link.sent c.args.link.now) (g.O.Sink.held c.put_stranger.new.out, g.L.Link.sent c.args.link.now) (router_as p c.turn.new.self near c.self.inside.heard c.self.inside.sent (c.self.inside.dropped + 1)) c.from_residual-in_err-put_stranger-in-Err-Stranger.result in
     let put = subst (λ (l : List ℕ). AppendsPrefix (g.O.Sink.held c.args.out.now) (g.O.Sink.held c.put_stranger.new.out) l) (ap text c.mesh-in-Err-Stranger.ensures.mesh) c.in_err-put_stranger-in-Err-Stranger.ensures.text in
-    subst P c.self.view_is (told_in_part _ _ _ _ _ _ _ c.from_residual-in_err-put_stranger-in-Err-Stranger.result q.0 is (prefix-text _ _ _ _ (written (text p.mesh)) refl put) q.1 (subst IsFault (sym q.2) tt))
+    subst P c.self.view_is (told_in_part _ _ _ _ _ _ _ c.from_residual-in_err-put_stranger-in-Err-Stranger.result q.0 is (prefix-text _ _ _ _ (text p.mesh) refl put) q.1 (subst IsFault (sym q.2) tt))
 
 pub returns-in_ok-self-inside-in-Ok-clause-turn : goal.returns-in_ok-self-inside-in-Ok-clause-turn
 returns-in_ok-self-inside-in-Ok-clause-turn g c =
@@ -151,3 +151,11 @@ returns-in-Err-Full-clause-turn g c =
 pub returns-in-Err-NoMemory-clause-turn : goal.returns-in-Err-NoMemory-clause-turn
 returns-in-Err-NoMemory-clause-turn g c =
     prefix-none _ _
+
+pub returns-in-Err-NoMemory-clause-memory : goal.returns-in-Err-NoMemory-clause-memory
+returns-in-Err-NoMemory-clause-memory g c =
+    let p = c.self.inside.peers in
+    let node = c.self.inside.node in
+    let near = c.self.inside.range in
+    let short = subst (λ (m : Nodes). IsShort m node) c.mesh-2.ensures.mesh ((subst (λ (e : TurnError). IsTurn c.mesh-2.result.now near node (Err e) c.turn.new.self c.turn.new.out.items) c.in-Err-NoMemory.field-0-is c.in-Err-NoMemory.ensures.turn)).0 in
+    λ is. subst IsTurnShort c.self.view_is (router_short p node near c.self.inside.heard c.self.inside.sent c.self.inside.dropped short)

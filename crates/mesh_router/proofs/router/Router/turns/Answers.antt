@@ -3,12 +3,14 @@ use Rattle.std.proofs.lemmas.Result.{err_from_is_err_and}
 use Rattle.mesh_router.specs.declared.stop.Stop.{Stop}
 use Rattle.mesh_router.specs.Turns.{next_turn}
 use Rattle.mesh_router.specs.Runs.{IsTurnRun}
-use Rattle.mesh_router.proofs.Turning.{turns_begin, turns_next, turns_stop, turns_end, turns_failed, turns_at, turn_was_done, turn_was_idle}
+use Rattle.mesh_router.proofs.Memory.{memory_of}
+use Rattle.mesh_router.proofs.Turning.{turns_begin, turns_next, turns_stop, turns_end, turns_failed, turns_at, turn_was_done, turn_was_idle, turns_short_here, turns_short_later, turns_short_at}
 use Rattle.mesh_router.proofs.router.Router.turns.Goals as goal
 
 pub loop-i-init : goal.loop-i-init
 loop-i-init g c = record {
   done = turns_at c.args.count c.args.count _ _ _ _ _ (turns_begin c.args.count c.args.self.now _) (omega arith);
+  short = λ h. turns_short_at c.args.count (c.args.count - 0) c.args.self.now h (omega arith);
   grown = record { heard = omega arith; sent = omega arith; dropped = omega arith };
   few = omega arith;
   peers = refl;
@@ -43,6 +45,7 @@ loop-i-preserved g c =
     record {
       done = turns_next c.args.count rest _ _ _ _ _ _ (turns_at c.args.count _ (suc rest) _ _ _ _ at.done (omega arith))
           (turn_was_done _ _ _ _ _ c.in_ok-turn.field-0 c.if-not-branch.false call.turn);
+      short = λ h. at.short (turns_short_at _ (suc rest) _ (turns_short_later rest _ _ _ _ (turn_was_done _ _ _ _ _ c.in_ok-turn.field-0 c.if-not-branch.false call.turn) h) (omega arith));
       grown = record {
         heard = omega (arith, at.grown.heard, call.grown.heard);
         sent = omega (arith, at.grown.sent, call.grown.sent);
@@ -55,3 +58,9 @@ loop-i-preserved g c =
       port = call.port ∙ at.port;
       arrived = call.arrived ∙ at.arrived;
     }
+
+pub returns-in_err-turn-clause-memory : goal.returns-in_err-turn-clause-memory
+returns-in_err-turn-clause-memory g c = λ is.
+    let rest = c.args.count - (c.loop-i._i + 1) in
+    let q = err_from_is_err_and c.from_residual.result c.from_residual.ensures.1 in
+    c.loop-i.invariant.short (turns_short_at _ (suc rest) _ (turns_short_here rest _ (c.in_err-turn.ensures.memory (memory_of _ q.0 _ q.1 q.2 is))) (omega arith))

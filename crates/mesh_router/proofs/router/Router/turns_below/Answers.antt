@@ -19,7 +19,7 @@ returns-in_err-put_line-clause-step g c =
     let q = err_from_is_err_and c.from_residual.result c.from_residual.ensures.1 in
     let P : Router → Type 0 = λ r. IsStepRun (said_before (written (line (words_of r.peers.mesh (accepted_of c.args.line.now)))) (turns_of c.args.count r)) (g.O.Sink.held c.args.out.now, g.L.Link.sent c.args.link.now) (g.O.Sink.held c.put_line.new.out, g.L.Link.sent c.args.link.now) c.args.self.now c.from_residual.result in
     subst P c.self.view_is (step_cut _ _ _ _ c.from_residual.result q.0 q.1 (not_full-write q.0 q.2)
-    (first-more (written (line words)) (turns_of c.args.count _) _ _ (prefix-text _ _ _ _ (written (line words)) refl c.in_err-put_line.ensures.text)))
+    (first-more (written (line words)) (turns_of c.args.count _) _ _ (prefix-text _ _ _ _ (line words) refl c.in_err-put_line.ensures.text)))
 
 pub returns-clause-step : goal.returns-clause-step
 returns-clause-step g c =

@@ -1,0 +1,46 @@
+-- When a router may be short of memory.
+use Rattle.std.specs.Prelude.{◌≡◌, ◌⊎◌, ℕ, zero, suc, true, List, [], ◌∷◌, ◌++◌, Option, Some, is_some, ⊤}
+use Rattle.mesh_base.specs.declared.events.Item.{Item}
+use Rattle.aodv_model.specs.Handlers.{may_ask}
+use Rattle.aodv_meaning.specs.Effects.{item_in}
+use Rattle.aodv_node.specs.Turned.{IsReadableItem, needs_memory}
+use Rattle.mesh_link.specs.Datagrams.{Datagram}
+use Rattle.mesh_peers.specs.Lines.{Accepted, Give, Turns, Asks}
+use Rattle.mesh_peers.specs.Peers.{PeersSeen, at_port}
+use Rattle.mesh_router.specs.Routers.{Router}
+use Rattle.mesh_router.specs.Turns as turns
+use Rattle.mesh_router.specs.Turns.{TurnOutcome, next_turn}
+use Rattle.mesh_router.specs.Finds.{Find, AreFound}
+
+-- the next turn needs memory: a datum for another node is to wait, or a request to be kept
+pub record IsTurnShort (r : Router) : Type 0 where
+  pub front : Item
+  pub rest : List Item
+  pub was : r.queue ≡ front ∷ rest
+  pub readable : IsReadableItem (r.peers).mesh front
+  pub needs : needs_memory r.core (item_in (r.peers).mesh front) ≡ true
+
+-- this holds of the router after a turn that was done
+abbrev pub HoldsAfter : TurnOutcome → (Router → Type 0) → Type 0
+HoldsAfter (turns.Done said next) holds = holds next
+HoldsAfter others holds = ⊥
+
+-- one of so many turns needs memory
+abbrev pub AreTurnsShort : ℕ → Router → Type 0
+AreTurnsShort zero r = ⊥
+AreTurnsShort (suc most) r =
+    IsTurnShort r ⊎ HoldsAfter (next_turn r) (λ next. AreTurnsShort most next)
+
+-- a command may need memory
+abbrev pub IsStepShort : Router → Accepted → Type 0
+IsStepShort r (Give dest body) = ⊤
+IsStepShort r (Turns count) = AreTurnsShort count r
+IsStepShort r (Asks d) = may_ask r.core d ≡ true
+IsStepShort r others = ⊥
+
+-- the last that was found is a datagram of a peer, which is to join the queue
+pub record IsPollShort (p : PeersSeen) (arrived left : Option (List Datagram)) : Type 0 where
+  pub before : List Find
+  pub datagram : Datagram
+  pub taken : AreFound arrived left (before ++ Some datagram ∷ [])
+  pub peer : is_some (at_port p datagram.port) ≡ true
