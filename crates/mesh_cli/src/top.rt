@@ -2,6 +2,7 @@
 ghost use Rattle.std.specs.Prelude.{◌≡◌, ◌≢◌, ◌↔◌, ℕ, [], true, false, map, None, IfSome};
 ghost use Rattle.mesh_io.specs.Cause.{Rose};
 ghost use Rattle.mesh_io.specs.Buffering.{inner_of, gathered_in, held_by};
+ghost use Rattle.mesh_run.specs.Causes.{HasStatusCause, HasSourceCause};
 ghost use Rattle.mesh_cli.specs.Words.{command_of, IsAllowed, IsPlan};
 ghost use Rattle.mesh_cli.specs.Does.{IsCommandRun, IsWritten, Completes, IsReadBy, reads, made_by};
 
@@ -19,8 +20,8 @@ fn make_gathered<S: Sink>(plan: Plan, buffer: &mut Buffered<S>) -> Status
     ensures told { IsWritten (held_by S.held buffer.old) (held_by S.held buffer.new)
         (made_by plan) result }
     ensures handed_on { result ≢ Status.WriteFault → gathered_in buffer.new ≡ [] }
-    ensures write { result ≡ Status.WriteFault
-        → Rose (S.faults (inner_of buffer.old)) (S.faults (inner_of buffer.new)) }
+    ensures write { HasStatusCause Status.WriteFault
+        (S.faults (inner_of buffer.old)) (S.faults (inner_of buffer.new)) result }
 {
     if make(plan.seed, plan.nodes, plan.steps, buffer).is_err() {
         return Status::WriteFault;
@@ -38,8 +39,8 @@ fn make_through<'s, O: Sink, L: Loan>(plan: Plan, out: &'s mut O, status: &mut S
     requires start { O.held out.now ≡ L.start }
     ensures same { result.ghost_name ≡ out.entry.ghost_name }
     ensures told { IsWritten (O.held out.entry.now) (O.held result.now) (made_by plan) status.new }
-    ensures write { status.new ≡ Status.WriteFault
-        → Rose (O.faults out.entry.now) (O.faults result.now) }
+    ensures write { HasStatusCause Status.WriteFault
+        (O.faults out.entry.now) (O.faults result.now) status.new }
 {
     let mut buffer: Buffered<Through<'s, O, L>> = Buffered::lent(out);
     *status = make_gathered(plan, &mut buffer);
@@ -50,7 +51,7 @@ fn make_through<'s, O: Sink, L: Loan>(plan: Plan, out: &'s mut O, status: &mut S
 fn make_schedule<O: Sink>(plan: Plan, out: &mut O) -> Status
     requires { IsPlan plan }
     ensures told { IsWritten (O.held out.old) (O.held out.new) (made_by plan) result }
-    ensures write { result ≡ Status.WriteFault → Rose (O.faults out.old) (O.faults out.new) }
+    ensures write { HasStatusCause Status.WriteFault (O.faults out.old) (O.faults out.new) result }
 {
     let mut status = Status::Done;
     let _out = make_through::<O, Brand>(plan, out, &mut status);
@@ -69,9 +70,9 @@ fn do_command<I: Source, O: Sink>(
         (O.held out.old) (O.held out.new) result }
     ensures untouched { reads command ≡ false → input.new ≡ input.old }
     ensures end { result ≡ Status.Done → IsReadBy command (I.left input.new) }
-    ensures read { result ≡ Status.ReadFault → Rose (I.faults input.old) (I.faults input.new) }
+    ensures read { HasSourceCause (I.faults input.old) (I.faults input.new) result }
     ensures reads { result ≡ Status.ReadFault → reads command ≡ true }
-    ensures write { result ≡ Status.WriteFault → Rose (O.faults out.old) (O.faults out.new) }
+    ensures write { HasStatusCause Status.WriteFault (O.faults out.old) (O.faults out.new) result }
     ensures words { result ≢ Status.Usage }
 {
     match command {
@@ -116,11 +117,11 @@ pub fn mesh<I: Source, O: Sink>(alloc: Global, words: &[&str], input: &mut I, ou
     ensures no_bad_line { IfSome (command_of (map (λ w. w.now) words.now)) (λ command.
         reads command ≡ false → (n : ℕ) → result ≢ Status.BadLine n) }
 
-    // A fault is answered only where the source or the sink has failed in this call.
-    ensures cause_of_read_fault { result ≡ Status.ReadFault
-        → Rose (I.faults input.old) (I.faults input.new) }
-    ensures cause_of_write_fault { result ≡ Status.WriteFault
-        → Rose (O.faults out.old) (O.faults out.new) }
+    // A fault is answered only where the source or the sink has failed in this call, and no other
+    // answer is given where one of them has.
+    ensures cause_of_read_fault { HasSourceCause (I.faults input.old) (I.faults input.new) result }
+    ensures cause_of_write_fault { HasStatusCause Status.WriteFault
+        (O.faults out.old) (O.faults out.new) result }
 
     // Where every line is allowed and nothing has failed, the whole text is written, unless memory
     // runs out.

@@ -20,7 +20,7 @@ use Rattle.mesh_run.proofs.Shown.{shown_none, shown_join, front_join, front_more
 
 -- ---- how many are left
 
-one_less : (most did : ℕ) → did < most → most - did ≡ suc (most - (did + 1))
+pub one_less : (most did : ℕ) → did < most → most - did ≡ suc (most - (did + 1))
 one_less most did h = omega arith
 
 auto_from-suc : (n did : ℕ) (m : Moment) → auto_from (suc n) did m ≡ chosen_then m did (pick (world_of m)) (λ p. auto_from n (did + 1) p)

@@ -1,5 +1,5 @@
 -- What comes of an event, of a line with one event, and of events that were chosen after a line.
-use Rattle.std.proofs.Common.{◌≡◌, ℕ, ◌+◌, Bool, true, is_some, List, [], ◌++◌, Option, length, refl, sym, ap, subst, ◌∙◌}
+use Rattle.std.proofs.Common.{◌≡◌, ℕ, ◌+◌, Bool, true, is_some, List, [], ◌++◌, Option, Result, Ok, Err, OnOk, length, refl, sym, ap, subst, ◌∙◌}
 use Rattle.std.specs.Io.KnownBytes.{Appends}
 use Rattle.mesh_base.specs.declared.events.Counter.{Counter as Field}
 use Rattle.mesh_base.specs.declared.events.Done.{Done}
@@ -152,6 +152,10 @@ answer_mesh m n e d packet a = ap (λ k. k.mesh) a.moment
 pub step_lines : (m s n : Moment) (e : Event) → s ≡ started m → n ≡ stepped s e → n.lines ≡ m.lines
 unfolding stepped
 step_lines m s n e same next = ap (λ k. k.lines) next ∙ ap (λ k. k.lines) same
+
+pub step_lines_ok : {T E : Type 0} (m s n : Moment) (e : Event) (r : Result T E) → s ≡ started m → OnOk r (n ≡ stepped s e) → OnOk r (n.lines ≡ m.lines)
+step_lines_ok m s n e (Ok x) same next = step_lines m s n e same next
+step_lines_ok m s n e (Err x) same next = tt
 
 -- ---- what an event and other lines are written as
 

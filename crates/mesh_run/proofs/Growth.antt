@@ -2,9 +2,13 @@
 use Rattle.std.proofs.Common.{◌≡◌, inl, inr, if◌then◌else◌, ℕ, zero, suc, ◌+◌, ◌*◌, ◌≤◌, Bool, true, false, List, Option, Some, None, Result, Ok, Err, OnOk, length, is_some, refl, ap, subst, ◌∙◌, arith}
 use Rattle.mesh_base.specs.declared.limits.TheConstants.{MOST_NODES, MOST_EVENTS}
 use Rattle.mesh_model.specs.Worlds as worlds
-use Rattle.mesh_model.specs.Worlds.{Event, Outcome, Idle, Next, Happening, Taken, CopyLost, CopyDoubled, Give, Turn}
+use Rattle.mesh_model.specs.Worlds.{World, start, first_numbers, Event, Outcome, Idle, Next, Happening, Taken, CopyLost, CopyDoubled, Give, Turn}
 use Rattle.aodv_model.specs.Cores.{Message, Pkt, Rreq, Rrep, Rerr}
 use Rattle.aodv_model.specs.Handlers.{Took, Own, Stored, FromNeighbour}
+use Rattle.mesh_base.specs.declared.events.Variant.{Variant}
+use Rattle.mesh_base.specs.Meshes.{Nodes, with_node}
+use Rattle.std.specs.Option.{unwrap_or}
+use Rattle.mesh_model.proofs.Sizes.{same_size}
 use Rattle.mesh_model.specs.Choices.{pick}
 use Rattle.mesh_model.specs.Accounts.{any, in_taken, in_dropped, in_message, given, delivered, delivered_in, dropped, dropped_in, doubled_in, doubled_at}
 use Rattle.mesh_grammar.specs.Lines.{Whole}
@@ -21,6 +25,7 @@ use Rattle.mesh_io.specs.Cutting.{IsCounted}
 use Rattle.mesh_run.specs.declared.stop.Stop.{Stop}
 use Rattle.mesh_run.specs.Runs.{IsLineRun}
 use Rattle.mesh_run.specs.Sums.{IsGrown}
+use Rattle.mesh_run.proofs.NextCopies.{few_copies}
 
 -- ---- no sum grows by more than one
 
@@ -91,24 +96,33 @@ copied_few (Next w happening) = doubled_few happening
 
 -- ---- an event, and others
 
-pub grown_same : (m n : Moment) → n.steps ≡ m.steps → n.sums ≡ m.sums → IsGrown m n
-grown_same m n steps sums =
+pub grown_same : (m n : Moment) → n.steps ≡ m.steps → n.sums ≡ m.sums → (world_of n).next_copy ≡ (world_of m).next_copy → IsGrown m n
+grown_same m n steps sums copies =
     let events = ap (λ s. s.events) sums in let idle = ap (λ s. s.idle) sums in let given_is = ap (λ s. s.given) sums in
     let delivered_is = ap (λ s. s.delivered) sums in let lost = ap (λ s. s.lost) sums in let copied = ap (λ s. s.copied) sums in
-    record { steps = omega arith; events = omega arith; idle = omega arith; given = omega arith; delivered = omega arith; lost = omega arith; copied = omega arith }
+    record { steps = omega arith; events = omega arith; idle = omega arith; given = omega arith; delivered = omega arith; lost = omega arith; copied = omega arith; copies = omega arith }
 
 pub grown_both : (m n k : Moment) → IsGrown m n → IsGrown n k → IsGrown m k
 grown_both m n k a b =
-    let a0 = a.steps in let a1 = a.events in let a2 = a.idle in let a3 = a.given in let a4 = a.delivered in let a5 = a.lost in let a6 = a.copied in
-    let b0 = b.steps in let b1 = b.events in let b2 = b.idle in let b3 = b.given in let b4 = b.delivered in let b5 = b.lost in let b6 = b.copied in
-    record { steps = omega arith; events = omega arith; idle = omega arith; given = omega arith; delivered = omega arith; lost = omega arith; copied = omega arith }
+    let a0 = a.steps in let a1 = a.events in let a2 = a.idle in let a3 = a.given in let a4 = a.delivered in let a5 = a.lost in let a6 = a.copied in let a7 = a.copies in
+    let b0 = b.steps in let b1 = b.events in let b2 = b.idle in let b3 = b.given in let b4 = b.delivered in let b5 = b.lost in let b6 = b.copied in let b7 = b.copies in
+    record { steps = omega arith; events = omega arith; idle = omega arith; given = omega arith; delivered = omega arith; lost = omega arith; copied = omega arith; copies = omega arith }
 
-grown_event : (m : Moment) (e : Event) → IsGrown m (stepped m e)
+-- a mesh has room for the nodes of the world
+abbrev pub IsSized : Moment → Type 0
+IsSized m = length (world_of m).nodes ≤ MOST_NODES
+
+stepped_sized : (m : Moment) (e : Event) → IsSized m → IsSized (stepped m e)
 unfolding stepped
-grown_event m e =
+stepped_sized m e sized = let same = same_size (world_of m) e in omega arith
+
+grown_event : (m : Moment) (e : Event) → IsSized m → IsGrown m (stepped m e)
+unfolding stepped
+grown_event m e sized =
+    let more = few_copies (world_of m) e sized in
     let o : Outcome = outcome_at m e in
     let i = idle_few o in let g = given_few e o in let d = delivered_few e o in let l = lost_few e o in let c = copied_few o in
-    record { steps = omega arith; events = omega arith; idle = omega arith; given = omega arith; delivered = omega arith; lost = omega arith; copied = omega arith }
+    record { steps = omega arith; events = omega arith; idle = omega arith; given = omega arith; delivered = omega arith; lost = omega arith; copied = omega arith; copies = omega arith }
 
 -- from m to n by at most so many events
 record Grows (m n : Moment) (most : ℕ) : Type 0 where
@@ -117,11 +131,11 @@ record Grows (m n : Moment) (most : ℕ) : Type 0 where
   steps : n.steps ≤ m.steps + most
 
 grows_none : (m : Moment) (most : ℕ) → Grows m m most
-grows_none m most = record { grown = grown_same m m refl refl; lines = refl; steps = omega arith }
+grows_none m most = record { grown = grown_same m m refl refl refl; lines = refl; steps = omega arith }
 
-grows_event : (m : Moment) (e : Event) → Grows m (stepped m e) 1
+grows_event : (m : Moment) (e : Event) → IsSized m → Grows m (stepped m e) 1
 unfolding stepped
-grows_event m e = record { grown = grown_event m e; lines = refl; steps = omega arith }
+grows_event m e sized = record { grown = grown_event m e sized; lines = refl; steps = omega arith }
 
 grows_both : (m n k : Moment) (a b : ℕ) → Grows m n a → Grows n k b → Grows m k (a + b)
 grows_both m n k a b p q =
@@ -134,29 +148,29 @@ GrowsTo : Moment → auto.AutoOutcome → ℕ → Type 0
 GrowsTo m (auto.Ended text did n) most = Grows m n most
 GrowsTo m (auto.Full text n e field) most = Unit {0}
 
-grows_before : (m : Moment) (e : Event) (text : List ℕ) (r : auto.AutoOutcome) (most : ℕ) → GrowsTo (stepped m e) r most → GrowsTo m (auto.before text r) (suc most)
+grows_before : (m : Moment) (e : Event) (text : List ℕ) (r : auto.AutoOutcome) (most : ℕ) → IsSized m → GrowsTo (stepped m e) r most → GrowsTo m (auto.before text r) (suc most)
 unfolding GrowsTo
-grows_before m e text (auto.Ended others did n) most g =
-    let both = grows_both m (stepped m e) n 1 most (grows_event m e) g in
+grows_before m e text (auto.Ended others did n) most sized g =
+    let both = grows_both m (stepped m e) n 1 most (grows_event m e sized) g in
     let steps = both.steps in
     record { grown = both.grown; lines = both.lines; steps = omega arith }
-grows_before m e text (auto.Full others n f field) most g = tt
+grows_before m e text (auto.Full others n f field) most sized g = tt
 
-grows_done : (m : Moment) (e : Event) (o : Outcome) (others : Moment → auto.AutoOutcome) (most : ℕ) → GrowsTo (stepped m e) (others (stepped m e)) most → GrowsTo m (auto.done_then m e o others) (suc most)
+grows_done : (m : Moment) (e : Event) (o : Outcome) (others : Moment → auto.AutoOutcome) (most : ℕ) → IsSized m → GrowsTo (stepped m e) (others (stepped m e)) most → GrowsTo m (auto.done_then m e o others) (suc most)
 unfolding GrowsTo
-grows_done m e Idle others most g = grows_before m e _ (others (stepped m e)) most g
-grows_done m e (worlds.Full x field) others most g = tt
-grows_done m e (Next w happening) others most g = grows_before m e _ (others (stepped m e)) most g
+grows_done m e Idle others most sized g = grows_before m e _ (others (stepped m e)) most sized g
+grows_done m e (worlds.Full x field) others most sized g = tt
+grows_done m e (Next w happening) others most sized g = grows_before m e _ (others (stepped m e)) most sized g
 
-grows_chosen : (m : Moment) (did : ℕ) (o : Option Event) (others : Moment → auto.AutoOutcome) (most : ℕ) → ((n : Moment) → GrowsTo n (others n) most) → GrowsTo m (auto.chosen_then m did o others) (suc most)
+grows_chosen : (m : Moment) (did : ℕ) (o : Option Event) (others : Moment → auto.AutoOutcome) (most : ℕ) → IsSized m → ((n : Moment) → IsSized n → GrowsTo n (others n) most) → GrowsTo m (auto.chosen_then m did o others) (suc most)
 unfolding GrowsTo
-grows_chosen m did None others most g = grows_none m (suc most)
-grows_chosen m did (Some e) others most g = grows_done m e (outcome_at m e) others most (g (stepped m e))
+grows_chosen m did None others most sized g = grows_none m (suc most)
+grows_chosen m did (Some e) others most sized g = grows_done m e (outcome_at m e) others most sized (g (stepped m e) (stepped_sized m e sized))
 
-grows_auto : (most did : ℕ) (m : Moment) → GrowsTo m (auto.auto_from most did m) most
+grows_auto : (most did : ℕ) (m : Moment) → IsSized m → GrowsTo m (auto.auto_from most did m) most
 unfolding GrowsTo auto.auto_from
-grows_auto zero did m = grows_none m zero
-grows_auto (suc most) did m = grows_chosen m did (pick (world_of m)) (λ n. auto.auto_from most (did + 1) n) most (λ n. grows_auto most (did + 1) n)
+grows_auto zero did m sized = grows_none m zero
+grows_auto (suc most) did m sized = grows_chosen m did (pick (world_of m)) (λ n. auto.auto_from most (did + 1) n) most sized (λ n fits. grows_auto most (did + 1) n fits)
 
 -- ---- a line
 
@@ -172,13 +186,13 @@ GrowsOn m (Refused why) bytes = Unit {0}
 GrowsOn m (Full text n e field) bytes = Unit {0}
 
 line_shown : (m : Moment) (bytes : ℕ) → LineGrows m (counted (started m)) bytes
-line_shown m bytes = record { lines = refl; grown = grown_same m (counted (started m)) refl refl; steps = omega arith }
+line_shown m bytes = record { lines = refl; grown = grown_same m (counted (started m)) refl refl refl; steps = omega arith }
 
-line_event : (m : Moment) (e : Event) (o : Outcome) (bytes : ℕ) → 1 ≤ bytes → GrowsOn m (outcome_of_event m e o) bytes
+line_event : (m : Moment) (e : Event) (o : Outcome) (bytes : ℕ) → IsSized m → 1 ≤ bytes → GrowsOn m (outcome_of_event m e o) bytes
 unfolding GrowsOn stepped
-line_event m e Idle bytes some = let g = grown_event m e in record { lines = refl; grown = record { steps = g.steps; events = g.events; idle = g.idle; given = g.given; delivered = g.delivered; lost = g.lost; copied = g.copied }; steps = omega arith }
-line_event m e (worlds.Full x field) bytes some = tt
-line_event m e (Next w happening) bytes some = let g = grown_event m e in record { lines = refl; grown = record { steps = g.steps; events = g.events; idle = g.idle; given = g.given; delivered = g.delivered; lost = g.lost; copied = g.copied }; steps = omega arith }
+line_event m e Idle bytes sized some = let g = grown_event m e sized in record { lines = refl; grown = record { steps = g.steps; events = g.events; idle = g.idle; given = g.given; delivered = g.delivered; lost = g.lost; copied = g.copied; copies = g.copies }; steps = omega arith }
+line_event m e (worlds.Full x field) bytes sized some = tt
+line_event m e (Next w happening) bytes sized some = let g = grown_event m e sized in record { lines = refl; grown = record { steps = g.steps; events = g.events; idle = g.idle; given = g.given; delivered = g.delivered; lost = g.lost; copied = g.copied; copies = g.copies }; steps = omega arith }
 
 line_auto : (m : Moment) (text : List ℕ) (r : auto.AutoOutcome) (count bytes : ℕ) → GrowsTo (started m) r count → count ≤ MOST_EVENTS → 4 ≤ bytes → GrowsOn m (outcome_of_auto text r) bytes
 unfolding GrowsTo GrowsOn
@@ -186,36 +200,42 @@ line_auto m text (auto.Ended others did n) count bytes g few four =
     let steps = g.steps in let lines = g.lines in let is = g.grown in
     record {
       lines = omega arith;
-      grown = record { steps = is.steps; events = is.events; idle = is.idle; given = is.given; delivered = is.delivered; lost = is.lost; copied = is.copied };
+      grown = record { steps = is.steps; events = is.events; idle = is.idle; given = is.given; delivered = is.delivered; lost = is.lost; copied = is.copied; copies = is.copies };
       steps = omega arith;
     }
 line_auto m text (auto.Full others n e field) count bytes g few four = tt
 
-line_by : (m : Moment) (bytes : List ℕ) (a : Accepted) → IsInRange m.mesh a → line_of m.mesh (is_some m.world) bytes ≡ Ok a → 4 * length (events_of_piece m (Whole bytes)) ≤ MOST_EVENTS * length bytes
+-- before there is a world its next copy is the first, whichever nodes there are
+other_nodes : (v : Variant) (some more : Nodes) (o : Option World) → (unwrap_or o (start v (first_numbers more))).next_copy ≡ (unwrap_or o (start v (first_numbers some))).next_copy
+unfolding start
+other_nodes v some more None = refl
+other_nodes v some more (Some w) = refl
+
+line_by : (m : Moment) (bytes : List ℕ) (a : Accepted) → IsSized m → IsInRange m.mesh a → line_of m.mesh (is_some m.world) bytes ≡ Ok a → 4 * length (events_of_piece m (Whole bytes)) ≤ MOST_EVENTS * length bytes
     → GrowsOn m (outcome_of_line m a) (length bytes)
 unfolding GrowsOn outcome_of_line
-line_by m bytes Nothing range is few = record { lines = refl; grown = grown_same m (counted m) refl refl; steps = omega arith }
-line_by m bytes (NewNode address first) range is few = record { lines = refl; grown = grown_same m _ refl refl; steps = omega arith }
-line_by m bytes (Does e) range is few =
+line_by m bytes Nothing sized range is few = record { lines = refl; grown = grown_same m (counted m) refl refl refl; steps = omega arith }
+line_by m bytes (NewNode address first) sized range is few = record { lines = refl; grown = grown_same m _ refl refl (other_nodes m.variant m.mesh (with_node m.mesh address first) m.world); steps = omega arith }
+line_by m bytes (Does e) sized range is few =
     let one : 4 * 1 ≤ MOST_EVENTS * length bytes = subst (λ r. 4 * length (events_read m r) ≤ MOST_EVENTS * length bytes) is few in
-    line_event m e (outcome_at m e) (length bytes) (omega arith)
-line_by m bytes (Chooses count) range is few =
-    line_auto m (line (words_of m.mesh (Chooses count))) (auto.auto_from count 0 (started m)) count (length bytes) (grows_auto count 0 (started m)) range.2 (auto_line_has_four_bytes m.mesh (is_some m.world) bytes count is)
-line_by m bytes (ShowsNode x) range is few = line_shown m (length bytes)
-line_by m bytes (ShowsRoute x d) range is few = line_shown m (length bytes)
-line_by m bytes ShowsFlight range is few = line_shown m (length bytes)
+    line_event m e (outcome_at m e) (length bytes) sized (omega arith)
+line_by m bytes (Chooses count) sized range is few =
+    line_auto m (line (words_of m.mesh (Chooses count))) (auto.auto_from count 0 (started m)) count (length bytes) (grows_auto count 0 (started m) sized) range.2 (auto_line_has_four_bytes m.mesh (is_some m.world) bytes count is)
+line_by m bytes (ShowsNode x) sized range is few = line_shown m (length bytes)
+line_by m bytes (ShowsRoute x d) sized range is few = line_shown m (length bytes)
+line_by m bytes ShowsFlight sized range is few = line_shown m (length bytes)
 
-pub line_grows : (m n : Moment) (bytes text : List ℕ) (a : Accepted) → length m.mesh ≤ MOST_NODES → line_of m.mesh (is_some m.world) bytes ≡ Ok a → outcome_of_line m a ≡ On text n → LineGrows m n (length bytes)
+pub line_grows : (m n : Moment) (bytes text : List ℕ) (a : Accepted) → IsSized m → length m.mesh ≤ MOST_NODES → line_of m.mesh (is_some m.world) bytes ≡ Ok a → outcome_of_line m a ≡ On text n → LineGrows m n (length bytes)
 unfolding GrowsOn
-line_grows m n bytes text a few is on =
+line_grows m n bytes text a sized few is on =
     let range = in_range m.mesh (is_some m.world) bytes a few is in
-    subst (λ k. GrowsOn m k (length bytes)) on (line_by m bytes a range.0 is (line_has_few_events m bytes few))
+    subst (λ k. GrowsOn m k (length bytes)) on (line_by m bytes a sized range.0 is (line_has_few_events m bytes few))
 
 -- where it was done
-pub done_grows : {P : Type 0} (quiet : Bool) (m n : Moment) (bytes : List ℕ) (a : Accepted) (before now : Option (List ℕ)) (r : Result (Unit {0}) Stop) → (LineGrows m n (length bytes) → P) → length m.mesh ≤ MOST_NODES
+pub done_grows : {P : Type 0} (quiet : Bool) (m n : Moment) (bytes : List ℕ) (a : Accepted) (before now : Option (List ℕ)) (r : Result (Unit {0}) Stop) → (LineGrows m n (length bytes) → P) → IsSized m → length m.mesh ≤ MOST_NODES
     → line_of m.mesh (is_some m.world) bytes ≡ Ok a → IsLineRun quiet m (outcome_of_line m a) n before now r → OnOk r P
-done_grows quiet m n bytes a before now (Ok done) of few is run = of (line_grows m n bytes run.text a few is run.is)
-done_grows quiet m n bytes a before now (Err stop) of few is run = tt
+done_grows quiet m n bytes a before now (Ok done) of sized few is run = of (line_grows m n bytes run.text a sized few is run.is)
+done_grows quiet m n bytes a before now (Err stop) of sized few is run = tt
 
 -- lines that were done, and one more, by the bytes that were given
 pub steps_more : (len given after : ℕ) (ended : Bool) (n m s bytes : ℕ) → IsCounted len given after ended → bytes ≡ len → 4 * n ≤ 4 * m + MOST_EVENTS * bytes → 4 * m ≤ 4 * s + MOST_EVENTS * given

@@ -3,12 +3,15 @@ pub mod Shown
 pub mod Events
 pub mod Counts
 pub mod Sound
+pub mod Begun
 pub mod Chosen
+pub mod Ways
 pub mod Tables
 pub mod Choices
 pub mod Pieces
 pub mod Completes
 pub mod Story
+pub mod NextCopies
 pub mod Growth
 pub mod Faults
 pub mod Buffers

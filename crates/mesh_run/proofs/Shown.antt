@@ -1,5 +1,5 @@
 -- Texts that a quiet run leaves out.
-use Rattle.std.proofs.Common.{ℕ, Bool, true, false, List, [], ◌++◌, Option, Some, None, refl}
+use Rattle.std.proofs.Common.{◌≡◌, ℕ, Bool, true, false, List, [], ◌++◌, Option, Some, None, refl, sym, subst}
 use Rattle.std.specs.Io.KnownBytes.{Appends, Keeps}
 use Rattle.mesh_io.specs.Puts.{AppendsPrefix}
 use Rattle.mesh_io.proofs.Writing.{Appends-join, Appends-none, Appends-kept, AppendsPrefix-join, AppendsPrefix-more}
@@ -32,3 +32,14 @@ front_join false a b c xs ys p q = AppendsPrefix-join a b c xs ys (xs ++ ys) ref
 pub front_more : (quiet : Bool) (a b : Option (List ℕ)) (xs ys : List ℕ) → AppendsPrefix a b (output_if quiet xs) → AppendsPrefix a b (output_if quiet (xs ++ ys))
 front_more true a b xs ys p = p
 front_more false a b xs ys p = AppendsPrefix-more a b xs ys (xs ++ ys) refl p
+
+-- nothing is written in a quiet run
+pub quiet_none : (quiet : Bool) (text : List ℕ) (a : Option (List ℕ)) → quiet ≡ true → Appends a a (output_if quiet text)
+quiet_none quiet text a is = subst (λ q. Appends a a (output_if q text)) (sym is) (Appends-none a)
+
+-- and all in another
+pub loud_whole : (quiet : Bool) (text : List ℕ) (a b : Option (List ℕ)) → quiet ≡ false → Appends a b text → Appends a b (output_if quiet text)
+loud_whole quiet text a b is p = subst (λ q. Appends a b (output_if q text)) (sym is) p
+
+pub loud_front : (quiet : Bool) (text : List ℕ) (a b : Option (List ℕ)) → quiet ≡ false → AppendsPrefix a b text → AppendsPrefix a b (output_if quiet text)
+loud_front quiet text a b is p = subst (λ q. AppendsPrefix a b (output_if q text)) (sym is) p

@@ -2,6 +2,7 @@
 use Rattle.std.proofs.Common.{◌≡◌, ◌≤◌, ◌+◌, ℕ, false, Option, Some, None, Result, Ok, List, [], length, is_some, refl, sym, ap, subst, ◌∙◌, arith}
 use Rattle.std.specs.Option.{unwrap_or, option_map}
 use Rattle.std.proofs.lemmas.List.{length-map}
+use Rattle.mesh_base.specs.declared.limits.TheConstants.{MOST_NODES}
 use Rattle.mesh_base.specs.Meshes.{Nodes, IsMesh, with_node}
 use Rattle.mesh_base.proofs.Grown.{grown_is_mesh}
 use Rattle.mesh_base.specs.declared.events.Variant.{Variant}
@@ -56,6 +57,25 @@ safe_sound variant nodes (Some w) s lines is =
 pub safe_at : (m : Moment) (variant : Variant) (nodes : Nodes) (seen : Option WorldSeen) (s : Sums) (lines : ℕ) → moment_seen variant nodes seen s lines ≡ m → IsSound (moment_seen variant nodes seen s lines) seen
     → IsSafe m
 safe_at m variant nodes seen s lines is sound = subst IsSafe is (safe_sound variant nodes seen s lines sound)
+
+-- a mesh has room for the nodes of its world
+sized_sound : (variant : Variant) (nodes : Nodes) (seen : Option WorldSeen) (s : Sums) (lines : ℕ) → IsSound (moment_seen variant nodes seen s lines) seen
+    → length (world_of (moment_seen variant nodes seen s lines)).nodes ≤ MOST_NODES
+sized_sound variant nodes None s lines is =
+    let size = start_size variant (first_numbers nodes) in
+    let count = length-map nodes (λ p. p.1) in
+    let few = (is.mesh).few in
+    omega arith
+sized_sound variant nodes (Some w) s lines is =
+    let at = is.world w refl in
+    let count = (at.sound).count in
+    let same : length w.mesh ≡ length nodes = ap length at.mesh in
+    let few = (is.mesh).few in
+    omega arith
+
+pub sized_at : (m : Moment) (variant : Variant) (nodes : Nodes) (seen : Option WorldSeen) (s : Sums) (lines : ℕ) → moment_seen variant nodes seen s lines ≡ m → IsSound (moment_seen variant nodes seen s lines) seen
+    → length (world_of m).nodes ≤ MOST_NODES
+sized_at m variant nodes seen s lines is sound = subst (λ k. length (world_of k).nodes ≤ MOST_NODES) is (sized_sound variant nodes seen s lines sound)
 
 some_inj : {x y : WorldSeen} → Some x ≡ Some y → x ≡ y
 some_inj h = cc

@@ -14,7 +14,7 @@ use Rattle.mesh_model.specs.Invariants.{IsInvariant}
 use Rattle.mesh_model.specs.Walks.{Cycle}
 use Rattle.mesh_meaning.specs.Events.{node_of}
 use Rattle.mesh_meaning.specs.Answers.{outcome_in, IsDoneInMesh}
-use Rattle.mesh_text.specs.Schedule.{Moment, Sums, world_of, outcome_at, stepped}
+use Rattle.mesh_text.specs.Schedule.{Moment, Sums, Accepted, Nothing, NewNode, world_of, started, outcome_at, stepped}
 use Rattle.mesh_text.specs.Accounts.{IsBalanced}
 use Rattle.mesh_run.specs.Sums.{AreCounts}
 use Rattle.mesh_world.specs.Seen.{WorldSeen, IsSoundWorld}
@@ -33,6 +33,12 @@ moment_seen variant nodes seen sums lines = record {
   lines = lines;
   steps = unwrap_or (option_map (λ w. w.steps) seen) 0;
 }
+
+-- the moment at which a line is done: one that is neither blank nor of a node starts the run
+abbrev pub begun : Moment → Accepted → Moment
+begun m Nothing = m
+begun m (NewNode address first) = m
+begun m others = started m
 
 -- a sound world of this mesh
 pub record IsWorldAt (nodes : Nodes) (w : WorldSeen) : Type 0 where

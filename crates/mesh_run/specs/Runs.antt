@@ -1,5 +1,5 @@
 -- What was told of one line, of one event, and of events that were chosen. A text is left out where a run is quiet.
-use Rattle.std.specs.Prelude.{ℕ, ◌≡◌, ◌≤◌, List, [], Bool, if◌then◌else◌, Option, Result, Ok, Err, MatchResult, length}
+use Rattle.std.specs.Prelude.{ℕ, ◌≡◌, ◌≤◌, ◌⊎◌, List, [], take, Bool, if◌then◌else◌, Option, Result, Ok, Err, MatchResult, length}
 use Rattle.std.specs.Io.KnownBytes.{Appends, Keeps}
 use Rattle.mesh_base.specs.declared.events.Counter as full
 use Rattle.mesh_io.specs.Puts.{AppendsPrefix}
@@ -11,16 +11,25 @@ use Rattle.mesh_grammar.specs.declared.fault.BadWhy.TheVariants.{Fault}
 use Rattle.mesh_base.specs.Meshes.{Nodes}
 use Rattle.mesh_base.specs.declared.limits.TheConstants.{LONGEST_LINE}
 use Rattle.mesh_text.specs.Lines.{words_of}
-use Rattle.mesh_text.specs.Schedule.{Moment, Accepted, outcome_at, stepped}
+use Rattle.mesh_text.specs.Schedule.{Moment, Accepted, ShowsNode, ShowsRoute, ShowsFlight, started, counted, outcome_at, stepped}
 use Rattle.mesh_text.specs.Effects.{outcome_lines}
 use Rattle.mesh_text.specs.Auto.{AutoOutcome, Ended, Full as AutoFull}
+use Rattle.mesh_text.specs.Runs.{moment_after}
 use Rattle.mesh_text.specs.Text.{LineOutcome, On, Refused, Full, text_in}
+use Rattle.mesh_run.specs.declared.show.Shown.{Shown}
+use Rattle.mesh_run.specs.declared.show.Shown.TheVariants as shown
 use Rattle.mesh_run.specs.declared.stop.Stop.{Stop}
 use Rattle.mesh_run.specs.declared.stop.Stop.TheVariants as stop
 
 -- what a quiet run leaves out
 abbrev pub output_if : Bool → List ℕ → List ℕ
 output_if quiet text = if quiet then [] else text
+
+-- the line that shows this
+abbrev pub line_of_shown : Shown → Accepted
+line_of_shown (shown.Node node) = ShowsNode node
+line_of_shown (shown.Route node dest) = ShowsRoute node dest
+line_of_shown shown.Flight = ShowsFlight
 
 -- the bytes of a line are what the line is written back as
 abbrev pub IsLineOf : Nodes → Accepted → List ℕ → Type 0
@@ -59,6 +68,21 @@ IsLineStopped quiet m k n before now stop.NoMemory = AppendsPrefix before now (o
 -- either
 abbrev pub IsLineRun : Bool → Moment → LineOutcome → Moment → Option (List ℕ) → Option (List ℕ) → Result (Unit {0}) Stop → Type 0
 IsLineRun quiet m k n before now result = MatchResult result (λ _. IsLineDone quiet k n before now) (IsLineStopped quiet m k n before now)
+
+-- either, of a line that is not counted yet
+abbrev pub IsUncountedRun : Bool → Moment → LineOutcome → Moment → Option (List ℕ) → Option (List ℕ) → Result (Unit {0}) Stop → Type 0
+IsUncountedRun quiet m k n before now result = MatchResult result (λ _. IsLineDone quiet k (counted n) before now) (IsLineStopped quiet m k n before now)
+
+-- ---- the moments that a line goes through
+
+-- some of these events lead from one moment to another
+abbrev pub IsReached : Moment → List Event → Moment → Type 0
+IsReached m events n = (k : ℕ) × (n ≡ moment_after m (take k events))
+
+-- a line with these events goes through a moment before it is counted: the one before it; or, once the run has started, that
+-- after some of its events
+abbrev pub IsOnTheWay : Moment → List Event → Moment → Type 0
+IsOnTheWay m events n = (n ≡ m) ⊎ IsReached (started m) events n
 
 -- ---- one event
 

@@ -1,5 +1,5 @@
 //! What each command does.
-ghost use Rattle.std.specs.Prelude.{◌≡◌, ◌≢◌, ◌<◌, ◌≤◌, ◌+◌, ◌^◌, length, is_some, true, OnOk, IfSome, IsErrOf};
+ghost use Rattle.std.specs.Prelude.{◌≡◌, ◌≢◌, ◌<◌, ◌≤◌, ◌^◌, ◌∷◌, [], length, is_some, true, OnOk, OnErr, IfSome};
 ghost use Rattle.mesh_model.specs.Worlds.{World};
 ghost use Rattle.mesh_meaning.specs.Answers.{outcome_in, IsDoneInMesh};
 ghost use Rattle.mesh_meaning.specs.Events.{event_of, node_of};
@@ -9,19 +9,21 @@ ghost use Rattle.mesh_grammar.specs.Written.{line as line_of_words};
 ghost use Rattle.mesh_text.specs.Effects.{outcome_lines};
 ghost use Rattle.mesh_text.specs.Ranges.{IsEcho};
 ghost use Rattle.mesh_text.specs.Text.{outcome_of_line};
-ghost use Rattle.mesh_io.specs.Cause.{Rose, HasCause};
+ghost use Rattle.mesh_text.specs.Runs.{events_of_line};
+ghost use Rattle.mesh_io.specs.Cause.{HasCause};
 ghost use Rattle.mesh_io.specs.Puts.{Puts};
 ghost use Rattle.mesh_script.specs.Seen.{accepted_of, IsPrintable, IsAllowed};
 ghost use Rattle.mesh_run.specs.Moments.{stop_of};
-ghost use Rattle.mesh_run.specs.Runs.{output_if, line_outcome_at, IsLineOf, IsLineRun};
+ghost use Rattle.mesh_run.specs.Causes.{HasStopCause};
+ghost use Rattle.mesh_run.specs.Runs.{output_if, line_outcome_at, IsLineOf, IsLineRun, IsUncountedRun, IsReached, IsOnTheWay};
 
 use crate::auto::do_auto;
 use crate::point::Point;
-use crate::show::{show_flight, show_node, show_route};
-use crate::stop::{Scratch, Stop};
+use crate::show::{Shown, do_show};
+use crate::stop::Stop;
 use mesh_base::{Addr, Done, Event, LONGEST_LINE, LineBuf, Mesh, Packet};
 use mesh_io::{PutFault, Sink};
-use mesh_report::{put_echo, put_echoed_event, put_event, put_line};
+use mesh_report::{put_echoed_event, put_event, put_line};
 use mesh_script::Line;
 use mesh_world::{StepError, Steps};
 use std::alloc::Global;
@@ -57,7 +59,6 @@ pub fn do_event<'a, S: Steps, O: Sink>(
     bytes: Option<&[u8]>,
     event: Event<'a>,
     quiet: bool,
-    scratch: &mut Scratch,
     out: &mut O,
 ) -> Result<(), Stop<'a>>
     requires started { is_some at.old.world ≡ true }
@@ -67,24 +68,17 @@ pub fn do_event<'a, S: Steps, O: Sink>(
     ensures comes { IsLineRun quiet at.old (line_outcome_at at.old (event_of event.entry))
         at.new (O.held out.old) (O.held out.new) result }
     ensures moment { OnOk result (at.new ≡ stepped at.old (event_of event.entry)) }
-    ensures later { O.faults out.old ≤ O.faults out.new }
-    ensures fault { IsErrOf result Stop.WriteFault → Rose (O.faults out.old) (O.faults out.new) }
+    ensures way { OnErr result (IsReached at.old (event_of event.entry ∷ []) at.new) }
+    ensures cause { HasStopCause (O.faults out.old) (O.faults out.new) result }
 {
-    let answer = at.step_made(alloc, &event, &mut scratch.packet);
+    let answer = at.state.step_made(alloc, &event, &mut at.packet);
     match &answer {
         Ok(done) => {
             if quiet {
                 return Ok(());
             }
-            match say_event(
-                at.mesh(),
-                bytes,
-                &event,
-                done,
-                &scratch.packet,
-                &mut scratch.line,
-                out,
-            ) {
+            let mesh = at.state.mesh();
+            match say_event(mesh, bytes, &event, done, &at.packet, &mut at.line, out) {
                 Ok(()) => Ok(()),
                 Err(_) => Err(Stop::WriteFault),
             }
@@ -102,33 +96,6 @@ fn stop_of<'a>(event: Event<'a>, error: StepError) -> Stop<'a>
         StepError::Full { node, field } => Stop::Full { event, node, field },
         StepError::NoMemory => Stop::NoMemory,
     }
-}
-
-// A line with one event.
-fn do_step<'a, S: Steps, O: Sink>(
-    alloc: Global,
-    at: &mut Point<S>,
-    bytes: &[u8],
-    event: Event<'a>,
-    quiet: bool,
-    scratch: &mut Scratch,
-    out: &mut O,
-) -> Result<(), Stop<'a>>
-    requires few { at.old.lines < 2 ^ 62 }
-    requires steps { at.old.steps < 2 ^ 47 }
-    requires printable { IsPrintable at.old.mesh (Line.Step event) }
-    requires echo { IsLineOf at.old.mesh (Does (event_of event)) bytes.now }
-    ensures comes { IsLineRun quiet at.old (outcome_of_line at.old (Does (event_of event.entry)))
-        at.new (O.held out.old) (O.held out.new) result }
-    ensures later { O.faults out.old ≤ O.faults out.new }
-    ensures fault { IsErrOf result Stop.WriteFault → Rose (O.faults out.old) (O.faults out.new) }
-{
-    at.begin(alloc)?;
-    if let Err(stop) = do_event(alloc, at, Some(bytes), event, quiet, scratch, out) {
-        return Err(stop);
-    }
-    at.count_line();
-    Ok(())
 }
 
 // A line as it is written back, unless the run is quiet.
@@ -151,132 +118,68 @@ fn say_line<O: Sink>(
     put_line(mesh, line, buf, out)
 }
 
-// A line as it stands, unless the run is quiet.
-pub fn say_echo<O: Sink>(
-    bytes: &[u8],
-    quiet: bool,
-    buf: &mut LineBuf,
-    out: &mut O,
-) -> Result<(), PutFault>
-    requires { length bytes.now ≤ LONGEST_LINE }
-    ensures text { Puts (O.held out.old) (O.held out.new)
-        (output_if quiet (line_of_words bytes.now)) result }
-    ensures cause { HasCause (O.faults out.old) (O.faults out.new) result }
-{
-    if quiet {
-        return Ok(());
-    }
-    put_echo(bytes, buf, out)
-}
-
 // One more node.
 fn do_node<S: Steps, O: Sink>(
     at: &mut Point<S>,
     addr: Addr,
     first: u32,
     quiet: bool,
-    scratch: &mut Scratch,
     out: &mut O,
 ) -> Result<(), Stop<'static>>
-    requires few { at.old.lines < 2 ^ 62 }
     requires allowed { IsAllowed at.old.mesh (is_some at.old.world) (Line.Node addr first) }
-    ensures comes { IsLineRun quiet at.old (outcome_of_line at.old (NewNode addr.0 first))
+    ensures comes { IsUncountedRun quiet at.old (outcome_of_line at.old (NewNode addr.0 first))
         at.new (O.held out.old) (O.held out.new) result }
-    ensures later { O.faults out.old ≤ O.faults out.new }
-    ensures fault { IsErrOf result Stop.WriteFault → Rose (O.faults out.old) (O.faults out.new) }
+    ensures lines { OnOk result (at.new.lines ≡ at.old.lines) }
+    ensures same { OnErr result (at.new ≡ at.old) }
+    ensures cause { HasStopCause (O.faults out.old) (O.faults out.new) result }
 {
-    say_line(
-        at.mesh(),
-        &Line::Node { addr, first },
-        quiet,
-        &mut scratch.line,
-        out,
-    )?;
-    at.add_node(addr, first);
-    at.count_line();
+    let line = Line::Node { addr, first };
+    say_line(at.state.mesh(), &line, quiet, &mut at.line, out)?;
+    at.state.add_node(addr, first);
     Ok(())
 }
 
-fn do_show<S: Steps, O: Sink>(
-    alloc: Global,
-    at: &mut Point<S>,
-    bytes: &[u8],
-    node: usize,
-    quiet: bool,
-    scratch: &mut Scratch,
-    out: &mut O,
-) -> Result<(), Stop<'static>>
-    requires few { at.old.lines < 2 ^ 62 }
-    requires node { node < length at.old.mesh }
-    requires echo { IsLineOf at.old.mesh (ShowsNode node) bytes.now }
-    ensures comes { IsLineRun quiet at.old (outcome_of_line at.old (ShowsNode node))
-        at.new (O.held out.old) (O.held out.new) result }
-    ensures later { O.faults out.old ≤ O.faults out.new }
-    ensures fault { IsErrOf result Stop.WriteFault → Rose (O.faults out.old) (O.faults out.new) }
-{
-    at.begin(alloc)?;
-    show_node(at, bytes, node, quiet, &mut scratch.line, out)?;
-    at.count_line();
-    Ok(())
-}
-
-fn do_route<S: Steps, O: Sink>(
-    alloc: Global,
-    at: &mut Point<S>,
-    bytes: &[u8],
-    node: usize,
-    dest: usize,
-    quiet: bool,
-    scratch: &mut Scratch,
-    out: &mut O,
-) -> Result<(), Stop<'static>>
-    requires few { at.old.lines < 2 ^ 62 }
-    requires node { node < length at.old.mesh }
-    requires dest { dest < length at.old.mesh }
-    requires echo { IsLineOf at.old.mesh (ShowsRoute node dest) bytes.now }
-    ensures comes { IsLineRun quiet at.old (outcome_of_line at.old (ShowsRoute node dest))
-        at.new (O.held out.old) (O.held out.new) result }
-    ensures later { O.faults out.old ≤ O.faults out.new }
-    ensures fault { IsErrOf result Stop.WriteFault → Rose (O.faults out.old) (O.faults out.new) }
-{
-    at.begin(alloc)?;
-    show_route(at, bytes, node, dest, quiet, &mut scratch.line, out)?;
-    at.count_line();
-    Ok(())
-}
-
-fn do_flight<S: Steps, O: Sink>(
-    alloc: Global,
-    at: &mut Point<S>,
-    bytes: &[u8],
-    quiet: bool,
-    scratch: &mut Scratch,
-    out: &mut O,
-) -> Result<(), Stop<'static>>
-    requires few { at.old.lines < 2 ^ 62 }
-    requires some { 1 ≤ length at.old.mesh }
-    requires echo { IsLineOf at.old.mesh ShowsFlight bytes.now }
-    ensures comes { IsLineRun quiet at.old (outcome_of_line at.old ShowsFlight)
-        at.new (O.held out.old) (O.held out.new) result }
-    ensures later { O.faults out.old ≤ O.faults out.new }
-    ensures fault { IsErrOf result Stop.WriteFault → Rose (O.faults out.old) (O.faults out.new) }
-{
-    at.begin(alloc)?;
-    show_flight(at, bytes, quiet, &mut scratch.line, out)?;
-    at.count_line();
-    Ok(())
-}
-
-/// Does an allowed line, and writes its text unless the run is quiet. Every line but that of a node
-/// is written back as it stands.
+// Does an allowed line, and writes its text unless the run is quiet.
 #[tactic(auto, unfolding(mesh_text::specs::Text::outcome_of_line))]
+fn do_uncounted<'a, S: Steps, O: Sink>(
+    alloc: Global,
+    at: &mut Point<S>,
+    bytes: &[u8],
+    line: Line<'a>,
+    quiet: bool,
+    out: &mut O,
+) -> Result<(), Stop<'a>>
+    requires steps { at.old.steps < 2 ^ 47 }
+    requires allowed { IsAllowed at.old.mesh (is_some at.old.world) line }
+    requires short { length bytes.now ≤ LONGEST_LINE }
+    requires echo { IsEcho at.old.mesh bytes.now (accepted_of line) }
+    ensures comes { IsUncountedRun quiet at.old (outcome_of_line at.old (accepted_of line.entry))
+        at.new (O.held out.old) (O.held out.new) result }
+    ensures lines { OnOk result (at.new.lines ≡ at.old.lines) }
+    ensures way { OnErr result (IsOnTheWay at.old
+        (events_of_line at.old (accepted_of line.entry)) at.new) }
+    ensures cause { HasStopCause (O.faults out.old) (O.faults out.new) result }
+{
+    at.state.begin(alloc, &line)?;
+    match line {
+        Line::Blank => Ok(()),
+        Line::Node { addr, first } => do_node(at, addr, first, quiet, out),
+        Line::Step(event) => do_event(alloc, at, Some(bytes), event, quiet, out),
+        Line::Auto { count } => do_auto(alloc, at, bytes, count, quiet, out),
+        Line::Show { node } => do_show(at, bytes, Shown::Node { node }, quiet, out),
+        Line::Route { node, dest } => do_show(at, bytes, Shown::Route { node, dest }, quiet, out),
+        Line::Flight => do_show(at, bytes, Shown::Flight, quiet, out),
+    }
+}
+
+/// Does an allowed line, writes its text unless the run is quiet, and counts it. Every line but that
+/// of a node is written back as it stands.
 pub fn do_line<'a, S: Steps, O: Sink>(
     alloc: Global,
     at: &mut Point<S>,
     bytes: &[u8],
     line: Line<'a>,
     quiet: bool,
-    scratch: &mut Scratch,
     out: &mut O,
 ) -> Result<(), Stop<'a>>
     requires few { at.old.lines < 2 ^ 62 }
@@ -286,19 +189,13 @@ pub fn do_line<'a, S: Steps, O: Sink>(
     requires echo { IsEcho at.old.mesh bytes.now (accepted_of line) }
     ensures comes { IsLineRun quiet at.old (outcome_of_line at.old (accepted_of line.entry))
         at.new (O.held out.old) (O.held out.new) result }
-    ensures later { O.faults out.old ≤ O.faults out.new }
-    ensures fault { IsErrOf result Stop.WriteFault → Rose (O.faults out.old) (O.faults out.new) }
+    ensures way { OnErr result (IsOnTheWay at.old
+        (events_of_line at.old (accepted_of line.entry)) at.new) }
+    ensures cause { HasStopCause (O.faults out.old) (O.faults out.new) result }
 {
-    match line {
-        Line::Blank => {
-            at.count_line();
-            Ok(())
-        }
-        Line::Node { addr, first } => do_node(at, addr, first, quiet, scratch, out),
-        Line::Step(event) => do_step(alloc, at, bytes, event, quiet, scratch, out),
-        Line::Auto { count } => do_auto(alloc, at, bytes, count, quiet, scratch, out),
-        Line::Show { node } => do_show(alloc, at, bytes, node, quiet, scratch, out),
-        Line::Route { node, dest } => do_route(alloc, at, bytes, node, dest, quiet, scratch, out),
-        Line::Flight => do_flight(alloc, at, bytes, quiet, scratch, out),
+    if let Err(stop) = do_uncounted(alloc, at, bytes, line, quiet, out) {
+        return Err(stop);
     }
+    at.state.count_line();
+    Ok(())
 }

@@ -4,9 +4,9 @@ ghost use Rattle.std.specs.Io.KnownBytes.{IsAtEnd};
 ghost use Rattle.mesh_base.specs.declared.limits.TheConstants.{LONGEST_INPUT, MOST_EVENTS};
 ghost use Rattle.mesh_text.specs.Schedule.{opening};
 ghost use Rattle.mesh_text.specs.Text.{text_on};
-ghost use Rattle.mesh_io.specs.Cause.{Rose};
 ghost use Rattle.mesh_io.specs.Buffering.{inner_of, gathered_in, held_by};
 ghost use Rattle.mesh_run.specs.Moments.{IsSafe};
+ghost use Rattle.mesh_run.specs.Causes.{HasStatusCause, HasSourceCause};
 ghost use Rattle.mesh_run.specs.Sums.{IsGrown};
 ghost use Rattle.mesh_run.specs.Told.{say_by, IsOutputFrom};
 
@@ -41,10 +41,9 @@ fn do_gathered<S: Steps, I: Source, O: Sink>(
     ensures steps { result ≡ Status.Done
         → 4 * at.new.steps ≤ 4 * at.old.steps + MOST_EVENTS * LONGEST_INPUT }
     ensures end { result ≡ Status.Done → IsAtEnd (I.left input.new) }
-    ensures read { result ≡ Status.ReadFault → Rose (I.faults input.old) (I.faults input.new) }
-    ensures write { result ≡ Status.WriteFault
-        → Rose (O.faults (inner_of buffer.old)) (O.faults (inner_of buffer.new)) }
-    ensures later { O.faults (inner_of buffer.old) ≤ O.faults (inner_of buffer.new) }
+    ensures read { HasSourceCause (I.faults input.old) (I.faults input.new) result }
+    ensures write { HasStatusCause Status.WriteFault
+        (O.faults (inner_of buffer.old)) (O.faults (inner_of buffer.new)) result }
     ensures words { result ≢ Status.Usage }
 {
     let mut lines = Lines::new(input);
@@ -83,10 +82,9 @@ fn do_through<'s, S: Steps, I: Source, O: Sink, L: Loan>(
     ensures steps { status.new ≡ Status.Done
         → 4 * at.new.steps ≤ 4 * at.old.steps + MOST_EVENTS * LONGEST_INPUT }
     ensures end { status.new ≡ Status.Done → IsAtEnd (I.left input.new) }
-    ensures read { status.new ≡ Status.ReadFault → Rose (I.faults input.old) (I.faults input.new) }
-    ensures write { status.new ≡ Status.WriteFault
-        → Rose (O.faults out.entry.now) (O.faults result.now) }
-    ensures later { O.faults out.entry.now ≤ O.faults result.now }
+    ensures read { HasSourceCause (I.faults input.old) (I.faults input.new) status.new }
+    ensures write { HasStatusCause Status.WriteFault
+        (O.faults out.entry.now) (O.faults result.now) status.new }
     ensures words { status.new ≢ Status.Usage }
 {
     let mut buffer: Buffered<Through<'s, O, L>> = Buffered::lent(out);
@@ -131,10 +129,11 @@ pub fn drive<S: Steps, I: Source, O: Sink>(
     // Done only where the input was read to its end.
     ensures end { result.0 ≡ Status.Done → IsAtEnd (I.left input.new) }
 
-    // A fault is answered only where the source or the sink has failed in this call.
-    ensures read { result.0 ≡ Status.ReadFault → Rose (I.faults input.old) (I.faults input.new) }
-    ensures write { result.0 ≡ Status.WriteFault → Rose (O.faults out.old) (O.faults out.new) }
-    ensures later { O.faults out.old ≤ O.faults out.new }
+    // A fault is answered only where the source or the sink has failed in this call, and no other
+    // answer is given where one of them has.
+    ensures read { HasSourceCause (I.faults input.old) (I.faults input.new) result.0 }
+    ensures write { HasStatusCause Status.WriteFault
+        (O.faults out.old) (O.faults out.new) result.0 }
     ensures words { result.0 ≢ Status.Usage }
 {
     let mut at = start;
@@ -165,9 +164,10 @@ pub fn run<S: Steps, I: Source, O: Sink>(
     // Done only where the input was read to its end.
     ensures end { result ≡ Status.Done → IsAtEnd (I.left input.new) }
 
-    // A fault is answered only where the source or the sink has failed in this call.
-    ensures read { result ≡ Status.ReadFault → Rose (I.faults input.old) (I.faults input.new) }
-    ensures write { result ≡ Status.WriteFault → Rose (O.faults out.old) (O.faults out.new) }
+    // A fault is answered only where the source or the sink has failed in this call, and no other
+    // answer is given where one of them has.
+    ensures read { HasSourceCause (I.faults input.old) (I.faults input.new) result }
+    ensures write { HasStatusCause Status.WriteFault (O.faults out.old) (O.faults out.new) result }
     ensures words { result ≢ Status.Usage }
 {
     let start: Point<S> = Point::with(variant);

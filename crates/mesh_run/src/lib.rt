@@ -7,21 +7,25 @@ mod auto;
 mod choice;
 mod commands;
 mod driving;
+mod ends;
 mod lines;
 mod point;
 mod say;
 mod show;
+mod state;
 mod status;
 mod stop;
 mod sums;
 
+pub use auto::next_event;
 pub use choice::pick;
 pub use driving::{drive, run};
+pub use ends::{fill, finish, refuse};
 pub use lines::one;
 pub use point::Point;
 pub use say::Say;
 pub use status::Status;
-pub use stop::{Scratch, Stop};
+pub use stop::Stop;
 pub use sums::Sums;
 
 #[cfg(test)]

@@ -1,27 +1,27 @@
 //! The lines of an input, one after another.
-ghost use Rattle.std.specs.Prelude.{◌≡◌, ◌≢◌, ◌<◌, ◌≤◌, ◌+◌, ◌*◌, ◌^◌, ◌∷◌, [], List, length, OnOk, IfSome, IfNone, IsErrOf, Some};
-ghost use Rattle.mesh_model.specs.Places.{IsEvent};
-ghost use Rattle.mesh_meaning.specs.Events.{event_of};
+ghost use Rattle.std.specs.Prelude.{◌≡◌, ◌≢◌, ◌<◌, ◌≤◌, ◌+◌, ◌*◌, ◌^◌, ◌∷◌, [], List, length, OnOk, OnErr, IfSome, IfNone, Some};
 ghost use Rattle.mesh_grammar.specs.Lines.{Piece, Whole};
-ghost use Rattle.mesh_text.specs.Text.{text_from, text_on, refused_run, overfull_run, outcome_of_piece, finished_run};
+ghost use Rattle.mesh_text.specs.Text.{text_from, text_on, outcome_of_piece};
+ghost use Rattle.mesh_text.specs.Runs.{events_of_piece};
 ghost use Rattle.std.specs.Io.KnownBytes.{IsAtEnd, Keeps};
-ghost use Rattle.mesh_io.specs.Cause.{Rose, HasCause};
+ghost use Rattle.mesh_io.specs.Cause.{HasCause};
 ghost use Rattle.mesh_io.specs.Buffering.{inner_of, held_by};
 ghost use Rattle.mesh_io.specs.Reading.{faults_of, given_of, pending_of, source_of};
 ghost use Rattle.mesh_run.specs.Moments.{IsSafe};
+ghost use Rattle.mesh_run.specs.Causes.{HasCauseIf, HasStopCause, HasStatusCause};
 ghost use Rattle.mesh_run.specs.Sums.{IsGrown};
 ghost use Rattle.mesh_run.specs.Told.{said, is_quiet, IsOutput, IsOutputFrom};
-ghost use Rattle.mesh_run.specs.Runs.{IsLineDone, IsLineRun};
+ghost use Rattle.mesh_run.specs.Runs.{IsLineDone, IsLineRun, IsOnTheWay};
 
 use crate::commands::do_line;
+use crate::ends::{fill, finish, refuse};
 use crate::point::Point;
 use crate::say::Say;
 use crate::status::Status;
-use crate::stop::{Scratch, Stop};
-use mesh_base::{Counter, Event, LONGEST_INPUT, LONGEST_LINE, LineBuf, MOST_EVENTS};
+use crate::stop::Stop;
+use mesh_base::{LONGEST_INPUT, LONGEST_LINE, MOST_EVENTS};
 use mesh_grammar::BadWhy;
 use mesh_io::{Buffered, LineError, Lines, PutFault, Sink, Source};
-use mesh_report::{put_bad, put_full, put_summary};
 use mesh_script::parse_line;
 use mesh_world::Steps;
 use std::alloc::Global;
@@ -32,13 +32,13 @@ use std::alloc::Global;
 /// BadLine comes exactly where the line isn't allowed, and the moment is then as it was. Full comes
 /// exactly where an event of the line would raise a node's counter past its field's greatest value;
 /// the events before it were done and written, and the line isn't counted. After WriteFault or
-/// NoMemory a prefix of the line's text was written.
+/// NoMemory a prefix of the line's events was done, and a prefix of its text written: the moment is
+/// one that the line goes through. WriteFault comes exactly where the sink has failed.
 pub fn one<'a, S: Steps, O: Sink>(
     alloc: Global,
     at: &mut Point<S>,
     bytes: &'a [u8],
     quiet: bool,
-    scratch: &mut Scratch,
     out: &mut O,
 ) -> Result<(), Stop<'a>>
     requires few { at.old.lines < 2 ^ 62 }
@@ -46,80 +46,17 @@ pub fn one<'a, S: Steps, O: Sink>(
     requires short { length bytes.now ≤ LONGEST_LINE }
     ensures comes { IsLineRun quiet at.old (outcome_of_piece at.old (Whole bytes.now))
         at.new (O.held out.old) (O.held out.new) result }
+    ensures way { OnErr result (IsOnTheWay at.old
+        (events_of_piece at.old (Whole bytes.now)) at.new) }
     ensures lines { OnOk result (at.new.lines ≡ at.old.lines + 1) }
     ensures grown { OnOk result (IsGrown at.old at.new) }
     ensures steps { OnOk result
         (4 * at.new.steps ≤ 4 * at.old.steps + MOST_EVENTS * length bytes.now) }
-    ensures later { O.faults out.old ≤ O.faults out.new }
-    ensures fault { IsErrOf result Stop.WriteFault → Rose (O.faults out.old) (O.faults out.new) }
+    ensures cause { HasStopCause (O.faults out.old) (O.faults out.new) result }
 {
-    match parse_line(bytes, at.mesh(), at.started()) {
+    match parse_line(bytes, at.state.mesh(), at.state.started()) {
         Err(fault) => Err(Stop::BadLine(fault)),
-        Ok(line) => do_line(alloc, at, bytes, line, quiet, scratch, out),
-    }
-}
-
-// Ends the run at a line that isn't allowed.
-#[cold]
-fn refuse<S: Steps, O: Sink>(at: &Point<S>, why: BadWhy, buf: &mut LineBuf, out: &mut O) -> Status
-    requires { at.now.lines < 2 ^ 62 }
-    ensures told { IsOutput (O.held out.old) (O.held out.new) (refused_run at.now why) result }
-    ensures later { O.faults out.old ≤ O.faults out.new }
-    ensures write { result ≡ Status.WriteFault → Rose (O.faults out.old) (O.faults out.new) }
-    ensures read { result ≢ Status.ReadFault }
-    ensures refused { result ≢ Status.Done }
-    ensures words { result ≢ Status.Usage }
-{
-    let line = at.lines() + 1;
-    match put_bad(line, &why, buf, out) {
-        Ok(()) => Status::BadLine { line },
-        Err(_) => Status::WriteFault,
-    }
-}
-
-// Ends the run at an event that is refused for a full counter.
-#[cold]
-#[inline(never)]
-fn fill<S: Steps, O: Sink>(
-    at: &Point<S>,
-    event: Event<'_>,
-    field: Counter,
-    buf: &mut LineBuf,
-    out: &mut O,
-) -> Status
-    requires lines { at.now.lines < 2 ^ 62 }
-    requires event { IsEvent (length at.now.mesh) (event_of event) }
-    ensures told { IsOutput (O.held out.old) (O.held out.new)
-        (overfull_run at.now [] (event_of event.entry) field) result }
-    ensures later { O.faults out.old ≤ O.faults out.new }
-    ensures write { result ≡ Status.WriteFault → Rose (O.faults out.old) (O.faults out.new) }
-    ensures read { result ≢ Status.ReadFault }
-    ensures refused { result ≢ Status.Done }
-    ensures words { result ≢ Status.Usage }
-{
-    let line = at.lines() + 1;
-    match put_full(at.mesh(), line, &event, &field, buf, out) {
-        Ok(()) => Status::Full { line },
-        Err(_) => Status::WriteFault,
-    }
-}
-
-// Ends the run at its end.
-fn finish<S: Steps, O: Sink>(at: &Point<S>, say: Say, buf: &mut LineBuf, out: &mut O) -> Status
-    ensures told { IsOutput (O.held out.old) (O.held out.new) (said say (finished_run at.now)) result }
-    ensures safe { IsSafe at.now }
-    ensures later { O.faults out.old ≤ O.faults out.new }
-    ensures write { result ≡ Status.WriteFault → Rose (O.faults out.old) (O.faults out.new) }
-    ensures read { result ≢ Status.ReadFault }
-    ensures words { result ≢ Status.Usage }
-{
-    let summary = at.summary();
-    if say == Say::Faults {
-        return Status::Done;
-    }
-    match put_summary(&summary, buf, out) {
-        Ok(()) => Status::Done,
-        Err(_) => Status::WriteFault,
+        Ok(line) => do_line(alloc, at, bytes, line, quiet, out),
     }
 }
 
@@ -129,7 +66,6 @@ fn piece<S: Steps, O: Sink>(
     at: &mut Point<S>,
     bytes: &[u8],
     say: Say,
-    scratch: &mut Scratch,
     out: &mut O,
 ) -> Option<Status>
     requires few { at.old.lines < 2 ^ 62 }
@@ -144,20 +80,16 @@ fn piece<S: Steps, O: Sink>(
     ensures told { IfSome result (λ status. (pieces : List Piece)
         → IsOutput (O.held out.old) (O.held out.new)
         (said say (text_from at.old (Whole bytes.now ∷ pieces))) status) }
-    ensures later { O.faults out.old ≤ O.faults out.new }
-    ensures write { result ≡ Some Status.WriteFault → Rose (O.faults out.old) (O.faults out.new) }
+    ensures cause { HasCauseIf (result ≡ Some Status.WriteFault)
+        (O.faults out.old) (O.faults out.new) }
     ensures read { result ≢ Some Status.ReadFault }
     ensures stopped { result ≢ Some Status.Done }
     ensures words { result ≢ Some Status.Usage }
 {
-    match one(alloc, at, bytes, say.is_quiet(), scratch, out) {
+    match one(alloc, at, bytes, say.is_quiet(), out) {
         Ok(()) => None,
-        Err(Stop::BadLine(fault)) => {
-            Some(refuse(at, BadWhy::Fault(fault), &mut scratch.line, out))
-        }
-        Err(Stop::Full { event, field, .. }) => {
-            Some(fill(at, event, field, &mut scratch.line, out))
-        }
+        Err(Stop::BadLine(fault)) => Some(refuse(at, BadWhy::Fault(fault), out)),
+        Err(Stop::Full { event, field, .. }) => Some(fill(at, event, field, out)),
         Err(Stop::WriteFault) => Some(Status::WriteFault),
         Err(Stop::NoMemory) => Some(Status::NoMemory),
     }
@@ -200,32 +132,26 @@ pub fn do_lines<S: Steps, I: Source, O: Sink>(
     ensures steps { result ≡ Status.Done
         → 4 * at.new.steps ≤ 4 * at.old.steps + MOST_EVENTS * LONGEST_INPUT }
     ensures end { result ≡ Status.Done → IsAtEnd (I.left (source_of lines.new).now) }
-    ensures read { result ≡ Status.ReadFault
-        → Rose (faults_of I.faults lines.old) (faults_of I.faults lines.new) }
-    ensures write { result ≡ Status.WriteFault
-        → Rose (O.faults (inner_of out.old)) (O.faults (inner_of out.new)) }
-    ensures later { O.faults (inner_of out.old) ≤ O.faults (inner_of out.new) }
+    ensures read { HasStatusCause Status.ReadFault
+        (faults_of I.faults lines.old) (faults_of I.faults lines.new) result }
+    ensures write { HasStatusCause Status.WriteFault
+        (O.faults (inner_of out.old)) (O.faults (inner_of out.new)) result }
     ensures words { result ≢ Status.Usage }
 {
-    let mut scratch = Scratch::new();
     'lines: loop {
         if let Err(_) = hand_on(lines, out) {
             return Status::WriteFault;
         }
         match lines.advance() {
             Ok(true) => {
-                if let Some(status) = piece(alloc, at, lines.line(), say, &mut scratch, out) {
+                if let Some(status) = piece(alloc, at, lines.line(), say, out) {
                     return status;
                 }
             }
-            Ok(false) => return finish(at, say, &mut scratch.line, out),
+            Ok(false) => return finish(at, say, out),
             Err(LineError::ReadFault) => return Status::ReadFault,
-            Err(LineError::TooLong) => {
-                return refuse(at, BadWhy::TooLong, &mut scratch.line, out);
-            }
-            Err(LineError::TooMuch) => {
-                return refuse(at, BadWhy::TooMuch, &mut scratch.line, out);
-            }
+            Err(LineError::TooLong) => return refuse(at, BadWhy::TooLong, out),
+            Err(LineError::TooMuch) => return refuse(at, BadWhy::TooMuch, out),
         }
     }
 }

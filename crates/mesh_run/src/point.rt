@@ -1,50 +1,40 @@
-//! A moment of a run: its variant of the protocol and its mesh, its world, what was counted, how
-//! many lines were read, and how many events the world has gone through.
-ghost use Rattle.std.specs.Prelude.{◌≡◌, ◌<◌, ◌≤◌, ◌^◌, length, is_some, true, Some, None, IfOk, OnOk, OnErr, IfErr, IfSome};
+//! A moment of a run that can be held, looked at and gone on with.
+ghost use Rattle.std.specs.Prelude.{◌≡◌, ◌<◌, ◌≤◌, ◌^◌, length, is_some, IfOk, OnOk, OnErr, IfErr, IfSome};
 ghost use Rattle.mesh_base.specs.declared.events.Variant.TheVariants.{Base};
-ghost use Rattle.mesh_base.specs.Meshes.{IsMesh, with_node};
+ghost use Rattle.mesh_base.specs.Meshes.{IsMesh};
 ghost use Rattle.mesh_model.specs.Places.{IsEvent};
-ghost use Rattle.mesh_model.specs.Accounts.{any, waiting, queued, in_flight};
 ghost use Rattle.mesh_meaning.specs.Events.{event_of};
 ghost use Rattle.mesh_text.specs.Schedule as model;
-ghost use Rattle.mesh_text.specs.Ranges.{IsNewNode};
-ghost use Rattle.mesh_report.specs.Sums as report;
 ghost use Rattle.mesh_run.specs.Moments.{IsAnswer, IsRefusal, IsSafe};
 
+use crate::state::State;
 use crate::sums::Sums;
-use mesh_base::{Addr, Done, Event, Mesh, NoMemory, Packet, Variant};
-use mesh_report::Summary;
-use mesh_world::{StepError, Steps, Totals};
+use arrayvec::ArrayVec;
+use mesh_base::{Done, Event, LineBuf, Mesh, NoMemory, Packet, Variant};
+use mesh_world::{StepError, Steps};
 use std::alloc::Global;
 use std::marker::Model;
 
 /// A moment of a run. A contract sees its variant of the protocol, its mesh, its world or none, its
 /// sums, its number of lines, and its number of steps, which is 0 where there is no world.
+///
+/// It owns the line that is written and the packet that is cast, one of each for a whole run.
 #[derive(Drop)]
 pub struct Point<S: Steps> {
-    variant: Variant,
-    mesh: Mesh,
-    world: Option<S>,
-    sums: Sums,
-    lines: u64,
+    pub(crate) state: State<S>,
+    pub(crate) line: LineBuf,
+    pub(crate) packet: Packet,
 }
 
 impl<S: Steps> Model for Point<S> {
-    ghost use Rattle.std.specs.Prelude.{option_map};
     ghost use Rattle.mesh_text.specs.Schedule.{Moment};
-    ghost use Rattle.mesh_run.specs.Sums.{sums_of};
-    ghost use Rattle.mesh_run.specs.Moments.{moment_code, moment_seen, IsSound};
+    ghost use Rattle.mesh_run.specs.Moments.{moment_code};
 
     ghost Value = { Moment };
 
     ghost coded = { moment_code };
 
-    ghost view = { λ p.
-        moment_seen p.variant p.mesh (option_map S.seen p.world) (sums_of p.sums) p.lines };
-
-    ghost invariant = { λ p. IsSound
-        (moment_seen p.variant p.mesh (option_map S.seen p.world) (sums_of p.sums) p.lines)
-        (option_map S.seen p.world) };
+    ghost view = { λ p. p.state };
 }
 
 impl<S: Steps> Point<S> {
@@ -62,11 +52,9 @@ impl<S: Steps> Point<S> {
         ensures { result ≡ model.opening variant }
     {
         Point {
-            variant,
-            mesh: Mesh::new(),
-            world: None,
-            sums: Sums::new(),
-            lines: 0,
+            state: State::with(variant),
+            line: ArrayVec::new(),
+            packet: ArrayVec::new(),
         }
     }
 
@@ -75,32 +63,33 @@ impl<S: Steps> Point<S> {
         ensures value { result.now ≡ self.now.mesh }
         ensures is_mesh { IsMesh self.now.mesh }
     {
-        &self.mesh
-    }
-
-    /// Whether a line was neither blank nor a `node` line.
-    pub(crate) fn started(&self) -> bool
-        ensures { result ≡ is_some self.now.world }
-    {
-        self.world.is_some()
+        self.state.mesh()
     }
 
     /// What was counted.
     pub fn sums(&self) -> Sums
         ensures { sums_of result ≡ self.now.sums }
     {
-        self.sums
+        self.state.sums()
     }
 
     /// How many lines were read.
     pub fn lines(&self) -> u64
         ensures { result ≡ self.now.lines }
     {
-        self.lines
+        self.state.lines()
     }
 
-    /// The world: none until an accepted line that is neither blank nor a `node` line, or a
-    /// `step`, has made it. It has the invariant, and no destination's valid routes have a loop.
+    /// Counts a line that was done by other calls than `one`.
+    pub fn count_line(&mut self)
+        requires { self.old.lines < 2 ^ 62 }
+        ensures { self.new ≡ model.counted self.old }
+    {
+        self.state.count_line();
+    }
+
+    /// The world: none until an accepted line that is neither blank nor a `node` line, `begin` or
+    /// `step` has made it. It has the invariant, and no destination's valid routes have a loop.
     pub fn world(&self) -> Option<&S>
         ensures safe { IsSafe self.now }
         ensures some { is_some result ≡ is_some self.now.world }
@@ -108,64 +97,16 @@ impl<S: Steps> Point<S> {
         ensures mesh { IfSome result (λ s. (S.seen s.now).mesh ≡ self.now.mesh) }
         ensures steps { IfSome result (λ s. (S.seen s.now).steps ≡ self.now.steps) }
     {
-        self.world.as_ref()
+        self.state.world()
     }
 
-    /// What is said at the end of the run.
-    pub(crate) fn summary(&self) -> Summary
-        ensures safe { IsSafe self.now }
-        ensures sums { report.sums_of result ≡ self.now.sums }
-        ensures waiting { result.waiting ≡ waiting any (model.world_of self.now) }
-        ensures queued { result.queued ≡ queued any (model.world_of self.now) }
-        ensures flying { result.flying ≡ in_flight any (model.world_of self.now) }
+    /// Makes the opening world, unless there is a world. An `Err` changes nothing.
+    pub fn begin(&mut self, alloc: Global) -> Result<(), NoMemory>
+        requires { 1 ≤ length self.old.mesh }
+        ensures ok { OnOk result (self.new ≡ model.started self.old) }
+        ensures err { OnErr result (self.new ≡ self.old) }
     {
-        let totals = self.totals();
-        Summary {
-            events: self.sums.events,
-            idle: self.sums.idle,
-            given: self.sums.given,
-            delivered: self.sums.delivered,
-            waiting: totals.waiting,
-            queued: totals.queued,
-            flying: totals.flying,
-            lost: self.sums.lost,
-            copied: self.sums.copied,
-        }
-    }
-
-    // The data of the world; there are none before the run has started.
-    fn totals(&self) -> Totals
-        ensures waiting { result.waiting ≡ waiting any (model.world_of self.now) }
-        ensures queued { result.queued ≡ queued any (model.world_of self.now) }
-        ensures flying { result.flying ≡ in_flight any (model.world_of self.now) }
-    {
-        match self.world() {
-            Some(world) => world.world().totals(),
-            None => Totals {
-                waiting: 0,
-                queued: 0,
-                flying: 0,
-            },
-        }
-    }
-
-    /// Counts a line.
-    pub(crate) fn count_line(&mut self)
-        requires { self.old.lines < 2 ^ 62 }
-        ensures { self.new ≡ model.counted self.old }
-    {
-        self.lines += 1;
-    }
-
-    /// Adds a node.
-    pub(crate) fn add_node(&mut self, a: Addr, first: u32)
-        requires before { self.old.world ≡ None }
-        requires new { IsNewNode self.old.mesh a.0 first }
-        ensures { self.new ≡ record self.old { mesh = with_node self.old.mesh a.0 first } }
-    {
-        if self.mesh.add(a, first).is_err() {
-            unreachable!();
-        }
+        self.state.make_world(alloc)
     }
 
     /// Does one event, in the opening world where there is none yet, and counts it. The packet that
@@ -187,91 +128,10 @@ impl<S: Steps> Point<S> {
         ensures same { OnErr result (self.new ≡ self.old) }
         ensures safe { IsSafe self.new }
     {
-        if self.started() {
-            self.step_made(alloc, e, out)
+        if self.state.started() {
+            self.state.step_made(alloc, e, out)
         } else {
-            self.first_step(alloc, e, out)
+            self.state.first_step(alloc, e, out)
         }
-    }
-
-    /// Does one event in the world that is there, and counts it.
-    #[inline(always)]
-    pub(crate) fn step_made(
-        &mut self,
-        alloc: Global,
-        e: &Event<'_>,
-        out: &mut Packet,
-    ) -> Result<Done, StepError>
-        requires made { is_some self.old.world ≡ true }
-        requires event { IsEvent (length self.old.mesh) (event_of e.now) }
-        requires few { self.old.steps < 2 ^ 48 }
-        ensures done { IfOk result (λ done.
-            IsAnswer self.old (event_of e.now) done self.new out.new.items) }
-        ensures refused { IfErr result (IsRefusal self.old (event_of e.now)) }
-        ensures same { OnErr result (self.new ≡ self.old) }
-        ensures safe { IsSafe self.new }
-    {
-        let Some(world) = &mut self.world else {
-            unreachable!();
-        };
-        let answer = world.step(alloc, e, out);
-        if let Ok(done) = &answer {
-            self.sums.add(e, done);
-        }
-        answer
-    }
-
-    // Does the first event. The world is kept only where the event was done.
-    #[cold]
-    fn first_step(
-        &mut self,
-        alloc: Global,
-        e: &Event<'_>,
-        out: &mut Packet,
-    ) -> Result<Done, StepError>
-        requires before { self.old.world ≡ None }
-        requires some { 1 ≤ length self.old.mesh }
-        requires event { IsEvent (length self.old.mesh) (event_of e.now) }
-        ensures done { IfOk result (λ done.
-            IsAnswer self.old (event_of e.now) done self.new out.new.items) }
-        ensures refused { IfErr result (IsRefusal self.old (event_of e.now)) }
-        ensures same { OnErr result (self.new ≡ self.old) }
-        ensures safe { IsSafe self.new }
-    {
-        let mut world = S::with(alloc, &self.mesh, self.variant)?;
-        match world.step(alloc, e, out) {
-            Ok(done) => {
-                self.sums.add(e, &done);
-                self.world = Some(world);
-                Ok(done)
-            }
-            Err(error) => Err(error),
-        }
-    }
-
-    /// Makes the opening world, unless the run has started. An `Err` changes nothing.
-    pub(crate) fn begin(&mut self, alloc: Global) -> Result<(), NoMemory>
-        requires { 1 ≤ length self.old.mesh }
-        ensures ok { OnOk result (self.new ≡ model.started self.old) }
-        ensures err { OnErr result (self.new ≡ self.old) }
-    {
-        if self.started() {
-            return Ok(());
-        }
-        self.open(alloc)
-    }
-
-    // Makes the opening world. It stands apart, so that no other line pays for its frame.
-    #[cold]
-    #[inline(never)]
-    fn open(&mut self, alloc: Global) -> Result<(), NoMemory>
-        requires some { 1 ≤ length self.old.mesh }
-        requires before { self.old.world ≡ None }
-        ensures ok { OnOk result (self.new ≡ model.started self.old) }
-        ensures err { OnErr result (self.new ≡ self.old) }
-    {
-        let world = S::with(alloc, &self.mesh, self.variant)?;
-        self.world = Some(world);
-        Ok(())
     }
 }

@@ -9,10 +9,14 @@ ghost use Rattle.mesh_grammar.specs.Written.{line};
 ghost use Rattle.mesh_text.specs.Tables.{node_text_in, end_text, flight_text};
 ghost use Rattle.mesh_io.specs.Cause.{HasCause};
 ghost use Rattle.mesh_io.specs.Puts.{Puts};
-ghost use Rattle.mesh_run.specs.Runs.{output_if, IsLineOf};
+ghost use Rattle.mesh_text.specs.Ranges.{IsInRange};
+ghost use Rattle.mesh_text.specs.Text.{outcome_of_line, text_in};
+ghost use Rattle.mesh_run.specs.Causes.{HasStopCause};
+ghost use Rattle.mesh_run.specs.Runs.{line_of_shown, IsLineOf, IsUncountedRun};
 ghost use Rattle.mesh_world.specs.Ends.{end_in, IsEndIn};
 
 use crate::point::Point;
+use crate::stop::Stop;
 use mesh_base::{LineBuf, Mesh};
 use mesh_io::{PutFault, Sink};
 use mesh_radio::Radio;
@@ -20,32 +24,36 @@ use mesh_report::{put_echo, put_flying, put_number, put_stuck};
 use mesh_show::put_node;
 use mesh_world::{End, Steps};
 
-/// Writes the line that shows a node, as it stands, and the node's state, unless the run is quiet.
-pub fn show_node<S: Steps, O: Sink>(
-    at: &Point<S>,
+/// What a line shows.
+#[derive(Clone, Copy)]
+pub enum Shown {
+    Node { node: usize },
+    Route { node: usize, dest: usize },
+    Flight,
+}
+
+// Writes the line that shows a node, as it stands, and the node's state.
+fn show_node<S: Steps, O: Sink>(
+    at: &mut Point<S>,
     bytes: &[u8],
     node: usize,
-    quiet: bool,
-    buf: &mut LineBuf,
     out: &mut O,
 ) -> Result<(), PutFault>
-    requires started { is_some at.now.world ≡ true }
-    requires node { node < length at.now.mesh }
-    requires echo { IsLineOf at.now.mesh (ShowsNode node) bytes.now }
-    ensures text { Puts (O.held out.old) (O.held out.new) (output_if quiet
-        (line (words_of at.now.mesh (ShowsNode node))
-        ++ node_text_in at.now.mesh (slice_get (world_of at.now).nodes node))) result }
+    requires started { is_some at.old.world ≡ true }
+    requires node { node < length at.old.mesh }
+    requires echo { IsLineOf at.old.mesh (ShowsNode node) bytes.now }
+    ensures text { Puts (O.held out.old) (O.held out.new)
+        (line (words_of at.old.mesh (ShowsNode node))
+        ++ node_text_in at.old.mesh (slice_get (world_of at.old).nodes node)) result }
+    ensures same { at.new ≡ at.old }
     ensures cause { HasCause (O.faults out.old) (O.faults out.new) result }
 {
-    if quiet {
-        return Ok(());
-    }
-    let Some(state) = at.world() else {
+    let Some(state) = at.state.world() else {
         unreachable!();
     };
     let world = state.world();
-    put_echo(bytes, buf, out)?;
-    put_node(world.mesh(), world.node(node), buf, out)
+    put_echo(bytes, &mut at.line, out)?;
+    put_node(world.mesh(), world.node(node), &mut at.line, out)
 }
 
 // The end of a route.
@@ -60,35 +68,30 @@ fn put_end<O: Sink>(mesh: &Mesh, end: End, buf: &mut LineBuf, out: &mut O) -> Re
     }
 }
 
-/// Writes the line that shows a route, as it stands, and where the valid routes of the node lead,
-/// unless the run is quiet.
-pub fn show_route<S: Steps, O: Sink>(
-    at: &Point<S>,
+// Writes the line that shows a route, as it stands, and where the valid routes of the node lead.
+fn show_route<S: Steps, O: Sink>(
+    at: &mut Point<S>,
     bytes: &[u8],
     node: usize,
     dest: usize,
-    quiet: bool,
-    buf: &mut LineBuf,
     out: &mut O,
 ) -> Result<(), PutFault>
-    requires started { is_some at.now.world ≡ true }
-    requires node { node < length at.now.mesh }
-    requires dest { dest < length at.now.mesh }
-    requires echo { IsLineOf at.now.mesh (ShowsRoute node dest) bytes.now }
-    ensures text { Puts (O.held out.old) (O.held out.new) (output_if quiet
-        (line (words_of at.now.mesh (ShowsRoute node dest))
-        ++ end_text at.now.mesh (route_end (world_of at.now) node dest))) result }
+    requires started { is_some at.old.world ≡ true }
+    requires node { node < length at.old.mesh }
+    requires dest { dest < length at.old.mesh }
+    requires echo { IsLineOf at.old.mesh (ShowsRoute node dest) bytes.now }
+    ensures text { Puts (O.held out.old) (O.held out.new)
+        (line (words_of at.old.mesh (ShowsRoute node dest))
+        ++ end_text at.old.mesh (route_end (world_of at.old) node dest)) result }
+    ensures same { at.new ≡ at.old }
     ensures cause { HasCause (O.faults out.old) (O.faults out.new) result }
 {
-    if quiet {
-        return Ok(());
-    }
-    let Some(state) = at.world() else {
+    let Some(state) = at.state.world() else {
         unreachable!();
     };
     let world = state.world();
-    put_echo(bytes, buf, out)?;
-    put_end(world.mesh(), world.follow(node, dest), buf, out)
+    put_echo(bytes, &mut at.line, out)?;
+    put_end(world.mesh(), world.follow(node, dest), &mut at.line, out)
 }
 
 // The copies in flight, by rising id.
@@ -113,29 +116,73 @@ fn put_copies<O: Sink>(
     Ok(())
 }
 
-/// Writes the line that shows the copies in flight, as it stands, and the copies, unless the run is
-/// quiet.
-pub fn show_flight<S: Steps, O: Sink>(
-    at: &Point<S>,
+// Writes the line that shows the copies in flight, as it stands, and the copies.
+fn show_flight<S: Steps, O: Sink>(
+    at: &mut Point<S>,
     bytes: &[u8],
-    quiet: bool,
-    buf: &mut LineBuf,
     out: &mut O,
 ) -> Result<(), PutFault>
-    requires started { is_some at.now.world ≡ true }
-    requires echo { IsLineOf at.now.mesh ShowsFlight bytes.now }
-    ensures text { Puts (O.held out.old) (O.held out.new) (output_if quiet
-        (line (words_of at.now.mesh ShowsFlight)
-        ++ flight_text at.now.mesh (world_of at.now).flying)) result }
+    requires started { is_some at.old.world ≡ true }
+    requires echo { IsLineOf at.old.mesh ShowsFlight bytes.now }
+    ensures text { Puts (O.held out.old) (O.held out.new)
+        (line (words_of at.old.mesh ShowsFlight)
+        ++ flight_text at.old.mesh (world_of at.old).flying) result }
+    ensures same { at.new ≡ at.old }
     ensures cause { HasCause (O.faults out.old) (O.faults out.new) result }
+{
+    let Some(state) = at.state.world() else {
+        unreachable!();
+    };
+    let world = state.world();
+    put_echo(bytes, &mut at.line, out)?;
+    put_copies(world.mesh(), world.radio(), &mut at.line, out)
+}
+
+// Writes a line that shows something, as it stands, and what it shows.
+#[tactic(auto, unfolding(mesh_text::specs::Text::outcome_of_line))]
+fn show<S: Steps, O: Sink>(
+    at: &mut Point<S>,
+    bytes: &[u8],
+    what: Shown,
+    out: &mut O,
+) -> Result<(), PutFault>
+    requires started { is_some at.old.world ≡ true }
+    requires within { IsInRange at.old.mesh (line_of_shown what) }
+    requires echo { IsLineOf at.old.mesh (line_of_shown what) bytes.now }
+    ensures text { Puts (O.held out.old) (O.held out.new)
+        (text_in (outcome_of_line at.old (line_of_shown what))) result }
+    ensures same { at.new ≡ at.old }
+    ensures cause { HasCause (O.faults out.old) (O.faults out.new) result }
+{
+    match what {
+        Shown::Node { node } => show_node(at, bytes, node, out),
+        Shown::Route { node, dest } => show_route(at, bytes, node, dest, out),
+        Shown::Flight => show_flight(at, bytes, out),
+    }
+}
+
+/// Does a line that shows something: writes it as it stands, and what it shows, unless the run is
+/// quiet.
+pub fn do_show<S: Steps, O: Sink>(
+    at: &mut Point<S>,
+    bytes: &[u8],
+    what: Shown,
+    quiet: bool,
+    out: &mut O,
+) -> Result<(), Stop<'static>>
+    requires started { is_some at.old.world ≡ true }
+    requires within { IsInRange at.old.mesh (line_of_shown what) }
+    requires echo { IsLineOf at.old.mesh (line_of_shown what) bytes.now }
+    ensures comes { IsUncountedRun quiet at.old (outcome_of_line at.old (line_of_shown what))
+        at.new (O.held out.old) (O.held out.new) result }
+    ensures same { at.new ≡ at.old }
+    ensures cause { HasStopCause (O.faults out.old) (O.faults out.new) result }
 {
     if quiet {
         return Ok(());
     }
-    let Some(state) = at.world() else {
-        unreachable!();
-    };
-    let world = state.world();
-    put_echo(bytes, buf, out)?;
-    put_copies(world.mesh(), world.radio(), buf, out)
+    match show(at, bytes, what, out) {
+        Ok(()) => Ok(()),
+        Err(_) => Err(Stop::WriteFault),
+    }
 }

@@ -1,9 +1,8 @@
-//! Why a line isn't done, and what a run lends to its lines.
+//! Why a line isn't done.
 ghost use Rattle.std.specs.Prelude.{◌≡◌};
 ghost use Rattle.mesh_run.specs.declared.stop.Stop.TheVariants as stops;
 
-use arrayvec::ArrayVec;
-use mesh_base::{Counter, Event, LineBuf, NoMemory, Packet};
+use mesh_base::{Counter, Event, NoMemory};
 use mesh_grammar::LineFault;
 use mesh_io::PutFault;
 
@@ -35,23 +34,5 @@ impl From<NoMemory> for Stop<'_> {
 
     fn from(_none: NoMemory) -> Self {
         Stop::NoMemory
-    }
-}
-
-/// A line to be written and a packet that is cast: one of each for a whole run, so that none is made
-/// for a line.
-#[derive(Drop)]
-pub struct Scratch {
-    pub(crate) line: LineBuf,
-    pub(crate) packet: Packet,
-}
-
-impl Scratch {
-    /// An empty line and an empty packet.
-    pub fn new() -> Scratch {
-        Scratch {
-            line: ArrayVec::new(),
-            packet: ArrayVec::new(),
-        }
     }
 }

@@ -4,6 +4,7 @@ ghost use Rattle.std.specs.Io.KnownBytes.{IsAtEnd};
 ghost use Rattle.mesh_base.specs.declared.events.Variant.TheVariants.{Base};
 ghost use Rattle.mesh_io.specs.Cause.{Rose};
 ghost use Rattle.mesh_text.specs.Text.{text_of_input, Finished};
+ghost use Rattle.mesh_run.specs.Causes.{HasStatusCause, HasSourceCause};
 ghost use Rattle.mesh_why.specs.Routes.{asked_of};
 ghost use Rattle.mesh_why.specs.Answers.{IsAnswered};
 
@@ -19,8 +20,8 @@ fn answer<I: Source, O: Sink>(alloc: Global, asked: Asked, input: &mut I, out: &
     ensures told { IfSome (I.left input.old) (λ bytes. IsAnswered (asked.node.0, asked.dest.0) bytes
         (I.left input.new) (O.held out.old) (O.held out.new) result) }
     ensures end { result ≡ Status.Done → IsAtEnd (I.left input.new) }
-    ensures read { result ≡ Status.ReadFault → Rose (I.faults input.old) (I.faults input.new) }
-    ensures write { result ≡ Status.WriteFault → Rose (O.faults out.old) (O.faults out.new) }
+    ensures read { HasSourceCause (I.faults input.old) (I.faults input.new) result }
+    ensures write { HasStatusCause Status.WriteFault (O.faults out.old) (O.faults out.new) result }
     ensures words { result ≢ Status.Usage }
 {
     let start: Point<Trail> = Point::start();
@@ -59,11 +60,11 @@ pub fn why<I: Source, O: Sink>(alloc: Global, words: &[&str], input: &mut I, out
     // Done only where the input was read to its end.
     ensures done_at_the_end { result ≡ Status.Done → IsAtEnd (I.left input.new) }
 
-    // A fault is answered only where the source or the sink has failed in this call.
-    ensures cause_of_read_fault { result ≡ Status.ReadFault
-        → Rose (I.faults input.old) (I.faults input.new) }
-    ensures cause_of_write_fault { result ≡ Status.WriteFault
-        → Rose (O.faults out.old) (O.faults out.new) }
+    // A fault is answered only where the source or the sink has failed in this call, and no other
+    // answer is given where one of them has.
+    ensures cause_of_read_fault { HasSourceCause (I.faults input.old) (I.faults input.new) result }
+    ensures cause_of_write_fault { HasStatusCause Status.WriteFault
+        (O.faults out.old) (O.faults out.new) result }
 
     // Where every line is allowed and nothing has failed the route is told, unless memory runs out.
     ensures complete { IfSome (asked_of (map (λ w. w.now) words.now)) (λ asked.

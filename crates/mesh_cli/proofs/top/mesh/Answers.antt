@@ -8,4 +8,4 @@ returns-in-Some-clause-no_bad_line g c =
 
 pub returns-in-Some-clause-complete : goal.returns-in-Some-clause-complete
 returns-in-Some-clause-complete g c =
-    command_completes _ c.in-Some.command (g.I.Source.left c.args.input.now) _ _ _ c.do_command.result _ _ _ _ (sym c.in-Some.is ∙ c.command_of.ensures.value) c.do_command.ensures.told c.do_command.ensures.read c.do_command.ensures.write
+    command_completes _ c.in-Some.command (g.I.Source.left c.args.input.now) _ _ _ c.do_command.result _ _ _ _ (sym c.in-Some.is ∙ c.command_of.ensures.value) c.do_command.ensures.told c.do_command.ensures.read.failed c.do_command.ensures.write.failed

@@ -1,17 +1,18 @@
-use Rattle.std.proofs.Common.{◌∷◌, Bool, Some, Ok, Err, length, Result, refl, ap, subst, ◌∙◌, arith}
+use Rattle.std.proofs.Common.{◌≡◌, ◌∷◌, Bool, Some, Ok, Err, length, Result, refl, sym, ap, subst, ◌∙◌, arith}
 use Rattle.std.specs.Prelude.{IfSome}
 use Rattle.mesh_io.specs.Buffering.{held_by}
 use Rattle.mesh_io.specs.NextLines.{schedule_limits}
-use Rattle.mesh_io.specs.Cause.{Rose}
 use Rattle.mesh_io.specs.Cutting.{Tells}
-use Rattle.mesh_io.specs.Reading.{source_of, given_of, pending_of, line_of, has_ended, ahead_of, faults_of}
+use Rattle.mesh_io.specs.Reading.{source_of, given_of, pending_of, line_of, has_ended, ahead_of}
 use Rattle.mesh_io.specs.declared.line_error.LineError.{LineError}
 use Rattle.mesh_io.proofs.Deciding.{decides_ended}
 use Rattle.mesh_grammar.specs.Lines.{Whole}
-use Rattle.mesh_text.specs.Text.{text_from, outcome_of_piece}
+use Rattle.mesh_text.specs.Schedule.{Moment}
+use Rattle.mesh_text.specs.Text.{text_from, text_on, outcome_of_piece}
 use Rattle.mesh_run.specs.Told.{said, is_quiet, IsOutput}
 use Rattle.mesh_run.specs.Runs.{IsLineDone}
-use Rattle.mesh_run.proofs.Faults.{rose_later}
+use Rattle.mesh_run.specs.Sums.{IsGrown}
+use Rattle.mesh_run.proofs.Faults.{cause_as, cause_after, no_cause, a_cause, unsome}
 use Rattle.mesh_run.proofs.Growth.{grown_same, grown_both, steps_more}
 use Rattle.mesh_run.proofs.Story.{story_begins, story_kept, story_goes, story_stops, story_ends, story_after, story_long, story_much, story_breaks, story_cut}
 use Rattle.mesh_run.proofs.lines.do_lines.Goals as goal
@@ -22,8 +23,8 @@ lines-init g c = record {
   story = story_begins c.args.say c.args.at.now (g.I.Source.left (source_of c.args.lines.now).now) (pending_of c.args.lines.now) (given_of c.args.lines.now) (has_ended c.args.lines.now) (held_by g.O.Sink.held c.args.out.now) c.requires.pending c.requires.given;
   few = omega (arith, c.requires.given);
   reads = refl;
-  writes = omega arith;
-  grown = grown_same c.args.at.now c.args.at.now refl refl;
+  writes = refl;
+  grown = grown_same c.args.at.now c.args.at.now refl refl refl;
   count = omega arith;
   steps = omega arith;
 }
@@ -47,7 +48,7 @@ lines-preserved g c =
           c.lines.invariant.few c.advance.ensures.few (c.advance.ensures.short found) kept told counted done;
       few = c.advance.ensures.few;
       reads = c.in-Ok-true.ensures.cause.none (λ e. cc) ∙ c.lines.invariant.reads;
-      writes = omega (arith, c.piece.ensures.later, c.hand_on.ensures.cause.later, c.lines.invariant.writes);
+      writes = c.in_default-piece.ensures.cause.none (λ e. cc) ∙ c.in_default.ensures.cause.none ∙ c.lines.invariant.writes;
       grown = grown_both c.args.at.now c.lines.at c.piece.new.at c.lines.invariant.grown c.in_default-piece.ensures.grown;
       count = omega (arith, grows, lines, c.lines.invariant.count);
       steps = steps_more (length (line_of c.advance.new.self)) (given_of c.lines.lines) (given_of c.advance.new.self) (has_ended c.advance.new.self) c.piece.new.at.steps c.lines.at.steps c.args.at.now.steps _ counted size steps c.lines.invariant.steps;
@@ -64,9 +65,8 @@ returns-in-Err g c = record {
   lines = λ e. cc;
   steps = λ e. cc;
   end = λ e. cc;
-  read = λ e. cc;
-  write = λ e. rose_later _ _ _ c.lines.invariant.writes c.in-Err.ensures.cause.failed;
-  later = omega (arith, c.lines.invariant.writes, c.hand_on.ensures.cause.later);
+  read = no_cause _ _ c.lines.invariant.reads (λ e. cc);
+  write = cause_after _ _ _ c.lines.invariant.writes (a_cause _ _ c.hand_on.ensures.cause.later c.in-Err.ensures.cause.failed refl);
   words = λ e. cc;
 }
 
@@ -87,9 +87,8 @@ returns-in-Some g c =
       lines = λ e. absurd (c.in-Some.ensures.stopped (ap Some e));
       steps = λ e. absurd (c.in-Some.ensures.stopped (ap Some e));
       end = λ e. absurd (c.in-Some.ensures.stopped (ap Some e));
-      read = λ e. absurd (c.in-Some.ensures.read (ap Some e));
-      write = λ e. rose_later _ _ _ (let a = c.lines.invariant.writes in let b = c.hand_on.ensures.cause.later in omega arith) (c.in-Some.ensures.write (ap Some e));
-      later = omega (arith, c.lines.invariant.writes, c.hand_on.ensures.cause.later, c.piece.ensures.later);
+      read = no_cause _ _ (c.in-Ok-true.ensures.cause.none (λ e. cc) ∙ c.lines.invariant.reads) (λ e. c.in-Some.ensures.read (ap Some e));
+      write = cause_after _ _ _ (c.in_default.ensures.cause.none ∙ c.lines.invariant.writes) (cause_as _ _ (λ e. unsome e) (λ e. ap Some e) c.in-Some.ensures.cause);
       words = λ e. c.in-Some.ensures.words (ap Some e);
     }
 
@@ -102,15 +101,14 @@ returns-in-Ok-false g c =
     record {
       same = c.advance.ensures.same ∙ c.lines.invariant.same;
       told = story_ends c.args.say c.args.at.now c.lines.at (g.I.Source.left (source_of c.args.lines.now).now) (ahead_of g.I.Source.left c.lines.lines) (ahead_of g.I.Source.left c.advance.new.self) (g.I.Source.left (source_of c.advance.new.self).now) (line_of c.advance.new.self) (given_of c.lines.lines) (given_of c.advance.new.self) (has_ended c.lines.lines) (held_by g.O.Sink.held c.args.out.now) (held_by g.O.Sink.held c.hand_on.new.out) (held_by g.O.Sink.held c.finish.new.out) c.finish.result kept told c.finish.ensures.read c.finish.ensures.told;
-      after = λ e. story_after c.args.say c.args.at.now c.lines.at (g.I.Source.left (source_of c.args.lines.now).now) (ahead_of g.I.Source.left c.lines.lines) (ahead_of g.I.Source.left c.advance.new.self) (line_of c.advance.new.self) (given_of c.lines.lines) (given_of c.advance.new.self) (has_ended c.lines.lines) (held_by g.O.Sink.held c.args.out.now) (held_by g.O.Sink.held c.hand_on.new.out) kept told;
+      after = λ e. subst (λ (m : Moment). IfSome (g.I.Source.left (source_of c.args.lines.now).now) (λ bytes. m ≡ (text_on c.args.at.now bytes).after)) (sym c.finish.ensures.same) (story_after c.args.say c.args.at.now c.lines.at (g.I.Source.left (source_of c.args.lines.now).now) (ahead_of g.I.Source.left c.lines.lines) (ahead_of g.I.Source.left c.advance.new.self) (line_of c.advance.new.self) (given_of c.lines.lines) (given_of c.advance.new.self) (has_ended c.lines.lines) (held_by g.O.Sink.held c.args.out.now) (held_by g.O.Sink.held c.hand_on.new.out) kept told);
       safe = λ e. c.finish.ensures.safe;
-      grown = λ e. c.lines.invariant.grown;
-      lines = λ e. omega (arith, c.lines.invariant.count, c.lines.invariant.few);
-      steps = λ e. omega (arith, c.lines.invariant.steps, c.lines.invariant.few);
+      grown = λ e. subst (λ (m : Moment). IsGrown c.args.at.now m) (sym c.finish.ensures.same) c.lines.invariant.grown;
+      lines = λ e. let same = ap (λ (m : Moment). m.lines) c.finish.ensures.same in omega (arith, c.lines.invariant.count, c.lines.invariant.few);
+      steps = λ e. let same = ap (λ (m : Moment). m.steps) c.finish.ensures.same in omega (arith, c.lines.invariant.steps, c.lines.invariant.few);
       end = λ e. c.advance.ensures.end found;
-      read = λ e. absurd (c.finish.ensures.read e);
-      write = λ e. rose_later _ _ _ (let a = c.lines.invariant.writes in let b = c.hand_on.ensures.cause.later in omega arith) (c.finish.ensures.write e);
-      later = omega (arith, c.lines.invariant.writes, c.hand_on.ensures.cause.later, c.finish.ensures.later);
+      read = no_cause _ _ (c.in-Ok-false.ensures.cause.none (λ e. cc) ∙ c.lines.invariant.reads) c.finish.ensures.read;
+      write = cause_after _ _ _ (c.in_default.ensures.cause.none ∙ c.lines.invariant.writes) c.finish.ensures.cause;
       words = c.finish.ensures.words;
     }
 
@@ -130,9 +128,8 @@ returns-in-Err-ReadFault g c =
       lines = λ e. cc;
       steps = λ e. cc;
       end = λ e. cc;
-      read = λ e. subst (λ n. Rose n (faults_of g.I.Source.faults c.advance.new.self)) c.lines.invariant.reads (c.advance.ensures.cause.failed found);
-      write = λ e. cc;
-      later = omega (arith, c.lines.invariant.writes, c.hand_on.ensures.cause.later);
+      read = cause_after _ _ _ c.lines.invariant.reads (a_cause _ _ c.advance.ensures.cause.later (c.advance.ensures.cause.failed found) refl);
+      write = no_cause _ _ (c.in_default.ensures.cause.none ∙ c.lines.invariant.writes) (λ e. cc);
       words = λ e. cc;
     }
 
@@ -151,9 +148,8 @@ returns-in-Err-TooLong g c =
       lines = λ e. absurd (c.refuse.ensures.refused e);
       steps = λ e. absurd (c.refuse.ensures.refused e);
       end = λ e. absurd (c.refuse.ensures.refused e);
-      read = λ e. absurd (c.refuse.ensures.read e);
-      write = λ e. rose_later _ _ _ (let a = c.lines.invariant.writes in let b = c.hand_on.ensures.cause.later in omega arith) (c.refuse.ensures.write e);
-      later = omega (arith, c.lines.invariant.writes, c.hand_on.ensures.cause.later, c.refuse.ensures.later);
+      read = no_cause _ _ (c.in-Err-TooLong.ensures.cause.none (λ e. cc) ∙ c.lines.invariant.reads) c.refuse.ensures.read;
+      write = cause_after _ _ _ (c.in_default.ensures.cause.none ∙ c.lines.invariant.writes) c.refuse.ensures.cause;
       words = c.refuse.ensures.words;
     }
 
@@ -172,8 +168,7 @@ returns-in-Err-TooMuch g c =
       lines = λ e. absurd (c.refuse-in-Err-TooMuch.ensures.refused e);
       steps = λ e. absurd (c.refuse-in-Err-TooMuch.ensures.refused e);
       end = λ e. absurd (c.refuse-in-Err-TooMuch.ensures.refused e);
-      read = λ e. absurd (c.refuse-in-Err-TooMuch.ensures.read e);
-      write = λ e. rose_later _ _ _ (let a = c.lines.invariant.writes in let b = c.hand_on.ensures.cause.later in omega arith) (c.refuse-in-Err-TooMuch.ensures.write e);
-      later = omega (arith, c.lines.invariant.writes, c.hand_on.ensures.cause.later, c.refuse-in-Err-TooMuch.ensures.later);
+      read = no_cause _ _ (c.in-Err-TooMuch.ensures.cause.none (λ e. cc) ∙ c.lines.invariant.reads) c.refuse-in-Err-TooMuch.ensures.read;
+      write = cause_after _ _ _ (c.in_default.ensures.cause.none ∙ c.lines.invariant.writes) c.refuse-in-Err-TooMuch.ensures.cause;
       words = c.refuse-in-Err-TooMuch.ensures.words;
     }

@@ -14,7 +14,7 @@ invariant-lines g l = record {
       (held_by g.O.Sink.held l.fn.out) (held_by g.O.Sink.held l.out);
   few : given_of l.lines ≤ LONGEST_INPUT;
   reads : faults_of g.I.Source.faults l.lines ≡ faults_of g.I.Source.faults l.fn.lines;
-  writes : g.O.Sink.faults (inner_of l.fn.out) ≤ g.O.Sink.faults (inner_of l.out);
+  writes : g.O.Sink.faults (inner_of l.out) ≡ g.O.Sink.faults (inner_of l.fn.out);
   grown : IsGrown l.fn.at l.at;
   count : l.at.lines ≤ l.fn.at.lines + given_of l.lines;
   steps : 4 * l.at.steps ≤ 4 * l.fn.at.steps + MOST_EVENTS * given_of l.lines;

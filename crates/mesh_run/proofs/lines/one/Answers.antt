@@ -1,10 +1,12 @@
-use Rattle.std.proofs.Common.{◌≡◌, Ok, Err, is_some, refl, rules}
+use Rattle.std.proofs.Common.{◌≡◌, ◌≤◌, length, inl, Ok, Err, is_some, refl, subst, rules}
 use Rattle.std.proofs.lemmas.Result.{MatchResult-weaker}
-use Rattle.mesh_text.specs.Schedule.{line_of}
+use Rattle.mesh_base.specs.declared.limits.TheConstants.{MOST_NODES}
+use Rattle.mesh_text.specs.Schedule.{Moment, line_of}
 use Rattle.mesh_script.specs.Seen.{accepted_of}
-use Rattle.mesh_run.proofs.Growth.{done_grows}
+use Rattle.mesh_run.proofs.Growth.{IsSized, done_grows}
 use Rattle.mesh_run.proofs.Shown.{Keeps-same}
 use Rattle.mesh_run.proofs.Telling.{goes_accepted, stops_accepted, came-refused}
+use Rattle.mesh_run.proofs.Ways.{way_where_read}
 use Rattle.mesh_run.proofs.lines.one.Goals as goal
 
 pub returns-in-Err-clause-comes : goal.returns-in-Err-clause-comes
@@ -22,14 +24,22 @@ returns-in-Ok-clause-comes g c =
 pub returns-in-Ok-clause-lines : goal.returns-in-Ok-clause-lines
 returns-in-Ok-clause-lines g c =
     let e : line_of c.args.at.now.mesh (is_some c.args.at.now.world) c.args.bytes.now ≡ Ok (accepted_of c.in-Ok.line) = search rules in
-    done_grows c.args.quiet c.args.at.now c.do_line.new.at c.args.bytes.now (accepted_of c.in-Ok.line) _ _ c.do_line.result (λ g. g.lines) c.mesh.ensures.is_mesh.few e c.do_line.ensures.comes
+    done_grows c.args.quiet c.args.at.now c.do_line.new.at c.args.bytes.now (accepted_of c.in-Ok.line) _ _ c.do_line.result (λ g. g.lines) (subst IsSized c.at.view_is c.started.ensures.sized) (subst (λ (m : Moment). length m.mesh ≤ MOST_NODES) c.at.view_is c.mesh.ensures.is_mesh.few) e c.do_line.ensures.comes
 
 pub returns-in-Ok-clause-grown : goal.returns-in-Ok-clause-grown
 returns-in-Ok-clause-grown g c =
     let e : line_of c.args.at.now.mesh (is_some c.args.at.now.world) c.args.bytes.now ≡ Ok (accepted_of c.in-Ok.line) = search rules in
-    done_grows c.args.quiet c.args.at.now c.do_line.new.at c.args.bytes.now (accepted_of c.in-Ok.line) _ _ c.do_line.result (λ g. g.grown) c.mesh.ensures.is_mesh.few e c.do_line.ensures.comes
+    done_grows c.args.quiet c.args.at.now c.do_line.new.at c.args.bytes.now (accepted_of c.in-Ok.line) _ _ c.do_line.result (λ g. g.grown) (subst IsSized c.at.view_is c.started.ensures.sized) (subst (λ (m : Moment). length m.mesh ≤ MOST_NODES) c.at.view_is c.mesh.ensures.is_mesh.few) e c.do_line.ensures.comes
 
 pub returns-in-Ok-clause-steps : goal.returns-in-Ok-clause-steps
 returns-in-Ok-clause-steps g c =
     let e : line_of c.args.at.now.mesh (is_some c.args.at.now.world) c.args.bytes.now ≡ Ok (accepted_of c.in-Ok.line) = search rules in
-    done_grows c.args.quiet c.args.at.now c.do_line.new.at c.args.bytes.now (accepted_of c.in-Ok.line) _ _ c.do_line.result (λ g. g.steps) c.mesh.ensures.is_mesh.few e c.do_line.ensures.comes
+    done_grows c.args.quiet c.args.at.now c.do_line.new.at c.args.bytes.now (accepted_of c.in-Ok.line) _ _ c.do_line.result (λ g. g.steps) (subst IsSized c.at.view_is c.started.ensures.sized) (subst (λ (m : Moment). length m.mesh ≤ MOST_NODES) c.at.view_is c.mesh.ensures.is_mesh.few) e c.do_line.ensures.comes
+
+pub returns-in-Err-clause-way : goal.returns-in-Err-clause-way
+returns-in-Err-clause-way g c = inl refl
+
+pub returns-in-Ok-clause-way : goal.returns-in-Ok-clause-way
+returns-in-Ok-clause-way g c =
+    let e : line_of c.args.at.now.mesh (is_some c.args.at.now.world) c.args.bytes.now ≡ Ok (accepted_of c.in-Ok.line) = search rules in
+    way_where_read c.args.at.now c.do_line.new.at c.args.bytes.now (accepted_of c.in-Ok.line) c.do_line.result e c.do_line.ensures.way

@@ -1,0 +1,60 @@
+-- A line that is done once the run has started.
+use Rattle.std.proofs.Common.{◌≡◌, ℕ, true, false, Bool, is_some, List, Option, Some, None, Result, Ok, Err, refl, sym, ap, subst, ◌∙◌}
+use Rattle.std.specs.Option.{unwrap_or}
+use Rattle.std.specs.Io.KnownBytes.{Appends}
+use Rattle.mesh_io.specs.Puts.{AppendsPrefix}
+use Rattle.mesh_model.specs.Worlds.{Event, start, first_numbers}
+use Rattle.mesh_text.specs.Schedule.{Moment, Does, started, counted}
+use Rattle.mesh_text.specs.Text.{On, outcome_of_line, text_in}
+use Rattle.mesh_run.specs.declared.show.Shown.{Shown}
+use Rattle.mesh_run.specs.declared.show.Shown.TheVariants as shown
+use Rattle.mesh_run.specs.declared.stop.Stop.{Stop}
+use Rattle.mesh_run.specs.Runs.{output_if, line_of_shown, IsLineDone, IsLineRun, IsUncountedRun, line_outcome_at}
+use Rattle.mesh_run.proofs.Shown.{shown_none}
+use Rattle.mesh_run.proofs.Events.{step_goes, step_stops}
+
+-- a run that has started is as one that starts
+pub started_same : (m : Moment) → is_some m.world ≡ true → m ≡ started m
+started_same m h = by_world m.world refl h
+  where
+    by_world : (o : Option _) → m.world ≡ o → is_some o ≡ true → m ≡ started m
+    by_world None e h = absurd (let P : ⊥ = cc in P)
+    by_world (Some w) e h = ap (λ o. record m { world = o }) (e ∙ ap Some (sym (ap (λ o. unwrap_or o (start m.variant (first_numbers m.mesh))) e)))
+
+-- ---- what comes of it
+
+pub does_at : (quiet : Bool) (m s n : Moment) (e : Event) (a b : Option (List ℕ)) (r : Result (Unit {0}) Stop) → s ≡ started m → IsLineRun quiet s (line_outcome_at s e) n a b r
+    → IsUncountedRun quiet m (outcome_of_line m (Does e)) n a b r
+does_at quiet m s n e a b (Ok u) same g = step_goes quiet m s n (counted n) e a b same g refl
+does_at quiet m s n e a b (Err t) same g = step_stops quiet m s n e a b t same g
+
+-- ---- a line that shows something
+
+shows_on : (m : Moment) (what : Shown) → outcome_of_line m (line_of_shown what) ≡ On (text_in (outcome_of_line m (line_of_shown what))) (counted (started m))
+unfolding outcome_of_line
+shows_on m (shown.Node node) = refl
+shows_on m (shown.Route node dest) = refl
+shows_on m shown.Flight = refl
+
+-- nothing of it is written in a quiet run
+pub shows_quiet : (quiet : Bool) (m : Moment) (what : Shown) (a : Option (List ℕ)) → quiet ≡ true → is_some m.world ≡ true → IsLineDone quiet (outcome_of_line m (line_of_shown what)) (counted m) a a
+shows_quiet quiet m what a is some =
+    subst (λ q. IsLineDone q (outcome_of_line m (line_of_shown what)) (counted m) a a) (sym is) (record {
+      text = text_in (outcome_of_line m (line_of_shown what));
+      is = shows_on m what ∙ ap (λ k. On (text_in (outcome_of_line m (line_of_shown what))) (counted k)) (sym (started_same m some));
+      grown = shown_none true a;
+    })
+
+-- all of it is written in another
+pub shows_whole_line : (quiet : Bool) (m n : Moment) (what : Shown) (a b : Option (List ℕ)) → quiet ≡ false → is_some m.world ≡ true → n ≡ m → Appends a b (text_in (outcome_of_line m (line_of_shown what)))
+    → IsLineDone quiet (outcome_of_line m (line_of_shown what)) (counted n) a b
+shows_whole_line quiet m n what a b is some same p =
+    subst (λ q. IsLineDone q (outcome_of_line m (line_of_shown what)) (counted n) a b) (sym is) (record {
+      text = text_in (outcome_of_line m (line_of_shown what));
+      is = shows_on m what ∙ ap (λ k. On (text_in (outcome_of_line m (line_of_shown what))) (counted k)) (sym (same ∙ started_same m some));
+      grown = p;
+    })
+
+pub shows_part : (quiet : Bool) (m : Moment) (what : Shown) (a b : Option (List ℕ)) → quiet ≡ false → AppendsPrefix a b (text_in (outcome_of_line m (line_of_shown what)))
+    → AppendsPrefix a b (output_if quiet (text_in (outcome_of_line m (line_of_shown what))))
+shows_part quiet m what a b is p = subst (λ q. AppendsPrefix a b (output_if q (text_in (outcome_of_line m (line_of_shown what))))) (sym is) p

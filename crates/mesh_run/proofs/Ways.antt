@@ -1,0 +1,99 @@
+-- The moments that a line goes through before it is counted.
+use Rattle.std.proofs.Common.{◌≡◌, inr, ℕ, zero, suc, ◌+◌, ◌-◌, ◌<◌, Bool, is_some, List, [], ◌∷◌, take, Option, Some, Result, Ok, Err, refl, sym, ap, subst, ◌∙◌}
+use Rattle.std.specs.Prelude.{OnErr}
+use Rattle.mesh_grammar.specs.declared.fault.LineFault.{LineFault}
+use Rattle.mesh_grammar.specs.Lines.{Whole}
+use Rattle.mesh_model.specs.Worlds as worlds
+use Rattle.mesh_model.specs.Worlds.{Event, Outcome, Idle, Next}
+use Rattle.mesh_model.specs.Choices.{pick}
+use Rattle.mesh_text.specs.Schedule.{Moment, Accepted, Chooses, line_of, world_of, started, stepped, outcome_at}
+use Rattle.mesh_text.specs.Text.{On, Full}
+use Rattle.mesh_text.specs.Runs.{event_then, choice_then, events_chosen, events_of_line, events_read, events_of_piece, moment_after}
+use Rattle.mesh_run.specs.declared.stop.Stop.{Stop}
+use Rattle.mesh_run.specs.Runs.{IsLineDone, IsReached, IsOnTheWay, outcome_by, line_outcome_at}
+use Rattle.mesh_run.proofs.Chosen.{one_less}
+
+-- ---- none of the events, one, and one more
+
+pub reached_none : (m n : Moment) (events : List Event) → n ≡ m → IsReached m events n
+unfolding moment_after
+reached_none m n events same = (0, same)
+
+pub reached_one : (m n : Moment) (e : Event) (others : List Event) → n ≡ stepped m e → IsReached m (e ∷ others) n
+unfolding moment_after
+reached_one m n e others next = (1, next)
+
+reached_more : (m s n : Moment) (e : Event) (others : List Event) → s ≡ stepped m e → IsReached s others n → IsReached m (e ∷ others) n
+unfolding moment_after
+reached_more m s n e others next way = (suc way.0, way.1 ∙ ap (λ k. moment_after k (take way.0 others)) next)
+
+none_taken : (k : ℕ) → take {A = Event} k [] ≡ []
+none_taken zero = refl
+none_taken (suc k) = refl
+
+-- the first of more events
+reached_longer : (m n : Moment) (e : Event) (others : List Event) → IsReached m (e ∷ []) n → IsReached m (e ∷ others) n
+unfolding moment_after
+reached_longer m n e others way = by_count way.0 way.1
+  where
+    by_count : (k : ℕ) → n ≡ moment_after m (take k (e ∷ [])) → IsReached m (e ∷ others) n
+    by_count zero is = (0, is)
+    by_count (suc k) is = (1, is ∙ ap (λ l. moment_after (stepped m e) l) (none_taken k))
+
+-- ---- events that are chosen
+
+chosen_suc : (k : ℕ) (m : Moment) → events_chosen (suc k) m ≡ choice_then m (pick (world_of m)) (λ n. events_chosen k n)
+unfolding events_chosen
+chosen_suc k m = refl
+
+chosen_next : (most did : ℕ) (m : Moment) (e : Event) → did < most → Some e ≡ pick (world_of m)
+    → events_chosen (most - did) m ≡ event_then m e (outcome_at m e) (λ n. events_chosen (most - (did + 1)) n)
+chosen_next most did m e h picked = ap (λ k. events_chosen k m) (one_less most did h) ∙ chosen_suc (most - (did + 1)) m ∙ ap (λ o. choice_then m o (λ n. events_chosen (most - (did + 1)) n)) (sym picked)
+
+then_on : (quiet : Bool) (m n k : Moment) (e : Event) (o : Outcome) (others : Moment → List Event) (a b : Option (List ℕ)) → IsLineDone quiet (outcome_by m e o) n a b → n ≡ stepped m e
+    → IsReached n (others n) k → IsReached m (event_then m e o others) k
+then_on quiet m n k e Idle others a b done next way =
+    reached_more m n k e (others (stepped m e)) next (subst (λ s. IsReached n (others s) k) next way)
+then_on quiet m n k e (worlds.Full x field) others a b done next way = absurd (let h : Full [] m e field ≡ On done.text n = done.is in let P : ⊥ = cc in P)
+then_on quiet m n k e (Next w i) others a b done next way =
+    reached_more m n k e (others (stepped m e)) next (subst (λ s. IsReached n (others s) k) next way)
+
+then_first : (m k : Moment) (e : Event) (o : Outcome) (others : Moment → List Event) → IsReached m (e ∷ []) k → IsReached m (event_then m e o others) k
+then_first m k e Idle others way = reached_longer m k e (others (stepped m e)) way
+then_first m k e (worlds.Full x field) others way = way
+then_first m k e (Next w i) others way = reached_longer m k e (others (stepped m e)) way
+
+-- one was done, and then others
+pub way_goes : (quiet : Bool) (most did : ℕ) (m n k : Moment) (e : Event) (a b : Option (List ℕ)) → did < most → Some e ≡ pick (world_of m) → IsLineDone quiet (line_outcome_at m e) n a b → n ≡ stepped m e
+    → IsReached n (events_chosen (most - (did + 1)) n) k → IsReached m (events_chosen (most - did) m) k
+way_goes quiet most did m n k e a b h picked done next way =
+    subst (λ l. IsReached m l k) (sym (chosen_next most did m e h picked)) (then_on quiet m n k e (outcome_at m e) (λ s. events_chosen (most - (did + 1)) s) a b done next way)
+
+-- the next one was not done, or not written
+pub way_stops : (most did : ℕ) (m k : Moment) (e : Event) → did < most → Some e ≡ pick (world_of m) → IsReached m (e ∷ []) k → IsReached m (events_chosen (most - did) m) k
+way_stops most did m k e h picked way =
+    subst (λ l. IsReached m l k) (sym (chosen_next most did m e h picked)) (then_first m k e (outcome_at m e) (λ s. events_chosen (most - (did + 1)) s) way)
+
+-- ---- a line
+
+pub way_of_event : (m s n : Moment) (e : Event) → s ≡ started m → IsReached s (e ∷ []) n → IsOnTheWay m (e ∷ []) n
+way_of_event m s n e same way = inr (subst (λ k. IsReached k (e ∷ []) n) same way)
+
+pub way_of_choices : (m s n : Moment) (count : ℕ) → s ≡ started m → IsReached s (events_chosen count s) n → IsOnTheWay m (events_of_line m (Chooses count)) n
+way_of_choices m s n count same way = inr (subst (λ k. IsReached k (events_chosen count k) n) same way)
+
+pub way_of_start : (m n : Moment) (events : List Event) → n ≡ started m → IsOnTheWay m events n
+way_of_start m n events same = inr (reached_none (started m) n events same)
+
+-- the line of these bytes
+way_of_read : (m n : Moment) (bytes : List ℕ) (a : Accepted) → line_of m.mesh (is_some m.world) bytes ≡ Ok a → IsOnTheWay m (events_of_line m a) n → IsOnTheWay m (events_of_piece m (Whole bytes)) n
+way_of_read m n bytes a is way = subst (λ (r : Result Accepted LineFault). IsOnTheWay m (events_read m r) n) (sym is) way
+
+pub way_where_read : (m n : Moment) (bytes : List ℕ) (a : Accepted) (r : Result (Unit {0}) Stop) → line_of m.mesh (is_some m.world) bytes ≡ Ok a → OnErr r (IsOnTheWay m (events_of_line m a) n)
+    → OnErr r (IsOnTheWay m (events_of_piece m (Whole bytes)) n)
+way_where_read m n bytes a (Ok u) is way = tt
+way_where_read m n bytes a (Err t) is way = way_of_read m n bytes a is way
+
+pub err_of : {T E P : Type 0} (r : Result T E) → P → OnErr r P
+err_of (Ok x) p = tt
+err_of (Err x) p = p
