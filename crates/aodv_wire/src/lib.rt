@@ -18,4 +18,6 @@ pub use reading::read;
 pub use writing::{write_data, write_rerr, write_rrep, write_rreq};
 
 #[cfg(test)]
+mod outside;
+#[cfg(test)]
 mod tests;
