@@ -1,0 +1,10 @@
+pub mod SameRun
+pub mod WithBlocks
+pub mod Events
+pub mod Chosen
+pub mod Growth
+pub mod Telling
+pub mod Story
+pub mod Buffers
+pub mod Forms
+pub mod Runs

@@ -1,0 +1,55 @@
+-- What the watched run of any schedule comes to.
+use Rattle.std.proofs.Common.{◌≡◌, ◌∙◌, ◌⊎◌, ℕ, List, Option, Some, None, IfSome, refl, sym, ap, subst, inl, inr}
+use Rattle.mesh_base.specs.declared.events.Variant.{Variant}
+use Rattle.mesh_io.specs.Cause.{Rose}
+use Rattle.mesh_text.specs.Schedule.{Moment, opening, world_of}
+use Rattle.mesh_text.specs.Text.{Written, Finished, text_of_input}
+use Rattle.mesh_text.specs.Runs.{world_after}
+use Rattle.mesh_text.proofs.RunLaws.{run_of_events, runs_are_loop_free}
+use Rattle.mesh_run.specs.declared.status.Status.{Status}
+use Rattle.mesh_run.specs.declared.status.Status.TheVariants as status
+use Rattle.mesh_watch.specs.Text.{watched_on}
+use Rattle.mesh_watch.specs.Told.{IsOutputFrom, IsWatchedRun, IsRun}
+use Rattle.mesh_watch.proofs.SameRun.{same_run, watched_run_is_the_run}
+
+watched_run : (variant : Variant) (schedule : List ℕ) → IsWatchedRun variant schedule
+watched_run variant schedule = record {
+  worlds = subst (λ (m : Moment). world_of m ≡ world_after variant schedule m.sums.events) (sym (ap (λ (w : Written). w.after) (watched_run_is_the_run variant schedule))) (run_of_events variant schedule);
+  loop_free = λ k d. runs_are_loop_free variant schedule k d;
+}
+
+-- what was told, and that it is of such a run
+pub runs_so : (variant : Variant) (m : Moment) (left after a b : Option (List ℕ)) (s : Status) → m ≡ opening variant → IfSome left (λ bytes. IsOutputFrom m bytes after a b s) → IfSome left (λ bytes. IsRun variant bytes after a b s)
+runs_so variant m None after a b s same t = tt
+runs_so variant m (Some bytes) after a b s same t = (subst (λ (k : Moment). IsOutputFrom k bytes after a b s) same t, watched_run variant bytes)
+
+-- ---- completeness
+
+-- where nothing has failed, and each line is allowed and no counter full, a run is done, unless memory runs out
+by_output : (m : Moment) (bytes : List ℕ) (after a b : Option (List ℕ)) (s : Status) → ¬ (s ≡ status.ReadFault) → ¬ (s ≡ status.WriteFault) → IsOutputFrom m bytes after a b s
+    → (watched_on m bytes).verdict ≡ Finished → (s ≡ status.Done) ⊎ (s ≡ status.NoMemory)
+by_output m bytes after a b status.Done read write t finished = inl refl
+by_output m bytes after a b (status.BadLine n) read write t finished = absurd (let clash = sym finished ∙ t.0 in let P : ⊥ = cc in P)
+by_output m bytes after a b (status.Full n) read write t finished = absurd (let clash = sym finished ∙ t.0 in let P : ⊥ = cc in P)
+by_output m bytes after a b status.ReadFault read write t finished = absurd (read refl)
+by_output m bytes after a b status.WriteFault read write t finished = absurd (write refl)
+by_output m bytes after a b status.NoMemory read write t finished = inr refl
+by_output m bytes after a b status.Usage read write t finished = absurd t
+
+completes : (variant : Variant) (bytes : List ℕ) (after a b : Option (List ℕ)) (s : Status) → ¬ (s ≡ status.ReadFault) → ¬ (s ≡ status.WriteFault) → IsOutputFrom (opening variant) bytes after a b s
+    → (text_of_input variant bytes).verdict ≡ Finished → (s ≡ status.Done) ⊎ (s ≡ status.NoMemory)
+unfolding text_of_input
+completes variant bytes after a b s read write t finished =
+    by_output (opening variant) bytes after a b s read write t (ap (λ (w : Written). w.verdict) (same_run (opening variant) bytes) ∙ finished)
+
+by_left : (variant : Variant) (left after a b : Option (List ℕ)) (s : Status) (rb ra wb wa : ℕ) → IfSome left (λ bytes. IsRun variant bytes after a b s) → (s ≡ status.ReadFault → Rose rb ra) → (s ≡ status.WriteFault → Rose wb wa)
+    → IfSome left (λ bytes. (text_of_input variant bytes).verdict ≡ Finished → (Rose rb ra → ⊥) → (Rose wb wa → ⊥) → (s ≡ status.Done) ⊎ (s ≡ status.NoMemory))
+by_left variant None after a b s rb ra wb wa t read write = tt
+by_left variant (Some bytes) after a b s rb ra wb wa t read write = λ finished none nothing. completes variant bytes after a b s (λ x. none (read x)) (λ x. nothing (write x)) t.0 finished
+
+pub run_completes : (o : Option Variant) (variant : Variant) (left after a b : Option (List ℕ)) (s : Status) (rb ra wb wa : ℕ) → Some variant ≡ o → IfSome left (λ bytes. IsRun variant bytes after a b s)
+    → (s ≡ status.ReadFault → Rose rb ra) → (s ≡ status.WriteFault → Rose wb wa)
+    → IfSome o (λ x. IfSome left (λ bytes. (text_of_input x bytes).verdict ≡ Finished → (Rose rb ra → ⊥) → (Rose wb wa → ⊥) → (s ≡ status.Done) ⊎ (s ≡ status.NoMemory)))
+run_completes o variant left after a b s rb ra wb wa e t read write =
+    let P : Option Variant → Type 0 = λ q. IfSome q (λ x. IfSome left (λ bytes. (text_of_input x bytes).verdict ≡ Finished → (Rose rb ra → ⊥) → (Rose wb wa → ⊥) → (s ≡ status.Done) ⊎ (s ≡ status.NoMemory))) in
+    subst P e (by_left variant left after a b s rb ra wb wa t read write)

@@ -1,0 +1,112 @@
+-- A watched run differs from the run in its lines alone.
+use Rattle.std.proofs.Common.{◌≡◌, ℕ, zero, suc, ◌+◌, List, [], ◌∷◌, Option, Some, None, Result, Ok, Err, is_some, refl, sym, ap, subst, ◌∙◌}
+use Rattle.mesh_model.specs.Worlds as worlds
+use Rattle.mesh_model.specs.Worlds.{Event, Outcome, Idle, Next}
+use Rattle.mesh_model.specs.Choices.{pick}
+use Rattle.mesh_grammar.specs.declared.fault.LineFault.{LineFault}
+use Rattle.mesh_grammar.specs.Lines.{Piece, Whole, Long, Beyond, pieces_of_input}
+use Rattle.mesh_grammar.specs.Written.{line}
+use Rattle.mesh_text.specs.Schedule.{Moment, Accepted, Nothing, NewNode, Does, Chooses, ShowsNode, ShowsRoute, ShowsFlight, line_of, started, stepped, outcome_at, world_of, opening}
+use Rattle.mesh_text.specs.Lines.{words_of}
+use Rattle.mesh_text.specs.Accounts.{IsBalanced}
+use Rattle.mesh_text.specs.Auto.{AutoOutcome, Ended, Full as AutoFull, before, done_then, chosen_then, auto_from}
+use Rattle.mesh_text.specs.Text.{LineOutcome, On, Refused, Full, outcome_of_auto, outcome_of_line, outcome_of_read, outcome_of_piece, Written, goes_on, text_from, text_on, text_of_input}
+use Rattle.mesh_text.proofs.Moments.{data_are_accounted_for as run_is_accounted_for}
+use Rattle.mesh_watch.specs.Blocks.{block_below}
+use Rattle.mesh_watch.specs.Text.{watched_then, watched_auto, with_block, watched_line, watched_read, watched_piece, watched_from, watched_on, watched_of_input}
+use Rattle.mesh_watch.specs.Laws.{WatchedRunIsTheRun, DataAreAccountedFor}
+
+-- ---- what a line comes to, but for its text
+
+abbrev pub bare : LineOutcome → LineOutcome
+bare (On text n) = On [] n
+bare (Refused why) = Refused why
+bare (Full text n e field) = Full [] n e field
+
+abbrev pub bare_auto : AutoOutcome → AutoOutcome
+bare_auto (Ended text did n) = Ended [] did n
+bare_auto (AutoFull text n e field) = AutoFull [] n e field
+
+bare_before : (text : List ℕ) (r : AutoOutcome) → bare_auto (before text r) ≡ bare_auto r
+bare_before text (Ended others did n) = refl
+bare_before text (AutoFull others n e field) = refl
+
+bare_done : (m : Moment) (e : Event) (o : Outcome) (f g : Moment → AutoOutcome) → bare_auto (f (stepped m e)) ≡ bare_auto (g (stepped m e)) → bare_auto (done_then m e o f) ≡ bare_auto (done_then m e o g)
+bare_done m e Idle f g same = bare_before _ (f (stepped m e)) ∙ same ∙ sym (bare_before _ (g (stepped m e)))
+bare_done m e (worlds.Full x field) f g same = refl
+bare_done m e (Next w happening) f g same = bare_before _ (f (stepped m e)) ∙ same ∙ sym (bare_before _ (g (stepped m e)))
+
+bare_then : (m : Moment) (did : ℕ) (o : Option Event) (f g : Moment → AutoOutcome) → ((n : Moment) → bare_auto (f n) ≡ bare_auto (g n)) → bare_auto (watched_then m did o f) ≡ bare_auto (chosen_then m did o g)
+bare_then m did None f g same = refl
+bare_then m did (Some e) f g same =
+    bare_done m e (outcome_at m e) (λ n. before (block_below m e) (f n)) g (bare_before (block_below m e) (f (stepped m e)) ∙ same (stepped m e))
+
+pub bare_chosen : (most did : ℕ) (m : Moment) → bare_auto (watched_auto most did m) ≡ bare_auto (auto_from most did m)
+unfolding watched_auto auto_from
+bare_chosen zero did m = refl
+bare_chosen (suc most) did m = bare_then m did (pick (world_of m)) (λ n. watched_auto most (did + 1) n) (λ n. auto_from most (did + 1) n) (λ n. bare_chosen most (did + 1) n)
+
+bare_of_auto : (text : List ℕ) (r : AutoOutcome) → bare (outcome_of_auto text r) ≡ bare (outcome_of_auto [] (bare_auto r))
+bare_of_auto text (Ended others did n) = refl
+bare_of_auto text (AutoFull others n e field) = refl
+
+bare_with : (block : List ℕ) (k : LineOutcome) → bare (with_block block k) ≡ bare k
+bare_with block (On text n) = refl
+bare_with block (Refused why) = refl
+bare_with block (Full text n e field) = refl
+
+pub bare_line : (m : Moment) (a : Accepted) → bare (watched_line m a) ≡ bare (outcome_of_line m a)
+unfolding watched_line outcome_of_line
+bare_line m Nothing = refl
+bare_line m (NewNode address first) = refl
+bare_line m (Does e) = bare_with (block_below m e) (outcome_of_line m (Does e))
+bare_line m (Chooses count) =
+    let text : List ℕ = line (words_of m.mesh (Chooses count)) in
+    bare_of_auto text (watched_auto count 0 (started m)) ∙ ap (λ r. bare (outcome_of_auto [] r)) (bare_chosen count 0 (started m)) ∙ sym (bare_of_auto text (auto_from count 0 (started m)))
+bare_line m (ShowsNode x) = refl
+bare_line m (ShowsRoute x d) = refl
+bare_line m ShowsFlight = refl
+
+bare_read : (m : Moment) (r : Result Accepted LineFault) → bare (watched_read m r) ≡ bare (outcome_of_read m r)
+bare_read m (Ok a) = bare_line m a
+bare_read m (Err fault) = refl
+
+pub bare_piece : (m : Moment) (piece : Piece) → bare (watched_piece m piece) ≡ bare (outcome_of_piece m piece)
+unfolding watched_piece outcome_of_piece
+bare_piece m (Whole bytes) = bare_read m (line_of m.mesh (is_some m.world) bytes)
+bare_piece m Long = refl
+bare_piece m Beyond = refl
+
+-- ---- a run, but for its lines
+
+abbrev bare_run : Written → Written
+bare_run w = record w { lines = [] }
+
+bare_goes : (m : Moment) (k : LineOutcome) (f : Moment → Written) → bare_run (goes_on m k f) ≡ bare_run (goes_on m (bare k) f)
+bare_goes m (On text n) f = refl
+bare_goes m (Refused why) f = refl
+bare_goes m (Full text n e field) f = refl
+
+bare_both : (m : Moment) (k : LineOutcome) (f g : Moment → Written) → ((n : Moment) → bare_run (f n) ≡ bare_run (g n)) → bare_run (goes_on m k f) ≡ bare_run (goes_on m k g)
+bare_both m (On text n) f g same = same n
+bare_both m (Refused why) f g same = refl
+bare_both m (Full text n e field) f g same = refl
+
+bare_from : (m : Moment) (pieces : List Piece) → bare_run (watched_from m pieces) ≡ bare_run (text_from m pieces)
+unfolding watched_from text_from
+bare_from m [] = refl
+bare_from m (piece ∷ pieces) =
+    bare_goes m (watched_piece m piece) (λ n. watched_from n pieces) ∙ ap (λ k. bare_run (goes_on m k (λ n. watched_from n pieces))) (bare_piece m piece)
+    ∙ sym (bare_goes m (outcome_of_piece m piece) (λ n. watched_from n pieces))
+    ∙ bare_both m (outcome_of_piece m piece) (λ n. watched_from n pieces) (λ n. text_from n pieces) (λ n. bare_from n pieces)
+
+pub same_run : (m : Moment) (input : List ℕ) → watched_on m input ≡ record (text_on m input) { lines = (watched_on m input).lines }
+unfolding text_on
+same_run m input = ap (λ (w : Written). record w { lines = (watched_from m (pieces_of_input input)).lines }) (bare_from m (pieces_of_input input))
+
+pub watched_run_is_the_run : WatchedRunIsTheRun
+unfolding watched_of_input text_of_input
+watched_run_is_the_run variant input = same_run (opening variant) input
+
+pub data_are_accounted_for : DataAreAccountedFor
+data_are_accounted_for variant input = subst IsBalanced (sym (ap (λ (w : Written). w.after) (watched_run_is_the_run variant input))) (run_is_accounted_for variant input)

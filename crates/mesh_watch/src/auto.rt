@@ -1,0 +1,71 @@
+//! Events that the run chooses, one after another, each with its block.
+ghost use Rattle.std.specs.Prelude.{◌≡◌, ◌<◌, ◌+◌, ◌^◌, is_some, true, false, OnOk};
+ghost use Rattle.mesh_text.specs.Schedule.{Chooses};
+ghost use Rattle.mesh_script.specs.Seen.{IsPrintable};
+ghost use Rattle.mesh_run.specs.Causes.{HasStopCause};
+ghost use Rattle.mesh_run.specs.Runs.{IsLineOf, IsLineRun, IsAutoRun};
+ghost use Rattle.mesh_watch.specs.Text.{watched_auto, watched_line};
+
+use crate::event::do_event;
+use crate::watched::Watched;
+use mesh_io::Sink;
+use mesh_report::{put_auto_end, put_echo};
+use mesh_run::{Stop, next_event};
+use mesh_script::Line;
+use std::alloc::Global;
+
+// Does up to so many events, each chosen when the one before it is done. It answers how many there
+// were.
+fn do_events<O: Sink>(
+    alloc: Global,
+    at: &mut Watched,
+    count: u32,
+    out: &mut O,
+) -> Result<u32, Stop<'static>>
+    requires started { is_some at.old.point.world ≡ true }
+    requires few { at.old.point.steps + count < 2 ^ 48 }
+    ensures ran { IsAutoRun false at.old.point (watched_auto count 0 at.old.point)
+        at.new.point (O.held out.old) (O.held out.new) result }
+    ensures lines { OnOk result (at.new.point.lines ≡ at.old.point.lines) }
+    ensures cause { HasStopCause (O.faults out.old) (O.faults out.new) result }
+{
+    let mut did: u32 = 0;
+    'events: while did < count {
+        let Some(event) = next_event(&at.point) else {
+            return Ok(did);
+        };
+        if let Err(stop) = do_event(alloc, at, None, event, out) {
+            return Err(stop);
+        }
+        did += 1;
+    }
+    Ok(did)
+}
+
+/// Does a line of events that the run chooses, starts the run where that is due, and counts the line:
+/// writes it as it stands, the events with their blocks, and their number.
+pub fn do_auto<O: Sink>(
+    alloc: Global,
+    at: &mut Watched,
+    bytes: &[u8],
+    count: u32,
+    out: &mut O,
+) -> Result<(), Stop<'static>>
+    requires few { at.old.point.lines < 2 ^ 62 }
+    requires steps { at.old.point.steps < 2 ^ 47 }
+    requires printable { IsPrintable at.old.point.mesh (Line.Auto count) }
+    requires echo { IsLineOf at.old.point.mesh (Chooses count) bytes.now }
+    ensures comes { IsLineRun false at.old.point (watched_line at.old.point (Chooses count))
+        at.new.point (O.held out.old) (O.held out.new) result }
+    ensures cause { HasStopCause (O.faults out.old) (O.faults out.new) result }
+{
+    at.point.begin(alloc)?;
+    put_echo(bytes, &mut at.line, out)?;
+    let did = match do_events(alloc, at, count, out) {
+        Ok(did) => did,
+        Err(stop) => return Err(stop),
+    };
+    put_auto_end(did, &mut at.line, out)?;
+    at.point.count_line();
+    Ok(())
+}

@@ -1,0 +1,154 @@
+//! The top call.
+ghost use Rattle.std.specs.Prelude.{◌≡◌, ◌≢◌, ◌<◌, ◌^◌, ◌↔◌, ◌⊎◌, map, None, [], IfSome};
+ghost use Rattle.std.specs.Io.KnownBytes.{IsAtEnd};
+ghost use Rattle.mesh_io.specs.Cause.{Rose};
+ghost use Rattle.mesh_io.specs.Buffering.{inner_of, gathered_in, held_by};
+ghost use Rattle.mesh_text.specs.Text.{text_of_input, Finished};
+ghost use Rattle.mesh_run.specs.Causes.{HasSourceCause, HasStatusCause};
+ghost use Rattle.mesh_watch.specs.Words.{variant_of};
+ghost use Rattle.mesh_watch.specs.Told.{IsOutputFrom, IsRun};
+
+use crate::lines::do_lines;
+use crate::watched::Watched;
+use crate::words::variant_of;
+use mesh_base::Variant;
+use mesh_io::{Buffered, Lines, Loan, Sink, Source, Through};
+use mesh_run::Status;
+use std::alloc::Global;
+use std::marker::Brand;
+
+// Does the lines of a source into a buffer, and hands on what is gathered, unless a write failed.
+fn run_gathered<I: Source, O: Sink>(
+    alloc: Global,
+    at: &mut Watched,
+    input: &mut I,
+    buffer: &mut Buffered<O>,
+) -> Status
+    requires few { at.old.point.lines < 2 ^ 61 }
+    requires steps { at.old.point.steps < 2 ^ 46 }
+    ensures told { IfSome (I.left input.old) (λ bytes. IsOutputFrom at.old.point bytes
+        (I.left input.new) (held_by O.held buffer.old) (held_by O.held buffer.new) result) }
+    ensures handed_on { result ≢ Status.WriteFault → gathered_in buffer.new ≡ [] }
+    ensures end { result ≡ Status.Done → IsAtEnd (I.left input.new) }
+    ensures read { HasSourceCause (I.faults input.old) (I.faults input.new) result }
+    ensures write { HasStatusCause Status.WriteFault
+        (O.faults (inner_of buffer.old)) (O.faults (inner_of buffer.new)) result }
+    ensures words { result ≢ Status.Usage }
+{
+    let mut lines = Lines::new(input);
+    let status = do_lines(alloc, at, &mut lines, buffer);
+    let _input = lines.give_back();
+    if status == Status::WriteFault {
+        return status;
+    }
+    match buffer.flush() {
+        Ok(()) => status,
+        Err(_) => Status::WriteFault,
+    }
+}
+
+// Does the lines of a source through a buffer before the sink, which comes back.
+fn run_through<'s, I: Source, O: Sink, L: Loan>(
+    alloc: Global,
+    at: &mut Watched,
+    input: &mut I,
+    out: &'s mut O,
+    status: &mut Status,
+) -> &'s mut O
+    requires few { at.old.point.lines < 2 ^ 61 }
+    requires steps { at.old.point.steps < 2 ^ 46 }
+    requires name { out.ghost_name ≡ L.name }
+    requires start { O.held out.now ≡ L.start }
+    ensures same { result.ghost_name ≡ out.entry.ghost_name }
+    ensures told { IfSome (I.left input.old) (λ bytes. IsOutputFrom at.old.point bytes
+        (I.left input.new) (O.held out.entry.now) (O.held result.now) status.new) }
+    ensures end { status.new ≡ Status.Done → IsAtEnd (I.left input.new) }
+    ensures read { HasSourceCause (I.faults input.old) (I.faults input.new) status.new }
+    ensures write { HasStatusCause Status.WriteFault
+        (O.faults out.entry.now) (O.faults result.now) status.new }
+    ensures words { status.new ≢ Status.Usage }
+{
+    let mut buffer: Buffered<Through<'s, O, L>> = Buffered::lent(out);
+    *status = run_gathered(alloc, at, input, &mut buffer);
+    buffer.give_back()
+}
+
+// Does the lines of a source, from a moment on.
+fn run_on<I: Source, O: Sink>(alloc: Global, at: &mut Watched, input: &mut I, out: &mut O) -> Status
+    requires few { at.old.point.lines < 2 ^ 61 }
+    requires steps { at.old.point.steps < 2 ^ 46 }
+    ensures told { IfSome (I.left input.old) (λ bytes. IsOutputFrom at.old.point bytes
+        (I.left input.new) (O.held out.old) (O.held out.new) result) }
+    ensures end { result ≡ Status.Done → IsAtEnd (I.left input.new) }
+    ensures read { HasSourceCause (I.faults input.old) (I.faults input.new) result }
+    ensures write { HasStatusCause Status.WriteFault (O.faults out.old) (O.faults out.new) result }
+    ensures words { result ≢ Status.Usage }
+{
+    let mut status = Status::Done;
+    let _out = run_through::<I, O, Brand>(alloc, at, input, out, &mut status);
+    status
+}
+
+// Runs a schedule.
+fn run<I: Source, O: Sink>(alloc: Global, variant: Variant, input: &mut I, out: &mut O) -> Status
+    ensures told { IfSome (I.left input.old) (λ bytes. IsRun variant bytes
+        (I.left input.new) (O.held out.old) (O.held out.new) result) }
+    ensures end { result ≡ Status.Done → IsAtEnd (I.left input.new) }
+    ensures read { HasSourceCause (I.faults input.old) (I.faults input.new) result }
+    ensures write { HasStatusCause Status.WriteFault (O.faults out.old) (O.faults out.new) result }
+    ensures words { result ≢ Status.Usage }
+{
+    let mut at = Watched::with(variant);
+    run_on(alloc, &mut at, input, out)
+}
+
+/// Runs the schedule that the source gives, in a world of its own, and writes its text to the sink,
+/// line by line, with a block below each event that has changed a node: what a line `show` of that
+/// node writes at the moment after the event. Without words all nodes run the protocol as AWN has
+/// it, with `--variant NAME` that variant of it.
+///
+/// What is written is gathered in a buffer of 65536 bytes, and handed on when that is full, before
+/// each read of the source, and at the end, unless a write has failed.
+pub fn watch<I: Source, O: Sink>(
+    alloc: Global,
+    words: &[&str],
+    input: &mut I,
+    out: &mut O,
+) -> Status
+    // The words are of no form: nothing is read or written.
+    ensures usage_exactly_for_other_words { (result ≡ Status.Usage)
+        ↔ (variant_of (map (λ w. w.now) words.now) ≡ None) }
+    ensures untouched_by_other_words { result ≡ Status.Usage
+        → (input.new ≡ input.old) × (out.new ≡ out.old) }
+
+    // What is written is the text of the input with its blocks, and the answer its verdict. After a
+    // failed write, or want of memory, it is a prefix of that text; after a failed read it is the
+    // text of the lines that were read whole. In no world to which that run comes, after any number
+    // of its events, does a destination have a loop.
+    ensures text_of_a_loop_free_run { IfSome (variant_of (map (λ w. w.now) words.now)) (λ variant.
+        IfSome (I.left input.old) (λ bytes. IsRun variant bytes
+        (I.left input.new) (O.held out.old) (O.held out.new) result)) }
+
+    // Done only where the input was read to its end.
+    ensures done_at_the_end { result ≡ Status.Done → IsAtEnd (I.left input.new) }
+
+    // A fault is answered exactly where the source or the sink has failed in this call; where both
+    // have, it is the sink's.
+    ensures cause_of_read_fault { HasSourceCause
+        (I.faults input.old) (I.faults input.new) result }
+    ensures cause_of_write_fault { HasStatusCause Status.WriteFault
+        (O.faults out.old) (O.faults out.new) result }
+
+    // Where every line is allowed, no event is refused and nothing has failed, the whole text is
+    // written, unless memory runs out.
+    ensures complete { IfSome (variant_of (map (λ w. w.now) words.now)) (λ variant.
+        IfSome (I.left input.old) (λ bytes. (text_of_input variant bytes).verdict ≡ Finished
+        → (Rose (I.faults input.old) (I.faults input.new) → ⊥)
+        → (Rose (O.faults out.old) (O.faults out.new) → ⊥)
+        → (result ≡ Status.Done) ⊎ (result ≡ Status.NoMemory))) }
+{
+    match variant_of(words) {
+        Some(variant) => run(alloc, variant, input, out),
+        None => Status::Usage,
+    }
+}
