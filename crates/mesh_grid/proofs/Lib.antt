@@ -4,5 +4,5 @@ mod Changes
 mod ScheduleRuns
 pub mod PlaceSteps
 pub mod PlaceRuns
-mod LinkLaws
+pub mod LinkLaws
 mod PlaceWords

@@ -1,0 +1,335 @@
+-- What a run with places has told so far: the lines that were done, and those that are to come.
+use Rattle.std.proofs.Common.{◌≡◌, ◌≢◌, ℕ, ◌+◌, ◌≤◌, ◌⊎◌, inl, inr, Bool, true, false, cond, eqb, ltb, leb, List, [], ◌∷◌, ◌++◌, Option, Some, None, Ok, Err, length, length-append, refl, sym, ap, ap₂, subst, ◌∙◌, append_assoc, append-nil, arith}
+use Rattle.std.specs.Prelude.{IfSome}
+use Rattle.std.specs.Io.KnownBytes.{Appends, Keeps, prepend_known}
+use Rattle.std.proofs.lemmas.Bool.Decides.{nat_tests}
+use Rattle.mesh_base.specs.declared.limits.TheConstants.{LONGEST_LINE, LONGEST_INPUT}
+use Rattle.mesh_io.specs.Puts.{AppendsPrefix}
+use Rattle.mesh_io.specs.NextLines.{FirstLine, first_line, with_byte, line_size, NextLine, End, Line, TooLong as LineTooLong, TooMuch as LineTooMuch, schedule_limits, next_of}
+use Rattle.mesh_io.specs.Cutting.{Tells, FindsLine, IsCounted, HasNoLf}
+use Rattle.mesh_io.specs.declared.line_error.LineError.TheVariants as error
+use Rattle.mesh_io.proofs.Writing.{Appends-join, Appends-keeps, Appends-none}
+use Rattle.mesh_io.proofs.FirstParts.{whole_line, nothing_after}
+use Rattle.mesh_io.proofs.FirstLines.{first_open}
+use Rattle.mesh_grammar.specs.Lines.{Piece, Whole, Long, Beyond, complete}
+use Rattle.mesh_grammar.specs.declared.fault.BadWhy.TheVariants.{TooLong, TooMuch}
+use Rattle.mesh_text.specs.Text.{Written, On, lines_before, whole, finished_run, refused_run}
+use Rattle.mesh_text.proofs.Seams.{complete_seam}
+use Rattle.mesh_run.specs.declared.status.Status.{Status}
+use Rattle.mesh_run.specs.declared.status.Status.TheVariants.{Done, Usage, BadLine, Full, ReadFault, WriteFault, NoMemory}
+use Rattle.mesh_run.specs.Told.{IsOutput}
+use Rattle.mesh_run.specs.Runs.{IsLineDone}
+use Rattle.mesh_run.proofs.Pieces.{pieces_at, pieces_at_front, pieces_none, IsAhead, Begins, ahead}
+use Rattle.mesh_run.proofs.Completes.{ended_is, ended_complete, open_complete}
+use Rattle.mesh_grid.specs.Text.{Moment, outcome_of_piece, places_after, text_from, text_on}
+use Rattle.mesh_places.specs.Told.{IsCutShort, IsOutputFrom}
+use Rattle.mesh_places.proofs.Telling.{text_from-on, text_from-end, told_after, told_end, told_long, told_beyond}
+
+-- ---- a line and whatever follows it
+
+-- the first line of some bytes has no LF
+line_open : (bytes : List ℕ) → HasNoLf (first_line bytes).line
+line_open [] = refl
+line_open (b ∷ bs) = by_test (eqb b 10) refl (first_line bs) (line_open bs)
+  where
+    by_test : (t : Bool) → eqb b 10 ≡ t → (f : FirstLine) → HasNoLf f.line → HasNoLf (cond t (record { line = []; ends = true; rest = bs }) (with_byte b f)).line
+    by_test true e f h = refl
+    by_test false e f h = ap (λ c. (cond c (record { line = []; ends = true; rest = f.line }) (with_byte b (first_line f.line))).ends) e ∙ h
+
+first_with : (l rest : List ℕ) → HasNoLf l → first_line ((l ++ 10 ∷ []) ++ rest) ≡ record { line = l; ends = true; rest = rest }
+first_with l rest none =
+    ap first_line (append_assoc l (10 ∷ []) rest) ∙ first_open l (10 ∷ rest) none ∙ ap (λ x. record { line = x; ends = true; rest = rest }) (append-nil l)
+
+-- within the limits a line is what comes next
+comes_next : (given : ℕ) (bytes : List ℕ) → 1 ≤ length bytes → length (first_line bytes).line ≤ LONGEST_LINE → given + line_size (first_line bytes) ≤ LONGEST_INPUT
+    → next_of schedule_limits given bytes ≡ Line (first_line bytes)
+unfolding next_of
+comes_next given [] some short fits = absurd (omega arith)
+comes_next given (b ∷ bs) some short fits = by_tests (ltb LONGEST_LINE (length f.line)) (leb (given + line_size f) LONGEST_INPUT) refl refl
+  where
+    f : FirstLine
+    f = first_line (b ∷ bs)
+
+    by_tests : (x z : Bool) → ltb LONGEST_LINE (length f.line) ≡ x → leb (given + line_size f) LONGEST_INPUT ≡ z
+        → cond x (cond (leb (given + LONGEST_LINE + 1) LONGEST_INPUT) LineTooLong LineTooMuch) (cond z (Line f) LineTooMuch) ≡ Line f
+    by_tests true z ex ez = absurd (grind (arith, nat_tests))
+    by_tests false true ex ez = refl
+    by_tests false false ex ez = absurd (grind (arith, nat_tests))
+
+pieces_with : (given : ℕ) (l rest : List ℕ) → HasNoLf l → length l ≤ LONGEST_LINE → given + (length l + 1) ≤ LONGEST_INPUT
+    → pieces_at given ((l ++ 10 ∷ []) ++ rest) ≡ Whole l ∷ pieces_at (given + (length l + 1)) rest
+pieces_with given l rest none short fits =
+    let bytes : List ℕ = (l ++ 10 ∷ []) ++ rest in
+    let f : FirstLine = record { line = l; ends = true; rest = rest } in
+    let first : first_line bytes ≡ f = first_with l rest none in
+    let line : length (first_line bytes).line ≡ length l = ap (λ (x : FirstLine). length x.line) first in
+    let size : line_size (first_line bytes) ≡ length l + 1 = ap line_size first in
+    let next : next_of schedule_limits given bytes ≡ Line (first_line bytes) =
+    comes_next given bytes (omega (arith, length-append (l ++ 10 ∷ []) rest, length-append l (10 ∷ []))) (omega (arith, line)) (omega (arith, size)) in
+    let a : IsAhead given bytes (Line (first_line bytes)) = subst (IsAhead given bytes) next (ahead given bytes (omega arith)) in
+    a.1 ∙ ap (λ (x : FirstLine). Whole x.line ∷ pieces_at (given + line_size x) x.rest) first
+
+-- ---- the story
+
+-- the lines so far were all complete, and were done: whatever follows them goes on from this moment
+pub record AreDone (reach : ℕ) (start at : Moment) (front lines : List ℕ) : Type 0 where
+  pub complete_is : complete front ≡ front
+  pub goes : (rest : List ℕ) → text_on reach start (front ++ rest) ≡ lines_before lines (text_from reach at (pieces_at (length front) rest))
+
+-- from a moment on these lines were done, with this text; the others are to come
+pub record Story (reach : ℕ) (start at : Moment) (text to_come : List ℕ) (given : ℕ) (ended : Bool) (before now : Option (List ℕ)) : Type 0 where
+  pub front : List ℕ
+  pub lines : List ℕ
+  pub split : text ≡ front ++ to_come
+  pub count : length front ≡ given
+  pub all : text_on reach start text ≡ lines_before lines (text_from reach at (pieces_at given to_come))
+  -- the last line alone may have no LF
+  pub done : ((ended ≡ true) × (to_come ≡ [])) ⊎ AreDone reach start at front lines
+  pub grown : Appends before now lines
+
+-- where the source tells its bytes
+abbrev pub IsStory : ℕ → Moment → Moment → Option (List ℕ) → Option (List ℕ) → ℕ → Bool → Option (List ℕ) → Option (List ℕ) → Type 0
+IsStory reach start at None to_come given ended before now = Unit {0}
+IsStory reach start at (Some text) None given ended before now = ⊥
+IsStory reach start at (Some text) (Some bytes) given ended before now = Story reach start at text bytes given ended before now
+
+-- ---- its begin
+
+nothing_complete : complete [] ≡ []
+nothing_complete = open_complete [] refl
+
+pub story_begins : (reach : ℕ) (start : Moment) (left : Option (List ℕ)) (pending : List ℕ) (given : ℕ) (ended : Bool) (before : Option (List ℕ)) → pending ≡ [] → given ≡ 0
+    → IsStory reach start start left (prepend_known pending left) given ended before before
+story_begins reach start None pending given ended before none zero_is = tt
+story_begins reach start (Some text) pending given ended before none zero_is =
+    subst (λ (p : List ℕ). Story reach start start text (p ++ text) given ended before before) (sym none)
+    (subst (λ (n : ℕ). Story reach start start text text n ended before before) (sym zero_is) (record {
+      front = [];
+      lines = [];
+      split = refl;
+      count = refl;
+      all = ap (text_from reach start) (pieces_at_front text);
+      done = inr (record { complete_is = nothing_complete; goes = λ rest. ap (text_from reach start) (pieces_at_front rest) });
+      grown = Appends-none before;
+    }))
+
+-- what is held stays
+pub story_kept : (reach : ℕ) (start at : Moment) (left to_come : Option (List ℕ)) (given : ℕ) (ended : Bool) (before now after : Option (List ℕ)) → Keeps now after
+    → IsStory reach start at left to_come given ended before now → IsStory reach start at left to_come given ended before after
+story_kept reach start at None to_come given ended before now after keeps s = tt
+story_kept reach start at (Some text) None given ended before now after keeps s = absurd s
+story_kept reach start at (Some text) (Some bytes) given ended before now after keeps s = record {
+  front = s.front;
+  lines = s.lines;
+  split = s.split;
+  count = s.count;
+  all = s.all;
+  done = s.done;
+  grown = Appends-keeps before now after _ s.grown keeps;
+}
+
+-- ---- one line more
+
+-- an end of the bytes has no next line
+none_next : (given : ℕ) (bytes : List ℕ) (f : FirstLine) → bytes ≡ [] → next_of schedule_limits given bytes ≡ Line f → ⊥
+unfolding next_of
+none_next given bytes f none next = let clash : End ≡ Line f = sym (ap (next_of schedule_limits given) none) ∙ next in let P : ⊥ = cc in P
+
+before_both : (a b : List ℕ) (w : Written) → lines_before a (lines_before b w) ≡ lines_before (a ++ b) w
+before_both a b w = ap (λ l. record w { lines = l }) (sym (append_assoc a b w.lines))
+
+-- the lines so far and this one
+done_more : (reach : ℕ) (start at n : Moment) (front lines text l : List ℕ) → AreDone reach start at front lines → HasNoLf l → complete (l ++ 10 ∷ []) ≡ l ++ 10 ∷ []
+    → length l ≤ LONGEST_LINE → length front + (length l + 1) ≤ LONGEST_INPUT → outcome_of_piece reach at (Whole l) ≡ On text n.run → n.places ≡ places_after at (Whole l)
+    → AreDone reach start n (front ++ (l ++ 10 ∷ [])) (lines ++ text)
+done_more reach start at n front lines text l done no_lf ends short few on places =
+    let taken : List ℕ = l ++ 10 ∷ [] in
+    let size : length (front ++ taken) ≡ length front + (length l + 1) = omega (arith, length-append front taken, length-append l (10 ∷ [])) in
+    record {
+      complete_is = complete_seam front taken done.complete_is ∙ ap (λ k. front ++ k) ends;
+      goes = λ rest.
+          ap (text_on reach start) (append_assoc front taken rest) ∙ done.goes (taken ++ rest)
+          ∙ ap (λ ps. lines_before lines (text_from reach at ps)) (pieces_with (length front) l rest no_lf short few)
+          ∙ ap (lines_before lines) (text_from-on reach at n (Whole l) text (pieces_at (length front + (length l + 1)) rest) on places)
+          ∙ before_both lines text (text_from reach n (pieces_at (length front + (length l + 1)) rest))
+          ∙ ap (λ k. lines_before (lines ++ text) (text_from reach n (pieces_at k rest))) (sym size);
+    }
+
+open_ended : (len given after size : ℕ) (ended : Bool) → size ≡ len + 0 → after ≡ given + size → IsCounted len given after ended → ended ≡ true
+open_ended len given after size ended is more (inl lf) = absurd (omega arith)
+open_ended len given after size ended is more (inr last) = last.1
+
+line_told : (reach : ℕ) (start at n : Moment) (text bytes line : List ℕ) (given after : ℕ) (ended ended' : Bool) (before now later : Option (List ℕ)) (left : Option (List ℕ))
+    → given ≤ LONGEST_INPUT → after ≤ LONGEST_INPUT → length line ≤ LONGEST_LINE → Story reach start at text bytes given ended before now → FindsLine schedule_limits given bytes line after left
+    → IsCounted (length line) given after ended' → IsLineDone false (outcome_of_piece reach at (Whole line)) n.run now later → n.places ≡ places_after at (Whole line)
+    → IsStory reach start n (Some text) left after ended' before later
+line_told reach start at n text bytes line given after ended ended' before now later left few fits short s told counted g places =
+    let a : IsAhead given bytes (Line told.first) = subst (IsAhead given bytes) told.next (ahead given bytes few) in
+    let f : FirstLine = first_line bytes in
+    let line_is : line ≡ f.line = told.line_is ∙ ap (λ (x : FirstLine). x.line) a.0 in
+    let after_is : after ≡ given + line_size f = told.after_is ∙ ap (λ x. given + line_size x) a.0 in
+    let left_is : left ≡ Some f.rest = told.left_is ∙ ap (λ (x : FirstLine). Some x.rest) a.0 in
+    let on : outcome_of_piece reach at (Whole f.line) ≡ On g.text n.run = ap (λ x. outcome_of_piece reach at (Whole x)) (sym line_is) ∙ g.is in
+    let there : n.places ≡ places_after at (Whole f.line) = places ∙ ap (λ x. places_after at (Whole x)) line_is in
+    let pieces : pieces_at given bytes ≡ Whole f.line ∷ pieces_at after f.rest =
+    a.1 ∙ ap (λ (x : FirstLine). Whole x.line ∷ pieces_at (given + line_size x) x.rest) a.0 ∙ ap (λ k. Whole f.line ∷ pieces_at k f.rest) (sym after_is) in
+    let all : text_on reach start text ≡ lines_before (s.lines ++ g.text) (text_from reach n (pieces_at after f.rest)) =
+    s.all ∙ ap (λ ps. lines_before s.lines (text_from reach at ps)) pieces ∙ ap (lines_before s.lines) (text_from-on reach at n (Whole f.line) g.text (pieces_at after f.rest) on there)
+    ∙ before_both s.lines g.text (text_from reach n (pieces_at after f.rest)) in
+    let grown : Appends before later (s.lines ++ g.text) = Appends-join before now later s.lines g.text (s.lines ++ g.text) refl s.grown g.grown in
+    let low : length f.line ≤ LONGEST_LINE = subst (λ l. length l ≤ LONGEST_LINE) line_is short in
+    subst (λ (o : Option (List ℕ)). IsStory reach start n (Some text) o after ended' before later) (sym left_is)
+    (by_end f.ends refl line_is after_is on there all grown low)
+  where
+    f : FirstLine
+    f = first_line bytes
+
+    done_so : AreDone reach start at s.front s.lines
+    done_so = by_done s.done
+      where
+        by_done : ((ended ≡ true) × (bytes ≡ [])) ⊎ AreDone reach start at s.front s.lines → AreDone reach start at s.front s.lines
+        by_done (inl closed) = absurd (none_next given bytes told.first closed.1 told.next)
+        by_done (inr done) = done
+
+    by_end : (b : Bool) → f.ends ≡ b → line ≡ f.line → after ≡ given + line_size f → outcome_of_piece reach at (Whole f.line) ≡ On g.text n.run → n.places ≡ places_after at (Whole f.line)
+        → text_on reach start text ≡ lines_before (s.lines ++ g.text) (text_from reach n (pieces_at after f.rest)) → Appends before later (s.lines ++ g.text)
+        → length f.line ≤ LONGEST_LINE → Story reach start n text f.rest after ended' before later
+    by_end true e line_is after_is on there all grown low =
+        let taken : List ℕ = f.line ++ 10 ∷ [] in
+        let size : line_size f ≡ length f.line + 1 = ap (λ b. length f.line + cond b 1 0) e in
+        let before_is = s.count in
+        record {
+          front = s.front ++ taken;
+          lines = s.lines ++ g.text;
+          split = s.split ∙ ap (λ l. s.front ++ l) (ended_is bytes e) ∙ sym (append_assoc s.front taken f.rest);
+          count = omega (arith, length-append s.front taken, length-append f.line (10 ∷ []));
+          all = all;
+          done = inr (done_more reach start at n s.front s.lines g.text f.line done_so (line_open bytes) (ended_complete bytes e) low (omega arith) on there);
+          grown = grown;
+        }
+    by_end false e line_is after_is on there all grown low =
+        let size : line_size f ≡ length f.line + 0 = ap (λ b. length f.line + cond b 1 0) e in
+        let same : length line ≡ length f.line = ap length line_is in
+        let whole_is : bytes ≡ f.line ++ f.rest = sym (ap₂ (λ l r. l ++ r) (whole_line bytes e) (nothing_after bytes e) ∙ append-nil bytes) in
+        record {
+          front = s.front ++ f.line;
+          lines = s.lines ++ g.text;
+          split = s.split ∙ ap (λ l. s.front ++ l) whole_is ∙ sym (append_assoc s.front f.line f.rest);
+          count = let before = s.count in omega (arith, length-append s.front f.line);
+          all = all;
+          done = inl (open_ended (length line) given after (line_size f) ended' (omega arith) after_is counted, nothing_after bytes e);
+          grown = grown;
+        }
+
+pub story_goes : (reach : ℕ) (start at n : Moment) (left to_come after : Option (List ℕ)) (line : List ℕ) (given given' : ℕ) (ended ended' : Bool) (before now later : Option (List ℕ))
+    → given ≤ LONGEST_INPUT → given' ≤ LONGEST_INPUT → length line ≤ LONGEST_LINE → IsStory reach start at left to_come given ended before now
+    → IfSome to_come (λ bytes. Tells schedule_limits given bytes (Ok true) line given' after) → IsCounted (length line) given given' ended'
+    → IsLineDone false (outcome_of_piece reach at (Whole line)) n.run now later → n.places ≡ places_after at (Whole line) → IsStory reach start n left after given' ended' before later
+story_goes reach start at n None to_come after line given given' ended ended' before now later few fits short s told counted g places = tt
+story_goes reach start at n (Some text) None after line given given' ended ended' before now later few fits short s told counted g places = absurd s
+story_goes reach start at n (Some text) (Some bytes) after line given given' ended ended' before now later few fits short s told counted g places =
+    line_told reach start at n text bytes line given given' ended ended' before now later after few fits short s told counted g places
+
+-- ---- its ends
+
+-- an answer that is no failed read
+output_from : (reach : ℕ) (m : Moment) (bytes : List ℕ) (left before now : Option (List ℕ)) (s : Status) → s ≢ ReadFault → IsOutput before now (text_on reach m bytes) s
+    → IsOutputFrom reach m bytes left before now s
+output_from reach m bytes left before now Done read t = t
+output_from reach m bytes left before now (BadLine n) read t = t
+output_from reach m bytes left before now (Full n) read t = t
+output_from reach m bytes left before now ReadFault read t = absurd (read refl)
+output_from reach m bytes left before now WriteFault read t = t
+output_from reach m bytes left before now NoMemory read t = t
+output_from reach m bytes left before now Usage read t = t
+
+-- what is told of the lines to come is told of all
+story_tells : (reach : ℕ) (start at : Moment) (text bytes : List ℕ) (given : ℕ) (ended : Bool) (before now later left : Option (List ℕ)) (s : Status)
+    → Story reach start at text bytes given ended before now → s ≢ ReadFault → IsOutput now later (text_from reach at (pieces_at given bytes)) s → IsOutputFrom reach start text left before later s
+story_tells reach start at text bytes given ended before now later left s is read t =
+    output_from reach start text left before later s read (told_after (text_on reach start text) (text_from reach at (pieces_at given bytes)) is.lines before now later s is.all is.grown t)
+
+-- a line ended the run
+pub story_stops : (reach : ℕ) (start at : Moment) (left to_come after new : Option (List ℕ)) (line : List ℕ) (given given' : ℕ) (ended : Bool) (before now later : Option (List ℕ)) (s : Status)
+    → given ≤ LONGEST_INPUT → IsStory reach start at left to_come given ended before now → IfSome to_come (λ bytes. Tells schedule_limits given bytes (Ok true) line given' after) → s ≢ ReadFault
+    → ((pieces : List Piece) → IsOutput now later (text_from reach at (Whole line ∷ pieces)) s) → IfSome left (λ bytes. IsOutputFrom reach start bytes new before later s)
+story_stops reach start at None to_come after new line given given' ended before now later s few is told read t = tt
+story_stops reach start at (Some text) None after new line given given' ended before now later s few is told read t = absurd is
+story_stops reach start at (Some text) (Some bytes) after new line given given' ended before now later s few is told read t =
+    let a : IsAhead given bytes (Line told.first) = subst (IsAhead given bytes) told.next (ahead given bytes few) in
+    let pieces : pieces_at given bytes ≡ Whole line ∷ pieces_at (given + line_size told.first) (told.first).rest = a.1 ∙ ap (λ l. Whole l ∷ pieces_at (given + line_size told.first) (told.first).rest) (sym told.line_is) in
+    story_tells reach start at text bytes given ended before now later new s is read
+    (subst (λ ps. IsOutput now later (text_from reach at ps) s) (sym pieces) (t (pieces_at (given + line_size told.first) (told.first).rest)))
+
+-- the end of the input
+pub story_ends : (reach : ℕ) (start at : Moment) (left to_come after new : Option (List ℕ)) (line : List ℕ) (given given' : ℕ) (ended : Bool) (before now later : Option (List ℕ)) (s : Status)
+    → IsStory reach start at left to_come given ended before now → IfSome to_come (λ bytes. Tells schedule_limits given bytes (Ok false) line given' after) → s ≢ ReadFault
+    → IsOutput now later (finished_run at.run) s → IfSome left (λ bytes. IsOutputFrom reach start bytes new before later s)
+story_ends reach start at None to_come after new line given given' ended before now later s is told read t = tt
+story_ends reach start at (Some text) None after new line given given' ended before now later s is told read t = absurd is
+story_ends reach start at (Some text) (Some bytes) after new line given given' ended before now later s is told read t =
+    story_tells reach start at text bytes given ended before now later new s is read (told_end reach at (pieces_at given bytes) now later s (ap (pieces_at given) told.0 ∙ pieces_none given) t)
+
+-- a limit
+pub story_long : (reach : ℕ) (start at : Moment) (left to_come after new : Option (List ℕ)) (line : List ℕ) (given given' : ℕ) (ended : Bool) (before now later : Option (List ℕ)) (s : Status)
+    → given ≤ LONGEST_INPUT → IsStory reach start at left to_come given ended before now → IfSome to_come (λ bytes. Tells schedule_limits given bytes (Err error.TooLong) line given' after) → s ≢ ReadFault
+    → IsOutput now later (refused_run at.run TooLong) s → IfSome left (λ bytes. IsOutputFrom reach start bytes new before later s)
+story_long reach start at None to_come after new line given given' ended before now later s few is told read t = tt
+story_long reach start at (Some text) None after new line given given' ended before now later s few is told read t = absurd is
+story_long reach start at (Some text) (Some bytes) after new line given given' ended before now later s few is told read t =
+    let a : Begins Long (pieces_at given bytes) = subst (IsAhead given bytes) told.0 (ahead given bytes few) in
+    story_tells reach start at text bytes given ended before now later new s is read
+    (subst (λ ps. IsOutput now later (text_from reach at ps) s) (sym a.1) (told_long reach at a.0 now later s t))
+
+pub story_much : (reach : ℕ) (start at : Moment) (left to_come after new : Option (List ℕ)) (line : List ℕ) (given given' : ℕ) (ended : Bool) (before now later : Option (List ℕ)) (s : Status)
+    → given ≤ LONGEST_INPUT → IsStory reach start at left to_come given ended before now → IfSome to_come (λ bytes. Tells schedule_limits given bytes (Err error.TooMuch) line given' after) → s ≢ ReadFault
+    → IsOutput now later (refused_run at.run TooMuch) s → IfSome left (λ bytes. IsOutputFrom reach start bytes new before later s)
+story_much reach start at None to_come after new line given given' ended before now later s few is told read t = tt
+story_much reach start at (Some text) None after new line given given' ended before now later s few is told read t = absurd is
+story_much reach start at (Some text) (Some bytes) after new line given given' ended before now later s few is told read t =
+    let a : Begins Beyond (pieces_at given bytes) = subst (IsAhead given bytes) told.0 (ahead given bytes few) in
+    story_tells reach start at text bytes given ended before now later new s is read
+    (subst (λ ps. IsOutput now later (text_from reach at ps) s) (sym a.1) (told_beyond reach at a.0 now later s t))
+
+-- what was told of the lines so far is a prefix
+story_front : (reach : ℕ) (start at : Moment) (text bytes : List ℕ) (given : ℕ) (ended : Bool) (before now : Option (List ℕ)) → Story reach start at text bytes given ended before now
+    → AppendsPrefix before now (whole (text_on reach start text))
+story_front reach start at text bytes given ended before now is =
+    let w : Written = text_from reach at (pieces_at given bytes) in
+    subst (λ (v : Written). AppendsPrefix before now (whole v)) (sym is.all) (record { prefix = is.lines; rest = w.lines ++ w.last; whole = append_assoc is.lines w.lines w.last; grown = is.grown })
+
+pub story_breaks : (reach : ℕ) (start at : Moment) (left to_come new : Option (List ℕ)) (given : ℕ) (ended : Bool) (before now : Option (List ℕ)) → IsStory reach start at left to_come given ended before now
+    → IfSome left (λ bytes. IsOutputFrom reach start bytes new before now WriteFault)
+story_breaks reach start at None to_come new given ended before now is = tt
+story_breaks reach start at (Some text) None new given ended before now is = absurd is
+story_breaks reach start at (Some text) (Some bytes) new given ended before now is = story_front reach start at text bytes given ended before now is
+
+-- a read failed: no line that was read whole was held back
+cut_short : (reach : ℕ) (start at : Moment) (text front lines pending rest : List ℕ) (before now : Option (List ℕ)) → text ≡ front ++ (pending ++ rest) → AreDone reach start at front lines → HasNoLf pending
+    → Appends before now lines → AppendsPrefix before now (whole (text_on reach start text)) → IsCutShort reach start text (Some rest) before now
+cut_short reach start at text front lines pending rest before now split done none grown prefix =
+    let taken : complete (front ++ pending) ≡ front = complete_seam front pending done.complete_is ∙ ap (λ l. front ++ l) (open_complete pending none) ∙ append-nil front in
+    let w : text_on reach start (complete (front ++ pending)) ≡ lines_before lines (finished_run at.run) =
+    ap (text_on reach start) (taken ∙ sym (append-nil front)) ∙ done.goes [] ∙ ap (λ ps. lines_before lines (text_from reach at ps)) (pieces_none (length front)) ∙ ap (lines_before lines) (text_from-end reach at) in
+    record {
+      taken = front ++ pending;
+      consumed = split ∙ sym (append_assoc front pending rest);
+      done = ap (λ (x : Written). x.verdict) w;
+      grown = subst (λ l. Appends before now l) (sym (ap (λ (x : Written). x.lines) w ∙ append-nil lines)) grown;
+      prefix = prefix;
+    }
+
+pub story_cut : (reach : ℕ) (start at : Moment) (left to_come new : Option (List ℕ)) (pending line : List ℕ) (given given' : ℕ) (ended : Bool) (before now : Option (List ℕ))
+    → IsStory reach start at left to_come given ended before now → IfSome to_come (λ bytes. Tells schedule_limits given bytes (Err error.ReadFault) line given' (prepend_known pending new))
+    → HasNoLf pending → ¬ (ended ≡ true) → IfSome left (λ bytes. IsOutputFrom reach start bytes new before now ReadFault)
+story_cut reach start at None to_come new pending line given given' ended before now is told none unended = tt
+story_cut reach start at (Some text) None new pending line given given' ended before now is told none unended = absurd is
+story_cut reach start at (Some text) (Some bytes) None pending line given given' ended before now is told none unended = absurd (let clash : None ≡ Some bytes = told.1 in let P : ⊥ = cc in P)
+story_cut reach start at (Some text) (Some bytes) (Some rest) pending line given given' ended before now is told none unended = by_done is.done
+  where
+    some_is : {x y : List ℕ} → Some x ≡ Some y → x ≡ y
+    some_is h = cc
+
+    by_done : ((ended ≡ true) × (bytes ≡ [])) ⊎ AreDone reach start at is.front is.lines → IsCutShort reach start text (Some rest) before now
+    by_done (inl closed) = absurd (unended closed.0)
+    by_done (inr done) = cut_short reach start at text is.front is.lines pending rest before now (is.split ∙ ap (λ l. is.front ++ l) (sym (some_is told.1))) done none is.grown (story_front reach start at text bytes given ended before now is)

@@ -1,0 +1,27 @@
+use Rattle.std.proofs.Common.{ap, refl, arith, rules}
+use Rattle.mesh_run.specs.declared.status.Status.TheVariants as status
+use Rattle.mesh_run.proofs.Faults.{rose_later, a_cause, cause_before, source_told, source_behind, source_seen}
+use Rattle.mesh_places.specs.Moments.{moment_of}
+use Rattle.mesh_places.proofs.Buffers.{from_keeps, from_faulted}
+use Rattle.mesh_places.proofs.top.drive_gathered.Goals as goal
+
+pub returns-in-Ok-clause-told : goal.returns-in-Ok-clause-told
+returns-in-Ok-clause-told g c = from_keeps c.args.reach (moment_of c.args.at.now) _ _ _ _ _ _ _ c.do_lines-status.result (ap g.I.Source.left c.new-lines.ensures.source) (search rules) c.do_lines-status.ensures.told c.flush.ensures.held
+
+pub returns-in-Err-clause-told : goal.returns-in-Err-clause-told
+returns-in-Err-clause-told g c = from_faulted c.args.reach (moment_of c.args.at.now) _ _ _ _ _ _ c.do_lines-status.result (ap g.I.Source.left c.new-lines.ensures.source) c.do_lines-status.ensures.told c.flush.ensures.held
+
+pub returns-in-Ok-clause-write : goal.returns-in-Ok-clause-write
+returns-in-Ok-clause-write g c = cause_before _ _ _ c.in-Ok.ensures.cause.none c.do_lines-status.ensures.write
+
+pub returns-in-Err-clause-write : goal.returns-in-Err-clause-write
+returns-in-Err-clause-write g c =
+    a_cause _ _ (omega (arith, c.do_lines-status.ensures.write.later, c.flush.ensures.cause.later)) (rose_later _ _ _ c.do_lines-status.ensures.write.later c.in-Err.ensures.cause.failed) refl
+
+pub returns-in-Ok-clause-read : goal.returns-in-Ok-clause-read
+returns-in-Ok-clause-read g c =
+    source_seen _ _ _ _ c.do_lines-status.result (ap g.I.Source.faults c.new-lines.ensures.source) (search rules) (source_told _ _ c.do_lines-status.result c.do_lines-status.ensures.read)
+
+pub returns-in-Err-clause-read : goal.returns-in-Err-clause-read
+returns-in-Err-clause-read g c =
+    source_seen _ _ _ _ status.WriteFault (ap g.I.Source.faults c.new-lines.ensures.source) (search rules) (source_behind _ _ c.do_lines-status.ensures.read.later)
