@@ -1,6 +1,5 @@
 -- The changes that follow where a node comes to a place, one after another.
-use Rattle.std.proofs.Common.{◌≡◌, ℕ, zero, suc, ◌+◌, ◌<◌, ◌≤◌, Bool, true, false, cond, eqb, List, [], ◌∷◌, ◌++◌, Option, Some, None, length, length-append, is_some, refl, sym, ap, subst, ◌∙◌, arith, append-nil}
-use Rattle.std.specs.Prelude.{min, max}
+use Rattle.std.proofs.Common.{◌≡◌, ℕ, zero, suc, ◌+◌, ◌<◌, ◌≤◌, Bool, true, false, cond, eqb, List, [], ◌∷◌, ◌++◌, Option, Some, None, length, is_some, refl, sym, ap, subst, ◌∙◌, arith, append-nil}
 use Rattle.std.specs.Option.{unwrap_or}
 use Rattle.std.specs.FinSet as sets
 use Rattle.std.specs.Io.KnownBytes.{Appends}
@@ -16,7 +15,6 @@ use Rattle.mesh_io.proofs.Writing.{Appends-join, AppendsPrefix-join, AppendsPref
 use Rattle.mesh_grammar.proofs.Readings.{if_case}
 use Rattle.mesh_text.specs.Schedule as schedule
 use Rattle.mesh_text.specs.Schedule.{stepped, world_of}
-use Rattle.mesh_text.specs.Ranges.{IsEventLine}
 use Rattle.mesh_text.specs.Runs.{moment_after}
 use Rattle.mesh_text.proofs.Moments.{not_made}
 use Rattle.mesh_grid.specs.declared.place.Place.{Place}
@@ -28,24 +26,8 @@ use Rattle.mesh_grid.specs.Text.{Moment, change_line, changes}
 use Rattle.mesh_grid.proofs.PlaceSteps.{few_changes, first_changes, after-more, after-none, after-one, steps_after}
 use Rattle.mesh_places.specs.Moments.{IsChange, change_lines}
 
--- ---- a change
+-- ---- a change fills no counter
 
-pub is_event : (size : ℕ) (e : Event) → IsChange size e → IsEvent size e
-is_event size (Link a b) is = is
-is_event size (Cut a b) is = is
-is_event size others is = absurd is
-
-pub has_nodes : (size : ℕ) (e : Event) → IsChange size e → 1 ≤ size
-has_nodes size (Link a b) is = let low = is.0 in omega arith
-has_nodes size (Cut a b) is = let low = is.0 in omega arith
-has_nodes size others is = absurd is
-
-pub printable : (mesh : Nodes) (e : Event) → IsChange (length mesh) e → IsEventLine mesh e
-printable mesh (Link a b) is = (has_nodes (length mesh) (Link a b) is, is, tt)
-printable mesh (Cut a b) is = (has_nodes (length mesh) (Cut a b) is, is, tt)
-printable mesh others is = absurd is
-
--- it fills no counter
 link_fills : (w : World) (a b x : ℕ) (f : Counter) (t : Bool) → cond t Idle (Next (with_link w a b) Changed) ≡ Full x f → ⊥
 link_fills w a b x f true is = let P : ⊥ = cc in P
 link_fills w a b x f false is = let P : ⊥ = cc in P

@@ -1,11 +1,11 @@
 -- What a line about a place comes to.
-use Rattle.std.proofs.Common.{◌≡◌, ℕ, ◌+◌, ◌*◌, ◌≤◌, ◌||◌, Bool, true, false, if◌then◌else◌, cond, List, [], ◌∷◌, ◌++◌, Option, Some, None, Result, Ok, Err, OnOk, length, codes, is_some, refl, sym, ap, subst, ◌∙◌, arith}
+use Rattle.std.proofs.Common.{◌≡◌, ℕ, ◌+◌, ◌*◌, ◌≤◌, ◌||◌, Bool, true, false, if◌then◌else◌, List, [], ◌∷◌, ◌++◌, Option, Some, None, Result, Ok, Err, OnOk, length, codes, is_some, refl, sym, ap, ◌∙◌, arith}
 use Rattle.std.specs.Io.KnownBytes.{Appends}
 use Rattle.mesh_base.specs.declared.limits.TheConstants.{MOST_NODES, MOST_EVENTS}
 use Rattle.mesh_base.specs.Meshes.{Nodes}
 use Rattle.mesh_io.specs.Puts.{AppendsPrefix}
 use Rattle.mesh_io.proofs.Writing.{Appends-join, AppendsPrefix-join, AppendsPrefix-more}
-use Rattle.mesh_model.specs.Worlds.{Event, range}
+use Rattle.mesh_model.specs.Worlds.{range}
 use Rattle.mesh_grammar.specs.declared.fault.LineFault.{LineFault}
 use Rattle.mesh_grammar.specs.declared.fault.BadWhy.TheVariants.{Fault}
 use Rattle.mesh_grammar.specs.Lines.{Whole}
@@ -49,9 +49,6 @@ placed_is reach m bytes new said = came-placing reach m bytes new said ∙ comin
 -- where the node may not come there
 pub idle_moment : (reach : ℕ) (m : Moment) (new : Placing) → false ≡ may_come m.places new → m.run ≡ after_coming reach m new
 idle_moment reach m new idle = sym (ap (λ b. moment_after m.run (if b then changes reach m new else [])) (sym idle) ∙ after-none m.run)
-
-pub idle_text : (reach : ℕ) (m : Moment) (new : Placing) → false ≡ may_come m.places new → line (codes "  idle") ≡ below reach m new
-idle_text reach m new idle = ap (λ b. if b then change_lines m.run.mesh (changes reach m new) else line (codes "  idle")) idle
 
 -- it was done
 pub line_done : (reach : ℕ) (m : Moment) (bytes : List ℕ) (new : Placing) (n : schedule.Moment) (a b c : Option (List ℕ)) → placing_of m.run.mesh bytes ≡ Ok (Some new) → n ≡ counted (after_coming reach m new)

@@ -5,7 +5,7 @@ use Rattle.std.specs.Io.KnownBytes.{Appends, Keeps, prepend_known}
 use Rattle.std.proofs.lemmas.Bool.Decides.{nat_tests}
 use Rattle.mesh_base.specs.declared.limits.TheConstants.{LONGEST_LINE, LONGEST_INPUT}
 use Rattle.mesh_io.specs.Puts.{AppendsPrefix}
-use Rattle.mesh_io.specs.NextLines.{FirstLine, first_line, with_byte, line_size, NextLine, End, Line, TooLong as LineTooLong, TooMuch as LineTooMuch, schedule_limits, next_of}
+use Rattle.mesh_io.specs.NextLines.{FirstLine, first_line, with_byte, line_size, End, Line, TooLong as LineTooLong, TooMuch as LineTooMuch, schedule_limits, next_of}
 use Rattle.mesh_io.specs.Cutting.{Tells, FindsLine, IsCounted, HasNoLf}
 use Rattle.mesh_io.specs.declared.line_error.LineError.TheVariants as error
 use Rattle.mesh_io.proofs.Writing.{Appends-join, Appends-keeps, Appends-none}

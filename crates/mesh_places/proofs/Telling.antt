@@ -8,7 +8,7 @@ use Rattle.mesh_model.specs.Worlds.{Event}
 use Rattle.mesh_grammar.specs.declared.fault.LineFault.{LineFault}
 use Rattle.mesh_grammar.specs.declared.fault.BadWhy.{BadWhy}
 use Rattle.mesh_grammar.specs.declared.fault.BadWhy.TheVariants.{Fault, TooLong, TooMuch}
-use Rattle.mesh_grammar.specs.Lines.{Piece, Whole, Long, Beyond}
+use Rattle.mesh_grammar.specs.Lines.{Piece, Long, Beyond}
 use Rattle.mesh_text.specs.Lines.{full_line}
 use Rattle.mesh_text.specs.Schedule as schedule
 use Rattle.mesh_text.specs.Text as texts

@@ -1,5 +1,5 @@
 -- What was told of a run with places: what the sink held before, and what it holds now.
-use Rattle.std.specs.Prelude.{ℕ, ◌≡◌, Bool, List, Option, Some}
+use Rattle.std.specs.Prelude.{ℕ, ◌≡◌, List, Option, Some}
 use Rattle.std.specs.Io.KnownBytes.{Appends, Consumes}
 use Rattle.mesh_base.specs.declared.events.Variant.TheVariants.{Base}
 use Rattle.mesh_io.specs.Puts.{AppendsPrefix}

@@ -33,7 +33,8 @@ fn piece<O: Sink>(
     ensures goes { IfNone result (IsLineDone false
         (outcome_of_piece reach (moment_of at.old) (Whole bytes.now))
         at.new.point (O.held out.old) (O.held out.new)) }
-    ensures places { IfNone result (at.new.places ≡ places_after (moment_of at.old) (Whole bytes.now)) }
+    ensures places { IfNone result
+        (at.new.places ≡ places_after (moment_of at.old) (Whole bytes.now)) }
     ensures lines { IfNone result (at.new.point.lines ≡ at.old.point.lines + 1) }
     ensures steps { IfNone result
         (4 * at.new.point.steps ≤ 4 * at.old.point.steps + MOST_EVENTS * length bytes.now) }
@@ -48,12 +49,8 @@ fn piece<O: Sink>(
 {
     match do_line(alloc, at, reach, bytes, out) {
         Ok(()) => None,
-        Err(Stop::BadLine(fault)) => {
-            Some(refuse(&mut at.point, BadWhy::Fault(fault), out))
-        }
-        Err(Stop::Full { event, field, .. }) => {
-            Some(fill(&mut at.point, event, field, out))
-        }
+        Err(Stop::BadLine(fault)) => { Some(refuse(&mut at.point, BadWhy::Fault(fault), out)) }
+        Err(Stop::Full { event, field, .. }) => { Some(fill(&mut at.point, event, field, out)) }
         Err(Stop::WriteFault) => Some(Status::WriteFault),
         Err(Stop::NoMemory) => Some(Status::NoMemory),
     }

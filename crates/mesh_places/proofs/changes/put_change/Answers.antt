@@ -1,4 +1,3 @@
-use Rattle.std.proofs.Common.{◌++◌, append_assoc}
 use Rattle.mesh_text.specs.Lines.{words_of}
 use Rattle.mesh_places.proofs.changes.put_change.Goals as goal
 

@@ -1,4 +1,4 @@
-use Rattle.std.proofs.Common.{false, ◌≡◌, ◌∷◌, Bool, Some, Ok, Err, length, Result, refl, sym, ap, subst, ◌∙◌, arith}
+use Rattle.std.proofs.Common.{false, ◌≡◌, ◌∷◌, Bool, Some, Ok, Err, length, Result, refl, ap, subst, ◌∙◌, arith}
 use Rattle.std.specs.Prelude.{IfSome}
 use Rattle.mesh_io.specs.Buffering.{held_by}
 use Rattle.mesh_io.specs.NextLines.{schedule_limits}
@@ -7,11 +7,9 @@ use Rattle.mesh_io.specs.Reading.{source_of, given_of, pending_of, line_of, has_
 use Rattle.mesh_io.specs.declared.line_error.LineError.{LineError}
 use Rattle.mesh_io.proofs.Deciding.{decides_ended}
 use Rattle.mesh_grammar.specs.Lines.{Whole}
-use Rattle.mesh_text.specs.Schedule.{Moment}
 use Rattle.mesh_grid.specs.Text.{text_from, outcome_of_piece, places_after}
 use Rattle.mesh_run.specs.Told.{IsOutput}
 use Rattle.mesh_run.specs.Runs.{IsLineDone}
-use Rattle.mesh_run.specs.Sums.{IsGrown}
 use Rattle.mesh_run.proofs.Faults.{cause_as, cause_after, no_cause, a_cause, unsome}
 use Rattle.mesh_run.proofs.Growth.{steps_more}
 use Rattle.mesh_places.specs.Moments.{moment_of}
