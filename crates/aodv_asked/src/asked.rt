@@ -56,6 +56,7 @@ impl Asked {
         ensures nodes { length self.new.rooms ≡ length self.old.rooms }
         ensures here { OnOk result (0 < slice_index self.new.rooms o) }
         ensures there { 0 < slice_index self.old.rooms o → IsOk result }
+        ensures still { 0 < slice_index self.old.rooms o → self.new ≡ self.old }
         ensures keeps { (q : ℕ) → slice_index self.old.rooms q ≤ slice_index self.new.rooms q }
         ensures refused { OnErr result (self.new ≡ self.old) }
     {

@@ -157,6 +157,7 @@ impl Ids {
         ensures ids { self.new.ids ≡ self.old.ids }
         ensures here { OnOk result (0 < self.new.room) }
         ensures there { 0 < self.old.room → IsOk result }
+        ensures still { 0 < self.old.room → self.new ≡ self.old }
         ensures keeps { self.old.room ≤ self.new.room }
         ensures refused { OnErr result (self.new ≡ self.old) }
     {
