@@ -31,7 +31,8 @@ pub fn new_packet<T: Table>(core: &mut Core<T>, dest: usize, body: Bytes) -> Opt
     requires datum { IsDatum body }
     requires room { dest ≢ core.old.me → 0 < slice_index core.old.waiting.rooms dest }
     ensures result { result ≡ (if dest == core.old.me then Some body else None) }
-    ensures core { core_of T.entries core.new ≡ (on_new (core_of T.entries core.old) body dest).core }
+    ensures core { let c = core_of T.entries core.old in
+        core_of T.entries core.new ≡ (on_new c body dest).core }
     ensures free { let c = core_of T.entries core.old in
         (range : NodeIds) → turn_full c range (New body dest) ≡ None }
     ensures ready { (size : ℕ) → IsReady T.nodes T.entries size core.old
@@ -61,7 +62,8 @@ fn data_error<T: Table>(core: &Core<T>, mesh: &Mesh, d: usize, out: &mut Packet)
     requires nodes { T.nodes core.now.table ≡ length mesh.now }
     requires below { d < length mesh.now }
     ensures cast { result ≡ cast_of (the_data_error (core_of T.entries core.now) d) }
-    ensures packet { IsPacket mesh.now out.new.items (the_data_error (core_of T.entries core.now) d) }
+    ensures packet { let c = core_of T.entries core.now in
+        IsPacket mesh.now out.new.items (the_data_error c d) }
 {
     match core.table.get(d) {
         Some(e) if makes_an_error(core.variant, &e) => {

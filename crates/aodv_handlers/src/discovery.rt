@@ -1,10 +1,11 @@
 //! What a node does of its own accord: it sends a datum that waited, and asks for a route (AWN's
 //! main process; RFC 3561, section 6.3).
-ghost use Rattle.std.specs.Prelude.{◌≡◌, ◌≢◌, ◌<◌, ◌≤◌, ◌+◌, ℕ, true, false, length, slice_index, Some, None, IfSome, is_none};
+ghost use Rattle.std.specs.Prelude.{◌≡◌, ◌≢◌, ◌<◌, ◌≤◌, ◌+◌, ℕ, true, false, length, ◌⊎◌, slice_index, Some, None, IfSome, IfOk, IfErr, IsTrue, is_none};
 ghost use Rattle.std.specs.FinMap as maps;
 ghost use Rattle.aodv_model.specs.Tables.{sqn, sqnf};
 ghost use Rattle.aodv_model.specs.Handlers.{fresh_id, may_send as can_send, may_ask as can_ask};
-ghost use Rattle.aodv_model.specs.Fullness.{is_id_full};
+ghost use Rattle.aodv_model.specs.Fullness.{is_id_full, ask_full};
+ghost use Rattle.aodv_asked.specs.Requests.{is_near};
 ghost use Rattle.aodv_entry.specs.Quality.{is_kno, inc as raised};
 ghost use Rattle.aodv_handlers.specs.Shown.{core_of, IsReady};
 ghost use Rattle.aodv_handlers.specs.Made.{Sends, Asks};
@@ -88,7 +89,27 @@ fn request_id<T: Table>(core: &Core<T>, sn: u32) -> Option<u32>
     }
 }
 
-/// Asks for a route to `dest`: the node raises its own number, and broadcasts a request with it.
+/// The node's own number and the id of its next request, or the counter that this request would
+/// raise past its field's greatest value.
+pub fn next_request<T: Table>(core: &Core<T>) -> Result<(u32, u32), Counter>
+    requires { core.now.me < length core.now.asked.rooms }
+    ensures free { IfOk result (λ p. ask_full (core_of T.entries core.now) ≡ None) }
+    ensures full { IfErr result (λ field. ask_full (core_of T.entries core.now) ≡ Some field) }
+    ensures number { IfOk result (λ p. p.0 ≡ raised core.now.sn) }
+    ensures id { let c = core_of T.entries core.now in
+        IfOk result (λ p. p.1 ≡ fresh_id c.variant c) }
+{
+    let Some(sn) = inc(core.sn) else {
+        return Err(Counter::Number);
+    };
+    match request_id(core, sn) {
+        Some(id) => Ok((sn, id)),
+        None => Err(Counter::Id),
+    }
+}
+
+/// Asks for a route to `dest`: the node raises its own number, and broadcasts a request with it. No
+/// room for the request is needed where its id or one next to it was seen.
 #[tactic(auto, unfolding(aodv_model::specs::Handlers::ask))]
 pub fn start_request<T: Table>(
     core: &mut Core<T>,
@@ -99,17 +120,14 @@ pub fn start_request<T: Table>(
     requires ready { IsReady T.nodes T.entries (length mesh.now) core.old }
     requires dest { dest < length mesh.now }
     requires may { can_ask (core_of T.entries core.old) dest ≡ true }
-    requires asked { 0 < slice_index core.old.asked.rooms core.old.me }
+    requires asked { let c = core_of T.entries core.old in
+        (0 < slice_index core.old.asked.rooms c.ip)
+        ⊎ IsTrue (is_near c.seen c.ip (fresh_id c.variant c)) }
     ensures does { Asks T.entries mesh.now dest core.old result core.new out.new.items }
     ensures ready { IsReady T.nodes T.entries (length mesh.now) core.new }
     ensures table { core.new.table ≡ core.old.table }
 {
-    let Some(sn) = inc(core.sn) else {
-        return Err(Counter::Number);
-    };
-    let Some(id) = request_id(core, sn) else {
-        return Err(Counter::Id);
-    };
+    let (sn, id) = next_request(core)?;
     let (dsn, known) = last_known(&core.table, dest);
     let request = Rreq {
         hops: 0,

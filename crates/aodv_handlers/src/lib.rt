@@ -15,7 +15,7 @@ mod unicast;
 
 pub use cores::Core;
 pub use data::{new_packet, on_data};
-pub use discovery::{may_ask, may_send, send_stored, start_request};
+pub use discovery::{may_ask, may_send, next_request, send_stored, start_request};
 pub use errors::link_broken;
 pub use rerr::on_rerr;
 pub use rrep::on_rrep;

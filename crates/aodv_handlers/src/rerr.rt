@@ -93,8 +93,8 @@ fn accepted_dests<T: Table>(table: &T, mesh: &Mesh, from: usize, m: &RerrView<'_
 fn may_accept<T: Table>(table: &T, mesh: &Mesh, from: usize, m: &RerrView<'_>) -> bool
     requires nodes { T.nodes table.now ≡ length mesh.now }
     requires known { stranger mesh.now (a_rerr m.now) ≡ None }
-    ensures { let gone = accepted_unreachable (T.entries table.now) from (dests_in mesh.now m.now) in
-        OnFalse result (gone ≡ maps.empty) }
+    ensures { let dests = dests_in mesh.now m.now in
+        OnFalse result (accepted_unreachable (T.entries table.now) from dests ≡ maps.empty) }
 {
     for k in 0..m.len() {
         let (a, number) = m.pair(k);
@@ -122,7 +122,8 @@ fn retract_accepted<T: Table>(
         core_of T.entries core.new ≡ did.core }
     ensures cast { let did = gone_by (core_of T.entries core.old) from (dests_in mesh.now m.now) in
         result ≡ cast_of did.effect.cast }
-    ensures packet { let did = gone_by (core_of T.entries core.old) from (dests_in mesh.now m.now) in
+    ensures packet { let dests = dests_in mesh.now m.now in
+        let did = gone_by (core_of T.entries core.old) from dests in
         IsPacket mesh.now out.new.items did.effect.cast }
     ensures rooms { T.rooms core.new.table ≡ T.rooms core.old.table }
     ensures nodes { T.nodes core.new.table ≡ T.nodes core.old.table }
@@ -147,7 +148,8 @@ fn retract_stated<T: Table>(
         core_of T.entries core.new ≡ did.core }
     ensures cast { let did = gone_by (core_of T.entries core.old) from (dests_in mesh.now m.now) in
         result ≡ cast_of did.effect.cast }
-    ensures packet { let did = gone_by (core_of T.entries core.old) from (dests_in mesh.now m.now) in
+    ensures packet { let dests = dests_in mesh.now m.now in
+        let did = gone_by (core_of T.entries core.old) from dests in
         IsPacket mesh.now out.new.items did.effect.cast }
     ensures rooms { T.rooms core.new.table ≡ T.rooms core.old.table }
     ensures nodes { T.nodes core.new.table ≡ T.nodes core.old.table }

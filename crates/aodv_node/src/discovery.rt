@@ -4,8 +4,8 @@ ghost use Rattle.aodv_handlers.specs.Shown.{core_of, IsReady};
 ghost use Rattle.aodv_node.specs.Discovered.{IsSend, IsAsk};
 
 use crate::answers::{AskError, SendError};
-use crate::rooms::make_request;
-use aodv_handlers::{Core, may_ask, may_send, send_stored, start_request};
+use crate::rooms::make_own_request;
+use aodv_handlers::{Core, may_ask, may_send, next_request, send_stored, start_request};
 use aodv_table::Table;
 use mesh_base::{Effect, Mesh, NodeSet, Packet};
 
@@ -48,7 +48,11 @@ pub(crate) fn try_ask<T: Table>(
     if !may_ask(core, dest) {
         return Err(AskError::Idle);
     }
-    make_request(core, core.me)?;
+    let id = match next_request(core) {
+        Ok((_, id)) => id,
+        Err(field) => return Err(AskError::Full(field)),
+    };
+    make_own_request(core, id)?;
     match start_request(core, mesh, dest, out) {
         Ok(effect) => Ok(effect),
         Err(field) => Err(AskError::Full(field)),

@@ -154,7 +154,8 @@ impl Node {
     }
 
     /// Asks all neighbours for a route to `dest`, if data wait for it, there is no valid route, and
-    /// none was asked for.
+    /// none was asked for. A refusal is the first that applies of Idle, Full and NoMemory. Memory can
+    /// be short only where the request's id doesn't follow one that was seen.
     pub fn ask(&mut self, mesh: &Mesh, dest: usize, out: &mut Packet) -> Result<Effect, AskError>
         requires mesh { length mesh.now ≡ self.old.size }
         requires dest { dest < self.old.size }

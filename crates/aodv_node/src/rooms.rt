@@ -1,9 +1,12 @@
 //! Room in a core, made before anything in it changes.
-ghost use Rattle.std.specs.Prelude.{◌≡◌, ◌≢◌, ◌<◌, ℕ, true, length, slice_index, IsOk, OnOk, OnErr};
+ghost use Rattle.std.specs.Prelude.{◌≡◌, ◌≢◌, ◌<◌, ◌⊎◌, ℕ, true, false, length, slice_index, IsOk, OnOk, OnErr, IsTrue};
 ghost use Rattle.std.specs.FinSet as sets;
 ghost use Rattle.mesh_base.specs.Members.{AreAmong};
+ghost use Rattle.aodv_asked.specs.Requests.{is_near};
 ghost use Rattle.aodv_handlers.specs.Shown.{core_of, IsReady};
+ghost use Rattle.aodv_node.specs.Discovered.{follows};
 
+use aodv_asked::Asked;
 use aodv_handlers::Core;
 use aodv_table::Table;
 use mesh_base::NoMemory;
@@ -48,4 +51,29 @@ pub(crate) fn make_request<T: Table>(core: &mut Core<T>, o: usize) -> Result<(),
     ensures ready { IsReady T.nodes T.entries (T.nodes core.old.table) core.new }
 {
     core.asked.make_room(o)
+}
+
+/// Room for the node's own request of this id. None is needed where the id before it was seen.
+pub(crate) fn make_own_request<T: Table>(core: &mut Core<T>, id: u32) -> Result<(), NoMemory>
+    requires ready { IsReady T.nodes T.entries (T.nodes core.old.table) core.old }
+    ensures here { OnOk result ((0 < slice_index core.new.asked.rooms core.new.me)
+        ⊎ IsTrue (is_near core.new.asked.pairs core.new.me id)) }
+    ensures short { OnErr result (follows core.old.asked.pairs core.old.me id ≡ false) }
+    ensures table { core.new.table ≡ core.old.table }
+    ensures shown { core_of T.entries core.new ≡ core_of T.entries core.old }
+    ensures ready { IsReady T.nodes T.entries (T.nodes core.old.table) core.new }
+{
+    let me = core.me;
+    if follows_one(&core.asked, me, id) {
+        return Ok(());
+    }
+    make_request(core, me)
+}
+
+// Whether o's request with the id before this one was seen.
+fn follows_one(asked: &Asked, o: usize, id: u32) -> bool
+    requires { o < length asked.now.rooms }
+    ensures { result ≡ follows asked.now.pairs o id }
+{
+    0 < id && asked.has(o, id - 1)
 }
