@@ -1,8 +1,8 @@
 -- When a router may be short of memory.
 use Rattle.std.specs.Prelude.{◌≡◌, ◌⊎◌, ℕ, zero, suc, true, List, [], ◌∷◌, ◌++◌, Option, Some, is_some, ⊤}
 use Rattle.mesh_base.specs.declared.events.Item.{Item}
-use Rattle.aodv_model.specs.Handlers.{may_ask}
 use Rattle.aodv_meaning.specs.Effects.{item_in}
+use Rattle.aodv_node.specs.Discovered.{IsAskShort}
 use Rattle.aodv_node.specs.Turned.{IsReadableItem, needs_memory}
 use Rattle.mesh_link.specs.Datagrams.{Datagram}
 use Rattle.mesh_peers.specs.Lines.{Accepted, Give, Turns, Asks}
@@ -35,7 +35,7 @@ AreTurnsShort (suc most) r =
 abbrev pub IsStepShort : Router → Accepted → Type 0
 IsStepShort r (Give dest body) = ⊤
 IsStepShort r (Turns count) = AreTurnsShort count r
-IsStepShort r (Asks d) = may_ask r.core d ≡ true
+IsStepShort r (Asks d) = IsAskShort r.core d
 IsStepShort r others = ⊥
 
 -- the last that was found is a datagram of a peer, which is to join the queue

@@ -3,6 +3,7 @@ ghost use Rattle.std.specs.Prelude.{◌≡◌, ◌≢◌, ◌<◌, ◌≤◌, �
 ghost use Rattle.std.specs.FinSet as sets;
 ghost use Rattle.aodv_model.specs.Handlers as model;
 ghost use Rattle.aodv_model.specs.Fullness.{send_full, ask_full};
+ghost use Rattle.aodv_node.specs.Discovered.{IsAskShort};
 ghost use Rattle.mesh_grammar.specs.Written.{line as ended};
 ghost use Rattle.mesh_io.specs.Cause.{HasCause};
 ghost use Rattle.mesh_io.specs.Puts.{Puts};
@@ -178,7 +179,7 @@ impl Router {
             IsStepRun (act_of r (words_of r.peers.mesh (accepted_of line.now))
             (model.may_ask r.core dest) (ask_full r.core) (model.ask r.core dest))
             (O.held out.old, L.sent link.old) (O.held out.new, L.sent link.new) self.new result }
-        ensures memory { IsErrOf result Stop.NoMemory → model.may_ask self.old.core dest ≡ true }
+        ensures memory { IsErrOf result Stop.NoMemory → IsAskShort self.old.core dest }
         ensures grown { OnOk result (IsGrown MOST_NODES self.old self.new) }
         ensures peers { self.new.peers ≡ self.old.peers }
         ensures causes { HasCauses (O.faults out.old) (O.faults out.new)

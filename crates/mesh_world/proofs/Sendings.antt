@@ -18,6 +18,7 @@ use Rattle.aodv_model.proofs.SoundTurns.{send_keeps_core, ask_keeps_core}
 use Rattle.aodv_model.proofs.MeshNames.{send_names_the_mesh, ask_names_the_mesh}
 use Rattle.aodv_meaning.specs.Effects.{item_in}
 use Rattle.aodv_handlers.specs.Made.{IsMade, IsFull}
+use Rattle.aodv_node.specs.Discovered.{IsAskShort}
 use Rattle.aodv_node.specs.Seen.{NodeSeen, IsSoundNode}
 use Rattle.mesh_model.specs.Worlds as worlds
 use Rattle.mesh_model.specs.Worlds.{World, Event, Send, Ask, Outcome, Idle, Next, Sent, step, range, linked_below, send_of, ask_of, unless_full, at_node, done_by, copies}
@@ -156,7 +157,7 @@ ask_idle_end mesh nodes old radio ready steps x d n new out k few rooms l is oth
 
 pub ask_no_memory_end : (mesh : Nodes) (nodes : List NodeSeen) (old radio : RadioState) (ready : Ready) (steps x d : ℕ) (n new : NodeSeen) (out : List ℕ)
     → IsKept mesh nodes old ready steps → radio ≡ record old { room = radio.room; most = radio.most } → x < length mesh → n ≡ slice_index_or nodes x n
-    → new ≡ record n { core = new.core } → (may_ask n.core d ≡ true) × (new.core ≡ n.core)
+    → new ≡ record n { core = new.core } → IsAskShort n.core d × (new.core ≡ n.core)
     → Ends (Ask x d) mesh nodes old steps (Err errors.NoMemory) (slice_set nodes x new) radio ready steps out
 ask_no_memory_end mesh nodes old radio ready steps x d n new out k rooms l is others t =
     no_memory_end (Ask x d) mesh nodes old radio ready steps x n new out k rooms l is (same_node n new others t.1)

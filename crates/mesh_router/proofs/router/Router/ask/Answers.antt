@@ -3,7 +3,7 @@ use Rattle.std.proofs.lemmas.Result.{err_from_is_err_and}
 use Rattle.mesh_base.specs.Meshes.{Nodes, IsMesh}
 use Rattle.aodv_model.specs.Handlers.{may_ask, ask}
 use Rattle.aodv_model.specs.Fullness.{ask_full}
-use Rattle.aodv_node.specs.Discovered.{IsAsk}
+use Rattle.aodv_node.specs.Discovered.{IsAsk, IsAskShort}
 use Rattle.aodv_node.specs.declared.answers.AskError.{AskError}
 use Rattle.mesh_grammar.specs.Written.{line}
 use Rattle.mesh_peers.specs.Lines.{words_of}
@@ -76,6 +76,12 @@ returns-in_err-put_idle-in-Err-Idle-clause-step g c =
 pub returns-in-Err-NoMemory-clause-step : goal.returns-in-Err-NoMemory-clause-step
 returns-in-Err-NoMemory-clause-step g c =
     prefix-none _ _
+
+pub returns-in-Err-NoMemory-clause-memory : goal.returns-in-Err-NoMemory-clause-memory
+returns-in-Err-NoMemory-clause-memory g c =
+    let node = c.self.inside.node in
+    let short = (subst (λ (e : AskError). IsAsk c.mesh-2.result.now node.core c.args.dest (Err e) c.ask.new.self.core c.ask.new.out.items) c.in-Err-NoMemory.field-0-is c.in-Err-NoMemory.ensures.does).0 in
+    λ is. subst (λ (r : Router). IsAskShort r.core c.args.dest) c.self.view_is short
 
 pub returns-in_ok-self-inside-in-Ok-clause-step : goal.returns-in_ok-self-inside-in-Ok-clause-step
 returns-in_ok-self-inside-in-Ok-clause-step g c =
