@@ -253,8 +253,9 @@ fn push_copy(out: &mut LineBuf, mesh: &Mesh, id: u64, to: usize)
 fn put_air<O: Sink>(mesh: &Mesh, air: &Air, buf: &mut LineBuf, out: &mut O) -> Result<(), PutFault>
     requires receivers { AreBelow (length mesh.now) air.now.to }
     requires few { air.now.first + MOST_NODES < 2 ^ 64 }
-    ensures text { (from : ℕ) (m : a_message) → Puts (O.held out.old) (O.held out.new) (buf.old.items
-        ++ copies_text mesh.now (copies_to (members_below (length mesh.now) air.now.to) air.now.first from m)) result }
+    ensures text { let to = members_below (length mesh.now) air.now.to in
+        (from : ℕ) (m : a_message) → Puts (O.held out.old) (O.held out.new)
+        (buf.old.items ++ copies_text mesh.now (copies_to to air.now.first from m)) result }
     ensures cause { HasCause (O.faults out.old) (O.faults out.new) result }
 {
     // There are at most 200 nodes, so at most 200 copies.
