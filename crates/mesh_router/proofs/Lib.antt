@@ -14,7 +14,5 @@ pub mod Turning
 pub mod Acting
 -- Running: a line of the script, by what the router does for it.
 pub mod Running
--- Pieces: the lines of the bytes that a script has left.
-pub mod Pieces
 -- Script: what is told of a script, one line after another.
 pub mod Script

@@ -28,7 +28,7 @@ use Rattle.mesh_router.specs.Runs.{said_of, IsLineDone, IsLineFull, IsLineInPart
 use Rattle.mesh_router.specs.Output.{IsOutput, IsTold, IsScriptRun}
 use Rattle.mesh_router.proofs.Saying.{adds-join, prefix-none, prefix-join, prefix-more}
 use Rattle.mesh_router.proofs.Finds.{next-front, next-rest, next-self, found-none, found-join, told-next}
-use Rattle.mesh_router.proofs.Pieces.{pieces_at, pieces_none, IsAhead, Begins, ahead}
+use Rattle.mesh_report.proofs.Pieces.{pieces_at, pieces_none, IsAhead, Begins, ahead}
 
 -- ---- one line
 

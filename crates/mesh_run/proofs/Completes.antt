@@ -10,7 +10,7 @@ use Rattle.mesh_io.specs.Cutting.{HasNoLf}
 use Rattle.mesh_io.proofs.FirstParts.{parts_past}
 use Rattle.mesh_grammar.specs.Lines.{Whole, pieces_of, pieces_of_input, complete, complete_parts}
 use Rattle.mesh_text.proofs.Seams.{short_pieces}
-use Rattle.mesh_run.proofs.Pieces.{piece_short}
+use Rattle.mesh_report.proofs.Pieces.{piece_short}
 
 -- the bytes of a line, its LF among them
 abbrev pub bytes_of : FirstLine → List ℕ

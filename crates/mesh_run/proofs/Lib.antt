@@ -8,7 +8,6 @@ pub mod Chosen
 pub mod Ways
 pub mod Tables
 pub mod Choices
-pub mod Pieces
 pub mod Completes
 pub mod Story
 pub mod NextCopies

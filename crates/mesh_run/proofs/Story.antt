@@ -21,7 +21,7 @@ use Rattle.mesh_run.specs.declared.status.Status.TheVariants.{Done, Usage, BadLi
 use Rattle.mesh_run.specs.Told.{said, is_quiet, IsOutput, IsOutputFrom, IsCutShort}
 use Rattle.mesh_run.specs.Runs.{output_if, IsLineDone}
 use Rattle.mesh_run.proofs.Shown.{shown_none, shown_join}
-use Rattle.mesh_run.proofs.Pieces.{pieces_at, pieces_at_front, pieces_none, IsAhead, Begins, ahead}
+use Rattle.mesh_report.proofs.Pieces.{pieces_at, pieces_at_front, pieces_none, IsAhead, Begins, ahead}
 use Rattle.mesh_run.proofs.Completes.{ended_is, ended_complete, ended_pieces, open_complete}
 use Rattle.mesh_run.proofs.Telling.{text_from-on, text_from-end, told_before, told_end, told_long, told_beyond}
 

@@ -20,7 +20,7 @@ use Rattle.mesh_run.specs.declared.status.Status.{Status}
 use Rattle.mesh_run.specs.declared.status.Status.TheVariants.{Done, Usage, BadLine, Full, ReadFault, WriteFault, NoMemory}
 use Rattle.mesh_run.specs.Told.{IsOutput}
 use Rattle.mesh_run.specs.Runs.{IsLineDone}
-use Rattle.mesh_run.proofs.Pieces.{pieces_at, pieces_at_front, pieces_none, IsAhead, Begins, ahead}
+use Rattle.mesh_report.proofs.Pieces.{pieces_at, pieces_at_front, pieces_none, IsAhead, Begins, ahead}
 use Rattle.mesh_run.proofs.Completes.{ended_is, ended_complete, open_complete}
 use Rattle.mesh_watch.specs.Text.{watched_piece, watched_from, watched_on}
 use Rattle.mesh_watch.specs.Told.{IsCutShort, IsOutputFrom}
