@@ -1,9 +1,10 @@
 //! The words of a command line.
 ghost use Rattle.std.specs.Prelude.{◌≡◌, ◌≤◌, map, IfSome};
-ghost use Rattle.mesh_cli.specs.Words.{number_in, plan_of, variant_named, of_one, of_two, run_of, of_four, of_six, command_of, IsPlan, IsAllowed};
+ghost use Rattle.mesh_cli.specs.Words.{number_in, plan_of, of_one, of_two, run_of, of_four, of_six, command_of, IsPlan, IsAllowed};
 
 use mesh_base::{MOST_NODES, Variant, number_up_to};
 use mesh_make::MOST_STEPS;
+use mesh_run::variant_named;
 
 /// What a schedule is made from.
 #[derive(Clone, Copy, Debug, PartialEq, Eq)]
@@ -52,23 +53,6 @@ fn plan_of(seed: &str, nodes: &str, steps: &str) -> Option<Plan>
         nodes: nodes as u32,
         steps: steps as u32,
     })
-}
-
-// The variant of the protocol that a word names.
-fn variant_named(name: &str) -> Option<Variant>
-    ensures { result ≡ variant_named name.now }
-{
-    if name == "base" {
-        Some(Variant::Base)
-    } else if name == "number" {
-        Some(Variant::Number)
-    } else if name == "reply" {
-        Some(Variant::Reply)
-    } else if name == "error" {
-        Some(Variant::Error)
-    } else {
-        None
-    }
 }
 
 // `run`

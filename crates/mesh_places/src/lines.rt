@@ -1,7 +1,6 @@
 //! The lines of an input, one after another.
 ghost use Rattle.std.specs.Prelude.{◌≡◌, ◌≢◌, ◌<◌, ◌≤◌, ◌+◌, ◌*◌, ◌^◌, ◌∷◌, [], List, length, IfSome, IfNone, Some, false};
-ghost use Rattle.std.specs.Io.KnownBytes.{IsAtEnd, Keeps};
-ghost use Rattle.mesh_io.specs.Cause.{HasCause};
+ghost use Rattle.std.specs.Io.KnownBytes.{IsAtEnd};
 ghost use Rattle.mesh_io.specs.Buffering.{inner_of, held_by};
 ghost use Rattle.mesh_io.specs.Reading.{faults_of, given_of, pending_of, source_of};
 ghost use Rattle.mesh_grammar.specs.Lines.{Piece, Whole};
@@ -15,8 +14,8 @@ ghost use Rattle.mesh_places.specs.Told.{IsOutputFrom};
 use crate::placed::{Placed, do_line};
 use mesh_base::{LONGEST_LINE, MOST_EVENTS};
 use mesh_grammar::BadWhy;
-use mesh_io::{Buffered, LineError, Lines, PutFault, Sink, Source};
-use mesh_run::{Say, Status, Stop, fill, finish, refuse};
+use mesh_io::{Buffered, LineError, Lines, Sink, Source};
+use mesh_run::{Say, Status, Stop, fill, finish, hand_on, refuse};
 use std::alloc::Global;
 
 // Does one line, or ends the run.
@@ -54,17 +53,6 @@ fn piece<O: Sink>(
         Err(Stop::WriteFault) => Some(Status::WriteFault),
         Err(Stop::NoMemory) => Some(Status::NoMemory),
     }
-}
-
-// Hands on what is gathered, unless the next answer needs no read.
-fn hand_on<I: Source, O: Sink>(lines: &Lines<'_, I>, out: &mut Buffered<O>) -> Result<(), PutFault>
-    ensures held { Keeps (held_by O.held out.old) (held_by O.held out.new) }
-    ensures cause { HasCause (O.faults (inner_of out.old)) (O.faults (inner_of out.new)) result }
-{
-    if lines.is_decided() {
-        return Ok(());
-    }
-    out.flush()
 }
 
 /// Does the lines of a source from its front, up to its end or the first that stops the run. What is

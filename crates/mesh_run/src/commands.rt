@@ -28,8 +28,8 @@ use mesh_script::Line;
 use mesh_world::{StepError, Steps};
 use std::alloc::Global;
 
-// An event as its line stands, or in canonical form where it has none, and what it did.
-fn say_event<O: Sink>(
+/// Writes an event, as its line stands or in canonical form where it has none, and what it did.
+pub fn say_event<O: Sink>(
     mesh: &Mesh,
     bytes: Option<&[u8]>,
     event: &Event<'_>,

@@ -21,6 +21,7 @@ use mesh_world::Steps;
 pub fn refuse<S: Steps, O: Sink>(at: &mut Point<S>, why: BadWhy, out: &mut O) -> Status
     requires { at.old.lines < 2 ^ 62 }
     ensures told { IsOutput (O.held out.old) (O.held out.new) (refused_run at.old why) result }
+    ensures same { at.new ≡ at.old }
     ensures cause { HasStatusCause Status.WriteFault (O.faults out.old) (O.faults out.new) result }
     ensures read { result ≢ Status.ReadFault }
     ensures refused { result ≢ Status.Done }
@@ -48,6 +49,7 @@ pub fn fill<S: Steps, O: Sink>(
     requires event { IsEvent (length at.old.mesh) (event_of event) }
     ensures told { IsOutput (O.held out.old) (O.held out.new)
         (overfull_run at.old [] (event_of event.entry) field) result }
+    ensures same { at.new ≡ at.old }
     ensures cause { HasStatusCause Status.WriteFault (O.faults out.old) (O.faults out.new) result }
     ensures read { result ≢ Status.ReadFault }
     ensures refused { result ≢ Status.Done }

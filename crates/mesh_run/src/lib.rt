@@ -10,23 +10,28 @@ mod driving;
 mod ends;
 mod lines;
 mod point;
+mod program;
 mod say;
 mod show;
 mod state;
 mod status;
 mod stop;
 mod sums;
+mod variants;
 
 pub use auto::next_event;
 pub use choice::pick;
+pub use commands::say_event;
 pub use driving::{drive, run};
 pub use ends::{fill, finish, refuse};
-pub use lines::one;
+pub use lines::{hand_on, one};
 pub use point::Point;
+pub use program::{texts_of, words_of};
 pub use say::Say;
 pub use status::Status;
 pub use stop::Stop;
 pub use sums::Sums;
+pub use variants::variant_named;
 
 #[cfg(test)]
 mod tests;

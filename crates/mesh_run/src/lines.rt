@@ -1,12 +1,12 @@
 //! The lines of an input, one after another.
-ghost use Rattle.std.specs.Prelude.{◌≡◌, ◌≢◌, ◌<◌, ◌≤◌, ◌+◌, ◌*◌, ◌^◌, ◌∷◌, [], List, length, OnOk, OnErr, IfSome, IfNone, Some};
+ghost use Rattle.std.specs.Prelude.{◌≡◌, ◌≢◌, ◌<◌, ◌≤◌, ◌+◌, ◌*◌, ◌^◌, ◌∷◌, [], List, length, true, false, OnOk, OnErr, IfSome, IfNone, Some};
 ghost use Rattle.mesh_grammar.specs.Lines.{Piece, Whole};
 ghost use Rattle.mesh_text.specs.Text.{text_from, text_on, outcome_of_piece};
 ghost use Rattle.mesh_text.specs.Runs.{events_of_piece};
 ghost use Rattle.std.specs.Io.KnownBytes.{IsAtEnd, Keeps};
 ghost use Rattle.mesh_io.specs.Cause.{HasCause};
-ghost use Rattle.mesh_io.specs.Buffering.{inner_of, held_by};
-ghost use Rattle.mesh_io.specs.Reading.{faults_of, given_of, pending_of, source_of};
+ghost use Rattle.mesh_io.specs.Buffering.{inner_of, gathered_in, held_by};
+ghost use Rattle.mesh_io.specs.Reading.{faults_of, given_of, is_decided_at, pending_of, source_of};
 ghost use Rattle.mesh_run.specs.Moments.{IsSafe};
 ghost use Rattle.mesh_run.specs.Causes.{HasCauseIf, HasStopCause, HasStatusCause};
 ghost use Rattle.mesh_run.specs.Sums.{IsGrown};
@@ -95,9 +95,15 @@ fn piece<S: Steps, O: Sink>(
     }
 }
 
-// Hands on what is gathered, unless the next answer needs no read.
-fn hand_on<I: Source, O: Sink>(lines: &Lines<'_, I>, out: &mut Buffered<O>) -> Result<(), PutFault>
+/// Hands on what is gathered, unless the next answer needs no read: nothing is awaited then, and
+/// nothing changes.
+pub fn hand_on<I: Source, O: Sink>(
+    lines: &Lines<'_, I>,
+    out: &mut Buffered<O>,
+) -> Result<(), PutFault>
     ensures held { Keeps (held_by O.held out.old) (held_by O.held out.new) }
+    ensures handed_on { is_decided_at lines.now ≡ false → OnOk result (gathered_in out.new ≡ []) }
+    ensures same { is_decided_at lines.now ≡ true → out.new ≡ out.old }
     ensures cause { HasCause (O.faults (inner_of out.old)) (O.faults (inner_of out.new)) result }
 {
     if lines.is_decided() {

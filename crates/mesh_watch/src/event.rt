@@ -6,7 +6,7 @@ ghost use Rattle.mesh_io.specs.Puts.{Puts};
 ghost use Rattle.mesh_model.specs.Worlds.{World, Deliver};
 ghost use Rattle.mesh_model.specs.Places.{IsEvent};
 ghost use Rattle.mesh_meaning.specs.Answers.{outcome_in, IsDoneInMesh};
-ghost use Rattle.mesh_meaning.specs.Events.{event_of, node_of};
+ghost use Rattle.mesh_meaning.specs.Events.{event_of};
 ghost use Rattle.mesh_text.specs.Schedule.{Moment, stepped, outcome_at, Does};
 ghost use Rattle.mesh_text.specs.Effects.{outcome_lines};
 ghost use Rattle.mesh_script.specs.Seen.{IsPrintable};
@@ -18,10 +18,10 @@ ghost use Rattle.mesh_watch.specs.Text.{watched_line};
 ghost use Rattle.mesh_watch.specs.Lines.{watched_event};
 
 use crate::watched::Watched;
-use mesh_base::{Done, Event, LineBuf, Mesh, Packet};
+use mesh_base::{Done, Event};
 use mesh_io::{PutFault, Sink};
-use mesh_report::{put_echoed_event, put_event, put_line};
-use mesh_run::Stop;
+use mesh_report::put_line;
+use mesh_run::{Stop, say_event};
 use mesh_script::Line;
 use mesh_show::put_node;
 use mesh_world::{StepError, Steps};
@@ -74,30 +74,6 @@ fn put_shown<O: Sink>(at: &mut Watched, node: usize, out: &mut O) -> Result<(), 
     let world = state.world();
     put_line(world.mesh(), &Line::Show { node }, &mut at.line, out)?;
     put_node(world.mesh(), world.node(node), &mut at.line, out)
-}
-
-// An event as its line stands, or in canonical form where it has none, and what it did.
-fn say_event<O: Sink>(
-    mesh: &Mesh,
-    bytes: Option<&[u8]>,
-    event: &Event<'_>,
-    done: &Done,
-    packet: &Packet,
-    buf: &mut LineBuf,
-    out: &mut O,
-) -> Result<(), PutFault>
-    requires printable { IsPrintable mesh.now (Line.Step event.now) }
-    requires in_mesh { IsDoneInMesh mesh.now done.now packet.now.items }
-    requires echo { IfSome bytes (λ b. IsLineOf mesh.now (Does (event_of event.now)) b.now) }
-    ensures text { (w : World) → Puts (O.held out.old) (O.held out.new)
-        (outcome_lines mesh.now (event_of event.now)
-        (outcome_in mesh.now (node_of (event_of event.now)) w done.now packet.now.items)) result }
-    ensures cause { HasCause (O.faults out.old) (O.faults out.new) result }
-{
-    match bytes {
-        Some(bytes) => put_echoed_event(bytes, mesh, event, done, packet, buf, out),
-        None => put_event(mesh, event, done, packet, buf, out),
-    }
 }
 
 // An event, what it did, and the block of the node that it has changed, at the moment after it.

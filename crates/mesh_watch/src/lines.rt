@@ -1,7 +1,6 @@
 //! The lines of an input, one after another.
 ghost use Rattle.std.specs.Prelude.{◌≡◌, ◌≢◌, ◌<◌, ◌≤◌, ◌+◌, ◌*◌, ◌^◌, ◌∷◌, [], false, List, length, IfSome, IfNone, Some};
-ghost use Rattle.std.specs.Io.KnownBytes.{IsAtEnd, Keeps};
-ghost use Rattle.mesh_io.specs.Cause.{HasCause};
+ghost use Rattle.std.specs.Io.KnownBytes.{IsAtEnd};
 ghost use Rattle.mesh_io.specs.Buffering.{inner_of, held_by};
 ghost use Rattle.mesh_io.specs.Reading.{faults_of, given_of, pending_of, source_of};
 ghost use Rattle.mesh_grammar.specs.Lines.{Piece, Whole};
@@ -14,8 +13,8 @@ ghost use Rattle.mesh_watch.specs.Told.{IsOutputFrom};
 use crate::watched::{Watched, do_line};
 use mesh_base::{LONGEST_LINE, MOST_EVENTS};
 use mesh_grammar::BadWhy;
-use mesh_io::{Buffered, LineError, Lines, PutFault, Sink, Source};
-use mesh_run::{Say, Status, Stop, fill, finish, refuse};
+use mesh_io::{Buffered, LineError, Lines, Sink, Source};
+use mesh_run::{Say, Status, Stop, fill, finish, hand_on, refuse};
 use std::alloc::Global;
 
 // Does one line, or ends the run.
@@ -46,17 +45,6 @@ fn piece<O: Sink>(alloc: Global, at: &mut Watched, bytes: &[u8], out: &mut O) ->
     }
 }
 
-// Hands on what is gathered, unless the next answer needs no read.
-fn hand_on<I: Source, O: Sink>(lines: &Lines<'_, I>, out: &mut Buffered<O>) -> Result<(), PutFault>
-    ensures held { Keeps (held_by O.held out.old) (held_by O.held out.new) }
-    ensures cause { HasCause (O.faults (inner_of out.old)) (O.faults (inner_of out.new)) result }
-{
-    if lines.is_decided() {
-        return Ok(());
-    }
-    out.flush()
-}
-
 /// Does the lines of a source from its front, up to its end or the first that stops the run. What is
 /// gathered is handed on before each read, so that a line's text is there before the next is
 /// awaited.
@@ -71,7 +59,8 @@ pub fn do_lines<I: Source, O: Sink>(
     requires pending { pending_of lines.old ≡ [] }
     requires given { given_of lines.old ≡ 0 }
     ensures same { (source_of lines.new).ghost_name ≡ (source_of lines.old).ghost_name }
-    ensures told { IfSome (I.left (source_of lines.old).now) (λ bytes. IsOutputFrom at.old.point bytes
+    ensures told { IfSome (I.left (source_of lines.old).now) (λ bytes.
+        IsOutputFrom at.old.point bytes
         (I.left (source_of lines.new).now)
         (held_by O.held out.old) (held_by O.held out.new) result) }
     ensures end { result ≡ Status.Done → IsAtEnd (I.left (source_of lines.new).now) }

@@ -1,25 +1,9 @@
 //! The words of a command line.
 ghost use Rattle.std.specs.Prelude.{◌≡◌, map};
-ghost use Rattle.mesh_watch.specs.Words.{variant_named, of_two, variant_of};
+ghost use Rattle.mesh_watch.specs.Words.{of_two, variant_of};
 
 use mesh_base::Variant;
-
-// The variant of the protocol that a word names.
-fn variant_named(name: &str) -> Option<Variant>
-    ensures { result ≡ variant_named name.now }
-{
-    if name == "base" {
-        Some(Variant::Base)
-    } else if name == "number" {
-        Some(Variant::Number)
-    } else if name == "reply" {
-        Some(Variant::Reply)
-    } else if name == "error" {
-        Some(Variant::Error)
-    } else {
-        None
-    }
-}
+use mesh_run::variant_named;
 
 // `--variant NAME`
 fn of_two(option: &str, name: &str) -> Option<Variant>
