@@ -7,13 +7,13 @@ use Rattle.mesh_io.specs.Cutting.{Tells}
 use Rattle.mesh_io.specs.NextLines.{Line, text_limits}
 use Rattle.mesh_io.specs.declared.line_error.LineError.TheVariants as error
 use Rattle.mesh_tables.specs.Printed.{Shown, Reading, nothing_read}
-use Rattle.mesh_check.specs.Pieces.{Piece, Whole, pieces_of}
+use Rattle.mesh_printed.specs.Pieces.{Piece, Whole, pieces_of}
 use Rattle.mesh_check.specs.Says.{Says, Refuses, Shows, says, says_from}
 use Rattle.mesh_check.specs.Reads.{Reads}
 use Rattle.mesh_check.specs.Verdicts.{HasNoCycle}
 use Rattle.mesh_check.specs.declared.reading.Unread.{Unread}
 use Rattle.mesh_check.specs.declared.reading.Unread.TheVariants.{BadLine}
-use Rattle.mesh_check.proofs.Pieces.{pieces_at, pieces_none, IsAhead, GoesPast, ahead}
+use Rattle.mesh_printed.proofs.Pieces.{pieces_at, pieces_none, IsAhead, GoesPast, ahead}
 
 -- where the text and the bytes to come are known
 abbrev pub Follows : Option (List ℕ) → Option (List ℕ) → (List ℕ → Says) → Type 0

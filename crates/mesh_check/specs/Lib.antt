@@ -1,6 +1,4 @@
 -- Read in this order.
--- Pieces: the lines of a printed text.
-pub mod Pieces
 -- Says: what a printed text says.
 pub mod Says
 -- Answers: the answer that is right for it, and the line that is written.

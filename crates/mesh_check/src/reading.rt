@@ -4,7 +4,7 @@ ghost use Rattle.std.specs.Io.KnownBytes.{IsAtEnd};
 ghost use Rattle.mesh_io.specs.Cause.{Rose};
 ghost use Rattle.mesh_io.specs.LongReading.{faults_of, given_of, pending_of, source_of};
 ghost use Rattle.mesh_tables.specs.Printed.{nothing_read};
-ghost use Rattle.mesh_check.specs.Pieces.{Piece, Whole};
+ghost use Rattle.mesh_printed.specs.Pieces.{Piece, Whole};
 ghost use Rattle.mesh_check.specs.Says.{says, says_from};
 ghost use Rattle.mesh_check.specs.Reads.{Reads};
 

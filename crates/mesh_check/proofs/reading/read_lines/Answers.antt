@@ -5,7 +5,7 @@ use Rattle.mesh_io.specs.Cutting.{Tells}
 use Rattle.mesh_io.specs.LongReading.{source_of, given_of, pending_of, line_of, ahead_of}
 use Rattle.mesh_io.specs.declared.line_error.LineError.{LineError}
 use Rattle.mesh_tables.specs.Printed.{Reading}
-use Rattle.mesh_check.specs.Pieces.{Piece, Whole}
+use Rattle.mesh_printed.specs.Pieces.{Piece, Whole}
 use Rattle.mesh_check.specs.Says.{says, says_from}
 use Rattle.mesh_check.specs.Reads.{Reads}
 use Rattle.mesh_check.specs.declared.reading.Unread.{Unread}

@@ -7,7 +7,7 @@ use Rattle.mesh_base.specs.Parts.{parts}
 use Rattle.mesh_io.specs.declared.limits.Limits.{Limits}
 use Rattle.mesh_io.proofs.FirstParts.{first_length, nothing_after, whole_line, parts_within, parts_past, some_parts, goes_past, fits_in}
 use Rattle.mesh_io.specs.NextLines.{FirstLine, first_line, line_size, NextLine, End, Line, TooLong, TooMuch, next_of}
-use Rattle.mesh_check.specs.Pieces.{Piece, Whole, Past, piece_of, last_piece, pieces_of}
+use Rattle.mesh_printed.specs.Pieces.{Piece, Whole, Past, piece_of, last_piece, pieces_of, pieces_within}
 
 -- ---- pieces
 
@@ -55,6 +55,11 @@ last_short most (b ∷ bs) some h = ap (λ p. p ∷ []) (piece_short most (b ∷
 pub pieces_none : (most : Limits) (given : ℕ) → pieces_at most given [] ≡ []
 pieces_none most given =
     ap₂ (pieces_of most) (fits_in (most.input - given) 0 (omega arith)) (ap (parts 10) (take_all (most.input - given) [] (omega arith)))
+    ∙ only_piece most false []
+
+pub no_pieces : (most : Limits) → pieces_within most [] ≡ []
+no_pieces most =
+    ap₂ (pieces_of most) (fits_in most.input 0 (omega arith)) (ap (parts 10) (take_all most.input [] (omega arith)))
     ∙ only_piece most false []
 
 -- the first line has its LF within what a text may have

@@ -1,0 +1,7 @@
+pub mod WordLaws
+pub mod Kept
+pub mod Sums
+pub mod Checks
+pub mod Faults
+pub mod Follows
+pub mod Ends

@@ -1,0 +1,21 @@
+-- What is kept of packets: none is longer than a mesh may send. No public contract cites it.
+use Rattle.std.specs.Prelude.{ℕ, ◌≤◌, List, [], ◌∷◌, length, Option, Some, None, ⊤}
+use Rattle.mesh_base.specs.declared.limits.TheConstants.{LONGEST_PACKET}
+use Rattle.mesh_capture.specs.declared.copies.Below.{Below}
+use Rattle.mesh_capture.specs.declared.copies.Below.TheVariants.{Other, Casts, Delivers, Loses, Doubles}
+use Rattle.mesh_capture.specs.Copies.{Flying}
+
+abbrev pub IsShort : List ℕ → Type 0
+IsShort packet = length packet ≤ LONGEST_PACKET
+
+abbrev pub AreShort : Flying → Type 0
+AreShort [] = ⊤
+AreShort (copy ∷ flying) = IsShort copy.1 × AreShort flying
+
+abbrev pub IsShortBelow : Below → Type 0
+IsShortBelow Other = ⊤
+IsShortBelow (Casts None) = ⊤
+IsShortBelow (Casts (Some packet)) = IsShort packet
+IsShortBelow (Delivers id) = ⊤
+IsShortBelow (Loses id) = ⊤
+IsShortBelow (Doubles id) = ⊤

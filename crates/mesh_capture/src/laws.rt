@@ -1,0 +1,17 @@
+//! Laws of the definitions. Each function has an empty body and a contract that states a law.
+ghost use Rattle.mesh_capture.specs.Laws.{HeadersSumToAllOnes, DatagramsSumToAllOnes, PacketsAreAsLongAsTheySay};
+
+/// The words of a packet's header sum to all ones, as its receiver checks.
+pub fn headers_sum_to_all_ones()
+    ensures { HeadersSumToAllOnes }
+{}
+
+/// So do those of its datagram, with the addresses, the protocol and the size.
+pub fn datagrams_sum_to_all_ones()
+    ensures { DatagramsSumToAllOnes }
+{}
+
+/// A packet is as long as it says.
+pub fn packets_are_as_long_as_they_say()
+    ensures { PacketsAreAsLongAsTheySay }
+{}

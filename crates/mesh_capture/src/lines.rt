@@ -1,0 +1,45 @@
+//! What is written.
+ghost use Rattle.std.specs.Prelude.{◌≡◌, ◌≤◌, ◌<◌, ◌/◌, ◌^◌, length};
+ghost use Rattle.mesh_io.specs.Cause.{HasCause};
+ghost use Rattle.mesh_io.specs.Puts.{Puts};
+ghost use Rattle.mesh_capture.specs.Frames.{file_header, framed};
+ghost use Rattle.mesh_capture.specs.Told.{bad_line};
+
+use crate::frame::{Frame, FrameBuf, put_file_header};
+use arrayvec::ArrayVec;
+use mesh_base::{LineBuf, push_number, push_text};
+use mesh_io::{PutFault, Sink, put_all};
+
+/// Writes the header of the file, over the buffer.
+pub fn put_header<O: Sink>(buf: &mut FrameBuf, out: &mut O) -> Result<(), PutFault>
+    ensures text { Puts (O.held out.old) (O.held out.new) file_header result }
+    ensures cause { HasCause (O.faults out.old) (O.faults out.new) result }
+{
+    buf.clear();
+    put_file_header(buf);
+    put_all(out, buf.as_slice())
+}
+
+/// Writes the packet of a copy, over the buffer. The copy is one that `put_into` takes.
+pub fn put_frame<O: Sink>(frame: &Frame, buf: &mut FrameBuf, out: &mut O) -> Result<(), PutFault>
+    requires short { length frame.now.packet ≤ 1604 }
+    requires soon { frame.now.event ≤ 2 ^ 40 }
+    ensures text { Puts (O.held out.old) (O.held out.new) (framed frame.now) result }
+    ensures cause { HasCause (O.faults out.old) (O.faults out.new) result }
+{
+    frame.put_into(buf);
+    put_all(out, buf.as_slice())
+}
+
+/// Writes that a line is refused.
+#[tactic(auto, unfolding(crate::specs::Told::bad_line))]
+pub fn put_bad<O: Sink>(line: u64, out: &mut O) -> Result<(), PutFault>
+    ensures text { Puts (O.held out.old) (O.held out.new) (bad_line line) result }
+    ensures cause { HasCause (O.faults out.old) (O.faults out.new) result }
+{
+    let mut buf: LineBuf = ArrayVec::new();
+    push_text(&mut buf, b"bad line ");
+    push_number(&mut buf, line);
+    buf.push(b'\n');
+    put_all(out, buf.as_slice())
+}

@@ -1,0 +1,37 @@
+//! What a capture answers.
+ghost use Rattle.std.specs.Prelude.{◌≡◌};
+
+/// What a capture came to.
+#[derive(Clone, Copy, Debug, PartialEq, Eq)]
+pub enum CaptureStatus {
+    /// Every line was read, and its packets were written.
+    Done,
+    /// The command line has a word.
+    Usage,
+    /// This line, counted from 1, is refused. The packets of the lines above it were written.
+    BadLine { line: u64 },
+    /// The source failed.
+    ReadFault,
+    /// A sink failed.
+    WriteFault,
+    /// Memory was asked for and not found.
+    NoMemory,
+}
+
+impl CaptureStatus {
+    ghost use Rattle.mesh_capture.specs.Codes.{code_of};
+
+    /// The status with which the process ends.
+    pub fn code(&self) -> u8
+        ensures { result ≡ code_of self.now }
+    {
+        match self {
+            CaptureStatus::Done => 0,
+            CaptureStatus::Usage => 2,
+            CaptureStatus::BadLine { .. } => 3,
+            CaptureStatus::ReadFault => 5,
+            CaptureStatus::WriteFault => 6,
+            CaptureStatus::NoMemory => 7,
+        }
+    }
+}

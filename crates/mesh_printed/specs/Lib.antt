@@ -1,0 +1,2 @@
+-- Pieces: the lines of a printed text.
+pub mod Pieces

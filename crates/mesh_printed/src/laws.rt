@@ -1,0 +1,9 @@
+//! Laws of the definitions. Each function has an empty body and a contract that states a law.
+ghost use Rattle.std.specs.Prelude.{◌≡◌, []};
+ghost use Rattle.mesh_io.specs.declared.limits.Limits.{Limits};
+ghost use Rattle.mesh_printed.specs.Pieces.{pieces_within};
+
+/// A text of no bytes has no line, whatever the limits.
+pub fn an_empty_text_has_no_line()
+    ensures { (most : Limits) → pieces_within most [] ≡ [] }
+{}
