@@ -1,5 +1,5 @@
 //! The top call.
-ghost use Rattle.std.specs.Prelude.{◌≡◌, ◌≢◌, ◌↔◌, ◌<◌, ◌⊎◌, [], length, IfSome};
+ghost use Rattle.std.specs.Prelude.{ℕ, ◌≡◌, ◌≢◌, ◌↔◌, ◌<◌, ◌⊎◌, [], length, IfSome};
 ghost use Rattle.std.specs.Io.KnownBytes.{IsAtEnd};
 ghost use Rattle.mesh_io.specs.Cause.{Rose};
 ghost use Rattle.mesh_io.specs.Buffering.{inner_of, gathered_in, held_by};
@@ -169,11 +169,15 @@ pub fn capture<I: Source, O: Sink, E: Sink>(
     ensures line_of_a_refusal { length words.now ≡ 0 → IfSome (I.left input.old) (λ text.
         IsSaid (E.held errors.old) (E.held errors.new) (capture_of text) result) }
 
+    // Whatever the text, nothing is said where no line is refused and no write fails.
+    ensures silent { ((n : ℕ) → result ≢ CaptureStatus.BadLine n)
+        → result ≢ CaptureStatus.WriteFault → errors.new ≡ errors.old }
+
     // Done only where the input was read to its end.
     ensures done_at_the_end { result ≡ CaptureStatus.Done → IsAtEnd (I.left input.new) }
 
-    // A fault is answered only where the source or a sink has failed in this call, and no other
-    // answer comes where one has.
+    // A fault is answered only where the source or a sink has failed in this call, and any other
+    // answer only where none has. Where both have, it is the sink's.
     ensures cause_of_read_fault { HasSourceCause (I.faults input.old) (I.faults input.new) result }
     ensures cause_of_write_fault { result ≡ CaptureStatus.WriteFault
         → Rose (O.faults out.old) (O.faults out.new)
