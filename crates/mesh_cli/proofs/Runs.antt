@@ -37,21 +37,10 @@ pub runs_so : (variant : Variant) (quiet : Bool) (left after a b : Option (List 
 runs_so variant quiet None after a b s t = tt
 runs_so variant quiet (Some bytes) after a b s t = (t, λ k d. runs_are_loop_free variant bytes k d)
 
--- the same of a made schedule, whose source has no fault
-pub trial_so : (variant : Variant) (plan : Plan) (bytes : List ℕ) (left after new a b : Option (List ℕ)) (s : Status) → bytes ≡ made_by plan → s ≢ status.ReadFault → IsOutputFrom Last (opening variant) bytes new a b s
+-- the same of a made schedule
+pub trial_so : (variant : Variant) (plan : Plan) (left after a b : Option (List ℕ)) (s : Status) → IsOutput a b (said Last (text_of_input variant (made_by plan))) s
     → IsCommandRun (Trial variant plan) left after a b s
-unfolding text_of_input
-trial_so variant plan bytes left after new a b s same apart t =
-    (by_status s apart (subst (λ x. IsOutputFrom Last (opening variant) x new a b s) same t), λ k d. runs_are_loop_free variant (made_by plan) k d)
-  where
-    by_status : (s : Status) → s ≢ status.ReadFault → IsOutputFrom Last (opening variant) (made_by plan) new a b s → IsOutput a b (said Last (text_of_input variant (made_by plan))) s
-    by_status status.Done apart t = t
-    by_status (status.BadLine n) apart t = t
-    by_status (status.Full n) apart t = t
-    by_status status.ReadFault apart t = absurd (apart refl)
-    by_status status.WriteFault apart t = t
-    by_status status.NoMemory apart t = t
-    by_status status.Usage apart t = t
+trial_so variant plan left after a b s t = (t, λ k d. runs_are_loop_free variant (made_by plan) k d)
 
 -- ---- completeness
 

@@ -10,6 +10,7 @@ mod fault_tests;
 #[cfg(test)]
 mod tests;
 mod top;
+mod trial;
 mod words;
 
 use mesh_io::{StdSink, StdSource};

@@ -6,9 +6,10 @@ ghost use Rattle.mesh_run.specs.Causes.{HasStatusCause, HasSourceCause};
 ghost use Rattle.mesh_cli.specs.Words.{command_of, IsAllowed, IsPlan};
 ghost use Rattle.mesh_cli.specs.Does.{IsCommandRun, IsWritten, Completes, IsReadBy, reads, made_by};
 
+use crate::trial::trial;
 use crate::words::{Command, Plan, command_of};
 use mesh_io::{Buffered, Loan, Sink, Source, Through};
-use mesh_make::{MadeSource, make};
+use mesh_make::make;
 use mesh_run::{Status, run};
 use mesh_world::World;
 use std::alloc::Global;
@@ -78,10 +79,7 @@ fn do_command<I: Source, O: Sink>(
     match command {
         Command::Run { variant, quiet } => run::<World, I, O>(alloc, quiet, variant, input, out),
         Command::Make(plan) => make_schedule(plan, out),
-        Command::Trial { variant, plan } => {
-            let mut schedule = MadeSource::new(plan.seed, plan.nodes, plan.steps);
-            run::<World, MadeSource, O>(alloc, true, variant, &mut schedule, out)
-        }
+        Command::Trial { variant, plan } => trial(alloc, variant, plan, out),
     }
 }
 

@@ -67,7 +67,7 @@ fit_length : (mesh : Nodes) (lines : List Accepted) → AllByRecursion (IsFit me
 fit_length mesh [] fit = omega arith
 fit_length mesh (a ∷ rest) fit = one_more (words_of mesh a) (text_in mesh rest) (length rest) fit.0.short (fit_length mesh rest fit.1)
 
-node_short : (mesh : Nodes) (i : ℕ) → i < 200 → IsShort 38 (words_of mesh (node_line i))
+pub node_short : (mesh : Nodes) (i : ℕ) → i < 200 → IsShort 38 (words_of mesh (node_line i))
 unfolding words_of
 node_short mesh i lt = written_short _ _ (record { others = refl; within = omega arith }) (name_short i lt, number_short 6 1 (omega arith) (omega arith) (omega arith))
 
@@ -128,9 +128,9 @@ nodes_go nodes k (suc count) m others few all is rest =
     parses (one_grown k m is) (λ n next. nodes_go nodes (k + 1) count n others few (omega arith) next rest))
 
 -- an input that is not too long is run whole
-whole_input : (variant : Variant) (input : List ℕ) → length input ≤ LONGEST_INPUT → text_of_input variant input ≡ run_of (opening variant) input
-unfolding text_of_input text_on
-whole_input variant input le = rw (le-ltb LONGEST_INPUT (length input) le, take_all LONGEST_INPUT input le) refl
+pub whole_input : (m : Moment) (input : List ℕ) → length input ≤ LONGEST_INPUT → text_on m input ≡ run_of m input
+unfolding text_on
+whole_input m input le = rw (le-ltb LONGEST_INPUT (length input) le, take_all LONGEST_INPUT input le) refl
 
 made_safe : (variant : Variant) (seed nodes steps : ℕ) → 2 ≤ nodes → nodes ≤ 200 → steps ≤ 100000 → IsSafe (run_of (opening variant) (made seed nodes steps))
 unfolding made lines_of mesh_of
@@ -139,7 +139,8 @@ made_safe variant seed nodes steps two few most =
     (λ n has. lines_go (mesh_of nodes) (after_nodes seed nodes steps) n (mesh_of-is nodes few).is_mesh (all_fit seed nodes steps two few most).each has)
 
 pub made_allowed : MadeSchedulesAreAllowed
+unfolding text_of_input
 made_allowed variant seed nodes steps n two few one most =
     let short : length (made seed nodes steps) ≤ LONGEST_INPUT = omega (arith, made_short seed nodes steps two few one most) in
-    let safe : IsSafe (text_of_input variant (made seed nodes steps)) = subst IsSafe (sym (whole_input variant (made seed nodes steps) short)) (made_safe variant seed nodes steps two few most) in
+    let safe : IsSafe (text_of_input variant (made seed nodes steps)) = subst IsSafe (sym (whole_input (opening variant) (made seed nodes steps) short)) (made_safe variant seed nodes steps two few most) in
     safe.never n

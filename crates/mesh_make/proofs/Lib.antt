@@ -8,3 +8,4 @@ pub mod Places
 pub mod Pieces
 pub mod LineByLine
 pub mod Seen
+pub mod Comes

@@ -103,10 +103,10 @@ same_mesh mesh (ShowsRoute x d) late = refl
 same_mesh mesh ShowsFlight late = refl
 
 module _ (nodes steps : ℕ) (size : IsSize nodes steps) where
-  all_nodes : IsMeshOf nodes (mesh_of nodes)
+  pub all_nodes : IsMeshOf nodes (mesh_of nodes)
   all_nodes = mesh_of-is nodes size.nodes_most
 
-  step_fits : (s : ℕ) (rng : Lcg) → IsPlace nodes steps (Step s) → IsFit (mesh_of nodes) (step_line nodes s rng).value
+  pub step_fits : (s : ℕ) (rng : Lcg) → IsPlace nodes steps (Step s) → IsFit (mesh_of nodes) (step_line nodes s rng).value
   step_fits s rng is = fit_step nodes (mesh_of nodes) size.two size.nodes_most all_nodes s is.0 (omega (arith, is.1, size.steps_most)) rng
 
   -- the line is allowed where it stands

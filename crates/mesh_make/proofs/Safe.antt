@@ -99,7 +99,7 @@ first_piece : (m : Moment) (piece : Piece) (pieces : List Piece) → text_from m
 unfolding text_from
 first_piece m piece pieces = refl
 
-after_line : (m : Moment) (words rest : List ℕ) → IsShort 38 words → run_of m (line words ++ rest) ≡ goes_on m (outcome_of_piece m (Whole words)) (λ n. run_of n rest)
+pub after_line : (m : Moment) (words rest : List ℕ) → IsShort 38 words → run_of m (line words ++ rest) ≡ goes_on m (outcome_of_piece m (Whole words)) (λ n. run_of n rest)
 after_line m words rest short =
     let cut : parts 10 (line words ++ rest) ≡ words ∷ parts 10 rest = ap (parts 10) (append_assoc words (10 ∷ []) rest) ∙ parts_at 10 words rest (short_lacks 38 words short) in
     let whole : piece_of words ≡ Whole words = rw (le-leb (length words) 600 (omega (arith, short.within))) refl in

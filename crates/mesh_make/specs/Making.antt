@@ -1,8 +1,9 @@
--- How far a schedule is made.
-use Rattle.std.specs.Prelude.{◌≡◌, ℕ, Bool, List, ◌++◌, drop}
+-- How far a schedule is made, and a run of it.
+use Rattle.std.specs.Prelude.{◌≡◌, ℕ, Bool, true, List, ◌++◌, drop, None}
+use Rattle.mesh_text.specs.Schedule.{Moment}
 use Rattle.mesh_make.specs.declared.maker.Maker.{Maker}
 use Rattle.mesh_make.specs.Made.{mesh_of, text_in}
-use Rattle.mesh_make.specs.Places.{IsPlace, IsSize, is_end, nodes_at, lines_from}
+use Rattle.mesh_make.specs.Places.{IsPlace, IsSize, is_end, is_node, nodes_at, lines_from}
 
 -- the text of the lines that aren't made yet
 abbrev pub still_to_come : Maker → List ℕ
@@ -21,6 +22,11 @@ pub record IsMaking (maker : Maker) : Type 0 where
   pub place : IsPlace maker.size.nodes maker.size.steps maker.place
   pub mesh : maker.mesh ≡ mesh_of (nodes_at maker.size.nodes maker.place)
 
--- the rest of a line, of which so many bytes are read, and then the lines that aren't made yet
+-- a run has come so far: it has the nodes that are made, and no world while nodes are to come
+pub record HasCome (maker : Maker) (m : Moment) : Type 0 where
+  pub mesh : m.mesh ≡ maker.mesh
+  pub waits : is_node maker.place ≡ true → m.world ≡ None
+
+-- the rest of some lines, of which so many bytes are read, and then the lines that aren't made yet
 abbrev pub unread : Maker → List ℕ → ℕ → List ℕ
-unread maker line read = drop read line ++ still_to_come maker
+unread maker lines read = drop read lines ++ still_to_come maker

@@ -30,6 +30,11 @@ abbrev pub is_end : Place → Bool
 is_end End = true
 is_end other = false
 
+-- the line is that of a node
+abbrev pub is_node : Place → Bool
+is_node (Node i) = true
+is_node other = false
+
 -- how many nodes are there before the line of a place
 abbrev pub nodes_at : ℕ → Place → ℕ
 nodes_at nodes (Node i) = i

@@ -1,6 +1,6 @@
 //! Schedules that are made from a seed: a chain of nodes, so many lines that a generator of random
-//! numbers chooses, and a last `auto` that lets all come to rest. A schedule is written to a sink
-//! or read from a source that makes it line by line. Nothing here takes memory. The run of a
+//! numbers chooses, and a last `auto` that lets all come to rest. A schedule is written to a sink,
+//! read from a source that makes it, or taken line by line as values. Nothing here takes memory. The run of a
 //! schedule refuses none of its lines, which is a law of the definitions.
 #![tactic(auto)]
 
@@ -16,6 +16,7 @@ mod word;
 mod writing;
 
 pub use laws::{made_schedules_are_allowed, made_schedules_are_short};
+pub use maker::Maker;
 pub use sizes::MOST_STEPS;
 pub use source::MadeSource;
 pub use writing::make;

@@ -34,15 +34,13 @@ pub struct Size {
     pub steps: u32,
 }
 
-/// How far a schedule is made. The mesh has the nodes that were made; `text` is room for a datum's
-/// text, from which the line that gives it borrows.
+/// How far a schedule is made. The mesh has the nodes that were made.
 #[derive(Drop)]
 pub struct Maker {
     pub size: Size,
     pub place: Place,
     pub rng: Lcg64Xsh32,
     pub mesh: Mesh,
-    pub text: LineBuf,
 }
 
 // The line at the place, and what it draws.
@@ -102,20 +100,26 @@ fn place_after(size: Size, place: Place) -> Place
 }
 
 impl Maker {
-    ghost use Rattle.mesh_make.specs.Making.{still_to_come, IsMaking, is_done};
+    ghost use Rattle.std.specs.Prelude.{ℕ, List, is_some};
+    ghost use Rattle.mesh_base.specs.declared.events.Variant.{Variant};
+    ghost use Rattle.mesh_base.specs.declared.limits.TheConstants.{LONGEST_INPUT};
+    ghost use Rattle.mesh_text.specs.Schedule.{Moment, opening};
+    ghost use Rattle.mesh_text.specs.Text.{On, outcome_of_line, goes_on, text_on};
+    ghost use Rattle.mesh_script.specs.Seen.{IsAllowed};
+    ghost use Rattle.mesh_make.specs.Making.{still_to_come, IsMaking, HasCome, is_done};
 
     /// A schedule of which no line is made yet.
     pub fn new(seed: u64, nodes: u32, steps: u32) -> Maker
         requires size { IsSize nodes steps }
         ensures making { IsMaking result }
         ensures text { still_to_come result ≡ made seed nodes steps }
+        ensures opening { (variant : Variant) → HasCome result (opening variant) }
     {
         Maker {
             size: Size { nodes, steps },
             place: Place::Node(0),
             rng: start(seed),
             mesh: Mesh::new(),
-            text: LineBuf::new(),
         }
     }
 
@@ -127,8 +131,32 @@ impl Maker {
         matches!(self.place, Place::End)
     }
 
-    // Appends the next line, with its LF.
-    fn push_next(&mut self, out: &mut LineBuf)
+    /// The next line. The text of a datum stands in `text`. At a moment to which a run of the lines
+    /// before it has come the line is allowed, and the text that is still to come is run by doing it
+    /// and running what then is still to come.
+    pub fn next_line<'a>(&mut self, text: &'a mut LineBuf) -> Line<'a>
+        requires making { IsMaking self.old }
+        requires more { is_done self.old ≡ false }
+        ensures allowed { (m : Moment) → HasCome self.old m
+            → IsAllowed m.mesh (is_some m.world) result }
+        ensures goes { (m : Moment) → HasCome self.old m
+            → length (still_to_come self.old) ≤ LONGEST_INPUT
+            → text_on m (still_to_come self.old)
+            ≡ goes_on m (outcome_of_line m (accepted_of result))
+            (λ n. text_on n (still_to_come self.new)) }
+        ensures comes { (m n : Moment) (said : List ℕ) → HasCome self.old m
+            → outcome_of_line m (accepted_of result) ≡ On said n → HasCome self.new n }
+        ensures shorter { length (still_to_come self.new) < length (still_to_come self.old) }
+        ensures making { IsMaking self.new }
+    {
+        let line = line_at(self.size, self.place, &mut self.rng, text);
+        grow(&mut self.mesh, &line);
+        self.place = place_after(self.size, self.place);
+        line
+    }
+
+    // Appends the next line, with its LF. The text of a datum is made in `text`.
+    fn push_next(&mut self, text: &mut LineBuf, out: &mut LineBuf)
         requires making { IsMaking self.old }
         requires more { is_done self.old ≡ false }
         requires room { array_vec_len out.old + LONGEST_LINE ≤ LINE_ROOM }
@@ -138,7 +166,7 @@ impl Maker {
         ensures length { array_vec_len out.new ≤ array_vec_len out.old + LONGEST_LINE }
         ensures making { IsMaking self.new }
     {
-        let line = line_at(self.size, self.place, &mut self.rng, &mut self.text);
+        let line = line_at(self.size, self.place, &mut self.rng, text);
         push_line(out, &self.mesh, &line);
         out.push(b'\n');
         grow(&mut self.mesh, &line);
@@ -147,7 +175,7 @@ impl Maker {
 
     /// Makes the next lines, each with its LF, in this buffer: at least one, and as many as are
     /// sure to find room.
-    pub fn next_lines(&mut self, out: &mut LineBuf)
+    pub fn next_lines(&mut self, text: &mut LineBuf, out: &mut LineBuf)
         requires making { IsMaking self.old }
         requires more { is_done self.old ≡ false }
         ensures text { still_to_come self.old ≡ out.new.items ++ still_to_come self.new }
@@ -155,9 +183,9 @@ impl Maker {
         ensures making { IsMaking self.new }
     {
         out.clear();
-        self.push_next(out);
+        self.push_next(text, out);
         'lines: while !self.is_done() && out.len() + LONGEST_LINE <= LINE_ROOM {
-            self.push_next(out);
+            self.push_next(text, out);
         }
     }
 }

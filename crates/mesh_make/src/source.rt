@@ -13,10 +13,11 @@ use mesh_base::LineBuf;
 use mesh_io::{Failed, Source};
 use std::marker::Model;
 
-/// Gives the schedule that a seed makes, of which it holds one line at a time. It never fails.
+/// Gives the schedule that a seed makes, of which it holds a few lines at a time. It never fails.
 #[derive(Drop)]
 pub struct MadeSource {
     maker: Maker,
+    text: LineBuf,
     line: LineBuf,
     at: usize,
 }
@@ -32,9 +33,9 @@ impl Model for MadeSource {
     ghost invariant = { λ s. (s.at ≤ length s.line.items) × IsMaking s.maker };
 }
 
-// Makes the next line where the present one is read to its end, and says how much of the line is
-// read.
-fn refill(maker: &mut Maker, line: &mut LineBuf, at: usize) -> usize
+// Makes the next lines where the present ones are read to their end, and says how much of them is
+// read. The text of a datum is made in `text`.
+fn refill(maker: &mut Maker, text: &mut LineBuf, line: &mut LineBuf, at: usize) -> usize
     requires making { IsMaking maker.old }
     requires within { at ≤ length line.old.items }
     ensures same { unread maker.new line.new.items result ≡ unread maker.old line.old.items at }
@@ -45,7 +46,7 @@ fn refill(maker: &mut Maker, line: &mut LineBuf, at: usize) -> usize
     if at < line.len() || maker.is_done() {
         return at;
     }
-    maker.next_lines(line);
+    maker.next_lines(text, line);
     0
 }
 
@@ -70,6 +71,7 @@ impl MadeSource {
     {
         MadeSource {
             maker: Maker::new(seed, nodes, steps),
+            text: LineBuf::new(),
             line: LineBuf::new(),
             at: 0,
         }
@@ -83,7 +85,7 @@ impl MadeSource {
         ensures buffer { buf.new ≡ take result self.old ++ drop result buf.old }
         ensures end { result ≡ 0 → 0 < length buf.old → self.old ≡ [] }
     {
-        self.at = refill(&mut self.maker, &mut self.line, self.at);
+        self.at = refill(&mut self.maker, &mut self.text, &mut self.line, self.at);
         let n = copy_front(&self.line.as_slice()[self.at..], buf);
         self.at += n;
         n

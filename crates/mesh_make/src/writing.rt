@@ -20,9 +20,10 @@ pub fn make<O: Sink>(seed: u64, nodes: u32, steps: u32, out: &mut O) -> Result<(
     ensures cause { HasCause (O.faults out.old) (O.faults out.new) result }
 {
     let mut maker = Maker::new(seed, nodes, steps);
+    let mut text = LineBuf::new();
     let mut line = LineBuf::new();
     while !maker.is_done() {
-        maker.next_lines(&mut line);
+        maker.next_lines(&mut text, &mut line);
         put_all(out, line.as_slice())?;
     }
     Ok(())

@@ -23,7 +23,7 @@ use Rattle.mesh_text.proofs.InRange.{in_range}
 use Rattle.mesh_text.proofs.LineLaws.{auto_line_has_four_bytes, line_has_few_events}
 use Rattle.mesh_io.specs.Cutting.{IsCounted}
 use Rattle.mesh_run.specs.declared.stop.Stop.{Stop}
-use Rattle.mesh_run.specs.Runs.{IsLineRun}
+use Rattle.mesh_run.specs.Runs.{IsLineDone, IsLineRun}
 use Rattle.mesh_run.specs.Sums.{IsGrown}
 use Rattle.mesh_run.proofs.NextCopies.{few_copies}
 
@@ -236,6 +236,21 @@ pub done_grows : {P : Type 0} (quiet : Bool) (m n : Moment) (bytes : List ℕ) (
     → line_of m.mesh (is_some m.world) bytes ≡ Ok a → IsLineRun quiet m (outcome_of_line m a) n before now r → OnOk r P
 done_grows quiet m n bytes a before now (Ok done) of sized few is run = of (line_grows m n bytes run.text a sized few is run.is)
 done_grows quiet m n bytes a before now (Err stop) of sized few is run = tt
+
+-- the same by what a line is: it grows no more than one of four bytes
+value_by : (m : Moment) (a : Accepted) → IsSized m → IsInRange m.mesh a → GrowsOn m (outcome_of_line m a) 4
+unfolding GrowsOn outcome_of_line
+value_by m Nothing sized range = record { lines = refl; grown = grown_same m (counted m) refl refl refl; steps = omega arith }
+value_by m (NewNode address first) sized range = record { lines = refl; grown = grown_same m _ refl refl (other_nodes m.variant m.mesh (with_node m.mesh address first) m.world); steps = omega arith }
+value_by m (Does e) sized range = line_event m e (outcome_at m e) 4 sized (omega arith)
+value_by m (Chooses count) sized range = line_auto m (line (words_of m.mesh (Chooses count))) (auto.auto_from count 0 (started m)) count 4 (grows_auto count 0 (started m) sized) range.2 (omega arith)
+value_by m (ShowsNode x) sized range = line_shown m 4
+value_by m (ShowsRoute x d) sized range = line_shown m 4
+value_by m ShowsFlight sized range = line_shown m 4
+
+pub value_grows : (quiet : Bool) (m n : Moment) (a : Accepted) (before now : Option (List ℕ)) → IsSized m → IsInRange m.mesh a → IsLineDone quiet (outcome_of_line m a) n before now → LineGrows m n 4
+unfolding GrowsOn
+value_grows quiet m n a before now sized range done = subst (λ k. GrowsOn m k 4) done.is (value_by m a sized range)
 
 -- lines that were done, and one more, by the bytes that were given
 pub steps_more : (len given after : ℕ) (ended : Bool) (n m s bytes : ℕ) → IsCounted len given after ended → bytes ≡ len → 4 * n ≤ 4 * m + MOST_EVENTS * bytes → 4 * m ≤ 4 * s + MOST_EVENTS * given

@@ -1,8 +1,9 @@
 -- Texts that a quiet run leaves out.
-use Rattle.std.proofs.Common.{◌≡◌, ℕ, Bool, true, false, List, [], ◌++◌, Option, Some, None, refl, sym, subst}
+use Rattle.std.proofs.Common.{◌≡◌, ℕ, Bool, true, false, List, [], ◌++◌, Option, Some, None, refl, sym, ap, subst}
 use Rattle.std.specs.Io.KnownBytes.{Appends, Keeps}
 use Rattle.mesh_io.specs.Puts.{AppendsPrefix}
 use Rattle.mesh_io.proofs.Writing.{Appends-join, Appends-none, Appends-kept, AppendsPrefix-join, AppendsPrefix-more}
+use Rattle.mesh_grammar.specs.Written.{line}
 use Rattle.mesh_run.specs.Runs.{output_if}
 
 pub Keeps-same : (a : Option (List ℕ)) → Keeps a a
@@ -43,3 +44,8 @@ loud_whole quiet text a b is p = subst (λ q. Appends a b (output_if q text)) (s
 
 pub loud_front : (quiet : Bool) (text : List ℕ) (a b : Option (List ℕ)) → quiet ≡ false → AppendsPrefix a b text → AppendsPrefix a b (output_if quiet text)
 loud_front quiet text a b is p = subst (λ q. AppendsPrefix a b (output_if q text)) (sym is) p
+
+-- a line is what it is written back as, where it is written
+pub echoed : (quiet : Bool) (bytes words : List ℕ) → (quiet ≡ false → bytes ≡ words) → output_if quiet (line bytes) ≡ output_if quiet (line words)
+echoed true bytes words same = refl
+echoed false bytes words same = ap line (same refl)

@@ -101,7 +101,7 @@ told_before say v w text a b c s is p t =
 front_longer : (a b : Option (List ℕ)) (text more : List ℕ) → AppendsPrefix a b text → AppendsPrefix a b (text ++ more)
 front_longer a b text more f = AppendsPrefix-more a b text more (text ++ more) refl f
 
-front_of_came : (say : Say) (m : Moment) (k : LineOutcome) (others : Moment → Written) (a b : Option (List ℕ)) → AppendsPrefix a b (output_if (is_quiet say) (text_in k))
+pub front_of_came : (say : Say) (m : Moment) (k : LineOutcome) (others : Moment → Written) (a b : Option (List ℕ)) → AppendsPrefix a b (output_if (is_quiet say) (text_in k))
     → AppendsPrefix a b (whole (said say (goes_on m k others)))
 front_of_came All m (On text n) others a b f = front_longer a b _ _ (front_longer a b text _ f)
 front_of_came All m (Refused why) others a b f = front_longer a b [] _ f

@@ -1,5 +1,5 @@
 //! Events that the run chooses, one after another.
-ghost use Rattle.std.specs.Prelude.{◌≡◌, ◌<◌, ◌≤◌, ◌+◌, ◌^◌, length, is_some, true, OnOk, OnErr, IfSome, option_map};
+ghost use Rattle.std.specs.Prelude.{◌≡◌, ◌<◌, ◌≤◌, ◌+◌, ◌^◌, length, is_some, true, false, OnOk, OnErr, IfSome, option_map};
 ghost use Rattle.mesh_model.specs.Choices.{pick};
 ghost use Rattle.mesh_meaning.specs.Events.{event_of};
 ghost use Rattle.mesh_text.specs.Schedule.{Chooses, world_of};
@@ -76,7 +76,7 @@ fn say_echo<O: Sink>(
     buf: &mut LineBuf,
     out: &mut O,
 ) -> Result<(), PutFault>
-    requires { length bytes.now ≤ LONGEST_LINE }
+    requires { quiet ≡ false → length bytes.now ≤ LONGEST_LINE }
     ensures text { Puts (O.held out.old) (O.held out.new)
         (output_if quiet (line_of_words bytes.now)) result }
     ensures cause { HasCause (O.faults out.old) (O.faults out.new) result }
@@ -100,7 +100,7 @@ pub fn do_auto<S: Steps, O: Sink>(
     requires started { is_some at.old.world ≡ true }
     requires steps { at.old.steps < 2 ^ 47 }
     requires printable { IsPrintable at.old.mesh (Line.Auto count) }
-    requires echo { IsLineOf at.old.mesh (Chooses count) bytes.now }
+    requires echo { quiet ≡ false → IsLineOf at.old.mesh (Chooses count) bytes.now }
     ensures comes { IsUncountedRun quiet at.old (outcome_of_line at.old (Chooses count))
         at.new (O.held out.old) (O.held out.new) result }
     ensures lines { OnOk result (at.new.lines ≡ at.old.lines) }

@@ -1,5 +1,5 @@
 //! What each command does.
-ghost use Rattle.std.specs.Prelude.{◌≡◌, ◌≢◌, ◌<◌, ◌≤◌, ◌^◌, ◌∷◌, [], length, is_some, true, OnOk, OnErr, IfSome};
+ghost use Rattle.std.specs.Prelude.{◌≡◌, ◌≢◌, ◌<◌, ◌≤◌, ◌^◌, ◌∷◌, [], length, is_some, true, false, OnOk, OnErr, IfSome};
 ghost use Rattle.mesh_model.specs.Worlds.{World};
 ghost use Rattle.mesh_meaning.specs.Answers.{outcome_in, IsDoneInMesh};
 ghost use Rattle.mesh_meaning.specs.Events.{event_of, node_of};
@@ -64,7 +64,8 @@ pub fn do_event<'a, S: Steps, O: Sink>(
     requires started { is_some at.old.world ≡ true }
     requires few { at.old.steps < 2 ^ 48 }
     requires printable { IsPrintable at.old.mesh (Line.Step event) }
-    requires echo { IfSome bytes (λ b. IsLineOf at.old.mesh (Does (event_of event)) b.now) }
+    requires echo { quiet ≡ false
+        → IfSome bytes (λ b. IsLineOf at.old.mesh (Does (event_of event)) b.now) }
     ensures comes { IsLineRun quiet at.old (line_outcome_at at.old (event_of event.entry))
         at.new (O.held out.old) (O.held out.new) result }
     ensures moment { OnOk result (at.new ≡ stepped at.old (event_of event.entry)) }
@@ -140,6 +141,7 @@ fn do_node<S: Steps, O: Sink>(
 }
 
 // Does an allowed line, and writes its text unless the run is quiet.
+#[inline(always)]
 #[tactic(auto, unfolding(mesh_text::specs::Text::outcome_of_line))]
 fn do_uncounted<'a, S: Steps, O: Sink>(
     alloc: Global,
@@ -152,7 +154,7 @@ fn do_uncounted<'a, S: Steps, O: Sink>(
     requires steps { at.old.steps < 2 ^ 47 }
     requires allowed { IsAllowed at.old.mesh (is_some at.old.world) line }
     requires short { length bytes.now ≤ LONGEST_LINE }
-    requires echo { IsEcho at.old.mesh bytes.now (accepted_of line) }
+    requires echo { quiet ≡ false → IsEcho at.old.mesh bytes.now (accepted_of line) }
     ensures comes { IsUncountedRun quiet at.old (outcome_of_line at.old (accepted_of line.entry))
         at.new (O.held out.old) (O.held out.new) result }
     ensures lines { OnOk result (at.new.lines ≡ at.old.lines) }
@@ -173,7 +175,8 @@ fn do_uncounted<'a, S: Steps, O: Sink>(
 }
 
 /// Does an allowed line, writes its text unless the run is quiet, and counts it. Every line but that
-/// of a node is written back as it stands.
+/// of a node is written back as it stands; of a quiet run's line the bytes aren't asked for.
+#[inline(always)]
 pub fn do_line<'a, S: Steps, O: Sink>(
     alloc: Global,
     at: &mut Point<S>,
@@ -186,7 +189,7 @@ pub fn do_line<'a, S: Steps, O: Sink>(
     requires steps { at.old.steps < 2 ^ 47 }
     requires allowed { IsAllowed at.old.mesh (is_some at.old.world) line }
     requires short { length bytes.now ≤ LONGEST_LINE }
-    requires echo { IsEcho at.old.mesh bytes.now (accepted_of line) }
+    requires echo { quiet ≡ false → IsEcho at.old.mesh bytes.now (accepted_of line) }
     ensures comes { IsLineRun quiet at.old (outcome_of_line at.old (accepted_of line.entry))
         at.new (O.held out.old) (O.held out.new) result }
     ensures way { OnErr result (IsOnTheWay at.old

@@ -17,6 +17,7 @@ mod state;
 mod status;
 mod stop;
 mod sums;
+mod values;
 mod variants;
 
 pub use auto::next_event;
@@ -31,6 +32,7 @@ pub use say::Say;
 pub use status::Status;
 pub use stop::Stop;
 pub use sums::Sums;
+pub use values::do_value;
 pub use variants::variant_named;
 
 #[cfg(test)]

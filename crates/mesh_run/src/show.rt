@@ -1,5 +1,5 @@
 //! What a run shows of its world: a node, where a route leads, and the copies in flight.
-ghost use Rattle.std.specs.Prelude.{◌≡◌, ◌<◌, ◌≤◌, ◌+◌, ◌++◌, length, map, slice_get, is_some, true, Some};
+ghost use Rattle.std.specs.Prelude.{◌≡◌, ◌<◌, ◌≤◌, ◌+◌, ◌++◌, length, map, slice_get, is_some, true, false, Some};
 ghost use Rattle.std.specs.List.{AllByRecursion};
 ghost use Rattle.mesh_model.specs.Routes.{route_end};
 ghost use Rattle.mesh_meaning.specs.Packets.{IsWrittenCopy, copy_in};
@@ -172,7 +172,7 @@ pub fn do_show<S: Steps, O: Sink>(
 ) -> Result<(), Stop<'static>>
     requires started { is_some at.old.world ≡ true }
     requires within { IsInRange at.old.mesh (line_of_shown what) }
-    requires echo { IsLineOf at.old.mesh (line_of_shown what) bytes.now }
+    requires echo { quiet ≡ false → IsLineOf at.old.mesh (line_of_shown what) bytes.now }
     ensures comes { IsUncountedRun quiet at.old (outcome_of_line at.old (line_of_shown what))
         at.new (O.held out.old) (O.held out.new) result }
     ensures same { at.new ≡ at.old }

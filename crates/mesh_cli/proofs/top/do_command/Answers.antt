@@ -1,4 +1,3 @@
-use Rattle.std.proofs.Common.{arith}
 use Rattle.mesh_cli.proofs.Runs.{runs_so, trial_so}
 use Rattle.mesh_run.proofs.Faults.{source_apart}
 use Rattle.mesh_cli.proofs.top.do_command.Goals as goal
@@ -7,9 +6,7 @@ pub returns-in-Run-clause-told : goal.returns-in-Run-clause-told
 returns-in-Run-clause-told g c = rw c.in-Run.is (runs_so c.in-Run.variant c.in-Run.quiet _ _ _ _ c.run.result c.run.ensures.told)
 
 pub returns-in-Trial-clause-told : goal.returns-in-Trial-clause-told
-returns-in-Trial-clause-told g c =
-    rw c.in-Trial.is (trial_so c.in-Trial.variant c.in-Trial.plan c.new-schedule.result (g.I.Source.left c.args.input.now) (g.I.Source.left c.args.input.now) _ _ _ c.run-in-Trial.result c.new-schedule.ensures
-    (λ e. let low = c.run-in-Trial.ensures.read.failed e in omega arith) c.run-in-Trial.ensures.told)
+returns-in-Trial-clause-told g c = rw c.in-Trial.is (trial_so c.in-Trial.variant c.in-Trial.plan (g.I.Source.left c.args.input.now) (g.I.Source.left c.args.input.now) _ _ c.trial.result c.trial.ensures.told)
 
 pub returns-in-Trial-clause-read : goal.returns-in-Trial-clause-read
-returns-in-Trial-clause-read g c = source_apart _ c.run-in-Trial.result (λ e. let low = c.run-in-Trial.ensures.read.failed e in omega arith)
+returns-in-Trial-clause-read g c = source_apart _ c.trial.result c.trial.ensures.read

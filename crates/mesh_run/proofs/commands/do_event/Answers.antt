@@ -35,7 +35,7 @@ say_event-requires-clause-echo g c =
     let here = subst (λ r. IfOk r (λ d. IsAnswer c.at.inside.state (event_of c.args.event) d c.step_made-answer.new.self c.step_made-answer.new.out.items)) c.in-Ok.is c.step_made-answer.ensures.done in
     let is = subst (λ (m : Moment). IsAnswer m (event_of c.args.event) c.in-Ok.done c.step_made-answer.new.self c.step_made-answer.new.out.items) c.at.view_is here in
     let same : c.mesh-mesh.result.now ≡ c.args.at.now.mesh = c.mesh-mesh.ensures.value ∙ answer_mesh c.args.at.now c.step_made-answer.new.self (event_of c.args.event) c.in-Ok.done c.step_made-answer.new.out.items is in
-    subst (λ (m : Nodes). IfSome c.args.bytes (λ b. IsLineOf m (Does (event_of c.args.event)) b.now)) (sym same) c.requires.echo
+    subst (λ (m : Nodes). IfSome c.args.bytes (λ b. IsLineOf m (Does (event_of c.args.event)) b.now)) (sym same) (c.requires.echo c.if-quiet.false)
 
 pub returns-in-Ok-say_event-clause-comes : goal.returns-in-Ok-say_event-clause-comes
 returns-in-Ok-say_event-clause-comes g c =

@@ -1,4 +1,4 @@
-use Rattle.std.proofs.Common.{sym, ◌∙◌, arith}
+use Rattle.std.proofs.Common.{refl, sym, ◌∙◌, arith}
 use Rattle.mesh_make.proofs.Places.{from_start, no_nodes}
 use Rattle.mesh_make.proofs.maker.Maker.new.Goals as goal
 
@@ -7,3 +7,6 @@ returns-clause-making c = record { size = c.requires.size; place = omega (arith,
 
 pub returns-clause-text : goal.returns-clause-text
 returns-clause-text c = rw c.start.ensures (from_start c.args.seed c.args.nodes c.args.steps)
+
+pub returns-clause-opening : goal.returns-clause-opening
+returns-clause-opening c = λ variant. record { mesh = sym c.new.ensures; waits = λ _. refl }

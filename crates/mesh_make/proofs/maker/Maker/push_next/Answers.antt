@@ -1,27 +1,19 @@
-use Rattle.std.proofs.Common.{◌≡◌, sym, subst, ap, ◌∙◌}
+use Rattle.std.proofs.Common.{sym, ap, ◌∙◌}
 use Rattle.mesh_text.specs.Schedule.{Accepted}
-use Rattle.mesh_text.specs.Ranges.{IsInRange}
 use Rattle.mesh_script.specs.Seen.{accepted_of}
 use Rattle.mesh_base.specs.Meshes.{Nodes}
 use Rattle.mesh_make.specs.Made.{mesh_of}
-use Rattle.mesh_script.specs.declared.line.Line.{Line}
-use Rattle.mesh_make.specs.declared.maker.Maker.{Maker}
-use Rattle.mesh_make.specs.Making.{IsMaking}
-use Rattle.mesh_make.specs.Places.{nodes_at, line_at, mesh_after}
-use Rattle.mesh_make.proofs.Places.{text_more, line_fits, mesh_next}
+use Rattle.mesh_make.specs.Places.{nodes_at, mesh_after}
+use Rattle.mesh_make.proofs.Places.{text_more, mesh_next}
+use Rattle.mesh_make.proofs.Comes.{next_printable}
 use Rattle.mesh_make.proofs.LineByLine.{joined_on}
 use Rattle.mesh_make.proofs.maker.Maker.push_next.Goals as goal
 
-printable : (m : Maker) (line : Line) → IsMaking m → accepted_of line ≡ (line_at m.size.nodes m.place m.rng).value → IsInRange m.mesh (accepted_of line)
-printable m line making is =
-    subst (λ (mesh : Nodes). IsInRange mesh (accepted_of line)) (sym making.mesh)
-    (subst (λ (a : Accepted). IsInRange (mesh_of (nodes_at m.size.nodes m.place)) a) (sym is) (line_fits m.size.nodes m.size.steps making.size m.place m.rng making.place))
-
 pub push_line-requires-clause-printable : goal.push_line-requires-clause-printable
-push_line-requires-clause-printable c = printable c.args.self.now c.line_at-line.result c.requires.making c.line_at-line.ensures.line
+push_line-requires-clause-printable c = next_printable c.args.self.now c.line_at-line.result c.requires.making c.line_at-line.ensures.line
 
 pub grow-requires : goal.grow-requires
-grow-requires c = printable c.args.self.now c.line_at-line.result c.requires.making c.line_at-line.ensures.line
+grow-requires c = next_printable c.args.self.now c.line_at-line.result c.requires.making c.line_at-line.ensures.line
 
 pub returns-clause-text : goal.returns-clause-text
 returns-clause-text c =
