@@ -1,5 +1,5 @@
 -- Counts of faults, and what they are the cause of.
-use Rattle.std.proofs.Common.{Some, ◌≡◌, ◌≢◌, ◌≤◌, ◌+◌, ◌-◌, ◌^◌, min, ℕ, refl, ap, subst, arith}
+use Rattle.std.proofs.Common.{Some, ◌≡◌, ◌≤◌, ◌+◌, ◌-◌, ◌^◌, min, ℕ, refl, subst, arith}
 use Rattle.mesh_io.specs.Cause.{Rose}
 use Rattle.mesh_capture.specs.Causes.{HasCauseIf, HasSourceCause}
 use Rattle.mesh_capture.specs.declared.status.CaptureStatus.{CaptureStatus}

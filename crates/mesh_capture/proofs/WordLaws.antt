@@ -1,11 +1,9 @@
 -- A word is not alone where others stand behind it.
-use Rattle.std.proofs.Common.{◌≡◌, ℕ, ◌≤◌, Bool, List, [], ◌∷◌, length, Option, Some, None, refl, arith}
-use Rattle.std.specs.Prelude.{IfNone}
+use Rattle.std.proofs.Common.{◌≡◌, ℕ, ◌≤◌, List, [], ◌∷◌, length, None, refl, arith}
 use Rattle.std.proofs.lemmas.List.Splits.{length-slice_split}
 use Rattle.std.proofs.Common.{eqb}
 use Rattle.mesh_base.specs.Parts.{parts}
-use Rattle.mesh_capture.specs.Copies.{number_in, copy_number, cast_packet}
-use Rattle.mesh_capture.specs.Words.{one_word, two_words, three_words, ends_of}
+use Rattle.mesh_capture.specs.Words.{one_word}
 
 some_part : (bytes : List ℕ) → 1 ≤ length (parts 32 bytes)
 some_part bytes = omega (arith, length-slice_split (λ (b : ℕ). eqb b 32) bytes)

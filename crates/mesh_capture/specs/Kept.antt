@@ -1,5 +1,5 @@
 -- What is kept of packets: none is longer than a mesh may send. No public contract cites it.
-use Rattle.std.specs.Prelude.{ℕ, ◌≤◌, List, [], ◌∷◌, length, Option, Some, None, ⊤}
+use Rattle.std.specs.Prelude.{ℕ, ◌≤◌, List, [], ◌∷◌, length, Some, None, ⊤}
 use Rattle.mesh_base.specs.declared.limits.TheConstants.{LONGEST_PACKET}
 use Rattle.mesh_capture.specs.declared.copies.Below.{Below}
 use Rattle.mesh_capture.specs.declared.copies.Below.TheVariants.{Other, Casts, Delivers, Loses, Doubles}

@@ -1,6 +1,5 @@
 -- What a receiver of a packet checks of it.
-use Rattle.std.specs.Prelude.{ℕ, ◌≡◌, ◌≤◌, ◌+◌, ◌++◌, length}
-use Rattle.mesh_base.specs.declared.limits.TheConstants.{LONGEST_PACKET}
+use Rattle.std.specs.Prelude.{◌≡◌, ◌+◌, ◌++◌, length}
 use Rattle.mesh_capture.specs.declared.frame.Frame.{Frame}
 use Rattle.mesh_capture.specs.Frames.{words_sum, carried, header, datagram, pseudo_header, framed, packet_size}
 

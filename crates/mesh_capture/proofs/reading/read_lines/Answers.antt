@@ -7,13 +7,13 @@ use Rattle.mesh_io.specs.LongReading.{source_of, given_of, pending_of, line_of, 
 use Rattle.mesh_io.specs.declared.line_error.LineError.{LineError}
 use Rattle.mesh_printed.specs.Pieces.{Piece, Whole}
 use Rattle.mesh_capture.specs.Copies.{Reading}
-use Rattle.mesh_capture.specs.Captures.{Capture, captured_from}
+use Rattle.mesh_capture.specs.Captures.{captured_from}
 use Rattle.mesh_capture.specs.Told.{IsFile}
 use Rattle.mesh_capture.specs.Leads.{Leads}
 use Rattle.mesh_capture.specs.declared.status.CaptureStatus.{CaptureStatus}
 use Rattle.mesh_capture.specs.declared.status.CaptureStatus.TheVariants.{ReadFault, WriteFault}
 use Rattle.mesh_capture.proofs.Faults.{cause_as, cause_after, no_cause, a_cause, unsome}
-use Rattle.mesh_capture.proofs.Follows.{IsFollowed, packets_of, starts, hands_on, finds, reads_on, reads_off, faults, ends, too_long, too_much, prefix_same}
+use Rattle.mesh_capture.proofs.Follows.{packets_of, starts, hands_on, finds, reads_on, reads_off, faults, ends, too_long, too_much, prefix_same}
 use Rattle.mesh_capture.proofs.reading.read_lines.Goals as goal
 
 pub lines-init : goal.lines-init

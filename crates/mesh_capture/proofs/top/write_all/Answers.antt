@@ -1,5 +1,5 @@
 use Rattle.std.proofs.Common.{refl}
-use Rattle.mesh_capture.proofs.Faults.{a_cause, cause_after, no_cause}
+use Rattle.mesh_capture.proofs.Faults.{cause_after}
 use Rattle.mesh_capture.proofs.Ends.{header_fails, with_header}
 use Rattle.mesh_capture.proofs.top.write_all.Goals as goal
 
