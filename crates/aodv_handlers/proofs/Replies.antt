@@ -14,7 +14,7 @@ use Rattle.aodv_model.specs.Cores.{Core, RouteReply, Rrep, Item, Heard}
 use Rattle.aodv_model.specs.Handlers.{Reaction, quiet, only, one, unicast, neighbour_entry, route_entry, after_hearing, after_reply, join_reply_precursors, forward_reply, forward_own_entry, reply_on, changes_nothing, on_rrep, turn}
 use Rattle.aodv_model.specs.Fullness.{turn_full}
 use Rattle.aodv_model.proofs.Readings.{pre_alike, join_reply_alike}
-use Rattle.aodv_wire.specs.declared.message.Rrep as rrep
+use Rattle.aodv_wire.specs.declared.route_reply.Rrep as rrep
 use Rattle.aodv_meaning.specs.Meaning.{index, reply_in}
 use Rattle.aodv_meaning.specs.Sent.{IsPacket}
 use Rattle.aodv_meaning.specs.Effects.{effect_of}

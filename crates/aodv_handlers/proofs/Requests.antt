@@ -17,7 +17,7 @@ use Rattle.aodv_model.specs.Soundness.{IsSoundTable}
 use Rattle.aodv_model.proofs.PlacedTables.{update_has}
 use Rattle.aodv_model.proofs.Readings.{pre_alike, join_answer_alike}
 use Rattle.aodv_model.proofs.SoundTables.{neighbour_table, route_table}
-use Rattle.aodv_wire.specs.declared.message.Rreq as rreq
+use Rattle.aodv_wire.specs.declared.route_request.Rreq as rreq
 use Rattle.aodv_meaning.specs.Meaning.{index, status_of, request_in}
 use Rattle.aodv_meaning.specs.Sent.{IsPacket}
 use Rattle.aodv_meaning.specs.Effects.{effect_of}

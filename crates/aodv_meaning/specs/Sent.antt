@@ -7,8 +7,8 @@ use Rattle.aodv_entry.specs.Quality.{is_kno}
 use Rattle.aodv_model.specs.Tables.{Dests}
 use Rattle.aodv_model.specs.Cores.{RouteRequest, RouteReply, Message, Pkt, Rreq, Rrep, Rerr}
 use Rattle.aodv_model.specs.Handlers.{Cast, Nothing, One, Many, All}
-use Rattle.aodv_wire.specs.declared.message.Rreq as rreq
-use Rattle.aodv_wire.specs.declared.message.Rrep as rrep
+use Rattle.aodv_wire.specs.declared.route_request.Rreq as rreq
+use Rattle.aodv_wire.specs.declared.route_reply.Rrep as rrep
 use Rattle.aodv_wire.specs.declared.message.Message as wire
 use Rattle.aodv_wire.specs.declared.message.Message.TheVariants as messages
 use Rattle.aodv_wire.specs.Spells.{Spells, written}

@@ -6,8 +6,8 @@ use Rattle.std.specs.List.{flat_map, AllByRecursion}
 use Rattle.byteorder.specs.Endian.{big_from, big_bytes}
 use Rattle.byteorder.specs.Numbers.{big_number-reads_back}
 use Rattle.mesh_base.specs.declared.addr.Addr.{Addr}
-use Rattle.aodv_wire.specs.declared.message.Rreq as code_rreq
-use Rattle.aodv_wire.specs.declared.message.Rrep as code_rrep
+use Rattle.aodv_wire.specs.declared.route_request.Rreq as code_rreq
+use Rattle.aodv_wire.specs.declared.route_reply.Rrep as code_rrep
 use Rattle.aodv_wire.specs.declared.message.Message.TheVariants.{Rreq, Rrep, Rerr, Parcel}
 use Rattle.aodv_wire.specs.Layout.{number_at, place, line_of}
 use Rattle.aodv_wire.specs.RouteRequest as rreq

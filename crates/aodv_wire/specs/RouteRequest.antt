@@ -2,7 +2,7 @@
 use Rattle.std.specs.Prelude.{ℕ, ◌==◌, not, if◌then◌else◌, List, [], ◌∷◌, length, Option}
 use Rattle.aodv_wire.specs.declared.error.WireError.{WireError}
 use Rattle.aodv_wire.specs.declared.error.WireError.TheVariants.{WrongLength, OutsideProfile, ZeroNumber}
-use Rattle.aodv_wire.specs.declared.message.Rreq.{Rreq}
+use Rattle.aodv_wire.specs.declared.route_request.Rreq.{Rreq}
 use Rattle.aodv_wire.specs.Layout.{Place, place, number_at, laid_out}
 use Rattle.aodv_wire.specs.Refused.{refuse_if, first_of}
 

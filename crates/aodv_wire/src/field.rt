@@ -1,27 +1,10 @@
-//! The fields of a packet's first line, and reading numbers.
-ghost use Rattle.std.specs.Prelude.{◌≡◌, ◌+◌, ◌*◌, ◌≤◌, ◌<◌, length};
+//! The lines of a packet, and the fields of its first one: read, and written.
+ghost use Rattle.std.specs.Prelude.{◌≡◌, ◌+◌, ◌*◌, ◌≤◌, ◌<◌, ◌^◌, [], ◌∷◌, ◌++◌, length};
+ghost use Rattle.byteorder.specs.Endian.{big_bytes};
 ghost use Rattle.aodv_wire.specs.Layout.{number_at, place};
-ghost use Rattle.aodv_wire.specs.Spells.{is_data};
 
 use byteorder::{BigEndian, ByteOrder};
-
-/// The flags of a request that this profile leaves out: J, R, G and D.
-pub(crate) const REQUEST_FLAGS: u8 = 0xf0;
-
-/// U of a request: the destination's number is unknown.
-pub(crate) const UNKNOWN_NUMBER: u8 = 0x08;
-
-/// The flags of a reply that this profile leaves out: R and A.
-pub(crate) const REPLY_FLAGS: u8 = 0xc0;
-
-/// The prefix size of a reply, in its third byte.
-pub(crate) const PREFIX_SIZE: u8 = 0x1f;
-
-/// N of a route error.
-pub(crate) const NO_DELETE: u8 = 0x80;
-
-/// The type of a data packet.
-const DATA_TYPE: u8 = 16;
+use mesh_base::{LONGEST_PACKET, Packet};
 
 /// The number in a whole line.
 pub(crate) fn line_at(bytes: &[u8], line: usize) -> u32
@@ -42,17 +25,40 @@ pub(crate) fn kind(bytes: &[u8]) -> u8
     bytes[0]
 }
 
-/// Whether the packet is a datum's.
-pub fn is_data(packet: &[u8]) -> bool
-    ensures { result ≡ is_data packet.now }
-{
-    !packet.is_empty() && packet[0] == DATA_TYPE
-}
-
 /// The number in the last eight bits of the first line.
 pub(crate) fn last_octet(bytes: &[u8]) -> u8
     requires { 4 ≤ length bytes.now }
     ensures { result ≡ number_at bytes.now (place 0 24 8) }
 {
     bytes[3]
+}
+
+/// Puts bytes behind what is written.
+pub(crate) fn put_bytes(out: &mut Packet, bytes: &[u8])
+    requires { length out.old.items + length bytes.now ≤ LONGEST_PACKET }
+    ensures { out.new.items ≡ out.old.items ++ bytes.now }
+{
+    if out.try_extend_from_slice(bytes).is_err() {
+        unreachable!();
+    }
+}
+
+/// Puts the first line: a type, its flags, eight bits that are 0, and eight more.
+pub(crate) fn put_first_line(out: &mut Packet, kind: u8, flags: u8, last: u8)
+    requires { length out.old.items + 4 ≤ LONGEST_PACKET }
+    ensures bytes { out.new.items ≡ out.old.items ++ kind ∷ flags ∷ 0 ∷ last ∷ [] }
+    ensures fits { last < 2 ^ 8 }
+{
+    put_bytes(out, &[kind, flags, 0, last]);
+}
+
+/// Puts a number as a line.
+pub(crate) fn put_line(out: &mut Packet, number: u32)
+    requires { length out.old.items + 4 ≤ LONGEST_PACKET }
+    ensures bytes { out.new.items ≡ out.old.items ++ big_bytes 4 number }
+    ensures fits { number < 2 ^ 32 }
+{
+    let mut bytes = [0; 4];
+    BigEndian::write_u32(&mut bytes, number);
+    put_bytes(out, &bytes);
 }

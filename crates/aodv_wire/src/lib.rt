@@ -3,19 +3,24 @@
 //! one spelling of its message that its reader gives back.
 #![tactic(auto)]
 
+mod data_packet;
 mod error;
 mod field;
 mod laws;
 mod message;
 mod reading;
-mod writing;
+mod route_error;
+mod route_reply;
+mod route_request;
 
+pub use data_packet::{DataView, is_data, write_data};
 pub use error::WireError;
-pub use field::is_data;
 pub use laws::{each_bit_once, one_message, repeated_is_first};
-pub use message::{DataView, Message, RerrView, Rrep, Rreq};
+pub use message::Message;
 pub use reading::read;
-pub use writing::{write_data, write_rerr, write_rrep, write_rreq};
+pub use route_error::{RerrView, write_rerr};
+pub use route_reply::{Rrep, write_rrep};
+pub use route_request::{Rreq, write_rreq};
 
 #[cfg(test)]
 mod outside;

@@ -12,7 +12,7 @@ use Rattle.mesh_base.specs.Addresses.{dotted}
 use Rattle.mesh_base.specs.Meshes.{Nodes, IsMesh, addr_at, index_of}
 use Rattle.aodv_wire.specs.declared.message.Message as wire
 use Rattle.aodv_wire.specs.declared.message.Message.TheVariants as messages
-use Rattle.aodv_wire.specs.declared.message.DataView as parcels
+use Rattle.aodv_wire.specs.declared.data_packet.DataView as parcels
 use Rattle.aodv_wire.specs.Spells.{message_in_fields}
 use Rattle.aodv_meaning.specs.Meaning.{index, meaning, in_mesh, unless_in, stranger}
 use Rattle.aodv_meaning.proofs.Means.{index_there, sent_means}

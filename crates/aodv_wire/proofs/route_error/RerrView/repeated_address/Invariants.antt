@@ -1,7 +1,7 @@
 use Rattle.std.proofs.Common.{◌≡◌, take}
 use Rattle.aodv_wire.specs.RouteError.{addresses, repeated}
 use Rattle.aodv_wire.proofs.Repeats.{AllBelow, repeated_rest}
-use Rattle.aodv_wire.proofs.message.RerrView.repeated_address.Given as goal
+use Rattle.aodv_wire.proofs.route_error.RerrView.repeated_address.Given as goal
 
 abbrev pub invariant-loop-k : goal.invariant-loop-k
 invariant-loop-k l = record {

@@ -6,7 +6,7 @@ use Rattle.aodv_wire.specs.Layout.{number_at, place}
 use Rattle.aodv_wire.specs.RouteError.{repeated}
 use Rattle.aodv_wire.proofs.Lines.{are_bytes, refusal_rerr, said_rerr}
 use Rattle.aodv_wire.proofs.Profile.{rerr_outside, rerr_nobody, rerr_repeated, destinations_behind}
-use Rattle.aodv_wire.proofs.reading.read_rerr.Goals as goal
+use Rattle.aodv_wire.proofs.route_error.read_rerr.Goals as goal
 
 pub returns-then-bytes-ne0 : goal.returns-then-bytes-ne0
 returns-then-bytes-ne0 c =

@@ -2,8 +2,8 @@ use Rattle.std.proofs.Common.{◌≡◌, cond, refl, sym, subst, ◌∙◌}
 use Rattle.aodv_wire.specs.Spells.{Spells}
 use Rattle.aodv_wire.specs.declared.message.Message.TheVariants.{Rreq as a_rreq}
 use Rattle.aodv_wire.proofs.Writes.{rreq_cells, rreq_written, rreq_spells}
-use Rattle.aodv_wire.proofs.writing.write_rreq.Goals as goal
-use Rattle.aodv_wire.proofs.writing.write_rreq.Goals.{then-m, else-m}
+use Rattle.aodv_wire.proofs.route_request.write_rreq.Goals as goal
+use Rattle.aodv_wire.proofs.route_request.write_rreq.Goals.{then-m, else-m}
 
 -- what was put is the whole packet
 whole : (c : goal.After-put_line-5) → c.put_line-5.new.out.items ≡ rreq_cells c.args.m.now

@@ -2,7 +2,7 @@ use Rattle.std.proofs.Common.{◌≡◌, ◌+◌, ◌*◌, ◌<◌, ℕ, ◌∷�
 use Rattle.std.specs.List.{flat_map}
 use Rattle.mesh_base.specs.declared.addr.Addr.{Addr}
 use Rattle.aodv_wire.proofs.Writes.{pair_cells, PairFits}
-use Rattle.aodv_wire.proofs.writing.write_rerr.Given as goal
+use Rattle.aodv_wire.proofs.route_error.write_rerr.Given as goal
 
 abbrev pub invariant-loop-a : goal.invariant-loop-a
 invariant-loop-a l = record {

@@ -2,7 +2,7 @@ use Rattle.std.proofs.Common.{sym, ◌∙◌}
 use Rattle.std.proofs.lemmas.Bool.{eqb-true, eqb-false}
 use Rattle.aodv_wire.specs.RouteError.{addresses}
 use Rattle.aodv_wire.proofs.Repeats.{any_found, any_missed}
-use Rattle.aodv_wire.proofs.message.RerrView.has_before.Goals as goal
+use Rattle.aodv_wire.proofs.route_error.RerrView.has_before.Goals as goal
 
 pub returns-then-eq : goal.returns-then-eq
 returns-then-eq c =

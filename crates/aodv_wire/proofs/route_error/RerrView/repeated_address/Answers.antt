@@ -1,8 +1,8 @@
 use Rattle.std.proofs.Common.{sym, ◌∙◌, arith}
 use Rattle.aodv_wire.specs.RouteError.{addresses}
 use Rattle.aodv_wire.proofs.Repeats.{repeated_found, repeated_missed, below_goes_on, not_seen}
-use Rattle.aodv_wire.proofs.message.RerrView.repeated_address.Goals as goal
-use Rattle.aodv_wire.proofs.message.RerrView.repeated_address.Goals.{then-number-above, else-number-above+else-has_before}
+use Rattle.aodv_wire.proofs.route_error.RerrView.repeated_address.Goals as goal
+use Rattle.aodv_wire.proofs.route_error.RerrView.repeated_address.Goals.{then-number-above, else-number-above+else-has_before}
 
 pub returns-then-has_before : goal.returns-then-has_before
 returns-then-has_before c =

@@ -4,7 +4,7 @@ use Rattle.std.specs.List.{flat_map}
 use Rattle.aodv_wire.specs.declared.message.Message.TheVariants.{Rerr as a_rerr}
 use Rattle.aodv_wire.specs.Spells.{Spells}
 use Rattle.aodv_wire.proofs.Writes.{rerr_cells, pair_cells, rerr_written, rerr_spells, each_fits}
-use Rattle.aodv_wire.proofs.writing.write_rerr.Goals as goal
+use Rattle.aodv_wire.proofs.route_error.write_rerr.Goals as goal
 
 -- what was put is the whole packet
 whole : (c : goal.After-loop-a) → c.loop-a.out.items ≡ rerr_cells c.args.pairs.now

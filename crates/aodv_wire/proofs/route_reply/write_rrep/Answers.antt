@@ -2,7 +2,7 @@ use Rattle.std.proofs.Common.{◌≡◌, refl, sym, subst, ◌∙◌}
 use Rattle.aodv_wire.specs.Spells.{Spells}
 use Rattle.aodv_wire.specs.declared.message.Message.TheVariants.{Rrep as a_rrep}
 use Rattle.aodv_wire.proofs.Writes.{rrep_cells, rrep_written, rrep_spells}
-use Rattle.aodv_wire.proofs.writing.write_rrep.Goals as goal
+use Rattle.aodv_wire.proofs.route_reply.write_rrep.Goals as goal
 
 -- what was put is the whole packet
 whole : (c : goal.After-put_line-4) → c.put_line-4.new.out.items ≡ rrep_cells c.args.m.now

@@ -2,7 +2,7 @@ use Rattle.std.proofs.Common.{◌≡◌, refl, sym, subst, ◌∙◌}
 use Rattle.aodv_wire.specs.Spells.{Spells}
 use Rattle.aodv_wire.specs.declared.message.Message.TheVariants.{Parcel as a_parcel}
 use Rattle.aodv_wire.proofs.Writes.{data_cells, data_written, data_spells}
-use Rattle.aodv_wire.proofs.writing.write_data.Goals as goal
+use Rattle.aodv_wire.proofs.data_packet.write_data.Goals as goal
 
 -- what was put is the whole packet
 whole : (c : goal.After-put_bytes) → c.put_bytes.new.out.items ≡ data_cells (record { dip = c.args.dip; oip = c.args.oip; body = c.args.body.now })
