@@ -47,7 +47,7 @@ is_one_of words word = list_any (λ w. bytes_eq word w) words
 
 -- ---- effects
 
--- a packet that a mesh may send: 1 to 1604 bytes
+-- a packet that a mesh may send
 abbrev pub is_packet : List ℕ → Bool
 is_packet bytes = nat_le 1 (length bytes) && nat_le (length bytes) LONGEST_PACKET
 

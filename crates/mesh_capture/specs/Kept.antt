@@ -1,9 +1,14 @@
--- What is kept of packets: none is longer than a mesh may send. No public contract cites it.
-use Rattle.std.specs.Prelude.{ℕ, ◌≤◌, List, [], ◌∷◌, length, Some, None, ⊤}
+-- What is kept while a text is read: no packet is longer than a mesh may send, and the lines are few enough for
+-- their times. Of these only the number of lines stands in a public contract.
+use Rattle.std.specs.Prelude.{ℕ, ◌≤◌, ◌^◌, List, [], ◌∷◌, length, Some, None, ⊤}
 use Rattle.mesh_base.specs.declared.limits.TheConstants.{LONGEST_PACKET}
 use Rattle.mesh_capture.specs.declared.copies.Below.{Below}
 use Rattle.mesh_capture.specs.declared.copies.Below.TheVariants.{Other, Casts, Delivers, Loses, Doubles}
 use Rattle.mesh_capture.specs.Copies.{Flying}
+
+-- the most lines that are read
+abbrev pub most_lines : ℕ
+most_lines = 2 ^ 40
 
 abbrev pub IsShort : List ℕ → Type 0
 IsShort packet = length packet ≤ LONGEST_PACKET

@@ -5,7 +5,7 @@ ghost use Rattle.std.specs.Ordering.{nat_cmp};
 ghost use Rattle.std.specs.BTreeMap.{insert_entry, is_at};
 ghost use Rattle.mesh_base.specs.Parts.{parts, rest_parts};
 ghost use Rattle.mesh_capture.specs.Copies as copies;
-ghost use Rattle.mesh_capture.specs.Kept.{IsShort, IsShortBelow, AreShort};
+ghost use Rattle.mesh_capture.specs.Kept.{IsShort, IsShortBelow, AreShort, most_lines};
 
 use crate::frame::Frame;
 use crate::words::{
@@ -59,7 +59,7 @@ pub struct Copies {
 impl Model for Copies {
     ghost use Rattle.std.specs.Prelude.{◌≤◌, ◌^◌};
     ghost use Rattle.mesh_capture.specs.Copies.{Reading};
-    ghost use Rattle.mesh_capture.specs.Kept.{AreShort, IsShortBelow};
+    ghost use Rattle.mesh_capture.specs.Kept.{AreShort, IsShortBelow, most_lines};
 
     ghost Value = { Reading };
 
@@ -70,7 +70,7 @@ impl Model for Copies {
       lines = c.lines;
     } };
 
-    ghost invariant = { λ c. (c.events ≤ c.lines) × (c.lines ≤ 2 ^ 40)
+    ghost invariant = { λ c. (c.events ≤ c.lines) × (c.lines ≤ most_lines)
         × IsShortBelow c.below × AreShort c.flying.entries };
 }
 
@@ -299,7 +299,7 @@ impl Copies {
         ensures bad { IsErrOf result ReadError.BadLine →
             copies.after_end self.old lost id (rest_parts 32 words.entry) ≡ None }
         ensures lines { OnOk result (self.new.lines ≡ self.old.lines) }
-        ensures soon { IfOk result (λ frame. frame.event ≤ 2 ^ 40) }
+        ensures soon { IfOk result (λ frame. frame.event ≤ most_lines) }
         ensures short { IfOk result (λ frame. IsShort frame.packet) }
     {
         let Some((from, to)) = ends(words) else {
@@ -325,7 +325,7 @@ impl Copies {
         ensures bad { IsErrOf result ReadError.BadLine →
             copies.after_ended self.old self.old.below lost (rest_parts 32 words.entry) ≡ None }
         ensures lines { OnOk result (self.new.lines ≡ self.old.lines) }
-        ensures soon { IfOk result (λ frame. frame.event ≤ 2 ^ 40) }
+        ensures soon { IfOk result (λ frame. frame.event ≤ most_lines) }
         ensures short { IfOk result (λ frame. IsShort frame.packet) }
     {
         match self.below {
@@ -343,7 +343,7 @@ impl Copies {
         ensures bad { IsErrOf result ReadError.BadLine →
             copies.effect self.old (parts 32 text.now) ≡ None }
         ensures lines { OnOk result (self.new.lines ≡ self.old.lines) }
-        ensures soon { IfOk result (λ frame. IfSome frame (λ f. f.event ≤ 2 ^ 40)) }
+        ensures soon { IfOk result (λ frame. IfSome frame (λ f. f.event ≤ most_lines)) }
         ensures short { IfOk result (λ frame. IfSome frame (λ f. IsShort f.packet)) }
     {
         let (word, words) = cut(text, b' ');
@@ -390,13 +390,13 @@ impl Copies {
     /// copies.
     #[tactic(auto, unfolding(crate::specs::Copies::after_line))]
     pub fn read(&mut self, line: &[u8]) -> Result<Option<Frame>, ReadError>
-        requires { self.old.lines < 2 ^ 40 }
+        requires { self.old.lines < most_lines }
         ensures done { IfOk result (λ frame. copies.after_line self.old line.now
             ≡ Some (record { now = self.new; frame = frame })) }
         ensures bad { IsErrOf result ReadError.BadLine →
             copies.after_line self.old line.now ≡ None }
         ensures lines { OnOk result (self.new.lines ≡ self.old.lines + 1) }
-        ensures soon { IfOk result (λ frame. IfSome frame (λ f. f.event ≤ 2 ^ 40)) }
+        ensures soon { IfOk result (λ frame. IfSome frame (λ f. f.event ≤ most_lines)) }
         ensures short { IfOk result (λ frame. IfSome frame (λ f. IsShort f.packet)) }
     {
         self.lines += 1;

@@ -1,7 +1,10 @@
-//! The bytes of a capture: the header of the file, and a packet for each copy that was heard or lost.
+//! The bytes of a capture: the header of the file, and a packet for each copy that was heard or
+//! lost.
 ghost use Rattle.std.specs.Prelude.{◌≡◌, ◌≤◌, ◌<◌, ◌+◌, ◌-◌, ◌*◌, ◌/◌, ◌%◌, ◌^◌, ◌++◌, length, drop};
 ghost use Rattle.arrayvec.specs.ArrayVec.{array_vec_len};
 ghost use Rattle.byteorder.specs.Endian.{big_bytes};
+ghost use Rattle.mesh_base.specs.declared.limits.TheConstants.{LONGEST_PACKET};
+ghost use Rattle.mesh_capture.specs.declared.frame.TheConstants.{ROOM};
 ghost use Rattle.mesh_capture.specs.Frames as frames;
 
 use aodv_wire::is_data;
@@ -41,7 +44,7 @@ pub struct Frame {
 
 // Appends bytes.
 fn put(bytes: &[u8], out: &mut FrameBuf)
-    requires { array_vec_len out.old + length bytes.now ≤ 2048 }
+    requires { array_vec_len out.old + length bytes.now ≤ ROOM }
     ensures text { out.new.items ≡ out.old.items ++ bytes.now }
     ensures length { array_vec_len out.new ≡ array_vec_len out.old + length bytes.now }
 {
@@ -52,7 +55,7 @@ fn put(bytes: &[u8], out: &mut FrameBuf)
 
 // Appends a number of 16 bits.
 fn put_u16(n: u16, out: &mut FrameBuf)
-    requires { array_vec_len out.old + 2 ≤ 2048 }
+    requires { array_vec_len out.old + 2 ≤ ROOM }
     ensures text { out.new.items ≡ out.old.items ++ big_bytes 2 n }
     ensures length { array_vec_len out.new ≡ array_vec_len out.old + 2 }
 {
@@ -63,7 +66,7 @@ fn put_u16(n: u16, out: &mut FrameBuf)
 
 // Appends a number of 32 bits.
 fn put_u32(n: u32, out: &mut FrameBuf)
-    requires { array_vec_len out.old + 4 ≤ 2048 }
+    requires { array_vec_len out.old + 4 ≤ ROOM }
     ensures text { out.new.items ≡ out.old.items ++ big_bytes 4 n }
     ensures length { array_vec_len out.new ≡ array_vec_len out.old + 4 }
 {
@@ -85,7 +88,7 @@ fn first_word(bytes: &[u8]) -> u32
 // The sum of 16-bit words. A last byte alone is the high byte of its word.
 #[tactic(auto, using(crate::proofs::Sums::sum_one, crate::proofs::Sums::sum_none))]
 fn words_sum(bytes: &[u8]) -> u32
-    requires { length bytes.now ≤ 2048 }
+    requires { length bytes.now ≤ ROOM }
     ensures { result ≡ frames.words_sum bytes.now }
 {
     let mut sum: u32 = 0;
@@ -113,7 +116,7 @@ fn carried(sum: u32) -> u16
 
 // The checksum of the internet.
 fn checksum(bytes: &[u8]) -> u16
-    requires { length bytes.now ≤ 2048 }
+    requires { length bytes.now ≤ ROOM }
     ensures { result ≡ frames.checksum bytes.now }
 {
     65535 - carried(words_sum(bytes))
@@ -142,7 +145,7 @@ fn port_of(packet: &[u8]) -> u16
 /// Appends the header of the file.
 #[tactic(auto, unfolding(crate::specs::Frames::file_header))]
 pub fn put_file_header(out: &mut FrameBuf)
-    requires { array_vec_len out.old + 24 ≤ 2048 }
+    requires { array_vec_len out.old + 24 ≤ ROOM }
     ensures { out.new.items ≡ out.old.items ++ frames.file_header }
 {
     put_u32(0xa1b2_c3d4, out);
@@ -157,7 +160,7 @@ pub fn put_file_header(out: &mut FrameBuf)
 impl Frame {
     // How many bytes the datagram has.
     fn datagram_size(&self) -> u16
-        requires { length self.now.packet ≤ 1604 }
+        requires { length self.now.packet ≤ LONGEST_PACKET }
         ensures { result ≡ frames.datagram_size self.now }
     {
         8 + self.packet.as_slice().len() as u16
@@ -165,7 +168,7 @@ impl Frame {
 
     // How many bytes the packet has.
     fn packet_size(&self) -> u16
-        requires { length self.now.packet ≤ 1604 }
+        requires { length self.now.packet ≤ LONGEST_PACKET }
         ensures { result ≡ frames.packet_size self.now }
     {
         20 + self.datagram_size()
@@ -195,8 +198,8 @@ impl Frame {
 
     // Appends the datagram with this checksum.
     fn put_datagram_with(&self, sum: u16, out: &mut FrameBuf)
-        requires short { length self.now.packet ≤ 1604 }
-        requires room { array_vec_len out.old + frames.datagram_size self.now ≤ 2048 }
+        requires short { length self.now.packet ≤ LONGEST_PACKET }
+        requires room { array_vec_len out.old + frames.datagram_size self.now ≤ ROOM }
         ensures text { out.new.items ≡ out.old.items ++ frames.datagram_with sum self.now }
         ensures length { array_vec_len out.new
             ≡ array_vec_len out.old + frames.datagram_size self.now }
@@ -212,8 +215,8 @@ impl Frame {
 
     // Appends what the checksum of the datagram covers besides.
     fn put_pseudo_header(&self, out: &mut FrameBuf)
-        requires short { length self.now.packet ≤ 1604 }
-        requires room { array_vec_len out.old + 12 ≤ 2048 }
+        requires short { length self.now.packet ≤ LONGEST_PACKET }
+        requires room { array_vec_len out.old + 12 ≤ ROOM }
         ensures text { out.new.items ≡ out.old.items ++ frames.pseudo_header self.now }
         ensures length { array_vec_len out.new ≡ array_vec_len out.old + 12 }
     {
@@ -225,8 +228,8 @@ impl Frame {
 
     // Appends the header of the packet with this checksum.
     fn put_header_with(&self, sum: u16, out: &mut FrameBuf)
-        requires short { length self.now.packet ≤ 1604 }
-        requires room { array_vec_len out.old + 20 ≤ 2048 }
+        requires short { length self.now.packet ≤ LONGEST_PACKET }
+        requires room { array_vec_len out.old + 20 ≤ ROOM }
         ensures text { out.new.items ≡ out.old.items ++ frames.header_with sum self.now }
         ensures length { array_vec_len out.new ≡ array_vec_len out.old + 20 }
     {
@@ -241,9 +244,9 @@ impl Frame {
 
     // Appends what stands before the packet in the file: its time and its sizes.
     fn put_record(&self, out: &mut FrameBuf)
-        requires short { length self.now.packet ≤ 1604 }
+        requires short { length self.now.packet ≤ LONGEST_PACKET }
         requires soon { self.now.event / 1000 < 2 ^ 32 }
-        requires room { array_vec_len out.old + 16 ≤ 2048 }
+        requires room { array_vec_len out.old + 16 ≤ ROOM }
         ensures text { out.new.items ≡ out.old.items ++ frames.record_header self.now }
         ensures length { array_vec_len out.new ≡ array_vec_len out.old + 16 }
     {
@@ -256,7 +259,7 @@ impl Frame {
 
     // The checksum of the datagram, which is put together for it.
     fn datagram_checksum(&self, scratch: &mut FrameBuf) -> u16
-        requires { length self.now.packet ≤ 1604 }
+        requires { length self.now.packet ≤ LONGEST_PACKET }
         ensures { result ≡ frames.datagram_checksum self.now }
     {
         scratch.clear();
@@ -267,7 +270,7 @@ impl Frame {
 
     // The checksum of the header, which is put together for it.
     fn header_checksum(&self, scratch: &mut FrameBuf) -> u16
-        requires { length self.now.packet ≤ 1604 }
+        requires { length self.now.packet ≤ LONGEST_PACKET }
         ensures { result ≡ frames.checksum (frames.header_with 0 self.now) }
     {
         scratch.clear();
@@ -277,9 +280,9 @@ impl Frame {
 
     // Appends the packet with these checksums, as it stands in the file.
     fn put_with(&self, header: u16, datagram: u16, out: &mut FrameBuf)
-        requires short { length self.now.packet ≤ 1604 }
+        requires short { length self.now.packet ≤ LONGEST_PACKET }
         requires soon { self.now.event / 1000 < 2 ^ 32 }
-        requires room { array_vec_len out.old + 44 + length self.now.packet ≤ 2048 }
+        requires room { array_vec_len out.old + 44 + length self.now.packet ≤ ROOM }
         ensures { out.new.items ≡ out.old.items ++ frames.record_header self.now
             ++ frames.header_with header self.now ++ frames.datagram_with datagram self.now }
     {
@@ -288,12 +291,12 @@ impl Frame {
         self.put_datagram_with(datagram, out);
     }
 
-    /// Puts the packet as it stands in the file in the place of what the buffer holds. The packet of
-    /// the copy has at most 1604 bytes, and the event's number in milliseconds is less than 2^32
-    /// seconds.
+    /// Puts the packet as it stands in the file in the place of what the buffer holds. The
+    /// packet of the copy is one that a mesh may send, and the event's number in milliseconds is
+    /// less than 2^32 seconds.
     #[tactic(auto, unfolding(crate::specs::Frames::framed, crate::specs::Frames::header, crate::specs::Frames::datagram))]
     pub fn put_into(&self, out: &mut FrameBuf)
-        requires short { length self.now.packet ≤ 1604 }
+        requires short { length self.now.packet ≤ LONGEST_PACKET }
         requires soon { self.now.event / 1000 < 2 ^ 32 }
         ensures { out.new.items ≡ frames.framed self.now }
     {

@@ -1,8 +1,10 @@
 //! What is written.
 ghost use Rattle.std.specs.Prelude.{◌≡◌, ◌≤◌, ◌<◌, ◌/◌, ◌^◌, length};
+ghost use Rattle.mesh_base.specs.declared.limits.TheConstants.{LONGEST_PACKET};
 ghost use Rattle.mesh_io.specs.Cause.{HasCause};
 ghost use Rattle.mesh_io.specs.Puts.{Puts};
 ghost use Rattle.mesh_capture.specs.Frames.{file_header, framed};
+ghost use Rattle.mesh_capture.specs.Kept.{most_lines};
 ghost use Rattle.mesh_capture.specs.Told.{bad_line};
 
 use crate::frame::{Frame, FrameBuf, put_file_header};
@@ -22,8 +24,8 @@ pub fn put_header<O: Sink>(buf: &mut FrameBuf, out: &mut O) -> Result<(), PutFau
 
 /// Writes the packet of a copy, over the buffer. The copy is one that `put_into` takes.
 pub fn put_frame<O: Sink>(frame: &Frame, buf: &mut FrameBuf, out: &mut O) -> Result<(), PutFault>
-    requires short { length frame.now.packet ≤ 1604 }
-    requires soon { frame.now.event ≤ 2 ^ 40 }
+    requires short { length frame.now.packet ≤ LONGEST_PACKET }
+    requires soon { frame.now.event ≤ most_lines }
     ensures text { Puts (O.held out.old) (O.held out.new) (framed frame.now) result }
     ensures cause { HasCause (O.faults out.old) (O.faults out.new) result }
 {

@@ -1,6 +1,7 @@
 //! The lines of a printed text, one after another.
 ghost use Rattle.std.specs.Prelude.{◌≡◌, ◌≢◌, ◌≤◌, ◌<◌, ◌+◌, ◌^◌, ◌∷◌, [], List, length, Some, IfSome, IfNone};
 ghost use Rattle.std.specs.Io.KnownBytes.{Appends, IsAtEnd, Keeps};
+ghost use Rattle.mesh_base.specs.declared.limits.TheConstants.{LONGEST_PACKET};
 ghost use Rattle.mesh_io.specs.Puts.{AppendsPrefix};
 ghost use Rattle.mesh_io.specs.Cause.{HasCause};
 ghost use Rattle.mesh_io.specs.Buffering.{inner_of, held_by};
@@ -8,6 +9,7 @@ ghost use Rattle.mesh_io.specs.LongReading.{faults_of, given_of, pending_of, sou
 ghost use Rattle.mesh_io.specs.NextLines.{text_limits};
 ghost use Rattle.mesh_printed.specs.Pieces.{Piece, Whole, pieces_within};
 ghost use Rattle.mesh_capture.specs.Copies.{nothing_read};
+ghost use Rattle.mesh_capture.specs.Kept.{most_lines};
 ghost use Rattle.mesh_capture.specs.Captures.{captured_from, framed_if};
 ghost use Rattle.mesh_capture.specs.Told.{IsFile};
 ghost use Rattle.mesh_capture.specs.Leads.{Leads};
@@ -25,8 +27,8 @@ fn write_frame<O: Sink>(
     buf: &mut FrameBuf,
     out: &mut O,
 ) -> Option<CaptureStatus>
-    requires short { IfSome frame (λ f. length f.packet ≤ 1604) }
-    requires soon { IfSome frame (λ f. f.event ≤ 2 ^ 40) }
+    requires short { IfSome frame (λ f. length f.packet ≤ LONGEST_PACKET) }
+    requires soon { IfSome frame (λ f. f.event ≤ most_lines) }
     ensures goes { IfNone result (Appends (O.held out.old) (O.held out.new) (framed_if frame)) }
     ensures stops { IfSome result
         (λ s. AppendsPrefix (O.held out.old) (O.held out.new) (framed_if frame)) }
@@ -51,7 +53,7 @@ fn read_line<O: Sink>(
     buf: &mut FrameBuf,
     out: &mut O,
 ) -> Option<CaptureStatus>
-    requires few { copies.old.lines < 2 ^ 40 }
+    requires few { copies.old.lines < most_lines }
     ensures goes { IfNone result ((pieces : List Piece) →
         Leads (O.held out.old) (O.held out.new) (captured_from copies.new pieces)
         (captured_from copies.old (Whole line.now ∷ pieces))) }
@@ -75,7 +77,7 @@ fn read_line<O: Sink>(
 
 // Refuses the next line.
 fn past(copies: &Copies) -> CaptureStatus
-    requires { copies.now.lines ≤ 2 ^ 40 }
+    requires { copies.now.lines ≤ most_lines }
     ensures { result ≡ CaptureStatus.BadLine (copies.now.lines + 1) }
 {
     CaptureStatus::BadLine {
