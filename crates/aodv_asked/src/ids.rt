@@ -161,6 +161,10 @@ impl Ids {
         ensures keeps { self.old.room ≤ self.new.room }
         ensures refused { OnErr result (self.new ≡ self.old) }
     {
+        // Nearly always there is room, and seeing that takes no call.
+        if self.intervals.len() < self.intervals.capacity() {
+            return Ok(());
+        }
         match self.intervals.reserve(1) {
             Ok(()) => Ok(()),
             Err(_) => Err(NoMemory),

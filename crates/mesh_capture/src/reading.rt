@@ -1,11 +1,11 @@
 //! The lines of a printed text, one after another.
-ghost use Rattle.std.specs.Prelude.{◌≡◌, ◌≢◌, ◌≤◌, ◌<◌, ◌+◌, ◌^◌, ◌∷◌, [], List, length, Some, IfSome, IfNone};
+ghost use Rattle.std.specs.Prelude.{◌≡◌, ◌≢◌, ◌≤◌, ◌<◌, ◌+◌, ◌^◌, ◌∷◌, [], List, length, true, false, Some, IfSome, IfNone, OnOk};
 ghost use Rattle.std.specs.Io.KnownBytes.{Appends, IsAtEnd, Keeps};
 ghost use Rattle.mesh_base.specs.declared.limits.TheConstants.{LONGEST_PACKET};
 ghost use Rattle.mesh_io.specs.Puts.{AppendsPrefix};
 ghost use Rattle.mesh_io.specs.Cause.{HasCause};
-ghost use Rattle.mesh_io.specs.Buffering.{inner_of, held_by};
-ghost use Rattle.mesh_io.specs.LongReading.{faults_of, given_of, pending_of, source_of};
+ghost use Rattle.mesh_io.specs.Buffering.{inner_of, gathered_in, held_by};
+ghost use Rattle.mesh_io.specs.LongReading.{faults_of, given_of, is_decided_at, pending_of, source_of};
 ghost use Rattle.mesh_io.specs.NextLines.{text_limits};
 ghost use Rattle.mesh_printed.specs.Pieces.{Piece, Whole, pieces_within};
 ghost use Rattle.mesh_capture.specs.Copies.{nothing_read};
@@ -85,12 +85,15 @@ fn past(copies: &Copies) -> CaptureStatus
     }
 }
 
-// Hands on what is gathered, unless the next answer needs no read.
+// Hands on what is gathered, unless the next answer needs no read: nothing is awaited then, and
+// nothing changes.
 fn hand_on<I: Source, O: Sink>(
     lines: &LongLines<'_, I>,
     out: &mut Buffered<O>,
 ) -> Result<(), PutFault>
     ensures held { Keeps (held_by O.held out.old) (held_by O.held out.new) }
+    ensures handed_on { is_decided_at lines.now ≡ false → OnOk result (gathered_in out.new ≡ []) }
+    ensures same { is_decided_at lines.now ≡ true → out.new ≡ out.old }
     ensures cause { HasCause (O.faults (inner_of out.old)) (O.faults (inner_of out.new)) result }
 {
     if lines.is_decided() {
