@@ -17,7 +17,8 @@ use Rattle.aodv_handlers.specs.Shown.{core_of}
 
 -- no counter stood in the way, and the effect, the new core and the packet are those of the model's
 -- reaction
-pub record IsMade (mesh : Nodes) (full : Option Counter) (reaction : Reaction) (effect : effects.Effect) (new : Core) (out : List ℕ) : Type 0 where
+pub record IsMade (mesh : Nodes) (full : Option Counter) (reaction : Reaction)
+    (effect : effects.Effect) (new : Core) (out : List ℕ) : Type 0 where
   pub free : full ≡ None
   pub did : effect ≡ effect_of reaction.effect
   pub core : new ≡ reaction.core
@@ -30,7 +31,8 @@ pub record IsFull (full : Option Counter) (old : Core) (field : Counter) (new : 
 
 -- what was done in the core `old`, from the answer, the core after it and the packet that is cast:
 -- this reaction, or nothing, since the reaction would overfill the field `full`
-abbrev pub IsReaction : Nodes → Option Counter → Core → Reaction → Result effects.Effect Counter → Core
+abbrev pub IsReaction : Nodes → Option Counter → Core → Reaction → Result effects.Effect Counter
+    → Core
     → List ℕ → Type 0
 IsReaction mesh full old reaction (Ok effect) new out = IsMade mesh full reaction effect new out
 IsReaction mesh full old reaction (Err field) new out = IsFull full old field new
@@ -71,7 +73,8 @@ abbrev pub Sends : {T : Type 0} → (T → Table) → Nodes → NodeIds → ℕ
     → code.Core T → Result effects.Effect Counter → code.Core T → List ℕ → Type 0
 Sends entries mesh range d old answer new out =
     let core = core_of entries old in
-    IsReaction mesh (send_full core range d) core (send core range d) answer (core_of entries new) out
+    IsReaction mesh (send_full core range d) core (send core range d) answer
+    (core_of entries new) out
 
 -- the core `old` asks for a route to d
 abbrev pub Asks : {T : Type 0} → (T → Table) → Nodes → ℕ

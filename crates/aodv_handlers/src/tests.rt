@@ -18,7 +18,8 @@ use mesh_base::{Addr, Bytes, Cast, Effect, Mesh, NoMemory, NodeSet, Packet, Vari
 use std::alloc::Global;
 use std::test::Fail;
 
-// What 10.0.0.1, which reaches 10.0.0.2 alone, casts for a route to 10.0.0.3, and what is cast then.
+// What 10.0.0.1, which reaches 10.0.0.2 alone, casts for a route to 10.0.0.3, and what is cast
+// then.
 const ASKED: &[u8] = b"\x01\x08\0\0\0\0\0\x01\x0a\0\0\x03\0\0\0\0\x0a\0\0\x01\0\0\0\x02";
 
 const ASKED_ON: &[u8] = b"\x01\x08\0\x01\0\0\0\x01\x0a\0\0\x03\0\0\0\0\x0a\0\0\x01\0\0\0\x02";

@@ -69,7 +69,9 @@ variant_code =
 abbrev pub entry_code : Coded Entry
 entry_code =
     code_by (ℕ × (Known × (Flag × (ℕ × (ℕ × NodeIds)))))
-    (coded× coded_ℕ (coded× known_code (coded× flag_code (coded× coded_ℕ (coded× coded_ℕ (sets.code coded_ℕ))))))
+    (coded× coded_ℕ
+    (coded× known_code
+    (coded× flag_code (coded× coded_ℕ (coded× coded_ℕ (sets.code coded_ℕ))))))
     (λ e. (e.dsn, (e.dsk, (e.flag, (e.hops, (e.next, e.pre))))))
     (λ p. record { dsn = p.0; dsk = p.1.0; flag = p.1.1.0; hops = p.1.1.1.0; next = p.1.1.1.1.0; pre = p.1.1.1.1.1 })
     (λ _. refl)
@@ -82,7 +84,9 @@ table_code = maps.code coded_ℕ entry_code
 abbrev pub request_code : Coded RouteRequest
 request_code =
     code_by (ℕ × (ℕ × (ℕ × (ℕ × (Known × (ℕ × ℕ))))))
-    (coded× coded_ℕ (coded× coded_ℕ (coded× coded_ℕ (coded× coded_ℕ (coded× known_code (coded× coded_ℕ coded_ℕ))))))
+    (coded× coded_ℕ
+    (coded× coded_ℕ
+    (coded× coded_ℕ (coded× coded_ℕ (coded× known_code (coded× coded_ℕ coded_ℕ))))))
     (λ m. (m.hops, (m.id, (m.dip, (m.dsn, (m.dsk, (m.oip, m.osn)))))))
     (λ p. record { hops = p.0; id = p.1.0; dip = p.1.1.0; dsn = p.1.1.1.0; dsk = p.1.1.1.1.0; oip = p.1.1.1.1.1.0; osn = p.1.1.1.1.1.1 })
     (λ _. refl)
@@ -120,7 +124,9 @@ message_back (Rerr dests) = refl
 abbrev pub message_code : Coded Message
 message_code =
     code_by Parts
-    (coded⊎ (coded× (coded_list coded_ℕ) (coded× coded_ℕ coded_ℕ)) (coded⊎ request_code (coded⊎ reply_code (maps.code coded_ℕ coded_ℕ)))) parts message_of message_back
+    (coded⊎ (coded× (coded_list coded_ℕ) (coded× coded_ℕ coded_ℕ))
+    (coded⊎ request_code
+    (coded⊎ reply_code (maps.code coded_ℕ coded_ℕ)))) parts message_of message_back
 
 abbrev item_parts : Item → (Body × ℕ) ⊎ (ℕ × Message)
 item_parts (New b d) = inl (b, d)
@@ -138,7 +144,8 @@ item_back (Heard from m) = refl
 abbrev pub item_code : Coded Item
 item_code =
     code_by ((Body × ℕ) ⊎ (ℕ × Message))
-    (coded⊎ (coded× (coded_list coded_ℕ) coded_ℕ) (coded× coded_ℕ message_code)) item_parts item_of item_back
+    (coded⊎ (coded× (coded_list coded_ℕ) coded_ℕ)
+    (coded× coded_ℕ message_code)) item_parts item_of item_back
 
 -- of waiting data
 abbrev pub waiting_code : Coded Waiting
@@ -155,7 +162,9 @@ pairs_code = sets.code (coded× coded_ℕ coded_ℕ)
 abbrev pub core_code : Coded Core
 core_code =
     code_by (ℕ × (Variant × (ℕ × (Table × (Pairs × Store)))))
-    (coded× coded_ℕ (coded× variant_code (coded× coded_ℕ (coded× table_code (coded× pairs_code (maps.code coded_ℕ waiting_code))))))
+    (coded× coded_ℕ
+    (coded× variant_code
+    (coded× coded_ℕ (coded× table_code (coded× pairs_code (maps.code coded_ℕ waiting_code))))))
     (λ c. (c.ip, (c.variant, (c.sn, (c.rt, (c.seen, c.store))))))
     (λ p. record { ip = p.0; variant = p.1.0; sn = p.1.1.0; rt = p.1.1.1.0; seen = p.1.1.1.1.0; store = p.1.1.1.1.1 })
     (λ _. refl)

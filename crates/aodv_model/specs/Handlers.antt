@@ -386,7 +386,8 @@ drop_if_sent reaction d =
 unfoldable pub send : Core → NodeIds → ℕ → Reaction
 send core range d =
     drop_if_sent
-    (unicast core (Pkt (first_body (bodies_in (maps.get core.store d))) d core.ip) (nhop core.rt d) range) d
+    (unicast core (Pkt (first_body (bodies_in (maps.get core.store d))) d core.ip)
+    (nhop core.rt d) range) d
 
 -- ---- a request of the node's own (AWN's AODV, where it initiates a route discovery; RFC 3561, section 6.3)
 

@@ -1,5 +1,5 @@
-//! What a table does with an entry that comes, and with a number that can't be raised: over both kinds
-//! of table.
+//! What a table does with an entry that comes, and with a number that can't be raised: over both
+//! kinds of table.
 ghost use Rattle.std.specs.Prelude.{◌≡◌, ◌<◌};
 ghost use Rattle.aodv_entry.specs.declared.entry.Flag.TheVariants.{Val};
 
@@ -53,8 +53,8 @@ fn raised() -> Entry {
     entry(6, Known::Kno, Flag::Inv, 3, 1)
 }
 
-// r comes for a destination that has that entry, or none: whether the table says that it changed, the
-// entry that is then there, and whether the destination is valid.
+// r comes for a destination that has that entry, or none: whether the table says that it changed,
+// the entry that is then there, and whether the destination is valid.
 fn updated<T: Table>(
     mut table: T,
     before: Option<Entry>,
@@ -69,8 +69,8 @@ fn updated<T: Table>(
     Ok((changed, table.get(3), table.valid().has(3)))
 }
 
-// A table with two entries by node 2, the later of them with the greatest number: the destinations by
-// node 2 and by node 3, and what it answers for the numbers raised.
+// A table with two entries by node 2, the later of them with the greatest number: the destinations
+// by node 2 and by node 3, and what it answers for the numbers raised.
 fn searched<T: Table>(mut table: T) -> Result<(NodeSet, NodeSet, Result<(), usize>), NoMemory>
     requires { T.nodes table ≡ 10 }
 {

@@ -43,8 +43,11 @@ found b f = number_at b (table f)
 
 -- the pair of address and number in the first eight bytes
 abbrev pub pair : List ℕ → Addr × ℕ
-pair b =
-    (record { 0 = number_at b (pair_table UnreachableAddress) }, number_at b (pair_table UnreachableNumber))
+pair b = (
+  record { 0 = number_at b (pair_table UnreachableAddress) },
+  number_at b
+      (pair_table UnreachableNumber),
+)
 
 -- n pairs, one after the other
 abbrev pub pairs : ℕ → List ℕ → List (Addr × ℕ)

@@ -28,7 +28,8 @@ table Lifetime = place 4 0 32
 
 abbrev pub fields : List Field
 fields =
-    Kind ∷ R ∷ A ∷ Reserved ∷ PrefixSize ∷ HopCount ∷ DestinationAddress ∷ DestinationNumber ∷ OriginatorAddress ∷ Lifetime ∷ []
+    Kind ∷ R ∷ A ∷ Reserved ∷ PrefixSize ∷ HopCount ∷ DestinationAddress ∷ DestinationNumber
+    ∷ OriginatorAddress ∷ Lifetime ∷ []
 
 -- reading: what the bytes have in a field
 abbrev pub found : List ℕ → Field → ℕ

@@ -32,7 +32,8 @@ table OriginatorNumber = place 5 0 32
 
 abbrev pub fields : List Field
 fields =
-    Kind ∷ J ∷ R ∷ G ∷ D ∷ U ∷ Reserved ∷ HopCount ∷ RreqId ∷ DestinationAddress ∷ DestinationNumber ∷ OriginatorAddress ∷ OriginatorNumber ∷ []
+    Kind ∷ J ∷ R ∷ G ∷ D ∷ U ∷ Reserved ∷ HopCount ∷ RreqId ∷ DestinationAddress ∷ DestinationNumber
+    ∷ OriginatorAddress ∷ OriginatorNumber ∷ []
 
 -- reading: what the bytes have in a field
 abbrev pub found : List ℕ → Field → ℕ

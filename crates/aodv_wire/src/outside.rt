@@ -1,13 +1,13 @@
-//! Packets that another implementation has sent, the AODV model of ns-3.37 with 16 moving nodes, and
-//! what the formats make of each.
+//! Packets that another implementation has sent, the AODV model of ns-3.37 with 16 moving nodes,
+//! and what the formats make of each.
 ghost use Rattle.std.specs.Prelude.{◌≤◌};
 
 use super::{Message, RerrView, read};
 use mesh_base::Addr;
 use std::test::Fail;
 
-// In each line the bytes of a packet in hexadecimal digits, and what they are: a message, or why they
-// are none.
+// In each line the bytes of a packet in hexadecimal digits, and what they are: a message, or why
+// they are none.
 const PACKETS: &str = "\
 01280000000000010a000010000000000a00000100000001 OutsideProfile
 01280001000000020a000010000000000a00000100000002 OutsideProfile

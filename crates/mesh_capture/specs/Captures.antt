@@ -6,7 +6,8 @@ use Rattle.mesh_capture.specs.declared.frame.Frame.{Frame}
 use Rattle.mesh_capture.specs.Frames.{framed, file_header}
 use Rattle.mesh_capture.specs.Copies.{Reading, Told, nothing_read, after_line}
 
--- the file, and the number of the line that is refused, if one is: it holds what the lines above tell
+-- the file, and the number of the line that is refused, if one is: it holds what the lines above
+-- tell
 pub record Capture : Type 0 where
   pub file : List ℕ
   pub refused : Option ℕ

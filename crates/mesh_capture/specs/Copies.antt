@@ -1,5 +1,5 @@
--- What the lines of a printed text tell of copies: which are in flight, with which packet, and which
--- are heard or lost. Effects, which begin with two spaces, are those of the event above them.
+-- What the lines of a printed text tell of copies: which are in flight, with which packet, and
+-- which are heard or lost. Effects, which begin with two spaces, are those of the event above them.
 use Rattle.std.specs.Prelude.{ℕ, ◌+◌, Bool, true, false, ◌||◌, if◌then◌else◌, List, [], ◌∷◌, take, drop, Option, Some, None, option_and_then, option_map, Result, Ok, Err, codes, length, nat_le, ◌&&◌, is_some}
 use Rattle.std.specs.List.{list_any}
 use Rattle.std.specs.Str.{bytes_eq}
@@ -65,8 +65,8 @@ is_all kind = bytes_eq kind (codes "all")
 abbrev pub has_receivers : List ℕ → Bool
 has_receivers kind = is_one_of (codes "one" ∷ codes "many" ∷ []) kind
 
--- the words after `sent`: `all HEX`, or `one ADDR HEX` and `many LIST HEX`, whose receivers the copies
--- below tell
+-- the words after `sent`: `all HEX`, or `one ADDR HEX` and `many LIST HEX`, whose receivers the
+-- copies below tell
 abbrev pub cast_packet : List (List ℕ) → Option (List ℕ)
 cast_packet (kind ∷ hex ∷ []) = if is_all kind then packet_of hex else None
 cast_packet (kind ∷ receivers ∷ hex ∷ []) = if has_receivers kind then packet_of hex else None
@@ -180,7 +180,8 @@ is_edge word =
 abbrev pub is_no_event : List ℕ → Bool
 is_no_event word =
     is_edge word
-    || is_one_of (codes "auto" ∷ codes "show" ∷ codes "route" ∷ codes "flight" ∷ codes "move" ∷ []) word
+    || is_one_of (codes "auto" ∷ codes "show" ∷ codes "route" ∷ codes "flight" ∷ codes "move"
+    ∷ []) word
 
 -- a line that is an event, or none
 abbrev pub after_outer : Reading → Bool → Option Below → Option Told

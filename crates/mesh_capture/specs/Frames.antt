@@ -1,5 +1,5 @@
--- What a capture holds of a copy that was heard or lost: its packet as a UDP datagram (RFC 768) from
--- its sender to its receiver, in an IPv4 packet (RFC 791). All numbers are big-endian.
+-- What a capture holds of a copy that was heard or lost: its packet as a UDP datagram (RFC 768)
+-- from its sender to its receiver, in an IPv4 packet (RFC 791). All numbers are big-endian.
 use Rattle.std.specs.Prelude.{ℕ, zero, suc, ◌+◌, ◌-◌, ◌*◌, ◌/◌, ◌%◌, Bool, if◌then◌else◌, List, [], ◌∷◌, ◌++◌, length}
 use Rattle.byteorder.specs.Endian.{big_bytes}
 use Rattle.aodv_wire.specs.Spells.{is_data}
@@ -80,8 +80,8 @@ file_header =
     big_bytes 4 2712847316 ++ big_bytes 2 2 ++ big_bytes 2 4 ++ big_bytes 4 0 ++ big_bytes 4 0
     ++ big_bytes 4 65535 ++ big_bytes 4 LINK_TYPE
 
--- before a packet in the file: the seconds and microseconds of its time, which is the event's number
--- in milliseconds, how much of it there is and how much there was
+-- before a packet in the file: the seconds and microseconds of its time, which is the event's
+-- number in milliseconds, how much of it there is and how much there was
 abbrev pub record_header : Frame → List ℕ
 record_header f =
     big_bytes 4 (f.event / 1000) ++ big_bytes 4 (1000 * (f.event % 1000))

@@ -1,5 +1,5 @@
--- What is kept while a text is read: no packet is longer than a mesh may send, and the lines are few enough for
--- their times. Of these only the number of lines stands in a public contract.
+-- What is kept while a text is read: no packet is longer than a mesh may send, and the lines are
+-- few enough for their times. Of these only the number of lines stands in a public contract.
 use Rattle.std.specs.Prelude.{ℕ, ◌≤◌, ◌^◌, List, [], ◌∷◌, length, Some, None, ⊤}
 use Rattle.mesh_base.specs.declared.limits.TheConstants.{LONGEST_PACKET}
 use Rattle.mesh_capture.specs.declared.copies.Below.{Below}

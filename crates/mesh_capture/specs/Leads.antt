@@ -8,7 +8,8 @@ use Rattle.mesh_capture.specs.Told.{IsFile, bad_line}
 use Rattle.mesh_capture.specs.declared.status.CaptureStatus.{CaptureStatus}
 use Rattle.mesh_capture.specs.declared.status.CaptureStatus.TheVariants.{Done, Usage, BadLine, ReadFault, WriteFault, NoMemory}
 
--- whatever is written and answered of the rest, from what is held on, is so of the whole from before
+-- whatever is written and answered of the rest, from what is held on, is so of the whole from
+-- before
 abbrev pub Leads : Option (List ℕ) → Option (List ℕ) → Capture → Capture → Type 0
 Leads before held rest whole =
     (now : Option (List ℕ)) (s : CaptureStatus) → IsFile held now rest s

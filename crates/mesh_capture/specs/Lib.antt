@@ -13,8 +13,8 @@ pub mod Causes
 pub mod Codes
 -- Laws: what a receiver of a packet checks.
 pub mod Laws
--- Words, Kept and Leads: the words of a line, what is kept of packets, and how what is written goes on.
--- No public contract cites them.
+-- Words, Kept and Leads: the words of a line, what is kept of packets, and how what is written goes
+-- on. No public contract cites them.
 pub mod Words
 pub mod Kept
 pub mod Leads

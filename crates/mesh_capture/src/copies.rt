@@ -386,8 +386,8 @@ impl Copies {
         Ok(())
     }
 
-    /// Reads one more line: the copy that it ends, if it does. After an error nothing is said of the
-    /// copies.
+    /// Reads one more line: the copy that it ends, if it does. After an error nothing is said of
+    /// the copies.
     #[tactic(auto, unfolding(crate::specs::Copies::after_line))]
     pub fn read(&mut self, line: &[u8]) -> Result<Option<Frame>, ReadError>
         requires { self.old.lines < most_lines }

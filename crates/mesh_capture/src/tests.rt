@@ -4,13 +4,14 @@ use mesh_base::Bytes;
 use mesh_io::{MemSink, MemSource};
 use std::test::Fail;
 
-// The bytes below were put together by another program, from the formats' own documents, and read by a
-// dissector.
+// The bytes below were put together by another program, from the formats' own documents, and read
+// by a dissector.
 
 // The header of a file.
 const HEADER: &str = "a1b2c3d40002000400000000000000000000ffff000000e4";
 
-// The text of a run with a request that is heard, a copy of it that is doubled and lost, and a datum.
+// The text of a run with a request that is heard, a copy of it that is doubled and lost, and a
+// datum.
 const TEXT: &str =
     "ask 10.0.0.1 10.0.0.3\n  sent all 01080000000000010a000003000000000a00000100000002\n  copy 1 10.0.0.2\n  copy 2 10.0.0.4\ndeliver 1\n  heard 10.0.0.1 10.0.0.2\nflight\n  copy 2 10.0.0.1 10.0.0.4 01080000000000010a000003000000000a00000100000002\ncopy 2\n  copy 3 10.0.0.4\nlose 2\n  lost 10.0.0.1 10.0.0.4\nsend 10.0.0.1 10.0.0.2\n  sent one 10.0.0.2 100000000a0000020a00000168\n  copy 4 10.0.0.2\ndeliver 4\n  heard 10.0.0.1 10.0.0.2\n";
 
@@ -21,8 +22,8 @@ const PACKETS: [&str; 3] = [
     "000000000000177000000029000000294500002900000000401166c20a0000010a000002c1f6c1f60015dbd0100000000a0000020a00000168",
 ];
 
-// The capture of a text that is read 7 bytes at a time and written 5 bytes at a time: the status, what
-// is said, and whether the file is the header and these packets.
+// The capture of a text that is read 7 bytes at a time and written 5 bytes at a time: the status,
+// what is said, and whether the file is the header and these packets.
 fn is_captured(
     rt: &HostRuntime,
     text: &str,

@@ -67,7 +67,8 @@ fn write_all<I: Source, O: Sink>(
     }
 }
 
-// Writes the capture of a source into a buffer, and hands on what is gathered, unless a write failed.
+// Writes the capture of a source into a buffer, and hands on what is gathered, unless a write
+// failed.
 fn write_gathered<I: Source, O: Sink>(
     alloc: Global,
     input: &mut I,
@@ -143,11 +144,12 @@ fn refuse<E: Sink>(line: u64, errors: &mut E) -> CaptureStatus
 }
 
 /// Writes to `out` the capture of the printed text that the source gives: one packet for each copy
-/// that was heard or lost. Where a line is refused, `out` has the capture of the lines above it, and
+/// that was heard or lost. Where a line is refused, `out` has the capture of the lines above it,
+/// and
 /// `errors` a line `bad line N`.
 ///
-/// What is written to `out` is gathered in a buffer of 65536 bytes, and handed on when that is full,
-/// before each read of the source, and at the end, unless a write has failed.
+/// What is written to `out` is gathered in a buffer of 65536 bytes, and handed on when that is
+/// full, before each read of the source, and at the end, unless a write has failed.
 pub fn capture<I: Source, O: Sink, E: Sink>(
     alloc: Global,
     words: &[&str],
@@ -160,8 +162,8 @@ pub fn capture<I: Source, O: Sink, E: Sink>(
     ensures untouched_with_a_word { result ≡ CaptureStatus.Usage
         → (input.new ≡ input.old) × (out.new ≡ out.old) × (errors.new ≡ errors.old) }
 
-    // What is written is the capture of the text, and the answer its verdict. After a failed read or
-    // write, or want of memory, it is a prefix of that file.
+    // What is written is the capture of the text, and the answer its verdict. After a failed read
+    // or write, or want of memory, it is a prefix of that file.
     ensures file_of_the_text { length words.now ≡ 0 → IfSome (I.left input.old) (λ text.
         IsFile (O.held out.old) (O.held out.new) (capture_of text) result) }
 

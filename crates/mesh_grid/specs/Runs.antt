@@ -34,7 +34,8 @@ unfoldable pub events_from : ℕ → Moment → List Piece → List Event
 events_from reach m [] = []
 events_from reach m (piece ∷ pieces) =
     events_of_piece reach m piece
-    ++ runs.events_after (outcome_of_piece reach m piece) (λ n. events_from reach (next m piece n) pieces)
+    ++ runs.events_after (outcome_of_piece reach m piece)
+    (λ n. events_from reach (next m piece n) pieces)
 
 unfoldable pub events_of_input : ℕ → Variant → List ℕ → List Event
 events_of_input reach variant input = events_from reach (opening variant) (pieces_of_input input)

@@ -86,7 +86,8 @@ next m piece n = record { run = n; places = places_after m piece }
 unfoldable pub text_from : ℕ → Moment → List Piece → text.Written
 text_from reach m [] = text.finished_run m.run
 text_from reach m (piece ∷ pieces) =
-    text.goes_on m.run (outcome_of_piece reach m piece) (λ n. text_from reach (next m piece n) pieces)
+    text.goes_on m.run (outcome_of_piece reach m piece)
+    (λ n. text_from reach (next m piece n) pieces)
 
 -- what a run with places writes for an input from a moment on, and what it comes to
 abbrev pub text_on : ℕ → Moment → List ℕ → text.Written

@@ -132,8 +132,8 @@ impl Maker {
     }
 
     /// The next line. The text of a datum stands in `text`. At a moment to which a run of the lines
-    /// before it has come the line is allowed, and the text that is still to come is run by doing it
-    /// and running what then is still to come.
+    /// before it has come the line is allowed, and the text that is still to come is run by doing
+    /// it and running what then is still to come.
     pub fn next_line<'a>(&mut self, text: &'a mut LineBuf) -> Line<'a>
         requires making { IsMaking self.old }
         requires more { is_done self.old ≡ false }

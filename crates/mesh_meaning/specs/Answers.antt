@@ -78,7 +78,8 @@ IsCastWritten mesh (casts.Many s) packet = AreBelow (length mesh) s × IsPacketI
 IsCastWritten mesh casts.All packet = IsPacketInMesh mesh packet
 
 -- an effect, and the copies of its cast
-pub record IsEffectInMesh (mesh : Nodes) (e : effects.Effect) (air : Air) (packet : List ℕ) : Type 0 where
+pub record IsEffectInMesh (mesh : Nodes) (e : effects.Effect) (air : Air)
+    (packet : List ℕ) : Type 0 where
   pub broken : IfSome e.broken (λ y. y < length mesh)
   pub cast : IsCastWritten mesh e.cast packet
   pub receivers : AreBelow (length mesh) air.to

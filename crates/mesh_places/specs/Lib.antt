@@ -1,7 +1,8 @@
 -- Read in this order.
 -- Words: the reach that the words of a command line ask for.
 pub mod Words
--- Told: what was told of a run with places. This is what the contract of the top call cites beside the definitions of mesh_grid.
+-- Told: what was told of a run with places. This is what the contract of the top call cites beside
+-- the definitions of mesh_grid.
 pub mod Told
 -- The other says what the parts of a run do.
 -- Moments: a moment of a run with places, and what was told of one line.

@@ -23,7 +23,9 @@ change_lines mesh es = flat_map (change_line mesh) es
 
 -- what stands below a line about a place: the changes that follow, or `idle`
 abbrev pub below : ℕ → Moment → Placing → List ℕ
-below reach m new = if may_come m.places new then change_lines m.run.mesh (changes reach m new) else line (codes "  idle")
+below reach m new =
+    if may_come m.places new then change_lines m.run.mesh (changes reach m new) else line
+    (codes "  idle")
 
 -- a link of two nodes of the mesh comes or goes
 abbrev pub IsChange : ℕ → Event → Type 0
@@ -38,7 +40,8 @@ IsWant stop.NoMemory = ⊤
 IsWant others = ⊥
 
 -- what was told of a line, from moment m to moment n
-pub record IsRunOfLine (reach : ℕ) (m n : Moment) (bytes : List ℕ) (before now : Option (List ℕ)) (result : Result (Unit {0}) Stop) : Type 0 where
+pub record IsRunOfLine (reach : ℕ) (m n : Moment) (bytes : List ℕ) (before now : Option (List ℕ))
+    (result : Result (Unit {0}) Stop) : Type 0 where
   pub comes : IsLineRun false m.run (outcome_of_piece reach m (Whole bytes)) n.run before now result
   pub places : OnOk result (n.places ≡ places_after m (Whole bytes))
   pub lines : OnOk result (n.run.lines ≡ m.run.lines + 1)

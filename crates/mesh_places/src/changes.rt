@@ -131,8 +131,8 @@ fn do_changes<O: Sink>(
     Ok(())
 }
 
-/// Does what follows from a line about a place, and writes it below the line: the changes, or `idle`
-/// where the node may not come there.
+/// Does what follows from a line about a place, and writes it below the line: the changes, or
+/// `idle` where the node may not come there.
 pub fn do_coming<O: Sink>(
     alloc: Global,
     at: &mut Placed,

@@ -5,7 +5,8 @@ ghost use Rattle.mesh_places.specs.Words.{reach_in, reach_of};
 use mesh_base::number_up_to;
 use mesh_grid::GREATEST_PLACE;
 
-// The reach that a word spells: a number from 1 to 1000000 in decimal digits without a leading zero.
+// The reach that a word spells: a number from 1 to 1000000 in decimal digits without a leading
+// zero.
 fn reach_in(word: &str) -> Option<u32>
     ensures { result ≡ reach_in word.now }
 {

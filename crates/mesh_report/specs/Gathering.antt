@@ -10,5 +10,7 @@ pub record Gathers (before now : Option (List ℕ)) (pending text : List ℕ) : 
   pub grown : Appends before now prefix
 
 -- at Ok the text is put up to what is pending, and at Err a prefix of it is put
-abbrev pub MakesRoom : {T E : Type 0} → Option (List ℕ) → Option (List ℕ) → List ℕ → List ℕ → Result T E → Type 0
-MakesRoom before now pending text result = MatchResult result (λ _. Gathers before now pending text) (λ _. AppendsPrefix before now text)
+abbrev pub MakesRoom : {T E : Type 0} → Option (List ℕ) → Option (List ℕ) → List ℕ → List ℕ
+    → Result T E → Type 0
+MakesRoom before now pending text result =
+    MatchResult result (λ _. Gathers before now pending text) (λ _. AppendsPrefix before now text)

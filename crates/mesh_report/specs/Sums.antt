@@ -1,4 +1,5 @@
--- The counts of a run, as the definitions have them. What waits, is queued and flies isn't counted: it is in the world.
+-- The counts of a run, as the definitions have them. What waits, is queued and flies isn't counted:
+-- it is in the world.
 use Rattle.mesh_text.specs.Schedule.{Sums}
 use Rattle.mesh_report.specs.declared.ends.Summary.{Summary}
 

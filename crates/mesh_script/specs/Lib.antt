@@ -3,5 +3,6 @@
 pub mod Arguments
 -- Shapes: a line of the program by itself, as the definitions have it.
 pub mod Shapes
--- Seen: a line of the program as the definitions have it, and what is known of one that is allowed or printed.
+-- Seen: a line of the program as the definitions have it, and what is known of one that is allowed
+-- or printed.
 pub mod Seen

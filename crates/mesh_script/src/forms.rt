@@ -42,8 +42,8 @@ fn no_argument(arguments: Option<&[u8]>) -> Read<'static>
     }
 }
 
-// An address has no space, so a line's only argument is looked through for another one only where it
-// is no address.
+// An address has no space, so a line's only argument is looked through for another one only where
+// it is no address.
 #[tactic(auto, using(crate::proofs::Cuts::one_address_more))]
 fn one_address(at: usize, arguments: Option<&[u8]>) -> Read<'static>
     requires { IfSome arguments (λ words. at + length words.now < 2 ^ 63) }

@@ -153,8 +153,8 @@ fn new_node(
     })
 }
 
-// What a line says, with this mesh. A shape is looked at where it stands: it is too large to be moved
-// for nothing.
+// What a line says, with this mesh. A shape is looked at where it stands: it is too large to be
+// moved for nothing.
 fn line_at<'a>(said: &Option<Shape<'a>>, mesh: &Mesh, started: bool) -> Result<Line<'a>, LineFault>
     ensures { seen_line result
         ≡ counted (schedule.accepted_shape mesh.now started (said_of said.now)) }

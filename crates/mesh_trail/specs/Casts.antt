@@ -1,4 +1,5 @@
--- The lists of the copies in flight. The copies of a cast share one: they have the ids from its first to before its end.
+-- The lists of the copies in flight. The copies of a cast share one: they have the ids from its
+-- first to before its end.
 use Rattle.std.specs.Prelude.{◌≡◌, ℕ, ◌≤◌, ◌<◌, ◌⊎◌, Bool, false, nat_le, not, if◌then◌else◌, Some, List, [], ◌∷◌, length, slice_get}
 use Rattle.mesh_base.specs.declared.events.Flying.{Flying}
 use Rattle.mesh_radio.specs.Copies.{from_id}

@@ -52,8 +52,21 @@ tells y n h (Some e) = (e.dsn == n) && ((e.hops == h + 1) && (e.next == y))
 -- what a node whose table is this now has learnt of what the neighbour y said
 abbrev pub lesson_of : Table → ℕ → Said → Lesson
 lesson_of rt y says.Parcel = record { from = y; near = false; dest = y; told = false }
-lesson_of rt y says.Error = record { from = y; near = leads_to y (maps.get rt y); dest = y; told = false }
+lesson_of rt y says.Error =
+    record { from = y; near = leads_to y (maps.get rt y); dest = y; told = false }
 lesson_of rt y (says.Request origin n h dest) =
-    record { from = y; near = leads_to y (maps.get rt y); dest = origin; told = tells y n h (maps.get rt origin) }
+    record {
+      from = y;
+      near = leads_to y (maps.get rt y);
+      dest = origin;
+      told = tells y n h
+          (maps.get rt origin);
+    }
 lesson_of rt y (says.Reply dest n h) =
-    record { from = y; near = leads_to y (maps.get rt y); dest = dest; told = tells y n h (maps.get rt dest) }
+    record {
+      from = y;
+      near = leads_to y (maps.get rt y);
+      dest = dest;
+      told = tells y n h
+          (maps.get rt dest);
+    }

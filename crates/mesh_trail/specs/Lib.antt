@@ -1,5 +1,5 @@
--- What a trail answers, and the lists that it keeps. Read in this order; mesh_walks defines the walks and what each event does
--- to them.
+-- What a trail answers, and the lists that it keeps. Read in this order; mesh_walks defines the
+-- walks and what each event does to them.
 -- Walks: what a trail answers. No public contract cites the other files.
 pub mod Walks
 -- Said: what a message says of routes.

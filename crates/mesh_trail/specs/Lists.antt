@@ -1,4 +1,5 @@
--- The lists of a node as the code keeps them, from the destination to the holder, and how they change.
+-- The lists of a node as the code keeps them, from the destination to the holder, and how they
+-- change.
 use Rattle.std.specs.Prelude.{◌≡◌, ◌<◌, ℕ, ◌==◌, Bool, not, ◌&&◌, if◌then◌else◌, Option, Some, None, List, [], ◌∷◌, ◌++◌, length, slice_get, slice_set}
 use Rattle.std.specs.List.{AllByRecursion}
 use Rattle.std.specs.VecDeque.{deque_len, deque_capacity}
@@ -24,7 +25,8 @@ pub record IsRoomed (x : ℕ) (old new : List NodeLists) : Type 0 where
 
 -- there is room for one more list beside the queue of node x
 abbrev pub HasPlace : ℕ → List NodeLists → Type 0
-HasPlace x nodes = (n : NodeLists) → slice_get nodes x ≡ Some n → deque_len n.queue < deque_capacity n.queue
+HasPlace x nodes =
+    (n : NodeLists) → slice_get nodes x ≡ Some n → deque_len n.queue < deque_capacity n.queue
 
 -- the list has joined those beside the queue of node x
 pub record IsPushed (x : ℕ) (list : List ℕ) (old new : List NodeLists) : Type 0 where
@@ -47,7 +49,8 @@ row rows d = list_in (slice_get rows d)
 abbrev pub put : Bool → ℕ → List ℕ → List (List ℕ) → List (List ℕ)
 put changes d l rows = if changes then slice_set rows d l else rows
 
--- a node has learnt that a neighbour is near, with this list of two, or the longer list of the route that was told
+-- a node has learnt that a neighbour is near, with this list of two, or the longer list of the
+-- route that was told
 abbrev pub learnt : Lesson → List ℕ → List ℕ → List (List ℕ) → List (List ℕ)
 learnt l near told rows =
     put (l.told && not (l.near && (l.from == l.dest))) l.dest told (put l.near l.from near rows)
@@ -59,8 +62,8 @@ reply_list x rows says.Error = []
 reply_list x rows (says.Request origin n h dest) = if dest == x then x ∷ [] else row rows dest
 reply_list x rows (says.Reply dest n h) = row rows dest
 
--- the list of what x casts, once it has heard what was said, which had list l. Of its own accord it casts as if it had heard
--- a datum
+-- the list of what x casts, once it has heard what was said, which had list l. Of its own accord it
+-- casts as if it had heard a datum
 abbrev pub sent_list : ℕ → List (List ℕ) → Said → List ℕ → Said → List ℕ
 sent_list x rows heard l says.Parcel = []
 sent_list x rows heard l says.Error = []

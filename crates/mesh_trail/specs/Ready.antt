@@ -26,8 +26,10 @@ pub record IsNodeReady (x : ℕ) (front : Front) (w : WorldSeen) (p : Parts) : T
   pub node : x < length w.mesh
   pub inside : IsFrontIn (length w.mesh) front
   pub waits : (p.hand).front ≡ front
-  pub lists : (n : NodeLists) → slice_get (p.nodes).items x ≡ Some n → IsReady x front (n.entries).items (front_list (n.queue).items) p.hand
-  pub known : (n : NodeLists) → slice_get (p.nodes).items x ≡ Some n → KnowsNear front p.hand (n.entries).items
+  pub lists : (n : NodeLists) → slice_get (p.nodes).items x ≡ Some n
+      → IsReady x front (n.entries).items (front_list (n.queue).items) p.hand
+  pub known : (n : NodeLists) → slice_get (p.nodes).items x ≡ Some n
+      → KnowsNear front p.hand (n.entries).items
   pub cast : IsCastReady w p
 
 -- the list of a copy is at hand, and room for it beside the queue of its receiver
@@ -47,12 +49,15 @@ IsReadyFor (model.Give x d b) w p = (x < length w.mesh) × HasPlace x (p.nodes).
 IsReadyFor (model.Turn x) w p = IsNodeReady x (front_of (slice_get (w.world).nodes x)) w p
 IsReadyFor (model.Send x d) w p = IsNodeReady x fronts.New w p
 IsReadyFor (model.Ask x d) w p = IsNodeReady x fronts.New w p
-IsReadyFor (model.Deliver id) w p = (c : model.Copy) → model.find_copy (w.world).flying id ≡ Some c → IsCopyReady id c.to p
+IsReadyFor (model.Deliver id) w p =
+    (c : model.Copy) → model.find_copy (w.world).flying id ≡ Some c → IsCopyReady id c.to p
 IsReadyFor (model.Double id) w p = IsDoublingReady id w p
 IsReadyFor others w p = ⊤
 
--- the world of the parts has answered to the event; their lists are still those of the world before it, and ready
-pub record IsAnsweredIn (e : model.Event) (old : WorldSeen) (p : Parts) (answer : Result Done StepError) (packet : List ℕ) : Type 0 where
+-- the world of the parts has answered to the event; their lists are still those of the world before
+-- it, and ready
+pub record IsAnsweredIn (e : model.Event) (old : WorldSeen) (p : Parts)
+    (answer : Result Done StepError) (packet : List ℕ) : Type 0 where
   pub step : IsStep e old answer p.world packet
   pub sound : IsSoundWorld p.world
   pub kept : AreWalks old (p.nodes).items (p.casts).items

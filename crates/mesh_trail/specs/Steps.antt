@@ -36,7 +36,8 @@ FitsReply rows room (says.Request origin n h dest) = length (row rows dest) ≤ 
 FitsReply rows room (says.Reply dest n h) = length (row rows dest) ≤ room
 
 -- what node x needs where it has heard this of y, and the front of its queue has list l
-pub record IsInHand (x y : ℕ) (s : Said) (rows : List (List ℕ)) (l : List ℕ) (hand : Hand) : Type 0 where
+pub record IsInHand (x y : ℕ) (s : Said) (rows : List (List ℕ)) (l : List ℕ)
+    (hand : Hand) : Type 0 where
   pub near : hand.near ≡ y ∷ x ∷ []
   pub told : hand.told ≡ l ++ x ∷ []
   pub two : 2 ≤ hand.room

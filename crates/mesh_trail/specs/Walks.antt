@@ -11,7 +11,8 @@ use Rattle.mesh_model.specs.Trails.{IsHonestWalk}
 use Rattle.mesh_world.specs.declared.steps.StepError.{StepError}
 use Rattle.mesh_world.specs.declared.steps.StepError.TheVariants as errors
 
--- x has a valid route to d, and the list is an honest walk with its hops; these are at most the number of nodes
+-- x has a valid route to d, and the list is an honest walk with its hops; these are at most the
+-- number of nodes
 pub record IsRouteWalk (w : World) (x d : ℕ) (walk : List ℕ) : Type 0 where
   pub entry : Entry
   pub there : maps.get (table w x) d ≡ Some entry

@@ -86,7 +86,8 @@ impl Parts {
         Ok(())
     }
 
-    // Makes ready the list of the copy of this id, and room for it beside the queue of its receiver.
+    // Makes ready the list of the copy of this id, and room for it beside the queue of its
+    // receiver.
     fn ready_copy(&mut self, id: u64) -> Result<(), NoMemory>
         requires kept { AreKept self.old }
         ensures kept { AreKept self.new }

@@ -1,4 +1,5 @@
--- That lists which are kept are walks: of each valid entry, and of each request and reply in a queue or in flight.
+-- That lists which are kept are walks: of each valid entry, and of each request and reply in a
+-- queue or in flight.
 use Rattle.std.specs.Prelude.{◌≡◌, ℕ, ◌+◌, true, List, [], ◌∷◌, length, Some, slice_get, ⊤}
 use Rattle.std.specs.List.{AllByRecursion}
 use Rattle.std.specs.FinMap as maps
@@ -13,8 +14,8 @@ use Rattle.mesh_model.specs.Worlds.{World, Node, Copy, are_linked}
 use Rattle.mesh_model.specs.Trails.{Around, IsAbsent, IsBackedWalk, around, front}
 use Rattle.mesh_walks.specs.Kept.{Kept}
 
--- the list is the walk of x's entry for d with number n, h hops and next hop y: x, and then the walk of y, on which x
--- doesn't stand before the end
+-- the list is the walk of x's entry for d with number n, h hops and next hop y: x, and then the
+-- walk of y, on which x doesn't stand before the end
 pub record IsEntryWalk (a : Around) (x d n h y : ℕ) (walk : List ℕ) : Type 0 where
   pub others : List ℕ
   pub is : walk ≡ x ∷ (y ∷ others)
@@ -29,7 +30,8 @@ EntryHolds a x d e walk = e.flag ≡ Val → IsEntryWalk a x d e.dsn e.hops e.ne
 
 -- of each valid entry of the table of x
 abbrev pub EntriesHold : Around → ℕ → Table → (ℕ → List ℕ) → Type 0
-EntriesHold a x rt walks = (d : ℕ) (e : Entry) → maps.get rt d ≡ Some e → EntryHolds a x d e (walks d)
+EntriesHold a x rt walks =
+    (d : ℕ) (e : Entry) → maps.get rt d ≡ Some e → EntryHolds a x d e (walks d)
 
 -- the walk of a reply with number n and h hops is that of its sender
 pub record IsReplyWalk (a : Around) (from d n h : ℕ) (walk : List ℕ) : Type 0 where
@@ -49,7 +51,8 @@ pub record IsRequestWalk (a : Around) (from d n h : ℕ) (key : ℕ × ℕ) (wal
 -- of a message
 abbrev pub MessageHolds : Around → ℕ → Message → List ℕ → Type 0
 MessageHolds a from (Pkt b d o) walk = ⊤
-MessageHolds a from (Rreq m) walk = IsRequestWalk a from m.oip m.osn m.hops (key_of a.variant m) walk
+MessageHolds a from (Rreq m) walk =
+    IsRequestWalk a from m.oip m.osn m.hops (key_of a.variant m) walk
 MessageHolds a from (Rrep m) walk = IsReplyWalk a from m.dip m.dsn m.hops walk
 MessageHolds a from (Rerr dests) walk = ⊤
 
@@ -67,17 +70,20 @@ ItemsHold a x (item ∷ items) (walk ∷ walks) = ItemHolds a x item walk × Ite
 
 -- of a copy in flight, whose two nodes have been linked
 abbrev pub CopyHolds : Around → (ℕ → List ℕ) → Copy → Type 0
-CopyHolds a walks c = (are_linked a.ever c.from c.to ≡ true) × MessageHolds a c.from c.message (walks c.id)
+CopyHolds a walks c =
+    (are_linked a.ever c.from c.to ≡ true) × MessageHolds a c.from c.message (walks c.id)
 
 -- node x: its variant, the walks of its entries, and those of what is in its queue
-pub record NodeHolds (a : Around) (x : ℕ) (n : Node) (walks : ℕ → List ℕ) (lists : List (List ℕ)) : Type 0 where
+pub record NodeHolds (a : Around) (x : ℕ) (n : Node) (walks : ℕ
+    → List ℕ) (lists : List (List ℕ)) : Type 0 where
   pub variant : (n.core).variant ≡ a.variant
   pub entries : EntriesHold a x (n.core).rt walks
   pub queue : ItemsHold a x n.queue lists
 
--- all nodes are of the variant; the lists are the walks of each valid entry, and of each request and reply in a queue
--- or in flight; and a link that stands has ever stood
+-- all nodes are of the variant; the lists are the walks of each valid entry, and of each request
+-- and reply in a queue or in flight; and a link that stands has ever stood
 pub record Holds (variant : Variant) (w : World) (k : Kept) : Type 0 where
-  pub nodes : (x : ℕ) (n : Node) → slice_get w.nodes x ≡ Some n → NodeHolds (around variant w) x n (k.entries x) (k.queues x)
+  pub nodes : (x : ℕ) (n : Node) → slice_get w.nodes x ≡ Some n
+      → NodeHolds (around variant w) x n (k.entries x) (k.queues x)
   pub flying : AllByRecursion (CopyHolds (around variant w) k.flying) w.flying
   pub stood : (p : ℕ × ℕ) → sets.contains w.links p ≡ true → sets.contains w.ever p ≡ true

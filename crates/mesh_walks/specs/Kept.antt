@@ -1,5 +1,6 @@
--- The walks that are kept as lists, and what each event does to them. A list has its holder first and its destination
--- last. A node that hears a request or a reply gets the list beside it; so it knows the way that its new route goes.
+-- The walks that are kept as lists, and what each event does to them. A list has its holder first
+-- and its destination last. A node that hears a request or a reply gets the list beside it; so it
+-- knows the way that its new route goes.
 use Rattle.std.specs.Prelude.{ℕ, ◌+◌, ◌==◌, Bool, false, ◌&&◌, nat_le, if◌then◌else◌, Option, Some, None, List, [], ◌∷◌, ◌++◌, drop, slice_get}
 use Rattle.std.specs.FinMap as maps
 use Rattle.aodv_entry.specs.declared.entry.Entry.{Entry}
@@ -9,8 +10,9 @@ use Rattle.mesh_model.specs.Walks.{table}
 use Rattle.mesh_model.specs.Worlds as worlds
 use Rattle.mesh_model.specs.Worlds.{World, Node, Copy, Event, Give, Turn, Send, Ask, Link, Cut, Deliver, Lose, Double, Outcome, Idle, Next, Happening, Changed, Taken, Sent, CopyHeard, CopyLost, CopyDoubled, is_parcel, step}
 
--- the lists of each node's entry for each destination; of the items of each node's queue; and of the copy of each id.
--- The list of what is no request or reply, of an entry that isn't valid, and of a copy that doesn't fly says nothing
+-- the lists of each node's entry for each destination; of the items of each node's queue; and of
+-- the copy of each id. The list of what is no request or reply, of an entry that isn't valid, and
+-- of a copy that doesn't fly says nothing
 pub record Kept : Type 0 where
   pub entries : ℕ → ℕ → List ℕ
   pub queues : ℕ → List (List ℕ)
@@ -45,34 +47,38 @@ is_near y q e = (q == y) && ((e.hops == 1) && (e.next == y))
 abbrev pub is_route : ℕ → ℕ → ℕ → ℕ → ℕ → Entry → Bool
 is_route y d n h q e = (q == d) && ((e.dsn == n) && ((e.hops == h + 1) && (e.next == y)))
 
--- the entry for q is the route that a message from y tells of: a request of its originator, a reply of its destination
+-- the entry for q is the route that a message from y tells of: a request of its originator, a reply
+-- of its destination
 abbrev pub is_told : ℕ → Message → ℕ → Entry → Bool
 is_told y (Pkt b d o) q e = false
 is_told y (Rreq m) q e = is_route y m.oip m.osn m.hops q e
 is_told y (Rrep m) q e = is_route y m.dip m.dsn m.hops q e
 is_told y (Rerr dests) q e = false
 
--- x has heard m with list l from y, and this is its entry for q: it leads to y; or it is the route that m told of, and
--- its walk is the message's, with x in front; or it is what it was
+-- x has heard m with list l from y, and this is its entry for q: it leads to y; or it is the route
+-- that m told of, and its walk is the message's, with x in front; or it is what it was
 abbrev pub entry_list : ℕ → ℕ → Message → List ℕ → ℕ → List ℕ → Option Entry → List ℕ
 entry_list x y m l q kept None = kept
-entry_list x y m l q kept (Some e) = if is_near y q e then x ∷ y ∷ [] else if is_told y m q e then x ∷ l else kept
+entry_list x y m l q kept (Some e) =
+    if is_near y q e then x ∷ y ∷ [] else if is_told y m q e then x ∷ l else kept
 
 -- the lists of x's entries, once its table is that; data teach nothing
 abbrev pub entries_after : ℕ → ℕ → Message → List ℕ → Table → (ℕ → List ℕ) → ℕ → List ℕ
-entries_after x y m l now kept q = if is_parcel m then kept q else entry_list x y m l q (kept q) (maps.get now q)
+entries_after x y m l now kept q =
+    if is_parcel m then kept q else entry_list x y m l q (kept q) (maps.get now q)
 
 -- ---- what a node casts
 
--- x replies to a request, or passes a reply on: of itself it has no way to go, else it has that of its entry
+-- x replies to a request, or passes a reply on: of itself it has no way to go, else it has that of
+-- its entry
 abbrev pub reply_list : ℕ → (ℕ → List ℕ) → Message → List ℕ
 reply_list x entries (Pkt b d o) = []
 reply_list x entries (Rreq m) = if m.dip == x then x ∷ [] else entries m.dip
 reply_list x entries (Rrep m) = entries m.dip
 reply_list x entries (Rerr dests) = []
 
--- x, with these lists of its entries, has heard a message with list l, and casts another: a request that it passes on
--- has x in front
+-- x, with these lists of its entries, has heard a message with list l, and casts another: a request
+-- that it passes on has x in front
 abbrev pub sent_list : ℕ → (ℕ → List ℕ) → Message → List ℕ → Message → List ℕ
 sent_list x entries heard l (Pkt b d o) = []
 sent_list x entries heard l (Rreq m) = x ∷ l
@@ -96,7 +102,11 @@ with_copies flying list (c ∷ cs) = from_id_on flying c.id (list c.message)
 -- x has taken this item from the front of its queue, made these copies, and its table is now that
 abbrev pub after_item : ℕ → Table → Item → List Copy → Kept → Kept
 after_item x now (New b d) copies k =
-    record k { queues = changed_at k.queues x (drop 1 (k.queues x)); flying = with_copies k.flying (own_list x) copies }
+    record k {
+      queues = changed_at k.queues x (drop 1 (k.queues x));
+      flying = with_copies k.flying
+          (own_list x) copies;
+    }
 after_item x now (Heard y m) copies k =
     let l = first_list (k.queues x) in
     let entries = entries_after x y m l now (k.entries x) in
@@ -132,15 +142,18 @@ after_delivery id others k = k
 
 -- a doubled copy has the list of its first copy
 abbrev pub after_doubling : ℕ → Happening → Kept → Kept
-after_doubling id (CopyDoubled new to parcel) k = record k { flying = from_id_on k.flying new (k.flying id) }
+after_doubling id (CopyDoubled new to parcel) k =
+    record k { flying = from_id_on k.flying new (k.flying id) }
 after_doubling id others k = k
 
 -- the lists after an event that led from the world w to the world w'
 abbrev pub after_event : World → World → Event → Happening → Kept → Kept
 after_event w w' (Give x d b) h k = with_item k x []
 after_event w w' (Turn x) h k = after_turn x (table w' x) (slice_get w.nodes x) (copies_in h) k
-after_event w w' (Send x d) h k = record k { flying = with_copies k.flying (own_list x) (copies_in h) }
-after_event w w' (Ask x d) h k = record k { flying = with_copies k.flying (own_list x) (copies_in h) }
+after_event w w' (Send x d) h k =
+    record k { flying = with_copies k.flying (own_list x) (copies_in h) }
+after_event w w' (Ask x d) h k =
+    record k { flying = with_copies k.flying (own_list x) (copies_in h) }
 after_event w w' (Link a b) h k = k
 after_event w w' (Cut a b) h k = k
 after_event w w' (Deliver id) h k = after_delivery id h k

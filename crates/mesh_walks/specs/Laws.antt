@@ -13,13 +13,19 @@ use Rattle.mesh_walks.specs.Held.{Holds}
 
 -- the opening world has nothing of which a walk is to be kept
 abbrev pub StartHolds : Type 0
-StartHolds = (variant : Variant) (firsts : List ℕ) → Holds variant (start variant firsts) nothing_kept
+StartHolds =
+    (variant : Variant) (firsts : List ℕ) → Holds variant (start variant firsts) nothing_kept
 
 -- every event, in every variant, keeps these very lists walks
 abbrev pub StepHolds : Type 0
-StepHolds = (variant : Variant) (w : World) (e : Event) (k : Kept) → IsInvariant w → Holds variant w k → Holds variant (after w (step w e)) (walked w e k)
+StepHolds =
+    (variant : Variant) (w : World) (e : Event) (k : Kept) → IsInvariant w → Holds variant w k
+    → Holds variant (after w (step w e)) (walked w e k)
 
--- the list of a valid entry, turned round, is an honest walk with the entry's hops; these are at most the number of nodes
+-- the list of a valid entry, turned round, is an honest walk with the entry's hops; these are at
+-- most the number of nodes
 abbrev pub HeldIsHonest : Type 0
-HeldIsHonest = (variant : Variant) (w : World) (k : Kept) (x d : ℕ) (e : Entry) → Holds variant w k → maps.get (table w x) d ≡ Some e → e.flag ≡ Val
+HeldIsHonest =
+    (variant : Variant) (w : World) (k : Kept) (x d : ℕ) (e : Entry) → Holds variant w k
+    → maps.get (table w x) d ≡ Some e → e.flag ≡ Val
     → IsHonestWalk w.ever x d e.hops (reverse (k.entries x d)) × (e.hops ≤ length w.nodes)

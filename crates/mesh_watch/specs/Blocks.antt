@@ -4,7 +4,8 @@ use Rattle.mesh_model.specs.Worlds.{Event, Give, Turn, Send, Ask, Deliver, Happe
 use Rattle.mesh_text.specs.Schedule.{Moment, ShowsNode, outcome_at, stepped}
 use Rattle.mesh_text.specs.Text.{outcome_of_line, text_in}
 
--- the node whose state a happening has changed. A link that comes or goes, and a copy that is lost or doubled, change none
+-- the node whose state a happening has changed. A link that comes or goes, and a copy that is lost
+-- or doubled, change none
 abbrev pub changed_node : Event → Happening → Option ℕ
 changed_node (Give x d body) happening = Some x
 changed_node (Turn x) happening = Some x
@@ -26,6 +27,7 @@ abbrev pub shown_if : Moment → Option ℕ → List ℕ
 shown_if m None = []
 shown_if m (Some x) = shown_node m x
 
--- the block below an event that comes at moment m: the node that the event has changed, at the moment after it
+-- the block below an event that comes at moment m: the node that the event has changed, at the
+-- moment after it
 unfoldable pub block_below : Moment → Event → List ℕ
 block_below m e = shown_if (stepped m e) (changed_by e (outcome_at m e))

@@ -1,5 +1,5 @@
--- The text of a watched run, and its verdict, from the bytes of its input: the text of the run, with a block below each
--- event that has changed a node.
+-- The text of a watched run, and its verdict, from the bytes of its input: the text of the run,
+-- with a block below each event that has changed a node.
 use Rattle.std.specs.Prelude.{ℕ, zero, suc, ◌+◌, List, [], ◌∷◌, ◌++◌, Option, Some, None, Result, Ok, Err, is_some}
 use Rattle.mesh_base.specs.declared.events.Variant.{Variant}
 use Rattle.mesh_model.specs.Worlds.{Event}

@@ -42,8 +42,8 @@ fn do_events<O: Sink>(
     Ok(did)
 }
 
-/// Does a line of events that the run chooses, starts the run where that is due, and counts the line:
-/// writes it as it stands, the events with their blocks, and their number.
+/// Does a line of events that the run chooses, starts the run where that is due, and counts the
+/// line: writes it as it stands, the events with their blocks, and their number.
 pub fn do_auto<O: Sink>(
     alloc: Global,
     at: &mut Watched,

@@ -106,8 +106,8 @@ fn put_watched<O: Sink>(
     }
 }
 
-/// Does an event once the run has started, and writes it with its block: as its line stands, where it
-/// has one.
+/// Does an event once the run has started, and writes it with its block: as its line stands, where
+/// it has one.
 pub fn do_event<'a, O: Sink>(
     alloc: Global,
     at: &mut Watched,
@@ -139,8 +139,8 @@ pub fn do_event<'a, O: Sink>(
     }
 }
 
-/// Does a line with one event, starts the run where that is due, and counts the line: writes it as it
-/// stands, what the event did, and its block.
+/// Does a line with one event, starts the run where that is due, and counts the line: writes it as
+/// it stands, what the event did, and its block.
 pub fn do_step<'a, O: Sink>(
     alloc: Global,
     at: &mut Watched,

@@ -7,8 +7,8 @@ pub fn a_watched_run_is_the_run()
     ensures { WatchedRunIsTheRun }
 {}
 
-/// The lines of a watched run are those of the run with blocks put in between, each of which shows a
-/// node as a line `show` does.
+/// The lines of a watched run are those of the run with blocks put in between, each of which shows
+/// a node as a line `show` does.
 pub fn blocks_are_all_that_is_added()
     ensures { BlocksAreAllThatIsAdded }
 {}

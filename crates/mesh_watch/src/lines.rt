@@ -45,8 +45,8 @@ fn piece<O: Sink>(alloc: Global, at: &mut Watched, bytes: &[u8], out: &mut O) ->
     }
 }
 
-/// Does the lines of a source from its front, up to its end or the first that stops the run. What is
-/// gathered is handed on before each read, so that a line's text is there before the next is
+/// Does the lines of a source from its front, up to its end or the first that stops the run. What
+/// is gathered is handed on before each read, so that a line's text is there before the next is
 /// awaited.
 pub fn do_lines<I: Source, O: Sink>(
     alloc: Global,

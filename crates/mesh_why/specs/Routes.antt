@@ -12,14 +12,16 @@ use Rattle.mesh_trail.specs.Walks.{IsRouteWalk}
 
 -- two words: the address of a node, and that of a destination
 abbrev pub of_two : List ℕ → List ℕ → Option (ℕ × ℕ)
-of_two node dest = option_and_then (λ a. option_map (λ b. (a, b)) (address_of dest)) (address_of node)
+of_two node dest =
+    option_and_then (λ a. option_map (λ b. (a, b)) (address_of dest)) (address_of node)
 
 -- what the words ask for, where they are two addresses
 unfoldable pub asked_of : List (List ℕ) → Option (ℕ × ℕ)
 asked_of (node ∷ dest ∷ []) = of_two node dest
 asked_of others = None
 
--- the route of x to d in a world: an honest walk with the hops of the valid route, or none where x has no valid route to d
+-- the route of x to d in a world: an honest walk with the hops of the valid route, or none where x
+-- has no valid route to d
 abbrev pub IsRouteIn : World → ℕ → ℕ → Option (List ℕ) → Type 0
 IsRouteIn w x d None = next_hop w x d ≡ None
 IsRouteIn w x d (Some walk) = IsRouteWalk w x d walk
