@@ -2,8 +2,15 @@
 ghost use Rattle.std.specs.Prelude.{◌≡◌, []};
 ghost use Rattle.mesh_io.specs.declared.limits.Limits.{Limits};
 ghost use Rattle.mesh_printed.specs.Pieces.{pieces_within};
+ghost use Rattle.mesh_printed.specs.Laws.{LinesAreTheText};
 
 /// A text of no bytes has no line, whatever the limits.
 pub fn an_empty_text_has_no_line()
     ensures { (most : Limits) → pieces_within most [] ≡ [] }
+{}
+
+/// Where no limit is passed the lines of a text, each with its LF, are the text, but for a LF that
+/// its last line may lack.
+pub fn lines_are_the_text()
+    ensures { LinesAreTheText }
 {}
