@@ -53,7 +53,8 @@ second false b e = cc
 linked_apart : (size : ℕ) (links : Pairs) (x y : ℕ) → AreLinks size links → are_linked links x y ≡ true → x ≢ y
 linked_apart size links x y are is = let e : min x y < max x y = (are (pair x y) is).0 in λ same. omega arith
 
-linked_more : (size : ℕ) (links : Pairs) (a b : ℕ) → a < size → b < size → a ≢ b → AreLinks size links → AreLinks size (sets.insert links (pair a b))
+-- a link more between two nodes of the mesh
+pub linked_more : (size : ℕ) (links : Pairs) (a b : ℕ) → a < size → b < size → a ≢ b → AreLinks size links → AreLinks size (sets.insert links (pair a b))
 linked_more size links a b la lb differ are p is = at (eq_by_cmp pair_cmp p (pair a b)) refl (sym (sets.contains-insert pair_cmp_total links (pair a b) p) ∙ is)
   where
     mine : (min a b < max a b) × (max a b < size)

@@ -8,7 +8,7 @@ use Rattle.std.specs.FinMap as maps
 use Rattle.aodv_entry.specs.declared.entry.Entry.{Entry}
 use Rattle.aodv_entry.specs.declared.entry.Flag.TheVariants.{Val}
 use Rattle.aodv_model.specs.Tables.{Table}
-use Rattle.aodv_model.specs.Cores.{Message, Pkt, Rreq, Rrep, Rerr, Item, New, Heard}
+use Rattle.aodv_model.specs.Cores.{RouteRequest, RouteReply, Message, Pkt, Rreq, Rrep, Rerr, Item, New, Heard}
 use Rattle.aodv_model.specs.Soundness.{HasSoundNumbers}
 use Rattle.mesh_model.specs.Worlds.{World, Node, Copy}
 use Rattle.mesh_model.specs.Walks.{table}
@@ -26,12 +26,20 @@ pub record AtLeast (rt : Table) (d n h : ℕ) : Type 0 where
 
 -- ---- what a request or a reply says of its sender's table
 
--- a request has its originator's number, and a reply its destination's, not 0; and where that node
--- isn't the sender, the sender has at least what it says
+-- a request has its originator's number, not 0; and where that node isn't the sender, the sender
+-- has at least what it says
+abbrev pub IsHonestRequest : Table → ℕ → RouteRequest → Type 0
+IsHonestRequest rt from m = (1 ≤ m.osn) × (from ≢ m.oip → AtLeast rt m.oip m.osn m.hops)
+
+-- the same of a reply and its destination's number
+abbrev pub IsHonestReply : Table → ℕ → RouteReply → Type 0
+IsHonestReply rt from m = (1 ≤ m.dsn) × (from ≢ m.dip → AtLeast rt m.dip m.dsn m.hops)
+
+-- a message is honest: data and route errors say nothing of their sender's table
 abbrev pub IsHonest : Table → ℕ → Message → Type 0
 IsHonest rt from (Pkt b d o) = ⊤
-IsHonest rt from (Rreq m) = (1 ≤ m.osn) × (from ≢ m.oip → AtLeast rt m.oip m.osn m.hops)
-IsHonest rt from (Rrep m) = (1 ≤ m.dsn) × (from ≢ m.dip → AtLeast rt m.dip m.dsn m.hops)
+IsHonest rt from (Rreq m) = IsHonestRequest rt from m
+IsHonest rt from (Rrep m) = IsHonestReply rt from m
 IsHonest rt from (Rerr dests) = ⊤
 
 -- an item of a queue is honest, by the tables of all nodes

@@ -1,4 +1,6 @@
 -- The mesh. Read in this order, after the definitions of one node.
+-- Numbered: lists of what has an id.
+pub mod Numbered
 -- Worlds: the state of the whole mesh, its events, one step, and a run of them.
 pub mod Worlds
 -- Walks: the valid routes of a world as a graph, and its cycles.

@@ -1,10 +1,11 @@
 -- That all which a world names is in its mesh, that copies are numbered in order, and which events
 -- are of a mesh.
-use Rattle.std.specs.Prelude.{◌≡◌, ◌≢◌, ℕ, ◌+◌, ◌<◌, ◌≤◌, true, List, [], ◌∷◌, length, Some, slice_get, ⊤}
+use Rattle.std.specs.Prelude.{◌≡◌, ◌≢◌, ℕ, ◌<◌, true, List, length, Some, slice_get, ⊤}
 use Rattle.std.specs.List.{AllByRecursion}
 use Rattle.std.specs.FinSet as sets
 use Rattle.aodv_model.specs.Pairs.{Pairs}
 use Rattle.aodv_model.specs.Soundness.{IsSoundCore, IsDatum, IsStoreInMesh, IsMessageInMesh, IsItemInMesh}
+use Rattle.mesh_model.specs.Numbered.{AreNumberedBy}
 use Rattle.mesh_model.specs.Worlds.{World, Node, Copy, Event, Give, Turn, Send, Ask, Link, Cut}
 
 -- a copy is between two nodes of the mesh, and its message names nodes of the mesh
@@ -14,8 +15,7 @@ IsCopyInMesh size c =
 
 -- the ids rise from `low` on, and are below `next`
 abbrev pub AreNumbered : ℕ → List Copy → ℕ → Type 0
-AreNumbered low [] next = low ≤ next
-AreNumbered low (c ∷ cs) next = (low ≤ c.id) × AreNumbered (c.id + 1) cs next
+AreNumbered low cs next = AreNumberedBy (λ c. c.id) low cs next
 
 -- each pair is two nodes of the mesh, the smaller first
 abbrev pub AreLinks : ℕ → Pairs → Type 0

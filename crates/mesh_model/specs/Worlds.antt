@@ -1,6 +1,6 @@
 -- The state of the whole mesh, its events, one step, and a run of them. One event is one atomic
 -- step of the mesh.
-use Rattle.std.specs.Prelude.{ℕ, zero, suc, ◌+◌, ◌≤◌, Bool, true, false, not, ◌==◌, if◌then◌else◌, Option, Some, None, List, [], ◌∷◌, ◌++◌, length, map, filter, slice_get, slice_set, min, max}
+use Rattle.std.specs.Prelude.{ℕ, zero, suc, ◌+◌, ◌≤◌, Bool, true, false, if◌then◌else◌, Option, Some, None, List, [], ◌∷◌, ◌++◌, length, map, slice_get, slice_set, min, max}
 use Rattle.std.specs.List.{AllByRecursion}
 use Rattle.std.specs.FinSet as sets
 use Rattle.mesh_base.specs.declared.limits.TheConstants.{MOST_NODES}
@@ -10,6 +10,7 @@ use Rattle.mesh_base.specs.Meshes as meshes
 use Rattle.mesh_base.specs.declared.events.Counter.{Counter}
 use Rattle.mesh_base.specs.declared.events.Variant.{Variant}
 use Rattle.aodv_model.specs.Pairs.{Pairs}
+use Rattle.mesh_model.specs.Numbered.{find_by, without_by, numbered_from}
 use Rattle.aodv_model.specs.Cores.{Body, Message, Pkt, Rreq, Rrep, Rerr, Item, New, Heard, Core, opening}
 use Rattle.aodv_model.specs.Handlers.{Cast, Nothing, One, Many, All, Effect, Reaction, Took, one, turn, took, may_send, send, may_ask, ask}
 use Rattle.aodv_model.specs.Fullness.{greatest, turn_full, send_full, ask_full}
@@ -84,9 +85,8 @@ receivers near (All m) = near
 
 -- one copy for each receiver, with ids that rise from `id` on
 abbrev pub copies_to : List ℕ → ℕ → ℕ → Message → List Copy
-copies_to [] id from m = []
-copies_to (to ∷ tos) id from m =
-    record { id = id; from = from; to = to; message = m } ∷ copies_to tos (id + 1) from m
+copies_to tos id from m =
+    numbered_from (λ i to. record { id = i; from = from; to = to; message = m }) tos id
 
 -- the copies of a cast for these receivers
 abbrev pub copies_of : Cast → List ℕ → ℕ → ℕ → List Copy
@@ -125,12 +125,11 @@ push w x item = with_item w x (slice_get w.nodes x) item
 
 -- the copy of that id
 abbrev pub find_copy : List Copy → ℕ → Option Copy
-find_copy [] id = None
-find_copy (c ∷ cs) id = if c.id == id then Some c else find_copy cs id
+find_copy cs id = find_by (λ c. c.id) cs id
 
 -- the copies but that of that id
 unfoldable pub without : List Copy → ℕ → List Copy
-without cs id = filter (λ c. not (c.id == id)) cs
+without cs id = without_by (λ c. c.id) cs id
 
 -- what a step did beside the new world
 pub data Happening : Type 0 where

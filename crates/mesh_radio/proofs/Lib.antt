@@ -9,3 +9,5 @@ pub mod Nexts
 pub mod Sweeps
 pub mod Leasts
 pub mod Changes
+pub mod Links
+pub mod Joins

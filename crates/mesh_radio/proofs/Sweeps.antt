@@ -41,7 +41,7 @@ copies-kept (e ∷ es) =
       | false ↦ λ none. rest ∙ ap (λ (fs : List Flying). fs ++ copies_of es) (sym (cast-empty e none))
     ] refl
 
-rising-weak : (low more next : ℕ) (es : List Entry) → low ≤ more → AreRising more es next → AreRising low es next
+pub rising-weak : (low more next : ℕ) (es : List Entry) → low ≤ more → AreRising more es next → AreRising low es next
 rising-weak low more next [] le r = omega arith
 rising-weak low more next (e ∷ es) le r = let up = r.0 in (omega arith, r.1, r.2)
 

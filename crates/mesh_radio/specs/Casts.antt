@@ -1,9 +1,10 @@
 -- How the code keeps copies in flight: casts by the ids of their first copies. No public contract
 -- cites this file.
-use Rattle.std.specs.Prelude.{◌≡◌, ℕ, ◌+◌, ◌-◌, ◌^◌, ◌<◌, ◌≤◌, Bool, true, nat_le, if◌then◌else◌, Option, Some, None, List, [], ◌∷◌, ◌++◌, length, slice_get, slice_index, unwrap_or, is_some, IfSome}
+use Rattle.std.specs.Prelude.{◌≡◌, ℕ, ◌+◌, ◌-◌, ◌^◌, ◌<◌, ◌≤◌, Bool, true, nat_le, nat_lt, ◌⊎◌, take, if◌then◌else◌, Option, Some, None, List, [], ◌∷◌, ◌++◌, length, slice_get, slice_index, unwrap_or, is_some, IfSome}
+use Rattle.std.specs.Bool.{OnTrue}
 use Rattle.std.specs.List.{AllByRecursion}
 use Rattle.std.specs.FinSet.{contains, remove}
-use Rattle.mesh_base.specs.Members.{member_list, rank}
+use Rattle.mesh_base.specs.Members.{NodeIds, member_list, rank}
 use Rattle.mesh_base.specs.declared.events.Flying.{Flying}
 use Rattle.mesh_radio.specs.Copies.{data_in}
 use Rattle.mesh_radio.specs.Kept.{copies_in}
@@ -172,3 +173,15 @@ pub record IsTidied (before now : List Entry) : Type 0 where
   pub same : copies_of now ≡ copies_of before
   pub rising : (low next : ℕ) → AreRising low before next → AreRising low now next
   pub lefts : AllByRecursion (λ e. AreLeft e.1) before → AllByRecursion (λ e. AreLeft e.1) now
+
+-- ---- ids that are free again
+
+-- the set that is left of this one has its first members, as many as `count` at most
+pub record IsFront (whole : NodeIds) (count : ℕ) (front : NodeIds) : Type 0 where
+  pub list : member_list front ≡ take count (member_list whole)
+  pub same : (q : ℕ) → (rank whole q < count) ⊎ (256 ≤ q) → contains front q ≡ contains whole q
+
+-- of the cast with that first id there stay only the copies below `id`, if there are such
+pub record IsCut (id first : ℕ) (c now : Cast) (stays : Bool) : Type 0 where
+  pub stays_below : stays ≡ nat_lt first id
+  pub cut : OnTrue stays ((now ≡ record c { to = now.to }) × IsFront c.to (id - first) now.to)

@@ -1,13 +1,14 @@
 -- The copies of packets in flight. They are the mesh's copies, with bytes in place of messages.
-use Rattle.std.specs.Prelude.{◌≡◌, ◌≢◌, ◌<◌, ◌≤◌, ℕ, ◌+◌, ◌==◌, nat_le, not, if◌then◌else◌, Option, Some, None, List, [], ◌∷◌, length, filter}
+use Rattle.std.specs.Prelude.{◌≡◌, ◌≢◌, ◌<◌, ◌≤◌, ℕ, ◌+◌, nat_le, if◌then◌else◌, Option, Some, List, [], ◌∷◌, length, filter}
+use Rattle.std.specs.List.{AllByRecursion}
 use Rattle.mesh_base.specs.declared.limits.TheConstants.{LONGEST_PACKET}
 use Rattle.mesh_base.specs.declared.events.Flying.{Flying}
 use Rattle.aodv_wire.specs.Spells.{is_data}
+use Rattle.mesh_model.specs.Numbered.{find_by, without_by, AreNumberedBy, numbered_from}
 
 -- the copy of that id
 abbrev pub find_copy : List Flying → ℕ → Option Flying
-find_copy [] id = None
-find_copy (c ∷ cs) id = if c.id == id then Some c else find_copy cs id
+find_copy cs id = find_by (λ c. c.id) cs id
 
 -- the packet of the copy of that id, if there is one, has at most so many bytes
 abbrev pub IsCopyWithin : List Flying → ℕ → ℕ → Type 0
@@ -15,7 +16,7 @@ IsCopyWithin cs id most = (c : Flying) → find_copy cs id ≡ Some c → length
 
 -- the copies but that of that id
 unfoldable pub without : List Flying → ℕ → List Flying
-without cs id = filter (λ c. not (c.id == id)) cs
+without cs id = without_by (λ c. c.id) cs id
 
 -- the copies of that id and of later ones
 unfoldable pub from_id : List Flying → ℕ → List Flying
@@ -23,14 +24,16 @@ from_id cs id = filter (λ c. nat_le id c.id) cs
 
 -- one copy for each receiver, with ids that rise from `id` on
 abbrev pub copies_to : List ℕ → ℕ → ℕ → List ℕ → List Flying
-copies_to [] id from bytes = []
-copies_to (to ∷ tos) id from bytes =
-    record { id = id; from = from; to = to; bytes = bytes } ∷ copies_to tos (id + 1) from bytes
+copies_to tos id from bytes =
+    numbered_from (λ i to. record { id = i; from = from; to = to; bytes = bytes }) tos id
 
 -- the ids rise from `low` on, and are below `next`
 abbrev pub AreNumbered : ℕ → List Flying → ℕ → Type 0
-AreNumbered low [] next = low ≤ next
-AreNumbered low (c ∷ cs) next = (low ≤ c.id) × AreNumbered (c.id + 1) cs next
+AreNumbered low cs next = AreNumberedBy (λ c. c.id) low cs next
+
+-- the ids are below that one
+abbrev pub AreBefore : ℕ → List Flying → Type 0
+AreBefore id cs = AllByRecursion (λ c. c.id < id) cs
 
 -- a copy is between two nodes, each below the number of nodes
 abbrev pub IsBetween : ℕ → Flying → Type 0

@@ -10,7 +10,7 @@ use Rattle.mesh_base.specs.declared.events.Flying.{Flying}
 use Rattle.aodv_model.specs.Pairs.{Pairs}
 use Rattle.aodv_model.specs.Codes.{pairs_code}
 use Rattle.mesh_radio.specs.Copies.{copies_to, IsBetween, IsPacketLong}
-use Rattle.mesh_radio.specs.Radios.{RadioState}
+use Rattle.mesh_radio.specs.Radios.{RadioState, AreLinksOf}
 
 -- ---- a graph, kept as the set of neighbours of each node
 
@@ -72,6 +72,10 @@ with_flights a from bytes tos = record a {
   room = a.room - length tos;
 }
 
+-- this copy joins
+abbrev pub with_flight : Flights → Flying → Flights
+with_flight a c = record a { flying = a.flying ++ c ∷ [] }
+
 -- a second copy like this one joins, with the next id, if there is such a copy
 abbrev pub with_second : Flights → Option Flying → Flights
 with_second a None = a
@@ -113,11 +117,12 @@ radio_of links ever a = record {
   most = a.most;
 }
 
--- both graphs are of the same nodes, at most 200; copies are between these, and none has more bytes
+-- both graphs are of the same nodes, at most 200, and a link that stands has stood; copies are between these, and none has more bytes
 -- than a packet can
 pub record IsRadio (links ever : Graph) (a : Flights) : Type 0 where
   pub few : links.size ≤ MOST_NODES
   pub same : ever.size ≡ links.size
+  pub linked : AreLinksOf links.size links.pairs ever.pairs
   pub between : AllByRecursion (IsBetween links.size) a.flying
   pub long : AllByRecursion IsPacketLong a.flying
 

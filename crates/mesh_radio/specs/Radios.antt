@@ -1,10 +1,11 @@
 -- The links of a mesh and the copies in flight, and what is done to them.
-use Rattle.std.specs.Prelude.{ℕ, ◌+◌, ◌-◌, Option, Some, None, List, [], ◌∷◌, ◌++◌, length, max}
+use Rattle.std.specs.Prelude.{◌≡◌, ℕ, ◌+◌, ◌-◌, ◌^◌, true, Option, Some, None, List, [], ◌∷◌, ◌++◌, length, max}
 use Rattle.std.specs.FinSet as sets
 use Rattle.mesh_base.specs.Members.{NodeIds}
 use Rattle.mesh_base.specs.declared.events.Flying.{Flying}
 use Rattle.aodv_model.specs.Pairs.{Pairs}
 use Rattle.mesh_model.specs.Worlds.{pair, members_below}
+use Rattle.mesh_model.specs.Places.{AreLinks}
 use Rattle.mesh_radio.specs.Copies.{without, copies_to}
 
 -- the number of nodes; the links that stand, and those that ever stood, each with the smaller node
@@ -30,6 +31,10 @@ opening size = record {
   room = 0;
   most = 0;
 }
+
+-- the greatest id of the next copy that a radio may begin with
+abbrev pub most_copies_at_first : ℕ
+most_copies_at_first = 2 ^ 60
 
 -- room for this many copies more, of this many bytes each; what room there is stays
 abbrev pub with_more_room : RadioState → ℕ → ℕ → RadioState
@@ -58,6 +63,10 @@ with_copies r from bytes to = record r {
   room = r.room - length (receivers r to);
 }
 
+-- this copy flies, after the others
+abbrev pub with_copy : RadioState → Flying → RadioState
+with_copy r c = record r { flying = r.flying ++ c ∷ [] }
+
 -- the copy of that id isn't in flight any more
 abbrev pub without_copy : RadioState → ℕ → RadioState
 without_copy r id = record r { flying = without r.flying id }
@@ -70,3 +79,10 @@ with_double r (Some c) = record r {
   next_copy = r.next_copy + 1;
   room = r.room - 1;
 }
+
+-- the links of a mesh of this size, those that stand and those that ever stood: each is between two
+-- of its nodes, and one that stands has stood
+pub record AreLinksOf (size : ℕ) (links ever : Pairs) : Type 0 where
+  pub standing : AreLinks size links
+  pub earlier : AreLinks size ever
+  pub stood : (p : ℕ × ℕ) → sets.contains links p ≡ true → sets.contains ever p ≡ true

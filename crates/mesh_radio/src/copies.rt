@@ -3,11 +3,12 @@ ghost use Rattle.std.specs.Prelude.{◌≡◌, ℕ, ◌<◌, ◌≤◌, ◌+◌,
 ghost use Rattle.mesh_base.specs.Views.{flying_seen};
 ghost use Rattle.mesh_base.specs.Members.{member_list};
 ghost use Rattle.aodv_wire.specs.Spells.{is_data};
-ghost use Rattle.mesh_radio.specs.Copies.{find_copy, IsCopyWithin, without, from_id, data_in, AreNumbered};
-ghost use Rattle.mesh_radio.specs.Kept.{with_flights, with_second, with_room};
+ghost use Rattle.mesh_radio.specs.Copies.{find_copy, IsCopyWithin, without, from_id, data_in, AreBefore, AreNumbered};
+ghost use Rattle.mesh_radio.specs.Kept.{with_flights, with_flight, with_second, with_room};
 
 use crate::casts::{Cast, Casts, Least, find, find_next, front_of, launch, least_from, remove_at};
 use crate::clearing::clear;
+use crate::joining::make_way;
 use crate::rooms::Rooms;
 use aodv_wire::is_data;
 use mesh_base::{Bytes, Flying, FlyingView, MOST_NODES, NoMemory, NodeSet, Room};
@@ -71,15 +72,16 @@ fn copied(bytes: &[u8], room: Room) -> Bytes
 }
 
 impl Copies {
-    /// No copies. The first gets id 1.
-    pub fn new(alloc: Global) -> Copies
-        ensures { result ≡ record { flying = []; next_copy = 1; room = 0; most = 0 } }
+    /// No copies. The next gets this id.
+    pub fn new(alloc: Global, next: u64) -> Copies
+        requires { 1 ≤ next }
+        ensures { result ≡ record { flying = []; next_copy = next; room = 0; most = 0 } }
     {
         Copies {
             casts: Casts::new(alloc),
             least: None,
             done: 0,
-            next: 1,
+            next,
             count: 0,
             of_data: 0,
             rooms: Rooms::new(alloc),
@@ -226,6 +228,33 @@ impl Copies {
         let gone = clear(&mut self.casts, spot.place, front, &mut self.done);
         self.least = least_from(&self.casts, gone);
         Some(flying)
+    }
+
+    /// A copy with a packet of its own flies, with an id after those of the others and below the
+    /// next.
+    pub fn put(&mut self, f: Flying) -> Result<(), NoMemory>
+        requires id { (1 ≤ f.id) × (f.id < self.old.next_copy) }
+        requires last { AreBefore f.id self.old.flying }
+        requires receiver { f.to < 256 }
+        requires room { self.old.room ≡ 0 }
+        ensures ok { OnOk result (self.new ≡ with_flight self.old f) }
+        ensures refused { OnErr result (self.new ≡ self.old) }
+    {
+        self.casts.reserve(1)?;
+        let least = make_way(&mut self.casts, self.least, f.id);
+        let mut to = NodeSet::new();
+        to.add(f.to);
+        let more = if_data(f.bytes.as_slice(), 1);
+        let cast = Cast {
+            to,
+            left: to,
+            from: f.from,
+            bytes: f.bytes,
+        };
+        self.least = launch(&mut self.casts, least, f.id, cast);
+        self.count += 1;
+        self.of_data += more;
+        Ok(())
     }
 
     /// Makes room for this many copies more, each of at most this many bytes.

@@ -7,6 +7,7 @@ mod adjacency;
 mod casts;
 mod clearing;
 mod copies;
+mod joining;
 mod places;
 mod radio;
 mod rooms;

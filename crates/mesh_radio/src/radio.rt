@@ -5,12 +5,14 @@ ghost use Rattle.std.specs.List.{AllByRecursion};
 ghost use Rattle.std.specs.FinSet as sets;
 ghost use Rattle.mesh_base.specs.Views.{flying_seen};
 ghost use Rattle.mesh_model.specs.Worlds.{are_linked, linked_below};
-ghost use Rattle.mesh_radio.specs.Copies.{find_copy, IsCopyWithin, from_id, data_in, AreNumbered, IsBetween, longest_packet};
-ghost use Rattle.mesh_radio.specs.Radios.{opening, with_more_room, with_link, without_link, with_copies, with_double, without_copy, receivers};
+ghost use Rattle.mesh_radio.specs.Copies.{find_copy, IsCopyWithin, from_id, data_in, AreBefore, AreNumbered, IsBetween, longest_packet};
+ghost use Rattle.mesh_radio.specs.Radios.{opening, most_copies_at_first, with_more_room, with_link, without_link, with_copies, with_copy, with_double, without_copy, receivers, AreLinksOf};
 
 use crate::adjacency::Adjacency;
 use crate::copies::Copies;
-use mesh_base::{Air, Flying, FlyingView, MOST_NODES, NoMemory, NodeSet, Packet, Room};
+use mesh_base::{
+    Air, Flying, FlyingView, LONGEST_PACKET, MOST_NODES, NoMemory, NodeSet, Packet, Room,
+};
 use std::alloc::Global;
 use std::marker::Model;
 
@@ -44,9 +46,19 @@ impl Radio {
         requires { nodes ≤ MOST_NODES }
         ensures { IfOk result (λ radio. radio ≡ opening nodes) }
     {
+        Radio::restore(alloc, nodes, 1)
+    }
+
+    /// The radio of a mesh of this many nodes, to which copies can be put: no link, and no copy.
+    /// The next copy that is cast gets this id.
+    pub fn restore(alloc: Global, nodes: usize, next: u64) -> Result<Radio, NoMemory>
+        requires few { nodes ≤ MOST_NODES }
+        requires next { (1 ≤ next) × (next ≤ most_copies_at_first) }
+        ensures { IfOk result (λ radio. radio ≡ record (opening nodes) { next_copy = next }) }
+    {
         let links = Adjacency::new(alloc, nodes)?;
         let ever = Adjacency::new(alloc, nodes)?;
-        let copies = Copies::new(alloc);
+        let copies = Copies::new(alloc, next);
         Ok(Radio {
             links,
             ever,
@@ -139,6 +151,20 @@ impl Radio {
         Air { first, to: *to }
     }
 
+    /// Puts a copy into the air, with its own packet and as it stood there: its id is after those
+    /// of the copies in flight, and below the next.
+    pub fn put(&mut self, f: Flying) -> Result<(), NoMemory>
+        requires id { (1 ≤ f.id) × (f.id < self.old.next_copy) }
+        requires last { AreBefore f.id self.old.flying }
+        requires between { IsBetween self.old.size f }
+        requires short { length f.bytes ≤ LONGEST_PACKET }
+        requires restored { self.old.room ≡ 0 }
+        ensures ok { OnOk result (self.new ≡ with_copy self.old f) }
+        ensures refused { OnErr result (self.new ≡ self.old) }
+    {
+        self.copies.put(f)
+    }
+
     /// The copy of this id is doubled: a second copy like it flies, with the next id. The answer is
     /// its id and receiver. None where no copy in flight has this id.
     pub fn double(&mut self, id: u64) -> Option<(u64, usize)>
@@ -172,6 +198,7 @@ impl Radio {
     /// How many copies are in flight.
     pub fn count(&self) -> usize
         ensures value { result ≡ length self.now.flying }
+        ensures linked { AreLinksOf self.now.size self.now.links self.now.ever }
         ensures numbered { AreNumbered 1 self.now.flying self.now.next_copy }
         ensures between { AllByRecursion (IsBetween self.now.size) self.now.flying }
     {
@@ -218,6 +245,7 @@ impl Radio {
 #[cfg(test)]
 mod tests {
     use super::*;
+    use mesh_base::Bytes;
     use std::test::Fail;
 
     #[test]
@@ -251,6 +279,27 @@ mod tests {
         assert_eq!(rt; radio.first_id(), Some(1));
         assert!(rt; radio.next_from(2, &mut 0).is_none());
         assert_eq!(rt; radio.next_id(), 3);
+        Ok(())
+    }
+
+    #[test]
+    fn copies_are_put_back(rt: HostRuntime) -> Result<(), Fail> {
+        let mut radio = Radio::restore(rt.alloc(), 3, 9)?;
+        radio.put(Flying {
+            id: 4,
+            from: 0,
+            to: 2,
+            bytes: Bytes::empty(),
+        })?;
+        radio.put(Flying {
+            id: 7,
+            from: 2,
+            to: 1,
+            bytes: Bytes::empty(),
+        })?;
+        assert_eq!(rt; radio.count(), 2);
+        assert_eq!(rt; radio.first_id(), Some(4));
+        assert_eq!(rt; radio.next_id(), 9);
         Ok(())
     }
 }

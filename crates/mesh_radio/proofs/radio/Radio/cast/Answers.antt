@@ -30,6 +30,7 @@ invariant_of-self c =
     record {
       few = c.self.invariant.few;
       same = c.self.invariant.same;
+      linked = c.self.invariant.linked;
       between = subst (λ (v : Flights). AllByRecursion (IsBetween n) v.flying) (sym c.cast.ensures)
           (cast-between n c.self.inside.copies c.args.from c.as_slice.result.now 256 c.args.to.now c.self.invariant.between (omega (arith, c.requires.from)) (λ q is. let lt = c.requires.below q is in omega arith) c.requires.apart);
       long = subst (λ (v : Flights). AllByRecursion IsPacketLong v.flying) (sym c.cast.ensures)

@@ -23,6 +23,7 @@ invariant_of-self c =
     record {
       few = kept.few;
       same = kept.same;
+      linked = kept.linked;
       between = subst (λ (v : Flights). AllByRecursion (IsBetween size) v.flying) (sym c.double.ensures.doubled)
           (second-all (IsBetween size) copies second (λ f is. all-found (IsBetween size) copies.flying c.args.id f kept.between is) kept.between);
       long = subst (λ (v : Flights). AllByRecursion IsPacketLong v.flying) (sym c.double.ensures.doubled)
