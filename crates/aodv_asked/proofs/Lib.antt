@@ -2,3 +2,5 @@ pub mod IntervalLaws
 pub mod PlaceLaws
 pub mod FindLaws
 pub mod RowLaws
+pub mod Counts
+pub mod Listed

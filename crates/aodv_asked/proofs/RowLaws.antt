@@ -170,7 +170,7 @@ rooms_kept rows rooms o row row' lt is at le q =
 
 -- ---- the greatest id beside o
 
-up_to_greatest : (ks : List (ℕ × ℕ)) (o id : ℕ) → list_any (eq_by_cmp pair_cmp (o, id)) ks ≡ true → id ≤ greatest_beside ks o
+pub up_to_greatest : (ks : List (ℕ × ℕ)) (o id : ℕ) → list_any (eq_by_cmp pair_cmp (o, id)) ks ≡ true → id ≤ greatest_beside ks o
 up_to_greatest [] o id here = cc
 up_to_greatest (k ∷ ks) o id here = step (up_to_greatest ks o id) (eqb k.0 o) refl (eqb o k.0 && eq_by_cmp nat_cmp id k.1) refl (ap (λ (b : Bool). b || list_any (eq_by_cmp pair_cmp (o, id)) ks) (sym (tied o id k.0 k.1)) ∙ here)
   where

@@ -1,8 +1,8 @@
 -- The route requests that a node has seen: for each its originator and its id.
-use Rattle.std.specs.Prelude.{◌≡◌, ◌<◌, ◌≤◌, ℕ, ◌+◌, ◌-◌, Bool, true, false, ◌||◌, ◌&&◌, nat_lt, List, Option, Some, None, refl}
+use Rattle.std.specs.Prelude.{◌≡◌, ◌<◌, ◌≤◌, ℕ, zero, suc, ◌+◌, ◌-◌, Bool, true, false, if◌then◌else◌, ◌||◌, ◌&&◌, nat_lt, List, [], ◌∷◌, ◌++◌, Option, Some, None, refl}
 use Rattle.std.specs.Coded.{Coded, code_by, coded×, coded_list, coded_ℕ}
 use Rattle.std.specs.FinSet as sets
-use Rattle.aodv_model.specs.Cores.{Seen}
+use Rattle.aodv_model.specs.Cores.{Seen, next_request_id}
 use Rattle.aodv_model.specs.Codes.{pairs_code}
 
 -- what is seen: the requests, and for each node of the mesh for how many more ids of its own there
@@ -30,3 +30,13 @@ IsLeastIdFrom seen o from (Some least) =
     (from ≤ least)
     × (sets.contains seen (o, least) ≡ true)
     × ((id : ℕ) → from ≤ id → id < least → sets.contains seen (o, id) ≡ false)
+
+-- o's ids below n that were seen, by rising id
+unfoldable pub ids_below : ℕ → Seen → ℕ → List ℕ
+ids_below zero seen o = []
+ids_below (suc n) seen o =
+    if sets.contains seen (o, n) then ids_below n seen o ++ n ∷ [] else ids_below n seen o
+
+-- all of o's ids that were seen, by rising id
+abbrev pub ids_beside : Seen → ℕ → List ℕ
+ids_beside seen o = ids_below (next_request_id seen o) seen o

@@ -2,7 +2,7 @@
 ghost use Rattle.std.specs.Prelude.{◌≡◌, ◌≢◌, ◌<◌, ◌≤◌, ◌+◌, ◌⊎◌, ◌↔◌, ℕ, length, slice_index, IfOk, IfSome, IsNone, IsOk, OnOk, OnErr, IsTrue};
 ghost use Rattle.std.specs.FinSet as sets;
 ghost use Rattle.aodv_model.specs.Cores.{last_request_id, next_request_id};
-ghost use Rattle.aodv_asked.specs.Requests.{is_near, IsLeastIdFrom};
+ghost use Rattle.aodv_asked.specs.Requests.{is_near, ids_beside, IsLeastIdFrom};
 
 use crate::ids::Ids;
 use mesh_base::NoMemory;
@@ -93,6 +93,15 @@ impl Asked {
         }
     }
 
+    /// How many ids of o were seen. It looks at none of them: ids that follow one another are
+    /// counted at once.
+    pub fn count(&self, o: usize) -> u64
+        requires { o < length self.now.rooms }
+        ensures { result ≡ length (ids_beside self.now.pairs o) }
+    {
+        self.rows[o].count()
+    }
+
     /// The least id beside o.
     pub fn first(&self, o: usize) -> Option<u32>
         requires { o < length self.now.rooms }
@@ -136,6 +145,7 @@ mod tests {
         assert_eq!(rt; asked.after(1, 7), None);
         assert_eq!(rt; asked.next_id(1), Some(8));
         assert_eq!(rt; asked.next_id(2), Some(1));
+        assert_eq!(rt; asked.count(1), 2);
         ask(&mut asked, 1, 4294967295)?;
         assert_eq!(rt; asked.next_id(1), None);
         Ok(())

@@ -2,7 +2,8 @@
 ghost use Rattle.std.specs.Prelude.{◌≡◌, ◌<◌, ◌≤◌, ◌+◌, ◌-◌, ◌⊎◌, ℕ, IsOk, OnOk, OnErr, IsTrue, length, insert};
 ghost use Rattle.smallvec.specs.SmallVec.{small_vec_len};
 ghost use Rattle.std.specs.FinSet as sets;
-ghost use Rattle.mesh_base.specs.Members.{IsLeastFrom};
+ghost use Rattle.mesh_base.specs.Members.{IsLeastFrom, members_below};
+ghost use Rattle.aodv_model.specs.Soundness.{AreBelow};
 ghost use Rattle.aodv_asked.specs.Intervals.{AreApart, is_near_in, IsGreatest};
 ghost use Rattle.aodv_asked.specs.Insertions.{interval, interval_at, with_id, is_near_to};
 
@@ -186,6 +187,19 @@ impl Ids {
         ensures room { self.old.room ≤ self.new.room + 1 }
     {
         put(&mut self.intervals, id);
+    }
+
+    /// How many ids there are: how many of them are below any number that is above all. It looks at
+    /// each interval once, and at no id.
+    pub(crate) fn count(&self) -> u64
+        ensures { (n : ℕ) → AreBelow n self.now.ids
+            → result ≡ length (members_below n self.now.ids) }
+    {
+        let mut count = 0;
+        for v in self.intervals.as_slice() {
+            count += u64::from(v.last - v.first) + 1;
+        }
+        count
     }
 
     /// The greatest id.

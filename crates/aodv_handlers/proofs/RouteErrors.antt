@@ -1,14 +1,11 @@
 -- Route errors: who is told, and of what.
 use Rattle.std.proofs.Common.{◌≡◌, ℕ, zero, suc, ◌+◌, ◌<◌, ◌≤◌, Bool, true, false, not, cond, ◌↔◌, IsTrue, eq-eqb, Option, Some, None, List, [], ◌∷◌, ◌++◌, length, map, refl, sym, ap, subst, ◌∙◌, append_assoc, length-append, arith}
-use Rattle.std.specs.Prelude.{◌==◌, slice_get, is_some, T}
-use Rattle.std.specs.Ordering.{nat_cmp, is_lt}
+use Rattle.std.specs.Prelude.{◌==◌, slice_get, is_some}
+use Rattle.std.specs.Ordering.{nat_cmp}
 use Rattle.std.specs.FinMap as maps
-use Rattle.std.specs.FinMap.Entries.{where_key, is_sorted, below_all}
+use Rattle.std.specs.FinMap.Entries.{where_key}
 use Rattle.std.specs.FinSet as sets
-use Rattle.std.specs.Cmp.{ranked}
-use Rattle.std.specs.declared.cmp.Ordering.{Ordering}
-use Rattle.std.specs.declared.cmp.Ordering.TheVariants.{Less, Equal, Greater}
-use Rattle.std.proofs.lemmas.Bool.{and_parts, ne_eqb}
+use Rattle.std.proofs.lemmas.Bool.{ne_eqb}
 use Rattle.std.proofs.Math.ListN.{drop}
 use Rattle.mesh_base.specs.declared.addr.Addr.{Addr}
 use Rattle.mesh_base.specs.declared.events.Variant.{Variant}
@@ -21,8 +18,9 @@ use Rattle.aodv_model.specs.Handlers.{Nothing, All, is_empty, is_error, all_prec
 use Rattle.aodv_model.specs.Soundness.{AreDestsBelow}
 use Rattle.aodv_model.proofs.Lookups.{get-kept}
 use Rattle.aodv_model.proofs.PlacedTables.{kept_of}
-use Rattle.aodv_wire.specs.RouteError.{IsRising, AreDestinations}
+use Rattle.aodv_wire.specs.RouteError.{AreDestinations}
 use Rattle.aodv_meaning.specs.Sent.{addressed, pairs_of}
+use Rattle.aodv_meaning.proofs.Writings.{destinations}
 use Rattle.aodv_handlers.specs.Parts.{tells, told}
 use Rattle.aodv_handlers.proofs.Lists.{from_place, from_end, empty_union, union_empty, union_assoc, empty_is, is_empty_same, entries_where, any_there}
 
@@ -157,10 +155,6 @@ positive : {A : Type 0} (xs : List A) → (xs ≡ [] → ⊥) → 1 ≤ length x
 positive [] h = absurd (h refl)
 positive (x ∷ xs) h = omega arith
 
-length_map : {A B : Type 0} (f : A → B) (xs : List A) → length (map f xs) ≡ length xs
-length_map f [] = refl
-length_map f (x ∷ xs) = ap suc (length_map f xs)
-
 -- some destination is told of, where there are precursors, or where all are told of and there is one
 pub some_told : (v : Variant) (rt : Table) (dests : Dests) → is_error v ≡ false → is_empty (precs_of rt dests) ≡ false → 1 ≤ maps.len (told v rt dests)
 unfolding precs_of with_precs
@@ -198,30 +192,6 @@ all_there v rt dests r error test some =
     let not : (maps.len dests == 0) ≡ false = ne_eqb (maps.len dests) 0 (λ e. absurd (omega arith)) in
     rw (error, not) refl
 
-true_of : (b : Bool) → T b → b ≡ true
-true_of true t = refl
-true_of false t = absurd t
-
-of_true : (b : Bool) → b ≡ true → T b
-of_true true t = tt
-of_true false t = cc
-
-lower : (o : Ordering) → is_lt o ≡ true → Less ≡ o
-lower Less h = refl
-lower Equal h = cc
-lower Greater h = cc
-
-lt_of : (a b : ℕ) → is_lt (nat_cmp a b) ≡ true → a < b
-lt_of a b t = ranked a b Less (lower (nat_cmp a b) t)
-
-pub rising : (mesh : Nodes) (es : List (ℕ × ℕ)) → IsMesh mesh → T (is_sorted nat_cmp es) → ((k : ℕ) (p : ℕ × ℕ) → slice_get es k ≡ Some p → p.0 < length mesh) → IsRising (map (addressed mesh) es)
-rising mesh [] is sorted below = tt
-rising mesh (e ∷ []) is sorted below = tt
-rising mesh (e ∷ f ∷ es) is sorted below =
-    let parts = and_parts (below_all nat_cmp e.0 (f ∷ es)) (is_sorted nat_cmp (f ∷ es)) (true_of _ sorted) in
-    let first = and_parts (is_lt (nat_cmp e.0 f.0)) (below_all nat_cmp e.0 es) parts.0 in
-    (is.rising e.0 f.0 (lt_of e.0 f.0 first.0) (below 1 f refl), rising mesh (f ∷ es) is (of_true _ parts.1) (λ k p at. below (suc k) p at))
-
 kept_below : (size : ℕ) (rt : Table) (dests : Dests) → AreDestsBelow size dests → AreDestsBelow size (with_precs rt dests)
 unfolding with_precs
 kept_below size rt dests below d n is =
@@ -234,15 +204,6 @@ told_below size v rt dests below = by (is_error v)
     by true = below
     by false = kept_below size rt dests below
 
-pub writable : (mesh : Nodes) (v : Variant) (rt : Table) (dests : Dests) (pairs : List (Addr × ℕ)) → IsMesh mesh → AreDestsBelow (length mesh) dests → 1 ≤ maps.len (told v rt dests) → pairs ≡ pairs_of mesh (told v rt dests) → length pairs ≤ 200 → AreDestinations pairs
-writable mesh v rt dests pairs mesh_is below some is few =
-    let list = maps.entries (told v rt dests) in
-    let count : maps.len (told v rt dests) ≡ length list = maps.len-entries (told v rt dests) in
-    let same : length (map (addressed mesh) list) ≡ length list = length_map (addressed mesh) list in
-    let long : length pairs ≡ length (map (addressed mesh) list) = ap length is in
-    record {
-      some = omega arith;
-      few = few;
-      rising = subst IsRising (sym is) (rising mesh list mesh_is (maps.entries_sorted (told v rt dests))
-          (λ k p at. dest_below (length mesh) (told v rt dests) k p (told_below (length mesh) v rt dests below) at));
-    }
+pub writable : (mesh : Nodes) (v : Variant) (rt : Table) (dests : Dests) (pairs : List (Addr × ℕ)) → IsMesh mesh → AreDestsBelow (length mesh) dests → 1 ≤ maps.len (told v rt dests) → pairs ≡ pairs_of mesh (told v rt dests) → AreDestinations pairs
+writable mesh v rt dests pairs mesh_is below some is =
+    subst AreDestinations (sym is) (destinations mesh (told v rt dests) mesh_is (told_below (length mesh) v rt dests below) some)

@@ -72,20 +72,22 @@ fn accepted_number<T: Table>(table: &T, from: usize, d: usize, stated: Option<u3
     }
 }
 
-// The pairs of a route error from a neighbour by which routes are gone.
-fn accepted_dests<T: Table>(table: &T, mesh: &Mesh, from: usize, m: &RerrView<'_>) -> Dests
+// The pairs of a route error from a neighbour by which routes are gone, in place of these. It is a
+// call of its own, so that its locals are gone from the stack before the routes are.
+#[inline(never)]
+fn accept_dests<T: Table>(table: &T, mesh: &Mesh, from: usize, m: &RerrView<'_>, dests: &mut Dests)
     requires nodes { T.nodes table.now ≡ length mesh.now }
     requires known { stranger mesh.now (a_rerr m.now) ≡ None }
-    ensures { result ≡ accepted_unreachable (T.entries table.now) from (dests_in mesh.now m.now) }
+    ensures { let stated = dests_in mesh.now m.now in
+        dests.new ≡ accepted_unreachable (T.entries table.now) from stated }
 {
     let numbers = stated_numbers(mesh, m);
-    let mut dests = Dests::new();
+    dests.clear();
     for d in 0..mesh.len() {
         if let Some(number) = accepted_number(table, from, d, numbers[d]) {
             dests.push(d, number);
         }
     }
-    dests
 }
 
 // Whether a pair names a destination whose route goes by that neighbour, with a larger number than
@@ -130,7 +132,8 @@ fn retract_accepted<T: Table>(
     ensures asked { core.new.asked ≡ core.old.asked }
     ensures waiting { core.new.waiting.rooms ≡ core.old.waiting.rooms }
 {
-    let dests = accepted_dests(&core.table, mesh, from, m);
+    let mut dests = Dests::new();
+    accept_dests(&core.table, mesh, from, m, &mut dests);
     retract(core, mesh, &dests, out)
 }
 

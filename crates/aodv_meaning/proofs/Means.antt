@@ -71,13 +71,13 @@ below mesh a t = some_below mesh a (index_of mesh a) refl t
 pub is_there : (mesh : Nodes) (i : ℕ) → IsMesh mesh → i < length mesh → is_some (index_of mesh (addr_at mesh i)) ≡ true
 is_there mesh i is h = rw (index_of_at mesh i is h) refl
 
-status_back : (k : Known) → status_of (is_kno k) ≡ k
+pub status_back : (k : Known) → status_of (is_kno k) ≡ k
 status_back Kno = refl
 status_back Unk = refl
 
 -- ---- destinations
 
-abbrev AreKeysBelow : ℕ → List (ℕ × ℕ) → Type 0
+abbrev pub AreKeysBelow : ℕ → List (ℕ × ℕ) → Type 0
 AreKeysBelow size [] = Unit {0}
 AreKeysBelow size (e ∷ es) = (e.0 < size) × AreKeysBelow size es
 
@@ -90,11 +90,11 @@ keys_in size (e ∷ es) h =
     or_true true = refl
     or_true false = refl
 
-some_of : (o : Option ℕ) → is_some o ≡ true → (n : ℕ) × (o ≡ Some n)
+pub some_of : (o : Option ℕ) → is_some o ≡ true → (n : ℕ) × (o ≡ Some n)
 some_of (Some n) t = (n, refl)
 some_of None t = cc
 
-dests_keys : (size : ℕ) (dests : Dests) → AreDestsBelow size dests → AreKeysBelow size (maps.entries dests)
+pub dests_keys : (size : ℕ) (dests : Dests) → AreDestsBelow size dests → AreKeysBelow size (maps.entries dests)
 dests_keys size dests all = keys_in size (maps.entries dests) (λ q t.
     let there = some_of (maps.get dests q) (maps.contains_key-keys dests q ∙ t) in
     all q there.0 there.1)
@@ -110,7 +110,7 @@ dests_back mesh dests is all =
     ∙ ap (find nat_cmp q) (there_and_back mesh (maps.entries dests) is (dests_keys (length mesh) dests all))
     ∙ sym (maps.get-entries dests q))
 
-no_strange_pair : (mesh : Nodes) (es : List (ℕ × ℕ)) → IsMesh mesh → AreKeysBelow (length mesh) es → strange_pair mesh (map (addressed mesh) es) ≡ None
+pub no_strange_pair : (mesh : Nodes) (es : List (ℕ × ℕ)) → IsMesh mesh → AreKeysBelow (length mesh) es → strange_pair mesh (map (addressed mesh) es) ≡ None
 no_strange_pair mesh [] is all = refl
 no_strange_pair mesh (e ∷ es) is all = rw (is_there mesh e.0 is all.0) (no_strange_pair mesh es is all.1)
 
@@ -136,7 +136,7 @@ sent_means mesh b m is all sent =
 
 -- ---- strangers
 
-first_in : (mesh : Nodes) (a : Addr) (rest : Option Addr) → unless_in mesh a rest ≡ None → (is_some (index_of mesh a.0) ≡ true) × (rest ≡ None)
+pub first_in : (mesh : Nodes) (a : Addr) (rest : Option Addr) → unless_in mesh a rest ≡ None → (is_some (index_of mesh a.0) ≡ true) × (rest ≡ None)
 first_in mesh a rest e = case (is_some (index_of mesh a.0)) e
   where
     case : (b : Bool) → (if b then rest else Some a) ≡ None → (b ≡ true) × (rest ≡ None)
@@ -149,7 +149,7 @@ two_in mesh a b e =
     let two = first_in mesh b None one.1 in
     (below mesh a.0 one.0, below mesh b.0 two.0)
 
-found_below : (b : Bool) (i n d v : ℕ) (size : ℕ) (rest : Option ℕ) → (b ≡ true → d ≡ i) → i < size → (rest ≡ Some n → d < size) → cond b (Some v) rest ≡ Some n → d < size
+pub found_below : (b : Bool) (i n d v : ℕ) (size : ℕ) (rest : Option ℕ) → (b ≡ true → d ≡ i) → i < size → (rest ≡ Some n → d < size) → cond b (Some v) rest ≡ Some n → d < size
 found_below true i n d v size rest same h later e = let is = same refl in omega arith
 found_below false i n d v size rest same h later e = later e
 
@@ -163,11 +163,11 @@ pairs_below mesh (p ∷ ps) e d n f =
 -- ---- what isn't refused
 
 -- a list of refusals without one
-both : (t : Bool) (e : WireError) (others : List (Option WireError)) → first_of (refuse_if t e ∷ others) ≡ None → (t ≡ false) × (first_of others ≡ None)
+pub both : (t : Bool) (e : WireError) (others : List (Option WireError)) → first_of (refuse_if t e ∷ others) ≡ None → (t ≡ false) × (first_of others ≡ None)
 both true e others h = absurd (none-some e (sym h))
 both false e others h = (refl, h)
 
-not_zero : (n : ℕ) → eqb n 0 ≡ false → 1 ≤ n
+pub not_zero : (n : ℕ) → eqb n 0 ≡ false → 1 ≤ n
 not_zero n h = grind (arith, nat_tests)
 
 -- the tests that follow, from each on
@@ -229,8 +229,8 @@ body_is_datum b h =
     let size = length-drop 12 b in
     (omega arith, omega arith)
 
--- by the type of the packet
-abbrev Said : List ℕ → Bool → Bool → Bool → wire.Message
+-- the message, by the type of the packet: a request, a reply or an error
+abbrev pub Said : List ℕ → Bool → Bool → Bool → wire.Message
 Said b k1 k2 k3 = cond k1 (messages.Rreq (rreq.request b)) (cond k2 (messages.Rrep (rrep.reply b)) (cond k3 (messages.Rerr (rerr.destinations b)) (messages.Parcel (packet.datum b))))
 
 by_kind : (mesh : Nodes) (b : List ℕ) (empty k1 k2 k3 k16 : Bool)

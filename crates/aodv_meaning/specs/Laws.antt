@@ -1,11 +1,11 @@
 -- There and back.
-use Rattle.std.specs.Prelude.{◌≡◌, ℕ, List, None, length}
+use Rattle.std.specs.Prelude.{◌≡◌, ◌≤◌, ◌↔◌, ℕ, List, None, length}
 use Rattle.mesh_base.specs.Meshes.{Nodes, IsMesh}
 use Rattle.aodv_model.specs.Cores.{Message}
 use Rattle.aodv_model.specs.Soundness.{IsMessageInMesh}
 use Rattle.aodv_wire.specs.Spells.{refusal, message_in_fields}
 use Rattle.aodv_meaning.specs.Meaning.{meaning, stranger}
-use Rattle.aodv_meaning.specs.Sent.{IsSent}
+use Rattle.aodv_meaning.specs.Sent.{IsSent, IsAsWritten}
 
 -- what was written of a message means that message, and names nobody outside the mesh
 abbrev pub SentMeans : Type 0
@@ -19,3 +19,10 @@ abbrev pub SpelledIsInMesh : Type 0
 SpelledIsInMesh =
     (mesh : Nodes) (b : List ℕ) → refusal b ≡ None → stranger mesh (message_in_fields b) ≡ None
     → IsMessageInMesh (length mesh) (meaning mesh b)
+
+-- the bytes that are sent of what they mean are those that are as a node writes them, in a mesh
+-- that has a node
+abbrev pub WrittenIsSent : Type 0
+WrittenIsSent =
+    (mesh : Nodes) (b : List ℕ) → IsMesh mesh → 1 ≤ length mesh
+    → IsAsWritten mesh b ↔ IsSent mesh b (meaning mesh b)

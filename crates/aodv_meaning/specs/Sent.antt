@@ -1,5 +1,5 @@
 -- A message of the model as a packet: each index becomes the address of its node.
-use Rattle.std.specs.Prelude.{◌≡◌, ℕ, List, [], map}
+use Rattle.std.specs.Prelude.{◌≡◌, ℕ, None, List, [], map, ⊤}
 use Rattle.std.specs.FinMap as maps
 use Rattle.mesh_base.specs.declared.addr.Addr.{Addr}
 use Rattle.mesh_base.specs.Meshes.{Nodes, addr_at}
@@ -11,7 +11,9 @@ use Rattle.aodv_wire.specs.declared.route_request.Rreq as rreq
 use Rattle.aodv_wire.specs.declared.route_reply.Rrep as rrep
 use Rattle.aodv_wire.specs.declared.message.Message as wire
 use Rattle.aodv_wire.specs.declared.message.Message.TheVariants as messages
-use Rattle.aodv_wire.specs.Spells.{Spells, written}
+use Rattle.aodv_wire.specs.RouteError.{AreDestinations}
+use Rattle.aodv_wire.specs.Spells.{Spells, refusal, message_in_fields, written}
+use Rattle.aodv_meaning.specs.Meaning.{stranger}
 
 abbrev pub addr : Nodes → ℕ → Addr
 addr mesh i = record { 0 = addr_at mesh i }
@@ -50,6 +52,22 @@ out_of mesh (Pkt b d o) =
 pub record IsSent (mesh : Nodes) (b : List ℕ) (m : Message) : Type 0 where
   pub written : b ≡ written (out_of mesh m)
   pub spells : Spells b (out_of mesh m)
+
+-- a message that can be written: of the route errors those whose addresses rise, few enough for a
+-- mesh
+abbrev pub IsWritable : wire.Message → Type 0
+IsWritable (messages.Rreq m) = ⊤
+IsWritable (messages.Rrep m) = ⊤
+IsWritable (messages.Rerr pairs) = AreDestinations pairs
+IsWritable (messages.Parcel p) = ⊤
+
+-- bytes as a node of the mesh writes them: they spell a message that names nodes of the mesh only
+-- and can be written, and they are what is written of it
+pub record IsAsWritten (mesh : Nodes) (b : List ℕ) : Type 0 where
+  pub allowed : refusal b ≡ None
+  pub known : stranger mesh (message_in_fields b) ≡ None
+  pub writable : IsWritable (message_in_fields b)
+  pub same : b ≡ written (message_in_fields b)
 
 -- the packet of a cast: none, or what is written of its message
 abbrev pub IsPacket : Nodes → List ℕ → Cast → Type 0

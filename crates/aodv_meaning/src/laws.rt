@@ -1,5 +1,5 @@
 //! The laws, as functions with nothing to do.
-ghost use Rattle.aodv_meaning.specs.Laws.{SentMeans, SpelledIsInMesh};
+ghost use Rattle.aodv_meaning.specs.Laws.{SentMeans, SpelledIsInMesh, WrittenIsSent};
 
 /// What was written of a message means that message, and names nobody outside the mesh.
 pub fn sent_means()
@@ -9,4 +9,10 @@ pub fn sent_means()
 /// A packet that isn't refused, and names nobody outside the mesh, means a message of the mesh.
 pub fn spelled_is_in_mesh()
     ensures { SpelledIsInMesh }
+{}
+
+/// Bytes are sent of what they mean exactly where they spell a message of the mesh and are what is
+/// written of it: what a reader can test.
+pub fn written_is_sent()
+    ensures { WrittenIsSent }
 {}

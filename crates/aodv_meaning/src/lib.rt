@@ -4,4 +4,4 @@
 
 mod laws;
 
-pub use laws::{sent_means, spelled_is_in_mesh};
+pub use laws::{sent_means, spelled_is_in_mesh, written_is_sent};

@@ -3,5 +3,6 @@ pub mod Fronts
 pub mod Keeps
 pub mod Nodes
 pub mod Readings
+pub mod SoundParts
 pub mod Strangers
 pub mod Taken

@@ -8,3 +8,5 @@ pub mod Turned
 pub mod Discovered
 -- Heard: what a turn on the bytes of a packet answers. Only the crate's own functions cite it.
 pub mod Heard
+-- Restored: what is answered where a node is made of parts that were kept.
+pub mod Restored

@@ -79,3 +79,15 @@ impl From<NoMemory> for AskError {
         AskError::NoMemory
     }
 }
+
+/// Why parts that were kept make no node.
+#[derive(Clone, Copy, Debug, PartialEq, Eq, Error)]
+pub enum Unfit {
+    /// The state isn't one that a node keeps: the number of an entry is wrong for it, its next hop
+    /// is no other node with an entry, or a precursor is outside the mesh.
+    #[error("a state that isn't sound")]
+    Core,
+    /// An item of the inbox names an index outside the mesh, or the node itself as its sender.
+    #[error("an item that can't wait here")]
+    Item,
+}

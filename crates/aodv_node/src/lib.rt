@@ -8,10 +8,13 @@ mod discovery;
 mod heard;
 mod node;
 mod rooms;
+mod sound;
 mod turns;
 
-pub use answers::{AskError, SendError, TurnDone, TurnError};
+pub use answers::{AskError, SendError, TurnDone, TurnError, Unfit};
 pub use node::Node;
 
+#[cfg(test)]
+mod restored_tests;
 #[cfg(test)]
 mod tests;

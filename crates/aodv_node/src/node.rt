@@ -11,9 +11,11 @@ ghost use Rattle.aodv_model.specs.Soundness.{IsDatum};
 ghost use Rattle.aodv_node.specs.Seen.{NodeSeen, IsSoundNode, with_queued};
 ghost use Rattle.aodv_node.specs.Turned.{IsTurn};
 ghost use Rattle.aodv_node.specs.Discovered.{IsSend, IsAsk};
+ghost use Rattle.aodv_node.specs.Restored.{node_of, IsRestored};
 
-use crate::answers::{AskError, SendError, TurnDone, TurnError};
+use crate::answers::{AskError, SendError, TurnDone, TurnError, Unfit};
 use crate::discovery::{try_ask, try_send};
+use crate::sound::{are_items_at, is_sound_table};
 use crate::turns::take_turn;
 use aodv_asked::Asked;
 use aodv_entry::Entry;
@@ -78,6 +80,45 @@ impl Node {
             core,
             inbox: Inbox::new(alloc)?,
         })
+    }
+
+    /// Node `me` of the mesh with these parts, which were made for its size. It takes no memory,
+    /// and looks at each entry and each item once. A refusal is the first that applies of Core and
+    /// Item, and drops the parts.
+    pub fn from_parts(
+        mesh: &Mesh,
+        me: usize,
+        variant: Variant,
+        sn: u32,
+        table: RowTable,
+        asked: Asked,
+        waiting: Waiting,
+        inbox: Inbox,
+    ) -> Result<Node, Unfit>
+        requires me { me < length mesh.now }
+        requires sn { 1 ≤ sn }
+        requires table { table.nodes ≡ length mesh.now }
+        requires asked { length asked.rooms ≡ length mesh.now }
+        requires waiting { length waiting.rooms ≡ length mesh.now }
+        ensures { IsRestored (node_of variant me sn table asked waiting inbox) result }
+    {
+        if !is_sound_table(&table, me) {
+            return Err(Unfit::Core);
+        }
+        if !are_items_at(&inbox, mesh.len(), me) {
+            return Err(Unfit::Item);
+        }
+        // It says that the data that wait are in order.
+        let _dests = waiting.dests();
+        let core = Core {
+            me,
+            sn,
+            variant,
+            table,
+            asked,
+            waiting,
+        };
+        Ok(Node { core, inbox })
     }
 
     /// Makes room for one more item in the inbox. It asks for memory only where there is none.

@@ -52,10 +52,8 @@ pub write_rerr-requires : goal.write_rerr-requires
 write_rerr-requires g c =
     let mesh = c.args.mesh.now in
     let rt = g.T.Table.entries c.args.table.now in
-    let same : length c.as_slice.result.now ≡ length c.loop-k.pairs.items = ap length c.as_slice.ensures.value in
     writable mesh c.args.variant rt c.args.dests.now c.as_slice.result.now c.len-rising.ensures.is_mesh c.requires.below c.requires.some
     (ended mesh c.args.variant rt c.args.dests.now c.loop-k.k c.len-k-end.result c.loop-k.pairs.items c.as_slice.result.now c.loop-k.invariant c.len-k-end.ensures.value c.loop-k-test.false c.as_slice.ensures.value)
-    (omega (arith, same, c.loop-k.invariant.few, c.loop-k.auto.k-end, c.len-k-end.ensures.most))
 
 pub returns : goal.returns
 returns g c =

@@ -2,12 +2,12 @@ use Rattle.std.proofs.Common.{◌≤◌, ◌+◌, length, sym, ◌∙◌, subst,
 use Rattle.aodv_model.specs.Tables.{Dests, accepted_unreachable}
 use Rattle.aodv_meaning.specs.Meaning.{dests_in}
 use Rattle.aodv_handlers.proofs.Stated.{HasTaken, taken_none, taken_more, taken_same, taken_all, accepted_is}
-use Rattle.aodv_handlers.proofs.rerr.accepted_dests.Goals.{in-Some, in_default}
-use Rattle.aodv_handlers.proofs.rerr.accepted_dests.Goals as goal
+use Rattle.aodv_handlers.proofs.rerr.accept_dests.Goals.{in-Some, in_default}
+use Rattle.aodv_handlers.proofs.rerr.accept_dests.Goals as goal
 
 pub loop-d-init : goal.loop-d-init
 loop-d-init g c =
-    taken_none (accepted_unreachable (g.T.Table.entries c.args.table.now) c.args.from (dests_in c.args.mesh.now c.args.m.now)) c.new-dests.result c.new-dests.ensures.map c.new-dests.ensures.entries
+    taken_none (accepted_unreachable (g.T.Table.entries c.args.table.now) c.args.from (dests_in c.args.mesh.now c.args.m.now)) c.clear.new.self c.clear.ensures.map c.clear.ensures.entries
 
 pub loop-d-preserved : goal.loop-d-preserved
 loop-d-preserved g c =
