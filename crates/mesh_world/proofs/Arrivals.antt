@@ -79,7 +79,7 @@ beside_joined mesh nodes radio radio' ready ready' steps x n new i k l at writte
 
 -- ---- a datum is given
 
-give_at : (w : World) (x d : ℕ) (b : Body) (n : worlds.Node) → slice_get w.nodes x ≡ Some n → step w (Give x d b) ≡ Next (push w x (New b d)) Changed
+pub give_at : (w : World) (x d : ℕ) (b : Body) (n : worlds.Node) → slice_get w.nodes x ≡ Some n → step w (Give x d b) ≡ Next (push w x (New b d)) Changed
 unfolding step
 give_at w x d b n e = ap (λ o. at_node o (λ core queue. Next (push w x (New b d)) Changed)) e
 
@@ -190,11 +190,11 @@ unfolding world_in
 shown_without mesh nodes old new id is =
     (λ i. record { nodes = map (node_in mesh) nodes; links = old.links; ever = old.ever; flying = without_shown mesh old.flying id i; next_copy = old.next_copy }) ∙ ap (world_in mesh nodes) (sym is)
 
-deliver_at : (w : World) (id : ℕ) (o : Option Copy) → worlds.find_copy w.flying id ≡ o → step w (Deliver id) ≡ at_copy o (λ c. Next (push (worlds.without_copy w id) c.to (Heard c.from c.message)) (CopyHeard c.from c.to))
+pub deliver_at : (w : World) (id : ℕ) (o : Option Copy) → worlds.find_copy w.flying id ≡ o → step w (Deliver id) ≡ at_copy o (λ c. Next (push (worlds.without_copy w id) c.to (Heard c.from c.message)) (CopyHeard c.from c.to))
 unfolding step
 deliver_at w id o e = ap (λ o. at_copy o (λ c. Next (push (worlds.without_copy w id) c.to (Heard c.from c.message)) (CopyHeard c.from c.to))) e
 
-lose_at : (w : World) (id : ℕ) (o : Option Copy) → worlds.find_copy w.flying id ≡ o → step w (Lose id) ≡ at_copy o (λ c. Next (worlds.without_copy w id) (CopyLost c))
+pub lose_at : (w : World) (id : ℕ) (o : Option Copy) → worlds.find_copy w.flying id ≡ o → step w (Lose id) ≡ at_copy o (λ c. Next (worlds.without_copy w id) (CopyLost c))
 unfolding step
 lose_at w id o e = ap (λ o. at_copy o (λ c. Next (worlds.without_copy w id) (CopyLost c))) e
 

@@ -26,7 +26,7 @@ use Rattle.mesh_world.proofs.Frames.{Ends, ends_done, ends_idle, began, beside, 
 use Rattle.mesh_world.proofs.Counts.{packet_counts}
 use Rattle.mesh_world.proofs.Arrivals.{IsFound, InFlight, map-push, found_seen, none_seen, shown_found, shown_none, in_flight}
 
-double_at : (w : World) (id : ℕ) (o : Option Copy) → worlds.find_copy w.flying id ≡ o → step w (Double id) ≡ at_copy o (λ c. Next (worlds.with_double w c) (CopyDoubled w.next_copy c.to (is_parcel c.message)))
+pub double_at : (w : World) (id : ℕ) (o : Option Copy) → worlds.find_copy w.flying id ≡ o → step w (Double id) ≡ at_copy o (λ c. Next (worlds.with_double w c) (CopyDoubled w.next_copy c.to (is_parcel c.message)))
 unfolding step
 double_at w id o e = ap (λ o. at_copy o (λ c. Next (worlds.with_double w c) (CopyDoubled w.next_copy c.to (is_parcel c.message)))) e
 

@@ -12,5 +12,7 @@ pub mod Sendings
 pub mod Arrivals
 pub mod Doublings
 pub mod Linking
+pub mod Memory
 pub mod Views
 pub mod Openings
+pub mod Restoring

@@ -1,5 +1,5 @@
 -- The kept sets of nodes follow the nodes.
-use Rattle.std.proofs.Common.{◌≡◌, ◌≢◌, ◌↔◌, ℕ, zero, suc, ◌+◌, ◌<◌, ◌≤◌, Bool, true, false, not, ◌&&◌, ◌||◌, ◌==◌, nat_lt, List, [], ◌∷◌, ◌++◌, length, map, get_or, Some, None, refl, ap, sym, ◌∙◌, arith, inl, inr}
+use Rattle.std.proofs.Common.{◌≡◌, ◌≢◌, ◌↔◌, ℕ, zero, suc, ◌+◌, ◌<◌, ◌≤◌, Bool, true, false, not, ◌&&◌, ◌||◌, ◌==◌, nat_lt, List, [], ◌∷◌, ◌++◌, length, take, map, get_or, Some, None, refl, ap, sym, subst, ◌∙◌, arith, inl, inr}
 use Rattle.std.specs.Prelude.{if◌then◌else◌, is_some, option_map, slice_get, slice_set, IsTrue}
 use Rattle.std.specs.List.{AllByRecursion}
 use Rattle.std.specs.Ordering.{nat_cmp}
@@ -8,6 +8,7 @@ use Rattle.std.specs.FinSet as sets
 use Rattle.std.specs.Cmp.{nat_cmp_total, unsigned_tied}
 use Rattle.std.proofs.lemmas.Bool.{cases_lt, cases_eq, le-ltb, lt-ltb, eqb-true, eqb-false}
 use Rattle.std.proofs.lemmas.Option.{slice_get-map, slice_get-get_or}
+use Rattle.std.proofs.lemmas.List.{take_more, take_all, length-take-le}
 use Rattle.mesh_base.specs.Members.{NodeIds}
 use Rattle.mesh_base.specs.Meshes.{Nodes}
 use Rattle.mesh_base.specs.declared.events.Item.{Item}
@@ -18,7 +19,7 @@ use Rattle.aodv_meaning.specs.Effects.{item_in}
 use Rattle.aodv_node.specs.Seen.{NodeSeen}
 use Rattle.mesh_model.specs.Worlds.{Node}
 use Rattle.mesh_model.specs.Choices.{least_from, waits, may_turn_in, may_send_in, may_ask_in, first_send_in, first_ask_in}
-use Rattle.mesh_model.proofs.Lists.{set_same, set_other}
+use Rattle.mesh_model.proofs.Lists.{set_same, set_other, each_append}
 use Rattle.mesh_world.specs.Seen.{node_in}
 use Rattle.mesh_world.specs.Kept.{Ready, IsReadyFor}
 use Rattle.mesh_world.specs.Noted.{none_ready, with_or_without, with_turn, has_items, has_below, noted}
@@ -209,3 +210,64 @@ opening_ready mesh nodes all = record {
     no_ask [] all x = ap is_some (none_passes (length mesh) 0 (length mesh) (may_ask_in None) (omega arith) (λ q above under. refl))
     no_ask (n ∷ nodes) all zero = ap is_some (none_passes (length mesh) 0 (length mesh) (may_ask_in (Some (node_in mesh n))) (omega arith) (λ q above under. may_not_ask n.core q all.0.store))
     no_ask (n ∷ nodes) all (suc x) = no_ask nodes all.1 x
+
+-- ---- a node more at the end
+
+pushed_here : {A : Type 0} (xs : List A) (x : A) → slice_get (xs ++ x ∷ []) (length xs) ≡ Some x
+pushed_here [] x = refl
+pushed_here (y ∷ xs) x = pushed_here xs x
+
+pushed_there : {A : Type 0} (xs : List A) (x : A) (q : ℕ) → q ≢ length xs → slice_get (xs ++ x ∷ []) q ≡ slice_get xs q
+pushed_there [] x zero apart = absurd (apart refl)
+pushed_there [] x (suc q) apart = refl
+pushed_there (y ∷ xs) x zero apart = refl
+pushed_there (y ∷ xs) x (suc q) apart = pushed_there xs x q (λ e. apart (ap (λ (n : ℕ). suc n) e))
+
+last_here : (mesh : Nodes) (nodes : List NodeSeen) (n : NodeSeen) → slice_get (map (node_in mesh) (nodes ++ n ∷ [])) (length nodes) ≡ Some (node_in mesh n)
+last_here mesh nodes n = slice_get-map (node_in mesh) (nodes ++ n ∷ []) (length nodes) ∙ ap (option_map (node_in mesh)) (pushed_here nodes n)
+
+last_there : (mesh : Nodes) (nodes : List NodeSeen) (n : NodeSeen) (q : ℕ) → q ≢ length nodes → slice_get (map (node_in mesh) (nodes ++ n ∷ [])) q ≡ slice_get (map (node_in mesh) nodes) q
+last_there mesh nodes n q apart =
+    slice_get-map (node_in mesh) (nodes ++ n ∷ []) q ∙ (ap (option_map (node_in mesh)) (pushed_there nodes n q apart) ∙ sym (slice_get-map (node_in mesh) nodes q))
+
+-- where a node joins at the end and is noted, the sets are again those of the nodes
+pub pushed_ready : (mesh : Nodes) (nodes : List NodeSeen) (r : Ready) (n : NodeSeen) → IsReadyFor mesh nodes r → IsReadyFor mesh (nodes ++ n ∷ []) (noted r (length nodes) n (length mesh))
+unfolding noted
+pushed_ready mesh nodes r n ready =
+    let x = length nodes in
+    let more = nodes ++ n ∷ [] in
+    let here : slice_get (map (node_in mesh) more) x ≡ Some (node_in mesh n) = last_here mesh nodes n in
+    record {
+      turns = follows r.turns x (has_items n.items) (λ q. may_turn_in (slice_get (map (node_in mesh) nodes) q)) (λ q. may_turn_in (slice_get (map (node_in mesh) more) q))
+          ready.turns (ap may_turn_in here ∙ waits_in mesh n.items) (λ q apart. ap may_turn_in (last_there mesh nodes n q apart));
+      sends = follows r.sends x (has_below (length mesh) (may_send n.core)) (λ q. is_some (first_send_in (length mesh) (slice_get (map (node_in mesh) nodes) q))) (λ q. is_some (first_send_in (length mesh) (slice_get (map (node_in mesh) more) q)))
+          ready.sends (ap (λ o. is_some (first_send_in (length mesh) o)) here ∙ sends_in (length mesh) (node_in mesh n)) (λ q apart. ap (λ o. is_some (first_send_in (length mesh) o)) (last_there mesh nodes n q apart));
+      asks = follows r.asks x (has_below (length mesh) (may_ask n.core)) (λ q. is_some (first_ask_in (length mesh) (slice_get (map (node_in mesh) nodes) q))) (λ q. is_some (first_ask_in (length mesh) (slice_get (map (node_in mesh) more) q)))
+          ready.asks (ap (λ o. is_some (first_ask_in (length mesh) o)) here ∙ asks_in (length mesh) (node_in mesh n)) (λ q apart. ap (λ o. is_some (first_ask_in (length mesh) o)) (last_there mesh nodes n q apart));
+    }
+
+-- the sets of the nodes before place k
+pub record IsReadyUpTo (mesh : Nodes) (nodes : List NodeSeen) (k : ℕ) (r : Ready) : Type 0 where
+  pub sets : IsReadyFor mesh (take k nodes) r
+
+pub ready_up_to_none : (mesh : Nodes) (nodes : List NodeSeen) (r : Ready) → r ≡ none_ready → IsReadyUpTo mesh nodes 0 r
+ready_up_to_none mesh nodes r is = record { sets = subst (IsReadyFor mesh []) (sym is) (opening_ready mesh [] tt) }
+
+pub ready_up_to_more : (mesh : Nodes) (nodes : List NodeSeen) (k : ℕ) (n : NodeSeen) (r r' : Ready) (count : ℕ) → n ≡ get_or nodes k n → k < length nodes → count ≡ length mesh → r' ≡ noted r k n count → IsReadyUpTo mesh nodes k r → IsReadyUpTo mesh nodes (k + 1) r'
+ready_up_to_more mesh nodes k n r r' count is l count_is noted_is before =
+    let front : length (take k nodes) ≡ k = length-take-le k nodes (omega arith) in
+    let grown : take k nodes ++ n ∷ [] ≡ take (k + 1) nodes = ap (λ (m : NodeSeen). take k nodes ++ m ∷ []) is ∙ sym (take_more nodes k n l) in
+    let same : noted r (length (take k nodes)) n (length mesh) ≡ r' = (λ i. noted r (front i) n (sym count_is i)) ∙ sym noted_is in
+    record { sets = subst (IsReadyFor mesh (take (k + 1) nodes)) same (subst (λ (ns : List NodeSeen). IsReadyFor mesh ns (noted r (length (take k nodes)) n (length mesh))) grown (pushed_ready mesh (take k nodes) r n before.sets)) }
+
+pub ready_up_to_all : (mesh : Nodes) (nodes : List NodeSeen) (k : ℕ) (r : Ready) → length nodes ≤ k → IsReadyUpTo mesh nodes k r → IsReadyFor mesh nodes r
+ready_up_to_all mesh nodes k r le up = subst (λ (ns : List NodeSeen). IsReadyFor mesh ns r) (take_all k nodes le) up.sets
+
+-- a fact of each node before place k, and of the next
+pub each_more : (P : NodeSeen → Type 0) (nodes : List NodeSeen) (k : ℕ) (n : NodeSeen) → n ≡ get_or nodes k n → k < length nodes → P n → AllByRecursion P (take k nodes) → AllByRecursion P (take (k + 1) nodes)
+each_more P nodes k n is l here before =
+    let grown : take k nodes ++ n ∷ [] ≡ take (k + 1) nodes = ap (λ (m : NodeSeen). take k nodes ++ m ∷ []) is ∙ sym (take_more nodes k n l) in
+    subst (AllByRecursion P) grown (each_append P (take k nodes) (n ∷ []) before (here, tt))
+
+pub each_of_all : (P : NodeSeen → Type 0) (nodes : List NodeSeen) (k : ℕ) → length nodes ≤ k → AllByRecursion P (take k nodes) → AllByRecursion P nodes
+each_of_all P nodes k le all = subst (AllByRecursion P) (take_all k nodes le) all

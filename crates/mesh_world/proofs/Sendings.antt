@@ -83,7 +83,7 @@ acts mesh nodes radio ready steps x n new reaction o effect out k at sound other
 abbrev send_outcome : World → ℕ → ℕ → Core → List Item → NodeIds → Outcome
 send_outcome w x d core queue near = Next (done_by w x (send core near d) queue) (Sent (send core near d).effect (copies w x ((send core near d).effect).cast))
 
-send_at : (mesh : Nodes) (nodes : List NodeSeen) (radio : RadioState) (x d : ℕ) (n : NodeSeen) (b : Bool) → slice_get nodes x ≡ Some n → may_send n.core d ≡ b
+pub send_at : (mesh : Nodes) (nodes : List NodeSeen) (radio : RadioState) (x d : ℕ) (n : NodeSeen) (b : Bool) → slice_get nodes x ≡ Some n → may_send n.core d ≡ b
     → step (world_in mesh nodes radio) (Send x d)
     ≡ (if b then unless_full x (send_full n.core (range (world_in mesh nodes radio) x) d) (send_outcome (world_in mesh nodes radio) x d n.core (map (item_in mesh) n.items) (range (world_in mesh nodes radio) x)) else Idle)
 unfolding step
@@ -139,7 +139,7 @@ send_done_end mesh nodes old radio radio' ready ready' steps x d near n new effe
 abbrev ask_outcome : World → ℕ → ℕ → Core → List Item → Outcome
 ask_outcome w x d core queue = Next (done_by w x (ask core d) queue) (Sent (ask core d).effect (copies w x ((ask core d).effect).cast))
 
-ask_at : (mesh : Nodes) (nodes : List NodeSeen) (radio : RadioState) (x d : ℕ) (n : NodeSeen) (b : Bool) → slice_get nodes x ≡ Some n → may_ask n.core d ≡ b
+pub ask_at : (mesh : Nodes) (nodes : List NodeSeen) (radio : RadioState) (x d : ℕ) (n : NodeSeen) (b : Bool) → slice_get nodes x ≡ Some n → may_ask n.core d ≡ b
     → step (world_in mesh nodes radio) (Ask x d) ≡ (if b then unless_full x (ask_full n.core) (ask_outcome (world_in mesh nodes radio) x d n.core (map (item_in mesh) n.items)) else Idle)
 unfolding step
 ask_at mesh nodes radio x d n b at may =

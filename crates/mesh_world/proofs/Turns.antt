@@ -73,7 +73,7 @@ took_in_mesh mesh core (item.Heard from bytes) placed written = (placed.0, refl,
 
 -- ---- the step
 
-turn_at : (w : World) (x : ℕ) (n : Node) → slice_get w.nodes x ≡ Some n → step w (Turn x) ≡ turn_of w x n.core n.queue
+pub turn_at : (w : World) (x : ℕ) (n : Node) → slice_get w.nodes x ≡ Some n → step w (Turn x) ≡ turn_of w x n.core n.queue
 unfolding step
 turn_at w x n e = ap (λ o. at_node o (turn_of w x)) e
 

@@ -1,12 +1,12 @@
--- How the code keeps a world. No public contract cites this file.
-use Rattle.std.specs.Prelude.{◌≡◌, ◌≤◌, ◌+◌, ◌*◌, ◌^◌, ℕ, List, length, map, slice_get, is_some}
+-- The world that nodes and a radio are, and how the code keeps one.
+use Rattle.std.specs.Prelude.{◌≡◌, ◌≤◌, ◌+◌, ◌*◌, ℕ, List, length, map, slice_get, is_some}
 use Rattle.std.specs.List.{AllByRecursion}
 use Rattle.std.specs.FinSet as sets
 use Rattle.mesh_base.specs.declared.limits.TheConstants.{MOST_NODES}
 use Rattle.mesh_base.specs.Members.{NodeIds}
 use Rattle.mesh_base.specs.Meshes.{Nodes}
 use Rattle.aodv_node.specs.Seen.{NodeSeen, IsSoundNode}
-use Rattle.mesh_radio.specs.Radios.{RadioState}
+use Rattle.mesh_radio.specs.Radios.{RadioState, most_copies_at_first}
 use Rattle.mesh_model.specs.Worlds.{World}
 use Rattle.mesh_model.specs.Choices.{may_turn_in, first_send_in, first_ask_in}
 use Rattle.mesh_meaning.specs.Packets.{IsWrittenItem, IsWrittenCopy, copy_in}
@@ -42,10 +42,6 @@ pub record IsReadyFor (mesh : Nodes) (nodes : List NodeSeen) (ready : Ready) : T
   pub turns : (x : ℕ) → sets.contains ready.turns x ≡ may_turn_in (slice_get (map (node_in mesh) nodes) x)
   pub sends : (x : ℕ) → sets.contains ready.sends x ≡ is_some (first_send_in (length mesh) (slice_get (map (node_in mesh) nodes) x))
   pub asks : (x : ℕ) → sets.contains ready.asks x ≡ is_some (first_ask_in (length mesh) (slice_get (map (node_in mesh) nodes) x))
-
--- the greatest number of a copy that a world may begin with
-abbrev pub most_copies_at_first : ℕ
-most_copies_at_first = 2 ^ 60
 
 -- what the code of a world keeps
 pub record IsKept (mesh : Nodes) (nodes : List NodeSeen) (radio : RadioState) (ready : Ready) (steps : ℕ) : Type 0 where

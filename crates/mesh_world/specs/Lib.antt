@@ -4,9 +4,9 @@
 pub mod Seen
 -- Steps: what a step answers, and what is then seen of the world.
 pub mod Steps
--- Kept: how the code keeps a world. No public contract cites it.
+-- Kept: the world that nodes and a radio are, and how the code keeps one.
 pub mod Kept
--- Noted: how the kept sets follow the nodes. No public contract cites it either.
+-- Noted: how the kept sets follow the nodes. No public contract cites it.
 pub mod Noted
 -- Parts: the parts of a world, and an event as it is done to them. No public contract cites it.
 pub mod Parts
@@ -14,3 +14,7 @@ pub mod Parts
 pub mod Ends
 -- Counted: the data, as they are counted. No public contract cites it.
 pub mod Counted
+-- Lists: an owned list of nodes.
+pub mod Lists
+-- Restored: which parts are those of a world, and which is the first that isn't in order.
+pub mod Restored

@@ -1,8 +1,8 @@
 -- What a step answers, and what is then seen of the world.
-use Rattle.std.specs.Prelude.{◌≡◌, ◌+◌, ℕ, List, Result, Ok, Err}
+use Rattle.std.specs.Prelude.{◌≡◌, ◌+◌, ℕ, Bool, true, false, not, ◌||◌, List, Result, Ok, Err, IsErrOf}
 use Rattle.mesh_base.specs.declared.events.Done.{Done}
 use Rattle.mesh_model.specs.Worlds as worlds
-use Rattle.mesh_model.specs.Worlds.{Event, step, after}
+use Rattle.mesh_model.specs.Worlds.{World, Event, Link, Cut, Outcome, Idle, Next, step, after}
 use Rattle.mesh_meaning.specs.Events.{node_of}
 use Rattle.mesh_meaning.specs.Answers.{outcome_in, IsDoneInMesh}
 use Rattle.mesh_world.specs.Seen.{WorldSeen}
@@ -21,3 +21,22 @@ abbrev pub IsStep : Event → WorldSeen → Result Done StepError → WorldSeen 
 IsStep e old (Ok d) new packet = IsDone e old d new packet
 IsStep e old (Err (errors.Full node field)) new packet = (step old.world e ≡ worlds.Full node field) × (new ≡ old)
 IsStep e old (Err errors.NoMemory) new packet = new ≡ old
+
+-- nothing comes of the event, since it isn't enabled
+abbrev pub is_idle : Outcome → Bool
+is_idle Idle = true
+is_idle (worlds.Full node field) = false
+is_idle (Next w happening) = false
+
+abbrev pub changes_link : Event → Bool
+changes_link (Link a b) = true
+changes_link (Cut a b) = true
+changes_link others = false
+
+-- the event may ask for memory: it is enabled, or refused for a full counter, and changes no link
+abbrev pub may_need_memory : World → Event → Bool
+may_need_memory w e = not (changes_link e || is_idle (step w e))
+
+-- want of memory is answered only to an event that may ask for some
+abbrev pub IsShortOf : World → Event → Result Done StepError → Type 0
+IsShortOf w e answer = IsErrOf answer errors.NoMemory → may_need_memory w e ≡ true

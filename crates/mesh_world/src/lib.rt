@@ -4,13 +4,18 @@
 #![tactic(auto)]
 
 mod choices;
+mod nodes;
 mod parts;
 mod ready;
+mod restored;
 mod route;
+mod short;
 mod steps;
 mod totals;
 mod world;
 
+pub use nodes::Nodes;
+pub use restored::Part;
 pub use route::End;
 pub use steps::{StepError, Steps};
 pub use totals::Totals;

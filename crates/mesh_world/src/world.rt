@@ -1,20 +1,26 @@
 //! The world.
-ghost use Rattle.std.specs.Prelude.{◌≡◌, ◌<◌, ◌≤◌, length, map, slice_get, Some, IfOk, IfSome};
+ghost use Rattle.std.specs.Prelude.{◌≡◌, ◌<◌, ◌≤◌, ◌^◌, ◌↔◌, length, map, slice_get, Some, IfOk, IfErr, IsOk, IfSome};
 ghost use Rattle.std.specs.List.{AllByRecursion};
 ghost use Rattle.mesh_model.specs.Choices as choices;
 ghost use Rattle.mesh_model.specs.Routes as routes;
 ghost use Rattle.mesh_model.specs.Accounts as accounts;
+ghost use Rattle.mesh_model.specs.Places.{IsEvent};
+ghost use Rattle.mesh_radio.specs.Radios.{most_copies_at_first};
 ghost use Rattle.mesh_meaning.specs.Packets.{IsWrittenCopy, IsWrittenItem, copy_in};
 ghost use Rattle.mesh_meaning.specs.Events.{event_of};
-ghost use Rattle.mesh_world.specs.Seen.{WorldSeen, opening, IsSoundWorld, node_in};
+ghost use Rattle.mesh_world.specs.Seen.{WorldSeen, opening, IsSoundWorld, node_in, data_of, most_data_at_first};
+ghost use Rattle.mesh_world.specs.Kept.{world_in, seen_of};
 ghost use Rattle.mesh_model.specs.Accounts.{any};
-ghost use Rattle.mesh_world.specs.Steps.{IsStep};
+ghost use Rattle.mesh_world.specs.Steps.{IsStep, IsShortOf, may_need_memory};
 ghost use Rattle.mesh_world.specs.Ends.{end_in, IsEndIn};
 ghost use Rattle.mesh_world.specs.Parts.{AreOpened};
+ghost use Rattle.mesh_world.specs.Restored.{AreNodesOf, AreWritten, AreSoundParts, IsFirstPart, most_steps_at_first};
 
 use crate::choices::{first_ask, first_send, first_turn};
+use crate::nodes::Nodes;
 use crate::parts::Parts;
 use crate::ready::Ready;
+use crate::restored::{Part, first_unsound, ready_for};
 use crate::route::{End, follow};
 use crate::steps::{StepError, Steps};
 use crate::totals::{Totals, count_data};
@@ -44,6 +50,48 @@ impl Model for World {
 }
 
 impl World {
+    /// The world of these parts, after so many steps, if all is as in a world; else the first part
+    /// that isn't: an item or a copy, a request, a reply, or the entry of the least node for the
+    /// least destination. It is never `Part::Node`, since a node is in order by itself. The nodes
+    /// are those of the mesh in order, all of this variant, and fewer than 2^60 data are in their
+    /// stores, in inboxes and in flight. It takes no memory, and what is refused is dropped.
+    pub fn from_parts(
+        mesh: &Mesh,
+        variant: Variant,
+        nodes: Nodes,
+        radio: Radio,
+        steps: u64,
+    ) -> Result<World, Part>
+        requires some { 1 ≤ length mesh.now }
+        requires nodes { AreNodesOf mesh.now variant nodes.nodes }
+        requires size { radio.size ≡ length mesh.now }
+        requires next { radio.next_copy ≤ most_copies_at_first }
+        requires steps { steps ≤ most_steps_at_first }
+        requires few { AreWritten mesh.now nodes.nodes radio.flying
+            → data_of (world_in mesh.now nodes.nodes radio) < most_data_at_first }
+        ensures world { IfOk result (λ w. w ≡ seen_of mesh.now nodes.nodes radio steps) }
+        ensures sound { IsOk result ↔ AreSoundParts mesh.now nodes.nodes radio.flying }
+        ensures part { IfErr result (IsFirstPart mesh.now nodes.nodes radio.flying) }
+    {
+        let nodes = nodes.into_vec();
+        if let Some(part) = first_unsound(mesh, &nodes, &radio) {
+            return Err(part);
+        }
+        let ready = ready_for(mesh, &nodes);
+        // They say that the mesh's addresses rise, and that copies are numbered in order and
+        // between nodes of the mesh, as links are.
+        let _nodes = mesh.len();
+        let _copies = radio.count();
+        let parts = Parts {
+            mesh: mesh.copy(),
+            nodes,
+            radio,
+            ready,
+            steps,
+        };
+        Ok(World { parts })
+    }
+
     /// The mesh.
     pub fn mesh(&self) -> &Mesh
         ensures value { result.now ≡ self.now.mesh }
@@ -109,6 +157,15 @@ impl World {
         first_ask(&self.parts.ready, &self.parts.nodes)
     }
 
+    /// Whether the event may ask for memory: it is enabled, or refused for a full counter, and
+    /// changes no link.
+    pub fn may_need_memory(&self, e: &Event<'_>) -> bool
+        requires { IsEvent (length self.now.mesh) (event_of e.now) }
+        ensures { result ≡ may_need_memory self.now.world (event_of e.now) }
+    {
+        self.parts.may_need_memory(e)
+    }
+
     /// Where the route from one node to another ends.
     pub fn follow(&self, from: usize, to: usize) -> End
         requires from { from < length self.now.mesh }
@@ -147,8 +204,16 @@ impl Steps for World {
         Ok(World { parts })
     }
 
+    /// Want of memory is answered only to an event that is enabled, or refused for a full counter,
+    /// and is no change of a link.
     #[inline(always)]
-    fn step(&mut self, alloc: Global, e: &Event<'_>, out: &mut Packet) -> Result<Done, StepError> {
+    fn step(&mut self, alloc: Global, e: &Event<'_>, out: &mut Packet) -> Result<Done, StepError>
+        requires event { IsEvent (length self.old.mesh) (event_of e.now) }
+        requires few { self.old.steps < 2 ^ 48 }
+        ensures step { IsStep (event_of e.now) self.old result self.new out.new.items }
+        ensures memory { IsShortOf self.old.world (event_of e.now) result }
+        ensures sound { IsSoundWorld self.new }
+    {
         match *e {
             Event::Give { node, dest, body } => self.parts.give(alloc, node, dest, body),
             Event::Turn { node } => self.parts.turn(node, out),

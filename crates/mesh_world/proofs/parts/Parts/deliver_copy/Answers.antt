@@ -1,7 +1,9 @@
-use Rattle.std.proofs.Common.{ap, ◌∙◌, length, arith}
+use Rattle.std.proofs.Common.{ap, arith, length, sym, ◌∙◌}
 use Rattle.mesh_world.proofs.Frames.{count_of, is_there, node_at, set_got_again, count_again, read_back}
 use Rattle.mesh_world.proofs.Arrivals.{joined, noted_joined, receiver_in, taken, may_hear, deliver_done, deliver_idle, seen_fits}
 use Rattle.mesh_world.proofs.Moves.{of_ends, at_end, changed, within}
+use Rattle.std.specs.Prelude.{is_some}
+use Rattle.mesh_world.proofs.Memory.{needs_deliver}
 use Rattle.mesh_world.proofs.parts.Parts.deliver_copy.Goals as goal
 
 pub returns-in_default-clause-done : goal.returns-in_default-clause-done
@@ -73,3 +75,13 @@ returns-clause-done c = λ packet.
     (of_ends _ old _ _ _ _ _ _ (deliver_done old.mesh old.nodes.items old.radio c.take.new.self old.ready c.end_with_item.new.self.ready old.steps c.args.id to c.in-Some-take.taken
     c.index_mut.result.now c.make_room.new.self c.hear.new.self packet c.requires.kept c.requires.few (taken old.mesh old.nodes.items old.radio old.ready old.steps c.args.id c.find.result c.in-Some.flying c.take.result c.in-Some-take.taken c.requires.kept c.find.ensures c.in-Some.is c.take.ensures.taken c.in-Some-take.is) c.take.ensures.others here j
     (noted_joined old.mesh old.nodes.items old.radio old.ready c.end_with_item.new.self.ready old.steps to c.index_mut.result.now c.hear.new.self _ c.requires.kept here j c.end_with_item.ensures.ready)))
+
+pub returns-in_err-room-clause-memory : goal.returns-in_err-room-clause-memory
+returns-in_err-room-clause-memory c = λ short.
+    let old = c.args.self.now in
+    sym (needs_deliver old.mesh old.nodes.items old.radio c.args.id c.find.result c.find.ensures) ∙ ap is_some c.in-Some.is
+
+pub returns-in_err-make_room-clause-memory : goal.returns-in_err-make_room-clause-memory
+returns-in_err-make_room-clause-memory c = λ short.
+    let old = c.args.self.now in
+    sym (needs_deliver old.mesh old.nodes.items old.radio c.args.id c.find.result c.find.ensures) ∙ ap is_some c.in-Some.is

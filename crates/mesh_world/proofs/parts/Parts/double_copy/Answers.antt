@@ -1,5 +1,8 @@
+use Rattle.std.proofs.Common.{ap, sym, ◌∙◌}
 use Rattle.mesh_world.proofs.Doublings.{double_done, double_idle}
 use Rattle.mesh_world.proofs.Moves.{of_ends}
+use Rattle.std.specs.Prelude.{is_some}
+use Rattle.mesh_world.proofs.Memory.{needs_double}
 use Rattle.mesh_world.proofs.parts.Parts.double_copy.Goals as goal
 
 pub returns-in_default-clause-done : goal.returns-in_default-clause-done
@@ -12,3 +15,8 @@ returns-clause-done c = λ packet.
     let old = c.args.self.now in
     of_ends _ old _ _ _ _ _ _ (double_done old.mesh old.nodes.items old.radio c.make_room.new.self c.double.new.self old.ready old.steps c.args.id c.in-Some-double.id c.in-Some-double.to c.is_data-parcel.result
     c.find.result c.in-Some.flying c.double.result packet c.requires.kept c.requires.few c.find.ensures c.in-Some.is c.is_data-parcel.ensures c.make_room.ensures.same c.double.ensures.told c.in-Some-double.is c.double.ensures.doubled)
+
+pub returns-in_err-make_room-clause-memory : goal.returns-in_err-make_room-clause-memory
+returns-in_err-make_room-clause-memory c = λ short.
+    let old = c.args.self.now in
+    sym (needs_double old.mesh old.nodes.items old.radio c.args.id c.find.result c.find.ensures) ∙ ap is_some c.in-Some.is

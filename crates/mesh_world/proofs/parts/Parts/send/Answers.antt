@@ -1,8 +1,9 @@
-use Rattle.std.proofs.Common.{sym, arith, length}
+use Rattle.std.proofs.Common.{arith, length, rules, sym, ◌∙◌, ◌≡◌}
 use Rattle.aodv_node.specs.Seen.{IsSoundNode}
 use Rattle.mesh_world.proofs.Frames.{count_of, count_set, size_at, set_got}
 use Rattle.mesh_world.proofs.Sendings.{send_done_end, send_idle_end, send_full_end}
 use Rattle.mesh_world.proofs.Moves.{of_ends, after_cast, noted_before, sound_before, changed, within, still_within, still_few}
+use Rattle.mesh_world.proofs.Memory.{idle_end_unneeded}
 use Rattle.mesh_world.proofs.parts.Parts.send.Goals as goal
 
 pub index_mut-requires : goal.index_mut-requires
@@ -56,3 +57,9 @@ returns-clause-done c =
     c.send.ensures.others c.in-Ok.ensures.does
     (record { radio = c.cast-air.ensures.radio; answer = c.cast-air.ensures.air; few = c.cast-air.ensures.few })
     (noted_before (changed old c.args.x c.send.new.self c.make_room.new.self) c.cast-air.new.self c.end_at.new.self.ready c.args.x (length old.mesh) c.send.new.self c.cast-air.ensures.others at count c.end_at.ensures.ready)))
+
+pub returns-then-is_err-clause-done : goal.returns-then-is_err-clause-done
+returns-then-is_err-clause-done c =
+    let old = c.args.self.now in
+    let same : c.make_room.new.self ≡ old.radio = search rules in
+    idle_end_unneeded _ old c.make_room.new.self c.args.out.now.items same c.requires.kept c.requires.few (sym c.if-may_need_memory.false ∙ c.may_need_memory.ensures)

@@ -1,8 +1,10 @@
-use Rattle.std.proofs.Common.{sym, arith, length}
+use Rattle.std.proofs.Common.{ap, arith, length, rules, sym, ◌∙◌, ◌≡◌}
 use Rattle.aodv_node.specs.Seen.{IsSoundNode}
 use Rattle.mesh_world.proofs.Frames.{count_of, count_set, node_at, size_at, set_got}
 use Rattle.mesh_world.proofs.Turns.{turn_done_end, turn_idle_end, turn_full_end, no_memory_end, no_refusal, no_stranger}
 use Rattle.mesh_world.proofs.Moves.{of_ends, after_cast, noted_before, sound_before, changed, within, still_within, still_few}
+use Rattle.mesh_world.specs.Noted.{has_items}
+use Rattle.mesh_world.proofs.Memory.{idle_end_unneeded, needs_turn}
 use Rattle.mesh_world.proofs.parts.Parts.turn.Goals as goal
 
 pub index_mut-requires : goal.index_mut-requires
@@ -70,3 +72,16 @@ returns-clause-done c =
     c.in-Ok.ensures.turn
     (record { radio = c.cast-air.ensures.radio; answer = c.cast-air.ensures.air; few = c.cast-air.ensures.few })
     (noted_before (changed old c.args.x c.turn.new.self c.make_room.new.self) c.cast-air.new.self c.end_at.new.self.ready c.args.x (length old.mesh) c.turn.new.self c.cast-air.ensures.others at count c.end_at.ensures.ready)))
+
+pub returns-in-Err-NoMemory-clause-memory : goal.returns-in-Err-NoMemory-clause-memory
+returns-in-Err-NoMemory-clause-memory c = λ short.
+    let old = c.args.self.now in
+    let at = node_at old.mesh old.nodes.items old.radio old.ready old.steps c.args.x c.index_mut.result.now c.requires.kept c.requires.node c.index_mut.ensures.value in
+    let needs = rw c.in-Err-NoMemory.field-0-is at c.in-Err-NoMemory.ensures.turn in
+    sym (needs_turn old.mesh old.nodes.items old.radio c.args.x c.index_mut.result.now at) ∙ ap has_items needs.0.was
+
+pub returns-then-is_err-clause-done : goal.returns-then-is_err-clause-done
+returns-then-is_err-clause-done c =
+    let old = c.args.self.now in
+    let same : c.make_room.new.self ≡ old.radio = search rules in
+    idle_end_unneeded _ old c.make_room.new.self c.args.out.now.items same c.requires.kept c.requires.few (sym c.if-may_need_memory.false ∙ c.may_need_memory.ensures)

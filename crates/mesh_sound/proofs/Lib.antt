@@ -1,0 +1,6 @@
+pub mod Places
+pub mod Rising
+pub mod Tables
+pub mod Readings
+pub mod Backed
+pub mod Items
