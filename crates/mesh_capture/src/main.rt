@@ -47,7 +47,7 @@ fn status_of(rt: &HostRuntime) -> Result<CaptureStatus, CaptureStatus> {
             return Err(CaptureStatus::NoMemory);
         }
     }
-    let mut input = StdSource::new(rt.reader());
+    let mut input = StdSource::new(rt.stdin());
     let mut out = StdSink::new(io::writer(rt));
     let mut errors = StdSink::new(rt.stderr());
     Ok(top::capture(rt.alloc(), &texts, &mut input, &mut out, &mut errors))

@@ -17,7 +17,7 @@ use crate::lines::{put_bad, put_header};
 use crate::reading::read_lines;
 use crate::status::CaptureStatus;
 use arrayvec::ArrayVec;
-use mesh_io::{Buffered, Loan, LongLines, Sink, Source, Through};
+use mesh_io::{BufferRoom, Buffered, Loan, LongLines, Sink, Source, Through};
 use std::alloc::Global;
 use std::marker::Brand;
 
@@ -96,6 +96,7 @@ fn write_gathered<I: Source, O: Sink>(
 // Writes the capture of a source through a buffer before the sink, which comes back.
 fn write_through<'s, I: Source, O: Sink, L: Loan>(
     alloc: Global,
+    room: BufferRoom,
     input: &mut I,
     out: &'s mut O,
     status: &mut CaptureStatus,
@@ -111,7 +112,7 @@ fn write_through<'s, I: Source, O: Sink, L: Loan>(
         (O.faults out.entry.now) (O.faults result.now) status.new }
     ensures words { status.new ≢ CaptureStatus.Usage }
 {
-    let mut buffer: Buffered<Through<'s, O, L>> = Buffered::lent(out);
+    let mut buffer: Buffered<Through<'s, O, L>> = Buffered::lent(out, room);
     *status = write_gathered(alloc, input, &mut buffer);
     buffer.give_back()
 }
@@ -126,8 +127,11 @@ fn write_file<I: Source, O: Sink>(alloc: Global, input: &mut I, out: &mut O) -> 
         (O.faults out.old) (O.faults out.new) result }
     ensures words { result ≢ CaptureStatus.Usage }
 {
+    let Ok(room) = BufferRoom::new(alloc) else {
+        return CaptureStatus::NoMemory;
+    };
     let mut status = CaptureStatus::Done;
-    let _out = write_through::<I, O, Brand>(alloc, input, out, &mut status);
+    let _out = write_through::<I, O, Brand>(alloc, room, input, out, &mut status);
     status
 }
 

@@ -44,7 +44,7 @@ fn status_of(rt: &HostRuntime) -> Result<CheckStatus, CheckStatus> {
             return Err(CheckStatus::NoMemory);
         }
     }
-    let mut input = StdSource::new(rt.reader());
+    let mut input = StdSource::new(rt.stdin());
     let mut out = StdSink::new(io::writer(rt));
     Ok(top::check(rt.alloc(), &texts, &mut input, &mut out))
 }

@@ -1,62 +1,29 @@
 //! The top call.
 ghost use Rattle.std.specs.Prelude.{◌≡◌, ◌≢◌, ◌↔◌, ℕ, [], true, false, map, None, IfSome};
 ghost use Rattle.mesh_io.specs.Cause.{Rose};
-ghost use Rattle.mesh_io.specs.Buffering.{inner_of, gathered_in, held_by};
 ghost use Rattle.mesh_run.specs.Causes.{HasStatusCause, HasSourceCause};
 ghost use Rattle.mesh_cli.specs.Words.{command_of, IsAllowed, IsPlan};
 ghost use Rattle.mesh_cli.specs.Does.{IsCommandRun, IsWritten, Completes, IsReadBy, reads, made_by};
 
 use crate::trial::trial;
 use crate::words::{Command, Plan, command_of};
-use mesh_io::{Buffered, Loan, Sink, Source, Through};
+use mesh_io::{Sink, Source};
 use mesh_make::make;
 use mesh_run::{Status, run};
 use mesh_world::World;
 use std::alloc::Global;
-use std::marker::Brand;
 
-// Writes a made schedule into a buffer, and hands on what is gathered.
-fn make_gathered<S: Sink>(plan: Plan, buffer: &mut Buffered<S>) -> Status
-    requires { IsPlan plan }
-    ensures told { IsWritten (held_by S.held buffer.old) (held_by S.held buffer.new)
-        (made_by plan) result }
-    ensures handed_on { result ≢ Status.WriteFault → gathered_in buffer.new ≡ [] }
-    ensures write { HasStatusCause Status.WriteFault
-        (S.faults (inner_of buffer.old)) (S.faults (inner_of buffer.new)) result }
-{
-    if make(plan.seed, plan.nodes, plan.steps, buffer).is_err() {
-        return Status::WriteFault;
-    }
-    match buffer.flush() {
-        Ok(()) => Status::Done,
-        Err(_) => Status::WriteFault,
-    }
-}
-
-// Writes a made schedule through a buffer before the sink, which comes back.
-fn make_through<'s, O: Sink, L: Loan>(plan: Plan, out: &'s mut O, status: &mut Status) -> &'s mut O
-    requires plan { IsPlan plan }
-    requires name { out.ghost_name ≡ L.name }
-    requires start { O.held out.now ≡ L.start }
-    ensures same { result.ghost_name ≡ out.entry.ghost_name }
-    ensures told { IsWritten (O.held out.entry.now) (O.held result.now) (made_by plan) status.new }
-    ensures write { HasStatusCause Status.WriteFault
-        (O.faults out.entry.now) (O.faults result.now) status.new }
-{
-    let mut buffer: Buffered<Through<'s, O, L>> = Buffered::lent(out);
-    *status = make_gathered(plan, &mut buffer);
-    buffer.give_back()
-}
-
-// Writes a made schedule.
+// Writes a made schedule. It stands apart, so that no other command pays for its frame.
+#[inline(never)]
 fn make_schedule<O: Sink>(plan: Plan, out: &mut O) -> Status
     requires { IsPlan plan }
     ensures told { IsWritten (O.held out.old) (O.held out.new) (made_by plan) result }
     ensures write { HasStatusCause Status.WriteFault (O.faults out.old) (O.faults out.new) result }
 {
-    let mut status = Status::Done;
-    let _out = make_through::<O, Brand>(plan, out, &mut status);
-    status
+    match make(plan.seed, plan.nodes, plan.steps, out) {
+        Ok(()) => Status::Done,
+        Err(_) => Status::WriteFault,
+    }
 }
 
 // Does a command, from the source to the sink.
@@ -87,8 +54,9 @@ fn do_command<I: Source, O: Sink>(
 /// and writes the text of its run, `run --quiet` the text's last line alone; `make` writes the
 /// schedule that a seed makes; `trial` runs such a schedule, and writes the last line of its text.
 /// `run --variant NAME` and `trial --variant NAME` let all nodes run that variant of the protocol.
-/// What is written is gathered in a buffer of 65536 bytes, and handed on when that is full, before
-/// each read of the source, and at the end, unless a write has failed.
+/// What `run` and `trial` write is gathered in a buffer of 65536 bytes, and handed on when that is
+/// full, before each read of the source, and at the end, unless a write has failed. `make` writes
+/// some 8000 bytes at a time, and takes no memory.
 pub fn mesh<I: Source, O: Sink>(alloc: Global, words: &[&str], input: &mut I, out: &mut O) -> Status
     // The words are of no form: nothing is read or written.
     ensures usage_exactly_for_other_words { (result ≡ Status.Usage)

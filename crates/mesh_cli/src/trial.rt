@@ -12,7 +12,7 @@ ghost use Rattle.mesh_cli.specs.Does.{made_by};
 
 use crate::words::Plan;
 use mesh_base::{LineBuf, Variant};
-use mesh_io::{Buffered, Loan, Sink, Through};
+use mesh_io::{BufferRoom, Buffered, Loan, Sink, Through};
 use mesh_make::Maker;
 use mesh_run::{Point, Say, Status, do_value, finish};
 use mesh_world::World;
@@ -73,6 +73,7 @@ fn trial_gathered<O: Sink>(
 // Runs a made schedule through a buffer before the sink, which comes back.
 fn trial_through<'s, O: Sink, L: Loan>(
     alloc: Global,
+    room: BufferRoom,
     variant: Variant,
     plan: Plan,
     out: &'s mut O,
@@ -89,13 +90,14 @@ fn trial_through<'s, O: Sink, L: Loan>(
     ensures read { status.new ≢ Status.ReadFault }
     ensures words { status.new ≢ Status.Usage }
 {
-    let mut buffer: Buffered<Through<'s, O, L>> = Buffered::lent(out);
+    let mut buffer: Buffered<Through<'s, O, L>> = Buffered::lent(out, room);
     *status = trial_gathered(alloc, variant, plan, &mut buffer);
     buffer.give_back()
 }
 
 /// Runs a made schedule, where all nodes run this variant of the protocol, and writes the last line
 /// of its text. The lines are run as values, and none is written or read.
+#[inline(never)]
 pub fn trial<O: Sink>(alloc: Global, variant: Variant, plan: Plan, out: &mut O) -> Status
     requires { IsPlan plan }
     ensures told { IsOutput (O.held out.old) (O.held out.new)
@@ -104,7 +106,10 @@ pub fn trial<O: Sink>(alloc: Global, variant: Variant, plan: Plan, out: &mut O) 
     ensures read { result ≢ Status.ReadFault }
     ensures words { result ≢ Status.Usage }
 {
+    let Ok(room) = BufferRoom::new(alloc) else {
+        return Status::NoMemory;
+    };
     let mut status = Status::Done;
-    let _out = trial_through::<O, Brand>(alloc, variant, plan, out, &mut status);
+    let _out = trial_through::<O, Brand>(alloc, room, variant, plan, out, &mut status);
     status
 }

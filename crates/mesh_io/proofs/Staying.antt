@@ -22,7 +22,7 @@ undecided_end most given ended bytes e = ors ended (first_line bytes).ends (ltb 
     ors false false c d e = refl
 
 -- where the bytes decided, none was read: so a decision that isn't made was not made before
-pub was_open : {S : Type 0} {G : Ghosts S} (old now : Cutter S G) → (decides_in old ≡ true → now ≡ old) → now.decision ≡ decision.Open → ¬ (decides_in old ≡ true)
+pub was_open : {S : Type 0} {room : ℕ} {G : Ghosts S} (old now : Cutter S room G) → (decides_in old ≡ true → now ≡ old) → now.decision ≡ decision.Open → ¬ (decides_in old ≡ true)
 was_open old now unread is d =
     let here = ap decides_in (unread d) in
     let none = open_is now.most now.given now.ended (pending_in now) now.decision now.decided is in
@@ -32,14 +32,14 @@ was_open old now unread is d =
     differ e = absurd cc
 
 -- what was refused is what is refused
-pub was_refused : {S : Type 0} {G : Ghosts S} (old now : Cutter S G) → (decides_in old ≡ true → now ≡ old) → (refusal : LineError) → refusal_in old ≡ Some refusal → now ≡ old
+pub was_refused : {S : Type 0} {room : ℕ} {G : Ghosts S} (old now : Cutter S room G) → (decides_in old ≡ true → now ≡ old) → (refusal : LineError) → refusal_in old ≡ Some refusal → now ≡ old
 was_refused old now unread refusal is =
     unread (closed_is old.most old.given old.ended (pending_in old) old.decision old.decided (λ e. absurd (differ (sym (ap refusal_by e) ∙ is))))
   where
     differ : None ≢ Some refusal
     differ e = absurd cc
 
-pub stays : {S : Type 0} {G : Ghosts S} (old now : Cutter S G) (P : LineError → Type 0) → (decides_in old ≡ true → now ≡ old)
+pub stays : {S : Type 0} {room : ℕ} {G : Ghosts S} (old now : Cutter S room G) (P : LineError → Type 0) → (decides_in old ≡ true → now ≡ old)
     → ((refusal : LineError) → refusal_in now ≡ Some refusal → now ≡ old → P refusal) → IfSome (refusal_in old) P
 stays old now P unread h = by_cases (refusal_in old) refl
   where
@@ -47,14 +47,14 @@ stays old now P unread h = by_cases (refusal_in old) refl
     by_cases None e = tt
     by_cases (Some refusal) e = let same = was_refused old now unread refusal e in h refusal (ap refusal_in same ∙ e) same
 
-pub stays_none : {S : Type 0} {G : Ghosts S} (old now : Cutter S G) (P : LineError → Type 0) → (decides_in old ≡ true → now ≡ old)
+pub stays_none : {S : Type 0} {room : ℕ} {G : Ghosts S} (old now : Cutter S room G) (P : LineError → Type 0) → (decides_in old ≡ true → now ≡ old)
     → refusal_in now ≡ None → IfSome (refusal_in old) P
 stays_none old now P unread none = stays old now P unread (λ refusal e same. absurd (differ refusal (sym e ∙ none)))
   where
     differ : (refusal : LineError) → Some refusal ≢ None
     differ refusal e = absurd cc
 
-pub stays_same : {S : Type 0} {G : Ghosts S} (old now : Cutter S G) (refusal : LineError) → (decides_in old ≡ true → now ≡ old)
+pub stays_same : {S : Type 0} {room : ℕ} {G : Ghosts S} (old now : Cutter S room G) (refusal : LineError) → (decides_in old ≡ true → now ≡ old)
     → refusal_in now ≡ Some refusal → IfSome (refusal_in old) (λ r. ◌≡◌ {A = Result Bool LineError} (Err refusal) (Err r) × (now ≡ old))
 stays_same old now refusal unread is =
     stays old now (λ r. ◌≡◌ {A = Result Bool LineError} (Err refusal) (Err r) × (now ≡ old)) unread (λ r e same. (ap (λ x. Err x) (sym (same_Some r refusal (sym e ∙ is))), same))

@@ -9,11 +9,7 @@ inner_of buffer = buffer.inner
 
 -- the bytes gathered and not yet handed on
 abbrev pub gathered_in : {S : Type 0} → Buffered S → List ℕ
-gathered_in buffer = buffer.gathered.items
-
--- the most bytes that are gathered
-abbrev pub buffer_size : ℕ
-buffer_size = 65536
+gathered_in buffer = buffer.gathered
 
 -- what the inner sink holds and then what is gathered, where that is told
 abbrev pub held_by : {S : Type 0} → (S → Option (List ℕ)) → Buffered S → Option (List ℕ)

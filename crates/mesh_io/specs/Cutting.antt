@@ -12,27 +12,27 @@ use Rattle.mesh_io.specs.declared.line_error.LineError.{LineError}
 use Rattle.mesh_io.specs.declared.line_error.LineError.TheVariants as error
 
 -- the line that was found last
-abbrev pub line_in : {S : Type 0} {G : Ghosts S} → Cutter S G → List ℕ
+abbrev pub line_in : {S : Type 0} {room : ℕ} {G : Ghosts S} → Cutter S room G → List ℕ
 line_in cutter = take cutter.len cutter.buffer
 
 -- the bytes that were read and not yet given
-abbrev pub pending_in : {S : Type 0} {G : Ghosts S} → Cutter S G → List ℕ
+abbrev pub pending_in : {S : Type 0} {room : ℕ} {G : Ghosts S} → Cutter S room G → List ℕ
 pending_in cutter = drop cutter.size cutter.buffer
 
 -- the bytes to come, where the source tells them
-abbrev pub ahead_in : {S : Type 0} {G : Ghosts S} → (S → Option (List ℕ)) → Cutter S G → Option (List ℕ)
+abbrev pub ahead_in : {S : Type 0} {room : ℕ} {G : Ghosts S} → (S → Option (List ℕ)) → Cutter S room G → Option (List ℕ)
 ahead_in left cutter = prepend_known (pending_in cutter) (left (cutter.source).now)
 
 -- how often its source has failed
-abbrev pub faults_in : {S : Type 0} {G : Ghosts S} → (S → ℕ) → Cutter S G → ℕ
+abbrev pub faults_in : {S : Type 0} {room : ℕ} {G : Ghosts S} → (S → ℕ) → Cutter S room G → ℕ
 faults_in faults cutter = faults (cutter.source).now
 
 -- the pending bytes decide what comes next
-abbrev pub decides_in : {S : Type 0} {G : Ghosts S} → Cutter S G → Bool
+abbrev pub decides_in : {S : Type 0} {room : ℕ} {G : Ghosts S} → Cutter S room G → Bool
 decides_in cutter = decides cutter.most cutter.given cutter.ended (pending_in cutter)
 
 -- the most reads that can still be asked for the next line
-abbrev pub reads_to_come : {S : Type 0} {G : Ghosts S} → Cutter S G → ℕ
+abbrev pub reads_to_come : {S : Type 0} {room : ℕ} {G : Ghosts S} → Cutter S room G → ℕ
 reads_to_come cutter = if cutter.ended then 0 else 1 + (cutter.most.line + 1 - length (pending_in cutter))
 
 -- a decision that is a refusal
@@ -44,7 +44,7 @@ refusal_by decision.TooLong = Some error.TooLong
 refusal_by decision.TooMuch = Some error.TooMuch
 
 -- the refusal that each call from now on answers, if there is one
-abbrev pub refusal_in : {S : Type 0} {G : Ghosts S} → Cutter S G → Option LineError
+abbrev pub refusal_in : {S : Type 0} {room : ℕ} {G : Ghosts S} → Cutter S room G → Option LineError
 refusal_in cutter = refusal_by cutter.decision
 
 -- a refusal by a limit is answered from now on

@@ -1,48 +1,34 @@
 //! A buffer before a sink.
 ghost use Rattle.std.specs.Prelude.{◌≡◌, ◌≤◌, ◌<◌, ◌+◌, ◌-◌, ℕ, List, length, [], ◌++◌, take, drop, min, Ok, IsOk, IfOk, OnOk, OnErr};
 ghost use Rattle.std.specs.Io.KnownBytes.{Keeps, WriteAppends};
-ghost use Rattle.arrayvec.specs.ArrayVec.{array_vec_len};
 ghost use Rattle.mesh_io.specs.Cause.{HasCause};
 ghost use Rattle.mesh_io.specs.Puts.{AppendsPrefix};
-ghost use Rattle.mesh_io.specs.Buffering.{inner_of, gathered_in, held_by, buffer_size, HandsOn};
+ghost use Rattle.mesh_io.specs.Buffering.{inner_of, gathered_in, held_by, HandsOn};
+ghost use Rattle.mesh_io.specs.BufferSize.{buffer_size};
 
+use crate::buffer_room::BufferRoom;
 use crate::put::{PutFault, put_front};
 use crate::sink::Sink;
 use crate::source::Failed;
 use crate::through::{Loan, Through};
-use arrayvec::ArrayVec;
 
-/// How many bytes a buffer has room for.
-const SIZE: usize = 65536;
-
-/// A sink that gathers the pieces put, and hands them on to another sink, many at a time. It has
-/// its memory in itself. What isn't flushed when it is dropped is lost.
+/// A sink that gathers the pieces put, and hands them on to another sink, many at a time. All its
+/// memory is taken before it is made. What isn't flushed when it is dropped is lost.
 #[derive(Drop)]
 pub struct Buffered<S> {
     inner: S,
-    gathered: ArrayVec<u8, SIZE>,
-}
-
-// Removes the first n bytes.
-fn remove_front(bytes: &mut ArrayVec<u8, SIZE>, n: usize)
-    requires { n ≤ array_vec_len bytes.old }
-    ensures { bytes.new.items ≡ drop n bytes.old.items }
-{
-    let len = bytes.len();
-    bytes.as_mut_slice().copy_within(n..len, 0);
-    bytes.truncate(len - n);
+    gathered: BufferRoom,
 }
 
 impl<S: Sink> Buffered<S> {
-    /// An empty buffer before this sink.
-    pub fn new(inner: S) -> Buffered<S>
+    /// An empty buffer before this sink, in this memory.
+    pub fn new(inner: S, room: BufferRoom) -> Buffered<S>
         ensures inner { inner_of result ≡ inner }
         ensures gathered { gathered_in result ≡ [] }
     {
-        Buffered {
-            inner,
-            gathered: ArrayVec::new(),
-        }
+        let mut gathered = room;
+        gathered.clear();
+        Buffered { inner, gathered }
     }
 
     /// Hands on all that is gathered. Where the inner sink fails, what it has taken leaves the
@@ -57,28 +43,15 @@ impl<S: Sink> Buffered<S> {
         ensures nothing { gathered_in self.old ≡ []
             → IsOk result × (inner_of self.new ≡ inner_of self.old) }
     {
-        let handed = put_front(&mut self.inner, self.gathered.as_slice());
-        if handed < self.gathered.len() {
-            remove_front(&mut self.gathered, handed);
+        let gathered = self.gathered.bytes();
+        let count = gathered.len();
+        let handed = put_front(&mut self.inner, gathered);
+        if handed < count {
+            self.gathered.drop_front(handed);
             return Err(PutFault);
         }
         self.gathered.clear();
         Ok(())
-    }
-
-    // Gathers as much of the piece as there is room for.
-    fn gather(&mut self, piece: &[u8]) -> usize
-        ensures count { result ≡ min (length piece.now)
-            (buffer_size - length (gathered_in self.old)) }
-        ensures inner { inner_of self.new ≡ inner_of self.old }
-        ensures gathered { gathered_in self.new ≡ gathered_in self.old ++ take result piece.now }
-        ensures room { length (gathered_in self.old) ≤ buffer_size }
-    {
-        let n = piece.len().min(self.gathered.remaining_capacity());
-        match self.gathered.try_extend_from_slice(&piece[..n]) {
-            Ok(()) => n,
-            Err(_) => unreachable!(),
-        }
     }
 
     /// The inner sink. What is gathered is lost, so flush first.
@@ -113,25 +86,25 @@ impl<S: Sink> Sink for Buffered<S> {
             (gathered_in self.old) (gathered_in self.new)) }
     {
         if !self.gathered.is_full() {
-            return Ok(self.gather(piece));
+            return Ok(self.gathered.gather(piece));
         }
         match self.flush() {
-            Ok(()) => Ok(self.gather(piece)),
+            Ok(()) => Ok(self.gathered.gather(piece)),
             Err(PutFault) => Err(Failed),
         }
     }
 }
 
 impl<'s, O: Sink, L: Loan> Buffered<Through<'s, O, L>> {
-    /// An empty buffer before the sink behind a reference.
-    pub fn lent(to: &'s mut O) -> Buffered<Through<'s, O, L>>
+    /// An empty buffer before the sink behind a reference, in this memory.
+    pub fn lent(to: &'s mut O, room: BufferRoom) -> Buffered<Through<'s, O, L>>
         requires name { to.ghost_name ≡ L.name }
         requires start { O.held to.old ≡ L.start }
         ensures sink { (inner_of result).to.now ≡ to.old }
         ensures gathered { gathered_in result ≡ [] }
         ensures held { held_by (λ t. O.held t.to.now) result ≡ O.held to.old }
     {
-        Buffered::new(Through::new(to))
+        Buffered::new(Through::new(to), room)
     }
 
     /// The reference. What is gathered is lost, so flush first.

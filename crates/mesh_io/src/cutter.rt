@@ -4,20 +4,21 @@ ghost use Rattle.std.specs.Io.KnownBytes.{IsAtEnd, Keeps};
 ghost use Rattle.mesh_io.specs.Cause.{HasCause, HasReadCause};
 ghost use Rattle.mesh_io.specs.NextLines.{known_after};
 ghost use Rattle.mesh_io.specs.Decisions.{decision_of};
-ghost use Rattle.mesh_io.specs.declared.read_buffer.TheConstants.{ASKED, ROOM};
+ghost use Rattle.mesh_io.specs.declared.read_buffer.TheConstants.{ASKED};
 
 use crate::decision::{Decision, decide};
 use crate::limits::Limits;
 use crate::line_error::LineError;
-use crate::read_buffer::{ASKED, ROOM, ReadBuffer};
+use crate::read_buffer::{ASKED, ReadBuffer};
 use crate::source::{Failed, Source};
 
 /// Cuts what a source gives into lines within these limits. The line that was found last stands at
-/// the buffer's prefix, with its LF, and behind it the bytes that were read and not yet given.
+/// the buffer's prefix, with its LF, and behind it the bytes that were read and not yet given. The
+/// buffer has room for the longest line, its LF not among it, and one read.
 #[derive(Drop)]
-pub struct Cutter<'s, S: Source> {
+pub struct Cutter<'s, S: Source, const ROOM: usize> {
     source: &'s mut S,
-    buffer: ReadBuffer,
+    buffer: ReadBuffer<ROOM>,
     most: Limits,
     // Of the line that was found last: its bytes, and with its LF.
     len: usize,
@@ -35,11 +36,11 @@ pub struct Cutter<'s, S: Source> {
     ghost at_end: { known_after ended (S.left source.now) ≡ [] },
 }
 
-impl<'s, S: Source> Cutter<'s, S> {
+impl<'s, S: Source, const ROOM: usize> Cutter<'s, S, ROOM> {
     ghost use Rattle.mesh_io.specs.Cutting.{line_in, pending_in, ahead_in, faults_in, decides_in, reads_to_come, Tells, Refuses, IsCounted, HasNoLf, refusal_in};
 
     /// At the prefix of the source.
-    pub fn new(source: &'s mut S, most: Limits) -> Cutter<'s, S>
+    pub fn new(source: &'s mut S, most: Limits) -> Cutter<'s, S, ROOM>
         requires { most.line + ASKED ≤ ROOM }
         ensures same { result.source.ghost_name ≡ source.entry.ghost_name }
         ensures source { result.source.now ≡ source.old }

@@ -4,6 +4,7 @@
 //! has a fault as its cause.
 #![tactic(auto)]
 
+mod buffer_room;
 mod buffered;
 mod calls;
 mod cutter;
@@ -24,6 +25,7 @@ mod sure;
 mod tests;
 mod through;
 
+pub use buffer_room::BufferRoom;
 pub use buffered::Buffered;
 pub use calls::Calls;
 pub use limits::{LONGEST_TEXT, LONGEST_TEXT_LINE};

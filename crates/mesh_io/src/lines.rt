@@ -7,19 +7,23 @@ ghost use Rattle.mesh_io.specs.NextLines.{schedule_limits};
 use crate::cutter::Cutter;
 use crate::limits::Limits;
 use crate::line_error::LineError;
+use crate::read_buffer::ASKED;
 use crate::source::Source;
 use mesh_base::{LONGEST_INPUT, LONGEST_LINE};
+
+/// Room for the longest line of a schedule and one read, in bytes.
+const LINES_ROOM: usize = LONGEST_LINE + ASKED;
 
 /// Reads a source line by line: a line has at most `LONGEST_LINE` bytes, and the input at most
 /// `LONGEST_INPUT`. What goes past a limit first, in the order of the bytes, is refused, and where
 /// one byte goes past both it is the input's that counts.
 ///
 /// The source is asked for 4096 bytes at a time, and only where the bytes that it gave don't decide
-/// what comes next. No memory is taken: a line is lent from the reader, which has about 12400 bytes
+/// what comes next. No memory is taken: a line is lent from the reader, which has about 4800 bytes
 /// in itself and is best made where it stays.
 #[derive(Drop)]
 pub struct Lines<'s, S: Source> {
-    cutter: Cutter<'s, S>,
+    cutter: Cutter<'s, S, LINES_ROOM>,
     ghost most: { cutter.most ≡ schedule_limits },
 }
 

@@ -7,13 +7,17 @@ ghost use Rattle.mesh_io.specs.NextLines.{text_limits};
 use crate::cutter::Cutter;
 use crate::limits::{LONGEST_TEXT, LONGEST_TEXT_LINE, Limits};
 use crate::line_error::LineError;
+use crate::read_buffer::ASKED;
 use crate::source::Source;
+
+/// Room for the longest line of a printed text and one read, in bytes.
+const LONG_LINES_ROOM: usize = LONGEST_TEXT_LINE + ASKED;
 
 /// Reads a printed text line by line, by the rules of `Lines` with greater limits: a line has at
 /// most `LONGEST_TEXT_LINE` bytes, and the text at most `LONGEST_TEXT`.
 #[derive(Drop)]
 pub struct LongLines<'s, S: Source> {
-    cutter: Cutter<'s, S>,
+    cutter: Cutter<'s, S, LONG_LINES_ROOM>,
     ghost most: { cutter.most ≡ text_limits },
 }
 

@@ -3,27 +3,22 @@ ghost use Rattle.std.specs.Prelude.{◌≡◌, ◌≤◌, ◌+◌, ◌-◌, ◌+
 ghost use Rattle.std.specs.Io.KnownBytes.{Consumes, IsAtEnd, Keeps};
 ghost use Rattle.mesh_io.specs.Cause.{HasCause};
 
-use crate::limits::LONGEST_TEXT_LINE;
 use crate::source::{Failed, Source};
 use std::marker::Model;
 
 /// How many bytes a read asks for.
 pub const ASKED: usize = 4096;
 
-/// The most bytes of a buffer: the longest line, its LF not among them, and one read.
-pub const ROOM: usize = LONGEST_TEXT_LINE + ASKED;
-
-/// Bytes that were read, in one piece.
+/// Bytes that were read, in one piece: at most `ROOM`.
 #[derive(Drop)]
-pub struct ReadBuffer {
+pub struct ReadBuffer<const ROOM: usize> {
     store: [u8; ROOM],
     at: usize,
     end: usize,
 }
 
-impl Model for ReadBuffer {
+impl<const ROOM: usize> Model for ReadBuffer<ROOM> {
     ghost use Rattle.std.specs.Prelude.{List, ℕ, ◌≤◌, ◌-◌, take, drop};
-    ghost use Rattle.mesh_io.specs.declared.read_buffer.TheConstants.{ROOM};
 
     ghost Value = { List ℕ };
 
@@ -47,9 +42,9 @@ fn read_behind<S: Source>(source: &mut S, store: &mut [u8], n: usize) -> Result<
     source.take(&mut store[n..n + ASKED])
 }
 
-impl ReadBuffer {
+impl<const ROOM: usize> ReadBuffer<ROOM> {
     /// No bytes.
-    pub fn new() -> ReadBuffer
+    pub fn new() -> ReadBuffer<ROOM>
         ensures { result ≡ [] }
     {
         ReadBuffer {
@@ -63,7 +58,8 @@ impl ReadBuffer {
     pub fn bytes(&self) -> &[u8]
         ensures { result.now ≡ self.now }
     {
-        &self.store[self.at..self.end]
+        let store = &self.store[..];
+        &store[self.at..self.end]
     }
 
     /// The first n bytes go.

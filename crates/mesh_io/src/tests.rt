@@ -1,7 +1,7 @@
 //! Each call that can find no memory, and the sizes of what passes through.
 use crate::{
-    Buffered, Failed, LineError, Lines, LongLines, MemSink, MemSource, PutFault, Source, StdSink,
-    StdSource, put_all,
+    BufferRoom, Buffered, Failed, LineError, Lines, LongLines, MemSink, MemSource, PutFault,
+    Source, StdSink, StdSource, put_all,
 };
 use mesh_base::Bytes;
 use std::fs::File;
@@ -27,7 +27,7 @@ fn a_source_gives_seven_bytes_a_call(rt: HostRuntime) -> Result<(), Fail> {
 #[test]
 fn pieces_are_gathered_to_one_call(rt: HostRuntime) -> Result<(), Fail> {
     let sink = MemSink::new(rt.alloc(), 100, 100, &[2])?;
-    let mut buffer = Buffered::new(sink);
+    let mut buffer = Buffered::new(sink, BufferRoom::new(rt.alloc())?);
     for piece in [b"node ".as_slice(), b"10.0".as_slice(), b".0.1".as_slice()] {
         assert_eq!(rt; put_all(&mut buffer, piece), Ok(()));
     }

@@ -42,7 +42,7 @@ fn status_of(rt: &HostRuntime) -> Result<NodeStatus, NodeStatus> {
             return Err(NodeStatus::NoMemory);
         }
     }
-    let mut input = StdSource::new(rt.reader());
+    let mut input = StdSource::new(rt.stdin());
     let mut out = StdSink::new(io::writer(rt));
     let mut link = UdpLink::new(rt);
     Ok(top::node_run(rt.alloc(), &texts, &mut input, &mut out, &mut link))

@@ -14,7 +14,7 @@ ghost use Rattle.mesh_places.specs.Told.{IsOutputFrom, IsRun};
 use crate::lines::do_lines;
 use crate::placed::Placed;
 use crate::words::reach_of;
-use mesh_io::{Buffered, Lines, Loan, Sink, Source, Through};
+use mesh_io::{BufferRoom, Buffered, Lines, Loan, Sink, Source, Through};
 use mesh_run::Status;
 use std::alloc::Global;
 use std::marker::Brand;
@@ -53,6 +53,7 @@ fn drive_gathered<I: Source, O: Sink>(
 // Does the lines of a source through a buffer before the sink, which comes back.
 fn drive_through<'s, I: Source, O: Sink, L: Loan>(
     alloc: Global,
+    room: BufferRoom,
     at: &mut Placed,
     reach: u32,
     input: &mut I,
@@ -72,7 +73,7 @@ fn drive_through<'s, I: Source, O: Sink, L: Loan>(
         (O.faults out.entry.now) (O.faults result.now) status.new }
     ensures words { status.new ≢ Status.Usage }
 {
-    let mut buffer: Buffered<Through<'s, O, L>> = Buffered::lent(out);
+    let mut buffer: Buffered<Through<'s, O, L>> = Buffered::lent(out, room);
     *status = drive_gathered(alloc, at, reach, input, &mut buffer);
     buffer.give_back()
 }
@@ -94,8 +95,11 @@ fn drive<I: Source, O: Sink>(
     ensures write { HasStatusCause Status.WriteFault (O.faults out.old) (O.faults out.new) result }
     ensures words { result ≢ Status.Usage }
 {
+    let Ok(room) = BufferRoom::new(alloc) else {
+        return Status::NoMemory;
+    };
     let mut status = Status::Done;
-    let _out = drive_through::<I, O, Brand>(alloc, at, reach, input, out, &mut status);
+    let _out = drive_through::<I, O, Brand>(alloc, room, at, reach, input, out, &mut status);
     status
 }
 

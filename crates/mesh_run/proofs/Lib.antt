@@ -2,6 +2,7 @@ pub mod Telling
 pub mod Shown
 pub mod Events
 pub mod Counts
+pub mod OfVariant
 pub mod Sound
 pub mod Begun
 pub mod Chosen

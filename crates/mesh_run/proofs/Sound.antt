@@ -1,6 +1,7 @@
 -- What every moment of a run has.
 use Rattle.std.proofs.Common.{◌≡◌, ◌≤◌, ◌+◌, ℕ, false, Option, Some, None, Result, Ok, List, [], length, is_some, refl, sym, ap, subst, ◌∙◌, arith}
-use Rattle.std.specs.Option.{unwrap_or, option_map}
+use Rattle.std.specs.Prelude.{IfSome}
+use Rattle.std.specs.Option.{ForSome, unwrap_or, option_map}
 use Rattle.std.proofs.lemmas.List.{length-map}
 use Rattle.mesh_base.specs.declared.limits.TheConstants.{MOST_NODES}
 use Rattle.mesh_base.specs.Meshes.{Nodes, IsMesh, with_node}
@@ -19,11 +20,13 @@ use Rattle.mesh_text.specs.Accounts.{IsBalanced}
 use Rattle.mesh_text.specs.Ranges.{IsNewNode}
 use Rattle.mesh_text.proofs.Moments.{event_keeps_account}
 use Rattle.mesh_world.proofs.Openings.{sound_opening}
-use Rattle.mesh_world.specs.Seen.{WorldSeen, opening, IsSoundWorld}
+use Rattle.mesh_world.specs.Seen.{WorldSeen, opening, IsSoundWorld, most_data_at_first, most_steps}
+use Rattle.mesh_world.specs.declared.totals.Totals.{Totals}
 use Rattle.mesh_world.specs.Steps.{IsDone, IsStep}
 use Rattle.mesh_world.specs.declared.steps.StepError.{StepError}
 use Rattle.mesh_run.specs.Sums.{AreCounts}
-use Rattle.mesh_run.specs.Moments.{IsWorldAt, IsSound, IsSafe, IsAnswer, moment_seen}
+use Rattle.mesh_run.specs.Moments.{AreOfVariant, AreTotals, IsWorldOf, IsWorldAt, IsSound, IsSafe, IsAnswer, moment_seen}
+use Rattle.mesh_run.proofs.OfVariant.{start_of, step_of}
 
 -- there are no data before the run has started
 pub record Nothing (w : World) : Type 0 where
@@ -43,6 +46,32 @@ nothing_held m h = by_world m.world h
     by_world None h = nothing_at m.variant m.mesh
     by_world (Some w) h = absurd (let P : ⊥ = cc in P)
 
+-- ---- the data of a moment's world
+
+pub totals_made : (m : Moment) (w : World) (t : Totals) → m.world ≡ Some w → AreTotals w t → AreTotals (world_of m) t
+totals_made m w t is are = subst (λ (o : Option World). AreTotals (unwrap_or o (start m.variant (first_numbers m.mesh))) t) (sym is) are
+
+pub totals_none : (m : Moment) (t : Totals) → m.world ≡ None → t.waiting ≡ 0 → t.queued ≡ 0 → t.flying ≡ 0 → AreTotals (world_of m) t
+totals_none m t none a b c =
+    let nothing = nothing_held m (ap is_some (sym none)) in
+    record { waiting = a ∙ nothing.waiting; queued = b ∙ nothing.queued; flying = c ∙ nothing.flying }
+
+pub totals_few : (w : WorldSeen) (t : Totals) → IsSoundWorld w → AreTotals w.world t → t.waiting + t.queued + t.flying ≤ most_data_at_first + most_steps
+totals_few w t sound are =
+    let few = sound.few in
+    let steps = sound.steps in
+    let a = are.waiting in
+    let b = are.queued in
+    let c = are.flying in
+    omega arith
+
+-- the account, by the totals
+pub balanced_by : (m : Moment) (t : Totals) → AreTotals (world_of m) t → (m.sums).given + (m.sums).copied ≡ (m.sums).delivered + (t.waiting + t.queued + t.flying) + (m.sums).lost → IsBalanced m
+balanced_by m t are sum = let a = are.waiting in let b = are.queued in let c = are.flying in omega arith
+
+pub account_by : (m : Moment) (t : Totals) → AreTotals (world_of m) t → IsBalanced m → (m.sums).given + (m.sums).copied ≡ (m.sums).delivered + (t.waiting + t.queued + t.flying) + (m.sums).lost
+account_by m t are balanced = let a = are.waiting in let b = are.queued in let c = are.flying in omega arith
+
 -- ---- safety
 
 -- each sound moment is safe
@@ -58,6 +87,16 @@ pub safe_at : (m : Moment) (variant : Variant) (nodes : Nodes) (seen : Option Wo
     → IsSafe m
 safe_at m variant nodes seen s lines is sound = subst IsSafe is (safe_sound variant nodes seen s lines sound)
 
+-- the nodes of the world run the moment's variant
+variant_sound : (variant : Variant) (nodes : Nodes) (seen : Option WorldSeen) (s : Sums) (lines : ℕ) → IsSound (moment_seen variant nodes seen s lines) seen
+    → IfSome (moment_seen variant nodes seen s lines).world (AreOfVariant variant)
+variant_sound variant nodes None s lines is = tt
+variant_sound variant nodes (Some w) s lines is = (is.world w refl).fits.variant
+
+pub variant_at : (m : Moment) (variant : Variant) (nodes : Nodes) (seen : Option WorldSeen) (s : Sums) (lines : ℕ) → moment_seen variant nodes seen s lines ≡ m → IsSound (moment_seen variant nodes seen s lines) seen
+    → IfSome m.world (AreOfVariant m.variant)
+variant_at m variant nodes seen s lines is sound = subst (λ (k : Moment). IfSome k.world (AreOfVariant k.variant)) is (variant_sound variant nodes seen s lines sound)
+
 -- a mesh has room for the nodes of its world
 sized_sound : (variant : Variant) (nodes : Nodes) (seen : Option WorldSeen) (s : Sums) (lines : ℕ) → IsSound (moment_seen variant nodes seen s lines) seen
     → length (world_of (moment_seen variant nodes seen s lines)).nodes ≤ MOST_NODES
@@ -69,7 +108,7 @@ sized_sound variant nodes None s lines is =
 sized_sound variant nodes (Some w) s lines is =
     let at = is.world w refl in
     let count = (at.sound).count in
-    let same : length w.mesh ≡ length nodes = ap length at.mesh in
+    let same : length w.mesh ≡ length nodes = ap length at.fits.mesh in
     let few = (is.mesh).few in
     omega arith
 
@@ -137,12 +176,41 @@ sound_started variant nodes None s lines w some none is before =
     record {
       mesh = before.mesh;
       counts = subst (AreCounts s) (sym steps) before.counts;
-      world = λ x here. subst (IsWorldAt nodes) (some_inj here) (record {
-        mesh = ap (λ y. y.mesh) is;
+      world = λ x here. subst (IsWorldAt variant nodes) (some_inj here) (record {
+        fits = record {
+          mesh = ap (λ y. y.mesh) is;
+          variant = subst (AreOfVariant variant) (sym world) (start_of variant (first_numbers nodes));
+        };
         sound = subst IsSoundWorld (sym is) (sound_opening variant nodes before.mesh some count);
       });
       balanced = subst P (sym world) before.balanced;
     }
+
+-- ---- parts
+
+-- sums that were counted before a step
+later_counts : (s : Sums) (steps : ℕ) → AreCounts s 0 → AreCounts s steps
+later_counts s steps few =
+    let a = few.events in
+    let b = few.idle in
+    let c = few.given in
+    let d = few.delivered in
+    let e = few.lost in
+    let f = few.copied in
+    record { events = omega arith; idle = omega arith; given = omega arith; delivered = omega arith; lost = omega arith; copied = omega arith }
+
+pub sound_parts : (variant : Variant) (nodes : Nodes) (seen : Option WorldSeen) (s : Sums) (lines : ℕ) → IsMesh nodes → AreCounts s 0 → ForSome seen (IsWorldOf variant nodes) → ForSome seen IsSoundWorld
+    → IsBalanced (moment_seen variant nodes seen s lines) → IsSound (moment_seen variant nodes seen s lines) seen
+sound_parts variant nodes seen s lines mesh few fits sound balanced = record {
+  mesh = mesh;
+  counts = later_counts s (moment_seen variant nodes seen s lines).steps few;
+  world = λ w is. record { fits = fits w is; sound = sound w is };
+  balanced = balanced;
+}
+
+pub as_seen : (seen : Option WorldSeen) → seen ≡ option_map (λ w. w) seen
+as_seen None = refl
+as_seen (Some w) = refl
 
 -- ---- an event
 
@@ -194,16 +262,22 @@ answered : (variant : Variant) (nodes : Nodes) (old new : WorldSeen) (s t : Sums
 answered variant nodes old new s t lines e r d packet before event took ok sound counts sums =
     let done : IsDone e old d new packet = subst (λ x. IsStep e old x new packet) ok took in
     let sum : t ≡ summed s e (step old.world e) = sums old.mesh (node_of e) old.world new.world packet done.in_mesh done.outcome in
-    let kept : IsWorldAt nodes old = before.world old refl in
+    let kept : IsWorldAt variant nodes old = before.world old refl in
     let m : Moment = moment_seen variant nodes (Some old) s lines in
-    let answer = answer_at variant nodes old new s t lines e d packet kept.mesh done sum in
-    let size : length (old.world).nodes ≡ length nodes = kept.sound.count ∙ ap length kept.mesh in
+    let answer = answer_at variant nodes old new s t lines e d packet kept.fits.mesh done sum in
+    let size : length (old.world).nodes ≡ length nodes = kept.sound.count ∙ ap length kept.fits.mesh in
     let within : IsEvent (length (old.world).nodes) e = subst (λ n. IsEvent n e) (sym size) event in
     let steps : new.steps ≡ old.steps + 1 = ap (λ x. x.steps) done.world in
     let after : IsSound (moment_seen variant nodes (Some new) t lines) (Some new) = record {
       mesh = before.mesh;
       counts = subst (AreCounts t) (sym steps) (counts old.steps before.counts);
-      world = λ w eq. subst (IsWorldAt nodes) (some_inj eq) (record { mesh = ap (λ x. x.mesh) done.world ∙ kept.mesh; sound = sound });
+      world = λ w eq. subst (IsWorldAt variant nodes) (some_inj eq) (record {
+        fits = record {
+          mesh = ap (λ x. x.mesh) done.world ∙ kept.fits.mesh;
+          variant = subst (AreOfVariant variant) (sym (ap (λ x. x.world) done.world)) (step_of variant old.world e kept.fits.variant);
+        };
+        sound = sound;
+      });
       balanced = subst IsBalanced (sym answer.moment) (event_keeps_account m e kept.sound.invariant.in_mesh within before.balanced);
     } in
     record { sound = after; safe = safe_sound variant nodes (Some new) t lines after; answer = answer }

@@ -1,6 +1,7 @@
 -- What every moment of a run has, and what an event answers at one.
 use Rattle.std.specs.Prelude.{◌≡◌, ℕ, List, Option, IfSome, option_map, ⊤, refl}
 use Rattle.std.specs.Coded.{Coded, code_by, coded×, coded_ℕ, coded_list, coded_option}
+use Rattle.std.specs.List.{AllByRecursion}
 use Rattle.std.specs.Option.{ForSome, unwrap_or}
 use Rattle.mesh_base.specs.Meshes.{Nodes, IsMesh}
 use Rattle.mesh_base.specs.declared.events.Variant.{Variant}
@@ -10,6 +11,7 @@ use Rattle.mesh_model.specs.Worlds as worlds
 use Rattle.mesh_model.specs.Worlds.{World, Event}
 use Rattle.aodv_model.specs.Codes.{variant_code}
 use Rattle.mesh_model.specs.Codes.{world_code}
+use Rattle.mesh_model.specs.Accounts.{any, waiting, queued, in_flight}
 use Rattle.mesh_model.specs.Invariants.{IsInvariant}
 use Rattle.mesh_model.specs.Walks.{Cycle}
 use Rattle.mesh_meaning.specs.Events.{node_of}
@@ -18,6 +20,7 @@ use Rattle.mesh_text.specs.Schedule.{Moment, Sums, Accepted, Nothing, NewNode, w
 use Rattle.mesh_text.specs.Accounts.{IsBalanced}
 use Rattle.mesh_run.specs.Sums.{AreCounts}
 use Rattle.mesh_world.specs.Seen.{WorldSeen, IsSoundWorld}
+use Rattle.mesh_world.specs.declared.totals.Totals.{Totals}
 use Rattle.mesh_world.specs.declared.steps.StepError.{StepError}
 use Rattle.mesh_world.specs.declared.steps.StepError.TheVariants.{Full, NoMemory}
 use Rattle.mesh_run.specs.declared.stop.Stop.{Stop}
@@ -40,17 +43,33 @@ begun m Nothing = m
 begun m (NewNode address first) = m
 begun m others = started m
 
--- a sound world of this mesh
-pub record IsWorldAt (nodes : Nodes) (w : WorldSeen) : Type 0 where
+-- all nodes run this variant of the protocol
+abbrev pub AreOfVariant : Variant → World → Type 0
+AreOfVariant variant w = AllByRecursion (λ n. (n.core).variant ≡ variant) w.nodes
+
+-- a world of this mesh, all of whose nodes run this variant
+pub record IsWorldOf (v : Variant) (nodes : Nodes) (w : WorldSeen) : Type 0 where
   pub mesh : w.mesh ≡ nodes
+  pub variant : AreOfVariant v w.world
+
+-- a sound world of this variant and mesh
+pub record IsWorldAt (variant : Variant) (nodes : Nodes) (w : WorldSeen) : Type 0 where
+  pub fits : IsWorldOf variant nodes w
   pub sound : IsSoundWorld w
 
--- the sums have not outgrown the steps, the world is sound and of the mesh, and the account of the data is balanced
+-- the sums have not outgrown the steps, the world is sound and of the variant and the mesh, and the
+-- account of the data is balanced
 pub record IsSound (m : Moment) (seen : Option WorldSeen) : Type 0 where
   pub mesh : IsMesh m.mesh
   pub counts : AreCounts m.sums m.steps
-  pub world : ForSome seen (IsWorldAt m.mesh)
+  pub world : ForSome seen (IsWorldAt m.variant m.mesh)
   pub balanced : IsBalanced m
+
+-- where the data of a world are
+pub record AreTotals (w : World) (t : Totals) : Type 0 where
+  pub waiting : t.waiting ≡ waiting any w
+  pub queued : t.queued ≡ queued any w
+  pub flying : t.flying ≡ in_flight any w
 
 -- a world with the invariant, in which no destination's valid routes have a loop
 pub record IsSafeWorld (w : World) : Type 0 where

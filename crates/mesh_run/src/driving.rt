@@ -15,7 +15,7 @@ use crate::point::Point;
 use crate::say::Say;
 use crate::status::Status;
 use mesh_base::Variant;
-use mesh_io::{Buffered, Lines, Loan, Sink, Source, Through};
+use mesh_io::{BufferRoom, Buffered, Lines, Loan, Sink, Source, Through};
 use mesh_world::Steps;
 use std::alloc::Global;
 use std::marker::Brand;
@@ -61,6 +61,7 @@ fn do_gathered<S: Steps, I: Source, O: Sink>(
 // Does the lines of a source through a buffer before the sink, which comes back.
 fn do_through<'s, S: Steps, I: Source, O: Sink, L: Loan>(
     alloc: Global,
+    room: BufferRoom,
     at: &mut Point<S>,
     say: Say,
     input: &mut I,
@@ -87,9 +88,42 @@ fn do_through<'s, S: Steps, I: Source, O: Sink, L: Loan>(
         (O.faults out.entry.now) (O.faults result.now) status.new }
     ensures words { status.new ≢ Status.Usage }
 {
-    let mut buffer: Buffered<Through<'s, O, L>> = Buffered::lent(out);
+    let mut buffer: Buffered<Through<'s, O, L>> = Buffered::lent(out, room);
     *status = do_gathered(alloc, at, say, input, &mut buffer);
     buffer.give_back()
+}
+
+/// Does the lines of an input as `drive` does, over a moment that stays where it is: a large world is
+/// not moved. The memory of the buffer is taken first.
+pub fn do_input<S: Steps, I: Source, O: Sink>(
+    alloc: Global,
+    at: &mut Point<S>,
+    say: Say,
+    input: &mut I,
+    out: &mut O,
+) -> Status
+    requires few { at.old.lines < 2 ^ 61 }
+    requires steps { at.old.steps < 2 ^ 46 }
+    ensures told { IfSome (I.left input.old) (λ bytes. IsOutputFrom say at.old bytes
+        (I.left input.new) (O.held out.old) (O.held out.new) result) }
+    ensures after { result ≡ Status.Done → IfSome (I.left input.old)
+        (λ bytes. at.new ≡ (text_on at.old bytes).after) }
+    ensures safe { result ≡ Status.Done → IsSafe at.new }
+    ensures grown { result ≡ Status.Done → IsGrown at.old at.new }
+    ensures lines { result ≡ Status.Done → at.new.lines ≤ at.old.lines + LONGEST_INPUT }
+    ensures steps { result ≡ Status.Done
+        → 4 * at.new.steps ≤ 4 * at.old.steps + MOST_EVENTS * LONGEST_INPUT }
+    ensures end { result ≡ Status.Done → IsAtEnd (I.left input.new) }
+    ensures read { HasSourceCause (I.faults input.old) (I.faults input.new) result }
+    ensures write { HasStatusCause Status.WriteFault (O.faults out.old) (O.faults out.new) result }
+    ensures words { result ≢ Status.Usage }
+{
+    let Ok(room) = BufferRoom::new(alloc) else {
+        return Status::NoMemory;
+    };
+    let mut status = Status::Done;
+    let _out = do_through::<S, I, O, Brand>(alloc, room, at, say, input, out, &mut status);
+    status
 }
 
 /// Does the lines of an input in order, from a moment on, up to its end or the first that stops the
@@ -137,17 +171,16 @@ pub fn drive<S: Steps, I: Source, O: Sink>(
     ensures words { result.0 ≢ Status.Usage }
 {
     let mut at = start;
-    let mut status = Status::Done;
-    let _out = do_through::<S, I, O, Brand>(alloc, &mut at, say, input, out, &mut status);
-    match status {
-        Status::Done => (status, Some(at)),
-        _ => (status, None),
+    match do_input(alloc, &mut at, say, input, out) {
+        Status::Done => (Status::Done, Some(at)),
+        status => (status, None),
     }
 }
 
 /// Runs the schedule that the source gives, in a world of its own where all nodes run this variant
 /// of the protocol, and writes its text to the sink, line by line; a quiet run writes the last line
 /// alone.
+#[inline(never)]
 pub fn run<S: Steps, I: Source, O: Sink>(
     alloc: Global,
     quiet: bool,
@@ -170,6 +203,6 @@ pub fn run<S: Steps, I: Source, O: Sink>(
     ensures write { HasStatusCause Status.WriteFault (O.faults out.old) (O.faults out.new) result }
     ensures words { result ≢ Status.Usage }
 {
-    let start: Point<S> = Point::with(variant);
-    drive(alloc, start, Say::by(quiet), input, out).0
+    let mut at: Point<S> = Point::with(variant);
+    do_input(alloc, &mut at, Say::by(quiet), input, out)
 }

@@ -5,7 +5,7 @@ ghost use Rattle.mesh_base.specs.Meshes.{IsMesh};
 ghost use Rattle.mesh_model.specs.Places.{IsEvent};
 ghost use Rattle.mesh_meaning.specs.Events.{event_of};
 ghost use Rattle.mesh_text.specs.Schedule as model;
-ghost use Rattle.mesh_run.specs.Moments.{IsAnswer, IsRefusal, IsSafe};
+ghost use Rattle.mesh_run.specs.Moments.{AreOfVariant, IsAnswer, IsRefusal, IsSafe};
 
 use crate::state::State;
 use crate::sums::Sums;
@@ -58,6 +58,13 @@ impl<S: Steps> Point<S> {
         }
     }
 
+    /// Which variant of the protocol all nodes run.
+    pub fn variant(&self) -> Variant
+        ensures { result ≡ self.now.variant }
+    {
+        self.state.variant()
+    }
+
     /// The mesh so far.
     pub fn mesh(&self) -> &Mesh
         ensures value { result.now ≡ self.now.mesh }
@@ -89,9 +96,11 @@ impl<S: Steps> Point<S> {
     }
 
     /// The world: none until an accepted line that is neither blank nor a `node` line, `begin` or
-    /// `step` has made it. It has the invariant, and no destination's valid routes have a loop.
+    /// `step` has made it. It has the invariant, and no destination's valid routes have a loop. Its
+    /// nodes run the moment's variant.
     pub fn world(&self) -> Option<&S>
         ensures safe { IsSafe self.now }
+        ensures variant { IfSome self.now.world (AreOfVariant self.now.variant) }
         ensures some { is_some result ≡ is_some self.now.world }
         ensures world { IfSome result (λ s. (S.seen s.now).world ≡ model.world_of self.now) }
         ensures mesh { IfSome result (λ s. (S.seen s.now).mesh ≡ self.now.mesh) }

@@ -1,6 +1,6 @@
 //! The state of a run at a moment: its variant of the protocol and its mesh, its world, what was
 //! counted, how many lines were read, and how many events the world has gone through.
-ghost use Rattle.std.specs.Prelude.{◌≡◌, ◌<◌, ◌≤◌, ◌^◌, length, is_some, true, Some, None, IfOk, OnOk, OnErr, IfErr, IfSome};
+ghost use Rattle.std.specs.Prelude.{◌≡◌, ◌<◌, ◌≤◌, ◌^◌, length, is_some, option_map, true, Some, None, IfOk, OnOk, OnErr, IfErr, IfSome};
 ghost use Rattle.mesh_base.specs.declared.limits.TheConstants.{MOST_NODES};
 ghost use Rattle.mesh_base.specs.Meshes.{IsMesh, with_node};
 ghost use Rattle.mesh_model.specs.Places.{IsEvent};
@@ -10,7 +10,7 @@ ghost use Rattle.mesh_text.specs.Schedule as model;
 ghost use Rattle.mesh_text.specs.Ranges.{IsNewNode};
 ghost use Rattle.mesh_report.specs.Sums as report;
 ghost use Rattle.mesh_script.specs.Seen.{accepted_of, IsAllowed};
-ghost use Rattle.mesh_run.specs.Moments.{begun, IsAnswer, IsRefusal, IsSafe};
+ghost use Rattle.mesh_run.specs.Moments.{begun, moment_seen, AreOfVariant, IsAnswer, IsRefusal, IsSafe, IsSound};
 
 use crate::sums::Sums;
 use mesh_base::{Addr, Done, Event, Mesh, NoMemory, Packet, Variant};
@@ -66,6 +66,35 @@ impl<S: Steps> State<S> {
         }
     }
 
+    /// The moment of these parts.
+    pub fn of_parts(
+        variant: Variant,
+        mesh: Mesh,
+        world: Option<S>,
+        sums: Sums,
+        lines: u64,
+    ) -> State<S>
+        requires { let seen = option_map S.seen world in
+            IsSound (moment_seen variant mesh seen (sums_of sums) lines) seen }
+        ensures { let seen = option_map S.seen world in
+            result ≡ moment_seen variant mesh seen (sums_of sums) lines }
+    {
+        State {
+            variant,
+            mesh,
+            world,
+            sums,
+            lines,
+        }
+    }
+
+    /// Which variant of the protocol all nodes run.
+    pub fn variant(&self) -> Variant
+        ensures { result ≡ self.now.variant }
+    {
+        self.variant
+    }
+
     /// The mesh so far.
     pub fn mesh(&self) -> &Mesh
         ensures value { result.now ≡ self.now.mesh }
@@ -100,6 +129,7 @@ impl<S: Steps> State<S> {
     /// loop.
     pub fn world(&self) -> Option<&S>
         ensures safe { IsSafe self.now }
+        ensures variant { IfSome self.now.world (AreOfVariant self.now.variant) }
         ensures some { is_some result ≡ is_some self.now.world }
         ensures world { IfSome result (λ s. (S.seen s.now).world ≡ model.world_of self.now) }
         ensures mesh { IfSome result (λ s. (S.seen s.now).mesh ≡ self.now.mesh) }

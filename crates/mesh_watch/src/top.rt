@@ -12,7 +12,7 @@ use crate::lines::do_lines;
 use crate::watched::Watched;
 use crate::words::variant_of;
 use mesh_base::Variant;
-use mesh_io::{Buffered, Lines, Loan, Sink, Source, Through};
+use mesh_io::{BufferRoom, Buffered, Lines, Loan, Sink, Source, Through};
 use mesh_run::Status;
 use std::alloc::Global;
 use std::marker::Brand;
@@ -50,6 +50,7 @@ fn run_gathered<I: Source, O: Sink>(
 // Does the lines of a source through a buffer before the sink, which comes back.
 fn run_through<'s, I: Source, O: Sink, L: Loan>(
     alloc: Global,
+    room: BufferRoom,
     at: &mut Watched,
     input: &mut I,
     out: &'s mut O,
@@ -68,7 +69,7 @@ fn run_through<'s, I: Source, O: Sink, L: Loan>(
         (O.faults out.entry.now) (O.faults result.now) status.new }
     ensures words { status.new ≢ Status.Usage }
 {
-    let mut buffer: Buffered<Through<'s, O, L>> = Buffered::lent(out);
+    let mut buffer: Buffered<Through<'s, O, L>> = Buffered::lent(out, room);
     *status = run_gathered(alloc, at, input, &mut buffer);
     buffer.give_back()
 }
@@ -84,8 +85,11 @@ fn run_on<I: Source, O: Sink>(alloc: Global, at: &mut Watched, input: &mut I, ou
     ensures write { HasStatusCause Status.WriteFault (O.faults out.old) (O.faults out.new) result }
     ensures words { result ≢ Status.Usage }
 {
+    let Ok(room) = BufferRoom::new(alloc) else {
+        return Status::NoMemory;
+    };
     let mut status = Status::Done;
-    let _out = run_through::<I, O, Brand>(alloc, at, input, out, &mut status);
+    let _out = run_through::<I, O, Brand>(alloc, room, at, input, out, &mut status);
     status
 }
 

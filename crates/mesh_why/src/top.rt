@@ -11,7 +11,7 @@ ghost use Rattle.mesh_why.specs.Answers.{IsAnswered};
 use crate::route::{put_route, walk_at};
 use crate::words::{Asked, asked_of};
 use mesh_io::{Sink, Source};
-use mesh_run::{Point, Say, Status, drive};
+use mesh_run::{Point, Say, Status, do_input};
 use mesh_trail::Trail;
 use std::alloc::Global;
 
@@ -24,11 +24,11 @@ fn answer<I: Source, O: Sink>(alloc: Global, asked: Asked, input: &mut I, out: &
     ensures write { HasStatusCause Status.WriteFault (O.faults out.old) (O.faults out.new) result }
     ensures words { result ≢ Status.Usage }
 {
-    let start: Point<Trail> = Point::start();
-    let (status, end) = drive(alloc, start, Say::Last, input, out);
-    let Some(at) = end else {
+    let mut at: Point<Trail> = Point::start();
+    let status = do_input(alloc, &mut at, Say::Last, input, out);
+    if status != Status::Done {
         return status;
-    };
+    }
     match put_route(at.mesh(), walk_at(&at, asked), out) {
         Ok(()) => Status::Done,
         Err(_) => Status::WriteFault,

@@ -13,28 +13,20 @@ use Rattle.mesh_io.proofs.Staying.{undecided_end, was_open, stays_none, stays_sa
 use Rattle.mesh_io.proofs.cutter.Cutter.advance.Goals as goal
 
 pub read-requires : goal.read-requires
-read-requires g c = let now = c.reads.self in open_is now.most now.given now.ended (pending_in now) now.decision now.decided c.in-Open.is
+read-requires g c =
+    let now = c.reads.self in
+    (search rules, open_is now.most now.given now.ended (pending_in now) now.decision now.decided c.in-Open.is)
 
-pub give-requires-clause-within : goal.give-requires-clause-within
-give-requires-clause-within g c =
+pub give-requires : goal.give-requires
+give-requires g c =
     let now = c.reads.self in
     let line = decides_line now.most now.given now.ended (pending_in now) now.decision c.in-Line.len c.in-Line.size now.decided c.in-Line.is in
     let len = line.len_is in
     let size = line.size_is in
-    omega arith
-
-pub give-requires-clause-whole : goal.give-requires-clause-whole
-give-requires-clause-whole g c =
-    let now = c.reads.self in
-    let line = decides_line now.most now.given now.ended (pending_in now) now.decision c.in-Line.len c.in-Line.size now.decided c.in-Line.is in
-    let size = line.size_is in
-    let within = (first_is (pending_in now)).within in
-    omega arith
-
-pub give-requires-clause-few : goal.give-requires-clause-few
-give-requires-clause-few g c =
-    let now = c.reads.self in
-    (decides_line now.most now.given now.ended (pending_in now) now.decision c.in-Line.len c.in-Line.size now.decided c.in-Line.is).few
+    let within = (first_is (pending_in now)).within in (
+      search rules,
+      (omega arith, (omega arith, line.few)),
+    )
 
 pub returns-in-Line-clause-grows : goal.returns-in-Line-clause-grows
 returns-in-Line-clause-grows g c =

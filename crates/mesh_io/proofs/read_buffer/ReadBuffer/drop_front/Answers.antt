@@ -3,7 +3,7 @@ use Rattle.std.proofs.lemmas.List.{drop-take, drop-drop, length-take}
 use Rattle.mesh_io.proofs.read_buffer.ReadBuffer.drop_front.Goals as goal
 
 pub returns : goal.returns
-returns c =
+returns g c =
     let b = c.self.inside in
     let n = c.args.n in
     let len = length-take (b.end - b.at) (drop b.at b.store) in
