@@ -1,0 +1,120 @@
+-- What stands behind the byte that says its kind.
+use Rattle.std.proofs.Common.{◌≡◌, ◌≢◌, ℕ, zero, suc, ◌<◌, Bool, true, false, List, [], ◌∷◌, Option, Some, None, refl, ap, ◌∙◌, arith, inl, inr, cond}
+use Rattle.std.specs.Prelude.{nat_le, nat_lt, not}
+use Rattle.std.specs.Prelude.{◌==◌, ◌&&◌, length}
+use Rattle.std.proofs.lemmas.Bool.{ltb-true, ne_eqb}
+use Rattle.mesh_base.specs.declared.events.Item.TheVariants.{New, Heard}
+use Rattle.mesh_checkpoint.specs.Formats.{◌>>=◌, byte_at, get_either, get_maybe, maybe}
+use Rattle.mesh_checkpoint.specs.Checkpoint.{given, heard, item, world}
+use Rattle.mesh_checkpoint.specs.Counts.{data_heard, data_in_item, data_in_world, data_in}
+use Rattle.mesh_checkpoint.specs.Reading.{IsPassed, Passes}
+use Rattle.mesh_checkpoint.proofs.Formats.{test_some, true_both}
+
+-- a byte of two kinds
+pub record IsKind (bytes : List ℕ) (k : ℕ) (rest : List ℕ) : Type 0 where
+  pub parts : bytes ≡ k ∷ rest
+  pub two : k < 2
+
+pub kind_of : (bytes : List ℕ) (k : ℕ) (rest : List ℕ) → byte_at 0 2 bytes ≡ Some (k, rest) → IsKind bytes k rest
+kind_of [] k rest e = absurd cc
+kind_of (b ∷ bytes) k rest e =
+    let t = test_some (nat_le 0 b && nat_lt b 2) (b, bytes) (k, rest) e in
+    let lt : b < 2 = ltb-true b 2 (true_both (nat_le 0 b) (nat_lt b 2) t.0).1 in
+    let same : b ≡ k = ap (λ (p : ℕ × List ℕ). p.0) t.1 in
+    record { parts = ap (λ (p : ℕ × List ℕ). p.0 ∷ p.1) t.1; two = omega arith }
+
+either_none_at : {A B : Type 0} (get : List ℕ → Option (A × List ℕ)) (other : List ℕ → Option (B × List ℕ)) (b : ℕ) (bytes : List ℕ) → byte_at 0 2 (b ∷ bytes) ≡ None → get_either get other (b ∷ bytes) ≡ None
+either_none_at get other zero bytes e = absurd cc
+either_none_at get other (suc zero) bytes e = absurd cc
+either_none_at get other (suc (suc b)) bytes e = refl
+
+pub either_none : {A B : Type 0} (get : List ℕ → Option (A × List ℕ)) (other : List ℕ → Option (B × List ℕ)) (bytes : List ℕ) → byte_at 0 2 bytes ≡ None → get_either get other bytes ≡ None
+either_none get other [] e = refl
+either_none get other (b ∷ bytes) e = either_none_at get other b bytes e
+
+pub either_first : {A B : Type 0} (get : List ℕ → Option (A × List ℕ)) (other : List ℕ → Option (B × List ℕ)) (bytes : List ℕ) (k : ℕ) (rest : List ℕ) → byte_at 0 2 bytes ≡ Some (k, rest) → k ≡ 0
+    → get_either get other bytes ≡ (get rest >>= λ x. Some (inl x.0, x.1))
+either_first get other bytes k rest e zeroth =
+    let is = kind_of bytes k rest e in
+    rw (is.parts, zeroth) refl
+
+second : (k : ℕ) → k < 2 → k ≢ 0 → k ≡ 1
+second k lt some = omega (arith, some)
+
+pub either_second : {A B : Type 0} (get : List ℕ → Option (A × List ℕ)) (other : List ℕ → Option (B × List ℕ)) (bytes : List ℕ) (k : ℕ) (rest : List ℕ) → byte_at 0 2 bytes ≡ Some (k, rest) → k ≢ 0
+    → get_either get other bytes ≡ (other rest >>= λ y. Some (inr y.0, y.1))
+either_second get other bytes k rest e some =
+    let is = kind_of bytes k rest e in
+    rw (is.parts, second k is.two some) refl
+
+-- ---- an item
+
+pub given_item : (nodes : ℕ) (bytes : List ℕ) (k : ℕ) (rest behind : List ℕ) → byte_at 0 2 bytes ≡ Some (k, rest) → k ≡ 0 → length rest < length bytes → IsPassed (given nodes) (λ p. 1) rest 1 behind → IsPassed (item nodes) data_in_item bytes 1 behind
+given_item nodes bytes k rest behind e zeroth shorter p = record {
+  value = New (p.value).0 (p.value).1;
+  read = rw (either_first (given nodes).get (heard nodes).get bytes k rest e zeroth, p.read) refl;
+  count = refl;
+  few = omega (arith, shorter, p.few);
+}
+
+heard_some : (nodes : ℕ) (bytes : List ℕ) (k : ℕ) (rest : List ℕ) (n : ℕ) (behind : List ℕ) → byte_at 0 2 bytes ≡ Some (k, rest) → k ≢ 0 → length rest < length bytes → IsPassed (heard nodes) data_heard rest n behind → IsPassed (item nodes) data_in_item bytes n behind
+heard_some nodes bytes k rest n behind e some shorter p = record {
+  value = Heard (p.value).0 (p.value).1;
+  read = rw (either_second (given nodes).get (heard nodes).get bytes k rest e some, p.read) refl;
+  count = p.count;
+  few = omega (arith, shorter, p.few);
+}
+
+pub heard_item : (nodes : ℕ) (bytes : List ℕ) (k : ℕ) (rest : List ℕ) (r : Option (ℕ × List ℕ)) → byte_at 0 2 bytes ≡ Some (k, rest) → k ≢ 0 → length rest < length bytes → Passes (heard nodes) data_heard rest r → Passes (item nodes) data_in_item bytes r
+heard_item nodes bytes k rest None e some shorter p = rw (either_second (given nodes).get (heard nodes).get bytes k rest e some, p) refl
+heard_item nodes bytes k rest (Some r) e some shorter p = heard_some nodes bytes k rest r.0 r.1 e some shorter p
+
+-- ---- a world, or none
+
+maybe_none_at : {A : Type 0} (may : Bool) (get : List ℕ → Option (A × List ℕ)) (b : ℕ) (bytes : List ℕ) → byte_at 0 2 (b ∷ bytes) ≡ None → get_maybe may get (b ∷ bytes) ≡ None
+maybe_none_at may get zero bytes e = absurd cc
+maybe_none_at may get (suc zero) bytes e = absurd cc
+maybe_none_at may get (suc (suc b)) bytes e = refl
+
+pub maybe_none : {A : Type 0} (may : Bool) (get : List ℕ → Option (A × List ℕ)) (bytes : List ℕ) → byte_at 0 2 bytes ≡ None → get_maybe may get bytes ≡ None
+maybe_none may get [] e = refl
+maybe_none may get (b ∷ bytes) e = maybe_none_at may get b bytes e
+
+pub maybe_first : {A : Type 0} (may : Bool) (get : List ℕ → Option (A × List ℕ)) (bytes : List ℕ) (k : ℕ) (rest : List ℕ) → byte_at 0 2 bytes ≡ Some (k, rest) → k ≡ 0 → get_maybe may get bytes ≡ Some (None, rest)
+maybe_first may get bytes k rest e zeroth =
+    let is = kind_of bytes k rest e in
+    rw (is.parts, zeroth) refl
+
+maybe_second : {A : Type 0} (may : Bool) (get : List ℕ → Option (A × List ℕ)) (bytes : List ℕ) (k : ℕ) (rest : List ℕ) → byte_at 0 2 bytes ≡ Some (k, rest) → k ≢ 0
+    → get_maybe may get bytes ≡ cond may (get rest >>= λ x. Some (Some x.0, x.1)) None
+maybe_second may get bytes k rest e some =
+    let is = kind_of bytes k rest e in
+    rw (is.parts, second k is.two some) refl
+
+pub absent_world : (nodes : ℕ) (bytes : List ℕ) (k : ℕ) (rest : List ℕ) → byte_at 0 2 bytes ≡ Some (k, rest) → k ≡ 0 → length rest < length bytes → IsPassed (maybe (not (nodes == 0)) (world nodes)) data_in bytes 0 rest
+absent_world nodes bytes k rest e zeroth shorter = record {
+  value = None;
+  read = maybe_first (not (nodes == 0)) (world nodes).get bytes k rest e zeroth;
+  count = refl;
+  few = omega (arith, shorter);
+}
+
+pub world_of_none : (nodes : ℕ) (bytes : List ℕ) (k : ℕ) (rest : List ℕ) → byte_at 0 2 bytes ≡ Some (k, rest) → k ≢ 0 → nodes ≡ 0 → get_maybe (not (nodes == 0)) (world nodes).get bytes ≡ None
+world_of_none nodes bytes k rest e some none =
+    let may : not (nodes == 0) ≡ false = rw none refl in
+    maybe_second (not (nodes == 0)) (world nodes).get bytes k rest e some ∙ rw may refl
+
+world_some : (nodes : ℕ) (bytes : List ℕ) (k : ℕ) (rest : List ℕ) (n : ℕ) (behind : List ℕ) → byte_at 0 2 bytes ≡ Some (k, rest) → k ≢ 0 → not (nodes == 0) ≡ true → length rest < length bytes → IsPassed (world nodes) data_in_world rest n behind → IsPassed (maybe (not (nodes == 0)) (world nodes)) data_in bytes n behind
+world_some nodes bytes k rest n behind e some may shorter p = record {
+  value = Some p.value;
+  read = maybe_second (not (nodes == 0)) (world nodes).get bytes k rest e some ∙ rw (may, p.read) refl;
+  count = p.count;
+  few = omega (arith, shorter, p.few);
+}
+
+pub there_world : (nodes : ℕ) (bytes : List ℕ) (k : ℕ) (rest : List ℕ) (r : Option (ℕ × List ℕ)) → byte_at 0 2 bytes ≡ Some (k, rest) → k ≢ 0 → nodes ≢ 0 → length rest < length bytes → Passes (world nodes) data_in_world rest r → Passes (maybe (not (nodes == 0)) (world nodes)) data_in bytes r
+there_world nodes bytes k rest None e some nodes-some shorter p =
+    let may : not (nodes == 0) ≡ true = ap not (ne_eqb nodes 0 nodes-some) in
+    maybe_second (not (nodes == 0)) (world nodes).get bytes k rest e some ∙ rw (may, p) refl
+there_world nodes bytes k rest (Some r) e some nodes-some shorter p =
+    world_some nodes bytes k rest r.0 r.1 e some (ap not (ne_eqb nodes 0 nodes-some)) shorter p

@@ -1,0 +1,7 @@
+mod Formats
+mod Checkpoint
+mod State
+mod Behind
+mod Bodies
+mod Loop
+mod Counts

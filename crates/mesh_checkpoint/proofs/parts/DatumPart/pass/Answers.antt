@@ -1,0 +1,5 @@
+use Rattle.std.proofs.Common.{rules, refl, arith}
+use Rattle.mesh_checkpoint.proofs.parts.DatumPart.pass.Goals as goal
+
+pub returns : goal.returns
+returns c = record { value = c.in_ok-_body._body.now; read = search rules; count = refl; few = omega (arith, c.in_ok-_body.ensures.shorter) }

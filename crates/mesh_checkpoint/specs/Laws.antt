@@ -1,0 +1,56 @@
+-- What is proved of these definitions.
+use Rattle.std.specs.Prelude.{◌≡◌, ◌⊎◌, ℕ, ◌<◌, ◌≤◌, ◌^◌, true, List, [], Some, get_or}
+use Rattle.mesh_checkpoint.specs.declared.limits.TheConstants.{LONGEST_BODY}
+use Rattle.mesh_checkpoint.specs.declared.surveying.SurveyError.{SurveyError}
+use Rattle.mesh_checkpoint.specs.Checkpoint.{Body, body}
+use Rattle.mesh_checkpoint.specs.Counts.{IsBalanced}
+use Rattle.mesh_text.specs.Schedule.{Moment}
+use Rattle.mesh_checkpoint.specs.Points.{body_of, IsState, IsTooLong}
+use Rattle.mesh_checkpoint.specs.State.{body_length, checkpoint_of, IsCheckpoint, IsRefused}
+
+abbrev pub AreBytes : List ℕ → Type 0
+AreBytes bytes = (i : ℕ) → get_or bytes i 0 < 2 ^ 8
+
+-- what is written of a body is read again
+abbrev pub WrittenIsRead : Type 0
+WrittenIsRead = (x : Body) → body.fits x ≡ true → body.get (body.put x) ≡ Some (x, [])
+
+-- and what is read of a body is written so
+abbrev pub ReadIsWritten : Type 0
+ReadIsWritten =
+    (b : List ℕ) (x : Body) → AreBytes b → body.get b ≡ Some (x, [])
+    → (body.fits x ≡ true) × (b ≡ body.put x)
+
+-- a body that fits and isn't too long has a checkpoint
+abbrev pub FittingIsWritten : Type 0
+FittingIsWritten =
+    (x : Body) → body.fits x ≡ true → body_length x ≤ LONGEST_BODY
+    → IsCheckpoint (checkpoint_of x) x
+
+-- a body has at most one checkpoint, and a checkpoint one body
+abbrev pub OneCheckpoint : Type 0
+OneCheckpoint = (b c : List ℕ) (x : Body) → IsCheckpoint b x → IsCheckpoint c x → b ≡ c
+
+abbrev pub OneBody : Type 0
+OneBody = (b : List ℕ) (x y : Body) → IsCheckpoint b x → IsCheckpoint b y → x ≡ y
+
+-- a checkpoint whose sums are balanced isn't refused
+abbrev pub BalancedIsTaken : Type 0
+BalancedIsTaken =
+    (b : List ℕ) (x : Body) (e : SurveyError) → IsCheckpoint b x → IsBalanced x
+    → ¬ (IsRefused b e)
+
+-- bytes are refused for one reason
+abbrev pub OneRefusal : Type 0
+OneRefusal =
+    (b : List ℕ) (e f : SurveyError) → IsRefused b e → IsRefused b f → e ≡ f
+
+-- a moment has at most one checkpoint, and one where its numbers are in the table's ranges, unless
+-- its body is too long
+abbrev pub OneState : Type 0
+OneState = (b c : List ℕ) (m : Moment) → IsState b m → IsState c m → b ≡ c
+
+abbrev pub FittingIsState : Type 0
+FittingIsState =
+    (m : Moment) → body.fits (body_of m) ≡ true
+    → IsTooLong m ⊎ IsState (checkpoint_of (body_of m)) m

@@ -1,0 +1,15 @@
+-- Read in this order.
+-- Formats: how values are written as bytes and read again, built of smaller ones.
+pub mod Formats
+-- Checkpoint: the table of a checkpoint's body.
+pub mod Checkpoint
+-- Counts: how many data a body has, and whether its sums fit them.
+pub mod Counts
+-- State: a checkpoint, and why bytes are none.
+pub mod State
+-- Points: the body of a moment of a run.
+pub mod Points
+-- Laws: what is proved of these.
+pub mod Laws
+-- Reading: what a reader answers.
+pub mod Reading

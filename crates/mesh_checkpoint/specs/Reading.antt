@@ -1,0 +1,51 @@
+-- What a reader answers.
+use Rattle.std.specs.Prelude.{◌≡◌, ℕ, ◌+◌, ◌≤◌, List, length, Option, Some, None}
+use Rattle.mesh_checkpoint.specs.declared.body.Head.{Head}
+use Rattle.mesh_checkpoint.specs.Formats.{Format}
+use Rattle.mesh_checkpoint.specs.Checkpoint.{Body, body}
+use Rattle.mesh_checkpoint.specs.Counts.{data_in}
+
+-- what is read of a list of bytes is what was found, seen by `view`, and there is nothing to read
+-- where nothing was found
+abbrev pub Gives : {X Y : Type 0} → (X → Y) → Option X → Option Y → Type 0
+Gives view (Some x) read = read ≡ Some (view x)
+Gives view None read = read ≡ None
+
+-- a value stands at the front of the bytes, with so many data in it, and these bytes behind it. It
+-- has no more data than bytes
+pub record IsPassed {A : Type 0} (format : Format A) (amount : A → ℕ) (bytes : List ℕ) (n : ℕ) (rest : List ℕ) : Type 0 where
+  pub value : A
+  pub read : format.get bytes ≡ Some (value, rest)
+  pub count : amount value ≡ n
+  pub few : n + length rest ≤ length bytes
+
+-- a value is passed over without being kept: its data are counted, and the bytes behind it are left
+abbrev pub Passes : {A : Type 0} → Format A → (A → ℕ) → List ℕ → Option (ℕ × List ℕ) → Type 0
+Passes format amount bytes (Some p) = IsPassed format amount bytes p.0 p.1
+Passes format amount bytes None = format.get bytes ≡ None
+
+-- the same, and its key is this one
+pub record IsKeyed {A : Type 0} (format : Format A) (key amount : A → ℕ) (bytes : List ℕ) (k n : ℕ) (rest : List ℕ) : Type 0 where
+  pub passed : IsPassed format amount bytes n rest
+  pub same : key passed.value ≡ k
+
+abbrev pub PassesBy : {A : Type 0} → Format A → (key amount : A → ℕ) → List ℕ → Option (ℕ × ℕ × List ℕ) → Type 0
+PassesBy format key amount bytes (Some p) = IsKeyed format key amount bytes p.0 p.1 p.2
+PassesBy format key amount bytes None = format.get bytes ≡ None
+
+-- the least key that may follow
+abbrev pub after : Option ℕ → ℕ
+after None = 0
+after (Some last) = last + 1
+
+-- a body stands at the front of the bytes, with this head and so many data
+pub record IsBodyPassed (bytes : List ℕ) (head : Head) (n : ℕ) (rest : List ℕ) : Type 0 where
+  pub value : Body
+  pub read : body.get bytes ≡ Some (value, rest)
+  pub head_is : value.head ≡ head
+  pub count : data_in value.world ≡ n
+  pub few : n ≤ length bytes
+
+abbrev pub PassesBody : List ℕ → Option (Head × ℕ × List ℕ) → Type 0
+PassesBody bytes (Some p) = IsBodyPassed bytes p.0 p.1 p.2
+PassesBody bytes None = body.get bytes ≡ None

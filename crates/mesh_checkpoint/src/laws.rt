@@ -1,0 +1,47 @@
+//! What holds of checkpoints.
+ghost use Rattle.mesh_checkpoint.specs.Laws.{WrittenIsRead, ReadIsWritten, FittingIsWritten, OneCheckpoint, OneBody, BalancedIsTaken, OneRefusal, OneState, FittingIsState};
+
+/// What is written of a body is read again.
+pub fn written_is_read()
+    ensures { WrittenIsRead }
+{}
+
+/// What is read of a body is written so.
+pub fn read_is_written()
+    ensures { ReadIsWritten }
+{}
+
+/// A body that fits and isn't too long has a checkpoint.
+pub fn fitting_is_written()
+    ensures { FittingIsWritten }
+{}
+
+/// A body has at most one checkpoint.
+pub fn one_checkpoint()
+    ensures { OneCheckpoint }
+{}
+
+/// A checkpoint has one body.
+pub fn one_body()
+    ensures { OneBody }
+{}
+
+/// A checkpoint whose sums are balanced isn't refused.
+pub fn balanced_is_taken()
+    ensures { BalancedIsTaken }
+{}
+
+/// Bytes are refused for one reason.
+pub fn one_refusal()
+    ensures { OneRefusal }
+{}
+
+/// A moment has at most one checkpoint.
+pub fn one_state()
+    ensures { OneState }
+{}
+
+/// A moment whose numbers are in the table's ranges has a checkpoint, unless its body is too long.
+pub fn fitting_is_state()
+    ensures { FittingIsState }
+{}

@@ -1,0 +1,21 @@
+//! The bytes of a checkpoint: the table of its body, and whether bytes are one.
+#![tactic(auto)]
+
+mod body;
+mod laws;
+mod limits;
+mod numbers;
+mod part;
+mod parts;
+mod surveying;
+
+pub use body::Head;
+pub use laws::{
+    balanced_is_taken, fitting_is_state, fitting_is_written, one_body, one_checkpoint, one_refusal,
+    one_state, read_is_written, written_is_read,
+};
+pub use limits::{GREATEST_NEXT_ID, LONGEST_BODY, LONGEST_HEARD, MOST_STEPS, SUMS_END};
+pub use surveying::{SurveyError, survey};
+
+#[cfg(test)]
+mod tests;

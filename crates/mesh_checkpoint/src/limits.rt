@@ -1,0 +1,17 @@
+//! The limits of a checkpoint, beside those of a mesh.
+
+/// The longest body, in bytes.
+pub const LONGEST_BODY: u64 = 268_435_456;
+
+/// Each sum of a run, and its number of lines, is below this: 2^60.
+pub const SUMS_END: u64 = 1_152_921_504_606_846_976;
+
+/// The most steps of a world: 2^45.
+pub const MOST_STEPS: u64 = 35_184_372_088_832;
+
+/// The greatest id of a next copy: 2^60.
+pub const GREATEST_NEXT_ID: u64 = 1_152_921_504_606_846_976;
+
+/// The longest packet in an inbox, in bytes: more than is ever sent, and as much as a router takes
+/// from a socket.
+pub const LONGEST_HEARD: u32 = 2049;

@@ -1,0 +1,22 @@
+-- Listings: how what is listed grows by what comes last.
+pub mod Listings
+-- PairLists: the pairs of a set, listed.
+pub mod PairLists
+-- StoreLists: how a store grows.
+pub mod StoreLists
+-- ItemKinds: what stands behind the byte of an item's kind.
+pub mod ItemKinds
+-- LinkLists: how the links grow.
+pub mod LinkLists
+-- CopyLists: how the flight grows.
+pub mod CopyLists
+-- AirParts: the links and the copies, one after another.
+pub mod AirParts
+-- MeshLists: a mesh with one more node.
+pub mod MeshLists
+-- Written: what is written of packets' meanings are the packets again.
+pub mod Written
+-- NodeParts: the parts of a node, one after another.
+pub mod NodeParts
+-- Loop: reading values one after another, as a loop does.
+pub mod Loop

@@ -1,0 +1,15 @@
+-- Read in this order.
+-- Reading: what a reader answers that may want memory.
+pub mod Reading
+-- Stores: how a store grows while it is read.
+pub mod Stores
+-- Items: what stands behind the byte of an item's kind.
+pub mod Items
+-- Nodes: a node as a checkpoint has it.
+pub mod Nodes
+-- Air: the links and the copies in flight, as a checkpoint lists them.
+pub mod Air
+-- Heads: the head of a body.
+pub mod Heads
+-- Kept: what a store has after a part was read into it.
+pub mod Kept

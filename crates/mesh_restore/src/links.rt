@@ -1,0 +1,101 @@
+//! The links of a mesh.
+ghost use Rattle.std.specs.Prelude.{◌≡◌, ◌≢◌, ◌<◌, ◌≤◌, false, IfSome, MatchOption, Some, None};
+ghost use Rattle.std.specs.FinSet as sets;
+ghost use Rattle.mesh_base.specs.declared.limits.TheConstants.{MOST_NODES};
+ghost use Rattle.mesh_checkpoint.specs.Formats.{get_rising};
+ghost use Rattle.mesh_checkpoint.specs.Checkpoint as model;
+ghost use Rattle.mesh_checkpoint.specs.Reading.{Gives};
+ghost use Rattle.mesh_restore.specs.Air.{IsLinkKept, AreLinksRead, ArePassed};
+
+use crate::numbers::{number16, truth};
+use mesh_radio::Radio;
+
+/// Two nodes, the smaller first, whose link stands or has stood.
+#[derive(Clone, Copy)]
+struct Link {
+    a: usize,
+    b: usize,
+    stands: bool,
+}
+
+// A link.
+fn read_link(bytes: &[u8], nodes: u32) -> Option<(Link, &[u8])>
+    ensures value { Gives (λ x. (record { a = x.0.a; b = x.0.b; stands = x.0.stands }, x.1.now))
+        result ((model.link nodes).get bytes.now) }
+    ensures rising { IfSome result (λ x. x.0.a < x.0.b) }
+    ensures below { IfSome result (λ x. x.0.b < nodes) }
+{
+    let (a, rest) = number16(bytes, 0, nodes)?;
+    let (b, rest) = number16(rest, u32::from(a) + 1, nodes)?;
+    let (stands, rest) = truth(rest)?;
+    let link = Link {
+        a: usize::from(a),
+        b: usize::from(b),
+        stands,
+    };
+    Some((link, rest))
+}
+
+/// The bytes behind so many links, by rising pair.
+pub(crate) fn behind_links(count: u16, bytes: &[u8], nodes: u32) -> Option<&[u8]>
+    requires { nodes ≤ MOST_NODES }
+    ensures { let read = get_rising model.link_key (model.link nodes).get count 0 bytes.now in
+        MatchOption result (read ≡ None) (λ x. ArePassed read x.now) }
+{
+    let mut rest = bytes;
+    let mut low = 0;
+    for _ in 0..count {
+        let (link, behind) = read_link(rest, nodes)?;
+        let key = link.a * 65_536 + link.b;
+        if key < low {
+            return None;
+        }
+        low = key + 1;
+        rest = behind;
+    }
+    Some(rest)
+}
+
+// A link that has never stood stands, or has stood.
+fn keep(radio: &mut Radio, link: Link)
+    requires rising { link.a < link.b }
+    requires below { link.b < radio.old.size }
+    requires new { sets.contains radio.old.links (link.a, link.b) ≡ false }
+    ensures { IsLinkKept radio.old radio.new (link.a, link.b) link.stands }
+{
+    radio.link(link.a, link.b);
+    if link.stands {
+        return;
+    }
+    radio.cut(link.a, link.b);
+}
+
+/// So many links, by rising pair, come to stand or to have stood, where none did. The bytes behind
+/// them are answered.
+pub(crate) fn link_all<'b>(
+    radio: &mut Radio,
+    count: u16,
+    bytes: &'b [u8],
+    nodes: u32,
+) -> Option<&'b [u8]>
+    requires few { nodes ≤ MOST_NODES }
+    requires size { radio.old.size ≡ nodes }
+    requires links { radio.old.links ≡ sets.empty }
+    requires ever { radio.old.ever ≡ sets.empty }
+    ensures { let read = get_rising model.link_key (model.link nodes).get count 0 bytes.now in
+        MatchOption result (read ≡ None) (λ x. AreLinksRead read radio.old radio.new x.now) }
+{
+    let mut rest = bytes;
+    let mut low = 0;
+    for _ in 0..count {
+        let (link, behind) = read_link(rest, nodes)?;
+        let key = link.a * 65_536 + link.b;
+        if key < low {
+            return None;
+        }
+        low = key + 1;
+        keep(radio, link);
+        rest = behind;
+    }
+    Some(rest)
+}

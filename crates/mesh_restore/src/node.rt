@@ -1,0 +1,41 @@
+//! A node.
+ghost use Rattle.std.specs.Prelude.{◌≡◌, ◌<◌, ◌≤◌, length, MatchResult};
+ghost use Rattle.mesh_checkpoint.specs.Checkpoint as model;
+ghost use Rattle.mesh_restore.specs.Reading.{Refuses};
+ghost use Rattle.mesh_restore.specs.Nodes.{IsNodeRead};
+
+use crate::error::ReadError;
+use crate::inbox::inbox;
+use crate::numbers::number32;
+use crate::requests::requests;
+use crate::routes::table;
+use crate::store::store;
+use aodv_node::{Node, Unfit};
+use mesh_base::{Mesh, Variant};
+use std::alloc::Global;
+
+/// Node `me` of the mesh, of this variant, at the front of bytes, and the bytes behind it. Where
+/// its parts are no node's, it is said which of them isn't in order.
+pub fn read_node<'b>(
+    alloc: Global,
+    mesh: &Mesh,
+    me: usize,
+    variant: Variant,
+    bytes: &'b [u8],
+) -> Result<(Result<Node, Unfit>, &'b [u8]), ReadError>
+    requires { me < length mesh.now }
+    ensures { let read = (model.node (length mesh.now)).get bytes.now in
+        MatchResult result (λ x. IsNodeRead variant me (length mesh.now) read x.0 x.1.now)
+        (λ e. Refuses e read) }
+{
+    let nodes = mesh.len() as u32;
+    let Some((sn, rest)) = number32(bytes, 1, 4_294_967_296) else {
+        return Err(ReadError::Spelling);
+    };
+    let (table, rest) = table(alloc, rest, nodes)?;
+    let (asked, rest) = requests(alloc, rest, nodes)?;
+    let (waiting, rest) = store(alloc, rest, nodes)?;
+    let (inbox, rest) = inbox(alloc, rest, nodes)?;
+    let node = Node::from_parts(mesh, me, variant, sn, table, asked, waiting, inbox);
+    Ok((node, rest))
+}

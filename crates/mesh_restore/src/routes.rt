@@ -1,0 +1,104 @@
+//! The routing table of a node.
+ghost use Rattle.std.specs.Prelude.{◌≡◌, ◌<◌, ◌≤◌, IfSome, IfOk, length};
+ghost use Rattle.std.specs.Int.{w16};
+ghost use Rattle.mesh_base.specs.declared.limits.TheConstants.{MOST_NODES};
+ghost use Rattle.mesh_base.specs.Members.{member_list};
+ghost use Rattle.mesh_checkpoint.specs.Formats.{number, get_rising};
+ghost use Rattle.mesh_checkpoint.specs.Checkpoint as model;
+ghost use Rattle.mesh_checkpoint.specs.Reading.{Gives};
+ghost use Rattle.mesh_restore.specs.Reading.{Reads};
+ghost use Rattle.mesh_checkpoint.specs.Points.{route_of, routes_in};
+
+use crate::error::ReadError;
+use crate::numbers::{byte, number16, number32, truth};
+use aodv_entry::{Entry, Flag, Known};
+use aodv_table::{RowTable, Table};
+use mesh_base::NodeSet;
+use std::alloc::Global;
+
+// So many nodes, by rising index.
+fn precursors(count: u16, bytes: &[u8], nodes: u32) -> Option<(NodeSet, &[u8])>
+    requires { nodes ≤ MOST_NODES }
+    ensures { Gives (λ x. (member_list x.0, x.1.now)) result
+        (get_rising (λ i. i) (model.index nodes).get count 0 bytes.now) }
+{
+    let mut found = NodeSet::new();
+    let mut rest = bytes;
+    let mut low = 0;
+    for _ in 0..count {
+        let (index, behind) = number16(rest, 0, nodes)?;
+        if u32::from(index) < low {
+            return None;
+        }
+        low = u32::from(index) + 1;
+        found.add(usize::from(index));
+        rest = behind;
+    }
+    Some((found, rest))
+}
+
+// An entry and its destination.
+fn route(bytes: &[u8], nodes: u32) -> Option<(usize, Entry, &[u8])>
+    requires { nodes ≤ MOST_NODES }
+    ensures value { Gives (λ x. (route_of (x.0, x.1), x.2.now)) result
+        ((model.route nodes).get bytes.now) }
+    ensures below { IfSome result (λ x. x.0 < nodes) }
+{
+    let (dest, rest) = number16(bytes, 0, nodes)?;
+    let (dsn, rest) = number32(rest, 0, 4_294_967_296)?;
+    let (known, rest) = truth(rest)?;
+    let (valid, rest) = truth(rest)?;
+    let (hops, rest) = byte(rest, 1, 256)?;
+    let (next, rest) = number16(rest, 0, nodes)?;
+    let (count, rest) = number16(rest, 0, 65_536)?;
+    let Some((pre, rest)) = precursors(count, rest, nodes) else {
+        return None;
+    };
+    let entry = Entry {
+        dsn,
+        dsk: if known { Known::Kno } else { Known::Unk },
+        flag: if valid { Flag::Val } else { Flag::Inv },
+        hops,
+        next: usize::from(next),
+        pre,
+    };
+    Some((usize::from(dest), entry, rest))
+}
+
+// So many entries, by rising destination.
+fn rows(alloc: Global, count: u16, bytes: &[u8], nodes: u32) -> Result<(RowTable, &[u8]), ReadError>
+    requires { nodes ≤ MOST_NODES }
+    ensures value { Reads (λ x. (routes_in x.0.entries, x.1.now)) result
+        (get_rising (λ r. r.dest) (model.route nodes).get count 0 bytes.now) }
+    ensures nodes { IfOk result (λ x. x.0.nodes ≡ nodes) }
+{
+    let mut table = RowTable::new(alloc, nodes as usize)?;
+    let mut rest = bytes;
+    let mut low = 0;
+    for _ in 0..count {
+        let Some((dest, entry, behind)) = route(rest, nodes) else {
+            return Err(ReadError::Spelling);
+        };
+        if dest < low {
+            return Err(ReadError::Spelling);
+        }
+        low = dest + 1;
+        table.make_room(dest)?;
+        table.put(dest, Some(entry));
+        rest = behind;
+    }
+    Ok((table, rest))
+}
+
+/// The table at the front of bytes, in a mesh of so many nodes, and the bytes behind it.
+pub(crate) fn table(alloc: Global, bytes: &[u8], nodes: u32) -> Result<(RowTable, &[u8]), ReadError>
+    requires { nodes ≤ MOST_NODES }
+    ensures value { Reads (λ x. (routes_in x.0.entries, x.1.now)) result
+        ((model.routes nodes).get bytes.now) }
+    ensures nodes { IfOk result (λ x. x.0.nodes ≡ nodes) }
+{
+    let Some((count, rest)) = number16(bytes, 0, 65_536) else {
+        return Err(ReadError::Spelling);
+    };
+    rows(alloc, count, rest, nodes)
+}

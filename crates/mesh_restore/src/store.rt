@@ -1,0 +1,120 @@
+//! The data that wait for a route.
+ghost use Rattle.std.specs.Prelude.{◌≡◌, ◌<◌, ◌≤◌, ◌+◌, ◌++◌, ◌∷◌, [], MatchResult, IfSome, IfOk, OnOk, length, Some, ℕ};
+ghost use Rattle.std.specs.FinMap as maps;
+ghost use Rattle.mesh_base.specs.declared.limits.TheConstants.{MOST_NODES};
+ghost use Rattle.mesh_checkpoint.specs.Formats.{get_rising, get_times};
+ghost use Rattle.mesh_checkpoint.specs.Checkpoint as model;
+ghost use Rattle.mesh_restore.specs.Reading.{Reads, Refuses, get_from};
+ghost use Rattle.mesh_checkpoint.specs.Points.{waits_in};
+ghost use Rattle.mesh_restore.specs.Stores.{settled, AreBelow};
+ghost use Rattle.mesh_restore.specs.Kept.{IsFilled, IsKeptFrom};
+
+use crate::error::ReadError;
+use crate::numbers::{number16, number32, text, truth};
+use aodv_waiting::Waiting;
+use mesh_base::Bytes;
+use std::alloc::Global;
+
+// So many data for one destination, which had none before. The bytes behind them are answered.
+fn bodies<'b>(
+    alloc: Global,
+    waiting: &mut Waiting,
+    dest: usize,
+    count: u32,
+    bytes: &'b [u8],
+) -> Result<&'b [u8], ReadError>
+    requires dest { dest < length waiting.old.rooms }
+    requires below { AreBelow dest waiting.old.store }
+    ensures data { let read = get_times model.datum.get count bytes.now in
+        MatchResult result (λ x. IsFilled waiting.old.store dest count read waiting.new.store x.now)
+        (λ e. Refuses e read) }
+    ensures nodes { length waiting.new.rooms ≡ length waiting.old.rooms }
+{
+    let mut rest = bytes;
+    for _ in 0..count {
+        let Some((body, behind)) = text(rest, 1, 513) else {
+            return Err(ReadError::Spelling);
+        };
+        let body = Bytes::copy_of(alloc, body)?;
+        waiting.make_room(dest)?;
+        waiting.add(dest, body);
+        rest = behind;
+    }
+    Ok(rest)
+}
+
+// Data that came need a request, unless it is said that they don't.
+fn settle(waiting: &mut Waiting, dest: usize, needs_request: bool)
+    requires { dest < length waiting.old.rooms }
+    ensures store { waiting.new.store ≡ settled waiting.old.store dest needs_request }
+    ensures nodes { length waiting.new.rooms ≡ length waiting.old.rooms }
+{
+    if !needs_request {
+        waiting.unset_req(dest);
+    }
+}
+
+// What waits for one destination, which is at least `low`. It and the bytes behind are answered.
+fn waits<'b>(
+    alloc: Global,
+    waiting: &mut Waiting,
+    low: usize,
+    bytes: &'b [u8],
+    nodes: u32,
+) -> Result<(usize, &'b [u8]), ReadError>
+    requires nodes { length waiting.old.rooms ≡ nodes }
+    requires below { AreBelow low waiting.old.store }
+    ensures read { let read = get_from (λ w. w.dest) (model.waits nodes).get low bytes.now in
+        MatchResult result (λ x. IsKeptFrom read waiting.old.store waiting.new.store x.0 x.1.now)
+        (λ e. Refuses e read) }
+    ensures nodes { length waiting.new.rooms ≡ length waiting.old.rooms }
+    ensures dest { IfOk result (λ x. x.0 < nodes) }
+{
+    let Some((dest, rest)) = number16(bytes, 0, nodes) else {
+        return Err(ReadError::Spelling);
+    };
+    let dest = usize::from(dest);
+    if dest < low {
+        return Err(ReadError::Spelling);
+    }
+    let Some((needs_request, rest)) = truth(rest) else {
+        return Err(ReadError::Spelling);
+    };
+    let Some((count, rest)) = number32(rest, 1, 4_294_967_296) else {
+        return Err(ReadError::Spelling);
+    };
+    let rest = bodies(alloc, waiting, dest, count, rest)?;
+    settle(waiting, dest, needs_request);
+    Ok((dest, rest))
+}
+
+// What waits for so many destinations, by rising destination.
+fn rows(alloc: Global, count: u16, bytes: &[u8], nodes: u32) -> Result<(Waiting, &[u8]), ReadError>
+    requires { nodes ≤ MOST_NODES }
+    ensures value { Reads (λ x. (waits_in x.0.store, x.1.now)) result
+        (get_rising (λ w. w.dest) (model.waits nodes).get count 0 bytes.now) }
+    ensures nodes { IfOk result (λ x. length x.0.rooms ≡ nodes) }
+{
+    let mut waiting = Waiting::new(alloc, nodes as usize)?;
+    let mut rest = bytes;
+    let mut low = 0;
+    for _ in 0..count {
+        let (dest, behind) = waits(alloc, &mut waiting, low, rest, nodes)?;
+        low = dest + 1;
+        rest = behind;
+    }
+    Ok((waiting, rest))
+}
+
+/// The store at the front of bytes, in a mesh of so many nodes, and the bytes behind it.
+pub(crate) fn store(alloc: Global, bytes: &[u8], nodes: u32) -> Result<(Waiting, &[u8]), ReadError>
+    requires { nodes ≤ MOST_NODES }
+    ensures value { Reads (λ x. (waits_in x.0.store, x.1.now)) result
+        ((model.store nodes).get bytes.now) }
+    ensures nodes { IfOk result (λ x. length x.0.rooms ≡ nodes) }
+{
+    let Some((count, rest)) = number16(bytes, 0, 65_536) else {
+        return Err(ReadError::Spelling);
+    };
+    rows(alloc, count, rest, nodes)
+}
