@@ -5,3 +5,5 @@ mod Behind
 mod Bodies
 mod Loop
 mod Counts
+-- Written: what is written of packets' meanings are the packets again.
+pub mod Written

@@ -11,5 +11,9 @@ pub mod State
 pub mod Points
 -- Laws: what is proved of these.
 pub mod Laws
+-- Heads: the head of a body.
+pub mod Heads
+-- Seen: a node as a checkpoint has it.
+pub mod Seen
 -- Reading: what a reader answers.
 pub mod Reading

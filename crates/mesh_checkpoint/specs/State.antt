@@ -44,9 +44,10 @@ IsRefused b errors.Spelling =
     (take 4 b ≡ magic) × HasLength b × ((x : Body) → ¬ (IsCheckpoint b x))
 IsRefused b errors.Sums = (x : Body) × IsCheckpoint b x × ¬ (IsBalanced x)
 
--- the bytes are a checkpoint whose sums are balanced, and it has so many data
+-- the bytes are a checkpoint whose sums are balanced, and it has so many data, no more than bytes
 pub record IsSurveyed (b : List ℕ) (n : ℕ) : Type 0 where
   pub found : Body
   pub checkpoint : IsCheckpoint b found
   pub balanced : IsBalanced found
   pub count : n ≡ data_in found.world
+  pub few : n ≤ length b

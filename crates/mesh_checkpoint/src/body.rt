@@ -1,6 +1,6 @@
 //! A body, as it is passed over.
 ghost use Rattle.std.specs.Prelude.{◌<◌, ◌==◌, length, not, option_map, IfSome};
-ghost use Rattle.mesh_checkpoint.specs.declared.limits.TheConstants as limits;
+ghost use Rattle.mesh_checkpoint.specs.Heads.{AreSums};
 ghost use Rattle.mesh_checkpoint.specs.Formats.{maybe};
 ghost use Rattle.mesh_checkpoint.specs.Checkpoint as model;
 ghost use Rattle.mesh_checkpoint.specs.Counts as counts;
@@ -44,14 +44,11 @@ fn read_variant(bytes: &[u8]) -> Option<(Variant, &[u8])>
     Some((variant, rest))
 }
 
-// A head.
-fn read_head(bytes: &[u8]) -> Option<(Head, &[u8])>
+/// The head at the front of bytes, and the bytes behind it.
+pub fn read_head(bytes: &[u8]) -> Option<(Head, &[u8])>
     ensures value { Gives (λ x. (x.0, x.1.now)) result (model.head.get bytes.now) }
     ensures shorter { IfSome result (λ x. length x.1.now < length bytes.now) }
-    ensures given { IfSome result (λ x. x.0.given < limits.SUMS_END) }
-    ensures copied { IfSome result (λ x. x.0.copied < limits.SUMS_END) }
-    ensures delivered { IfSome result (λ x. x.0.delivered < limits.SUMS_END) }
-    ensures lost { IfSome result (λ x. x.0.lost < limits.SUMS_END) }
+    ensures below { IfSome result (λ x. AreSums x.0) }
 {
     let (variant, rest) = read_variant(bytes)?;
     let (lines, rest) = number64(rest, 0, SUMS_END)?;
@@ -107,10 +104,7 @@ fn pass_maybe_world(bytes: &[u8], nodes: u32) -> Option<(u64, &[u8])>
 /// Passes over a body: its head, how many data it has, and the bytes behind it.
 pub(crate) fn pass_body(bytes: &[u8]) -> Option<(Head, u64, &[u8])>
     ensures body { PassesBody bytes.now (option_map (λ x. (x.0, x.1, x.2.now)) result) }
-    ensures given { IfSome result (λ x. x.0.given < limits.SUMS_END) }
-    ensures copied { IfSome result (λ x. x.0.copied < limits.SUMS_END) }
-    ensures delivered { IfSome result (λ x. x.0.delivered < limits.SUMS_END) }
-    ensures lost { IfSome result (λ x. x.0.lost < limits.SUMS_END) }
+    ensures below { IfSome result (λ x. AreSums x.0) }
 {
     let (head, rest) = read_head(bytes)?;
     let (nodes, rest) = number16(rest, 0, NODES_END)?;

@@ -4,12 +4,12 @@
 mod body;
 mod laws;
 mod limits;
-mod numbers;
+pub mod numbers;
 mod part;
 mod parts;
 mod surveying;
 
-pub use body::Head;
+pub use body::{Head, read_head};
 pub use laws::{
     balanced_is_taken, fitting_is_state, fitting_is_written, one_body, one_checkpoint, one_refusal,
     one_state, read_is_written, written_is_read,

@@ -1,12 +1,12 @@
 //! Numbers and texts at the front of bytes. Each reader answers what it has read and the bytes
 //! behind it, or None where the bytes don't begin so.
-ghost use Rattle.std.specs.Prelude.{◌≡◌, ◌<◌, length, IfSome};
+ghost use Rattle.std.specs.Prelude.{◌≡◌, ◌<◌, ◌≤◌, length, IfSome};
 ghost use Rattle.std.specs.Int.{w16, w32, w64};
 ghost use Rattle.mesh_checkpoint.specs.Formats.{byte, number, truth, text};
 ghost use Rattle.mesh_checkpoint.specs.Reading.{Gives};
 
 /// A number from `low` on and below `end`, in one byte.
-pub(crate) fn byte(bytes: &[u8], low: u8, end: u16) -> Option<(u8, &[u8])>
+pub fn byte(bytes: &[u8], low: u8, end: u16) -> Option<(u8, &[u8])>
     ensures value { Gives (λ x. (x.0, x.1.now)) result ((byte low end).get bytes.now) }
     ensures shorter { IfSome result (λ x. length x.1.now < length bytes.now) }
 {
@@ -18,7 +18,7 @@ pub(crate) fn byte(bytes: &[u8], low: u8, end: u16) -> Option<(u8, &[u8])>
 }
 
 /// A truth, in one byte.
-pub(crate) fn truth(bytes: &[u8]) -> Option<(bool, &[u8])>
+pub fn truth(bytes: &[u8]) -> Option<(bool, &[u8])>
     ensures value { Gives (λ x. (x.0, x.1.now)) result (truth.get bytes.now) }
     ensures shorter { IfSome result (λ x. length x.1.now < length bytes.now) }
 {
@@ -27,9 +27,10 @@ pub(crate) fn truth(bytes: &[u8]) -> Option<(bool, &[u8])>
 }
 
 /// A number from `low` on and below `end`, in two bytes.
-pub(crate) fn number16(bytes: &[u8], low: u32, end: u32) -> Option<(u16, &[u8])>
+pub fn number16(bytes: &[u8], low: u32, end: u32) -> Option<(u16, &[u8])>
     ensures value { Gives (λ x. (x.0, x.1.now)) result ((number w16 low end).get bytes.now) }
     ensures shorter { IfSome result (λ x. length x.1.now < length bytes.now) }
+    ensures below { IfSome result (λ x. x.0 < end) }
 {
     if bytes.len() < 2 {
         return None;
@@ -43,9 +44,10 @@ pub(crate) fn number16(bytes: &[u8], low: u32, end: u32) -> Option<(u16, &[u8])>
 }
 
 /// A number from `low` on and below `end`, in four bytes.
-pub(crate) fn number32(bytes: &[u8], low: u32, end: u64) -> Option<(u32, &[u8])>
+pub fn number32(bytes: &[u8], low: u32, end: u64) -> Option<(u32, &[u8])>
     ensures value { Gives (λ x. (x.0, x.1.now)) result ((number w32 low end).get bytes.now) }
     ensures shorter { IfSome result (λ x. length x.1.now < length bytes.now) }
+    ensures from { IfSome result (λ x. low ≤ x.0) }
 {
     if bytes.len() < 4 {
         return None;
@@ -59,9 +61,10 @@ pub(crate) fn number32(bytes: &[u8], low: u32, end: u64) -> Option<(u32, &[u8])>
 }
 
 /// A number from `low` on and below `end`, in eight bytes.
-pub(crate) fn number64(bytes: &[u8], low: u64, end: u64) -> Option<(u64, &[u8])>
+pub fn number64(bytes: &[u8], low: u64, end: u64) -> Option<(u64, &[u8])>
     ensures value { Gives (λ x. (x.0, x.1.now)) result ((number w64 low end).get bytes.now) }
     ensures shorter { IfSome result (λ x. length x.1.now < length bytes.now) }
+    ensures from { IfSome result (λ x. low ≤ x.0) }
     ensures below { IfSome result (λ x. x.0 < end) }
 {
     if bytes.len() < 8 {
@@ -78,9 +81,11 @@ pub(crate) fn number64(bytes: &[u8], low: u64, end: u64) -> Option<(u64, &[u8])>
 }
 
 /// Bytes behind their length, which is from `low` on and below `end`.
-pub(crate) fn text(bytes: &[u8], low: u32, end: u32) -> Option<(&[u8], &[u8])>
+pub fn text(bytes: &[u8], low: u32, end: u32) -> Option<(&[u8], &[u8])>
     ensures value { Gives (λ x. (x.0.now, x.1.now)) result ((text w16 low end).get bytes.now) }
     ensures shorter { IfSome result (λ x. length x.1.now < length bytes.now) }
+    ensures from { IfSome result (λ x. low ≤ length x.0.now) }
+    ensures below { IfSome result (λ x. length x.0.now < end) }
 {
     let (length, rest) = number16(bytes, low, end)?;
     let length = usize::from(length);

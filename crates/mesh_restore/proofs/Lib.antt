@@ -14,8 +14,6 @@ pub mod CopyLists
 pub mod AirParts
 -- MeshLists: a mesh with one more node.
 pub mod MeshLists
--- Written: what is written of packets' meanings are the packets again.
-pub mod Written
 -- NodeParts: the parts of a node, one after another.
 pub mod NodeParts
 -- Loop: reading values one after another, as a loop does.

@@ -5,11 +5,9 @@ pub mod Reading
 pub mod Stores
 -- Items: what stands behind the byte of an item's kind.
 pub mod Items
--- Nodes: a node as a checkpoint has it.
+-- Nodes: a node that was read from a checkpoint.
 pub mod Nodes
 -- Air: the links and the copies in flight, as a checkpoint lists them.
 pub mod Air
--- Heads: the head of a body.
-pub mod Heads
 -- Kept: what a store has after a part was read into it.
 pub mod Kept

@@ -1,21 +1,11 @@
--- A node as a checkpoint has it.
+-- A node that was read from a checkpoint.
 use Rattle.std.specs.Prelude.{◌≡◌, ℕ, List, Option, Some, Result}
 use Rattle.mesh_base.specs.declared.events.Variant.{Variant}
 use Rattle.aodv_node.specs.declared.answers.Unfit.{Unfit}
 use Rattle.aodv_node.specs.Seen.{NodeSeen}
 use Rattle.aodv_node.specs.Restored.{IsRestored}
 use Rattle.mesh_checkpoint.specs.Checkpoint.{Node}
-use Rattle.mesh_checkpoint.specs.Points.{routes_in, pairs_in, waits_in}
-
--- its own number, its routes, the requests that it has seen, its store, and its inbox
-abbrev pub listed : NodeSeen → Node
-listed n = record {
-  sn = (n.core).sn;
-  routes = routes_in (n.core).rt;
-  asked = pairs_in (n.core).seen;
-  store = waits_in (n.core).store;
-  inbox = n.items;
-}
+use Rattle.mesh_checkpoint.specs.Seen.{listed}
 
 -- node `me` of a mesh of so many nodes, of this variant
 pub record IsNodeAt (variant : Variant) (me size : ℕ) (n : NodeSeen) : Type 0 where

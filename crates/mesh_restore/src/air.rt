@@ -7,7 +7,7 @@ ghost use Rattle.mesh_restore.specs.Air.{air, IsAirRead};
 use crate::copies::fly_all;
 use crate::error::ReadError;
 use crate::links::{behind_links, link_all};
-use crate::numbers::{number16, number32, number64};
+use mesh_checkpoint::numbers::{number16, number32, number64};
 use mesh_checkpoint::GREATEST_NEXT_ID;
 use mesh_radio::Radio;
 use std::alloc::Global;

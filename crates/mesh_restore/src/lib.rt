@@ -1,4 +1,4 @@
-//! The parts of a run, read from its checkpoint: the head, the mesh, each node, and what is in the
+//! The parts of a run, read from its checkpoint: the mesh, each node, and what is in the
 //! air. A part is read into the very value that a run keeps, with no other value between.
 #![tactic(auto)]
 
@@ -9,14 +9,13 @@ mod inbox;
 mod links;
 mod mesh;
 mod node;
-mod numbers;
 mod requests;
 mod routes;
 mod store;
 
 pub use air::read_radio;
 pub use error::ReadError;
-pub use mesh::{read_head, read_mesh};
+pub use mesh::read_mesh;
 pub use node::read_node;
 
 #[cfg(test)]

@@ -7,7 +7,7 @@ ghost use Rattle.mesh_checkpoint.specs.Checkpoint as model;
 ghost use Rattle.mesh_checkpoint.specs.Reading.{Gives};
 ghost use Rattle.mesh_restore.specs.Air.{IsLinkKept, AreLinksRead, ArePassed};
 
-use crate::numbers::{number16, truth};
+use mesh_checkpoint::numbers::{number16, truth};
 use mesh_radio::Radio;
 
 /// Two nodes, the smaller first, whose link stands or has stood.

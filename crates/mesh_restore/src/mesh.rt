@@ -1,16 +1,13 @@
-//! The nodes of a mesh, and the head of a body.
+//! The nodes of a mesh.
 ghost use Rattle.std.specs.Prelude.{◌≡◌, ◌<◌, ◌≤◌, ◌∷◌, ◌++◌, [], length, IfSome};
 ghost use Rattle.std.specs.List.{AllByRecursion};
 ghost use Rattle.mesh_base.specs.declared.limits.TheConstants.{MOST_NODES};
-ghost use Rattle.mesh_checkpoint.specs.declared.limits.TheConstants as limits;
-ghost use Rattle.mesh_restore.specs.Heads.{AreSums};
 ghost use Rattle.mesh_checkpoint.specs.Formats.{get_rising};
 ghost use Rattle.mesh_checkpoint.specs.Checkpoint as model;
 ghost use Rattle.mesh_checkpoint.specs.Reading.{Gives};
 
-use crate::numbers::{byte, number16, number32, number64};
-use mesh_base::{Addr, Mesh, Variant};
-use mesh_checkpoint::{Head, SUMS_END};
+use mesh_base::{Addr, Mesh};
+use mesh_checkpoint::numbers::{number16, number32};
 
 // An address, and the first number of its node.
 fn station(bytes: &[u8]) -> Option<(u32, u32, &[u8])>
@@ -62,52 +59,4 @@ pub fn read_mesh(bytes: &[u8]) -> Option<(Mesh, &[u8])>
 {
     let (count, rest) = number16(bytes, 0, 201)?;
     stations(count, rest)
-}
-
-// A variant of the protocol.
-fn variant(bytes: &[u8]) -> Option<(Variant, &[u8])>
-    ensures { Gives (λ x. (x.0, x.1.now)) result (model.variant.get bytes.now) }
-{
-    let (number, rest) = byte(bytes, 0, 4)?;
-    let variant = match number {
-        0 => Variant::Base,
-        1 => Variant::Number,
-        2 => Variant::Reply,
-        _ => Variant::Error,
-    };
-    Some((variant, rest))
-}
-
-// The sum at the front of bytes, and the bytes behind it.
-fn sum(bytes: &[u8]) -> Option<(u64, &[u8])>
-    ensures value { Gives (λ x. (x.0, x.1.now)) result (model.sum.get bytes.now) }
-    ensures below { IfSome result (λ x. x.0 < limits.SUMS_END) }
-{
-    number64(bytes, 0, SUMS_END)
-}
-
-/// The head at the front of bytes, and the bytes behind it.
-pub fn read_head(bytes: &[u8]) -> Option<(Head, &[u8])>
-    ensures value { Gives (λ x. (x.0, x.1.now)) result (model.head.get bytes.now) }
-    ensures below { IfSome result (λ x. AreSums x.0) }
-{
-    let (variant, rest) = variant(bytes)?;
-    let (lines, rest) = sum(rest)?;
-    let (events, rest) = sum(rest)?;
-    let (idle, rest) = sum(rest)?;
-    let (given, rest) = sum(rest)?;
-    let (delivered, rest) = sum(rest)?;
-    let (lost, rest) = sum(rest)?;
-    let (copied, rest) = sum(rest)?;
-    let head = Head {
-        variant,
-        lines,
-        events,
-        idle,
-        given,
-        delivered,
-        lost,
-        copied,
-    };
-    Some((head, rest))
 }

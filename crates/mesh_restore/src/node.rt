@@ -6,7 +6,7 @@ ghost use Rattle.mesh_restore.specs.Nodes.{IsNodeRead};
 
 use crate::error::ReadError;
 use crate::inbox::inbox;
-use crate::numbers::number32;
+use mesh_checkpoint::numbers::number32;
 use crate::requests::requests;
 use crate::routes::table;
 use crate::store::store;

@@ -8,7 +8,7 @@ ghost use Rattle.mesh_restore.specs.Reading.{Reads};
 ghost use Rattle.mesh_checkpoint.specs.Points.{pairs_in};
 
 use crate::error::ReadError;
-use crate::numbers::{number16, number32};
+use mesh_checkpoint::numbers::{number16, number32};
 use aodv_asked::Asked;
 use std::alloc::Global;
 

@@ -10,7 +10,7 @@ ghost use Rattle.mesh_restore.specs.Reading.{Reads};
 ghost use Rattle.mesh_checkpoint.specs.Points.{route_of, routes_in};
 
 use crate::error::ReadError;
-use crate::numbers::{byte, number16, number32, truth};
+use mesh_checkpoint::numbers::{byte, number16, number32, truth};
 use aodv_entry::{Entry, Flag, Known};
 use aodv_table::{RowTable, Table};
 use mesh_base::NodeSet;

@@ -10,7 +10,7 @@ ghost use Rattle.mesh_restore.specs.Stores.{settled, AreBelow};
 ghost use Rattle.mesh_restore.specs.Kept.{IsFilled, IsKeptFrom};
 
 use crate::error::ReadError;
-use crate::numbers::{number16, number32, text, truth};
+use mesh_checkpoint::numbers::{number16, number32, text, truth};
 use aodv_waiting::Waiting;
 use mesh_base::Bytes;
 use std::alloc::Global;

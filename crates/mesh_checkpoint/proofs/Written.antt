@@ -11,7 +11,7 @@ use Rattle.aodv_node.specs.Seen.{NodeSeen}
 use Rattle.mesh_model.specs.Worlds.{Node}
 use Rattle.mesh_meaning.specs.Packets.{packet_of, IsWritten, IsWrittenItem, IsWrittenCopy, copy_in}
 use Rattle.mesh_checkpoint.specs.Points.{item_of, node_of, copy_of}
-use Rattle.mesh_restore.specs.Nodes.{listed}
+use Rattle.mesh_checkpoint.specs.Seen.{listed}
 
 packet_again : (mesh : Nodes) (bytes : List ℕ) → IsWritten mesh bytes → packet_of mesh (meaning mesh bytes) ≡ bytes
 unfolding packet_of
