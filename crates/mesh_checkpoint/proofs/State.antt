@@ -1,5 +1,5 @@
 -- A checkpoint is that of one body, which is read from it; and why bytes are none.
-use Rattle.std.proofs.Common.{◌≡◌, ◌≢◌, ℕ, ◌+◌, ◌^◌, ◌<◌, ◌≤◌, true, false, List, [], ◌++◌, length, take, drop, Some, None, refl, sym, ap, ◌∙◌, arith, get_or, Fits, w8, ltb, subst, Option, inl, inr}
+use Rattle.std.proofs.Common.{◌≡◌, ◌≢◌, ℕ, ◌+◌, ◌-◌, ◌^◌, ◌<◌, ◌≤◌, true, false, List, [], ◌++◌, length, take, drop, Some, None, refl, sym, ap, ◌∙◌, arith, get_or, Fits, w8, ltb, subst, Option, inl, inr}
 use Rattle.std.proofs.Math.Facts.{Fits-lt-pow}
 use Rattle.std.specs.Prelude.{nat_le, nat_lt}
 use Rattle.std.specs.Int.{w32, to_be_bytes}
@@ -162,3 +162,9 @@ fitting_is_state m fits =
       | inl long ↦ inl long
       | inr short ↦ inr (fitting_is_written (body_of m) fits short)
     ]
+
+-- what is no more than the bytes behind a front is no more than all of them
+pub few_behind : (b front rest : List ℕ) (n : ℕ) → front ≡ drop 4 b → length rest < length front → n ≤ length rest → n ≤ length b
+few_behind b front rest n is shorter few =
+    let long : length front ≡ length b - 4 = ap length is ∙ length-drop 4 b in
+    omega (arith, shorter, few)

@@ -1,12 +1,12 @@
-use Rattle.std.proofs.Common.{◌≡◌, ◌≢◌, ℕ, ◌+◌, ◌-◌, List, [], length, take, Some, None, ap, sym, ◌∙◌, rules, arith}
+use Rattle.std.proofs.Common.{◌≡◌, ◌≢◌, ℕ, ◌+◌, List, [], length, take, Some, None, ap, sym, ◌∙◌, rules, arith}
 use Rattle.std.specs.Int.{w32}
 use Rattle.std.proofs.lemmas.Bool.{eqb-true, eqb-false}
-use Rattle.std.proofs.lemmas.List.{nil_from_length, length-drop}
+use Rattle.std.proofs.lemmas.List.{nil_from_length}
 use Rattle.mesh_checkpoint.specs.declared.limits.TheConstants.{LONGEST_BODY}
 use Rattle.mesh_checkpoint.specs.Formats.{number_at}
 use Rattle.mesh_checkpoint.specs.Checkpoint.{body}
 use Rattle.mesh_checkpoint.specs.State.{magic, IsCheckpoint}
-use Rattle.mesh_checkpoint.proofs.State.{are_bytes, read_length, has_length, is_checkpoint, no_checkpoint, left_over, balanced_by, sums_of}
+use Rattle.mesh_checkpoint.proofs.State.{are_bytes, read_length, has_length, is_checkpoint, no_checkpoint, left_over, balanced_by, sums_of, few_behind}
 use Rattle.mesh_checkpoint.proofs.surveying.survey.Goals as goal
 
 pub returns-in_default-pass_body : goal.returns-in_default-pass_body
@@ -55,11 +55,10 @@ returns c =
     let left = c.in-Some-pass_body.left.now in
     let none : left ≡ [] = nil_from_length left (eqb-true (length left) 0 (sym c.if-not-is_empty.ensures)) in
     let is : IsCheckpoint b passed.value = is_checkpoint b passed.value c.in-Some.stated rest (are_bytes b c.type_inv.b) front length-is whole (passed.read ∙ ap (λ (k : List ℕ). Some (passed.value, k)) none) in
-    let behind : length c.split_at.result.1.now ≡ length b - 4 = ap length c.split_at.ensures.back ∙ length-drop b 4 in
     record {
       found = passed.value;
       checkpoint = is;
       balanced = balanced_by passed.value c.in-Some-pass_body.head c.in-Some-pass_body.amount passed.head_is passed.count c.if-head-amount.false;
       count = sym passed.count;
-      few = omega (arith, passed.few, c.in-Some.ensures.shorter, behind);
+      few = few_behind b _ rest c.in-Some-pass_body.amount c.split_at.ensures.back c.in-Some.ensures.shorter passed.few;
     }
