@@ -1,7 +1,7 @@
 -- A turn on a route reply.
 use Rattle.std.proofs.Common.{◌≡◌, ℕ, ◌+◌, Bool, true, false, not, Option, Some, None, List, [], refl, sym, ap, subst, ◌∙◌}
 use Rattle.std.specs.FinMap as maps
-use Rattle.std.specs.Prelude.{◌==◌}
+use Rattle.std.specs.Prelude.{◌==◌, ◌↔◌}
 use Rattle.mesh_base.specs.declared.events.Effect as code
 use Rattle.mesh_base.specs.declared.events.Counter.{Counter}
 use Rattle.mesh_base.specs.declared.events.Variant.{Variant}
@@ -11,9 +11,10 @@ use Rattle.mesh_base.specs.Meshes.{Nodes}
 use Rattle.aodv_entry.specs.declared.entry.Entry.{Entry}
 use Rattle.aodv_model.specs.Tables.{Table, update, add_pre, nhop, sqn, dhops, next_in, hops_in, number_in}
 use Rattle.aodv_model.specs.Cores.{Core, RouteReply, Rrep, Item, Heard}
-use Rattle.aodv_model.specs.Handlers.{Reaction, quiet, only, one, unicast, neighbour_entry, route_entry, after_hearing, after_reply, join_reply_precursors, forward_reply, forward_own_entry, reply_on, changes_nothing, on_rrep, turn}
+use Rattle.aodv_model.specs.Handlers.{Reaction, quiet, only, one, unicast, neighbour_entry, route_entry, after_hearing, after_reply, join_reply_precursors, forward_reply, forward_own_entry, reply_on, is_stale, on_rrep, turn}
 use Rattle.aodv_model.specs.Fullness.{turn_full}
 use Rattle.aodv_model.proofs.Readings.{pre_alike, join_reply_alike}
+use Rattle.aodv_model.proofs.Stale.{stale_is_unchanged}
 use Rattle.aodv_wire.specs.declared.route_reply.Rrep as rrep
 use Rattle.aodv_meaning.specs.Meaning.{index, reply_in}
 use Rattle.aodv_meaning.specs.Sent.{IsPacket}
@@ -85,7 +86,7 @@ item from m = Heard from (Rrep m)
 
 -- what is done in the core after the updates
 abbrev after : Core → NodeIds → ℕ → RouteReply → Table → Table → Reaction
-after c range from m rt1 rt2 = end_of_rrep (record c { rt = rt2 }) (changes_nothing rt1 m.dip (route_entry m.dsn m.hops from)) range m
+after c range from m rt1 rt2 = end_of_rrep (record c { rt = rt2 }) (is_stale rt1 m.dip (route_entry m.dsn m.hops from)) range m
 
 after_is : (c : Core) (range : NodeIds) (from : ℕ) (m : RouteReply)
     → on_rrep c range from m ≡ after c range from m (update c.rt from (neighbour_entry from)) (update (update c.rt from (neighbour_entry from)) m.dip (route_entry m.dsn m.hops from))
@@ -96,19 +97,26 @@ pub record Ends (c : Core) (range : NodeIds) (from : ℕ) (m : RouteReply) (did 
   pub turned : turn c range (item from m) ≡ did
   pub full : turn_full c range (item from m) ≡ number_full did
 
-double_not : (a b : Bool) → a ≡ not b → not a ≡ b
-double_not a true e = rw e refl
-double_not a false e = rw e refl
+-- what was changed by an update was not stale
+fresh_where_changed : (rt new : Table) (changed stale : Bool) → (changed ≡ false) ↔ (new ≡ rt) → (stale ≡ true) ↔ (new ≡ rt) → not changed ≡ stale
+fresh_where_changed rt new true true as_told as_is = absurd (wrong (as_told.1 (as_is.0 refl)))
+  where
+    wrong : true ≡ false → ⊥
+    wrong e = cc
+fresh_where_changed rt new true false as_told as_is = refl
+fresh_where_changed rt new false true as_told as_is = refl
+fresh_where_changed rt new false false as_told as_is = sym (as_is.1 (as_told.0 refl))
 
 -- what is done, by the choice of the code
 pub ends : (c : Core) (range : NodeIds) (from : ℕ) (m : RouteReply) (rt1 rt2 : Table) (changed : Bool) (did : Reaction) → (m.hops == 255) ≡ false → rt1 ≡ update c.rt from (neighbour_entry from) → rt2 ≡ update rt1 m.dip (route_entry m.dsn m.hops from)
-    → changed ≡ not (changes_nothing rt1 m.dip (route_entry m.dsn m.hops from))
+    → (changed ≡ false) ↔ (rt2 ≡ rt1)
     → end_of_rrep (record c { rt = rt2 }) (not changed) range m ≡ did
     → Ends c range from m did
-ends c range from m rt1 rt2 changed did hops one_is two_is changed_is chosen =
+ends c range from m rt1 rt2 changed did hops one_is two_is as_told chosen =
     let r = route_entry m.dsn m.hops from in
     let whole : rt2 ≡ update (update c.rt from (neighbour_entry from)) m.dip r = two_is ∙ ap (λ (t : Table). update t m.dip r) one_is in
-    let stale : not changed ≡ changes_nothing rt1 m.dip r = double_not changed (changes_nothing rt1 m.dip r) changed_is in
+    let as_is : (is_stale rt1 m.dip r ≡ true) ↔ (rt2 ≡ rt1) = subst (λ (t : Table). (is_stale rt1 m.dip r ≡ true) ↔ (t ≡ rt1)) (sym two_is) (stale_is_unchanged m.dsn m.hops from rt1 m.dip) in
+    let stale : not changed ≡ is_stale rt1 m.dip r = fresh_where_changed rt1 rt2 changed (is_stale rt1 m.dip r) as_told as_is in
     let same : turn c range (item from m) ≡ did =
     after_is c range from m ∙ (λ i. after c range from m (sym one_is i) (sym whole i))
     ∙ ap (λ (b : Bool). end_of_rrep (record c { rt = rt2 }) b range m) (sym stale)

@@ -9,7 +9,7 @@ use Rattle.mesh_base.specs.declared.events.Variant.TheVariants.{Base, Number, Re
 use Rattle.aodv_entry.specs.declared.entry.Entry.{Entry}
 use Rattle.aodv_model.specs.Tables.{Table, Dests, unreachable_by, accepted_unreachable, sqn, in_vD, in_iD, in_kD, nhop, dhops, precs, pre_in}
 use Rattle.aodv_model.specs.Cores.{Body, RouteRequest, RouteReply, Message, Pkt, Rreq, Rrep, Rerr, Item, New, Heard, Core, add, drop, has_seen, bodies_in}
-use Rattle.aodv_model.specs.Handlers.{Nothing, One, Many, All, Reaction, casting, delivering, plain, only, is_empty, is_error, all_precs, precs_of, with_precs, error_cast, retract, link_broken, broken_by, unicast, neighbour_entry, route_entry, after_hearing, on_new, losing, losing_if_broken, data_error, on_pkt, key_of, after_request, reply_for_self, can_answer, join_answer_precursors, reply_from_table, forward_request, on_new_rreq, on_rreq, changes_nothing, join_reply_precursors, forward_reply, forward_own_entry, reply_on, after_reply, on_rrep, on_rerr, on_message, turn, may_send, send, drop_if_sent, first_body, ask}
+use Rattle.aodv_model.specs.Handlers.{Nothing, One, Many, All, Reaction, casting, delivering, plain, only, is_empty, is_error, all_precs, precs_of, with_precs, error_cast, retract, link_broken, broken_by, unicast, neighbour_entry, route_entry, after_hearing, on_new, losing, losing_if_broken, data_error, on_pkt, key_of, after_request, reply_for_self, can_answer, join_answer_precursors, reply_from_table, forward_request, on_new_rreq, on_rreq, is_stale, join_reply_precursors, forward_reply, forward_own_entry, reply_on, after_reply, on_rrep, on_rerr, on_message, turn, may_send, send, drop_if_sent, first_body, ask}
 use Rattle.aodv_model.specs.Soundness.{AllPlaced, AreBelow, IsSoundTable, IsSoundCore, IsMessageInMesh, IsItemInMesh, IsAimed, IsEffectInMesh}
 use Rattle.aodv_model.proofs.Entries.{if_case}
 use Rattle.aodv_model.proofs.PlacedTables.{update_has, below_union, below_empty}
@@ -161,9 +161,9 @@ module _ (size ip : ℕ) (some : 0 < size) where
   on_rrep_names : (core : Core) (range : NodeIds) (from : ℕ) (m : RouteReply) → IsSoundTable size ip core.rt → from < size → from ≢ ip → IsMessageInMesh size (Rrep m) → Names size (on_rrep core range from m)
   unfolding on_rrep
   on_rrep_names core range from m table l apart inside =
-      if_case (Names size) ((m.oip == core.ip) || not (in_vD (after_reply core from m).rt m.oip)) (only (after_reply core from m)) (reply_on core.variant (after_reply core from m) (changes_nothing (after_hearing core from).rt m.dip (route_entry m.dsn m.hops from)) range m)
+      if_case (Names size) ((m.oip == core.ip) || not (in_vD (after_reply core from m).rt m.oip)) (only (after_reply core from m)) (reply_on core.variant (after_reply core from m) (is_stale (after_hearing core from).rt m.dip (route_entry m.dsn m.hops from)) range m)
       (λ _. only_names (after_reply core from m))
-      (λ _. reply_on_names core.variant (after_reply core from m) (changes_nothing (after_hearing core from).rt m.dip (route_entry m.dsn m.hops from)) range m (reply_table core from m table l apart inside))
+      (λ _. reply_on_names core.variant (after_reply core from m) (is_stale (after_hearing core from).rt m.dip (route_entry m.dsn m.hops from)) range m (reply_table core from m table l apart inside))
 
   -- ---- all
 

@@ -20,7 +20,7 @@ use Rattle.aodv_entry.specs.Quality.{inc}
 use Rattle.aodv_model.specs.Pairs.{Pairs, pair_cmp}
 use Rattle.aodv_model.specs.Tables.{Table, Dests, accepted_unreachable, add_pre, dhops, goes_by, in_iD, in_vD, invalidate, invalidated, joined, merged, nhop, number_in, precs, sqn, unreachable_by, update}
 use Rattle.aodv_model.specs.Cores.{Body, Core, Heard, Item, Message, New, Pkt, Rerr, RouteReply, RouteRequest, Rrep, Rreq, Seen, add, bodies_in, drop, greatest_beside, has_seen, last_request_id, next_request_id, opening}
-use Rattle.aodv_model.specs.Handlers.{All, Cast, Many, Nothing, One, Reaction, after_hearing, after_reply, after_request, ask, broken_by, can_answer, casting, changes_nothing, data_error, delivering, drop_if_sent, error_cast, first_body, forward_own_entry, forward_reply, forward_request, fresh_id, is_empty, is_error, join_answer_precursors, join_reply_precursors, key_of, link_broken, losing, losing_if_broken, neighbour_entry, on_new, on_new_rreq, on_pkt, on_rerr, on_rrep, on_rreq, one, only, plain, precs_of, reply_for_self, reply_from_table, reply_on, retract, route_entry, send, turn, unicast, with_precs}
+use Rattle.aodv_model.specs.Handlers.{All, Cast, Many, Nothing, One, Reaction, after_hearing, after_reply, after_request, ask, broken_by, can_answer, casting, is_stale, data_error, delivering, drop_if_sent, error_cast, first_body, forward_own_entry, forward_reply, forward_request, fresh_id, is_empty, is_error, join_answer_precursors, join_reply_precursors, key_of, link_broken, losing, losing_if_broken, neighbour_entry, on_new, on_new_rreq, on_pkt, on_rerr, on_rrep, on_rreq, one, only, plain, precs_of, reply_for_self, reply_from_table, reply_on, retract, route_entry, send, turn, unicast, with_precs}
 use Rattle.aodv_model.specs.Fullness.{ask_full, greatest, is_id_full}
 use Rattle.aodv_model.proofs.Changes.{after_by, mapped_each, update_each}
 use Rattle.aodv_model.proofs.Entries.{if_case}
@@ -345,9 +345,9 @@ module _ (g ip : ℕ) where
   unfolding on_rrep
   on_rrep_keeps core range from m w l =
       let later : IsCoreWithin g ip (after_reply core from m) = reply_within core from m w l in
-      if_case (Keeps g ip) ((m.oip == core.ip) || not (in_vD (after_reply core from m).rt m.oip)) (only (after_reply core from m)) (reply_on core.variant (after_reply core from m) (changes_nothing (after_hearing core from).rt m.dip (route_entry m.dsn m.hops from)) range m)
+      if_case (Keeps g ip) ((m.oip == core.ip) || not (in_vD (after_reply core from m).rt m.oip)) (only (after_reply core from m)) (reply_on core.variant (after_reply core from m) (is_stale (after_hearing core from).rt m.dip (route_entry m.dsn m.hops from)) range m)
       (λ _. only_keeps (after_reply core from m) later)
-      (λ _. reply_on_keeps core.variant (after_reply core from m) (changes_nothing (after_hearing core from).rt m.dip (route_entry m.dsn m.hops from)) range m later l)
+      (λ _. reply_on_keeps core.variant (after_reply core from m) (is_stale (after_hearing core from).rt m.dip (route_entry m.dsn m.hops from)) range m later l)
 
   -- ---- errors
 

@@ -14,7 +14,7 @@ use Rattle.mesh_base.specs.declared.events.Variant.TheVariants.{Base, Number, Re
 use Rattle.aodv_entry.specs.Quality.{is_kno, inc}
 use Rattle.aodv_model.specs.Tables.{Table, Dests, unreachable_by, accepted_unreachable, sqn, sqnf, in_vD, in_iD, in_kD, nhop, dhops, precs, status_in, number_in}
 use Rattle.aodv_model.specs.Cores.{Body, RouteRequest, RouteReply, Message, Pkt, Rreq, Rrep, Rerr, Item, New, Heard, Core, add, drop, has_seen, bodies_in, opening}
-use Rattle.aodv_model.specs.Handlers.{Nothing, One, Many, All, Reaction, casting, delivering, plain, only, is_empty, is_error, precs_of, with_precs, error_cast, retract, link_broken, broken_by, unicast, neighbour_entry, route_entry, after_hearing, on_new, losing, losing_if_broken, data_error, on_pkt, key_of, after_request, reply_for_self, can_answer, one, join_answer_precursors, reply_from_table, forward_request, on_new_rreq, on_rreq, changes_nothing, join_reply_precursors, forward_reply, forward_own_entry, reply_on, after_reply, on_rrep, on_rerr, on_message, turn, may_send, send, drop_if_sent, first_body, may_ask, ask}
+use Rattle.aodv_model.specs.Handlers.{Nothing, One, Many, All, Reaction, casting, delivering, plain, only, is_empty, is_error, precs_of, with_precs, error_cast, retract, link_broken, broken_by, unicast, neighbour_entry, route_entry, after_hearing, on_new, losing, losing_if_broken, data_error, on_pkt, key_of, after_request, reply_for_self, can_answer, one, join_answer_precursors, reply_from_table, forward_request, on_new_rreq, on_rreq, is_stale, join_reply_precursors, forward_reply, forward_own_entry, reply_on, after_reply, on_rrep, on_rerr, on_message, turn, may_send, send, drop_if_sent, first_body, may_ask, ask}
 use Rattle.aodv_model.specs.Soundness.{IsSoundTable, IsSoundCore, IsDatum, IsStoreInMesh, AreDestsBelow, IsMessageInMesh, IsItemInMesh, IsCastInMesh, IsSoundReaction}
 use Rattle.aodv_model.proofs.Lookups.{get-kept}
 use Rattle.aodv_model.proofs.Entries.{if_case}
@@ -203,9 +203,9 @@ module _ (size ip : ℕ) where
   unfolding on_rrep
   on_rrep_settles core range from m s l apart inside =
       let stands : Stands size ip (after_reply core from m) = reply_stands core from m s l apart inside in
-      if_case (Settles size ip) ((m.oip == core.ip) || not (in_vD (after_reply core from m).rt m.oip)) (only (after_reply core from m)) (reply_on core.variant (after_reply core from m) (changes_nothing (after_hearing core from).rt m.dip (route_entry m.dsn m.hops from)) range m)
+      if_case (Settles size ip) ((m.oip == core.ip) || not (in_vD (after_reply core from m).rt m.oip)) (only (after_reply core from m)) (reply_on core.variant (after_reply core from m) (is_stale (after_hearing core from).rt m.dip (route_entry m.dsn m.hops from)) range m)
       (λ _. only_settles (after_reply core from m) stands)
-      (λ _. reply_on_settles core.variant (after_reply core from m) (changes_nothing (after_hearing core from).rt m.dip (route_entry m.dsn m.hops from)) range m stands inside (reply_above core from m inside.2))
+      (λ _. reply_on_settles core.variant (after_reply core from m) (is_stale (after_hearing core from).rt m.dip (route_entry m.dsn m.hops from)) range m stands inside (reply_above core from m inside.2))
 
   -- ---- errors
 

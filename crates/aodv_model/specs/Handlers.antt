@@ -7,12 +7,10 @@ use Rattle.mesh_base.specs.Members.{NodeIds}
 use Rattle.mesh_base.specs.declared.events.Variant.{Variant}
 use Rattle.mesh_base.specs.declared.events.Variant.TheVariants as variant
 use Rattle.aodv_entry.specs.declared.entry.Entry.{Entry}
-use Rattle.aodv_entry.specs.declared.entry.Known.{Known}
 use Rattle.aodv_entry.specs.declared.entry.Known.TheVariants.{Kno, Unk}
-use Rattle.aodv_entry.specs.declared.entry.Flag.{Flag}
-use Rattle.aodv_entry.specs.declared.entry.Flag.TheVariants.{Val, Inv}
+use Rattle.aodv_entry.specs.declared.entry.Flag.TheVariants.{Val}
 use Rattle.aodv_entry.specs.Quality.{is_kno, inc}
-use Rattle.aodv_model.specs.Tables.{Table, Dests, sqn, sqnf, in_vD, in_iD, nhop, dhops, precs, update, invalidate, add_pre, unreachable_by, accepted_unreachable, entry_after}
+use Rattle.aodv_model.specs.Tables.{Table, Dests, sqn, sqnf, in_vD, in_iD, nhop, dhops, precs, is_newer, is_shorter, update, invalidate, add_pre, unreachable_by, accepted_unreachable}
 use Rattle.aodv_model.specs.Cores.{Body, RouteRequest, RouteReply, Message, Pkt, Rreq, Rrep, Rerr, Item, New, Heard, bodies_in, needs_in, in_qD, add, drop, unset, set, Core, has_seen, next_request_id}
 
 -- ---- effects
@@ -269,38 +267,14 @@ after_reply core from m = record (after_hearing core from) {
   rt = update (after_hearing core from).rt m.dip (route_entry m.dsn m.hops from);
 }
 
--- both known, or both unknown
-abbrev pub same_known : Known → Known → Bool
-same_known Kno Kno = true
-same_known Kno Unk = false
-same_known Unk Kno = false
-same_known Unk Unk = true
+-- there is an entry s, and r is neither newer nor shorter
+abbrev pub is_stale_beside : Option Entry → Entry → Bool
+is_stale_beside None r = false
+is_stale_beside (Some s) r = not (is_newer r s) && not (is_shorter r s)
 
--- both valid, or both invalid
-abbrev pub same_flag : Flag → Flag → Bool
-same_flag Val Val = true
-same_flag Val Inv = false
-same_flag Inv Val = false
-same_flag Inv Inv = true
-
--- two entries are equal: sets are compared by their members
-abbrev pub same_entry : Entry → Entry → Bool
-same_entry a b =
-    (a.dsn == b.dsn)
-    && (same_known a.dsk b.dsk
-    && (same_flag a.flag b.flag
-    && ((a.hops == b.hops)
-    && ((a.next == b.next)
-    && (sets.is_subset a.pre b.pre && sets.is_subset b.pre a.pre)))))
-
--- the entry is there, and stays as it is where r comes
-abbrev pub leaves : Option Entry → Entry → Bool
-leaves None r = false
-leaves (Some s) r = same_entry (entry_after (Some s) r) s
-
--- the update of d by r leaves the table as it is
-unfoldable pub changes_nothing : Table → ℕ → Entry → Bool
-changes_nothing rt d r = leaves (maps.get rt d) r
+-- a reply that leads to the entry r for d is stale: d has an entry that is as new and as short
+unfoldable pub is_stale : Table → ℕ → Entry → Bool
+is_stale rt d r = is_stale_beside (maps.get rt d) r
 
 -- the table where o's next hop joins the precursors of d, and then of d's next hop
 unfoldable pub join_reply_precursors : Table → ℕ → ℕ → Table
@@ -336,7 +310,7 @@ on_rrep core range from m =
     if (m.oip == core.ip) || not (in_vD (after_reply core from m).rt m.oip)
     then only (after_reply core from m)
     else reply_on core.variant (after_reply core from m)
-    (changes_nothing (after_hearing core from).rt m.dip (route_entry m.dsn m.hops from)) range m
+    (is_stale (after_hearing core from).rt m.dip (route_entry m.dsn m.hops from)) range m
 
 -- ---- route errors (AWN's RERR; RFC 3561, section 6.11)
 

@@ -7,14 +7,15 @@ use Rattle.aodv_entry.specs.declared.entry.Entry.{Entry}
 use Rattle.aodv_entry.specs.declared.entry.Flag.TheVariants.{Val}
 use Rattle.aodv_model.specs.Tables.{Table, update}
 use Rattle.aodv_model.specs.Cores.{Core, Item, opening}
-use Rattle.aodv_model.specs.Handlers.{changes_nothing, link_broken, turn, may_send, send, may_ask, ask}
+use Rattle.aodv_model.specs.Handlers.{route_entry, is_stale, link_broken, turn, may_send, send, may_ask, ask}
 use Rattle.aodv_model.specs.Fullness.{greatest, is_number_full}
 use Rattle.aodv_model.specs.Soundness.{IsSoundCore, IsStoreInMesh, IsItemInMesh, IsEffectInMesh, IsSoundReaction}
 
 -- a reply is stale exactly where its update leaves the table equal
 abbrev pub StaleIsUnchanged : Type 0
 StaleIsUnchanged =
-    (rt : Table) (d : ℕ) (r : Entry) → (changes_nothing rt d r ≡ true) ↔ (update rt d r ≡ rt)
+    (rt : Table) (d n hops from : ℕ) →
+    let r = route_entry n hops from in (is_stale rt d r ≡ true) ↔ (update rt d r ≡ rt)
 
 -- a valid entry with next hop y has the greatest number
 abbrev pub HasGreatestBy : Table → ℕ → Type 0

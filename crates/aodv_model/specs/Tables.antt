@@ -98,19 +98,25 @@ precs rt d = pre_in (maps.get rt d)
 
 -- ---- update
 
--- What becomes of the entry s where r comes for the same destination. r is valid. The first case
--- that applies:   1. there is no s (entry_after, below)            r is added
---   2. r has the greater number                      r, with the precursors of both
---   3. the same number, and fewer hops in r,
---      or s is invalid                               r, with the precursors of both
---   4. r's number is unknown                         r, with the precursors of both and the number
--- of s   5. otherwise                                     s, with the precursors of both
+-- r has the greater number
+abbrev pub is_newer : Entry → Entry → Bool
+is_newer r s = nat_lt s.dsn r.dsn
+
+-- r has the same number and is the shorter route: it has fewer hops, or s is invalid
+abbrev pub is_shorter : Entry → Entry → Bool
+is_shorter r s = (s.dsn == r.dsn) && (nat_lt r.hops s.hops || not (is_val s.flag))
+
+-- What becomes of the entry s where r, which is valid, comes for the same destination, in the first
+-- case that applies:
+--   1. there is no s: r is added (entry_after, below)
+--   2. r is newer than s: r, with the precursors of both
+--   3. r is shorter than s: the same
+--   4. r's number is unknown: r, with the precursors of both and the number of s
+--   5. otherwise: s, with the precursors of both
 unfoldable pub merged : Entry → Entry → Entry
 merged s r =
-    if nat_lt s.dsn r.dsn then record r { pre = sets.union s.pre r.pre }
-    else if (s.dsn == r.dsn) && (nat_lt r.hops s.hops || not (is_val s.flag)) then record r {
-      pre = sets.union s.pre r.pre;
-    }
+    if is_newer r s then record r { pre = sets.union s.pre r.pre }
+    else if is_shorter r s then record r { pre = sets.union s.pre r.pre }
     else if not (is_kno r.dsk) then record r { dsn = s.dsn; pre = sets.union s.pre r.pre }
     else record s { pre = sets.union s.pre r.pre }
 

@@ -1,116 +1,23 @@
 -- What becomes of a table where one entry is written, against the model's changes.
-use Rattle.std.proofs.Common.{◌≡◌, ℕ, zero, suc, ◌+◌, Bool, true, false, cond, eqb, not, ◌&&◌, List, [], ◌∷◌, drop, length, Option, Some, None, refl, ap, sym, subst, ◌∙◌, eq-eqb, inl, inr, arith}
+use Rattle.std.proofs.Common.{◌≡◌, ℕ, zero, suc, ◌+◌, Bool, false, cond, eqb, List, [], ◌∷◌, drop, length, Option, Some, None, refl, ap, sym, subst, ◌∙◌, eq-eqb, inl, inr, arith}
 use Rattle.std.specs.Prelude.{option_map, slice_get, T}
-use Rattle.std.proofs.lemmas.Bool.{ne_eqb, cases_eq, eqb-true}
+use Rattle.std.proofs.lemmas.Bool.{ne_eqb, cases_eq}
 use Rattle.std.proofs.lemmas.Option.{none-some}
 use Rattle.std.proofs.lemmas.Cmp.{nat_cmp_total}
 use Rattle.std.specs.Ordering.{nat_cmp}
 use Rattle.std.specs.Cmp.{unsigned_tied}
 use Rattle.std.specs.FinMap as maps
-use Rattle.std.specs.FinMap.{find, is_sorted, nat_cmp-IsAntisymmetric}
+use Rattle.std.specs.FinMap.{find, is_sorted}
 use Rattle.std.specs.FinSet as sets
 use Rattle.mesh_base.specs.Members.{NodeIds}
 use Rattle.aodv_entry.specs.declared.entry.Entry.{Entry}
-use Rattle.aodv_entry.specs.declared.entry.Known.{Known}
-use Rattle.aodv_entry.specs.declared.entry.Known.TheVariants.{Kno, Unk}
-use Rattle.aodv_entry.specs.declared.entry.Flag.{Flag}
-use Rattle.aodv_entry.specs.declared.entry.Flag.TheVariants.{Val, Inv}
+use Rattle.aodv_entry.specs.declared.entry.Flag.TheVariants.{Inv}
 use Rattle.aodv_entry.proofs.RisingLaws.{no_later}
 use Rattle.aodv_model.specs.Tables.{Table, Dests, entry_after, update, invalidate, invalidated, add_pre, joined}
-use Rattle.aodv_model.specs.Handlers.{same_known, same_flag, same_entry, leaves, changes_nothing}
 use Rattle.aodv_model.proofs.Lookups.{get-invalidate, get-add_pre}
 use Rattle.aodv_table.proofs.Lookups.{get-with_entry, same_table}
 
 -- ---- update
-
-false_true : false ≡ true → ⊥
-false_true e = cc
-
-first_of : (a b : Bool) → (a && b) ≡ true → a ≡ true
-first_of true b e = refl
-first_of false b e = e
-
-second_of : (a b : Bool) → (a && b) ≡ true → b ≡ true
-second_of true b e = e
-second_of false b e = absurd (false_true e)
-
-both_of : (a b : Bool) → a ≡ true → b ≡ true → (a && b) ≡ true
-both_of a b p q = ap (λ (x : Bool). x && b) p ∙ q
-
-known_itself : (k : Known) → same_known k k ≡ true
-known_itself Kno = refl
-known_itself Unk = refl
-
-flag_itself : (f : Flag) → same_flag f f ≡ true
-flag_itself Val = refl
-flag_itself Inv = refl
-
-known_is : (a b : Known) → same_known a b ≡ true → a ≡ b
-known_is Kno Kno e = refl
-known_is Kno Unk e = absurd (false_true e)
-known_is Unk Kno e = absurd (false_true e)
-known_is Unk Unk e = refl
-
-flag_is : (a b : Flag) → same_flag a b ≡ true → a ≡ b
-flag_is Val Val e = refl
-flag_is Val Inv e = absurd (false_true e)
-flag_is Inv Val e = absurd (false_true e)
-flag_is Inv Inv e = refl
-
-set_itself : (s : NodeIds) → sets.is_subset s s ≡ true
-set_itself s = sets.contains-is_subset nat_cmp_total s s (λ q has. has)
-
-alike : (a b : Bool) → (a ≡ true → b ≡ true) → (b ≡ true → a ≡ true) → a ≡ b
-alike true b f g = sym (f refl)
-alike false true f g = g refl
-alike false false f g = refl
-
-set_is : (s t : NodeIds) → sets.is_subset s t ≡ true → sets.is_subset t s ≡ true → s ≡ t
-set_is s t there back = sets.same_set nat_cmp_total nat_cmp-IsAntisymmetric s t (λ q.
-    alike _ _ (sets.is_subset-contains nat_cmp_total s t there q) (sets.is_subset-contains nat_cmp_total t s back q))
-
-pub entry_itself : (e : Entry) → same_entry e e ≡ true
-entry_itself e =
-    both_of _ _ (eq-eqb e.dsn e.dsn refl) (both_of _ _ (known_itself e.dsk) (both_of _ _ (flag_itself e.flag) (both_of _ _ (eq-eqb e.hops e.hops refl)
-    (both_of _ _ (eq-eqb e.next e.next refl) (both_of _ _ (set_itself e.pre) (set_itself e.pre))))))
-
-pub entry_is : (a b : Entry) → same_entry a b ≡ true → a ≡ b
-entry_is a b e =
-    let e1 = second_of _ _ e in
-    let e2 = second_of _ _ e1 in
-    let e3 = second_of _ _ e2 in
-    let e4 = second_of _ _ e3 in
-    let e5 = second_of _ _ e4 in
-    let dsn = eqb-true a.dsn b.dsn (first_of _ _ e) in
-    let dsk = known_is a.dsk b.dsk (first_of _ _ e1) in
-    let flag = flag_is a.flag b.flag (first_of _ _ e2) in
-    let hops = eqb-true a.hops b.hops (first_of _ _ e3) in
-    let next = eqb-true a.next b.next (first_of _ _ e4) in
-    let pre = set_is a.pre b.pre (first_of _ _ e5) (second_of _ _ e5) in
-    λ i. record { dsn = dsn i; dsk = dsk i; flag = flag i; hops = hops i; next = next i; pre = pre i }
-
-some_is : (s t : Entry) → Some s ≡ Some t → s ≡ t
-some_is s t e = cc
-
-not_is : (b c : Bool) → (b ≡ false → c ≡ true) → (c ≡ true → b ≡ false) → b ≡ not c
-not_is true true f g = g refl
-not_is true false f g = refl
-not_is false true f g = refl
-not_is false false f g = f refl
-
-pub leaves_is : (o : Option Entry) (r : Entry) (b : Bool) → (b ≡ false → o ≡ Some (entry_after o r)) → (o ≡ Some (entry_after o r) → b ≡ false) → b ≡ not (leaves o r)
-leaves_is None r b f g = not_is b false (λ e. absurd (none-some r (f e))) (λ e. absurd (false_true e))
-leaves_is (Some s) r b f g =
-    not_is b (same_entry (entry_after (Some s) r) s)
-    (λ e. subst (λ x. same_entry x s ≡ true) (some_is s (entry_after (Some s) r) (f e)) (entry_itself s))
-    (λ e. g (ap Some (sym (entry_is (entry_after (Some s) r) s e))))
-
--- what update answers, where b tells whether the entry is other than before
-pub answer_is : (rt : Table) (d : ℕ) (r after : Entry) (before : Option Entry) (b : Bool) → before ≡ maps.get rt d → after ≡ entry_after before r
-    → (b ≡ false → before ≡ Some after) × (before ≡ Some after → b ≡ false) → b ≡ not (changes_nothing rt d r)
-unfolding changes_nothing
-answer_is rt d r after before b read is tells =
-    leaves_is before r b (λ e. tells.0 e ∙ ap Some is) (λ e. tells.1 (e ∙ ap Some (sym is))) ∙ ap (λ o. not (leaves o r)) read
 
 pub updated_is : (rt : Table) (d : ℕ) (r after : Entry) (before : Option Entry) → before ≡ maps.get rt d → after ≡ entry_after before r → maps.insert rt d after ≡ update rt d r
 unfolding update

@@ -1,11 +1,10 @@
 //! What a routing table does.
-ghost use Rattle.std.specs.Prelude.{◌≡◌, ◌<◌, ◌≤◌, ◌↔◌, ℕ, true, false, not, MatchResult, IsSome, OnOk, OnErr, IsOk};
+ghost use Rattle.std.specs.Prelude.{◌≡◌, ◌<◌, ◌≤◌, ◌↔◌, ℕ, true, false, MatchResult, IsSome, OnOk, OnErr, IsOk};
 ghost use Rattle.std.specs.FinMap as maps;
 ghost use Rattle.std.specs.FinSet as sets;
 ghost use Rattle.mesh_base.specs.Members.{NodeIds, AreAmong};
 ghost use Rattle.aodv_entry.specs.declared.entry.Flag.TheVariants.{Val};
 ghost use Rattle.aodv_model.specs.Tables.{Table as Entries, update, invalidate, add_pre, unreachable_by};
-ghost use Rattle.aodv_model.specs.Handlers.{changes_nothing};
 ghost use Rattle.aodv_table.specs.Calls.{IsBelow, with_entry, valid_dests, dests_by, is_past, IsLeastPast};
 
 use crate::merge::{entry_after, entry_by, is_changed};
@@ -71,7 +70,6 @@ pub trait Table: Drop {
         requires room { sets.contains (rooms self.old) d ≡ true }
         requires valid { r.flag ≡ Val }
         ensures entries { entries self.new ≡ update (entries self.old) d r }
-        ensures changed { result ≡ not (changes_nothing (entries self.old) d r) }
         ensures same { (result ≡ false) ↔ (entries self.new ≡ entries self.old) }
         ensures rooms { rooms self.new ≡ rooms self.old }
         ensures nodes { nodes self.new ≡ nodes self.old }

@@ -8,7 +8,7 @@ use Rattle.std.specs.FinMap as maps
 use Rattle.std.specs.FinSet as sets
 use Rattle.aodv_model.proofs.Entries.{if_case}
 use Rattle.aodv_model.specs.Cores.{Body, Core, Heard, Item, Message, New, Pkt, Rerr, RouteReply, RouteRequest, Rrep, Rreq, add, bodies_in, has_data, has_seen, rest}
-use Rattle.aodv_model.specs.Handlers.{All, Cast, Many, Nothing, One, Own, Reaction, Stored, after_hearing, after_reply, after_request, ask, broken_by, can_answer, casting, changes_nothing, data_error, delivering, drop_if_sent, error_cast, first_body, forward_own_entry, forward_reply, forward_request, is_empty, is_error, join_answer_precursors, join_reply_precursors, key_of, link_broken, losing, losing_if_broken, may_send, on_message, on_new, on_new_rreq, on_pkt, on_rerr, on_rrep, on_rreq, one, only, plain, precs_of, reply_for_self, reply_from_table, reply_on, retract, route_entry, send, took, turn, unicast, with_precs}
+use Rattle.aodv_model.specs.Handlers.{All, Cast, Many, Nothing, One, Own, Reaction, Stored, after_hearing, after_reply, after_request, ask, broken_by, can_answer, casting, is_stale, data_error, delivering, drop_if_sent, error_cast, first_body, forward_own_entry, forward_reply, forward_request, is_empty, is_error, join_answer_precursors, join_reply_precursors, key_of, link_broken, losing, losing_if_broken, may_send, on_message, on_new, on_new_rreq, on_pkt, on_rerr, on_rrep, on_rreq, one, only, plain, precs_of, reply_for_self, reply_from_table, reply_on, retract, route_entry, send, took, turn, unicast, with_precs}
 use Rattle.aodv_model.specs.Soundness.{IsItemInMesh}
 use Rattle.aodv_model.specs.Tables.{Dests, Table, accepted_unreachable, dhops, in_vD, nhop, sqn, unreachable_by}
 use Rattle.mesh_base.specs.Members.{NodeIds}
@@ -81,9 +81,9 @@ reply_still t size Reply core stale range m =
 on_rrep_still : (t : Test) (size : ℕ) (core : Core) (range : NodeIds) (from : ℕ) (m : RouteReply) → IsStill t size core (on_rrep core range from m)
 unfolding on_rrep after_reply after_hearing
 on_rrep_still t size core range from m =
-    if_case (IsStill t size core) ((m.oip == core.ip) || not (in_vD (after_reply core from m).rt m.oip)) (only (after_reply core from m)) (reply_on core.variant (after_reply core from m) (changes_nothing (after_hearing core from).rt m.dip (route_entry m.dsn m.hops from)) range m)
+    if_case (IsStill t size core) ((m.oip == core.ip) || not (in_vD (after_reply core from m).rt m.oip)) (only (after_reply core from m)) (reply_on core.variant (after_reply core from m) (is_stale (after_hearing core from).rt m.dip (route_entry m.dsn m.hops from)) range m)
     (λ _. record { store = refl; cast = tt })
-    (λ _. let s = reply_still t size core.variant (after_reply core from m) (changes_nothing (after_hearing core from).rt m.dip (route_entry m.dsn m.hops from)) range m in record { store = s.store; cast = s.cast })
+    (λ _. let s = reply_still t size core.variant (after_reply core from m) (is_stale (after_hearing core from).rt m.dip (route_entry m.dsn m.hops from)) range m in record { store = s.store; cast = s.cast })
 
 on_rerr_still : (t : Test) (size : ℕ) (core : Core) (from : ℕ) (dests : Dests) → IsStill t size core (on_rerr core from dests)
 unfolding on_rerr after_hearing

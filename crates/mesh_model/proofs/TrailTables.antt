@@ -1,20 +1,16 @@
 -- What the changes of a table keep of the walks.
-use Rattle.std.proofs.Common.{◌≡◌, ℕ, ◌+◌, ◌<◌, ◌≤◌, ◌⊎◌, Bool, true, false, ◌||◌, ◌==◌, List, [], ◌∷◌, length, Some, None, Option, refl, ap, sym, ◌∙◌, subst, arith, inl, inr}
-use Rattle.std.specs.Ordering.{nat_cmp}
-use Rattle.std.specs.Cmp.{nat_cmp_total}
+use Rattle.std.proofs.Common.{◌≡◌, ℕ, ◌+◌, ◌<◌, ◌≤◌, ◌⊎◌, Bool, true, false, ◌==◌, List, [], ◌∷◌, length, Some, None, Option, refl, sym, ◌∙◌, subst, arith, inl, inr}
 use Rattle.std.proofs.lemmas.Bool.{eqb-true, eqb-false}
 use Rattle.std.proofs.lemmas.Bool.Decides.{nat_tests}
 use Rattle.std.specs.FinMap as maps
 use Rattle.std.specs.FinSet as sets
 use Rattle.aodv_entry.specs.declared.entry.Entry.{Entry}
-use Rattle.aodv_entry.specs.declared.entry.Flag.{Flag}
 use Rattle.aodv_entry.specs.declared.entry.Flag.TheVariants.{Inv, Val}
-use Rattle.aodv_entry.specs.declared.entry.Known.{Known}
-use Rattle.aodv_entry.specs.declared.entry.Known.TheVariants.{Kno, Unk}
+use Rattle.aodv_entry.specs.declared.entry.Known.TheVariants.{Kno}
 use Rattle.aodv_model.proofs.Changes.{after_by, mapped_each, update_each}
 use Rattle.aodv_model.proofs.Entries.{Same, if_case}
 use Rattle.aodv_model.proofs.Lookups.{get-add_pre, get-invalidate}
-use Rattle.aodv_model.specs.Handlers.{changes_nothing, neighbour_entry, route_entry, same_entry, same_flag, same_known}
+use Rattle.aodv_model.specs.Handlers.{is_stale, is_stale_beside, neighbour_entry, route_entry}
 use Rattle.aodv_model.specs.Tables.{Dests, Table, add_pre, entry_after, invalidate, invalidated, joined, merged, update}
 use Rattle.mesh_base.specs.Members.{NodeIds}
 use Rattle.mesh_model.specs.Invariants.{AtLeast, IsAtLeast}
@@ -128,46 +124,10 @@ add_pre_traced a x rt d nodes all q e is =
 
 -- ---- stale replies
 
-same_flags : (f : Flag) → same_flag f f ≡ true
-same_flags Val = refl
-same_flags Inv = refl
-
-same_knowns : (k : Known) → same_known k k ≡ true
-same_knowns Kno = refl
-same_knowns Unk = refl
-
--- the entry as it stays, part by part
-pub stays_whole : (s r : Entry) (n h : ℕ) → IsAtLeast s n h → r.dsn ≡ n → h < r.hops → r.dsk ≡ Kno → merged s r ≡ record s { pre = sets.union s.pre r.pre }
-unfolding merged
-stays_whole s r n h enough dsn more known = grind (arith, nat_tests)
-
-subset_of : (s t : NodeIds) → ((q : ℕ) → sets.contains s q ≡ true → sets.contains t q ≡ true) → sets.is_subset s t ≡ true
-subset_of s t each = sets.contains-is_subset nat_cmp_total s t each
-
-union_none : (s : NodeIds) (q : ℕ) → sets.contains (sets.union s (sets.empty {R = nat_cmp})) q ≡ sets.contains s q
-union_none s q = sets.contains-union nat_cmp_total s sets.empty q ∙ ap (λ b. sets.contains s q || b) (sets.contains-empty nat_cmp q) ∙ or_false (sets.contains s q)
-  where
-    or_false : (b : Bool) → (b || false) ≡ b
-    or_false true = refl
-    or_false false = refl
-
-same_numbers : (n : ℕ) → (n == n) ≡ true
-same_numbers n = grind (arith, nat_tests)
-
-same_whole : (s : Entry) → same_entry (record s { pre = sets.union s.pre sets.empty }) s ≡ true
-same_whole s =
-    rw (
-      same_numbers s.dsn,
-      same_knowns s.dsk,
-      same_flags s.flag,
-      same_numbers s.hops,
-      same_numbers s.next,
-      subset_of (sets.union s.pre sets.empty) s.pre (λ q e. sym (union_none s.pre q) ∙ e),
-      subset_of s.pre (sets.union s.pre sets.empty) (λ q e. union_none s.pre q ∙ e),
-    ) refl
+as_good : (s r : Entry) (n h : ℕ) → IsAtLeast s n h → r.dsn ≡ n → h < r.hops → is_stale_beside (Some s) r ≡ true
+as_good s r n h enough dsn more = grind (arith, nat_tests)
 
 -- a reply to a node that has an entry as good is stale
-pub stale_there : (rt : Table) (d n h g from : ℕ) → AtLeast rt d n g → g < h + 1 → changes_nothing rt d (route_entry n h from) ≡ true
-unfolding changes_nothing
-stale_there rt d n h g from at less =
-    rw at.there (ap (λ e. same_entry e at.entry) (stays_whole at.entry (route_entry n h from) n g at.enough refl less refl) ∙ same_whole at.entry)
+pub stale_there : (rt : Table) (d n h g from : ℕ) → AtLeast rt d n g → g < h + 1 → is_stale rt d (route_entry n h from) ≡ true
+unfolding is_stale
+stale_there rt d n h g from at less = rw at.there (as_good at.entry (route_entry n h from) n g at.enough refl less)

@@ -13,7 +13,7 @@ use Rattle.aodv_model.proofs.Entries.{if_case}
 use Rattle.aodv_model.proofs.PairLaws.{pair_cmp_total}
 use Rattle.aodv_model.proofs.Readings.{join_answer_alike, join_reply_alike, known_number, valid_flag}
 use Rattle.aodv_model.specs.Cores.{Body, Core, Heard, Item, Message, New, Pkt, Rerr, RouteReply, RouteRequest, Rrep, Rreq, Store, add, bodies_in, drop, has_seen}
-use Rattle.aodv_model.specs.Handlers.{All, Cast, Many, Nothing, One, Reaction, after_hearing, after_reply, after_request, ask, broken_by, can_answer, casting, changes_nothing, data_error, delivering, drop_if_sent, error_cast, first_body, forward_own_entry, forward_reply, forward_request, fresh_id, is_empty, is_error, join_answer_precursors, join_reply_precursors, key_of, link_broken, losing, losing_if_broken, on_message, on_new, on_new_rreq, on_pkt, on_rerr, on_rrep, on_rreq, one, only, plain, precs_of, reply_for_self, reply_from_table, reply_on, retract, route_entry, send, turn, unicast, with_precs}
+use Rattle.aodv_model.specs.Handlers.{All, Cast, Many, Nothing, One, Reaction, after_hearing, after_reply, after_request, ask, broken_by, can_answer, casting, is_stale, data_error, delivering, drop_if_sent, error_cast, first_body, forward_own_entry, forward_reply, forward_request, fresh_id, is_empty, is_error, join_answer_precursors, join_reply_precursors, key_of, link_broken, losing, losing_if_broken, on_message, on_new, on_new_rreq, on_pkt, on_rerr, on_rrep, on_rreq, one, only, plain, precs_of, reply_for_self, reply_from_table, reply_on, retract, route_entry, send, turn, unicast, with_precs}
 use Rattle.aodv_model.specs.Pairs.{Pairs, pair_cmp}
 use Rattle.aodv_model.specs.Tables.{Dests, Table, accepted_unreachable, add_pre, dhops, hops_in, in_vD, is_valid_in, nhop, number_in, sqn, sqnf, status_in, unreachable_by}
 use Rattle.mesh_base.specs.Members.{NodeIds}
@@ -253,7 +253,7 @@ on_rrep_traces tables a core range from m fit here honest linked t =
     let all : EntriesHaveWalks a core.ip (after_reply core from m).rt = route_traced a core.ip (after_hearing core from).rt m.dip m.dsn m.hops from near (λ k g one at. first.grows.keeps m.dip k g one (here.tables m.dip k g one at)) honest.0 linked t in
     let leads : Leads tables core.rt (after_reply core from m).rt = after_reply_leads tables core from m fit.fine honest in
     let reached : AtLeast (after_reply core from m).rt m.dip m.dsn (m.hops + 1) = after_reply_reaches core from m in
-    let stale = changes_nothing (after_hearing core from).rt m.dip (route_entry m.dsn m.hops from) in
+    let stale = is_stale (after_hearing core from).rt m.dip (route_entry m.dsn m.hops from) in
     let fresh : stale ≡ false → IsAbsent core.ip (front (from ∷ t.others)) = λ new. not_there first (on_trail a core.ip m.dip m.dsn from t.others t.walk) new in
     traces_from {a = a} {c = core} {b = after_reply core from m} refl refl (λ key e. e)
     (if_case (Traces a (after_reply core from m)) ((m.oip == core.ip) || not (in_vD (after_reply core from m).rt m.oip)) (only (after_reply core from m)) (reply_on core.variant (after_reply core from m) stale range m)
@@ -261,12 +261,12 @@ on_rrep_traces tables a core range from m fit here honest linked t =
     (λ _. reply_traces tables a core.variant (after_reply core from m) stale range m (from ∷ t.others) leads.fine all honest.0 reached
     (λ new. (linked, honest.0, subst (AtLeast (after_reply core from m).rt m.dip m.dsn) (sym t.long) reached, fresh new, t.walk)) (let l = t.long in omega arith)))
   where
-    not_there : Leads tables core.rt (after_hearing core from).rt → IsAbsent core.ip (front (from ∷ t.others)) ⊎ ((g : ℕ) × (g < length (from ∷ t.others)) × AtLeast (a.tables core.ip) m.dip m.dsn g) → changes_nothing (after_hearing core from).rt m.dip (route_entry m.dsn m.hops from) ≡ false → IsAbsent core.ip (front (from ∷ t.others))
+    not_there : Leads tables core.rt (after_hearing core from).rt → IsAbsent core.ip (front (from ∷ t.others)) ⊎ ((g : ℕ) × (g < length (from ∷ t.others)) × AtLeast (a.tables core.ip) m.dip m.dsn g) → is_stale (after_hearing core from).rt m.dip (route_entry m.dsn m.hops from) ≡ false → IsAbsent core.ip (front (from ∷ t.others))
     not_there first (inl absent) new = absent
     not_there first (inr found) new =
         let at : AtLeast (after_hearing core from).rt m.dip m.dsn found.0 = first.grows.keeps m.dip m.dsn found.0 honest.0 (here.tables m.dip m.dsn found.0 honest.0 found.2) in
         let less : found.0 < m.hops + 1 = let l = found.1 in let e = t.long in omega arith in
-        let s : changes_nothing (after_hearing core from).rt m.dip (route_entry m.dsn m.hops from) ≡ true = stale_there (after_hearing core from).rt m.dip m.dsn m.hops found.0 from at less in
+        let s : is_stale (after_hearing core from).rt m.dip (route_entry m.dsn m.hops from) ≡ true = stale_there (after_hearing core from).rt m.dip m.dsn m.hops found.0 from at less in
         cc
 
 -- ---- the rest

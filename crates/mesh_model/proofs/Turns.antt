@@ -11,7 +11,7 @@ use Rattle.aodv_model.proofs.Changes.{Raises, accepted_raises, unreachable_by_ra
 use Rattle.aodv_model.proofs.Entries.{if_case}
 use Rattle.aodv_model.proofs.Readings.{join_answer_alike, join_reply_alike, known_number, valid_flag}
 use Rattle.aodv_model.specs.Cores.{Body, Core, Heard, Item, Message, New, Pkt, Rerr, RouteReply, RouteRequest, Rrep, Rreq, add, bodies_in, drop, has_seen}
-use Rattle.aodv_model.specs.Handlers.{All, Cast, Many, Nothing, One, Reaction, after_hearing, after_reply, after_request, ask, broken_by, can_answer, casting, changes_nothing, data_error, delivering, drop_if_sent, error_cast, first_body, forward_own_entry, forward_reply, forward_request, is_empty, is_error, join_answer_precursors, join_reply_precursors, key_of, link_broken, losing, losing_if_broken, on_message, on_new, on_new_rreq, on_pkt, on_rerr, on_rrep, on_rreq, one, only, plain, precs_of, reply_for_self, reply_from_table, reply_on, retract, route_entry, send, turn, unicast, with_precs}
+use Rattle.aodv_model.specs.Handlers.{All, Cast, Many, Nothing, One, Reaction, after_hearing, after_reply, after_request, ask, broken_by, can_answer, casting, is_stale, data_error, delivering, drop_if_sent, error_cast, first_body, forward_own_entry, forward_reply, forward_request, is_empty, is_error, join_answer_precursors, join_reply_precursors, key_of, link_broken, losing, losing_if_broken, on_message, on_new, on_new_rreq, on_pkt, on_rerr, on_rrep, on_rreq, one, only, plain, precs_of, reply_for_self, reply_from_table, reply_on, retract, route_entry, send, turn, unicast, with_precs}
 use Rattle.aodv_model.specs.Tables.{Dests, Table, accepted_unreachable, add_pre, dhops, hops_in, in_vD, is_valid_in, nhop, number_in, sqn, sqnf, status_in, unreachable_by}
 use Rattle.mesh_base.specs.Members.{NodeIds}
 use Rattle.mesh_base.specs.declared.events.Variant.{Variant}
@@ -240,9 +240,9 @@ on_rrep_ok tables core range from m fit honest =
     let same = after_reply_plain core from m in
     let fit' : IsFit tables (after_reply core from m) = record { number = rw same.1 fit.number; fine = leads.fine } in
     ok_from {a = core} {b = after_reply core from m} leads same.0
-    (if_case (IsOk tables (after_reply core from m)) ((m.oip == core.ip) || not (in_vD (after_reply core from m).rt m.oip)) (only (after_reply core from m)) (reply_on core.variant (after_reply core from m) (changes_nothing (after_hearing core from).rt m.dip (route_entry m.dsn m.hops from)) range m)
+    (if_case (IsOk tables (after_reply core from m)) ((m.oip == core.ip) || not (in_vD (after_reply core from m).rt m.oip)) (only (after_reply core from m)) (reply_on core.variant (after_reply core from m) (is_stale (after_hearing core from).rt m.dip (route_entry m.dsn m.hops from)) range m)
     (λ _. only_ok tables (after_reply core from m) fit')
-    (λ _. reply_on_ok tables core.variant (after_reply core from m) (changes_nothing (after_hearing core from).rt m.dip (route_entry m.dsn m.hops from)) range m fit' honest.0 (after_reply_reaches core from m)))
+    (λ _. reply_on_ok tables core.variant (after_reply core from m) (is_stale (after_hearing core from).rt m.dip (route_entry m.dsn m.hops from)) range m fit' honest.0 (after_reply_reaches core from m)))
 
 -- ---- errors
 

@@ -17,7 +17,7 @@ use Rattle.aodv_model.proofs.Lookups.{get-update}
 use Rattle.aodv_model.proofs.PairLaws.{pair_cmp_total}
 use Rattle.aodv_model.proofs.Readings.{join_answer_alike, join_reply_alike, known_number, valid_flag}
 use Rattle.aodv_model.specs.Cores.{Body, Core, Message, Pkt, Rerr, RouteReply, RouteRequest, Rrep, Rreq, add, bodies_in, drop, has_seen}
-use Rattle.aodv_model.specs.Handlers.{All, Cast, Many, Nothing, One, Reaction, after_hearing, after_reply, after_request, ask, broken_by, can_answer, casting, changes_nothing, data_error, delivering, error_cast, first_body, forward_own_entry, forward_reply, forward_request, fresh_id, is_empty, is_error, join_answer_precursors, join_reply_precursors, key_of, link_broken, losing, losing_if_broken, on_message, on_new, on_new_rreq, on_pkt, on_rerr, on_rrep, on_rreq, only, plain, precs_of, reply_for_self, reply_from_table, reply_on, retract, route_entry, send, unicast, with_precs}
+use Rattle.aodv_model.specs.Handlers.{All, Cast, Many, Nothing, One, Reaction, after_hearing, after_reply, after_request, ask, broken_by, can_answer, casting, is_stale, data_error, delivering, error_cast, first_body, forward_own_entry, forward_reply, forward_request, fresh_id, is_empty, is_error, join_answer_precursors, join_reply_precursors, key_of, link_broken, losing, losing_if_broken, on_message, on_new, on_new_rreq, on_pkt, on_rerr, on_rrep, on_rreq, only, plain, precs_of, reply_for_self, reply_from_table, reply_on, retract, route_entry, send, unicast, with_precs}
 use Rattle.aodv_model.specs.Pairs.{Pairs, pair_cmp}
 use Rattle.aodv_model.specs.Tables.{Dests, Table, accepted_unreachable, dhops, entry_after, hops_in, in_vD, is_valid_in, merged, nhop, number_in, sqn, sqnf, status_in, unreachable_by, update}
 use Rattle.mesh_base.specs.Members.{NodeIds}
@@ -187,7 +187,7 @@ unfolding merged
 exact_or s r n h dsn hops flag known = grind (arith, nat_tests)
 
 -- a reply that isn't stale leaves an entry with its number and hops
-fresh : (rt : Table) (d n h y : ℕ) (o : Option Entry) → maps.get rt d ≡ o → changes_nothing rt d (route_entry n h y) ≡ false → IsExact (entry_after o (route_entry n h y)) n (h + 1)
+fresh : (rt : Table) (d n h y : ℕ) (o : Option Entry) → maps.get rt d ≡ o → is_stale rt d (route_entry n h y) ≡ false → IsExact (entry_after o (route_entry n h y)) n (h + 1)
 fresh rt d n h y None is new = record { dsn = refl; hops = refl; flag = refl }
 fresh rt d n h y (Some s) is new = elim (exact_or s (route_entry n h y) n h refl refl refl refl) [
   | inl p ↦ record { dsn = p.0; hops = p.1.0; flag = p.1.1 }
@@ -247,7 +247,7 @@ rrep_tells tables a y m l walks core range fit honest =
     let now = after_reply core y m in
     let r : Entry = route_entry m.dsn m.hops y in
     let leads : Leads tables core.rt now.rt = after_reply_leads tables core y m fit.fine honest in
-    let stale = changes_nothing near m.dip r in
+    let stale = is_stale near m.dip r in
     if_case P ((m.oip == core.ip) || not (in_vD now.rt m.oip)) (only now) (reply_on core.variant now stale range m)
     (λ _ all. tt)
     (λ _. reply_tells tables a y m l walks core.variant now stale range leads.fine honest.0 (after_reply_reaches core y m)

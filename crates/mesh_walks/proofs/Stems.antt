@@ -11,7 +11,7 @@ use Rattle.aodv_model.proofs.Changes.{after_by, mapped_each, update_each}
 use Rattle.aodv_model.proofs.Entries.{Same, if_case}
 use Rattle.aodv_model.proofs.Lookups.{get-add_pre, get-invalidate}
 use Rattle.aodv_model.specs.Cores.{Body, Core, Message, Pkt, Rerr, RouteReply, RouteRequest, Rrep, Rreq, add, bodies_in, drop, has_seen}
-use Rattle.aodv_model.specs.Handlers.{One, Reaction, after_hearing, after_reply, after_request, broken_by, can_answer, casting, changes_nothing, data_error, delivering, first_body, forward_own_entry, forward_reply, forward_request, join_answer_precursors, join_reply_precursors, key_of, link_broken, losing, losing_if_broken, neighbour_entry, on_message, on_new, on_new_rreq, on_pkt, on_rerr, on_rrep, on_rreq, one, only, plain, reply_for_self, reply_from_table, reply_on, retract, route_entry, send, unicast}
+use Rattle.aodv_model.specs.Handlers.{One, Reaction, after_hearing, after_reply, after_request, broken_by, can_answer, casting, is_stale, data_error, delivering, first_body, forward_own_entry, forward_reply, forward_request, join_answer_precursors, join_reply_precursors, key_of, link_broken, losing, losing_if_broken, neighbour_entry, on_message, on_new, on_new_rreq, on_pkt, on_rerr, on_rrep, on_rreq, one, only, plain, reply_for_self, reply_from_table, reply_on, retract, route_entry, send, unicast}
 use Rattle.aodv_model.specs.Tables.{Dests, Table, accepted_unreachable, add_pre, in_vD, invalidate, invalidated, joined, merged, nhop, unreachable_by, update}
 use Rattle.mesh_base.specs.Members.{NodeIds}
 use Rattle.mesh_base.specs.declared.events.Variant.{Variant}
@@ -263,7 +263,7 @@ rrep_stems core range y m =
     let near = (after_hearing core y).rt in
     let later = after_reply core y m in
     let first : Stems y (Rrep m) core.rt later.rt = stems_then y (Rrep m) core.rt near later.rt (hearing_stems (Rrep m) core.rt y) (route_stems y (Rrep m) near m.dip m.dsn m.hops (λ e t. t)) in
-    let stale = changes_nothing near m.dip (route_entry m.dsn m.hops y) in
+    let stale = is_stale near m.dip (route_entry m.dsn m.hops y) in
     if_case (StemsIn y (Rrep m) core) ((m.oip == core.ip) || not (in_vD later.rt m.oip)) (only later) (reply_on core.variant later stale range m)
     (λ _. first)
     (λ _. stems_stays y (Rrep m) core.rt later.rt _ first (reply_on_stays core.variant later stale range m))

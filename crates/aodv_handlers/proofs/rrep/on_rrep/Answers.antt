@@ -1,10 +1,10 @@
-use Rattle.std.proofs.Common.{◌≡◌, ◌≤◌, ℕ, true, not, Option, ap, refl, sym, subst, ◌∙◌, length}
+use Rattle.std.proofs.Common.{◌≡◌, ◌≤◌, ℕ, true, Option, ap, refl, sym, subst, ◌∙◌, length}
 use Rattle.std.proofs.lemmas.Bool.{ne_eqb}
 use Rattle.std.specs.FinMap as maps
 use Rattle.aodv_entry.specs.declared.entry.Entry.{Entry}
 use Rattle.aodv_model.specs.Tables.{Table, update, in_kD, sqn}
 use Rattle.aodv_model.specs.Cores.{Core, RouteReply, Rrep, Heard}
-use Rattle.aodv_model.specs.Handlers.{only, neighbour_entry, route_entry, changes_nothing, turn}
+use Rattle.aodv_model.specs.Handlers.{only, neighbour_entry, route_entry, turn}
 use Rattle.aodv_model.specs.Fullness.{turn_full}
 use Rattle.aodv_model.proofs.PlacedTables.{update_has}
 use Rattle.aodv_model.proofs.Readings.{route_above}
@@ -30,7 +30,7 @@ returns-in_default-clause-does g c =
     let m : RouteReply = record { hops = c.args.m.now.hops; dip = c.index_in-dip.result; dsn = c.args.m.now.dsn; oip = c.index_in-oip.result } in
     let end = ends core c.args.range.now c.args.from m rt1 rt2 c.update-changed.result (only (record core { rt = rt2 })) (ne_eqb m.hops 255 c.if-m.false)
     (c.update.ensures.entries ∙ ap (update core.rt c.args.from) c.neighbour_entry.ensures) (c.update-changed.ensures.entries ∙ ap (update rt1 m.dip) c.route_entry.ensures)
-    (c.update-changed.ensures.changed ∙ ap (λ (r : Entry). not (changes_nothing rt1 m.dip r)) c.route_entry.ensures)
+    c.update-changed.ensures.same
     (chosen_none (record core { rt = rt2 }) c.args.range.now _ c.reply_to_pass_on.result (c.reply_to_pass_on.ensures.does c.args.range.now) c.in_default.is) in
     subst (λ (m : RouteReply). IsMade mesh (turn_full core c.args.range.now (Heard c.args.from (Rrep m))) (turn core c.args.range.now (Heard c.args.from (Rrep m))) c.casting.result (record core { rt = rt2 }) c.clear.new.self.items)
     (same_reply mesh c.args.m.now c.index_in-dip.result c.index_in-oip.result c.index_in-dip.ensures.value c.index_in-oip.ensures.value)
@@ -80,7 +80,7 @@ returns-in-Ok-clause-does g c =
     let m : RouteReply = record { hops = c.args.m.now.hops; dip = c.index_in-dip.result; dsn = c.args.m.now.dsn; oip = c.index_in-oip.result } in
     let end = ends core c.args.range.now c.args.from m rt1 rt2 c.update-changed.result (pass_on (record core { rt = rt2 }) c.args.range.now (reply_of c.in-Some.reply)) (ne_eqb m.hops 255 c.if-m.false)
     (c.update.ensures.entries ∙ ap (update core.rt c.args.from) c.neighbour_entry.ensures) (c.update-changed.ensures.entries ∙ ap (update rt1 m.dip) c.route_entry.ensures)
-    (c.update-changed.ensures.changed ∙ ap (λ (r : Entry). not (changes_nothing rt1 m.dip r)) c.route_entry.ensures)
+    c.update-changed.ensures.same
     (chosen_some (record core { rt = rt2 }) c.args.range.now _ c.reply_to_pass_on.result c.in-Some.reply (c.reply_to_pass_on.ensures.does c.args.range.now) c.in-Some.is) in
     subst (λ (m : RouteReply). IsMade mesh (turn_full core c.args.range.now (Heard c.args.from (Rrep m))) (turn core c.args.range.now (Heard c.args.from (Rrep m))) c.in-Ok.effect (core_of g.T.Table.entries c.pass_on.new.core) c.pass_on.new.out.items)
     (same_reply mesh c.args.m.now c.index_in-dip.result c.index_in-oip.result c.index_in-dip.ensures.value c.index_in-oip.ensures.value)
@@ -102,7 +102,7 @@ returns-in-Err-clause-does g c =
     let m : RouteReply = record { hops = c.args.m.now.hops; dip = c.index_in-dip.result; dsn = c.args.m.now.dsn; oip = c.index_in-oip.result } in
     let end = ends core c.args.range.now c.args.from m rt1 rt2 c.update-changed.result (pass_on (record core { rt = rt2 }) c.args.range.now (reply_of c.in-Some.reply)) (ne_eqb m.hops 255 c.if-m.false)
     (c.update.ensures.entries ∙ ap (update core.rt c.args.from) c.neighbour_entry.ensures) (c.update-changed.ensures.entries ∙ ap (update rt1 m.dip) c.route_entry.ensures)
-    (c.update-changed.ensures.changed ∙ ap (λ (r : Entry). not (changes_nothing rt1 m.dip r)) c.route_entry.ensures)
+    c.update-changed.ensures.same
     (chosen_some (record core { rt = rt2 }) c.args.range.now _ c.reply_to_pass_on.result c.in-Some.reply (c.reply_to_pass_on.ensures.does c.args.range.now) c.in-Some.is) in
     let rows = back core.rt rt1 rt2 (g.T.Table.entries c.put.new.self) rt4 new.rt c.args.from c.index_in-dip.result c.neighbour_entry.result c.route_entry.result c.get-kept_from.result c.get-kept_dip.result
     c.update.ensures.entries c.update-changed.ensures.entries c.get-kept_from.ensures.value c.get-kept_dip.ensures.value (ap (λ (c : Core). c.rt) c.in-Err.ensures.does.same) c.put.ensures.entries c.put-in-Err.ensures.entries in

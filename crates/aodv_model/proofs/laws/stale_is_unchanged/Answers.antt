@@ -2,4 +2,4 @@ use Rattle.aodv_model.proofs.Stale as lemmas
 use Rattle.aodv_model.proofs.laws.stale_is_unchanged.Goals as goal
 
 pub returns : goal.returns
-returns c = lemmas.stale_is_unchanged
+returns c = λ rt d n hops from. lemmas.stale_is_unchanged n hops from rt d

@@ -1,4 +1,4 @@
-use Rattle.aodv_table.proofs.Changes.{answer_is, updated_is, same_is}
+use Rattle.aodv_table.proofs.Changes.{updated_is, same_is}
 use Rattle.std.proofs.Common.{◌∙◌}
 use Rattle.aodv_table.proofs.table.Table.update.Goals as goal
 
@@ -6,10 +6,6 @@ pub returns-clause-entries : goal.returns-clause-entries
 returns-clause-entries g c =
     c.put.ensures.entries
     ∙ updated_is (g.Self.Table.entries c.args.self.now) c.args.d c.args.r c.entry_after-after.result c.get-before.result c.get-before.ensures.value c.entry_after-after.ensures
-
-pub returns-clause-changed : goal.returns-clause-changed
-returns-clause-changed g c =
-    answer_is (g.Self.Table.entries c.args.self.now) c.args.d c.args.r c.entry_after-after.result c.get-before.result c.is_changed.result c.get-before.ensures.value c.entry_after-after.ensures c.is_changed.ensures
 
 pub returns-clause-same : goal.returns-clause-same
 returns-clause-same g c =
