@@ -1,14 +1,24 @@
 -- What the changes of a store keep.
-use Rattle.std.proofs.Common.{◌≡◌, ◌≢◌, ℕ, ◌<◌, Bool, true, false, cond, ◌==◌, List, [], ◌∷◌, ◌++◌, Some, None, Option, refl, ap, sym, ◌∙◌, subst}
+use Rattle.std.proofs.Common.{◌≡◌, ◌≢◌, ℕ, ◌<◌, Bool, true, false, cond, ◌||◌, ◌==◌, List, [], ◌∷◌, ◌++◌, Some, None, Option, refl, ap, sym, ◌∙◌, subst}
+use Rattle.std.specs.Prelude.{option_map}
 use Rattle.std.specs.List.{AllByRecursion}
 use Rattle.std.specs.Cmp.{nat_cmp_total, unsigned_tied}
 use Rattle.std.proofs.lemmas.Bool.{eqb-true}
 use Rattle.std.proofs.lemmas.Option.{none-some, same_Some}
 use Rattle.std.specs.FinMap as maps
 use Rattle.aodv_model.specs.Tables.{Dests}
-use Rattle.aodv_model.specs.Cores.{Body, Waiting, Store, bodies_in, needs_in, with_body, add, drop, drop_first, rest, marked, unset, set_all, set, has_data, in_qD}
+use Rattle.aodv_model.specs.Cores.{Body, Waiting, Store, bodies_in, needs_in, with_body, add, drop, drop_first, rest, marked, unset, set, has_data, in_qD}
 use Rattle.aodv_model.specs.Handlers.{first_body}
 use Rattle.aodv_model.specs.Soundness.{IsDatum, IsWaitingInMesh, IsStoreInMesh}
+use Rattle.aodv_model.proofs.Lookups.{get-mapped}
+
+-- the data that wait, which need a request where they did or b holds
+abbrev pub with_need : Bool → Waiting → Waiting
+with_need b w = record w { needs_request = w.needs_request || b }
+
+pub get-set : (store : Store) (dests : Dests) (q : ℕ) → maps.get (set store dests) q ≡ option_map (with_need (maps.contains_key dests q)) (maps.get store q)
+unfolding set
+get-set store dests q = get-mapped (λ d w. with_need (maps.contains_key dests d) w) store q
 
 module _ (size : ℕ) where
   put_case : (store : Store) (d : ℕ) (v : Waiting) (q : ℕ) (w : Waiting) (b : Bool) → (q == d) ≡ b → IsWaitingInMesh size d v → IsStoreInMesh size store → cond b (Some v) (maps.get store q) ≡ Some w → IsWaitingInMesh size q w
@@ -71,13 +81,14 @@ module _ (size : ℕ) where
   unfolding unset
   unset_kept store d kept = marked_kept false store d (maps.get store d) refl kept
 
-  all_kept : (store : Store) (ds : List ℕ) → IsStoreInMesh size store → IsStoreInMesh size (set_all store ds)
-  all_kept store [] kept = kept
-  all_kept store (d ∷ ds) kept = let later = set_all store ds in marked_kept true later d (maps.get later d) refl (all_kept store ds kept)
-
   pub set_kept : (store : Store) (dests : Dests) → IsStoreInMesh size store → IsStoreInMesh size (set store dests)
-  unfolding set
-  set_kept store dests kept = all_kept store (maps.keys dests) kept
+  set_kept store dests kept q w is = by (maps.get store q) refl (sym (get-set store dests q) ∙ is)
+    where
+      by : (o : Option Waiting) → maps.get store q ≡ o → option_map (with_need (maps.contains_key dests q)) o ≡ Some w → IsWaitingInMesh size q w
+      by None there e = absurd (none-some w e)
+      by (Some s) there e =
+          let old : IsWaitingInMesh size q s = kept q s there in
+          subst (IsWaitingInMesh size q) (same_Some (with_need (maps.contains_key dests q) s) w e) (record { dest = old.dest; some = old.some; bodies = old.bodies })
 
   -- the first datum that waits
   pub first_datum : (store : Store) (d : ℕ) → IsStoreInMesh size store → in_qD store d ≡ true → (d < size) × IsDatum (first_body (bodies_in (maps.get store d)))

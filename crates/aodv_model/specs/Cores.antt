@@ -1,5 +1,5 @@
 -- Messages, stores of waiting data, and the state of one node.
-use Rattle.std.specs.Prelude.{ℕ, ◌+◌, Bool, true, false, ◌==◌, if◌then◌else◌, Option, Some, None, List, [], ◌∷◌, ◌++◌, max}
+use Rattle.std.specs.Prelude.{ℕ, ◌+◌, Bool, true, false, ◌||◌, ◌==◌, if◌then◌else◌, Option, Some, None, List, [], ◌∷◌, ◌++◌, max}
 use Rattle.std.specs.Ordering.{nat_cmp}
 use Rattle.std.specs.FinMap as maps
 use Rattle.std.specs.FinMap.{FinMap}
@@ -7,7 +7,7 @@ use Rattle.std.specs.FinSet as sets
 use Rattle.mesh_base.specs.declared.events.Variant.{Variant}
 use Rattle.aodv_entry.specs.declared.entry.Known.{Known}
 use Rattle.aodv_model.specs.Pairs.{Pairs}
-use Rattle.aodv_model.specs.Tables.{Table, Dests}
+use Rattle.aodv_model.specs.Tables.{Table, Dests, mapped}
 
 -- ---- messages (RFC 3561, section 5). The sender of a message stands beside it
 
@@ -104,14 +104,12 @@ marked needs (Some s) store d = maps.insert store d (record s { needs_request = 
 unfoldable pub unset : Store → ℕ → Store
 unset store d = marked false (maps.get store d) store d
 
--- the store where each of the destinations, if it has data, needs a request
-abbrev pub set_all : Store → List ℕ → Store
-set_all store [] = store
-set_all store (d ∷ ds) = let later = set_all store ds in marked true (maps.get later d) later d
-
--- the destinations in the map that have data need a request
+-- the destinations in the map that have data need a request; all else stays
 unfoldable pub set : Store → Dests → Store
-set store dests = set_all store (maps.keys dests)
+set store dests =
+    mapped (λ d (w : Waiting). record w {
+      needs_request = w.needs_request || maps.contains_key dests d;
+    }) store
 
 -- the list is not empty
 abbrev pub has_data : List Body → Bool

@@ -12,8 +12,9 @@ use Rattle.std.specs.FinSet as sets
 use Rattle.mesh_base.specs.Members.{NodeIds}
 use Rattle.aodv_model.specs.Tables.{Dests}
 use Rattle.aodv_model.specs.Cores as cores
-use Rattle.aodv_model.specs.Cores.{Body, Waiting, Store, has_data, bodies_in, needs_in, in_qD, with_body, drop_first, rest, marked, set_all}
+use Rattle.aodv_model.specs.Cores.{Body, Waiting, Store, has_data, bodies_in, needs_in, in_qD, with_body, drop_first, rest, marked}
 use Rattle.aodv_model.specs.Soundness.{IsDatum}
+use Rattle.aodv_model.proofs.Stores.{with_need, get-set}
 use Rattle.aodv_waiting.specs.Rows.{Rows, bodies_at, waiting_of, store_of, AreRows}
 use Rattle.aodv_waiting.proofs.StoreLaws.{get_here, get_apart, gone_here, gone_apart, in_here, in_apart, out_here, out_apart, same_store, get-store_of, row_shown, rows_kept}
 
@@ -206,60 +207,24 @@ unset_kept rows with_data needing d are = record {
     not_both : false ≡ true → ⊥
     not_both e = cc
 
--- the mark of one that is listed
-abbrev raised : Bool → Waiting → Waiting
-raised b s = record s { needs_request = s.needs_request || b }
-
-raised_step : (b : Bool) (o : Option Waiting) → cond b (option_map (marked_as true) o) o ≡ option_map (raised b) o
-raised_step true None = refl
-raised_step false None = refl
-raised_step true (Some s) = elim s.needs_request as (λ n. Some (marked_as true s) ≡ Some (record s { needs_request = n || true })) [ true ↦ refl | false ↦ refl ]
-raised_step false (Some s) = elim s.needs_request as (λ n. Some (record s { needs_request = n }) ≡ Some (record s { needs_request = n || false })) [ true ↦ refl | false ↦ refl ]
-
-raised_twice : (b b' : Bool) (o : Option Waiting) → option_map (raised b) (option_map (raised b') o) ≡ option_map (raised (b || b')) o
-raised_twice b b' None = refl
-raised_twice b b' (Some s) = ap (λ (n : Bool). Some (record s { needs_request = n })) (or_or s.needs_request b b')
-  where
-    or_or : (n b b' : Bool) → ((n || b') || b) ≡ (n || (b || b'))
-    or_or true b b' = refl
-    or_or false true true = refl
-    or_or false true false = refl
-    or_or false false true = refl
-    or_or false false false = refl
-
-get-set_all : (store : Store) (ds : List ℕ) (q : ℕ) → maps.get (set_all store ds) q ≡ option_map (raised (list_any (eq_by_cmp nat_cmp q) ds)) (maps.get store q)
-get-set_all store [] q = elim (maps.get store q) as (λ o. o ≡ option_map (raised false) o) [ None ↦ refl | Some s ↦ raised_step false (Some s) ]
-get-set_all store (d ∷ ds) q =
-    let later = set_all store ds in
-    get-marked true (maps.get later d) later d q refl
-    ∙ elim (cases_eq q d) [
-      | inl same ↦ ap (λ (p : ℕ). cond (eqb q d) (option_map (marked_as true) (maps.get later p)) (maps.get later q)) (sym same)
-      | inr apart ↦ rw (ne_eqb q d apart) refl
-    ]
-    ∙ raised_step (eqb q d) (maps.get later q)
-    ∙ ap (option_map (raised (eqb q d))) (get-set_all store ds q)
-    ∙ raised_twice (eqb q d) (list_any (eq_by_cmp nat_cmp q) ds) (maps.get store q)
-    ∙ ap (λ (b : Bool). option_map (raised (b || list_any (eq_by_cmp nat_cmp q) ds)) (maps.get store q)) (sym (unsigned_tied q d))
-
 -- the marks with those among the first k destinations of the list that have data
 pub record AreMarked (with_data before after : NodeIds) (ds : List ℕ) : Type 0 where
   pub marks : (q : ℕ) → sets.contains after q ≡ (sets.contains before q || (sets.contains with_data q && list_any (eq_by_cmp nat_cmp q) ds))
 
-with_marks : (needs listed data_there : Bool) (bs : List Body) → data_there ≡ has_data bs → waiting_of (needs || (data_there && listed)) bs ≡ option_map (raised listed) (waiting_of needs bs)
+with_marks : (needs listed data_there : Bool) (bs : List Body) → data_there ≡ has_data bs → waiting_of (needs || (data_there && listed)) bs ≡ option_map (with_need listed) (waiting_of needs bs)
 with_marks needs listed data_there [] e = refl
 with_marks needs listed true (b ∷ bs) e = refl
 with_marks needs listed false (b ∷ bs) e = cc
 
 pub set_is : (rows : Rows) (with_data needing needing' : NodeIds) (dests : Dests) → AreRows rows with_data needing → AreMarked with_data needing needing' (maps.keys dests)
     → store_of needing' rows ≡ cores.set (store_of needing rows) dests
-unfolding cores.set
 set_is rows with_data needing needing' dests are marked_are =
     let store = store_of needing rows in
-    same_rows needing' rows (set_all store (maps.keys dests)) (λ q.
-    ap (λ (b : Bool). waiting_of b (bodies_at rows q)) (marked_are.marks q)
-    ∙ with_marks (sets.contains needing q) (list_any (eq_by_cmp nat_cmp q) (maps.keys dests)) (sets.contains with_data q) (bodies_at rows q) (are.data_are q)
-    ∙ ap (option_map (raised (list_any (eq_by_cmp nat_cmp q) (maps.keys dests)))) (sym (get-store_of needing rows q))
-    ∙ sym (get-set_all store (maps.keys dests) q))
+    same_rows needing' rows (cores.set store dests) (λ q.
+    ap (λ (b : Bool). waiting_of b (bodies_at rows q)) (marked_are.marks q ∙ ap (λ (b : Bool). sets.contains needing q || (sets.contains with_data q && b)) (sym (maps.contains_key-keys dests q)))
+    ∙ with_marks (sets.contains needing q) (maps.contains_key dests q) (sets.contains with_data q) (bodies_at rows q) (are.data_are q)
+    ∙ ap (option_map (with_need (maps.contains_key dests q))) (sym (get-store_of needing rows q))
+    ∙ sym (get-set store dests q))
 
 pub set_kept : (rows : Rows) (with_data needing needing' : NodeIds) (ds : List ℕ) → AreRows rows with_data needing → AreMarked with_data needing needing' ds → AreRows rows with_data needing'
 set_kept rows with_data needing needing' ds are marked_are = record {

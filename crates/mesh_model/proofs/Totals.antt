@@ -1,13 +1,14 @@
 -- Totals over lists, maps and stores.
 use Rattle.std.proofs.Common.{◌≡◌, ◌≢◌, ℕ, zero, suc, ◌+◌, ◌<◌, ◌≤◌, Bool, true, false, cond, List, [], ◌∷◌, ◌++◌, set, ◌==◌, Some, None, Option, refl, ap, sym, ◌∙◌, arith}
-use Rattle.std.specs.Prelude.{slice_get}
+use Rattle.std.specs.Prelude.{option_map, slice_get}
 use Rattle.std.specs.Cmp.{nat_cmp_total, unsigned_tied}
 use Rattle.std.proofs.lemmas.Bool.{eqb-true, eqb-false}
 use Rattle.std.proofs.lemmas.Option.{none-some, same_Some}
 use Rattle.aodv_model.specs.Cores.{set as set_flags}
 use Rattle.std.specs.FinMap as maps
-use Rattle.aodv_model.specs.Cores.{Body, Store, Waiting, add, bodies_in, drop, drop_first, marked, needs_in, rest, set_all, unset, with_body}
+use Rattle.aodv_model.specs.Cores.{Body, Store, Waiting, add, bodies_in, drop, drop_first, marked, needs_in, rest, unset, with_body}
 use Rattle.aodv_model.specs.Tables.{Dests}
+use Rattle.aodv_model.proofs.Stores.{with_need, get-set}
 use Rattle.mesh_model.specs.Accounts.{Test, counts, in_store, total, total_below}
 
 module _ {A : Type 0} (f : A → ℕ) where
@@ -127,10 +128,12 @@ pub store-unset : (t : Test) (size x : ℕ) (store : Store) (d : ℕ) → in_sto
 unfolding unset
 store-unset t size x store d = marked_case t size x false store d (maps.get store d) refl
 
-all_set : (t : Test) (size x : ℕ) (store : Store) (ds : List ℕ) → in_store t size x (set_all store ds) ≡ in_store t size x store
-all_set t size x store [] = refl
-all_set t size x store (d ∷ ds) = marked_case t size x true (set_all store ds) d (maps.get (set_all store ds) d) refl ∙ all_set t size x store ds
-
 pub store-set : (t : Test) (size x : ℕ) (store : Store) (dests : Dests) → in_store t size x (set_flags store dests) ≡ in_store t size x store
-unfolding set_flags
-store-set t size x store dests = all_set t size x store (maps.keys dests)
+unfolding in_store
+store-set t size x store dests =
+    total_below_same size (of t x (set_flags store dests)) (of t x store)
+    (λ q. ap (λ o. total (counts t x q) (bodies_in o)) (get-set store dests q) ∙ ap (total (counts t x q)) (same_bodies (maps.contains_key dests q) (maps.get store q)))
+  where
+    same_bodies : (b : Bool) (o : Option Waiting) → bodies_in (option_map (with_need b) o) ≡ bodies_in o
+    same_bodies b None = refl
+    same_bodies b (Some s) = refl
