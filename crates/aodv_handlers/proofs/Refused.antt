@@ -16,7 +16,7 @@ use Rattle.aodv_model.specs.Tables.{Table, Dests, goes_by, sqn, accepted_unreach
 use Rattle.aodv_model.specs.Cores.{Core, Store, Waiting, Rerr, set}
 use Rattle.aodv_model.specs.Handlers.{Nothing, Many, All, casting, plain, is_empty, is_error, all_precs, precs_of, with_precs, error_cast, retract}
 use Rattle.aodv_model.proofs.Lookups.{get-accepted, get-invalidate}
-use Rattle.aodv_model.proofs.Stores.{with_need, get-set}
+use Rattle.aodv_model.proofs.Stores.{need_if, get-set}
 use Rattle.aodv_meaning.specs.Meaning.{index, indexed, dests_in}
 use Rattle.aodv_handlers.proofs.Lists.{empty_is}
 use Rattle.aodv_handlers.proofs.Unicasts.{no_entries}
@@ -78,7 +78,7 @@ table_kept rt = maps.same_map nat_cmp_total nat_cmp-IsAntisymmetric _ rt (λ q. 
 no_keys : maps.keys (maps.empty {X = ℕ} {R = nat_cmp}) ≡ []
 no_keys = ap (map (λ e. e.0)) no_entries
 
-waiting_kept : (o : Option Waiting) → option_map (with_need false) o ≡ o
+waiting_kept : (o : Option Waiting) → option_map (need_if false) o ≡ o
 waiting_kept None = refl
 waiting_kept (Some s) = ap (λ (b : Bool). Some (record s { needs_request = b })) (or_false s.needs_request)
   where
@@ -87,7 +87,7 @@ waiting_kept (Some s) = ap (λ (b : Bool). Some (record s { needs_request = b })
     or_false false = refl
 
 store_kept : (store : Store) → set store maps.empty ≡ store
-store_kept store = maps.same_map nat_cmp_total nat_cmp-IsAntisymmetric _ store (λ q. get-set store maps.empty q ∙ ap (λ (n : Option ℕ). option_map (with_need (is_some n)) (maps.get store q)) (maps.get-empty nat_cmp q) ∙ waiting_kept (maps.get store q))
+store_kept store = maps.same_map nat_cmp_total nat_cmp-IsAntisymmetric _ store (λ q. get-set store maps.empty q ∙ ap (λ (n : Option ℕ). option_map (need_if (is_some n)) (maps.get store q)) (maps.get-empty nat_cmp q) ∙ waiting_kept (maps.get store q))
 
 nothing_cast : (v : Variant) (rt : Table) → error_cast v rt maps.empty ≡ Nothing
 unfolding error_cast precs_of

@@ -1,5 +1,5 @@
 -- What the changes of a store keep.
-use Rattle.std.proofs.Common.{◌≡◌, ◌≢◌, ℕ, ◌<◌, Bool, true, false, cond, ◌||◌, ◌==◌, List, [], ◌∷◌, ◌++◌, Some, None, Option, refl, ap, sym, ◌∙◌, subst}
+use Rattle.std.proofs.Common.{◌≡◌, ◌≢◌, ℕ, ◌<◌, Bool, true, false, cond, not, ◌&&◌, ◌||◌, ◌==◌, List, [], ◌∷◌, ◌++◌, Some, None, Option, refl, ap, sym, ◌∙◌, subst}
 use Rattle.std.specs.Prelude.{option_map}
 use Rattle.std.specs.List.{AllByRecursion}
 use Rattle.std.specs.Cmp.{nat_cmp_total, unsigned_tied}
@@ -7,18 +7,26 @@ use Rattle.std.proofs.lemmas.Bool.{eqb-true}
 use Rattle.std.proofs.lemmas.Option.{none-some, same_Some}
 use Rattle.std.specs.FinMap as maps
 use Rattle.aodv_model.specs.Tables.{Dests}
-use Rattle.aodv_model.specs.Cores.{Body, Waiting, Store, bodies_in, needs_in, with_body, add, drop, drop_first, rest, marked, unset, set, has_data, in_qD}
+use Rattle.aodv_model.specs.Cores.{Body, Waiting, Store, bodies_in, needs_in, with_body, add, drop, drop_first, rest, unset, set, has_data, in_qD}
 use Rattle.aodv_model.specs.Handlers.{first_body}
 use Rattle.aodv_model.specs.Soundness.{IsDatum, IsWaitingInMesh, IsStoreInMesh}
 use Rattle.aodv_model.proofs.Lookups.{get-mapped}
 
--- the data that wait, which need a request where they did or b holds
-abbrev pub with_need : Bool → Waiting → Waiting
-with_need b w = record w { needs_request = w.needs_request || b }
+-- data that need a request where they did and b doesn't hold
+abbrev pub need_unless : Bool → Waiting → Waiting
+need_unless b w = record w { needs_request = w.needs_request && not b }
 
-pub get-set : (store : Store) (dests : Dests) (q : ℕ) → maps.get (set store dests) q ≡ option_map (with_need (maps.contains_key dests q)) (maps.get store q)
+-- data that need a request where they did or b holds
+abbrev pub need_if : Bool → Waiting → Waiting
+need_if b w = record w { needs_request = w.needs_request || b }
+
+pub get-unset : (store : Store) (d q : ℕ) → maps.get (unset store d) q ≡ option_map (need_unless (q == d)) (maps.get store q)
+unfolding unset
+get-unset store d q = get-mapped (λ k w. need_unless (k == d) w) store q
+
+pub get-set : (store : Store) (dests : Dests) (q : ℕ) → maps.get (set store dests) q ≡ option_map (need_if (maps.contains_key dests q)) (maps.get store q)
 unfolding set
-get-set store dests q = get-mapped (λ d w. with_need (maps.contains_key dests d) w) store q
+get-set store dests q = get-mapped (λ d w. need_if (maps.contains_key dests d) w) store q
 
 module _ (size : ℕ) where
   put_case : (store : Store) (d : ℕ) (v : Waiting) (q : ℕ) (w : Waiting) (b : Bool) → (q == d) ≡ b → IsWaitingInMesh size d v → IsStoreInMesh size store → cond b (Some v) (maps.get store q) ≡ Some w → IsWaitingInMesh size q w
@@ -73,22 +81,21 @@ module _ (size : ℕ) where
       inside None is some = absurd (some refl)
       inside (Some s) is some = (kept d s is).dest
 
-  marked_kept : (needs : Bool) (store : Store) (d : ℕ) (o : Option Waiting) → maps.get store d ≡ o → IsStoreInMesh size store → IsStoreInMesh size (marked needs o store d)
-  marked_kept needs store d None is kept = kept
-  marked_kept needs store d (Some s) is kept = let old : IsWaitingInMesh size d s = kept d s is in put_kept store d (record s { needs_request = needs }) (record { dest = old.dest; some = old.some; bodies = old.bodies }) kept
-
-  pub unset_kept : (store : Store) (d : ℕ) → IsStoreInMesh size store → IsStoreInMesh size (unset store d)
-  unfolding unset
-  unset_kept store d kept = marked_kept false store d (maps.get store d) refl kept
-
-  pub set_kept : (store : Store) (dests : Dests) → IsStoreInMesh size store → IsStoreInMesh size (set store dests)
-  set_kept store dests kept q w is = by (maps.get store q) refl (sym (get-set store dests q) ∙ is)
+  -- where the data that wait stay as they are
+  bodies_kept : (store new : Store) (flags : ℕ → Waiting → Bool) → ((q : ℕ) → maps.get new q ≡ option_map (λ (w : Waiting). record w { needs_request = flags q w }) (maps.get store q)) → IsStoreInMesh size store → IsStoreInMesh size new
+  bodies_kept store new flags each kept q w is = by (maps.get store q) refl (sym (each q) ∙ is)
     where
-      by : (o : Option Waiting) → maps.get store q ≡ o → option_map (with_need (maps.contains_key dests q)) o ≡ Some w → IsWaitingInMesh size q w
+      by : (o : Option Waiting) → maps.get store q ≡ o → option_map (λ (w : Waiting). record w { needs_request = flags q w }) o ≡ Some w → IsWaitingInMesh size q w
       by None there e = absurd (none-some w e)
       by (Some s) there e =
           let old : IsWaitingInMesh size q s = kept q s there in
-          subst (IsWaitingInMesh size q) (same_Some (with_need (maps.contains_key dests q) s) w e) (record { dest = old.dest; some = old.some; bodies = old.bodies })
+          subst (IsWaitingInMesh size q) (same_Some (record s { needs_request = flags q s }) w e) (record { dest = old.dest; some = old.some; bodies = old.bodies })
+
+  pub unset_kept : (store : Store) (d : ℕ) → IsStoreInMesh size store → IsStoreInMesh size (unset store d)
+  unset_kept store d = bodies_kept store (unset store d) (λ q w. w.needs_request && not (q == d)) (get-unset store d)
+
+  pub set_kept : (store : Store) (dests : Dests) → IsStoreInMesh size store → IsStoreInMesh size (set store dests)
+  set_kept store dests = bodies_kept store (set store dests) (λ q w. w.needs_request || maps.contains_key dests q) (get-set store dests)
 
   -- the first datum that waits
   pub first_datum : (store : Store) (d : ℕ) → IsStoreInMesh size store → in_qD store d ≡ true → (d < size) × IsDatum (first_body (bodies_in (maps.get store d)))

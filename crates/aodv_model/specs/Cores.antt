@@ -1,5 +1,5 @@
 -- Messages, stores of waiting data, and the state of one node.
-use Rattle.std.specs.Prelude.{ℕ, ◌+◌, Bool, true, false, ◌||◌, ◌==◌, if◌then◌else◌, Option, Some, None, List, [], ◌∷◌, ◌++◌, max}
+use Rattle.std.specs.Prelude.{ℕ, ◌+◌, Bool, true, false, not, ◌&&◌, ◌||◌, ◌==◌, if◌then◌else◌, Option, Some, None, List, [], ◌∷◌, ◌++◌, max}
 use Rattle.std.specs.Ordering.{nat_cmp}
 use Rattle.std.specs.FinMap as maps
 use Rattle.std.specs.FinMap.{FinMap}
@@ -95,14 +95,10 @@ unfoldable pub drop : Store → ℕ → Store
 drop store d =
     drop_first store d (rest (bodies_in (maps.get store d))) (needs_in (maps.get store d))
 
--- the store where d, if it has data, needs a request or not
-abbrev pub marked : Bool → Option Waiting → Store → ℕ → Store
-marked needs None store d = store
-marked needs (Some s) store d = maps.insert store d (record s { needs_request = needs })
-
--- d needs no request for now
+-- d needs no request for now; all else stays
 unfoldable pub unset : Store → ℕ → Store
-unset store d = marked false (maps.get store d) store d
+unset store d =
+    mapped (λ k (w : Waiting). record w { needs_request = w.needs_request && not (k == d) }) store
 
 -- the destinations in the map that have data need a request; all else stays
 unfoldable pub set : Store → Dests → Store

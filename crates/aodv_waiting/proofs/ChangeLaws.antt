@@ -1,5 +1,5 @@
 -- What a store's changes do to the rows that show it.
-use Rattle.std.proofs.Common.{◌≡◌, ◌≢◌, ◌<◌, ◌≤◌, ℕ, zero, suc, ◌+◌, Bool, true, false, cond, eqb, ◌&&◌, ◌||◌, List, [], ◌∷◌, ◌++◌, map, length, take, Option, Some, None, refl, sym, ap, subst, ◌∙◌, arith, eq-eqb, inl, inr}
+use Rattle.std.proofs.Common.{◌≡◌, ◌≢◌, ◌<◌, ◌≤◌, ℕ, zero, suc, ◌+◌, Bool, true, false, cond, eqb, not, ◌&&◌, ◌||◌, List, [], ◌∷◌, ◌++◌, map, length, take, Option, Some, refl, sym, ap, subst, ◌∙◌, arith, eq-eqb, inl, inr}
 use Rattle.std.proofs.Math.ListN.{set as put, drop as from}
 use Rattle.std.specs.Prelude.{option_map, slice_get}
 use Rattle.std.proofs.lemmas.List.{take_all, length-map}
@@ -12,9 +12,9 @@ use Rattle.std.specs.FinSet as sets
 use Rattle.mesh_base.specs.Members.{NodeIds}
 use Rattle.aodv_model.specs.Tables.{Dests}
 use Rattle.aodv_model.specs.Cores as cores
-use Rattle.aodv_model.specs.Cores.{Body, Waiting, Store, has_data, bodies_in, needs_in, in_qD, with_body, drop_first, rest, marked}
+use Rattle.aodv_model.specs.Cores.{Body, Waiting, Store, has_data, bodies_in, needs_in, in_qD, with_body, drop_first, rest}
 use Rattle.aodv_model.specs.Soundness.{IsDatum}
-use Rattle.aodv_model.proofs.Stores.{with_need, get-set}
+use Rattle.aodv_model.proofs.Stores.{need_if, need_unless, get-set, get-unset}
 use Rattle.aodv_waiting.specs.Rows.{Rows, bodies_at, waiting_of, store_of, AreRows}
 use Rattle.aodv_waiting.proofs.StoreLaws.{get_here, get_apart, gone_here, gone_apart, in_here, in_apart, out_here, out_apart, same_store, get-store_of, row_shown, rows_kept}
 
@@ -153,45 +153,35 @@ dropped_more_kept rows with_data needing d row are lt is some =
 
 -- ---- marks
 
--- what a destination's data are with another mark
-abbrev marked_as : Bool → Waiting → Waiting
-marked_as needs s = record s { needs_request = needs }
-
-get-marked : (needs : Bool) (o : Option Waiting) (store : Store) (d q : ℕ) → o ≡ maps.get store d → maps.get (marked needs o store d) q ≡ cond (eqb q d) (option_map (marked_as needs) o) (maps.get store q)
-get-marked needs None store d q is = elim (cases_eq q d) [
-  | inl same ↦ rw (eq-eqb q d same, same) (sym is)
-  | inr apart ↦ rw (ne_eqb q d apart) refl
-]
-get-marked needs (Some s) store d q is = elim (cases_eq q d) [
-  | inl same ↦ rw (eq-eqb q d same, same) (get_here store d (marked_as needs s))
-  | inr apart ↦ rw (ne_eqb q d apart) (get_apart store d (marked_as needs s) q apart)
-]
-
 same_rows : (needing : NodeIds) (rows : Rows) (store : Store) → ((q : ℕ) → waiting_of (sets.contains needing q) (bodies_at rows q) ≡ maps.get store q) → store_of needing rows ≡ store
 same_rows needing rows store same = same_store (store_of needing rows) store (λ q. get-store_of needing rows q ∙ same q)
 
-unmarked : (needs : Bool) (bs : List Body) → waiting_of false bs ≡ option_map (marked_as false) (waiting_of needs bs)
-unmarked needs [] = refl
-unmarked needs (b ∷ bs) = refl
+out_is : (needing : NodeIds) (d q : ℕ) → sets.contains (sets.remove needing d) q ≡ (sets.contains needing q && not (eqb q d))
+out_is needing d q = elim (cases_eq q d) [
+  | inl same ↦ ap (sets.contains (sets.remove needing d)) same ∙ out_here needing d ∙ sym (ap (λ (b : Bool). sets.contains needing q && not b) (eq-eqb q d same) ∙ and_false (sets.contains needing q))
+  | inr apart ↦ out_apart needing d q apart ∙ sym (ap (λ (b : Bool). sets.contains needing q && not b) (ne_eqb q d apart) ∙ and_true (sets.contains needing q))
+]
+  where
+    and_false : (b : Bool) → (b && false) ≡ false
+    and_false true = refl
+    and_false false = refl
+
+    and_true : (b : Bool) → (b && true) ≡ b
+    and_true true = refl
+    and_true false = refl
+
+unmarked : (needs b : Bool) (bs : List Body) → waiting_of (needs && not b) bs ≡ option_map (need_unless b) (waiting_of needs bs)
+unmarked needs b [] = refl
+unmarked needs b (x ∷ xs) = refl
 
 pub unset_is : (rows : Rows) (needing : NodeIds) (d : ℕ) → store_of (sets.remove needing d) rows ≡ cores.unset (store_of needing rows) d
-unfolding cores.unset
 unset_is rows needing d =
     let store = store_of needing rows in
-    same_rows (sets.remove needing d) rows (marked false (maps.get store d) store d) (λ q.
-    elim (cases_eq q d) [
-      | inl same ↦ rw same (
-          ap (λ (b : Bool). waiting_of b (bodies_at rows d)) (out_here needing d)
-          ∙ unmarked (sets.contains needing d) (bodies_at rows d)
-          ∙ ap (option_map (marked_as false)) (sym (get-store_of needing rows d))
-          ∙ ap (λ (b : Bool). cond b (option_map (marked_as false) (maps.get store d)) (maps.get store d)) (sym (eq-eqb d d refl))
-          ∙ sym (get-marked false (maps.get store d) store d d refl))
-      | inr apart ↦
-          ap (λ (b : Bool). waiting_of b (bodies_at rows q)) (out_apart needing d q apart)
-          ∙ sym (get-store_of needing rows q)
-          ∙ ap (λ (b : Bool). cond b (option_map (marked_as false) (maps.get store d)) (maps.get store q)) (sym (ne_eqb q d apart))
-          ∙ sym (get-marked false (maps.get store d) store d q refl)
-    ])
+    same_rows (sets.remove needing d) rows (cores.unset store d) (λ q.
+    ap (λ (b : Bool). waiting_of b (bodies_at rows q)) (out_is needing d q)
+    ∙ unmarked (sets.contains needing q) (eqb q d) (bodies_at rows q)
+    ∙ ap (option_map (need_unless (eqb q d))) (sym (get-store_of needing rows q))
+    ∙ sym (get-unset store d q))
 
 pub unset_kept : (rows : Rows) (with_data needing : NodeIds) (d : ℕ) → AreRows rows with_data needing → AreRows rows with_data (sets.remove needing d)
 unset_kept rows with_data needing d are = record {
@@ -211,7 +201,7 @@ unset_kept rows with_data needing d are = record {
 pub record AreMarked (with_data before after : NodeIds) (ds : List ℕ) : Type 0 where
   pub marks : (q : ℕ) → sets.contains after q ≡ (sets.contains before q || (sets.contains with_data q && list_any (eq_by_cmp nat_cmp q) ds))
 
-with_marks : (needs listed data_there : Bool) (bs : List Body) → data_there ≡ has_data bs → waiting_of (needs || (data_there && listed)) bs ≡ option_map (with_need listed) (waiting_of needs bs)
+with_marks : (needs listed data_there : Bool) (bs : List Body) → data_there ≡ has_data bs → waiting_of (needs || (data_there && listed)) bs ≡ option_map (need_if listed) (waiting_of needs bs)
 with_marks needs listed data_there [] e = refl
 with_marks needs listed true (b ∷ bs) e = refl
 with_marks needs listed false (b ∷ bs) e = cc
@@ -223,7 +213,7 @@ set_is rows with_data needing needing' dests are marked_are =
     same_rows needing' rows (cores.set store dests) (λ q.
     ap (λ (b : Bool). waiting_of b (bodies_at rows q)) (marked_are.marks q ∙ ap (λ (b : Bool). sets.contains needing q || (sets.contains with_data q && b)) (sym (maps.contains_key-keys dests q)))
     ∙ with_marks (sets.contains needing q) (maps.contains_key dests q) (sets.contains with_data q) (bodies_at rows q) (are.data_are q)
-    ∙ ap (option_map (with_need (maps.contains_key dests q))) (sym (get-store_of needing rows q))
+    ∙ ap (option_map (need_if (maps.contains_key dests q))) (sym (get-store_of needing rows q))
     ∙ sym (get-set store dests q))
 
 pub set_kept : (rows : Rows) (with_data needing needing' : NodeIds) (ds : List ℕ) → AreRows rows with_data needing → AreMarked with_data needing needing' ds → AreRows rows with_data needing'

@@ -1,14 +1,14 @@
 -- Totals over lists, maps and stores.
-use Rattle.std.proofs.Common.{◌≡◌, ◌≢◌, ℕ, zero, suc, ◌+◌, ◌<◌, ◌≤◌, Bool, true, false, cond, List, [], ◌∷◌, ◌++◌, set, ◌==◌, Some, None, Option, refl, ap, sym, ◌∙◌, arith}
+use Rattle.std.proofs.Common.{◌≡◌, ◌≢◌, ℕ, zero, suc, ◌+◌, ◌<◌, ◌≤◌, Bool, true, false, cond, not, ◌&&◌, ◌||◌, List, [], ◌∷◌, ◌++◌, set, ◌==◌, Some, None, Option, refl, ap, ◌∙◌, arith}
 use Rattle.std.specs.Prelude.{option_map, slice_get}
 use Rattle.std.specs.Cmp.{nat_cmp_total, unsigned_tied}
 use Rattle.std.proofs.lemmas.Bool.{eqb-true, eqb-false}
 use Rattle.std.proofs.lemmas.Option.{none-some, same_Some}
 use Rattle.aodv_model.specs.Cores.{set as set_flags}
 use Rattle.std.specs.FinMap as maps
-use Rattle.aodv_model.specs.Cores.{Body, Store, Waiting, add, bodies_in, drop, drop_first, marked, needs_in, rest, unset, with_body}
+use Rattle.aodv_model.specs.Cores.{Body, Store, Waiting, add, bodies_in, drop, drop_first, needs_in, rest, unset, with_body}
 use Rattle.aodv_model.specs.Tables.{Dests}
-use Rattle.aodv_model.proofs.Stores.{with_need, get-set}
+use Rattle.aodv_model.proofs.Stores.{get-set, get-unset}
 use Rattle.mesh_model.specs.Accounts.{Test, counts, in_store, total, total_below}
 
 module _ {A : Type 0} (f : A → ℕ) where
@@ -113,27 +113,18 @@ store-drop t size x store d b bs l is =
     let r : total (counts t x d) (rest (bodies_in (maps.get store d))) ≡ total (counts t x d) bs = ap (λ ys. total (counts t x d) (rest ys)) is in
     omega arith
 
-marked_case : (t : Test) (size x : ℕ) (needs : Bool) (store : Store) (d : ℕ) (o : Option Waiting) → maps.get store d ≡ o → in_store t size x (marked needs o store d) ≡ in_store t size x store
+-- where the data that wait stay as they are
+bodies_same : (t : Test) (size x : ℕ) (store new : Store) (flags : ℕ → Waiting → Bool) → ((q : ℕ) → maps.get new q ≡ option_map (λ (w : Waiting). record w { needs_request = flags q w }) (maps.get store q)) → in_store t size x new ≡ in_store t size x store
 unfolding in_store
-marked_case t size x needs store d None is = refl
-marked_case t size x needs store d (Some s) is =
-    total_below_same size (of t x (maps.insert store d (record s { needs_request = needs }))) (of t x store)
-    (λ q. ap (λ o. total (counts t x q) (bodies_in o)) (get-put store d (record s { needs_request = needs }) q) ∙ at q (q == d) refl)
+bodies_same t size x store new flags each =
+    total_below_same size (of t x new) (of t x store) (λ q. ap (λ o. total (counts t x q) (bodies_in o)) (each q) ∙ ap (total (counts t x q)) (same q (maps.get store q)))
   where
-    at : (q : ℕ) (b : Bool) → (q == d) ≡ b → total (counts t x q) (bodies_in (cond b (Some (record s { needs_request = needs })) (maps.get store q))) ≡ of t x store q
-    at q true e = ap (λ o. total (counts t x q) (bodies_in o)) (sym is ∙ ap (maps.get store) (sym (eqb-true q d e)))
-    at q false e = refl
+    same : (q : ℕ) (o : Option Waiting) → bodies_in (option_map (λ (w : Waiting). record w { needs_request = flags q w }) o) ≡ bodies_in o
+    same q None = refl
+    same q (Some s) = refl
 
 pub store-unset : (t : Test) (size x : ℕ) (store : Store) (d : ℕ) → in_store t size x (unset store d) ≡ in_store t size x store
-unfolding unset
-store-unset t size x store d = marked_case t size x false store d (maps.get store d) refl
+store-unset t size x store d = bodies_same t size x store (unset store d) (λ q w. w.needs_request && not (q == d)) (get-unset store d)
 
 pub store-set : (t : Test) (size x : ℕ) (store : Store) (dests : Dests) → in_store t size x (set_flags store dests) ≡ in_store t size x store
-unfolding in_store
-store-set t size x store dests =
-    total_below_same size (of t x (set_flags store dests)) (of t x store)
-    (λ q. ap (λ o. total (counts t x q) (bodies_in o)) (get-set store dests q) ∙ ap (total (counts t x q)) (same_bodies (maps.contains_key dests q) (maps.get store q)))
-  where
-    same_bodies : (b : Bool) (o : Option Waiting) → bodies_in (option_map (with_need b) o) ≡ bodies_in o
-    same_bodies b None = refl
-    same_bodies b (Some s) = refl
+store-set t size x store dests = bodies_same t size x store (set_flags store dests) (λ q w. w.needs_request || maps.contains_key dests q) (get-set store dests)

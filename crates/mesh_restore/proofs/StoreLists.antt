@@ -1,6 +1,6 @@
 -- How a store grows by what waits for a destination above all others.
-use Rattle.std.proofs.Common.{◌≡◌, ℕ, ◌+◌, ◌<◌, ◌≤◌, Bool, true, false, cond, eqb, eq-eqb, List, [], ◌∷◌, ◌++◌, length, Option, Some, None, refl, sym, ap, ◌∙◌, arith}
-use Rattle.std.specs.Prelude.{nat_le}
+use Rattle.std.proofs.Common.{◌≡◌, ℕ, ◌+◌, ◌<◌, ◌≤◌, Bool, true, false, cond, ◌&&◌, eqb, eq-eqb, List, [], ◌∷◌, ◌++◌, length, Option, Some, None, refl, sym, ap, ◌∙◌, arith}
+use Rattle.std.specs.Prelude.{nat_le, option_map}
 use Rattle.std.specs.Ordering.{nat_cmp}
 use Rattle.std.specs.Cmp.{nat_cmp_total, unsigned_tied}
 use Rattle.std.specs.List.{AllByRecursion}
@@ -8,7 +8,8 @@ use Rattle.std.proofs.lemmas.Bool.{ne_eqb, lt-leb, le-leb}
 use Rattle.std.proofs.lemmas.List.{map_push, length_push}
 use Rattle.std.specs.FinMap as maps
 use Rattle.std.specs.FinMap.{FinMap, find, nat_cmp-IsAntisymmetric}
-use Rattle.aodv_model.specs.Cores.{Body, Waiting, Store, add, unset, marked, with_body}
+use Rattle.aodv_model.specs.Cores.{Body, Waiting, Store, add, unset, with_body}
+use Rattle.aodv_model.proofs.Stores.{need_unless, get-unset}
 use Rattle.mesh_checkpoint.specs.Formats.{◌>>=◌, only_if, truth, seq, counted, get_times}
 use Rattle.mesh_restore.specs.Reading.{Refuses, get_from}
 use Rattle.mesh_restore.specs.declared.error.ReadError.{ReadError}
@@ -57,11 +58,21 @@ one_added store d (x ∷ xs) b none =
     ap (λ (o : Option Waiting). maps.insert (maps.insert store d (waiting_with true x xs)) d (with_body o b)) (get-here store d (waiting_with true x xs))
     ∙ insert_twice store d (waiting_with true x xs) (waiting_with true x (xs ++ b ∷ []))
 
+unset_at : (b : Bool) (x : Body) (xs : List Body) (o : Option Waiting) → option_map (need_unless b) (cond b (Some (waiting_with true x xs)) o) ≡ cond b (Some (waiting_with false x xs)) o
+unset_at true x xs o = refl
+unset_at false x xs None = refl
+unset_at false x xs (Some s) = ap (λ (n : Bool). Some (record s { needs_request = n })) (and_true s.needs_request)
+  where
+    and_true : (n : Bool) → (n && true) ≡ n
+    and_true true = refl
+    and_true false = refl
+
 pub one_unset : (store : Store) (d : ℕ) (b : Body) (bs : List Body) → unset (with_bodies store d (b ∷ bs)) d ≡ maps.insert store d (waiting_with false b bs)
-unfolding unset
-one_unset store d b bs =
-    ap (λ (o : Option Waiting). marked false o (maps.insert store d (waiting_with true b bs)) d) (get-here store d (waiting_with true b bs))
-    ∙ insert_twice store d (waiting_with true b bs) (waiting_with false b bs)
+one_unset store d b bs = maps.same_map nat_cmp_total nat_cmp-IsAntisymmetric _ _ (λ q.
+    get-unset (maps.insert store d (waiting_with true b bs)) d q
+    ∙ ap (option_map (need_unless (eqb q d))) (get-at store d q (waiting_with true b bs))
+    ∙ unset_at (eqb q d) b bs (maps.get store q)
+    ∙ sym (get-at store d q (waiting_with false b bs)))
 
 pub no_waits : waits_in maps.empty ≡ []
 unfolding waits_in
