@@ -12,7 +12,7 @@ use Rattle.std.specs.Ordering.{nat_cmp, eq_by_cmp, ordering_then, is_eq}
 use Rattle.std.specs.Cmp.{unsigned_tied}
 use Rattle.std.proofs.lemmas.Bool.{ne_eqb, cases_eq, cases_lt, eqb-true}
 use Rattle.std.proofs.lemmas.Cmp.{nat_cmp_total}
-use Rattle.std.proofs.lemmas.List.{get_or-set_same, get_or-set_other, length-map, map-set, get_or-map, get_or_default}
+use Rattle.std.proofs.lemmas.List.{get_or-set_same, get_or-set_other, length-map, map-set, get_or-map, get_or_default, get_or_past}
 use Rattle.std.specs.FinSet as sets
 use Rattle.aodv_model.specs.Pairs.{pair_cmp}
 use Rattle.mesh_base.specs.Members.{IsLeastFrom}
@@ -86,6 +86,18 @@ contains-pairs_of rows o q =
 
 pub shown : (rows : List RoomyIds) (seen : Seen) (o q : ℕ) → pairs_of rows ≡ seen → sets.contains seen (o, q) ≡ sets.contains (ids_at rows o) q
 shown rows seen o q is = ap (λ (s : Seen). sets.contains s (o, q)) (sym is) ∙ contains-pairs_of rows o q
+
+-- none stands beside a node that has no row
+pub of_a_row : (rows : List RoomyIds) (seen : Seen) (n o id : ℕ) → pairs_of rows ≡ seen → n ≡ length rows → sets.contains seen (o, id) ≡ true → o < n
+of_a_row rows seen n o id is count here = elim (cases_lt o n) [
+  | inl lt ↦ lt
+  | inr ge ↦
+      let none : ids_at rows o ≡ sets.empty = ap (λ (r : RoomyIds). r.ids) (get_or_past rows o no_ids (omega (arith, count, ge))) in
+      absurd (apart (sym (sets.contains-empty nat_cmp id) ∙ ap (λ (s : IdSet). sets.contains s id) (sym none) ∙ sym (shown rows seen o id is) ∙ here))
+]
+  where
+    apart : false ≡ true → ⊥
+    apart h = cc
 
 same_pairs : (a b : Seen) → ((p : ℕ × ℕ) → sets.contains a p ≡ sets.contains b p) → a ≡ b
 same_pairs a b same = sets.same_set pair_cmp_total same_pair a b same

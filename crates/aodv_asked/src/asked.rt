@@ -1,5 +1,5 @@
 //! The requests that a node has seen.
-ghost use Rattle.std.specs.Prelude.{◌≡◌, ◌≢◌, ◌<◌, ◌≤◌, ◌+◌, ◌⊎◌, ◌↔◌, ℕ, length, slice_index, IfOk, IfSome, IsNone, IsOk, OnOk, OnErr, IsTrue};
+ghost use Rattle.std.specs.Prelude.{◌≡◌, ◌≢◌, ◌<◌, ◌≤◌, ◌+◌, ◌⊎◌, ◌↔◌, ℕ, true, length, slice_index, IfOk, IfSome, IsNone, IsOk, OnOk, OnErr, IsTrue};
 ghost use Rattle.std.specs.FinSet as sets;
 ghost use Rattle.aodv_model.specs.Cores.{last_request_id, next_request_id};
 ghost use Rattle.aodv_asked.specs.Requests.{is_near, ids_beside, IsLeastIdFrom};
@@ -39,6 +39,14 @@ impl Asked {
             rows.push(Ids::new(alloc))?;
         }
         Ok(Asked { rows })
+    }
+
+    /// The number of nodes of the mesh. Each request that was seen is of one of them.
+    pub fn nodes(&self) -> usize
+        ensures value { result ≡ length self.now.rooms }
+        ensures within { (o id : ℕ) → sets.contains self.now.pairs (o, id) ≡ true → o < result }
+    {
+        self.rows.len()
     }
 
     /// Whether o's request with this id was seen: a binary search.
