@@ -15,12 +15,10 @@ use Rattle.aodv_model.specs.Handlers.{Reaction, quiet, only, one, unicast, neigh
 use Rattle.aodv_model.specs.Fullness.{turn_full}
 use Rattle.aodv_model.proofs.Readings.{pre_alike, join_reply_alike}
 use Rattle.aodv_model.proofs.Stale.{stale_is_unchanged}
-use Rattle.aodv_wire.specs.declared.route_reply.Rrep as rrep
-use Rattle.aodv_meaning.specs.Meaning.{index, reply_in}
 use Rattle.aodv_meaning.specs.Sent.{IsPacket}
 use Rattle.aodv_meaning.specs.Effects.{effect_of}
 use Rattle.aodv_handlers.specs.Made.{IsMade, IsFull, number_full}
-use Rattle.aodv_handlers.specs.declared.unicast.Reply.{Reply}
+use Rattle.aodv_handlers.specs.declared.messages.Reply.{Reply}
 use Rattle.aodv_handlers.specs.Shown.{reply_of}
 use Rattle.aodv_handlers.specs.Parts.{end_of_rrep, pass_on, passing}
 use Rattle.aodv_handlers.proofs.Unicasts.{plain_free}
@@ -155,6 +153,3 @@ chosen_none c range did o is none = is ∙ ap (passing c range) none
 
 pub chosen_some : (c : Core) (range : NodeIds) (did : Reaction) (o : Option Reply) (r : Reply) → did ≡ passing c range o → o ≡ Some r → did ≡ pass_on c range (reply_of r)
 chosen_some c range did o r is some = is ∙ ap (passing c range) some
-
-pub same_reply : (mesh : Nodes) (m : rrep.Rrep) (dip oip : ℕ) → dip ≡ index mesh m.dip → oip ≡ index mesh m.oip → record { hops = m.hops; dip = dip; dsn = m.dsn; oip = oip } ≡ reply_in mesh m
-same_reply mesh m dip oip d o = λ i. record { hops = m.hops; dip = d i; dsn = m.dsn; oip = o i }

@@ -17,8 +17,6 @@ use Rattle.aodv_model.specs.Soundness.{IsSoundTable}
 use Rattle.aodv_model.proofs.PlacedTables.{update_has}
 use Rattle.aodv_model.proofs.Readings.{pre_alike, join_answer_alike}
 use Rattle.aodv_model.proofs.SoundTables.{neighbour_table, route_table}
-use Rattle.aodv_wire.specs.declared.route_request.Rreq as rreq
-use Rattle.aodv_meaning.specs.Meaning.{index, status_of, request_in}
 use Rattle.aodv_meaning.specs.Sent.{IsPacket}
 use Rattle.aodv_meaning.specs.Effects.{effect_of}
 use Rattle.aodv_handlers.specs.Made.{IsMade, IsFull, number_full}
@@ -150,7 +148,3 @@ stop_made c new range from m rt2 rt4 did' field end refused back = record {
   overfull = end.full ∙ refused.overfull;
   same = λ i. record (refused.same i) { rt = back i };
 }
-
-pub same_request : (mesh : Nodes) (m : rreq.Rreq) (dip oip : ℕ) → dip ≡ index mesh m.dip → oip ≡ index mesh m.oip
-    → record { hops = m.hops; id = m.id; dip = dip; dsn = m.dsn; dsk = status_of m.known; oip = oip; osn = m.osn } ≡ request_in mesh m
-same_request mesh m dip oip d o = λ i. record { hops = m.hops; id = m.id; dip = d i; dsn = m.dsn; dsk = status_of m.known; oip = o i; osn = m.osn }

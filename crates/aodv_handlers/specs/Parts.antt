@@ -5,7 +5,7 @@ use Rattle.mesh_base.specs.Members.{NodeIds}
 use Rattle.aodv_model.specs.Tables.{Table, Dests, in_vD, nhop, precs, accepted_unreachable}
 use Rattle.aodv_model.specs.Cores.{Core, RouteReply, Rrep}
 use Rattle.aodv_model.specs.Handlers.{Reaction, is_empty, is_error, with_precs, only, join_reply_precursors, reply_on, retract, unicast}
-use Rattle.aodv_handlers.specs.declared.unicast.Reply.{Reply}
+use Rattle.aodv_handlers.specs.declared.messages.Reply.{Reply}
 use Rattle.aodv_handlers.specs.Shown.{reply_of}
 
 -- a route error tells of d: always in the variant `Error`, and else where d has precursors

@@ -1,12 +1,13 @@
 -- The state of the model that a core shows, and what every handler asks of a core and keeps.
 use Rattle.std.specs.Prelude.{◌≡◌, ◌<◌, ℕ, length}
 use Rattle.aodv_model.specs.Tables.{Table}
-use Rattle.aodv_model.specs.Cores.{Core, RouteRequest, RouteReply}
+use Rattle.aodv_model.specs.Cores.{Core, RouteRequest, RouteReply, Message, Pkt}
 use Rattle.aodv_model.specs.Soundness.{IsSoundCore}
 use Rattle.aodv_meaning.specs.Meaning.{status_of}
 use Rattle.aodv_handlers.specs.declared.cores.Core as code
-use Rattle.aodv_handlers.specs.declared.rreq.Wanted.{Wanted}
-use Rattle.aodv_handlers.specs.declared.unicast.Reply.{Reply}
+use Rattle.aodv_handlers.specs.declared.messages.Request.{Request}
+use Rattle.aodv_handlers.specs.declared.messages.Reply.{Reply}
+use Rattle.aodv_handlers.specs.declared.messages.Datum.{Datum}
 
 -- the model's core. `entries` says what the table's entries are
 abbrev pub core_of : {T : Type 0} → (T → Table) → code.Core T → Core
@@ -29,8 +30,8 @@ pub record IsReady {T : Type 0} (nodes : T → ℕ) (entries : T
   pub mine : c.me < size
   pub sound : IsSoundCore size (core_of entries c)
 
--- a request and a reply of the code, over indices
-abbrev pub request_of : Wanted → RouteRequest
+-- the model's request, reply and parcel
+abbrev pub request_of : Request → RouteRequest
 request_of m = record {
   hops = m.hops;
   id = m.id;
@@ -43,3 +44,6 @@ request_of m = record {
 
 abbrev pub reply_of : Reply → RouteReply
 reply_of m = record { hops = m.hops; dip = m.dip; dsn = m.dsn; oip = m.oip }
+
+abbrev pub parcel_of : Datum → Message
+parcel_of m = Pkt m.body.now m.dip m.oip

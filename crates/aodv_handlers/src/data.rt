@@ -7,16 +7,17 @@ ghost use Rattle.aodv_model.specs.Cores.{New};
 ghost use Rattle.aodv_entry.specs.Quality.{is_val};
 ghost use Rattle.aodv_model.specs.Handlers.{is_error, on_new, on_pkt, data_error as the_data_error, is_empty as no_node};
 ghost use Rattle.aodv_model.specs.Fullness.{turn_full};
-ghost use Rattle.aodv_model.specs.Soundness.{IsDatum};
+ghost use Rattle.aodv_model.specs.Soundness.{IsDatum, IsMessageInMesh};
 ghost use Rattle.aodv_wire.specs.declared.message.Message.TheVariants.{Parcel as a_parcel};
 ghost use Rattle.aodv_meaning.specs.Meaning.{index, stranger};
 ghost use Rattle.aodv_meaning.specs.Sent.{IsPacket};
-ghost use Rattle.aodv_handlers.specs.Shown.{core_of, IsReady};
+ghost use Rattle.aodv_handlers.specs.Shown.{core_of, IsReady, parcel_of};
 ghost use Rattle.aodv_meaning.specs.Effects.{cast_of};
 ghost use Rattle.aodv_handlers.specs.Made.{Reacts};
 
 use crate::cores::Core;
 use crate::errors::{is_broadcast, is_empty};
+use crate::messages::Datum;
 use crate::routes::{has_route, next_hop};
 use crate::unicast::send_datum;
 use aodv_entry::{Entry, Flag};
@@ -81,9 +82,50 @@ fn data_error<T: Table>(core: &Core<T>, mesh: &Mesh, d: usize, out: &mut Packet)
     }
 }
 
-/// A data packet: delivered where it is for this node, sent on where there is a valid route, and
-/// else lost.
+/// A datum on its way: delivered where it is for this node, sent on where there is a valid route,
+/// and else lost.
 #[tactic(auto, unfolding(aodv_model::specs::Handlers::on_pkt))]
+pub fn take_datum<T: Table>(
+    core: &mut Core<T>,
+    mesh: &Mesh,
+    range: &NodeSet,
+    m: &Datum<'_>,
+    out: &mut Packet,
+) -> Result<Effect, Counter>
+    requires ready { IsReady T.nodes T.entries (length mesh.now) core.old }
+    requires says { IsMessageInMesh (length mesh.now) (parcel_of m.now) }
+    ensures does { let dip = m.now.dip in let oip = m.now.oip in
+        Reacts T.entries mesh.now (λ c. on_pkt c range.now m.now.body.now dip oip)
+        core.old result core.new out.new.items }
+    ensures ready { IsReady T.nodes T.entries (length mesh.now) core.new }
+    ensures rooms { T.rooms core.new.table ≡ T.rooms core.old.table }
+    ensures asked { core.new.asked ≡ core.old.asked }
+{
+    if m.dip == core.me {
+        out.clear();
+        return Ok(Effect {
+            deliver: true,
+            lost: false,
+            broken: None,
+            cast: Cast::Nothing,
+        });
+    }
+    if !has_route(&core.table, m.dip) {
+        let cast = data_error(core, mesh, m.dip, out);
+        return Ok(Effect {
+            deliver: false,
+            lost: true,
+            broken: None,
+            cast,
+        });
+    }
+    let towards = next_hop(&core.table, m.dip);
+    let mut effect = send_datum(core, mesh, range, towards, m, out)?;
+    effect.lost = effect.broken.is_some();
+    Ok(effect)
+}
+
+/// The same of a data packet.
 pub fn on_data<T: Table>(
     core: &mut Core<T>,
     mesh: &Mesh,
@@ -101,28 +143,10 @@ pub fn on_data<T: Table>(
     ensures rooms { T.rooms core.new.table ≡ T.rooms core.old.table }
     ensures asked { core.new.asked ≡ core.old.asked }
 {
-    let dip = mesh.index_in(m.dip());
-    let oip = mesh.index_in(m.oip());
-    if dip == core.me {
-        out.clear();
-        return Ok(Effect {
-            deliver: true,
-            lost: false,
-            broken: None,
-            cast: Cast::Nothing,
-        });
-    }
-    if !has_route(&core.table, dip) {
-        let cast = data_error(core, mesh, dip, out);
-        return Ok(Effect {
-            deliver: false,
-            lost: true,
-            broken: None,
-            cast,
-        });
-    }
-    let towards = next_hop(&core.table, dip);
-    let mut effect = send_datum(core, mesh, range, towards, dip, oip, m.body(), out)?;
-    effect.lost = effect.broken.is_some();
-    Ok(effect)
+    let datum = Datum {
+        dip: mesh.index_in(m.dip()),
+        oip: mesh.index_in(m.oip()),
+        body: m.body(),
+    };
+    take_datum(core, mesh, range, &datum, out)
 }

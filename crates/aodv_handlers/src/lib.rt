@@ -7,6 +7,7 @@ mod cores;
 mod data;
 mod discovery;
 mod errors;
+mod messages;
 mod rerr;
 mod routes;
 mod rrep;
@@ -14,12 +15,13 @@ mod rreq;
 mod unicast;
 
 pub use cores::Core;
-pub use data::{new_packet, on_data};
+pub use data::{new_packet, on_data, take_datum};
 pub use discovery::{may_ask, may_send, next_request, send_stored, start_request};
 pub use errors::link_broken;
+pub use messages::{Datum, Reply, Request};
 pub use rerr::on_rerr;
-pub use rrep::on_rrep;
-pub use rreq::on_rreq;
+pub use rrep::{on_rrep, take_reply};
+pub use rreq::{on_rreq, take_request};
 
 #[cfg(test)]
 mod tests;

@@ -6,6 +6,7 @@ ghost use Rattle.mesh_base.specs.Members.{NodeIds};
 ghost use Rattle.mesh_base.specs.declared.events.Variant.TheVariants as variants;
 ghost use Rattle.aodv_model.specs.Tables.{in_kD, in_vD, nhop, sqn};
 ghost use Rattle.aodv_model.specs.Cores.{Rrep as a_reply, Heard};
+ghost use Rattle.aodv_model.specs.Soundness.{IsMessageInMesh};
 ghost use Rattle.aodv_model.specs.Handlers.{reply_on};
 ghost use Rattle.aodv_wire.specs.declared.message.Message.TheVariants.{Rrep as a_rrep};
 ghost use Rattle.aodv_meaning.specs.Meaning.{index, reply_in, stranger};
@@ -14,8 +15,9 @@ ghost use Rattle.aodv_handlers.specs.Made.{Reacts, TakesTurn};
 ghost use Rattle.aodv_handlers.specs.Parts.{IsNumberedAs, end_of_rrep, pass_on as passed_on, passing};
 
 use crate::cores::Core;
+use crate::messages::Reply;
 use crate::routes::{has_route, join_precursor, neighbour_entry, next_hop, route_entry};
-use crate::unicast::{Reply, casting, send_reply};
+use crate::unicast::{casting, send_reply};
 use aodv_entry::Flag;
 use aodv_table::Table;
 use aodv_wire::Rrep;
@@ -107,6 +109,48 @@ fn reply_to_pass_on<T: Table>(core: &Core<T>, changed: bool, m: Reply) -> Option
 /// A route reply from a neighbour. It ends here where the node asked for it, where the node has no
 /// route back to who did ask, and where it teaches nothing. In the variant `Reply` a node with a
 /// valid route to the destination passes on what that says, whatever it was taught.
+pub fn take_reply<T: Table>(
+    core: &mut Core<T>,
+    mesh: &Mesh,
+    range: &NodeSet,
+    from: usize,
+    m: &Reply,
+    out: &mut Packet,
+) -> Result<Effect, Counter>
+    requires ready { IsReady T.nodes T.entries (length mesh.now) core.old }
+    requires says { IsMessageInMesh (length mesh.now) (a_reply (reply_of m.now)) }
+    requires from { from < length mesh.now }
+    requires other { from ≢ core.old.me }
+    requires row_from { sets.contains (T.rooms core.old.table) from ≡ true }
+    requires row_dip { sets.contains (T.rooms core.old.table) m.now.dip ≡ true }
+    ensures does { let item = Heard from (a_reply (reply_of m.now)) in
+        TakesTurn T.entries mesh.now range.now item core.old result core.new out.new.items }
+    ensures ready { IsReady T.nodes T.entries (length mesh.now) core.new }
+    ensures rooms { T.rooms core.new.table ≡ T.rooms core.old.table }
+    ensures asked { core.new.asked ≡ core.old.asked }
+{
+    if m.hops == 255 {
+        return Err(Counter::Hops);
+    }
+    let kept_from = core.table.get(from);
+    let kept_dip = core.table.get(m.dip);
+    core.table.update(from, neighbour_entry(from));
+    let changed = core.table.update(m.dip, route_entry(m.dsn, m.hops, from));
+    let Some(reply) = reply_to_pass_on(core, changed, *m) else {
+        out.clear();
+        return Ok(casting(Cast::Nothing));
+    };
+    match pass_on(core, mesh, range, reply, out) {
+        Ok(effect) => Ok(effect),
+        Err(full) => {
+            core.table.put(m.dip, kept_dip);
+            core.table.put(from, kept_from);
+            Err(full)
+        }
+    }
+}
+
+/// The same of a reply with the addresses of nodes.
 pub fn on_rrep<T: Table>(
     core: &mut Core<T>,
     mesh: &Mesh,
@@ -128,31 +172,11 @@ pub fn on_rrep<T: Table>(
     ensures rooms { T.rooms core.new.table ≡ T.rooms core.old.table }
     ensures asked { core.new.asked ≡ core.old.asked }
 {
-    if m.hops == 255 {
-        return Err(Counter::Hops);
-    }
-    let dip = mesh.index_in(m.dip);
-    let oip = mesh.index_in(m.oip);
-    let kept_from = core.table.get(from);
-    let kept_dip = core.table.get(dip);
-    core.table.update(from, neighbour_entry(from));
-    let changed = core.table.update(dip, route_entry(m.dsn, m.hops, from));
-    let heard = Reply {
+    let reply = Reply {
         hops: m.hops,
-        dip,
+        dip: mesh.index_in(m.dip),
         dsn: m.dsn,
-        oip,
+        oip: mesh.index_in(m.oip),
     };
-    let Some(reply) = reply_to_pass_on(core, changed, heard) else {
-        out.clear();
-        return Ok(casting(Cast::Nothing));
-    };
-    match pass_on(core, mesh, range, reply, out) {
-        Ok(effect) => Ok(effect),
-        Err(full) => {
-            core.table.put(dip, kept_dip);
-            core.table.put(from, kept_from);
-            Err(full)
-        }
-    }
+    take_reply(core, mesh, range, from, &reply, out)
 }

@@ -3,7 +3,7 @@ ghost use Rattle.std.specs.Prelude.{◌≡◌, ◌≢◌, ◌<◌, ◌≤◌, �
 ghost use Rattle.std.specs.FinMap as maps;
 ghost use Rattle.std.specs.FinSet as sets;
 ghost use Rattle.aodv_model.specs.Cores.{Rreq as a_request, Heard};
-ghost use Rattle.mesh_base.specs.Meshes.{Nodes};
+ghost use Rattle.aodv_model.specs.Soundness.{IsMessageInMesh};
 ghost use Rattle.aodv_model.specs.Handlers.{key_of, reply_for_self as own_reply, reply_from_table as table_reply, forward_request as forwarded, on_new_rreq, can_answer};
 ghost use Rattle.aodv_wire.specs.declared.message.Message.TheVariants.{Rreq as a_rreq};
 ghost use Rattle.aodv_meaning.specs.Meaning.{index, request_in, stranger};
@@ -11,24 +11,13 @@ ghost use Rattle.aodv_handlers.specs.Shown.{core_of, IsReady, request_of};
 ghost use Rattle.aodv_handlers.specs.Made.{Reacts, TakesTurn};
 
 use crate::cores::Core;
+use crate::messages::{Reply, Request};
 use crate::routes::{join_precursor, neighbour_entry, next_hop, number, route_entry};
-use crate::unicast::{Reply, casting, send_reply};
+use crate::unicast::{casting, send_reply};
 use aodv_entry::{Entry, Flag, Known};
 use aodv_table::Table;
 use aodv_wire::{Rreq, write_rreq};
 use mesh_base::{Cast, Counter, Effect, Mesh, NodeSet, Packet, Variant};
-
-/// A route request, over indices.
-#[derive(Clone, Copy)]
-pub(crate) struct Wanted {
-    pub(crate) hops: u8,
-    pub(crate) id: u32,
-    pub(crate) dip: usize,
-    pub(crate) dsn: u32,
-    pub(crate) known: bool,
-    pub(crate) oip: usize,
-    pub(crate) osn: u32,
-}
 
 fn larger(a: u32, b: u32) -> u32
     ensures { result ≡ max a b }
@@ -42,13 +31,12 @@ fn reply_for_self<T: Table>(
     core: &mut Core<T>,
     mesh: &Mesh,
     range: &NodeSet,
-    m: Wanted,
+    m: &Request,
     out: &mut Packet,
 ) -> Result<Effect, Counter>
     requires ready { IsReady T.nodes T.entries (length mesh.now) core.old }
-    requires dip { m.dip < length mesh.now }
-    requires oip { m.oip < length mesh.now }
-    ensures does { Reacts T.entries mesh.now (λ c. own_reply c range.now (request_of m))
+    requires says { IsMessageInMesh (length mesh.now) (a_request (request_of m.now)) }
+    ensures does { Reacts T.entries mesh.now (λ c. own_reply c range.now (request_of m.now))
         core.old result core.new out.new.items }
     ensures ready { IsReady T.nodes T.entries (length mesh.now) core.new }
     ensures rooms { T.rooms core.new.table ≡ T.rooms core.old.table }
@@ -73,11 +61,11 @@ fn reply_for_self<T: Table>(
 }
 
 // The entry of the node that is asked for, where it is new enough to answer with.
-fn route_to_answer_with<T: Table>(core: &Core<T>, m: Wanted) -> Option<Entry>
-    requires { m.dip < T.nodes core.now.table }
-    ensures can { is_some result ≡ can_answer (core_of T.entries core.now) (request_of m) }
-    ensures route { IfSome result (λ e. maps.get (T.entries core.now.table) m.dip ≡ Some e) }
-    ensures room { IfSome result (λ _. sets.contains (T.rooms core.now.table) m.dip ≡ true) }
+fn route_to_answer_with<T: Table>(core: &Core<T>, m: &Request) -> Option<Entry>
+    requires { m.now.dip < T.nodes core.now.table }
+    ensures can { is_some result ≡ can_answer (core_of T.entries core.now) (request_of m.now) }
+    ensures route { IfSome result (λ e. maps.get (T.entries core.now.table) m.now.dip ≡ Some e) }
+    ensures room { IfSome result (λ _. sets.contains (T.rooms core.now.table) m.now.dip ≡ true) }
 {
     let route = core.table.get(m.dip)?;
     if route.flag == Flag::Val && m.dsn <= route.dsn && route.dsk == Known::Kno {
@@ -94,19 +82,18 @@ fn reply_from_table<T: Table>(
     mesh: &Mesh,
     range: &NodeSet,
     from: usize,
-    m: Wanted,
+    m: &Request,
     route: Entry,
     out: &mut Packet,
 ) -> Result<Effect, Counter>
     requires ready { IsReady T.nodes T.entries (length mesh.now) core.old }
-    requires dip { m.dip < length mesh.now }
-    requires oip { m.oip < length mesh.now }
+    requires says { IsMessageInMesh (length mesh.now) (a_request (request_of m.now)) }
     requires from { from < length mesh.now }
-    requires room_dip { sets.contains (T.rooms core.old.table) m.dip ≡ true }
-    requires room_oip { sets.contains (T.rooms core.old.table) m.oip ≡ true }
-    requires route { maps.get (T.entries core.old.table) m.dip ≡ Some route }
-    requires can { can_answer (core_of T.entries core.old) (request_of m) ≡ true }
-    ensures does { Reacts T.entries mesh.now (λ c. table_reply c range.now from (request_of m))
+    requires room_dip { sets.contains (T.rooms core.old.table) m.now.dip ≡ true }
+    requires room_oip { sets.contains (T.rooms core.old.table) m.now.oip ≡ true }
+    requires route { maps.get (T.entries core.old.table) m.now.dip ≡ Some route }
+    requires can { can_answer (core_of T.entries core.old) (request_of m.now) ≡ true }
+    ensures does { Reacts T.entries mesh.now (λ c. table_reply c range.now from (request_of m.now))
         core.old result core.new out.new.items }
     ensures ready { IsReady T.nodes T.entries (length mesh.now) core.new }
     ensures rooms { T.rooms core.new.table ≡ T.rooms core.old.table }
@@ -136,13 +123,11 @@ fn reply_from_table<T: Table>(
 
 // The node passes the request on.
 #[tactic(auto, unfolding(aodv_model::specs::Handlers::forward_request))]
-fn forward_request<T: Table>(core: &Core<T>, mesh: &Mesh, m: Wanted, out: &mut Packet) -> Effect
+fn forward_request<T: Table>(core: &Core<T>, mesh: &Mesh, m: &Request, out: &mut Packet) -> Effect
     requires ready { IsReady T.nodes T.entries (length mesh.now) core.now }
-    requires dip { m.dip < length mesh.now }
-    requires oip { m.oip < length mesh.now }
-    requires osn { 1 ≤ m.osn }
-    requires hops { m.hops < 255 }
-    ensures { Reacts T.entries mesh.now (λ c. forwarded c (request_of m))
+    requires says { IsMessageInMesh (length mesh.now) (a_request (request_of m.now)) }
+    requires hops { m.now.hops < 255 }
+    ensures { Reacts T.entries mesh.now (λ c. forwarded c (request_of m.now))
         core.now (Ok result) core.now out.new.items }
 {
     let mine = number(&core.table, m.dip);
@@ -166,17 +151,15 @@ fn on_new<T: Table>(
     mesh: &Mesh,
     range: &NodeSet,
     from: usize,
-    m: Wanted,
+    m: &Request,
     out: &mut Packet,
 ) -> Result<Effect, Counter>
     requires ready { IsReady T.nodes T.entries (length mesh.now) core.old }
-    requires dip { m.dip < length mesh.now }
-    requires oip { m.oip < length mesh.now }
+    requires says { IsMessageInMesh (length mesh.now) (a_request (request_of m.now)) }
     requires from { from < length mesh.now }
-    requires osn { 1 ≤ m.osn }
-    requires hops { m.hops < 255 }
-    requires room { sets.contains (T.rooms core.old.table) m.oip ≡ true }
-    ensures does { Reacts T.entries mesh.now (λ c. on_new_rreq c range.now from (request_of m))
+    requires hops { m.now.hops < 255 }
+    requires room { sets.contains (T.rooms core.old.table) m.now.oip ≡ true }
+    ensures does { Reacts T.entries mesh.now (λ c. on_new_rreq c range.now from (request_of m.now))
         core.old result core.new out.new.items }
     ensures ready { IsReady T.nodes T.entries (length mesh.now) core.new }
     ensures rooms { T.rooms core.new.table ≡ T.rooms core.old.table }
@@ -192,9 +175,8 @@ fn on_new<T: Table>(
 }
 
 // By what a request is known again, beside its originator: its id, or its originator's number.
-fn mark_of(variant: Variant, m: &Rreq) -> u32
-    ensures { (mesh : Nodes) →
-        key_of variant (request_in mesh m.now) ≡ (index mesh m.now.oip, result) }
+fn mark_of(variant: Variant, m: &Request) -> u32
+    ensures { key_of variant (request_of m.now) ≡ (m.now.oip, result) }
 {
     match variant {
         Variant::Number => m.osn,
@@ -204,6 +186,53 @@ fn mark_of(variant: Variant, m: &Rreq) -> u32
 
 /// A route request from a neighbour. One that was seen before teaches no more than that the
 /// neighbour is there.
+pub fn take_request<T: Table>(
+    core: &mut Core<T>,
+    mesh: &Mesh,
+    range: &NodeSet,
+    from: usize,
+    m: &Request,
+    out: &mut Packet,
+) -> Result<Effect, Counter>
+    requires ready { IsReady T.nodes T.entries (length mesh.now) core.old }
+    requires says { IsMessageInMesh (length mesh.now) (a_request (request_of m.now)) }
+    requires from { from < length mesh.now }
+    requires other { from ≢ core.old.me }
+    requires row_from { sets.contains (T.rooms core.old.table) from ≡ true }
+    requires row_oip { sets.contains (T.rooms core.old.table) m.now.oip ≡ true }
+    requires asked { 0 < slice_index core.old.asked.rooms m.now.oip }
+    ensures does { let item = Heard from (a_request (request_of m.now)) in
+        TakesTurn T.entries mesh.now range.now item core.old result core.new out.new.items }
+    ensures ready { IsReady T.nodes T.entries (length mesh.now) core.new }
+    ensures rooms { T.rooms core.new.table ≡ T.rooms core.old.table }
+{
+    let mark = mark_of(core.variant, m);
+    if core.asked.has(m.oip, mark) {
+        core.table.update(from, neighbour_entry(from));
+        out.clear();
+        return Ok(casting(Cast::Nothing));
+    }
+    if m.hops == 255 {
+        return Err(Counter::Hops);
+    }
+    let kept_from = core.table.get(from);
+    let kept_oip = core.table.get(m.oip);
+    core.table.update(from, neighbour_entry(from));
+    core.table.update(m.oip, route_entry(m.osn, m.hops, from));
+    match on_new(core, mesh, range, from, m, out) {
+        Ok(effect) => {
+            core.asked.insert(m.oip, mark);
+            Ok(effect)
+        }
+        Err(full) => {
+            core.table.put(m.oip, kept_oip);
+            core.table.put(from, kept_from);
+            Err(full)
+        }
+    }
+}
+
+/// The same of a request with the addresses of nodes.
 pub fn on_rreq<T: Table>(
     core: &mut Core<T>,
     mesh: &Mesh,
@@ -225,39 +254,14 @@ pub fn on_rreq<T: Table>(
     ensures ready { IsReady T.nodes T.entries (length mesh.now) core.new }
     ensures rooms { T.rooms core.new.table ≡ T.rooms core.old.table }
 {
-    let dip = mesh.index_in(m.dip);
-    let oip = mesh.index_in(m.oip);
-    let mark = mark_of(core.variant, m);
-    if core.asked.has(oip, mark) {
-        core.table.update(from, neighbour_entry(from));
-        out.clear();
-        return Ok(casting(Cast::Nothing));
-    }
-    if m.hops == 255 {
-        return Err(Counter::Hops);
-    }
-    let wanted = Wanted {
+    let request = Request {
         hops: m.hops,
         id: m.id,
-        dip,
+        dip: mesh.index_in(m.dip),
         dsn: m.dsn,
         known: m.known,
-        oip,
+        oip: mesh.index_in(m.oip),
         osn: m.osn,
     };
-    let kept_from = core.table.get(from);
-    let kept_oip = core.table.get(oip);
-    core.table.update(from, neighbour_entry(from));
-    core.table.update(oip, route_entry(m.osn, m.hops, from));
-    match on_new(core, mesh, range, from, wanted, out) {
-        Ok(effect) => {
-            core.asked.insert(oip, mark);
-            Ok(effect)
-        }
-        Err(full) => {
-            core.table.put(oip, kept_oip);
-            core.table.put(from, kept_from);
-            Err(full)
-        }
-    }
+    take_request(core, mesh, range, from, &request, out)
 }

@@ -1,24 +1,17 @@
 //! Unicasts, which may find their receiver out of range (AWN's conditional unicast).
 ghost use Rattle.std.specs.Prelude.{◌≡◌, ◌<◌, ◌≤◌, ℕ, false, length};
-ghost use Rattle.aodv_model.specs.Cores.{Rrep as a_reply, Pkt as a_packet};
+ghost use Rattle.aodv_model.specs.Cores.{Rrep as a_reply};
+ghost use Rattle.aodv_model.specs.Soundness.{IsMessageInMesh};
 ghost use Rattle.aodv_model.specs.Handlers.{unicast, broken_by, link_broken as broken};
-ghost use Rattle.aodv_handlers.specs.Shown.{core_of, IsReady, reply_of};
+ghost use Rattle.aodv_handlers.specs.Shown.{core_of, IsReady, parcel_of, reply_of};
 ghost use Rattle.aodv_handlers.specs.Made.{Reacts};
 
 use crate::cores::Core;
 use crate::errors::link_broken;
+use crate::messages::{Datum, Reply};
 use aodv_table::Table;
 use aodv_wire::{Rrep, write_data, write_rrep};
-use mesh_base::{Cast, Counter, Effect, LONGEST_DATUM, Mesh, NodeSet, Packet};
-
-/// A route reply, over indices.
-#[derive(Clone, Copy)]
-pub(crate) struct Reply {
-    pub(crate) hops: u8,
-    pub(crate) dip: usize,
-    pub(crate) dsn: u32,
-    pub(crate) oip: usize,
-}
+use mesh_base::{Cast, Counter, Effect, Mesh, NodeSet, Packet};
 
 /// The effect of a cast alone.
 pub(crate) fn casting(cast: Cast) -> Effect
@@ -88,24 +81,19 @@ pub(crate) fn send_reply<T: Table>(
     Ok(casting(Cast::One(y)))
 }
 
-/// Sends a datum from o on its way to d, to y.
+/// Sends a datum on its way to y.
 #[tactic(auto, unfolding(aodv_model::specs::Handlers::unicast))]
 pub(crate) fn send_datum<T: Table>(
     core: &mut Core<T>,
     mesh: &Mesh,
     range: &NodeSet,
     y: usize,
-    d: usize,
-    o: usize,
-    body: &[u8],
+    m: &Datum<'_>,
     out: &mut Packet,
 ) -> Result<Effect, Counter>
     requires ready { IsReady T.nodes T.entries (length mesh.now) core.old }
-    requires dip { d < length mesh.now }
-    requires oip { o < length mesh.now }
-    requires some { 1 ≤ length body.now }
-    requires few { length body.now ≤ LONGEST_DATUM }
-    ensures does { Reacts T.entries mesh.now (λ c. unicast c (a_packet body.now d o) y range.now)
+    requires says { IsMessageInMesh (length mesh.now) (parcel_of m.now) }
+    ensures does { Reacts T.entries mesh.now (λ c. unicast c (parcel_of m.now) y range.now)
         core.old result core.new out.new.items }
     ensures ready { IsReady T.nodes T.entries (length mesh.now) core.new }
     ensures rooms { T.rooms core.new.table ≡ T.rooms core.old.table }
@@ -114,6 +102,6 @@ pub(crate) fn send_datum<T: Table>(
     if !range.has(y) {
         return fail(core, mesh, y, out);
     }
-    write_data(mesh.at(d), mesh.at(o), body, out);
+    write_data(mesh.at(m.dip), mesh.at(m.oip), m.body, out);
     Ok(casting(Cast::One(y)))
 }

@@ -17,6 +17,8 @@ use Rattle.aodv_handlers.specs.Made.{IsMade, IsFull}
 use Rattle.aodv_node.specs.declared.answers.TurnError.{TurnError}
 use Rattle.aodv_node.specs.declared.answers.TurnError.TheVariants as errors
 use Rattle.aodv_meaning.specs.Effects.{kind_of}
+use Rattle.aodv_node.specs.declared.meaning.Meaning.{Meaning}
+use Rattle.aodv_node.specs.Meanings.{Means}
 use Rattle.aodv_node.specs.Turned.{IsReadable, needs_memory}
 use Rattle.aodv_node.specs.Heard.{IsHeard, Tries, kinded}
 
@@ -27,14 +29,15 @@ means mesh bytes m s = ap (in_mesh mesh) s.stands
 pub readable : (mesh : Nodes) (bytes : List ℕ) (m : wire.Message) → Spells bytes m → stranger mesh m ≡ None → IsReadable mesh bytes
 readable mesh bytes m s known = record { allowed = s.allowed; known = ap (stranger mesh) s.stands ∙ known }
 
--- the stranger that was found, if none: over the message of the arm
-pub known_as : (mesh : Nodes) (msg m : wire.Message) (o : Option Addr) → o ≡ stranger mesh msg → o ≡ None → msg ≡ m → stranger mesh m ≡ None
-known_as mesh msg m o o_is none is = ap (stranger mesh) (sym is) ∙ sym o_is ∙ none
+-- over the meaning of the arm
+pub means_as : (mesh : Nodes) (msg : wire.Message) (x m : Meaning) → x ≡ m → Means mesh msg x → Means mesh msg m
+means_as mesh msg x m is = subst (Means mesh msg) is
 
-pub says : (mesh : Nodes) (bytes : List ℕ) (msg m : wire.Message) (o : Option Addr) → Spells bytes msg → o ≡ stranger mesh msg → o ≡ None → msg ≡ m → IsMessageInMesh (length mesh) (in_mesh mesh m)
-says mesh bytes msg m o s o_is none is =
-    subst (λ (x : Message). IsMessageInMesh (length mesh) x) (means mesh bytes msg s ∙ ap (in_mesh mesh) is)
-    (spelled_in mesh bytes s.allowed (ap (stranger mesh) s.stands ∙ sym o_is ∙ none))
+-- what the message of the bytes means is in the mesh
+pub says : (mesh : Nodes) (bytes : List ℕ) (msg : wire.Message) (m : Message) → Spells bytes msg → stranger mesh msg ≡ None → in_mesh mesh msg ≡ m → IsMessageInMesh (length mesh) m
+says mesh bytes msg m s known is =
+    subst (λ (x : Message). IsMessageInMesh (length mesh) x) (means mesh bytes msg s ∙ is)
+    (spelled_in mesh bytes s.allowed (ap (stranger mesh) s.stands ∙ known))
 
 at_message : (mesh : Nodes) (c : Core) (range : NodeIds) (from : ℕ) (bytes : List ℕ) (m : Message) (k : Kind) (r : Result code.Effect TurnError) (new : Core) (out : List ℕ)
     → IsReadable mesh bytes → m ≡ meaning mesh bytes → k ≡ kind_of m → Tries mesh c range (Heard from m) r new out → IsHeard mesh c range from bytes (kinded k r) new out
@@ -47,12 +50,11 @@ at_message mesh c range from bytes m k (Err (errors.Full f)) new out ok is kind 
     (ok, subst (λ (m : Message). IsFull (turn_full c range (Heard from m)) c f new) is did)
 at_message mesh c range from bytes m k (Err errors.NoMemory) new out ok is kind did = (ok, ap (λ (m : Message). needs_memory c (Heard from m)) (sym is) ∙ did.0, did.1)
 
-pub strange : (mesh : Nodes) (bytes : List ℕ) (m : wire.Message) (o : Option Addr) (who : Addr) → Spells bytes m → o ≡ stranger mesh m → o ≡ Some who → stranger mesh (message_in_fields bytes) ≡ Some who
-strange mesh bytes m o who s is some = ap (stranger mesh) s.stands ∙ sym is ∙ some
+pub strange : (mesh : Nodes) (bytes : List ℕ) (m : wire.Message) (who : Addr) → Spells bytes m → stranger mesh m ≡ Some who → stranger mesh (message_in_fields bytes) ≡ Some who
+strange mesh bytes m who s is = ap (stranger mesh) s.stands ∙ is
 
-pub heard_as : (mesh : Nodes) (c : Core) (range : NodeIds) (from : ℕ) (bytes : List ℕ) (msg m : wire.Message) (o : Option Addr) (k : Kind) (r : Result code.Effect TurnError) (r' : Result (Kind × code.Effect) TurnError) (new : Core) (out : List ℕ)
-    → Spells bytes msg → o ≡ stranger mesh msg → o ≡ None → msg ≡ m → k ≡ kind_of (in_mesh mesh m) → Tries mesh c range (Heard from (in_mesh mesh m)) r new out → r' ≡ kinded k r → IsHeard mesh c range from bytes r' new out
-heard_as mesh c range from bytes msg m o k r r' new out s o_is none is kind did r_is =
+pub heard_as : (mesh : Nodes) (c : Core) (range : NodeIds) (from : ℕ) (bytes : List ℕ) (msg : wire.Message) (m : Message) (k : Kind) (r : Result code.Effect TurnError) (r' : Result (Kind × code.Effect) TurnError) (new : Core) (out : List ℕ)
+    → Spells bytes msg → stranger mesh msg ≡ None → in_mesh mesh msg ≡ m → k ≡ kind_of m → Tries mesh c range (Heard from m) r new out → r' ≡ kinded k r → IsHeard mesh c range from bytes r' new out
+heard_as mesh c range from bytes msg m k r r' new out s known is kind did r_is =
     subst (λ (x : Result (Kind × code.Effect) TurnError). IsHeard mesh c range from bytes x new out) (sym r_is)
-    (at_message mesh c range from bytes (in_mesh mesh m) k r new out (readable mesh bytes m (subst (λ (x : wire.Message). Spells bytes x) is s) (known_as mesh msg m o o_is none is))
-    (sym (means mesh bytes m (subst (λ (x : wire.Message). Spells bytes x) is s))) kind did)
+    (at_message mesh c range from bytes m k r new out (readable mesh bytes msg s known) (sym (means mesh bytes msg s ∙ is)) kind did)

@@ -48,7 +48,8 @@ IsHeard mesh c range from bytes (Err errors.Idle) new out = ⊥
 IsHeard mesh c range from bytes (Err (errors.Unreadable f why)) new out =
     (f ≡ from) × (refusal bytes ≡ Some why) × (new ≡ c)
 IsHeard mesh c range from bytes (Err (errors.Stranger f who)) new out =
-    (f ≡ from) × (refusal bytes ≡ None) × (stranger mesh (message_in_fields bytes) ≡ Some who) × (new ≡ c)
+    (f ≡ from) × (refusal bytes ≡ None) × (stranger mesh (message_in_fields bytes) ≡ Some who)
+    × (new ≡ c)
 IsHeard mesh c range from bytes (Err (errors.Full field)) new out =
     IsReadable mesh bytes
     × IsFull (turn_full c range (Heard from (meaning mesh bytes))) c field new

@@ -6,6 +6,8 @@ pub mod Seen
 pub mod Turned
 -- Discovered: the same of the send of a stored datum, and of a request of the node's own.
 pub mod Discovered
+-- Meanings: what a message of a packet means. Only the crate's own functions cite it.
+pub mod Meanings
 -- Heard: what a turn on the bytes of a packet answers. Only the crate's own functions cite it.
 pub mod Heard
 -- Restored: what is answered where a node is made of parts that were kept.

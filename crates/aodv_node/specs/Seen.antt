@@ -66,7 +66,8 @@ item_back (Heard from bytes) = refl
 abbrev pub item_code : Coded Item
 item_code =
     code_by ((ℕ × List ℕ) ⊎ (ℕ × List ℕ))
-    (coded⊎ (coded× coded_ℕ (coded_list coded_ℕ)) (coded× coded_ℕ (coded_list coded_ℕ))) item_parts item_of item_back
+    (coded⊎ (coded× coded_ℕ (coded_list coded_ℕ)) (coded× coded_ℕ (coded_list coded_ℕ))) item_parts
+    item_of item_back
 
 -- of what is seen of a node
 abbrev pub node_code : Coded NodeSeen

@@ -53,7 +53,8 @@ taken_of front (FromNeighbour from m) = takes.Heard from (kind_of m) (packet_of 
 -- ---- turns
 
 -- the front item was taken, and the node did what the model does with it
-pub record IsTaken (mesh : Nodes) (range : NodeIds) (old : NodeSeen) (d : done.TurnDone) (new : NodeSeen) (out : List ℕ) : Type 0 where
+pub record IsTaken (mesh : Nodes) (range : NodeIds) (old : NodeSeen) (d : done.TurnDone)
+    (new : NodeSeen) (out : List ℕ) : Type 0 where
   pub front : items.Item
   pub was : old.items ≡ front ∷ new.items
   pub readable : IsReadableItem mesh front
@@ -71,7 +72,8 @@ pub record IsDropped (old : NodeSeen) (from : ℕ) (bytes : List ℕ) (new : Nod
   pub size : new.size ≡ old.size
 
 -- the turn on the front item would overfill this field
-pub record IsFullAt (mesh : Nodes) (range : NodeIds) (old : NodeSeen) (field : Counter) : Type 0 where
+pub record IsFullAt (mesh : Nodes) (range : NodeIds) (old : NodeSeen) (field : Counter)
+    : Type 0 where
   pub front : items.Item
   pub rest : List items.Item
   pub was : old.items ≡ front ∷ rest

@@ -1,54 +1,20 @@
 //! A turn on the bytes of a packet that was heard.
 ghost use Rattle.std.specs.Prelude.{◌≡◌, ◌≢◌, ◌<◌, ℕ, length, None};
-ghost use Rattle.aodv_model.specs.Cores.{Heard};
+ghost use Rattle.aodv_model.specs.Cores.{Heard, Rreq as a_request, Rrep as a_reply, Rerr as an_error};
 ghost use Rattle.aodv_model.specs.Soundness.{IsMessageInMesh};
 ghost use Rattle.aodv_wire.specs.declared.message.Message.TheVariants as messages;
-ghost use Rattle.aodv_meaning.specs.Meaning.{stranger, strange_pair, unless_in, in_mesh};
-ghost use Rattle.aodv_handlers.specs.Shown.{core_of, IsReady};
+ghost use Rattle.aodv_meaning.specs.Meaning.{dests_in, stranger};
+ghost use Rattle.aodv_handlers.specs.Shown.{core_of, IsReady, parcel_of, reply_of, request_of};
 ghost use Rattle.aodv_node.specs.Heard.{IsHeard, TakesIfRoom, kinded};
 ghost use Rattle.aodv_node.specs.Turned.{HasAllRooms};
 
 use crate::answers::TurnError;
+use crate::meaning::{Meaning, meaning_of};
 use crate::rooms::{make_request, make_row};
-use aodv_handlers::{Core, on_data, on_rerr, on_rrep, on_rreq};
+use aodv_handlers::{Core, Datum, Reply, Request, on_rerr, take_datum, take_reply, take_request};
 use aodv_table::Table;
-use aodv_wire::{DataView, Message, RerrView, Rrep, Rreq, read};
-use mesh_base::{Addr, Effect, Kind, Mesh, NodeSet, Packet};
-
-// The address where it is outside the mesh, else the rest.
-fn unless_known(mesh: &Mesh, a: Addr, rest: Option<Addr>) -> Option<Addr>
-    ensures { result ≡ unless_in mesh.now a rest }
-{
-    match mesh.index_of(a) {
-        Some(_) => rest,
-        None => Some(a),
-    }
-}
-
-#[tactic(auto, using(crate::proofs::Strangers::hit, crate::proofs::Strangers::miss, crate::proofs::Strangers::ended))]
-fn find_strange_pair(mesh: &Mesh, m: &RerrView<'_>) -> Option<Addr>
-    ensures { result ≡ strange_pair mesh.now m.now }
-{
-    for k in 0..m.len() {
-        let (a, _) = m.pair(k);
-        if !mesh.index_of(a).is_some() {
-            return Some(a);
-        }
-    }
-    None
-}
-
-// The first address outside the mesh that a message names.
-fn find_stranger(mesh: &Mesh, m: &Message<'_>) -> Option<Addr>
-    ensures { result ≡ stranger mesh.now m.now }
-{
-    match m {
-        Message::Rreq(m) => unless_known(mesh, m.dip, unless_known(mesh, m.oip, None)),
-        Message::Rrep(m) => unless_known(mesh, m.dip, unless_known(mesh, m.oip, None)),
-        Message::Rerr(m) => find_strange_pair(mesh, m),
-        Message::Parcel(m) => unless_known(mesh, m.dip(), unless_known(mesh, m.oip(), None)),
-    }
-}
+use aodv_wire::{RerrView, read};
+use mesh_base::{Effect, Kind, Mesh, NodeSet, Packet};
 
 /// A turn on bytes from a node.
 pub(crate) fn hear<T: Table>(
@@ -69,22 +35,20 @@ pub(crate) fn hear<T: Table>(
 {
     match read(bytes) {
         Err(why) => Err(TurnError::Unreadable { from, why }),
-        Ok(message) => match find_stranger(mesh, &message) {
-            Some(who) => Err(TurnError::Stranger { from, who }),
-            None => match message {
-                Message::Rreq(m) => {
-                    with_kind(Kind::Rreq, hear_rreq(core, mesh, range, from, &m, out))
-                }
-                Message::Rrep(m) => {
-                    with_kind(Kind::Rrep, hear_rrep(core, mesh, range, from, &m, out))
-                }
-                Message::Rerr(m) => {
-                    with_kind(Kind::Rerr, hear_rerr(core, mesh, range, from, &m, out))
-                }
-                Message::Parcel(m) => {
-                    with_kind(Kind::Data, hear_data(core, mesh, range, from, &m, out))
-                }
-            },
+        Ok(message) => match meaning_of(mesh, message) {
+            Err(who) => Err(TurnError::Stranger { from, who }),
+            Ok(Meaning::Request(m)) => {
+                with_kind(Kind::Rreq, hear_request(core, mesh, range, from, &m, out))
+            }
+            Ok(Meaning::Reply(m)) => {
+                with_kind(Kind::Rrep, hear_reply(core, mesh, range, from, &m, out))
+            }
+            Ok(Meaning::Error(m)) => {
+                with_kind(Kind::Rerr, hear_error(core, mesh, range, from, &m, out))
+            }
+            Ok(Meaning::Datum(m)) => {
+                with_kind(Kind::Data, hear_datum(core, mesh, range, from, &m, out))
+            }
         },
     }
 }
@@ -98,61 +62,57 @@ fn with_kind(kind: Kind, done: Result<Effect, TurnError>) -> Result<(Kind, Effec
     }
 }
 
-fn hear_rreq<T: Table>(
+fn hear_request<T: Table>(
     core: &mut Core<T>,
     mesh: &Mesh,
     range: &NodeSet,
     from: usize,
-    m: &Rreq,
+    m: &Request,
     out: &mut Packet,
 ) -> Result<Effect, TurnError>
     requires ready { IsReady T.nodes T.entries (length mesh.now) core.old }
-    requires known { stranger mesh.now (messages.Rreq m.now) ≡ None }
-    requires says { IsMessageInMesh (length mesh.now) (in_mesh mesh.now (messages.Rreq m.now)) }
+    requires says { IsMessageInMesh (length mesh.now) (a_request (request_of m.now)) }
     requires from { from < length mesh.now }
     requires other { from ≢ core.old.me }
-    ensures does { let message = Heard from (in_mesh mesh.now (messages.Rreq m.now)) in
+    ensures does { let message = Heard from (a_request (request_of m.now)) in
         TakesIfRoom T.entries mesh.now range.now message core.old result core.new out.new.items }
     ensures ready { IsReady T.nodes T.entries (length mesh.now) core.new }
 {
-    let oip = mesh.index_in(m.oip);
     make_row(core, from)?;
-    make_row(core, oip)?;
-    make_request(core, oip)?;
-    match on_rreq(core, mesh, range, from, m, out) {
+    make_row(core, m.oip)?;
+    make_request(core, m.oip)?;
+    match take_request(core, mesh, range, from, m, out) {
         Ok(effect) => Ok(effect),
         Err(full) => Err(TurnError::Full(full)),
     }
 }
 
-fn hear_rrep<T: Table>(
+fn hear_reply<T: Table>(
     core: &mut Core<T>,
     mesh: &Mesh,
     range: &NodeSet,
     from: usize,
-    m: &Rrep,
+    m: &Reply,
     out: &mut Packet,
 ) -> Result<Effect, TurnError>
     requires ready { IsReady T.nodes T.entries (length mesh.now) core.old }
-    requires known { stranger mesh.now (messages.Rrep m.now) ≡ None }
-    requires says { IsMessageInMesh (length mesh.now) (in_mesh mesh.now (messages.Rrep m.now)) }
+    requires says { IsMessageInMesh (length mesh.now) (a_reply (reply_of m.now)) }
     requires from { from < length mesh.now }
     requires other { from ≢ core.old.me }
     requires rows { HasAllRooms T.nodes T.rooms core.old.table }
-    ensures does { let message = Heard from (in_mesh mesh.now (messages.Rrep m.now)) in
+    ensures does { let message = Heard from (a_reply (reply_of m.now)) in
         TakesIfRoom T.entries mesh.now range.now message core.old result core.new out.new.items }
     ensures ready { IsReady T.nodes T.entries (length mesh.now) core.new }
 {
-    let dip = mesh.index_in(m.dip);
     make_row(core, from)?;
-    make_row(core, dip)?;
-    match on_rrep(core, mesh, range, from, m, out) {
+    make_row(core, m.dip)?;
+    match take_reply(core, mesh, range, from, m, out) {
         Ok(effect) => Ok(effect),
         Err(full) => Err(TurnError::Full(full)),
     }
 }
 
-fn hear_rerr<T: Table>(
+fn hear_error<T: Table>(
     core: &mut Core<T>,
     mesh: &Mesh,
     range: &NodeSet,
@@ -165,7 +125,7 @@ fn hear_rerr<T: Table>(
     requires from { from < length mesh.now }
     requires other { from ≢ core.old.me }
     requires rows { HasAllRooms T.nodes T.rooms core.old.table }
-    ensures does { let message = Heard from (in_mesh mesh.now (messages.Rerr m.now)) in
+    ensures does { let message = Heard from (an_error (dests_in mesh.now m.now)) in
         TakesIfRoom T.entries mesh.now range.now message core.old result core.new out.new.items }
     ensures ready { IsReady T.nodes T.entries (length mesh.now) core.new }
 {
@@ -173,22 +133,21 @@ fn hear_rerr<T: Table>(
     Ok(on_rerr(core, mesh, from, m, out))
 }
 
-fn hear_data<T: Table>(
+fn hear_datum<T: Table>(
     core: &mut Core<T>,
     mesh: &Mesh,
     range: &NodeSet,
     from: usize,
-    m: &DataView<'_>,
+    m: &Datum<'_>,
     out: &mut Packet,
 ) -> Result<Effect, TurnError>
     requires ready { IsReady T.nodes T.entries (length mesh.now) core.old }
-    requires known { stranger mesh.now (messages.Parcel m.now) ≡ None }
-    requires says { IsMessageInMesh (length mesh.now) (in_mesh mesh.now (messages.Parcel m.now)) }
-    ensures does { let message = Heard from (in_mesh mesh.now (messages.Parcel m.now)) in
+    requires says { IsMessageInMesh (length mesh.now) (parcel_of m.now) }
+    ensures does { let message = Heard from (parcel_of m.now) in
         TakesIfRoom T.entries mesh.now range.now message core.old result core.new out.new.items }
     ensures ready { IsReady T.nodes T.entries (length mesh.now) core.new }
 {
-    match on_data(core, mesh, range, m, out) {
+    match take_datum(core, mesh, range, m, out) {
         Ok(effect) => Ok(effect),
         Err(full) => Err(TurnError::Full(full)),
     }

@@ -6,6 +6,7 @@
 mod answers;
 mod discovery;
 mod heard;
+mod meaning;
 mod node;
 mod rooms;
 mod sound;

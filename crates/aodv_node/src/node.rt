@@ -157,8 +157,8 @@ impl Node {
 
     /// Takes the front item of the inbox and does what AODV does with it; `range` has the nodes
     /// that are in range. The packet that is cast is left in `out`. A refusal is the first that
-    /// applies of Idle, Unreadable, Stranger and Full. Memory can be short only where the item needs
-    /// some: a datum for another node, or a route request.
+    /// applies of Idle, Unreadable, Stranger and Full. Memory can be short only where the item
+    /// needs some: a datum for another node, or a route request.
     pub fn turn(
         &mut self,
         mesh: &Mesh,
@@ -195,8 +195,8 @@ impl Node {
     }
 
     /// Asks all neighbours for a route to `dest`, if data wait for it, there is no valid route, and
-    /// none was asked for. A refusal is the first that applies of Idle, Full and NoMemory. Memory can
-    /// be short only where the request's id doesn't follow one that was seen.
+    /// none was asked for. A refusal is the first that applies of Idle, Full and NoMemory. Memory
+    /// can be short only where the request's id doesn't follow one that was seen.
     pub fn ask(&mut self, mesh: &Mesh, dest: usize, out: &mut Packet) -> Result<Effect, AskError>
         requires mesh { length mesh.now ≡ self.old.size }
         requires dest { dest < self.old.size }

@@ -15,24 +15,24 @@ use Rattle.aodv_handlers.proofs.rreq.reply_from_table.Goals as goal
 
 pub join_precursor-requires-2-clause-node : goal.join_precursor-requires-2-clause-node
 join_precursor-requires-2-clause-node g c =
-    let placed = c.requires.ready.sound.table.places c.args.m.dip c.args.route c.requires.route in
+    let placed = c.requires.ready.sound.table.places c.args.m.now.dip c.args.route c.requires.route in
     omega (arith, placed.near, c.len-few.ensures.is_mesh.few)
 
 pub send_reply-requires-clause-ready : goal.send_reply-requires-clause-ready
 send_reply-requires-clause-ready g c =
     let core = c.args.core.now in
     let rt = g.T.Table.entries core.table in
-    let is = joined_answer rt (g.T.Table.entries c.join_precursor.new.table) (g.T.Table.entries c.join_precursor-2.new.table) c.args.m.dip c.args.m.oip c.args.from c.args.route c.requires.route c.join_precursor.ensures.entries c.join_precursor-2.ensures.entries in
+    let is = joined_answer rt (g.T.Table.entries c.join_precursor.new.table) (g.T.Table.entries c.join_precursor-2.new.table) c.args.m.now.dip c.args.m.now.oip c.args.from c.args.route c.requires.route c.join_precursor.ensures.entries c.join_precursor-2.ensures.entries in
     ready_table g.T.Table.nodes g.T.Table.entries (length c.args.mesh.now) core _ c.requires.ready (c.join_precursor-2.ensures.nodes ∙ c.join_precursor.ensures.nodes) refl refl refl c.requires.ready.sound.own
-    (subst (IsSoundTable (length c.args.mesh.now) core.me) (sym is) (join_answer_table (length c.args.mesh.now) core.me rt c.args.m.dip c.args.m.oip c.args.from c.requires.from c.requires.ready.sound.table))
+    (subst (IsSoundTable (length c.args.mesh.now) core.me) (sym is) (join_answer_table (length c.args.mesh.now) core.me rt c.args.m.now.dip c.args.m.now.oip c.args.from c.requires.from c.requires.ready.sound.table))
 
 pub returns-in-Ok-clause-does : goal.returns-in-Ok-clause-does
 returns-in-Ok-clause-does g c =
     let core = core_of g.T.Table.entries c.args.core.now in
     let rt2 = g.T.Table.entries c.join_precursor-2.new.table in
-    let is = joined_answer core.rt (g.T.Table.entries c.join_precursor.new.table) rt2 c.args.m.dip c.args.m.oip c.args.from c.args.route c.requires.route c.join_precursor.ensures.entries c.join_precursor-2.ensures.entries in
-    made_at c.args.mesh.now _ (reply_from_table core c.args.range.now c.args.from (request_of c.args.m)) c.in-Ok.effect (core_of g.T.Table.entries c.send_reply.new.core) c.send_reply.new.out.items
-    (answer_is core c.args.range.now c.args.from (request_of c.args.m) c.args.route rt2 c.next_hop-towards.result c.requires.route is c.next_hop-towards.ensures) c.in-Ok.ensures.does
+    let is = joined_answer core.rt (g.T.Table.entries c.join_precursor.new.table) rt2 c.args.m.now.dip c.args.m.now.oip c.args.from c.args.route c.requires.route c.join_precursor.ensures.entries c.join_precursor-2.ensures.entries in
+    made_at c.args.mesh.now _ (reply_from_table core c.args.range.now c.args.from (request_of c.args.m.now)) c.in-Ok.effect (core_of g.T.Table.entries c.send_reply.new.core) c.send_reply.new.out.items
+    (answer_is core c.args.range.now c.args.from (request_of c.args.m.now) c.args.route rt2 c.next_hop-towards.result c.requires.route is c.next_hop-towards.ensures) c.in-Ok.ensures.does
 
 back : (rt rt1 rt2 rt3 rt4 new : Table) (d o from : ℕ) (route : Entry) (kept : Option Entry) → maps.get rt d ≡ Some route → rt1 ≡ add_pre rt d (one from) → rt2 ≡ add_pre rt1 o (one route.next) → kept ≡ maps.get rt o → new ≡ rt2 → rt3 ≡ with_entry new o kept → rt4 ≡ with_entry rt3 d (Some route) → rt4 ≡ rt
 back rt rt1 rt2 rt3 rt4 new d o from route kept route_is one_is two_is kept_is new_is three_is four_is =
@@ -44,16 +44,16 @@ returns-in-Err-clause-does g c =
     let core = core_of g.T.Table.entries c.args.core.now in
     let rt1 = g.T.Table.entries c.join_precursor.new.table in
     let rt2 = g.T.Table.entries c.join_precursor-2.new.table in
-    let is = joined_answer core.rt rt1 rt2 c.args.m.dip c.args.m.oip c.args.from c.args.route c.requires.route c.join_precursor.ensures.entries c.join_precursor-2.ensures.entries in
-    let rows = back core.rt rt1 rt2 (g.T.Table.entries c.put.new.self) (g.T.Table.entries c.put-in-Err.new.self) (g.T.Table.entries c.send_reply.new.core.table) c.args.m.dip c.args.m.oip c.args.from c.args.route c.get-kept_oip.result
+    let is = joined_answer core.rt rt1 rt2 c.args.m.now.dip c.args.m.now.oip c.args.from c.args.route c.requires.route c.join_precursor.ensures.entries c.join_precursor-2.ensures.entries in
+    let rows = back core.rt rt1 rt2 (g.T.Table.entries c.put.new.self) (g.T.Table.entries c.put-in-Err.new.self) (g.T.Table.entries c.send_reply.new.core.table) c.args.m.now.dip c.args.m.now.oip c.args.from c.args.route c.get-kept_oip.result
     c.requires.route c.join_precursor.ensures.entries c.join_precursor-2.ensures.entries c.get-kept_oip.ensures.value (ap (λ (c : Core). c.rt) c.in-Err.ensures.does.same) c.put.ensures.entries c.put-in-Err.ensures.entries in
-    refused_at _ (reply_from_table core c.args.range.now c.args.from (request_of c.args.m)) _ core c.in-Err.full (core_of g.T.Table.entries c.send_reply.new.core) _
-    (answer_is core c.args.range.now c.args.from (request_of c.args.m) c.args.route rt2 c.next_hop-towards.result c.requires.route is c.next_hop-towards.ensures)
+    refused_at _ (reply_from_table core c.args.range.now c.args.from (request_of c.args.m.now)) _ core c.in-Err.full (core_of g.T.Table.entries c.send_reply.new.core) _
+    (answer_is core c.args.range.now c.args.from (request_of c.args.m.now) c.args.route rt2 c.next_hop-towards.result c.requires.route is c.next_hop-towards.ensures)
     (λ i. record (c.in-Err.ensures.does.same i) { rt = rows i }) c.in-Err.ensures.does
 
 pub returns-in-Err-clause-ready : goal.returns-in-Err-clause-ready
 returns-in-Err-clause-ready g c =
     let core = core_of g.T.Table.entries c.args.core.now in
-    let rows = back core.rt (g.T.Table.entries c.join_precursor.new.table) (g.T.Table.entries c.join_precursor-2.new.table) (g.T.Table.entries c.put.new.self) (g.T.Table.entries c.put-in-Err.new.self) (g.T.Table.entries c.send_reply.new.core.table) c.args.m.dip c.args.m.oip c.args.from c.args.route c.get-kept_oip.result
+    let rows = back core.rt (g.T.Table.entries c.join_precursor.new.table) (g.T.Table.entries c.join_precursor-2.new.table) (g.T.Table.entries c.put.new.self) (g.T.Table.entries c.put-in-Err.new.self) (g.T.Table.entries c.send_reply.new.core.table) c.args.m.now.dip c.args.m.now.oip c.args.from c.args.route c.get-kept_oip.result
     c.requires.route c.join_precursor.ensures.entries c.join_precursor-2.ensures.entries c.get-kept_oip.ensures.value (ap (λ (c : Core). c.rt) c.in-Err.ensures.does.same) c.put.ensures.entries c.put-in-Err.ensures.entries in
     ready_back g.T.Table.nodes g.T.Table.entries (length c.args.mesh.now) c.args.core.now c.send_reply.new.core _ c.requires.ready c.in-Err.ensures.ready (c.put-in-Err.ensures.nodes ∙ c.put.ensures.nodes) refl refl (λ i. record (c.in-Err.ensures.does.same i) { rt = rows i })

@@ -1,38 +1,53 @@
-use Rattle.std.proofs.Common.{refl}
+use Rattle.std.proofs.Common.{refl, ap, sym, ◌∙◌}
 use Rattle.mesh_base.specs.declared.events.Kind.TheVariants as kinds
+use Rattle.aodv_model.specs.Cores.{Rreq, Rrep, Rerr}
 use Rattle.aodv_wire.specs.declared.message.Message.TheVariants as messages
-use Rattle.aodv_handlers.specs.Shown.{core_of}
-use Rattle.aodv_node.proofs.Readings.{heard_as, says}
+use Rattle.aodv_meaning.specs.Meaning.{dests_in, in_mesh, stranger}
+use Rattle.aodv_handlers.specs.Shown.{core_of, request_of, reply_of, parcel_of}
+use Rattle.aodv_node.specs.declared.meaning.Meaning.TheVariants as meanings
+use Rattle.aodv_node.proofs.Readings.{heard_as, means_as, says}
 use Rattle.aodv_node.proofs.heard.hear.Goals as goal
 
-pub hear_rreq-requires-clause-says : goal.hear_rreq-requires-clause-says
-hear_rreq-requires-clause-says g c =
-    says c.args.mesh.now c.args.bytes.now c.in-Ok.message (messages.Rreq c.in-Rreq.m) c.find_stranger.result c.in-Ok.ensures.exact c.find_stranger.ensures c.in-None.is c.in-Rreq.is
+pub hear_request-requires-clause-says : goal.hear_request-requires-clause-says
+hear_request-requires-clause-says g c =
+    says c.args.mesh.now c.args.bytes.now c.in-Ok.message (Rreq (request_of c.in-Ok-Request.m)) c.in-Ok.ensures.exact c.in-Ok-Request.ensures.known
+    (means_as c.args.mesh.now c.in-Ok.message c.in-Ok-Request.field-0 (meanings.Request c.in-Ok-Request.m) c.in-Ok-Request.field-0-is c.in-Ok-Request.ensures.means)
 
-pub hear_rrep-requires-clause-says : goal.hear_rrep-requires-clause-says
-hear_rrep-requires-clause-says g c =
-    says c.args.mesh.now c.args.bytes.now c.in-Ok.message (messages.Rrep c.in-Rrep.m) c.find_stranger.result c.in-Ok.ensures.exact c.find_stranger.ensures c.in-None.is c.in-Rrep.is
+pub hear_reply-requires-clause-says : goal.hear_reply-requires-clause-says
+hear_reply-requires-clause-says g c =
+    says c.args.mesh.now c.args.bytes.now c.in-Ok.message (Rrep (reply_of c.in-Ok-Reply.m)) c.in-Ok.ensures.exact c.in-Ok-Reply.ensures.known
+    (means_as c.args.mesh.now c.in-Ok.message c.in-Ok-Reply.field-0 (meanings.Reply c.in-Ok-Reply.m) c.in-Ok-Reply.field-0-is c.in-Ok-Reply.ensures.means)
 
-pub hear_data-requires-clause-says : goal.hear_data-requires-clause-says
-hear_data-requires-clause-says g c =
-    says c.args.mesh.now c.args.bytes.now c.in-Ok.message (messages.Parcel c.in-Parcel.m) c.find_stranger.result c.in-Ok.ensures.exact c.find_stranger.ensures c.in-None.is c.in-Parcel.is
+pub hear_datum-requires-clause-says : goal.hear_datum-requires-clause-says
+hear_datum-requires-clause-says g c =
+    says c.args.mesh.now c.args.bytes.now c.in-Ok.message (parcel_of c.in-Ok-Datum.m) c.in-Ok.ensures.exact c.in-Ok-Datum.ensures.known
+    (means_as c.args.mesh.now c.in-Ok.message c.in-Ok-Datum.field-0 (meanings.Datum c.in-Ok-Datum.m) c.in-Ok-Datum.field-0-is c.in-Ok-Datum.ensures.means)
 
-pub returns-in-Rreq-clause-does : goal.returns-in-Rreq-clause-does
-returns-in-Rreq-clause-does g c =
-    heard_as c.args.mesh.now (core_of g.T.Table.entries c.args.core.now) c.args.range.now c.args.from c.args.bytes.now c.in-Ok.message (messages.Rreq c.in-Rreq.m) c.find_stranger.result kinds.Rreq c.hear_rreq.result c.with_kind.result (core_of g.T.Table.entries c.hear_rreq.new.core) c.hear_rreq.new.out.items
-    c.in-Ok.ensures.exact c.find_stranger.ensures c.in-None.is c.in-Rreq.is refl c.hear_rreq.ensures.does c.with_kind.ensures
+pub hear_error-requires-clause-known : goal.hear_error-requires-clause-known
+hear_error-requires-clause-known g c =
+    let is = means_as c.args.mesh.now c.in-Ok.message c.in-Ok-Error.field-0 (meanings.Error c.in-Ok-Error.m) c.in-Ok-Error.field-0-is c.in-Ok-Error.ensures.means in
+    ap (stranger c.args.mesh.now) (sym is) ∙ c.in-Ok-Error.ensures.known
 
-pub returns-in-Rrep-clause-does : goal.returns-in-Rrep-clause-does
-returns-in-Rrep-clause-does g c =
-    heard_as c.args.mesh.now (core_of g.T.Table.entries c.args.core.now) c.args.range.now c.args.from c.args.bytes.now c.in-Ok.message (messages.Rrep c.in-Rrep.m) c.find_stranger.result kinds.Rrep c.hear_rrep.result c.with_kind-in-Rrep.result (core_of g.T.Table.entries c.hear_rrep.new.core) c.hear_rrep.new.out.items
-    c.in-Ok.ensures.exact c.find_stranger.ensures c.in-None.is c.in-Rrep.is refl c.hear_rrep.ensures.does c.with_kind-in-Rrep.ensures
+pub returns-in-Ok-Request-clause-does : goal.returns-in-Ok-Request-clause-does
+returns-in-Ok-Request-clause-does g c =
+    heard_as c.args.mesh.now (core_of g.T.Table.entries c.args.core.now) c.args.range.now c.args.from c.args.bytes.now c.in-Ok.message (Rreq (request_of c.in-Ok-Request.m)) kinds.Rreq c.hear_request.result c.with_kind.result (core_of g.T.Table.entries c.hear_request.new.core) c.hear_request.new.out.items
+    c.in-Ok.ensures.exact c.in-Ok-Request.ensures.known (means_as c.args.mesh.now c.in-Ok.message c.in-Ok-Request.field-0 (meanings.Request c.in-Ok-Request.m) c.in-Ok-Request.field-0-is c.in-Ok-Request.ensures.means)
+    refl c.hear_request.ensures.does c.with_kind.ensures
 
-pub returns-in-Rerr-clause-does : goal.returns-in-Rerr-clause-does
-returns-in-Rerr-clause-does g c =
-    heard_as c.args.mesh.now (core_of g.T.Table.entries c.args.core.now) c.args.range.now c.args.from c.args.bytes.now c.in-Ok.message (messages.Rerr c.in-Rerr.m) c.find_stranger.result kinds.Rerr c.hear_rerr.result c.with_kind-in-Rerr.result (core_of g.T.Table.entries c.hear_rerr.new.core) c.hear_rerr.new.out.items
-    c.in-Ok.ensures.exact c.find_stranger.ensures c.in-None.is c.in-Rerr.is refl c.hear_rerr.ensures.does c.with_kind-in-Rerr.ensures
+pub returns-in-Ok-Reply-clause-does : goal.returns-in-Ok-Reply-clause-does
+returns-in-Ok-Reply-clause-does g c =
+    heard_as c.args.mesh.now (core_of g.T.Table.entries c.args.core.now) c.args.range.now c.args.from c.args.bytes.now c.in-Ok.message (Rrep (reply_of c.in-Ok-Reply.m)) kinds.Rrep c.hear_reply.result c.with_kind-in-Ok-Reply.result (core_of g.T.Table.entries c.hear_reply.new.core) c.hear_reply.new.out.items
+    c.in-Ok.ensures.exact c.in-Ok-Reply.ensures.known (means_as c.args.mesh.now c.in-Ok.message c.in-Ok-Reply.field-0 (meanings.Reply c.in-Ok-Reply.m) c.in-Ok-Reply.field-0-is c.in-Ok-Reply.ensures.means)
+    refl c.hear_reply.ensures.does c.with_kind-in-Ok-Reply.ensures
 
-pub returns-in-Parcel-clause-does : goal.returns-in-Parcel-clause-does
-returns-in-Parcel-clause-does g c =
-    heard_as c.args.mesh.now (core_of g.T.Table.entries c.args.core.now) c.args.range.now c.args.from c.args.bytes.now c.in-Ok.message (messages.Parcel c.in-Parcel.m) c.find_stranger.result kinds.Data c.hear_data.result c.with_kind-in-Parcel.result (core_of g.T.Table.entries c.hear_data.new.core) c.hear_data.new.out.items
-    c.in-Ok.ensures.exact c.find_stranger.ensures c.in-None.is c.in-Parcel.is refl c.hear_data.ensures.does c.with_kind-in-Parcel.ensures
+pub returns-in-Ok-Datum-clause-does : goal.returns-in-Ok-Datum-clause-does
+returns-in-Ok-Datum-clause-does g c =
+    heard_as c.args.mesh.now (core_of g.T.Table.entries c.args.core.now) c.args.range.now c.args.from c.args.bytes.now c.in-Ok.message (parcel_of c.in-Ok-Datum.m) kinds.Data c.hear_datum.result c.with_kind-in-Ok-Datum.result (core_of g.T.Table.entries c.hear_datum.new.core) c.hear_datum.new.out.items
+    c.in-Ok.ensures.exact c.in-Ok-Datum.ensures.known (means_as c.args.mesh.now c.in-Ok.message c.in-Ok-Datum.field-0 (meanings.Datum c.in-Ok-Datum.m) c.in-Ok-Datum.field-0-is c.in-Ok-Datum.ensures.means)
+    refl c.hear_datum.ensures.does c.with_kind-in-Ok-Datum.ensures
+
+pub returns-in-Ok-Error-clause-does : goal.returns-in-Ok-Error-clause-does
+returns-in-Ok-Error-clause-does g c =
+    let is = means_as c.args.mesh.now c.in-Ok.message c.in-Ok-Error.field-0 (meanings.Error c.in-Ok-Error.m) c.in-Ok-Error.field-0-is c.in-Ok-Error.ensures.means in
+    heard_as c.args.mesh.now (core_of g.T.Table.entries c.args.core.now) c.args.range.now c.args.from c.args.bytes.now c.in-Ok.message (Rerr (dests_in c.args.mesh.now c.in-Ok-Error.m)) kinds.Rerr c.hear_error.result c.with_kind-in-Ok-Error.result (core_of g.T.Table.entries c.hear_error.new.core) c.hear_error.new.out.items
+    c.in-Ok.ensures.exact c.in-Ok-Error.ensures.known (ap (in_mesh c.args.mesh.now) is) refl c.hear_error.ensures.does c.with_kind-in-Ok-Error.ensures

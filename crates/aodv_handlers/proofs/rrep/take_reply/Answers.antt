@@ -3,20 +3,18 @@ use Rattle.std.proofs.lemmas.Bool.{ne_eqb}
 use Rattle.std.specs.FinMap as maps
 use Rattle.aodv_entry.specs.declared.entry.Entry.{Entry}
 use Rattle.aodv_model.specs.Tables.{Table, update, in_kD, sqn}
-use Rattle.aodv_model.specs.Cores.{Core, RouteReply, Rrep, Heard}
-use Rattle.aodv_model.specs.Handlers.{only, neighbour_entry, route_entry, turn}
-use Rattle.aodv_model.specs.Fullness.{turn_full}
+use Rattle.aodv_model.specs.Cores.{Core}
+use Rattle.aodv_model.specs.Handlers.{only, neighbour_entry, route_entry}
 use Rattle.aodv_model.proofs.PlacedTables.{update_has}
 use Rattle.aodv_model.proofs.Readings.{route_above}
 use Rattle.aodv_table.specs.Calls.{with_entry}
 use Rattle.aodv_handlers.specs.Shown.{core_of, reply_of}
 use Rattle.aodv_handlers.specs.Parts.{pass_on}
-use Rattle.aodv_handlers.specs.Made.{IsMade, IsFull}
 use Rattle.aodv_handlers.proofs.Ready.{ready_table, ready_back}
 use Rattle.aodv_handlers.proofs.Restored.{updates_back}
 use Rattle.aodv_handlers.proofs.Requests.{asked_table}
-use Rattle.aodv_handlers.proofs.Replies.{ends, ended_made, passed_made, passed_refused, chosen_none, chosen_some, same_reply}
-use Rattle.aodv_handlers.proofs.rrep.on_rrep.Goals as goal
+use Rattle.aodv_handlers.proofs.Replies.{ends, ended_made, passed_made, passed_refused, chosen_none, chosen_some}
+use Rattle.aodv_handlers.proofs.rrep.take_reply.Goals as goal
 
 both : (rt rt1 rt2 : Table) (a b : ℕ) (r s : Entry) → rt1 ≡ update rt a r → rt2 ≡ update rt1 b s → rt2 ≡ update (update rt a r) b s
 both rt rt1 rt2 a b r s one_is two_is = two_is ∙ ap (λ (t : Table). update t b s) one_is
@@ -27,14 +25,12 @@ returns-in_default-clause-does g c =
     let core = core_of g.T.Table.entries c.args.core.now in
     let rt1 = g.T.Table.entries c.update.new.self in
     let rt2 = g.T.Table.entries c.update-changed.new.self in
-    let m : RouteReply = record { hops = c.args.m.now.hops; dip = c.index_in-dip.result; dsn = c.args.m.now.dsn; oip = c.index_in-oip.result } in
+    let m = reply_of c.args.m.now in
     let end = ends core c.args.range.now c.args.from m rt1 rt2 c.update-changed.result (only (record core { rt = rt2 })) (ne_eqb m.hops 255 c.if-m.false)
     (c.update.ensures.entries ∙ ap (update core.rt c.args.from) c.neighbour_entry.ensures) (c.update-changed.ensures.entries ∙ ap (update rt1 m.dip) c.route_entry.ensures)
     c.update-changed.ensures.same
     (chosen_none (record core { rt = rt2 }) c.args.range.now _ c.reply_to_pass_on.result (c.reply_to_pass_on.ensures.does c.args.range.now) c.in_default.is) in
-    subst (λ (m : RouteReply). IsMade mesh (turn_full core c.args.range.now (Heard c.args.from (Rrep m))) (turn core c.args.range.now (Heard c.args.from (Rrep m))) c.casting.result (record core { rt = rt2 }) c.clear.new.self.items)
-    (same_reply mesh c.args.m.now c.index_in-dip.result c.index_in-oip.result c.index_in-dip.ensures.value c.index_in-oip.ensures.value)
-    (ended_made mesh core c.args.range.now c.args.from m rt2 c.casting.result c.clear.new.self.items end c.casting.ensures c.clear.ensures)
+    ended_made mesh core c.args.range.now c.args.from m rt2 c.casting.result c.clear.new.self.items end c.casting.ensures c.clear.ensures
 
 pub returns-in_default-clause-ready : goal.returns-in_default-clause-ready
 returns-in_default-clause-ready g c =
@@ -43,9 +39,9 @@ returns-in_default-clause-ready g c =
     let rt1 = g.T.Table.entries c.update.new.self in
     let m = c.args.m.now in
     ready_table g.T.Table.nodes g.T.Table.entries (length c.args.mesh.now) core _ c.requires.ready (c.update-changed.ensures.nodes ∙ c.update.ensures.nodes) refl refl refl c.requires.ready.sound.own
-    (asked_table (length c.args.mesh.now) core.me rt (g.T.Table.entries c.update-changed.new.self) c.args.from c.index_in-dip.result m.dsn m.hops c.requires.from c.requires.other c.index_in-dip.ensures.within c.requires.dsn c.requires.ready.sound.table
-    (both rt rt1 (g.T.Table.entries c.update-changed.new.self) c.args.from c.index_in-dip.result (neighbour_entry c.args.from) (route_entry m.dsn m.hops c.args.from)
-    (c.update.ensures.entries ∙ ap (update rt c.args.from) c.neighbour_entry.ensures) (c.update-changed.ensures.entries ∙ ap (update rt1 c.index_in-dip.result) c.route_entry.ensures)))
+    (asked_table (length c.args.mesh.now) core.me rt (g.T.Table.entries c.update-changed.new.self) c.args.from c.args.m.now.dip m.dsn m.hops c.requires.from c.requires.other c.requires.says.0 c.requires.says.2 c.requires.ready.sound.table
+    (both rt rt1 (g.T.Table.entries c.update-changed.new.self) c.args.from c.args.m.now.dip (neighbour_entry c.args.from) (route_entry m.dsn m.hops c.args.from)
+    (c.update.ensures.entries ∙ ap (update rt c.args.from) c.neighbour_entry.ensures) (c.update-changed.ensures.entries ∙ ap (update rt1 c.args.m.now.dip) c.route_entry.ensures)))
 
 pub pass_on-requires-clause-ready : goal.pass_on-requires-clause-ready
 pass_on-requires-clause-ready g c =
@@ -54,22 +50,22 @@ pass_on-requires-clause-ready g c =
     let rt1 = g.T.Table.entries c.update.new.self in
     let m = c.args.m.now in
     ready_table g.T.Table.nodes g.T.Table.entries (length c.args.mesh.now) core _ c.requires.ready (c.update-changed.ensures.nodes ∙ c.update.ensures.nodes) refl refl refl c.requires.ready.sound.own
-    (asked_table (length c.args.mesh.now) core.me rt (g.T.Table.entries c.update-changed.new.self) c.args.from c.index_in-dip.result m.dsn m.hops c.requires.from c.requires.other c.index_in-dip.ensures.within c.requires.dsn c.requires.ready.sound.table
-    (both rt rt1 (g.T.Table.entries c.update-changed.new.self) c.args.from c.index_in-dip.result (neighbour_entry c.args.from) (route_entry m.dsn m.hops c.args.from)
-    (c.update.ensures.entries ∙ ap (update rt c.args.from) c.neighbour_entry.ensures) (c.update-changed.ensures.entries ∙ ap (update rt1 c.index_in-dip.result) c.route_entry.ensures)))
+    (asked_table (length c.args.mesh.now) core.me rt (g.T.Table.entries c.update-changed.new.self) c.args.from c.args.m.now.dip m.dsn m.hops c.requires.from c.requires.other c.requires.says.0 c.requires.says.2 c.requires.ready.sound.table
+    (both rt rt1 (g.T.Table.entries c.update-changed.new.self) c.args.from c.args.m.now.dip (neighbour_entry c.args.from) (route_entry m.dsn m.hops c.args.from)
+    (c.update.ensures.entries ∙ ap (update rt c.args.from) c.neighbour_entry.ensures) (c.update-changed.ensures.entries ∙ ap (update rt1 c.args.m.now.dip) c.route_entry.ensures)))
 
 pub pass_on-requires-clause-entry : goal.pass_on-requires-clause-entry
 pass_on-requires-clause-entry g c =
     let rt2 = g.T.Table.entries c.update-changed.new.self in
-    let here : in_kD rt2 c.index_in-dip.result ≡ true = ap (λ (t : Table). in_kD t c.index_in-dip.result) c.update-changed.ensures.entries ∙ update_has (g.T.Table.entries c.update.new.self) c.index_in-dip.result c.route_entry.result in
+    let here : in_kD rt2 c.args.m.now.dip ≡ true = ap (λ (t : Table). in_kD t c.args.m.now.dip) c.update-changed.ensures.entries ∙ update_has (g.T.Table.entries c.update.new.self) c.args.m.now.dip c.route_entry.result in
     ap (in_kD rt2) c.in-Some.ensures.same.dip ∙ here
 
 pub reply_to_pass_on-requires-clause-number : goal.reply_to_pass_on-requires-clause-number
 reply_to_pass_on-requires-clause-number g c =
     let m = c.args.m.now in
     let rt1 = g.T.Table.entries c.update.new.self in
-    subst (λ (t : Table). 1 ≤ sqn t c.index_in-dip.result) (sym (c.update-changed.ensures.entries ∙ ap (update rt1 c.index_in-dip.result) c.route_entry.ensures))
-    (route_above rt1 c.index_in-dip.result m.dsn m.hops c.args.from c.requires.dsn)
+    subst (λ (t : Table). 1 ≤ sqn t c.args.m.now.dip) (sym (c.update-changed.ensures.entries ∙ ap (update rt1 c.args.m.now.dip) c.route_entry.ensures))
+    (route_above rt1 c.args.m.now.dip m.dsn m.hops c.args.from c.requires.says.2)
 
 pub returns-in-Ok-clause-does : goal.returns-in-Ok-clause-does
 returns-in-Ok-clause-does g c =
@@ -77,14 +73,12 @@ returns-in-Ok-clause-does g c =
     let core = core_of g.T.Table.entries c.args.core.now in
     let rt1 = g.T.Table.entries c.update.new.self in
     let rt2 = g.T.Table.entries c.update-changed.new.self in
-    let m : RouteReply = record { hops = c.args.m.now.hops; dip = c.index_in-dip.result; dsn = c.args.m.now.dsn; oip = c.index_in-oip.result } in
+    let m = reply_of c.args.m.now in
     let end = ends core c.args.range.now c.args.from m rt1 rt2 c.update-changed.result (pass_on (record core { rt = rt2 }) c.args.range.now (reply_of c.in-Some.reply)) (ne_eqb m.hops 255 c.if-m.false)
     (c.update.ensures.entries ∙ ap (update core.rt c.args.from) c.neighbour_entry.ensures) (c.update-changed.ensures.entries ∙ ap (update rt1 m.dip) c.route_entry.ensures)
     c.update-changed.ensures.same
     (chosen_some (record core { rt = rt2 }) c.args.range.now _ c.reply_to_pass_on.result c.in-Some.reply (c.reply_to_pass_on.ensures.does c.args.range.now) c.in-Some.is) in
-    subst (λ (m : RouteReply). IsMade mesh (turn_full core c.args.range.now (Heard c.args.from (Rrep m))) (turn core c.args.range.now (Heard c.args.from (Rrep m))) c.in-Ok.effect (core_of g.T.Table.entries c.pass_on.new.core) c.pass_on.new.out.items)
-    (same_reply mesh c.args.m.now c.index_in-dip.result c.index_in-oip.result c.index_in-dip.ensures.value c.index_in-oip.ensures.value)
-    (passed_made mesh core (core_of g.T.Table.entries c.pass_on.new.core) c.args.range.now c.args.from m _ c.in-Ok.effect c.pass_on.new.out.items end c.in-Ok.ensures.does)
+    passed_made mesh core (core_of g.T.Table.entries c.pass_on.new.core) c.args.range.now c.args.from m _ c.in-Ok.effect c.pass_on.new.out.items end c.in-Ok.ensures.does
 
 back : (rt rt1 rt2 rt3 rt4 new : Table) (a b : ℕ) (r s : Entry) (kept_a kept_b : Option Entry) → rt1 ≡ update rt a r → rt2 ≡ update rt1 b s → kept_a ≡ maps.get rt a → kept_b ≡ maps.get rt b → new ≡ rt2 → rt3 ≡ with_entry new b kept_b → rt4 ≡ with_entry rt3 a kept_a → rt4 ≡ rt
 back rt rt1 rt2 rt3 rt4 new a b r s kept_a kept_b one_is two_is a_is b_is new_is three_is four_is =
@@ -99,20 +93,18 @@ returns-in-Err-clause-does g c =
     let rt2 = g.T.Table.entries c.update-changed.new.self in
     let rt4 = g.T.Table.entries c.put-in-Err.new.self in
     let new = core_of g.T.Table.entries c.pass_on.new.core in
-    let m : RouteReply = record { hops = c.args.m.now.hops; dip = c.index_in-dip.result; dsn = c.args.m.now.dsn; oip = c.index_in-oip.result } in
+    let m = reply_of c.args.m.now in
     let end = ends core c.args.range.now c.args.from m rt1 rt2 c.update-changed.result (pass_on (record core { rt = rt2 }) c.args.range.now (reply_of c.in-Some.reply)) (ne_eqb m.hops 255 c.if-m.false)
     (c.update.ensures.entries ∙ ap (update core.rt c.args.from) c.neighbour_entry.ensures) (c.update-changed.ensures.entries ∙ ap (update rt1 m.dip) c.route_entry.ensures)
     c.update-changed.ensures.same
     (chosen_some (record core { rt = rt2 }) c.args.range.now _ c.reply_to_pass_on.result c.in-Some.reply (c.reply_to_pass_on.ensures.does c.args.range.now) c.in-Some.is) in
-    let rows = back core.rt rt1 rt2 (g.T.Table.entries c.put.new.self) rt4 new.rt c.args.from c.index_in-dip.result c.neighbour_entry.result c.route_entry.result c.get-kept_from.result c.get-kept_dip.result
+    let rows = back core.rt rt1 rt2 (g.T.Table.entries c.put.new.self) rt4 new.rt c.args.from c.args.m.now.dip c.neighbour_entry.result c.route_entry.result c.get-kept_from.result c.get-kept_dip.result
     c.update.ensures.entries c.update-changed.ensures.entries c.get-kept_from.ensures.value c.get-kept_dip.ensures.value (ap (λ (c : Core). c.rt) c.in-Err.ensures.does.same) c.put.ensures.entries c.put-in-Err.ensures.entries in
-    subst (λ (m : RouteReply). IsFull (turn_full core c.args.range.now (Heard c.args.from (Rrep m))) core c.in-Err.full (record new { rt = rt4 }))
-    (same_reply mesh c.args.m.now c.index_in-dip.result c.index_in-oip.result c.index_in-dip.ensures.value c.index_in-oip.ensures.value)
-    (passed_refused core new c.args.range.now c.args.from m rt2 rt4 _ c.in-Err.full end c.in-Err.ensures.does rows)
+    passed_refused core new c.args.range.now c.args.from m rt2 rt4 _ c.in-Err.full end c.in-Err.ensures.does rows
 
 pub returns-in-Err-clause-ready : goal.returns-in-Err-clause-ready
 returns-in-Err-clause-ready g c =
     let core = core_of g.T.Table.entries c.args.core.now in
-    let rows = back core.rt (g.T.Table.entries c.update.new.self) (g.T.Table.entries c.update-changed.new.self) (g.T.Table.entries c.put.new.self) (g.T.Table.entries c.put-in-Err.new.self) (g.T.Table.entries c.pass_on.new.core.table) c.args.from c.index_in-dip.result c.neighbour_entry.result c.route_entry.result c.get-kept_from.result c.get-kept_dip.result
+    let rows = back core.rt (g.T.Table.entries c.update.new.self) (g.T.Table.entries c.update-changed.new.self) (g.T.Table.entries c.put.new.self) (g.T.Table.entries c.put-in-Err.new.self) (g.T.Table.entries c.pass_on.new.core.table) c.args.from c.args.m.now.dip c.neighbour_entry.result c.route_entry.result c.get-kept_from.result c.get-kept_dip.result
     c.update.ensures.entries c.update-changed.ensures.entries c.get-kept_from.ensures.value c.get-kept_dip.ensures.value (ap (λ (c : Core). c.rt) c.in-Err.ensures.does.same) c.put.ensures.entries c.put-in-Err.ensures.entries in
     ready_back g.T.Table.nodes g.T.Table.entries (length c.args.mesh.now) c.args.core.now c.pass_on.new.core _ c.requires.ready c.in-Err.ensures.ready (c.put-in-Err.ensures.nodes ∙ c.put.ensures.nodes) refl refl (λ i. record (c.in-Err.ensures.does.same i) { rt = rows i })

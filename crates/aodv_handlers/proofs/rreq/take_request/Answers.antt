@@ -1,0 +1,84 @@
+use Rattle.std.proofs.Common.{◌≡◌, ℕ, Option, sym, ap, refl, subst, ◌∙◌, length}
+use Rattle.std.proofs.lemmas.Bool.{ne_eqb}
+use Rattle.std.specs.FinMap as maps
+use Rattle.aodv_entry.specs.declared.entry.Entry.{Entry}
+use Rattle.aodv_asked.specs.Requests.{RoomySeen}
+use Rattle.aodv_model.specs.Tables.{Table, update}
+use Rattle.aodv_model.specs.Cores.{Core}
+use Rattle.aodv_model.specs.Handlers.{neighbour_entry, route_entry, on_new_rreq}
+use Rattle.aodv_model.specs.Soundness.{IsSoundTable}
+use Rattle.aodv_model.proofs.SoundTables.{neighbour_table}
+use Rattle.aodv_table.specs.Calls.{with_entry}
+use Rattle.aodv_handlers.specs.Shown.{core_of, request_of}
+use Rattle.aodv_handlers.proofs.Ready.{ready_table, ready_back}
+use Rattle.aodv_handlers.proofs.Restored.{updates_back, updated_twice}
+use Rattle.aodv_handlers.proofs.Requests.{seen_made, asked_table, ends, new_made, stop_made}
+use Rattle.aodv_handlers.proofs.rreq.take_request.Goals as goal
+
+pub returns-then-has-clause-does : goal.returns-then-has-clause-does
+returns-then-has-clause-does g c =
+    seen_made c.args.mesh.now (core_of g.T.Table.entries c.args.core.now) c.args.range.now c.args.from (request_of c.args.m.now) (c.args.m.now.oip, c.mark_of-mark.result) (g.T.Table.entries c.update.new.self) c.casting.result c.clear.new.self.items c.mark_of-mark.ensures
+    (sym c.has.ensures ∙ c.if-has.true)
+    (c.update.ensures.entries ∙ ap (update (g.T.Table.entries c.args.core.now.table) c.args.from) c.neighbour_entry.ensures) c.casting.ensures c.clear.ensures
+
+pub returns-then-has-clause-ready : goal.returns-then-has-clause-ready
+returns-then-has-clause-ready g c =
+    let core = c.args.core.now in
+    let rt = g.T.Table.entries core.table in
+    let size = length c.args.mesh.now in
+    ready_table g.T.Table.nodes g.T.Table.entries size core _ c.requires.ready c.update.ensures.nodes refl refl refl c.requires.ready.sound.own
+    (subst (IsSoundTable size core.me) (sym (c.update.ensures.entries ∙ ap (update rt c.args.from) c.neighbour_entry.ensures)) (neighbour_table size core.me rt c.args.from c.requires.from c.requires.other c.requires.ready.sound.table))
+
+pub on_new-requires-clause-ready : goal.on_new-requires-clause-ready
+on_new-requires-clause-ready g c =
+    let core = c.args.core.now in
+    let rt = g.T.Table.entries core.table in
+    let rt1 = g.T.Table.entries c.update-2.new.self in
+    let rt2 = g.T.Table.entries c.update-3.new.self in
+    let m = c.args.m.now in
+    let is = updated_twice rt rt1 rt2 c.args.from m.oip c.neighbour_entry-2.result (neighbour_entry c.args.from) c.route_entry.result (route_entry m.osn m.hops c.args.from)
+    c.update-2.ensures.entries c.neighbour_entry-2.ensures c.update-3.ensures.entries c.route_entry.ensures in
+    ready_table g.T.Table.nodes g.T.Table.entries (length c.args.mesh.now) core _ c.requires.ready (c.update-3.ensures.nodes ∙ c.update-2.ensures.nodes) refl refl refl c.requires.ready.sound.own
+    (asked_table (length c.args.mesh.now) core.me rt rt2 c.args.from m.oip m.osn m.hops c.requires.from c.requires.other c.requires.says.1 c.requires.says.2 c.requires.ready.sound.table is)
+
+pub returns-in-Ok-clause-does : goal.returns-in-Ok-clause-does
+returns-in-Ok-clause-does g c =
+    let mesh = c.args.mesh.now in
+    let m = c.args.m.now in
+    let core = core_of g.T.Table.entries c.args.core.now in
+    let rt2 = g.T.Table.entries c.update-3.new.self in
+    let is = updated_twice core.rt (g.T.Table.entries c.update-2.new.self) rt2 c.args.from m.oip c.neighbour_entry-2.result (neighbour_entry c.args.from) c.route_entry.result (route_entry m.osn m.hops c.args.from)
+    c.update-2.ensures.entries c.neighbour_entry-2.ensures c.update-3.ensures.entries c.route_entry.ensures in
+    let end = ends core c.args.range.now c.args.from (request_of m) (m.oip, c.mark_of-mark.result) rt2 c.mark_of-mark.ensures
+    (sym c.has.ensures ∙ c.if-has.false) (ne_eqb m.hops 255 c.if-m.false) is in
+    new_made mesh core (core_of g.T.Table.entries c.on_new.new.core) c.args.range.now c.args.from (request_of m) (m.oip, c.mark_of-mark.result) (on_new_rreq (record core { rt = rt2 }) c.args.range.now c.args.from (request_of m)) c.in-Ok.effect c.insert.new.self.pairs c.on_new.new.out.items end c.mark_of-mark.ensures
+    c.in-Ok.ensures.does
+    (ap (λ (a : RoomySeen). a.pairs) c.in-Ok.ensures.asked)
+    c.insert.ensures.pairs
+
+back : (rt rt1 rt2 rt3 rt4 new : Table) (a b : ℕ) (r s : Entry) (kept_a kept_b : Option Entry) → rt1 ≡ update rt a r → rt2 ≡ update rt1 b s → kept_a ≡ maps.get rt a → kept_b ≡ maps.get rt b → new ≡ rt2 → rt3 ≡ with_entry new b kept_b → rt4 ≡ with_entry rt3 a kept_a → rt4 ≡ rt
+back rt rt1 rt2 rt3 rt4 new a b r s kept_a kept_b one_is two_is a_is b_is new_is three_is four_is =
+    four_is ∙ ap (λ (t : Table). with_entry t a kept_a) (three_is ∙ ap (λ (t : Table). with_entry t b kept_b) new_is)
+    ∙ updates_back rt rt2 a b r s kept_a kept_b (two_is ∙ ap (λ (t : Table). update t b s) one_is) a_is b_is
+
+pub returns-in-Err-clause-does : goal.returns-in-Err-clause-does
+returns-in-Err-clause-does g c =
+    let mesh = c.args.mesh.now in
+    let m = c.args.m.now in
+    let core = core_of g.T.Table.entries c.args.core.now in
+    let rt2 = g.T.Table.entries c.update-3.new.self in
+    let is = updated_twice core.rt (g.T.Table.entries c.update-2.new.self) rt2 c.args.from m.oip c.neighbour_entry-2.result (neighbour_entry c.args.from) c.route_entry.result (route_entry m.osn m.hops c.args.from)
+    c.update-2.ensures.entries c.neighbour_entry-2.ensures c.update-3.ensures.entries c.route_entry.ensures in
+    let end = ends core c.args.range.now c.args.from (request_of m) (m.oip, c.mark_of-mark.result) rt2 c.mark_of-mark.ensures
+    (sym c.has.ensures ∙ c.if-has.false) (ne_eqb m.hops 255 c.if-m.false) is in
+    let rows = back core.rt (g.T.Table.entries c.update-2.new.self) rt2 (g.T.Table.entries c.put.new.self) (g.T.Table.entries c.put-in-Err.new.self) (g.T.Table.entries c.on_new.new.core.table) c.args.from c.args.m.now.oip c.neighbour_entry-2.result c.route_entry.result c.get-kept_from.result c.get-kept_oip.result
+    c.update-2.ensures.entries c.update-3.ensures.entries c.get-kept_from.ensures.value c.get-kept_oip.ensures.value (ap (λ (c : Core). c.rt) c.in-Err.ensures.does.same) c.put.ensures.entries c.put-in-Err.ensures.entries in
+    stop_made core (core_of g.T.Table.entries c.on_new.new.core) c.args.range.now c.args.from (request_of m) rt2 (g.T.Table.entries c.put-in-Err.new.self) (on_new_rreq (record core { rt = rt2 }) c.args.range.now c.args.from (request_of m)) c.in-Err.full end
+    c.in-Err.ensures.does rows
+
+pub returns-in-Err-clause-ready : goal.returns-in-Err-clause-ready
+returns-in-Err-clause-ready g c =
+    let core = core_of g.T.Table.entries c.args.core.now in
+    let rows = back core.rt (g.T.Table.entries c.update-2.new.self) (g.T.Table.entries c.update-3.new.self) (g.T.Table.entries c.put.new.self) (g.T.Table.entries c.put-in-Err.new.self) (g.T.Table.entries c.on_new.new.core.table) c.args.from c.args.m.now.oip c.neighbour_entry-2.result c.route_entry.result c.get-kept_from.result c.get-kept_oip.result
+    c.update-2.ensures.entries c.update-3.ensures.entries c.get-kept_from.ensures.value c.get-kept_oip.ensures.value (ap (λ (c : Core). c.rt) c.in-Err.ensures.does.same) c.put.ensures.entries c.put-in-Err.ensures.entries in
+    ready_back g.T.Table.nodes g.T.Table.entries (length c.args.mesh.now) c.args.core.now c.on_new.new.core _ c.requires.ready c.in-Err.ensures.ready (c.put-in-Err.ensures.nodes ∙ c.put.ensures.nodes) refl refl (λ i. record (c.in-Err.ensures.does.same i) { rt = rows i })
