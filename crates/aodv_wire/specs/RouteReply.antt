@@ -11,7 +11,8 @@ type_number = 2
 
 -- the fields, as the section's figure names them: R repair, A acknowledgment required
 pub data Field : Type 0 where
-  Kind R A Reserved PrefixSize HopCount DestinationAddress DestinationNumber OriginatorAddress Lifetime : Field
+  Kind R A Reserved PrefixSize HopCount DestinationAddress DestinationNumber OriginatorAddress
+      Lifetime : Field
 
 -- the table: each field's line, first bit and number of bits
 abbrev pub table : Field → Place

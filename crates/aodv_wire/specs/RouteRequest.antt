@@ -12,7 +12,8 @@ type_number = 1
 -- the fields, as the section's figure names them: J join, R repair, G gratuitous reply, D
 -- destination only, U unknown number
 pub data Field : Type 0 where
-  Kind J R G D U Reserved HopCount RreqId DestinationAddress DestinationNumber OriginatorAddress OriginatorNumber : Field
+  Kind J R G D U Reserved HopCount RreqId DestinationAddress DestinationNumber OriginatorAddress
+      OriginatorNumber : Field
 
 -- the table: each field's line, first bit and number of bits
 abbrev pub table : Field → Place

@@ -20,7 +20,8 @@ use Rattle.mesh_cli.specs.declared.words.Command.TheVariants.{Run, Make, Trial}
 abbrev pub made_by : Plan → List ℕ
 made_by plan = made plan.seed plan.nodes plan.steps
 
--- in no world to which the run of a schedule comes, after any number of its events, has a destination a loop
+-- in no world to which the run of a schedule comes, after any number of its events, has a
+-- destination a loop
 abbrev pub IsLoopFreeRun : Variant → List ℕ → Type 0
 IsLoopFreeRun variant schedule = (k d : ℕ) → ¬ (Cycle (world_after variant schedule k) d)
 
@@ -40,25 +41,33 @@ IsWritten before now text status.ReadFault = ⊥
 IsWritten before now text status.WriteFault = AppendsPrefix before now text
 IsWritten before now text status.NoMemory = ⊥
 
--- what the source has left before and after, what the sink held before and holds now, and the answer. `run` writes the
--- text of the schedule that the source has left; `run --quiet` its last line alone; `make` the made schedule; `trial` the
--- last line of the text of the made schedule. What runs is loop free
-abbrev pub IsCommandRun : Command → Option (List ℕ) → Option (List ℕ) → Option (List ℕ) → Option (List ℕ) → Status → Type 0
+-- what the source has left before and after, what the sink held before and holds now, and the
+-- answer. `run` writes the text of the schedule that the source has left; `run --quiet` its last
+-- line alone; `make` the made schedule; `trial` the last line of the text of the made schedule.
+-- What runs is loop free
+abbrev pub IsCommandRun : Command → Option (List ℕ) → Option (List ℕ) → Option (List ℕ)
+    → Option (List ℕ) → Status → Type 0
 IsCommandRun (Run variant quiet) left after before now s =
-    IfSome left (λ bytes. IsOutputFrom (say_by quiet) (opening variant) bytes after before now s × IsLoopFreeRun variant bytes)
+    IfSome left
+    (λ bytes. IsOutputFrom (say_by quiet) (opening variant) bytes after before now s
+    × IsLoopFreeRun variant bytes)
 IsCommandRun (Make plan) left after before now s = IsWritten before now (made_by plan) s
 IsCommandRun (Trial variant plan) left after before now s =
-    IsOutput before now (said Last (text_of_input variant (made_by plan))) s × IsLoopFreeRun variant (made_by plan)
+    IsOutput before now (said Last (text_of_input variant (made_by plan))) s
+    × IsLoopFreeRun variant (made_by plan)
 
 -- the command was done, or memory ran out
 abbrev pub IsDoneOrShort : Status → Type 0
 IsDoneOrShort s = (s ≡ status.Done) ⊎ (s ≡ status.NoMemory)
 
--- where nothing has failed and each line is allowed, the command is done, unless memory runs out. `make` takes none
+-- where nothing has failed and each line is allowed, the command is done, unless memory runs out.
+-- `make` takes none
 abbrev pub Completes : Command → Option (List ℕ) → Status → Type 0
-Completes (Run variant quiet) left s = IfSome left (λ bytes. (text_of_input variant bytes).verdict ≡ Finished → IsDoneOrShort s)
+Completes (Run variant quiet) left s =
+    IfSome left (λ bytes. (text_of_input variant bytes).verdict ≡ Finished → IsDoneOrShort s)
 Completes (Make plan) left s = s ≡ status.Done
-Completes (Trial variant plan) left s = (text_of_input variant (made_by plan)).verdict ≡ Finished → IsDoneOrShort s
+Completes (Trial variant plan) left s =
+    (text_of_input variant (made_by plan)).verdict ≡ Finished → IsDoneOrShort s
 
 -- a source was read to its end by a command that reads it
 abbrev pub IsReadBy : Command → Option (List ℕ) → Type 0

@@ -1,5 +1,5 @@
-//! `run` over sources that give few bytes a call and sinks that take few, and over such that fail at
-//! one call.
+//! `run` over sources that give few bytes a call and sinks that take few, and over such that fail
+//! at one call.
 ghost use Rattle.std.specs.Prelude.{◌≡◌, ◌≤◌, ◌<◌};
 
 use crate::top::mesh;

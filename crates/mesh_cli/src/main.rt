@@ -1,8 +1,8 @@
 //! The program `mesh`: `mesh run` reads a schedule from standard input and writes the text of its
-//! run to standard output; `run --quiet`, `make` and `trial` are the other forms, and `run` and `trial`
-//! take `--variant NAME` directly after them. The top call, over
-//! any source and sink, has the whole contract; `main` makes the adapters over the standard
-//! streams, and ends with the status of the answer.
+//! run to standard output; `run --quiet`, `make` and `trial` are the other forms, and `run` and
+//! `trial` take `--variant NAME` directly after them. The top call, over any source and sink, has
+//! the whole contract; `main` makes the adapters over the standard streams, and ends with the
+//! status of the answer.
 #![tactic(auto)]
 
 #[cfg(test)]

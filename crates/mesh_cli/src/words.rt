@@ -141,8 +141,8 @@ fn of_six(
 }
 
 /// What the words ask for, if they are of a form: `run` or `trial SEED NODES STEPS`, each with
-/// `--variant NAME` after its first word or without; either form of `run` with `--quiet` at its end;
-/// or `make SEED NODES STEPS`. The names are `base`, `number`, `reply` and `error`.
+/// `--variant NAME` after its first word or without; either form of `run` with `--quiet` at its
+/// end; or `make SEED NODES STEPS`. The names are `base`, `number`, `reply` and `error`.
 pub fn command_of(words: &[&str]) -> Option<Command>
     ensures value { result ≡ command_of (map (λ w. w.now) words.now) }
     ensures allowed { IfSome result IsAllowed }

@@ -20,7 +20,8 @@ abbrev pub pending_in : {S : Type 0} {room : ℕ} {G : Ghosts S} → Cutter S ro
 pending_in cutter = drop cutter.size cutter.buffer
 
 -- the bytes to come, where the source tells them
-abbrev pub ahead_in : {S : Type 0} {room : ℕ} {G : Ghosts S} → (S → Option (List ℕ)) → Cutter S room G → Option (List ℕ)
+abbrev pub ahead_in : {S : Type 0} {room : ℕ} {G : Ghosts S} → (S → Option (List ℕ))
+    → Cutter S room G → Option (List ℕ)
 ahead_in left cutter = prepend_known (pending_in cutter) (left (cutter.source).now)
 
 -- how often its source has failed
@@ -33,7 +34,8 @@ decides_in cutter = decides cutter.most cutter.given cutter.ended (pending_in cu
 
 -- the most reads that can still be asked for the next line
 abbrev pub reads_to_come : {S : Type 0} {room : ℕ} {G : Ghosts S} → Cutter S room G → ℕ
-reads_to_come cutter = if cutter.ended then 0 else 1 + (cutter.most.line + 1 - length (pending_in cutter))
+reads_to_come cutter =
+    if cutter.ended then 0 else 1 + (cutter.most.line + 1 - length (pending_in cutter))
 
 -- a decision that is a refusal
 abbrev pub refusal_by : Decision → Option LineError
@@ -58,22 +60,30 @@ Refuses (Err error.TooLong) refusal = refusal ≡ Some error.TooLong
 abbrev pub HasNoLf : List ℕ → Type 0
 HasNoLf bytes = (first_line bytes).ends ≡ false
 
--- a line of this length was counted with its LF; only the last of an input, whose source has ended, may have none
+-- a line of this length was counted with its LF; only the last of an input, whose source has ended,
+-- may have none
 abbrev pub IsCounted : (len before after : ℕ) → Bool → Type 0
-IsCounted len before after ended = (after ≡ before + len + 1) ⊎ ((after ≡ before + len) × (ended ≡ true))
+IsCounted len before after ended =
+    (after ≡ before + len + 1) ⊎ ((after ≡ before + len) × (ended ≡ true))
 
 -- a line found is the first of the bytes to come
-pub record FindsLine (most : Limits) (given : ℕ) (bytes line : List ℕ) (after : ℕ) (left : Option (List ℕ)) : Type 0 where
+pub record FindsLine (most : Limits) (given : ℕ) (bytes line : List ℕ) (after : ℕ)
+    (left : Option (List ℕ)) : Type 0 where
   pub first : FirstLine
   pub next : next_of most given bytes ≡ Line first
   pub line_is : line ≡ first.line
   pub after_is : after ≡ given + line_size first
   pub left_is : left ≡ Some first.rest
 
--- what is answered where the bytes to come are known, the line found, how many are given, and which are then to come
-abbrev pub Tells : Limits → ℕ → List ℕ → Result Bool LineError → List ℕ → ℕ → Option (List ℕ) → Type 0
+-- what is answered where the bytes to come are known, the line found, how many are given, and which
+-- are then to come
+abbrev pub Tells : Limits → ℕ → List ℕ → Result Bool LineError → List ℕ → ℕ → Option (List ℕ)
+    → Type 0
 Tells most given bytes (Ok true) line after left = FindsLine most given bytes line after left
-Tells most given bytes (Ok false) line after left = (bytes ≡ []) × (after ≡ given) × (left ≡ Some bytes)
+Tells most given bytes (Ok false) line after left =
+    (bytes ≡ []) × (after ≡ given) × (left ≡ Some bytes)
 Tells most given bytes (Err error.ReadFault) line after left = (after ≡ given) × (left ≡ Some bytes)
-Tells most given bytes (Err error.TooMuch) line after left = (next_of most given bytes ≡ TooMuch) × (after ≡ given) × (left ≡ Some bytes)
-Tells most given bytes (Err error.TooLong) line after left = (next_of most given bytes ≡ TooLong) × (after ≡ given) × (left ≡ Some bytes)
+Tells most given bytes (Err error.TooMuch) line after left =
+    (next_of most given bytes ≡ TooMuch) × (after ≡ given) × (left ≡ Some bytes)
+Tells most given bytes (Err error.TooLong) line after left =
+    (next_of most given bytes ≡ TooLong) × (after ≡ given) × (left ≡ Some bytes)

@@ -8,7 +8,8 @@ use Rattle.mesh_io.specs.declared.decision.Decision.TheVariants as decision
 -- they do where none come after them, where they have an LF, and where they go past a limit
 abbrev pub decides : Limits → ℕ → Bool → List ℕ → Bool
 decides most given ended bytes =
-    ended || (first_line bytes).ends || nat_lt most.line (length bytes) || nat_lt most.input (given + length bytes)
+    ended || (first_line bytes).ends || nat_lt most.line (length bytes)
+    || nat_lt most.input (given + length bytes)
 
 abbrev pub decision_by : NextLine → Decision
 decision_by End = decision.End

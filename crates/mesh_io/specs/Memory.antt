@@ -15,20 +15,25 @@ given source room = min (length source.left) (min room source.most)
 
 -- what a call answers
 abbrev pub take_answer : Giving → ℕ → Result ℕ Failed
-take_answer source room = if fails_next source.calls then Err (record {}) else Ok (given source room)
+take_answer source room =
+    if fails_next source.calls then Err (record {}) else Ok (given source room)
 
 -- the source after a call
 abbrev pub after_take : Giving → ℕ → Giving
 after_take source room =
     if fails_next source.calls
     then record source { calls = with_fault (with_call source.calls) }
-    else record source { left = drop (given source room) source.left; calls = with_call source.calls }
+    else record source {
+      left = drop (given source room) source.left;
+      calls = with_call source.calls;
+    }
 
 -- the buffer after a call: the bytes given, and then what stood there
 abbrev pub filled : Giving → List ℕ → List ℕ
 filled source buffer =
     if fails_next source.calls then buffer
-    else take (given source (length buffer)) source.left ++ drop (given source (length buffer)) buffer
+    else take (given source (length buffer)) source.left
+    ++ drop (given source (length buffer)) buffer
 
 -- the bytes held, the most that are held, the most that a call takes, and the calls so far
 pub record Taking : Type 0 where
@@ -54,4 +59,7 @@ abbrev pub after_put : Taking → List ℕ → Taking
 after_put sink piece =
     if refuses sink
     then record sink { calls = with_fault (with_call sink.calls) }
-    else record sink { held = sink.held ++ take (taken sink (length piece)) piece; calls = with_call sink.calls }
+    else record sink {
+      held = sink.held ++ take (taken sink (length piece)) piece;
+      calls = with_call sink.calls;
+    }

@@ -23,23 +23,28 @@ with_byte b first = record first { line = b ∷ first.line }
 
 abbrev pub first_line : List ℕ → FirstLine
 first_line [] = record { line = []; ends = false; rest = [] }
-first_line (b ∷ bs) = if b == 10 then record { line = []; ends = true; rest = bs } else with_byte b (first_line bs)
+first_line (b ∷ bs) =
+    if b == 10 then record { line = []; ends = true; rest = bs }
+    else with_byte b (first_line bs)
 
 -- how many bytes a line is, its LF among them
 abbrev pub line_size : FirstLine → ℕ
 line_size first = length first.line + (if first.ends then 1 else 0)
 
--- what comes next: the end; a line; a line with a byte too many; or the byte after the last that an input may have
+-- what comes next: the end; a line; a line with a byte too many; or the byte after the last that an
+-- input may have
 pub data NextLine : Type 0 where
   End : NextLine
   Line : FirstLine → NextLine
   TooLong : NextLine
   TooMuch : NextLine
 
--- the first byte that goes past a limit decides: the input's limit where it goes past both, and a line's LF counts for the input alone
+-- the first byte that goes past a limit decides: the input's limit where it goes past both, and a
+-- line's LF counts for the input alone
 abbrev pub next_by : Limits → ℕ → FirstLine → NextLine
 next_by most given first =
-    if nat_lt most.line (length first.line) then (if nat_le (given + most.line + 1) most.input then TooLong else TooMuch)
+    if nat_lt most.line (length first.line)
+    then (if nat_le (given + most.line + 1) most.input then TooLong else TooMuch)
     else (if nat_le (given + line_size first) most.input then Line first else TooMuch)
 
 -- what comes next of these bytes, after so many that were given

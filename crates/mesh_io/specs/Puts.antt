@@ -11,4 +11,5 @@ pub record AppendsPrefix (before now : Option (List ℕ)) (text : List ℕ) : Ty
 
 -- known bytes grow by the whole text at Ok, and by a prefix of it at Err
 abbrev pub Puts : {T E : Type 0} → Option (List ℕ) → Option (List ℕ) → List ℕ → Result T E → Type 0
-Puts before now text result = MatchResult result (λ _. Appends before now text) (λ _. AppendsPrefix before now text)
+Puts before now text result =
+    MatchResult result (λ _. Appends before now text) (λ _. AppendsPrefix before now text)

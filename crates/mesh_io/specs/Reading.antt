@@ -37,7 +37,8 @@ abbrev pub refusal_of : {S : Type 0} {G : Ghosts S} → Lines S G → Option Lin
 refusal_of lines = refusal_in lines.cutter
 
 -- the bytes to come, where the source tells them
-abbrev pub ahead_of : {S : Type 0} {G : Ghosts S} → (S → Option (List ℕ)) → Lines S G → Option (List ℕ)
+abbrev pub ahead_of : {S : Type 0} {G : Ghosts S} → (S → Option (List ℕ)) → Lines S G
+    → Option (List ℕ)
 ahead_of left lines = ahead_in left lines.cutter
 
 -- how often the source has failed
@@ -56,6 +57,9 @@ shown_in (Ok None) = []
 shown_in (Err error) = []
 
 -- what a call in one has answered, once the line isn't lent any more
-pub record NextTells {S : Type 0} {G : Ghosts S} (left : S → Option (List ℕ)) (old : Lines S G) (result : Result (Option (Bor (List ℕ))) LineError) (now : Lines S G) : Type 0 where
+pub record NextTells {S : Type 0} {G : Ghosts S} (left : S → Option (List ℕ)) (old : Lines S G)
+    (result : Result (Option (Bor (List ℕ))) LineError) (now : Lines S G) : Type 0 where
   pub same : (source_of now).ghost_name ≡ (source_of old).ghost_name
-  pub told : IfSome (ahead_of left old) (λ bytes. Tells schedule_limits (given_of old) bytes (found_in result) (shown_in result) (given_of now) (ahead_of left now))
+  pub told : IfSome (ahead_of left old)
+      (λ bytes. Tells schedule_limits (given_of old) bytes (found_in result) (shown_in result)
+      (given_of now) (ahead_of left now))

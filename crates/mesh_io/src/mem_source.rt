@@ -12,7 +12,8 @@ use mesh_base::{Bytes, NoMemory};
 use std::alloc::Global;
 use std::marker::Model;
 
-/// Copies the prefix of the bytes to the buffer's prefix, at most `most` of them, and says how many.
+/// Copies the prefix of the bytes to the buffer's prefix, at most `most` of them, and says how
+/// many.
 pub fn give(bytes: &[u8], most: usize, buf: &mut [u8]) -> usize
     ensures count { result ≡ min (length bytes.now) (min (length buf.old) most) }
     ensures copied { buf.new ≡ take result bytes.now ++ drop result buf.old }

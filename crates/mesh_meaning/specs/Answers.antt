@@ -63,7 +63,8 @@ abbrev pub outcome_in : Nodes → ℕ → World → Done → List ℕ → Outcom
 outcome_in mesh x w done.Idle packet = Idle
 outcome_in mesh x w d packet = Next w (happening_in mesh x d packet)
 
--- ---- what an answer keeps: all that it names is in the mesh, and its packets are written of messages of the mesh
+-- ---- what an answer keeps: all that it names is in the mesh, and its packets are written of
+-- messages of the mesh
 
 -- written of a message that names nodes of the mesh only
 pub record IsPacketInMesh (mesh : Nodes) (bytes : List ℕ) : Type 0 where

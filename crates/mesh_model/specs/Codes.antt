@@ -25,7 +25,14 @@ copy_code =
 abbrev pub world_code : Coded World
 world_code =
     code_by (List Node × (Pairs × (Pairs × (List Copy × ℕ))))
-    (coded× (coded_list node_code) (coded× pairs_code (coded× pairs_code (coded× (coded_list copy_code) coded_ℕ))))
+    (coded× (coded_list node_code)
+    (coded× pairs_code (coded× pairs_code (coded× (coded_list copy_code) coded_ℕ))))
     (λ w. (w.nodes, (w.links, (w.ever, (w.flying, w.next_copy)))))
-    (λ p. record { nodes = p.0; links = p.1.0; ever = p.1.1.0; flying = p.1.1.1.0; next_copy = p.1.1.1.1 })
+    (λ p. record {
+      nodes = p.0;
+      links = p.1.0;
+      ever = p.1.1.0;
+      flying = p.1.1.1.0;
+      next_copy = p.1.1.1.1;
+    })
     (λ _. refl)

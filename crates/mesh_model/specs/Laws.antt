@@ -147,6 +147,7 @@ HonestHops =
 -- a run is refused for a hop count or for a request id
 abbrev pub OnlyNumbersFill : Type 0
 OnlyNumbersFill =
-    (variant : Variant) (firsts : List ℕ) (events : List Event) (event : Event) (x : ℕ) (f : Counter)
+    (variant : Variant) (firsts : List ℕ) (events : List Event) (event : Event) (x : ℕ)
+    (f : Counter)
     → AreFirstNumbers firsts
     → step (run (start variant firsts) events) event ≡ Full x f → f ≡ full.Number

@@ -164,7 +164,8 @@ turn_of w x core [] = Idle
 turn_of w x core (item ∷ items) =
     let reaction = turn core (range w x) item in
     unless_full x (turn_full core (range w x) item)
-    (Next (done_by w x reaction items) (Taken (took core item) reaction.effect (copies w x (reaction.effect).cast)))
+    (Next (done_by w x reaction items)
+    (Taken (took core item) reaction.effect (copies w x (reaction.effect).cast)))
 
 -- node x sends a datum that waits for d
 abbrev pub send_of : World → ℕ → ℕ → Core → List Item → Outcome

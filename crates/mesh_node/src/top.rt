@@ -30,8 +30,8 @@ pub fn node_run<I: Source, O: Sink, L: Link>(
         → (input.new ≡ input.old) × (out.new ≡ out.old) × (link.new ≡ link.old) }
 
     // What is written and sent is what the script says with what was found, and the answer its
-    // verdict. After a fault, or want of memory, it is a prefix of that, in the order in which it is
-    // said: a datagram is sent only once all text before it is written.
+    // verdict. After a fault, or want of memory, it is a prefix of that, in the order in which it
+    // is said: a datagram is sent only once all text before it is written.
     ensures text_datagrams_and_verdict { IfSome (port_of (map (λ w. w.now) words.now)) (λ port.
         IfSome (I.left input.old) (λ script. IsScriptRun script (L.arrived link.old)
         (O.held out.old, L.sent link.old) (O.held out.new, L.sent link.new) result)) }

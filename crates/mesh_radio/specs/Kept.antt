@@ -117,8 +117,8 @@ radio_of links ever a = record {
   most = a.most;
 }
 
--- both graphs are of the same nodes, at most 200, and a link that stands has stood; copies are between these, and none has more bytes
--- than a packet can
+-- both graphs are of the same nodes, at most 200, and a link that stands has stood; copies are
+-- between these, and none has more bytes than a packet can
 pub record IsRadio (links ever : Graph) (a : Flights) : Type 0 where
   pub few : links.size ≤ MOST_NODES
   pub same : ever.size ≡ links.size

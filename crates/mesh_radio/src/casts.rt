@@ -65,8 +65,8 @@ fn receiver(to: &NodeSet, rank: usize) -> Option<usize>
     to.nth(rank)
 }
 
-// Where the copy of this id stands: the place of its cast is sought by halves, and its receiver by its
-// rank. The hint makes no difference but to how long that takes.
+// Where the copy of this id stands: the place of its cast is sought by halves, and its receiver by
+// its rank. The hint makes no difference but to how long that takes.
 fn find_near(casts: &Casts, id: u64, hint: usize) -> Option<Spot>
     requires { (next : ℕ) × AreCasts casts.now.entries next }
     ensures some { IfSome result (λ s. IsFound casts.now.entries id s.place s.to) }

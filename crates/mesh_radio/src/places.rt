@@ -53,8 +53,8 @@ fn even_place(firsts: &[u64], id: u64) -> usize {
     ((id - first).wrapping_mul(len as u64 - 1) / (last - first)) as usize
 }
 
-/// How many of the rising ids are at most this one. The hint makes no difference but to how long that
-/// takes: a place at it or next to it is found at once, and so is one of ids that rise evenly.
+/// How many of the rising ids are at most this one. The hint makes no difference but to how long
+/// that takes: a place at it or next to it is found at once, and so is one of ids that rise evenly.
 #[inline(always)]
 pub fn place_near(firsts: &[u64], id: u64, hint: usize) -> usize
     requires { AreSorted firsts.now }

@@ -31,7 +31,8 @@ arrivals ds = map Some ds
 
 -- calls have found these: where the datagrams that have arrived are told, they are the next of
 -- them, and the others are left
-pub record AreOf (ds : List Datagram) (now : Option (List Datagram)) (found : List Find) : Type 0 where
+pub record AreOf (ds : List Datagram) (now : Option (List Datagram)) (found : List Find)
+    : Type 0 where
   pub left : List Datagram
   pub now_is : now ≡ Some left
   pub next : AreNext (arrivals ds) found

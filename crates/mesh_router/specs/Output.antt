@@ -21,14 +21,16 @@ IsOutput before now run NoMemory = AddsPrefix before now run.said
 IsOutput before now run LinkFault = AddsPrefix before now run.said
 
 -- the same by what was found, whatever is found later
-pub record IsTold (run : List Find → Run) (arrived left : Option (List Datagram)) (before now : Outputs) (status : NodeStatus) : Type 0 where
+pub record IsTold (run : List Find → Run) (arrived left : Option (List Datagram))
+    (before now : Outputs) (status : NodeStatus) : Type 0 where
   pub found : List Find
   pub taken : AreFound arrived left found
   pub told : (finds : List Find) → AreNext finds found → IsOutput before now (run finds) status
 
 -- the run of a script, by what its calls that receive have found: where the datagrams that arrive
 -- are told, they are these
-pub record IsScriptRun (script : List ℕ) (arrived : Option (List Datagram)) (before now : Outputs) (status : NodeStatus) : Type 0 where
+pub record IsScriptRun (script : List ℕ) (arrived : Option (List Datagram)) (before now : Outputs)
+    (status : NodeStatus) : Type 0 where
   pub finds : List Find
   pub arrivals_are : IfSome arrived (λ ds. finds ≡ arrivals ds)
   pub output : IsOutput before now (run_of_script script finds) status

@@ -90,20 +90,23 @@ IsTaken old port bytes before now new result =
     (λ _. AppendsPrefix before now (found_text old port bytes (at_port old.peers port)))
 
 -- a datagram was found, and what was done with it was told
-pub record IsFoundOne (old new : Router) (arrived left : Option (List Datagram)) (before now : Outputs) : Type 0 where
+pub record IsFoundOne (old new : Router) (arrived left : Option (List Datagram))
+    (before now : Outputs) : Type 0 where
   pub datagram : Datagram
   pub taken : AreFound arrived left (Some datagram ∷ [])
   pub next : new ≡ datagram_next old datagram
   pub adds : Adds before now (datagram_said old datagram)
 
 -- nothing was there
-pub record IsFoundNone (old new : Router) (arrived left : Option (List Datagram)) (before now : Outputs) : Type 0 where
+pub record IsFoundNone (old new : Router) (arrived left : Option (List Datagram))
+    (before now : Outputs) : Type 0 where
   pub taken : AreFound arrived left (None ∷ [])
   pub same : new ≡ old
   pub adds : Adds before now (written none_line)
 
 -- these were found, and what was done with them was told
-pub record IsPolled (count : ℕ) (old new : Router) (arrived left : Option (List Datagram)) (before now : Outputs) : Type 0 where
+pub record IsPolled (count : ℕ) (old new : Router) (arrived left : Option (List Datagram))
+    (before now : Outputs) : Type 0 where
   pub found : List Find
   pub taken : AreFound arrived left found
   pub said : Said
@@ -112,7 +115,8 @@ pub record IsPolled (count : ℕ) (old new : Router) (arrived left : Option (Lis
       → polls_of count old finds ≡ polled said new (left_after finds found)
 
 -- these were found, and what was done with them was told in part
-pub record IsPolledInPart (count : ℕ) (old : Router) (arrived left : Option (List Datagram)) (before now : Outputs) : Type 0 where
+pub record IsPolledInPart (count : ℕ) (old : Router) (arrived left : Option (List Datagram))
+    (before now : Outputs) : Type 0 where
   pub found : List Find
   pub taken : AreFound arrived left found
   pub told : (finds : List Find) → AreNext finds found
@@ -135,7 +139,8 @@ IsPollStep old arrived left before now new (Err stop) =
     (others : ℕ) → IsPolledInPart (suc others) old arrived left before now
 
 -- datagrams that are received, below their line
-pub record IsPollLineDone (count : ℕ) (words : List ℕ) (old new : Router) (arrived left : Option (List Datagram)) (before now : Outputs) : Type 0 where
+pub record IsPollLineDone (count : ℕ) (words : List ℕ) (old new : Router)
+    (arrived left : Option (List Datagram)) (before now : Outputs) : Type 0 where
   pub found : List Find
   pub taken : AreFound arrived left found
   pub said : Said
@@ -143,7 +148,8 @@ pub record IsPollLineDone (count : ℕ) (words : List ℕ) (old new : Router) (a
   pub is : (finds : List Find) → AreNext finds found
       → polls_of count old finds ≡ polled said new (left_after finds found)
 
-pub record IsPollLineInPart (count : ℕ) (words : List ℕ) (old : Router) (arrived left : Option (List Datagram)) (before now : Outputs) : Type 0 where
+pub record IsPollLineInPart (count : ℕ) (words : List ℕ) (old : Router)
+    (arrived left : Option (List Datagram)) (before now : Outputs) : Type 0 where
   pub found : List Find
   pub taken : AreFound arrived left found
   pub told : (finds : List Find) → AreNext finds found
@@ -169,7 +175,8 @@ said_of (Refused why) = nothing
 said_of (Full said words field) = said
 
 -- it was done and told, by what was found, and the run goes on from the next moment
-pub record IsLineDone (k : List Find → LineOutcome) (next : Moment) (arrived left : Option (List Datagram)) (before now : Outputs) : Type 0 where
+pub record IsLineDone (k : List Find → LineOutcome) (next : Moment)
+    (arrived left : Option (List Datagram)) (before now : Outputs) : Type 0 where
   pub found : List Find
   pub taken : AreFound arrived left found
   pub said : Said
@@ -178,14 +185,16 @@ pub record IsLineDone (k : List Find → LineOutcome) (next : Moment) (arrived l
       → k finds ≡ On said next (left_after finds found)
 
 -- a counter is full
-pub record IsLineFull (k : List Find → LineOutcome) (words : List ℕ) (field : Counter) (arrived left : Option (List Datagram)) (before now : Outputs) : Type 0 where
+pub record IsLineFull (k : List Find → LineOutcome) (words : List ℕ) (field : Counter)
+    (arrived left : Option (List Datagram)) (before now : Outputs) : Type 0 where
   pub said : Said
   pub adds : Adds before now said
   pub is : (finds : List Find) → k finds ≡ Full said words field
   pub same : left ≡ arrived
 
 -- it was told in part
-pub record IsLineInPart (k : List Find → LineOutcome) (arrived left : Option (List Datagram)) (before now : Outputs) : Type 0 where
+pub record IsLineInPart (k : List Find → LineOutcome) (arrived left : Option (List Datagram))
+    (before now : Outputs) : Type 0 where
   pub found : List Find
   pub taken : AreFound arrived left found
   pub told : (finds : List Find) → AreNext finds found → AddsPrefix before now (said_of (k finds))

@@ -35,7 +35,8 @@ Says before now said result =
     MatchResult result (λ _. Adds before now said) (λ _. AddsPrefix before now said)
 
 -- a fault is answered only where the sink or the link has failed in this call
-pub record HasCauses {T : Type 0} (sink sink_now link link_now : ℕ) (result : Result T Stop) : Type 0 where
+pub record HasCauses {T : Type 0} (sink sink_now link link_now : ℕ) (result : Result T Stop)
+    : Type 0 where
   pub sink_later : sink ≤ sink_now
   pub link_later : link ≤ link_now
   pub write : IsErrOf result stop.WriteFault → Rose sink sink_now

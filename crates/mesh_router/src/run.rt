@@ -131,8 +131,8 @@ pub fn run_script<I: Source, O: Sink, L: Link>(
     requires open { is_some (L.port link.old) ≡ true }
 
     // What is written and sent is what the script says with what was found, and the answer its
-    // verdict. After a fault, or want of memory, it is a prefix of that, in the order in which it is
-    // said: a datagram is sent only once all text before it is written.
+    // verdict. After a fault, or want of memory, it is a prefix of that, in the order in which it
+    // is said: a datagram is sent only once all text before it is written.
     ensures told { IfSome (I.left input.old) (λ script. IsScriptRun script (L.arrived link.old)
         (O.held out.old, L.sent link.old) (O.held out.new, L.sent link.new) result) }
 

@@ -20,8 +20,8 @@ HasStopCause before now result = HasCauseIf (IsErrOf result stop.WriteFault) bef
 abbrev pub HasStatusCause : Status → ℕ → ℕ → Status → Type 0
 HasStatusCause fault before now s = HasCauseIf (s ≡ fault) before now
 
--- the same of the source of a run: where a read failed, and then a write of what was gathered before it, the sink's fault is
--- answered
+-- the same of the source of a run: where a read failed, and then a write of what was gathered
+-- before it, the sink's fault is answered
 pub record HasSourceCause (before now : ℕ) (s : Status) : Type 0 where
   pub later : before ≤ now
   pub failed : s ≡ status.ReadFault → Rose before now

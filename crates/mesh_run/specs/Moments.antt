@@ -76,15 +76,16 @@ pub record IsSafeWorld (w : World) : Type 0 where
   pub invariant : IsInvariant w
   pub loop_free : (d : ℕ) → ¬ (Cycle w d)
 
--- what holds at each moment of a run: its world is safe, and each datum that was given or doubled was delivered, waits, is
--- in flight, or was dropped
+-- what holds at each moment of a run: its world is safe, and each datum that was given or doubled
+-- was delivered, waits, is in flight, or was dropped
 pub record IsSafe (m : Moment) : Type 0 where
   pub world : IfSome m.world IsSafeWorld
   pub balanced : IsBalanced m
 
--- the event was done, or was idle: the answer, with the packet that was cast, says what came of it, and names nodes of
--- the mesh only
-pub record IsAnswer (m : Moment) (e : Event) (done : Done) (n : Moment) (packet : List ℕ) : Type 0 where
+-- the event was done, or was idle: the answer, with the packet that was cast, says what came of it,
+-- and names nodes of the mesh only
+pub record IsAnswer (m : Moment) (e : Event) (done : Done) (n : Moment) (packet : List ℕ)
+    : Type 0 where
   pub moment : n ≡ stepped m e
   pub outcome : outcome_at m e ≡ outcome_in m.mesh (node_of e) (world_of n) done packet
   pub in_mesh : IsDoneInMesh m.mesh done packet
@@ -106,7 +107,8 @@ Parts = ℕ × (ℕ × (ℕ × (ℕ × (ℕ × ℕ))))
 
 abbrev sums_code : Coded Sums
 sums_code =
-    code_by Parts (coded× coded_ℕ (coded× coded_ℕ (coded× coded_ℕ (coded× coded_ℕ (coded× coded_ℕ coded_ℕ)))))
+    code_by Parts
+    (coded× coded_ℕ (coded× coded_ℕ (coded× coded_ℕ (coded× coded_ℕ (coded× coded_ℕ coded_ℕ)))))
     (λ s. (s.events, (s.idle, (s.given, (s.delivered, (s.lost, s.copied))))))
     (λ p. record {
       events = p.0;

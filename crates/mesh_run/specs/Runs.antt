@@ -1,4 +1,5 @@
--- What was told of one line, of one event, and of events that were chosen. A text is left out where a run is quiet.
+-- What was told of one line, of one event, and of events that were chosen. A text is left out where
+-- a run is quiet.
 use Rattle.std.specs.Prelude.{ℕ, ◌≡◌, ◌≤◌, ◌⊎◌, List, [], take, Bool, if◌then◌else◌, Option, Result, Ok, Err, MatchResult, length}
 use Rattle.std.specs.Io.KnownBytes.{Appends, Keeps}
 use Rattle.mesh_base.specs.declared.events.Counter as full
@@ -38,12 +39,14 @@ IsLineOf mesh l bytes = (length bytes ≤ LONGEST_LINE) × (bytes ≡ words_of m
 -- ---- what came of a line, or of one event
 
 -- it was done and its text written, and the run goes on from the next moment
-pub record IsLineDone (quiet : Bool) (k : LineOutcome) (n : Moment) (before now : Option (List ℕ)) : Type 0 where
+pub record IsLineDone (quiet : Bool) (k : LineOutcome) (n : Moment) (before now : Option (List ℕ))
+    : Type 0 where
   pub text : List ℕ
   pub is : k ≡ On text n
   pub grown : Appends before now (output_if quiet text)
 
--- what is known after a refusal for a full counter: the event is of the mesh, and mesh and line are still the same
+-- what is known after a refusal for a full counter: the event is of the mesh, and mesh and line are
+-- still the same
 pub record IsStill (m n : Moment) (e : Event) : Type 0 where
   pub event : IsEvent (length m.mesh) e
   pub mesh : n.mesh ≡ m.mesh
@@ -51,7 +54,8 @@ pub record IsStill (m n : Moment) (e : Event) : Type 0 where
 
 -- an event was refused for this node's full counter at the moment that is left, after a text
 pub record IsLineFull
-    (quiet : Bool) (m : Moment) (k : LineOutcome) (n : Moment) (before now : Option (List ℕ)) (e : Event) (node : ℕ) (field : full.Counter) : Type 0 where
+    (quiet : Bool) (m : Moment) (k : LineOutcome) (n : Moment) (before now : Option (List ℕ))
+    (e : Event) (node : ℕ) (field : full.Counter) : Type 0 where
   pub text : List ℕ
   pub is : k ≡ Full text n e field
   pub refused : outcome_at n e ≡ worlds.Full node field
@@ -59,19 +63,29 @@ pub record IsLineFull
   pub still : IsStill m n e
 
 -- it was refused, or was not done or not written whole
-abbrev pub IsLineStopped : Bool → Moment → LineOutcome → Moment → Option (List ℕ) → Option (List ℕ) → Stop → Type 0
-IsLineStopped quiet m k n before now (stop.BadLine f) = (k ≡ Refused (Fault f)) × (n ≡ m) × Keeps before now
-IsLineStopped quiet m k n before now (stop.Full e node field) = IsLineFull quiet m k n before now (event_of e) node field
-IsLineStopped quiet m k n before now stop.WriteFault = AppendsPrefix before now (output_if quiet (text_in k))
-IsLineStopped quiet m k n before now stop.NoMemory = AppendsPrefix before now (output_if quiet (text_in k))
+abbrev pub IsLineStopped : Bool → Moment → LineOutcome → Moment → Option (List ℕ) → Option (List ℕ)
+    → Stop → Type 0
+IsLineStopped quiet m k n before now (stop.BadLine f) =
+    (k ≡ Refused (Fault f)) × (n ≡ m) × Keeps before now
+IsLineStopped quiet m k n before now (stop.Full e node field) =
+    IsLineFull quiet m k n before now (event_of e) node field
+IsLineStopped quiet m k n before now stop.WriteFault =
+    AppendsPrefix before now (output_if quiet (text_in k))
+IsLineStopped quiet m k n before now stop.NoMemory =
+    AppendsPrefix before now (output_if quiet (text_in k))
 
 -- either
-abbrev pub IsLineRun : Bool → Moment → LineOutcome → Moment → Option (List ℕ) → Option (List ℕ) → Result (Unit {0}) Stop → Type 0
-IsLineRun quiet m k n before now result = MatchResult result (λ _. IsLineDone quiet k n before now) (IsLineStopped quiet m k n before now)
+abbrev pub IsLineRun : Bool → Moment → LineOutcome → Moment → Option (List ℕ) → Option (List ℕ)
+    → Result (Unit {0}) Stop → Type 0
+IsLineRun quiet m k n before now result =
+    MatchResult result (λ _. IsLineDone quiet k n before now) (IsLineStopped quiet m k n before now)
 
 -- either, of a line that is not counted yet
-abbrev pub IsUncountedRun : Bool → Moment → LineOutcome → Moment → Option (List ℕ) → Option (List ℕ) → Result (Unit {0}) Stop → Type 0
-IsUncountedRun quiet m k n before now result = MatchResult result (λ _. IsLineDone quiet k (counted n) before now) (IsLineStopped quiet m k n before now)
+abbrev pub IsUncountedRun : Bool → Moment → LineOutcome → Moment → Option (List ℕ) → Option (List ℕ)
+    → Result (Unit {0}) Stop → Type 0
+IsUncountedRun quiet m k n before now result =
+    MatchResult result (λ _. IsLineDone quiet k (counted n) before now)
+    (IsLineStopped quiet m k n before now)
 
 -- ---- the moments that a line goes through
 
@@ -79,8 +93,8 @@ IsUncountedRun quiet m k n before now result = MatchResult result (λ _. IsLineD
 abbrev pub IsReached : Moment → List Event → Moment → Type 0
 IsReached m events n = (k : ℕ) × (n ≡ moment_after m (take k events))
 
--- a line with these events goes through a moment before it is counted: the one before it; or, once the run has started, that
--- after some of its events
+-- a line with these events goes through a moment before it is counted: the one before it; or, once
+-- the run has started, that after some of its events
 abbrev pub IsOnTheWay : Moment → List Event → Moment → Type 0
 IsOnTheWay m events n = (n ≡ m) ⊎ IsReached (started m) events n
 
@@ -98,14 +112,17 @@ line_outcome_at m e = outcome_by m e (outcome_at m e)
 -- ---- events that were chosen
 
 -- all that were to be done, or all that there were, were done and written
-pub record IsAutoDone (quiet : Bool) (ran : AutoOutcome) (n : Moment) (before now : Option (List ℕ)) (did : ℕ) : Type 0 where
+pub record IsAutoDone (quiet : Bool) (ran : AutoOutcome) (n : Moment) (before now : Option (List ℕ))
+    (did : ℕ) : Type 0 where
   pub text : List ℕ
   pub is : ran ≡ Ended text did n
   pub grown : Appends before now (output_if quiet text)
 
--- one was refused for this node's full counter at the moment that is left, after the text of the others
+-- one was refused for this node's full counter at the moment that is left, after the text of the
+-- others
 pub record IsAutoFull
-    (quiet : Bool) (m : Moment) (ran : AutoOutcome) (n : Moment) (before now : Option (List ℕ)) (e : Event) (node : ℕ) (field : full.Counter) : Type 0 where
+    (quiet : Bool) (m : Moment) (ran : AutoOutcome) (n : Moment) (before now : Option (List ℕ))
+    (e : Event) (node : ℕ) (field : full.Counter) : Type 0 where
   pub text : List ℕ
   pub is : ran ≡ AutoFull text n e field
   pub refused : outcome_at n e ≡ worlds.Full node field
@@ -117,9 +134,13 @@ text_of (Ended text did n) = text
 text_of (AutoFull text n e field) = text
 
 -- what was told of them, from moment m to moment n. None of them is a line that is refused
-abbrev pub IsAutoRun : Bool → Moment → AutoOutcome → Moment → Option (List ℕ) → Option (List ℕ) → Result ℕ Stop → Type 0
+abbrev pub IsAutoRun : Bool → Moment → AutoOutcome → Moment → Option (List ℕ) → Option (List ℕ)
+    → Result ℕ Stop → Type 0
 IsAutoRun quiet m ran n before now (Ok did) = IsAutoDone quiet ran n before now did
 IsAutoRun quiet m ran n before now (Err (stop.BadLine f)) = ⊥
-IsAutoRun quiet m ran n before now (Err (stop.Full e node field)) = IsAutoFull quiet m ran n before now (event_of e) node field
-IsAutoRun quiet m ran n before now (Err stop.WriteFault) = AppendsPrefix before now (output_if quiet (text_of ran))
-IsAutoRun quiet m ran n before now (Err stop.NoMemory) = AppendsPrefix before now (output_if quiet (text_of ran))
+IsAutoRun quiet m ran n before now (Err (stop.Full e node field)) =
+    IsAutoFull quiet m ran n before now (event_of e) node field
+IsAutoRun quiet m ran n before now (Err stop.WriteFault) =
+    AppendsPrefix before now (output_if quiet (text_of ran))
+IsAutoRun quiet m ran n before now (Err stop.NoMemory) =
+    AppendsPrefix before now (output_if quiet (text_of ran))

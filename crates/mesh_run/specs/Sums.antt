@@ -27,8 +27,8 @@ pub record AreCounts (s : model.Sums) (steps : ℕ) : Type 0 where
   pub lost : s.lost ≤ counted_before + steps
   pub copied : s.copied ≤ counted_before + steps
 
--- the events have grown by as much as the steps, and no sum by more; the next copy's number, which is 1 before there is a
--- world, by at most as much for each node that a mesh may have
+-- the events have grown by as much as the steps, and no sum by more; the next copy's number, which
+-- is 1 before there is a world, by at most as much for each node that a mesh may have
 pub record IsGrown (m n : Moment) : Type 0 where
   pub steps : m.steps ≤ n.steps
   pub events : n.sums.events + m.steps ≡ m.sums.events + n.steps
@@ -37,7 +37,8 @@ pub record IsGrown (m n : Moment) : Type 0 where
   pub delivered : n.sums.delivered + m.steps ≤ m.sums.delivered + n.steps
   pub lost : n.sums.lost + m.steps ≤ m.sums.lost + n.steps
   pub copied : n.sums.copied + m.steps ≤ m.sums.copied + n.steps
-  pub copies : (world_of n).next_copy + MOST_NODES * m.steps ≤ (world_of m).next_copy + MOST_NODES * n.steps
+  pub copies : (world_of n).next_copy + MOST_NODES * m.steps ≤ (world_of m).next_copy
+      + MOST_NODES * n.steps
 
 -- 1 where it is so
 abbrev pub count_of : Bool → ℕ

@@ -1,5 +1,5 @@
--- What was told of a run: what the sink held before, and what it holds now. Where a sink doesn't tell what it holds, the
--- verdict alone is claimed.
+-- What was told of a run: what the sink held before, and what it holds now. Where a sink doesn't
+-- tell what it holds, the verdict alone is claimed.
 use Rattle.std.specs.Prelude.{ℕ, ◌≡◌, Bool, true, false, if◌then◌else◌, List, [], Option, Some}
 use Rattle.std.specs.Io.KnownBytes.{Appends, Consumes}
 use Rattle.mesh_io.specs.Puts.{AppendsPrefix}
@@ -32,8 +32,8 @@ said All w = output false w
 said Last w = output true w
 said Faults w = record w { lines = []; last = fault_line w.verdict w.last }
 
--- a run that was to write this has answered: the whole text and its verdict, or a prefix of the text and a fault or want of
--- memory
+-- a run that was to write this has answered: the whole text and its verdict, or a prefix of the
+-- text and a fault or want of memory
 abbrev pub IsOutput : Option (List ℕ) → Option (List ℕ) → Written → Status → Type 0
 IsOutput before now w Done = (w.verdict ≡ Finished) × Appends before now (whole w)
 IsOutput before now w (BadLine n) = (w.verdict ≡ RefusedAt n) × Appends before now (whole w)
@@ -43,22 +43,29 @@ IsOutput before now w WriteFault = AppendsPrefix before now (whole w)
 IsOutput before now w NoMemory = AppendsPrefix before now (whole w)
 IsOutput before now w Usage = ⊥
 
--- a read failed after some bytes were taken: their complete lines were all allowed and done, and their text was written,
--- which is a prefix of what the whole input comes to
-pub record IsCutShort (say : Say) (m : Moment) (bytes : List ℕ) (left before now : Option (List ℕ)) : Type 0 where
+-- a read failed after some bytes were taken: their complete lines were all allowed and done, and
+-- their text was written, which is a prefix of what the whole input comes to
+pub record IsCutShort (say : Say) (m : Moment) (bytes : List ℕ) (left before now : Option (List ℕ))
+    : Type 0 where
   pub taken : List ℕ
   pub consumed : Consumes (Some bytes) left taken
   pub done : (text_on m (complete taken)).verdict ≡ Finished
   pub grown : Appends before now (said say (text_on m (complete taken))).lines
   pub prefix : AppendsPrefix before now (whole (said say (text_on m bytes)))
 
--- a run of these bytes from a moment on has answered, where the source has this left. After a failed read what was
--- written is the text of the lines that were read whole
-abbrev pub IsOutputFrom : Say → Moment → List ℕ → Option (List ℕ) → Option (List ℕ) → Option (List ℕ) → Status → Type 0
-IsOutputFrom say m bytes left before now Done = IsOutput before now (said say (text_on m bytes)) Done
-IsOutputFrom say m bytes left before now (BadLine n) = IsOutput before now (said say (text_on m bytes)) (BadLine n)
-IsOutputFrom say m bytes left before now (Full n) = IsOutput before now (said say (text_on m bytes)) (Full n)
+-- a run of these bytes from a moment on has answered, where the source has this left. After a
+-- failed read what was written is the text of the lines that were read whole
+abbrev pub IsOutputFrom : Say → Moment → List ℕ → Option (List ℕ) → Option (List ℕ)
+    → Option (List ℕ) → Status → Type 0
+IsOutputFrom say m bytes left before now Done =
+    IsOutput before now (said say (text_on m bytes)) Done
+IsOutputFrom say m bytes left before now (BadLine n) =
+    IsOutput before now (said say (text_on m bytes)) (BadLine n)
+IsOutputFrom say m bytes left before now (Full n) =
+    IsOutput before now (said say (text_on m bytes)) (Full n)
 IsOutputFrom say m bytes left before now ReadFault = IsCutShort say m bytes left before now
-IsOutputFrom say m bytes left before now WriteFault = IsOutput before now (said say (text_on m bytes)) WriteFault
-IsOutputFrom say m bytes left before now NoMemory = IsOutput before now (said say (text_on m bytes)) NoMemory
+IsOutputFrom say m bytes left before now WriteFault =
+    IsOutput before now (said say (text_on m bytes)) WriteFault
+IsOutputFrom say m bytes left before now NoMemory =
+    IsOutput before now (said say (text_on m bytes)) NoMemory
 IsOutputFrom say m bytes left before now Usage = ⊥

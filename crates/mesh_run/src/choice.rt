@@ -20,9 +20,9 @@ fn first_copy_of(world: &World) -> Option<u64>
     radio.first_id()
 }
 
-/// The event that comes next where a run chooses: the first that there is of a turn, a delivery, the
-/// send of a stored datum, and a request, each at the least node, copy or destination. It searches
-/// through nothing.
+/// The event that comes next where a run chooses: the first that there is of a turn, a delivery,
+/// the send of a stored datum, and a request, each at the least node, copy or destination. It
+/// searches through nothing.
 pub fn pick(world: &World) -> Option<Event<'static>>
     ensures value { option_map event_of result ≡ pick world.now.world }
     ensures within { IfSome result (λ e. IsEvent (length world.now.mesh) (event_of e)) }

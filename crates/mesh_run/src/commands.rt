@@ -174,8 +174,8 @@ fn do_uncounted<'a, S: Steps, O: Sink>(
     }
 }
 
-/// Does an allowed line, writes its text unless the run is quiet, and counts it. Every line but that
-/// of a node is written back as it stands; of a quiet run's line the bytes aren't asked for.
+/// Does an allowed line, writes its text unless the run is quiet, and counts it. Every line but
+/// that of a node is written back as it stands; of a quiet run's line the bytes aren't asked for.
 #[inline(always)]
 pub fn do_line<'a, S: Steps, O: Sink>(
     alloc: Global,

@@ -93,8 +93,8 @@ fn do_through<'s, S: Steps, I: Source, O: Sink, L: Loan>(
     buffer.give_back()
 }
 
-/// Does the lines of an input as `drive` does, over a moment that stays where it is: a large world is
-/// not moved. The memory of the buffer is taken first.
+/// Does the lines of an input as `drive` does, over a moment that stays where it is: a large world
+/// is not moved. The memory of the buffer is taken first.
 pub fn do_input<S: Steps, I: Source, O: Sink>(
     alloc: Global,
     at: &mut Point<S>,
@@ -127,8 +127,8 @@ pub fn do_input<S: Steps, I: Source, O: Sink>(
 }
 
 /// Does the lines of an input in order, from a moment on, up to its end or the first that stops the
-/// run: one that isn't allowed, or has an event that would raise a counter past its field's greatest
-/// value. The moment to which they came is there exactly where the answer is Done.
+/// run: one that isn't allowed, or has an event that would raise a counter past its field's
+/// greatest value. The moment to which they came is there exactly where the answer is Done.
 ///
 /// What is written is gathered in a buffer of 65536 bytes, and handed on when that is full, before
 /// each read of the source, and at the end, unless a write has failed.

@@ -35,8 +35,8 @@ pub fn refuse<S: Steps, O: Sink>(at: &mut Point<S>, why: BadWhy, out: &mut O) ->
     }
 }
 
-/// Ends the run at an event that is refused for a full counter: writes the line that tells of it, and
-/// answers it.
+/// Ends the run at an event that is refused for a full counter: writes the line that tells of it,
+/// and answers it.
 #[cold]
 #[inline(never)]
 pub fn fill<S: Steps, O: Sink>(

@@ -26,8 +26,8 @@ use mesh_script::parse_line;
 use mesh_world::Steps;
 use std::alloc::Global;
 
-/// Does one line of at most `LONGEST_LINE` bytes, writes its text unless the run is quiet, and counts
-/// the line. It never writes a last line: where it answers BadLine or Full, its caller does.
+/// Does one line of at most `LONGEST_LINE` bytes, writes its text unless the run is quiet, and
+/// counts the line. It never writes a last line: where it answers BadLine or Full, its caller does.
 ///
 /// BadLine comes exactly where the line isn't allowed, and the moment is then as it was. Full comes
 /// exactly where an event of the line would raise a node's counter past its field's greatest value;
@@ -112,8 +112,8 @@ pub fn hand_on<I: Source, O: Sink>(
     out.flush()
 }
 
-/// Does the lines of a source from its front, up to its end or the first that stops the run. What is
-/// gathered is handed on before each read, so that a line's text is there before the next is
+/// Does the lines of a source from its front, up to its end or the first that stops the run. What
+/// is gathered is handed on before each read, so that a line's text is there before the next is
 /// awaited.
 pub fn do_lines<S: Steps, I: Source, O: Sink>(
     alloc: Global,

@@ -119,9 +119,9 @@ impl<S: Steps> Point<S> {
     }
 
     /// Does one event, in the opening world where there is none yet, and counts it. The packet that
-    /// is cast is left in `out`. On a refusal the moment is as it was: there is still no world where
-    /// there was none. Full comes exactly where the event would raise a counter past its field's
-    /// greatest value.
+    /// is cast is left in `out`. On a refusal the moment is as it was: there is still no world
+    /// where there was none. Full comes exactly where the event would raise a counter past its
+    /// field's greatest value.
     pub fn step(
         &mut self,
         alloc: Global,

@@ -125,8 +125,8 @@ impl<S: Steps> State<S> {
         self.lines
     }
 
-    /// The world, where one was made. It has the invariant, and no destination's valid routes have a
-    /// loop.
+    /// The world, where one was made. It has the invariant, and no destination's valid routes have
+    /// a loop.
     pub fn world(&self) -> Option<&S>
         ensures safe { IsSafe self.now }
         ensures variant { IfSome self.now.world (AreOfVariant self.now.variant) }

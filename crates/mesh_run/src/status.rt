@@ -10,7 +10,8 @@ pub enum Status {
     Usage,
     /// This line, counted from 1, isn't allowed.
     BadLine { line: u64 },
-    /// An event of this line, counted from 1, would raise a counter past its field's greatest value.
+    /// An event of this line, counted from 1, would raise a counter past its field's greatest
+    /// value.
     Full { line: u64 },
     /// The source failed.
     ReadFault,

@@ -40,13 +40,16 @@ queued_in items = sum_by (λ item. one_if (has_datum item)) items
 unfoldable pub flying_in : List Flying → ℕ
 flying_in copies = sum_by (λ f. one_if (is_data f.bytes)) copies
 
--- nodes and copies of a mesh whose packets are all written of their messages, with fewer data than a count can have
+-- nodes and copies of a mesh whose packets are all written of their messages, with fewer data than
+-- a count can have
 pub record AreCounted (mesh : Nodes) (nodes : List NodeSeen) (radio : RadioState) : Type 0 where
   pub items : AllByRecursion (λ n. AllByRecursion (IsWrittenItem mesh) n.items) nodes
   pub sizes : AllByRecursion (λ n. n.size ≡ length nodes) nodes
   pub flying : AllByRecursion (IsWrittenCopy mesh) radio.flying
-  pub few : waiting any (world_in mesh nodes radio) + queued any (world_in mesh nodes radio) + in_flight any (world_in mesh nodes radio) < 2 ^ 64
+  pub few : waiting any (world_in mesh nodes radio) + queued any (world_in mesh nodes radio)
+      + in_flight any (world_in mesh nodes radio) < 2 ^ 64
 
 -- n is this count of the world
 abbrev pub IsCountOf : List NodeSeen → RadioState → (World → ℕ) → ℕ → Type 0
-IsCountOf nodes radio count n = (mesh : Nodes) → AreCounted mesh nodes radio → n ≡ count (world_in mesh nodes radio)
+IsCountOf nodes radio count n =
+    (mesh : Nodes) → AreCounted mesh nodes radio → n ≡ count (world_in mesh nodes radio)

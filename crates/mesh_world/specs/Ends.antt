@@ -15,7 +15,8 @@ abbrev pub end_in : End → model.End
 end_in (ends.Arrived hops) = model.Arrived hops
 end_in (ends.Stuck at hops) = model.Stuck at hops
 
--- an end in a mesh of this size: a route has fewer hops than there are nodes, and stops at one of them
+-- an end in a mesh of this size: a route has fewer hops than there are nodes, and stops at one of
+-- them
 abbrev pub IsEndIn : ℕ → End → Type 0
 IsEndIn size (ends.Arrived hops) = hops < size
 IsEndIn size (ends.Stuck at hops) = (at < size) × (hops < size)
@@ -29,4 +30,6 @@ pub record AreOfWorld (nodes : List NodeSeen) : Type 0 where
 
 -- what holds of each world of these nodes that has the invariant
 abbrev pub InEachWorld : List NodeSeen → (World → Type 0) → Type 0
-InEachWorld nodes P = (mesh : Nodes) (radio : RadioState) → IsInvariant (world_in mesh nodes radio) → P (world_in mesh nodes radio)
+InEachWorld nodes P =
+    (mesh : Nodes) (radio : RadioState) → IsInvariant (world_in mesh nodes radio)
+    → P (world_in mesh nodes radio)

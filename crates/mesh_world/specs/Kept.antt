@@ -23,7 +23,11 @@ world_in mesh nodes radio = record {
 }
 
 abbrev pub seen_of : Nodes → List NodeSeen → RadioState → ℕ → WorldSeen
-seen_of mesh nodes radio steps = record { mesh = mesh; world = world_in mesh nodes radio; steps = steps }
+seen_of mesh nodes radio steps = record {
+  mesh = mesh;
+  world = world_in mesh nodes radio;
+  steps = steps;
+}
 
 -- a node of the mesh, each of whose packets is written of its message
 pub record IsKeptNode (mesh : Nodes) (n : NodeSeen) : Type 0 where
@@ -31,7 +35,8 @@ pub record IsKeptNode (mesh : Nodes) (n : NodeSeen) : Type 0 where
   pub size : n.size ≡ length mesh
   pub sound : IsSoundNode n
 
--- the nodes that may take a turn, send, and ask: the sets that a world keeps, so that the next event is chosen without a search
+-- the nodes that may take a turn, send, and ask: the sets that a world keeps, so that the next
+-- event is chosen without a search
 pub record Ready : Type 0 where
   pub turns : NodeIds
   pub sends : NodeIds
@@ -39,12 +44,18 @@ pub record Ready : Type 0 where
 
 -- they are those of these nodes
 pub record IsReadyFor (mesh : Nodes) (nodes : List NodeSeen) (ready : Ready) : Type 0 where
-  pub turns : (x : ℕ) → sets.contains ready.turns x ≡ may_turn_in (slice_get (map (node_in mesh) nodes) x)
-  pub sends : (x : ℕ) → sets.contains ready.sends x ≡ is_some (first_send_in (length mesh) (slice_get (map (node_in mesh) nodes) x))
-  pub asks : (x : ℕ) → sets.contains ready.asks x ≡ is_some (first_ask_in (length mesh) (slice_get (map (node_in mesh) nodes) x))
+  pub turns : (x : ℕ)
+      → sets.contains ready.turns x ≡ may_turn_in (slice_get (map (node_in mesh) nodes) x)
+  pub sends : (x : ℕ)
+      → sets.contains ready.sends x
+      ≡ is_some (first_send_in (length mesh) (slice_get (map (node_in mesh) nodes) x))
+  pub asks : (x : ℕ)
+      → sets.contains ready.asks x
+      ≡ is_some (first_ask_in (length mesh) (slice_get (map (node_in mesh) nodes) x))
 
 -- what the code of a world keeps
-pub record IsKept (mesh : Nodes) (nodes : List NodeSeen) (radio : RadioState) (ready : Ready) (steps : ℕ) : Type 0 where
+pub record IsKept (mesh : Nodes) (nodes : List NodeSeen) (radio : RadioState) (ready : Ready)
+    (steps : ℕ) : Type 0 where
   pub sound : IsSoundWorld (seen_of mesh nodes radio steps)
   pub each : AllByRecursion (IsKeptNode mesh) nodes
   pub flying : AllByRecursion (IsWrittenCopy mesh) radio.flying

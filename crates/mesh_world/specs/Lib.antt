@@ -1,6 +1,6 @@
--- What a world is seen as. Read in this order; mesh_model defines what happens in a world, and mesh_meaning what the
--- program's events, copies and answers mean.
--- Seen: what is seen of a world, and what every world keeps.
+-- What a world is seen as. Read in this order; mesh_model defines what happens in a world, and
+-- mesh_meaning what the program's events, copies and answers mean. Seen: what is seen of a world,
+-- and what every world keeps.
 pub mod Seen
 -- Steps: what a step answers, and what is then seen of the world.
 pub mod Steps

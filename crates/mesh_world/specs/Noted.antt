@@ -15,8 +15,13 @@ use Rattle.mesh_world.specs.Kept.{world_in, Ready, IsReadyFor}
 -- a code, by which proofs tell such sets apart
 abbrev pub ready_code : Coded Ready
 ready_code =
-    code_by (NodeIds × (NodeIds × NodeIds)) (coded× (sets.code coded_ℕ) (coded× (sets.code coded_ℕ) (sets.code coded_ℕ)))
-    (λ r. (r.turns, (r.sends, r.asks))) (λ p. record { turns = p.0; sends = p.1.0; asks = p.1.1 }) (λ _. refl)
+    code_by (NodeIds × (NodeIds × NodeIds))
+    (coded× (sets.code coded_ℕ) (coded× (sets.code coded_ℕ) (sets.code coded_ℕ)))
+    (λ r. (r.turns, (r.sends, r.asks))) (λ p. record {
+      turns = p.0;
+      sends = p.1.0;
+      asks = p.1.1;
+    }) (λ _. refl)
 
 -- no node may do anything
 abbrev pub none_ready : Ready
@@ -54,4 +59,6 @@ pub record AreReadyIn (mesh : Nodes) (nodes : List NodeSeen) (ready : Ready) : T
 
 -- what holds of each world of these nodes and any radio
 abbrev pub InEachWorld : List NodeSeen → Ready → (World → Type 0) → Type 0
-InEachWorld nodes ready P = (mesh : Nodes) (radio : RadioState) → AreReadyIn mesh nodes ready → P (world_in mesh nodes radio)
+InEachWorld nodes ready P =
+    (mesh : Nodes) (radio : RadioState) → AreReadyIn mesh nodes ready
+    → P (world_in mesh nodes radio)

@@ -26,7 +26,8 @@ abbrev pub AreKept : Parts → Type 0
 AreKept p = IsKept p.mesh (p.nodes).items p.radio p.ready p.steps
 
 -- an event was done to the parts, or refused, and they are in order
-pub record IsDoneTo (e : Event) (old : Parts) (answer : Result Done StepError) (new : Parts) (packet : List ℕ) : Type 0 where
+pub record IsDoneTo (e : Event) (old : Parts) (answer : Result Done StepError) (new : Parts)
+    (packet : List ℕ) : Type 0 where
   pub step : IsStep e (seen_in old) answer (seen_in new) packet
   pub kept : AreKept new
 
@@ -47,8 +48,12 @@ reached mesh range cast packet = receivers range (cast_in mesh cast packet)
 
 -- the radio after such a cast of node x
 abbrev pub with_cast : Nodes → RadioState → ℕ → NodeIds → Cast → List ℕ → RadioState
-with_cast mesh radio x range cast packet = with_copies radio x packet (reached mesh range cast packet)
+with_cast mesh radio x range cast packet =
+    with_copies radio x packet (reached mesh range cast packet)
 
 -- the copies of it
 abbrev pub air_of : Nodes → RadioState → NodeIds → Cast → List ℕ → Air
-air_of mesh radio range cast packet = record { first = radio.next_copy; to = reached mesh range cast packet }
+air_of mesh radio range cast packet = record {
+  first = radio.next_copy;
+  to = reached mesh range cast packet;
+}

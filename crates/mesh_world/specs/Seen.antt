@@ -29,10 +29,12 @@ opening v mesh = record { mesh = mesh; world = start v (first_numbers mesh); ste
 abbrev pub node_in : Nodes → NodeSeen → Node
 node_in mesh n = record { core = n.core; queue = map (item_in mesh) n.items }
 
--- along each edge to a node that isn't the destination and has a valid entry for it too, that node's entry is the better
--- one
+-- along each edge to a node that isn't the destination and has a valid entry for it too, that
+-- node's entry is the better one
 abbrev pub IsBetterAlongEdges : World → Type 0
-IsBetterAlongEdges w = (d x y : ℕ) (edge : Edge w d x y) (e : Entry) → y ≢ d → maps.get (table w y) d ≡ Some e → e.flag ≡ Val
+IsBetterAlongEdges w =
+    (d x y : ℕ) (edge : Edge w d x y) (e : Entry) → y ≢ d → maps.get (table w y) d ≡ Some e
+    → e.flag ≡ Val
     → is_better e edge.entry ≡ true
 
 -- the most data that a world may begin with, and the most steps that it takes
@@ -46,9 +48,9 @@ most_steps = 2 ^ 48
 abbrev pub data_of : World → ℕ
 data_of w = waiting any w + queued any w + in_flight any w
 
--- what every world of the program keeps: there is a node for each address of the mesh; what excludes cycles, and that
--- all is in its place; so no destination has a cycle, and quality rises along edges between valid entries; and no step
--- brings more than one datum
+-- what every world of the program keeps: there is a node for each address of the mesh; what
+-- excludes cycles, and that all is in its place; so no destination has a cycle, and quality rises
+-- along edges between valid entries; and no step brings more than one datum
 pub record IsSoundWorld (w : WorldSeen) : Type 0 where
   pub mesh : IsMesh w.mesh
   pub some : 1 ≤ length w.mesh
@@ -62,5 +64,10 @@ pub record IsSoundWorld (w : WorldSeen) : Type 0 where
 -- a code, by which proofs tell such values apart
 abbrev pub seen_code : Coded WorldSeen
 seen_code =
-    code_by (Nodes × (World × ℕ)) (coded× (coded_list (coded× coded_ℕ coded_ℕ)) (coded× world_code coded_ℕ))
-    (λ w. (w.mesh, (w.world, w.steps))) (λ p. record { mesh = p.0; world = p.1.0; steps = p.1.1 }) (λ _. refl)
+    code_by (Nodes × (World × ℕ))
+    (coded× (coded_list (coded× coded_ℕ coded_ℕ)) (coded× world_code coded_ℕ))
+    (λ w. (w.mesh, (w.world, w.steps))) (λ p. record {
+      mesh = p.0;
+      world = p.1.0;
+      steps = p.1.1;
+    }) (λ _. refl)

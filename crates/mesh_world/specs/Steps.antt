@@ -9,17 +9,20 @@ use Rattle.mesh_world.specs.Seen.{WorldSeen}
 use Rattle.mesh_world.specs.declared.steps.StepError.{StepError}
 use Rattle.mesh_world.specs.declared.steps.StepError.TheVariants as errors
 
--- the event was done, or wasn't enabled: the answer, with the packet that was cast, says what came of it by the model's
--- step; the world is the one after that; all that is named is in the mesh
-pub record IsDone (e : Event) (old : WorldSeen) (d : Done) (new : WorldSeen) (packet : List ℕ) : Type 0 where
+-- the event was done, or wasn't enabled: the answer, with the packet that was cast, says what came
+-- of it by the model's step; the world is the one after that; all that is named is in the mesh
+pub record IsDone (e : Event) (old : WorldSeen) (d : Done) (new : WorldSeen) (packet : List ℕ)
+    : Type 0 where
   pub outcome : step old.world e ≡ outcome_in old.mesh (node_of e) new.world d packet
   pub world : new ≡ record old { world = after old.world (step old.world e); steps = old.steps + 1 }
   pub in_mesh : IsDoneInMesh old.mesh d packet
 
--- an event in the world `old`: the answer, the world after it, and the packet. A refusal leaves the world as it was
+-- an event in the world `old`: the answer, the world after it, and the packet. A refusal leaves the
+-- world as it was
 abbrev pub IsStep : Event → WorldSeen → Result Done StepError → WorldSeen → List ℕ → Type 0
 IsStep e old (Ok d) new packet = IsDone e old d new packet
-IsStep e old (Err (errors.Full node field)) new packet = (step old.world e ≡ worlds.Full node field) × (new ≡ old)
+IsStep e old (Err (errors.Full node field)) new packet =
+    (step old.world e ≡ worlds.Full node field) × (new ≡ old)
 IsStep e old (Err errors.NoMemory) new packet = new ≡ old
 
 -- nothing comes of the event, since it isn't enabled
