@@ -4,3 +4,4 @@ pub mod FindLaws
 pub mod RowLaws
 pub mod Counts
 pub mod Listed
+pub mod PairRows

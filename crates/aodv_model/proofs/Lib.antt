@@ -11,3 +11,6 @@ pub mod Stale
 pub mod FullNumbers
 pub mod Numbers
 pub mod MeshNames
+pub mod Listing
+pub mod Keys
+pub mod PairKeys

@@ -73,7 +73,14 @@ entry_code =
     (coded× known_code
     (coded× flag_code (coded× coded_ℕ (coded× coded_ℕ (sets.code coded_ℕ))))))
     (λ e. (e.dsn, (e.dsk, (e.flag, (e.hops, (e.next, e.pre))))))
-    (λ p. record { dsn = p.0; dsk = p.1.0; flag = p.1.1.0; hops = p.1.1.1.0; next = p.1.1.1.1.0; pre = p.1.1.1.1.1 })
+    (λ p. record {
+      dsn = p.0;
+      dsk = p.1.0;
+      flag = p.1.1.0;
+      hops = p.1.1.1.0;
+      next = p.1.1.1.1.0;
+      pre = p.1.1.1.1.1;
+    })
     (λ _. refl)
 
 -- of tables
@@ -88,7 +95,15 @@ request_code =
     (coded× coded_ℕ
     (coded× coded_ℕ (coded× coded_ℕ (coded× known_code (coded× coded_ℕ coded_ℕ))))))
     (λ m. (m.hops, (m.id, (m.dip, (m.dsn, (m.dsk, (m.oip, m.osn)))))))
-    (λ p. record { hops = p.0; id = p.1.0; dip = p.1.1.0; dsn = p.1.1.1.0; dsk = p.1.1.1.1.0; oip = p.1.1.1.1.1.0; osn = p.1.1.1.1.1.1 })
+    (λ p. record {
+      hops = p.0;
+      id = p.1.0;
+      dip = p.1.1.0;
+      dsn = p.1.1.1.0;
+      dsk = p.1.1.1.1.0;
+      oip = p.1.1.1.1.1.0;
+      osn = p.1.1.1.1.1.1;
+    })
     (λ _. refl)
 
 -- of route replies
@@ -166,5 +181,12 @@ core_code =
     (coded× variant_code
     (coded× coded_ℕ (coded× table_code (coded× pairs_code (maps.code coded_ℕ waiting_code))))))
     (λ c. (c.ip, (c.variant, (c.sn, (c.rt, (c.seen, c.store))))))
-    (λ p. record { ip = p.0; variant = p.1.0; sn = p.1.1.0; rt = p.1.1.1.0; seen = p.1.1.1.1.0; store = p.1.1.1.1.1 })
+    (λ p. record {
+      ip = p.0;
+      variant = p.1.0;
+      sn = p.1.1.0;
+      rt = p.1.1.1.0;
+      seen = p.1.1.1.1.0;
+      store = p.1.1.1.1.1;
+    })
     (λ _. refl)

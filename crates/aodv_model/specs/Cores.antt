@@ -49,7 +49,8 @@ pub data Item : Type 0 where
   New : (body : Body) (dip : ℕ) → Item
   Heard : (from : ℕ) → Message → Item
 
--- ---- the store of data that wait for a route (AWN's queues of data packets; RFC 3561, section 6.3)
+-- ---- the store of data that wait for a route
+-- (AWN's queues of data packets; RFC 3561, section 6.3)
 
 -- the data that wait for one destination, and whether a route request for it is still to be made
 pub record Waiting : Type 0 where

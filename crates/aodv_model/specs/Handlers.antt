@@ -363,7 +363,8 @@ send core range d =
     (unicast core (Pkt (first_body (bodies_in (maps.get core.store d))) d core.ip)
     (nhop core.rt d) range) d
 
--- ---- a request of the node's own (AWN's AODV, where it initiates a route discovery; RFC 3561, section 6.3)
+-- ---- a request of the node's own
+-- (AWN's AODV, where it initiates a route discovery; RFC 3561, section 6.3)
 
 -- there are data for d and no valid route, and a request is still to be made
 abbrev pub may_ask : Core → ℕ → Bool
@@ -380,5 +381,17 @@ fresh_id variant.Error core = next_request_id core.seen core.ip
 unfoldable pub ask : Core → ℕ → Reaction
 ask core d =
     plain
-    (record core { store = unset core.store d; sn = inc core.sn; seen = sets.insert core.seen (core.ip, fresh_id core.variant core) })
-    (casting (All (Rreq (record { hops = 0; id = fresh_id core.variant core; dip = d; dsn = sqn core.rt d; dsk = sqnf core.rt d; oip = core.ip; osn = inc core.sn }))))
+    (record core {
+      store = unset core.store d;
+      sn = inc core.sn;
+      seen = sets.insert core.seen (core.ip, fresh_id core.variant core);
+    })
+    (casting (All (Rreq (record {
+      hops = 0;
+      id = fresh_id core.variant core;
+      dip = d;
+      dsn = sqn core.rt d;
+      dsk = sqnf core.rt d;
+      oip = core.ip;
+      osn = inc core.sn;
+    }))))

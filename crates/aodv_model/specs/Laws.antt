@@ -29,7 +29,8 @@ abbrev pub FullNumber : Type 0
 FullNumber =
     (core : Core) (y : ℕ) → (is_number_full (link_broken core y) ≡ true) ↔ HasGreatestBy core.rt y
 
--- ---- every handler keeps a core in order, whatever the messages are that it is told: each message that a packet of
+-- ---- every handler keeps a core in order, whatever the messages are that it is told: each
+-- message that a packet of
 -- the mesh can spell, from another node, also one that no node of the mesh would send
 
 -- a node that has done nothing yet is in order
@@ -60,7 +61,8 @@ AskKeepsCore =
     → core.ip < size → may_ask core d ≡ true
     → IsSoundReaction size core.ip (ask core d)
 
--- ---- the effect of a reaction names nodes of the mesh only: the next hop that wasn't reached, and those that a cast goes to
+-- ---- the effect of a reaction names nodes of the mesh only: the next hop that wasn't reached,
+-- and those that a cast goes to
 
 -- a turn
 abbrev pub TurnNamesTheMesh : Type 0

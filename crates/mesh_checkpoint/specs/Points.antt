@@ -1,7 +1,6 @@
 -- The body of a moment of a run: its maps and sets as lists, its messages as packets.
 use Rattle.std.specs.Prelude.{◌<◌, ℕ, List, [], ◌∷◌, map, option_map}
 use Rattle.std.specs.FinMap as maps
-use Rattle.std.specs.FinMap.{FinMap}
 use Rattle.std.specs.FinSet as sets
 use Rattle.mesh_base.specs.declared.events.Flying.{Flying}
 use Rattle.mesh_base.specs.declared.events.Item as items
@@ -11,7 +10,7 @@ use Rattle.mesh_base.specs.Meshes.{Nodes}
 use Rattle.aodv_entry.specs.declared.entry.Entry.{Entry}
 use Rattle.aodv_entry.specs.Quality.{is_kno, is_val}
 use Rattle.aodv_model.specs.Tables.{Table}
-use Rattle.aodv_model.specs.Pairs.{Pairs, pair_cmp}
+use Rattle.aodv_model.specs.Pairs.{Pairs, pairs_in}
 use Rattle.aodv_model.specs.Cores.{Item, New, Heard, Store, Waiting}
 use Rattle.mesh_model.specs.Worlds as model
 use Rattle.mesh_meaning.specs.Packets.{packet_of}
@@ -34,15 +33,6 @@ head_of m = record {
 }
 
 -- ---- sets and maps as lists
-
--- the map that has these pairs as keys
-abbrev pub marked : List (ℕ × ℕ) → FinMap pair_cmp (Unit {0})
-marked [] = maps.empty
-marked (p ∷ ps) = maps.insert (marked ps) p tt
-
--- the pairs of a set, by the first number and then by the second
-unfoldable pub pairs_in : Pairs → List (ℕ × ℕ)
-pairs_in s = maps.keys (marked (sets.items s))
 
 -- the entry of a destination
 abbrev pub route_of : ℕ × Entry → Route

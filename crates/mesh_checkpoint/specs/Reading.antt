@@ -13,7 +13,8 @@ Gives view None read = read ≡ None
 
 -- a value stands at the front of the bytes, with so many data in it, and these bytes behind it. It
 -- has no more data than bytes
-pub record IsPassed {A : Type 0} (format : Format A) (amount : A → ℕ) (bytes : List ℕ) (n : ℕ) (rest : List ℕ) : Type 0 where
+pub record IsPassed {A : Type 0} (format : Format A) (amount : A → ℕ) (bytes : List ℕ) (n : ℕ)
+    (rest : List ℕ) : Type 0 where
   pub value : A
   pub read : format.get bytes ≡ Some (value, rest)
   pub count : amount value ≡ n
@@ -25,11 +26,13 @@ Passes format amount bytes (Some p) = IsPassed format amount bytes p.0 p.1
 Passes format amount bytes None = format.get bytes ≡ None
 
 -- the same, and its key is this one
-pub record IsKeyed {A : Type 0} (format : Format A) (key amount : A → ℕ) (bytes : List ℕ) (k n : ℕ) (rest : List ℕ) : Type 0 where
+pub record IsKeyed {A : Type 0} (format : Format A) (key amount : A → ℕ) (bytes : List ℕ) (k n : ℕ)
+    (rest : List ℕ) : Type 0 where
   pub passed : IsPassed format amount bytes n rest
   pub same : key passed.value ≡ k
 
-abbrev pub PassesBy : {A : Type 0} → Format A → (key amount : A → ℕ) → List ℕ → Option (ℕ × ℕ × List ℕ) → Type 0
+abbrev pub PassesBy : {A : Type 0} → Format A → (key amount : A → ℕ) → List ℕ
+    → Option (ℕ × ℕ × List ℕ) → Type 0
 PassesBy format key amount bytes (Some p) = IsKeyed format key amount bytes p.0 p.1 p.2
 PassesBy format key amount bytes None = format.get bytes ≡ None
 

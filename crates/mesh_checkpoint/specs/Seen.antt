@@ -1,7 +1,8 @@
 -- A node as a checkpoint has it.
+use Rattle.aodv_model.specs.Pairs.{pairs_in}
 use Rattle.aodv_node.specs.Seen.{NodeSeen}
 use Rattle.mesh_checkpoint.specs.Checkpoint.{Node}
-use Rattle.mesh_checkpoint.specs.Points.{routes_in, pairs_in, waits_in}
+use Rattle.mesh_checkpoint.specs.Points.{routes_in, waits_in}
 
 -- its own number, its routes, the requests that it has seen, its store, and its inbox
 abbrev pub listed : NodeSeen → Node

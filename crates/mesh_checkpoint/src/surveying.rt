@@ -20,8 +20,8 @@ pub enum SurveyError {
     /// The body doesn't follow the table to its end.
     #[error("a body that doesn't follow the table")]
     Spelling,
-    /// The data that were given or doubled aren't as many as those that were delivered, were dropped
-    /// or are still there.
+    /// The data that were given or doubled aren't as many as those that were delivered, were
+    /// dropped or are still there.
     #[error("sums that aren't balanced")]
     Sums,
 }

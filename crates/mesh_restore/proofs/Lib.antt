@@ -1,5 +1,7 @@
 -- Listings: how what is listed grows by what comes last.
 pub mod Listings
+-- Precursors: the precursors that were read are nodes of the mesh.
+pub mod Precursors
 -- PairLists: the pairs of a set, listed.
 pub mod PairLists
 -- StoreLists: how a store grows.

@@ -11,17 +11,17 @@ use Rattle.std.proofs.lemmas.Bool.{cases_lt}
 use Rattle.std.proofs.lemmas.List.{map_push}
 use Rattle.std.specs.FinMap as maps
 use Rattle.std.specs.FinSet as sets
-use Rattle.aodv_model.specs.Pairs.{Pairs, pair_cmp}
+use Rattle.aodv_model.specs.Pairs.{Pairs, pair_cmp, as_keys, pairs_in}
 use Rattle.aodv_model.proofs.PairLaws.{pair_cmp_total, same_pair}
 use Rattle.mesh_model.specs.Worlds.{pair, are_linked}
 use Rattle.mesh_radio.specs.Radios.{RadioState, with_link, without_link}
 use Rattle.mesh_checkpoint.specs.Formats.{get_rising}
 use Rattle.mesh_checkpoint.specs.Checkpoint as model
 use Rattle.mesh_checkpoint.specs.Checkpoint.{Link, link_key}
-use Rattle.mesh_checkpoint.specs.Points.{marked, pairs_in, links_of}
+use Rattle.mesh_checkpoint.specs.Points.{links_of}
 use Rattle.mesh_restore.specs.Air.{IsLinkKept, ArePassed}
 use Rattle.mesh_restore.proofs.Listings.{all_weaker, all_push, nat_greater}
-use Rattle.mesh_restore.proofs.PairLists.{AreBeforePair, last_marked, last_pair, new_pair, same_values, none_marked}
+use Rattle.mesh_restore.proofs.PairLists.{AreBeforePair, last_key, last_pair, new_pair, same_values, no_keys}
 use Rattle.mesh_restore.proofs.Loop.{IsReadSoFar, starts, goes_on, ends, falls, is_done}
 
 -- a pair of nodes, whose link stands or not
@@ -56,7 +56,7 @@ all_passed nodes count i low bytes rest le p = record { found = p.front; read_is
 
 -- each link has a key below a number, and nodes of 16 bits
 abbrev pub AreLinksBelow : ℕ → Pairs → Type 0
-AreLinksBelow low s = AllByRecursion (λ e. ((e.0).0 * 2 ^ 16 + (e.0).1 < low) × ((e.0).1 < 2 ^ 16)) (maps.entries (marked (sets.items s)))
+AreLinksBelow low s = AllByRecursion (λ e. ((e.0).0 * 2 ^ 16 + (e.0).1 < low) × ((e.0).1 < 2 ^ 16)) (maps.entries (as_keys (sets.items s)))
 
 link_greater : (p q : ℕ × ℕ) → q.1 < 2 ^ 16 → p.1 < 2 ^ 16 → q.0 * 2 ^ 16 + q.1 < p.0 * 2 ^ 16 + p.1 → pair_cmp p q ≡ Greater
 link_greater p q small_q small_p lt = elim (cases_lt q.0 p.0) [
@@ -70,13 +70,13 @@ link_greater p q small_q small_p lt = elim (cases_lt q.0 p.0) [
 pub before_link : (s : Pairs) (low : ℕ) (p : ℕ × ℕ) → AreLinksBelow low s → low ≤ p.0 * 2 ^ 16 + p.1 → p.1 < 2 ^ 16 → AreBeforePair p s
 before_link s low p below up small =
     all_weaker (λ e. ((e.0).0 * 2 ^ 16 + (e.0).1 < low) × ((e.0).1 < 2 ^ 16)) (λ e. pair_cmp p e.0 ≡ Greater)
-    (λ e h. link_greater p e.0 h.1 small (omega (arith, h.0, up))) (maps.entries (marked (sets.items s))) below
+    (λ e h. link_greater p e.0 h.1 small (omega (arith, h.0, up))) (maps.entries (as_keys (sets.items s))) below
 
 links_below : (s : Pairs) (low : ℕ) (p : ℕ × ℕ) (above : ℕ) → AreLinksBelow low s → low ≤ p.0 * 2 ^ 16 + p.1 → p.1 < 2 ^ 16 → above ≡ p.0 * 2 ^ 16 + p.1 + 1 → AreLinksBelow above (sets.insert s p)
 links_below s low p above below up small next =
-    rw (next, last_marked s p (before_link s low p below up small))
-    (all_push (λ e. ((e.0).0 * 2 ^ 16 + (e.0).1 < p.0 * 2 ^ 16 + p.1 + 1) × ((e.0).1 < 2 ^ 16)) (maps.entries (marked (sets.items s))) (p, tt)
-    (all_weaker (λ e. ((e.0).0 * 2 ^ 16 + (e.0).1 < low) × ((e.0).1 < 2 ^ 16)) (λ e. ((e.0).0 * 2 ^ 16 + (e.0).1 < p.0 * 2 ^ 16 + p.1 + 1) × ((e.0).1 < 2 ^ 16)) (λ e h. (omega (arith, h.0, up), h.1)) (maps.entries (marked (sets.items s))) below)
+    rw (next, last_key s p (before_link s low p below up small))
+    (all_push (λ e. ((e.0).0 * 2 ^ 16 + (e.0).1 < p.0 * 2 ^ 16 + p.1 + 1) × ((e.0).1 < 2 ^ 16)) (maps.entries (as_keys (sets.items s))) (p, tt)
+    (all_weaker (λ e. ((e.0).0 * 2 ^ 16 + (e.0).1 < low) × ((e.0).1 < 2 ^ 16)) (λ e. ((e.0).0 * 2 ^ 16 + (e.0).1 < p.0 * 2 ^ 16 + p.1 + 1) × ((e.0).1 < 2 ^ 16)) (λ e h. (omega (arith, h.0, up), h.1)) (maps.entries (as_keys (sets.items s))) below)
     (omega arith, small))
 
 -- what stands has stood
@@ -85,10 +85,10 @@ HaveStood r = (q : ℕ × ℕ) → sets.contains r.links q ≡ true → sets.con
 
 pub no_links : links_of sets.empty sets.empty ≡ []
 unfolding pairs_in
-no_links = rw none_marked refl
+no_links = rw no_keys refl
 
 pub none_linked : AreLinksBelow 0 sets.empty
-none_linked = rw none_marked tt
+none_linked = rw no_keys tt
 
 pub not_linked : (r : RadioState) (low : ℕ) (p : ℕ × ℕ) → HaveStood r → AreLinksBelow low r.ever → low ≤ p.0 * 2 ^ 16 + p.1 → p.1 < 2 ^ 16 → sets.contains r.links p ≡ false
 not_linked r low p stood below up small =

@@ -9,9 +9,10 @@ use Rattle.aodv_inbox.specs.Queues.{Queue}
 use Rattle.aodv_node.specs.declared.answers.Unfit.{Unfit}
 use Rattle.aodv_node.specs.Seen.{NodeSeen}
 use Rattle.aodv_node.specs.Restored.{node_of, IsRestored}
-use Rattle.mesh_checkpoint.specs.Points.{routes_in, pairs_in, waits_in}
+use Rattle.aodv_model.specs.Pairs.{pairs_in}
+use Rattle.mesh_checkpoint.specs.Points.{routes_in, waits_in}
 use Rattle.mesh_checkpoint.specs.Checkpoint as model
-use Rattle.mesh_restore.specs.Nodes.{IsNodeRead}
+use Rattle.mesh_restore.specs.Nodes.{ArePrecursorsBelow, IsNodeRead}
 use Rattle.mesh_restore.specs.Reading.{Refuses}
 use Rattle.mesh_restore.specs.declared.error.ReadError.{ReadError}
 use Rattle.mesh_restore.specs.declared.error.ReadError.TheVariants.{Spelling, NoMemory}
@@ -33,12 +34,13 @@ pub inbox_refused : (nodes sn : ℕ) (bytes r s t u : List ℕ) (routes : List m
 inbox_refused nodes sn bytes r s t u routes asked store Spelling one two three four none = rw (one, two, three, four, none) refl
 inbox_refused nodes sn bytes r s t u routes asked store NoMemory one two three four none = tt
 
-pub node_read : (variant : Variant) (nodes me sn : ℕ) (bytes r s t u rest : List ℕ) (table : TableSeen) (asked : RoomySeen) (waiting : RoomyStore) (inbox : Queue) (answer : Result NodeSeen Unfit) → table.nodes ≡ nodes → model.positive32.get bytes ≡ Some (sn, r) → (model.routes nodes).get r ≡ Some (routes_in table.entries, s)
+pub node_read : (variant : Variant) (nodes me sn : ℕ) (bytes r s t u rest : List ℕ) (table : TableSeen) (asked : RoomySeen) (waiting : RoomyStore) (inbox : Queue) (answer : Result NodeSeen Unfit) → table.nodes ≡ nodes → ArePrecursorsBelow nodes table.entries → model.positive32.get bytes ≡ Some (sn, r) → (model.routes nodes).get r ≡ Some (routes_in table.entries, s)
     → (model.asked nodes).get s ≡ Some (pairs_in asked.pairs, t) → (model.store nodes).get t ≡ Some (waits_in waiting.store, u) → (model.inbox nodes).get u ≡ Some (inbox.items, rest) → IsRestored (node_of variant me sn table asked waiting inbox) answer
     → IsNodeRead variant me nodes ((model.node nodes).get bytes) answer rest
-node_read variant nodes me sn bytes r s t u rest table asked waiting inbox answer size one two three four five is = record {
+node_read variant nodes me sn bytes r s t u rest table asked waiting inbox answer size below one two three four five is = record {
   parts = node_of variant me sn table asked waiting inbox;
   mine = record { named = refl; variant_is = refl; size_is = size };
+  below = below;
   read_is = rw (one, two, three, four, five) refl;
   answer_is = is;
 }

@@ -7,8 +7,8 @@ ghost use Rattle.mesh_restore.specs.Air.{air, IsAirRead};
 use crate::copies::fly_all;
 use crate::error::ReadError;
 use crate::links::{behind_links, link_all};
-use mesh_checkpoint::numbers::{number16, number32, number64};
 use mesh_checkpoint::GREATEST_NEXT_ID;
+use mesh_checkpoint::numbers::{number16, number32, number64};
 use mesh_radio::Radio;
 use std::alloc::Global;
 

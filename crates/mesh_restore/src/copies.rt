@@ -8,8 +8,8 @@ ghost use Rattle.mesh_restore.specs.Reading.{Reads, Refuses};
 ghost use Rattle.mesh_restore.specs.Air.{IsFlown, AreCopiesRead};
 
 use crate::error::ReadError;
-use mesh_checkpoint::numbers::{number16, number64, text};
 use mesh_base::{Bytes, Flying, NoMemory};
+use mesh_checkpoint::numbers::{number16, number64, text};
 use mesh_radio::Radio;
 use std::alloc::Global;
 

@@ -7,9 +7,9 @@ ghost use Rattle.mesh_restore.specs.Reading.{Reads};
 ghost use Rattle.mesh_restore.specs.Items.{get_given, get_heard};
 
 use crate::error::ReadError;
-use mesh_checkpoint::numbers::{number16, number32, text};
 use aodv_inbox::Inbox;
 use mesh_base::{Bytes, Item};
+use mesh_checkpoint::numbers::{number16, number32, text};
 use std::alloc::Global;
 
 // A datum for a destination, behind its kind.

@@ -6,12 +6,12 @@ ghost use Rattle.mesh_restore.specs.Nodes.{IsNodeRead};
 
 use crate::error::ReadError;
 use crate::inbox::inbox;
-use mesh_checkpoint::numbers::number32;
 use crate::requests::requests;
 use crate::routes::table;
 use crate::store::store;
 use aodv_node::{Node, Unfit};
 use mesh_base::{Mesh, Variant};
+use mesh_checkpoint::numbers::number32;
 use std::alloc::Global;
 
 /// Node `me` of the mesh, of this variant, at the front of bytes, and the bytes behind it. Where

@@ -5,11 +5,11 @@ ghost use Rattle.mesh_checkpoint.specs.Formats.{get_rising};
 ghost use Rattle.mesh_checkpoint.specs.Checkpoint as model;
 ghost use Rattle.mesh_checkpoint.specs.Reading.{Gives};
 ghost use Rattle.mesh_restore.specs.Reading.{Reads};
-ghost use Rattle.mesh_checkpoint.specs.Points.{pairs_in};
+ghost use Rattle.aodv_model.specs.Pairs.{pairs_in};
 
 use crate::error::ReadError;
-use mesh_checkpoint::numbers::{number16, number32};
 use aodv_asked::Asked;
+use mesh_checkpoint::numbers::{number16, number32};
 use std::alloc::Global;
 
 // A request: its originator and its id.

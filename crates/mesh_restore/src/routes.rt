@@ -8,19 +8,22 @@ ghost use Rattle.mesh_checkpoint.specs.Checkpoint as model;
 ghost use Rattle.mesh_checkpoint.specs.Reading.{Gives};
 ghost use Rattle.mesh_restore.specs.Reading.{Reads};
 ghost use Rattle.mesh_checkpoint.specs.Points.{route_of, routes_in};
+ghost use Rattle.aodv_model.specs.Soundness.{AreBelow};
+ghost use Rattle.mesh_restore.specs.Nodes.{ArePrecursorsBelow};
 
 use crate::error::ReadError;
-use mesh_checkpoint::numbers::{byte, number16, number32, truth};
 use aodv_entry::{Entry, Flag, Known};
 use aodv_table::{RowTable, Table};
 use mesh_base::NodeSet;
+use mesh_checkpoint::numbers::{byte, number16, number32, truth};
 use std::alloc::Global;
 
 // So many nodes, by rising index.
 fn precursors(count: u16, bytes: &[u8], nodes: u32) -> Option<(NodeSet, &[u8])>
     requires { nodes ≤ MOST_NODES }
-    ensures { Gives (λ x. (member_list x.0, x.1.now)) result
+    ensures value { Gives (λ x. (member_list x.0, x.1.now)) result
         (get_rising (λ i. i) (model.index nodes).get count 0 bytes.now) }
+    ensures below { IfSome result (λ x. AreBelow nodes x.0) }
 {
     let mut found = NodeSet::new();
     let mut rest = bytes;
@@ -43,6 +46,7 @@ fn route(bytes: &[u8], nodes: u32) -> Option<(usize, Entry, &[u8])>
     ensures value { Gives (λ x. (route_of (x.0, x.1), x.2.now)) result
         ((model.route nodes).get bytes.now) }
     ensures below { IfSome result (λ x. x.0 < nodes) }
+    ensures precursors { IfSome result (λ x. AreBelow nodes x.1.pre) }
 {
     let (dest, rest) = number16(bytes, 0, nodes)?;
     let (dsn, rest) = number32(rest, 0, 4_294_967_296)?;
@@ -71,6 +75,7 @@ fn rows(alloc: Global, count: u16, bytes: &[u8], nodes: u32) -> Result<(RowTable
     ensures value { Reads (λ x. (routes_in x.0.entries, x.1.now)) result
         (get_rising (λ r. r.dest) (model.route nodes).get count 0 bytes.now) }
     ensures nodes { IfOk result (λ x. x.0.nodes ≡ nodes) }
+    ensures below { IfOk result (λ x. ArePrecursorsBelow nodes x.0.entries) }
 {
     let mut table = RowTable::new(alloc, nodes as usize)?;
     let mut rest = bytes;
@@ -96,6 +101,7 @@ pub(crate) fn table(alloc: Global, bytes: &[u8], nodes: u32) -> Result<(RowTable
     ensures value { Reads (λ x. (routes_in x.0.entries, x.1.now)) result
         ((model.routes nodes).get bytes.now) }
     ensures nodes { IfOk result (λ x. x.0.nodes ≡ nodes) }
+    ensures below { IfOk result (λ x. ArePrecursorsBelow nodes x.0.entries) }
 {
     let Some((count, rest)) = number16(bytes, 0, 65_536) else {
         return Err(ReadError::Spelling);

@@ -10,9 +10,9 @@ ghost use Rattle.mesh_restore.specs.Stores.{settled, AreBelow};
 ghost use Rattle.mesh_restore.specs.Kept.{IsFilled, IsKeptFrom};
 
 use crate::error::ReadError;
-use mesh_checkpoint::numbers::{number16, number32, text, truth};
 use aodv_waiting::Waiting;
 use mesh_base::Bytes;
+use mesh_checkpoint::numbers::{number16, number32, text, truth};
 use std::alloc::Global;
 
 // So many data for one destination, which had none before. The bytes behind them are answered.

@@ -1,13 +1,32 @@
--- Texts of all nodes one after another.
-use Rattle.std.proofs.Common.{◌≡◌, ℕ, suc, ◌+◌, ◌-◌, ◌<◌, ◌≤◌, List, [], ◌++◌, Option, Result, length, refl, sym, ap, subst, ◌∙◌, arith}
+-- Texts of numbers that rise by one, one after another.
+use Rattle.std.proofs.Common.{◌≡◌, ℕ, zero, suc, ◌+◌, ◌-◌, ◌<◌, ◌≤◌, List, [], ◌++◌, Option, Result, append_assoc, refl, sym, ap, subst, ◌∙◌, arith}
 use Rattle.std.specs.Prelude.{codes}
-use Rattle.std.specs.FinMap as maps
+use Rattle.std.proofs.lemmas.List.{append-nil}
 use Rattle.std.specs.Io.KnownBytes.{Appends}
 use Rattle.mesh_base.specs.Meshes.{Nodes}
 use Rattle.mesh_io.specs.Puts.{AppendsPrefix, Puts}
 use Rattle.mesh_io.proofs.Writing.{Appends-none, Appends-join, AppendsPrefix-join, AppendsPrefix-more, Puts-join}
 use Rattle.aodv_model.specs.Cores.{Seen, Store, Core}
-use Rattle.mesh_text.specs.Tables.{each_from, number_line, all_asked_text, entry_of, waits_of, node_text}
+use Rattle.mesh_text.specs.Tables.{number_line, asked_text, routes_text, store_text, node_text}
+
+-- the texts of so many numbers from i on, one after another
+abbrev pub each_from : ℕ → ℕ → (ℕ → List ℕ) → List ℕ
+each_from zero i f = []
+each_from (suc k) i f = f i ++ each_from k (i + 1) f
+
+-- ---- the texts together
+
+-- what grows by the text of each number has grown by all of them
+each_added : (so_far f : ℕ → List ℕ) → ((d : ℕ) → so_far (d + 1) ≡ so_far d ++ f d) → (k d : ℕ) → so_far d ++ each_from k d f ≡ so_far (d + k)
+each_added so_far f more zero d = let none : d ≡ d + 0 = omega arith in append-nil (so_far d) ∙ ap so_far none
+each_added so_far f more (suc k) d =
+    let next : d + 1 + k ≡ d + suc k = omega arith in
+    sym (append_assoc (so_far d) (f d) (each_from k (d + 1) f)) ∙ ap (λ l. l ++ each_from k (d + 1) f) (sym (more d)) ∙ each_added so_far f more k (d + 1) ∙ ap so_far next
+
+pub each_whole : (so_far f : ℕ → List ℕ) → ((d : ℕ) → so_far (d + 1) ≡ so_far d ++ f d) → so_far 0 ≡ [] → (n : ℕ) → each_from n 0 f ≡ so_far n
+each_whole so_far f more none n =
+    let last : 0 + n ≡ n = omega arith in
+    ap (λ l. l ++ each_from n 0 f) (sym none) ∙ each_added so_far f more n 0 ∙ ap so_far last
 
 -- ---- of so many numbers
 
@@ -58,10 +77,8 @@ five-5 u v w x y z a b c d e t p q r s l =
 
 -- the text of a node, by its parts as they are read
 pub node_is : (mesh : Nodes) (core : Core) (queue sn count : ℕ) (seen : Seen) (store : Store) → sn ≡ core.sn → seen ≡ core.seen → store ≡ core.store → count ≡ queue
-    → number_line (codes "sn") sn ++ each_from (length mesh) 0 (all_asked_text mesh seen) ++ each_from (length mesh) 0 (λ d. entry_of mesh d (maps.get core.rt d))
-    ++ each_from (length mesh) 0 (waits_of mesh store) ++ number_line (codes "inbox") count ≡ node_text mesh core queue
+    → number_line (codes "sn") sn ++ asked_text mesh seen ++ routes_text mesh core.rt ++ store_text mesh store ++ number_line (codes "inbox") count ≡ node_text mesh core queue
 unfolding node_text
 node_is mesh core queue sn count seen store es ed et ec =
-    let t : ℕ → Seen → Store → ℕ → List ℕ = λ a b c d. number_line (codes "sn") a ++ each_from (length mesh) 0 (all_asked_text mesh b)
-    ++ each_from (length mesh) 0 (λ d. entry_of mesh d (maps.get core.rt d)) ++ each_from (length mesh) 0 (waits_of mesh c) ++ number_line (codes "inbox") d in
+    let t : ℕ → Seen → Store → ℕ → List ℕ = λ a b c d. number_line (codes "sn") a ++ asked_text mesh b ++ routes_text mesh core.rt ++ store_text mesh c ++ number_line (codes "inbox") d in
     ap (λ x. t x seen store count) es ∙ ap (λ x. t core.sn x store count) ed ∙ ap (λ x. t core.sn core.seen x count) et ∙ ap (λ x. t core.sn core.seen core.store x) ec

@@ -1,8 +1,12 @@
 //! The state of a node, line by line.
 ghost use Rattle.std.specs.Prelude.{◌≡◌, ◌<◌, length};
+ghost use Rattle.std.specs.List.{flat_map};
 ghost use Rattle.std.specs.FinMap as maps;
+ghost use Rattle.aodv_model.specs.Soundness.{IsStoreInMesh};
+ghost use Rattle.aodv_asked.specs.Requests.{ids_beside};
 ghost use Rattle.aodv_node.specs.Seen.{IsSoundNode};
-ghost use Rattle.mesh_text.specs.Tables.{each_from, all_asked_text, entry_of, waits_of, node_text};
+ghost use Rattle.mesh_text.specs.Tables.{asked_line, asked_text, routes_text, store_text, node_text};
+ghost use Rattle.mesh_show.specs.Destinations.{entry_of, waits_of};
 ghost use Rattle.mesh_io.specs.Cause.{HasCause};
 ghost use Rattle.mesh_io.specs.Puts.{Puts};
 
@@ -24,7 +28,7 @@ fn put_asked_of<O: Sink>(
     requires node { o < length mesh.now }
     requires size { length asked.now.rooms ≡ length mesh.now }
     ensures text { Puts (O.held out.old) (O.held out.new)
-        (all_asked_text mesh.now asked.now.pairs o) result }
+        (flat_map (asked_line mesh.now o) (ids_beside asked.now.pairs o)) result }
     ensures cause { HasCause (O.faults out.old) (O.faults out.new) result }
 {
     let mut next = asked.first(o);
@@ -44,10 +48,10 @@ fn put_all_asked<O: Sink>(
 ) -> Result<(), PutFault>
     requires { length asked.now.rooms ≡ length mesh.now }
     ensures text { Puts (O.held out.old) (O.held out.new)
-        (each_from (length mesh.now) 0 (all_asked_text mesh.now asked.now.pairs)) result }
+        (asked_text mesh.now asked.now.pairs) result }
     ensures cause { HasCause (O.faults out.old) (O.faults out.new) result }
 {
-    for o in 0..mesh.len() {
+    for o in 0..asked.nodes() {
         put_asked_of(mesh, asked, o, buf, out)?;
     }
     Ok(())
@@ -83,8 +87,8 @@ fn put_entries<O: Sink>(
 ) -> Result<(), PutFault>
     requires size { node.now.size ≡ length mesh.now }
     requires sound { IsSoundNode node.now }
-    ensures text { Puts (O.held out.old) (O.held out.new) (each_from (length mesh.now) 0
-        (λ d. entry_of mesh.now d (maps.get node.now.core.rt d))) result }
+    ensures text { Puts (O.held out.old) (O.held out.new)
+        (routes_text mesh.now node.now.core.rt) result }
     ensures cause { HasCause (O.faults out.old) (O.faults out.new) result }
 {
     for d in 0..mesh.len() {
@@ -104,7 +108,7 @@ fn put_waits_of<O: Sink>(
     requires dest { d < length mesh.now }
     requires size { length waiting.now.rooms ≡ length mesh.now }
     ensures text { Puts (O.held out.old) (O.held out.new)
-        (waits_of mesh.now waiting.now.store d) result }
+        (waits_of mesh.now d (maps.get waiting.now.store d)) result }
     ensures cause { HasCause (O.faults out.old) (O.faults out.new) result }
 {
     if !waiting.has(d) {
@@ -127,9 +131,10 @@ fn put_all_waits<O: Sink>(
     buf: &mut LineBuf,
     out: &mut O,
 ) -> Result<(), PutFault>
-    requires { length waiting.now.rooms ≡ length mesh.now }
+    requires size { length waiting.now.rooms ≡ length mesh.now }
+    requires sound { IsStoreInMesh (length mesh.now) waiting.now.store }
     ensures text { Puts (O.held out.old) (O.held out.new)
-        (each_from (length mesh.now) 0 (waits_of mesh.now waiting.now.store)) result }
+        (store_text mesh.now waiting.now.store) result }
     ensures cause { HasCause (O.faults out.old) (O.faults out.new) result }
 {
     for d in 0..mesh.len() {

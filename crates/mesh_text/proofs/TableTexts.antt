@@ -1,28 +1,30 @@
 -- The tables that a line shows name no datum.
-use Rattle.std.proofs.Common.{◌≡◌, ℕ, zero, suc, ◌+◌, Bool, true, false, List, [], ◌∷◌, ◌++◌, codes, Option, Some, None, length, refl}
+use Rattle.std.proofs.Common.{◌≡◌, ℕ, Bool, true, false, List, [], ◌∷◌, ◌++◌, codes, Option, Some, None, length, refl}
+use Rattle.std.specs.List.{flat_map}
 use Rattle.std.specs.Fmt.{decimal}
 use Rattle.std.specs.FinMap as maps
-use Rattle.aodv_model.proofs.Entries.{if_case}
 use Rattle.mesh_base.specs.Meshes.{Nodes}
 use Rattle.aodv_entry.specs.declared.entry.Entry.{Entry}
 use Rattle.aodv_entry.specs.declared.entry.Known.{Known}
 use Rattle.aodv_entry.specs.declared.entry.Known.TheVariants.{Kno, Unk}
 use Rattle.aodv_entry.specs.declared.entry.Flag.{Flag}
 use Rattle.aodv_entry.specs.declared.entry.Flag.TheVariants.{Val, Inv}
-use Rattle.aodv_model.specs.Cores.{Body, Seen, Core, has_seen, next_request_id, bodies_in, needs_in}
+use Rattle.aodv_model.specs.Pairs.{pairs_in}
+use Rattle.aodv_model.specs.Tables.{Table}
+use Rattle.aodv_model.specs.Cores.{Body, Seen, Store, Waiting, Core}
 use Rattle.mesh_model.specs.Worlds.{Node, Copy}
 use Rattle.mesh_model.specs.Routes.{End, Arrived, Stuck}
 use Rattle.mesh_meaning.specs.Packets.{packet_of}
 use Rattle.mesh_grammar.specs.Written.{labelled}
 use Rattle.mesh_text.specs.Lines.{name_of, hex}
 use Rattle.mesh_text.specs.Effects.{set_text}
-use Rattle.mesh_text.specs.Tables.{each_from, number_line, asked_line, asked_text, all_asked_text, known_text, flag_text, entry_text, entry_of, req_text, waits_line, waits_text, waits_of, node_text, node_text_in, stuck_line, end_text, flying_text, flight_text}
+use Rattle.mesh_text.specs.Tables.{number_line, asked_line, asked_text, known_text, flag_text, entry_text, routes_text, req_text, waits_line, waits_text, store_text, node_text, node_text_in, stuck_line, end_text, flying_text, flight_text}
 use Rattle.mesh_text.proofs.Clean.{is_clean, clean_append, decimal_clean, name_clean, name_then, hex_clean, set_clean}
 use Rattle.mesh_text.proofs.Tellings.{Tells, tells_none, silent_append, silent_line}
 
-each_silent : (k i : ℕ) (f : ℕ → List ℕ) → ((j : ℕ) → Tells 0 0 (f j)) → Tells 0 0 (each_from k i f)
-each_silent zero i f each = tells_none
-each_silent (suc k) i f each = silent_append (f i) (each_from k (i + 1) f) (each i) (each_silent k (i + 1) f each)
+each_silent : {X : Type 0} (f : X → List ℕ) (xs : List X) → ((x : X) → Tells 0 0 (f x)) → Tells 0 0 (flat_map f xs)
+each_silent f [] each = tells_none
+each_silent f (x ∷ xs) each = silent_append (f x) (flat_map f xs) (each x) (each_silent f xs each)
 
 -- ---- a node
 
@@ -30,10 +32,9 @@ asked_silent : (mesh : Nodes) (o id : ℕ) → Tells 0 0 (asked_line mesh o id)
 unfolding asked_line
 asked_silent mesh o id = silent_line (codes "  asked " ++ name_of mesh o ++ 32 ∷ decimal id) (name_then mesh o (32 ∷ decimal id) (decimal_clean id)) refl refl
 
-all_asked_silent : (mesh : Nodes) (seen : Seen) (o : ℕ) → Tells 0 0 (all_asked_text mesh seen o)
-unfolding all_asked_text
-all_asked_silent mesh seen o = each_silent (next_request_id seen o) 0 (asked_text mesh seen o) (λ id.
-    if_case (Tells 0 0) (has_seen seen (o, id)) (asked_line mesh o id) [] (λ _. asked_silent mesh o id) (λ _. tells_none))
+seen_silent : (mesh : Nodes) (seen : Seen) → Tells 0 0 (asked_text mesh seen)
+unfolding asked_text
+seen_silent mesh seen = each_silent (λ (p : ℕ × ℕ). asked_line mesh p.0 p.1) (pairs_in seen) (λ p. asked_silent mesh p.0 p.1)
 
 known_clean : (k : Known) → is_clean (known_text k) ≡ true
 known_clean Kno = refl
@@ -63,9 +64,9 @@ entry_silent mesh d e =
     (set_clean mesh e.pre))
     refl refl
 
-entry_of_silent : (mesh : Nodes) (d : ℕ) (o : Option Entry) → Tells 0 0 (entry_of mesh d o)
-entry_of_silent mesh d None = tells_none
-entry_of_silent mesh d (Some e) = entry_silent mesh d e
+routes_silent : (mesh : Nodes) (rt : Table) → Tells 0 0 (routes_text mesh rt)
+unfolding routes_text
+routes_silent mesh rt = each_silent (λ (e : ℕ × Entry). entry_text mesh e.0 e.1) (maps.entries rt) (λ e. entry_silent mesh e.0 e.1)
 
 req_clean : (b : Bool) → is_clean (req_text b) ≡ true
 req_clean true = refl
@@ -80,6 +81,11 @@ waits_silent mesh d needs count =
 waits_text_silent : (mesh : Nodes) (d : ℕ) (needs : Bool) (bs : List Body) → Tells 0 0 (waits_text mesh d needs bs)
 waits_text_silent mesh d needs [] = tells_none
 waits_text_silent mesh d needs (b ∷ bs) = waits_silent mesh d needs (length (b ∷ bs))
+
+store_silent : (mesh : Nodes) (store : Store) → Tells 0 0 (store_text mesh store)
+unfolding store_text
+store_silent mesh store =
+    each_silent (λ (e : ℕ × Waiting). waits_text mesh e.0 (e.1).needs_request (e.1).bodies) (maps.entries store) (λ e. waits_text_silent mesh e.0 (e.1).needs_request (e.1).bodies)
 
 -- a line of a short label and a number
 sn_silent : (n : ℕ) → Tells 0 0 (number_line (codes "sn") n)
@@ -98,16 +104,16 @@ node_silent : (mesh : Nodes) (core : Core) (queue : ℕ) → Tells 0 0 (node_tex
 unfolding node_text
 node_silent mesh core queue =
     let a : List ℕ = number_line (codes "sn") core.sn in
-    let b : List ℕ = each_from (length mesh) 0 (all_asked_text mesh core.seen) in
-    let c : List ℕ = each_from (length mesh) 0 (λ d. entry_of mesh d (maps.get core.rt d)) in
-    let e : List ℕ = each_from (length mesh) 0 (waits_of mesh core.store) in
+    let b : List ℕ = asked_text mesh core.seen in
+    let c : List ℕ = routes_text mesh core.rt in
+    let e : List ℕ = store_text mesh core.store in
     let f : List ℕ = number_line (codes "inbox") queue in
     silent_append (a ++ b ++ c ++ e) f
     (silent_append (a ++ b ++ c) e
     (silent_append (a ++ b) c
-    (silent_append a b (sn_silent core.sn) (each_silent (length mesh) 0 (all_asked_text mesh core.seen) (all_asked_silent mesh core.seen)))
-    (each_silent (length mesh) 0 (λ d. entry_of mesh d (maps.get core.rt d)) (λ d. entry_of_silent mesh d (maps.get core.rt d))))
-    (each_silent (length mesh) 0 (waits_of mesh core.store) (λ d. waits_text_silent mesh d (needs_in (maps.get core.store d)) (bodies_in (maps.get core.store d)))))
+    (silent_append a b (sn_silent core.sn) (seen_silent mesh core.seen))
+    (routes_silent mesh core.rt))
+    (store_silent mesh core.store))
     (inbox_silent queue)
 
 pub node_in_silent : (mesh : Nodes) (o : Option Node) → Tells 0 0 (node_text_in mesh o)

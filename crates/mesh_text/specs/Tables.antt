@@ -1,5 +1,6 @@
 -- The text of a world's state: a node, the end of a route, and the copies in flight.
-use Rattle.std.specs.Prelude.{ℕ, zero, suc, ◌+◌, Bool, if◌then◌else◌, List, [], ◌∷◌, ◌++◌, length, codes, Option, Some, None}
+use Rattle.std.specs.Prelude.{ℕ, Bool, if◌then◌else◌, List, [], ◌∷◌, ◌++◌, length, codes, Option, Some, None}
+use Rattle.std.specs.List.{flat_map}
 use Rattle.std.specs.Fmt.{decimal}
 use Rattle.std.specs.FinMap as maps
 use Rattle.mesh_base.specs.Meshes.{Nodes}
@@ -8,18 +9,15 @@ use Rattle.aodv_entry.specs.declared.entry.Known.{Known}
 use Rattle.aodv_entry.specs.declared.entry.Known.TheVariants.{Kno, Unk}
 use Rattle.aodv_entry.specs.declared.entry.Flag.{Flag}
 use Rattle.aodv_entry.specs.declared.entry.Flag.TheVariants.{Val, Inv}
-use Rattle.aodv_model.specs.Cores.{Body, Seen, Store, Core, has_seen, next_request_id, bodies_in, needs_in}
+use Rattle.aodv_model.specs.Pairs.{pairs_in}
+use Rattle.aodv_model.specs.Tables.{Table}
+use Rattle.aodv_model.specs.Cores.{Body, Seen, Store, Core}
 use Rattle.mesh_model.specs.Worlds.{Node, Copy}
 use Rattle.mesh_model.specs.Routes.{End, Arrived, Stuck}
 use Rattle.mesh_meaning.specs.Packets.{packet_of}
 use Rattle.mesh_grammar.specs.Written.{line, labelled}
 use Rattle.mesh_text.specs.Lines.{name_of, hex}
 use Rattle.mesh_text.specs.Effects.{set_text}
-
--- the texts of so many numbers from i on, one after another
-abbrev pub each_from : ℕ → ℕ → (ℕ → List ℕ) → List ℕ
-each_from zero i f = []
-each_from (suc k) i f = f i ++ each_from k (i + 1) f
 
 -- ---- a node
 
@@ -31,13 +29,9 @@ number_line label n = line (32 ∷ 32 ∷ label ++ 32 ∷ decimal n)
 unfoldable pub asked_line : Nodes → ℕ → ℕ → List ℕ
 asked_line mesh o id = line (codes "  asked " ++ name_of mesh o ++ 32 ∷ decimal id)
 
--- the same, where it was seen
-abbrev pub asked_text : Nodes → Seen → ℕ → ℕ → List ℕ
-asked_text mesh seen o id = if has_seen seen (o, id) then asked_line mesh o id else []
-
--- all that were seen of this originator, by rising id
-unfoldable pub all_asked_text : Nodes → Seen → ℕ → List ℕ
-all_asked_text mesh seen o = each_from (next_request_id seen o) 0 (asked_text mesh seen o)
+-- the requests that were seen, by rising originator and then by rising id
+unfoldable pub asked_text : Nodes → Seen → List ℕ
+asked_text mesh seen = flat_map (λ p. asked_line mesh p.0 p.1) (pairs_in seen)
 
 abbrev pub known_text : Known → List ℕ
 known_text Kno = codes " kno "
@@ -54,10 +48,9 @@ entry_text mesh d e =
     ++ flag_text e.flag ++ decimal e.hops
     ++ 32 ∷ name_of mesh e.next ++ 32 ∷ set_text mesh e.pre)
 
--- the entry of d, if it has one
-abbrev pub entry_of : Nodes → ℕ → Option Entry → List ℕ
-entry_of mesh d None = []
-entry_of mesh d (Some e) = entry_text mesh d e
+-- the entries of a table, by rising destination
+unfoldable pub routes_text : Nodes → Table → List ℕ
+routes_text mesh rt = flat_map (λ e. entry_text mesh e.0 e.1) (maps.entries rt)
 
 abbrev pub req_text : Bool → List ℕ
 req_text needs = if needs then codes " req " else codes " noreq "
@@ -72,18 +65,19 @@ abbrev pub waits_text : Nodes → ℕ → Bool → List Body → List ℕ
 waits_text mesh d needs [] = []
 waits_text mesh d needs (b ∷ bs) = waits_line mesh d needs (length (b ∷ bs))
 
-abbrev pub waits_of : Nodes → Store → ℕ → List ℕ
-waits_of mesh store d =
-    waits_text mesh d (needs_in (maps.get store d)) (bodies_in (maps.get store d))
+-- what waits in a store, by rising destination
+unfoldable pub store_text : Nodes → Store → List ℕ
+store_text mesh store =
+    flat_map (λ e. waits_text mesh e.0 (e.1).needs_request (e.1).bodies) (maps.entries store)
 
 -- its own number; the requests that it has seen, its entries and its waiting data, each by rising
 -- address; and how many items its queue has
 unfoldable pub node_text : Nodes → Core → ℕ → List ℕ
 node_text mesh core queue =
     number_line (codes "sn") core.sn
-    ++ each_from (length mesh) 0 (all_asked_text mesh core.seen)
-    ++ each_from (length mesh) 0 (λ d. entry_of mesh d (maps.get core.rt d))
-    ++ each_from (length mesh) 0 (waits_of mesh core.store)
+    ++ asked_text mesh core.seen
+    ++ routes_text mesh core.rt
+    ++ store_text mesh core.store
     ++ number_line (codes "inbox") queue
 
 abbrev pub node_text_in : Nodes → Option Node → List ℕ

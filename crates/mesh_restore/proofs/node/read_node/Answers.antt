@@ -1,6 +1,7 @@
 use Rattle.std.proofs.Common.{sym}
 use Rattle.std.proofs.lemmas.Result.{err_from_is_err_and}
-use Rattle.mesh_checkpoint.specs.Points.{routes_in, pairs_in, waits_in}
+use Rattle.aodv_model.specs.Pairs.{pairs_in}
+use Rattle.mesh_checkpoint.specs.Points.{routes_in, waits_in}
 use Rattle.mesh_restore.proofs.NodeParts.{table_refused, asked_refused, store_refused, inbox_refused, node_read}
 use Rattle.mesh_restore.proofs.node.read_node.Goals as goal
 
@@ -27,4 +28,4 @@ returns-in_err-inbox c =
 pub returns : goal.returns
 returns c =
     rw (sym c.len-nodes.ensures.value) (node_read c.args.variant c.len-nodes.result c.args.me c.in-Some.sn c.args.bytes.now c.in-Some.rest.now c.in_ok-table.rest.now c.in_ok-asked.rest.now c.in_ok-waiting.rest.now c.in_ok-inbox.rest.now c.in_ok-table.table c.in_ok-asked.asked c.in_ok-waiting.waiting c.in_ok-inbox.inbox c.from_parts-node.result
-    c.in_ok-table.ensures.nodes c.in-Some.ensures.value c.in_ok-table.ensures.value c.in_ok-asked.ensures.value c.in_ok-waiting.ensures.value c.in_ok-inbox.ensures c.from_parts-node.ensures)
+    c.in_ok-table.ensures.nodes c.in_ok-table.ensures.below c.in-Some.ensures.value c.in_ok-table.ensures.value c.in_ok-asked.ensures.value c.in_ok-waiting.ensures.value c.in_ok-inbox.ensures c.from_parts-node.ensures)

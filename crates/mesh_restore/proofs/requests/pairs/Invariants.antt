@@ -1,6 +1,6 @@
 use Rattle.std.proofs.Common.{◌≡◌, length}
 use Rattle.mesh_checkpoint.specs.Checkpoint as model
-use Rattle.mesh_checkpoint.specs.Points.{pairs_in}
+use Rattle.aodv_model.specs.Pairs.{pairs_in}
 use Rattle.mesh_restore.proofs.PairLists.{ArePairsBelow}
 use Rattle.mesh_restore.proofs.Loop.{IsReadSoFar}
 use Rattle.mesh_restore.proofs.requests.pairs.Given as goal

@@ -1,3 +1,4 @@
+use Rattle.std.proofs.Common.{◌≤◌}
 use Rattle.mesh_base.specs.Members.{member_list}
 use Rattle.mesh_checkpoint.specs.Checkpoint as model
 use Rattle.mesh_restore.proofs.Listings.{AreMembersBelow}
@@ -8,4 +9,5 @@ abbrev pub invariant-loop : goal.invariant-loop
 invariant-loop l = record {
   so_far : IsReadSoFar (λ i. i) (model.index l.nodes).get l.count l.counter l.low l.bytes (member_list l.found) l.rest;
   below : AreMembersBelow l.low l.found;
+  within : l.low ≤ l.nodes;
 }

@@ -3,6 +3,7 @@ use Rattle.aodv_entry.specs.declared.entry.Entry.{Entry}
 use Rattle.mesh_checkpoint.specs.Checkpoint as model
 use Rattle.mesh_checkpoint.specs.Points.{route_of, routes_in}
 use Rattle.mesh_restore.proofs.Listings.{none_listed, no_routes, routes_last, still_below}
+use Rattle.mesh_restore.proofs.Precursors.{no_precursors, precursors_still_below}
 use Rattle.mesh_restore.proofs.Loop.{starts, goes_on, ends, falls}
 use Rattle.mesh_restore.proofs.routes.rows.Goals as goal
 
@@ -11,6 +12,7 @@ loop-init c = rw c.in_ok-table.ensures record {
   so_far = rw no_routes (starts (λ r. r.dest) (model.route c.args.nodes).get c.args.count c.args.bytes.now);
   below = none_listed Entry;
   nodes = omega arith;
+  precursors = no_precursors c.args.nodes;
 }
 
 pub returns-in_default-clause-value : goal.returns-in_default-clause-value
@@ -28,4 +30,5 @@ loop-preserved c = rw (c.put.ensures.entries, c.put.ensures.nodes, c.make_room.e
       (goes_on (λ r. r.dest) (model.route c.args.nodes).get c.args.count c.loop.counter c.loop.low c.args.bytes.now (routes_in (c.loop.table).entries) c.loop.rest.now (route_of (c.in-Some.dest, c.in-Some.entry)) c.in-Some.behind.now _ (omega arith) c.in-Some.ensures.value (omega arith) (omega arith) c.loop.invariant.so_far);
   below = still_below (c.loop.table).entries c.loop.low c.in-Some.dest c.in-Some.entry c.loop.invariant.below (omega arith);
   nodes = c.loop.invariant.nodes;
+  precursors = precursors_still_below c.args.nodes (c.loop.table).entries c.in-Some.dest c.in-Some.entry c.loop.invariant.precursors c.in-Some.ensures.precursors;
 }

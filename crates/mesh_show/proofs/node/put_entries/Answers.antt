@@ -1,9 +1,24 @@
-use Rattle.std.proofs.Common.{◌<◌, ◌≤◌, ◌∙◌, ℕ, List, Ok, Err, length, arith}
+use Rattle.std.proofs.Common.{◌≡◌, ◌<◌, ◌≤◌, ◌∙◌, ℕ, List, Some, Ok, Err, length, subst, arith, rules}
+use Rattle.mesh_io.specs.Puts.{Puts}
+use Rattle.aodv_entry.specs.declared.entry.Entry.{Entry}
 use Rattle.std.proofs.lemmas.Result.{err_from_is_err_and}
 use Rattle.std.specs.FinMap as maps
-use Rattle.mesh_text.specs.Tables.{entry_of}
+use Rattle.mesh_show.specs.Destinations.{entry_of}
+use Rattle.mesh_show.proofs.Listed.{routes_listed}
 use Rattle.mesh_show.proofs.Tables.{each-goes, each-front, each-ends}
 use Rattle.mesh_show.proofs.node.put_entries.Goals as goal
+
+pub loop-d-init : goal.loop-d-init
+loop-d-init g c =
+    let n : ℕ = length c.args.mesh.now in
+    let within : (d : ℕ) (e : Entry) → maps.get (c.args.node.now.core).rt d ≡ Some e → d < n = λ d e is.
+    let placed = c.requires.sound.sound.table.places d e is in omega (arith, placed.dest, c.requires.size) in
+    record {
+      text = λ now r p.
+          let P : List ℕ → Type 0 = λ l. Puts (g.O.Sink.held c.args.out.now) now l r in
+          subst P (routes_listed c.args.mesh.now (c.args.node.now.core).rt n within) p;
+      faults = search rules;
+    }
 
 pub returns-in_err-put_entry_of-clause-text : goal.returns-in_err-put_entry_of-clause-text
 returns-in_err-put_entry_of-clause-text g c =
