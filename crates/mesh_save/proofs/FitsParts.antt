@@ -1,0 +1,200 @@
+-- Why values fit the formats that a table is built of, and why the entries of a map rise.
+use Rattle.std.proofs.Common.{◌≡◌, ℕ, suc, ◌+◌, ◌<◌, ◌≤◌, Bool, true, false, cond, ◌&&◌, ◌||◌, T, eq-eqb, List, [], ◌∷◌, length, map, Some, None, refl, sym, ap, ◌∙◌, arith, length-append, ◌⊎◌, inl, inr}
+use Rattle.std.specs.Prelude.{nat_le, nat_lt, is_some}
+use Rattle.std.specs.declared.cmp.Ordering.{Ordering}
+use Rattle.std.specs.declared.cmp.Ordering.TheVariants.{Less, Equal, Greater}
+use Rattle.std.specs.Ordering.{nat_cmp, ordering_then, is_lt, is_eq, eq_by_cmp}
+use Rattle.std.specs.Cmp.{IsTotalOrder, tied_itself, ranked}
+use Rattle.std.specs.Int.{Width}
+use Rattle.std.specs.List.{AllByRecursion, flat_map, list_any}
+use Rattle.std.specs.FinMap as maps
+use Rattle.std.specs.FinMap.{FinMap, find, is_sorted}
+use Rattle.std.specs.FinMap.Entries.{below_all, find_tied}
+use Rattle.std.specs.FinSet as sets
+use Rattle.std.proofs.lemmas.Bool.{and_from, le-leb, lt-ltb}
+use Rattle.std.proofs.lemmas.Option.{none-some}
+use Rattle.aodv_model.specs.Pairs.{Pairs, pair_cmp, as_keys, pairs_in}
+use Rattle.aodv_model.proofs.PairLaws.{pair_cmp_total}
+use Rattle.mesh_checkpoint.specs.Formats.{Format, is_from, all_fit, rise, counted, counted_rising, text}
+
+-- ---- what holds of each value of a list
+
+pub all_weaker : {X : Type 0} (P Q : X → Type 0) → ((x : X) → P x → Q x) → (xs : List X) → AllByRecursion P xs → AllByRecursion Q xs
+all_weaker P Q gives [] all = tt
+all_weaker P Q gives (x ∷ xs) all = (gives x all.0, all_weaker P Q gives xs all.1)
+
+pub all_both : {X : Type 0} (P Q : X → Type 0) (xs : List X) → AllByRecursion P xs → AllByRecursion Q xs → AllByRecursion (λ x. P x × Q x) xs
+all_both P Q [] p q = tt
+all_both P Q (x ∷ xs) p q = ((p.0, q.0), all_both P Q xs p.1 q.1)
+
+-- what holds of the images
+pub all_mapped : {X Y : Type 0} (f : X → Y) (P : Y → Type 0) (xs : List X) → AllByRecursion (λ x. P (f x)) xs → AllByRecursion P (map f xs)
+all_mapped f P [] all = tt
+all_mapped f P (x ∷ xs) all = (all.0, all_mapped f P xs all.1)
+
+pub all_images : {X Y : Type 0} (f : X → Y) (P : Y → Type 0) (xs : List X) → AllByRecursion P (map f xs) → AllByRecursion (λ x. P (f x)) xs
+all_images f P [] all = tt
+all_images f P (x ∷ xs) all = (all.0, all_images f P xs all.1)
+
+pub length_mapped : {X Y : Type 0} (f : X → Y) (xs : List X) → length (map f xs) ≡ length xs
+length_mapped f [] = refl
+length_mapped f (x ∷ xs) = ap suc (length_mapped f xs)
+
+-- ---- numbers, lists and texts
+
+-- the value has bytes in this format
+abbrev pub IsFit : {A : Type 0} → Format A → A → Type 0
+IsFit a x = a.fits x ≡ true
+
+pub is_in : (low end n : ℕ) → low ≤ n → n < end → is_from low end n ≡ true
+is_in low end n up lt = and_from (nat_le low n) (nat_lt n end) (le-leb low n up) (lt-ltb n end lt)
+
+pub each_fits : {A : Type 0} (a : Format A) (xs : List A) → AllByRecursion (IsFit a) xs → all_fit a.fits xs ≡ true
+each_fits a [] all = refl
+each_fits a (x ∷ xs) all = and_from (a.fits x) (all_fit a.fits xs) all.0 (each_fits a xs all.1)
+
+pub text_fits : (w : Width) (low end : ℕ) (b : List ℕ) → low ≤ length b → length b < end → IsFit (text w low end) b
+text_fits w low end b up lt = and_from _ _ (is_in low end (length b) up lt) (eq-eqb (length b) (length b) refl)
+
+pub counted_fits : {A : Type 0} (count : Format ℕ) (a : Format A) (xs : List A) → IsFit count (length xs) → AllByRecursion (IsFit a) xs → IsFit (counted count a) xs
+counted_fits count a xs many all = and_from _ _ many (and_from _ _ (eq-eqb (length xs) (length xs) refl) (each_fits a xs all))
+
+-- ---- keys that rise
+
+-- the keys rise from `low` on
+abbrev pub Rise : {A : Type 0} → (A → ℕ) → ℕ → List A → Type 0
+Rise key low [] = Unit {0}
+Rise key low (x ∷ xs) = (low ≤ key x) × Rise key (key x + 1) xs
+
+rise_fits : {A : Type 0} (key : A → ℕ) (low : ℕ) (xs : List A) → Rise key low xs → rise key low xs ≡ true
+rise_fits key low [] up = refl
+rise_fits key low (x ∷ xs) up = and_from (nat_le low (key x)) (rise key (key x + 1) xs) (le-leb low (key x) up.0) (rise_fits key (key x + 1) xs up.1)
+
+pub rising_fits : {A : Type 0} (key : A → ℕ) (count : Format ℕ) (a : Format A) (xs : List A) → IsFit count (length xs) → AllByRecursion (IsFit a) xs → Rise key 0 xs → IsFit (counted_rising key count a) xs
+rising_fits key count a xs many all up = and_from _ _ many (and_from _ _ (eq-eqb (length xs) (length xs) refl) (and_from _ _ (each_fits a xs all) (rise_fits key 0 xs up)))
+
+rises_few : {A : Type 0} (key : A → ℕ) (low end : ℕ) (xs : List A) → Rise key low xs → AllByRecursion (λ x. key x < end) xs → low ≤ end → low + length xs ≤ end
+rises_few key low end [] up below le = omega (arith, le)
+rises_few key low end (x ∷ xs) up below le =
+    let later = rises_few key (key x + 1) end xs up.1 below.1 (omega (arith, below.0)) in
+    omega (arith, later, up.0)
+
+-- keys that rise are no more than the numbers below which they are
+pub few : {A : Type 0} (key : A → ℕ) (end : ℕ) (xs : List A) → Rise key 0 xs → AllByRecursion (λ x. key x < end) xs → length xs ≤ end
+few key end xs up below = let n = rises_few key 0 end xs up below (omega arith) in omega (arith, n)
+
+pub rise_mapped : {A B : Type 0} (f : A → B) (key : B → ℕ) (low : ℕ) (xs : List A) → Rise (λ x. key (f x)) low xs → Rise key low (map f xs)
+rise_mapped f key low [] up = tt
+rise_mapped f key low (x ∷ xs) up = (up.0, rise_mapped f key (key (f x) + 1) xs up.1)
+
+-- ---- the entries of a map rise
+
+is_less : (r : Ordering) → T (is_lt r) → r ≡ Less
+is_less Less t = refl
+is_less Equal t = absurd t
+is_less Greater t = absurd t
+
+left : (a b : Bool) → T (a && b) → T a
+left true b t = tt
+left false b t = absurd t
+
+right : (a b : Bool) → T (a && b) → T b
+right true b t = t
+right false b t = absurd t
+
+module _ {K X : Type 0} (R : K → K → Ordering) (key : K → ℕ) (P : K → Type 0) (up : (x y : K) → P x → P y → R x y ≡ Less → key x < key y) where
+  keys_after : (k : K) → P k → (es : List (K × X)) → AllByRecursion (λ e. P e.0) es → T (below_all R k es) → AllByRecursion (λ e. key k + 1 ≤ key e.0) es
+  keys_after k here [] all below = tt
+  keys_after k here (e ∷ es) all below =
+      let less = up k e.0 here all.0 (is_less (R k e.0) (left (is_lt (R k e.0)) (below_all R k es) below)) in
+      (omega (arith, less), keys_after k here es all.1 (right (is_lt (R k e.0)) (below_all R k es) below))
+
+  sorted_rise : (low : ℕ) (es : List (K × X)) → AllByRecursion (λ e. P e.0) es → T (is_sorted R es) → AllByRecursion (λ e. low ≤ key e.0) es → Rise (λ e. key e.0) low es
+  sorted_rise low [] all sorted from = tt
+  sorted_rise low (e ∷ es) all sorted from =
+      (from.0, sorted_rise (key e.0 + 1) es all.1 (right (below_all R e.0 es) (is_sorted R es) sorted) (keys_after e.0 all.0 es all.1 (left (below_all R e.0 es) (is_sorted R es) sorted)))
+
+  pub entries_rise : (m : FinMap R X) → AllByRecursion (λ e. P e.0) (maps.entries m) → Rise (λ e. key e.0) 0 (maps.entries m)
+  entries_rise m all =
+      sorted_rise 0 (maps.entries m) all (maps.entries_sorted m) (all_weaker (λ e. P e.0) (λ e. 0 ≤ key e.0) (λ e h. omega arith) (maps.entries m) all)
+
+pub numbers_rise : {X : Type 0} (m : FinMap nat_cmp X) (end : ℕ) → AllByRecursion (λ e. e.0 < end) (maps.entries m) → Rise (λ e. e.0) 0 (maps.entries m)
+numbers_rise m end all = entries_rise nat_cmp (λ k. k) (λ k. k < end) (λ x y p q less. ranked x y Less (sym less)) m all
+
+-- ---- what holds of each entry
+
+none_below : {K X : Type 0} (R : K → K → Ordering) (k : K) (es : List (K × X)) → T (below_all R k es) → find R k es ≡ None
+none_below R k [] below = refl
+none_below R k (e ∷ es) below =
+    let less : R k e.0 ≡ Less = is_less (R k e.0) (left (is_lt (R k e.0)) (below_all R k es) below) in
+    rw less (none_below R k es (right (is_lt (R k e.0)) (below_all R k es) below))
+
+module _ {K X : Type 0} (R : K → K → Ordering) (o : IsTotalOrder R) (P : K → X → Type 0) where
+  still_found : (e : K × X) (es : List (K × X)) (k : K) (v : X) → T (below_all R e.0 es) → find R k es ≡ Some v → find R k (e ∷ es) ≡ Some v
+  still_found e es k v below there = elim (R k e.0) as (λ r. R k e.0 ≡ r → cond (is_eq r) (Some e.1) (find R k es) ≡ Some v) [
+    | Less ↦ λ is. there
+    | Equal ↦ λ is. absurd (none-some v (sym (none_below R e.0 es below) ∙ find_tied R o k e.0 is es ∙ there))
+    | Greater ↦ λ is. there
+  ] refl
+
+  each_found : (es : List (K × X)) → T (is_sorted R es) → ((k : K) (v : X) → find R k es ≡ Some v → P k v) → AllByRecursion (λ e. P e.0 e.1) es
+  each_found [] sorted each = tt
+  each_found (e ∷ es) sorted each =
+      let tied : eq_by_cmp R e.0 e.0 ≡ true = ap is_eq (tied_itself o e.0) in
+      let below = left (below_all R e.0 es) (is_sorted R es) sorted in
+      let here : find R e.0 (e ∷ es) ≡ Some e.1 = rw tied refl in
+      (each e.0 e.1 here, each_found es (right (below_all R e.0 es) (is_sorted R es) sorted) (λ k v there. each k v (still_found e es k v below there)))
+
+  pub each_entry : (m : FinMap R X) → ((k : K) (v : X) → maps.get m k ≡ Some v → P k v) → AllByRecursion (λ e. P e.0 e.1) (maps.entries m)
+  each_entry m each = each_found (maps.entries m) (maps.entries_sorted m) (λ k v there. each k v (maps.get-entries m k ∙ there))
+
+-- ---- the pairs of a set
+
+marked-insert : (m : FinMap pair_cmp (Unit {0})) (p q : ℕ × ℕ) → is_some (maps.get (maps.insert m p tt) q) ≡ (eq_by_cmp pair_cmp q p || is_some (maps.get m q))
+marked-insert m p q =
+    ap is_some (maps.get-insert pair_cmp_total m p tt q)
+    ∙ elim (eq_by_cmp pair_cmp q p) as (λ b. is_some (cond b (Some tt) (maps.get m q)) ≡ (b || is_some (maps.get m q))) [ true ↦ refl | false ↦ refl ]
+
+marked_there : (ps : List (ℕ × ℕ)) (q : ℕ × ℕ) → is_some (maps.get (as_keys ps) q) ≡ list_any (eq_by_cmp pair_cmp q) ps
+marked_there [] q = ap is_some (maps.get-empty pair_cmp q)
+marked_there (p ∷ ps) q = marked-insert (as_keys ps) p q ∙ ap (λ (b : Bool). eq_by_cmp pair_cmp q p || b) (marked_there ps q)
+
+-- what holds of each member holds of each pair that is listed
+pub each_pair : (s : Pairs) (P : ℕ × ℕ → Type 0) → ((q : ℕ × ℕ) → sets.contains s q ≡ true → P q) → AllByRecursion P (pairs_in s)
+unfolding pairs_in
+each_pair s P each =
+    let m = as_keys (sets.items s) in
+    all_mapped (λ (e : (ℕ × ℕ) × Unit {0}). e.0) P (maps.entries m) (each_entry pair_cmp pair_cmp_total (λ k v. P k) m (λ k v there.
+    each k (sets.contains-items s k ∙ sym (marked_there (sets.items s) k) ∙ ap is_some there)))
+
+pub pairs_rise : (s : Pairs) (key : ℕ × ℕ → ℕ) (P : ℕ × ℕ → Type 0) → ((x y : ℕ × ℕ) → P x → P y → pair_cmp x y ≡ Less → key x < key y) → AllByRecursion P (pairs_in s) → Rise key 0 (pairs_in s)
+unfolding pairs_in
+pairs_rise s key P up all =
+    let m = as_keys (sets.items s) in
+    rise_mapped (λ (e : (ℕ × ℕ) × Unit {0}). e.0) key 0 (maps.entries m)
+    (entries_rise pair_cmp key P up m (all_images (λ (e : (ℕ × ℕ) × Unit {0}). e.0) P (maps.entries m) all))
+
+-- a lesser pair has the lesser first number, or the same and the lesser second
+pub lesser_pair : (x y : ℕ × ℕ) → pair_cmp x y ≡ Less → (x.0 < y.0) ⊎ ((x.0 ≡ y.0) × (x.1 < y.1))
+lesser_pair x y less =
+    elim (nat_cmp x.0 y.0) as (λ r. nat_cmp x.0 y.0 ≡ r → ordering_then r (nat_cmp x.1 y.1) ≡ Less → (x.0 < y.0) ⊎ ((x.0 ≡ y.0) × (x.1 < y.1))) [
+      | Less ↦ λ is second. inl (ranked x.0 y.0 Less (sym is))
+      | Equal ↦ λ is second. inr (ranked x.0 y.0 Equal (sym is), ranked x.1 y.1 Less (sym second))
+      | Greater ↦ λ is second. absurd (apart second)
+    ] refl less
+  where
+    apart : Greater ≡ Less → ⊥
+    apart e = cc
+
+-- ---- how many bytes are put
+
+-- values of a byte or more are no more than the bytes
+pub no_more : {A : Type 0} (put : A → List ℕ) → ((x : A) → 1 ≤ length (put x)) → (xs : List A) → length xs ≤ length (flat_map put xs)
+no_more put some [] = omega arith
+no_more put some (x ∷ xs) = omega (arith, some x, no_more put some xs, length-append (put x) (flat_map put xs))
+
+-- each value's bytes are no more than those of all
+pub each_short : {A : Type 0} (put : A → List ℕ) (most : ℕ) (xs : List A) → length (flat_map put xs) ≤ most → AllByRecursion (λ x. length (put x) ≤ most) xs
+each_short put most [] short = tt
+each_short put most (x ∷ xs) short =
+    (omega (arith, short, length-append (put x) (flat_map put xs)), each_short put most xs (omega (arith, short, length-append (put x) (flat_map put xs))))

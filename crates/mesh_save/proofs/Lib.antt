@@ -1,0 +1,14 @@
+mod Listing
+mod Keys
+mod Rows
+mod Puts
+mod Copies
+mod Tables
+mod LinkRows
+mod Ids
+mod Finished
+mod FitsParts
+mod Fits
+mod FitsBody
+mod Worlds
+mod Whole

@@ -1,0 +1,70 @@
+-- The links of a node to those above it.
+use Rattle.std.proofs.Common.{◌≡◌, ℕ, zero, suc, ◌+◌, ◌<◌, ◌≤◌, Bool, true, false, cond, eq-eqb, [], ◌∷◌, ◌++◌, length, refl, sym, ap, ◌∙◌, arith, length-append, inl, inr}
+use Rattle.std.specs.Prelude.{min, max}
+use Rattle.std.specs.Int.{from_bool}
+use Rattle.std.specs.FinSet as sets
+use Rattle.std.specs.Ordering.{nat_cmp}
+use Rattle.std.specs.Cmp.{nat_cmp_total, unsigned_tied}
+use Rattle.std.proofs.lemmas.Bool.{ne_eqb, cases_eq}
+use Rattle.aodv_model.specs.Pairs.{Pairs}
+use Rattle.aodv_asked.specs.Requests.{ids_below}
+use Rattle.mesh_model.specs.Worlds.{are_linked, linked_below}
+use Rattle.mesh_model.specs.Places.{AreLinks}
+use Rattle.mesh_save.proofs.Keys.{byte_is}
+
+pub in_order : (pairs : Pairs) (a b : ℕ) → a < b → are_linked pairs a b ≡ sets.contains pairs (a, b)
+in_order pairs a b lt =
+    let low : min a b ≡ a = omega arith in
+    let high : max a b ≡ b = omega arith in
+    rw (low, high) refl
+
+-- ---- no link leads to a node that isn't above
+
+none_from : (s : Pairs) (o n : ℕ) → ((q : ℕ) → q < n → sets.contains s (o, q) ≡ false) → ids_below n s o ≡ []
+unfolding ids_below
+none_from s o zero none = refl
+none_from s o (suc n) none = rw (none n (omega arith)) (none_from s o n (λ q lt. none q (omega (arith, lt))))
+
+pub none_up_to : (size : ℕ) (s : Pairs) (a : ℕ) → AreLinks size s → ids_below (a + 1) s a ≡ []
+none_up_to size s a are = none_from s a (a + 1) (λ q lt. elim (sets.contains s (a, q)) as (λ b. sets.contains s (a, q) ≡ b → b ≡ false) [
+  | true ↦ λ is. absurd (omega (arith, (are (a, q) is).0, lt))
+  | false ↦ λ is. refl
+] refl)
+
+-- ---- how many there are
+
+pub count_next : (s : Pairs) (o n count one : ℕ) (b : Bool) → count ≡ length (ids_below n s o) → one ≡ from_bool b → b ≡ sets.contains s (o, n) → count + one ≡ length (ids_below (n + 1) s o)
+unfolding ids_below
+count_next s o n count one b so_far byte here =
+    let up : n + 1 ≡ suc n = omega arith in
+    rw (up, byte ∙ byte_is b, here, so_far) (elim (sets.contains s (o, n)) as (λ b. length (ids_below n s o) + cond b 1 0 ≡ length (cond b (ids_below n s o ++ n ∷ []) (ids_below n s o))) [
+      | true ↦ sym (length-append (ids_below n s o) (n ∷ []))
+      | false ↦ omega arith
+    ])
+
+-- ---- the nodes in range
+
+linked_past : (links : Pairs) (a n b : ℕ) → n ≤ b → sets.contains (linked_below links a n) b ≡ false
+linked_past links a zero b le = sets.contains-empty nat_cmp b
+linked_past links a (suc n) b le =
+    let later = linked_past links a n b (omega (arith, le)) in
+    elim (are_linked links a n) as (λ l. sets.contains (cond l (sets.insert (linked_below links a n) n) (linked_below links a n)) b ≡ false) [
+      | true ↦ sets.contains-insert nat_cmp_total (linked_below links a n) n b ∙ rw (unsigned_tied b n, ne_eqb b n (λ e. absurd (omega (arith, e, le))), later) refl
+      | false ↦ later
+    ]
+
+pub linked_is : (links : Pairs) (a n b : ℕ) → b < n → sets.contains (linked_below links a n) b ≡ are_linked links a b
+linked_is links a zero b lt = absurd (omega arith)
+linked_is links a (suc n) b lt = elim (cases_eq b n) [
+  | inl same ↦
+      elim (are_linked links a n) as (λ l. are_linked links a n ≡ l → sets.contains (cond l (sets.insert (linked_below links a n) n) (linked_below links a n)) b ≡ are_linked links a b) [
+        | true ↦ λ is. sets.contains-insert nat_cmp_total (linked_below links a n) n b ∙ rw (unsigned_tied b n, eq-eqb b n same) (sym (ap (are_linked links a) same ∙ is))
+        | false ↦ λ is. linked_past links a n b (omega (arith, same)) ∙ sym (ap (are_linked links a) same ∙ is)
+      ] refl
+  | inr differ ↦
+      let later = linked_is links a n b (omega (arith, lt, differ)) in
+      elim (are_linked links a n) as (λ l. sets.contains (cond l (sets.insert (linked_below links a n) n) (linked_below links a n)) b ≡ are_linked links a b) [
+        | true ↦ sets.contains-insert nat_cmp_total (linked_below links a n) n b ∙ rw (unsigned_tied b n, ne_eqb b n differ) later
+        | false ↦ later
+      ]
+]

@@ -1,0 +1,13 @@
+-- Read in this order.
+-- Pens: what a pen has taken.
+pub mod Pens
+-- Bytes: the bytes of each part of a body.
+pub mod Bytes
+-- Requests: the requests that a node has seen, by their originators.
+pub mod Requests
+-- Narrow: numbers that are no greater than their fields.
+pub mod Narrow
+-- Links: the links of a mesh, by their first nodes.
+pub mod Links
+-- Saved: what a call has written of a moment's checkpoint.
+pub mod Saved

@@ -1,0 +1,42 @@
+//! Numbers and texts, as they are put.
+ghost use Rattle.std.specs.Prelude.{◌++◌, length};
+ghost use Rattle.std.specs.Int.{w16, w32, w64, to_be_bytes};
+ghost use Rattle.mesh_checkpoint.specs.Formats.{truth};
+
+use crate::pen::Pen;
+
+/// A truth, in one byte.
+pub(crate) fn put_truth<P: Pen>(pen: &mut P, holds: bool)
+    ensures { P.wrote pen.old (truth.put holds) pen.new }
+{
+    pen.put(&[u8::from(holds)]);
+}
+
+/// The last two bytes of a number.
+pub(crate) fn put16<P: Pen>(pen: &mut P, n: u64)
+    ensures { P.wrote pen.old (to_be_bytes w16 n) pen.new }
+{
+    pen.put(&n.to_be_bytes()[6..]);
+}
+
+/// The last four bytes of a number.
+pub(crate) fn put32<P: Pen>(pen: &mut P, n: u64)
+    ensures { P.wrote pen.old (to_be_bytes w32 n) pen.new }
+{
+    pen.put(&n.to_be_bytes()[4..]);
+}
+
+/// A number, in eight bytes.
+pub(crate) fn put64<P: Pen>(pen: &mut P, n: u64)
+    ensures { P.wrote pen.old (to_be_bytes w64 n) pen.new }
+{
+    pen.put(&n.to_be_bytes());
+}
+
+/// Bytes behind their length.
+pub(crate) fn put_text<P: Pen>(pen: &mut P, text: &[u8])
+    ensures { P.wrote pen.old (to_be_bytes w16 (length text.now) ++ text.now) pen.new }
+{
+    put16(pen, text.len() as u64);
+    pen.put(text);
+}

@@ -1,0 +1,81 @@
+//! The requests that a node has seen, as they are put.
+ghost use Rattle.std.specs.Prelude.{◌≡◌, ◌<◌, ◌≤◌, ◌^◌, length};
+ghost use Rattle.std.specs.List.{flat_map};
+ghost use Rattle.aodv_model.specs.Cores.{next_request_id};
+ghost use Rattle.aodv_asked.specs.Requests.{ids_beside};
+ghost use Rattle.aodv_model.specs.Pairs.{pairs_in};
+ghost use Rattle.mesh_save.specs.Bytes.{request_bytes, requests_bytes};
+ghost use Rattle.mesh_save.specs.Requests.{requests_of, AreRequestsOf};
+
+use crate::fields::{put16, put32};
+use crate::pen::Pen;
+use aodv_asked::Asked;
+
+/// How many numbers have 32 bits.
+const NUMBERS: u64 = 4_294_967_296;
+
+// The end of the ids of a node's requests.
+fn end_of(asked: &Asked, origin: usize) -> u64
+    requires { origin < length asked.now.rooms }
+    ensures end { result ≡ next_request_id asked.now.pairs origin }
+    ensures few { result ≤ 2 ^ 32 }
+{
+    match asked.next_id(origin) {
+        Some(next) => u64::from(next),
+        None => NUMBERS,
+    }
+}
+
+// How many requests of a node were seen.
+fn count_of(asked: &Asked, origin: usize) -> u64
+    requires { origin < length asked.now.rooms }
+    ensures count { result ≡ length (ids_beside asked.now.pairs origin) }
+    ensures few { next_request_id asked.now.pairs origin ≤ 2 ^ 32 }
+{
+    // It says that the ids have 32 bits.
+    let _end = end_of(asked, origin);
+    asked.count(origin)
+}
+
+// How many requests were seen.
+fn count_asked(asked: &Asked, nodes: usize) -> u64
+    requires size { length asked.now.rooms ≡ nodes }
+    requires few { nodes ≤ 256 }
+    ensures count { result ≡ length (pairs_in asked.now.pairs) }
+    ensures ids { AreRequestsOf nodes asked.now.pairs }
+{
+    // It says that each request is of a node of the mesh.
+    let nodes = asked.nodes();
+    let mut count = 0;
+    for origin in 0..nodes {
+        count += count_of(asked, origin);
+    }
+    count
+}
+
+// The requests of a node that were seen.
+fn put_requests_of<P: Pen>(pen: &mut P, asked: &Asked, origin: usize)
+    requires { origin < length asked.now.rooms }
+    ensures { P.wrote pen.old
+        (flat_map request_bytes (requests_of asked.now.pairs origin)) pen.new }
+{
+    let mut next = asked.first(origin);
+    'ids: while let Some(id) = next {
+        put16(pen, origin as u64);
+        put32(pen, u64::from(id));
+        next = asked.after(origin, id);
+    }
+}
+
+/// The requests that were seen, behind their number.
+pub(crate) fn put_asked<P: Pen>(pen: &mut P, asked: &Asked, nodes: usize)
+    requires size { length asked.now.rooms ≡ nodes }
+    requires few { nodes ≤ 256 }
+    ensures bytes { P.wrote pen.old (requests_bytes (pairs_in asked.now.pairs)) pen.new }
+    ensures ids { AreRequestsOf nodes asked.now.pairs }
+{
+    put32(pen, count_asked(asked, nodes));
+    for origin in 0..nodes {
+        put_requests_of(pen, asked, origin);
+    }
+}

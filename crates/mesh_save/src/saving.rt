@@ -1,0 +1,146 @@
+//! Writing the checkpoint of a moment.
+ghost use Rattle.std.specs.Prelude.{◌≡◌, ◌<◌, ◌≤◌, ◌↔◌, min, [], ◌++◌, true, false, OnOk, IsErrOf};
+ghost use Rattle.std.specs.Int.{w32, to_be_bytes};
+ghost use Rattle.mesh_text.specs.Schedule.{world_of};
+ghost use Rattle.mesh_run.specs.Causes.{HasCauseIf};
+ghost use Rattle.mesh_checkpoint.specs.declared.limits.TheConstants as limits;
+ghost use Rattle.mesh_checkpoint.specs.Checkpoint as model;
+ghost use Rattle.mesh_checkpoint.specs.Heads.{AreSums};
+ghost use Rattle.mesh_checkpoint.specs.State.{magic, body_length};
+ghost use Rattle.mesh_checkpoint.specs.Points.{head_of, body_of, IsTooLong};
+ghost use Rattle.mesh_save.specs.declared.saving.SaveError.TheVariants as errors;
+ghost use Rattle.mesh_save.specs.Pens.{IsPut, most_counted};
+ghost use Rattle.mesh_save.specs.Saved.{IsWritten, IsCut};
+
+use crate::body::put_body;
+use crate::fields::put32;
+use crate::pen::{Pen, Quill, Ruler};
+use arrayvec::ArrayVec;
+use mesh_checkpoint::LONGEST_BODY;
+use mesh_io::{Loan, Sink, Through};
+use mesh_run::Point;
+use mesh_world::World;
+use std::marker::Brand;
+use thiserror::Error;
+
+/// Why no checkpoint was written.
+#[derive(Clone, Copy, Debug, PartialEq, Eq, Error)]
+pub enum SaveError {
+    /// The body would be longer than the longest. Nothing was written.
+    #[error("a body that is too long")]
+    TooBig,
+    /// The sink has failed.
+    #[error("a write failed")]
+    WriteFault,
+}
+
+// How many bytes the body of a moment has, up to the greatest number of 64 bits.
+fn measure(point: &Point<World>) -> u64
+    requires steps { point.now.steps ≤ limits.MOST_STEPS }
+    requires next { (world_of point.now).next_copy ≤ limits.GREATEST_NEXT_ID }
+    requires sums { AreSums (head_of point.now) }
+    ensures length { min result most_counted ≡ min (body_length (body_of point.now)) most_counted }
+    ensures fits { body_length (body_of point.now) ≤ limits.LONGEST_BODY
+        → model.body.fits (body_of point.now) ≡ true }
+{
+    let mut ruler = Ruler { length: 0 };
+    put_body(&mut ruler, point);
+    ruler.length
+}
+
+// The checkpoint of a moment, whose body has so many bytes.
+fn put_checkpoint<P: Pen>(pen: &mut P, point: &Point<World>, length: u64)
+    ensures { P.wrote pen.old
+        (magic ++ (to_be_bytes w32 length ++ model.body.put (body_of point.now))) pen.new }
+{
+    pen.put(b"AWN1");
+    put32(pen, length);
+    put_body(pen, point);
+}
+
+// Writes the checkpoint to a sink, up to its first fault.
+fn write_gathered<S: Sink>(quill: &mut Quill<S>, point: &Point<World>, length: u64)
+    requires sound { quill.old.failed ≡ false }
+    requires nothing { quill.old.gathered.items ≡ [] }
+    ensures { IsPut (magic ++ (to_be_bytes w32 length ++ model.body.put (body_of point.now)))
+        quill.new.failed (S.held quill.old.out) (S.held quill.new.out)
+        (S.faults quill.old.out) (S.faults quill.new.out) }
+{
+    put_checkpoint(quill, point, length);
+    if !quill.failed {
+        quill.hand_on();
+    }
+}
+
+// Writes it to a sink, which comes back.
+fn write_through<'s, O: Sink, L: Loan>(
+    point: &Point<World>,
+    length: u64,
+    out: &'s mut O,
+    failed: &mut bool,
+) -> &'s mut O
+    requires name { out.ghost_name ≡ L.name }
+    requires start { O.held out.now ≡ L.start }
+    ensures same { result.ghost_name ≡ out.entry.ghost_name }
+    ensures put { IsPut (magic ++ (to_be_bytes w32 length ++ model.body.put (body_of point.now)))
+        failed.new (O.held out.entry.now) (O.held result.now)
+        (O.faults out.entry.now) (O.faults result.now) }
+{
+    let through: Through<'s, O, L> = Through::new(out);
+    let mut quill = Quill {
+        out: through,
+        gathered: ArrayVec::new(),
+        failed: false,
+    };
+    write_gathered(&mut quill, point, length);
+    *failed = quill.failed;
+    let Quill {
+        out,
+        gathered: _,
+        failed: _,
+    } = quill;
+    let Through { to, loan: _ } = out;
+    to
+}
+
+// Writes it to a sink: whether that has failed.
+fn write_out<O: Sink>(point: &Point<World>, length: u64, out: &mut O) -> bool
+    ensures { IsPut (magic ++ (to_be_bytes w32 length ++ model.body.put (body_of point.now)))
+        result (O.held out.old) (O.held out.new) (O.faults out.old) (O.faults out.new) }
+{
+    let mut failed = false;
+    let _out = write_through::<O, Brand>(point, length, out, &mut failed);
+    failed
+}
+
+/// Writes the checkpoint of a moment. Its body is measured first, and then written, many bytes at a
+/// time. It takes no memory.
+pub fn save<O: Sink>(point: &Point<World>, out: &mut O) -> Result<(), SaveError>
+    requires steps { point.now.steps ≤ limits.MOST_STEPS }
+    requires next { (world_of point.now).next_copy ≤ limits.GREATEST_NEXT_ID }
+    requires lines { point.now.lines < limits.SUMS_END }
+    requires events { point.now.sums.events < limits.SUMS_END }
+    requires idle { point.now.sums.idle < limits.SUMS_END }
+    requires given { point.now.sums.given < limits.SUMS_END }
+    requires delivered { point.now.sums.delivered < limits.SUMS_END }
+    requires lost { point.now.sums.lost < limits.SUMS_END }
+    requires copied { point.now.sums.copied < limits.SUMS_END }
+    ensures saved { OnOk result (IsWritten point.now (O.held out.old) (O.held out.new)) }
+    ensures cut { IsErrOf result errors.WriteFault
+        → IsCut point.now (O.held out.old) (O.held out.new) }
+    ensures too_big { IsErrOf result errors.TooBig ↔ IsTooLong point.now }
+    ensures untouched { IsErrOf result errors.TooBig → out.new ≡ out.old }
+    ensures cause { HasCauseIf (IsErrOf result errors.WriteFault)
+        (O.faults out.old) (O.faults out.new) }
+{
+    let length = measure(point);
+    if length > LONGEST_BODY {
+        return Err(SaveError::TooBig);
+    }
+    let failed = write_out(point, length, out);
+    if failed {
+        Err(SaveError::WriteFault)
+    } else {
+        Ok(())
+    }
+}

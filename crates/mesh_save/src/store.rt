@@ -1,0 +1,67 @@
+//! The data that wait for a route, as they are put.
+ghost use Rattle.std.specs.Prelude.{◌≡◌, ◌<◌, length};
+ghost use Rattle.std.specs.FinMap as maps;
+ghost use Rattle.aodv_model.specs.Cores.{bodies_in, needs_in};
+ghost use Rattle.aodv_model.specs.Soundness.{IsStoreInMesh};
+ghost use Rattle.mesh_checkpoint.specs.Points.{waits_of, waits_in};
+ghost use Rattle.mesh_save.specs.Bytes.{bytes_if, waits_bytes, store_bytes};
+
+use crate::fields::{put_text, put_truth, put16, put32};
+use crate::pen::Pen;
+use aodv_waiting::Waiting;
+
+// What waits for a destination.
+fn put_waits<P: Pen>(pen: &mut P, waiting: &Waiting, dest: usize)
+    requires { dest < length waiting.now.rooms }
+    ensures { P.wrote pen.old (waits_bytes (record {
+      dest = dest;
+      needs_request = needs_in (maps.get waiting.now.store dest);
+      bodies = bodies_in (maps.get waiting.now.store dest);
+    })) pen.new }
+{
+    let count = waiting.count(dest);
+    put16(pen, dest as u64);
+    put_truth(pen, waiting.needs_request(dest));
+    put32(pen, count as u64);
+    for k in 0..count {
+        put_text(pen, waiting.datum(dest, k));
+    }
+}
+
+// What waits for a destination, if something does.
+fn put_waits_for<P: Pen>(pen: &mut P, waiting: &Waiting, dest: usize)
+    requires dest { dest < length waiting.now.rooms }
+    requires sound { IsStoreInMesh (length waiting.now.rooms) waiting.now.store }
+    ensures { P.wrote pen.old
+        (bytes_if (λ w. waits_bytes (waits_of (dest, w))) (maps.get waiting.now.store dest))
+        pen.new }
+{
+    if waiting.has(dest) {
+        put_waits(pen, waiting, dest);
+    }
+}
+
+// For how many destinations data wait.
+fn count_waits(waiting: &Waiting, nodes: usize) -> u64
+    requires size { length waiting.now.rooms ≡ nodes }
+    requires sound { IsStoreInMesh nodes waiting.now.store }
+    ensures { result ≡ length (waits_in waiting.now.store) }
+{
+    let mut count = 0;
+    for dest in 0..nodes {
+        count += u64::from(waiting.has(dest));
+    }
+    count
+}
+
+/// The store, behind the number of destinations for which data wait.
+pub(crate) fn put_store<P: Pen>(pen: &mut P, waiting: &Waiting, nodes: usize)
+    requires size { length waiting.now.rooms ≡ nodes }
+    requires sound { IsStoreInMesh nodes waiting.now.store }
+    ensures { P.wrote pen.old (store_bytes (waits_in waiting.now.store)) pen.new }
+{
+    put16(pen, count_waits(waiting, nodes));
+    for dest in 0..nodes {
+        put_waits_for(pen, waiting, dest);
+    }
+}
