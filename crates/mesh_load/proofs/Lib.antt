@@ -1,0 +1,22 @@
+-- Listed: a listing is of one node.
+pub mod Listed
+-- Alike: what holds of nodes holds of others with the same listings.
+pub mod Alike
+-- NodeLists: how the nodes that were read grow by one.
+pub mod NodeLists
+-- Amounts: the data of a world that was read are those that were counted in its checkpoint.
+pub mod Amounts
+-- WorldParts: the parts of a world, one after another.
+pub mod WorldParts
+-- Bodies: the body of a moment that was read is the body that it was read from.
+pub mod Bodies
+-- Sound: no part of a world that was read and made is refused.
+pub mod Sound
+-- BodyParts: the parts of a body, one after another.
+pub mod BodyParts
+-- Making: the moment that is made of the parts of a body has that body.
+pub mod Making
+-- Loaded: what is loaded of bytes is what a checkpoint is of.
+pub mod Loaded
+-- Moments: a checkpoint has one moment.
+pub mod Moments

@@ -1,0 +1,67 @@
+//! Why no run goes on from bytes.
+ghost use Rattle.std.specs.Prelude.{◌≡◌};
+ghost use Rattle.mesh_load.specs.Errors.{after_survey, after_reading};
+ghost use Rattle.mesh_load.specs.declared.error.StateError.TheVariants.{NoMemory as Short};
+
+use mesh_base::NoMemory;
+use mesh_checkpoint::SurveyError;
+use mesh_restore::ReadError;
+use mesh_world::Part;
+use thiserror::Error;
+
+/// Why no run goes on from bytes. The first that applies is told, but memory may be short anywhere.
+#[derive(Clone, Copy, Debug, PartialEq, Eq, Error)]
+pub enum StateError {
+    /// The first four bytes aren't there, or aren't those of a checkpoint.
+    #[error("no checkpoint")]
+    NotState,
+    /// The length isn't there, is greater than that of the longest body, or isn't that of the bytes
+    /// behind it.
+    #[error("a wrong length")]
+    Length,
+    /// The body doesn't follow the table to its end.
+    #[error("a body that doesn't follow the table")]
+    Spelling,
+    /// The data that were given or doubled aren't as many as those that were delivered, were
+    /// dropped or are still there.
+    #[error("sums that aren't balanced")]
+    Sums,
+    /// This part isn't as in a run.
+    #[error("{0}")]
+    Unsound(Part),
+    /// Memory was asked for and not found.
+    #[error("no memory")]
+    NoMemory,
+}
+
+impl From<SurveyError> for StateError {
+    ghost from_gives = { λ survey e. e ≡ after_survey survey };
+
+    fn from(survey: SurveyError) -> StateError {
+        match survey {
+            SurveyError::NotState => StateError::NotState,
+            SurveyError::Length => StateError::Length,
+            SurveyError::Spelling => StateError::Spelling,
+            SurveyError::Sums => StateError::Sums,
+        }
+    }
+}
+
+impl From<ReadError> for StateError {
+    ghost from_gives = { λ reading e. e ≡ after_reading reading };
+
+    fn from(reading: ReadError) -> StateError {
+        match reading {
+            ReadError::Spelling => StateError::Spelling,
+            ReadError::NoMemory => StateError::NoMemory,
+        }
+    }
+}
+
+impl From<NoMemory> for StateError {
+    ghost from_gives = { λ _ e. e ≡ Short };
+
+    fn from(_: NoMemory) -> StateError {
+        StateError::NoMemory
+    }
+}

@@ -1,0 +1,15 @@
+//! A checkpoint's bytes become the moment of a run, or it is said why not.
+#![tactic(auto)]
+
+mod error;
+mod laws;
+mod loading;
+mod nodes;
+mod world;
+
+pub use error::StateError;
+pub use laws::one_moment;
+pub use loading::load;
+
+#[cfg(test)]
+mod tests;

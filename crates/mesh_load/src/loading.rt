@@ -1,0 +1,68 @@
+//! A checkpoint's bytes as the moment of a run.
+ghost use Rattle.std.specs.Prelude.{◌≡◌, ◌<◌, ◌≤◌, ℕ, List, IfOk, MatchResult};
+ghost use Rattle.mesh_checkpoint.specs.Checkpoint as model;
+ghost use Rattle.mesh_checkpoint.specs.Points.{IsState};
+ghost use Rattle.mesh_load.specs.Loading.{IsRefused};
+ghost use Rattle.mesh_run.specs.Sums.{sums_of};
+ghost use Rattle.mesh_load.specs.Parts.{Makes, IsBody, IsMomentOf, IsUnsoundBody, sums_in};
+
+use crate::error::StateError;
+use crate::world::read_maybe_world;
+use mesh_checkpoint::{
+    Head, MOST_STEPS, SUMS_END, balanced_is_taken, one_body, read_head, survey, written_is_read,
+};
+use mesh_restore::read_mesh;
+use mesh_run::{Point, Sums};
+use mesh_world::World;
+use std::alloc::Global;
+
+// What a run had counted, as the head of a body says.
+fn sums_in(head: &Head) -> Sums
+    ensures { sums_of result ≡ sums_in head.now }
+{
+    Sums {
+        events: head.events,
+        idle: head.idle,
+        given: head.given,
+        delivered: head.delivered,
+        lost: head.lost,
+        copied: head.copied,
+    }
+}
+
+// The moment with this body, or the first part of its world that isn't as in a run. Of the other
+// refusals only want of memory comes: the bytes are a body, and its sums are balanced.
+fn restore(alloc: Global, body: &[u8]) -> Result<Point<World>, StateError>
+    requires { IsBody body.now }
+    ensures { Makes IsMomentOf IsUnsoundBody (model.body.get body.now) result }
+{
+    let Some((head, rest)) = read_head(body) else {
+        return Err(StateError::Spelling);
+    };
+    let Some((mesh, rest)) = read_mesh(rest) else {
+        return Err(StateError::Spelling);
+    };
+    let world = read_maybe_world(alloc, &mesh, head.variant, rest)?;
+    match Point::from_parts(mesh, head.variant, world, sums_in(&head), head.lines) {
+        Some(point) => Ok(point),
+        None => Err(StateError::Sums),
+    }
+}
+
+/// The moment of which these bytes are the checkpoint; or the first refusal that applies. Nothing
+/// asks for memory before it is known that the bytes are a checkpoint with balanced sums.
+pub fn load(alloc: Global, b: &[u8]) -> Result<Point<World>, StateError>
+    ensures exact { MatchResult result (λ p. IsState b.now p) (λ e. IsRefused b.now e) }
+    ensures unrefused { IfOk result (λ _. (e : StateError) → IsRefused b.now e
+        → e ≡ StateError.NoMemory) }
+    ensures lines { IfOk result (λ p. p.lines < SUMS_END) }
+    ensures steps { IfOk result (λ p. p.steps ≤ MOST_STEPS) }
+{
+    // What is written of a body is read again: behind the first eight bytes that of the survey.
+    written_is_read();
+    // A checkpoint has no other body, and where its sums are balanced no refusal of a survey.
+    one_body();
+    balanced_is_taken();
+    let _data = survey(b)?;
+    restore(alloc, &b[8..])
+}

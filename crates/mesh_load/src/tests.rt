@@ -1,0 +1,62 @@
+//! Checkpoints written out byte for byte.
+use super::{StateError, load};
+use mesh_world::Part;
+use std::test::Fail;
+
+/// The checkpoint of an empty input.
+const EMPTY: [u8; 68] = [
+    0x41, 0x57, 0x4e, 0x31, 0, 0, 0, 60, 0, 0, 0, 0, 0, 0, 0, 0, 0, 0, 0, 0, 0, 0, 0, 0, 0, 0, 0,
+    0, 0, 0, 0, 0, 0, 0, 0, 0, 0, 0, 0, 0, 0, 0, 0, 0, 0, 0, 0, 0, 0, 0, 0, 0, 0, 0, 0, 0, 0, 0, 0,
+    0, 0, 0, 0, 0, 0, 0, 0, 0,
+];
+
+/// Two linked nodes, 10.0.0.1 and 10.0.0.2. Node 1 has a route to node 0 with number 5, and so has
+/// node 0, by node 1.
+const TWO: [u8; 182] = [
+    0x41, 0x57, 0x4e, 0x31, 0, 0, 0, 174, //
+    0, //
+    0, 0, 0, 0, 0, 0, 0, 0, 0, 0, 0, 0, 0, 0, 0, 0, 0, 0, 0, 0, 0, 0, 0, 0, 0, 0, 0, 0, //
+    0, 0, 0, 0, 0, 0, 0, 0, 0, 0, 0, 0, 0, 0, 0, 0, 0, 0, 0, 0, 0, 0, 0, 0, 0, 0, 0, 0, //
+    0, 2, 10, 0, 0, 1, 0, 0, 0, 1, 10, 0, 0, 2, 0, 0, 0, 9, //
+    1, 0, 0, 0, 0, 0, 0, 0, 3, //
+    0, 0, 0, 1, 0, 2, //
+    0, 0, 0, 0, 0, 5, 1, 1, 2, 0, 1, 0, 0, //
+    0, 1, 0, 0, 0, 9, 1, 1, 1, 0, 1, 0, 0, //
+    0, 0, 0, 0, 0, 0, 0, 0, 0, 0, //
+    0, 0, 0, 9, 0, 1, //
+    0, 0, 0, 0, 0, 5, 1, 1, 1, 0, 0, 0, 0, //
+    0, 0, 0, 0, 0, 0, 0, 0, 0, 0, //
+    0, 1, 0, 0, 0, 1, 1, //
+    0, 0, 0, 0, 0, 0, 0, 1, //
+    0, 0, 0, 0,
+];
+
+#[test]
+fn an_empty_checkpoint_is_loaded(rt: HostRuntime) -> Result<(), Fail> {
+    let point = load(rt.alloc(), &EMPTY)?;
+    assert!(rt; point.world().is_none());
+    assert!(rt; point.mesh().is_empty());
+    let mut other = EMPTY;
+    other[0] = 0;
+    assert_eq!(rt; load(rt.alloc(), &other).err(), Some(StateError::NotState));
+    Ok(())
+}
+
+#[test]
+fn a_world_is_loaded(rt: HostRuntime) -> Result<(), Fail> {
+    let point = load(rt.alloc(), &TWO)?;
+    assert_eq!(rt; point.mesh().len(), 2);
+    match point.world() {
+        Some(world) => assert_eq!(rt; world.steps(), 3),
+        None => assert!(rt; false),
+    }
+    // The number of the route of node 0 to itself.
+    let mut unbacked = TWO;
+    unbacked[103] = 6;
+    let part = Part::Edge { node: 0, dest: 0 };
+    assert_eq!(rt;
+        load(rt.alloc(), &unbacked).err(),
+        Some(StateError::Unsound(part))
+    );
+    Ok(())
+}
