@@ -8,7 +8,7 @@ man = $(DESTDIR)$(PREFIX)/share/man
 examples = $(DESTDIR)$(PREFIX)/share/doc/mesh/examples
 
 # The crates of the programs; the start script of mesh_cli is `mesh`.
-crates = mesh_cli mesh_capture mesh_check mesh_node mesh_places mesh_watch mesh_why
+crates = mesh_cli mesh_capture mesh_check mesh_node mesh_places mesh_state mesh_watch mesh_why
 starts = $(crates:mesh_cli=mesh)
 pages = $(starts:=.1)
 

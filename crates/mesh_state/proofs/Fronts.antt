@@ -1,0 +1,121 @@
+-- What was read at the front of an input, from the pieces that were taken.
+use Rattle.std.proofs.Common.{◌≡◌, ◌∙◌, ℕ, Bool, true, false, refl, ◌+◌, ◌-◌, ◌<◌, ◌≤◌, ◌⊎◌, inl, inr, List, ◌++◌, length, take, drop, Option, Some, None, IfSome, sym, ap, ap₂, subst, arith, take-append-drop, length-take}
+use Rattle.std.specs.Int.{w32, from_be_bytes}
+use Rattle.std.proofs.Math.Dec.{leb}
+use Rattle.std.proofs.lemmas.Bool.{leb-true, leb-false}
+use Rattle.std.proofs.Math.ListN.{drop_of_length-le}
+use Rattle.std.proofs.Math.Seq.{take-add, take_all}
+use Rattle.std.proofs.lemmas.List.{take-take, drop-drop, drop-take}
+use Rattle.std.proofs.lemmas.Bool.Decides.{nat_tests}
+use Rattle.mesh_checkpoint.specs.declared.limits.TheConstants.{LONGEST_BODY}
+use Rattle.mesh_checkpoint.specs.State.{stated}
+use Rattle.mesh_state.specs.declared.front.TheConstants.{HEAD_SIZE}
+use Rattle.mesh_state.specs.Fronts.{front_size, front_of, rest_of, IsOtherHead, IsFrontTaken, IsHeadTaken, TakesUpTo}
+
+-- ---- the size of a front
+
+pub size_with : (bytes : List ℕ) → 8 ≤ length bytes → stated bytes ≤ 268435456 → 8 + stated bytes ≤ length bytes → front_size bytes ≡ 8 + stated bytes
+size_with bytes head within there = grind (arith, nat_tests)
+
+pub size_short : (bytes : List ℕ) → length bytes < 8 + stated bytes → front_size bytes ≡ length bytes
+size_short bytes short = grind (arith, nat_tests)
+
+pub size_whole : (bytes : List ℕ) → 8 ≤ length bytes → 8 ≤ front_size bytes
+size_whole bytes whole = grind (arith, nat_tests)
+
+-- the first 8 bytes say the length
+pub stated_in : (n : ℕ) (bytes : List ℕ) → 8 ≤ n → stated (take n bytes) ≡ stated bytes
+stated_in n bytes whole =
+    let split : n ≡ 4 + (n - 4) = omega arith in
+    let few : 4 ≤ n - 4 = omega arith in
+    ap (λ k. stated (take k bytes)) split ∙ ap (λ l. from_be_bytes w32 (take 4 l)) (drop-take 4 (n - 4) bytes) ∙ ap (λ l. from_be_bytes w32 l) (take-take 4 (n - 4) (drop 4 bytes) few)
+
+-- ---- no body follows
+
+short_front : (bytes : List ℕ) → length bytes < 8 + stated bytes → (taken : List ℕ) (left : Option (List ℕ)) (n : ℕ) → length bytes ≤ n → taken ≡ take n bytes → left ≡ Some (drop n bytes)
+    → IsFrontTaken bytes taken left
+unfolding front_of rest_of
+short_front bytes short taken left n few is rest =
+    let size : front_size bytes ≡ length bytes = size_short bytes short in
+    let same : length bytes ≤ length bytes = omega arith in
+    record {
+      front = is ∙ take_all n bytes few ∙ sym (ap (λ k. take k bytes) size ∙ take_all (length bytes) bytes same);
+      rest = rest ∙ ap (λ l. Some l) (drop_of_length-le bytes few ∙ sym (ap (λ k. drop k bytes) size ∙ drop_of_length-le bytes same));
+    }
+
+head_alone : (bytes taken : List ℕ) (left : Option (List ℕ)) → taken ≡ take 8 bytes → left ≡ Some (drop 8 bytes) → (length taken < 8) ⊎ IsOtherHead taken
+    → IsFrontTaken bytes taken left ⊎ IsHeadTaken bytes taken left
+head_alone bytes taken left is rest (inl short) =
+    let size : length (take 8 bytes) ≡ _ = length-take 8 bytes in
+    let few : length taken ≡ length (take 8 bytes) = ap length is in
+    inl (short_front bytes (omega arith) taken left 8 (omega arith) is rest)
+head_alone bytes taken left is rest (inr other) = inr (record { head = is; other = other; rest = rest })
+
+-- ---- a body follows
+
+at_most : (a b : ℕ) → (a ≤ b) ⊎ (b < a)
+at_most a b = tested (leb a b) refl
+  where
+    tested : (t : Bool) → leb a b ≡ t → (a ≤ b) ⊎ (b < a)
+    tested true is = inl (leb-true a b is)
+    tested false is = inr (leb-false a b is)
+
+joined : (bytes head taken : List ℕ) (size : ℕ) → head ≡ take 8 bytes → take 8 taken ≡ head → drop 8 taken ≡ take size (drop 8 bytes) → taken ≡ take (8 + size) bytes
+joined bytes head taken size is front behind = sym (take-append-drop 8 taken) ∙ ap₂ (λ a b. a ++ b) (front ∙ is) behind ∙ sym (take-add 8 size bytes)
+
+whole_front : (bytes taken : List ℕ) (left : Option (List ℕ)) → 8 ≤ length bytes → stated bytes ≤ 268435456 → 8 + stated bytes ≤ length bytes → taken ≡ take (8 + stated bytes) bytes → left ≡ Some (drop (8 + stated bytes) bytes)
+    → IsFrontTaken bytes taken left
+unfolding front_of rest_of
+whole_front bytes taken left head within there is rest =
+    let size : front_size bytes ≡ 8 + stated bytes = size_with bytes head within there in
+    record {
+      front = is ∙ sym (ap (λ k. take k bytes) size);
+      rest = rest ∙ ap (λ l. Some l) (sym (ap (λ k. drop k bytes) size));
+    }
+
+with_body : (bytes head taken : List ℕ) (size : ℕ) (left : Option (List ℕ)) → head ≡ take 8 bytes → length head ≡ 8 → size ≡ stated head → size ≤ 268435456 → take 8 taken ≡ head
+    → drop 8 taken ≡ take size (drop 8 bytes) → left ≡ Some (drop size (drop 8 bytes)) → IsFrontTaken bytes taken left
+with_body bytes head taken size left is eight says within front behind rest =
+    let same : size ≡ stated bytes = says ∙ ap stated is ∙ stated_in 8 bytes (omega arith) in
+    let whole : taken ≡ take (8 + stated bytes) bytes = joined bytes head taken size is front behind ∙ ap (λ k. take (8 + k) bytes) same in
+    let after : left ≡ Some (drop (8 + stated bytes) bytes) = rest ∙ ap (λ l. Some l) (drop-drop size 8 bytes ∙ ap (λ k. drop (8 + k) bytes) same) in
+    let few : length head ≡ length (take 8 bytes) = ap length is in
+    let long : length (take 8 bytes) ≡ _ = length-take 8 bytes in
+    elim (at_most (8 + stated bytes) (length bytes)) [
+      | inl there ↦ whole_front bytes taken left (omega arith) (omega arith) there whole after
+      | inr short ↦ short_front bytes short taken left (8 + stated bytes) (omega arith) whole after
+    ]
+
+-- ---- where the source tells its bytes
+
+-- the same under other names
+moved : (l0 l k : Option (List ℕ)) (taken other : List ℕ) → other ≡ taken → k ≡ l → IfSome l0 (λ bytes. IsFrontTaken bytes taken l ⊎ IsHeadTaken bytes taken l)
+    → IfSome l0 (λ bytes. IsFrontTaken bytes other k ⊎ IsHeadTaken bytes other k)
+moved l0 l k taken other e f t =
+    let P : List ℕ → Type 0 = λ x. IfSome l0 (λ bytes. IsFrontTaken bytes x l ⊎ IsHeadTaken bytes x l) in
+    let Q : Option (List ℕ) → Type 0 = λ x. IfSome l0 (λ bytes. IsFrontTaken bytes other x ⊎ IsHeadTaken bytes other x) in
+    subst Q (sym f) (subst P (sym e) t)
+
+alone : (l0 l1 : Option (List ℕ)) (v : ℕ) (taken : List ℕ) → v ≡ 0 → TakesUpTo HEAD_SIZE l0 l1 (drop v taken) → (length taken < HEAD_SIZE) ⊎ IsOtherHead taken
+    → IfSome l0 (λ bytes. IsFrontTaken bytes taken l1 ⊎ IsHeadTaken bytes taken l1)
+alone None l1 v taken none t other = tt
+alone (Some bytes) l1 v taken none t other =
+    let all : drop v taken ≡ taken = ap (λ k. drop k taken) none in
+    head_alone bytes taken l1 (sym all ∙ t.0) t.1 other
+
+pub taken_alone : (l0 l1 k : Option (List ℕ)) (v : ℕ) (taken front : List ℕ) → front ≡ taken → k ≡ l1 → v ≡ 0 → TakesUpTo HEAD_SIZE l0 l1 (drop v taken) → (length taken < HEAD_SIZE) ⊎ IsOtherHead taken
+    → IfSome l0 (λ bytes. IsFrontTaken bytes front k ⊎ IsHeadTaken bytes front k)
+taken_alone l0 l1 k v taken front e f none t other = moved l0 l1 k taken front e f (alone l0 l1 v taken none t other)
+
+behind : (l0 l1 l2 : Option (List ℕ)) (v w size : ℕ) (head taken : List ℕ) → v ≡ 0 → TakesUpTo HEAD_SIZE l0 l1 (drop v head) → w ≡ 8 → length head ≡ HEAD_SIZE → size ≡ stated head → size ≤ LONGEST_BODY
+    → take w taken ≡ head → TakesUpTo size l1 l2 (drop w taken) → IfSome l0 (λ bytes. IsFrontTaken bytes taken l2 ⊎ IsHeadTaken bytes taken l2)
+behind None l1 l2 v w size head taken none t eight whole says within front u = tt
+behind (Some bytes) l1 l2 v w size head taken none t eight whole says within front u =
+    let all : drop v head ≡ head = ap (λ k. drop k head) none in
+    let q : TakesUpTo size (Some (drop 8 bytes)) l2 (drop w taken) = subst (λ l. TakesUpTo size l l2 (drop w taken)) t.1 u in
+    inl (with_body bytes head taken size l2 (sym all ∙ t.0) whole says within (ap (λ k. take k taken) (sym eight) ∙ front) (ap (λ k. drop k taken) (sym eight) ∙ q.0) q.1)
+
+pub taken_body : (l0 l1 l2 k : Option (List ℕ)) (v w size : ℕ) (head taken front : List ℕ) → front ≡ taken → k ≡ l2 → v ≡ 0 → TakesUpTo HEAD_SIZE l0 l1 (drop v head) → w ≡ 8 → length head ≡ HEAD_SIZE → size ≡ stated head
+    → size ≤ LONGEST_BODY → take w taken ≡ head → TakesUpTo size l1 l2 (drop w taken) → IfSome l0 (λ bytes. IsFrontTaken bytes front k ⊎ IsHeadTaken bytes front k)
+taken_body l0 l1 l2 k v w size head taken front e f none t eight whole says within kept u =
+    moved l0 l2 k taken front e f (behind l0 l1 l2 v w size head taken none t eight whole says within kept u)

@@ -1,0 +1,9 @@
+pub mod Taking
+pub mod Fronts
+pub mod WholeLines
+pub mod Checkpoints
+pub mod Refused
+pub mod Told
+pub mod Completes
+pub mod Causes
+pub mod Small

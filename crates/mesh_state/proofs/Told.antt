@@ -1,0 +1,168 @@
+-- What was written and answered, from what the calls below say.
+use Rattle.std.proofs.Common.{◌≡◌, ◌≢◌, ◌∙◌, ◌⊎◌, ℕ, inl, inr, List, [], ◌++◌, Option, Some, None, IfSome, refl, ap, sym, subst, append-nil}
+use Rattle.std.specs.Io.KnownBytes.{Appends, Keeps}
+use Rattle.mesh_base.specs.declared.events.Variant.TheVariants.{Base}
+use Rattle.mesh_io.proofs.Writing.{Appends-join, AppendsPrefix-join, Keeps-same}
+use Rattle.mesh_text.specs.Schedule.{Moment, opening}
+use Rattle.mesh_text.specs.Text.{Written, Verdict, Finished, whole, text_on}
+use Rattle.mesh_run.specs.declared.say.Say.TheVariants.{All, Faults}
+use Rattle.mesh_run.specs.declared.status.Status.{Status}
+use Rattle.mesh_run.specs.declared.status.Status.TheVariants as status
+use Rattle.mesh_run.specs.Told.{said, fault_line, IsOutputFrom}
+use Rattle.mesh_checkpoint.specs.Points.{IsState, IsTooLong}
+use Rattle.mesh_save.specs.Saved.{IsWritten, IsCut}
+use Rattle.mesh_load.specs.declared.error.StateError.{StateError}
+use Rattle.mesh_load.specs.declared.error.StateError.TheVariants as errors
+use Rattle.mesh_load.specs.Loading.{IsRefused}
+use Rattle.mesh_state.specs.declared.words.Asked.TheVariants.{Save, Go}
+use Rattle.mesh_state.specs.declared.status.StateStatus.{StateStatus}
+use Rattle.mesh_state.specs.declared.status.StateStatus.TheVariants.{Run, TooBig}
+use Rattle.mesh_state.specs.Fronts.{front_of, rest_of, IsFrontTaken, IsHeadTaken}
+use Rattle.mesh_state.specs.Answers.{IsSaved, IsCutOff, IsTooBig, IsUnrefused, answer_by, IsRunOn, IsBadState, IsRunGone, IsRunSaved, IsAnswered}
+use Rattle.mesh_state.proofs.Refused.{refused, restored}
+
+-- ---- with `save`
+
+-- a run that isn't done
+stopped : (bytes : List ℕ) (after a b : Option (List ℕ)) (s : Status) → s ≢ status.Done → IsOutputFrom Faults (opening Base) bytes after a b s → IsRunSaved bytes after a b s
+stopped bytes after a b status.Done other t = absurd (other refl)
+stopped bytes after a b (status.BadLine n) other t = t
+stopped bytes after a b (status.Full n) other t = t
+stopped bytes after a b status.ReadFault other t = t
+stopped bytes after a b status.WriteFault other t = inl t
+stopped bytes after a b status.NoMemory other t = t
+stopped bytes after a b status.Usage other t = t
+
+pub stopped_told : (start : Moment) (left after a b : Option (List ℕ)) (s : Status) → start ≡ opening Base → s ≢ status.Done → IfSome left (λ bytes. IsOutputFrom Faults start bytes after a b s)
+    → IfSome left (λ bytes. IsAnswered Save bytes after a b (Run s))
+stopped_told start None after a b s e other t = tt
+stopped_told start (Some bytes) after a b s e other t = stopped bytes after a b s other (subst (λ x. IsOutputFrom Faults x bytes after a b s) e t)
+
+-- of a run that is done no line was told
+nothing_said : (w : Written) (a b : Option (List ℕ)) → w.verdict ≡ Finished → Appends a b (whole (said Faults w)) → Appends a b []
+nothing_said w a b finished t = let P : Verdict → Type 0 = λ v. Appends a b ([] ++ fault_line v w.last) in subst P finished t
+
+keeps_of : (a b : Option (List ℕ)) → Appends a b [] → Keeps a b
+keeps_of None b t = tt
+keeps_of (Some xs) None t = t
+keeps_of (Some xs) (Some ys) t = t ∙ append-nil xs
+
+-- the run came to this moment, and no line was told
+record CameTo (bytes : List ℕ) (at : Moment) (a b : Option (List ℕ)) : Type 0 where
+  finished : (text_on (opening Base) bytes).verdict ≡ Finished
+  after : at ≡ (text_on (opening Base) bytes).after
+  nothing : Appends a b []
+
+came_to : (start at : Moment) (bytes : List ℕ) (after a b : Option (List ℕ)) (s : Status) → start ≡ opening Base → s ≡ status.Done
+    → IsOutputFrom Faults start bytes after a b s → at ≡ (text_on start bytes).after → CameTo bytes at a b
+came_to start at bytes after a b s e d told past =
+    let so : IsOutputFrom Faults (opening Base) bytes after a b status.Done = subst (λ x. IsOutputFrom Faults (opening Base) bytes after a b x) d (subst (λ x. IsOutputFrom Faults x bytes after a b s) e told) in
+    record {
+      finished = so.0;
+      after = past ∙ ap (λ x. (text_on x bytes).after) e;
+      nothing = nothing_said (text_on (opening Base) bytes) a b so.0 so.1;
+    }
+
+-- the checkpoint was written after nothing
+written_after : (m n : Moment) (a b c : Option (List ℕ)) → m ≡ n → Appends a b [] → IsWritten m b c → IsWritten n a c
+written_after m n a b c e nothing w = record {
+  bytes = w.bytes;
+  state = subst (λ x. IsState w.bytes x) e w.state;
+  grown = Appends-join a b c [] w.bytes w.bytes refl nothing w.grown;
+}
+
+cut_after : (m n : Moment) (a b c : Option (List ℕ)) → m ≡ n → Appends a b [] → IsCut m b c → IsCut n a c
+cut_after m n a b c e nothing w = record {
+  bytes = w.bytes;
+  state = subst (λ x. IsState w.bytes x) e w.state;
+  grown = AppendsPrefix-join a b c [] w.bytes w.bytes refl nothing w.grown;
+}
+
+saved : (bytes : List ℕ) (at : Moment) (after a b c : Option (List ℕ)) (r : StateStatus) → CameTo bytes at a b → (r ≡ Run status.Done → IsWritten at b c) → (r ≡ Run status.WriteFault → IsCut at b c)
+    → (r ≡ TooBig → IsTooLong at × (c ≡ b)) → (r ≡ Run status.Done) ⊎ ((r ≡ Run status.WriteFault) ⊎ (r ≡ TooBig)) → IsAnswered Save bytes after a c r
+saved bytes at after a b c r came done cut big (inl is) =
+    let P : StateStatus → Type 0 = λ x. IsAnswered Save bytes after a c x in
+    let so : IsSaved (text_on (opening Base) bytes) a c = record { finished = came.finished; written = written_after at _ a b c came.after came.nothing (done is) } in
+    subst P (sym is) so
+saved bytes at after a b c r came done cut big (inr (inl is)) =
+    let P : StateStatus → Type 0 = λ x. IsAnswered Save bytes after a c x in
+    let so : IsCutOff (text_on (opening Base) bytes) a c = record { finished = came.finished; cut = cut_after at _ a b c came.after came.nothing (cut is) } in
+    let one : P (Run status.WriteFault) = inr so in
+    subst P (sym is) one
+saved bytes at after a b c r came done cut big (inr (inr is)) =
+    let P : StateStatus → Type 0 = λ x. IsAnswered Save bytes after a c x in
+    let long = big is in
+    let kept : Keeps a c = subst (λ k. Keeps a k) (sym long.1) (keeps_of a b came.nothing) in
+    let so : IsTooBig (text_on (opening Base) bytes) a c = record { finished = came.finished; long = subst IsTooLong came.after long.0; kept = kept } in
+    subst P (sym is) so
+
+pub saved_told : (start at : Moment) (left after a b c : Option (List ℕ)) (s : Status) (r : StateStatus) → start ≡ opening Base → s ≡ status.Done
+    → IfSome left (λ bytes. IsOutputFrom Faults start bytes after a b s) → IfSome left (λ bytes. at ≡ (text_on start bytes).after) → (r ≡ Run status.Done → IsWritten at b c)
+    → (r ≡ Run status.WriteFault → IsCut at b c) → (r ≡ TooBig → IsTooLong at × (c ≡ b)) → (r ≡ Run status.Done) ⊎ ((r ≡ Run status.WriteFault) ⊎ (r ≡ TooBig)) → IfSome left (λ bytes. IsAnswered Save bytes after a c r)
+saved_told start at None after a b c s r e d told past done cut big one = tt
+saved_told start at (Some bytes) after a b c s r e d told past done cut big one = saved bytes at after a b c r (came_to start at bytes after a b s e d told past) done cut big one
+
+-- ---- with `go`
+
+gone : (bytes : List ℕ) (left a b : Option (List ℕ)) (s : Status) → s ≢ status.Usage → IsRunOn bytes left a b s → IsRunGone bytes left a b s
+gone bytes left a b status.Done other t = t
+gone bytes left a b (status.BadLine n) other t = t
+gone bytes left a b (status.Full n) other t = t
+gone bytes left a b status.ReadFault other t = inr t
+gone bytes left a b status.WriteFault other t = t
+gone bytes left a b status.NoMemory other t = inr t
+gone bytes left a b status.Usage other t = absurd (other refl)
+
+-- the rest was run from the front's moment
+gone_from : (left0 left1 left2 a b : Option (List ℕ)) (taken : List ℕ) (start : Moment) (s : Status) → s ≢ status.Usage → IfSome left0 (λ bytes. IsFrontTaken bytes taken left1 ⊎ IsHeadTaken bytes taken left1)
+    → IsState taken start → IsUnrefused taken → IfSome left1 (λ bytes. IsOutputFrom All start bytes left2 a b s) → IfSome left0 (λ bytes. IsAnswered Go bytes left2 a b (Run s))
+gone_from None left1 left2 a b taken start s other read is free told = tt
+gone_from (Some bytes) left1 left2 a b taken start s other read is free told =
+    let r = restored bytes taken left1 start read is in
+    let front : IsUnrefused (front_of bytes) = subst IsUnrefused r.2 free in
+    let so : IsOutputFrom All start (rest_of bytes) left2 a b s = subst (λ o. IfSome o (λ l. IsOutputFrom All start l left2 a b s)) r.1 told in
+    gone bytes left2 a b s other (record { unrefused = front; start = start; state = r.0; told = so })
+
+pub gone_told : (left0 left1 left2 a b : Option (List ℕ)) (taken seen : List ℕ) (start : Moment) (s : Status) → seen ≡ taken → s ≢ status.Usage → IfSome left0 (λ bytes. IsFrontTaken bytes taken left1 ⊎ IsHeadTaken bytes taken left1)
+    → IsState seen start → ((why : StateError) → IsRefused seen why → why ≡ errors.NoMemory) → IfSome left1 (λ bytes. IsOutputFrom All start bytes left2 a b s) → IfSome left0 (λ bytes. IsAnswered Go bytes left2 a b (Run s))
+gone_told left0 left1 left2 a b taken seen start s e other read is free told =
+    gone_from left0 left1 left2 a b taken start s other read (subst (λ l. IsState l start) e is) (subst IsUnrefused e (λ why apart bad. apart (free why bad))) told
+
+-- the front was refused
+bad_front : (bytes : List ℕ) (left1 a : Option (List ℕ)) (taken : List ℕ) (why : StateError) → why ≢ errors.NoMemory → IsFrontTaken bytes taken left1 ⊎ IsHeadTaken bytes taken left1 → IsRefused taken why → IsBadState bytes left1 a a why
+bad_front bytes left1 a taken why other read bad = record {
+  taken = taken;
+  read = read;
+  refused = refused bytes taken left1 why read bad;
+  refusal = other;
+  kept = Keeps-same a;
+}
+
+-- or was not loaded for want of memory
+unloaded : (bytes : List ℕ) (left1 a : Option (List ℕ)) (taken : List ℕ) (why : StateError) → IsFrontTaken bytes taken left1 ⊎ IsHeadTaken bytes taken left1 → IsRefused taken why → IsAnswered Go bytes left1 a a (answer_by why)
+unloaded bytes left1 a taken errors.NotState read bad = bad_front bytes left1 a taken errors.NotState (λ e. cc) read bad
+unloaded bytes left1 a taken errors.Length read bad = bad_front bytes left1 a taken errors.Length (λ e. cc) read bad
+unloaded bytes left1 a taken errors.Spelling read bad = bad_front bytes left1 a taken errors.Spelling (λ e. cc) read bad
+unloaded bytes left1 a taken errors.Sums read bad = bad_front bytes left1 a taken errors.Sums (λ e. cc) read bad
+unloaded bytes left1 a taken (errors.Unsound part) read bad = bad_front bytes left1 a taken (errors.Unsound part) (λ e. cc) read bad
+unloaded bytes left1 a taken errors.NoMemory read bad = inl (Keeps-same a)
+
+unloaded_from : (left0 left1 a : Option (List ℕ)) (taken : List ℕ) (why : StateError) → IfSome left0 (λ bytes. IsFrontTaken bytes taken left1 ⊎ IsHeadTaken bytes taken left1) → IsRefused taken why
+    → IfSome left0 (λ bytes. IsAnswered Go bytes left1 a a (answer_by why))
+unloaded_from None left1 a taken why read bad = tt
+unloaded_from (Some bytes) left1 a taken why read bad = unloaded bytes left1 a taken why read bad
+
+pub unloaded_told : (left0 left1 a : Option (List ℕ)) (taken seen : List ℕ) (why : StateError) (r : StateStatus) → seen ≡ taken → r ≡ answer_by why → IfSome left0 (λ bytes. IsFrontTaken bytes taken left1 ⊎ IsHeadTaken bytes taken left1)
+    → IsRefused seen why → IfSome left0 (λ bytes. IsAnswered Go bytes left1 a a r)
+unloaded_told left0 left1 a taken seen why r e is read bad =
+    let P : StateStatus → Type 0 = λ x. IfSome left0 (λ bytes. IsAnswered Go bytes left1 a a x) in
+    subst P (sym is) (unloaded_from left0 left1 a taken why read (subst (λ l. IsRefused l why) e bad))
+
+-- such an answer is not of a run, but for want of memory
+pub not_run : (why : StateError) (s : Status) → s ≢ status.NoMemory → answer_by why ≢ Run s
+not_run errors.NotState s other e = cc
+not_run errors.Length s other e = cc
+not_run errors.Spelling s other e = cc
+not_run errors.Sums s other e = cc
+not_run (errors.Unsound part) s other e = cc
+not_run errors.NoMemory s other e = other (let same : status.NoMemory ≡ s = cc in sym same)

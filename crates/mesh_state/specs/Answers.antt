@@ -1,0 +1,134 @@
+-- What a call has written and answered. Where a sink doesn't tell what it holds, the answer alone
+-- is claimed.
+use Rattle.std.specs.Prelude.{◌≡◌, ◌≢◌, ◌⊎◌, ℕ, List, Option}
+use Rattle.std.specs.Io.KnownBytes.{Keeps}
+use Rattle.mesh_base.specs.declared.events.Variant.TheVariants.{Base}
+use Rattle.mesh_text.specs.Schedule.{Moment, opening}
+use Rattle.mesh_text.specs.Text.{Written, Finished, text_on}
+use Rattle.mesh_run.specs.declared.say.Say.TheVariants.{All, Faults}
+use Rattle.mesh_run.specs.declared.status.Status.{Status}
+use Rattle.mesh_run.specs.declared.status.Status.TheVariants.{Done, Usage, BadLine, Full, ReadFault, WriteFault, NoMemory}
+use Rattle.mesh_run.specs.Told.{IsOutputFrom}
+use Rattle.mesh_checkpoint.specs.Points.{IsState, IsTooLong}
+use Rattle.mesh_save.specs.Saved.{IsWritten, IsCut}
+use Rattle.mesh_load.specs.declared.error.StateError.{StateError}
+use Rattle.mesh_load.specs.declared.error.StateError.TheVariants as errors
+use Rattle.mesh_load.specs.Loading.{IsRefused}
+use Rattle.mesh_state.specs.declared.words.Asked.{Asked}
+use Rattle.mesh_state.specs.declared.words.Asked.TheVariants.{Save, Go}
+use Rattle.mesh_state.specs.declared.status.StateStatus.{StateStatus}
+use Rattle.mesh_state.specs.declared.status.StateStatus.TheVariants.{Run, BadState, TooBig}
+use Rattle.mesh_state.specs.Fronts.{front_of, rest_of, IsFrontTaken, IsHeadTaken}
+
+-- ---- with `save`, of the run of a schedule
+
+-- the run was done, and the checkpoint of its last moment was written
+pub record IsSaved (w : Written) (before now : Option (List ℕ)) : Type 0 where
+  pub finished : w.verdict ≡ Finished
+  pub written : IsWritten w.after before now
+
+-- the run was done, and a prefix of that checkpoint was written
+pub record IsCutOff (w : Written) (before now : Option (List ℕ)) : Type 0 where
+  pub finished : w.verdict ≡ Finished
+  pub cut : IsCut w.after before now
+
+-- the run was done, its last moment has too long a body for a checkpoint, and nothing was written
+pub record IsTooBig (w : Written) (before now : Option (List ℕ)) : Type 0 where
+  pub finished : w.verdict ≡ Finished
+  pub long : IsTooLong w.after
+  pub kept : Keeps before now
+
+-- where the run isn't done, what was written and answered is that of a run that tells its faults
+-- alone
+abbrev pub IsRunSaved : List ℕ → Option (List ℕ) → Option (List ℕ) → Option (List ℕ) → Status
+    → Type 0
+IsRunSaved bytes left before now Done = IsSaved (text_on (opening Base) bytes) before now
+IsRunSaved bytes left before now (BadLine n) =
+    IsOutputFrom Faults (opening Base) bytes left before now (BadLine n)
+IsRunSaved bytes left before now (Full n) =
+    IsOutputFrom Faults (opening Base) bytes left before now (Full n)
+IsRunSaved bytes left before now ReadFault =
+    IsOutputFrom Faults (opening Base) bytes left before now ReadFault
+IsRunSaved bytes left before now WriteFault =
+    IsOutputFrom Faults (opening Base) bytes left before now WriteFault
+    ⊎ IsCutOff (text_on (opening Base) bytes) before now
+IsRunSaved bytes left before now NoMemory =
+    IsOutputFrom Faults (opening Base) bytes left before now NoMemory
+IsRunSaved bytes left before now Usage = ⊥
+
+-- ---- with `go`, of an input that begins with a checkpoint
+
+-- no refusal applies. Want of memory is none
+abbrev pub IsUnrefused : List ℕ → Type 0
+IsUnrefused front = (why : StateError) → why ≢ errors.NoMemory → ¬ (IsRefused front why)
+
+-- the front is not refused, it is the checkpoint of a moment, and the rest was run from there
+pub record IsRunOn (bytes : List ℕ) (left before now : Option (List ℕ)) (s : Status) : Type 0 where
+  pub unrefused : IsUnrefused (front_of bytes)
+  pub start : Moment
+  pub state : IsState (front_of bytes) start
+  pub told : IsOutputFrom All start (rest_of bytes) left before now s
+
+-- the front was refused once it was read, or by its first 8 bytes, and nothing was written
+pub record IsBadState (bytes : List ℕ) (left before now : Option (List ℕ)) (why : StateError)
+    : Type 0 where
+  pub taken : List ℕ
+  pub read : IsFrontTaken bytes taken left ⊎ IsHeadTaken bytes taken left
+  pub refused : IsRefused (front_of bytes) why
+  pub refusal : why ≢ errors.NoMemory
+  pub kept : Keeps before now
+
+-- nothing was written where a read of the front failed, or memory ran out before the run
+abbrev pub IsRunGone : List ℕ → Option (List ℕ) → Option (List ℕ) → Option (List ℕ) → Status
+    → Type 0
+IsRunGone bytes left before now Done = IsRunOn bytes left before now Done
+IsRunGone bytes left before now (BadLine n) = IsRunOn bytes left before now (BadLine n)
+IsRunGone bytes left before now (Full n) = IsRunOn bytes left before now (Full n)
+IsRunGone bytes left before now ReadFault =
+    Keeps before now ⊎ IsRunOn bytes left before now ReadFault
+IsRunGone bytes left before now WriteFault = IsRunOn bytes left before now WriteFault
+IsRunGone bytes left before now NoMemory =
+    Keeps before now ⊎ IsRunOn bytes left before now NoMemory
+IsRunGone bytes left before now Usage = ⊥
+
+-- ---- either
+
+-- the call has answered for what was asked, where the source gave these bytes and has this left
+abbrev pub IsAnswered : Asked → List ℕ → Option (List ℕ) → Option (List ℕ) → Option (List ℕ)
+    → StateStatus → Type 0
+IsAnswered Save bytes left before now (Run s) = IsRunSaved bytes left before now s
+IsAnswered Save bytes left before now (BadState why) = ⊥
+IsAnswered Save bytes left before now TooBig = IsTooBig (text_on (opening Base) bytes) before now
+IsAnswered Go bytes left before now (Run s) = IsRunGone bytes left before now s
+IsAnswered Go bytes left before now (BadState why) = IsBadState bytes left before now why
+IsAnswered Go bytes left before now TooBig = ⊥
+
+-- with `save` the schedule's run is done, and its last moment's body isn't too long; with `go` the
+-- front isn't refused, and the run of the rest is done
+abbrev pub IsAllowed : Asked → List ℕ → Type 0
+IsAllowed Save bytes =
+    ((text_on (opening Base) bytes).verdict ≡ Finished)
+    × ¬ (IsTooLong (text_on (opening Base) bytes).after)
+IsAllowed Go bytes =
+    IsUnrefused (front_of bytes)
+    × ((start : Moment) → IsState (front_of bytes) start
+    → (text_on start (rest_of bytes)).verdict ≡ Finished)
+
+-- with `go` a refusal of the front applies
+abbrev pub HasRefusal : Asked → List ℕ → Type 0
+HasRefusal Save bytes = ⊥
+HasRefusal Go bytes =
+    (why : StateError) × (why ≢ errors.NoMemory) × IsRefused (front_of bytes) why
+
+-- what is answered of a front that isn't loaded
+abbrev pub answer_by : StateError → StateStatus
+answer_by errors.NotState = BadState errors.NotState
+answer_by errors.Length = BadState errors.Length
+answer_by errors.Spelling = BadState errors.Spelling
+answer_by errors.Sums = BadState errors.Sums
+answer_by (errors.Unsound part) = BadState (errors.Unsound part)
+answer_by errors.NoMemory = Run NoMemory
+
+-- the answer is a refusal of the front
+abbrev pub IsRefusal : StateStatus → Type 0
+IsRefusal answer = (why : StateError) × (answer ≡ BadState why)

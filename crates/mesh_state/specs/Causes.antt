@@ -1,0 +1,13 @@
+-- When a call answers a fault of its source, and that no other answer made one.
+use Rattle.std.specs.Prelude.{ℕ, ◌≡◌, ◌≢◌, ◌≤◌}
+use Rattle.mesh_io.specs.Cause.{Rose}
+use Rattle.mesh_run.specs.declared.status.Status.TheVariants.{ReadFault, WriteFault}
+use Rattle.mesh_state.specs.declared.status.StateStatus.{StateStatus}
+use Rattle.mesh_state.specs.declared.status.StateStatus.TheVariants.{Run}
+
+-- where a read failed, and then a write of what was gathered before it, the sink's fault is
+-- answered
+pub record HasReadCause (before now : ℕ) (answer : StateStatus) : Type 0 where
+  pub later : before ≤ now
+  pub failed : answer ≡ Run ReadFault → Rose before now
+  pub none : answer ≢ Run ReadFault → answer ≢ Run WriteFault → now ≡ before

@@ -1,0 +1,46 @@
+-- The front of an input, where a checkpoint stands, and the rest that follows it.
+use Rattle.std.specs.Prelude.{ℕ, ◌≡◌, ◌≢◌, ◌<◌, ◌+◌, ◌⊎◌, Bool, ◌&&◌, nat_le, if◌then◌else◌, List, length, take, drop, Option, Some, None, ⊤}
+use Rattle.mesh_checkpoint.specs.declared.limits.TheConstants.{LONGEST_BODY}
+use Rattle.mesh_checkpoint.specs.State.{magic, stated}
+use Rattle.mesh_state.specs.declared.front.TheConstants.{HEAD_SIZE}
+
+-- a head is there, and behind it as many bytes as it states, within the limit
+abbrev pub has_body : List ℕ → Bool
+has_body bytes =
+    nat_le HEAD_SIZE (length bytes) && nat_le (stated bytes) LONGEST_BODY
+    && nat_le (HEAD_SIZE + stated bytes) (length bytes)
+
+-- the front has the first 8 bytes and as many more as they state; it is the whole input where that
+-- is more than the limit or than there is
+abbrev pub front_size : List ℕ → ℕ
+front_size bytes = if has_body bytes then HEAD_SIZE + stated bytes else length bytes
+
+unfoldable pub front_of : List ℕ → List ℕ
+front_of bytes = take (front_size bytes) bytes
+
+-- what follows the front
+unfoldable pub rest_of : List ℕ → List ℕ
+rest_of bytes = drop (front_size bytes) bytes
+
+-- a whole head behind which no checkpoint's body follows: its first bytes are others, or the length
+-- that it states is above the limit
+pub record IsOtherHead (head : List ℕ) : Type 0 where
+  pub whole : length head ≡ HEAD_SIZE
+  pub other : (take 4 head ≢ magic) ⊎ (LONGEST_BODY < stated head)
+
+-- the front was taken of these bytes, and the rest is left
+pub record IsFrontTaken (bytes taken : List ℕ) (left : Option (List ℕ)) : Type 0 where
+  pub front : taken ≡ front_of bytes
+  pub rest : left ≡ Some (rest_of bytes)
+
+-- their first 8 alone, which show that no body follows
+pub record IsHeadTaken (bytes taken : List ℕ) (left : Option (List ℕ)) : Type 0 where
+  pub head : taken ≡ take HEAD_SIZE bytes
+  pub other : IsOtherHead taken
+  pub rest : left ≡ Some (drop HEAD_SIZE bytes)
+
+-- so many bytes were taken of the known bytes, or all where there are fewer
+abbrev pub TakesUpTo : ℕ → Option (List ℕ) → Option (List ℕ) → List ℕ → Type 0
+TakesUpTo count None left taken = ⊤
+TakesUpTo count (Some bytes) left taken =
+    (taken ≡ take count bytes) × (left ≡ Some (drop count bytes))

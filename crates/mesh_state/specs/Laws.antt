@@ -1,0 +1,26 @@
+-- The statements that this crate proves of its definitions.
+use Rattle.std.specs.Prelude.{◌≡◌, ◌≤◌, ◌⊎◌, ℕ, List, [], ◌∷◌, ◌++◌, length}
+use Rattle.mesh_base.specs.declared.limits.TheConstants.{LONGEST_INPUT}
+use Rattle.mesh_base.specs.declared.events.Variant.TheVariants.{Base}
+use Rattle.mesh_text.specs.Schedule.{Moment}
+use Rattle.mesh_text.specs.Text.{Finished, lines_before, text_on, text_of_input}
+use Rattle.mesh_checkpoint.specs.Points.{IsState}
+use Rattle.mesh_state.specs.Fronts.{front_of, rest_of}
+
+-- no bytes, or bytes of which the last is an LF
+abbrev pub HasWholeLines : List ℕ → Type 0
+HasWholeLines bytes = (bytes ≡ []) ⊎ ((front : List ℕ) × (bytes ≡ front ++ 10 ∷ []))
+
+-- of a checkpoint and what follows it, the checkpoint is the front
+abbrev pub CheckpointIsFront : Type 0
+CheckpointIsFront = (m : Moment) (saved rest : List ℕ) → IsState saved m
+    → (front_of (saved ++ rest) ≡ saved) × (rest_of (saved ++ rest) ≡ rest)
+
+-- the run of a schedule in two parts, of which the first has whole lines that were all allowed and
+-- done, is that of the first, and then that of the second from the moment after the first on
+abbrev pub SavedRunGoesOn : Type 0
+SavedRunGoesOn = (first second : List ℕ) → HasWholeLines first
+    → length (first ++ second) ≤ LONGEST_INPUT → (text_of_input Base first).verdict ≡ Finished
+    → text_of_input Base (first ++ second)
+    ≡ lines_before (text_of_input Base first).lines
+    (text_on (text_of_input Base first).after second)

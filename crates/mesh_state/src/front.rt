@@ -1,0 +1,88 @@
+//! The front of an input, where a checkpoint stands.
+ghost use Rattle.std.specs.Prelude.{◌≡◌, ◌≤◌, ◌<◌, ◌+◌, ◌⊎◌, length, take, drop, IfOk, IfSome, IfNone, IsErrOf, vec_len};
+ghost use Rattle.mesh_run.specs.Causes.{HasCauseIf};
+ghost use Rattle.mesh_checkpoint.specs.State.{magic, stated};
+ghost use Rattle.mesh_state.specs.Fronts.{IsOtherHead, IsFrontTaken, IsHeadTaken, TakesUpTo};
+
+use mesh_checkpoint::LONGEST_BODY;
+use mesh_io::Source;
+use std::alloc::Global;
+
+/// The size of a head, in bytes: four that say what it is, and four that state the body's length.
+pub const HEAD_SIZE: usize = 8;
+
+// How many bytes a read asks for at most.
+const ASKED: usize = 4096;
+
+/// Why a front wasn't read.
+#[derive(Clone, Copy, Debug, PartialEq, Eq)]
+pub enum FrontError {
+    /// The source failed.
+    ReadFault,
+    /// Memory was asked for and not found.
+    NoMemory,
+}
+
+// Reads so many bytes behind those that are there, or all that come where there are fewer.
+fn take_more<I: Source>(input: &mut I, count: usize, bytes: &mut Vec<u8>) -> Result<(), FrontError>
+    ensures kept { take (vec_len bytes.old) bytes.new.items ≡ bytes.old.items }
+    ensures few { vec_len bytes.new ≤ vec_len bytes.old + count }
+    ensures taken { IfOk result (λ _. TakesUpTo count (I.left input.old) (I.left input.new)
+        (drop (vec_len bytes.old) bytes.new.items)) }
+    ensures cause { HasCauseIf (IsErrOf result FrontError.ReadFault)
+        (I.faults input.old) (I.faults input.new) }
+{
+    let mut chunk = [0; ASKED];
+    let mut left = count;
+    while left > 0 {
+        let room = left.min(ASKED);
+        let Ok(n) = input.take(&mut chunk[..room]) else {
+            return Err(FrontError::ReadFault);
+        };
+        if n == 0 {
+            return Ok(());
+        }
+        if bytes.extend_from_slice(&chunk[..n]).is_err() {
+            return Err(FrontError::NoMemory);
+        }
+        left -= n;
+    }
+    Ok(())
+}
+
+// How many bytes of a body follow a head: none where it isn't whole, or another.
+fn body_size(head: &[u8]) -> Option<usize>
+    requires { length head.now ≤ HEAD_SIZE }
+    ensures whole { IfSome result (λ size. length head.now ≡ HEAD_SIZE) }
+    ensures size { IfSome result (λ size. (size ≡ stated head.now) × (size ≤ LONGEST_BODY)) }
+    ensures none { IfNone result ((length head.now < HEAD_SIZE) ⊎ IsOtherHead head.now) }
+{
+    if head.len() < HEAD_SIZE {
+        return None;
+    }
+    let (first, length) = head.split_at(4);
+    let size = u64::from(u32::from_be_bytes([length[0], length[1], length[2], length[3]]));
+    if first != b"AWN1".as_slice() || size > LONGEST_BODY {
+        return None;
+    }
+    Some(size as usize)
+}
+
+/// Reads the front of an input. Where its first 8 bytes show that no checkpoint's body follows, no
+/// byte beyond them is read; else none beyond the front.
+///
+/// The bytes are kept as they come, so a length that is stated and not kept takes no memory.
+pub fn take_front<I: Source>(alloc: Global, input: &mut I) -> Result<Vec<u8>, FrontError>
+    ensures taken { IfOk result (λ front. IfSome (I.left input.old) (λ bytes.
+        IsFrontTaken bytes front.items (I.left input.new)
+        ⊎ IsHeadTaken bytes front.items (I.left input.new))) }
+    ensures cause { HasCauseIf (IsErrOf result FrontError.ReadFault)
+        (I.faults input.old) (I.faults input.new) }
+{
+    let mut front = Vec::new(alloc);
+    take_more(input, HEAD_SIZE, &mut front)?;
+    if let Some(size) = body_size(&front) {
+        take_more(input, size, &mut front)?;
+    }
+    Ok(front)
+}

@@ -1,0 +1,14 @@
+//! Laws of the definitions. Each function has an empty body and a contract that states a law.
+ghost use Rattle.mesh_state.specs.Laws.{CheckpointIsFront, SavedRunGoesOn};
+
+/// Of a checkpoint and the lines that follow it, the checkpoint is the front, and the lines are the
+/// rest.
+pub fn a_checkpoint_is_the_front()
+    ensures { CheckpointIsFront }
+{}
+
+/// The run of a schedule in two parts is that of the first, and then that of the second from the
+/// moment after the first on.
+pub fn a_saved_run_goes_on()
+    ensures { SavedRunGoesOn }
+{}

@@ -1,0 +1,171 @@
+//! The top call.
+ghost use Rattle.std.specs.Prelude.{◌≡◌, ◌≢◌, ◌<◌, ◌≤◌, ◌↔◌, ◌⊎◌, map, None, IfSome};
+ghost use Rattle.std.specs.Io.KnownBytes.{IsAtEnd};
+ghost use Rattle.mesh_io.specs.Cause.{Rose};
+ghost use Rattle.mesh_run.specs.Causes.{HasCauseIf, HasStatusCause, HasSourceCause};
+ghost use Rattle.mesh_run.specs.Told.{IsOutputFrom};
+ghost use Rattle.mesh_checkpoint.specs.Points.{IsTooLong};
+ghost use Rattle.mesh_save.specs.Saved.{IsWritten, IsCut};
+ghost use Rattle.mesh_state.specs.Words.{asked_of};
+ghost use Rattle.mesh_state.specs.Causes.{HasReadCause};
+ghost use Rattle.mesh_state.specs.Answers.{answer_by, IsAnswered, IsAllowed, HasRefusal, IsRefusal};
+ghost use Rattle.mesh_state.specs.Small.{IsSmall};
+
+use crate::front::{FrontError, take_front};
+use crate::status::StateStatus;
+use crate::words::{Asked, asked_of};
+use mesh_checkpoint::{MOST_STEPS, SUMS_END};
+use mesh_io::{Sink, Source};
+use mesh_load::{StateError, load};
+use mesh_run::{Point, Say, Status, do_input};
+use mesh_save::SaveError;
+use mesh_world::World;
+use std::alloc::Global;
+
+// Writes the checkpoint of a moment.
+fn put_state<O: Sink>(at: &Point<World>, out: &mut O) -> StateStatus
+    requires { IsSmall at.now }
+    ensures saved { result ≡ StateStatus.Run Status.Done
+        → IsWritten at.now (O.held out.old) (O.held out.new) }
+    ensures cut { result ≡ StateStatus.Run Status.WriteFault
+        → IsCut at.now (O.held out.old) (O.held out.new) }
+    ensures too_big { result ≡ StateStatus.TooBig
+        → IsTooLong at.now × (O.held out.new ≡ O.held out.old) }
+    ensures one { (result ≡ StateStatus.Run Status.Done)
+        ⊎ ((result ≡ StateStatus.Run Status.WriteFault) ⊎ (result ≡ StateStatus.TooBig)) }
+    ensures read { result ≢ StateStatus.Run Status.ReadFault }
+    ensures words { result ≢ StateStatus.Run Status.Usage }
+    ensures cause { HasCauseIf (result ≡ StateStatus.Run Status.WriteFault)
+        (O.faults out.old) (O.faults out.new) }
+{
+    match mesh_save::save(at, out) {
+        Ok(()) => StateStatus::Run(Status::Done),
+        Err(SaveError::TooBig) => StateStatus::TooBig,
+        Err(SaveError::WriteFault) => StateStatus::Run(Status::WriteFault),
+    }
+}
+
+// Runs the schedule, and writes the checkpoint of its last moment.
+fn save<I: Source, O: Sink>(alloc: Global, input: &mut I, out: &mut O) -> StateStatus
+    ensures told { IfSome (I.left input.old) (λ bytes. IsAnswered Asked.Save bytes
+        (I.left input.new) (O.held out.old) (O.held out.new) result) }
+    ensures end { result ≡ StateStatus.Run Status.Done → IsAtEnd (I.left input.new) }
+    ensures read { HasReadCause (I.faults input.old) (I.faults input.new) result }
+    ensures write { HasCauseIf (result ≡ StateStatus.Run Status.WriteFault)
+        (O.faults out.old) (O.faults out.new) }
+    ensures words { result ≢ StateStatus.Run Status.Usage }
+{
+    let mut at: Point<World> = Point::start();
+    match do_input(alloc, &mut at, Say::Faults, input, out) {
+        Status::Done => put_state(&at, out),
+        status => StateStatus::Run(status),
+    }
+}
+
+// What is answered of a front that isn't loaded.
+fn answer_by(why: StateError) -> StateStatus
+    ensures { result ≡ answer_by why }
+{
+    match why {
+        StateError::NoMemory => StateStatus::Run(Status::NoMemory),
+        _ => StateStatus::BadState(why),
+    }
+}
+
+// Goes on from the checkpoint at the input's front with the lines that follow it.
+fn go<I: Source, O: Sink>(alloc: Global, input: &mut I, out: &mut O) -> StateStatus
+    ensures told { IfSome (I.left input.old) (λ bytes. IsAnswered Asked.Go bytes
+        (I.left input.new) (O.held out.old) (O.held out.new) result) }
+    ensures end { result ≡ StateStatus.Run Status.Done → IsAtEnd (I.left input.new) }
+    ensures read { HasReadCause (I.faults input.old) (I.faults input.new) result }
+    ensures write { HasCauseIf (result ≡ StateStatus.Run Status.WriteFault)
+        (O.faults out.old) (O.faults out.new) }
+    ensures words { result ≢ StateStatus.Run Status.Usage }
+{
+    let loaded = match take_front(alloc, input) {
+        Ok(front) => load(alloc, &front),
+        Err(FrontError::ReadFault) => return StateStatus::Run(Status::ReadFault),
+        Err(FrontError::NoMemory) => return StateStatus::Run(Status::NoMemory),
+    };
+    match loaded {
+        Ok(mut at) => StateStatus::Run(do_input(alloc, &mut at, Say::All, input, out)),
+        Err(why) => answer_by(why),
+    }
+}
+
+// Answers for what is asked.
+fn answer<I: Source, O: Sink>(
+    alloc: Global,
+    asked: Asked,
+    input: &mut I,
+    out: &mut O,
+) -> StateStatus
+    ensures told { IfSome (I.left input.old) (λ bytes. IsAnswered asked bytes
+        (I.left input.new) (O.held out.old) (O.held out.new) result) }
+    ensures end { result ≡ StateStatus.Run Status.Done → IsAtEnd (I.left input.new) }
+    ensures read { HasReadCause (I.faults input.old) (I.faults input.new) result }
+    ensures write { HasCauseIf (result ≡ StateStatus.Run Status.WriteFault)
+        (O.faults out.old) (O.faults out.new) }
+    ensures words { result ≢ StateStatus.Run Status.Usage }
+{
+    match asked {
+        Asked::Save => save(alloc, input, out),
+        Asked::Go => go(alloc, input, out),
+    }
+}
+
+/// Writes the checkpoint of a run, or goes on from one.
+///
+/// With the one word `save` the schedule that the source gives is run in a world of its own, where
+/// all nodes run the protocol as AWN has it, and where it is done the checkpoint of its last moment
+/// is written; of a line that is refused, or has an event for a full counter, the last line of the
+/// run's text is. With the one word `go` the source gives a checkpoint and then lines, and these
+/// are run from the checkpoint's moment on, and their text is written.
+pub fn state<I: Source, O: Sink>(
+    alloc: Global,
+    words: &[&str],
+    input: &mut I,
+    out: &mut O,
+) -> StateStatus
+    // The words are neither the one word `save` nor the one word `go`: nothing is read or written.
+    ensures usage_exactly_for_other_words { (result ≡ StateStatus.Run Status.Usage)
+        ↔ (asked_of (map (λ w. w.now) words.now) ≡ None) }
+    ensures untouched_by_other_words { result ≡ StateStatus.Run Status.Usage
+        → (input.new ≡ input.old) × (out.new ≡ out.old) }
+
+    // With `save` the answer is the verdict of the run, and where that is done the checkpoint of
+    // its last moment is written, unless its body is too long. With `go` the answer is the first
+    // refusal of the front, and nothing is written; or the front is the checkpoint of a moment, and
+    // what is written and answered is the text and the verdict of the rest from there. After a
+    // failed write, or want of memory, a prefix of that is written.
+    ensures told { IfSome (asked_of (map (λ w. w.now) words.now)) (λ asked.
+        IfSome (I.left input.old) (λ bytes. IsAnswered asked bytes
+        (I.left input.new) (O.held out.old) (O.held out.new) result)) }
+
+    // Done only where the input was read to its end.
+    ensures done_at_the_end { result ≡ StateStatus.Run Status.Done → IsAtEnd (I.left input.new) }
+
+    // A fault is answered only where the source or the sink has failed in this call, and no other
+    // answer is given where one of them has.
+    ensures cause_of_read_fault { HasReadCause (I.faults input.old) (I.faults input.new) result }
+    ensures cause_of_write_fault { HasCauseIf (result ≡ StateStatus.Run Status.WriteFault)
+        (O.faults out.old) (O.faults out.new) }
+
+    // Where nothing is refused and nothing has failed the call is done, unless memory runs out.
+    ensures complete { IfSome (asked_of (map (λ w. w.now) words.now)) (λ asked.
+        IfSome (I.left input.old) (λ bytes. IsAllowed asked bytes
+        → (Rose (I.faults input.old) (I.faults input.new) → ⊥)
+        → (Rose (O.faults out.old) (O.faults out.new) → ⊥)
+        → (result ≡ StateStatus.Run Status.Done) ⊎ (result ≡ StateStatus.Run Status.NoMemory))) }
+
+    // Where the front is refused and no read has failed that is the answer, unless memory runs out.
+    ensures refused { IfSome (asked_of (map (λ w. w.now) words.now)) (λ asked.
+        IfSome (I.left input.old) (λ bytes. HasRefusal asked bytes
+        → (Rose (I.faults input.old) (I.faults input.new) → ⊥)
+        → IsRefusal result ⊎ (result ≡ StateStatus.Run Status.NoMemory))) }
+{
+    match asked_of(words) {
+        Some(asked) => answer(alloc, asked, input, out),
+        None => StateStatus::Run(Status::Usage),
+    }
+}
