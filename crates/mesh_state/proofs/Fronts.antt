@@ -8,7 +8,7 @@ use Rattle.std.proofs.Math.Seq.{take-add, take_all}
 use Rattle.std.proofs.lemmas.List.{take-take, drop-drop, drop-take}
 use Rattle.std.proofs.lemmas.Bool.Decides.{nat_tests}
 use Rattle.mesh_checkpoint.specs.declared.limits.TheConstants.{LONGEST_BODY}
-use Rattle.mesh_checkpoint.specs.State.{stated}
+use Rattle.mesh_checkpoint.specs.State.{magic, stated}
 use Rattle.mesh_state.specs.declared.front.TheConstants.{HEAD_SIZE}
 use Rattle.mesh_state.specs.Fronts.{front_size, front_of, rest_of, IsOtherHead, IsFrontTaken, IsHeadTaken, TakesUpTo}
 
@@ -33,12 +33,13 @@ stated_in n bytes whole =
 -- ---- no body follows
 
 short_front : (bytes : List ℕ) → length bytes < 8 + stated bytes → (taken : List ℕ) (left : Option (List ℕ)) (n : ℕ) → length bytes ≤ n → taken ≡ take n bytes → left ≡ Some (drop n bytes)
-    → IsFrontTaken bytes taken left
+    → ¬ (IsOtherHead (take 8 bytes)) → IsFrontTaken bytes taken left
 unfolding front_of rest_of
-short_front bytes short taken left n few is rest =
+short_front bytes short taken left n few is rest known =
     let size : front_size bytes ≡ length bytes = size_short bytes short in
     let same : length bytes ≤ length bytes = omega arith in
     record {
+      same_head = known;
       front = is ∙ take_all n bytes few ∙ sym (ap (λ k. take k bytes) size ∙ take_all (length bytes) bytes same);
       rest = rest ∙ ap (λ l. Some l) (drop_of_length-le bytes few ∙ sym (ap (λ k. drop k bytes) size ∙ drop_of_length-le bytes same));
     }
@@ -48,10 +49,17 @@ head_alone : (bytes taken : List ℕ) (left : Option (List ℕ)) → taken ≡ t
 head_alone bytes taken left is rest (inl short) =
     let size : length (take 8 bytes) ≡ _ = length-take 8 bytes in
     let few : length taken ≡ length (take 8 bytes) = ap length is in
-    inl (short_front bytes (omega arith) taken left 8 (omega arith) is rest)
+    inl (short_front bytes (omega arith) taken left 8 (omega arith) is rest (λ o. let whole = o.whole in omega arith))
 head_alone bytes taken left is rest (inr other) = inr (record { head = is; other = other; rest = rest })
 
 -- ---- a body follows
+
+no_other : (head : List ℕ) → take 4 head ≡ magic → stated head ≤ LONGEST_BODY → ¬ (IsOtherHead head)
+no_other head first within o =
+    elim o.other [
+      | inl bad ↦ bad first
+      | inr long ↦ omega arith
+    ]
 
 at_most : (a b : ℕ) → (a ≤ b) ⊎ (b < a)
 at_most a b = tested (leb a b) refl
@@ -64,26 +72,29 @@ joined : (bytes head taken : List ℕ) (size : ℕ) → head ≡ take 8 bytes �
 joined bytes head taken size is front behind = sym (take-append-drop 8 taken) ∙ ap₂ (λ a b. a ++ b) (front ∙ is) behind ∙ sym (take-add 8 size bytes)
 
 whole_front : (bytes taken : List ℕ) (left : Option (List ℕ)) → 8 ≤ length bytes → stated bytes ≤ 268435456 → 8 + stated bytes ≤ length bytes → taken ≡ take (8 + stated bytes) bytes → left ≡ Some (drop (8 + stated bytes) bytes)
-    → IsFrontTaken bytes taken left
+    → ¬ (IsOtherHead (take 8 bytes)) → IsFrontTaken bytes taken left
 unfolding front_of rest_of
-whole_front bytes taken left head within there is rest =
+whole_front bytes taken left head within there is rest known =
     let size : front_size bytes ≡ 8 + stated bytes = size_with bytes head within there in
     record {
+      same_head = known;
       front = is ∙ sym (ap (λ k. take k bytes) size);
       rest = rest ∙ ap (λ l. Some l) (sym (ap (λ k. drop k bytes) size));
     }
 
-with_body : (bytes head taken : List ℕ) (size : ℕ) (left : Option (List ℕ)) → head ≡ take 8 bytes → length head ≡ 8 → size ≡ stated head → size ≤ 268435456 → take 8 taken ≡ head
+with_body : (bytes head taken : List ℕ) (size : ℕ) (left : Option (List ℕ)) → head ≡ take 8 bytes → length head ≡ 8 → size ≡ stated head → size ≤ 268435456 → take 4 head ≡ magic → take 8 taken ≡ head
     → drop 8 taken ≡ take size (drop 8 bytes) → left ≡ Some (drop size (drop 8 bytes)) → IsFrontTaken bytes taken left
-with_body bytes head taken size left is eight says within front behind rest =
+with_body bytes head taken size left is eight says within first front behind rest =
+    let within_head : stated head ≤ LONGEST_BODY = subst (λ n. n ≤ LONGEST_BODY) says within in
+    let known : ¬ (IsOtherHead (take 8 bytes)) = subst (λ h. ¬ (IsOtherHead h)) is (no_other head first within_head) in
     let same : size ≡ stated bytes = says ∙ ap stated is ∙ stated_in 8 bytes (omega arith) in
     let whole : taken ≡ take (8 + stated bytes) bytes = joined bytes head taken size is front behind ∙ ap (λ k. take (8 + k) bytes) same in
     let after : left ≡ Some (drop (8 + stated bytes) bytes) = rest ∙ ap (λ l. Some l) (drop-drop size 8 bytes ∙ ap (λ k. drop (8 + k) bytes) same) in
     let few : length head ≡ length (take 8 bytes) = ap length is in
     let long : length (take 8 bytes) ≡ _ = length-take 8 bytes in
     elim (at_most (8 + stated bytes) (length bytes)) [
-      | inl there ↦ whole_front bytes taken left (omega arith) (omega arith) there whole after
-      | inr short ↦ short_front bytes short taken left (8 + stated bytes) (omega arith) whole after
+      | inl there ↦ whole_front bytes taken left (omega arith) (omega arith) there whole after known
+      | inr short ↦ short_front bytes short taken left (8 + stated bytes) (omega arith) whole after known
     ]
 
 -- ---- where the source tells its bytes
@@ -108,14 +119,14 @@ pub taken_alone : (l0 l1 k : Option (List ℕ)) (v : ℕ) (taken front : List �
 taken_alone l0 l1 k v taken front e f none t other = moved l0 l1 k taken front e f (alone l0 l1 v taken none t other)
 
 behind : (l0 l1 l2 : Option (List ℕ)) (v w size : ℕ) (head taken : List ℕ) → v ≡ 0 → TakesUpTo HEAD_SIZE l0 l1 (drop v head) → w ≡ 8 → length head ≡ HEAD_SIZE → size ≡ stated head → size ≤ LONGEST_BODY
-    → take w taken ≡ head → TakesUpTo size l1 l2 (drop w taken) → IfSome l0 (λ bytes. IsFrontTaken bytes taken l2 ⊎ IsHeadTaken bytes taken l2)
-behind None l1 l2 v w size head taken none t eight whole says within front u = tt
-behind (Some bytes) l1 l2 v w size head taken none t eight whole says within front u =
+    → take 4 head ≡ magic → take w taken ≡ head → TakesUpTo size l1 l2 (drop w taken) → IfSome l0 (λ bytes. IsFrontTaken bytes taken l2 ⊎ IsHeadTaken bytes taken l2)
+behind None l1 l2 v w size head taken none t eight whole says within first front u = tt
+behind (Some bytes) l1 l2 v w size head taken none t eight whole says within first front u =
     let all : drop v head ≡ head = ap (λ k. drop k head) none in
     let q : TakesUpTo size (Some (drop 8 bytes)) l2 (drop w taken) = subst (λ l. TakesUpTo size l l2 (drop w taken)) t.1 u in
-    inl (with_body bytes head taken size l2 (sym all ∙ t.0) whole says within (ap (λ k. take k taken) (sym eight) ∙ front) (ap (λ k. drop k taken) (sym eight) ∙ q.0) q.1)
+    inl (with_body bytes head taken size l2 (sym all ∙ t.0) whole says within first (ap (λ k. take k taken) (sym eight) ∙ front) (ap (λ k. drop k taken) (sym eight) ∙ q.0) q.1)
 
 pub taken_body : (l0 l1 l2 k : Option (List ℕ)) (v w size : ℕ) (head taken front : List ℕ) → front ≡ taken → k ≡ l2 → v ≡ 0 → TakesUpTo HEAD_SIZE l0 l1 (drop v head) → w ≡ 8 → length head ≡ HEAD_SIZE → size ≡ stated head
-    → size ≤ LONGEST_BODY → take w taken ≡ head → TakesUpTo size l1 l2 (drop w taken) → IfSome l0 (λ bytes. IsFrontTaken bytes front k ⊎ IsHeadTaken bytes front k)
-taken_body l0 l1 l2 k v w size head taken front e f none t eight whole says within kept u =
-    moved l0 l2 k taken front e f (behind l0 l1 l2 v w size head taken none t eight whole says within kept u)
+    → size ≤ LONGEST_BODY → take 4 head ≡ magic → take w taken ≡ head → TakesUpTo size l1 l2 (drop w taken) → IfSome l0 (λ bytes. IsFrontTaken bytes front k ⊎ IsHeadTaken bytes front k)
+taken_body l0 l1 l2 k v w size head taken front e f none t eight whole says within first kept u =
+    moved l0 l2 k taken front e f (behind l0 l1 l2 v w size head taken none t eight whole says within first kept u)

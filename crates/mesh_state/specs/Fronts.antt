@@ -28,8 +28,10 @@ pub record IsOtherHead (head : List ℕ) : Type 0 where
   pub whole : length head ≡ HEAD_SIZE
   pub other : (take 4 head ≢ magic) ⊎ (LONGEST_BODY < stated head)
 
--- the front was taken of these bytes, and the rest is left
+-- the front was taken of these bytes, and the rest is left. Their first 8 don't show that no body
+-- follows
 pub record IsFrontTaken (bytes taken : List ℕ) (left : Option (List ℕ)) : Type 0 where
+  pub same_head : ¬ (IsOtherHead (take HEAD_SIZE bytes))
   pub front : taken ≡ front_of bytes
   pub rest : left ≡ Some (rest_of bytes)
 

@@ -54,6 +54,7 @@ fn take_more<I: Source>(input: &mut I, count: usize, bytes: &mut Vec<u8>) -> Res
 fn body_size(head: &[u8]) -> Option<usize>
     requires { length head.now ≤ HEAD_SIZE }
     ensures whole { IfSome result (λ size. length head.now ≡ HEAD_SIZE) }
+    ensures first { IfSome result (λ size. take 4 head.now ≡ magic) }
     ensures size { IfSome result (λ size. (size ≡ stated head.now) × (size ≤ LONGEST_BODY)) }
     ensures none { IfNone result ((length head.now < HEAD_SIZE) ⊎ IsOtherHead head.now) }
 {
