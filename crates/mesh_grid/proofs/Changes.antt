@@ -11,7 +11,7 @@ use Rattle.aodv_model.specs.Pairs.{Pairs, pair_cmp}
 use Rattle.aodv_model.proofs.PairLaws.{pair_cmp_total, same_pair}
 use Rattle.mesh_grammar.proofs.Readings.{if_case}
 use Rattle.mesh_model.specs.Worlds.{World, Event, Link, Cut, Changed, Idle, Next, step, after, run, pair, are_linked, linked_below, range, with_link, without_link}
-use Rattle.mesh_text.proofs.RunLaws.{run_append, run_none}
+use Rattle.mesh_text.proofs.RunLaws.{run_append, run_none, run_one}
 use Rattle.mesh_grid.specs.declared.place.Place.{Place}
 use Rattle.mesh_grid.specs.declared.place.Places.{Places}
 use Rattle.mesh_grid.specs.declared.line.Placing.{Placing}
@@ -61,11 +61,6 @@ less_same links k = sets.contains-remove pair_cmp_total links k k ∙ ap (λ b. 
 
 less_other : (links : Pairs) (k p : ℕ × ℕ) → p ≢ k → sets.contains (sets.remove links k) p ≡ sets.contains links p
 less_other links k p apart = sets.contains-remove pair_cmp_total links k p ∙ ap (λ b. not b && sets.contains links p) (miss p k apart)
-
--- the world after one event
-run_one : (w : World) (e : Event) → run w (e ∷ []) ≡ after w (step w e)
-unfolding run
-run_one w e = refl
 
 linking : (w : World) (a b : ℕ) → are_linked w.links a b ≡ false → after w (step w (Link a b)) ≡ with_link w a b
 unfolding step

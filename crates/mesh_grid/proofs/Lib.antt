@@ -1,7 +1,6 @@
 mod Words
 mod PlaceLines
 mod Changes
-mod ScheduleRuns
 pub mod PlaceSteps
 pub mod PlaceRuns
 pub mod LinkLaws

@@ -18,6 +18,7 @@ use Rattle.mesh_model.specs.Worlds as worlds
 use Rattle.mesh_model.specs.Worlds.{is_parcel, World, Node, Copy, Event, Give, Turn, Send, Ask, Link, Cut, Deliver, Lose, Double, range, copies, done_by, push, with_item, find_copy, Changed, Sent, CopyHeard, CopyLost, CopyDoubled, Outcome, Idle, Next, unless_full, turn_of, send_of, ask_of, at_node, at_copy, without_copy, with_double, step, after, run, start, first_numbers, pair, are_linked}
 use Rattle.mesh_model.specs.Choices.{first_turn, first_copy, first_send, first_ask, first_of, pick}
 use Rattle.mesh_model.proofs.Acyclic.{no_cycle}
+use Rattle.mesh_model.proofs.Chosen.{OnSome}
 use Rattle.mesh_grammar.specs.declared.fault.LineFault.{LineFault}
 use Rattle.mesh_grammar.specs.Lines.{Piece, Whole, Long, Beyond, pieces_of_input}
 use Rattle.mesh_grammar.specs.Written.{line}
@@ -31,10 +32,9 @@ use Rattle.mesh_text.specs.Runs.{moment_after}
 use Rattle.mesh_text.specs.Text.{LineOutcome, On, Refused, Full, outcome_of_event, outcome_of_auto, outcome_of_line, outcome_of_read}
 use Rattle.mesh_text.specs.Text as text
 use Rattle.mesh_text.proofs.InRange.{Allowed, line_allowed}
-use Rattle.mesh_text.proofs.Picks.{OnSome}
 use Rattle.mesh_text.proofs.Echoes.{read_line_is_written_as_it_was}
 use Rattle.mesh_text.proofs.Moments.{IsKept, IsKeptCame, opening_kept, not_made}
-use Rattle.mesh_grid.proofs.ScheduleRuns.{world_after_events, mesh_after_events}
+use Rattle.mesh_text.proofs.MomentLaws.{world_after_events, mesh_after_events}
 use Rattle.mesh_grid.specs.declared.place.Place.{Place}
 use Rattle.mesh_grid.specs.declared.place.Places.{Places}
 use Rattle.mesh_grid.specs.declared.line.Placing.{Placing}

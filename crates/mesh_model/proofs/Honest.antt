@@ -74,7 +74,7 @@ trace_short v w x d e trails there valid =
 
 -- ---- the walk turned round, from its destination to its holder
 
-has_stood : (ever : Pairs) (x y : ℕ) → are_linked ever y x ≡ true → are_linked ever x y ≡ true
+pub has_stood : (ever : Pairs) (x y : ℕ) → are_linked ever y x ≡ true → are_linked ever x y ≡ true
 has_stood ever x y is = subst (λ p. sets.contains ever p ≡ true) turned is
   where
     turned : pair y x ≡ pair x y
@@ -87,13 +87,13 @@ has_stood ever x y is = subst (λ p. sets.contains ever p ≡ true) turned is
         high = omega arith
 
 -- k isn't on the front of the list, for each k of the others
-abbrev AreAbsent : List ℕ → List ℕ → Type 0
+abbrev pub AreAbsent : List ℕ → List ℕ → Type 0
 AreAbsent ks zs = AllByRecursion (λ k. IsAbsent k (front zs)) ks
 
-less_front : (ks : List ℕ) (y z : ℕ) (zs : List ℕ) → AreAbsent ks (y ∷ (z ∷ zs)) → AreAbsent ks (z ∷ zs)
+pub less_front : (ks : List ℕ) (y z : ℕ) (zs : List ℕ) → AreAbsent ks (y ∷ (z ∷ zs)) → AreAbsent ks (z ∷ zs)
 less_front ks y z zs all = each_map (λ k. IsAbsent k (front (y ∷ (z ∷ zs)))) (λ k. IsAbsent k (front (z ∷ zs))) (λ k a. a.1) ks all
 
-none_is : (ks : List ℕ) (y z : ℕ) (zs : List ℕ) → AreAbsent ks (y ∷ (z ∷ zs)) → AllByRecursion (λ k. y ≢ k) ks
+pub none_is : (ks : List ℕ) (y z : ℕ) (zs : List ℕ) → AreAbsent ks (y ∷ (z ∷ zs)) → AllByRecursion (λ k. y ≢ k) ks
 none_is ks y z zs all = each_map (λ k. IsAbsent k (front (y ∷ (z ∷ zs)))) (λ k. y ≢ k) (λ k a e. a.0 (sym e)) ks all
 
 -- `done` is the walk behind y, already turned round

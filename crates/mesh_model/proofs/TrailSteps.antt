@@ -46,7 +46,7 @@ node_stays a b later x n t = record { variant = t.variant ∙ sym later.variant;
 
 -- ---- what a core sends
 
-trail_of : (a b : Around) (core : Core) (x d n : ℕ) (others : List ℕ) → Later a b → core.ip ≡ x → b.tables x ≡ core.rt → Begins a core d n others → IsBackedWalk b d n (x ∷ others)
+pub trail_of : (a b : Around) (core : Core) (x d n : ℕ) (others : List ℕ) → Later a b → core.ip ≡ x → b.tables x ≡ core.rt → Begins a core d n others → IsBackedWalk b d n (x ∷ others)
 trail_of a b core x d n [] later ip rt w = sym ip ∙ w
 trail_of a b core x d n (y ∷ ys) later ip rt w =
     (later.ever _ (subst (λ k. are_linked a.ever y k ≡ true) ip w.0), w.1, subst (λ t. AtLeast t d n (length (y ∷ ys))) (sym rt) w.2, subst (λ k. IsAbsent k (front (y ∷ ys))) ip w.3, trail_stays a b later d n (y ∷ ys) w.4)
@@ -83,7 +83,7 @@ copies_trailed a b core w x c later ip rt seen within s =
 
 -- ---- one node changes
 
-seen_later : (nodes : List Node) (x : ℕ) (old new : Node) (key : ℕ × ℕ) → slice_get nodes x ≡ Some old → (has_seen (old.core).seen key ≡ true → has_seen (new.core).seen key ≡ true)
+pub seen_later : (nodes : List Node) (x : ℕ) (old new : Node) (key : ℕ × ℕ) → slice_get nodes x ≡ Some old → (has_seen (old.core).seen key ≡ true → has_seen (new.core).seen key ≡ true)
     → (y : ℕ) (b : Bool) → (y == x) ≡ b → has_seen (seen_in (slice_get nodes y)) key ≡ true → has_seen (seen_in (slice_get (set nodes x new) y)) key ≡ true
 seen_later nodes x old new key is more y true same has =
     let e : y ≡ x = eqb-true y x same in
@@ -92,7 +92,7 @@ seen_later nodes x old new key is more y true same has =
 seen_later nodes x old new key is more y false other has =
     subst (λ o. has_seen (seen_in o) key ≡ true) (sym (set_other nodes x y new (eqb-false y x other))) has
 
-later_of : (v : Variant) (w w' : World) (x : ℕ) (old new : Node) → slice_get w.nodes x ≡ Some old → w'.nodes ≡ set w.nodes x new → w'.ever ≡ w.ever → Grows (old.core).rt (new.core).rt
+pub later_of : (v : Variant) (w w' : World) (x : ℕ) (old new : Node) → slice_get w.nodes x ≡ Some old → w'.nodes ≡ set w.nodes x new → w'.ever ≡ w.ever → Grows (old.core).rt (new.core).rt
     → ((key : ℕ × ℕ) → has_seen (old.core).seen key ≡ true → has_seen (new.core).seen key ≡ true) → Later (around v w) (around v w')
 later_of v w w' x old new is nodes ever grows more =
     let follows : Follows (table w) (table w') = follows_of w w' x old new is nodes grows in
@@ -115,7 +115,7 @@ node_trails v w w' x old new trails is nodes links ever later traced flying = re
 flying_stays : (v : Variant) (w w' : World) → Later (around v w) (around v w') → AllByRecursion (CopyHasWalk (around v w)) w.flying → AllByRecursion (CopyHasWalk (around v w')) w.flying
 flying_stays v w w' later all = each_map (CopyHasWalk (around v w)) (CopyHasWalk (around v w')) (copy_stays (around v w) (around v w') later) w.flying all
 
-here_of : (v : Variant) (w : World) (x : ℕ) (n : Node) → IsLoopSafe w → HasWalks v w → slice_get w.nodes x ≡ Some n → IsHere (around v w) n.core
+pub here_of : (v : Variant) (w : World) (x : ℕ) (n : Node) → IsLoopSafe w → HasWalks v w → slice_get w.nodes x ≡ Some n → IsHere (around v w) n.core
 here_of v w x n inv trails is =
     let t : NodeHasWalks (around v w) x n = trails.nodes x n is in
     let named : (n.core).ip ≡ x = inv.named x n is in

@@ -54,11 +54,11 @@ unfolding merged
 stays s r n h enough dsn more known = record { dsn = grind (arith, nat_tests); flag = grind (arith, nat_tests); hops = grind (arith, nat_tests); next = grind (arith, nat_tests) }
 
 -- the unknown one: the entry stays, or is one hop through its next hop
-near_shape : (s r : Entry) → r.hops ≡ 1 → Same (merged s r) s ⊎ (((merged s r).hops ≡ 1) × ((merged s r).next ≡ r.next))
+pub near_shape : (s r : Entry) → r.hops ≡ 1 → Same (merged s r) s ⊎ (((merged s r).hops ≡ 1) × ((merged s r).next ≡ r.next))
 unfolding merged
 near_shape s r one = grind (arith, nat_tests)
 
-known_shape : (s r : Entry) → r.dsk ≡ Kno → Same (merged s r) s ⊎ Same (merged s r) r
+pub known_shape : (s r : Entry) → r.dsk ≡ Kno → Same (merged s r) s ⊎ Same (merged s r) r
 unfolding merged
 known_shape s r known = grind (arith, nat_tests)
 

@@ -148,19 +148,19 @@ reply_from_table_traces tables a core range from m fine all can =
     (unicast_traces a (record core { rt = rt }) (Rrep (record { hops = dhops rt m.dip; dip = m.dip; dsn = sqn rt m.dip; oip = m.oip })) (nhop rt m.oip) range all'
     (own_walk a (record core { rt = rt }) m.dip (maps.get rt m.dip) refl all' valid (known_number rt m.dip (maps.get rt m.dip) leads.fine.sound refl known) (own_at_least rt m.dip valid)))
 
-front_absent : (x : ℕ) (zs : List ℕ) → IsAbsent x zs → IsAbsent x (front zs)
+pub front_absent : (x : ℕ) (zs : List ℕ) → IsAbsent x zs → IsAbsent x (front zs)
 front_absent x [] all = tt
 front_absent x (z ∷ []) all = tt
 front_absent x (z ∷ (y ∷ ys)) all = (all.0, front_absent x (y ∷ ys) all.1)
 
 -- a node that hasn't seen the request isn't on its walk
-unseen : (a : Around) (core : Core) (key : ℕ × ℕ) (zs : List ℕ) → IsHere a core → has_seen core.seen key ≡ false → AllByRecursion (λ z. has_seen (a.seen z) key ≡ true) zs → IsAbsent core.ip zs
+pub unseen : (a : Around) (core : Core) (key : ℕ × ℕ) (zs : List ℕ) → IsHere a core → has_seen core.seen key ≡ false → AllByRecursion (λ z. has_seen (a.seen z) key ≡ true) zs → IsAbsent core.ip zs
 unseen a core key zs here new keys = each_map (λ z. has_seen (a.seen z) key ≡ true) (λ z. core.ip ≢ z) (λ z has e. wrong (sym (here.seen key (ap (λ k. has_seen (a.seen k) key) e ∙ has)) ∙ new)) zs keys
   where
     wrong : true ≡ false → ⊥
     wrong e = cc
 
-has_new : (seen : Pairs) (key : ℕ × ℕ) → sets.contains (sets.insert seen key) key ≡ true
+pub has_new : (seen : Pairs) (key : ℕ × ℕ) → sets.contains (sets.insert seen key) key ≡ true
 has_new seen key = sets.contains-insert pair_cmp_total seen key key ∙ itself
   where
     itself : (eq_by_cmp pair_cmp key key || sets.contains seen key) ≡ true
@@ -174,7 +174,7 @@ has_more seen key q e = sets.contains-insert pair_cmp_total seen key q ∙ (ap (
     or_true false = refl
 
 -- the same request, as it is passed on
-same_key : (variant : Variant) (m : RouteRequest) (hops dsn : ℕ) → key_of variant (record m { hops = hops; dsn = dsn }) ≡ key_of variant m
+pub same_key : (variant : Variant) (m : RouteRequest) (hops dsn : ℕ) → key_of variant (record m { hops = hops; dsn = dsn }) ≡ key_of variant m
 same_key Base m hops dsn = refl
 same_key Number m hops dsn = refl
 same_key Reply m hops dsn = refl
@@ -335,7 +335,7 @@ send_traces a core range d here =
         (λ _. record { named = t.named; variant = t.variant; traced = t.traced; seen = t.seen; cast = cast_moved a did.core (drop (did.core).store d) (did.effect).cast t.cast })
 
 -- the key of a request of one's own
-own_key : (variant : Variant) (core : Core) (m : RouteRequest) → m.oip ≡ core.ip → m.id ≡ fresh_id variant core → m.osn ≡ fresh_id Number core → key_of variant m ≡ (core.ip, fresh_id variant core)
+pub own_key : (variant : Variant) (core : Core) (m : RouteRequest) → m.oip ≡ core.ip → m.id ≡ fresh_id variant core → m.osn ≡ fresh_id Number core → key_of variant m ≡ (core.ip, fresh_id variant core)
 own_key Base core m o i s = λ k. (o k, i k)
 own_key Number core m o i s = λ k. (o k, s k)
 own_key Reply core m o i s = λ k. (o k, i k)

@@ -29,6 +29,7 @@ use Rattle.mesh_peers.specs.Peers.{PeersSeen, at_port, ArePeers}
 use Rattle.mesh_peers.specs.Lines.{Accepted, Nothing, Own, Peer, Up, Down, Give, Polls, Turns, Sends, Asks, Shows, after_self, of_other, made, in_room, new_self, new_peer, last_span, accepted, accepted_shape, line_of, words_of, IsNew, IsNamed, IsInRange, IsInTime}
 use Rattle.mesh_peers.specs.Seen.{form_of, accepted_of, seen_line, said_of, seen_shape, IsAllowed}
 use Rattle.mesh_peers.proofs.Said.{word_of, row_of, Said, said}
+use Rattle.mesh_text.proofs.Printed.{is_word}
 
 pub append_none : (text : List ℕ) → text ++ [] ≡ text
 append_none text = append-nil text
@@ -147,18 +148,6 @@ line_of_said p started line said r shape is =
 row_there : (c : Command) → row_in router_script (word_of c) ≡ Some (row_of c)
 row_there command.Own = refl
 row_there others = refl
-
-is_word : (word : List ℕ) → list_all (λ b. not (eqb b 32)) word ≡ true → is_blank word ≡ false → IsWord word
-is_word word all shown = record { whole = whole word all; shown = λ e. let clash : true ≡ false = sym e ∙ shown in cc }
-  where
-    other : (b : ℕ) → not (eqb b 32) ≡ true → b ≢ 32
-    other b h e = let same : eqb b 32 ≡ true = eq-eqb b 32 e in let clash : not true ≡ true = ap not (sym same) ∙ h in cc
-
-    whole : (word : List ℕ) → list_all (λ b. not (eqb b 32)) word ≡ true → AllByRecursion (λ b. b ≢ 32) word
-    whole [] all = tt
-    whole (b ∷ bs) all =
-        let both = and_parts (not (eqb b 32)) (list_all (λ c. not (eqb c 32)) bs) all in
-        (other b both.0, whole bs both.1)
 
 word_there : (c : Command) → IsWord (word_of c)
 word_there command.Own = is_word (word_of command.Own) refl refl

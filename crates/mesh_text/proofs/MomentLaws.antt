@@ -20,17 +20,17 @@ use Rattle.mesh_text.proofs.RunLaws.{run_append, NotFull, Follows, follows}
 
 -- ---- after events
 
-world_after_events : (m : Moment) (es : List Event) → world_of (moment_after m es) ≡ run (world_of m) es
+pub world_after_events : (m : Moment) (es : List Event) → world_of (moment_after m es) ≡ run (world_of m) es
 unfolding moment_after stepped run
 world_after_events m [] = refl
 world_after_events m (e ∷ es) = world_after_events (stepped m e) es
 
-mesh_after_events : (m : Moment) (es : List Event) → (moment_after m es).mesh ≡ m.mesh
+pub mesh_after_events : (m : Moment) (es : List Event) → (moment_after m es).mesh ≡ m.mesh
 unfolding moment_after stepped
 mesh_after_events m [] = refl
 mesh_after_events m (e ∷ es) = mesh_after_events (stepped m e) es
 
-count_after_events : (m : Moment) (es : List Event) → (moment_after m es).sums.events ≡ m.sums.events + length es
+pub count_after_events : (m : Moment) (es : List Event) → (moment_after m es).sums.events ≡ m.sums.events + length es
 unfolding moment_after stepped
 count_after_events m [] = omega arith
 count_after_events m (e ∷ es) = let rest = count_after_events (stepped m e) es in omega arith

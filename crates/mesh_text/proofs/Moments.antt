@@ -17,6 +17,7 @@ use Rattle.mesh_model.proofs.Sizes.{same_size, start_size}
 use Rattle.mesh_model.proofs.MeshSteps.{step_keeps, start_keeps}
 use Rattle.mesh_model.proofs.AccountSteps.{step_balanced, start_empty}
 use Rattle.mesh_model.proofs.Doublings.{doubling_told}
+use Rattle.mesh_model.proofs.Chosen.{OnSome}
 use Rattle.mesh_grammar.specs.declared.fault.LineFault.{LineFault}
 use Rattle.mesh_text.specs.Schedule.{Moment, opening, Accepted, Nothing, NewNode, Does, Chooses, ShowsNode, ShowsRoute, ShowsFlight, line_of, world_of, started, outcome_at, stepped, counted, idle_by}
 use Rattle.mesh_grammar.specs.Lines.{Piece, Whole, Long, Beyond}
@@ -28,7 +29,7 @@ use Rattle.mesh_text.specs.Text.{LineOutcome, On, Refused, Full, outcome_of_even
 use Rattle.mesh_text.specs.Accounts.{IsBalanced}
 use Rattle.mesh_text.specs.Laws.{EventKeepsAccount, DataAreAccountedFor, SumsAreInOrder}
 use Rattle.mesh_text.proofs.InRange.{Allowed, line_allowed}
-use Rattle.mesh_text.proofs.Picks.{OnSome, picked}
+use Rattle.mesh_text.proofs.Picks.{picked}
 
 -- what holds of a moment
 pub record IsKept (m : Moment) : Type 0 where
@@ -93,7 +94,7 @@ grown_kept m address first fresh new is =
 
 -- ---- events
 
-counted_kept : (m : Moment) → IsKept m → IsKept (counted m)
+pub counted_kept : (m : Moment) → IsKept m → IsKept (counted m)
 counted_kept m is = record { mesh = is.mesh; size = is.size; invariant = is.invariant; balanced = is.balanced; ordered = is.ordered }
 
 pub started_kept : (m : Moment) → IsKept m → IsKept (started m)

@@ -15,7 +15,7 @@ use Rattle.mesh_model.specs.Worlds.{World, Node, Copy, Event, Give, Turn, Send, 
 use Rattle.mesh_model.specs.Accounts.{any, delivered_at, delivered, dropped}
 use Rattle.mesh_model.specs.Choices.{pick, IsChoice}
 use Rattle.mesh_model.specs.Routes.{route_end}
-use Rattle.mesh_model.proofs.Chosen.{pick_is_enabled}
+use Rattle.mesh_model.proofs.Chosen.{OnSome, pick_is_enabled}
 use Rattle.mesh_meaning.specs.Events.{node_of}
 use Rattle.mesh_grammar.specs.declared.fault.LineFault.{LineFault}
 use Rattle.mesh_grammar.specs.Lines.{Piece, Whole, Long, Beyond}
@@ -29,7 +29,6 @@ use Rattle.mesh_text.specs.Auto as auto
 use Rattle.mesh_text.specs.Text.{LineOutcome, On, Refused, Full, outcome_of_event, outcome_of_auto, outcome_of_line, outcome_of_read, outcome_of_piece, Written, goes_on, text_from, text_on, text_of_input}
 use Rattle.mesh_text.specs.Laws.{DataAreNamed}
 use Rattle.mesh_text.proofs.InRange.{Allowed, line_allowed}
-use Rattle.mesh_text.proofs.Picks.{OnSome}
 use Rattle.mesh_text.proofs.Moments.{IsKept, IsKeptCame, opening_kept, piece_kept}
 use Rattle.mesh_text.proofs.RunLaws.{NotFull}
 use Rattle.mesh_text.proofs.Clean.{is_clean, clean_append, decimal_clean, dotted_clean, clean_body}

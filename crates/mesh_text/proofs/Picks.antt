@@ -3,11 +3,7 @@ use Rattle.std.proofs.Common.{◌≡◌, length, Option, Some, None, refl}
 use Rattle.mesh_model.specs.Worlds.{World, Event}
 use Rattle.mesh_model.specs.Choices.{pick}
 use Rattle.mesh_model.specs.Places.{IsEvent}
-use Rattle.mesh_model.proofs.Chosen.{pick_is_enabled}
-
-unfoldable pub OnSome : {A : Type 0} → (A → Type 0) → Option A → Type 0
-OnSome P None = Unit {0}
-OnSome P (Some x) = P x
+use Rattle.mesh_model.proofs.Chosen.{OnSome, pick_is_enabled}
 
 pub picked : (w : World) → OnSome (IsEvent (length w.nodes)) (pick w)
 unfolding OnSome

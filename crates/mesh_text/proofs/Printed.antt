@@ -29,7 +29,7 @@ row_there : (c : Command) → row_in schedule (word_of c) ≡ Some (row_of c)
 row_there command.Node = refl
 row_there others = refl
 
-is_word : (word : List ℕ) → list_all (λ b. not (eqb b 32)) word ≡ true → is_blank word ≡ false → IsWord word
+pub is_word : (word : List ℕ) → list_all (λ b. not (eqb b 32)) word ≡ true → is_blank word ≡ false → IsWord word
 is_word word all shown = record { whole = whole word all; shown = λ e. let clash : true ≡ false = sym e ∙ shown in cc }
   where
     other : (b : ℕ) → not (eqb b 32) ≡ true → b ≢ 32

@@ -13,6 +13,7 @@ use Rattle.mesh_model.specs.Places.{IsEvent}
 use Rattle.mesh_model.proofs.Lists.{each_append}
 use Rattle.mesh_model.proofs.MeshSteps.{run_keeps}
 use Rattle.mesh_model.proofs.Acyclic.{loop_free}
+use Rattle.mesh_model.proofs.Chosen.{OnSome}
 use Rattle.mesh_grammar.specs.declared.fault.LineFault.{LineFault}
 use Rattle.mesh_text.specs.Schedule.{Moment, opening, Accepted, Nothing, NewNode, Does, Chooses, ShowsNode, ShowsRoute, ShowsFlight, line_of, world_of, started, outcome_at, stepped, counted}
 use Rattle.mesh_grammar.specs.Lines.{Piece, Whole, Long, Beyond}
@@ -24,7 +25,6 @@ use Rattle.mesh_text.specs.Text.{LineOutcome, On, Refused, Full, outcome_of_even
 use Rattle.mesh_text.specs.Runs.{event_then, choice_then, events_chosen, events_of_line, events_read, events_of_piece, events_after, events_from, events_of_input, mesh_of_input, world_after}
 use Rattle.mesh_text.specs.Laws.{RunIsRunOfEvents, AllEventsCount, EventsAreOfMesh, RunsAreLoopFree, RunKeepsInvariant}
 use Rattle.mesh_text.proofs.InRange.{Allowed, line_allowed}
-use Rattle.mesh_text.proofs.Picks.{OnSome}
 use Rattle.mesh_text.proofs.Moments.{IsKept, all_positive, stepped_kept, started_kept, picked_usual, IsKeptCame, piece_kept, input_kept, opening_kept}
 
 pub run_append : (w : World) (xs ys : List Event) → run w (xs ++ ys) ≡ run (run w xs) ys
@@ -36,19 +36,19 @@ pub run_none : (w : World) → run w [] ≡ w
 unfolding run
 run_none w = refl
 
-run_one : (w : World) (e : Event) → run w (e ∷ []) ≡ after w (step w e)
+pub run_one : (w : World) (e : Event) → run w (e ∷ []) ≡ after w (step w e)
 unfolding run
 run_one w e = refl
 
 -- ---- chosen events
 
 -- from m to n by these events
-record AutoOutcome (m n : Moment) (es : List Event) : Type 0 where
-  variant : n.variant ≡ m.variant
-  mesh : n.mesh ≡ m.mesh
-  made : is_some n.world ≡ true
-  world : world_of n ≡ run (world_of m) es
-  count : n.sums.events ≡ m.sums.events + length es
+pub record AutoOutcome (m n : Moment) (es : List Event) : Type 0 where
+  pub variant : n.variant ≡ m.variant
+  pub mesh : n.mesh ≡ m.mesh
+  pub made : is_some n.world ≡ true
+  pub world : world_of n ≡ run (world_of m) es
+  pub count : n.sums.events ≡ m.sums.events + length es
 
 ran_more : (m : Moment) (e : Event) (n : Moment) (es : List Event) → AutoOutcome (stepped m e) n es → AutoOutcome m n (e ∷ es)
 unfolding stepped run
@@ -89,7 +89,7 @@ auto_ran (suc most) did m made =
 
 -- each of them is an event of the mesh
 
-UsualList : ℕ → List Event → Type 0
+unfoldable pub UsualList : ℕ → List Event → Type 0
 UsualList size es = AllByRecursion (IsEvent size) es
 
 event_usual : (m : Moment) (e : Event) (o : Outcome) (more : Moment → List Event) → IsEvent (length m.mesh) e → UsualList (length m.mesh) (more (stepped m e)) → UsualList (length m.mesh) (event_then m e o more)
@@ -125,7 +125,7 @@ line_events_usual m (ShowsNode x) range is = tt
 line_events_usual m (ShowsRoute x d) range is = tt
 line_events_usual m ShowsFlight range is = tt
 
-read_usual : (m : Moment) (r : Result Accepted LineFault) → Allowed m.mesh (is_some m.world) r → IsKept m → UsualList (length m.mesh) (events_read m r)
+pub read_usual : (m : Moment) (r : Result Accepted LineFault) → Allowed m.mesh (is_some m.world) r → IsKept m → UsualList (length m.mesh) (events_read m r)
 unfolding Allowed UsualList
 read_usual m (Ok a) allowed is = line_events_usual m a allowed.0 is
 read_usual m (Err f) allowed is = tt
@@ -139,14 +139,14 @@ piece_usual m Beyond is = tt
 -- ---- a line
 
 -- no event, and at most one more node
-record Quiet (m n : Moment) (es : List Event) : Type 0 where
-  variant : n.variant ≡ m.variant
-  mesh : is_some m.world ≡ true → n.mesh ≡ m.mesh
-  world : n.world ≡ m.world
-  none : es ≡ []
-  count : n.sums.events ≡ m.sums.events
+pub record Quiet (m n : Moment) (es : List Event) : Type 0 where
+  pub variant : n.variant ≡ m.variant
+  pub mesh : is_some m.world ≡ true → n.mesh ≡ m.mesh
+  pub world : n.world ≡ m.world
+  pub none : es ≡ []
+  pub count : n.sums.events ≡ m.sums.events
 
-GoesBy : Moment → List Event → LineOutcome → Type 0
+unfoldable pub GoesBy : Moment → List Event → LineOutcome → Type 0
 GoesBy m es (On text n) = Quiet m n es ⊎ AutoOutcome m n es
 GoesBy m es (Refused why) = es ≡ []
 GoesBy m es (Full text n e field) = Unit {0}
@@ -192,7 +192,7 @@ line_goes m (ShowsNode x) early = inr (shown m)
 line_goes m (ShowsRoute x d) early = inr (shown m)
 line_goes m ShowsFlight early = inr (shown m)
 
-result_goes : (m : Moment) (r : Result Accepted LineFault) → Allowed m.mesh (is_some m.world) r → GoesBy m (events_read m r) (outcome_of_read m r)
+pub result_goes : (m : Moment) (r : Result Accepted LineFault) → Allowed m.mesh (is_some m.world) r → GoesBy m (events_read m r) (outcome_of_read m r)
 unfolding Allowed GoesBy
 result_goes m (Ok a) allowed = line_goes m a allowed.1
 result_goes m (Err f) allowed = refl
@@ -279,7 +279,7 @@ ran_follows m n es more w ran usual rest =
       usual = each_append (IsEvent (length w.after.mesh)) es more (subst (λ j. AllByRecursion (IsEvent j) es) (ap length (sym mesh)) usual) rest.usual;
     }
 
-goes_follows : (m : Moment) (es : List Event) (c : LineOutcome) (others : Moment → Written) (more : Moment → List Event) → GoesBy m es c → IsKeptCame c → UsualList (length m.mesh) es
+pub goes_follows : (m : Moment) (es : List Event) (c : LineOutcome) (others : Moment → Written) (more : Moment → List Event) → GoesBy m es c → IsKeptCame c → UsualList (length m.mesh) es
     → ((n : Moment) → IsKept n → Follows n (more n) (others n)) → Follows m (es ++ events_after c more) (goes_on m c others)
 unfolding GoesBy IsKeptCame NotFull
 goes_follows m es (On text n) others more (inl quiet) kept usual rest =

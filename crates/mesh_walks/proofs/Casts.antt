@@ -26,7 +26,7 @@ use Rattle.mesh_base.specs.declared.events.Variant.TheVariants.{Base, Error, Num
 use Rattle.mesh_model.proofs.Leads.{IsFine, Leads}
 use Rattle.mesh_model.proofs.Lists.{each_map}
 use Rattle.mesh_model.proofs.TrailTables.{stale_there}
-use Rattle.mesh_model.proofs.TrailTurns.{Begins, IsHere}
+use Rattle.mesh_model.proofs.TrailTurns.{Begins, IsHere, front_absent, unseen, has_new, same_key, own_key}
 use Rattle.mesh_model.proofs.Turns.{IsFit, after_reply_leads, after_reply_reaches, after_request_leads, after_request_reaches, at_least_number, join_answer_leads, join_reply_leads, own_at_least}
 use Rattle.mesh_model.specs.Invariants.{AtLeast, IsAtLeast, IsHonest}
 use Rattle.mesh_model.specs.Trails.{Around, IsAbsent, front}
@@ -123,31 +123,6 @@ reply_from_table_tells tables a y m l walks core range fine other can =
     let known : is_kno (sqnf rt m.dip) ≡ true = join_answer_alike (λ o. is_kno (status_in o)) core.rt m.dip m.oip y m.dip (λ e pre. refl) ∙ grind (arith, can) in
     unicast_tells a core.ip y (Rreq m) l walks (record core { rt = rt }) (Rrep (record { hops = dhops rt m.dip; dip = m.dip; dsn = sqn rt m.dip; oip = m.oip })) (nhop rt m.oip) range
     (λ all. rw other (own_sent a (record core { rt = rt }) m.dip (entries_after core.ip y (Rreq m) l rt walks) (maps.get rt m.dip) refl all valid (known_number rt m.dip (maps.get rt m.dip) leads.fine.sound refl known) (own_at_least rt m.dip valid)))
-
-front_absent : (x : ℕ) (zs : List ℕ) → IsAbsent x zs → IsAbsent x (front zs)
-front_absent x [] all = tt
-front_absent x (z ∷ []) all = tt
-front_absent x (z ∷ (y ∷ ys)) all = (all.0, front_absent x (y ∷ ys) all.1)
-
--- a node that hasn't seen the request isn't on its walk
-unseen : (a : Around) (core : Core) (key : ℕ × ℕ) (zs : List ℕ) → IsHere a core → has_seen core.seen key ≡ false → AllByRecursion (λ z. has_seen (a.seen z) key ≡ true) zs → IsAbsent core.ip zs
-unseen a core key zs here new keys = each_map (λ z. has_seen (a.seen z) key ≡ true) (λ z. core.ip ≢ z) (λ z has e. wrong (sym (here.seen key (ap (λ k. has_seen (a.seen k) key) e ∙ has)) ∙ new)) zs keys
-  where
-    wrong : true ≡ false → ⊥
-    wrong e = cc
-
-has_new : (seen : Pairs) (key : ℕ × ℕ) → sets.contains (sets.insert seen key) key ≡ true
-has_new seen key = sets.contains-insert pair_cmp_total seen key key ∙ itself
-  where
-    itself : (eq_by_cmp pair_cmp key key || sets.contains seen key) ≡ true
-    itself = ap (λ b. b || sets.contains seen key) (ap is_eq (tied_itself pair_cmp_total key))
-
--- the same request, as it is passed on
-same_key : (variant : Variant) (m : RouteRequest) (hops dsn : ℕ) → key_of variant (record m { hops = hops; dsn = dsn }) ≡ key_of variant m
-same_key Base m hops dsn = refl
-same_key Number m hops dsn = refl
-same_key Reply m hops dsn = refl
-same_key Error m hops dsn = refl
 
 rreq_tells : (tables : ℕ → Table) (a : Around) (y : ℕ) (m : RouteRequest) (l : List ℕ) (walks : ℕ → List ℕ) (core : Core) (range : NodeIds) → IsFit tables core → IsHere a core → IsHonest (tables y) y (Rreq m) → are_linked a.ever y core.ip ≡ true
     → IsRequestWalk a y m.oip m.osn m.hops (key_of a.variant m) l → Tells a core.ip y (Rreq m) l walks (on_rreq core range y m)
@@ -334,13 +309,6 @@ send_plain core range d =
 
 pub send_holds : (a : Around) (list : Message → List ℕ) (core : Core) (range : NodeIds) (d : ℕ) → CastHolds a (send core range d).core list ((send core range d).effect).cast
 send_holds a list core range d = plain_holds a (send core range d).core list ((send core range d).effect).cast (send_plain core range d)
-
--- the key of a request of one's own
-own_key : (variant : Variant) (core : Core) (m : RouteRequest) → m.oip ≡ core.ip → m.id ≡ fresh_id variant core → m.osn ≡ fresh_id Number core → key_of variant m ≡ (core.ip, fresh_id variant core)
-own_key Base core m o i s = λ k. (o k, i k)
-own_key Number core m o i s = λ k. (o k, s k)
-own_key Reply core m o i s = λ k. (o k, i k)
-own_key Error core m o i s = λ k. (o k, i k)
 
 asking : Core → ℕ → RouteRequest
 asking core d = record { hops = 0; id = fresh_id core.variant core; dip = d; dsn = sqn core.rt d; dsk = sqnf core.rt d; oip = core.ip; osn = inc core.sn }

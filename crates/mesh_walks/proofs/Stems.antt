@@ -18,6 +18,7 @@ use Rattle.mesh_base.specs.declared.events.Variant.{Variant}
 use Rattle.mesh_base.specs.declared.events.Variant.TheVariants.{Base, Error, Number, Reply}
 use Rattle.mesh_model.specs.Worlds.{is_parcel}
 use Rattle.mesh_walks.specs.Kept.{is_near, is_route, is_told}
+use Rattle.mesh_model.proofs.TrailTables.{near_shape, known_shape}
 
 -- the table had an entry for q with the same number, flag, hops and next hop
 pub record Had (old : Table) (q : ℕ) (e : Entry) : Type 0 where
@@ -121,15 +122,6 @@ update_stems y m rt d r new over = record {
   from = update_each (IsFromWhere y m rt) rt d r (λ q e is valid. inr (inr (record { entry = e; there = is; same = same_entry })))
       (after_by (IsFromWhere y m rt d) (maps.get rt d) r (λ _. new) (λ s is _. over s is));
 }
-
--- the unknown one: the entry stays, or is one hop through its next hop
-near_shape : (s r : Entry) → r.hops ≡ 1 → Same (merged s r) s ⊎ (((merged s r).hops ≡ 1) × ((merged s r).next ≡ r.next))
-unfolding merged
-near_shape s r one = grind (arith, nat_tests)
-
-known_shape : (s r : Entry) → r.dsk ≡ Kno → Same (merged s r) s ⊎ Same (merged s r) r
-unfolding merged
-known_shape s r known = grind (arith, nat_tests)
 
 pub itself : (n : ℕ) → (n == n) ≡ true
 itself n = grind (arith, nat_tests)

@@ -31,6 +31,7 @@ use Rattle.mesh_walks.proofs.Stems.{itself, message_stems, new_stays, parcel_sta
 use Rattle.mesh_walks.specs.Held.{CopyHolds, EntriesHold, Holds, ItemHolds, ItemsHold, MessageHolds, NodeHolds}
 use Rattle.mesh_walks.specs.Kept as kept
 use Rattle.mesh_walks.specs.Kept.{Kept, after_item, after_turn, changed_at, entries_after, first_list, from_id_on, own_list, sent_list, walked, walked_by, with_copies}
+use Rattle.mesh_model.proofs.TrailSteps.{trail_of, seen_later, later_of, here_of}
 
 -- ---- the list of each id
 
@@ -80,11 +81,6 @@ flying_stays v w b old now later numbered same all =
 
 -- ---- what a core sends
 
-trail_of : (a b : Around) (core : Core) (x d n : ℕ) (others : List ℕ) → Later a b → core.ip ≡ x → b.tables x ≡ core.rt → Begins a core d n others → IsBackedWalk b d n (x ∷ others)
-trail_of a b core x d n [] later ip rt w = sym ip ∙ w
-trail_of a b core x d n (y ∷ ys) later ip rt w =
-    (later.ever _ (subst (λ k. are_linked a.ever y k ≡ true) ip w.0), w.1, subst (λ t. AtLeast t d n (length (y ∷ ys))) (sym rt) w.2, subst (λ k. IsAbsent k (front (y ∷ ys))) ip w.3, trail_stays a b later d n (y ∷ ys) w.4)
-
 sent_holds : (a b : Around) (core : Core) (x : ℕ) (m : Message) (walk : List ℕ) → Later a b → core.ip ≡ x → b.tables x ≡ core.rt → b.seen x ≡ core.seen → IsSentBy a core m walk → MessageHolds b x m walk
 sent_holds a b core x (Pkt y d o) walk later ip rt seen s = tt
 sent_holds a b core x (Rreq m) walk later ip rt seen s = record {
@@ -126,26 +122,6 @@ copies_hold a b core w flying list x c later ip rt seen within s =
 
 -- ---- one node changes
 
-seen_later : (nodes : List Node) (x : ℕ) (old new : Node) (key : ℕ × ℕ) → slice_get nodes x ≡ Some old → (has_seen (old.core).seen key ≡ true → has_seen (new.core).seen key ≡ true)
-    → (y : ℕ) (b : Bool) → (y == x) ≡ b → has_seen (seen_in (slice_get nodes y)) key ≡ true → has_seen (seen_in (slice_get (set nodes x new) y)) key ≡ true
-seen_later nodes x old new key is more y true same has =
-    let e : y ≡ x = eqb-true y x same in
-    let had : has_seen (old.core).seen key ≡ true = subst (λ o. has_seen (seen_in o) key ≡ true) (ap (slice_get nodes) e ∙ is) has in
-    subst (λ o. has_seen (seen_in o) key ≡ true) (sym (ap (slice_get (set nodes x new)) e ∙ set_same nodes x new old is)) (more had)
-seen_later nodes x old new key is more y false other has =
-    subst (λ o. has_seen (seen_in o) key ≡ true) (sym (set_other nodes x y new (eqb-false y x other))) has
-
-later_of : (v : Variant) (w w' : World) (x : ℕ) (old new : Node) → slice_get w.nodes x ≡ Some old → w'.nodes ≡ set w.nodes x new → w'.ever ≡ w.ever → Grows (old.core).rt (new.core).rt
-    → ((key : ℕ × ℕ) → has_seen (old.core).seen key ≡ true → has_seen (new.core).seen key ≡ true) → Later (around v w) (around v w')
-later_of v w w' x old new is nodes ever grows more =
-    let follows : Follows (table w) (table w') = follows_of w w' x old new is nodes grows in
-    record {
-      variant = refl;
-      keeps = follows.keeps;
-      seen = λ y key has. subst (λ ns. has_seen (seen_in (slice_get ns y)) key ≡ true) (sym nodes) (seen_later w.nodes x old new key is (more key) y (y == x) refl has);
-      ever = λ p e. subst (λ s. sets.contains s p ≡ true) (sym ever) e;
-    }
-
 -- the lists of another node
 record SameElsewhere (x : ℕ) (k k' : Kept) : Type 0 where
   entries : (y : ℕ) → y ≢ x → k'.entries y ≡ k.entries y
@@ -171,17 +147,6 @@ node_holds v w w' x old new k k' holds is nodes links ever later same mine flyin
         subst (λ f. NodeHolds (around v w') y n f (k'.queues y)) (sym (same.entries y p.0))
         (subst (λ ls. NodeHolds (around v w') y n (k.entries y) ls) (sym (same.queues y p.0))
         (node_stays (around v w) (around v w') later y n (k.entries y) (k.queues y) (holds.nodes y n p.1)))
-
-here_of : (v : Variant) (w : World) (x : ℕ) (n : Node) → IsLoopSafe w → HasWalks v w → slice_get w.nodes x ≡ Some n → IsHere (around v w) n.core
-here_of v w x n inv trails is =
-    let t : NodeHasWalks (around v w) x n = trails.nodes x n is in
-    let named : (n.core).ip ≡ x = inv.named x n is in
-    record {
-      variant = t.variant;
-      tables = λ d k h one at. subst (λ o. AtLeast (rt_in o) d k h) (ap (slice_get w.nodes) named ∙ is) at;
-      seen = λ key has. subst (λ o. has_seen (seen_in o) key ≡ true) (ap (slice_get w.nodes) named ∙ is) has;
-      traced = subst (λ k. EntriesHaveWalks (around v w) k (n.core).rt) (sym named) t.entries;
-    }
 
 done_holds : (v : Variant) (w : World) (x : ℕ) (n : Node) (did : Reaction) (queue : List Item) (list : Message → List ℕ) (k k' : Kept) → IsInvariant w → Holds v w k → slice_get w.nodes x ≡ Some n → IsOk (table w) n.core did → Traces (around v w) n.core did → SameElsewhere x k k'
     → EntriesHold (around v w) x (did.core).rt (k'.entries x) → ItemsHold (around v w) x queue (k'.queues x) → CastHolds (around v w) did.core list (did.effect).cast → k'.flying ≡ with_copies k.flying list (copies w x (did.effect).cast)

@@ -11,7 +11,7 @@ use Rattle.aodv_entry.specs.declared.entry.Flag.TheVariants.{Val}
 use Rattle.aodv_model.specs.Pairs.{Pairs, pair_cmp}
 use Rattle.mesh_base.specs.declared.events.Variant.{Variant}
 use Rattle.mesh_model.proofs.Acyclic.{node_in}
-use Rattle.mesh_model.proofs.Honest.{trace_short}
+use Rattle.mesh_model.proofs.Honest.{trace_short, has_stood, AreAbsent, less_front, none_is}
 use Rattle.mesh_model.proofs.Lists.{each_map}
 use Rattle.mesh_model.proofs.Short.{apart}
 use Rattle.mesh_model.specs.Trails.{Around, HaveStood, IsAbsent, IsBackedWalk, IsHonestWalk, around, front}
@@ -41,28 +41,6 @@ start_holds v firsts = record {
     wrong e = cc
 
 -- ---- a walk turned round
-
-has_stood : (ever : Pairs) (x y : ℕ) → are_linked ever y x ≡ true → are_linked ever x y ≡ true
-has_stood ever x y is = subst (λ p. sets.contains ever p ≡ true) turned is
-  where
-    turned : pair y x ≡ pair x y
-    turned = λ i. (low i, high i)
-      where
-        low : min y x ≡ min x y
-        low = omega arith
-
-        high : max y x ≡ max x y
-        high = omega arith
-
--- k isn't on the front of the list, for each k of the others
-abbrev AreAbsent : List ℕ → List ℕ → Type 0
-AreAbsent ks zs = AllByRecursion (λ k. IsAbsent k (front zs)) ks
-
-less_front : (ks : List ℕ) (y z : ℕ) (zs : List ℕ) → AreAbsent ks (y ∷ (z ∷ zs)) → AreAbsent ks (z ∷ zs)
-less_front ks y z zs all = each_map (λ k. IsAbsent k (front (y ∷ (z ∷ zs)))) (λ k. IsAbsent k (front (z ∷ zs))) (λ k a. a.1) ks all
-
-none_is : (ks : List ℕ) (y z : ℕ) (zs : List ℕ) → AreAbsent ks (y ∷ (z ∷ zs)) → AllByRecursion (λ k. y ≢ k) ks
-none_is ks y z zs all = each_map (λ k. IsAbsent k (front (y ∷ (z ∷ zs)))) (λ k. y ≢ k) (λ k a e. a.0 (sym e)) ks all
 
 -- the list turned round, onto what is turned round already
 abbrev onto : List ℕ → List ℕ → List ℕ
