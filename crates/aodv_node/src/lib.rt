@@ -14,8 +14,3 @@ mod turns;
 
 pub use answers::{AskError, SendError, TurnDone, TurnError, Unfit};
 pub use node::Node;
-
-#[cfg(test)]
-mod restored_tests;
-#[cfg(test)]
-mod tests;

@@ -16,6 +16,3 @@ pub use laws::{
 };
 pub use limits::{GREATEST_NEXT_ID, LONGEST_BODY, LONGEST_HEARD, MOST_STEPS, SUMS_END};
 pub use surveying::{SurveyError, survey};
-
-#[cfg(test)]
-mod tests;

@@ -16,6 +16,3 @@ pub use laws::{
 };
 pub use line::{Placing, placing_of};
 pub use place::{GREATEST_PLACE, Place, Places};
-
-#[cfg(test)]
-mod tests;

@@ -10,6 +10,3 @@ mod world;
 pub use error::StateError;
 pub use laws::one_moment;
 pub use loading::load;
-
-#[cfg(test)]
-mod tests;

@@ -10,8 +10,6 @@ mod maker;
 mod sizes;
 mod source;
 mod step;
-#[cfg(test)]
-mod tests;
 mod word;
 mod writing;
 

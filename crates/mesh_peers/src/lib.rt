@@ -19,6 +19,3 @@ pub use mesh_grammar::{LineFault, Span};
 pub use parse::parse_node_line;
 pub use peers::Peers;
 pub use print::{print_node_line, push_node_line};
-
-#[cfg(test)]
-mod tests;

@@ -10,8 +10,6 @@ mod ends;
 mod event;
 mod line;
 mod tables;
-#[cfg(test)]
-mod tests;
 mod text;
 
 pub use effects::{put_done, put_echoed_event, put_effect, put_event};

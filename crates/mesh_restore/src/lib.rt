@@ -17,6 +17,3 @@ pub use air::read_radio;
 pub use error::ReadError;
 pub use mesh::read_mesh;
 pub use node::read_node;
-
-#[cfg(test)]
-mod tests;

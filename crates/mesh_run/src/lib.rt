@@ -35,6 +35,3 @@ pub use stop::Stop;
 pub use sums::Sums;
 pub use values::do_value;
 pub use variants::variant_named;
-
-#[cfg(test)]
-mod tests;

@@ -17,6 +17,3 @@ pub use mesh_grammar::{Command, LineFault, Span};
 pub use parse::{make_line, parse_line, placed};
 pub use print::{LONGEST_WRITTEN, print_line, push_event, push_line, push_written};
 pub use words::{Mention, is_blank, next_at, span_at};
-
-#[cfg(test)]
-mod tests;

@@ -13,6 +13,3 @@ mod trail;
 mod walk;
 
 pub use trail::Trail;
-
-#[cfg(test)]
-mod tests;

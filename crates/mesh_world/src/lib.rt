@@ -20,8 +20,3 @@ pub use route::End;
 pub use steps::{StepError, Steps};
 pub use totals::Totals;
 pub use world::World;
-
-#[cfg(test)]
-mod late_tests;
-#[cfg(test)]
-mod tests;

@@ -1,5 +1,6 @@
 //! Checkpoints written out byte for byte.
-use super::{StateError, load};
+use mesh_checkpoint::{SurveyError, survey};
+use mesh_load::{StateError, load};
 use mesh_world::Part;
 use std::test::Fail;
 
@@ -30,6 +31,19 @@ const TWO: [u8; 182] = [
     0, 0, 0, 0, 0, 0, 0, 1, //
     0, 0, 0, 0,
 ];
+
+#[test]
+fn surveys_an_empty_checkpoint(rt: HostRuntime) {
+    assert_eq!(rt; survey(&EMPTY), Ok(0));
+    assert_eq!(rt; survey(&EMPTY[1..]), Err(SurveyError::NotState));
+    assert_eq!(rt; survey(&EMPTY[..67]), Err(SurveyError::Length));
+    let mut given = EMPTY;
+    given[40] = 1;
+    assert_eq!(rt; survey(&given), Err(SurveyError::Sums));
+    let mut world = EMPTY;
+    world[67] = 1;
+    assert_eq!(rt; survey(&world), Err(SurveyError::Spelling));
+}
 
 #[test]
 fn an_empty_checkpoint_is_loaded(rt: HostRuntime) -> Result<(), Fail> {

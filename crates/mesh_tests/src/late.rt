@@ -1,59 +1,8 @@
 //! Worlds in which a copy comes late, and where their routes then lead.
-ghost use Rattle.std.specs.Prelude.{IsTrue};
-ghost use Rattle.mesh_model.specs.Places.{IsEvent};
-ghost use Rattle.mesh_meaning.specs.Events.{event_of};
-
-use crate::{End, Steps, World};
-use mesh_base::{Addr, Event, Mesh, Packet};
-use std::alloc::Global;
+use crate::steps::{advance_all, opening};
+use mesh_base::Event;
+use mesh_world::{End, World};
 use std::test::Fail;
-
-// Whether this is an event of a mesh of so many nodes.
-fn is_event(e: &Event<'_>, nodes: usize) -> bool
-    ensures { IsTrue result → IsEvent nodes (event_of e.now) }
-{
-    match *e {
-        Event::Give { node, dest, body } => {
-            node < nodes && dest < nodes && !body.is_empty() && body.len() <= 512
-        }
-        Event::Turn { node } => node < nodes,
-        Event::Send { node, dest } => node < nodes && dest < nodes,
-        Event::Ask { node, dest } => node < nodes && dest < nodes,
-        Event::Link { a, b } => a < nodes && b < nodes && a != b,
-        Event::Cut { a, b } => a < nodes && b < nodes && a != b,
-        Event::Deliver { .. } => true,
-        Event::Lose { .. } => true,
-        Event::Double { .. } => true,
-    }
-}
-
-// One event.
-fn advance(world: &mut World, alloc: Global, e: &Event<'_>) -> Result<(), Fail> {
-    if !is_event(e, world.mesh().len()) || world.steps() >= 1000 {
-        return Err(Fail::new("no event of this world"));
-    }
-    let mut out = Packet::new();
-    match world.step(alloc, e, &mut out) {
-        Ok(_) => Ok(()),
-        Err(_) => Err(Fail::new("refused")),
-    }
-}
-
-// The world of nodes 10.0.0.1, 10.0.0.2 and so on, after these events.
-fn world_after(alloc: Global, nodes: u32, events: &[Event<'_>]) -> Result<World, Fail> {
-    let mut mesh = Mesh::new();
-    for i in 0..nodes.min(200) {
-        let _ = mesh.add(Addr(0x0a000001 + i), 1);
-    }
-    if mesh.is_empty() {
-        return Err(Fail::new("no node"));
-    }
-    let mut world = World::new(alloc, &mesh)?;
-    for e in events {
-        advance(&mut world, alloc, e)?;
-    }
-    Ok(world)
-}
 
 // Where the route leads, if both nodes are there.
 fn end_of(world: &World, from: usize, to: usize) -> Option<End> {
@@ -129,7 +78,8 @@ fn a_route_is_stuck_at_an_invalid_entry(rt: HostRuntime) -> Result<(), Fail> {
         deliver(9),
         turn(4),
     ];
-    let world = world_after(rt.alloc(), 5, &events)?;
+    let mut world: World = opening(rt.alloc(), 5)?;
+    advance_all(&mut world, rt.alloc(), &events)?;
     assert_eq!(rt; end_of(&world, 4, 0), Some(End::Stuck { at: 3, hops: 1 }));
     Ok(())
 }
@@ -168,7 +118,8 @@ fn a_route_to_the_node_itself_has_no_hop(rt: HostRuntime) -> Result<(), Fail> {
         deliver(12),
         turn(1),
     ];
-    let world = world_after(rt.alloc(), 4, &events)?;
+    let mut world: World = opening(rt.alloc(), 4)?;
+    advance_all(&mut world, rt.alloc(), &events)?;
     assert_eq!(rt; end_of(&world, 1, 1), Some(End::Arrived { hops: 0 }));
     assert_eq!(rt; end_of(&world, 2, 1), Some(End::Arrived { hops: 1 }));
     Ok(())

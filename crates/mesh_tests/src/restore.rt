@@ -1,8 +1,7 @@
 //! Parts of a checkpoint, byte by byte.
-use crate::air::read_radio;
-use crate::mesh::read_mesh;
-use crate::node::read_node;
+use aodv_node::Unfit;
 use mesh_base::{Addr, Mesh, Variant};
+use mesh_restore::{read_mesh, read_node, read_radio};
 use std::test::Fail;
 
 /// Two nodes, 10.0.0.1 and 10.0.0.2.
@@ -53,6 +52,13 @@ fn a_node_is_read(rt: HostRuntime) -> Result<(), Fail> {
                 Err(_) => assert!(rt; false),
             }
         }
+        Err(_) => assert!(rt; false),
+    }
+    // The packet that waits would be from the node itself.
+    let mut own = NODE;
+    own[50] = 0;
+    match read_node(rt.alloc(), &mesh, 0, Variant::Base, &own) {
+        Ok((made, _)) => assert_eq!(rt; made.err(), Some(Unfit::Item)),
         Err(_) => assert!(rt; false),
     }
     Ok(())

@@ -1,19 +1,8 @@
 //! Lines that are refused, and one that is written back.
-use crate::{LineFault, Span, parse_line, print_line};
-use mesh_base::{Addr, LineBuf, Mesh, MeshError};
+use crate::lines::{span, two_nodes};
+use mesh_base::{LineBuf, Mesh};
+use mesh_script::{LineFault, parse_line, print_line};
 use std::test::Fail;
-
-// The mesh of 10.0.0.1 and 10.0.0.2.
-fn two_nodes() -> Result<Mesh, MeshError> {
-    let mut mesh = Mesh::new();
-    mesh.add(Addr(0x0a00_0001), 1)?;
-    mesh.add(Addr(0x0a00_0002), 1)?;
-    Ok(mesh)
-}
-
-fn span(from: usize, to: usize) -> Span {
-    Span { from, to }
-}
 
 #[test]
 fn the_first_fault_is_told(rt: HostRuntime) -> Result<(), Fail> {

@@ -1,20 +1,9 @@
 //! Lines about places, and the changes that follow.
-use crate::{Place, Places, Placing, placing_of};
-use mesh_base::{Addr, Event, Mesh, MeshError, NodeSet};
-use mesh_grammar::{LineFault, Span};
+use crate::lines::{span, two_nodes};
+use mesh_base::{Event, Mesh, NodeSet};
+use mesh_grammar::LineFault;
+use mesh_grid::{Place, Places, Placing, placing_of};
 use std::test::Fail;
-
-// The mesh of 10.0.0.1 and 10.0.0.2.
-fn two_nodes() -> Result<Mesh, MeshError> {
-    let mut mesh = Mesh::new();
-    mesh.add(Addr(0x0a00_0001), 1)?;
-    mesh.add(Addr(0x0a00_0002), 1)?;
-    Ok(mesh)
-}
-
-fn span(from: usize, to: usize) -> Span {
-    Span { from, to }
-}
 
 #[test]
 fn the_first_fault_is_told(rt: HostRuntime) -> Result<(), Fail> {

@@ -1,10 +1,10 @@
 //! What a turn did, as it is written.
-use crate::put_done;
 use arrayvec::ArrayVec;
 use mesh_base::{
     Addr, Air, Bytes, Cast, Done, Effect, Event, LineBuf, Mesh, NodeSet, Packet, Took,
 };
 use mesh_io::MemSink;
+use mesh_report::put_done;
 use std::test::Fail;
 
 #[test]

@@ -1,8 +1,7 @@
 //! Runs of whole schedules.
-use crate::driving::run;
-use crate::status::Status;
 use mesh_base::{Bytes, Variant};
 use mesh_io::{MemSink, MemSource};
+use mesh_run::{Status, run};
 use mesh_world::World;
 use std::test::Fail;
 

@@ -1,7 +1,7 @@
 //! One of two nodes: what its turn refuses, and the way of one datum through it.
 ghost use Rattle.std.specs.Prelude.{◌≡◌, length, IfOk};
 
-use crate::{AskError, Node, SendError, TurnError};
+use aodv_node::{AskError, Node, SendError, TurnError};
 use aodv_wire::WireError;
 use mesh_base::{Addr, Bytes, Cast, Counter, Kind, Mesh, NoMemory, NodeSet, Packet, Took};
 use std::alloc::Global;

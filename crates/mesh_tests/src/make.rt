@@ -1,6 +1,6 @@
 //! A schedule in which each kind of line stands, made by another program from the same seed.
-use crate::{MadeSource, make};
 use mesh_io::{MemSink, Source};
+use mesh_make::{MadeSource, make};
 use std::test::Fail;
 
 const MADE: &[u8] = b"node 10.0.0.1 sn 1\n\

@@ -1,11 +1,8 @@
 //! Peers by their ports, lines that are refused, and lines that are written back.
-use crate::{LineFault, NodeLine, Peers, Span, parse_node_line, print_node_line};
+use crate::lines::span;
 use mesh_base::{Addr, LineBuf};
+use mesh_peers::{LineFault, NodeLine, Peers, parse_node_line, print_node_line};
 use std::test::Fail;
-
-fn span(from: usize, to: usize) -> Span {
-    Span { from, to }
-}
 
 // A line that names a node, done.
 fn join(peers: &mut Peers, line: &[u8]) -> bool {

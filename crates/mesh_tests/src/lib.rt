@@ -1,0 +1,35 @@
+//! Tests of the emulator's libraries and of its node, by their public calls: worked rows, lines that are refused, and
+//! each call that can want memory, with ample memory. They stand in a crate of their own, since a
+//! crate that has tests is proved once more with them.
+#![tactic(auto)]
+
+#[cfg(test)]
+mod checkpoints;
+#[cfg(test)]
+mod grid;
+#[cfg(test)]
+mod late;
+#[cfg(test)]
+mod lines;
+#[cfg(test)]
+mod make;
+#[cfg(test)]
+mod node;
+#[cfg(test)]
+mod peers;
+#[cfg(test)]
+mod radio;
+#[cfg(test)]
+mod report;
+#[cfg(test)]
+mod restore;
+#[cfg(test)]
+mod run;
+#[cfg(test)]
+mod script;
+#[cfg(test)]
+mod steps;
+#[cfg(test)]
+mod trail;
+#[cfg(test)]
+mod world;
