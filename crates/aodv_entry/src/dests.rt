@@ -107,26 +107,3 @@ impl Dests {
         self.pairs.clear();
     }
 }
-
-#[cfg(test)]
-mod tests {
-    use super::*;
-
-    #[test]
-    fn finds_the_number_of_a_destination(rt: HostRuntime) {
-        let mut dests = Dests::new();
-        assert!(rt; dests.is_empty());
-        dests.push(2, 7);
-        assert_eq!(rt; dests.number(2), Some(7));
-        assert_eq!(rt; dests.number(3), None);
-        assert_eq!(rt; dests.len(), 1);
-        let first = if dests.len() > 0 {
-            dests.pair(0)
-        } else {
-            (0, 0)
-        };
-        assert_eq!(rt; first, (2, 7));
-        dests.clear();
-        assert_eq!(rt; dests.number(2), None);
-    }
-}

@@ -31,35 +31,3 @@ pub fn better(a: &Entry, b: &Entry) -> bool
     let second = nsqn(b);
     second < first || first == second && a.hops < b.hops
 }
-
-#[cfg(test)]
-mod tests {
-    use super::*;
-    use crate::entry::Known;
-    use mesh_base::NodeSet;
-
-    fn entry(dsn: u32, flag: Flag, hops: u8) -> Entry {
-        Entry {
-            dsn,
-            dsk: Known::Kno,
-            flag,
-            hops,
-            next: 1,
-            pre: NodeSet::new(),
-        }
-    }
-
-    #[test]
-    fn an_invalid_entry_is_as_good_as_the_number_before_its_break(rt: HostRuntime) {
-        assert_eq!(rt; inc(0), Some(0));
-        assert_eq!(rt; inc(5), Some(6));
-        assert_eq!(rt; inc(4294967295), None);
-        let broken = entry(6, Flag::Inv, 3);
-        assert_eq!(rt; nsqn(&broken), 5);
-        assert!(rt; better(&entry(5, Flag::Val, 2), &broken));
-        assert!(rt; !better(&entry(5, Flag::Val, 3), &broken));
-        assert!(rt; better(&entry(6, Flag::Val, 9), &broken));
-        assert!(rt; broken.same(&entry(6, Flag::Inv, 3)));
-        assert!(rt; !broken.same(&entry(6, Flag::Val, 3)));
-    }
-}

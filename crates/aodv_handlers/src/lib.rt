@@ -22,6 +22,3 @@ pub use messages::{Datum, Reply, Request};
 pub use rerr::on_rerr;
 pub use rrep::{on_rrep, take_reply};
 pub use rreq::{on_rreq, take_request};
-
-#[cfg(test)]
-mod tests;

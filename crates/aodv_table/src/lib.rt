@@ -13,6 +13,3 @@ mod table;
 pub use plain::PlainTable;
 pub use rows::RowTable;
 pub use table::Table;
-
-#[cfg(test)]
-mod tests;

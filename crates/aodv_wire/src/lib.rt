@@ -21,8 +21,3 @@ pub use reading::read;
 pub use route_error::{RerrView, write_rerr};
 pub use route_reply::{Rrep, write_rrep};
 pub use route_request::{Rreq, write_rreq};
-
-#[cfg(test)]
-mod outside;
-#[cfg(test)]
-mod tests;

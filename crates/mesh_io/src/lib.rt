@@ -21,8 +21,6 @@ mod sink;
 mod source;
 mod stream;
 mod sure;
-#[cfg(test)]
-mod tests;
 mod through;
 
 pub use buffer_room::BufferRoom;

@@ -12,6 +12,3 @@ pub use link::Link;
 pub use mem::MemLink;
 pub use sure::SureLink;
 pub use udp::UdpLink;
-
-#[cfg(test)]
-mod tests;

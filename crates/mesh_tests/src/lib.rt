@@ -1,4 +1,4 @@
-//! Tests of the emulator's libraries and of its node, by their public calls: worked rows, lines that are refused, and
+//! Tests of the emulator's libraries, by their public calls: worked rows, lines that are refused, and
 //! each call that can want memory, with ample memory. They stand in a crate of their own, since a
 //! crate that has tests is proved once more with them.
 #![tactic(auto)]
@@ -8,13 +8,15 @@ mod checkpoints;
 #[cfg(test)]
 mod grid;
 #[cfg(test)]
+mod io;
+#[cfg(test)]
 mod late;
 #[cfg(test)]
 mod lines;
 #[cfg(test)]
-mod make;
+mod link;
 #[cfg(test)]
-mod node;
+mod make;
 #[cfg(test)]
 mod peers;
 #[cfg(test)]

@@ -5,11 +5,11 @@ ghost use Rattle.std.specs.FinSet as sets;
 ghost use Rattle.aodv_meaning.specs.Meaning.{unless_in, strange_pair};
 ghost use Rattle.aodv_handlers.specs.Shown.{IsReady};
 
-use crate::{
+use aodv_asked::Asked;
+use aodv_handlers::{
     Core, link_broken, may_ask, may_send, new_packet, on_data, on_rerr, on_rrep, on_rreq,
     send_stored, start_request,
 };
-use aodv_asked::Asked;
 use aodv_table::{PlainTable, RowTable, Table};
 use aodv_waiting::Waiting;
 use aodv_wire::{DataView, Message, RerrView, Rrep, Rreq, read};

@@ -1,5 +1,5 @@
 //! Packets written out byte for byte.
-use super::{
+use aodv_wire::{
     DataView, Message, Rrep, Rreq, WireError, read, write_data, write_rerr, write_rrep, write_rreq,
 };
 use mesh_base::{Addr, Packet};

@@ -3,8 +3,8 @@
 ghost use Rattle.std.specs.Prelude.{◌≡◌, ◌<◌};
 ghost use Rattle.aodv_entry.specs.declared.entry.Flag.TheVariants.{Val};
 
-use crate::{PlainTable, RowTable, Table};
 use aodv_entry::{Dests, Entry, Flag, Known};
+use aodv_table::{PlainTable, RowTable, Table};
 use mesh_base::{NoMemory, NodeSet};
 use std::test::Fail;
 

@@ -1,7 +1,7 @@
 //! Datagrams over two sockets of this machine, and over links in memory.
-use crate::{Link, MemLink, SureLink, UdpLink};
 use mesh_base::Bytes;
 use mesh_io::Failed;
+use mesh_link::{Link, MemLink, SureLink, UdpLink};
 use std::test::Fail;
 use std::thread;
 use std::time::Duration;

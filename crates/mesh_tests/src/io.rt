@@ -1,9 +1,9 @@
 //! Each call that can find no memory, and the sizes of what passes through.
-use crate::{
+use mesh_base::Bytes;
+use mesh_io::{
     BufferRoom, Buffered, Failed, LineError, Lines, LongLines, MemSink, MemSource, PutFault,
     Source, StdSink, StdSource, put_all,
 };
-use mesh_base::Bytes;
 use std::fs::File;
 use std::test::Fail;
 

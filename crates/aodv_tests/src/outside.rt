@@ -2,7 +2,7 @@
 //! and what the formats make of each.
 ghost use Rattle.std.specs.Prelude.{◌≤◌};
 
-use super::{Message, RerrView, read};
+use aodv_wire::{Message, RerrView, read};
 use mesh_base::Addr;
 use std::test::Fail;
 
