@@ -271,7 +271,7 @@ struct Log {
 }
 
 fn join(all: &mut ArrayVec<u8, 256>, packet: &[u8]) {
-    let _joined = all.try_extend_from_slice(packet);
+    let _ = all.try_extend_from_slice(packet);
 }
 
 fn set_of(a: usize, b: usize) -> NodeSet
@@ -358,7 +358,7 @@ fn discover<T: Table>(alloc: Global, one: T, two: T, three: T, mesh: &Mesh) -> R
         packets: ArrayVec::new(),
     };
     let body = Bytes::copy_of(alloc, b"hi")?;
-    let _waits = takes_a_datum(&mut first, mesh, 2, body)?;
+    let _ = takes_a_datum(&mut first, mesh, 2, body)?;
     find(&mut first, &mut second, &mut third, mesh, &mut log)?;
     pass_on(&mut first, &mut second, &mut third, mesh, &mut log)?;
     Ok(log)
@@ -367,7 +367,7 @@ fn discover<T: Table>(alloc: Global, one: T, two: T, three: T, mesh: &Mesh) -> R
 fn mesh_of_three() -> Mesh {
     let mut mesh = Mesh::new();
     for a in 0x0a00_0001..0x0a00_0004 {
-        let _added = mesh.add(Addr(a), 1);
+        let _ = mesh.add(Addr(a), 1);
     }
     mesh
 }

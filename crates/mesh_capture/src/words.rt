@@ -73,6 +73,7 @@ pub fn copy_number(words: Option<&[u8]>) -> Option<u64>
     ensures { result ≡ copies.copy_number (rest_parts 32 words.entry) }
 {
     let (id, to) = two(words)?;
+    // Which node receives it doesn't matter here, but it is one.
     let _receiver = address(to)?;
     number(id)
 }

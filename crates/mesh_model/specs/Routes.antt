@@ -31,7 +31,8 @@ end_at x hops None rest = Stuck x hops
 end_at x hops (Some y) rest = rest y
 
 -- the end of the route for d from x on, that has come so many hops, and goes by at most `most`
--- nodes more
+-- nodes more. A route has fewer hops than there are nodes, so no run comes to the first line (law
+-- `RouteEnds`)
 abbrev pub end_from : ℕ → World → ℕ → ℕ → ℕ → End
 end_from zero w d x hops = Stuck x hops
 end_from (suc most) w d x hops =
