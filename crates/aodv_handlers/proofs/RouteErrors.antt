@@ -23,10 +23,7 @@ use Rattle.aodv_meaning.specs.Sent.{addressed, pairs_of}
 use Rattle.aodv_meaning.proofs.Writings.{destinations}
 use Rattle.aodv_handlers.specs.Parts.{tells, told}
 use Rattle.aodv_handlers.proofs.Lists.{from_place, from_end, empty_union, union_empty, union_assoc, empty_is, is_empty_same, entries_where, any_there}
-
-some_of : (o : Option ℕ) → is_some o ≡ true → (n : ℕ) × (o ≡ Some n)
-some_of (Some n) t = (n, refl)
-some_of None t = cc
+use Rattle.aodv_meaning.proofs.Means.{some_of}
 
 -- the destination at a place is in the mesh
 pub dest_below : (size : ℕ) (dests : Dests) (k : ℕ) (p : ℕ × ℕ) → AreDestsBelow size dests → slice_get (maps.entries dests) k ≡ Some p → p.0 < size

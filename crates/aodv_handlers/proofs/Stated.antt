@@ -16,17 +16,10 @@ use Rattle.aodv_model.specs.Soundness.{AreDestsBelow}
 use Rattle.aodv_model.proofs.Lookups.{get-accepted}
 use Rattle.aodv_model.proofs.PlacedTables.{accepted_below}
 use Rattle.aodv_meaning.specs.Meaning.{index, indexed, dests_in, unless_in, strange_pair}
-use Rattle.aodv_meaning.proofs.Means.{below}
+use Rattle.aodv_meaning.proofs.Means.{below, first_in}
 use Rattle.aodv_handlers.proofs.Lists.{from_place, from_end}
 
 -- ---- who is in the mesh
-
-first_in : (mesh : Nodes) (a : Addr) (rest : Option Addr) → unless_in mesh a rest ≡ None → (is_some (index_of mesh a.0) ≡ true) × (rest ≡ None)
-first_in mesh a rest e = case (is_some (index_of mesh a.0)) e
-  where
-    case : (b : Bool) → (if b then rest else Some a) ≡ None → (b ≡ true) × (rest ≡ None)
-    case true e = (refl, e)
-    case false e = absurd (none-some a (sym e))
 
 pub known_at : (mesh : Nodes) (pairs : List (Addr × ℕ)) (k : ℕ) (p : Addr × ℕ) → strange_pair mesh pairs ≡ None → slice_get pairs k ≡ Some p → IsTrue (is_some (index_of mesh p.0.0))
 known_at mesh [] k p none is = absurd (none-some p is)

@@ -71,7 +71,7 @@ heard_item nodes bytes k rest (Some r) e some shorter p = heard_some nodes bytes
 
 -- ---- a world, or none
 
-maybe_none_at : {A : Type 0} (may : Bool) (get : List ℕ → Option (A × List ℕ)) (b : ℕ) (bytes : List ℕ) → byte_at 0 2 (b ∷ bytes) ≡ None → get_maybe may get (b ∷ bytes) ≡ None
+pub maybe_none_at : {A : Type 0} (may : Bool) (get : List ℕ → Option (A × List ℕ)) (b : ℕ) (bytes : List ℕ) → byte_at 0 2 (b ∷ bytes) ≡ None → get_maybe may get (b ∷ bytes) ≡ None
 maybe_none_at may get zero bytes e = absurd cc
 maybe_none_at may get (suc zero) bytes e = absurd cc
 maybe_none_at may get (suc (suc b)) bytes e = refl

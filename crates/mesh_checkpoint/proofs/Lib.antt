@@ -1,9 +1,9 @@
 mod Formats
 mod Checkpoint
 mod State
-mod Behind
+pub mod Behind
 mod Bodies
-mod Loop
+pub mod Loop
 mod Counts
 -- Written: what is written of packets' meanings are the packets again.
 pub mod Written

@@ -11,11 +11,11 @@ use Rattle.mesh_checkpoint.specs.Reading.{IsPassed, IsKeyed}
 abbrev pub with_front : {A : Type 0} → List A → Option (List A × List ℕ) → Option (List A × List ℕ)
 with_front front read = read >>= λ x. Some (front ++ x.0, x.1)
 
-regroup : {A : Type 0} (front : List A) (n : A) (read : Option (List A × List ℕ)) → with_front front (read >>= λ x. Some (n ∷ x.0, x.1)) ≡ with_front (front ++ n ∷ []) read
+pub regroup : {A : Type 0} (front : List A) (n : A) (read : Option (List A × List ℕ)) → with_front front (read >>= λ x. Some (n ∷ x.0, x.1)) ≡ with_front (front ++ n ∷ []) read
 regroup front n (Some x) = ap (λ ns. Some (ns, x.1)) (simp append_assoc)
 regroup front n None = refl
 
-nothing_yet : {A : Type 0} (read : Option (List A × List ℕ)) → with_front [] read ≡ read
+pub nothing_yet : {A : Type 0} (read : Option (List A × List ℕ)) → with_front [] read ≡ read
 nothing_yet None = refl
 nothing_yet (Some x) = refl
 

@@ -15,13 +15,9 @@ use Rattle.mesh_load.specs.declared.error.StateError.TheVariants as errors
 use Rattle.mesh_load.specs.Loading.{IsUnsoundWorld}
 use Rattle.mesh_load.specs.Parts.{IsMade, IsRefusalOf, IsFitting, IsWorldFrom, IsMaybeWorldFrom, IsUnsoundIfWorld}
 use Rattle.mesh_load.proofs.WorldParts.{bind_some}
+use Rattle.mesh_checkpoint.proofs.Behind.{IsKind, maybe_none_at}
 
 -- ---- a world, or none, behind the byte that says so
-
--- a byte of two kinds
-record IsKind (bytes : List ℕ) (k : ℕ) (rest : List ℕ) : Type 0 where
-  parts : bytes ≡ k ∷ rest
-  two : k < 2
 
 kind_of : (bytes : List ℕ) (k : ℕ) (rest : List ℕ) → byte_at 0 2 bytes ≡ Some (k, rest) → IsKind bytes k rest
 kind_of [] k rest e = absurd (none-some (k, rest) e)
@@ -34,11 +30,6 @@ kind_of (b ∷ bytes) k rest e = at (is_from 0 2 b) refl e
         let one : b ≡ k = ap (λ (p : ℕ × List ℕ). p.0) both in
         record { parts = ap (λ (p : ℕ × List ℕ). p.0 ∷ p.1) both; two = omega (arith, lt, one) }
     at false is none = absurd (none-some (k, rest) none)
-
-maybe_none_at : {A : Type 0} (may : Bool) (get : List ℕ → Option (A × List ℕ)) (b : ℕ) (bytes : List ℕ) → byte_at 0 2 (b ∷ bytes) ≡ None → get_maybe may get (b ∷ bytes) ≡ None
-maybe_none_at may get zero bytes e = absurd cc
-maybe_none_at may get (suc zero) bytes e = absurd cc
-maybe_none_at may get (suc (suc b)) bytes e = refl
 
 pub no_kind : {A : Type 0} (may : Bool) (get : List ℕ → Option (A × List ℕ)) (bytes : List ℕ) → byte_at 0 2 bytes ≡ None → get_maybe may get bytes ≡ None
 no_kind may get [] e = refl

@@ -25,14 +25,7 @@ use Rattle.mesh_load.specs.Errors.{after_reading}
 use Rattle.mesh_load.specs.Nodes.{AllFrom, IsSoundNodeAt, AreNodesRead}
 use Rattle.mesh_load.specs.Parts.{IsRefusalOf, IsUnsoundNode}
 use Rattle.mesh_load.proofs.Listed.{precursors_below}
-
-all_but_last : {X : Type 0} (P : X → Type 0) (xs : List X) (y : X) → AllByRecursion P (xs ++ y ∷ []) → AllByRecursion P xs
-all_but_last P [] y all = tt
-all_but_last P (x ∷ xs) y all = (all.0, all_but_last P xs y all.1)
-
-at_last : {X : Type 0} (P : X → Type 0) (xs : List X) (y : X) → AllByRecursion P (xs ++ y ∷ []) → P y
-at_last P [] y all = all.0
-at_last P (x ∷ xs) y all = at_last P xs y all.1
+use Rattle.mesh_restore.proofs.CopyLists.{all_but_last, at_last}
 
 all_from_push : (P : ℕ → NodeSeen → Type 0) (x y : ℕ) (ns : List NodeSeen) (n : NodeSeen) → AllFrom P x ns → y ≡ x + length ns → P y n → AllFrom P x (ns ++ n ∷ [])
 all_from_push P x y [] n all at one = (let same : y ≡ x = omega (arith, at) in subst (λ (k : ℕ). P k n) same one, tt)

@@ -15,7 +15,7 @@ use Rattle.mesh_io.specs.Puts.{AppendsPrefix, Puts}
 use Rattle.mesh_io.proofs.Writing.{Puts-join}
 use Rattle.mesh_report.specs.Gathering.{Gathers}
 use Rattle.mesh_report.proofs.Gathering.{Gathers-none, Gathers-more, Gathers-join, Gathers-front}
-use Rattle.mesh_report.proofs.Members.{members-none, members-next}
+use Rattle.mesh_base.proofs.Ranks.{members-none, members-next}
 
 -- the line of a copy
 abbrev pub copy_line : Nodes → ℕ → ℕ → List ℕ

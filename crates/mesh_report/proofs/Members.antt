@@ -8,26 +8,7 @@ use Rattle.mesh_base.specs.Meshes.{Nodes}
 use Rattle.mesh_model.specs.Worlds.{members_below}
 use Rattle.mesh_text.specs.Lines.{name_of}
 use Rattle.mesh_text.specs.Effects.{names, more_names}
-
--- no member from i on, below m
-pub members-none : (m i : ℕ) (s : NodeIds) → i ≤ m → ((q : ℕ) → i ≤ q → q < m → contains s q ≡ false) → members_below m s ≡ members_below i s
-unfolding members_below
-members-none zero i s le none = let zero_is : 0 ≡ i = omega arith in ap (λ (n : ℕ). members_below n s) zero_is
-members-none (suc m) i s le none = elim (cases_eq i (suc m)) [
-  | inl same ↦ ap (λ (n : ℕ). members_below n s) (sym same)
-  | inr ne ↦ rw (none m (omega arith) (omega arith)) (members-none m i s (omega arith) (λ q up lt. none q up (omega arith)))
-]
-
--- m is the next member from i on
-pub members-next : (m i : ℕ) (s : NodeIds) → i ≤ m → contains s m ≡ true → ((q : ℕ) → i ≤ q → q < m → contains s q ≡ false) → members_below (m + 1) s ≡ members_below i s ++ m ∷ []
-unfolding members_below
-members-next m i s le is none =
-    let up : m + 1 ≡ suc m = omega arith in
-    rw (up, is) (ap (λ (ms : List ℕ). ms ++ m ∷ []) (members-none m i s le none))
-
-members-zero : (s : NodeIds) → members_below 0 s ≡ []
-unfolding members_below
-members-zero s = refl
+use Rattle.mesh_base.proofs.Ranks.{members-none, members-next, members-zero}
 
 -- the first member
 pub members-first : (m : ℕ) (s : NodeIds) → contains s m ≡ true → ((q : ℕ) → 0 ≤ q → q < m → contains s q ≡ false) → members_below (m + 1) s ≡ m ∷ []

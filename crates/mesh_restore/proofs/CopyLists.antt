@@ -17,11 +17,11 @@ use Rattle.mesh_restore.proofs.Loop.{IsReadSoFar, starts, goes_on, falls, is_don
 abbrev AreApart : List Flying → Type 0
 AreApart cs = AllByRecursion (λ c. c.from ≢ c.to) cs
 
-all_but_last : {X : Type 0} (P : X → Type 0) (xs : List X) (y : X) → AllByRecursion P (xs ++ y ∷ []) → AllByRecursion P xs
+pub all_but_last : {X : Type 0} (P : X → Type 0) (xs : List X) (y : X) → AllByRecursion P (xs ++ y ∷ []) → AllByRecursion P xs
 all_but_last P [] y all = tt
 all_but_last P (x ∷ xs) y all = (all.0, all_but_last P xs y all.1)
 
-at_last : {X : Type 0} (P : X → Type 0) (xs : List X) (y : X) → AllByRecursion P (xs ++ y ∷ []) → P y
+pub at_last : {X : Type 0} (P : X → Type 0) (xs : List X) (y : X) → AllByRecursion P (xs ++ y ∷ []) → P y
 at_last P [] y all = all.0
 at_last P (x ∷ xs) y all = at_last P xs y all.1
 

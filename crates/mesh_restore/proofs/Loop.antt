@@ -7,18 +7,11 @@ use Rattle.mesh_checkpoint.specs.Formats.{◌>>=◌, only_if, get_rising, get_ti
 use Rattle.mesh_restore.specs.Reading.{Refuses, get_from}
 use Rattle.mesh_restore.specs.declared.error.ReadError.{ReadError}
 use Rattle.mesh_restore.specs.declared.error.ReadError.TheVariants.{Spelling, NoMemory}
+use Rattle.mesh_checkpoint.proofs.Loop.{regroup, nothing_yet}
 
 -- what was read before, and what is still read
 abbrev pub with_front : {A : Type 0} → List A → Option (List A × List ℕ) → Option (List A × List ℕ)
 with_front front read = read >>= λ x. Some (front ++ x.0, x.1)
-
-regroup : {A : Type 0} (front : List A) (n : A) (read : Option (List A × List ℕ)) → with_front front (read >>= λ x. Some (n ∷ x.0, x.1)) ≡ with_front (front ++ n ∷ []) read
-regroup front n (Some x) = ap (λ ns. Some (ns, x.1)) (simp append_assoc)
-regroup front n None = refl
-
-nothing_yet : {A : Type 0} (read : Option (List A × List ℕ)) → with_front [] read ≡ read
-nothing_yet None = refl
-nothing_yet (Some x) = refl
 
 -- ---- values whose keys rise: i of count were read, and the next has a key of at least `low`
 

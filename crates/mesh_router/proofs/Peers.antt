@@ -21,7 +21,7 @@ use Rattle.mesh_router.specs.Peers.{IsPeer, ArePeers, code_text}
 use Rattle.mesh_router.specs.Routers.{all_below}
 use Rattle.mesh_peers.specs.Peers.{PeersSeen, port_of}
 use Rattle.mesh_model.specs.Worlds.{members_below}
-use Rattle.mesh_report.proofs.Members.{members-none, members-next}
+use Rattle.mesh_base.proofs.Ranks.{members-none, members-next}
 use Rattle.mesh_report.proofs.Copies.{members-front}
 use Rattle.mesh_router.specs.Said.{Said, followed_by}
 use Rattle.mesh_router.specs.Told.{Outputs, Adds, AddsPrefix}
