@@ -6,7 +6,8 @@ use Rattle.mesh_io.specs.Cause.{HasCause}
 use Rattle.mesh_run.specs.Causes.{HasCauseIf}
 use Rattle.mesh_io.specs.Puts.{AppendsPrefix, Puts}
 use Rattle.mesh_io.proofs.Writing.{Appends-none}
-use Rattle.mesh_save.specs.Pens.{HasFailed, HasWritten, IsPut, written_both}
+use Rattle.mesh_save.specs.Pens.{HasFailed, HasWritten, IsPut}
+use Rattle.mesh_save.specs.PenLaws.{written_both}
 
 -- what was put of what is gathered and a text
 pub put_whole : {T E : Type 0} (r : Result T E) (failed : Bool) (x y : Option (List ℕ)) (m n : ℕ) (gathered left text whole : List ℕ) → failed ≡ is_err r → left ≡ [] → whole ≡ gathered ++ text → Puts x y whole r → HasCause m n r → HasWritten false failed x y m n gathered left text

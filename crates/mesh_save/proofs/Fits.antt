@@ -8,6 +8,7 @@ use Rattle.std.specs.Int.{w16}
 use Rattle.std.specs.List.{AllByRecursion, flat_map}
 use Rattle.std.specs.FinMap as maps
 use Rattle.std.proofs.lemmas.Bool.{and_from}
+use Rattle.std.proofs.lemmas.List.{length-map}
 use Rattle.mesh_base.specs.declared.limits.TheConstants.{MOST_NODES, LONGEST_DATUM}
 use Rattle.mesh_base.specs.declared.events.Item.{Item}
 use Rattle.mesh_base.specs.declared.events.Item.TheVariants.{New, Heard}
@@ -27,7 +28,8 @@ use Rattle.mesh_checkpoint.specs.Points.{route_of, routes_in, waits_of, waits_in
 use Rattle.mesh_checkpoint.specs.Seen.{listed}
 use Rattle.mesh_save.specs.Requests.{AreRequestsOf}
 use Rattle.mesh_save.specs.Narrow.{AreEntriesNarrow}
-use Rattle.mesh_save.proofs.FitsParts.{IsFit, Rise, all_weaker, all_both, all_mapped, all_images, length_mapped, is_in, text_fits, counted_fits, rising_fits, few, rise_mapped, numbers_rise, each_entry, each_pair, pairs_rise, lesser_pair, no_more, each_short}
+use Rattle.mesh_model.proofs.Lists.{each_map}
+use Rattle.mesh_save.proofs.FitsParts.{IsFit, Rise, all_both, all_mapped, all_images, is_in, text_fits, counted_fits, rising_fits, few, rise_mapped, numbers_rise, each_entry, each_pair, pairs_rise, lesser_pair, no_more, each_short}
 
 -- ---- what a node of the code has, beside what every sound node has
 
@@ -75,7 +77,7 @@ routes_fit size ip rt small sound narrow =
     each_entry nat_cmp nat_cmp_total (λ d e. IsFit (route size) (route_of (d, e))) rt
     (λ d e there. route_fits size ip rt d e small (sound.numbers d e there) (sound.places d e there) (narrow d e there)) in
     let up = numbers_rise rt size below in
-    let many = is_in 0 (2 ^ 16) (length (map route_of es)) (omega arith) (omega (arith, length_mapped route_of es, few (λ e. e.0) size es up below, small)) in
+    let many = is_in 0 (2 ^ 16) (length (map route_of es)) (omega arith) (omega (arith, length-map es route_of, few (λ e. e.0) size es up below, small)) in
     rising_fits (λ r. r.dest) any16 (route size) (map route_of es) many (all_mapped route_of (IsFit (route size)) es each) (rise_mapped route_of (λ r. r.dest) 0 es up)
 
 -- ---- the requests that were seen
@@ -93,7 +95,7 @@ asked_fits size seen ids short =
     let bytes = flat_map (request size).put ps in
     let whole : length ((asked size).put ps) ≡ 4 + length bytes = omega arith in
     let many = is_in 0 (2 ^ 32) (length ps) (omega arith) (omega (arith, short, whole, no_more (request size).put (λ p. omega arith) ps)) in
-    let each = all_weaker (λ p. (p.0 < size) × (p.1 < 2 ^ 32)) (IsFit (request size)) (λ p h. and_from _ _ (index_fits size p.0 h.0) (is_in 0 (2 ^ 32) p.1 (omega arith) h.1)) ps all in
+    let each = each_map (λ p. (p.0 < size) × (p.1 < 2 ^ 32)) (IsFit (request size)) (λ p h. and_from _ _ (index_fits size p.0 h.0) (is_in 0 (2 ^ 32) p.1 (omega arith) h.1)) ps all in
     rising_fits request_key any32 (request size) ps many each (pairs_rise seen request_key (λ p. (p.0 < size) × (p.1 < 2 ^ 32)) (request_rises size) all)
 
 -- ---- the store
@@ -112,7 +114,7 @@ waits_fit size d w is short =
     let whole : length ((waits size).put (waits_of (d, w))) ≡ 7 + length bytes = omega arith in
     let many = is_in 1 (2 ^ 32) (length bs) (some_there bs is.some) (omega (arith, short, whole, no_more datum.put (λ b. omega arith) bs)) in
     and_from _ _ (index_fits size d is.dest)
-    (and_from _ _ (truth_fits w.needs_request) (counted_fits positive32 datum bs many (all_weaker IsDatum (IsFit datum) datum_fits bs is.bodies)))
+    (and_from _ _ (truth_fits w.needs_request) (counted_fits positive32 datum bs many (each_map IsDatum (IsFit datum) datum_fits bs is.bodies)))
 
 pub store_fits : (size : ℕ) (s : Store) → size ≤ MOST_NODES → IsStoreInMesh size s → length ((store size).put (waits_in s)) ≤ LONGEST_BODY → IsFit (store size) (waits_in s)
 unfolding waits_in
@@ -125,10 +127,10 @@ store_fits size s small is short =
     let parts : AllByRecursion (λ e. length ((waits size).put (waits_of e)) ≤ LONGEST_BODY) es =
     all_images waits_of (λ w. length ((waits size).put w) ≤ LONGEST_BODY) es (each_short (waits size).put LONGEST_BODY (map waits_of es) (omega (arith, short, whole))) in
     let each : AllByRecursion (λ e. IsFit (waits size) (waits_of e)) es =
-    all_weaker (λ e. IsWaitingInMesh size e.0 e.1 × (length ((waits size).put (waits_of e)) ≤ LONGEST_BODY)) (λ e. IsFit (waits size) (waits_of e)) (λ e h. waits_fit size e.0 e.1 h.0 h.1) es
+    each_map (λ e. IsWaitingInMesh size e.0 e.1 × (length ((waits size).put (waits_of e)) ≤ LONGEST_BODY)) (λ e. IsFit (waits size) (waits_of e)) (λ e h. waits_fit size e.0 e.1 h.0 h.1) es
     (all_both (λ e. IsWaitingInMesh size e.0 e.1) (λ e. length ((waits size).put (waits_of e)) ≤ LONGEST_BODY) es there parts) in
     let up = numbers_rise s size below in
-    let many = is_in 0 (2 ^ 16) (length (map waits_of es)) (omega arith) (omega (arith, length_mapped waits_of es, few (λ e. e.0) size es up below, small)) in
+    let many = is_in 0 (2 ^ 16) (length (map waits_of es)) (omega arith) (omega (arith, length-map es waits_of, few (λ e. e.0) size es up below, small)) in
     rising_fits (λ w. w.dest) any16 (waits size) (map waits_of es) many (all_mapped waits_of (IsFit (waits size)) es each) (rise_mapped waits_of (λ w. w.dest) 0 es up)
 
 -- ---- the inbox
@@ -181,4 +183,4 @@ node_fits size n small same sound narrow ids sn items short =
     let me = (n.core).ip in
     let each = subst (λ (k : ℕ). AllByRecursion (IsItemAt k me) n.items) same sound.each in
     core_fits size n.core n.items small (subst (λ (k : ℕ). IsSoundCore k n.core) same sound.sound) (subst (λ (k : ℕ). IsStoreInMesh k (n.core).store) same sound.store) narrow ids sn
-    (all_weaker (λ i. IsItemAt size me i × IsItemShort i) (IsFit (item size)) (λ i h. item_fits size me i h.0 h.1) n.items (all_both (IsItemAt size me) IsItemShort n.items each items)) short
+    (each_map (λ i. IsItemAt size me i × IsItemShort i) (IsFit (item size)) (λ i h. item_fits size me i h.0 h.1) n.items (all_both (IsItemAt size me) IsItemShort n.items each items)) short

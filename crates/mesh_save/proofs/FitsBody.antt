@@ -9,6 +9,7 @@ use Rattle.std.specs.List.{AllByRecursion, flat_map}
 use Rattle.std.specs.FinMap as maps
 use Rattle.std.specs.FinSet as sets
 use Rattle.std.proofs.lemmas.Bool.{and_from}
+use Rattle.std.proofs.lemmas.List.{length-map}
 use Rattle.std.proofs.lemmas.Option.{none-some, same_Some}
 use Rattle.mesh_base.specs.declared.limits.TheConstants.{MOST_NODES, LONGEST_PACKET}
 use Rattle.mesh_base.specs.declared.addr.Addr.{Addr}
@@ -39,8 +40,10 @@ use Rattle.mesh_checkpoint.specs.Checkpoint.{Link, World, Body, has_nodes, link_
 use Rattle.mesh_checkpoint.specs.Points as points
 use Rattle.mesh_checkpoint.specs.Points.{head_of, links_of, copy_of, node_of, world_after, body_of}
 use Rattle.mesh_checkpoint.specs.Heads.{AreSums}
-use Rattle.mesh_save.proofs.FitsParts.{IsFit, Rise, all_weaker, all_both, all_mapped, all_images, length_mapped, is_in, each_fits, text_fits, rising_fits, few, rise_mapped, numbers_rise, each_entry, each_pair, pairs_rise, lesser_pair, no_more, each_short}
+use Rattle.mesh_model.proofs.Lists.{each_map}
+use Rattle.mesh_save.specs.Links.{link_of}
 use Rattle.mesh_save.specs.Narrow.{IsNarrow}
+use Rattle.mesh_save.proofs.FitsParts.{IsFit, Rise, all_both, all_mapped, all_images, is_in, each_fits, text_fits, rising_fits, few, rise_mapped, numbers_rise, each_entry, each_pair, pairs_rise, lesser_pair, no_more, each_short}
 use Rattle.mesh_save.proofs.Fits.{IsItemShort, index_fits, truth_fits, item_fits, core_fits}
 
 -- ---- the head
@@ -88,9 +91,6 @@ mesh_fits mesh is =
 abbrev IsPair : ℕ → ℕ × ℕ → Type 0
 IsPair size p = (p.0 < p.1) × (p.1 < size)
 
-abbrev link_of : Pairs → ℕ × ℕ → Link
-link_of standing p = record { a = p.0; b = p.1; stands = sets.contains standing p }
-
 -- a number by which pairs of nodes rise, and of which there are few
 abbrev small_key : ℕ × ℕ → ℕ
 small_key p = p.0 * 200 + p.1
@@ -111,7 +111,7 @@ pub few_pairs : (size : ℕ) (s : Pairs) → size ≤ MOST_NODES → AreLinks si
 few_pairs size s small are =
     let all = each_pair s (IsPair size) are in
     let up = pairs_rise s small_key (IsPair size) (λ x y p q less. small_rises size x y small p q less) all in
-    let below = all_weaker (IsPair size) (λ p. small_key p < 40000) (λ p h. omega (arith, h.0, h.1, small)) (pairs_in s) all in
+    let below = each_map (IsPair size) (λ p. small_key p < 40000) (λ p h. omega (arith, h.0, h.1, small)) (pairs_in s) all in
     omega (arith, few small_key 40000 (pairs_in s) up below)
 
 pub links_fit : (size : ℕ) (ever standing : Pairs) → size ≤ MOST_NODES → AreLinks size ever → IsFit (table.links size) (links_of ever standing)
@@ -119,9 +119,9 @@ links_fit size ever standing small are =
     let ps = pairs_in ever in
     let all = each_pair ever (IsPair size) are in
     let up = pairs_rise ever (λ p. p.0 * 2 ^ 16 + p.1) (IsPair size) (λ x y p q less. link_rises size x y small p q less) all in
-    let each = all_weaker (IsPair size) (λ p. IsFit (table.link size) (link_of standing p)) (λ p h.
+    let each = each_map (IsPair size) (λ p. IsFit (table.link size) (link_of standing p)) (λ p h.
     and_from _ _ (index_fits size p.0 (omega (arith, h.0, h.1))) (and_from _ _ (is_in (p.0 + 1) size p.1 (omega (arith, h.0)) h.1) (truth_fits (sets.contains standing p)))) ps all in
-    let many = is_in 0 (2 ^ 16) (length (map (link_of standing) ps)) (omega arith) (omega (arith, length_mapped (link_of standing) ps, few_pairs size ever small are)) in
+    let many = is_in 0 (2 ^ 16) (length (map (link_of standing) ps)) (omega arith) (omega (arith, length-map ps (link_of standing), few_pairs size ever small are)) in
     rising_fits link_key table.any16 (table.link size) (map (link_of standing) ps) many (all_mapped (link_of standing) (IsFit (table.link size)) ps each) (rise_mapped (link_of standing) link_key 0 ps up)
 
 -- ---- the copies
@@ -159,7 +159,7 @@ copies_fit size next cs are all short =
     let bytes = flat_map copy.put cs in
     let whole : length ((table.copies size next).put cs) ≡ 4 + length bytes = omega arith in
     let many = is_in 0 (2 ^ 32) (length cs) (omega arith) (omega (arith, short, whole, no_more copy.put (λ c. omega arith) cs)) in
-    let each = all_weaker (λ c. ((1 ≤ c.id) × (c.id < next)) × IsCopyShort size c) (IsFit copy) (λ c h.
+    let each = each_map (λ c. ((1 ≤ c.id) × (c.id < next)) × IsCopyShort size c) (IsFit copy) (λ c h.
     and_from _ _ (is_in 1 next c.id h.0.0 h.0.1) (and_from _ _ (index_fits size c.from h.1.0) (and_from _ _ (index_fits size c.to h.1.1)
     (text_fits w16 0 (LONGEST_PACKET + 1) c.bytes (omega arith) (omega (arith, h.1.2)))))) cs
     (all_both (λ c. (1 ≤ c.id) × (c.id < next)) (IsCopyShort size) cs (numbered_between (λ c. c.id) 1 1 next cs (omega arith) are) all) in
@@ -183,7 +183,7 @@ packet_short mesh (Rerr dests) small is =
     let es = maps.entries dests in
     let ps = pairs_of mesh dests in
     let below : AllByRecursion (λ e. e.0 < size) es = each_entry nat_cmp nat_cmp_total (λ d n. d < size) dests is in
-    let many : length ps ≤ size = omega (arith, length_mapped (addressed mesh) es, few (λ e. e.0) size es (numbers_rise dests size below) below) in
+    let many : length ps ≤ size = omega (arith, length-map es (addressed mesh), few (λ e. e.0) size es (numbers_rise dests size below) below) in
     omega (arith, many, small, lines_of_pairs ps)
 
 -- packets that wait at a node
@@ -217,7 +217,7 @@ pub meant_fits : (mesh : Nodes) (x : ℕ) (n : model.Node) → length mesh ≤ M
 meant_fits mesh x n small is narrow short =
     let size = length mesh in
     let each = all_mapped (points.item_of mesh) (IsFit (table.item size)) n.queue
-    (all_weaker (IsItemInMesh size x) (λ i. IsFit (table.item size) (points.item_of mesh i)) (λ i h. queued_fits mesh x i small h) n.queue is.queue) in
+    (each_map (IsItemInMesh size x) (λ i. IsFit (table.item size) (points.item_of mesh i)) (λ i h. queued_fits mesh x i small h) n.queue is.queue) in
     core_fits size n.core (map (points.item_of mesh) n.queue) small is.core is.store narrow.entries narrow.requests narrow.number each short
 
 each_at : {X : Type 0} (P : X → Type 0) (xs : List X) → ((i : ℕ) (x : X) → slice_get xs i ≡ Some x → P x) → AllByRecursion P xs
@@ -264,7 +264,7 @@ meant_nodes_fit mesh steps w small is short =
     let parts : AllByRecursion (λ n. length ((table.node size).put (node_of mesh n)) ≤ LONGEST_BODY) w.nodes =
     all_images (node_of mesh) (λ n. length ((table.node size).put n) ≤ LONGEST_BODY) w.nodes (each_short (table.node size).put LONGEST_BODY (map (node_of mesh) w.nodes) short) in
     all_mapped (node_of mesh) (IsFit (table.node size)) w.nodes
-    (all_weaker (λ n. fit n × (length ((table.node size).put (node_of mesh n)) ≤ LONGEST_BODY)) (λ n. IsFit (table.node size) (node_of mesh n)) (λ n h. h.0 h.1) w.nodes
+    (each_map (λ n. fit n × (length ((table.node size).put (node_of mesh n)) ≤ LONGEST_BODY)) (λ n. IsFit (table.node size) (node_of mesh n)) (λ n h. h.0 h.1) w.nodes
     (all_both fit (λ n. length ((table.node size).put (node_of mesh n)) ≤ LONGEST_BODY) w.nodes each parts))
 
 pub world_fits : (mesh : Nodes) (steps : ℕ) (w : model.World) → length mesh ≤ MOST_NODES → IsWorldNarrow mesh steps w → length ((table.world (length mesh)).put (world_after steps mesh w)) ≤ LONGEST_BODY
@@ -277,8 +277,8 @@ world_fits mesh steps w small is short =
     let ever : AreLinks size w.ever = subst (λ (k : ℕ). AreLinks k w.ever) is.count (is.in_mesh).ever in
     let ids = numbered_mapped (copy_of mesh) (λ c. c.id) 1 w.next_copy w.flying (is.in_mesh).numbered in
     let copies = all_mapped (copy_of mesh) (IsCopyShort size) w.flying
-    (all_weaker (IsCopyInMesh size) (λ c. IsCopyShort size (copy_of mesh c)) (λ c h. copy_short mesh c small h) w.flying flying) in
-    parts_fit size listed is.early (length_mapped (node_of mesh) w.nodes ∙ is.count)
+    (each_map (IsCopyInMesh size) (λ c. IsCopyShort size (copy_of mesh c)) (λ c h. copy_short mesh c small h) w.flying flying) in
+    parts_fit size listed is.early (length-map w.nodes (node_of mesh) ∙ is.count)
     (meant_nodes_fit mesh steps w small is (omega (arith, short, whole))) (links_fit size w.ever w.links small ever)
     (numbered_end (λ c. c.id) 1 w.next_copy w.flying (is.in_mesh).numbered) is.next
     (copies_fit size w.next_copy listed.copies ids copies (omega (arith, short, whole)))

@@ -15,13 +15,11 @@ use Rattle.std.proofs.lemmas.Bool.{and_from, le-leb, lt-ltb}
 use Rattle.std.proofs.lemmas.Option.{none-some}
 use Rattle.aodv_model.specs.Pairs.{Pairs, pair_cmp, as_keys, pairs_in}
 use Rattle.aodv_model.proofs.PairLaws.{pair_cmp_total}
+use Rattle.aodv_model.proofs.PairKeys.{get-keys_of}
+use Rattle.mesh_model.proofs.Lists.{each_map}
 use Rattle.mesh_checkpoint.specs.Formats.{Format, is_from, all_fit, rise, counted, counted_rising, text}
 
 -- ---- what holds of each value of a list
-
-pub all_weaker : {X : Type 0} (P Q : X → Type 0) → ((x : X) → P x → Q x) → (xs : List X) → AllByRecursion P xs → AllByRecursion Q xs
-all_weaker P Q gives [] all = tt
-all_weaker P Q gives (x ∷ xs) all = (gives x all.0, all_weaker P Q gives xs all.1)
 
 pub all_both : {X : Type 0} (P Q : X → Type 0) (xs : List X) → AllByRecursion P xs → AllByRecursion Q xs → AllByRecursion (λ x. P x × Q x) xs
 all_both P Q [] p q = tt
@@ -35,10 +33,6 @@ all_mapped f P (x ∷ xs) all = (all.0, all_mapped f P xs all.1)
 pub all_images : {X Y : Type 0} (f : X → Y) (P : Y → Type 0) (xs : List X) → AllByRecursion P (map f xs) → AllByRecursion (λ x. P (f x)) xs
 all_images f P [] all = tt
 all_images f P (x ∷ xs) all = (all.0, all_images f P xs all.1)
-
-pub length_mapped : {X Y : Type 0} (f : X → Y) (xs : List X) → length (map f xs) ≡ length xs
-length_mapped f [] = refl
-length_mapped f (x ∷ xs) = ap suc (length_mapped f xs)
 
 -- ---- numbers, lists and texts
 
@@ -116,7 +110,7 @@ module _ {K X : Type 0} (R : K → K → Ordering) (key : K → ℕ) (P : K → 
 
   pub entries_rise : (m : FinMap R X) → AllByRecursion (λ e. P e.0) (maps.entries m) → Rise (λ e. key e.0) 0 (maps.entries m)
   entries_rise m all =
-      sorted_rise 0 (maps.entries m) all (maps.entries_sorted m) (all_weaker (λ e. P e.0) (λ e. 0 ≤ key e.0) (λ e h. omega arith) (maps.entries m) all)
+      sorted_rise 0 (maps.entries m) all (maps.entries_sorted m) (each_map (λ e. P e.0) (λ e. 0 ≤ key e.0) (λ e h. omega arith) (maps.entries m) all)
 
 pub numbers_rise : {X : Type 0} (m : FinMap nat_cmp X) (end : ℕ) → AllByRecursion (λ e. e.0 < end) (maps.entries m) → Rise (λ e. e.0) 0 (maps.entries m)
 numbers_rise m end all = entries_rise nat_cmp (λ k. k) (λ k. k < end) (λ x y p q less. ranked x y Less (sym less)) m all
@@ -150,22 +144,13 @@ module _ {K X : Type 0} (R : K → K → Ordering) (o : IsTotalOrder R) (P : K �
 
 -- ---- the pairs of a set
 
-marked-insert : (m : FinMap pair_cmp (Unit {0})) (p q : ℕ × ℕ) → is_some (maps.get (maps.insert m p tt) q) ≡ (eq_by_cmp pair_cmp q p || is_some (maps.get m q))
-marked-insert m p q =
-    ap is_some (maps.get-insert pair_cmp_total m p tt q)
-    ∙ elim (eq_by_cmp pair_cmp q p) as (λ b. is_some (cond b (Some tt) (maps.get m q)) ≡ (b || is_some (maps.get m q))) [ true ↦ refl | false ↦ refl ]
-
-marked_there : (ps : List (ℕ × ℕ)) (q : ℕ × ℕ) → is_some (maps.get (as_keys ps) q) ≡ list_any (eq_by_cmp pair_cmp q) ps
-marked_there [] q = ap is_some (maps.get-empty pair_cmp q)
-marked_there (p ∷ ps) q = marked-insert (as_keys ps) p q ∙ ap (λ (b : Bool). eq_by_cmp pair_cmp q p || b) (marked_there ps q)
-
 -- what holds of each member holds of each pair that is listed
 pub each_pair : (s : Pairs) (P : ℕ × ℕ → Type 0) → ((q : ℕ × ℕ) → sets.contains s q ≡ true → P q) → AllByRecursion P (pairs_in s)
 unfolding pairs_in
 each_pair s P each =
     let m = as_keys (sets.items s) in
     all_mapped (λ (e : (ℕ × ℕ) × Unit {0}). e.0) P (maps.entries m) (each_entry pair_cmp pair_cmp_total (λ k v. P k) m (λ k v there.
-    each k (sets.contains-items s k ∙ sym (marked_there (sets.items s) k) ∙ ap is_some there)))
+    each k (sym (get-keys_of s k) ∙ ap is_some there)))
 
 pub pairs_rise : (s : Pairs) (key : ℕ × ℕ → ℕ) (P : ℕ × ℕ → Type 0) → ((x y : ℕ × ℕ) → P x → P y → pair_cmp x y ≡ Less → key x < key y) → AllByRecursion P (pairs_in s) → Rise key 0 (pairs_in s)
 unfolding pairs_in

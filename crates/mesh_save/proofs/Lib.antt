@@ -1,8 +1,6 @@
-mod Listing
 mod Keys
 mod Rows
 mod Puts
-mod Copies
 mod Tables
 mod LinkRows
 mod Ids

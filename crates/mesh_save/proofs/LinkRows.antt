@@ -8,9 +8,9 @@ use Rattle.std.specs.Cmp.{nat_cmp_total, unsigned_tied}
 use Rattle.std.proofs.lemmas.Bool.{ne_eqb, cases_eq}
 use Rattle.aodv_model.specs.Pairs.{Pairs}
 use Rattle.aodv_asked.specs.Requests.{ids_below}
+use Rattle.aodv_asked.proofs.Listed.{ids_none}
 use Rattle.mesh_model.specs.Worlds.{are_linked, linked_below}
 use Rattle.mesh_model.specs.Places.{AreLinks}
-use Rattle.mesh_save.proofs.Keys.{byte_is}
 
 pub in_order : (pairs : Pairs) (a b : ℕ) → a < b → are_linked pairs a b ≡ sets.contains pairs (a, b)
 in_order pairs a b lt =
@@ -20,13 +20,9 @@ in_order pairs a b lt =
 
 -- ---- no link leads to a node that isn't above
 
-none_from : (s : Pairs) (o n : ℕ) → ((q : ℕ) → q < n → sets.contains s (o, q) ≡ false) → ids_below n s o ≡ []
-unfolding ids_below
-none_from s o zero none = refl
-none_from s o (suc n) none = rw (none n (omega arith)) (none_from s o n (λ q lt. none q (omega (arith, lt))))
-
 pub none_up_to : (size : ℕ) (s : Pairs) (a : ℕ) → AreLinks size s → ids_below (a + 1) s a ≡ []
-none_up_to size s a are = none_from s a (a + 1) (λ q lt. elim (sets.contains s (a, q)) as (λ b. sets.contains s (a, q) ≡ b → b ≡ false) [
+unfolding ids_below
+none_up_to size s a are = ids_none s a (a + 1) 0 (omega arith) (λ q from lt. elim (sets.contains s (a, q)) as (λ b. sets.contains s (a, q) ≡ b → b ≡ false) [
   | true ↦ λ is. absurd (omega (arith, (are (a, q) is).0, lt))
   | false ↦ λ is. refl
 ] refl)
@@ -37,9 +33,9 @@ pub count_next : (s : Pairs) (o n count one : ℕ) (b : Bool) → count ≡ leng
 unfolding ids_below
 count_next s o n count one b so_far byte here =
     let up : n + 1 ≡ suc n = omega arith in
-    rw (up, byte ∙ byte_is b, here, so_far) (elim (sets.contains s (o, n)) as (λ b. length (ids_below n s o) + cond b 1 0 ≡ length (cond b (ids_below n s o ++ n ∷ []) (ids_below n s o))) [
+    rw (up, byte, here, so_far) (elim (sets.contains s (o, n)) as (λ b. length (ids_below n s o) + from_bool b ≡ length (cond b (ids_below n s o ++ n ∷ []) (ids_below n s o))) [
       | true ↦ sym (length-append (ids_below n s o) (n ∷ []))
-      | false ↦ omega arith
+      | false ↦ let none : from_bool false ≡ 0 = refl in omega (arith, none)
     ])
 
 -- ---- the nodes in range

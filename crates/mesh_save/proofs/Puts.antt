@@ -2,7 +2,6 @@
 use Rattle.std.proofs.Common.{◌≡◌, ℕ, suc, ◌+◌, ◌<◌, true, false, cond, List, [], ◌∷◌, ◌++◌, length, take, map, Some, get_or, sym, ap, subst, ◌∙◌, arith, append-nil, append_assoc}
 use Rattle.std.specs.Prelude.{slice_get}
 use Rattle.std.specs.List.{flat_map}
-use Rattle.std.specs.Option.{unwrap_or}
 use Rattle.std.specs.FinMap as maps
 use Rattle.std.specs.FinMap.{FinMap}
 use Rattle.std.specs.FinSet as sets
@@ -11,17 +10,26 @@ use Rattle.std.proofs.Math.Seq.{take-suc, take-length}
 use Rattle.std.proofs.lemmas.Grind.{flat_map-append}
 use Rattle.std.proofs.lemmas.List.{map-append}
 use Rattle.std.proofs.lemmas.List.Folds.{flat_map-map}
-use Rattle.std.proofs.lemmas.Option.{slice_get_within, unwrap_or-slice_get}
+use Rattle.std.proofs.lemmas.Option.{slice_get_within, get_or_from_slice_get}
 use Rattle.aodv_model.specs.Pairs.{Pairs, pairs_in}
+use Rattle.aodv_model.proofs.Listing.{at}
+use Rattle.aodv_model.proofs.Keys.{below, below_none, below_more, below_all}
+use Rattle.aodv_model.proofs.PairKeys.{none_before, all_before}
 use Rattle.aodv_asked.specs.Requests.{ids_below}
+use Rattle.aodv_asked.proofs.PairRows.{rows_next}
 use Rattle.mesh_base.specs.declared.events.Flying.{Flying}
 use Rattle.mesh_radio.specs.Copies.{from_id}
+use Rattle.mesh_radio.proofs.Finds.{from_zero}
 use Rattle.mesh_save.specs.Bytes.{bytes_if, bytes_where}
 use Rattle.mesh_save.specs.Links.{pairs_from}
-use Rattle.mesh_save.proofs.Keys.{below, below_none, below_more, below_all, bytes_at}
-use Rattle.mesh_save.proofs.Listing.{at}
-use Rattle.mesh_save.proofs.Rows.{rows_before, rows_next, rows_none, rows_all}
-use Rattle.mesh_save.proofs.Copies.{ArePut, from_first}
+use Rattle.mesh_save.proofs.Keys.{bytes_at}
+use Rattle.mesh_save.proofs.Rows.{rows_before}
+
+-- the copies with ids below this one were put
+pub record ArePut {S : Type 0} (wrote : S → List ℕ → S → Type 0) (put : Flying → List ℕ) (copies : List Flying) (p q : S) (id : ℕ) : Type 0 where
+  pub done : List Flying
+  pub whole : done ++ from_id copies id ≡ copies
+  pub written : wrote p (flat_map put done) q
 
 module _ {S : Type 0} (wrote : S → List ℕ → S → Type 0) (joins : (p q r : S) (a b : List ℕ) → wrote p a q → wrote q b r → wrote p (a ++ b) r) where
   -- more values
@@ -38,9 +46,8 @@ module _ {S : Type 0} (wrote : S → List ℕ → S → Type 0) (joins : (p q r 
     where
       take_more : {X : Type 0} (xs : List X) (k : ℕ) (x : X) → slice_get xs k ≡ Some x → take (k + 1) xs ≡ take k xs ++ x ∷ []
       take_more xs k x there =
-          let same : get_or xs k x ≡ x = sym (unwrap_or-slice_get xs k x) ∙ ap (λ o. unwrap_or o x) there in
           let one : k + 1 ≡ suc k = omega arith in
-          ap (λ n. take n xs) one ∙ take-suc xs k x (slice_get_within xs k x there) ∙ ap (λ z. take k xs ++ z ∷ []) same
+          ap (λ n. take n xs) one ∙ take-suc xs k x (slice_get_within xs k x there) ∙ ap (λ z. take k xs ++ z ∷ []) (get_or_from_slice_get xs k x x there)
 
   -- the same, where the values are found by their places
   pub next_at : {X : Type 0} (f : X → List ℕ) (xs : List X) (k : ℕ) (d : X) (p q r : S) → k < length xs → wrote p (flat_map f (take k xs)) q → wrote q (f (get_or xs k d)) r → wrote p (flat_map f (take (k + 1) xs)) r
@@ -94,17 +101,17 @@ module _ {S : Type 0} (wrote : S → List ℕ → S → Type 0) where
       subst (λ (l : List ℕ). wrote p l q) (ap (flat_map (λ e. f (g e))) (below_all m n each) ∙ sym (flat_map-map f g (maps.entries m))) put
 
   pub no_rows : (f : ℕ × ℕ → List ℕ) (s : Pairs) (p : S) → wrote p [] p → wrote p (flat_map f (rows_before s 0)) p
-  no_rows f s p none = subst (λ (l : List (ℕ × ℕ)). wrote p (flat_map f l) p) (sym (rows_none s)) none
+  no_rows f s p none = subst (λ (l : List (ℕ × ℕ)). wrote p (flat_map f l) p) (sym (none_before s)) none
 
-  pub all_rows : (f : ℕ × ℕ → List ℕ) (s : Pairs) (n : ℕ) (p q : S) → ((k : ℕ × ℕ) → sets.contains s k ≡ true → k.0 < n) → wrote p (flat_map f (rows_before s n)) q → wrote p (flat_map f (pairs_in s)) q
-  all_rows f s n p q each put = subst (λ (l : List (ℕ × ℕ)). wrote p (flat_map f l) q) (rows_all s n each) put
+  pub all_rows : (f : ℕ × ℕ → List ℕ) (s : Pairs) (n : ℕ) (p q : S) → ((o i : ℕ) → sets.contains s (o, i) ≡ true → o < n) → wrote p (flat_map f (rows_before s n)) q → wrote p (flat_map f (pairs_in s)) q
+  all_rows f s n p q each put = subst (λ (l : List (ℕ × ℕ)). wrote p (flat_map f l) q) (all_before s n each) put
 
-  pub all_mapped_rows : {Y : Type 0} (f : Y → List ℕ) (g : ℕ × ℕ → Y) (s : Pairs) (n : ℕ) (p q : S) → ((k : ℕ × ℕ) → sets.contains s k ≡ true → k.0 < n) → wrote p (flat_map (λ e. f (g e)) (rows_before s n)) q → wrote p (flat_map f (map g (pairs_in s))) q
+  pub all_mapped_rows : {Y : Type 0} (f : Y → List ℕ) (g : ℕ × ℕ → Y) (s : Pairs) (n : ℕ) (p q : S) → ((o i : ℕ) → sets.contains s (o, i) ≡ true → o < n) → wrote p (flat_map (λ e. f (g e)) (rows_before s n)) q → wrote p (flat_map f (map g (pairs_in s))) q
   all_mapped_rows f g s n p q each put =
-      subst (λ (l : List ℕ). wrote p l q) (ap (flat_map (λ e. f (g e))) (rows_all s n each) ∙ sym (flat_map-map f g (pairs_in s))) put
+      subst (λ (l : List ℕ). wrote p l q) (ap (flat_map (λ e. f (g e))) (all_before s n each) ∙ sym (flat_map-map f g (pairs_in s))) put
 
   pub no_copies : (f : Flying → List ℕ) (cs : List Flying) (p : S) → wrote p [] p → ArePut wrote f cs p p 0
-  no_copies f cs p none = record { done = []; whole = from_first cs; written = none }
+  no_copies f cs p none = record { done = []; whole = from_zero cs; written = none }
 
   pub all_copies : (f : Flying → List ℕ) (cs : List Flying) (id : ℕ) (p q : S) → from_id cs id ≡ [] → ArePut wrote f cs p q id → wrote p (flat_map f cs) q
   all_copies f cs id p q none put =

@@ -9,10 +9,10 @@ use Rattle.aodv_entry.specs.declared.entry.Entry.{Entry}
 use Rattle.aodv_model.specs.Tables.{Table}
 use Rattle.aodv_model.specs.Cores.{Body, Store, Waiting, has_data, bodies_in}
 use Rattle.aodv_model.specs.Soundness.{IsSoundTable, IsStoreInMesh}
+use Rattle.aodv_model.proofs.Keys.{below, below_all}
 use Rattle.mesh_checkpoint.specs.Points.{route_of, routes_in, waits_of, waits_in}
 use Rattle.mesh_save.specs.Bytes.{route_bytes, waits_bytes}
 use Rattle.mesh_save.specs.Narrow.{IsNarrowEntry, AreEntriesNarrow}
-use Rattle.mesh_save.proofs.Keys.{below, below_all}
 use Rattle.mesh_save.proofs.Puts.{all_entries}
 
 -- ---- routes

@@ -1,18 +1,18 @@
 -- What is written of a moment is its checkpoint.
-use Rattle.std.proofs.Common.{◌≡◌, ℕ, ◌-◌, ◌^◌, ◌≤◌, true, List, ◌++◌, Option, Some, None, ap, subst, arith}
+use Rattle.std.proofs.Common.{◌≡◌, ℕ, ◌-◌, ◌^◌, ◌≤◌, true, List, Option, Some, None, ap, subst, arith}
 use Rattle.std.specs.Prelude.{IfSome, min, unwrap_or}
-use Rattle.std.specs.Int.{w32, to_be_bytes}
 use Rattle.mesh_base.specs.Meshes.{Nodes, IsMesh}
 use Rattle.mesh_model.specs.Worlds.{World}
 use Rattle.mesh_text.specs.Schedule.{Moment, world_of}
 use Rattle.mesh_checkpoint.specs.declared.limits.TheConstants.{LONGEST_BODY, MOST_STEPS, GREATEST_NEXT_ID}
 use Rattle.mesh_checkpoint.specs.Checkpoint as model
-use Rattle.mesh_checkpoint.specs.State.{magic, body_length}
+use Rattle.mesh_checkpoint.specs.State.{body_length}
 use Rattle.mesh_checkpoint.specs.Heads.{AreSums}
 use Rattle.mesh_checkpoint.specs.Points.{head_of, body_of, IsState}
 use Rattle.std.specs.Io.KnownBytes.{Appends}
 use Rattle.mesh_io.specs.Puts.{AppendsPrefix}
-use Rattle.mesh_save.specs.Saved.{IsWritten, IsCut}
+use Rattle.mesh_save.specs.Saved.{checkpoint_stating, IsWritten, IsCut}
+use Rattle.mesh_save.specs.Pens.{most_counted}
 use Rattle.mesh_save.specs.Narrow.{IsNarrowWorld}
 use Rattle.mesh_save.proofs.FitsBody.{IsWorldNarrow, moment_fits}
 
@@ -24,34 +24,21 @@ in_range mesh steps (Some w) d is early next = record { some = is.some; count = 
 pub fits : (m : Moment) → AreSums (head_of m) → IsMesh m.mesh → IfSome m.world (IsNarrowWorld m.mesh) → m.steps ≤ MOST_STEPS → (world_of m).next_copy ≤ GREATEST_NEXT_ID → body_length (body_of m) ≤ LONGEST_BODY → model.body.fits (body_of m) ≡ true
 fits m sums mesh world early next short = moment_fits m sums mesh (in_range m.mesh m.steps m.world _ world early next) short
 
--- the bytes behind a length are the checkpoint, where it is the length of the body
-pub is_state : (m : Moment) (count : ℕ) → model.body.fits (body_of m) ≡ true → count ≤ LONGEST_BODY → count ≡ body_length (body_of m) → IsState (magic ++ (to_be_bytes w32 count ++ model.body.put (body_of m))) m
-is_state m count fit short same = record {
-  fits = fit;
-  short = subst (λ (n : ℕ). n ≤ LONGEST_BODY) same short;
-  spelled = ap (λ (n : ℕ). magic ++ (to_be_bytes w32 n ++ model.body.put (body_of m))) same;
-}
-
 -- a body that isn't too long was measured as it is
-pub measured : (length whole : ℕ) → min length (2 ^ 64 - 1) ≡ min whole (2 ^ 64 - 1) → length ≤ LONGEST_BODY → length ≡ whole
+measured : (length whole : ℕ) → min length (2 ^ 64 - 1) ≡ min whole (2 ^ 64 - 1) → length ≤ LONGEST_BODY → length ≡ whole
 measured length whole same short = omega (arith, same, short)
 
-pub is_written : (m : Moment) (count : ℕ) (before now : Option (List ℕ)) → (body_length (body_of m) ≤ LONGEST_BODY → model.body.fits (body_of m) ≡ true) → min count (2 ^ 64 - 1) ≡ min (body_length (body_of m)) (2 ^ 64 - 1) → count ≤ LONGEST_BODY
-    → Appends before now (magic ++ (to_be_bytes w32 count ++ model.body.put (body_of m))) → IsWritten m before now
-is_written m count before now fit same short grown =
+-- the bytes behind a length are the checkpoint, where the body was measured so and fits
+is_state : (m : Moment) (count : ℕ) → (body_length (body_of m) ≤ LONGEST_BODY → model.body.fits (body_of m) ≡ true) → min count most_counted ≡ min (body_length (body_of m)) most_counted → count ≤ LONGEST_BODY → IsState (checkpoint_stating count m) m
+is_state m count fit same short =
     let is = measured count (body_length (body_of m)) same short in
-    record {
-      bytes = magic ++ (to_be_bytes w32 count ++ model.body.put (body_of m));
-      state = is_state m count (fit (subst (λ (n : ℕ). n ≤ LONGEST_BODY) is short)) short is;
-      grown = grown;
-    }
+    let few = subst (λ (n : ℕ). n ≤ LONGEST_BODY) is short in
+    record { fits = fit few; short = few; spelled = ap (λ (n : ℕ). checkpoint_stating n m) is }
 
-pub is_cut : (m : Moment) (count : ℕ) (before now : Option (List ℕ)) → (body_length (body_of m) ≤ LONGEST_BODY → model.body.fits (body_of m) ≡ true) → min count (2 ^ 64 - 1) ≡ min (body_length (body_of m)) (2 ^ 64 - 1) → count ≤ LONGEST_BODY
-    → AppendsPrefix before now (magic ++ (to_be_bytes w32 count ++ model.body.put (body_of m))) → IsCut m before now
-is_cut m count before now fit same short grown =
-    let is = measured count (body_length (body_of m)) same short in
-    record {
-      bytes = magic ++ (to_be_bytes w32 count ++ model.body.put (body_of m));
-      state = is_state m count (fit (subst (λ (n : ℕ). n ≤ LONGEST_BODY) is short)) short is;
-      grown = grown;
-    }
+pub is_written : (m : Moment) (count : ℕ) (before now : Option (List ℕ)) → (body_length (body_of m) ≤ LONGEST_BODY → model.body.fits (body_of m) ≡ true) → min count most_counted ≡ min (body_length (body_of m)) most_counted → count ≤ LONGEST_BODY
+    → Appends before now (checkpoint_stating count m) → IsWritten m before now
+is_written m count before now fit same short grown = record { bytes = checkpoint_stating count m; state = is_state m count fit same short; grown = grown }
+
+pub is_cut : (m : Moment) (count : ℕ) (before now : Option (List ℕ)) → (body_length (body_of m) ≤ LONGEST_BODY → model.body.fits (body_of m) ≡ true) → min count most_counted ≡ min (body_length (body_of m)) most_counted → count ≤ LONGEST_BODY
+    → AppendsPrefix before now (checkpoint_stating count m) → IsCut m before now
+is_cut m count before now fit same short grown = record { bytes = checkpoint_stating count m; state = is_state m count fit same short; grown = grown }

@@ -2,6 +2,7 @@
 use Rattle.std.proofs.Common.{◌≡◌, ℕ, ◌+◌, ◌<◌, true, false, List, [], ◌∷◌, Option, Some, None, refl, sym, ap, subst, ◌∙◌, arith, inl, inr}
 use Rattle.std.specs.Prelude.{is_some, IfSome, unwrap_or, option_map, slice_get}
 use Rattle.std.proofs.lemmas.Bool.{cases_lt}
+use Rattle.std.proofs.lemmas.Option.{same_Some}
 use Rattle.mesh_base.specs.Meshes.{Nodes}
 use Rattle.mesh_model.specs.Worlds.{World, Node}
 use Rattle.mesh_world.specs.Seen.{WorldSeen}
@@ -10,16 +11,13 @@ use Rattle.mesh_checkpoint.specs.Points.{world_after}
 use Rattle.mesh_save.specs.Bytes.{world_bytes}
 use Rattle.mesh_save.specs.Narrow.{IsNarrow, IsNarrowWorld}
 
-same_node : (m n : Node) → Some m ≡ Some n → m ≡ n
-same_node m n e = ap (λ (o : Option Node). unwrap_or o m) e
-
 -- one node more
 pub narrow_next : (size i : ℕ) (nodes : List Node) (m : Node) → slice_get nodes i ≡ Some m → IsNarrow size m.core → ((k : ℕ) (n : Node) → k < i → slice_get nodes k ≡ Some n → IsNarrow size n.core) → (k : ℕ) (n : Node) → k < i + 1 → slice_get nodes k ≡ Some n → IsNarrow size n.core
 narrow_next size i nodes m at this before k n lt there = elim (cases_lt k i) [
   | inl less ↦ before k n less there
   | inr ge ↦
       let same : i ≡ k = omega (arith, lt, ge) in
-      let is : m ≡ n = same_node m n (sym at ∙ ap (slice_get nodes) same ∙ there) in
+      let is : m ≡ n = same_Some m n (sym at ∙ ap (slice_get nodes) same ∙ there) in
       subst (λ (x : Node). IsNarrow size x.core) is this
 ]
 

@@ -1,6 +1,8 @@
 -- Read in this order.
 -- Pens: what a pen has taken.
 pub mod Pens
+-- PenLaws: what was taken in two parts was taken as a whole.
+pub mod PenLaws
 -- Bytes: the bytes of each part of a body.
 pub mod Bytes
 -- Requests: the requests that a node has seen, by their originators.

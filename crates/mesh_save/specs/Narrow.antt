@@ -26,8 +26,8 @@ pub record IsNarrow (size : ℕ) (core : Core) : Type 0 where
 abbrev pub AreNarrow : ℕ → World → Type 0
 AreNarrow size w = (i : ℕ) (n : Node) → slice_get w.nodes i ≡ Some n → IsNarrow size n.core
 
--- a world of a mesh: it has a node for each address, all that it names is in the mesh, and its nodes
--- are narrow
+-- a world of a mesh: it has a node for each address, all that it names is in the mesh, and its
+-- nodes are narrow
 pub record IsNarrowWorld (mesh : Nodes) (w : World) : Type 0 where
   pub some : 1 ≤ length mesh
   pub count : length w.nodes ≡ length mesh

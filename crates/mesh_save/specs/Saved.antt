@@ -1,9 +1,16 @@
 -- What a call has written of a moment's checkpoint.
-use Rattle.std.specs.Prelude.{ℕ, List, Option}
+use Rattle.std.specs.Prelude.{ℕ, List, ◌++◌, Option}
+use Rattle.std.specs.Int.{w32, to_be_bytes}
 use Rattle.std.specs.Io.KnownBytes.{Appends}
 use Rattle.mesh_io.specs.Puts.{AppendsPrefix}
 use Rattle.mesh_text.specs.Schedule.{Moment}
-use Rattle.mesh_checkpoint.specs.Points.{IsState}
+use Rattle.mesh_checkpoint.specs.Checkpoint.{body}
+use Rattle.mesh_checkpoint.specs.State.{magic}
+use Rattle.mesh_checkpoint.specs.Points.{body_of, IsState}
+
+-- a moment's body behind a head that states this length
+abbrev pub checkpoint_stating : ℕ → Moment → List ℕ
+checkpoint_stating count m = magic ++ (to_be_bytes w32 count ++ body.put (body_of m))
 
 -- the checkpoint of a moment was written
 pub record IsWritten (m : Moment) (before now : Option (List ℕ)) : Type 0 where

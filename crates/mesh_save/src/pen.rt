@@ -1,6 +1,7 @@
 //! What writes a body: the same functions measure it first, and then write it to a sink.
 ghost use Rattle.std.specs.Prelude.{◌≡◌, ℕ, List, [], ◌++◌, false};
-ghost use Rattle.mesh_save.specs.Pens.{HasWritten, HasMeasured, measured_nothing, measured_both, written_nothing, written_both};
+ghost use Rattle.mesh_save.specs.Pens.{HasWritten, HasMeasured};
+ghost use Rattle.mesh_save.specs.PenLaws.{measured_nothing, measured_both, written_nothing, written_both};
 
 use arrayvec::ArrayVec;
 use mesh_io::{Sink, put_all};

@@ -1,16 +1,15 @@
 //! Writing the checkpoint of a moment.
-ghost use Rattle.std.specs.Prelude.{◌≡◌, ◌<◌, ◌≤◌, ◌↔◌, min, [], ◌++◌, true, false, OnOk, IsErrOf};
-ghost use Rattle.std.specs.Int.{w32, to_be_bytes};
+ghost use Rattle.std.specs.Prelude.{◌≡◌, ◌<◌, ◌≤◌, ◌↔◌, min, [], true, false, OnOk, IsErrOf};
 ghost use Rattle.mesh_text.specs.Schedule.{world_of};
 ghost use Rattle.mesh_run.specs.Causes.{HasCauseIf};
 ghost use Rattle.mesh_checkpoint.specs.declared.limits.TheConstants as limits;
 ghost use Rattle.mesh_checkpoint.specs.Checkpoint as model;
 ghost use Rattle.mesh_checkpoint.specs.Heads.{AreSums};
-ghost use Rattle.mesh_checkpoint.specs.State.{magic, body_length};
+ghost use Rattle.mesh_checkpoint.specs.State.{body_length};
 ghost use Rattle.mesh_checkpoint.specs.Points.{head_of, body_of, IsTooLong};
 ghost use Rattle.mesh_save.specs.declared.saving.SaveError.TheVariants as errors;
 ghost use Rattle.mesh_save.specs.Pens.{IsPut, most_counted};
-ghost use Rattle.mesh_save.specs.Saved.{IsWritten, IsCut};
+ghost use Rattle.mesh_save.specs.Saved.{checkpoint_stating, IsWritten, IsCut};
 
 use crate::body::put_body;
 use crate::fields::put32;
@@ -50,8 +49,7 @@ fn measure(point: &Point<World>) -> u64
 
 // The checkpoint of a moment, whose body has so many bytes.
 fn put_checkpoint<P: Pen>(pen: &mut P, point: &Point<World>, length: u64)
-    ensures { P.wrote pen.old
-        (magic ++ (to_be_bytes w32 length ++ model.body.put (body_of point.now))) pen.new }
+    ensures { P.wrote pen.old (checkpoint_stating length point.now) pen.new }
 {
     pen.put(b"AWN1");
     put32(pen, length);
@@ -62,8 +60,8 @@ fn put_checkpoint<P: Pen>(pen: &mut P, point: &Point<World>, length: u64)
 fn write_gathered<S: Sink>(quill: &mut Quill<S>, point: &Point<World>, length: u64)
     requires sound { quill.old.failed ≡ false }
     requires nothing { quill.old.gathered.items ≡ [] }
-    ensures { IsPut (magic ++ (to_be_bytes w32 length ++ model.body.put (body_of point.now)))
-        quill.new.failed (S.held quill.old.out) (S.held quill.new.out)
+    ensures { IsPut (checkpoint_stating length point.now) quill.new.failed
+        (S.held quill.old.out) (S.held quill.new.out)
         (S.faults quill.old.out) (S.faults quill.new.out) }
 {
     put_checkpoint(quill, point, length);
@@ -82,8 +80,8 @@ fn write_through<'s, O: Sink, L: Loan>(
     requires name { out.ghost_name ≡ L.name }
     requires start { O.held out.now ≡ L.start }
     ensures same { result.ghost_name ≡ out.entry.ghost_name }
-    ensures put { IsPut (magic ++ (to_be_bytes w32 length ++ model.body.put (body_of point.now)))
-        failed.new (O.held out.entry.now) (O.held result.now)
+    ensures put { IsPut (checkpoint_stating length point.now) failed.new
+        (O.held out.entry.now) (O.held result.now)
         (O.faults out.entry.now) (O.faults result.now) }
 {
     let through: Through<'s, O, L> = Through::new(out);
@@ -105,8 +103,8 @@ fn write_through<'s, O: Sink, L: Loan>(
 
 // Writes it to a sink: whether that has failed.
 fn write_out<O: Sink>(point: &Point<World>, length: u64, out: &mut O) -> bool
-    ensures { IsPut (magic ++ (to_be_bytes w32 length ++ model.body.put (body_of point.now)))
-        result (O.held out.old) (O.held out.new) (O.faults out.old) (O.faults out.new) }
+    ensures { IsPut (checkpoint_stating length point.now) result
+        (O.held out.old) (O.held out.new) (O.faults out.old) (O.faults out.new) }
 {
     let mut failed = false;
     let _out = write_through::<O, Brand>(point, length, out, &mut failed);

@@ -3,12 +3,13 @@ use Rattle.std.specs.FinSet as sets
 use Rattle.std.proofs.lemmas.List.{length-map}
 use Rattle.aodv_asked.specs.Requests.{ids_below}
 use Rattle.aodv_model.specs.Pairs.{pairs_in}
+use Rattle.aodv_model.proofs.PairKeys.{none_before, all_before}
 use Rattle.mesh_save.specs.Links.{link_of}
-use Rattle.mesh_save.proofs.Rows.{rows_none, rows_all, rows_count}
+use Rattle.mesh_save.proofs.Rows.{rows_count}
 use Rattle.mesh_save.proofs.air.count_links.Goals as goal
 
 pub loop-a-init : goal.loop-a-init
-loop-a-init c = (sym (ap length (rows_none c.args.radio.now.ever)), omega arith)
+loop-a-init c = (sym (ap length (none_before c.args.radio.now.ever)), omega arith)
 
 pub loop-a-preserved : goal.loop-a-preserved
 loop-a-preserved c =
@@ -22,5 +23,5 @@ pub returns : goal.returns
 returns c =
     let ever = c.args.radio.now.ever in
     let are = (c.count-count.ensures.linked).earlier in
-    let each : (p : ℕ × ℕ) → sets.contains ever p ≡ true → p.0 < c.loop-a.a = λ p is. let h = are p is in omega (arith, h.0, h.1, c.requires.size, c.loop-a-test.false) in
-    c.loop-a.invariant.0 ∙ ap length (rows_all ever c.loop-a.a each) ∙ sym (length-map (pairs_in ever) (link_of c.args.radio.now.links))
+    let each : (a b : ℕ) → sets.contains ever (a, b) ≡ true → a < c.loop-a.a = λ a b is. let h = are (a, b) is in omega (arith, h.0, h.1, c.requires.size, c.loop-a-test.false) in
+    c.loop-a.invariant.0 ∙ ap length (all_before ever c.loop-a.a each) ∙ sym (length-map (pairs_in ever) (link_of c.args.radio.now.links))

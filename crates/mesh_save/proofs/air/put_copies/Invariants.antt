@@ -1,6 +1,6 @@
 use Rattle.std.proofs.Common.{◌-◌}
 use Rattle.mesh_save.specs.Bytes.{copy_bytes}
-use Rattle.mesh_save.proofs.Copies.{ArePut}
+use Rattle.mesh_save.proofs.Puts.{ArePut}
 use Rattle.mesh_save.proofs.air.put_copies.Given as goal
 
 abbrev pub invariant-copies : goal.invariant-copies

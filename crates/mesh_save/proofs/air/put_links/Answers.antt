@@ -20,5 +20,5 @@ returns g c =
     let ever = c.args.radio.now.ever in
     let links = c.args.radio.now.links in
     let are = (c.count-count.ensures.linked).earlier in
-    let each : (p : ℕ × ℕ) → sets.contains ever p ≡ true → p.0 < c.loop-a.a = λ p is. let h = are p is in omega (arith, h.0, h.1, c.requires.size, c.loop-a-test.false) in
+    let each : (a b : ℕ) → sets.contains ever (a, b) ≡ true → a < c.loop-a.a = λ a b is. let h = are (a, b) is in omega (arith, h.0, h.1, c.requires.size, c.loop-a-test.false) in
     rw (← c.count_links.ensures) (g.met.P.Pen.joins _ _ _ _ _ c.put16.ensures (all_mapped_rows g.P.Pen.wrote link_bytes (link_of links) ever c.loop-a.a _ _ each c.loop-a.invariant))

@@ -2,12 +2,13 @@ use Rattle.std.proofs.Common.{◌≡◌, ◌<◌, ◌≤◌, ◌^◌, ap, sym, �
 use Rattle.std.specs.FinSet as sets
 use Rattle.std.proofs.lemmas.Bool.{cases_lt}
 use Rattle.aodv_model.specs.Cores.{next_request_id}
+use Rattle.aodv_model.proofs.PairKeys.{none_before, all_before}
 use Rattle.aodv_asked.proofs.Listed.{seen_below}
-use Rattle.mesh_save.proofs.Rows.{rows_none, rows_all, rows_count, ids_few}
+use Rattle.mesh_save.proofs.Rows.{rows_count, ids_few}
 use Rattle.mesh_save.proofs.requests.count_asked.Goals as goal
 
 pub loop-origin-init : goal.loop-origin-init
-loop-origin-init c = (sym (ap length (rows_none c.args.asked.now.pairs)), omega arith, λ o lt. absurd (omega (arith, lt)))
+loop-origin-init c = (sym (ap length (none_before c.args.asked.now.pairs)), omega arith, λ o lt. absurd (omega (arith, lt)))
 
 pub overflow_add-count : goal.overflow_add-count
 overflow_add-count c =
@@ -29,8 +30,8 @@ loop-origin-preserved c =
 pub returns-clause-count : goal.returns-clause-count
 returns-clause-count c =
     let pairs = c.args.asked.now.pairs in
-    let each : (p : ℕ × ℕ) → sets.contains pairs p ≡ true → p.0 < c.loop-origin.origin = λ p here. let lt = c.nodes-nodes.ensures.within p.0 p.1 here in omega (arith, lt, c.loop-origin-test.false) in
-    c.loop-origin.invariant.0 ∙ ap length (rows_all pairs c.loop-origin.origin each)
+    let each : (o id : ℕ) → sets.contains pairs (o, id) ≡ true → o < c.loop-origin.origin = λ o id here. let lt = c.nodes-nodes.ensures.within o id here in omega (arith, lt, c.loop-origin-test.false) in
+    c.loop-origin.invariant.0 ∙ ap length (all_before pairs c.loop-origin.origin each)
 
 pub returns-clause-ids : goal.returns-clause-ids
 returns-clause-ids c = λ p here.

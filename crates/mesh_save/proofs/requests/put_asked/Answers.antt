@@ -18,5 +18,5 @@ loop-origin-preserved g c =
 pub returns-clause-bytes : goal.returns-clause-bytes
 returns-clause-bytes g c =
     let pairs = c.args.asked.now.pairs in
-    let each : (p : ℕ × ℕ) → sets.contains pairs p ≡ true → p.0 < c.loop-origin.origin = λ p here. let lt = (c.count_asked.ensures.ids p here).0 in omega (arith, lt, c.loop-origin-test.false) in
+    let each : (o id : ℕ) → sets.contains pairs (o, id) ≡ true → o < c.loop-origin.origin = λ o id here. let lt = (c.count_asked.ensures.ids (o, id) here).0 in omega (arith, lt, c.loop-origin-test.false) in
     rw (← c.count_asked.ensures.count) (g.met.P.Pen.joins _ _ _ _ _ c.put32.ensures (all_rows g.P.Pen.wrote request_bytes pairs c.loop-origin.origin _ _ each c.loop-origin.invariant))

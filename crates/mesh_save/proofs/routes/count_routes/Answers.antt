@@ -1,7 +1,8 @@
 use Rattle.std.proofs.Common.{◌≡◌, ap, sym, ◌∙◌, length, arith}
 use Rattle.std.specs.Prelude.{is_some}
 use Rattle.std.specs.FinMap as maps
-use Rattle.mesh_save.proofs.Keys.{below_none, count_more, at_most_one}
+use Rattle.aodv_model.proofs.Keys.{below_none}
+use Rattle.mesh_save.proofs.Keys.{count_more, at_most_one}
 use Rattle.mesh_save.proofs.Tables.{routes_count}
 use Rattle.mesh_save.proofs.routes.count_routes.Goals as goal
 

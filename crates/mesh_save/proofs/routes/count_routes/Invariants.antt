@@ -1,5 +1,5 @@
 use Rattle.std.proofs.Common.{◌≡◌, ◌≤◌, length}
-use Rattle.mesh_save.proofs.Keys.{below}
+use Rattle.aodv_model.proofs.Keys.{below}
 use Rattle.mesh_save.proofs.routes.count_routes.Given as goal
 
 abbrev pub invariant-loop-d : goal.invariant-loop-d

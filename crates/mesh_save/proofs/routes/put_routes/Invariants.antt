@@ -5,7 +5,7 @@ use Rattle.aodv_entry.specs.declared.entry.Entry.{Entry}
 use Rattle.mesh_checkpoint.specs.Points.{route_of}
 use Rattle.mesh_save.specs.Bytes.{route_bytes}
 use Rattle.mesh_save.specs.Narrow.{IsNarrowEntry}
-use Rattle.mesh_save.proofs.Keys.{below}
+use Rattle.aodv_model.proofs.Keys.{below}
 use Rattle.mesh_save.proofs.routes.put_routes.Given as goal
 
 abbrev pub invariant-loop-d : goal.invariant-loop-d

@@ -1,5 +1,5 @@
 use Rattle.std.proofs.Common.{◌≡◌, ◌≤◌, length}
-use Rattle.mesh_save.proofs.Keys.{below}
+use Rattle.aodv_model.proofs.Keys.{below}
 use Rattle.mesh_save.proofs.store.count_waits.Given as goal
 
 abbrev pub invariant-loop-dest : goal.invariant-loop-dest

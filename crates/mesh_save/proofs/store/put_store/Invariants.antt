@@ -1,7 +1,7 @@
 use Rattle.std.specs.List.{flat_map}
 use Rattle.mesh_checkpoint.specs.Points.{waits_of}
 use Rattle.mesh_save.specs.Bytes.{waits_bytes}
-use Rattle.mesh_save.proofs.Keys.{below}
+use Rattle.aodv_model.proofs.Keys.{below}
 use Rattle.mesh_save.proofs.store.put_store.Given as goal
 
 abbrev pub invariant-loop-dest : goal.invariant-loop-dest

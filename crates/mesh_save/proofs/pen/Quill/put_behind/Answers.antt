@@ -1,5 +1,5 @@
 use Rattle.std.proofs.Common.{false, []}
-use Rattle.mesh_save.specs.Pens.{written_both}
+use Rattle.mesh_save.specs.PenLaws.{written_both}
 use Rattle.mesh_save.proofs.pen.Quill.put_behind.Goals as goal
 
 pub returns-then-not-self : goal.returns-then-not-self
