@@ -191,10 +191,10 @@ nodes_total mesh size (n ∷ nodes) fit written =
 
 -- the data of the nodes and the radio that were read are those of the world in the checkpoint
 pub data_agree : (mesh : Nodes) (nodes : List NodeSeen) (radio : RadioState) (w : model.World) → w.nodes ≡ map listed nodes → w.copies ≡ radio.flying
-    → length nodes ≡ length mesh → AllByRecursion (λ n. n.size ≡ length mesh) nodes → all_fit (model.node (length mesh)).fits w.nodes ≡ true → AreWritten mesh nodes radio.flying
+    → length nodes ≡ length mesh → all_fit (model.node (length mesh)).fits w.nodes ≡ true → AreWritten mesh nodes radio.flying
     → data_of (world_in mesh nodes radio) ≡ data_in_world w
 unfolding waiting queued in_flight world_in
-data_agree mesh nodes radio w nodes_are copies_are count sizes fit written =
+data_agree mesh nodes radio w nodes_are copies_are count fit written =
     let size : length (map (node_in mesh) nodes) ≡ length mesh = length-map nodes (node_in mesh) ∙ count in
     let stores : in_stores mesh (length (map (node_in mesh) nodes)) nodes ≡ in_stores mesh (length mesh) nodes = ap (λ k. in_stores mesh k nodes) size in
     let at_nodes : in_stores mesh (length mesh) nodes + in_queues mesh nodes ≡ sum_by data_at (map listed nodes) =

@@ -33,7 +33,7 @@ use Rattle.mesh_restore.proofs.Listings.{all_weaker}
 use Rattle.mesh_load.specs.declared.error.StateError.{StateError}
 use Rattle.mesh_load.specs.declared.error.StateError.TheVariants as errors
 use Rattle.mesh_load.specs.Errors.{after_reading}
-use Rattle.mesh_load.specs.Nodes.{AllFrom, IsSoundNodeAt, AreNodesRead, AreListed}
+use Rattle.mesh_load.specs.Nodes.{IsSoundNodeAt, AreNodesRead, AreListed}
 use Rattle.mesh_load.specs.Loading.{AreInPlace, IsUnsoundWorld}
 use Rattle.mesh_load.specs.Parts.{IsMade, IsRefusalOf, IsUnsoundNode, IsFitting, IsWorldFrom}
 use Rattle.mesh_load.proofs.NodeLists.{at_index}
@@ -227,10 +227,6 @@ pub kept_of : (mesh : Nodes) (variant : Variant) (bytes : List ℕ) (steps : ℕ
 kept_of mesh variant bytes steps nodes in_place radio apart behind rest end n count one two three placed between =
     are_kept mesh variant bytes steps nodes in_place radio apart (parts_read mesh variant bytes steps nodes in_place radio apart behind rest end n count one two three) placed between
 
-sizes_from : (variant : Variant) (size x : ℕ) (ns : List NodeSeen) → AllFrom (IsSoundNodeAt variant size) x ns → AllByRecursion (λ n. n.size ≡ size) ns
-sizes_from variant size x [] all = tt
-sizes_from variant size x (n ∷ ns) all = (((all.0).0).size_is, sizes_from variant size (x + 1) ns all.1)
-
 pub are_nodes : (mesh : Nodes) (variant : Variant) (lists : List Node) (nodes : List NodeSeen) → AreListed variant (length mesh) lists nodes → length nodes ≡ length mesh → AreNodesOf mesh variant nodes
 are_nodes mesh variant lists nodes l count = record {
   count = count;
@@ -260,7 +256,7 @@ fitting_kept mesh variant bytes steps nodes radio k fit = fitting_found (length 
 same_data : (mesh : Nodes) (variant : Variant) (bytes : List ℕ) (steps : ℕ) (nodes : List NodeSeen) (radio : RadioState) (k : AreKept mesh variant bytes steps nodes radio) → IsFitting (length mesh) k.found → AreWritten mesh nodes radio.flying
     → data_of (world_in mesh nodes radio) ≡ data_in_world k.found
 same_data mesh variant bytes steps nodes radio k fitting written =
-    data_agree mesh nodes radio k.found (k.listed_are).lists_are k.copies_are k.count (sizes_from variant (length mesh) 0 nodes (k.listed_are).each) (world_ranges (length mesh) k.found fitting.fits).1 written
+    data_agree mesh nodes radio k.found (k.listed_are).lists_are k.copies_are k.count (world_ranges (length mesh) k.found fitting.fits).1 written
 
 -- there are few enough data for a world
 pub few_data : (mesh : Nodes) (variant : Variant) (bytes : List ℕ) (steps : ℕ) (nodes : List NodeSeen) (radio : RadioState) → AreKept mesh variant bytes steps nodes radio → IfSome ((model.world (length mesh)).get bytes) (λ x. IsFitting (length mesh) x.0) → AreWritten mesh nodes radio.flying
