@@ -36,7 +36,7 @@ use Rattle.mesh_checkpoint.specs.declared.limits.TheConstants.{LONGEST_BODY, SUM
 use Rattle.mesh_checkpoint.specs.declared.body.Head.{Head}
 use Rattle.mesh_checkpoint.specs.Formats.{Format, number, put_maybe, maybe}
 use Rattle.mesh_checkpoint.specs.Checkpoint as table
-use Rattle.mesh_checkpoint.specs.Checkpoint.{Link, World, Body, has_nodes, link_key}
+use Rattle.mesh_checkpoint.specs.Checkpoint.{World, Body, has_nodes, link_key}
 use Rattle.mesh_checkpoint.specs.Points as points
 use Rattle.mesh_checkpoint.specs.Points.{head_of, links_of, copy_of, node_of, world_after, body_of}
 use Rattle.mesh_checkpoint.specs.Heads.{AreSums}
