@@ -1,6 +1,7 @@
 -- Events that the run chooses, one after another.
 use Rattle.std.proofs.Common.{◌≡◌, ℕ, suc, ◌+◌, ◌-◌, ◌<◌, ◌≤◌, Bool, List, [], ◌++◌, Option, Some, None, Result, Ok, Err, length, refl, sym, ap, subst, ◌∙◌, arith}
 use Rattle.std.specs.Io.KnownBytes.{Appends}
+use Rattle.mesh_base.specs.declared.events.Counter.{Counter}
 use Rattle.mesh_io.specs.Puts.{AppendsPrefix}
 use Rattle.mesh_model.specs.Worlds as worlds
 use Rattle.mesh_model.specs.Worlds.{Event, Outcome, Idle, Next}
@@ -44,7 +45,7 @@ auto_from-all most did m h = ap (λ n. auto_from n did m) (let z : most - did �
 auto_from-none : (most did : ℕ) (m : Moment) → did < most → None ≡ pick (world_of m) → auto_from (most - did) did m ≡ Ended [] did m
 auto_from-none most did m h e = auto_from-step most did m None h e
 
-nothing_more : (quiet : Bool) (m : Moment) (ran : AutoOutcome) (did : ℕ) (a : Option (List ℕ)) → ran ≡ Ended [] did m → IsAutoDone quiet ran m a a did
+pub nothing_more : (quiet : Bool) (m : Moment) (ran : AutoOutcome) (did : ℕ) (a : Option (List ℕ)) → ran ≡ Ended [] did m → IsAutoDone quiet ran m a a did
 nothing_more quiet m ran did a e = record { text = []; is = e; grown = shown_none quiet a }
 
 pub ends_all : (quiet : Bool) (most did : ℕ) (m : Moment) (a : Option (List ℕ)) → most ≤ did → IsAutoDone quiet (auto_from (most - did) did m) m a a did
@@ -55,7 +56,7 @@ ends_none quiet most did m a h e = nothing_more quiet m (auto_from (most - did) 
 
 -- ---- one event, and then the others
 
-text-before : (text : List ℕ) (ran : AutoOutcome) → text_of (before text ran) ≡ text ++ text_of ran
+pub text-before : (text : List ℕ) (ran : AutoOutcome) → text_of (before text ran) ≡ text ++ text_of ran
 text-before text (Ended others did after) = refl
 text-before text (AutoFull others n e field) = refl
 
@@ -85,7 +86,7 @@ moment_of_came m (Refused why) = m
 moment_of_came m (Full text n e field) = m
 
 -- an event that was done
-on_then : (quiet : Bool) (m n k : Moment) (e : Event) (text : List ℕ) (ran : Moment → AutoOutcome) (a b c : Option (List ℕ)) (r : Result ℕ Stop)
+pub on_then : (quiet : Bool) (m n k : Moment) (e : Event) (text : List ℕ) (ran : Moment → AutoOutcome) (a b c : Option (List ℕ)) (r : Result ℕ Stop)
     → (g : IsLineDone quiet (On text (stepped m e)) n a b) → IsAutoRun quiet n (ran n) k b c r → IsAutoRun quiet m (before text (ran (stepped m e))) k a c r
 unfolding stepped moment_of_came
 on_then quiet m n k e text ran a b c r g q =
@@ -101,41 +102,43 @@ then_goes quiet m n k e Idle others a b c r g q = on_then quiet m n k e (outcome
 then_goes quiet m n k e (worlds.Full x field) others a b c r g q = absurd (let h : Full [] m e field ≡ On g.text n = g.is in let P : ⊥ = cc in P)
 then_goes quiet m n k e (Next w i) others a b c r g q = on_then quiet m n k e (outcome_lines m.mesh e (Next w i)) others a b c r g q
 
+-- an event that was not done, or not written whole
+pub on_stops : (quiet : Bool) (m n p : Moment) (text : List ℕ) (ran : AutoOutcome) (a b : Option (List ℕ)) (t : Stop)
+    → IsLineStopped quiet m (On text p) n a b t → IsAutoRun quiet m (before text ran) n a b (Err t)
+on_stops quiet m n p text ran a b (stop.BadLine f) g = absurd (let h = g.0 in let P : ⊥ = cc in P)
+on_stops quiet m n p text ran a b (stop.Full event node field) g = absurd (let h : On text p ≡ Full g.text n (event_of event) field = g.is in let P : ⊥ = cc in P)
+on_stops quiet m n p text ran a b stop.WriteFault g =
+    let P : List ℕ → Type 0 = λ l. AppendsPrefix a b (output_if quiet l) in
+    subst P (sym (text-before text ran)) (front_more quiet a b text (text_of ran) g)
+on_stops quiet m n p text ran a b stop.NoMemory g =
+    let P : List ℕ → Type 0 = λ l. AppendsPrefix a b (output_if quiet l) in
+    subst P (sym (text-before text ran)) (front_more quiet a b text (text_of ran) g)
+
 ran_in : AutoOutcome → LineOutcome → AutoOutcome
 ran_in d (On text n) = d
 ran_in d (Refused why) = d
 ran_in d (Full text n e field) = AutoFull text n e field
 
--- an event that was not done, or not written whole
-then_stops : (quiet : Bool) (m n : Moment) (e : Event) (o : Outcome) (others : Moment → AutoOutcome) (a b : Option (List ℕ)) (t : Stop)
-    → IsLineStopped quiet m (outcome_by m e o) n a b t → IsAutoRun quiet m (done_then m e o others) n a b (Err t)
+-- one that is refused for a full counter
+pub full_stops : (quiet : Bool) (m n : Moment) (e : Event) (full : Counter) (a b : Option (List ℕ)) (t : Stop)
+    → IsLineStopped quiet m (Full [] m e full) n a b t → IsAutoRun quiet m (AutoFull [] m e full) n a b (Err t)
 unfolding ran_in
-then_stops quiet m n e Idle others a b (stop.BadLine f) g = absurd (let h = g.0 in let P : ⊥ = cc in P)
-then_stops quiet m n e Idle others a b (stop.Full event node field) g = absurd (let h : On (outcome_lines m.mesh e Idle) (stepped m e) ≡ Full g.text n (event_of event) field = g.is in let P : ⊥ = cc in P)
-then_stops quiet m n e Idle others a b stop.WriteFault g =
-    let P : List ℕ → Type 0 = λ l. AppendsPrefix a b (output_if quiet l) in
-    subst P (sym (text-before (outcome_lines m.mesh e Idle) (others (stepped m e)))) (front_more quiet a b (outcome_lines m.mesh e Idle) _ g)
-then_stops quiet m n e Idle others a b stop.NoMemory g =
-    let P : List ℕ → Type 0 = λ l. AppendsPrefix a b (output_if quiet l) in
-    subst P (sym (text-before (outcome_lines m.mesh e Idle) (others (stepped m e)))) (front_more quiet a b (outcome_lines m.mesh e Idle) _ g)
-then_stops quiet m n e (worlds.Full x full) others a b (stop.BadLine f) g = absurd (let h = g.0 in let P : ⊥ = cc in P)
-then_stops quiet m n e (worlds.Full x full) others a b (stop.Full event node field) g = record {
+full_stops quiet m n e full a b (stop.BadLine f) g = absurd (let h = g.0 in let P : ⊥ = cc in P)
+full_stops quiet m n e full a b (stop.Full event node field) g = record {
   text = g.text;
   is = ap (ran_in (AutoFull [] m e full)) g.is;
   refused = g.refused;
   grown = g.grown;
   still = g.still;
 }
-then_stops quiet m n e (worlds.Full x full) others a b stop.WriteFault g = g
-then_stops quiet m n e (worlds.Full x full) others a b stop.NoMemory g = g
-then_stops quiet m n e (Next w i) others a b (stop.BadLine f) g = absurd (let h = g.0 in let P : ⊥ = cc in P)
-then_stops quiet m n e (Next w i) others a b (stop.Full event node field) g = absurd (let h : On (outcome_lines m.mesh e (Next w i)) (stepped m e) ≡ Full g.text n (event_of event) field = g.is in let P : ⊥ = cc in P)
-then_stops quiet m n e (Next w i) others a b stop.WriteFault g =
-    let P : List ℕ → Type 0 = λ l. AppendsPrefix a b (output_if quiet l) in
-    subst P (sym (text-before (outcome_lines m.mesh e (Next w i)) (others (stepped m e)))) (front_more quiet a b (outcome_lines m.mesh e (Next w i)) _ g)
-then_stops quiet m n e (Next w i) others a b stop.NoMemory g =
-    let P : List ℕ → Type 0 = λ l. AppendsPrefix a b (output_if quiet l) in
-    subst P (sym (text-before (outcome_lines m.mesh e (Next w i)) (others (stepped m e)))) (front_more quiet a b (outcome_lines m.mesh e (Next w i)) _ g)
+full_stops quiet m n e full a b stop.WriteFault g = g
+full_stops quiet m n e full a b stop.NoMemory g = g
+
+then_stops : (quiet : Bool) (m n : Moment) (e : Event) (o : Outcome) (others : Moment → AutoOutcome) (a b : Option (List ℕ)) (t : Stop)
+    → IsLineStopped quiet m (outcome_by m e o) n a b t → IsAutoRun quiet m (done_then m e o others) n a b (Err t)
+then_stops quiet m n e Idle others a b t g = on_stops quiet m n (stepped m e) (outcome_lines m.mesh e Idle) (others (stepped m e)) a b t g
+then_stops quiet m n e (worlds.Full x full) others a b t g = full_stops quiet m n e full a b t g
+then_stops quiet m n e (Next w i) others a b t g = on_stops quiet m n (stepped m e) (outcome_lines m.mesh e (Next w i)) (others (stepped m e)) a b t g
 
 -- one event more
 pub ran_goes : (quiet : Bool) (most did : ℕ) (m n k : Moment) (e : Event) (a b c : Option (List ℕ)) (r : Result ℕ Stop) → did < most → Some e ≡ pick (world_of m)
@@ -153,20 +156,7 @@ ran_stops quiet most did m n e a b t h p g =
 
 -- ---- the line of chosen events
 
-came-chooses : (m s : Moment) (count : ℕ) → s ≡ started m → outcome_of_line m (Chooses count) ≡ outcome_of_auto (line (words_of m.mesh (Chooses count))) (auto_from count 0 s)
-unfolding outcome_of_line
-came-chooses m s count same = ap (λ k. outcome_of_auto (line (words_of m.mesh (Chooses count))) (auto_from count 0 k)) (sym same)
-
-pub auto_goes : (quiet : Bool) (m s n k : Moment) (count did : ℕ) (a b c d : Option (List ℕ)) → s ≡ started m → Appends a b (output_if quiet (line (words_of m.mesh (Chooses count))))
-    → IsAutoDone quiet (auto_from count 0 s) n b c did → Appends c d (output_if quiet (auto_end did)) → k ≡ counted n → IsLineDone quiet (outcome_of_line m (Chooses count)) k a d
-auto_goes quiet m s n k count did a b c d same p q r next =
-    let w : List ℕ = line (words_of m.mesh (Chooses count)) in
-    record {
-      text = w ++ q.text ++ auto_end did;
-      is = came-chooses m s count same ∙ ap (outcome_of_auto w) q.is ∙ ap (λ x. On (w ++ q.text ++ auto_end did) x) (sym next);
-      grown = shown_join quiet a c d (w ++ q.text) (auto_end did) (shown_join quiet a b c w q.text p q.grown) r;
-    }
-
+-- here `k` is what the line comes to, and `ran` the events, which the run chose from moment s on
 front_in : (quiet : Bool) (w : List ℕ) (ran : AutoOutcome) (a b c : Option (List ℕ)) → Appends a b (output_if quiet w) → AppendsPrefix b c (output_if quiet (text_of ran))
     → AppendsPrefix a c (output_if quiet (text_in (outcome_of_auto w ran)))
 front_in quiet w (Ended others did after) a b c p q = front_more quiet a c (w ++ others) (auto_end did) (front_join quiet a b c w others p q)
@@ -176,44 +166,73 @@ front_at : (quiet : Bool) (w : List ℕ) (ran : AutoOutcome) (a b : Option (List
 front_at quiet w (Ended others did after) a b p = front_more quiet a b (w ++ others) (auto_end did) (front_more quiet a b w others p)
 front_at quiet w (AutoFull others n e field) a b p = front_more quiet a b w others p
 
+pub line_goes : (quiet : Bool) (k : LineOutcome) (w : List ℕ) (ran : AutoOutcome) (n next : Moment) (did : ℕ) (a b c d : Option (List ℕ)) → k ≡ outcome_of_auto w ran → Appends a b (output_if quiet w)
+    → IsAutoDone quiet ran n b c did → Appends c d (output_if quiet (auto_end did)) → next ≡ counted n → IsLineDone quiet k next a d
+line_goes quiet k w ran n next did a b c d is p q r counts = record {
+  text = w ++ q.text ++ auto_end did;
+  is = is ∙ ap (outcome_of_auto w) q.is ∙ ap (λ x. On (w ++ q.text ++ auto_end did) x) (sym counts);
+  grown = shown_join quiet a c d (w ++ q.text) (auto_end did) (shown_join quiet a b c w q.text p q.grown) r;
+}
+
 -- the line itself is not written whole
+pub line_front : (quiet : Bool) (k : LineOutcome) (w : List ℕ) (ran : AutoOutcome) (a b : Option (List ℕ)) → k ≡ outcome_of_auto w ran → AppendsPrefix a b (output_if quiet w) → AppendsPrefix a b (output_if quiet (text_in k))
+line_front quiet k w ran a b is p =
+    let P : LineOutcome → Type 0 = λ x. AppendsPrefix a b (output_if quiet (text_in x)) in
+    subst P (sym is) (front_at quiet w ran a b p)
+
+-- nor the line after the events
+pub line_end_front : (quiet : Bool) (k : LineOutcome) (w : List ℕ) (ran : AutoOutcome) (n : Moment) (did : ℕ) (a b c d : Option (List ℕ)) → k ≡ outcome_of_auto w ran → Appends a b (output_if quiet w)
+    → IsAutoDone quiet ran n b c did → AppendsPrefix c d (output_if quiet (auto_end did)) → AppendsPrefix a d (output_if quiet (text_in k))
+line_end_front quiet k w ran n did a b c d is p q r =
+    let P : LineOutcome → Type 0 = λ x. AppendsPrefix a d (output_if quiet (text_in x)) in
+    subst P (sym (is ∙ ap (outcome_of_auto w) q.is)) (front_join quiet a c d (w ++ q.text) (auto_end did) (shown_join quiet a b c w q.text p q.grown) r)
+
+-- an event was not done, or not written whole
+pub line_stops : (quiet : Bool) (m s : Moment) (k : LineOutcome) (w : List ℕ) (ran : AutoOutcome) (n : Moment) (a b c : Option (List ℕ)) (t : Stop) → s ≡ started m → k ≡ outcome_of_auto w ran
+    → Appends a b (output_if quiet w) → IsAutoRun quiet s ran n b c (Err t) → IsLineStopped quiet m k n a c t
+line_stops quiet m s k w ran n a b c (stop.BadLine f) same is p q = absurd q
+line_stops quiet m s k w ran n a b c (stop.Full event node field) same is p q = record {
+  text = w ++ q.text;
+  is = is ∙ ap (outcome_of_auto w) q.is;
+  refused = q.refused;
+  grown = shown_join quiet a b c w q.text p q.grown;
+  still = record {
+    event = subst (λ x. IsEvent (length x.mesh) (event_of event)) same q.still.event;
+    mesh = q.still.mesh ∙ ap (λ x. x.mesh) same;
+    lines = q.still.lines ∙ ap (λ x. x.lines) same;
+  };
+}
+line_stops quiet m s k w ran n a b c stop.WriteFault same is p q =
+    let P : LineOutcome → Type 0 = λ x. AppendsPrefix a c (output_if quiet (text_in x)) in
+    subst P (sym is) (front_in quiet w ran a b c p q)
+line_stops quiet m s k w ran n a b c stop.NoMemory same is p q =
+    let P : LineOutcome → Type 0 = λ x. AppendsPrefix a c (output_if quiet (text_in x)) in
+    subst P (sym is) (front_in quiet w ran a b c p q)
+
+-- ---- the same of the schedule's run
+
+came-chooses : (m s : Moment) (count : ℕ) → s ≡ started m → outcome_of_line m (Chooses count) ≡ outcome_of_auto (line (words_of m.mesh (Chooses count))) (auto_from count 0 s)
+unfolding outcome_of_line
+came-chooses m s count same = ap (λ k. outcome_of_auto (line (words_of m.mesh (Chooses count))) (auto_from count 0 k)) (sym same)
+
+pub auto_goes : (quiet : Bool) (m s n k : Moment) (count did : ℕ) (a b c d : Option (List ℕ)) → s ≡ started m → Appends a b (output_if quiet (line (words_of m.mesh (Chooses count))))
+    → IsAutoDone quiet (auto_from count 0 s) n b c did → Appends c d (output_if quiet (auto_end did)) → k ≡ counted n → IsLineDone quiet (outcome_of_line m (Chooses count)) k a d
+auto_goes quiet m s n k count did a b c d same p q r next =
+    line_goes quiet (outcome_of_line m (Chooses count)) (line (words_of m.mesh (Chooses count))) (auto_from count 0 s) n k did a b c d (came-chooses m s count same) p q r next
+
 pub auto_front : (quiet : Bool) (m s : Moment) (count : ℕ) (a b : Option (List ℕ)) → s ≡ started m → AppendsPrefix a b (output_if quiet (line (words_of m.mesh (Chooses count))))
     → AppendsPrefix a b (output_if quiet (text_in (outcome_of_line m (Chooses count))))
 auto_front quiet m s count a b same p =
-    let P : LineOutcome → Type 0 = λ k. AppendsPrefix a b (output_if quiet (text_in k)) in
-    subst P (sym (came-chooses m s count same)) (front_at quiet (line (words_of m.mesh (Chooses count))) (auto_from count 0 s) a b p)
+    line_front quiet (outcome_of_line m (Chooses count)) (line (words_of m.mesh (Chooses count))) (auto_from count 0 s) a b (came-chooses m s count same) p
 
--- nor the line after the events
 pub auto_end_front : (quiet : Bool) (m s n : Moment) (count did : ℕ) (a b c d : Option (List ℕ)) → s ≡ started m
     → Appends a b (output_if quiet (line (words_of m.mesh (Chooses count)))) → IsAutoDone quiet (auto_from count 0 s) n b c did → AppendsPrefix c d (output_if quiet (auto_end did))
     → AppendsPrefix a d (output_if quiet (text_in (outcome_of_line m (Chooses count))))
 auto_end_front quiet m s n count did a b c d same p q r =
-    let w : List ℕ = line (words_of m.mesh (Chooses count)) in
-    let P : LineOutcome → Type 0 = λ k. AppendsPrefix a d (output_if quiet (text_in k)) in
-    subst P (sym (came-chooses m s count same ∙ ap (outcome_of_auto w) q.is))
-    (front_join quiet a c d (w ++ q.text) (auto_end did) (shown_join quiet a b c w q.text p q.grown) r)
+    line_end_front quiet (outcome_of_line m (Chooses count)) (line (words_of m.mesh (Chooses count))) (auto_from count 0 s) n did a b c d (came-chooses m s count same) p q r
 
--- an event was not done, or not written whole
 pub auto_stops : (quiet : Bool) (m s n : Moment) (count : ℕ) (a b c : Option (List ℕ)) (t : Stop) → s ≡ started m
     → Appends a b (output_if quiet (line (words_of m.mesh (Chooses count)))) → IsAutoRun quiet s (auto_from count 0 s) n b c (Err t)
     → IsLineStopped quiet m (outcome_of_line m (Chooses count)) n a c t
-auto_stops quiet m s n count a b c (stop.BadLine f) same p q = absurd q
-auto_stops quiet m s n count a b c (stop.Full event node field) same p q =
-    let w : List ℕ = line (words_of m.mesh (Chooses count)) in
-    record {
-      text = w ++ q.text;
-      is = came-chooses m s count same ∙ ap (outcome_of_auto w) q.is;
-      refused = q.refused;
-      grown = shown_join quiet a b c w q.text p q.grown;
-      still = record {
-        event = subst (λ k. IsEvent (length k.mesh) (event_of event)) same q.still.event;
-        mesh = q.still.mesh ∙ ap (λ k. k.mesh) same;
-        lines = q.still.lines ∙ ap (λ k. k.lines) same;
-      };
-    }
-auto_stops quiet m s n count a b c stop.WriteFault same p q =
-    let P : LineOutcome → Type 0 = λ k. AppendsPrefix a c (output_if quiet (text_in k)) in
-    subst P (sym (came-chooses m s count same)) (front_in quiet (line (words_of m.mesh (Chooses count))) (auto_from count 0 s) a b c p q)
-auto_stops quiet m s n count a b c stop.NoMemory same p q =
-    let P : LineOutcome → Type 0 = λ k. AppendsPrefix a c (output_if quiet (text_in k)) in
-    subst P (sym (came-chooses m s count same)) (front_in quiet (line (words_of m.mesh (Chooses count))) (auto_from count 0 s) a b c p q)
+auto_stops quiet m s n count a b c t same p q =
+    line_stops quiet m s (outcome_of_line m (Chooses count)) (line (words_of m.mesh (Chooses count))) (auto_from count 0 s) n a b c t same (came-chooses m s count same) p q

@@ -1,20 +1,13 @@
 -- The first line of some bytes, with its LF, is complete by itself.
-use Rattle.std.proofs.Common.{◌≡◌, ℕ, ◌≤◌, Bool, true, false, cond, eqb, List, [], ◌∷◌, ◌++◌, length, length-append, refl, sym, ap, ◌∙◌, arith}
+use Rattle.std.proofs.Common.{◌≡◌, ℕ, Bool, true, false, cond, eqb, List, [], ◌∷◌, ◌++◌, length, refl, sym, ap, ◌∙◌, arith}
 use Rattle.std.specs.List.{onto_first}
 use Rattle.std.proofs.Math.Seq.{take_all}
 use Rattle.std.proofs.lemmas.Bool.Decides.{nat_tests}
-use Rattle.mesh_base.specs.declared.limits.TheConstants.{LONGEST_LINE}
 use Rattle.mesh_base.specs.Parts.{parts}
 use Rattle.mesh_io.specs.NextLines.{FirstLine, first_line, with_byte}
 use Rattle.mesh_io.specs.Cutting.{HasNoLf}
 use Rattle.mesh_io.proofs.FirstParts.{parts_past}
-use Rattle.mesh_grammar.specs.Lines.{Whole, pieces_of, pieces_of_input, complete, complete_parts}
-use Rattle.mesh_text.proofs.Seams.{short_pieces}
-use Rattle.mesh_report.proofs.Pieces.{piece_short}
-
--- the bytes of a line, its LF among them
-abbrev pub bytes_of : FirstLine → List ℕ
-bytes_of f = f.line ++ cond f.ends (10 ∷ []) []
+use Rattle.mesh_grammar.specs.Lines.{complete, complete_parts}
 
 is_lf : (b : ℕ) → eqb b 10 ≡ true → b ≡ 10
 is_lf b e = grind (arith, nat_tests)
@@ -55,11 +48,3 @@ open_complete bytes none =
     ∙ parts_past bytes (length bytes) (λ ends. absurd (let clash : true ≡ false = sym ends ∙ none in let P : ⊥ = cc in P))
     ∙ ap (λ l. l ∷ []) (take_all (length bytes) bytes (omega arith)) in
     ap complete_parts whole
-
--- a complete line is one piece
-pub ended_pieces : (bytes : List ℕ) → (first_line bytes).ends ≡ true → length (first_line bytes).line ≤ LONGEST_LINE
-    → pieces_of_input ((first_line bytes).line ++ 10 ∷ []) ≡ Whole (first_line bytes).line ∷ []
-unfolding pieces_of
-ended_pieces bytes ends short =
-    let l : List ℕ = (first_line bytes).line in
-    short_pieces (l ++ 10 ∷ []) (omega (arith, length-append l (10 ∷ []))) ∙ ap (pieces_of false) (ended_parts bytes ends) ∙ ap (λ p. p ∷ []) (piece_short l short)

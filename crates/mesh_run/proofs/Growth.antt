@@ -1,5 +1,5 @@
 -- By how much a line lets the sums and the steps grow.
-use Rattle.std.proofs.Common.{◌≡◌, inl, inr, if◌then◌else◌, ℕ, zero, suc, ◌+◌, ◌*◌, ◌≤◌, Bool, true, false, List, Option, Some, None, Result, Ok, Err, OnOk, length, is_some, refl, ap, subst, ◌∙◌, arith}
+use Rattle.std.proofs.Common.{◌≡◌, inl, inr, if◌then◌else◌, ℕ, zero, suc, ◌+◌, ◌*◌, ◌≤◌, Bool, true, false, List, Option, Some, None, Result, Ok, Err, OnOk, length, is_some, refl, ap, subst, arith}
 use Rattle.mesh_base.specs.declared.limits.TheConstants.{MOST_NODES, MOST_EVENTS}
 use Rattle.mesh_model.specs.Worlds as worlds
 use Rattle.mesh_model.specs.Worlds.{World, start, first_numbers, Event, Outcome, Idle, Next, Happening, Taken, CopyLost, CopyDoubled, Give, Turn}
@@ -126,58 +126,48 @@ grown_event m e sized =
 
 -- from m to n by at most so many events
 record Grows (m n : Moment) (most : ℕ) : Type 0 where
-  grown : IsGrown m n
+  grown : IsSized m → IsGrown m n
   lines : n.lines ≡ m.lines
   steps : n.steps ≤ m.steps + most
-
-grows_none : (m : Moment) (most : ℕ) → Grows m m most
-grows_none m most = record { grown = grown_same m m refl refl refl; lines = refl; steps = omega arith }
-
-grows_event : (m : Moment) (e : Event) → IsSized m → Grows m (stepped m e) 1
-unfolding stepped
-grows_event m e sized = record { grown = grown_event m e sized; lines = refl; steps = omega arith }
-
-grows_both : (m n k : Moment) (a b : ℕ) → Grows m n a → Grows n k b → Grows m k (a + b)
-grows_both m n k a b p q =
-    let ps = p.steps in let qs = q.steps in
-    record { grown = grown_both m n k p.grown q.grown; lines = q.lines ∙ p.lines; steps = omega arith }
-
--- ---- chosen events
 
 GrowsTo : Moment → auto.AutoOutcome → ℕ → Type 0
 GrowsTo m (auto.Ended text did n) most = Grows m n most
 GrowsTo m (auto.Full text n e field) most = Unit {0}
 
-grows_before : (m : Moment) (e : Event) (text : List ℕ) (r : auto.AutoOutcome) (most : ℕ) → IsSized m → GrowsTo (stepped m e) r most → GrowsTo m (auto.before text r) (suc most)
-unfolding GrowsTo
-grows_before m e text (auto.Ended others did n) most sized g =
-    let both = grows_both m (stepped m e) n 1 most (grows_event m e sized) g in
-    let steps = both.steps in
-    record { grown = both.grown; lines = both.lines; steps = omega arith }
-grows_before m e text (auto.Full others n f field) most sized g = tt
+-- ---- chosen events
 
-grows_done : (m : Moment) (e : Event) (o : Outcome) (others : Moment → auto.AutoOutcome) (most : ℕ) → IsSized m → GrowsTo (stepped m e) (others (stepped m e)) most → GrowsTo m (auto.done_then m e o others) (suc most)
-unfolding GrowsTo
-grows_done m e Idle others most sized g = grows_before m e _ (others (stepped m e)) most sized g
-grows_done m e (worlds.Full x field) others most sized g = tt
-grows_done m e (Next w happening) others most sized g = grows_before m e _ (others (stepped m e)) most sized g
+grows_none : (m : Moment) (most : ℕ) → Grows m m most
+grows_none m most = record { grown = λ sized. grown_same m m refl refl refl; lines = refl; steps = omega arith }
 
-grows_chosen : (m : Moment) (did : ℕ) (o : Option Event) (others : Moment → auto.AutoOutcome) (most : ℕ) → IsSized m → ((n : Moment) → IsSized n → GrowsTo n (others n) most) → GrowsTo m (auto.chosen_then m did o others) (suc most)
-unfolding GrowsTo
-grows_chosen m did None others most sized g = grows_none m (suc most)
-grows_chosen m did (Some e) others most sized g = grows_done m e (outcome_at m e) others most sized (g (stepped m e) (stepped_sized m e sized))
+grows_before : (m : Moment) (e : Event) (text : List ℕ) (r : auto.AutoOutcome) (most : ℕ) → GrowsTo (stepped m e) r most → GrowsTo m (auto.before text r) (suc most)
+unfolding GrowsTo stepped
+grows_before m e text (auto.Ended others did n) most g =
+    let steps = g.steps in
+    record { grown = λ sized. grown_both m (stepped m e) n (grown_event m e sized) (g.grown (stepped_sized m e sized)); lines = g.lines; steps = omega arith }
+grows_before m e text (auto.Full others n f field) most g = tt
 
-grows_auto : (most did : ℕ) (m : Moment) → IsSized m → GrowsTo m (auto.auto_from most did m) most
+grows_done : (m : Moment) (e : Event) (o : Outcome) (others : Moment → auto.AutoOutcome) (most : ℕ) → GrowsTo (stepped m e) (others (stepped m e)) most → GrowsTo m (auto.done_then m e o others) (suc most)
+unfolding GrowsTo
+grows_done m e Idle others most g = grows_before m e _ (others (stepped m e)) most g
+grows_done m e (worlds.Full x field) others most g = tt
+grows_done m e (Next w happening) others most g = grows_before m e _ (others (stepped m e)) most g
+
+grows_chosen : (m : Moment) (did : ℕ) (o : Option Event) (others : Moment → auto.AutoOutcome) (most : ℕ) → ((n : Moment) → GrowsTo n (others n) most) → GrowsTo m (auto.chosen_then m did o others) (suc most)
+unfolding GrowsTo
+grows_chosen m did None others most g = grows_none m (suc most)
+grows_chosen m did (Some e) others most g = grows_done m e (outcome_at m e) others most (g (stepped m e))
+
+grows_auto : (most did : ℕ) (m : Moment) → GrowsTo m (auto.auto_from most did m) most
 unfolding GrowsTo auto.auto_from
-grows_auto zero did m sized = grows_none m zero
-grows_auto (suc most) did m sized = grows_chosen m did (pick (world_of m)) (λ n. auto.auto_from most (did + 1) n) most sized (λ n fits. grows_auto most (did + 1) n fits)
+grows_auto zero did m = grows_none m zero
+grows_auto (suc most) did m = grows_chosen m did (pick (world_of m)) (λ n. auto.auto_from most (did + 1) n) most (λ n. grows_auto most (did + 1) n)
 
 -- ---- a line
 
 -- the line was counted, and it did at most a quarter of the most events for each of its bytes
 pub record LineGrows (m n : Moment) (bytes : ℕ) : Type 0 where
   pub lines : n.lines ≡ m.lines + 1
-  pub grown : IsGrown m n
+  pub grown : IsSized m → IsGrown m n
   pub steps : 4 * n.steps ≤ 4 * m.steps + MOST_EVENTS * bytes
 
 GrowsOn : Moment → LineOutcome → ℕ → Type 0
@@ -186,21 +176,25 @@ GrowsOn m (Refused why) bytes = Unit {0}
 GrowsOn m (Full text n e field) bytes = Unit {0}
 
 line_shown : (m : Moment) (bytes : ℕ) → LineGrows m (counted (started m)) bytes
-line_shown m bytes = record { lines = refl; grown = grown_same m (counted (started m)) refl refl refl; steps = omega arith }
+line_shown m bytes = record { lines = refl; grown = λ sized. grown_same m (counted (started m)) refl refl refl; steps = omega arith }
 
-line_event : (m : Moment) (e : Event) (o : Outcome) (bytes : ℕ) → IsSized m → 1 ≤ bytes → GrowsOn m (outcome_of_event m e o) bytes
+-- a line that is counted has grown as the moment before that has
+grown_counted : (m n : Moment) → IsGrown m n → IsGrown m (counted n)
+grown_counted m n g = record { steps = g.steps; events = g.events; idle = g.idle; given = g.given; delivered = g.delivered; lost = g.lost; copied = g.copied; copies = g.copies }
+
+line_event : (m : Moment) (e : Event) (o : Outcome) (bytes : ℕ) → 1 ≤ bytes → GrowsOn m (outcome_of_event m e o) bytes
 unfolding GrowsOn stepped
-line_event m e Idle bytes sized some = let g = grown_event m e sized in record { lines = refl; grown = record { steps = g.steps; events = g.events; idle = g.idle; given = g.given; delivered = g.delivered; lost = g.lost; copied = g.copied; copies = g.copies }; steps = omega arith }
-line_event m e (worlds.Full x field) bytes sized some = tt
-line_event m e (Next w happening) bytes sized some = let g = grown_event m e sized in record { lines = refl; grown = record { steps = g.steps; events = g.events; idle = g.idle; given = g.given; delivered = g.delivered; lost = g.lost; copied = g.copied; copies = g.copies }; steps = omega arith }
+line_event m e Idle bytes some = record { lines = refl; grown = λ sized. grown_counted m (stepped m e) (grown_event m e sized); steps = omega arith }
+line_event m e (worlds.Full x field) bytes some = tt
+line_event m e (Next w happening) bytes some = record { lines = refl; grown = λ sized. grown_counted m (stepped m e) (grown_event m e sized); steps = omega arith }
 
 line_auto : (m : Moment) (text : List ℕ) (r : auto.AutoOutcome) (count bytes : ℕ) → GrowsTo (started m) r count → count ≤ MOST_EVENTS → 4 ≤ bytes → GrowsOn m (outcome_of_auto text r) bytes
 unfolding GrowsTo GrowsOn
 line_auto m text (auto.Ended others did n) count bytes g few four =
-    let steps = g.steps in let lines = g.lines in let is = g.grown in
+    let steps = g.steps in let lines = g.lines in
     record {
       lines = omega arith;
-      grown = record { steps = is.steps; events = is.events; idle = is.idle; given = is.given; delivered = is.delivered; lost = is.lost; copied = is.copied; copies = is.copies };
+      grown = λ sized. let is = g.grown sized in record { steps = is.steps; events = is.events; idle = is.idle; given = is.given; delivered = is.delivered; lost = is.lost; copied = is.copied; copies = is.copies };
       steps = omega arith;
     }
 line_auto m text (auto.Full others n e field) count bytes g few four = tt
@@ -211,46 +205,46 @@ unfolding start
 other_nodes v some more None = refl
 other_nodes v some more (Some w) = refl
 
-line_by : (m : Moment) (bytes : List ℕ) (a : Accepted) → IsSized m → IsInRange m.mesh a → line_of m.mesh (is_some m.world) bytes ≡ Ok a → 4 * length (events_of_piece m (Whole bytes)) ≤ MOST_EVENTS * length bytes
+line_by : (m : Moment) (bytes : List ℕ) (a : Accepted) → IsInRange m.mesh a → line_of m.mesh (is_some m.world) bytes ≡ Ok a → 4 * length (events_of_piece m (Whole bytes)) ≤ MOST_EVENTS * length bytes
     → GrowsOn m (outcome_of_line m a) (length bytes)
 unfolding GrowsOn outcome_of_line
-line_by m bytes Nothing sized range is few = record { lines = refl; grown = grown_same m (counted m) refl refl refl; steps = omega arith }
-line_by m bytes (NewNode address first) sized range is few = record { lines = refl; grown = grown_same m _ refl refl (other_nodes m.variant m.mesh (with_node m.mesh address first) m.world); steps = omega arith }
-line_by m bytes (Does e) sized range is few =
+line_by m bytes Nothing range is few = record { lines = refl; grown = λ sized. grown_same m (counted m) refl refl refl; steps = omega arith }
+line_by m bytes (NewNode address first) range is few = record { lines = refl; grown = λ sized. grown_same m _ refl refl (other_nodes m.variant m.mesh (with_node m.mesh address first) m.world); steps = omega arith }
+line_by m bytes (Does e) range is few =
     let one : 4 * 1 ≤ MOST_EVENTS * length bytes = subst (λ r. 4 * length (events_read m r) ≤ MOST_EVENTS * length bytes) is few in
-    line_event m e (outcome_at m e) (length bytes) sized (omega arith)
-line_by m bytes (Chooses count) sized range is few =
-    line_auto m (line (words_of m.mesh (Chooses count))) (auto.auto_from count 0 (started m)) count (length bytes) (grows_auto count 0 (started m) sized) range.2 (auto_line_has_four_bytes m.mesh (is_some m.world) bytes count is)
-line_by m bytes (ShowsNode x) sized range is few = line_shown m (length bytes)
-line_by m bytes (ShowsRoute x d) sized range is few = line_shown m (length bytes)
-line_by m bytes ShowsFlight sized range is few = line_shown m (length bytes)
+    line_event m e (outcome_at m e) (length bytes) (omega arith)
+line_by m bytes (Chooses count) range is few =
+    line_auto m (line (words_of m.mesh (Chooses count))) (auto.auto_from count 0 (started m)) count (length bytes) (grows_auto count 0 (started m)) range.2 (auto_line_has_four_bytes m.mesh (is_some m.world) bytes count is)
+line_by m bytes (ShowsNode x) range is few = line_shown m (length bytes)
+line_by m bytes (ShowsRoute x d) range is few = line_shown m (length bytes)
+line_by m bytes ShowsFlight range is few = line_shown m (length bytes)
 
-pub line_grows : (m n : Moment) (bytes text : List ℕ) (a : Accepted) → IsSized m → length m.mesh ≤ MOST_NODES → line_of m.mesh (is_some m.world) bytes ≡ Ok a → outcome_of_line m a ≡ On text n → LineGrows m n (length bytes)
+pub line_grows : (m n : Moment) (bytes text : List ℕ) (a : Accepted) → length m.mesh ≤ MOST_NODES → line_of m.mesh (is_some m.world) bytes ≡ Ok a → outcome_of_line m a ≡ On text n → LineGrows m n (length bytes)
 unfolding GrowsOn
-line_grows m n bytes text a sized few is on =
+line_grows m n bytes text a few is on =
     let range = in_range m.mesh (is_some m.world) bytes a few is in
-    subst (λ k. GrowsOn m k (length bytes)) on (line_by m bytes a sized range.0 is (line_has_few_events m bytes few))
+    subst (λ k. GrowsOn m k (length bytes)) on (line_by m bytes a range.0 is (line_has_few_events m bytes few))
 
 -- where it was done
-pub done_grows : {P : Type 0} (quiet : Bool) (m n : Moment) (bytes : List ℕ) (a : Accepted) (before now : Option (List ℕ)) (r : Result (Unit {0}) Stop) → (LineGrows m n (length bytes) → P) → IsSized m → length m.mesh ≤ MOST_NODES
+pub done_grows : {P : Type 0} (quiet : Bool) (m n : Moment) (bytes : List ℕ) (a : Accepted) (before now : Option (List ℕ)) (r : Result (Unit {0}) Stop) → (LineGrows m n (length bytes) → P) → length m.mesh ≤ MOST_NODES
     → line_of m.mesh (is_some m.world) bytes ≡ Ok a → IsLineRun quiet m (outcome_of_line m a) n before now r → OnOk r P
-done_grows quiet m n bytes a before now (Ok done) of sized few is run = of (line_grows m n bytes run.text a sized few is run.is)
-done_grows quiet m n bytes a before now (Err stop) of sized few is run = tt
+done_grows quiet m n bytes a before now (Ok done) of few is run = of (line_grows m n bytes run.text a few is run.is)
+done_grows quiet m n bytes a before now (Err stop) of few is run = tt
 
 -- the same by what a line is: it grows no more than one of four bytes
-value_by : (m : Moment) (a : Accepted) → IsSized m → IsInRange m.mesh a → GrowsOn m (outcome_of_line m a) 4
+value_by : (m : Moment) (a : Accepted) → IsInRange m.mesh a → GrowsOn m (outcome_of_line m a) 4
 unfolding GrowsOn outcome_of_line
-value_by m Nothing sized range = record { lines = refl; grown = grown_same m (counted m) refl refl refl; steps = omega arith }
-value_by m (NewNode address first) sized range = record { lines = refl; grown = grown_same m _ refl refl (other_nodes m.variant m.mesh (with_node m.mesh address first) m.world); steps = omega arith }
-value_by m (Does e) sized range = line_event m e (outcome_at m e) 4 sized (omega arith)
-value_by m (Chooses count) sized range = line_auto m (line (words_of m.mesh (Chooses count))) (auto.auto_from count 0 (started m)) count 4 (grows_auto count 0 (started m) sized) range.2 (omega arith)
-value_by m (ShowsNode x) sized range = line_shown m 4
-value_by m (ShowsRoute x d) sized range = line_shown m 4
-value_by m ShowsFlight sized range = line_shown m 4
+value_by m Nothing range = record { lines = refl; grown = λ sized. grown_same m (counted m) refl refl refl; steps = omega arith }
+value_by m (NewNode address first) range = record { lines = refl; grown = λ sized. grown_same m _ refl refl (other_nodes m.variant m.mesh (with_node m.mesh address first) m.world); steps = omega arith }
+value_by m (Does e) range = line_event m e (outcome_at m e) 4 (omega arith)
+value_by m (Chooses count) range = line_auto m (line (words_of m.mesh (Chooses count))) (auto.auto_from count 0 (started m)) count 4 (grows_auto count 0 (started m)) range.2 (omega arith)
+value_by m (ShowsNode x) range = line_shown m 4
+value_by m (ShowsRoute x d) range = line_shown m 4
+value_by m ShowsFlight range = line_shown m 4
 
-pub value_grows : (quiet : Bool) (m n : Moment) (a : Accepted) (before now : Option (List ℕ)) → IsSized m → IsInRange m.mesh a → IsLineDone quiet (outcome_of_line m a) n before now → LineGrows m n 4
+pub value_grows : (quiet : Bool) (m n : Moment) (a : Accepted) (before now : Option (List ℕ)) → IsInRange m.mesh a → IsLineDone quiet (outcome_of_line m a) n before now → LineGrows m n 4
 unfolding GrowsOn
-value_grows quiet m n a before now sized range done = subst (λ k. GrowsOn m k 4) done.is (value_by m a sized range)
+value_grows quiet m n a before now range done = subst (λ k. GrowsOn m k 4) done.is (value_by m a range)
 
 -- lines that were done, and one more, by the bytes that were given
 pub steps_more : (len given after : ℕ) (ended : Bool) (n m s bytes : ℕ) → IsCounted len given after ended → bytes ≡ len → 4 * n ≤ 4 * m + MOST_EVENTS * bytes → 4 * m ≤ 4 * s + MOST_EVENTS * given

@@ -8,11 +8,11 @@ use Rattle.mesh_model.specs.Worlds.{Event}
 use Rattle.mesh_grammar.specs.declared.fault.LineFault.{LineFault}
 use Rattle.mesh_grammar.specs.declared.fault.BadWhy.{BadWhy}
 use Rattle.mesh_grammar.specs.declared.fault.BadWhy.TheVariants.{Fault, TooLong, TooMuch}
-use Rattle.mesh_grammar.specs.Lines.{Piece, Whole, Long, Beyond}
+use Rattle.mesh_grammar.specs.Lines.{Piece, Whole, Long, Beyond, pieces_of_input}
 use Rattle.mesh_text.specs.Lines.{full_line}
 use Rattle.mesh_text.specs.Schedule.{Moment, Accepted, line_of}
 use Rattle.mesh_text.specs.Text as texts
-use Rattle.mesh_text.specs.Text.{Written, LineOutcome, outcome_of_piece, outcome_of_read, outcome_of_line, text_in, On, Refused, text_from, goes_on, lines_before, whole, finished_run, refused_run, overfull_run, FullAt}
+use Rattle.mesh_text.specs.Text.{Written, LineOutcome, outcome_of_piece, outcome_of_read, outcome_of_line, text_in, On, Refused, text_from, text_on, goes_on, lines_before, whole, finished_run, refused_run, overfull_run, FullAt}
 use Rattle.mesh_run.specs.declared.status.Status.{Status}
 use Rattle.mesh_run.specs.declared.status.Status.TheVariants.{Done, Usage, BadLine, Full, ReadFault, WriteFault, NoMemory}
 use Rattle.mesh_run.specs.declared.stop.Stop.{Stop}
@@ -23,6 +23,10 @@ use Rattle.mesh_run.specs.Runs.{output_if, IsLineDone, IsLineFull, IsLineStopped
 
 -- ---- the text from a moment on
 
+pub text_on-pieces : (m : Moment) (input : List ℕ) → text_on m input ≡ text_from m (pieces_of_input input)
+unfolding text_on
+text_on-pieces m input = refl
+
 pub text_from-cons : (m : Moment) (piece : Piece) (pieces : List Piece) → text_from m (piece ∷ pieces) ≡ goes_on m (outcome_of_piece m piece) (λ n. text_from n pieces)
 unfolding text_from
 text_from-cons m piece pieces = refl
@@ -32,10 +36,6 @@ text_from-on m n piece text pieces e = text_from-cons m piece pieces ∙ ap (λ 
 
 text_from-refused : (m : Moment) (piece : Piece) (why : BadWhy) (pieces : List Piece) → outcome_of_piece m piece ≡ Refused why → text_from m (piece ∷ pieces) ≡ refused_run m why
 text_from-refused m piece why pieces e = text_from-cons m piece pieces ∙ ap (λ r. goes_on m r (λ n. text_from n pieces)) e
-
-text_from-over : (m n : Moment) (piece : Piece) (text : List ℕ) (e : Event) (field : Field) (pieces : List Piece) → outcome_of_piece m piece ≡ texts.Full text n e field
-    → text_from m (piece ∷ pieces) ≡ overfull_run m text e field
-text_from-over m n piece text e field pieces h = text_from-cons m piece pieces ∙ ap (λ r. goes_on m r (λ k. text_from k pieces)) h
 
 pub text_from-end : (m : Moment) → text_from m [] ≡ finished_run m
 unfolding text_from
@@ -126,22 +126,28 @@ said-refused_run All m why = refl
 said-refused_run Last m why = refl
 said-refused_run Faults m why = refl
 
--- what is told of a refused piece
-told_refused : (say : Say) (m : Moment) (piece : Piece) (why : BadWhy) (pieces : List Piece) (a b : Option (List ℕ)) (s : Status) → outcome_of_piece m piece ≡ Refused why
-    → IsOutput a b (refused_run m why) s → IsOutput a b (said say (text_from m (piece ∷ pieces))) s
-told_refused say m piece why pieces a b s e t =
-    let P : Written → Type 0 = λ w. IsOutput a b w s in
-    subst P (sym (ap (said say) (text_from-refused m piece why pieces e) ∙ said-refused_run say m why)) t
+-- what is told of a run that comes to a refused line first
+pub refused_told : (say : Say) (m : Moment) (why : BadWhy) (w : Written) (a b : Option (List ℕ)) (s : Status) → w ≡ refused_run m why → IsOutput a b (refused_run m why) s → IsOutput a b (said say w) s
+refused_told say m why w a b s is t =
+    let P : Written → Type 0 = λ x. IsOutput a b x s in
+    subst P (sym (ap (said say) is ∙ said-refused_run say m why)) t
 
--- what is told of a piece with an event that is refused for a full counter
-pub told_full : (say : Say) (m n : Moment) (piece : Piece) (e : Event) (node : ℕ) (field : Field) (pieces : List Piece) (a b c : Option (List ℕ)) (s : Status)
-    → IsLineFull (is_quiet say) m (outcome_of_piece m piece) n a b e node field → IsOutput b c (overfull_run n [] e field) s → IsOutput a c (said say (text_from m (piece ∷ pieces))) s
-told_full say m n piece e node field pieces a b c s g t =
-    let verdict : FullAt (m.lines + 1) ≡ FullAt (n.lines + 1) = ap (λ k. FullAt (k + 1)) (sym g.still.lines) in
+-- or to one that isn't allowed, which left the moment as it was
+pub bad_told : (say : Say) (m n : Moment) (f : LineFault) (w : Written) (a b c : Option (List ℕ)) (s : Status)
+    → w ≡ refused_run m (Fault f) → n ≡ m → Keeps a b → IsOutput b c (refused_run n (Fault f)) s → IsOutput a c (said say w) s
+bad_told say m n f w a b c s is same kept t =
+    let Q : Moment → Type 0 = λ k. IsOutput b c (refused_run k (Fault f)) s in
+    refused_told say m (Fault f) w a c s is (Told-join a b c [] (refused_run m (Fault f)) s (Appends-kept a b kept) (subst Q same t))
+
+-- or to one with an event that is refused for a full counter
+pub full_told : (say : Say) (m n : Moment) (k : LineOutcome) (others : Moment → Written) (w : Written) (e : Event) (node : ℕ) (field : Field) (a b c : Option (List ℕ)) (s : Status)
+    → w ≡ goes_on m k others → IsLineFull (is_quiet say) m k n a b e node field → IsOutput b c (overfull_run n [] e field) s → IsOutput a c (said say w) s
+full_told say m n k others w e node field a b c s is g t =
+    let verdict : FullAt (m.lines + 1) ≡ FullAt (n.lines + 1) = ap (λ l. FullAt (l + 1)) (sym g.still.lines) in
     let line : full_line m.mesh (m.lines + 1) e field ≡ full_line n.mesh (n.lines + 1) e field =
-    ap (λ k. full_line k (m.lines + 1) e field) (sym g.still.mesh) ∙ ap (λ k. full_line n.mesh (k + 1) e field) (sym g.still.lines) in
-    let P : Written → Type 0 = λ w. IsOutput a c w s in
-    subst P (sym (ap (said say) (text_from-over m n piece g.text e field pieces g.is)))
+    ap (λ x. full_line x (m.lines + 1) e field) (sym g.still.mesh) ∙ ap (λ l. full_line n.mesh (l + 1) e field) (sym g.still.lines) in
+    let P : Written → Type 0 = λ x. IsOutput a c x s in
+    subst P (sym (ap (said say) (is ∙ ap (λ r. goes_on m r others) g.is)))
     (by_say say verdict line g.grown)
   where
     by_say : (say : Say) → FullAt (m.lines + 1) ≡ FullAt (n.lines + 1) → full_line m.mesh (m.lines + 1) e field ≡ full_line n.mesh (n.lines + 1) e field → Appends a b (output_if (is_quiet say) g.text)
@@ -149,6 +155,13 @@ told_full say m n piece e node field pieces a b c s g t =
     by_say All verdict line p = Told-after a b c g.text (said All (overfull_run m g.text e field)) (overfull_run n [] e field) s verdict (ap (λ l. g.text ++ l) line) p t
     by_say Last verdict line p = Told-after a b c [] (said Last (overfull_run m g.text e field)) (overfull_run n [] e field) s verdict line p t
     by_say Faults verdict line p = Told-after a b c [] (said Faults (overfull_run m g.text e field)) (overfull_run n [] e field) s verdict line p t
+
+-- ---- the same of the schedule's run
+
+pub told_full : (say : Say) (m n : Moment) (piece : Piece) (e : Event) (node : ℕ) (field : Field) (pieces : List Piece) (a b c : Option (List ℕ)) (s : Status)
+    → IsLineFull (is_quiet say) m (outcome_of_piece m piece) n a b e node field → IsOutput b c (overfull_run n [] e field) s → IsOutput a c (said say (text_from m (piece ∷ pieces))) s
+told_full say m n piece e node field pieces a b c s g t =
+    full_told say m n (outcome_of_piece m piece) (λ x. text_from x pieces) (text_from m (piece ∷ pieces)) e node field a b c s (text_from-cons m piece pieces) g t
 
 came-long : (m : Moment) → outcome_of_piece m Long ≡ Refused TooLong
 unfolding outcome_of_piece
@@ -160,23 +173,14 @@ came-beyond m = refl
 
 -- a line that is too long, and one that goes past the input's limit
 pub told_long : (say : Say) (m : Moment) (pieces : List Piece) (a b : Option (List ℕ)) (s : Status) → IsOutput a b (refused_run m TooLong) s → IsOutput a b (said say (text_from m (Long ∷ pieces))) s
-told_long say m pieces a b s t = told_refused say m Long TooLong pieces a b s (came-long m) t
+told_long say m pieces a b s t = refused_told say m TooLong (text_from m (Long ∷ pieces)) a b s (text_from-refused m Long TooLong pieces (came-long m)) t
 
 pub told_beyond : (say : Say) (m : Moment) (pieces : List Piece) (a b : Option (List ℕ)) (s : Status) → IsOutput a b (refused_run m TooMuch) s → IsOutput a b (said say (text_from m (Beyond ∷ pieces))) s
-told_beyond say m pieces a b s t = told_refused say m Beyond TooMuch pieces a b s (came-beyond m) t
+told_beyond say m pieces a b s t = refused_told say m TooMuch (text_from m (Beyond ∷ pieces)) a b s (text_from-refused m Beyond TooMuch pieces (came-beyond m)) t
 
 -- a line that isn't allowed
 pub told_bad : (say : Say) (m n : Moment) (piece : Piece) (f : LineFault) (pieces : List Piece) (a b c : Option (List ℕ)) (s : Status)
     → outcome_of_piece m piece ≡ Refused (Fault f) → n ≡ m → Keeps a b
     → IsOutput b c (refused_run n (Fault f)) s → IsOutput a c (said say (text_from m (piece ∷ pieces))) s
 told_bad say m n piece f pieces a b c s e same kept t =
-    let Q : Moment → Type 0 = λ k. IsOutput b c (refused_run k (Fault f)) s in
-    let joined : IsOutput a c (refused_run m (Fault f)) s = Told-join a b c [] (refused_run m (Fault f)) s (Appends-kept a b kept) (subst Q same t) in
-    told_refused say m piece (Fault f) pieces a c s e joined
-
--- the end
-pub told_end : (say : Say) (m : Moment) (pieces : List Piece) (a b : Option (List ℕ)) (s : Status) → pieces ≡ [] → IsOutput a b (said say (finished_run m)) s
-    → IsOutput a b (said say (text_from m pieces)) s
-told_end say m pieces a b s none t =
-    let P : Written → Type 0 = λ w. IsOutput a b (said say w) s in
-    subst P (sym (ap (text_from m) none ∙ text_from-end m)) t
+    bad_told say m n f (text_from m (piece ∷ pieces)) a b c s (text_from-refused m piece (Fault f) pieces e) same kept t

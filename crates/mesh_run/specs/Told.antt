@@ -44,28 +44,33 @@ IsOutput before now w NoMemory = AppendsPrefix before now (whole w)
 IsOutput before now w Usage = ⊥
 
 -- a read failed after some bytes were taken: their complete lines were all allowed and done, and
--- their text was written, which is a prefix of what the whole input comes to
-pub record IsCutShort (say : Say) (m : Moment) (bytes : List ℕ) (left before now : Option (List ℕ))
-    : Type 0 where
+-- their text was written, which is a prefix of what the whole input comes to. `text` says what an
+-- input comes to
+pub record IsCutShort (say : Say) (text : List ℕ → Written) (bytes : List ℕ)
+    (left before now : Option (List ℕ)) : Type 0 where
   pub taken : List ℕ
   pub consumed : Consumes (Some bytes) left taken
-  pub done : (text_on m (complete taken)).verdict ≡ Finished
-  pub grown : Appends before now (said say (text_on m (complete taken))).lines
-  pub prefix : AppendsPrefix before now (whole (said say (text_on m bytes)))
+  pub done : (text (complete taken)).verdict ≡ Finished
+  pub grown : Appends before now (said say (text (complete taken))).lines
+  pub prefix : AppendsPrefix before now (whole (said say (text bytes)))
 
--- a run of these bytes from a moment on has answered, where the source has this left. After a
--- failed read what was written is the text of the lines that were read whole
+-- a run of these bytes has answered, where the source has this left. After a failed read what was
+-- written is the text of the lines that were read whole
+abbrev pub IsOutputOf : Say → (List ℕ → Written) → List ℕ → Option (List ℕ) → Option (List ℕ)
+    → Option (List ℕ) → Status → Type 0
+IsOutputOf say text bytes left before now Done = IsOutput before now (said say (text bytes)) Done
+IsOutputOf say text bytes left before now (BadLine n) =
+    IsOutput before now (said say (text bytes)) (BadLine n)
+IsOutputOf say text bytes left before now (Full n) =
+    IsOutput before now (said say (text bytes)) (Full n)
+IsOutputOf say text bytes left before now ReadFault = IsCutShort say text bytes left before now
+IsOutputOf say text bytes left before now WriteFault =
+    IsOutput before now (said say (text bytes)) WriteFault
+IsOutputOf say text bytes left before now NoMemory =
+    IsOutput before now (said say (text bytes)) NoMemory
+IsOutputOf say text bytes left before now Usage = ⊥
+
+-- the same of the schedule's run from a moment on
 abbrev pub IsOutputFrom : Say → Moment → List ℕ → Option (List ℕ) → Option (List ℕ)
     → Option (List ℕ) → Status → Type 0
-IsOutputFrom say m bytes left before now Done =
-    IsOutput before now (said say (text_on m bytes)) Done
-IsOutputFrom say m bytes left before now (BadLine n) =
-    IsOutput before now (said say (text_on m bytes)) (BadLine n)
-IsOutputFrom say m bytes left before now (Full n) =
-    IsOutput before now (said say (text_on m bytes)) (Full n)
-IsOutputFrom say m bytes left before now ReadFault = IsCutShort say m bytes left before now
-IsOutputFrom say m bytes left before now WriteFault =
-    IsOutput before now (said say (text_on m bytes)) WriteFault
-IsOutputFrom say m bytes left before now NoMemory =
-    IsOutput before now (said say (text_on m bytes)) NoMemory
-IsOutputFrom say m bytes left before now Usage = ⊥
+IsOutputFrom say m bytes left before now s = IsOutputOf say (text_on m) bytes left before now s

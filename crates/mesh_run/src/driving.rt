@@ -48,6 +48,7 @@ fn do_gathered<S: Steps, I: Source, O: Sink>(
 {
     let mut lines = Lines::new(input);
     let status = do_lines(alloc, at, say, &mut lines, buffer);
+    // It says that `input` is the source as the lines have left it.
     let _input = lines.give_back();
     if status == Status::WriteFault {
         return status;
@@ -122,6 +123,7 @@ pub fn do_input<S: Steps, I: Source, O: Sink>(
         return Status::NoMemory;
     };
     let mut status = Status::Done;
+    // It says that what comes back is `out`, as the buffer has left it.
     let _out = do_through::<S, I, O, Brand>(alloc, room, at, say, input, out, &mut status);
     status
 }

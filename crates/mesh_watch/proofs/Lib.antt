@@ -4,7 +4,5 @@ pub mod Events
 pub mod Chosen
 pub mod Growth
 pub mod Telling
-pub mod Story
-pub mod Buffers
 pub mod Forms
 pub mod Runs

@@ -12,6 +12,8 @@ use Rattle.mesh_text.specs.Lines.{words_of}
 use Rattle.mesh_text.specs.Effects.{outcome_lines}
 use Rattle.mesh_text.specs.Auto.{AutoOutcome, Ended, Full as AutoFull, before, done_then, chosen_then, auto_from, auto_end}
 use Rattle.mesh_text.specs.Text.{LineOutcome, On, Refused, Full, text_in, outcome_of_auto, outcome_of_line, outcome_of_read, outcome_of_piece, Written, goes_on, text_from, text_on, text_of_input}
+use Rattle.mesh_run.specs.Runs.{text_of}
+use Rattle.mesh_run.proofs.Chosen.{text-before}
 use Rattle.mesh_watch.specs.Blocks.{changed_by, shown_node, shown_if, block_below}
 use Rattle.mesh_watch.specs.Text.{watched_then, watched_auto, with_block, watched_line, watched_read, watched_piece, watched_from, watched_of_input}
 use Rattle.mesh_watch.specs.Parts.{Part, IsWithBlocks, in_run, in_watched}
@@ -40,14 +42,6 @@ unfolding block_below
 with_below m e = with_shown (stepped m e) (changed_by e (outcome_at m e))
 
 -- ---- events that are chosen
-
-abbrev text_of : AutoOutcome → List ℕ
-text_of (Ended text did n) = text
-text_of (AutoFull text n e field) = text
-
-text-before : (text : List ℕ) (ran : AutoOutcome) → text_of (before text ran) ≡ text ++ text_of ran
-text-before text (Ended others did after) = refl
-text-before text (AutoFull others n e field) = refl
 
 with_before : (text : List ℕ) (r q : AutoOutcome) → IsWithBlocks (text_of r) (text_of q) → IsWithBlocks (text_of (before text r)) (text_of (before text q))
 with_before text r q p =

@@ -37,6 +37,7 @@ fn run_gathered<I: Source, O: Sink>(
 {
     let mut lines = Lines::new(input);
     let status = do_lines(alloc, at, &mut lines, buffer);
+    // It says that `input` is the source as the lines have left it.
     let _input = lines.give_back();
     if status == Status::WriteFault {
         return status;
@@ -89,6 +90,7 @@ fn run_on<I: Source, O: Sink>(alloc: Global, at: &mut Watched, input: &mut I, ou
         return Status::NoMemory;
     };
     let mut status = Status::Done;
+    // It says that what comes back is `out`, as the buffer has left it.
     let _out = run_through::<I, O, Brand>(alloc, room, at, input, out, &mut status);
     status
 }

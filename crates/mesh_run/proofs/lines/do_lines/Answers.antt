@@ -15,12 +15,13 @@ use Rattle.mesh_run.specs.Sums.{IsGrown}
 use Rattle.mesh_run.proofs.Faults.{cause_as, cause_after, no_cause, a_cause, unsome}
 use Rattle.mesh_run.proofs.Growth.{grown_same, grown_both, steps_more}
 use Rattle.mesh_run.proofs.Story.{story_begins, story_kept, story_goes, story_stops, story_ends, story_after, story_long, story_much, story_breaks, story_cut}
+use Rattle.mesh_run.proofs.Telling.{text_on-pieces, text_from-on, text_from-end, told_long, told_beyond}
 use Rattle.mesh_run.proofs.lines.do_lines.Goals as goal
 
 pub lines-init : goal.lines-init
 lines-init g c = record {
   same = refl;
-  story = story_begins c.args.say c.args.at.now (g.I.Source.left (source_of c.args.lines.now).now) (pending_of c.args.lines.now) (given_of c.args.lines.now) (has_ended c.args.lines.now) (held_by g.O.Sink.held c.args.out.now) c.requires.pending c.requires.given;
+  story = story_begins c.args.say (text_on c.args.at.now) (text_from c.args.at.now) (g.I.Source.left (source_of c.args.lines.now).now) (pending_of c.args.lines.now) (given_of c.args.lines.now) (has_ended c.args.lines.now) (held_by g.O.Sink.held c.args.out.now) (text_on-pieces c.args.at.now) c.requires.pending c.requires.given;
   few = omega (arith, c.requires.given);
   reads = refl;
   writes = refl;
@@ -34,7 +35,7 @@ lines-preserved g c =
     let found = c.in-Ok-true.is ∙ ap Ok c.in-Ok-true.field-0-test in
     let told =
     subst (λ (r : Result Bool LineError). IfSome (ahead_of g.I.Source.left c.lines.lines) (λ bytes. Tells schedule_limits (given_of c.lines.lines) bytes r (line_of c.advance.new.self) (given_of c.advance.new.self) (ahead_of g.I.Source.left c.advance.new.self))) (found) c.advance.ensures.told in
-    let kept = story_kept c.args.say c.args.at.now c.lines.at (g.I.Source.left (source_of c.args.lines.now).now) (ahead_of g.I.Source.left c.lines.lines) (given_of c.lines.lines) (has_ended c.lines.lines) (held_by g.O.Sink.held c.args.out.now) (held_by g.O.Sink.held c.lines.out) (held_by g.O.Sink.held c.hand_on.new.out) c.hand_on.ensures.held c.lines.invariant.story in
+    let kept = story_kept c.args.say (text_on c.args.at.now) (text_from c.lines.at) (g.I.Source.left (source_of c.args.lines.now).now) (ahead_of g.I.Source.left c.lines.lines) (given_of c.lines.lines) (has_ended c.lines.lines) (held_by g.O.Sink.held c.args.out.now) (held_by g.O.Sink.held c.lines.out) (held_by g.O.Sink.held c.hand_on.new.out) c.hand_on.ensures.held c.lines.invariant.story in
     let counted = c.advance.ensures.counted found in
     let grows = c.advance.ensures.grows found in
     let done : IsLineDone (is_quiet c.args.say) (outcome_of_piece c.lines.at (Whole (line_of c.advance.new.self))) c.piece.new.at (held_by g.O.Sink.held c.hand_on.new.out) (held_by g.O.Sink.held c.piece.new.out) =
@@ -44,8 +45,8 @@ lines-preserved g c =
     let steps = c.in_default-piece.ensures.steps in
     record {
       same = c.advance.ensures.same ∙ c.lines.invariant.same;
-      story = story_goes c.args.say c.args.at.now c.lines.at c.piece.new.at (g.I.Source.left (source_of c.args.lines.now).now) (ahead_of g.I.Source.left c.lines.lines) (ahead_of g.I.Source.left c.advance.new.self) (line_of c.advance.new.self) (given_of c.lines.lines) (given_of c.advance.new.self) (has_ended c.lines.lines) (has_ended c.advance.new.self) (held_by g.O.Sink.held c.args.out.now) (held_by g.O.Sink.held c.hand_on.new.out) (held_by g.O.Sink.held c.piece.new.out)
-          c.lines.invariant.few c.advance.ensures.few (c.advance.ensures.short found) kept told counted done;
+      story = story_goes c.args.say (text_on c.args.at.now) (text_from c.lines.at) (text_from c.piece.new.at) (g.I.Source.left (source_of c.args.lines.now).now) (ahead_of g.I.Source.left c.lines.lines) (ahead_of g.I.Source.left c.advance.new.self) (line_of c.advance.new.self) done.text (given_of c.lines.lines) (given_of c.advance.new.self) (has_ended c.lines.lines) (has_ended c.advance.new.self) (held_by g.O.Sink.held c.args.out.now) (held_by g.O.Sink.held c.hand_on.new.out) (held_by g.O.Sink.held c.piece.new.out)
+          c.lines.invariant.few c.advance.ensures.few (c.advance.ensures.short found) kept told counted (λ pieces. text_from-on c.lines.at c.piece.new.at (Whole (line_of c.advance.new.self)) done.text pieces done.is) done.grown;
       few = c.advance.ensures.few;
       reads = c.in-Ok-true.ensures.cause.none (λ e. cc) ∙ c.lines.invariant.reads;
       writes = c.in_default-piece.ensures.cause.none (λ e. cc) ∙ c.in_default.ensures.cause.none ∙ c.lines.invariant.writes;
@@ -57,8 +58,8 @@ lines-preserved g c =
 pub returns-in-Err : goal.returns-in-Err
 returns-in-Err g c = record {
   same = c.lines.invariant.same;
-  told = story_breaks c.args.say c.args.at.now c.lines.at (g.I.Source.left (source_of c.args.lines.now).now) (ahead_of g.I.Source.left c.lines.lines) (g.I.Source.left (source_of c.lines.lines).now) (given_of c.lines.lines) (has_ended c.lines.lines) (held_by g.O.Sink.held c.args.out.now) (held_by g.O.Sink.held c.hand_on.new.out)
-      (story_kept c.args.say c.args.at.now c.lines.at (g.I.Source.left (source_of c.args.lines.now).now) (ahead_of g.I.Source.left c.lines.lines) (given_of c.lines.lines) (has_ended c.lines.lines) (held_by g.O.Sink.held c.args.out.now) (held_by g.O.Sink.held c.lines.out) (held_by g.O.Sink.held c.hand_on.new.out) c.hand_on.ensures.held c.lines.invariant.story);
+  told = story_breaks c.args.say (text_on c.args.at.now) (text_from c.lines.at) (g.I.Source.left (source_of c.args.lines.now).now) (ahead_of g.I.Source.left c.lines.lines) (g.I.Source.left (source_of c.lines.lines).now) (given_of c.lines.lines) (has_ended c.lines.lines) (held_by g.O.Sink.held c.args.out.now) (held_by g.O.Sink.held c.hand_on.new.out)
+      (story_kept c.args.say (text_on c.args.at.now) (text_from c.lines.at) (g.I.Source.left (source_of c.args.lines.now).now) (ahead_of g.I.Source.left c.lines.lines) (given_of c.lines.lines) (has_ended c.lines.lines) (held_by g.O.Sink.held c.args.out.now) (held_by g.O.Sink.held c.lines.out) (held_by g.O.Sink.held c.hand_on.new.out) c.hand_on.ensures.held c.lines.invariant.story);
   after = λ e. cc;
   safe = λ e. cc;
   grown = λ e. cc;
@@ -75,10 +76,10 @@ returns-in-Some g c =
     let found = c.in-Ok-true.is ∙ ap Ok c.in-Ok-true.field-0-test in
     let told =
     subst (λ (r : Result Bool LineError). IfSome (ahead_of g.I.Source.left c.lines.lines) (λ bytes. Tells schedule_limits (given_of c.lines.lines) bytes r (line_of c.advance.new.self) (given_of c.advance.new.self) (ahead_of g.I.Source.left c.advance.new.self))) (found) c.advance.ensures.told in
-    let kept = story_kept c.args.say c.args.at.now c.lines.at (g.I.Source.left (source_of c.args.lines.now).now) (ahead_of g.I.Source.left c.lines.lines) (given_of c.lines.lines) (has_ended c.lines.lines) (held_by g.O.Sink.held c.args.out.now) (held_by g.O.Sink.held c.lines.out) (held_by g.O.Sink.held c.hand_on.new.out) c.hand_on.ensures.held c.lines.invariant.story in
+    let kept = story_kept c.args.say (text_on c.args.at.now) (text_from c.lines.at) (g.I.Source.left (source_of c.args.lines.now).now) (ahead_of g.I.Source.left c.lines.lines) (given_of c.lines.lines) (has_ended c.lines.lines) (held_by g.O.Sink.held c.args.out.now) (held_by g.O.Sink.held c.lines.out) (held_by g.O.Sink.held c.hand_on.new.out) c.hand_on.ensures.held c.lines.invariant.story in
     record {
       same = c.advance.ensures.same ∙ c.lines.invariant.same;
-      told = story_stops c.args.say c.args.at.now c.lines.at (g.I.Source.left (source_of c.args.lines.now).now) (ahead_of g.I.Source.left c.lines.lines) (ahead_of g.I.Source.left c.advance.new.self) (g.I.Source.left (source_of c.advance.new.self).now) (line_of c.advance.new.self) (given_of c.lines.lines) (given_of c.advance.new.self) (has_ended c.lines.lines) (held_by g.O.Sink.held c.args.out.now) (held_by g.O.Sink.held c.hand_on.new.out) (held_by g.O.Sink.held c.piece.new.out) c.in-Some.status
+      told = story_stops c.args.say (text_on c.args.at.now) (text_from c.lines.at) (g.I.Source.left (source_of c.args.lines.now).now) (ahead_of g.I.Source.left c.lines.lines) (ahead_of g.I.Source.left c.advance.new.self) (g.I.Source.left (source_of c.advance.new.self).now) (line_of c.advance.new.self) (given_of c.lines.lines) (given_of c.advance.new.self) (has_ended c.lines.lines) (held_by g.O.Sink.held c.args.out.now) (held_by g.O.Sink.held c.hand_on.new.out) (held_by g.O.Sink.held c.piece.new.out) c.in-Some.status
           c.lines.invariant.few kept told (λ e. c.in-Some.ensures.read (ap Some e))
           (λ pieces. subst (λ l. IsOutput (held_by g.O.Sink.held c.hand_on.new.out) (held_by g.O.Sink.held c.piece.new.out) (said c.args.say (text_from c.lines.at (Whole l ∷ pieces))) c.in-Some.status) c.line.ensures (c.in-Some.ensures.told pieces));
       after = λ e. absurd (c.in-Some.ensures.stopped (ap Some e));
@@ -97,11 +98,11 @@ returns-in-Ok-false g c =
     let found = c.in-Ok-false.is ∙ ap Ok c.in-Ok-false.field-0-test in
     let told =
     subst (λ (r : Result Bool LineError). IfSome (ahead_of g.I.Source.left c.lines.lines) (λ bytes. Tells schedule_limits (given_of c.lines.lines) bytes r (line_of c.advance.new.self) (given_of c.advance.new.self) (ahead_of g.I.Source.left c.advance.new.self))) (found) c.advance.ensures.told in
-    let kept = story_kept c.args.say c.args.at.now c.lines.at (g.I.Source.left (source_of c.args.lines.now).now) (ahead_of g.I.Source.left c.lines.lines) (given_of c.lines.lines) (has_ended c.lines.lines) (held_by g.O.Sink.held c.args.out.now) (held_by g.O.Sink.held c.lines.out) (held_by g.O.Sink.held c.hand_on.new.out) c.hand_on.ensures.held c.lines.invariant.story in
+    let kept = story_kept c.args.say (text_on c.args.at.now) (text_from c.lines.at) (g.I.Source.left (source_of c.args.lines.now).now) (ahead_of g.I.Source.left c.lines.lines) (given_of c.lines.lines) (has_ended c.lines.lines) (held_by g.O.Sink.held c.args.out.now) (held_by g.O.Sink.held c.lines.out) (held_by g.O.Sink.held c.hand_on.new.out) c.hand_on.ensures.held c.lines.invariant.story in
     record {
       same = c.advance.ensures.same ∙ c.lines.invariant.same;
-      told = story_ends c.args.say c.args.at.now c.lines.at (g.I.Source.left (source_of c.args.lines.now).now) (ahead_of g.I.Source.left c.lines.lines) (ahead_of g.I.Source.left c.advance.new.self) (g.I.Source.left (source_of c.advance.new.self).now) (line_of c.advance.new.self) (given_of c.lines.lines) (given_of c.advance.new.self) (has_ended c.lines.lines) (held_by g.O.Sink.held c.args.out.now) (held_by g.O.Sink.held c.hand_on.new.out) (held_by g.O.Sink.held c.finish.new.out) c.finish.result kept told c.finish.ensures.read c.finish.ensures.told;
-      after = λ e. subst (λ (m : Moment). IfSome (g.I.Source.left (source_of c.args.lines.now).now) (λ bytes. m ≡ (text_on c.args.at.now bytes).after)) (sym c.finish.ensures.same) (story_after c.args.say c.args.at.now c.lines.at (g.I.Source.left (source_of c.args.lines.now).now) (ahead_of g.I.Source.left c.lines.lines) (ahead_of g.I.Source.left c.advance.new.self) (line_of c.advance.new.self) (given_of c.lines.lines) (given_of c.advance.new.self) (has_ended c.lines.lines) (held_by g.O.Sink.held c.args.out.now) (held_by g.O.Sink.held c.hand_on.new.out) kept told);
+      told = story_ends c.args.say (text_on c.args.at.now) (text_from c.lines.at) c.lines.at (g.I.Source.left (source_of c.args.lines.now).now) (ahead_of g.I.Source.left c.lines.lines) (ahead_of g.I.Source.left c.advance.new.self) (g.I.Source.left (source_of c.advance.new.self).now) (line_of c.advance.new.self) (given_of c.lines.lines) (given_of c.advance.new.self) (has_ended c.lines.lines) (held_by g.O.Sink.held c.args.out.now) (held_by g.O.Sink.held c.hand_on.new.out) (held_by g.O.Sink.held c.finish.new.out) c.finish.result (text_from-end c.lines.at) kept told c.finish.ensures.read c.finish.ensures.told;
+      after = λ e. subst (λ (m : Moment). IfSome (g.I.Source.left (source_of c.args.lines.now).now) (λ bytes. m ≡ (text_on c.args.at.now bytes).after)) (sym c.finish.ensures.same) (story_after c.args.say (text_on c.args.at.now) (text_from c.lines.at) c.lines.at (g.I.Source.left (source_of c.args.lines.now).now) (ahead_of g.I.Source.left c.lines.lines) (ahead_of g.I.Source.left c.advance.new.self) (line_of c.advance.new.self) (given_of c.lines.lines) (given_of c.advance.new.self) (has_ended c.lines.lines) (held_by g.O.Sink.held c.args.out.now) (held_by g.O.Sink.held c.hand_on.new.out) (text_from-end c.lines.at) kept told);
       safe = λ e. c.finish.ensures.safe;
       grown = λ e. subst (λ (m : Moment). IsGrown c.args.at.now m) (sym c.finish.ensures.same) c.lines.invariant.grown;
       lines = λ e. let same = ap (λ (m : Moment). m.lines) c.finish.ensures.same in omega (arith, c.lines.invariant.count, c.lines.invariant.few);
@@ -117,10 +118,10 @@ returns-in-Err-ReadFault g c =
     let found = c.in-Err-ReadFault.is ∙ ap Err c.in-Err-ReadFault.field-0-is in
     let told =
     subst (λ (r : Result Bool LineError). IfSome (ahead_of g.I.Source.left c.lines.lines) (λ bytes. Tells schedule_limits (given_of c.lines.lines) bytes r (line_of c.advance.new.self) (given_of c.advance.new.self) (ahead_of g.I.Source.left c.advance.new.self))) (found) c.advance.ensures.told in
-    let kept = story_kept c.args.say c.args.at.now c.lines.at (g.I.Source.left (source_of c.args.lines.now).now) (ahead_of g.I.Source.left c.lines.lines) (given_of c.lines.lines) (has_ended c.lines.lines) (held_by g.O.Sink.held c.args.out.now) (held_by g.O.Sink.held c.lines.out) (held_by g.O.Sink.held c.hand_on.new.out) c.hand_on.ensures.held c.lines.invariant.story in
+    let kept = story_kept c.args.say (text_on c.args.at.now) (text_from c.lines.at) (g.I.Source.left (source_of c.args.lines.now).now) (ahead_of g.I.Source.left c.lines.lines) (given_of c.lines.lines) (has_ended c.lines.lines) (held_by g.O.Sink.held c.args.out.now) (held_by g.O.Sink.held c.lines.out) (held_by g.O.Sink.held c.hand_on.new.out) c.hand_on.ensures.held c.lines.invariant.story in
     record {
       same = c.advance.ensures.same ∙ c.lines.invariant.same;
-      told = story_cut c.args.say c.args.at.now c.lines.at (g.I.Source.left (source_of c.args.lines.now).now) (ahead_of g.I.Source.left c.lines.lines) (g.I.Source.left (source_of c.advance.new.self).now) (pending_of c.advance.new.self) (line_of c.advance.new.self) (given_of c.lines.lines) (given_of c.advance.new.self) (has_ended c.lines.lines) (held_by g.O.Sink.held c.args.out.now) (held_by g.O.Sink.held c.hand_on.new.out) kept told (c.advance.ensures.pending found)
+      told = story_cut c.args.say (text_on c.args.at.now) (text_from c.lines.at) c.lines.at (g.I.Source.left (source_of c.args.lines.now).now) (ahead_of g.I.Source.left c.lines.lines) (g.I.Source.left (source_of c.advance.new.self).now) (pending_of c.advance.new.self) (line_of c.advance.new.self) (given_of c.lines.lines) (given_of c.advance.new.self) (has_ended c.lines.lines) (held_by g.O.Sink.held c.args.out.now) (held_by g.O.Sink.held c.hand_on.new.out) (text_from-end c.lines.at) kept told (c.advance.ensures.pending found)
           (λ ended. c.advance.ensures.unasked (decides_ended schedule_limits (given_of c.lines.lines) (has_ended c.lines.lines) (pending_of c.lines.lines) ended) found);
       after = λ e. cc;
       safe = λ e. cc;
@@ -138,10 +139,11 @@ returns-in-Err-TooLong g c =
     let found = c.in-Err-TooLong.is ∙ ap Err c.in-Err-TooLong.field-0-is in
     let told =
     subst (λ (r : Result Bool LineError). IfSome (ahead_of g.I.Source.left c.lines.lines) (λ bytes. Tells schedule_limits (given_of c.lines.lines) bytes r (line_of c.advance.new.self) (given_of c.advance.new.self) (ahead_of g.I.Source.left c.advance.new.self))) (found) c.advance.ensures.told in
-    let kept = story_kept c.args.say c.args.at.now c.lines.at (g.I.Source.left (source_of c.args.lines.now).now) (ahead_of g.I.Source.left c.lines.lines) (given_of c.lines.lines) (has_ended c.lines.lines) (held_by g.O.Sink.held c.args.out.now) (held_by g.O.Sink.held c.lines.out) (held_by g.O.Sink.held c.hand_on.new.out) c.hand_on.ensures.held c.lines.invariant.story in
+    let kept = story_kept c.args.say (text_on c.args.at.now) (text_from c.lines.at) (g.I.Source.left (source_of c.args.lines.now).now) (ahead_of g.I.Source.left c.lines.lines) (given_of c.lines.lines) (has_ended c.lines.lines) (held_by g.O.Sink.held c.args.out.now) (held_by g.O.Sink.held c.lines.out) (held_by g.O.Sink.held c.hand_on.new.out) c.hand_on.ensures.held c.lines.invariant.story in
     record {
       same = c.advance.ensures.same ∙ c.lines.invariant.same;
-      told = story_long c.args.say c.args.at.now c.lines.at (g.I.Source.left (source_of c.args.lines.now).now) (ahead_of g.I.Source.left c.lines.lines) (ahead_of g.I.Source.left c.advance.new.self) (g.I.Source.left (source_of c.advance.new.self).now) (line_of c.advance.new.self) (given_of c.lines.lines) (given_of c.advance.new.self) (has_ended c.lines.lines) (held_by g.O.Sink.held c.args.out.now) (held_by g.O.Sink.held c.hand_on.new.out) (held_by g.O.Sink.held c.refuse.new.out) c.refuse.result c.lines.invariant.few kept told c.refuse.ensures.read c.refuse.ensures.told;
+      told = story_long c.args.say (text_on c.args.at.now) (text_from c.lines.at) (g.I.Source.left (source_of c.args.lines.now).now) (ahead_of g.I.Source.left c.lines.lines) (ahead_of g.I.Source.left c.advance.new.self) (g.I.Source.left (source_of c.advance.new.self).now) (line_of c.advance.new.self) (given_of c.lines.lines) (given_of c.advance.new.self) (has_ended c.lines.lines) (held_by g.O.Sink.held c.args.out.now) (held_by g.O.Sink.held c.hand_on.new.out) (held_by g.O.Sink.held c.refuse.new.out) c.refuse.result c.lines.invariant.few kept told c.refuse.ensures.read
+          (λ pieces. told_long c.args.say c.lines.at pieces (held_by g.O.Sink.held c.hand_on.new.out) (held_by g.O.Sink.held c.refuse.new.out) c.refuse.result c.refuse.ensures.told);
       after = λ e. absurd (c.refuse.ensures.refused e);
       safe = λ e. absurd (c.refuse.ensures.refused e);
       grown = λ e. absurd (c.refuse.ensures.refused e);
@@ -158,10 +160,11 @@ returns-in-Err-TooMuch g c =
     let found = c.in-Err-TooMuch.is ∙ ap Err c.in-Err-TooMuch.field-0-is in
     let told =
     subst (λ (r : Result Bool LineError). IfSome (ahead_of g.I.Source.left c.lines.lines) (λ bytes. Tells schedule_limits (given_of c.lines.lines) bytes r (line_of c.advance.new.self) (given_of c.advance.new.self) (ahead_of g.I.Source.left c.advance.new.self))) (found) c.advance.ensures.told in
-    let kept = story_kept c.args.say c.args.at.now c.lines.at (g.I.Source.left (source_of c.args.lines.now).now) (ahead_of g.I.Source.left c.lines.lines) (given_of c.lines.lines) (has_ended c.lines.lines) (held_by g.O.Sink.held c.args.out.now) (held_by g.O.Sink.held c.lines.out) (held_by g.O.Sink.held c.hand_on.new.out) c.hand_on.ensures.held c.lines.invariant.story in
+    let kept = story_kept c.args.say (text_on c.args.at.now) (text_from c.lines.at) (g.I.Source.left (source_of c.args.lines.now).now) (ahead_of g.I.Source.left c.lines.lines) (given_of c.lines.lines) (has_ended c.lines.lines) (held_by g.O.Sink.held c.args.out.now) (held_by g.O.Sink.held c.lines.out) (held_by g.O.Sink.held c.hand_on.new.out) c.hand_on.ensures.held c.lines.invariant.story in
     record {
       same = c.advance.ensures.same ∙ c.lines.invariant.same;
-      told = story_much c.args.say c.args.at.now c.lines.at (g.I.Source.left (source_of c.args.lines.now).now) (ahead_of g.I.Source.left c.lines.lines) (ahead_of g.I.Source.left c.advance.new.self) (g.I.Source.left (source_of c.advance.new.self).now) (line_of c.advance.new.self) (given_of c.lines.lines) (given_of c.advance.new.self) (has_ended c.lines.lines) (held_by g.O.Sink.held c.args.out.now) (held_by g.O.Sink.held c.hand_on.new.out) (held_by g.O.Sink.held c.refuse-in-Err-TooMuch.new.out) c.refuse-in-Err-TooMuch.result c.lines.invariant.few kept told c.refuse-in-Err-TooMuch.ensures.read c.refuse-in-Err-TooMuch.ensures.told;
+      told = story_much c.args.say (text_on c.args.at.now) (text_from c.lines.at) (g.I.Source.left (source_of c.args.lines.now).now) (ahead_of g.I.Source.left c.lines.lines) (ahead_of g.I.Source.left c.advance.new.self) (g.I.Source.left (source_of c.advance.new.self).now) (line_of c.advance.new.self) (given_of c.lines.lines) (given_of c.advance.new.self) (has_ended c.lines.lines) (held_by g.O.Sink.held c.args.out.now) (held_by g.O.Sink.held c.hand_on.new.out) (held_by g.O.Sink.held c.refuse-in-Err-TooMuch.new.out) c.refuse-in-Err-TooMuch.result c.lines.invariant.few kept told c.refuse-in-Err-TooMuch.ensures.read
+          (λ pieces. told_beyond c.args.say c.lines.at pieces (held_by g.O.Sink.held c.hand_on.new.out) (held_by g.O.Sink.held c.refuse-in-Err-TooMuch.new.out) c.refuse-in-Err-TooMuch.result c.refuse-in-Err-TooMuch.ensures.told);
       after = λ e. absurd (c.refuse-in-Err-TooMuch.ensures.refused e);
       safe = λ e. absurd (c.refuse-in-Err-TooMuch.ensures.refused e);
       grown = λ e. absurd (c.refuse-in-Err-TooMuch.ensures.refused e);

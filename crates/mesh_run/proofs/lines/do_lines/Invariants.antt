@@ -3,6 +3,7 @@ use Rattle.std.proofs.Common.{◌≡◌, ◌≤◌, ◌+◌, ◌*◌, ◌-◌}
 use Rattle.mesh_base.specs.declared.limits.TheConstants.{LONGEST_INPUT, MOST_EVENTS}
 use Rattle.mesh_io.specs.Buffering.{inner_of, held_by}
 use Rattle.mesh_io.specs.Reading.{source_of, given_of, ahead_of, has_ended, faults_of}
+use Rattle.mesh_text.specs.Text.{text_from, text_on}
 use Rattle.mesh_run.specs.Sums.{IsGrown}
 use Rattle.mesh_run.proofs.Story.{IsStory}
 use Rattle.mesh_run.proofs.lines.do_lines.Given as goal
@@ -10,7 +11,7 @@ use Rattle.mesh_run.proofs.lines.do_lines.Given as goal
 abbrev pub invariant-lines : goal.invariant-lines
 invariant-lines g l = record {
   same : (source_of l.lines).ghost_name ≡ (source_of l.fn.lines).ghost_name;
-  story : IsStory l.say l.fn.at l.at (g.I.Source.left (source_of l.fn.lines).now) (ahead_of g.I.Source.left l.lines) (given_of l.lines) (has_ended l.lines)
+  story : IsStory l.say (text_on l.fn.at) (text_from l.at) (g.I.Source.left (source_of l.fn.lines).now) (ahead_of g.I.Source.left l.lines) (given_of l.lines) (has_ended l.lines)
       (held_by g.O.Sink.held l.fn.out) (held_by g.O.Sink.held l.out);
   few : given_of l.lines ≤ LONGEST_INPUT;
   reads : faults_of g.I.Source.faults l.lines ≡ faults_of g.I.Source.faults l.fn.lines;

@@ -7,14 +7,14 @@ use Rattle.mesh_run.proofs.Telling.{front_of_came}
 use Rattle.mesh_run.proofs.values.do_value.Goals as goal
 
 pub returns-in-Ok-clause-lines : goal.returns-in-Ok-clause-lines
-returns-in-Ok-clause-lines g c = (value_grows true c.args.at.now c.do_line.new.at (accepted_of c.args.line) _ _ (subst IsSized c.at.view_is c.started-started.ensures.sized) c.requires.allowed.0 c.in-Ok.ensures.comes).lines
+returns-in-Ok-clause-lines g c = (value_grows true c.args.at.now c.do_line.new.at (accepted_of c.args.line) _ _ c.requires.allowed.0 c.in-Ok.ensures.comes).lines
 
 pub returns-in-Ok-clause-grown : goal.returns-in-Ok-clause-grown
-returns-in-Ok-clause-grown g c = (value_grows true c.args.at.now c.do_line.new.at (accepted_of c.args.line) _ _ (subst IsSized c.at.view_is c.started-started.ensures.sized) c.requires.allowed.0 c.in-Ok.ensures.comes).grown
+returns-in-Ok-clause-grown g c = (value_grows true c.args.at.now c.do_line.new.at (accepted_of c.args.line) _ _ c.requires.allowed.0 c.in-Ok.ensures.comes).grown (subst IsSized c.at.view_is c.started-started.ensures.sized)
 
 pub returns-in-Ok-clause-steps : goal.returns-in-Ok-clause-steps
 returns-in-Ok-clause-steps g c =
-    let grows = value_grows true c.args.at.now c.do_line.new.at (accepted_of c.args.line) _ _ (subst IsSized c.at.view_is c.started-started.ensures.sized) c.requires.allowed.0 c.in-Ok.ensures.comes in
+    let grows = value_grows true c.args.at.now c.do_line.new.at (accepted_of c.args.line) _ _ c.requires.allowed.0 c.in-Ok.ensures.comes in
     omega (arith, grows.steps)
 
 pub returns-in-Err-WriteFault-clause-told : goal.returns-in-Err-WriteFault-clause-told

@@ -8,17 +8,19 @@ use Rattle.mesh_io.specs.declared.line_error.LineError.{LineError}
 use Rattle.mesh_io.proofs.Deciding.{decides_ended}
 use Rattle.mesh_grammar.specs.Lines.{Whole}
 use Rattle.mesh_run.specs.Told.{IsOutput}
+use Rattle.mesh_run.specs.declared.say.Say.TheVariants.{All}
 use Rattle.mesh_run.specs.Runs.{IsLineDone}
 use Rattle.mesh_run.proofs.Faults.{cause_as, cause_after, no_cause, a_cause, unsome}
 use Rattle.mesh_run.proofs.Growth.{steps_more}
-use Rattle.mesh_watch.specs.Text.{watched_piece, watched_from}
-use Rattle.mesh_watch.proofs.Story.{story_begins, story_kept, story_goes, story_stops, story_ends, story_long, story_much, story_breaks, story_cut}
+use Rattle.mesh_watch.specs.Text.{watched_piece, watched_from, watched_on}
+use Rattle.mesh_watch.proofs.Telling.{watched_from-on, watched_from-end, told_long, told_beyond}
+use Rattle.mesh_run.proofs.Story.{story_begins, story_kept, story_goes, story_stops, story_ends, story_long, story_much, story_breaks, story_cut}
 use Rattle.mesh_watch.proofs.lines.do_lines.Goals as goal
 
 pub lines-init : goal.lines-init
 lines-init g c = record {
   same = refl;
-  story = story_begins c.args.at.now.point (g.I.Source.left (source_of c.args.lines.now).now) (pending_of c.args.lines.now) (given_of c.args.lines.now) (has_ended c.args.lines.now) (held_by g.O.Sink.held c.args.out.now) c.requires.pending c.requires.given;
+  story = story_begins All (watched_on c.args.at.now.point) (watched_from c.args.at.now.point) (g.I.Source.left (source_of c.args.lines.now).now) (pending_of c.args.lines.now) (given_of c.args.lines.now) (has_ended c.args.lines.now) (held_by g.O.Sink.held c.args.out.now) (λ bytes. refl) c.requires.pending c.requires.given;
   few = omega (arith, c.requires.given);
   reads = refl;
   writes = refl;
@@ -31,7 +33,7 @@ lines-preserved g c =
     let found = c.in-Ok-true.is ∙ ap Ok c.in-Ok-true.field-0-test in
     let told =
     subst (λ (r : Result Bool LineError). IfSome (ahead_of g.I.Source.left c.lines.lines) (λ bytes. Tells schedule_limits (given_of c.lines.lines) bytes r (line_of c.advance.new.self) (given_of c.advance.new.self) (ahead_of g.I.Source.left c.advance.new.self))) (found) c.advance.ensures.told in
-    let kept = story_kept c.args.at.now.point c.lines.at.point (g.I.Source.left (source_of c.args.lines.now).now) (ahead_of g.I.Source.left c.lines.lines) (given_of c.lines.lines) (has_ended c.lines.lines) (held_by g.O.Sink.held c.args.out.now) (held_by g.O.Sink.held c.lines.out) (held_by g.O.Sink.held c.hand_on.new.out) c.hand_on.ensures.held c.lines.invariant.story in
+    let kept = story_kept All (watched_on c.args.at.now.point) (watched_from c.lines.at.point) (g.I.Source.left (source_of c.args.lines.now).now) (ahead_of g.I.Source.left c.lines.lines) (given_of c.lines.lines) (has_ended c.lines.lines) (held_by g.O.Sink.held c.args.out.now) (held_by g.O.Sink.held c.lines.out) (held_by g.O.Sink.held c.hand_on.new.out) c.hand_on.ensures.held c.lines.invariant.story in
     let counted = c.advance.ensures.counted found in
     let grows = c.advance.ensures.grows found in
     let done : IsLineDone false (watched_piece c.lines.at.point (Whole (line_of c.advance.new.self))) c.piece.new.at.point (held_by g.O.Sink.held c.hand_on.new.out) (held_by g.O.Sink.held c.piece.new.out) =
@@ -41,8 +43,8 @@ lines-preserved g c =
     let steps = c.in_default-piece.ensures.steps in
     record {
       same = c.advance.ensures.same ∙ c.lines.invariant.same;
-      story = story_goes c.args.at.now.point c.lines.at.point c.piece.new.at.point (g.I.Source.left (source_of c.args.lines.now).now) (ahead_of g.I.Source.left c.lines.lines) (ahead_of g.I.Source.left c.advance.new.self) (line_of c.advance.new.self) (given_of c.lines.lines) (given_of c.advance.new.self) (has_ended c.lines.lines) (has_ended c.advance.new.self) (held_by g.O.Sink.held c.args.out.now) (held_by g.O.Sink.held c.hand_on.new.out) (held_by g.O.Sink.held c.piece.new.out)
-          c.lines.invariant.few c.advance.ensures.few (c.advance.ensures.short found) kept told counted done;
+      story = story_goes All (watched_on c.args.at.now.point) (watched_from c.lines.at.point) (watched_from c.piece.new.at.point) (g.I.Source.left (source_of c.args.lines.now).now) (ahead_of g.I.Source.left c.lines.lines) (ahead_of g.I.Source.left c.advance.new.self) (line_of c.advance.new.self) done.text (given_of c.lines.lines) (given_of c.advance.new.self) (has_ended c.lines.lines) (has_ended c.advance.new.self) (held_by g.O.Sink.held c.args.out.now) (held_by g.O.Sink.held c.hand_on.new.out) (held_by g.O.Sink.held c.piece.new.out)
+          c.lines.invariant.few c.advance.ensures.few (c.advance.ensures.short found) kept told counted (λ pieces. watched_from-on c.lines.at.point c.piece.new.at.point (Whole (line_of c.advance.new.self)) done.text pieces done.is) done.grown;
       few = c.advance.ensures.few;
       reads = c.in-Ok-true.ensures.cause.none (λ e. cc) ∙ c.lines.invariant.reads;
       writes = c.in_default-piece.ensures.cause.none (λ e. cc) ∙ c.in_default.ensures.cause.none ∙ c.lines.invariant.writes;
@@ -53,8 +55,8 @@ lines-preserved g c =
 pub returns-in-Err : goal.returns-in-Err
 returns-in-Err g c = record {
   same = c.lines.invariant.same;
-  told = story_breaks c.args.at.now.point c.lines.at.point (g.I.Source.left (source_of c.args.lines.now).now) (ahead_of g.I.Source.left c.lines.lines) (g.I.Source.left (source_of c.lines.lines).now) (given_of c.lines.lines) (has_ended c.lines.lines) (held_by g.O.Sink.held c.args.out.now) (held_by g.O.Sink.held c.hand_on.new.out)
-      (story_kept c.args.at.now.point c.lines.at.point (g.I.Source.left (source_of c.args.lines.now).now) (ahead_of g.I.Source.left c.lines.lines) (given_of c.lines.lines) (has_ended c.lines.lines) (held_by g.O.Sink.held c.args.out.now) (held_by g.O.Sink.held c.lines.out) (held_by g.O.Sink.held c.hand_on.new.out) c.hand_on.ensures.held c.lines.invariant.story);
+  told = story_breaks All (watched_on c.args.at.now.point) (watched_from c.lines.at.point) (g.I.Source.left (source_of c.args.lines.now).now) (ahead_of g.I.Source.left c.lines.lines) (g.I.Source.left (source_of c.lines.lines).now) (given_of c.lines.lines) (has_ended c.lines.lines) (held_by g.O.Sink.held c.args.out.now) (held_by g.O.Sink.held c.hand_on.new.out)
+      (story_kept All (watched_on c.args.at.now.point) (watched_from c.lines.at.point) (g.I.Source.left (source_of c.args.lines.now).now) (ahead_of g.I.Source.left c.lines.lines) (given_of c.lines.lines) (has_ended c.lines.lines) (held_by g.O.Sink.held c.args.out.now) (held_by g.O.Sink.held c.lines.out) (held_by g.O.Sink.held c.hand_on.new.out) c.hand_on.ensures.held c.lines.invariant.story);
   end = λ e. cc;
   read = no_cause _ _ c.lines.invariant.reads (λ e. cc);
   write = cause_after _ _ _ c.lines.invariant.writes (a_cause _ _ c.hand_on.ensures.cause.later c.in-Err.ensures.cause.failed refl);
@@ -66,10 +68,10 @@ returns-in-Some g c =
     let found = c.in-Ok-true.is ∙ ap Ok c.in-Ok-true.field-0-test in
     let told =
     subst (λ (r : Result Bool LineError). IfSome (ahead_of g.I.Source.left c.lines.lines) (λ bytes. Tells schedule_limits (given_of c.lines.lines) bytes r (line_of c.advance.new.self) (given_of c.advance.new.self) (ahead_of g.I.Source.left c.advance.new.self))) (found) c.advance.ensures.told in
-    let kept = story_kept c.args.at.now.point c.lines.at.point (g.I.Source.left (source_of c.args.lines.now).now) (ahead_of g.I.Source.left c.lines.lines) (given_of c.lines.lines) (has_ended c.lines.lines) (held_by g.O.Sink.held c.args.out.now) (held_by g.O.Sink.held c.lines.out) (held_by g.O.Sink.held c.hand_on.new.out) c.hand_on.ensures.held c.lines.invariant.story in
+    let kept = story_kept All (watched_on c.args.at.now.point) (watched_from c.lines.at.point) (g.I.Source.left (source_of c.args.lines.now).now) (ahead_of g.I.Source.left c.lines.lines) (given_of c.lines.lines) (has_ended c.lines.lines) (held_by g.O.Sink.held c.args.out.now) (held_by g.O.Sink.held c.lines.out) (held_by g.O.Sink.held c.hand_on.new.out) c.hand_on.ensures.held c.lines.invariant.story in
     record {
       same = c.advance.ensures.same ∙ c.lines.invariant.same;
-      told = story_stops c.args.at.now.point c.lines.at.point (g.I.Source.left (source_of c.args.lines.now).now) (ahead_of g.I.Source.left c.lines.lines) (ahead_of g.I.Source.left c.advance.new.self) (g.I.Source.left (source_of c.advance.new.self).now) (line_of c.advance.new.self) (given_of c.lines.lines) (given_of c.advance.new.self) (has_ended c.lines.lines) (held_by g.O.Sink.held c.args.out.now) (held_by g.O.Sink.held c.hand_on.new.out) (held_by g.O.Sink.held c.piece.new.out) c.in-Some.status
+      told = story_stops All (watched_on c.args.at.now.point) (watched_from c.lines.at.point) (g.I.Source.left (source_of c.args.lines.now).now) (ahead_of g.I.Source.left c.lines.lines) (ahead_of g.I.Source.left c.advance.new.self) (g.I.Source.left (source_of c.advance.new.self).now) (line_of c.advance.new.self) (given_of c.lines.lines) (given_of c.advance.new.self) (has_ended c.lines.lines) (held_by g.O.Sink.held c.args.out.now) (held_by g.O.Sink.held c.hand_on.new.out) (held_by g.O.Sink.held c.piece.new.out) c.in-Some.status
           c.lines.invariant.few kept told (λ e. c.in-Some.ensures.read (ap Some e))
           (λ pieces. subst (λ l. IsOutput (held_by g.O.Sink.held c.hand_on.new.out) (held_by g.O.Sink.held c.piece.new.out) (watched_from c.lines.at.point (Whole l ∷ pieces)) c.in-Some.status) c.line.ensures (c.in-Some.ensures.told pieces));
       end = λ e. absurd (c.in-Some.ensures.stopped (ap Some e));
@@ -83,10 +85,10 @@ returns-in-Ok-false g c =
     let found = c.in-Ok-false.is ∙ ap Ok c.in-Ok-false.field-0-test in
     let told =
     subst (λ (r : Result Bool LineError). IfSome (ahead_of g.I.Source.left c.lines.lines) (λ bytes. Tells schedule_limits (given_of c.lines.lines) bytes r (line_of c.advance.new.self) (given_of c.advance.new.self) (ahead_of g.I.Source.left c.advance.new.self))) (found) c.advance.ensures.told in
-    let kept = story_kept c.args.at.now.point c.lines.at.point (g.I.Source.left (source_of c.args.lines.now).now) (ahead_of g.I.Source.left c.lines.lines) (given_of c.lines.lines) (has_ended c.lines.lines) (held_by g.O.Sink.held c.args.out.now) (held_by g.O.Sink.held c.lines.out) (held_by g.O.Sink.held c.hand_on.new.out) c.hand_on.ensures.held c.lines.invariant.story in
+    let kept = story_kept All (watched_on c.args.at.now.point) (watched_from c.lines.at.point) (g.I.Source.left (source_of c.args.lines.now).now) (ahead_of g.I.Source.left c.lines.lines) (given_of c.lines.lines) (has_ended c.lines.lines) (held_by g.O.Sink.held c.args.out.now) (held_by g.O.Sink.held c.lines.out) (held_by g.O.Sink.held c.hand_on.new.out) c.hand_on.ensures.held c.lines.invariant.story in
     record {
       same = c.advance.ensures.same ∙ c.lines.invariant.same;
-      told = story_ends c.args.at.now.point c.lines.at.point (g.I.Source.left (source_of c.args.lines.now).now) (ahead_of g.I.Source.left c.lines.lines) (ahead_of g.I.Source.left c.advance.new.self) (g.I.Source.left (source_of c.advance.new.self).now) (line_of c.advance.new.self) (given_of c.lines.lines) (given_of c.advance.new.self) (has_ended c.lines.lines) (held_by g.O.Sink.held c.args.out.now) (held_by g.O.Sink.held c.hand_on.new.out) (held_by g.O.Sink.held c.finish.new.out) c.finish.result kept told c.finish.ensures.read c.finish.ensures.told;
+      told = story_ends All (watched_on c.args.at.now.point) (watched_from c.lines.at.point) c.lines.at.point (g.I.Source.left (source_of c.args.lines.now).now) (ahead_of g.I.Source.left c.lines.lines) (ahead_of g.I.Source.left c.advance.new.self) (g.I.Source.left (source_of c.advance.new.self).now) (line_of c.advance.new.self) (given_of c.lines.lines) (given_of c.advance.new.self) (has_ended c.lines.lines) (held_by g.O.Sink.held c.args.out.now) (held_by g.O.Sink.held c.hand_on.new.out) (held_by g.O.Sink.held c.finish.new.out) c.finish.result (watched_from-end c.lines.at.point) kept told c.finish.ensures.read c.finish.ensures.told;
       end = λ e. c.advance.ensures.end found;
       read = no_cause _ _ (c.in-Ok-false.ensures.cause.none (λ e. cc) ∙ c.lines.invariant.reads) c.finish.ensures.read;
       write = cause_after _ _ _ (c.in_default.ensures.cause.none ∙ c.lines.invariant.writes) c.finish.ensures.cause;
@@ -98,10 +100,10 @@ returns-in-Err-ReadFault g c =
     let found = c.in-Err-ReadFault.is ∙ ap Err c.in-Err-ReadFault.field-0-is in
     let told =
     subst (λ (r : Result Bool LineError). IfSome (ahead_of g.I.Source.left c.lines.lines) (λ bytes. Tells schedule_limits (given_of c.lines.lines) bytes r (line_of c.advance.new.self) (given_of c.advance.new.self) (ahead_of g.I.Source.left c.advance.new.self))) (found) c.advance.ensures.told in
-    let kept = story_kept c.args.at.now.point c.lines.at.point (g.I.Source.left (source_of c.args.lines.now).now) (ahead_of g.I.Source.left c.lines.lines) (given_of c.lines.lines) (has_ended c.lines.lines) (held_by g.O.Sink.held c.args.out.now) (held_by g.O.Sink.held c.lines.out) (held_by g.O.Sink.held c.hand_on.new.out) c.hand_on.ensures.held c.lines.invariant.story in
+    let kept = story_kept All (watched_on c.args.at.now.point) (watched_from c.lines.at.point) (g.I.Source.left (source_of c.args.lines.now).now) (ahead_of g.I.Source.left c.lines.lines) (given_of c.lines.lines) (has_ended c.lines.lines) (held_by g.O.Sink.held c.args.out.now) (held_by g.O.Sink.held c.lines.out) (held_by g.O.Sink.held c.hand_on.new.out) c.hand_on.ensures.held c.lines.invariant.story in
     record {
       same = c.advance.ensures.same ∙ c.lines.invariant.same;
-      told = story_cut c.args.at.now.point c.lines.at.point (g.I.Source.left (source_of c.args.lines.now).now) (ahead_of g.I.Source.left c.lines.lines) (g.I.Source.left (source_of c.advance.new.self).now) (pending_of c.advance.new.self) (line_of c.advance.new.self) (given_of c.lines.lines) (given_of c.advance.new.self) (has_ended c.lines.lines) (held_by g.O.Sink.held c.args.out.now) (held_by g.O.Sink.held c.hand_on.new.out) kept told (c.advance.ensures.pending found)
+      told = story_cut All (watched_on c.args.at.now.point) (watched_from c.lines.at.point) c.lines.at.point (g.I.Source.left (source_of c.args.lines.now).now) (ahead_of g.I.Source.left c.lines.lines) (g.I.Source.left (source_of c.advance.new.self).now) (pending_of c.advance.new.self) (line_of c.advance.new.self) (given_of c.lines.lines) (given_of c.advance.new.self) (has_ended c.lines.lines) (held_by g.O.Sink.held c.args.out.now) (held_by g.O.Sink.held c.hand_on.new.out) (watched_from-end c.lines.at.point) kept told (c.advance.ensures.pending found)
           (λ ended. c.advance.ensures.unasked (decides_ended schedule_limits (given_of c.lines.lines) (has_ended c.lines.lines) (pending_of c.lines.lines) ended) found);
       end = λ e. cc;
       read = cause_after _ _ _ c.lines.invariant.reads (a_cause _ _ c.advance.ensures.cause.later (c.advance.ensures.cause.failed found) refl);
@@ -114,10 +116,11 @@ returns-in-Err-TooLong g c =
     let found = c.in-Err-TooLong.is ∙ ap Err c.in-Err-TooLong.field-0-is in
     let told =
     subst (λ (r : Result Bool LineError). IfSome (ahead_of g.I.Source.left c.lines.lines) (λ bytes. Tells schedule_limits (given_of c.lines.lines) bytes r (line_of c.advance.new.self) (given_of c.advance.new.self) (ahead_of g.I.Source.left c.advance.new.self))) (found) c.advance.ensures.told in
-    let kept = story_kept c.args.at.now.point c.lines.at.point (g.I.Source.left (source_of c.args.lines.now).now) (ahead_of g.I.Source.left c.lines.lines) (given_of c.lines.lines) (has_ended c.lines.lines) (held_by g.O.Sink.held c.args.out.now) (held_by g.O.Sink.held c.lines.out) (held_by g.O.Sink.held c.hand_on.new.out) c.hand_on.ensures.held c.lines.invariant.story in
+    let kept = story_kept All (watched_on c.args.at.now.point) (watched_from c.lines.at.point) (g.I.Source.left (source_of c.args.lines.now).now) (ahead_of g.I.Source.left c.lines.lines) (given_of c.lines.lines) (has_ended c.lines.lines) (held_by g.O.Sink.held c.args.out.now) (held_by g.O.Sink.held c.lines.out) (held_by g.O.Sink.held c.hand_on.new.out) c.hand_on.ensures.held c.lines.invariant.story in
     record {
       same = c.advance.ensures.same ∙ c.lines.invariant.same;
-      told = story_long c.args.at.now.point c.lines.at.point (g.I.Source.left (source_of c.args.lines.now).now) (ahead_of g.I.Source.left c.lines.lines) (ahead_of g.I.Source.left c.advance.new.self) (g.I.Source.left (source_of c.advance.new.self).now) (line_of c.advance.new.self) (given_of c.lines.lines) (given_of c.advance.new.self) (has_ended c.lines.lines) (held_by g.O.Sink.held c.args.out.now) (held_by g.O.Sink.held c.hand_on.new.out) (held_by g.O.Sink.held c.refuse.new.out) c.refuse.result c.lines.invariant.few kept told c.refuse.ensures.read c.refuse.ensures.told;
+      told = story_long All (watched_on c.args.at.now.point) (watched_from c.lines.at.point) (g.I.Source.left (source_of c.args.lines.now).now) (ahead_of g.I.Source.left c.lines.lines) (ahead_of g.I.Source.left c.advance.new.self) (g.I.Source.left (source_of c.advance.new.self).now) (line_of c.advance.new.self) (given_of c.lines.lines) (given_of c.advance.new.self) (has_ended c.lines.lines) (held_by g.O.Sink.held c.args.out.now) (held_by g.O.Sink.held c.hand_on.new.out) (held_by g.O.Sink.held c.refuse.new.out) c.refuse.result c.lines.invariant.few kept told c.refuse.ensures.read
+          (λ pieces. told_long c.lines.at.point pieces (held_by g.O.Sink.held c.hand_on.new.out) (held_by g.O.Sink.held c.refuse.new.out) c.refuse.result c.refuse.ensures.told);
       end = λ e. absurd (c.refuse.ensures.refused e);
       read = no_cause _ _ (c.in-Err-TooLong.ensures.cause.none (λ e. cc) ∙ c.lines.invariant.reads) c.refuse.ensures.read;
       write = cause_after _ _ _ (c.in_default.ensures.cause.none ∙ c.lines.invariant.writes) c.refuse.ensures.cause;
@@ -129,10 +132,11 @@ returns-in-Err-TooMuch g c =
     let found = c.in-Err-TooMuch.is ∙ ap Err c.in-Err-TooMuch.field-0-is in
     let told =
     subst (λ (r : Result Bool LineError). IfSome (ahead_of g.I.Source.left c.lines.lines) (λ bytes. Tells schedule_limits (given_of c.lines.lines) bytes r (line_of c.advance.new.self) (given_of c.advance.new.self) (ahead_of g.I.Source.left c.advance.new.self))) (found) c.advance.ensures.told in
-    let kept = story_kept c.args.at.now.point c.lines.at.point (g.I.Source.left (source_of c.args.lines.now).now) (ahead_of g.I.Source.left c.lines.lines) (given_of c.lines.lines) (has_ended c.lines.lines) (held_by g.O.Sink.held c.args.out.now) (held_by g.O.Sink.held c.lines.out) (held_by g.O.Sink.held c.hand_on.new.out) c.hand_on.ensures.held c.lines.invariant.story in
+    let kept = story_kept All (watched_on c.args.at.now.point) (watched_from c.lines.at.point) (g.I.Source.left (source_of c.args.lines.now).now) (ahead_of g.I.Source.left c.lines.lines) (given_of c.lines.lines) (has_ended c.lines.lines) (held_by g.O.Sink.held c.args.out.now) (held_by g.O.Sink.held c.lines.out) (held_by g.O.Sink.held c.hand_on.new.out) c.hand_on.ensures.held c.lines.invariant.story in
     record {
       same = c.advance.ensures.same ∙ c.lines.invariant.same;
-      told = story_much c.args.at.now.point c.lines.at.point (g.I.Source.left (source_of c.args.lines.now).now) (ahead_of g.I.Source.left c.lines.lines) (ahead_of g.I.Source.left c.advance.new.self) (g.I.Source.left (source_of c.advance.new.self).now) (line_of c.advance.new.self) (given_of c.lines.lines) (given_of c.advance.new.self) (has_ended c.lines.lines) (held_by g.O.Sink.held c.args.out.now) (held_by g.O.Sink.held c.hand_on.new.out) (held_by g.O.Sink.held c.refuse-in-Err-TooMuch.new.out) c.refuse-in-Err-TooMuch.result c.lines.invariant.few kept told c.refuse-in-Err-TooMuch.ensures.read c.refuse-in-Err-TooMuch.ensures.told;
+      told = story_much All (watched_on c.args.at.now.point) (watched_from c.lines.at.point) (g.I.Source.left (source_of c.args.lines.now).now) (ahead_of g.I.Source.left c.lines.lines) (ahead_of g.I.Source.left c.advance.new.self) (g.I.Source.left (source_of c.advance.new.self).now) (line_of c.advance.new.self) (given_of c.lines.lines) (given_of c.advance.new.self) (has_ended c.lines.lines) (held_by g.O.Sink.held c.args.out.now) (held_by g.O.Sink.held c.hand_on.new.out) (held_by g.O.Sink.held c.refuse-in-Err-TooMuch.new.out) c.refuse-in-Err-TooMuch.result c.lines.invariant.few kept told c.refuse-in-Err-TooMuch.ensures.read
+          (λ pieces. told_beyond c.lines.at.point pieces (held_by g.O.Sink.held c.hand_on.new.out) (held_by g.O.Sink.held c.refuse-in-Err-TooMuch.new.out) c.refuse-in-Err-TooMuch.result c.refuse-in-Err-TooMuch.ensures.told);
       end = λ e. absurd (c.refuse-in-Err-TooMuch.ensures.refused e);
       read = no_cause _ _ (c.in-Err-TooMuch.ensures.cause.none (λ e. cc) ∙ c.lines.invariant.reads) c.refuse-in-Err-TooMuch.ensures.read;
       write = cause_after _ _ _ (c.in_default.ensures.cause.none ∙ c.lines.invariant.writes) c.refuse-in-Err-TooMuch.ensures.cause;

@@ -3,13 +3,15 @@ use Rattle.std.proofs.Common.{◌≡◌, ◌≤◌, ◌+◌, ◌*◌, ◌-◌}
 use Rattle.mesh_base.specs.declared.limits.TheConstants.{LONGEST_INPUT, MOST_EVENTS}
 use Rattle.mesh_io.specs.Buffering.{inner_of, held_by}
 use Rattle.mesh_io.specs.Reading.{source_of, given_of, ahead_of, has_ended, faults_of}
-use Rattle.mesh_watch.proofs.Story.{IsStory}
+use Rattle.mesh_run.specs.declared.say.Say.TheVariants.{All}
+use Rattle.mesh_run.proofs.Story.{IsStory}
+use Rattle.mesh_watch.specs.Text.{watched_from, watched_on}
 use Rattle.mesh_watch.proofs.lines.do_lines.Given as goal
 
 abbrev pub invariant-lines : goal.invariant-lines
 invariant-lines g l = record {
   same : (source_of l.lines).ghost_name ≡ (source_of l.fn.lines).ghost_name;
-  story : IsStory l.fn.at.point l.at.point (g.I.Source.left (source_of l.fn.lines).now) (ahead_of g.I.Source.left l.lines) (given_of l.lines) (has_ended l.lines)
+  story : IsStory All (watched_on l.fn.at.point) (watched_from l.at.point) (g.I.Source.left (source_of l.fn.lines).now) (ahead_of g.I.Source.left l.lines) (given_of l.lines) (has_ended l.lines)
       (held_by g.O.Sink.held l.fn.out) (held_by g.O.Sink.held l.out);
   few : given_of l.lines ≤ LONGEST_INPUT;
   reads : faults_of g.I.Source.faults l.lines ≡ faults_of g.I.Source.faults l.fn.lines;
