@@ -40,6 +40,7 @@ fn drive_gathered<I: Source, O: Sink>(
 {
     let mut lines = Lines::new(input);
     let status = do_lines(alloc, at, reach, &mut lines, buffer);
+    // It says that `input` is the source as the lines have left it.
     let _input = lines.give_back();
     if status == Status::WriteFault {
         return status;
@@ -99,6 +100,7 @@ fn drive<I: Source, O: Sink>(
         return Status::NoMemory;
     };
     let mut status = Status::Done;
+    // It says that what comes back is `out`, as the buffer has left it.
     let _out = drive_through::<I, O, Brand>(alloc, room, at, reach, input, out, &mut status);
     status
 }

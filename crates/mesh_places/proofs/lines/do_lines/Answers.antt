@@ -7,19 +7,21 @@ use Rattle.mesh_io.specs.Reading.{source_of, given_of, pending_of, line_of, has_
 use Rattle.mesh_io.specs.declared.line_error.LineError.{LineError}
 use Rattle.mesh_io.proofs.Deciding.{decides_ended}
 use Rattle.mesh_grammar.specs.Lines.{Whole}
-use Rattle.mesh_grid.specs.Text.{text_from, outcome_of_piece, places_after}
+use Rattle.mesh_grid.specs.Text.{text_from, text_on, outcome_of_piece, places_after}
 use Rattle.mesh_run.specs.Told.{IsOutput}
+use Rattle.mesh_run.specs.declared.say.Say.TheVariants.{All}
 use Rattle.mesh_run.specs.Runs.{IsLineDone}
 use Rattle.mesh_run.proofs.Faults.{cause_as, cause_after, no_cause, a_cause, unsome}
 use Rattle.mesh_run.proofs.Growth.{steps_more}
 use Rattle.mesh_places.specs.Moments.{moment_of}
-use Rattle.mesh_places.proofs.Story.{story_begins, story_kept, story_goes, story_stops, story_ends, story_long, story_much, story_breaks, story_cut}
+use Rattle.mesh_places.proofs.Telling.{text_from-on, text_from-end, told_long, told_beyond}
+use Rattle.mesh_run.proofs.Story.{story_begins, story_kept, story_goes, story_stops, story_ends, story_long, story_much, story_breaks, story_cut}
 use Rattle.mesh_places.proofs.lines.do_lines.Goals as goal
 
 pub lines-init : goal.lines-init
 lines-init g c = record {
   same = refl;
-  story = story_begins c.args.reach (moment_of c.args.at.now) (g.I.Source.left (source_of c.args.lines.now).now) (pending_of c.args.lines.now) (given_of c.args.lines.now) (has_ended c.args.lines.now) (held_by g.O.Sink.held c.args.out.now) c.requires.pending c.requires.given;
+  story = story_begins All (text_on c.args.reach (moment_of c.args.at.now)) (text_from c.args.reach (moment_of c.args.at.now)) (g.I.Source.left (source_of c.args.lines.now).now) (pending_of c.args.lines.now) (given_of c.args.lines.now) (has_ended c.args.lines.now) (held_by g.O.Sink.held c.args.out.now) (λ bytes. refl) c.requires.pending c.requires.given;
   few = omega (arith, c.requires.given);
   reads = refl;
   writes = refl;
@@ -32,7 +34,7 @@ lines-preserved g c =
     let found = c.in-Ok-true.is ∙ ap Ok c.in-Ok-true.field-0-test in
     let told =
     subst (λ (r : Result Bool LineError). IfSome (ahead_of g.I.Source.left c.lines.lines) (λ bytes. Tells schedule_limits (given_of c.lines.lines) bytes r (line_of c.advance.new.self) (given_of c.advance.new.self) (ahead_of g.I.Source.left c.advance.new.self))) (found) c.advance.ensures.told in
-    let kept = story_kept c.args.reach (moment_of c.args.at.now) (moment_of c.lines.at) (g.I.Source.left (source_of c.args.lines.now).now) (ahead_of g.I.Source.left c.lines.lines) (given_of c.lines.lines) (has_ended c.lines.lines) (held_by g.O.Sink.held c.args.out.now) (held_by g.O.Sink.held c.lines.out) (held_by g.O.Sink.held c.hand_on.new.out) c.hand_on.ensures.held c.lines.invariant.story in
+    let kept = story_kept All (text_on c.args.reach (moment_of c.args.at.now)) (text_from c.args.reach (moment_of c.lines.at)) (g.I.Source.left (source_of c.args.lines.now).now) (ahead_of g.I.Source.left c.lines.lines) (given_of c.lines.lines) (has_ended c.lines.lines) (held_by g.O.Sink.held c.args.out.now) (held_by g.O.Sink.held c.lines.out) (held_by g.O.Sink.held c.hand_on.new.out) c.hand_on.ensures.held c.lines.invariant.story in
     let counted = c.advance.ensures.counted found in
     let grows = c.advance.ensures.grows found in
     let done : IsLineDone false (outcome_of_piece c.args.reach (moment_of c.lines.at) (Whole (line_of c.advance.new.self))) c.piece.new.at.point (held_by g.O.Sink.held c.hand_on.new.out) (held_by g.O.Sink.held c.piece.new.out) =
@@ -44,8 +46,8 @@ lines-preserved g c =
     let steps = c.in_default-piece.ensures.steps in
     record {
       same = c.advance.ensures.same ∙ c.lines.invariant.same;
-      story = story_goes c.args.reach (moment_of c.args.at.now) (moment_of c.lines.at) (moment_of c.piece.new.at) (g.I.Source.left (source_of c.args.lines.now).now) (ahead_of g.I.Source.left c.lines.lines) (ahead_of g.I.Source.left c.advance.new.self) (line_of c.advance.new.self) (given_of c.lines.lines) (given_of c.advance.new.self) (has_ended c.lines.lines) (has_ended c.advance.new.self) (held_by g.O.Sink.held c.args.out.now) (held_by g.O.Sink.held c.hand_on.new.out) (held_by g.O.Sink.held c.piece.new.out)
-          c.lines.invariant.few c.advance.ensures.few (c.advance.ensures.short found) kept told counted done places;
+      story = story_goes All (text_on c.args.reach (moment_of c.args.at.now)) (text_from c.args.reach (moment_of c.lines.at)) (text_from c.args.reach (moment_of c.piece.new.at)) (g.I.Source.left (source_of c.args.lines.now).now) (ahead_of g.I.Source.left c.lines.lines) (ahead_of g.I.Source.left c.advance.new.self) (line_of c.advance.new.self) done.text (given_of c.lines.lines) (given_of c.advance.new.self) (has_ended c.lines.lines) (has_ended c.advance.new.self) (held_by g.O.Sink.held c.args.out.now) (held_by g.O.Sink.held c.hand_on.new.out) (held_by g.O.Sink.held c.piece.new.out)
+          c.lines.invariant.few c.advance.ensures.few (c.advance.ensures.short found) kept told counted (λ pieces. text_from-on c.args.reach (moment_of c.lines.at) (moment_of c.piece.new.at) (Whole (line_of c.advance.new.self)) done.text pieces done.is places) done.grown;
       few = c.advance.ensures.few;
       reads = c.in-Ok-true.ensures.cause.none (λ e. cc) ∙ c.lines.invariant.reads;
       writes = c.in_default-piece.ensures.cause.none (λ e. cc) ∙ c.in_default.ensures.cause.none ∙ c.lines.invariant.writes;
@@ -56,8 +58,8 @@ lines-preserved g c =
 pub returns-in-Err : goal.returns-in-Err
 returns-in-Err g c = record {
   same = c.lines.invariant.same;
-  told = story_breaks c.args.reach (moment_of c.args.at.now) (moment_of c.lines.at) (g.I.Source.left (source_of c.args.lines.now).now) (ahead_of g.I.Source.left c.lines.lines) (g.I.Source.left (source_of c.lines.lines).now) (given_of c.lines.lines) (has_ended c.lines.lines) (held_by g.O.Sink.held c.args.out.now) (held_by g.O.Sink.held c.hand_on.new.out)
-      (story_kept c.args.reach (moment_of c.args.at.now) (moment_of c.lines.at) (g.I.Source.left (source_of c.args.lines.now).now) (ahead_of g.I.Source.left c.lines.lines) (given_of c.lines.lines) (has_ended c.lines.lines) (held_by g.O.Sink.held c.args.out.now) (held_by g.O.Sink.held c.lines.out) (held_by g.O.Sink.held c.hand_on.new.out) c.hand_on.ensures.held c.lines.invariant.story);
+  told = story_breaks All (text_on c.args.reach (moment_of c.args.at.now)) (text_from c.args.reach (moment_of c.lines.at)) (g.I.Source.left (source_of c.args.lines.now).now) (ahead_of g.I.Source.left c.lines.lines) (g.I.Source.left (source_of c.lines.lines).now) (given_of c.lines.lines) (has_ended c.lines.lines) (held_by g.O.Sink.held c.args.out.now) (held_by g.O.Sink.held c.hand_on.new.out)
+      (story_kept All (text_on c.args.reach (moment_of c.args.at.now)) (text_from c.args.reach (moment_of c.lines.at)) (g.I.Source.left (source_of c.args.lines.now).now) (ahead_of g.I.Source.left c.lines.lines) (given_of c.lines.lines) (has_ended c.lines.lines) (held_by g.O.Sink.held c.args.out.now) (held_by g.O.Sink.held c.lines.out) (held_by g.O.Sink.held c.hand_on.new.out) c.hand_on.ensures.held c.lines.invariant.story);
   end = λ e. cc;
   read = no_cause _ _ c.lines.invariant.reads (λ e. cc);
   write = cause_after _ _ _ c.lines.invariant.writes (a_cause _ _ c.hand_on.ensures.cause.later c.in-Err.ensures.cause.failed refl);
@@ -69,10 +71,10 @@ returns-in-Some g c =
     let found = c.in-Ok-true.is ∙ ap Ok c.in-Ok-true.field-0-test in
     let told =
     subst (λ (r : Result Bool LineError). IfSome (ahead_of g.I.Source.left c.lines.lines) (λ bytes. Tells schedule_limits (given_of c.lines.lines) bytes r (line_of c.advance.new.self) (given_of c.advance.new.self) (ahead_of g.I.Source.left c.advance.new.self))) (found) c.advance.ensures.told in
-    let kept = story_kept c.args.reach (moment_of c.args.at.now) (moment_of c.lines.at) (g.I.Source.left (source_of c.args.lines.now).now) (ahead_of g.I.Source.left c.lines.lines) (given_of c.lines.lines) (has_ended c.lines.lines) (held_by g.O.Sink.held c.args.out.now) (held_by g.O.Sink.held c.lines.out) (held_by g.O.Sink.held c.hand_on.new.out) c.hand_on.ensures.held c.lines.invariant.story in
+    let kept = story_kept All (text_on c.args.reach (moment_of c.args.at.now)) (text_from c.args.reach (moment_of c.lines.at)) (g.I.Source.left (source_of c.args.lines.now).now) (ahead_of g.I.Source.left c.lines.lines) (given_of c.lines.lines) (has_ended c.lines.lines) (held_by g.O.Sink.held c.args.out.now) (held_by g.O.Sink.held c.lines.out) (held_by g.O.Sink.held c.hand_on.new.out) c.hand_on.ensures.held c.lines.invariant.story in
     record {
       same = c.advance.ensures.same ∙ c.lines.invariant.same;
-      told = story_stops c.args.reach (moment_of c.args.at.now) (moment_of c.lines.at) (g.I.Source.left (source_of c.args.lines.now).now) (ahead_of g.I.Source.left c.lines.lines) (ahead_of g.I.Source.left c.advance.new.self) (g.I.Source.left (source_of c.advance.new.self).now) (line_of c.advance.new.self) (given_of c.lines.lines) (given_of c.advance.new.self) (has_ended c.lines.lines) (held_by g.O.Sink.held c.args.out.now) (held_by g.O.Sink.held c.hand_on.new.out) (held_by g.O.Sink.held c.piece.new.out) c.in-Some.status
+      told = story_stops All (text_on c.args.reach (moment_of c.args.at.now)) (text_from c.args.reach (moment_of c.lines.at)) (g.I.Source.left (source_of c.args.lines.now).now) (ahead_of g.I.Source.left c.lines.lines) (ahead_of g.I.Source.left c.advance.new.self) (g.I.Source.left (source_of c.advance.new.self).now) (line_of c.advance.new.self) (given_of c.lines.lines) (given_of c.advance.new.self) (has_ended c.lines.lines) (held_by g.O.Sink.held c.args.out.now) (held_by g.O.Sink.held c.hand_on.new.out) (held_by g.O.Sink.held c.piece.new.out) c.in-Some.status
           c.lines.invariant.few kept told (λ e. c.in-Some.ensures.read (ap Some e))
           (λ pieces. subst (λ l. IsOutput (held_by g.O.Sink.held c.hand_on.new.out) (held_by g.O.Sink.held c.piece.new.out) (text_from c.args.reach (moment_of c.lines.at) (Whole l ∷ pieces)) c.in-Some.status) c.line.ensures (c.in-Some.ensures.told pieces));
       end = λ e. absurd (c.in-Some.ensures.stopped (ap Some e));
@@ -86,10 +88,10 @@ returns-in-Ok-false g c =
     let found = c.in-Ok-false.is ∙ ap Ok c.in-Ok-false.field-0-test in
     let told =
     subst (λ (r : Result Bool LineError). IfSome (ahead_of g.I.Source.left c.lines.lines) (λ bytes. Tells schedule_limits (given_of c.lines.lines) bytes r (line_of c.advance.new.self) (given_of c.advance.new.self) (ahead_of g.I.Source.left c.advance.new.self))) (found) c.advance.ensures.told in
-    let kept = story_kept c.args.reach (moment_of c.args.at.now) (moment_of c.lines.at) (g.I.Source.left (source_of c.args.lines.now).now) (ahead_of g.I.Source.left c.lines.lines) (given_of c.lines.lines) (has_ended c.lines.lines) (held_by g.O.Sink.held c.args.out.now) (held_by g.O.Sink.held c.lines.out) (held_by g.O.Sink.held c.hand_on.new.out) c.hand_on.ensures.held c.lines.invariant.story in
+    let kept = story_kept All (text_on c.args.reach (moment_of c.args.at.now)) (text_from c.args.reach (moment_of c.lines.at)) (g.I.Source.left (source_of c.args.lines.now).now) (ahead_of g.I.Source.left c.lines.lines) (given_of c.lines.lines) (has_ended c.lines.lines) (held_by g.O.Sink.held c.args.out.now) (held_by g.O.Sink.held c.lines.out) (held_by g.O.Sink.held c.hand_on.new.out) c.hand_on.ensures.held c.lines.invariant.story in
     record {
       same = c.advance.ensures.same ∙ c.lines.invariant.same;
-      told = story_ends c.args.reach (moment_of c.args.at.now) (moment_of c.lines.at) (g.I.Source.left (source_of c.args.lines.now).now) (ahead_of g.I.Source.left c.lines.lines) (ahead_of g.I.Source.left c.advance.new.self) (g.I.Source.left (source_of c.advance.new.self).now) (line_of c.advance.new.self) (given_of c.lines.lines) (given_of c.advance.new.self) (has_ended c.lines.lines) (held_by g.O.Sink.held c.args.out.now) (held_by g.O.Sink.held c.hand_on.new.out) (held_by g.O.Sink.held c.finish.new.out) c.finish.result kept told c.finish.ensures.read c.finish.ensures.told;
+      told = story_ends All (text_on c.args.reach (moment_of c.args.at.now)) (text_from c.args.reach (moment_of c.lines.at)) c.lines.at.point (g.I.Source.left (source_of c.args.lines.now).now) (ahead_of g.I.Source.left c.lines.lines) (ahead_of g.I.Source.left c.advance.new.self) (g.I.Source.left (source_of c.advance.new.self).now) (line_of c.advance.new.self) (given_of c.lines.lines) (given_of c.advance.new.self) (has_ended c.lines.lines) (held_by g.O.Sink.held c.args.out.now) (held_by g.O.Sink.held c.hand_on.new.out) (held_by g.O.Sink.held c.finish.new.out) c.finish.result (text_from-end c.args.reach (moment_of c.lines.at)) kept told c.finish.ensures.read c.finish.ensures.told;
       end = λ e. c.advance.ensures.end found;
       read = no_cause _ _ (c.in-Ok-false.ensures.cause.none (λ e. cc) ∙ c.lines.invariant.reads) c.finish.ensures.read;
       write = cause_after _ _ _ (c.in_default.ensures.cause.none ∙ c.lines.invariant.writes) c.finish.ensures.cause;
@@ -101,10 +103,10 @@ returns-in-Err-ReadFault g c =
     let found = c.in-Err-ReadFault.is ∙ ap Err c.in-Err-ReadFault.field-0-is in
     let told =
     subst (λ (r : Result Bool LineError). IfSome (ahead_of g.I.Source.left c.lines.lines) (λ bytes. Tells schedule_limits (given_of c.lines.lines) bytes r (line_of c.advance.new.self) (given_of c.advance.new.self) (ahead_of g.I.Source.left c.advance.new.self))) (found) c.advance.ensures.told in
-    let kept = story_kept c.args.reach (moment_of c.args.at.now) (moment_of c.lines.at) (g.I.Source.left (source_of c.args.lines.now).now) (ahead_of g.I.Source.left c.lines.lines) (given_of c.lines.lines) (has_ended c.lines.lines) (held_by g.O.Sink.held c.args.out.now) (held_by g.O.Sink.held c.lines.out) (held_by g.O.Sink.held c.hand_on.new.out) c.hand_on.ensures.held c.lines.invariant.story in
+    let kept = story_kept All (text_on c.args.reach (moment_of c.args.at.now)) (text_from c.args.reach (moment_of c.lines.at)) (g.I.Source.left (source_of c.args.lines.now).now) (ahead_of g.I.Source.left c.lines.lines) (given_of c.lines.lines) (has_ended c.lines.lines) (held_by g.O.Sink.held c.args.out.now) (held_by g.O.Sink.held c.lines.out) (held_by g.O.Sink.held c.hand_on.new.out) c.hand_on.ensures.held c.lines.invariant.story in
     record {
       same = c.advance.ensures.same ∙ c.lines.invariant.same;
-      told = story_cut c.args.reach (moment_of c.args.at.now) (moment_of c.lines.at) (g.I.Source.left (source_of c.args.lines.now).now) (ahead_of g.I.Source.left c.lines.lines) (g.I.Source.left (source_of c.advance.new.self).now) (pending_of c.advance.new.self) (line_of c.advance.new.self) (given_of c.lines.lines) (given_of c.advance.new.self) (has_ended c.lines.lines) (held_by g.O.Sink.held c.args.out.now) (held_by g.O.Sink.held c.hand_on.new.out) kept told (c.advance.ensures.pending found)
+      told = story_cut All (text_on c.args.reach (moment_of c.args.at.now)) (text_from c.args.reach (moment_of c.lines.at)) c.lines.at.point (g.I.Source.left (source_of c.args.lines.now).now) (ahead_of g.I.Source.left c.lines.lines) (g.I.Source.left (source_of c.advance.new.self).now) (pending_of c.advance.new.self) (line_of c.advance.new.self) (given_of c.lines.lines) (given_of c.advance.new.self) (has_ended c.lines.lines) (held_by g.O.Sink.held c.args.out.now) (held_by g.O.Sink.held c.hand_on.new.out) (text_from-end c.args.reach (moment_of c.lines.at)) kept told (c.advance.ensures.pending found)
           (λ ended. c.advance.ensures.unasked (decides_ended schedule_limits (given_of c.lines.lines) (has_ended c.lines.lines) (pending_of c.lines.lines) ended) found);
       end = λ e. cc;
       read = cause_after _ _ _ c.lines.invariant.reads (a_cause _ _ c.advance.ensures.cause.later (c.advance.ensures.cause.failed found) refl);
@@ -117,10 +119,11 @@ returns-in-Err-TooLong g c =
     let found = c.in-Err-TooLong.is ∙ ap Err c.in-Err-TooLong.field-0-is in
     let told =
     subst (λ (r : Result Bool LineError). IfSome (ahead_of g.I.Source.left c.lines.lines) (λ bytes. Tells schedule_limits (given_of c.lines.lines) bytes r (line_of c.advance.new.self) (given_of c.advance.new.self) (ahead_of g.I.Source.left c.advance.new.self))) (found) c.advance.ensures.told in
-    let kept = story_kept c.args.reach (moment_of c.args.at.now) (moment_of c.lines.at) (g.I.Source.left (source_of c.args.lines.now).now) (ahead_of g.I.Source.left c.lines.lines) (given_of c.lines.lines) (has_ended c.lines.lines) (held_by g.O.Sink.held c.args.out.now) (held_by g.O.Sink.held c.lines.out) (held_by g.O.Sink.held c.hand_on.new.out) c.hand_on.ensures.held c.lines.invariant.story in
+    let kept = story_kept All (text_on c.args.reach (moment_of c.args.at.now)) (text_from c.args.reach (moment_of c.lines.at)) (g.I.Source.left (source_of c.args.lines.now).now) (ahead_of g.I.Source.left c.lines.lines) (given_of c.lines.lines) (has_ended c.lines.lines) (held_by g.O.Sink.held c.args.out.now) (held_by g.O.Sink.held c.lines.out) (held_by g.O.Sink.held c.hand_on.new.out) c.hand_on.ensures.held c.lines.invariant.story in
     record {
       same = c.advance.ensures.same ∙ c.lines.invariant.same;
-      told = story_long c.args.reach (moment_of c.args.at.now) (moment_of c.lines.at) (g.I.Source.left (source_of c.args.lines.now).now) (ahead_of g.I.Source.left c.lines.lines) (ahead_of g.I.Source.left c.advance.new.self) (g.I.Source.left (source_of c.advance.new.self).now) (line_of c.advance.new.self) (given_of c.lines.lines) (given_of c.advance.new.self) (has_ended c.lines.lines) (held_by g.O.Sink.held c.args.out.now) (held_by g.O.Sink.held c.hand_on.new.out) (held_by g.O.Sink.held c.refuse.new.out) c.refuse.result c.lines.invariant.few kept told c.refuse.ensures.read c.refuse.ensures.told;
+      told = story_long All (text_on c.args.reach (moment_of c.args.at.now)) (text_from c.args.reach (moment_of c.lines.at)) (g.I.Source.left (source_of c.args.lines.now).now) (ahead_of g.I.Source.left c.lines.lines) (ahead_of g.I.Source.left c.advance.new.self) (g.I.Source.left (source_of c.advance.new.self).now) (line_of c.advance.new.self) (given_of c.lines.lines) (given_of c.advance.new.self) (has_ended c.lines.lines) (held_by g.O.Sink.held c.args.out.now) (held_by g.O.Sink.held c.hand_on.new.out) (held_by g.O.Sink.held c.refuse.new.out) c.refuse.result c.lines.invariant.few kept told c.refuse.ensures.read
+          (λ pieces. told_long c.args.reach (moment_of c.lines.at) pieces (held_by g.O.Sink.held c.hand_on.new.out) (held_by g.O.Sink.held c.refuse.new.out) c.refuse.result c.refuse.ensures.told);
       end = λ e. absurd (c.refuse.ensures.refused e);
       read = no_cause _ _ (c.in-Err-TooLong.ensures.cause.none (λ e. cc) ∙ c.lines.invariant.reads) c.refuse.ensures.read;
       write = cause_after _ _ _ (c.in_default.ensures.cause.none ∙ c.lines.invariant.writes) c.refuse.ensures.cause;
@@ -132,10 +135,11 @@ returns-in-Err-TooMuch g c =
     let found = c.in-Err-TooMuch.is ∙ ap Err c.in-Err-TooMuch.field-0-is in
     let told =
     subst (λ (r : Result Bool LineError). IfSome (ahead_of g.I.Source.left c.lines.lines) (λ bytes. Tells schedule_limits (given_of c.lines.lines) bytes r (line_of c.advance.new.self) (given_of c.advance.new.self) (ahead_of g.I.Source.left c.advance.new.self))) (found) c.advance.ensures.told in
-    let kept = story_kept c.args.reach (moment_of c.args.at.now) (moment_of c.lines.at) (g.I.Source.left (source_of c.args.lines.now).now) (ahead_of g.I.Source.left c.lines.lines) (given_of c.lines.lines) (has_ended c.lines.lines) (held_by g.O.Sink.held c.args.out.now) (held_by g.O.Sink.held c.lines.out) (held_by g.O.Sink.held c.hand_on.new.out) c.hand_on.ensures.held c.lines.invariant.story in
+    let kept = story_kept All (text_on c.args.reach (moment_of c.args.at.now)) (text_from c.args.reach (moment_of c.lines.at)) (g.I.Source.left (source_of c.args.lines.now).now) (ahead_of g.I.Source.left c.lines.lines) (given_of c.lines.lines) (has_ended c.lines.lines) (held_by g.O.Sink.held c.args.out.now) (held_by g.O.Sink.held c.lines.out) (held_by g.O.Sink.held c.hand_on.new.out) c.hand_on.ensures.held c.lines.invariant.story in
     record {
       same = c.advance.ensures.same ∙ c.lines.invariant.same;
-      told = story_much c.args.reach (moment_of c.args.at.now) (moment_of c.lines.at) (g.I.Source.left (source_of c.args.lines.now).now) (ahead_of g.I.Source.left c.lines.lines) (ahead_of g.I.Source.left c.advance.new.self) (g.I.Source.left (source_of c.advance.new.self).now) (line_of c.advance.new.self) (given_of c.lines.lines) (given_of c.advance.new.self) (has_ended c.lines.lines) (held_by g.O.Sink.held c.args.out.now) (held_by g.O.Sink.held c.hand_on.new.out) (held_by g.O.Sink.held c.refuse-in-Err-TooMuch.new.out) c.refuse-in-Err-TooMuch.result c.lines.invariant.few kept told c.refuse-in-Err-TooMuch.ensures.read c.refuse-in-Err-TooMuch.ensures.told;
+      told = story_much All (text_on c.args.reach (moment_of c.args.at.now)) (text_from c.args.reach (moment_of c.lines.at)) (g.I.Source.left (source_of c.args.lines.now).now) (ahead_of g.I.Source.left c.lines.lines) (ahead_of g.I.Source.left c.advance.new.self) (g.I.Source.left (source_of c.advance.new.self).now) (line_of c.advance.new.self) (given_of c.lines.lines) (given_of c.advance.new.self) (has_ended c.lines.lines) (held_by g.O.Sink.held c.args.out.now) (held_by g.O.Sink.held c.hand_on.new.out) (held_by g.O.Sink.held c.refuse-in-Err-TooMuch.new.out) c.refuse-in-Err-TooMuch.result c.lines.invariant.few kept told c.refuse-in-Err-TooMuch.ensures.read
+          (λ pieces. told_beyond c.args.reach (moment_of c.lines.at) pieces (held_by g.O.Sink.held c.hand_on.new.out) (held_by g.O.Sink.held c.refuse-in-Err-TooMuch.new.out) c.refuse-in-Err-TooMuch.result c.refuse-in-Err-TooMuch.ensures.told);
       end = λ e. absurd (c.refuse-in-Err-TooMuch.ensures.refused e);
       read = no_cause _ _ (c.in-Err-TooMuch.ensures.cause.none (λ e. cc) ∙ c.lines.invariant.reads) c.refuse-in-Err-TooMuch.ensures.read;
       write = cause_after _ _ _ (c.in_default.ensures.cause.none ∙ c.lines.invariant.writes) c.refuse-in-Err-TooMuch.ensures.cause;

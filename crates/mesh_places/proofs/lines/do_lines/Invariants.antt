@@ -4,13 +4,15 @@ use Rattle.mesh_base.specs.declared.limits.TheConstants.{LONGEST_INPUT, MOST_EVE
 use Rattle.mesh_io.specs.Buffering.{inner_of, held_by}
 use Rattle.mesh_io.specs.Reading.{source_of, given_of, ahead_of, has_ended, faults_of}
 use Rattle.mesh_places.specs.Moments.{moment_of}
-use Rattle.mesh_places.proofs.Story.{IsStory}
+use Rattle.mesh_run.specs.declared.say.Say.TheVariants.{All}
+use Rattle.mesh_run.proofs.Story.{IsStory}
+use Rattle.mesh_grid.specs.Text.{text_from, text_on}
 use Rattle.mesh_places.proofs.lines.do_lines.Given as goal
 
 abbrev pub invariant-lines : goal.invariant-lines
 invariant-lines g l = record {
   same : (source_of l.lines).ghost_name ≡ (source_of l.fn.lines).ghost_name;
-  story : IsStory l.reach (moment_of l.fn.at) (moment_of l.at) (g.I.Source.left (source_of l.fn.lines).now) (ahead_of g.I.Source.left l.lines) (given_of l.lines) (has_ended l.lines)
+  story : IsStory All (text_on l.reach (moment_of l.fn.at)) (text_from l.reach (moment_of l.at)) (g.I.Source.left (source_of l.fn.lines).now) (ahead_of g.I.Source.left l.lines) (given_of l.lines) (has_ended l.lines)
       (held_by g.O.Sink.held l.fn.out) (held_by g.O.Sink.held l.out);
   few : given_of l.lines ≤ LONGEST_INPUT;
   reads : faults_of g.I.Source.faults l.lines ≡ faults_of g.I.Source.faults l.fn.lines;

@@ -1,15 +1,17 @@
 use Rattle.std.proofs.Common.{ap, refl, arith, rules}
+use Rattle.mesh_grid.specs.Text.{text_on}
+use Rattle.mesh_run.specs.declared.say.Say.TheVariants.{All}
 use Rattle.mesh_run.specs.declared.status.Status.TheVariants as status
 use Rattle.mesh_run.proofs.Faults.{rose_later, a_cause, cause_before, source_told, source_behind, source_seen}
 use Rattle.mesh_places.specs.Moments.{moment_of}
-use Rattle.mesh_places.proofs.Buffers.{from_keeps, from_faulted}
+use Rattle.mesh_run.proofs.Buffers.{from_keeps, from_faulted}
 use Rattle.mesh_places.proofs.top.drive_gathered.Goals as goal
 
 pub returns-in-Ok-clause-told : goal.returns-in-Ok-clause-told
-returns-in-Ok-clause-told g c = from_keeps c.args.reach (moment_of c.args.at.now) _ _ _ _ _ _ _ c.do_lines-status.result (ap g.I.Source.left c.new-lines.ensures.source) (search rules) c.do_lines-status.ensures.told c.flush.ensures.held
+returns-in-Ok-clause-told g c = from_keeps All (text_on c.args.reach (moment_of c.args.at.now)) _ _ _ _ _ _ _ c.do_lines-status.result (ap g.I.Source.left c.new-lines.ensures.source) (search rules) c.do_lines-status.ensures.told c.flush.ensures.held
 
 pub returns-in-Err-clause-told : goal.returns-in-Err-clause-told
-returns-in-Err-clause-told g c = from_faulted c.args.reach (moment_of c.args.at.now) _ _ _ _ _ _ c.do_lines-status.result (ap g.I.Source.left c.new-lines.ensures.source) c.do_lines-status.ensures.told c.flush.ensures.held
+returns-in-Err-clause-told g c = from_faulted All (text_on c.args.reach (moment_of c.args.at.now)) _ _ _ _ _ _ c.do_lines-status.result (ap g.I.Source.left c.new-lines.ensures.source) c.do_lines-status.ensures.told c.flush.ensures.held
 
 pub returns-in-Ok-clause-write : goal.returns-in-Ok-clause-write
 returns-in-Ok-clause-write g c = cause_before _ _ _ c.in-Ok.ensures.cause.none c.do_lines-status.ensures.write
