@@ -1,16 +1,12 @@
 -- Where nothing has failed and nothing is refused, the call is done, unless memory runs out.
-use Rattle.std.proofs.Common.{◌≡◌, ◌∙◌, ◌⊎◌, ℕ, List, Option, Some, None, IfSome, refl, sym, subst, inl, inr}
+use Rattle.std.proofs.Common.{◌≡◌, ◌∙◌, ℕ, List, Option, Some, None, refl, sym, subst, inl, inr}
 use Rattle.mesh_io.specs.Cause.{Rose}
 use Rattle.mesh_run.specs.declared.status.Status.TheVariants as status
 use Rattle.mesh_state.specs.declared.words.Asked.{Asked}
 use Rattle.mesh_state.specs.declared.words.Asked.TheVariants.{Save, Go}
 use Rattle.mesh_state.specs.declared.status.StateStatus.{StateStatus}
 use Rattle.mesh_state.specs.declared.status.StateStatus.TheVariants.{Run, BadState, TooBig}
-use Rattle.mesh_state.specs.Answers.{IsAnswered, IsAllowed, HasRefusal, IsRefusal}
-
--- done, or out of memory
-abbrev IsDoneOrShort : StateStatus → Type 0
-IsDoneOrShort s = (s ≡ Run status.Done) ⊎ (s ≡ Run status.NoMemory)
+use Rattle.mesh_state.specs.Answers.{IsAnswered, IsAllowed, HasRefusal, IsDoneOrShort, IsRefusalOrShort, HasAnswered, HasCompleted, HasRefused}
 
 completes : (asked : Asked) (bytes : List ℕ) (after a b : Option (List ℕ)) (s : StateStatus) → (s ≡ Run status.ReadFault → ⊥) → (s ≡ Run status.WriteFault → ⊥) → IsAnswered asked bytes after a b s → IsAllowed asked bytes → IsDoneOrShort s
 completes Save bytes after a b (Run status.Done) read write t fine = inl refl
@@ -32,21 +28,21 @@ completes Go bytes after a b (Run status.Usage) read write t fine = absurd t
 completes Go bytes after a b (BadState why) read write t fine = absurd (fine.0 why t.refusal t.refused)
 completes Go bytes after a b TooBig read write t fine = absurd t
 
-by_left : (asked : Asked) (left after a b : Option (List ℕ)) (s : StateStatus) (rb ra wb wa : ℕ) → IfSome left (λ bytes. IsAnswered asked bytes after a b s) → (s ≡ Run status.ReadFault → Rose rb ra) → (s ≡ Run status.WriteFault → Rose wb wa)
-    → IfSome left (λ bytes. IsAllowed asked bytes → (Rose rb ra → ⊥) → (Rose wb wa → ⊥) → IsDoneOrShort s)
+by_left : (asked : Asked) (left after a b : Option (List ℕ)) (s : StateStatus) (rb ra wb wa : ℕ) → HasAnswered (Some asked) left after a b s → (s ≡ Run status.ReadFault → Rose rb ra) → (s ≡ Run status.WriteFault → Rose wb wa)
+    → HasCompleted (Some asked) left rb ra wb wa s
 by_left asked None after a b s rb ra wb wa t read write = tt
 by_left asked (Some bytes) after a b s rb ra wb wa t read write = λ fine none nothing. completes asked bytes after a b s (λ x. none (read x)) (λ x. nothing (write x)) t fine
 
-pub answer_completes : (o : Option Asked) (asked : Asked) (left after a b : Option (List ℕ)) (s : StateStatus) (rb ra wb wa : ℕ) → Some asked ≡ o → IfSome left (λ bytes. IsAnswered asked bytes after a b s)
+pub answer_completes : (o : Option Asked) (asked : Asked) (left after a b : Option (List ℕ)) (s : StateStatus) (rb ra wb wa : ℕ) → Some asked ≡ o → HasAnswered (Some asked) left after a b s
     → (s ≡ Run status.ReadFault → Rose rb ra) → (s ≡ Run status.WriteFault → Rose wb wa)
-    → IfSome o (λ x. IfSome left (λ bytes. IsAllowed x bytes → (Rose rb ra → ⊥) → (Rose wb wa → ⊥) → IsDoneOrShort s))
+    → HasCompleted o left rb ra wb wa s
 answer_completes o asked left after a b s rb ra wb wa e t read write =
-    let P : Option Asked → Type 0 = λ q. IfSome q (λ x. IfSome left (λ bytes. IsAllowed x bytes → (Rose rb ra → ⊥) → (Rose wb wa → ⊥) → IsDoneOrShort s)) in
+    let P : Option Asked → Type 0 = λ q. HasCompleted q left rb ra wb wa s in
     subst P e (by_left asked left after a b s rb ra wb wa t read write)
 
 -- ---- where the front is refused
 
-refuses : (asked : Asked) (bytes : List ℕ) (after a b : Option (List ℕ)) (s : StateStatus) → (s ≡ Run status.ReadFault → ⊥) → IsAnswered asked bytes after a b s → HasRefusal asked bytes → IsRefusal s ⊎ (s ≡ Run status.NoMemory)
+refuses : (asked : Asked) (bytes : List ℕ) (after a b : Option (List ℕ)) (s : StateStatus) → (s ≡ Run status.ReadFault → ⊥) → IsAnswered asked bytes after a b s → HasRefusal asked bytes → IsRefusalOrShort s
 refuses Save bytes after a b s read t bad = absurd bad
 refuses Go bytes after a b (Run status.Done) read t bad = absurd (t.unrefused bad.0 bad.1 bad.2)
 refuses Go bytes after a b (Run (status.BadLine n)) read t bad = absurd (t.unrefused bad.0 bad.1 bad.2)
@@ -58,13 +54,13 @@ refuses Go bytes after a b (Run status.Usage) read t bad = absurd t
 refuses Go bytes after a b (BadState why) read t bad = inl (why, refl)
 refuses Go bytes after a b TooBig read t bad = absurd t
 
-refuses_left : (asked : Asked) (left after a b : Option (List ℕ)) (s : StateStatus) (rb ra : ℕ) → IfSome left (λ bytes. IsAnswered asked bytes after a b s) → (s ≡ Run status.ReadFault → Rose rb ra)
-    → IfSome left (λ bytes. HasRefusal asked bytes → (Rose rb ra → ⊥) → IsRefusal s ⊎ (s ≡ Run status.NoMemory))
+refuses_left : (asked : Asked) (left after a b : Option (List ℕ)) (s : StateStatus) (rb ra : ℕ) → HasAnswered (Some asked) left after a b s → (s ≡ Run status.ReadFault → Rose rb ra)
+    → HasRefused (Some asked) left rb ra s
 refuses_left asked None after a b s rb ra t read = tt
 refuses_left asked (Some bytes) after a b s rb ra t read = λ bad none. refuses asked bytes after a b s (λ x. none (read x)) t bad
 
-pub answer_refuses : (o : Option Asked) (asked : Asked) (left after a b : Option (List ℕ)) (s : StateStatus) (rb ra : ℕ) → Some asked ≡ o → IfSome left (λ bytes. IsAnswered asked bytes after a b s) → (s ≡ Run status.ReadFault → Rose rb ra)
-    → IfSome o (λ x. IfSome left (λ bytes. HasRefusal x bytes → (Rose rb ra → ⊥) → IsRefusal s ⊎ (s ≡ Run status.NoMemory)))
+pub answer_refuses : (o : Option Asked) (asked : Asked) (left after a b : Option (List ℕ)) (s : StateStatus) (rb ra : ℕ) → Some asked ≡ o → HasAnswered (Some asked) left after a b s → (s ≡ Run status.ReadFault → Rose rb ra)
+    → HasRefused o left rb ra s
 answer_refuses o asked left after a b s rb ra e t read =
-    let P : Option Asked → Type 0 = λ q. IfSome q (λ x. IfSome left (λ bytes. HasRefusal x bytes → (Rose rb ra → ⊥) → IsRefusal s ⊎ (s ≡ Run status.NoMemory))) in
+    let P : Option Asked → Type 0 = λ q. HasRefused q left rb ra s in
     subst P e (refuses_left asked left after a b s rb ra t read)

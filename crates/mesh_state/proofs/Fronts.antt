@@ -10,7 +10,7 @@ use Rattle.std.proofs.lemmas.Bool.Decides.{nat_tests}
 use Rattle.mesh_checkpoint.specs.declared.limits.TheConstants.{LONGEST_BODY}
 use Rattle.mesh_checkpoint.specs.State.{magic, stated}
 use Rattle.mesh_state.specs.declared.front.TheConstants.{HEAD_SIZE}
-use Rattle.mesh_state.specs.Fronts.{front_size, front_of, rest_of, IsOtherHead, IsFrontTaken, IsHeadTaken, TakesUpTo}
+use Rattle.mesh_state.specs.Fronts.{front_size, front_of, rest_of, IsOtherHead, IsFrontTaken, IsTaken, TakesUpTo}
 
 -- ---- the size of a front
 
@@ -45,7 +45,7 @@ short_front bytes short taken left n few is rest known =
     }
 
 head_alone : (bytes taken : List ℕ) (left : Option (List ℕ)) → taken ≡ take 8 bytes → left ≡ Some (drop 8 bytes) → (length taken < 8) ⊎ IsOtherHead taken
-    → IsFrontTaken bytes taken left ⊎ IsHeadTaken bytes taken left
+    → IsTaken bytes taken left
 head_alone bytes taken left is rest (inl short) =
     let size : length (take 8 bytes) ≡ _ = length-take 8 bytes in
     let few : length taken ≡ length (take 8 bytes) = ap length is in
@@ -100,26 +100,26 @@ with_body bytes head taken size left is eight says within first front behind res
 -- ---- where the source tells its bytes
 
 -- the same under other names
-moved : (l0 l k : Option (List ℕ)) (taken other : List ℕ) → other ≡ taken → k ≡ l → IfSome l0 (λ bytes. IsFrontTaken bytes taken l ⊎ IsHeadTaken bytes taken l)
-    → IfSome l0 (λ bytes. IsFrontTaken bytes other k ⊎ IsHeadTaken bytes other k)
+moved : (l0 l k : Option (List ℕ)) (taken other : List ℕ) → other ≡ taken → k ≡ l → IfSome l0 (λ bytes. IsTaken bytes taken l)
+    → IfSome l0 (λ bytes. IsTaken bytes other k)
 moved l0 l k taken other e f t =
-    let P : List ℕ → Type 0 = λ x. IfSome l0 (λ bytes. IsFrontTaken bytes x l ⊎ IsHeadTaken bytes x l) in
-    let Q : Option (List ℕ) → Type 0 = λ x. IfSome l0 (λ bytes. IsFrontTaken bytes other x ⊎ IsHeadTaken bytes other x) in
+    let P : List ℕ → Type 0 = λ x. IfSome l0 (λ bytes. IsTaken bytes x l) in
+    let Q : Option (List ℕ) → Type 0 = λ x. IfSome l0 (λ bytes. IsTaken bytes other x) in
     subst Q (sym f) (subst P (sym e) t)
 
 alone : (l0 l1 : Option (List ℕ)) (v : ℕ) (taken : List ℕ) → v ≡ 0 → TakesUpTo HEAD_SIZE l0 l1 (drop v taken) → (length taken < HEAD_SIZE) ⊎ IsOtherHead taken
-    → IfSome l0 (λ bytes. IsFrontTaken bytes taken l1 ⊎ IsHeadTaken bytes taken l1)
+    → IfSome l0 (λ bytes. IsTaken bytes taken l1)
 alone None l1 v taken none t other = tt
 alone (Some bytes) l1 v taken none t other =
     let all : drop v taken ≡ taken = ap (λ k. drop k taken) none in
     head_alone bytes taken l1 (sym all ∙ t.0) t.1 other
 
 pub taken_alone : (l0 l1 k : Option (List ℕ)) (v : ℕ) (taken front : List ℕ) → front ≡ taken → k ≡ l1 → v ≡ 0 → TakesUpTo HEAD_SIZE l0 l1 (drop v taken) → (length taken < HEAD_SIZE) ⊎ IsOtherHead taken
-    → IfSome l0 (λ bytes. IsFrontTaken bytes front k ⊎ IsHeadTaken bytes front k)
+    → IfSome l0 (λ bytes. IsTaken bytes front k)
 taken_alone l0 l1 k v taken front e f none t other = moved l0 l1 k taken front e f (alone l0 l1 v taken none t other)
 
 behind : (l0 l1 l2 : Option (List ℕ)) (v w size : ℕ) (head taken : List ℕ) → v ≡ 0 → TakesUpTo HEAD_SIZE l0 l1 (drop v head) → w ≡ 8 → length head ≡ HEAD_SIZE → size ≡ stated head → size ≤ LONGEST_BODY
-    → take 4 head ≡ magic → take w taken ≡ head → TakesUpTo size l1 l2 (drop w taken) → IfSome l0 (λ bytes. IsFrontTaken bytes taken l2 ⊎ IsHeadTaken bytes taken l2)
+    → take 4 head ≡ magic → take w taken ≡ head → TakesUpTo size l1 l2 (drop w taken) → IfSome l0 (λ bytes. IsTaken bytes taken l2)
 behind None l1 l2 v w size head taken none t eight whole says within first front u = tt
 behind (Some bytes) l1 l2 v w size head taken none t eight whole says within first front u =
     let all : drop v head ≡ head = ap (λ k. drop k head) none in
@@ -127,6 +127,6 @@ behind (Some bytes) l1 l2 v w size head taken none t eight whole says within fir
     inl (with_body bytes head taken size l2 (sym all ∙ t.0) whole says within first (ap (λ k. take k taken) (sym eight) ∙ front) (ap (λ k. drop k taken) (sym eight) ∙ q.0) q.1)
 
 pub taken_body : (l0 l1 l2 k : Option (List ℕ)) (v w size : ℕ) (head taken front : List ℕ) → front ≡ taken → k ≡ l2 → v ≡ 0 → TakesUpTo HEAD_SIZE l0 l1 (drop v head) → w ≡ 8 → length head ≡ HEAD_SIZE → size ≡ stated head
-    → size ≤ LONGEST_BODY → take 4 head ≡ magic → take w taken ≡ head → TakesUpTo size l1 l2 (drop w taken) → IfSome l0 (λ bytes. IsFrontTaken bytes front k ⊎ IsHeadTaken bytes front k)
+    → size ≤ LONGEST_BODY → take 4 head ≡ magic → take w taken ≡ head → TakesUpTo size l1 l2 (drop w taken) → IfSome l0 (λ bytes. IsTaken bytes front k)
 taken_body l0 l1 l2 k v w size head taken front e f none t eight whole says within first kept u =
     moved l0 l2 k taken front e f (behind l0 l1 l2 v w size head taken none t eight whole says within first kept u)

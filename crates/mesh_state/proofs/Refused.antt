@@ -8,7 +8,7 @@ use Rattle.mesh_load.specs.declared.error.StateError.{StateError}
 use Rattle.mesh_load.specs.declared.error.StateError.TheVariants as errors
 use Rattle.mesh_load.specs.Loading.{IsRefused}
 use Rattle.mesh_text.specs.Schedule.{Moment}
-use Rattle.mesh_state.specs.Fronts.{front_size, front_of, rest_of, IsOtherHead, IsFrontTaken, IsHeadTaken}
+use Rattle.mesh_state.specs.Fronts.{front_size, front_of, rest_of, IsOtherHead, IsTaken}
 use Rattle.mesh_state.proofs.Fronts.{size_whole, stated_in}
 use Rattle.mesh_state.proofs.Checkpoints.{other_head}
 
@@ -40,14 +40,14 @@ head_refused b c other first same errors.Sums bad = absurd (other_head b bad.0 o
 head_refused b c other first same (errors.Unsound part) bad = absurd (other_head b bad.body other bad.checkpoint)
 head_refused b c other first same errors.NoMemory bad = tt
 
-pub refused : (bytes taken : List ℕ) (left : Option (List ℕ)) (why : StateError) → IsFrontTaken bytes taken left ⊎ IsHeadTaken bytes taken left → IsRefused taken why → IsRefused (front_of bytes) why
+pub refused : (bytes taken : List ℕ) (left : Option (List ℕ)) (why : StateError) → IsTaken bytes taken left → IsRefused taken why → IsRefused (front_of bytes) why
 refused bytes taken left why (inl front) bad = subst (λ b. IsRefused b why) front.front bad
 refused bytes taken left why (inr head) bad =
     let whole = (head.other).whole in
     head_refused taken (front_of bytes) head.other (same_first bytes taken head.head whole) (same_stated bytes taken head.head whole) why bad
 
 -- a checkpoint that was read is the front, and the rest is left
-pub restored : (bytes taken : List ℕ) (left : Option (List ℕ)) (m : Moment) → IsFrontTaken bytes taken left ⊎ IsHeadTaken bytes taken left → IsState taken m
+pub restored : (bytes taken : List ℕ) (left : Option (List ℕ)) (m : Moment) → IsTaken bytes taken left → IsState taken m
     → (IsState (front_of bytes) m) × (left ≡ Some (rest_of bytes)) × (taken ≡ front_of bytes)
 restored bytes taken left m (inl front) is = (subst (λ b. IsState b m) front.front is, front.rest, front.front)
 restored bytes taken left m (inr head) is = absurd (other_head taken (body_of m) head.other is)

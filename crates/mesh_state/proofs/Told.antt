@@ -17,8 +17,8 @@ use Rattle.mesh_load.specs.Loading.{IsRefused}
 use Rattle.mesh_state.specs.declared.words.Asked.TheVariants.{Save, Go}
 use Rattle.mesh_state.specs.declared.status.StateStatus.{StateStatus}
 use Rattle.mesh_state.specs.declared.status.StateStatus.TheVariants.{Run, TooBig}
-use Rattle.mesh_state.specs.Fronts.{front_of, rest_of, IsFrontTaken, IsHeadTaken}
-use Rattle.mesh_state.specs.Answers.{IsSaved, IsCutOff, IsTooBig, IsUnrefused, answer_by, IsRunOn, IsBadState, IsRunGone, IsRunSaved, IsAnswered}
+use Rattle.mesh_state.specs.Fronts.{front_of, rest_of, IsTaken}
+use Rattle.mesh_state.specs.Answers.{IsSaved, IsCutOff, IsTooBig, IsUnrefused, answer_by, IsRunOn, IsBadState, IsRunGone, IsRunSaved, IsAnswered, HasAnswered}
 use Rattle.mesh_state.proofs.Refused.{refused, restored}
 
 -- ---- with `save`
@@ -34,7 +34,7 @@ stopped bytes after a b status.NoMemory other t = t
 stopped bytes after a b status.Usage other t = t
 
 pub stopped_told : (start : Moment) (left after a b : Option (List ℕ)) (s : Status) → start ≡ opening Base → s ≢ status.Done → IfSome left (λ bytes. IsOutputFrom Faults start bytes after a b s)
-    → IfSome left (λ bytes. IsAnswered Save bytes after a b (Run s))
+    → HasAnswered (Some Save) left after a b (Run s)
 stopped_told start None after a b s e other t = tt
 stopped_told start (Some bytes) after a b s e other t = stopped bytes after a b s other (subst (λ x. IsOutputFrom Faults x bytes after a b s) e t)
 
@@ -81,16 +81,16 @@ cut_after m n a b c e nothing w = record {
 saved : (bytes : List ℕ) (at : Moment) (after a b c : Option (List ℕ)) (r : StateStatus) → CameTo bytes at a b → (r ≡ Run status.Done → IsWritten at b c) → (r ≡ Run status.WriteFault → IsCut at b c)
     → (r ≡ TooBig → IsTooLong at × (c ≡ b)) → (r ≡ Run status.Done) ⊎ ((r ≡ Run status.WriteFault) ⊎ (r ≡ TooBig)) → IsAnswered Save bytes after a c r
 saved bytes at after a b c r came done cut big (inl is) =
-    let P : StateStatus → Type 0 = λ x. IsAnswered Save bytes after a c x in
+    let P : StateStatus → Type 0 = IsAnswered Save bytes after a c in
     let so : IsSaved (text_on (opening Base) bytes) a c = record { finished = came.finished; written = written_after at _ a b c came.after came.nothing (done is) } in
     subst P (sym is) so
 saved bytes at after a b c r came done cut big (inr (inl is)) =
-    let P : StateStatus → Type 0 = λ x. IsAnswered Save bytes after a c x in
+    let P : StateStatus → Type 0 = IsAnswered Save bytes after a c in
     let so : IsCutOff (text_on (opening Base) bytes) a c = record { finished = came.finished; cut = cut_after at _ a b c came.after came.nothing (cut is) } in
     let one : P (Run status.WriteFault) = inr so in
     subst P (sym is) one
 saved bytes at after a b c r came done cut big (inr (inr is)) =
-    let P : StateStatus → Type 0 = λ x. IsAnswered Save bytes after a c x in
+    let P : StateStatus → Type 0 = IsAnswered Save bytes after a c in
     let long = big is in
     let kept : Keeps a c = subst (λ k. Keeps a k) (sym long.1) (keeps_of a b came.nothing) in
     let so : IsTooBig (text_on (opening Base) bytes) a c = record { finished = came.finished; long = subst IsTooLong came.after long.0; kept = kept } in
@@ -98,7 +98,7 @@ saved bytes at after a b c r came done cut big (inr (inr is)) =
 
 pub saved_told : (start at : Moment) (left after a b c : Option (List ℕ)) (s : Status) (r : StateStatus) → start ≡ opening Base → s ≡ status.Done
     → IfSome left (λ bytes. IsOutputFrom Faults start bytes after a b s) → IfSome left (λ bytes. at ≡ (text_on start bytes).after) → (r ≡ Run status.Done → IsWritten at b c)
-    → (r ≡ Run status.WriteFault → IsCut at b c) → (r ≡ TooBig → IsTooLong at × (c ≡ b)) → (r ≡ Run status.Done) ⊎ ((r ≡ Run status.WriteFault) ⊎ (r ≡ TooBig)) → IfSome left (λ bytes. IsAnswered Save bytes after a c r)
+    → (r ≡ Run status.WriteFault → IsCut at b c) → (r ≡ TooBig → IsTooLong at × (c ≡ b)) → (r ≡ Run status.Done) ⊎ ((r ≡ Run status.WriteFault) ⊎ (r ≡ TooBig)) → HasAnswered (Some Save) left after a c r
 saved_told start at None after a b c s r e d told past done cut big one = tt
 saved_told start at (Some bytes) after a b c s r e d told past done cut big one = saved bytes at after a b c r (came_to start at bytes after a b s e d told past) done cut big one
 
@@ -114,8 +114,8 @@ gone bytes left a b status.NoMemory other t = inr t
 gone bytes left a b status.Usage other t = absurd (other refl)
 
 -- the rest was run from the front's moment
-gone_from : (left0 left1 left2 a b : Option (List ℕ)) (taken : List ℕ) (start : Moment) (s : Status) → s ≢ status.Usage → IfSome left0 (λ bytes. IsFrontTaken bytes taken left1 ⊎ IsHeadTaken bytes taken left1)
-    → IsState taken start → IsUnrefused taken → IfSome left1 (λ bytes. IsOutputFrom All start bytes left2 a b s) → IfSome left0 (λ bytes. IsAnswered Go bytes left2 a b (Run s))
+gone_from : (left0 left1 left2 a b : Option (List ℕ)) (taken : List ℕ) (start : Moment) (s : Status) → s ≢ status.Usage → IfSome left0 (λ bytes. IsTaken bytes taken left1)
+    → IsState taken start → IsUnrefused taken → IfSome left1 (λ bytes. IsOutputFrom All start bytes left2 a b s) → HasAnswered (Some Go) left0 left2 a b (Run s)
 gone_from None left1 left2 a b taken start s other read is free told = tt
 gone_from (Some bytes) left1 left2 a b taken start s other read is free told =
     let r = restored bytes taken left1 start read is in
@@ -123,13 +123,13 @@ gone_from (Some bytes) left1 left2 a b taken start s other read is free told =
     let so : IsOutputFrom All start (rest_of bytes) left2 a b s = subst (λ o. IfSome o (λ l. IsOutputFrom All start l left2 a b s)) r.1 told in
     gone bytes left2 a b s other (record { unrefused = front; start = start; state = r.0; told = so })
 
-pub gone_told : (left0 left1 left2 a b : Option (List ℕ)) (taken seen : List ℕ) (start : Moment) (s : Status) → seen ≡ taken → s ≢ status.Usage → IfSome left0 (λ bytes. IsFrontTaken bytes taken left1 ⊎ IsHeadTaken bytes taken left1)
-    → IsState seen start → ((why : StateError) → IsRefused seen why → why ≡ errors.NoMemory) → IfSome left1 (λ bytes. IsOutputFrom All start bytes left2 a b s) → IfSome left0 (λ bytes. IsAnswered Go bytes left2 a b (Run s))
+pub gone_told : (left0 left1 left2 a b : Option (List ℕ)) (taken seen : List ℕ) (start : Moment) (s : Status) → seen ≡ taken → s ≢ status.Usage → IfSome left0 (λ bytes. IsTaken bytes taken left1)
+    → IsState seen start → ((why : StateError) → IsRefused seen why → why ≡ errors.NoMemory) → IfSome left1 (λ bytes. IsOutputFrom All start bytes left2 a b s) → HasAnswered (Some Go) left0 left2 a b (Run s)
 gone_told left0 left1 left2 a b taken seen start s e other read is free told =
     gone_from left0 left1 left2 a b taken start s other read (subst (λ l. IsState l start) e is) (subst IsUnrefused e (λ why apart bad. apart (free why bad))) told
 
 -- the front was refused
-bad_front : (bytes : List ℕ) (left1 a : Option (List ℕ)) (taken : List ℕ) (why : StateError) → why ≢ errors.NoMemory → IsFrontTaken bytes taken left1 ⊎ IsHeadTaken bytes taken left1 → IsRefused taken why → IsBadState bytes left1 a a why
+bad_front : (bytes : List ℕ) (left1 a : Option (List ℕ)) (taken : List ℕ) (why : StateError) → why ≢ errors.NoMemory → IsTaken bytes taken left1 → IsRefused taken why → IsBadState bytes left1 a a why
 bad_front bytes left1 a taken why other read bad = record {
   taken = taken;
   read = read;
@@ -139,7 +139,7 @@ bad_front bytes left1 a taken why other read bad = record {
 }
 
 -- or was not loaded for want of memory
-unloaded : (bytes : List ℕ) (left1 a : Option (List ℕ)) (taken : List ℕ) (why : StateError) → IsFrontTaken bytes taken left1 ⊎ IsHeadTaken bytes taken left1 → IsRefused taken why → IsAnswered Go bytes left1 a a (answer_by why)
+unloaded : (bytes : List ℕ) (left1 a : Option (List ℕ)) (taken : List ℕ) (why : StateError) → IsTaken bytes taken left1 → IsRefused taken why → IsAnswered Go bytes left1 a a (answer_by why)
 unloaded bytes left1 a taken errors.NotState read bad = bad_front bytes left1 a taken errors.NotState (λ e. cc) read bad
 unloaded bytes left1 a taken errors.Length read bad = bad_front bytes left1 a taken errors.Length (λ e. cc) read bad
 unloaded bytes left1 a taken errors.Spelling read bad = bad_front bytes left1 a taken errors.Spelling (λ e. cc) read bad
@@ -147,15 +147,15 @@ unloaded bytes left1 a taken errors.Sums read bad = bad_front bytes left1 a take
 unloaded bytes left1 a taken (errors.Unsound part) read bad = bad_front bytes left1 a taken (errors.Unsound part) (λ e. cc) read bad
 unloaded bytes left1 a taken errors.NoMemory read bad = inl (Keeps-same a)
 
-unloaded_from : (left0 left1 a : Option (List ℕ)) (taken : List ℕ) (why : StateError) → IfSome left0 (λ bytes. IsFrontTaken bytes taken left1 ⊎ IsHeadTaken bytes taken left1) → IsRefused taken why
-    → IfSome left0 (λ bytes. IsAnswered Go bytes left1 a a (answer_by why))
+unloaded_from : (left0 left1 a : Option (List ℕ)) (taken : List ℕ) (why : StateError) → IfSome left0 (λ bytes. IsTaken bytes taken left1) → IsRefused taken why
+    → HasAnswered (Some Go) left0 left1 a a (answer_by why)
 unloaded_from None left1 a taken why read bad = tt
 unloaded_from (Some bytes) left1 a taken why read bad = unloaded bytes left1 a taken why read bad
 
-pub unloaded_told : (left0 left1 a : Option (List ℕ)) (taken seen : List ℕ) (why : StateError) (r : StateStatus) → seen ≡ taken → r ≡ answer_by why → IfSome left0 (λ bytes. IsFrontTaken bytes taken left1 ⊎ IsHeadTaken bytes taken left1)
-    → IsRefused seen why → IfSome left0 (λ bytes. IsAnswered Go bytes left1 a a r)
+pub unloaded_told : (left0 left1 a : Option (List ℕ)) (taken seen : List ℕ) (why : StateError) (r : StateStatus) → seen ≡ taken → r ≡ answer_by why → IfSome left0 (λ bytes. IsTaken bytes taken left1)
+    → IsRefused seen why → HasAnswered (Some Go) left0 left1 a a r
 unloaded_told left0 left1 a taken seen why r e is read bad =
-    let P : StateStatus → Type 0 = λ x. IfSome left0 (λ bytes. IsAnswered Go bytes left1 a a x) in
+    let P : StateStatus → Type 0 = HasAnswered (Some Go) left0 left1 a a in
     subst P (sym is) (unloaded_from left0 left1 a taken why read (subst (λ l. IsRefused l why) e bad))
 
 -- such an answer is not of a run, but for want of memory

@@ -1,13 +1,14 @@
 -- What a call has written and answered. Where a sink doesn't tell what it holds, the answer alone
 -- is claimed.
-use Rattle.std.specs.Prelude.{◌≡◌, ◌≢◌, ◌⊎◌, ℕ, List, Option}
+use Rattle.std.specs.Prelude.{◌≡◌, ◌≢◌, ◌⊎◌, ℕ, List, Option, IfSome}
 use Rattle.std.specs.Io.KnownBytes.{Keeps}
 use Rattle.mesh_base.specs.declared.events.Variant.TheVariants.{Base}
+use Rattle.mesh_io.specs.Cause.{Rose}
 use Rattle.mesh_text.specs.Schedule.{Moment, opening}
 use Rattle.mesh_text.specs.Text.{Written, Finished, text_on}
 use Rattle.mesh_run.specs.declared.say.Say.TheVariants.{All, Faults}
 use Rattle.mesh_run.specs.declared.status.Status.{Status}
-use Rattle.mesh_run.specs.declared.status.Status.TheVariants.{Done, Usage, BadLine, Full, ReadFault, WriteFault, NoMemory}
+use Rattle.mesh_run.specs.declared.status.Status.TheVariants.{Done, Usage, ReadFault, WriteFault, NoMemory}
 use Rattle.mesh_run.specs.Told.{IsOutputFrom}
 use Rattle.mesh_checkpoint.specs.Points.{IsState, IsTooLong}
 use Rattle.mesh_save.specs.Saved.{IsWritten, IsCut}
@@ -18,7 +19,7 @@ use Rattle.mesh_state.specs.declared.words.Asked.{Asked}
 use Rattle.mesh_state.specs.declared.words.Asked.TheVariants.{Save, Go}
 use Rattle.mesh_state.specs.declared.status.StateStatus.{StateStatus}
 use Rattle.mesh_state.specs.declared.status.StateStatus.TheVariants.{Run, BadState, TooBig}
-use Rattle.mesh_state.specs.Fronts.{front_of, rest_of, IsFrontTaken, IsHeadTaken}
+use Rattle.mesh_state.specs.Fronts.{front_of, rest_of, IsTaken}
 
 -- ---- with `save`, of the run of a schedule
 
@@ -43,18 +44,11 @@ pub record IsTooBig (w : Written) (before now : Option (List ℕ)) : Type 0 wher
 abbrev pub IsRunSaved : List ℕ → Option (List ℕ) → Option (List ℕ) → Option (List ℕ) → Status
     → Type 0
 IsRunSaved bytes left before now Done = IsSaved (text_on (opening Base) bytes) before now
-IsRunSaved bytes left before now (BadLine n) =
-    IsOutputFrom Faults (opening Base) bytes left before now (BadLine n)
-IsRunSaved bytes left before now (Full n) =
-    IsOutputFrom Faults (opening Base) bytes left before now (Full n)
-IsRunSaved bytes left before now ReadFault =
-    IsOutputFrom Faults (opening Base) bytes left before now ReadFault
 IsRunSaved bytes left before now WriteFault =
     IsOutputFrom Faults (opening Base) bytes left before now WriteFault
     ⊎ IsCutOff (text_on (opening Base) bytes) before now
-IsRunSaved bytes left before now NoMemory =
-    IsOutputFrom Faults (opening Base) bytes left before now NoMemory
-IsRunSaved bytes left before now Usage = ⊥
+IsRunSaved bytes left before now others =
+    IsOutputFrom Faults (opening Base) bytes left before now others
 
 -- ---- with `go`, of an input that begins with a checkpoint
 
@@ -73,7 +67,7 @@ pub record IsRunOn (bytes : List ℕ) (left before now : Option (List ℕ)) (s :
 pub record IsBadState (bytes : List ℕ) (left before now : Option (List ℕ)) (why : StateError)
     : Type 0 where
   pub taken : List ℕ
-  pub read : IsFrontTaken bytes taken left ⊎ IsHeadTaken bytes taken left
+  pub read : IsTaken bytes taken left
   pub refused : IsRefused (front_of bytes) why
   pub refusal : why ≢ errors.NoMemory
   pub kept : Keeps before now
@@ -81,15 +75,12 @@ pub record IsBadState (bytes : List ℕ) (left before now : Option (List ℕ)) (
 -- nothing was written where a read of the front failed, or memory ran out before the run
 abbrev pub IsRunGone : List ℕ → Option (List ℕ) → Option (List ℕ) → Option (List ℕ) → Status
     → Type 0
-IsRunGone bytes left before now Done = IsRunOn bytes left before now Done
-IsRunGone bytes left before now (BadLine n) = IsRunOn bytes left before now (BadLine n)
-IsRunGone bytes left before now (Full n) = IsRunOn bytes left before now (Full n)
+IsRunGone bytes left before now Usage = ⊥
 IsRunGone bytes left before now ReadFault =
     Keeps before now ⊎ IsRunOn bytes left before now ReadFault
-IsRunGone bytes left before now WriteFault = IsRunOn bytes left before now WriteFault
 IsRunGone bytes left before now NoMemory =
     Keeps before now ⊎ IsRunOn bytes left before now NoMemory
-IsRunGone bytes left before now Usage = ⊥
+IsRunGone bytes left before now others = IsRunOn bytes left before now others
 
 -- ---- either
 
@@ -132,3 +123,34 @@ answer_by errors.NoMemory = Run NoMemory
 -- the answer is a refusal of the front
 abbrev pub IsRefusal : StateStatus → Type 0
 IsRefusal answer = (why : StateError) × (answer ≡ BadState why)
+
+-- done, or short of memory
+abbrev pub IsDoneOrShort : StateStatus → Type 0
+IsDoneOrShort answer = (answer ≡ Run Done) ⊎ (answer ≡ Run NoMemory)
+
+-- a refusal, or short of memory
+abbrev pub IsRefusalOrShort : StateStatus → Type 0
+IsRefusalOrShort answer = IsRefusal answer ⊎ (answer ≡ Run NoMemory)
+
+-- ---- what the clauses say, of what is asked for and of the bytes that the source gives. Where
+-- nothing is asked for, or the source doesn't tell its bytes, they say nothing
+
+-- it was answered for
+abbrev pub HasAnswered : Option Asked → Option (List ℕ) → Option (List ℕ) → Option (List ℕ)
+    → Option (List ℕ) → StateStatus → Type 0
+HasAnswered asked given left before now answer =
+    IfSome asked (λ a. IfSome given (λ bytes. IsAnswered a bytes left before now answer))
+
+-- where nothing of it is refused, and the counts of faults, from r to s for the source and from w
+-- to x for the sink, show none, it was done, unless memory ran out
+abbrev pub HasCompleted : Option Asked → Option (List ℕ) → (r s w x : ℕ) → StateStatus → Type 0
+HasCompleted asked given r s w x answer =
+    IfSome asked (λ a. IfSome given (λ bytes.
+    IsAllowed a bytes → ¬ (Rose r s) → ¬ (Rose w x) → IsDoneOrShort answer))
+
+-- where its front is refused, and the source's count shows no fault, that was answered, unless
+-- memory ran out
+abbrev pub HasRefused : Option Asked → Option (List ℕ) → (r s : ℕ) → StateStatus → Type 0
+HasRefused asked given r s answer =
+    IfSome asked (λ a. IfSome given (λ bytes.
+    HasRefusal a bytes → ¬ (Rose r s) → IsRefusalOrShort answer))

@@ -41,6 +41,10 @@ pub record IsHeadTaken (bytes taken : List ℕ) (left : Option (List ℕ)) : Typ
   pub other : IsOtherHead taken
   pub rest : left ≡ Some (drop HEAD_SIZE bytes)
 
+-- either of these
+abbrev pub IsTaken : List ℕ → List ℕ → Option (List ℕ) → Type 0
+IsTaken bytes taken left = IsFrontTaken bytes taken left ⊎ IsHeadTaken bytes taken left
+
 -- so many bytes were taken of the known bytes, or all where there are fewer
 abbrev pub TakesUpTo : ℕ → Option (List ℕ) → Option (List ℕ) → List ℕ → Type 0
 TakesUpTo count None left taken = ⊤

@@ -2,7 +2,7 @@
 ghost use Rattle.std.specs.Prelude.{◌≡◌, ◌≤◌, ◌<◌, ◌+◌, ◌⊎◌, length, take, drop, IfOk, IfSome, IfNone, IsErrOf, vec_len};
 ghost use Rattle.mesh_run.specs.Causes.{HasCauseIf};
 ghost use Rattle.mesh_checkpoint.specs.State.{magic, stated};
-ghost use Rattle.mesh_state.specs.Fronts.{IsOtherHead, IsFrontTaken, IsHeadTaken, TakesUpTo};
+ghost use Rattle.mesh_state.specs.Fronts.{IsOtherHead, IsTaken, TakesUpTo};
 
 use mesh_checkpoint::LONGEST_BODY;
 use mesh_io::Source;
@@ -75,8 +75,7 @@ fn body_size(head: &[u8]) -> Option<usize>
 /// The bytes are kept as they come, so a length that is stated and not kept takes no memory.
 pub fn take_front<I: Source>(alloc: Global, input: &mut I) -> Result<Vec<u8>, FrontError>
     ensures taken { IfOk result (λ front. IfSome (I.left input.old) (λ bytes.
-        IsFrontTaken bytes front.items (I.left input.new)
-        ⊎ IsHeadTaken bytes front.items (I.left input.new))) }
+        IsTaken bytes front.items (I.left input.new))) }
     ensures cause { HasCauseIf (IsErrOf result FrontError.ReadFault)
         (I.faults input.old) (I.faults input.new) }
 {

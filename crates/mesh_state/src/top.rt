@@ -1,14 +1,13 @@
 //! The top call.
-ghost use Rattle.std.specs.Prelude.{◌≡◌, ◌≢◌, ◌<◌, ◌≤◌, ◌↔◌, ◌⊎◌, map, None, IfSome};
+ghost use Rattle.std.specs.Prelude.{◌≡◌, ◌≢◌, ◌<◌, ◌≤◌, ◌↔◌, ◌⊎◌, map, Some, None};
 ghost use Rattle.std.specs.Io.KnownBytes.{IsAtEnd};
-ghost use Rattle.mesh_io.specs.Cause.{Rose};
 ghost use Rattle.mesh_run.specs.Causes.{HasCauseIf, HasStatusCause, HasSourceCause};
 ghost use Rattle.mesh_run.specs.Told.{IsOutputFrom};
 ghost use Rattle.mesh_checkpoint.specs.Points.{IsTooLong};
 ghost use Rattle.mesh_save.specs.Saved.{IsWritten, IsCut};
 ghost use Rattle.mesh_state.specs.Words.{asked_of};
-ghost use Rattle.mesh_state.specs.Causes.{HasReadCause};
-ghost use Rattle.mesh_state.specs.Answers.{answer_by, IsAnswered, IsAllowed, HasRefusal, IsRefusal};
+ghost use Rattle.mesh_state.specs.Causes.{HasReadCause, HasWriteCause};
+ghost use Rattle.mesh_state.specs.Answers.{answer_by, HasAnswered, HasCompleted, HasRefused};
 ghost use Rattle.mesh_state.specs.Small.{IsSmall};
 
 use crate::front::{FrontError, take_front};
@@ -35,8 +34,7 @@ fn put_state<O: Sink>(at: &Point<World>, out: &mut O) -> StateStatus
         ⊎ ((result ≡ StateStatus.Run Status.WriteFault) ⊎ (result ≡ StateStatus.TooBig)) }
     ensures read { result ≢ StateStatus.Run Status.ReadFault }
     ensures words { result ≢ StateStatus.Run Status.Usage }
-    ensures cause { HasCauseIf (result ≡ StateStatus.Run Status.WriteFault)
-        (O.faults out.old) (O.faults out.new) }
+    ensures cause { HasWriteCause (O.faults out.old) (O.faults out.new) result }
 {
     match mesh_save::save(at, out) {
         Ok(()) => StateStatus::Run(Status::Done),
@@ -47,12 +45,11 @@ fn put_state<O: Sink>(at: &Point<World>, out: &mut O) -> StateStatus
 
 // Runs the schedule, and writes the checkpoint of its last moment.
 fn save<I: Source, O: Sink>(alloc: Global, input: &mut I, out: &mut O) -> StateStatus
-    ensures told { IfSome (I.left input.old) (λ bytes. IsAnswered Asked.Save bytes
-        (I.left input.new) (O.held out.old) (O.held out.new) result) }
+    ensures told { HasAnswered (Some Asked.Save) (I.left input.old)
+        (I.left input.new) (O.held out.old) (O.held out.new) result }
     ensures end { result ≡ StateStatus.Run Status.Done → IsAtEnd (I.left input.new) }
     ensures read { HasReadCause (I.faults input.old) (I.faults input.new) result }
-    ensures write { HasCauseIf (result ≡ StateStatus.Run Status.WriteFault)
-        (O.faults out.old) (O.faults out.new) }
+    ensures write { HasWriteCause (O.faults out.old) (O.faults out.new) result }
     ensures words { result ≢ StateStatus.Run Status.Usage }
 {
     let mut at: Point<World> = Point::start();
@@ -74,12 +71,11 @@ fn answer_by(why: StateError) -> StateStatus
 
 // Goes on from the checkpoint at the input's front with the lines that follow it.
 fn go<I: Source, O: Sink>(alloc: Global, input: &mut I, out: &mut O) -> StateStatus
-    ensures told { IfSome (I.left input.old) (λ bytes. IsAnswered Asked.Go bytes
-        (I.left input.new) (O.held out.old) (O.held out.new) result) }
+    ensures told { HasAnswered (Some Asked.Go) (I.left input.old)
+        (I.left input.new) (O.held out.old) (O.held out.new) result }
     ensures end { result ≡ StateStatus.Run Status.Done → IsAtEnd (I.left input.new) }
     ensures read { HasReadCause (I.faults input.old) (I.faults input.new) result }
-    ensures write { HasCauseIf (result ≡ StateStatus.Run Status.WriteFault)
-        (O.faults out.old) (O.faults out.new) }
+    ensures write { HasWriteCause (O.faults out.old) (O.faults out.new) result }
     ensures words { result ≢ StateStatus.Run Status.Usage }
 {
     let loaded = match take_front(alloc, input) {
@@ -100,12 +96,11 @@ fn answer<I: Source, O: Sink>(
     input: &mut I,
     out: &mut O,
 ) -> StateStatus
-    ensures told { IfSome (I.left input.old) (λ bytes. IsAnswered asked bytes
-        (I.left input.new) (O.held out.old) (O.held out.new) result) }
+    ensures told { HasAnswered (Some asked) (I.left input.old)
+        (I.left input.new) (O.held out.old) (O.held out.new) result }
     ensures end { result ≡ StateStatus.Run Status.Done → IsAtEnd (I.left input.new) }
     ensures read { HasReadCause (I.faults input.old) (I.faults input.new) result }
-    ensures write { HasCauseIf (result ≡ StateStatus.Run Status.WriteFault)
-        (O.faults out.old) (O.faults out.new) }
+    ensures write { HasWriteCause (O.faults out.old) (O.faults out.new) result }
     ensures words { result ≢ StateStatus.Run Status.Usage }
 {
     match asked {
@@ -138,9 +133,8 @@ pub fn state<I: Source, O: Sink>(
     // refusal of the front, and nothing is written; or the front is the checkpoint of a moment, and
     // what is written and answered is the text and the verdict of the rest from there. After a
     // failed write, or want of memory, a prefix of that is written.
-    ensures told { IfSome (asked_of (map (λ w. w.now) words.now)) (λ asked.
-        IfSome (I.left input.old) (λ bytes. IsAnswered asked bytes
-        (I.left input.new) (O.held out.old) (O.held out.new) result)) }
+    ensures told { HasAnswered (asked_of (map (λ w. w.now) words.now)) (I.left input.old)
+        (I.left input.new) (O.held out.old) (O.held out.new) result }
 
     // Done only where the input was read to its end.
     ensures done_at_the_end { result ≡ StateStatus.Run Status.Done → IsAtEnd (I.left input.new) }
@@ -148,21 +142,15 @@ pub fn state<I: Source, O: Sink>(
     // A fault is answered only where the source or the sink has failed in this call, and no other
     // answer is given where one of them has.
     ensures cause_of_read_fault { HasReadCause (I.faults input.old) (I.faults input.new) result }
-    ensures cause_of_write_fault { HasCauseIf (result ≡ StateStatus.Run Status.WriteFault)
-        (O.faults out.old) (O.faults out.new) }
+    ensures cause_of_write_fault { HasWriteCause (O.faults out.old) (O.faults out.new) result }
 
     // Where nothing is refused and nothing has failed the call is done, unless memory runs out.
-    ensures complete { IfSome (asked_of (map (λ w. w.now) words.now)) (λ asked.
-        IfSome (I.left input.old) (λ bytes. IsAllowed asked bytes
-        → (Rose (I.faults input.old) (I.faults input.new) → ⊥)
-        → (Rose (O.faults out.old) (O.faults out.new) → ⊥)
-        → (result ≡ StateStatus.Run Status.Done) ⊎ (result ≡ StateStatus.Run Status.NoMemory))) }
+    ensures complete { HasCompleted (asked_of (map (λ w. w.now) words.now)) (I.left input.old)
+        (I.faults input.old) (I.faults input.new) (O.faults out.old) (O.faults out.new) result }
 
     // Where the front is refused and no read has failed that is the answer, unless memory runs out.
-    ensures refused { IfSome (asked_of (map (λ w. w.now) words.now)) (λ asked.
-        IfSome (I.left input.old) (λ bytes. HasRefusal asked bytes
-        → (Rose (I.faults input.old) (I.faults input.new) → ⊥)
-        → IsRefusal result ⊎ (result ≡ StateStatus.Run Status.NoMemory))) }
+    ensures refused { HasRefused (asked_of (map (λ w. w.now) words.now)) (I.left input.old)
+        (I.faults input.old) (I.faults input.new) result }
 {
     match asked_of(words) {
         Some(asked) => answer(alloc, asked, input, out),
