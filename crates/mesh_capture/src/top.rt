@@ -41,7 +41,7 @@ fn write_packets<I: Source, O: Sink>(
     let mut copies = Copies::new(alloc);
     let mut lines = LongLines::new(input);
     let status = read_lines(&mut copies, &mut lines, buf, buffer);
-    // Given back, so that the clauses speak of the source itself.
+    // It says that `input` is the source as the lines have left it.
     let _input = lines.give_back();
     status
 }
@@ -132,7 +132,7 @@ fn write_file<I: Source, O: Sink>(alloc: Global, input: &mut I, out: &mut O) -> 
         return CaptureStatus::NoMemory;
     };
     let mut status = CaptureStatus::Done;
-    // The sink comes back, with what was written in it.
+    // It says that what comes back is `out`, as the buffer has left it.
     let _out = write_through::<I, O, Brand>(alloc, room, input, out, &mut status);
     status
 }

@@ -103,7 +103,7 @@ pub fn read_tables<I: Source>(tables: &mut PrintedTables, input: &mut I) -> Resu
 {
     let mut lines = LongLines::new(input);
     let result = read_lines(tables, &mut lines);
-    // Given back, so that the clauses speak of the source itself.
+    // It says that `input` is the source as the lines have left it.
     let _source = lines.give_back();
     result
 }

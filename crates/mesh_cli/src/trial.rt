@@ -110,7 +110,7 @@ pub fn trial<O: Sink>(alloc: Global, variant: Variant, plan: Plan, out: &mut O) 
         return Status::NoMemory;
     };
     let mut status = Status::Done;
-    // The sink comes back, with what was written in it.
+    // It says that what comes back is `out`, as the buffer has left it.
     let _out = trial_through::<O, Brand>(alloc, room, variant, plan, out, &mut status);
     status
 }

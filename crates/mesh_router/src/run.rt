@@ -155,7 +155,7 @@ pub fn run_script<I: Source, O: Sink, L: Link>(
     let mut scratch = Scratch::new();
     let mut lines = Lines::new(input);
     let status = run_lines(alloc, &mut at, &mut lines, &mut scratch, out, link);
-    // Given back, so that the clauses speak of the source itself.
+    // It says that `input` is the source as the lines have left it.
     let _source = lines.give_back();
     status
 }

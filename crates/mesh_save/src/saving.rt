@@ -107,6 +107,7 @@ fn write_out<O: Sink>(point: &Point<World>, length: u64, out: &mut O) -> bool
         (O.held out.old) (O.held out.new) (O.faults out.old) (O.faults out.new) }
 {
     let mut failed = false;
+    // It says that what comes back is `out`, as the buffer has left it.
     let _out = write_through::<O, Brand>(point, length, out, &mut failed);
     failed
 }
