@@ -63,7 +63,7 @@ pub fn load(alloc: Global, b: &[u8]) -> Result<Point<World>, StateError>
     // A checkpoint has no other body, and where its sums are balanced no refusal of a survey.
     one_body();
     balanced_is_taken();
-    // It says that the bytes have the form of a checkpoint; how many data it counts is of no use here.
+    // It says that the bytes have the form of a checkpoint. How many data there are isn't asked.
     let _data = survey(b)?;
     restore(alloc, &b[8..])
 }
