@@ -8,7 +8,7 @@ use Rattle.mesh_base.specs.Meshes.{Nodes, IsMesh, with_node}
 use Rattle.mesh_base.proofs.Grown.{grown_is_mesh}
 use Rattle.mesh_base.specs.declared.events.Variant.{Variant}
 use Rattle.mesh_base.specs.declared.events.Done.{Done}
-use Rattle.mesh_model.specs.Worlds.{World, Event, step, after, start, first_numbers}
+use Rattle.mesh_model.specs.Worlds.{World, Event, Outcome, step, after, start, first_numbers}
 use Rattle.mesh_model.specs.Accounts.{any, waiting, queued, in_flight}
 use Rattle.mesh_model.specs.Places.{IsEvent}
 use Rattle.mesh_model.proofs.AccountSteps.{start_empty}
@@ -23,6 +23,8 @@ use Rattle.mesh_world.proofs.Openings.{sound_opening}
 use Rattle.mesh_world.specs.Seen.{WorldSeen, opening, IsSoundWorld, most_data_at_first, most_steps}
 use Rattle.mesh_world.specs.declared.totals.Totals.{Totals}
 use Rattle.mesh_world.specs.Steps.{IsDone, IsStep}
+use Rattle.mesh_world.specs.Tallies.{IsTally, IsTallyOf}
+use Rattle.mesh_world.specs.declared.tally.Tally.{Tally}
 use Rattle.mesh_world.specs.declared.steps.StepError.{StepError}
 use Rattle.mesh_run.specs.Sums.{AreCounts}
 use Rattle.mesh_run.specs.Moments.{AreOfVariant, AreTotals, IsWorldOf, IsWorldAt, IsSound, IsSafe, IsAnswer, moment_seen}
@@ -251,17 +253,17 @@ pub record Answered (m : Moment) (variant : Variant) (nodes : Nodes) (new : Worl
   pub safe : IsSafe (moment_seen variant nodes (Some new) t lines)
   pub answer : IsAnswer m e d (moment_seen variant nodes (Some new) t lines) packet
 
--- the sums count an event
-abbrev pub CountsEvent : Sums → Sums → Event → Done → Type 0
-CountsEvent s t e d = (mesh : Nodes) (x : ℕ) (old new : World) (packet : List ℕ) → IsDoneInMesh mesh d packet → step old e ≡ outcome_in mesh x new d packet → t ≡ summed s e (step old e)
+-- the sums count an event, by the tally of its answer
+pub sum_by : (e : Event) (old new : WorldSeen) (d : Done) (packet : List ℕ) (tally : Tally) (s t : Sums) → IsDone e old d new packet → IsTallyOf d tally → ((o : Outcome) → IsTally e o tally → t ≡ summed s e o)
+    → t ≡ summed s e (step old.world e)
+sum_by e old new d packet tally s t done of counted = counted (step old.world e) (of old.mesh (node_of e) old.world new.world packet e done.in_mesh done.outcome)
 
 answered : (variant : Variant) (nodes : Nodes) (old new : WorldSeen) (s t : Sums) (lines : ℕ) (e : Event) (r : Result Done StepError) (d : Done) (packet : List ℕ)
     → IsSound (moment_seen variant nodes (Some old) s lines) (Some old) → IsEvent (length nodes) e
-    → IsStep e old r new packet → r ≡ Ok d → IsSoundWorld new → ((steps : ℕ) → AreCounts s steps → AreCounts t (steps + 1)) → CountsEvent s t e d
+    → IsStep e old r new packet → r ≡ Ok d → IsSoundWorld new → ((steps : ℕ) → AreCounts s steps → AreCounts t (steps + 1)) → t ≡ summed s e (step old.world e)
     → Answered (moment_seen variant nodes (Some old) s lines) variant nodes new t lines e d packet
-answered variant nodes old new s t lines e r d packet before event took ok sound counts sums =
+answered variant nodes old new s t lines e r d packet before event took ok sound counts sum =
     let done : IsDone e old d new packet = subst (λ x. IsStep e old x new packet) ok took in
-    let sum : t ≡ summed s e (step old.world e) = sums old.mesh (node_of e) old.world new.world packet done.in_mesh done.outcome in
     let kept : IsWorldAt variant nodes old = before.world old refl in
     let m : Moment = moment_seen variant nodes (Some old) s lines in
     let answer = answer_at variant nodes old new s t lines e d packet kept.fits.mesh done sum in
@@ -285,24 +287,24 @@ answered variant nodes old new s t lines e r d packet before event took ok sound
 -- in the world that is seen
 pub answered_at : (m : Moment) (variant : Variant) (nodes : Nodes) (seen : Option WorldSeen) (old new : WorldSeen) (s t : Sums) (lines : ℕ) (e : Event) (r : Result Done StepError) (d : Done) (packet : List ℕ)
     → moment_seen variant nodes seen s lines ≡ m → seen ≡ Some old → IsSound (moment_seen variant nodes seen s lines) seen → IsEvent (length m.mesh) e
-    → IsStep e old r new packet → r ≡ Ok d → IsSoundWorld new → ((steps : ℕ) → AreCounts s steps → AreCounts t (steps + 1)) → CountsEvent s t e d
+    → IsStep e old r new packet → r ≡ Ok d → IsSoundWorld new → ((steps : ℕ) → AreCounts s steps → AreCounts t (steps + 1)) → t ≡ summed s e (step old.world e)
     → Answered m variant nodes new t lines e d packet
-answered_at m variant nodes seen old new s t lines e r d packet is some before event took ok sound counts sums =
+answered_at m variant nodes seen old new s t lines e r d packet is some before event took ok sound counts sum =
     let here : IsSound (moment_seen variant nodes (Some old) s lines) (Some old) = subst (λ o. IsSound (moment_seen variant nodes o s lines) o) some before in
     let view : moment_seen variant nodes (Some old) s lines ≡ m = sym (ap (λ o. moment_seen variant nodes o s lines) some) ∙ is in
     let within : IsEvent (length nodes) e = subst (λ (k : Moment). IsEvent (length k.mesh) e) (sym is) event in
-    let a = answered variant nodes old new s t lines e r d packet here within took ok sound counts sums in
+    let a = answered variant nodes old new s t lines e r d packet here within took ok sound counts sum in
     record { sound = a.sound; safe = a.safe; answer = subst (λ k. IsAnswer k e d (moment_seen variant nodes (Some new) t lines) packet) view a.answer }
 
 -- in the opening world, which was made for it
 pub answered_first : (m : Moment) (variant : Variant) (nodes : Nodes) (seen : Option WorldSeen) (old new : WorldSeen) (s t : Sums) (lines : ℕ) (e : Event) (r : Result Done StepError) (d : Done) (packet : List ℕ)
     → moment_seen variant nodes seen s lines ≡ m → m.world ≡ None → old ≡ opening variant nodes → 1 ≤ length m.mesh → IsSound (moment_seen variant nodes seen s lines) seen → IsEvent (length m.mesh) e
-    → IsStep e old r new packet → r ≡ Ok d → IsSoundWorld new → ((steps : ℕ) → AreCounts s steps → AreCounts t (steps + 1)) → CountsEvent s t e d
+    → IsStep e old r new packet → r ≡ Ok d → IsSoundWorld new → ((steps : ℕ) → AreCounts s steps → AreCounts t (steps + 1)) → t ≡ summed s e (step old.world e)
     → Answered m variant nodes new t lines e d packet
-answered_first m variant nodes seen old new s t lines e r d packet is none opened some before event took ok sound counts sums =
+answered_first m variant nodes seen old new s t lines e r d packet is none opened some before event took ok sound counts sum =
     let unmade : option_map (λ w. w.world) seen ≡ None = ap (λ (k : Moment). k.world) is ∙ none in
     let size : 1 ≤ length nodes = subst (λ (k : Moment). 1 ≤ length k.mesh) (sym is) some in
     let within : IsEvent (length nodes) e = subst (λ (k : Moment). IsEvent (length k.mesh) e) (sym is) event in
-    let a = answered variant nodes old new s t lines e r d packet (sound_started variant nodes seen s lines old size unmade opened before) within took ok sound counts sums in
+    let a = answered variant nodes old new s t lines e r d packet (sound_started variant nodes seen s lines old size unmade opened before) within took ok sound counts sum in
     let view : moment_seen variant nodes None s lines ≡ m = sym (ap (λ o. moment_seen variant nodes o s lines) (unseen seen unmade)) ∙ is in
     record { sound = a.sound; safe = a.safe; answer = subst (λ k. IsAnswer k e d (moment_seen variant nodes (Some new) t lines) packet) view (first_answer variant nodes s t lines old new e d packet opened a.answer) }

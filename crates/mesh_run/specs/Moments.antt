@@ -90,6 +90,12 @@ pub record IsAnswer (m : Moment) (e : Event) (done : Done) (n : Moment) (packet 
   pub outcome : outcome_at m e ≡ outcome_in m.mesh (node_of e) (world_of n) done packet
   pub in_mesh : IsDoneInMesh m.mesh done packet
 
+-- there is such an answer
+pub record IsAnswered (m : Moment) (e : Event) (n : Moment) : Type 0 where
+  pub done : Done
+  pub packet : List ℕ
+  pub answer : IsAnswer m e done n packet
+
 -- the event was refused for a full counter
 abbrev pub IsRefusal : Moment → Event → StepError → Type 0
 IsRefusal m e (Full node field) = outcome_at m e ≡ worlds.Full node field

@@ -1,5 +1,5 @@
 -- What the program has counted, as the definitions have it.
-use Rattle.std.specs.Prelude.{ℕ, ◌≡◌, ◌≤◌, ◌+◌, ◌*◌, ◌^◌, Bool, if◌then◌else◌}
+use Rattle.std.specs.Prelude.{ℕ, ◌≡◌, ◌≤◌, ◌+◌, ◌*◌, ◌^◌}
 use Rattle.mesh_text.specs.Schedule as model
 use Rattle.mesh_base.specs.declared.limits.TheConstants.{MOST_NODES}
 use Rattle.mesh_text.specs.Schedule.{Moment, world_of}
@@ -39,7 +39,3 @@ pub record IsGrown (m n : Moment) : Type 0 where
   pub copied : n.sums.copied + m.steps ≤ m.sums.copied + n.steps
   pub copies : (world_of n).next_copy + MOST_NODES * m.steps ≤ (world_of m).next_copy
       + MOST_NODES * n.steps
-
--- 1 where it is so
-abbrev pub count_of : Bool → ℕ
-count_of b = if b then 1 else 0

@@ -72,19 +72,17 @@ pub fn do_event<'a, S: Steps, O: Sink>(
     ensures way { OnErr result (IsReached at.old (event_of event.entry ∷ []) at.new) }
     ensures cause { HasStopCause (O.faults out.old) (O.faults out.new) result }
 {
-    let answer = at.state.step_made(alloc, &event, &mut at.packet);
-    match &answer {
-        Ok(done) => {
-            if quiet {
-                return Ok(());
-            }
-            let mesh = at.state.mesh();
-            match say_event(mesh, bytes, &event, done, &at.packet, &mut at.line, out) {
-                Ok(()) => Ok(()),
-                Err(_) => Err(Stop::WriteFault),
-            }
-        }
-        Err(error) => Err(stop_of(event, *error)),
+    let state = &mut at.state;
+    if let Err(error) = state.step_counted(alloc, &event, &mut at.packet, !quiet, &mut at.done) {
+        return Err(stop_of(event, error));
+    }
+    if quiet {
+        return Ok(());
+    }
+    let mesh = at.state.mesh();
+    match say_event(mesh, bytes, &event, &at.done, &at.packet, &mut at.line, out) {
+        Ok(()) => Ok(()),
+        Err(_) => Err(Stop::WriteFault),
     }
 }
 

@@ -11,7 +11,7 @@ use crate::point::Point;
 use crate::state::State;
 use crate::sums::Sums;
 use arrayvec::ArrayVec;
-use mesh_base::{Mesh, Variant};
+use mesh_base::{Done, Mesh, Variant};
 use mesh_world::{Totals, World};
 
 // The data of the world; there are none before there is a world.
@@ -65,6 +65,7 @@ impl Point<World> {
             state: State::of_parts(variant, mesh, world, sums, lines),
             line: ArrayVec::new(),
             packet: ArrayVec::new(),
+            done: Done::Idle,
         })
     }
 }

@@ -18,12 +18,14 @@ use std::marker::Model;
 /// A moment of a run. A contract sees its variant of the protocol, its mesh, its world or none, its
 /// sums, its number of lines, and its number of steps, which is 0 where there is no world.
 ///
-/// It owns the line that is written and the packet that is cast, one of each for a whole run.
+/// It owns the line that is written, the packet that is cast and the answer that is told, one of
+/// each for a whole run.
 #[derive(Drop)]
 pub struct Point<S: Steps> {
     pub(crate) state: State<S>,
     pub(crate) line: LineBuf,
     pub(crate) packet: Packet,
+    pub(crate) done: Done,
 }
 
 impl<S: Steps> Model for Point<S> {
@@ -55,6 +57,7 @@ impl<S: Steps> Point<S> {
             state: State::with(variant),
             line: ArrayVec::new(),
             packet: ArrayVec::new(),
+            done: Done::Idle,
         }
     }
 

@@ -10,13 +10,13 @@ ghost use Rattle.mesh_text.specs.Schedule as model;
 ghost use Rattle.mesh_text.specs.Ranges.{IsNewNode};
 ghost use Rattle.mesh_report.specs.Sums as report;
 ghost use Rattle.mesh_script.specs.Seen.{accepted_of, IsAllowed};
-ghost use Rattle.mesh_run.specs.Moments.{begun, moment_seen, AreOfVariant, IsAnswer, IsRefusal, IsSafe, IsSound};
+ghost use Rattle.mesh_run.specs.Moments.{begun, moment_seen, AreOfVariant, IsAnswer, IsAnswered, IsRefusal, IsSafe, IsSound};
 
 use crate::sums::Sums;
 use mesh_base::{Addr, Done, Event, Mesh, NoMemory, Packet, Variant};
 use mesh_report::Summary;
 use mesh_script::Line;
-use mesh_world::{StepError, Steps, Totals};
+use mesh_world::{StepError, Steps, Totals, tally_of};
 use std::alloc::Global;
 use std::marker::Model;
 
@@ -217,9 +217,42 @@ impl<S: Steps> State<S> {
         };
         let answer = world.step(alloc, e, out);
         if let Ok(done) = &answer {
-            self.sums.add(e, done);
+            self.sums.add(e, tally_of(done));
         }
         answer
+    }
+
+    /// The same, but that what came of the event is left in `answer` where it is wanted; else
+    /// `answer` may hold any answer.
+    #[inline(always)]
+    pub fn step_counted(
+        &mut self,
+        alloc: Global,
+        e: &Event<'_>,
+        out: &mut Packet,
+        wanted: bool,
+        answer: &mut Done,
+    ) -> Result<(), StepError>
+        requires made { is_some self.old.world ≡ true }
+        requires event { IsEvent (length self.old.mesh) (event_of e.now) }
+        requires few { self.old.steps < 2 ^ 48 }
+        ensures done { OnOk result (IsAnswered self.old (event_of e.now) self.new) }
+        ensures told { wanted ≡ true → OnOk result
+            (IsAnswer self.old (event_of e.now) answer.new self.new out.new.items) }
+        ensures refused { IfErr result (IsRefusal self.old (event_of e.now)) }
+        ensures same { OnErr result (self.new ≡ self.old) }
+        ensures safe { IsSafe self.new }
+    {
+        let Some(world) = &mut self.world else {
+            unreachable!();
+        };
+        match world.step_counted(alloc, e, out, wanted, answer) {
+            Ok(tally) => {
+                self.sums.add(e, tally);
+                Ok(())
+            }
+            Err(refusal) => Err(refusal),
+        }
     }
 
     /// Does the first event. The world is kept only where the event was done.
@@ -242,7 +275,7 @@ impl<S: Steps> State<S> {
         let mut world = S::with(alloc, &self.mesh, self.variant)?;
         match world.step(alloc, e, out) {
             Ok(done) => {
-                self.sums.add(e, &done);
+                self.sums.add(e, tally_of(&done));
                 self.world = Some(world);
                 Ok(done)
             }

@@ -1,6 +1,6 @@
-//! Tests of the emulator's libraries, by their public calls: worked rows, lines that are refused, and
-//! each call that can want memory, with ample memory. They stand in a crate of their own, since a
-//! crate that has tests is proved once more with them.
+//! Tests of the emulator's libraries, by their public calls: worked rows, lines that are refused,
+//! and each call that can want memory, with ample memory. They stand in a crate of their own, since
+//! a crate that has tests is proved once more with them.
 #![tactic(auto)]
 
 #[cfg(test)]

@@ -2,6 +2,8 @@ pub mod ReadySets
 pub mod Choosing
 pub mod Ways
 pub mod Counts
+pub mod Gains
+pub mod Tallies
 pub mod Receivers
 pub mod Frames
 pub mod Casts

@@ -4,6 +4,8 @@
 pub mod Seen
 -- Steps: what a step answers, and what is then seen of the world.
 pub mod Steps
+-- Tallies: what is counted of an event.
+pub mod Tallies
 -- Kept: the world that nodes and a radio are, and how the code keeps one.
 pub mod Kept
 -- Noted: how the kept sets follow the nodes. No public contract cites it.

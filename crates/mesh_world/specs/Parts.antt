@@ -1,5 +1,5 @@
 -- The parts of a world, and an event as it is done to them. No public contract cites this file.
-use Rattle.std.specs.Prelude.{◌≡◌, ℕ, ◌+◌, List, [], ◌∷◌, length, Result, ⊤}
+use Rattle.std.specs.Prelude.{◌≡◌, ℕ, ◌+◌, Bool, true, List, [], ◌∷◌, length, Result, ⊤}
 use Rattle.mesh_base.specs.Members.{NodeIds}
 use Rattle.mesh_base.specs.Meshes.{Nodes, first_at}
 use Rattle.mesh_base.specs.declared.events.Air.{Air}
@@ -13,9 +13,11 @@ use Rattle.mesh_radio.specs.Radios.{RadioState, with_copies}
 use Rattle.mesh_meaning.specs.Answers.{cast_in}
 use Rattle.mesh_world.specs.Seen.{WorldSeen}
 use Rattle.mesh_world.specs.Steps.{IsStep}
+use Rattle.mesh_world.specs.Tallies.{answer_with, HasTally}
 use Rattle.mesh_world.specs.Kept.{seen_of, IsKept}
 use Rattle.mesh_world.specs.declared.parts.Parts.{Parts}
 use Rattle.mesh_world.specs.declared.steps.StepError.{StepError}
+use Rattle.mesh_world.specs.declared.tally.Tally.{Tally}
 
 -- the world that they are
 abbrev pub seen_in : Parts → WorldSeen
@@ -30,6 +32,15 @@ pub record IsDoneTo (e : Event) (old : Parts) (answer : Result Done StepError) (
     (packet : List ℕ) : Type 0 where
   pub step : IsStep e (seen_in old) answer (seen_in new) packet
   pub kept : AreKept new
+
+-- an event was done to the parts, or refused: its tally was answered, and where it is wanted the
+-- answer is what was left
+pub record IsToldTo (e : Event) (old : Parts) (wanted : Bool) (result : Result Tally StepError)
+    (left : Done) (new : Parts) (packet : List ℕ) : Type 0 where
+  pub answer : Result Done StepError
+  pub done : IsDoneTo e old answer new packet
+  pub tally : HasTally answer result
+  pub told : wanted ≡ true → answer_with result left ≡ answer
 
 -- a node of the mesh in its opening state, with this variant
 pub record IsOpened (v : Variant) (mesh : Nodes) (me : ℕ) (n : NodeSeen) : Type 0 where

@@ -41,5 +41,5 @@ abbrev pub may_need_memory : World → Event → Bool
 may_need_memory w e = not (changes_link e || is_idle (step w e))
 
 -- want of memory is answered only to an event that may ask for some
-abbrev pub IsShortOf : World → Event → Result Done StepError → Type 0
+abbrev pub IsShortOf : {A : Type 0} → World → Event → Result A StepError → Type 0
 IsShortOf w e answer = IsErrOf answer errors.NoMemory → may_need_memory w e ≡ true

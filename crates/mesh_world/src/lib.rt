@@ -11,6 +11,7 @@ mod restored;
 mod route;
 mod short;
 mod steps;
+mod tally;
 mod totals;
 mod world;
 
@@ -18,5 +19,6 @@ pub use nodes::Nodes;
 pub use restored::Part;
 pub use route::End;
 pub use steps::{StepError, Steps};
+pub use tally::{Tally, tally_of};
 pub use totals::Totals;
 pub use world::World;

@@ -2,7 +2,7 @@
 ghost use Rattle.std.specs.Prelude.{◌≡◌, ◌<◌, ◌^◌, List, ℕ, true, false, length};
 ghost use Rattle.mesh_model.specs.Places.{IsEvent};
 ghost use Rattle.mesh_meaning.specs.Events.{event_of};
-ghost use Rattle.mesh_world.specs.Parts.{AreKept, IsDoneTo, seen_in};
+ghost use Rattle.mesh_world.specs.Parts.{AreKept, seen_in};
 ghost use Rattle.mesh_world.specs.Steps.{may_need_memory, IsShortOf, changes_link};
 
 use crate::parts::Parts;

@@ -1,11 +1,13 @@
 //! What steps a world.
-ghost use Rattle.std.specs.Prelude.{◌≡◌, ◌≤◌, ◌<◌, ◌^◌, length, IfOk};
+ghost use Rattle.std.specs.Prelude.{◌≡◌, ◌≤◌, ◌<◌, ◌^◌, length, true, IfOk};
 ghost use Rattle.mesh_base.specs.declared.events.Variant.TheVariants.{Base};
 ghost use Rattle.mesh_model.specs.Places.{IsEvent};
 ghost use Rattle.mesh_meaning.specs.Events.{event_of};
 ghost use Rattle.mesh_world.specs.Seen.{WorldSeen, opening, IsSoundWorld};
 ghost use Rattle.mesh_world.specs.Steps.{IsStep};
+ghost use Rattle.mesh_world.specs.Tallies.{answer_with, IsStepCounted};
 
+use crate::tally::{Tally, tell_answer};
 use crate::world::World;
 use mesh_base::{Counter, Done, Event, Mesh, NoMemory, Packet, Variant};
 use std::alloc::Global;
@@ -60,6 +62,27 @@ pub trait Steps: Drop {
         ensures step { let event = event_of e.now in
             IsStep event (seen self.old) result (seen self.new) out.new.items }
         ensures sound { IsSoundWorld (seen self.new) };
+
+    /// Does one event, as `step` does, and answers what is counted of it. What came of it is left
+    /// in `answer` where it is wanted; else `answer` may hold any answer.
+    fn step_counted(
+        &mut self,
+        alloc: Global,
+        e: &Event<'_>,
+        out: &mut Packet,
+        wanted: bool,
+        answer: &mut Done,
+    ) -> Result<Tally, StepError>
+        requires event { IsEvent (length (seen self.old).mesh) (event_of e.now) }
+        requires few { (seen self.old).steps < 2 ^ 48 }
+        ensures counted { IsStepCounted (event_of e.now) (seen self.old) result (seen self.new) }
+        ensures told { let event = event_of e.now in wanted ≡ true → IsStep event
+            (seen self.old) (answer_with result answer.new) (seen self.new) out.new.items }
+        ensures sound { IsSoundWorld (seen self.new) }
+    {
+        let given = self.step(alloc, e, out);
+        tell_answer(wanted, answer, given)
+    }
 
     /// The world itself.
     fn world(&self) -> &World

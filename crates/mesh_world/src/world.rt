@@ -1,5 +1,5 @@
 //! The world.
-ghost use Rattle.std.specs.Prelude.{◌≡◌, ◌<◌, ◌≤◌, ◌^◌, ◌↔◌, length, map, slice_get, Some, IfOk, IfErr, IsOk, IfSome};
+ghost use Rattle.std.specs.Prelude.{◌≡◌, ◌<◌, ◌≤◌, ◌^◌, ◌↔◌, length, map, slice_get, true, Some, IfOk, IfErr, IsOk, IfSome};
 ghost use Rattle.std.specs.List.{AllByRecursion};
 ghost use Rattle.mesh_model.specs.Choices as choices;
 ghost use Rattle.mesh_model.specs.Routes as routes;
@@ -12,6 +12,7 @@ ghost use Rattle.mesh_world.specs.Seen.{WorldSeen, opening, IsSoundWorld, node_i
 ghost use Rattle.mesh_world.specs.Kept.{world_in, seen_of};
 ghost use Rattle.mesh_model.specs.Accounts.{any};
 ghost use Rattle.mesh_world.specs.Steps.{IsStep, IsShortOf, may_need_memory};
+ghost use Rattle.mesh_world.specs.Tallies.{answer_with, IsStepCounted};
 ghost use Rattle.mesh_world.specs.Ends.{end_in, IsEndIn};
 ghost use Rattle.mesh_world.specs.Parts.{AreOpened};
 ghost use Rattle.mesh_world.specs.Restored.{AreNodesOf, AreWritten, AreSoundParts, IsFirstPart, most_steps_at_first};
@@ -23,6 +24,7 @@ use crate::ready::Ready;
 use crate::restored::{Part, first_unsound, ready_for};
 use crate::route::{End, follow};
 use crate::steps::{StepError, Steps};
+use crate::tally::Tally;
 use crate::totals::{Totals, count_data};
 use aodv_node::Node;
 use mesh_base::{Done, Event, Mesh, NoMemory, Packet, Variant};
@@ -214,16 +216,44 @@ impl Steps for World {
         ensures memory { IsShortOf self.old.world (event_of e.now) result }
         ensures sound { IsSoundWorld self.new }
     {
+        let mut done = Done::Idle;
+        match self.step_counted(alloc, e, out, true, &mut done) {
+            Ok(_) => Ok(done),
+            Err(error) => Err(error),
+        }
+    }
+
+    /// Want of memory is answered only to an event that is enabled, or refused for a full counter,
+    /// and is no change of a link.
+    #[inline(always)]
+    fn step_counted(
+        &mut self,
+        alloc: Global,
+        e: &Event<'_>,
+        out: &mut Packet,
+        wanted: bool,
+        answer: &mut Done,
+    ) -> Result<Tally, StepError>
+        requires event { IsEvent (length self.old.mesh) (event_of e.now) }
+        requires few { self.old.steps < 2 ^ 48 }
+        ensures counted { IsStepCounted (event_of e.now) self.old result self.new }
+        ensures told { wanted ≡ true → IsStep (event_of e.now)
+            self.old (answer_with result answer.new) self.new out.new.items }
+        ensures memory { IsShortOf self.old.world (event_of e.now) result }
+        ensures sound { IsSoundWorld self.new }
+    {
         match *e {
-            Event::Give { node, dest, body } => self.parts.give(alloc, node, dest, body),
-            Event::Turn { node } => self.parts.turn(node, out),
-            Event::Send { node, dest } => self.parts.send(node, dest, out),
-            Event::Ask { node, dest } => self.parts.ask(node, dest, out),
-            Event::Link { a, b } => Ok(self.parts.link(a, b)),
-            Event::Cut { a, b } => Ok(self.parts.cut(a, b)),
-            Event::Deliver { id } => self.parts.deliver_copy(alloc, id),
-            Event::Lose { id } => self.parts.lose_copy(alloc, id),
-            Event::Double { id } => self.parts.double_copy(id),
+            Event::Give { node, dest, body } => {
+                self.parts.give(alloc, node, dest, body, wanted, answer)
+            }
+            Event::Turn { node } => self.parts.turn(node, out, wanted, answer),
+            Event::Send { node, dest } => self.parts.send(node, dest, out, wanted, answer),
+            Event::Ask { node, dest } => self.parts.ask(node, dest, out, wanted, answer),
+            Event::Link { a, b } => self.parts.link(a, b, wanted, answer),
+            Event::Cut { a, b } => self.parts.cut(a, b, wanted, answer),
+            Event::Deliver { id } => self.parts.deliver_copy(alloc, id, wanted, answer),
+            Event::Lose { id } => self.parts.lose_copy(alloc, id, wanted, answer),
+            Event::Double { id } => self.parts.double_copy(id, wanted, answer),
         }
     }
 

@@ -1,15 +1,18 @@
-use Rattle.std.proofs.Common.{ap, arith, length, sym, ◌∙◌}
+use Rattle.std.proofs.Common.{ap, arith, length, sym, ◌∙◌, rules}
 use Rattle.mesh_world.proofs.Frames.{count_of, is_there, node_at, set_got_again, count_again, read_back}
 use Rattle.mesh_world.proofs.Arrivals.{joined, noted_joined, receiver_in, taken, may_hear, deliver_done, deliver_idle, seen_fits}
 use Rattle.mesh_world.proofs.Moves.{of_ends, at_end, changed, within}
 use Rattle.std.specs.Prelude.{is_some}
 use Rattle.mesh_world.proofs.Memory.{needs_deliver}
+use Rattle.mesh_world.proofs.Tallies.{told_done, told_short, told_still}
 use Rattle.mesh_world.proofs.parts.Parts.deliver_copy.Goals as goal
 
 pub returns-in_default-clause-done : goal.returns-in_default-clause-done
 returns-in_default-clause-done c = λ packet.
     let old = c.args.self.now in
+    told_done _ _ _ _ _ _ _ _ (
     of_ends _ old _ _ _ _ _ _ (deliver_idle old.mesh old.nodes.items old.radio old.ready old.steps c.args.id c.find.result packet c.requires.kept c.requires.few c.find.ensures c.in_default.is)
+    ) c.tell.ensures.tally c.tell.ensures.told
 
 pub index_mut-requires : goal.index_mut-requires
 index_mut-requires c =
@@ -71,10 +74,12 @@ returns-clause-done c = λ packet.
     let here = node_at old.mesh old.nodes.items old.radio old.ready old.steps to c.index_mut.result.now c.requires.kept within c.index_mut.ensures.value in
     let same = read_back old.nodes.items to c.make_room.new.self c.index_mut-2.result.now there c.index_mut-2.ensures.value in
     let j = joined c.index_mut.result.now c.index_mut-2.result.now c.hear.new.self _ (ap (λ n. n.core) same ∙ c.make_room.ensures.core) (ap (λ n. n.items) same ∙ c.make_room.ensures.items) (ap (λ n. n.size) same ∙ c.make_room.ensures.size) c.hear.ensures (c.end_with_item.ensures.sound c.hear.new.self at) in
+    told_done _ _ _ _ _ _ _ _ (
     at_end _ old (changed (changed old to c.make_room.new.self old.radio) to c.hear.new.self c.take.new.self) c.end_with_item.new.self _ packet c.end_with_item.ensures.others
     (of_ends _ old _ _ _ _ _ _ (deliver_done old.mesh old.nodes.items old.radio c.take.new.self old.ready c.end_with_item.new.self.ready old.steps c.args.id to c.in-Some-take.taken
     c.index_mut.result.now c.make_room.new.self c.hear.new.self packet c.requires.kept c.requires.few (taken old.mesh old.nodes.items old.radio old.ready old.steps c.args.id c.find.result c.in-Some.flying c.take.result c.in-Some-take.taken c.requires.kept c.find.ensures c.in-Some.is c.take.ensures.taken c.in-Some-take.is) c.take.ensures.others here j
     (noted_joined old.mesh old.nodes.items old.radio old.ready c.end_with_item.new.self.ready old.steps to c.index_mut.result.now c.hear.new.self _ c.requires.kept here j c.end_with_item.ensures.ready)))
+    ) c.tell-2.ensures.tally c.tell-2.ensures.told
 
 pub returns-in_err-room-clause-memory : goal.returns-in_err-room-clause-memory
 returns-in_err-room-clause-memory c = λ short.
@@ -85,3 +90,9 @@ pub returns-in_err-make_room-clause-memory : goal.returns-in_err-make_room-claus
 returns-in_err-make_room-clause-memory c = λ short.
     let old = c.args.self.now in
     sym (needs_deliver old.mesh old.nodes.items old.radio c.args.id c.find.result c.find.ensures) ∙ ap is_some c.in-Some.is
+
+pub returns-in_err-room-clause-done : goal.returns-in_err-room-clause-done
+returns-in_err-room-clause-done c = λ packet. told_short _ _ _ _ _ _ _ c.from_residual.ensures.1 (record { step = search rules; kept = search rules })
+
+pub returns-in_err-make_room-clause-done : goal.returns-in_err-make_room-clause-done
+returns-in_err-make_room-clause-done c = λ packet. told_still _ c.args.self.now _ _ _ c.in-Some.flying.to c.index_mut.result.now c.make_room.new.self packet c.index_mut.ensures.value c.in_err-make_room.ensures.refused c.from_residual-in_err-make_room.ensures.1 c.requires.kept

@@ -5,6 +5,7 @@ use Rattle.mesh_world.proofs.Turns.{turn_done_end, turn_idle_end, turn_full_end,
 use Rattle.mesh_world.proofs.Moves.{of_ends, after_cast, noted_before, sound_before, changed, within, still_within, still_few}
 use Rattle.mesh_world.specs.Noted.{has_items}
 use Rattle.mesh_world.proofs.Memory.{idle_end_unneeded, needs_turn}
+use Rattle.mesh_world.proofs.Tallies.{told_done, told_refused}
 use Rattle.mesh_world.proofs.parts.Parts.turn.Goals as goal
 
 pub index_mut-requires : goal.index_mut-requires
@@ -44,27 +45,34 @@ unreachable-requires-in-Err-Stranger c =
 pub returns-in-Err-Idle-clause-done : goal.returns-in-Err-Idle-clause-done
 returns-in-Err-Idle-clause-done c =
     let old = c.args.self.now in
+    told_done _ _ _ _ _ _ _ _ (
     of_ends _ old _ _ _ _ _ _ (turn_idle_end old.mesh old.nodes.items old.radio c.make_room.new.self old.ready old.steps c.args.x c.index_mut.result.now c.turn.new.self c.turn.new.out.items
     c.requires.kept c.requires.few c.make_room.ensures.same c.requires.node c.index_mut.ensures.value (rw c.in-Err-Idle.field-0-is at c.in-Err-Idle.ensures.turn))
+    ) c.tell-in-Err-Idle.ensures.tally c.tell-in-Err-Idle.ensures.told
 
 pub returns-in-Err-Full-clause-done : goal.returns-in-Err-Full-clause-done
 returns-in-Err-Full-clause-done c =
     let old = c.args.self.now in
+    told_refused _ _ _ _ _ _ _ (
     of_ends _ old _ _ _ _ _ _ (turn_full_end old.mesh old.nodes.items old.radio c.make_room.new.self old.ready old.steps c.args.x c.range-range.result c.in-Err-Full.field _ c.index_mut.result.now c.turn.new.self c.turn.new.out.items
     c.requires.kept c.make_room.ensures.same c.requires.node c.index_mut.ensures.value c.range-range.ensures.value (sym c.in-Err-Full.field-is) (rw c.in-Err-Full.field-0-is at c.in-Err-Full.ensures.turn))
+    )
 
 pub returns-in-Err-NoMemory-clause-done : goal.returns-in-Err-NoMemory-clause-done
 returns-in-Err-NoMemory-clause-done c =
     let old = c.args.self.now in
     let short = rw c.in-Err-NoMemory.field-0-is at c.in-Err-NoMemory.ensures.turn in
+    told_refused _ _ _ _ _ _ _ (
     of_ends _ old _ _ _ _ _ _ (no_memory_end _ old.mesh old.nodes.items old.radio c.make_room.new.self old.ready old.steps c.args.x c.index_mut.result.now c.turn.new.self c.turn.new.out.items
     c.requires.kept c.make_room.ensures.same c.requires.node c.index_mut.ensures.value short.1)
+    )
 
 pub returns-clause-done : goal.returns-clause-done
 returns-clause-done c =
     let old = c.args.self.now in
     let count = count_set old.mesh old.nodes.items old.radio old.ready old.steps c.args.x c.turn.new.self c.requires.kept in
     let at = set_got old.nodes.items c.args.x c.turn.new.self (let n = count_of old.mesh old.nodes.items old.radio old.ready old.steps c.requires.kept in let l = c.requires.node in omega arith) in
+    told_done _ _ _ _ _ _ _ _ (
     after_cast _ old (changed old c.args.x c.turn.new.self c.make_room.new.self) c.cast-air.new.self c.end_at.new.self _ _ c.cast-air.ensures.others c.end_at.ensures.others
     (of_ends _ old _ _ _ _ _ _ (turn_done_end old.mesh old.nodes.items old.radio c.make_room.new.self c.cast-air.new.self.radio old.ready c.end_at.new.self.ready old.steps c.args.x c.range-range.result c.index_mut.result.now c.turn.new.self
     c.in-Ok.done c.turn.new.out.items c.cast-air.result c.requires.kept c.make_room.ensures.same c.requires.few c.requires.node c.index_mut.ensures.value c.range-range.ensures.value
@@ -72,6 +80,7 @@ returns-clause-done c =
     c.in-Ok.ensures.turn
     (record { radio = c.cast-air.ensures.radio; answer = c.cast-air.ensures.air; few = c.cast-air.ensures.few })
     (noted_before (changed old c.args.x c.turn.new.self c.make_room.new.self) c.cast-air.new.self c.end_at.new.self.ready c.args.x (length old.mesh) c.turn.new.self c.cast-air.ensures.others at count c.end_at.ensures.ready)))
+    ) c.tell-2.ensures.tally c.tell-2.ensures.told
 
 pub returns-in-Err-NoMemory-clause-memory : goal.returns-in-Err-NoMemory-clause-memory
 returns-in-Err-NoMemory-clause-memory c = λ short.
@@ -84,4 +93,9 @@ pub returns-then-is_err-clause-done : goal.returns-then-is_err-clause-done
 returns-then-is_err-clause-done c =
     let old = c.args.self.now in
     let same : c.make_room.new.self ≡ old.radio = search rules in
+    told_done _ _ _ _ _ _ _ _ (
     idle_end_unneeded _ old c.make_room.new.self c.args.out.now.items same c.requires.kept c.requires.few (sym c.if-may_need_memory.false ∙ c.may_need_memory.ensures)
+    ) c.tell.ensures.tally c.tell.ensures.told
+
+pub returns-then-may_need_memory-clause-done : goal.returns-then-may_need_memory-clause-done
+returns-then-may_need_memory-clause-done c = told_refused _ _ _ _ _ _ _ (record { step = search rules; kept = search rules })

@@ -1,8 +1,8 @@
 use Rattle.std.proofs.Common.{◌∙◌, ap, subst}
 use Rattle.mesh_base.specs.declared.events.Done.{Done}
 use Rattle.mesh_meaning.specs.Answers.{outcome_in, IsDoneInMesh}
-use Rattle.mesh_run.proofs.Counts.{delivers_taken}
-use Rattle.mesh_run.proofs.sums.delivers.Goals as goal
+use Rattle.mesh_world.proofs.Gains.{delivers_taken}
+use Rattle.mesh_world.proofs.tally.delivers.Goals as goal
 
 pub returns-then-effect : goal.returns-then-effect
 returns-then-effect c = λ mesh x old new packet e all is.

@@ -1,0 +1,142 @@
+//! What is counted of an event.
+ghost use Rattle.std.specs.Prelude.{◌≡◌, ℕ, List, true, Ok, IsOk};
+ghost use Rattle.mesh_base.specs.Meshes.{Nodes};
+ghost use Rattle.mesh_model.specs.Worlds.{World, Event as an_event, step};
+ghost use Rattle.mesh_model.specs.Accounts.{any, delivered, dropped, in_taken, in_dropped};
+ghost use Rattle.mesh_meaning.specs.Answers.{outcome_in, took_in, IsDoneInMesh, IsTookInMesh};
+ghost use Rattle.mesh_world.specs.Seen.{WorldSeen};
+ghost use Rattle.mesh_world.specs.Steps.{IsStep};
+ghost use Rattle.mesh_world.specs.Tallies.{count_of, answer_with, IsTallyOf, HasTally, IsStepCounted};
+
+use crate::steps::StepError;
+use aodv_wire::is_data;
+use mesh_base::{Done, Kind, Took};
+
+/// What is counted of an event that was done.
+#[derive(Clone, Copy)]
+pub enum Tally {
+    /// It wasn't enabled.
+    Idle,
+    /// A datum was given, or a link changed.
+    Changed,
+    /// A node took an item, with a datum that was delivered or dropped.
+    Taken { delivered: bool, dropped: bool },
+    /// A copy was lost, of a data packet or another.
+    Lost { parcel: bool },
+    /// A copy was doubled, of a data packet or another.
+    Doubled { parcel: bool },
+    /// A packet was sent, or a copy came to its receiver: nothing but the event is counted.
+    Moved,
+}
+
+// Whether what was taken is a datum of the node's own, or a packet with one.
+fn is_own_or_data(took: &Took) -> bool
+    ensures { (mesh : Nodes) (x : ℕ) → IsTookInMesh mesh took.now
+        → in_taken any x (took_in mesh took.now) ≡ count_of result }
+{
+    match took {
+        Took::Own { .. } => true,
+        Took::Stored { .. } => false,
+        Took::Heard { kind, .. } => *kind == Kind::Data,
+    }
+}
+
+// Whether what was taken is a packet with a datum.
+fn is_heard_data(took: &Took) -> bool
+    ensures { (mesh : Nodes) → IsTookInMesh mesh took.now
+        → in_dropped any (took_in mesh took.now) ≡ count_of result }
+{
+    match took {
+        Took::Own { .. } => false,
+        Took::Stored { .. } => false,
+        Took::Heard { kind, .. } => *kind == Kind::Data,
+    }
+}
+
+// Whether a datum was delivered. Only a turn takes something.
+fn delivers(done: &Done) -> bool
+    ensures { (mesh : Nodes) (x : ℕ) (old new : World) (packet : List ℕ) (e : an_event)
+        → IsDoneInMesh mesh done.now packet
+        → step old e ≡ outcome_in mesh x new done.now packet
+        → delivered any e (step old e) ≡ count_of result }
+{
+    match done {
+        Done::Taken { took, effect, .. } => effect.deliver && is_own_or_data(took),
+        Done::Idle => false,
+        Done::Changed => false,
+        Done::Sent { .. } => false,
+        Done::Heard { .. } => false,
+        Done::Lost { .. } => false,
+        Done::Doubled { .. } => false,
+    }
+}
+
+// Whether a datum was dropped, by a turn or with a lost copy.
+#[tactic(auto, using(crate::proofs::Counts::packet_counts))]
+fn drops(done: &Done) -> bool
+    ensures { (mesh : Nodes) (x : ℕ) (w : World) (packet : List ℕ) (e : an_event)
+        → IsDoneInMesh mesh done.now packet
+        → dropped any e (outcome_in mesh x w done.now packet) ≡ count_of result }
+{
+    match done {
+        Done::Taken { took, effect, .. } => effect.lost && is_heard_data(took),
+        Done::Lost { flying } => is_data(flying.bytes.as_slice()),
+        Done::Idle => false,
+        Done::Changed => false,
+        Done::Sent { .. } => false,
+        Done::Heard { .. } => false,
+        Done::Doubled { .. } => false,
+    }
+}
+
+/// What is counted of an answer.
+pub fn tally_of(done: &Done) -> Tally
+    ensures { IsTallyOf done.now result }
+{
+    match done {
+        Done::Idle => Tally::Idle,
+        Done::Changed => Tally::Changed,
+        Done::Taken { .. } => Tally::Taken {
+            delivered: delivers(done),
+            dropped: drops(done),
+        },
+        Done::Sent { .. } => Tally::Moved,
+        Done::Heard { .. } => Tally::Moved,
+        Done::Lost { .. } => Tally::Lost {
+            parcel: drops(done),
+        },
+        Done::Doubled { parcel, .. } => Tally::Doubled { parcel: *parcel },
+    }
+}
+
+/// Answers what is counted of an event that was done, and leaves what came of it in `answer` where
+/// that is wanted. It is part of each place where an event is done, so that no answer is put
+/// together that nobody wants.
+#[inline(always)]
+pub(crate) fn tell(wanted: bool, answer: &mut Done, done: Done) -> Result<Tally, StepError>
+    ensures tally { HasTally (Ok done) result }
+    ensures told { wanted ≡ true → answer_with result answer.new ≡ Ok done }
+    ensures ok { IsOk result }
+{
+    let tally = tally_of(&done);
+    if wanted {
+        *answer = done;
+    }
+    Ok(tally)
+}
+
+/// The same of an answer that is given, or a refusal.
+pub(crate) fn tell_answer(
+    wanted: bool,
+    answer: &mut Done,
+    given: Result<Done, StepError>,
+) -> Result<Tally, StepError>
+    ensures counted { (e : an_event) (old new : WorldSeen) (packet : List ℕ)
+        → IsStep e old given new packet → IsStepCounted e old result new }
+    ensures told { wanted ≡ true → answer_with result answer.new ≡ given }
+{
+    match given {
+        Ok(done) => tell(wanted, answer, done),
+        Err(error) => Err(error),
+    }
+}
