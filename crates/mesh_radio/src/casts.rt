@@ -90,9 +90,9 @@ fn find_near(casts: &Casts, id: u64, hint: usize) -> Option<Spot>
 
 /// Where the copy of this id stands. The least copy is found at once.
 #[inline(always)]
-pub fn find(casts: &Casts, least: Option<Least>, id: u64) -> Option<Spot>
+pub fn find(casts: &Casts, least: &Option<Least>, id: u64) -> Option<Spot>
     requires casts { (next : ℕ) × AreCasts casts.now.entries next }
-    requires least { IsLeastOf casts.now.entries least }
+    requires least { IsLeastOf casts.now.entries least.now }
     ensures some { IfSome result (λ s. IsFound casts.now.entries id s.place s.to) }
     ensures below { IfSome result (λ s. s.to < 256) }
     ensures none { IfNone result (HasNone casts.now.entries id) }
@@ -211,9 +211,9 @@ pub fn launch(casts: &mut Casts, least: Option<Least>, next: u64, cast: Cast) ->
 
 /// How many casts at the front have no copy in flight.
 #[inline(always)]
-pub fn front_of(least: Option<Least>) -> usize
-    ensures some { IfSome least (λ l. result ≡ l.spot.place) }
-    ensures none { IfNone least (result ≡ 0) }
+pub fn front_of(least: &Option<Least>) -> usize
+    ensures some { IfSome least.now (λ l. result ≡ l.spot.place) }
+    ensures none { IfNone least.now (result ≡ 0) }
 {
     match least {
         Some(least) => least.spot.place,

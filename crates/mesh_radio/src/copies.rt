@@ -1,5 +1,5 @@
 //! Copies of packets in flight, by rising id.
-ghost use Rattle.std.specs.Prelude.{◌≡◌, ℕ, ◌<◌, ◌≤◌, ◌+◌, ◌^◌, ◌∷◌, [], length, slice_get, option_map, OnOk, OnErr, IsOk, IfSome, IfNone, if◌then◌else◌};
+ghost use Rattle.std.specs.Prelude.{◌≡◌, ℕ, ◌<◌, ◌≤◌, ◌+◌, ◌^◌, ◌∷◌, [], length, slice_get, option_map, true, is_some, OnOk, OnErr, IsOk, IfOk, IfSome, IfNone, if◌then◌else◌};
 ghost use Rattle.mesh_base.specs.Views.{flying_seen};
 ghost use Rattle.mesh_base.specs.Members.{member_list};
 ghost use Rattle.aodv_wire.specs.Spells.{is_data};
@@ -11,7 +11,7 @@ use crate::clearing::clear;
 use crate::joining::make_way;
 use crate::rooms::Rooms;
 use aodv_wire::is_data;
-use mesh_base::{Bytes, Flying, FlyingView, MOST_NODES, NoMemory, NodeSet, Room};
+use mesh_base::{Bytes, Flying, FlyingView, MOST_NODES, NoMemory, NodeSet};
 use std::alloc::Global;
 use std::marker::Model;
 
@@ -56,19 +56,6 @@ fn if_data(packet: &[u8], copies: usize) -> usize
     ensures { result ≡ (if is_data packet.now then copies else 0) }
 {
     if is_data(packet) { copies } else { 0 }
-}
-
-// The bytes, in this room's memory. Short ones, which most packets have, are copied here without a
-// call.
-#[inline(always)]
-fn copied(bytes: &[u8], room: Room) -> Bytes
-    requires { length bytes.now ≤ room }
-    ensures { result ≡ bytes.now }
-{
-    match Bytes::short(bytes) {
-        Some(own) => own,
-        None => room.fill(bytes),
-    }
 }
 
 impl Copies {
@@ -122,7 +109,7 @@ impl Copies {
     pub fn get(&self, id: u64) -> Option<FlyingView<'_>>
         ensures { option_map flying_seen result ≡ find_copy self.now.flying id }
     {
-        let spot = find(&self.casts, self.least, id)?;
+        let spot = find(&self.casts, &self.least, id)?;
         let (_, cast) = self.casts.get_index(spot.place)?;
         Some(FlyingView {
             id,
@@ -153,7 +140,8 @@ impl Copies {
     }
 
     /// A copy of the packet flies to each member of the set. They have the next ids, by rising
-    /// member.
+    /// member. That the set has none, as for nine of ten casts, is seen without a call.
+    #[inline(always)]
     pub fn cast(&mut self, from: usize, bytes: &[u8], to: &NodeSet)
         requires room { length (member_list to.now) ≤ self.old.room }
         requires fits { length bytes.now ≤ self.old.most }
@@ -164,6 +152,19 @@ impl Copies {
         if copies == 0 {
             return;
         }
+        self.launch_all(from, bytes, to, copies)
+    }
+
+    // So many copies of the packet, one or more, fly to the members of the set.
+    #[inline(never)]
+    fn launch_all(&mut self, from: usize, bytes: &[u8], to: &NodeSet, copies: usize)
+        requires some { 0 < copies }
+        requires all { copies ≡ length (member_list to.now) }
+        requires room { copies ≤ self.old.room }
+        requires fits { length bytes.now ≤ self.old.most }
+        requires next { self.old.next_copy + copies < 2 ^ 64 }
+        ensures { self.new ≡ with_flights self.old from bytes.now (member_list to.now) }
+    {
         let cast = Cast {
             to: *to,
             left: *to,
@@ -186,7 +187,7 @@ impl Copies {
             result ≡ option_map (λ c. (self.old.next_copy, c.to)) copy }
         ensures doubled { self.new ≡ with_second self.old (find_copy self.old.flying id) }
     {
-        let spot = find(&self.casts, self.least, id)?;
+        let spot = find(&self.casts, &self.least, id)?;
         let (_, cast) = self.casts.get_index(spot.place)?;
         let mut to = NodeSet::new();
         to.add(spot.to);
@@ -205,29 +206,49 @@ impl Copies {
         Some((new, spot.to))
     }
 
-    /// Takes the copy of this id, its bytes in this room's memory.
+    /// The receiver of the copy of this id.
     #[inline(always)]
-    pub fn take(&mut self, id: u64, room: Room) -> Option<Flying>
-        requires fits { IsCopyWithin self.old.flying id room }
-        ensures taken { result ≡ find_copy self.old.flying id }
-        ensures others { self.new ≡ record self.old { flying = without self.old.flying id } }
+    pub fn receiver(&self, id: u64) -> Option<usize>
+        ensures { result ≡ option_map (λ c. c.to) (find_copy self.now.flying id) }
     {
-        let spot = find(&self.casts, self.least, id)?;
-        let (_, cast) = self.casts.get_index(spot.place)?;
-        let flying = Flying {
-            id,
-            from: cast.from,
-            to: spot.to,
-            bytes: copied(cast.bytes.as_slice(), room),
+        let spot = find(&self.casts, &self.least, id)?;
+        Some(spot.to)
+    }
+
+    /// Takes the copy of this id, with bytes of its own. Short ones, which most packets have, are
+    /// copied here without a call.
+    #[inline(always)]
+    pub fn take(&mut self, alloc: Global, id: u64) -> Result<Option<Flying>, NoMemory>
+        ensures taken { IfOk result (λ copy. copy ≡ find_copy self.old.flying id) }
+        ensures others { let left = without self.old.flying id in
+            OnOk result (self.new ≡ record self.old { flying = left }) }
+        ensures short { OnErr result (is_some (find_copy self.old.flying id) ≡ true) }
+        ensures refused { OnErr result (self.new ≡ self.old) }
+    {
+        let Some(spot) = find(&self.casts, &self.least, id) else {
+            return Ok(None);
         };
+        let Some((_, cast)) = self.casts.get_index(spot.place) else {
+            return Ok(None);
+        };
+        let bytes = match Bytes::short(cast.bytes.as_slice()) {
+            Some(own) => own,
+            None => Bytes::copy_of(alloc, cast.bytes.as_slice())?,
+        };
+        let from = cast.from;
         let less = if_data(cast.bytes.as_slice(), 1);
-        let front = front_of(self.least);
+        let front = front_of(&self.least);
         remove_at(&mut self.casts, spot.place, spot.to);
         self.count -= 1;
         self.of_data -= less;
         let gone = clear(&mut self.casts, spot.place, front, &mut self.done);
         self.least = least_from(&self.casts, gone);
-        Some(flying)
+        Ok(Some(Flying {
+            id,
+            from,
+            to: spot.to,
+            bytes,
+        }))
     }
 
     /// A copy with a packet of its own flies, with an id after those of the others and below the

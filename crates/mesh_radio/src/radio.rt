@@ -1,18 +1,16 @@
 //! The radio of a mesh.
-ghost use Rattle.std.specs.Prelude.{◌≡◌, ◌≢◌, ◌<◌, ◌≤◌, ◌+◌, ◌^◌, ◌∷◌, [], ℕ, true, false, not, length, slice_get, OnOk, OnErr, IsOk, IfOk, IfSome, IfNone, option_map};
+ghost use Rattle.std.specs.Prelude.{◌≡◌, ◌≢◌, ◌<◌, ◌≤◌, ◌+◌, ◌^◌, ◌∷◌, [], ℕ, true, false, not, length, slice_get, OnOk, OnErr, IsOk, IfOk, IfSome, IfNone, option_map, is_some};
 ghost use Rattle.std.specs.Bool.{OnTrue, OnFalse};
 ghost use Rattle.std.specs.List.{AllByRecursion};
 ghost use Rattle.std.specs.FinSet as sets;
 ghost use Rattle.mesh_base.specs.Views.{flying_seen};
 ghost use Rattle.mesh_model.specs.Worlds.{are_linked, linked_below};
-ghost use Rattle.mesh_radio.specs.Copies.{find_copy, IsCopyWithin, from_id, data_in, AreBefore, AreNumbered, IsBetween, longest_packet};
+ghost use Rattle.mesh_radio.specs.Copies.{find_copy, from_id, data_in, AreBefore, AreNumbered, IsBetween, longest_packet};
 ghost use Rattle.mesh_radio.specs.Radios.{opening, most_copies_at_first, with_more_room, with_link, without_link, with_copies, with_copy, with_double, without_copy, receivers, AreLinksOf};
 
 use crate::adjacency::Adjacency;
 use crate::copies::Copies;
-use mesh_base::{
-    Air, Flying, FlyingView, LONGEST_PACKET, MOST_NODES, NoMemory, NodeSet, Packet, Room,
-};
+use mesh_base::{Air, Flying, FlyingView, LONGEST_PACKET, MOST_NODES, NoMemory, NodeSet, Packet};
 use std::alloc::Global;
 use std::marker::Model;
 
@@ -135,6 +133,7 @@ impl Radio {
     }
 
     /// A copy of the packet flies from this node to each member of the set.
+    #[inline(always)]
     pub fn cast(&mut self, from: usize, packet: &Packet, to: &NodeSet) -> Air
         requires from { from < self.old.size }
         requires below { (q : ℕ) → sets.contains to.now q ≡ true → q < self.old.size }
@@ -177,15 +176,24 @@ impl Radio {
         self.copies.double(id)
     }
 
-    /// Takes the copy of this id out of the air, its bytes in this room's memory. None where no
-    /// copy in flight has it.
+    /// The receiver of the copy of this id. None where no copy in flight has it.
     #[inline(always)]
-    pub fn take(&mut self, id: u64, room: Room) -> Option<Flying>
-        requires fits { IsCopyWithin self.old.flying id room }
-        ensures taken { result ≡ find_copy self.old.flying id }
-        ensures others { self.new ≡ without_copy self.old id }
+    pub fn receiver(&self, id: u64) -> Option<usize>
+        ensures { result ≡ option_map (λ c. c.to) (find_copy self.now.flying id) }
     {
-        self.copies.take(id, room)
+        self.copies.receiver(id)
+    }
+
+    /// Takes the copy of this id out of the air, with bytes of its own. None where no copy in
+    /// flight has it: no memory is asked for then.
+    #[inline(always)]
+    pub fn take(&mut self, alloc: Global, id: u64) -> Result<Option<Flying>, NoMemory>
+        ensures taken { IfOk result (λ copy. copy ≡ find_copy self.old.flying id) }
+        ensures others { OnOk result (self.new ≡ without_copy self.old id) }
+        ensures short { OnErr result (is_some (find_copy self.old.flying id) ≡ true) }
+        ensures refused { OnErr result (self.new ≡ self.old) }
+    {
+        self.copies.take(alloc, id)
     }
 
     /// The copy of this id, which flies on. None where no copy in flight has it.

@@ -1,5 +1,5 @@
 //! Copies that fly on by themselves, and copies that are put back.
-use mesh_base::{Bytes, Flying, Packet, Room};
+use mesh_base::{Bytes, Flying, Packet};
 use mesh_radio::Radio;
 use std::test::Fail;
 
@@ -24,8 +24,8 @@ fn copies_fly_on_by_themselves(rt: HostRuntime) -> Result<(), Fail> {
         return Err(Fail::new("no copy 2"));
     };
     assert_eq!(rt; found.from, 0);
-    let room = Room::new(rt.alloc(), found.bytes.len())?;
-    let Some(last) = radio.take(2, room) else {
+    assert_eq!(rt; radio.receiver(2), Some(2));
+    let Some(last) = radio.take(rt.alloc(), 2)? else {
         return Err(Fail::new("copy 2 is not taken"));
     };
     assert_eq!(rt; last.to, 2);

@@ -1,6 +1,7 @@
 -- What joins a queue: a datum that is given, and a copy that is delivered; and a copy that is lost.
-use Rattle.std.proofs.Common.{◌≡◌, ◌≢◌, ◌==◌, ℕ, ◌<◌, ◌≤◌, ◌+◌, ◌-◌, Bool, true, false, not, List, [], ◌∷◌, ◌++◌, map, length, Some, None, Option, Ok, refl, ap, sym, ◌∙◌, subst, arith, ◌^◌}
-use Rattle.std.specs.Prelude.{slice_get, slice_set, option_map, filter, if◌then◌else◌}
+use Rattle.std.proofs.Common.{◌≡◌, ◌≢◌, ◌==◌, ℕ, ◌<◌, ◌+◌, ◌-◌, Bool, true, false, not, List, [], ◌∷◌, ◌++◌, map, length, Some, None, Option, Ok, Err, refl, ap, sym, ◌∙◌, subst, arith, ◌^◌}
+use Rattle.std.specs.Prelude.{slice_get, slice_set, slice_index_or, is_some, option_map, filter, if◌then◌else◌}
+use Rattle.std.proofs.Math.Seq.{set-get_or}
 use Rattle.std.specs.List.{AllByRecursion}
 use Rattle.std.proofs.lemmas.Option.{same_Some, none-some}
 use Rattle.mesh_base.specs.Meshes.{Nodes}
@@ -18,14 +19,17 @@ use Rattle.aodv_node.specs.Seen.{NodeSeen, IsSoundNode}
 use Rattle.mesh_model.specs.Worlds as worlds
 use Rattle.mesh_model.specs.Worlds.{World, Copy, Give, Deliver, Lose, Outcome, Idle, Next, Changed, CopyHeard, CopyLost, step, at_node, at_copy, push, with_item}
 use Rattle.mesh_model.specs.Places.{IsCopyInMesh}
+use Rattle.mesh_model.specs.Choices.{may_turn_in, first_send_in, first_ask_in}
 use Rattle.mesh_model.proofs.Steps.{found_honest}
 use Rattle.mesh_radio.specs.Copies as radios
+use Rattle.mesh_radio.proofs.Finds.{without_none}
 use Rattle.mesh_radio.specs.Radios.{RadioState, without_copy}
 use Rattle.mesh_meaning.specs.Packets.{IsWritten, IsWrittenItem, IsWrittenCopy, copy_in}
 use Rattle.mesh_world.specs.Seen.{node_in}
-use Rattle.mesh_world.specs.Kept.{Ready, IsKept, IsKeptNode, world_in}
+use Rattle.mesh_world.specs.Kept.{Ready, IsKept, IsKeptNode, IsReadyFor, world_in}
+use Rattle.mesh_world.specs.declared.steps.StepError.TheVariants as errors
 use Rattle.mesh_world.specs.Noted.{noted, with_turn, has_items}
-use Rattle.mesh_world.proofs.Frames.{Ends, Beside, ends_done, ends_idle, beside, later, shown_at, noted_beside, map-set, each_set, each_append, set_again, count_of}
+use Rattle.mesh_world.proofs.Frames.{Ends, Beside, ends_done, ends_idle, ends_no_memory, beside, later, shown_at, noted_beside, map-set, each_set, each_append, set_again, count_of}
 use Rattle.mesh_world.proofs.ReadySets.{noted_ready, noted_by_turn, some_item}
 use Rattle.mesh_world.proofs.Turns.{stands, kept_node}
 
@@ -140,11 +144,18 @@ found_seen radio id o seen is some = sym is ∙ ap (option_map flying_seen) some
 pub none_seen : (radio : RadioState) (id : ℕ) (o : Option FlyingView) → IsFound o radio id → o ≡ None → radios.find_copy radio.flying id ≡ None
 none_seen radio id o is none = sym is ∙ ap (option_map flying_seen) none
 
--- it fits a room for so many bytes
-pub seen_fits : (radio : RadioState) (id room : ℕ) (o : Option FlyingView) (seen : FlyingView) → IsFound o radio id → o ≡ Some seen → room ≡ length seen.bytes.now → (f : Flying) → radios.find_copy radio.flying id ≡ Some f → length f.bytes ≤ room
-seen_fits radio id room o seen is some size f found =
-    let same : length f.bytes ≡ length seen.bytes.now = ap (λ (g : Flying). length g.bytes) (same_Some f (flying_seen seen) (sym found ∙ found_seen radio id o seen is some)) in
-    omega arith
+-- the receiver that is told is that of the copy in flight
+abbrev pub IsReceiver : Option ℕ → RadioState → ℕ → Type 0
+IsReceiver o radio id = o ≡ option_map (λ f. f.to) (radios.find_copy radio.flying id)
+
+-- there is such a copy, or none
+found_to : (o : Option ℕ) (p : Option Flying) (to : ℕ) → o ≡ option_map (λ f. f.to) p → o ≡ Some to → (f : Flying) × (p ≡ Some f) × (f.to ≡ to)
+found_to o None to is some = absurd (none-some to (sym is ∙ some))
+found_to o (Some f) to is some = (f, refl, same_Some f.to to (sym is ∙ some))
+
+pub none_to : (o : Option ℕ) (p : Option Flying) → o ≡ option_map (λ f. f.to) p → o ≡ None → p ≡ None
+none_to o None is none = refl
+none_to o (Some f) is none = absurd (none-some f.to (sym none ∙ is))
 
 -- what the world keeps of a copy in flight
 pub record InFlight (mesh : Nodes) (f : Flying) : Type 0 where
@@ -170,8 +181,10 @@ in_flight mesh nodes radio ready steps id f k e =
     record { from = c.0; to = c.1; differ = c.2; written = found_all (IsWrittenCopy mesh) radio.flying id f k.flying e; in_mesh = c.3 }
 
 -- its receiver is a node
-pub receiver_in : (mesh : Nodes) (nodes : List NodeSeen) (radio : RadioState) (ready : Ready) (steps id : ℕ) (o : Option FlyingView) (seen : FlyingView) → IsKept mesh nodes radio ready steps → IsFound o radio id → o ≡ Some seen → seen.to < length mesh
-receiver_in mesh nodes radio ready steps id o seen k is some = (in_flight mesh nodes radio ready steps id (flying_seen seen) k (found_seen radio id o seen is some)).to
+pub receiver_in : (mesh : Nodes) (nodes : List NodeSeen) (radio : RadioState) (ready : Ready) (steps id : ℕ) (o : Option ℕ) (to : ℕ) → IsKept mesh nodes radio ready steps → IsReceiver o radio id → o ≡ Some to → to < length mesh
+receiver_in mesh nodes radio ready steps id o to k is some =
+    let f = found_to o (radios.find_copy radio.flying id) to is some in
+    subst (λ x. x < length mesh) f.2 (in_flight mesh nodes radio ready steps id f.0 k f.1).to
 
 -- the copy that was taken goes to that receiver
 pub record Taken (mesh : Nodes) (radio : RadioState) (id to : ℕ) (f : Flying) : Type 0 where
@@ -179,11 +192,11 @@ pub record Taken (mesh : Nodes) (radio : RadioState) (id to : ℕ) (f : Flying) 
   pub receiver : f.to ≡ to
   pub flies : InFlight mesh f
 
-pub taken : (mesh : Nodes) (nodes : List NodeSeen) (radio : RadioState) (ready : Ready) (steps id : ℕ) (o : Option FlyingView) (seen : FlyingView) (t : Option Flying) (f : Flying) → IsKept mesh nodes radio ready steps
-    → IsFound o radio id → o ≡ Some seen → t ≡ radios.find_copy radio.flying id → t ≡ Some f → Taken mesh radio id seen.to f
-taken mesh nodes radio ready steps id o seen t f k is some t_is t_some =
+pub taken : (mesh : Nodes) (nodes : List NodeSeen) (radio : RadioState) (ready : Ready) (steps id : ℕ) (o : Option ℕ) (to : ℕ) (t : Option Flying) (f : Flying) → IsKept mesh nodes radio ready steps
+    → IsReceiver o radio id → o ≡ Some to → t ≡ radios.find_copy radio.flying id → t ≡ Some f → Taken mesh radio id to f
+taken mesh nodes radio ready steps id o to t f k is some t_is t_some =
     let here : radios.find_copy radio.flying id ≡ Some f = sym t_is ∙ t_some in
-    record { found = here; receiver = ap (λ (h : Flying). h.to) (same_Some f (flying_seen seen) (sym here ∙ found_seen radio id o seen is some)); flies = in_flight mesh nodes radio ready steps id f k here }
+    record { found = here; receiver = same_Some f.to to (sym (ap (option_map (λ (h : Flying). h.to)) here) ∙ sym is ∙ some); flies = in_flight mesh nodes radio ready steps id f k here }
 
 shown_without : (mesh : Nodes) (nodes : List NodeSeen) (old new : RadioState) (id : ℕ) → new ≡ without_copy old id → worlds.without_copy (world_in mesh nodes old) id ≡ world_in mesh nodes new
 unfolding world_in
@@ -222,10 +235,10 @@ deliver_done mesh nodes radio radio' ready ready' steps id to f n roomy new pack
     (subst (λ (y : ℕ). slice_get nodes y ≡ Some n → ready' ≡ noted ready y new (length mesh) → Ends (Deliver id) mesh nodes radio steps (Ok (done.Heard f.from y)) (slice_set nodes y new) radio' ready' (steps + 1) packet) t.receiver
     (λ here are. deliver_here mesh nodes radio radio' ready ready' steps id f n new packet k few t.found t.flies gone here j are) at noted_is)
 
-pub deliver_idle : (mesh : Nodes) (nodes : List NodeSeen) (radio : RadioState) (ready : Ready) (steps id : ℕ) (o : Option FlyingView) (packet : List ℕ) → IsKept mesh nodes radio ready steps → steps < 2 ^ 48 → IsFound o radio id → o ≡ None
+pub deliver_idle : (mesh : Nodes) (nodes : List NodeSeen) (radio : RadioState) (ready : Ready) (steps id : ℕ) (o : Option ℕ) (packet : List ℕ) → IsKept mesh nodes radio ready steps → steps < 2 ^ 48 → IsReceiver o radio id → o ≡ None
     → Ends (Deliver id) mesh nodes radio steps (Ok done.Idle) nodes radio ready (steps + 1) packet
 deliver_idle mesh nodes radio ready steps id o packet k few is none =
-    let e = none_seen radio id o is none in
+    let e = none_to o (radios.find_copy radio.flying id) is none in
     ends_idle (Deliver id) mesh nodes radio ready steps nodes radio packet k few (deliver_at (world_in mesh nodes radio) id None (shown_none mesh nodes radio id e)) refl (later mesh nodes radio ready steps (beside mesh nodes radio ready steps k))
 
 pub lose_done : (mesh : Nodes) (nodes : List NodeSeen) (radio radio' : RadioState) (ready : Ready) (steps id : ℕ) (t : Option Flying) (f : Flying) (packet : List ℕ) → IsKept mesh nodes radio ready steps → steps < 2 ^ 48 → t ≡ radios.find_copy radio.flying id → t ≡ Some f → radio' ≡ without_copy radio id → Ends (Lose id) mesh nodes radio steps (Ok (done.Lost f)) nodes radio' ready (steps + 1) packet
@@ -245,11 +258,32 @@ lose_done mesh nodes radio radio' ready steps id t f packet k few is some gone =
       sets = k.sets;
     })
 
-pub lose_idle : (mesh : Nodes) (nodes : List NodeSeen) (radio : RadioState) (ready : Ready) (steps id : ℕ) (o : Option FlyingView) (packet : List ℕ) → IsKept mesh nodes radio ready steps → steps < 2 ^ 48 → IsFound o radio id → o ≡ None
-    → Ends (Lose id) mesh nodes radio steps (Ok done.Idle) nodes radio ready (steps + 1) packet
-lose_idle mesh nodes radio ready steps id o packet k few is none =
-    let e = none_seen radio id o is none in
-    ends_idle (Lose id) mesh nodes radio ready steps nodes radio packet k few (lose_at (world_in mesh nodes radio) id None (shown_none mesh nodes radio id e)) refl (later mesh nodes radio ready steps (beside mesh nodes radio ready steps k))
+pub lose_idle : (mesh : Nodes) (nodes : List NodeSeen) (radio radio' : RadioState) (ready : Ready) (steps id : ℕ) (t : Option Flying) (packet : List ℕ) → IsKept mesh nodes radio ready steps → steps < 2 ^ 48 → t ≡ radios.find_copy radio.flying id → t ≡ None → radio' ≡ without_copy radio id
+    → Ends (Lose id) mesh nodes radio steps (Ok done.Idle) nodes radio' ready (steps + 1) packet
+lose_idle mesh nodes radio radio' ready steps id t packet k few is none left =
+    let e = sym is ∙ none in
+    let same : radio' ≡ radio = left ∙ (λ i. record radio { flying = without_none radio.flying id e i }) in
+    subst (λ (r : RadioState). Ends (Lose id) mesh nodes radio steps (Ok done.Idle) nodes r ready (steps + 1) packet) (sym same)
+    (ends_idle (Lose id) mesh nodes radio ready steps nodes radio packet k few (lose_at (world_in mesh nodes radio) id None (shown_none mesh nodes radio id e)) refl (later mesh nodes radio ready steps (beside mesh nodes radio ready steps k)))
+
+-- no memory for the bytes of a copy: its receiver has more room than before, which isn't seen
+pub deliver_short : (mesh : Nodes) (nodes : List NodeSeen) (radio radio' : RadioState) (ready : Ready) (steps id x : ℕ) (n roomy : NodeSeen) (packet : List ℕ) → IsKept mesh nodes radio ready steps
+    → slice_get nodes x ≡ Some n → n ≡ slice_index_or nodes x n → roomy ≡ record n { room = roomy.room } → radio' ≡ radio → Ends (Deliver id) mesh nodes radio steps (Err errors.NoMemory) (slice_set nodes x roomy) radio' ready steps packet
+unfolding world_in
+deliver_short mesh nodes radio radio' ready steps id x n roomy packet k at read is same =
+    let had = kept_node mesh nodes radio ready steps x n k at in
+    let kept : IsKeptNode mesh roomy = subst (IsKeptNode mesh) (sym is) (record { items = had.items; size = had.size; sound = record { mine = (had.sound).mine; sound = (had.sound).sound; store = (had.sound).store; each = (had.sound).each } }) in
+    let shown : map (node_in mesh) (slice_set nodes x roomy) ≡ map (node_in mesh) nodes =
+    map-set (node_in mesh) nodes x roomy ∙ ap (slice_set (map (node_in mesh) nodes) x) (ap (node_in mesh) is) ∙ sym (map-set (node_in mesh) nodes x n) ∙ ap (map (node_in mesh)) (ap (slice_set nodes x) read ∙ set-get_or nodes x n) in
+    let sets : IsReadyFor mesh (slice_set nodes x roomy) ready = record {
+      turns = λ y. (k.sets).turns y ∙ sym (ap (λ ns. may_turn_in (slice_get ns y)) shown);
+      sends = λ y. (k.sets).sends y ∙ sym (ap (λ ns. is_some (first_send_in (length mesh) (slice_get ns y))) shown);
+      asks = λ y. (k.sets).asks y ∙ sym (ap (λ ns. is_some (first_ask_in (length mesh) (slice_get ns y))) shown);
+    } in
+    subst (λ (r : RadioState). Ends (Deliver id) mesh nodes radio steps (Err errors.NoMemory) (slice_set nodes x roomy) r ready steps packet) (sym same)
+    (ends_no_memory (Deliver id) mesh nodes radio ready steps (slice_set nodes x roomy) radio packet k
+    (λ i. record { nodes = shown i; links = radio.links; ever = radio.ever; flying = map (copy_in mesh) radio.flying; next_copy = radio.next_copy })
+    (record { each = each_set (IsKeptNode mesh) nodes x roomy k.each kept; flying = k.flying; size = k.size; numbers = k.numbers; sets = sets }))
 
 -- the receiver may hear the copy
 pub may_hear : (mesh : Nodes) (nodes : List NodeSeen) (radio : RadioState) (ready : Ready) (steps id to : ℕ) (f : Flying) (n roomy heard : NodeSeen) → IsKept mesh nodes radio ready steps → slice_get nodes to ≡ Some n → Taken mesh radio id to f

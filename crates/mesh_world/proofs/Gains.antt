@@ -6,7 +6,7 @@ use Rattle.aodv_model.specs.Cores.{New}
 use Rattle.aodv_model.specs.Handlers.{Effect, Took}
 use Rattle.mesh_model.specs.Worlds as worlds
 use Rattle.mesh_model.specs.Worlds.{World, Node, Copy, Event, Give, Turn, Send, Ask, Link, Cut, Deliver, Lose, Double, Happening, Changed, Taken, Sent, CopyHeard, CopyLost, CopyDoubled, Outcome, Idle, Next, unless_full, send_of, ask_of, at_node, at_copy, find_copy, is_parcel, are_linked, push, step}
-use Rattle.mesh_model.specs.Accounts.{any, given, delivered, delivered_at, delivered_in, doubled_at, dropped, in_taken}
+use Rattle.mesh_model.specs.Accounts.{any, given, delivered, delivered_at, delivered_in, in_taken}
 use Rattle.mesh_world.specs.Tallies.{count_of}
 
 -- ---- given

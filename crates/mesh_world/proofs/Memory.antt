@@ -1,10 +1,11 @@
 -- Which events may ask for memory: what is read of a node or of the air decides it.
-use Rattle.std.proofs.Common.{◌≡◌, ◌<◌, ◌+◌, ◌^◌, ℕ, zero, suc, length, arith, Bool, true, false, not, List, [], ◌∷◌, map, Option, Some, None, Ok, Err, refl, ap, sym, subst, ◌∙◌}
-use Rattle.std.specs.Prelude.{slice_get, is_some, if◌then◌else◌}
+use Rattle.std.proofs.Common.{◌≡◌, ◌<◌, ◌+◌, ◌^◌, ℕ, zero, suc, length, arith, Bool, true, false, not, List, [], ◌∷◌, map, Option, Some, None, Ok, refl, ap, sym, subst, ◌∙◌}
+use Rattle.std.specs.Prelude.{slice_get, is_some, option_map, if◌then◌else◌}
 use Rattle.mesh_base.specs.Meshes.{Nodes}
 use Rattle.mesh_base.specs.Views.{flying_seen}
 use Rattle.mesh_base.specs.declared.events.Counter.{Counter}
 use Rattle.mesh_base.specs.declared.events.Done.TheVariants as done
+use Rattle.mesh_base.specs.declared.events.Flying.{Flying}
 use Rattle.mesh_base.specs.declared.events.FlyingView.{FlyingView}
 use Rattle.mesh_base.specs.declared.events.Item as items
 use Rattle.aodv_model.specs.Cores.{Body}
@@ -12,6 +13,7 @@ use Rattle.aodv_model.specs.Handlers.{may_send, may_ask}
 use Rattle.aodv_meaning.specs.Effects.{item_in}
 use Rattle.aodv_node.specs.Seen.{NodeSeen}
 use Rattle.mesh_model.specs.Worlds.{World, Event, Give, Turn, Send, Ask, Deliver, Lose, Double, Happening, Outcome, Idle, Next, Full, unless_full, turn_of, step}
+use Rattle.mesh_radio.specs.Copies.{find_copy}
 use Rattle.mesh_radio.specs.Radios.{RadioState}
 use Rattle.mesh_meaning.specs.Packets.{copy_in}
 use Rattle.mesh_world.specs.Seen.{node_in}
@@ -24,7 +26,7 @@ use Rattle.mesh_world.proofs.Frames.{shown_at, beside, later, ends_idle}
 use Rattle.mesh_world.proofs.Moves.{of_ends}
 use Rattle.mesh_world.proofs.Turns.{turn_at}
 use Rattle.mesh_world.proofs.Sendings.{send_at, ask_at}
-use Rattle.mesh_world.proofs.Arrivals.{IsFound, found_seen, none_seen, shown_found, shown_none, give_at, deliver_at, lose_at}
+use Rattle.mesh_world.proofs.Arrivals.{shown_found, shown_none, give_at, deliver_at, lose_at}
 use Rattle.mesh_world.proofs.Doublings.{double_at}
 
 abbrev is_busy : Outcome → Bool
@@ -71,26 +73,35 @@ pub needs_ask : (mesh : Nodes) (nodes : List NodeSeen) (radio : RadioState) (x d
 needs_ask mesh nodes radio x d n at =
     sym (ap is_busy (ask_at mesh nodes radio x d n (may_ask n.core d) at refl) ∙ busy_if (may_ask n.core d) x _ _ _)
 
-pub needs_deliver : (mesh : Nodes) (nodes : List NodeSeen) (radio : RadioState) (id : ℕ) (o : Option FlyingView) → IsFound o radio id
-    → is_some o ≡ may_need_memory (world_in mesh nodes radio) (Deliver id)
+-- whether there is a copy is told by its receiver, and by what is seen of it
+pub receiver_is_some : (o : Option ℕ) (p : Option Flying) → o ≡ option_map (λ f. f.to) p → is_some o ≡ is_some p
+receiver_is_some o None is = ap is_some is
+receiver_is_some o (Some f) is = ap is_some is
+
+pub found_is_some : (o : Option FlyingView) (p : Option Flying) → option_map flying_seen o ≡ p → is_some o ≡ is_some p
+found_is_some None p is = ap is_some is
+found_is_some (Some seen) p is = ap is_some is
+
+pub needs_deliver : (mesh : Nodes) (nodes : List NodeSeen) (radio : RadioState) (id : ℕ) (p : Option Flying) → find_copy radio.flying id ≡ p
+    → is_some p ≡ may_need_memory (world_in mesh nodes radio) (Deliver id)
 needs_deliver mesh nodes radio id None found =
-    sym (ap is_busy (deliver_at (world_in mesh nodes radio) id None (shown_none mesh nodes radio id (none_seen radio id None found refl))))
-needs_deliver mesh nodes radio id (Some seen) found =
-    sym (ap is_busy (deliver_at (world_in mesh nodes radio) id (Some (copy_in mesh (flying_seen seen))) (shown_found mesh nodes radio id (flying_seen seen) (found_seen radio id (Some seen) seen found refl))))
+    sym (ap is_busy (deliver_at (world_in mesh nodes radio) id None (shown_none mesh nodes radio id found)))
+needs_deliver mesh nodes radio id (Some f) found =
+    sym (ap is_busy (deliver_at (world_in mesh nodes radio) id (Some (copy_in mesh f)) (shown_found mesh nodes radio id f found)))
 
-pub needs_lose : (mesh : Nodes) (nodes : List NodeSeen) (radio : RadioState) (id : ℕ) (o : Option FlyingView) → IsFound o radio id
-    → is_some o ≡ may_need_memory (world_in mesh nodes radio) (Lose id)
+pub needs_lose : (mesh : Nodes) (nodes : List NodeSeen) (radio : RadioState) (id : ℕ) (p : Option Flying) → find_copy radio.flying id ≡ p
+    → is_some p ≡ may_need_memory (world_in mesh nodes radio) (Lose id)
 needs_lose mesh nodes radio id None found =
-    sym (ap is_busy (lose_at (world_in mesh nodes radio) id None (shown_none mesh nodes radio id (none_seen radio id None found refl))))
-needs_lose mesh nodes radio id (Some seen) found =
-    sym (ap is_busy (lose_at (world_in mesh nodes radio) id (Some (copy_in mesh (flying_seen seen))) (shown_found mesh nodes radio id (flying_seen seen) (found_seen radio id (Some seen) seen found refl))))
+    sym (ap is_busy (lose_at (world_in mesh nodes radio) id None (shown_none mesh nodes radio id found)))
+needs_lose mesh nodes radio id (Some f) found =
+    sym (ap is_busy (lose_at (world_in mesh nodes radio) id (Some (copy_in mesh f)) (shown_found mesh nodes radio id f found)))
 
-pub needs_double : (mesh : Nodes) (nodes : List NodeSeen) (radio : RadioState) (id : ℕ) (o : Option FlyingView) → IsFound o radio id
-    → is_some o ≡ may_need_memory (world_in mesh nodes radio) (Double id)
+pub needs_double : (mesh : Nodes) (nodes : List NodeSeen) (radio : RadioState) (id : ℕ) (p : Option Flying) → find_copy radio.flying id ≡ p
+    → is_some p ≡ may_need_memory (world_in mesh nodes radio) (Double id)
 needs_double mesh nodes radio id None found =
-    sym (ap is_busy (double_at (world_in mesh nodes radio) id None (shown_none mesh nodes radio id (none_seen radio id None found refl))))
-needs_double mesh nodes radio id (Some seen) found =
-    sym (ap is_busy (double_at (world_in mesh nodes radio) id (Some (copy_in mesh (flying_seen seen))) (shown_found mesh nodes radio id (flying_seen seen) (found_seen radio id (Some seen) seen found refl))))
+    sym (ap is_busy (double_at (world_in mesh nodes radio) id None (shown_none mesh nodes radio id found)))
+needs_double mesh nodes radio id (Some f) found =
+    sym (ap is_busy (double_at (world_in mesh nodes radio) id (Some (copy_in mesh f)) (shown_found mesh nodes radio id f found)))
 
 -- ---- room that was refused leaves the radio as it was
 

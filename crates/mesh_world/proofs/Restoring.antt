@@ -1,5 +1,5 @@
 -- Parts that are in order are those of a world.
-use Rattle.std.proofs.Common.{◌≡◌, ◌≢◌, ℕ, ◌<◌, ◌≤◌, ◌+◌, ◌*◌, ◌^◌, Bool, true, false, List, [], ◌∷◌, ◌++◌, take, length, map, Option, Some, None, refl, ap, sym, subst, ◌∙◌, zero, suc, arith, inl, inr}
+use Rattle.std.proofs.Common.{◌≡◌, ℕ, ◌<◌, ◌≤◌, ◌+◌, ◌^◌, List, [], ◌∷◌, length, map, Option, Some, None, refl, ap, sym, subst, ◌∙◌, suc, arith}
 use Rattle.std.specs.Prelude.{slice_get, option_map, IfSome}
 use Rattle.std.specs.List.{AllByRecursion}
 use Rattle.std.specs.FinMap as maps
@@ -19,7 +19,7 @@ use Rattle.aodv_meaning.specs.Effects.{item_in}
 use Rattle.aodv_meaning.proofs.Means.{spelled_in}
 use Rattle.aodv_meaning.proofs.Writings.{written_is_sent}
 use Rattle.aodv_node.specs.Seen.{NodeSeen, IsSoundNode, IsItemAt}
-use Rattle.mesh_model.specs.Worlds.{World, Node, Copy}
+use Rattle.mesh_model.specs.Worlds.{Node}
 use Rattle.mesh_model.specs.Walks as walks
 use Rattle.mesh_model.specs.Walks.{rt_in}
 use Rattle.mesh_model.specs.Places as places
@@ -28,7 +28,7 @@ use Rattle.mesh_model.specs.Invariants.{AllBacked, IsBacked, IsHonest, IsHonestC
 use Rattle.mesh_model.proofs.Acyclic.{no_cycle, better_along}
 use Rattle.mesh_radio.specs.Copies.{IsBetween, AreNumbered}
 use Rattle.mesh_radio.specs.Radios.{RadioState, AreLinksOf}
-use Rattle.mesh_meaning.specs.Packets.{IsWritten, IsWrittenItem, IsWrittenCopy, copy_in}
+use Rattle.mesh_meaning.specs.Packets.{IsWritten, IsWrittenItem, copy_in}
 use Rattle.mesh_sound.specs.declared.packets.Claim.TheVariants as claims
 use Rattle.mesh_sound.specs.Packets.{InItem}
 use Rattle.mesh_sound.specs.Claims.{AreOf, Holds, IsHonestIfRequest, IsHonestIfReply, table, table_in}

@@ -24,9 +24,9 @@ impl Parts {
             Event::Send { node, dest } => self.nodes[node].sendable().has(dest),
             Event::Ask { node, dest } => self.nodes[node].askable().has(dest),
             Event::Link { .. } | Event::Cut { .. } => false,
-            Event::Deliver { id } => self.radio.find(id).is_some(),
-            Event::Lose { id } => self.radio.find(id).is_some(),
-            Event::Double { id } => self.radio.find(id).is_some(),
+            Event::Deliver { id } => self.radio.receiver(id).is_some(),
+            Event::Lose { id } => self.radio.receiver(id).is_some(),
+            Event::Double { id } => self.radio.receiver(id).is_some(),
         }
     }
 }

@@ -1,4 +1,4 @@
-use Rattle.std.proofs.Common.{◌≡◌, ◌≤◌, ◌<◌, length, sym, ◌∙◌, arith}
+use Rattle.std.proofs.Common.{◌≤◌, ◌<◌, length, arith}
 use Rattle.aodv_node.specs.Seen.{IsSoundNode}
 use Rattle.mesh_world.proofs.ReadySets.{ready_up_to_none, ready_up_to_more, ready_up_to_all, each_more, each_of_all}
 use Rattle.mesh_world.proofs.restored.ready_for.Goals as goal

@@ -1,4 +1,4 @@
-use Rattle.std.proofs.Common.{◌≡◌, ◌≤◌, ◌∙◌, ℕ, cond, Some, length, ap, sym, subst, arith}
+use Rattle.std.proofs.Common.{◌≡◌, ◌∙◌, ℕ, cond, Some, length, ap, sym, subst, arith}
 use Rattle.indexmap.specs.IndexMap.{IndexMap, spare}
 use Rattle.aodv_wire.specs.Spells.{is_data}
 use Rattle.mesh_radio.specs.Copies.{find_copy, without, data_in}
@@ -10,79 +10,60 @@ use Rattle.mesh_radio.proofs.Entries.{find-all, found-copy, found-taken}
 use Rattle.mesh_radio.proofs.Changes.{casts-taken, casts-tidied}
 use Rattle.mesh_radio.proofs.Sweeps.{gone-taken}
 use Rattle.mesh_radio.proofs.Leasts.{front-gone}
+use Rattle.std.specs.Prelude.{is_some, Result, OnErr, Ok, Err}
 use Rattle.mesh_radio.proofs.copies.Copies.take.Goals as goal
+use Rattle.mesh_radio.proofs.copies.Copies.take.Goals.{in-Some-short, in-None+in_ok-bytes-in-None}
 
-pub returns-in_err-spot-clause-taken : goal.returns-in_err-spot-clause-taken
-returns-in_err-spot-clause-taken c =
-    let inside = c.self.inside in
-    c.from_residual.ensures
-    ∙ sym (find-all 1 inside.next c.args.id inside.casts.entries (c.self.invariant.0).casts.rising ∙ c.in_err-spot.ensures.none)
-    ∙ ap (λ (v : Flights). find_copy v.flying c.args.id) c.self.view_is
-
-pub returns-in_err-spot-clause-others : goal.returns-in_err-spot-clause-others
-returns-in_err-spot-clause-others c =
-    let inside = c.self.inside in
-    let es = inside.casts.entries in
-    let none = find-all 1 inside.next c.args.id es (c.self.invariant.0).casts.rising ∙ c.in_err-spot.ensures.none in
-    let now : Flights = c.args.self.now in
-    let same = ap (λ (v : Flights). v.flying) c.self.view_is in
-    let flying : now.flying ≡ without now.flying c.args.id = sym same ∙ sym (without_none (copies_of es) c.args.id none) ∙ ap (λ fs. without fs c.args.id) same in
-    (λ i. record now { flying = flying i })
-
-pub copied-requires : goal.copied-requires
-copied-requires c =
-    let inside = c.self.inside in
-    let cast = c.in_ok-cast.cast.now in
-    let copy = found-copy inside.casts.entries 1 inside.next c.args.id c.in_ok-spot.spot.place c.in_ok-spot.spot.to (c.in_ok-cast.field-0-0.now, cast) (c.self.invariant.0).casts.rising c.in_ok-spot.ensures.some (sym c.in_ok-cast.ensures.entry) in
-    subst (λ bs. length bs ≤ c.args.room) (sym c.as_slice.ensures)
-    (c.requires.fits _ (sym (ap (λ (v : Flights). find_copy v.flying c.args.id) c.self.view_is) ∙ copy))
+on_err : {A B P : Type 0} (r : Result A B) → P → OnErr r P
+on_err (Ok x) p = tt
+on_err (Err e) p = p
 
 pub overflow_sub-self : goal.overflow_sub-self
 overflow_sub-self c =
     let inside = c.self.inside in
     let kept = c.self.invariant.0 in
-    let e : Entry = (c.in_ok-cast.field-0-0.now, c.in_ok-cast.cast.now) in
-    let less = found-taken 1 inside.next c.args.id c.in_ok-spot.spot.place c.in_ok-spot.spot.to inside.casts.entries e kept.casts.rising c.in_ok-spot.ensures.some (sym c.in_ok-cast.ensures.entry) in
+    let e : Entry = (c.in-Some-get_index.field-0-0.now, c.in-Some-get_index.cast.now) in
+    let less = found-taken 1 inside.next c.args.id c.in-Some.spot.place c.in-Some.spot.to inside.casts.entries e kept.casts.rising c.in-Some.ensures.some (sym c.in-Some-get_index.ensures.entry) in
     omega (arith, kept.counted, less.fewer)
 
 pub overflow_sub-self-2 : goal.overflow_sub-self-2
 overflow_sub-self-2 c =
     let inside = c.self.inside in
     let kept = c.self.invariant.0 in
-    let e : Entry = (c.in_ok-cast.field-0-0.now, c.in_ok-cast.cast.now) in
-    let less = found-taken 1 inside.next c.args.id c.in_ok-spot.spot.place c.in_ok-spot.spot.to inside.casts.entries e kept.casts.rising c.in_ok-spot.ensures.some (sym c.in_ok-cast.ensures.entry) in
+    let e : Entry = (c.in-Some-get_index.field-0-0.now, c.in-Some-get_index.cast.now) in
+    let less = found-taken 1 inside.next c.args.id c.in-Some.spot.place c.in-Some.spot.to inside.casts.entries e kept.casts.rising c.in-Some.ensures.some (sym c.in-Some-get_index.ensures.entry) in
     omega (arith, kept.with_data, less.of_data, c.if_data-less.ensures, ap {B = ℕ} (λ bs. cond (is_data bs) 1 0) c.as_slice-2.ensures)
 
 pub clear-gone-requires-clause-rising : goal.clear-gone-requires-clause-rising
 clear-gone-requires-clause-rising c =
     let inside = c.self.inside in
-    let e : Entry = (c.in_ok-cast.field-0-0.now, c.in_ok-cast.cast.now) in
-    let at = sym c.in_ok-cast.ensures.entry in
+    let e : Entry = (c.in-Some-get_index.field-0-0.now, c.in-Some-get_index.cast.now) in
+    let at = sym c.in-Some-get_index.ensures.entry in
     let now = ap (λ (m : IndexMap ℕ Cast _). m.entries) (c.remove_at.ensures e at) in
-    (inside.next, (casts-taken inside.casts.entries c.remove_at.new.casts.entries inside.next c.in_ok-spot.spot.place c.in_ok-spot.spot.to e (c.self.invariant.0).casts at now).rising)
+    (inside.next, (casts-taken inside.casts.entries c.remove_at.new.casts.entries inside.next c.in-Some.spot.place c.in-Some.spot.to e (c.self.invariant.0).casts at now).rising)
 
 pub clear-gone-requires-clause-gone : goal.clear-gone-requires-clause-gone
 clear-gone-requires-clause-gone c =
     let inside = c.self.inside in
     let kept = c.self.invariant.0 in
     let es = inside.casts.entries in
-    let place = c.in_ok-spot.spot.place in
-    let to = c.in_ok-spot.spot.to in
+    let place = c.in-Some.spot.place in
+    let to = c.in-Some.spot.to in
     let front = c.front_of-front.result in
-    let e : Entry = (c.in_ok-cast.field-0-0.now, c.in_ok-cast.cast.now) in
-    let at = sym c.in_ok-cast.ensures.entry in
+    let e : Entry = (c.in-Some-get_index.field-0-0.now, c.in-Some-get_index.cast.now) in
+    let at = sym c.in-Some-get_index.ensures.entry in
     let now = ap (λ (m : IndexMap ℕ Cast _). m.entries) (c.remove_at.ensures e at) in
-    let less = found-taken 1 inside.next c.args.id place to es e kept.casts.rising c.in_ok-spot.ensures.some at in
+    let less = found-taken 1 inside.next c.args.id place to es e kept.casts.rising c.in-Some.ensures.some at in
     let gone = front-gone es front inside.least c.self.invariant.2 c.front_of-front.ensures.some c.front_of-front.ensures.none in
     subst (λ xs. AreGone xs front) (sym now) (gone-taken es inside.next c.args.id place front to e (e.1).bytes kept.casts.rising at less gone)
 
 pub least_from-self-inside-requires-clause-casts : goal.least_from-self-inside-requires-clause-casts
 least_from-self-inside-requires-clause-casts c =
     let inside = c.self.inside in
-    let e : Entry = (c.in_ok-cast.field-0-0.now, c.in_ok-cast.cast.now) in
-    let at = sym c.in_ok-cast.ensures.entry in
+    let e : Entry = (c.in-Some-get_index.field-0-0.now, c.in-Some-get_index.cast.now) in
+    let at = sym c.in-Some-get_index.ensures.entry in
     let now = ap (λ (m : IndexMap ℕ Cast _). m.entries) (c.remove_at.ensures e at) in
-    let taken = casts-taken inside.casts.entries c.remove_at.new.casts.entries inside.next c.in_ok-spot.spot.place c.in_ok-spot.spot.to e (c.self.invariant.0).casts at now in
+    let taken = casts-taken inside.casts.entries c.remove_at.new.casts.entries inside.next c.in-Some.spot.place c.in-Some.spot.to e (c.self.invariant.0).casts at now in
     (inside.next, casts-tidied c.remove_at.new.casts.entries c.clear-gone.new.casts.entries inside.next c.clear-gone.ensures.tidied taken)
 
 pub invariant_of-self : goal.invariant_of-self
@@ -90,13 +71,13 @@ invariant_of-self c =
     let inside = c.self.inside in
     let kept = c.self.invariant.0 in
     let es = inside.casts.entries in
-    let place = c.in_ok-spot.spot.place in
-    let to = c.in_ok-spot.spot.to in
-    let e : Entry = (c.in_ok-cast.field-0-0.now, c.in_ok-cast.cast.now) in
-    let at = sym c.in_ok-cast.ensures.entry in
+    let place = c.in-Some.spot.place in
+    let to = c.in-Some.spot.to in
+    let e : Entry = (c.in-Some-get_index.field-0-0.now, c.in-Some-get_index.cast.now) in
+    let at = sym c.in-Some-get_index.ensures.entry in
     let map = c.remove_at.ensures e at in
     let now = ap (λ (m : IndexMap ℕ Cast _). m.entries) map in
-    let less = found-taken 1 inside.next c.args.id place to es e kept.casts.rising c.in_ok-spot.ensures.some at in
+    let less = found-taken 1 inside.next c.args.id place to es e kept.casts.rising c.in-Some.ensures.some at in
     let tidied = c.clear-gone.ensures.tidied in
     let copies = tidied.same ∙ ap copies_of now in
     let more = ap spare map in
@@ -110,12 +91,38 @@ invariant_of-self c =
       c.least_from-self-inside.ensures,
     )
 
+pub returns-in_default-clause-taken : goal.returns-in_default-clause-taken
+returns-in_default-clause-taken c =
+    let inside = c.self.inside in
+    sym (find-all 1 inside.next c.args.id inside.casts.entries (c.self.invariant.0).casts.rising ∙ c.in_default.ensures.none)
+    ∙ ap (λ (v : Flights). find_copy v.flying c.args.id) c.self.view_is
+
+pub returns-in_default-clause-others : goal.returns-in_default-clause-others
+returns-in_default-clause-others c =
+    let inside = c.self.inside in
+    let es = inside.casts.entries in
+    let none = find-all 1 inside.next c.args.id es (c.self.invariant.0).casts.rising ∙ c.in_default.ensures.none in
+    let now : Flights = c.args.self.now in
+    let same = ap (λ (v : Flights). v.flying) c.self.view_is in
+    let flying : now.flying ≡ without now.flying c.args.id = sym same ∙ sym (without_none (copies_of es) c.args.id none) ∙ ap (λ fs. without fs c.args.id) same in
+    (λ i. record now { flying = flying i })
+
+pub returns-in_err-bytes-in-None-clause-short : goal.returns-in_err-bytes-in-None-clause-short
+returns-in_err-bytes-in-None-clause-short c =
+    let inside = c.self.inside in
+    let copy = found-copy inside.casts.entries 1 inside.next c.args.id c.in-Some.spot.place c.in-Some.spot.to (c.in-Some-get_index.field-0-0.now, c.in-Some-get_index.cast.now) (c.self.invariant.0).casts.rising c.in-Some.ensures.some (sym c.in-Some-get_index.ensures.entry) in
+    on_err c.from_residual.result (ap is_some (sym (ap (λ (v : Flights). find_copy v.flying c.args.id) c.self.view_is) ∙ copy))
+
 pub returns-clause-taken : goal.returns-clause-taken
 returns-clause-taken c =
     let inside = c.self.inside in
-    let cast = c.in_ok-cast.cast.now in
-    ap (λ bs. Some (record { id = c.args.id; from = cast.from; to = c.in_ok-spot.spot.to; bytes = bs })) (c.copied.ensures ∙ c.as_slice.ensures)
-    ∙ sym (found-copy inside.casts.entries 1 inside.next c.args.id c.in_ok-spot.spot.place c.in_ok-spot.spot.to (c.in_ok-cast.field-0-0.now, cast) (c.self.invariant.0).casts.rising c.in_ok-spot.ensures.some (sym c.in_ok-cast.ensures.entry))
+    let cast = c.in-Some-get_index.cast.now in
+    let bytes : c.match-short.bytes ≡ cast.bytes = elim c.match-short.branch [
+      | in-Some-short w ↦ w.bytes-is ∙ w.in-Some-short.ensures.value ∙ c.as_slice.ensures
+      | in-None+in_ok-bytes-in-None w ↦ w.bytes-is ∙ w.in_ok-bytes-in-None.ensures.copy ∙ w.as_slice-in-None.ensures
+    ] in
+    ap (λ bs. Some (record { id = c.args.id; from = cast.from; to = c.in-Some.spot.to; bytes = bs })) bytes
+    ∙ sym (found-copy inside.casts.entries 1 inside.next c.args.id c.in-Some.spot.place c.in-Some.spot.to (c.in-Some-get_index.field-0-0.now, cast) (c.self.invariant.0).casts.rising c.in-Some.ensures.some (sym c.in-Some-get_index.ensures.entry))
     ∙ ap (λ (v : Flights). find_copy v.flying c.args.id) c.self.view_is
 
 pub returns-clause-others : goal.returns-clause-others
@@ -123,13 +130,13 @@ returns-clause-others c =
     let inside = c.self.inside in
     let kept = c.self.invariant.0 in
     let es = inside.casts.entries in
-    let place = c.in_ok-spot.spot.place in
-    let to = c.in_ok-spot.spot.to in
-    let e : Entry = (c.in_ok-cast.field-0-0.now, c.in_ok-cast.cast.now) in
-    let at = sym c.in_ok-cast.ensures.entry in
+    let place = c.in-Some.spot.place in
+    let to = c.in-Some.spot.to in
+    let e : Entry = (c.in-Some-get_index.field-0-0.now, c.in-Some-get_index.cast.now) in
+    let at = sym c.in-Some-get_index.ensures.entry in
     let map = c.remove_at.ensures e at in
     let now = ap (λ (m : IndexMap ℕ Cast _). m.entries) map in
-    let less = found-taken 1 inside.next c.args.id place to es e kept.casts.rising c.in_ok-spot.ensures.some at in
+    let less = found-taken 1 inside.next c.args.id place to es e kept.casts.rising c.in-Some.ensures.some at in
     let flying = c.clear-gone.ensures.tidied.same ∙ ap copies_of now ∙ less.others in
     (λ i. record { flying = flying i; next_copy = inside.next; room = inside.rooms.room; most = inside.rooms.most })
     ∙ ap (λ (v : Flights). record v { flying = without v.flying c.args.id }) c.self.view_is

@@ -1,8 +1,8 @@
-use Rattle.std.proofs.Common.{ap, sym, ◌∙◌, rules}
+use Rattle.std.proofs.Common.{ap, refl, sym, ◌∙◌, rules}
 use Rattle.mesh_world.proofs.Doublings.{double_done, double_idle}
 use Rattle.mesh_world.proofs.Moves.{of_ends}
 use Rattle.std.specs.Prelude.{is_some}
-use Rattle.mesh_world.proofs.Memory.{needs_double}
+use Rattle.mesh_world.proofs.Memory.{needs_double, found_is_some}
 use Rattle.mesh_world.proofs.Tallies.{told_done, told_short}
 use Rattle.mesh_world.proofs.parts.Parts.double_copy.Goals as goal
 
@@ -24,7 +24,7 @@ returns-clause-done c = λ packet.
 pub returns-in_err-make_room-clause-memory : goal.returns-in_err-make_room-clause-memory
 returns-in_err-make_room-clause-memory c = λ short.
     let old = c.args.self.now in
-    sym (needs_double old.mesh old.nodes.items old.radio c.args.id c.find.result c.find.ensures) ∙ ap is_some c.in-Some.is
+    sym (needs_double old.mesh old.nodes.items old.radio c.args.id _ refl) ∙ sym (found_is_some c.find.result _ c.find.ensures) ∙ ap is_some c.in-Some.is
 
 pub returns-in_err-make_room-clause-done : goal.returns-in_err-make_room-clause-done
 returns-in_err-make_room-clause-done c = λ packet. told_short _ _ _ _ _ _ _ c.from_residual.ensures.1 (record { step = search rules; kept = search rules })

@@ -1,7 +1,7 @@
-use Rattle.std.proofs.Common.{ap, arith, ◌∙◌, length}
+use Rattle.std.proofs.Common.{ap, arith, ◌∙◌, length, refl}
 use Rattle.mesh_world.specs.Noted.{has_items}
 use Rattle.mesh_world.proofs.Frames.{count_of, node_at}
-use Rattle.mesh_world.proofs.Memory.{needs_give, needs_turn, needs_send, needs_ask, needs_deliver, needs_lose, needs_double}
+use Rattle.mesh_world.proofs.Memory.{needs_give, needs_turn, needs_send, needs_ask, needs_deliver, needs_lose, needs_double, receiver_is_some}
 use Rattle.mesh_world.proofs.Moves.{within}
 use Rattle.mesh_world.proofs.ReadySets.{filled}
 use Rattle.mesh_world.proofs.parts.Parts.may_need_memory.Goals as goal
@@ -49,14 +49,14 @@ returns-in-Ask c =
 pub returns-in-Deliver : goal.returns-in-Deliver
 returns-in-Deliver c =
     let old = c.args.self.now in
-    rw c.in-Deliver.is (c.is_some.ensures ∙ needs_deliver old.mesh old.nodes.items old.radio c.in-Deliver.id c.find.result c.find.ensures)
+    rw c.in-Deliver.is (c.is_some.ensures ∙ receiver_is_some c.receiver.result _ c.receiver.ensures ∙ needs_deliver old.mesh old.nodes.items old.radio c.in-Deliver.id _ refl)
 
 pub returns-in-Lose : goal.returns-in-Lose
 returns-in-Lose c =
     let old = c.args.self.now in
-    rw c.in-Lose.is (c.is_some-in-Lose.ensures ∙ needs_lose old.mesh old.nodes.items old.radio c.in-Lose.id c.find-in-Lose.result c.find-in-Lose.ensures)
+    rw c.in-Lose.is (c.is_some-in-Lose.ensures ∙ receiver_is_some c.receiver-in-Lose.result _ c.receiver-in-Lose.ensures ∙ needs_lose old.mesh old.nodes.items old.radio c.in-Lose.id _ refl)
 
 pub returns-in-Double : goal.returns-in-Double
 returns-in-Double c =
     let old = c.args.self.now in
-    rw c.in-Double.is (c.is_some-in-Double.ensures ∙ needs_double old.mesh old.nodes.items old.radio c.in-Double.id c.find-in-Double.result c.find-in-Double.ensures)
+    rw c.in-Double.is (c.is_some-in-Double.ensures ∙ receiver_is_some c.receiver-in-Double.result _ c.receiver-in-Double.ensures ∙ needs_double old.mesh old.nodes.items old.radio c.in-Double.id _ refl)

@@ -1,4 +1,4 @@
-use Rattle.std.proofs.Common.{◌≡◌, List, false, true, length, refl, sym, ap, subst, ◌∙◌}
+use Rattle.std.proofs.Common.{◌≡◌, List, false, true, length, refl, ap, subst, ◌∙◌}
 use Rattle.std.specs.List.{AllByRecursion}
 use Rattle.aodv_node.specs.Seen.{NodeSeen, IsSoundNode}
 use Rattle.mesh_world.specs.Kept.{IsReadyFor}

@@ -9,7 +9,7 @@ use Rattle.mesh_radio.proofs.Numbered.{at_most_all, data_few, data_append, data_
 use Rattle.mesh_radio.specs.Casts.{copies_of, size, AreCasts}
 use Rattle.mesh_radio.specs.declared.casts.Cast.{Cast}
 use Rattle.mesh_radio.proofs.Entries.{copies-few, cast-copies}
-use Rattle.mesh_radio.proofs.copies.Copies.cast.Goals as goal
+use Rattle.mesh_radio.proofs.copies.Copies.launch_all.Goals as goal
 
 pub overflow_add-self-2 : goal.overflow_add-self-2
 overflow_add-self-2 c =
@@ -17,7 +17,7 @@ overflow_add-self-2 c =
     let kept = c.self.invariant.0 in
     let next = ap (λ (v : Flights). v.next_copy) c.self.view_is in
     let few = copies-few 1 inside.next inside.casts.entries kept.casts.rising in
-    omega (arith, kept.counted, c.count-copies.ensures.value, c.requires.next)
+    omega (arith, kept.counted, c.requires.all, c.requires.next)
 
 pub overflow_add-self-3 : goal.overflow_add-self-3
 overflow_add-self-3 c =
@@ -26,13 +26,13 @@ overflow_add-self-3 c =
     let next = ap (λ (v : Flights). v.next_copy) c.self.view_is in
     let few = copies-few 1 inside.next inside.casts.entries kept.casts.rising in
     let fewer = data_few (copies_of inside.casts.entries) in
-    let more = at_most_all (is_data c.args.bytes.now) c.count-copies.result in
-    omega (arith, kept.with_data, c.if_data.ensures, c.count-copies.ensures.value, c.requires.next)
+    let more = at_most_all (is_data c.args.bytes.now) c.args.copies in
+    omega (arith, kept.with_data, c.if_data.ensures, c.requires.all, c.requires.next)
 
 pub launch-self-inside-requires-clause-room : goal.launch-self-inside-requires-clause-room
 launch-self-inside-requires-clause-room c =
     let room = ap (λ (v : Flights). v.room) c.self.view_is in
-    omega (arith, c.self.invariant.1, c.requires.room, c.count-copies.ensures.value, c.if-copies-eq0.false)
+    omega (arith, c.self.invariant.1, c.requires.room, c.requires.all, c.requires.some)
 
 pub launch-self-inside-requires-clause-few : goal.launch-self-inside-requires-clause-few
 launch-self-inside-requires-clause-few c =
@@ -47,10 +47,10 @@ invariant_of-self c =
     let ms = member_list c.args.to.now in
     let cast : Cast = record { to = c.args.to.now; left = c.args.to.now; from = c.args.from; bytes = c.fill.result } in
     let launched = c.launch-self-inside in
-    let made : size cast ≡ c.count-copies.result = sym c.count-copies.ensures.value in
+    let made : size cast ≡ c.args.copies = sym c.requires.all in
     let copies = ap copies_of launched.ensures.entries ∙ cast-copies es inside.next cast refl in
     let room = ap (λ (m : Memory). m.room) c.fill.ensures.room in
-    let later : inside.next + size cast ≡ inside.next + c.count-copies.result = omega arith in (
+    let later : inside.next + size cast ≡ inside.next + c.args.copies = omega arith in (
       record {
         casts = subst (AreCasts launched.new.casts.entries) later launched.ensures.casts;
         counted = omega (arith, kept.counted, ap length copies, length-append (copies_of es) (copies_to ms inside.next cast.from cast.bytes), copies_to-length ms inside.next cast.from cast.bytes);
@@ -65,7 +65,7 @@ invariant_of-self c =
           ap (λ n. cond (is_data c.args.bytes.now) n 0) made,
         );
       },
-      omega (arith, room, c.self.invariant.1, launched.ensures.spare, c.if-copies-eq0.false),
+      omega (arith, room, c.self.invariant.1, launched.ensures.spare, c.requires.some),
       launched.ensures.least,
     )
 
@@ -75,7 +75,7 @@ returns c =
     let es = inside.casts.entries in
     let ms = member_list c.args.to.now in
     let cast : Cast = record { to = c.args.to.now; left = c.args.to.now; from = c.args.from; bytes = c.fill.result } in
-    let made : c.count-copies.result ≡ length ms = c.count-copies.ensures.value in
+    let made : c.args.copies ≡ length ms = c.requires.all in
     let flying = ap copies_of c.launch-self-inside.ensures.entries ∙ cast-copies es inside.next cast refl
     ∙ ap (λ bs. copies_of es ++ copies_to ms inside.next c.args.from bs) c.fill.ensures.bytes in
     let next = ap (λ n. inside.next + n) made in
