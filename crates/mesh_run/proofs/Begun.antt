@@ -1,17 +1,15 @@
 -- A line that is done once the run has started.
-use Rattle.std.proofs.Common.{◌≡◌, ℕ, true, false, Bool, is_some, List, Option, Some, None, Result, Ok, Err, refl, sym, ap, subst, ◌∙◌}
+use Rattle.std.proofs.Common.{◌≡◌, ℕ, true, false, Bool, is_some, List, Option, Some, None, refl, sym, ap, subst, ◌∙◌}
 use Rattle.std.specs.Option.{unwrap_or}
 use Rattle.std.specs.Io.KnownBytes.{Appends}
 use Rattle.mesh_io.specs.Puts.{AppendsPrefix}
-use Rattle.mesh_model.specs.Worlds.{Event, start, first_numbers}
-use Rattle.mesh_text.specs.Schedule.{Moment, Does, started, counted}
+use Rattle.mesh_model.specs.Worlds.{start, first_numbers}
+use Rattle.mesh_text.specs.Schedule.{Moment, started, counted}
 use Rattle.mesh_text.specs.Text.{On, outcome_of_line, text_in}
 use Rattle.mesh_run.specs.declared.show.Shown.{Shown}
 use Rattle.mesh_run.specs.declared.show.Shown.TheVariants as shown
-use Rattle.mesh_run.specs.declared.stop.Stop.{Stop}
-use Rattle.mesh_run.specs.Runs.{output_if, line_of_shown, IsLineDone, IsLineRun, IsUncountedRun, line_outcome_at}
+use Rattle.mesh_run.specs.Runs.{output_if, line_of_shown, IsLineDone}
 use Rattle.mesh_run.proofs.Shown.{shown_none}
-use Rattle.mesh_run.proofs.Events.{step_goes, step_stops}
 
 -- a run that has started is as one that starts
 pub started_same : (m : Moment) → is_some m.world ≡ true → m ≡ started m
@@ -20,13 +18,6 @@ started_same m h = by_world m.world refl h
     by_world : (o : Option _) → m.world ≡ o → is_some o ≡ true → m ≡ started m
     by_world None e h = absurd (let P : ⊥ = cc in P)
     by_world (Some w) e h = ap (λ o. record m { world = o }) (e ∙ ap Some (sym (ap (λ o. unwrap_or o (start m.variant (first_numbers m.mesh))) e)))
-
--- ---- what comes of it
-
-pub does_at : (quiet : Bool) (m s n : Moment) (e : Event) (a b : Option (List ℕ)) (r : Result (Unit {0}) Stop) → s ≡ started m → IsLineRun quiet s (line_outcome_at s e) n a b r
-    → IsUncountedRun quiet m (outcome_of_line m (Does e)) n a b r
-does_at quiet m s n e a b (Ok u) same g = step_goes quiet m s n (counted n) e a b same g refl
-does_at quiet m s n e a b (Err t) same g = step_stops quiet m s n e a b t same g
 
 -- ---- a line that shows something
 

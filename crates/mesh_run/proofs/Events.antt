@@ -1,5 +1,5 @@
 -- What comes of an event, of a line with one event, and of events that were chosen after a line.
-use Rattle.std.proofs.Common.{◌≡◌, ℕ, ◌+◌, Bool, true, is_some, List, [], ◌++◌, Option, Result, Ok, Err, OnOk, length, refl, sym, ap, subst, ◌∙◌}
+use Rattle.std.proofs.Common.{◌≡◌, ℕ, ◌+◌, Bool, true, is_some, List, [], ◌++◌, Option, length, refl, sym, ap, subst, ◌∙◌}
 use Rattle.std.specs.Io.KnownBytes.{Appends}
 use Rattle.mesh_base.specs.declared.events.Counter.{Counter as Field}
 use Rattle.mesh_base.specs.declared.events.Done.{Done}
@@ -27,9 +27,10 @@ use Rattle.mesh_run.specs.declared.stop.Stop.{Stop}
 use Rattle.mesh_run.specs.declared.stop.Stop.TheVariants as stop
 use Rattle.mesh_world.specs.declared.steps.StepError.{StepError}
 use Rattle.mesh_world.specs.declared.steps.StepError.TheVariants as errors
-use Rattle.mesh_run.specs.Moments.{IsAnswer, IsRefusal, stop_of}
+use Rattle.mesh_run.specs.Moments.{IsAnswer, IsRefusal, event_stop_of, stop_of}
 use Rattle.mesh_run.specs.Runs.{output_if, IsLineDone, IsLineFull, IsLineStopped, outcome_by}
 use Rattle.mesh_run.proofs.Shown.{shown_none}
+use Rattle.mesh_run.proofs.OwnNode.{step_own}
 
 -- ---- an event by itself
 
@@ -79,8 +80,10 @@ refusal_fills quiet m n e x field a ev is same = record {
 
 -- an event that isn't done stops the run
 pub refusal_stops : (quiet : Bool) (m n : Moment) (e : EventGiven) (error : StepError) (a : Option (List ℕ)) → IsEvent (length m.mesh) (event_of e) → IsRefusal m (event_of e) error
-    → n ≡ m → IsLineStopped quiet m (outcome_by m (event_of e) (outcome_at m (event_of e))) n a a (stop_of e error)
-refusal_stops quiet m n e (errors.Full node field) a ev is same = refusal_fills quiet m n (event_of e) node field a ev is same
+    → n ≡ m → IsLineStopped quiet m (outcome_by m (event_of e) (outcome_at m (event_of e))) n a a (stop_of e (event_stop_of error))
+refusal_stops quiet m n e (errors.Full node field) a ev is same =
+    let own : node ≡ node_of (event_of e) = step_own (world_of m) (event_of e) node field is in
+    refusal_fills quiet m n (event_of e) (node_of (event_of e)) field a ev (is ∙ ap (λ x. worlds.Full x field) own) same
 refusal_stops quiet m n e errors.NoMemory a ev is same = AppendsPrefix-none a _
 
 -- ---- a line with one event
@@ -152,10 +155,6 @@ answer_mesh m n e d packet a = ap (λ k. k.mesh) a.moment
 pub step_lines : (m s n : Moment) (e : Event) → s ≡ started m → n ≡ stepped s e → n.lines ≡ m.lines
 unfolding stepped
 step_lines m s n e same next = ap (λ k. k.lines) next ∙ ap (λ k. k.lines) same
-
-pub step_lines_ok : {T E : Type 0} (m s n : Moment) (e : Event) (r : Result T E) → s ≡ started m → OnOk r (n ≡ stepped s e) → OnOk r (n.lines ≡ m.lines)
-step_lines_ok m s n e (Ok x) same next = step_lines m s n e same next
-step_lines_ok m s n e (Err x) same next = tt
 
 -- ---- what an event and other lines are written as
 

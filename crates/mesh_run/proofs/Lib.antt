@@ -1,5 +1,6 @@
 pub mod Telling
 pub mod Shown
+pub mod OwnNode
 pub mod Events
 pub mod Counts
 pub mod OfVariant

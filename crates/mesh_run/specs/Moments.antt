@@ -1,5 +1,5 @@
 -- What every moment of a run has, and what an event answers at one.
-use Rattle.std.specs.Prelude.{◌≡◌, ℕ, List, Option, IfSome, option_map, ⊤, refl}
+use Rattle.std.specs.Prelude.{◌≡◌, ℕ, List, Option, IfSome, option_map, Result, Ok, Err, ⊤, refl}
 use Rattle.std.specs.Coded.{Coded, code_by, coded×, coded_ℕ, coded_list, coded_option}
 use Rattle.std.specs.List.{AllByRecursion}
 use Rattle.std.specs.Option.{ForSome, unwrap_or}
@@ -14,7 +14,7 @@ use Rattle.mesh_model.specs.Codes.{world_code}
 use Rattle.mesh_model.specs.Accounts.{any, waiting, queued, in_flight}
 use Rattle.mesh_model.specs.Invariants.{IsInvariant}
 use Rattle.mesh_model.specs.Walks.{Cycle}
-use Rattle.mesh_meaning.specs.Events.{node_of}
+use Rattle.mesh_meaning.specs.Events.{event_of, node_of}
 use Rattle.mesh_meaning.specs.Answers.{outcome_in, IsDoneInMesh}
 use Rattle.mesh_text.specs.Schedule.{Moment, Sums, Accepted, Nothing, NewNode, world_of, started, outcome_at, stepped}
 use Rattle.mesh_text.specs.Accounts.{IsBalanced}
@@ -23,6 +23,8 @@ use Rattle.mesh_world.specs.Seen.{WorldSeen, IsSoundWorld}
 use Rattle.mesh_world.specs.declared.totals.Totals.{Totals}
 use Rattle.mesh_world.specs.declared.steps.StepError.{StepError}
 use Rattle.mesh_world.specs.declared.steps.StepError.TheVariants.{Full, NoMemory}
+use Rattle.mesh_run.specs.declared.stop.EventStop.{EventStop}
+use Rattle.mesh_run.specs.declared.stop.EventStop.TheVariants as event
 use Rattle.mesh_run.specs.declared.stop.Stop.{Stop}
 use Rattle.mesh_run.specs.declared.stop.Stop.TheVariants as stop
 
@@ -101,10 +103,21 @@ abbrev pub IsRefusal : Moment → Event → StepError → Type 0
 IsRefusal m e (Full node field) = outcome_at m e ≡ worlds.Full node field
 IsRefusal m e NoMemory = ⊤
 
--- what then stops the run
-abbrev pub stop_of : EventGiven → StepError → Stop
-stop_of e (Full node field) = stop.Full e node field
-stop_of e NoMemory = stop.NoMemory
+-- what the event then answers
+abbrev pub event_stop_of : StepError → EventStop
+event_stop_of (Full node field) = event.Full field
+event_stop_of NoMemory = event.NoMemory
+
+-- what stops the run where this event wasn't done, or not written whole
+abbrev pub stop_of : EventGiven → EventStop → Stop
+stop_of e (event.Full field) = stop.Full e (node_of (event_of e)) field
+stop_of e event.WriteFault = stop.WriteFault
+stop_of e event.NoMemory = stop.NoMemory
+
+-- what the run answers at this event, by what the event answers
+abbrev pub answer_of : EventGiven → Result (Unit {0}) EventStop → Result (Unit {0}) Stop
+answer_of e (Ok done) = Ok done
+answer_of e (Err s) = Err (stop_of e s)
 
 -- ---- a code, by which proofs tell moments apart
 

@@ -61,8 +61,8 @@ fn do_events<S: Steps, O: Sink>(
         let Some(event) = next_event(at) else {
             return Ok(did);
         };
-        if let Err(stop) = do_event(alloc, at, None, event, quiet, out) {
-            return Err(stop);
+        if let Err(stop) = do_event(alloc, at, None, &event, quiet, out) {
+            return Err(stop.of_event(event));
         }
         did += 1;
     }

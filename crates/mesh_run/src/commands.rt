@@ -13,14 +13,14 @@ ghost use Rattle.mesh_text.specs.Runs.{events_of_line};
 ghost use Rattle.mesh_io.specs.Cause.{HasCause};
 ghost use Rattle.mesh_io.specs.Puts.{Puts};
 ghost use Rattle.mesh_script.specs.Seen.{accepted_of, IsPrintable, IsAllowed};
-ghost use Rattle.mesh_run.specs.Moments.{stop_of};
+ghost use Rattle.mesh_run.specs.Moments.{answer_of, event_stop_of};
 ghost use Rattle.mesh_run.specs.Causes.{HasStopCause};
 ghost use Rattle.mesh_run.specs.Runs.{output_if, line_outcome_at, IsLineOf, IsLineRun, IsUncountedRun, IsReached, IsOnTheWay};
 
 use crate::auto::do_auto;
 use crate::point::Point;
 use crate::show::{Shown, do_show};
-use crate::stop::Stop;
+use crate::stop::{EventStop, Stop};
 use mesh_base::{Addr, Done, Event, LONGEST_LINE, LineBuf, Mesh, Packet};
 use mesh_io::{PutFault, Sink};
 use mesh_report::{put_echoed_event, put_event, put_line};
@@ -53,47 +53,48 @@ pub fn say_event<O: Sink>(
 }
 
 /// Does an event once the run has started, and writes it: as its line stands, where it has one.
-pub fn do_event<'a, S: Steps, O: Sink>(
+pub fn do_event<S: Steps, O: Sink>(
     alloc: Global,
     at: &mut Point<S>,
     bytes: Option<&[u8]>,
-    event: Event<'a>,
+    event: &Event<'_>,
     quiet: bool,
     out: &mut O,
-) -> Result<(), Stop<'a>>
+) -> Result<(), EventStop>
     requires started { is_some at.old.world ≡ true }
     requires few { at.old.steps < 2 ^ 48 }
-    requires printable { IsPrintable at.old.mesh (Line.Step event) }
+    requires printable { IsPrintable at.old.mesh (Line.Step event.now) }
     requires echo { quiet ≡ false
-        → IfSome bytes (λ b. IsLineOf at.old.mesh (Does (event_of event)) b.now) }
-    ensures comes { IsLineRun quiet at.old (line_outcome_at at.old (event_of event.entry))
-        at.new (O.held out.old) (O.held out.new) result }
-    ensures moment { OnOk result (at.new ≡ stepped at.old (event_of event.entry)) }
-    ensures way { OnErr result (IsReached at.old (event_of event.entry ∷ []) at.new) }
-    ensures cause { HasStopCause (O.faults out.old) (O.faults out.new) result }
+        → IfSome bytes (λ b. IsLineOf at.old.mesh (Does (event_of event.now)) b.now) }
+    ensures comes { IsLineRun quiet at.old (line_outcome_at at.old (event_of event.now))
+        at.new (O.held out.old) (O.held out.new) (answer_of event.now result) }
+    ensures moment { OnOk result (at.new ≡ stepped at.old (event_of event.now)) }
+    ensures way { OnErr result (IsReached at.old (event_of event.now ∷ []) at.new) }
+    ensures cause { HasStopCause
+        (O.faults out.old) (O.faults out.new) (answer_of event.now result) }
 {
     let state = &mut at.state;
-    if let Err(error) = state.step_counted(alloc, &event, &mut at.packet, !quiet, &mut at.done) {
-        return Err(stop_of(event, error));
+    if let Err(error) = state.step_counted(alloc, event, &mut at.packet, !quiet, &mut at.done) {
+        return Err(event_stop_of(error));
     }
     if quiet {
         return Ok(());
     }
     let mesh = at.state.mesh();
-    match say_event(mesh, bytes, &event, &at.done, &at.packet, &mut at.line, out) {
+    match say_event(mesh, bytes, event, &at.done, &at.packet, &mut at.line, out) {
         Ok(()) => Ok(()),
-        Err(_) => Err(Stop::WriteFault),
+        Err(_) => Err(EventStop::WriteFault),
     }
 }
 
-// What stops the run where an event isn't done.
+// Why a refused event isn't done. The node that is full is the event's own.
 #[cold]
-fn stop_of<'a>(event: Event<'a>, error: StepError) -> Stop<'a>
-    ensures { result ≡ stop_of event.entry error }
+fn event_stop_of(error: StepError) -> EventStop
+    ensures { result ≡ event_stop_of error }
 {
     match error {
-        StepError::Full { node, field } => Stop::Full { event, node, field },
-        StepError::NoMemory => Stop::NoMemory,
+        StepError::Full { field, .. } => EventStop::Full { field },
+        StepError::NoMemory => EventStop::NoMemory,
     }
 }
 
@@ -164,7 +165,10 @@ fn do_uncounted<'a, S: Steps, O: Sink>(
     match line {
         Line::Blank => Ok(()),
         Line::Node { addr, first } => do_node(at, addr, first, quiet, out),
-        Line::Step(event) => do_event(alloc, at, Some(bytes), event, quiet, out),
+        Line::Step(event) => match do_event(alloc, at, Some(bytes), &event, quiet, out) {
+            Ok(()) => Ok(()),
+            Err(stop) => Err(stop.of_event(event)),
+        },
         Line::Auto { count } => do_auto(alloc, at, bytes, count, quiet, out),
         Line::Show { node } => do_show(at, bytes, Shown::Node { node }, quiet, out),
         Line::Route { node, dest } => do_show(at, bytes, Shown::Route { node, dest }, quiet, out),

@@ -1,5 +1,7 @@
 //! Why a line isn't done.
 ghost use Rattle.std.specs.Prelude.{◌≡◌};
+ghost use Rattle.mesh_meaning.specs.Events.{event_of, node_of};
+ghost use Rattle.mesh_run.specs.Moments.{stop_of};
 ghost use Rattle.mesh_run.specs.declared.stop.Stop.TheVariants as stops;
 
 use mesh_base::{Counter, Event, NoMemory};
@@ -19,6 +21,46 @@ pub enum Stop<'a> {
     },
     WriteFault,
     NoMemory,
+}
+
+/// Why an event wasn't done, or not written whole. Which event it is, the caller knows.
+#[derive(Clone, Copy)]
+pub enum EventStop {
+    /// The event would raise this counter of its node past its field's greatest value.
+    Full { field: Counter },
+    WriteFault,
+    NoMemory,
+}
+
+impl EventStop {
+    /// Why the line of this event, or the line that chose it, isn't done.
+    #[cold]
+    pub fn of_event<'a>(self, event: Event<'a>) -> Stop<'a>
+        ensures { result ≡ stop_of event.entry self }
+    {
+        match self {
+            EventStop::Full { field } => Stop::Full {
+                event,
+                node: node_of(&event),
+                field,
+            },
+            EventStop::WriteFault => Stop::WriteFault,
+            EventStop::NoMemory => Stop::NoMemory,
+        }
+    }
+}
+
+// The node at which an event is. A link or a copy is at none, and 0 stands for that.
+fn node_of(event: &Event<'_>) -> usize
+    ensures { result ≡ node_of (event_of event.now) }
+{
+    match *event {
+        Event::Give { node, .. } => node,
+        Event::Turn { node } => node,
+        Event::Send { node, .. } => node,
+        Event::Ask { node, .. } => node,
+        _ => 0,
+    }
 }
 
 impl From<PutFault> for Stop<'_> {

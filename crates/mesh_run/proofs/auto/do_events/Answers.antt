@@ -1,7 +1,9 @@
 use Rattle.std.proofs.Common.{◌∙◌, Ok, Err, refl, arith}
 use Rattle.mesh_meaning.specs.Events.{event_of}
 use Rattle.mesh_text.specs.Runs.{events_chosen}
+use Rattle.mesh_run.specs.declared.stop.Stop.{Stop}
 use Rattle.mesh_run.specs.declared.stop.Stop.TheVariants as stop
+use Rattle.mesh_run.specs.Moments.{stop_of}
 use Rattle.mesh_run.proofs.Chosen.{ends_all, ends_none, ran_goes, ran_stops}
 use Rattle.mesh_run.proofs.Events.{stepped_started, stepped_lines, stepped_steps}
 use Rattle.mesh_run.proofs.Faults.{cause_after, cause_of_err, no_cause}
@@ -18,8 +20,9 @@ returns-in_default-clause-way g c = c.events.invariant.way c.events.at (reached_
 
 pub returns-in-Err-clause-ran : goal.returns-in-Err-clause-ran
 returns-in-Err-clause-ran g c =
-    c.events.invariant.ran (g.O.Sink.held c.do_event.new.out) c.do_event.new.at (Err c.in-Err.stop)
-    (ran_stops c.args.quiet c.args.count c.events.did c.events.at c.do_event.new.at (event_of c.in-Some.event) _ _ c.in-Err.stop c.events-test.true c.in-Some.ensures.value c.in-Err.ensures.comes)
+    let why : Stop = stop_of c.in-Some.event c.in-Err.stop in
+    rw c.of_event.ensures (c.events.invariant.ran (g.O.Sink.held c.do_event.new.out) c.do_event.new.at (Err why)
+    (ran_stops c.args.quiet c.args.count c.events.did c.events.at c.do_event.new.at (event_of c.in-Some.event) _ _ why c.events-test.true c.in-Some.ensures.value c.in-Err.ensures.comes))
 
 pub returns-in-Err-clause-way : goal.returns-in-Err-clause-way
 returns-in-Err-clause-way g c =
@@ -27,7 +30,9 @@ returns-in-Err-clause-way g c =
     (way_stops c.args.count c.events.did c.events.at c.do_event.new.at (event_of c.in-Some.event) c.events-test.true c.in-Some.ensures.value c.in-Err.ensures.way)
 
 pub returns-in-Err-clause-cause : goal.returns-in-Err-clause-cause
-returns-in-Err-clause-cause g c = cause_after _ _ _ c.events.invariant.faults (cause_of_err c.in-Err.stop stop.WriteFault _ _ c.in-Err.ensures.cause)
+returns-in-Err-clause-cause g c =
+    let why : Stop = stop_of c.in-Some.event c.in-Err.stop in
+    rw c.of_event.ensures (cause_after _ _ _ c.events.invariant.faults (cause_of_err why stop.WriteFault _ _ c.in-Err.ensures.cause))
 
 pub events-preserved : goal.events-preserved
 events-preserved g c =

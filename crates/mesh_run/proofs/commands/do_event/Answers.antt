@@ -1,6 +1,7 @@
 use Rattle.std.proofs.Common.{◌≡◌, ◌∙◌, ℕ, List, [], ◌∷◌, false, not, Result, Ok, Err, sym, ap, subst}
 use Rattle.std.specs.Prelude.{IfSome, OnErr, OnOk}
 use Rattle.std.specs.Io.KnownBytes.{Appends}
+use Rattle.mesh_base.specs.declared.events.Event.{Event as EventGiven}
 use Rattle.mesh_base.specs.Meshes.{Nodes}
 use Rattle.mesh_io.specs.Puts.{AppendsPrefix}
 use Rattle.mesh_model.specs.Worlds.{World, Event}
@@ -10,10 +11,10 @@ use Rattle.mesh_text.specs.Schedule.{Moment, Does, world_of}
 use Rattle.mesh_text.specs.Effects.{outcome_lines}
 use Rattle.mesh_script.specs.Seen.{IsPrintable}
 use Rattle.mesh_script.specs.declared.line.Line.TheVariants as line
-use Rattle.mesh_run.specs.Moments.{IsAnswer}
+use Rattle.mesh_run.specs.Moments.{IsAnswer, IsRefusal, answer_of}
 use Rattle.mesh_run.specs.Runs.{IsLineOf, IsLineRun, line_outcome_at}
-use Rattle.mesh_run.specs.declared.stop.Stop.{Stop}
-use Rattle.mesh_run.proofs.Events.{answer_goes, answer_front, answer_mesh}
+use Rattle.mesh_run.specs.declared.stop.EventStop.{EventStop}
+use Rattle.mesh_run.proofs.Events.{answer_goes, answer_front, answer_mesh, refusal_stops}
 use Rattle.mesh_run.proofs.Ways.{reached_none, reached_one}
 use Rattle.mesh_run.proofs.commands.do_event.Goals as goal
 use Rattle.mesh_run.proofs.commands.do_event.Goals.{in-Ok, in-Err-say_event}
@@ -21,30 +22,30 @@ use Rattle.mesh_run.proofs.commands.do_event.Goals.{in-Ok, in-Err-say_event}
 pub say_event-requires-clause-printable : goal.say_event-requires-clause-printable
 say_event-requires-clause-printable g c =
     let told = c.step_counted.ensures.told (ap not c.if-quiet.false) in
-    let here = subst (λ r. OnOk r (IsAnswer c.at.inside.state (event_of c.args.event) c.step_counted.new.answer c.step_counted.new.self c.step_counted.new.out.items)) c.in_default.is told in
-    let is = subst (λ (m : Moment). IsAnswer m (event_of c.args.event) c.step_counted.new.answer c.step_counted.new.self c.step_counted.new.out.items) c.at.view_is here in
-    let same : c.mesh-mesh.result.now ≡ c.args.at.now.mesh = c.mesh-mesh.ensures.value ∙ answer_mesh c.args.at.now c.step_counted.new.self (event_of c.args.event) c.step_counted.new.answer c.step_counted.new.out.items is in
-    subst (λ (m : Nodes). IsPrintable m (line.Step c.args.event)) (sym same) c.requires.printable
+    let here = subst (λ r. OnOk r (IsAnswer c.at.inside.state (event_of c.args.event.now) c.step_counted.new.answer c.step_counted.new.self c.step_counted.new.out.items)) c.in_default.is told in
+    let is = subst (λ (m : Moment). IsAnswer m (event_of c.args.event.now) c.step_counted.new.answer c.step_counted.new.self c.step_counted.new.out.items) c.at.view_is here in
+    let same : c.mesh-mesh.result.now ≡ c.args.at.now.mesh = c.mesh-mesh.ensures.value ∙ answer_mesh c.args.at.now c.step_counted.new.self (event_of c.args.event.now) c.step_counted.new.answer c.step_counted.new.out.items is in
+    subst (λ (m : Nodes). IsPrintable m (line.Step c.args.event.now)) (sym same) c.requires.printable
 
 pub say_event-requires-clause-in_mesh : goal.say_event-requires-clause-in_mesh
 say_event-requires-clause-in_mesh g c =
     let told = c.step_counted.ensures.told (ap not c.if-quiet.false) in
-    let here = subst (λ r. OnOk r (IsAnswer c.at.inside.state (event_of c.args.event) c.step_counted.new.answer c.step_counted.new.self c.step_counted.new.out.items)) c.in_default.is told in
-    let is = subst (λ (m : Moment). IsAnswer m (event_of c.args.event) c.step_counted.new.answer c.step_counted.new.self c.step_counted.new.out.items) c.at.view_is here in
-    let same : c.mesh-mesh.result.now ≡ c.args.at.now.mesh = c.mesh-mesh.ensures.value ∙ answer_mesh c.args.at.now c.step_counted.new.self (event_of c.args.event) c.step_counted.new.answer c.step_counted.new.out.items is in
+    let here = subst (λ r. OnOk r (IsAnswer c.at.inside.state (event_of c.args.event.now) c.step_counted.new.answer c.step_counted.new.self c.step_counted.new.out.items)) c.in_default.is told in
+    let is = subst (λ (m : Moment). IsAnswer m (event_of c.args.event.now) c.step_counted.new.answer c.step_counted.new.self c.step_counted.new.out.items) c.at.view_is here in
+    let same : c.mesh-mesh.result.now ≡ c.args.at.now.mesh = c.mesh-mesh.ensures.value ∙ answer_mesh c.args.at.now c.step_counted.new.self (event_of c.args.event.now) c.step_counted.new.answer c.step_counted.new.out.items is in
     subst (λ (m : Nodes). IsDoneInMesh m c.step_counted.new.answer c.step_counted.new.out.items) (sym same) is.in_mesh
 
 pub say_event-requires-clause-echo : goal.say_event-requires-clause-echo
 say_event-requires-clause-echo g c =
     let told = c.step_counted.ensures.told (ap not c.if-quiet.false) in
-    let here = subst (λ r. OnOk r (IsAnswer c.at.inside.state (event_of c.args.event) c.step_counted.new.answer c.step_counted.new.self c.step_counted.new.out.items)) c.in_default.is told in
-    let is = subst (λ (m : Moment). IsAnswer m (event_of c.args.event) c.step_counted.new.answer c.step_counted.new.self c.step_counted.new.out.items) c.at.view_is here in
-    let same : c.mesh-mesh.result.now ≡ c.args.at.now.mesh = c.mesh-mesh.ensures.value ∙ answer_mesh c.args.at.now c.step_counted.new.self (event_of c.args.event) c.step_counted.new.answer c.step_counted.new.out.items is in
-    subst (λ (m : Nodes). IfSome c.args.bytes (λ b. IsLineOf m (Does (event_of c.args.event)) b.now)) (sym same) (c.requires.echo c.if-quiet.false)
+    let here = subst (λ r. OnOk r (IsAnswer c.at.inside.state (event_of c.args.event.now) c.step_counted.new.answer c.step_counted.new.self c.step_counted.new.out.items)) c.in_default.is told in
+    let is = subst (λ (m : Moment). IsAnswer m (event_of c.args.event.now) c.step_counted.new.answer c.step_counted.new.self c.step_counted.new.out.items) c.at.view_is here in
+    let same : c.mesh-mesh.result.now ≡ c.args.at.now.mesh = c.mesh-mesh.ensures.value ∙ answer_mesh c.args.at.now c.step_counted.new.self (event_of c.args.event.now) c.step_counted.new.answer c.step_counted.new.out.items is in
+    subst (λ (m : Nodes). IfSome c.args.bytes (λ b. IsLineOf m (Does (event_of c.args.event.now)) b.now)) (sym same) (c.requires.echo c.if-quiet.false)
 
 pub returns-clause-comes : goal.returns-clause-comes
 returns-clause-comes g c =
-    let e : Event = event_of c.args.event in
+    let e : Event = event_of c.args.event.now in
     let told = c.step_counted.ensures.told (ap not c.if-quiet.false) in
     let here = subst (λ r. OnOk r (IsAnswer c.at.inside.state e c.step_counted.new.answer c.step_counted.new.self c.step_counted.new.out.items)) c.in_default.is told in
     let is = subst (λ (m : Moment). IsAnswer m e c.step_counted.new.answer c.step_counted.new.self c.step_counted.new.out.items) c.at.view_is here in
@@ -56,7 +57,7 @@ returns-clause-comes g c =
     let text : Nodes → List ℕ = λ k. outcome_lines k e (outcome_in k (node_of e) w d packet) in
     let before = g.O.Sink.held c.args.out.now in
     let now = g.O.Sink.held c.say_event.new.out in
-    let run : Result (Unit {0}) Stop → Type 0 = IsLineRun c.args.quiet c.args.at.now (line_outcome_at c.args.at.now e) n before now in
+    let run : Result (Unit {0}) EventStop → Type 0 = λ r. IsLineRun c.args.quiet c.args.at.now (line_outcome_at c.args.at.now e) n before now (answer_of c.args.event.now r) in
     elim c.match-say_event.branch [
       | in-Ok b ↦
           subst run (sym b.result-is)
@@ -66,18 +67,26 @@ returns-clause-comes g c =
           (rw c.if-quiet.false (answer_front false c.args.at.now n e d packet _ _ is (subst (λ k. AppendsPrefix before now (text k)) same (b.in-Err-say_event.ensures.text w))))
     ]
 
+pub returns-in-Err-clause-comes : goal.returns-in-Err-clause-comes
+returns-in-Err-clause-comes g c =
+    let m : Moment = c.args.at.now in
+    let e : EventGiven = c.args.event.now in
+    let same : c.step_counted.new.self ≡ m = c.in-Err.ensures.same ∙ c.at.view_is in
+    let refused : IsRefusal m (event_of e) c.in-Err.error = subst (λ (k : Moment). IsRefusal k (event_of e) c.in-Err.error) c.at.view_is c.in-Err.ensures.refused in
+    rw c.event_stop_of.ensures (refusal_stops c.args.quiet m c.step_counted.new.self e c.in-Err.error _ c.requires.printable.1 refused same)
+
 pub returns-clause-way : goal.returns-clause-way
 returns-clause-way g c =
     let told = c.step_counted.ensures.told (ap not c.if-quiet.false) in
-    let here = subst (λ r. OnOk r (IsAnswer c.at.inside.state (event_of c.args.event) c.step_counted.new.answer c.step_counted.new.self c.step_counted.new.out.items)) c.in_default.is told in
-    let is = subst (λ (m : Moment). IsAnswer m (event_of c.args.event) c.step_counted.new.answer c.step_counted.new.self c.step_counted.new.out.items) c.at.view_is here in
-    on_err c.match-say_event.result (reached_one c.args.at.now c.step_counted.new.self (event_of c.args.event) [] is.moment)
+    let here = subst (λ r. OnOk r (IsAnswer c.at.inside.state (event_of c.args.event.now) c.step_counted.new.answer c.step_counted.new.self c.step_counted.new.out.items)) c.in_default.is told in
+    let is = subst (λ (m : Moment). IsAnswer m (event_of c.args.event.now) c.step_counted.new.answer c.step_counted.new.self c.step_counted.new.out.items) c.at.view_is here in
+    on_err c.match-say_event.result (reached_one c.args.at.now c.step_counted.new.self (event_of c.args.event.now) [] is.moment)
   where
-    on_err : {P : Type 0} (r : Result (Unit {0}) Stop) → P → OnErr r P
+    on_err : {P : Type 0} (r : Result (Unit {0}) EventStop) → P → OnErr r P
     on_err (Ok x) p = tt
     on_err (Err e) p = p
 
 pub returns-in-Err-clause-way : goal.returns-in-Err-clause-way
 returns-in-Err-clause-way g c =
-    reached_none c.args.at.now c.step_counted.new.self (event_of c.args.event ∷ [])
+    reached_none c.args.at.now c.step_counted.new.self (event_of c.args.event.now ∷ [])
     (subst (λ r. OnErr r (c.step_counted.new.self ≡ c.at.inside.state)) c.in-Err.is c.step_counted.ensures.same ∙ c.at.view_is)

@@ -1,22 +1,27 @@
-use Rattle.std.proofs.Common.{◌≡◌, rules}
+use Rattle.std.proofs.Common.{◌≡◌, refl, rules}
 use Rattle.mesh_meaning.specs.Events.{event_of}
 use Rattle.mesh_text.specs.Schedule.{started}
 use Rattle.mesh_text.specs.Runs.{events_of_line}
 use Rattle.mesh_script.specs.Seen.{accepted_of}
-use Rattle.mesh_run.proofs.Begun.{does_at}
-use Rattle.mesh_run.proofs.Events.{step_lines_ok}
+use Rattle.mesh_run.specs.Moments.{stop_of}
+use Rattle.mesh_run.proofs.Events.{step_goes, step_lines, step_stops}
 use Rattle.mesh_run.proofs.Ways.{err_of, way_of_start}
 use Rattle.mesh_run.proofs.commands.do_uncounted.Goals as goal
 
-pub returns-in-Step-clause-comes : goal.returns-in-Step-clause-comes
-returns-in-Step-clause-comes g c =
+pub returns-in-Ok-clause-comes : goal.returns-in-Ok-clause-comes
+returns-in-Ok-clause-comes g c =
     let begun_is : c.begin.new.self ≡ started c.args.at.now = search rules in
-    rw c.in-Step.is (does_at c.args.quiet c.args.at.now c.begin.new.self c.do_event.new.at (event_of c.in-Step.event) _ _ c.do_event.result begun_is c.do_event.ensures.comes)
+    rw c.in-Step.is (step_goes c.args.quiet c.args.at.now c.begin.new.self c.do_event.new.at _ (event_of c.in-Step.event) _ _ begun_is c.in-Ok.ensures.comes refl)
 
-pub returns-in-Step-clause-lines : goal.returns-in-Step-clause-lines
-returns-in-Step-clause-lines g c =
+pub returns-in-Ok-clause-lines : goal.returns-in-Ok-clause-lines
+returns-in-Ok-clause-lines g c =
     let begun_is : c.begin.new.self ≡ started c.args.at.now = search rules in
-    step_lines_ok c.args.at.now c.begin.new.self c.do_event.new.at (event_of c.in-Step.event) c.do_event.result begun_is c.do_event.ensures.moment
+    step_lines c.args.at.now c.begin.new.self c.do_event.new.at (event_of c.in-Step.event) begun_is c.in-Ok.ensures.moment
+
+pub returns-in-Err-clause-comes : goal.returns-in-Err-clause-comes
+returns-in-Err-clause-comes g c =
+    let begun_is : c.begin.new.self ≡ started c.args.at.now = search rules in
+    rw (c.in-Step.is, c.of_event.ensures) (step_stops c.args.quiet c.args.at.now c.begin.new.self c.do_event.new.at (event_of c.in-Step.event) (g.O.Sink.held c.args.out.now) (g.O.Sink.held c.do_event.new.out) (stop_of c.in-Step.event c.in-Err.stop) begun_is c.in-Err.ensures.comes)
 
 pub returns-in-Show-clause-way : goal.returns-in-Show-clause-way
 returns-in-Show-clause-way g c =
