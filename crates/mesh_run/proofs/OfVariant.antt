@@ -1,5 +1,5 @@
 -- The nodes of a run keep their variant of the protocol.
-use Rattle.std.proofs.Common.{◌≡◌, ℕ, zero, suc, ◌+◌, Bool, not, ◌==◌, ◌||◌, List, [], ◌∷◌, ◌++◌, Option, Some, None, is_some, max, refl, sym, ap, subst, ◌∙◌}
+use Rattle.std.proofs.Common.{◌≡◌, ℕ, zero, suc, ◌+◌, Bool, not, ◌==◌, ◌||◌, List, [], ◌∷◌, ◌++◌, Option, Some, None, is_some, max, refl, subst, ◌∙◌}
 use Rattle.std.specs.Prelude.{slice_get, slice_set, if◌then◌else◌}
 use Rattle.std.specs.FinSet as sets
 use Rattle.std.specs.List.{AllByRecursion}
@@ -10,7 +10,7 @@ use Rattle.mesh_base.specs.declared.events.Variant.{Variant}
 use Rattle.mesh_base.specs.declared.events.Variant.TheVariants as variants
 use Rattle.aodv_model.specs.Tables.{Dests, in_vD, nhop}
 use Rattle.aodv_model.specs.Cores.{Body, RouteRequest, RouteReply, Message, Pkt, Rreq, Rrep, Rerr, Item, New, Heard, Core, has_seen}
-use Rattle.aodv_model.specs.Handlers.{Reaction, One, casting, delivering, plain, only, losing, losing_if_broken, broken_by, retract, link_broken, unicast, after_hearing, route_entry, on_new, data_error, on_pkt, key_of, after_request, reply_for_self, can_answer, join_answer_precursors, reply_from_table, forward_request, on_new_rreq, on_rreq, after_reply, is_stale, join_reply_precursors, forward_reply, forward_own_entry, reply_on, on_rrep, on_rerr, turn, first_body, drop_if_sent, send, may_send, ask, may_ask}
+use Rattle.aodv_model.specs.Handlers.{Reaction, One, casting, plain, only, losing, losing_if_broken, broken_by, retract, link_broken, unicast, after_hearing, route_entry, on_new, data_error, on_pkt, key_of, after_request, reply_for_self, can_answer, join_answer_precursors, reply_from_table, forward_request, on_new_rreq, on_rreq, after_reply, is_stale, join_reply_precursors, forward_reply, forward_own_entry, reply_on, on_rrep, on_rerr, turn, drop_if_sent, send, may_send, ask, may_ask}
 use Rattle.aodv_model.specs.Fullness.{turn_full, send_full, ask_full}
 use Rattle.aodv_model.proofs.Entries.{if_case}
 use Rattle.mesh_model.specs.Worlds.{is_parcel, World, Node, Copy, Event, Give, Turn, Send, Ask, Link, Cut, Deliver, Lose, Double, range, copies, done_by, push, with_item, find_copy, Changed, Sent, CopyHeard, CopyLost, CopyDoubled, Outcome, Idle, Next, unless_full, turn_of, send_of, ask_of, at_node, at_copy, with_link, without_link, without_copy, with_double, step, after, are_linked, openings, start}

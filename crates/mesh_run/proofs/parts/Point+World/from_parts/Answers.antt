@@ -1,4 +1,4 @@
-use Rattle.std.proofs.Common.{◌≡◌, ◌+◌, refl, subst, arith}
+use Rattle.std.proofs.Common.{refl, subst, arith}
 use Rattle.mesh_text.specs.Schedule.{Moment}
 use Rattle.mesh_run.specs.Sums.{sums_of}
 use Rattle.mesh_run.specs.Moments.{moment_seen, IsSound}
