@@ -1,6 +1,8 @@
 //! The top call.
 ghost use Rattle.std.specs.Prelude.{◌≡◌, ◌≢◌, ◌<◌, ◌≤◌, ◌↔◌, ◌⊎◌, map, Some, None};
 ghost use Rattle.std.specs.Io.KnownBytes.{IsAtEnd};
+ghost use Rattle.mesh_base.specs.declared.events.Variant.TheVariants.{Base};
+ghost use Rattle.mesh_text.specs.Schedule.{opening};
 ghost use Rattle.mesh_run.specs.Causes.{HasCauseIf, HasStatusCause, HasSourceCause};
 ghost use Rattle.mesh_run.specs.Told.{IsOutputFrom};
 ghost use Rattle.mesh_checkpoint.specs.Points.{IsTooLong};
@@ -43,7 +45,28 @@ fn put_state<O: Sink>(at: &Point<World>, out: &mut O) -> StateStatus
     }
 }
 
-// Runs the schedule, and writes the checkpoint of its last moment.
+// Runs the schedule from its start on, and writes the checkpoint of its last moment.
+fn save_from<I: Source, O: Sink>(
+    alloc: Global,
+    at: &mut Point<World>,
+    input: &mut I,
+    out: &mut O,
+) -> StateStatus
+    requires { at.old ≡ opening Base }
+    ensures told { HasAnswered (Some Asked.Save) (I.left input.old)
+        (I.left input.new) (O.held out.old) (O.held out.new) result }
+    ensures end { result ≡ StateStatus.Run Status.Done → IsAtEnd (I.left input.new) }
+    ensures read { HasReadCause (I.faults input.old) (I.faults input.new) result }
+    ensures write { HasWriteCause (O.faults out.old) (O.faults out.new) result }
+    ensures words { result ≢ StateStatus.Run Status.Usage }
+{
+    match do_input(alloc, at, Say::Faults, input, out) {
+        Status::Done => put_state(at, out),
+        status => StateStatus::Run(status),
+    }
+}
+
+// The same, in a world of its own.
 fn save<I: Source, O: Sink>(alloc: Global, input: &mut I, out: &mut O) -> StateStatus
     ensures told { HasAnswered (Some Asked.Save) (I.left input.old)
         (I.left input.new) (O.held out.old) (O.held out.new) result }
@@ -53,10 +76,7 @@ fn save<I: Source, O: Sink>(alloc: Global, input: &mut I, out: &mut O) -> StateS
     ensures words { result ≢ StateStatus.Run Status.Usage }
 {
     let mut at: Point<World> = Point::start();
-    match do_input(alloc, &mut at, Say::Faults, input, out) {
-        Status::Done => put_state(&at, out),
-        status => StateStatus::Run(status),
-    }
+    save_from(alloc, &mut at, input, out)
 }
 
 // What is answered of a front that isn't loaded.

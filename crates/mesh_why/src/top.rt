@@ -3,6 +3,7 @@ ghost use Rattle.std.specs.Prelude.{◌≡◌, ◌≢◌, ◌↔◌, ◌⊎◌, 
 ghost use Rattle.std.specs.Io.KnownBytes.{IsAtEnd};
 ghost use Rattle.mesh_base.specs.declared.events.Variant.TheVariants.{Base};
 ghost use Rattle.mesh_io.specs.Cause.{Rose};
+ghost use Rattle.mesh_text.specs.Schedule.{opening};
 ghost use Rattle.mesh_text.specs.Text.{text_of_input, Finished};
 ghost use Rattle.mesh_run.specs.Causes.{HasStatusCause, HasSourceCause};
 ghost use Rattle.mesh_why.specs.Routes.{asked_of};
@@ -15,7 +16,34 @@ use mesh_run::{Point, Say, Status, do_input};
 use mesh_trail::Trail;
 use std::alloc::Global;
 
-// Runs a schedule, and writes the last line of its text and the line of the route.
+// Runs a schedule from its start on, and writes the last line of its text and the line of the
+// route.
+fn answer_from<I: Source, O: Sink>(
+    alloc: Global,
+    at: &mut Point<Trail>,
+    asked: Asked,
+    input: &mut I,
+    out: &mut O,
+) -> Status
+    requires { at.old ≡ opening Base }
+    ensures told { IfSome (I.left input.old) (λ bytes. IsAnswered (asked.node.0, asked.dest.0) bytes
+        (I.left input.new) (O.held out.old) (O.held out.new) result) }
+    ensures end { result ≡ Status.Done → IsAtEnd (I.left input.new) }
+    ensures read { HasSourceCause (I.faults input.old) (I.faults input.new) result }
+    ensures write { HasStatusCause Status.WriteFault (O.faults out.old) (O.faults out.new) result }
+    ensures words { result ≢ Status.Usage }
+{
+    let status = do_input(alloc, at, Say::Last, input, out);
+    if status != Status::Done {
+        return status;
+    }
+    match put_route(at.mesh(), walk_at(at, asked), out) {
+        Ok(()) => Status::Done,
+        Err(_) => Status::WriteFault,
+    }
+}
+
+// The same, in a world of its own.
 fn answer<I: Source, O: Sink>(alloc: Global, asked: Asked, input: &mut I, out: &mut O) -> Status
     ensures told { IfSome (I.left input.old) (λ bytes. IsAnswered (asked.node.0, asked.dest.0) bytes
         (I.left input.new) (O.held out.old) (O.held out.new) result) }
@@ -25,14 +53,7 @@ fn answer<I: Source, O: Sink>(alloc: Global, asked: Asked, input: &mut I, out: &
     ensures words { result ≢ Status.Usage }
 {
     let mut at: Point<Trail> = Point::start();
-    let status = do_input(alloc, &mut at, Say::Last, input, out);
-    if status != Status::Done {
-        return status;
-    }
-    match put_route(at.mesh(), walk_at(&at, asked), out) {
-        Ok(()) => Status::Done,
-        Err(_) => Status::WriteFault,
-    }
+    answer_from(alloc, &mut at, asked, input, out)
 }
 
 /// Runs the schedule that the source gives, in a world of its own where all nodes run the protocol
