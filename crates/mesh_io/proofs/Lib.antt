@@ -3,6 +3,7 @@ pub mod Giving
 pub mod Counting
 pub mod Causes
 pub mod FirstLines
+pub mod Near
 pub mod FirstParts
 pub mod Deciding
 pub mod Following

@@ -110,7 +110,14 @@ impl<'s, S: Source, const ROOM: usize> Cutter<'s, S, ROOM> {
         self.size = 0;
         let count = self.buffer.read(self.source)?;
         self.ended = count == 0;
-        self.decision = decide(self.most, self.given, self.ended, self.buffer.bytes());
+        let pending = self.buffer.bytes();
+        decide(
+            self.most,
+            self.given,
+            self.ended,
+            pending,
+            &mut self.decision,
+        );
         Ok(())
     }
 
@@ -131,7 +138,13 @@ impl<'s, S: Source, const ROOM: usize> Cutter<'s, S, ROOM> {
         self.size = size;
         self.given += size;
         let pending = &self.buffer.bytes()[size..];
-        self.decision = decide(self.most, self.given, self.ended, pending);
+        decide(
+            self.most,
+            self.given,
+            self.ended,
+            pending,
+            &mut self.decision,
+        );
     }
 
     /// Finds the next line, if there is one.
