@@ -1,5 +1,6 @@
 -- What the usual lines come to.
-use Rattle.std.proofs.Common.{◌≡◌, ℕ, Bool, List, [], ◌∷◌, Some, Result, Ok, refl, ap, ◌∙◌}
+use Rattle.std.proofs.Common.{◌≡◌, ℕ, Bool, List, [], ◌∷◌, ◌++◌, Some, Result, Ok, take, drop, refl, sym, ap, ◌∙◌}
+use Rattle.std.proofs.lemmas.List.{take-append-drop}
 use Rattle.std.proofs.lemmas.Option.{none-some}
 use Rattle.mesh_base.specs.Addresses.{address_of}
 use Rattle.mesh_base.specs.Meshes.{Nodes, index_of}
@@ -13,6 +14,14 @@ use Rattle.mesh_grammar.specs.Scripts.{shape_by, shape_with}
 use Rattle.mesh_grammar.specs.declared.command.Command.TheVariants as command
 use Rattle.mesh_text.specs.Schedule.{Accepted, Does, line_of, after_nodes, accepted_shape, result_and_then}
 use Rattle.mesh_script.proofs.Cuts.{only_address, only_number}
+
+-- bytes that begin with two fours
+pub two_fours : (bytes rest word front back : List ℕ) → take 4 bytes ≡ front → rest ≡ drop 4 bytes → take 4 rest ≡ back → word ≡ drop 4 rest
+    → bytes ≡ front ++ (back ++ word)
+two_fours bytes rest word front back one more two last =
+    sym (take-append-drop 4 bytes)
+    ∙ ap (λ l. l ++ drop 4 bytes) one
+    ∙ ap (λ l. front ++ l) (sym more ∙ sym (take-append-drop 4 rest) ∙ ap (λ l. l ++ drop 4 rest) two ∙ ap (λ l. back ++ l) (sym last))
 
 -- a mesh that has a node of this address has a node
 some_nodes : (mesh : Nodes) (a x : ℕ) (r : Result Accepted LineFault) → index_of mesh a ≡ Some x → after_nodes mesh r ≡ r

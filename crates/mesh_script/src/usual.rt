@@ -1,6 +1,6 @@
 //! Turns and deliveries: most lines of a long schedule are one of these, and they are read without
 //! looking for words.
-ghost use Rattle.std.specs.Prelude.{◌≡◌, ◌+◌, ◌<◌, ◌^◌, ◌∷◌, Bool, length, IfSome, Ok};
+ghost use Rattle.std.specs.Prelude.{◌≡◌, ◌↔◌, ◌+◌, ◌<◌, ◌^◌, ◌∷◌, Bool, IsTrue, length, IfSome, Ok};
 ghost use Rattle.mesh_text.specs.Schedule.{line_of};
 ghost use Rattle.mesh_script.specs.Seen.{accepted_of};
 
@@ -36,13 +36,22 @@ fn delivery<'a>(word: &[u8], mesh: &Mesh) -> Option<Line<'a>>
     Some(Line::Step(Event::Deliver { id }))
 }
 
+// Whether four bytes are these: as numbers they are compared at once.
+#[inline(always)]
+fn are(bytes: &[u8; 4], name: &[u8; 4]) -> bool
+    ensures { IsTrue result ↔ (bytes.now ≡ name.now) }
+{
+    u32::from_le_bytes(*bytes) == u32::from_le_bytes(*name)
+}
+
 // What follows `turn` and its space.
 #[inline(always)]
 fn after_turn(bytes: &[u8]) -> Option<&[u8]>
     ensures { IfSome result (λ word. bytes.now ≡ 116 ∷ 117 ∷ 114 ∷ 110 ∷ 32 ∷ word.now) }
 {
-    match bytes {
-        [b't', b'u', b'r', b'n', b' ', word @ ..] => Some(word),
+    let (name, rest) = bytes.split_first_chunk::<4>()?;
+    match rest {
+        [b' ', word @ ..] if are(name, b"turn") => Some(word),
         _ => None,
     }
 }
@@ -53,9 +62,12 @@ fn after_deliver(bytes: &[u8]) -> Option<&[u8]>
     ensures { IfSome result
         (λ word. bytes.now ≡ 100 ∷ 101 ∷ 108 ∷ 105 ∷ 118 ∷ 101 ∷ 114 ∷ 32 ∷ word.now) }
 {
-    match bytes {
-        [b'd', b'e', b'l', b'i', b'v', b'e', b'r', b' ', word @ ..] => Some(word),
-        _ => None,
+    let (front, rest) = bytes.split_first_chunk::<4>()?;
+    let (back, word) = rest.split_first_chunk::<4>()?;
+    if are(front, b"deli") && are(back, b"ver ") {
+        Some(word)
+    } else {
+        None
     }
 }
 
