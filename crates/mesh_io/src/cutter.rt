@@ -93,7 +93,8 @@ impl<'s, S: Source, const ROOM: usize> Cutter<'s, S, ROOM> {
         !matches!(self.decision, Decision::Open)
     }
 
-    // Puts bytes behind those that are pending.
+    // Puts bytes behind those that are pending. Few lines need it.
+    #[cold]
     fn read(&mut self) -> Result<(), Failed>
         requires { decides_in self.old ≡ false }
         ensures same { self.new.source.ghost_name ≡ self.old.source.ghost_name }

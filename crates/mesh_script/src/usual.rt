@@ -38,7 +38,7 @@ fn delivery<'a>(word: &[u8], mesh: &Mesh) -> Option<Line<'a>>
 
 // Whether four bytes are these: as numbers they are compared at once.
 #[inline(always)]
-fn are(bytes: &[u8; 4], name: &[u8; 4]) -> bool
+fn are_equal(bytes: &[u8; 4], name: &[u8; 4]) -> bool
     ensures { IsTrue result ↔ (bytes.now ≡ name.now) }
 {
     u32::from_le_bytes(*bytes) == u32::from_le_bytes(*name)
@@ -51,7 +51,7 @@ fn after_turn(bytes: &[u8]) -> Option<&[u8]>
 {
     let (name, rest) = bytes.split_first_chunk::<4>()?;
     match rest {
-        [b' ', word @ ..] if are(name, b"turn") => Some(word),
+        [b' ', word @ ..] if are_equal(name, b"turn") => Some(word),
         _ => None,
     }
 }
@@ -64,7 +64,7 @@ fn after_deliver(bytes: &[u8]) -> Option<&[u8]>
 {
     let (front, rest) = bytes.split_first_chunk::<4>()?;
     let (back, word) = rest.split_first_chunk::<4>()?;
-    if are(front, b"deli") && are(back, b"ver ") {
+    if are_equal(front, b"deli") && are_equal(back, b"ver ") {
         Some(word)
     } else {
         None
