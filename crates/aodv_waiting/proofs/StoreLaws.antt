@@ -1,10 +1,9 @@
 -- What rows show: what the store that they show says of each destination, and how it changes with them.
-use Rattle.std.proofs.Common.{◌≡◌, ◌≢◌, ◌<◌, ◌≤◌, ℕ, zero, suc, ◌+◌, ◌-◌, Bool, true, false, cond, eqb, ◌&&◌, ◌||◌, List, [], ◌∷◌, ◌++◌, map, length, get_or, Option, Some, None, refl, sym, ap, subst, ◌∙◌, arith, eq-eqb, inl, inr}
+use Rattle.std.proofs.Common.{◌≡◌, ◌≢◌, ◌<◌, ◌≤◌, ℕ, zero, suc, ◌+◌, ◌-◌, Bool, true, false, cond, ◌&&◌, ◌||◌, List, [], ◌∷◌, ◌++◌, map, length, get_or, Option, Some, None, refl, sym, ap, subst, ◌∙◌, arith, eq-eqb, inl, inr}
 use Rattle.std.proofs.Math.ListN.{set as put}
 use Rattle.std.proofs.Math.Seq.{map-set_same}
-use Rattle.std.specs.Prelude.{not, slice_get, OnOk}
+use Rattle.std.specs.Prelude.{not, slice_get, OnOk, IsTrue, ◌↔◌}
 use Rattle.std.proofs.Common.{Result, Ok, Err}
-use Rattle.std.proofs.lemmas.Bool.Decides.{nat_tests}
 use Rattle.mesh_base.specs.declared.bytes.NoMemory.{NoMemory}
 use Rattle.aodv_model.specs.Handlers.{first_body}
 use Rattle.std.specs.List.{AllByRecursion}
@@ -232,24 +231,20 @@ module _ {X : Type 0} (room_of : X → ℕ) (rings : List X) where
     ];
   }
 
-  pub room_made : (d : ℕ) (ring : X) (r : Result (Unit {0}) NoMemory) (len capacity : ℕ) → d < length rings → room_of ring ≡ capacity - len → OnOk r (len < capacity) → OnOk r (0 < get_or (map room_of (put rings d ring)) d 0)
-  room_made d ring (Ok u) len capacity lt room made = let new = room_put_here d ring lt in omega arith
-  room_made d ring (Err e) len capacity lt room made = made
+  pub room_made : (d : ℕ) (ring : X) (r : Result (Unit {0}) NoMemory) → d < length rings → OnOk r (0 < room_of ring) → OnOk r (0 < get_or (map room_of (put rings d ring)) d 0)
+  room_made d ring (Ok u) lt made = let new = room_put_here d ring lt in omega arith
+  room_made d ring (Err e) lt made = made
 
 pub room_there : (rooms : List ℕ) (d : ℕ) → 0 < get_or rooms d 0 → d < length rooms
 room_there rooms d some =
     elim (cases_lt d (length rooms)) [ inl lt ↦ lt | inr past ↦ absurd (let none : get_or rooms d 0 ≡ 0 = get_or_past rooms d 0 past in omega arith) ]
 
-pub none_left : (bs : List Body) → eqb (length bs) 0 ≡ true → bs ≡ []
-none_left [] e = refl
-none_left (b ∷ bs) e = absurd (no_len (length bs) e)
+pub some_left : (b : Bool) (bs : List Body) → (IsTrue b ↔ (bs ≡ [])) → b ≡ false → has_data bs ≡ true
+some_left b [] is e = absurd (not_both (sym e ∙ is.1 refl))
   where
-    no_len : (n : ℕ) → eqb (suc n) 0 ≡ true → ⊥
-    no_len n e = grind (arith, nat_tests)
-
-pub some_left : (bs : List Body) → eqb (length bs) 0 ≡ false → has_data bs ≡ true
-some_left [] e = cc
-some_left (b ∷ bs) e = refl
+    not_both : false ≡ true → ⊥
+    not_both e = cc
+some_left b (x ∷ bs) is e = refl
 
 -- ---- data of a row
 

@@ -2,5 +2,7 @@
 -- specs/Cores).
 -- Seen: what is seen of a store: its data, and for how many more there is room.
 pub mod Seen
--- Rows: how one ring of data for each destination, and two sets of destinations, show a store.
+-- Rows: how the data for each destination, and two sets of destinations, show a store.
 pub mod Rows
+-- Places: the places for the data of one destination.
+pub mod Places

@@ -1,11 +1,9 @@
 -- A store kept as a list of data for each node, the set of the destinations with data, and the set
 -- of those that need a request.
-use Rattle.std.specs.Prelude.{◌≡◌, ◌≤◌, ℕ, ◌+◌, ◌-◌, Bool, true, List, [], ◌∷◌, length, slice_index_or, Option, Some, None}
+use Rattle.std.specs.Prelude.{◌≡◌, ◌≤◌, ℕ, ◌+◌, Bool, true, List, [], ◌∷◌, length, slice_index_or, Option, Some, None, Box}
 use Rattle.std.specs.List.{AllByRecursion}
 use Rattle.std.specs.FinMap as maps
 use Rattle.std.specs.FinSet as sets
-use Rattle.std.specs.declared.collections.VecDeque.{VecDeque}
-use Rattle.std.specs.VecDeque.{deque_len, deque_capacity}
 use Rattle.mesh_base.specs.declared.limits.TheConstants.{MOST_NODES}
 use Rattle.mesh_base.specs.Members.{NodeIds}
 use Rattle.aodv_model.specs.Cores.{Body, Waiting, Store, has_data}
@@ -39,9 +37,21 @@ store_from needing i (row ∷ rows) =
 unfoldable pub store_of : NodeIds → Rows → Store
 store_of needing rows = store_from needing 0 rows
 
--- for how many more data a ring has room
-abbrev pub room_of : {X Z : Type 0} → VecDeque X Z → ℕ
-room_of ring = deque_capacity ring - deque_len ring
+-- what is seen of what waits for one destination: its data, and for how many more there is room
+pub record RoomyRow : Type 0 where
+  pub bodies : List Body
+  pub room : ℕ
+
+abbrev pub bodies_in_row : RoomyRow → List Body
+bodies_in_row row = row.bodies
+
+abbrev pub room_in_row : RoomyRow → ℕ
+room_in_row row = row.room
+
+-- no data, and no room, unless there are places
+abbrev pub row_of : {Z : Type 0} → Option (Box RoomyRow Z) → RoomyRow
+row_of None = record { bodies = []; room = 0 }
+row_of (Some places) = places.value
 
 -- what the rows and the two sets keep: no more rows than a mesh has nodes; the destinations with
 -- data; only such need a request; each datum has its size

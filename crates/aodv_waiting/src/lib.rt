@@ -3,6 +3,7 @@
 //! Room is made before a datum comes, so that its coming takes no memory.
 #![tactic(auto)]
 
+mod row;
 mod waiting;
 
 pub use waiting::Waiting;

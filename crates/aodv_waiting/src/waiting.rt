@@ -2,22 +2,22 @@
 ghost use Rattle.std.specs.Prelude.{◌≡◌, ◌<◌, ◌≤◌, ◌+◌, ◌-◌, ◌↔◌, if◌then◌else◌, ℕ, true, length, slice_index, slice_set, slice_get, IfOk, IfSome, IsSome, OnOk, OnErr, IsTrue, Some, IsOk};
 ghost use Rattle.std.specs.FinMap as maps;
 ghost use Rattle.std.specs.FinSet as sets;
-ghost use Rattle.std.specs.VecDeque.{deque_len, deque_capacity};
 ghost use Rattle.aodv_model.specs.Cores.{add, drop, unset, set, in_qD, bodies_in, needs_in};
 ghost use Rattle.aodv_model.specs.Handlers.{first_body};
 ghost use Rattle.aodv_model.specs.Soundness.{IsDatum, IsStoreInMesh};
 
+use crate::row::Row;
 use aodv_entry::Dests;
 use mesh_base::{Bytes, MOST_NODES, NoMemory, NodeSet};
 use std::alloc::Global;
-use std::collections::VecDeque;
 use std::marker::Model;
 
 /// The data that wait for each destination, and which destinations need a route request.
 #[derive(Drop)]
 pub struct Waiting {
-    // The data for each destination, the one that came first at the front.
-    rows: Vec<VecDeque<Bytes>>,
+    // The data for each destination.
+    rows: Vec<Row>,
+    alloc: Global,
     with_data: NodeSet,
     // Those of `with_data` that need a request.
     needing: NodeSet,
@@ -25,44 +25,20 @@ pub struct Waiting {
 
 impl Model for Waiting {
     ghost use Rattle.std.specs.Prelude.{map};
-    ghost use Rattle.std.specs.VecDeque.{deque_items};
     ghost use Rattle.aodv_waiting.specs.Seen.{RoomyStore, store_code};
 
     ghost Value = { RoomyStore };
 
     ghost coded = { store_code };
 
-    ghost use Rattle.aodv_waiting.specs.Rows.{store_of, room_of, AreRows};
+    ghost use Rattle.aodv_waiting.specs.Rows.{store_of, bodies_in_row, room_in_row, AreRows};
 
     ghost view = { λ a. record {
-      store = store_of a.needing (map deque_items a.rows.items);
-      rooms = map room_of a.rows.items;
+      store = store_of a.needing (map bodies_in_row a.rows.items);
+      rooms = map room_in_row a.rows.items;
     } };
 
-    ghost invariant = { λ a. AreRows (map deque_items a.rows.items) a.with_data a.needing };
-}
-
-// Room for one more datum. A full ring doubles, so that many data take time in proportion to their
-// number.
-fn make_room_in(ring: &mut VecDeque<Bytes>) -> Result<(), NoMemory>
-    ensures items { ring.new.items ≡ ring.old.items }
-    ensures len { deque_len ring.new ≡ deque_len ring.old }
-    ensures here { OnOk result (deque_len ring.new < deque_capacity ring.new) }
-    ensures there { deque_len ring.old < deque_capacity ring.old → IsOk result }
-    ensures still { deque_len ring.old < deque_capacity ring.old
-        → deque_capacity ring.new ≡ deque_capacity ring.old }
-    ensures keeps { deque_capacity ring.old ≤ deque_capacity ring.new }
-    ensures refused { OnErr result (deque_capacity ring.new ≡ deque_capacity ring.old) }
-{
-    let most = ring.capacity();
-    if ring.len() < most {
-        return Ok(());
-    }
-    let more = most.max(4);
-    match ring.reserve_exact(more) {
-        Ok(()) => Ok(()),
-        Err(_) => Err(NoMemory),
-    }
+    ghost invariant = { λ a. AreRows (map bodies_in_row a.rows.items) a.with_data a.needing };
 }
 
 // A destination without data before needs a request.
@@ -95,10 +71,11 @@ impl Waiting {
     {
         let mut rows = Vec::with_capacity(alloc, nodes)?;
         for _ in 0..nodes {
-            rows.push(VecDeque::new(alloc))?;
+            rows.push(Row::new())?;
         }
         Ok(Waiting {
             rows,
+            alloc,
             with_data: NodeSet::new(),
             needing: NodeSet::new(),
         })
@@ -116,7 +93,7 @@ impl Waiting {
         ensures refused { OnErr result (self.new ≡ self.old) }
     {
         let row = &mut self.rows[d];
-        make_room_in(row)
+        row.make_room(self.alloc)
     }
 
     /// The datum waits for d, behind those that are there. A destination that had none needs a
@@ -129,7 +106,7 @@ impl Waiting {
             self.new.rooms ≡ slice_set self.old.rooms d (room - 1) }
     {
         let row = &mut self.rows[d];
-        row.push_back_reserved(body);
+        row.push(body);
         mark_if_new(&mut self.needing, &self.with_data, d);
         self.with_data.add(d);
     }
@@ -149,7 +126,7 @@ impl Waiting {
             IfSome result (λ body. body.now ≡ first_body bodies) }
         ensures datum { IfSome result (λ body. IsDatum body.now) }
     {
-        match self.rows[d].front() {
+        match self.rows[d].get(0) {
             Some(body) => Some(body.as_slice()),
             None => None,
         }
@@ -163,8 +140,7 @@ impl Waiting {
         ensures keeps { (q : ℕ) → slice_index self.old.rooms q ≤ slice_index self.new.rooms q }
     {
         let row = &mut self.rows[d];
-        row.pop_front();
-        if row.is_empty() {
+        if row.pop() {
             self.with_data.remove(d);
             self.needing.remove(d);
         }

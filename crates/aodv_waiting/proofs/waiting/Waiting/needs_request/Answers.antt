@@ -1,7 +1,7 @@
 use Rattle.std.proofs.Common.{map, sym, ap, ◌∙◌}
-use Rattle.std.specs.VecDeque.{deque_items}
+use Rattle.aodv_waiting.specs.Rows.{bodies_in_row}
 use Rattle.aodv_waiting.proofs.StoreLaws.{needs_shown}
 use Rattle.aodv_waiting.proofs.waiting.Waiting.needs_request.Goals as goal
 
 pub returns : goal.returns
-returns c = c.has.ensures.value ∙ sym (needs_shown c.self.inside.with_data c.self.inside.needing (map deque_items c.self.inside.rows.items) c.args.self.now.store c.args.d c.self.invariant (ap (λ s. s.store) c.self.view_is))
+returns c = c.has.ensures.value ∙ sym (needs_shown c.self.inside.with_data c.self.inside.needing (map bodies_in_row c.self.inside.rows.items) c.args.self.now.store c.args.d c.self.invariant (ap (λ s. s.store) c.self.view_is))

@@ -3,8 +3,7 @@ use Rattle.std.specs.FinMap as maps
 use Rattle.std.specs.FinSet as sets
 use Rattle.mesh_base.specs.Members.{NodeIds}
 use Rattle.aodv_model.specs.Cores.{Store, set}
-use Rattle.std.specs.VecDeque.{deque_items}
-use Rattle.aodv_waiting.specs.Rows.{room_of}
+use Rattle.aodv_waiting.specs.Rows.{bodies_in_row, room_in_row}
 use Rattle.aodv_waiting.proofs.ChangeLaws.{AreMarked, none_marked, one_marked, next_key, all_keys, set_is, set_kept}
 use Rattle.aodv_waiting.proofs.waiting.Waiting.set_req.Goals as goal
 
@@ -25,15 +24,15 @@ loop-k-preserved c =
 pub invariant_of-self : goal.invariant_of-self
 invariant_of-self c =
     let inv = c.loop-k.invariant in
-    rw (inv.rows, inv.with_data) (set_kept (map deque_items c.self.inside.rows.items) c.self.inside.with_data c.self.inside.needing c.loop-k.self-inside.needing _ c.self.invariant inv.marked)
+    rw (inv.rows, inv.with_data) (set_kept (map bodies_in_row c.self.inside.rows.items) c.self.inside.with_data c.self.inside.needing c.loop-k.self-inside.needing _ c.self.invariant inv.marked)
 
 pub returns-clause-store : goal.returns-clause-store
 returns-clause-store c =
     let inv = c.loop-k.invariant in
     let all : take c.loop-k.k (maps.keys c.args.dests.now) ≡ maps.keys c.args.dests.now = all_keys c.args.dests.now c.loop-k.k (omega (arith, c.len-k-end.ensures.value, c.loop-k-test.false)) in
     rw inv.rows
-    (set_is (map deque_items c.self.inside.rows.items) c.self.inside.with_data c.self.inside.needing c.loop-k.self-inside.needing c.args.dests.now c.self.invariant (subst (AreMarked c.self.inside.with_data c.self.inside.needing c.loop-k.self-inside.needing) all inv.marked)
+    (set_is (map bodies_in_row c.self.inside.rows.items) c.self.inside.with_data c.self.inside.needing c.loop-k.self-inside.needing c.args.dests.now c.self.invariant (subst (AreMarked c.self.inside.with_data c.self.inside.needing c.loop-k.self-inside.needing) all inv.marked)
     ∙ ap (λ (s : Store). set s c.args.dests.now) (ap (λ s. s.store) c.self.view_is))
 
 pub returns-clause-rooms : goal.returns-clause-rooms
-returns-clause-rooms c = ap (λ r. map room_of r.items) c.loop-k.invariant.rows ∙ ap (λ s. s.rooms) c.self.view_is
+returns-clause-rooms c = ap (λ r. map room_in_row r.items) c.loop-k.invariant.rows ∙ ap (λ s. s.rooms) c.self.view_is

@@ -1,0 +1,227 @@
+//! The data that wait for one destination.
+ghost use Rattle.std.specs.Prelude.{◌≡◌, ◌<◌, ◌≤◌, ◌++◌, ◌∷◌, [], ◌+◌, ◌-◌, ◌↔◌, true, length, drop, slice_index_or, nat_lt, IfOk, IfSome, IsSome, IsTrue, IsOk, OnOk, OnErr};
+ghost use Rattle.std.specs.VecDeque.{deque_len, deque_capacity};
+
+use mesh_base::{Bytes, NoMemory};
+use std::alloc::Global;
+use std::collections::VecDeque;
+use std::marker::Model;
+
+/// Places for the data of one destination.
+#[derive(Drop)]
+struct Places {
+    // Most destinations that have data have one datum, which takes no memory of its own.
+    first: Option<Bytes>,
+    // Those behind the first.
+    rest: VecDeque<Bytes>,
+    // Room for one more was made. Other free places aren't promised to anyone.
+    roomy: bool,
+}
+
+impl Model for Places {
+    ghost use Rattle.aodv_waiting.specs.Rows.{RoomyRow};
+
+    ghost Value = { RoomyRow };
+
+    ghost use Rattle.aodv_waiting.specs.Places.{bodies_of, room_if, ArePlaces};
+
+    ghost view = { λ p. record { bodies = bodies_of p.first p.rest; room = room_if p.roomy } };
+
+    ghost invariant = { λ p. ArePlaces p.first p.rest p.roomy };
+}
+
+/// The data for one destination, the one that came first at the front. It takes memory only while
+/// there are data, or room was made for one.
+#[derive(Drop)]
+pub(crate) struct Row {
+    places: Option<Box<Places>>,
+}
+
+impl Model for Row {
+    ghost use Rattle.aodv_waiting.specs.Rows.{RoomyRow};
+
+    ghost Value = { RoomyRow };
+
+    ghost use Rattle.aodv_waiting.specs.Rows.{row_of};
+
+    ghost view = { λ r. row_of r.places };
+}
+
+// Room for one more datum. A full ring doubles, so that many data take time in proportion to their
+// number.
+fn make_room_in(ring: &mut VecDeque<Bytes>) -> Result<(), NoMemory>
+    ensures items { ring.new.items ≡ ring.old.items }
+    ensures here { OnOk result (deque_len ring.new < deque_capacity ring.new) }
+    ensures keeps { deque_capacity ring.old ≤ deque_capacity ring.new }
+{
+    let most = ring.capacity();
+    if ring.len() < most {
+        return Ok(());
+    }
+    let more = most.max(2);
+    match ring.reserve_exact(more) {
+        Ok(()) => Ok(()),
+        Err(_) => Err(NoMemory),
+    }
+}
+
+impl Places {
+    // Room for one datum.
+    fn new(alloc: Global) -> Places
+        ensures bodies { result.bodies ≡ [] }
+        ensures room { result.room ≡ 1 }
+    {
+        Places {
+            first: None,
+            rest: VecDeque::new(alloc),
+            roomy: true,
+        }
+    }
+
+    fn make_room(&mut self) -> Result<(), NoMemory>
+        ensures bodies { self.new.bodies ≡ self.old.bodies }
+        ensures here { OnOk result (0 < self.new.room) }
+        ensures there { 0 < self.old.room → IsOk result }
+        ensures still { 0 < self.old.room → self.new ≡ self.old }
+        ensures keeps { self.old.room ≤ self.new.room }
+        ensures refused { OnErr result (self.new ≡ self.old) }
+    {
+        if self.roomy {
+            return Ok(());
+        }
+        if self.first.is_some() {
+            make_room_in(&mut self.rest)?;
+        }
+        self.roomy = true;
+        Ok(())
+    }
+
+    fn push(&mut self, body: Bytes)
+        requires { 0 < self.old.room }
+        ensures bodies { self.new.bodies ≡ self.old.bodies ++ body ∷ [] }
+        ensures room { self.new.room ≡ self.old.room - 1 }
+    {
+        self.roomy = false;
+        if self.first.is_none() {
+            self.first = Some(body);
+            return;
+        }
+        self.rest.push_back_reserved(body);
+    }
+
+    fn pop(&mut self)
+        ensures bodies { self.new.bodies ≡ drop 1 self.old.bodies }
+        ensures room { self.new.room ≡ self.old.room }
+    {
+        self.first = self.rest.pop_front();
+    }
+
+    fn is_empty(&self) -> bool
+        ensures { IsTrue result ↔ (self.now.bodies ≡ []) }
+    {
+        self.first.is_none()
+    }
+
+    fn has_room(&self) -> bool
+        ensures { result ≡ nat_lt 0 self.now.room }
+    {
+        self.roomy
+    }
+
+    fn len(&self) -> usize
+        ensures { result ≡ length self.now.bodies }
+    {
+        match &self.first {
+            Some(_) => 1 + self.rest.len(),
+            None => 0,
+        }
+    }
+
+    fn get(&self, k: usize) -> Option<&Bytes>
+        ensures some { IsSome result ↔ (k < length self.now.bodies) }
+        ensures body { IfSome result (λ b. b.now ≡ slice_index_or self.now.bodies k b.now) }
+    {
+        if k == 0 {
+            return self.first.as_ref();
+        }
+        self.rest.get(k - 1)
+    }
+}
+
+impl Row {
+    /// No data, and no memory.
+    pub(crate) fn new() -> Row
+        ensures { result.bodies ≡ [] }
+    {
+        Row { places: None }
+    }
+
+    /// Makes room for one more datum.
+    pub(crate) fn make_room(&mut self, alloc: Global) -> Result<(), NoMemory>
+        ensures bodies { self.new.bodies ≡ self.old.bodies }
+        ensures here { OnOk result (0 < self.new.room) }
+        ensures there { 0 < self.old.room → IsOk result }
+        ensures still { 0 < self.old.room → self.new ≡ self.old }
+        ensures keeps { self.old.room ≤ self.new.room }
+        ensures refused { OnErr result (self.new ≡ self.old) }
+    {
+        if let Some(places) = &mut self.places {
+            return places.make_room();
+        }
+        self.places = Some(Box::new(alloc, Places::new(alloc))?);
+        Ok(())
+    }
+
+    /// Puts a datum behind the others. It uses up the room for one.
+    pub(crate) fn push(&mut self, body: Bytes)
+        requires { 0 < self.old.room }
+        ensures bodies { self.new.bodies ≡ self.old.bodies ++ body ∷ [] }
+        ensures room { self.new.room ≡ self.old.room - 1 }
+    {
+        match &mut self.places {
+            Some(places) => places.push(body),
+            None => unreachable!(),
+        }
+    }
+
+    /// Takes the datum in front away, and answers whether none is left. Then the memory is given
+    /// back, where none of it is promised.
+    pub(crate) fn pop(&mut self) -> bool
+        ensures bodies { self.new.bodies ≡ drop 1 self.old.bodies }
+        ensures empty { IsTrue result ↔ (self.new.bodies ≡ []) }
+        ensures room { self.new.room ≡ self.old.room }
+    {
+        let Some(places) = &mut self.places else {
+            return true;
+        };
+        places.pop();
+        if !places.is_empty() {
+            return false;
+        }
+        if !places.has_room() {
+            self.places = None;
+        }
+        true
+    }
+
+    /// The number of data.
+    pub(crate) fn len(&self) -> usize
+        ensures { result ≡ length self.now.bodies }
+    {
+        match &self.places {
+            Some(places) => places.len(),
+            None => 0,
+        }
+    }
+
+    /// The k-th datum from the front, counted from 0, if there are so many.
+    pub(crate) fn get(&self, k: usize) -> Option<&Bytes>
+        ensures some { IsSome result ↔ (k < length self.now.bodies) }
+        ensures body { IfSome result (λ b. b.now ≡ slice_index_or self.now.bodies k b.now) }
+    {
+        match &self.places {
+            Some(places) => places.get(k),
+            None => None,
+        }
+    }
+}
