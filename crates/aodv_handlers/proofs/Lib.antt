@@ -8,3 +8,4 @@ pub mod Stated
 pub mod Refused
 pub mod Replies
 pub mod Delivered
+pub mod Neighbours

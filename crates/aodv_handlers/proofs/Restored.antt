@@ -53,5 +53,5 @@ updates_back rt rt' a b r s kept_a kept_b is a_is b_is =
     (λ i. with_entry (with_entry (is i) b (b_is i)) a (a_is i)) ∙ all
 
 -- what two updates of the code make
-pub updated_twice : (rt rt1 rt2 : Table) (a b : ℕ) (r r' s s' : Entry) → rt1 ≡ update rt a r → r ≡ r' → rt2 ≡ update rt1 b s → s ≡ s' → rt2 ≡ update (update rt a r') b s'
-updated_twice rt rt1 rt2 a b r r' s s' h1 h2 h3 h4 = h3 ∙ (λ i. update ((h1 ∙ ap (update rt a) h2) i) b (h4 i))
+pub updated_twice : (rt rt1 rt2 : Table) (a b : ℕ) (r s s' : Entry) → rt1 ≡ update rt a r → rt2 ≡ update rt1 b s → s ≡ s' → rt2 ≡ update (update rt a r) b s'
+updated_twice rt rt1 rt2 a b r s s' h1 h2 h3 = h2 ∙ (λ i. update (h1 i) b (h3 i))

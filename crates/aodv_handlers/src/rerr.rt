@@ -15,7 +15,7 @@ ghost use Rattle.aodv_handlers.specs.Parts.{gone_by};
 
 use crate::cores::Core;
 use crate::errors::retract;
-use crate::routes::neighbour_entry;
+use crate::routes::note_neighbour;
 use crate::unicast::casting;
 use aodv_entry::{Dests, Flag};
 use aodv_table::Table;
@@ -187,6 +187,6 @@ pub fn on_rerr<T: Table>(
     ensures rooms { T.rooms core.new.table ≡ T.rooms core.old.table }
     ensures asked { core.new.asked ≡ core.old.asked }
 {
-    core.table.update(from, neighbour_entry(from));
+    note_neighbour(&mut core.table, from);
     casting(retract_stated(core, mesh, from, m, out))
 }

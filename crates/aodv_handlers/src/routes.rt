@@ -1,16 +1,16 @@
 //! What handlers read from a routing table, and the entries that they make.
-ghost use Rattle.std.specs.Prelude.{◌≡◌, ◌<◌, ◌≤◌, ◌+◌, ℕ, true, IsSome, IsNone, IfSome, nat_le};
+ghost use Rattle.std.specs.Prelude.{◌≡◌, ◌<◌, ◌≤◌, ◌↔◌, ◌+◌, ℕ, true, IsSome, IsNone, IfSome, nat_le, IsTrue};
 ghost use Rattle.std.specs.FinMap as maps;
 ghost use Rattle.std.specs.FinSet as sets;
-ghost use Rattle.aodv_model.specs.Tables.{nhop, sqn, sqnf, in_vD, add_pre};
+ghost use Rattle.aodv_model.specs.Tables.{nhop, sqn, sqnf, in_vD, update, add_pre};
 ghost use Rattle.aodv_model.specs.Handlers.{one, neighbour_entry as the_neighbour_entry, route_entry as the_route_entry};
 
 use aodv_entry::{Entry, Flag, Known};
 use aodv_table::Table;
 use mesh_base::NodeSet;
 
-/// The entry of a neighbour that was heard.
-pub(crate) fn neighbour_entry(from: usize) -> Entry
+// The entry of a neighbour that was heard.
+fn neighbour_entry(from: usize) -> Entry
     ensures { result ≡ the_neighbour_entry from }
 {
     Entry {
@@ -20,6 +20,34 @@ pub(crate) fn neighbour_entry(from: usize) -> Entry
         hops: 1,
         next: from,
         pre: NodeSet::new(),
+    }
+}
+
+// Whether an entry is that of a neighbour, whatever its number and its precursors.
+#[inline(always)]
+fn is_neighbour(e: &Entry, from: usize) -> bool
+    ensures { let learnt = the_neighbour_entry from in
+        IsTrue result ↔ (e.now ≡ record learnt { dsn = e.now.dsn; pre = e.now.pre }) }
+{
+    e.next == from && e.hops == 1 && e.flag == Flag::Val && e.dsk == Known::Unk
+}
+
+/// A neighbour was heard, and its entry is updated. Mostly that would change nothing, which is seen
+/// without a call.
+#[inline(always)]
+pub(crate) fn note_neighbour<T: Table>(table: &mut T, from: usize)
+    requires below { from < T.nodes table.old }
+    requires room { sets.contains (T.rooms table.old) from ≡ true }
+    ensures entries { T.entries table.new
+        ≡ update (T.entries table.old) from (the_neighbour_entry from) }
+    ensures rooms { T.rooms table.new ≡ T.rooms table.old }
+    ensures nodes { T.nodes table.new ≡ T.nodes table.old }
+{
+    match table.get(from) {
+        Some(e) if is_neighbour(&e, from) => {}
+        _ => {
+            table.update(from, neighbour_entry(from));
+        }
     }
 }
 

@@ -16,7 +16,7 @@ ghost use Rattle.aodv_handlers.specs.Parts.{IsNumberedAs, end_of_rrep, pass_on a
 
 use crate::cores::Core;
 use crate::messages::Reply;
-use crate::routes::{has_route, join_precursor, neighbour_entry, next_hop, route_entry};
+use crate::routes::{has_route, join_precursor, next_hop, note_neighbour, route_entry};
 use crate::unicast::{casting, send_reply};
 use aodv_entry::Flag;
 use aodv_table::Table;
@@ -134,7 +134,7 @@ pub fn take_reply<T: Table>(
     }
     let kept_from = core.table.get(from);
     let kept_dip = core.table.get(m.dip);
-    core.table.update(from, neighbour_entry(from));
+    note_neighbour(&mut core.table, from);
     let changed = core.table.update(m.dip, route_entry(m.dsn, m.hops, from));
     let Some(reply) = reply_to_pass_on(core, changed, *m) else {
         out.clear();

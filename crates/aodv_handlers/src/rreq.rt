@@ -12,7 +12,7 @@ ghost use Rattle.aodv_handlers.specs.Made.{Reacts, TakesTurn};
 
 use crate::cores::Core;
 use crate::messages::{Reply, Request};
-use crate::routes::{join_precursor, neighbour_entry, next_hop, number, route_entry};
+use crate::routes::{join_precursor, next_hop, note_neighbour, number, route_entry};
 use crate::unicast::{casting, send_reply};
 use aodv_entry::{Entry, Flag, Known};
 use aodv_table::Table;
@@ -208,7 +208,7 @@ pub fn take_request<T: Table>(
 {
     let mark = mark_of(core.variant, m);
     if core.asked.has(m.oip, mark) {
-        core.table.update(from, neighbour_entry(from));
+        note_neighbour(&mut core.table, from);
         out.clear();
         return Ok(casting(Cast::Nothing));
     }
@@ -217,7 +217,7 @@ pub fn take_request<T: Table>(
     }
     let kept_from = core.table.get(from);
     let kept_oip = core.table.get(m.oip);
-    core.table.update(from, neighbour_entry(from));
+    note_neighbour(&mut core.table, from);
     core.table.update(m.oip, route_entry(m.osn, m.hops, from));
     match on_new(core, mesh, range, from, m, out) {
         Ok(effect) => {

@@ -23,11 +23,11 @@ pub returns-in_default-clause-does : goal.returns-in_default-clause-does
 returns-in_default-clause-does g c =
     let mesh = c.args.mesh.now in
     let core = core_of g.T.Table.entries c.args.core.now in
-    let rt1 = g.T.Table.entries c.update.new.self in
+    let rt1 = g.T.Table.entries c.note_neighbour.new.table in
     let rt2 = g.T.Table.entries c.update-changed.new.self in
     let m = reply_of c.args.m.now in
     let end = ends core c.args.range.now c.args.from m rt1 rt2 c.update-changed.result (only (record core { rt = rt2 })) (ne_eqb m.hops 255 c.if-m.false)
-    (c.update.ensures.entries ∙ ap (update core.rt c.args.from) c.neighbour_entry.ensures) (c.update-changed.ensures.entries ∙ ap (update rt1 m.dip) c.route_entry.ensures)
+    c.note_neighbour.ensures.entries (c.update-changed.ensures.entries ∙ ap (update rt1 m.dip) c.route_entry.ensures)
     c.update-changed.ensures.same
     (chosen_none (record core { rt = rt2 }) c.args.range.now _ c.reply_to_pass_on.result (c.reply_to_pass_on.ensures.does c.args.range.now) c.in_default.is) in
     ended_made mesh core c.args.range.now c.args.from m rt2 c.casting.result c.clear.new.self.items end c.casting.ensures c.clear.ensures
@@ -36,34 +36,34 @@ pub returns-in_default-clause-ready : goal.returns-in_default-clause-ready
 returns-in_default-clause-ready g c =
     let core = c.args.core.now in
     let rt = g.T.Table.entries core.table in
-    let rt1 = g.T.Table.entries c.update.new.self in
+    let rt1 = g.T.Table.entries c.note_neighbour.new.table in
     let m = c.args.m.now in
-    ready_table g.T.Table.nodes g.T.Table.entries (length c.args.mesh.now) core _ c.requires.ready (c.update-changed.ensures.nodes ∙ c.update.ensures.nodes) refl refl refl c.requires.ready.sound.own
+    ready_table g.T.Table.nodes g.T.Table.entries (length c.args.mesh.now) core _ c.requires.ready (c.update-changed.ensures.nodes ∙ c.note_neighbour.ensures.nodes) refl refl refl c.requires.ready.sound.own
     (asked_table (length c.args.mesh.now) core.me rt (g.T.Table.entries c.update-changed.new.self) c.args.from c.args.m.now.dip m.dsn m.hops c.requires.from c.requires.other c.requires.says.0 c.requires.says.2 c.requires.ready.sound.table
     (both rt rt1 (g.T.Table.entries c.update-changed.new.self) c.args.from c.args.m.now.dip (neighbour_entry c.args.from) (route_entry m.dsn m.hops c.args.from)
-    (c.update.ensures.entries ∙ ap (update rt c.args.from) c.neighbour_entry.ensures) (c.update-changed.ensures.entries ∙ ap (update rt1 c.args.m.now.dip) c.route_entry.ensures)))
+    c.note_neighbour.ensures.entries (c.update-changed.ensures.entries ∙ ap (update rt1 c.args.m.now.dip) c.route_entry.ensures)))
 
 pub pass_on-requires-clause-ready : goal.pass_on-requires-clause-ready
 pass_on-requires-clause-ready g c =
     let core = c.args.core.now in
     let rt = g.T.Table.entries core.table in
-    let rt1 = g.T.Table.entries c.update.new.self in
+    let rt1 = g.T.Table.entries c.note_neighbour.new.table in
     let m = c.args.m.now in
-    ready_table g.T.Table.nodes g.T.Table.entries (length c.args.mesh.now) core _ c.requires.ready (c.update-changed.ensures.nodes ∙ c.update.ensures.nodes) refl refl refl c.requires.ready.sound.own
+    ready_table g.T.Table.nodes g.T.Table.entries (length c.args.mesh.now) core _ c.requires.ready (c.update-changed.ensures.nodes ∙ c.note_neighbour.ensures.nodes) refl refl refl c.requires.ready.sound.own
     (asked_table (length c.args.mesh.now) core.me rt (g.T.Table.entries c.update-changed.new.self) c.args.from c.args.m.now.dip m.dsn m.hops c.requires.from c.requires.other c.requires.says.0 c.requires.says.2 c.requires.ready.sound.table
     (both rt rt1 (g.T.Table.entries c.update-changed.new.self) c.args.from c.args.m.now.dip (neighbour_entry c.args.from) (route_entry m.dsn m.hops c.args.from)
-    (c.update.ensures.entries ∙ ap (update rt c.args.from) c.neighbour_entry.ensures) (c.update-changed.ensures.entries ∙ ap (update rt1 c.args.m.now.dip) c.route_entry.ensures)))
+    c.note_neighbour.ensures.entries (c.update-changed.ensures.entries ∙ ap (update rt1 c.args.m.now.dip) c.route_entry.ensures)))
 
 pub pass_on-requires-clause-entry : goal.pass_on-requires-clause-entry
 pass_on-requires-clause-entry g c =
     let rt2 = g.T.Table.entries c.update-changed.new.self in
-    let here : in_kD rt2 c.args.m.now.dip ≡ true = ap (λ (t : Table). in_kD t c.args.m.now.dip) c.update-changed.ensures.entries ∙ update_has (g.T.Table.entries c.update.new.self) c.args.m.now.dip c.route_entry.result in
+    let here : in_kD rt2 c.args.m.now.dip ≡ true = ap (λ (t : Table). in_kD t c.args.m.now.dip) c.update-changed.ensures.entries ∙ update_has (g.T.Table.entries c.note_neighbour.new.table) c.args.m.now.dip c.route_entry.result in
     ap (in_kD rt2) c.in-Some.ensures.same.dip ∙ here
 
 pub reply_to_pass_on-requires-clause-number : goal.reply_to_pass_on-requires-clause-number
 reply_to_pass_on-requires-clause-number g c =
     let m = c.args.m.now in
-    let rt1 = g.T.Table.entries c.update.new.self in
+    let rt1 = g.T.Table.entries c.note_neighbour.new.table in
     subst (λ (t : Table). 1 ≤ sqn t c.args.m.now.dip) (sym (c.update-changed.ensures.entries ∙ ap (update rt1 c.args.m.now.dip) c.route_entry.ensures))
     (route_above rt1 c.args.m.now.dip m.dsn m.hops c.args.from c.requires.says.2)
 
@@ -71,11 +71,11 @@ pub returns-in-Ok-clause-does : goal.returns-in-Ok-clause-does
 returns-in-Ok-clause-does g c =
     let mesh = c.args.mesh.now in
     let core = core_of g.T.Table.entries c.args.core.now in
-    let rt1 = g.T.Table.entries c.update.new.self in
+    let rt1 = g.T.Table.entries c.note_neighbour.new.table in
     let rt2 = g.T.Table.entries c.update-changed.new.self in
     let m = reply_of c.args.m.now in
     let end = ends core c.args.range.now c.args.from m rt1 rt2 c.update-changed.result (pass_on (record core { rt = rt2 }) c.args.range.now (reply_of c.in-Some.reply)) (ne_eqb m.hops 255 c.if-m.false)
-    (c.update.ensures.entries ∙ ap (update core.rt c.args.from) c.neighbour_entry.ensures) (c.update-changed.ensures.entries ∙ ap (update rt1 m.dip) c.route_entry.ensures)
+    c.note_neighbour.ensures.entries (c.update-changed.ensures.entries ∙ ap (update rt1 m.dip) c.route_entry.ensures)
     c.update-changed.ensures.same
     (chosen_some (record core { rt = rt2 }) c.args.range.now _ c.reply_to_pass_on.result c.in-Some.reply (c.reply_to_pass_on.ensures.does c.args.range.now) c.in-Some.is) in
     passed_made mesh core (core_of g.T.Table.entries c.pass_on.new.core) c.args.range.now c.args.from m _ c.in-Ok.effect c.pass_on.new.out.items end c.in-Ok.ensures.does
@@ -89,22 +89,22 @@ pub returns-in-Err-clause-does : goal.returns-in-Err-clause-does
 returns-in-Err-clause-does g c =
     let mesh = c.args.mesh.now in
     let core = core_of g.T.Table.entries c.args.core.now in
-    let rt1 = g.T.Table.entries c.update.new.self in
+    let rt1 = g.T.Table.entries c.note_neighbour.new.table in
     let rt2 = g.T.Table.entries c.update-changed.new.self in
     let rt4 = g.T.Table.entries c.put-in-Err.new.self in
     let new = core_of g.T.Table.entries c.pass_on.new.core in
     let m = reply_of c.args.m.now in
     let end = ends core c.args.range.now c.args.from m rt1 rt2 c.update-changed.result (pass_on (record core { rt = rt2 }) c.args.range.now (reply_of c.in-Some.reply)) (ne_eqb m.hops 255 c.if-m.false)
-    (c.update.ensures.entries ∙ ap (update core.rt c.args.from) c.neighbour_entry.ensures) (c.update-changed.ensures.entries ∙ ap (update rt1 m.dip) c.route_entry.ensures)
+    c.note_neighbour.ensures.entries (c.update-changed.ensures.entries ∙ ap (update rt1 m.dip) c.route_entry.ensures)
     c.update-changed.ensures.same
     (chosen_some (record core { rt = rt2 }) c.args.range.now _ c.reply_to_pass_on.result c.in-Some.reply (c.reply_to_pass_on.ensures.does c.args.range.now) c.in-Some.is) in
-    let rows = back core.rt rt1 rt2 (g.T.Table.entries c.put.new.self) rt4 new.rt c.args.from c.args.m.now.dip c.neighbour_entry.result c.route_entry.result c.get-kept_from.result c.get-kept_dip.result
-    c.update.ensures.entries c.update-changed.ensures.entries c.get-kept_from.ensures.value c.get-kept_dip.ensures.value (ap (λ (c : Core). c.rt) c.in-Err.ensures.does.same) c.put.ensures.entries c.put-in-Err.ensures.entries in
+    let rows = back core.rt rt1 rt2 (g.T.Table.entries c.put.new.self) rt4 new.rt c.args.from c.args.m.now.dip (neighbour_entry c.args.from) c.route_entry.result c.get-kept_from.result c.get-kept_dip.result
+    c.note_neighbour.ensures.entries c.update-changed.ensures.entries c.get-kept_from.ensures.value c.get-kept_dip.ensures.value (ap (λ (c : Core). c.rt) c.in-Err.ensures.does.same) c.put.ensures.entries c.put-in-Err.ensures.entries in
     passed_refused core new c.args.range.now c.args.from m rt2 rt4 _ c.in-Err.full end c.in-Err.ensures.does rows
 
 pub returns-in-Err-clause-ready : goal.returns-in-Err-clause-ready
 returns-in-Err-clause-ready g c =
     let core = core_of g.T.Table.entries c.args.core.now in
-    let rows = back core.rt (g.T.Table.entries c.update.new.self) (g.T.Table.entries c.update-changed.new.self) (g.T.Table.entries c.put.new.self) (g.T.Table.entries c.put-in-Err.new.self) (g.T.Table.entries c.pass_on.new.core.table) c.args.from c.args.m.now.dip c.neighbour_entry.result c.route_entry.result c.get-kept_from.result c.get-kept_dip.result
-    c.update.ensures.entries c.update-changed.ensures.entries c.get-kept_from.ensures.value c.get-kept_dip.ensures.value (ap (λ (c : Core). c.rt) c.in-Err.ensures.does.same) c.put.ensures.entries c.put-in-Err.ensures.entries in
+    let rows = back core.rt (g.T.Table.entries c.note_neighbour.new.table) (g.T.Table.entries c.update-changed.new.self) (g.T.Table.entries c.put.new.self) (g.T.Table.entries c.put-in-Err.new.self) (g.T.Table.entries c.pass_on.new.core.table) c.args.from c.args.m.now.dip (neighbour_entry c.args.from) c.route_entry.result c.get-kept_from.result c.get-kept_dip.result
+    c.note_neighbour.ensures.entries c.update-changed.ensures.entries c.get-kept_from.ensures.value c.get-kept_dip.ensures.value (ap (λ (c : Core). c.rt) c.in-Err.ensures.does.same) c.put.ensures.entries c.put-in-Err.ensures.entries in
     ready_back g.T.Table.nodes g.T.Table.entries (length c.args.mesh.now) c.args.core.now c.pass_on.new.core _ c.requires.ready c.in-Err.ensures.ready (c.put-in-Err.ensures.nodes ∙ c.put.ensures.nodes) refl refl (λ i. record (c.in-Err.ensures.does.same i) { rt = rows i })

@@ -17,28 +17,28 @@ use Rattle.aodv_handlers.proofs.rreq.take_request.Goals as goal
 
 pub returns-then-has-clause-does : goal.returns-then-has-clause-does
 returns-then-has-clause-does g c =
-    seen_made c.args.mesh.now (core_of g.T.Table.entries c.args.core.now) c.args.range.now c.args.from (request_of c.args.m.now) (c.args.m.now.oip, c.mark_of-mark.result) (g.T.Table.entries c.update.new.self) c.casting.result c.clear.new.self.items c.mark_of-mark.ensures
+    seen_made c.args.mesh.now (core_of g.T.Table.entries c.args.core.now) c.args.range.now c.args.from (request_of c.args.m.now) (c.args.m.now.oip, c.mark_of-mark.result) (g.T.Table.entries c.note_neighbour.new.table) c.casting.result c.clear.new.self.items c.mark_of-mark.ensures
     (sym c.has.ensures ∙ c.if-has.true)
-    (c.update.ensures.entries ∙ ap (update (g.T.Table.entries c.args.core.now.table) c.args.from) c.neighbour_entry.ensures) c.casting.ensures c.clear.ensures
+    c.note_neighbour.ensures.entries c.casting.ensures c.clear.ensures
 
 pub returns-then-has-clause-ready : goal.returns-then-has-clause-ready
 returns-then-has-clause-ready g c =
     let core = c.args.core.now in
     let rt = g.T.Table.entries core.table in
     let size = length c.args.mesh.now in
-    ready_table g.T.Table.nodes g.T.Table.entries size core _ c.requires.ready c.update.ensures.nodes refl refl refl c.requires.ready.sound.own
-    (subst (IsSoundTable size core.me) (sym (c.update.ensures.entries ∙ ap (update rt c.args.from) c.neighbour_entry.ensures)) (neighbour_table size core.me rt c.args.from c.requires.from c.requires.other c.requires.ready.sound.table))
+    ready_table g.T.Table.nodes g.T.Table.entries size core _ c.requires.ready c.note_neighbour.ensures.nodes refl refl refl c.requires.ready.sound.own
+    (subst (IsSoundTable size core.me) (sym c.note_neighbour.ensures.entries) (neighbour_table size core.me rt c.args.from c.requires.from c.requires.other c.requires.ready.sound.table))
 
 pub on_new-requires-clause-ready : goal.on_new-requires-clause-ready
 on_new-requires-clause-ready g c =
     let core = c.args.core.now in
     let rt = g.T.Table.entries core.table in
-    let rt1 = g.T.Table.entries c.update-2.new.self in
-    let rt2 = g.T.Table.entries c.update-3.new.self in
+    let rt1 = g.T.Table.entries c.note_neighbour-2.new.table in
+    let rt2 = g.T.Table.entries c.update.new.self in
     let m = c.args.m.now in
-    let is = updated_twice rt rt1 rt2 c.args.from m.oip c.neighbour_entry-2.result (neighbour_entry c.args.from) c.route_entry.result (route_entry m.osn m.hops c.args.from)
-    c.update-2.ensures.entries c.neighbour_entry-2.ensures c.update-3.ensures.entries c.route_entry.ensures in
-    ready_table g.T.Table.nodes g.T.Table.entries (length c.args.mesh.now) core _ c.requires.ready (c.update-3.ensures.nodes ∙ c.update-2.ensures.nodes) refl refl refl c.requires.ready.sound.own
+    let is = updated_twice rt rt1 rt2 c.args.from m.oip (neighbour_entry c.args.from) c.route_entry.result (route_entry m.osn m.hops c.args.from)
+    c.note_neighbour-2.ensures.entries c.update.ensures.entries c.route_entry.ensures in
+    ready_table g.T.Table.nodes g.T.Table.entries (length c.args.mesh.now) core _ c.requires.ready (c.update.ensures.nodes ∙ c.note_neighbour-2.ensures.nodes) refl refl refl c.requires.ready.sound.own
     (asked_table (length c.args.mesh.now) core.me rt rt2 c.args.from m.oip m.osn m.hops c.requires.from c.requires.other c.requires.says.1 c.requires.says.2 c.requires.ready.sound.table is)
 
 pub returns-in-Ok-clause-does : goal.returns-in-Ok-clause-does
@@ -46,9 +46,9 @@ returns-in-Ok-clause-does g c =
     let mesh = c.args.mesh.now in
     let m = c.args.m.now in
     let core = core_of g.T.Table.entries c.args.core.now in
-    let rt2 = g.T.Table.entries c.update-3.new.self in
-    let is = updated_twice core.rt (g.T.Table.entries c.update-2.new.self) rt2 c.args.from m.oip c.neighbour_entry-2.result (neighbour_entry c.args.from) c.route_entry.result (route_entry m.osn m.hops c.args.from)
-    c.update-2.ensures.entries c.neighbour_entry-2.ensures c.update-3.ensures.entries c.route_entry.ensures in
+    let rt2 = g.T.Table.entries c.update.new.self in
+    let is = updated_twice core.rt (g.T.Table.entries c.note_neighbour-2.new.table) rt2 c.args.from m.oip (neighbour_entry c.args.from) c.route_entry.result (route_entry m.osn m.hops c.args.from)
+    c.note_neighbour-2.ensures.entries c.update.ensures.entries c.route_entry.ensures in
     let end = ends core c.args.range.now c.args.from (request_of m) (m.oip, c.mark_of-mark.result) rt2 c.mark_of-mark.ensures
     (sym c.has.ensures ∙ c.if-has.false) (ne_eqb m.hops 255 c.if-m.false) is in
     new_made mesh core (core_of g.T.Table.entries c.on_new.new.core) c.args.range.now c.args.from (request_of m) (m.oip, c.mark_of-mark.result) (on_new_rreq (record core { rt = rt2 }) c.args.range.now c.args.from (request_of m)) c.in-Ok.effect c.insert.new.self.pairs c.on_new.new.out.items end c.mark_of-mark.ensures
@@ -66,19 +66,19 @@ returns-in-Err-clause-does g c =
     let mesh = c.args.mesh.now in
     let m = c.args.m.now in
     let core = core_of g.T.Table.entries c.args.core.now in
-    let rt2 = g.T.Table.entries c.update-3.new.self in
-    let is = updated_twice core.rt (g.T.Table.entries c.update-2.new.self) rt2 c.args.from m.oip c.neighbour_entry-2.result (neighbour_entry c.args.from) c.route_entry.result (route_entry m.osn m.hops c.args.from)
-    c.update-2.ensures.entries c.neighbour_entry-2.ensures c.update-3.ensures.entries c.route_entry.ensures in
+    let rt2 = g.T.Table.entries c.update.new.self in
+    let is = updated_twice core.rt (g.T.Table.entries c.note_neighbour-2.new.table) rt2 c.args.from m.oip (neighbour_entry c.args.from) c.route_entry.result (route_entry m.osn m.hops c.args.from)
+    c.note_neighbour-2.ensures.entries c.update.ensures.entries c.route_entry.ensures in
     let end = ends core c.args.range.now c.args.from (request_of m) (m.oip, c.mark_of-mark.result) rt2 c.mark_of-mark.ensures
     (sym c.has.ensures ∙ c.if-has.false) (ne_eqb m.hops 255 c.if-m.false) is in
-    let rows = back core.rt (g.T.Table.entries c.update-2.new.self) rt2 (g.T.Table.entries c.put.new.self) (g.T.Table.entries c.put-in-Err.new.self) (g.T.Table.entries c.on_new.new.core.table) c.args.from c.args.m.now.oip c.neighbour_entry-2.result c.route_entry.result c.get-kept_from.result c.get-kept_oip.result
-    c.update-2.ensures.entries c.update-3.ensures.entries c.get-kept_from.ensures.value c.get-kept_oip.ensures.value (ap (λ (c : Core). c.rt) c.in-Err.ensures.does.same) c.put.ensures.entries c.put-in-Err.ensures.entries in
+    let rows = back core.rt (g.T.Table.entries c.note_neighbour-2.new.table) rt2 (g.T.Table.entries c.put.new.self) (g.T.Table.entries c.put-in-Err.new.self) (g.T.Table.entries c.on_new.new.core.table) c.args.from c.args.m.now.oip (neighbour_entry c.args.from) c.route_entry.result c.get-kept_from.result c.get-kept_oip.result
+    c.note_neighbour-2.ensures.entries c.update.ensures.entries c.get-kept_from.ensures.value c.get-kept_oip.ensures.value (ap (λ (c : Core). c.rt) c.in-Err.ensures.does.same) c.put.ensures.entries c.put-in-Err.ensures.entries in
     stop_made core (core_of g.T.Table.entries c.on_new.new.core) c.args.range.now c.args.from (request_of m) rt2 (g.T.Table.entries c.put-in-Err.new.self) (on_new_rreq (record core { rt = rt2 }) c.args.range.now c.args.from (request_of m)) c.in-Err.full end
     c.in-Err.ensures.does rows
 
 pub returns-in-Err-clause-ready : goal.returns-in-Err-clause-ready
 returns-in-Err-clause-ready g c =
     let core = core_of g.T.Table.entries c.args.core.now in
-    let rows = back core.rt (g.T.Table.entries c.update-2.new.self) (g.T.Table.entries c.update-3.new.self) (g.T.Table.entries c.put.new.self) (g.T.Table.entries c.put-in-Err.new.self) (g.T.Table.entries c.on_new.new.core.table) c.args.from c.args.m.now.oip c.neighbour_entry-2.result c.route_entry.result c.get-kept_from.result c.get-kept_oip.result
-    c.update-2.ensures.entries c.update-3.ensures.entries c.get-kept_from.ensures.value c.get-kept_oip.ensures.value (ap (λ (c : Core). c.rt) c.in-Err.ensures.does.same) c.put.ensures.entries c.put-in-Err.ensures.entries in
+    let rows = back core.rt (g.T.Table.entries c.note_neighbour-2.new.table) (g.T.Table.entries c.update.new.self) (g.T.Table.entries c.put.new.self) (g.T.Table.entries c.put-in-Err.new.self) (g.T.Table.entries c.on_new.new.core.table) c.args.from c.args.m.now.oip (neighbour_entry c.args.from) c.route_entry.result c.get-kept_from.result c.get-kept_oip.result
+    c.note_neighbour-2.ensures.entries c.update.ensures.entries c.get-kept_from.ensures.value c.get-kept_oip.ensures.value (ap (λ (c : Core). c.rt) c.in-Err.ensures.does.same) c.put.ensures.entries c.put-in-Err.ensures.entries in
     ready_back g.T.Table.nodes g.T.Table.entries (length c.args.mesh.now) c.args.core.now c.on_new.new.core _ c.requires.ready c.in-Err.ensures.ready (c.put-in-Err.ensures.nodes ∙ c.put.ensures.nodes) refl refl (λ i. record (c.in-Err.ensures.does.same i) { rt = rows i })

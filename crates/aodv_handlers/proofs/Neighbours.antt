@@ -1,0 +1,43 @@
+-- The update by a neighbour that was heard, where it changes nothing.
+use Rattle.std.proofs.Common.{◌≡◌, ℕ, Bool, true, false, ◌||◌, nat_cmp, Some, refl, ap, sym, ◌∙◌, eq-eqb, inl, inr, arith}
+use Rattle.std.proofs.lemmas.Bool.{ne_eqb, cases_eq}
+use Rattle.std.proofs.lemmas.Bool.Decides.{nat_tests}
+use Rattle.std.proofs.lemmas.Cmp.{nat_cmp_total}
+use Rattle.std.specs.FinMap as maps
+use Rattle.std.specs.FinMap.{nat_cmp-IsAntisymmetric}
+use Rattle.std.specs.FinSet as sets
+use Rattle.mesh_base.specs.Members.{NodeIds}
+use Rattle.aodv_entry.specs.declared.entry.Entry.{Entry}
+use Rattle.aodv_model.specs.Tables.{Table, entry_after, merged, update}
+use Rattle.aodv_model.specs.Handlers.{neighbour_entry}
+use Rattle.aodv_model.proofs.Lookups.{get-update}
+
+-- the union with no node
+with_none : (s : NodeIds) → sets.union s sets.empty ≡ s
+with_none s = sets.same_set nat_cmp_total nat_cmp-IsAntisymmetric (sets.union s sets.empty) s (λ q. sets.contains-union nat_cmp_total s sets.empty q ∙ ap (λ b. sets.contains s q || b) (sets.contains-empty nat_cmp q) ∙ or_false (sets.contains s q))
+  where
+    or_false : (b : Bool) → (b || false) ≡ b
+    or_false true = refl
+    or_false false = refl
+
+-- the entry of a neighbour, whatever its number and its precursors
+abbrev known_by : Entry → ℕ → Entry
+known_by e from = record (neighbour_entry from) { dsn = e.dsn; pre = e.pre }
+
+-- such an entry stays where the neighbour is heard
+noted_stays : (e : Entry) (from : ℕ) → merged (known_by e from) (neighbour_entry from) ≡ known_by e from
+unfolding merged
+noted_stays e from = grind (arith, nat_tests, with_none e.pre)
+
+-- an update that leaves the entry leaves the table
+same_entry : (rt : Table) (d : ℕ) (e r : Entry) → Some e ≡ maps.get rt d → merged e r ≡ e → update rt d r ≡ rt
+same_entry rt d e r had stays = maps.same_map nat_cmp_total nat_cmp-IsAntisymmetric (update rt d r) rt (λ q.
+    get-update rt d r q
+    ∙ elim (cases_eq q d) [
+      | inl here ↦ rw (eq-eqb q d here, here) (ap (λ o. Some (entry_after o r)) (sym had) ∙ ap Some stays ∙ had)
+      | inr other ↦ rw (ne_eqb q d other) refl
+    ])
+
+-- a neighbour is heard whose entry is such a one
+pub noted : (rt : Table) (from : ℕ) (e : Entry) → Some e ≡ maps.get rt from → e ≡ known_by e from → rt ≡ update rt from (neighbour_entry from)
+noted rt from e had is = sym (same_entry rt from e (neighbour_entry from) had (ap (λ (x : Entry). merged x (neighbour_entry from)) is ∙ noted_stays e from ∙ sym is))
