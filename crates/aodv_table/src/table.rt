@@ -64,7 +64,8 @@ pub trait Table: Drop {
         ensures nodes { nodes self.new ≡ nodes self.old };
 
     /// Takes r, a valid entry, for the destination d (AWN's update), and answers whether the
-    /// entries changed.
+    /// entries changed. It is part of its callers, which know most of r.
+    #[inline(always)]
     fn update(&mut self, d: usize, r: Entry) -> bool
         requires below { d < nodes self.old }
         requires room { sets.contains (rooms self.old) d ≡ true }
