@@ -1,5 +1,5 @@
 -- Events that the run chooses, one after another.
-use Rattle.std.proofs.Common.{◌≡◌, ℕ, suc, ◌+◌, ◌-◌, ◌<◌, ◌≤◌, Bool, List, [], ◌++◌, Option, Some, None, Result, Ok, Err, length, refl, sym, ap, subst, ◌∙◌, arith}
+use Rattle.std.proofs.Common.{◌≡◌, ℕ, suc, ◌+◌, ◌-◌, ◌<◌, ◌≤◌, Bool, List, [], ◌++◌, Option, Some, None, Result, Ok, Err, length, refl, sym, ap, subst, ◌∙◌, append-nil, arith}
 use Rattle.std.specs.Io.KnownBytes.{Appends}
 use Rattle.mesh_base.specs.declared.events.Counter.{Counter}
 use Rattle.mesh_io.specs.Puts.{AppendsPrefix}
@@ -16,7 +16,7 @@ use Rattle.mesh_text.specs.Auto.{AutoOutcome, Ended, Full as AutoFull, before, d
 use Rattle.mesh_text.specs.Text.{LineOutcome, On, Refused, Full, outcome_of_auto, outcome_of_line, text_in}
 use Rattle.mesh_run.specs.declared.stop.Stop.{Stop}
 use Rattle.mesh_run.specs.declared.stop.Stop.TheVariants as stop
-use Rattle.mesh_run.specs.Runs.{output_if, IsLineDone, IsLineStopped, outcome_by, IsAutoDone, IsAutoRun, text_of}
+use Rattle.mesh_run.specs.Runs.{output_if, IsLineDone, IsLineStopped, outcome_by, IsAutoDone, IsAutoRun, text_of, next_in, done_from}
 use Rattle.mesh_run.proofs.Shown.{shown_none, shown_join, front_join, front_more}
 
 -- ---- how many are left
@@ -37,22 +37,33 @@ auto_from-step : (most did : ℕ) (m : Moment) (o : Option Event) → did < most
 auto_from-step most did m o h e =
     ap (λ n. auto_from n did m) (one_less most did h) ∙ auto_from-suc _ did m ∙ ap (λ c. chosen_then m did c (λ p. auto_from (most - (did + 1)) (did + 1) p)) (sym e)
 
+-- the same, where an event may be given
+done_from-step : (given : Option Event) (most did : ℕ) (m : Moment) (o : Option Event) → did < most → o ≡ next_in given m
+    → done_from given (most - did) did m ≡ chosen_then m did o (λ p. done_from given (most - (did + 1)) (did + 1) p)
+unfolding done_from
+done_from-step None most did m o h e = auto_from-step most did m o h e
+done_from-step (Some x) most did m o h e =
+    ap (λ n. done_from (Some x) n did m) (one_less most did h) ∙ ap (λ c. chosen_then m did c (λ p. done_from (Some x) (most - (did + 1)) (did + 1) p)) (sym e)
+
 -- as many were done as were asked for
 auto_from-all : (most did : ℕ) (m : Moment) → most ≤ did → auto_from (most - did) did m ≡ Ended [] did m
 auto_from-all most did m h = ap (λ n. auto_from n did m) (let z : most - did ≡ 0 = omega arith in z) ∙ auto_from-zero did m
 
--- none left to be chosen
-auto_from-none : (most did : ℕ) (m : Moment) → did < most → None ≡ pick (world_of m) → auto_from (most - did) did m ≡ Ended [] did m
-auto_from-none most did m h e = auto_from-step most did m None h e
+done_from-all : (given : Option Event) (most did : ℕ) (m : Moment) → most ≤ did → done_from given (most - did) did m ≡ Ended [] did m
+unfolding done_from
+done_from-all None most did m h = auto_from-all most did m h
+done_from-all (Some x) most did m h = ap (λ n. done_from (Some x) n did m) (let z : most - did ≡ 0 = omega arith in z)
 
 pub nothing_more : (quiet : Bool) (m : Moment) (ran : AutoOutcome) (did : ℕ) (a : Option (List ℕ)) → ran ≡ Ended [] did m → IsAutoDone quiet ran m a a did
 nothing_more quiet m ran did a e = record { text = []; is = e; grown = shown_none quiet a }
 
-pub ends_all : (quiet : Bool) (most did : ℕ) (m : Moment) (a : Option (List ℕ)) → most ≤ did → IsAutoDone quiet (auto_from (most - did) did m) m a a did
-ends_all quiet most did m a h = nothing_more quiet m (auto_from (most - did) did m) did a (auto_from-all most did m h)
+pub ends_all : (quiet : Bool) (given : Option Event) (most did : ℕ) (m : Moment) (a : Option (List ℕ)) → most ≤ did → IsAutoDone quiet (done_from given (most - did) did m) m a a did
+ends_all quiet given most did m a h = nothing_more quiet m (done_from given (most - did) did m) did a (done_from-all given most did m h)
 
-pub ends_none : (quiet : Bool) (most did : ℕ) (m : Moment) (a : Option (List ℕ)) → did < most → None ≡ pick (world_of m) → IsAutoDone quiet (auto_from (most - did) did m) m a a did
-ends_none quiet most did m a h e = nothing_more quiet m (auto_from (most - did) did m) did a (auto_from-none most did m h e)
+-- none left to be chosen
+pub ends_none : (quiet : Bool) (given : Option Event) (most did : ℕ) (m : Moment) (a : Option (List ℕ)) → did < most → None ≡ next_in given m
+    → IsAutoDone quiet (done_from given (most - did) did m) m a a did
+ends_none quiet given most did m a h e = nothing_more quiet m (done_from given (most - did) did m) did a (done_from-step given most did m None h e)
 
 -- ---- one event, and then the others
 
@@ -141,18 +152,69 @@ then_stops quiet m n e (worlds.Full x full) others a b t g = full_stops quiet m 
 then_stops quiet m n e (Next w i) others a b t g = on_stops quiet m n (stepped m e) (outcome_lines m.mesh e (Next w i)) (others (stepped m e)) a b t g
 
 -- one event more
-pub ran_goes : (quiet : Bool) (most did : ℕ) (m n k : Moment) (e : Event) (a b c : Option (List ℕ)) (r : Result ℕ Stop) → did < most → Some e ≡ pick (world_of m)
-    → IsLineDone quiet (outcome_by m e (outcome_at m e)) n a b → IsAutoRun quiet n (auto_from (most - (did + 1)) (did + 1) n) k b c r
-    → IsAutoRun quiet m (auto_from (most - did) did m) k a c r
-ran_goes quiet most did m n k e a b c r h p g q =
+pub ran_goes : (quiet : Bool) (given : Option Event) (most did : ℕ) (m n k : Moment) (e : Event) (a b c : Option (List ℕ)) (r : Result ℕ Stop) → did < most → Some e ≡ next_in given m
+    → IsLineDone quiet (outcome_by m e (outcome_at m e)) n a b → IsAutoRun quiet n (done_from given (most - (did + 1)) (did + 1) n) k b c r
+    → IsAutoRun quiet m (done_from given (most - did) did m) k a c r
+ran_goes quiet given most did m n k e a b c r h p g q =
     let P : AutoOutcome → Type 0 = λ ran. IsAutoRun quiet m ran k a c r in
-    subst P (sym (auto_from-step most did m (Some e) h p)) (then_goes quiet m n k e (outcome_at m e) (λ x. auto_from (most - (did + 1)) (did + 1) x) a b c r g q)
+    subst P (sym (done_from-step given most did m (Some e) h p)) (then_goes quiet m n k e (outcome_at m e) (λ x. done_from given (most - (did + 1)) (did + 1) x) a b c r g q)
 
-pub ran_stops : (quiet : Bool) (most did : ℕ) (m n : Moment) (e : Event) (a b : Option (List ℕ)) (t : Stop) → did < most → Some e ≡ pick (world_of m)
-    → IsLineStopped quiet m (outcome_by m e (outcome_at m e)) n a b t → IsAutoRun quiet m (auto_from (most - did) did m) n a b (Err t)
-ran_stops quiet most did m n e a b t h p g =
+pub ran_stops : (quiet : Bool) (given : Option Event) (most did : ℕ) (m n : Moment) (e : Event) (a b : Option (List ℕ)) (t : Stop) → did < most → Some e ≡ next_in given m
+    → IsLineStopped quiet m (outcome_by m e (outcome_at m e)) n a b t → IsAutoRun quiet m (done_from given (most - did) did m) n a b (Err t)
+ran_stops quiet given most did m n e a b t h p g =
     let P : AutoOutcome → Type 0 = λ ran. IsAutoRun quiet m ran n a b (Err t) in
-    subst P (sym (auto_from-step most did m (Some e) h p)) (then_stops quiet m n e (outcome_at m e) (λ x. auto_from (most - (did + 1)) (did + 1) x) a b t g)
+    subst P (sym (done_from-step given most did m (Some e) h p)) (then_stops quiet m n e (outcome_at m e) (λ x. done_from given (most - (did + 1)) (did + 1) x) a b t g)
+
+-- ---- one event that is given, by itself
+
+-- what comes of it, by what came of one event
+one_in : Moment → AutoOutcome → LineOutcome
+one_in m (Ended text did n) = On text n
+one_in m (AutoFull text n e field) = Full text n e field
+
+one_by : (m : Moment) (e : Event) (o : Outcome) → one_in m (done_then m e o (λ n. Ended [] 1 n)) ≡ outcome_by m e o
+unfolding one_in
+one_by m e Idle = ap (λ l. On l (stepped m e)) (append-nil (outcome_lines m.mesh e Idle))
+one_by m e (worlds.Full x field) = refl
+one_by m e (Next w i) = ap (λ l. On l (stepped m e)) (append-nil (outcome_lines m.mesh e (Next w i)))
+
+one_given : (m : Moment) (e : Event) → one_in m (done_from (Some e) 1 0 m) ≡ outcome_by m e (outcome_at m e)
+unfolding done_from
+one_given m e = one_by m e (outcome_at m e)
+
+one_text : (m : Moment) (ran : AutoOutcome) → text_in (one_in m ran) ≡ text_of ran
+unfolding one_in
+one_text m (Ended text did n) = refl
+one_text m (AutoFull text n e field) = refl
+
+one_done : (quiet : Bool) (m n : Moment) (e : Event) (a b : Option (List ℕ)) (did : ℕ) → IsAutoDone quiet (done_from (Some e) 1 0 m) n a b did
+    → IsLineDone quiet (outcome_by m e (outcome_at m e)) n a b
+unfolding one_in
+one_done quiet m n e a b did g = record { text = g.text; is = sym (one_given m e) ∙ ap (one_in m) g.is; grown = g.grown }
+
+one_front : (quiet : Bool) (m : Moment) (e : Event) (a b : Option (List ℕ)) → AppendsPrefix a b (output_if quiet (text_of (done_from (Some e) 1 0 m)))
+    → AppendsPrefix a b (output_if quiet (text_in (outcome_by m e (outcome_at m e))))
+one_front quiet m e a b g =
+    let P : List ℕ → Type 0 = λ l. AppendsPrefix a b (output_if quiet l) in
+    subst P (sym (one_text m (done_from (Some e) 1 0 m)) ∙ ap text_in (one_given m e)) g
+
+one_stopped : (quiet : Bool) (m n : Moment) (e : Event) (a b : Option (List ℕ)) (t : Stop) → IsAutoRun quiet m (done_from (Some e) 1 0 m) n a b (Err t)
+    → IsLineStopped quiet m (outcome_by m e (outcome_at m e)) n a b t
+unfolding one_in
+one_stopped quiet m n e a b (stop.BadLine f) g = absurd g
+one_stopped quiet m n e a b (stop.Full event node field) g =
+    record { text = g.text; is = sym (one_given m e) ∙ ap (one_in m) g.is; refused = g.refused; grown = g.grown; still = g.still }
+one_stopped quiet m n e a b stop.WriteFault g = one_front quiet m e a b g
+one_stopped quiet m n e a b stop.NoMemory g = one_front quiet m e a b g
+
+-- in what follows `k` is the same moment as `n`, once the reference has come back
+pub one_goes : (quiet : Bool) (m n k : Moment) (e : Event) (a b : Option (List ℕ)) (did : ℕ) → n ≡ k → IsAutoDone quiet (done_from (Some e) 1 0 m) n a b did
+    → IsLineDone quiet (outcome_by m e (outcome_at m e)) k a b
+one_goes quiet m n k e a b did same g = subst (λ (x : Moment). IsLineDone quiet (outcome_by m e (outcome_at m e)) x a b) same (one_done quiet m n e a b did g)
+
+pub one_stops : (quiet : Bool) (m n k : Moment) (e : Event) (a b : Option (List ℕ)) (t : Stop) → n ≡ k → IsAutoRun quiet m (done_from (Some e) 1 0 m) n a b (Err t)
+    → IsLineStopped quiet m (outcome_by m e (outcome_at m e)) k a b t
+one_stops quiet m n k e a b t same g = subst (λ (x : Moment). IsLineStopped quiet m (outcome_by m e (outcome_at m e)) x a b t) same (one_stopped quiet m n e a b t g)
 
 -- ---- the line of chosen events
 
@@ -214,6 +276,12 @@ line_stops quiet m s k w ran n a b c stop.NoMemory same is p q =
 came-chooses : (m s : Moment) (count : ℕ) → s ≡ started m → outcome_of_line m (Chooses count) ≡ outcome_of_auto (line (words_of m.mesh (Chooses count))) (auto_from count 0 s)
 unfolding outcome_of_line
 came-chooses m s count same = ap (λ k. outcome_of_auto (line (words_of m.mesh (Chooses count))) (auto_from count 0 k)) (sym same)
+
+-- what was told where none is given
+pub chosen_ran : (quiet : Bool) (s m n : Moment) (count : ℕ) (a b : Option (List ℕ)) (r : Result ℕ Stop) → s ≡ m → IsAutoRun quiet s (done_from None count 0 s) n a b r
+    → IsAutoRun quiet m (auto_from count 0 m) n a b r
+unfolding done_from
+chosen_ran quiet s m n count a b r same g = subst (λ (x : Moment). IsAutoRun quiet x (auto_from count 0 x) n a b r) same g
 
 pub auto_goes : (quiet : Bool) (m s n k : Moment) (count did : ℕ) (a b c d : Option (List ℕ)) → s ≡ started m → Appends a b (output_if quiet (line (words_of m.mesh (Chooses count))))
     → IsAutoDone quiet (auto_from count 0 s) n b c did → Appends c d (output_if quiet (auto_end did)) → k ≡ counted n → IsLineDone quiet (outcome_of_line m (Chooses count)) k a d

@@ -180,6 +180,10 @@ pub stepped_started : (m n : Moment) (e : Event) → n ≡ stepped m e → is_so
 unfolding stepped
 stepped_started m n e next = ap (λ k. is_some k.world) next
 
+pub stepped_mesh : (m n : Moment) (e : Event) → n ≡ stepped m e → n.mesh ≡ m.mesh
+unfolding stepped
+stepped_mesh m n e next = ap (λ k. k.mesh) next
+
 pub stepped_lines : (m n : Moment) (e : Event) → n ≡ stepped m e → n.lines ≡ m.lines
 unfolding stepped
 stepped_lines m n e next = ap (λ k. k.lines) next

@@ -1,21 +1,22 @@
 -- What was told of one line, of one event, and of events that were chosen. A text is left out where
 -- a run is quiet.
-use Rattle.std.specs.Prelude.{ℕ, ◌≡◌, ◌≤◌, ◌⊎◌, List, [], take, Bool, if◌then◌else◌, Option, Result, Ok, Err, MatchResult, length}
+use Rattle.std.specs.Prelude.{ℕ, zero, suc, ◌≡◌, ◌≤◌, ◌+◌, ◌⊎◌, List, [], take, Bool, if◌then◌else◌, Option, Some, None, Result, Ok, Err, MatchResult, IsSomeAnd, length}
 use Rattle.std.specs.Io.KnownBytes.{Appends, Keeps}
 use Rattle.mesh_base.specs.declared.events.Counter as full
 use Rattle.mesh_io.specs.Puts.{AppendsPrefix}
 use Rattle.mesh_model.specs.Worlds as worlds
 use Rattle.mesh_model.specs.Worlds.{Event, Outcome, Idle, Next}
+use Rattle.mesh_model.specs.Choices.{pick}
 use Rattle.mesh_model.specs.Places.{IsEvent}
 use Rattle.mesh_meaning.specs.Events.{event_of}
 use Rattle.mesh_grammar.specs.declared.fault.BadWhy.TheVariants.{Fault}
 use Rattle.mesh_base.specs.Meshes.{Nodes}
 use Rattle.mesh_base.specs.declared.limits.TheConstants.{LONGEST_LINE}
 use Rattle.mesh_text.specs.Lines.{words_of}
-use Rattle.mesh_text.specs.Schedule.{Moment, Accepted, ShowsNode, ShowsRoute, ShowsFlight, started, counted, outcome_at, stepped}
+use Rattle.mesh_text.specs.Schedule.{Moment, Accepted, Does, ShowsNode, ShowsRoute, ShowsFlight, started, counted, outcome_at, stepped, world_of}
 use Rattle.mesh_text.specs.Effects.{outcome_lines}
-use Rattle.mesh_text.specs.Auto.{AutoOutcome, Ended, Full as AutoFull}
-use Rattle.mesh_text.specs.Runs.{moment_after}
+use Rattle.mesh_text.specs.Auto.{AutoOutcome, Ended, Full as AutoFull, done_then, auto_from}
+use Rattle.mesh_text.specs.Runs.{event_then, events_chosen, moment_after}
 use Rattle.mesh_text.specs.Text.{LineOutcome, On, Refused, Full, text_in}
 use Rattle.mesh_run.specs.declared.show.Shown.{Shown}
 use Rattle.mesh_run.specs.declared.show.Shown.TheVariants as shown
@@ -144,3 +145,29 @@ IsAutoRun quiet m ran n before now (Err stop.WriteFault) =
     AppendsPrefix before now (output_if quiet (text_of ran))
 IsAutoRun quiet m ran n before now (Err stop.NoMemory) =
     AppendsPrefix before now (output_if quiet (text_of ran))
+
+-- ---- events that are given, or chosen
+
+-- the event that comes next: the one that is given, or else the one that the run chooses
+abbrev pub next_in : Option Event → Moment → Option Event
+next_in None m = pick (world_of m)
+next_in (Some e) m = Some e
+
+-- up to so many events more from a moment on, where so many were done before: the one that is given
+-- each time, or else those that the run chooses
+unfoldable pub done_from : Option Event → ℕ → ℕ → Moment → AutoOutcome
+done_from None most did m = auto_from most did m
+done_from (Some e) zero did m = Ended [] did m
+done_from (Some e) (suc most) did m =
+    done_then m e (outcome_at m e) (λ n. done_from (Some e) most (did + 1) n)
+
+-- which events they are
+unfoldable pub events_done : Option Event → ℕ → Moment → List Event
+events_done None most m = events_chosen most m
+events_done (Some e) zero m = []
+events_done (Some e) (suc most) m =
+    event_then m e (outcome_at m e) (λ n. events_done (Some e) most n)
+
+-- the bytes of a line are what the event that is given is written back as
+abbrev pub IsLineOfGiven : Nodes → Option Event → List ℕ → Type 0
+IsLineOfGiven mesh given bytes = IsSomeAnd given (λ e. IsLineOf mesh (Does e) bytes)

@@ -3,7 +3,6 @@ ghost use Rattle.std.specs.Prelude.{◌≡◌, ◌<◌, ◌≤◌, ◌+◌, ◌^
 ghost use Rattle.mesh_model.specs.Choices.{pick};
 ghost use Rattle.mesh_meaning.specs.Events.{event_of};
 ghost use Rattle.mesh_text.specs.Schedule.{Chooses, world_of};
-ghost use Rattle.mesh_text.specs.Auto.{auto_from};
 ghost use Rattle.mesh_text.specs.Text.{outcome_of_line};
 ghost use Rattle.mesh_text.specs.Runs.{events_chosen};
 ghost use Rattle.mesh_grammar.specs.Written.{line as line_of_words};
@@ -11,7 +10,7 @@ ghost use Rattle.mesh_io.specs.Cause.{HasCause};
 ghost use Rattle.mesh_io.specs.Puts.{Puts};
 ghost use Rattle.mesh_script.specs.Seen.{IsPrintable};
 ghost use Rattle.mesh_run.specs.Causes.{HasStopCause};
-ghost use Rattle.mesh_run.specs.Runs.{output_if, IsLineOf, IsUncountedRun, IsAutoRun, IsReached};
+ghost use Rattle.mesh_run.specs.Runs.{output_if, IsLineOf, IsLineOfGiven, IsUncountedRun, IsAutoRun, IsReached, next_in, done_from, events_done};
 
 use crate::choice::pick;
 use crate::commands::do_event;
@@ -39,29 +38,68 @@ pub fn next_event<S: Steps>(at: &Point<S>) -> Option<Event<'static>>
     pick(world)
 }
 
-// Does up to so many events, each chosen when the one before it is done. It answers how many there
-// were.
-fn do_events<S: Steps, O: Sink>(
+/// Events that are to be done, and the moment at which they are.
+///
+/// The reference to the moment is read anew for each event. So the compiler can't work out the
+/// addresses of its parts before the loop begins, and a single event doesn't pay for those that it
+/// never uses.
+#[derive(Drop)]
+pub struct Task<'p, 'a, 'b, S: Steps> {
+    pub at: &'p mut Point<S>,
+    /// The event of a line; where there is none, the run chooses each.
+    pub given: Option<Event<'a>>,
+    /// The line of that event, as it stands.
+    pub bytes: Option<&'b [u8]>,
+    /// How many there are at most.
+    pub count: u32,
+}
+
+// The event that comes next: the one that is given, or else the one that the run chooses.
+#[inline(always)]
+fn event_after<'a, S: Steps>(at: &Point<S>, given: Option<Event<'a>>) -> Option<Event<'a>>
+    requires started { is_some at.now.world ≡ true }
+    requires printable { IfSome given (λ e. IsPrintable at.now.mesh (Line.Step e)) }
+    ensures value { option_map event_of result ≡ next_in (option_map event_of given.entry) at.now }
+    ensures printable { IfSome result (λ e. IsPrintable at.now.mesh (Line.Step e)) }
+{
+    match given {
+        Some(event) => Some(event),
+        None => next_event(at),
+    }
+}
+
+/// Does up to so many events, and answers how many there were: each is the one that is given, or
+/// else is chosen when the one before it is done. All events are done here: the compiler puts the
+/// code of a step into this loop only where no other place has it.
+pub fn do_events<'a, S: Steps, O: Sink>(
     alloc: Global,
-    at: &mut Point<S>,
-    count: u32,
+    task: &mut Task<'_, 'a, '_, S>,
     quiet: bool,
     out: &mut O,
-) -> Result<u32, Stop<'static>>
-    requires started { is_some at.old.world ≡ true }
-    requires few { at.old.steps + count < 2 ^ 48 }
-    ensures ran { IsAutoRun quiet at.old (auto_from count 0 at.old)
-        at.new (O.held out.old) (O.held out.new) result }
-    ensures lines { OnOk result (at.new.lines ≡ at.old.lines) }
-    ensures way { IsReached at.old (events_chosen count at.old) at.new }
+) -> Result<u32, Stop<'a>>
+    requires started { is_some task.old.at.now.world ≡ true }
+    requires count { task.old.count < 2 ^ 32 }
+    requires few { task.old.at.now.steps + task.old.count < 2 ^ 48 }
+    requires printable { IfSome task.old.given (λ e.
+        IsPrintable task.old.at.now.mesh (Line.Step e)) }
+    requires echo { quiet ≡ false → IfSome task.old.bytes (λ b.
+        IsLineOfGiven task.old.at.now.mesh (option_map event_of task.old.given) b.now) }
+    ensures same { task.new.at.ghost_name ≡ task.old.at.ghost_name }
+    ensures ran { IsAutoRun quiet task.old.at.now
+        (done_from (option_map event_of task.old.given) task.old.count 0 task.old.at.now)
+        task.new.at.now (O.held out.old) (O.held out.new) result }
+    ensures lines { OnOk result (task.new.at.now.lines ≡ task.old.at.now.lines) }
+    ensures way { IsReached task.old.at.now
+        (events_done (option_map event_of task.old.given) task.old.count task.old.at.now)
+        task.new.at.now }
     ensures cause { HasStopCause (O.faults out.old) (O.faults out.new) result }
 {
     let mut did: u32 = 0;
-    'events: while did < count {
-        let Some(event) = next_event(at) else {
+    'events: while did < task.count {
+        let Some(event) = event_after(task.at, task.given) else {
             return Ok(did);
         };
-        if let Err(stop) = do_event(alloc, at, None, &event, quiet, out) {
+        if let Err(stop) = do_event(alloc, task.at, task.bytes, &event, quiet, out) {
             return Err(stop.of_event(event));
         }
         did += 1;
@@ -108,7 +146,21 @@ pub fn do_auto<S: Steps, O: Sink>(
     ensures cause { HasStopCause (O.faults out.old) (O.faults out.new) result }
 {
     say_echo(bytes, quiet, &mut at.line, out)?;
-    let did = match do_events(alloc, at, count, quiet, out) {
+    let mut task = Task {
+        at: &mut *at,
+        given: None,
+        bytes: None,
+        count,
+    };
+    let ran = do_events(alloc, &mut task, quiet, out);
+    // It says that `at` is the moment as the events have left it.
+    let Task {
+        at: _at,
+        given: _,
+        bytes: _,
+        count: _,
+    } = task;
+    let did = match ran {
         Ok(did) => did,
         Err(stop) => return Err(stop),
     };

@@ -1,5 +1,6 @@
 //! What each command does.
 ghost use Rattle.std.specs.Prelude.{◌≡◌, ◌≢◌, ◌<◌, ◌≤◌, ◌^◌, ◌∷◌, [], length, is_some, true, false, OnOk, OnErr, IfSome};
+ghost use Rattle.mesh_base.specs.declared.events.Event.{Event};
 ghost use Rattle.mesh_model.specs.Worlds.{World};
 ghost use Rattle.mesh_meaning.specs.Answers.{outcome_in, IsDoneInMesh};
 ghost use Rattle.mesh_meaning.specs.Events.{event_of, node_of};
@@ -17,7 +18,7 @@ ghost use Rattle.mesh_run.specs.Moments.{answer_of, event_stop_of};
 ghost use Rattle.mesh_run.specs.Causes.{HasStopCause};
 ghost use Rattle.mesh_run.specs.Runs.{output_if, line_outcome_at, IsLineOf, IsLineRun, IsUncountedRun, IsReached, IsOnTheWay};
 
-use crate::auto::do_auto;
+use crate::auto::{Task, do_auto, do_events};
 use crate::point::Point;
 use crate::show::{Shown, do_show};
 use crate::stop::{EventStop, Stop};
@@ -53,6 +54,7 @@ pub fn say_event<O: Sink>(
 }
 
 /// Does an event once the run has started, and writes it: as its line stands, where it has one.
+#[inline(always)]
 pub fn do_event<S: Steps, O: Sink>(
     alloc: Global,
     at: &mut Point<S>,
@@ -139,9 +141,43 @@ fn do_node<S: Steps, O: Sink>(
     Ok(())
 }
 
-// Does an allowed line, and writes its text unless the run is quiet.
-#[inline(always)]
+// Does an allowed line other than that of an event, and writes its text unless the run is quiet.
 #[tactic(auto, unfolding(mesh_text::specs::Text::outcome_of_line))]
+fn do_rest<'a, S: Steps, O: Sink>(
+    alloc: Global,
+    at: &mut Point<S>,
+    bytes: &[u8],
+    line: Line<'a>,
+    quiet: bool,
+    out: &mut O,
+) -> Result<(), Stop<'a>>
+    requires steps { at.old.steps < 2 ^ 47 }
+    requires allowed { IsAllowed at.old.mesh (is_some at.old.world) line }
+    requires no_event { (e : Event) → line ≢ Line.Step e }
+    requires short { length bytes.now ≤ LONGEST_LINE }
+    requires echo { quiet ≡ false → IsEcho at.old.mesh bytes.now (accepted_of line) }
+    ensures comes { IsUncountedRun quiet at.old (outcome_of_line at.old (accepted_of line.entry))
+        at.new (O.held out.old) (O.held out.new) result }
+    ensures lines { OnOk result (at.new.lines ≡ at.old.lines) }
+    ensures way { OnErr result (IsOnTheWay at.old
+        (events_of_line at.old (accepted_of line.entry)) at.new) }
+    ensures cause { HasStopCause (O.faults out.old) (O.faults out.new) result }
+{
+    at.state.begin(alloc, &line)?;
+    match line {
+        Line::Blank => Ok(()),
+        Line::Node { addr, first } => do_node(at, addr, first, quiet, out),
+        Line::Step(_) => unreachable!(),
+        Line::Auto { count } => do_auto(alloc, at, bytes, count, quiet, out),
+        Line::Show { node } => do_show(at, bytes, Shown::Node { node }, quiet, out),
+        Line::Route { node, dest } => do_show(at, bytes, Shown::Route { node, dest }, quiet, out),
+        Line::Flight => do_show(at, bytes, Shown::Flight, quiet, out),
+    }
+}
+
+// Does an allowed line, and writes its text unless the run is quiet. The line of an event comes
+// most often: it is done apart from the others, so that it doesn't make room for what they answer.
+#[inline(always)]
 fn do_uncounted<'a, S: Steps, O: Sink>(
     alloc: Global,
     at: &mut Point<S>,
@@ -161,19 +197,29 @@ fn do_uncounted<'a, S: Steps, O: Sink>(
         (events_of_line at.old (accepted_of line.entry)) at.new) }
     ensures cause { HasStopCause (O.faults out.old) (O.faults out.new) result }
 {
+    let Line::Step(event) = line else {
+        do_rest(alloc, at, bytes, line, quiet, out)?;
+        return Ok(());
+    };
     at.state.begin(alloc, &line)?;
-    match line {
-        Line::Blank => Ok(()),
-        Line::Node { addr, first } => do_node(at, addr, first, quiet, out),
-        Line::Step(event) => match do_event(alloc, at, Some(bytes), &event, quiet, out) {
-            Ok(()) => Ok(()),
-            Err(stop) => Err(stop.of_event(event)),
-        },
-        Line::Auto { count } => do_auto(alloc, at, bytes, count, quiet, out),
-        Line::Show { node } => do_show(at, bytes, Shown::Node { node }, quiet, out),
-        Line::Route { node, dest } => do_show(at, bytes, Shown::Route { node, dest }, quiet, out),
-        Line::Flight => do_show(at, bytes, Shown::Flight, quiet, out),
+    let mut task = Task {
+        at: &mut *at,
+        given: Some(event),
+        bytes: Some(bytes),
+        count: 1,
+    };
+    let ran = do_events(alloc, &mut task, quiet, out);
+    // It says that `at` is the moment as the event has left it.
+    let Task {
+        at: _at,
+        given: _,
+        bytes: _,
+        count: _,
+    } = task;
+    if let Err(stop) = ran {
+        return Err(stop);
     }
+    Ok(())
 }
 
 /// Does an allowed line, writes its text unless the run is quiet, and counts it. Every line but

@@ -1,15 +1,16 @@
-use Rattle.std.proofs.Common.{ℕ, List, Ok, Err, refl, ap, subst}
-use Rattle.mesh_text.specs.Schedule.{Moment, counted}
-use Rattle.mesh_text.specs.Auto.{auto_from, auto_end}
+use Rattle.std.proofs.Common.{◌∙◌, ℕ, List, Ok, Err, refl, sym, ap, subst, rules}
+use Rattle.mesh_text.specs.Schedule.{Moment, Chooses, counted}
+use Rattle.mesh_text.specs.Auto.{auto_end}
+use Rattle.mesh_text.specs.Text.{outcome_of_line}
 use Rattle.mesh_text.specs.Runs.{events_chosen}
 use Rattle.std.specs.Io.KnownBytes.{Appends}
 use Rattle.std.proofs.lemmas.Result.{err_from_is_err_and}
 use Rattle.mesh_io.specs.Puts.{AppendsPrefix}
-use Rattle.mesh_run.specs.Runs.{IsAutoRun}
+use Rattle.mesh_run.specs.Runs.{IsLineDone, IsLineStopped, IsReached}
 use Rattle.mesh_run.proofs.Shown.{echoed, quiet_none, loud_whole, loud_front}
-use Rattle.mesh_run.proofs.Ways.{reached_none}
+use Rattle.mesh_run.proofs.Ways.{chosen_way, err_of, reached_none}
 use Rattle.mesh_run.proofs.Begun.{started_same}
-use Rattle.mesh_run.proofs.Chosen.{auto_goes, auto_front, auto_end_front, auto_stops}
+use Rattle.mesh_run.proofs.Chosen.{chosen_ran, auto_goes, auto_front, auto_end_front, auto_stops}
 use Rattle.mesh_run.proofs.auto.do_auto.Goals as goal
 
 pub returns-in_err-say_echo-clause-comes : goal.returns-in_err-say_echo-clause-comes
@@ -26,28 +27,41 @@ returns-in_err-say_echo-clause-way g c =
 pub returns-in-Err-clause-comes : goal.returns-in-Err-clause-comes
 returns-in-Err-clause-comes g c =
     let P : List ℕ → Type 0 = λ l. Appends (g.O.Sink.held c.args.out.now) (g.O.Sink.held c.say_echo.new.out) l in
-    let ran = subst (λ (m : Moment). IsAutoRun c.args.quiet m (auto_from c.args.count 0 m) c.do_events.new.at (g.O.Sink.held c.say_echo.new.out) (g.O.Sink.held c.do_events.new.out) (Err c.in-Err.stop)) c.at.view_is c.in-Err.ensures.ran in
-    auto_stops c.args.quiet c.args.at.now c.args.at.now c.do_events.new.at c.args.count _ (g.O.Sink.held c.say_echo.new.out) _ c.in-Err.stop (started_same c.args.at.now c.requires.started)
-    (subst P (echoed c.args.quiet c.args.bytes.now _ (λ loud. (c.requires.echo loud).1)) c.in_ok-say_echo.ensures.text) ran
+    let ran = chosen_ran c.args.quiet c.at.inside.state c.args.at.now c.do_events-ran.new.task.at.now c.args.count _ _ (Err c.in-Err.stop) c.at.view_is c.in-Err.ensures.ran in
+    subst (λ (n : Moment). IsLineStopped c.args.quiet c.args.at.now (outcome_of_line c.args.at.now (Chooses c.args.count)) n (g.O.Sink.held c.args.out.now) (g.O.Sink.held c.do_events-ran.new.out) c.in-Err.stop)
+    (search rules)
+    (auto_stops c.args.quiet c.args.at.now c.args.at.now c.do_events-ran.new.task.at.now c.args.count _ (g.O.Sink.held c.say_echo.new.out) _ c.in-Err.stop (started_same c.args.at.now c.requires.started)
+    (subst P (echoed c.args.quiet c.args.bytes.now _ (λ loud. (c.requires.echo loud).1)) c.in_ok-say_echo.ensures.text) ran)
 
 pub returns-then-quiet-clause-comes : goal.returns-then-quiet-clause-comes
 returns-then-quiet-clause-comes g c =
     let P : List ℕ → Type 0 = λ l. Appends (g.O.Sink.held c.args.out.now) (g.O.Sink.held c.say_echo.new.out) l in
-    let ran = subst (λ (m : Moment). IsAutoRun c.args.quiet m (auto_from c.args.count 0 m) c.do_events.new.at (g.O.Sink.held c.say_echo.new.out) (g.O.Sink.held c.do_events.new.out) (Ok c.in-Ok.did)) c.at.view_is c.in-Ok.ensures.ran in
-    auto_goes c.args.quiet c.args.at.now c.args.at.now c.do_events.new.at _ c.args.count c.in-Ok.did _ (g.O.Sink.held c.say_echo.new.out) (g.O.Sink.held c.do_events.new.out) _ (started_same c.args.at.now c.requires.started)
-    (subst P (echoed c.args.quiet c.args.bytes.now _ (λ loud. (c.requires.echo loud).1)) c.in_ok-say_echo.ensures.text) ran (quiet_none c.args.quiet (auto_end c.in-Ok.did) _ c.if-quiet.true) refl
+    let ran = chosen_ran c.args.quiet c.at.inside.state c.args.at.now c.do_events-ran.new.task.at.now c.args.count _ _ (Ok c.in-Ok.did) c.at.view_is c.in-Ok.ensures.ran in
+    subst (λ (n : Moment). IsLineDone c.args.quiet (outcome_of_line c.args.at.now (Chooses c.args.count)) (counted n) (g.O.Sink.held c.args.out.now) (g.O.Sink.held c.do_events-ran.new.out))
+    (search rules)
+    (auto_goes c.args.quiet c.args.at.now c.args.at.now c.do_events-ran.new.task.at.now _ c.args.count c.in-Ok.did _ (g.O.Sink.held c.say_echo.new.out) (g.O.Sink.held c.do_events-ran.new.out) _ (started_same c.args.at.now c.requires.started)
+    (subst P (echoed c.args.quiet c.args.bytes.now _ (λ loud. (c.requires.echo loud).1)) c.in_ok-say_echo.ensures.text) ran (quiet_none c.args.quiet (auto_end c.in-Ok.did) _ c.if-quiet.true) refl)
 
 pub returns-in_err-put_auto_end-clause-comes : goal.returns-in_err-put_auto_end-clause-comes
 returns-in_err-put_auto_end-clause-comes g c =
     let p = err_from_is_err_and c.from_residual-in_err-put_auto_end.result c.from_residual-in_err-put_auto_end.ensures.1 in
     let P : List ℕ → Type 0 = λ l. Appends (g.O.Sink.held c.args.out.now) (g.O.Sink.held c.say_echo.new.out) l in
-    let ran = subst (λ (m : Moment). IsAutoRun c.args.quiet m (auto_from c.args.count 0 m) c.do_events.new.at (g.O.Sink.held c.say_echo.new.out) (g.O.Sink.held c.do_events.new.out) (Ok c.in-Ok.did)) c.at.view_is c.in-Ok.ensures.ran in
-    rw (p.1, p.2) (auto_end_front c.args.quiet c.args.at.now c.args.at.now c.do_events.new.at c.args.count _ _ (g.O.Sink.held c.say_echo.new.out) (g.O.Sink.held c.do_events.new.out) _ (started_same c.args.at.now c.requires.started)
+    let ran = chosen_ran c.args.quiet c.at.inside.state c.args.at.now c.do_events-ran.new.task.at.now c.args.count _ _ (Ok c.in-Ok.did) c.at.view_is c.in-Ok.ensures.ran in
+    rw (p.1, p.2) (auto_end_front c.args.quiet c.args.at.now c.args.at.now c.do_events-ran.new.task.at.now c.args.count _ _ (g.O.Sink.held c.say_echo.new.out) (g.O.Sink.held c.do_events-ran.new.out) _ (started_same c.args.at.now c.requires.started)
     (subst P (echoed c.args.quiet c.args.bytes.now _ (λ loud. (c.requires.echo loud).1)) c.in_ok-say_echo.ensures.text) ran (loud_front c.args.quiet _ _ _ c.if-quiet.false c.in_err-put_auto_end.ensures.text))
 
 pub returns-clause-comes : goal.returns-clause-comes
 returns-clause-comes g c =
     let P : List ℕ → Type 0 = λ l. Appends (g.O.Sink.held c.args.out.now) (g.O.Sink.held c.say_echo.new.out) l in
-    let ran = subst (λ (m : Moment). IsAutoRun c.args.quiet m (auto_from c.args.count 0 m) c.do_events.new.at (g.O.Sink.held c.say_echo.new.out) (g.O.Sink.held c.do_events.new.out) (Ok c.in-Ok.did)) c.at.view_is c.in-Ok.ensures.ran in
-    auto_goes c.args.quiet c.args.at.now c.args.at.now c.do_events.new.at _ c.args.count c.in-Ok.did _ (g.O.Sink.held c.say_echo.new.out) (g.O.Sink.held c.do_events.new.out) _ (started_same c.args.at.now c.requires.started)
-    (subst P (echoed c.args.quiet c.args.bytes.now _ (λ loud. (c.requires.echo loud).1)) c.in_ok-say_echo.ensures.text) ran (loud_whole c.args.quiet _ _ _ c.if-quiet.false c.in_ok-put_auto_end.ensures.text) (ap counted c.at-2.view_is)
+    let ran = chosen_ran c.args.quiet c.at.inside.state c.args.at.now c.do_events-ran.new.task.at.now c.args.count _ _ (Ok c.in-Ok.did) c.at.view_is c.in-Ok.ensures.ran in
+    auto_goes c.args.quiet c.args.at.now c.args.at.now c.do_events-ran.new.task.at.now _ c.args.count c.in-Ok.did _ (g.O.Sink.held c.say_echo.new.out) (g.O.Sink.held c.do_events-ran.new.out) _ (started_same c.args.at.now c.requires.started)
+    (subst P (echoed c.args.quiet c.args.bytes.now _ (λ loud. (c.requires.echo loud).1)) c.in_ok-say_echo.ensures.text) ran (loud_whole c.args.quiet _ _ _ c.if-quiet.false c.in_ok-put_auto_end.ensures.text) (ap counted (c.at-2.view_is ∙ search rules))
+
+pub returns-in-Err-clause-way : goal.returns-in-Err-clause-way
+returns-in-Err-clause-way g c = chosen_way c.at.inside.state c.args.at.now c.do_events-ran.new.task.at.now _ c.args.count c.at.view_is (search rules) c.in-Err.ensures.way
+
+pub returns-in_err-put_auto_end-clause-way : goal.returns-in_err-put_auto_end-clause-way
+returns-in_err-put_auto_end-clause-way g c =
+    err_of c.from_residual-in_err-put_auto_end.result
+    (subst (λ (n : Moment). IsReached c.args.at.now (events_chosen c.args.count c.args.at.now) n) (sym c.at-2.view_is)
+    (chosen_way c.at.inside.state c.args.at.now c.do_events-ran.new.task.at.now _ c.args.count c.at.view_is (search rules) c.in-Ok.ensures.way))

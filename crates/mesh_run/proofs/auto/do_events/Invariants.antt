@@ -1,25 +1,32 @@
 -- Whatever is told of the events that are left, the same then is of all of them, and the moments that they lead through are some
 -- that all lead through.
-use Rattle.std.proofs.Common.{◌≡◌, ◌≤◌, ◌+◌, ◌-◌, ℕ, List, Option, Result, true, is_some}
+use Rattle.std.proofs.Common.{◌≡◌, ◌≤◌, ◌<◌, ◌+◌, ◌-◌, ◌^◌, ℕ, List, Option, Result, true, false, is_some}
+use Rattle.std.specs.Prelude.{IfSome, option_map}
+use Rattle.mesh_meaning.specs.Events.{event_of}
+use Rattle.mesh_script.specs.Seen.{IsPrintable}
+use Rattle.mesh_script.specs.declared.line.Line.TheVariants as line
 use Rattle.mesh_text.specs.Schedule.{Moment}
-use Rattle.mesh_text.specs.Auto.{auto_from}
-use Rattle.mesh_text.specs.Runs.{events_chosen}
 use Rattle.mesh_run.specs.declared.stop.Stop.{Stop}
-use Rattle.mesh_run.specs.Runs.{IsAutoRun, IsReached}
+use Rattle.mesh_run.specs.Runs.{IsAutoRun, IsLineOfGiven, IsReached, done_from, events_done}
 use Rattle.mesh_run.proofs.auto.do_events.Given as goal
 
 abbrev pub invariant-events : goal.invariant-events
 invariant-events g l = record {
   ran : (now : Option (List ℕ)) (n : Moment) (r : Result ℕ Stop)
-      → IsAutoRun l.quiet l.at (auto_from (l.count - l.did) l.did l.at) n (g.O.Sink.held l.out) now r
-      → IsAutoRun l.quiet l.initial.at (auto_from l.count 0 l.initial.at) n (g.O.Sink.held l.initial.out) now r;
-  way : (n : Moment) → IsReached l.at (events_chosen (l.count - l.did) l.at) n → IsReached l.initial.at (events_chosen l.count l.initial.at) n;
-  started : is_some l.at.world ≡ true;
-  lines : l.at.lines ≡ l.initial.at.lines;
+      → IsAutoRun l.quiet l.task.at.now (done_from (option_map event_of l.task.given) (l.task.count - l.did) l.did l.task.at.now) n (g.O.Sink.held l.out) now r
+      → IsAutoRun l.quiet l.initial.task.at.now (done_from (option_map event_of l.initial.task.given) l.initial.task.count 0 l.initial.task.at.now) n (g.O.Sink.held l.initial.out) now r;
+  way : (n : Moment) → IsReached l.task.at.now (events_done (option_map event_of l.task.given) (l.task.count - l.did) l.task.at.now) n
+      → IsReached l.initial.task.at.now (events_done (option_map event_of l.initial.task.given) l.initial.task.count l.initial.task.at.now) n;
+  same : l.task.at.ghost_name ≡ l.initial.task.at.ghost_name;
+  started : is_some l.task.at.now.world ≡ true;
+  printable : IfSome l.task.given (λ e. IsPrintable l.task.at.now.mesh (line.Step e));
+  echo : l.quiet ≡ false → IfSome l.task.bytes (λ b. IsLineOfGiven l.task.at.now.mesh (option_map event_of l.task.given) b.now);
+  lines : l.task.at.now.lines ≡ l.initial.task.at.now.lines;
   faults : g.O.Sink.faults l.out ≡ g.O.Sink.faults l.initial.out;
-  within : l.did ≤ l.count;
-  steps : l.at.steps ≤ l.initial.at.steps + l.did;
+  fits : l.task.count < 2 ^ 32;
+  within : l.did ≤ l.task.count;
+  few : l.task.at.now.steps + (l.task.count - l.did) < 2 ^ 48;
 }
 
 abbrev pub decreases-events : goal.decreases-events
-decreases-events g l = l.count - l.did
+decreases-events g l = l.task.count - l.did
