@@ -2,7 +2,7 @@
 use Rattle.std.proofs.Common.{◌≡◌, ◌≢◌, ◌⊎◌, inl, inr, ℕ, zero, suc, ◌+◌, ◌<◌, ◌≤◌, Bool, true, false, cond, not, ◌&&◌, ◌||◌, eqb, leb, List, [], ◌∷◌, ◌++◌, Option, Some, None, Result, Ok, Err, length, length-set, replicate, take, get_or, refl, sym, ap, ap₂, subst, ◌∙◌, arith, is_some, codes, ◌*◌}
 use Rattle.std.specs.Prelude.{min, max, slice_get}
 use Rattle.std.specs.Option.{unwrap_or, option_map}
-use Rattle.std.specs.List.{flat_map}
+use Rattle.std.specs.List.{flat_map, AllByRecursion}
 use Rattle.std.specs.FinSet as sets
 use Rattle.std.proofs.lemmas.Bool.{ne_eqb, eq-eqb, cases_lt, cases_eq}
 use Rattle.std.proofs.lemmas.List.{length-replicate, get_or-set_same, get_or-set_other}
@@ -29,8 +29,9 @@ use Rattle.mesh_text.specs.Lines.{words_of}
 use Rattle.mesh_text.specs.Ranges.{IsInTime}
 use Rattle.mesh_text.specs.Auto as auto
 use Rattle.mesh_text.specs.Runs.{moment_after}
-use Rattle.mesh_text.specs.Text.{LineOutcome, On, Refused, Full, outcome_of_event, outcome_of_auto, outcome_of_line, outcome_of_read}
+use Rattle.mesh_text.specs.Text.{LineOutcome, On, Refused, Full, outcome_by_events, outcome_of_auto, outcome_of_line, outcome_of_read}
 use Rattle.mesh_text.specs.Text as text
+use Rattle.mesh_text.proofs.Picks.{each_chosen}
 use Rattle.mesh_text.proofs.InRange.{Allowed, line_allowed}
 use Rattle.mesh_text.proofs.Echoes.{read_line_is_written_as_it_was}
 use Rattle.mesh_text.proofs.Moments.{IsKept, IsKeptCame, opening_kept, not_made}
@@ -122,31 +123,28 @@ record Stays (m n : schedule.Moment) : Type 0 where
   links : (world_of n).links ≡ (world_of m).links
   mesh : n.mesh ≡ m.mesh
 
-StaysRan : schedule.Moment → auto.AutoOutcome → Type 0
-StaysRan m (auto.Ended text did n) = Stays m n
+StaysRan : schedule.Moment → auto.EventsOutcome → Type 0
+StaysRan m (auto.Ended text n) = Stays m n
 StaysRan m (auto.Full text n e field) = Unit {0}
 
-stays_more : (m : schedule.Moment) (e : Event) (text : List ℕ) (r : auto.AutoOutcome) → KeepsLinks e → StaysRan (stepped m e) r → StaysRan m (auto.before text r)
+stays_more : (m : schedule.Moment) (e : Event) (text : List ℕ) (r : auto.EventsOutcome) → KeepsLinks e → StaysRan (stepped m e) r → StaysRan m (auto.before text r)
 unfolding StaysRan stepped
-stays_more m e text (auto.Ended others did n) keeps is = record { links = is.links ∙ same_links (world_of m) e keeps; mesh = is.mesh }
+stays_more m e text (auto.Ended others n) keeps is = record { links = is.links ∙ same_links (world_of m) e keeps; mesh = is.mesh }
 stays_more m e text (auto.Full others n f field) keeps is = tt
 
-stays_done : (m : schedule.Moment) (e : Event) (o : Outcome) (others : schedule.Moment → auto.AutoOutcome) → KeepsLinks e → StaysRan (stepped m e) (others (stepped m e)) → StaysRan m (auto.done_then m e o others)
+stays_done : (m : schedule.Moment) (e : Event) (o : Outcome) (others : schedule.Moment → auto.EventsOutcome) → KeepsLinks e → StaysRan (stepped m e) (others (stepped m e)) → StaysRan m (auto.done_then m e o others)
 unfolding StaysRan
 stays_done m e Idle others keeps is = stays_more m e _ (others (stepped m e)) keeps is
 stays_done m e (worlds.Full x field) others keeps is = tt
 stays_done m e (Next w happening) others keeps is = stays_more m e _ (others (stepped m e)) keeps is
 
-stays_chosen : (m : schedule.Moment) (did : ℕ) (o : Option Event) (others : schedule.Moment → auto.AutoOutcome) → OnSome KeepsLinks o → ((n : schedule.Moment) → StaysRan n (others n))
-    → StaysRan m (auto.chosen_then m did o others)
-unfolding StaysRan OnSome
-stays_chosen m did None others keeps rest = record { links = refl; mesh = refl }
-stays_chosen m did (Some e) others keeps rest = stays_done m e (outcome_at m e) others keeps (rest (stepped m e))
+stays_events : (m : schedule.Moment) (es : List Event) → AllByRecursion KeepsLinks es → StaysRan m (auto.outcome_of_events m es)
+unfolding StaysRan auto.outcome_of_events
+stays_events m [] keeps = record { links = refl; mesh = refl }
+stays_events m (e ∷ es) keeps = stays_done m e (outcome_at m e) (λ n. auto.outcome_of_events n es) keeps.0 (stays_events (stepped m e) es keeps.1)
 
-stays_auto : (most did : ℕ) (m : schedule.Moment) → StaysRan m (auto.auto_from most did m)
-unfolding StaysRan auto.auto_from
-stays_auto zero did m = record { links = refl; mesh = refl }
-stays_auto (suc most) did m = stays_chosen m did (pick (world_of m)) (λ n. auto.auto_from most (did + 1) n) (picked_keeps (world_of m)) (stays_auto most (did + 1))
+chosen_keep : (most : ℕ) (m : schedule.Moment) → AllByRecursion KeepsLinks (auto.events_chosen most m)
+chosen_keep most m = each_chosen (λ n. Unit {0}) KeepsLinks (λ n _. picked_keeps (world_of n)) (λ n e keeps _. tt) most m tt
 
 -- a line that names no link
 NoLink : Accepted → Type 0
@@ -163,16 +161,15 @@ StaysCame m a (On text n) = Stays m n ⊎ (IsNode a × ((world_of n).links ≡ (
 StaysCame m a (Refused why) = Unit {0}
 StaysCame m a (Full text n e field) = Unit {0}
 
-stays_event : (m : schedule.Moment) (e : Event) (o : Outcome) → KeepsLinks e → StaysCame m (Does e) (outcome_of_event m e o)
-unfolding StaysCame stepped
-stays_event m e Idle keeps = inl (record { links = same_links (world_of m) e keeps; mesh = refl })
-stays_event m e (worlds.Full x field) keeps = tt
-stays_event m e (Next w happening) keeps = inl (record { links = same_links (world_of m) e keeps; mesh = refl })
-
-stays_of_auto : (m : schedule.Moment) (count : ℕ) (text : List ℕ) (r : auto.AutoOutcome) → StaysRan (started m) r → StaysCame m (Chooses count) (outcome_of_auto text r)
+stays_by_events : (m : schedule.Moment) (a : Accepted) (r : auto.EventsOutcome) → StaysRan (started m) r → StaysCame m a (outcome_by_events r)
 unfolding StaysCame StaysRan
-stays_of_auto m count text (auto.Ended others did n) is = inl (record { links = is.links; mesh = is.mesh })
-stays_of_auto m count text (auto.Full others n e field) is = tt
+stays_by_events m a (auto.Ended text n) is = inl (record { links = is.links; mesh = is.mesh })
+stays_by_events m a (auto.Full text n e field) is = tt
+
+stays_of_auto : (m : schedule.Moment) (a : Accepted) (text : List ℕ) (did : ℕ) (r : auto.EventsOutcome) → StaysRan (started m) r → StaysCame m a (outcome_of_auto text did r)
+unfolding StaysCame StaysRan
+stays_of_auto m a text did (auto.Ended others n) is = inl (record { links = is.links; mesh = is.mesh })
+stays_of_auto m a text did (auto.Full others n e field) is = tt
 
 -- before a world is made no link stands
 fresh_links : (m n : schedule.Moment) → m.world ≡ None → n.world ≡ None → (world_of n).links ≡ (world_of m).links
@@ -186,9 +183,10 @@ line_stays m Nothing named early = inl (record { links = refl; mesh = refl })
 line_stays m (NewNode address first) named early =
     let none : m.world ≡ None = not_made m.world early in
     inr (tt, fresh_links m (counted (record m { mesh = with_node m.mesh address first })) none none)
-line_stays m (Does e) named early = stays_event m e (outcome_at m e) named
+line_stays m (Does e) named early = stays_by_events m (Does e) (auto.outcome_of_events (started m) (e ∷ [])) (stays_events (started m) (e ∷ []) (named, tt))
 line_stays m (Chooses count) named early =
-    stays_of_auto m count (line (words_of m.mesh (Chooses count))) (auto.auto_from count 0 (started m)) (stays_auto count 0 (started m))
+    let chosen : List Event = auto.events_chosen count (started m) in
+    stays_of_auto m (Chooses count) (line (words_of m.mesh (Chooses count))) (length chosen) (auto.outcome_of_events (started m) chosen) (stays_events (started m) chosen (chosen_keep count (started m)))
 line_stays m (ShowsNode x) named early = inl (record { links = refl; mesh = refl })
 line_stays m (ShowsRoute x d) named early = inl (record { links = refl; mesh = refl })
 line_stays m ShowsFlight named early = inl (record { links = refl; mesh = refl })

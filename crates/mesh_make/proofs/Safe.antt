@@ -9,11 +9,10 @@ use Rattle.mesh_grammar.specs.Lines.{Piece, Whole, piece_of, pieces_of}
 use Rattle.mesh_grammar.specs.Written.{line}
 use Rattle.mesh_model.specs.Worlds as worlds
 use Rattle.mesh_model.specs.Worlds.{Event, Outcome, Idle, Next}
-use Rattle.mesh_model.specs.Choices.{pick}
-use Rattle.mesh_text.specs.Schedule.{Moment, Accepted, Nothing, NewNode, Does, Chooses, ShowsNode, ShowsRoute, ShowsFlight, line_of, world_of, started, outcome_at, stepped}
+use Rattle.mesh_text.specs.Schedule.{Moment, Accepted, Nothing, NewNode, Does, Chooses, ShowsNode, ShowsRoute, ShowsFlight, line_of, started, outcome_at, stepped}
 use Rattle.mesh_text.specs.Ranges.{IsInTime}
 use Rattle.mesh_text.specs.Auto as auto
-use Rattle.mesh_text.specs.Text.{LineOutcome, On, Refused, Full, outcome_of_event, outcome_of_auto, outcome_of_line, outcome_of_read, outcome_of_piece, Written, RefusedAt, goes_on, text_from}
+use Rattle.mesh_text.specs.Text.{LineOutcome, On, Refused, Full, outcome_by_events, outcome_of_auto, outcome_of_line, outcome_of_read, outcome_of_piece, Written, RefusedAt, goes_on, text_from}
 use Rattle.mesh_make.proofs.Texts.{IsShort, short_lacks}
 
 -- the run of a text from a moment on
@@ -37,16 +36,16 @@ module _ (mesh : Nodes) where
   abbrev pub Has : Moment → Type 0
   Has m = m.mesh ≡ mesh
 
-  HasRan : auto.AutoOutcome → Type 0
-  HasRan (auto.Ended text did n) = Has n
+  HasRan : auto.EventsOutcome → Type 0
+  HasRan (auto.Ended text n) = Has n
   HasRan (auto.Full text at e field) = Unit {0}
 
-  before_has : (text : List ℕ) (r : auto.AutoOutcome) → HasRan r → HasRan (auto.before text r)
+  before_has : (text : List ℕ) (r : auto.EventsOutcome) → HasRan r → HasRan (auto.before text r)
   unfolding HasRan
-  before_has text (auto.Ended others did n) is = is
+  before_has text (auto.Ended others n) is = is
   before_has text (auto.Full others at e field) is = tt
 
-  done_has : (m : Moment) (e : Event) (o : Outcome) (others : Moment → auto.AutoOutcome) → HasRan (others (stepped m e)) → HasRan (auto.done_then m e o others)
+  done_has : (m : Moment) (e : Event) (o : Outcome) (others : Moment → auto.EventsOutcome) → HasRan (others (stepped m e)) → HasRan (auto.done_then m e o others)
   unfolding HasRan
   done_has m e Idle others is = before_has _ (others (stepped m e)) is
   done_has m e (worlds.Full x field) others is = tt
@@ -56,34 +55,30 @@ module _ (mesh : Nodes) where
   unfolding stepped
   stepped_has m e is = is
 
-  chosen_has : (m : Moment) (did : ℕ) (o : Option Event) (others : Moment → auto.AutoOutcome) → Has m → ((n : Moment) → Has n → HasRan (others n)) → HasRan (auto.chosen_then m did o others)
-  unfolding HasRan
-  chosen_has m did None others is rest = is
-  chosen_has m did (Some e) others is rest = done_has m e (outcome_at m e) others (rest (stepped m e) (stepped_has m e is))
+  events_have : (m : Moment) (es : List Event) → Has m → HasRan (auto.outcome_of_events m es)
+  unfolding HasRan auto.outcome_of_events
+  events_have m [] is = is
+  events_have m (e ∷ es) is = done_has m e (outcome_at m e) (λ n. auto.outcome_of_events n es) (events_have (stepped m e) es (stepped_has m e is))
 
-  auto_has : (most did : ℕ) (m : Moment) → Has m → HasRan (auto.auto_from most did m)
-  unfolding HasRan auto.auto_from
-  auto_has zero did m is = is
-  auto_has (suc most) did m is = chosen_has m did (pick (world_of m)) (λ n. auto.auto_from most (did + 1) n) is (λ n kept. auto_has most (did + 1) n kept)
-
-  ran_fine : (text : List ℕ) (r : auto.AutoOutcome) → HasRan r → Fine Has (outcome_of_auto text r)
+  events_fine : (r : auto.EventsOutcome) → HasRan r → Fine Has (outcome_by_events r)
   unfolding Fine HasRan
-  ran_fine text (auto.Ended others did n) is = is
-  ran_fine text (auto.Full others at e field) is = tt
+  events_fine (auto.Ended text n) is = is
+  events_fine (auto.Full text at e field) is = tt
 
-  event_fine : (m : Moment) (e : Event) (o : Outcome) → Has m → Fine Has (outcome_of_event m e o)
-  unfolding Fine
-  event_fine m e Idle is = stepped_has m e is
-  event_fine m e (worlds.Full x field) is = tt
-  event_fine m e (Next w happening) is = stepped_has m e is
+  auto_fine : (text : List ℕ) (did : ℕ) (r : auto.EventsOutcome) → HasRan r → Fine Has (outcome_of_auto text did r)
+  unfolding Fine HasRan
+  auto_fine text did (auto.Ended others n) is = is
+  auto_fine text did (auto.Full others at e field) is = tt
 
   -- a line that may come at any time is no `node` line
   pub line_fine : (m : Moment) (a : Accepted) → ((early : Bool) → IsInTime early a) → Has m → Fine Has (outcome_of_line m a)
   unfolding Fine outcome_of_line
   line_fine m Nothing later is = is
   line_fine m (NewNode address first) later is = absurd (let clash : true ≡ false = later true in let Q : ⊥ = cc in Q)
-  line_fine m (Does e) later is = event_fine m e (outcome_at m e) is
-  line_fine m (Chooses count) later is = ran_fine _ (auto.auto_from count 0 (started m)) (auto_has count 0 (started m) is)
+  line_fine m (Does e) later is = events_fine (auto.outcome_of_events (started m) (e ∷ [])) (events_have (started m) (e ∷ []) is)
+  line_fine m (Chooses count) later is =
+      let chosen : List Event = auto.events_chosen count (started m) in
+      auto_fine _ (length chosen) (auto.outcome_of_events (started m) chosen) (events_have (started m) chosen is)
   line_fine m (ShowsNode x) later is = is
   line_fine m (ShowsRoute x d) later is = is
   line_fine m ShowsFlight later is = is

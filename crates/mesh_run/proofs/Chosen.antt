@@ -1,5 +1,6 @@
--- Events that the run chooses, one after another.
-use Rattle.std.proofs.Common.{◌≡◌, ℕ, suc, ◌+◌, ◌-◌, ◌<◌, ◌≤◌, Bool, List, [], ◌++◌, Option, Some, None, Result, Ok, Err, length, refl, sym, ap, subst, ◌∙◌, append-nil, arith}
+-- Events one after another: one that is given, or those that the run chooses.
+use Rattle.std.proofs.Common.{◌≡◌, ℕ, zero, suc, ◌+◌, ◌-◌, ◌<◌, ◌≤◌, Bool, List, [], ◌∷◌, ◌++◌, Option, Some, None, Result, Ok, Err, length, refl, sym, ap, subst, ◌∙◌, arith}
+use Rattle.std.specs.Prelude.{IfSome}
 use Rattle.std.specs.Io.KnownBytes.{Appends}
 use Rattle.mesh_base.specs.declared.events.Counter.{Counter}
 use Rattle.mesh_io.specs.Puts.{AppendsPrefix}
@@ -8,15 +9,15 @@ use Rattle.mesh_model.specs.Worlds.{Event, Outcome, Idle, Next}
 use Rattle.mesh_model.specs.Places.{IsEvent}
 use Rattle.mesh_model.specs.Choices.{pick}
 use Rattle.mesh_meaning.specs.Events.{event_of}
-use Rattle.mesh_text.specs.Schedule.{Moment, Chooses, counted, started, stepped, outcome_at, world_of}
+use Rattle.mesh_text.specs.Schedule.{Moment, Does, Chooses, counted, started, stepped, outcome_at, world_of}
 use Rattle.mesh_text.specs.Lines.{words_of}
 use Rattle.mesh_grammar.specs.Written.{line}
 use Rattle.mesh_text.specs.Effects.{outcome_lines}
-use Rattle.mesh_text.specs.Auto.{AutoOutcome, Ended, Full as AutoFull, before, done_then, chosen_then, auto_from, auto_end}
-use Rattle.mesh_text.specs.Text.{LineOutcome, On, Refused, Full, outcome_of_auto, outcome_of_line, text_in}
+use Rattle.mesh_text.specs.Auto.{EventsOutcome, Ended, Full as EventsFull, before, done_then, outcome_of_events, event_then, choice_then, events_chosen, auto_end}
+use Rattle.mesh_text.specs.Text.{LineOutcome, On, Refused, Full, outcome_by_events, outcome_of_auto, outcome_of_line, text_in}
 use Rattle.mesh_run.specs.declared.stop.Stop.{Stop}
 use Rattle.mesh_run.specs.declared.stop.Stop.TheVariants as stop
-use Rattle.mesh_run.specs.Runs.{output_if, IsLineDone, IsLineStopped, outcome_by, IsAutoDone, IsAutoRun, text_of, next_in, done_from}
+use Rattle.mesh_run.specs.Runs.{output_if, IsStill, IsLineDone, IsLineStopped, outcome_by, IsEventsDone, IsEventsRun, text_of, next_in, events_due}
 use Rattle.mesh_run.proofs.Shown.{shown_none, shown_join, front_join, front_more}
 
 -- ---- how many are left
@@ -24,55 +25,94 @@ use Rattle.mesh_run.proofs.Shown.{shown_none, shown_join, front_join, front_more
 pub one_less : (most did : ℕ) → did < most → most - did ≡ suc (most - (did + 1))
 one_less most did h = omega arith
 
-auto_from-suc : (n did : ℕ) (m : Moment) → auto_from (suc n) did m ≡ chosen_then m did (pick (world_of m)) (λ p. auto_from n (did + 1) p)
-unfolding auto_from
-auto_from-suc n did m = refl
+none_left : (most did : ℕ) → most ≤ did → most - did ≡ 0
+none_left most did h = omega arith
 
-auto_from-zero : (did : ℕ) (m : Moment) → auto_from 0 did m ≡ Ended [] did m
-unfolding auto_from
-auto_from-zero did m = refl
+-- one event is the last where it is given
+one_given : (m : Moment) (e : Event) (o : Outcome) → e ∷ [] ≡ event_then m e o (λ n. [])
+one_given m e Idle = refl
+one_given m e (worlds.Full x field) = refl
+one_given m e (Next w i) = refl
 
-auto_from-step : (most did : ℕ) (m : Moment) (o : Option Event) → did < most → o ≡ pick (world_of m)
-    → auto_from (most - did) did m ≡ chosen_then m did o (λ p. auto_from (most - (did + 1)) (did + 1) p)
-auto_from-step most did m o h e =
-    ap (λ n. auto_from n did m) (one_less most did h) ∙ auto_from-suc _ did m ∙ ap (λ c. chosen_then m did c (λ p. auto_from (most - (did + 1)) (did + 1) p)) (sym e)
+chosen_suc : (k : ℕ) (m : Moment) → events_chosen (suc k) m ≡ choice_then m (pick (world_of m)) (λ n. events_chosen k n)
+unfolding events_chosen
+chosen_suc k m = refl
 
--- the same, where an event may be given
-done_from-step : (given : Option Event) (most did : ℕ) (m : Moment) (o : Option Event) → did < most → o ≡ next_in given m
-    → done_from given (most - did) did m ≡ chosen_then m did o (λ p. done_from given (most - (did + 1)) (did + 1) p)
-unfolding done_from
-done_from-step None most did m o h e = auto_from-step most did m o h e
-done_from-step (Some x) most did m o h e =
-    ap (λ n. done_from (Some x) n did m) (one_less most did h) ∙ ap (λ c. chosen_then m did c (λ p. done_from (Some x) (most - (did + 1)) (did + 1) p)) (sym e)
+chosen_zero : (m : Moment) → events_chosen 0 m ≡ []
+unfolding events_chosen
+chosen_zero m = refl
+
+chosen_none : (k : ℕ) (m : Moment) → None ≡ pick (world_of m) → events_chosen k m ≡ []
+chosen_none zero m h = chosen_zero m
+chosen_none (suc k) m h = chosen_suc k m ∙ ap (λ o. choice_then m o (λ n. events_chosen k n)) (sym h)
+
+due_zero : (given : Option Event) (m : Moment) → events_due given 0 m ≡ []
+unfolding events_due
+due_zero None m = chosen_zero m
+due_zero (Some x) m = refl
 
 -- as many were done as were asked for
-auto_from-all : (most did : ℕ) (m : Moment) → most ≤ did → auto_from (most - did) did m ≡ Ended [] did m
-auto_from-all most did m h = ap (λ n. auto_from n did m) (let z : most - did ≡ 0 = omega arith in z) ∙ auto_from-zero did m
+pub due_all : (given : Option Event) (most did : ℕ) (m : Moment) → most ≤ did → events_due given (most - did) m ≡ []
+due_all given most did m h = ap (λ k. events_due given k m) (none_left most did h) ∙ due_zero given m
 
-done_from-all : (given : Option Event) (most did : ℕ) (m : Moment) → most ≤ did → done_from given (most - did) did m ≡ Ended [] did m
-unfolding done_from
-done_from-all None most did m h = auto_from-all most did m h
-done_from-all (Some x) most did m h = ap (λ n. done_from (Some x) n did m) (let z : most - did ≡ 0 = omega arith in z)
+-- none is left to be chosen
+pub due_none : (given : Option Event) (k : ℕ) (m : Moment) → None ≡ next_in given m → events_due given k m ≡ []
+unfolding events_due
+due_none None k m h = chosen_none k m h
+due_none (Some x) k m h = absurd (let other : Some x ≡ None = sym h in let P : ⊥ = cc in P)
 
-pub nothing_more : (quiet : Bool) (m : Moment) (ran : AutoOutcome) (did : ℕ) (a : Option (List ℕ)) → ran ≡ Ended [] did m → IsAutoDone quiet ran m a a did
-nothing_more quiet m ran did a e = record { text = []; is = e; grown = shown_none quiet a }
+-- one more
+pub due_next : (given : Option Event) (most did : ℕ) (m : Moment) (e : Event) → IfSome given (λ _. most ≤ 1) → did < most → Some e ≡ next_in given m
+    → events_due given (most - did) m ≡ event_then m e (outcome_at m e) (λ n. events_due given (most - (did + 1)) n)
+unfolding events_due
+due_next None most did m e one h picked =
+    ap (λ k. events_chosen k m) (one_less most did h) ∙ chosen_suc (most - (did + 1)) m ∙ ap (λ o. choice_then m o (λ n. events_chosen (most - (did + 1)) n)) (sym picked)
+due_next (Some x) most did m e one h same =
+    let few : most ≤ 1 = one in
+    let last : most - (did + 1) ≡ 0 = omega (arith, few) in
+    let is : Some e ≡ Some x = same in
+    let it : x ≡ e = cc in
+    ap (λ k. events_due (Some x) k m) (one_less most did h)
+    ∙ ap (λ a. a ∷ []) it
+    ∙ one_given m e (outcome_at m e)
+    ∙ ap (λ k. event_then m e (outcome_at m e) (λ n. events_due (Some x) k n)) (sym last)
 
-pub ends_all : (quiet : Bool) (given : Option Event) (most did : ℕ) (m : Moment) (a : Option (List ℕ)) → most ≤ did → IsAutoDone quiet (done_from given (most - did) did m) m a a did
-ends_all quiet given most did m a h = nothing_more quiet m (done_from given (most - did) did m) did a (done_from-all given most did m h)
+-- what comes of one event, and then of others
+ran_then : (m : Moment) (e : Event) (o : Outcome) (others : Moment → List Event) → outcome_at m e ≡ o
+    → outcome_of_events m (event_then m e o others) ≡ done_then m e o (λ n. outcome_of_events n (others n))
+unfolding outcome_of_events
+ran_then m e Idle others is = ap (λ o. done_then m e o (λ n. outcome_of_events n (others (stepped m e)))) is
+ran_then m e (worlds.Full x field) others is = ap (λ o. done_then m e o (λ n. outcome_of_events n [])) is
+ran_then m e (Next w i) others is = ap (λ o. done_then m e o (λ n. outcome_of_events n (others (stepped m e)))) is
 
--- none left to be chosen
-pub ends_none : (quiet : Bool) (given : Option Event) (most did : ℕ) (m : Moment) (a : Option (List ℕ)) → did < most → None ≡ next_in given m
-    → IsAutoDone quiet (done_from given (most - did) did m) m a a did
-ends_none quiet given most did m a h e = nothing_more quiet m (done_from given (most - did) did m) did a (done_from-step given most did m None h e)
+pub ran_next : (m : Moment) (e : Event) (others : Moment → List Event)
+    → outcome_of_events m (event_then m e (outcome_at m e) others) ≡ done_then m e (outcome_at m e) (λ n. outcome_of_events n (others n))
+ran_next m e others = ran_then m e (outcome_at m e) others refl
+
+pub nothing_more : (quiet : Bool) (m : Moment) (events : List Event) (a : Option (List ℕ)) → events ≡ [] → IsEventsDone quiet (outcome_of_events m events) m a a
+unfolding outcome_of_events
+nothing_more quiet m events a none = record { text = []; is = ap (outcome_of_events m) none; grown = shown_none quiet a }
+
+-- one was done, so as many are left as there were but one
+then_counts : (quiet : Bool) (m n : Moment) (e : Event) (o : Outcome) (others : Moment → List Event) (a b : Option (List ℕ)) → IsLineDone quiet (outcome_by m e o) n a b → n ≡ stepped m e
+    → length (event_then m e o others) ≡ suc (length (others n))
+then_counts quiet m n e Idle others a b done next = ap (λ k. suc (length (others k))) (sym next)
+then_counts quiet m n e (worlds.Full x field) others a b done next = absurd (let h : Full [] m e field ≡ On done.text n = done.is in let P : ⊥ = cc in P)
+then_counts quiet m n e (Next w i) others a b done next = ap (λ k. suc (length (others k))) (sym next)
+
+pub due_counts : (quiet : Bool) (given : Option Event) (most did : ℕ) (m n : Moment) (e : Event) (a b : Option (List ℕ)) → IfSome given (λ _. most ≤ 1) → did < most → Some e ≡ next_in given m
+    → IsLineDone quiet (outcome_by m e (outcome_at m e)) n a b → n ≡ stepped m e → length (events_due given (most - did) m) ≡ suc (length (events_due given (most - (did + 1)) n))
+due_counts quiet given most did m n e a b one h p done next =
+    ap length (due_next given most did m e one h p) ∙ then_counts quiet m n e (outcome_at m e) (λ x. events_due given (most - (did + 1)) x) a b done next
 
 -- ---- one event, and then the others
 
-pub text-before : (text : List ℕ) (ran : AutoOutcome) → text_of (before text ran) ≡ text ++ text_of ran
-text-before text (Ended others did after) = refl
-text-before text (AutoFull others n e field) = refl
+pub text-before : (text : List ℕ) (ran : EventsOutcome) → text_of (before text ran) ≡ text ++ text_of ran
+text-before text (Ended others after) = refl
+text-before text (EventsFull others n e field) = refl
 
-before_to : (quiet : Bool) (m n k : Moment) (text : List ℕ) (ran : AutoOutcome) (a b c : Option (List ℕ)) (r : Result ℕ Stop) → n.mesh ≡ m.mesh → n.lines ≡ m.lines
-    → Appends a b (output_if quiet text) → IsAutoRun quiet n ran k b c r → IsAutoRun quiet m (before text ran) k a c r
+before_to : (quiet : Bool) (m n k : Moment) (text : List ℕ) (ran : EventsOutcome) (a b c : Option (List ℕ)) (r : Result ℕ Stop) → n.mesh ≡ m.mesh → n.lines ≡ m.lines
+    → Appends a b (output_if quiet text) → IsEventsRun quiet n ran k b c r → IsEventsRun quiet m (before text ran) k a c r
 before_to quiet m n k text ran a b c (Ok did) em el p q =
     record { text = text ++ q.text; is = ap (before text) q.is; grown = shown_join quiet a b c text q.text p q.grown }
 before_to quiet m n k text ran a b c (Err (stop.BadLine f)) em el p q = q
@@ -97,25 +137,25 @@ moment_of_came m (Refused why) = m
 moment_of_came m (Full text n e field) = m
 
 -- an event that was done
-pub on_then : (quiet : Bool) (m n k : Moment) (e : Event) (text : List ℕ) (ran : Moment → AutoOutcome) (a b c : Option (List ℕ)) (r : Result ℕ Stop)
-    → (g : IsLineDone quiet (On text (stepped m e)) n a b) → IsAutoRun quiet n (ran n) k b c r → IsAutoRun quiet m (before text (ran (stepped m e))) k a c r
+pub on_then : (quiet : Bool) (m n k : Moment) (e : Event) (text : List ℕ) (ran : Moment → EventsOutcome) (a b c : Option (List ℕ)) (r : Result ℕ Stop)
+    → (g : IsLineDone quiet (On text (stepped m e)) n a b) → IsEventsRun quiet n (ran n) k b c r → IsEventsRun quiet m (before text (ran (stepped m e))) k a c r
 unfolding stepped moment_of_came
 on_then quiet m n k e text ran a b c r g q =
     let same : stepped m e ≡ n = ap (moment_of_came m) g.is in
     let words : text ≡ g.text = ap text_in g.is in
-    let P : Moment → Type 0 = λ p. IsAutoRun quiet m (before text (ran p)) k a c r in
+    let P : Moment → Type 0 = λ p. IsEventsRun quiet m (before text (ran p)) k a c r in
     let Q : List ℕ → Type 0 = λ l. Appends a b (output_if quiet l) in
     subst P (sym same) (before_to quiet m n k text (ran n) a b c r (ap (λ p. p.mesh) (sym same)) (ap (λ p. p.lines) (sym same)) (subst Q (sym words) g.grown) q)
 
-then_goes : (quiet : Bool) (m n k : Moment) (e : Event) (o : Outcome) (others : Moment → AutoOutcome) (a b c : Option (List ℕ)) (r : Result ℕ Stop)
-    → IsLineDone quiet (outcome_by m e o) n a b → IsAutoRun quiet n (others n) k b c r → IsAutoRun quiet m (done_then m e o others) k a c r
+then_goes : (quiet : Bool) (m n k : Moment) (e : Event) (o : Outcome) (others : Moment → EventsOutcome) (a b c : Option (List ℕ)) (r : Result ℕ Stop)
+    → IsLineDone quiet (outcome_by m e o) n a b → IsEventsRun quiet n (others n) k b c r → IsEventsRun quiet m (done_then m e o others) k a c r
 then_goes quiet m n k e Idle others a b c r g q = on_then quiet m n k e (outcome_lines m.mesh e Idle) others a b c r g q
 then_goes quiet m n k e (worlds.Full x field) others a b c r g q = absurd (let h : Full [] m e field ≡ On g.text n = g.is in let P : ⊥ = cc in P)
 then_goes quiet m n k e (Next w i) others a b c r g q = on_then quiet m n k e (outcome_lines m.mesh e (Next w i)) others a b c r g q
 
 -- an event that was not done, or not written whole
-pub on_stops : (quiet : Bool) (m n p : Moment) (text : List ℕ) (ran : AutoOutcome) (a b : Option (List ℕ)) (t : Stop)
-    → IsLineStopped quiet m (On text p) n a b t → IsAutoRun quiet m (before text ran) n a b (Err t)
+pub on_stops : (quiet : Bool) (m n p : Moment) (text : List ℕ) (ran : EventsOutcome) (a b : Option (List ℕ)) (t : Stop)
+    → IsLineStopped quiet m (On text p) n a b t → IsEventsRun quiet m (before text ran) n a b (Err t)
 on_stops quiet m n p text ran a b (stop.BadLine f) g = absurd (let h = g.0 in let P : ⊥ = cc in P)
 on_stops quiet m n p text ran a b (stop.Full event node field) g = absurd (let h : On text p ≡ Full g.text n (event_of event) field = g.is in let P : ⊥ = cc in P)
 on_stops quiet m n p text ran a b stop.WriteFault g =
@@ -125,19 +165,19 @@ on_stops quiet m n p text ran a b stop.NoMemory g =
     let P : List ℕ → Type 0 = λ l. AppendsPrefix a b (output_if quiet l) in
     subst P (sym (text-before text ran)) (front_more quiet a b text (text_of ran) g)
 
-ran_in : AutoOutcome → LineOutcome → AutoOutcome
+ran_in : EventsOutcome → LineOutcome → EventsOutcome
 ran_in d (On text n) = d
 ran_in d (Refused why) = d
-ran_in d (Full text n e field) = AutoFull text n e field
+ran_in d (Full text n e field) = EventsFull text n e field
 
 -- one that is refused for a full counter
 pub full_stops : (quiet : Bool) (m n : Moment) (e : Event) (full : Counter) (a b : Option (List ℕ)) (t : Stop)
-    → IsLineStopped quiet m (Full [] m e full) n a b t → IsAutoRun quiet m (AutoFull [] m e full) n a b (Err t)
+    → IsLineStopped quiet m (Full [] m e full) n a b t → IsEventsRun quiet m (EventsFull [] m e full) n a b (Err t)
 unfolding ran_in
 full_stops quiet m n e full a b (stop.BadLine f) g = absurd (let h = g.0 in let P : ⊥ = cc in P)
 full_stops quiet m n e full a b (stop.Full event node field) g = record {
   text = g.text;
-  is = ap (ran_in (AutoFull [] m e full)) g.is;
+  is = ap (ran_in (EventsFull [] m e full)) g.is;
   refused = g.refused;
   grown = g.grown;
   still = g.still;
@@ -145,162 +185,168 @@ full_stops quiet m n e full a b (stop.Full event node field) g = record {
 full_stops quiet m n e full a b stop.WriteFault g = g
 full_stops quiet m n e full a b stop.NoMemory g = g
 
-then_stops : (quiet : Bool) (m n : Moment) (e : Event) (o : Outcome) (others : Moment → AutoOutcome) (a b : Option (List ℕ)) (t : Stop)
-    → IsLineStopped quiet m (outcome_by m e o) n a b t → IsAutoRun quiet m (done_then m e o others) n a b (Err t)
+then_stops : (quiet : Bool) (m n : Moment) (e : Event) (o : Outcome) (others : Moment → EventsOutcome) (a b : Option (List ℕ)) (t : Stop)
+    → IsLineStopped quiet m (outcome_by m e o) n a b t → IsEventsRun quiet m (done_then m e o others) n a b (Err t)
 then_stops quiet m n e Idle others a b t g = on_stops quiet m n (stepped m e) (outcome_lines m.mesh e Idle) (others (stepped m e)) a b t g
 then_stops quiet m n e (worlds.Full x full) others a b t g = full_stops quiet m n e full a b t g
 then_stops quiet m n e (Next w i) others a b t g = on_stops quiet m n (stepped m e) (outcome_lines m.mesh e (Next w i)) (others (stepped m e)) a b t g
 
 -- one event more
-pub ran_goes : (quiet : Bool) (given : Option Event) (most did : ℕ) (m n k : Moment) (e : Event) (a b c : Option (List ℕ)) (r : Result ℕ Stop) → did < most → Some e ≡ next_in given m
-    → IsLineDone quiet (outcome_by m e (outcome_at m e)) n a b → IsAutoRun quiet n (done_from given (most - (did + 1)) (did + 1) n) k b c r
-    → IsAutoRun quiet m (done_from given (most - did) did m) k a c r
-ran_goes quiet given most did m n k e a b c r h p g q =
-    let P : AutoOutcome → Type 0 = λ ran. IsAutoRun quiet m ran k a c r in
-    subst P (sym (done_from-step given most did m (Some e) h p)) (then_goes quiet m n k e (outcome_at m e) (λ x. done_from given (most - (did + 1)) (did + 1) x) a b c r g q)
+pub ran_goes : (quiet : Bool) (given : Option Event) (most did : ℕ) (m n k : Moment) (e : Event) (a b c : Option (List ℕ)) (r : Result ℕ Stop) → IfSome given (λ _. most ≤ 1) → did < most → Some e ≡ next_in given m
+    → IsLineDone quiet (outcome_by m e (outcome_at m e)) n a b → IsEventsRun quiet n (outcome_of_events n (events_due given (most - (did + 1)) n)) k b c r
+    → IsEventsRun quiet m (outcome_of_events m (events_due given (most - did) m)) k a c r
+ran_goes quiet given most did m n k e a b c r one h p g q =
+    let P : EventsOutcome → Type 0 = λ ran. IsEventsRun quiet m ran k a c r in
+    subst P (sym (ap (outcome_of_events m) (due_next given most did m e one h p) ∙ ran_next m e (λ x. events_due given (most - (did + 1)) x)))
+    (then_goes quiet m n k e (outcome_at m e) (λ x. outcome_of_events x (events_due given (most - (did + 1)) x)) a b c r g q)
 
-pub ran_stops : (quiet : Bool) (given : Option Event) (most did : ℕ) (m n : Moment) (e : Event) (a b : Option (List ℕ)) (t : Stop) → did < most → Some e ≡ next_in given m
-    → IsLineStopped quiet m (outcome_by m e (outcome_at m e)) n a b t → IsAutoRun quiet m (done_from given (most - did) did m) n a b (Err t)
-ran_stops quiet given most did m n e a b t h p g =
-    let P : AutoOutcome → Type 0 = λ ran. IsAutoRun quiet m ran n a b (Err t) in
-    subst P (sym (done_from-step given most did m (Some e) h p)) (then_stops quiet m n e (outcome_at m e) (λ x. done_from given (most - (did + 1)) (did + 1) x) a b t g)
+pub ran_stops : (quiet : Bool) (given : Option Event) (most did : ℕ) (m n : Moment) (e : Event) (a b : Option (List ℕ)) (t : Stop) → IfSome given (λ _. most ≤ 1) → did < most → Some e ≡ next_in given m
+    → IsLineStopped quiet m (outcome_by m e (outcome_at m e)) n a b t → IsEventsRun quiet m (outcome_of_events m (events_due given (most - did) m)) n a b (Err t)
+ran_stops quiet given most did m n e a b t one h p g =
+    let P : EventsOutcome → Type 0 = λ ran. IsEventsRun quiet m ran n a b (Err t) in
+    subst P (sym (ap (outcome_of_events m) (due_next given most did m e one h p) ∙ ran_next m e (λ x. events_due given (most - (did + 1)) x)))
+    (then_stops quiet m n e (outcome_at m e) (λ x. outcome_of_events x (events_due given (most - (did + 1)) x)) a b t g)
 
--- ---- one event that is given, by itself
+-- ---- the line of an event
 
--- what comes of it, by what came of one event
-one_in : Moment → AutoOutcome → LineOutcome
-one_in m (Ended text did n) = On text n
-one_in m (AutoFull text n e field) = Full text n e field
+-- what is known after a refusal, of the moment before the run was started
+still_since : (m s n : Moment) (e : Event) → s ≡ started m → IsStill s n e → IsStill m n e
+still_since m s n e same still = record {
+  event = subst (λ x. IsEvent (length x.mesh) e) same still.event;
+  mesh = still.mesh ∙ ap (λ x. x.mesh) same;
+  lines = still.lines ∙ ap (λ x. x.lines) same;
+}
 
-one_by : (m : Moment) (e : Event) (o : Outcome) → one_in m (done_then m e o (λ n. Ended [] 1 n)) ≡ outcome_by m e o
-unfolding one_in
-one_by m e Idle = ap (λ l. On l (stepped m e)) (append-nil (outcome_lines m.mesh e Idle))
-one_by m e (worlds.Full x field) = refl
-one_by m e (Next w i) = ap (λ l. On l (stepped m e)) (append-nil (outcome_lines m.mesh e (Next w i)))
+came-does : (m s : Moment) (e : Event) → s ≡ started m → outcome_of_line m (Does e) ≡ outcome_by_events (outcome_of_events s (events_due (Some e) 1 s))
+unfolding outcome_of_line events_due
+came-does m s e same = ap (λ k. outcome_by_events (outcome_of_events k (e ∷ []))) (sym same)
 
-one_given : (m : Moment) (e : Event) → one_in m (done_from (Some e) 1 0 m) ≡ outcome_by m e (outcome_at m e)
-unfolding done_from
-one_given m e = one_by m e (outcome_at m e)
+text_by : (ran : EventsOutcome) → text_in (outcome_by_events ran) ≡ text_of ran
+text_by (Ended text n) = refl
+text_by (EventsFull text n e field) = refl
 
-one_text : (m : Moment) (ran : AutoOutcome) → text_in (one_in m ran) ≡ text_of ran
-unfolding one_in
-one_text m (Ended text did n) = refl
-one_text m (AutoFull text n e field) = refl
+-- in what follows `p` is the same moment as `n`, once the reference has come back
+pub does_goes : (quiet : Bool) (m s n p : Moment) (e : Event) (a b : Option (List ℕ)) → s ≡ started m → n ≡ p → IsEventsDone quiet (outcome_of_events s (events_due (Some e) 1 s)) n a b
+    → IsLineDone quiet (outcome_of_line m (Does e)) (counted p) a b
+does_goes quiet m s n p e a b same back g = record {
+  text = g.text;
+  is = came-does m s e same ∙ ap outcome_by_events g.is ∙ ap (λ k. On g.text (counted k)) back;
+  grown = g.grown;
+}
 
-one_done : (quiet : Bool) (m n : Moment) (e : Event) (a b : Option (List ℕ)) (did : ℕ) → IsAutoDone quiet (done_from (Some e) 1 0 m) n a b did
-    → IsLineDone quiet (outcome_by m e (outcome_at m e)) n a b
-unfolding one_in
-one_done quiet m n e a b did g = record { text = g.text; is = sym (one_given m e) ∙ ap (one_in m) g.is; grown = g.grown }
-
-one_front : (quiet : Bool) (m : Moment) (e : Event) (a b : Option (List ℕ)) → AppendsPrefix a b (output_if quiet (text_of (done_from (Some e) 1 0 m)))
-    → AppendsPrefix a b (output_if quiet (text_in (outcome_by m e (outcome_at m e))))
-one_front quiet m e a b g =
+does_front : (quiet : Bool) (m s : Moment) (e : Event) (a b : Option (List ℕ)) → s ≡ started m → AppendsPrefix a b (output_if quiet (text_of (outcome_of_events s (events_due (Some e) 1 s))))
+    → AppendsPrefix a b (output_if quiet (text_in (outcome_of_line m (Does e))))
+does_front quiet m s e a b same g =
     let P : List ℕ → Type 0 = λ l. AppendsPrefix a b (output_if quiet l) in
-    subst P (sym (one_text m (done_from (Some e) 1 0 m)) ∙ ap text_in (one_given m e)) g
+    subst P (sym (ap text_in (came-does m s e same) ∙ text_by (outcome_of_events s (events_due (Some e) 1 s)))) g
 
-one_stopped : (quiet : Bool) (m n : Moment) (e : Event) (a b : Option (List ℕ)) (t : Stop) → IsAutoRun quiet m (done_from (Some e) 1 0 m) n a b (Err t)
-    → IsLineStopped quiet m (outcome_by m e (outcome_at m e)) n a b t
-unfolding one_in
-one_stopped quiet m n e a b (stop.BadLine f) g = absurd g
-one_stopped quiet m n e a b (stop.Full event node field) g =
-    record { text = g.text; is = sym (one_given m e) ∙ ap (one_in m) g.is; refused = g.refused; grown = g.grown; still = g.still }
-one_stopped quiet m n e a b stop.WriteFault g = one_front quiet m e a b g
-one_stopped quiet m n e a b stop.NoMemory g = one_front quiet m e a b g
+does_stopped : (quiet : Bool) (m s n : Moment) (e : Event) (a b : Option (List ℕ)) (t : Stop) → s ≡ started m → IsEventsRun quiet s (outcome_of_events s (events_due (Some e) 1 s)) n a b (Err t)
+    → IsLineStopped quiet m (outcome_of_line m (Does e)) n a b t
+does_stopped quiet m s n e a b (stop.BadLine f) same g = absurd g
+does_stopped quiet m s n e a b (stop.Full event node field) same g = record {
+  text = g.text;
+  is = came-does m s e same ∙ ap outcome_by_events g.is;
+  refused = g.refused;
+  grown = g.grown;
+  still = still_since m s n (event_of event) same g.still;
+}
+does_stopped quiet m s n e a b stop.WriteFault same g = does_front quiet m s e a b same g
+does_stopped quiet m s n e a b stop.NoMemory same g = does_front quiet m s e a b same g
 
--- in what follows `k` is the same moment as `n`, once the reference has come back
-pub one_goes : (quiet : Bool) (m n k : Moment) (e : Event) (a b : Option (List ℕ)) (did : ℕ) → n ≡ k → IsAutoDone quiet (done_from (Some e) 1 0 m) n a b did
-    → IsLineDone quiet (outcome_by m e (outcome_at m e)) k a b
-one_goes quiet m n k e a b did same g = subst (λ (x : Moment). IsLineDone quiet (outcome_by m e (outcome_at m e)) x a b) same (one_done quiet m n e a b did g)
-
-pub one_stops : (quiet : Bool) (m n k : Moment) (e : Event) (a b : Option (List ℕ)) (t : Stop) → n ≡ k → IsAutoRun quiet m (done_from (Some e) 1 0 m) n a b (Err t)
-    → IsLineStopped quiet m (outcome_by m e (outcome_at m e)) k a b t
-one_stops quiet m n k e a b t same g = subst (λ (x : Moment). IsLineStopped quiet m (outcome_by m e (outcome_at m e)) x a b t) same (one_stopped quiet m n e a b t g)
+pub does_stops : (quiet : Bool) (m s n p : Moment) (e : Event) (a b : Option (List ℕ)) (t : Stop) → s ≡ started m → n ≡ p → IsEventsRun quiet s (outcome_of_events s (events_due (Some e) 1 s)) n a b (Err t)
+    → IsLineStopped quiet m (outcome_of_line m (Does e)) p a b t
+does_stops quiet m s n p e a b t same back g =
+    subst (λ (x : Moment). IsLineStopped quiet m (outcome_of_line m (Does e)) x a b t) back (does_stopped quiet m s n e a b t same g)
 
 -- ---- the line of chosen events
 
--- here `k` is what the line comes to, and `ran` the events, which the run chose from moment s on
-front_in : (quiet : Bool) (w : List ℕ) (ran : AutoOutcome) (a b c : Option (List ℕ)) → Appends a b (output_if quiet w) → AppendsPrefix b c (output_if quiet (text_of ran))
-    → AppendsPrefix a c (output_if quiet (text_in (outcome_of_auto w ran)))
-front_in quiet w (Ended others did after) a b c p q = front_more quiet a c (w ++ others) (auto_end did) (front_join quiet a b c w others p q)
-front_in quiet w (AutoFull others n e field) a b c p q = front_join quiet a b c w others p q
+-- here `k` is what the line comes to, and `ran` the events, of which there were `did`, from moment s on
+front_in : (quiet : Bool) (w : List ℕ) (did : ℕ) (ran : EventsOutcome) (a b c : Option (List ℕ)) → Appends a b (output_if quiet w) → AppendsPrefix b c (output_if quiet (text_of ran))
+    → AppendsPrefix a c (output_if quiet (text_in (outcome_of_auto w did ran)))
+front_in quiet w did (Ended others after) a b c p q = front_more quiet a c (w ++ others) (auto_end did) (front_join quiet a b c w others p q)
+front_in quiet w did (EventsFull others n e field) a b c p q = front_join quiet a b c w others p q
 
-front_at : (quiet : Bool) (w : List ℕ) (ran : AutoOutcome) (a b : Option (List ℕ)) → AppendsPrefix a b (output_if quiet w) → AppendsPrefix a b (output_if quiet (text_in (outcome_of_auto w ran)))
-front_at quiet w (Ended others did after) a b p = front_more quiet a b (w ++ others) (auto_end did) (front_more quiet a b w others p)
-front_at quiet w (AutoFull others n e field) a b p = front_more quiet a b w others p
+front_at : (quiet : Bool) (w : List ℕ) (did : ℕ) (ran : EventsOutcome) (a b : Option (List ℕ)) → AppendsPrefix a b (output_if quiet w) → AppendsPrefix a b (output_if quiet (text_in (outcome_of_auto w did ran)))
+front_at quiet w did (Ended others after) a b p = front_more quiet a b (w ++ others) (auto_end did) (front_more quiet a b w others p)
+front_at quiet w did (EventsFull others n e field) a b p = front_more quiet a b w others p
 
-pub line_goes : (quiet : Bool) (k : LineOutcome) (w : List ℕ) (ran : AutoOutcome) (n next : Moment) (did : ℕ) (a b c d : Option (List ℕ)) → k ≡ outcome_of_auto w ran → Appends a b (output_if quiet w)
-    → IsAutoDone quiet ran n b c did → Appends c d (output_if quiet (auto_end did)) → next ≡ counted n → IsLineDone quiet k next a d
-line_goes quiet k w ran n next did a b c d is p q r counts = record {
+pub line_goes : (quiet : Bool) (k : LineOutcome) (w : List ℕ) (did : ℕ) (ran : EventsOutcome) (n next : Moment) (a b c d : Option (List ℕ)) → k ≡ outcome_of_auto w did ran → Appends a b (output_if quiet w)
+    → IsEventsDone quiet ran n b c → Appends c d (output_if quiet (auto_end did)) → next ≡ counted n → IsLineDone quiet k next a d
+line_goes quiet k w did ran n next a b c d is p q r counts = record {
   text = w ++ q.text ++ auto_end did;
-  is = is ∙ ap (outcome_of_auto w) q.is ∙ ap (λ x. On (w ++ q.text ++ auto_end did) x) (sym counts);
+  is = is ∙ ap (outcome_of_auto w did) q.is ∙ ap (λ x. On (w ++ q.text ++ auto_end did) x) (sym counts);
   grown = shown_join quiet a c d (w ++ q.text) (auto_end did) (shown_join quiet a b c w q.text p q.grown) r;
 }
 
 -- the line itself is not written whole
-pub line_front : (quiet : Bool) (k : LineOutcome) (w : List ℕ) (ran : AutoOutcome) (a b : Option (List ℕ)) → k ≡ outcome_of_auto w ran → AppendsPrefix a b (output_if quiet w) → AppendsPrefix a b (output_if quiet (text_in k))
-line_front quiet k w ran a b is p =
+pub line_front : (quiet : Bool) (k : LineOutcome) (w : List ℕ) (did : ℕ) (ran : EventsOutcome) (a b : Option (List ℕ)) → k ≡ outcome_of_auto w did ran → AppendsPrefix a b (output_if quiet w) → AppendsPrefix a b (output_if quiet (text_in k))
+line_front quiet k w did ran a b is p =
     let P : LineOutcome → Type 0 = λ x. AppendsPrefix a b (output_if quiet (text_in x)) in
-    subst P (sym is) (front_at quiet w ran a b p)
+    subst P (sym is) (front_at quiet w did ran a b p)
 
 -- nor the line after the events
-pub line_end_front : (quiet : Bool) (k : LineOutcome) (w : List ℕ) (ran : AutoOutcome) (n : Moment) (did : ℕ) (a b c d : Option (List ℕ)) → k ≡ outcome_of_auto w ran → Appends a b (output_if quiet w)
-    → IsAutoDone quiet ran n b c did → AppendsPrefix c d (output_if quiet (auto_end did)) → AppendsPrefix a d (output_if quiet (text_in k))
-line_end_front quiet k w ran n did a b c d is p q r =
+pub line_end_front : (quiet : Bool) (k : LineOutcome) (w : List ℕ) (did : ℕ) (ran : EventsOutcome) (n : Moment) (a b c d : Option (List ℕ)) → k ≡ outcome_of_auto w did ran → Appends a b (output_if quiet w)
+    → IsEventsDone quiet ran n b c → AppendsPrefix c d (output_if quiet (auto_end did)) → AppendsPrefix a d (output_if quiet (text_in k))
+line_end_front quiet k w did ran n a b c d is p q r =
     let P : LineOutcome → Type 0 = λ x. AppendsPrefix a d (output_if quiet (text_in x)) in
-    subst P (sym (is ∙ ap (outcome_of_auto w) q.is)) (front_join quiet a c d (w ++ q.text) (auto_end did) (shown_join quiet a b c w q.text p q.grown) r)
+    subst P (sym (is ∙ ap (outcome_of_auto w did) q.is)) (front_join quiet a c d (w ++ q.text) (auto_end did) (shown_join quiet a b c w q.text p q.grown) r)
 
 -- an event was not done, or not written whole
-pub line_stops : (quiet : Bool) (m s : Moment) (k : LineOutcome) (w : List ℕ) (ran : AutoOutcome) (n : Moment) (a b c : Option (List ℕ)) (t : Stop) → s ≡ started m → k ≡ outcome_of_auto w ran
-    → Appends a b (output_if quiet w) → IsAutoRun quiet s ran n b c (Err t) → IsLineStopped quiet m k n a c t
-line_stops quiet m s k w ran n a b c (stop.BadLine f) same is p q = absurd q
-line_stops quiet m s k w ran n a b c (stop.Full event node field) same is p q = record {
+pub line_stops : (quiet : Bool) (m s : Moment) (k : LineOutcome) (w : List ℕ) (did : ℕ) (ran : EventsOutcome) (n : Moment) (a b c : Option (List ℕ)) (t : Stop) → s ≡ started m → k ≡ outcome_of_auto w did ran
+    → Appends a b (output_if quiet w) → IsEventsRun quiet s ran n b c (Err t) → IsLineStopped quiet m k n a c t
+line_stops quiet m s k w did ran n a b c (stop.BadLine f) same is p q = absurd q
+line_stops quiet m s k w did ran n a b c (stop.Full event node field) same is p q = record {
   text = w ++ q.text;
-  is = is ∙ ap (outcome_of_auto w) q.is;
+  is = is ∙ ap (outcome_of_auto w did) q.is;
   refused = q.refused;
   grown = shown_join quiet a b c w q.text p q.grown;
-  still = record {
-    event = subst (λ x. IsEvent (length x.mesh) (event_of event)) same q.still.event;
-    mesh = q.still.mesh ∙ ap (λ x. x.mesh) same;
-    lines = q.still.lines ∙ ap (λ x. x.lines) same;
-  };
+  still = still_since m s n (event_of event) same q.still;
 }
-line_stops quiet m s k w ran n a b c stop.WriteFault same is p q =
+line_stops quiet m s k w did ran n a b c stop.WriteFault same is p q =
     let P : LineOutcome → Type 0 = λ x. AppendsPrefix a c (output_if quiet (text_in x)) in
-    subst P (sym is) (front_in quiet w ran a b c p q)
-line_stops quiet m s k w ran n a b c stop.NoMemory same is p q =
+    subst P (sym is) (front_in quiet w did ran a b c p q)
+line_stops quiet m s k w did ran n a b c stop.NoMemory same is p q =
     let P : LineOutcome → Type 0 = λ x. AppendsPrefix a c (output_if quiet (text_in x)) in
-    subst P (sym is) (front_in quiet w ran a b c p q)
+    subst P (sym is) (front_in quiet w did ran a b c p q)
 
 -- ---- the same of the schedule's run
 
-came-chooses : (m s : Moment) (count : ℕ) → s ≡ started m → outcome_of_line m (Chooses count) ≡ outcome_of_auto (line (words_of m.mesh (Chooses count))) (auto_from count 0 s)
+came-chooses : (m s : Moment) (count did : ℕ) → s ≡ started m → did ≡ length (events_chosen count s)
+    → outcome_of_line m (Chooses count) ≡ outcome_of_auto (line (words_of m.mesh (Chooses count))) did (outcome_of_events s (events_chosen count s))
 unfolding outcome_of_line
-came-chooses m s count same = ap (λ k. outcome_of_auto (line (words_of m.mesh (Chooses count))) (auto_from count 0 k)) (sym same)
+came-chooses m s count did same many =
+    ap (λ k. outcome_of_auto (line (words_of m.mesh (Chooses count))) (length (events_chosen count k)) (outcome_of_events k (events_chosen count k))) (sym same)
+    ∙ ap (λ x. outcome_of_auto (line (words_of m.mesh (Chooses count))) x (outcome_of_events s (events_chosen count s))) (sym many)
 
--- what was told where none is given
-pub chosen_ran : (quiet : Bool) (s m n : Moment) (count : ℕ) (a b : Option (List ℕ)) (r : Result ℕ Stop) → s ≡ m → IsAutoRun quiet s (done_from None count 0 s) n a b r
-    → IsAutoRun quiet m (auto_from count 0 m) n a b r
-unfolding done_from
-chosen_ran quiet s m n count a b r same g = subst (λ (x : Moment). IsAutoRun quiet x (auto_from count 0 x) n a b r) same g
-
-pub auto_goes : (quiet : Bool) (m s n k : Moment) (count did : ℕ) (a b c d : Option (List ℕ)) → s ≡ started m → Appends a b (output_if quiet (line (words_of m.mesh (Chooses count))))
-    → IsAutoDone quiet (auto_from count 0 s) n b c did → Appends c d (output_if quiet (auto_end did)) → k ≡ counted n → IsLineDone quiet (outcome_of_line m (Chooses count)) k a d
-auto_goes quiet m s n k count did a b c d same p q r next =
-    line_goes quiet (outcome_of_line m (Chooses count)) (line (words_of m.mesh (Chooses count))) (auto_from count 0 s) n k did a b c d (came-chooses m s count same) p q r next
+pub auto_goes : (quiet : Bool) (m s n k : Moment) (count did : ℕ) (a b c d : Option (List ℕ)) → s ≡ started m → did ≡ length (events_chosen count s)
+    → Appends a b (output_if quiet (line (words_of m.mesh (Chooses count))))
+    → IsEventsDone quiet (outcome_of_events s (events_chosen count s)) n b c → Appends c d (output_if quiet (auto_end did)) → k ≡ counted n → IsLineDone quiet (outcome_of_line m (Chooses count)) k a d
+auto_goes quiet m s n k count did a b c d same many p q r next =
+    line_goes quiet (outcome_of_line m (Chooses count)) (line (words_of m.mesh (Chooses count))) did (outcome_of_events s (events_chosen count s)) n k a b c d (came-chooses m s count did same many) p q r next
 
 pub auto_front : (quiet : Bool) (m s : Moment) (count : ℕ) (a b : Option (List ℕ)) → s ≡ started m → AppendsPrefix a b (output_if quiet (line (words_of m.mesh (Chooses count))))
     → AppendsPrefix a b (output_if quiet (text_in (outcome_of_line m (Chooses count))))
 auto_front quiet m s count a b same p =
-    line_front quiet (outcome_of_line m (Chooses count)) (line (words_of m.mesh (Chooses count))) (auto_from count 0 s) a b (came-chooses m s count same) p
+    line_front quiet (outcome_of_line m (Chooses count)) (line (words_of m.mesh (Chooses count))) _ (outcome_of_events s (events_chosen count s)) a b (came-chooses m s count _ same refl) p
 
-pub auto_end_front : (quiet : Bool) (m s n : Moment) (count did : ℕ) (a b c d : Option (List ℕ)) → s ≡ started m
-    → Appends a b (output_if quiet (line (words_of m.mesh (Chooses count)))) → IsAutoDone quiet (auto_from count 0 s) n b c did → AppendsPrefix c d (output_if quiet (auto_end did))
+pub auto_end_front : (quiet : Bool) (m s n : Moment) (count did : ℕ) (a b c d : Option (List ℕ)) → s ≡ started m → did ≡ length (events_chosen count s)
+    → Appends a b (output_if quiet (line (words_of m.mesh (Chooses count)))) → IsEventsDone quiet (outcome_of_events s (events_chosen count s)) n b c → AppendsPrefix c d (output_if quiet (auto_end did))
     → AppendsPrefix a d (output_if quiet (text_in (outcome_of_line m (Chooses count))))
-auto_end_front quiet m s n count did a b c d same p q r =
-    line_end_front quiet (outcome_of_line m (Chooses count)) (line (words_of m.mesh (Chooses count))) (auto_from count 0 s) n did a b c d (came-chooses m s count same) p q r
+auto_end_front quiet m s n count did a b c d same many p q r =
+    line_end_front quiet (outcome_of_line m (Chooses count)) (line (words_of m.mesh (Chooses count))) did (outcome_of_events s (events_chosen count s)) n a b c d (came-chooses m s count did same many) p q r
 
 pub auto_stops : (quiet : Bool) (m s n : Moment) (count : ℕ) (a b c : Option (List ℕ)) (t : Stop) → s ≡ started m
-    → Appends a b (output_if quiet (line (words_of m.mesh (Chooses count)))) → IsAutoRun quiet s (auto_from count 0 s) n b c (Err t)
+    → Appends a b (output_if quiet (line (words_of m.mesh (Chooses count)))) → IsEventsRun quiet s (outcome_of_events s (events_chosen count s)) n b c (Err t)
     → IsLineStopped quiet m (outcome_of_line m (Chooses count)) n a c t
 auto_stops quiet m s n count a b c t same p q =
-    line_stops quiet m s (outcome_of_line m (Chooses count)) (line (words_of m.mesh (Chooses count))) (auto_from count 0 s) n a b c t same (came-chooses m s count same) p q
+    line_stops quiet m s (outcome_of_line m (Chooses count)) (line (words_of m.mesh (Chooses count))) _ (outcome_of_events s (events_chosen count s)) n a b c t same (came-chooses m s count _ same refl) p q
+
+-- where none is given, all are chosen
+pub chosen_ran : (quiet : Bool) (s m n : Moment) (count : ℕ) (a b : Option (List ℕ)) (r : Result ℕ Stop) → s ≡ m → IsEventsRun quiet s (outcome_of_events s (events_due None count s)) n a b r
+    → IsEventsRun quiet m (outcome_of_events m (events_chosen count m)) n a b r
+unfolding events_due
+chosen_ran quiet s m n count a b r same g = subst (λ (x : Moment). IsEventsRun quiet x (outcome_of_events x (events_chosen count x)) n a b r) same g
+
+pub chosen_many : (s m : Moment) (count did : ℕ) → s ≡ m → did ≡ length (events_due None count s) → did ≡ length (events_chosen count m)
+unfolding events_due
+chosen_many s m count did same is = is ∙ ap (λ x. length (events_chosen count x)) same

@@ -86,65 +86,7 @@ refusal_stops quiet m n e (errors.Full node field) a ev is same =
     refusal_fills quiet m n (event_of e) (node_of (event_of e)) field a ev (is ∙ ap (λ x. worlds.Full x field) own) same
 refusal_stops quiet m n e errors.NoMemory a ev is same = AppendsPrefix-none a _
 
--- ---- a line with one event
-
-count : LineOutcome → LineOutcome
-count (On text n) = On text (counted n)
-count (Refused why) = Refused why
-count (Full text n e field) = Full text n e field
-
-came-counted : (m : Moment) (e : Event) (o : Outcome) → outcome_of_event m e o ≡ count (outcome_by (started m) e o)
-unfolding count stepped
-came-counted m e Idle = refl
-came-counted m e (worlds.Full x field) = refl
-came-counted m e (Next w h) = refl
-
-text-counted : (k : LineOutcome) → text_in (count k) ≡ text_in k
-unfolding count
-text-counted (On text n) = refl
-text-counted (Refused why) = refl
-text-counted (Full text n e field) = refl
-
--- the line of an event, by what came of the event once the run had started
-came-does : (m s : Moment) (e : Event) → s ≡ started m → outcome_of_line m (Does e) ≡ count (outcome_by s e (outcome_at s e))
-unfolding outcome_of_line
-came-does m s e same =
-    let P : Moment → Type 0 = λ k. outcome_of_event m e (outcome_at m e) ≡ count (outcome_by k e (outcome_at k e)) in
-    subst P (sym same) (came-counted m e (outcome_at m e))
-
--- an event is no line that isn't allowed
-never_bad : (m : Moment) (e : Event) (o : Outcome) (why : BadWhy) → outcome_by m e o ≡ Refused why → ⊥
-never_bad m e Idle why h = cc
-never_bad m e (worlds.Full x field) why h = cc
-never_bad m e (Next w i) why h = cc
-
-pub step_goes : (quiet : Bool) (m s n k : Moment) (e : Event) (a b : Option (List ℕ)) → s ≡ started m → IsLineDone quiet (outcome_by s e (outcome_at s e)) n a b → k ≡ counted n
-    → IsLineDone quiet (outcome_of_line m (Does e)) k a b
-unfolding count
-step_goes quiet m s n k e a b same g next =
-    record { text = g.text; is = came-does m s e same ∙ ap count g.is ∙ ap (λ q. On g.text q) (sym next); grown = g.grown }
-
-pub step_stops : (quiet : Bool) (m s n : Moment) (e : Event) (a b : Option (List ℕ)) (t : Stop) → s ≡ started m → IsLineStopped quiet s (outcome_by s e (outcome_at s e)) n a b t
-    → IsLineStopped quiet m (outcome_of_line m (Does e)) n a b t
-unfolding count
-step_stops quiet m s n e a b (stop.BadLine f) same g = absurd (never_bad s e (outcome_at s e) (Fault f) g.0)
-step_stops quiet m s n e a b (stop.Full event node field) same g = record {
-  text = g.text;
-  is = came-does m s e same ∙ ap count g.is;
-  refused = g.refused;
-  grown = g.grown;
-  still = record {
-    event = subst (λ k. IsEvent (length k.mesh) (event_of event)) same g.still.event;
-    mesh = g.still.mesh ∙ ap (λ k. k.mesh) same;
-    lines = g.still.lines ∙ ap (λ k. k.lines) same;
-  };
-}
-step_stops quiet m s n e a b stop.WriteFault same g =
-    let P : List ℕ → Type 0 = λ l. AppendsPrefix a b (output_if quiet l) in
-    subst P (sym (ap text_in (came-does m s e same) ∙ text-counted (outcome_by s e (outcome_at s e)))) g
-step_stops quiet m s n e a b stop.NoMemory same g =
-    let P : List ℕ → Type 0 = λ l. AppendsPrefix a b (output_if quiet l) in
-    subst P (sym (ap text_in (came-does m s e same) ∙ text-counted (outcome_by s e (outcome_at s e)))) g
+-- ---- what an event leaves as it was
 
 -- an event changes no mesh
 pub answer_mesh : (m n : Moment) (e : Event) (d : Done) (packet : List ℕ) → IsAnswer m e d n packet → n.mesh ≡ m.mesh

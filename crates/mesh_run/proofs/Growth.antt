@@ -1,5 +1,5 @@
 -- By how much a line lets the sums and the steps grow.
-use Rattle.std.proofs.Common.{◌≡◌, inl, inr, if◌then◌else◌, ℕ, zero, suc, ◌+◌, ◌*◌, ◌≤◌, Bool, true, false, List, Option, Some, None, Result, Ok, Err, OnOk, length, is_some, refl, ap, subst, arith}
+use Rattle.std.proofs.Common.{◌≡◌, inl, inr, if◌then◌else◌, ℕ, suc, ◌+◌, ◌*◌, ◌≤◌, Bool, true, false, List, [], ◌∷◌, Option, Some, None, Result, Ok, Err, OnOk, length, is_some, refl, ap, subst, arith}
 use Rattle.mesh_base.specs.declared.limits.TheConstants.{MOST_NODES, MOST_EVENTS}
 use Rattle.mesh_model.specs.Worlds as worlds
 use Rattle.mesh_model.specs.Worlds.{World, start, first_numbers, Event, Outcome, Idle, Next, Happening, Taken, CopyLost, CopyDoubled, Give, Turn}
@@ -9,7 +9,6 @@ use Rattle.mesh_base.specs.declared.events.Variant.{Variant}
 use Rattle.mesh_base.specs.Meshes.{Nodes, with_node}
 use Rattle.std.specs.Option.{unwrap_or}
 use Rattle.mesh_model.proofs.Sizes.{same_size}
-use Rattle.mesh_model.specs.Choices.{pick}
 use Rattle.mesh_model.specs.Accounts.{any, in_taken, in_dropped, in_message, given, delivered, delivered_in, dropped, dropped_in, doubled_in, doubled_at}
 use Rattle.mesh_grammar.specs.Lines.{Whole}
 use Rattle.mesh_grammar.specs.Written.{line}
@@ -17,10 +16,10 @@ use Rattle.mesh_text.specs.Schedule.{Moment, Accepted, Nothing, NewNode, Does, C
 use Rattle.mesh_text.specs.Lines.{words_of}
 use Rattle.mesh_text.specs.Auto as auto
 use Rattle.mesh_text.specs.Ranges.{IsInRange}
-use Rattle.mesh_text.specs.Text.{LineOutcome, On, Refused, Full, outcome_of_event, outcome_of_auto, outcome_of_line}
+use Rattle.mesh_text.specs.Text.{LineOutcome, On, Refused, Full, outcome_by_events, outcome_of_auto, outcome_of_line}
 use Rattle.mesh_text.specs.Runs.{events_read, events_of_piece}
 use Rattle.mesh_text.proofs.InRange.{in_range}
-use Rattle.mesh_text.proofs.LineLaws.{auto_line_has_four_bytes, line_has_few_events}
+use Rattle.mesh_text.proofs.LineLaws.{chosen_few, line_has_few_events}
 use Rattle.mesh_io.specs.Cutting.{IsCounted}
 use Rattle.mesh_run.specs.declared.stop.Stop.{Stop}
 use Rattle.mesh_run.specs.Runs.{IsLineDone, IsLineRun}
@@ -130,37 +129,29 @@ record Grows (m n : Moment) (most : ℕ) : Type 0 where
   lines : n.lines ≡ m.lines
   steps : n.steps ≤ m.steps + most
 
-GrowsTo : Moment → auto.AutoOutcome → ℕ → Type 0
-GrowsTo m (auto.Ended text did n) most = Grows m n most
+GrowsTo : Moment → auto.EventsOutcome → ℕ → Type 0
+GrowsTo m (auto.Ended text n) most = Grows m n most
 GrowsTo m (auto.Full text n e field) most = Unit {0}
 
--- ---- chosen events
+-- ---- events one after another
 
-grows_none : (m : Moment) (most : ℕ) → Grows m m most
-grows_none m most = record { grown = λ sized. grown_same m m refl refl refl; lines = refl; steps = omega arith }
-
-grows_before : (m : Moment) (e : Event) (text : List ℕ) (r : auto.AutoOutcome) (most : ℕ) → GrowsTo (stepped m e) r most → GrowsTo m (auto.before text r) (suc most)
+grows_before : (m : Moment) (e : Event) (text : List ℕ) (r : auto.EventsOutcome) (most : ℕ) → GrowsTo (stepped m e) r most → GrowsTo m (auto.before text r) (suc most)
 unfolding GrowsTo stepped
-grows_before m e text (auto.Ended others did n) most g =
+grows_before m e text (auto.Ended others n) most g =
     let steps = g.steps in
     record { grown = λ sized. grown_both m (stepped m e) n (grown_event m e sized) (g.grown (stepped_sized m e sized)); lines = g.lines; steps = omega arith }
 grows_before m e text (auto.Full others n f field) most g = tt
 
-grows_done : (m : Moment) (e : Event) (o : Outcome) (others : Moment → auto.AutoOutcome) (most : ℕ) → GrowsTo (stepped m e) (others (stepped m e)) most → GrowsTo m (auto.done_then m e o others) (suc most)
+grows_done : (m : Moment) (e : Event) (o : Outcome) (others : Moment → auto.EventsOutcome) (most : ℕ) → GrowsTo (stepped m e) (others (stepped m e)) most → GrowsTo m (auto.done_then m e o others) (suc most)
 unfolding GrowsTo
 grows_done m e Idle others most g = grows_before m e _ (others (stepped m e)) most g
 grows_done m e (worlds.Full x field) others most g = tt
 grows_done m e (Next w happening) others most g = grows_before m e _ (others (stepped m e)) most g
 
-grows_chosen : (m : Moment) (did : ℕ) (o : Option Event) (others : Moment → auto.AutoOutcome) (most : ℕ) → ((n : Moment) → GrowsTo n (others n) most) → GrowsTo m (auto.chosen_then m did o others) (suc most)
-unfolding GrowsTo
-grows_chosen m did None others most g = grows_none m (suc most)
-grows_chosen m did (Some e) others most g = grows_done m e (outcome_at m e) others most (g (stepped m e))
-
-grows_auto : (most did : ℕ) (m : Moment) → GrowsTo m (auto.auto_from most did m) most
-unfolding GrowsTo auto.auto_from
-grows_auto zero did m = grows_none m zero
-grows_auto (suc most) did m = grows_chosen m did (pick (world_of m)) (λ n. auto.auto_from most (did + 1) n) most (λ n. grows_auto most (did + 1) n)
+grows_by : (m : Moment) (events : List Event) → GrowsTo m (auto.outcome_of_events m events) (length events)
+unfolding GrowsTo auto.outcome_of_events
+grows_by m [] = record { grown = λ sized. grown_same m m refl refl refl; lines = refl; steps = omega arith }
+grows_by m (e ∷ events) = grows_done m e (outcome_at m e) (λ n. auto.outcome_of_events n events) (length events) (grows_by (stepped m e) events)
 
 -- ---- a line
 
@@ -178,26 +169,25 @@ GrowsOn m (Full text n e field) bytes = Unit {0}
 line_shown : (m : Moment) (bytes : ℕ) → LineGrows m (counted (started m)) bytes
 line_shown m bytes = record { lines = refl; grown = λ sized. grown_same m (counted (started m)) refl refl refl; steps = omega arith }
 
--- a line that is counted has grown as the moment before that has
-grown_counted : (m n : Moment) → IsGrown m n → IsGrown m (counted n)
-grown_counted m n g = record { steps = g.steps; events = g.events; idle = g.idle; given = g.given; delivered = g.delivered; lost = g.lost; copied = g.copied; copies = g.copies }
-
-line_event : (m : Moment) (e : Event) (o : Outcome) (bytes : ℕ) → 1 ≤ bytes → GrowsOn m (outcome_of_event m e o) bytes
-unfolding GrowsOn stepped
-line_event m e Idle bytes some = record { lines = refl; grown = λ sized. grown_counted m (stepped m e) (grown_event m e sized); steps = omega arith }
-line_event m e (worlds.Full x field) bytes some = tt
-line_event m e (Next w happening) bytes some = record { lines = refl; grown = λ sized. grown_counted m (stepped m e) (grown_event m e sized); steps = omega arith }
-
-line_auto : (m : Moment) (text : List ℕ) (r : auto.AutoOutcome) (count bytes : ℕ) → GrowsTo (started m) r count → count ≤ MOST_EVENTS → 4 ≤ bytes → GrowsOn m (outcome_of_auto text r) bytes
-unfolding GrowsTo GrowsOn
-line_auto m text (auto.Ended others did n) count bytes g few four =
+-- events that are few for the bytes of their line
+events_grow : (m n : Moment) (events bytes : ℕ) → Grows (started m) n events → 4 * events ≤ MOST_EVENTS * bytes → LineGrows m (counted n) bytes
+events_grow m n events bytes g few =
     let steps = g.steps in let lines = g.lines in
     record {
       lines = omega arith;
       grown = λ sized. let is = g.grown sized in record { steps = is.steps; events = is.events; idle = is.idle; given = is.given; delivered = is.delivered; lost = is.lost; copied = is.copied; copies = is.copies };
       steps = omega arith;
     }
-line_auto m text (auto.Full others n e field) count bytes g few four = tt
+
+line_events : (m : Moment) (r : auto.EventsOutcome) (events bytes : ℕ) → GrowsTo (started m) r events → 4 * events ≤ MOST_EVENTS * bytes → GrowsOn m (outcome_by_events r) bytes
+unfolding GrowsTo GrowsOn
+line_events m (auto.Ended text n) events bytes g few = events_grow m n events bytes g few
+line_events m (auto.Full text n e field) events bytes g few = tt
+
+line_auto : (m : Moment) (text : List ℕ) (did : ℕ) (r : auto.EventsOutcome) (events bytes : ℕ) → GrowsTo (started m) r events → 4 * events ≤ MOST_EVENTS * bytes → GrowsOn m (outcome_of_auto text did r) bytes
+unfolding GrowsTo GrowsOn
+line_auto m text did (auto.Ended others n) events bytes g few = events_grow m n events bytes g few
+line_auto m text did (auto.Full others n e field) events bytes g few = tt
 
 -- before there is a world its next copy is the first, whichever nodes there are
 other_nodes : (v : Variant) (some more : Nodes) (o : Option World) → (unwrap_or o (start v (first_numbers more))).next_copy ≡ (unwrap_or o (start v (first_numbers some))).next_copy
@@ -211,10 +201,11 @@ unfolding GrowsOn outcome_of_line
 line_by m bytes Nothing range is few = record { lines = refl; grown = λ sized. grown_same m (counted m) refl refl refl; steps = omega arith }
 line_by m bytes (NewNode address first) range is few = record { lines = refl; grown = λ sized. grown_same m _ refl refl (other_nodes m.variant m.mesh (with_node m.mesh address first) m.world); steps = omega arith }
 line_by m bytes (Does e) range is few =
-    let one : 4 * 1 ≤ MOST_EVENTS * length bytes = subst (λ r. 4 * length (events_read m r) ≤ MOST_EVENTS * length bytes) is few in
-    line_event m e (outcome_at m e) (length bytes) (omega arith)
+    line_events m (auto.outcome_of_events (started m) (e ∷ [])) (length (e ∷ [])) (length bytes) (grows_by (started m) (e ∷ [])) (subst (λ r. 4 * length (events_read m r) ≤ MOST_EVENTS * length bytes) is few)
 line_by m bytes (Chooses count) range is few =
-    line_auto m (line (words_of m.mesh (Chooses count))) (auto.auto_from count 0 (started m)) count (length bytes) (grows_auto count 0 (started m)) range.2 (auto_line_has_four_bytes m.mesh (is_some m.world) bytes count is)
+    let chosen : List Event = auto.events_chosen count (started m) in
+    line_auto m (line (words_of m.mesh (Chooses count))) (length chosen) (auto.outcome_of_events (started m) chosen) (length chosen) (length bytes) (grows_by (started m) chosen)
+    (subst (λ r. 4 * length (events_read m r) ≤ MOST_EVENTS * length bytes) is few)
 line_by m bytes (ShowsNode x) range is few = line_shown m (length bytes)
 line_by m bytes (ShowsRoute x d) range is few = line_shown m (length bytes)
 line_by m bytes ShowsFlight range is few = line_shown m (length bytes)
@@ -236,8 +227,12 @@ value_by : (m : Moment) (a : Accepted) → IsInRange m.mesh a → GrowsOn m (out
 unfolding GrowsOn outcome_of_line
 value_by m Nothing range = record { lines = refl; grown = λ sized. grown_same m (counted m) refl refl refl; steps = omega arith }
 value_by m (NewNode address first) range = record { lines = refl; grown = λ sized. grown_same m _ refl refl (other_nodes m.variant m.mesh (with_node m.mesh address first) m.world); steps = omega arith }
-value_by m (Does e) range = line_event m e (outcome_at m e) 4 (omega arith)
-value_by m (Chooses count) range = line_auto m (line (words_of m.mesh (Chooses count))) (auto.auto_from count 0 (started m)) count 4 (grows_auto count 0 (started m)) range.2 (omega arith)
+value_by m (Does e) range = line_events m (auto.outcome_of_events (started m) (e ∷ [])) (length (e ∷ [])) 4 (grows_by (started m) (e ∷ [])) (omega arith)
+value_by m (Chooses count) range =
+    let chosen : List Event = auto.events_chosen count (started m) in
+    let few : length chosen ≤ count = chosen_few count (started m) in
+    let most : count ≤ MOST_EVENTS = range.2 in
+    line_auto m (line (words_of m.mesh (Chooses count))) (length chosen) (auto.outcome_of_events (started m) chosen) (length chosen) 4 (grows_by (started m) chosen) (omega arith)
 value_by m (ShowsNode x) range = line_shown m 4
 value_by m (ShowsRoute x d) range = line_shown m 4
 value_by m ShowsFlight range = line_shown m 4

@@ -1,17 +1,17 @@
 -- The moments that a line goes through before it is counted.
-use Rattle.std.proofs.Common.{◌≡◌, inr, ℕ, zero, suc, ◌+◌, ◌-◌, ◌<◌, Bool, is_some, List, [], ◌∷◌, take, Option, None, Some, Result, Ok, Err, refl, sym, ap, subst, ◌∙◌}
-use Rattle.std.specs.Prelude.{OnErr}
+use Rattle.std.proofs.Common.{◌≡◌, inr, ℕ, zero, suc, ◌+◌, ◌-◌, ◌<◌, ◌≤◌, Bool, is_some, List, [], ◌∷◌, take, Option, None, Some, Result, Ok, Err, refl, sym, ap, subst, ◌∙◌}
+use Rattle.std.specs.Prelude.{OnErr, IfSome}
 use Rattle.mesh_grammar.specs.declared.fault.LineFault.{LineFault}
 use Rattle.mesh_grammar.specs.Lines.{Whole}
 use Rattle.mesh_model.specs.Worlds as worlds
 use Rattle.mesh_model.specs.Worlds.{Event, Outcome, Idle, Next}
-use Rattle.mesh_model.specs.Choices.{pick}
-use Rattle.mesh_text.specs.Schedule.{Moment, Accepted, Chooses, line_of, world_of, started, stepped, outcome_at}
+use Rattle.mesh_text.specs.Schedule.{Moment, Accepted, Chooses, line_of, started, stepped, outcome_at}
 use Rattle.mesh_text.specs.Text.{On, Full}
-use Rattle.mesh_text.specs.Runs.{event_then, choice_then, events_chosen, events_of_line, events_read, events_of_piece, moment_after}
+use Rattle.mesh_text.specs.Auto.{event_then, events_chosen}
+use Rattle.mesh_text.specs.Runs.{events_of_line, events_read, events_of_piece, moment_after}
 use Rattle.mesh_run.specs.declared.stop.Stop.{Stop}
-use Rattle.mesh_run.specs.Runs.{IsLineDone, IsReached, IsOnTheWay, outcome_by, line_outcome_at, next_in, events_done}
-use Rattle.mesh_run.proofs.Chosen.{one_less}
+use Rattle.mesh_run.specs.Runs.{IsLineDone, IsReached, IsOnTheWay, outcome_by, line_outcome_at, next_in, events_due}
+use Rattle.mesh_run.proofs.Chosen.{due_next}
 
 -- ---- none of the events, one, and one more
 
@@ -40,23 +40,7 @@ reached_longer m n e others way = by_count way.0 way.1
     by_count zero is = (0, is)
     by_count (suc k) is = (1, is ∙ ap (λ l. moment_after (stepped m e) l) (none_taken k))
 
--- ---- events that are chosen
-
-chosen_suc : (k : ℕ) (m : Moment) → events_chosen (suc k) m ≡ choice_then m (pick (world_of m)) (λ n. events_chosen k n)
-unfolding events_chosen
-chosen_suc k m = refl
-
-chosen_next : (most did : ℕ) (m : Moment) (e : Event) → did < most → Some e ≡ pick (world_of m)
-    → events_chosen (most - did) m ≡ event_then m e (outcome_at m e) (λ n. events_chosen (most - (did + 1)) n)
-chosen_next most did m e h picked = ap (λ k. events_chosen k m) (one_less most did h) ∙ chosen_suc (most - (did + 1)) m ∙ ap (λ o. choice_then m o (λ n. events_chosen (most - (did + 1)) n)) (sym picked)
-
--- the same, where an event may be given
-done_next : (given : Option Event) (most did : ℕ) (m : Moment) (e : Event) → did < most → Some e ≡ next_in given m
-    → events_done given (most - did) m ≡ event_then m e (outcome_at m e) (λ n. events_done given (most - (did + 1)) n)
-unfolding events_done
-done_next None most did m e h picked = chosen_next most did m e h picked
-done_next (Some x) most did m e h same =
-    ap (λ k. events_done (Some x) k m) (one_less most did h) ∙ ap (λ o. choice_then m o (λ n. events_done (Some x) (most - (did + 1)) n)) (sym same)
+-- ---- events one after another
 
 then_on : (quiet : Bool) (m n k : Moment) (e : Event) (o : Outcome) (others : Moment → List Event) (a b : Option (List ℕ)) → IsLineDone quiet (outcome_by m e o) n a b → n ≡ stepped m e
     → IsReached n (others n) k → IsReached m (event_then m e o others) k
@@ -72,36 +56,27 @@ then_first m k e (worlds.Full x field) others way = way
 then_first m k e (Next w i) others way = reached_longer m k e (others (stepped m e)) way
 
 -- one was done, and then others
-pub way_goes : (quiet : Bool) (given : Option Event) (most did : ℕ) (m n k : Moment) (e : Event) (a b : Option (List ℕ)) → did < most → Some e ≡ next_in given m
-    → IsLineDone quiet (line_outcome_at m e) n a b → n ≡ stepped m e → IsReached n (events_done given (most - (did + 1)) n) k → IsReached m (events_done given (most - did) m) k
-way_goes quiet given most did m n k e a b h next done after way =
-    subst (λ l. IsReached m l k) (sym (done_next given most did m e h next)) (then_on quiet m n k e (outcome_at m e) (λ s. events_done given (most - (did + 1)) s) a b done after way)
+pub way_goes : (quiet : Bool) (given : Option Event) (most did : ℕ) (m n k : Moment) (e : Event) (a b : Option (List ℕ)) → IfSome given (λ _. most ≤ 1) → did < most → Some e ≡ next_in given m
+    → IsLineDone quiet (line_outcome_at m e) n a b → n ≡ stepped m e → IsReached n (events_due given (most - (did + 1)) n) k → IsReached m (events_due given (most - did) m) k
+way_goes quiet given most did m n k e a b one h next done after way =
+    subst (λ l. IsReached m l k) (sym (due_next given most did m e one h next)) (then_on quiet m n k e (outcome_at m e) (λ s. events_due given (most - (did + 1)) s) a b done after way)
 
 -- the next one was not done, or not written
-pub way_stops : (given : Option Event) (most did : ℕ) (m k : Moment) (e : Event) → did < most → Some e ≡ next_in given m → IsReached m (e ∷ []) k → IsReached m (events_done given (most - did) m) k
-way_stops given most did m k e h next way =
-    subst (λ l. IsReached m l k) (sym (done_next given most did m e h next)) (then_first m k e (outcome_at m e) (λ s. events_done given (most - (did + 1)) s) way)
+pub way_stops : (given : Option Event) (most did : ℕ) (m k : Moment) (e : Event) → IfSome given (λ _. most ≤ 1) → did < most → Some e ≡ next_in given m → IsReached m (e ∷ []) k → IsReached m (events_due given (most - did) m) k
+way_stops given most did m k e one h next way =
+    subst (λ l. IsReached m l k) (sym (due_next given most did m e one h next)) (then_first m k e (outcome_at m e) (λ s. events_due given (most - (did + 1)) s) way)
 
 -- where none is given, all are chosen
-pub chosen_way : (s m n k : Moment) (count : ℕ) → s ≡ m → n ≡ k → IsReached s (events_done None count s) n → IsReached m (events_chosen count m) k
-unfolding events_done
+pub chosen_way : (s m n k : Moment) (count : ℕ) → s ≡ m → n ≡ k → IsReached s (events_due None count s) n → IsReached m (events_chosen count m) k
+unfolding events_due
 chosen_way s m n k count same back way =
     subst (λ (x : Moment). IsReached m (events_chosen count m) x) back (subst (λ (x : Moment). IsReached x (events_chosen count x) n) same way)
 
--- one event that is given
-one_event : (m : Moment) (e : Event) (o : Outcome) → event_then m e o (λ n. []) ≡ e ∷ []
-one_event m e Idle = refl
-one_event m e (worlds.Full x field) = refl
-one_event m e (Next w i) = refl
-
-pub way_of_one : (m n k : Moment) (e : Event) → n ≡ k → IsReached m (events_done (Some e) 1 m) n → IsReached m (e ∷ []) k
-unfolding events_done
-way_of_one m n k e back way = subst (λ (x : Moment). IsReached m (e ∷ []) x) back (subst (λ l. IsReached m l n) (one_event m e (outcome_at m e)) way)
-
 -- ---- a line
 
-pub way_of_event : (m s n : Moment) (e : Event) → s ≡ started m → IsReached s (e ∷ []) n → IsOnTheWay m (e ∷ []) n
-way_of_event m s n e same way = inr (subst (λ k. IsReached k (e ∷ []) n) same way)
+pub way_of_event : (m s n k : Moment) (e : Event) → s ≡ started m → n ≡ k → IsReached s (events_due (Some e) 1 s) n → IsOnTheWay m (e ∷ []) k
+unfolding events_due
+way_of_event m s n k e same back way = inr (subst (λ (x : Moment). IsReached (started m) (e ∷ []) x) back (subst (λ x. IsReached x (e ∷ []) n) same way))
 
 pub way_of_choices : (m s n : Moment) (count : ℕ) → s ≡ started m → IsReached s (events_chosen count s) n → IsOnTheWay m (events_of_line m (Chooses count)) n
 way_of_choices m s n count same way = inr (subst (λ k. IsReached k (events_chosen count k) n) same way)

@@ -1,6 +1,6 @@
 -- What was told of one line, of one event, and of events that were chosen. A text is left out where
 -- a run is quiet.
-use Rattle.std.specs.Prelude.{ℕ, zero, suc, ◌≡◌, ◌≤◌, ◌+◌, ◌⊎◌, List, [], take, Bool, if◌then◌else◌, Option, Some, None, Result, Ok, Err, MatchResult, IsSomeAnd, length}
+use Rattle.std.specs.Prelude.{ℕ, zero, suc, ◌≡◌, ◌≤◌, ◌⊎◌, List, [], ◌∷◌, take, Bool, if◌then◌else◌, Option, Some, None, Result, Ok, Err, MatchResult, IsSomeAnd, length}
 use Rattle.std.specs.Io.KnownBytes.{Appends, Keeps}
 use Rattle.mesh_base.specs.declared.events.Counter as full
 use Rattle.mesh_io.specs.Puts.{AppendsPrefix}
@@ -15,8 +15,8 @@ use Rattle.mesh_base.specs.declared.limits.TheConstants.{LONGEST_LINE}
 use Rattle.mesh_text.specs.Lines.{words_of}
 use Rattle.mesh_text.specs.Schedule.{Moment, Accepted, Does, ShowsNode, ShowsRoute, ShowsFlight, started, counted, outcome_at, stepped, world_of}
 use Rattle.mesh_text.specs.Effects.{outcome_lines}
-use Rattle.mesh_text.specs.Auto.{AutoOutcome, Ended, Full as AutoFull, done_then, auto_from}
-use Rattle.mesh_text.specs.Runs.{event_then, events_chosen, moment_after}
+use Rattle.mesh_text.specs.Auto.{EventsOutcome, Ended, Full as EventsFull, events_chosen}
+use Rattle.mesh_text.specs.Runs.{moment_after}
 use Rattle.mesh_text.specs.Text.{LineOutcome, On, Refused, Full, text_in}
 use Rattle.mesh_run.specs.declared.show.Shown.{Shown}
 use Rattle.mesh_run.specs.declared.show.Shown.TheVariants as shown
@@ -110,63 +110,54 @@ outcome_by m e (Next w happening) = On (outcome_lines m.mesh e (Next w happening
 abbrev pub line_outcome_at : Moment → Event → LineOutcome
 line_outcome_at m e = outcome_by m e (outcome_at m e)
 
--- ---- events that were chosen
+-- ---- events one after another
 
--- all that were to be done, or all that there were, were done and written
-pub record IsAutoDone (quiet : Bool) (ran : AutoOutcome) (n : Moment) (before now : Option (List ℕ))
-    (did : ℕ) : Type 0 where
+-- all were done and written
+pub record IsEventsDone
+    (quiet : Bool) (ran : EventsOutcome) (n : Moment) (before now : Option (List ℕ)) : Type 0 where
   pub text : List ℕ
-  pub is : ran ≡ Ended text did n
+  pub is : ran ≡ Ended text n
   pub grown : Appends before now (output_if quiet text)
 
 -- one was refused for this node's full counter at the moment that is left, after the text of the
 -- others
-pub record IsAutoFull
-    (quiet : Bool) (m : Moment) (ran : AutoOutcome) (n : Moment) (before now : Option (List ℕ))
+pub record IsEventsFull
+    (quiet : Bool) (m : Moment) (ran : EventsOutcome) (n : Moment) (before now : Option (List ℕ))
     (e : Event) (node : ℕ) (field : full.Counter) : Type 0 where
   pub text : List ℕ
-  pub is : ran ≡ AutoFull text n e field
+  pub is : ran ≡ EventsFull text n e field
   pub refused : outcome_at n e ≡ worlds.Full node field
   pub grown : Appends before now (output_if quiet text)
   pub still : IsStill m n e
 
-abbrev pub text_of : AutoOutcome → List ℕ
-text_of (Ended text did n) = text
-text_of (AutoFull text n e field) = text
+abbrev pub text_of : EventsOutcome → List ℕ
+text_of (Ended text n) = text
+text_of (EventsFull text n e field) = text
 
 -- what was told of them, from moment m to moment n. None of them is a line that is refused
-abbrev pub IsAutoRun : Bool → Moment → AutoOutcome → Moment → Option (List ℕ) → Option (List ℕ)
-    → Result ℕ Stop → Type 0
-IsAutoRun quiet m ran n before now (Ok did) = IsAutoDone quiet ran n before now did
-IsAutoRun quiet m ran n before now (Err (stop.BadLine f)) = ⊥
-IsAutoRun quiet m ran n before now (Err (stop.Full e node field)) =
-    IsAutoFull quiet m ran n before now (event_of e) node field
-IsAutoRun quiet m ran n before now (Err stop.WriteFault) =
+abbrev pub IsEventsRun : Bool → Moment → EventsOutcome → Moment → Option (List ℕ)
+    → Option (List ℕ) → Result ℕ Stop → Type 0
+IsEventsRun quiet m ran n before now (Ok did) = IsEventsDone quiet ran n before now
+IsEventsRun quiet m ran n before now (Err (stop.BadLine f)) = ⊥
+IsEventsRun quiet m ran n before now (Err (stop.Full e node field)) =
+    IsEventsFull quiet m ran n before now (event_of e) node field
+IsEventsRun quiet m ran n before now (Err stop.WriteFault) =
     AppendsPrefix before now (output_if quiet (text_of ran))
-IsAutoRun quiet m ran n before now (Err stop.NoMemory) =
+IsEventsRun quiet m ran n before now (Err stop.NoMemory) =
     AppendsPrefix before now (output_if quiet (text_of ran))
 
--- ---- events that are given, or chosen
+-- ---- an event that is given, or those that a run chooses
 
--- the event that comes next: the one that is given, or else the one that the run chooses
+-- the event that comes next
 abbrev pub next_in : Option Event → Moment → Option Event
 next_in None m = pick (world_of m)
 next_in (Some e) m = Some e
 
--- up to so many events more from a moment on, where so many were done before: the one that is given
--- each time, or else those that the run chooses
-unfoldable pub done_from : Option Event → ℕ → ℕ → Moment → AutoOutcome
-done_from None most did m = auto_from most did m
-done_from (Some e) zero did m = Ended [] did m
-done_from (Some e) (suc most) did m =
-    done_then m e (outcome_at m e) (λ n. done_from (Some e) most (did + 1) n)
-
--- which events they are
-unfoldable pub events_done : Option Event → ℕ → Moment → List Event
-events_done None most m = events_chosen most m
-events_done (Some e) zero m = []
-events_done (Some e) (suc most) m =
-    event_then m e (outcome_at m e) (λ n. events_done (Some e) most n)
+-- up to so many events from a moment on: the one that is given, once, or else those that are chosen
+unfoldable pub events_due : Option Event → ℕ → Moment → List Event
+events_due None most m = events_chosen most m
+events_due (Some e) zero m = []
+events_due (Some e) (suc most) m = e ∷ []
 
 -- the bytes of a line are what the event that is given is written back as
 abbrev pub IsLineOfGiven : Nodes → Option Event → List ℕ → Type 0

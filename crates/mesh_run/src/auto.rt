@@ -1,16 +1,16 @@
 //! Events that the run chooses, one after another.
-ghost use Rattle.std.specs.Prelude.{◌≡◌, ◌<◌, ◌≤◌, ◌+◌, ◌^◌, length, is_some, true, false, OnOk, OnErr, IfSome, option_map};
+ghost use Rattle.std.specs.Prelude.{◌≡◌, ◌<◌, ◌≤◌, ◌+◌, ◌^◌, length, is_some, true, false, OnOk, OnErr, IfOk, IfSome, option_map};
 ghost use Rattle.mesh_model.specs.Choices.{pick};
 ghost use Rattle.mesh_meaning.specs.Events.{event_of};
 ghost use Rattle.mesh_text.specs.Schedule.{Chooses, world_of};
 ghost use Rattle.mesh_text.specs.Text.{outcome_of_line};
-ghost use Rattle.mesh_text.specs.Runs.{events_chosen};
+ghost use Rattle.mesh_text.specs.Auto.{outcome_of_events, events_chosen};
 ghost use Rattle.mesh_grammar.specs.Written.{line as line_of_words};
 ghost use Rattle.mesh_io.specs.Cause.{HasCause};
 ghost use Rattle.mesh_io.specs.Puts.{Puts};
 ghost use Rattle.mesh_script.specs.Seen.{IsPrintable};
 ghost use Rattle.mesh_run.specs.Causes.{HasStopCause};
-ghost use Rattle.mesh_run.specs.Runs.{output_if, IsLineOf, IsLineOfGiven, IsUncountedRun, IsAutoRun, IsReached, next_in, done_from, events_done};
+ghost use Rattle.mesh_run.specs.Runs.{output_if, IsLineOf, IsLineOfGiven, IsUncountedRun, IsEventsRun, IsReached, next_in, events_due};
 
 use crate::choice::pick;
 use crate::commands::do_event;
@@ -50,7 +50,7 @@ pub struct Task<'p, 'a, 'b, S: Steps> {
     pub given: Option<Event<'a>>,
     /// The line of that event, as it stands.
     pub bytes: Option<&'b [u8]>,
-    /// How many there are at most.
+    /// How many there are at most: one where it is given.
     pub count: u32,
 }
 
@@ -68,9 +68,9 @@ fn event_after<'a, S: Steps>(at: &Point<S>, given: Option<Event<'a>>) -> Option<
     }
 }
 
-/// Does up to so many events, and answers how many there were: each is the one that is given, or
-/// else is chosen when the one before it is done. All events are done here: the compiler puts the
-/// code of a step into this loop only where no other place has it.
+/// Does up to so many events, and answers how many there were: the one that is given, or else those
+/// that the run chooses, each when the one before it is done. All events are done here: the compiler
+/// puts the code of a step into this loop only where no other place has it.
 pub fn do_events<'a, S: Steps, O: Sink>(
     alloc: Global,
     task: &mut Task<'_, 'a, '_, S>,
@@ -79,18 +79,21 @@ pub fn do_events<'a, S: Steps, O: Sink>(
 ) -> Result<u32, Stop<'a>>
     requires started { is_some task.old.at.now.world ≡ true }
     requires count { task.old.count < 2 ^ 32 }
+    requires one { IfSome (option_map event_of task.old.given) (λ _. task.old.count ≤ 1) }
     requires few { task.old.at.now.steps + task.old.count < 2 ^ 48 }
     requires printable { IfSome task.old.given (λ e.
         IsPrintable task.old.at.now.mesh (Line.Step e)) }
     requires echo { quiet ≡ false → IfSome task.old.bytes (λ b.
         IsLineOfGiven task.old.at.now.mesh (option_map event_of task.old.given) b.now) }
     ensures same { task.new.at.ghost_name ≡ task.old.at.ghost_name }
-    ensures ran { IsAutoRun quiet task.old.at.now
-        (done_from (option_map event_of task.old.given) task.old.count 0 task.old.at.now)
+    ensures ran { IsEventsRun quiet task.old.at.now (outcome_of_events task.old.at.now
+        (events_due (option_map event_of task.old.given) task.old.count task.old.at.now))
         task.new.at.now (O.held out.old) (O.held out.new) result }
+    ensures did { IfOk result (λ did. did ≡ length
+        (events_due (option_map event_of task.old.given) task.old.count task.old.at.now)) }
     ensures lines { OnOk result (task.new.at.now.lines ≡ task.old.at.now.lines) }
     ensures way { IsReached task.old.at.now
-        (events_done (option_map event_of task.old.given) task.old.count task.old.at.now)
+        (events_due (option_map event_of task.old.given) task.old.count task.old.at.now)
         task.new.at.now }
     ensures cause { HasStopCause (O.faults out.old) (O.faults out.new) result }
 {

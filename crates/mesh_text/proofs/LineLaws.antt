@@ -9,7 +9,8 @@ use Rattle.mesh_grammar.specs.declared.fault.LineFault.{LineFault}
 use Rattle.mesh_grammar.specs.Written.{written}
 use Rattle.mesh_text.specs.Schedule.{Moment, Accepted, Does, Chooses, line_of, world_of, started, stepped, outcome_at}
 use Rattle.mesh_text.specs.Lines.{words_of, event_words}
-use Rattle.mesh_text.specs.Runs.{event_then, choice_then, events_chosen, events_read}
+use Rattle.mesh_text.specs.Auto.{event_then, choice_then, events_chosen}
+use Rattle.mesh_text.specs.Runs.{events_read}
 use Rattle.mesh_text.specs.Laws.{AutoLineHasFourBytes, LineHasFewEvents}
 use Rattle.mesh_text.proofs.InRange.{Allowed, line_allowed}
 use Rattle.mesh_text.proofs.Echoes.{read_line_is_written_as_it_was, Echoed, echoed}
@@ -51,7 +52,7 @@ choice_few : (most : ℕ) (m : Moment) (o : Option Event) (more : Moment → Lis
 choice_few most m None more few = omega arith
 choice_few most m (Some e) more few = event_few most m e (outcome_at m e) more (few (stepped m e))
 
-chosen_few : (most : ℕ) (m : Moment) → length (events_chosen most m) ≤ most
+pub chosen_few : (most : ℕ) (m : Moment) → length (events_chosen most m) ≤ most
 unfolding events_chosen
 chosen_few zero m = omega arith
 chosen_few (suc most) m = choice_few most m (pick (world_of m)) (λ n. events_chosen most n) (chosen_few most)

@@ -1,5 +1,5 @@
 -- What holds of every moment of a run.
-use Rattle.std.proofs.Common.{◌≡◌, ℕ, zero, suc, ◌+◌, ◌<◌, ◌≤◌, true, false, List, [], ◌∷◌, Option, Some, None, Result, Ok, Err, length, get_or, refl, sym, ap, subst, ◌∙◌, arith, is_some}
+use Rattle.std.proofs.Common.{◌≡◌, ℕ, ◌+◌, ◌<◌, ◌≤◌, true, false, List, [], ◌∷◌, Option, Some, None, Result, Ok, Err, length, get_or, refl, sym, ap, subst, ◌∙◌, arith, is_some}
 use Rattle.std.specs.Option.{unwrap_or}
 use Rattle.std.specs.List.{AllByRecursion}
 use Rattle.std.proofs.lemmas.List.{length-map, get_or_default}
@@ -25,11 +25,11 @@ use Rattle.mesh_grammar.specs.Written.{line}
 use Rattle.mesh_text.specs.Lines.{words_of}
 use Rattle.mesh_text.specs.Ranges.{IsNewNode, IsInRange, IsInTime}
 use Rattle.mesh_text.specs.Auto as auto
-use Rattle.mesh_text.specs.Text.{LineOutcome, On, Refused, Full, outcome_of_event, outcome_of_auto, outcome_of_line, outcome_of_read, outcome_of_piece, Written, goes_on, text_from, text_on, text_of_input}
+use Rattle.mesh_text.specs.Text.{LineOutcome, On, Refused, Full, outcome_by_events, outcome_of_auto, outcome_of_line, outcome_of_read, outcome_of_piece, Written, goes_on, text_from, text_on, text_of_input}
 use Rattle.mesh_text.specs.Accounts.{IsBalanced}
 use Rattle.mesh_text.specs.Laws.{EventKeepsAccount, DataAreAccountedFor, SumsAreInOrder}
 use Rattle.mesh_text.proofs.InRange.{Allowed, line_allowed}
-use Rattle.mesh_text.proofs.Picks.{picked}
+use Rattle.mesh_text.proofs.Picks.{picked, each_chosen}
 
 -- what holds of a moment
 pub record IsKept (m : Moment) : Type 0 where
@@ -152,35 +152,45 @@ stepped_kept m e within is =
       ordered = omega arith;
     }
 
--- ---- chosen events
+-- ---- events one after another
 
-IsKeptRan : auto.AutoOutcome → Type 0
-IsKeptRan (auto.Ended text did n) = IsKept n
+IsKeptRan : auto.EventsOutcome → Type 0
+IsKeptRan (auto.Ended text n) = IsKept n
 IsKeptRan (auto.Full text n e field) = Unit {0}
 
-before_kept : (text : List ℕ) (r : auto.AutoOutcome) → IsKeptRan r → IsKeptRan (auto.before text r)
+before_kept : (text : List ℕ) (r : auto.EventsOutcome) → IsKeptRan r → IsKeptRan (auto.before text r)
 unfolding IsKeptRan
-before_kept text (auto.Ended others did n) is = is
+before_kept text (auto.Ended others n) is = is
 before_kept text (auto.Full others n e field) is = tt
 
-done_kept : (m : Moment) (e : Event) (o : Outcome) (others : Moment → auto.AutoOutcome) → IsKeptRan (others (stepped m e)) → IsKeptRan (auto.done_then m e o others)
+done_kept : (m : Moment) (e : Event) (o : Outcome) (others : Moment → auto.EventsOutcome) → IsKeptRan (others (stepped m e)) → IsKeptRan (auto.done_then m e o others)
 unfolding IsKeptRan
 done_kept m e Idle others is = before_kept _ (others (stepped m e)) is
 done_kept m e (worlds.Full x field) others is = tt
 done_kept m e (Next w happening) others is = before_kept _ (others (stepped m e)) is
 
-chosen_kept : (m : Moment) (did : ℕ) (o : Option Event) (others : Moment → auto.AutoOutcome) → IsKept m → OnSome (IsEvent (length m.mesh)) o → ((n : Moment) → IsKept n → IsKeptRan (others n)) → IsKeptRan (auto.chosen_then m did o others)
-unfolding IsKeptRan OnSome
-chosen_kept m did None others is usual rest = is
-chosen_kept m did (Some e) others is usual rest = done_kept m e (outcome_at m e) others (rest (stepped m e) (stepped_kept m e usual is))
+unfoldable pub UsualList : ℕ → List Event → Type 0
+UsualList size es = AllByRecursion (IsEvent size) es
 
-pub picked_usual : (m : Moment) → IsKept m → OnSome (IsEvent (length m.mesh)) (pick (world_of m))
-picked_usual m is = subst (λ k. OnSome (IsEvent k) (pick (world_of m))) is.size (picked (world_of m))
+stepped_mesh : (m : Moment) (e : Event) → (stepped m e).mesh ≡ m.mesh
+unfolding stepped
+stepped_mesh m e = refl
 
-auto_kept : (most did : ℕ) (m : Moment) → IsKept m → IsKeptRan (auto.auto_from most did m)
-unfolding IsKeptRan auto.auto_from
-auto_kept zero did m is = is
-auto_kept (suc most) did m is = chosen_kept m did (pick (world_of m)) (λ n. auto.auto_from most (did + 1) n) is (picked_usual m is) (λ n kept. auto_kept most (did + 1) n kept)
+events_kept : (m : Moment) (es : List Event) → UsualList (length m.mesh) es → IsKept m → IsKeptRan (auto.outcome_of_events m es)
+unfolding IsKeptRan UsualList auto.outcome_of_events
+events_kept m [] usual is = is
+events_kept m (e ∷ es) usual is =
+    done_kept m e (outcome_at m e) (λ n. auto.outcome_of_events n es)
+    (events_kept (stepped m e) es (subst (λ mesh. UsualList (length mesh) es) (sym (stepped_mesh m e)) usual.1) (stepped_kept m e usual.0 is))
+
+-- each event that is chosen is one of the mesh
+pub chosen_usual : (most : ℕ) (m : Moment) → IsKept m → UsualList (length m.mesh) (auto.events_chosen most m)
+unfolding UsualList
+chosen_usual most m is =
+    each_chosen (λ n. IsKept n × (length n.mesh ≡ length m.mesh)) (IsEvent (length m.mesh))
+    (λ n kept. subst (λ k. OnSome (IsEvent k) (pick (world_of n))) (kept.0.size ∙ kept.1) (picked (world_of n)))
+    (λ n e usual kept. (stepped_kept n e (subst (λ k. IsEvent k e) (sym kept.1) usual) kept.0, ap length (stepped_mesh n e) ∙ kept.1))
+    most m (is, refl)
 
 -- ---- lines
 
@@ -189,27 +199,29 @@ IsKeptCame (On text n) = IsKept n
 IsKeptCame (Refused why) = Unit {0}
 IsKeptCame (Full text n e field) = Unit {0}
 
-event_kept : (m : Moment) (e : Event) (o : Outcome) → IsKept (counted (stepped m e)) → IsKeptCame (outcome_of_event m e o)
-unfolding IsKeptCame
-event_kept m e Idle is = is
-event_kept m e (worlds.Full x field) is = tt
-event_kept m e (Next w happening) is = is
-
-ran_kept : (text : List ℕ) (r : auto.AutoOutcome) → IsKeptRan r → IsKeptCame (outcome_of_auto text r)
+line_events_kept : (r : auto.EventsOutcome) → IsKeptRan r → IsKeptCame (outcome_by_events r)
 unfolding IsKeptCame IsKeptRan
-ran_kept text (auto.Ended others did n) is = counted_kept n is
-ran_kept text (auto.Full others n e field) is = tt
+line_events_kept (auto.Ended text n) is = counted_kept n is
+line_events_kept (auto.Full text n e field) is = tt
+
+auto_kept : (text : List ℕ) (did : ℕ) (r : auto.EventsOutcome) → IsKeptRan r → IsKeptCame (outcome_of_auto text did r)
+unfolding IsKeptCame IsKeptRan
+auto_kept text did (auto.Ended others n) is = counted_kept n is
+auto_kept text did (auto.Full others n e field) is = tt
 
 pub not_made : (o : Option World) → is_some o ≡ false → o ≡ None
 not_made None h = refl
 not_made (Some w) h = absurd (let P : ⊥ = cc in P)
 
 line_kept : (m : Moment) (a : Accepted) → IsInRange m.mesh a → IsInTime (is_some m.world) a → IsKept m → IsKeptCame (outcome_of_line m a)
-unfolding IsKeptCame outcome_of_line
+unfolding IsKeptCame outcome_of_line UsualList
 line_kept m Nothing range early is = counted_kept m is
 line_kept m (NewNode address first) range early is = grown_kept m address first (not_made m.world early) range is
-line_kept m (Does e) range early is = event_kept m e (outcome_at m e) (counted_kept (stepped m e) (stepped_kept m e range.1 is))
-line_kept m (Chooses count) range early is = ran_kept (line (words_of m.mesh (Chooses count))) (auto.auto_from count 0 (started m)) (auto_kept count 0 (started m) (started_kept m is))
+line_kept m (Does e) range early is = line_events_kept (auto.outcome_of_events (started m) (e ∷ [])) (events_kept (started m) (e ∷ []) (range.1, tt) (started_kept m is))
+line_kept m (Chooses count) range early is =
+    let chosen : List Event = auto.events_chosen count (started m) in
+    auto_kept (line (words_of m.mesh (Chooses count))) (length chosen) (auto.outcome_of_events (started m) chosen)
+    (events_kept (started m) chosen (chosen_usual count (started m) (started_kept m is)) (started_kept m is))
 line_kept m (ShowsNode x) range early is = counted_kept (started m) (started_kept m is)
 line_kept m (ShowsRoute x d) range early is = counted_kept (started m) (started_kept m is)
 line_kept m ShowsFlight range early is = counted_kept (started m) (started_kept m is)

@@ -1,6 +1,7 @@
 -- The text of a run names each datum that it delivered, and each that was dropped.
-use Rattle.std.proofs.Common.{◌≡◌, ℕ, zero, suc, ◌+◌, true, List, [], ◌∷◌, ◌++◌, codes, Option, Some, None, Result, Ok, Err, refl, ap, subst, arith, append-nil, is_some}
+use Rattle.std.proofs.Common.{◌≡◌, ℕ, ◌+◌, true, List, [], ◌∷◌, ◌++◌, codes, Option, Some, None, Result, Ok, Err, length, refl, ap, subst, arith, append-nil, is_some}
 use Rattle.std.specs.Prelude.{slice_get}
+use Rattle.std.specs.List.{AllByRecursion}
 use Rattle.std.specs.Fmt.{decimal}
 use Rattle.mesh_base.specs.declared.events.Counter.{Counter}
 use Rattle.mesh_base.specs.declared.events.Variant.{Variant}
@@ -26,9 +27,10 @@ use Rattle.mesh_text.specs.Effects.{outcome_text, outcome_lines}
 use Rattle.mesh_text.specs.Tables.{node_text_in, end_text, flight_text}
 use Rattle.mesh_text.specs.Ranges.{IsEventLine, IsInRange}
 use Rattle.mesh_text.specs.Auto as auto
-use Rattle.mesh_text.specs.Text.{LineOutcome, On, Refused, Full, outcome_of_event, outcome_of_auto, outcome_of_line, outcome_of_read, outcome_of_piece, Written, goes_on, text_from, text_on, text_of_input}
+use Rattle.mesh_text.specs.Text.{LineOutcome, On, Refused, Full, outcome_by_events, outcome_of_auto, outcome_of_line, outcome_of_read, outcome_of_piece, Written, goes_on, text_from, text_on, text_of_input}
 use Rattle.mesh_text.specs.Laws.{DataAreNamed}
 use Rattle.mesh_text.proofs.InRange.{Allowed, line_allowed}
+use Rattle.mesh_text.proofs.Picks.{each_chosen}
 use Rattle.mesh_text.proofs.Moments.{IsKept, IsKeptCame, opening_kept, piece_kept}
 use Rattle.mesh_text.proofs.RunLaws.{NotFull}
 use Rattle.mesh_text.proofs.Clean.{is_clean, clean_append, decimal_clean, dotted_clean, clean_body}
@@ -150,23 +152,31 @@ event_told m e clean =
       lost = refl;
     }
 
--- ---- chosen events
+-- ---- events one after another
 
-ToldRan : Moment → auto.AutoOutcome → Type 0
-ToldRan m (auto.Ended text did n) = Told m n text
+ToldRan : Moment → auto.EventsOutcome → Type 0
+ToldRan m (auto.Ended text n) = Told m n text
 ToldRan m (auto.Full text n e field) = Unit {0}
 
-before_told : (m n : Moment) (text : List ℕ) (r : auto.AutoOutcome) → Told m n text → ToldRan n r → ToldRan m (auto.before text r)
+before_told : (m n : Moment) (text : List ℕ) (r : auto.EventsOutcome) → Told m n text → ToldRan n r → ToldRan m (auto.before text r)
 unfolding ToldRan
-before_told m n text (auto.Ended others did k) first is = told_then m n k text others first is
+before_told m n text (auto.Ended others k) first is = told_then m n k text others first is
 before_told m n text (auto.Full others k e field) first is = tt
 
-done_told : (m : Moment) (e : Event) (o : Outcome) (others : Moment → auto.AutoOutcome) → Told m (stepped m e) (outcome_lines m.mesh e o) → ToldRan (stepped m e) (others (stepped m e))
+done_told : (m : Moment) (e : Event) (o : Outcome) (others : Moment → auto.EventsOutcome) → Told m (stepped m e) (outcome_lines m.mesh e o) → ToldRan (stepped m e) (others (stepped m e))
     → ToldRan m (auto.done_then m e o others)
 unfolding ToldRan
 done_told m e Idle others first is = before_told m (stepped m e) _ (others (stepped m e)) first is
 done_told m e (worlds.Full x field) others first is = tt
 done_told m e (Next w happening) others first is = before_told m (stepped m e) _ (others (stepped m e)) first is
+
+events_told : (m : Moment) (es : List Event) → AllByRecursion HasCleanBody es → ToldRan m (auto.outcome_of_events m es)
+unfolding ToldRan auto.outcome_of_events
+events_told m [] clean = silent_told m m [] tells_none refl refl
+events_told m (e ∷ es) clean =
+    done_told m e (outcome_at m e) (λ n. auto.outcome_of_events n es) (event_told m e clean.0) (events_told (stepped m e) es clean.1)
+
+-- no event that is chosen gives a datum
 
 choice_clean : (e : Event) → IsChoice e → HasCleanBody e
 choice_clean (Give x d body) choice = absurd choice
@@ -180,15 +190,8 @@ picked_clean w = by (pick w) refl
     by None is = tt
     by (Some e) is = choice_clean e (pick_is_enabled w e is).0
 
-chosen_told : (m : Moment) (did : ℕ) (o : Option Event) (others : Moment → auto.AutoOutcome) → OnSome HasCleanBody o → ((n : Moment) → ToldRan n (others n)) → ToldRan m (auto.chosen_then m did o others)
-unfolding ToldRan OnSome
-chosen_told m did None others clean rest = silent_told m m [] tells_none refl refl
-chosen_told m did (Some e) others clean rest = done_told m e (outcome_at m e) others (event_told m e clean) (rest (stepped m e))
-
-auto_told : (most did : ℕ) (m : Moment) → ToldRan m (auto.auto_from most did m)
-unfolding ToldRan auto.auto_from
-auto_told zero did m = silent_told m m [] tells_none refl refl
-auto_told (suc most) did m = chosen_told m did (pick (world_of m)) (λ n. auto.auto_from most (did + 1) n) (picked_clean (world_of m)) (auto_told most (did + 1))
+chosen_clean : (most : ℕ) (m : Moment) → AllByRecursion HasCleanBody (auto.events_chosen most m)
+chosen_clean most m = each_chosen (λ n. Unit {0}) HasCleanBody (λ n _. picked_clean (world_of n)) (λ n e clean _. tt) most m tt
 
 -- ---- a line
 
@@ -197,15 +200,14 @@ ToldCame m (On text n) = Told m n text
 ToldCame m (Refused why) = Unit {0}
 ToldCame m (Full text n e field) = Unit {0}
 
-came_event_told : (m : Moment) (e : Event) (o : Outcome) → Told m (stepped m e) (outcome_lines m.mesh e o) → ToldCame m (outcome_of_event m e o)
-unfolding ToldCame
-came_event_told m e Idle is = record { d = is.d; x = is.x; tells = is.tells; delivered = is.delivered; lost = is.lost }
-came_event_told m e (worlds.Full x field) is = tt
-came_event_told m e (Next w happening) is = record { d = is.d; x = is.x; tells = is.tells; delivered = is.delivered; lost = is.lost }
-
-ran_told : (m : Moment) (text : List ℕ) (r : auto.AutoOutcome) → Tells 0 0 text → ToldRan (started m) r → ToldCame m (outcome_of_auto text r)
+line_events_told : (m : Moment) (r : auto.EventsOutcome) → ToldRan (started m) r → ToldCame m (outcome_by_events r)
 unfolding ToldCame ToldRan
-ran_told m text (auto.Ended others did n) silent is =
+line_events_told m (auto.Ended text n) is = record { d = is.d; x = is.x; tells = is.tells; delivered = is.delivered; lost = is.lost }
+line_events_told m (auto.Full text n e field) is = tt
+
+auto_told : (m : Moment) (text : List ℕ) (did : ℕ) (r : auto.EventsOutcome) → Tells 0 0 text → ToldRan (started m) r → ToldCame m (outcome_of_auto text did r)
+unfolding ToldCame ToldRan
+auto_told m text did (auto.Ended others n) silent is =
     let end : Tells 0 0 (auto.auto_end did) = silent_line (codes "auto did " ++ decimal did) (decimal_clean did) refl refl in
     record {
       d = is.d;
@@ -214,7 +216,7 @@ ran_told m text (auto.Ended others did n) silent is =
       delivered = is.delivered;
       lost = is.lost;
     }
-ran_told m text (auto.Full others n e field) silent is = tt
+auto_told m text did (auto.Full others n e field) silent is = tt
 
 event_line_clean : (mesh : Nodes) (e : Event) → IsEventLine mesh e → HasCleanBody e
 event_line_clean mesh (Give x d body) range = clean_body body range.2.2
@@ -230,10 +232,11 @@ line_told m Nothing range = silent_told m (counted m) [] tells_none refl refl
 line_told m (NewNode address first) range =
     silent_told m (counted (record m { mesh = with_node m.mesh address first })) (line (words_of m.mesh (NewNode address first)))
     (silent_line (words_of m.mesh (NewNode address first)) (node_words_clean address first) refl refl) refl refl
-line_told m (Does e) range = came_event_told m e (outcome_at m e) (event_told m e (event_line_clean m.mesh e range))
+line_told m (Does e) range = line_events_told m (auto.outcome_of_events (started m) (e ∷ [])) (events_told (started m) (e ∷ []) (event_line_clean m.mesh e range, tt))
 line_told m (Chooses count) range =
-    ran_told m (line (words_of m.mesh (Chooses count))) (auto.auto_from count 0 (started m))
-    (silent_line (words_of m.mesh (Chooses count)) (decimal_clean count) refl refl) (auto_told count 0 (started m))
+    let chosen : List Event = auto.events_chosen count (started m) in
+    auto_told m (line (words_of m.mesh (Chooses count))) (length chosen) (auto.outcome_of_events (started m) chosen)
+    (silent_line (words_of m.mesh (Chooses count)) (decimal_clean count) refl refl) (events_told (started m) chosen (chosen_clean count (started m)))
 line_told m (ShowsNode x) range =
     let shown : List ℕ = node_text_in m.mesh (slice_get (world_of m).nodes x) in
     silent_told m (counted (started m)) (line (words_of m.mesh (ShowsNode x)) ++ shown)

@@ -8,12 +8,10 @@ use Rattle.mesh_base.specs.Meshes.{Nodes}
 use Rattle.mesh_base.specs.declared.events.Variant.{Variant}
 use Rattle.mesh_model.specs.Worlds as worlds
 use Rattle.mesh_model.specs.Worlds.{World, Event, Outcome, Idle, Next, step, after, run, start, first_numbers}
-use Rattle.mesh_model.specs.Choices.{pick}
 use Rattle.mesh_model.specs.Places.{IsEvent}
 use Rattle.mesh_model.proofs.Lists.{each_append}
 use Rattle.mesh_model.proofs.MeshSteps.{run_keeps}
 use Rattle.mesh_model.proofs.Acyclic.{loop_free}
-use Rattle.mesh_model.proofs.Chosen.{OnSome}
 use Rattle.mesh_grammar.specs.declared.fault.LineFault.{LineFault}
 use Rattle.mesh_text.specs.Schedule.{Moment, opening, Accepted, Nothing, NewNode, Does, Chooses, ShowsNode, ShowsRoute, ShowsFlight, line_of, world_of, started, outcome_at, stepped, counted}
 use Rattle.mesh_grammar.specs.Lines.{Piece, Whole, Long, Beyond}
@@ -21,11 +19,12 @@ use Rattle.mesh_grammar.specs.Written.{line}
 use Rattle.mesh_text.specs.Lines.{words_of}
 use Rattle.mesh_text.specs.Ranges.{IsInRange, IsInTime}
 use Rattle.mesh_text.specs.Auto as auto
-use Rattle.mesh_text.specs.Text.{LineOutcome, On, Refused, Full, outcome_of_event, outcome_of_auto, outcome_of_line, outcome_of_read, outcome_of_piece, Verdict, FullAt, Written, goes_on, text_from, text_on, text_of_input}
-use Rattle.mesh_text.specs.Runs.{event_then, choice_then, events_chosen, events_of_line, events_read, events_of_piece, events_after, events_from, events_of_input, mesh_of_input, world_after}
+use Rattle.mesh_text.specs.Text.{LineOutcome, On, Refused, Full, outcome_by_events, outcome_of_auto, outcome_of_line, outcome_of_read, outcome_of_piece, Verdict, FullAt, Written, goes_on, text_from, text_on, text_of_input}
+use Rattle.mesh_text.specs.Auto.{events_chosen}
+use Rattle.mesh_text.specs.Runs.{events_of_line, events_read, events_of_piece, events_after, events_from, events_of_input, mesh_of_input, world_after}
 use Rattle.mesh_text.specs.Laws.{RunIsRunOfEvents, AllEventsCount, EventsAreOfMesh, RunsAreLoopFree, RunKeepsInvariant}
 use Rattle.mesh_text.proofs.InRange.{Allowed, line_allowed}
-use Rattle.mesh_text.proofs.Moments.{IsKept, all_positive, stepped_kept, started_kept, picked_usual, IsKeptCame, piece_kept, input_kept, opening_kept}
+use Rattle.mesh_text.proofs.Moments.{IsKept, all_positive, started_kept, UsualList, chosen_usual, IsKeptCame, piece_kept, input_kept, opening_kept}
 
 pub run_append : (w : World) (xs ys : List Event) → run w (xs ++ ys) ≡ run (run w xs) ys
 unfolding run
@@ -40,80 +39,47 @@ pub run_one : (w : World) (e : Event) → run w (e ∷ []) ≡ after w (step w e
 unfolding run
 run_one w e = refl
 
--- ---- chosen events
+-- ---- events one after another
 
 -- from m to n by these events
-pub record AutoOutcome (m n : Moment) (es : List Event) : Type 0 where
+pub record IsRan (m n : Moment) (es : List Event) : Type 0 where
   pub variant : n.variant ≡ m.variant
   pub mesh : n.mesh ≡ m.mesh
   pub made : is_some n.world ≡ true
   pub world : world_of n ≡ run (world_of m) es
   pub count : n.sums.events ≡ m.sums.events + length es
 
-ran_more : (m : Moment) (e : Event) (n : Moment) (es : List Event) → AutoOutcome (stepped m e) n es → AutoOutcome m n (e ∷ es)
+ran_more : (m : Moment) (e : Event) (n : Moment) (es : List Event) → IsRan (stepped m e) n es → IsRan m n (e ∷ es)
 unfolding stepped run
 ran_more m e n es is = record { variant = is.variant; mesh = is.mesh; made = is.made; world = is.world; count = let count = is.count in omega arith }
 
-RanTo : Moment → auto.AutoOutcome → List Event → Type 0
-RanTo m (auto.Ended text did n) es = AutoOutcome m n es
+RanTo : Moment → auto.EventsOutcome → List Event → Type 0
+RanTo m (auto.Ended text n) es = IsRan m n es
 RanTo m (auto.Full text n e field) es = Unit {0}
 
-ran_before : (m : Moment) (e : Event) (text : List ℕ) (r : auto.AutoOutcome) (es : List Event) → RanTo (stepped m e) r es → RanTo m (auto.before text r) (e ∷ es)
+ran_before : (m : Moment) (e : Event) (text : List ℕ) (r : auto.EventsOutcome) (es : List Event) → RanTo (stepped m e) r es → RanTo m (auto.before text r) (e ∷ es)
 unfolding RanTo
-ran_before m e text (auto.Ended others did n) es is = ran_more m e n es is
+ran_before m e text (auto.Ended others n) es is = ran_more m e n es is
 ran_before m e text (auto.Full others n f field) es is = tt
 
-done_ran : (m : Moment) (e : Event) (o : Outcome) (others : Moment → auto.AutoOutcome) (more : Moment → List Event) → RanTo (stepped m e) (others (stepped m e)) (more (stepped m e))
-    → RanTo m (auto.done_then m e o others) (event_then m e o more)
+done_ran : (m : Moment) (e : Event) (o : Outcome) (others : Moment → auto.EventsOutcome) (es : List Event) → RanTo (stepped m e) (others (stepped m e)) es
+    → RanTo m (auto.done_then m e o others) (e ∷ es)
 unfolding RanTo
-done_ran m e Idle others more is = ran_before m e _ (others (stepped m e)) (more (stepped m e)) is
-done_ran m e (worlds.Full x field) others more is = tt
-done_ran m e (Next w happening) others more is = ran_before m e _ (others (stepped m e)) (more (stepped m e)) is
-
-chosen_ran : (m : Moment) (did : ℕ) (o : Option Event) (others : Moment → auto.AutoOutcome) (more : Moment → List Event) → is_some m.world ≡ true
-    → ((e : Event) → RanTo (stepped m e) (others (stepped m e)) (more (stepped m e))) → RanTo m (auto.chosen_then m did o others) (choice_then m o more)
-unfolding RanTo
-chosen_ran m did None others more made rest = record { variant = refl; mesh = refl; made = made; world = sym (run_none (world_of m)); count = omega arith }
-chosen_ran m did (Some e) others more made rest = done_ran m e (outcome_at m e) others more (rest e)
+done_ran m e Idle others es is = ran_before m e _ (others (stepped m e)) es is
+done_ran m e (worlds.Full x field) others es is = tt
+done_ran m e (Next w happening) others es is = ran_before m e _ (others (stepped m e)) es is
 
 stepped_made : (m : Moment) (e : Event) → is_some (stepped m e).world ≡ true
 unfolding stepped
 stepped_made m e = refl
 
-auto_ran : (most did : ℕ) (m : Moment) → is_some m.world ≡ true → RanTo m (auto.auto_from most did m) (events_chosen most m)
-unfolding RanTo auto.auto_from events_chosen
-auto_ran zero did m made = record { variant = refl; mesh = refl; made = made; world = sym (run_none (world_of m)); count = omega arith }
-auto_ran (suc most) did m made =
-    chosen_ran m did (pick (world_of m)) (λ n. auto.auto_from most (did + 1) n) (λ n. events_chosen most n) made
-    (λ e. auto_ran most (did + 1) (stepped m e) (stepped_made m e))
+events_ran : (m : Moment) (es : List Event) → is_some m.world ≡ true → RanTo m (auto.outcome_of_events m es) es
+unfolding RanTo auto.outcome_of_events
+events_ran m [] made = record { variant = refl; mesh = refl; made = made; world = sym (run_none (world_of m)); count = omega arith }
+events_ran m (e ∷ es) made =
+    done_ran m e (outcome_at m e) (λ n. auto.outcome_of_events n es) es (events_ran (stepped m e) es (stepped_made m e))
 
 -- each of them is an event of the mesh
-
-unfoldable pub UsualList : ℕ → List Event → Type 0
-UsualList size es = AllByRecursion (IsEvent size) es
-
-event_usual : (m : Moment) (e : Event) (o : Outcome) (more : Moment → List Event) → IsEvent (length m.mesh) e → UsualList (length m.mesh) (more (stepped m e)) → UsualList (length m.mesh) (event_then m e o more)
-unfolding UsualList
-event_usual m e Idle more one rest = (one, rest)
-event_usual m e (worlds.Full x field) more one rest = (one, tt)
-event_usual m e (Next w happening) more one rest = (one, rest)
-
-choice_usual : (m : Moment) (o : Option Event) (more : Moment → List Event) → OnSome (IsEvent (length m.mesh)) o → ((e : Event) → IsEvent (length m.mesh) e → UsualList (length m.mesh) (more (stepped m e)))
-    → UsualList (length m.mesh) (choice_then m o more)
-unfolding UsualList OnSome
-choice_usual m None more usual rest = tt
-choice_usual m (Some e) more usual rest = event_usual m e (outcome_at m e) more usual (rest e usual)
-
-stepped_mesh : (m : Moment) (e : Event) → (stepped m e).mesh ≡ m.mesh
-unfolding stepped
-stepped_mesh m e = refl
-
-chosen_usual : (most : ℕ) (m : Moment) → IsKept m → UsualList (length m.mesh) (events_chosen most m)
-unfolding UsualList events_chosen
-chosen_usual zero m is = tt
-chosen_usual (suc most) m is =
-    choice_usual m (pick (world_of m)) (λ n. events_chosen most n) (picked_usual m is)
-    (λ e usual. subst (λ mesh. UsualList (length mesh) (events_chosen most (stepped m e))) (stepped_mesh m e) (chosen_usual most (stepped m e) (stepped_kept m e usual is)))
 
 line_events_usual : (m : Moment) (a : Accepted) → IsInRange m.mesh a → IsKept m → UsualList (length m.mesh) (events_of_line m a)
 unfolding UsualList
@@ -147,20 +113,19 @@ pub record Quiet (m n : Moment) (es : List Event) : Type 0 where
   pub count : n.sums.events ≡ m.sums.events
 
 unfoldable pub GoesBy : Moment → List Event → LineOutcome → Type 0
-GoesBy m es (On text n) = Quiet m n es ⊎ AutoOutcome m n es
+GoesBy m es (On text n) = Quiet m n es ⊎ IsRan m n es
 GoesBy m es (Refused why) = es ≡ []
 GoesBy m es (Full text n e field) = Unit {0}
 
-event_goes : (m : Moment) (e : Event) (o : Outcome) → GoesBy m (e ∷ []) (outcome_of_event m e o)
-unfolding GoesBy stepped run
-event_goes m e Idle = inr (record { variant = refl; mesh = refl; made = refl; world = refl; count = refl })
-event_goes m e (worlds.Full x field) = tt
-event_goes m e (Next w happening) = inr (record { variant = refl; mesh = refl; made = refl; world = refl; count = refl })
-
-auto_goes : (m : Moment) (text : List ℕ) (r : auto.AutoOutcome) (es : List Event) → RanTo m r es → GoesBy m es (outcome_of_auto text r)
+line_events_go : (m : Moment) (r : auto.EventsOutcome) (es : List Event) → RanTo m r es → GoesBy m es (outcome_by_events r)
 unfolding GoesBy RanTo
-auto_goes m text (auto.Ended others did n) es is = inr (record { variant = is.variant; mesh = is.mesh; made = is.made; world = is.world; count = is.count })
-auto_goes m text (auto.Full others n e field) es is = tt
+line_events_go m (auto.Ended text n) es is = inr (record { variant = is.variant; mesh = is.mesh; made = is.made; world = is.world; count = is.count })
+line_events_go m (auto.Full text n e field) es is = tt
+
+auto_goes : (m : Moment) (text : List ℕ) (did : ℕ) (r : auto.EventsOutcome) (es : List Event) → RanTo m r es → GoesBy m es (outcome_of_auto text did r)
+unfolding GoesBy RanTo
+auto_goes m text did (auto.Ended others n) es is = inr (record { variant = is.variant; mesh = is.mesh; made = is.made; world = is.world; count = is.count })
+auto_goes m text did (auto.Full others n e field) es is = tt
 
 start_goes : (m : Moment) (es : List Event) (c : LineOutcome) → GoesBy (started m) es c → GoesBy m es c
 unfolding GoesBy
@@ -177,17 +142,21 @@ start_goes m es (On text n) (inr is) = inr (record { variant = is.variant; mesh 
 start_goes m es (Refused why) is = is
 start_goes m es (Full text n e field) is = tt
 
-shown : (m : Moment) → AutoOutcome m (counted (started m)) []
+shown : (m : Moment) → IsRan m (counted (started m)) []
 shown m = record { variant = refl; mesh = refl; made = refl; world = sym (run_none (world_of m)); count = omega arith }
 
 line_goes : (m : Moment) (a : Accepted) → IsInTime (is_some m.world) a → GoesBy m (events_of_line m a) (outcome_of_line m a)
 unfolding GoesBy outcome_of_line
 line_goes m Nothing early = inl (record { variant = refl; mesh = λ _. refl; world = refl; none = refl; count = refl })
 line_goes m (NewNode address first) early = inl (record { variant = refl; mesh = λ made. absurd (let clash : true ≡ false = sym made ∙ early in let P : ⊥ = cc in P); world = refl; none = refl; count = refl })
-line_goes m (Does e) early = event_goes m e (outcome_at m e)
+line_goes m (Does e) early =
+    let ran : auto.EventsOutcome = auto.outcome_of_events (started m) (e ∷ []) in
+    start_goes m (e ∷ []) (outcome_by_events ran) (line_events_go (started m) ran (e ∷ []) (events_ran (started m) (e ∷ []) refl))
 line_goes m (Chooses count) early =
-    start_goes m (events_chosen count (started m)) (outcome_of_auto (line (words_of m.mesh (Chooses count))) (auto.auto_from count 0 (started m)))
-    (auto_goes (started m) (line (words_of m.mesh (Chooses count))) (auto.auto_from count 0 (started m)) (events_chosen count (started m)) (auto_ran count 0 (started m) refl))
+    let chosen : List Event = events_chosen count (started m) in
+    let text : List ℕ = line (words_of m.mesh (Chooses count)) in
+    let ran : auto.EventsOutcome = auto.outcome_of_events (started m) chosen in
+    start_goes m chosen (outcome_of_auto text (length chosen) ran) (auto_goes (started m) text (length chosen) ran chosen (events_ran (started m) chosen refl))
 line_goes m (ShowsNode x) early = inr (shown m)
 line_goes m (ShowsRoute x d) early = inr (shown m)
 line_goes m ShowsFlight early = inr (shown m)
@@ -259,7 +228,7 @@ quiet_follows m n es more w quiet rest =
     })
 
 -- after a line with events
-ran_follows : (m n : Moment) (es more : List Event) (w : Written) → AutoOutcome m n es → UsualList (length m.mesh) es → Follows n more w → Follows m (es ++ more) w
+ran_follows : (m n : Moment) (es more : List Event) (w : Written) → IsRan m n es → UsualList (length m.mesh) es → Follows n more w → Follows m (es ++ more) w
 unfolding UsualList
 ran_follows m n es more w ran usual rest =
     let count : n.sums.events ≡ m.sums.events + length es = ran.count in

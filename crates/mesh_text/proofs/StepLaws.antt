@@ -1,17 +1,17 @@
 -- What a run's steps and a refused event are.
-use Rattle.std.proofs.Common.{◌≡◌, ℕ, zero, suc, ◌+◌, List, [], ◌∷◌, Option, Some, None, Result, Ok, Err, take, refl, subst, arith, is_some}
+use Rattle.std.proofs.Common.{◌≡◌, ℕ, suc, ◌+◌, List, [], ◌∷◌, length, Result, Ok, Err, take, refl, subst, arith, is_some}
 use Rattle.mesh_base.specs.declared.events.Counter.{Counter}
 use Rattle.mesh_model.specs.Worlds as worlds
 use Rattle.mesh_model.specs.Worlds.{Event, Outcome, Idle, Next}
-use Rattle.mesh_model.specs.Choices.{pick}
 use Rattle.mesh_grammar.specs.declared.fault.LineFault.{LineFault}
 use Rattle.mesh_grammar.specs.Lines.{Piece, Whole, Long, Beyond, pieces_of_input}
 use Rattle.mesh_grammar.specs.Written.{line}
-use Rattle.mesh_text.specs.Schedule.{Moment, Accepted, Nothing, NewNode, Does, Chooses, ShowsNode, ShowsRoute, ShowsFlight, line_of, world_of, started, outcome_at, stepped}
+use Rattle.mesh_text.specs.Schedule.{Moment, Accepted, Nothing, NewNode, Does, Chooses, ShowsNode, ShowsRoute, ShowsFlight, line_of, started, outcome_at, stepped}
 use Rattle.mesh_text.specs.Lines.{words_of}
 use Rattle.mesh_text.specs.Auto as auto
-use Rattle.mesh_text.specs.Text.{LineOutcome, On, Refused, Full, outcome_of_event, outcome_of_auto, outcome_of_line, outcome_of_read, outcome_of_piece, Written, goes_on, text_from, text_on}
-use Rattle.mesh_text.specs.Runs.{event_then, choice_then, events_chosen, events_of_line, events_read, events_of_piece, moment_after}
+use Rattle.mesh_text.specs.Text.{LineOutcome, On, Refused, Full, outcome_by_events, outcome_of_auto, outcome_of_line, outcome_of_read, outcome_of_piece, Written, goes_on, text_from, text_on}
+use Rattle.mesh_text.specs.Auto.{events_chosen}
+use Rattle.mesh_text.specs.Runs.{events_of_line, events_read, events_of_piece, moment_after}
 use Rattle.mesh_text.specs.Laws.{StepsAreEvents, FullEventStands}
 
 -- ---- steps
@@ -20,53 +20,49 @@ use Rattle.mesh_text.specs.Laws.{StepsAreEvents, FullEventStands}
 abbrev IsEven : Moment → Moment → Type 0
 IsEven m n = n.steps + m.sums.events ≡ m.steps + n.sums.events
 
-EvenRan : Moment → auto.AutoOutcome → Type 0
-EvenRan m (auto.Ended text did n) = IsEven m n
+EvenRan : Moment → auto.EventsOutcome → Type 0
+EvenRan m (auto.Ended text n) = IsEven m n
 EvenRan m (auto.Full text n e field) = Unit {0}
 
-before_even : (m : Moment) (e : Event) (text : List ℕ) (r : auto.AutoOutcome) → EvenRan (stepped m e) r → EvenRan m (auto.before text r)
+before_even : (m : Moment) (e : Event) (text : List ℕ) (r : auto.EventsOutcome) → EvenRan (stepped m e) r → EvenRan m (auto.before text r)
 unfolding EvenRan stepped
-before_even m e text (auto.Ended others did n) even = omega arith
+before_even m e text (auto.Ended others n) even = omega arith
 before_even m e text (auto.Full others n f field) even = tt
 
-done_even : (m : Moment) (e : Event) (o : Outcome) (others : Moment → auto.AutoOutcome) → EvenRan (stepped m e) (others (stepped m e)) → EvenRan m (auto.done_then m e o others)
+done_even : (m : Moment) (e : Event) (o : Outcome) (others : Moment → auto.EventsOutcome) → EvenRan (stepped m e) (others (stepped m e)) → EvenRan m (auto.done_then m e o others)
 unfolding EvenRan
 done_even m e Idle others even = before_even m e _ (others (stepped m e)) even
 done_even m e (worlds.Full x field) others even = tt
 done_even m e (Next w happening) others even = before_even m e _ (others (stepped m e)) even
 
-chosen_even : (m : Moment) (did : ℕ) (o : Option Event) (others : Moment → auto.AutoOutcome) → ((n : Moment) → EvenRan n (others n)) → EvenRan m (auto.chosen_then m did o others)
-unfolding EvenRan
-chosen_even m did None others rest = refl
-chosen_even m did (Some e) others rest = done_even m e (outcome_at m e) others (rest (stepped m e))
-
-auto_even : (most did : ℕ) (m : Moment) → EvenRan m (auto.auto_from most did m)
-unfolding EvenRan auto.auto_from
-auto_even zero did m = refl
-auto_even (suc most) did m = chosen_even m did (pick (world_of m)) (λ n. auto.auto_from most (did + 1) n) (auto_even most (did + 1))
+events_even : (m : Moment) (es : List Event) → EvenRan m (auto.outcome_of_events m es)
+unfolding EvenRan auto.outcome_of_events
+events_even m [] = refl
+events_even m (e ∷ es) = done_even m e (outcome_at m e) (λ n. auto.outcome_of_events n es) (events_even (stepped m e) es)
 
 EvenCame : Moment → LineOutcome → Type 0
 EvenCame m (On text n) = IsEven m n
 EvenCame m (Refused why) = Unit {0}
 EvenCame m (Full text n e field) = Unit {0}
 
-event_even : (m : Moment) (e : Event) (o : Outcome) → EvenCame m (outcome_of_event m e o)
-unfolding EvenCame stepped
-event_even m e Idle = omega arith
-event_even m e (worlds.Full x field) = tt
-event_even m e (Next w happening) = omega arith
-
-ran_even : (m : Moment) (text : List ℕ) (r : auto.AutoOutcome) → EvenRan (started m) r → EvenCame m (outcome_of_auto text r)
+line_events_even : (m : Moment) (r : auto.EventsOutcome) → EvenRan (started m) r → EvenCame m (outcome_by_events r)
 unfolding EvenCame EvenRan
-ran_even m text (auto.Ended others did n) even = even
-ran_even m text (auto.Full others n e field) even = tt
+line_events_even m (auto.Ended text n) even = even
+line_events_even m (auto.Full text n e field) even = tt
+
+auto_even : (m : Moment) (text : List ℕ) (did : ℕ) (r : auto.EventsOutcome) → EvenRan (started m) r → EvenCame m (outcome_of_auto text did r)
+unfolding EvenCame EvenRan
+auto_even m text did (auto.Ended others n) even = even
+auto_even m text did (auto.Full others n e field) even = tt
 
 line_even : (m : Moment) (a : Accepted) → EvenCame m (outcome_of_line m a)
 unfolding EvenCame outcome_of_line
 line_even m Nothing = refl
 line_even m (NewNode address first) = refl
-line_even m (Does e) = event_even m e (outcome_at m e)
-line_even m (Chooses count) = ran_even m (line (words_of m.mesh (Chooses count))) (auto.auto_from count 0 (started m)) (auto_even count 0 (started m))
+line_even m (Does e) = line_events_even m (auto.outcome_of_events (started m) (e ∷ [])) (events_even (started m) (e ∷ []))
+line_even m (Chooses count) =
+    let chosen : List Event = events_chosen count (started m) in
+    auto_even m (line (words_of m.mesh (Chooses count))) (length chosen) (auto.outcome_of_events (started m) chosen) (events_even (started m) chosen)
 line_even m (ShowsNode x) = refl
 line_even m (ShowsRoute x d) = refl
 line_even m ShowsFlight = refl
@@ -106,54 +102,48 @@ record Stands (m : Moment) (es : List Event) (n : Moment) (e : Event) (field : C
   node : ℕ
   refused : outcome_at n e ≡ worlds.Full node field
 
-StandsRan : Moment → List Event → auto.AutoOutcome → Type 0
-StandsRan m es (auto.Ended text did n) = Unit {0}
+StandsRan : Moment → List Event → auto.EventsOutcome → Type 0
+StandsRan m es (auto.Ended text n) = Unit {0}
 StandsRan m es (auto.Full text n e field) = Stands m es n e field
 
-before_stands : (m : Moment) (e : Event) (text : List ℕ) (r : auto.AutoOutcome) (es : List Event) → StandsRan (stepped m e) es r → StandsRan m (e ∷ es) (auto.before text r)
+before_stands : (m : Moment) (e : Event) (text : List ℕ) (r : auto.EventsOutcome) (es : List Event) → StandsRan (stepped m e) es r → StandsRan m (e ∷ es) (auto.before text r)
 unfolding StandsRan moment_after
-before_stands m e text (auto.Ended others did n) es is = tt
+before_stands m e text (auto.Ended others n) es is = tt
 before_stands m e text (auto.Full others n f field) es is = record { k = suc is.k; there = is.there; node = is.node; refused = is.refused }
 
-done_stands : (m : Moment) (e : Event) (o : Outcome) (others : Moment → auto.AutoOutcome) (more : Moment → List Event) → outcome_at m e ≡ o
-    → StandsRan (stepped m e) (more (stepped m e)) (others (stepped m e)) → StandsRan m (event_then m e o more) (auto.done_then m e o others)
+done_stands : (m : Moment) (e : Event) (o : Outcome) (others : Moment → auto.EventsOutcome) (es : List Event) → outcome_at m e ≡ o
+    → StandsRan (stepped m e) es (others (stepped m e)) → StandsRan m (e ∷ es) (auto.done_then m e o others)
 unfolding StandsRan moment_after
-done_stands m e Idle others more is rest = before_stands m e _ (others (stepped m e)) (more (stepped m e)) rest
-done_stands m e (worlds.Full x field) others more is rest = record { k = 0; there = refl; node = x; refused = is }
-done_stands m e (Next w happening) others more is rest = before_stands m e _ (others (stepped m e)) (more (stepped m e)) rest
+done_stands m e Idle others es is rest = before_stands m e _ (others (stepped m e)) es rest
+done_stands m e (worlds.Full x field) others es is rest = record { k = 0; there = refl; node = x; refused = is }
+done_stands m e (Next w happening) others es is rest = before_stands m e _ (others (stepped m e)) es rest
 
-chosen_stands : (m : Moment) (did : ℕ) (o : Option Event) (others : Moment → auto.AutoOutcome) (more : Moment → List Event) → ((n : Moment) → StandsRan n (more n) (others n))
-    → StandsRan m (choice_then m o more) (auto.chosen_then m did o others)
-unfolding StandsRan
-chosen_stands m did None others more rest = tt
-chosen_stands m did (Some e) others more rest = done_stands m e (outcome_at m e) others more refl (rest (stepped m e))
-
-auto_stands : (most did : ℕ) (m : Moment) → StandsRan m (events_chosen most m) (auto.auto_from most did m)
-unfolding StandsRan auto.auto_from events_chosen
-auto_stands zero did m = tt
-auto_stands (suc most) did m = chosen_stands m did (pick (world_of m)) (λ n. auto.auto_from most (did + 1) n) (λ n. events_chosen most n) (auto_stands most (did + 1))
+events_stand : (m : Moment) (es : List Event) → StandsRan m es (auto.outcome_of_events m es)
+unfolding StandsRan auto.outcome_of_events
+events_stand m [] = tt
+events_stand m (e ∷ es) = done_stands m e (outcome_at m e) (λ n. auto.outcome_of_events n es) es refl (events_stand (stepped m e) es)
 
 StandsCame : Moment → List Event → LineOutcome → Type 0
 StandsCame m es (On text n) = Unit {0}
 StandsCame m es (Refused why) = Unit {0}
 StandsCame m es (Full text n e field) = Stands (started m) es n e field
 
-event_stands : (m : Moment) (e : Event) (o : Outcome) → outcome_at m e ≡ o → StandsCame m (e ∷ []) (outcome_of_event m e o)
-unfolding StandsCame moment_after
-event_stands m e Idle is = tt
-event_stands m e (worlds.Full x field) is = record { k = 0; there = refl; node = x; refused = is }
-event_stands m e (Next w happening) is = tt
-
-ran_stands : (m : Moment) (text : List ℕ) (r : auto.AutoOutcome) (es : List Event) → StandsRan (started m) es r → StandsCame m es (outcome_of_auto text r)
+line_events_stand : (m : Moment) (r : auto.EventsOutcome) (es : List Event) → StandsRan (started m) es r → StandsCame m es (outcome_by_events r)
 unfolding StandsCame StandsRan
-ran_stands m text (auto.Ended others did n) es is = tt
-ran_stands m text (auto.Full others n e field) es is = is
+line_events_stand m (auto.Ended text n) es is = tt
+line_events_stand m (auto.Full text n e field) es is = is
+
+auto_stands : (m : Moment) (text : List ℕ) (did : ℕ) (r : auto.EventsOutcome) (es : List Event) → StandsRan (started m) es r → StandsCame m es (outcome_of_auto text did r)
+unfolding StandsCame StandsRan
+auto_stands m text did (auto.Ended others n) es is = tt
+auto_stands m text did (auto.Full others n e field) es is = is
 
 line_stands : (m : Moment) (a : Accepted) → StandsCame m (events_of_line m a) (outcome_of_line m a)
 unfolding StandsCame outcome_of_line
-line_stands m (Does e) = event_stands m e (outcome_at m e) refl
+line_stands m (Does e) = line_events_stand m (auto.outcome_of_events (started m) (e ∷ [])) (e ∷ []) (events_stand (started m) (e ∷ []))
 line_stands m (Chooses count) =
-    ran_stands m (line (words_of m.mesh (Chooses count))) (auto.auto_from count 0 (started m)) (events_chosen count (started m)) (auto_stands count 0 (started m))
+    let chosen : List Event = events_chosen count (started m) in
+    auto_stands m (line (words_of m.mesh (Chooses count))) (length chosen) (auto.outcome_of_events (started m) chosen) chosen (events_stand (started m) chosen)
 line_stands m others = tt
 
 read_stands : (m : Moment) (r : Result Accepted LineFault) → StandsCame m (events_read m r) (outcome_of_read m r)

@@ -1,5 +1,5 @@
--- A run of events that are chosen one after another, each by what is enabled then.
-use Rattle.std.specs.Prelude.{ℕ, zero, suc, ◌+◌, List, [], ◌++◌, codes, Option, Some, None}
+-- Events one after another, what comes of them, and those that a run chooses.
+use Rattle.std.specs.Prelude.{ℕ, zero, suc, List, [], ◌∷◌, ◌++◌, codes, Option, Some, None}
 use Rattle.mesh_base.specs.declared.events.Counter.{Counter}
 use Rattle.mesh_model.specs.Worlds as worlds
 use Rattle.mesh_model.specs.Worlds.{Event, Outcome, Idle, Next}
@@ -8,34 +8,51 @@ use Rattle.mesh_text.specs.Schedule.{Moment, world_of, outcome_at, stepped}
 use Rattle.mesh_grammar.specs.Written.{line, labelled}
 use Rattle.mesh_text.specs.Effects.{outcome_lines}
 
--- what came of the events: their text, how many there were, and the moment after them; or the text
--- before an event that is refused for a full counter, the moment at which it is, and that event
-pub data AutoOutcome : Type 0 where
-  Ended : (text : List ℕ) (did : ℕ) (after : Moment) → AutoOutcome
-  Full : (text : List ℕ) (at : Moment) → Event → Counter → AutoOutcome
+-- ---- what comes of events
+
+-- their text and the moment after them; or the text before an event that is refused for a full
+-- counter, the moment at which it is, and that event
+pub data EventsOutcome : Type 0 where
+  Ended : (text : List ℕ) (after : Moment) → EventsOutcome
+  Full : (text : List ℕ) (at : Moment) → Event → Counter → EventsOutcome
 
 -- a text before that of the others
-abbrev pub before : List ℕ → AutoOutcome → AutoOutcome
-before text (Ended others did after) = Ended (text ++ others) did after
+abbrev pub before : List ℕ → EventsOutcome → EventsOutcome
+before text (Ended others after) = Ended (text ++ others) after
 before text (Full others n e field) = Full (text ++ others) n e field
 
--- one chosen event, and then the others from the moment after it
-abbrev pub done_then : Moment → Event → Outcome → (Moment → AutoOutcome) → AutoOutcome
+-- one event, and then the others from the moment after it
+abbrev pub done_then : Moment → Event → Outcome → (Moment → EventsOutcome) → EventsOutcome
 done_then m e Idle others = before (outcome_lines m.mesh e Idle) (others (stepped m e))
 done_then m e (worlds.Full x field) others = Full [] m e field
 done_then m e (Next w happening) others =
     before (outcome_lines m.mesh e (Next w happening)) (others (stepped m e))
 
--- the event that is chosen, if any
-abbrev pub chosen_then : Moment → ℕ → Option Event → (Moment → AutoOutcome) → AutoOutcome
-chosen_then m did None others = Ended [] did m
-chosen_then m did (Some e) others = done_then m e (outcome_at m e) others
+-- these events from a moment on, each at the moment after the one before it
+unfoldable pub outcome_of_events : Moment → List Event → EventsOutcome
+outcome_of_events m [] = Ended [] m
+outcome_of_events m (e ∷ events) =
+    done_then m e (outcome_at m e) (λ n. outcome_of_events n events)
 
--- up to so many events more from a moment on, where so many were done before
-unfoldable pub auto_from : ℕ → ℕ → Moment → AutoOutcome
-auto_from zero did m = Ended [] did m
-auto_from (suc most) did m = chosen_then m did (pick (world_of m)) (λ n. auto_from most (did + 1) n)
+-- ---- events that are chosen, each by what is enabled then
 
--- the line after the events
+-- an event, and then the others from the moment after it; an event that is refused for a full
+-- counter is the last
+abbrev pub event_then : Moment → Event → Outcome → (Moment → List Event) → List Event
+event_then m e Idle others = e ∷ others (stepped m e)
+event_then m e (worlds.Full x field) others = e ∷ []
+event_then m e (Next w happening) others = e ∷ others (stepped m e)
+
+-- the event that is chosen, if any, and then the others
+abbrev pub choice_then : Moment → Option Event → (Moment → List Event) → List Event
+choice_then m None others = []
+choice_then m (Some e) others = event_then m e (outcome_at m e) others
+
+-- up to so many events that are chosen from a moment on
+unfoldable pub events_chosen : ℕ → Moment → List Event
+events_chosen zero m = []
+events_chosen (suc most) m = choice_then m (pick (world_of m)) (λ n. events_chosen most n)
+
+-- the line after so many events that were chosen
 abbrev pub auto_end : ℕ → List ℕ
 auto_end did = line (labelled (codes "auto did ") did)

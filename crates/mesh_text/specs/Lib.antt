@@ -7,7 +7,7 @@ pub mod Lines
 pub mod Effects
 -- Tables: the text of a node's state, of a route's end, and of the copies in flight.
 pub mod Tables
--- Auto: events that are chosen one after another.
+-- Auto: what comes of events one after another, and those that a run chooses.
 pub mod Auto
 -- Text: the lines of an input one after another, the whole text and its verdict.
 pub mod Text

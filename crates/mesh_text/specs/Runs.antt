@@ -1,34 +1,16 @@
 -- The events that the lines of an input do, one after another, and the moments and worlds that they
 -- lead through.
-use Rattle.std.specs.Prelude.{ℕ, zero, suc, List, [], ◌∷◌, ◌++◌, Option, Some, None, Result, Ok, Err, take, is_some, slice_get}
+use Rattle.std.specs.Prelude.{ℕ, List, [], ◌∷◌, ◌++◌, Option, Some, None, Result, Ok, Err, take, is_some, slice_get}
 use Rattle.mesh_base.specs.Meshes.{Nodes}
 use Rattle.mesh_base.specs.declared.events.Variant.{Variant}
-use Rattle.mesh_model.specs.Worlds as worlds
-use Rattle.mesh_model.specs.Worlds.{World, Event, Outcome, Idle, Next, run, start, first_numbers}
-use Rattle.mesh_model.specs.Choices.{pick}
+use Rattle.mesh_model.specs.Worlds.{World, Event, run, start, first_numbers}
 use Rattle.mesh_grammar.specs.declared.fault.LineFault.{LineFault}
-use Rattle.mesh_text.specs.Schedule.{Moment, Accepted, Does, Chooses, line_of, started, stepped, outcome_at, world_of, opening}
+use Rattle.mesh_text.specs.Schedule.{Moment, Accepted, Does, Chooses, line_of, started, stepped, opening}
 use Rattle.mesh_grammar.specs.Lines.{Piece, Whole, Long, Beyond, pieces_of_input}
+use Rattle.mesh_text.specs.Auto.{events_chosen}
 use Rattle.mesh_text.specs.Text.{LineOutcome, On, Refused, Full, outcome_of_piece, Written, text_from, text_of_input}
 
 -- ---- the events of a line
-
--- an event, and then the others from the moment after it; an event that is refused for a full
--- counter is the last
-abbrev pub event_then : Moment → Event → Outcome → (Moment → List Event) → List Event
-event_then m e Idle others = e ∷ others (stepped m e)
-event_then m e (worlds.Full x field) others = e ∷ []
-event_then m e (Next w happening) others = e ∷ others (stepped m e)
-
--- the event that is chosen, if any, and then the others
-abbrev pub choice_then : Moment → Option Event → (Moment → List Event) → List Event
-choice_then m None others = []
-choice_then m (Some e) others = event_then m e (outcome_at m e) others
-
--- up to so many events that are chosen from a moment on
-unfoldable pub events_chosen : ℕ → Moment → List Event
-events_chosen zero m = []
-events_chosen (suc most) m = choice_then m (pick (world_of m)) (λ n. events_chosen most n)
 
 -- those of an allowed line
 abbrev pub events_of_line : Moment → Accepted → List Event

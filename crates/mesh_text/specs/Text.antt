@@ -1,20 +1,18 @@
 -- The text of a run and its verdict, from the bytes of its input.
-use Rattle.std.specs.Prelude.{ℕ, ◌+◌, Bool, List, [], ◌∷◌, ◌++◌, Result, Ok, Err, if◌then◌else◌, is_some, slice_get}
+use Rattle.std.specs.Prelude.{ℕ, ◌+◌, Bool, List, [], ◌∷◌, ◌++◌, Result, Ok, Err, length, if◌then◌else◌, is_some, slice_get}
 use Rattle.mesh_base.specs.Meshes.{with_node}
 use Rattle.mesh_base.specs.declared.events.Counter.{Counter}
 use Rattle.mesh_base.specs.declared.events.Variant.{Variant}
-use Rattle.mesh_model.specs.Worlds as worlds
-use Rattle.mesh_model.specs.Worlds.{Event, Outcome, Idle, Next}
+use Rattle.mesh_model.specs.Worlds.{Event}
 use Rattle.mesh_model.specs.Routes.{route_end}
 use Rattle.mesh_grammar.specs.declared.fault.LineFault.{LineFault}
 use Rattle.mesh_grammar.specs.declared.fault.BadWhy.{BadWhy}
 use Rattle.mesh_grammar.specs.declared.fault.BadWhy.TheVariants.{Fault, TooLong, TooMuch}
-use Rattle.mesh_text.specs.Schedule.{Moment, Accepted, Nothing, NewNode, Does, Chooses, ShowsNode, ShowsRoute, ShowsFlight, line_of, counted, started, stepped, outcome_at, world_of, opening}
+use Rattle.mesh_text.specs.Schedule.{Moment, Accepted, Nothing, NewNode, Does, Chooses, ShowsNode, ShowsRoute, ShowsFlight, line_of, counted, started, world_of, opening}
 use Rattle.mesh_grammar.specs.Faults.{bad_line}
 use Rattle.mesh_grammar.specs.Lines.{Piece, Whole, Long, Beyond, pieces_of_input}
 use Rattle.mesh_grammar.specs.Written.{line}
 use Rattle.mesh_text.specs.Lines.{words_of, done_line, full_line}
-use Rattle.mesh_text.specs.Effects.{outcome_lines}
 use Rattle.mesh_text.specs.Tables.{node_text_in, end_text, flight_text}
 use Rattle.mesh_text.specs.Auto as auto
 
@@ -27,18 +25,16 @@ pub data LineOutcome : Type 0 where
   Refused : BadWhy → LineOutcome
   Full : List ℕ → Moment → Event → Counter → LineOutcome
 
--- an event
-abbrev pub outcome_of_event : Moment → Event → Outcome → LineOutcome
-outcome_of_event m e Idle = On (outcome_lines m.mesh e Idle) (counted (stepped m e))
-outcome_of_event m e (worlds.Full x field) = Full [] (started m) e field
-outcome_of_event m e (Next w happening) =
-    On (outcome_lines m.mesh e (Next w happening)) (counted (stepped m e))
+-- a line whose events came to this
+abbrev pub outcome_by_events : auto.EventsOutcome → LineOutcome
+outcome_by_events (auto.Ended text after) = On text (counted after)
+outcome_by_events (auto.Full text n e field) = Full text n e field
 
--- events that were chosen, after a line
-abbrev pub outcome_of_auto : List ℕ → auto.AutoOutcome → LineOutcome
-outcome_of_auto text (auto.Ended others did after) =
+-- a line that chose so many events: its own text, theirs, and the line after them
+abbrev pub outcome_of_auto : List ℕ → ℕ → auto.EventsOutcome → LineOutcome
+outcome_of_auto text did (auto.Ended others after) =
     On (text ++ others ++ auto.auto_end did) (counted after)
-outcome_of_auto text (auto.Full others n e field) = Full (text ++ others) n e field
+outcome_of_auto text did (auto.Full others n e field) = Full (text ++ others) n e field
 
 -- a line that changes nothing but that the run has started
 abbrev pub outcome_of_show : Moment → List ℕ → LineOutcome
@@ -50,9 +46,11 @@ outcome_of_line m Nothing = On [] (counted m)
 outcome_of_line m (NewNode address first) =
     On (line (words_of m.mesh (NewNode address first)))
     (counted (record m { mesh = with_node m.mesh address first }))
-outcome_of_line m (Does e) = outcome_of_event m e (outcome_at m e)
+outcome_of_line m (Does e) = outcome_by_events (auto.outcome_of_events (started m) (e ∷ []))
 outcome_of_line m (Chooses count) =
-    outcome_of_auto (line (words_of m.mesh (Chooses count))) (auto.auto_from count 0 (started m))
+    let chosen = auto.events_chosen count (started m) in
+    outcome_of_auto (line (words_of m.mesh (Chooses count))) (length chosen)
+    (auto.outcome_of_events (started m) chosen)
 outcome_of_line m (ShowsNode x) =
     outcome_of_show m (line (words_of m.mesh (ShowsNode x))
     ++ node_text_in m.mesh (slice_get (world_of m).nodes x))

@@ -1,5 +1,5 @@
 -- What comes of an event with its block, and of a line with one event.
-use Rattle.std.proofs.Common.{◌≡◌, ◌∙◌, ℕ, false, List, ◌++◌, Option, None, Result, length, refl, sym, ap, subst, append-nil}
+use Rattle.std.proofs.Common.{◌≡◌, ◌∙◌, ℕ, false, List, [], ◌∷◌, ◌++◌, Option, None, Result, length, refl, sym, ap, subst, append-nil}
 use Rattle.std.specs.List.{slice_get}
 use Rattle.std.specs.Io.KnownBytes.{Appends}
 use Rattle.mesh_base.specs.Meshes.{Nodes}
@@ -20,15 +20,16 @@ use Rattle.mesh_text.specs.Lines.{words_of}
 use Rattle.mesh_text.specs.Schedule.{Moment, Does, ShowsNode, counted, started, stepped, outcome_at, world_of}
 use Rattle.mesh_text.specs.Effects.{outcome_lines}
 use Rattle.mesh_text.specs.Tables.{node_text_in}
-use Rattle.mesh_text.specs.Text.{LineOutcome, On, Refused, Full, outcome_of_event, outcome_of_line, text_in}
+use Rattle.mesh_text.specs.Auto.{Ended, before, done_then}
+use Rattle.mesh_text.specs.Text.{LineOutcome, On, Refused, Full, outcome_by_events, text_in}
 use Rattle.mesh_run.specs.declared.stop.Stop.{Stop}
 use Rattle.mesh_run.specs.declared.stop.Stop.TheVariants as stop
 use Rattle.mesh_run.specs.Moments.{IsAnswer}
 use Rattle.mesh_run.specs.Runs.{IsLineDone, IsLineFull, IsLineStopped, outcome_by}
 use Rattle.mesh_run.proofs.Events.{answer_text, answer_mesh, node_came, refusal_fills}
 use Rattle.mesh_watch.specs.Blocks.{changed_by, shown_node, shown_if, block_below}
-use Rattle.mesh_watch.specs.Text.{with_block, watched_line}
-use Rattle.mesh_watch.specs.Lines.{watched_event}
+use Rattle.mesh_watch.specs.Text.{watched_events, watched_line}
+use Rattle.mesh_watch.specs.Lines.{with_block, watched_event}
 
 -- ---- the block
 
@@ -122,11 +123,10 @@ count (On text n) = On text (counted n)
 count (Refused why) = Refused why
 count (Full text n e field) = Full text n e field
 
-came-counted : (m : Moment) (e : Event) (o : Outcome) (block : List ℕ) → with_block block (outcome_of_event m e o) ≡ count (with_block block (outcome_by (started m) e o))
-unfolding stepped
-came-counted m e Idle block = refl
-came-counted m e (worlds.Full x field) block = refl
-came-counted m e (Next w h) block = refl
+came-counted : (s : Moment) (e : Event) (o : Outcome) (block : List ℕ) → outcome_by_events (done_then s e o (λ n. before block (Ended [] n))) ≡ count (with_block block (outcome_by s e o))
+came-counted s e Idle block = ap (λ l. On (outcome_lines s.mesh e Idle ++ l) (counted (stepped s e))) (append-nil block)
+came-counted s e (worlds.Full x field) block = refl
+came-counted s e (Next w h) block = ap (λ l. On (outcome_lines s.mesh e (Next w h) ++ l) (counted (stepped s e))) (append-nil block)
 
 text-counted : (k : LineOutcome) → text_in (count k) ≡ text_in k
 text-counted (On text n) = refl
@@ -135,8 +135,8 @@ text-counted (Full text n e field) = refl
 
 -- the line of an event, by what came of the event once the run had started
 came-does : (m s : Moment) (e : Event) → s ≡ started m → watched_line m (Does e) ≡ count (watched_event s e)
-unfolding watched_line outcome_of_line block_below stepped
-came-does m s e same = subst (λ k. watched_line m (Does e) ≡ count (watched_event k e)) (sym same) (came-counted m e (outcome_at m e) (block_below m e))
+unfolding watched_line watched_events
+came-does m s e same = subst (λ k. watched_line m (Does e) ≡ count (watched_event k e)) (sym same) (came-counted (started m) e (outcome_at (started m) e) (block_below (started m) e))
 
 -- an event is no line that isn't allowed
 never_bad : (m : Moment) (e : Event) (o : Outcome) (block : List ℕ) (why : BadWhy) → with_block block (outcome_by m e o) ≡ Refused why → ⊥

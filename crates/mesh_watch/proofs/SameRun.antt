@@ -1,19 +1,18 @@
 -- A watched run differs from the run in its lines alone.
-use Rattle.std.proofs.Common.{◌≡◌, ℕ, zero, suc, ◌+◌, List, [], ◌∷◌, Option, Some, None, Result, Ok, Err, is_some, refl, sym, ap, subst, ◌∙◌}
+use Rattle.std.proofs.Common.{◌≡◌, ℕ, List, [], ◌∷◌, Result, Ok, Err, length, is_some, refl, sym, ap, subst, ◌∙◌}
 use Rattle.mesh_model.specs.Worlds as worlds
 use Rattle.mesh_model.specs.Worlds.{Event, Outcome, Idle, Next}
-use Rattle.mesh_model.specs.Choices.{pick}
 use Rattle.mesh_grammar.specs.declared.fault.LineFault.{LineFault}
 use Rattle.mesh_grammar.specs.Lines.{Piece, Whole, Long, Beyond, pieces_of_input}
 use Rattle.mesh_grammar.specs.Written.{line}
-use Rattle.mesh_text.specs.Schedule.{Moment, Accepted, Nothing, NewNode, Does, Chooses, ShowsNode, ShowsRoute, ShowsFlight, line_of, started, stepped, outcome_at, world_of, opening}
+use Rattle.mesh_text.specs.Schedule.{Moment, Accepted, Nothing, NewNode, Does, Chooses, ShowsNode, ShowsRoute, ShowsFlight, line_of, started, stepped, outcome_at, opening}
 use Rattle.mesh_text.specs.Lines.{words_of}
 use Rattle.mesh_text.specs.Accounts.{IsBalanced}
-use Rattle.mesh_text.specs.Auto.{AutoOutcome, Ended, Full as AutoFull, before, done_then, chosen_then, auto_from}
-use Rattle.mesh_text.specs.Text.{LineOutcome, On, Refused, Full, outcome_of_auto, outcome_of_line, outcome_of_read, outcome_of_piece, Written, goes_on, text_from, text_on, text_of_input}
+use Rattle.mesh_text.specs.Auto.{EventsOutcome, Ended, Full as EventsFull, before, done_then, outcome_of_events, events_chosen}
+use Rattle.mesh_text.specs.Text.{LineOutcome, On, Refused, Full, outcome_by_events, outcome_of_auto, outcome_of_line, outcome_of_read, outcome_of_piece, Written, goes_on, text_from, text_on, text_of_input}
 use Rattle.mesh_text.proofs.Moments.{data_are_accounted_for as run_is_accounted_for}
 use Rattle.mesh_watch.specs.Blocks.{block_below}
-use Rattle.mesh_watch.specs.Text.{watched_then, watched_auto, with_block, watched_line, watched_read, watched_piece, watched_from, watched_on, watched_of_input}
+use Rattle.mesh_watch.specs.Text.{watched_events, watched_line, watched_read, watched_piece, watched_from, watched_on, watched_of_input}
 use Rattle.mesh_watch.specs.Laws.{WatchedRunIsTheRun, DataAreAccountedFor}
 
 -- ---- what a line comes to, but for its text
@@ -23,46 +22,46 @@ bare (On text n) = On [] n
 bare (Refused why) = Refused why
 bare (Full text n e field) = Full [] n e field
 
-abbrev pub bare_auto : AutoOutcome → AutoOutcome
-bare_auto (Ended text did n) = Ended [] did n
-bare_auto (AutoFull text n e field) = AutoFull [] n e field
+abbrev pub bare_events : EventsOutcome → EventsOutcome
+bare_events (Ended text n) = Ended [] n
+bare_events (EventsFull text n e field) = EventsFull [] n e field
 
-bare_before : (text : List ℕ) (r : AutoOutcome) → bare_auto (before text r) ≡ bare_auto r
-bare_before text (Ended others did n) = refl
-bare_before text (AutoFull others n e field) = refl
+bare_before : (text : List ℕ) (r : EventsOutcome) → bare_events (before text r) ≡ bare_events r
+bare_before text (Ended others n) = refl
+bare_before text (EventsFull others n e field) = refl
 
-bare_done : (m : Moment) (e : Event) (o : Outcome) (f g : Moment → AutoOutcome) → bare_auto (f (stepped m e)) ≡ bare_auto (g (stepped m e)) → bare_auto (done_then m e o f) ≡ bare_auto (done_then m e o g)
+bare_done : (m : Moment) (e : Event) (o : Outcome) (f g : Moment → EventsOutcome) → bare_events (f (stepped m e)) ≡ bare_events (g (stepped m e)) → bare_events (done_then m e o f) ≡ bare_events (done_then m e o g)
 bare_done m e Idle f g same = bare_before _ (f (stepped m e)) ∙ same ∙ sym (bare_before _ (g (stepped m e)))
 bare_done m e (worlds.Full x field) f g same = refl
 bare_done m e (Next w happening) f g same = bare_before _ (f (stepped m e)) ∙ same ∙ sym (bare_before _ (g (stepped m e)))
 
-bare_then : (m : Moment) (did : ℕ) (o : Option Event) (f g : Moment → AutoOutcome) → ((n : Moment) → bare_auto (f n) ≡ bare_auto (g n)) → bare_auto (watched_then m did o f) ≡ bare_auto (chosen_then m did o g)
-bare_then m did None f g same = refl
-bare_then m did (Some e) f g same =
-    bare_done m e (outcome_at m e) (λ n. before (block_below m e) (f n)) g (bare_before (block_below m e) (f (stepped m e)) ∙ same (stepped m e))
+pub bare_watched : (m : Moment) (es : List Event) → bare_events (watched_events m es) ≡ bare_events (outcome_of_events m es)
+unfolding watched_events outcome_of_events
+bare_watched m [] = refl
+bare_watched m (e ∷ es) =
+    bare_done m e (outcome_at m e) (λ n. before (block_below m e) (watched_events n es)) (λ n. outcome_of_events n es)
+    (bare_before (block_below m e) (watched_events (stepped m e) es) ∙ bare_watched (stepped m e) es)
 
-pub bare_chosen : (most did : ℕ) (m : Moment) → bare_auto (watched_auto most did m) ≡ bare_auto (auto_from most did m)
-unfolding watched_auto auto_from
-bare_chosen zero did m = refl
-bare_chosen (suc most) did m = bare_then m did (pick (world_of m)) (λ n. watched_auto most (did + 1) n) (λ n. auto_from most (did + 1) n) (λ n. bare_chosen most (did + 1) n)
+bare_of_events : (r : EventsOutcome) → bare (outcome_by_events r) ≡ bare (outcome_by_events (bare_events r))
+bare_of_events (Ended text n) = refl
+bare_of_events (EventsFull text n e field) = refl
 
-bare_of_auto : (text : List ℕ) (r : AutoOutcome) → bare (outcome_of_auto text r) ≡ bare (outcome_of_auto [] (bare_auto r))
-bare_of_auto text (Ended others did n) = refl
-bare_of_auto text (AutoFull others n e field) = refl
-
-bare_with : (block : List ℕ) (k : LineOutcome) → bare (with_block block k) ≡ bare k
-bare_with block (On text n) = refl
-bare_with block (Refused why) = refl
-bare_with block (Full text n e field) = refl
+bare_of_auto : (text : List ℕ) (did : ℕ) (r : EventsOutcome) → bare (outcome_of_auto text did r) ≡ bare (outcome_of_auto [] did (bare_events r))
+bare_of_auto text did (Ended others n) = refl
+bare_of_auto text did (EventsFull others n e field) = refl
 
 pub bare_line : (m : Moment) (a : Accepted) → bare (watched_line m a) ≡ bare (outcome_of_line m a)
 unfolding watched_line outcome_of_line
 bare_line m Nothing = refl
 bare_line m (NewNode address first) = refl
-bare_line m (Does e) = bare_with (block_below m e) (outcome_of_line m (Does e))
+bare_line m (Does e) =
+    bare_of_events (watched_events (started m) (e ∷ [])) ∙ ap (λ r. bare (outcome_by_events r)) (bare_watched (started m) (e ∷ []))
+    ∙ sym (bare_of_events (outcome_of_events (started m) (e ∷ [])))
 bare_line m (Chooses count) =
     let text : List ℕ = line (words_of m.mesh (Chooses count)) in
-    bare_of_auto text (watched_auto count 0 (started m)) ∙ ap (λ r. bare (outcome_of_auto [] r)) (bare_chosen count 0 (started m)) ∙ sym (bare_of_auto text (auto_from count 0 (started m)))
+    let chosen : List Event = events_chosen count (started m) in
+    bare_of_auto text (length chosen) (watched_events (started m) chosen) ∙ ap (λ r. bare (outcome_of_auto [] (length chosen) r)) (bare_watched (started m) chosen)
+    ∙ sym (bare_of_auto text (length chosen) (outcome_of_events (started m) chosen))
 bare_line m (ShowsNode x) = refl
 bare_line m (ShowsRoute x d) = refl
 bare_line m ShowsFlight = refl

@@ -1,25 +1,24 @@
 -- The text of a watched run is that of the run with blocks put in between.
-use Rattle.std.proofs.Common.{◌≡◌, ℕ, zero, suc, ◌+◌, List, [], ◌∷◌, ◌++◌, Option, Some, None, Result, Ok, Err, is_some, refl, sym, ap₂, subst, ◌∙◌, append-nil}
+use Rattle.std.proofs.Common.{◌≡◌, ℕ, List, [], ◌∷◌, ◌++◌, Option, Some, None, Result, Ok, Err, length, is_some, refl, sym, ap₂, subst, ◌∙◌, append-nil}
 use Rattle.std.proofs.lemmas.Grind.{flat_map-append}
 use Rattle.mesh_model.specs.Worlds as worlds
 use Rattle.mesh_model.specs.Worlds.{Event, Outcome, Idle, Next}
-use Rattle.mesh_model.specs.Choices.{pick}
 use Rattle.mesh_grammar.specs.declared.fault.LineFault.{LineFault}
 use Rattle.mesh_grammar.specs.Lines.{Piece, Whole, Long, Beyond, pieces_of_input}
 use Rattle.mesh_grammar.specs.Written.{line}
-use Rattle.mesh_text.specs.Schedule.{Moment, Accepted, Nothing, NewNode, Does, Chooses, ShowsNode, ShowsRoute, ShowsFlight, line_of, started, stepped, outcome_at, world_of, opening}
+use Rattle.mesh_text.specs.Schedule.{Moment, Accepted, Nothing, NewNode, Does, Chooses, ShowsNode, ShowsRoute, ShowsFlight, line_of, started, stepped, outcome_at, opening}
 use Rattle.mesh_text.specs.Lines.{words_of}
 use Rattle.mesh_text.specs.Effects.{outcome_lines}
-use Rattle.mesh_text.specs.Auto.{AutoOutcome, Ended, Full as AutoFull, before, done_then, chosen_then, auto_from, auto_end}
-use Rattle.mesh_text.specs.Text.{LineOutcome, On, Refused, Full, text_in, outcome_of_auto, outcome_of_line, outcome_of_read, outcome_of_piece, Written, goes_on, text_from, text_on, text_of_input}
+use Rattle.mesh_text.specs.Auto.{EventsOutcome, Ended, Full as EventsFull, before, done_then, outcome_of_events, events_chosen, auto_end}
+use Rattle.mesh_text.specs.Text.{LineOutcome, On, Refused, Full, text_in, outcome_by_events, outcome_of_auto, outcome_of_line, outcome_of_read, outcome_of_piece, Written, goes_on, text_from, text_on, text_of_input}
 use Rattle.mesh_run.specs.Runs.{text_of}
 use Rattle.mesh_run.proofs.Chosen.{text-before}
 use Rattle.mesh_watch.specs.Blocks.{changed_by, shown_node, shown_if, block_below}
-use Rattle.mesh_watch.specs.Text.{watched_then, watched_auto, with_block, watched_line, watched_read, watched_piece, watched_from, watched_of_input}
+use Rattle.mesh_watch.specs.Text.{watched_events, watched_line, watched_read, watched_piece, watched_from, watched_of_input}
 use Rattle.mesh_watch.specs.Parts.{Part, IsWithBlocks, in_run, in_watched}
 use Rattle.mesh_watch.specs.Parts as parts
 use Rattle.mesh_watch.specs.Laws.{BlocksAreAllThatIsAdded}
-use Rattle.mesh_watch.proofs.SameRun.{bare, bare_auto, bare_chosen, bare_piece}
+use Rattle.mesh_watch.proofs.SameRun.{bare, bare_events, bare_watched, bare_piece}
 
 -- ---- texts
 
@@ -41,51 +40,51 @@ with_below : (m : Moment) (e : Event) → IsWithBlocks [] (block_below m e)
 unfolding block_below
 with_below m e = with_shown (stepped m e) (changed_by e (outcome_at m e))
 
--- ---- events that are chosen
+-- ---- events one after another
 
-with_before : (text : List ℕ) (r q : AutoOutcome) → IsWithBlocks (text_of r) (text_of q) → IsWithBlocks (text_of (before text r)) (text_of (before text q))
+with_before : (text : List ℕ) (r q : EventsOutcome) → IsWithBlocks (text_of r) (text_of q) → IsWithBlocks (text_of (before text r)) (text_of (before text q))
 with_before text r q p =
     subst (λ l. IsWithBlocks l (text_of (before text q))) (sym (text-before text r)) (subst (λ l. IsWithBlocks (text ++ text_of r) l) (sym (text-before text q)) (with_both text text (text_of r) (text_of q) (with_text text) p))
 
-with_blocked : (m : Moment) (e : Event) (r q : AutoOutcome) → IsWithBlocks (text_of r) (text_of q) → IsWithBlocks (text_of r) (text_of (before (block_below m e) q))
+with_blocked : (m : Moment) (e : Event) (r q : EventsOutcome) → IsWithBlocks (text_of r) (text_of q) → IsWithBlocks (text_of r) (text_of (before (block_below m e) q))
 with_blocked m e r q p = subst (λ l. IsWithBlocks (text_of r) l) (sym (text-before (block_below m e) q)) (with_both [] (block_below m e) (text_of r) (text_of q) (with_below m e) p)
 
-with_done : (m : Moment) (e : Event) (o : Outcome) (f h : Moment → AutoOutcome) → ((n : Moment) → IsWithBlocks (text_of (f n)) (text_of (h n))) → IsWithBlocks (text_of (done_then m e o f)) (text_of (done_then m e o h))
+with_done : (m : Moment) (e : Event) (o : Outcome) (f h : Moment → EventsOutcome) → ((n : Moment) → IsWithBlocks (text_of (f n)) (text_of (h n))) → IsWithBlocks (text_of (done_then m e o f)) (text_of (done_then m e o h))
 with_done m e Idle f h p = with_before (outcome_lines m.mesh e Idle) (f (stepped m e)) (h (stepped m e)) (p (stepped m e))
 with_done m e (worlds.Full x field) f h p = with_text []
 with_done m e (Next w i) f h p = with_before (outcome_lines m.mesh e (Next w i)) (f (stepped m e)) (h (stepped m e)) (p (stepped m e))
 
-with_then : (m : Moment) (did : ℕ) (o : Option Event) (f h : Moment → AutoOutcome) → ((n : Moment) → IsWithBlocks (text_of (f n)) (text_of (h n))) → IsWithBlocks (text_of (chosen_then m did o f)) (text_of (watched_then m did o h))
-with_then m did None f h p = with_text []
-with_then m did (Some e) f h p = with_done m e (outcome_at m e) f (λ n. before (block_below m e) (h n)) (λ n. with_blocked m e (f n) (h n) (p n))
-
-with_auto : (most did : ℕ) (m : Moment) → IsWithBlocks (text_of (auto_from most did m)) (text_of (watched_auto most did m))
-unfolding auto_from watched_auto
-with_auto zero did m = with_text []
-with_auto (suc most) did m = with_then m did (pick (world_of m)) (λ n. auto_from most (did + 1) n) (λ n. watched_auto most (did + 1) n) (λ n. with_auto most (did + 1) n)
+with_events : (m : Moment) (es : List Event) → IsWithBlocks (text_of (outcome_of_events m es)) (text_of (watched_events m es))
+unfolding outcome_of_events watched_events
+with_events m [] = with_text []
+with_events m (e ∷ es) =
+    with_done m e (outcome_at m e) (λ n. outcome_of_events n es) (λ n. before (block_below m e) (watched_events n es))
+    (λ n. with_blocked m e (outcome_of_events n es) (watched_events n es) (with_events n es))
 
 -- ---- one line
 
-with_ended : (w : List ℕ) (r q : AutoOutcome) → bare_auto q ≡ bare_auto r → IsWithBlocks (text_of r) (text_of q) → IsWithBlocks (text_in (outcome_of_auto w r)) (text_in (outcome_of_auto w q))
-with_ended w (Ended s did n) (Ended t did' n') same p =
-    let counts : did' ≡ did = cc in
-    with_both (w ++ s) (w ++ t) (auto_end did) (auto_end did') (with_both w w s t (with_text w) p) (subst (λ k. IsWithBlocks (auto_end did) (auto_end k)) (sym counts) (with_text (auto_end did)))
-with_ended w (AutoFull s n e f) (AutoFull t n' e' f') same p = with_both w w s t (with_text w) p
-with_ended w (Ended s did n) (AutoFull t n' e' f') same p = absurd (let P : ⊥ = cc in P)
-with_ended w (AutoFull s n e f) (Ended t did' n') same p = absurd (let P : ⊥ = cc in P)
+with_by_events : (r q : EventsOutcome) → IsWithBlocks (text_of r) (text_of q) → IsWithBlocks (text_in (outcome_by_events r)) (text_in (outcome_by_events q))
+with_by_events (Ended s n) (Ended t n') p = p
+with_by_events (EventsFull s n e f) (EventsFull t n' e' f') p = p
+with_by_events (Ended s n) (EventsFull t n' e' f') p = p
+with_by_events (EventsFull s n e f) (Ended t n') p = p
 
-with_blocked_line : (m : Moment) (e : Event) (k : LineOutcome) → IsWithBlocks (text_in k) (text_in (with_block (block_below m e) k))
-with_blocked_line m e (On text n) = subst (λ l. IsWithBlocks l (text ++ block_below m e)) (append-nil text) (with_both text text [] (block_below m e) (with_text text) (with_below m e))
-with_blocked_line m e (Refused why) = with_text []
-with_blocked_line m e (Full text n f field) = with_text text
+with_auto : (w : List ℕ) (did : ℕ) (r q : EventsOutcome) → bare_events q ≡ bare_events r → IsWithBlocks (text_of r) (text_of q) → IsWithBlocks (text_in (outcome_of_auto w did r)) (text_in (outcome_of_auto w did q))
+with_auto w did (Ended s n) (Ended t n') same p =
+    with_both (w ++ s) (w ++ t) (auto_end did) (auto_end did) (with_both w w s t (with_text w) p) (with_text (auto_end did))
+with_auto w did (EventsFull s n e f) (EventsFull t n' e' f') same p = with_both w w s t (with_text w) p
+with_auto w did (Ended s n) (EventsFull t n' e' f') same p = absurd (let P : ⊥ = cc in P)
+with_auto w did (EventsFull s n e f) (Ended t n') same p = absurd (let P : ⊥ = cc in P)
 
 with_line : (m : Moment) (a : Accepted) → IsWithBlocks (text_in (outcome_of_line m a)) (text_in (watched_line m a))
 unfolding watched_line outcome_of_line
 with_line m Nothing = with_text []
 with_line m (NewNode address first) = with_text _
-with_line m (Does e) = with_blocked_line m e (outcome_of_line m (Does e))
+with_line m (Does e) = with_by_events (outcome_of_events (started m) (e ∷ [])) (watched_events (started m) (e ∷ [])) (with_events (started m) (e ∷ []))
 with_line m (Chooses count) =
-    with_ended (line (words_of m.mesh (Chooses count))) (auto_from count 0 (started m)) (watched_auto count 0 (started m)) (bare_chosen count 0 (started m)) (with_auto count 0 (started m))
+    let chosen : List Event = events_chosen count (started m) in
+    with_auto (line (words_of m.mesh (Chooses count))) (length chosen) (outcome_of_events (started m) chosen) (watched_events (started m) chosen) (bare_watched (started m) chosen)
+    (with_events (started m) chosen)
 with_line m (ShowsNode x) = with_text _
 with_line m (ShowsRoute x d) = with_text _
 with_line m ShowsFlight = with_text _

@@ -1,45 +1,33 @@
 -- The text of a watched run, and its verdict, from the bytes of its input: the text of the run,
 -- with a block below each event that has changed a node.
-use Rattle.std.specs.Prelude.{ℕ, zero, suc, ◌+◌, List, [], ◌∷◌, ◌++◌, Option, Some, None, Result, Ok, Err, is_some}
+use Rattle.std.specs.Prelude.{ℕ, List, [], ◌∷◌, Result, Ok, Err, length, is_some}
 use Rattle.mesh_base.specs.declared.events.Variant.{Variant}
 use Rattle.mesh_model.specs.Worlds.{Event}
-use Rattle.mesh_model.specs.Choices.{pick}
 use Rattle.mesh_grammar.specs.declared.fault.LineFault.{LineFault}
 use Rattle.mesh_grammar.specs.declared.fault.BadWhy.TheVariants.{Fault}
 use Rattle.mesh_grammar.specs.Lines.{Piece, Whole, pieces_of_input}
 use Rattle.mesh_grammar.specs.Written.{line}
-use Rattle.mesh_text.specs.Schedule.{Moment, Accepted, Does, Chooses, line_of, started, outcome_at, world_of, opening}
+use Rattle.mesh_text.specs.Schedule.{Moment, Accepted, Does, Chooses, line_of, started, outcome_at, opening}
 use Rattle.mesh_text.specs.Lines.{words_of}
-use Rattle.mesh_text.specs.Auto.{AutoOutcome, Ended, before, done_then}
-use Rattle.mesh_text.specs.Text.{LineOutcome, On, Refused, outcome_of_auto, outcome_of_line, outcome_of_piece, Written, goes_on, finished_run}
+use Rattle.mesh_text.specs.Auto.{EventsOutcome, Ended, before, done_then, events_chosen}
+use Rattle.mesh_text.specs.Text.{LineOutcome, Refused, outcome_by_events, outcome_of_auto, outcome_of_line, outcome_of_piece, Written, goes_on, finished_run}
 use Rattle.mesh_watch.specs.Blocks.{block_below}
 
--- ---- events that are chosen
-
--- the event that is chosen, if any, its block, and then the others
-abbrev pub watched_then : Moment → ℕ → Option Event → (Moment → AutoOutcome) → AutoOutcome
-watched_then m did None others = Ended [] did m
-watched_then m did (Some e) others =
-    done_then m e (outcome_at m e) (λ n. before (block_below m e) (others n))
-
--- up to so many events more from a moment on, where so many were done before
-unfoldable pub watched_auto : ℕ → ℕ → Moment → AutoOutcome
-watched_auto zero did m = Ended [] did m
-watched_auto (suc most) did m =
-    watched_then m did (pick (world_of m)) (λ n. watched_auto most (did + 1) n)
+-- these events from a moment on, each with its block
+unfoldable pub watched_events : Moment → List Event → EventsOutcome
+watched_events m [] = Ended [] m
+watched_events m (e ∷ events) =
+    done_then m e (outcome_at m e) (λ n. before (block_below m e) (watched_events n events))
 
 -- ---- one line
 
--- a line that is done, with a block below it
-abbrev pub with_block : List ℕ → LineOutcome → LineOutcome
-with_block block (On text n) = On (text ++ block) n
-with_block block others = others
-
--- an allowed line at a moment: an event, and events that are chosen, have their blocks
+-- an allowed line at a moment: its events have their blocks
 unfoldable pub watched_line : Moment → Accepted → LineOutcome
-watched_line m (Does e) = with_block (block_below m e) (outcome_of_line m (Does e))
+watched_line m (Does e) = outcome_by_events (watched_events (started m) (e ∷ []))
 watched_line m (Chooses count) =
-    outcome_of_auto (line (words_of m.mesh (Chooses count))) (watched_auto count 0 (started m))
+    let chosen = events_chosen count (started m) in
+    outcome_of_auto (line (words_of m.mesh (Chooses count))) (length chosen)
+    (watched_events (started m) chosen)
 watched_line m others = outcome_of_line m others
 
 abbrev pub watched_read : Moment → Result Accepted LineFault → LineOutcome

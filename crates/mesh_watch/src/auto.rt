@@ -1,10 +1,11 @@
 //! Events that the run chooses, one after another, each with its block.
-ghost use Rattle.std.specs.Prelude.{◌≡◌, ◌<◌, ◌+◌, ◌^◌, is_some, true, false, OnOk};
+ghost use Rattle.std.specs.Prelude.{◌≡◌, ◌<◌, ◌+◌, ◌^◌, length, is_some, true, false, OnOk, IfOk};
 ghost use Rattle.mesh_text.specs.Schedule.{Chooses};
+ghost use Rattle.mesh_text.specs.Auto.{events_chosen};
 ghost use Rattle.mesh_script.specs.Seen.{IsPrintable};
 ghost use Rattle.mesh_run.specs.Causes.{HasStopCause};
-ghost use Rattle.mesh_run.specs.Runs.{IsLineOf, IsLineRun, IsAutoRun};
-ghost use Rattle.mesh_watch.specs.Text.{watched_auto, watched_line};
+ghost use Rattle.mesh_run.specs.Runs.{IsLineOf, IsLineRun, IsEventsRun};
+ghost use Rattle.mesh_watch.specs.Text.{watched_events, watched_line};
 
 use crate::event::do_event;
 use crate::watched::Watched;
@@ -24,8 +25,10 @@ fn do_events<O: Sink>(
 ) -> Result<u32, Stop<'static>>
     requires started { is_some at.old.point.world ≡ true }
     requires few { at.old.point.steps + count < 2 ^ 48 }
-    ensures ran { IsAutoRun false at.old.point (watched_auto count 0 at.old.point)
+    ensures ran { IsEventsRun false at.old.point
+        (watched_events at.old.point (events_chosen count at.old.point))
         at.new.point (O.held out.old) (O.held out.new) result }
+    ensures did { IfOk result (λ did. did ≡ length (events_chosen count at.old.point)) }
     ensures lines { OnOk result (at.new.point.lines ≡ at.old.point.lines) }
     ensures cause { HasStopCause (O.faults out.old) (O.faults out.new) result }
 {

@@ -1,8 +1,7 @@
 use Rattle.std.proofs.Common.{◌∙◌, ℕ, List, Ok, Err, refl, sym, ap, subst, rules}
 use Rattle.mesh_text.specs.Schedule.{Moment, Chooses, counted}
-use Rattle.mesh_text.specs.Auto.{auto_end}
+use Rattle.mesh_text.specs.Auto.{auto_end, events_chosen}
 use Rattle.mesh_text.specs.Text.{outcome_of_line}
-use Rattle.mesh_text.specs.Runs.{events_chosen}
 use Rattle.std.specs.Io.KnownBytes.{Appends}
 use Rattle.std.proofs.lemmas.Result.{err_from_is_err_and}
 use Rattle.mesh_io.specs.Puts.{AppendsPrefix}
@@ -10,7 +9,7 @@ use Rattle.mesh_run.specs.Runs.{IsLineDone, IsLineStopped, IsReached}
 use Rattle.mesh_run.proofs.Shown.{echoed, quiet_none, loud_whole, loud_front}
 use Rattle.mesh_run.proofs.Ways.{chosen_way, err_of, reached_none}
 use Rattle.mesh_run.proofs.Begun.{started_same}
-use Rattle.mesh_run.proofs.Chosen.{chosen_ran, auto_goes, auto_front, auto_end_front, auto_stops}
+use Rattle.mesh_run.proofs.Chosen.{chosen_ran, chosen_many, auto_goes, auto_front, auto_end_front, auto_stops}
 use Rattle.mesh_run.proofs.auto.do_auto.Goals as goal
 
 pub returns-in_err-say_echo-clause-comes : goal.returns-in_err-say_echo-clause-comes
@@ -36,25 +35,28 @@ returns-in-Err-clause-comes g c =
 pub returns-then-quiet-clause-comes : goal.returns-then-quiet-clause-comes
 returns-then-quiet-clause-comes g c =
     let P : List ℕ → Type 0 = λ l. Appends (g.O.Sink.held c.args.out.now) (g.O.Sink.held c.say_echo.new.out) l in
+    let many = chosen_many c.at.inside.state c.args.at.now c.args.count c.in-Ok.did c.at.view_is c.in-Ok.ensures.did in
     let ran = chosen_ran c.args.quiet c.at.inside.state c.args.at.now c.do_events-ran.new.task.at.now c.args.count _ _ (Ok c.in-Ok.did) c.at.view_is c.in-Ok.ensures.ran in
     subst (λ (n : Moment). IsLineDone c.args.quiet (outcome_of_line c.args.at.now (Chooses c.args.count)) (counted n) (g.O.Sink.held c.args.out.now) (g.O.Sink.held c.do_events-ran.new.out))
     (search rules)
-    (auto_goes c.args.quiet c.args.at.now c.args.at.now c.do_events-ran.new.task.at.now _ c.args.count c.in-Ok.did _ (g.O.Sink.held c.say_echo.new.out) (g.O.Sink.held c.do_events-ran.new.out) _ (started_same c.args.at.now c.requires.started)
+    (auto_goes c.args.quiet c.args.at.now c.args.at.now c.do_events-ran.new.task.at.now _ c.args.count c.in-Ok.did _ (g.O.Sink.held c.say_echo.new.out) (g.O.Sink.held c.do_events-ran.new.out) _ (started_same c.args.at.now c.requires.started) many
     (subst P (echoed c.args.quiet c.args.bytes.now _ (λ loud. (c.requires.echo loud).1)) c.in_ok-say_echo.ensures.text) ran (quiet_none c.args.quiet (auto_end c.in-Ok.did) _ c.if-quiet.true) refl)
 
 pub returns-in_err-put_auto_end-clause-comes : goal.returns-in_err-put_auto_end-clause-comes
 returns-in_err-put_auto_end-clause-comes g c =
     let p = err_from_is_err_and c.from_residual-in_err-put_auto_end.result c.from_residual-in_err-put_auto_end.ensures.1 in
     let P : List ℕ → Type 0 = λ l. Appends (g.O.Sink.held c.args.out.now) (g.O.Sink.held c.say_echo.new.out) l in
+    let many = chosen_many c.at.inside.state c.args.at.now c.args.count c.in-Ok.did c.at.view_is c.in-Ok.ensures.did in
     let ran = chosen_ran c.args.quiet c.at.inside.state c.args.at.now c.do_events-ran.new.task.at.now c.args.count _ _ (Ok c.in-Ok.did) c.at.view_is c.in-Ok.ensures.ran in
-    rw (p.1, p.2) (auto_end_front c.args.quiet c.args.at.now c.args.at.now c.do_events-ran.new.task.at.now c.args.count _ _ (g.O.Sink.held c.say_echo.new.out) (g.O.Sink.held c.do_events-ran.new.out) _ (started_same c.args.at.now c.requires.started)
+    rw (p.1, p.2) (auto_end_front c.args.quiet c.args.at.now c.args.at.now c.do_events-ran.new.task.at.now c.args.count _ _ (g.O.Sink.held c.say_echo.new.out) (g.O.Sink.held c.do_events-ran.new.out) _ (started_same c.args.at.now c.requires.started) many
     (subst P (echoed c.args.quiet c.args.bytes.now _ (λ loud. (c.requires.echo loud).1)) c.in_ok-say_echo.ensures.text) ran (loud_front c.args.quiet _ _ _ c.if-quiet.false c.in_err-put_auto_end.ensures.text))
 
 pub returns-clause-comes : goal.returns-clause-comes
 returns-clause-comes g c =
     let P : List ℕ → Type 0 = λ l. Appends (g.O.Sink.held c.args.out.now) (g.O.Sink.held c.say_echo.new.out) l in
+    let many = chosen_many c.at.inside.state c.args.at.now c.args.count c.in-Ok.did c.at.view_is c.in-Ok.ensures.did in
     let ran = chosen_ran c.args.quiet c.at.inside.state c.args.at.now c.do_events-ran.new.task.at.now c.args.count _ _ (Ok c.in-Ok.did) c.at.view_is c.in-Ok.ensures.ran in
-    auto_goes c.args.quiet c.args.at.now c.args.at.now c.do_events-ran.new.task.at.now _ c.args.count c.in-Ok.did _ (g.O.Sink.held c.say_echo.new.out) (g.O.Sink.held c.do_events-ran.new.out) _ (started_same c.args.at.now c.requires.started)
+    auto_goes c.args.quiet c.args.at.now c.args.at.now c.do_events-ran.new.task.at.now _ c.args.count c.in-Ok.did _ (g.O.Sink.held c.say_echo.new.out) (g.O.Sink.held c.do_events-ran.new.out) _ (started_same c.args.at.now c.requires.started) many
     (subst P (echoed c.args.quiet c.args.bytes.now _ (λ loud. (c.requires.echo loud).1)) c.in_ok-say_echo.ensures.text) ran (loud_whole c.args.quiet _ _ _ c.if-quiet.false c.in_ok-put_auto_end.ensures.text) (ap counted (c.at-2.view_is ∙ search rules))
 
 pub returns-in-Err-clause-way : goal.returns-in-Err-clause-way

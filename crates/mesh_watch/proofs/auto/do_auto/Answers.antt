@@ -22,11 +22,11 @@ pub returns-in_err-put_auto_end-clause-comes : goal.returns-in_err-put_auto_end-
 returns-in_err-put_auto_end-clause-comes g c =
     let p = err_from_is_err_and c.from_residual-in_err-put_auto_end.result c.from_residual-in_err-put_auto_end.ensures.1 in
     let P : List ℕ → Type 0 = λ l. Appends (g.O.Sink.held c.args.out.now) (g.O.Sink.held c.put_echo.new.out) (line l) in
-    rw (p.1, p.2) (auto_end_front c.args.at.now.point c.begin.new.self c.do_events.new.at.point c.args.count _ _ (g.O.Sink.held c.put_echo.new.out) (g.O.Sink.held c.do_events.new.out) _ c.in_ok-begin.ensures.ok
+    rw (p.1, p.2) (auto_end_front c.args.at.now.point c.begin.new.self c.do_events.new.at.point c.args.count _ _ (g.O.Sink.held c.put_echo.new.out) (g.O.Sink.held c.do_events.new.out) _ c.in_ok-begin.ensures.ok c.in-Ok.ensures.did
     (subst P c.requires.echo.1 c.in_ok-put_echo.ensures.text) c.in-Ok.ensures.ran c.in_err-put_auto_end.ensures.text)
 
 pub returns-clause-comes : goal.returns-clause-comes
 returns-clause-comes g c =
     let P : List ℕ → Type 0 = λ l. Appends (g.O.Sink.held c.args.out.now) (g.O.Sink.held c.put_echo.new.out) (line l) in
-    auto_goes c.args.at.now.point c.begin.new.self c.do_events.new.at.point c.count_line.new.self c.args.count _ _ (g.O.Sink.held c.put_echo.new.out) (g.O.Sink.held c.do_events.new.out) _ c.in_ok-begin.ensures.ok
+    auto_goes c.args.at.now.point c.begin.new.self c.do_events.new.at.point c.count_line.new.self c.args.count _ _ (g.O.Sink.held c.put_echo.new.out) (g.O.Sink.held c.do_events.new.out) _ c.in_ok-begin.ensures.ok c.in-Ok.ensures.did
     (subst P c.requires.echo.1 c.in_ok-put_echo.ensures.text) c.in-Ok.ensures.ran c.in_ok-put_auto_end.ensures.text c.count_line.ensures

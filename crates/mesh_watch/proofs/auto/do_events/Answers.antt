@@ -1,13 +1,18 @@
-use Rattle.std.proofs.Common.{◌∙◌, Ok, Err, arith}
+use Rattle.std.proofs.Common.{◌≡◌, ◌∙◌, ◌-◌, [], length, Ok, Err, ap, arith}
 use Rattle.mesh_meaning.specs.Events.{event_of}
 use Rattle.mesh_run.proofs.Events.{stepped_started, stepped_lines, stepped_steps}
-use Rattle.mesh_watch.proofs.Chosen.{ends_all, ends_none, ran_goes, ran_stops}
+use Rattle.mesh_watch.proofs.Chosen.{chosen_all, chosen_none, chosen_counts, nothing_more, ran_goes, ran_stops}
 use Rattle.mesh_watch.proofs.auto.do_events.Goals as goal
 
 pub returns-in_default-clause-ran : goal.returns-in_default-clause-ran
 returns-in_default-clause-ran g c =
     c.events.invariant.ran (g.O.Sink.held c.events.out) c.events.at.point (Ok c.events.did)
-    (ends_none c.args.count c.events.did c.events.at.point _ c.events-test.true c.in_default.ensures.value)
+    (nothing_more c.events.at.point _ _ (chosen_none _ c.events.at.point c.in_default.ensures.value))
+
+pub returns-in_default-clause-did : goal.returns-in_default-clause-did
+returns-in_default-clause-did g c =
+    let none = ap length (chosen_none (c.args.count - c.events.did) c.events.at.point c.in_default.ensures.value) in
+    omega (arith, c.events.invariant.left)
 
 pub returns-in-Err-clause-ran : goal.returns-in-Err-clause-ran
 returns-in-Err-clause-ran g c =
@@ -19,7 +24,10 @@ events-preserved g c =
     let next = c.in_default-do_event.ensures.moment in
     let lines = stepped_lines c.events.at.point c.do_event.new.at.point (event_of c.in-Some.event) next in
     let steps = stepped_steps c.events.at.point c.do_event.new.at.point (event_of c.in-Some.event) next in
+    let counts = chosen_counts c.args.count c.events.did c.events.at.point c.do_event.new.at.point (event_of c.in-Some.event) _ _
+        c.events-test.true c.in-Some.ensures.value c.in_default-do_event.ensures.comes next in
     record {
+      left = omega (arith, counts, c.events.invariant.left);
       ran = λ now n r p. c.events.invariant.ran now n r
           (ran_goes c.args.count c.events.did c.events.at.point c.do_event.new.at.point n (event_of c.in-Some.event) (g.O.Sink.held c.events.out) (g.O.Sink.held c.do_event.new.out) now r
           c.events-test.true c.in-Some.ensures.value c.in_default-do_event.ensures.comes p);
@@ -32,4 +40,10 @@ events-preserved g c =
 
 pub returns-clause-ran : goal.returns-clause-ran
 returns-clause-ran g c =
-    c.events.invariant.ran (g.O.Sink.held c.events.out) c.events.at.point (Ok c.events.did) (ends_all c.args.count c.events.did c.events.at.point _ c.events-test.false)
+    c.events.invariant.ran (g.O.Sink.held c.events.out) c.events.at.point (Ok c.events.did)
+    (nothing_more c.events.at.point _ _ (chosen_all c.args.count c.events.did c.events.at.point c.events-test.false))
+
+pub returns-clause-did : goal.returns-clause-did
+returns-clause-did g c =
+    let none = ap length (chosen_all c.args.count c.events.did c.events.at.point c.events-test.false) in
+    omega (arith, c.events.invariant.left)

@@ -1,16 +1,18 @@
 -- Whatever is told of the events that are left, the same then is of all of them.
-use Rattle.std.proofs.Common.{◌≡◌, ◌≤◌, ◌+◌, ◌-◌, ℕ, List, Option, Result, true, false, is_some}
+use Rattle.std.proofs.Common.{◌≡◌, ◌≤◌, ◌+◌, ◌-◌, ℕ, List, Option, Result, true, false, is_some, length}
 use Rattle.mesh_text.specs.Schedule.{Moment}
+use Rattle.mesh_text.specs.Auto.{events_chosen}
 use Rattle.mesh_run.specs.declared.stop.Stop.{Stop}
-use Rattle.mesh_run.specs.Runs.{IsAutoRun}
-use Rattle.mesh_watch.specs.Text.{watched_auto}
+use Rattle.mesh_run.specs.Runs.{IsEventsRun}
+use Rattle.mesh_watch.specs.Text.{watched_events}
 use Rattle.mesh_watch.proofs.auto.do_events.Given as goal
 
 abbrev pub invariant-events : goal.invariant-events
 invariant-events g l = record {
   ran : (now : Option (List ℕ)) (n : Moment) (r : Result ℕ Stop)
-      → IsAutoRun false l.at.point (watched_auto (l.count - l.did) l.did l.at.point) n (g.O.Sink.held l.out) now r
-      → IsAutoRun false l.initial.at.point (watched_auto l.count 0 l.initial.at.point) n (g.O.Sink.held l.initial.out) now r;
+      → IsEventsRun false l.at.point (watched_events l.at.point (events_chosen (l.count - l.did) l.at.point)) n (g.O.Sink.held l.out) now r
+      → IsEventsRun false l.initial.at.point (watched_events l.initial.at.point (events_chosen l.count l.initial.at.point)) n (g.O.Sink.held l.initial.out) now r;
+  left : l.did + length (events_chosen (l.count - l.did) l.at.point) ≡ length (events_chosen l.count l.initial.at.point);
   started : is_some l.at.point.world ≡ true;
   lines : l.at.point.lines ≡ l.initial.at.point.lines;
   faults : g.O.Sink.faults l.out ≡ g.O.Sink.faults l.initial.out;
