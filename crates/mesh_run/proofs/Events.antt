@@ -22,7 +22,7 @@ use Rattle.mesh_text.specs.Effects.{outcome_lines}
 use Rattle.mesh_text.specs.Tables.{node_text_in, end_text, flight_text}
 use Rattle.mesh_model.specs.Routes.{route_end}
 use Rattle.std.specs.List.{slice_get}
-use Rattle.mesh_text.specs.Text.{LineOutcome, On, Refused, Full, outcome_of_event, outcome_of_line, text_in}
+use Rattle.mesh_text.specs.Text.{LineOutcome, On, Refused, Full, outcome_of_line, text_in}
 use Rattle.mesh_run.specs.declared.stop.Stop.{Stop}
 use Rattle.mesh_run.specs.declared.stop.Stop.TheVariants as stop
 use Rattle.mesh_world.specs.declared.steps.StepError.{StepError}
