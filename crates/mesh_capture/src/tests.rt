@@ -2,6 +2,7 @@ use crate::status::CaptureStatus;
 use crate::top::capture;
 use mesh_base::Bytes;
 use mesh_io::{MemSink, MemSource};
+use std::alloc::Global;
 use std::test::Fail;
 
 // The bytes below were put together by another program, from the formats' own documents, and read
@@ -22,8 +23,40 @@ const PACKETS: [&str; 3] = [
     "000000000000177000000029000000294500002900000000401166c20a0000010a000002c1f6c1f60015dbd0100000000a0000020a00000168",
 ];
 
-// The capture of a text that is read 7 bytes at a time and written 5 bytes at a time: the status,
-// what is said, and whether the file is the header and these packets.
+// The call with no word. It stands alone, since what it promises would be gone through at each way
+// out of a function that owns what it is lent.
+fn capture_from(
+    alloc: Global,
+    input: &mut MemSource,
+    out: &mut MemSink,
+    errors: &mut MemSink,
+) -> CaptureStatus {
+    capture(alloc, &[], input, out, errors)
+}
+
+// Writes the capture of a text that is read 7 bytes at a time.
+fn capture_text(
+    alloc: Global,
+    text: &str,
+    out: &mut MemSink,
+    errors: &mut MemSink,
+) -> Result<CaptureStatus, Fail> {
+    let bytes = Bytes::copy_of(alloc, text.as_bytes())?;
+    let mut input = MemSource::new(alloc, bytes, 7, &[])?;
+    Ok(capture_from(alloc, &mut input, out, errors))
+}
+
+// The bytes of a file with the header and these packets.
+fn file_of(alloc: Global, packets: &[&str]) -> Result<Vec<u8>, Fail> {
+    let mut file = hex::decode(alloc, HEADER)?;
+    for packet in packets {
+        file.extend_from_slice(hex::decode(alloc, *packet)?.as_slice())?;
+    }
+    Ok(file)
+}
+
+// Whether a text, written 5 bytes at a time, has this answer, a file of these packets, and says
+// this.
 fn is_captured(
     rt: &HostRuntime,
     text: &str,
@@ -31,15 +64,10 @@ fn is_captured(
     packets: &[&str],
     said: &str,
 ) -> Result<bool, Fail> {
-    let bytes = Bytes::copy_of(rt.alloc(), text.as_bytes())?;
-    let mut input = MemSource::new(rt.alloc(), bytes, 7, &[])?;
     let mut out = MemSink::new(rt.alloc(), 1000, 5, &[])?;
     let mut errors = MemSink::new(rt.alloc(), 100, 5, &[])?;
-    let answer = capture(rt.alloc(), &[], &mut input, &mut out, &mut errors);
-    let mut file = hex::decode(rt.alloc(), HEADER)?;
-    for packet in packets {
-        file.extend_from_slice(hex::decode(rt.alloc(), *packet)?.as_slice())?;
-    }
+    let answer = capture_text(rt.alloc(), text, &mut out, &mut errors)?;
+    let file = file_of(rt.alloc(), packets)?;
     Ok(answer == status && out.held() == file.as_slice() && errors.held() == said.as_bytes())
 }
 
