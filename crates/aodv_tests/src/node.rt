@@ -1,5 +1,7 @@
-//! One of two nodes: what its turn refuses, and the way of one datum through it.
-ghost use Rattle.std.specs.Prelude.{◌≡◌, length, IfOk};
+//! One of two nodes: what its turn refuses, and the way of one datum through it. Each call of a
+//! node stands in a function that is lent the node: what a call may answer would be gone through at
+//! each way out of a function that owns one.
+ghost use Rattle.std.specs.Prelude.{◌≡◌, length};
 
 use aodv_node::{AskError, Node, SendError, TurnError};
 use aodv_wire::WireError;
@@ -14,15 +16,41 @@ fn two_nodes() -> Mesh {
     mesh
 }
 
-// Node 0 in its opening state, with one packet from node 1.
-fn hearer(alloc: Global, mesh: &Mesh, bytes: &[u8]) -> Result<Node, NoMemory>
-    requires { length mesh.now ≡ 2 }
-    ensures { IfOk result (λ node. node.size ≡ 2) }
+// A packet comes from node 1.
+fn hear(node: &mut Node, alloc: Global, bytes: &[u8]) -> Result<(), NoMemory>
+    requires size { node.old.size ≡ 2 }
+    requires me { node.old.core.ip ≡ 0 }
+    ensures { node.new.size ≡ 2 }
 {
-    let mut node = Node::new(alloc, mesh, 0)?;
     node.make_room()?;
     node.hear(1, Bytes::copy_of(alloc, bytes)?);
-    Ok(node)
+    Ok(())
+}
+
+// Why a turn is refused.
+fn fault_of(node: &mut Node, mesh: &Mesh) -> Option<TurnError>
+    requires { length mesh.now ≡ node.old.size }
+{
+    let mut out = Packet::new();
+    match node.turn(mesh, &NodeSet::new(), &mut out) {
+        Ok(_) => None,
+        Err(why) => Some(why),
+    }
+}
+
+// Whether node 0 refuses a packet of node 1 so, and then has so many packets left.
+fn is_refused(
+    alloc: Global,
+    mesh: &Mesh,
+    bytes: &[u8],
+    why: TurnError,
+    left: usize,
+) -> Result<bool, NoMemory>
+    requires { length mesh.now ≡ 2 }
+{
+    let mut node = Node::new(alloc, mesh, 0)?;
+    hear(&mut node, alloc, bytes)?;
+    Ok(fault_of(&mut node, mesh) == Some(why) && node.inbox().len() == left)
 }
 
 #[test]
@@ -54,16 +82,72 @@ fn a_turn_is_refused(rt: HostRuntime) -> Result<(), Fail> {
         ),
         (&reply, TurnError::Full(Counter::Hops), 1),
     ];
-    let mut out = Packet::new();
-    for (bytes, error, left) in rows {
-        let mut node = hearer(rt.alloc(), &mesh, bytes)?;
-        match node.turn(&mesh, &NodeSet::new(), &mut out) {
-            Ok(_) => assert!(rt; false, "{error}"),
-            Err(why) => assert_eq!(rt; why, error, "{error}"),
-        }
-        assert_eq!(rt; node.inbox().len(), left, "{error}");
+    for (bytes, why, left) in rows {
+        assert!(rt; is_refused(rt.alloc(), &mesh, bytes, why, left)?, "{why}");
     }
     Ok(())
+}
+
+// The node has a datum for node 1.
+fn give(node: &mut Node, alloc: Global) -> Result<(), NoMemory>
+    requires size { node.old.size ≡ 2 }
+    requires me { node.old.core.ip ≡ 0 }
+    ensures size { node.new.size ≡ 2 }
+    ensures me { node.new.core.ip ≡ 0 }
+{
+    node.make_room()?;
+    node.give(1, Bytes::copy_of(alloc, &[104, 105])?);
+    Ok(())
+}
+
+// Whether a turn stores a datum for node 1.
+fn stores(node: &mut Node, mesh: &Mesh, range: &NodeSet, out: &mut Packet) -> bool
+    requires { length mesh.now ≡ node.old.size }
+    ensures size { node.new.size ≡ node.old.size }
+    ensures me { node.new.core.ip ≡ node.old.core.ip }
+{
+    match node.turn(mesh, range, out) {
+        Ok(done) => matches!(done.took, Took::Stored { dest: 1 }),
+        Err(_) => false,
+    }
+}
+
+// Whether a turn takes a reply of node 1.
+fn takes_a_reply(node: &mut Node, mesh: &Mesh, range: &NodeSet, out: &mut Packet) -> bool
+    requires { length mesh.now ≡ node.old.size }
+    ensures size { node.new.size ≡ node.old.size }
+{
+    match node.turn(mesh, range, out) {
+        Ok(done) => matches!(
+            done.took,
+            Took::Heard {
+                from: 1,
+                kind: Kind::Rrep,
+                ..
+            }
+        ),
+        Err(_) => false,
+    }
+}
+
+// What is cast where the node sends to node 1.
+fn sent(node: &mut Node, mesh: &Mesh, range: &NodeSet, out: &mut Packet) -> Result<Cast, SendError>
+    requires size { node.old.size ≡ 2 }
+    requires mesh { length mesh.now ≡ 2 }
+    ensures size { node.new.size ≡ 2 }
+    ensures me { node.new.core.ip ≡ node.old.core.ip }
+{
+    Ok(node.send(mesh, range, 1, out)?.cast)
+}
+
+// What is cast where the node asks for a route to node 1.
+fn asked(node: &mut Node, mesh: &Mesh, out: &mut Packet) -> Result<Cast, AskError>
+    requires size { node.old.size ≡ 2 }
+    requires mesh { length mesh.now ≡ 2 }
+    ensures size { node.new.size ≡ 2 }
+    ensures me { node.new.core.ip ≡ node.old.core.ip }
+{
+    Ok(node.ask(mesh, 1, out)?.cast)
 }
 
 #[test]
@@ -74,48 +158,24 @@ fn a_datum_goes_to_a_neighbour(rt: HostRuntime) -> Result<(), Fail> {
     range.add(1);
     let mut out = Packet::new();
     let mut node = Node::new(rt.alloc(), &mesh, 0)?;
-    node.make_room()?;
-    node.give(1, Bytes::copy_of(rt.alloc(), &[104, 105])?);
-    match node.turn(&mesh, &range, &mut out) {
-        Ok(done) => assert!(rt; matches!(done.took, Took::Stored { dest: 1 })),
-        Err(why) => assert!(rt; false, "{why}"),
-    }
-    match node.send(&mesh, &range, 1, &mut out) {
-        Ok(_) => assert!(rt; false),
-        Err(why) => assert_eq!(rt; why, SendError::Idle),
-    }
-    match node.ask(&mesh, 1, &mut out) {
-        Ok(effect) => assert!(rt; matches!(effect.cast, Cast::All)),
-        Err(why) => assert!(rt; false, "{why}"),
-    }
+    give(&mut node, rt.alloc())?;
+    assert!(rt; stores(&mut node, &mesh, &range, &mut out));
+    assert!(rt;
+        matches!(
+            sent(&mut node, &mesh, &range, &mut out),
+            Err(SendError::Idle)
+        )
+    );
+    assert!(rt; matches!(asked(&mut node, &mesh, &mut out), Ok(Cast::All)));
     assert_eq!(rt; node.sn(), 2);
     assert_eq!(rt; out.len(), 24);
-    match node.ask(&mesh, 1, &mut out) {
-        Ok(_) => assert!(rt; false),
-        Err(why) => assert_eq!(rt; why, AskError::Idle),
-    }
+    assert!(rt; matches!(asked(&mut node, &mesh, &mut out), Err(AskError::Idle)));
     let reply: [u8; 20] = [
         2, 0, 0, 0, 10, 0, 0, 2, 0, 0, 0, 1, 10, 0, 0, 1, 255, 255, 255, 255,
     ];
-    node.make_room()?;
-    node.hear(1, Bytes::copy_of(rt.alloc(), &reply)?);
-    match node.turn(&mesh, &range, &mut out) {
-        Ok(done) => assert!(rt;
-            matches!(
-                done.took,
-                Took::Heard {
-                    from: 1,
-                    kind: Kind::Rrep,
-                    ..
-                }
-            )
-        ),
-        Err(why) => assert!(rt; false, "{why}"),
-    }
-    match node.send(&mesh, &range, 1, &mut out) {
-        Ok(effect) => assert!(rt; matches!(effect.cast, Cast::One(1))),
-        Err(why) => assert!(rt; false, "{why}"),
-    }
+    hear(&mut node, rt.alloc(), &reply)?;
+    assert!(rt; takes_a_reply(&mut node, &mesh, &range, &mut out));
+    assert!(rt; matches!(sent(&mut node, &mesh, &range, &mut out), Ok(Cast::One(1))));
     assert_eq!(rt;
         out.as_slice(),
         [16, 0, 0, 0, 10, 0, 0, 2, 10, 0, 0, 1, 104, 105].as_slice()
