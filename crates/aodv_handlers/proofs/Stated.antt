@@ -15,7 +15,7 @@ use Rattle.aodv_model.specs.Tables.{Table, Dests, goes_by, sqn, accepted_unreach
 use Rattle.aodv_model.specs.Soundness.{AreDestsBelow}
 use Rattle.aodv_model.proofs.Lookups.{get-accepted}
 use Rattle.aodv_model.proofs.PlacedTables.{accepted_below}
-use Rattle.aodv_meaning.specs.Meaning.{index, indexed, dests_in, unless_in, strange_pair}
+use Rattle.aodv_meaning.specs.Meaning.{index, indexed, dests_in, strange_pair}
 use Rattle.aodv_meaning.proofs.Means.{below, first_in}
 use Rattle.aodv_handlers.proofs.Lists.{from_place, from_end}
 

@@ -22,14 +22,6 @@ use aodv_table::Table;
 use aodv_wire::RerrView;
 use mesh_base::{Cast, Effect, MOST_NODES, Mesh, Packet};
 
-// No number for any node.
-fn no_numbers() -> [Option<u32>; MOST_NODES]
-    ensures size { length result ≡ MOST_NODES }
-    ensures none { (d : ℕ) → get_or result d None ≡ None }
-{
-    [None; MOST_NODES]
-}
-
 // States the number for d, where none is stated.
 fn state_number(numbers: &mut [Option<u32>], d: usize, number: u32)
     requires { d < length numbers.old }
@@ -41,21 +33,22 @@ fn state_number(numbers: &mut [Option<u32>], d: usize, number: u32)
     }
 }
 
-// The number that a route error states for each node of the mesh. Where it states two, the first.
-fn stated_numbers(mesh: &Mesh, m: &RerrView<'_>) -> [Option<u32>; MOST_NODES]
-    requires { stranger mesh.now (a_rerr m.now) ≡ None }
-    ensures size { length result ≡ MOST_NODES }
-    ensures numbers { (d : ℕ) → get_or result d None ≡ maps.get (dests_in mesh.now m.now) d }
+// Puts down the number that a route error states for each node of the mesh. Where it states two,
+// the first.
+fn state_numbers(mesh: &Mesh, m: &RerrView<'_>, numbers: &mut [Option<u32>])
+    requires known { stranger mesh.now (a_rerr m.now) ≡ None }
+    requires size { length numbers.old ≡ MOST_NODES }
+    requires none { (d : ℕ) → get_or numbers.old d None ≡ None }
+    ensures size { length numbers.new ≡ MOST_NODES }
+    ensures numbers { (d : ℕ) → get_or numbers.new d None ≡ maps.get (dests_in mesh.now m.now) d }
 {
     // It says that a mesh has at most 200 nodes, so the list has a place for each of them.
     let _few = mesh.len();
-    let mut numbers = no_numbers();
     for k in 0..m.len() {
         let (a, number) = m.pair(k);
         let d = mesh.index_in(a);
-        state_number(&mut numbers, d, number);
+        state_number(numbers, d, number);
     }
-    numbers
 }
 
 // The number stated for d, where d has a valid entry with that next hop and a smaller number.
@@ -81,7 +74,8 @@ fn accept_dests<T: Table>(table: &T, mesh: &Mesh, from: usize, m: &RerrView<'_>,
     ensures { let stated = dests_in mesh.now m.now in
         dests.new ≡ accepted_unreachable (T.entries table.now) from stated }
 {
-    let numbers = stated_numbers(mesh, m);
+    let mut numbers = [None; MOST_NODES];
+    state_numbers(mesh, m, &mut numbers);
     dests.clear();
     for d in 0..mesh.len() {
         if let Some(number) = accepted_number(table, from, d, numbers[d]) {

@@ -1,12 +1,12 @@
 use Rattle.std.proofs.Common.{◌≤◌, length, arith}
 use Rattle.aodv_handlers.proofs.Stated.{known_at, stated_none, stated_more, stated_all}
-use Rattle.aodv_handlers.proofs.rerr.stated_numbers.Goals as goal
+use Rattle.aodv_handlers.proofs.rerr.state_numbers.Goals as goal
 
 pub loop-k-init : goal.loop-k-init
-loop-k-init c = stated_none c.args.mesh.now c.args.m.now c.no_numbers-numbers.result c.no_numbers-numbers.ensures.size c.no_numbers-numbers.ensures.none
+loop-k-init c = stated_none c.args.mesh.now c.args.m.now c.args.numbers.now c.requires.size c.requires.none
 
 pub index_in-d-requires : goal.index_in-d-requires
-index_in-d-requires c = known_at c.args.mesh.now c.args.m.now c.loop-k.k c.pair-number.result c.requires c.pair-number.ensures
+index_in-d-requires c = known_at c.args.mesh.now c.args.m.now c.loop-k.k c.pair-number.result c.requires.known c.pair-number.ensures
 
 pub loop-k-preserved : goal.loop-k-preserved
 loop-k-preserved c =
