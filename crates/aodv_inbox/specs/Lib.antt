@@ -1,4 +1,2 @@
 -- What is seen of an inbox, and which items may wait in it.
 pub mod Queues
--- How a ring shows an inbox.
-pub mod Rings

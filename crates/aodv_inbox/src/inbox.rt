@@ -8,27 +8,25 @@ use mesh_base::{Item, NoMemory};
 use std::alloc::Global;
 use std::marker::Model;
 
-// A ring of at most so many places is kept, however few items it holds.
-const KEPT: usize = 32;
-
 /// The items that wait, the one that came first at the front.
 #[derive(Drop)]
 pub struct Inbox {
     ring: HeapCircularBuffer<Item>,
-    // Room for one more was made. Other free places aren't promised to anyone.
-    roomy: bool,
 }
 
 impl Model for Inbox {
-    ghost use Rattle.aodv_inbox.specs.Queues.{Queue};
+    ghost use Rattle.std.specs.Prelude.{length, ◌-◌};
+    ghost use Rattle.std.specs.List.{AllByRecursion};
+    ghost use Rattle.aodv_inbox.specs.Queues.{Queue, IsItem};
 
     ghost Value = { Queue };
 
-    ghost use Rattle.aodv_inbox.specs.Rings.{room_if, IsRingOf};
+    ghost view = { λ a. record {
+      items = a.ring.items;
+      room = a.ring.capacity - length a.ring.items;
+    } };
 
-    ghost view = { λ a. record { items = a.ring.items; room = room_if a.roomy } };
-
-    ghost invariant = { λ a. IsRingOf a.ring a.roomy };
+    ghost invariant = { λ a. AllByRecursion IsItem a.ring.items };
 }
 
 impl Inbox {
@@ -38,13 +36,11 @@ impl Inbox {
     {
         Ok(Inbox {
             ring: HeapCircularBuffer::with_capacity(alloc, 0)?,
-            roomy: false,
         })
     }
 
-    /// Makes room for one more item. It asks for memory only where there is none. A ring that is full
-    /// or nearly empty gets places for half as many items more, so that many pushes take time in
-    /// proportion to their number, and memory follows what waits.
+    /// Makes room for one more item. It asks for memory only where there is none. A full ring
+    /// doubles, so that many pushes take time in proportion to their number.
     pub fn make_room(&mut self) -> Result<(), NoMemory>
         ensures items { self.new.items ≡ self.old.items }
         ensures here { OnOk result (0 < self.new.room) }
@@ -53,36 +49,15 @@ impl Inbox {
         ensures keeps { self.old.room ≤ self.new.room }
         ensures refused { OnErr result (self.new ≡ self.old) }
     {
-        // Nearly always a place is free in a ring of a fit size, and seeing that takes no call.
         let most = self.ring.capacity();
-        let len = self.ring.len();
-        if len < most && (most <= KEPT || most / 4 <= len) {
-            self.roomy = true;
+        if self.ring.len() < most {
             return Ok(());
         }
-        self.resize()
-    }
-
-    // Room for one more item in a ring that is full or nearly empty.
-    #[inline(never)]
-    fn resize(&mut self) -> Result<(), NoMemory>
-        ensures items { self.new.items ≡ self.old.items }
-        ensures here { OnOk result (0 < self.new.room) }
-        ensures there { 0 < self.old.room → IsOk result }
-        ensures still { 0 < self.old.room → self.new ≡ self.old }
-        ensures keeps { self.old.room ≤ self.new.room }
-        ensures refused { OnErr result (self.new ≡ self.old) }
-    {
-        if self.roomy {
-            return Ok(());
+        let more = if most < 4 { 4 } else { 2 * most };
+        match self.ring.resize(more) {
+            Ok(()) => Ok(()),
+            Err(_) => Err(NoMemory),
         }
-        let len = self.ring.len();
-        match self.ring.resize(len + len.max(8) / 2) {
-            Ok(()) => {}
-            Err(_) => return Err(NoMemory),
-        }
-        self.roomy = true;
-        Ok(())
     }
 
     /// Puts an item at the back. It uses up the room for one.
@@ -92,7 +67,6 @@ impl Inbox {
         ensures items { self.new.items ≡ self.old.items ++ item ∷ [] }
         ensures room { self.new.room ≡ self.old.room - 1 }
     {
-        self.roomy = false;
         match self.ring.try_push_back(item) {
             Ok(()) => {}
             Err(_) => unreachable!(),
