@@ -103,7 +103,9 @@ pub fn find(casts: &Casts, least: &Option<Least>, id: u64) -> Option<Spot>
     if id == least.id {
         return Some(least.spot);
     }
-    find_near(casts, id, least.spot.place)
+    // Handed on whole, the answer of the call would go through memory in each case.
+    let spot = find_near(casts, id, least.spot.place)?;
+    Some(spot)
 }
 
 // The receiver of the first copy from this id on of the cast before this place, which is the id's

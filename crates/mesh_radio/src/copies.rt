@@ -1,5 +1,5 @@
 //! Copies of packets in flight, by rising id.
-ghost use Rattle.std.specs.Prelude.{◌≡◌, ℕ, ◌<◌, ◌≤◌, ◌+◌, ◌^◌, ◌∷◌, [], length, slice_get, option_map, true, is_some, OnOk, OnErr, IsOk, IfOk, IfSome, IfNone, if◌then◌else◌};
+ghost use Rattle.std.specs.Prelude.{◌≡◌, ℕ, ◌<◌, ◌≤◌, ◌+◌, ◌^◌, ◌∷◌, [], length, slice_get, option_map, true, OnOk, OnErr, IsOk, IfSome, IfNone, if◌then◌else◌};
 ghost use Rattle.mesh_base.specs.Views.{flying_seen};
 ghost use Rattle.mesh_base.specs.Members.{member_list};
 ghost use Rattle.aodv_wire.specs.Spells.{is_data};
@@ -106,6 +106,7 @@ impl Copies {
     }
 
     /// The copy of this id.
+    #[inline(always)]
     pub fn get(&self, id: u64) -> Option<FlyingView<'_>>
         ensures { option_map flying_seen result ≡ find_copy self.now.flying id }
     {
@@ -215,27 +216,18 @@ impl Copies {
         Some(spot.to)
     }
 
-    /// Takes the copy of this id, with bytes of its own. Short ones, which most packets have, are
-    /// copied here without a call.
+    /// The copy of this id flies no more, if it did.
     #[inline(always)]
-    pub fn take(&mut self, alloc: Global, id: u64) -> Result<Option<Flying>, NoMemory>
-        ensures taken { IfOk result (λ copy. copy ≡ find_copy self.old.flying id) }
-        ensures others { let left = without self.old.flying id in
-            OnOk result (self.new ≡ record self.old { flying = left }) }
-        ensures short { OnErr result (is_some (find_copy self.old.flying id) ≡ true) }
-        ensures refused { OnErr result (self.new ≡ self.old) }
+    pub fn remove(&mut self, id: u64)
+        ensures { let left = without self.old.flying id in
+            self.new ≡ record self.old { flying = left } }
     {
         let Some(spot) = find(&self.casts, &self.least, id) else {
-            return Ok(None);
+            return;
         };
         let Some((_, cast)) = self.casts.get_index(spot.place) else {
-            return Ok(None);
+            return;
         };
-        let bytes = match Bytes::short(cast.bytes.as_slice()) {
-            Some(own) => own,
-            None => Bytes::copy_of(alloc, cast.bytes.as_slice())?,
-        };
-        let from = cast.from;
         let less = if_data(cast.bytes.as_slice(), 1);
         let front = front_of(&self.least);
         remove_at(&mut self.casts, spot.place, spot.to);
@@ -243,12 +235,6 @@ impl Copies {
         self.of_data -= less;
         let gone = clear(&mut self.casts, spot.place, front, &mut self.done);
         self.least = least_from(&self.casts, gone);
-        Ok(Some(Flying {
-            id,
-            from,
-            to: spot.to,
-            bytes,
-        }))
     }
 
     /// A copy with a packet of its own flies, with an id after those of the others and below the
@@ -278,7 +264,9 @@ impl Copies {
         Ok(())
     }
 
-    /// Makes room for this many copies more, each of at most this many bytes.
+    /// Makes room for this many copies more, each of at most this many bytes. That it is there, as
+    /// for nine of ten casts, is seen by the rooms alone: there is a place for each cast then.
+    #[inline(always)]
     pub fn make_room(&mut self, copies: usize, bytes: usize) -> Result<(), NoMemory>
         requires few { copies ≤ MOST_NODES }
         requires next { self.old.next_copy + MOST_NODES < 2 ^ 64 }
@@ -289,6 +277,9 @@ impl Copies {
             → IsOk result × (self.new ≡ self.old) }
         ensures refused { OnErr result (self.new ≡ self.old) }
     {
+        if self.rooms.has(copies, bytes) {
+            return Ok(());
+        }
         self.casts.reserve(copies)?;
         self.rooms.make(copies, bytes)
     }

@@ -184,19 +184,16 @@ impl Radio {
         self.copies.receiver(id)
     }
 
-    /// Takes the copy of this id out of the air, with bytes of its own. None where no copy in
-    /// flight has it: no memory is asked for then.
+    /// The copy of this id isn't in flight any more, if it was.
     #[inline(always)]
-    pub fn take(&mut self, alloc: Global, id: u64) -> Result<Option<Flying>, NoMemory>
-        ensures taken { IfOk result (λ copy. copy ≡ find_copy self.old.flying id) }
-        ensures others { OnOk result (self.new ≡ without_copy self.old id) }
-        ensures short { OnErr result (is_some (find_copy self.old.flying id) ≡ true) }
-        ensures refused { OnErr result (self.new ≡ self.old) }
+    pub fn remove(&mut self, id: u64)
+        ensures { self.new ≡ without_copy self.old id }
     {
-        self.copies.take(alloc, id)
+        self.copies.remove(id)
     }
 
     /// The copy of this id, which flies on. None where no copy in flight has it.
+    #[inline(always)]
     pub fn find(&self, id: u64) -> Option<FlyingView<'_>>
         ensures { option_map flying_seen result ≡ find_copy self.now.flying id }
     {

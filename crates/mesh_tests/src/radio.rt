@@ -24,12 +24,10 @@ fn copies_fly_on_by_themselves(rt: HostRuntime) -> Result<(), Fail> {
         return Err(Fail::new("no copy 2"));
     };
     assert_eq!(rt; found.from, 0);
+    assert_eq!(rt; found.to, 2);
+    assert_eq!(rt; found.bytes, b"hi".as_slice());
     assert_eq!(rt; radio.receiver(2), Some(2));
-    let Some(last) = radio.take(rt.alloc(), 2)? else {
-        return Err(Fail::new("copy 2 is not taken"));
-    };
-    assert_eq!(rt; last.to, 2);
-    assert_eq!(rt; last.bytes.as_slice(), b"hi".as_slice());
+    radio.remove(2);
     assert!(rt; radio.find(2).is_none());
     assert_eq!(rt; radio.first_id(), Some(1));
     assert!(rt; radio.next_from(2, &mut 0).is_none());

@@ -22,7 +22,6 @@ use Rattle.mesh_model.specs.Places.{IsCopyInMesh}
 use Rattle.mesh_model.specs.Choices.{may_turn_in, first_send_in, first_ask_in}
 use Rattle.mesh_model.proofs.Steps.{found_honest}
 use Rattle.mesh_radio.specs.Copies as radios
-use Rattle.mesh_radio.proofs.Finds.{without_none}
 use Rattle.mesh_radio.specs.Radios.{RadioState, without_copy}
 use Rattle.mesh_meaning.specs.Packets.{IsWritten, IsWrittenItem, IsWrittenCopy, copy_in}
 use Rattle.mesh_world.specs.Seen.{node_in}
@@ -144,19 +143,6 @@ found_seen radio id o seen is some = sym is ∙ ap (option_map flying_seen) some
 pub none_seen : (radio : RadioState) (id : ℕ) (o : Option FlyingView) → IsFound o radio id → o ≡ None → radios.find_copy radio.flying id ≡ None
 none_seen radio id o is none = sym is ∙ ap (option_map flying_seen) none
 
--- the receiver that is told is that of the copy in flight
-abbrev pub IsReceiver : Option ℕ → RadioState → ℕ → Type 0
-IsReceiver o radio id = o ≡ option_map (λ f. f.to) (radios.find_copy radio.flying id)
-
--- there is such a copy, or none
-found_to : (o : Option ℕ) (p : Option Flying) (to : ℕ) → o ≡ option_map (λ f. f.to) p → o ≡ Some to → (f : Flying) × (p ≡ Some f) × (f.to ≡ to)
-found_to o None to is some = absurd (none-some to (sym is ∙ some))
-found_to o (Some f) to is some = (f, refl, same_Some f.to to (sym is ∙ some))
-
-pub none_to : (o : Option ℕ) (p : Option Flying) → o ≡ option_map (λ f. f.to) p → o ≡ None → p ≡ None
-none_to o None is none = refl
-none_to o (Some f) is none = absurd (none-some f.to (sym none ∙ is))
-
 -- what the world keeps of a copy in flight
 pub record InFlight (mesh : Nodes) (f : Flying) : Type 0 where
   pub from : f.from < length mesh
@@ -180,23 +166,20 @@ in_flight mesh nodes radio ready steps id f k e =
     let c : IsCopyInMesh (length mesh) (copy_in mesh f) = found_honest (IsCopyInMesh (length mesh)) w.flying id (copy_in mesh f) all (shown_found mesh nodes radio id f e) in
     record { from = c.0; to = c.1; differ = c.2; written = found_all (IsWrittenCopy mesh) radio.flying id f k.flying e; in_mesh = c.3 }
 
--- its receiver is a node
-pub receiver_in : (mesh : Nodes) (nodes : List NodeSeen) (radio : RadioState) (ready : Ready) (steps id : ℕ) (o : Option ℕ) (to : ℕ) → IsKept mesh nodes radio ready steps → IsReceiver o radio id → o ≡ Some to → to < length mesh
-receiver_in mesh nodes radio ready steps id o to k is some =
-    let f = found_to o (radios.find_copy radio.flying id) to is some in
-    subst (λ x. x < length mesh) f.2 (in_flight mesh nodes radio ready steps id f.0 k f.1).to
-
--- the copy that was taken goes to that receiver
-pub record Taken (mesh : Nodes) (radio : RadioState) (id to : ℕ) (f : Flying) : Type 0 where
+-- the copy that is seen goes to that receiver
+pub record Seen (mesh : Nodes) (radio : RadioState) (id to : ℕ) (f : Flying) : Type 0 where
   pub found : radios.find_copy radio.flying id ≡ Some f
   pub receiver : f.to ≡ to
   pub flies : InFlight mesh f
 
-pub taken : (mesh : Nodes) (nodes : List NodeSeen) (radio : RadioState) (ready : Ready) (steps id : ℕ) (o : Option ℕ) (to : ℕ) (t : Option Flying) (f : Flying) → IsKept mesh nodes radio ready steps
-    → IsReceiver o radio id → o ≡ Some to → t ≡ radios.find_copy radio.flying id → t ≡ Some f → Taken mesh radio id to f
-taken mesh nodes radio ready steps id o to t f k is some t_is t_some =
-    let here : radios.find_copy radio.flying id ≡ Some f = sym t_is ∙ t_some in
-    record { found = here; receiver = same_Some f.to to (sym (ap (option_map (λ (h : Flying). h.to)) here) ∙ sym is ∙ some); flies = in_flight mesh nodes radio ready steps id f k here }
+pub seen_flying : (mesh : Nodes) (nodes : List NodeSeen) (radio : RadioState) (ready : Ready) (steps id : ℕ) (o : Option FlyingView) (seen : FlyingView) → IsKept mesh nodes radio ready steps → IsFound o radio id → o ≡ Some seen → Seen mesh radio id seen.to (flying_seen seen)
+seen_flying mesh nodes radio ready steps id o seen k is some =
+    let here : radios.find_copy radio.flying id ≡ Some (flying_seen seen) = found_seen radio id o seen is some in
+    record { found = here; receiver = refl; flies = in_flight mesh nodes radio ready steps id (flying_seen seen) k here }
+
+-- its receiver is a node
+pub receiver_in : (mesh : Nodes) (nodes : List NodeSeen) (radio : RadioState) (ready : Ready) (steps id : ℕ) (o : Option FlyingView) (seen : FlyingView) → IsKept mesh nodes radio ready steps → IsFound o radio id → o ≡ Some seen → seen.to < length mesh
+receiver_in mesh nodes radio ready steps id o seen k is some = (seen_flying mesh nodes radio ready steps id o seen k is some).flies.to
 
 shown_without : (mesh : Nodes) (nodes : List NodeSeen) (old new : RadioState) (id : ℕ) → new ≡ without_copy old id → worlds.without_copy (world_in mesh nodes old) id ≡ world_in mesh nodes new
 unfolding world_in
@@ -228,23 +211,28 @@ deliver_here mesh nodes radio radio' ready ready' steps id f n new packet k few 
     (beside_joined mesh nodes radio radio' ready ready' steps f.to n new i k flies.to at flies.written j (without_flying mesh radio radio' id gone k.flying) (ap (λ (r : RadioState). r.size) gone) (ap (λ (r : RadioState). r.next_copy) gone) noted_is)
 
 pub deliver_done : (mesh : Nodes) (nodes : List NodeSeen) (radio radio' : RadioState) (ready ready' : Ready) (steps id to : ℕ) (f : Flying) (n roomy new : NodeSeen) (packet : List ℕ)
-    → IsKept mesh nodes radio ready steps → steps < 2 ^ 48 → Taken mesh radio id to f → radio' ≡ without_copy radio id → slice_get nodes to ≡ Some n → Joined n new (item.Heard f.from f.bytes) → ready' ≡ noted ready to new (length mesh)
+    → IsKept mesh nodes radio ready steps → steps < 2 ^ 48 → Seen mesh radio id to f → radio' ≡ without_copy radio id → slice_get nodes to ≡ Some n → Joined n new (item.Heard f.from f.bytes) → ready' ≡ noted ready to new (length mesh)
     → Ends (Deliver id) mesh nodes radio steps (Ok (done.Heard f.from to)) (slice_set (slice_set nodes to roomy) to new) radio' ready' (steps + 1) packet
 deliver_done mesh nodes radio radio' ready ready' steps id to f n roomy new packet k few t gone at j noted_is =
     subst (λ (ns : List NodeSeen). Ends (Deliver id) mesh nodes radio steps (Ok (done.Heard f.from to)) ns radio' ready' (steps + 1) packet) (sym (set_again nodes to roomy new))
     (subst (λ (y : ℕ). slice_get nodes y ≡ Some n → ready' ≡ noted ready y new (length mesh) → Ends (Deliver id) mesh nodes radio steps (Ok (done.Heard f.from y)) (slice_set nodes y new) radio' ready' (steps + 1) packet) t.receiver
     (λ here are. deliver_here mesh nodes radio radio' ready ready' steps id f n new packet k few t.found t.flies gone here j are) at noted_is)
 
-pub deliver_idle : (mesh : Nodes) (nodes : List NodeSeen) (radio : RadioState) (ready : Ready) (steps id : ℕ) (o : Option ℕ) (packet : List ℕ) → IsKept mesh nodes radio ready steps → steps < 2 ^ 48 → IsReceiver o radio id → o ≡ None
+pub deliver_idle : (mesh : Nodes) (nodes : List NodeSeen) (radio : RadioState) (ready : Ready) (steps id : ℕ) (o : Option FlyingView) (packet : List ℕ) → IsKept mesh nodes radio ready steps → steps < 2 ^ 48 → IsFound o radio id → o ≡ None
     → Ends (Deliver id) mesh nodes radio steps (Ok done.Idle) nodes radio ready (steps + 1) packet
 deliver_idle mesh nodes radio ready steps id o packet k few is none =
-    let e = none_to o (radios.find_copy radio.flying id) is none in
+    let e = none_seen radio id o is none in
     ends_idle (Deliver id) mesh nodes radio ready steps nodes radio packet k few (deliver_at (world_in mesh nodes radio) id None (shown_none mesh nodes radio id e)) refl (later mesh nodes radio ready steps (beside mesh nodes radio ready steps k))
 
-pub lose_done : (mesh : Nodes) (nodes : List NodeSeen) (radio radio' : RadioState) (ready : Ready) (steps id : ℕ) (t : Option Flying) (f : Flying) (packet : List ℕ) → IsKept mesh nodes radio ready steps → steps < 2 ^ 48 → t ≡ radios.find_copy radio.flying id → t ≡ Some f → radio' ≡ without_copy radio id → Ends (Lose id) mesh nodes radio steps (Ok (done.Lost f)) nodes radio' ready (steps + 1) packet
-lose_done mesh nodes radio radio' ready steps id t f packet k few is some gone =
+-- the copy that is seen, with bytes of its own
+owned : (radio : RadioState) (id : ℕ) (o : Option FlyingView) (seen : FlyingView) (f : Flying) → IsFound o radio id → o ≡ Some seen → f ≡ record (flying_seen seen) { bytes = f.bytes } → f.bytes ≡ seen.bytes.now → radios.find_copy radio.flying id ≡ Some f
+owned radio id o seen f is some same copy = found_seen radio id o seen is some ∙ ap Some (sym (same ∙ (λ i. record (flying_seen seen) { bytes = copy i })))
+
+pub lose_done : (mesh : Nodes) (nodes : List NodeSeen) (radio radio' : RadioState) (ready : Ready) (steps id : ℕ) (o : Option FlyingView) (seen : FlyingView) (f : Flying) (packet : List ℕ) → IsKept mesh nodes radio ready steps → steps < 2 ^ 48 → IsFound o radio id → o ≡ Some seen
+    → f ≡ record (flying_seen seen) { bytes = f.bytes } → f.bytes ≡ seen.bytes.now → radio' ≡ without_copy radio id → Ends (Lose id) mesh nodes radio steps (Ok (done.Lost f)) nodes radio' ready (steps + 1) packet
+lose_done mesh nodes radio radio' ready steps id o seen f packet k few is some same copy gone =
     let w = world_in mesh nodes radio in
-    let found : radios.find_copy radio.flying id ≡ Some f = sym is ∙ some in
+    let found = owned radio id o seen f is some same copy in
     let flies = in_flight mesh nodes radio ready steps id f k found in
     let world : worlds.without_copy w id ≡ world_in mesh nodes radio' = shown_without mesh nodes radio radio' id gone in
     ends_done (Lose id) mesh nodes radio ready steps (done.Lost f) nodes radio' ready packet (Next (worlds.without_copy w id) (CopyLost (copy_in mesh f)))
@@ -258,19 +246,17 @@ lose_done mesh nodes radio radio' ready steps id t f packet k few is some gone =
       sets = k.sets;
     })
 
-pub lose_idle : (mesh : Nodes) (nodes : List NodeSeen) (radio radio' : RadioState) (ready : Ready) (steps id : ℕ) (t : Option Flying) (packet : List ℕ) → IsKept mesh nodes radio ready steps → steps < 2 ^ 48 → t ≡ radios.find_copy radio.flying id → t ≡ None → radio' ≡ without_copy radio id
-    → Ends (Lose id) mesh nodes radio steps (Ok done.Idle) nodes radio' ready (steps + 1) packet
-lose_idle mesh nodes radio radio' ready steps id t packet k few is none left =
-    let e = sym is ∙ none in
-    let same : radio' ≡ radio = left ∙ (λ i. record radio { flying = without_none radio.flying id e i }) in
-    subst (λ (r : RadioState). Ends (Lose id) mesh nodes radio steps (Ok done.Idle) nodes r ready (steps + 1) packet) (sym same)
-    (ends_idle (Lose id) mesh nodes radio ready steps nodes radio packet k few (lose_at (world_in mesh nodes radio) id None (shown_none mesh nodes radio id e)) refl (later mesh nodes radio ready steps (beside mesh nodes radio ready steps k)))
+pub lose_idle : (mesh : Nodes) (nodes : List NodeSeen) (radio : RadioState) (ready : Ready) (steps id : ℕ) (o : Option FlyingView) (packet : List ℕ) → IsKept mesh nodes radio ready steps → steps < 2 ^ 48 → IsFound o radio id → o ≡ None
+    → Ends (Lose id) mesh nodes radio steps (Ok done.Idle) nodes radio ready (steps + 1) packet
+lose_idle mesh nodes radio ready steps id o packet k few is none =
+    let e = none_seen radio id o is none in
+    ends_idle (Lose id) mesh nodes radio ready steps nodes radio packet k few (lose_at (world_in mesh nodes radio) id None (shown_none mesh nodes radio id e)) refl (later mesh nodes radio ready steps (beside mesh nodes radio ready steps k))
 
 -- no memory for the bytes of a copy: its receiver has more room than before, which isn't seen
-pub deliver_short : (mesh : Nodes) (nodes : List NodeSeen) (radio radio' : RadioState) (ready : Ready) (steps id x : ℕ) (n roomy : NodeSeen) (packet : List ℕ) → IsKept mesh nodes radio ready steps
-    → slice_get nodes x ≡ Some n → n ≡ slice_index_or nodes x n → roomy ≡ record n { room = roomy.room } → radio' ≡ radio → Ends (Deliver id) mesh nodes radio steps (Err errors.NoMemory) (slice_set nodes x roomy) radio' ready steps packet
+pub deliver_short : (mesh : Nodes) (nodes : List NodeSeen) (radio : RadioState) (ready : Ready) (steps id x : ℕ) (n roomy : NodeSeen) (packet : List ℕ) → IsKept mesh nodes radio ready steps
+    → slice_get nodes x ≡ Some n → n ≡ slice_index_or nodes x n → roomy ≡ record n { room = roomy.room } → Ends (Deliver id) mesh nodes radio steps (Err errors.NoMemory) (slice_set nodes x roomy) radio ready steps packet
 unfolding world_in
-deliver_short mesh nodes radio radio' ready steps id x n roomy packet k at read is same =
+deliver_short mesh nodes radio ready steps id x n roomy packet k at read is =
     let had = kept_node mesh nodes radio ready steps x n k at in
     let kept : IsKeptNode mesh roomy = subst (IsKeptNode mesh) (sym is) (record { items = had.items; size = had.size; sound = record { mine = (had.sound).mine; sound = (had.sound).sound; store = (had.sound).store; each = (had.sound).each } }) in
     let shown : map (node_in mesh) (slice_set nodes x roomy) ≡ map (node_in mesh) nodes =
@@ -280,13 +266,12 @@ deliver_short mesh nodes radio radio' ready steps id x n roomy packet k at read 
       sends = λ y. (k.sets).sends y ∙ sym (ap (λ ns. is_some (first_send_in (length mesh) (slice_get ns y))) shown);
       asks = λ y. (k.sets).asks y ∙ sym (ap (λ ns. is_some (first_ask_in (length mesh) (slice_get ns y))) shown);
     } in
-    subst (λ (r : RadioState). Ends (Deliver id) mesh nodes radio steps (Err errors.NoMemory) (slice_set nodes x roomy) r ready steps packet) (sym same)
-    (ends_no_memory (Deliver id) mesh nodes radio ready steps (slice_set nodes x roomy) radio packet k
+    ends_no_memory (Deliver id) mesh nodes radio ready steps (slice_set nodes x roomy) radio packet k
     (λ i. record { nodes = shown i; links = radio.links; ever = radio.ever; flying = map (copy_in mesh) radio.flying; next_copy = radio.next_copy })
-    (record { each = each_set (IsKeptNode mesh) nodes x roomy k.each kept; flying = k.flying; size = k.size; numbers = k.numbers; sets = sets }))
+    (record { each = each_set (IsKeptNode mesh) nodes x roomy k.each kept; flying = k.flying; size = k.size; numbers = k.numbers; sets = sets })
 
 -- the receiver may hear the copy
-pub may_hear : (mesh : Nodes) (nodes : List NodeSeen) (radio : RadioState) (ready : Ready) (steps id to : ℕ) (f : Flying) (n roomy heard : NodeSeen) → IsKept mesh nodes radio ready steps → slice_get nodes to ≡ Some n → Taken mesh radio id to f
+pub may_hear : (mesh : Nodes) (nodes : List NodeSeen) (radio : RadioState) (ready : Ready) (steps id to : ℕ) (f : Flying) (n roomy heard : NodeSeen) → IsKept mesh nodes radio ready steps → slice_get nodes to ≡ Some n → Seen mesh radio id to f
     → roomy.core ≡ n.core → roomy.size ≡ n.size → heard ≡ roomy → (f.from < heard.size) × (f.from ≢ (heard.core).ip)
 may_hear mesh nodes radio ready steps id to f n roomy heard k at t core size is =
     let s = stands mesh nodes radio ready steps to n k at in

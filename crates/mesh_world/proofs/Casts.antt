@@ -30,7 +30,7 @@ pub flights_length : (tos : List ℕ) (id x : ℕ) (b : List ℕ) → length (ra
 flights_length [] id x b = refl
 flights_length (to ∷ tos) id x b = ap suc (flights_length tos (id + 1) x b)
 
-no_members : (n : ℕ) → members_below n sets.empty ≡ []
+pub no_members : (n : ℕ) → members_below n sets.empty ≡ []
 unfolding members_below
 no_members zero = refl
 no_members (suc n) = rw (sets.contains-empty nat_cmp n) (no_members n)

@@ -1,5 +1,6 @@
 -- The receivers of a cast.
-use Rattle.std.proofs.Common.{◌≡◌, ℕ, Bool, true, false, ◌&&◌, ◌||◌, List, refl, sym, ap, ◌∙◌}
+use Rattle.std.proofs.Common.{◌≡◌, ℕ, ◌+◌, ◌-◌, Bool, true, false, ◌&&◌, ◌||◌, List, ◌++◌, length, refl, sym, ap, ◌∙◌, arith}
+use Rattle.std.proofs.lemmas.List.{append-nil}
 use Rattle.std.proofs.lemmas.Bool.{eqb-true}
 use Rattle.std.proofs.lemmas.Cmp.{nat_cmp_total}
 use Rattle.std.specs.Cmp.{unsigned_tied}
@@ -14,7 +15,10 @@ use Rattle.aodv_table.proofs.Lookups.{same_nodes}
 use Rattle.mesh_model.specs.Worlds.{receivers}
 use Rattle.mesh_model.proofs.MeshSteps.{receivers_in}
 use Rattle.mesh_meaning.specs.Answers.{cast_in}
-use Rattle.mesh_world.specs.Parts.{reached}
+use Rattle.mesh_radio.specs.Copies.{copies_to}
+use Rattle.mesh_radio.specs.Radios.{RadioState, with_copies}
+use Rattle.mesh_world.specs.Parts.{reached, with_cast}
+use Rattle.mesh_world.proofs.Casts.{no_members}
 
 or_left : (a b : Bool) → b ≡ false → (a || b) ≡ true → a ≡ true
 or_left true b e t = refl
@@ -64,3 +68,20 @@ not_true false c h f = refl
 
 pub reached_apart : (mesh : Nodes) (near : NodeIds) (c : cast.Cast) (packet : List ℕ) (s : NodeIds) (x : ℕ) → s ≡ reached mesh near c packet → sets.contains near x ≡ false → sets.contains s x ≡ false
 reached_apart mesh near c packet s x is apart = not_true (sets.contains s x) (sets.contains near x) (reached_near mesh near c packet s is x) apart
+
+-- ---- a cast to nobody
+
+pub reached_nobody : (mesh : Nodes) (near : NodeIds) (c : cast.Cast) (packet : List ℕ) (s : NodeIds) → c ≡ casts.Nothing → s ≡ sets.empty → s ≡ reached mesh near c packet
+unfolding receivers
+reached_nobody mesh near c packet s is empty = empty ∙ sym (ap (λ (k : cast.Cast). reached mesh near k packet) is)
+
+no_copies : (r : RadioState) (x : ℕ) (packet : List ℕ) → r ≡ with_copies r x packet sets.empty
+no_copies r x packet =
+    let next : r.next_copy ≡ r.next_copy + 0 = omega arith in
+    let room : r.room ≡ r.room - 0 = omega arith in
+    (λ i. record r { flying = sym (append-nil r.flying) i; next_copy = next i; room = room i })
+    ∙ ap (λ (tos : List ℕ). record r { flying = r.flying ++ copies_to tos r.next_copy x packet; next_copy = r.next_copy + length tos; room = r.room - length tos }) (sym (no_members r.size))
+
+-- the air is as it was
+pub same_air : (mesh : Nodes) (r : RadioState) (x : ℕ) (near : NodeIds) (c : cast.Cast) (packet : List ℕ) → c ≡ casts.Nothing → r ≡ with_cast mesh r x near c packet
+same_air mesh r x near c packet is = no_copies r x packet ∙ ap (with_copies r x packet) (reached_nobody mesh near c packet sets.empty is refl)

@@ -1,4 +1,4 @@
-use Rattle.std.proofs.Common.{◌≡◌, ◌∙◌, ℕ, cond, Some, length, ap, sym, subst, arith}
+use Rattle.std.proofs.Common.{◌≡◌, ◌∙◌, ℕ, cond, length, ap, sym, subst, arith}
 use Rattle.indexmap.specs.IndexMap.{IndexMap, spare}
 use Rattle.aodv_wire.specs.Spells.{is_data}
 use Rattle.mesh_radio.specs.Copies.{find_copy, without, data_in}
@@ -6,17 +6,11 @@ use Rattle.mesh_radio.specs.Kept.{Flights}
 use Rattle.mesh_radio.proofs.Finds.{without_none}
 use Rattle.mesh_radio.specs.Casts.{Entry, copies_of, AreGone}
 use Rattle.mesh_radio.specs.declared.casts.Cast.{Cast}
-use Rattle.mesh_radio.proofs.Entries.{find-all, found-copy, found-taken}
+use Rattle.mesh_radio.proofs.Entries.{find-all, found-taken}
 use Rattle.mesh_radio.proofs.Changes.{casts-taken, casts-tidied}
 use Rattle.mesh_radio.proofs.Sweeps.{gone-taken}
 use Rattle.mesh_radio.proofs.Leasts.{front-gone}
-use Rattle.std.specs.Prelude.{is_some, Result, OnErr, Ok, Err}
-use Rattle.mesh_radio.proofs.copies.Copies.take.Goals as goal
-use Rattle.mesh_radio.proofs.copies.Copies.take.Goals.{in-Some-short, in-None+in_ok-bytes-in-None}
-
-on_err : {A B P : Type 0} (r : Result A B) → P → OnErr r P
-on_err (Ok x) p = tt
-on_err (Err e) p = p
+use Rattle.mesh_radio.proofs.copies.Copies.remove.Goals as goal
 
 pub overflow_sub-self : goal.overflow_sub-self
 overflow_sub-self c =
@@ -32,7 +26,7 @@ overflow_sub-self-2 c =
     let kept = c.self.invariant.0 in
     let e : Entry = (c.in-Some-get_index.field-0-0.now, c.in-Some-get_index.cast.now) in
     let less = found-taken 1 inside.next c.args.id c.in-Some.spot.place c.in-Some.spot.to inside.casts.entries e kept.casts.rising c.in-Some.ensures.some (sym c.in-Some-get_index.ensures.entry) in
-    omega (arith, kept.with_data, less.of_data, c.if_data-less.ensures, ap {B = ℕ} (λ bs. cond (is_data bs) 1 0) c.as_slice-2.ensures)
+    omega (arith, kept.with_data, less.of_data, c.if_data-less.ensures, ap {B = ℕ} (λ bs. cond (is_data bs) 1 0) c.as_slice.ensures)
 
 pub clear-gone-requires-clause-rising : goal.clear-gone-requires-clause-rising
 clear-gone-requires-clause-rising c =
@@ -85,20 +79,14 @@ invariant_of-self c =
       record {
         casts = casts-tidied c.remove_at.new.casts.entries c.clear-gone.new.casts.entries inside.next tidied taken;
         counted = omega (arith, kept.counted, less.fewer, ap length copies);
-        with_data = omega (arith, kept.with_data, less.of_data, ap data_in copies, c.if_data-less.ensures, ap {B = ℕ} (λ bs. cond (is_data bs) 1 0) c.as_slice-2.ensures);
+        with_data = omega (arith, kept.with_data, less.of_data, ap data_in copies, c.if_data-less.ensures, ap {B = ℕ} (λ bs. cond (is_data bs) 1 0) c.as_slice.ensures);
       },
       omega (arith, c.self.invariant.1, more, c.clear-gone.ensures.spare),
       c.least_from-self-inside.ensures,
     )
 
-pub returns-in_default-clause-taken : goal.returns-in_default-clause-taken
-returns-in_default-clause-taken c =
-    let inside = c.self.inside in
-    sym (find-all 1 inside.next c.args.id inside.casts.entries (c.self.invariant.0).casts.rising ∙ c.in_default.ensures.none)
-    ∙ ap (λ (v : Flights). find_copy v.flying c.args.id) c.self.view_is
-
-pub returns-in_default-clause-others : goal.returns-in_default-clause-others
-returns-in_default-clause-others c =
+pub returns-in_default : goal.returns-in_default
+returns-in_default c =
     let inside = c.self.inside in
     let es = inside.casts.entries in
     let none = find-all 1 inside.next c.args.id es (c.self.invariant.0).casts.rising ∙ c.in_default.ensures.none in
@@ -107,26 +95,8 @@ returns-in_default-clause-others c =
     let flying : now.flying ≡ without now.flying c.args.id = sym same ∙ sym (without_none (copies_of es) c.args.id none) ∙ ap (λ fs. without fs c.args.id) same in
     (λ i. record now { flying = flying i })
 
-pub returns-in_err-bytes-in-None-clause-short : goal.returns-in_err-bytes-in-None-clause-short
-returns-in_err-bytes-in-None-clause-short c =
-    let inside = c.self.inside in
-    let copy = found-copy inside.casts.entries 1 inside.next c.args.id c.in-Some.spot.place c.in-Some.spot.to (c.in-Some-get_index.field-0-0.now, c.in-Some-get_index.cast.now) (c.self.invariant.0).casts.rising c.in-Some.ensures.some (sym c.in-Some-get_index.ensures.entry) in
-    on_err c.from_residual.result (ap is_some (sym (ap (λ (v : Flights). find_copy v.flying c.args.id) c.self.view_is) ∙ copy))
-
-pub returns-clause-taken : goal.returns-clause-taken
-returns-clause-taken c =
-    let inside = c.self.inside in
-    let cast = c.in-Some-get_index.cast.now in
-    let bytes : c.match-short.bytes ≡ cast.bytes = elim c.match-short.branch [
-      | in-Some-short w ↦ w.bytes-is ∙ w.in-Some-short.ensures.value ∙ c.as_slice.ensures
-      | in-None+in_ok-bytes-in-None w ↦ w.bytes-is ∙ w.in_ok-bytes-in-None.ensures.copy ∙ w.as_slice-in-None.ensures
-    ] in
-    ap (λ bs. Some (record { id = c.args.id; from = cast.from; to = c.in-Some.spot.to; bytes = bs })) bytes
-    ∙ sym (found-copy inside.casts.entries 1 inside.next c.args.id c.in-Some.spot.place c.in-Some.spot.to (c.in-Some-get_index.field-0-0.now, cast) (c.self.invariant.0).casts.rising c.in-Some.ensures.some (sym c.in-Some-get_index.ensures.entry))
-    ∙ ap (λ (v : Flights). find_copy v.flying c.args.id) c.self.view_is
-
-pub returns-clause-others : goal.returns-clause-others
-returns-clause-others c =
+pub returns : goal.returns
+returns c =
     let inside = c.self.inside in
     let kept = c.self.invariant.0 in
     let es = inside.casts.entries in
