@@ -280,6 +280,19 @@ impl Copies {
         if self.rooms.has(copies, bytes) {
             return Ok(());
         }
+        self.make_more_room(copies, bytes)
+    }
+
+    // The same, where rooms may be missing. It is a call of its own, since the memory of its locals
+    // would be cleared at each turn.
+    #[cold]
+    #[inline(never)]
+    fn make_more_room(&mut self, copies: usize, bytes: usize) -> Result<(), NoMemory>
+        ensures same { self.new ≡ record self.old { room = self.new.room; most = self.new.most } }
+        ensures ok { OnOk result ((copies ≤ self.new.room) × (bytes ≤ self.new.most)) }
+        ensures exact { OnOk result (self.new ≡ with_room self.old copies bytes) }
+        ensures refused { OnErr result (self.new ≡ self.old) }
+    {
         self.casts.reserve(copies)?;
         self.rooms.make(copies, bytes)
     }
