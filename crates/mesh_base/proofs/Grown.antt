@@ -1,12 +1,11 @@
 -- A mesh with one more node.
-use Rattle.std.proofs.Common.{◌≡◌, ◌≢◌, ℕ, ◌+◌, ◌-◌, ◌^◌, ◌<◌, ◌≤◌, not, ltb, length, Some, None, insert, sym, ap, ◌∙◌, inl, inr, arith}
+use Rattle.std.proofs.Common.{◌≡◌, ◌≢◌, ℕ, ◌^◌, ◌<◌, ◌≤◌, not, ltb, length, Some, None, sym, ap, ◌∙◌, inl, inr, arith}
 use Rattle.std.specs.List.{position_or_len}
 use Rattle.std.proofs.lemmas.Bool.{cases_eq}
 use Rattle.std.proofs.lemmas.List.Sums.{fails_before_first, passes_at_first}
-use Rattle.std.proofs.lemmas.List.Edits.{length-insert}
 use Rattle.mesh_base.specs.Meshes.{Nodes, IsMesh, addr_at, index_of, with_node}
 use Rattle.mesh_base.proofs.PartLaws.{place_le}
-use Rattle.mesh_base.proofs.MeshLaws.{rising_le, below_if, from_if, IsPlace, at_insert, insert_is_mesh}
+use Rattle.mesh_base.proofs.MeshLaws.{rising_le, below_if, from_if, IsPlace, insert_is_mesh}
 use Rattle.mesh_base.proofs.Spelling.{index_of-at}
 
 pub absent_at : (mesh : Nodes) (a i : ℕ) → IsMesh mesh → index_of mesh a ≡ None → i < length mesh → addr_at mesh i ≢ a

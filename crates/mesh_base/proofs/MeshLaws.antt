@@ -7,7 +7,7 @@ use Rattle.std.proofs.lemmas.Bool.Decides.{nat_tests}
 use Rattle.std.proofs.lemmas.List.{get_or_default}
 use Rattle.std.proofs.lemmas.List.Sums.{position_or_len_is}
 use Rattle.std.proofs.lemmas.List.Edits.{length-insert, get_or-insert_at, get_or-insert_below, get_or-insert_above}
-use Rattle.mesh_base.specs.Meshes.{Nodes, IsMesh, addr_at, first_at, index_of, with_node}
+use Rattle.mesh_base.specs.Meshes.{Nodes, IsMesh, addr_at, index_of, with_node}
 
 -- addresses don't fall
 pub rising_le : (mesh : Nodes) (i j : ℕ) → IsMesh mesh → i ≤ j → j < length mesh → addr_at mesh i ≤ addr_at mesh j

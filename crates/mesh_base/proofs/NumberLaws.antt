@@ -54,50 +54,51 @@ two_digits n low high =
     let first : decimal (n / 10) ≡ (48 + n / 10) ∷ [] = decimal_digit (n / 10) (omega arith) in
     decimal_step n low (omega arith) ∙ ap (λ ds. ds ++ (48 + n % 10) ∷ []) first
 
--- the last three digits, after the others
-pub by_thousands : (n : ℕ) → 1000 ≤ n → n < 2 ^ 64
-    → decimal n ≡ decimal (n / 1000) ++ (48 + n % 1000 / 100 % 10) ∷ (48 + n % 1000 / 10 % 10) ∷ (48 + n % 1000 % 10) ∷ []
-by_thousands n low fits =
-    let tens : n / 10 % 10 ≡ n % 1000 / 10 % 10 = omega arith in
-    let hundreds : n / 10 / 10 % 10 ≡ n % 1000 / 100 % 10 = omega arith in
-    let ones : n % 10 ≡ n % 1000 % 10 = omega arith in
-    let rest : n / 10 / 10 / 10 ≡ n / 1000 = omega arith in
-    decimal_step n (omega arith) fits
-    ∙ ap (λ ds. ds ++ (48 + n % 10) ∷ []) (decimal_step (n / 10) (omega arith) (omega arith))
-    ∙ ap (λ ds. (ds ++ (48 + n / 10 % 10) ∷ []) ++ (48 + n % 10) ∷ []) (decimal_step (n / 10 / 10) (omega arith) (omega arith))
-    ∙ rw (tens, hundreds, ones, rest) (joined (decimal (n / 1000)) (48 + n % 1000 / 100 % 10) (48 + n % 1000 / 10 % 10) (48 + n % 1000 % 10))
-  where
-    joined : (ds : List ℕ) (a b c : ℕ) → ((ds ++ a ∷ []) ++ b ∷ []) ++ c ∷ [] ≡ ds ++ a ∷ b ∷ c ∷ []
-    joined ds a b c = simp append_assoc
-
 pub two_long : (n : ℕ) → 10 ≤ n → n < 100 → length (decimal n) ≡ 2
 two_long n low high = ap length (two_digits n low high)
 
--- digits that are appended one after another
-pub appended_two : (xs ys zs : List ℕ) (n : ℕ) → 10 ≤ n → n < 100 → ys ≡ xs ++ (48 + n / 10) ∷ [] → zs ≡ ys ++ (48 + n % 10) ∷ [] → zs ≡ xs ++ decimal n
-appended_two xs ys zs n low high y z =
-    z ∙ ap (λ ds. ds ++ (48 + n % 10) ∷ []) y
-    ∙ append_assoc xs ((48 + n / 10) ∷ []) ((48 + n % 10) ∷ [])
-    ∙ ap (λ ds. xs ++ ds) (sym (two_digits n low high))
-
-pub appended_thousands : (xs ys zs : List ℕ) (n : ℕ) → 1000 ≤ n → n < 2 ^ 64 → ys ≡ xs ++ decimal (n / 1000)
-    → zs ≡ ys ++ (48 + n % 1000 / 100 % 10) ∷ (48 + n % 1000 / 10 % 10) ∷ (48 + n % 1000 % 10) ∷ [] → zs ≡ xs ++ decimal n
-appended_thousands xs ys zs n low fits y z =
-    z ∙ ap (λ ds. ds ++ (48 + n % 1000 / 100 % 10) ∷ (48 + n % 1000 / 10 % 10) ∷ (48 + n % 1000 % 10) ∷ []) y
-    ∙ append_assoc xs (decimal (n / 1000)) _
-    ∙ ap (λ ds. xs ++ ds) (sym (by_thousands n low fits))
-
-pub three_digits : (n : ℕ) → 100 ≤ n → n < 1000 → decimal n ≡ (48 + n / 100 % 10) ∷ (48 + n / 10 % 10) ∷ (48 + n % 10) ∷ []
-three_digits n low high =
-    let hundreds : n / 10 / 10 ≡ n / 100 % 10 = omega arith in
-    decimal_step n (omega arith) (omega arith)
+-- the last two digits, after the others
+pub by_hundreds : (n : ℕ) → 100 ≤ n → n < 2 ^ 64 → decimal n ≡ decimal (n / 100) ++ (48 + n % 100 / 10) ∷ (48 + n % 100 % 10) ∷ []
+by_hundreds n low fits =
+    let tens : n / 10 % 10 ≡ n % 100 / 10 = omega arith in
+    let ones : n % 10 ≡ n % 100 % 10 = omega arith in
+    let rest : n / 10 / 10 ≡ n / 100 = omega arith in
+    decimal_step n (omega arith) fits
     ∙ ap (λ ds. ds ++ (48 + n % 10) ∷ []) (decimal_step (n / 10) (omega arith) (omega arith))
-    ∙ ap (λ ds. (ds ++ (48 + n / 10 % 10) ∷ []) ++ (48 + n % 10) ∷ []) (decimal_digit (n / 10 / 10) (omega arith))
-    ∙ ap (λ d. (48 + d) ∷ (48 + n / 10 % 10) ∷ (48 + n % 10) ∷ []) hundreds
+    ∙ rw (tens, ones, rest) (append_assoc (decimal (n / 100)) ((48 + n % 100 / 10) ∷ []) ((48 + n % 100 % 10) ∷ []))
 
--- three digits more
-pub three_longer : (n : ℕ) → 1000 ≤ n → n < 2 ^ 64 → length (decimal n) ≡ length (decimal (n / 1000)) + 3
-three_longer n low fits = ap length (by_thousands n low fits) ∙ length-append (decimal (n / 1000)) _
+-- digits that are appended one after another
+pub appended_hundreds : (xs ys zs : List ℕ) (n : ℕ) → 100 ≤ n → n < 2 ^ 64 → ys ≡ xs ++ decimal (n / 100)
+    → zs ≡ ys ++ (48 + n % 100 / 10) ∷ (48 + n % 100 % 10) ∷ [] → zs ≡ xs ++ decimal n
+appended_hundreds xs ys zs n low fits y z =
+    z ∙ ap (λ ds. ds ++ (48 + n % 100 / 10) ∷ (48 + n % 100 % 10) ∷ []) y
+    ∙ append_assoc xs (decimal (n / 100)) _
+    ∙ ap (λ ds. xs ++ ds) (sym (by_hundreds n low fits))
+
+-- the same, twice
+pub appended_four : (xs ys zs : List ℕ) (n : ℕ) → 10000 ≤ n → n < 2 ^ 64 → ys ≡ xs ++ decimal (n / 10000)
+    → zs ≡ (ys ++ (48 + n % 10000 / 100 / 10) ∷ (48 + n % 10000 / 100 % 10) ∷ []) ++ (48 + n % 10000 % 100 / 10) ∷ (48 + n % 10000 % 100 % 10) ∷ []
+    → zs ≡ xs ++ decimal n
+appended_four xs ys zs n low fits y z =
+    let first : n / 100 / 100 ≡ n / 10000 = omega arith in
+    let upper : n % 10000 / 100 ≡ n / 100 % 100 = omega arith in
+    let lower : n % 10000 % 100 ≡ n % 100 = omega arith in
+    let y' : ys ≡ xs ++ decimal (n / 100 / 100) = y ∙ ap (λ m. xs ++ decimal m) (sym first) in
+    let z' : zs ≡ (ys ++ (48 + n / 100 % 100 / 10) ∷ (48 + n / 100 % 100 % 10) ∷ []) ++ (48 + n % 100 / 10) ∷ (48 + n % 100 % 10) ∷ [] =
+    z ∙ ap (λ m. (ys ++ (48 + m / 10) ∷ (48 + m % 10) ∷ []) ++ (48 + n % 10000 % 100 / 10) ∷ (48 + n % 10000 % 100 % 10) ∷ []) upper
+    ∙ ap (λ m. (ys ++ (48 + n / 100 % 100 / 10) ∷ (48 + n / 100 % 100 % 10) ∷ []) ++ (48 + m / 10) ∷ (48 + m % 10) ∷ []) lower in
+    appended_hundreds xs (ys ++ (48 + n / 100 % 100 / 10) ∷ (48 + n / 100 % 100 % 10) ∷ []) zs n (omega arith) fits
+    (appended_hundreds xs ys _ (n / 100) (omega arith) (omega arith) y' refl) z'
+
+-- two digits more
+pub two_longer : (n : ℕ) → 100 ≤ n → n < 2 ^ 64 → length (decimal n) ≡ length (decimal (n / 100)) + 2
+two_longer n low fits = ap length (by_hundreds n low fits) ∙ length-append (decimal (n / 100)) _
+
+-- four digits more
+pub four_longer : (n : ℕ) → 10000 ≤ n → n < 2 ^ 64 → length (decimal n) ≡ length (decimal (n / 10000)) + 4
+four_longer n low fits =
+    let first : n / 100 / 100 ≡ n / 10000 = omega arith in
+    omega (arith, two_longer n (omega arith) fits, two_longer (n / 100) (omega arith) (omega arith), ap (λ m. length (decimal m)) first)
 
 -- one digit more
 pub longer : (n : ℕ) → 10 ≤ n → n < 2 ^ 64 → length (decimal n) ≡ length (decimal (n / 10)) + 1

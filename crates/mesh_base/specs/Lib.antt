@@ -1,7 +1,7 @@
 -- Read in this order: the spelling of numbers and addresses, the parts of a text, meshes, sets of
 -- nodes, what is only looked at.
--- Words has the proof that a set gives its words back, and Octets an address number by number; no
--- public contract says either.
+-- Words has the proof that a set gives its words back, Octets an address number by number, and Few
+-- short bytes as they are kept; no public contract says any of these.
 pub mod Numbers
 pub mod Parts
 pub mod Addresses
@@ -11,3 +11,4 @@ pub mod Members
 pub mod Views
 pub mod Words
 pub mod Octets
+pub mod Few

@@ -1,7 +1,7 @@
 //! Owned bytes, and memory for them.
 ghost use Rattle.std.specs.Prelude.{◌≡◌, ◌≤◌, ◌↔◌, [], length, IfOk, IsOk, IfSome, IsSome, vec_capacity};
 
-use arrayvec::ArrayVec;
+use crate::few::Few;
 use std::alloc::{AllocError, AllocFailed, Global};
 use std::marker::Model;
 
@@ -30,7 +30,7 @@ pub struct Bytes {
 /// Where the bytes of a list are.
 #[derive(Drop)]
 enum Kept {
-    Short(ArrayVec<u8, 32>),
+    Short(Few<32>),
     Long(Vec<u8>),
 }
 
@@ -62,12 +62,26 @@ impl Bytes {
         ensures value { IfSome result (λ s. s ≡ b.now) }
         ensures when { IsSome result ↔ (length b.now ≤ 32) }
     {
-        let mut short = ArrayVec::new();
-        match short.try_extend_from_slice(b) {
-            Ok(()) => Some(Bytes {
-                kept: Kept::Short(short),
+        match Few::of(b) {
+            Some(few) => Some(Bytes {
+                kept: Kept::Short(few),
             }),
-            Err(_) => None,
+            None => None,
+        }
+    }
+
+    /// An equal list that takes no memory. None where it is longer than 32 bytes. Where these bytes
+    /// are short they are copied whole, without a look at how many they are.
+    #[inline]
+    pub fn again(&self) -> Option<Bytes>
+        ensures value { IfSome result (λ s. s ≡ self.now) }
+        ensures when { IsSome result ↔ (length self.now ≤ 32) }
+    {
+        match &self.kept {
+            Kept::Short(few) => Some(Bytes {
+                kept: Kept::Short(*few),
+            }),
+            Kept::Long(items) => Bytes::short(items.as_slice()),
         }
     }
 
@@ -85,7 +99,7 @@ impl Bytes {
         ensures { result ≡ [] }
     {
         Bytes {
-            kept: Kept::Short(ArrayVec::new()),
+            kept: Kept::Short(Few::default()),
         }
     }
 
@@ -103,7 +117,7 @@ impl Bytes {
         ensures { result.now ≡ self.now }
     {
         match &self.kept {
-            Kept::Short(items) => items.as_slice(),
+            Kept::Short(few) => few.as_slice(),
             Kept::Long(items) => items.as_slice(),
         }
     }

@@ -7,6 +7,7 @@
 mod addr;
 mod bytes;
 mod events;
+mod few;
 mod limits;
 mod mesh;
 mod set;

@@ -83,76 +83,98 @@ pub fn push_text(out: &mut LineBuf, text: &[u8])
     }
 }
 
-// Appends a number below 1000 in decimal digits.
+// The two digits of each number below 100.
+static PAIRS: [u8; 200] = *b"\
+    00010203040506070809101112131415161718192021222324252627282930313233343536373839\
+    40414243444546474849505152535455565758596061626364656667686970717273747576777879\
+    8081828384858687888990919293949596979899";
+
+// The two digits of a number below 100.
 #[inline]
-#[tactic(auto, using(std::proofs::lemmas::Fmt::decimal_digit, crate::proofs::NumberLaws::appended_two, crate::proofs::NumberLaws::two_long, crate::proofs::NumberLaws::three_digits))]
-pub(crate) fn push_short(out: &mut LineBuf, n: u32)
-    requires short { n < 1000 }
+fn pair(n: u32) -> (u8, u8)
+    requires { n < 100 }
+    ensures tens { result.0 ≡ 48 + n / 10 }
+    ensures ones { result.1 ≡ 48 + n % 10 }
+{
+    let at = 2 * n as usize;
+    (PAIRS[at], PAIRS[at + 1])
+}
+
+// Appends the two digits of a number below 100.
+#[inline]
+fn push_pair(out: &mut LineBuf, n: u32)
+    requires low { n < 100 }
+    requires room { array_vec_len out.old + 2 ≤ LINE_ROOM }
+    ensures text { out.new.items ≡ out.old.items ++ (48 + n / 10) ∷ (48 + n % 10) ∷ [] }
+    ensures length { array_vec_len out.new ≡ array_vec_len out.old + 2 }
+{
+    let (tens, ones) = pair(n);
+    out.push(tens);
+    out.push(ones);
+}
+
+// Appends a number of one or two digits.
+#[inline]
+#[tactic(auto, using(std::proofs::lemmas::Fmt::decimal_digit, crate::proofs::NumberLaws::two_digits))]
+fn push_low(out: &mut LineBuf, n: u32)
+    requires low { n < 100 }
     requires room { array_vec_len out.old + length (decimal n) ≤ LINE_ROOM }
     ensures text { out.new.items ≡ out.old.items ++ decimal n }
     ensures length { array_vec_len out.new ≡ array_vec_len out.old + length (decimal n) }
 {
     if n < 10 {
         out.push(b'0' + n as u8);
-        return;
+    } else {
+        push_pair(out, n);
     }
-    if n < 100 {
-        out.push(b'0' + (n / 10) as u8);
-        out.push(b'0' + (n % 10) as u8);
-        return;
-    }
-    push_three(out, n);
 }
 
-// Appends the last three digits of a number.
+// Appends a number of at most four digits.
 #[inline]
-fn push_three(out: &mut LineBuf, n: u32)
-    requires { array_vec_len out.old + 3 ≤ LINE_ROOM }
-    ensures text { out.new.items
-        ≡ out.old.items ++ (48 + n / 100 % 10) ∷ (48 + n / 10 % 10) ∷ (48 + n % 10) ∷ [] }
-    ensures length { array_vec_len out.new ≡ array_vec_len out.old + 3 }
-{
-    out.push(b'0' + (n / 100 % 10) as u8);
-    out.push(b'0' + (n / 10 % 10) as u8);
-    out.push(b'0' + (n % 10) as u8);
-}
-
-// Appends a number of four to nine digits.
-#[inline]
-#[tactic(auto, using(crate::proofs::NumberLaws::appended_thousands, crate::proofs::NumberLaws::three_longer))]
-fn push_middle(out: &mut LineBuf, n: u32)
-    requires low { 1000 ≤ n }
-    requires high { n < 1000000000 }
+#[tactic(auto, using(crate::proofs::NumberLaws::appended_hundreds, crate::proofs::NumberLaws::two_longer))]
+pub(crate) fn push_short(out: &mut LineBuf, n: u32)
+    requires short { n < 10000 }
     requires room { array_vec_len out.old + length (decimal n) ≤ LINE_ROOM }
     ensures text { out.new.items ≡ out.old.items ++ decimal n }
     ensures length { array_vec_len out.new ≡ array_vec_len out.old + length (decimal n) }
 {
-    if n < 1_000_000 {
-        push_short(out, n / 1000);
+    if n < 100 {
+        push_low(out, n);
     } else {
-        push_short(out, n / 1000 / 1000);
-        push_three(out, n / 1000 % 1000);
+        push_low(out, n / 100);
+        push_pair(out, n % 100);
     }
-    push_three(out, n % 1000);
+}
+
+// Appends the last four digits of a number.
+#[inline]
+fn push_four(out: &mut LineBuf, n: u32)
+    requires short { n < 10000 }
+    requires room { array_vec_len out.old + 4 ≤ LINE_ROOM }
+    ensures text { out.new.items ≡ (out.old.items ++ (48 + n / 100 / 10) ∷ (48 + n / 100 % 10) ∷ [])
+        ++ (48 + n % 100 / 10) ∷ (48 + n % 100 % 10) ∷ [] }
+    ensures length { array_vec_len out.new ≡ array_vec_len out.old + 4 }
+{
+    push_pair(out, n / 100);
+    push_pair(out, n % 100);
 }
 
 /// Appends a number in decimal digits.
-#[tactic(auto, using(crate::proofs::NumberLaws::appended_thousands, crate::proofs::NumberLaws::three_longer))]
+#[tactic(auto, using(crate::proofs::NumberLaws::appended_four, crate::proofs::NumberLaws::four_longer))]
 pub fn push_decimal(out: &mut LineBuf, n: u64)
     requires { array_vec_len out.old + length (decimal n) ≤ LINE_ROOM }
     ensures text { out.new.items ≡ out.old.items ++ decimal n }
     ensures length { array_vec_len out.new ≡ array_vec_len out.old + length (decimal n) }
 {
-    if n < 1000 {
+    if n < 10_000 {
         push_short(out, n as u32);
-        return;
+    } else if n < 1_000_000 {
+        push_low(out, (n / 10_000) as u32);
+        push_four(out, (n % 10_000) as u32);
+    } else {
+        push_decimal(out, n / 10_000);
+        push_four(out, (n % 10_000) as u32);
     }
-    if n < 1_000_000_000 {
-        push_middle(out, n as u32);
-        return;
-    }
-    push_decimal(out, n / 1000);
-    push_three(out, (n % 1000) as u32);
 }
 
 /// Appends any number in decimal digits.
