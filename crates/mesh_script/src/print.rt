@@ -83,42 +83,49 @@ pub fn push_written(out: &mut LineBuf, word: &[u8], arguments: &Arguments<'_, Ad
     }
 }
 
-// The addresses of two nodes.
+// A word, and the address of a node after a space.
 #[inline(always)]
-fn two(mesh: &Mesh, a: usize, b: usize) -> Arguments<'static, Addr>
-    requires first { a < length mesh.now }
-    requires second { b < length mesh.now }
-    ensures { addresses_of result ≡ forms.TwoAddresses (addr_at mesh.now a) (addr_at mesh.now b) }
+#[tactic(auto, using(std::proofs::lemmas::List::append_assoc), unfolding(mesh_grammar::specs::Written::written))]
+fn push_one(out: &mut LineBuf, word: &[u8], mesh: &Mesh, i: usize)
+    requires node { i < length mesh.now }
+    requires room { array_vec_len out.old + length word.now + 16 ≤ LINE_ROOM }
+    ensures text { out.new.items
+        ≡ out.old.items ++ written word.now (forms.OneAddress (addr_at mesh.now i)) }
+    ensures length { array_vec_len out.new ≤ array_vec_len out.old + length word.now + 16 }
 {
-    Arguments::TwoAddresses(mesh.at(a), mesh.at(b))
+    push_text(out, word);
+    push_address(out, mesh.at(i));
 }
 
-// The word of an event and its arguments, each node by its address.
+// The same of two nodes.
 #[inline(always)]
-fn event_spelling<'a>(mesh: &Mesh, event: &Event<'a>) -> (&'static [u8], Arguments<'a, Addr>)
-    requires { IsEvent (length mesh.now) (event_of event.now) }
-    ensures value { lines.event_spelling mesh.now (event_of event.now)
-        ≡ lines.spelling result.0.now (addresses_of result.1) }
-    ensures short { length result.0.now + width_of (addresses_of result.1) ≤ LONGEST_WRITTEN }
+#[tactic(auto, using(std::proofs::lemmas::List::append_assoc), unfolding(mesh_grammar::specs::Written::written))]
+fn push_two(out: &mut LineBuf, word: &[u8], mesh: &Mesh, i: usize, j: usize)
+    requires first { i < length mesh.now }
+    requires second { j < length mesh.now }
+    requires room { array_vec_len out.old + length word.now + 32 ≤ LINE_ROOM }
+    ensures text { out.new.items ≡ out.old.items
+        ++ written word.now (forms.TwoAddresses (addr_at mesh.now i) (addr_at mesh.now j)) }
+    ensures length { array_vec_len out.new ≤ array_vec_len out.old + length word.now + 32 }
 {
-    match *event {
-        Event::Give { node, dest, body } => {
-            let ends = (mesh.at(node), mesh.at(dest));
-            (b"data", Arguments::AddressesAndText(ends.0, ends.1, body))
-        }
-        Event::Turn { node } => (b"turn", Arguments::OneAddress(mesh.at(node))),
-        Event::Send { node, dest } => (b"send", two(mesh, node, dest)),
-        Event::Ask { node, dest } => (b"ask", two(mesh, node, dest)),
-        Event::Link { a, b } => (b"link", two(mesh, a, b)),
-        Event::Cut { a, b } => (b"cut", two(mesh, a, b)),
-        Event::Deliver { id } => (b"deliver", Arguments::OneNumber(id)),
-        Event::Double { id } => (b"copy", Arguments::OneNumber(id)),
-        Event::Lose { id } => (b"lose", Arguments::OneNumber(id)),
-    }
+    push_one(out, word, mesh, i);
+    push_address(out, mesh.at(j));
+}
+
+// A word, and a number after a space.
+#[inline(always)]
+#[tactic(auto, using(std::proofs::lemmas::List::append_assoc), unfolding(mesh_grammar::specs::Written::written))]
+fn push_numbered(out: &mut LineBuf, word: &[u8], n: u64)
+    requires room { array_vec_len out.old + length word.now + 21 ≤ LINE_ROOM }
+    ensures text { out.new.items ≡ out.old.items ++ written word.now (forms.OneNumber n) }
+    ensures length { array_vec_len out.new ≤ array_vec_len out.old + length word.now + 21 }
+{
+    push_text(out, word);
+    push_argument(out, n);
 }
 
 /// Appends an event as a line of a schedule, without LF.
-#[tactic(auto, unfolding(mesh_text::specs::Lines::event_words))]
+#[tactic(auto, using(std::proofs::lemmas::List::append_assoc), unfolding(mesh_text::specs::Lines::event_words, mesh_grammar::specs::Written::written))]
 #[inline(always)]
 pub fn push_event(out: &mut LineBuf, mesh: &Mesh, event: &Event<'_>)
     requires event { IsEvent (length mesh.now) (event_of event.now) }
@@ -127,12 +134,25 @@ pub fn push_event(out: &mut LineBuf, mesh: &Mesh, event: &Event<'_>)
         ≡ out.old.items ++ lines.event_words mesh.now (event_of event.now) }
     ensures length { array_vec_len out.new ≤ array_vec_len out.old + LONGEST_WRITTEN }
 {
-    let (word, arguments) = event_spelling(mesh, event);
-    push_written(out, word, &arguments);
+    match *event {
+        Event::Give { node, dest, body } => {
+            push_two(out, b"data", mesh, node, dest);
+            out.push(b' ');
+            push_text(out, body);
+        }
+        Event::Turn { node } => push_one(out, b"turn", mesh, node),
+        Event::Send { node, dest } => push_two(out, b"send", mesh, node, dest),
+        Event::Ask { node, dest } => push_two(out, b"ask", mesh, node, dest),
+        Event::Link { a, b } => push_two(out, b"link", mesh, a, b),
+        Event::Cut { a, b } => push_two(out, b"cut", mesh, a, b),
+        Event::Deliver { id } => push_numbered(out, b"deliver", id),
+        Event::Double { id } => push_numbered(out, b"copy", id),
+        Event::Lose { id } => push_numbered(out, b"lose", id),
+    }
 }
 
 /// Appends a line in canonical form, without LF. A blank line is written as none.
-#[tactic(auto, using(crate::proofs::Allowed::append_none), unfolding(mesh_text::specs::Lines::words_of, mesh_text::specs::Lines::event_words))]
+#[tactic(auto, using(crate::proofs::Allowed::append_none), unfolding(mesh_text::specs::Lines::words_of, mesh_text::specs::Lines::event_words, mesh_grammar::specs::Written::written))]
 #[inline(always)]
 pub fn push_line(out: &mut LineBuf, mesh: &Mesh, line: &Line<'_>)
     requires printable { IsPrintable mesh.now line.now }
@@ -148,11 +168,11 @@ pub fn push_line(out: &mut LineBuf, mesh: &Mesh, line: &Line<'_>)
         }
         Line::Step(event) => push_event(out, mesh, &event),
         Line::Auto { count } => {
-            push_written(out, b"auto", &Arguments::OneNumber(u64::from(count)));
+            push_numbered(out, b"auto", u64::from(count));
         }
-        Line::Show { node } => push_written(out, b"show", &Arguments::OneAddress(mesh.at(node))),
-        Line::Route { node, dest } => push_written(out, b"route", &two(mesh, node, dest)),
-        Line::Flight => push_written(out, b"flight", &Arguments::NoArgument),
+        Line::Show { node } => push_one(out, b"show", mesh, node),
+        Line::Route { node, dest } => push_two(out, b"route", mesh, node, dest),
+        Line::Flight => push_text(out, b"flight"),
     }
 }
 
