@@ -56,11 +56,14 @@ pub(crate) fn push_labelled(out: &mut LineBuf, label: &[u8], n: u64)
     push_number(out, n);
 }
 
+// The digits of a number below 16.
+static DIGITS: [u8; 16] = *b"0123456789abcdef";
+
 fn hex_digit(d: u8) -> u8
     requires { d < 16 }
     ensures { result ≡ hex_digit d }
 {
-    if d < 10 { b'0' + d } else { b'a' - 10 + d }
+    DIGITS[d as usize]
 }
 
 // The two digits of a byte.
