@@ -21,8 +21,8 @@ use Rattle.mesh_text.specs.Runs.{moment_after, events_after, events_read}
 use Rattle.mesh_text.specs.Text.{LineOutcome, On, Refused, Full, outcome_of_read, Written, FullAt, goes_on, finished_run}
 use Rattle.mesh_text.specs.Text as text
 use Rattle.mesh_text.proofs.InRange.{Allowed, line_allowed}
-use Rattle.mesh_text.proofs.Moments.{IsKept, all_positive, opening_kept, stepped_kept, counted_kept, IsKeptCame, piece_kept as schedule_kept}
-use Rattle.mesh_text.proofs.RunLaws.{NotFull, Follows, follows, GoesBy, UsualList, result_goes, read_usual, goes_follows}
+use Rattle.mesh_text.proofs.Moments.{IsKept, UsualList, all_positive, opening_kept, stepped_kept, counted_kept, IsKeptCame, piece_kept as schedule_kept}
+use Rattle.mesh_text.proofs.RunLaws.{NotFull, Follows, follows, GoesBy, result_goes, read_usual, goes_follows}
 use Rattle.mesh_text.proofs.MomentLaws.{world_after_events, mesh_after_events, count_after_events}
 use Rattle.mesh_grid.specs.declared.place.Place.{Place}
 use Rattle.mesh_grid.specs.declared.place.Places.{Places}
