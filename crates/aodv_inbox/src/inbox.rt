@@ -40,7 +40,7 @@ impl Inbox {
     }
 
     /// Makes room for one more item. It asks for memory only where there is none. A full ring
-    /// doubles, so that many pushes take time in proportion to their number.
+    /// grows by half, so that many pushes take time in proportion to their number.
     pub fn make_room(&mut self) -> Result<(), NoMemory>
         ensures items { self.new.items ≡ self.old.items }
         ensures here { OnOk result (0 < self.new.room) }
@@ -53,7 +53,7 @@ impl Inbox {
         if self.ring.len() < most {
             return Ok(());
         }
-        let more = if most < 4 { 4 } else { 2 * most };
+        let more = if most < 4 { 4 } else { most + most / 2 };
         match self.ring.resize(more) {
             Ok(()) => Ok(()),
             Err(_) => Err(NoMemory),
