@@ -4,7 +4,12 @@ use Rattle.std.specs.List.{AllByRecursion}
 use Rattle.mesh_base.specs.declared.limits.TheConstants.{LONGEST_PACKET}
 use Rattle.mesh_base.specs.declared.events.Flying.{Flying}
 use Rattle.aodv_wire.specs.Spells.{is_data}
+use Rattle.mesh_radio.specs.declared.copies.Held.{Held}
 use Rattle.mesh_model.specs.Numbered.{find_by, without_by, AreNumberedBy, numbered_from}
+
+-- the copy in flight that is held
+abbrev pub held_seen : Held → Flying
+held_seen held = record { id = held.id; from = held.from; to = held.to; bytes = held.bytes.now }
 
 -- the copy of that id
 abbrev pub find_copy : List Flying → ℕ → Option Flying

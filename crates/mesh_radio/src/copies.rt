@@ -3,7 +3,7 @@ ghost use Rattle.std.specs.Prelude.{◌≡◌, ℕ, ◌<◌, ◌≤◌, ◌+◌,
 ghost use Rattle.mesh_base.specs.Views.{flying_seen};
 ghost use Rattle.mesh_base.specs.Members.{member_list};
 ghost use Rattle.aodv_wire.specs.Spells.{is_data};
-ghost use Rattle.mesh_radio.specs.Copies.{find_copy, IsCopyWithin, without, from_id, data_in, AreBefore, AreNumbered};
+ghost use Rattle.mesh_radio.specs.Copies.{held_seen, find_copy, IsCopyWithin, without, from_id, data_in, AreBefore, AreNumbered};
 ghost use Rattle.mesh_radio.specs.Kept.{with_flights, with_flight, with_second, with_room};
 
 use crate::casts::{Cast, Casts, Least, find, find_next, front_of, launch, least_from, remove_at};
@@ -14,6 +14,16 @@ use aodv_wire::is_data;
 use mesh_base::{Bytes, Flying, FlyingView, MOST_NODES, NoMemory, NodeSet};
 use std::alloc::Global;
 use std::marker::Model;
+
+/// A copy in flight. Its packet, which copies of one cast share, is lent as it is kept, so that it
+/// can be copied whole.
+#[derive(Clone, Copy)]
+pub struct Held<'a> {
+    pub id: u64,
+    pub from: usize,
+    pub to: usize,
+    pub bytes: &'a Bytes,
+}
 
 /// The copies in flight, as casts: a cast stands at the id of its first copy, and its copies have
 /// that id and the next ones, by rising receiver. A copy is found by the place of its cast, a
@@ -107,16 +117,16 @@ impl Copies {
 
     /// The copy of this id.
     #[inline(always)]
-    pub fn get(&self, id: u64) -> Option<FlyingView<'_>>
-        ensures { option_map flying_seen result ≡ find_copy self.now.flying id }
+    pub fn get(&self, id: u64) -> Option<Held<'_>>
+        ensures { option_map held_seen result ≡ find_copy self.now.flying id }
     {
         let spot = find(&self.casts, &self.least, id)?;
         let (_, cast) = self.casts.get_index(spot.place)?;
-        Some(FlyingView {
+        Some(Held {
             id,
             from: cast.from,
             to: spot.to,
-            bytes: cast.bytes.as_slice(),
+            bytes: &cast.bytes,
         })
     }
 

@@ -13,4 +13,5 @@ mod radio;
 mod rooms;
 mod shelf;
 
+pub use copies::Held;
 pub use radio::Radio;

@@ -5,11 +5,11 @@ ghost use Rattle.std.specs.List.{AllByRecursion};
 ghost use Rattle.std.specs.FinSet as sets;
 ghost use Rattle.mesh_base.specs.Views.{flying_seen};
 ghost use Rattle.mesh_model.specs.Worlds.{are_linked, linked_below};
-ghost use Rattle.mesh_radio.specs.Copies.{find_copy, from_id, data_in, AreBefore, AreNumbered, IsBetween, longest_packet};
+ghost use Rattle.mesh_radio.specs.Copies.{held_seen, find_copy, from_id, data_in, AreBefore, AreNumbered, IsBetween, longest_packet};
 ghost use Rattle.mesh_radio.specs.Radios.{opening, most_copies_at_first, with_more_room, with_link, without_link, with_copies, with_copy, with_double, without_copy, receivers, AreLinksOf};
 
 use crate::adjacency::Adjacency;
-use crate::copies::Copies;
+use crate::copies::{Copies, Held};
 use mesh_base::{Air, Flying, FlyingView, LONGEST_PACKET, MOST_NODES, NoMemory, NodeSet, Packet};
 use std::alloc::Global;
 use std::marker::Model;
@@ -196,6 +196,20 @@ impl Radio {
     #[inline(always)]
     pub fn find(&self, id: u64) -> Option<FlyingView<'_>>
         ensures { option_map flying_seen result ≡ find_copy self.now.flying id }
+    {
+        let held = self.copies.get(id)?;
+        Some(FlyingView {
+            id: held.id,
+            from: held.from,
+            to: held.to,
+            bytes: held.bytes.as_slice(),
+        })
+    }
+
+    /// The same, with its packet as it is kept.
+    #[inline(always)]
+    pub fn held(&self, id: u64) -> Option<Held<'_>>
+        ensures { option_map held_seen result ≡ find_copy self.now.flying id }
     {
         self.copies.get(id)
     }

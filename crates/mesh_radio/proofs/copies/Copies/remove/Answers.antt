@@ -1,7 +1,7 @@
 use Rattle.std.proofs.Common.{◌≡◌, ◌∙◌, ℕ, cond, length, ap, sym, subst, arith}
 use Rattle.indexmap.specs.IndexMap.{IndexMap, spare}
 use Rattle.aodv_wire.specs.Spells.{is_data}
-use Rattle.mesh_radio.specs.Copies.{find_copy, without, data_in}
+use Rattle.mesh_radio.specs.Copies.{without, data_in}
 use Rattle.mesh_radio.specs.Kept.{Flights}
 use Rattle.mesh_radio.proofs.Finds.{without_none}
 use Rattle.mesh_radio.specs.Casts.{Entry, copies_of, AreGone}
