@@ -5,9 +5,7 @@ use Rattle.std.proofs.Math.Seq.{set-get_or}
 use Rattle.std.specs.List.{AllByRecursion}
 use Rattle.std.proofs.lemmas.Option.{same_Some, none-some}
 use Rattle.mesh_base.specs.Meshes.{Nodes}
-use Rattle.mesh_base.specs.Views.{flying_seen}
 use Rattle.mesh_base.specs.declared.events.Flying.{Flying}
-use Rattle.mesh_base.specs.declared.events.FlyingView.{FlyingView}
 use Rattle.mesh_base.specs.declared.events.Item as items
 use Rattle.mesh_base.specs.declared.events.Item.TheVariants as item
 use Rattle.mesh_base.specs.declared.events.Done.TheVariants as done
@@ -22,7 +20,9 @@ use Rattle.mesh_model.specs.Places.{IsCopyInMesh}
 use Rattle.mesh_model.specs.Choices.{may_turn_in, first_send_in, first_ask_in}
 use Rattle.mesh_model.proofs.Steps.{found_honest}
 use Rattle.mesh_radio.specs.Copies as radios
+use Rattle.mesh_radio.specs.Copies.{held_seen}
 use Rattle.mesh_radio.specs.Radios.{RadioState, without_copy}
+use Rattle.mesh_radio.specs.declared.copies.Held.{Held}
 use Rattle.mesh_meaning.specs.Packets.{IsWritten, IsWrittenItem, IsWrittenCopy, copy_in}
 use Rattle.mesh_world.specs.Seen.{node_in}
 use Rattle.mesh_world.specs.Kept.{Ready, IsKept, IsKeptNode, IsReadyFor, world_in}
@@ -134,14 +134,14 @@ found_all P [] id g all e = absurd (none-some g e)
 found_all P (f ∷ fs) id g all e = found_if_all P (f.id == id) f g (radios.find_copy fs id) all.0 (found_all P fs id g all.1) e
 
 -- the copy that is looked at is the one in flight
-abbrev pub IsFound : Option FlyingView → RadioState → ℕ → Type 0
-IsFound o radio id = option_map flying_seen o ≡ radios.find_copy radio.flying id
+abbrev pub IsFound : Option Held → RadioState → ℕ → Type 0
+IsFound o radio id = option_map held_seen o ≡ radios.find_copy radio.flying id
 
-pub found_seen : (radio : RadioState) (id : ℕ) (o : Option FlyingView) (seen : FlyingView) → IsFound o radio id → o ≡ Some seen → radios.find_copy radio.flying id ≡ Some (flying_seen seen)
-found_seen radio id o seen is some = sym is ∙ ap (option_map flying_seen) some
+pub found_seen : (radio : RadioState) (id : ℕ) (o : Option Held) (seen : Held) → IsFound o radio id → o ≡ Some seen → radios.find_copy radio.flying id ≡ Some (held_seen seen)
+found_seen radio id o seen is some = sym is ∙ ap (option_map held_seen) some
 
-pub none_seen : (radio : RadioState) (id : ℕ) (o : Option FlyingView) → IsFound o radio id → o ≡ None → radios.find_copy radio.flying id ≡ None
-none_seen radio id o is none = sym is ∙ ap (option_map flying_seen) none
+pub none_seen : (radio : RadioState) (id : ℕ) (o : Option Held) → IsFound o radio id → o ≡ None → radios.find_copy radio.flying id ≡ None
+none_seen radio id o is none = sym is ∙ ap (option_map held_seen) none
 
 -- what the world keeps of a copy in flight
 pub record InFlight (mesh : Nodes) (f : Flying) : Type 0 where
@@ -172,13 +172,13 @@ pub record Seen (mesh : Nodes) (radio : RadioState) (id to : ℕ) (f : Flying) :
   pub receiver : f.to ≡ to
   pub flies : InFlight mesh f
 
-pub seen_flying : (mesh : Nodes) (nodes : List NodeSeen) (radio : RadioState) (ready : Ready) (steps id : ℕ) (o : Option FlyingView) (seen : FlyingView) → IsKept mesh nodes radio ready steps → IsFound o radio id → o ≡ Some seen → Seen mesh radio id seen.to (flying_seen seen)
+pub seen_flying : (mesh : Nodes) (nodes : List NodeSeen) (radio : RadioState) (ready : Ready) (steps id : ℕ) (o : Option Held) (seen : Held) → IsKept mesh nodes radio ready steps → IsFound o radio id → o ≡ Some seen → Seen mesh radio id seen.to (held_seen seen)
 seen_flying mesh nodes radio ready steps id o seen k is some =
-    let here : radios.find_copy radio.flying id ≡ Some (flying_seen seen) = found_seen radio id o seen is some in
-    record { found = here; receiver = refl; flies = in_flight mesh nodes radio ready steps id (flying_seen seen) k here }
+    let here : radios.find_copy radio.flying id ≡ Some (held_seen seen) = found_seen radio id o seen is some in
+    record { found = here; receiver = refl; flies = in_flight mesh nodes radio ready steps id (held_seen seen) k here }
 
 -- its receiver is a node
-pub receiver_in : (mesh : Nodes) (nodes : List NodeSeen) (radio : RadioState) (ready : Ready) (steps id : ℕ) (o : Option FlyingView) (seen : FlyingView) → IsKept mesh nodes radio ready steps → IsFound o radio id → o ≡ Some seen → seen.to < length mesh
+pub receiver_in : (mesh : Nodes) (nodes : List NodeSeen) (radio : RadioState) (ready : Ready) (steps id : ℕ) (o : Option Held) (seen : Held) → IsKept mesh nodes radio ready steps → IsFound o radio id → o ≡ Some seen → seen.to < length mesh
 receiver_in mesh nodes radio ready steps id o seen k is some = (seen_flying mesh nodes radio ready steps id o seen k is some).flies.to
 
 shown_without : (mesh : Nodes) (nodes : List NodeSeen) (old new : RadioState) (id : ℕ) → new ≡ without_copy old id → worlds.without_copy (world_in mesh nodes old) id ≡ world_in mesh nodes new
@@ -218,18 +218,18 @@ deliver_done mesh nodes radio radio' ready ready' steps id to f n roomy new pack
     (subst (λ (y : ℕ). slice_get nodes y ≡ Some n → ready' ≡ noted ready y new (length mesh) → Ends (Deliver id) mesh nodes radio steps (Ok (done.Heard f.from y)) (slice_set nodes y new) radio' ready' (steps + 1) packet) t.receiver
     (λ here are. deliver_here mesh nodes radio radio' ready ready' steps id f n new packet k few t.found t.flies gone here j are) at noted_is)
 
-pub deliver_idle : (mesh : Nodes) (nodes : List NodeSeen) (radio : RadioState) (ready : Ready) (steps id : ℕ) (o : Option FlyingView) (packet : List ℕ) → IsKept mesh nodes radio ready steps → steps < 2 ^ 48 → IsFound o radio id → o ≡ None
+pub deliver_idle : (mesh : Nodes) (nodes : List NodeSeen) (radio : RadioState) (ready : Ready) (steps id : ℕ) (o : Option Held) (packet : List ℕ) → IsKept mesh nodes radio ready steps → steps < 2 ^ 48 → IsFound o radio id → o ≡ None
     → Ends (Deliver id) mesh nodes radio steps (Ok done.Idle) nodes radio ready (steps + 1) packet
 deliver_idle mesh nodes radio ready steps id o packet k few is none =
     let e = none_seen radio id o is none in
     ends_idle (Deliver id) mesh nodes radio ready steps nodes radio packet k few (deliver_at (world_in mesh nodes radio) id None (shown_none mesh nodes radio id e)) refl (later mesh nodes radio ready steps (beside mesh nodes radio ready steps k))
 
 -- the copy that is seen, with bytes of its own
-owned : (radio : RadioState) (id : ℕ) (o : Option FlyingView) (seen : FlyingView) (f : Flying) → IsFound o radio id → o ≡ Some seen → f ≡ record (flying_seen seen) { bytes = f.bytes } → f.bytes ≡ seen.bytes.now → radios.find_copy radio.flying id ≡ Some f
-owned radio id o seen f is some same copy = found_seen radio id o seen is some ∙ ap Some (sym (same ∙ (λ i. record (flying_seen seen) { bytes = copy i })))
+owned : (radio : RadioState) (id : ℕ) (o : Option Held) (seen : Held) (f : Flying) → IsFound o radio id → o ≡ Some seen → f ≡ record (held_seen seen) { bytes = f.bytes } → f.bytes ≡ seen.bytes.now → radios.find_copy radio.flying id ≡ Some f
+owned radio id o seen f is some same copy = found_seen radio id o seen is some ∙ ap Some (sym (same ∙ (λ i. record (held_seen seen) { bytes = copy i })))
 
-pub lose_done : (mesh : Nodes) (nodes : List NodeSeen) (radio radio' : RadioState) (ready : Ready) (steps id : ℕ) (o : Option FlyingView) (seen : FlyingView) (f : Flying) (packet : List ℕ) → IsKept mesh nodes radio ready steps → steps < 2 ^ 48 → IsFound o radio id → o ≡ Some seen
-    → f ≡ record (flying_seen seen) { bytes = f.bytes } → f.bytes ≡ seen.bytes.now → radio' ≡ without_copy radio id → Ends (Lose id) mesh nodes radio steps (Ok (done.Lost f)) nodes radio' ready (steps + 1) packet
+pub lose_done : (mesh : Nodes) (nodes : List NodeSeen) (radio radio' : RadioState) (ready : Ready) (steps id : ℕ) (o : Option Held) (seen : Held) (f : Flying) (packet : List ℕ) → IsKept mesh nodes radio ready steps → steps < 2 ^ 48 → IsFound o radio id → o ≡ Some seen
+    → f ≡ record (held_seen seen) { bytes = f.bytes } → f.bytes ≡ seen.bytes.now → radio' ≡ without_copy radio id → Ends (Lose id) mesh nodes radio steps (Ok (done.Lost f)) nodes radio' ready (steps + 1) packet
 lose_done mesh nodes radio radio' ready steps id o seen f packet k few is some same copy gone =
     let w = world_in mesh nodes radio in
     let found = owned radio id o seen f is some same copy in
@@ -246,7 +246,7 @@ lose_done mesh nodes radio radio' ready steps id o seen f packet k few is some s
       sets = k.sets;
     })
 
-pub lose_idle : (mesh : Nodes) (nodes : List NodeSeen) (radio : RadioState) (ready : Ready) (steps id : ℕ) (o : Option FlyingView) (packet : List ℕ) → IsKept mesh nodes radio ready steps → steps < 2 ^ 48 → IsFound o radio id → o ≡ None
+pub lose_idle : (mesh : Nodes) (nodes : List NodeSeen) (radio : RadioState) (ready : Ready) (steps id : ℕ) (o : Option Held) (packet : List ℕ) → IsKept mesh nodes radio ready steps → steps < 2 ^ 48 → IsFound o radio id → o ≡ None
     → Ends (Lose id) mesh nodes radio steps (Ok done.Idle) nodes radio ready (steps + 1) packet
 lose_idle mesh nodes radio ready steps id o packet k few is none =
     let e = none_seen radio id o is none in

@@ -5,9 +5,7 @@ use Rattle.std.specs.List.{AllByRecursion}
 use Rattle.std.proofs.lemmas.Option.{same_Some}
 use Rattle.mesh_base.specs.Meshes.{Nodes}
 use Rattle.mesh_base.specs.declared.events.Flying.{Flying}
-use Rattle.mesh_base.specs.declared.events.FlyingView.{FlyingView}
 use Rattle.mesh_base.specs.declared.events.Done.TheVariants as done
-use Rattle.mesh_base.specs.Views.{flying_seen}
 use Rattle.aodv_model.specs.Cores.{Message, Pkt, Rreq, Rrep, Rerr}
 use Rattle.aodv_meaning.specs.Meaning.{meaning}
 use Rattle.aodv_node.specs.Seen.{NodeSeen}
@@ -17,7 +15,9 @@ use Rattle.mesh_model.specs.Accounts.{any, in_message}
 use Rattle.mesh_model.proofs.Doublings.{doubling_few}
 use Rattle.aodv_wire.specs.Spells as packets
 use Rattle.mesh_radio.specs.Copies as radios
+use Rattle.mesh_radio.specs.Copies.{held_seen}
 use Rattle.mesh_radio.specs.Radios.{RadioState, with_double}
+use Rattle.mesh_radio.specs.declared.copies.Held.{Held}
 use Rattle.mesh_meaning.specs.Packets.{IsWritten, IsWrittenCopy, copy_in}
 use Rattle.mesh_world.specs.Counted.{one_if}
 use Rattle.mesh_world.specs.Seen.{node_in}
@@ -58,13 +58,13 @@ parcel_is mesh b written = parcel_if (meaning mesh b) (packets.is_data b) (packe
 
 -- ---- the event
 
-pub double_done : (mesh : Nodes) (nodes : List NodeSeen) (old radio radio' : RadioState) (ready : Ready) (steps id new to : ℕ) (parcel : Bool) (o : Option FlyingView) (seen : FlyingView) (t : Option (ℕ × ℕ)) (packet : List ℕ)
+pub double_done : (mesh : Nodes) (nodes : List NodeSeen) (old radio radio' : RadioState) (ready : Ready) (steps id new to : ℕ) (parcel : Bool) (o : Option Held) (seen : Held) (t : Option (ℕ × ℕ)) (packet : List ℕ)
     → IsKept mesh nodes old ready steps → steps < 2 ^ 48 → IsFound o old id → o ≡ Some seen → parcel ≡ packets.is_data seen.bytes.now → radio ≡ record old { room = radio.room; most = radio.most }
     → t ≡ option_map (λ (f : Flying). (radio.next_copy, f.to)) (radios.find_copy radio.flying id) → t ≡ Some (new, to) → radio' ≡ with_double radio (radios.find_copy radio.flying id)
     → Ends (Double id) mesh nodes old steps (Ok (done.Doubled new to parcel)) nodes radio' ready (steps + 1) packet
 unfolding world_in
 double_done mesh nodes old radio radio' ready steps id new to parcel o seen t packet k few is some kind rooms told answer doubled =
-    let f = flying_seen seen in
+    let f = held_seen seen in
     let w = world_in mesh nodes radio in
     let r = roomed mesh nodes old radio ready steps rooms k in
     let found : radios.find_copy radio.flying id ≡ Some f = ap (λ (s : RadioState). radios.find_copy s.flying id) rooms ∙ found_seen old id o seen is some in
@@ -88,7 +88,7 @@ double_done mesh nodes old radio radio' ready steps id new to parcel o seen t pa
       sets = r.sets;
     }))
 
-pub double_idle : (mesh : Nodes) (nodes : List NodeSeen) (radio : RadioState) (ready : Ready) (steps id : ℕ) (o : Option FlyingView) (packet : List ℕ) → IsKept mesh nodes radio ready steps → steps < 2 ^ 48 → IsFound o radio id → o ≡ None
+pub double_idle : (mesh : Nodes) (nodes : List NodeSeen) (radio : RadioState) (ready : Ready) (steps id : ℕ) (o : Option Held) (packet : List ℕ) → IsKept mesh nodes radio ready steps → steps < 2 ^ 48 → IsFound o radio id → o ≡ None
     → Ends (Double id) mesh nodes radio steps (Ok done.Idle) nodes radio ready (steps + 1) packet
 double_idle mesh nodes radio ready steps id o packet k few is none =
     let e = none_seen radio id o is none in

@@ -2,19 +2,18 @@
 use Rattle.std.proofs.Common.{◌≡◌, ◌<◌, ◌+◌, ◌^◌, ℕ, zero, suc, length, arith, Bool, true, false, not, List, [], ◌∷◌, map, Option, Some, None, Ok, refl, ap, sym, subst, ◌∙◌}
 use Rattle.std.specs.Prelude.{slice_get, is_some, option_map, if◌then◌else◌}
 use Rattle.mesh_base.specs.Meshes.{Nodes}
-use Rattle.mesh_base.specs.Views.{flying_seen}
 use Rattle.mesh_base.specs.declared.events.Counter.{Counter}
 use Rattle.mesh_base.specs.declared.events.Done.TheVariants as done
 use Rattle.mesh_base.specs.declared.events.Flying.{Flying}
-use Rattle.mesh_base.specs.declared.events.FlyingView.{FlyingView}
 use Rattle.mesh_base.specs.declared.events.Item as items
 use Rattle.aodv_model.specs.Cores.{Body}
 use Rattle.aodv_model.specs.Handlers.{may_send, may_ask}
 use Rattle.aodv_meaning.specs.Effects.{item_in}
 use Rattle.aodv_node.specs.Seen.{NodeSeen}
 use Rattle.mesh_model.specs.Worlds.{World, Event, Give, Turn, Send, Ask, Deliver, Lose, Double, Happening, Outcome, Idle, Next, Full, unless_full, turn_of, step}
-use Rattle.mesh_radio.specs.Copies.{find_copy}
+use Rattle.mesh_radio.specs.Copies.{held_seen, find_copy}
 use Rattle.mesh_radio.specs.Radios.{RadioState}
+use Rattle.mesh_radio.specs.declared.copies.Held.{Held}
 use Rattle.mesh_meaning.specs.Packets.{copy_in}
 use Rattle.mesh_world.specs.Seen.{node_in}
 use Rattle.mesh_world.specs.Kept.{world_in}
@@ -78,7 +77,7 @@ pub receiver_is_some : (o : Option ℕ) (p : Option Flying) → o ≡ option_map
 receiver_is_some o None is = ap is_some is
 receiver_is_some o (Some f) is = ap is_some is
 
-pub found_is_some : (o : Option FlyingView) (p : Option Flying) → option_map flying_seen o ≡ p → is_some o ≡ is_some p
+pub found_is_some : (o : Option Held) (p : Option Flying) → option_map held_seen o ≡ p → is_some o ≡ is_some p
 found_is_some None p is = ap is_some is
 found_is_some (Some seen) p is = ap is_some is
 

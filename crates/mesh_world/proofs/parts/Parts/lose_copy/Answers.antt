@@ -10,21 +10,21 @@ pub returns-in_default-clause-done : goal.returns-in_default-clause-done
 returns-in_default-clause-done c = λ packet.
     let old = c.args.self.now in
     told_done _ _ _ _ _ _ _ _ (
-    of_ends _ old _ _ _ _ _ _ (lose_idle old.mesh old.nodes.items old.radio old.ready old.steps c.args.id c.find.result packet c.requires.kept c.requires.few c.find.ensures c.in_default.is)
+    of_ends _ old _ _ _ _ _ _ (lose_idle old.mesh old.nodes.items old.radio old.ready old.steps c.args.id c.held.result packet c.requires.kept c.requires.few c.held.ensures c.in_default.is)
     ) c.tell.ensures.tally c.tell.ensures.told
 
 pub returns-clause-done : goal.returns-clause-done
 returns-clause-done c = λ packet.
     let old = c.args.self.now in
     told_done _ _ _ _ _ _ _ _ (
-    of_ends _ old _ _ _ _ _ _ (lose_done old.mesh old.nodes.items old.radio c.remove.new.self old.ready old.steps c.args.id c.find.result c.in-Some.found _ packet
-    c.requires.kept c.requires.few c.find.ensures c.in-Some.is refl c.in_ok-copy_of.ensures.copy c.remove.ensures)
+    of_ends _ old _ _ _ _ _ _ (lose_done old.mesh old.nodes.items old.radio c.remove.new.self old.ready old.steps c.args.id c.held.result c.in-Some.held _ packet
+    c.requires.kept c.requires.few c.held.ensures c.in-Some.is refl (c.in_ok-copy_of.ensures.copy ∙ c.as_slice.ensures) c.remove.ensures)
     ) c.tell-2.ensures.tally c.tell-2.ensures.told
 
 pub returns-in_err-copy_of-clause-memory : goal.returns-in_err-copy_of-clause-memory
 returns-in_err-copy_of-clause-memory c = λ short.
     let old = c.args.self.now in
-    sym (needs_lose old.mesh old.nodes.items old.radio c.args.id _ refl) ∙ sym (found_is_some c.find.result _ c.find.ensures) ∙ ap is_some c.in-Some.is
+    sym (needs_lose old.mesh old.nodes.items old.radio c.args.id _ refl) ∙ sym (found_is_some c.held.result _ c.held.ensures) ∙ ap is_some c.in-Some.is
 
 pub returns-in_err-copy_of-clause-done : goal.returns-in_err-copy_of-clause-done
 returns-in_err-copy_of-clause-done c = λ packet. told_short _ _ _ _ _ _ _ c.from_residual.ensures.1 (record { step = search rules; kept = search rules })
