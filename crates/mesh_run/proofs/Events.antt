@@ -27,7 +27,8 @@ use Rattle.mesh_run.specs.declared.stop.Stop.{Stop}
 use Rattle.mesh_run.specs.declared.stop.Stop.TheVariants as stop
 use Rattle.mesh_world.specs.declared.steps.StepError.{StepError}
 use Rattle.mesh_world.specs.declared.steps.StepError.TheVariants as errors
-use Rattle.mesh_run.specs.Moments.{IsAnswer, IsRefusal, event_stop_of, stop_of}
+use Rattle.mesh_moment.specs.Moments.{IsAnswer, IsRefusal}
+use Rattle.mesh_run.specs.Stops.{event_stop_of, stop_of}
 use Rattle.mesh_run.specs.Runs.{output_if, IsLineDone, IsLineFull, IsLineStopped, outcome_by}
 use Rattle.mesh_run.proofs.Shown.{shown_none}
 use Rattle.mesh_run.proofs.OwnNode.{step_own}

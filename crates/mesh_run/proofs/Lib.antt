@@ -2,14 +2,10 @@ pub mod Telling
 pub mod Shown
 pub mod OwnNode
 pub mod Events
-pub mod Counts
-pub mod OfVariant
-pub mod Sound
 pub mod Begun
 pub mod Chosen
 pub mod Ways
 pub mod Tables
-pub mod Choices
 pub mod Completes
 pub mod Story
 pub mod NextCopies

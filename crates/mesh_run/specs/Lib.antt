@@ -1,12 +1,11 @@
 -- Codes: the status with which a process ends. Told: what was told of a run. This is what the
 -- contract of `run` cites beside the definitions of mesh_text. Causes: when a fault is answered.
--- Variants: the variants of the protocol, by name. The others say what the parts of a run do. Sums:
--- what was counted. Moments: what every moment of a run has, and what an event answers at one.
--- Runs: what was told of one line, of one event, and of events that were chosen.
+-- Variants: the variants of the protocol, by name. The others say what the parts of a run do.
+-- Stops: why an event isn't done. Runs: what was told of one line, of one event, and of events that
+-- were chosen.
 pub mod Codes
 pub mod Told
 pub mod Causes
 pub mod Variants
-pub mod Sums
-pub mod Moments
+pub mod Stops
 pub mod Runs

@@ -1,8 +1,7 @@
 //! Events that the run chooses, one after another.
 ghost use Rattle.std.specs.Prelude.{◌≡◌, ◌<◌, ◌≤◌, ◌+◌, ◌^◌, length, is_some, true, false, OnOk, OnErr, IfOk, IfSome, option_map};
-ghost use Rattle.mesh_model.specs.Choices.{pick};
 ghost use Rattle.mesh_meaning.specs.Events.{event_of};
-ghost use Rattle.mesh_text.specs.Schedule.{Chooses, world_of};
+ghost use Rattle.mesh_text.specs.Schedule.{Chooses};
 ghost use Rattle.mesh_text.specs.Text.{outcome_of_line};
 ghost use Rattle.mesh_text.specs.Auto.{outcome_of_events, events_chosen};
 ghost use Rattle.mesh_grammar.specs.Written.{line as line_of_words};
@@ -12,31 +11,15 @@ ghost use Rattle.mesh_script.specs.Seen.{IsPrintable};
 ghost use Rattle.mesh_run.specs.Causes.{HasStopCause};
 ghost use Rattle.mesh_run.specs.Runs.{output_if, IsLineOf, IsLineOfGiven, IsUncountedRun, IsEventsRun, IsReached, next_in, events_due};
 
-use crate::choice::pick;
 use crate::commands::do_event;
-use crate::point::Point;
 use crate::stop::Stop;
 use mesh_base::{Event, LONGEST_LINE, LineBuf};
 use mesh_io::{PutFault, Sink};
+use mesh_moment::{Point, next_event};
 use mesh_report::{put_auto_end, put_echo};
 use mesh_script::Line;
 use mesh_world::Steps;
 use std::alloc::Global;
-
-/// The event that comes next where the run chooses.
-pub fn next_event<S: Steps>(at: &Point<S>) -> Option<Event<'static>>
-    requires { is_some at.now.world ≡ true }
-    ensures value { option_map event_of result ≡ pick (world_of at.now) }
-    ensures printable { IfSome result (λ e. IsPrintable at.now.mesh (Line.Step e)) }
-{
-    let Some(state) = at.world() else {
-        unreachable!();
-    };
-    let world = state.world();
-    // A world is sound: its mesh has nodes, and no more than a mesh may have.
-    let _mesh = world.mesh();
-    pick(world)
-}
 
 /// Events that are to be done, and the moment at which they are.
 ///

@@ -14,16 +14,16 @@ ghost use Rattle.mesh_text.specs.Runs.{events_of_line};
 ghost use Rattle.mesh_io.specs.Cause.{HasCause};
 ghost use Rattle.mesh_io.specs.Puts.{Puts};
 ghost use Rattle.mesh_script.specs.Seen.{accepted_of, IsPrintable, IsAllowed};
-ghost use Rattle.mesh_run.specs.Moments.{answer_of, event_stop_of};
+ghost use Rattle.mesh_run.specs.Stops.{answer_of, event_stop_of};
 ghost use Rattle.mesh_run.specs.Causes.{HasStopCause};
 ghost use Rattle.mesh_run.specs.Runs.{output_if, line_outcome_at, IsLineOf, IsLineRun, IsUncountedRun, IsReached, IsOnTheWay};
 
 use crate::auto::{Task, do_auto, do_events};
-use crate::point::Point;
 use crate::show::{Shown, do_show};
 use crate::stop::{EventStop, Stop};
 use mesh_base::{Addr, Done, Event, LONGEST_LINE, LineBuf, Mesh, Packet};
 use mesh_io::{PutFault, Sink};
+use mesh_moment::Point;
 use mesh_report::{put_echoed_event, put_event, put_line};
 use mesh_script::Line;
 use mesh_world::{StepError, Steps};

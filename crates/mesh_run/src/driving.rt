@@ -5,17 +5,17 @@ ghost use Rattle.mesh_base.specs.declared.limits.TheConstants.{LONGEST_INPUT, MO
 ghost use Rattle.mesh_text.specs.Schedule.{opening};
 ghost use Rattle.mesh_text.specs.Text.{text_on};
 ghost use Rattle.mesh_io.specs.Buffering.{inner_of, gathered_in, held_by};
-ghost use Rattle.mesh_run.specs.Moments.{IsSafe};
+ghost use Rattle.mesh_moment.specs.Moments.{IsSafe};
 ghost use Rattle.mesh_run.specs.Causes.{HasStatusCause, HasSourceCause};
-ghost use Rattle.mesh_run.specs.Sums.{IsGrown};
+ghost use Rattle.mesh_moment.specs.Sums.{IsGrown};
 ghost use Rattle.mesh_run.specs.Told.{say_by, IsOutputFrom};
 
 use crate::lines::do_lines;
-use crate::point::Point;
 use crate::say::Say;
 use crate::status::Status;
 use mesh_base::Variant;
 use mesh_io::{BufferRoom, Buffered, Lines, Loan, Sink, Source, Through};
+use mesh_moment::Point;
 use mesh_world::Steps;
 use std::alloc::Global;
 use std::marker::Brand;

@@ -3,16 +3,16 @@ ghost use Rattle.std.specs.Prelude.{◌≡◌, ◌≢◌, ◌<◌, ◌^◌, [], 
 ghost use Rattle.mesh_model.specs.Places.{IsEvent};
 ghost use Rattle.mesh_meaning.specs.Events.{event_of};
 ghost use Rattle.mesh_text.specs.Text.{refused_run, overfull_run, finished_run};
-ghost use Rattle.mesh_run.specs.Moments.{IsSafe};
+ghost use Rattle.mesh_moment.specs.Moments.{IsSafe};
 ghost use Rattle.mesh_run.specs.Causes.{HasStatusCause};
 ghost use Rattle.mesh_run.specs.Told.{said, IsOutput};
 
-use crate::point::Point;
 use crate::say::Say;
 use crate::status::Status;
 use mesh_base::{Counter, Event};
 use mesh_grammar::BadWhy;
 use mesh_io::Sink;
+use mesh_moment::Point;
 use mesh_report::{put_bad, put_full, put_summary};
 use mesh_world::Steps;
 

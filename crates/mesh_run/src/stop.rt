@@ -1,7 +1,7 @@
 //! Why a line isn't done.
 ghost use Rattle.std.specs.Prelude.{◌≡◌};
 ghost use Rattle.mesh_meaning.specs.Events.{event_of, node_of};
-ghost use Rattle.mesh_run.specs.Moments.{stop_of};
+ghost use Rattle.mesh_run.specs.Stops.{stop_of};
 ghost use Rattle.mesh_run.specs.declared.stop.Stop.TheVariants as stops;
 
 use mesh_base::{Counter, Event, NoMemory};

@@ -10,7 +10,7 @@ ghost use Rattle.mesh_meaning.specs.Events.{event_of};
 ghost use Rattle.mesh_text.specs.Schedule.{Moment, stepped, outcome_at, Does};
 ghost use Rattle.mesh_text.specs.Effects.{outcome_lines};
 ghost use Rattle.mesh_script.specs.Seen.{IsPrintable};
-ghost use Rattle.mesh_run.specs.Moments.{IsAnswer};
+ghost use Rattle.mesh_moment.specs.Moments.{IsAnswer};
 ghost use Rattle.mesh_run.specs.Causes.{HasStopCause};
 ghost use Rattle.mesh_run.specs.Runs.{IsLineOf, IsLineRun};
 ghost use Rattle.mesh_watch.specs.Blocks.{changed_by, shown_node, block_below};

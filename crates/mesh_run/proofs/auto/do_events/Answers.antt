@@ -5,7 +5,7 @@ use Rattle.mesh_meaning.specs.Events.{event_of}
 use Rattle.mesh_script.specs.Seen.{IsPrintable}
 use Rattle.mesh_script.specs.declared.line.Line.TheVariants as line
 use Rattle.mesh_run.specs.declared.stop.Stop.{Stop}
-use Rattle.mesh_run.specs.Moments.{stop_of}
+use Rattle.mesh_run.specs.Stops.{stop_of}
 use Rattle.mesh_run.specs.Runs.{IsLineOfGiven, events_due}
 use Rattle.mesh_run.proofs.Chosen.{due_all, due_none, due_counts, nothing_more, ran_goes, ran_stops}
 use Rattle.mesh_run.proofs.Events.{stepped_started, stepped_mesh, stepped_lines, stepped_steps}

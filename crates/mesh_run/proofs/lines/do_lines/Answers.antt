@@ -11,7 +11,7 @@ use Rattle.mesh_text.specs.Schedule.{Moment}
 use Rattle.mesh_text.specs.Text.{text_from, text_on, outcome_of_piece}
 use Rattle.mesh_run.specs.Told.{said, is_quiet, IsOutput}
 use Rattle.mesh_run.specs.Runs.{IsLineDone}
-use Rattle.mesh_run.specs.Sums.{IsGrown}
+use Rattle.mesh_moment.specs.Sums.{IsGrown}
 use Rattle.mesh_run.proofs.Faults.{cause_as, cause_after, no_cause, a_cause, unsome}
 use Rattle.mesh_run.proofs.Growth.{grown_same, grown_both, steps_more}
 use Rattle.mesh_run.proofs.Story.{story_begins, story_kept, story_goes, story_stops, story_ends, story_after, story_long, story_much, story_breaks, story_cut}

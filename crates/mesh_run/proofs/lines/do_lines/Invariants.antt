@@ -4,7 +4,7 @@ use Rattle.mesh_base.specs.declared.limits.TheConstants.{LONGEST_INPUT, MOST_EVE
 use Rattle.mesh_io.specs.Buffering.{inner_of, held_by}
 use Rattle.mesh_io.specs.Reading.{source_of, given_of, ahead_of, has_ended, faults_of}
 use Rattle.mesh_text.specs.Text.{text_from, text_on}
-use Rattle.mesh_run.specs.Sums.{IsGrown}
+use Rattle.mesh_moment.specs.Sums.{IsGrown}
 use Rattle.mesh_run.proofs.Story.{IsStory}
 use Rattle.mesh_run.proofs.lines.do_lines.Given as goal
 

@@ -7,7 +7,7 @@ use Rattle.mesh_meaning.specs.Answers.{IsDoneInMesh}
 use Rattle.mesh_text.specs.Schedule.{Does}
 use Rattle.mesh_script.specs.Seen.{IsPrintable}
 use Rattle.mesh_script.specs.declared.line.Line.TheVariants as line
-use Rattle.mesh_run.specs.Moments.{IsAnswer}
+use Rattle.mesh_moment.specs.Moments.{IsAnswer}
 use Rattle.mesh_run.specs.Runs.{IsLineOf}
 use Rattle.mesh_run.proofs.Events.{answer_mesh, stepped_started}
 use Rattle.mesh_watch.proofs.event.do_event.Goals as goal

@@ -1,0 +1,4 @@
+pub mod Counts
+pub mod OfVariant
+pub mod Sound
+pub mod Choices
