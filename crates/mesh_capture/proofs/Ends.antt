@@ -5,7 +5,7 @@ use Rattle.std.specs.Io.KnownBytes.{Appends, Keeps}
 use Rattle.mesh_io.specs.Puts.{AppendsPrefix}
 use Rattle.mesh_capture.specs.Frames.{file_header}
 use Rattle.mesh_capture.specs.Captures.{capture_of}
-use Rattle.mesh_capture.specs.Told.{IsFile}
+use Rattle.mesh_capture.specs.Outputs.{IsFile}
 use Rattle.mesh_capture.specs.Leads.{IsRefused}
 use Rattle.mesh_capture.specs.declared.status.CaptureStatus.{CaptureStatus}
 use Rattle.mesh_capture.specs.declared.status.CaptureStatus.TheVariants.{Done, Usage, BadLine, ReadFault, WriteFault, NoMemory}

@@ -13,7 +13,7 @@ use Rattle.mesh_printed.proofs.Pieces.{pieces_at, pieces_none, IsAhead, GoesPast
 use Rattle.mesh_capture.specs.declared.frame.Frame.{Frame}
 use Rattle.mesh_capture.specs.Copies.{Reading, Told, nothing_read, after_line}
 use Rattle.mesh_capture.specs.Captures.{Capture, framed_if, then_captured, captured_from}
-use Rattle.mesh_capture.specs.Told.{IsFile}
+use Rattle.mesh_capture.specs.Outputs.{IsFile}
 use Rattle.mesh_capture.specs.Leads.{Leads}
 use Rattle.mesh_capture.specs.declared.status.CaptureStatus.{CaptureStatus}
 use Rattle.mesh_capture.specs.declared.status.CaptureStatus.TheVariants.{Done, Usage, BadLine, ReadFault, WriteFault, NoMemory}

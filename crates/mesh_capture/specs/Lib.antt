@@ -5,8 +5,8 @@ pub mod Frames
 pub mod Copies
 -- Captures: the capture of a whole text.
 pub mod Captures
--- Told: what is written and answered.
-pub mod Told
+-- Outputs: what is written and answered.
+pub mod Outputs
 -- Causes: when a fault is answered.
 pub mod Causes
 -- Codes: the status with which the process ends.

@@ -5,7 +5,7 @@ ghost use Rattle.mesh_io.specs.Cause.{HasCause};
 ghost use Rattle.mesh_io.specs.Puts.{Puts};
 ghost use Rattle.mesh_capture.specs.Frames.{file_header, framed};
 ghost use Rattle.mesh_capture.specs.Kept.{most_lines};
-ghost use Rattle.mesh_capture.specs.Told.{bad_line};
+ghost use Rattle.mesh_capture.specs.Outputs.{bad_line};
 
 use crate::frame::{Frame, FrameBuf, put_file_header};
 use arrayvec::ArrayVec;
@@ -34,7 +34,7 @@ pub fn put_frame<O: Sink>(frame: &Frame, buf: &mut FrameBuf, out: &mut O) -> Res
 }
 
 /// Writes that a line is refused.
-#[tactic(auto, unfolding(crate::specs::Told::bad_line))]
+#[tactic(auto, unfolding(crate::specs::Outputs::bad_line))]
 pub fn put_bad<O: Sink>(line: u64, out: &mut O) -> Result<(), PutFault>
     ensures text { Puts (O.held out.old) (O.held out.new) (bad_line line) result }
     ensures cause { HasCause (O.faults out.old) (O.faults out.new) result }

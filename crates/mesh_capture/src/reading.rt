@@ -11,7 +11,7 @@ ghost use Rattle.mesh_printed.specs.Pieces.{Piece, Whole, pieces_within};
 ghost use Rattle.mesh_capture.specs.Copies.{nothing_read};
 ghost use Rattle.mesh_capture.specs.Kept.{most_lines};
 ghost use Rattle.mesh_capture.specs.Captures.{captured_from, framed_if};
-ghost use Rattle.mesh_capture.specs.Told.{IsFile};
+ghost use Rattle.mesh_capture.specs.Outputs.{IsFile};
 ghost use Rattle.mesh_capture.specs.Leads.{Leads};
 ghost use Rattle.mesh_capture.specs.Causes.{HasCauseIf, HasStatusCause};
 

@@ -7,7 +7,7 @@ ghost use Rattle.mesh_io.specs.NextLines.{text_limits};
 ghost use Rattle.mesh_printed.specs.Pieces.{pieces_within};
 ghost use Rattle.mesh_capture.specs.Copies.{nothing_read};
 ghost use Rattle.mesh_capture.specs.Captures.{capture_of, captured_from};
-ghost use Rattle.mesh_capture.specs.Told.{IsFile, IsSaid, IsDecided};
+ghost use Rattle.mesh_capture.specs.Outputs.{IsFile, IsSaid, IsDecided};
 ghost use Rattle.mesh_capture.specs.Leads.{IsRefused};
 ghost use Rattle.mesh_capture.specs.Causes.{HasSourceCause, HasStatusCause};
 

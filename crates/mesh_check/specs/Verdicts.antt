@@ -49,7 +49,8 @@ IsRight (Shows shown) WriteFault text = ⊥
 IsRight (Shows shown) NoMemory text = ⊥
 
 -- the right answer was given and its line written
-pub record IsTold (before now : Option (List ℕ)) (s : Says) (status : CheckStatus) : Type 0 where
+pub record IsWholeOutput (before now : Option (List ℕ)) (s : Says) (status : CheckStatus)
+    : Type 0 where
   pub text : List ℕ
   pub right : IsRight s status text
   pub written : Appends before now text
@@ -63,14 +64,14 @@ pub record IsCutShort (before now : Option (List ℕ)) (s : Says) : Type 0 where
 
 -- what the sink held before and holds now, and the answer: nothing is written of a text that
 -- couldn't be read
-abbrev pub Told : Option (List ℕ) → Option (List ℕ) → Says → CheckStatus → Type 0
-Told before now s Yes = IsTold before now s Yes
-Told before now s No = IsTold before now s No
-Told before now s (BadLine n) = IsTold before now s (BadLine n)
-Told before now s Usage = ⊥
-Told before now s ReadFault = now ≡ before
-Told before now s WriteFault = IsCutShort before now s
-Told before now s NoMemory = now ≡ before
+abbrev pub IsOutput : Option (List ℕ) → Option (List ℕ) → Says → CheckStatus → Type 0
+IsOutput before now s Yes = IsWholeOutput before now s Yes
+IsOutput before now s No = IsWholeOutput before now s No
+IsOutput before now s (BadLine n) = IsWholeOutput before now s (BadLine n)
+IsOutput before now s Usage = ⊥
+IsOutput before now s ReadFault = now ≡ before
+IsOutput before now s WriteFault = IsCutShort before now s
+IsOutput before now s NoMemory = now ≡ before
 
 -- no destination has a cycle in the tables that a text shows
 abbrev pub HasNoCycle : Says → Type 0

@@ -3,7 +3,7 @@ ghost use Rattle.std.specs.Prelude.{◌≡◌, ◌≢◌, ◌↔◌, ◌<◌, �
 ghost use Rattle.std.specs.Io.KnownBytes.{IsAtEnd};
 ghost use Rattle.mesh_io.specs.Cause.{Rose};
 ghost use Rattle.mesh_check.specs.Says.{says, Refuses, Shows};
-ghost use Rattle.mesh_check.specs.Verdicts.{Told, HasNoCycle, IsDecided};
+ghost use Rattle.mesh_check.specs.Verdicts.{IsOutput, HasNoCycle, IsDecided};
 
 use crate::lines::{put_bad, put_no, put_yes};
 use crate::reading::{Unread, read_tables};
@@ -14,7 +14,7 @@ use std::alloc::Global;
 
 // Says whether tables are sound.
 fn tell<O: Sink>(tables: &PrintedTables, out: &mut O) -> CheckStatus
-    ensures told { Told (O.held out.old) (O.held out.new) (Shows tables.now.closed) result }
+    ensures told { IsOutput (O.held out.old) (O.held out.new) (Shows tables.now.closed) result }
     ensures acyclic { result ≡ CheckStatus.Yes → HasNoCycle (Shows tables.now.closed) }
     ensures write { result ≡ CheckStatus.WriteFault
         → Rose (O.faults out.old) (O.faults out.new) }
@@ -36,7 +36,7 @@ fn tell<O: Sink>(tables: &PrintedTables, out: &mut O) -> CheckStatus
 
 // Says that a line is refused.
 fn refuse<O: Sink>(line: u64, out: &mut O) -> CheckStatus
-    ensures told { Told (O.held out.old) (O.held out.new) (Refuses line) result }
+    ensures told { IsOutput (O.held out.old) (O.held out.new) (Refuses line) result }
     ensures write { result ≡ CheckStatus.WriteFault
         → Rose (O.faults out.old) (O.faults out.new) }
     ensures yes { result ≢ CheckStatus.Yes }
@@ -68,7 +68,7 @@ pub fn check<I: Source, O: Sink>(
     // The answer is the one that is right for the text, and its line is what is written. After a
     // failed write it is a prefix of that line; after a failed read, or want of memory, nothing.
     ensures answer_and_line { length words.now ≡ 0 → IfSome (I.left input.old) (λ text.
-        Told (O.held out.old) (O.held out.new) (says text) result) }
+        IsOutput (O.held out.old) (O.held out.new) (says text) result) }
 
     // Where the answer is Yes, no destination has a cycle in the tables that were shown.
     ensures loop_free { result ≡ CheckStatus.Yes

@@ -6,7 +6,7 @@ use Rattle.mesh_io.proofs.Writing.{Appends-keeps, AppendsPrefix-keeps, AppendsPr
 use Rattle.mesh_run.specs.declared.status.Status.{Status}
 use Rattle.mesh_run.specs.declared.status.Status.TheVariants as status
 use Rattle.mesh_text.specs.Text.{Written, whole}
-use Rattle.mesh_run.specs.Told.{IsOutput}
+use Rattle.mesh_run.specs.Outputs.{IsOutput}
 use Rattle.mesh_cli.specs.Does.{IsWritten}
 
 -- the whole of a text is a prefix of it

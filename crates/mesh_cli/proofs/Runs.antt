@@ -10,7 +10,7 @@ use Rattle.mesh_run.specs.declared.status.Status.{Status}
 use Rattle.mesh_run.specs.declared.status.Status.TheVariants as status
 use Rattle.mesh_run.specs.declared.say.Say.{Say}
 use Rattle.mesh_run.specs.declared.say.Say.TheVariants.{All, Last, Faults}
-use Rattle.mesh_run.specs.Told.{said, say_by, IsOutput, IsOutputFrom}
+use Rattle.mesh_run.specs.Outputs.{part, say_by, IsOutput, IsOutputFrom}
 use Rattle.mesh_cli.specs.declared.words.Plan.{Plan}
 use Rattle.mesh_cli.specs.declared.words.Command.{Command}
 use Rattle.mesh_cli.specs.declared.words.Command.TheVariants.{Run, Make, Trial}
@@ -38,14 +38,14 @@ runs_so variant quiet None after a b s t = tt
 runs_so variant quiet (Some bytes) after a b s t = (t, λ k d. runs_are_loop_free variant bytes k d)
 
 -- the same of a made schedule
-pub trial_so : (variant : Variant) (plan : Plan) (left after a b : Option (List ℕ)) (s : Status) → IsOutput a b (said Last (text_of_input variant (made_by plan))) s
+pub trial_so : (variant : Variant) (plan : Plan) (left after a b : Option (List ℕ)) (s : Status) → IsOutput a b (part Last (text_of_input variant (made_by plan))) s
     → IsCommandRun (Trial variant plan) left after a b s
 trial_so variant plan left after a b s t = (t, λ k d. runs_are_loop_free variant (made_by plan) k d)
 
 -- ---- completeness
 
 -- where nothing has failed, and each line is allowed and no counter full, a run is done, unless memory runs out
-run_completes : (say : Say) (w : Written) (a b : Option (List ℕ)) (s : Status) → (s ≡ status.ReadFault → ⊥) → (s ≡ status.WriteFault → ⊥) → IsOutput a b (said say w) s → w.verdict ≡ Finished → IsDoneOrShort s
+run_completes : (say : Say) (w : Written) (a b : Option (List ℕ)) (s : Status) → (s ≡ status.ReadFault → ⊥) → (s ≡ status.WriteFault → ⊥) → IsOutput a b (part say w) s → w.verdict ≡ Finished → IsDoneOrShort s
 run_completes say w a b status.Done read write t finished = inl refl
 run_completes All w a b (status.BadLine n) read write t finished = absurd (let clash = sym finished ∙ t.0 in let P : ⊥ = cc in P)
 run_completes Last w a b (status.BadLine n) read write t finished = absurd (let clash = sym finished ∙ t.0 in let P : ⊥ = cc in P)

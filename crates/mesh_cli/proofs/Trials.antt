@@ -9,20 +9,20 @@ use Rattle.mesh_text.specs.Text.{Written, LineOutcome, On, goes_on, finished_run
 use Rattle.mesh_run.specs.declared.say.Say.TheVariants.{Last}
 use Rattle.mesh_run.specs.declared.status.Status.{Status}
 use Rattle.mesh_run.specs.Runs.{IsLineDone}
-use Rattle.mesh_run.specs.Told.{said, IsOutput}
+use Rattle.mesh_run.specs.Outputs.{part, IsOutput}
 use Rattle.mesh_run.proofs.Telling.{told_before}
 
 -- where a text runs on by a line, the rest of a run says the same last line
-pub said_on : (v : Written) (m n : Moment) (k : LineOutcome) (text : List ℕ) (others : Moment → Written) → v ≡ goes_on m k others → k ≡ On text n → said Last (others n) ≡ said Last v
-said_on v m n k text others goes on = sym (ap (said Last) (goes ∙ ap (λ c. goes_on m c others) on))
+pub said_on : (v : Written) (m n : Moment) (k : LineOutcome) (text : List ℕ) (others : Moment → Written) → v ≡ goes_on m k others → k ≡ On text n → part Last (others n) ≡ part Last v
+said_on v m n k text others goes on = sym (ap (part Last) (goes ∙ ap (λ c. goes_on m c others) on))
 
 -- what is told after nothing was written
-pub told_here : (v w : Written) (a b c : Option (List ℕ)) (s : Status) → said Last v ≡ said Last w → Appends a b [] → IsOutput b c (said Last v) s → IsOutput a c (said Last w) s
+pub told_here : (v w : Written) (a b c : Option (List ℕ)) (s : Status) → part Last v ≡ part Last w → Appends a b [] → IsOutput b c (part Last v) s → IsOutput a c (part Last w) s
 told_here v w a b c s same none t = told_before Last w w [] a b c s refl none (subst (λ x. IsOutput b c x s) same t)
 
 -- the same where a line ends the run
-pub told_on : (v x w : Written) (a b c : Option (List ℕ)) (s : Status) → v ≡ x → said Last v ≡ said Last w → Appends a b [] → IsOutput b c (said Last x) s → IsOutput a c (said Last w) s
-told_on v x w a b c s goes same none t = told_here v w a b c s same none (subst (λ y. IsOutput b c (said Last y) s) (sym goes) t)
+pub told_on : (v x w : Written) (a b c : Option (List ℕ)) (s : Status) → v ≡ x → part Last v ≡ part Last w → Appends a b [] → IsOutput b c (part Last x) s → IsOutput a c (part Last w) s
+told_on v x w a b c s goes same none t = told_here v w a b c s same none (subst (λ y. IsOutput b c (part Last y) s) (sym goes) t)
 
 -- one line more of which nothing is written
 pub still_none : (k : LineOutcome) (n : Moment) (a b c : Option (List ℕ)) → Appends a b [] → IsLineDone true k n b c → Appends a c []
@@ -35,7 +35,7 @@ ended m text none = ap (text_on m) none
 
 -- the whole schedule
 pub told_whole : (m : Moment) (variant : Variant) (text whole : List ℕ) (a b : Option (List ℕ)) (s : Status) → m ≡ opening variant → text ≡ whole
-    → IsOutput a b (said Last (text_on m text)) s → IsOutput a b (said Last (text_of_input variant whole)) s
+    → IsOutput a b (part Last (text_on m text)) s → IsOutput a b (part Last (text_of_input variant whole)) s
 unfolding text_of_input
 told_whole m variant text whole a b s same all t =
-    subst (λ (x : List ℕ). IsOutput a b (said Last (text_on (opening variant) x)) s) all (subst (λ (k : Moment). IsOutput a b (said Last (text_on k text)) s) same t)
+    subst (λ (x : List ℕ). IsOutput a b (part Last (text_on (opening variant) x)) s) all (subst (λ (k : Moment). IsOutput a b (part Last (text_on k text)) s) same t)

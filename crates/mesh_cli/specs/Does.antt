@@ -11,7 +11,7 @@ use Rattle.mesh_text.specs.Runs.{world_after}
 use Rattle.mesh_run.specs.declared.status.Status.{Status}
 use Rattle.mesh_run.specs.declared.status.Status.TheVariants as status
 use Rattle.mesh_run.specs.declared.say.Say.TheVariants.{Last}
-use Rattle.mesh_run.specs.Told.{said, say_by, IsOutput, IsOutputFrom}
+use Rattle.mesh_run.specs.Outputs.{part, say_by, IsOutput, IsOutputFrom}
 use Rattle.mesh_cli.specs.declared.words.Plan.{Plan}
 use Rattle.mesh_cli.specs.declared.words.Command.{Command}
 use Rattle.mesh_cli.specs.declared.words.Command.TheVariants.{Run, Make, Trial}
@@ -53,7 +53,7 @@ IsCommandRun (Run variant quiet) left after before now s =
     × IsLoopFreeRun variant bytes)
 IsCommandRun (Make plan) left after before now s = IsWritten before now (made_by plan) s
 IsCommandRun (Trial variant plan) left after before now s =
-    IsOutput before now (said Last (text_of_input variant (made_by plan))) s
+    IsOutput before now (part Last (text_of_input variant (made_by plan))) s
     × IsLoopFreeRun variant (made_by plan)
 
 -- the command was done, or memory ran out

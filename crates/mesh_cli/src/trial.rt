@@ -6,7 +6,7 @@ ghost use Rattle.mesh_text.specs.Text.{text_on, text_of_input};
 ghost use Rattle.mesh_make.specs.Making.{IsMaking, HasCome, still_to_come};
 ghost use Rattle.mesh_run.specs.declared.say.Say.TheVariants.{Last};
 ghost use Rattle.mesh_run.specs.Causes.{HasStatusCause};
-ghost use Rattle.mesh_run.specs.Told.{said, IsOutput};
+ghost use Rattle.mesh_run.specs.Outputs.{part, IsOutput};
 ghost use Rattle.mesh_cli.specs.Words.{IsPlan};
 ghost use Rattle.mesh_cli.specs.Does.{made_by};
 
@@ -27,7 +27,7 @@ fn do_made<O: Sink>(alloc: Global, at: &mut Point<World>, maker: &mut Maker, out
     requires few { at.old.lines < 2 ^ 61 }
     requires steps { at.old.steps < 2 ^ 46 }
     ensures told { IsOutput (O.held out.old) (O.held out.new)
-        (said Last (text_on at.old (still_to_come maker.old))) result }
+        (part Last (text_on at.old (still_to_come maker.old))) result }
     ensures write { HasStatusCause Status.WriteFault (O.faults out.old) (O.faults out.new) result }
     ensures read { result ≢ Status.ReadFault }
     ensures words { result ≢ Status.Usage }
@@ -51,7 +51,7 @@ fn trial_gathered<O: Sink>(
 ) -> Status
     requires { IsPlan plan }
     ensures told { IsOutput (held_by O.held buffer.old) (held_by O.held buffer.new)
-        (said Last (text_of_input variant (made_by plan))) result }
+        (part Last (text_of_input variant (made_by plan))) result }
     ensures handed_on { result ≢ Status.WriteFault → gathered_in buffer.new ≡ [] }
     ensures write { HasStatusCause Status.WriteFault
         (O.faults (inner_of buffer.old)) (O.faults (inner_of buffer.new)) result }
@@ -84,7 +84,7 @@ fn trial_through<'s, O: Sink, L: Loan>(
     requires start { O.held out.now ≡ L.start }
     ensures same { result.ghost_name ≡ out.entry.ghost_name }
     ensures told { IsOutput (O.held out.entry.now) (O.held result.now)
-        (said Last (text_of_input variant (made_by plan))) status.new }
+        (part Last (text_of_input variant (made_by plan))) status.new }
     ensures write { HasStatusCause Status.WriteFault
         (O.faults out.entry.now) (O.faults result.now) status.new }
     ensures read { status.new ≢ Status.ReadFault }
@@ -101,7 +101,7 @@ fn trial_through<'s, O: Sink, L: Loan>(
 pub fn trial<O: Sink>(alloc: Global, variant: Variant, plan: Plan, out: &mut O) -> Status
     requires { IsPlan plan }
     ensures told { IsOutput (O.held out.old) (O.held out.new)
-        (said Last (text_of_input variant (made_by plan))) result }
+        (part Last (text_of_input variant (made_by plan))) result }
     ensures write { HasStatusCause Status.WriteFault (O.faults out.old) (O.faults out.new) result }
     ensures read { result ≢ Status.ReadFault }
     ensures words { result ≢ Status.Usage }

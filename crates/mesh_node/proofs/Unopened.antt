@@ -5,7 +5,7 @@ use Rattle.mesh_link.specs.Datagrams.{Datagram}
 use Rattle.mesh_router.specs.declared.status.NodeStatus.TheVariants.{LinkFault}
 use Rattle.mesh_router.specs.Finds.{arrivals}
 use Rattle.mesh_router.specs.Text.{run_of_script}
-use Rattle.mesh_router.specs.Told.{Outputs}
+use Rattle.mesh_router.specs.Outputs.{Outputs}
 use Rattle.mesh_router.specs.Output.{IsScriptRun}
 use Rattle.mesh_router.proofs.Saying.{prefix-none}
 

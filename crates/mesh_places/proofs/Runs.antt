@@ -8,7 +8,7 @@ use Rattle.mesh_run.specs.declared.status.Status.TheVariants as status
 use Rattle.mesh_grid.specs.Text.{Moment, opening, text_of_input}
 use Rattle.mesh_grid.proofs.PlaceRuns.{worlds_are_of_events, runs_with_places_are_loop_free}
 use Rattle.mesh_grid.proofs.LinkLaws.{links_follow_places}
-use Rattle.mesh_places.specs.Told.{IsOutputFrom, IsPlacedRun, IsRun}
+use Rattle.mesh_places.specs.Outputs.{IsOutputFrom, IsPlacedRun, IsRun}
 
 placed_run : (reach : ℕ) (schedule : List ℕ) → IsPlacedRun reach schedule
 placed_run reach schedule = record {

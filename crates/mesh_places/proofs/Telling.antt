@@ -12,7 +12,7 @@ use Rattle.mesh_text.specs.Text as texts
 use Rattle.mesh_text.specs.Text.{Written, LineOutcome, text_in, On, Refused, goes_on, lines_before, whole, finished_run, refused_run, overfull_run}
 use Rattle.mesh_run.specs.declared.say.Say.TheVariants.{All}
 use Rattle.mesh_run.specs.declared.status.Status.{Status}
-use Rattle.mesh_run.specs.Told.{IsOutput}
+use Rattle.mesh_run.specs.Outputs.{IsOutput}
 use Rattle.mesh_run.specs.Runs.{IsLineFull}
 use Rattle.mesh_run.proofs.Telling.{front_of_came, refused_told, bad_told, full_told}
 use Rattle.mesh_grid.specs.Text.{Moment, outcome_of_piece, places_after, next, text_from}

@@ -1,9 +1,9 @@
 -- Read in this order.
 -- Words: the reach that the words of a command line ask for.
 pub mod Words
--- Told: what was told of a run with places. This is what the contract of the top call cites beside
--- the definitions of mesh_grid.
-pub mod Told
+-- Outputs: what was told of a run with places. This is what the contract of the top call cites
+-- beside the definitions of mesh_grid.
+pub mod Outputs
 -- The other says what the parts of a run do.
 -- Moments: a moment of a run with places, and what was told of one line.
 pub mod Moments

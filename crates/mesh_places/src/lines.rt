@@ -6,10 +6,10 @@ ghost use Rattle.mesh_io.specs.Reading.{faults_of, given_of, pending_of, source_
 ghost use Rattle.mesh_grammar.specs.Lines.{Piece, Whole};
 ghost use Rattle.mesh_run.specs.Causes.{HasCauseIf, HasStatusCause};
 ghost use Rattle.mesh_run.specs.Runs.{IsLineDone};
-ghost use Rattle.mesh_run.specs.Told.{IsOutput};
+ghost use Rattle.mesh_run.specs.Outputs.{IsOutput};
 ghost use Rattle.mesh_grid.specs.Text.{text_from, outcome_of_piece, places_after};
 ghost use Rattle.mesh_places.specs.Moments.{moment_of};
-ghost use Rattle.mesh_places.specs.Told.{IsOutputFrom};
+ghost use Rattle.mesh_places.specs.Outputs.{IsOutputFrom};
 
 use crate::placed::{Placed, do_line};
 use mesh_base::{LONGEST_LINE, MOST_EVENTS};

@@ -9,7 +9,7 @@ ghost use Rattle.mesh_text.specs.Text.{Finished};
 ghost use Rattle.mesh_grid.specs.Text.{text_of_input};
 ghost use Rattle.mesh_places.specs.Moments.{moment_of};
 ghost use Rattle.mesh_places.specs.Words.{reach_of};
-ghost use Rattle.mesh_places.specs.Told.{IsOutputFrom, IsRun};
+ghost use Rattle.mesh_places.specs.Outputs.{IsOutputFrom, IsRun};
 
 use crate::lines::do_lines;
 use crate::placed::Placed;

@@ -23,7 +23,7 @@ use Rattle.mesh_router.specs.Routers.{Router}
 use Rattle.mesh_router.specs.Casts.{effect_said}
 use Rattle.mesh_router.specs.Turns.{StepOutcome, Goes, said_before, act_of, idle_line}
 use Rattle.mesh_router.specs.Lines.{step_of}
-use Rattle.mesh_router.specs.Told.{Outputs, Adds, AddsPrefix, IsFault, HasCauses, HasSinkCause}
+use Rattle.mesh_router.specs.Outputs.{Outputs, Adds, AddsPrefix, IsFault, HasCauses, HasSinkCause}
 use Rattle.mesh_router.specs.Peers.{reached, code_said, act_said}
 use Rattle.mesh_router.specs.Runs.{said_in, IsStepRun}
 use Rattle.mesh_router.proofs.Saying.{adds-none, adds-join}

@@ -24,7 +24,7 @@ use Rattle.mesh_model.specs.Worlds.{members_below}
 use Rattle.mesh_base.proofs.Ranks.{members-none, members-next}
 use Rattle.mesh_report.proofs.Copies.{members-front}
 use Rattle.mesh_router.specs.Said.{Said, followed_by}
-use Rattle.mesh_router.specs.Told.{Outputs, Adds, AddsPrefix}
+use Rattle.mesh_router.specs.Outputs.{Outputs, Adds, AddsPrefix}
 use Rattle.mesh_router.specs.Casts.{port_at, sent_to, sent_to_each}
 use Rattle.mesh_router.proofs.Saying.{said-nil, said-assoc, adds-none, adds-join, adds-equal, prefix-join, prefix-more}
 

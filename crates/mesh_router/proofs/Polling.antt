@@ -16,7 +16,7 @@ use Rattle.mesh_router.specs.Said.{Said, nothing, written, followed_by}
 use Rattle.mesh_router.specs.Routers.{Router}
 use Rattle.mesh_router.specs.Finds.{Find, next_find, later_finds, AreNext, left_after, AreFound}
 use Rattle.mesh_router.specs.Polls.{Polled, polled, polled_by, polls_of, found_next, found_text, datagram_next, datagram_text, datagram_said, none_line}
-use Rattle.mesh_router.specs.Told.{Outputs, Adds, AddsPrefix}
+use Rattle.mesh_router.specs.Outputs.{Outputs, Adds, AddsPrefix}
 use Rattle.mesh_router.specs.Runs.{IsTaken, IsFoundOne, IsFoundNone, IsPolled, IsPolledInPart, IsPollStep, IsPollRun, IsPollLine, IsNotFull}
 use Rattle.mesh_router.specs.Short.{IsPollShort}
 use Rattle.mesh_router.proofs.Saying.{said-assoc, said-nil, adds-none, adds-join, adds-text, prefix-none, prefix-join, prefix-more, prefix-text}

@@ -13,7 +13,7 @@ use Rattle.mesh_router.specs.Turns.{StepOutcome, Goes, Stopped}
 use Rattle.mesh_router.specs.Finds.{Find, left_after, AreFound}
 use Rattle.mesh_router.specs.Polls.{polls_of}
 use Rattle.mesh_router.specs.Lines.{LineOutcome, On, words_at, refused_words, joined, stepped, polled_line, step_of, outcome_of_line}
-use Rattle.mesh_router.specs.Told.{Outputs, Adds, AddsPrefix}
+use Rattle.mesh_router.specs.Outputs.{Outputs, Adds, AddsPrefix}
 use Rattle.mesh_router.specs.Runs.{said_in, said_of, IsCommand, IsStepRun, IsPollLineDone, IsPollLineInPart, IsNotFull, IsLineInPart, IsLineRun}
 use Rattle.mesh_base.specs.declared.limits.TheConstants.{LONGEST_INPUT}
 use Rattle.mesh_peers.specs.Peers.{no_peers}

@@ -9,7 +9,7 @@ use Rattle.mesh_io.proofs.Writing.{Appends-join, Appends-none}
 use Rattle.mesh_link.specs.Datagrams.{Datagram}
 use Rattle.mesh_router.specs.declared.stop.Stop.{Stop}
 use Rattle.mesh_router.specs.Said.{Said, Byte, Sent, nothing, written, followed_by, text_of, sent_of}
-use Rattle.mesh_router.specs.Told.{Outputs, SendsAll, Adds, AddsPrefix, Says, HasCauses}
+use Rattle.mesh_router.specs.Outputs.{Outputs, SendsAll, Adds, AddsPrefix, Says, HasCauses}
 
 -- ---- what is said
 

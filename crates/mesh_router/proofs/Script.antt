@@ -23,7 +23,7 @@ use Rattle.mesh_router.specs.Routers.{Moment, peers_in, is_running, opening_mome
 use Rattle.mesh_router.specs.Finds.{Find, left_after, arrivals, AreFound}
 use Rattle.mesh_router.specs.Lines.{LineOutcome, On, Refused, Full, outcome_of_piece, outcome_of_read, outcome_of_line}
 use Rattle.mesh_router.specs.Text.{Run, finished_run, refused_run, overfull_run, run_after, goes_on, run_from, run_of_script, full_line}
-use Rattle.mesh_router.specs.Told.{Outputs, Adds, AddsPrefix}
+use Rattle.mesh_router.specs.Outputs.{Outputs, Adds, AddsPrefix}
 use Rattle.mesh_router.specs.Runs.{said_of, IsLineDone, IsLineFull, IsLineInPart}
 use Rattle.mesh_router.specs.Output.{IsOutput, IsTold, IsScriptRun}
 use Rattle.mesh_router.proofs.Saying.{adds-join, prefix-none, prefix-join, prefix-more}

@@ -36,7 +36,7 @@ use Rattle.mesh_router.specs.Routers.{Router}
 use Rattle.mesh_router.specs.Casts.{sent_to_each, reached_by, cast_packet, effect_said}
 use Rattle.mesh_router.specs.Turns as turns
 use Rattle.mesh_router.specs.Turns.{TurnOutcome, StepOutcome, Goes, Stopped, said_before, with_others, turns_of, turn_on, next_turn, handled, handled_turn, packet_turn, dropped_turn, turn_said, drop_line, refusal_words, stranger_words, idle_line}
-use Rattle.mesh_router.specs.Told.{Outputs, Adds, AddsPrefix, IsFault}
+use Rattle.mesh_router.specs.Outputs.{Outputs, Adds, AddsPrefix, IsFault}
 use Rattle.mesh_router.specs.Peers.{reached, code_said}
 use Rattle.mesh_router.specs.Runs.{said_by, said_in, IsTurnDone, IsTurnIdle, IsTurnFull, IsTurnRun, IsStepDone, IsStepFull, IsStepRun}
 use Rattle.mesh_router.specs.Short.{IsTurnShort, HoldsAfter, AreTurnsShort}

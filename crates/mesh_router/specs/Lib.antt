@@ -15,8 +15,8 @@ pub mod Polls
 pub mod Lines
 -- Text: what it writes and sends for its script, and its verdict.
 pub mod Text
--- Told: what a call has put on a sink and sent over a link.
-pub mod Told
+-- Outputs: what a call has put on a sink and sent over a link.
+pub mod Outputs
 -- Peers: what the code asks of a peer.
 pub mod Peers
 -- Seen: what is seen of a router, and what every one keeps.

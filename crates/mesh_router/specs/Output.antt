@@ -6,7 +6,7 @@ use Rattle.mesh_router.specs.declared.status.NodeStatus.{NodeStatus}
 use Rattle.mesh_router.specs.declared.status.NodeStatus.TheVariants.{Done, Usage, BadLine, Full, ReadFault, WriteFault, NoMemory, LinkFault}
 use Rattle.mesh_router.specs.Finds.{Find, AreNext, AreFound, arrivals}
 use Rattle.mesh_router.specs.Text.{Run, run_of_script}
-use Rattle.mesh_router.specs.Told.{Outputs, Adds, AddsPrefix}
+use Rattle.mesh_router.specs.Outputs.{Outputs, Adds, AddsPrefix}
 
 -- a run that was to say this has answered: all of it and its verdict, or a prefix of it and a fault
 -- or want of memory

@@ -16,7 +16,7 @@ use Rattle.mesh_router.specs.Turns as turns
 use Rattle.mesh_router.specs.Turns.{TurnOutcome, StepOutcome, Goes, Stopped, idle_line}
 use Rattle.mesh_router.specs.Finds.{Find, AreNext, left_after, AreFound}
 use Rattle.mesh_router.specs.Polls.{polled, polls_of, found_next, found_text, datagram_next, datagram_said, none_line}
-use Rattle.mesh_router.specs.Told.{Outputs, Adds, AddsPrefix}
+use Rattle.mesh_router.specs.Outputs.{Outputs, Adds, AddsPrefix}
 
 -- ---- a turn
 

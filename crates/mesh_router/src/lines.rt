@@ -6,7 +6,7 @@ ghost use Rattle.mesh_peers.specs.Seen.{accepted_of, IsAllowed, IsPrintable};
 ghost use Rattle.mesh_router.specs.Routers.{peers_in, router_in, is_running, Running};
 ghost use Rattle.mesh_router.specs.Lines as lines;
 ghost use Rattle.mesh_router.specs.Lines.{outcome_of_line, refused_words, words_at, step_of};
-ghost use Rattle.mesh_router.specs.Told.{HasCauses, HasSinkCause};
+ghost use Rattle.mesh_router.specs.Outputs.{HasCauses, HasSinkCause};
 ghost use Rattle.mesh_router.specs.Seen.{HasCounts, IsGrown, most_grown};
 ghost use Rattle.mesh_router.specs.Runs.{IsStepRun, IsPollLine, IsLineRun, IsCommand};
 

@@ -4,7 +4,7 @@ ghost use Rattle.arrayvec.specs.ArrayVec.{array_vec_len};
 ghost use Rattle.mesh_io.specs.Cause.{HasCause};
 ghost use Rattle.mesh_io.specs.Puts.{Puts};
 ghost use Rattle.mesh_router.specs.Polls.{heard_line, strange_port_line};
-ghost use Rattle.mesh_router.specs.Told.{HasCauses, HasSinkCause};
+ghost use Rattle.mesh_router.specs.Outputs.{HasCauses, HasSinkCause};
 ghost use Rattle.mesh_router.specs.Seen.{HasCounts, IsGrown};
 ghost use Rattle.mesh_peers.specs.Peers.{at_port};
 ghost use Rattle.mesh_router.specs.Runs.{IsNotFull, IsTaken, IsPollStep, IsPollRun};

@@ -16,7 +16,7 @@ ghost use Rattle.aodv_model.specs.Soundness.{IsDatum};
 ghost use Rattle.mesh_meaning.specs.Answers.{IsCastWritten};
 ghost use Rattle.mesh_router.specs.Said.{written};
 ghost use Rattle.mesh_router.specs.Peers.{IsPeer, ArePeers, reached, act_said};
-ghost use Rattle.mesh_router.specs.Told.{Says, HasCauses, HasSinkCause, IsFault};
+ghost use Rattle.mesh_router.specs.Outputs.{Says, HasCauses, HasSinkCause, IsFault};
 ghost use Rattle.mesh_router.specs.Seen.{HasCounts, IsGrown, most_grown};
 ghost use Rattle.mesh_router.specs.Runs.{IsStepRun, IsPollLine};
 ghost use Rattle.mesh_router.specs.Short.{AreTurnsShort, IsStepShort, IsPollShort};

@@ -5,7 +5,7 @@ ghost use Rattle.mesh_base.specs.Addresses.{dotted};
 ghost use Rattle.mesh_io.specs.Cause.{HasCause};
 ghost use Rattle.mesh_io.specs.Puts.{Puts};
 ghost use Rattle.mesh_router.specs.Turns.{refusal_words, stranger_words, drop_line, next_turn, turns_of, idle_line};
-ghost use Rattle.mesh_router.specs.Told.{HasCauses};
+ghost use Rattle.mesh_router.specs.Outputs.{HasCauses};
 ghost use Rattle.mesh_router.specs.Seen.{HasCounts, IsGrown};
 ghost use Rattle.mesh_router.specs.Runs.{IsTurnRun, IsStepRun};
 ghost use Rattle.mesh_router.specs.Short.{IsTurnShort, AreTurnsShort};

@@ -6,7 +6,7 @@ use Rattle.mesh_io.specs.Puts.{AppendsPrefix}
 use Rattle.mesh_io.proofs.Writing.{Appends-keeps, AppendsPrefix-keeps}
 use Rattle.mesh_text.specs.Text.{Written, whole}
 use Rattle.mesh_run.specs.declared.say.Say.{Say}
-use Rattle.mesh_run.specs.Told.{said, IsOutputOf}
+use Rattle.mesh_run.specs.Outputs.{part, IsOutputOf}
 use Rattle.mesh_run.specs.declared.status.Status.{Status}
 use Rattle.mesh_run.specs.declared.status.Status.TheVariants as status
 
@@ -15,7 +15,7 @@ Appends-front : (a b : Option (List ℕ)) (text : List ℕ) → Appends a b text
 Appends-front a b text p = record { prefix = text; rest = []; whole = sym (append-nil text); grown = p }
 
 -- whatever was answered, a prefix was written
-from_front : (say : Say) (text : List ℕ → Written) (bytes : List ℕ) (new a b : Option (List ℕ)) (s : Status) → IsOutputOf say text bytes new a b s → AppendsPrefix a b (whole (said say (text bytes)))
+from_front : (say : Say) (text : List ℕ → Written) (bytes : List ℕ) (new a b : Option (List ℕ)) (s : Status) → IsOutputOf say text bytes new a b s → AppendsPrefix a b (whole (part say (text bytes)))
 from_front say text bytes new a b status.Done t = Appends-front a b _ t.1
 from_front say text bytes new a b (status.BadLine n) t = Appends-front a b _ t.1
 from_front say text bytes new a b (status.Full n) t = Appends-front a b _ t.1

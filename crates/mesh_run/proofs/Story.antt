@@ -21,7 +21,7 @@ use Rattle.mesh_run.specs.declared.say.Say.{Say}
 use Rattle.mesh_run.specs.declared.say.Say.TheVariants.{All, Last, Faults}
 use Rattle.mesh_run.specs.declared.status.Status.{Status}
 use Rattle.mesh_run.specs.declared.status.Status.TheVariants.{Done, Usage, BadLine, Full, ReadFault, WriteFault, NoMemory}
-use Rattle.mesh_run.specs.Told.{said, is_quiet, IsOutput, IsOutputOf, IsCutShort}
+use Rattle.mesh_run.specs.Outputs.{part, is_quiet, IsOutput, IsOutputOf, IsCutShort}
 use Rattle.mesh_run.specs.Runs.{output_if}
 use Rattle.mesh_run.proofs.Shown.{shown_none, shown_join}
 use Rattle.mesh_report.proofs.Pieces.{pieces_at, pieces_at_front, pieces_none, IsAhead, Begins, ahead}
@@ -234,7 +234,7 @@ story_goes say start at n (Some text) (Some bytes) after line words given given'
 -- ---- its ends
 
 -- an answer that is no failed read
-pub output_from : (say : Say) (start : List ℕ → Written) (bytes : List ℕ) (left before now : Option (List ℕ)) (s : Status) → s ≢ ReadFault → IsOutput before now (said say (start bytes)) s
+pub output_from : (say : Say) (start : List ℕ → Written) (bytes : List ℕ) (left before now : Option (List ℕ)) (s : Status) → s ≢ ReadFault → IsOutput before now (part say (start bytes)) s
     → IsOutputOf say start bytes left before now s
 output_from say start bytes left before now Done read t = t
 output_from say start bytes left before now (BadLine n) read t = t
@@ -246,36 +246,36 @@ output_from say start bytes left before now Usage read t = t
 
 -- what is told of the lines to come is told of all
 story_tells : (say : Say) (start : List ℕ → Written) (at : List Piece → Written) (text bytes : List ℕ) (given : ℕ) (ended : Bool) (before now later left : Option (List ℕ)) (s : Status)
-    → Story say start at text bytes given ended before now → s ≢ ReadFault → IsOutput now later (said say (at (pieces_at given bytes))) s → IsOutputOf say start text left before later s
+    → Story say start at text bytes given ended before now → s ≢ ReadFault → IsOutput now later (part say (at (pieces_at given bytes))) s → IsOutputOf say start text left before later s
 story_tells say start at text bytes given ended before now later left s is read t =
     output_from say start text left before later s read (told_before say (start text) (at (pieces_at given bytes)) is.lines before now later s is.all is.grown t)
 
 -- what is told of a next piece, whatever follows it
 told_next : (say : Say) (at : List Piece → Written) (piece : Piece) (ps : List Piece) (now later : Option (List ℕ)) (s : Status)
-    → ((pieces : List Piece) → IsOutput now later (said say (at (piece ∷ pieces))) s) → Begins piece ps → IsOutput now later (said say (at ps)) s
-told_next say at piece ps now later s t a = subst (λ l. IsOutput now later (said say (at l)) s) (sym a.1) (t a.0)
+    → ((pieces : List Piece) → IsOutput now later (part say (at (piece ∷ pieces))) s) → Begins piece ps → IsOutput now later (part say (at ps)) s
+told_next say at piece ps now later s t a = subst (λ l. IsOutput now later (part say (at l)) s) (sym a.1) (t a.0)
 
 -- a line ended the run
 pub story_stops : (say : Say) (start : List ℕ → Written) (at : List Piece → Written) (left to_come after new : Option (List ℕ)) (line : List ℕ) (given given' : ℕ) (ended : Bool) (before now later : Option (List ℕ)) (s : Status)
     → given ≤ LONGEST_INPUT → IsStory say start at left to_come given ended before now → IfSome to_come (λ bytes. Tells schedule_limits given bytes (Ok true) line given' after) → s ≢ ReadFault
-    → ((pieces : List Piece) → IsOutput now later (said say (at (Whole line ∷ pieces))) s) → IfSome left (λ bytes. IsOutputOf say start bytes new before later s)
+    → ((pieces : List Piece) → IsOutput now later (part say (at (Whole line ∷ pieces))) s) → IfSome left (λ bytes. IsOutputOf say start bytes new before later s)
 story_stops say start at None to_come after new line given given' ended before now later s few is told read t = tt
 story_stops say start at (Some text) None after new line given given' ended before now later s few is told read t = absurd is
 story_stops say start at (Some text) (Some bytes) after new line given given' ended before now later s few is told read t =
     let a : IsAhead given bytes (Line told.first) = subst (IsAhead given bytes) told.next (ahead given bytes few) in
     let pieces : pieces_at given bytes ≡ Whole line ∷ pieces_at (given + line_size told.first) (told.first).rest = a.1 ∙ ap (λ l. Whole l ∷ pieces_at (given + line_size told.first) (told.first).rest) (sym told.line_is) in
     story_tells say start at text bytes given ended before now later new s is read
-    (subst (λ ps. IsOutput now later (said say (at ps)) s) (sym pieces) (t (pieces_at (given + line_size told.first) (told.first).rest)))
+    (subst (λ ps. IsOutput now later (part say (at ps)) s) (sym pieces) (t (pieces_at (given + line_size told.first) (told.first).rest)))
 
 -- the end of the input
 pub story_ends : (say : Say) (start : List ℕ → Written) (at : List Piece → Written) (m : Moment) (left to_come after new : Option (List ℕ)) (line : List ℕ) (given given' : ℕ) (ended : Bool) (before now later : Option (List ℕ)) (s : Status)
     → at [] ≡ finished_run m → IsStory say start at left to_come given ended before now → IfSome to_come (λ bytes. Tells schedule_limits given bytes (Ok false) line given' after) → s ≢ ReadFault
-    → IsOutput now later (said say (finished_run m)) s → IfSome left (λ bytes. IsOutputOf say start bytes new before later s)
+    → IsOutput now later (part say (finished_run m)) s → IfSome left (λ bytes. IsOutputOf say start bytes new before later s)
 story_ends say start at m None to_come after new line given given' ended before now later s end is told read t = tt
 story_ends say start at m (Some text) None after new line given given' ended before now later s end is told read t = absurd is
 story_ends say start at m (Some text) (Some bytes) after new line given given' ended before now later s end is told read t =
     story_tells say start at text bytes given ended before now later new s is read
-    (subst (λ (w : Written). IsOutput now later (said say w) s) (sym (ap at (ap (pieces_at given) told.0 ∙ pieces_none given) ∙ end)) t)
+    (subst (λ (w : Written). IsOutput now later (part say w) s) (sym (ap at (ap (pieces_at given) told.0 ∙ pieces_none given) ∙ end)) t)
 
 -- the moment to which the run came
 pub story_after : (say : Say) (start : List ℕ → Written) (at : List Piece → Written) (m : Moment) (left to_come after : Option (List ℕ)) (line : List ℕ) (given given' : ℕ) (ended : Bool) (before now : Option (List ℕ))
@@ -289,7 +289,7 @@ story_after say start at m (Some text) (Some bytes) after line given given' ende
 -- a limit
 pub story_long : (say : Say) (start : List ℕ → Written) (at : List Piece → Written) (left to_come after new : Option (List ℕ)) (line : List ℕ) (given given' : ℕ) (ended : Bool) (before now later : Option (List ℕ)) (s : Status)
     → given ≤ LONGEST_INPUT → IsStory say start at left to_come given ended before now → IfSome to_come (λ bytes. Tells schedule_limits given bytes (Err error.TooLong) line given' after) → s ≢ ReadFault
-    → ((pieces : List Piece) → IsOutput now later (said say (at (Long ∷ pieces))) s) → IfSome left (λ bytes. IsOutputOf say start bytes new before later s)
+    → ((pieces : List Piece) → IsOutput now later (part say (at (Long ∷ pieces))) s) → IfSome left (λ bytes. IsOutputOf say start bytes new before later s)
 story_long say start at None to_come after new line given given' ended before now later s few is told read t = tt
 story_long say start at (Some text) None after new line given given' ended before now later s few is told read t = absurd is
 story_long say start at (Some text) (Some bytes) after new line given given' ended before now later s few is told read t =
@@ -298,7 +298,7 @@ story_long say start at (Some text) (Some bytes) after new line given given' end
 
 pub story_much : (say : Say) (start : List ℕ → Written) (at : List Piece → Written) (left to_come after new : Option (List ℕ)) (line : List ℕ) (given given' : ℕ) (ended : Bool) (before now later : Option (List ℕ)) (s : Status)
     → given ≤ LONGEST_INPUT → IsStory say start at left to_come given ended before now → IfSome to_come (λ bytes. Tells schedule_limits given bytes (Err error.TooMuch) line given' after) → s ≢ ReadFault
-    → ((pieces : List Piece) → IsOutput now later (said say (at (Beyond ∷ pieces))) s) → IfSome left (λ bytes. IsOutputOf say start bytes new before later s)
+    → ((pieces : List Piece) → IsOutput now later (part say (at (Beyond ∷ pieces))) s) → IfSome left (λ bytes. IsOutputOf say start bytes new before later s)
 story_much say start at None to_come after new line given given' ended before now later s few is told read t = tt
 story_much say start at (Some text) None after new line given given' ended before now later s few is told read t = absurd is
 story_much say start at (Some text) (Some bytes) after new line given given' ended before now later s few is told read t =
@@ -307,16 +307,16 @@ story_much say start at (Some text) (Some bytes) after new line given given' end
 
 -- what was told of the lines so far is a prefix
 story_front : (say : Say) (start : List ℕ → Written) (at : List Piece → Written) (text bytes : List ℕ) (given : ℕ) (ended : Bool) (before now : Option (List ℕ)) → Story say start at text bytes given ended before now
-    → AppendsPrefix before now (whole (said say (start text)))
-story_front say start at text bytes given ended before now is = subst (λ (v : Written). AppendsPrefix before now (whole (said say v))) (sym is.all) (by_say say is.grown)
+    → AppendsPrefix before now (whole (part say (start text)))
+story_front say start at text bytes given ended before now is = subst (λ (v : Written). AppendsPrefix before now (whole (part say v))) (sym is.all) (by_say say is.grown)
   where
     w : Written
     w = at (pieces_at given bytes)
 
-    by_say : (say : Say) → Appends before now (output_if (is_quiet say) is.lines) → AppendsPrefix before now (whole (said say (lines_before is.lines w)))
+    by_say : (say : Say) → Appends before now (output_if (is_quiet say) is.lines) → AppendsPrefix before now (whole (part say (lines_before is.lines w)))
     by_say All p = record { prefix = is.lines; rest = w.lines ++ w.last; whole = append_assoc is.lines w.lines w.last; grown = p }
     by_say Last p = record { prefix = []; rest = w.last; whole = refl; grown = p }
-    by_say Faults p = record { prefix = []; rest = (said Faults w).last; whole = refl; grown = p }
+    by_say Faults p = record { prefix = []; rest = (part Faults w).last; whole = refl; grown = p }
 
 pub story_breaks : (say : Say) (start : List ℕ → Written) (at : List Piece → Written) (left to_come new : Option (List ℕ)) (given : ℕ) (ended : Bool) (before now : Option (List ℕ)) → IsStory say start at left to_come given ended before now
     → IfSome left (λ bytes. IsOutputOf say start bytes new before now WriteFault)
@@ -325,13 +325,13 @@ story_breaks say start at (Some text) None new given ended before now is = absur
 story_breaks say start at (Some text) (Some bytes) new given ended before now is = story_front say start at text bytes given ended before now is
 
 -- a read failed: no line that was read whole was held back
-cut_lines : (say : Say) (m : Moment) (lines : List ℕ) → (said say (lines_before lines (finished_run m))).lines ≡ output_if (is_quiet say) lines
+cut_lines : (say : Say) (m : Moment) (lines : List ℕ) → (part say (lines_before lines (finished_run m))).lines ≡ output_if (is_quiet say) lines
 cut_lines All m lines = append-nil lines
 cut_lines Last m lines = refl
 cut_lines Faults m lines = refl
 
 cut_short : (say : Say) (start : List ℕ → Written) (at : List Piece → Written) (m : Moment) (text front lines pending rest : List ℕ) (before now : Option (List ℕ)) → at [] ≡ finished_run m → text ≡ front ++ (pending ++ rest)
-    → AreDone start at front lines → HasNoLf pending → Appends before now (output_if (is_quiet say) lines) → AppendsPrefix before now (whole (said say (start text))) → IsCutShort say start text (Some rest) before now
+    → AreDone start at front lines → HasNoLf pending → Appends before now (output_if (is_quiet say) lines) → AppendsPrefix before now (whole (part say (start text))) → IsCutShort say start text (Some rest) before now
 cut_short say start at m text front lines pending rest before now end split done none grown prefix =
     let taken : complete (front ++ pending) ≡ front = complete_seam front pending done.complete_is ∙ ap (λ l. front ++ l) (open_complete pending none) ∙ append-nil front in
     let w : start (complete (front ++ pending)) ≡ lines_before lines (finished_run m) =
@@ -340,7 +340,7 @@ cut_short say start at m text front lines pending rest before now end split done
       taken = front ++ pending;
       consumed = split ∙ sym (append_assoc front pending rest);
       done = ap (λ (x : Written). x.verdict) w;
-      grown = subst (λ l. Appends before now l) (sym (ap (λ (x : Written). (said say x).lines) w ∙ cut_lines say m lines)) grown;
+      grown = subst (λ l. Appends before now l) (sym (ap (λ (x : Written). (part say x).lines) w ∙ cut_lines say m lines)) grown;
       prefix = prefix;
     }
 

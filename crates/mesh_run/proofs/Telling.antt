@@ -18,7 +18,7 @@ use Rattle.mesh_run.specs.declared.status.Status.TheVariants.{Done, Usage, BadLi
 use Rattle.mesh_run.specs.declared.stop.Stop.{Stop}
 use Rattle.mesh_run.specs.declared.say.Say.{Say}
 use Rattle.mesh_run.specs.declared.say.Say.TheVariants.{All, Last, Faults}
-use Rattle.mesh_run.specs.Told.{said, is_quiet, IsOutput}
+use Rattle.mesh_run.specs.Outputs.{part, is_quiet, IsOutput}
 use Rattle.mesh_run.specs.Runs.{output_if, IsLineDone, IsLineFull, IsLineStopped}
 
 -- ---- the text from a moment on
@@ -85,24 +85,24 @@ Told-join : (a b c : Option (List ℕ)) (prefix : List ℕ) (w : Written) (s : S
 Told-join a b c prefix w s p t = Told-after a b c prefix (lines_before prefix w) w s refl (append_assoc prefix w.lines w.last) p t
 
 -- being quiet and going on
-said-lines_before : (say : Say) (prefix : List ℕ) (w : Written) → said say (lines_before prefix w) ≡ lines_before (output_if (is_quiet say) prefix) (said say w)
-said-lines_before All prefix w = refl
-said-lines_before Last prefix w = refl
-said-lines_before Faults prefix w = refl
+part-lines_before : (say : Say) (prefix : List ℕ) (w : Written) → part say (lines_before prefix w) ≡ lines_before (output_if (is_quiet say) prefix) (part say w)
+part-lines_before All prefix w = refl
+part-lines_before Last prefix w = refl
+part-lines_before Faults prefix w = refl
 
 -- what is told of a run is told of lines before it
 pub told_before : (say : Say) (v w : Written) (text : List ℕ) (a b c : Option (List ℕ)) (s : Status) → v ≡ lines_before text w → Appends a b (output_if (is_quiet say) text)
-    → IsOutput b c (said say w) s → IsOutput a c (said say v) s
+    → IsOutput b c (part say w) s → IsOutput a c (part say v) s
 told_before say v w text a b c s is p t =
     let P : Written → Type 0 = λ x. IsOutput a c x s in
-    subst P (sym (ap (said say) is ∙ said-lines_before say text w)) (Told-join a b c (output_if (is_quiet say) text) (said say w) s p t)
+    subst P (sym (ap (part say) is ∙ part-lines_before say text w)) (Told-join a b c (output_if (is_quiet say) text) (part say w) s p t)
 
 -- a prefix of a line's text is a prefix of all that follows
 front_longer : (a b : Option (List ℕ)) (text more : List ℕ) → AppendsPrefix a b text → AppendsPrefix a b (text ++ more)
 front_longer a b text more f = AppendsPrefix-more a b text more (text ++ more) refl f
 
 pub front_of_came : (say : Say) (m : Moment) (k : LineOutcome) (others : Moment → Written) (a b : Option (List ℕ)) → AppendsPrefix a b (output_if (is_quiet say) (text_in k))
-    → AppendsPrefix a b (whole (said say (goes_on m k others)))
+    → AppendsPrefix a b (whole (part say (goes_on m k others)))
 front_of_came All m (On text n) others a b f = front_longer a b _ _ (front_longer a b text _ f)
 front_of_came All m (Refused why) others a b f = front_longer a b [] _ f
 front_of_came All m (texts.Full text n e field) others a b f = front_longer a b text _ f
@@ -115,51 +115,51 @@ front_of_came Faults m (texts.Full text n e field) others a b f = front_longer a
 
 -- a line that is done in part
 pub front_from_part : (say : Say) (m : Moment) (piece : Piece) (a b : Option (List ℕ)) (pieces : List Piece) → AppendsPrefix a b (output_if (is_quiet say) (text_in (outcome_of_piece m piece)))
-    → AppendsPrefix a b (whole (said say (text_from m (piece ∷ pieces))))
+    → AppendsPrefix a b (whole (part say (text_from m (piece ∷ pieces))))
 front_from_part say m piece a b pieces f =
-    let P : Written → Type 0 = λ w. AppendsPrefix a b (whole (said say w)) in
+    let P : Written → Type 0 = λ w. AppendsPrefix a b (whole (part say w)) in
     subst P (sym (text_from-cons m piece pieces)) (front_of_came say m (outcome_of_piece m piece) (λ n. text_from n pieces) a b f)
 
 -- the last line of a refused line is written, however little is said
-said-refused_run : (say : Say) (m : Moment) (why : BadWhy) → said say (refused_run m why) ≡ refused_run m why
-said-refused_run All m why = refl
-said-refused_run Last m why = refl
-said-refused_run Faults m why = refl
+part-refused_run : (say : Say) (m : Moment) (why : BadWhy) → part say (refused_run m why) ≡ refused_run m why
+part-refused_run All m why = refl
+part-refused_run Last m why = refl
+part-refused_run Faults m why = refl
 
 -- what is told of a run that comes to a refused line first
-pub refused_told : (say : Say) (m : Moment) (why : BadWhy) (w : Written) (a b : Option (List ℕ)) (s : Status) → w ≡ refused_run m why → IsOutput a b (refused_run m why) s → IsOutput a b (said say w) s
+pub refused_told : (say : Say) (m : Moment) (why : BadWhy) (w : Written) (a b : Option (List ℕ)) (s : Status) → w ≡ refused_run m why → IsOutput a b (refused_run m why) s → IsOutput a b (part say w) s
 refused_told say m why w a b s is t =
     let P : Written → Type 0 = λ x. IsOutput a b x s in
-    subst P (sym (ap (said say) is ∙ said-refused_run say m why)) t
+    subst P (sym (ap (part say) is ∙ part-refused_run say m why)) t
 
 -- or to one that isn't allowed, which left the moment as it was
 pub bad_told : (say : Say) (m n : Moment) (f : LineFault) (w : Written) (a b c : Option (List ℕ)) (s : Status)
-    → w ≡ refused_run m (Fault f) → n ≡ m → Keeps a b → IsOutput b c (refused_run n (Fault f)) s → IsOutput a c (said say w) s
+    → w ≡ refused_run m (Fault f) → n ≡ m → Keeps a b → IsOutput b c (refused_run n (Fault f)) s → IsOutput a c (part say w) s
 bad_told say m n f w a b c s is same kept t =
     let Q : Moment → Type 0 = λ k. IsOutput b c (refused_run k (Fault f)) s in
     refused_told say m (Fault f) w a c s is (Told-join a b c [] (refused_run m (Fault f)) s (Appends-kept a b kept) (subst Q same t))
 
 -- or to one with an event that is refused for a full counter
 pub full_told : (say : Say) (m n : Moment) (k : LineOutcome) (others : Moment → Written) (w : Written) (e : Event) (node : ℕ) (field : Field) (a b c : Option (List ℕ)) (s : Status)
-    → w ≡ goes_on m k others → IsLineFull (is_quiet say) m k n a b e node field → IsOutput b c (overfull_run n [] e field) s → IsOutput a c (said say w) s
+    → w ≡ goes_on m k others → IsLineFull (is_quiet say) m k n a b e node field → IsOutput b c (overfull_run n [] e field) s → IsOutput a c (part say w) s
 full_told say m n k others w e node field a b c s is g t =
     let verdict : FullAt (m.lines + 1) ≡ FullAt (n.lines + 1) = ap (λ l. FullAt (l + 1)) (sym g.still.lines) in
     let line : full_line m.mesh (m.lines + 1) e field ≡ full_line n.mesh (n.lines + 1) e field =
     ap (λ x. full_line x (m.lines + 1) e field) (sym g.still.mesh) ∙ ap (λ l. full_line n.mesh (l + 1) e field) (sym g.still.lines) in
     let P : Written → Type 0 = λ x. IsOutput a c x s in
-    subst P (sym (ap (said say) (is ∙ ap (λ r. goes_on m r others) g.is)))
+    subst P (sym (ap (part say) (is ∙ ap (λ r. goes_on m r others) g.is)))
     (by_say say verdict line g.grown)
   where
     by_say : (say : Say) → FullAt (m.lines + 1) ≡ FullAt (n.lines + 1) → full_line m.mesh (m.lines + 1) e field ≡ full_line n.mesh (n.lines + 1) e field → Appends a b (output_if (is_quiet say) g.text)
-        → IsOutput a c (said say (overfull_run m g.text e field)) s
-    by_say All verdict line p = Told-after a b c g.text (said All (overfull_run m g.text e field)) (overfull_run n [] e field) s verdict (ap (λ l. g.text ++ l) line) p t
-    by_say Last verdict line p = Told-after a b c [] (said Last (overfull_run m g.text e field)) (overfull_run n [] e field) s verdict line p t
-    by_say Faults verdict line p = Told-after a b c [] (said Faults (overfull_run m g.text e field)) (overfull_run n [] e field) s verdict line p t
+        → IsOutput a c (part say (overfull_run m g.text e field)) s
+    by_say All verdict line p = Told-after a b c g.text (part All (overfull_run m g.text e field)) (overfull_run n [] e field) s verdict (ap (λ l. g.text ++ l) line) p t
+    by_say Last verdict line p = Told-after a b c [] (part Last (overfull_run m g.text e field)) (overfull_run n [] e field) s verdict line p t
+    by_say Faults verdict line p = Told-after a b c [] (part Faults (overfull_run m g.text e field)) (overfull_run n [] e field) s verdict line p t
 
 -- ---- the same of the schedule's run
 
 pub told_full : (say : Say) (m n : Moment) (piece : Piece) (e : Event) (node : ℕ) (field : Field) (pieces : List Piece) (a b c : Option (List ℕ)) (s : Status)
-    → IsLineFull (is_quiet say) m (outcome_of_piece m piece) n a b e node field → IsOutput b c (overfull_run n [] e field) s → IsOutput a c (said say (text_from m (piece ∷ pieces))) s
+    → IsLineFull (is_quiet say) m (outcome_of_piece m piece) n a b e node field → IsOutput b c (overfull_run n [] e field) s → IsOutput a c (part say (text_from m (piece ∷ pieces))) s
 told_full say m n piece e node field pieces a b c s g t =
     full_told say m n (outcome_of_piece m piece) (λ x. text_from x pieces) (text_from m (piece ∷ pieces)) e node field a b c s (text_from-cons m piece pieces) g t
 
@@ -172,15 +172,15 @@ unfolding outcome_of_piece
 came-beyond m = refl
 
 -- a line that is too long, and one that goes past the input's limit
-pub told_long : (say : Say) (m : Moment) (pieces : List Piece) (a b : Option (List ℕ)) (s : Status) → IsOutput a b (refused_run m TooLong) s → IsOutput a b (said say (text_from m (Long ∷ pieces))) s
+pub told_long : (say : Say) (m : Moment) (pieces : List Piece) (a b : Option (List ℕ)) (s : Status) → IsOutput a b (refused_run m TooLong) s → IsOutput a b (part say (text_from m (Long ∷ pieces))) s
 told_long say m pieces a b s t = refused_told say m TooLong (text_from m (Long ∷ pieces)) a b s (text_from-refused m Long TooLong pieces (came-long m)) t
 
-pub told_beyond : (say : Say) (m : Moment) (pieces : List Piece) (a b : Option (List ℕ)) (s : Status) → IsOutput a b (refused_run m TooMuch) s → IsOutput a b (said say (text_from m (Beyond ∷ pieces))) s
+pub told_beyond : (say : Say) (m : Moment) (pieces : List Piece) (a b : Option (List ℕ)) (s : Status) → IsOutput a b (refused_run m TooMuch) s → IsOutput a b (part say (text_from m (Beyond ∷ pieces))) s
 told_beyond say m pieces a b s t = refused_told say m TooMuch (text_from m (Beyond ∷ pieces)) a b s (text_from-refused m Beyond TooMuch pieces (came-beyond m)) t
 
 -- a line that isn't allowed
 pub told_bad : (say : Say) (m n : Moment) (piece : Piece) (f : LineFault) (pieces : List Piece) (a b c : Option (List ℕ)) (s : Status)
     → outcome_of_piece m piece ≡ Refused (Fault f) → n ≡ m → Keeps a b
-    → IsOutput b c (refused_run n (Fault f)) s → IsOutput a c (said say (text_from m (piece ∷ pieces))) s
+    → IsOutput b c (refused_run n (Fault f)) s → IsOutput a c (part say (text_from m (piece ∷ pieces))) s
 told_bad say m n piece f pieces a b c s e same kept t =
     bad_told say m n f (text_from m (piece ∷ pieces)) a b c s (text_from-refused m piece (Fault f) pieces e) same kept t

@@ -1,10 +1,10 @@
--- Codes: the status with which a process ends. Told: what was told of a run. This is what the
+-- Codes: the status with which a process ends. Outputs: what was told of a run. This is what the
 -- contract of `run` cites beside the definitions of mesh_text. Causes: when a fault is answered.
 -- Variants: the variants of the protocol, by name. The others say what the parts of a run do.
 -- Stops: why an event isn't done. Runs: what was told of one line, of one event, and of events that
 -- were chosen.
 pub mod Codes
-pub mod Told
+pub mod Outputs
 pub mod Causes
 pub mod Variants
 pub mod Stops

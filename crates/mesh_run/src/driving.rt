@@ -8,7 +8,7 @@ ghost use Rattle.mesh_io.specs.Buffering.{inner_of, gathered_in, held_by};
 ghost use Rattle.mesh_moment.specs.Moments.{IsSafe};
 ghost use Rattle.mesh_run.specs.Causes.{HasStatusCause, HasSourceCause};
 ghost use Rattle.mesh_moment.specs.Sums.{IsGrown};
-ghost use Rattle.mesh_run.specs.Told.{say_by, IsOutputFrom};
+ghost use Rattle.mesh_run.specs.Outputs.{say_by, IsOutputFrom};
 
 use crate::lines::do_lines;
 use crate::say::Say;

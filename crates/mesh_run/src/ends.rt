@@ -5,7 +5,7 @@ ghost use Rattle.mesh_meaning.specs.Events.{event_of};
 ghost use Rattle.mesh_text.specs.Text.{refused_run, overfull_run, finished_run};
 ghost use Rattle.mesh_moment.specs.Moments.{IsSafe};
 ghost use Rattle.mesh_run.specs.Causes.{HasStatusCause};
-ghost use Rattle.mesh_run.specs.Told.{said, IsOutput};
+ghost use Rattle.mesh_run.specs.Outputs.{part, IsOutput};
 
 use crate::say::Say;
 use crate::status::Status;
@@ -66,7 +66,7 @@ pub fn fill<S: Steps, O: Sink>(
 /// Ends the run where its input ends: writes what was counted, unless only faults are told.
 pub fn finish<S: Steps, O: Sink>(at: &mut Point<S>, say: Say, out: &mut O) -> Status
     ensures told { IsOutput (O.held out.old) (O.held out.new)
-        (said say (finished_run at.old)) result }
+        (part say (finished_run at.old)) result }
     ensures same { at.new ≡ at.old }
     ensures safe { IsSafe at.new }
     ensures cause { HasStatusCause Status.WriteFault (O.faults out.old) (O.faults out.new) result }

@@ -10,7 +10,7 @@ ghost use Rattle.mesh_io.specs.Reading.{faults_of, given_of, is_decided_at, pend
 ghost use Rattle.mesh_moment.specs.Moments.{IsSafe};
 ghost use Rattle.mesh_run.specs.Causes.{HasCauseIf, HasStopCause, HasStatusCause};
 ghost use Rattle.mesh_moment.specs.Sums.{IsGrown};
-ghost use Rattle.mesh_run.specs.Told.{said, is_quiet, IsOutput, IsOutputFrom};
+ghost use Rattle.mesh_run.specs.Outputs.{part, is_quiet, IsOutput, IsOutputFrom};
 ghost use Rattle.mesh_run.specs.Runs.{IsLineDone, IsLineRun, IsOnTheWay};
 
 use crate::commands::do_line;
@@ -79,7 +79,7 @@ fn piece<S: Steps, O: Sink>(
         (4 * at.new.steps ≤ 4 * at.old.steps + MOST_EVENTS * length bytes.now) }
     ensures told { IfSome result (λ status. (pieces : List Piece)
         → IsOutput (O.held out.old) (O.held out.new)
-        (said say (text_from at.old (Whole bytes.now ∷ pieces))) status) }
+        (part say (text_from at.old (Whole bytes.now ∷ pieces))) status) }
     ensures cause { HasCauseIf (result ≡ Some Status.WriteFault)
         (O.faults out.old) (O.faults out.new) }
     ensures read { result ≢ Some Status.ReadFault }

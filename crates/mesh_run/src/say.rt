@@ -13,7 +13,7 @@ pub enum Say {
 }
 
 impl Say {
-    ghost use Rattle.mesh_run.specs.Told.{say_by, is_quiet};
+    ghost use Rattle.mesh_run.specs.Outputs.{say_by, is_quiet};
 
     /// The text, or its last line alone.
     pub fn by(quiet: bool) -> Say

@@ -7,7 +7,7 @@ ghost use Rattle.mesh_script.specs.Seen.{accepted_of, IsAllowed};
 ghost use Rattle.mesh_run.specs.declared.say.Say.TheVariants.{Last};
 ghost use Rattle.mesh_run.specs.Causes.{HasCauseIf};
 ghost use Rattle.mesh_moment.specs.Sums.{IsGrown};
-ghost use Rattle.mesh_run.specs.Told.{said, IsOutput};
+ghost use Rattle.mesh_run.specs.Outputs.{part, IsOutput};
 ghost use Rattle.mesh_run.specs.Runs.{IsLineDone};
 
 use crate::commands::do_line;
@@ -38,7 +38,7 @@ pub fn do_value<S: Steps, O: Sink>(
     ensures grown { IfNone result (IsGrown at.old at.new) }
     ensures steps { IfNone result (at.new.steps ≤ at.old.steps + MOST_EVENTS) }
     ensures told { IfSome result (λ status. (others : Moment → Written)
-        → IsOutput (O.held out.old) (O.held out.new) (said Last
+        → IsOutput (O.held out.old) (O.held out.new) (part Last
         (goes_on at.old (outcome_of_line at.old (accepted_of line.entry)) others)) status) }
     ensures cause { HasCauseIf (result ≡ Some Status.WriteFault)
         (O.faults out.old) (O.faults out.new) }

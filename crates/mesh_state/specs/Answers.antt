@@ -9,7 +9,7 @@ use Rattle.mesh_text.specs.Text.{Written, Finished, text_on}
 use Rattle.mesh_run.specs.declared.say.Say.TheVariants.{All, Faults}
 use Rattle.mesh_run.specs.declared.status.Status.{Status}
 use Rattle.mesh_run.specs.declared.status.Status.TheVariants.{Done, Usage, ReadFault, WriteFault, NoMemory}
-use Rattle.mesh_run.specs.Told.{IsOutputFrom}
+use Rattle.mesh_run.specs.Outputs.{IsOutputFrom}
 use Rattle.mesh_checkpoint.specs.Points.{IsState, IsTooLong}
 use Rattle.mesh_save.specs.Saved.{IsWritten, IsCut}
 use Rattle.mesh_load.specs.declared.error.StateError.{StateError}

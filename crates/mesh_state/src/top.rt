@@ -4,7 +4,7 @@ ghost use Rattle.std.specs.Io.KnownBytes.{IsAtEnd};
 ghost use Rattle.mesh_base.specs.declared.events.Variant.TheVariants.{Base};
 ghost use Rattle.mesh_text.specs.Schedule.{opening};
 ghost use Rattle.mesh_run.specs.Causes.{HasCauseIf, HasStatusCause, HasSourceCause};
-ghost use Rattle.mesh_run.specs.Told.{IsOutputFrom};
+ghost use Rattle.mesh_run.specs.Outputs.{IsOutputFrom};
 ghost use Rattle.mesh_checkpoint.specs.Points.{IsTooLong};
 ghost use Rattle.mesh_save.specs.Saved.{IsWritten, IsCut};
 ghost use Rattle.mesh_state.specs.Words.{asked_of};

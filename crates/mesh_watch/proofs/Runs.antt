@@ -9,7 +9,7 @@ use Rattle.mesh_text.proofs.RunLaws.{run_of_events, runs_are_loop_free}
 use Rattle.mesh_run.specs.declared.status.Status.{Status}
 use Rattle.mesh_run.specs.declared.status.Status.TheVariants as status
 use Rattle.mesh_watch.specs.Text.{watched_on}
-use Rattle.mesh_watch.specs.Told.{IsOutputFrom, IsWatchedRun, IsRun}
+use Rattle.mesh_watch.specs.Outputs.{IsOutputFrom, IsWatchedRun, IsRun}
 use Rattle.mesh_watch.proofs.SameRun.{same_run, watched_run_is_the_run}
 
 watched_run : (variant : Variant) (schedule : List ℕ) → IsWatchedRun variant schedule

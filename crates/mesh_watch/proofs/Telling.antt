@@ -12,7 +12,7 @@ use Rattle.mesh_text.specs.Text as texts
 use Rattle.mesh_text.specs.Text.{Written, LineOutcome, text_in, On, Refused, goes_on, lines_before, whole, finished_run, refused_run, overfull_run}
 use Rattle.mesh_run.specs.declared.say.Say.TheVariants.{All}
 use Rattle.mesh_run.specs.declared.status.Status.{Status}
-use Rattle.mesh_run.specs.Told.{IsOutput}
+use Rattle.mesh_run.specs.Outputs.{IsOutput}
 use Rattle.mesh_run.specs.Runs.{IsLineFull, IsLineRun}
 use Rattle.mesh_run.specs.declared.stop.Stop.{Stop}
 use Rattle.mesh_script.specs.declared.line.Line.{Line}

@@ -9,8 +9,8 @@ pub mod Text
 pub mod Parts
 -- Laws: what is proved of these definitions.
 pub mod Laws
--- Told: what was told of a watched run. This is what the contract of the top call cites.
-pub mod Told
+-- Outputs: what was told of a watched run. This is what the contract of the top call cites.
+pub mod Outputs
 -- The other says what the parts of a run do.
 -- Lines: what one event comes to.
 pub mod Lines

@@ -6,9 +6,9 @@ ghost use Rattle.mesh_io.specs.Reading.{faults_of, given_of, pending_of, source_
 ghost use Rattle.mesh_grammar.specs.Lines.{Piece, Whole};
 ghost use Rattle.mesh_run.specs.Causes.{HasCauseIf, HasStatusCause};
 ghost use Rattle.mesh_run.specs.Runs.{IsLineDone};
-ghost use Rattle.mesh_run.specs.Told.{IsOutput};
+ghost use Rattle.mesh_run.specs.Outputs.{IsOutput};
 ghost use Rattle.mesh_watch.specs.Text.{watched_from, watched_piece};
-ghost use Rattle.mesh_watch.specs.Told.{IsOutputFrom};
+ghost use Rattle.mesh_watch.specs.Outputs.{IsOutputFrom};
 
 use crate::watched::{Watched, do_line};
 use mesh_base::{LONGEST_LINE, MOST_EVENTS};

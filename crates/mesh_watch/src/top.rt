@@ -6,7 +6,7 @@ ghost use Rattle.mesh_io.specs.Buffering.{inner_of, gathered_in, held_by};
 ghost use Rattle.mesh_text.specs.Text.{text_of_input, Finished};
 ghost use Rattle.mesh_run.specs.Causes.{HasSourceCause, HasStatusCause};
 ghost use Rattle.mesh_watch.specs.Words.{variant_of};
-ghost use Rattle.mesh_watch.specs.Told.{IsOutputFrom, IsRun};
+ghost use Rattle.mesh_watch.specs.Outputs.{IsOutputFrom, IsRun};
 
 use crate::lines::do_lines;
 use crate::watched::Watched;

@@ -10,7 +10,7 @@ use Rattle.mesh_text.specs.Text.{Written, Finished, text_on}
 use Rattle.mesh_run.specs.declared.say.Say.TheVariants.{Last}
 use Rattle.mesh_run.specs.declared.status.Status.{Status}
 use Rattle.mesh_run.specs.declared.status.Status.TheVariants as status
-use Rattle.mesh_run.specs.Told.{IsOutputFrom}
+use Rattle.mesh_run.specs.Outputs.{IsOutputFrom}
 use Rattle.mesh_why.specs.Routes.{IsRoute, route_line}
 use Rattle.mesh_why.specs.Answers.{IsDone, IsCut, IsAnswered}
 

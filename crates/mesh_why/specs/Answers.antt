@@ -8,7 +8,7 @@ use Rattle.mesh_text.specs.Text.{Written, Finished, text_on}
 use Rattle.mesh_run.specs.declared.say.Say.TheVariants.{Last}
 use Rattle.mesh_run.specs.declared.status.Status.{Status}
 use Rattle.mesh_run.specs.declared.status.Status.TheVariants.{Done, Usage, BadLine, Full, ReadFault, WriteFault, NoMemory}
-use Rattle.mesh_run.specs.Told.{IsOutputFrom}
+use Rattle.mesh_run.specs.Outputs.{IsOutputFrom}
 use Rattle.mesh_why.specs.Routes.{IsRoute, route_line}
 
 -- the run was done, and its last line and that of the route were written

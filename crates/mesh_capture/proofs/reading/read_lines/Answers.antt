@@ -8,7 +8,7 @@ use Rattle.mesh_io.specs.declared.line_error.LineError.{LineError}
 use Rattle.mesh_printed.specs.Pieces.{Piece, Whole}
 use Rattle.mesh_capture.specs.Copies.{Reading}
 use Rattle.mesh_capture.specs.Captures.{captured_from}
-use Rattle.mesh_capture.specs.Told.{IsFile}
+use Rattle.mesh_capture.specs.Outputs.{IsFile}
 use Rattle.mesh_capture.specs.Leads.{Leads}
 use Rattle.mesh_capture.specs.declared.status.CaptureStatus.{CaptureStatus}
 use Rattle.mesh_capture.specs.declared.status.CaptureStatus.TheVariants.{ReadFault, WriteFault}

@@ -2,7 +2,7 @@ use Rattle.std.proofs.Common.{sym, ap, ◌∙◌, arith, rules}
 use Rattle.mesh_text.specs.Text.{finished_run, text_on}
 use Rattle.mesh_make.specs.Making.{still_to_come}
 use Rattle.mesh_run.specs.declared.say.Say.TheVariants.{Last}
-use Rattle.mesh_run.specs.Told.{said}
+use Rattle.mesh_run.specs.Outputs.{part}
 use Rattle.mesh_cli.proofs.Trials.{told_here, told_on, ended}
 use Rattle.mesh_cli.proofs.trial.do_made.Goals as goal
 
@@ -21,4 +21,4 @@ returns-clause-told g c =
     let none = ended c.lines.at (still_to_come c.lines.maker) (search rules) in
     told_here (finished_run c.lines.at) (text_on c.args.at.now (still_to_come c.args.maker.now))
     (g.O.Sink.held c.args.out.now) (g.O.Sink.held c.lines.out) (g.O.Sink.held c.finish.new.out) c.finish.result
-    (sym (ap (said Last) none) ∙ c.lines.invariant.same) c.lines.invariant.none c.finish.ensures.told
+    (sym (ap (part Last) none) ∙ c.lines.invariant.same) c.lines.invariant.none c.finish.ensures.told

@@ -5,7 +5,7 @@ use Rattle.mesh_text.specs.Text.{text_of_input}
 use Rattle.mesh_make.specs.Making.{HasCome, still_to_come}
 use Rattle.mesh_make.proofs.Allowed.{made_short}
 use Rattle.mesh_run.specs.declared.say.Say.TheVariants.{Last}
-use Rattle.mesh_run.specs.Told.{said}
+use Rattle.mesh_run.specs.Outputs.{part}
 use Rattle.mesh_cli.specs.Does.{made_by}
 use Rattle.mesh_cli.proofs.Buffers.{output_keeps, output_faulted}
 use Rattle.mesh_cli.proofs.Trials.{told_whole}
@@ -26,12 +26,12 @@ returns-then-eq-clause-told g c =
 
 pub returns-in-Ok-clause-told : goal.returns-in-Ok-clause-told
 returns-in-Ok-clause-told g c =
-    output_keeps (held_by g.O.Sink.held c.args.buffer.now) (held_by g.O.Sink.held c.do_made-status.new.out) (held_by g.O.Sink.held c.flush.new.self) (said Last (text_of_input c.args.variant (made_by c.args.plan))) c.do_made-status.result
+    output_keeps (held_by g.O.Sink.held c.args.buffer.now) (held_by g.O.Sink.held c.do_made-status.new.out) (held_by g.O.Sink.held c.flush.new.self) (part Last (text_of_input c.args.variant (made_by c.args.plan))) c.do_made-status.result
     (told_whole c.with-at.result c.args.variant (still_to_come c.new-maker.result) (made_by c.args.plan) (held_by g.O.Sink.held c.args.buffer.now) (held_by g.O.Sink.held c.do_made-status.new.out) c.do_made-status.result c.with-at.ensures c.new-maker.ensures.text c.do_made-status.ensures.told)
     c.flush.ensures.held
 
 pub returns-clause-told : goal.returns-clause-told
 returns-clause-told g c =
-    output_faulted (held_by g.O.Sink.held c.args.buffer.now) (held_by g.O.Sink.held c.do_made-status.new.out) (held_by g.O.Sink.held c.flush.new.self) (said Last (text_of_input c.args.variant (made_by c.args.plan))) c.do_made-status.result
+    output_faulted (held_by g.O.Sink.held c.args.buffer.now) (held_by g.O.Sink.held c.do_made-status.new.out) (held_by g.O.Sink.held c.flush.new.self) (part Last (text_of_input c.args.variant (made_by c.args.plan))) c.do_made-status.result
     (told_whole c.with-at.result c.args.variant (still_to_come c.new-maker.result) (made_by c.args.plan) (held_by g.O.Sink.held c.args.buffer.now) (held_by g.O.Sink.held c.do_made-status.new.out) c.do_made-status.result c.with-at.ensures c.new-maker.ensures.text c.do_made-status.ensures.told)
     c.flush.ensures.held

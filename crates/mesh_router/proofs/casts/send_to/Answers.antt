@@ -2,7 +2,7 @@ use Rattle.std.proofs.Common.{◌∷◌, [], ℕ, List, refl, ◌∙◌, sym, su
 use Rattle.mesh_link.specs.Datagrams.{Datagram, datagram}
 use Rattle.mesh_router.specs.Casts.{port_at, to_line}
 use Rattle.mesh_router.specs.Said.{Sent, written}
-use Rattle.mesh_router.specs.Told.{SendsAll}
+use Rattle.mesh_router.specs.Outputs.{SendsAll}
 use Rattle.mesh_router.proofs.Saying.{says-fault, prefix-more, prefix-text, prefix-unsent, adds-join, adds-text, adds-datagram}
 use Rattle.mesh_router.proofs.Peers.{port_is}
 use Rattle.mesh_router.proofs.casts.send_to.Goals as goal

@@ -1,7 +1,7 @@
 use Rattle.std.proofs.Common.{◌≡◌, ◌≤◌, ◌-◌, length}
 use Rattle.mesh_model.specs.Worlds.{members_below}
 use Rattle.mesh_router.specs.Casts.{sent_to_each}
-use Rattle.mesh_router.specs.Told.{Adds}
+use Rattle.mesh_router.specs.Outputs.{Adds}
 use Rattle.mesh_router.proofs.casts.send_to_each.Given as goal
 
 abbrev pub invariant-loop-x : goal.invariant-loop-x

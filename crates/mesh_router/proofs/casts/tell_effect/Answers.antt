@@ -15,7 +15,7 @@ use Rattle.mesh_meaning.specs.Answers.{cast_in}
 use Rattle.mesh_io.specs.Puts.{AppendsPrefix}
 use Rattle.mesh_router.specs.Casts.{sent_to_each}
 use Rattle.mesh_router.specs.Said.{Said, written, followed_by}
-use Rattle.mesh_router.specs.Told.{Says}
+use Rattle.mesh_router.specs.Outputs.{Says}
 use Rattle.mesh_router.proofs.Saying.{says-fault, prefix-more, prefix-text, adds-text, says-join}
 use Rattle.mesh_router.proofs.casts.tell_effect.Goals as goal
 

@@ -9,7 +9,7 @@ use Rattle.mesh_router.specs.Routers.{Moment}
 use Rattle.mesh_router.specs.Lines.{outcome_of_piece}
 use Rattle.mesh_router.specs.Text.{run_from}
 use Rattle.mesh_router.specs.Seen.{most_grown}
-use Rattle.mesh_router.specs.Told.{Outputs}
+use Rattle.mesh_router.specs.Outputs.{Outputs}
 use Rattle.mesh_router.specs.Runs.{IsLineDone}
 use Rattle.mesh_router.specs.Output.{IsTold}
 use Rattle.mesh_router.proofs.Running.{opening_counts, counts_more, counts_few}

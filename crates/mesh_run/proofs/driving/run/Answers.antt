@@ -1,7 +1,7 @@
 use Rattle.std.proofs.Common.{IfSome, subst}
 use Rattle.mesh_text.specs.Schedule.{Moment, opening}
 use Rattle.mesh_run.specs.declared.say.Say.{Say}
-use Rattle.mesh_run.specs.Told.{IsOutputFrom}
+use Rattle.mesh_run.specs.Outputs.{IsOutputFrom}
 use Rattle.mesh_run.proofs.driving.run.Goals as goal
 
 pub returns-clause-told : goal.returns-clause-told

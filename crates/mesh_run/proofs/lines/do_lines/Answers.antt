@@ -9,7 +9,7 @@ use Rattle.mesh_io.proofs.Deciding.{decides_ended}
 use Rattle.mesh_grammar.specs.Lines.{Whole}
 use Rattle.mesh_text.specs.Schedule.{Moment}
 use Rattle.mesh_text.specs.Text.{text_from, text_on, outcome_of_piece}
-use Rattle.mesh_run.specs.Told.{said, is_quiet, IsOutput}
+use Rattle.mesh_run.specs.Outputs.{part, is_quiet, IsOutput}
 use Rattle.mesh_run.specs.Runs.{IsLineDone}
 use Rattle.mesh_moment.specs.Sums.{IsGrown}
 use Rattle.mesh_run.proofs.Faults.{cause_as, cause_after, no_cause, a_cause, unsome}
@@ -81,7 +81,7 @@ returns-in-Some g c =
       same = c.advance.ensures.same ∙ c.lines.invariant.same;
       told = story_stops c.args.say (text_on c.args.at.now) (text_from c.lines.at) (g.I.Source.left (source_of c.args.lines.now).now) (ahead_of g.I.Source.left c.lines.lines) (ahead_of g.I.Source.left c.advance.new.self) (g.I.Source.left (source_of c.advance.new.self).now) (line_of c.advance.new.self) (given_of c.lines.lines) (given_of c.advance.new.self) (has_ended c.lines.lines) (held_by g.O.Sink.held c.args.out.now) (held_by g.O.Sink.held c.hand_on.new.out) (held_by g.O.Sink.held c.piece.new.out) c.in-Some.status
           c.lines.invariant.few kept told (λ e. c.in-Some.ensures.read (ap Some e))
-          (λ pieces. subst (λ l. IsOutput (held_by g.O.Sink.held c.hand_on.new.out) (held_by g.O.Sink.held c.piece.new.out) (said c.args.say (text_from c.lines.at (Whole l ∷ pieces))) c.in-Some.status) c.line.ensures (c.in-Some.ensures.told pieces));
+          (λ pieces. subst (λ l. IsOutput (held_by g.O.Sink.held c.hand_on.new.out) (held_by g.O.Sink.held c.piece.new.out) (part c.args.say (text_from c.lines.at (Whole l ∷ pieces))) c.in-Some.status) c.line.ensures (c.in-Some.ensures.told pieces));
       after = λ e. absurd (c.in-Some.ensures.stopped (ap Some e));
       safe = λ e. absurd (c.in-Some.ensures.stopped (ap Some e));
       grown = λ e. absurd (c.in-Some.ensures.stopped (ap Some e));

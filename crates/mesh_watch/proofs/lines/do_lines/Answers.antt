@@ -7,7 +7,7 @@ use Rattle.mesh_io.specs.Reading.{source_of, given_of, pending_of, line_of, has_
 use Rattle.mesh_io.specs.declared.line_error.LineError.{LineError}
 use Rattle.mesh_io.proofs.Deciding.{decides_ended}
 use Rattle.mesh_grammar.specs.Lines.{Whole}
-use Rattle.mesh_run.specs.Told.{IsOutput}
+use Rattle.mesh_run.specs.Outputs.{IsOutput}
 use Rattle.mesh_run.specs.declared.say.Say.TheVariants.{All}
 use Rattle.mesh_run.specs.Runs.{IsLineDone}
 use Rattle.mesh_run.proofs.Faults.{cause_as, cause_after, no_cause, a_cause, unsome}

@@ -13,7 +13,7 @@ use Rattle.mesh_router.specs.declared.stop.Stop.TheVariants.{Full}
 use Rattle.mesh_router.specs.Routers.{Router}
 use Rattle.mesh_router.specs.Turns.{Goes, act_of, idle_line}
 use Rattle.mesh_router.specs.Peers.{act_said}
-use Rattle.mesh_router.specs.Told.{Outputs, IsFault}
+use Rattle.mesh_router.specs.Outputs.{Outputs, IsFault}
 use Rattle.mesh_router.specs.Runs.{IsStepRun}
 use Rattle.mesh_router.proofs.Saying.{adds-text, prefix-text, prefix-none}
 use Rattle.mesh_router.proofs.Turning.{router_as}

@@ -14,7 +14,7 @@ use Rattle.mesh_router.specs.Turns.{TurnOutcome, Done}
 use Rattle.mesh_router.specs.Peers.{code_said}
 use Rattle.aodv_node.specs.Turned.{IsTaken, IsFullAt, IsDropped, IsShort, IsTurn}
 use Rattle.aodv_node.specs.declared.answers.TurnError.{TurnError}
-use Rattle.mesh_router.specs.Told.{IsFault, AddsPrefix}
+use Rattle.mesh_router.specs.Outputs.{IsFault, AddsPrefix}
 use Rattle.mesh_router.specs.Runs.{IsTurnRun, said_by}
 use Rattle.mesh_router.specs.Short.{IsTurnShort}
 use Rattle.mesh_router.proofs.Saying.{adds-text, prefix-text, prefix-none}

@@ -4,7 +4,7 @@ use Rattle.mesh_base.specs.declared.events.Variant.TheVariants.{Base}
 use Rattle.mesh_model.specs.Walks.{Cycle}
 use Rattle.mesh_model.specs.Worlds.{are_linked}
 use Rattle.mesh_text.specs.Schedule.{world_of}
-use Rattle.mesh_run.specs.Told.{IsOutputOf}
+use Rattle.mesh_run.specs.Outputs.{IsOutputOf}
 use Rattle.mesh_run.specs.declared.say.Say.TheVariants.{All}
 use Rattle.mesh_run.specs.declared.status.Status.{Status}
 use Rattle.mesh_grid.specs.Links.{is_due}

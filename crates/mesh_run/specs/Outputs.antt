@@ -26,11 +26,11 @@ fault_line Finished last = []
 fault_line (RefusedAt n) last = last
 fault_line (FullAt n) last = last
 
--- what is said of a run
-abbrev pub said : Say → Written → Written
-said All w = output false w
-said Last w = output true w
-said Faults w = record w { lines = []; last = fault_line w.verdict w.last }
+-- the part of a run that is written
+abbrev pub part : Say → Written → Written
+part All w = output false w
+part Last w = output true w
+part Faults w = record w { lines = []; last = fault_line w.verdict w.last }
 
 -- a run that was to write this has answered: the whole text and its verdict, or a prefix of the
 -- text and a fault or want of memory
@@ -51,23 +51,23 @@ pub record IsCutShort (say : Say) (text : List ℕ → Written) (bytes : List �
   pub taken : List ℕ
   pub consumed : Consumes (Some bytes) left taken
   pub done : (text (complete taken)).verdict ≡ Finished
-  pub grown : Appends before now (said say (text (complete taken))).lines
-  pub prefix : AppendsPrefix before now (whole (said say (text bytes)))
+  pub grown : Appends before now (part say (text (complete taken))).lines
+  pub prefix : AppendsPrefix before now (whole (part say (text bytes)))
 
 -- a run of these bytes has answered, where the source has this left. After a failed read what was
 -- written is the text of the lines that were read whole
 abbrev pub IsOutputOf : Say → (List ℕ → Written) → List ℕ → Option (List ℕ) → Option (List ℕ)
     → Option (List ℕ) → Status → Type 0
-IsOutputOf say text bytes left before now Done = IsOutput before now (said say (text bytes)) Done
+IsOutputOf say text bytes left before now Done = IsOutput before now (part say (text bytes)) Done
 IsOutputOf say text bytes left before now (BadLine n) =
-    IsOutput before now (said say (text bytes)) (BadLine n)
+    IsOutput before now (part say (text bytes)) (BadLine n)
 IsOutputOf say text bytes left before now (Full n) =
-    IsOutput before now (said say (text bytes)) (Full n)
+    IsOutput before now (part say (text bytes)) (Full n)
 IsOutputOf say text bytes left before now ReadFault = IsCutShort say text bytes left before now
 IsOutputOf say text bytes left before now WriteFault =
-    IsOutput before now (said say (text bytes)) WriteFault
+    IsOutput before now (part say (text bytes)) WriteFault
 IsOutputOf say text bytes left before now NoMemory =
-    IsOutput before now (said say (text bytes)) NoMemory
+    IsOutput before now (part say (text bytes)) NoMemory
 IsOutputOf say text bytes left before now Usage = ⊥
 
 -- the same of the schedule's run from a moment on
