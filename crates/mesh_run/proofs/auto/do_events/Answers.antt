@@ -49,7 +49,7 @@ events-preserved g c =
     let lines = stepped_lines c.events.task.at.now c.do_event.new.at (event_of c.in-Some.event) next in
     let steps = stepped_steps c.events.task.at.now c.do_event.new.at (event_of c.in-Some.event) next in
     let counts = due_counts c.args.quiet (option_map event_of c.events.task.given) c.events.task.count c.events.did c.events.task.at.now c.do_event.new.at (event_of c.in-Some.event) _ _
-        c.events.invariant.one c.events-test.true c.in-Some.ensures.value c.in_default-do_event.ensures.comes next in
+    c.events.invariant.one c.events-test.true c.in-Some.ensures.value c.in_default-do_event.ensures.comes next in
     record {
       ran = λ now n r p. c.events.invariant.ran now n r
           (ran_goes c.args.quiet (option_map event_of c.events.task.given) c.events.task.count c.events.did c.events.task.at.now c.do_event.new.at n (event_of c.in-Some.event)

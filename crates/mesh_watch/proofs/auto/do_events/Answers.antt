@@ -25,7 +25,7 @@ events-preserved g c =
     let lines = stepped_lines c.events.at.point c.do_event.new.at.point (event_of c.in-Some.event) next in
     let steps = stepped_steps c.events.at.point c.do_event.new.at.point (event_of c.in-Some.event) next in
     let counts = chosen_counts c.args.count c.events.did c.events.at.point c.do_event.new.at.point (event_of c.in-Some.event) _ _
-        c.events-test.true c.in-Some.ensures.value c.in_default-do_event.ensures.comes next in
+    c.events-test.true c.in-Some.ensures.value c.in_default-do_event.ensures.comes next in
     record {
       left = omega (arith, counts, c.events.invariant.left);
       ran = λ now n r p. c.events.invariant.ran now n r
