@@ -342,8 +342,32 @@ fn pass_on<T: Table>(
     Ok(())
 }
 
-// Three nodes in a row, each with one of these tables: the first has a datum for the third, finds a
-// route and sends the datum.
+// The first of three nodes in a row has a datum for the third, finds a route and sends the datum.
+fn send_one<T: Table>(
+    alloc: Global,
+    first: &mut Core<T>,
+    second: &mut Core<T>,
+    third: &mut Core<T>,
+    mesh: &Mesh,
+) -> Result<Log, NoMemory>
+    requires mesh { length mesh.now ≡ 3 }
+    requires first { IsReady T.nodes T.entries (length mesh.now) first.old }
+    requires second { IsReady T.nodes T.entries (length mesh.now) second.old }
+    requires third { IsReady T.nodes T.entries (length mesh.now) third.old }
+{
+    let mut log = Log {
+        did: [Deed::Other; 9],
+        packets: ArrayVec::new(),
+    };
+    let body = Bytes::copy_of(alloc, b"hi")?;
+    let _ = takes_a_datum(first, mesh, 2, body)?;
+    find(first, second, third, mesh, &mut log)?;
+    pass_on(first, second, third, mesh, &mut log)?;
+    Ok(log)
+}
+
+// The log of three nodes in a row, each with one of these tables. It only makes the nodes, since
+// each way out of a function that owns them ends all three.
 fn discover<T: Table>(alloc: Global, one: T, two: T, three: T, mesh: &Mesh) -> Result<Log, NoMemory>
     requires mesh { length mesh.now ≡ 3 }
     requires one { (T.nodes one ≡ 3) × (T.entries one ≡ maps.empty) }
@@ -353,15 +377,7 @@ fn discover<T: Table>(alloc: Global, one: T, two: T, three: T, mesh: &Mesh) -> R
     let mut first = opening(alloc, one, mesh, 0)?;
     let mut second = opening(alloc, two, mesh, 1)?;
     let mut third = opening(alloc, three, mesh, 2)?;
-    let mut log = Log {
-        did: [Deed::Other; 9],
-        packets: ArrayVec::new(),
-    };
-    let body = Bytes::copy_of(alloc, b"hi")?;
-    let _ = takes_a_datum(&mut first, mesh, 2, body)?;
-    find(&mut first, &mut second, &mut third, mesh, &mut log)?;
-    pass_on(&mut first, &mut second, &mut third, mesh, &mut log)?;
-    Ok(log)
+    send_one(alloc, &mut first, &mut second, &mut third, mesh)
 }
 
 fn mesh_of_three() -> Mesh {
@@ -420,23 +436,36 @@ fn both_tables_cast_the_same_packets(rt: HostRuntime) -> Result<(), Fail> {
     Ok(())
 }
 
+// What a node does that has a datum, hears of a route, hears that it is lost, and asks; and whether
+// it had room for the datum, could send nothing without a route, and could then lose its link.
+fn lose_the_route<T: Table>(
+    alloc: Global,
+    core: &mut Core<T>,
+    mesh: &Mesh,
+) -> Result<([Deed; 3], [bool; 3]), NoMemory>
+    requires mesh { length mesh.now ≡ 3 }
+    requires ready { IsReady T.nodes T.entries (length mesh.now) core.old }
+{
+    let end = set_of(1, 1);
+    let mut out = Packet::new();
+    let body = Bytes::copy_of(alloc, b"hi")?;
+    let taken = takes_a_datum(core, mesh, 2, body)?;
+    let found = deed_of(hear(core, mesh, &end, 1, ANSWERED_ON, &mut out)?);
+    let told = deed_of(hear(core, mesh, &end, 1, BROKEN, &mut out)?);
+    let idle = send(core, mesh, &end, 2, &mut out).is_none();
+    let asked = deed_of(ask(core, mesh, 2, &mut out)?);
+    let ended = link_broken(core, mesh, 1, &mut out).is_ok();
+    Ok(([found, told, asked], [taken, idle, ended]))
+}
+
 #[test]
 fn a_node_that_lost_its_route_asks_again(rt: HostRuntime) -> Result<(), Fail> {
     let mesh = mesh_of_three();
     assert_eq!(rt; mesh.len(), 3);
     let alloc = rt.alloc();
-    let end = set_of(1, 1);
-    let mut out = Packet::new();
     let mut first = opening(alloc, PlainTable::new(alloc, 3), &mesh, 0)?;
-    let body = Bytes::copy_of(alloc, b"hi")?;
-    assert!(rt; takes_a_datum(&mut first, &mesh, 2, body)?);
-    let found = hear(&mut first, &mesh, &end, 1, ANSWERED_ON, &mut out)?;
-    assert_eq!(rt; deed_of(found), Deed::Nothing);
-    let told = hear(&mut first, &mesh, &end, 1, BROKEN, &mut out)?;
-    assert_eq!(rt; deed_of(told), Deed::Nothing);
-    assert!(rt; send(&mut first, &mesh, &end, 2, &mut out).is_none());
-    let asks = ask(&mut first, &mesh, 2, &mut out)?;
-    assert_eq!(rt; deed_of(asks), Deed::SentToAll);
-    assert!(rt; link_broken(&mut first, &mesh, 1, &mut out).is_ok());
+    let (did, are) = lose_the_route(alloc, &mut first, &mesh)?;
+    assert_eq!(rt; did, [Deed::Nothing, Deed::Nothing, Deed::SentToAll]);
+    assert_eq!(rt; are, [true; 3]);
     Ok(())
 }
