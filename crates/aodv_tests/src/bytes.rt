@@ -1,19 +1,33 @@
-//! Lists of bytes, with ample memory.
-use mesh_base::{Bytes, Room};
+//! Lists of bytes, with ample memory. Each list stands in a function of its own, since every way
+//! out of its owner ends it.
+ghost use Rattle.std.specs.Prelude.{◌≤◌, length};
+
+use mesh_base::{Bytes, NoMemory, Room};
+use std::alloc::Global;
 use std::test::Fail;
+
+fn is_copied(alloc: Global, bytes: &[u8]) -> Result<bool, NoMemory> {
+    let copy = Bytes::copy_of(alloc, bytes)?;
+    Ok(copy.as_slice() == bytes)
+}
+
+// Whether room for so many takes these, and they stay where the rest of the room is given back.
+fn is_filled(alloc: Global, most: usize, bytes: &[u8]) -> Result<bool, NoMemory>
+    requires { length bytes.now ≤ most }
+{
+    let mut filled = Room::new(alloc, most)?.fill(bytes);
+    let whole = filled.as_slice() == bytes;
+    filled.shrink();
+    Ok(whole && filled.as_slice() == bytes)
+}
 
 #[test]
 fn memory_is_found(rt: HostRuntime) -> Result<(), Fail> {
-    let copy = Bytes::copy_of(rt.alloc(), b"hi")?;
-    assert_eq!(rt; copy.as_slice(), b"hi".as_slice());
-    let filled = Room::new(rt.alloc(), 3)?.fill(b"you");
-    assert_eq!(rt; filled.as_slice(), b"you".as_slice());
     let long = b"as long as no list of bytes can be without memory";
-    let copy = Bytes::copy_of(rt.alloc(), long)?;
-    assert_eq!(rt; copy.as_slice(), long.as_slice());
-    let mut filled = Room::new(rt.alloc(), 60)?.fill(long);
-    filled.shrink();
-    assert_eq!(rt; filled.as_slice(), long.as_slice());
+    assert!(rt; is_copied(rt.alloc(), b"hi")?);
+    assert!(rt; is_copied(rt.alloc(), long)?);
+    assert!(rt; is_filled(rt.alloc(), 3, b"you")?);
+    assert!(rt; is_filled(rt.alloc(), 60, long)?);
     assert!(rt; Bytes::short(long).is_none());
     Ok(())
 }

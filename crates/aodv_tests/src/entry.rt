@@ -2,6 +2,14 @@
 use aodv_entry::{Dests, Entry, Flag, Known, better, inc, nsqn};
 use mesh_base::NodeSet;
 
+fn first(dests: &Dests) -> Option<(usize, u32)> {
+    if dests.len() > 0 {
+        Some(dests.pair(0))
+    } else {
+        None
+    }
+}
+
 #[test]
 fn finds_the_number_of_a_destination(rt: HostRuntime) {
     let mut dests = Dests::new();
@@ -10,12 +18,7 @@ fn finds_the_number_of_a_destination(rt: HostRuntime) {
     assert_eq!(rt; dests.number(2), Some(7));
     assert_eq!(rt; dests.number(3), None);
     assert_eq!(rt; dests.len(), 1);
-    let first = if dests.len() > 0 {
-        dests.pair(0)
-    } else {
-        (0, 0)
-    };
-    assert_eq!(rt; first, (2, 7));
+    assert_eq!(rt; first(&dests), Some((2, 7)));
     dests.clear();
     assert_eq!(rt; dests.number(2), None);
 }

@@ -2,7 +2,7 @@
 //! and what the formats make of each.
 ghost use Rattle.std.specs.Prelude.{◌≤◌};
 
-use aodv_wire::{Message, RerrView, read};
+use aodv_wire::{Message, RerrView, Rrep, Rreq, read};
 use mesh_base::Addr;
 use std::test::Fail;
 
@@ -219,23 +219,27 @@ fn error_words(rt: &HostRuntime, pairs: &RerrView<'_>) -> Result<String, Fail> {
     Ok(words)
 }
 
+fn request_words(rt: &HostRuntime, m: &Rreq) -> Result<String, Fail> {
+    let (dip, oip) = (dotted(rt, m.dip)?, dotted(rt, m.oip)?);
+    let known = if m.known { "kno" } else { "unk" };
+    let (hops, id, dsn, osn) = (m.hops, m.id, m.dsn, m.osn);
+    Ok(format!(in rt.alloc();
+        "RREQ hops {hops} id {id} dip {dip} dsn {dsn} {known} oip {oip} osn {osn}"
+    )?)
+}
+
+fn reply_words(rt: &HostRuntime, m: &Rrep) -> Result<String, Fail> {
+    let (dip, oip) = (dotted(rt, m.dip)?, dotted(rt, m.oip)?);
+    let (hops, dsn) = (m.hops, m.dsn);
+    Ok(format!(in rt.alloc(); "RREP hops {hops} dip {dip} dsn {dsn} oip {oip}")?)
+}
+
 // What bytes are, in words.
 fn words_of(rt: &HostRuntime, packet: &[u8]) -> Result<String, Fail> {
     match read(packet) {
         Err(why) => Ok(format!(in rt.alloc(); "{why:?}")?),
-        Ok(Message::Rreq(m)) => {
-            let (dip, oip) = (dotted(rt, m.dip)?, dotted(rt, m.oip)?);
-            let known = if m.known { "kno" } else { "unk" };
-            let (hops, id, dsn, osn) = (m.hops, m.id, m.dsn, m.osn);
-            Ok(format!(in rt.alloc();
-                "RREQ hops {hops} id {id} dip {dip} dsn {dsn} {known} oip {oip} osn {osn}"
-            )?)
-        }
-        Ok(Message::Rrep(m)) => {
-            let (dip, oip) = (dotted(rt, m.dip)?, dotted(rt, m.oip)?);
-            let (hops, dsn) = (m.hops, m.dsn);
-            Ok(format!(in rt.alloc(); "RREP hops {hops} dip {dip} dsn {dsn} oip {oip}")?)
-        }
+        Ok(Message::Rreq(m)) => request_words(rt, &m),
+        Ok(Message::Rrep(m)) => reply_words(rt, &m),
         Ok(Message::Rerr(pairs)) => error_words(rt, &pairs),
         Ok(Message::Parcel(_)) => Ok(String::from_str(rt.alloc(), "data")?),
     }

@@ -69,24 +69,26 @@ fn updated<T: Table>(
     Ok((changed, table.get(3), table.valid().has(3)))
 }
 
-// A table with two entries by node 2, the later of them with the greatest number: the destinations
-// by node 2 and by node 3, and what it answers for the numbers raised.
-fn searched<T: Table>(mut table: T) -> Result<(NodeSet, NodeSet, Result<(), usize>), NoMemory>
+// Whether r gives that entry for a destination that has this one, or none, and the table says so.
+fn gives<T: Table>(
+    table: T,
+    before: Option<Entry>,
+    r: Entry,
+    after: Entry,
+    changes: bool,
+) -> Result<bool, NoMemory>
     requires { T.nodes table ≡ 10 }
 {
-    table.make_room(1)?;
-    table.make_room(9)?;
-    table.put(1, Some(entry(7, Known::Kno, Flag::Val, 2, 2)));
-    table.put(9, Some(entry(4294967295, Known::Kno, Flag::Val, 2, 2)));
-    let mut out = Dests::new();
-    let raised = table.dests_via(2, &mut out);
-    Ok((table.through(2), table.through(3), raised))
+    if r.flag != Flag::Val {
+        return Ok(false);
+    }
+    let (changed, entry, valid) = updated(table, before, r)?;
+    Ok(changed == changes && same(entry, Some(after)) && valid == (after.flag == Flag::Val))
 }
 
-#[test]
-fn an_entry_gives_way_to_a_better_one(rt: HostRuntime) -> Result<(), Fail> {
-    // what is there, what comes, what is there then, and whether that is new
-    let rows = [
+// What is there, what comes, what is there then, and whether that is new.
+fn cases() -> [(Option<Entry>, Entry, Entry, bool); 8] {
+    [
         (None, heard(), heard(), true),
         (
             Some(used()),
@@ -120,33 +122,40 @@ fn an_entry_gives_way_to_a_better_one(rt: HostRuntime) -> Result<(), Fail> {
             used_by(raised(), 7),
             true,
         ),
-    ];
-    for (k, (before, r, after, answer)) in rows.iter().enumerate() {
-        assert!(rt; r.flag == Flag::Val);
-        let both = [
-            updated(PlainTable::new(rt.alloc(), 10), *before, *r)?,
-            updated(RowTable::new(rt.alloc(), 10)?, *before, *r)?,
-        ];
-        for (changed, entry, valid) in both {
-            assert_eq!(rt; changed, *answer, "row {k}");
-            assert!(rt; same(entry, Some(*after)), "row {k}");
-            assert_eq!(rt; valid, after.flag == Flag::Val, "row {k}");
-        }
+    ]
+}
+
+// Whether a table with two entries by node 2, the later of them with the greatest number, has both
+// among the destinations by node 2 and none by node 3, and names the later where the numbers are
+// raised.
+fn names_the_later<T: Table>(mut table: T) -> Result<bool, NoMemory>
+    requires { T.nodes table ≡ 10 }
+{
+    table.make_room(1)?;
+    table.make_room(9)?;
+    table.put(1, Some(entry(7, Known::Kno, Flag::Val, 2, 2)));
+    table.put(9, Some(entry(4294967295, Known::Kno, Flag::Val, 2, 2)));
+    let mut out = Dests::new();
+    let raised = table.dests_via(2, &mut out);
+    let by_two = table.through(2);
+    Ok(by_two.has(1) && by_two.has(9) && table.through(3).is_empty() && raised == Err(9))
+}
+
+#[test]
+fn an_entry_gives_way_to_a_better_one(rt: HostRuntime) -> Result<(), Fail> {
+    let cases = cases();
+    for (k, (before, r, after, changes)) in cases.iter().enumerate() {
+        let plain = PlainTable::new(rt.alloc(), 10);
+        assert!(rt; gives(plain, *before, *r, *after, *changes)?, "row {k}");
+        let rows = RowTable::new(rt.alloc(), 10)?;
+        assert!(rt; gives(rows, *before, *r, *after, *changes)?, "row {k}");
     }
     Ok(())
 }
 
 #[test]
 fn a_number_that_cannot_be_raised_is_named(rt: HostRuntime) -> Result<(), Fail> {
-    let both = [
-        searched(PlainTable::new(rt.alloc(), 10))?,
-        searched(RowTable::new(rt.alloc(), 10)?)?,
-    ];
-    for (by_two, by_three, error) in both {
-        assert!(rt; by_two.has(1));
-        assert!(rt; by_two.has(9));
-        assert!(rt; by_three.is_empty());
-        assert_eq!(rt; error, Err(9));
-    }
+    assert!(rt; names_the_later(PlainTable::new(rt.alloc(), 10))?);
+    assert!(rt; names_the_later(RowTable::new(rt.alloc(), 10)?)?);
     Ok(())
 }
