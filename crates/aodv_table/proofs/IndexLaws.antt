@@ -10,10 +10,10 @@ use Rattle.std.specs.FinSet as sets
 use Rattle.mesh_base.specs.Members.{NodeIds}
 use Rattle.aodv_entry.specs.declared.entry.Entry.{Entry}
 use Rattle.aodv_model.specs.Tables.{Table, is_valid_in}
-use Rattle.aodv_table.specs.Calls.{IsBelow, with_entry, valid_dests, nodes_below}
-use Rattle.aodv_table.specs.Indexed.{entries_from, AreIndexed}
+use Rattle.aodv_table.specs.Calls.{IsBelow, with_entry, valid_dests, nodes_below, is_neighbour_entry, is_neighbour_in}
+use Rattle.aodv_table.specs.Indexed.{entries_from, AreIndexed, AreNeighbours}
 use Rattle.aodv_table.proofs.Lookups.{get-with_entry, same_table}
-use Rattle.aodv_table.proofs.RowLaws.{marked, marked_valid, none_valid}
+use Rattle.aodv_table.proofs.RowLaws.{marked, marked_valid, none_valid, contains-marked}
 
 abbrev Rows : Type 0
 Rows = List (Option Entry)
@@ -72,14 +72,28 @@ row_written rows d o lt = same_table (entries_from 0 (slice_set rows d o)) (with
     ]
     ∙ sym (get-with_entry (entries_from 0 rows) d o q))
 
-pub indexed_kept : (nodes : ℕ) (rows : Rows) (valid valid' : NodeIds) (d : ℕ) (o : Option Entry) → AreIndexed nodes rows valid → d < nodes
-    → valid' ≡ cond (is_valid_in o) (sets.insert valid d) (sets.remove valid d) → AreIndexed nodes (slice_set rows d o) valid'
-indexed_kept nodes rows valid valid' d o are lt marks =
+-- the neighbours after an entry of d is written
+marked_neighbours : (rt : Table) (near near' : NodeIds) (d : ℕ) (o : Option Entry) → AreNeighbours rt near
+    → near' ≡ cond (is_neighbour_entry d o) (sets.insert near d) (sets.remove near d) → AreNeighbours (with_entry rt d o) near'
+marked_neighbours rt near near' d o are marks q =
+    ap (λ (s : NodeIds). sets.contains s q) marks
+    ∙ contains-marked (is_neighbour_entry d o) near d q
+    ∙ elim (cases_eq q d) [
+      | inl same ↦ rw (eq-eqb q d same) (ap (λ k. is_neighbour_entry k o) (sym same))
+      | inr other ↦ rw (ne_eqb q d other) (are q)
+    ]
+    ∙ ap (is_neighbour_entry q) (sym (get-with_entry rt d o q))
+
+pub indexed_kept : (nodes : ℕ) (rows : Rows) (valid valid' near near' : NodeIds) (d : ℕ) (o : Option Entry) → AreIndexed nodes rows valid near → d < nodes
+    → valid' ≡ cond (is_valid_in o) (sets.insert valid d) (sets.remove valid d)
+    → near' ≡ cond (is_neighbour_entry d o) (sets.insert near d) (sets.remove near d) → AreIndexed nodes (slice_set rows d o) valid' near'
+indexed_kept nodes rows valid valid' near near' d o are lt marks marks_near =
     let here : d < length rows = omega (arith, are.each) in
     record {
       few = are.few;
       each = length-set rows d o ∙ are.each;
       valid_are = marks ∙ ap (λ (v : NodeIds). marked o v d) are.valid_are ∙ marked_valid (entries_from 0 rows) d o ∙ ap valid_dests (sym (row_written rows d o here));
+      neighbours_are = subst (λ (rt : Table). AreNeighbours rt near') (sym (row_written rows d o here)) (marked_neighbours (entries_from 0 rows) near near' d o are.neighbours_are marks_near);
     }
 
 -- ---- no entries
@@ -116,8 +130,19 @@ no_entries d (row ∷ rows) none = ap (with_entry (entries_from (d + 1) rows) d)
 pub empty_rows : (rows : Rows) → AreEmpty rows → entries_from 0 rows ≡ maps.empty
 empty_rows rows none = no_entries 0 rows none
 
-pub new_indexed : (nodes : ℕ) (rows : Rows) (valid : NodeIds) → nodes ≤ 200 → length rows ≡ nodes → AreEmpty rows → valid ≡ sets.empty → AreIndexed nodes rows valid
-new_indexed nodes rows valid few each none no_valid = record { few = few; each = each; valid_are = no_valid ∙ none_valid (entries_from 0 rows) (empty_rows rows none) }
+no_neighbours : (rt : Table) (near : NodeIds) → rt ≡ maps.empty → near ≡ sets.empty → AreNeighbours rt near
+no_neighbours rt near none no_near d =
+    ap (λ (s : NodeIds). sets.contains s d) no_near
+    ∙ sets.contains-empty nat_cmp d
+    ∙ sym (ap (λ (t : Table). is_neighbour_in t d) none ∙ ap (is_neighbour_entry d) (maps.get-empty nat_cmp d))
+
+pub new_indexed : (nodes : ℕ) (rows : Rows) (valid near : NodeIds) → nodes ≤ 200 → length rows ≡ nodes → AreEmpty rows → valid ≡ sets.empty → near ≡ sets.empty → AreIndexed nodes rows valid near
+new_indexed nodes rows valid near few each none no_valid no_near = record {
+  few = few;
+  each = each;
+  valid_are = no_valid ∙ none_valid (entries_from 0 rows) (empty_rows rows none);
+  neighbours_are = no_neighbours (entries_from 0 rows) near (empty_rows rows none) no_near;
+}
 
 -- ---- the nodes
 
@@ -137,3 +162,7 @@ contains-nodes_below (suc n) q =
 
 pub has_row : (n d : ℕ) (rooms : NodeIds) → nodes_below n ≡ rooms → d < n → sets.contains rooms d ≡ true
 has_row n d rooms shown lt = ap (λ (s : NodeIds). sets.contains s d) (sym shown) ∙ contains-nodes_below n d ∙ lt-ltb d n lt
+
+-- whether a node is a neighbour, as callers see it
+pub is_known : (nodes : ℕ) (rows : Rows) (valid near : NodeIds) (d : ℕ) (rt : Table) → AreIndexed nodes rows valid near → entries_from 0 rows ≡ rt → sets.contains near d ≡ is_neighbour_in rt d
+is_known nodes rows valid near d rt are shown = are.neighbours_are d ∙ ap (λ (t : Table). is_neighbour_in t d) shown

@@ -181,7 +181,8 @@ room_kept (Err x) s t seen d same e u q had = ap (λ (v : NodeIds). sets.contain
 abbrev pub marked : Option Entry → NodeIds → ℕ → NodeIds
 marked o valid d = cond (is_valid_in o) (sets.insert valid d) (sets.remove valid d)
 
-contains-marked : (b : Bool) (valid : NodeIds) (d q : ℕ) → sets.contains (cond b (sets.insert valid d) (sets.remove valid d)) q ≡ cond (eqb q d) b (sets.contains valid q)
+-- which nodes a set has after d was marked in it, or not
+pub contains-marked : (b : Bool) (valid : NodeIds) (d q : ℕ) → sets.contains (cond b (sets.insert valid d) (sets.remove valid d)) q ≡ cond (eqb q d) b (sets.contains valid q)
 contains-marked true valid d q =
     sets.contains-insert nat_cmp_total valid d q
     ∙ ap (λ (b : Bool). b || sets.contains valid q) (unsigned_tied q d)

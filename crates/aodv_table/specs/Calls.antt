@@ -1,10 +1,11 @@
 -- What the calls of a table say, beside the changes that aodv_model defines.
-use Rattle.std.specs.Prelude.{◌≡◌, ◌<◌, ◌≤◌, ℕ, zero, suc, ◌+◌, ◌==◌, Bool, true, Option, Some, None}
+use Rattle.std.specs.Prelude.{◌≡◌, ◌<◌, ◌≤◌, ℕ, zero, suc, ◌+◌, ◌==◌, Bool, true, false, not, ◌&&◌, Option, Some, None}
 use Rattle.std.specs.List.{list_any}
 use Rattle.std.specs.FinMap as maps
 use Rattle.std.specs.FinSet as sets
 use Rattle.mesh_base.specs.Members.{NodeIds}
 use Rattle.aodv_entry.specs.declared.entry.Entry.{Entry}
+use Rattle.aodv_entry.specs.Quality.{is_kno, is_val}
 use Rattle.aodv_model.specs.Tables.{Table, Dests, in_vD, goes_by}
 use Rattle.aodv_model.specs.Fullness.{greatest}
 
@@ -29,6 +30,17 @@ dests_of rt = sets.from_list (maps.keys rt)
 -- the destinations that have a valid entry (AWN's vD)
 unfoldable pub valid_dests : Table → NodeIds
 valid_dests rt = dests_of (maps.retain_keys rt (in_vD rt))
+
+-- there is an entry of d, and it is that of a neighbour that was heard: valid, its number unknown,
+-- one hop away, by d itself
+abbrev pub is_neighbour_entry : ℕ → Option Entry → Bool
+is_neighbour_entry d None = false
+is_neighbour_entry d (Some e) =
+    is_val e.flag && (not (is_kno e.dsk) && ((e.hops == 1) && (e.next == d)))
+
+-- d's entry is that of a neighbour that was heard
+abbrev pub is_neighbour_in : Table → ℕ → Bool
+is_neighbour_in rt d = is_neighbour_entry d (maps.get rt d)
 
 -- the destinations that have a valid entry with next hop y
 unfoldable pub dests_by : Table → ℕ → NodeIds

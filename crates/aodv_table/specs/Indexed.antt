@@ -2,20 +2,27 @@
 -- node, or none.
 use Rattle.std.specs.Prelude.{◌≡◌, ◌≤◌, ℕ, ◌+◌, List, [], ◌∷◌, length, Option}
 use Rattle.std.specs.FinMap as maps
+use Rattle.std.specs.FinSet as sets
 use Rattle.mesh_base.specs.declared.limits.TheConstants.{MOST_NODES}
 use Rattle.mesh_base.specs.Members.{NodeIds}
 use Rattle.aodv_entry.specs.declared.entry.Entry.{Entry}
 use Rattle.aodv_model.specs.Tables.{Table}
-use Rattle.aodv_table.specs.Calls.{with_entry, valid_dests}
+use Rattle.aodv_table.specs.Calls.{with_entry, valid_dests, is_neighbour_in}
 
 -- the table that rows show, of which the first is the row of node d
 unfoldable pub entries_from : ℕ → List (Option Entry) → Table
 entries_from d [] = maps.empty
 entries_from d (row ∷ rows) = with_entry (entries_from (d + 1) rows) d row
 
--- what such a table keeps: a number of nodes that a mesh may have, a row for each of them, and the
--- set of the valid destinations
-pub record AreIndexed (nodes : ℕ) (rows : List (Option Entry)) (valid : NodeIds) : Type 0 where
+-- these nodes are the neighbours that were heard
+abbrev pub AreNeighbours : Table → NodeIds → Type 0
+AreNeighbours rt nodes = (d : ℕ) → sets.contains nodes d ≡ is_neighbour_in rt d
+
+-- what such a table keeps: a number of nodes that a mesh may have, a row for each of them, the set
+-- of the valid destinations, and that of the neighbours that were heard
+pub record AreIndexed (nodes : ℕ) (rows : List (Option Entry)) (valid neighbours : NodeIds)
+    : Type 0 where
   pub few : nodes ≤ MOST_NODES
   pub each : length rows ≡ nodes
   pub valid_are : valid ≡ valid_dests (entries_from 0 rows)
+  pub neighbours_are : AreNeighbours (entries_from 0 rows) neighbours

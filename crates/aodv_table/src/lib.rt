@@ -7,6 +7,7 @@
 
 mod merge;
 mod plain;
+mod row;
 mod rows;
 mod table;
 

@@ -1,8 +1,9 @@
-//! What becomes of an entry where another comes for the same destination, and what an entry is
-//! found by.
+//! What becomes of an entry where another comes for the same destination, what an entry is found
+//! by, and the sets that its destination is marked in.
 ghost use Rattle.std.specs.Prelude.{◌≡◌, ◌<◌, ◌↔◌, if◌then◌else◌, false, Some, None};
 ghost use Rattle.std.specs.FinSet as sets;
 ghost use Rattle.aodv_model.specs.Tables.{entry_after, goes_by, is_valid_in};
+ghost use Rattle.aodv_table.specs.Calls.{is_neighbour_entry};
 
 use aodv_entry::{Entry, Flag, Known};
 use mesh_base::NodeSet;
@@ -54,7 +55,7 @@ pub(crate) fn entry_by(entry: Option<Entry>, next: usize) -> Option<Entry>
 }
 
 /// Whether d is valid, as its row says.
-pub(crate) fn mark(valid: &mut NodeSet, d: usize, row: &Option<Entry>)
+pub(crate) fn mark_valid(valid: &mut NodeSet, d: usize, row: &Option<Entry>)
     requires { d < 256 }
     ensures { valid.new
         ≡ (if is_valid_in row.now then sets.insert valid.old d else sets.remove valid.old d) }
@@ -62,5 +63,28 @@ pub(crate) fn mark(valid: &mut NodeSet, d: usize, row: &Option<Entry>)
     match row {
         Some(entry) if entry.flag == Flag::Val => valid.add(d),
         _ => valid.remove(d),
+    }
+}
+
+/// Whether the entry of d is that of a neighbour that was heard.
+pub(crate) fn is_neighbour_entry(d: usize, entry: &Option<Entry>) -> bool
+    ensures { result ≡ is_neighbour_entry d entry.now }
+{
+    match entry {
+        Some(e) => e.next == d && e.hops == 1 && e.flag == Flag::Val && e.dsk == Known::Unk,
+        None => false,
+    }
+}
+
+/// Whether d is a neighbour that was heard, as its row says.
+pub(crate) fn mark_neighbour(neighbours: &mut NodeSet, d: usize, row: &Option<Entry>)
+    requires { d < 256 }
+    ensures { neighbours.new ≡ (if is_neighbour_entry d row.now
+        then sets.insert neighbours.old d else sets.remove neighbours.old d) }
+{
+    if is_neighbour_entry(d, row) {
+        neighbours.add(d);
+    } else {
+        neighbours.remove(d);
     }
 }

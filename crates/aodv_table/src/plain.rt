@@ -6,7 +6,7 @@ ghost use Rattle.aodv_table.specs.Calls.{with_entry};
 ghost use Rattle.aodv_table.specs.Seen.{without_entries};
 ghost use Rattle.aodv_table.specs.Rows.{entries_in, rooms_in};
 
-use crate::merge::mark;
+use crate::merge::{is_neighbour_entry, mark_valid};
 use crate::table::Table;
 use aodv_entry::Entry;
 use mesh_base::{MOST_NODES, NoMemory, NodeSet};
@@ -120,10 +120,14 @@ impl Table for PlainTable {
 
     fn put(&mut self, d: usize, e: Option<Entry>) {
         write_row(&mut self.rows, d, e);
-        mark(&mut self.valid, d, &e);
+        mark_valid(&mut self.valid, d, &e);
     }
 
     fn valid(&self) -> NodeSet {
         self.valid
+    }
+
+    fn is_neighbour(&self, d: usize) -> bool {
+        is_neighbour_entry(d, &self.get(d))
     }
 }

@@ -6,7 +6,8 @@ ghost use Rattle.mesh_base.specs.Members.{AreAmong};
 ghost use Rattle.aodv_table.specs.Calls.{IsBelow, with_entry, nodes_below};
 ghost use Rattle.aodv_table.specs.Seen.{without_entries};
 
-use crate::merge::mark;
+use crate::merge::{mark_neighbour, mark_valid};
+use crate::row::Row;
 use crate::table::Table;
 use aodv_entry::Entry;
 use mesh_base::{MOST_NODES, NoMemory, NodeSet};
@@ -14,12 +15,15 @@ use std::alloc::Global;
 use std::marker::Model;
 
 /// A table with a row for every node of the mesh, made once. A row holds the entry of its node, or
-/// none. So an entry is read and written at its place, with no search and no memory.
+/// none. So an entry is read and written at its place, with no search and no memory. Whether a node
+/// is a neighbour that was heard is asked for each packet, and the rows are many: so these are a
+/// set of their own.
 #[derive(Drop)]
 pub struct RowTable {
     nodes: usize,
-    rows: Vec<Option<Entry>>,
+    rows: Vec<Row>,
     valid: NodeSet,
+    neighbours: NodeSet,
 }
 
 impl Model for RowTable {
@@ -37,7 +41,7 @@ impl Model for RowTable {
       nodes = t.nodes;
     } };
 
-    ghost invariant = { λ t. AreIndexed t.nodes t.rows.items t.valid };
+    ghost invariant = { λ t. AreIndexed t.nodes t.rows.items t.valid t.neighbours };
 }
 
 impl RowTable {
@@ -48,12 +52,13 @@ impl RowTable {
     {
         let mut rows = Vec::with_capacity(alloc, nodes)?;
         for _ in 0..nodes {
-            rows.push(None)?;
+            rows.push(Row::new(None))?;
         }
         Ok(RowTable {
             nodes,
             rows,
             valid: NodeSet::new(),
+            neighbours: NodeSet::new(),
         })
     }
 }
@@ -74,8 +79,9 @@ impl Table for RowTable {
         self.nodes
     }
 
+    #[inline(always)]
     fn get(&self, d: usize) -> Option<Entry> {
-        self.rows[d]
+        self.rows[d].entry()
     }
 
     fn has_room(&self, d: usize) -> bool {
@@ -100,11 +106,17 @@ impl Table for RowTable {
     }
 
     fn put(&mut self, d: usize, e: Option<Entry>) {
-        self.rows[d] = e;
-        mark(&mut self.valid, d, &e);
+        self.rows[d] = Row::new(e);
+        mark_valid(&mut self.valid, d, &e);
+        mark_neighbour(&mut self.neighbours, d, &e);
     }
 
     fn valid(&self) -> NodeSet {
         self.valid
+    }
+
+    #[inline(always)]
+    fn is_neighbour(&self, d: usize) -> bool {
+        self.neighbours.has(d)
     }
 }

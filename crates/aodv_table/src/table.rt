@@ -5,7 +5,7 @@ ghost use Rattle.std.specs.FinSet as sets;
 ghost use Rattle.mesh_base.specs.Members.{NodeIds, AreAmong};
 ghost use Rattle.aodv_entry.specs.declared.entry.Flag.TheVariants.{Val};
 ghost use Rattle.aodv_model.specs.Tables.{Table as Entries, update, invalidate, add_pre, unreachable_by};
-ghost use Rattle.aodv_table.specs.Calls.{IsBelow, with_entry, valid_dests, dests_by, is_past, IsLeastPast};
+ghost use Rattle.aodv_table.specs.Calls.{IsBelow, with_entry, valid_dests, is_neighbour_in, dests_by, is_past, IsLeastPast};
 
 use crate::merge::{entry_after, entry_by, is_changed};
 use aodv_entry::{Dests, Entry, Flag, inc};
@@ -15,8 +15,8 @@ use mesh_base::{MOST_NODES, NoMemory, NodeSet};
 /// mesh.
 ///
 /// A destination gets room for an entry by `make_room`, and keeps it. No other call takes memory. A
-/// table says how it reads and writes one entry, and keeps the set of its valid destinations. What
-/// AWN does with tables stands here, over these.
+/// table says how it reads and writes one entry and knows a neighbour that was heard, and keeps the
+/// set of its valid destinations. What AWN does with tables stands here, over these.
 pub trait Table: Drop {
     /// The entries, by destination.
     ghost entries: { Self → Entries };
@@ -121,6 +121,13 @@ pub trait Table: Drop {
     /// searched.
     fn valid(&self) -> NodeSet
         ensures { result ≡ valid_dests (entries self.now) };
+
+    /// Whether d's entry is that of a neighbour that was heard: valid, one hop away by d itself,
+    /// and its number unknown, whatever that number and its precursors are. A table that keeps the
+    /// set of these neighbours looks at no entry.
+    fn is_neighbour(&self, d: usize) -> bool
+        requires { d < nodes self.now }
+        ensures { result ≡ is_neighbour_in (entries self.now) d };
 
     /// The destinations that have a valid entry with that next hop. All valid entries are looked
     /// at.

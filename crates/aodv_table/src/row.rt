@@ -1,0 +1,87 @@
+//! A row of a table.
+ghost use Rattle.std.specs.Prelude.{◌≡◌};
+
+use aodv_entry::{Entry, Flag, Known};
+use mesh_base::NodeSet;
+use std::marker::Model;
+
+/// A row, seen as the entry that it holds, or none. Whether it holds one is kept where the fields
+/// of an entry leave a byte: an `Option` would take a word more in each row. The other fields of a
+/// row without an entry say nothing.
+#[derive(Drop)]
+pub(crate) struct Row {
+    dsn: u32,
+    dsk: Known,
+    flag: Flag,
+    hops: u8,
+    there: bool,
+    next: usize,
+    pre: NodeSet,
+}
+
+impl Model for Row {
+    ghost use Rattle.std.specs.Prelude.{Option, Some, None, if◌then◌else◌};
+    ghost use Rattle.std.specs.Coded.{coded_option};
+    ghost use Rattle.aodv_entry.specs.declared.entry.Entry.{Entry};
+    ghost use Rattle.aodv_model.specs.Codes.{entry_code};
+
+    ghost Value = { Option Entry };
+
+    ghost coded = { coded_option entry_code };
+
+    ghost view = { λ r. if r.there then Some (record {
+      dsn = r.dsn;
+      dsk = r.dsk;
+      flag = r.flag;
+      hops = r.hops;
+      next = r.next;
+      pre = r.pre;
+    }) else None };
+}
+
+impl Row {
+    /// A row with that entry, or with none.
+    #[inline(always)]
+    pub fn new(entry: Option<Entry>) -> Row
+        ensures { result ≡ entry }
+    {
+        match entry {
+            Some(e) => Row {
+                dsn: e.dsn,
+                dsk: e.dsk,
+                flag: e.flag,
+                hops: e.hops,
+                there: true,
+                next: e.next,
+                pre: e.pre,
+            },
+            None => Row {
+                dsn: 0,
+                dsk: Known::Unk,
+                flag: Flag::Inv,
+                hops: 0,
+                there: false,
+                next: 0,
+                pre: NodeSet::new(),
+            },
+        }
+    }
+
+    /// The entry that the row holds, if any.
+    #[inline(always)]
+    pub fn entry(&self) -> Option<Entry>
+        ensures { result ≡ self.now }
+    {
+        if !self.there {
+            return None;
+        }
+        Some(Entry {
+            dsn: self.dsn,
+            dsk: self.dsk,
+            flag: self.flag,
+            hops: self.hops,
+            next: self.next,
+            pre: self.pre,
+        })
+    }
+}
