@@ -1,5 +1,5 @@
 //! What handlers read from a routing table, and the entries that they make.
-ghost use Rattle.std.specs.Prelude.{◌≡◌, ◌<◌, ◌≤◌, ◌↔◌, ◌+◌, ℕ, true, IsSome, IsNone, IfSome, nat_le, IsTrue};
+ghost use Rattle.std.specs.Prelude.{◌≡◌, ◌<◌, ◌≤◌, ◌+◌, ℕ, true, IsSome, IsNone, IfSome, nat_le};
 ghost use Rattle.std.specs.FinMap as maps;
 ghost use Rattle.std.specs.FinSet as sets;
 ghost use Rattle.aodv_model.specs.Tables.{nhop, sqn, sqnf, in_vD, update, add_pre};
@@ -23,17 +23,8 @@ fn neighbour_entry(from: usize) -> Entry
     }
 }
 
-// Whether an entry is that of a neighbour, whatever its number and its precursors.
-#[inline(always)]
-fn is_neighbour(e: &Entry, from: usize) -> bool
-    ensures { let learnt = the_neighbour_entry from in
-        IsTrue result ↔ (e.now ≡ record learnt { dsn = e.now.dsn; pre = e.now.pre }) }
-{
-    e.next == from && e.hops == 1 && e.flag == Flag::Val && e.dsk == Known::Unk
-}
-
-/// A neighbour was heard, and its entry is updated. Mostly that would change nothing, which is seen
-/// without a call.
+/// A neighbour was heard, and its entry is updated. Mostly that would change nothing, which the
+/// table tells before its entry is read.
 #[inline(always)]
 pub(crate) fn note_neighbour<T: Table>(table: &mut T, from: usize)
     requires below { from < T.nodes table.old }
@@ -43,11 +34,8 @@ pub(crate) fn note_neighbour<T: Table>(table: &mut T, from: usize)
     ensures rooms { T.rooms table.new ≡ T.rooms table.old }
     ensures nodes { T.nodes table.new ≡ T.nodes table.old }
 {
-    match table.get(from) {
-        Some(e) if is_neighbour(&e, from) => {}
-        _ => {
-            table.update(from, neighbour_entry(from));
-        }
+    if !table.is_neighbour(from) {
+        table.update(from, neighbour_entry(from));
     }
 }
 

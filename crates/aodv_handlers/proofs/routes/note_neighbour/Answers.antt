@@ -1,5 +1,6 @@
-use Rattle.aodv_handlers.proofs.Neighbours.{noted}
+use Rattle.aodv_handlers.proofs.Neighbours.{heard_again}
 use Rattle.aodv_handlers.proofs.routes.note_neighbour.Goals as goal
 
-pub returns-in-Some-clause-entries : goal.returns-in-Some-clause-entries
-returns-in-Some-clause-entries g c = noted (g.T.Table.entries c.args.table.now) c.args.from c.in-Some.e c.in-Some.ensures.value (c.is_neighbour.ensures.0 c.if-is_neighbour.true)
+pub returns-else-not-is_neighbour-clause-entries : goal.returns-else-not-is_neighbour-clause-entries
+returns-else-not-is_neighbour-clause-entries g c =
+    heard_again (g.T.Table.entries c.args.table.now) c.args.from c.is_neighbour.result c.is_neighbour.ensures c.if-not-is_neighbour.false
