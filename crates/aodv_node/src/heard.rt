@@ -17,7 +17,7 @@ use aodv_wire::{RerrView, read};
 use mesh_base::{Effect, Kind, Mesh, NodeSet, Packet};
 
 /// A turn on bytes from a node.
-pub(crate) fn hear<T: Table>(
+pub(crate) fn handle<T: Table>(
     core: &mut Core<T>,
     mesh: &Mesh,
     range: &NodeSet,
@@ -38,16 +38,16 @@ pub(crate) fn hear<T: Table>(
         Ok(message) => match meaning_of(mesh, message) {
             Err(who) => Err(TurnError::Stranger { from, who }),
             Ok(Meaning::Request(m)) => {
-                with_kind(Kind::Rreq, hear_request(core, mesh, range, from, &m, out))
+                with_kind(Kind::Rreq, handle_request(core, mesh, range, from, &m, out))
             }
             Ok(Meaning::Reply(m)) => {
-                with_kind(Kind::Rrep, hear_reply(core, mesh, range, from, &m, out))
+                with_kind(Kind::Rrep, handle_reply(core, mesh, range, from, &m, out))
             }
             Ok(Meaning::Error(m)) => {
-                with_kind(Kind::Rerr, hear_error(core, mesh, range, from, &m, out))
+                with_kind(Kind::Rerr, handle_error(core, mesh, range, from, &m, out))
             }
             Ok(Meaning::Datum(m)) => {
-                with_kind(Kind::Data, hear_datum(core, mesh, range, from, &m, out))
+                with_kind(Kind::Data, handle_datum(core, mesh, range, from, &m, out))
             }
         },
     }
@@ -62,7 +62,7 @@ fn with_kind(kind: Kind, done: Result<Effect, TurnError>) -> Result<(Kind, Effec
     }
 }
 
-fn hear_request<T: Table>(
+fn handle_request<T: Table>(
     core: &mut Core<T>,
     mesh: &Mesh,
     range: &NodeSet,
@@ -87,7 +87,7 @@ fn hear_request<T: Table>(
     }
 }
 
-fn hear_reply<T: Table>(
+fn handle_reply<T: Table>(
     core: &mut Core<T>,
     mesh: &Mesh,
     range: &NodeSet,
@@ -112,7 +112,7 @@ fn hear_reply<T: Table>(
     }
 }
 
-fn hear_error<T: Table>(
+fn handle_error<T: Table>(
     core: &mut Core<T>,
     mesh: &Mesh,
     range: &NodeSet,
@@ -133,7 +133,7 @@ fn hear_error<T: Table>(
     Ok(on_rerr(core, mesh, from, m, out))
 }
 
-fn hear_datum<T: Table>(
+fn handle_datum<T: Table>(
     core: &mut Core<T>,
     mesh: &Mesh,
     range: &NodeSet,

@@ -7,7 +7,7 @@ ghost use Rattle.aodv_node.specs.Turned.{HasAllRooms, IsTurn};
 ghost use Rattle.aodv_node.specs.Heard.{done_with as so_done};
 
 use crate::answers::{TurnDone, TurnError};
-use crate::heard::hear;
+use crate::heard::handle;
 use crate::rooms::make_store;
 use aodv_handlers::{Core, new_packet};
 use aodv_inbox::Inbox;
@@ -70,7 +70,7 @@ pub(crate) fn take_turn<T: Table>(
         }
         Item::Heard { from, bytes } => {
             let from = *from;
-            match hear(core, mesh, range, from, bytes.as_slice(), out) {
+            match handle(core, mesh, range, from, bytes.as_slice(), out) {
                 Ok((kind, effect)) => match inbox.pop() {
                     Some(Item::Heard { from, bytes }) => Ok(TurnDone {
                         took: Took::Heard { from, kind, bytes },

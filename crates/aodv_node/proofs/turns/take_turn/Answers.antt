@@ -15,12 +15,12 @@ make_store-requires-clause-below g c =
     rw c.requires.ready.table
     (first_has (IsItemAt (length c.args.mesh.now) c.args.core.now.me) c.args.inbox.now.items (item.New c.in-New.dest c.in-New.body) (option_copied c.front.result) c.requires.each c.front.ensures.front (ap option_copied c.in-Some.is ∙ ap Some c.in-New.is)).0
 
-pub hear-requires-clause-from : goal.hear-requires-clause-from
-hear-requires-clause-from g c =
+pub handle-requires-clause-from : goal.handle-requires-clause-from
+handle-requires-clause-from g c =
     (first_has (IsItemAt (length c.args.mesh.now) c.args.core.now.me) c.args.inbox.now.items (item.Heard c.in-Heard.from c.in-Heard.bytes) (option_copied c.front.result) c.requires.each c.front.ensures.front (ap option_copied c.in-Some.is ∙ ap Some c.in-Heard.is)).0
 
-pub hear-requires-clause-other : goal.hear-requires-clause-other
-hear-requires-clause-other g c =
+pub handle-requires-clause-other : goal.handle-requires-clause-other
+handle-requires-clause-other g c =
     (first_has (IsItemAt (length c.args.mesh.now) c.args.core.now.me) c.args.inbox.now.items (item.Heard c.in-Heard.from c.in-Heard.bytes) (option_copied c.front.result) c.requires.each c.front.ensures.front (ap option_copied c.in-Some.is ∙ ap Some c.in-Heard.is)).1
 
 pub returns-in-Some-New-clause-turn : goal.returns-in-Some-New-clause-turn
@@ -39,7 +39,7 @@ returns-in-Some-New-clause-turn g c =
 
 pub returns-in-Err-Full-clause-turn : goal.returns-in-Err-Full-clause-turn
 returns-in-Err-Full-clause-turn g c =
-    let full = stopped c.args.mesh.now (core_of g.T.Table.entries c.args.core.now) c.args.range.now c.in-Heard.from c.as_slice.result.now c.in-Err-Full.field-0 c.in-Err-Full.field (core_of g.T.Table.entries c.hear.new.core) c.hear.new.out.items c.in-Err-Full.field-0-is c.in-Err-Full.ensures.does in (
+    let full = stopped c.args.mesh.now (core_of g.T.Table.entries c.args.core.now) c.args.range.now c.in-Heard.from c.as_slice.result.now c.in-Err-Full.field-0 c.in-Err-Full.field (core_of g.T.Table.entries c.handle.new.core) c.handle.new.out.items c.in-Err-Full.field-0-is c.in-Err-Full.ensures.does in (
       record {
         front = item.Heard c.in-Heard.from c.as_slice.result.now;
         rest = drop 1 c.args.inbox.now.items;
@@ -48,7 +48,7 @@ returns-in-Err-Full-clause-turn g c =
         readable = full.0;
         full = full.1.overfull;
       },
-      seen_same g.T.Table.nodes g.T.Table.entries c.hear.new.core c.args.core.now c.args.inbox.now full.1.same (c.hear.ensures.ready.table ∙ sym c.requires.ready.table),
+      seen_same g.T.Table.nodes g.T.Table.entries c.handle.new.core c.args.core.now c.args.inbox.now full.1.same (c.handle.ensures.ready.table ∙ sym c.requires.ready.table),
     )
 
 pub returns-in-Some-New-clause-ready : goal.returns-in-Some-New-clause-ready
@@ -65,7 +65,7 @@ returns-in_err-make_store-in-New-clause-turn g c =
 
 pub returns-in-Err-NoMemory-clause-turn : goal.returns-in-Err-NoMemory-clause-turn
 returns-in-Err-NoMemory-clause-turn g c =
-    let short = stopped_short c.args.mesh.now (core_of g.T.Table.entries c.args.core.now) c.args.range.now c.in-Heard.from c.as_slice.result.now c.in-Err-NoMemory.field-0 (core_of g.T.Table.entries c.hear.new.core) c.hear.new.out.items c.in-Err-NoMemory.field-0-is c.in-Err-NoMemory.ensures.does in (
+    let short = stopped_short c.args.mesh.now (core_of g.T.Table.entries c.args.core.now) c.args.range.now c.in-Heard.from c.as_slice.result.now c.in-Err-NoMemory.field-0 (core_of g.T.Table.entries c.handle.new.core) c.handle.new.out.items c.in-Err-NoMemory.field-0-is c.in-Err-NoMemory.ensures.does in (
       record {
         front = item.Heard c.in-Heard.from c.as_slice.result.now;
         rest = drop 1 c.args.inbox.now.items;
@@ -74,5 +74,5 @@ returns-in-Err-NoMemory-clause-turn g c =
         readable = short.0;
         needs = short.1;
       },
-      seen_same g.T.Table.nodes g.T.Table.entries c.hear.new.core c.args.core.now c.args.inbox.now short.2 (c.hear.ensures.ready.table ∙ sym c.requires.ready.table),
+      seen_same g.T.Table.nodes g.T.Table.entries c.handle.new.core c.args.core.now c.args.inbox.now short.2 (c.handle.ensures.ready.table ∙ sym c.requires.ready.table),
     )
