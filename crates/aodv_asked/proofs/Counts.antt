@@ -6,7 +6,7 @@ use Rattle.std.proofs.lemmas.Bool.{cases_lt, le-leb, lt-leb}
 use Rattle.mesh_base.specs.Members.{members_below}
 use Rattle.aodv_model.specs.Cores.{Seen, next_request_id}
 use Rattle.aodv_model.specs.Soundness.{AreBelow}
-use Rattle.aodv_asked.specs.declared.ids.Interval.{Interval}
+use Rattle.aodv_asked.specs.declared.interval.Interval.{Interval}
 use Rattle.aodv_asked.specs.Insertions.{interval, interval_at, is_in}
 use Rattle.aodv_asked.specs.Intervals.{ids_in, AreApart, RoomyIds, IdSet}
 use Rattle.aodv_asked.specs.Requests.{ids_below, ids_beside}

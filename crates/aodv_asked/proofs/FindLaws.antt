@@ -1,15 +1,13 @@
 -- Which ids the intervals have, by a place among them.
-use Rattle.std.proofs.Common.{◌≡◌, ◌<◌, ◌≤◌, ℕ, zero, suc, ◌+◌, ◌-◌, Bool, true, false, ltb, leb, ◌&&◌, ◌||◌, List, [], ◌∷◌, length, Some, None, refl, sym, ap, subst, ◌∙◌, arith, ◌⊎◌, inl, inr}
-use Rattle.std.specs.Prelude.{slice_get}
+use Rattle.std.proofs.Common.{◌≡◌, ◌<◌, ◌≤◌, ℕ, zero, suc, ◌+◌, Bool, true, false, ltb, leb, ◌&&◌, ◌||◌, List, [], ◌∷◌, length, Some, None, refl, sym, ap, subst, ◌∙◌, arith, ◌⊎◌, inl, inr}
 use Rattle.std.specs.List.Sorted.{IsNonDecreasingBy}
 use Rattle.std.proofs.lemmas.Bool.{le-leb, lt-leb, cases_lt}
 use Rattle.std.proofs.lemmas.Bool.Decides.{nat_tests}
 use Rattle.std.proofs.lemmas.List.{get_or_default}
-use Rattle.std.proofs.lemmas.Option.{slice_get_within, get_or_from_slice_get}
 use Rattle.std.specs.FinSet.{contains}
 use Rattle.mesh_base.specs.Members.{IsLeastFrom}
-use Rattle.aodv_asked.specs.declared.ids.Interval.{Interval}
-use Rattle.aodv_asked.specs.Intervals.{ids_in, AreApart, IsGreatest}
+use Rattle.aodv_asked.specs.declared.interval.Interval.{Interval}
+use Rattle.aodv_asked.specs.Intervals.{ids_in, AreApart}
 use Rattle.aodv_asked.specs.Insertions.{interval, interval_at, is_in}
 use Rattle.aodv_asked.proofs.IntervalLaws.{contains-ids_in}
 
@@ -115,30 +113,6 @@ least_inside vs from place v apart at lt is less =
     (omega arith, there vs place from apart lt (omega arith) (at.after place (omega arith) lt), λ q low high. absurd (omega arith))
 
 -- ---- the greatest
-
-pub greatest_some : (vs : List Interval) (v : Interval) → AreApart 0 vs → Some v ≡ slice_get vs (length vs - 1) → IsGreatest (ids_in vs) (Some v.last)
-greatest_some vs v apart at =
-    let place = length vs - 1 in
-    let lt : place < length vs = slice_get_within vs place v (sym at) in
-    let is : interval_at vs place ≡ v = get_or_from_slice_get vs place v (interval 0 0) (sym at) in
-    let last : (interval_at vs place).last ≡ v.last = ap (λ (x : Interval). x.last) is in
-    let some = some_in 0 vs place apart lt in (
-      there vs place v.last apart lt (omega arith) (omega arith),
-      λ id less. contains-ids_in 0 vs id apart ∙ in_none vs id (λ i here. inl (let up = (rises 0 vs i place apart (omega arith) lt).1 in omega arith)),
-    )
-
-missing : (xs : List Interval) (k : ℕ) → None ≡ slice_get xs k → k < length xs → ⊥
-missing [] k e lt = omega arith
-missing (x ∷ xs) zero e lt = cc
-missing (x ∷ xs) (suc k) e lt = missing xs k e (omega arith)
-
-none_in : (vs : List Interval) (id : ℕ) → None ≡ slice_get vs (length vs - 1) → is_in vs id ≡ false
-unfolding is_in
-none_in [] id e = refl
-none_in (v ∷ vs) id e = absurd (missing (v ∷ vs) (length (v ∷ vs) - 1) e (omega arith))
-
-pub greatest_none : (vs : List Interval) → AreApart 0 vs → None ≡ slice_get vs (length vs - 1) → IsGreatest (ids_in vs) None
-greatest_none vs apart at id = contains-ids_in 0 vs id apart ∙ none_in vs id at
 
 -- ---- tests
 

@@ -10,7 +10,7 @@ use Rattle.std.proofs.lemmas.Cmp.{nat_cmp_total}
 use Rattle.std.specs.Cmp.{unsigned_tied}
 use Rattle.std.specs.Ordering.{nat_cmp}
 use Rattle.std.specs.FinSet.{empty, insert, contains, contains-empty, contains-insert, same_set}
-use Rattle.aodv_asked.specs.declared.ids.Interval.{Interval}
+use Rattle.aodv_asked.specs.declared.interval.Interval.{Interval}
 use Rattle.aodv_asked.specs.Insertions.{interval_at, is_in, is_near_to, joined, with_id}
 use Rattle.aodv_asked.specs.Intervals.{is_near_in, IdSet, with_range, ids_in, AreApart}
 
@@ -25,7 +25,7 @@ range_more lo n q b = grind (arith, nat_tests)
 range_none : (lo q : ℕ) (b : Bool) → b ≡ ((leb lo q && ltb q (lo + 0)) || b)
 range_none lo q b = grind (arith, nat_tests)
 
-contains-with_range : (s : IdSet) (lo n q : ℕ) → contains (with_range s lo n) q ≡ ((leb lo q && ltb q (lo + n)) || contains s q)
+pub contains-with_range : (s : IdSet) (lo n q : ℕ) → contains (with_range s lo n) q ≡ ((leb lo q && ltb q (lo + n)) || contains s q)
 unfolding with_range
 contains-with_range s lo zero q = range_none lo q (contains s q)
 contains-with_range s lo (suc n) q = contains-insert nat_cmp_total (with_range s lo n) (lo + n) q ∙ rw (unsigned_tied q (lo + n), contains-with_range s lo n q) (range_more lo n q (contains s q) ∙ ap (λ (m : ℕ). (leb lo q && ltb q (lo + m)) || contains s q) (omega arith))

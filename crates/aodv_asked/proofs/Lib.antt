@@ -1,7 +1,9 @@
 pub mod IntervalLaws
 pub mod PlaceLaws
 pub mod FindLaws
+pub mod TopLaws
 pub mod RowLaws
+pub mod KeptLaws
 pub mod Counts
 pub mod Listed
 pub mod PairRows

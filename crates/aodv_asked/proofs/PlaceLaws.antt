@@ -4,7 +4,7 @@ use Rattle.std.specs.List.{insert, remove, refill}
 use Rattle.std.proofs.lemmas.Bool.{le-ltb, lt-ltb, ne_eqb, lt-leb, le-leb, cases_lt}
 use Rattle.std.proofs.lemmas.List.{append-nil, length-set, take_all, take-append-drop, set_split, drop_all, get_or_default}
 use Rattle.std.proofs.Math.Seq.{drop-length}
-use Rattle.aodv_asked.specs.declared.ids.Interval.{Interval}
+use Rattle.aodv_asked.specs.declared.interval.Interval.{Interval}
 use Rattle.aodv_asked.specs.Intervals.{AreApart}
 use Rattle.aodv_asked.specs.Insertions.{interval, is_in, is_near_to, joined, with_id}
 use Rattle.aodv_asked.proofs.IntervalLaws.{AllBefore, with_id-at, drop_at, is_in-append, is_in_before, is_in_after}

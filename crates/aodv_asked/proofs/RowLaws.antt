@@ -1,9 +1,6 @@
 -- What the ids of each originator show.
-use Rattle.std.proofs.Common.{◌≡◌, ◌≢◌, ◌<◌, ◌≤◌, ℕ, zero, suc, ◌+◌, ◌-◌, Bool, true, false, cond, eqb, ◌&&◌, ◌||◌, List, [], ◌∷◌, ◌++◌, length, get_or, max, Option, Some, None, refl, sym, ap, subst, ◌∙◌, arith, ◌⊎◌, inl, inr, eq-eqb}
+use Rattle.std.proofs.Common.{◌≡◌, ◌≢◌, ◌<◌, ◌≤◌, ℕ, zero, suc, ◌+◌, Bool, true, false, cond, eqb, ◌&&◌, ◌||◌, List, [], ◌∷◌, ◌++◌, length, get_or, max, Option, Some, None, refl, sym, ap, subst, ◌∙◌, arith, ◌⊎◌, inl, inr, eq-eqb}
 use Rattle.std.proofs.Math.ListN.{set as put}
-use Rattle.std.specs.Prelude.{OnOk}
-use Rattle.std.proofs.Common.{Result, Ok, Err}
-use Rattle.mesh_base.specs.declared.bytes.NoMemory.{NoMemory}
 use Rattle.std.specs.declared.cmp.Ordering.{Ordering}
 use Rattle.std.specs.declared.cmp.Ordering.TheVariants.{Less, Equal, Greater}
 use Rattle.std.specs.List.{list_any, All, AllByRecursion}
@@ -18,8 +15,8 @@ use Rattle.aodv_model.specs.Pairs.{pair_cmp}
 use Rattle.mesh_base.specs.Members.{IsLeastFrom}
 use Rattle.aodv_model.specs.Cores.{Seen, greatest_beside, last_request_id, next_request_id}
 use Rattle.aodv_model.proofs.PairLaws.{pair_cmp_total, same_pair}
-use Rattle.aodv_asked.specs.Intervals.{IdSet, RoomyIds, IsGreatest, is_near_in}
-use Rattle.aodv_asked.specs.Requests.{is_near, IsLeastIdFrom}
+use Rattle.aodv_asked.specs.Intervals.{IdSet, RoomyIds, IsGreatest}
+use Rattle.aodv_asked.specs.Requests.{IsLeastIdFrom}
 use Rattle.aodv_asked.specs.Rows.{no_ids, ids_at, with_ids, pairs_from, pairs_of, rooms_of}
 
 -- ---- pairs
@@ -145,12 +142,6 @@ one_more rows o id row lt is = same_pairs (pairs_of (put rows o row)) (sets.inse
     ∙ ap (λ (b : Bool). eq_by_cmp pair_cmp p (o, id) || b) (sym (contains-pairs_of rows p.0 p.1))
     ∙ sym (sets.contains-insert pair_cmp_total (pairs_of rows) (o, id) p))
 
-pub near_here : (rows : List RoomyIds) (seen : Seen) (o id : ℕ) (row : RoomyIds) → o < length rows → pairs_of rows ≡ seen → row ≡ get_or rows o row → is_near seen o id ≡ is_near_in row.ids id
-near_here rows seen o id row lt is at =
-    let ids = row_read rows o row lt at in
-    let each : (q : ℕ) → sets.contains seen (o, q) ≡ sets.contains row.ids q = λ q. shown rows seen o q is ∙ ap (λ (s : IdSet). sets.contains s q) ids in
-    rw (each id, each (id + 1), each (id - 1)) refl
-
 -- ---- rooms
 
 room_read : (rows : List RoomyIds) (o : ℕ) (ids : RoomyIds) → o < length rows → ids ≡ get_or rows o ids → get_or (rooms_of rows) o 0 ≡ ids.room
@@ -263,7 +254,7 @@ pub empty_push : (rows : List RoomyIds) (row : RoomyIds) → AreEmpty rows → r
 empty_push [] row all none = (none, tt)
 empty_push (r ∷ rows) row all none = (all.0, empty_push rows row all.1 none)
 
-empty_at : (rows : List RoomyIds) (o : ℕ) → AreEmpty rows → ids_at rows o ≡ sets.empty
+pub empty_at : (rows : List RoomyIds) (o : ℕ) → AreEmpty rows → ids_at rows o ≡ sets.empty
 empty_at [] o all = refl
 empty_at (r ∷ rows) zero all = all.0
 empty_at (r ∷ rows) (suc o) all = empty_at rows o all.1
@@ -284,19 +275,9 @@ least_shown rows seen o from (Some m) ids is at least = (least.0, each m ∙ lea
     each : (q : ℕ) → sets.contains seen (o, q) ≡ sets.contains ids q
     each q = shown rows seen o q is ∙ ap (λ (s : IdSet). sets.contains s q) at
 
-pub last_shown : (rows : List RoomyIds) (seen : Seen) (o g : ℕ) (ids : IdSet) → pairs_of rows ≡ seen → ids_at rows o ≡ ids → IsGreatest ids (Some g) → last_request_id seen o ≡ g
-last_shown rows seen o g ids is at top = greatest_is rows seen o g is (subst (λ (s : IdSet). IsGreatest s (Some g)) (sym at) top)
-
-pub none_shown : (rows : List RoomyIds) (seen : Seen) (o : ℕ) (ids : IdSet) → pairs_of rows ≡ seen → ids_at rows o ≡ ids → IsGreatest ids None → last_request_id seen o ≡ 0
-none_shown rows seen o ids is at top = greatest_none rows seen o is (subst (λ (s : IdSet). IsGreatest s None) (sym at) top)
-
 pub next_is : (seen : Seen) (o g : ℕ) → last_request_id seen o ≡ g → next_request_id seen o ≡ g + 1
 unfolding next_request_id
 next_is seen o g is = ap (λ (n : ℕ). n + 1) is
-
-pub room_made : (rows : List RoomyIds) (o : ℕ) (row : RoomyIds) (r : Result (Unit {0}) NoMemory) → o < length rows → OnOk r (0 < row.room) → OnOk r (0 < get_or (rooms_of (put rows o row)) o 0)
-room_made rows o row (Ok u) lt made = let new = room_put_here rows o row lt in omega arith
-room_made rows o row (Err e) lt made = made
 
 -- ---- rows that are just made
 

@@ -1,6 +1,6 @@
 -- Where an id lies among intervals, and the intervals with one more id.
 use Rattle.std.specs.Prelude.{◌==◌, ℕ, ◌+◌, ◌-◌, Bool, false, if◌then◌else◌, nat_lt, nat_le, ◌&&◌, ◌||◌, List, [], ◌∷◌, slice_index_or}
-use Rattle.aodv_asked.specs.declared.ids.Interval.{Interval}
+use Rattle.aodv_asked.specs.declared.interval.Interval.{Interval}
 
 -- the ids from a to b
 abbrev pub interval : ℕ → ℕ → Interval

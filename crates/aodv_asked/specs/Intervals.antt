@@ -5,7 +5,7 @@ use Rattle.std.specs.FinSet.{FinSet, empty, insert, contains}
 use Rattle.std.specs.Coded.{Coded, code_by, coded×, coded_ℕ}
 use Rattle.std.specs.FinSet as sets
 use Rattle.std.proofs.Common.{refl}
-use Rattle.aodv_asked.specs.declared.ids.Interval.{Interval}
+use Rattle.aodv_asked.specs.declared.interval.Interval.{Interval}
 
 -- a set of ids
 abbrev pub IdSet : Type 0

@@ -8,3 +8,5 @@ pub mod Intervals
 pub mod Rows
 -- Insertions: how one more id changes the intervals. Only the crate's own functions cite it.
 pub mod Insertions
+-- Tops: the last interval of each originator's ids, kept apart from its row.
+pub mod Tops

@@ -3,16 +3,22 @@ ghost use Rattle.std.specs.Prelude.{◌≡◌, ◌≢◌, ◌<◌, ◌≤◌, �
 ghost use Rattle.std.specs.FinSet as sets;
 ghost use Rattle.aodv_model.specs.Cores.{last_request_id, next_request_id};
 ghost use Rattle.aodv_asked.specs.Requests.{is_near, ids_beside, IsLeastIdFrom};
+ghost use Rattle.aodv_asked.specs.Tops.{AreNoted};
 
 use crate::ids::Ids;
-use mesh_base::NoMemory;
+use crate::interval::Interval;
+use mesh_base::{NoMemory, NodeSet};
 use std::alloc::Global;
 use std::marker::Model;
 
-/// For each originator the ids of its requests that were seen.
+/// For each originator the ids of its requests that were seen. Its last interval of ids stands in an
+/// array of its own, of 8 bytes an originator, since most requests that are heard are copies of the
+/// newest one: these look at no row. `roomy` has the originators whose row is known to have room.
 #[derive(Drop)]
 pub struct Asked {
+    tops: Vec<Interval>,
     rows: Vec<Ids>,
+    roomy: NodeSet,
 }
 
 impl Model for Asked {
@@ -23,8 +29,27 @@ impl Model for Asked {
     ghost coded = { seen_code };
 
     ghost use Rattle.aodv_asked.specs.Rows.{pairs_of, rooms_of};
+    ghost use Rattle.aodv_asked.specs.Tops.{topped, AreKept};
 
-    ghost view = { λ a. record { pairs = pairs_of a.rows.items; rooms = rooms_of a.rows.items } };
+    ghost view = { λ a. record {
+      pairs = pairs_of (topped a.rows.items a.tops.items);
+      rooms = rooms_of a.rows.items;
+    } };
+
+    ghost invariant = { λ a. AreKept a.rows.items a.tops.items a.roomy };
+}
+
+// Notes whether o's row has room. Of a node from index 256 on it isn't noted.
+fn note_room(roomy: &mut NodeSet, o: usize, has_room: bool)
+    ensures { AreNoted roomy.old o has_room roomy.new }
+{
+    if has_room {
+        if o < 256 {
+            roomy.add(o);
+        }
+    } else if roomy.has(o) {
+        roomy.remove(o);
+    }
 }
 
 impl Asked {
@@ -34,11 +59,14 @@ impl Asked {
         ensures nodes { IfOk result (λ asked. length asked.rooms ≡ nodes) }
         ensures rooms { IfOk result (λ asked. (o : ℕ) → o < nodes → slice_index asked.rooms o ≡ 2) }
     {
+        let tops = vec![in alloc; Interval::none(); nodes]?;
         let mut rows = Vec::with_capacity(alloc, nodes)?;
-        for _ in 0..nodes {
+        let mut roomy = NodeSet::new();
+        for o in 0..nodes {
             rows.push(Ids::new(alloc))?;
+            note_room(&mut roomy, o, true);
         }
-        Ok(Asked { rows })
+        Ok(Asked { tops, rows, roomy })
     }
 
     /// The number of nodes of the mesh. Each request that was seen is of one of them.
@@ -49,15 +77,22 @@ impl Asked {
         self.rows.len()
     }
 
-    /// Whether o's request with this id was seen: a binary search.
+    /// Whether o's request with this id was seen. Of an id that is not below the last interval it
+    /// looks at no row, and otherwise it is a binary search.
+    #[inline]
     pub fn has(&self, o: usize, id: u32) -> bool
         requires { o < length self.now.rooms }
         ensures { result ≡ sets.contains self.now.pairs (o, id) }
     {
+        let top = self.tops[o];
+        if top.first <= id {
+            return id <= top.last;
+        }
         self.rows[o].has(id)
     }
 
     /// Makes room for one more id of o. It asks for memory only where there is none.
+    #[inline]
     pub fn make_room(&mut self, o: usize) -> Result<(), NoMemory>
         requires { o < length self.old.rooms }
         ensures pairs { self.new.pairs ≡ self.old.pairs }
@@ -68,8 +103,14 @@ impl Asked {
         ensures keeps { (q : ℕ) → slice_index self.old.rooms q ≤ slice_index self.new.rooms q }
         ensures refused { OnErr result (self.new ≡ self.old) }
     {
+        // Nearly always there is room, and seeing that looks at no row.
+        if self.roomy.has(o) {
+            return Ok(());
+        }
         let ids = &mut self.rows[o];
-        ids.make_room()
+        ids.make_room()?;
+        note_room(&mut self.roomy, o, true);
+        Ok(())
     }
 
     /// o's request with this id was seen. It uses up at most the room for one id of o. No room is
@@ -83,8 +124,16 @@ impl Asked {
         ensures others { (q : ℕ) → q ≢ o
             → slice_index self.new.rooms q ≡ slice_index self.old.rooms q }
     {
+        let top = self.tops[o];
+        if let Some(grown) = top.grown(id) {
+            self.tops[o] = grown;
+            return;
+        }
         let ids = &mut self.rows[o];
-        ids.insert(id);
+        let new_top = ids.insert_beside(top, id);
+        let has_room = ids.has_room();
+        self.tops[o] = new_top;
+        note_room(&mut self.roomy, o, has_room);
     }
 
     /// One more than the greatest id of o that was seen, and 1 where there is none. None says that
@@ -94,7 +143,7 @@ impl Asked {
         ensures full { IsNone result ↔ (last_request_id self.now.pairs o ≡ 4294967295) }
         ensures value { IfSome result (λ id. id ≡ next_request_id self.now.pairs o) }
     {
-        match self.rows[o].last() {
+        match self.tops[o].greatest() {
             Some(u32::MAX) => None,
             Some(last) => Some(last + 1),
             None => Some(1),
@@ -107,7 +156,7 @@ impl Asked {
         requires { o < length self.now.rooms }
         ensures { result ≡ length (ids_beside self.now.pairs o) }
     {
-        self.rows[o].count()
+        self.rows[o].count() + self.tops[o].count()
     }
 
     /// The least id beside o.
@@ -115,7 +164,7 @@ impl Asked {
         requires { o < length self.now.rooms }
         ensures { IsLeastIdFrom self.now.pairs o 0 result }
     {
-        self.rows[o].least_from(0)
+        self.least_from(o, 0)
     }
 
     /// The least id beside o that is above `id`.
@@ -123,6 +172,17 @@ impl Asked {
         requires { o < length self.now.rooms }
         ensures { IsLeastIdFrom self.now.pairs o (id + 1) result }
     {
-        self.rows[o].least_from(u64::from(id) + 1)
+        self.least_from(o, u64::from(id) + 1)
+    }
+
+    // The least id beside o that is not below `from`.
+    fn least_from(&self, o: usize, from: u64) -> Option<u32>
+        requires { o < length self.now.rooms }
+        ensures { IsLeastIdFrom self.now.pairs o from result }
+    {
+        match self.rows[o].least_from(from) {
+            Some(id) => Some(id),
+            None => self.tops[o].least_from(from),
+        }
     }
 }

@@ -1,23 +1,18 @@
 //! Ids as rising intervals that neither meet nor adjoin.
-ghost use Rattle.std.specs.Prelude.{◌≡◌, ◌<◌, ◌≤◌, ◌+◌, ◌-◌, ◌⊎◌, ℕ, IsOk, OnOk, OnErr, IsTrue, length, insert};
+ghost use Rattle.std.specs.Prelude.{◌≡◌, ◌<◌, ◌≤◌, ◌+◌, ◌-◌, ◌⊎◌, ℕ, nat_lt, IsOk, OnOk, OnErr, IsTrue, length, insert};
 ghost use Rattle.smallvec.specs.SmallVec.{small_vec_len};
 ghost use Rattle.std.specs.FinSet as sets;
 ghost use Rattle.mesh_base.specs.Members.{IsLeastFrom, members_below};
 ghost use Rattle.aodv_model.specs.Soundness.{AreBelow};
-ghost use Rattle.aodv_asked.specs.Intervals.{AreApart, is_near_in, IsGreatest};
+ghost use Rattle.aodv_asked.specs.Intervals.{AreApart, is_near_in, with_range};
 ghost use Rattle.aodv_asked.specs.Insertions.{interval, interval_at, with_id, is_near_to};
+ghost use Rattle.aodv_asked.specs.Tops.{with_interval, AreBefore, IsBehind};
 
+use crate::interval::{Interval, narrowed};
 use mesh_base::NoMemory;
 use smallvec::SmallVec;
 use std::alloc::Global;
 use std::marker::Model;
-
-/// The ids from `first` to `last`.
-#[derive(Clone, Copy, Default)]
-struct Interval {
-    first: u32,
-    last: u32,
-}
 
 /// A set of ids. Two intervals take no memory.
 #[derive(Drop)]
@@ -53,16 +48,6 @@ fn count_before(intervals: &[Interval], from: u64) -> usize
         → from ≤ (interval_at intervals.now i).last }
 {
     intervals.partition_point(|v| u64::from(v.last) < from)
-}
-
-// A number that is at most this one of 32 bits.
-fn narrowed(n: u64, most: u32) -> u32
-    requires { n ≤ most }
-    ensures { result ≡ n }
-{
-    // It says that `most` is a number of 32 bits.
-    let _most = most;
-    n as u32
 }
 
 // The first interval that doesn't end before the id and apart from it.
@@ -153,6 +138,13 @@ impl Ids {
         }
     }
 
+    /// Whether there is room for one more id.
+    pub(crate) fn has_room(&self) -> bool
+        ensures { result ≡ nat_lt 0 self.now.room }
+    {
+        self.intervals.len() < self.intervals.capacity()
+    }
+
     /// Makes room for one more id.
     pub(crate) fn make_room(&mut self) -> Result<(), NoMemory>
         ensures ids { self.new.ids ≡ self.old.ids }
@@ -162,8 +154,7 @@ impl Ids {
         ensures keeps { self.old.room ≤ self.new.room }
         ensures refused { OnErr result (self.new ≡ self.old) }
     {
-        // Nearly always there is room, and seeing that takes no call.
-        if self.intervals.len() < self.intervals.capacity() {
+        if self.has_room() {
             return Ok(());
         }
         match self.intervals.reserve(1) {
@@ -181,12 +172,78 @@ impl Ids {
     }
 
     /// Adds an id. It takes no memory.
-    pub(crate) fn insert(&mut self, id: u32)
+    fn insert(&mut self, id: u32)
         requires { (0 < self.old.room) ⊎ IsTrue (is_near_in self.old.ids id) }
         ensures ids { self.new.ids ≡ sets.insert self.old.ids id }
         ensures room { self.old.room ≤ self.new.room + 1 }
     {
         put(&mut self.intervals, id);
+    }
+
+    /// Adds the ids of an interval that stands behind the others. It takes no memory.
+    fn push(&mut self, top: Interval)
+        requires room { 0 < self.old.room }
+        requires some { top.first ≤ top.last }
+        requires behind { IsBehind self.old.ids top }
+        ensures ids { self.new.ids ≡ with_interval self.old.ids top }
+        ensures room { self.old.room ≤ self.new.room + 1 }
+    {
+        match self.intervals.push(top) {
+            Ok(()) => {}
+            Err(_) => unreachable!(),
+        }
+    }
+
+    /// Takes away the ids that lead up to `id`, one after another, and returns the first of them,
+    /// or `id` where there is none. All are below it.
+    fn take_up_to(&mut self, id: u32) -> u32
+        requires { AreBelow id self.old.ids }
+        ensures within { result ≤ id }
+        ensures ids { with_range self.new.ids result (id - result) ≡ self.old.ids }
+        ensures apart { AreBefore self.new.ids result }
+        ensures room { self.old.room ≤ self.new.room }
+    {
+        let len = self.intervals.len();
+        if len == 0 {
+            return id;
+        }
+        let last = self.intervals[len - 1];
+        if last.last + 1 < id {
+            return id;
+        }
+        self.intervals.truncate(len - 1);
+        last.first
+    }
+
+    /// Adds an id beside the ids here and those of `top`, the interval that stands behind them. It
+    /// is below that interval, or above it and apart from it. What is returned stands behind the
+    /// ids then. It takes no memory.
+    pub(crate) fn insert_beside(&mut self, top: Interval, id: u32) -> Interval
+        requires some { top.first ≤ top.last }
+        requires behind { IsBehind self.old.ids top }
+        requires apart { (id < top.first) ⊎ (top.last + 1 < id) }
+        requires room { (0 < self.old.room)
+            ⊎ IsTrue (is_near_in (with_interval self.old.ids top) id) }
+        ensures ids { with_interval self.new.ids result
+            ≡ sets.insert (with_interval self.old.ids top) id }
+        ensures behind { IsBehind self.new.ids result }
+        ensures room { self.old.room ≤ self.new.room + 1 }
+    {
+        if top.last < id {
+            self.push(top);
+            return Interval {
+                first: id,
+                last: id,
+            };
+        }
+        if id + 1 < top.first {
+            self.insert(id);
+            return top;
+        }
+        Interval {
+            first: self.take_up_to(id),
+            last: top.last,
+        }
     }
 
     /// How many ids there are: how many of them are below any number that is above all. It looks at
@@ -200,16 +257,6 @@ impl Ids {
             count += u64::from(v.last - v.first) + 1;
         }
         count
-    }
-
-    /// The greatest id.
-    pub(crate) fn last(&self) -> Option<u32>
-        ensures { IsGreatest self.now.ids result }
-    {
-        match self.intervals.last() {
-            Some(interval) => Some(interval.last),
-            None => None,
-        }
     }
 
     /// The least id that is not below `from`.

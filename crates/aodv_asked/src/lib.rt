@@ -5,5 +5,6 @@
 
 mod asked;
 mod ids;
+mod interval;
 
 pub use asked::Asked;

@@ -1,30 +1,41 @@
-use Rattle.std.proofs.Common.{◌≡◌, ◌+◌, ◌∷◌, [], length, ap, sym, subst, ◌∙◌, arith}
-use Rattle.std.proofs.lemmas.List.{length-map, length-append}
+use Rattle.std.proofs.Common.{◌≡◌, ◌+◌, ◌∷◌, [], true, length, ap, sym, subst, ◌∙◌, arith}
+use Rattle.std.proofs.Math.ListN.{replicate}
+use Rattle.std.proofs.lemmas.List.{length-append}
 use Rattle.std.specs.List.{All}
 use Rattle.aodv_asked.specs.Intervals.{RoomyIds}
-use Rattle.aodv_asked.proofs.RowLaws.{AreEmpty, empty_push, empty_pairs, rooms_are, rooms_push}
+use Rattle.aodv_asked.specs.Rows.{pairs_of}
+use Rattle.aodv_asked.specs.Tops.{no_top, topped, AreKept}
+use Rattle.aodv_asked.proofs.RowLaws.{AreEmpty, empty_at, empty_push, empty_pairs, rooms_are, rooms_push}
+use Rattle.aodv_asked.proofs.KeptLaws.{topped_none, kept_none, none_noted, noted_below, room_of_all}
 use Rattle.aodv_asked.proofs.asked.Asked.new.Goals as goal
 
-pub loop-init : goal.loop-init
-loop-init c = record {
+pub loop-o-init : goal.loop-o-init
+loop-o-init c = record {
   len = ap length c.in_ok-rows.ensures.items;
   empty = subst AreEmpty (sym c.in_ok-rows.ensures.items) tt;
   rooms = subst (All (λ (r : RoomyIds). r.room ≡ 2)) (sym c.in_ok-rows.ensures.items) (λ k d lt. absurd (omega arith));
+  roomy = none_noted c.new-roomy.result c.new-roomy.ensures;
 }
 
-pub loop-preserved : goal.loop-preserved
-loop-preserved c = record {
-  len = ap length c.in_ok-push.ensures.items ∙ length-append c.loop.rows.items (c.new.result ∷ []) ∙ ap (λ n. n + 1) c.loop.invariant.len;
-  empty = subst AreEmpty (sym c.in_ok-push.ensures.items) (empty_push c.loop.rows.items c.new.result c.loop.invariant.empty c.new.ensures.ids);
-  rooms = subst (All (λ (r : RoomyIds). r.room ≡ 2)) (sym c.in_ok-push.ensures.items) (rooms_push c.loop.rows.items c.new.result 2 c.loop.invariant.rooms c.new.ensures.room);
+pub loop-o-preserved : goal.loop-o-preserved
+loop-o-preserved c = record {
+  len = ap length c.in_ok-push.ensures.items ∙ length-append c.loop-o.rows.items (c.new.result ∷ []) ∙ ap (λ n. n + 1) c.loop-o.invariant.len;
+  empty = subst AreEmpty (sym c.in_ok-push.ensures.items) (empty_push c.loop-o.rows.items c.new.result c.loop-o.invariant.empty c.new.ensures.ids);
+  rooms = subst (All (λ (r : RoomyIds). r.room ≡ 2)) (sym c.in_ok-push.ensures.items) (rooms_push c.loop-o.rows.items c.new.result 2 c.loop-o.invariant.rooms c.new.ensures.room);
+  roomy = noted_below c.loop-o.roomy c.note_room.new.roomy c.loop-o.o true c.loop-o.invariant.roomy c.note_room.ensures;
 }
+
+pub invariant_of-result : goal.invariant_of-result
+invariant_of-result c =
+    let tops : c.in_ok-tops.tops.items ≡ replicate c.args.nodes no_top = c.in_ok-tops.ensures.items_if_clones_equal (λ y same. same) ∙ ap (replicate c.args.nodes) c.none.ensures in
+    let full : length c.loop-o.rows.items ≡ c.args.nodes = omega (arith, c.loop-o.invariant.len, c.loop-o.auto.o-end, c.loop-o-test.false) in
+    subst (λ vs. AreKept c.loop-o.rows.items vs c.loop-o.roomy) (sym tops) (kept_none c.loop-o.rows.items c.loop-o.roomy c.args.nodes full (λ o. empty_at c.loop-o.rows.items o c.loop-o.invariant.empty) (λ o here. room_of_all c.loop-o.rows.items o 1 c.loop-o.invariant.rooms (omega (arith, c.loop-o.invariant.len, c.loop-o.invariant.roomy o here))))
 
 pub returns-clause-pairs : goal.returns-clause-pairs
-returns-clause-pairs c = empty_pairs c.loop.rows.items c.loop.invariant.empty
-
-pub returns-clause-nodes : goal.returns-clause-nodes
-returns-clause-nodes c = length-map c.loop.rows.items (λ row. row.room) ∙ c.loop.invariant.len ∙ omega (arith, c.loop.auto.counter-end, c.loop-test.false)
+returns-clause-pairs c =
+    let tops : c.in_ok-tops.tops.items ≡ replicate c.args.nodes no_top = c.in_ok-tops.ensures.items_if_clones_equal (λ y same. same) ∙ ap (replicate c.args.nodes) c.none.ensures in
+    ap (λ vs. pairs_of (topped c.loop-o.rows.items vs)) tops ∙ ap pairs_of (topped_none c.loop-o.rows.items c.args.nodes) ∙ empty_pairs c.loop-o.rows.items c.loop-o.invariant.empty
 
 pub returns-clause-rooms : goal.returns-clause-rooms
 returns-clause-rooms c = λ o lt.
-    rooms_are c.loop.rows.items o 2 c.loop.invariant.rooms (omega (arith, c.loop.invariant.len, c.loop.auto.counter-end, c.loop-test.false))
+    rooms_are c.loop-o.rows.items o 2 c.loop-o.invariant.rooms (omega (arith, c.loop-o.invariant.len, c.loop-o.auto.o-end, c.loop-o-test.false))

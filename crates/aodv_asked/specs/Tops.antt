@@ -1,0 +1,67 @@
+-- The last interval of each originator's ids, kept apart from its row, which has the ids before it.
+use Rattle.std.specs.Prelude.{◌≡◌, ◌≢◌, ◌<◌, ◌⊎◌, ℕ, ◌+◌, ◌-◌, Bool, true, List, [], ◌∷◌, length, slice_index_or}
+use Rattle.std.specs.FinSet.{empty, insert, contains}
+use Rattle.mesh_base.specs.Members.{NodeIds}
+use Rattle.aodv_asked.specs.declared.interval.Interval.{Interval}
+use Rattle.aodv_asked.specs.Intervals.{IdSet, RoomyIds, with_range}
+use Rattle.aodv_asked.specs.Insertions.{interval}
+use Rattle.aodv_asked.specs.Rows.{no_ids, ids_at}
+
+-- the interval without ids
+abbrev pub no_top : Interval
+no_top = interval 1 0
+
+-- the ids, and those of an interval
+abbrev pub with_interval : IdSet → Interval → IdSet
+with_interval ids v = with_range ids v.first (v.last + 1 - v.first)
+
+-- the ids of an interval
+abbrev pub ids_of : Interval → IdSet
+ids_of v = with_interval empty v
+
+-- each id is before the number, and not next to it
+abbrev pub AreBefore : IdSet → ℕ → Type 0
+AreBefore ids n = (id : ℕ) → contains ids id ≡ true → id + 1 < n
+
+-- the interval stands behind the ids and apart from them; one without ids begins at 1, so that
+-- there are none before it
+abbrev pub IsBehind : IdSet → Interval → Type 0
+IsBehind ids v = AreBefore ids v.first × (v.last < v.first → v.first ≡ 1)
+
+-- one interval has an id more than another, behind whatever ids the other stands
+abbrev pub HasOneMore : Interval → ℕ → Interval → Type 0
+HasOneMore v id grown =
+    (ids : IdSet)
+    → IsBehind ids v
+    → IsBehind ids grown × (with_interval ids grown ≡ insert (with_interval ids v) id)
+
+-- the last interval of o's ids
+abbrev pub top_at : List Interval → ℕ → Interval
+top_at tops o = slice_index_or tops o no_top
+
+-- for how many more ids of o there is room
+abbrev pub room_at : List RoomyIds → ℕ → ℕ
+room_at rows o = (slice_index_or rows o no_ids).room
+
+-- a row with the ids of an interval
+abbrev pub with_top : RoomyIds → Interval → RoomyIds
+with_top row v = record { ids = with_interval row.ids v; room = row.room }
+
+-- each row with the ids of its last interval
+unfoldable pub topped : List RoomyIds → List Interval → List RoomyIds
+topped rows [] = rows
+topped [] (v ∷ tops) = []
+topped (row ∷ rows) (v ∷ tops) = with_top row v ∷ topped rows tops
+
+-- a last interval stands behind each row, and each roomy node has room
+pub record AreKept (rows : List RoomyIds) (tops : List Interval) (roomy : NodeIds) : Type 0 where
+  pub each : length tops ≡ length rows
+  pub behind : (o : ℕ) → IsBehind (ids_at rows o) (top_at tops o)
+  pub room : (o : ℕ) → contains roomy o ≡ true → 0 < room_at rows o
+
+-- each roomy node is o, if it has room, or another one that was roomy before
+abbrev pub AreNoted : NodeIds → ℕ → Bool → NodeIds → Type 0
+AreNoted before o has_room after =
+    (q : ℕ)
+    → contains after q ≡ true
+    → ((q ≡ o) × (has_room ≡ true)) ⊎ ((q ≢ o) × (contains before q ≡ true))

@@ -1,0 +1,82 @@
+//! Intervals of ids.
+ghost use Rattle.std.specs.Prelude.{◌≡◌, ◌<◌, ◌≤◌, ◌+◌, ◌-◌, ◌⊎◌, IfSome, IsNone};
+ghost use Rattle.mesh_base.specs.Members.{IsLeastFrom};
+ghost use Rattle.aodv_asked.specs.Intervals.{IsGreatest};
+ghost use Rattle.aodv_asked.specs.Tops.{no_top, ids_of, HasOneMore};
+
+/// The ids from `first` to `last`. Where there is none, `first` is 1 and `last` is 0.
+#[derive(Clone, Copy, Default)]
+pub(crate) struct Interval {
+    pub(crate) first: u32,
+    pub(crate) last: u32,
+}
+
+/// A number that is at most this one of 32 bits.
+pub(crate) fn narrowed(n: u64, most: u32) -> u32
+    requires { n ≤ most }
+    ensures { result ≡ n }
+{
+    // It says that `most` is a number of 32 bits.
+    let _most = most;
+    n as u32
+}
+
+impl Interval {
+    /// The interval without ids.
+    pub(crate) fn none() -> Interval
+        ensures { result ≡ no_top }
+    {
+        Interval { first: 1, last: 0 }
+    }
+
+    /// The interval with one more id, which is in it or right above it, or else the first of all.
+    /// None says that the id is below the interval, or above it and apart from it.
+    pub(crate) fn grown(self, id: u32) -> Option<Interval>
+        ensures grown { IfSome result (λ grown. HasOneMore self id grown) }
+        ensures some { IsNone result → self.first ≤ self.last }
+        ensures apart { IsNone result → (id < self.first) ⊎ (self.last + 1 < id) }
+    {
+        if self.last < self.first {
+            return Some(Interval {
+                first: id,
+                last: id,
+            });
+        }
+        if id < self.first || u64::from(self.last) + 1 < u64::from(id) {
+            return None;
+        }
+        Some(Interval {
+            first: self.first,
+            last: self.last.max(id),
+        })
+    }
+
+    /// How many ids there are.
+    pub(crate) fn count(self) -> u64
+        ensures value { result ≡ self.last + 1 - self.first }
+        ensures few { self.first + result ≤ 4294967296 }
+    {
+        (u64::from(self.last) + 1).saturating_sub(u64::from(self.first))
+    }
+
+    /// The greatest id.
+    pub(crate) fn greatest(self) -> Option<u32>
+        ensures { IsGreatest (ids_of self) result }
+    {
+        if self.last < self.first {
+            return None;
+        }
+        Some(self.last)
+    }
+
+    /// The least id that is not below `from`.
+    pub(crate) fn least_from(self, from: u64) -> Option<u32>
+        ensures { IsLeastFrom (ids_of self) from result }
+    {
+        let least = from.max(u64::from(self.first));
+        if u64::from(self.last) < least {
+            return None;
+        }
+        Some(narrowed(least, self.last))
+    }
+}
