@@ -3,7 +3,7 @@ ghost use Rattle.std.specs.Prelude.{◌≡◌, ◌<◌, ◌≤◌, ℕ, List, If
 ghost use Rattle.mesh_checkpoint.specs.Checkpoint as model;
 ghost use Rattle.mesh_checkpoint.specs.Points.{IsState};
 ghost use Rattle.mesh_load.specs.Loading.{IsRefused};
-ghost use Rattle.mesh_moment.specs.Sums.{sums_of};
+ghost use Rattle.mesh_report.specs.Sums.{sums_of};
 ghost use Rattle.mesh_load.specs.Parts.{Makes, IsBody, IsMomentOf, IsUnsoundBody, sums_in};
 
 use crate::error::StateError;
@@ -11,7 +11,8 @@ use crate::world::read_maybe_world;
 use mesh_checkpoint::{
     Head, MOST_STEPS, SUMS_END, balanced_is_taken, one_body, read_head, survey, written_is_read,
 };
-use mesh_moment::{Point, Sums};
+use mesh_moment::Point;
+use mesh_report::Sums;
 use mesh_restore::read_mesh;
 use mesh_world::World;
 use std::alloc::Global;

@@ -1,19 +1,8 @@
--- What the program has counted, as the definitions have it.
+-- How far the counts of a run may have come, and how they grow.
 use Rattle.std.specs.Prelude.{ℕ, ◌≡◌, ◌≤◌, ◌+◌, ◌*◌, ◌^◌}
 use Rattle.mesh_text.specs.Schedule as model
 use Rattle.mesh_base.specs.declared.limits.TheConstants.{MOST_NODES}
 use Rattle.mesh_text.specs.Schedule.{Moment, world_of}
-use Rattle.mesh_moment.specs.declared.sums.Sums.{Sums}
-
-abbrev pub sums_of : Sums → model.Sums
-sums_of s = record {
-  events = s.events;
-  idle = s.idle;
-  given = s.given;
-  delivered = s.delivered;
-  lost = s.lost;
-  copied = s.copied;
-}
 
 -- no sum is above what may have been counted before a world's first step and the steps since
 abbrev pub counted_before : ℕ

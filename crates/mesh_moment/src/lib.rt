@@ -12,4 +12,3 @@ mod sums;
 pub use choice::{next_event, pick};
 pub use point::Point;
 pub use state::State;
-pub use sums::Sums;

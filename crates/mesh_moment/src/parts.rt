@@ -4,14 +4,15 @@ ghost use Rattle.std.specs.Option.{ForSome};
 ghost use Rattle.mesh_text.specs.Schedule.{Moment, world_of};
 ghost use Rattle.mesh_text.specs.Accounts.{IsBalanced};
 ghost use Rattle.mesh_world.specs.Seen.{IsSoundWorld, most_data_at_first, most_steps};
-ghost use Rattle.mesh_moment.specs.Sums.{sums_of, AreCounts};
+ghost use Rattle.mesh_report.specs.Sums.{sums_of};
+ghost use Rattle.mesh_moment.specs.Sums.{AreCounts};
 ghost use Rattle.mesh_moment.specs.Moments.{moment_seen, AreTotals, IsWorldOf};
 
 use crate::point::Point;
 use crate::state::State;
-use crate::sums::Sums;
 use arrayvec::ArrayVec;
 use mesh_base::{Done, Mesh, Variant};
+use mesh_report::Sums;
 use mesh_world::{Totals, World};
 
 // The data of the world; there are none before there is a world.

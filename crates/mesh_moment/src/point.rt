@@ -8,9 +8,9 @@ ghost use Rattle.mesh_text.specs.Schedule as model;
 ghost use Rattle.mesh_moment.specs.Moments.{AreOfVariant, IsAnswer, IsRefusal, IsSafe};
 
 use crate::state::State;
-use crate::sums::Sums;
 use arrayvec::ArrayVec;
 use mesh_base::{Done, Event, LineBuf, Mesh, NoMemory, Packet, Variant};
+use mesh_report::Sums;
 use mesh_world::{StepError, Steps};
 use std::alloc::Global;
 use std::marker::Model;
@@ -41,7 +41,7 @@ impl<S: Steps> Model for Point<S> {
 }
 
 impl<S: Steps> Point<S> {
-    ghost use Rattle.mesh_moment.specs.Sums.{sums_of};
+    ghost use Rattle.mesh_report.specs.Sums.{sums_of};
 
     /// The moment before the first line, where all nodes run the protocol as AWN has it.
     pub fn start() -> Point<S>

@@ -8,13 +8,12 @@ ghost use Rattle.mesh_model.specs.Accounts.{any, waiting, queued, in_flight};
 ghost use Rattle.mesh_meaning.specs.Events.{event_of};
 ghost use Rattle.mesh_text.specs.Schedule as model;
 ghost use Rattle.mesh_text.specs.Ranges.{IsNewNode};
-ghost use Rattle.mesh_report.specs.Sums as report;
 ghost use Rattle.mesh_script.specs.Seen.{accepted_of, IsAllowed};
 ghost use Rattle.mesh_moment.specs.Moments.{begun, moment_seen, AreOfVariant, IsAnswer, IsAnswered, IsRefusal, IsSafe, IsSound};
 
-use crate::sums::Sums;
+use crate::sums::count;
 use mesh_base::{Addr, Done, Event, Mesh, NoMemory, Packet, Variant};
-use mesh_report::Summary;
+use mesh_report::{Summary, Sums};
 use mesh_script::Line;
 use mesh_world::{StepError, Steps, Totals, tally_of};
 use std::alloc::Global;
@@ -35,7 +34,7 @@ pub struct State<S: Steps> {
 impl<S: Steps> Model for State<S> {
     ghost use Rattle.std.specs.Prelude.{option_map};
     ghost use Rattle.mesh_text.specs.Schedule.{Moment};
-    ghost use Rattle.mesh_moment.specs.Sums.{sums_of};
+    ghost use Rattle.mesh_report.specs.Sums.{sums_of};
     ghost use Rattle.mesh_moment.specs.Moments.{moment_code, moment_seen, IsSound};
 
     ghost Value = { Moment };
@@ -51,7 +50,7 @@ impl<S: Steps> Model for State<S> {
 }
 
 impl<S: Steps> State<S> {
-    ghost use Rattle.mesh_moment.specs.Sums.{sums_of};
+    ghost use Rattle.mesh_report.specs.Sums.{sums_of};
 
     /// The moment before the first line, where all nodes run this variant of the protocol.
     pub fn with(variant: Variant) -> State<S>
@@ -141,22 +140,17 @@ impl<S: Steps> State<S> {
     /// What is said at the end of the run.
     pub fn summary(&self) -> Summary
         ensures safe { IsSafe self.now }
-        ensures sums { report.sums_of result ≡ self.now.sums }
+        ensures sums { sums_of result.sums ≡ self.now.sums }
         ensures waiting { result.waiting ≡ waiting any (model.world_of self.now) }
         ensures queued { result.queued ≡ queued any (model.world_of self.now) }
         ensures flying { result.flying ≡ in_flight any (model.world_of self.now) }
     {
         let totals = self.totals();
         Summary {
-            events: self.sums.events,
-            idle: self.sums.idle,
-            given: self.sums.given,
-            delivered: self.sums.delivered,
+            sums: self.sums,
             waiting: totals.waiting,
             queued: totals.queued,
             flying: totals.flying,
-            lost: self.sums.lost,
-            copied: self.sums.copied,
         }
     }
 
@@ -217,7 +211,7 @@ impl<S: Steps> State<S> {
         };
         let answer = world.step(alloc, e, out);
         if let Ok(done) = &answer {
-            self.sums.add(e, tally_of(done));
+            count(&mut self.sums, e, tally_of(done));
         }
         answer
     }
@@ -248,7 +242,7 @@ impl<S: Steps> State<S> {
         };
         match world.step_counted(alloc, e, out, wanted, answer) {
             Ok(tally) => {
-                self.sums.add(e, tally);
+                count(&mut self.sums, e, tally);
                 Ok(())
             }
             Err(refusal) => Err(refusal),
@@ -275,7 +269,7 @@ impl<S: Steps> State<S> {
         let mut world = S::with(alloc, &self.mesh, self.variant)?;
         match world.step(alloc, e, out) {
             Ok(done) => {
-                self.sums.add(e, tally_of(&done));
+                count(&mut self.sums, e, tally_of(&done));
                 self.world = Some(world);
                 Ok(done)
             }

@@ -1,9 +1,8 @@
--- The counts of a run, as the definitions have them. What waits, is queued and flies isn't counted:
--- it is in the world.
-use Rattle.mesh_text.specs.Schedule.{Sums}
-use Rattle.mesh_report.specs.declared.ends.Summary.{Summary}
+-- The counts of a run, as the definitions have them.
+use Rattle.mesh_text.specs.Schedule as model
+use Rattle.mesh_report.specs.declared.sums.Sums.{Sums}
 
-abbrev pub sums_of : Summary → Sums
+abbrev pub sums_of : Sums → model.Sums
 sums_of s = record {
   events = s.events;
   idle = s.idle;

@@ -11,6 +11,7 @@ ghost use Rattle.mesh_io.specs.Cause.{HasCause};
 ghost use Rattle.mesh_io.specs.Puts.{Puts};
 ghost use Rattle.mesh_report.specs.Sums.{sums_of};
 
+use crate::sums::Sums;
 use crate::text::push_labelled;
 use mesh_base::{Counter, Event, LINE_ROOM, LineBuf, Mesh, push_text};
 use mesh_grammar::{BadWhy, LineFault, Span};
@@ -22,28 +23,18 @@ use mesh_script::push_event;
 /// What was counted in a run, and where the data are at its end.
 #[derive(Clone, Copy, Debug, PartialEq, Eq)]
 pub struct Summary {
-    /// Events that were done, idle ones too.
-    pub events: u64,
-    /// Events that were idle.
-    pub idle: u64,
-    /// Data that were given.
-    pub given: u64,
-    /// Data that were delivered.
-    pub delivered: u64,
+    /// What was counted.
+    pub sums: Sums,
     /// Data in stores.
     pub waiting: u64,
     /// Data in queues.
     pub queued: u64,
     /// Data in flight.
     pub flying: u64,
-    /// Data that were dropped.
-    pub lost: u64,
-    /// Data packets that were doubled in flight.
-    pub copied: u64,
 }
 
 // The counts of events, and of the data that were given and delivered.
-fn push_done(out: &mut LineBuf, s: &Summary)
+fn push_done(out: &mut LineBuf, s: &Sums)
     requires room { array_vec_len out.old + 116 ≤ LINE_ROOM }
     ensures text { out.new.items ≡ out.old.items
         ++ (labelled (codes "done events ") s.now.events ++ labelled (codes " idle ") s.now.idle
@@ -70,21 +61,21 @@ fn push_copied(out: &mut LineBuf, copied: u64)
 fn push_summary(out: &mut LineBuf, s: &Summary)
     requires room { array_vec_len out.old + 256 ≤ LINE_ROOM }
     ensures text { out.new.items ≡ out.old.items
-        ++ summary_text (sums_of s.now) s.now.waiting s.now.queued s.now.flying }
+        ++ summary_text (sums_of s.now.sums) s.now.waiting s.now.queued s.now.flying }
 {
-    push_done(out, s);
+    push_done(out, &s.sums);
     push_labelled(out, b" waiting ", s.waiting);
     push_labelled(out, b" queued ", s.queued);
     push_labelled(out, b" flying ", s.flying);
-    push_labelled(out, b" lost ", s.lost);
-    push_copied(out, s.copied);
+    push_labelled(out, b" lost ", s.sums.lost);
+    push_copied(out, s.sums.copied);
     out.push(b'\n');
 }
 
 /// Writes the last line of a run that read its whole input.
 pub fn put_summary<O: Sink>(s: &Summary, buf: &mut LineBuf, out: &mut O) -> Result<(), PutFault>
     ensures text { Puts (O.held out.old) (O.held out.new)
-        (summary_text (sums_of s.now) s.now.waiting s.now.queued s.now.flying) result }
+        (summary_text (sums_of s.now.sums) s.now.waiting s.now.queued s.now.flying) result }
     ensures cause { HasCause (O.faults out.old) (O.faults out.new) result }
 {
     buf.clear();

@@ -9,10 +9,12 @@ mod effects;
 mod ends;
 mod event;
 mod line;
+mod sums;
 mod tables;
 mod text;
 
 pub use effects::{put_done, put_echoed_event, put_effect, put_event};
 pub use ends::{Summary, put_auto_end, put_bad, put_full, put_summary};
 pub use line::{put_echo, put_line};
+pub use sums::Sums;
 pub use tables::{put_asked, put_entry, put_flying, put_number, put_stuck, put_waits};

@@ -1,5 +1,5 @@
 use Rattle.std.proofs.lemmas.Result.{err_from_is_err_and}
-use Rattle.mesh_moment.specs.Sums.{sums_of}
+use Rattle.mesh_report.specs.Sums.{sums_of}
 use Rattle.mesh_load.proofs.Making.{has_parts, fitting_read, refused, fits_point, balanced_point, point_made}
 use Rattle.mesh_load.proofs.loading.restore.Goals as goal
 

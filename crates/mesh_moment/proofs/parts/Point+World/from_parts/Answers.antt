@@ -1,6 +1,6 @@
 use Rattle.std.proofs.Common.{refl, subst, arith}
 use Rattle.mesh_text.specs.Schedule.{Moment}
-use Rattle.mesh_moment.specs.Sums.{sums_of}
+use Rattle.mesh_report.specs.Sums.{sums_of}
 use Rattle.mesh_moment.specs.Moments.{moment_seen, IsSound}
 use Rattle.mesh_moment.proofs.Sound.{balanced_by, account_by, sound_parts, as_seen}
 use Rattle.mesh_moment.proofs.parts.Point+World.from_parts.Goals as goal

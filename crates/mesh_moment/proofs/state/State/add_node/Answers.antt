@@ -2,7 +2,7 @@ use Rattle.std.proofs.Common.{rules, ◌∙◌, ap, sym, subst}
 use Rattle.std.specs.Option.{option_map}
 use Rattle.mesh_text.specs.Schedule.{Moment}
 use Rattle.mesh_text.specs.Ranges.{IsNewNode}
-use Rattle.mesh_moment.specs.Sums.{sums_of}
+use Rattle.mesh_report.specs.Sums.{sums_of}
 use Rattle.mesh_moment.proofs.Sound.{sound_grown}
 use Rattle.mesh_moment.proofs.state.State.add_node.Goals as goal
 

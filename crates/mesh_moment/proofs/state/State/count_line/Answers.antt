@@ -1,6 +1,6 @@
 use Rattle.std.proofs.Common.{◌+◌}
 use Rattle.std.specs.Option.{option_map}
-use Rattle.mesh_moment.specs.Sums.{sums_of}
+use Rattle.mesh_report.specs.Sums.{sums_of}
 use Rattle.mesh_moment.proofs.Sound.{sound_counted}
 use Rattle.mesh_moment.proofs.state.State.count_line.Goals as goal
 

@@ -1,7 +1,7 @@
 use Rattle.std.proofs.Common.{rules, ◌∙◌, ap}
 use Rattle.std.specs.Option.{option_map}
 use Rattle.mesh_text.specs.Schedule.{Moment}
-use Rattle.mesh_moment.specs.Sums.{sums_of}
+use Rattle.mesh_report.specs.Sums.{sums_of}
 use Rattle.mesh_moment.proofs.Sound.{sound_started}
 use Rattle.mesh_moment.proofs.state.State.open.Goals as goal
 

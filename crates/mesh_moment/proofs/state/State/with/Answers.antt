@@ -1,5 +1,5 @@
 use Rattle.std.proofs.Common.{rules}
-use Rattle.mesh_moment.specs.Sums.{sums_of}
+use Rattle.mesh_report.specs.Sums.{sums_of}
 use Rattle.mesh_moment.proofs.Sound.{sound_empty}
 use Rattle.mesh_moment.proofs.state.State.with.Goals as goal
 

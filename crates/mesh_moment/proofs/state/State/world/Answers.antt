@@ -1,5 +1,5 @@
 use Rattle.std.specs.Option.{option_map}
-use Rattle.mesh_moment.specs.Sums.{sums_of}
+use Rattle.mesh_report.specs.Sums.{sums_of}
 use Rattle.mesh_moment.proofs.Sound.{safe_at, variant_at}
 use Rattle.mesh_moment.proofs.state.State.world.Goals as goal
 
