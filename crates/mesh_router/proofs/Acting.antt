@@ -18,27 +18,27 @@ use Rattle.mesh_peers.specs.Peers.{PeersSeen}
 use Rattle.mesh_peers.specs.Lines.{Accepted, Nothing, Own, Peer, Up, Down, Give, Polls, Turns, Sends, Asks, Shows, words_of}
 use Rattle.mesh_router.specs.declared.stop.Stop.{Stop}
 use Rattle.mesh_router.specs.declared.stop.Stop.TheVariants as stop
-use Rattle.mesh_router.specs.Said.{Said, nothing, written, followed_by}
+use Rattle.mesh_router.specs.Logs.{Log, nothing, written, followed_by}
 use Rattle.mesh_router.specs.Routers.{Router}
-use Rattle.mesh_router.specs.Casts.{effect_said}
-use Rattle.mesh_router.specs.Turns.{StepOutcome, Goes, said_before, act_of, idle_line}
+use Rattle.mesh_router.specs.Casts.{effect_log}
+use Rattle.mesh_router.specs.Turns.{StepOutcome, StepDone, log_before, act_of, idle_line}
 use Rattle.mesh_router.specs.Lines.{step_of}
 use Rattle.mesh_router.specs.Outputs.{Outputs, Adds, AddsPrefix, IsFault, HasCauses, HasSinkCause}
-use Rattle.mesh_router.specs.Peers.{reached, code_said, act_said}
-use Rattle.mesh_router.specs.Runs.{said_in, IsStepRun}
-use Rattle.mesh_router.proofs.Saying.{adds-none, adds-join}
-use Rattle.mesh_router.proofs.Turning.{router_as, IsEffectMeant, effect_meant, said_effect, reached_is, after-said}
+use Rattle.mesh_router.specs.Peers.{reached, code_log, act_log}
+use Rattle.mesh_router.specs.Runs.{log_in, IsStepRun}
+use Rattle.mesh_router.proofs.Logging.{adds-none, adds-join}
+use Rattle.mesh_router.proofs.Turning.{router_as, IsEffectMeant, effect_meant, log_effect, reached_is, after-log}
 
 -- ---- a send or a request
 
 pub record IsActMeant (p : PeersSeen) (me : ℕ) (node new : NodeSeen) (near : NodeIds) (heard sent dropped : ℕ) (l : Accepted) (full : Option Counter) (reaction : Reaction) (e : effects.Effect) (out : List ℕ) : Type 0 where
   pub is : act_of (router_as p node near heard sent dropped) (words_of p.mesh l) true full reaction
-      ≡ Goes (act_said p near me l e out) (router_as p new near heard (sent + length (reached p near e.cast out)) dropped)
+      ≡ StepDone (act_log p near me l e out) (router_as p new near heard (sent + length (reached p near e.cast out)) dropped)
   pub cast : IsCastWritten p.mesh e.cast out
   pub broken : IfSome e.broken (λ y. y < length p.mesh)
 
-effect_told : (r : Router) (x : ℕ) (e : effects.Effect) (effect : Effect) (out : List ℕ) → IsEffectMeant (r.peers).mesh e effect out → code_said r.peers r.range x None e out ≡ effect_said r effect
-effect_told r x e effect out m = said_effect r e out m.packet ∙ ap (effect_said r) (sym m.means)
+effect_told : (r : Router) (x : ℕ) (e : effects.Effect) (effect : Effect) (out : List ℕ) → IsEffectMeant (r.peers).mesh e effect out → code_log r.peers r.range x None e out ≡ effect_log r effect
+effect_told r x e effect out m = log_effect r e out m.packet ∙ ap (effect_log r) (sym m.means)
 
 pub act_meant : (p : PeersSeen) (me : ℕ) (node new : NodeSeen) (near : NodeIds) (heard sent dropped : ℕ) (l : Accepted) (full : Option Counter) (reaction : Reaction) (e : effects.Effect) (out : List ℕ)
     → IsMesh p.mesh → IsCastInMesh (length p.mesh) (reaction.effect).cast → IsEffectInMesh (length p.mesh) reaction.effect → new ≡ record node { core = new.core } → IsMade p.mesh full reaction e new.core out
@@ -50,7 +50,7 @@ act_meant p me node new near heard sent dropped l full reaction e out is in_mesh
     let queue : new.items ≡ node.items = ap (λ (n : NodeSeen). n.items) others in
     record {
       is = ap (λ (o : Option Counter). act_of r words true o reaction) made.free
-          ∙ (λ k. Goes (followed_by (written (line words)) (sym (effect_told r me e reaction.effect out m) k))
+          ∙ (λ k. StepDone (followed_by (written (line words)) (sym (effect_told r me e reaction.effect out m) k))
           (record { peers = p; core = sym made.core k; queue = sym queue k; range = near; heard = heard; sent = sent + length (sym (reached_is r e reaction.effect out m) k); dropped = dropped }));
       cast = m.cast;
       broken = m.broken;
@@ -75,8 +75,8 @@ ask_meant p me node new near heard sent dropped l d e out is sound size may othe
 
 -- ---- what is told of a step
 
-pub step_done : (s : StepOutcome) (new : Router) (a b : Outputs) (said : Said) → s ≡ Goes said new → Adds a b said → IsStepRun s a b new (Ok tt)
-step_done s new a b said is adds = record { said = said; is = is; adds = adds }
+pub step_done : (s : StepOutcome) (new : Router) (a b : Outputs) (log : Log) → s ≡ StepDone log new → Adds a b log → IsStepRun s a b new (Ok tt)
+step_done s new a b log is adds = record { log = log; is = is; adds = adds }
 
 abbrev the_err : Stop → Result (Unit {0}) Stop
 the_err x = Err x
@@ -85,7 +85,7 @@ err_is : (x y : Stop) → the_err x ≡ the_err y → x ≡ y
 err_is x y e = cc
 
 -- a fault, or want of memory
-pub step_cut : (s : StepOutcome) (new : Router) (a b : Outputs) (r : Result (Unit {0}) Stop) (e : Stop) → r ≡ Err e → ((field : Counter) → e ≡ stop.Full field → ⊥) → AddsPrefix a b (said_in s) → IsStepRun s a b new r
+pub step_cut : (s : StepOutcome) (new : Router) (a b : Outputs) (r : Result (Unit {0}) Stop) (e : Stop) → r ≡ Err e → ((field : Counter) → e ≡ stop.Full field → ⊥) → AddsPrefix a b (log_in s) → IsStepRun s a b new r
 step_cut s new a b (Ok u) e was other p = absurd cc
 step_cut s new a b (Err (stop.Full field)) e was other p = absurd (other field (sym (err_is (stop.Full field) e was)))
 step_cut s new a b (Err stop.WriteFault) e was other p = p
@@ -101,17 +101,17 @@ not_full-write e is field same = cc
 pub not_full-memory : (e : Stop) → e ≡ stop.NoMemory → (field : Counter) → e ≡ stop.Full field → ⊥
 not_full-memory e is field same = cc
 
--- a part of what is said
-pub step_cut_in : (s : StepOutcome) (next new : Router) (a b : Outputs) (said : Said) (r : Result (Unit {0}) Stop) (e : Stop) → r ≡ Err e → ((field : Counter) → e ≡ stop.Full field → ⊥) → s ≡ Goes said next → AddsPrefix a b said → IsStepRun s a b new r
-step_cut_in s next new a b said r e was other is p = step_cut s new a b r e was other (subst (λ (k : StepOutcome). AddsPrefix a b (said_in k)) (sym is) p)
+-- a part of the log
+pub step_cut_in : (s : StepOutcome) (next new : Router) (a b : Outputs) (log : Log) (r : Result (Unit {0}) Stop) (e : Stop) → r ≡ Err e → ((field : Counter) → e ≡ stop.Full field → ⊥) → s ≡ StepDone log next → AddsPrefix a b log → IsStepRun s a b new r
+step_cut_in s next new a b log r e was other is p = step_cut s new a b r e was other (subst (λ (k : StepOutcome). AddsPrefix a b (log_in k)) (sym is) p)
 
--- what was said before it
-pub step_after : (x : Said) (s : StepOutcome) (new : Router) (a b c : Outputs) (r : Result (Unit {0}) Stop) → Adds a b x → IsStepRun s b c new r → IsStepRun (said_before x s) a c new r
-step_after x s new a b c (Ok u) p q = record { said = followed_by x q.said; is = ap (said_before x) q.is; adds = adds-join a b c x q.said p q.adds }
-step_after x s new a b c (Err (stop.Full field)) p q = record { said = followed_by x q.said; is = ap (said_before x) q.is; adds = adds-join a b c x q.said p q.adds }
-step_after x s new a b c (Err stop.WriteFault) p q = after-said x s a b c p q
-step_after x s new a b c (Err stop.LinkFault) p q = after-said x s a b c p q
-step_after x s new a b c (Err stop.NoMemory) p q = after-said x s a b c p q
+-- the log before it
+pub step_after : (x : Log) (s : StepOutcome) (new : Router) (a b c : Outputs) (r : Result (Unit {0}) Stop) → Adds a b x → IsStepRun s b c new r → IsStepRun (log_before x s) a c new r
+step_after x s new a b c (Ok u) p q = record { log = followed_by x q.log; is = ap (log_before x) q.is; adds = adds-join a b c x q.log p q.adds }
+step_after x s new a b c (Err (stop.Full field)) p q = record { log = followed_by x q.log; is = ap (log_before x) q.is; adds = adds-join a b c x q.log p q.adds }
+step_after x s new a b c (Err stop.WriteFault) p q = after-log x s a b c p q
+step_after x s new a b c (Err stop.LinkFault) p q = after-log x s a b c p q
+step_after x s new a b c (Err stop.NoMemory) p q = after-log x s a b c p q
 
 -- what has nothing to do with the link
 pub causes_of_sink : {T : Type 0} (a b c : ℕ) (r : Result T Stop) → HasSinkCause a b r → HasCauses a b c c r
@@ -133,13 +133,13 @@ act_idle p node new near heard sent dropped words may full reaction a b idle sam
     let queue : new.items ≡ node.items = ap (λ (n : NodeSeen). n.items) others in
     let told = written (line words ++ idle_line) in
     step_done _ (router_as p new near heard sent dropped) a b told
-    (ap (λ (k : Bool). act_of r words k full reaction) idle ∙ (λ i. Goes told (record r { core = sym same i; queue = sym queue i }))) adds
+    (ap (λ (k : Bool). act_of r words k full reaction) idle ∙ (λ i. StepDone told (record r { core = sym same i; queue = sym queue i }))) adds
 
 -- a counter is full
 pub act_full : (r new : Router) (words : List ℕ) (may : Bool) (full : Option Counter) (reaction : Reaction) (field : Counter) (a : Outputs)
     → may ≡ true → full ≡ Some field → IsStepRun (act_of r words may full reaction) a a new (Err (stop.Full field))
 act_full r new words may full reaction field a is e = record {
-  said = nothing;
+  log = nothing;
   is = ap (λ (k : Bool). act_of r words k full reaction) is ∙ ap (λ (o : Option Counter). act_of r words true o reaction) e;
   adds = adds-none a;
 }
@@ -153,7 +153,7 @@ IsSkipped (Peer a port) = ⊤
 IsSkipped (Polls count) = ⊤
 IsSkipped others = ⊥
 
-step_skips : (r : Router) (words : List ℕ) (l : Accepted) → IsSkipped l → step_of r words l ≡ Goes nothing r
+step_skips : (r : Router) (words : List ℕ) (l : Accepted) → IsSkipped l → step_of r words l ≡ StepDone nothing r
 unfolding step_of
 step_skips r words Nothing is = refl
 step_skips r words (Own a first) is = refl

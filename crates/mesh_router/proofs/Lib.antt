@@ -1,5 +1,5 @@
--- Saying: what was written and sent, one after another.
-pub mod Saying
+-- Logging: what was written and sent, one after another.
+pub mod Logging
 -- Memory: a call is short of memory where one that it makes is.
 pub mod Memory
 -- Peers: ports, and sets of peers.

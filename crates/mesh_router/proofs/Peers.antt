@@ -23,10 +23,10 @@ use Rattle.mesh_peers.specs.Peers.{PeersSeen, port_of}
 use Rattle.mesh_model.specs.Worlds.{members_below}
 use Rattle.mesh_base.proofs.Ranks.{members-none, members-next}
 use Rattle.mesh_report.proofs.Copies.{members-front}
-use Rattle.mesh_router.specs.Said.{Said, followed_by}
+use Rattle.mesh_router.specs.Logs.{Log, followed_by}
 use Rattle.mesh_router.specs.Outputs.{Outputs, Adds, AddsPrefix}
 use Rattle.mesh_router.specs.Casts.{port_at, sent_to, sent_to_each}
-use Rattle.mesh_router.proofs.Saying.{said-nil, said-assoc, adds-none, adds-join, adds-equal, prefix-join, prefix-more}
+use Rattle.mesh_router.proofs.Logging.{log-nil, log-assoc, adds-none, adds-join, adds-equal, prefix-join, prefix-more}
 
 port_cases : (n port : ℕ) (b : Bool) → (if b then None else Some n) ≡ Some port → n ≡ port
 port_cases n port true e = absurd cc
@@ -42,10 +42,10 @@ each-append : (p : PeersSeen) (packet xs ys : List ℕ) → sent_to_each p packe
 each-append p packet [] ys = refl
 each-append p packet (x ∷ xs) ys =
     ap (followed_by (sent_to p packet x)) (each-append p packet xs ys)
-    ∙ sym (said-assoc (sent_to p packet x) (sent_to_each p packet xs) (sent_to_each p packet ys))
+    ∙ sym (log-assoc (sent_to p packet x) (sent_to_each p packet xs) (sent_to_each p packet ys))
 
 each-push : (p : PeersSeen) (packet xs : List ℕ) (y : ℕ) → sent_to_each p packet (xs ++ y ∷ []) ≡ followed_by (sent_to_each p packet xs) (sent_to p packet y)
-each-push p packet xs y = each-append p packet xs (y ∷ []) ∙ ap (followed_by (sent_to_each p packet xs)) (said-nil (sent_to p packet y))
+each-push p packet xs y = each-append p packet xs (y ∷ []) ∙ ap (followed_by (sent_to_each p packet xs)) (log-nil (sent_to p packet y))
 
 -- before the first
 pub none_sent : (p : PeersSeen) (packet : List ℕ) (s : NodeIds) (a : Outputs) → Adds a a (sent_to_each p packet (members_below 0 s))
@@ -69,7 +69,7 @@ next_failed p packet s n to i a b c lt le is none g h =
     let others = sent_to_each p packet split.0 in
     let e : sent_to_each p packet (members_below n s) ≡ followed_by (followed_by here one) others =
     ap (sent_to_each p packet) split.1 ∙ each-append p packet (members_below (to + 1) s) split.0
-    ∙ ap (λ (m : Said). followed_by m others) (ap (sent_to_each p packet) (members-next to i s le is none) ∙ each-push p packet (members_below i s) to) in
+    ∙ ap (λ (m : Log). followed_by m others) (ap (sent_to_each p packet) (members-next to i s le is none) ∙ each-push p packet (members_below i s) to) in
     subst (AddsPrefix a c) (sym e) (prefix-more a c (followed_by here one) others (prefix-join a b c here one g h))
 
 -- there is no further member

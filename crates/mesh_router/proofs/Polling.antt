@@ -12,14 +12,14 @@ use Rattle.mesh_peers.specs.Peers.{PeersSeen, ArePeers, at_port}
 use Rattle.mesh_grammar.specs.Written.{line}
 use Rattle.mesh_router.specs.declared.stop.Stop.{Stop}
 use Rattle.mesh_router.specs.declared.stop.Stop.TheVariants as stop
-use Rattle.mesh_router.specs.Said.{Said, nothing, written, followed_by}
+use Rattle.mesh_router.specs.Logs.{Log, nothing, written, followed_by}
 use Rattle.mesh_router.specs.Routers.{Router}
 use Rattle.mesh_router.specs.Finds.{Find, next_find, later_finds, AreNext, left_after, AreFound}
-use Rattle.mesh_router.specs.Polls.{Polled, polled, polled_by, polls_of, found_next, found_text, datagram_next, datagram_text, datagram_said, none_line}
+use Rattle.mesh_router.specs.Polls.{Polled, polled, polled_by, polls_of, found_next, found_text, datagram_next, datagram_text, datagram_log, none_line}
 use Rattle.mesh_router.specs.Outputs.{Outputs, Adds, AddsPrefix}
 use Rattle.mesh_router.specs.Runs.{IsTaken, IsFoundOne, IsFoundNone, IsPolled, IsPolledInPart, IsPollStep, IsPollRun, IsPollLine, IsNotFull}
 use Rattle.mesh_router.specs.Short.{IsPollShort}
-use Rattle.mesh_router.proofs.Saying.{said-assoc, said-nil, adds-none, adds-join, adds-text, prefix-none, prefix-join, prefix-more, prefix-text}
+use Rattle.mesh_router.proofs.Logging.{log-assoc, log-nil, adds-none, adds-join, adds-text, prefix-none, prefix-join, prefix-more, prefix-text}
 use Rattle.mesh_router.proofs.Finds.{next-front, next-rest, left-join, found-none, found-join, Received}
 
 -- ---- a datagram of a port
@@ -66,7 +66,7 @@ unfolding polls_of
 polls-zero r finds = refl
 
 polls-some : (most : ℕ) (r : Router) (finds : List Find) (d : Datagram) → next_find finds ≡ Some d
-    → polls_of (suc most) r finds ≡ polled (followed_by (datagram_said r d) (polls_of most (datagram_next r d) (later_finds finds)).said)
+    → polls_of (suc most) r finds ≡ polled (followed_by (datagram_log r d) (polls_of most (datagram_next r d) (later_finds finds)).log)
     (polls_of most (datagram_next r d) (later_finds finds)).next (polls_of most (datagram_next r d) (later_finds finds)).left
 polls-some most r finds d e =
     polls-suc most r finds ∙ ap (λ (f : Find). polled_by r f (later_finds finds) (λ next left. polls_of most next left)) e
@@ -80,7 +80,7 @@ pub nothing_polled : (count : ℕ) (old : Router) (arrived left : Option (List D
 nothing_polled count old arrived left a b same out = record {
   found = [];
   taken = subst (λ (k : Option (List Datagram)). AreFound arrived k []) (sym same) (found-none arrived);
-  told = λ finds are. subst (λ (k : Outputs). AddsPrefix a k (polls_of count old finds).said) (sym out) (prefix-none a (polls_of count old finds).said);
+  told = λ finds are. subst (λ (k : Outputs). AddsPrefix a k (polls_of count old finds).log) (sym out) (prefix-none a (polls_of count old finds).log);
 }
 
 -- nothing was there, which was told in part
@@ -88,17 +88,17 @@ pub none_polled : (others : ℕ) (old : Router) (arrived left : Option (List Dat
 none_polled others old arrived left a b taken p = record {
   found = None ∷ [];
   taken = taken;
-  told = λ finds are. subst (λ (q : Polled). AddsPrefix a b q.said) (sym (polls-none others old finds are.0)) p;
+  told = λ finds are. subst (λ (q : Polled). AddsPrefix a b q.log) (sym (polls-none others old finds are.0)) p;
 }
 
 -- a datagram was found, which was told in part
-pub one_polled : (others : ℕ) (old : Router) (d : Datagram) (arrived left : Option (List Datagram)) (a b : Outputs) → AreFound arrived left (Some d ∷ []) → AddsPrefix a b (datagram_said old d) → IsPolledInPart (suc others) old arrived left a b
+pub one_polled : (others : ℕ) (old : Router) (d : Datagram) (arrived left : Option (List Datagram)) (a b : Outputs) → AreFound arrived left (Some d ∷ []) → AddsPrefix a b (datagram_log old d) → IsPolledInPart (suc others) old arrived left a b
 one_polled others old d arrived left a b taken p = record {
   found = Some d ∷ [];
   taken = taken;
   told = λ finds are.
-      subst (λ (q : Polled). AddsPrefix a b q.said) (sym (polls-some others old finds d are.0))
-      (prefix-more a b (datagram_said old d) (polls_of others (datagram_next old d) (later_finds finds)).said p);
+      subst (λ (q : Polled). AddsPrefix a b q.log) (sym (polls-some others old finds d are.0))
+      (prefix-more a b (datagram_log old d) (polls_of others (datagram_next old d) (later_finds finds)).log p);
 }
 
 pub poll_fault : (old new : Router) (arrived left : Option (List Datagram)) (a b : Outputs) (r : Result Bool Stop) → IsErr r → ((others : ℕ) → IsPolledInPart (suc others) old arrived left a b) → IsPollStep old arrived left a b new r
@@ -137,17 +137,17 @@ received_in_part others old arrived left port bytes a b s t same f text =
 pub record ArePolled (count rest : ℕ) (old now : Router) (arrived left : Option (List Datagram)) (a b : Outputs) : Type 0 where
   pub found : List Find
   pub taken : AreFound arrived left found
-  pub said : Said
-  pub adds : Adds a b said
+  pub log : Log
+  pub adds : Adds a b log
   pub goes : (finds : List Find) → AreNext finds found
-      → polls_of count old finds ≡ polled (followed_by said (polls_of rest now (left_after finds found)).said)
+      → polls_of count old finds ≡ polled (followed_by log (polls_of rest now (left_after finds found)).log)
       (polls_of rest now (left_after finds found)).next (polls_of rest now (left_after finds found)).left
 
 pub polls_begin : (count : ℕ) (old : Router) (arrived : Option (List Datagram)) (a : Outputs) → ArePolled count count old old arrived arrived a a
 polls_begin count old arrived a = record {
   found = [];
   taken = found-none arrived;
-  said = nothing;
+  log = nothing;
   adds = adds-none a;
   goes = λ finds are. refl;
 }
@@ -156,17 +156,17 @@ pub polls_next : (count rest : ℕ) (old mid new : Router) (x y z : Option (List
 polls_next count rest old mid new x y z a b c p q = record {
   found = p.found ++ Some q.datagram ∷ [];
   taken = found-join x y z p.found (Some q.datagram ∷ []) p.taken q.taken;
-  said = followed_by p.said (datagram_said mid q.datagram);
-  adds = adds-join a b c p.said (datagram_said mid q.datagram) p.adds q.adds;
+  log = followed_by p.log (datagram_log mid q.datagram);
+  adds = adds-join a b c p.log (datagram_log mid q.datagram) p.adds q.adds;
   goes = λ finds are.
       let one = Some q.datagram ∷ [] in
       let mid_finds = left_after finds p.found in
       let next = next-rest finds p.found one are in
       let left : left_after finds (p.found ++ one) ≡ later_finds mid_finds = left-join finds p.found one in
-      let rest_of : Router → List Find → Polled = λ r fs. polled (followed_by (followed_by p.said (datagram_said mid q.datagram)) (polls_of rest r fs).said) (polls_of rest r fs).next (polls_of rest r fs).left in
+      let rest_of : Router → List Find → Polled = λ r fs. polled (followed_by (followed_by p.log (datagram_log mid q.datagram)) (polls_of rest r fs).log) (polls_of rest r fs).next (polls_of rest r fs).left in
       p.goes finds (next-front finds p.found one are)
-      ∙ ap (λ (w : Polled). polled (followed_by p.said w.said) w.next w.left) (polls-some rest mid mid_finds q.datagram next.0)
-      ∙ (λ i. polled (sym (said-assoc p.said (datagram_said mid q.datagram) (polls_of rest (datagram_next mid q.datagram) (later_finds mid_finds)).said) i) (polls_of rest (datagram_next mid q.datagram) (later_finds mid_finds)).next (polls_of rest (datagram_next mid q.datagram) (later_finds mid_finds)).left)
+      ∙ ap (λ (w : Polled). polled (followed_by p.log w.log) w.next w.left) (polls-some rest mid mid_finds q.datagram next.0)
+      ∙ (λ i. polled (sym (log-assoc p.log (datagram_log mid q.datagram) (polls_of rest (datagram_next mid q.datagram) (later_finds mid_finds)).log) i) (polls_of rest (datagram_next mid q.datagram) (later_finds mid_finds)).next (polls_of rest (datagram_next mid q.datagram) (later_finds mid_finds)).left)
       ∙ (λ i. rest_of (sym q.next i) (sym left i));
 }
 
@@ -175,16 +175,16 @@ pub polls_stop : (count rest : ℕ) (old mid new : Router) (x y z : Option (List
 polls_stop count rest old mid new x y z a b c p q = record {
   found = p.found ++ None ∷ [];
   taken = found-join x y z p.found (None ∷ []) p.taken q.taken;
-  said = followed_by p.said (written none_line);
-  adds = adds-join a b c p.said (written none_line) p.adds q.adds;
+  log = followed_by p.log (written none_line);
+  adds = adds-join a b c p.log (written none_line) p.adds q.adds;
   is = λ finds are.
       let one = None ∷ [] in
       let mid_finds = left_after finds p.found in
       let next = next-rest finds p.found one are in
       let left : left_after finds (p.found ++ one) ≡ later_finds mid_finds = left-join finds p.found one in
       p.goes finds (next-front finds p.found one are)
-      ∙ ap (λ (w : Polled). polled (followed_by p.said w.said) w.next w.left) (polls-none rest mid mid_finds next.0)
-      ∙ (λ i. polled (followed_by p.said (written none_line)) (sym q.same i) (sym left i));
+      ∙ ap (λ (w : Polled). polled (followed_by p.log w.log) w.next w.left) (polls-none rest mid mid_finds next.0)
+      ∙ (λ i. polled (followed_by p.log (written none_line)) (sym q.same i) (sym left i));
 }
 
 -- all calls were done
@@ -192,12 +192,12 @@ pub polls_end : (count : ℕ) (old now : Router) (x y : Option (List Datagram)) 
 polls_end count old now x y a b p = record {
   found = p.found;
   taken = p.taken;
-  said = p.said;
+  log = p.log;
   adds = p.adds;
   is = λ finds are.
       p.goes finds are
-      ∙ ap (λ (w : Polled). polled (followed_by p.said w.said) w.next w.left) (polls-zero now (left_after finds p.found))
-      ∙ ap (λ (s : Said). polled s now (left_after finds p.found)) (said-nil p.said);
+      ∙ ap (λ (w : Polled). polled (followed_by p.log w.log) w.next w.left) (polls-zero now (left_after finds p.found))
+      ∙ ap (λ (s : Log). polled s now (left_after finds p.found)) (log-nil p.log);
 }
 
 -- a call has failed
@@ -208,8 +208,8 @@ polls_failed count rest old mid x y z a b c p q = record {
   told = λ finds are.
       let mid_finds = left_after finds p.found in
       let all = p.goes finds (next-front finds p.found q.found are) in
-      subst (λ (w : Polled). AddsPrefix a c w.said) (sym all)
-      (prefix-join a b c p.said (polls_of (suc rest) mid mid_finds).said p.adds (q.told mid_finds (next-rest finds p.found q.found are)));
+      subst (λ (w : Polled). AddsPrefix a c w.log) (sym all)
+      (prefix-join a b c p.log (polls_of (suc rest) mid mid_finds).log p.adds (q.told mid_finds (next-rest finds p.found q.found are)));
 }
 
 pub polls_at : (count n rest : ℕ) (old now : Router) (x y : Option (List Datagram)) (a b : Outputs) → ArePolled count n old now x y a b → n ≡ rest → ArePolled count rest old now x y a b
@@ -238,7 +238,7 @@ pub poll_line_cut : (count : ℕ) (words : List ℕ) (old new : Router) (arrived
 poll_line_cut count words old new arrived a b (Ok u) e was is p = absurd cc
 poll_line_cut count words old new arrived a b (Err x) e was is p = (
   subst IsNotFull (sym (poll_err x e was ∙ is)) tt,
-  record { found = []; taken = found-none arrived; told = λ finds are. prefix-more a b (written (line words)) (polls_of count old finds).said p },
+  record { found = []; taken = found-none arrived; told = λ finds are. prefix-more a b (written (line words)) (polls_of count old finds).log p },
 )
 
 pub poll_line : (count : ℕ) (words : List ℕ) (old new : Router) (arrived left : Option (List Datagram)) (a b c : Outputs) (r : Result (Unit {0}) Stop) → Adds a b (written (line words)) → IsPollRun count old arrived left b c new r
@@ -246,12 +246,12 @@ pub poll_line : (count : ℕ) (words : List ℕ) (old new : Router) (arrived lef
 poll_line count words old new arrived left a b c (Ok u) p q full = record {
   found = q.found;
   taken = q.taken;
-  said = q.said;
-  adds = adds-join a b c (written (line words)) q.said p q.adds;
+  log = q.log;
+  adds = adds-join a b c (written (line words)) q.log p q.adds;
   is = q.is;
 }
 poll_line count words old new arrived left a b c (Err e) p q full =
-    (full, record { found = q.found; taken = q.taken; told = λ finds are. prefix-join a b c (written (line words)) (polls_of count old finds).said p (q.told finds are) })
+    (full, record { found = q.found; taken = q.taken; told = λ finds are. prefix-join a b c (written (line words)) (polls_of count old finds).log p (q.told finds are) })
 
 -- ---- where memory is short
 

@@ -7,18 +7,18 @@ use Rattle.mesh_peers.specs.Peers.{PeersSeen, with_self, with_peer}
 use Rattle.mesh_peers.specs.Lines.{Accepted, Nothing, Own, Peer, Up, Down, Give, Polls, Turns, Sends, Asks, Shows, words_of}
 use Rattle.mesh_router.specs.declared.stop.Stop.{Stop}
 use Rattle.mesh_router.specs.declared.stop.Stop.TheVariants as stop
-use Rattle.mesh_router.specs.Said.{nothing, written, followed_by}
+use Rattle.mesh_router.specs.Logs.{nothing, written, followed_by}
 use Rattle.mesh_router.specs.Routers.{Router, fresh_at, Stage, Joining, Running, peers_in, router_in, Moment, counted_at, opening_moment}
-use Rattle.mesh_router.specs.Turns.{StepOutcome, Goes, Stopped}
+use Rattle.mesh_router.specs.Turns.{StepOutcome, StepDone, StepFull}
 use Rattle.mesh_router.specs.Finds.{Find, left_after, AreFound}
 use Rattle.mesh_router.specs.Polls.{polls_of}
 use Rattle.mesh_router.specs.Lines.{LineOutcome, On, words_at, refused_words, joined, stepped, polled_line, step_of, outcome_of_line}
 use Rattle.mesh_router.specs.Outputs.{Outputs, Adds, AddsPrefix}
-use Rattle.mesh_router.specs.Runs.{said_in, said_of, IsCommand, IsStepRun, IsPollLineDone, IsPollLineInPart, IsNotFull, IsLineInPart, IsLineRun}
+use Rattle.mesh_router.specs.Runs.{log_in, log_of, IsCommand, IsStepRun, IsPollLineDone, IsPollLineInPart, IsNotFull, IsLineInPart, IsLineRun}
 use Rattle.mesh_base.specs.declared.limits.TheConstants.{LONGEST_INPUT}
 use Rattle.mesh_peers.specs.Peers.{no_peers}
 use Rattle.mesh_router.specs.Seen.{IsGrown, HasCounts, most_grown}
-use Rattle.mesh_router.proofs.Saying.{prefix-none}
+use Rattle.mesh_router.proofs.Logging.{prefix-none}
 use Rattle.mesh_router.proofs.Finds.{found-none}
 
 -- ---- what a line comes to
@@ -70,21 +70,21 @@ the_err x = Err x
 pub line_untold : (k : List Find → LineOutcome) (words : List ℕ) (next : Moment) (arrived : Option (List Datagram)) (a : Outputs) (r : Result (Unit {0}) Stop) (e : Stop) → r ≡ Err e → e ≡ stop.NoMemory → IsLineRun k words next arrived arrived a a r
 line_untold k words next arrived a r e was is =
     subst (IsLineRun k words next arrived arrived a a) (sym (was ∙ ap the_err is))
-    (record { found = []; taken = found-none arrived; told = λ finds are. prefix-none a (said_of (k finds)) })
+    (record { found = []; taken = found-none arrived; told = λ finds are. prefix-none a (log_of (k finds)) })
 
 -- a prefix of the one line that joins the mesh
 pub joined_cut : (m : Moment) (l : Accepted) (stage : Stage) (words : List ℕ) (next : Moment) (arrived : Option (List Datagram)) (a b : Outputs) (r : Result (Unit {0}) Stop) (e : Stop) → ((finds : List Find) → outcome_of_line m l finds ≡ joined m l stage finds)
     → r ≡ Err e → e ≡ stop.WriteFault → AddsPrefix a b (written (line (words_at m.stage l))) → IsLineRun (outcome_of_line m l) words next arrived arrived a b r
 joined_cut m l stage words next arrived a b r e is was fault p =
     subst (IsLineRun (outcome_of_line m l) words next arrived arrived a b) (sym (was ∙ ap the_err fault))
-    (record { found = []; taken = found-none arrived; told = λ finds are. subst (λ (k : LineOutcome). AddsPrefix a b (said_of k)) (sym (is finds)) p })
+    (record { found = []; taken = found-none arrived; told = λ finds are. subst (λ (k : LineOutcome). AddsPrefix a b (log_of k)) (sym (is finds)) p })
 
 pub joined_done : (m : Moment) (l : Accepted) (stage : Stage) (words : List ℕ) (next : Moment) (arrived : Option (List Datagram)) (a b : Outputs) → ((finds : List Find) → outcome_of_line m l finds ≡ joined m l stage finds)
     → next ≡ counted_at m stage → Adds a b (written (line (words_at m.stage l))) → IsLineRun (outcome_of_line m l) words next arrived arrived a b (Ok tt)
 joined_done m l stage words next arrived a b is at p = record {
   found = [];
   taken = found-none arrived;
-  said = written (line (words_at m.stage l));
+  log = written (line (words_at m.stage l));
   adds = p;
   is = λ finds are. is finds ∙ ap (λ (n : Moment). On (written (line (words_at m.stage l))) n finds) (sym at);
 }
@@ -93,7 +93,7 @@ pub blank_done : (m next : Moment) (words : List ℕ) (arrived : Option (List Da
 blank_done m next words arrived a at p = record {
   found = [];
   taken = found-none arrived;
-  said = nothing;
+  log = nothing;
   adds = p;
   is = λ finds are. outcome_blank m finds ∙ ap (λ (n : Moment). On nothing n finds) (sym at);
 }
@@ -117,14 +117,14 @@ step_line m begun l new next arrived left a b is at same p e =
     let q = as_begun m begun l at in record {
       found = [];
       taken = subst (λ (o : Option (List Datagram)). AreFound arrived o []) (sym same) (found-none arrived);
-      said = p.said;
+      log = p.log;
       adds = p.adds;
-      is = λ finds are. step-at m l (Goes p.said (router_in new.stage)) finds is (q ∙ p.is) ∙ ap (λ (n : Moment). On p.said n finds) (sym e);
+      is = λ finds are. step-at m l (StepDone p.log (router_in new.stage)) finds is (q ∙ p.is) ∙ ap (λ (n : Moment). On p.log n finds) (sym e);
     }
 
-by_said : (m : Moment) (l : Accepted) (finds : List Find) (s : StepOutcome) (a b : Outputs) → AddsPrefix a b (said_in s) → AddsPrefix a b (said_of (stepped m l finds s))
-by_said m l finds (Goes said next) a b p = p
-by_said m l finds (Stopped said field) a b p = p
+by_log : (m : Moment) (l : Accepted) (finds : List Find) (s : StepOutcome) (a b : Outputs) → AddsPrefix a b (log_in s) → AddsPrefix a b (log_of (stepped m l finds s))
+by_log m l finds (StepDone log next) a b p = p
+by_log m l finds (StepFull log field) a b p = p
 
 pub step_stopped : (m begun : Moment) (l : Accepted) (new next : Moment) (arrived left : Option (List Datagram)) (a b : Outputs) (r : Result (Unit {0}) Stop) (e : Stop) → IsCommand l → begun ≡ record m { stage = Running (router_in m.stage) } → left ≡ arrived
     → r ≡ Err e → IsStepRun (step_of (router_in begun.stage) (words_at begun.stage l) l) a b (router_in new.stage) (Err e)
@@ -135,17 +135,17 @@ step_stopped m begun l new next arrived left a b r e is at same was p =
     q : step_of (router_in m.stage) (words_at m.stage l) l ≡ step_of (router_in begun.stage) (words_at begun.stage l) l
     q = as_begun m begun l at
 
-    part : AddsPrefix a b (said_in (step_of (router_in begun.stage) (words_at begun.stage l) l)) → IsLineInPart (outcome_of_line m l) arrived left a b
+    part : AddsPrefix a b (log_in (step_of (router_in begun.stage) (words_at begun.stage l) l)) → IsLineInPart (outcome_of_line m l) arrived left a b
     part h = record {
       found = [];
       taken = subst (λ (o : Option (List Datagram)). AreFound arrived o []) (sym same) (found-none arrived);
       told = λ finds are.
-          subst (λ (k : LineOutcome). AddsPrefix a b (said_of k)) (sym (outcome_step m l finds is))
-          (by_said m l finds (step_of (router_in m.stage) (words_at m.stage l) l) a b (subst (λ (s : StepOutcome). AddsPrefix a b (said_in s)) (sym q) h));
+          subst (λ (k : LineOutcome). AddsPrefix a b (log_of k)) (sym (outcome_step m l finds is))
+          (by_log m l finds (step_of (router_in m.stage) (words_at m.stage l) l) a b (subst (λ (s : StepOutcome). AddsPrefix a b (log_in s)) (sym q) h));
     }
 
     by_stop : (e : Stop) → IsStepRun (step_of (router_in begun.stage) (words_at begun.stage l) l) a b (router_in new.stage) (Err e) → IsLineRun (outcome_of_line m l) (refused_words m.stage l) next arrived left a b (Err e)
-    by_stop (stop.Full field) h = record { said = h.said; adds = h.adds; is = λ finds. step-at m l (Stopped h.said field) finds is (q ∙ h.is); same = same }
+    by_stop (stop.Full field) h = record { log = h.log; adds = h.adds; is = λ finds. step-at m l (StepFull h.log field) finds is (q ∙ h.is); same = same }
     by_stop stop.WriteFault h = part h
     by_stop stop.LinkFault h = part h
     by_stop stop.NoMemory h = part h
@@ -162,12 +162,12 @@ pub poll_done : (m begun : Moment) (count : ℕ) (new next : Moment) (arrived le
 poll_done m begun count new next arrived left a b at p e = record {
   found = p.found;
   taken = p.taken;
-  said = followed_by (written (line (words_at m.stage (Polls count)))) p.said;
-  adds = subst (λ (w : List ℕ). Adds a b (followed_by (written (line w)) p.said)) (sym (poll_words m begun count at)) p.adds;
+  log = followed_by (written (line (words_at m.stage (Polls count)))) p.log;
+  adds = subst (λ (w : List ℕ). Adds a b (followed_by (written (line w)) p.log)) (sym (poll_words m begun count at)) p.adds;
   is = λ finds are.
       outcome_polls m count finds
       ∙ ap (polled_line m (Polls count)) (ap (λ (k : Moment). polls_of count (router_in k.stage) finds) (sym at) ∙ p.is finds are)
-      ∙ ap (λ (n : Moment). On (followed_by (written (line (words_at m.stage (Polls count)))) p.said) n (left_after finds p.found)) (sym e);
+      ∙ ap (λ (n : Moment). On (followed_by (written (line (words_at m.stage (Polls count)))) p.log) n (left_after finds p.found)) (sym e);
 }
 
 pub poll_stopped : (m begun : Moment) (count : ℕ) (next : Moment) (arrived left : Option (List Datagram)) (a b : Outputs) (r : Result (Unit {0}) Stop) (e : Stop) → begun ≡ record m { stage = Running (router_in m.stage) }
@@ -181,9 +181,9 @@ poll_stopped m begun count next arrived left a b r e at was p =
       found = (p.1).found;
       taken = (p.1).taken;
       told = λ finds are.
-          subst (λ (k : LineOutcome). AddsPrefix a b (said_of k)) (sym (outcome_polls m count finds))
-          (subst (λ (k : Moment). AddsPrefix a b (followed_by (written (line (words_at m.stage (Polls count)))) (polls_of count (router_in k.stage) finds).said)) at
-          (subst (λ (w : List ℕ). AddsPrefix a b (followed_by (written (line w)) (polls_of count (router_in begun.stage) finds).said)) (sym (poll_words m begun count at)) ((p.1).told finds are)));
+          subst (λ (k : LineOutcome). AddsPrefix a b (log_of k)) (sym (outcome_polls m count finds))
+          (subst (λ (k : Moment). AddsPrefix a b (followed_by (written (line (words_at m.stage (Polls count)))) (polls_of count (router_in k.stage) finds).log)) at
+          (subst (λ (w : List ℕ). AddsPrefix a b (followed_by (written (line w)) (polls_of count (router_in begun.stage) finds).log)) (sym (poll_words m begun count at)) ((p.1).told finds are)));
     }
 
     by_stop : (e : Stop) → IsNotFull e → IsLineRun (outcome_of_line m (Polls count)) (refused_words m.stage (Polls count)) next arrived left a b (Err e)

@@ -18,15 +18,15 @@ use Rattle.mesh_peers.specs.Peers.{PeersSeen}
 use Rattle.mesh_peers.specs.Lines.{Accepted, line_of}
 use Rattle.mesh_router.specs.declared.status.NodeStatus.{NodeStatus}
 use Rattle.mesh_router.specs.declared.status.NodeStatus.TheVariants as status
-use Rattle.mesh_router.specs.Said.{Said, nothing, written}
+use Rattle.mesh_router.specs.Logs.{Log, nothing, written}
 use Rattle.mesh_router.specs.Routers.{Moment, peers_in, is_running, opening_moment}
 use Rattle.mesh_router.specs.Finds.{Find, left_after, arrivals, AreFound}
 use Rattle.mesh_router.specs.Lines.{LineOutcome, On, Refused, Full, outcome_of_piece, outcome_of_read, outcome_of_line}
 use Rattle.mesh_router.specs.Text.{Run, finished_run, refused_run, overfull_run, run_after, goes_on, run_from, run_of_script, full_line}
 use Rattle.mesh_router.specs.Outputs.{Outputs, Adds, AddsPrefix}
-use Rattle.mesh_router.specs.Runs.{said_of, IsLineDone, IsLineFull, IsLineInPart}
+use Rattle.mesh_router.specs.Runs.{log_of, IsLineDone, IsLineFull, IsLineInPart}
 use Rattle.mesh_router.specs.Output.{IsOutput, IsTold, IsScriptRun}
-use Rattle.mesh_router.proofs.Saying.{adds-join, prefix-none, prefix-join, prefix-more}
+use Rattle.mesh_router.proofs.Logging.{adds-join, prefix-none, prefix-join, prefix-more}
 use Rattle.mesh_router.proofs.Finds.{next-front, next-rest, next-self, found-none, found-join, told-next}
 use Rattle.mesh_report.proofs.Pieces.{pieces_at, pieces_none, IsAhead, Begins, ahead}
 
@@ -59,7 +59,7 @@ read_line m p started bytes r e f is = λ finds.
     piece-whole m bytes finds ∙ ap (λ (o : Result Accepted LineFault). outcome_of_read m o finds) ((λ i. line_of (sym e i) (sym f i) bytes) ∙ sym is)
 
 pub line_done : (m n : Moment) (piece : Piece) (l : Accepted) (x y : Option (List Datagram)) (a b : Outputs) → ((finds : List Find) → outcome_of_piece m piece finds ≡ outcome_of_line m l finds) → IsLineDone (outcome_of_line m l) n x y a b → IsLineDone (outcome_of_piece m piece) n x y a b
-line_done m n piece l x y a b e p = record { found = p.found; taken = p.taken; said = p.said; adds = p.adds; is = λ finds are. e finds ∙ p.is finds are }
+line_done m n piece l x y a b e p = record { found = p.found; taken = p.taken; log = p.log; adds = p.adds; is = λ finds are. e finds ∙ p.is finds are }
 
 -- ---- where the run ends at a line
 
@@ -72,9 +72,9 @@ told_refused m piece why pieces x a b s e p = record {
       subst (λ (r : Run). IsOutput a b r s) (sym (run-cons m piece pieces finds ∙ ap (λ (k : LineOutcome). goes_on m k (λ n left. run_from n pieces left)) (e finds))) p;
 }
 
-run-full : (m : Moment) (piece : Piece) (l : Accepted) (pieces : List Piece) (finds : List Find) (said : Said) (words : List ℕ) (field : Counter) → ((fs : List Find) → outcome_of_piece m piece fs ≡ outcome_of_line m l fs) → outcome_of_line m l finds ≡ Full said words field
-    → run_from m (piece ∷ pieces) finds ≡ overfull_run m said words field
-run-full m piece l pieces finds said words field e is =
+run-full : (m : Moment) (piece : Piece) (l : Accepted) (pieces : List Piece) (finds : List Find) (log : Log) (words : List ℕ) (field : Counter) → ((fs : List Find) → outcome_of_piece m piece fs ≡ outcome_of_line m l fs) → outcome_of_line m l finds ≡ Full log words field
+    → run_from m (piece ∷ pieces) finds ≡ overfull_run m log words field
+run-full m piece l pieces finds log words field e is =
     run-cons m piece pieces finds ∙ ap (λ (k : LineOutcome). goes_on m k (λ n left. run_from n pieces left)) (e finds ∙ is)
 
 pub told_full : (m : Moment) (piece : Piece) (l : Accepted) (words : List ℕ) (field : Counter) (pieces : List Piece) (x y : Option (List Datagram)) (a b c : Outputs) → ((finds : List Find) → outcome_of_piece m piece finds ≡ outcome_of_line m l finds)
@@ -83,8 +83,8 @@ told_full m piece l words field pieces x y a b c e p q = record {
   found = [];
   taken = subst (λ (o : Option (List Datagram)). AreFound x o []) (sym p.same) (found-none x);
   told = λ finds are.
-      subst (λ (r : Run). IsOutput a c r (status.Full (m.lines + 1))) (sym (run-full m piece l pieces finds p.said words field e (p.is finds)))
-      (refl, adds-join a b c p.said (written (full_line (m.lines + 1) words field)) p.adds q);
+      subst (λ (r : Run). IsOutput a c r (status.Full (m.lines + 1))) (sym (run-full m piece l pieces finds p.log words field e (p.is finds)))
+      (refl, adds-join a b c p.log (written (full_line (m.lines + 1) words field)) p.adds q);
 }
 
 pub told_full_cut : (m : Moment) (piece : Piece) (l : Accepted) (words : List ℕ) (field : Counter) (pieces : List Piece) (x y : Option (List Datagram)) (a b c : Outputs) → ((finds : List Find) → outcome_of_piece m piece finds ≡ outcome_of_line m l finds)
@@ -93,18 +93,18 @@ told_full_cut m piece l words field pieces x y a b c e p q = record {
   found = [];
   taken = subst (λ (o : Option (List Datagram)). AreFound x o []) (sym p.same) (found-none x);
   told = λ finds are.
-      subst (λ (r : Run). AddsPrefix a c r.said) (sym (run-full m piece l pieces finds p.said words field e (p.is finds)))
-      (prefix-join a b c p.said (written (full_line (m.lines + 1) words field)) p.adds q);
+      subst (λ (r : Run). AddsPrefix a c r.log) (sym (run-full m piece l pieces finds p.log words field e (p.is finds)))
+      (prefix-join a b c p.log (written (full_line (m.lines + 1) words field)) p.adds q);
 }
 
 -- a prefix of what a line says is one of what the run says
-first_of_run : (m : Moment) (k : LineOutcome) (others : Moment → List Find → Run) (a b : Outputs) → AddsPrefix a b (said_of k) → AddsPrefix a b (goes_on m k others).said
-first_of_run m (On said n left) others a b p = prefix-more a b said (others n left).said p
+first_of_run : (m : Moment) (k : LineOutcome) (others : Moment → List Find → Run) (a b : Outputs) → AddsPrefix a b (log_of k) → AddsPrefix a b (goes_on m k others).log
+first_of_run m (On log n left) others a b p = prefix-more a b log (others n left).log p
 first_of_run m (Refused why) others a b p = prefix-more a b nothing (written (bad_line (m.lines + 1) why)) p
-first_of_run m (Full said words field) others a b p = prefix-more a b said (written (full_line (m.lines + 1) words field)) p
+first_of_run m (Full log words field) others a b p = prefix-more a b log (written (full_line (m.lines + 1) words field)) p
 
 pub told_in_part : (m : Moment) (piece : Piece) (l : Accepted) (pieces : List Piece) (x y : Option (List Datagram)) (a b : Outputs) (s : NodeStatus) → ((finds : List Find) → outcome_of_piece m piece finds ≡ outcome_of_line m l finds)
-    → ((r : Run) → AddsPrefix a b r.said → IsOutput a b r s) → IsLineInPart (outcome_of_line m l) x y a b → IsTold (run_from m (piece ∷ pieces)) x y a b s
+    → ((r : Run) → AddsPrefix a b r.log → IsOutput a b r s) → IsLineInPart (outcome_of_line m l) x y a b → IsTold (run_from m (piece ∷ pieces)) x y a b s
 told_in_part m piece l pieces x y a b s e cut p = record {
   found = p.found;
   taken = p.taken;
@@ -112,20 +112,20 @@ told_in_part m piece l pieces x y a b s e cut p = record {
       let k = outcome_of_piece m piece finds in
       subst (λ (r : Run). IsOutput a b r s) (sym (run-cons m piece pieces finds))
       (cut (goes_on m k (λ n left. run_from n pieces left)) (first_of_run m k (λ n left. run_from n pieces left) a b
-      (subst (λ (o : LineOutcome). AddsPrefix a b (said_of o)) (sym (e finds)) (p.told finds are))));
+      (subst (λ (o : LineOutcome). AddsPrefix a b (log_of o)) (sym (e finds)) (p.told finds are))));
 }
 
 -- ---- one line after another
 
-output_after : (a b c : Outputs) (said : Said) (r : Run) (s : NodeStatus) → Adds a b said → IsOutput b c r s → IsOutput a c (run_after said r) s
-output_after a b c said r status.Done p q = (q.0, adds-join a b c said r.said p q.1)
-output_after a b c said r status.Usage p q = q
-output_after a b c said r (status.BadLine n) p q = (q.0, adds-join a b c said r.said p q.1)
-output_after a b c said r (status.Full n) p q = (q.0, adds-join a b c said r.said p q.1)
-output_after a b c said r status.ReadFault p q = prefix-join a b c said r.said p q
-output_after a b c said r status.WriteFault p q = prefix-join a b c said r.said p q
-output_after a b c said r status.NoMemory p q = prefix-join a b c said r.said p q
-output_after a b c said r status.LinkFault p q = prefix-join a b c said r.said p q
+output_after : (a b c : Outputs) (log : Log) (r : Run) (s : NodeStatus) → Adds a b log → IsOutput b c r s → IsOutput a c (run_after log r) s
+output_after a b c log r status.Done p q = (q.0, adds-join a b c log r.log p q.1)
+output_after a b c log r status.Usage p q = q
+output_after a b c log r (status.BadLine n) p q = (q.0, adds-join a b c log r.log p q.1)
+output_after a b c log r (status.Full n) p q = (q.0, adds-join a b c log r.log p q.1)
+output_after a b c log r status.ReadFault p q = prefix-join a b c log r.log p q
+output_after a b c log r status.WriteFault p q = prefix-join a b c log r.log p q
+output_after a b c log r status.NoMemory p q = prefix-join a b c log r.log p q
+output_after a b c log r status.LinkFault p q = prefix-join a b c log r.log p q
 
 told_after : (m n : Moment) (piece : Piece) (pieces : List Piece) (x y z : Option (List Datagram)) (a b c : Outputs) (s : NodeStatus) → IsLineDone (outcome_of_piece m piece) n x y a b → IsTold (run_from n pieces) y z b c s → IsTold (run_from m (piece ∷ pieces)) x z a c s
 told_after m n piece pieces x y z a b c s p q = record {
@@ -135,7 +135,7 @@ told_after m n piece pieces x y z a b c s p q = record {
       let left = left_after finds p.found in
       subst (λ (r : Run). IsOutput a c r s)
       (sym (run-cons m piece pieces finds ∙ ap (λ (k : LineOutcome). goes_on m k (λ t fs. run_from t pieces fs)) (p.is finds (next-front finds p.found q.found are))))
-      (output_after a b c p.said (run_from n pieces left) s p.adds (q.told left (next-rest finds p.found q.found are)));
+      (output_after a b c p.log (run_from n pieces left) s p.adds (q.told left (next-rest finds p.found q.found are)));
 }
 
 -- what is told of the bytes to come, and of what was told before, is told of the script
@@ -229,4 +229,4 @@ leads_cut None left given m x y a b h = tt
 leads_cut (Some script) None given m x y a b h = absurd h
 leads_cut (Some script) (Some bytes) given m x y a b h =
     script_run script x y a b status.ReadFault
-    (h y b status.ReadFault (record { found = []; taken = found-none y; told = λ finds are. prefix-none b (run_from m (pieces_at given bytes) finds).said }))
+    (h y b status.ReadFault (record { found = []; taken = found-none y; told = λ finds are. prefix-none b (run_from m (pieces_at given bytes) finds).log }))

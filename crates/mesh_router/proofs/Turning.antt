@@ -31,16 +31,16 @@ use Rattle.mesh_report.specs.Legible.{IsTookLegible}
 use Rattle.mesh_peers.specs.Peers.{PeersSeen}
 use Rattle.mesh_router.specs.declared.stop.Stop.{Stop}
 use Rattle.mesh_router.specs.declared.stop.Stop.TheVariants as stop
-use Rattle.mesh_router.specs.Said.{Said, nothing, written, followed_by}
+use Rattle.mesh_router.specs.Logs.{Log, nothing, written, followed_by}
 use Rattle.mesh_router.specs.Routers.{Router}
-use Rattle.mesh_router.specs.Casts.{sent_to_each, reached_by, cast_packet, effect_said}
+use Rattle.mesh_router.specs.Casts.{sent_to_each, reached_by, cast_packet, effect_log}
 use Rattle.mesh_router.specs.Turns as turns
-use Rattle.mesh_router.specs.Turns.{TurnOutcome, StepOutcome, Goes, Stopped, said_before, with_others, turns_of, turn_on, next_turn, handled, handled_turn, packet_turn, dropped_turn, turn_said, drop_line, refusal_words, stranger_words, idle_line}
+use Rattle.mesh_router.specs.Turns.{TurnOutcome, StepOutcome, StepDone, StepFull, log_before, with_others, turns_of, turn_on, next_turn, handled, handled_turn, packet_turn, dropped_turn, turn_log, drop_line, refusal_words, stranger_words, idle_line}
 use Rattle.mesh_router.specs.Outputs.{Outputs, Adds, AddsPrefix, IsFault}
-use Rattle.mesh_router.specs.Peers.{reached, code_said}
-use Rattle.mesh_router.specs.Runs.{said_by, said_in, IsTurnDone, IsTurnIdle, IsTurnFull, IsTurnRun, IsStepDone, IsStepFull, IsStepRun}
+use Rattle.mesh_router.specs.Peers.{reached, code_log}
+use Rattle.mesh_router.specs.Runs.{log_by, log_in, IsTurnDone, IsTurnIdle, IsTurnFull, IsTurnRun, IsStepDone, IsStepFull, IsStepRun}
 use Rattle.mesh_router.specs.Short.{IsTurnShort, HoldsAfter, AreTurnsShort}
-use Rattle.mesh_router.proofs.Saying.{said-assoc, said-nil, written-append, adds-none, adds-join, prefix-join, prefix-more}
+use Rattle.mesh_router.proofs.Logging.{log-assoc, log-nil, written-append, adds-none, adds-join, prefix-join, prefix-more}
 
 -- what is seen of a router of these parts
 abbrev pub router_as : PeersSeen → NodeSeen → NodeIds → ℕ → ℕ → ℕ → Router
@@ -106,26 +106,26 @@ effect_meant mesh e effect out is in_mesh named did sent =
       packet = ap (cast_packet mesh) casts ∙ m.packet;
     }
 
--- ---- what is said of it
+-- ---- its log
 
-pub said_effect : (r : Router) (e : effects.Effect) (out : List ℕ) → cast_packet (r.peers).mesh (cast_in (r.peers).mesh e.cast out) ≡ out
+pub log_effect : (r : Router) (e : effects.Effect) (out : List ℕ) → cast_packet (r.peers).mesh (cast_in (r.peers).mesh e.cast out) ≡ out
     → followed_by (written (broken_text (r.peers).mesh e.broken ++ cast_text (r.peers).mesh (cast_in (r.peers).mesh e.cast out))) (sent_to_each r.peers out (reached r.peers r.range e.cast out))
-    ≡ effect_said r (effect_in (r.peers).mesh e out)
-said_effect r e out packet =
+    ≡ effect_log r (effect_in (r.peers).mesh e out)
+log_effect r e out packet =
     ap (λ (l : List ℕ). followed_by (written (broken_text (r.peers).mesh e.broken ++ cast_text (r.peers).mesh (cast_in (r.peers).mesh e.cast out))) (sent_to_each r.peers l (reached r.peers r.range e.cast out))) (sym packet)
 
 -- of a turn
-pub said_turn : (r : Router) (t : taken.Took) (e : effects.Effect) (effect : Effect) (took : Took) (out : List ℕ) → IsEffectMeant (r.peers).mesh e effect out → took_in (r.peers).mesh t ≡ took
-    → code_said r.peers r.range (r.core).ip (Some t) e out ≡ turn_said r took effect
-said_turn r t e effect took out m is =
+pub log_turn : (r : Router) (t : taken.Took) (e : effects.Effect) (effect : Effect) (took : Took) (out : List ℕ) → IsEffectMeant (r.peers).mesh e effect out → took_in (r.peers).mesh t ≡ took
+    → code_log r.peers r.range (r.core).ip (Some t) e out ≡ turn_log r took effect
+log_turn r t e effect took out m is =
     let mesh = (r.peers).mesh in
     let front : List ℕ = took_text mesh (r.core).ip (took_in mesh t) ++ datum_fate mesh (r.core).ip (took_in mesh t) (effect_in mesh e out) in
     let others : List ℕ = broken_text mesh e.broken ++ cast_text mesh (cast_in mesh e.cast out) in
     let each = sent_to_each r.peers out (reached r.peers r.range e.cast out) in
-    ap (λ (s : Said). followed_by s each) (written-append front others)
-    ∙ said-assoc (written front) (written others) each
-    ∙ ap (followed_by (written front)) (said_effect r e out m.packet)
-    ∙ (λ i. turn_said r (is i) (sym m.means i))
+    ap (λ (s : Log). followed_by s each) (written-append front others)
+    ∙ log-assoc (written front) (written others) each
+    ∙ ap (followed_by (written front)) (log_effect r e out m.packet)
+    ∙ (λ i. turn_log r (is i) (sym m.means i))
 
 -- how many they are
 pub reached_is : (r : Router) (e : effects.Effect) (effect : Effect) (out : List ℕ) → IsEffectMeant (r.peers).mesh e effect out → reached r.peers r.range e.cast out ≡ reached_by r effect.cast
@@ -174,7 +174,7 @@ on-strange r from bytes rest who e s = λ i. packet_turn r rest from bytes (e i)
 
 -- a front item that can be read is taken
 pub record IsTurnMeant (p : PeersSeen) (me : ℕ) (node new : NodeSeen) (near : NodeIds) (heard sent dropped : ℕ) (t : taken.Took) (e : effects.Effect) (out : List ℕ) : Type 0 where
-  pub is : next_turn (router_as p node near heard sent dropped) ≡ turns.Done (code_said p near me (Some t) e out)
+  pub is : next_turn (router_as p node near heard sent dropped) ≡ turns.Done (code_log p near me (Some t) e out)
       (router_as p new near heard (sent + length (reached p near e.cast out)) dropped)
   pub legible : IsTookLegible p.mesh t
   pub cast : IsCastWritten p.mesh e.cast out
@@ -198,9 +198,9 @@ turn_meant p me node new near heard sent dropped d t out is mine sound size h to
     record {
       is = ap (turn_on r) h.was ∙ on-readable r h.front new.items h.readable
           ∙ ap (λ (o : Option Counter). handled r new.items (took node.core i) o reaction) (h.made).free
-          ∙ (λ k. turns.Done (sym (said_turn r t d.effect reaction.effect (took node.core i) out m took_in_is) k)
+          ∙ (λ k. turns.Done (sym (log_turn r t d.effect reaction.effect (took node.core i) out m took_in_is) k)
           (record { peers = p; core = sym (h.made).core k; queue = new.items; range = near; heard = heard; sent = sent + length (sym (reached_is r d.effect reaction.effect out m) k); dropped = dropped }))
-          ∙ ap (λ (x : ℕ). turns.Done (code_said p near x (Some t) d.effect out) (router_as p new near heard (sent + length (reached p near d.effect.cast out)) dropped)) (sym mine);
+          ∙ ap (λ (x : ℕ). turns.Done (code_log p near x (Some t) d.effect out) (router_as p new near heard (sent + length (reached p near d.effect.cast out)) dropped)) (sym mine);
       legible = subst (IsTookLegible mesh) (sym (took_is ∙ h.took)) (took_legible mesh (node.core).ip node.core h.front at h.readable);
       cast = m.cast;
       broken = m.broken;
@@ -243,8 +243,8 @@ turn_full_at p node near heard sent dropped field h =
 
 -- ---- what is told of a turn
 
-pub told_done : (t : TurnOutcome) (old new : Router) (a b : Outputs) (said : Said) → t ≡ turns.Done said new → Adds a b said → IsTurnRun t old a b new (Ok true)
-told_done t old new a b said is adds = record { said = said; is = is; adds = adds }
+pub told_done : (t : TurnOutcome) (old new : Router) (a b : Outputs) (log : Log) → t ≡ turns.Done log new → Adds a b log → IsTurnRun t old a b new (Ok true)
+told_done t old new a b log is adds = record { log = log; is = is; adds = adds }
 
 abbrev the_err : Stop → Result Bool Stop
 the_err x = Err x
@@ -252,7 +252,7 @@ the_err x = Err x
 err_is : (x y : Stop) → the_err x ≡ the_err y → x ≡ y
 err_is x y e = cc
 
-pub told_fault : (t : TurnOutcome) (old new : Router) (a b : Outputs) (r : Result Bool Stop) (e : Stop) → r ≡ Err e → IsFault e → AddsPrefix a b (said_by t) → IsTurnRun t old a b new r
+pub told_fault : (t : TurnOutcome) (old new : Router) (a b : Outputs) (r : Result Bool Stop) (e : Stop) → r ≡ Err e → IsFault e → AddsPrefix a b (log_by t) → IsTurnRun t old a b new r
 told_fault t old new a b (Ok more) e was fault p = absurd cc
 told_fault t old new a b (Err (stop.Full field)) e was fault p = absurd (subst IsFault (sym (err_is (stop.Full field) e was)) fault)
 told_fault t old new a b (Err stop.WriteFault) e was fault p = p
@@ -260,16 +260,16 @@ told_fault t old new a b (Err stop.LinkFault) e was fault p = p
 told_fault t old new a b (Err stop.NoMemory) e was fault p = p
 
 -- it was told in part
-pub told_in_part : (t : TurnOutcome) (old new next : Router) (a b : Outputs) (said : Said) (r : Result Bool Stop) (e : Stop) → t ≡ turns.Done said next → AddsPrefix a b said → r ≡ Err e → IsFault e → IsTurnRun t old a b new r
-told_in_part t old new next a b said r e is p was fault =
-    told_fault t old new a b r e was fault (subst (λ (k : TurnOutcome). AddsPrefix a b (said_by k)) (sym is) p)
+pub told_in_part : (t : TurnOutcome) (old new next : Router) (a b : Outputs) (log : Log) (r : Result Bool Stop) (e : Stop) → t ≡ turns.Done log next → AddsPrefix a b log → r ≡ Err e → IsFault e → IsTurnRun t old a b new r
+told_in_part t old new next a b log r e is p was fault =
+    told_fault t old new a b r e was fault (subst (λ (k : TurnOutcome). AddsPrefix a b (log_by k)) (sym is) p)
 
 pub same_me : (p : PeersSeen) (me ip : ℕ) (o : Option ℕ) → o ≡ p.me → o ≡ Some me → p.me ≡ Some ip → me ≡ ip
 same_me p me ip o value is mine = cc
 
 -- ---- some turns, one after another
 
-turns-zero : (r : Router) → turns_of 0 r ≡ Goes nothing r
+turns-zero : (r : Router) → turns_of 0 r ≡ StepDone nothing r
 unfolding turns_of
 turns-zero r = refl
 
@@ -280,70 +280,70 @@ turns-suc most r = refl
 turns-by : (most : ℕ) (r : Router) (t : TurnOutcome) → next_turn r ≡ t → turns_of (suc most) r ≡ with_others r t (λ next. turns_of most next)
 turns-by most r t e = turns-suc most r ∙ ap (λ (k : TurnOutcome). with_others r k (λ next. turns_of most next)) e
 
-before-join : (x y : Said) (s : StepOutcome) → said_before x (said_before y s) ≡ said_before (followed_by x y) s
-before-join x y (Goes said next) = ap (λ (k : Said). Goes k next) (sym (said-assoc x y said))
-before-join x y (Stopped said field) = ap (λ (k : Said). Stopped k field) (sym (said-assoc x y said))
+before-join : (x y : Log) (s : StepOutcome) → log_before x (log_before y s) ≡ log_before (followed_by x y) s
+before-join x y (StepDone log next) = ap (λ (k : Log). StepDone k next) (sym (log-assoc x y log))
+before-join x y (StepFull log field) = ap (λ (k : Log). StepFull k field) (sym (log-assoc x y log))
 
-before-none : (s : StepOutcome) → s ≡ said_before nothing s
-before-none (Goes said next) = refl
-before-none (Stopped said field) = refl
+before-none : (s : StepOutcome) → s ≡ log_before nothing s
+before-none (StepDone log next) = refl
+before-none (StepFull log field) = refl
 
-pub after-said : (x : Said) (s : StepOutcome) (a b c : Outputs) → Adds a b x → AddsPrefix b c (said_in s) → AddsPrefix a c (said_in (said_before x s))
-after-said x (Goes said next) a b c p q = prefix-join a b c x said p q
-after-said x (Stopped said field) a b c p q = prefix-join a b c x said p q
+pub after-log : (x : Log) (s : StepOutcome) (a b c : Outputs) → Adds a b x → AddsPrefix b c (log_in s) → AddsPrefix a c (log_in (log_before x s))
+after-log x (StepDone log next) a b c p q = prefix-join a b c x log p q
+after-log x (StepFull log field) a b c p q = prefix-join a b c x log p q
 
-pub first-more : (x : Said) (s : StepOutcome) (a b : Outputs) → AddsPrefix a b x → AddsPrefix a b (said_in (said_before x s))
-first-more x (Goes said next) a b p = prefix-more a b x said p
-first-more x (Stopped said field) a b p = prefix-more a b x said p
+pub first-more : (x : Log) (s : StepOutcome) (a b : Outputs) → AddsPrefix a b x → AddsPrefix a b (log_in (log_before x s))
+first-more x (StepDone log next) a b p = prefix-more a b x log p
+first-more x (StepFull log field) a b p = prefix-more a b x log p
 
 -- they were done and told so far, with so many left
 pub record AreDone (count rest : ℕ) (old now : Router) (a b : Outputs) : Type 0 where
-  pub said : Said
-  pub adds : Adds a b said
-  pub goes : turns_of count old ≡ said_before said (turns_of rest now)
+  pub log : Log
+  pub adds : Adds a b log
+  pub goes : turns_of count old ≡ log_before log (turns_of rest now)
 
 pub turns_begin : (count : ℕ) (old : Router) (a : Outputs) → AreDone count count old old a a
-turns_begin count old a = record { said = nothing; adds = adds-none a; goes = before-none (turns_of count old) }
+turns_begin count old a = record { log = nothing; adds = adds-none a; goes = before-none (turns_of count old) }
 
 pub turns_next : (count rest : ℕ) (old mid new : Router) (a b c : Outputs) → AreDone count (suc rest) old mid a b → IsTurnDone (next_turn mid) new b c → AreDone count rest old new a c
 turns_next count rest old mid new a b c p q = record {
-  said = followed_by p.said q.said;
-  adds = adds-join a b c p.said q.said p.adds q.adds;
-  goes = p.goes ∙ ap (said_before p.said) (turns-by rest mid (turns.Done q.said new) q.is) ∙ before-join p.said q.said (turns_of rest new);
+  log = followed_by p.log q.log;
+  adds = adds-join a b c p.log q.log p.adds q.adds;
+  goes = p.goes ∙ ap (log_before p.log) (turns-by rest mid (turns.Done q.log new) q.is) ∙ before-join p.log q.log (turns_of rest new);
 }
 
 pub turns_stop : (count rest : ℕ) (old mid new : Router) (a b c : Outputs) → AreDone count (suc rest) old mid a b → IsTurnIdle (next_turn mid) mid new b c → IsStepDone (turns_of count old) new a c
 turns_stop count rest old mid new a b c p q = record {
-  said = followed_by p.said (written idle_line);
-  adds = adds-join a b c p.said (written idle_line) p.adds q.adds;
-  is = p.goes ∙ ap (said_before p.said) (turns-by rest mid turns.Idle q.is) ∙ ap (λ (r : Router). Goes (followed_by p.said (written idle_line)) r) (sym q.same);
+  log = followed_by p.log (written idle_line);
+  adds = adds-join a b c p.log (written idle_line) p.adds q.adds;
+  is = p.goes ∙ ap (log_before p.log) (turns-by rest mid turns.Idle q.is) ∙ ap (λ (r : Router). StepDone (followed_by p.log (written idle_line)) r) (sym q.same);
 }
 
 pub turns_end : (count : ℕ) (old now : Router) (a b : Outputs) → AreDone count 0 old now a b → IsStepDone (turns_of count old) now a b
 turns_end count old now a b p = record {
-  said = p.said;
+  log = p.log;
   adds = p.adds;
-  is = p.goes ∙ ap (said_before p.said) (turns-zero now) ∙ ap (λ (s : Said). Goes s now) (said-nil p.said);
+  is = p.goes ∙ ap (log_before p.log) (turns-zero now) ∙ ap (λ (s : Log). StepDone s now) (log-nil p.log);
 }
 
 turns_full : (count rest : ℕ) (old mid : Router) (field : Counter) (a b c : Outputs) → AreDone count (suc rest) old mid a b → IsTurnFull (next_turn mid) field b c → IsStepFull (turns_of count old) field a c
 turns_full count rest old mid field a b c p q = record {
-  said = p.said;
-  adds = subst (λ (k : Outputs). Adds a k p.said) (sym q.same) p.adds;
-  is = p.goes ∙ ap (said_before p.said) (turns-by rest mid (turns.Full field) q.is) ∙ ap (λ (s : Said). Stopped s field) (said-nil p.said);
+  log = p.log;
+  adds = subst (λ (k : Outputs). Adds a k p.log) (sym q.same) p.adds;
+  is = p.goes ∙ ap (log_before p.log) (turns-by rest mid (turns.Full field) q.is) ∙ ap (λ (s : Log). StepFull s field) (log-nil p.log);
 }
 
--- what is said of one turn is said first
-first-said : (rest : ℕ) (mid : Router) (t : TurnOutcome) (a b : Outputs) → AddsPrefix a b (said_by t) → AddsPrefix a b (said_in (with_others mid t (λ next. turns_of rest next)))
-first-said rest mid turns.Idle a b p = p
-first-said rest mid (turns.Done said next) a b p = first-more said (turns_of rest next) a b p
-first-said rest mid (turns.Full field) a b p = p
+-- the log of one turn comes first
+first-log : (rest : ℕ) (mid : Router) (t : TurnOutcome) (a b : Outputs) → AddsPrefix a b (log_by t) → AddsPrefix a b (log_in (with_others mid t (λ next. turns_of rest next)))
+first-log rest mid turns.Idle a b p = p
+first-log rest mid (turns.Done log next) a b p = first-more log (turns_of rest next) a b p
+first-log rest mid (turns.Full field) a b p = p
 
-turns_in_part : (count rest : ℕ) (old mid : Router) (a b c : Outputs) → AreDone count (suc rest) old mid a b → AddsPrefix b c (said_by (next_turn mid)) → AddsPrefix a c (said_in (turns_of count old))
+turns_in_part : (count rest : ℕ) (old mid : Router) (a b c : Outputs) → AreDone count (suc rest) old mid a b → AddsPrefix b c (log_by (next_turn mid)) → AddsPrefix a c (log_in (turns_of count old))
 turns_in_part count rest old mid a b c p q =
-    let e : turns_of count old ≡ said_before p.said (with_others mid (next_turn mid) (λ next. turns_of rest next)) = p.goes ∙ ap (said_before p.said) (turns-suc rest mid) in
-    subst (λ (s : StepOutcome). AddsPrefix a c (said_in s)) (sym e)
-    (after-said p.said (with_others mid (next_turn mid) (λ next. turns_of rest next)) a b c p.adds (first-said rest mid (next_turn mid) b c q))
+    let e : turns_of count old ≡ log_before p.log (with_others mid (next_turn mid) (λ next. turns_of rest next)) = p.goes ∙ ap (log_before p.log) (turns-suc rest mid) in
+    subst (λ (s : StepOutcome). AddsPrefix a c (log_in s)) (sym e)
+    (after-log p.log (with_others mid (next_turn mid) (λ next. turns_of rest next)) a b c p.adds (first-log rest mid (next_turn mid) b c q))
 
 pub turns_failed : (count rest : ℕ) (old mid new last : Router) (a b c : Outputs) (r : Result (Unit {0}) Stop) (e : Stop) → AreDone count (suc rest) old mid a b → r ≡ Err e → IsTurnRun (next_turn mid) mid b c new (Err e) → IsStepRun (turns_of count old) a c last r
 turns_failed count rest old mid new last a b c r (stop.Full field) p was q = subst (IsStepRun (turns_of count old) a c last) (sym was) (turns_full count rest old mid field a b c p q)

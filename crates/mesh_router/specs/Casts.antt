@@ -11,7 +11,7 @@ use Rattle.mesh_text.specs.Lines.{name_of}
 use Rattle.mesh_text.specs.Effects.{broken_text, cast_text}
 use Rattle.mesh_link.specs.Datagrams.{datagram}
 use Rattle.mesh_peers.specs.Peers.{PeersSeen}
-use Rattle.mesh_router.specs.Said.{Said, Sent, nothing, written, followed_by}
+use Rattle.mesh_router.specs.Logs.{Log, Sent, nothing, written, followed_by}
 use Rattle.mesh_router.specs.Routers.{Router}
 
 -- the port of a node
@@ -22,12 +22,12 @@ port_at p x = get_or p.ports x 0
 abbrev pub to_line : PeersSeen → ℕ → List ℕ
 to_line p x = line (codes "  to " ++ name_of p.mesh x ++ 32 ∷ decimal (port_at p x))
 
-abbrev pub sent_to : PeersSeen → List ℕ → ℕ → Said
+abbrev pub sent_to : PeersSeen → List ℕ → ℕ → Log
 sent_to p packet x =
     followed_by (written (to_line p x)) (Sent (datagram (port_at p x) packet) ∷ [])
 
 -- the same for some nodes, one after another
-abbrev pub sent_to_each : PeersSeen → List ℕ → List ℕ → Said
+abbrev pub sent_to_each : PeersSeen → List ℕ → List ℕ → Log
 sent_to_each p packet [] = nothing
 sent_to_each p packet (x ∷ xs) = followed_by (sent_to p packet x) (sent_to_each p packet xs)
 
@@ -42,14 +42,14 @@ cast_packet mesh (One y m) = packet_of mesh m
 cast_packet mesh (Many s m) = packet_of mesh m
 cast_packet mesh (All m) = packet_of mesh m
 
-abbrev pub cast_said : Router → Cast → Said
-cast_said r cast = sent_to_each r.peers (cast_packet (r.peers).mesh cast) (reached_by r cast)
+abbrev pub cast_log : Router → Cast → Log
+cast_log r cast = sent_to_each r.peers (cast_packet (r.peers).mesh cast) (reached_by r cast)
 
 -- a failed unicast, what was cast, and to whom it goes
-abbrev pub effect_said : Router → Effect → Said
-effect_said r e =
+abbrev pub effect_log : Router → Effect → Log
+effect_log r e =
     followed_by (written (broken_text (r.peers).mesh e.broken ++ cast_text (r.peers).mesh e.cast))
-    (cast_said r e.cast)
+    (cast_log r e.cast)
 
 -- the router once its node has reacted, and has this queue
 abbrev pub reacted : Router → List Item → Reaction → Router

@@ -1,6 +1,6 @@
 -- Read in this order.
--- Said: what a router writes and sends, in order.
-pub mod Said
+-- Logs: what a router writes and sends, in order.
+pub mod Logs
 -- Routers: a router, and where its run stands.
 pub mod Routers
 -- Casts: to whom a packet goes, and what is written of a step.

@@ -15,18 +15,18 @@ use Rattle.mesh_grammar.specs.Written.{line}
 use Rattle.mesh_text.specs.Tables.{node_text}
 use Rattle.mesh_peers.specs.Peers.{with_self, with_peer}
 use Rattle.mesh_peers.specs.Lines.{Accepted, Nothing, Own, Peer, Up, Down, Give, Polls, Turns, Sends, Asks, Shows, line_of, words_of}
-use Rattle.mesh_router.specs.Said.{Said, nothing, written, followed_by}
+use Rattle.mesh_router.specs.Logs.{Log, nothing, written, followed_by}
 use Rattle.mesh_router.specs.Routers.{Router, Stage, Joining, Running, peers_in, router_in, is_running, Moment, counted_at}
-use Rattle.mesh_router.specs.Turns.{StepOutcome, Goes, Stopped, said_before, turns_of, act_of, idle_line}
+use Rattle.mesh_router.specs.Turns.{StepOutcome, StepDone, StepFull, log_before, turns_of, act_of, idle_line}
 use Rattle.mesh_router.specs.Finds.{Find}
 use Rattle.mesh_router.specs.Polls.{Polled, polls_of}
 
--- what a line comes to: what is said, the next moment, and what is left to be found; why it is
--- refused; or what is said before a counter is full, and the words of what was refused for it
+-- what a line comes to: its log, the next moment, and what is left to be found; why it is
+-- refused; or its log before a counter is full, and the words of what was refused for it
 pub data LineOutcome : Type 0 where
-  On : Said → Moment → List Find → LineOutcome
+  On : Log → Moment → List Find → LineOutcome
   Refused : BadWhy → LineOutcome
-  Full : Said → (words : List ℕ) → Counter → LineOutcome
+  Full : Log → (words : List ℕ) → Counter → LineOutcome
 
 -- the words of a line with the mesh of a moment
 abbrev pub words_at : Stage → Accepted → List ℕ
@@ -46,13 +46,13 @@ joined m l next finds = On (written (line (words_at m.stage l))) (counted_at m n
 
 -- a command that makes the router act
 abbrev pub stepped : Moment → Accepted → List Find → StepOutcome → LineOutcome
-stepped m l finds (Goes said next) = On said (counted_at m (Running next)) finds
-stepped m l finds (Stopped said field) = Full said (refused_words m.stage l) field
+stepped m l finds (StepDone log next) = On log (counted_at m (Running next)) finds
+stepped m l finds (StepFull log field) = Full log (refused_words m.stage l) field
 
 -- datagrams that are received
 abbrev pub polled_line : Moment → Accepted → Polled → LineOutcome
 polled_line m l p =
-    On (followed_by (written (line (words_at m.stage l))) p.said)
+    On (followed_by (written (line (words_at m.stage l))) p.log)
     (counted_at m (Running p.next)) p.left
 
 -- ---- steps that cast nothing
@@ -61,16 +61,16 @@ polled_line m l p =
 -- or isn't there
 abbrev pub ranged : Router → List ℕ → Bool → NodeIds → StepOutcome
 ranged r words changes range =
-    if changes then Goes (written (line words)) (record r { range = range })
-    else Goes (written (line words ++ idle_line)) r
+    if changes then StepDone (written (line words)) (record r { range = range })
+    else StepDone (written (line words ++ idle_line)) r
 
 abbrev pub given : Router → List ℕ → ℕ → List ℕ → StepOutcome
 given r words dest body =
-    Goes (written (line words)) (record r { queue = r.queue ++ New dest body ∷ [] })
+    StepDone (written (line words)) (record r { queue = r.queue ++ New dest body ∷ [] })
 
 abbrev pub shown : Router → List ℕ → StepOutcome
 shown r words =
-    Goes (written (line words ++ node_text (r.peers).mesh r.core (length r.queue))) r
+    StepDone (written (line words ++ node_text (r.peers).mesh r.core (length r.queue))) r
 
 -- ---- all lines
 
@@ -80,12 +80,12 @@ step_of r words (Up x) =
     ranged r words (not (sets.contains r.range x)) (sets.insert r.range x)
 step_of r words (Down x) = ranged r words (sets.contains r.range x) (sets.remove r.range x)
 step_of r words (Give dest body) = given r words dest body
-step_of r words (Turns count) = said_before (written (line words)) (turns_of count r)
+step_of r words (Turns count) = log_before (written (line words)) (turns_of count r)
 step_of r words (Sends d) =
     act_of r words (may_send r.core d) (send_full r.core r.range d) (send r.core r.range d)
 step_of r words (Asks d) = act_of r words (may_ask r.core d) (ask_full r.core) (ask r.core d)
 step_of r words Shows = shown r words
-step_of r words others = Goes nothing r
+step_of r words others = StepDone nothing r
 
 -- an allowed line at a moment
 unfoldable pub outcome_of_line : Moment → Accepted → List Find → LineOutcome

@@ -11,14 +11,14 @@ use Rattle.mesh_router.specs.Outputs.{Outputs, Adds, AddsPrefix}
 -- a run that was to say this has answered: all of it and its verdict, or a prefix of it and a fault
 -- or want of memory
 abbrev pub IsOutput : Outputs → Outputs → Run → NodeStatus → Type 0
-IsOutput before now run Done = (run.verdict ≡ Finished) × Adds before now run.said
+IsOutput before now run Done = (run.verdict ≡ Finished) × Adds before now run.log
 IsOutput before now run Usage = ⊥
-IsOutput before now run (BadLine n) = (run.verdict ≡ RefusedAt n) × Adds before now run.said
-IsOutput before now run (Full n) = (run.verdict ≡ FullAt n) × Adds before now run.said
-IsOutput before now run ReadFault = AddsPrefix before now run.said
-IsOutput before now run WriteFault = AddsPrefix before now run.said
-IsOutput before now run NoMemory = AddsPrefix before now run.said
-IsOutput before now run LinkFault = AddsPrefix before now run.said
+IsOutput before now run (BadLine n) = (run.verdict ≡ RefusedAt n) × Adds before now run.log
+IsOutput before now run (Full n) = (run.verdict ≡ FullAt n) × Adds before now run.log
+IsOutput before now run ReadFault = AddsPrefix before now run.log
+IsOutput before now run WriteFault = AddsPrefix before now run.log
+IsOutput before now run NoMemory = AddsPrefix before now run.log
+IsOutput before now run LinkFault = AddsPrefix before now run.log
 
 -- the same by what was found, whatever is found later
 pub record IsTold (run : List Find → Run) (arrived left : Option (List Datagram))

@@ -6,7 +6,7 @@ use Rattle.mesh_io.specs.Cause.{Rose}
 use Rattle.mesh_link.specs.Datagrams.{Datagram}
 use Rattle.mesh_router.specs.declared.stop.Stop.{Stop}
 use Rattle.mesh_router.specs.declared.stop.Stop.TheVariants as stop
-use Rattle.mesh_router.specs.Said.{Said, followed_by, text_of, sent_of}
+use Rattle.mesh_router.specs.Logs.{Log, followed_by, text_of, sent_of}
 
 -- what a sink holds, and the datagrams that a link has sent
 abbrev pub Outputs : Type 0
@@ -17,22 +17,22 @@ abbrev pub SendsAll : Option (List Datagram) → Option (List Datagram) → List
 SendsAll before now ds = now ≡ option_map (λ xs. xs ++ ds) before
 
 -- this was written and sent
-pub record Adds (before now : Outputs) (said : Said) : Type 0 where
-  pub text : Appends before.0 now.0 (text_of said)
-  pub sent : SendsAll before.1 now.1 (sent_of said)
+pub record Adds (before now : Outputs) (log : Log) : Type 0 where
+  pub text : Appends before.0 now.0 (text_of log)
+  pub sent : SendsAll before.1 now.1 (sent_of log)
 
 -- a prefix of it was: the text before a datagram that was sent is written, and a datagram before
 -- text that is written was sent
-pub record AddsPrefix (before now : Outputs) (said : Said) : Type 0 where
-  pub prefix : Said
-  pub rest : Said
-  pub whole : said ≡ followed_by prefix rest
+pub record AddsPrefix (before now : Outputs) (log : Log) : Type 0 where
+  pub prefix : Log
+  pub rest : Log
+  pub whole : log ≡ followed_by prefix rest
   pub adds : Adds before now prefix
 
 -- the whole at Ok, and a prefix at Err
-abbrev pub Says : {T : Type 0} → Outputs → Outputs → Said → Result T Stop → Type 0
-Says before now said result =
-    MatchResult result (λ _. Adds before now said) (λ _. AddsPrefix before now said)
+abbrev pub Says : {T : Type 0} → Outputs → Outputs → Log → Result T Stop → Type 0
+Says before now log result =
+    MatchResult result (λ _. Adds before now log) (λ _. AddsPrefix before now log)
 
 -- a fault is answered only where the sink or the link has failed in this call
 pub record HasCauses {T : Type 0} (sink sink_now link link_now : ℕ) (result : Result T Stop)

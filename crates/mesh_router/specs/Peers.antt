@@ -12,7 +12,7 @@ use Rattle.mesh_grammar.specs.Written.{line}
 use Rattle.mesh_peers.specs.Lines.{Accepted, words_of}
 use Rattle.mesh_peers.specs.Peers.{PeersSeen}
 use Rattle.mesh_text.specs.Effects.{took_text, datum_fate, broken_text, cast_text}
-use Rattle.mesh_router.specs.Said.{Said, written, followed_by}
+use Rattle.mesh_router.specs.Logs.{Log, written, followed_by}
 use Rattle.mesh_router.specs.Casts.{sent_to_each}
 
 -- another node of the mesh
@@ -39,13 +39,13 @@ code_text mesh x t e packet =
     taken_by mesh x t e
     ++ (broken_text mesh e.broken ++ cast_text mesh (cast_in mesh e.cast packet))
 
--- what is said of what node x did
-abbrev pub code_said : PeersSeen → NodeIds → ℕ → Option Took → Effect → List ℕ → Said
-code_said p range x t e packet =
+-- the log of what node x did
+abbrev pub code_log : PeersSeen → NodeIds → ℕ → Option Took → Effect → List ℕ → Log
+code_log p range x t e packet =
     followed_by (written (code_text p.mesh x t e packet))
     (sent_to_each p packet (reached p range e.cast packet))
 
--- what is said of what it did of its own accord, below its line
-abbrev pub act_said : PeersSeen → NodeIds → ℕ → Accepted → Effect → List ℕ → Said
-act_said p range x l effect packet =
-    followed_by (written (line (words_of p.mesh l))) (code_said p range x None effect packet)
+-- the log of what it did of its own accord, below its line
+abbrev pub act_log : PeersSeen → NodeIds → ℕ → Accepted → Effect → List ℕ → Log
+act_log p range x l effect packet =
+    followed_by (written (line (words_of p.mesh l))) (code_log p range x None effect packet)

@@ -8,18 +8,18 @@ use Rattle.mesh_text.specs.Lines.{name_of}
 use Rattle.mesh_link.specs.Datagrams.{Datagram}
 use Rattle.mesh_peers.specs.Peers.{at_port}
 use Rattle.mesh_router.specs.declared.limits.TheConstants.{MOST_RECEIVED}
-use Rattle.mesh_router.specs.Said.{Said, nothing, written, followed_by}
+use Rattle.mesh_router.specs.Logs.{Log, nothing, written, followed_by}
 use Rattle.mesh_router.specs.Routers.{Router}
 use Rattle.mesh_router.specs.Finds.{Find, next_find, later_finds}
 
--- what is said, the router then, and what is left to be found
+-- its log, the router then, and what is left to be found
 pub record Polled : Type 0 where
-  pub said : Said
+  pub log : Log
   pub next : Router
   pub left : List Find
 
-abbrev pub polled : Said → Router → List Find → Polled
-polled said next left = record { said = said; next = next; left = left }
+abbrev pub polled : Log → Router → List Find → Polled
+polled log next left = record { log = log; next = next; left = left }
 
 -- the first bytes of a datagram, as many as are received
 abbrev pub received : List ℕ → List ℕ
@@ -50,20 +50,20 @@ found_next r bytes None = record r { dropped = r.dropped + 1 }
 abbrev pub datagram_text : Router → Datagram → List ℕ
 datagram_text r d = found_text r d.port (received d.bytes) (at_port r.peers d.port)
 
-abbrev pub datagram_said : Router → Datagram → Said
-datagram_said r d = written (datagram_text r d)
+abbrev pub datagram_log : Router → Datagram → Log
+datagram_log r d = written (datagram_text r d)
 
 abbrev pub datagram_next : Router → Datagram → Router
 datagram_next r d = found_next r (received d.bytes) (at_port r.peers d.port)
 
 -- a datagram, and then others
-abbrev pub polled_after : Said → Polled → Polled
-polled_after said p = record p { said = followed_by said p.said }
+abbrev pub polled_after : Log → Polled → Polled
+polled_after log p = record p { log = followed_by log p.log }
 
 abbrev pub polled_by : Router → Find → List Find → (Router → List Find → Polled) → Polled
 polled_by r None left others = polled (written none_line) r left
 polled_by r (Some d) left others =
-    polled_after (datagram_said r d) (others (datagram_next r d) left)
+    polled_after (datagram_log r d) (others (datagram_next r d) left)
 
 -- up to so many datagrams
 unfoldable pub polls_of : ℕ → Router → List Find → Polled

@@ -9,28 +9,28 @@ use Rattle.mesh_peers.specs.Lines.{Accepted, Nothing, Own, Peer, Polls}
 use Rattle.mesh_router.specs.declared.stop.Stop.{Stop}
 use Rattle.mesh_router.specs.declared.stop.Stop.TheVariants as stop
 use Rattle.mesh_grammar.specs.Written.{line}
-use Rattle.mesh_router.specs.Said.{Said, nothing, written, followed_by}
+use Rattle.mesh_router.specs.Logs.{Log, nothing, written, followed_by}
 use Rattle.mesh_router.specs.Routers.{Router, Moment}
 use Rattle.mesh_router.specs.Lines.{LineOutcome, On, Refused, Full}
 use Rattle.mesh_router.specs.Turns as turns
-use Rattle.mesh_router.specs.Turns.{TurnOutcome, StepOutcome, Goes, Stopped, idle_line}
+use Rattle.mesh_router.specs.Turns.{TurnOutcome, StepOutcome, StepDone, StepFull, idle_line}
 use Rattle.mesh_router.specs.Finds.{Find, AreNext, left_after, AreFound}
-use Rattle.mesh_router.specs.Polls.{polled, polls_of, found_next, found_text, datagram_next, datagram_said, none_line}
+use Rattle.mesh_router.specs.Polls.{polled, polls_of, found_next, found_text, datagram_next, datagram_log, none_line}
 use Rattle.mesh_router.specs.Outputs.{Outputs, Adds, AddsPrefix}
 
 -- ---- a turn
 
 -- all that a turn says
-abbrev pub said_by : TurnOutcome → Said
-said_by turns.Idle = written idle_line
-said_by (turns.Done said next) = said
-said_by (turns.Full field) = nothing
+abbrev pub log_by : TurnOutcome → Log
+log_by turns.Idle = written idle_line
+log_by (turns.Done log next) = log
+log_by (turns.Full field) = nothing
 
 -- it was done and told
 pub record IsTurnDone (t : TurnOutcome) (new : Router) (before now : Outputs) : Type 0 where
-  pub said : Said
-  pub is : t ≡ turns.Done said new
-  pub adds : Adds before now said
+  pub log : Log
+  pub is : t ≡ turns.Done log new
+  pub adds : Adds before now log
 
 -- there was none to do
 pub record IsTurnIdle (t : TurnOutcome) (old new : Router) (before now : Outputs) : Type 0 where
@@ -47,32 +47,32 @@ abbrev pub IsTurnRun : TurnOutcome → Router → Outputs → Outputs → Router
 IsTurnRun t old before now new (Ok true) = IsTurnDone t new before now
 IsTurnRun t old before now new (Ok false) = IsTurnIdle t old new before now
 IsTurnRun t old before now new (Err (stop.Full field)) = IsTurnFull t field before now
-IsTurnRun t old before now new (Err stop.WriteFault) = AddsPrefix before now (said_by t)
-IsTurnRun t old before now new (Err stop.LinkFault) = AddsPrefix before now (said_by t)
-IsTurnRun t old before now new (Err stop.NoMemory) = AddsPrefix before now (said_by t)
+IsTurnRun t old before now new (Err stop.WriteFault) = AddsPrefix before now (log_by t)
+IsTurnRun t old before now new (Err stop.LinkFault) = AddsPrefix before now (log_by t)
+IsTurnRun t old before now new (Err stop.NoMemory) = AddsPrefix before now (log_by t)
 
 -- ---- a command
 
 -- all that a command says
-abbrev pub said_in : StepOutcome → Said
-said_in (Goes said next) = said
-said_in (Stopped said field) = said
+abbrev pub log_in : StepOutcome → Log
+log_in (StepDone log next) = log
+log_in (StepFull log field) = log
 
 pub record IsStepDone (s : StepOutcome) (new : Router) (before now : Outputs) : Type 0 where
-  pub said : Said
-  pub is : s ≡ Goes said new
-  pub adds : Adds before now said
+  pub log : Log
+  pub is : s ≡ StepDone log new
+  pub adds : Adds before now log
 
 pub record IsStepFull (s : StepOutcome) (field : Counter) (before now : Outputs) : Type 0 where
-  pub said : Said
-  pub is : s ≡ Stopped said field
-  pub adds : Adds before now said
+  pub log : Log
+  pub is : s ≡ StepFull log field
+  pub adds : Adds before now log
 
 abbrev pub IsStepStopped : StepOutcome → Outputs → Outputs → Stop → Type 0
 IsStepStopped s before now (stop.Full field) = IsStepFull s field before now
-IsStepStopped s before now stop.WriteFault = AddsPrefix before now (said_in s)
-IsStepStopped s before now stop.LinkFault = AddsPrefix before now (said_in s)
-IsStepStopped s before now stop.NoMemory = AddsPrefix before now (said_in s)
+IsStepStopped s before now stop.WriteFault = AddsPrefix before now (log_in s)
+IsStepStopped s before now stop.LinkFault = AddsPrefix before now (log_in s)
+IsStepStopped s before now stop.NoMemory = AddsPrefix before now (log_in s)
 
 abbrev pub IsStepRun : StepOutcome → Outputs → Outputs → Router → Result (Unit {0}) Stop → Type 0
 IsStepRun s before now new result =
@@ -95,7 +95,7 @@ pub record IsFoundOne (old new : Router) (arrived left : Option (List Datagram))
   pub datagram : Datagram
   pub taken : AreFound arrived left (Some datagram ∷ [])
   pub next : new ≡ datagram_next old datagram
-  pub adds : Adds before now (datagram_said old datagram)
+  pub adds : Adds before now (datagram_log old datagram)
 
 -- nothing was there
 pub record IsFoundNone (old new : Router) (arrived left : Option (List Datagram))
@@ -109,10 +109,10 @@ pub record IsPolled (count : ℕ) (old new : Router) (arrived left : Option (Lis
     (before now : Outputs) : Type 0 where
   pub found : List Find
   pub taken : AreFound arrived left found
-  pub said : Said
-  pub adds : Adds before now said
+  pub log : Log
+  pub adds : Adds before now log
   pub is : (finds : List Find) → AreNext finds found
-      → polls_of count old finds ≡ polled said new (left_after finds found)
+      → polls_of count old finds ≡ polled log new (left_after finds found)
 
 -- these were found, and what was done with them was told in part
 pub record IsPolledInPart (count : ℕ) (old : Router) (arrived left : Option (List Datagram))
@@ -120,7 +120,7 @@ pub record IsPolledInPart (count : ℕ) (old : Router) (arrived left : Option (L
   pub found : List Find
   pub taken : AreFound arrived left found
   pub told : (finds : List Find) → AreNext finds found
-      → AddsPrefix before now (polls_of count old finds).said
+      → AddsPrefix before now (polls_of count old finds).log
 
 abbrev pub IsPollRun : ℕ → Router → Option (List Datagram) → Option (List Datagram) → Outputs
     → Outputs → Router → Result (Unit {0}) Stop → Type 0
@@ -143,17 +143,17 @@ pub record IsPollLineDone (count : ℕ) (words : List ℕ) (old new : Router)
     (arrived left : Option (List Datagram)) (before now : Outputs) : Type 0 where
   pub found : List Find
   pub taken : AreFound arrived left found
-  pub said : Said
-  pub adds : Adds before now (followed_by (written (line words)) said)
+  pub log : Log
+  pub adds : Adds before now (followed_by (written (line words)) log)
   pub is : (finds : List Find) → AreNext finds found
-      → polls_of count old finds ≡ polled said new (left_after finds found)
+      → polls_of count old finds ≡ polled log new (left_after finds found)
 
 pub record IsPollLineInPart (count : ℕ) (words : List ℕ) (old : Router)
     (arrived left : Option (List Datagram)) (before now : Outputs) : Type 0 where
   pub found : List Find
   pub taken : AreFound arrived left found
   pub told : (finds : List Find) → AreNext finds found
-      → AddsPrefix before now (followed_by (written (line words)) (polls_of count old finds).said)
+      → AddsPrefix before now (followed_by (written (line words)) (polls_of count old finds).log)
 
 -- that stops it
 abbrev pub IsNotFull : Stop → Type 0
@@ -169,27 +169,27 @@ IsPollLine count words old arrived left before now new result =
 -- ---- a line
 
 -- all that a line says
-abbrev pub said_of : LineOutcome → Said
-said_of (On said next left) = said
-said_of (Refused why) = nothing
-said_of (Full said words field) = said
+abbrev pub log_of : LineOutcome → Log
+log_of (On log next left) = log
+log_of (Refused why) = nothing
+log_of (Full log words field) = log
 
 -- it was done and told, by what was found, and the run goes on from the next moment
 pub record IsLineDone (k : List Find → LineOutcome) (next : Moment)
     (arrived left : Option (List Datagram)) (before now : Outputs) : Type 0 where
   pub found : List Find
   pub taken : AreFound arrived left found
-  pub said : Said
-  pub adds : Adds before now said
+  pub log : Log
+  pub adds : Adds before now log
   pub is : (finds : List Find) → AreNext finds found
-      → k finds ≡ On said next (left_after finds found)
+      → k finds ≡ On log next (left_after finds found)
 
 -- a counter is full
 pub record IsLineFull (k : List Find → LineOutcome) (words : List ℕ) (field : Counter)
     (arrived left : Option (List Datagram)) (before now : Outputs) : Type 0 where
-  pub said : Said
-  pub adds : Adds before now said
-  pub is : (finds : List Find) → k finds ≡ Full said words field
+  pub log : Log
+  pub adds : Adds before now log
+  pub is : (finds : List Find) → k finds ≡ Full log words field
   pub same : left ≡ arrived
 
 -- it was told in part
@@ -197,7 +197,7 @@ pub record IsLineInPart (k : List Find → LineOutcome) (arrived left : Option (
     (before now : Outputs) : Type 0 where
   pub found : List Find
   pub taken : AreFound arrived left found
-  pub told : (finds : List Find) → AreNext finds found → AddsPrefix before now (said_of (k finds))
+  pub told : (finds : List Find) → AreNext finds found → AddsPrefix before now (log_of (k finds))
 
 abbrev pub IsLineStopped : (List Find → LineOutcome) → List ℕ → Option (List Datagram)
     → Option (List Datagram) → Outputs → Outputs → Stop → Type 0

@@ -22,7 +22,7 @@ pub record IsTurnShort (r : Router) : Type 0 where
 
 -- this holds of the router after a turn that was done
 abbrev pub HoldsAfter : TurnOutcome → (Router → Type 0) → Type 0
-HoldsAfter (turns.Done said next) holds = holds next
+HoldsAfter (turns.Done log next) holds = holds next
 HoldsAfter others holds = ⊥
 
 -- one of so many turns needs memory

@@ -8,14 +8,14 @@ use Rattle.mesh_grammar.specs.Lines.{Piece, pieces_of_input}
 use Rattle.mesh_grammar.specs.Written.{line, labelled}
 use Rattle.mesh_text.specs.Lines.{field_text}
 use Rattle.mesh_text.specs.Text.{Verdict, Finished, RefusedAt, FullAt}
-use Rattle.mesh_router.specs.Said.{Said, written, followed_by}
+use Rattle.mesh_router.specs.Logs.{Log, written, followed_by}
 use Rattle.mesh_router.specs.Routers.{Router, router_in, Moment, opening_moment}
 use Rattle.mesh_router.specs.Finds.{Find}
 use Rattle.mesh_router.specs.Lines.{LineOutcome, On, Refused, Full, outcome_of_piece}
 
--- what is said, the last line with it, and what it came to
+-- its log, the last line with it, and what it came to
 pub record Run : Type 0 where
-  pub said : Said
+  pub log : Log
   pub verdict : Verdict
 
 -- ---- the last line
@@ -35,29 +35,29 @@ full_line number words field =
 -- ---- all lines
 
 abbrev pub finished_run : Moment → Run
-finished_run m = record { said = written (counts_line (router_in m.stage)); verdict = Finished }
+finished_run m = record { log = written (counts_line (router_in m.stage)); verdict = Finished }
 
 abbrev pub refused_run : Moment → BadWhy → Run
 refused_run m why = record {
-  said = written (bad_line (m.lines + 1) why);
+  log = written (bad_line (m.lines + 1) why);
   verdict = RefusedAt (m.lines + 1);
 }
 
-abbrev pub overfull_run : Moment → Said → List ℕ → Counter → Run
-overfull_run m said words field = record {
-  said = followed_by said (written (full_line (m.lines + 1) words field));
+abbrev pub overfull_run : Moment → Log → List ℕ → Counter → Run
+overfull_run m log words field = record {
+  log = followed_by log (written (full_line (m.lines + 1) words field));
   verdict = FullAt (m.lines + 1);
 }
 
--- what is said before the rest of a run
-abbrev pub run_after : Said → Run → Run
-run_after said run = record run { said = followed_by said run.said }
+-- the log before the rest of a run
+abbrev pub run_after : Log → Run → Run
+run_after log run = record run { log = followed_by log run.log }
 
 -- what a line came to, and then the rest of the run from the next moment on
 abbrev pub goes_on : Moment → LineOutcome → (Moment → List Find → Run) → Run
-goes_on m (On said n finds) others = run_after said (others n finds)
+goes_on m (On log n finds) others = run_after log (others n finds)
 goes_on m (Refused why) others = refused_run m why
-goes_on m (Full said words field) others = overfull_run m said words field
+goes_on m (Full log words field) others = overfull_run m log words field
 
 -- the run of these lines from a moment on
 unfoldable pub run_from : Moment → List Piece → List Find → Run

@@ -16,9 +16,9 @@ use Rattle.aodv_model.specs.Fullness.{turn_full}
 use Rattle.mesh_grammar.specs.Written.{line, labelled}
 use Rattle.mesh_text.specs.Lines.{name_of}
 use Rattle.mesh_text.specs.Effects.{took_text, datum_fate}
-use Rattle.mesh_router.specs.Said.{Said, nothing, written, followed_by}
+use Rattle.mesh_router.specs.Logs.{Log, nothing, written, followed_by}
 use Rattle.mesh_router.specs.Routers.{Router}
-use Rattle.mesh_router.specs.Casts.{effect_said, reacted}
+use Rattle.mesh_router.specs.Casts.{effect_log, reacted}
 
 -- ---- what can't be read
 
@@ -42,10 +42,10 @@ drop_line mesh from why = line (codes "  drop " ++ name_of mesh from ++ 32 ∷ w
 
 -- ---- a turn
 
--- what a turn comes to: the queue is empty; what is said, and the router then; or a counter is full
+-- what a turn comes to: the queue is empty; its log, and the router then; or a counter is full
 pub data TurnOutcome : Type 0 where
   Idle : TurnOutcome
-  Done : Said → Router → TurnOutcome
+  Done : Log → Router → TurnOutcome
   Full : Counter → TurnOutcome
 
 -- the front packet, which came from this node, is taken, and all else stays
@@ -54,19 +54,19 @@ dropped_turn r rest from why =
     Done (written (drop_line (r.peers).mesh from why))
     (record r { queue = rest; dropped = r.dropped + 1 })
 
--- what is said of a turn
-abbrev pub turn_said : Router → Took → Effect → Said
-turn_said r took e =
+-- the log of a turn
+abbrev pub turn_log : Router → Took → Effect → Log
+turn_log r took e =
     followed_by
     (written (took_text (r.peers).mesh (r.core).ip took
     ++ datum_fate (r.peers).mesh (r.core).ip took e))
-    (effect_said r e)
+    (effect_log r e)
 
 -- the node reacts to the front item
 abbrev pub handled : Router → List Item → Took → Option Counter → Reaction → TurnOutcome
 handled r rest took (Some field) reaction = Full field
 handled r rest took None reaction =
-    Done (turn_said r took reaction.effect) (reacted r rest reaction)
+    Done (turn_log r took reaction.effect) (reacted r rest reaction)
 
 abbrev pub handled_turn : Router → List Item → Item → TurnOutcome
 handled_turn r rest front =
@@ -94,34 +94,34 @@ next_turn r = turn_on r r.queue
 
 -- ---- steps
 
--- what comes of a command that makes the router act: what is said, and the router then; or, after
--- what is said, a counter is full
+-- what comes of a command that makes the router act: its log, and the router then; or, after its
+-- log, a counter is full
 pub data StepOutcome : Type 0 where
-  Goes : Said → Router → StepOutcome
-  Stopped : Said → Counter → StepOutcome
+  StepDone : Log → Router → StepOutcome
+  StepFull : Log → Counter → StepOutcome
 
-abbrev pub said_before : Said → StepOutcome → StepOutcome
-said_before said (Goes more r) = Goes (followed_by said more) r
-said_before said (Stopped more field) = Stopped (followed_by said more) field
+abbrev pub log_before : Log → StepOutcome → StepOutcome
+log_before log (StepDone more r) = StepDone (followed_by log more) r
+log_before log (StepFull more field) = StepFull (followed_by log more) field
 
 abbrev pub idle_line : List ℕ
 idle_line = line (codes "  idle")
 
 -- a turn, and then others
 abbrev pub with_others : Router → TurnOutcome → (Router → StepOutcome) → StepOutcome
-with_others r Idle others = Goes (written idle_line) r
-with_others r (Done said next) others = said_before said (others next)
-with_others r (Full field) others = Stopped nothing field
+with_others r Idle others = StepDone (written idle_line) r
+with_others r (Done log next) others = log_before log (others next)
+with_others r (Full field) others = StepFull nothing field
 
 -- up to so many turns
 unfoldable pub turns_of : ℕ → Router → StepOutcome
-turns_of zero r = Goes nothing r
+turns_of zero r = StepDone nothing r
 turns_of (suc most) r = with_others r (next_turn r) (λ next. turns_of most next)
 
 -- a send or a request of the node's own, below its line. Where a counter is full nothing is written
 abbrev pub act_of : Router → List ℕ → Bool → Option Counter → Reaction → StepOutcome
-act_of r words false full reaction = Goes (written (line words ++ idle_line)) r
-act_of r words true (Some field) reaction = Stopped nothing field
+act_of r words false full reaction = StepDone (written (line words ++ idle_line)) r
+act_of r words true (Some field) reaction = StepFull nothing field
 act_of r words true None reaction =
-    Goes (followed_by (written (line words)) (effect_said r reaction.effect))
+    StepDone (followed_by (written (line words)) (effect_log r reaction.effect))
     (reacted r r.queue reaction)

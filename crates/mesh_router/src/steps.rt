@@ -9,13 +9,13 @@ ghost use Rattle.mesh_io.specs.Cause.{HasCause};
 ghost use Rattle.mesh_io.specs.Puts.{Puts};
 ghost use Rattle.mesh_peers.specs.Lines.{words_of};
 ghost use Rattle.mesh_peers.specs.Seen.{accepted_of, IsPrintable};
-ghost use Rattle.mesh_router.specs.Turns.{act_of, idle_line, said_before, turns_of};
+ghost use Rattle.mesh_router.specs.Turns.{act_of, idle_line, log_before, turns_of};
 ghost use Rattle.mesh_router.specs.Lines.{ranged, given, shown, step_of};
 ghost use Rattle.mesh_link.specs.Datagrams.{Datagram};
 ghost use Rattle.aodv_model.specs.Soundness.{IsDatum};
 ghost use Rattle.mesh_meaning.specs.Answers.{IsCastWritten};
-ghost use Rattle.mesh_router.specs.Said.{written};
-ghost use Rattle.mesh_router.specs.Peers.{IsPeer, ArePeers, reached, act_said};
+ghost use Rattle.mesh_router.specs.Logs.{written};
+ghost use Rattle.mesh_router.specs.Peers.{IsPeer, ArePeers, reached, act_log};
 ghost use Rattle.mesh_router.specs.Outputs.{Says, HasCauses, HasSinkCause, IsFault};
 ghost use Rattle.mesh_router.specs.Seen.{HasCounts, IsGrown, most_grown};
 ghost use Rattle.mesh_router.specs.Runs.{IsStepRun, IsPollLine};
@@ -87,7 +87,7 @@ fn tell_act<O: Sink, L: Link>(
     requires cast { IsCastWritten peers.now.mesh effect.cast scratch.old.packet.items }
     requires open { is_some (L.port link.old) ≡ true }
     ensures says { Says (O.held out.old, L.sent link.old) (O.held out.new, L.sent link.new)
-        (act_said peers.now range.now me (accepted_of line.now) effect scratch.old.packet.items)
+        (act_log peers.now range.now me (accepted_of line.now) effect scratch.old.packet.items)
         result }
     ensures count { IfOk result (λ n.
         n ≡ length (reached peers.now range.now effect.cast scratch.old.packet.items)) }
@@ -317,7 +317,7 @@ impl Router {
         requires few { HasCounts (2 ^ 61) self.old }
         ensures step { let r = self.old in
             let words = words_of r.peers.mesh (accepted_of line.now) in
-            IsStepRun (said_before (written (ended words)) (turns_of count r))
+            IsStepRun (log_before (written (ended words)) (turns_of count r))
             (O.held out.old, L.sent link.old) (O.held out.new, L.sent link.new) self.new result }
         ensures memory { IsErrOf result Stop.NoMemory → AreTurnsShort count self.old }
         ensures grown { OnOk result (IsGrown (MOST_NODES * count) self.old self.new) }

@@ -1,9 +1,9 @@
 use Rattle.std.proofs.Common.{◌∷◌, [], ℕ, List, refl, ◌∙◌, sym, subst, rules}
 use Rattle.mesh_link.specs.Datagrams.{Datagram, datagram}
 use Rattle.mesh_router.specs.Casts.{port_at, to_line}
-use Rattle.mesh_router.specs.Said.{Sent, written}
+use Rattle.mesh_router.specs.Logs.{Sent, written}
 use Rattle.mesh_router.specs.Outputs.{SendsAll}
-use Rattle.mesh_router.proofs.Saying.{says-fault, prefix-more, prefix-text, prefix-unsent, adds-join, adds-text, adds-datagram}
+use Rattle.mesh_router.proofs.Logging.{says-fault, prefix-more, prefix-text, prefix-unsent, adds-join, adds-text, adds-datagram}
 use Rattle.mesh_router.proofs.Peers.{port_is}
 use Rattle.mesh_router.proofs.casts.send_to.Goals as goal
 

@@ -1,7 +1,7 @@
 use Rattle.std.proofs.Common.{◌<◌, length, refl, ap, ◌∙◌, arith}
 use Rattle.mesh_base.specs.Meshes.{Nodes}
 use Rattle.mesh_report.proofs.Copies.{members-few, members-count}
-use Rattle.mesh_router.proofs.Saying.{says-fault}
+use Rattle.mesh_router.proofs.Logging.{says-fault}
 use Rattle.mesh_router.proofs.Peers.{none_sent, next_sent, next_failed, all_sent, all_counted}
 use Rattle.mesh_router.proofs.casts.send_to_each.Goals as goal
 

@@ -3,7 +3,7 @@ use Rattle.mesh_grammar.specs.Faults.{bad_line}
 use Rattle.std.specs.Io.KnownBytes.{Appends}
 use Rattle.mesh_io.specs.Puts.{AppendsPrefix}
 use Rattle.mesh_text.specs.Text.{RefusedAt}
-use Rattle.mesh_router.proofs.Saying.{adds-text, prefix-text}
+use Rattle.mesh_router.proofs.Logging.{adds-text, prefix-text}
 use Rattle.mesh_router.proofs.ends.refuse.Goals as goal
 
 pub returns-in-Err-clause-told : goal.returns-in-Err-clause-told

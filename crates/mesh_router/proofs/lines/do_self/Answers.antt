@@ -9,7 +9,7 @@ use Rattle.mesh_peers.specs.Seen.{accepted_of}
 use Rattle.mesh_router.specs.Routers.{Joining, Moment, peers_in, router_in, counted_at}
 use Rattle.mesh_router.specs.Finds.{Find}
 use Rattle.mesh_router.specs.Lines.{outcome_of_line, joined, words_at, refused_words}
-use Rattle.mesh_router.proofs.Saying.{adds-text, prefix-text}
+use Rattle.mesh_router.proofs.Logging.{adds-text, prefix-text}
 use Rattle.mesh_router.proofs.Running.{outcome_self, joined_cut, joined_done, grown_joined, counted_joined}
 use Rattle.mesh_router.proofs.lines.do_self.Goals as goal
 

@@ -12,7 +12,7 @@ use Rattle.mesh_router.specs.Routers.{peers_in}
 use Rattle.mesh_router.specs.Output.{IsTold}
 use Rattle.mesh_router.specs.Text.{full_line, run_from}
 use Rattle.mesh_router.specs.Runs.{IsLineStopped}
-use Rattle.mesh_router.proofs.Saying.{adds-text, prefix-text}
+use Rattle.mesh_router.proofs.Logging.{adds-text, prefix-text}
 use Rattle.mesh_router.proofs.Script.{read_line, line_done, told_refused, told_full, told_full_cut, told_in_part}
 use Rattle.mesh_router.proofs.run.one.Goals as goal
 

@@ -8,14 +8,14 @@ use Rattle.aodv_node.specs.declared.answers.AskError.{AskError}
 use Rattle.mesh_grammar.specs.Written.{line}
 use Rattle.mesh_peers.specs.Lines.{words_of}
 use Rattle.mesh_peers.specs.Seen.{accepted_of}
-use Rattle.mesh_router.specs.Said.{written}
+use Rattle.mesh_router.specs.Logs.{written}
 use Rattle.mesh_router.specs.declared.stop.Stop.TheVariants.{Full}
 use Rattle.mesh_router.specs.Routers.{Router}
-use Rattle.mesh_router.specs.Turns.{Goes, act_of, idle_line}
-use Rattle.mesh_router.specs.Peers.{act_said}
+use Rattle.mesh_router.specs.Turns.{StepDone, act_of, idle_line}
+use Rattle.mesh_router.specs.Peers.{act_log}
 use Rattle.mesh_router.specs.Outputs.{Outputs, IsFault}
 use Rattle.mesh_router.specs.Runs.{IsStepRun}
-use Rattle.mesh_router.proofs.Saying.{adds-text, prefix-text, prefix-none}
+use Rattle.mesh_router.proofs.Logging.{adds-text, prefix-text, prefix-none}
 use Rattle.mesh_router.proofs.Turning.{router_as}
 use Rattle.mesh_router.proofs.Acting.{ask_meant, act_idle, act_full, step_done, step_cut_in, not_full-fault, not_full-write}
 use Rattle.mesh_router.proofs.router.Router.ask.Goals as goal
@@ -95,7 +95,7 @@ returns-in_ok-self-inside-in-Ok-clause-step g c =
     let meant = ask_meant p c.in-Some.me node c.ask.new.self near c.self.inside.heard c.self.inside.sent c.self.inside.dropped l c.args.dest c.in-Ok.effect c.ask.new.out.items is c.sn-number.ensures.sound c.self.invariant.size does.0 c.ask.ensures.others does.1 in
     let P : Router → Type 0 = λ r. IsStepRun (act_of r (words_of r.peers.mesh l) (may_ask r.core c.args.dest) (ask_full r.core) (ask r.core c.args.dest)) (g.O.Sink.held c.args.out.now, g.L.Link.sent c.args.link.now) (g.O.Sink.held c.tell_act.new.out, g.L.Link.sent c.tell_act.new.link) (router_as p c.ask.new.self near c.self.inside.heard (c.self.inside.sent + c.in_ok-self-inside-in-Ok.field-0) c.self.inside.dropped) (Ok tt) in
     let count = ap (λ (n : ℕ). router_as p c.ask.new.self near c.self.inside.heard (c.self.inside.sent + n) c.self.inside.dropped) c.in_ok-self-inside-in-Ok.ensures.count in
-    subst P c.self.view_is (step_done _ _ _ _ _ ((ap (λ (b : Bool). act_of (router_as p node near c.self.inside.heard c.self.inside.sent c.self.inside.dropped) words b (ask_full node.core) (ask node.core c.args.dest)) does.0 ∙ meant.is) ∙ ap (λ (r : Router). Goes (act_said p near c.in-Some.me l c.in-Ok.effect c.ask.new.out.items) r) (sym count)) c.in_ok-self-inside-in-Ok.ensures.says)
+    subst P c.self.view_is (step_done _ _ _ _ _ ((ap (λ (b : Bool). act_of (router_as p node near c.self.inside.heard c.self.inside.sent c.self.inside.dropped) words b (ask_full node.core) (ask node.core c.args.dest)) does.0 ∙ meant.is) ∙ ap (λ (r : Router). StepDone (act_log p near c.in-Some.me l c.in-Ok.effect c.ask.new.out.items) r) (sym count)) c.in_ok-self-inside-in-Ok.ensures.says)
 
 pub returns-in_ok-put_idle-in-Err-Idle-clause-step : goal.returns-in_ok-put_idle-in-Err-Idle-clause-step
 returns-in_ok-put_idle-in-Err-Idle-clause-step g c =

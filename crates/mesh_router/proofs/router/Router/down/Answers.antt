@@ -5,13 +5,13 @@ use Rattle.mesh_base.specs.Members.{NodeIds}
 use Rattle.mesh_grammar.specs.Written.{line}
 use Rattle.mesh_peers.specs.Lines.{words_of}
 use Rattle.mesh_peers.specs.Seen.{accepted_of}
-use Rattle.mesh_router.specs.Said.{written}
+use Rattle.mesh_router.specs.Logs.{written}
 use Rattle.mesh_router.specs.Routers.{Router}
-use Rattle.mesh_router.specs.Turns.{Goes, idle_line}
+use Rattle.mesh_router.specs.Turns.{StepDone, idle_line}
 use Rattle.mesh_router.specs.Lines.{ranged}
 use Rattle.mesh_router.specs.Peers.{ArePeers}
 use Rattle.mesh_router.specs.Runs.{IsStepRun}
-use Rattle.mesh_router.proofs.Saying.{adds-text, prefix-text}
+use Rattle.mesh_router.proofs.Logging.{adds-text, prefix-text}
 use Rattle.mesh_router.proofs.Peers.{are_fewer}
 use Rattle.mesh_router.proofs.Turning.{router_as}
 use Rattle.mesh_router.proofs.Acting.{step_done, step_cut_in, not_full-write}
@@ -85,5 +85,5 @@ returns-clause-step g c =
     let P : Router → Type 0 = λ r. IsStepRun (ranged r (words_of r.peers.mesh l) (sets.contains r.range c.args.node) (sets.remove r.range c.args.node)) (g.O.Sink.held c.args.out.now, sent) (g.O.Sink.held c.put_line.new.out, sent) (router_as p node c.remove.new.self c.self.inside.heard c.self.inside.sent c.self.inside.dropped) (Ok tt) in
     subst P c.self.view_is (step_done _ (router_as p node c.remove.new.self c.self.inside.heard c.self.inside.sent c.self.inside.dropped) _ _ (written (line words))
     (ap (λ (b : Bool). ranged (router_as p node near c.self.inside.heard c.self.inside.sent c.self.inside.dropped) words (b) (sets.remove near c.args.node)) (sym c.has.ensures.value ∙ c.if-not-has.false)
-    ∙ ap (λ (s : NodeIds). Goes (written (line words)) (router_as p node s c.self.inside.heard c.self.inside.sent c.self.inside.dropped)) (sym c.remove.ensures))
+    ∙ ap (λ (s : NodeIds). StepDone (written (line words)) (router_as p node s c.self.inside.heard c.self.inside.sent c.self.inside.dropped)) (sym c.remove.ensures))
     (adds-text _ _ _ _ (line words) refl c.in_ok-put_line.ensures.text))

@@ -3,14 +3,14 @@ use Rattle.std.proofs.lemmas.Result.{err_from_is_err_and}
 use Rattle.mesh_grammar.specs.Written.{line}
 use Rattle.mesh_peers.specs.Lines.{words_of}
 use Rattle.mesh_peers.specs.Seen.{accepted_of}
-use Rattle.mesh_router.specs.Said.{written}
+use Rattle.mesh_router.specs.Logs.{written}
 use Rattle.mesh_router.specs.Routers.{Router}
 use Rattle.mesh_router.specs.Lines.{given}
-use Rattle.mesh_router.specs.Turns.{Goes}
+use Rattle.mesh_router.specs.Turns.{StepDone}
 use Rattle.mesh_base.specs.declared.events.Item.TheVariants.{New}
 use Rattle.aodv_node.specs.Seen.{NodeSeen}
 use Rattle.mesh_router.specs.Runs.{IsStepRun}
-use Rattle.mesh_router.proofs.Saying.{adds-text, prefix-text, prefix-none}
+use Rattle.mesh_router.proofs.Logging.{adds-text, prefix-text, prefix-none}
 use Rattle.mesh_router.proofs.Turning.{router_as}
 use Rattle.mesh_router.proofs.Acting.{step_done, step_cut, not_full-write, not_full-memory}
 use Rattle.mesh_router.proofs.router.Router.give.Goals as goal
@@ -52,5 +52,5 @@ returns-clause-step g c =
     λ sent.
     let P : Router → Type 0 = λ k. IsStepRun (given k (words_of k.peers.mesh l) c.args.dest c.args.body.now) (g.O.Sink.held c.args.out.now, sent) (g.O.Sink.held c.put_line.new.out, sent) (router_as p c.give.new.self near c.self.inside.heard c.self.inside.sent c.self.inside.dropped) (Ok tt) in
     subst P c.self.view_is (step_done _ (router_as p c.give.new.self near c.self.inside.heard c.self.inside.sent c.self.inside.dropped) _ _ (written (line words))
-    (λ i. Goes (written (line words)) (record r { core = core i; queue = items i }))
+    (λ i. StepDone (written (line words)) (record r { core = core i; queue = items i }))
     (adds-text _ _ _ _ (line words) refl c.in_ok-put_line.ensures.text))

@@ -3,7 +3,7 @@ use Rattle.std.proofs.lemmas.Result.{err_from_is_err_and}
 use Rattle.mesh_link.specs.Datagrams.{Datagram, Receives}
 use Rattle.mesh_router.specs.declared.limits.TheConstants.{MOST_RECEIVED}
 use Rattle.mesh_router.specs.Polls.{none_line}
-use Rattle.mesh_router.proofs.Saying.{adds-text, prefix-text}
+use Rattle.mesh_router.proofs.Logging.{adds-text, prefix-text}
 use Rattle.mesh_router.proofs.Memory.{memory_of}
 use Rattle.mesh_router.proofs.Finds.{none_received, received_of}
 use Rattle.mesh_router.proofs.Polling.{nothing_polled, none_polled, short_one, received_in_part, received_told, poll_fault}

@@ -4,7 +4,7 @@ use Rattle.mesh_grammar.specs.Written.{line}
 use Rattle.mesh_peers.specs.Lines.{words_of}
 use Rattle.mesh_peers.specs.Seen.{accepted_of}
 use Rattle.mesh_router.specs.Routers.{Router}
-use Rattle.mesh_router.proofs.Saying.{adds-text, prefix-text}
+use Rattle.mesh_router.proofs.Logging.{adds-text, prefix-text}
 use Rattle.mesh_router.specs.Runs.{IsPollLine}
 use Rattle.mesh_router.proofs.Polling.{poll_line_cut, poll_line}
 use Rattle.mesh_router.proofs.router.Router.poll_below.Goals as goal

@@ -8,11 +8,11 @@ use Rattle.mesh_grammar.specs.Written.{line}
 use Rattle.mesh_text.specs.Tables.{node_text}
 use Rattle.mesh_peers.specs.Lines.{words_of}
 use Rattle.mesh_peers.specs.Seen.{accepted_of}
-use Rattle.mesh_router.specs.Said.{written}
+use Rattle.mesh_router.specs.Logs.{written}
 use Rattle.mesh_router.specs.Routers.{Router}
 use Rattle.mesh_router.specs.Lines.{shown}
 use Rattle.mesh_router.specs.Runs.{IsStepRun}
-use Rattle.mesh_router.proofs.Saying.{adds-text, prefix-text}
+use Rattle.mesh_router.proofs.Logging.{adds-text, prefix-text}
 use Rattle.mesh_router.proofs.Acting.{step_done, step_cut, not_full-write}
 use Rattle.mesh_router.proofs.router.Router.show.Goals as goal
 

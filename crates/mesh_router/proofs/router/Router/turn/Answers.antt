@@ -11,13 +11,13 @@ use Rattle.mesh_io.specs.Puts.{AppendsPrefix}
 use Rattle.aodv_node.specs.Seen.{NodeSeen}
 use Rattle.mesh_router.specs.declared.stop.Stop.TheVariants.{Full}
 use Rattle.mesh_router.specs.Turns.{TurnOutcome, Done}
-use Rattle.mesh_router.specs.Peers.{code_said}
+use Rattle.mesh_router.specs.Peers.{code_log}
 use Rattle.aodv_node.specs.Turned.{IsTaken, IsFullAt, IsDropped, IsShort, IsTurn}
 use Rattle.aodv_node.specs.declared.answers.TurnError.{TurnError}
 use Rattle.mesh_router.specs.Outputs.{IsFault, AddsPrefix}
-use Rattle.mesh_router.specs.Runs.{IsTurnRun, said_by}
+use Rattle.mesh_router.specs.Runs.{IsTurnRun, log_by}
 use Rattle.mesh_router.specs.Short.{IsTurnShort}
-use Rattle.mesh_router.proofs.Saying.{adds-text, prefix-text, prefix-none}
+use Rattle.mesh_router.proofs.Logging.{adds-text, prefix-text, prefix-none}
 use Rattle.mesh_router.proofs.Turning.{router_as, turn_meant, turn_refused, turn_strange, turn_idle, turn_full_at, router_short, told_in_part, told_fault, told_done, same_me}
 use Rattle.mesh_router.proofs.router.Router.turn.Goals as goal
 
@@ -64,7 +64,7 @@ returns-in_err-put_all-in-Err-Idle-clause-turn g c =
     let q = err_from_is_err_and c.from_residual-in_err-put_all-in-Err-Idle.result c.from_residual-in_err-put_all-in-Err-Idle.ensures.1 in
     let is = turn_idle p node near c.self.inside.heard c.self.inside.sent c.self.inside.dropped ((subst (λ (e : TurnError). IsTurn c.mesh-2.result.now near node (Err e) c.turn.new.self c.turn.new.out.items) c.in-Err-Idle.field-0-is c.in-Err-Idle.ensures.turn)).0 in
     let P : Router → Type 0 = λ r. IsTurnRun (next_turn r) r (g.O.Sink.held c.args.out.now, g.L.Link.sent c.args.link.now) (g.O.Sink.held c.put_all.new.out, g.L.Link.sent c.args.link.now) (router_as p c.turn.new.self near c.self.inside.heard c.self.inside.sent c.self.inside.dropped) c.from_residual-in_err-put_all-in-Err-Idle.result in
-    subst P c.self.view_is (told_fault _ _ _ _ _ c.from_residual-in_err-put_all-in-Err-Idle.result q.0 q.1 (subst IsFault (sym q.2) tt) (subst (λ (t : TurnOutcome). AddsPrefix (g.O.Sink.held c.args.out.now, g.L.Link.sent c.args.link.now) (g.O.Sink.held c.put_all.new.out, g.L.Link.sent c.args.link.now) (said_by t)) (sym is) (prefix-text _ _ _ _ idle_line refl c.in_err-put_all-in-Err-Idle.ensures.text)))
+    subst P c.self.view_is (told_fault _ _ _ _ _ c.from_residual-in_err-put_all-in-Err-Idle.result q.0 q.1 (subst IsFault (sym q.2) tt) (subst (λ (t : TurnOutcome). AddsPrefix (g.O.Sink.held c.args.out.now, g.L.Link.sent c.args.link.now) (g.O.Sink.held c.put_all.new.out, g.L.Link.sent c.args.link.now) (log_by t)) (sym is) (prefix-text _ _ _ _ idle_line refl c.in_err-put_all-in-Err-Idle.ensures.text)))
 
 pub returns-in_err-put_unreadable-in-Err-Unreadable-clause-turn : goal.returns-in_err-put_unreadable-in-Err-Unreadable-clause-turn
 returns-in_err-put_unreadable-in-Err-Unreadable-clause-turn g c =
@@ -101,7 +101,7 @@ returns-in_ok-self-inside-in-Ok-clause-turn g c =
     let meant = turn_meant p c.in-Some.me node c.turn.new.self near c.self.inside.heard c.self.inside.sent c.self.inside.dropped c.in-Ok.done c.in-Ok.done.took c.turn.new.out.items is mine c.sn-number.ensures.sound c.self.invariant.size took refl in
     let P : Router → Type 0 = λ r. IsTurnRun (next_turn r) r (g.O.Sink.held c.args.out.now, g.L.Link.sent c.args.link.now) (g.O.Sink.held c.tell_turn.new.out, g.L.Link.sent c.tell_turn.new.link) (router_as p c.turn.new.self near c.self.inside.heard (c.self.inside.sent + c.in_ok-self-inside-in-Ok.field-0) c.self.inside.dropped) (Ok true) in
     let count = ap (λ (n : ℕ). router_as p c.turn.new.self near c.self.inside.heard (c.self.inside.sent + n) c.self.inside.dropped) c.in_ok-self-inside-in-Ok.ensures.count in
-    subst P c.self.view_is (told_done _ (router_as p node near c.self.inside.heard c.self.inside.sent c.self.inside.dropped) _ _ _ _ (meant.is ∙ ap (λ (r : Router). Done (code_said p near c.in-Some.me (Some c.in-Ok.done.took) c.in-Ok.done.effect c.turn.new.out.items) r) (sym count)) c.in_ok-self-inside-in-Ok.ensures.says)
+    subst P c.self.view_is (told_done _ (router_as p node near c.self.inside.heard c.self.inside.sent c.self.inside.dropped) _ _ _ _ (meant.is ∙ ap (λ (r : Router). Done (code_log p near c.in-Some.me (Some c.in-Ok.done.took) c.in-Ok.done.effect c.turn.new.out.items) r) (sym count)) c.in_ok-self-inside-in-Ok.ensures.says)
 
 pub returns-in_ok-put_all-in-Err-Idle-clause-turn : goal.returns-in_ok-put_all-in-Err-Idle-clause-turn
 returns-in_ok-put_all-in-Err-Idle-clause-turn g c =

@@ -3,31 +3,31 @@ use Rattle.std.specs.Prelude.{ℕ, List, [], ◌∷◌, ◌++◌, map}
 use Rattle.mesh_link.specs.Datagrams.{Datagram}
 
 -- a byte of text is written, or a datagram is sent to its port
-pub data Saying : Type 0 where
-  Byte : ℕ → Saying
-  Sent : Datagram → Saying
+pub data LogItem : Type 0 where
+  Byte : ℕ → LogItem
+  Sent : Datagram → LogItem
 
--- one after another
-abbrev pub Said : Type 0
-Said = List Saying
+-- what a router has written and sent, one after another
+abbrev pub Log : Type 0
+Log = List LogItem
 
-abbrev pub nothing : Said
+abbrev pub nothing : Log
 nothing = []
 
 -- this text
-unfoldable pub written : List ℕ → Said
+unfoldable pub written : List ℕ → Log
 written text = map Byte text
 
-abbrev pub followed_by : Said → Said → Said
+abbrev pub followed_by : Log → Log → Log
 followed_by a b = a ++ b
 
 -- its text, and its datagrams
-unfoldable pub text_of : Said → List ℕ
+unfoldable pub text_of : Log → List ℕ
 text_of [] = []
 text_of (Byte b ∷ more) = b ∷ text_of more
 text_of (Sent d ∷ more) = text_of more
 
-unfoldable pub sent_of : Said → List Datagram
+unfoldable pub sent_of : Log → List Datagram
 sent_of [] = []
 sent_of (Byte b ∷ more) = sent_of more
 sent_of (Sent d ∷ more) = d ∷ sent_of more

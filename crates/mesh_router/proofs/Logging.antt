@@ -8,24 +8,24 @@ use Rattle.mesh_io.specs.Puts.{AppendsPrefix}
 use Rattle.mesh_io.proofs.Writing.{Appends-join, Appends-none}
 use Rattle.mesh_link.specs.Datagrams.{Datagram}
 use Rattle.mesh_router.specs.declared.stop.Stop.{Stop}
-use Rattle.mesh_router.specs.Said.{Said, Byte, Sent, nothing, written, followed_by, text_of, sent_of}
+use Rattle.mesh_router.specs.Logs.{Log, Byte, Sent, nothing, written, followed_by, text_of, sent_of}
 use Rattle.mesh_router.specs.Outputs.{Outputs, SendsAll, Adds, AddsPrefix, Says, HasCauses}
 
--- ---- what is said
+-- ---- a log
 
-pub said-nil-left : (a : Said) → followed_by nothing a ≡ a
-said-nil-left a = refl
+pub log-nil-left : (a : Log) → followed_by nothing a ≡ a
+log-nil-left a = refl
 
-pub said-nil : (a : Said) → followed_by a nothing ≡ a
-said-nil a = append-nil a
+pub log-nil : (a : Log) → followed_by a nothing ≡ a
+log-nil a = append-nil a
 
-pub said-assoc : (a b c : Said) → followed_by (followed_by a b) c ≡ followed_by a (followed_by b c)
-said-assoc a b c = append_assoc a b c
+pub log-assoc : (a b c : Log) → followed_by (followed_by a b) c ≡ followed_by a (followed_by b c)
+log-assoc a b c = append_assoc a b c
 
 pub written-append : (a b : List ℕ) → written (a ++ b) ≡ followed_by (written a) (written b)
 unfolding written
 written-append [] b = refl
-written-append (c ∷ cs) b = ap (λ (s : Said). Byte c ∷ s) (written-append cs b)
+written-append (c ∷ cs) b = ap (λ (s : Log). Byte c ∷ s) (written-append cs b)
 
 -- ---- its text and its datagrams
 
@@ -37,13 +37,13 @@ sent-none : sent_of nothing ≡ []
 unfolding sent_of
 sent-none = refl
 
-text-join : (a b : Said) → text_of (followed_by a b) ≡ text_of a ++ text_of b
+text-join : (a b : Log) → text_of (followed_by a b) ≡ text_of a ++ text_of b
 unfolding text_of
 text-join [] b = refl
 text-join (Byte c ∷ more) b = ap (λ (l : List ℕ). c ∷ l) (text-join more b)
 text-join (Sent d ∷ more) b = text-join more b
 
-sent-join : (a b : Said) → sent_of (followed_by a b) ≡ sent_of a ++ sent_of b
+sent-join : (a b : Log) → sent_of (followed_by a b) ≡ sent_of a ++ sent_of b
 unfolding sent_of
 sent-join [] b = refl
 sent-join (Byte c ∷ more) b = sent-join more b
@@ -85,44 +85,44 @@ adds-none a = record {
   sent = subst (λ (l : List Datagram). SendsAll a.1 a.1 l) (sym sent-none) (sends-none a.1);
 }
 
-pub adds-join : (a b c : Outputs) (x y : Said) → Adds a b x → Adds b c y → Adds a c (followed_by x y)
+pub adds-join : (a b c : Outputs) (x y : Log) → Adds a b x → Adds b c y → Adds a c (followed_by x y)
 adds-join a b c x y p q = record {
   text = Appends-join a.0 b.0 c.0 (text_of x) (text_of y) (text_of (followed_by x y)) (text-join x y) p.text q.text;
   sent = subst (λ (l : List Datagram). SendsAll a.1 c.1 l) (sym (sent-join x y)) (sends-join a.1 b.1 c.1 (sent_of x) (sent_of y) p.sent q.sent);
 }
 
-pub adds-equal : (a b : Outputs) (x y : Said) → x ≡ y → Adds a b x → Adds a b y
+pub adds-equal : (a b : Outputs) (x y : Log) → x ≡ y → Adds a b x → Adds a b y
 adds-equal a b x y e p = subst (Adds a b) e p
 
-pub prefix-none : (a : Outputs) (x : Said) → AddsPrefix a a x
+pub prefix-none : (a : Outputs) (x : Log) → AddsPrefix a a x
 prefix-none a x = record { prefix = nothing; rest = x; whole = refl; adds = adds-none a }
 
-pub prefix-join : (a b c : Outputs) (x y : Said) → Adds a b x → AddsPrefix b c y → AddsPrefix a c (followed_by x y)
+pub prefix-join : (a b c : Outputs) (x y : Log) → Adds a b x → AddsPrefix b c y → AddsPrefix a c (followed_by x y)
 prefix-join a b c x y p q = record {
   prefix = followed_by x q.prefix;
   rest = q.rest;
-  whole = ap (followed_by x) q.whole ∙ sym (said-assoc x q.prefix q.rest);
+  whole = ap (followed_by x) q.whole ∙ sym (log-assoc x q.prefix q.rest);
   adds = adds-join a b c x q.prefix p q.adds;
 }
 
-pub prefix-more : (a b : Outputs) (x y : Said) → AddsPrefix a b x → AddsPrefix a b (followed_by x y)
+pub prefix-more : (a b : Outputs) (x y : Log) → AddsPrefix a b x → AddsPrefix a b (followed_by x y)
 prefix-more a b x y p = record {
   prefix = p.prefix;
   rest = followed_by p.rest y;
-  whole = ap (λ s. followed_by s y) p.whole ∙ said-assoc p.prefix p.rest y;
+  whole = ap (λ s. followed_by s y) p.whole ∙ log-assoc p.prefix p.rest y;
   adds = p.adds;
 }
 
-pub prefix-whole : (a b : Outputs) (x : Said) → Adds a b x → AddsPrefix a b x
-prefix-whole a b x p = record { prefix = x; rest = nothing; whole = sym (said-nil x); adds = p }
+pub prefix-whole : (a b : Outputs) (x : Log) → Adds a b x → AddsPrefix a b x
+prefix-whole a b x p = record { prefix = x; rest = nothing; whole = sym (log-nil x); adds = p }
 
--- what was said, and then more
-pub says-join : {T : Type 0} (a b c : Outputs) (x y : Said) (r : Result T Stop) → Adds a b x → Says b c y r → Says a c (followed_by x y) r
+-- a log, and then more
+pub says-join : {T : Type 0} (a b c : Outputs) (x y : Log) (r : Result T Stop) → Adds a b x → Says b c y r → Says a c (followed_by x y) r
 says-join a b c x y (Ok v) p q = adds-join a b c x y p q
 says-join a b c x y (Err e) p q = prefix-join a b c x y p q
 
--- it ends with what was said of the first
-pub says-fault : {T : Type 0} (a b : Outputs) (x : Said) (r : Result T Stop) → IsErr r → AddsPrefix a b x → Says a b x r
+-- it ends with the log of the first
+pub says-fault : {T : Type 0} (a b : Outputs) (x : Log) (r : Result T Stop) → IsErr r → AddsPrefix a b x → Says a b x r
 says-fault a b x (Ok v) is p = absurd cc
 says-fault a b x (Err e) is p = p
 
@@ -150,7 +150,7 @@ prefix-text a b s t text same p = record {
 }
 
 -- the text was written, and nothing after it was sent
-pub prefix-unsent : (a b : Option (List ℕ)) (s t : Option (List Datagram)) (text : List ℕ) (others : Said) → t ≡ s → Appends a b text → AddsPrefix (a, s) (b, t) (followed_by (written text) others)
+pub prefix-unsent : (a b : Option (List ℕ)) (s t : Option (List Datagram)) (text : List ℕ) (others : Log) → t ≡ s → Appends a b text → AddsPrefix (a, s) (b, t) (followed_by (written text) others)
 prefix-unsent a b s t text others same p = record {
   prefix = written text;
   rest = others;
