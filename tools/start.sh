@@ -6,7 +6,7 @@
 
 # The kit that the proofs are written for.
 # shellcheck disable=SC2034 # ./build and ./mesh read it
-kit=rattle-kit-13b
+kit=rattle-kit-13f
 
 # --- Which program is made of the files as they stand now.
 #
