@@ -13,18 +13,14 @@ use Rattle.mesh_model.specs.Worlds.{World, Event, Outcome, Idle, Next}
 use Rattle.mesh_model.specs.Places.{IsEvent}
 use Rattle.mesh_meaning.specs.Events.{event_of, node_of}
 use Rattle.mesh_meaning.specs.Answers.{outcome_in}
-use Rattle.mesh_grammar.specs.declared.fault.BadWhy.{BadWhy}
-use Rattle.mesh_grammar.specs.declared.fault.BadWhy.TheVariants.{Fault}
 use Rattle.mesh_text.specs.Lines.{words_of}
 use Rattle.mesh_grammar.specs.Written.{line}
-use Rattle.mesh_text.specs.Schedule.{Moment, Accepted, Does, NewNode, ShowsNode, ShowsRoute, ShowsFlight, counted, started, stepped, outcome_at, world_of}
+use Rattle.mesh_text.specs.Schedule.{Moment, Accepted, NewNode, ShowsNode, ShowsRoute, ShowsFlight, counted, started, stepped, outcome_at, world_of}
 use Rattle.mesh_text.specs.Effects.{outcome_lines}
 use Rattle.mesh_text.specs.Tables.{node_text_in, end_text, flight_text}
 use Rattle.mesh_model.specs.Routes.{route_end}
 use Rattle.std.specs.List.{slice_get}
-use Rattle.mesh_text.specs.Text.{LineOutcome, On, Refused, Full, outcome_of_line, text_in}
-use Rattle.mesh_run.specs.declared.stop.Stop.{Stop}
-use Rattle.mesh_run.specs.declared.stop.Stop.TheVariants as stop
+use Rattle.mesh_text.specs.Text.{On, Full, outcome_of_line, text_in}
 use Rattle.mesh_world.specs.declared.steps.StepError.{StepError}
 use Rattle.mesh_world.specs.declared.steps.StepError.TheVariants as errors
 use Rattle.mesh_moment.specs.Moments.{IsAnswer, IsRefusal}

@@ -2,10 +2,11 @@
 -- contract of `run` cites beside the definitions of mesh_text. Causes: when a fault is answered.
 -- Variants: the variants of the protocol, by name. The others say what the parts of a run do.
 -- Stops: why an event isn't done. Runs: what was told of one line, of one event, and of events that
--- were chosen.
+-- were chosen. Driven: what a run over the lines of a source comes to.
 pub mod Codes
 pub mod Outputs
 pub mod Causes
 pub mod Variants
 pub mod Stops
 pub mod Runs
+pub mod Driven

@@ -8,6 +8,7 @@ ghost use Rattle.mesh_io.specs.Buffering.{inner_of, gathered_in, held_by};
 ghost use Rattle.mesh_moment.specs.Moments.{IsSafe};
 ghost use Rattle.mesh_run.specs.Causes.{HasStatusCause, HasSourceCause};
 ghost use Rattle.mesh_moment.specs.Sums.{IsGrown};
+ghost use Rattle.mesh_run.specs.Driven.{IsDriven};
 ghost use Rattle.mesh_run.specs.Outputs.{say_by, IsOutputFrom};
 
 use crate::lines::do_lines;
@@ -30,21 +31,12 @@ fn do_gathered<S: Steps, I: Source, O: Sink>(
 ) -> Status
     requires few { at.old.lines < 2 ^ 61 }
     requires steps { at.old.steps < 2 ^ 46 }
-    ensures told { IfSome (I.left input.old) (λ bytes. IsOutputFrom say at.old bytes
-        (I.left input.new) (held_by O.held buffer.old) (held_by O.held buffer.new) result) }
+    ensures driven { IsDriven say at.old at.new (I.left input.old) (I.left input.new)
+        (held_by O.held buffer.old) (held_by O.held buffer.new) result }
     ensures handed_on { result ≢ Status.WriteFault → gathered_in buffer.new ≡ [] }
-    ensures after { result ≡ Status.Done → IfSome (I.left input.old)
-        (λ bytes. at.new ≡ (text_on at.old bytes).after) }
-    ensures safe { result ≡ Status.Done → IsSafe at.new }
-    ensures grown { result ≡ Status.Done → IsGrown at.old at.new }
-    ensures lines { result ≡ Status.Done → at.new.lines ≤ at.old.lines + LONGEST_INPUT }
-    ensures steps { result ≡ Status.Done
-        → 4 * at.new.steps ≤ 4 * at.old.steps + MOST_EVENTS * LONGEST_INPUT }
-    ensures end { result ≡ Status.Done → IsAtEnd (I.left input.new) }
     ensures read { HasSourceCause (I.faults input.old) (I.faults input.new) result }
     ensures write { HasStatusCause Status.WriteFault
         (O.faults (inner_of buffer.old)) (O.faults (inner_of buffer.new)) result }
-    ensures words { result ≢ Status.Usage }
 {
     let mut lines = Lines::new(input);
     let status = do_lines(alloc, at, say, &mut lines, buffer);
@@ -74,20 +66,11 @@ fn do_through<'s, S: Steps, I: Source, O: Sink, L: Loan>(
     requires name { out.ghost_name ≡ L.name }
     requires start { O.held out.now ≡ L.start }
     ensures same { result.ghost_name ≡ out.entry.ghost_name }
-    ensures told { IfSome (I.left input.old) (λ bytes. IsOutputFrom say at.old bytes
-        (I.left input.new) (O.held out.entry.now) (O.held result.now) status.new) }
-    ensures after { status.new ≡ Status.Done → IfSome (I.left input.old)
-        (λ bytes. at.new ≡ (text_on at.old bytes).after) }
-    ensures safe { status.new ≡ Status.Done → IsSafe at.new }
-    ensures grown { status.new ≡ Status.Done → IsGrown at.old at.new }
-    ensures lines { status.new ≡ Status.Done → at.new.lines ≤ at.old.lines + LONGEST_INPUT }
-    ensures steps { status.new ≡ Status.Done
-        → 4 * at.new.steps ≤ 4 * at.old.steps + MOST_EVENTS * LONGEST_INPUT }
-    ensures end { status.new ≡ Status.Done → IsAtEnd (I.left input.new) }
+    ensures driven { IsDriven say at.old at.new (I.left input.old) (I.left input.new)
+        (O.held out.entry.now) (O.held result.now) status.new }
     ensures read { HasSourceCause (I.faults input.old) (I.faults input.new) status.new }
     ensures write { HasStatusCause Status.WriteFault
         (O.faults out.entry.now) (O.faults result.now) status.new }
-    ensures words { status.new ≢ Status.Usage }
 {
     let mut buffer: Buffered<Through<'s, O, L>> = Buffered::lent(out, room);
     *status = do_gathered(alloc, at, say, input, &mut buffer);
