@@ -11,9 +11,10 @@ use mesh_base::{NoMemory, NodeSet};
 use std::alloc::Global;
 use std::marker::Model;
 
-/// For each originator the ids of its requests that were seen. Its last interval of ids stands in an
-/// array of its own, of 8 bytes an originator, since most requests that are heard are copies of the
-/// newest one: these look at no row. `roomy` has the originators whose row is known to have room.
+/// For each originator the ids of its requests that were seen. Its last interval of ids stands in
+/// an array of its own, of 8 bytes an originator, since most requests that are heard are copies of
+/// the newest one: these look at no row. `roomy` has the originators whose row is known to have
+/// room.
 #[derive(Drop)]
 pub struct Asked {
     tops: Vec<Interval>,
