@@ -37,17 +37,26 @@ pub struct Task<'p, 'a, 'b, S: Steps> {
     pub count: u32,
 }
 
-// The event that comes next: the one that is given, or else the one that the run chooses.
+// The event that comes next, lent where it stands: the one that is given, or else the one that the
+// run chooses, which is put down first. To copy what was just written would stall the processor.
 #[inline(always)]
-fn event_after<'a, S: Steps>(at: &Point<S>, given: Option<Event<'a>>) -> Option<Event<'a>>
+fn event_after<'e, 'a, S: Steps>(
+    at: &Point<S>,
+    given: &'e Option<Event<'a>>,
+    chosen: &'e mut Option<Event<'a>>,
+) -> Option<&'e Event<'a>>
     requires started { is_some at.now.world ≡ true }
-    requires printable { IfSome given (λ e. IsPrintable at.now.mesh (Line.Step e)) }
-    ensures value { option_map event_of result ≡ next_in (option_map event_of given.entry) at.now }
-    ensures printable { IfSome result (λ e. IsPrintable at.now.mesh (Line.Step e)) }
+    requires printable { IfSome given.now (λ e. IsPrintable at.now.mesh (Line.Step e)) }
+    ensures value { option_map (λ e. event_of e.now) result
+        ≡ next_in (option_map event_of given.now) at.now }
+    ensures printable { IfSome result (λ e. IsPrintable at.now.mesh (Line.Step e.now)) }
 {
     match given {
         Some(event) => Some(event),
-        None => next_event(at),
+        None => {
+            *chosen = next_event(at);
+            chosen.as_ref()
+        }
     }
 }
 
@@ -82,11 +91,12 @@ pub fn do_events<'a, S: Steps, O: Sink>(
 {
     let mut did: u32 = 0;
     'events: while did < task.count {
-        let Some(event) = event_after(task.at, task.given) else {
+        let mut chosen = None;
+        let Some(event) = event_after(task.at, &task.given, &mut chosen) else {
             return Ok(did);
         };
-        if let Err(stop) = do_event(alloc, task.at, task.bytes, &event, quiet, out) {
-            return Err(stop.of_event(event));
+        if let Err(stop) = do_event(alloc, task.at, task.bytes, event, quiet, out) {
+            return Err(stop.of_event(*event));
         }
         did += 1;
     }

@@ -28,15 +28,15 @@ returns-in_default-clause-way g c =
 
 pub returns-in-Err-clause-ran : goal.returns-in-Err-clause-ran
 returns-in-Err-clause-ran g c =
-    let why : Stop = stop_of c.in-Some.event c.in-Err.stop in
+    let why : Stop = stop_of c.in-Some.event.now c.in-Err.stop in
     rw c.of_event.ensures (c.events.invariant.ran (g.O.Sink.held c.do_event.new.out) c.do_event.new.at (Err why)
-    (ran_stops c.args.quiet (option_map event_of c.events.task.given) c.events.task.count c.events.did c.events.task.at.now c.do_event.new.at (event_of c.in-Some.event) _ _ why
+    (ran_stops c.args.quiet (option_map event_of c.events.task.given) c.events.task.count c.events.did c.events.task.at.now c.do_event.new.at (event_of c.in-Some.event.now) _ _ why
     c.events.invariant.one c.events-test.true c.in-Some.ensures.value c.in-Err.ensures.comes))
 
 pub returns-in-Err-clause-way : goal.returns-in-Err-clause-way
 returns-in-Err-clause-way g c =
     c.events.invariant.way c.do_event.new.at
-    (way_stops (option_map event_of c.events.task.given) c.events.task.count c.events.did c.events.task.at.now c.do_event.new.at (event_of c.in-Some.event)
+    (way_stops (option_map event_of c.events.task.given) c.events.task.count c.events.did c.events.task.at.now c.do_event.new.at (event_of c.in-Some.event.now)
     c.events.invariant.one c.events-test.true c.in-Some.ensures.value c.in-Err.ensures.way)
 
 pub overflow_add-did : goal.overflow_add-did
@@ -45,21 +45,21 @@ overflow_add-did g c = omega (arith, c.events.invariant.fits, c.events-test.true
 pub events-preserved : goal.events-preserved
 events-preserved g c =
     let next = c.in_default-do_event.ensures.moment in
-    let mesh = stepped_mesh c.events.task.at.now c.do_event.new.at (event_of c.in-Some.event) next in
-    let lines = stepped_lines c.events.task.at.now c.do_event.new.at (event_of c.in-Some.event) next in
-    let steps = stepped_steps c.events.task.at.now c.do_event.new.at (event_of c.in-Some.event) next in
-    let counts = due_counts c.args.quiet (option_map event_of c.events.task.given) c.events.task.count c.events.did c.events.task.at.now c.do_event.new.at (event_of c.in-Some.event) _ _
+    let mesh = stepped_mesh c.events.task.at.now c.do_event.new.at (event_of c.in-Some.event.now) next in
+    let lines = stepped_lines c.events.task.at.now c.do_event.new.at (event_of c.in-Some.event.now) next in
+    let steps = stepped_steps c.events.task.at.now c.do_event.new.at (event_of c.in-Some.event.now) next in
+    let counts = due_counts c.args.quiet (option_map event_of c.events.task.given) c.events.task.count c.events.did c.events.task.at.now c.do_event.new.at (event_of c.in-Some.event.now) _ _
     c.events.invariant.one c.events-test.true c.in-Some.ensures.value c.in_default-do_event.ensures.comes next in
     record {
       ran = λ now n r p. c.events.invariant.ran now n r
-          (ran_goes c.args.quiet (option_map event_of c.events.task.given) c.events.task.count c.events.did c.events.task.at.now c.do_event.new.at n (event_of c.in-Some.event)
+          (ran_goes c.args.quiet (option_map event_of c.events.task.given) c.events.task.count c.events.did c.events.task.at.now c.do_event.new.at n (event_of c.in-Some.event.now)
           (g.O.Sink.held c.events.out) (g.O.Sink.held c.do_event.new.out) now r c.events.invariant.one c.events-test.true c.in-Some.ensures.value c.in_default-do_event.ensures.comes p);
       way = λ n p. c.events.invariant.way n
-          (way_goes c.args.quiet (option_map event_of c.events.task.given) c.events.task.count c.events.did c.events.task.at.now c.do_event.new.at n (event_of c.in-Some.event) _ _
+          (way_goes c.args.quiet (option_map event_of c.events.task.given) c.events.task.count c.events.did c.events.task.at.now c.do_event.new.at n (event_of c.in-Some.event.now) _ _
           c.events.invariant.one c.events-test.true c.in-Some.ensures.value c.in_default-do_event.ensures.comes next p);
       left = omega (arith, counts, c.events.invariant.left);
       same = c.events.invariant.same;
-      started = stepped_started c.events.task.at.now c.do_event.new.at (event_of c.in-Some.event) next;
+      started = stepped_started c.events.task.at.now c.do_event.new.at (event_of c.in-Some.event.now) next;
       one = c.events.invariant.one;
       printable = subst (λ (n : Nodes). IfSome c.events.task.given (λ e. IsPrintable n (line.Step e))) (sym mesh) c.events.invariant.printable;
       echo = λ loud. subst (λ (n : Nodes). IfSome c.events.task.bytes (λ b. IsLineOfGiven n (option_map event_of c.events.task.given) b.now)) (sym mesh) (c.events.invariant.echo loud);
