@@ -2,7 +2,7 @@
 //! at one call.
 ghost use Rattle.std.specs.Prelude.{◌≡◌, ◌≤◌, ◌<◌};
 
-use crate::top::mesh;
+use crate::tests::mesh_from;
 use mesh_base::Bytes;
 use mesh_io::{MemSink, MemSource};
 use mesh_run::Status;
@@ -137,7 +137,7 @@ fn run(
     let bytes = Bytes::copy_of(alloc, schedule)?;
     let mut input = MemSource::new(alloc, bytes, read.most, read.fails)?;
     let mut out = MemSink::new(alloc, WHOLE, write.most, write.fails)?;
-    let status = mesh(alloc, &["run"], &mut input, &mut out);
+    let status = mesh_from(alloc, &["run"], &mut input, &mut out);
     Ok((status, out))
 }
 

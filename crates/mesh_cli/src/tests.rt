@@ -1,13 +1,25 @@
 use crate::top::mesh;
 use mesh_base::Bytes;
-use mesh_io::{MemSink, MemSource, SureSink, SureSource};
+use mesh_io::{MemSink, MemSource, Source, SureSource};
 use mesh_run::Status;
+use std::alloc::Global;
 use std::test::Fail;
 
 const DATUM: &str = "node 10.0.0.1\ndata 10.0.0.1 10.0.0.1 hi\nturn 10.0.0.1\n";
 
 const DATUM_TEXT: &str =
     "node 10.0.0.1 sn 1\ndata 10.0.0.1 10.0.0.1 hi\nturn 10.0.0.1\n  took new 10.0.0.1\n  delivered 10.0.0.1 10.0.0.1 hi\ndone events 2 idle 0 given 1 delivered 1 waiting 0 queued 0 flying 0 lost 0\n";
+
+// The call. It stands alone, since what it promises would be gone through at each way out of a
+// function that owns what it is lent.
+pub(crate) fn mesh_from<I: Source>(
+    alloc: Global,
+    words: &[&str],
+    input: &mut I,
+    out: &mut MemSink,
+) -> Status {
+    mesh(alloc, words, input, out)
+}
 
 // Runs the words on a schedule, read 7 bytes at a time and written 5 bytes at a time.
 fn is_told(
@@ -20,7 +32,7 @@ fn is_told(
     let bytes = Bytes::copy_of(rt.alloc(), schedule.as_bytes())?;
     let mut input = MemSource::new(rt.alloc(), bytes, 7, &[])?;
     let mut out = MemSink::new(rt.alloc(), 1000, 5, &[])?;
-    let answer = mesh(rt.alloc(), words, &mut input, &mut out);
+    let answer = mesh_from(rt.alloc(), words, &mut input, &mut out);
     Ok(answer == status && out.held() == text.as_bytes())
 }
 
@@ -70,7 +82,7 @@ fn stops_at_a_failed_write(rt: HostRuntime) -> Result<(), Fail> {
     let bytes = Bytes::copy_of(rt.alloc(), DATUM.as_bytes())?;
     let mut input = SureSource::new(bytes);
     let mut out = MemSink::new(rt.alloc(), 1000, 5, &[3])?;
-    let status = mesh(rt.alloc(), &["run"], &mut input, &mut out);
+    let status = mesh_from(rt.alloc(), &["run"], &mut input, &mut out);
     assert_eq!(rt; status, Status::WriteFault);
     assert_eq!(rt; out.held(), b"node 10.0.".as_slice());
     Ok(())
@@ -81,7 +93,7 @@ fn writes_the_lines_that_were_read_whole(rt: HostRuntime) -> Result<(), Fail> {
     let bytes = Bytes::copy_of(rt.alloc(), DATUM.as_bytes())?;
     let mut input = MemSource::new(rt.alloc(), bytes, 14, &[2])?;
     let mut out = MemSink::new(rt.alloc(), 1000, 1000, &[])?;
-    let status = mesh(rt.alloc(), &["run"], &mut input, &mut out);
+    let status = mesh_from(rt.alloc(), &["run"], &mut input, &mut out);
     assert_eq!(rt; status, Status::ReadFault);
     assert_eq!(rt; out.held(), b"node 10.0.0.1 sn 1\n".as_slice());
     Ok(())
@@ -129,7 +141,7 @@ fn runs_a_made_schedule(rt: HostRuntime) -> Result<(), Fail> {
     let mut input = SureSource::new(Bytes::empty());
     let mut out = MemSink::new(rt.alloc(), 200, 200, &[])?;
     let words = ["trial", "7", "60", "5000"];
-    let status = mesh(rt.alloc(), &words, &mut input, &mut out);
+    let status = mesh_from(rt.alloc(), &words, &mut input, &mut out);
     assert_eq!(rt; status, Status::Done);
     assert_eq!(rt;
         out.held(),

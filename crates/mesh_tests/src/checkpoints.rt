@@ -1,8 +1,9 @@
 //! Checkpoints written out byte for byte.
 use mesh_checkpoint::{SurveyError, survey};
 use mesh_load::{StateError, load};
-use mesh_world::Part;
-use std::test::Fail;
+use mesh_run::Point;
+use mesh_world::{Part, World};
+use std::alloc::Global;
 
 /// The checkpoint of an empty input.
 const EMPTY: [u8; 68] = [
@@ -45,32 +46,40 @@ fn surveys_an_empty_checkpoint(rt: HostRuntime) {
     assert_eq!(rt; survey(&world), Err(SurveyError::Spelling));
 }
 
-#[test]
-fn an_empty_checkpoint_is_loaded(rt: HostRuntime) -> Result<(), Fail> {
-    let point = load(rt.alloc(), &EMPTY)?;
-    assert!(rt; point.world().is_none());
-    assert!(rt; point.mesh().is_empty());
-    let mut other = EMPTY;
-    other[0] = 0;
-    assert_eq!(rt; load(rt.alloc(), &other).err(), Some(StateError::NotState));
-    Ok(())
+// How many nodes a moment has, and how many steps its world has done.
+fn sizes_of(at: &Point<World>) -> (usize, Option<u64>) {
+    let steps = match at.world() {
+        Some(world) => Some(world.steps()),
+        None => None,
+    };
+    (at.mesh().len(), steps)
+}
+
+// The sizes of the moment that a checkpoint means.
+fn loaded(alloc: Global, bytes: &[u8]) -> Result<(usize, Option<u64>), StateError> {
+    match load(alloc, bytes) {
+        Ok(at) => Ok(sizes_of(&at)),
+        Err(why) => Err(why),
+    }
 }
 
 #[test]
-fn a_world_is_loaded(rt: HostRuntime) -> Result<(), Fail> {
-    let point = load(rt.alloc(), &TWO)?;
-    assert_eq!(rt; point.mesh().len(), 2);
-    match point.world() {
-        Some(world) => assert_eq!(rt; world.steps(), 3),
-        None => assert!(rt; false),
-    }
+fn an_empty_checkpoint_is_loaded(rt: HostRuntime) {
+    assert_eq!(rt; loaded(rt.alloc(), &EMPTY), Ok((0, None)));
+    let mut other = EMPTY;
+    other[0] = 0;
+    assert_eq!(rt; loaded(rt.alloc(), &other), Err(StateError::NotState));
+}
+
+#[test]
+fn a_world_is_loaded(rt: HostRuntime) {
+    assert_eq!(rt; loaded(rt.alloc(), &TWO), Ok((2, Some(3))));
     // The number of the route of node 0 to itself.
     let mut unbacked = TWO;
     unbacked[103] = 6;
     let part = Part::Edge { node: 0, dest: 0 };
     assert_eq!(rt;
-        load(rt.alloc(), &unbacked).err(),
-        Some(StateError::Unsound(part))
+        loaded(rt.alloc(), &unbacked),
+        Err(StateError::Unsound(part))
     );
-    Ok(())
 }

@@ -1,7 +1,9 @@
-//! Worlds in which a copy comes late, and where their routes then lead.
+//! Worlds in which a copy comes late, and where their routes then lead. The events are listed in
+//! functions over any world that they are lent, so that no way out of the world's owner has them.
 use crate::steps::{advance_all, opening};
 use mesh_base::Event;
-use mesh_world::{End, World};
+use mesh_world::{End, Steps, World};
+use std::alloc::Global;
 use std::test::Fail;
 
 // Where the route leads, if both nodes are there.
@@ -43,8 +45,7 @@ fn lose(id: u64) -> Event<'static> {
 }
 
 // A node passes on a late request whose route it doesn't take: its own entry is newer, and broken.
-#[test]
-fn a_route_is_stuck_at_an_invalid_entry(rt: HostRuntime) -> Result<(), Fail> {
+fn pass_on_late<S: Steps>(world: &mut S, alloc: Global) -> Result<(), Fail> {
     let send = Event::Send { node: 3, dest: 0 };
     let events = [
         link(0, 1),
@@ -78,15 +79,19 @@ fn a_route_is_stuck_at_an_invalid_entry(rt: HostRuntime) -> Result<(), Fail> {
         deliver(9),
         turn(4),
     ];
+    advance_all(world, alloc, &events)
+}
+
+#[test]
+fn a_route_is_stuck_at_an_invalid_entry(rt: HostRuntime) -> Result<(), Fail> {
     let mut world: World = opening(rt.alloc(), 5)?;
-    advance_all(&mut world, rt.alloc(), &events)?;
+    pass_on_late(&mut world, rt.alloc())?;
     assert_eq!(rt; end_of(&world, 4, 0), Some(End::Stuck { at: 3, hops: 1 }));
     Ok(())
 }
 
 // A reply passes through its own destination, which then has an entry for itself.
-#[test]
-fn a_route_to_the_node_itself_has_no_hop(rt: HostRuntime) -> Result<(), Fail> {
+fn pass_through<S: Steps>(world: &mut S, alloc: Global) -> Result<(), Fail> {
     let events = [
         link(0, 3),
         link(2, 3),
@@ -118,8 +123,13 @@ fn a_route_to_the_node_itself_has_no_hop(rt: HostRuntime) -> Result<(), Fail> {
         deliver(12),
         turn(1),
     ];
+    advance_all(world, alloc, &events)
+}
+
+#[test]
+fn a_route_to_the_node_itself_has_no_hop(rt: HostRuntime) -> Result<(), Fail> {
     let mut world: World = opening(rt.alloc(), 4)?;
-    advance_all(&mut world, rt.alloc(), &events)?;
+    pass_through(&mut world, rt.alloc())?;
     assert_eq!(rt; end_of(&world, 1, 1), Some(End::Arrived { hops: 0 }));
     assert_eq!(rt; end_of(&world, 2, 1), Some(End::Arrived { hops: 1 }));
     Ok(())

@@ -1,43 +1,75 @@
-//! Copies that fly on by themselves, and copies that are put back.
-use mesh_base::{Bytes, Flying, Packet};
+//! Copies that fly on by themselves, and copies that are put back. What changes a radio stands in
+//! functions that are lent it: what its calls promise would be gone through at each way out of a
+//! function that owns one.
+ghost use Rattle.std.specs.Prelude.{◌≡◌, []};
+
+use mesh_base::{Air, Bytes, Flying, NoMemory, Packet};
 use mesh_radio::Radio;
 use std::test::Fail;
 
-#[test]
+// Node 0 casts two bytes to its neighbours.
 #[tactic(auto, using(mesh_base::proofs::Ranks::members_few))]
-fn copies_fly_on_by_themselves(rt: HostRuntime) -> Result<(), Fail> {
-    let mut radio = Radio::new(rt.alloc(), 3)?;
-    assert!(rt; radio.link(0, 2));
-    assert!(rt; radio.link(1, 0));
-    assert!(rt; !radio.link(2, 0));
+fn cast(radio: &mut Radio) -> Result<Air, NoMemory>
+    requires size { radio.old.size ≡ 3 }
+    requires next { radio.old.next_copy ≡ 1 }
+    ensures { radio.new.size ≡ 3 }
+{
     radio.make_room(3, 2)?;
     let mut packet = Packet::new();
     packet.push(b'h');
     packet.push(b'i');
     let range = radio.range(0);
-    let air = radio.cast(0, &packet, &range);
-    assert_eq!(rt; air.first, 1);
-    assert!(rt; radio.cut(0, 1));
-    assert!(rt; radio.stood(1, 0));
-    assert_eq!(rt; radio.count(), 2);
-    let Some(found) = radio.find(2) else {
-        return Err(Fail::new("no copy 2"));
+    Ok(radio.cast(0, &packet, &range))
+}
+
+// Whether node 0 is linked to both others, and each link only once.
+fn links(radio: &mut Radio) -> bool
+    requires { radio.old.size ≡ 3 }
+    ensures size { radio.new.size ≡ 3 }
+    ensures next { radio.new.next_copy ≡ radio.old.next_copy }
+{
+    radio.link(0, 2) && radio.link(1, 0) && !radio.link(2, 0)
+}
+
+// Whether a link is cut, and has still stood.
+fn cuts(radio: &mut Radio) -> bool
+    requires { radio.old.size ≡ 3 }
+{
+    radio.cut(0, 1) && radio.stood(1, 0)
+}
+
+// Whether copy 2 is that of node 2, and isn't there once it is removed.
+fn takes_copy_2(radio: &mut Radio) -> bool {
+    let found = match radio.find(2) {
+        Some(found) => found.from == 0 && found.to == 2 && found.bytes == b"hi".as_slice(),
+        None => false,
     };
-    assert_eq!(rt; found.from, 0);
-    assert_eq!(rt; found.to, 2);
-    assert_eq!(rt; found.bytes, b"hi".as_slice());
-    assert_eq!(rt; radio.receiver(2), Some(2));
+    let to = radio.receiver(2);
     radio.remove(2);
-    assert!(rt; radio.find(2).is_none());
+    found && to == Some(2) && radio.find(2).is_none()
+}
+
+#[test]
+fn copies_fly_on_by_themselves(rt: HostRuntime) -> Result<(), Fail> {
+    let mut radio = Radio::new(rt.alloc(), 3)?;
+    assert!(rt; links(&mut radio));
+    assert_eq!(rt; cast(&mut radio)?.first, 1);
+    assert!(rt; cuts(&mut radio));
+    assert_eq!(rt; radio.count(), 2);
+    assert!(rt; takes_copy_2(&mut radio));
     assert_eq!(rt; radio.first_id(), Some(1));
     assert!(rt; radio.next_from(2, &mut 0).is_none());
     assert_eq!(rt; radio.next_id(), 3);
     Ok(())
 }
 
-#[test]
-fn copies_are_put_back(rt: HostRuntime) -> Result<(), Fail> {
-    let mut radio = Radio::restore(rt.alloc(), 3, 9)?;
+// Copy 4 of node 0 and copy 7 of node 2.
+fn put_two(radio: &mut Radio) -> Result<(), NoMemory>
+    requires size { radio.old.size ≡ 3 }
+    requires next { radio.old.next_copy ≡ 9 }
+    requires none { radio.old.flying ≡ [] }
+    requires room { radio.old.room ≡ 0 }
+{
     radio.put(Flying {
         id: 4,
         from: 0,
@@ -49,7 +81,13 @@ fn copies_are_put_back(rt: HostRuntime) -> Result<(), Fail> {
         from: 2,
         to: 1,
         bytes: Bytes::empty(),
-    })?;
+    })
+}
+
+#[test]
+fn copies_are_put_back(rt: HostRuntime) -> Result<(), Fail> {
+    let mut radio = Radio::restore(rt.alloc(), 3, 9)?;
+    put_two(&mut radio)?;
     assert_eq!(rt; radio.count(), 2);
     assert_eq!(rt; radio.first_id(), Some(4));
     assert_eq!(rt; radio.next_id(), 9);

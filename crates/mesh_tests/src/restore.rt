@@ -1,7 +1,10 @@
 //! Parts of a checkpoint, byte by byte.
-use aodv_node::Unfit;
+ghost use Rattle.std.specs.Prelude.{◌<◌, length};
+
+use aodv_node::{Node, Unfit};
 use mesh_base::{Addr, Mesh, Variant};
-use mesh_restore::{read_mesh, read_node, read_radio};
+use mesh_restore::{ReadError, read_mesh, read_node, read_radio};
+use std::alloc::Global;
 use std::test::Fail;
 
 /// Two nodes, 10.0.0.1 and 10.0.0.2.
@@ -38,30 +41,42 @@ fn a_mesh_is_read(rt: HostRuntime) -> Result<(), Fail> {
     Ok(())
 }
 
+// The number of a node that was made of its parts.
+fn sn_of(made: &Result<Node, Unfit>) -> Result<u32, Unfit> {
+    match made {
+        Ok(node) => Ok(node.sn()),
+        Err(why) => Err(*why),
+    }
+}
+
+// The number of node 0 in these bytes, and how many bytes follow it.
+fn node_read(
+    alloc: Global,
+    mesh: &Mesh,
+    bytes: &[u8],
+) -> Result<(Result<u32, Unfit>, usize), ReadError>
+    requires { 0 < length mesh.now }
+{
+    match read_node(alloc, mesh, 0, Variant::Base, bytes) {
+        Ok((made, rest)) => Ok((sn_of(&made), rest.len())),
+        Err(why) => Err(why),
+    }
+}
+
 #[test]
-fn a_node_is_read(rt: HostRuntime) -> Result<(), Fail> {
+fn a_node_is_read(rt: HostRuntime) {
     let mut mesh = Mesh::new();
     let _ = mesh.add(Addr(0x0a000001), 1);
     let _ = mesh.add(Addr(0x0a000002), 9);
     assert_eq!(rt; mesh.len(), 2);
-    match read_node(rt.alloc(), &mesh, 0, Variant::Base, &NODE) {
-        Ok((made, rest)) => {
-            assert_eq!(rt; rest.len(), 5);
-            match made {
-                Ok(node) => assert_eq!(rt; node.sn(), 7),
-                Err(_) => assert!(rt; false),
-            }
-        }
-        Err(_) => assert!(rt; false),
-    }
+    assert_eq!(rt; node_read(rt.alloc(), &mesh, &NODE), Ok((Ok(7), 5)));
     // The packet that waits would be from the node itself.
     let mut own = NODE;
     own[50] = 0;
-    match read_node(rt.alloc(), &mesh, 0, Variant::Base, &own) {
-        Ok((made, _)) => assert_eq!(rt; made.err(), Some(Unfit::Item)),
-        Err(_) => assert!(rt; false),
-    }
-    Ok(())
+    assert_eq!(rt;
+        node_read(rt.alloc(), &mesh, &own),
+        Ok((Err(Unfit::Item), 5))
+    );
 }
 
 #[test]

@@ -1,8 +1,10 @@
-//! A trail of three nodes in a row.
+//! A trail of three nodes in a row. The events are listed in functions over any world that they are
+//! lent, so that no way out of the trail's owner has them.
 use crate::steps::{advance_all, opening};
 use mesh_base::Event;
 use mesh_trail::Trail;
 use mesh_world::Steps;
+use std::alloc::Global;
 use std::test::Fail;
 
 fn walk_of(trail: &Trail, node: usize, dest: usize) -> &[usize] {
@@ -16,10 +18,8 @@ fn walk_of(trail: &Trail, node: usize, dest: usize) -> &[usize] {
     }
 }
 
-#[test]
-fn walks_lead_from_the_destination_to_the_node(rt: HostRuntime) -> Result<(), Fail> {
-    let mut trail: Trail = opening(rt.alloc(), 3)?;
-    // Node 0 asks for a route to node 2, by node 1.
+// Node 0 asks for a route to node 2, by node 1.
+fn ask<S: Steps>(world: &mut S, alloc: Global) -> Result<(), Fail> {
     let asked = [
         Event::Link { a: 0, b: 1 },
         Event::Link { a: 1, b: 2 },
@@ -33,10 +33,11 @@ fn walks_lead_from_the_destination_to_the_node(rt: HostRuntime) -> Result<(), Fa
         Event::Deliver { id: 1 },
         Event::Turn { node: 1 },
     ];
-    advance_all(&mut trail, rt.alloc(), &asked)?;
-    assert_eq!(rt; walk_of(&trail, 1, 0), [0, 1].as_slice());
-    assert_eq!(rt; walk_of(&trail, 0, 2), [].as_slice());
-    // Node 2 answers the doubled request, and the reply goes back.
+    advance_all(world, alloc, &asked)
+}
+
+// Node 2 answers the doubled request, and the reply goes back.
+fn answer<S: Steps>(world: &mut S, alloc: Global) -> Result<(), Fail> {
     let answered = [
         Event::Double { id: 3 },
         Event::Deliver { id: 4 },
@@ -46,7 +47,16 @@ fn walks_lead_from_the_destination_to_the_node(rt: HostRuntime) -> Result<(), Fa
         Event::Deliver { id: 6 },
         Event::Turn { node: 0 },
     ];
-    advance_all(&mut trail, rt.alloc(), &answered)?;
+    advance_all(world, alloc, &answered)
+}
+
+#[test]
+fn walks_lead_from_the_destination_to_the_node(rt: HostRuntime) -> Result<(), Fail> {
+    let mut trail: Trail = opening(rt.alloc(), 3)?;
+    ask(&mut trail, rt.alloc())?;
+    assert_eq!(rt; walk_of(&trail, 1, 0), [0, 1].as_slice());
+    assert_eq!(rt; walk_of(&trail, 0, 2), [].as_slice());
+    answer(&mut trail, rt.alloc())?;
     assert_eq!(rt; walk_of(&trail, 2, 0), [0, 1, 2].as_slice());
     assert_eq!(rt; walk_of(&trail, 0, 2), [2, 1, 0].as_slice());
     assert_eq!(rt; walk_of(&trail, 0, 1), [1, 0].as_slice());

@@ -1,12 +1,20 @@
-//! A world of two nodes: a route is found, and a datum arrives.
+//! A world of two nodes: a route is found, and a datum arrives. What is done with the world stands
+//! in functions over any world that they are lent: what its calls promise would be gone through at
+//! each way out of a function that owns one.
 use crate::steps::{advance, advance_all, opening};
 use mesh_base::{Done, Event};
-use mesh_world::World;
+use mesh_world::{Steps, World};
+use std::alloc::Global;
 use std::test::Fail;
 
-#[test]
-fn a_datum_finds_its_way(rt: HostRuntime) -> Result<(), Fail> {
-    let mut world: World = opening(rt.alloc(), 2)?;
+// The least ask and the least send that are due.
+fn due<S: Steps>(world: &S) -> (Option<(usize, usize)>, Option<(usize, usize)>) {
+    let world = world.world();
+    (world.first_ask(), world.first_send())
+}
+
+// Node 0 has a datum for its neighbour.
+fn begin<S: Steps>(world: &mut S, alloc: Global) -> Result<(), Fail> {
     let begun = [
         Event::Link { a: 0, b: 1 },
         Event::Give {
@@ -16,9 +24,11 @@ fn a_datum_finds_its_way(rt: HostRuntime) -> Result<(), Fail> {
         },
         Event::Turn { node: 0 },
     ];
-    advance_all(&mut world, rt.alloc(), &begun)?;
-    assert_eq!(rt; world.first_ask(), Some((0, 1)));
-    // Node 0 asks for a route to its neighbour, which answers.
+    advance_all(world, alloc, &begun)
+}
+
+// Node 0 asks for a route to its neighbour, which answers.
+fn find<S: Steps>(world: &mut S, alloc: Global) -> Result<(), Fail> {
     let asked = [
         Event::Ask { node: 0, dest: 1 },
         Event::Deliver { id: 1 },
@@ -26,22 +36,38 @@ fn a_datum_finds_its_way(rt: HostRuntime) -> Result<(), Fail> {
         Event::Deliver { id: 2 },
         Event::Turn { node: 0 },
     ];
-    advance_all(&mut world, rt.alloc(), &asked)?;
-    assert_eq!(rt; world.first_send(), Some((0, 1)));
-    advance(&mut world, rt.alloc(), &Event::Send { node: 0, dest: 1 })?;
-    let doubled = advance(&mut world, rt.alloc(), &Event::Double { id: 3 })?;
-    assert!(rt;
-        matches!(
-            &doubled,
-            Done::Doubled {
-                id: 4,
-                to: 1,
-                parcel: true
-            }
-        )
-    );
-    advance(&mut world, rt.alloc(), &Event::Deliver { id: 4 })?;
-    let done = advance(&mut world, rt.alloc(), &Event::Turn { node: 1 })?;
-    assert!(rt; matches!(&done, Done::Taken { effect, .. } if effect.deliver));
+    advance_all(world, alloc, &asked)
+}
+
+// Whether the copy of the datum that is sent is doubled, as copy 4 to node 1.
+fn doubles<S: Steps>(world: &mut S, alloc: Global) -> Result<bool, Fail> {
+    advance(world, alloc, &Event::Send { node: 0, dest: 1 })?;
+    let doubled = advance(world, alloc, &Event::Double { id: 3 })?;
+    Ok(matches!(
+        &doubled,
+        Done::Doubled {
+            id: 4,
+            to: 1,
+            parcel: true
+        }
+    ))
+}
+
+// Whether the doubled copy delivers the datum.
+fn delivers<S: Steps>(world: &mut S, alloc: Global) -> Result<bool, Fail> {
+    advance(world, alloc, &Event::Deliver { id: 4 })?;
+    let done = advance(world, alloc, &Event::Turn { node: 1 })?;
+    Ok(matches!(&done, Done::Taken { effect, .. } if effect.deliver))
+}
+
+#[test]
+fn a_datum_finds_its_way(rt: HostRuntime) -> Result<(), Fail> {
+    let mut world: World = opening(rt.alloc(), 2)?;
+    begin(&mut world, rt.alloc())?;
+    assert_eq!(rt; due(&world), (Some((0, 1)), None));
+    find(&mut world, rt.alloc())?;
+    assert_eq!(rt; due(&world), (None, Some((0, 1))));
+    assert!(rt; doubles(&mut world, rt.alloc())?);
+    assert!(rt; delivers(&mut world, rt.alloc())?);
     Ok(())
 }
