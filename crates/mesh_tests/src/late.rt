@@ -1,5 +1,5 @@
-//! Worlds in which a copy comes late, and where their routes then lead. The events are listed in
-//! functions over any world that they are lent, so that no way out of the world's owner has them.
+//! Worlds in which a copy comes late, and where their routes then lead. The world's owner only makes
+//! it and lends it, since each way out of the owner ends it.
 use crate::steps::{advance_all, opening};
 use mesh_base::Event;
 use mesh_world::{End, Steps, World};

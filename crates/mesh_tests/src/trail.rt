@@ -1,10 +1,11 @@
-//! A trail of three nodes in a row. The events are listed in functions over any world that they are
-//! lent, so that no way out of the trail's owner has them.
+//! A trail of three nodes in a row. Its owner only makes it and lends it, since each way out of the
+//! owner ends it.
 use crate::steps::{advance_all, opening};
 use mesh_base::Event;
 use mesh_trail::Trail;
 use mesh_world::Steps;
 use std::alloc::Global;
+use std::process::Abort;
 use std::test::Fail;
 
 fn walk_of(trail: &Trail, node: usize, dest: usize) -> &[usize] {
@@ -50,15 +51,19 @@ fn answer<S: Steps>(world: &mut S, alloc: Global) -> Result<(), Fail> {
     advance_all(world, alloc, &answered)
 }
 
+fn find(rt: &impl Abort, trail: &mut Trail, alloc: Global) -> Result<(), Fail> {
+    ask(trail, alloc)?;
+    assert_eq!(rt; walk_of(trail, 1, 0), [0, 1].as_slice());
+    assert_eq!(rt; walk_of(trail, 0, 2), [].as_slice());
+    answer(trail, alloc)?;
+    assert_eq!(rt; walk_of(trail, 2, 0), [0, 1, 2].as_slice());
+    assert_eq!(rt; walk_of(trail, 0, 2), [2, 1, 0].as_slice());
+    assert_eq!(rt; walk_of(trail, 0, 1), [1, 0].as_slice());
+    Ok(())
+}
+
 #[test]
 fn walks_lead_from_the_destination_to_the_node(rt: HostRuntime) -> Result<(), Fail> {
     let mut trail: Trail = opening(rt.alloc(), 3)?;
-    ask(&mut trail, rt.alloc())?;
-    assert_eq!(rt; walk_of(&trail, 1, 0), [0, 1].as_slice());
-    assert_eq!(rt; walk_of(&trail, 0, 2), [].as_slice());
-    answer(&mut trail, rt.alloc())?;
-    assert_eq!(rt; walk_of(&trail, 2, 0), [0, 1, 2].as_slice());
-    assert_eq!(rt; walk_of(&trail, 0, 2), [2, 1, 0].as_slice());
-    assert_eq!(rt; walk_of(&trail, 0, 1), [1, 0].as_slice());
-    Ok(())
+    find(&rt, &mut trail, rt.alloc())
 }

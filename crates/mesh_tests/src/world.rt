@@ -1,10 +1,10 @@
-//! A world of two nodes: a route is found, and a datum arrives. What is done with the world stands
-//! in functions over any world that they are lent: what its calls promise would be gone through at
-//! each way out of a function that owns one.
+//! A world of two nodes: a route is found, and a datum arrives. The world's owner only makes it and
+//! lends it, since each way out of the owner ends it.
 use crate::steps::{advance, advance_all, opening};
 use mesh_base::{Done, Event};
 use mesh_world::{Steps, World};
 use std::alloc::Global;
+use std::process::Abort;
 use std::test::Fail;
 
 // The least ask and the least send that are due.
@@ -60,14 +60,18 @@ fn delivers<S: Steps>(world: &mut S, alloc: Global) -> Result<bool, Fail> {
     Ok(matches!(&done, Done::Taken { effect, .. } if effect.deliver))
 }
 
+fn send_one(rt: &impl Abort, world: &mut World, alloc: Global) -> Result<(), Fail> {
+    begin(world, alloc)?;
+    assert_eq!(rt; due(world), (Some((0, 1)), None));
+    find(world, alloc)?;
+    assert_eq!(rt; due(world), (None, Some((0, 1))));
+    assert!(rt; doubles(world, alloc)?);
+    assert!(rt; delivers(world, alloc)?);
+    Ok(())
+}
+
 #[test]
 fn a_datum_finds_its_way(rt: HostRuntime) -> Result<(), Fail> {
     let mut world: World = opening(rt.alloc(), 2)?;
-    begin(&mut world, rt.alloc())?;
-    assert_eq!(rt; due(&world), (Some((0, 1)), None));
-    find(&mut world, rt.alloc())?;
-    assert_eq!(rt; due(&world), (None, Some((0, 1))));
-    assert!(rt; doubles(&mut world, rt.alloc())?);
-    assert!(rt; delivers(&mut world, rt.alloc())?);
-    Ok(())
+    send_one(&rt, &mut world, rt.alloc())
 }
