@@ -5,6 +5,7 @@ use mesh_io::{MemSink, MemSource};
 use mesh_load::StateError;
 use mesh_run::Status;
 use mesh_world::Part;
+use std::alloc::Global;
 use std::test::Fail;
 
 // Three nodes in a row, and a route of two hops from the first to the last.
@@ -57,6 +58,17 @@ const ASKED: &str =
 const TAKEN: &str =
     "turn 10.0.0.3\n  took rreq 10.0.0.1\n  sent all 01080001000000010a000002000000000a00000100000002\n  copy 3 10.0.0.1\ndone events 9 idle 1 given 1 delivered 0 waiting 1 queued 0 flying 0 lost 0\n";
 
+// The call. It stands alone, since what it promises would be gone through at each way out of a
+// function that owns what it is lent.
+fn state_from(
+    alloc: Global,
+    words: &[&str],
+    input: &mut MemSource,
+    out: &mut MemSink,
+) -> StateStatus {
+    state(alloc, words, input, out)
+}
+
 // What a call with one word writes, and what it answers, of an input that is read 7 bytes at a time
 // and a text that is written 50 bytes at a time. The reads and writes of these numbers fail.
 fn answer(
@@ -69,7 +81,7 @@ fn answer(
     let bytes = Bytes::copy_of(rt.alloc(), input)?;
     let mut input = MemSource::new(rt.alloc(), bytes, 7, reads)?;
     let mut out = MemSink::new(rt.alloc(), 1000, 50, writes)?;
-    let status = state(rt.alloc(), &[word], &mut input, &mut out);
+    let status = state_from(rt.alloc(), &[word], &mut input, &mut out);
     Ok((status, Vec::from_slice(rt.alloc(), out.held())?))
 }
 
