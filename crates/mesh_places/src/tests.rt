@@ -2,7 +2,14 @@ use crate::top::places;
 use mesh_base::Bytes;
 use mesh_io::{MemSink, MemSource};
 use mesh_run::Status;
+use std::alloc::Global;
 use std::test::Fail;
+
+// The call. It stands alone, since what it promises would be gone through at each way out of a
+// function that owns what it is lent.
+fn places_from(alloc: Global, words: &[&str], input: &mut MemSource, out: &mut MemSink) -> Status {
+    places(alloc, words, input, out)
+}
 
 // Runs a schedule, read 7 bytes at a time and written 5 bytes at a time, and compares its text.
 fn is_told(
@@ -15,7 +22,7 @@ fn is_told(
     let bytes = Bytes::copy_of(rt.alloc(), schedule.as_bytes())?;
     let mut input = MemSource::new(rt.alloc(), bytes, 7, &[])?;
     let mut out = MemSink::new(rt.alloc(), 1000, 5, &[])?;
-    let answer = places(rt.alloc(), words, &mut input, &mut out);
+    let answer = places_from(rt.alloc(), words, &mut input, &mut out);
     Ok(answer == status && out.held() == text.as_bytes())
 }
 
