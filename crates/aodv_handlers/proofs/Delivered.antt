@@ -16,7 +16,7 @@ use Rattle.aodv_entry.specs.declared.entry.Entry.{Entry}
 use Rattle.aodv_entry.specs.Quality.{is_val}
 use Rattle.aodv_model.specs.Tables.{Table, Dests, in_vD, nhop, update, accepted_unreachable}
 use Rattle.aodv_model.specs.Cores.{Core, Body, Store, Pkt, Rerr, bodies_in, drop}
-use Rattle.aodv_model.specs.Handlers.{Nothing, One, Many, All, casting, is_error, delivering, unicast, data_error, on_pkt, is_empty, send, first_body, retract, on_rerr, after_hearing, neighbour_entry, error_cast}
+use Rattle.aodv_model.specs.Handlers.{Nothing, Many, All, is_error, unicast, data_error, on_pkt, is_empty, send, first_body, retract, on_rerr, after_hearing, neighbour_entry}
 use Rattle.aodv_model.specs.Fullness.{send_full}
 use Rattle.aodv_model.specs.Soundness.{IsSoundCore, IsSoundTable, AreDestsBelow}
 use Rattle.aodv_model.proofs.Changes.{Raises, accepted_raises}
@@ -28,7 +28,7 @@ use Rattle.aodv_meaning.specs.Meaning.{dests_in, strange_pair}
 use Rattle.aodv_meaning.specs.Sent.{IsSent, IsPacket, pairs_of, addr}
 use Rattle.aodv_meaning.specs.Effects.{cast_of}
 use Rattle.aodv_handlers.specs.Made.{IsMade, number_full, only_cast}
-use Rattle.aodv_handlers.proofs.Unicasts.{plain_free, no_entries, sent_same}
+use Rattle.aodv_handlers.proofs.Unicasts.{no_entries, sent_same}
 use Rattle.aodv_handlers.proofs.Ready.{retract_sound}
 use Rattle.aodv_handlers.proofs.Requests.{made_at}
 use Rattle.aodv_handlers.proofs.Stated.{stated_below}
@@ -56,16 +56,16 @@ error_packet mesh core d e a out is both at w s =
 
 -- ---- a data packet
 
-pub data_here : (mesh : Nodes) (core : Core) (range : NodeIds) (b : Body) (d o : ℕ) (out : List ℕ) → d ≡ core.ip → out ≡ [] → IsMade mesh (number_full (on_pkt core range b d o)) (on_pkt core range b d o) (record { deliver = true; lost = false; broken = None; cast = casts.Nothing }) core out
+pub data_here : (mesh : Nodes) (core : Core) (range : NodeIds) (b : Body) (d o : ℕ) (out : List ℕ) → d ≡ core.ip → out ≡ [] → IsMade mesh (number_full core.rt ((on_pkt core range b d o).effect).broken) (on_pkt core range b d o) (record { deliver = true; lost = false; broken = None; cast = casts.Nothing }) core out
 unfolding on_pkt
-data_here mesh core range b d o out here is = rw (eq-eqb d core.ip here) (record { free = plain_free core delivering; did = refl; core = refl; packet = is })
+data_here mesh core range b d o out here is = rw (eq-eqb d core.ip here) (record { free = refl; did = refl; core = refl; packet = is })
 
 pub data_lost : (mesh : Nodes) (core : Core) (range : NodeIds) (b : Body) (d o : ℕ) (c : cast.Cast) (out : List ℕ) → d ≢ core.ip → in_vD core.rt d ≡ false → c ≡ cast_of (data_error core d) → IsPacket mesh out (data_error core d)
-    → IsMade mesh (number_full (on_pkt core range b d o)) (on_pkt core range b d o) (record { deliver = false; lost = true; broken = None; cast = c }) core out
+    → IsMade mesh (number_full core.rt ((on_pkt core range b d o).effect).broken) (on_pkt core range b d o) (record { deliver = false; lost = true; broken = None; cast = c }) core out
 unfolding on_pkt
 data_lost mesh core range b d o c out other none is packet =
     rw (ne_eqb d core.ip other, none) (record {
-      free = plain_free core (casting (data_error core d));
+      free = refl;
       did = λ i. record { deliver = false; lost = true; broken = None; cast = is i };
       core = refl;
       packet = packet;
@@ -80,7 +80,7 @@ stored_made mesh core range d y body store effect out near y_is body_is store_is
     let m = Pkt (first_body (bodies_in (maps.get core.store d))) d core.ip in
     let here : sets.contains range (nhop core.rt d) ≡ true = ap (sets.contains range) (sym y_is) ∙ near in
     rw here (record {
-      free = plain_free core (casting (One (nhop core.rt d) m));
+      free = refl;
       did = effect_is ∙ ap (λ (x : ℕ). only_cast (casts.One x)) y_is;
       core = λ i. record core { store = store_is i };
       packet = subst (λ (b : Body). IsSent mesh out (Pkt b d core.ip)) body_is sent;
@@ -90,12 +90,12 @@ stored_made mesh core range d y body store effect out near y_is body_is store_is
 
 pub error_made : (mesh : Nodes) (core new : Core) (from : ℕ) (dests accepted : Dests) (rt1 : Table) (c : cast.Cast) (effect : code.Effect) (out : List ℕ) → rt1 ≡ update core.rt from (neighbour_entry from) → accepted ≡ accepted_unreachable rt1 from dests
     → new ≡ (retract (record core { rt = rt1 }) accepted).core → c ≡ cast_of (retract (record core { rt = rt1 }) accepted).effect.cast → IsPacket mesh out (retract (record core { rt = rt1 }) accepted).effect.cast → effect ≡ only_cast c
-    → IsMade mesh (number_full (on_rerr core from dests)) (on_rerr core from dests) effect new out
+    → IsMade mesh (number_full core.rt ((on_rerr core from dests).effect).broken) (on_rerr core from dests) effect new out
 unfolding on_rerr after_hearing retract
 error_made mesh core new from dests accepted rt1 c effect out rt_is accepted_is core_is cast_is packet effect_is =
     let same : retract (record core { rt = rt1 }) accepted ≡ on_rerr core from dests = ap (retract (record core { rt = rt1 })) accepted_is ∙ (λ i. retract (record core { rt = rt_is i }) (accepted_unreachable (rt_is i) from dests)) in
-    made_at mesh (retract (record core { rt = rt1 }) accepted) (on_rerr core from dests) effect new out same (record {
-      free = plain_free (record core { rt = rt1 }) (casting (error_cast core.variant rt1 accepted));
+    made_at mesh core.rt core.rt (retract (record core { rt = rt1 }) accepted) (on_rerr core from dests) effect new out (λ broken. refl) same (record {
+      free = refl;
       did = effect_is ∙ ap only_cast cast_is;
       core = core_is;
       packet = packet;

@@ -21,7 +21,6 @@ use Rattle.aodv_handlers.specs.Made.{IsMade, IsFull, number_full}
 use Rattle.aodv_handlers.specs.declared.messages.Reply.{Reply}
 use Rattle.aodv_handlers.specs.Shown.{reply_of}
 use Rattle.aodv_handlers.specs.Parts.{end_of_rrep, pass_on, passing}
-use Rattle.aodv_handlers.proofs.Unicasts.{plain_free}
 
 -- ---- a node that passes the reply on
 
@@ -91,9 +90,9 @@ after_is : (c : Core) (range : NodeIds) (from : ℕ) (m : RouteReply)
 unfolding on_rrep after_reply after_hearing
 after_is c range from m = refl
 
-pub record Ends (c : Core) (range : NodeIds) (from : ℕ) (m : RouteReply) (did : Reaction) : Type 0 where
+pub record Ends (c : Core) (range : NodeIds) (from : ℕ) (m : RouteReply) (rt2 : Table) (did : Reaction) : Type 0 where
   pub turned : turn c range (item from m) ≡ did
-  pub full : turn_full c range (item from m) ≡ number_full did
+  pub full : turn_full c range (item from m) ≡ number_full rt2 (did.effect).broken
 
 -- what was changed by an update was not stale
 fresh_where_changed : (rt new : Table) (changed stale : Bool) → (changed ≡ false) ↔ (new ≡ rt) → (stale ≡ true) ↔ (new ≡ rt) → not changed ≡ stale
@@ -109,7 +108,8 @@ fresh_where_changed rt new false false as_told as_is = sym (as_is.1 (as_told.0 r
 pub ends : (c : Core) (range : NodeIds) (from : ℕ) (m : RouteReply) (rt1 rt2 : Table) (changed : Bool) (did : Reaction) → (m.hops == 255) ≡ false → rt1 ≡ update c.rt from (neighbour_entry from) → rt2 ≡ update rt1 m.dip (route_entry m.dsn m.hops from)
     → (changed ≡ false) ↔ (rt2 ≡ rt1)
     → end_of_rrep (record c { rt = rt2 }) (not changed) range m ≡ did
-    → Ends c range from m did
+    → Ends c range from m rt2 did
+unfolding after_reply after_hearing
 ends c range from m rt1 rt2 changed did hops one_is two_is as_told chosen =
     let r = route_entry m.dsn m.hops from in
     let whole : rt2 ≡ update (update c.rt from (neighbour_entry from)) m.dip r = two_is ∙ ap (λ (t : Table). update t m.dip r) one_is in
@@ -119,28 +119,28 @@ ends c range from m rt1 rt2 changed did hops one_is two_is as_told chosen =
     after_is c range from m ∙ (λ i. after c range from m (sym one_is i) (sym whole i))
     ∙ ap (λ (b : Bool). end_of_rrep (record c { rt = rt2 }) b range m) (sym stale)
     ∙ chosen in
-    record { turned = same; full = rw hops (ap number_full same) }
+    record { turned = same; full = rw hops (λ i. number_full (sym whole i) ((same i).effect).broken) }
 
-pub ended_made : (mesh : Nodes) (c : Core) (range : NodeIds) (from : ℕ) (m : RouteReply) (rt2 : Table) (effect : code.Effect) (out : List ℕ) → Ends c range from m (only (record c { rt = rt2 })) → effect ≡ effect_of quiet → out ≡ []
+pub ended_made : (mesh : Nodes) (c : Core) (range : NodeIds) (from : ℕ) (m : RouteReply) (rt2 : Table) (effect : code.Effect) (out : List ℕ) → Ends c range from m rt2 (only (record c { rt = rt2 })) → effect ≡ effect_of quiet → out ≡ []
     → IsMade mesh (turn_full c range (item from m)) (turn c range (item from m)) effect (record c { rt = rt2 }) out
 ended_made mesh c range from m rt2 effect out end effect_is out_is = record {
-  free = end.full ∙ plain_free (record c { rt = rt2 }) quiet;
+  free = end.full;
   did = effect_is ∙ (λ i. effect_of (sym end.turned i).effect);
   core = λ i. (sym end.turned i).core;
   packet = subst (λ (d : Reaction). IsPacket mesh out d.effect.cast) (sym end.turned) out_is;
 }
 
-pub passed_made : (mesh : Nodes) (c new : Core) (range : NodeIds) (from : ℕ) (m : RouteReply) (did : Reaction) (effect : code.Effect) (out : List ℕ) → Ends c range from m did
-    → IsMade mesh (number_full did) did effect new out → IsMade mesh (turn_full c range (item from m)) (turn c range (item from m)) effect new out
-passed_made mesh c new range from m did effect out end made = record {
+pub passed_made : (mesh : Nodes) (c new : Core) (range : NodeIds) (from : ℕ) (m : RouteReply) (rt2 : Table) (did : Reaction) (effect : code.Effect) (out : List ℕ) → Ends c range from m rt2 did
+    → IsMade mesh (number_full rt2 (did.effect).broken) did effect new out → IsMade mesh (turn_full c range (item from m)) (turn c range (item from m)) effect new out
+passed_made mesh c new range from m rt2 did effect out end made = record {
   free = end.full ∙ made.free;
   did = made.did ∙ (λ i. effect_of (sym end.turned i).effect);
   core = made.core ∙ (λ i. (sym end.turned i).core);
   packet = subst (λ (d : Reaction). IsPacket mesh out d.effect.cast) (sym end.turned) made.packet;
 }
 
-pub passed_refused : (c new : Core) (range : NodeIds) (from : ℕ) (m : RouteReply) (rt2 rt4 : Table) (did : Reaction) (field : Counter) → Ends c range from m did
-    → IsFull (number_full did) (record c { rt = rt2 }) field new → rt4 ≡ c.rt
+pub passed_refused : (c new : Core) (range : NodeIds) (from : ℕ) (m : RouteReply) (rt2 rt4 : Table) (did : Reaction) (field : Counter) → Ends c range from m rt2 did
+    → IsFull (number_full rt2 (did.effect).broken) (record c { rt = rt2 }) field new → rt4 ≡ c.rt
     → IsFull (turn_full c range (item from m)) c field (record new { rt = rt4 })
 passed_refused c new range from m rt2 rt4 did field end refused back = record {
   overfull = end.full ∙ refused.overfull;

@@ -1,18 +1,19 @@
 -- A turn on a route request.
-use Rattle.std.proofs.Common.{◌≡◌, ◌≢◌, ℕ, ◌<◌, ◌≤◌, ◌+◌, Bool, true, false, not, cond, ◌&&◌, Some, None, List, [], refl, sym, ap, subst, ◌∙◌, max}
-use Rattle.std.specs.Prelude.{◌==◌}
+use Rattle.std.proofs.Common.{◌≡◌, ◌≢◌, ℕ, ◌<◌, ◌≤◌, Bool, true, false, not, cond, ◌&&◌, Option, Some, None, List, [], refl, sym, ap, subst, ◌∙◌}
+use Rattle.std.specs.Prelude.{◌==◌, if◌then◌else◌}
 use Rattle.std.specs.FinMap as maps
 use Rattle.std.specs.FinSet as sets
 use Rattle.mesh_base.specs.declared.events.Effect as code
 use Rattle.mesh_base.specs.declared.events.Counter.{Counter}
+use Rattle.mesh_base.specs.declared.events.Counter.TheVariants.{Number}
 use Rattle.mesh_base.specs.Members.{NodeIds}
 use Rattle.mesh_base.specs.Meshes.{Nodes}
 use Rattle.aodv_entry.specs.declared.entry.Entry.{Entry}
 use Rattle.aodv_model.specs.Pairs.{Pairs}
 use Rattle.aodv_model.specs.Tables.{Table, update, add_pre, nhop, sqn, dhops, next_in, hops_in, number_in}
 use Rattle.aodv_model.specs.Cores.{Core, RouteRequest, Message, Rreq, Rrep, Item, Heard, has_seen}
-use Rattle.aodv_model.specs.Handlers.{Reaction, quiet, only, one, unicast, link_broken, retract, neighbour_entry, route_entry, after_hearing, after_request, reply_for_self, join_answer_precursors, reply_from_table, forward_request, can_answer, on_new_rreq, on_rreq, turn, key_of, casting, All}
-use Rattle.aodv_model.specs.Fullness.{turn_full}
+use Rattle.aodv_model.specs.Handlers.{Reaction, quiet, only, one, unicast, link_broken, retract, neighbour_entry, route_entry, after_hearing, after_request, reply_for_self, join_answer_precursors, reply_from_table, forward_request, can_answer, on_new_rreq, on_rreq, turn, key_of}
+use Rattle.aodv_model.specs.Fullness.{is_number_full, turn_full}
 use Rattle.aodv_model.specs.Soundness.{IsSoundTable}
 use Rattle.aodv_model.proofs.PlacedTables.{update_has}
 use Rattle.aodv_model.proofs.Readings.{pre_alike, join_answer_alike}
@@ -20,14 +21,26 @@ use Rattle.aodv_model.proofs.SoundTables.{neighbour_table, route_table}
 use Rattle.aodv_meaning.specs.Sent.{IsPacket}
 use Rattle.aodv_meaning.specs.Effects.{effect_of}
 use Rattle.aodv_handlers.specs.Made.{IsMade, IsFull, number_full}
-use Rattle.aodv_handlers.proofs.Unicasts.{plain_free}
 
--- the same of an equal reaction
-pub made_at : (mesh : Nodes) (did did' : Reaction) (effect : code.Effect) (new : Core) (out : List ℕ) → did ≡ did' → IsMade mesh (number_full did) did effect new out → IsMade mesh (number_full did') did' effect new out
-made_at mesh did did' effect new out same made = subst (λ (d : Reaction). IsMade mesh (number_full d) d effect new out) same made
+-- two tables are full by the same links
+abbrev pub AreFullAlike : Table → Table → Type 0
+AreFullAlike rt rt' = (broken : Option ℕ) → is_number_full rt broken ≡ is_number_full rt' broken
 
-pub refused_at : (did did' : Reaction) (old old' : Core) (field : Counter) (new new' : Core) → did ≡ did' → new' ≡ old' → IsFull (number_full did) old field new → IsFull (number_full did') old' field new'
-refused_at did did' old old' field new new' same is refused = record { overfull = ap number_full (sym same) ∙ refused.overfull; same = is }
+full_alike : (rt rt' : Table) (did did' : Reaction) → AreFullAlike rt rt' → did ≡ did' → number_full rt' (did'.effect).broken ≡ number_full rt (did.effect).broken
+full_alike rt rt' did did' alike same =
+    ap (λ (d : Reaction). number_full rt' (d.effect).broken) (sym same) ∙ ap (λ (b : Bool). if b then Some Number else None) (sym (alike (did.effect).broken))
+
+-- the same of an equal reaction, by a table that is full by the same links
+pub made_at : (mesh : Nodes) (rt rt' : Table) (did did' : Reaction) (effect : code.Effect) (new : Core) (out : List ℕ) → AreFullAlike rt rt' → did ≡ did' → IsMade mesh (number_full rt (did.effect).broken) did effect new out → IsMade mesh (number_full rt' (did'.effect).broken) did' effect new out
+made_at mesh rt rt' did did' effect new out alike same made = record {
+  free = full_alike rt rt' did did' alike same ∙ made.free;
+  did = made.did ∙ ap (λ (d : Reaction). effect_of d.effect) same;
+  core = made.core ∙ ap (λ (d : Reaction). d.core) same;
+  packet = subst (λ (d : Reaction). IsPacket mesh out (d.effect).cast) same made.packet;
+}
+
+pub refused_at : (rt rt' : Table) (did did' : Reaction) (old old' : Core) (field : Counter) (new new' : Core) → AreFullAlike rt rt' → did ≡ did' → new' ≡ old' → IsFull (number_full rt (did.effect).broken) old field new → IsFull (number_full rt' (did'.effect).broken) old' field new'
+refused_at rt rt' did did' old old' field new new' alike same is refused = record { overfull = full_alike rt rt' did did' alike same ∙ refused.overfull; same = is }
 
 -- ---- a node that answers from its table
 
@@ -49,10 +62,10 @@ answer_is core range from m route rt2 towards is rt_is towards_is =
 
 -- ---- a node that passes the request on
 
-pub forward_made : (mesh : Nodes) (core : Core) (m : RouteRequest) (effect : code.Effect) (out : List ℕ) → effect ≡ effect_of (forward_request core m).effect → IsPacket mesh out (forward_request core m).effect.cast → IsMade mesh (number_full (forward_request core m)) (forward_request core m) effect core out
+pub forward_made : (mesh : Nodes) (core : Core) (m : RouteRequest) (effect : code.Effect) (out : List ℕ) → effect ≡ effect_of (forward_request core m).effect → IsPacket mesh out (forward_request core m).effect.cast → IsMade mesh (number_full core.rt ((forward_request core m).effect).broken) (forward_request core m) effect core out
 unfolding forward_request
 forward_made mesh core m effect out is packet = record {
-  free = plain_free core (casting (All (Rreq (record m { hops = m.hops + 1; dsn = max (sqn core.rt m.dip) m.dsn }))));
+  free = refl;
   did = is;
   core = refl;
   packet = packet;
@@ -99,7 +112,7 @@ unfolding on_rreq after_hearing
 seen_made mesh c range from m key rt1 effect out key_is seen rt_is effect_is out_is =
     let known : has_seen c.seen (key_of c.variant m) ≡ true = ap (has_seen c.seen) key_is ∙ seen in
     let did : turn c range (item from m) ≡ only (after_hearing c from) = rw known refl in
-    let none : turn_full c range (item from m) ≡ None = rw (known, and_not (m.hops == 255)) (plain_free (after_hearing c from) quiet) in
+    let none : turn_full c range (item from m) ≡ None = rw (known, and_not (m.hops == 255)) refl in
     record {
       free = none;
       did = rw did effect_is;
@@ -114,12 +127,12 @@ asked_table size ip rt rt2 from o n h lf apart lo one sound is =
     subst (IsSoundTable size ip) (sym is) (route_table size ip (update rt from (neighbour_entry from)) o n h from lo lf apart (update_has rt from (neighbour_entry from)) one first)
 
 -- what is done is what is done after the updates, with the request among those seen
-pub record Ends (c : Core) (range : NodeIds) (from : ℕ) (m : RouteRequest) (did' : Reaction) : Type 0 where
+pub record Ends (c : Core) (range : NodeIds) (from : ℕ) (m : RouteRequest) (rt2 : Table) (did' : Reaction) : Type 0 where
   pub turned : turn c range (item from m) ≡ with_seen (sets.insert c.seen (key_of c.variant m)) did'
-  pub full : turn_full c range (item from m) ≡ number_full did'
+  pub full : turn_full c range (item from m) ≡ number_full rt2 (did'.effect).broken
 
 pub ends : (c : Core) (range : NodeIds) (from : ℕ) (m : RouteRequest) (key : ℕ × ℕ) (rt2 : Table) → key_of c.variant m ≡ key → has_seen c.seen key ≡ false → (m.hops == 255) ≡ false → rt2 ≡ update (update c.rt from (neighbour_entry from)) m.oip (route_entry m.osn m.hops from)
-    → Ends c range from m (on_new_rreq (record c { rt = rt2 }) range from m)
+    → Ends c range from m rt2 (on_new_rreq (record c { rt = rt2 }) range from m)
 unfolding on_rreq after_request after_hearing
 ends c range from m key rt2 key_is unseen hops is =
     let unknown : has_seen c.seen (key_of c.variant m) ≡ false = ap (has_seen c.seen) key_is ∙ unseen in
@@ -127,12 +140,12 @@ ends c range from m key rt2 key_is unseen hops is =
     let core : after_request c from m ≡ record c { rt = rt2; seen = s } = λ i. record c { rt = sym is i; seen = s } in
     let did : turn c range (item from m) ≡ with_seen s (on_new_rreq (record c { rt = rt2 }) range from m) =
     rw unknown (ap (λ (a : Core). on_new_rreq a range from m) core ∙ new_seen (record c { rt = rt2 }) range from m s) in
-    record { turned = did; full = rw hops (ap number_full did) }
+    record { turned = did; full = rw hops (λ i. number_full (sym is i) ((did i).effect).broken) }
 
-pub new_made : (mesh : Nodes) (c new : Core) (range : NodeIds) (from : ℕ) (m : RouteRequest) (key : ℕ × ℕ) (did' : Reaction) (effect : code.Effect) (s : Pairs) (out : List ℕ)
-    → Ends c range from m did' → key_of c.variant m ≡ key → IsMade mesh (number_full did') did' effect new out → new.seen ≡ c.seen → s ≡ sets.insert new.seen key
+pub new_made : (mesh : Nodes) (c new : Core) (range : NodeIds) (from : ℕ) (m : RouteRequest) (key : ℕ × ℕ) (rt2 : Table) (did' : Reaction) (effect : code.Effect) (s : Pairs) (out : List ℕ)
+    → Ends c range from m rt2 did' → key_of c.variant m ≡ key → IsMade mesh (number_full rt2 (did'.effect).broken) did' effect new out → new.seen ≡ c.seen → s ≡ sets.insert new.seen key
     → IsMade mesh (turn_full c range (item from m)) (turn c range (item from m)) effect (record new { seen = s }) out
-new_made mesh c new range from m key did' effect s out end key_is made seen s_is =
+new_made mesh c new range from m key rt2 did' effect s out end key_is made seen s_is =
     let s_now : s ≡ sets.insert c.seen (key_of c.variant m) = s_is ∙ (λ i. sets.insert (seen i) (sym key_is i)) in
     record {
       free = end.full ∙ made.free;
@@ -142,7 +155,7 @@ new_made mesh c new range from m key did' effect s out end key_is made seen s_is
     }
 
 pub stop_made : (c new : Core) (range : NodeIds) (from : ℕ) (m : RouteRequest) (rt2 rt4 : Table) (did' : Reaction) (field : Counter)
-    → Ends c range from m did' → IsFull (number_full did') (record c { rt = rt2 }) field new → rt4 ≡ c.rt
+    → Ends c range from m rt2 did' → IsFull (number_full rt2 (did'.effect).broken) (record c { rt = rt2 }) field new → rt4 ≡ c.rt
     → IsFull (turn_full c range (item from m)) c field (record new { rt = rt4 })
 stop_made c new range from m rt2 rt4 did' field end refused back = record {
   overfull = end.full ∙ refused.overfull;

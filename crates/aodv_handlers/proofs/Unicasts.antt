@@ -1,7 +1,6 @@
 -- Links that break, and unicasts.
-use Rattle.std.proofs.Common.{◌≡◌, ℕ, ◌+◌, Bool, true, false, Some, None, List, [], ◌∷◌, map, length, refl, sym, ap, subst, ◌∙◌, arith}
+use Rattle.std.proofs.Common.{◌≡◌, ℕ, Bool, true, false, Some, None, List, [], ◌∷◌, length, refl, sym, ap, subst, ◌∙◌, arith}
 use Rattle.std.specs.Prelude.{if◌then◌else◌, ◌==◌}
-use Rattle.std.specs.List.{list_any}
 use Rattle.std.specs.FinMap as maps
 use Rattle.std.specs.FinSet as sets
 use Rattle.std.specs.Ordering.{nat_cmp}
@@ -13,10 +12,11 @@ use Rattle.mesh_base.specs.declared.events.Counter.TheVariants.{Number}
 use Rattle.mesh_base.specs.Members.{NodeIds}
 use Rattle.mesh_base.specs.Meshes.{Nodes, addr_at}
 use Rattle.aodv_entry.specs.Quality.{is_kno}
-use Rattle.aodv_model.specs.Tables.{Dests, unreachable_by}
+use Rattle.aodv_model.specs.Tables.{Table, Dests, unreachable_by}
 use Rattle.aodv_model.specs.Cores.{Core, Body, Message, Rreq, Rrep, Pkt, RouteReply, New}
-use Rattle.aodv_model.specs.Handlers.{One, Effect, plain, casting, unicast, link_broken, retract, on_new, delivering, quiet}
+use Rattle.aodv_model.specs.Handlers.{plain, unicast, link_broken, retract, on_new, delivering, quiet}
 use Rattle.aodv_model.specs.Fullness.{turn_full}
+use Rattle.aodv_model.proofs.FullNumbers.{raised_past}
 use Rattle.aodv_wire.specs.declared.message.Message.TheVariants as messages
 use Rattle.aodv_wire.specs.Spells.{Spells, written}
 use Rattle.aodv_meaning.specs.Meaning.{status_of}
@@ -32,13 +32,17 @@ no_length (x ∷ xs) e = absurd (omega arith)
 pub no_entries : maps.entries (maps.empty {X = ℕ} {R = nat_cmp}) ≡ []
 no_entries = no_length _ (sym (maps.len-entries (maps.empty {X = ℕ} {R = nat_cmp})) ∙ maps.len-empty nat_cmp ℕ)
 
--- no link broke, so no number was raised
-pub plain_free : (core : Core) (effect : Effect) → number_full (plain core effect) ≡ None
-plain_free core effect = ap (λ (es : List (ℕ × ℕ)). if list_any (λ n. n == 4294967295 + 1) (map (λ e. e.1) es) then Some Number else None) no_entries
+-- the link to y can break
+past_free : (rt : Table) (y : ℕ) → is_past (unreachable_by rt y) ≡ false → number_full rt (Some y) ≡ None
+past_free rt y past = rw (raised_past rt y ∙ past) refl
+
+-- the link to y can't break
+pub past_full : (rt : Table) (y : ℕ) → is_past (unreachable_by rt y) ≡ true → number_full rt (Some y) ≡ Some Number
+past_full rt y past = rw (raised_past rt y ∙ past) refl
 
 pub break_made : (mesh : Nodes) (core new : Core) (y : ℕ) (dests : Dests) (c : cast.Cast) (out : List ℕ) → is_past (unreachable_by core.rt y) ≡ false → dests ≡ unreachable_by core.rt y
     → new ≡ (retract core dests).core → c ≡ cast_of (retract core dests).effect.cast → IsPacket mesh out (retract core dests).effect.cast
-    → IsMade mesh (number_full (link_broken core y)) (link_broken core y) (only_cast c) new out
+    → IsMade mesh (number_full core.rt (Some y)) (link_broken core y) (only_cast c) new out
 unfolding link_broken retract
 break_made mesh core new y dests c out past is core_is cast_is packet =
     let all : (d : Dests) → d ≡ dests → IsMade mesh None (retract core d) (only_cast c) new out = λ d same. record {
@@ -48,12 +52,12 @@ break_made mesh core new y dests c out past is core_is cast_is packet =
       packet = subst (λ (d : Dests). IsPacket mesh out (retract core d).effect.cast) (sym same) packet;
     } in
     let here = all (unreachable_by core.rt y) (sym is) in
-    record { free = rw past refl; did = here.did; core = here.core; packet = here.packet }
+    record { free = past_free core.rt y past; did = here.did; core = here.core; packet = here.packet }
 
 pub near_made : (mesh : Nodes) (core : Core) (m : Message) (y : ℕ) (range : NodeIds) (effect : code.Effect) (out : List ℕ) → sets.contains range y ≡ true → effect ≡ only_cast (to_one y) → IsSent mesh out m
-    → IsMade mesh (number_full (unicast core m y range)) (unicast core m y range) effect core out
+    → IsMade mesh (number_full core.rt ((unicast core m y range).effect).broken) (unicast core m y range) effect core out
 unfolding unicast
-near_made mesh core m y range effect out near is sent = rw near (record { free = plain_free core (casting (One y m)); did = is; core = refl; packet = sent })
+near_made mesh core m y range effect out near is sent = rw near (record { free = refl; did = is; core = refl; packet = sent })
 
 pub same_address : (a : Addr) (n : ℕ) → a.0 ≡ n → a ≡ record { 0 = n }
 same_address a n e = λ i. record { 0 = e i }
@@ -86,11 +90,11 @@ sent_request mesh out hops id dip dsn dsn' oip osn known to from d o n w s =
     (messages.Rreq (record { hops = hops; id = id; dip = to; dsn = dsn'; known = known; oip = from; osn = osn }))
     (λ i. messages.Rreq (record { hops = hops; id = id; dip = record { 0 = d i }; dsn = n i; known = status_back known i; oip = record { 0 = o i }; osn = osn })) w s
 
-plain_either : (b : Bool) (c c' : Core) (e e' : Effect) → number_full (if b then plain c e else plain c' e') ≡ None
-plain_either true c c' e e' = plain_free c e
-plain_either false c c' e e' = plain_free c' e'
+unbroken : (b : Bool) (rt : Table) (c c' : Core) → number_full rt ((if b then plain c delivering else plain c' quiet).effect).broken ≡ None
+unbroken true rt c c' = refl
+unbroken false rt c c' = refl
 
--- a datum given to a node raises nothing
+-- a datum given to a node breaks no link
 pub new_free : (core : Core) (range : NodeIds) (body : Body) (d : ℕ) → turn_full core range (New body d) ≡ None
 unfolding on_new
-new_free core range body d = plain_either (d == core.ip) core _ delivering quiet
+new_free core range body d = unbroken (d == core.ip) core.rt core _

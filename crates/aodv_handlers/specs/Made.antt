@@ -8,7 +8,7 @@ use Rattle.mesh_base.specs.Meshes.{Nodes}
 use Rattle.mesh_base.specs.Members.{NodeIds}
 use Rattle.aodv_model.specs.Tables.{Table}
 use Rattle.aodv_model.specs.Cores.{Core, Item}
-use Rattle.aodv_model.specs.Handlers.{Reaction, turn, send, ask}
+use Rattle.aodv_model.specs.Handlers.{Reaction, link_broken, turn, send, ask}
 use Rattle.aodv_model.specs.Fullness.{is_number_full, turn_full, send_full, ask_full}
 use Rattle.aodv_meaning.specs.Sent.{IsPacket}
 use Rattle.aodv_meaning.specs.Effects.{effect_of}
@@ -46,9 +46,10 @@ abbrev pub as_effect : Result cast.Cast Counter → Result effects.Effect Counte
 as_effect (Ok c) = Ok (only_cast c)
 as_effect (Err field) = Err field
 
--- the field that the break of a link would overfill
-abbrev pub number_full : Reaction → Option Counter
-number_full reaction = if is_number_full reaction then Some Number else None
+-- the field that the break of a link would overfill, where this table is as the break finds it, and
+-- this link broke, if one did
+abbrev pub number_full : Table → Option ℕ → Option Counter
+number_full rt broken = if is_number_full rt broken then Some Number else None
 
 -- ---- the same of cores of the code: `entries` says what the entries of their tables are
 
@@ -57,7 +58,16 @@ abbrev pub Reacts : {T : Type 0} → (T → Table) → Nodes → (Core → React
     → code.Core T → Result effects.Effect Counter → code.Core T → List ℕ → Type 0
 Reacts entries mesh reaction old answer new out =
     let core = core_of entries old in
-    IsReaction mesh (number_full (reaction core)) core (reaction core) answer
+    let did = reaction core in
+    IsReaction mesh (number_full core.rt (did.effect).broken) core did answer
+    (core_of entries new) out
+
+-- the core `old` breaks its link to y, and answers with the cast alone
+abbrev pub Breaks : {T : Type 0} → (T → Table) → Nodes → ℕ
+    → code.Core T → Result cast.Cast Counter → code.Core T → List ℕ → Type 0
+Breaks entries mesh y old answer new out =
+    let core = core_of entries old in
+    IsReaction mesh (number_full core.rt (Some y)) core (link_broken core y) (as_effect answer)
     (core_of entries new) out
 
 -- the core `old` takes its turn on this item

@@ -3,12 +3,12 @@ ghost use Rattle.std.specs.Prelude.{◌≡◌, ◌<◌, ◌≤◌, ℕ, length};
 ghost use Rattle.std.specs.FinMap as maps;
 ghost use Rattle.aodv_model.specs.Tables.{precs};
 ghost use Rattle.aodv_model.specs.Cores.{Rerr};
-ghost use Rattle.aodv_model.specs.Handlers.{is_empty as no_node, is_error, precs_of, error_cast as the_error_cast, retract as retracted, link_broken as broken};
+ghost use Rattle.aodv_model.specs.Handlers.{is_empty as no_node, is_error, precs_of, error_cast as the_error_cast, retract as retracted};
 ghost use Rattle.aodv_model.specs.Soundness.{AreDestsBelow};
 ghost use Rattle.aodv_meaning.specs.Sent.{IsSent, IsPacket};
 ghost use Rattle.aodv_handlers.specs.Shown.{core_of, IsReady};
 ghost use Rattle.aodv_meaning.specs.Effects.{cast_of};
-ghost use Rattle.aodv_handlers.specs.Made.{as_effect, Reacts};
+ghost use Rattle.aodv_handlers.specs.Made.{Breaks};
 ghost use Rattle.aodv_handlers.specs.Parts.{tells, told};
 
 use crate::cores::Core;
@@ -153,8 +153,7 @@ pub fn link_broken<T: Table>(
     out: &mut Packet,
 ) -> Result<Cast, Counter>
     requires ready { IsReady T.nodes T.entries (length mesh.now) core.old }
-    ensures does { Reacts T.entries mesh.now (λ c. broken c next)
-        core.old (as_effect result) core.new out.new.items }
+    ensures does { Breaks T.entries mesh.now next core.old result core.new out.new.items }
     ensures ready { IsReady T.nodes T.entries (length mesh.now) core.new }
     ensures rooms { T.rooms core.new.table ≡ T.rooms core.old.table }
     ensures asked { core.new.asked ≡ core.old.asked }

@@ -1,6 +1,6 @@
 -- Each turn, send and request that isn't refused keeps every number within its field, and the ids of a node's own
 -- requests within its own number. g is the greatest number.
-use Rattle.std.proofs.Common.{◌≡◌, ◌≢◌, ℕ, ◌+◌, ◌≤◌, ◌⊎◌, Bool, true, false, cond, ◌||◌, not, ◌==◌, List, [], ◌∷◌, Some, None, Option, refl, ap, sym, ◌∙◌, subst, arith, inl, inr}
+use Rattle.std.proofs.Common.{◌≡◌, ◌≢◌, ℕ, ◌+◌, ◌≤◌, ◌⊎◌, Bool, true, false, cond, ◌&&◌, ◌||◌, not, ◌==◌, List, [], ◌∷◌, Some, None, Option, refl, ap, sym, ◌∙◌, subst, arith, inl, inr, eq-eqb}
 use Rattle.std.specs.Prelude.{⊤, option_map, if◌then◌else◌, max, is_some}
 use Rattle.std.specs.List.{list_any}
 use Rattle.std.specs.Ordering.{nat_cmp, eq_by_cmp, is_eq}
@@ -21,10 +21,10 @@ use Rattle.aodv_model.specs.Pairs.{Pairs, pair_cmp}
 use Rattle.aodv_model.specs.Tables.{Table, Dests, accepted_unreachable, add_pre, dhops, goes_by, in_iD, in_vD, invalidate, invalidated, joined, merged, nhop, number_in, precs, sqn, unreachable_by, update}
 use Rattle.aodv_model.specs.Cores.{Body, Core, Heard, Item, Message, New, Pkt, Rerr, RouteReply, RouteRequest, Rrep, Rreq, Seen, add, bodies_in, drop, greatest_beside, has_seen, last_request_id, next_request_id, opening}
 use Rattle.aodv_model.specs.Handlers.{All, Cast, Many, Nothing, One, Reaction, after_hearing, after_reply, after_request, ask, broken_by, can_answer, casting, is_stale, data_error, delivering, drop_if_sent, error_cast, first_body, forward_own_entry, forward_reply, forward_request, fresh_id, is_empty, is_error, join_answer_precursors, join_reply_precursors, key_of, link_broken, losing, losing_if_broken, neighbour_entry, on_new, on_new_rreq, on_pkt, on_rerr, on_rrep, on_rreq, one, only, plain, precs_of, reply_for_self, reply_from_table, reply_on, retract, route_entry, send, turn, unicast, with_precs}
-use Rattle.aodv_model.specs.Fullness.{ask_full, greatest, is_id_full}
+use Rattle.aodv_model.specs.Fullness.{ask_full, greatest, is_hop_full, is_id_full, is_number_full, learnt, send_full, turn_full}
 use Rattle.aodv_model.proofs.Changes.{after_by, mapped_each, update_each}
 use Rattle.aodv_model.proofs.Entries.{if_case}
-use Rattle.aodv_model.proofs.FullNumbers.{has_value}
+use Rattle.aodv_model.proofs.FullNumbers.{full_after_answer, full_after_reply, full_at_greatest, has_number, has_number_by, is_full_at, number_at}
 use Rattle.aodv_model.proofs.Lookups.{get-accepted, get-add_pre, get-invalidate, get-kept, get-unreachable_by}
 use Rattle.aodv_model.proofs.PairLaws.{pair_cmp_total, same_pair}
 use Rattle.aodv_model.proofs.PlacedTables.{kept_of}
@@ -70,12 +70,10 @@ pub record IsReactionWithin (g ip : ℕ) (reaction : Reaction) : Type 0 where
   pub core : IsCoreWithin g ip reaction.core
   pub cast : IsCastWithin g (reaction.effect).cast
 
--- no break has raised a number past g
-abbrev pub NoneRaised : ℕ → Reaction → Type 0
-NoneRaised g reaction = list_any (λ n. n == g + 1) (maps.values reaction.raised) ≡ false
-
-abbrev pub Keeps : ℕ → ℕ → Reaction → Type 0
-Keeps g ip reaction = NoneRaised g reaction → IsReactionWithin g ip reaction
+-- that is what comes of it, unless a link broke by which this table has a valid entry with the
+-- number g
+abbrev pub Keeps : ℕ → ℕ → Table → Reaction → Type 0
+Keeps g ip rt reaction = is_full_at g rt (reaction.effect).broken ≡ false → IsReactionWithin g ip reaction
 
 -- a request of node ip's own that comes back to it is one that it knows
 abbrev pub KnowsOwn : ℕ → Core → Item → Type 0
@@ -139,14 +137,17 @@ invalidated_within : (g : ℕ) (e : Entry) (o : Option ℕ) → ((n : ℕ) → o
 invalidated_within g e None within l = l
 invalidated_within g e (Some n) within l = within n refl
 
-raised_of : (o : Option Entry) (b : Bool) (n : ℕ) → option_map (λ (e : Entry). inc e.dsn) (if b then o else None) ≡ Some n → (e : Entry) × (o ≡ Some e) × (inc e.dsn ≡ n)
-raised_of None true n is = absurd (none-some n is)
-raised_of None false n is = absurd (none-some n is)
-raised_of (Some e) true n is = (e, refl, same_Some _ n is)
-raised_of (Some e) false n is = absurd (none-some n is)
-
-inc_within : (g k n : ℕ) → inc k ≡ n → k ≤ g → n ≢ g + 1 → n ≤ g
+inc_within : (g k n : ℕ) → inc k ≡ n → k ≤ g → k ≢ g → n ≤ g
 inc_within g k n e l apart = grind (arith, nat_tests)
+
+-- the break of the link to y raises no number past g, unless one is g
+raised_within : (g y : ℕ) (o : Option Entry) (n : ℕ) → ((e : Entry) → o ≡ Some e → e.dsn ≤ g) → (has_number g y o ≡ true → ⊥) → option_map (λ (e : Entry). inc e.dsn) (if goes_by o y then o else None) ≡ Some n → n ≤ g
+raised_within g y None n all apart is = absurd (none-some n is)
+raised_within g y (Some e) n all apart is = at (goes_by (Some e) y) apart is
+  where
+    at : (b : Bool) → ((b && (e.dsn == g)) ≡ true → ⊥) → option_map (λ (e : Entry). inc e.dsn) (if b then Some e else None) ≡ Some n → n ≤ g
+    at true apart is = inc_within g e.dsn n (same_Some _ n is) (all e refl) (λ same. apart (eq-eqb e.dsn g same))
+    at false apart is = absurd (none-some n is)
 
 module _ (g : ℕ) where
   update_within : (rt : Table) (d : ℕ) (r : Entry) → AllWithin g rt → r.dsn ≤ g → AllWithin g (update rt d r)
@@ -177,10 +178,9 @@ module _ (g : ℕ) where
       at None is = omega arith
       at (Some e) is = all d e is
 
-  unreachable_within : (rt : Table) (y : ℕ) → AllWithin g rt → list_any (λ n. n == g + 1) (maps.values (unreachable_by rt y)) ≡ false → AreDestsWithin g (unreachable_by rt y)
+  unreachable_within : (rt : Table) (y : ℕ) → AllWithin g rt → has_number_by g rt y ≡ false → AreDestsWithin g (unreachable_by rt y)
   unreachable_within rt y all none d n is =
-      let r = raised_of (maps.get rt d) (goes_by (maps.get rt d) y) n (sym (get-unreachable_by rt y d) ∙ is) in
-      inc_within g (r.0).dsn n r.2 (all d r.0 r.1) (λ e. wrong (sym none ∙ (has_value (unreachable_by rt y) (g + 1)).1 (d, is ∙ ap Some e)))
+      raised_within g y (maps.get rt d) n (all d) (λ one. wrong (sym none ∙ (number_at g rt y).1 (d, one))) (sym (get-unreachable_by rt y d) ∙ is)
 
   accepted_within : (rt : Table) (y : ℕ) (dests : Dests) → AreDestsWithin g dests → AreDestsWithin g (accepted_unreachable rt y dests)
   accepted_within rt y dests within d n is = within d n (kept_of (maps.get dests d) _ n (sym (get-accepted rt y dests d) ∙ is))
@@ -216,28 +216,32 @@ module _ (g ip : ℕ) where
     cast = error_within core.variant core.rt dests within;
   }
 
-  link_broken_keeps : (core : Core) (y : ℕ) → IsCoreWithin g ip core → Keeps g ip (broken_by y (link_broken core y))
+  link_broken_keeps : (core : Core) (y : ℕ) → IsCoreWithin g ip core → Keeps g ip core.rt (broken_by y (link_broken core y))
   unfolding link_broken
   link_broken_keeps core y w none =
       let p = retract_within core (unreachable_by core.rt y) w (unreachable_within g core.rt y w.table none) in
       record { core = p.core; cast = p.cast }
 
-  unicast_keeps : (core : Core) (m : Message) (y : ℕ) (range : NodeIds) → IsCoreWithin g ip core → IsMessageWithin g m → Keeps g ip (unicast core m y range)
+  unicast_keeps : (core : Core) (m : Message) (y : ℕ) (range : NodeIds) → IsCoreWithin g ip core → IsMessageWithin g m → Keeps g ip core.rt (unicast core m y range)
   unfolding unicast
   unicast_keeps core m y range w inside =
-      if_case (Keeps g ip) (sets.contains range y) (plain core (casting (One y m))) (broken_by y (link_broken core y))
+      if_case (Keeps g ip core.rt) (sets.contains range y) (plain core (casting (One y m))) (broken_by y (link_broken core y))
       (λ _ _. record { core = w; cast = inside })
       (λ _. link_broken_keeps core y w)
 
-  only_keeps : (core : Core) → IsCoreWithin g ip core → Keeps g ip (only core)
-  only_keeps core w _ = record { core = w; cast = tt }
+  -- the same by a table that is full where this one is
+  keeps_alike : (rt rt' : Table) (reaction : Reaction) → ((broken : Option ℕ) → is_full_at g rt broken ≡ is_full_at g rt' broken) → Keeps g ip rt reaction → Keeps g ip rt' reaction
+  keeps_alike rt rt' reaction same keeps none = keeps (same (reaction.effect).broken ∙ none)
+
+  only_keeps : (core : Core) (rt : Table) → IsCoreWithin g ip core → Keeps g ip rt (only core)
+  only_keeps core rt w _ = record { core = w; cast = tt }
 
   -- ---- data
 
-  on_new_keeps : (core : Core) (b : Body) (d : ℕ) → IsCoreWithin g ip core → Keeps g ip (on_new core b d)
+  on_new_keeps : (core : Core) (b : Body) (d : ℕ) → IsCoreWithin g ip core → Keeps g ip core.rt (on_new core b d)
   unfolding on_new
   on_new_keeps core b d w =
-      if_case (Keeps g ip) (d == core.ip) (plain core delivering) (only (record core { store = add core.store d b }))
+      if_case (Keeps g ip core.rt) (d == core.ip) (plain core delivering) (only (record core { store = add core.store d b }))
       (λ _ _. record { core = w; cast = tt })
       (λ _ _. record { core = record { named = w.named; own = w.own; table = w.table; ids = w.ids }; cast = tt })
 
@@ -251,12 +255,12 @@ module _ (g ip : ℕ) where
       (λ _. single)
       (λ _. if_case (IsCastWithin g) (is_empty (precs core.rt d)) Nothing (Many (precs core.rt d) (Rerr (maps.insert maps.empty d (sqn core.rt d)))) (λ _. tt) (λ _. single)))
 
-  on_pkt_keeps : (core : Core) (range : NodeIds) (b : Body) (d o : ℕ) → IsCoreWithin g ip core → Keeps g ip (on_pkt core range b d o)
+  on_pkt_keeps : (core : Core) (range : NodeIds) (b : Body) (d o : ℕ) → IsCoreWithin g ip core → Keeps g ip core.rt (on_pkt core range b d o)
   unfolding on_pkt
   on_pkt_keeps core range b d o w =
-      if_case (Keeps g ip) (d == core.ip) (plain core delivering) (if in_vD core.rt d then losing_if_broken (unicast core (Pkt b d o) (nhop core.rt d) range) else losing (plain core (casting (data_error core d))))
+      if_case (Keeps g ip core.rt) (d == core.ip) (plain core delivering) (if in_vD core.rt d then losing_if_broken (unicast core (Pkt b d o) (nhop core.rt d) range) else losing (plain core (casting (data_error core d))))
       (λ _ _. record { core = w; cast = tt })
-      (λ _. if_case (Keeps g ip) (in_vD core.rt d) (losing_if_broken (unicast core (Pkt b d o) (nhop core.rt d) range)) (losing (plain core (casting (data_error core d))))
+      (λ _. if_case (Keeps g ip core.rt) (in_vD core.rt d) (losing_if_broken (unicast core (Pkt b d o) (nhop core.rt d) range)) (losing (plain core (casting (data_error core d))))
       (λ _ none. let p = unicast_keeps core (Pkt b d o) (nhop core.rt d) range w tt none in record { core = p.core; cast = p.cast })
       (λ _ _. record { core = w; cast = data_error_within core d w }))
 
@@ -281,37 +285,38 @@ module _ (g ip : ℕ) where
         ];
       }
 
-  reply_for_self_keeps : (core : Core) (range : NodeIds) (m : RouteRequest) → IsCoreWithin g ip core → m.dsn ≤ g → Keeps g ip (reply_for_self core range m)
+  reply_for_self_keeps : (core : Core) (range : NodeIds) (m : RouteRequest) → IsCoreWithin g ip core → m.dsn ≤ g → Keeps g ip core.rt (reply_for_self core range m)
   unfolding reply_for_self
   reply_for_self_keeps core range m w l =
       let own : max core.sn m.dsn ≤ g = let o = w.own in omega arith in
       unicast_keeps (record core { sn = max core.sn m.dsn }) (Rrep (record { hops = 0; dip = m.dip; dsn = max core.sn m.dsn; oip = m.oip })) (nhop core.rt m.oip) range
       (record { named = w.named; own = own; table = w.table; ids = λ i is. let k = w.ids i is in omega arith }) own
 
-  reply_from_table_keeps : (core : Core) (range : NodeIds) (from : ℕ) (m : RouteRequest) → IsCoreWithin g ip core → Keeps g ip (reply_from_table core range from m)
+  reply_from_table_keeps : (core : Core) (range : NodeIds) (from : ℕ) (m : RouteRequest) → IsCoreWithin g ip core → Keeps g ip core.rt (reply_from_table core range from m)
   unfolding reply_from_table
   reply_from_table_keeps core range from m w =
       let rt = join_answer_precursors core.rt m.dip m.oip from in
       let all : AllWithin g rt = join_answer_within g core.rt m.dip m.oip from w.table in
-      unicast_keeps (record core { rt = rt }) (Rrep (record { hops = dhops rt m.dip; dip = m.dip; dsn = sqn rt m.dip; oip = m.oip })) (nhop rt m.oip) range (with_table core rt w all) (number_within g rt m.dip all)
+      keeps_alike rt core.rt _ (full_after_answer g core.rt m.dip m.oip from)
+      (unicast_keeps (record core { rt = rt }) (Rrep (record { hops = dhops rt m.dip; dip = m.dip; dsn = sqn rt m.dip; oip = m.oip })) (nhop rt m.oip) range (with_table core rt w all) (number_within g rt m.dip all))
 
-  on_new_rreq_keeps : (core : Core) (range : NodeIds) (from : ℕ) (m : RouteRequest) → IsCoreWithin g ip core → (m.dsn ≤ g) × (m.osn ≤ g) → Keeps g ip (on_new_rreq core range from m)
+  on_new_rreq_keeps : (core : Core) (range : NodeIds) (from : ℕ) (m : RouteRequest) → IsCoreWithin g ip core → (m.dsn ≤ g) × (m.osn ≤ g) → Keeps g ip core.rt (on_new_rreq core range from m)
   unfolding on_new_rreq forward_request
   on_new_rreq_keeps core range from m w inside =
-      if_case (Keeps g ip) (m.dip == core.ip) (reply_for_self core range m) (if can_answer core m then reply_from_table core range from m else forward_request core m)
+      if_case (Keeps g ip core.rt) (m.dip == core.ip) (reply_for_self core range m) (if can_answer core m then reply_from_table core range from m else forward_request core m)
       (λ _. reply_for_self_keeps core range m w inside.0)
-      (λ _. if_case (Keeps g ip) (can_answer core m) (reply_from_table core range from m) (forward_request core m)
+      (λ _. if_case (Keeps g ip core.rt) (can_answer core m) (reply_from_table core range from m) (forward_request core m)
       (λ _. reply_from_table_keeps core range from m w)
       (λ _ _. record { core = w; cast = (both (number_within g core.rt m.dip w.table) inside.0, inside.1) }))
     where
       both : {a b : ℕ} → a ≤ g → b ≤ g → max a b ≤ g
       both x y = omega arith
 
-  on_rreq_keeps : (core : Core) (range : NodeIds) (from : ℕ) (m : RouteRequest) → IsCoreWithin g ip core → (m.dsn ≤ g) × (m.osn ≤ g) → (m.oip ≡ ip → has_seen core.seen (key_of core.variant m) ≡ true) → Keeps g ip (on_rreq core range from m)
+  on_rreq_keeps : (core : Core) (range : NodeIds) (from : ℕ) (m : RouteRequest) → IsCoreWithin g ip core → (m.dsn ≤ g) × (m.osn ≤ g) → (m.oip ≡ ip → has_seen core.seen (key_of core.variant m) ≡ true) → Keeps g ip (after_request core from m).rt (on_rreq core range from m)
   unfolding on_rreq
   on_rreq_keeps core range from m w inside knows =
-      if_case (Keeps g ip) (has_seen core.seen (key_of core.variant m)) (only (after_hearing core from)) (on_new_rreq (after_request core from m) range from m)
-      (λ _. only_keeps (after_hearing core from) (hearing_within core from w))
+      if_case (Keeps g ip (after_request core from m).rt) (has_seen core.seen (key_of core.variant m)) (only (after_hearing core from)) (on_new_rreq (after_request core from m) range from m)
+      (λ _. only_keeps (after_hearing core from) (after_request core from m).rt (hearing_within core from w))
       (λ new. on_new_rreq_keeps (after_request core from m) range from m (request_within core from m w inside.1 (λ e. wrong (sym new ∙ knows e))) inside)
 
   -- ---- replies
@@ -322,59 +327,61 @@ module _ (g ip : ℕ) where
       let first : IsCoreWithin g ip (after_hearing core from) = hearing_within core from w in
       with_table (after_hearing core from) _ first (update_within g (after_hearing core from).rt m.dip (route_entry m.dsn m.hops from) first.table l)
 
-  forward_reply_keeps : (core : Core) (range : NodeIds) (m : RouteReply) → IsCoreWithin g ip core → m.dsn ≤ g → Keeps g ip (forward_reply core range m)
+  forward_reply_keeps : (core : Core) (range : NodeIds) (m : RouteReply) → IsCoreWithin g ip core → m.dsn ≤ g → Keeps g ip core.rt (forward_reply core range m)
   unfolding forward_reply
   forward_reply_keeps core range m w l =
       let rt = join_reply_precursors core.rt m.dip m.oip in
-      unicast_keeps (record core { rt = rt }) (Rrep (record m { hops = m.hops + 1 })) (nhop rt m.oip) range (with_table core rt w (join_reply_within g core.rt m.dip m.oip w.table)) l
+      keeps_alike rt core.rt _ (full_after_reply g core.rt m.dip m.oip)
+      (unicast_keeps (record core { rt = rt }) (Rrep (record m { hops = m.hops + 1 })) (nhop rt m.oip) range (with_table core rt w (join_reply_within g core.rt m.dip m.oip w.table)) l)
 
-  forward_own_entry_keeps : (core : Core) (range : NodeIds) (m : RouteReply) → IsCoreWithin g ip core → Keeps g ip (forward_own_entry core range m)
+  forward_own_entry_keeps : (core : Core) (range : NodeIds) (m : RouteReply) → IsCoreWithin g ip core → Keeps g ip core.rt (forward_own_entry core range m)
   unfolding forward_own_entry
   forward_own_entry_keeps core range m w =
       let rt = join_reply_precursors core.rt m.dip m.oip in
       let all : AllWithin g rt = join_reply_within g core.rt m.dip m.oip w.table in
-      unicast_keeps (record core { rt = rt }) (Rrep (record m { hops = dhops rt m.dip; dsn = sqn rt m.dip })) (nhop rt m.oip) range (with_table core rt w all) (number_within g rt m.dip all)
+      keeps_alike rt core.rt _ (full_after_reply g core.rt m.dip m.oip)
+      (unicast_keeps (record core { rt = rt }) (Rrep (record m { hops = dhops rt m.dip; dsn = sqn rt m.dip })) (nhop rt m.oip) range (with_table core rt w all) (number_within g rt m.dip all))
 
-  reply_on_keeps : (variant : Variant) (core : Core) (stale : Bool) (range : NodeIds) (m : RouteReply) → IsCoreWithin g ip core → m.dsn ≤ g → Keeps g ip (reply_on variant core stale range m)
-  reply_on_keeps Base core stale range m w l = if_case (Keeps g ip) stale (only core) (forward_reply core range m) (λ _. only_keeps core w) (λ _. forward_reply_keeps core range m w l)
-  reply_on_keeps Number core stale range m w l = if_case (Keeps g ip) stale (only core) (forward_reply core range m) (λ _. only_keeps core w) (λ _. forward_reply_keeps core range m w l)
-  reply_on_keeps Error core stale range m w l = if_case (Keeps g ip) stale (only core) (forward_reply core range m) (λ _. only_keeps core w) (λ _. forward_reply_keeps core range m w l)
-  reply_on_keeps Reply core stale range m w l = if_case (Keeps g ip) (in_vD core.rt m.dip) (forward_own_entry core range m) (only core) (λ _. forward_own_entry_keeps core range m w) (λ _. only_keeps core w)
+  reply_on_keeps : (variant : Variant) (core : Core) (stale : Bool) (range : NodeIds) (m : RouteReply) → IsCoreWithin g ip core → m.dsn ≤ g → Keeps g ip core.rt (reply_on variant core stale range m)
+  reply_on_keeps Base core stale range m w l = if_case (Keeps g ip core.rt) stale (only core) (forward_reply core range m) (λ _. only_keeps core core.rt w) (λ _. forward_reply_keeps core range m w l)
+  reply_on_keeps Number core stale range m w l = if_case (Keeps g ip core.rt) stale (only core) (forward_reply core range m) (λ _. only_keeps core core.rt w) (λ _. forward_reply_keeps core range m w l)
+  reply_on_keeps Error core stale range m w l = if_case (Keeps g ip core.rt) stale (only core) (forward_reply core range m) (λ _. only_keeps core core.rt w) (λ _. forward_reply_keeps core range m w l)
+  reply_on_keeps Reply core stale range m w l = if_case (Keeps g ip core.rt) (in_vD core.rt m.dip) (forward_own_entry core range m) (only core) (λ _. forward_own_entry_keeps core range m w) (λ _. only_keeps core core.rt w)
 
-  on_rrep_keeps : (core : Core) (range : NodeIds) (from : ℕ) (m : RouteReply) → IsCoreWithin g ip core → m.dsn ≤ g → Keeps g ip (on_rrep core range from m)
+  on_rrep_keeps : (core : Core) (range : NodeIds) (from : ℕ) (m : RouteReply) → IsCoreWithin g ip core → m.dsn ≤ g → Keeps g ip (after_reply core from m).rt (on_rrep core range from m)
   unfolding on_rrep
   on_rrep_keeps core range from m w l =
       let later : IsCoreWithin g ip (after_reply core from m) = reply_within core from m w l in
-      if_case (Keeps g ip) ((m.oip == core.ip) || not (in_vD (after_reply core from m).rt m.oip)) (only (after_reply core from m)) (reply_on core.variant (after_reply core from m) (is_stale (after_hearing core from).rt m.dip (route_entry m.dsn m.hops from)) range m)
-      (λ _. only_keeps (after_reply core from m) later)
+      if_case (Keeps g ip (after_reply core from m).rt) ((m.oip == core.ip) || not (in_vD (after_reply core from m).rt m.oip)) (only (after_reply core from m)) (reply_on core.variant (after_reply core from m) (is_stale (after_hearing core from).rt m.dip (route_entry m.dsn m.hops from)) range m)
+      (λ _. only_keeps (after_reply core from m) (after_reply core from m).rt later)
       (λ _. reply_on_keeps core.variant (after_reply core from m) (is_stale (after_hearing core from).rt m.dip (route_entry m.dsn m.hops from)) range m later l)
 
   -- ---- errors
 
-  on_rerr_keeps : (core : Core) (from : ℕ) (dests : Dests) → IsCoreWithin g ip core → AreDestsWithin g dests → Keeps g ip (on_rerr core from dests)
+  on_rerr_keeps : (core : Core) (from : ℕ) (dests : Dests) → IsCoreWithin g ip core → AreDestsWithin g dests → Keeps g ip (after_hearing core from).rt (on_rerr core from dests)
   unfolding on_rerr
   on_rerr_keeps core from dests w within _ =
       retract_within (after_hearing core from) (accepted_unreachable (after_hearing core from).rt from dests) (hearing_within core from w) (accepted_within g (after_hearing core from).rt from dests within)
 
   -- ---- all
 
-  pub turn_keeps : (core : Core) (range : NodeIds) (item : Item) → IsCoreWithin g ip core → IsItemWithin g item → KnowsOwn ip core item → Keeps g ip (turn core range item)
+  turn_keeps : (core : Core) (range : NodeIds) (item : Item) → IsCoreWithin g ip core → IsItemWithin g item → KnowsOwn ip core item → Keeps g ip (learnt core item).rt (turn core range item)
   turn_keeps core range (New b d) w inside knows = on_new_keeps core b d w
   turn_keeps core range (Heard from (Pkt b d o)) w inside knows = on_pkt_keeps core range b d o w
   turn_keeps core range (Heard from (Rreq m)) w inside knows = on_rreq_keeps core range from m w inside knows
   turn_keeps core range (Heard from (Rrep m)) w inside knows = on_rrep_keeps core range from m w inside
   turn_keeps core range (Heard from (Rerr dests)) w inside knows = on_rerr_keeps core from dests w inside
 
-  drop_if_sent_keeps : (reaction : Reaction) (d : ℕ) → Keeps g ip reaction → Keeps g ip (drop_if_sent reaction d)
-  drop_if_sent_keeps reaction d keeps =
-      if_case (Keeps g ip) (is_some (reaction.effect).broken) reaction (record reaction { core = record (reaction.core) { store = drop (reaction.core).store d } })
+  drop_if_sent_keeps : (rt : Table) (reaction : Reaction) (d : ℕ) → Keeps g ip rt reaction → Keeps g ip rt (drop_if_sent reaction d)
+  drop_if_sent_keeps rt reaction d keeps =
+      if_case (Keeps g ip rt) (is_some (reaction.effect).broken) reaction (record reaction { core = record (reaction.core) { store = drop (reaction.core).store d } })
       (λ _. keeps)
       (λ _ none. let p : IsReactionWithin g ip reaction = keeps none in let w : IsCoreWithin g ip reaction.core = p.core in record { core = record { named = w.named; own = w.own; table = w.table; ids = w.ids }; cast = p.cast })
 
-  pub send_keeps : (core : Core) (range : NodeIds) (d : ℕ) → IsCoreWithin g ip core → Keeps g ip (send core range d)
+  send_keeps : (core : Core) (range : NodeIds) (d : ℕ) → IsCoreWithin g ip core → Keeps g ip core.rt (send core range d)
   unfolding send
   send_keeps core range d w =
-      drop_if_sent_keeps (unicast core (Pkt (first_body (bodies_in (maps.get core.store d))) d core.ip) (nhop core.rt d) range) d
+      drop_if_sent_keeps core.rt (unicast core (Pkt (first_body (bodies_in (maps.get core.store d))) d core.ip) (nhop core.rt d) range) d
       (unicast_keeps core (Pkt (first_body (bodies_in (maps.get core.store d))) d core.ip) (nhop core.rt d) range w tt)
 
   -- a new id is within the new number
@@ -408,6 +415,24 @@ module _ (g ip : ℕ) where
 
       later : (n i : ℕ) → i ≤ n → i ≤ inc n
       later n i l = grind (arith, nat_tests)
+
+-- ---- what isn't refused
+
+turn_free : (a b : Bool) → (if a then Some full.Hops else if b then Some full.Number else None) ≡ None → b ≡ false
+turn_free true b is = absurd (none-some full.Hops (sym is))
+turn_free false true is = absurd (none-some full.Number (sym is))
+turn_free false false is = refl
+
+pub free_turn_keeps : (ip : ℕ) (core : Core) (range : NodeIds) (item : Item) → IsCoreWithin greatest ip core → IsItemWithin greatest item → KnowsOwn ip core item → turn_full core range item ≡ None → IsReactionWithin greatest ip (turn core range item)
+free_turn_keeps ip core range item w inside knows free =
+    let rt = (learnt core item).rt in
+    let broken = ((turn core range item).effect).broken in
+    turn_keeps greatest ip core range item w inside knows (full_at_greatest rt broken ∙ turn_free (is_hop_full core item) (is_number_full rt broken) free)
+
+pub free_send_keeps : (ip : ℕ) (core : Core) (range : NodeIds) (d : ℕ) → IsCoreWithin greatest ip core → send_full core range d ≡ None → IsReactionWithin greatest ip (send core range d)
+free_send_keeps ip core range d w free =
+    let broken = ((send core range d).effect).broken in
+    send_keeps greatest ip core range d w (full_at_greatest core.rt broken ∙ turn_free false (is_number_full core.rt broken) free)
 
 pub opening_within : (g : ℕ) (variant : Variant) (ip first : ℕ) → first ≤ g → IsCoreWithin g ip (opening variant ip first)
 opening_within g variant ip first l = record {

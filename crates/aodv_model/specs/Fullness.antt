@@ -1,5 +1,5 @@
 -- Where a step would raise a counter past the greatest value of its field. Such a step isn't made.
-use Rattle.std.specs.Prelude.{ℕ, ◌+◌, Bool, false, not, ◌&&◌, ◌==◌, if◌then◌else◌, Option, Some, None}
+use Rattle.std.specs.Prelude.{ℕ, Bool, false, not, ◌&&◌, ◌==◌, if◌then◌else◌, Option, Some, None}
 use Rattle.std.specs.List.{list_any}
 use Rattle.std.specs.FinMap as maps
 use Rattle.mesh_base.specs.Members.{NodeIds}
@@ -7,8 +7,9 @@ use Rattle.mesh_base.specs.declared.events.Counter.{Counter}
 use Rattle.mesh_base.specs.declared.events.Counter.TheVariants as full
 use Rattle.mesh_base.specs.declared.events.Variant.{Variant}
 use Rattle.mesh_base.specs.declared.events.Variant.TheVariants as variant
+use Rattle.aodv_model.specs.Tables.{Table, goes_by}
 use Rattle.aodv_model.specs.Cores.{Core, Item, New, Heard, Pkt, Rreq, Rrep, Rerr, has_seen, last_request_id}
-use Rattle.aodv_model.specs.Handlers.{Reaction, key_of, turn, send}
+use Rattle.aodv_model.specs.Handlers.{key_of, after_hearing, after_request, after_reply, turn, send}
 
 -- the greatest sequence number and the greatest request id: their fields have 32 bits
 abbrev pub greatest : ℕ
@@ -27,20 +28,38 @@ is_hop_full core (Heard from (Rreq m)) =
 is_hop_full core (Heard from (Rrep m)) = m.hops == greatest_hops
 is_hop_full core (Heard from (Rerr dests)) = false
 
--- the break of a link raised a number that stood at the greatest
-abbrev pub is_number_full : Reaction → Bool
-is_number_full reaction = list_any (λ n. n == greatest + 1) (maps.values reaction.raised)
+-- some valid entry with next hop y has the greatest number, so the break of the link to y can't
+-- raise it
+abbrev pub has_greatest_by : Table → ℕ → Bool
+has_greatest_by rt y = list_any (λ e. goes_by (Some e) y && (e.dsn == greatest)) (maps.values rt)
+
+-- the link that broke, if one did, is one that such an entry goes by
+abbrev pub is_number_full : Table → Option ℕ → Bool
+is_number_full rt None = false
+is_number_full rt (Some y) = has_greatest_by rt y
+
+-- the core once the node has learnt from an item, before it acts on it: a unicast may fail there.
+-- (The precursors that may join before that change no number; and a request that was seen before
+-- teaches less than this, but makes no unicast.)
+abbrev pub learnt : Core → Item → Core
+learnt core (New b d) = core
+learnt core (Heard from (Pkt b d o)) = core
+learnt core (Heard from (Rreq m)) = after_request core from m
+learnt core (Heard from (Rrep m)) = after_reply core from m
+learnt core (Heard from (Rerr dests)) = after_hearing core from
 
 -- the field that a turn would overfill: the hop count comes before the number
 abbrev pub turn_full : Core → NodeIds → Item → Option Counter
 turn_full core range item =
     if is_hop_full core item then Some full.Hops
-    else if is_number_full (turn core range item) then Some full.Number
+    else if is_number_full (learnt core item).rt ((turn core range item).effect).broken
+    then Some full.Number
     else None
 
 -- the field that the send of a stored datum would overfill
 abbrev pub send_full : Core → NodeIds → ℕ → Option Counter
-send_full core range d = if is_number_full (send core range d) then Some full.Number else None
+send_full core range d =
+    if is_number_full core.rt ((send core range d).effect).broken then Some full.Number else None
 
 -- the node's own requests have come to the greatest id. In the variant `Number` they need none
 abbrev pub is_id_full : Variant → Core → Bool

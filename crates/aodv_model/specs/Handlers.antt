@@ -31,12 +31,10 @@ pub record Effect : Type 0 where
   pub broken : Option ℕ
   pub cast : Cast
 
--- a new core, the effect with it, and the destinations with the new numbers that the break of a
--- link gave them (empty where no link broke)
+-- a new core, and the effect with it
 pub record Reaction : Type 0 where
   pub core : Core
   pub effect : Effect
-  pub raised : Dests
 
 -- what is taken from the queue: a datum for the node itself, a datum that now waits for a route, or
 -- a neighbour's message
@@ -59,9 +57,9 @@ casting c = record quiet { cast = c }
 abbrev pub delivering : Effect
 delivering = record quiet { deliver = true }
 
--- this core and effect, where no link broke
+-- this core and effect
 abbrev pub plain : Core → Effect → Reaction
-plain core effect = record { core = core; effect = effect; raised = maps.empty }
+plain core effect = record { core = core; effect = effect }
 
 -- this core, without effect
 abbrev pub only : Core → Reaction
@@ -132,8 +130,7 @@ retract core dests =
 
 -- the link to y is broken: all valid routes by y are gone, each with the next number
 unfoldable pub link_broken : Core → ℕ → Reaction
-link_broken core y =
-    record (retract core (unreachable_by core.rt y)) { raised = unreachable_by core.rt y }
+link_broken core y = retract core (unreachable_by core.rt y)
 
 -- a unicast to y: it arrives where y is in range, and else the link to y is broken (AWN's
 -- conditional unicast)

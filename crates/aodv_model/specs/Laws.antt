@@ -1,14 +1,12 @@
 -- The statements that this crate proves of its definitions.
-use Rattle.std.specs.Prelude.{◌≡◌, ◌↔◌, ℕ, ◌≤◌, ◌<◌, true, Some}
+use Rattle.std.specs.Prelude.{◌≡◌, ◌↔◌, ℕ, ◌≤◌, ◌<◌, ◌+◌, true, Some}
 use Rattle.std.specs.FinMap as maps
 use Rattle.mesh_base.specs.Members.{NodeIds}
 use Rattle.mesh_base.specs.declared.events.Variant.{Variant}
-use Rattle.aodv_entry.specs.declared.entry.Entry.{Entry}
-use Rattle.aodv_entry.specs.declared.entry.Flag.TheVariants.{Val}
-use Rattle.aodv_model.specs.Tables.{Table, update}
+use Rattle.aodv_model.specs.Tables.{Table, update, unreachable_by}
 use Rattle.aodv_model.specs.Cores.{Core, Item, opening}
-use Rattle.aodv_model.specs.Handlers.{route_entry, is_stale, link_broken, turn, may_send, send, may_ask, ask}
-use Rattle.aodv_model.specs.Fullness.{greatest, is_number_full}
+use Rattle.aodv_model.specs.Handlers.{route_entry, is_stale, turn, may_send, send, may_ask, ask}
+use Rattle.aodv_model.specs.Fullness.{greatest, has_greatest_by}
 use Rattle.aodv_model.specs.Soundness.{IsSoundCore, IsStoreInMesh, IsItemInMesh, IsEffectInMesh, IsSoundReaction}
 
 -- a reply is stale exactly where its update leaves the table equal
@@ -17,17 +15,12 @@ StaleIsUnchanged =
     (rt : Table) (d n hops from : ℕ) →
     let r = route_entry n hops from in (is_stale rt d r ≡ true) ↔ (update rt d r ≡ rt)
 
--- a valid entry with next hop y has the greatest number
-abbrev pub HasGreatestBy : Table → ℕ → Type 0
-HasGreatestBy rt y =
-    (d : ℕ) × (e : Entry) × (maps.get rt d ≡ Some e) × (e.flag ≡ Val) × (e.next ≡ y)
-    × (e.dsn ≡ greatest)
-
--- the break of the link to y overfills a number exactly where a valid entry with next hop y has the
--- greatest number
+-- the break of the link to y would give some destination a number past the greatest exactly where
+-- some valid entry with next hop y has the greatest
 abbrev pub FullNumber : Type 0
 FullNumber =
-    (core : Core) (y : ℕ) → (is_number_full (link_broken core y) ≡ true) ↔ HasGreatestBy core.rt y
+    (rt : Table) (y : ℕ) → (has_greatest_by rt y ≡ true)
+    ↔ ((d : ℕ) × (maps.get (unreachable_by rt y) d ≡ Some (greatest + 1)))
 
 -- ---- every handler keeps a core in order, whatever the messages are that it is told: each
 -- message that a packet of

@@ -6,8 +6,8 @@ pub fn stale_is_unchanged()
     ensures { StaleIsUnchanged }
 {}
 
-/// The break of a link overfills a number exactly where a valid entry by that link has the
-/// greatest.
+/// The break of a link would raise a number past the greatest exactly where a valid entry by that
+/// link has the greatest.
 pub fn full_number()
     ensures { FullNumber }
 {}

@@ -5,15 +5,16 @@ use Rattle.mesh_base.specs.Members.{NodeIds}
 use Rattle.mesh_base.specs.declared.addr.Addr.{Addr}
 use Rattle.mesh_base.specs.declared.events.Effect as code
 use Rattle.mesh_base.specs.declared.events.Kind.{Kind}
-use Rattle.aodv_model.specs.Cores.{Core, Message, Heard}
-use Rattle.aodv_model.specs.Handlers.{turn}
+use Rattle.aodv_model.specs.Tables.{Dests}
+use Rattle.aodv_model.specs.Cores.{Core, Message, Rerr, Heard}
+use Rattle.aodv_model.specs.Handlers.{on_rerr, retract, turn}
 use Rattle.aodv_model.specs.Fullness.{turn_full}
 use Rattle.aodv_model.specs.Soundness.{IsMessageInMesh}
 use Rattle.aodv_wire.specs.declared.message.Message as wire
 use Rattle.aodv_wire.specs.Spells.{Spells, message_in_fields}
 use Rattle.aodv_meaning.specs.Meaning.{in_mesh, meaning, stranger}
 use Rattle.aodv_meaning.proofs.Means.{spelled_in}
-use Rattle.aodv_handlers.specs.Made.{IsMade, IsFull}
+use Rattle.aodv_handlers.specs.Made.{IsMade, IsFull, number_full}
 use Rattle.aodv_node.specs.declared.answers.TurnError.{TurnError}
 use Rattle.aodv_node.specs.declared.answers.TurnError.TheVariants as errors
 use Rattle.aodv_meaning.specs.Effects.{kind_of}
@@ -58,3 +59,9 @@ pub heard_as : (mesh : Nodes) (c : Core) (range : NodeIds) (from : ℕ) (bytes :
 heard_as mesh c range from bytes msg m k r r' new out s known is kind did r_is =
     subst (λ (x : Result (Kind × code.Effect) TurnError). IsHeard mesh c range from bytes x new out) (sym r_is)
     (at_message mesh c range from bytes m k r new out (readable mesh bytes msg s known) (sym (means mesh bytes msg s ∙ is)) kind did)
+
+-- a turn on a route error breaks no link, so no number is full, whatever the table
+pub error_heard : (mesh : Nodes) (c c' : Core) (range : NodeIds) (from : ℕ) (dests : Dests) (e : code.Effect) (new : Core) (out : List ℕ)
+    → c' ≡ c → IsMade mesh (number_full c'.rt ((on_rerr c' from dests).effect).broken) (on_rerr c' from dests) e new out → IsMade mesh (turn_full c range (Heard from (Rerr dests))) (turn c range (Heard from (Rerr dests))) e new out
+unfolding on_rerr retract
+error_heard mesh c c' range from dests e new out same did = subst (λ (k : Core). IsMade mesh None (on_rerr k from dests) e new out) same did

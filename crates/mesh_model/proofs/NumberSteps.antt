@@ -1,15 +1,14 @@
 -- Every step keeps each number within its field, and the ids of each node's own requests within its own number.
-use Rattle.std.proofs.Common.{◌≡◌, ℕ, zero, suc, ◌+◌, ◌≤◌, Bool, true, false, ◌==◌, List, [], ◌∷◌, ◌++◌, set, length, Some, None, Option, refl, ap, sym, ◌∙◌, subst, arith}
-use Rattle.std.specs.Prelude.{slice_get, if◌then◌else◌}
+use Rattle.std.proofs.Common.{◌≡◌, ℕ, zero, suc, ◌+◌, ◌≤◌, true, ◌==◌, List, [], ◌∷◌, ◌++◌, set, length, Some, None, Option, refl, ap, sym, ◌∙◌, subst, arith}
+use Rattle.std.specs.Prelude.{slice_get}
 use Rattle.std.specs.List.{AllByRecursion}
 use Rattle.std.proofs.lemmas.Option.{none-some, same_Some}
 use Rattle.mesh_base.specs.declared.events.Counter.{Counter}
-use Rattle.mesh_base.specs.declared.events.Counter.TheVariants as full
 use Rattle.mesh_base.specs.declared.events.Variant.{Variant}
 use Rattle.aodv_model.proofs.Entries.{if_case}
-use Rattle.aodv_model.proofs.Numbers.{IsCastWithin, IsCoreWithin, IsItemWithin, IsMessageWithin, IsReactionWithin, KnowsOwn, ask_below, ask_keeps, opening_within, send_keeps, turn_keeps}
+use Rattle.aodv_model.proofs.Numbers.{IsCastWithin, IsCoreWithin, IsItemWithin, IsMessageWithin, IsReactionWithin, KnowsOwn, ask_below, ask_keeps, free_send_keeps, free_turn_keeps, opening_within}
 use Rattle.aodv_model.specs.Cores.{Core, Heard, Item, Message, New, Pkt, Rerr, Rrep, Rreq, has_seen}
-use Rattle.aodv_model.specs.Fullness.{ask_full, greatest, is_hop_full, is_number_full, send_full, turn_full}
+use Rattle.aodv_model.specs.Fullness.{ask_full, greatest, send_full, turn_full}
 use Rattle.aodv_model.specs.Handlers.{All, Cast, Many, Nothing, One, Reaction, ask, key_of, may_ask, may_send, send, turn}
 use Rattle.mesh_model.proofs.Lists.{each_append}
 use Rattle.mesh_model.proofs.Steps.{each_node, found_honest, step_kept, without_honest}
@@ -101,11 +100,6 @@ unless_within : (w : World) (x : ℕ) (o : Option Counter) (outcome : Outcome) �
 unless_within w x (Some f) outcome all kept = all
 unless_within w x None outcome all kept = kept refl
 
-turn_free : (a b : Bool) → (if a then Some full.Hops else if b then Some full.Number else None) ≡ None → b ≡ false
-turn_free true b is = absurd (none-some full.Hops (sym is))
-turn_free false true is = absurd (none-some full.Number (sym is))
-turn_free false false is = refl
-
 turn_within : (v : Variant) (w : World) (x : ℕ) (core : Core) (queue : List Item) → HasWalks v w → IsWithin w → slice_get w.nodes x ≡ Some (record { core = core; queue = queue }) → Stays w (turn_of w x core queue)
 turn_within v w x core [] trails all is = all
 turn_within v w x core (item ∷ items) trails all is =
@@ -114,7 +108,7 @@ turn_within v w x core (item ∷ items) trails all is =
     let p : IsNodeWithin x n = all.nodes x n is in
     unless_within w x (turn_full core (range w x) item) _ all
     (λ free. done_within w x n (turn core (range w x) item) items all is p.queue.1
-    (turn_keeps greatest x core (range w x) item p.core p.queue.0 (knows_own v w x n item trails is t.queue.0) (turn_free (is_hop_full core item) (is_number_full (turn core (range w x) item)) free)))
+    (free_turn_keeps x core (range w x) item p.core p.queue.0 (knows_own v w x n item trails is t.queue.0) free))
 
 send_within : (w : World) (x d : ℕ) (core : Core) (queue : List Item) → IsWithin w → slice_get w.nodes x ≡ Some (record { core = core; queue = queue }) → Stays w (send_of w x d core queue)
 send_within w x d core queue all is =
@@ -122,7 +116,7 @@ send_within w x d core queue all is =
     let p : IsNodeWithin x n = all.nodes x n is in
     if_case (Stays w) (may_send core d) (unless_full x (send_full core (range w x) d) (Next (done_by w x (send core (range w x) d) queue) (Sent (send core (range w x) d).effect (copies w x ((send core (range w x) d).effect).cast)))) Idle
     (λ _. unless_within w x (send_full core (range w x) d) _ all
-    (λ free. done_within w x n (send core (range w x) d) queue all is p.queue (send_keeps greatest x core (range w x) d p.core (turn_free false (is_number_full (send core (range w x) d)) free))))
+    (λ free. done_within w x n (send core (range w x) d) queue all is p.queue (free_send_keeps x core (range w x) d p.core free)))
     (λ _. all)
 
 ask_within : (w : World) (x d : ℕ) (core : Core) (queue : List Item) → IsLoopSafe w → IsWithin w → slice_get w.nodes x ≡ Some (record { core = core; queue = queue }) → Stays w (ask_of w x d core queue)

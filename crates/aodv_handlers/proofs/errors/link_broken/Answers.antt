@@ -7,7 +7,7 @@ use Rattle.aodv_model.specs.Soundness.{AreDestsBelow}
 use Rattle.aodv_model.proofs.PlacedTables.{unreachable_by_below}
 use Rattle.aodv_handlers.specs.Shown.{core_of}
 use Rattle.aodv_handlers.proofs.Ready.{ready_after, broken_sound}
-use Rattle.aodv_handlers.proofs.Unicasts.{break_made}
+use Rattle.aodv_handlers.proofs.Unicasts.{break_made, past_full}
 use Rattle.aodv_handlers.proofs.errors.link_broken.Goals as goal
 
 pub retract-requires-clause-below : goal.retract-requires-clause-below
@@ -33,3 +33,9 @@ returns-in-Ok-clause-ready g c =
     let core = core_of g.T.Table.entries c.args.core.now in
     ready_after g.T.Table.nodes g.T.Table.entries (length c.args.mesh.now) c.args.core.now c.retract.new.core (link_broken core c.args.next).core c.requires.ready c.retract.ensures.nodes (ap (λ (a : RoomySeen). length a.rooms) c.retract.ensures.asked) (ap length c.retract.ensures.waiting)
     (c.retract.ensures.core ∙ after core c.args.next c.dests_via.new.out c.in-Ok.ensures.1) (me core c.args.next) (broken_sound (length c.args.mesh.now) core c.args.next c.requires.ready.sound)
+
+pub returns-in-Err-clause-does : goal.returns-in-Err-clause-does
+returns-in-Err-clause-does g c = record {
+  overfull = past_full (g.T.Table.entries c.args.core.now.table) c.args.next c.in-Err.ensures.past;
+  same = refl;
+}

@@ -3,15 +3,17 @@ use Rattle.std.specs.FinMap as maps
 use Rattle.aodv_entry.specs.declared.entry.Entry.{Entry}
 use Rattle.aodv_model.specs.Tables.{Table, add_pre, nhop}
 use Rattle.aodv_model.specs.Cores.{Core}
-use Rattle.aodv_model.specs.Handlers.{one}
+use Rattle.aodv_model.specs.Handlers.{one, join_reply_precursors}
+use Rattle.aodv_model.specs.Fullness.{is_number_full}
 use Rattle.aodv_model.specs.Soundness.{IsSoundTable}
+use Rattle.aodv_model.proofs.FullNumbers.{number_full_after_reply}
 use Rattle.aodv_model.proofs.SoundTables.{nhop_below, join_reply_table}
 use Rattle.aodv_table.specs.Calls.{with_entry}
 use Rattle.aodv_handlers.specs.Shown.{core_of, reply_of}
 use Rattle.aodv_handlers.specs.Parts.{pass_on}
 use Rattle.aodv_handlers.proofs.Ready.{ready_table, ready_back}
 use Rattle.aodv_handlers.proofs.Restored.{joins_back}
-use Rattle.aodv_handlers.proofs.Requests.{made_at, refused_at}
+use Rattle.aodv_handlers.proofs.Requests.{AreFullAlike, made_at, refused_at}
 use Rattle.aodv_handlers.proofs.Replies.{joined_reply, passed_is}
 use Rattle.aodv_handlers.proofs.rrep.pass_on.Goals as goal
 
@@ -52,12 +54,17 @@ send_reply-requires-clause-ready g c =
     ready_table g.T.Table.nodes g.T.Table.entries size core _ c.requires.ready (c.join_precursor-2.ensures.nodes ∙ c.join_precursor.ensures.nodes) refl refl refl c.requires.ready.sound.own
     (subst (IsSoundTable size core.me) (sym is) (join_reply_table size core.me rt c.args.m.dip c.args.m.oip some c.requires.ready.sound.table))
 
+-- precursors change no number
+alike : (rt rt2 : Table) (d o : ℕ) → rt2 ≡ join_reply_precursors rt d o → AreFullAlike rt2 rt
+alike rt rt2 d o is broken = ap (λ (t : Table). is_number_full t broken) is ∙ number_full_after_reply rt d o broken
+
 pub returns-in-Ok-clause-does : goal.returns-in-Ok-clause-does
 returns-in-Ok-clause-does g c =
     let core = core_of g.T.Table.entries c.args.core.now in
     let rt2 = g.T.Table.entries c.join_precursor-2.new.table in
     let is = joined_reply core.rt (g.T.Table.entries c.join_precursor.new.table) rt2 c.args.m.dip c.args.m.oip c.next_hop-towards.result c.next_hop-onward.result c.next_hop-towards.ensures c.next_hop-onward.ensures c.join_precursor.ensures.entries c.join_precursor-2.ensures.entries in
-    made_at c.args.mesh.now _ (pass_on core c.args.range.now (reply_of c.args.m)) c.in-Ok.effect (core_of g.T.Table.entries c.send_reply.new.core) c.send_reply.new.out.items
+    made_at c.args.mesh.now rt2 core.rt _ (pass_on core c.args.range.now (reply_of c.args.m)) c.in-Ok.effect (core_of g.T.Table.entries c.send_reply.new.core) c.send_reply.new.out.items
+    (alike core.rt rt2 c.args.m.dip c.args.m.oip is)
     (passed_is core c.args.range.now (reply_of c.args.m) rt2 c.next_hop-towards.result is c.next_hop-towards.ensures) c.in-Ok.ensures.does
 
 back : (rt rt1 rt2 rt3 rt4 new : Table) (d onward towards : ℕ) (kept_d kept_on : Option Entry) → rt1 ≡ add_pre rt d (one towards) → rt2 ≡ add_pre rt1 onward (one towards) → kept_d ≡ maps.get rt d → kept_on ≡ maps.get rt onward → new ≡ rt2 → rt3 ≡ with_entry new onward kept_on → rt4 ≡ with_entry rt3 d kept_d → rt4 ≡ rt
@@ -73,7 +80,8 @@ returns-in-Err-clause-does g c =
     let is = joined_reply core.rt rt1 rt2 c.args.m.dip c.args.m.oip c.next_hop-towards.result c.next_hop-onward.result c.next_hop-towards.ensures c.next_hop-onward.ensures c.join_precursor.ensures.entries c.join_precursor-2.ensures.entries in
     let rows = back core.rt rt1 rt2 (g.T.Table.entries c.put.new.self) (g.T.Table.entries c.put-in-Err.new.self) (g.T.Table.entries c.send_reply.new.core.table) c.args.m.dip c.next_hop-onward.result c.next_hop-towards.result c.get-kept_dip.result c.get-kept_onward.result
     c.join_precursor.ensures.entries c.join_precursor-2.ensures.entries c.get-kept_dip.ensures.value c.get-kept_onward.ensures.value (ap (λ (c : Core). c.rt) c.in-Err.ensures.does.same) c.put.ensures.entries c.put-in-Err.ensures.entries in
-    refused_at _ (pass_on core c.args.range.now (reply_of c.args.m)) _ core c.in-Err.full (core_of g.T.Table.entries c.send_reply.new.core) _
+    refused_at rt2 core.rt _ (pass_on core c.args.range.now (reply_of c.args.m)) _ core c.in-Err.full (core_of g.T.Table.entries c.send_reply.new.core) _
+    (alike core.rt rt2 c.args.m.dip c.args.m.oip is)
     (passed_is core c.args.range.now (reply_of c.args.m) rt2 c.next_hop-towards.result is c.next_hop-towards.ensures)
     (λ i. record (c.in-Err.ensures.does.same i) { rt = rows i }) c.in-Err.ensures.does
 

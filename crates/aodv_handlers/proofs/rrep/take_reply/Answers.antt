@@ -78,7 +78,7 @@ returns-in-Ok-clause-does g c =
     c.note_neighbour.ensures.entries (c.update-changed.ensures.entries ∙ ap (update rt1 m.dip) c.route_entry.ensures)
     c.update-changed.ensures.same
     (chosen_some (record core { rt = rt2 }) c.args.range.now _ c.reply_to_pass_on.result c.in-Some.reply (c.reply_to_pass_on.ensures.does c.args.range.now) c.in-Some.is) in
-    passed_made mesh core (core_of g.T.Table.entries c.pass_on.new.core) c.args.range.now c.args.from m _ c.in-Ok.effect c.pass_on.new.out.items end c.in-Ok.ensures.does
+    passed_made mesh core (core_of g.T.Table.entries c.pass_on.new.core) c.args.range.now c.args.from m rt2 _ c.in-Ok.effect c.pass_on.new.out.items end c.in-Ok.ensures.does
 
 back : (rt rt1 rt2 rt3 rt4 new : Table) (a b : ℕ) (r s : Entry) (kept_a kept_b : Option Entry) → rt1 ≡ update rt a r → rt2 ≡ update rt1 b s → kept_a ≡ maps.get rt a → kept_b ≡ maps.get rt b → new ≡ rt2 → rt3 ≡ with_entry new b kept_b → rt4 ≡ with_entry rt3 a kept_a → rt4 ≡ rt
 back rt rt1 rt2 rt3 rt4 new a b r s kept_a kept_b one_is two_is a_is b_is new_is three_is four_is =

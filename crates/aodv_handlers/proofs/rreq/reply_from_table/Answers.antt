@@ -3,14 +3,16 @@ use Rattle.std.specs.FinMap as maps
 use Rattle.aodv_entry.specs.declared.entry.Entry.{Entry}
 use Rattle.aodv_model.specs.Tables.{Table, add_pre}
 use Rattle.aodv_model.specs.Cores.{Core}
-use Rattle.aodv_model.specs.Handlers.{one, reply_from_table}
+use Rattle.aodv_model.specs.Handlers.{one, join_answer_precursors, reply_from_table}
+use Rattle.aodv_model.specs.Fullness.{is_number_full}
 use Rattle.aodv_model.specs.Soundness.{IsSoundTable}
+use Rattle.aodv_model.proofs.FullNumbers.{number_full_after_answer}
 use Rattle.aodv_model.proofs.SoundTables.{join_answer_table}
 use Rattle.aodv_table.specs.Calls.{with_entry}
 use Rattle.aodv_handlers.specs.Shown.{core_of, request_of}
 use Rattle.aodv_handlers.proofs.Ready.{ready_table, ready_back}
 use Rattle.aodv_handlers.proofs.Restored.{joins_back}
-use Rattle.aodv_handlers.proofs.Requests.{made_at, refused_at, joined_answer, answer_is}
+use Rattle.aodv_handlers.proofs.Requests.{AreFullAlike, made_at, refused_at, joined_answer, answer_is}
 use Rattle.aodv_handlers.proofs.rreq.reply_from_table.Goals as goal
 
 pub join_precursor-requires-2-clause-node : goal.join_precursor-requires-2-clause-node
@@ -26,12 +28,17 @@ send_reply-requires-clause-ready g c =
     ready_table g.T.Table.nodes g.T.Table.entries (length c.args.mesh.now) core _ c.requires.ready (c.join_precursor-2.ensures.nodes ∙ c.join_precursor.ensures.nodes) refl refl refl c.requires.ready.sound.own
     (subst (IsSoundTable (length c.args.mesh.now) core.me) (sym is) (join_answer_table (length c.args.mesh.now) core.me rt c.args.m.now.dip c.args.m.now.oip c.args.from c.requires.from c.requires.ready.sound.table))
 
+-- precursors change no number
+alike : (rt rt2 : Table) (d o from : ℕ) → rt2 ≡ join_answer_precursors rt d o from → AreFullAlike rt2 rt
+alike rt rt2 d o from is broken = ap (λ (t : Table). is_number_full t broken) is ∙ number_full_after_answer rt d o from broken
+
 pub returns-in-Ok-clause-does : goal.returns-in-Ok-clause-does
 returns-in-Ok-clause-does g c =
     let core = core_of g.T.Table.entries c.args.core.now in
     let rt2 = g.T.Table.entries c.join_precursor-2.new.table in
     let is = joined_answer core.rt (g.T.Table.entries c.join_precursor.new.table) rt2 c.args.m.now.dip c.args.m.now.oip c.args.from c.args.route c.requires.route c.join_precursor.ensures.entries c.join_precursor-2.ensures.entries in
-    made_at c.args.mesh.now _ (reply_from_table core c.args.range.now c.args.from (request_of c.args.m.now)) c.in-Ok.effect (core_of g.T.Table.entries c.send_reply.new.core) c.send_reply.new.out.items
+    made_at c.args.mesh.now rt2 core.rt _ (reply_from_table core c.args.range.now c.args.from (request_of c.args.m.now)) c.in-Ok.effect (core_of g.T.Table.entries c.send_reply.new.core) c.send_reply.new.out.items
+    (alike core.rt rt2 c.args.m.now.dip c.args.m.now.oip c.args.from is)
     (answer_is core c.args.range.now c.args.from (request_of c.args.m.now) c.args.route rt2 c.next_hop-towards.result c.requires.route is c.next_hop-towards.ensures) c.in-Ok.ensures.does
 
 back : (rt rt1 rt2 rt3 rt4 new : Table) (d o from : ℕ) (route : Entry) (kept : Option Entry) → maps.get rt d ≡ Some route → rt1 ≡ add_pre rt d (one from) → rt2 ≡ add_pre rt1 o (one route.next) → kept ≡ maps.get rt o → new ≡ rt2 → rt3 ≡ with_entry new o kept → rt4 ≡ with_entry rt3 d (Some route) → rt4 ≡ rt
@@ -47,7 +54,8 @@ returns-in-Err-clause-does g c =
     let is = joined_answer core.rt rt1 rt2 c.args.m.now.dip c.args.m.now.oip c.args.from c.args.route c.requires.route c.join_precursor.ensures.entries c.join_precursor-2.ensures.entries in
     let rows = back core.rt rt1 rt2 (g.T.Table.entries c.put.new.self) (g.T.Table.entries c.put-in-Err.new.self) (g.T.Table.entries c.send_reply.new.core.table) c.args.m.now.dip c.args.m.now.oip c.args.from c.args.route c.get-kept_oip.result
     c.requires.route c.join_precursor.ensures.entries c.join_precursor-2.ensures.entries c.get-kept_oip.ensures.value (ap (λ (c : Core). c.rt) c.in-Err.ensures.does.same) c.put.ensures.entries c.put-in-Err.ensures.entries in
-    refused_at _ (reply_from_table core c.args.range.now c.args.from (request_of c.args.m.now)) _ core c.in-Err.full (core_of g.T.Table.entries c.send_reply.new.core) _
+    refused_at rt2 core.rt _ (reply_from_table core c.args.range.now c.args.from (request_of c.args.m.now)) _ core c.in-Err.full (core_of g.T.Table.entries c.send_reply.new.core) _
+    (alike core.rt rt2 c.args.m.now.dip c.args.m.now.oip c.args.from is)
     (answer_is core c.args.range.now c.args.from (request_of c.args.m.now) c.args.route rt2 c.next_hop-towards.result c.requires.route is c.next_hop-towards.ensures)
     (λ i. record (c.in-Err.ensures.does.same i) { rt = rows i }) c.in-Err.ensures.does
 

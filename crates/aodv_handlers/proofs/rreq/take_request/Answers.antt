@@ -51,7 +51,7 @@ returns-in-Ok-clause-does g c =
     c.note_neighbour-2.ensures.entries c.update.ensures.entries c.route_entry.ensures in
     let end = ends core c.args.range.now c.args.from (request_of m) (m.oip, c.mark_of-mark.result) rt2 c.mark_of-mark.ensures
     (sym c.has.ensures ∙ c.if-has.false) (ne_eqb m.hops 255 c.if-m.false) is in
-    new_made mesh core (core_of g.T.Table.entries c.on_new.new.core) c.args.range.now c.args.from (request_of m) (m.oip, c.mark_of-mark.result) (on_new_rreq (record core { rt = rt2 }) c.args.range.now c.args.from (request_of m)) c.in-Ok.effect c.insert.new.self.pairs c.on_new.new.out.items end c.mark_of-mark.ensures
+    new_made mesh core (core_of g.T.Table.entries c.on_new.new.core) c.args.range.now c.args.from (request_of m) (m.oip, c.mark_of-mark.result) rt2 (on_new_rreq (record core { rt = rt2 }) c.args.range.now c.args.from (request_of m)) c.in-Ok.effect c.insert.new.self.pairs c.on_new.new.out.items end c.mark_of-mark.ensures
     c.in-Ok.ensures.does
     (ap (λ (a : RoomySeen). a.pairs) c.in-Ok.ensures.asked)
     c.insert.ensures.pairs
