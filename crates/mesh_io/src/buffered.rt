@@ -33,6 +33,7 @@ impl<S: Sink> Buffered<S> {
 
     /// Hands on all that is gathered. Where the inner sink fails, what it has taken leaves the
     /// buffer and the rest stays gathered.
+    #[inline(never)]
     pub fn flush(&mut self) -> Result<(), PutFault>
         ensures all { OnOk result (gathered_in self.new ≡ []) }
         ensures handed { HandsOn (S.held (inner_of self.old)) (S.held (inner_of self.new))
@@ -68,6 +69,7 @@ impl<S: Sink> Sink for Buffered<S> {
 
     ghost faults = { λ b. S.faults (inner_of b) };
 
+    #[inline]
     fn put(&mut self, piece: &[u8]) -> Result<usize, Failed>
         requires { 0 < length piece.now }
         ensures some { IfOk result (λ n. (0 < n) × (n ≤ length piece.now)) }
@@ -85,13 +87,10 @@ impl<S: Sink> Sink for Buffered<S> {
             (S.held (inner_of self.old)) (S.held (inner_of self.new))
             (gathered_in self.old) (gathered_in self.new)) }
     {
-        if !self.gathered.is_full() {
-            return Ok(self.gathered.gather(piece));
+        if self.gathered.is_full() && self.flush().is_err() {
+            return Err(Failed);
         }
-        match self.flush() {
-            Ok(()) => Ok(self.gathered.gather(piece)),
-            Err(PutFault) => Err(Failed),
-        }
+        Ok(self.gathered.gather(piece))
     }
 }
 

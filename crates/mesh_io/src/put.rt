@@ -31,15 +31,31 @@ pub fn put_front<O: Sink>(out: &mut O, piece: &[u8]) -> usize
     written
 }
 
-/// Writes the whole piece, or a prefix of it where the sink fails. An empty piece is written by no
-/// call.
-pub fn put_all<O: Sink>(out: &mut O, piece: &[u8]) -> Result<(), PutFault>
+// Writes the whole piece, or a prefix of it, by as many calls as that takes.
+#[inline(never)]
+fn put_in_parts<O: Sink>(out: &mut O, piece: &[u8]) -> Result<(), PutFault>
     ensures text { Puts (O.held out.old) (O.held out.new) piece.now result }
     ensures cause { HasCause (O.faults out.old) (O.faults out.new) result }
-    ensures empty { length piece.now ≡ 0 → out.new ≡ out.old }
 {
     if put_front(out, piece) < piece.len() {
         return Err(PutFault);
     }
     Ok(())
+}
+
+/// Writes the whole piece, or a prefix of it where the sink fails. An empty piece is written by no
+/// call, and others mostly by one.
+pub fn put_all<O: Sink>(out: &mut O, piece: &[u8]) -> Result<(), PutFault>
+    ensures text { Puts (O.held out.old) (O.held out.new) piece.now result }
+    ensures cause { HasCause (O.faults out.old) (O.faults out.new) result }
+    ensures empty { length piece.now ≡ 0 → out.new ≡ out.old }
+{
+    if piece.is_empty() {
+        return Ok(());
+    }
+    match out.put(piece) {
+        Ok(n) if n == piece.len() => Ok(()),
+        Ok(n) => put_in_parts(out, &piece[n..]),
+        Err(_) => Err(PutFault),
+    }
 }
