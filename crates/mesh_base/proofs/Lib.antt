@@ -2,7 +2,7 @@ pub mod Ops
 pub mod Least
 pub mod PartLaws
 pub mod NumberLaws
-pub mod PairLaws
+pub mod TableLaws
 pub mod OctetLaws
 pub mod MeshLaws
 pub mod Spelling

@@ -3,14 +3,13 @@ ghost use Rattle.std.specs.Prelude.{◌≡◌, ◌+◌, ◌≤◌, ◌<◌, ◌�
 ghost use Rattle.std.specs.Char.{is_ascii_digit};
 ghost use Rattle.std.specs.Fmt.{decimal};
 ghost use Rattle.std.specs.Option.{option_map};
-ghost use Rattle.arrayvec.specs.ArrayVec.{array_vec_len};
 ghost use Rattle.mesh_base.specs.Numbers.{number_up_to};
 ghost use Rattle.mesh_base.specs.Parts.{parts};
 ghost use Rattle.mesh_base.specs.Addresses.{address_of, dotted};
 ghost use Rattle.mesh_base.specs.Octets.{first_octet, IsDotAt};
 
 use crate::limits::LINE_ROOM;
-use crate::text::{LineBuf, push_short};
+use crate::line_buf::LineBuf;
 
 /// The address of a node: its four numbers, the first the highest.
 #[derive(Clone, Copy, Debug, Default, PartialEq, Eq, PartialOrd, Ord)]
@@ -124,29 +123,4 @@ impl Addr {
         let z = octet(rest)?;
         Some(Addr(16777216 * w + 65536 * x + 256 * y + z))
     }
-}
-
-#[tactic(auto, using(crate::proofs::NumberLaws::short))]
-fn push_octet(out: &mut LineBuf, n: u32)
-    requires octet { n < 256 }
-    requires room { array_vec_len out.old + 3 ≤ LINE_ROOM }
-    ensures text { out.new.items ≡ out.old.items ++ decimal n }
-    ensures length { array_vec_len out.new ≤ array_vec_len out.old + 3 }
-{
-    push_short(out, n);
-}
-
-/// Appends an address as it is spelled: at most 15 bytes.
-pub fn write_dotted(a: Addr, out: &mut LineBuf)
-    requires { array_vec_len out.old + 15 ≤ LINE_ROOM }
-    ensures text { out.new.items ≡ out.old.items ++ dotted a.0 }
-    ensures length { array_vec_len out.new ≤ array_vec_len out.old + 15 }
-{
-    push_octet(out, a.0 / 16777216);
-    out.push(b'.');
-    push_octet(out, a.0 / 65536 % 256);
-    out.push(b'.');
-    push_octet(out, a.0 / 256 % 256);
-    out.push(b'.');
-    push_octet(out, a.0 % 256);
 }

@@ -9,11 +9,13 @@ mod bytes;
 mod events;
 mod few;
 mod limits;
+mod line_buf;
 mod mesh;
+mod octets;
 mod set;
 mod text;
 
-pub use addr::{Addr, write_dotted};
+pub use addr::Addr;
 pub use bytes::{Bytes, NoMemory, Room};
 pub use events::{
     Air, Cast, Counter, Done, Effect, Event, Flying, FlyingView, Item, Kind, Took, Variant,
@@ -21,6 +23,8 @@ pub use events::{
 pub use limits::{
     LINE_ROOM, LONGEST_DATUM, LONGEST_INPUT, LONGEST_LINE, LONGEST_PACKET, MOST_EVENTS, MOST_NODES,
 };
+pub use line_buf::LineBuf;
 pub use mesh::{Mesh, MeshError};
+pub use octets::write_dotted;
 pub use set::NodeSet;
-pub use text::{LineBuf, Packet, cut, number_up_to, push_decimal, push_number, push_text};
+pub use text::{Packet, cut, number_up_to, push_decimal, push_number, push_text};

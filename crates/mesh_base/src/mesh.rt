@@ -1,9 +1,12 @@
 //! The nodes of a mesh.
-ghost use Rattle.std.specs.Prelude.{◌≡◌, ◌≤◌, ◌<◌, ◌↔◌, ℕ, [], length, None, IsTrue, IsSome, is_some, IsErrOf, IsOk, OnOk, OnErr, IfSome};
+ghost use Rattle.std.specs.Prelude.{◌≡◌, ◌≤◌, ◌<◌, ◌+◌, ◌++◌, ◌↔◌, ℕ, [], length, None, IsTrue, IsSome, is_some, IsErrOf, IsOk, OnOk, OnErr, IfSome};
+ghost use Rattle.mesh_base.specs.Addresses.{dotted};
 ghost use Rattle.mesh_base.specs.Meshes.{Nodes, IsMesh, addr_at, first_at, index_of, index_in, with_node};
 
 use crate::addr::Addr;
-use crate::limits::MOST_NODES;
+use crate::limits::{LINE_ROOM, MOST_NODES};
+use crate::line_buf::LineBuf;
+use crate::octets::Stem;
 use arrayvec::ArrayVec;
 use std::marker::Model;
 use thiserror::Error;
@@ -24,9 +27,11 @@ pub enum MeshError {
 #[derive(Drop)]
 pub struct Mesh {
     nodes: ArrayVec<(u32, u32), MOST_NODES>,
+    stem: Stem,
 }
 
 impl Model for Mesh {
+    ghost use Rattle.mesh_base.specs.Addresses.{dotted};
     ghost use Rattle.mesh_base.specs.Meshes.{Nodes, IsMesh};
 
     ghost Value = { Nodes };
@@ -68,6 +73,7 @@ impl Mesh {
     {
         Mesh {
             nodes: ArrayVec::new(),
+            stem: Stem::of(Addr(0)),
         }
     }
 
@@ -92,6 +98,17 @@ impl Mesh {
         ensures { result.0 ≡ addr_at self.now i }
     {
         Addr(self.nodes.as_slice()[i].0)
+    }
+
+    /// Appends the address of node i as it is spelled: at most 15 bytes.
+    #[inline]
+    pub fn push_name(&self, i: usize, out: &mut LineBuf)
+        requires node { i < length self.now }
+        requires room { length out.old + 15 ≤ LINE_ROOM }
+        ensures text { out.new ≡ out.old ++ dotted (addr_at self.now i) }
+        ensures length { length out.new ≤ length out.old + 15 }
+    {
+        self.stem.write(self.at(i), out);
     }
 
     /// The first sequence number of node i.
@@ -154,6 +171,7 @@ impl Mesh {
         }
         let place = count_below(self.nodes.as_slice(), a.0);
         self.nodes.insert(place, (a.0, first));
+        self.stem = Stem::of(a);
         Ok(())
     }
 
@@ -165,6 +183,9 @@ impl Mesh {
         for node in self.nodes.as_slice() {
             nodes.push(*node);
         }
-        Mesh { nodes }
+        Mesh {
+            nodes,
+            stem: self.stem,
+        }
     }
 }

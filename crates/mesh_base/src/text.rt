@@ -1,15 +1,12 @@
 //! Buffers for a line and a packet, parts of texts, and decimal numbers.
 ghost use Rattle.std.specs.Prelude.{◌≡◌, ◌+◌, ◌/◌, ◌%◌, ◌<◌, ◌≤◌, List, ℕ, [], ◌∷◌, ◌++◌, length, position, ◌==◌, IfNone, IfSome};
 ghost use Rattle.std.specs.Fmt.{decimal};
-ghost use Rattle.arrayvec.specs.ArrayVec.{array_vec_len};
 ghost use Rattle.mesh_base.specs.Parts.{parts, rest_parts};
 ghost use Rattle.mesh_base.specs.Numbers as numbers;
 
 use crate::limits::{LINE_ROOM, LONGEST_PACKET};
+use crate::line_buf::LineBuf;
 use arrayvec::ArrayVec;
-
-/// A line to be written.
-pub type LineBuf = ArrayVec<u8, LINE_ROOM>;
 
 /// The bytes of one packet.
 pub type Packet = ArrayVec<u8, LONGEST_PACKET>;
@@ -73,44 +70,37 @@ pub fn number_up_to(bytes: &[u8], most: u64) -> Option<u64>
 }
 
 /// Appends a text.
+#[inline]
 pub fn push_text(out: &mut LineBuf, text: &[u8])
-    requires { array_vec_len out.old + length text.now ≤ LINE_ROOM }
-    ensures text { out.new.items ≡ out.old.items ++ text.now }
-    ensures length { array_vec_len out.new ≡ array_vec_len out.old + length text.now }
+    requires { length out.old + length text.now ≤ LINE_ROOM }
+    ensures text { out.new ≡ out.old ++ text.now }
+    ensures length { length out.new ≡ length out.old + length text.now }
 {
-    if out.try_extend_from_slice(text).is_err() {
-        unreachable!();
-    }
+    out.push_slice(text);
 }
 
 // The two digits of each number below 100.
-static PAIRS: [u8; 200] = *b"\
-    00010203040506070809101112131415161718192021222324252627282930313233343536373839\
-    40414243444546474849505152535455565758596061626364656667686970717273747576777879\
-    8081828384858687888990919293949596979899";
-
-// The two digits of a number below 100.
-#[inline]
-fn pair(n: u32) -> (u8, u8)
-    requires { n < 100 }
-    ensures tens { result.0 ≡ 48 + n / 10 }
-    ensures ones { result.1 ≡ 48 + n % 10 }
-{
-    let at = 2 * n as usize;
-    (PAIRS[at], PAIRS[at + 1])
-}
+static PAIRS: [[u8; 2]; 100] = [
+    *b"00", *b"01", *b"02", *b"03", *b"04", *b"05", *b"06", *b"07", *b"08", *b"09", *b"10", *b"11",
+    *b"12", *b"13", *b"14", *b"15", *b"16", *b"17", *b"18", *b"19", *b"20", *b"21", *b"22", *b"23",
+    *b"24", *b"25", *b"26", *b"27", *b"28", *b"29", *b"30", *b"31", *b"32", *b"33", *b"34", *b"35",
+    *b"36", *b"37", *b"38", *b"39", *b"40", *b"41", *b"42", *b"43", *b"44", *b"45", *b"46", *b"47",
+    *b"48", *b"49", *b"50", *b"51", *b"52", *b"53", *b"54", *b"55", *b"56", *b"57", *b"58", *b"59",
+    *b"60", *b"61", *b"62", *b"63", *b"64", *b"65", *b"66", *b"67", *b"68", *b"69", *b"70", *b"71",
+    *b"72", *b"73", *b"74", *b"75", *b"76", *b"77", *b"78", *b"79", *b"80", *b"81", *b"82", *b"83",
+    *b"84", *b"85", *b"86", *b"87", *b"88", *b"89", *b"90", *b"91", *b"92", *b"93", *b"94", *b"95",
+    *b"96", *b"97", *b"98", *b"99",
+];
 
 // Appends the two digits of a number below 100.
 #[inline]
 fn push_pair(out: &mut LineBuf, n: u32)
     requires low { n < 100 }
-    requires room { array_vec_len out.old + 2 ≤ LINE_ROOM }
-    ensures text { out.new.items ≡ out.old.items ++ (48 + n / 10) ∷ (48 + n % 10) ∷ [] }
-    ensures length { array_vec_len out.new ≡ array_vec_len out.old + 2 }
+    requires room { length out.old + 2 ≤ LINE_ROOM }
+    ensures text { out.new ≡ out.old ++ (48 + n / 10) ∷ (48 + n % 10) ∷ [] }
+    ensures length { length out.new ≡ length out.old + 2 }
 {
-    let (tens, ones) = pair(n);
-    out.push(tens);
-    out.push(ones);
+    out.push_array(&PAIRS[n as usize]);
 }
 
 // Appends a number of one or two digits.
@@ -118,9 +108,9 @@ fn push_pair(out: &mut LineBuf, n: u32)
 #[tactic(auto, using(std::proofs::lemmas::Fmt::decimal_digit, crate::proofs::NumberLaws::two_digits))]
 fn push_low(out: &mut LineBuf, n: u32)
     requires low { n < 100 }
-    requires room { array_vec_len out.old + length (decimal n) ≤ LINE_ROOM }
-    ensures text { out.new.items ≡ out.old.items ++ decimal n }
-    ensures length { array_vec_len out.new ≡ array_vec_len out.old + length (decimal n) }
+    requires room { length out.old + length (decimal n) ≤ LINE_ROOM }
+    ensures text { out.new ≡ out.old ++ decimal n }
+    ensures length { length out.new ≡ length out.old + length (decimal n) }
 {
     if n < 10 {
         out.push(b'0' + n as u8);
@@ -134,9 +124,9 @@ fn push_low(out: &mut LineBuf, n: u32)
 #[tactic(auto, using(crate::proofs::NumberLaws::appended_hundreds, crate::proofs::NumberLaws::two_longer))]
 pub(crate) fn push_short(out: &mut LineBuf, n: u32)
     requires short { n < 10000 }
-    requires room { array_vec_len out.old + length (decimal n) ≤ LINE_ROOM }
-    ensures text { out.new.items ≡ out.old.items ++ decimal n }
-    ensures length { array_vec_len out.new ≡ array_vec_len out.old + length (decimal n) }
+    requires room { length out.old + length (decimal n) ≤ LINE_ROOM }
+    ensures text { out.new ≡ out.old ++ decimal n }
+    ensures length { length out.new ≡ length out.old + length (decimal n) }
 {
     if n < 100 {
         push_low(out, n);
@@ -150,10 +140,10 @@ pub(crate) fn push_short(out: &mut LineBuf, n: u32)
 #[inline]
 fn push_four(out: &mut LineBuf, n: u32)
     requires short { n < 10000 }
-    requires room { array_vec_len out.old + 4 ≤ LINE_ROOM }
-    ensures text { out.new.items ≡ (out.old.items ++ (48 + n / 100 / 10) ∷ (48 + n / 100 % 10) ∷ [])
+    requires room { length out.old + 4 ≤ LINE_ROOM }
+    ensures text { out.new ≡ (out.old ++ (48 + n / 100 / 10) ∷ (48 + n / 100 % 10) ∷ [])
         ++ (48 + n % 100 / 10) ∷ (48 + n % 100 % 10) ∷ [] }
-    ensures length { array_vec_len out.new ≡ array_vec_len out.old + 4 }
+    ensures length { length out.new ≡ length out.old + 4 }
 {
     push_pair(out, n / 100);
     push_pair(out, n % 100);
@@ -162,9 +152,9 @@ fn push_four(out: &mut LineBuf, n: u32)
 /// Appends a number in decimal digits.
 #[tactic(auto, using(crate::proofs::NumberLaws::appended_four, crate::proofs::NumberLaws::four_longer))]
 pub fn push_decimal(out: &mut LineBuf, n: u64)
-    requires { array_vec_len out.old + length (decimal n) ≤ LINE_ROOM }
-    ensures text { out.new.items ≡ out.old.items ++ decimal n }
-    ensures length { array_vec_len out.new ≡ array_vec_len out.old + length (decimal n) }
+    requires { length out.old + length (decimal n) ≤ LINE_ROOM }
+    ensures text { out.new ≡ out.old ++ decimal n }
+    ensures length { length out.new ≡ length out.old + length (decimal n) }
 {
     if n < 10_000 {
         push_short(out, n as u32);
@@ -180,9 +170,9 @@ pub fn push_decimal(out: &mut LineBuf, n: u64)
 /// Appends any number in decimal digits.
 #[tactic(auto, using(crate::proofs::NumberLaws::at_most_twenty))]
 pub fn push_number(out: &mut LineBuf, n: u64)
-    requires { array_vec_len out.old + 20 ≤ LINE_ROOM }
-    ensures text { out.new.items ≡ out.old.items ++ decimal n }
-    ensures length { array_vec_len out.new ≤ array_vec_len out.old + 20 }
+    requires { length out.old + 20 ≤ LINE_ROOM }
+    ensures text { out.new ≡ out.old ++ decimal n }
+    ensures length { length out.new ≤ length out.old + 20 }
 {
     push_decimal(out, n);
 }

@@ -39,7 +39,7 @@ pub fn put_bad<O: Sink>(line: u64, out: &mut O) -> Result<(), PutFault>
     ensures text { Puts (O.held out.old) (O.held out.new) (bad_line line) result }
     ensures cause { HasCause (O.faults out.old) (O.faults out.new) result }
 {
-    let mut buf: LineBuf = ArrayVec::new();
+    let mut buf = LineBuf::new();
     push_text(&mut buf, b"bad line ");
     push_number(&mut buf, line);
     buf.push(b'\n');

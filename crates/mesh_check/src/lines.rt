@@ -16,7 +16,7 @@ pub fn put_bad<O: Sink>(line: u64, out: &mut O) -> Result<(), PutFault>
     ensures text { Puts (O.held out.old) (O.held out.new) (verdicts.bad_line line) result }
     ensures cause { HasCause (O.faults out.old) (O.faults out.new) result }
 {
-    let mut buf: LineBuf = ArrayVec::new();
+    let mut buf = LineBuf::new();
     push_text(&mut buf, b"bad line ");
     push_number(&mut buf, line);
     buf.push(b'\n');
@@ -30,7 +30,7 @@ pub fn put_yes<O: Sink>(tables: &PrintedTables, out: &mut O) -> Result<(), PutFa
         (verdicts.yes_line tables.now.closed) result }
     ensures cause { HasCause (O.faults out.old) (O.faults out.new) result }
 {
-    let mut buf: LineBuf = ArrayVec::new();
+    let mut buf = LineBuf::new();
     push_text(&mut buf, b"yes nodes ");
     push_number(&mut buf, tables.nodes() as u64);
     push_text(&mut buf, b" edges ");
@@ -45,7 +45,7 @@ pub fn put_no<O: Sink>(edge: &FailingEdge, out: &mut O) -> Result<(), PutFault>
     ensures text { Puts (O.held out.old) (O.held out.new) (verdicts.no_line edge.now) result }
     ensures cause { HasCause (O.faults out.old) (O.faults out.new) result }
 {
-    let mut buf: LineBuf = ArrayVec::new();
+    let mut buf = LineBuf::new();
     push_text(&mut buf, b"no ");
     write_dotted(Addr(edge.dest), &mut buf);
     buf.push(b' ');

@@ -1,6 +1,5 @@
 //! A schedule that is made line by line.
 ghost use Rattle.std.specs.Prelude.{◌≡◌, ◌<◌, ◌≤◌, ◌+◌, ◌++◌, [], length, false, IsTrue};
-ghost use Rattle.arrayvec.specs.ArrayVec.{array_vec_len};
 ghost use Rattle.mesh_script.specs.Seen.{accepted_of, IsPrintable};
 ghost use Rattle.mesh_make.specs.Places.{IsPlace, IsSize, line_at, place_after, mesh_after};
 ghost use Rattle.mesh_make.specs.Made.{mesh_of, made};
@@ -159,11 +158,11 @@ impl Maker {
     fn push_next(&mut self, text: &mut LineBuf, out: &mut LineBuf)
         requires making { IsMaking self.old }
         requires more { is_done self.old ≡ false }
-        requires room { array_vec_len out.old + LONGEST_LINE ≤ LINE_ROOM }
-        ensures text { out.old.items ++ still_to_come self.old
-            ≡ out.new.items ++ still_to_come self.new }
-        ensures longer { array_vec_len out.old < array_vec_len out.new }
-        ensures length { array_vec_len out.new ≤ array_vec_len out.old + LONGEST_LINE }
+        requires room { length out.old + LONGEST_LINE ≤ LINE_ROOM }
+        ensures text { out.old ++ still_to_come self.old
+            ≡ out.new ++ still_to_come self.new }
+        ensures longer { length out.old < length out.new }
+        ensures length { length out.new ≤ length out.old + LONGEST_LINE }
         ensures making { IsMaking self.new }
     {
         let line = line_at(self.size, self.place, &mut self.rng, text);
@@ -178,8 +177,8 @@ impl Maker {
     pub fn next_lines(&mut self, text: &mut LineBuf, out: &mut LineBuf)
         requires making { IsMaking self.old }
         requires more { is_done self.old ≡ false }
-        ensures text { still_to_come self.old ≡ out.new.items ++ still_to_come self.new }
-        ensures some { 0 < length out.new.items }
+        ensures text { still_to_come self.old ≡ out.new ++ still_to_come self.new }
+        ensures some { 0 < length out.new }
         ensures making { IsMaking self.new }
     {
         out.clear();

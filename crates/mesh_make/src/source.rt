@@ -28,20 +28,20 @@ impl Model for MadeSource {
 
     ghost Value = { List ℕ };
 
-    ghost view = { λ s. unread s.maker s.line.items s.at };
+    ghost view = { λ s. unread s.maker s.line s.at };
 
-    ghost invariant = { λ s. (s.at ≤ length s.line.items) × IsMaking s.maker };
+    ghost invariant = { λ s. (s.at ≤ length s.line) × IsMaking s.maker };
 }
 
 // Makes the next lines where the present ones are read to their end, and says how much of them is
 // read. The text of a datum is made in `text`.
 fn refill(maker: &mut Maker, text: &mut LineBuf, line: &mut LineBuf, at: usize) -> usize
     requires making { IsMaking maker.old }
-    requires within { at ≤ length line.old.items }
-    ensures same { unread maker.new line.new.items result ≡ unread maker.old line.old.items at }
-    ensures within { result ≤ length line.new.items }
+    requires within { at ≤ length line.old }
+    ensures same { unread maker.new line.new result ≡ unread maker.old line.old at }
+    ensures within { result ≤ length line.new }
     ensures making { IsMaking maker.new }
-    ensures end { result ≡ length line.new.items → still_to_come maker.new ≡ [] }
+    ensures end { result ≡ length line.new → still_to_come maker.new ≡ [] }
 {
     if at < line.len() || maker.is_done() {
         return at;

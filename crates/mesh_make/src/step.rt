@@ -53,7 +53,7 @@ fn draw_copy(rng: &mut Lcg64Xsh32, step: u32) -> u64
 
 // Writes the text of the datum that line `step` gives.
 fn write_text(step: u32, text: &mut LineBuf)
-    ensures { text.new.items ≡ datum_text step }
+    ensures { text.new ≡ datum_text step }
 {
     text.clear();
     text.push(b'm');

@@ -11,7 +11,7 @@ ghost use Rattle.mesh_moment.specs.Moments.{moment_seen, AreTotals, IsWorldOf};
 use crate::point::Point;
 use crate::state::State;
 use arrayvec::ArrayVec;
-use mesh_base::{Done, Mesh, Variant};
+use mesh_base::{Done, LineBuf, Mesh, Variant};
 use mesh_report::Sums;
 use mesh_world::{Totals, World};
 
@@ -64,7 +64,7 @@ impl Point<World> {
         }
         Some(Point {
             state: State::of_parts(variant, mesh, world, sums, lines),
-            line: ArrayVec::new(),
+            line: LineBuf::new(),
             packet: ArrayVec::new(),
             done: Done::Idle,
         })

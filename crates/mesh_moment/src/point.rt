@@ -56,7 +56,7 @@ impl<S: Steps> Point<S> {
     {
         Point {
             state: State::with(variant),
-            line: ArrayVec::new(),
+            line: LineBuf::new(),
             packet: ArrayVec::new(),
             done: Done::Idle,
         }

@@ -1,7 +1,6 @@
 //! The text in which a line is written back: each node by its address, and the node itself with its
 //! number.
 ghost use Rattle.std.specs.Prelude.{◌≡◌, ◌<◌, ◌≤◌, ◌+◌, ◌++◌, length, false, Ok};
-ghost use Rattle.arrayvec.specs.ArrayVec.{array_vec_len};
 ghost use Rattle.mesh_base.specs.Meshes.{addr_at};
 ghost use Rattle.mesh_grammar.specs.Forms.{OneAddress};
 ghost use Rattle.mesh_grammar.specs.Written.{written};
@@ -16,10 +15,10 @@ use mesh_script::{Arguments, LONGEST_WRITTEN, push_written};
 // A word and the address of a node.
 fn push_of_node(out: &mut LineBuf, word: &[u8], mesh: &Mesh, node: usize)
     requires node { node < length mesh.now }
-    requires room { array_vec_len out.old + length word.now + 16 ≤ LINE_ROOM }
-    ensures text { out.new.items
-        ≡ out.old.items ++ written word.now (OneAddress (addr_at mesh.now node)) }
-    ensures length { array_vec_len out.new ≤ array_vec_len out.old + length word.now + 16 }
+    requires room { length out.old + length word.now + 16 ≤ LINE_ROOM }
+    ensures text { out.new
+        ≡ out.old ++ written word.now (OneAddress (addr_at mesh.now node)) }
+    ensures length { length out.new ≤ length out.old + length word.now + 16 }
 {
     push_written(out, word, &Arguments::OneAddress(mesh.at(node)));
 }
@@ -28,10 +27,10 @@ fn push_of_node(out: &mut LineBuf, word: &[u8], mesh: &Mesh, node: usize)
 #[tactic(auto, using(crate::proofs::Allowed::append_none), unfolding(crate::specs::Lines::words_of))]
 pub fn push_node_line(out: &mut LineBuf, peers: &Peers, line: &NodeLine<'_>)
     requires printable { IsPrintable peers.now line.now }
-    requires room { array_vec_len out.old + LONGEST_WRITTEN ≤ LINE_ROOM }
-    ensures text { out.new.items
-        ≡ out.old.items ++ lines.words_of peers.now.mesh (accepted_of line.now) }
-    ensures length { array_vec_len out.new ≤ array_vec_len out.old + LONGEST_WRITTEN }
+    requires room { length out.old + LONGEST_WRITTEN ≤ LINE_ROOM }
+    ensures text { out.new
+        ≡ out.old ++ lines.words_of peers.now.mesh (accepted_of line.now) }
+    ensures length { length out.new ≤ length out.old + LONGEST_WRITTEN }
 {
     let mesh = peers.mesh();
     match *line {
@@ -72,9 +71,9 @@ pub fn push_node_line(out: &mut LineBuf, peers: &Peers, line: &NodeLine<'_>)
 #[tactic(auto, using(crate::proofs::Allowed::again))]
 pub fn print_node_line(line: &NodeLine<'_>, peers: &Peers, out: &mut LineBuf)
     requires { IsPrintable peers.now line.now }
-    ensures text { out.new.items ≡ lines.words_of peers.now.mesh (accepted_of line.now) }
-    ensures short { array_vec_len out.new ≤ LONGEST_WRITTEN }
-    ensures again { lines.line_of peers.now false out.new.items ≡ Ok (accepted_of line.now) }
+    ensures text { out.new ≡ lines.words_of peers.now.mesh (accepted_of line.now) }
+    ensures short { length out.new ≤ LONGEST_WRITTEN }
+    ensures again { lines.line_of peers.now false out.new ≡ Ok (accepted_of line.now) }
 {
     // The mesh has distinct addresses, each of 32 bits.
     let _size = peers.mesh().len();

@@ -8,3 +8,5 @@ pub mod Legible
 pub mod Gathering
 -- Pieces: the lines of the bytes that an input has left.
 pub mod Pieces
+-- HexBytes: the table of the two digits of each byte.
+pub mod HexBytes

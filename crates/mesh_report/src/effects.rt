@@ -1,7 +1,6 @@
 //! What an event did.
 ghost use Rattle.std.specs.Prelude.{◌≡◌, ℕ, ◌+◌, ◌*◌, ◌<◌, ◌≤◌, ◌^◌, ◌++◌, ◌∷◌, List, [], length, codes, IfSome, OnOk};
 ghost use Rattle.std.specs.List.{flat_map};
-ghost use Rattle.arrayvec.specs.ArrayVec.{array_vec_len};
 ghost use Rattle.mesh_base.specs.Addresses.{dotted};
 ghost use Rattle.mesh_base.specs.Meshes.{Nodes};
 ghost use Rattle.aodv_model.specs.Cores.{Message as a_message};
@@ -36,10 +35,11 @@ use mesh_script::{Line, print_line};
 // A datum of one address for another, after a label.
 fn push_datum(out: &mut LineBuf, label: &[u8], origin: Addr, dest: Addr, body: &[u8])
     requires short { length body.now ≤ LONGEST_DATUM }
-    requires room { array_vec_len out.old + length label.now + 2081 ≤ LINE_ROOM }
-    ensures text { out.new.items ≡ out.old.items
-        ++ line (label.now ++ dotted origin.0 ++ 32 ∷ dotted dest.0 ++ 32 ∷ flat_map shown_byte body.now) }
-    ensures length { array_vec_len out.new ≤ array_vec_len out.old + length label.now + 2081 }
+    requires room { length out.old + length label.now + 2081 ≤ LINE_ROOM }
+    ensures text { out.new ≡ out.old
+        ++ line (label.now ++ dotted origin.0 ++ 32 ∷ dotted dest.0
+        ++ 32 ∷ flat_map shown_byte body.now) }
+    ensures length { length out.new ≤ length out.old + length label.now + 2081 }
 {
     push_text(out, label);
     write_dotted(origin, out);
@@ -52,12 +52,12 @@ fn push_datum(out: &mut LineBuf, label: &[u8], origin: Addr, dest: Addr, body: &
 
 // The datum of a packet, if it has one, after a label.
 fn push_datum_in(out: &mut LineBuf, label: &[u8], packet: &[u8])
-    requires room { array_vec_len out.old + length label.now + 2081 ≤ LINE_ROOM }
+    requires room { length out.old + length label.now + 2081 ≤ LINE_ROOM }
     ensures text { (mesh : Nodes) → IsWritten mesh packet.now
-        → out.new.items ≡ out.old.items ++ datum_in label.now mesh (meaning mesh packet.now) }
+        → out.new ≡ out.old ++ datum_in label.now mesh (meaning mesh packet.now) }
     ensures legible { (mesh : Nodes) → IsLegible mesh packet.now
-        → out.new.items ≡ out.old.items ++ datum_in label.now mesh (meaning mesh packet.now) }
-    ensures length { array_vec_len out.new ≤ array_vec_len out.old + length label.now + 2081 }
+        → out.new ≡ out.old ++ datum_in label.now mesh (meaning mesh packet.now) }
+    ensures length { length out.new ≤ length out.old + length label.now + 2081 }
 {
     match read(packet) {
         Ok(Message::Parcel(datum)) => {
@@ -72,7 +72,7 @@ fn push_datum_in(out: &mut LineBuf, label: &[u8], packet: &[u8])
 
 // ---- what a turn took
 
-fn took_label(kind: Kind) -> &'static [u8]
+fn took_label(kind: Kind) -> &'static [u8; 12]
     ensures text { (m : a_message) → kind
         ≡ kind_of m → result.now ≡ codes "  took " ++ kind_text m }
     ensures length { length result.now ≡ 12 }
@@ -89,10 +89,9 @@ fn took_label(kind: Kind) -> &'static [u8]
 fn push_took(out: &mut LineBuf, mesh: &Mesh, me: usize, took: &Took)
     requires me { me < length mesh.now }
     requires took { IsTookLegible mesh.now took.now }
-    requires room { array_vec_len out.old + 28 ≤ LINE_ROOM }
-    ensures text { out.new.items
-        ≡ out.old.items ++ took_text mesh.now me (took_in mesh.now took.now) }
-    ensures length { array_vec_len out.new ≤ array_vec_len out.old + 28 }
+    requires room { length out.old + 28 ≤ LINE_ROOM }
+    ensures text { out.new ≡ out.old ++ took_text mesh.now me (took_in mesh.now took.now) }
+    ensures length { length out.new ≤ length out.old + 28 }
 {
     match took {
         Took::Own { .. } => push_one(out, b"  took new ", mesh, me),
@@ -106,10 +105,9 @@ fn push_took(out: &mut LineBuf, mesh: &Mesh, me: usize, took: &Took)
 fn push_delivery(out: &mut LineBuf, mesh: &Mesh, me: usize, took: &Took)
     requires me { me < length mesh.now }
     requires took { IsTookLegible mesh.now took.now }
-    requires room { array_vec_len out.old + 2093 ≤ LINE_ROOM }
-    ensures text { out.new.items
-        ≡ out.old.items ++ delivery_text mesh.now me (took_in mesh.now took.now) }
-    ensures length { array_vec_len out.new ≤ array_vec_len out.old + 2093 }
+    requires room { length out.old + 2093 ≤ LINE_ROOM }
+    ensures text { out.new ≡ out.old ++ delivery_text mesh.now me (took_in mesh.now took.now) }
+    ensures length { length out.new ≤ length out.old + 2093 }
 {
     match took {
         Took::Own { body } => {
@@ -125,10 +123,10 @@ fn push_delivery(out: &mut LineBuf, mesh: &Mesh, me: usize, took: &Took)
 
 // The datum that was taken, which is dropped.
 fn push_drop(out: &mut LineBuf, took: &Took)
-    requires room { array_vec_len out.old + 2091 ≤ LINE_ROOM }
+    requires room { length out.old + 2091 ≤ LINE_ROOM }
     ensures text { (mesh : Nodes) → IsTookLegible mesh took.now
-        → out.new.items ≡ out.old.items ++ drop_text mesh (took_in mesh took.now) }
-    ensures length { array_vec_len out.new ≤ array_vec_len out.old + 2091 }
+        → out.new ≡ out.old ++ drop_text mesh (took_in mesh took.now) }
+    ensures length { length out.new ≤ length out.old + 2091 }
 {
     if let Took::Heard { bytes, .. } = took {
         push_datum_in(out, b"  dropped ", bytes.as_slice());
@@ -140,8 +138,8 @@ fn push_drop(out: &mut LineBuf, took: &Took)
 fn push_fate(out: &mut LineBuf, mesh: &Mesh, me: usize, took: &Took, effect: &Effect)
     requires me { me < length mesh.now }
     requires took { IsTookLegible mesh.now took.now }
-    requires room { array_vec_len out.old + 4184 ≤ LINE_ROOM }
-    ensures text { out.new.items ≡ out.old.items
+    requires room { length out.old + 4184 ≤ LINE_ROOM }
+    ensures text { out.new ≡ out.old
         ++ datum_fate mesh.now me (took_in mesh.now took.now) (effect_in mesh.now effect.now []) }
 {
     if effect.deliver {
@@ -157,9 +155,8 @@ fn push_fate(out: &mut LineBuf, mesh: &Mesh, me: usize, took: &Took, effect: &Ef
 fn push_turn(out: &mut LineBuf, mesh: &Mesh, me: usize, took: &Took, effect: &Effect)
     requires me { me < length mesh.now }
     requires took { IsTookLegible mesh.now took.now }
-    requires room { array_vec_len out.old + 4212 ≤ LINE_ROOM }
-    ensures text { out.new.items
-        ≡ out.old.items ++ (took_text mesh.now me (took_in mesh.now took.now)
+    requires room { length out.old + 4212 ≤ LINE_ROOM }
+    ensures text { out.new ≡ out.old ++ (took_text mesh.now me (took_in mesh.now took.now)
         ++ datum_fate mesh.now me (took_in mesh.now took.now) (effect_in mesh.now effect.now [])) }
 {
     push_took(out, mesh, me, took);
@@ -170,9 +167,8 @@ fn push_turn(out: &mut LineBuf, mesh: &Mesh, me: usize, took: &Took, effect: &Ef
 fn push_taken(out: &mut LineBuf, mesh: &Mesh, me: usize, took: Option<&Took>, effect: &Effect)
     requires me { me < length mesh.now }
     requires took { IfSome took (λ t. IsTookLegible mesh.now t.now) }
-    requires room { array_vec_len out.old + 4212 ≤ LINE_ROOM }
-    ensures text { out.new.items
-        ≡ out.old.items ++ taken_text mesh.now me took.entry effect.now }
+    requires room { length out.old + 4212 ≤ LINE_ROOM }
+    ensures text { out.new ≡ out.old ++ taken_text mesh.now me took.entry effect.now }
 {
     if let Some(took) = took {
         push_turn(out, mesh, me, took, effect);
@@ -183,9 +179,9 @@ fn push_taken(out: &mut LineBuf, mesh: &Mesh, me: usize, took: Option<&Took>, ef
 
 fn push_broken(out: &mut LineBuf, mesh: &Mesh, broken: Option<usize>)
     requires broken { IfSome broken (λ y. y < length mesh.now) }
-    requires room { array_vec_len out.old + 25 ≤ LINE_ROOM }
-    ensures text { out.new.items ≡ out.old.items ++ broken_text mesh.now broken }
-    ensures length { array_vec_len out.new ≤ array_vec_len out.old + 25 }
+    requires room { length out.old + 25 ≤ LINE_ROOM }
+    ensures text { out.new ≡ out.old ++ broken_text mesh.now broken }
+    ensures length { length out.new ≤ length out.old + 25 }
 {
     if let Some(y) = broken {
         push_one(out, b"  broken ", mesh, y);
@@ -198,9 +194,9 @@ fn push_broken(out: &mut LineBuf, mesh: &Mesh, broken: Option<usize>)
 #[tactic(auto, using(std::proofs::lemmas::List::append_assoc))]
 fn push_cast(out: &mut LineBuf, mesh: &Mesh, cast: &Cast, packet: &Packet)
     requires cast { IsCastWritten mesh.now cast.now packet.now.items }
-    requires room { array_vec_len out.old + 6422 ≤ LINE_ROOM }
-    ensures text { out.new.items
-        ≡ out.old.items ++ cast_text mesh.now (cast_in mesh.now cast.now packet.now.items) }
+    requires room { length out.old + 6422 ≤ LINE_ROOM }
+    ensures text { out.new
+        ≡ out.old ++ cast_text mesh.now (cast_in mesh.now cast.now packet.now.items) }
 {
     let bytes = packet.as_slice();
     match cast {
@@ -210,12 +206,12 @@ fn push_cast(out: &mut LineBuf, mesh: &Mesh, cast: &Cast, packet: &Packet)
             push_packet(out, bytes);
         }
         Cast::Many(set) => {
-            push_text(out, b"  sent many ");
+            out.push_array(b"  sent many ");
             push_set(out, mesh, set);
             push_packet(out, bytes);
         }
         Cast::All => {
-            push_text(out, b"  sent all");
+            out.push_array(b"  sent all");
             push_packet(out, bytes);
         }
     }
@@ -224,11 +220,11 @@ fn push_cast(out: &mut LineBuf, mesh: &Mesh, cast: &Cast, packet: &Packet)
 // Hands on what the buffer has, where there is no room in it for so many bytes more.
 fn make_room<O: Sink>(buf: &mut LineBuf, bytes: usize, out: &mut O) -> Result<(), PutFault>
     requires { bytes ≤ LINE_ROOM }
-    ensures room { OnOk result (array_vec_len buf.new + bytes ≤ LINE_ROOM) }
-    ensures text { MakesRoom (O.held out.old) (O.held out.new) buf.new.items buf.old.items result }
+    ensures room { OnOk result (length buf.new + bytes ≤ LINE_ROOM) }
+    ensures text { MakesRoom (O.held out.old) (O.held out.new) buf.new buf.old result }
     ensures cause { HasCause (O.faults out.old) (O.faults out.new) result }
 {
-    if bytes <= buf.remaining_capacity() {
+    if bytes <= LINE_ROOM - buf.len() {
         return Ok(());
     }
     put_all(out, buf.as_slice())?;
@@ -239,9 +235,9 @@ fn make_room<O: Sink>(buf: &mut LineBuf, bytes: usize, out: &mut O) -> Result<()
 // The longest such line has a number of 20 digits and an address of 15 bytes.
 fn push_copy(out: &mut LineBuf, mesh: &Mesh, id: u64, to: usize)
     requires to { to < length mesh.now }
-    requires room { array_vec_len out.old + 44 ≤ LINE_ROOM }
-    ensures text { out.new.items
-        ≡ out.old.items ++ line (labelled (codes "  copy ") id ++ 32 ∷ name_of mesh.now to) }
+    requires room { length out.old + 44 ≤ LINE_ROOM }
+    ensures text { out.new
+        ≡ out.old ++ line (labelled (codes "  copy ") id ++ 32 ∷ name_of mesh.now to) }
 {
     push_labelled(out, b"  copy ", id);
     push_one(out, b" ", mesh, to);
@@ -255,7 +251,7 @@ fn put_air<O: Sink>(mesh: &Mesh, air: &Air, buf: &mut LineBuf, out: &mut O) -> R
     requires few { air.now.first + MOST_NODES < 2 ^ 64 }
     ensures text { let to = members_below (length mesh.now) air.now.to in
         (from : ℕ) (m : a_message) → Puts (O.held out.old) (O.held out.new)
-        (buf.old.items ++ copies_text mesh.now (copies_to to air.now.first from m)) result }
+        (buf.old ++ copies_text mesh.now (copies_to to air.now.first from m)) result }
     ensures cause { HasCause (O.faults out.old) (O.faults out.new) result }
 {
     // There are at most 200 nodes, so at most 200 copies.
@@ -283,7 +279,7 @@ fn put_copies<O: Sink>(
     requires receivers { AreBelow (length mesh.now) air.now.to }
     requires few { air.now.first + MOST_NODES < 2 ^ 64 }
     ensures text { (from : ℕ) (packet : List ℕ) → Puts (O.held out.old) (O.held out.new)
-        (buf.old.items ++ copies_text mesh.now (copies_in mesh.now from cast.now air.now packet)) result }
+        (buf.old ++ copies_text mesh.now (copies_in mesh.now from cast.now air.now packet)) result }
     ensures cause { HasCause (O.faults out.old) (O.faults out.new) result }
 {
     match cast {
@@ -298,8 +294,8 @@ fn put_copies<O: Sink>(
 fn push_sent(out: &mut LineBuf, mesh: &Mesh, effect: &Effect, packet: &Packet)
     requires broken { IfSome effect.now.broken (λ y. y < length mesh.now) }
     requires cast { IsCastWritten mesh.now effect.now.cast packet.now.items }
-    requires room { array_vec_len out.old + 6447 ≤ LINE_ROOM }
-    ensures text { out.new.items ≡ out.old.items ++ (broken_text mesh.now effect.now.broken
+    requires room { length out.old + 6447 ≤ LINE_ROOM }
+    ensures text { out.new ≡ out.old ++ (broken_text mesh.now effect.now.broken
         ++ cast_text mesh.now (cast_in mesh.now effect.now.cast packet.now.items)) }
 {
     push_broken(out, mesh, effect.broken);
@@ -316,7 +312,7 @@ fn put_sent<O: Sink>(
     out: &mut O,
 ) -> Result<(), PutFault>
     requires effect { IsEffectInMesh mesh.now effect.now air.now packet.now.items }
-    ensures text { (from : ℕ) → Puts (O.held out.old) (O.held out.new) (buf.old.items
+    ensures text { (from : ℕ) → Puts (O.held out.old) (O.held out.new) (buf.old
         ++ sent_text mesh.now (effect_in mesh.now effect.now packet.now.items)
         (copies_in mesh.now from effect.now.cast air.now packet.now.items)) result }
     ensures cause { HasCause (O.faults out.old) (O.faults out.new) result }
@@ -357,8 +353,8 @@ pub fn put_effect<O: Sink>(
 fn push_heard(out: &mut LineBuf, mesh: &Mesh, from: usize, to: usize)
     requires from { from < length mesh.now }
     requires to { to < length mesh.now }
-    requires room { array_vec_len out.old + 40 ≤ LINE_ROOM }
-    ensures text { out.new.items ≡ out.old.items
+    requires room { length out.old + 40 ≤ LINE_ROOM }
+    ensures text { out.new ≡ out.old
         ++ line (codes "  heard " ++ name_of mesh.now from ++ 32 ∷ name_of mesh.now to) }
 {
     push_two(out, b"  heard ", mesh, from, to);
@@ -368,10 +364,10 @@ fn push_heard(out: &mut LineBuf, mesh: &Mesh, from: usize, to: usize)
 fn push_lost_copy(out: &mut LineBuf, mesh: &Mesh, from: usize, to: usize)
     requires from { from < length mesh.now }
     requires to { to < length mesh.now }
-    requires room { array_vec_len out.old + 40 ≤ LINE_ROOM }
-    ensures text { out.new.items ≡ out.old.items
+    requires room { length out.old + 40 ≤ LINE_ROOM }
+    ensures text { out.new ≡ out.old
         ++ line (codes "  lost " ++ name_of mesh.now from ++ 32 ∷ name_of mesh.now to) }
-    ensures length { array_vec_len out.new ≤ array_vec_len out.old + 40 }
+    ensures length { length out.new ≤ length out.old + 40 }
 {
     push_two(out, b"  lost ", mesh, from, to);
     out.push(b'\n');
@@ -382,9 +378,10 @@ fn push_lost(out: &mut LineBuf, mesh: &Mesh, flying: &Flying)
     requires from { flying.now.from < length mesh.now }
     requires to { flying.now.to < length mesh.now }
     requires written { IsWrittenCopy mesh.now flying.now }
-    requires room { array_vec_len out.old + 2131 ≤ LINE_ROOM }
-    ensures text { out.new.items ≡ out.old.items
-        ++ (line (codes "  lost " ++ name_of mesh.now flying.now.from ++ 32 ∷ name_of mesh.now flying.now.to)
+    requires room { length out.old + 2131 ≤ LINE_ROOM }
+    ensures text { out.new ≡ out.old
+        ++ (line (codes "  lost " ++ name_of mesh.now flying.now.from
+        ++ 32 ∷ name_of mesh.now flying.now.to)
         ++ datum_in (codes "  dropped ") mesh.now (meaning mesh.now flying.now.bytes)) }
 {
     push_lost_copy(out, mesh, flying.from, flying.to);
@@ -405,8 +402,8 @@ fn put_after<O: Sink>(
 ) -> Result<(), PutFault>
     requires place { node_of (event_of e.now) < length mesh.now }
     requires in_mesh { IsDoneInMesh mesh.now done.now packet.now.items }
-    requires room { array_vec_len buf.old ≤ LONGEST_LINE + 1 }
-    ensures text { (w : World) → Puts (O.held out.old) (O.held out.new) (buf.old.items
+    requires room { length buf.old ≤ LONGEST_LINE + 1 }
+    ensures text { (w : World) → Puts (O.held out.old) (O.held out.new) (buf.old
         ++ outcome_text mesh.now (node_of (event_of e.now))
         (outcome_in mesh.now (node_of (event_of e.now)) w done.now packet.now.items)) result }
     ensures cause { HasCause (O.faults out.old) (O.faults out.new) result }
@@ -414,7 +411,7 @@ fn put_after<O: Sink>(
     // The mesh has distinct addresses.
     let _nodes = mesh.len();
     match done {
-        Done::Idle => push_text(buf, b"  idle\n"),
+        Done::Idle => buf.push_array(b"  idle\n"),
         Done::Changed => {}
         Done::Taken { took, effect, air } => {
             push_turn(buf, mesh, node_of(e), took, effect);

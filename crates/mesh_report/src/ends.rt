@@ -1,6 +1,5 @@
 //! The last line of a run, and the line after chosen events.
 ghost use Rattle.std.specs.Prelude.{◌≡◌, ◌+◌, ◌<◌, ◌≤◌, ◌++◌, ◌∷◌, length, codes};
-ghost use Rattle.arrayvec.specs.ArrayVec.{array_vec_len};
 ghost use Rattle.mesh_model.specs.Places.{IsEvent};
 ghost use Rattle.mesh_meaning.specs.Events.{event_of};
 ghost use Rattle.mesh_grammar.specs.Faults.{at_bytes, fault_text, why_text, bad_line};
@@ -35,11 +34,12 @@ pub struct Summary {
 
 // The counts of events, and of the data that were given and delivered.
 fn push_done(out: &mut LineBuf, s: &Sums)
-    requires room { array_vec_len out.old + 116 ≤ LINE_ROOM }
-    ensures text { out.new.items ≡ out.old.items
+    requires room { length out.old + 116 ≤ LINE_ROOM }
+    ensures text { out.new ≡ out.old
         ++ (labelled (codes "done events ") s.now.events ++ labelled (codes " idle ") s.now.idle
-        ++ labelled (codes " given ") s.now.given ++ labelled (codes " delivered ") s.now.delivered) }
-    ensures length { array_vec_len out.new ≤ array_vec_len out.old + 116 }
+        ++ labelled (codes " given ") s.now.given
+        ++ labelled (codes " delivered ") s.now.delivered) }
+    ensures length { length out.new ≤ length out.old + 116 }
 {
     push_labelled(out, b"done events ", s.events);
     push_labelled(out, b" idle ", s.idle);
@@ -49,9 +49,9 @@ fn push_done(out: &mut LineBuf, s: &Sums)
 
 // How many data packets were doubled, where any were.
 fn push_copied(out: &mut LineBuf, copied: u64)
-    requires room { array_vec_len out.old + 28 ≤ LINE_ROOM }
-    ensures text { out.new.items ≡ out.old.items ++ copied_words copied }
-    ensures length { array_vec_len out.new ≤ array_vec_len out.old + 28 }
+    requires room { length out.old + 28 ≤ LINE_ROOM }
+    ensures text { out.new ≡ out.old ++ copied_words copied }
+    ensures length { length out.new ≤ length out.old + 28 }
 {
     if copied > 0 {
         push_labelled(out, b" copied ", copied);
@@ -59,8 +59,8 @@ fn push_copied(out: &mut LineBuf, copied: u64)
 }
 
 fn push_summary(out: &mut LineBuf, s: &Summary)
-    requires room { array_vec_len out.old + 256 ≤ LINE_ROOM }
-    ensures text { out.new.items ≡ out.old.items
+    requires room { length out.old + 256 ≤ LINE_ROOM }
+    ensures text { out.new ≡ out.old
         ++ summary_text (sums_of s.now.sums) s.now.waiting s.now.queued s.now.flying }
 {
     push_done(out, &s.sums);
@@ -88,9 +88,9 @@ pub fn put_summary<O: Sink>(s: &Summary, buf: &mut LineBuf, out: &mut O) -> Resu
 // A fault, and the bytes of the line that it is about.
 #[tactic(auto, using(std::proofs::lemmas::List::append_assoc))]
 fn push_at(out: &mut LineBuf, fault: &[u8], span: Span)
-    requires room { array_vec_len out.old + length fault.now + 54 ≤ LINE_ROOM }
-    ensures text { out.new.items ≡ out.old.items ++ (fault.now ++ at_bytes span) }
-    ensures length { array_vec_len out.new ≤ array_vec_len out.old + length fault.now + 54 }
+    requires room { length out.old + length fault.now + 54 ≤ LINE_ROOM }
+    ensures text { out.new ≡ out.old ++ (fault.now ++ at_bytes span) }
+    ensures length { length out.new ≤ length out.old + length fault.now + 54 }
 {
     push_text(out, fault);
     push_labelled(out, b" at bytes ", span.from as u64);
@@ -98,9 +98,9 @@ fn push_at(out: &mut LineBuf, fault: &[u8], span: Span)
 }
 
 fn push_fault(out: &mut LineBuf, fault: &LineFault)
-    requires room { array_vec_len out.old + 70 ≤ LINE_ROOM }
-    ensures text { out.new.items ≡ out.old.items ++ fault_text fault.now }
-    ensures length { array_vec_len out.new ≤ array_vec_len out.old + 70 }
+    requires room { length out.old + 70 ≤ LINE_ROOM }
+    ensures text { out.new ≡ out.old ++ fault_text fault.now }
+    ensures length { length out.new ≤ length out.old + 70 }
 {
     match *fault {
         LineFault::Word(span) => push_at(out, b"no command", span),
@@ -119,9 +119,9 @@ fn push_fault(out: &mut LineBuf, fault: &LineFault)
 
 #[tactic(auto, unfolding(mesh_grammar::specs::Faults::why_text))]
 fn push_why(out: &mut LineBuf, why: &BadWhy)
-    requires room { array_vec_len out.old + 70 ≤ LINE_ROOM }
-    ensures text { out.new.items ≡ out.old.items ++ why_text why.now }
-    ensures length { array_vec_len out.new ≤ array_vec_len out.old + 70 }
+    requires room { length out.old + 70 ≤ LINE_ROOM }
+    ensures text { out.new ≡ out.old ++ why_text why.now }
+    ensures length { length out.new ≤ length out.old + 70 }
 {
     match why {
         BadWhy::Fault(fault) => push_fault(out, fault),
@@ -132,8 +132,8 @@ fn push_why(out: &mut LineBuf, why: &BadWhy)
 
 #[tactic(auto, using(std::proofs::lemmas::List::append_assoc), unfolding(mesh_grammar::specs::Faults::bad_line))]
 fn push_bad(out: &mut LineBuf, line: u64, why: &BadWhy)
-    requires room { array_vec_len out.old + 102 ≤ LINE_ROOM }
-    ensures text { out.new.items ≡ out.old.items ++ bad_line line why.now }
+    requires room { length out.old + 102 ≤ LINE_ROOM }
+    ensures text { out.new ≡ out.old ++ bad_line line why.now }
 {
     push_labelled(out, b"bad line ", line);
     push_text(out, b": ");
@@ -171,9 +171,8 @@ fn field_word(field: &Counter) -> &'static [u8]
 
 fn push_full(out: &mut LineBuf, mesh: &Mesh, line: u64, e: &Event<'_>, field: &Counter)
     requires event { IsEvent (length mesh.now) (event_of e.now) }
-    requires room { array_vec_len out.old + 590 ≤ LINE_ROOM }
-    ensures text { out.new.items
-        ≡ out.old.items ++ full_line mesh.now line (event_of e.now) field.now }
+    requires room { length out.old + 590 ≤ LINE_ROOM }
+    ensures text { out.new ≡ out.old ++ full_line mesh.now line (event_of e.now) field.now }
 {
     push_labelled(out, b"full line ", line);
     push_text(out, b": ");

@@ -1,7 +1,6 @@
 //! The lines of a node's state, of a route's end, and of the copies in flight.
 ghost use Rattle.std.specs.Prelude.{◌≡◌, ◌+◌, ◌*◌, ◌<◌, ◌≤◌, ◌++◌, ◌∷◌, length};
 ghost use Rattle.std.specs.Fmt.{decimal};
-ghost use Rattle.arrayvec.specs.ArrayVec.{array_vec_len};
 ghost use Rattle.mesh_base.specs.Views.{flying_seen};
 ghost use Rattle.aodv_model.specs.Soundness.{AreBelow};
 ghost use Rattle.mesh_meaning.specs.Packets.{copy_in, IsWrittenCopy};
@@ -18,8 +17,8 @@ use mesh_io::{PutFault, Sink, put_all};
 
 #[tactic(auto, unfolding(mesh_text::specs::Tables::number_line))]
 fn push_number_line(out: &mut LineBuf, label: &[u8], n: u64)
-    requires room { array_vec_len out.old + length label.now + 24 ≤ LINE_ROOM }
-    ensures text { out.new.items ≡ out.old.items ++ number_line label.now n }
+    requires room { length out.old + length label.now + 24 ≤ LINE_ROOM }
+    ensures text { out.new ≡ out.old ++ number_line label.now n }
 {
     push_text(out, b"  ");
     push_text(out, label);
@@ -86,10 +85,11 @@ fn flag_word(flag: Flag) -> &'static [u8]
 // The number of an entry and whether it is known, whether the route is valid, and its hops.
 #[tactic(auto, using(std::proofs::lemmas::List::append_assoc))]
 fn push_quality(out: &mut LineBuf, e: &Entry)
-    requires room { array_vec_len out.old + 50 ≤ LINE_ROOM }
-    ensures text { out.new.items ≡ out.old.items
-        ++ (32 ∷ decimal e.now.dsn ++ known_text e.now.dsk ++ flag_text e.now.flag ++ decimal e.now.hops) }
-    ensures length { array_vec_len out.new ≤ array_vec_len out.old + 50 }
+    requires room { length out.old + 50 ≤ LINE_ROOM }
+    ensures text { out.new ≡ out.old
+        ++ (32 ∷ decimal e.now.dsn ++ known_text e.now.dsk ++ flag_text e.now.flag
+        ++ decimal e.now.hops) }
+    ensures length { length out.new ≤ length out.old + 50 }
 {
     push_labelled(out, b" ", u64::from(e.dsn));
     push_text(out, known_word(e.dsk));
@@ -102,8 +102,8 @@ fn push_entry(out: &mut LineBuf, mesh: &Mesh, d: usize, e: &Entry)
     requires dest { d < length mesh.now }
     requires next { e.now.next < length mesh.now }
     requires precursors { AreBelow (length mesh.now) e.now.pre }
-    requires room { array_vec_len out.old + 3291 ≤ LINE_ROOM }
-    ensures text { out.new.items ≡ out.old.items ++ entry_text mesh.now d e.now }
+    requires room { length out.old + 3291 ≤ LINE_ROOM }
+    ensures text { out.new ≡ out.old ++ entry_text mesh.now d e.now }
 {
     push_one(out, b"  entry ", mesh, d);
     push_quality(out, e);
@@ -156,7 +156,8 @@ pub fn put_waits<O: Sink>(
 {
     buf.clear();
     push_one(buf, b"  waits ", mesh, d);
-    push_labelled(buf, req_word(needs_request), count as u64);
+    push_text(buf, req_word(needs_request));
+    push_number(buf, count as u64);
     buf.push(b'\n');
     put_all(out, buf.as_slice())
 }
@@ -190,9 +191,9 @@ fn push_flying(out: &mut LineBuf, mesh: &Mesh, f: &FlyingView<'_>)
     requires from { f.now.from < length mesh.now }
     requires to { f.now.to < length mesh.now }
     requires written { IsWrittenCopy mesh.now (flying_seen f.now) }
-    requires room { array_vec_len out.old + 4149 ≤ LINE_ROOM }
-    ensures text { out.new.items
-        ≡ out.old.items ++ flying_text mesh.now (copy_in mesh.now (flying_seen f.now)) }
+    requires room { length out.old + 4149 ≤ LINE_ROOM }
+    ensures text { out.new
+        ≡ out.old ++ flying_text mesh.now (copy_in mesh.now (flying_seen f.now)) }
 {
     push_labelled(out, b"  copy ", f.id);
     push_two(out, b" ", mesh, f.from, f.to);

@@ -1,45 +1,53 @@
 //! Names of nodes, numbers and bytes, each appended to a line's buffer.
 ghost use Rattle.std.specs.Prelude.{◌≡◌, ◌+◌, ◌*◌, ◌<◌, ◌≤◌, ◌++◌, ◌∷◌, [], length};
 ghost use Rattle.std.specs.List.{flat_map};
-ghost use Rattle.arrayvec.specs.ArrayVec.{array_vec_len};
 ghost use Rattle.mesh_base.specs.Meshes.{Nodes};
 ghost use Rattle.aodv_meaning.specs.Meaning.{meaning};
 ghost use Rattle.mesh_meaning.specs.Packets.{IsWritten, packet_of};
 ghost use Rattle.mesh_grammar.specs.Written.{line, labelled};
-ghost use Rattle.mesh_text.specs.Lines.{name_of, of_one, of_two, hex, hex_byte, hex_digit};
+ghost use Rattle.mesh_text.specs.Lines.{name_of, of_one, of_two, hex, hex_byte};
 ghost use Rattle.mesh_text.specs.Effects.{shown_byte, set_text};
 ghost use Rattle.aodv_model.specs.Soundness.{AreBelow};
 
-use mesh_base::{LINE_ROOM, LineBuf, Mesh, NodeSet, push_number, push_text, write_dotted};
+use mesh_base::{LINE_ROOM, LineBuf, Mesh, NodeSet, push_number, push_text};
 
 /// A node's address.
+#[inline]
 pub(crate) fn push_name(out: &mut LineBuf, mesh: &Mesh, i: usize)
     requires node { i < length mesh.now }
-    requires room { array_vec_len out.old + 15 ≤ LINE_ROOM }
-    ensures text { out.new.items ≡ out.old.items ++ name_of mesh.now i }
-    ensures length { array_vec_len out.new ≤ array_vec_len out.old + 15 }
+    requires room { length out.old + 15 ≤ LINE_ROOM }
+    ensures text { out.new ≡ out.old ++ name_of mesh.now i }
+    ensures length { length out.new ≤ length out.old + 15 }
 {
-    write_dotted(mesh.at(i), out);
+    mesh.push_name(i, out);
 }
 
 /// A label, and a node's address.
-pub(crate) fn push_one(out: &mut LineBuf, label: &[u8], mesh: &Mesh, i: usize)
+#[inline]
+pub(crate) fn push_one<const N: usize>(out: &mut LineBuf, label: &[u8; N], mesh: &Mesh, i: usize)
     requires node { i < length mesh.now }
-    requires room { array_vec_len out.old + length label.now + 15 ≤ LINE_ROOM }
-    ensures text { out.new.items ≡ out.old.items ++ of_one label.now mesh.now i }
-    ensures length { array_vec_len out.new ≤ array_vec_len out.old + length label.now + 15 }
+    requires room { length out.old + length label.now + 15 ≤ LINE_ROOM }
+    ensures text { out.new ≡ out.old ++ of_one label.now mesh.now i }
+    ensures length { length out.new ≤ length out.old + length label.now + 15 }
 {
-    push_text(out, label);
+    out.push_array(label);
     push_name(out, mesh, i);
 }
 
 /// A label, and two nodes' addresses.
-pub(crate) fn push_two(out: &mut LineBuf, label: &[u8], mesh: &Mesh, i: usize, j: usize)
+#[inline]
+pub(crate) fn push_two<const N: usize>(
+    out: &mut LineBuf,
+    label: &[u8; N],
+    mesh: &Mesh,
+    i: usize,
+    j: usize,
+)
     requires first { i < length mesh.now }
     requires second { j < length mesh.now }
-    requires room { array_vec_len out.old + length label.now + 31 ≤ LINE_ROOM }
-    ensures text { out.new.items ≡ out.old.items ++ of_two label.now mesh.now i j }
-    ensures length { array_vec_len out.new ≤ array_vec_len out.old + length label.now + 31 }
+    requires room { length out.old + length label.now + 31 ≤ LINE_ROOM }
+    ensures text { out.new ≡ out.old ++ of_two label.now mesh.now i j }
+    ensures length { length out.new ≤ length out.old + length label.now + 31 }
 {
     push_one(out, label, mesh, i);
     out.push(b' ');
@@ -47,40 +55,57 @@ pub(crate) fn push_two(out: &mut LineBuf, label: &[u8], mesh: &Mesh, i: usize, j
 }
 
 /// A label, and a number.
-pub(crate) fn push_labelled(out: &mut LineBuf, label: &[u8], n: u64)
-    requires room { array_vec_len out.old + length label.now + 20 ≤ LINE_ROOM }
-    ensures text { out.new.items ≡ out.old.items ++ labelled label.now n }
-    ensures length { array_vec_len out.new ≤ array_vec_len out.old + length label.now + 20 }
+#[inline]
+pub(crate) fn push_labelled<const N: usize>(out: &mut LineBuf, label: &[u8; N], n: u64)
+    requires room { length out.old + length label.now + 20 ≤ LINE_ROOM }
+    ensures text { out.new ≡ out.old ++ labelled label.now n }
+    ensures length { length out.new ≤ length out.old + length label.now + 20 }
 {
-    push_text(out, label);
+    out.push_array(label);
     push_number(out, n);
 }
 
-// The digits of a number below 16.
-static DIGITS: [u8; 16] = *b"0123456789abcdef";
+// The two digits of each byte.
+static HEX: [[u8; 2]; 256] = [
+    *b"00", *b"01", *b"02", *b"03", *b"04", *b"05", *b"06", *b"07", *b"08", *b"09", *b"0a", *b"0b",
+    *b"0c", *b"0d", *b"0e", *b"0f", *b"10", *b"11", *b"12", *b"13", *b"14", *b"15", *b"16", *b"17",
+    *b"18", *b"19", *b"1a", *b"1b", *b"1c", *b"1d", *b"1e", *b"1f", *b"20", *b"21", *b"22", *b"23",
+    *b"24", *b"25", *b"26", *b"27", *b"28", *b"29", *b"2a", *b"2b", *b"2c", *b"2d", *b"2e", *b"2f",
+    *b"30", *b"31", *b"32", *b"33", *b"34", *b"35", *b"36", *b"37", *b"38", *b"39", *b"3a", *b"3b",
+    *b"3c", *b"3d", *b"3e", *b"3f", *b"40", *b"41", *b"42", *b"43", *b"44", *b"45", *b"46", *b"47",
+    *b"48", *b"49", *b"4a", *b"4b", *b"4c", *b"4d", *b"4e", *b"4f", *b"50", *b"51", *b"52", *b"53",
+    *b"54", *b"55", *b"56", *b"57", *b"58", *b"59", *b"5a", *b"5b", *b"5c", *b"5d", *b"5e", *b"5f",
+    *b"60", *b"61", *b"62", *b"63", *b"64", *b"65", *b"66", *b"67", *b"68", *b"69", *b"6a", *b"6b",
+    *b"6c", *b"6d", *b"6e", *b"6f", *b"70", *b"71", *b"72", *b"73", *b"74", *b"75", *b"76", *b"77",
+    *b"78", *b"79", *b"7a", *b"7b", *b"7c", *b"7d", *b"7e", *b"7f", *b"80", *b"81", *b"82", *b"83",
+    *b"84", *b"85", *b"86", *b"87", *b"88", *b"89", *b"8a", *b"8b", *b"8c", *b"8d", *b"8e", *b"8f",
+    *b"90", *b"91", *b"92", *b"93", *b"94", *b"95", *b"96", *b"97", *b"98", *b"99", *b"9a", *b"9b",
+    *b"9c", *b"9d", *b"9e", *b"9f", *b"a0", *b"a1", *b"a2", *b"a3", *b"a4", *b"a5", *b"a6", *b"a7",
+    *b"a8", *b"a9", *b"aa", *b"ab", *b"ac", *b"ad", *b"ae", *b"af", *b"b0", *b"b1", *b"b2", *b"b3",
+    *b"b4", *b"b5", *b"b6", *b"b7", *b"b8", *b"b9", *b"ba", *b"bb", *b"bc", *b"bd", *b"be", *b"bf",
+    *b"c0", *b"c1", *b"c2", *b"c3", *b"c4", *b"c5", *b"c6", *b"c7", *b"c8", *b"c9", *b"ca", *b"cb",
+    *b"cc", *b"cd", *b"ce", *b"cf", *b"d0", *b"d1", *b"d2", *b"d3", *b"d4", *b"d5", *b"d6", *b"d7",
+    *b"d8", *b"d9", *b"da", *b"db", *b"dc", *b"dd", *b"de", *b"df", *b"e0", *b"e1", *b"e2", *b"e3",
+    *b"e4", *b"e5", *b"e6", *b"e7", *b"e8", *b"e9", *b"ea", *b"eb", *b"ec", *b"ed", *b"ee", *b"ef",
+    *b"f0", *b"f1", *b"f2", *b"f3", *b"f4", *b"f5", *b"f6", *b"f7", *b"f8", *b"f9", *b"fa", *b"fb",
+    *b"fc", *b"fd", *b"fe", *b"ff",
+];
 
-fn hex_digit(d: u8) -> u8
-    requires { d < 16 }
-    ensures { result ≡ hex_digit d }
-{
-    DIGITS[d as usize]
-}
-
-// The two digits of a byte.
+// Appends the two digits of a byte.
 fn push_hex_byte(out: &mut LineBuf, b: u8)
-    requires room { array_vec_len out.old + 2 ≤ LINE_ROOM }
-    ensures text { out.new.items ≡ out.old.items ++ hex_byte b }
-    ensures length { array_vec_len out.new ≡ array_vec_len out.old + 2 }
+    requires room { length out.old + 2 ≤ LINE_ROOM }
+    ensures text { out.new ≡ out.old ++ hex_byte b }
+    ensures length { length out.new ≡ length out.old + 2 }
 {
-    out.push(hex_digit(b / 16));
-    out.push(hex_digit(b % 16));
+    out.push_array(&HEX[b as usize]);
 }
 
 /// Bytes in hexadecimal.
+#[inline]
 pub(crate) fn push_hex(out: &mut LineBuf, bytes: &[u8])
-    requires room { array_vec_len out.old + 2 * length bytes.now ≤ LINE_ROOM }
-    ensures text { out.new.items ≡ out.old.items ++ hex bytes.now }
-    ensures length { array_vec_len out.new ≡ array_vec_len out.old + 2 * length bytes.now }
+    requires room { length out.old + 2 * length bytes.now ≤ LINE_ROOM }
+    ensures text { out.new ≡ out.old ++ hex bytes.now }
+    ensures length { length out.new ≡ length out.old + 2 * length bytes.now }
 {
     for b in bytes {
         push_hex_byte(out, *b);
@@ -88,11 +113,12 @@ pub(crate) fn push_hex(out: &mut LineBuf, bytes: &[u8])
 }
 
 /// A packet in hexadecimal after a space, to the line's end.
+#[inline]
 pub(crate) fn push_packet(out: &mut LineBuf, packet: &[u8])
-    requires room { array_vec_len out.old + 2 * length packet.now + 2 ≤ LINE_ROOM }
+    requires room { length out.old + 2 * length packet.now + 2 ≤ LINE_ROOM }
     ensures text { (mesh : Nodes) → IsWritten mesh packet.now
-        → out.new.items ≡ out.old.items ++ line (32 ∷ hex (packet_of mesh (meaning mesh packet.now))) }
-    ensures length { array_vec_len out.new ≡ array_vec_len out.old + 2 * length packet.now + 2 }
+        → out.new ≡ out.old ++ line (32 ∷ hex (packet_of mesh (meaning mesh packet.now))) }
+    ensures length { length out.new ≡ length out.old + 2 * length packet.now + 2 }
 {
     out.push(b' ');
     push_hex(out, packet);
@@ -101,9 +127,9 @@ pub(crate) fn push_packet(out: &mut LineBuf, packet: &[u8])
 
 // A byte of a datum.
 fn push_shown_byte(out: &mut LineBuf, b: u8)
-    requires room { array_vec_len out.old + 4 ≤ LINE_ROOM }
-    ensures text { out.new.items ≡ out.old.items ++ shown_byte b }
-    ensures length { array_vec_len out.new ≤ array_vec_len out.old + 4 }
+    requires room { length out.old + 4 ≤ LINE_ROOM }
+    ensures text { out.new ≡ out.old ++ shown_byte b }
+    ensures length { length out.new ≤ length out.old + 4 }
 {
     if 32 <= b && b <= 126 && b != b'\\' {
         out.push(b);
@@ -115,9 +141,9 @@ fn push_shown_byte(out: &mut LineBuf, b: u8)
 
 /// A datum, as it is shown.
 pub(crate) fn push_shown(out: &mut LineBuf, body: &[u8])
-    requires room { array_vec_len out.old + 4 * length body.now ≤ LINE_ROOM }
-    ensures text { out.new.items ≡ out.old.items ++ flat_map shown_byte body.now }
-    ensures length { array_vec_len out.new ≤ array_vec_len out.old + 4 * length body.now }
+    requires room { length out.old + 4 * length body.now ≤ LINE_ROOM }
+    ensures text { out.new ≡ out.old ++ flat_map shown_byte body.now }
+    ensures length { length out.new ≤ length out.old + 4 * length body.now }
 {
     for b in body {
         push_shown_byte(out, *b);
@@ -128,9 +154,9 @@ pub(crate) fn push_shown(out: &mut LineBuf, body: &[u8])
 /// each with its comma.
 pub(crate) fn push_set(out: &mut LineBuf, mesh: &Mesh, set: &NodeSet)
     requires members { AreBelow (length mesh.now) set.now }
-    requires room { array_vec_len out.old + 3200 ≤ LINE_ROOM }
-    ensures text { out.new.items ≡ out.old.items ++ set_text mesh.now set.now }
-    ensures length { array_vec_len out.new ≤ array_vec_len out.old + 3200 }
+    requires room { length out.old + 3200 ≤ LINE_ROOM }
+    ensures text { out.new ≡ out.old ++ set_text mesh.now set.now }
+    ensures length { length out.new ≤ length out.old + 3200 }
 {
     // There are at most 200 nodes.
     let _nodes = mesh.len();

@@ -1,6 +1,5 @@
 //! The datagrams that a router receives.
 ghost use Rattle.std.specs.Prelude.{◌≡◌, ◌<◌, ◌≤◌, ◌+◌, ◌^◌, ◌++◌, ◌∷◌, [], ℕ, List, length, codes, is_some, true, OnOk, IfErr, IsErrOf};
-ghost use Rattle.arrayvec.specs.ArrayVec.{array_vec_len};
 ghost use Rattle.mesh_io.specs.Cause.{HasCause};
 ghost use Rattle.mesh_io.specs.Puts.{Puts};
 ghost use Rattle.mesh_router.specs.Polls.{heard_line, strange_port_line};
@@ -40,7 +39,7 @@ fn put_heard<O: Sink>(
 
 #[tactic(auto, using(std::proofs::lemmas::List::append_assoc))]
 fn push_strange_port(out: &mut LineBuf, port: u16)
-    ensures { out.new.items ≡ strange_port_line port }
+    ensures { out.new ≡ strange_port_line port }
 {
     out.clear();
     push_text(out, b"  drop port ");

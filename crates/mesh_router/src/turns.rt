@@ -1,6 +1,5 @@
 //! The turns of a router.
 ghost use Rattle.std.specs.Prelude.{◌≡◌, ◌<◌, ◌≤◌, ◌+◌, ◌*◌, ◌^◌, ◌++◌, ◌∷◌, [], length, codes, is_some, true, OnOk, IfErr, IfSome, IsErrOf, Some};
-ghost use Rattle.arrayvec.specs.ArrayVec.{array_vec_len};
 ghost use Rattle.mesh_base.specs.Addresses.{dotted};
 ghost use Rattle.mesh_io.specs.Cause.{HasCause};
 ghost use Rattle.mesh_io.specs.Puts.{Puts};
@@ -24,9 +23,9 @@ use mesh_link::Link;
 // Why bytes spell no message.
 #[tactic(auto, using(std::proofs::lemmas::List::append_assoc))]
 fn push_refusal(out: &mut LineBuf, why: WireError)
-    requires { array_vec_len out.old + 40 ≤ LINE_ROOM }
-    ensures text { out.new.items ≡ out.old.items ++ refusal_words why }
-    ensures length { array_vec_len out.new ≤ array_vec_len out.old + 40 }
+    requires { length out.old + 40 ≤ LINE_ROOM }
+    ensures text { out.new ≡ out.old ++ refusal_words why }
+    ensures length { length out.new ≤ length out.old + 40 }
 {
     match why {
         WireError::Short => push_text(out, b"short"),
@@ -49,7 +48,7 @@ fn push_refusal(out: &mut LineBuf, why: WireError)
 #[tactic(auto, using(std::proofs::lemmas::List::append_assoc))]
 fn push_unreadable(out: &mut LineBuf, mesh: &Mesh, from: usize, why: WireError)
     requires { from < length mesh.now }
-    ensures { out.new.items ≡ drop_line mesh.now from (refusal_words why) }
+    ensures { out.new ≡ drop_line mesh.now from (refusal_words why) }
 {
     out.clear();
     push_node(out, b"  drop ", mesh, from);
@@ -77,7 +76,7 @@ fn put_unreadable<O: Sink>(
 #[tactic(auto, using(std::proofs::lemmas::List::append_assoc))]
 fn push_stranger(out: &mut LineBuf, mesh: &Mesh, from: usize, who: Addr)
     requires { from < length mesh.now }
-    ensures { out.new.items ≡ drop_line mesh.now from (stranger_words who) }
+    ensures { out.new ≡ drop_line mesh.now from (stranger_words who) }
 {
     out.clear();
     push_node(out, b"  drop ", mesh, from);

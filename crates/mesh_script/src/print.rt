@@ -2,7 +2,6 @@
 //! number.
 ghost use Rattle.std.specs.Prelude.{◌≡◌, ◌<◌, ◌≤◌, ◌+◌, ◌++◌, ◌∷◌, length, false, Ok};
 ghost use Rattle.std.specs.Fmt.{decimal};
-ghost use Rattle.arrayvec.specs.ArrayVec.{array_vec_len};
 ghost use Rattle.mesh_base.specs.Addresses.{dotted};
 ghost use Rattle.mesh_base.specs.Meshes.{addr_at};
 ghost use Rattle.mesh_model.specs.Places.{IsEvent};
@@ -24,18 +23,18 @@ pub const LONGEST_WRITTEN: usize = 549;
 // An argument, after the space before it.
 
 fn push_address(out: &mut LineBuf, a: Addr)
-    requires room { array_vec_len out.old + 16 ≤ LINE_ROOM }
-    ensures text { out.new.items ≡ out.old.items ++ 32 ∷ dotted a.0 }
-    ensures length { array_vec_len out.new ≤ array_vec_len out.old + 16 }
+    requires room { length out.old + 16 ≤ LINE_ROOM }
+    ensures text { out.new ≡ out.old ++ 32 ∷ dotted a.0 }
+    ensures length { length out.new ≤ length out.old + 16 }
 {
     out.push(b' ');
     write_dotted(a, out);
 }
 
 fn push_argument(out: &mut LineBuf, n: u64)
-    requires room { array_vec_len out.old + 21 ≤ LINE_ROOM }
-    ensures text { out.new.items ≡ out.old.items ++ 32 ∷ decimal n }
-    ensures length { array_vec_len out.new ≤ array_vec_len out.old + 21 }
+    requires room { length out.old + 21 ≤ LINE_ROOM }
+    ensures text { out.new ≡ out.old ++ 32 ∷ decimal n }
+    ensures length { length out.new ≤ length out.old + 21 }
 {
     out.push(b' ');
     push_number(out, n);
@@ -45,11 +44,11 @@ fn push_argument(out: &mut LineBuf, n: u64)
 #[inline(always)]
 #[tactic(auto, using(std::proofs::lemmas::List::append_assoc), unfolding(mesh_grammar::specs::Written::written))]
 pub fn push_written(out: &mut LineBuf, word: &[u8], arguments: &Arguments<'_, Addr>)
-    requires { array_vec_len out.old + length word.now + width_of (addresses_of arguments.now)
+    requires { length out.old + length word.now + width_of (addresses_of arguments.now)
         ≤ LINE_ROOM }
-    ensures text { out.new.items ≡ out.old.items ++ written word.now (addresses_of arguments.now) }
-    ensures length { array_vec_len out.new
-        ≤ array_vec_len out.old + length word.now + width_of (addresses_of arguments.now) }
+    ensures text { out.new ≡ out.old ++ written word.now (addresses_of arguments.now) }
+    ensures length { length out.new
+        ≤ length out.old + length word.now + width_of (addresses_of arguments.now) }
 {
     push_text(out, word);
     match arguments {
@@ -86,41 +85,43 @@ pub fn push_written(out: &mut LineBuf, word: &[u8], arguments: &Arguments<'_, Ad
 // A word, and the address of a node after a space.
 #[inline(always)]
 #[tactic(auto, using(std::proofs::lemmas::List::append_assoc), unfolding(mesh_grammar::specs::Written::written))]
-fn push_one(out: &mut LineBuf, word: &[u8], mesh: &Mesh, i: usize)
+fn push_one<const N: usize>(out: &mut LineBuf, word: &[u8; N], mesh: &Mesh, i: usize)
     requires node { i < length mesh.now }
-    requires room { array_vec_len out.old + length word.now + 16 ≤ LINE_ROOM }
-    ensures text { out.new.items
-        ≡ out.old.items ++ written word.now (forms.OneAddress (addr_at mesh.now i)) }
-    ensures length { array_vec_len out.new ≤ array_vec_len out.old + length word.now + 16 }
+    requires room { length out.old + length word.now + 16 ≤ LINE_ROOM }
+    ensures text { out.new
+        ≡ out.old ++ written word.now (forms.OneAddress (addr_at mesh.now i)) }
+    ensures length { length out.new ≤ length out.old + length word.now + 16 }
 {
-    push_text(out, word);
-    push_address(out, mesh.at(i));
+    out.push_array(word);
+    out.push(b' ');
+    mesh.push_name(i, out);
 }
 
 // The same of two nodes.
 #[inline(always)]
 #[tactic(auto, using(std::proofs::lemmas::List::append_assoc), unfolding(mesh_grammar::specs::Written::written))]
-fn push_two(out: &mut LineBuf, word: &[u8], mesh: &Mesh, i: usize, j: usize)
+fn push_two<const N: usize>(out: &mut LineBuf, word: &[u8; N], mesh: &Mesh, i: usize, j: usize)
     requires first { i < length mesh.now }
     requires second { j < length mesh.now }
-    requires room { array_vec_len out.old + length word.now + 32 ≤ LINE_ROOM }
-    ensures text { out.new.items ≡ out.old.items
+    requires room { length out.old + length word.now + 32 ≤ LINE_ROOM }
+    ensures text { out.new ≡ out.old
         ++ written word.now (forms.TwoAddresses (addr_at mesh.now i) (addr_at mesh.now j)) }
-    ensures length { array_vec_len out.new ≤ array_vec_len out.old + length word.now + 32 }
+    ensures length { length out.new ≤ length out.old + length word.now + 32 }
 {
     push_one(out, word, mesh, i);
-    push_address(out, mesh.at(j));
+    out.push(b' ');
+    mesh.push_name(j, out);
 }
 
 // A word, and a number after a space.
 #[inline(always)]
 #[tactic(auto, using(std::proofs::lemmas::List::append_assoc), unfolding(mesh_grammar::specs::Written::written))]
-fn push_numbered(out: &mut LineBuf, word: &[u8], n: u64)
-    requires room { array_vec_len out.old + length word.now + 21 ≤ LINE_ROOM }
-    ensures text { out.new.items ≡ out.old.items ++ written word.now (forms.OneNumber n) }
-    ensures length { array_vec_len out.new ≤ array_vec_len out.old + length word.now + 21 }
+fn push_numbered<const N: usize>(out: &mut LineBuf, word: &[u8; N], n: u64)
+    requires room { length out.old + length word.now + 21 ≤ LINE_ROOM }
+    ensures text { out.new ≡ out.old ++ written word.now (forms.OneNumber n) }
+    ensures length { length out.new ≤ length out.old + length word.now + 21 }
 {
-    push_text(out, word);
+    out.push_array(word);
     push_argument(out, n);
 }
 
@@ -129,10 +130,10 @@ fn push_numbered(out: &mut LineBuf, word: &[u8], n: u64)
 #[inline(always)]
 pub fn push_event(out: &mut LineBuf, mesh: &Mesh, event: &Event<'_>)
     requires event { IsEvent (length mesh.now) (event_of event.now) }
-    requires room { array_vec_len out.old + LONGEST_WRITTEN ≤ LINE_ROOM }
-    ensures text { out.new.items
-        ≡ out.old.items ++ lines.event_words mesh.now (event_of event.now) }
-    ensures length { array_vec_len out.new ≤ array_vec_len out.old + LONGEST_WRITTEN }
+    requires room { length out.old + LONGEST_WRITTEN ≤ LINE_ROOM }
+    ensures text { out.new
+        ≡ out.old ++ lines.event_words mesh.now (event_of event.now) }
+    ensures length { length out.new ≤ length out.old + LONGEST_WRITTEN }
 {
     match *event {
         Event::Give { node, dest, body } => {
@@ -156,10 +157,10 @@ pub fn push_event(out: &mut LineBuf, mesh: &Mesh, event: &Event<'_>)
 #[inline(always)]
 pub fn push_line(out: &mut LineBuf, mesh: &Mesh, line: &Line<'_>)
     requires printable { IsPrintable mesh.now line.now }
-    requires room { array_vec_len out.old + LONGEST_WRITTEN ≤ LINE_ROOM }
-    ensures text { out.new.items
-        ≡ out.old.items ++ lines.words_of mesh.now (accepted_of line.now) }
-    ensures length { array_vec_len out.new ≤ array_vec_len out.old + LONGEST_WRITTEN }
+    requires room { length out.old + LONGEST_WRITTEN ≤ LINE_ROOM }
+    ensures text { out.new
+        ≡ out.old ++ lines.words_of mesh.now (accepted_of line.now) }
+    ensures length { length out.new ≤ length out.old + LONGEST_WRITTEN }
 {
     match *line {
         Line::Blank => {}
@@ -181,9 +182,9 @@ pub fn push_line(out: &mut LineBuf, mesh: &Mesh, line: &Line<'_>)
 #[tactic(auto, using(crate::proofs::Allowed::again))]
 pub fn print_line(line: &Line<'_>, mesh: &Mesh, out: &mut LineBuf)
     requires { IsPrintable mesh.now line.now }
-    ensures text { out.new.items ≡ lines.words_of mesh.now (accepted_of line.now) }
-    ensures short { array_vec_len out.new ≤ LONGEST_WRITTEN }
-    ensures again { line_of mesh.now false out.new.items ≡ Ok (accepted_of line.now) }
+    ensures text { out.new ≡ lines.words_of mesh.now (accepted_of line.now) }
+    ensures short { length out.new ≤ LONGEST_WRITTEN }
+    ensures again { line_of mesh.now false out.new ≡ Ok (accepted_of line.now) }
 {
     // The mesh has distinct addresses, each of 32 bits.
     let _size = mesh.len();

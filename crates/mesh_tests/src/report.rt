@@ -29,7 +29,7 @@ fn a_turn_delivers_a_datum(rt: HostRuntime) -> Result<(), Fail> {
         },
     };
     let packet: Packet = ArrayVec::new();
-    let mut buf: LineBuf = ArrayVec::new();
+    let mut buf = LineBuf::new();
     let mut sink = MemSink::new(rt.alloc(), 1000, 7, &[])?;
     let event = Event::Turn { node: 0 };
     put_done(&mesh, &event, &done, &packet, &mut buf, &mut sink)?;

@@ -1,14 +1,13 @@
 //! The walk over which a route came, and its line.
 ghost use Rattle.std.specs.Prelude.{◌≡◌, ◌≤◌, ◌<◌, ◌+◌, ◌*◌, ◌++◌, length, map, option_map, IfSome};
 ghost use Rattle.std.specs.List.{All};
-ghost use Rattle.arrayvec.specs.ArrayVec.{array_vec_len};
 ghost use Rattle.mesh_io.specs.Cause.{HasCause};
 ghost use Rattle.mesh_io.specs.Puts.{Puts};
 ghost use Rattle.mesh_why.specs.Routes.{IsRoute, names_after, walk_line, route_line};
 
 use crate::words::Asked;
 use arrayvec::ArrayVec;
-use mesh_base::{LINE_ROOM, LineBuf, MOST_NODES, Mesh, push_number, push_text, write_dotted};
+use mesh_base::{LINE_ROOM, LineBuf, MOST_NODES, Mesh, push_number, push_text};
 use mesh_io::{PutFault, Sink, put_all};
 use mesh_run::Point;
 use mesh_trail::Trail;
@@ -33,24 +32,24 @@ pub fn walk_at(at: &Point<Trail>, asked: Asked) -> Option<&[usize]>
 // The names of the nodes, each after a space.
 fn push_names(out: &mut LineBuf, mesh: &Mesh, walk: &[usize])
     requires within { All (λ x. x < length mesh.now) walk.now }
-    requires room { array_vec_len out.old + 16 * length walk.now ≤ LINE_ROOM }
-    ensures text { out.new.items ≡ out.old.items ++ names_after mesh.now walk.now }
-    ensures length { array_vec_len out.new ≤ array_vec_len out.old + 16 * length walk.now }
+    requires room { length out.old + 16 * length walk.now ≤ LINE_ROOM }
+    ensures text { out.new ≡ out.old ++ names_after mesh.now walk.now }
+    ensures length { length out.new ≤ length out.old + 16 * length walk.now }
 {
     for node in walk {
         out.push(b' ');
-        write_dotted(mesh.at(*node), out);
+        mesh.push_name(*node, out);
     }
 }
 
 // The line of a walk: at most 201 nodes, of 16 bytes each with its space.
 #[tactic(auto, unfolding(crate::specs::Routes::walk_line))]
 fn push_walk(out: &mut LineBuf, mesh: &Mesh, walk: &[usize])
-    requires room { array_vec_len out.old + 3300 ≤ LINE_ROOM }
+    requires room { length out.old + 3300 ≤ LINE_ROOM }
     requires within { All (λ x. x < length mesh.now) walk.now }
     requires some { 1 ≤ length walk.now }
     requires short { length walk.now ≤ MOST_NODES + 1 }
-    ensures { out.new.items ≡ out.old.items ++ walk_line mesh.now walk.now }
+    ensures { out.new ≡ out.old ++ walk_line mesh.now walk.now }
 {
     push_text(out, b"walk ");
     push_number(out, (walk.len() - 1) as u64);
@@ -67,7 +66,7 @@ pub fn put_route<O: Sink>(mesh: &Mesh, walk: Option<&[usize]>, out: &mut O) -> R
         (route_line mesh.now (option_map (λ w. w.now) walk.entry)) result }
     ensures cause { HasCause (O.faults out.old) (O.faults out.new) result }
 {
-    let mut buf: LineBuf = ArrayVec::new();
+    let mut buf = LineBuf::new();
     match walk {
         Some(walk) => push_walk(&mut buf, mesh, walk),
         None => push_text(&mut buf, b"none\n"),

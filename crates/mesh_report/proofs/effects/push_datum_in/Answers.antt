@@ -8,10 +8,10 @@ returns-in-Ok-Parcel-clause-legible c = λ mesh is.
     rw datum (search rules)
 
 pub returns-in-Ok-Rreq-clause-legible : goal.returns-in-Ok-Rreq-clause-legible
-returns-in-Ok-Rreq-clause-legible c = λ mesh is. no_datum c.args.label.now mesh c.args.packet.now _ (c.in-Ok-Rreq.ensures.exact.stands ∙ c.in-Ok-Rreq.field-0-is) refl c.args.out.now.items
+returns-in-Ok-Rreq-clause-legible c = λ mesh is. no_datum c.args.label.now mesh c.args.packet.now _ (c.in-Ok-Rreq.ensures.exact.stands ∙ c.in-Ok-Rreq.field-0-is) refl c.args.out.now
 
 pub returns-in-Ok-Rrep-clause-legible : goal.returns-in-Ok-Rrep-clause-legible
-returns-in-Ok-Rrep-clause-legible c = λ mesh is. no_datum c.args.label.now mesh c.args.packet.now _ (c.in-Ok-Rrep.ensures.exact.stands ∙ c.in-Ok-Rrep.field-0-is) refl c.args.out.now.items
+returns-in-Ok-Rrep-clause-legible c = λ mesh is. no_datum c.args.label.now mesh c.args.packet.now _ (c.in-Ok-Rrep.ensures.exact.stands ∙ c.in-Ok-Rrep.field-0-is) refl c.args.out.now
 
 pub returns-in-Ok-Rerr-clause-legible : goal.returns-in-Ok-Rerr-clause-legible
-returns-in-Ok-Rerr-clause-legible c = λ mesh is. no_datum c.args.label.now mesh c.args.packet.now _ (c.in-Ok-Rerr.ensures.exact.stands ∙ c.in-Ok-Rerr.field-0-is) refl c.args.out.now.items
+returns-in-Ok-Rerr-clause-legible c = λ mesh is. no_datum c.args.label.now mesh c.args.packet.now _ (c.in-Ok-Rerr.ensures.exact.stands ∙ c.in-Ok-Rerr.field-0-is) refl c.args.out.now

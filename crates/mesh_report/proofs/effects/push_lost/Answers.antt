@@ -9,6 +9,6 @@ returns c =
     let P : List ℕ → Type 0 = λ l. IsWritten c.args.mesh.now l in
     let written : IsWritten c.args.mesh.now c.as_slice.result.now = subst P (sym c.as_slice.ensures) c.requires.written in
     record {
-      text = lost_whole c.args.mesh.now (codes "  dropped ") c.args.out.now.items _ c.push_lost_copy.new.out.items c.as_slice.result.now c.args.flying.now.bytes c.push_datum_in.new.out.items
+      text = lost_whole c.args.mesh.now (codes "  dropped ") c.args.out.now _ c.push_lost_copy.new.out c.as_slice.result.now c.args.flying.now.bytes c.push_datum_in.new.out
           c.as_slice.ensures c.push_lost_copy.ensures.text (c.push_datum_in.ensures.text c.args.mesh.now written);
     }

@@ -7,7 +7,7 @@ use Rattle.mesh_report.proofs.effects.put_air.Given as goal
 
 abbrev pub invariant-loop-to : goal.invariant-loop-to
 invariant-loop-to g l = record {
-  text : (from : ℕ) (m : Message) → Gathers (g.O.Sink.held l.fn.out) (g.O.Sink.held l.out) l.buf.items (l.fn.buf.items ++ air_text l.mesh from m (members_below l.start l.air.to) l.air.first);
+  text : (from : ℕ) (m : Message) → Gathers (g.O.Sink.held l.fn.out) (g.O.Sink.held l.out) l.buf (l.fn.buf ++ air_text l.mesh from m (members_below l.start l.air.to) l.air.first);
   none : g.O.Sink.faults l.out ≡ g.O.Sink.faults l.fn.out;
   id : l.id ≡ l.air.first + length (members_below l.start l.air.to);
   within : l.start ≤ length l.mesh;

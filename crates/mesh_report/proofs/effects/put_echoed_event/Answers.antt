@@ -8,7 +8,7 @@ use Rattle.mesh_report.proofs.effects.put_echoed_event.Goals as goal
 pub returns-clause-text : goal.returns-clause-text
 unfolding words_of
 returns-clause-text g c = λ w.
-    let words : c.push_text.new.out.items ≡ event_words c.args.mesh.now (event_of c.args.e.now) = rw c.clear.ensures at c.push_text.ensures.text ∙ c.requires.echo in
-    let is : c.push.new.self.items ≡ line (event_words c.args.mesh.now (event_of c.args.e.now)) =
-    c.push.ensures.items ∙ ap (λ (l : List ℕ). l ++ 10 ∷ []) words in
-    event_whole c.args.mesh.now (event_of c.args.e.now) _ c.push.new.self.items (g.O.Sink.held c.args.out.now) (g.O.Sink.held c.put_after.new.out) c.put_after.result is (c.put_after.ensures.text w)
+    let words : c.push_text.new.out ≡ event_words c.args.mesh.now (event_of c.args.e.now) = rw c.clear.ensures at c.push_text.ensures.text ∙ c.requires.echo in
+    let is : c.push.new.self ≡ line (event_words c.args.mesh.now (event_of c.args.e.now)) =
+    c.push.ensures.text ∙ ap (λ (l : List ℕ). l ++ 10 ∷ []) words in
+    event_whole c.args.mesh.now (event_of c.args.e.now) _ c.push.new.self (g.O.Sink.held c.args.out.now) (g.O.Sink.held c.put_after.new.out) c.put_after.result is (c.put_after.ensures.text w)

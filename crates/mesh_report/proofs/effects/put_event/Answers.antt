@@ -8,6 +8,6 @@ use Rattle.mesh_report.proofs.effects.put_event.Goals as goal
 pub returns-clause-text : goal.returns-clause-text
 unfolding words_of event_words
 returns-clause-text g c = λ w.
-    let is : c.push.new.self.items ≡ line (event_words c.args.mesh.now (event_of c.args.e.now)) =
-    c.push.ensures.items ∙ ap (λ (l : List ℕ). l ++ 10 ∷ []) c.print_line.ensures.text in
-    event_whole c.args.mesh.now (event_of c.args.e.now) _ c.push.new.self.items (g.O.Sink.held c.args.out.now) (g.O.Sink.held c.put_after.new.out) c.put_after.result is (c.put_after.ensures.text w)
+    let is : c.push.new.self ≡ line (event_words c.args.mesh.now (event_of c.args.e.now)) =
+    c.push.ensures.text ∙ ap (λ (l : List ℕ). l ++ 10 ∷ []) c.print_line.ensures.text in
+    event_whole c.args.mesh.now (event_of c.args.e.now) _ c.push.new.self (g.O.Sink.held c.args.out.now) (g.O.Sink.held c.put_after.new.out) c.put_after.result is (c.put_after.ensures.text w)

@@ -11,5 +11,5 @@ returns-in_err-make_room-clause-text g c = λ from.
 pub returns-clause-text : goal.returns-clause-text
 returns-clause-text g c = λ from.
     Gathers-sent (g.O.Sink.held c.args.out.now) (g.O.Sink.held c.make_room.new.out) (g.O.Sink.held c.put_copies.new.out)
-    c.make_room.new.buf.items c.args.buf.now.items _ _ c.push_sent.new.out.items c.put_copies.result
+    c.make_room.new.buf c.args.buf.now _ _ c.push_sent.new.out c.put_copies.result
     c.push_sent.ensures.text c.in_ok-make_room.ensures.text (c.put_copies.ensures.text from c.args.packet.now.items)

@@ -6,5 +6,5 @@ four old a b c d l1 l2 l3 l4 p1 p2 p3 p4 = rw (p4, p3, p2, p1) (simp append_asso
 
 pub returns-clause-text : goal.returns-clause-text
 returns-clause-text c =
-    four c.args.out.now.items _ _ _ _ c.push_labelled.new.out.items c.push_labelled-2.new.out.items c.push_labelled-3.new.out.items c.push_labelled-4.new.out.items
+    four c.args.out.now _ _ _ _ c.push_labelled.new.out c.push_labelled-2.new.out c.push_labelled-3.new.out c.push_labelled-4.new.out
     c.push_labelled.ensures.text c.push_labelled-2.ensures.text c.push_labelled-3.ensures.text c.push_labelled-4.ensures.text

@@ -13,8 +13,8 @@ pub returns : goal.returns
 unfolding full_line
 returns c = record {
   text =
-      second c.args.out.now.items _ _ _ c.push_event.new.out.items c.push_text-2.new.out.items c.push_text-3.new.out.items c.push.new.self.items
-      (first c.args.out.now.items _ _ _ c.push_labelled.new.out.items c.push_text.new.out.items c.push_event.new.out.items
+      second c.args.out.now _ _ _ c.push_event.new.out c.push_text-2.new.out c.push_text-3.new.out c.push.new.self
+      (first c.args.out.now _ _ _ c.push_labelled.new.out c.push_text.new.out c.push_event.new.out
       c.push_labelled.ensures.text c.push_text.ensures.text c.push_event.ensures.text)
-      c.push_text-2.ensures.text (c.push_text-3.ensures.text ∙ ap (λ (l : List ℕ). c.push_text-2.new.out.items ++ l) c.field_word.ensures.text) c.push.ensures.items;
+      c.push_text-2.ensures.text (c.push_text-3.ensures.text ∙ ap (λ (l : List ℕ). c.push_text-2.new.out ++ l) c.field_word.ensures.text) c.push.ensures.text;
 }

@@ -14,8 +14,8 @@ pub returns : goal.returns
 unfolding summary_text
 returns c = record {
   text =
-      second c.args.out.now.items _ _ _ _ c.push_labelled-2.new.out.items c.push_labelled-3.new.out.items c.push_labelled-4.new.out.items c.push_copied.new.out.items c.push.new.self.items
-      (first c.args.out.now.items _ _ _ c.push_done.new.out.items c.push_labelled.new.out.items c.push_labelled-2.new.out.items
+      second c.args.out.now _ _ _ _ c.push_labelled-2.new.out c.push_labelled-3.new.out c.push_labelled-4.new.out c.push_copied.new.out c.push.new.self
+      (first c.args.out.now _ _ _ c.push_done.new.out c.push_labelled.new.out c.push_labelled-2.new.out
       c.push_done.ensures.text c.push_labelled.ensures.text c.push_labelled-2.ensures.text)
-      c.push_labelled-3.ensures.text c.push_labelled-4.ensures.text c.push_copied.ensures.text c.push.ensures.items;
+      c.push_labelled-3.ensures.text c.push_labelled-4.ensures.text c.push_copied.ensures.text c.push.ensures.text;
 }

@@ -13,7 +13,7 @@ pub returns : goal.returns
 unfolding entry_text
 returns c = record {
   text =
-      second c.args.out.now.items _ _ _ c.push_quality.new.out.items c.push_one-2.new.out.items c.push.new.self.items c.push_set.new.out.items c.push-2.new.self.items
-      (first c.args.out.now.items _ _ _ _ _ c.push_one.new.out.items c.push_quality.new.out.items c.push_one.ensures.text c.push_quality.ensures.text)
-      c.push_one-2.ensures.text c.push.ensures.items c.push_set.ensures.text c.push-2.ensures.items;
+      second c.args.out.now _ _ _ c.push_quality.new.out c.push_one-2.new.out c.push.new.self c.push_set.new.out c.push-2.new.self
+      (first c.args.out.now _ _ _ _ _ c.push_one.new.out c.push_quality.new.out c.push_one.ensures.text c.push_quality.ensures.text)
+      c.push_one-2.ensures.text c.push.ensures.text c.push_set.ensures.text c.push-2.ensures.text;
 }

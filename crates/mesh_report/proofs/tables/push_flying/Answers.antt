@@ -16,6 +16,6 @@ pub returns : goal.returns
 unfolding flying_text
 returns c = record {
   text =
-      in_turn c.args.out.now.items _ _ _ _ c.push_labelled.new.out.items c.push_two.new.out.items c.push_packet.new.out.items c.push_labelled.ensures.text c.push_two.ensures.text
+      in_turn c.args.out.now _ _ _ _ c.push_labelled.new.out c.push_two.new.out c.push_packet.new.out c.push_labelled.ensures.text c.push_two.ensures.text
       (c.push_packet.ensures.text c.args.mesh.now c.requires.written);
 }

@@ -8,5 +8,5 @@ in_turn old a b c packet bytes e p q r = rw (e, r, q, p) (simp append_assoc)
 
 pub returns-clause-text : goal.returns-clause-text
 returns-clause-text c = λ mesh written.
-    in_turn c.args.out.now.items c.push.new.self.items c.push_hex.new.out.items c.push-2.new.self.items _ c.args.packet.now (packet_back mesh c.args.packet.now written)
-    c.push.ensures.items c.push_hex.ensures.text c.push-2.ensures.items
+    in_turn c.args.out.now c.push.new.self c.push_hex.new.out c.push-2.new.self _ c.args.packet.now (packet_back mesh c.args.packet.now written)
+    c.push.ensures.text c.push_hex.ensures.text c.push-2.ensures.text

@@ -1,14 +1,13 @@
 use Rattle.std.proofs.Common.{◌≡◌, ◌≤◌, ◌<◌, ◌+◌, ◌-◌, ◌*◌, ◌++◌, length}
-use Rattle.arrayvec.specs.ArrayVec.{array_vec_len}
 use Rattle.mesh_model.specs.Worlds.{members_below}
 use Rattle.mesh_text.specs.Effects.{names}
 use Rattle.mesh_report.proofs.text.push_set.Given as goal
 
 abbrev pub invariant-loop-node : goal.invariant-loop-node
 invariant-loop-node l = record {
-  text : l.out.items ≡ l.fn.out.items ++ names l.mesh (members_below l.start l.set);
+  text : l.out ≡ l.fn.out ++ names l.mesh (members_below l.start l.set);
   some : 0 < length (members_below l.start l.set);
-  room : array_vec_len l.out + 1 ≤ array_vec_len l.fn.out + 16 * l.start;
+  room : length l.out + 1 ≤ length l.fn.out + 16 * l.start;
   within : l.start ≤ length l.mesh;
 }
 
