@@ -195,4 +195,5 @@ pub record IsFront (whole : NodeIds) (count : ℕ) (front : NodeIds) : Type 0 wh
 pub record IsCut (id : ℕ) (e now : Entry) (stays : Bool) : Type 0 where
   pub first : now.0 ≡ e.0
   pub stays_below : stays ≡ nat_lt e.0 id
-  pub cut : OnTrue stays ((now.1 ≡ record e.1 { to = (now.1).to }) × IsFront (e.1).to (id - e.0) (now.1).to)
+  pub cut : OnTrue stays
+      ((now.1 ≡ record e.1 { to = (now.1).to }) × IsFront (e.1).to (id - e.0) (now.1).to)

@@ -61,8 +61,8 @@ fn event_after<'e, 'a, S: Steps>(
 }
 
 /// Does up to so many events, and answers how many there were: the one that is given, or else those
-/// that the run chooses, each when the one before it is done. All events are done here: the compiler
-/// puts the code of a step into this loop only where no other place has it.
+/// that the run chooses, each when the one before it is done. All events are done here: the
+/// compiler puts the code of a step into this loop only where no other place has it.
 pub fn do_events<'a, S: Steps, O: Sink>(
     alloc: Global,
     task: &mut Task<'_, 'a, '_, S>,

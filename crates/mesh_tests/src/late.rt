@@ -1,5 +1,5 @@
-//! Worlds in which a copy comes late, and where their routes then lead. The world's owner only makes
-//! it and lends it, since each way out of the owner ends it.
+//! Worlds in which a copy comes late, and where their routes then lead. The world's owner only
+//! makes it and lends it, since each way out of the owner ends it.
 use crate::steps::{advance_all, opening};
 use mesh_base::Event;
 use mesh_world::{End, Steps, World};
