@@ -1,6 +1,6 @@
 -- An address, a number below 2 ^ 32, as four numbers from 0 to 255 without leading zeros, joined by
 -- dots.
-use Rattle.std.specs.Prelude.{◌≡◌, ◌≤◌, ℕ, ◌+◌, ◌*◌, ◌/◌, ◌%◌, List, [], ◌∷◌, ◌++◌, take, Option, Some, None, option_and_then}
+use Rattle.std.specs.Prelude.{ℕ, ◌+◌, ◌*◌, ◌/◌, ◌%◌, List, [], ◌∷◌, ◌++◌, Option, Some, None, option_and_then}
 use Rattle.std.specs.Fmt.{decimal}
 use Rattle.mesh_base.specs.Numbers.{number_up_to}
 use Rattle.mesh_base.specs.Parts.{parts}
@@ -21,14 +21,3 @@ abbrev pub dotted : ℕ → List ℕ
 dotted a =
     decimal (a / 16777216) ++ 46 ∷ decimal (a / 65536 % 256) ++ 46 ∷ decimal (a / 256 % 256)
     ++ 46 ∷ decimal (a % 256)
-
--- the first three numbers of an address, each with a dot, from the address divided by 256
-abbrev pub stem_of : ℕ → List ℕ
-stem_of high =
-    decimal (high / 65536) ++ 46 ∷ decimal (high / 256 % 256) ++ 46 ∷ decimal (high % 256)
-    ++ 46 ∷ []
-
--- the first cells of a block are these numbers
-pub record IsStem (high : ℕ) (cells : List ℕ) (width : ℕ) : Type 0 where
-  pub text : take width cells ≡ stem_of high
-  pub short : width ≤ 12

@@ -1,7 +1,8 @@
 -- Read in this order: the spelling of numbers and addresses, the parts of a text, meshes, sets of
 -- nodes, what is only looked at.
--- Words has the proof that a set gives its words back, Octets an address number by number, and Few
--- short bytes as they are kept; no public contract says any of these.
+-- Words has the proof that a set gives its words back, Octets an address number by number, Few
+-- short bytes and Stems an address's first numbers as they are kept; no public contract says any of
+-- these.
 pub mod Numbers
 pub mod Parts
 pub mod Addresses
@@ -12,3 +13,4 @@ pub mod Views
 pub mod Words
 pub mod Octets
 pub mod Few
+pub mod Stems

@@ -1,7 +1,8 @@
 //! The numbers of an address, written.
 ghost use Rattle.std.specs.Prelude.{◌≡◌, ◌<◌, ◌≤◌, ◌+◌, ◌/◌, ◌%◌, ◌++◌, ◌∷◌, [], length, take};
 ghost use Rattle.std.specs.Fmt.{decimal};
-ghost use Rattle.mesh_base.specs.Addresses.{dotted, stem_of, IsStem};
+ghost use Rattle.mesh_base.specs.Addresses.{dotted};
+ghost use Rattle.mesh_base.specs.Stems.{IsStem};
 
 use crate::addr::Addr;
 use crate::limits::LINE_ROOM;

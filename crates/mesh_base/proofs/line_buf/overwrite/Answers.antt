@@ -1,4 +1,4 @@
-use Rattle.std.proofs.Common.{◌≡◌, ◌∙◌, ◌++◌, ap, drop, take}
+use Rattle.std.proofs.Common.{◌∙◌, ◌++◌, ap, drop, take}
 use Rattle.std.proofs.lemmas.List.{drop-drop}
 use Rattle.mesh_base.proofs.line_buf.overwrite.Goals as goal
 

@@ -1,4 +1,4 @@
-use Rattle.std.proofs.Common.{rules, ◌≡◌, ◌∙◌, ap, ◌++◌, length, length-append, arith}
+use Rattle.std.proofs.Common.{◌∙◌, ap, ◌++◌, length, length-append}
 use Rattle.mesh_base.proofs.TableLaws.{pair_is}
 use Rattle.mesh_base.proofs.text.push_pair.Goals as goal
 
