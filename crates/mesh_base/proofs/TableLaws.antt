@@ -56,7 +56,7 @@ width_is n lt = one (among (λ n. get_or WIDTHS n 0 ∷ []) (λ n. (length (deci
     one : {x y : ℕ} → x ∷ [] ≡ y ∷ [] → x ≡ y
     one e = cc
 
--- they are the first bytes of its block
-pub block_is : (n : ℕ) → n < 256 → take (length (decimal n) + 1) (get_or OCTETS n []) ≡ decimal n ++ 46 ∷ []
+-- they are the first bytes of its chunk
+pub chunk_is : (n : ℕ) → n < 256 → take (length (decimal n) + 1) (get_or OCTETS n []) ≡ decimal n ++ 46 ∷ []
 unfolding digits
-block_is n lt = among (λ n. take (length (decimal n) + 1) (get_or OCTETS n [])) (λ n. decimal n ++ 46 ∷ []) 256 n refl lt
+chunk_is n lt = among (λ n. take (length (decimal n) + 1) (get_or OCTETS n [])) (λ n. decimal n ++ 46 ∷ []) 256 n refl lt

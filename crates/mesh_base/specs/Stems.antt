@@ -8,7 +8,7 @@ stem_of high =
     decimal (high / 65536) ++ 46 ∷ decimal (high / 256 % 256) ++ 46 ∷ decimal (high % 256)
     ++ 46 ∷ []
 
--- they are the first cells of a block, so many of them
+-- they are the first cells of a chunk, so many of them
 pub record IsStem (high : ℕ) (cells : List ℕ) (width : ℕ) : Type 0 where
   pub text : take width cells ≡ stem_of high
   pub short : width ≤ 12

@@ -4,13 +4,13 @@ ghost use Rattle.std.specs.Prelude.{◌≡◌, ◌<◌, ◌≤◌, ◌+◌, ◌+
 use crate::limits::LINE_ROOM;
 use std::marker::Model;
 
-// Room for a line, and behind it for a block of at most 16 bytes that is copied whole.
+// Room for a line, and behind it for a chunk of at most 16 bytes that is copied whole.
 const CELLS: usize = 8208;
 
 /// A line to be written, of at most `LINE_ROOM` bytes. To clear it writes nothing.
 #[derive(Drop)]
 pub struct LineBuf {
-    // The line, and behind it what earlier lines and blocks left.
+    // The line, and behind it what earlier lines and chunks left.
     cells: [u8; CELLS],
     width: usize,
 }
@@ -26,17 +26,17 @@ impl Model for LineBuf {
     ghost invariant = { λ l. l.width ≤ LINE_ROOM };
 }
 
-// A block takes the place of as many cells, from this one on.
+// A chunk takes the place of as many cells, from this one on.
 #[inline]
-pub(crate) fn overwrite<const SIZE: usize>(cells: &mut [u8], at: usize, block: &[u8; SIZE])
+pub(crate) fn overwrite<const SIZE: usize>(cells: &mut [u8], at: usize, chunk: &[u8; SIZE])
     requires { at + SIZE ≤ length cells.old }
-    ensures { cells.new ≡ take at cells.old ++ (block.now ++ drop (at + SIZE) cells.old) }
+    ensures { cells.new ≡ take at cells.old ++ (chunk.now ++ drop (at + SIZE) cells.old) }
 {
     let (_, rest) = cells.split_at_mut(at);
     let Some(place) = rest.first_chunk_mut::<SIZE>() else {
         unreachable!();
     };
-    *place = *block;
+    *place = *chunk;
 }
 
 impl LineBuf {
@@ -108,16 +108,16 @@ impl LineBuf {
         self.width += SIZE;
     }
 
-    /// Appends the first bytes of a short block, which is copied whole.
+    /// Appends the first bytes of a short chunk, which is copied whole.
     #[inline]
-    pub(crate) fn push_front<const SIZE: usize>(&mut self, block: &[u8; SIZE], width: usize)
+    pub(crate) fn push_front<const SIZE: usize>(&mut self, chunk: &[u8; SIZE], width: usize)
         requires short { SIZE ≤ 16 }
         requires within { width ≤ SIZE }
         requires room { length self.old + width ≤ LINE_ROOM }
-        ensures text { self.new ≡ self.old ++ take width block.now }
+        ensures text { self.new ≡ self.old ++ take width chunk.now }
         ensures length { length self.new ≡ length self.old + width }
     {
-        overwrite(&mut self.cells, self.width, block);
+        overwrite(&mut self.cells, self.width, chunk);
         self.width += width;
     }
 }

@@ -8,7 +8,7 @@ use crate::addr::Addr;
 use crate::limits::LINE_ROOM;
 use crate::line_buf::{LineBuf, overwrite};
 
-// The numbers below 256, each with a dot, in blocks of four bytes.
+// The numbers below 256, each with a dot, in chunks of four bytes.
 static OCTETS: [[u8; 4]; 256] = [
     *b"0.  ", *b"1.  ", *b"2.  ", *b"3.  ", *b"4.  ", *b"5.  ", *b"6.  ", *b"7.  ", *b"8.  ",
     *b"9.  ", *b"10. ", *b"11. ", *b"12. ", *b"13. ", *b"14. ", *b"15. ", *b"16. ", *b"17. ",
@@ -41,7 +41,7 @@ static OCTETS: [[u8; 4]; 256] = [
     *b"252.", *b"253.", *b"254.", *b"255.",
 ];
 
-// How many bytes of its block each of them takes.
+// How many bytes of its chunk each of them takes.
 static WIDTHS: [u8; 256] = [
     2, 2, 2, 2, 2, 2, 2, 2, 2, 2, 3, 3, 3, 3, 3, 3, 3, 3, 3, 3, 3, 3, 3, 3, 3, 3, 3, 3, 3, 3, 3, 3,
     3, 3, 3, 3, 3, 3, 3, 3, 3, 3, 3, 3, 3, 3, 3, 3, 3, 3, 3, 3, 3, 3, 3, 3, 3, 3, 3, 3, 3, 3, 3, 3,
@@ -53,16 +53,16 @@ static WIDTHS: [u8; 256] = [
     4, 4, 4, 4, 4, 4, 4, 4, 4, 4, 4, 4, 4, 4, 4, 4, 4, 4, 4, 4, 4, 4, 4, 4, 4, 4, 4, 4, 4, 4, 4, 4,
 ];
 
-// The block of a number below 256.
+// The chunk of a number below 256.
 #[inline]
-fn block(n: u32) -> [u8; 4]
+fn chunk(n: u32) -> [u8; 4]
     requires { n < 256 }
     ensures { take (length (decimal n) + 1) result ≡ decimal n ++ 46 ∷ [] }
 {
     OCTETS[n as usize]
 }
 
-// How many bytes of its block a number below 256 and its dot take.
+// How many bytes of its chunk a number below 256 and its dot take.
 #[inline]
 fn width(n: u32) -> usize
     requires { n < 256 }
@@ -81,7 +81,7 @@ fn push_octet_dot(out: &mut LineBuf, n: u32)
     ensures text { out.new ≡ out.old ++ (decimal n ++ 46 ∷ []) }
     ensures length { length out.new ≤ length out.old + 4 }
 {
-    out.push_front(&block(n), width(n));
+    out.push_front(&chunk(n), width(n));
 }
 
 // Appends a number below 256.
@@ -92,7 +92,7 @@ fn push_octet(out: &mut LineBuf, n: u32)
     ensures text { out.new ≡ out.old ++ decimal n }
     ensures length { length out.new ≤ length out.old + 3 }
 {
-    out.push_front(&block(n), width(n) - 1);
+    out.push_front(&chunk(n), width(n) - 1);
 }
 
 /// Appends an address as it is spelled: at most 15 bytes.
@@ -114,7 +114,7 @@ fn join(cells: &mut [u8; 16], at: usize, n: u32) -> usize
     ensures text { take result cells.new ≡ take at cells.old ++ (decimal n ++ 46 ∷ []) }
     ensures length { result ≤ at + 4 }
 {
-    overwrite(cells, at, &block(n));
+    overwrite(cells, at, &chunk(n));
     at + width(n)
 }
 
