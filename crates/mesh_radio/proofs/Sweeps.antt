@@ -1,11 +1,11 @@
 -- Casts that are done with, and that go.
-use Rattle.std.proofs.Common.{◌≡◌, ℕ, zero, suc, ◌+◌, ◌<◌, ◌≤◌, true, false, cond, eqb, leb, not, List, [], ◌∷◌, ◌++◌, filter, length, Option, Some, None, unwrap_or, is_some, refl, sym, ap, subst, ◌∙◌, arith}
+use Rattle.std.proofs.Common.{◌≡◌, ℕ, zero, suc, ◌+◌, ◌<◌, ◌≤◌, true, false, cond, eqb, leb, not, List, [], ◌∷◌, ◌++◌, filter, length, Option, Some, None, unwrap_or, is_some, IfSome, refl, sym, ap, subst, ◌∙◌, arith}
 use Rattle.std.specs.Prelude.{slice_get}
 use Rattle.std.specs.List.{AllByRecursion}
 use Rattle.std.specs.FinSet.{contains}
 use Rattle.std.proofs.lemmas.Bool.{lt-leb}
 use Rattle.std.proofs.lemmas.Option.{none-some, same_Some, slice_get_within}
-use Rattle.mesh_base.specs.Members.{IsLeastFrom, members_below, member_list}
+use Rattle.mesh_base.specs.Members.{IsLeastFrom, members_below, member_list, rank}
 use Rattle.mesh_base.specs.declared.events.Flying.{Flying}
 use Rattle.mesh_radio.specs.Copies.{find_copy, without}
 use Rattle.mesh_radio.specs.Kept.{copies_in}
@@ -14,6 +14,7 @@ use Rattle.mesh_radio.specs.declared.casts.Cast.{Cast}
 use Rattle.mesh_base.proofs.Ranks.{members-zero, member-past, members-sorted, rises-bound, no-first}
 use Rattle.mesh_radio.proofs.Entries.{IsLess, rising-low, slot-gone, find-all, rising-taken}
 use Rattle.mesh_radio.proofs.Nexts.{none-more, none-at-start}
+use Rattle.mesh_radio.proofs.Receivers.{member_of_rank}
 
 -- ---- casts without a copy in flight
 
@@ -192,6 +193,16 @@ none-left c None least none =
     let first : length (members_below 0 c.left) ≡ 0 = ap length (members-zero c.left) in
     ap is_some (member-past 0 0 c.left (omega arith) least (omega arith))
 none-left c (Some x) least none = absurd cc
+
+any-first : (xs : List ℕ) (k m : ℕ) → slice_get xs k ≡ Some m → is_some (slice_get xs 0) ≡ true
+any-first [] k m at = absurd (omega (arith, slice_get_within [] k m at))
+any-first (x ∷ xs) k m at = refl
+
+-- where a member is found, a copy flies, and else none does
+pub some-left : (c : Cast) (o : Option ℕ) → IsLeastFrom c.left 0 o → IfSome o (λ m. m < 256) → is_some o ≡ has_left c
+some-left c None least below = sym (none-left c None least refl)
+some-left c (Some m) least below =
+    sym (any-first (member_list c.left) (rank c.left m) m (sym (member_of_rank c.left m (rank c.left m) below least.1 refl)))
 
 pub gone-without-packet : (es : List Entry) (next place gone : ℕ) (e : Entry) → AreRising 1 es next → slice_get es place ≡ Some e → has_left e.1 ≡ false → AreGone es gone → AreGone (with_cast_at es place (without_packet e.1)) gone
 gone-without-packet es next place gone e r at none g =

@@ -43,7 +43,7 @@ fn sweep(casts: &mut Casts)
     casts.retain(
         |cast: &(u64, Cast)| -> bool
             ensures { result ≡ has_left cast.now.1 }
-        { cast.1.left.nth(0).is_some() },
+        { cast.1.left.next_from(0).is_some() },
     );
 }
 
