@@ -104,8 +104,10 @@ impl LineBuf {
         ensures text { self.new ≡ self.old ++ bytes.now }
         ensures length { length self.new ≡ length self.old + SIZE }
     {
-        overwrite(&mut self.cells, self.width, bytes);
-        self.width += SIZE;
+        // Read once: for the compiler, a write among the cells may change it.
+        let at = self.width;
+        overwrite(&mut self.cells, at, bytes);
+        self.width = at + SIZE;
     }
 
     /// Appends the first bytes of a short chunk, which is copied whole.
@@ -117,7 +119,8 @@ impl LineBuf {
         ensures text { self.new ≡ self.old ++ take width chunk.now }
         ensures length { length self.new ≡ length self.old + width }
     {
-        overwrite(&mut self.cells, self.width, chunk);
-        self.width += width;
+        let at = self.width;
+        overwrite(&mut self.cells, at, chunk);
+        self.width = at + width;
     }
 }
