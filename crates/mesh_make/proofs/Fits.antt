@@ -18,17 +18,15 @@ use Rattle.mesh_text.specs.Schedule.{Accepted, Nothing, NewNode, Does, Chooses, 
 use Rattle.mesh_grammar.specs.Forms.{OneNumber, TwoAddresses, IsText}
 use Rattle.mesh_text.specs.Lines.{Spelling, spelling, event_spelling, event_words, text_of, words_of}
 use Rattle.mesh_text.specs.Ranges.{IsInRange, IsInTime}
-use Rattle.mesh_make.specs.declared.action.Action.{Action}
-use Rattle.mesh_make.specs.declared.action.TheConstants.{ACTIONS}
 use Rattle.mesh_make.specs.Words.{word, after}
-use Rattle.mesh_make.specs.Drawn.{node_by, other_by, copy_by, datum_text, action_of, action_line, step_line}
+use Rattle.mesh_make.specs.Drawn.{node_by, other_by, copy_by, datum_text, Action, actions, action_of, action_line, step_line}
 use Rattle.mesh_make.specs.Made.{link_line, last_line}
 use Rattle.mesh_make.proofs.Texts.{other, IsShort, AreShort, joined, number_short, name_short, written_short}
 use Rattle.mesh_make.proofs.Grown.{IsMeshOf}
 
 -- ---- what a word chooses
 
-node_drawn : (nodes w : ℕ) → 2 ≤ nodes → node_by nodes w < nodes
+pub node_drawn : (nodes w : ℕ) → 2 ≤ nodes → node_by nodes w < nodes
 node_drawn nodes w two = mod-lt w (omega arith)
 
 -- the next one after a
@@ -42,7 +40,7 @@ next_one nodes a two lt =
           (omega arith, λ e. omega arith)
     ]
 
-other_drawn : (nodes a w : ℕ) → 2 ≤ nodes → a < nodes → (other_by nodes a w < nodes) × (a ≢ other_by nodes a w)
+pub other_drawn : (nodes a w : ℕ) → 2 ≤ nodes → a < nodes → (other_by nodes a w < nodes) × (a ≢ other_by nodes a w)
 unfolding other_by
 other_drawn nodes a w two lt =
     elim (cases_eq (node_by nodes w) a) [
@@ -152,7 +150,7 @@ module _ (nodes : ℕ) (mesh : Nodes) (two : 2 ≤ nodes) (few : nodes ≤ 200) 
     abbrev IsFitting : Action → Type 0
     IsFitting action = IsFit mesh (action_line action nodes s rng).value
 
-    all_fit : AllByRecursion IsFitting ACTIONS
+    all_fit : AllByRecursion IsFitting actions
     all_fit =
         let digits : IsShort 6 (decimal s) = number s (omega arith) in
         let shown : AllByRecursion (λ b. (32 ≤ b) × (b ≤ 126)) (decimal s) = digits_shown s (omega arith) in
@@ -176,4 +174,4 @@ module _ (nodes : ℕ) (mesh : Nodes) (two : 2 ≤ nodes) (few : nodes ≤ 200) 
   unfolding step_line action_of
   fit_step s one most rng =
       let lt : word rng % 16 < 16 = mod-lt (word rng) (omega arith) in
-      All-from_recursion (IsFitting s one most (after rng)) ACTIONS (all_fit s one most (after rng)) (word rng % 16) _ (omega arith)
+      All-from_recursion (IsFitting s one most (after rng)) actions (all_fit s one most (after rng)) (word rng % 16) _ (omega arith)

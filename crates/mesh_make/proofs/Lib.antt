@@ -1,4 +1,3 @@
-pub mod Actions
 pub mod Texts
 pub mod Grown
 pub mod Safe

@@ -1,48 +1,100 @@
--- A line of the steps as the program makes it.
-use Rattle.std.proofs.Common.{◌≡◌, ℕ, ◌^◌, ◌≤◌, Result, Ok, Err, refl, ap, ◌∙◌, arith}
+-- A line of the steps, by the remainder of its first word.
+use Rattle.std.proofs.Common.{◌≡◌, ℕ, ◌%◌, ◌<◌, ◌≤◌, inl, inr, List, get_or, refl, sym, ap, ◌∙◌, arith}
 use Rattle.std.specs.Result.{result_unwrap_or}
-use Rattle.std.proofs.lemmas.Bool.{lt-ltb}
+use Rattle.std.proofs.Math.Nat.{mod-lt}
+use Rattle.std.proofs.lemmas.Bool.{cases_lt, ne_eqb}
 use Rattle.rand_pcg.specs.Lcg.{Lcg}
-use Rattle.mesh_base.specs.Meshes.{Nodes}
-use Rattle.mesh_grammar.specs.Forms.{Arguments}
-use Rattle.mesh_grammar.specs.declared.fault.LineFault.{LineFault}
-use Rattle.mesh_text.specs.Schedule as lines
-use Rattle.mesh_text.specs.Schedule.{Accepted, Nothing, NewNode, Does, Chooses, ShowsNode, ShowsRoute, ShowsFlight}
-use Rattle.mesh_text.specs.Ranges.{IsInRange}
-use Rattle.mesh_script.specs.declared.line.Line.{Line}
-use Rattle.mesh_script.specs.declared.line.Line.TheVariants.{Blank}
-use Rattle.mesh_script.specs.Seen.{accepted_of, seen_line, counted}
-use Rattle.mesh_make.specs.declared.action.Action.{Action}
+use Rattle.mesh_grammar.specs.declared.command.Command.TheVariants as command
+use Rattle.mesh_model.specs.Worlds.{Event, Give, Turn, Ask, Link, Cut, Deliver, Lose}
+use Rattle.mesh_text.specs.Schedule.{Accepted, Nothing, Does, Chooses, ShowsRoute, of_pair}
+use Rattle.mesh_make.specs.declared.sizes.TheConstants.{EVENTS_BETWEEN}
 use Rattle.mesh_make.specs.Words.{word, after}
-use Rattle.mesh_make.specs.Drawn.{action_of, arguments_by, step_line}
-use Rattle.mesh_make.specs.Made.{mesh_of}
-use Rattle.mesh_make.proofs.Grown.{mesh_of-is}
-use Rattle.mesh_make.proofs.Fits.{fit_step}
+use Rattle.mesh_make.specs.Drawn.{node_by, other_by, copy_by, datum_text, Draw, Action, Events, actions, action_of, action_line, step_line}
+use Rattle.mesh_make.proofs.Fits.{node_drawn, other_drawn}
 
-seen_or_blank : (r : Result Line LineFault) → accepted_of (result_unwrap_or r Blank) ≡ result_unwrap_or (seen_line r) Nothing
-seen_or_blank (Ok l) = refl
-seen_or_blank (Err f) = refl
+-- what a line does by a remainder
+abbrev action_at : ℕ → Action
+action_at r = get_or actions r (command.Auto, Events)
 
--- an allowed line has a count of 32 bits
-counted_same : (mesh : Nodes) (r : Result Accepted LineFault) → IsInRange mesh (result_unwrap_or r Nothing) → counted r ≡ r
-counted_same mesh (Err f) is = refl
-counted_same mesh (Ok Nothing) is = refl
-counted_same mesh (Ok (NewNode a first)) is = refl
-counted_same mesh (Ok (Does e)) is = refl
-counted_same mesh (Ok (Chooses count)) is = rw (lt-ltb count (2 ^ 32) (omega (arith, is.2))) refl
-counted_same mesh (Ok (ShowsNode x)) is = refl
-counted_same mesh (Ok (ShowsRoute x d)) is = refl
-counted_same mesh (Ok ShowsFlight) is = refl
+-- a line and the generator after it
+abbrev drawn : Accepted → Lcg → Draw Accepted
+drawn line rng = record { value = line; rng = rng }
 
--- the line that an action makes of its arguments
-pub step_seen : (nodes s : ℕ) (rng : Lcg) (act : Action) (arguments : Arguments ℕ) (r : Result Line LineFault) → 2 ≤ nodes → nodes ≤ 200 → 1 ≤ s → s ≤ 100000
-    → act ≡ action_of (word rng) → arguments ≡ (arguments_by act.1 nodes s (after rng)).value → seen_line r ≡ counted (lines.made act.0 arguments)
-    → accepted_of (result_unwrap_or r Blank) ≡ (step_line nodes s rng).value
-unfolding step_line
-step_seen nodes s rng act arguments r two few one most acts drawn makes =
-    let known : Action = action_of (word rng) in
-    let same : lines.made act.0 arguments ≡ lines.made known.0 (arguments_by known.1 nodes s (after rng)).value =
-    ap (λ (b : Arguments ℕ). lines.made act.0 b) drawn ∙ ap (λ (a : Action). lines.made a.0 (arguments_by a.1 nodes s (after rng)).value) acts in
-    let all : Result Accepted LineFault = lines.made known.0 (arguments_by known.1 nodes s (after rng)).value in
-    let range : IsInRange (mesh_of nodes) (result_unwrap_or all Nothing) = (fit_step nodes (mesh_of nodes) two few (mesh_of-is nodes few) s one most rng).range in
-    seen_or_blank r ∙ ap (λ x. result_unwrap_or x Nothing) (makes ∙ ap (λ (x : Result Accepted LineFault). counted x) same ∙ counted_same (mesh_of nodes) all range)
+-- line s, whose first word is w. The generator is `next` after it, and `last` after the line
+module _ (nodes s : ℕ) (rng next last : Lcg) (w : ℕ) (first : w ≡ word rng) (moved : next ≡ after rng) where
+  abbrev line : Draw Accepted
+  line = step_line nodes s rng
+
+  -- the two nodes, and a copy
+  abbrev a : ℕ
+  a = node_by nodes (word next)
+
+  abbrev b : ℕ
+  b = other_by nodes a (word (after next))
+
+  abbrev id : ℕ
+  id = copy_by s (word next)
+
+  by_action : line ≡ action_line (action_at (w % 16)) nodes s next
+  unfolding step_line action_of
+  by_action = ap (λ n. action_line (action_at (n % 16)) nodes s (after rng)) (sym first) ∙ ap (λ r. action_line (action_at (w % 16)) nodes s r) (sym moved)
+
+  at : (r : ℕ) → w % 16 ≡ r → line ≡ action_line (action_at r) nodes s next
+  at r e = by_action ∙ ap (λ i. action_line (action_at i) nodes s next) e
+
+  -- a node, or a copy, and no more
+  module _ (x : ℕ) (is : last ≡ after next) where
+    pub lose : x ≡ id → w % 16 ≡ 6 → drawn (Does (Lose x)) last ≡ line
+    lose same e = ap (λ n. drawn (Does (Lose n)) last) same ∙ ap (drawn (Does (Lose id))) is ∙ sym (at 6 e)
+
+    pub deliver : x ≡ id → w % 16 ≡ 7 → drawn (Does (Deliver x)) last ≡ line
+    deliver same e = ap (λ n. drawn (Does (Deliver n)) last) same ∙ ap (drawn (Does (Deliver id))) is ∙ sym (at 7 e)
+
+    pub turn : x ≡ a → 8 ≤ w % 16 → w % 16 < 10 → drawn (Does (Turn x)) last ≡ line
+    turn same le lt =
+        let does : line ≡ drawn (Does (Turn a)) (after next) =
+        elim (cases_lt (w % 16) 9) [ inl eight ↦ at 8 (omega arith) | inr nine ↦ at 9 (omega arith) ] in
+        ap (λ n. drawn (Does (Turn n)) last) same ∙ ap (drawn (Does (Turn a))) is ∙ sym does
+
+  -- two nodes
+  module _ (x y : ℕ) (x_is : x ≡ a) (y_is : y ≡ b) (is : last ≡ after (after next)) where
+    by_two : (f : ℕ → ℕ → Accepted) → drawn (f x y) last ≡ drawn (f a b) (after (after next))
+    by_two f = ap (λ n. drawn (f n y) last) x_is ∙ ap (λ n. drawn (f a n) last) y_is ∙ ap (drawn (f a b)) is
+
+    -- those that are drawn differ, so that there is a line
+    of_two : (e : Event) → 2 ≤ nodes → result_unwrap_or (of_pair a b e) Nothing ≡ Does e
+    of_two e two = rw (ne_eqb a b (other_drawn nodes a (word (after next)) two (node_drawn nodes (word next) two)).1) refl
+
+    pub link : 2 ≤ nodes → w % 16 < 2 → drawn (Does (Link x y)) last ≡ line
+    link two lt =
+        let does : line ≡ drawn (result_unwrap_or (of_pair a b (Link a b)) Nothing) (after (after next)) =
+        elim (cases_lt (w % 16) 1) [ inl zero ↦ at 0 (omega arith) | inr one ↦ at 1 (omega arith) ] in
+        by_two (λ m n. Does (Link m n)) ∙ ap (λ l. drawn l (after (after next))) (sym (of_two (Link a b) two)) ∙ sym does
+
+    pub cut : 2 ≤ nodes → w % 16 ≡ 2 → drawn (Does (Cut x y)) last ≡ line
+    cut two e = by_two (λ m n. Does (Cut m n)) ∙ ap (λ l. drawn l (after (after next))) (sym (of_two (Cut a b) two)) ∙ sym (at 2 e)
+
+    pub give : (body : List ℕ) → body ≡ datum_text s → 3 ≤ w % 16 → w % 16 < 6 → drawn (Does (Give x y body)) last ≡ line
+    give body same le lt =
+        let does : line ≡ drawn (Does (Give a b (datum_text s))) (after (after next)) =
+        elim (cases_lt (w % 16) 4) [
+          | inl three ↦ at 3 (omega arith)
+          | inr more ↦ elim (cases_lt (w % 16) 5) [ inl four ↦ at 4 (omega arith) | inr five ↦ at 5 (omega arith) ]
+        ] in
+        ap (λ text. drawn (Does (Give x y text)) last) same ∙ by_two (λ m n. Does (Give m n (datum_text s))) ∙ sym does
+
+    pub route : w % 16 ≡ 10 → drawn (ShowsRoute x y) last ≡ line
+    route e = by_two ShowsRoute ∙ sym (at 10 e)
+
+    pub ask : w % 16 ≡ 11 → drawn (Does (Ask x y)) last ≡ line
+    ask e = by_two (λ m n. Does (Ask m n)) ∙ sym (at 11 e)
+
+-- nothing more
+pub auto : (nodes s : ℕ) (rng next : Lcg) (w : ℕ) → w ≡ word rng → next ≡ after rng → 12 ≤ w % 16 → drawn (Chooses EVENTS_BETWEEN) next ≡ step_line nodes s rng
+auto nodes s rng next w first moved le =
+    let lt : w % 16 < 16 = mod-lt w (omega arith) in
+    let by : (r : ℕ) → w % 16 ≡ r → step_line nodes s rng ≡ action_line (action_at r) nodes s next = at nodes s rng next next w first moved in
+    sym (elim (cases_lt (w % 16) 14) [
+      | inl low ↦ elim (cases_lt (w % 16) 13) [ inl twelve ↦ by 12 (omega arith) | inr thirteen ↦ by 13 (omega arith) ]
+      | inr high ↦ elim (cases_lt (w % 16) 15) [ inl fourteen ↦ by 14 (omega arith) | inr fifteen ↦ by 15 (omega arith) ]
+    ])

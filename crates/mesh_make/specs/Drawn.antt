@@ -1,5 +1,5 @@
 -- A line of the steps, by the words that are drawn for it. A node stands here as its index.
-use Rattle.std.specs.Prelude.{ℕ, ◌+◌, ◌*◌, ◌%◌, ◌==◌, if◌then◌else◌, List, ◌++◌, get_or, codes}
+use Rattle.std.specs.Prelude.{ℕ, ◌+◌, ◌*◌, ◌%◌, ◌==◌, if◌then◌else◌, List, [], ◌∷◌, ◌++◌, get_or, codes}
 use Rattle.std.specs.Fmt.{decimal}
 use Rattle.std.specs.Result.{result_unwrap_or}
 use Rattle.rand_pcg.specs.Lcg.{Lcg}
@@ -8,16 +8,50 @@ use Rattle.mesh_grammar.specs.declared.command.Command.TheVariants as command
 use Rattle.mesh_grammar.specs.Forms.{Arguments, OneAddress, TwoAddresses, OneNumber, AddressesAndText}
 use Rattle.mesh_text.specs.Schedule as lines
 use Rattle.mesh_text.specs.Schedule.{Accepted, Nothing}
-use Rattle.mesh_make.specs.declared.action.Action.{Action}
-use Rattle.mesh_make.specs.declared.action.Draws.{Draws}
-use Rattle.mesh_make.specs.declared.action.Draws.TheVariants.{OneNode, TwoNodes, Datum, Copy, Events}
-use Rattle.mesh_make.specs.declared.action.TheConstants.{ACTIONS}
 use Rattle.mesh_make.specs.declared.sizes.TheConstants.{EVENTS_BETWEEN}
 use Rattle.mesh_make.specs.Words.{word, after}
 
+-- what is drawn for the arguments of a command
+pub data Draws : Type 0 where
+  -- a node
+  OneNode : Draws
+  -- a node and another one
+  TwoNodes : Draws
+  -- a node and another one. The datum's text is made of the line's number
+  Datum : Draws
+  -- the number of a copy
+  Copy : Draws
+  -- nothing: the number is EVENTS_BETWEEN
+  Events : Draws
+
+-- what a line does: a command, and what is drawn for its arguments
+abbrev pub Action : Type 0
+Action = Command × Draws
+
+-- what a line does, by the remainder by 16 of the word that is drawn for it
+abbrev pub actions : List Action
+actions =
+    (command.Link, TwoNodes)
+    ∷ (command.Link, TwoNodes)
+    ∷ (command.Cut, TwoNodes)
+    ∷ (command.Data, Datum)
+    ∷ (command.Data, Datum)
+    ∷ (command.Data, Datum)
+    ∷ (command.Lose, Copy)
+    ∷ (command.Deliver, Copy)
+    ∷ (command.Turn, OneNode)
+    ∷ (command.Turn, OneNode)
+    ∷ (command.Route, TwoNodes)
+    ∷ (command.Ask, TwoNodes)
+    ∷ (command.Auto, Events)
+    ∷ (command.Auto, Events)
+    ∷ (command.Auto, Events)
+    ∷ (command.Auto, Events)
+    ∷ []
+
 -- what a line does, by its first word. The table has an action for each remainder by 16
 unfoldable pub action_of : ℕ → Action
-action_of w = get_or ACTIONS (w % 16) (record { 0 = command.Auto; 1 = Events })
+action_of w = get_or actions (w % 16) (command.Auto, Events)
 
 -- the node that a word chooses
 abbrev pub node_by : ℕ → ℕ → ℕ

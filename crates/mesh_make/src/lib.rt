@@ -4,7 +4,6 @@
 //! The run of a schedule refuses none of its lines, which is a law of the definitions.
 #![tactic(auto)]
 
-mod action;
 mod laws;
 mod maker;
 mod sizes;

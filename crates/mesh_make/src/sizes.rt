@@ -7,7 +7,7 @@ pub const FIRST_ADDRESS: u32 = 167_772_161;
 pub const MOST_STEPS: u32 = 100_000;
 
 /// The number of an `auto` line among the steps.
-pub const EVENTS_BETWEEN: u64 = 16;
+pub const EVENTS_BETWEEN: u32 = 16;
 
 /// The number of the last line.
 pub const EVENTS_AT_END: u32 = 100_000;

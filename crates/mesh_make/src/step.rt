@@ -1,17 +1,15 @@
 //! The lines of the steps, by the words that are drawn for them.
 ghost use Rattle.std.specs.Prelude.{◌≡◌, ◌<◌, ◌≤◌};
 ghost use Rattle.mesh_base.specs.declared.limits.TheConstants.{MOST_NODES};
-ghost use Rattle.mesh_script.specs.Arguments.{places_of};
 ghost use Rattle.mesh_script.specs.Seen.{accepted_of};
 ghost use Rattle.mesh_make.specs.declared.sizes.TheConstants.{MOST_STEPS};
-ghost use Rattle.mesh_make.specs.Drawn.{node_by, other_by, copy_by, datum_text, arguments_by, step_line};
+ghost use Rattle.mesh_make.specs.Drawn.{node_by, other_by, copy_by, datum_text, step_line};
 ghost use Rattle.mesh_make.specs.Words.{word, after};
 
-use crate::action::{Action, Draws, action_of};
 use crate::sizes::EVENTS_BETWEEN;
 use crate::word::next;
-use mesh_base::{LineBuf, push_number};
-use mesh_script::{Arguments, Line, make_line};
+use mesh_base::{Event, LineBuf, push_number};
+use mesh_script::Line;
 use rand_pcg::Lcg64Xsh32;
 
 // The node that the next word chooses.
@@ -24,7 +22,7 @@ fn draw_node(rng: &mut Lcg64Xsh32, nodes: u32) -> u32
     next(rng) % nodes
 }
 
-// Two nodes that the next two words choose.
+// Two nodes that the next two words choose. They differ, so that they can be linked.
 #[tactic(auto, unfolding(crate::specs::Drawn::other_by))]
 fn draw_two(rng: &mut Lcg64Xsh32, nodes: u32) -> (usize, usize)
     requires two { 2 ≤ nodes }
@@ -51,50 +49,18 @@ fn draw_copy(rng: &mut Lcg64Xsh32, step: u32) -> u64
     1 + u64::from(next(rng) % (4 * step))
 }
 
-// Writes the text of the datum that line `step` gives.
-fn write_text(step: u32, text: &mut LineBuf)
-    ensures { text.new ≡ datum_text step }
+// The text of the datum that line `step` gives. It stands in `text`.
+fn write_text<'a>(step: u32, text: &'a mut LineBuf) -> &'a [u8]
+    ensures { result.now ≡ datum_text step }
 {
     text.clear();
     text.push(b'm');
     push_number(text, u64::from(step));
+    text.as_slice()
 }
 
-// The arguments of a line. The text of a datum stands in `text`.
-#[inline(always)]
-fn draw<'a>(
-    draws: Draws,
-    nodes: u32,
-    step: u32,
-    rng: &mut Lcg64Xsh32,
-    text: &'a mut LineBuf,
-) -> Arguments<'a, usize>
-    requires two { 2 ≤ nodes }
-    requires few { nodes ≤ MOST_NODES }
-    requires first { 1 ≤ step }
-    requires last { step ≤ MOST_STEPS }
-    ensures arguments { places_of result ≡ (arguments_by draws nodes step rng.old).value }
-    ensures after { rng.new ≡ (arguments_by draws nodes step rng.old).rng }
-{
-    match draws {
-        Draws::OneNode => Arguments::OneAddress(draw_node(rng, nodes) as usize),
-        Draws::TwoNodes => {
-            let (a, b) = draw_two(rng, nodes);
-            Arguments::TwoAddresses(a, b)
-        }
-        Draws::Datum => {
-            let (a, b) = draw_two(rng, nodes);
-            write_text(step, text);
-            Arguments::AddressesAndText(a, b, text.as_slice())
-        }
-        Draws::Copy => Arguments::OneNumber(draw_copy(rng, step)),
-        Draws::Events => Arguments::OneNumber(EVENTS_BETWEEN),
-    }
-}
-
-/// Line `step` of the steps, counted from 1. The text of a datum stands in `text`. Each action has
-/// arguments of its command's form, and two nodes differ, so that there is a line.
-#[tactic(auto, unfolding(crate::specs::Drawn::step_line))]
+/// Line `step` of the steps, counted from 1. The remainder by 16 of the next word chooses what the
+/// line does, and the words after it its nodes or its copy. The text of a datum stands in `text`.
 pub fn step_line<'a>(nodes: u32, step: u32, rng: &mut Lcg64Xsh32, text: &'a mut LineBuf) -> Line<'a>
     requires two { 2 ≤ nodes }
     requires few { nodes ≤ MOST_NODES }
@@ -103,7 +69,39 @@ pub fn step_line<'a>(nodes: u32, step: u32, rng: &mut Lcg64Xsh32, text: &'a mut 
     ensures line { accepted_of result ≡ (step_line nodes step rng.old).value }
     ensures after { rng.new ≡ (step_line nodes step rng.old).rng }
 {
-    let Action(command, draws) = action_of(next(rng));
-    let arguments = draw(draws, nodes, step, rng, text);
-    make_line(command, arguments).unwrap_or(Line::Blank)
+    match next(rng) % 16 {
+        0 | 1 => {
+            let (a, b) = draw_two(rng, nodes);
+            Line::Step(Event::Link { a, b })
+        }
+        2 => {
+            let (a, b) = draw_two(rng, nodes);
+            Line::Step(Event::Cut { a, b })
+        }
+        3..=5 => {
+            let (node, dest) = draw_two(rng, nodes);
+            let body = write_text(step, text);
+            Line::Step(Event::Give { node, dest, body })
+        }
+        6 => Line::Step(Event::Lose {
+            id: draw_copy(rng, step),
+        }),
+        7 => Line::Step(Event::Deliver {
+            id: draw_copy(rng, step),
+        }),
+        8 | 9 => Line::Step(Event::Turn {
+            node: draw_node(rng, nodes) as usize,
+        }),
+        10 => {
+            let (node, dest) = draw_two(rng, nodes);
+            Line::Route { node, dest }
+        }
+        11 => {
+            let (node, dest) = draw_two(rng, nodes);
+            Line::Step(Event::Ask { node, dest })
+        }
+        _ => Line::Auto {
+            count: EVENTS_BETWEEN,
+        },
+    }
 }
