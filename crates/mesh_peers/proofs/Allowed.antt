@@ -1,8 +1,6 @@
 -- What a line is read as is in its range, and a line that is written back is read as it.
-use Rattle.std.proofs.Common.{◌≡◌, ◌≢◌, ℕ, ◌^◌, ◌<◌, ◌≤◌, Bool, true, false, eqb, cond, not, List, [], ◌∷◌, ◌++◌, Option, Some, None, Result, Ok, Err, IfOk, length, refl, sym, ap, subst, ◌∙◌, arith, is_some, codes, eq-eqb}
-use Rattle.std.specs.Prelude.{⊤}
-use Rattle.std.specs.List.{AllByRecursion, list_all}
-use Rattle.std.proofs.lemmas.Bool.{eqb-false, ne_eqb, and_parts}
+use Rattle.std.proofs.Common.{◌≡◌, ◌≢◌, ℕ, ◌^◌, ◌<◌, ◌≤◌, Bool, true, false, eqb, cond, List, [], ◌++◌, Option, Some, None, Result, Ok, Err, IfOk, length, refl, sym, ap, subst, ◌∙◌, arith, is_some}
+use Rattle.std.proofs.lemmas.Bool.{eqb-false, ne_eqb}
 use Rattle.std.proofs.lemmas.List.{append-nil}
 use Rattle.mesh_base.specs.declared.limits.TheConstants.{MOST_NODES}
 use Rattle.mesh_base.specs.Meshes.{Nodes, IsMesh, addr_at, index_of}
@@ -10,24 +8,24 @@ use Rattle.mesh_base.proofs.Spelling.{index_of-at}
 use Rattle.aodv_meaning.proofs.Means.{index_there}
 use Rattle.aodv_model.proofs.Entries.{if_case}
 use Rattle.mesh_grammar.specs.declared.fault.LineFault.{LineFault}
-use Rattle.mesh_grammar.specs.declared.fault.LineFault.TheVariants.{Count, Early, TwiceNode, TooManyNodes, Unknown, Same}
-use Rattle.mesh_grammar.specs.Words.{Mention, next_at, with_argument, is_blank}
-use Rattle.mesh_grammar.specs.Forms.{Arguments, NoArgument, OneAddress, TwoAddresses, OneNumber, NumberedAddress, AddressesAndText, AddressAndNumber, AddressAndText, greatest_first, IsText, AreOfForm}
+use Rattle.mesh_grammar.specs.declared.fault.LineFault.TheVariants.{Early, TooManyNodes, Unknown, Same}
+use Rattle.mesh_grammar.specs.Words.{Mention, next_at, with_argument}
+use Rattle.mesh_grammar.specs.Forms.{Arguments, NoArgument, OneAddress, OneNumber, NumberedAddress, AddressAndNumber, AddressAndText, greatest_first, AreOfForm}
 use Rattle.mesh_grammar.specs.Scripts.{Shape, row_in, shape_by}
 use Rattle.mesh_grammar.specs.Written.{written}
 use Rattle.mesh_grammar.specs.Laws.{mention, mentioned, HaveAddresses, IsReadable, IsWord, addresses_of}
 use Rattle.mesh_grammar.proofs.Readings.{with_argument_case}
 use Rattle.mesh_grammar.proofs.Spellings.{written_line_is_read}
-use Rattle.mesh_text.specs.Schedule.{known, placed, result_and_then}
+use Rattle.mesh_text.specs.Schedule.{known, result_and_then}
 use Rattle.mesh_peers.specs.declared.command.Command.{Command}
 use Rattle.mesh_peers.specs.declared.command.Command.TheVariants as command
-use Rattle.mesh_peers.specs.declared.limits.TheConstants.{MOST_AT_ONCE, GREATEST_PORT}
+use Rattle.mesh_peers.specs.declared.limits.TheConstants.{GREATEST_PORT}
 use Rattle.mesh_peers.specs.declared.line.NodeLine.{NodeLine}
 use Rattle.mesh_peers.specs.declared.shape.Shape as code
 use Rattle.mesh_peers.specs.Commands.{router_script, shape_of}
-use Rattle.mesh_peers.specs.Peers.{PeersSeen, at_port, ArePeers}
-use Rattle.mesh_peers.specs.Lines.{Accepted, Nothing, Own, Peer, Up, Down, Give, Polls, Turns, Sends, Asks, Shows, after_self, of_other, made, in_room, new_self, new_peer, last_span, accepted, accepted_shape, line_of, words_of, IsNew, IsNamed, IsInRange, IsInTime}
-use Rattle.mesh_peers.specs.Seen.{form_of, accepted_of, seen_line, said_of, seen_shape, IsAllowed}
+use Rattle.mesh_peers.specs.Peers.{PeersSeen, at_port}
+use Rattle.mesh_peers.specs.Lines.{Accepted, Nothing, Own, Peer, Up, Down, Give, Polls, Turns, Sends, Asks, Shows, after_self, of_other, made, in_room, new_self, new_peer, accepted, accepted_shape, line_of, words_of, IsNew, IsNamed, IsInRange, IsInTime}
+use Rattle.mesh_peers.specs.Seen.{form_of, seen_line, said_of, seen_shape, IsAllowed}
 use Rattle.mesh_peers.proofs.Said.{word_of, row_of, Said, said}
 use Rattle.mesh_text.proofs.Printed.{is_word}
 

@@ -1,4 +1,4 @@
-use Rattle.std.proofs.Common.{◌≡◌, ◌≤◌, length, rules, subst, ap, arith, IfOk}
+use Rattle.std.proofs.Common.{◌≤◌, length, rules, subst, ap, arith, IfOk}
 use Rattle.mesh_base.specs.declared.limits.TheConstants.{MOST_NODES}
 use Rattle.mesh_peers.specs.Lines.{line_of}
 use Rattle.mesh_peers.specs.Seen.{IsSaidIn}

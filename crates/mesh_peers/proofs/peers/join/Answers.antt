@@ -1,6 +1,5 @@
-use Rattle.std.proofs.Common.{◌≡◌, ◌≤◌, ◌<◌, ℕ, Some, None, arith, ap, sym, ◌∙◌, length, rules}
+use Rattle.std.proofs.Common.{◌≡◌, ◌<◌, Some, arith, sym, ◌∙◌, length, rules}
 use Rattle.mesh_base.specs.declared.limits.TheConstants.{MOST_NODES}
-use Rattle.mesh_base.specs.Meshes.{with_node, index_of}
 use Rattle.mesh_peers.specs.Peers.{place_for}
 use Rattle.mesh_peers.proofs.Places.{place_within, found_there, same_place}
 use Rattle.mesh_peers.proofs.peers.join.Goals as goal

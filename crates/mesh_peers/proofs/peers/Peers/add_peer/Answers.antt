@@ -1,4 +1,4 @@
-use Rattle.std.proofs.Common.{◌≡◌, sym, subst, ◌∙◌, ap, rules}
+use Rattle.std.proofs.Common.{sym, subst, ◌∙◌, ap}
 use Rattle.mesh_peers.specs.Peers.{PeersSeen, ArePeers, with_peer}
 use Rattle.mesh_peers.proofs.Places.{with_peer_is, peer_joins}
 use Rattle.mesh_peers.proofs.peers.Peers.add_peer.Goals as goal

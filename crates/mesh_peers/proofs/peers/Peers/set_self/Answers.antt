@@ -1,4 +1,4 @@
-use Rattle.std.proofs.Common.{◌≡◌, sym, subst, ◌∙◌, ap, rules, None}
+use Rattle.std.proofs.Common.{◌≡◌, sym, subst, ◌∙◌, ap, None}
 use Rattle.mesh_peers.specs.Peers.{PeersSeen, ArePeers, with_self}
 use Rattle.mesh_peers.proofs.Places.{with_self_is, self_joins}
 use Rattle.mesh_peers.proofs.peers.Peers.set_self.Goals as goal
