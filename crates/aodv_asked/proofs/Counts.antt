@@ -4,7 +4,7 @@ use Rattle.std.specs.Prelude.{min}
 use Rattle.std.specs.FinSet as sets
 use Rattle.std.proofs.lemmas.Bool.{cases_lt, le-leb, lt-leb}
 use Rattle.mesh_base.specs.Members.{members_below}
-use Rattle.aodv_model.specs.Cores.{Seen, next_request_id}
+use Rattle.aodv_model.specs.Cores.{SeenRequests, next_request_id}
 use Rattle.aodv_model.specs.Soundness.{AreBelow}
 use Rattle.aodv_asked.specs.declared.interval.Interval.{Interval}
 use Rattle.aodv_asked.specs.Insertions.{interval, interval_at, is_in}
@@ -130,16 +130,16 @@ total_is n lo vs ids apart is below =
 
 -- ---- the ids beside an originator are those of its row
 
-beside_is : (rows : List RoomyIds) (seen : Seen) (o n : ℕ) → pairs_of rows ≡ seen → ids_below n seen o ≡ members_below n (ids_at rows o)
+beside_is : (rows : List RoomyIds) (seen : SeenRequests) (o n : ℕ) → pairs_of rows ≡ seen → ids_below n seen o ≡ members_below n (ids_at rows o)
 unfolding ids_below members_below
 beside_is rows seen o zero is = refl
 beside_is rows seen o (suc n) is =
     rw (shown rows seen o n is, beside_is rows seen o n is) refl
 
-below_next : (rows : List RoomyIds) (seen : Seen) (o : ℕ) → pairs_of rows ≡ seen → AreBelow (next_request_id seen o) (ids_at rows o)
+below_next : (rows : List RoomyIds) (seen : SeenRequests) (o : ℕ) → pairs_of rows ≡ seen → AreBelow (next_request_id seen o) (ids_at rows o)
 below_next rows seen o is q here = seen_below seen o q (shown rows seen o q is ∙ here)
 
-pub count_beside : (rows : List RoomyIds) (seen : Seen) (o count : ℕ) (ids : IdSet) → pairs_of rows ≡ seen → ids_at rows o ≡ ids → ((n : ℕ) → AreBelow n ids → count ≡ length (members_below n ids)) → count ≡ length (ids_beside seen o)
+pub count_beside : (rows : List RoomyIds) (seen : SeenRequests) (o count : ℕ) (ids : IdSet) → pairs_of rows ≡ seen → ids_at rows o ≡ ids → ((n : ℕ) → AreBelow n ids → count ≡ length (members_below n ids)) → count ≡ length (ids_beside seen o)
 count_beside rows seen o count ids is at counts =
     let n = next_request_id seen o in
     counts n (λ q here. below_next rows seen o is q (ap (λ s. sets.contains s q) at ∙ here))

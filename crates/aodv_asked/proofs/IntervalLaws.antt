@@ -11,7 +11,7 @@ use Rattle.std.specs.Cmp.{unsigned_tied}
 use Rattle.std.specs.Ordering.{nat_cmp}
 use Rattle.std.specs.FinSet.{empty, insert, contains, contains-empty, contains-insert, same_set}
 use Rattle.aodv_asked.specs.declared.interval.Interval.{Interval}
-use Rattle.aodv_asked.specs.Insertions.{interval_at, is_in, is_near_to, joined, with_id}
+use Rattle.aodv_asked.specs.Insertions.{interval_at, is_in, is_near_to, extension, with_id}
 use Rattle.aodv_asked.specs.Intervals.{is_near_in, IdSet, with_range, ids_in, AreApart}
 
 -- each interval ends before the id, and not next to it
@@ -30,7 +30,7 @@ unfolding with_range
 contains-with_range s lo zero q = range_none lo q (contains s q)
 contains-with_range s lo (suc n) q = contains-insert nat_cmp_total (with_range s lo n) (lo + n) q ∙ rw (unsigned_tied q (lo + n), contains-with_range s lo n q) (range_more lo n q (contains s q) ∙ ap (λ (m : ℕ). (leb lo q && ltb q (lo + m)) || contains s q) (omega arith))
 
-is_in-joined : (lo : ℕ) (v : Interval) (vs : List Interval) (q x : ℕ) → v.first ≤ v.last → AreApart (v.last + 2) vs → q ≡ v.last + 1 → is_in (joined v q vs) x ≡ (eqb x q || ((leb v.first x && leb x v.last) || is_in vs x))
+is_in-joined : (lo : ℕ) (v : Interval) (vs : List Interval) (q x : ℕ) → v.first ≤ v.last → AreApart (v.last + 2) vs → q ≡ v.last + 1 → is_in (extension v q vs) x ≡ (eqb x q || ((leb v.first x && leb x v.last) || is_in vs x))
 unfolding is_in
 is_in-joined lo v [] q x some apart next = grind (arith, nat_tests)
 is_in-joined lo v (w ∷ ws) q x some apart next = grind (arith, nat_tests)
@@ -44,8 +44,8 @@ is_in-with_id lo (v ∷ vs) q x apart =
     by_cases (ltb (q + 1) v.first) (eqb (q + 1) v.first) (leb q v.last) (eqb q (v.last + 1)) refl refl refl refl ih j
   where
     by_cases : (a b c d : Bool) → ltb (q + 1) v.first ≡ a → eqb (q + 1) v.first ≡ b → leb q v.last ≡ c → eqb q (v.last + 1) ≡ d
-        → is_in (with_id vs q) x ≡ (eqb x q || is_in vs x) → (q ≡ v.last + 1 → is_in (joined v q vs) x ≡ (eqb x q || ((leb v.first x && leb x v.last) || is_in vs x)))
-        → is_in (cond a (record { first = q; last = q } ∷ v ∷ vs) (cond b (record { first = q; last = v.last } ∷ vs) (cond c (v ∷ vs) (cond d (joined v q vs) (v ∷ with_id vs q))))) x ≡ (eqb x q || is_in (v ∷ vs) x)
+        → is_in (with_id vs q) x ≡ (eqb x q || is_in vs x) → (q ≡ v.last + 1 → is_in (extension v q vs) x ≡ (eqb x q || ((leb v.first x && leb x v.last) || is_in vs x)))
+        → is_in (cond a (record { first = q; last = q } ∷ v ∷ vs) (cond b (record { first = q; last = v.last } ∷ vs) (cond c (v ∷ vs) (cond d (extension v q vs) (v ∷ with_id vs q))))) x ≡ (eqb x q || is_in (v ∷ vs) x)
     by_cases true b c d ea eb ec ed ih j = grind (arith, nat_tests)
     by_cases false true c d ea eb ec ed ih j = grind (arith, nat_tests)
     by_cases false false true d ea eb ec ed ih j = grind (arith, nat_tests)
@@ -57,7 +57,7 @@ apart-with_id lo [] q low apart = (low, omega arith, tt)
 apart-with_id lo (v ∷ vs) q low apart =
     by_cases (ltb (q + 1) v.first) (eqb (q + 1) v.first) (leb q v.last) (eqb q (v.last + 1)) refl refl refl refl (λ le. apart-with_id (v.last + 2) vs q le apart.2)
   where
-    joined_apart : (ws : List Interval) → q ≡ v.last + 1 → AreApart (v.last + 2) ws → AreApart lo (joined v q ws)
+    joined_apart : (ws : List Interval) → q ≡ v.last + 1 → AreApart (v.last + 2) ws → AreApart lo (extension v q ws)
     joined_apart [] next rest = (apart.0, omega (arith, apart.1), tt)
     joined_apart (w ∷ ws) next rest =
         at (eqb (q + 1) w.first) refl
@@ -67,7 +67,7 @@ apart-with_id lo (v ∷ vs) q low apart =
         at false e = let ne = eqb-false _ _ e in (apart.0, omega (arith, apart.1), (omega (arith, rest.0, ne), rest.1, rest.2))
 
     by_cases : (a b c d : Bool) → ltb (q + 1) v.first ≡ a → eqb (q + 1) v.first ≡ b → leb q v.last ≡ c → eqb q (v.last + 1) ≡ d → (v.last + 2 ≤ q → AreApart (v.last + 2) (with_id vs q))
-        → AreApart lo (cond a (record { first = q; last = q } ∷ v ∷ vs) (cond b (record { first = q; last = v.last } ∷ vs) (cond c (v ∷ vs) (cond d (joined v q vs) (v ∷ with_id vs q)))))
+        → AreApart lo (cond a (record { first = q; last = q } ∷ v ∷ vs) (cond b (record { first = q; last = v.last } ∷ vs) (cond c (v ∷ vs) (cond d (extension v q vs) (v ∷ with_id vs q)))))
     by_cases true b c d ea eb ec ed ih = (low, omega arith, (omega (arith, ltb-true _ _ ea), apart.1, apart.2))
     by_cases false true c d ea eb ec ed ih = (low, omega (arith, eqb-true _ _ eb, apart.1), apart.2)
     by_cases false false true d ea eb ec ed ih = apart

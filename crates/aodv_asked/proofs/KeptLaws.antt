@@ -12,37 +12,37 @@ use Rattle.std.proofs.lemmas.Cmp.{nat_cmp_total}
 use Rattle.std.specs.List.{All}
 use Rattle.mesh_base.specs.Members.{NodeIds}
 use Rattle.aodv_asked.specs.declared.interval.Interval.{Interval}
-use Rattle.aodv_model.specs.Cores.{Seen}
+use Rattle.aodv_model.specs.Cores.{SeenRequests}
 use Rattle.aodv_asked.specs.Intervals.{IdSet, RoomyIds, with_range, IsGreatest, is_near_in}
 use Rattle.aodv_asked.specs.Requests.{is_near}
 use Rattle.aodv_asked.specs.Rows.{no_ids, ids_at, pairs_of}
 use Rattle.aodv_asked.proofs.RowLaws.{shown, same_ids, one_more}
 use Rattle.aodv_asked.proofs.TopLaws.{greatest_all}
-use Rattle.aodv_asked.specs.Tops.{no_top, with_interval, ids_of, IsBehind, top_at, room_at, with_top, topped, AreKept, AreNoted}
+use Rattle.aodv_asked.specs.Tops.{no_top, with_interval, ids_of, IsBehind, top_at, room_at, with_top, rows_with_tops, AreKept, AreNoted}
 
-pub topped_len : (rows : List RoomyIds) (tops : List Interval) → length (topped rows tops) ≡ length rows
-unfolding topped
+pub topped_len : (rows : List RoomyIds) (tops : List Interval) → length (rows_with_tops rows tops) ≡ length rows
+unfolding rows_with_tops
 topped_len rows [] = refl
 topped_len [] (v ∷ tops) = refl
 topped_len (row ∷ rows) (v ∷ tops) = ap (λ (n : ℕ). suc n) (topped_len rows tops)
 
-pub topped_at : (rows : List RoomyIds) (tops : List Interval) (o : ℕ) → o < length rows → ids_at (topped rows tops) o ≡ with_interval (ids_at rows o) (top_at tops o)
-unfolding topped with_range
+pub topped_at : (rows : List RoomyIds) (tops : List Interval) (o : ℕ) → o < length rows → ids_at (rows_with_tops rows tops) o ≡ with_interval (ids_at rows o) (top_at tops o)
+unfolding rows_with_tops with_range
 topped_at rows [] o lt = refl
 topped_at [] (v ∷ tops) o lt = absurd (omega arith)
 topped_at (row ∷ rows) (v ∷ tops) zero lt = refl
 topped_at (row ∷ rows) (v ∷ tops) (suc o) lt = topped_at rows tops o (omega arith)
 
-pub topped_put : (rows : List RoomyIds) (tops : List Interval) (o : ℕ) (row : RoomyIds) (v : Interval) → length tops ≡ length rows → topped (put rows o row) (put tops o v) ≡ put (topped rows tops) o (with_top row v)
-unfolding topped
+pub topped_put : (rows : List RoomyIds) (tops : List Interval) (o : ℕ) (row : RoomyIds) (v : Interval) → length tops ≡ length rows → rows_with_tops (put rows o row) (put tops o v) ≡ put (rows_with_tops rows tops) o (with_top row v)
+unfolding rows_with_tops
 topped_put [] [] o row v each = refl
 topped_put [] (w ∷ tops) o row v each = absurd (omega arith)
 topped_put (r ∷ rows) [] o row v each = absurd (omega arith)
 topped_put (r ∷ rows) (w ∷ tops) zero row v each = refl
 topped_put (r ∷ rows) (w ∷ tops) (suc o) row v each = ap (λ (rs : List RoomyIds). with_top r w ∷ rs) (topped_put rows tops o row v (omega arith))
 
-pub topped_none : (rows : List RoomyIds) (n : ℕ) → topped rows (replicate n no_top) ≡ rows
-unfolding topped with_range
+pub topped_none : (rows : List RoomyIds) (n : ℕ) → rows_with_tops rows (replicate n no_top) ≡ rows
+unfolding rows_with_tops with_range
 topped_none rows zero = refl
 topped_none [] (suc n) = refl
 topped_none (row ∷ rows) (suc n) = ap (λ (rs : List RoomyIds). row ∷ rs) (topped_none rows n)
@@ -51,48 +51,48 @@ topped_none (row ∷ rows) (suc n) = ap (λ (rs : List RoomyIds). row ∷ rs) (t
 pub top_read : (tops : List Interval) (o : ℕ) (v : Interval) → o < length tops → v ≡ get_or tops o v → top_at tops o ≡ v
 top_read tops o v lt at = get_or_default tops o no_top v lt ∙ sym at
 
-pub ids_topped : (rows : List RoomyIds) (tops : List Interval) (o : ℕ) (v : Interval) → o < length rows → top_at tops o ≡ v → ids_at (topped rows tops) o ≡ with_interval (ids_at rows o) v
+pub ids_topped : (rows : List RoomyIds) (tops : List Interval) (o : ℕ) (v : Interval) → o < length rows → top_at tops o ≡ v → ids_at (rows_with_tops rows tops) o ≡ with_interval (ids_at rows o) v
 ids_topped rows tops o v lt top =
     topped_at rows tops o lt ∙ ap (λ (w : Interval). with_interval (ids_at rows o) w) top
 
 pub behind_topped : (rows : List RoomyIds) (tops : List Interval) (roomy : NodeIds) (o : ℕ) (v : Interval) → AreKept rows tops roomy → top_at tops o ≡ v → IsBehind (ids_at rows o) v
 behind_topped rows tops roomy o v kept top = subst (λ (w : Interval). IsBehind (ids_at rows o) w) top (kept.behind o)
 
-pub shown_topped : (rows : List RoomyIds) (tops : List Interval) (seen : Seen) (o q : ℕ) (v : Interval) → o < length rows → pairs_of (topped rows tops) ≡ seen → top_at tops o ≡ v → contains seen (o, q) ≡ contains (with_interval (ids_at rows o) v) q
+pub shown_topped : (rows : List RoomyIds) (tops : List Interval) (seen : SeenRequests) (o q : ℕ) (v : Interval) → o < length rows → pairs_of (rows_with_tops rows tops) ≡ seen → top_at tops o ≡ v → contains seen (o, q) ≡ contains (with_interval (ids_at rows o) v) q
 shown_topped rows tops seen o q v lt is top =
-    shown (topped rows tops) seen o q is ∙ ap (λ (s : IdSet). contains s q) (ids_topped rows tops o v lt top)
+    shown (rows_with_tops rows tops) seen o q is ∙ ap (λ (s : IdSet). contains s q) (ids_topped rows tops o v lt top)
 
-pub near_topped : (rows : List RoomyIds) (tops : List Interval) (seen : Seen) (o id : ℕ) (v : Interval) → o < length rows → pairs_of (topped rows tops) ≡ seen → top_at tops o ≡ v → is_near seen o id ≡ is_near_in (with_interval (ids_at rows o) v) id
+pub near_topped : (rows : List RoomyIds) (tops : List Interval) (seen : SeenRequests) (o id : ℕ) (v : Interval) → o < length rows → pairs_of (rows_with_tops rows tops) ≡ seen → top_at tops o ≡ v → is_near seen o id ≡ is_near_in (with_interval (ids_at rows o) v) id
 near_topped rows tops seen o id v lt is top =
     let each : (q : ℕ) → contains seen (o, q) ≡ contains (with_interval (ids_at rows o) v) q = λ q. shown_topped rows tops seen o q v lt is top in
     rw (each id, each (id + 1), each (id - 1)) refl
 
-pub greatest_topped : (rows : List RoomyIds) (tops : List Interval) (roomy : NodeIds) (o : ℕ) (v : Interval) (r : Option ℕ) → o < length rows → AreKept rows tops roomy → top_at tops o ≡ v → IsGreatest (ids_of v) r → IsGreatest (ids_at (topped rows tops) o) r
+pub greatest_topped : (rows : List RoomyIds) (tops : List Interval) (roomy : NodeIds) (o : ℕ) (v : Interval) (r : Option ℕ) → o < length rows → AreKept rows tops roomy → top_at tops o ≡ v → IsGreatest (ids_of v) r → IsGreatest (ids_at (rows_with_tops rows tops) o) r
 greatest_topped rows tops roomy o v r lt kept top greatest =
     subst (λ (s : IdSet). IsGreatest s r) (sym (ids_topped rows tops o v lt top)) (greatest_all (ids_at rows o) v r (behind_topped rows tops roomy o v kept top) greatest)
 
 -- ---- what changes
 
 -- only the room of a row has changed
-pub pairs_kept : (rows : List RoomyIds) (tops : List Interval) (o : ℕ) (row : RoomyIds) → o < length rows → length tops ≡ length rows → row.ids ≡ ids_at rows o → pairs_of (topped (put rows o row) tops) ≡ pairs_of (topped rows tops)
+pub pairs_kept : (rows : List RoomyIds) (tops : List Interval) (o : ℕ) (row : RoomyIds) → o < length rows → length tops ≡ length rows → row.ids ≡ ids_at rows o → pairs_of (rows_with_tops (put rows o row) tops) ≡ pairs_of (rows_with_tops rows tops)
 pairs_kept rows tops o row lt each is =
     let top = top_at tops o in
     let long = topped_len rows tops in
-    ap (λ (vs : List Interval). pairs_of (topped (put rows o row) vs)) (sym (set-get_or tops o no_top))
+    ap (λ (vs : List Interval). pairs_of (rows_with_tops (put rows o row) vs)) (sym (set-get_or tops o no_top))
     ∙ ap pairs_of (topped_put rows tops o row top each)
-    ∙ same_ids (topped rows tops) o (with_top row top) (omega arith) (ap (λ (s : IdSet). with_interval s top) is ∙ sym (topped_at rows tops o lt))
+    ∙ same_ids (rows_with_tops rows tops) o (with_top row top) (omega arith) (ap (λ (s : IdSet). with_interval s top) is ∙ sym (topped_at rows tops o lt))
 
 -- o has one more id
-pub pairs_more : (rows : List RoomyIds) (tops : List Interval) (o id : ℕ) (row : RoomyIds) (v w : Interval) → o < length rows → length tops ≡ length rows → top_at tops o ≡ v → with_interval row.ids w ≡ sets.insert (with_interval (ids_at rows o) v) id → pairs_of (topped (put rows o row) (put tops o w)) ≡ sets.insert (pairs_of (topped rows tops)) (o, id)
+pub pairs_more : (rows : List RoomyIds) (tops : List Interval) (o id : ℕ) (row : RoomyIds) (v w : Interval) → o < length rows → length tops ≡ length rows → top_at tops o ≡ v → with_interval row.ids w ≡ sets.insert (with_interval (ids_at rows o) v) id → pairs_of (rows_with_tops (put rows o row) (put tops o w)) ≡ sets.insert (pairs_of (rows_with_tops rows tops)) (o, id)
 pairs_more rows tops o id row v w lt each top is =
     let long = topped_len rows tops in
     ap pairs_of (topped_put rows tops o row w each)
-    ∙ one_more (topped rows tops) o id (with_top row w) (omega arith) (is ∙ ap (λ (s : IdSet). sets.insert s id) (sym (ids_topped rows tops o v lt top)))
+    ∙ one_more (rows_with_tops rows tops) o id (with_top row w) (omega arith) (is ∙ ap (λ (s : IdSet). sets.insert s id) (sym (ids_topped rows tops o v lt top)))
 
 -- and its row has not changed
-pub pairs_more_top : (rows : List RoomyIds) (tops : List Interval) (o id : ℕ) (v w : Interval) → o < length rows → length tops ≡ length rows → top_at tops o ≡ v → with_interval (ids_at rows o) w ≡ sets.insert (with_interval (ids_at rows o) v) id → pairs_of (topped rows (put tops o w)) ≡ sets.insert (pairs_of (topped rows tops)) (o, id)
+pub pairs_more_top : (rows : List RoomyIds) (tops : List Interval) (o id : ℕ) (v w : Interval) → o < length rows → length tops ≡ length rows → top_at tops o ≡ v → with_interval (ids_at rows o) w ≡ sets.insert (with_interval (ids_at rows o) v) id → pairs_of (rows_with_tops rows (put tops o w)) ≡ sets.insert (pairs_of (rows_with_tops rows tops)) (o, id)
 pairs_more_top rows tops o id v w lt each top is =
-    ap (λ (rs : List RoomyIds). pairs_of (topped rs (put tops o w))) (sym (set-get_or rows o no_ids))
+    ap (λ (rs : List RoomyIds). pairs_of (rows_with_tops rs (put tops o w))) (sym (set-get_or rows o no_ids))
     ∙ pairs_more rows tops o id (get_or rows o no_ids) v w lt each top is
 
 -- ---- what is kept

@@ -2,7 +2,7 @@
 use Rattle.std.proofs.Common.{◌≡◌, ℕ, zero, suc, ◌+◌, ◌<◌, Bool, true, false, cond, List, [], ◌∷◌, ◌++◌, map, sym, ap, ◌∙◌, arith}
 use Rattle.std.specs.FinSet as sets
 use Rattle.std.proofs.lemmas.List.{append-nil, append_assoc, map_push}
-use Rattle.aodv_model.specs.Cores.{Seen, next_request_id}
+use Rattle.aodv_model.specs.Cores.{SeenRequests, next_request_id}
 use Rattle.aodv_model.proofs.PairKeys.{pairs_before, pairs_more, row_done}
 use Rattle.aodv_asked.specs.Requests.{ids_below, ids_beside}
 use Rattle.aodv_asked.proofs.Listed.{seen_below}
@@ -16,7 +16,7 @@ row_more : (o n : ℕ) (front : List (ℕ × ℕ)) (ids : List ℕ) (b : Bool) �
 row_more o n front ids true = append_assoc front (beside o ids) ((o, n) ∷ []) ∙ ap (λ xs. front ++ xs) (sym (map_push (λ id. (o, id)) ids n))
 row_more o n front ids false = append-nil (front ++ beside o ids)
 
-row_upto : (seen : Seen) (o n : ℕ) → pairs_before seen (o, n) ≡ pairs_before seen (o, 0) ++ beside o (ids_below n seen o)
+row_upto : (seen : SeenRequests) (o n : ℕ) → pairs_before seen (o, n) ≡ pairs_before seen (o, 0) ++ beside o (ids_below n seen o)
 unfolding ids_below
 row_upto seen o zero = sym (append-nil (pairs_before seen (o, 0)))
 row_upto seen o (suc n) =
@@ -27,9 +27,9 @@ row_upto seen o (suc n) =
     ∙ row_more o n (pairs_before seen (o, 0)) (ids_below n seen o) (sets.contains seen (o, n))
 
 -- the pairs before the next row are those before this one, and this one's, whose seconds are below n
-pub rows_next : (seen : Seen) (o n : ℕ) → ((id : ℕ) → sets.contains seen (o, id) ≡ true → id < n) → pairs_before seen (o + 1, 0) ≡ pairs_before seen (o, 0) ++ beside o (ids_below n seen o)
+pub rows_next : (seen : SeenRequests) (o n : ℕ) → ((id : ℕ) → sets.contains seen (o, id) ≡ true → id < n) → pairs_before seen (o + 1, 0) ≡ pairs_before seen (o, 0) ++ beside o (ids_below n seen o)
 rows_next seen o n within = sym (row_done seen o n within) ∙ row_upto seen o n
 
 -- the requests before the next originator's are those before o's, and o's
-pub rows_more : (seen : Seen) (o : ℕ) → pairs_before seen (o + 1, 0) ≡ pairs_before seen (o, 0) ++ beside o (ids_beside seen o)
+pub rows_more : (seen : SeenRequests) (o : ℕ) → pairs_before seen (o + 1, 0) ≡ pairs_before seen (o, 0) ++ beside o (ids_beside seen o)
 rows_more seen o = rows_next seen o (next_request_id seen o) (seen_below seen o)

@@ -6,7 +6,7 @@ use Rattle.std.proofs.lemmas.List.{append-nil, length-set, take_all, take-append
 use Rattle.std.proofs.Math.Seq.{drop-length}
 use Rattle.aodv_asked.specs.declared.interval.Interval.{Interval}
 use Rattle.aodv_asked.specs.Intervals.{AreApart}
-use Rattle.aodv_asked.specs.Insertions.{interval, is_in, is_near_to, joined, with_id}
+use Rattle.aodv_asked.specs.Insertions.{interval, is_in, is_near_to, extension, with_id}
 use Rattle.aodv_asked.proofs.IntervalLaws.{AllBefore, with_id-at, drop_at, is_in-append, is_in_before, is_in_after}
 
 -- v is the interval at place k
@@ -34,10 +34,10 @@ touch v r q h = rw (le-ltb (q + 1) v.first (omega arith), eq-eqb (q + 1) v.first
 within : (v : Interval) (r : List Interval) (q : ℕ) → v.first ≤ q → q ≤ v.last → with_id (v ∷ r) q ≡ v ∷ r
 within v r q lo hi = rw (le-ltb (q + 1) v.first (omega arith), ne_eqb (q + 1) v.first (λ e. omega arith), le-leb q v.last hi) refl
 
-behind : (v : Interval) (r : List Interval) (q : ℕ) → v.first ≤ v.last → q ≡ v.last + 1 → with_id (v ∷ r) q ≡ joined v q r
+behind : (v : Interval) (r : List Interval) (q : ℕ) → v.first ≤ v.last → q ≡ v.last + 1 → with_id (v ∷ r) q ≡ extension v q r
 behind v r q some next = rw (le-ltb (q + 1) v.first (omega arith), ne_eqb (q + 1) v.first (λ e. omega arith), lt-leb q v.last (omega arith), eq-eqb q (v.last + 1) next) refl
 
-alone : (v : Interval) (r : List Interval) (q : ℕ) → ((w : Interval) (ws : List Interval) → r ≡ w ∷ ws → q + 1 ≡ w.first → ⊥) → joined v q r ≡ interval v.first q ∷ r
+alone : (v : Interval) (r : List Interval) (q : ℕ) → ((w : Interval) (ws : List Interval) → r ≡ w ∷ ws → q + 1 ≡ w.first → ⊥) → extension v q r ≡ interval v.first q ∷ r
 alone v [] q ne = refl
 alone v (w ∷ ws) q ne = rw (ne_eqb (q + 1) w.first (ne w ws refl)) refl
 

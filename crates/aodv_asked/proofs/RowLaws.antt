@@ -13,7 +13,7 @@ use Rattle.std.proofs.lemmas.List.{get_or-set_same, get_or-set_other, length-map
 use Rattle.std.specs.FinSet as sets
 use Rattle.aodv_model.specs.Pairs.{pair_cmp}
 use Rattle.mesh_base.specs.Members.{IsLeastFrom}
-use Rattle.aodv_model.specs.Cores.{Seen, greatest_beside, last_request_id, next_request_id}
+use Rattle.aodv_model.specs.Cores.{SeenRequests, greatest_beside, last_request_id, next_request_id}
 use Rattle.aodv_model.proofs.PairLaws.{pair_cmp_total, same_pair}
 use Rattle.aodv_asked.specs.Intervals.{IdSet, RoomyIds, IsGreatest}
 use Rattle.aodv_asked.specs.Requests.{IsLeastIdFrom}
@@ -34,7 +34,7 @@ or_or true true c d = refl
 or_or true false c d = refl
 or_or false b c d = refl
 
-contains-with_ids : (seen : Seen) (o : ℕ) (ids : List ℕ) (p q : ℕ) → sets.contains (with_ids seen o ids) (p, q) ≡ ((eqb p o && list_any (eq_by_cmp nat_cmp q) ids) || sets.contains seen (p, q))
+contains-with_ids : (seen : SeenRequests) (o : ℕ) (ids : List ℕ) (p q : ℕ) → sets.contains (with_ids seen o ids) (p, q) ≡ ((eqb p o && list_any (eq_by_cmp nat_cmp q) ids) || sets.contains seen (p, q))
 unfolding with_ids
 contains-with_ids seen o [] p q = elim (eqb p o) as (λ b. sets.contains seen (p, q) ≡ ((b && false) || sets.contains seen (p, q))) [ true ↦ refl | false ↦ refl ]
 contains-with_ids seen o (id ∷ ids) p q =
@@ -43,7 +43,7 @@ contains-with_ids seen o (id ∷ ids) p q =
     ∙ ap (λ (b : Bool). (eqb p o && eq_by_cmp nat_cmp q id) || b) (contains-with_ids seen o ids p q)
     ∙ or_or (eqb p o) (eq_by_cmp nat_cmp q id) (list_any (eq_by_cmp nat_cmp q) ids) (sets.contains seen (p, q))
 
-with_here : (seen : Seen) (o : ℕ) (ids : IdSet) (q : ℕ) → sets.contains seen (o, q) ≡ false → sets.contains (with_ids seen o (sets.items ids)) (o, q) ≡ sets.contains ids q
+with_here : (seen : SeenRequests) (o : ℕ) (ids : IdSet) (q : ℕ) → sets.contains seen (o, q) ≡ false → sets.contains (with_ids seen o (sets.items ids)) (o, q) ≡ sets.contains ids q
 with_here seen o ids q none =
     contains-with_ids seen o (sets.items ids) o q
     ∙ rw (eq-eqb o o refl, none) (or_false (list_any (eq_by_cmp nat_cmp q) (sets.items ids)))
@@ -53,7 +53,7 @@ with_here seen o ids q none =
     or_false true = refl
     or_false false = refl
 
-with_apart : (seen : Seen) (o : ℕ) (ids : List ℕ) (p q : ℕ) → p ≢ o → sets.contains (with_ids seen o ids) (p, q) ≡ sets.contains seen (p, q)
+with_apart : (seen : SeenRequests) (o : ℕ) (ids : List ℕ) (p q : ℕ) → p ≢ o → sets.contains (with_ids seen o ids) (p, q) ≡ sets.contains seen (p, q)
 with_apart seen o ids p q apart = contains-with_ids seen o ids p q ∙ ap (λ (b : Bool). (b && list_any (eq_by_cmp nat_cmp q) ids) || sets.contains seen (p, q)) (ne_eqb p o apart)
 
 before : (rows : List RoomyIds) (i p q : ℕ) → p < i → sets.contains (pairs_from i rows) (p, q) ≡ false
@@ -81,11 +81,11 @@ contains-pairs_of rows o q =
     let none : 0 + o ≡ o = omega arith in
     ap (λ (p : ℕ). sets.contains (pairs_from 0 rows) (p, q)) (sym none) ∙ from_place rows 0 o q
 
-pub shown : (rows : List RoomyIds) (seen : Seen) (o q : ℕ) → pairs_of rows ≡ seen → sets.contains seen (o, q) ≡ sets.contains (ids_at rows o) q
-shown rows seen o q is = ap (λ (s : Seen). sets.contains s (o, q)) (sym is) ∙ contains-pairs_of rows o q
+pub shown : (rows : List RoomyIds) (seen : SeenRequests) (o q : ℕ) → pairs_of rows ≡ seen → sets.contains seen (o, q) ≡ sets.contains (ids_at rows o) q
+shown rows seen o q is = ap (λ (s : SeenRequests). sets.contains s (o, q)) (sym is) ∙ contains-pairs_of rows o q
 
 -- none stands beside a node that has no row
-pub of_a_row : (rows : List RoomyIds) (seen : Seen) (n o id : ℕ) → pairs_of rows ≡ seen → n ≡ length rows → sets.contains seen (o, id) ≡ true → o < n
+pub of_a_row : (rows : List RoomyIds) (seen : SeenRequests) (n o id : ℕ) → pairs_of rows ≡ seen → n ≡ length rows → sets.contains seen (o, id) ≡ true → o < n
 of_a_row rows seen n o id is count here = elim (cases_lt o n) [
   | inl lt ↦ lt
   | inr ge ↦
@@ -96,7 +96,7 @@ of_a_row rows seen n o id is count here = elim (cases_lt o n) [
     apart : false ≡ true → ⊥
     apart h = cc
 
-same_pairs : (a b : Seen) → ((p : ℕ × ℕ) → sets.contains a p ≡ sets.contains b p) → a ≡ b
+same_pairs : (a b : SeenRequests) → ((p : ℕ × ℕ) → sets.contains a p ≡ sets.contains b p) → a ≡ b
 same_pairs a b same = sets.same_set pair_cmp_total same_pair a b same
 
 -- ---- one row is read or written
@@ -217,7 +217,7 @@ greatest_there (k ∷ ks) o = step (greatest_there ks o) (eqb k.0 o) refl
           | inr more ↦ inr (here (max k.1 (greatest_beside ks o)) (sym (eqb-true k.0 o eb)) (omega arith))
         ]
 
-pub greatest_is : (rows : List RoomyIds) (seen : Seen) (o g : ℕ) → pairs_of rows ≡ seen → IsGreatest (ids_at rows o) (Some g) → last_request_id seen o ≡ g
+pub greatest_is : (rows : List RoomyIds) (seen : SeenRequests) (o g : ℕ) → pairs_of rows ≡ seen → IsGreatest (ids_at rows o) (Some g) → last_request_id seen o ≡ g
 unfolding last_request_id
 greatest_is rows seen o g is at =
     let ks = sets.items seen in
@@ -233,7 +233,7 @@ greatest_is rows seen o g is at =
     not_both : false ≡ true → ⊥
     not_both e = cc
 
-pub greatest_none : (rows : List RoomyIds) (seen : Seen) (o : ℕ) → pairs_of rows ≡ seen → IsGreatest (ids_at rows o) None → last_request_id seen o ≡ 0
+pub greatest_none : (rows : List RoomyIds) (seen : SeenRequests) (o : ℕ) → pairs_of rows ≡ seen → IsGreatest (ids_at rows o) None → last_request_id seen o ≡ 0
 unfolding last_request_id
 greatest_none rows seen o is none =
     let ks = sets.items seen in
@@ -265,7 +265,7 @@ empty_pairs rows all = same_pairs (pairs_of rows) sets.empty (λ p.
 
 -- ---- what a row answers is what the requests answer
 
-pub least_shown : (rows : List RoomyIds) (seen : Seen) (o from : ℕ) (r : Option ℕ) (ids : IdSet) → pairs_of rows ≡ seen → ids_at rows o ≡ ids → IsLeastFrom ids from r → IsLeastIdFrom seen o from r
+pub least_shown : (rows : List RoomyIds) (seen : SeenRequests) (o from : ℕ) (r : Option ℕ) (ids : IdSet) → pairs_of rows ≡ seen → ids_at rows o ≡ ids → IsLeastFrom ids from r → IsLeastIdFrom seen o from r
 least_shown rows seen o from None ids is at least = λ id le. each id ∙ least id le
   where
     each : (q : ℕ) → sets.contains seen (o, q) ≡ sets.contains ids q
@@ -275,7 +275,7 @@ least_shown rows seen o from (Some m) ids is at least = (least.0, each m ∙ lea
     each : (q : ℕ) → sets.contains seen (o, q) ≡ sets.contains ids q
     each q = shown rows seen o q is ∙ ap (λ (s : IdSet). sets.contains s q) at
 
-pub next_is : (seen : Seen) (o g : ℕ) → last_request_id seen o ≡ g → next_request_id seen o ≡ g + 1
+pub next_is : (seen : SeenRequests) (o g : ℕ) → last_request_id seen o ≡ g → next_request_id seen o ≡ g + 1
 unfolding next_request_id
 next_is seen o g is = ap (λ (n : ℕ). n + 1) is
 

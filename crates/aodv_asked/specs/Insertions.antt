@@ -20,9 +20,9 @@ abbrev pub is_near_to : List Interval → ℕ → Bool
 is_near_to vs id = is_in vs id || (is_in vs (id + 1) || (nat_lt 0 id && is_in vs (id - 1)))
 
 -- the interval grows at its end, and joins the next where they come to adjoin
-abbrev pub joined : Interval → ℕ → List Interval → List Interval
-joined v id [] = interval v.first id ∷ []
-joined v id (w ∷ ws) =
+abbrev pub extension : Interval → ℕ → List Interval → List Interval
+extension v id [] = interval v.first id ∷ []
+extension v id (w ∷ ws) =
     if id + 1 == w.first then interval v.first w.last ∷ ws else interval v.first id ∷ w ∷ ws
 
 -- the intervals with one more id
@@ -32,5 +32,5 @@ with_id (v ∷ vs) id =
     if nat_lt (id + 1) v.first then interval id id ∷ v ∷ vs
     else if id + 1 == v.first then interval id v.last ∷ vs
     else if nat_le id v.last then v ∷ vs
-    else if id == v.last + 1 then joined v id vs
+    else if id == v.last + 1 then extension v id vs
     else v ∷ with_id vs id

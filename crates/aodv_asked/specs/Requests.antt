@@ -2,29 +2,29 @@
 use Rattle.std.specs.Prelude.{◌≡◌, ◌<◌, ◌≤◌, ℕ, zero, suc, ◌+◌, ◌-◌, Bool, true, false, if◌then◌else◌, ◌||◌, ◌&&◌, nat_lt, List, [], ◌∷◌, ◌++◌, Option, Some, None, refl}
 use Rattle.std.specs.Coded.{Coded, code_by, coded×, coded_list, coded_ℕ}
 use Rattle.std.specs.FinSet as sets
-use Rattle.aodv_model.specs.Cores.{Seen, next_request_id}
+use Rattle.aodv_model.specs.Cores.{SeenRequests, next_request_id}
 use Rattle.aodv_model.specs.Codes.{pairs_code}
 
 -- what is seen: the requests, and for each node of the mesh for how many more ids of its own there
 -- is room, whatever they are
 pub record RoomySeen : Type 0 where
-  pub pairs : Seen
+  pub pairs : SeenRequests
   pub rooms : List ℕ
 
 -- a code, by which proofs tell such values apart
 abbrev pub seen_code : Coded RoomySeen
 seen_code =
-    code_by (Seen × List ℕ) (coded× pairs_code (coded_list coded_ℕ))
+    code_by (SeenRequests × List ℕ) (coded× pairs_code (coded_list coded_ℕ))
     (λ s. (s.pairs, s.rooms)) (λ p. record { pairs = p.0; rooms = p.1 }) (λ _. refl)
 
 -- the id, the one after it or the one before it stands beside o
-abbrev pub is_near : Seen → ℕ → ℕ → Bool
+abbrev pub is_near : SeenRequests → ℕ → ℕ → Bool
 is_near seen o id =
     sets.contains seen (o, id)
     || (sets.contains seen (o, id + 1) || (nat_lt 0 id && sets.contains seen (o, id - 1)))
 
 -- the least id beside o that is not below `from`
-abbrev pub IsLeastIdFrom : Seen → ℕ → ℕ → Option ℕ → Type 0
+abbrev pub IsLeastIdFrom : SeenRequests → ℕ → ℕ → Option ℕ → Type 0
 IsLeastIdFrom seen o from None = (id : ℕ) → from ≤ id → sets.contains seen (o, id) ≡ false
 IsLeastIdFrom seen o from (Some least) =
     (from ≤ least)
@@ -32,11 +32,11 @@ IsLeastIdFrom seen o from (Some least) =
     × ((id : ℕ) → from ≤ id → id < least → sets.contains seen (o, id) ≡ false)
 
 -- o's ids below n that were seen, by rising id
-unfoldable pub ids_below : ℕ → Seen → ℕ → List ℕ
+unfoldable pub ids_below : ℕ → SeenRequests → ℕ → List ℕ
 ids_below zero seen o = []
 ids_below (suc n) seen o =
     if sets.contains seen (o, n) then ids_below n seen o ++ n ∷ [] else ids_below n seen o
 
 -- all of o's ids that were seen, by rising id
-abbrev pub ids_beside : Seen → ℕ → List ℕ
+abbrev pub ids_beside : SeenRequests → ℕ → List ℕ
 ids_beside seen o = ids_below (next_request_id seen o) seen o

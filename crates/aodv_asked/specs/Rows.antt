@@ -1,7 +1,7 @@
 -- The requests kept as the ids of each originator.
 use Rattle.std.specs.Prelude.{ℕ, ◌+◌, List, [], ◌∷◌, map, slice_index_or}
 use Rattle.std.specs.FinSet as sets
-use Rattle.aodv_model.specs.Cores.{Seen}
+use Rattle.aodv_model.specs.Cores.{SeenRequests}
 use Rattle.aodv_asked.specs.Intervals.{IdSet, RoomyIds}
 
 -- no ids, and no room
@@ -13,17 +13,17 @@ abbrev pub ids_at : List RoomyIds → ℕ → IdSet
 ids_at rows o = (slice_index_or rows o no_ids).ids
 
 -- the requests with o's ids of the list
-unfoldable pub with_ids : Seen → ℕ → List ℕ → Seen
+unfoldable pub with_ids : SeenRequests → ℕ → List ℕ → SeenRequests
 with_ids seen o [] = seen
 with_ids seen o (id ∷ ids) = sets.insert (with_ids seen o ids) (o, id)
 
 -- the requests of the rows, the first of which is that of node o
-unfoldable pub pairs_from : ℕ → List RoomyIds → Seen
+unfoldable pub pairs_from : ℕ → List RoomyIds → SeenRequests
 pairs_from o [] = sets.empty
 pairs_from o (row ∷ rows) = with_ids (pairs_from (o + 1) rows) o (sets.items row.ids)
 
 -- the requests that the rows show
-unfoldable pub pairs_of : List RoomyIds → Seen
+unfoldable pub pairs_of : List RoomyIds → SeenRequests
 pairs_of rows = pairs_from 0 rows
 
 -- for how many more ids of each node there is room

@@ -48,10 +48,10 @@ abbrev pub with_top : RoomyIds → Interval → RoomyIds
 with_top row v = record { ids = with_interval row.ids v; room = row.room }
 
 -- each row with the ids of its last interval
-unfoldable pub topped : List RoomyIds → List Interval → List RoomyIds
-topped rows [] = rows
-topped [] (v ∷ tops) = []
-topped (row ∷ rows) (v ∷ tops) = with_top row v ∷ topped rows tops
+unfoldable pub rows_with_tops : List RoomyIds → List Interval → List RoomyIds
+rows_with_tops rows [] = rows
+rows_with_tops [] (v ∷ tops) = []
+rows_with_tops (row ∷ rows) (v ∷ tops) = with_top row v ∷ rows_with_tops rows tops
 
 -- a last interval stands behind each row, and each roomy node has room
 pub record AreKept (rows : List RoomyIds) (tops : List Interval) (roomy : NodeIds) : Type 0 where

@@ -30,10 +30,10 @@ impl Model for Asked {
     ghost coded = { seen_code };
 
     ghost use Rattle.aodv_asked.specs.Rows.{pairs_of, rooms_of};
-    ghost use Rattle.aodv_asked.specs.Tops.{topped, AreKept};
+    ghost use Rattle.aodv_asked.specs.Tops.{rows_with_tops, AreKept};
 
     ghost view = { λ a. record {
-      pairs = pairs_of (topped a.rows.items a.tops.items);
+      pairs = pairs_of (rows_with_tops a.rows.items a.tops.items);
       rooms = rooms_of a.rows.items;
     } };
 

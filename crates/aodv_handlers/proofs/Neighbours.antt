@@ -12,7 +12,7 @@ use Rattle.aodv_entry.specs.declared.entry.Known.{Known}
 use Rattle.aodv_entry.specs.declared.entry.Known.TheVariants.{Kno, Unk}
 use Rattle.aodv_entry.specs.declared.entry.Flag.{Flag}
 use Rattle.aodv_entry.specs.declared.entry.Flag.TheVariants.{Val, Inv}
-use Rattle.aodv_model.specs.Tables.{Table, entry_after, merged, update}
+use Rattle.aodv_model.specs.Tables.{Table, entry_after, merge, update}
 use Rattle.aodv_model.specs.Handlers.{neighbour_entry}
 use Rattle.aodv_model.proofs.Lookups.{get-update}
 use Rattle.aodv_table.specs.Calls.{is_neighbour_entry, is_neighbour_in}
@@ -30,12 +30,12 @@ abbrev known_by : Entry → ℕ → Entry
 known_by e from = record (neighbour_entry from) { dsn = e.dsn; pre = e.pre }
 
 -- such an entry stays where the neighbour is heard
-noted_stays : (e : Entry) (from : ℕ) → merged (known_by e from) (neighbour_entry from) ≡ known_by e from
-unfolding merged
+noted_stays : (e : Entry) (from : ℕ) → merge (known_by e from) (neighbour_entry from) ≡ known_by e from
+unfolding merge
 noted_stays e from = grind (arith, nat_tests, with_none e.pre)
 
 -- an update that leaves the entry leaves the table
-same_entry : (rt : Table) (d : ℕ) (e r : Entry) → Some e ≡ maps.get rt d → merged e r ≡ e → update rt d r ≡ rt
+same_entry : (rt : Table) (d : ℕ) (e r : Entry) → Some e ≡ maps.get rt d → merge e r ≡ e → update rt d r ≡ rt
 same_entry rt d e r had stays = maps.same_map nat_cmp_total nat_cmp-IsAntisymmetric (update rt d r) rt (λ q.
     get-update rt d r q
     ∙ elim (cases_eq q d) [
@@ -45,7 +45,7 @@ same_entry rt d e r had stays = maps.same_map nat_cmp_total nat_cmp-IsAntisymmet
 
 -- a neighbour is heard whose entry is such a one
 noted : (rt : Table) (from : ℕ) (e : Entry) → Some e ≡ maps.get rt from → e ≡ known_by e from → rt ≡ update rt from (neighbour_entry from)
-noted rt from e had is = sym (same_entry rt from e (neighbour_entry from) had (ap (λ (x : Entry). merged x (neighbour_entry from)) is ∙ noted_stays e from ∙ sym is))
+noted rt from e had is = sym (same_entry rt from e (neighbour_entry from) had (ap (λ (x : Entry). merge x (neighbour_entry from)) is ∙ noted_stays e from ∙ sym is))
 
 -- an entry of these parts which a table takes for a neighbour's is such a one
 known_parts : (from n : ℕ) (known : Known) (flag : Flag) (hops next : ℕ) (nodes : NodeIds) → let e : Entry = record { dsn = n; dsk = known; flag = flag; hops = hops; next = next; pre = nodes } in

@@ -17,7 +17,7 @@ use Rattle.aodv_model.specs.Cores.{Core, Store, Waiting, Rerr, set}
 use Rattle.aodv_model.specs.Handlers.{Nothing, Many, All, casting, plain, is_empty, is_error, all_precs, precs_of, with_precs, error_cast, retract}
 use Rattle.aodv_model.proofs.Lookups.{get-accepted, get-invalidate}
 use Rattle.aodv_model.proofs.Stores.{need_if, get-set}
-use Rattle.aodv_meaning.specs.Meaning.{index, indexed, dests_in}
+use Rattle.aodv_meaning.specs.Meaning.{index, pair_by_index, dests_in}
 use Rattle.aodv_handlers.proofs.Lists.{empty_is}
 use Rattle.aodv_handlers.proofs.Unicasts.{no_entries}
 
@@ -32,11 +32,11 @@ AreRefused mesh rt from pairs k = (j : ℕ) (p : Addr × ℕ) → j < k → slic
 pub refused_none : (mesh : Nodes) (rt : Table) (from : ℕ) (pairs : List (Addr × ℕ)) → AreRefused mesh rt from pairs 0
 refused_none mesh rt from pairs j p lt is = absurd (omega arith)
 
-found_refused : (mesh : Nodes) (rt : Table) (from : ℕ) (ps : List (Addr × ℕ)) → ((j : ℕ) (p : Addr × ℕ) → slice_get ps j ≡ Some p → accepts rt from (index mesh p.0) p.1 ≡ false) → (q n : ℕ) → find nat_cmp q (map (indexed mesh) ps) ≡ Some n → accepts rt from q n ≡ false
+found_refused : (mesh : Nodes) (rt : Table) (from : ℕ) (ps : List (Addr × ℕ)) → ((j : ℕ) (p : Addr × ℕ) → slice_get ps j ≡ Some p → accepts rt from (index mesh p.0) p.1 ≡ false) → (q n : ℕ) → find nat_cmp q (map (pair_by_index mesh) ps) ≡ Some n → accepts rt from q n ≡ false
 found_refused mesh rt from [] all q n is = absurd (none-some n is)
 found_refused mesh rt from (p ∷ ps) all q n is = case (eq_by_cmp nat_cmp q (index mesh p.0)) refl is (found_refused mesh rt from ps (λ j r there. all (suc j) r there) q n)
   where
-    case : (b : Bool) → eq_by_cmp nat_cmp q (index mesh p.0) ≡ b → cond b (Some p.1) (find nat_cmp q (map (indexed mesh) ps)) ≡ Some n → (find nat_cmp q (map (indexed mesh) ps) ≡ Some n → accepts rt from q n ≡ false) → accepts rt from q n ≡ false
+    case : (b : Bool) → eq_by_cmp nat_cmp q (index mesh p.0) ≡ b → cond b (Some p.1) (find nat_cmp q (map (pair_by_index mesh) ps)) ≡ Some n → (find nat_cmp q (map (pair_by_index mesh) ps) ≡ Some n → accepts rt from q n ≡ false) → accepts rt from q n ≡ false
     case true at is later =
         let same : q ≡ index mesh p.0 = eqb-true q (index mesh p.0) (sym (unsigned_tied q (index mesh p.0)) ∙ at) in
         ap (λ (d : ℕ). accepts rt from d n) same ∙ ap (accepts rt from (index mesh p.0)) (sym (same_Some p.1 n is)) ∙ all 0 p refl
@@ -63,7 +63,7 @@ none_accepted mesh rt from k pairs refused end =
     let all : (j : ℕ) (p : Addr × ℕ) → slice_get pairs j ≡ Some p → accepts rt from (index mesh p.0) p.1 ≡ false = λ j p is. let lt = there_below pairs j p is in refused j p (omega arith) is in
     maps.same_map nat_cmp_total nat_cmp-IsAntisymmetric _ maps.empty (λ q.
     get-accepted rt from (dests_in mesh pairs) q
-    ∙ accepted_at rt from q (maps.get (dests_in mesh pairs) q) (λ n is. found_refused mesh rt from pairs all q n (sym (maps.get-from_entries nat_cmp_total (map (indexed mesh) pairs) q) ∙ is))
+    ∙ accepted_at rt from q (maps.get (dests_in mesh pairs) q) (λ n is. found_refused mesh rt from pairs all q n (sym (maps.get-from_entries nat_cmp_total (map (pair_by_index mesh) pairs) q) ∙ is))
     ∙ sym (maps.get-empty nat_cmp q))
 
 -- ---- no destination is gone

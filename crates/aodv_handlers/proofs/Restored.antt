@@ -8,7 +8,7 @@ use Rattle.std.specs.FinMap as maps
 use Rattle.std.specs.FinMap.{nat_cmp-IsAntisymmetric}
 use Rattle.mesh_base.specs.Members.{NodeIds}
 use Rattle.aodv_entry.specs.declared.entry.Entry.{Entry}
-use Rattle.aodv_model.specs.Tables.{Table, update, add_pre, joined}
+use Rattle.aodv_model.specs.Tables.{Table, update, add_pre, add_pre_at}
 use Rattle.aodv_model.proofs.Lookups.{get-update, get-add_pre}
 use Rattle.aodv_table.specs.Calls.{with_entry}
 
@@ -28,7 +28,7 @@ two_back rt rt' a b same = maps.same_map nat_cmp_total nat_cmp-IsAntisymmetric _
       ])
     ])
 
-joined_other : (d : ℕ) (nodes : NodeIds) (q : ℕ) (o : Option Entry) → (q ≡ d → ⊥) → option_map (joined d nodes q) o ≡ o
+joined_other : (d : ℕ) (nodes : NodeIds) (q : ℕ) (o : Option Entry) → (q ≡ d → ⊥) → option_map (add_pre_at d nodes q) o ≡ o
 joined_other d nodes q None other = refl
 joined_other d nodes q (Some e) other = rw (ne_eqb q d other) refl
 

@@ -19,9 +19,9 @@ use Rattle.aodv_model.specs.Soundness.{AreDestsBelow}
 use Rattle.aodv_model.proofs.Lookups.{get-kept}
 use Rattle.aodv_model.proofs.PlacedTables.{kept_of}
 use Rattle.aodv_wire.specs.RouteError.{AreDestinations}
-use Rattle.aodv_meaning.specs.Sent.{addressed, pairs_of}
+use Rattle.aodv_meaning.specs.Sent.{pair_by_address, pairs_of}
 use Rattle.aodv_meaning.proofs.Writings.{destinations}
-use Rattle.aodv_handlers.specs.Parts.{tells, told}
+use Rattle.aodv_handlers.specs.Parts.{tells, named_dests}
 use Rattle.aodv_handlers.proofs.Lists.{from_place, from_end, empty_union, union_empty, union_assoc, empty_is, is_empty_same, entries_where, any_there}
 use Rattle.aodv_meaning.proofs.Means.{some_of}
 
@@ -68,7 +68,7 @@ joined_all rt dests k all has end =
 -- ---- of what
 
 pub told_of : Nodes → Variant → Table → List (ℕ × ℕ) → List (Addr × ℕ)
-told_of mesh v rt es = map (addressed mesh) (where_key nat_cmp (tells v rt) es)
+told_of mesh v rt es = map (pair_by_address mesh) (where_key nat_cmp (tells v rt) es)
 
 -- all pairs are those that were taken before place k, and those from there on
 pub record HasTold (mesh : Nodes) (v : Variant) (rt : Table) (dests : Dests) (k : ℕ) (pairs : List (Addr × ℕ)) : Type 0 where
@@ -78,26 +78,26 @@ pub record HasTold (mesh : Nodes) (v : Variant) (rt : Table) (dests : Dests) (k 
 pub told_none : (mesh : Nodes) (v : Variant) (rt : Table) (dests : Dests) (pairs : List (Addr × ℕ)) → pairs ≡ [] → HasTold mesh v rt dests 0 pairs
 told_none mesh v rt dests pairs is = record { whole = ap (λ ps. ps ++ told_of mesh v rt (maps.entries dests)) is; few = let e = ap length is in omega arith }
 
-told_first : (mesh : Nodes) (v : Variant) (rt : Table) (p : ℕ × ℕ) (es : List (ℕ × ℕ)) (b : Bool) → tells v rt p.0 ≡ b → told_of mesh v rt (p ∷ es) ≡ cond b (addressed mesh p ∷ told_of mesh v rt es) (told_of mesh v rt es)
+told_first : (mesh : Nodes) (v : Variant) (rt : Table) (p : ℕ × ℕ) (es : List (ℕ × ℕ)) (b : Bool) → tells v rt p.0 ≡ b → told_of mesh v rt (p ∷ es) ≡ cond b (pair_by_address mesh p ∷ told_of mesh v rt es) (told_of mesh v rt es)
 unfolding told_of
 told_first mesh v rt p es true is = rw is refl
 told_first mesh v rt p es false is = rw is refl
 
-told_step : (mesh : Nodes) (v : Variant) (rt : Table) (dests : Dests) (k : ℕ) (p : ℕ × ℕ) (b : Bool) → slice_get (maps.entries dests) k ≡ Some p → tells v rt p.0 ≡ b → told_of mesh v rt (drop k (maps.entries dests)) ≡ cond b (addressed mesh p ∷ told_of mesh v rt (drop (k + 1) (maps.entries dests))) (told_of mesh v rt (drop (k + 1) (maps.entries dests)))
+told_step : (mesh : Nodes) (v : Variant) (rt : Table) (dests : Dests) (k : ℕ) (p : ℕ × ℕ) (b : Bool) → slice_get (maps.entries dests) k ≡ Some p → tells v rt p.0 ≡ b → told_of mesh v rt (drop k (maps.entries dests)) ≡ cond b (pair_by_address mesh p ∷ told_of mesh v rt (drop (k + 1) (maps.entries dests))) (told_of mesh v rt (drop (k + 1) (maps.entries dests)))
 told_step mesh v rt dests k p b is has =
     let up : suc k ≡ k + 1 = omega arith in
     ap (told_of mesh v rt) (from_place (maps.entries dests) k p is)
     ∙ told_first mesh v rt p (drop (suc k) (maps.entries dests)) b has
-    ∙ ap (λ n. cond b (addressed mesh p ∷ told_of mesh v rt (drop n (maps.entries dests))) (told_of mesh v rt (drop n (maps.entries dests)))) up
+    ∙ ap (λ n. cond b (pair_by_address mesh p ∷ told_of mesh v rt (drop n (maps.entries dests))) (told_of mesh v rt (drop n (maps.entries dests)))) up
 
-pub told_more : (mesh : Nodes) (v : Variant) (rt : Table) (dests : Dests) (k : ℕ) (pairs pairs' : List (Addr × ℕ)) (p : ℕ × ℕ) (x : Addr × ℕ) → HasTold mesh v rt dests k pairs → slice_get (maps.entries dests) k ≡ Some p → tells v rt p.0 ≡ true → x ≡ addressed mesh p → pairs' ≡ pairs ++ x ∷ [] → HasTold mesh v rt dests (k + 1) pairs'
+pub told_more : (mesh : Nodes) (v : Variant) (rt : Table) (dests : Dests) (k : ℕ) (pairs pairs' : List (Addr × ℕ)) (p : ℕ × ℕ) (x : Addr × ℕ) → HasTold mesh v rt dests k pairs → slice_get (maps.entries dests) k ≡ Some p → tells v rt p.0 ≡ true → x ≡ pair_by_address mesh p → pairs' ≡ pairs ++ x ∷ [] → HasTold mesh v rt dests (k + 1) pairs'
 told_more mesh v rt dests k pairs pairs' p x has is some x_is next =
     let after = told_of mesh v rt (drop (k + 1) (maps.entries dests)) in
     let few : length pairs ≤ k = has.few in
     let size : length pairs' ≡ length pairs + 1 = ap length next ∙ simp length-append in
     record {
       whole = ap (λ ps. ps ++ after) (next ∙ ap (λ y. pairs ++ y ∷ []) x_is)
-          ∙ append_assoc pairs (addressed mesh p ∷ []) after
+          ∙ append_assoc pairs (pair_by_address mesh p ∷ []) after
           ∙ ap (λ ps. pairs ++ ps) (sym (told_step mesh v rt dests k p true is some))
           ∙ has.whole;
       few = omega arith;
@@ -117,20 +117,20 @@ all_kept [] = refl
 all_kept (e ∷ es) = ap (λ (l : List (ℕ × ℕ)). e ∷ l) (all_kept es)
 
 -- the pairs of the destinations that are told of
-told_entries : (v : Variant) (rt : Table) (dests : Dests) → where_key nat_cmp (tells v rt) (maps.entries dests) ≡ maps.entries (told v rt dests)
+told_entries : (v : Variant) (rt : Table) (dests : Dests) → where_key nat_cmp (tells v rt) (maps.entries dests) ≡ maps.entries (named_dests v rt dests)
 unfolding with_precs
 told_entries Base rt dests = sym (entries_where dests (λ d. not (is_empty (precs rt d))))
 told_entries Number rt dests = sym (entries_where dests (λ d. not (is_empty (precs rt d))))
 told_entries Reply rt dests = sym (entries_where dests (λ d. not (is_empty (precs rt d))))
 told_entries Error rt dests = all_kept (maps.entries dests)
 
-pub told_all : (mesh : Nodes) (v : Variant) (rt : Table) (dests : Dests) (k : ℕ) (pairs : List (Addr × ℕ)) → HasTold mesh v rt dests k pairs → length (maps.entries dests) ≤ k → pairs ≡ pairs_of mesh (told v rt dests)
+pub told_all : (mesh : Nodes) (v : Variant) (rt : Table) (dests : Dests) (k : ℕ) (pairs : List (Addr × ℕ)) → HasTold mesh v rt dests k pairs → length (maps.entries dests) ≤ k → pairs ≡ pairs_of mesh (named_dests v rt dests)
 unfolding told_of
 told_all mesh v rt dests k pairs has end =
     sym (append-nil pairs)
     ∙ ap (λ es. pairs ++ told_of mesh v rt es) (sym (from_end (maps.entries dests) k end))
     ∙ has.whole
-    ∙ ap (map (addressed mesh)) (told_entries v rt dests)
+    ∙ ap (map (pair_by_address mesh)) (told_entries v rt dests)
 
 -- ---- what can be written
 
@@ -153,7 +153,7 @@ positive [] h = absurd (h refl)
 positive (x ∷ xs) h = omega arith
 
 -- some destination is told of, where there are precursors, or where all are told of and there is one
-pub some_told : (v : Variant) (rt : Table) (dests : Dests) → is_error v ≡ false → is_empty (precs_of rt dests) ≡ false → 1 ≤ maps.len (told v rt dests)
+pub some_told : (v : Variant) (rt : Table) (dests : Dests) → is_error v ≡ false → is_empty (precs_of rt dests) ≡ false → 1 ≤ maps.len (named_dests v rt dests)
 unfolding precs_of with_precs
 some_told v rt dests base some =
     let list = maps.entries (with_precs rt dests) in
@@ -166,7 +166,7 @@ some_told v rt dests base some =
     different : true ≡ false → ⊥
     different e = cc
 
-pub all_told : (v : Variant) (rt : Table) (dests : Dests) (r : Bool) → is_error v ≡ true → IsTrue r ↔ (dests ≡ maps.empty) → r ≡ false → 1 ≤ maps.len (told v rt dests)
+pub all_told : (v : Variant) (rt : Table) (dests : Dests) (r : Bool) → is_error v ≡ true → IsTrue r ↔ (dests ≡ maps.empty) → r ≡ false → 1 ≤ maps.len (named_dests v rt dests)
 all_told v rt dests r error test some = rw error (above (maps.len dests) refl)
   where
     different : true ≡ false → ⊥
@@ -182,7 +182,7 @@ unfolding error_cast
 none_there v rt dests r error test all = rw (error, eq-eqb (maps.len dests) 0 (ap maps.len (test.0 all) ∙ maps.len-empty nat_cmp ℕ)) refl
 
 -- all of them are cast to all
-pub all_there : (v : Variant) (rt : Table) (dests : Dests) (r : Bool) → is_error v ≡ true → IsTrue r ↔ (dests ≡ maps.empty) → r ≡ false → error_cast v rt dests ≡ All (Rerr (told v rt dests))
+pub all_there : (v : Variant) (rt : Table) (dests : Dests) (r : Bool) → is_error v ≡ true → IsTrue r ↔ (dests ≡ maps.empty) → r ≡ false → error_cast v rt dests ≡ All (Rerr (named_dests v rt dests))
 unfolding error_cast
 all_there v rt dests r error test some =
     let more : 1 ≤ maps.len dests = rw error at (all_told v rt dests r error test some) in
@@ -194,13 +194,13 @@ unfolding with_precs
 kept_below size rt dests below d n is =
     below d n (kept_of (maps.get dests d) (has_precs rt d) n (sym (get-kept dests (has_precs rt) d) ∙ is))
 
-pub told_below : (size : ℕ) (v : Variant) (rt : Table) (dests : Dests) → AreDestsBelow size dests → AreDestsBelow size (told v rt dests)
+pub told_below : (size : ℕ) (v : Variant) (rt : Table) (dests : Dests) → AreDestsBelow size dests → AreDestsBelow size (named_dests v rt dests)
 told_below size v rt dests below = by (is_error v)
   where
     by : (b : Bool) → AreDestsBelow size (cond b dests (with_precs rt dests))
     by true = below
     by false = kept_below size rt dests below
 
-pub writable : (mesh : Nodes) (v : Variant) (rt : Table) (dests : Dests) (pairs : List (Addr × ℕ)) → IsMesh mesh → AreDestsBelow (length mesh) dests → 1 ≤ maps.len (told v rt dests) → pairs ≡ pairs_of mesh (told v rt dests) → AreDestinations pairs
+pub writable : (mesh : Nodes) (v : Variant) (rt : Table) (dests : Dests) (pairs : List (Addr × ℕ)) → IsMesh mesh → AreDestsBelow (length mesh) dests → 1 ≤ maps.len (named_dests v rt dests) → pairs ≡ pairs_of mesh (named_dests v rt dests) → AreDestinations pairs
 writable mesh v rt dests pairs mesh_is below some is =
-    subst AreDestinations (sym is) (destinations mesh (told v rt dests) mesh_is (told_below (length mesh) v rt dests below) some)
+    subst AreDestinations (sym is) (destinations mesh (named_dests v rt dests) mesh_is (told_below (length mesh) v rt dests below) some)

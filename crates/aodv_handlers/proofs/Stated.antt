@@ -15,7 +15,7 @@ use Rattle.aodv_model.specs.Tables.{Table, Dests, goes_by, sqn, accepted_unreach
 use Rattle.aodv_model.specs.Soundness.{AreDestsBelow}
 use Rattle.aodv_model.proofs.Lookups.{get-accepted}
 use Rattle.aodv_model.proofs.PlacedTables.{accepted_below}
-use Rattle.aodv_meaning.specs.Meaning.{index, indexed, dests_in, strange_pair}
+use Rattle.aodv_meaning.specs.Meaning.{index, pair_by_index, dests_in, strange_pair}
 use Rattle.aodv_meaning.proofs.Means.{below, first_in}
 use Rattle.aodv_handlers.proofs.Lists.{from_place, from_end}
 
@@ -36,7 +36,7 @@ or_else None o = o
 or_else (Some n) o = Some n
 
 abbrev pub stated_from : Nodes → List (Addr × ℕ) → ℕ → ℕ → Option ℕ
-stated_from mesh pairs k d = find nat_cmp d (map (indexed mesh) (drop k pairs))
+stated_from mesh pairs k d = find nat_cmp d (map (pair_by_index mesh) (drop k pairs))
 
 -- a number is stated for d among the first k pairs, or from there on
 pub record HasStated (mesh : Nodes) (pairs : List (Addr × ℕ)) (k : ℕ) (numbers : List (Option ℕ)) : Type 0 where
@@ -60,7 +60,7 @@ stated_more mesh pairs k d p numbers numbers' has is d_is size new =
           let later = stated_from mesh pairs (k + 1) q in
           let tied : eq_by_cmp nat_cmp q (index mesh p.0) ≡ (q == d) = unsigned_tied q (index mesh p.0) ∙ ap (λ (x : ℕ). q == x) (sym d_is) in
           let step : stated_from mesh pairs k q ≡ cond (q == d) (Some p.1) later =
-          ap (λ ps. find nat_cmp q (map (indexed mesh) ps)) (from_place pairs k p is)
+          ap (λ ps. find nat_cmp q (map (pair_by_index mesh) ps)) (from_place pairs k p is)
           ∙ (λ i. cond (tied i) (Some p.1) (stated_from mesh pairs (up i) q)) in
           case q (q == d) refl (step ∙ refl);
     }
@@ -86,9 +86,9 @@ or_none (Some n) = refl
 pub stated_all : (mesh : Nodes) (pairs : List (Addr × ℕ)) (k : ℕ) (numbers : List (Option ℕ)) (d : ℕ) → HasStated mesh pairs k numbers → length pairs ≤ k → get_or numbers d None ≡ maps.get (dests_in mesh pairs) d
 stated_all mesh pairs k numbers d has end =
     sym (or_none (get_or numbers d None))
-    ∙ ap (λ ps. or_else (get_or numbers d None) (find nat_cmp d (map (indexed mesh) ps))) (sym (from_end pairs k end))
+    ∙ ap (λ ps. or_else (get_or numbers d None) (find nat_cmp d (map (pair_by_index mesh) ps))) (sym (from_end pairs k end))
     ∙ has.whole d
-    ∙ sym (maps.get-from_entries nat_cmp_total (map (indexed mesh) pairs) d)
+    ∙ sym (maps.get-from_entries nat_cmp_total (map (pair_by_index mesh) pairs) d)
 
 -- ---- the pairs accepted
 
@@ -96,15 +96,15 @@ found_below : (b : Bool) (i d v n size : ℕ) (rest : Option ℕ) → (b ≡ tru
 found_below true i d v n size rest same h later e = let is = same refl in omega arith
 found_below false i d v n size rest same h later e = later e
 
-pairs_below : (mesh : Nodes) (ps : List (Addr × ℕ)) → strange_pair mesh ps ≡ None → (d n : ℕ) → find nat_cmp d (map (indexed mesh) ps) ≡ Some n → d < length mesh
+pairs_below : (mesh : Nodes) (ps : List (Addr × ℕ)) → strange_pair mesh ps ≡ None → (d n : ℕ) → find nat_cmp d (map (pair_by_index mesh) ps) ≡ Some n → d < length mesh
 pairs_below mesh [] e d n f = absurd (none-some n f)
 pairs_below mesh (p ∷ ps) e d n f =
     let one = first_in mesh p.0 (strange_pair mesh ps) e in
-    found_below (eq_by_cmp nat_cmp d (index mesh p.0)) (index mesh p.0) d p.1 n (length mesh) (find nat_cmp d (map (indexed mesh) ps))
+    found_below (eq_by_cmp nat_cmp d (index mesh p.0)) (index mesh p.0) d p.1 n (length mesh) (find nat_cmp d (map (pair_by_index mesh) ps))
     (λ t. eqb-true d (index mesh p.0) (sym (unsigned_tied d (index mesh p.0)) ∙ t)) (below mesh p.0.0 one.0) (pairs_below mesh ps one.1 d n) f
 
 pub stated_below : (mesh : Nodes) (ps : List (Addr × ℕ)) → strange_pair mesh ps ≡ None → AreDestsBelow (length mesh) (dests_in mesh ps)
-stated_below mesh ps e d n g = pairs_below mesh ps e d n (sym (maps.get-from_entries nat_cmp_total (map (indexed mesh) ps) d) ∙ g)
+stated_below mesh ps e d n g = pairs_below mesh ps e d n (sym (maps.get-from_entries nat_cmp_total (map (pair_by_index mesh) ps) d) ∙ g)
 
 -- those below d were taken, and no more
 pub record HasTaken (accepted : Dests) (d : ℕ) (dests : Dests) : Type 0 where

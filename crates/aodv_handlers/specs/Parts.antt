@@ -13,8 +13,8 @@ abbrev pub tells : Variant → Table → ℕ → Bool
 tells v rt d = is_error v || not (is_empty (precs rt d))
 
 -- the destinations of a route error, of these
-abbrev pub told : Variant → Table → Dests → Dests
-told v rt dests = if is_error v then dests else with_precs rt dests
+abbrev pub named_dests : Variant → Table → Dests → Dests
+named_dests v rt dests = if is_error v then dests else with_precs rt dests
 
 -- the routes by `from` are gone that a route error from there names, with these numbers
 abbrev pub gone_by : Core → ℕ → Dests → Reaction

@@ -9,7 +9,7 @@ ghost use Rattle.aodv_meaning.specs.Sent.{IsSent, IsPacket};
 ghost use Rattle.aodv_handlers.specs.Shown.{core_of, IsReady};
 ghost use Rattle.aodv_meaning.specs.Effects.{cast_of};
 ghost use Rattle.aodv_handlers.specs.Made.{Breaks};
-ghost use Rattle.aodv_handlers.specs.Parts.{tells, told};
+ghost use Rattle.aodv_handlers.specs.Parts.{tells, named_dests};
 
 use crate::cores::Core;
 use aodv_entry::Dests;
@@ -68,8 +68,9 @@ fn is_told<T: Table>(variant: Variant, table: &T, d: usize) -> bool
 fn write_error<T: Table>(variant: Variant, table: &T, mesh: &Mesh, dests: &Dests, out: &mut Packet)
     requires nodes { T.nodes table.now ≡ length mesh.now }
     requires below { AreDestsBelow (length mesh.now) dests.now }
-    requires some { 1 ≤ maps.len (told variant (T.entries table.now) dests.now) }
-    ensures { IsSent mesh.now out.new.items (Rerr (told variant (T.entries table.now) dests.now)) }
+    requires some { 1 ≤ maps.len (named_dests variant (T.entries table.now) dests.now) }
+    ensures { IsSent mesh.now out.new.items
+        (Rerr (named_dests variant (T.entries table.now) dests.now)) }
 {
     // It says that the addresses of a mesh rise, so pairs by rising node have rising addresses.
     let _rising = mesh.len();

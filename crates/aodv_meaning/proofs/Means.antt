@@ -31,8 +31,8 @@ use Rattle.aodv_wire.specs.RouteReply as rrep
 use Rattle.aodv_wire.specs.RouteError as rerr
 use Rattle.aodv_wire.specs.DataPacket as packet
 use Rattle.aodv_wire.specs.Spells.{message_in_fields, kind, refusal}
-use Rattle.aodv_meaning.specs.Meaning.{status_of, index, indexed, dests_in, in_mesh, meaning, unless_in, strange_pair, stranger}
-use Rattle.aodv_meaning.specs.Sent.{addressed, out_of, pairs_of, IsSent}
+use Rattle.aodv_meaning.specs.Meaning.{status_of, index, pair_by_index, dests_in, in_mesh, meaning, unless_in, strange_pair, stranger}
+use Rattle.aodv_meaning.specs.Sent.{pair_by_address, out_of, pairs_of, IsSent}
 
 -- an address below its own place isn't that of another place
 apart : (mesh : Nodes) (i k : ℕ) → IsMesh mesh → i < length mesh → k < length mesh → addr_at mesh k ≡ addr_at mesh i → k ≡ i
@@ -99,18 +99,18 @@ dests_keys size dests all = keys_in size (maps.entries dests) (λ q t.
     let there = some_of (maps.get dests q) (maps.contains_key-keys dests q ∙ t) in
     all q there.0 there.1)
 
-there_and_back : (mesh : Nodes) (es : List (ℕ × ℕ)) → IsMesh mesh → AreKeysBelow (length mesh) es → map (indexed mesh) (map (addressed mesh) es) ≡ es
+there_and_back : (mesh : Nodes) (es : List (ℕ × ℕ)) → IsMesh mesh → AreKeysBelow (length mesh) es → map (pair_by_index mesh) (map (pair_by_address mesh) es) ≡ es
 there_and_back mesh [] is all = refl
 there_and_back mesh (e ∷ es) is all = rw (index_at mesh e.0 is all.0, there_and_back mesh es is all.1) refl
 
 dests_back : (mesh : Nodes) (dests : Dests) → IsMesh mesh → AreDestsBelow (length mesh) dests → dests_in mesh (pairs_of mesh dests) ≡ dests
 dests_back mesh dests is all =
     maps.same_map nat_cmp_total nat_cmp-IsAntisymmetric _ dests (λ q.
-    maps.get-from_entries nat_cmp_total (map (indexed mesh) (pairs_of mesh dests)) q
+    maps.get-from_entries nat_cmp_total (map (pair_by_index mesh) (pairs_of mesh dests)) q
     ∙ ap (find nat_cmp q) (there_and_back mesh (maps.entries dests) is (dests_keys (length mesh) dests all))
     ∙ sym (maps.get-entries dests q))
 
-pub no_strange_pair : (mesh : Nodes) (es : List (ℕ × ℕ)) → IsMesh mesh → AreKeysBelow (length mesh) es → strange_pair mesh (map (addressed mesh) es) ≡ None
+pub no_strange_pair : (mesh : Nodes) (es : List (ℕ × ℕ)) → IsMesh mesh → AreKeysBelow (length mesh) es → strange_pair mesh (map (pair_by_address mesh) es) ≡ None
 no_strange_pair mesh [] is all = refl
 no_strange_pair mesh (e ∷ es) is all = rw (is_there mesh e.0 is all.0) (no_strange_pair mesh es is all.1)
 
@@ -153,11 +153,11 @@ pub found_below : (b : Bool) (i n d v : ℕ) (size : ℕ) (rest : Option ℕ) �
 found_below true i n d v size rest same h later e = let is = same refl in omega arith
 found_below false i n d v size rest same h later e = later e
 
-pairs_below : (mesh : Nodes) (ps : List (Addr × ℕ)) → strange_pair mesh ps ≡ None → (d n : ℕ) → find nat_cmp d (map (indexed mesh) ps) ≡ Some n → d < length mesh
+pairs_below : (mesh : Nodes) (ps : List (Addr × ℕ)) → strange_pair mesh ps ≡ None → (d n : ℕ) → find nat_cmp d (map (pair_by_index mesh) ps) ≡ Some n → d < length mesh
 pairs_below mesh [] e d n f = absurd (none-some n f)
 pairs_below mesh (p ∷ ps) e d n f =
     let one = first_in mesh p.0 (strange_pair mesh ps) e in
-    found_below (eq_by_cmp nat_cmp d (index mesh p.0)) (index mesh p.0) n d p.1 (length mesh) (find nat_cmp d (map (indexed mesh) ps))
+    found_below (eq_by_cmp nat_cmp d (index mesh p.0)) (index mesh p.0) n d p.1 (length mesh) (find nat_cmp d (map (pair_by_index mesh) ps))
     (λ t. eqb-true d (index mesh p.0) (sym (unsigned_tied d (index mesh p.0)) ∙ t)) (below mesh (p.0).0 one.0) (pairs_below mesh ps one.1 d n) f
 
 -- ---- what isn't refused
@@ -172,58 +172,58 @@ not_zero n h = grind (arith, nat_tests)
 
 -- the tests that follow, from each on
 abbrev request_5 : List ℕ → List (Option WireError)
-request_5 b = refuse_if (eqb (rreq.found b rreq.OriginatorNumber) 0) ZeroNumber ∷ []
+request_5 b = refuse_if (eqb (rreq.value_in b rreq.OriginatorNumber) 0) ZeroNumber ∷ []
 
 abbrev request_4 : List ℕ → List (Option WireError)
-request_4 b = refuse_if (eqb (rreq.found b rreq.D) 1) OutsideProfile ∷ request_5 b
+request_4 b = refuse_if (eqb (rreq.value_in b rreq.D) 1) OutsideProfile ∷ request_5 b
 
 abbrev request_3 : List ℕ → List (Option WireError)
-request_3 b = refuse_if (eqb (rreq.found b rreq.G) 1) OutsideProfile ∷ request_4 b
+request_3 b = refuse_if (eqb (rreq.value_in b rreq.G) 1) OutsideProfile ∷ request_4 b
 
 abbrev request_2 : List ℕ → List (Option WireError)
-request_2 b = refuse_if (eqb (rreq.found b rreq.R) 1) OutsideProfile ∷ request_3 b
+request_2 b = refuse_if (eqb (rreq.value_in b rreq.R) 1) OutsideProfile ∷ request_3 b
 
 abbrev request_1 : List ℕ → List (Option WireError)
-request_1 b = refuse_if (eqb (rreq.found b rreq.J) 1) OutsideProfile ∷ request_2 b
+request_1 b = refuse_if (eqb (rreq.value_in b rreq.J) 1) OutsideProfile ∷ request_2 b
 
 request_number : (b : List ℕ) → rreq.refusal b ≡ None → 1 ≤ (rreq.request b).osn
 request_number b h =
     let one = both (not (eqb (length b) 24)) WrongLength (request_1 b) h in
-    let two = both (eqb (rreq.found b rreq.J) 1) OutsideProfile (request_2 b) one.1 in
-    let three = both (eqb (rreq.found b rreq.R) 1) OutsideProfile (request_3 b) two.1 in
-    let four = both (eqb (rreq.found b rreq.G) 1) OutsideProfile (request_4 b) three.1 in
-    let five = both (eqb (rreq.found b rreq.D) 1) OutsideProfile (request_5 b) four.1 in
-    let six = both (eqb (rreq.found b rreq.OriginatorNumber) 0) ZeroNumber [] five.1 in
-    not_zero (rreq.found b rreq.OriginatorNumber) six.0
+    let two = both (eqb (rreq.value_in b rreq.J) 1) OutsideProfile (request_2 b) one.1 in
+    let three = both (eqb (rreq.value_in b rreq.R) 1) OutsideProfile (request_3 b) two.1 in
+    let four = both (eqb (rreq.value_in b rreq.G) 1) OutsideProfile (request_4 b) three.1 in
+    let five = both (eqb (rreq.value_in b rreq.D) 1) OutsideProfile (request_5 b) four.1 in
+    let six = both (eqb (rreq.value_in b rreq.OriginatorNumber) 0) ZeroNumber [] five.1 in
+    not_zero (rreq.value_in b rreq.OriginatorNumber) six.0
 
 abbrev reply_4 : List ℕ → List (Option WireError)
-reply_4 b = refuse_if (eqb (rrep.found b rrep.DestinationNumber) 0) ZeroNumber ∷ []
+reply_4 b = refuse_if (eqb (rrep.value_in b rrep.DestinationNumber) 0) ZeroNumber ∷ []
 
 abbrev reply_3 : List ℕ → List (Option WireError)
-reply_3 b = refuse_if (not (eqb (rrep.found b rrep.PrefixSize) 0)) OutsideProfile ∷ reply_4 b
+reply_3 b = refuse_if (not (eqb (rrep.value_in b rrep.PrefixSize) 0)) OutsideProfile ∷ reply_4 b
 
 abbrev reply_2 : List ℕ → List (Option WireError)
-reply_2 b = refuse_if (eqb (rrep.found b rrep.A) 1) OutsideProfile ∷ reply_3 b
+reply_2 b = refuse_if (eqb (rrep.value_in b rrep.A) 1) OutsideProfile ∷ reply_3 b
 
 abbrev reply_1 : List ℕ → List (Option WireError)
-reply_1 b = refuse_if (eqb (rrep.found b rrep.R) 1) OutsideProfile ∷ reply_2 b
+reply_1 b = refuse_if (eqb (rrep.value_in b rrep.R) 1) OutsideProfile ∷ reply_2 b
 
 reply_number : (b : List ℕ) → rrep.refusal b ≡ None → 1 ≤ (rrep.reply b).dsn
 reply_number b h =
     let one = both (not (eqb (length b) 20)) WrongLength (reply_1 b) h in
-    let two = both (eqb (rrep.found b rrep.R) 1) OutsideProfile (reply_2 b) one.1 in
-    let three = both (eqb (rrep.found b rrep.A) 1) OutsideProfile (reply_3 b) two.1 in
-    let four = both (not (eqb (rrep.found b rrep.PrefixSize) 0)) OutsideProfile (reply_4 b) three.1 in
-    let five = both (eqb (rrep.found b rrep.DestinationNumber) 0) ZeroNumber [] four.1 in
-    not_zero (rrep.found b rrep.DestinationNumber) five.0
+    let two = both (eqb (rrep.value_in b rrep.R) 1) OutsideProfile (reply_2 b) one.1 in
+    let three = both (eqb (rrep.value_in b rrep.A) 1) OutsideProfile (reply_3 b) two.1 in
+    let four = both (not (eqb (rrep.value_in b rrep.PrefixSize) 0)) OutsideProfile (reply_4 b) three.1 in
+    let five = both (eqb (rrep.value_in b rrep.DestinationNumber) 0) ZeroNumber [] four.1 in
+    not_zero (rrep.value_in b rrep.DestinationNumber) five.0
 
 at_least : (m n : ℕ) → ltb m n ≡ false → n ≤ m
 at_least m n h = grind (arith, nat_tests)
 
 body_is_datum : (b : List ℕ) → packet.refusal b ≡ None → IsDatum (packet.datum b).body
 body_is_datum b h =
-    let one = both (ltb (length b) 13) WrongLength (refuse_if (ltb 524 (length b)) WrongLength ∷ refuse_if (not (eqb (packet.found b packet.Zero) 0)) BadData ∷ []) h in
-    let two = both (ltb 524 (length b)) WrongLength (refuse_if (not (eqb (packet.found b packet.Zero) 0)) BadData ∷ []) one.1 in
+    let one = both (ltb (length b) 13) WrongLength (refuse_if (ltb 524 (length b)) WrongLength ∷ refuse_if (not (eqb (packet.value_in b packet.Zero) 0)) BadData ∷ []) h in
+    let two = both (ltb 524 (length b)) WrongLength (refuse_if (not (eqb (packet.value_in b packet.Zero) 0)) BadData ∷ []) one.1 in
     let low = at_least (length b) 13 one.0 in
     let high = at_least 524 (length b) two.0 in
     let size = length-drop 12 b in
@@ -244,7 +244,7 @@ by_kind mesh b false false true k3 k16 h s =
     let two = two_in mesh (rrep.reply b).dip (rrep.reply b).oip s in
     (two.0, two.1, reply_number b h)
 by_kind mesh b false false false true k16 h s =
-    λ d n g. pairs_below mesh (rerr.destinations b) s d n (sym (maps.get-from_entries nat_cmp_total (map (indexed mesh) (rerr.destinations b)) d) ∙ g)
+    λ d n g. pairs_below mesh (rerr.destinations b) s d n (sym (maps.get-from_entries nat_cmp_total (map (pair_by_index mesh) (rerr.destinations b)) d) ∙ g)
 by_kind mesh b false false false false true h s =
     let two = two_in mesh (packet.datum b).dip (packet.datum b).oip s in
     (two.0, two.1, body_is_datum b h)

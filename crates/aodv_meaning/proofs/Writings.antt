@@ -28,10 +28,10 @@ use Rattle.aodv_wire.specs.RouteReply as rrep
 use Rattle.aodv_wire.specs.RouteError as rerr
 use Rattle.aodv_wire.specs.RouteError.{IsRising, AreDestinations}
 use Rattle.aodv_wire.specs.DataPacket as packet
-use Rattle.aodv_wire.specs.Spells.{message_in_fields, kind, refusal, written}
+use Rattle.aodv_wire.specs.Spells.{message_in_fields, kind, refusal, spelling}
 use Rattle.aodv_wire.proofs.Pairs.{length_pairs}
-use Rattle.aodv_meaning.specs.Meaning.{status_of, index, indexed, dests_in, in_mesh, meaning, strange_pair, stranger, unless_in}
-use Rattle.aodv_meaning.specs.Sent.{addr, addressed, out_of, pairs_of, IsSent, IsWritable, IsAsWritten}
+use Rattle.aodv_meaning.specs.Meaning.{status_of, index, pair_by_index, dests_in, in_mesh, meaning, strange_pair, stranger, unless_in}
+use Rattle.aodv_meaning.specs.Sent.{addr, pair_by_address, out_of, pairs_of, IsSent, IsWritable, IsAsWritten}
 use Rattle.aodv_meaning.proofs.Means.{index_there, is_there, some_of, first_in, found_below, no_strange_pair, dests_keys, AreKeysBelow, both, not_zero, Said}
 
 -- ---- orders of numbers and of keys
@@ -91,7 +91,7 @@ index_rises mesh a b is ta tb lt =
 one_pair : (a c : Addr) (n : ℕ) (ps qs : List (Addr × ℕ)) → a ≡ c → ps ≡ qs → (a, n) ∷ ps ≡ (c, n) ∷ qs
 one_pair a c n ps qs e f = cc
 
-pairs_there : (mesh : Nodes) (ps : List (Addr × ℕ)) → strange_pair mesh ps ≡ None → map (addressed mesh) (map (indexed mesh) ps) ≡ ps
+pairs_there : (mesh : Nodes) (ps : List (Addr × ℕ)) → strange_pair mesh ps ≡ None → map (pair_by_address mesh) (map (pair_by_index mesh) ps) ≡ ps
 pairs_there mesh [] s = refl
 pairs_there mesh (p ∷ ps) s =
     let one = first_in mesh p.0 (strange_pair mesh ps) s in
@@ -113,20 +113,20 @@ further : (mesh : Nodes) (x y : ℕ) (ps : List (Addr × ℕ)) → x < y → IsB
 further mesh x y [] lt below = tt
 further mesh x y (p ∷ ps) lt below = omega arith
 
-all_above : (mesh : Nodes) (x : ℕ) (ps : List (Addr × ℕ)) → IsMesh mesh → strange_pair mesh ps ≡ None → IsRising ps → IsBelowFirst mesh x ps → T (below_all nat_cmp x (map (indexed mesh) ps))
+all_above : (mesh : Nodes) (x : ℕ) (ps : List (Addr × ℕ)) → IsMesh mesh → strange_pair mesh ps ≡ None → IsRising ps → IsBelowFirst mesh x ps → T (below_all nat_cmp x (map (pair_by_index mesh) ps))
 all_above mesh x [] is s rising below = tt
 all_above mesh x (p ∷ ps) is s rising below =
     let one = first_in mesh p.0 (strange_pair mesh ps) s in
     let next = next_below mesh p ps is s rising in
-    two_true (is_lt (nat_cmp x (index mesh p.0))) (below_all nat_cmp x (map (indexed mesh) ps)) (of_lt x (index mesh p.0) below)
+    two_true (is_lt (nat_cmp x (index mesh p.0))) (below_all nat_cmp x (map (pair_by_index mesh) ps)) (of_lt x (index mesh p.0) below)
     (all_above mesh x ps is one.1 next.1 (further mesh x (index mesh p.0) ps below next.0))
 
-keys_rise : (mesh : Nodes) (ps : List (Addr × ℕ)) → IsMesh mesh → strange_pair mesh ps ≡ None → IsRising ps → T (is_sorted nat_cmp (map (indexed mesh) ps))
+keys_rise : (mesh : Nodes) (ps : List (Addr × ℕ)) → IsMesh mesh → strange_pair mesh ps ≡ None → IsRising ps → T (is_sorted nat_cmp (map (pair_by_index mesh) ps))
 keys_rise mesh [] is s rising = tt
 keys_rise mesh (p ∷ ps) is s rising =
     let one = first_in mesh p.0 (strange_pair mesh ps) s in
     let next = next_below mesh p ps is s rising in
-    two_true (below_all nat_cmp (index mesh p.0) (map (indexed mesh) ps)) (is_sorted nat_cmp (map (indexed mesh) ps))
+    two_true (below_all nat_cmp (index mesh p.0) (map (pair_by_index mesh) ps)) (is_sorted nat_cmp (map (pair_by_index mesh) ps))
     (true_of _ (all_above mesh (index mesh p.0) ps is one.1 next.1 next.0)) (keys_rise mesh ps is one.1 next.1)
 
 -- the entries of a map that was made of rising entries
@@ -138,7 +138,7 @@ entries_back es sorted =
 
 pairs_back : (mesh : Nodes) (ps : List (Addr × ℕ)) → IsMesh mesh → strange_pair mesh ps ≡ None → IsRising ps → pairs_of mesh (dests_in mesh ps) ≡ ps
 pairs_back mesh ps is s rising =
-    ap (map (addressed mesh)) (entries_back (map (indexed mesh) ps) (keys_rise mesh ps is s rising)) ∙ pairs_there mesh ps s
+    ap (map (pair_by_address mesh)) (entries_back (map (pair_by_index mesh) ps) (keys_rise mesh ps is s rising)) ∙ pairs_there mesh ps s
 
 -- ---- a message that was read, there and back
 
@@ -163,7 +163,7 @@ unfolding meaning
 sent_of mesh b is w =
     let back = said_back mesh (message_in_fields b) is w.known w.writable in
     record {
-      written = w.same ∙ ap written (sym back);
+      written = w.same ∙ ap spelling (sym back);
       spells = record { allowed = w.allowed; stands = sym back };
     }
 
@@ -186,7 +186,7 @@ few_keys (e ∷ es) size sorted keys =
     let rest = count_above es size e.0 (of_true _ parts.0) (of_true _ parts.1) keys.1 keys.0 in
     omega arith
 
-rising_pairs : (mesh : Nodes) (es : List (ℕ × ℕ)) → IsMesh mesh → T (is_sorted nat_cmp es) → AreKeysBelow (length mesh) es → IsRising (map (addressed mesh) es)
+rising_pairs : (mesh : Nodes) (es : List (ℕ × ℕ)) → IsMesh mesh → T (is_sorted nat_cmp es) → AreKeysBelow (length mesh) es → IsRising (map (pair_by_address mesh) es)
 rising_pairs mesh [] is sorted keys = tt
 rising_pairs mesh (e ∷ []) is sorted keys = tt
 rising_pairs mesh (e ∷ f ∷ es) is sorted keys =
@@ -200,7 +200,7 @@ destinations mesh dests is below some =
     let keys = dests_keys (length mesh) dests below in
     let sorted = maps.entries_sorted dests in
     let count : maps.len dests ≡ length (maps.entries dests) = maps.len-entries dests in
-    let same : length (pairs_of mesh dests) ≡ length (maps.entries dests) = length-map (maps.entries dests) (addressed mesh) in
+    let same : length (pairs_of mesh dests) ≡ length (maps.entries dests) = length-map (maps.entries dests) (pair_by_address mesh) in
     let few : length (maps.entries dests) ≤ length mesh = few_keys (maps.entries dests) (length mesh) sorted keys in
     let most = is.few in
     record { some = omega arith; few = omega arith; rising = rising_pairs mesh (maps.entries dests) is sorted keys }
@@ -215,14 +215,14 @@ index_below mesh a some = by (index_of mesh a) refl
     by (Some i) e = (index_there mesh a i e).0
     by None e = some
 
-found_in : (mesh : Nodes) (ps : List (Addr × ℕ)) → 1 ≤ length mesh → (d n : ℕ) → find nat_cmp d (map (indexed mesh) ps) ≡ Some n → d < length mesh
+found_in : (mesh : Nodes) (ps : List (Addr × ℕ)) → 1 ≤ length mesh → (d n : ℕ) → find nat_cmp d (map (pair_by_index mesh) ps) ≡ Some n → d < length mesh
 found_in mesh [] some d n f = absurd (none-some n f)
 found_in mesh (p ∷ ps) some d n f =
-    found_below (eq_by_cmp nat_cmp d (index mesh p.0)) (index mesh p.0) n d p.1 (length mesh) (find nat_cmp d (map (indexed mesh) ps))
+    found_below (eq_by_cmp nat_cmp d (index mesh p.0)) (index mesh p.0) n d p.1 (length mesh) (find nat_cmp d (map (pair_by_index mesh) ps))
     (λ t. eqb-true d (index mesh p.0) (sym (unsigned_tied d (index mesh p.0)) ∙ t)) (index_below mesh (p.0).0 some) (found_in mesh ps some d n) f
 
 dests_below : (mesh : Nodes) (ps : List (Addr × ℕ)) → 1 ≤ length mesh → AreDestsBelow (length mesh) (dests_in mesh ps)
-dests_below mesh ps some d n g = found_in mesh ps some d n (sym (maps.get-from_entries nat_cmp_total (map (indexed mesh) ps) d) ∙ g)
+dests_below mesh ps some d n g = found_in mesh ps some d n (sym (maps.get-from_entries nat_cmp_total (map (pair_by_index mesh) ps) d) ∙ g)
 
 none_strange : (mesh : Nodes) (m : wire.Message) → IsMesh mesh → 1 ≤ length mesh → stranger mesh (out_of mesh (in_mesh mesh m)) ≡ None
 none_strange mesh (messages.Rreq m) is some = rw (is_there mesh (index mesh m.dip) is (index_below mesh (m.dip).0 some), is_there mesh (index mesh m.oip) is (index_below mesh (m.oip).0 some)) refl
@@ -242,7 +242,7 @@ writable_of mesh (messages.Rreq m) is some has e = tt
 writable_of mesh (messages.Rrep m) is some has e = tt
 writable_of mesh (messages.Rerr ps) is some has e =
     let same : ps ≡ pairs_of mesh (dests_in mesh ps) = cc in
-    let long = ap length same ∙ length-map (maps.entries (dests_in mesh ps)) (addressed mesh) in
+    let long = ap length same ∙ length-map (maps.entries (dests_in mesh ps)) (pair_by_address mesh) in
     let count : maps.len (dests_in mesh ps) ≡ length (maps.entries (dests_in mesh ps)) = maps.len-entries (dests_in mesh ps) in
     subst AreDestinations (sym same) (destinations mesh (dests_in mesh ps) is (dests_below mesh ps some) (omega arith))
 writable_of mesh (messages.Parcel p) is some has e = tt
@@ -250,25 +250,25 @@ writable_of mesh (messages.Parcel p) is some has e = tt
 -- ---- a route error that isn't refused has a pair
 
 abbrev errors_4 : List ℕ → List (Option WireError)
-errors_4 b = option_map Repeated (rerr.repeated (rerr.destinations b)) ∷ []
+errors_4 b = option_map Repeated (rerr.repeated_address (rerr.destinations b)) ∷ []
 
 abbrev errors_3 : List ℕ → List (Option WireError)
-errors_3 b = refuse_if (eqb (rerr.found b rerr.DestCount) 0) NoDestinations ∷ errors_4 b
+errors_3 b = refuse_if (eqb (rerr.value_in b rerr.DestCount) 0) NoDestinations ∷ errors_4 b
 
 abbrev errors_2 : List ℕ → List (Option WireError)
-errors_2 b = refuse_if (eqb (rerr.found b rerr.N) 1) OutsideProfile ∷ errors_3 b
+errors_2 b = refuse_if (eqb (rerr.value_in b rerr.N) 1) OutsideProfile ∷ errors_3 b
 
 abbrev errors_1 : List ℕ → List (Option WireError)
-errors_1 b = refuse_if (not (eqb (length b) (4 + 8 * rerr.found b rerr.DestCount))) WrongLength ∷ errors_2 b
+errors_1 b = refuse_if (not (eqb (length b) (4 + 8 * rerr.value_in b rerr.DestCount))) WrongLength ∷ errors_2 b
 
 some_pair : (b : List ℕ) → rerr.refusal b ≡ None → 1 ≤ length (rerr.destinations b)
 some_pair b h =
     let one = both (ltb (length b) 4) WrongLength (errors_1 b) h in
-    let two = both (not (eqb (length b) (4 + 8 * rerr.found b rerr.DestCount))) WrongLength (errors_2 b) one.1 in
-    let three = both (eqb (rerr.found b rerr.N) 1) OutsideProfile (errors_3 b) two.1 in
-    let four = both (eqb (rerr.found b rerr.DestCount) 0) NoDestinations (errors_4 b) three.1 in
-    let some = not_zero (rerr.found b rerr.DestCount) four.0 in
-    let long = length_pairs (rerr.found b rerr.DestCount) (drop 4 b) in
+    let two = both (not (eqb (length b) (4 + 8 * rerr.value_in b rerr.DestCount))) WrongLength (errors_2 b) one.1 in
+    let three = both (eqb (rerr.value_in b rerr.N) 1) OutsideProfile (errors_3 b) two.1 in
+    let four = both (eqb (rerr.value_in b rerr.DestCount) 0) NoDestinations (errors_4 b) three.1 in
+    let some = not_zero (rerr.value_in b rerr.DestCount) four.0 in
+    let long = length_pairs (rerr.value_in b rerr.DestCount) (drop 4 b) in
     omega arith
 
 pair_by_kind : (b : List ℕ) (empty k1 k2 k3 k16 : Bool)
@@ -292,7 +292,7 @@ as_written mesh b is some sent =
       allowed = (sent.spells).allowed;
       known = ap (stranger mesh) stands ∙ none_strange mesh (message_in_fields b) is some;
       writable = writable_of mesh (message_in_fields b) is some (has_pair b (sent.spells).allowed) stands;
-      same = sent.written ∙ ap written (sym stands);
+      same = sent.written ∙ ap spelling (sym stands);
     }
 
 pub written_is_sent : (mesh : Nodes) (b : List ℕ) → IsMesh mesh → 1 ≤ length mesh → IsAsWritten mesh b ↔ IsSent mesh b (meaning mesh b)

@@ -43,11 +43,11 @@ reply_in mesh m = record {
   oip = index mesh m.oip;
 }
 
-abbrev pub indexed : Nodes → Addr × ℕ → ℕ × ℕ
-indexed mesh p = (index mesh p.0, p.1)
+abbrev pub pair_by_index : Nodes → Addr × ℕ → ℕ × ℕ
+pair_by_index mesh p = (index mesh p.0, p.1)
 
 abbrev pub dests_in : Nodes → List (Addr × ℕ) → Dests
-dests_in mesh pairs = maps.from_entries (map (indexed mesh) pairs)
+dests_in mesh pairs = maps.from_entries (map (pair_by_index mesh) pairs)
 
 -- the message, over indices
 abbrev pub in_mesh : Nodes → wire.Message → Message

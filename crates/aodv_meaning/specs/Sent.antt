@@ -12,7 +12,7 @@ use Rattle.aodv_wire.specs.declared.route_reply.Rrep as rrep
 use Rattle.aodv_wire.specs.declared.message.Message as wire
 use Rattle.aodv_wire.specs.declared.message.Message.TheVariants as messages
 use Rattle.aodv_wire.specs.RouteError.{AreDestinations}
-use Rattle.aodv_wire.specs.Spells.{Spells, refusal, message_in_fields, written}
+use Rattle.aodv_wire.specs.Spells.{Spells, refusal, message_in_fields, spelling}
 use Rattle.aodv_meaning.specs.Meaning.{stranger}
 
 abbrev pub addr : Nodes → ℕ → Addr
@@ -33,12 +33,12 @@ rreq_of mesh m =
 abbrev pub rrep_of : Nodes → RouteReply → rrep.Rrep
 rrep_of mesh m = record { hops = m.hops; dip = addr mesh m.dip; dsn = m.dsn; oip = addr mesh m.oip }
 
-abbrev pub addressed : Nodes → ℕ × ℕ → Addr × ℕ
-addressed mesh e = (addr mesh e.0, e.1)
+abbrev pub pair_by_address : Nodes → ℕ × ℕ → Addr × ℕ
+pair_by_address mesh e = (addr mesh e.0, e.1)
 
 -- the pairs of a route error, by rising address
 abbrev pub pairs_of : Nodes → Dests → List (Addr × ℕ)
-pairs_of mesh dests = map (addressed mesh) (maps.entries dests)
+pairs_of mesh dests = map (pair_by_address mesh) (maps.entries dests)
 
 -- the message, over addresses
 abbrev pub out_of : Nodes → Message → wire.Message
@@ -50,7 +50,7 @@ out_of mesh (Pkt b d o) =
 
 -- the bytes are what is written of the message, and spell it
 pub record IsSent (mesh : Nodes) (b : List ℕ) (m : Message) : Type 0 where
-  pub written : b ≡ written (out_of mesh m)
+  pub written : b ≡ spelling (out_of mesh m)
   pub spells : Spells b (out_of mesh m)
 
 -- a message that can be written: of the route errors those whose addresses rise, few enough for a
@@ -67,7 +67,7 @@ pub record IsAsWritten (mesh : Nodes) (b : List ℕ) : Type 0 where
   pub allowed : refusal b ≡ None
   pub known : stranger mesh (message_in_fields b) ≡ None
   pub writable : IsWritable (message_in_fields b)
-  pub same : b ≡ written (message_in_fields b)
+  pub same : b ≡ spelling (message_in_fields b)
 
 -- the packet of a cast: none, or what is written of its message
 abbrev pub IsPacket : Nodes → List ℕ → Cast → Type 0

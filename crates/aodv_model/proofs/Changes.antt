@@ -8,11 +8,11 @@ use Rattle.std.specs.FinMap as maps
 use Rattle.aodv_entry.specs.Quality.{inc, is_val}
 use Rattle.aodv_entry.specs.declared.entry.Entry.{Entry}
 use Rattle.aodv_model.proofs.Lookups.{get-accepted, get-unreachable_by, get-update}
-use Rattle.aodv_model.specs.Tables.{Dests, Table, accepted_unreachable, entry_after, goes_by, merged, unreachable_by, update}
+use Rattle.aodv_model.specs.Tables.{Dests, Table, accepted_unreachable, entry_after, goes_by, merge, unreachable_by, update}
 
 -- ---- updates
 
-pub after_by : (Q : Entry → Type 0) (o : Option Entry) (r : Entry) → Q r → ((s : Entry) → o ≡ Some s → Q (merged s r)) → Q (entry_after o r)
+pub after_by : (Q : Entry → Type 0) (o : Option Entry) (r : Entry) → Q r → ((s : Entry) → o ≡ Some s → Q (merge s r)) → Q (entry_after o r)
 after_by Q None r new over = new
 after_by Q (Some s) r new over = over s refl
 

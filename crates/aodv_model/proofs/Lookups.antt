@@ -8,7 +8,7 @@ use borrow.Author.Tests.{eqb-true}
 use Rattle.std.specs.FinMap as maps
 use Rattle.aodv_entry.specs.Quality.{inc}
 use Rattle.aodv_entry.specs.declared.entry.Entry.{Entry}
-use Rattle.aodv_model.specs.Tables.{Dests, Table, accepted_unreachable, add_pre, entry_after, goes_by, invalidate, invalidated, joined, mapped, sqn, unreachable_by, update}
+use Rattle.aodv_model.specs.Tables.{Dests, Table, accepted_unreachable, add_pre, entry_after, goes_by, invalidate, invalidated, add_pre_at, map_values, sqn, unreachable_by, update}
 use Rattle.mesh_base.specs.Members.{NodeIds}
 
 pub get-update : (rt : Table) (d : ℕ) (r : Entry) (q : ℕ) → maps.get (update rt d r) q ≡ (if q == d then Some (entry_after (maps.get rt d) r) else maps.get rt q)
@@ -25,8 +25,8 @@ find-map f q [] = refl
 find-map f q (e ∷ es) =
     tied_case f q e.0 e.1 (eq_by_cmp nat_cmp q e.0) _ _ (λ t. eqb-true q e.0 (sym (unsigned_tied q e.0) ∙ t)) (find-map f q es)
 
-pub get-mapped : {V W : Type 0} (f : ℕ → V → W) (m : FinMap nat_cmp V) (q : ℕ) → maps.get (mapped f m) q ≡ option_map (f q) (maps.get m q)
-unfolding mapped
+pub get-mapped : {V W : Type 0} (f : ℕ → V → W) (m : FinMap nat_cmp V) (q : ℕ) → maps.get (map_values f m) q ≡ option_map (f q) (maps.get m q)
+unfolding map_values
 get-mapped f m q =
     maps.get-from_entries nat_cmp_total _ q ∙ find-map f q (maps.entries m) ∙ ap (option_map (f q)) (sym (maps.get-entries m q))
 
@@ -37,9 +37,9 @@ pub get-invalidate : (rt : Table) (dests : Dests) (q : ℕ) → maps.get (invali
 unfolding invalidate
 get-invalidate rt dests q = get-mapped (λ d e. invalidated e (maps.get dests d)) rt q
 
-pub get-add_pre : (rt : Table) (d : ℕ) (nodes : NodeIds) (q : ℕ) → maps.get (add_pre rt d nodes) q ≡ option_map (joined d nodes q) (maps.get rt q)
+pub get-add_pre : (rt : Table) (d : ℕ) (nodes : NodeIds) (q : ℕ) → maps.get (add_pre rt d nodes) q ≡ option_map (add_pre_at d nodes q) (maps.get rt q)
 unfolding add_pre
-get-add_pre rt d nodes q = get-mapped (joined d nodes) rt q
+get-add_pre rt d nodes q = get-mapped (add_pre_at d nodes) rt q
 
 pub get-unreachable_by : (rt : Table) (y q : ℕ) → maps.get (unreachable_by rt y) q ≡ option_map (λ e. inc e.dsn) (if goes_by (maps.get rt q) y then maps.get rt q else None)
 unfolding unreachable_by

@@ -18,10 +18,10 @@ use Rattle.mesh_base.specs.declared.events.Variant.TheVariants.{Base, Number, Re
 use Rattle.aodv_entry.specs.declared.entry.Entry.{Entry}
 use Rattle.aodv_entry.specs.Quality.{inc}
 use Rattle.aodv_model.specs.Pairs.{Pairs, pair_cmp}
-use Rattle.aodv_model.specs.Tables.{Table, Dests, accepted_unreachable, add_pre, dhops, goes_by, in_iD, in_vD, invalidate, invalidated, joined, merged, nhop, number_in, precs, sqn, unreachable_by, update}
-use Rattle.aodv_model.specs.Cores.{Body, Core, Heard, Item, Message, New, Pkt, Rerr, RouteReply, RouteRequest, Rrep, Rreq, Seen, add, bodies_in, drop, greatest_beside, has_seen, last_request_id, next_request_id, opening}
+use Rattle.aodv_model.specs.Tables.{Table, Dests, accepted_unreachable, add_pre, dhops, goes_by, in_iD, in_vD, invalidate, invalidated, add_pre_at, merge, nhop, number_in, precs, sqn, unreachable_by, update}
+use Rattle.aodv_model.specs.Cores.{Body, Core, Heard, Item, Message, New, Pkt, Rerr, RouteReply, RouteRequest, Rrep, Rreq, SeenRequests, add, bodies_in, drop, greatest_beside, has_seen, last_request_id, next_request_id, opening}
 use Rattle.aodv_model.specs.Handlers.{All, Cast, Many, Nothing, One, Reaction, after_hearing, after_reply, after_request, ask, broken_by, can_answer, casting, is_stale, data_error, delivering, drop_if_sent, error_cast, first_body, forward_own_entry, forward_reply, forward_request, fresh_id, is_empty, is_error, join_answer_precursors, join_reply_precursors, key_of, link_broken, losing, losing_if_broken, neighbour_entry, on_new, on_new_rreq, on_pkt, on_rerr, on_rrep, on_rreq, one, only, plain, precs_of, reply_for_self, reply_from_table, reply_on, retract, route_entry, send, turn, unicast, with_precs}
-use Rattle.aodv_model.specs.Fullness.{ask_full, greatest, is_hop_full, is_id_full, is_number_full, learnt, send_full, turn_full}
+use Rattle.aodv_model.specs.Fullness.{ask_full, greatest, is_hop_full, is_id_full, is_number_full, after_learning, send_full, turn_full}
 use Rattle.aodv_model.proofs.Changes.{after_by, mapped_each, update_each}
 use Rattle.aodv_model.proofs.Entries.{if_case}
 use Rattle.aodv_model.proofs.FullNumbers.{full_after_answer, full_after_reply, full_at_greatest, has_number, has_number_by, is_full_at, number_at}
@@ -120,7 +120,7 @@ beside_within o n (k ∷ ks) within =
     both : {a b : ℕ} → a ≤ n → b ≤ n → max a b ≤ n
     both x y = omega arith
 
-last_within : (seen : Seen) (o n : ℕ) → ((i : ℕ) → has_seen seen (o, i) ≡ true → i ≤ n) → last_request_id seen o ≤ n
+last_within : (seen : SeenRequests) (o n : ℕ) → ((i : ℕ) → has_seen seen (o, i) ≡ true → i ≤ n) → last_request_id seen o ≤ n
 unfolding last_request_id
 last_within seen o n within = beside_within o n (sets.items seen) (λ i is. within i (sets.contains-items seen (o, i) ∙ is))
 
@@ -129,8 +129,8 @@ own_last_within g ip core w = last_within core.seen core.ip core.sn (λ i is. w.
 
 -- ---- tables
 
-merged_within : (g : ℕ) (s r : Entry) → s.dsn ≤ g → r.dsn ≤ g → (merged s r).dsn ≤ g
-unfolding merged
+merged_within : (g : ℕ) (s r : Entry) → s.dsn ≤ g → r.dsn ≤ g → (merge s r).dsn ≤ g
+unfolding merge
 merged_within g s r a b = grind (arith, nat_tests)
 
 invalidated_within : (g : ℕ) (e : Entry) (o : Option ℕ) → ((n : ℕ) → o ≡ Some n → n ≤ g) → e.dsn ≤ g → (invalidated e o).dsn ≤ g
@@ -160,7 +160,7 @@ module _ (g : ℕ) where
 
   add_pre_within : (rt : Table) (d : ℕ) (nodes : NodeIds) → AllWithin g rt → AllWithin g (add_pre rt d nodes)
   add_pre_within rt d nodes all q e is =
-      mapped_each (λ q e. e.dsn ≤ g) (joined d nodes) q e (maps.get rt q) (sym (get-add_pre rt d nodes q) ∙ is)
+      mapped_each (λ q e. e.dsn ≤ g) (add_pre_at d nodes) q e (maps.get rt q) (sym (get-add_pre rt d nodes q) ∙ is)
       (λ x here. if_case (λ e. e.dsn ≤ g) (q == d) (record x { pre = sets.union x.pre nodes }) x (λ _. all q x here) (λ _. all q x here))
 
   join_answer_within : (rt : Table) (d o from : ℕ) → AllWithin g rt → AllWithin g (join_answer_precursors rt d o from)
@@ -365,7 +365,7 @@ module _ (g ip : ℕ) where
 
   -- ---- all
 
-  turn_keeps : (core : Core) (range : NodeIds) (item : Item) → IsCoreWithin g ip core → IsItemWithin g item → KnowsOwn ip core item → Keeps g ip (learnt core item).rt (turn core range item)
+  turn_keeps : (core : Core) (range : NodeIds) (item : Item) → IsCoreWithin g ip core → IsItemWithin g item → KnowsOwn ip core item → Keeps g ip (after_learning core item).rt (turn core range item)
   turn_keeps core range (New b d) w inside knows = on_new_keeps core b d w
   turn_keeps core range (Heard from (Pkt b d o)) w inside knows = on_pkt_keeps core range b d o w
   turn_keeps core range (Heard from (Rreq m)) w inside knows = on_rreq_keeps core range from m w inside knows
@@ -425,7 +425,7 @@ turn_free false false is = refl
 
 pub free_turn_keeps : (ip : ℕ) (core : Core) (range : NodeIds) (item : Item) → IsCoreWithin greatest ip core → IsItemWithin greatest item → KnowsOwn ip core item → turn_full core range item ≡ None → IsReactionWithin greatest ip (turn core range item)
 free_turn_keeps ip core range item w inside knows free =
-    let rt = (learnt core item).rt in
+    let rt = (after_learning core item).rt in
     let broken = ((turn core range item).effect).broken in
     turn_keeps greatest ip core range item w inside knows (full_at_greatest rt broken ∙ turn_free (is_hop_full core item) (is_number_full rt broken) free)
 

@@ -15,7 +15,7 @@ use Rattle.aodv_model.proofs.Entries.{if_case, merged_shape}
 use Rattle.aodv_model.proofs.Lookups.{get-accepted, get-add_pre, get-invalidate, get-unreachable_by, get-update}
 use Rattle.aodv_model.specs.Handlers.{one}
 use Rattle.aodv_model.specs.Soundness.{AllPlaced, AreBelow, AreDestsBelow, IsPlaced}
-use Rattle.aodv_model.specs.Tables.{Dests, Table, accepted_unreachable, add_pre, entry_after, goes_by, in_kD, invalidate, invalidated, is_some_in, joined, merged, unreachable_by, update}
+use Rattle.aodv_model.specs.Tables.{Dests, Table, accepted_unreachable, add_pre, entry_after, goes_by, in_kD, invalidate, invalidated, is_some_in, add_pre_at, merge, unreachable_by, update}
 use Rattle.mesh_base.specs.Members.{NodeIds}
 
 pub record Wider (rt rt' : Table) : Type 0 where
@@ -55,11 +55,11 @@ update_has rt d r = ap is_some_in (get-update rt d r d) ∙ same (d == d) refl
     same true e = refl
     same false e = absurd (eqb-false d d e refl)
 
-merged_pre : (s r : Entry) → (merged s r).pre ≡ sets.union s.pre r.pre
-unfolding merged
+merged_pre : (s r : Entry) → (merge s r).pre ≡ sets.union s.pre r.pre
+unfolding merge
 merged_pre s r = grind (arith, nat_tests)
 
-merged_next : (P : ℕ → Type 0) (s r : Entry) → P s.next → P r.next → P (merged s r).next
+merged_next : (P : ℕ → Type 0) (s r : Entry) → P s.next → P r.next → P (merge s r).next
 merged_next P s r a b =
     elim (merged_shape s r) [
       | inl x ↦ elim x [ inl same ↦ subst P (sym same.next) a | inr same ↦ subst P (sym same.next) b ]
@@ -69,7 +69,7 @@ merged_next P s r a b =
 wider_placed : (size ip : ℕ) (rt rt' : Table) → Wider rt rt' → (d : ℕ) (e : Entry) → IsPlaced size ip rt d e → IsPlaced size ip rt' d e
 wider_placed size ip rt rt' wider d e placed = record { dest = placed.dest; near = placed.near; other = placed.other; has = wider.has e.next placed.has; pre = placed.pre }
 
-merged_placed : (size ip : ℕ) (rt : Table) (d : ℕ) (s r : Entry) → IsPlaced size ip rt d s → IsPlaced size ip rt d r → IsPlaced size ip rt d (merged s r)
+merged_placed : (size ip : ℕ) (rt : Table) (d : ℕ) (s r : Entry) → IsPlaced size ip rt d s → IsPlaced size ip rt d r → IsPlaced size ip rt d (merge s r)
 merged_placed size ip rt d s r a b = record {
   dest = a.dest;
   near = merged_next (λ k. k < size) s r a.near b.near;
@@ -126,7 +126,7 @@ invalidate_moves size ip rt dests placed =
 
 pub add_pre_moves : (size ip : ℕ) (rt : Table) (d : ℕ) (nodes : NodeIds) → AllPlaced size ip rt → AreBelow size nodes → Moves size ip rt (add_pre rt d nodes)
 add_pre_moves size ip rt d nodes placed below =
-    mapped_moves size ip rt (add_pre rt d nodes) (joined d nodes) placed (get-add_pre rt d nodes)
+    mapped_moves size ip rt (add_pre rt d nodes) (add_pre_at d nodes) placed (get-add_pre rt d nodes)
     (λ q e p. if_case (IsPlaced size ip (add_pre rt d nodes) q) (q == d) (record e { pre = sets.union e.pre nodes }) e
     (λ _. record { dest = p.dest; near = p.near; other = p.other; has = p.has; pre = below_union size e.pre nodes p.pre below })
     (λ _. p))

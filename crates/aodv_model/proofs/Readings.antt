@@ -15,7 +15,7 @@ use Rattle.aodv_model.proofs.Changes.{after_by}
 use Rattle.std.proofs.lemmas.Bool.Decides.{nat_tests}
 use Rattle.aodv_model.specs.Handlers.{join_answer_precursors, join_reply_precursors, one, route_entry}
 use Rattle.aodv_model.specs.Soundness.{AllSoundNumbers}
-use Rattle.aodv_model.specs.Tables.{Table, add_pre, joined, nhop, number_in, status_in, sqn, update, entry_after, merged}
+use Rattle.aodv_model.specs.Tables.{Table, add_pre, add_pre_at, nhop, number_in, status_in, sqn, update, entry_after, merge}
 use Rattle.mesh_base.specs.Members.{NodeIds}
 
 -- ---- what a table says of itself
@@ -32,7 +32,7 @@ known_number rt d (Some e) sound is known = (sound d e is).known (kno e.dsk know
     kno Kno e = refl
     kno Unk e = cc
 
-pub joined_alike : {X : Type 0} (f : Option Entry → X) (d : ℕ) (nodes : NodeIds) (q : ℕ) (o : Option Entry) → ((e : Entry) (pre : NodeIds) → f (Some (record e { pre = pre })) ≡ f (Some e)) → f (option_map (joined d nodes q) o) ≡ f o
+pub joined_alike : {X : Type 0} (f : Option Entry → X) (d : ℕ) (nodes : NodeIds) (q : ℕ) (o : Option Entry) → ((e : Entry) (pre : NodeIds) → f (Some (record e { pre = pre })) ≡ f (Some e)) → f (option_map (add_pre_at d nodes q) o) ≡ f o
 joined_alike f d nodes q None same = refl
 joined_alike f d nodes q (Some e) same = if_case (λ x. f (Some x) ≡ f (Some e)) (q == d) (record e { pre = sets.union e.pre nodes }) e (λ _. same e _) (λ _. refl)
 
@@ -52,7 +52,7 @@ join_reply_alike f rt d o q same =
 
 -- a route's number isn't 0, and so isn't the number that the table has then
 pub route_above : (rt : Table) (d n h from : ℕ) → 1 ≤ n → 1 ≤ sqn (update rt d (route_entry n h from)) d
-unfolding merged
+unfolding merge
 route_above rt d n h from one = rw here (after_by (λ e. 1 ≤ e.dsn) (maps.get rt d) (route_entry n h from) one (λ s is. grind (arith, nat_tests)))
   where
     here : maps.get (update rt d (route_entry n h from)) d ≡ Some (entry_after (maps.get rt d) (route_entry n h from))

@@ -4,7 +4,7 @@ use Rattle.std.specs.FinMap as maps
 use Rattle.mesh_base.specs.Members.{NodeIds}
 use Rattle.aodv_entry.specs.declared.entry.Entry.{Entry}
 use Rattle.aodv_entry.specs.declared.entry.Known.TheVariants.{Kno, Unk}
-use Rattle.aodv_model.specs.Tables.{Table, Dests, in_kD, nhop, next_in, update, invalidate, invalidated, add_pre, joined}
+use Rattle.aodv_model.specs.Tables.{Table, Dests, in_kD, nhop, next_in, update, invalidate, invalidated, add_pre, add_pre_at}
 use Rattle.aodv_model.specs.Handlers.{neighbour_entry, route_entry, one, join_answer_precursors, join_reply_precursors}
 use Rattle.aodv_model.specs.Soundness.{HasSoundNumber, AllSoundNumbers, AllPlaced, IsSoundTable, AreBelow}
 use Rattle.aodv_model.proofs.Lookups.{get-invalidate, get-add_pre}
@@ -32,7 +32,7 @@ route_sound rt d n h from one sound =
 
 add_pre_sound : (rt : Table) (d : ℕ) (nodes : NodeIds) → AllSoundNumbers rt → AllSoundNumbers (add_pre rt d nodes)
 add_pre_sound rt d nodes sound q e is =
-    mapped_each HasSoundNumber (joined d nodes) q e (maps.get rt q) (sym (get-add_pre rt d nodes q) ∙ is) (λ x here. joined_sound q d nodes x (sound q x here))
+    mapped_each HasSoundNumber (add_pre_at d nodes) q e (maps.get rt q) (sym (get-add_pre rt d nodes q) ∙ is) (λ x here. joined_sound q d nodes x (sound q x here))
 
 invalidate_sound : (rt : Table) (dests : Dests) → Raises rt dests → AllSoundNumbers rt → AllSoundNumbers (invalidate rt dests)
 invalidate_sound rt dests raises sound q e is =

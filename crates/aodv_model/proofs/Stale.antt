@@ -12,7 +12,7 @@ use Rattle.mesh_base.specs.Members.{NodeIds}
 use Rattle.aodv_entry.specs.declared.entry.Entry.{Entry}
 use Rattle.aodv_entry.specs.declared.entry.Flag.TheVariants.{Val}
 use Rattle.aodv_entry.specs.declared.entry.Known.TheVariants.{Kno}
-use Rattle.aodv_model.specs.Tables.{Table, entry_after, is_newer, is_shorter, merged, update}
+use Rattle.aodv_model.specs.Tables.{Table, entry_after, is_newer, is_shorter, merge, update}
 use Rattle.aodv_model.specs.Handlers.{route_entry, is_stale_beside, is_stale}
 use Rattle.aodv_model.proofs.Lookups.{get-update}
 
@@ -25,13 +25,13 @@ with_none s = sets.same_set nat_cmp_total maps.nat_cmp-IsAntisymmetric (sets.uni
     or_false false = refl
 
 -- one that is neither newer nor shorter leaves the other
-kept : (s r : Entry) → r.dsk ≡ Kno → (not (is_newer r s) && not (is_shorter r s)) ≡ true → merged s r ≡ record s { pre = sets.union s.pre r.pre }
-unfolding merged
+kept : (s r : Entry) → r.dsk ≡ Kno → (not (is_newer r s) && not (is_shorter r s)) ≡ true → merge s r ≡ record s { pre = sets.union s.pre r.pre }
+unfolding merge
 kept s r known e = grind (arith, nat_tests)
 
 -- one that is newer or shorter puts its number, its hops or its flag in place of the other's
-replaced : (s r : Entry) → r.flag ≡ Val → merged s r ≡ s → (not (is_newer r s) && not (is_shorter r s)) ≡ true
-unfolding merged
+replaced : (s r : Entry) → r.flag ≡ Val → merge s r ≡ s → (not (is_newer r s) && not (is_shorter r s)) ≡ true
+unfolding merge
 replaced s r valid e = grind (arith, nat_tests)
 
 same_table : (rt : Table) (d : ℕ) (r : Entry) → Some (entry_after (maps.get rt d) r) ≡ maps.get rt d → update rt d r ≡ rt
@@ -57,7 +57,7 @@ module _ (n hops from : ℕ) where
 
   stale : (o : Option Entry) → Some (entry_after o r) ≡ o → is_stale_beside o r ≡ true
   stale None e = absurd (none-some r (sym e))
-  stale (Some s) e = replaced s r refl (same_Some (merged s r) s e)
+  stale (Some s) e = replaced s r refl (same_Some (merge s r) s e)
 
   pub stale_is_unchanged : (rt : Table) (d : ℕ) → (is_stale rt d r ≡ true) ↔ (update rt d r ≡ rt)
   unfolding is_stale

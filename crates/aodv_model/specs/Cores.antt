@@ -7,7 +7,7 @@ use Rattle.std.specs.FinSet as sets
 use Rattle.mesh_base.specs.declared.events.Variant.{Variant}
 use Rattle.aodv_entry.specs.declared.entry.Known.{Known}
 use Rattle.aodv_model.specs.Pairs.{Pairs}
-use Rattle.aodv_model.specs.Tables.{Table, Dests, mapped}
+use Rattle.aodv_model.specs.Tables.{Table, Dests, map_values}
 
 -- ---- messages (RFC 3561, section 5). The sender of a message stands beside it
 
@@ -99,12 +99,13 @@ drop store d =
 -- d needs no request for now; all else stays
 unfoldable pub unset : Store → ℕ → Store
 unset store d =
-    mapped (λ k (w : Waiting). record w { needs_request = w.needs_request && not (k == d) }) store
+    map_values
+    (λ k (w : Waiting). record w { needs_request = w.needs_request && not (k == d) }) store
 
 -- the destinations in the map that have data need a request; all else stays
 unfoldable pub set : Store → Dests → Store
 set store dests =
-    mapped (λ d (w : Waiting). record w {
+    map_values (λ d (w : Waiting). record w {
       needs_request = w.needs_request || maps.contains_key dests d;
     }) store
 
@@ -121,11 +122,11 @@ in_qD store d = has_data (bodies_in (maps.get store d))
 
 -- the route requests that a node has seen: for each its originator, beside its id or (in one
 -- variant) its number
-abbrev pub Seen : Type 0
-Seen = Pairs
+abbrev pub SeenRequests : Type 0
+SeenRequests = Pairs
 
 -- the request of that key was seen
-abbrev pub has_seen : Seen → ℕ × ℕ → Bool
+abbrev pub has_seen : SeenRequests → ℕ × ℕ → Bool
 has_seen seen key = sets.contains seen key
 
 -- the greatest second member beside o, or 0
@@ -135,11 +136,11 @@ greatest_beside (k ∷ ks) o =
     if k.0 == o then max k.1 (greatest_beside ks o) else greatest_beside ks o
 
 -- the greatest id beside o, or 0 where there is none
-unfoldable pub last_request_id : Seen → ℕ → ℕ
+unfoldable pub last_request_id : SeenRequests → ℕ → ℕ
 last_request_id seen o = greatest_beside (sets.items seen) o
 
 -- an id above those of all requests of o that were seen (AWN's nrreqid; RFC 3561, section 6.3)
-unfoldable pub next_request_id : Seen → ℕ → ℕ
+unfoldable pub next_request_id : SeenRequests → ℕ → ℕ
 next_request_id seen o = last_request_id seen o + 1
 
 -- the state of a node but for its queue: its address, its variant of the protocol, its own sequence
@@ -149,7 +150,7 @@ pub record Core : Type 0 where
   pub variant : Variant
   pub sn : ℕ
   pub rt : Table
-  pub seen : Seen
+  pub seen : SeenRequests
   pub store : Store
 
 -- a node that has done nothing yet, with its first sequence number

@@ -41,18 +41,18 @@ is_number_full rt (Some y) = has_greatest_by rt y
 -- the core once the node has learnt from an item, before it acts on it: a unicast may fail there.
 -- (The precursors that may join before that change no number; and a request that was seen before
 -- teaches less than this, but makes no unicast.)
-abbrev pub learnt : Core → Item → Core
-learnt core (New b d) = core
-learnt core (Heard from (Pkt b d o)) = core
-learnt core (Heard from (Rreq m)) = after_request core from m
-learnt core (Heard from (Rrep m)) = after_reply core from m
-learnt core (Heard from (Rerr dests)) = after_hearing core from
+abbrev pub after_learning : Core → Item → Core
+after_learning core (New b d) = core
+after_learning core (Heard from (Pkt b d o)) = core
+after_learning core (Heard from (Rreq m)) = after_request core from m
+after_learning core (Heard from (Rrep m)) = after_reply core from m
+after_learning core (Heard from (Rerr dests)) = after_hearing core from
 
 -- the field that a turn would overfill: the hop count comes before the number
 abbrev pub turn_full : Core → NodeIds → Item → Option Counter
 turn_full core range item =
     if is_hop_full core item then Some full.Hops
-    else if is_number_full (learnt core item).rt ((turn core range item).effect).broken
+    else if is_number_full (after_learning core item).rt ((turn core range item).effect).broken
     then Some full.Number
     else None
 

@@ -113,8 +113,8 @@ is_shorter r s = (s.dsn == r.dsn) && (nat_lt r.hops s.hops || not (is_val s.flag
 --   3. r is shorter than s: the same
 --   4. r's number is unknown: r, with the precursors of both and the number of s
 --   5. otherwise: s, with the precursors of both
-unfoldable pub merged : Entry → Entry → Entry
-merged s r =
+unfoldable pub merge : Entry → Entry → Entry
+merge s r =
     if is_newer r s then record r { pre = sets.union s.pre r.pre }
     else if is_shorter r s then record r { pre = sets.union s.pre r.pre }
     else if not (is_kno r.dsk) then record r { dsn = s.dsn; pre = sets.union s.pre r.pre }
@@ -123,7 +123,7 @@ merged s r =
 -- the entry after r has come: case 1, or one of the others
 abbrev pub entry_after : Option Entry → Entry → Entry
 entry_after None r = r
-entry_after (Some s) r = merged s r
+entry_after (Some s) r = merge s r
 
 -- the table after r has come for the destination d; all other destinations keep their entries
 unfoldable pub update : Table → ℕ → Entry → Table
@@ -132,8 +132,8 @@ update rt d r = maps.insert rt d (entry_after (maps.get rt d) r)
 -- ---- invalidation, and precursors
 
 -- the same keys, with values by f
-unfoldable pub mapped : {V W : Type 0} → (ℕ → V → W) → FinMap nat_cmp V → FinMap nat_cmp W
-mapped f m = maps.from_entries (map (λ e. (e.0, f e.0 e.1)) (maps.entries m))
+unfoldable pub map_values : {V W : Type 0} → (ℕ → V → W) → FinMap nat_cmp V → FinMap nat_cmp W
+map_values f m = maps.from_entries (map (λ e. (e.0, f e.0 e.1)) (maps.entries m))
 
 -- an entry for which the map states a number, or not
 abbrev pub invalidated : Entry → Option ℕ → Entry
@@ -143,15 +143,15 @@ invalidated e (Some n) = record e { dsn = n; flag = Inv }
 -- each entry whose destination is in the map has the number stated there, and is invalid; all else
 -- stays
 unfoldable pub invalidate : Table → Dests → Table
-invalidate rt dests = mapped (λ d e. invalidated e (maps.get dests d)) rt
+invalidate rt dests = map_values (λ d e. invalidated e (maps.get dests d)) rt
 
 -- the entry e of k, where the nodes join the precursors of d
-abbrev pub joined : ℕ → NodeIds → ℕ → Entry → Entry
-joined d nodes k e = if k == d then record e { pre = sets.union e.pre nodes } else e
+abbrev pub add_pre_at : ℕ → NodeIds → ℕ → Entry → Entry
+add_pre_at d nodes k e = if k == d then record e { pre = sets.union e.pre nodes } else e
 
 -- the nodes join the precursors of d's entry
 unfoldable pub add_pre : Table → ℕ → NodeIds → Table
-add_pre rt d nodes = mapped (joined d nodes) rt
+add_pre rt d nodes = map_values (add_pre_at d nodes) rt
 
 -- ---- the destinations that a break or a route error names (RFC 3561, section 6.11)
 
@@ -164,7 +164,7 @@ goes_by (Some e) y = is_val e.flag && (e.next == y)
 -- number (an unknown number stays so)
 unfoldable pub unreachable_by : Table → ℕ → Dests
 unreachable_by rt y =
-    mapped (λ d e. inc e.dsn) (maps.retain_keys rt (λ d. goes_by (maps.get rt d) y))
+    map_values (λ d e. inc e.dsn) (maps.retain_keys rt (λ d. goes_by (maps.get rt d) y))
 
 -- of the pairs of a route error from y: those whose destination has a valid entry with next hop y
 -- and a smaller number

@@ -15,13 +15,13 @@ use Rattle.aodv_node.specs.declared.answers.TurnError.{TurnError}
 use Rattle.aodv_node.specs.declared.answers.SendError.{SendError}
 use Rattle.aodv_node.specs.declared.answers.AskError.{AskError}
 use Rattle.aodv_node.specs.declared.answers.TurnDone as done
-use Rattle.aodv_node.specs.Seen.{NodeSeen, seen, IsSoundNode}
+use Rattle.aodv_node.specs.Seen.{NodeSeen, node_seen, IsSoundNode}
 use Rattle.aodv_node.specs.Turned.{IsTurn}
 use Rattle.aodv_node.specs.Discovered.{IsSend, IsAsk}
 use Rattle.aodv_node.proofs.Keeps.{Follows, turn_keeps, send_keeps, ask_keeps, opened}
 
 abbrev pub seen_node : core.Core RowTable → Queue → NodeSeen
-seen_node c inbox = seen (λ t. t.nodes) (λ t. t.entries) c inbox
+seen_node c inbox = node_seen (λ t. t.nodes) (λ t. t.entries) c inbox
 
 abbrev pub Ready : ℕ → core.Core RowTable → Type 0
 Ready size c = IsReady (λ t. t.nodes) (λ t. t.entries) size c

@@ -21,7 +21,7 @@ use Rattle.aodv_meaning.specs.Effects.{kind_of}
 use Rattle.aodv_node.specs.declared.meaning.Meaning.{Meaning}
 use Rattle.aodv_node.specs.Meanings.{Means}
 use Rattle.aodv_node.specs.Turned.{IsReadable, needs_memory}
-use Rattle.aodv_node.specs.Heard.{IsHeard, Tries, kinded}
+use Rattle.aodv_node.specs.Heard.{IsHeard, Tries, with_kind}
 
 means : (mesh : Nodes) (bytes : List ℕ) (m : wire.Message) → Spells bytes m → meaning mesh bytes ≡ in_mesh mesh m
 unfolding meaning
@@ -41,7 +41,7 @@ says mesh bytes msg m s known is =
     (spelled_in mesh bytes s.allowed (ap (stranger mesh) s.stands ∙ known))
 
 at_message : (mesh : Nodes) (c : Core) (range : NodeIds) (from : ℕ) (bytes : List ℕ) (m : Message) (k : Kind) (r : Result code.Effect TurnError) (new : Core) (out : List ℕ)
-    → IsReadable mesh bytes → m ≡ meaning mesh bytes → k ≡ kind_of m → Tries mesh c range (Heard from m) r new out → IsHeard mesh c range from bytes (kinded k r) new out
+    → IsReadable mesh bytes → m ≡ meaning mesh bytes → k ≡ kind_of m → Tries mesh c range (Heard from m) r new out → IsHeard mesh c range from bytes (with_kind k r) new out
 at_message mesh c range from bytes m k (Ok e) new out ok is kind did =
     (ok, kind ∙ ap kind_of is, subst (λ (m : Message). IsMade mesh (turn_full c range (Heard from m)) (turn c range (Heard from m)) e new out) is did)
 at_message mesh c range from bytes m k (Err errors.Idle) new out ok is kind did = did
@@ -55,7 +55,7 @@ pub strange : (mesh : Nodes) (bytes : List ℕ) (m : wire.Message) (who : Addr) 
 strange mesh bytes m who s is = ap (stranger mesh) s.stands ∙ is
 
 pub heard_as : (mesh : Nodes) (c : Core) (range : NodeIds) (from : ℕ) (bytes : List ℕ) (msg : wire.Message) (m : Message) (k : Kind) (r : Result code.Effect TurnError) (r' : Result (Kind × code.Effect) TurnError) (new : Core) (out : List ℕ)
-    → Spells bytes msg → stranger mesh msg ≡ None → in_mesh mesh msg ≡ m → k ≡ kind_of m → Tries mesh c range (Heard from m) r new out → r' ≡ kinded k r → IsHeard mesh c range from bytes r' new out
+    → Spells bytes msg → stranger mesh msg ≡ None → in_mesh mesh msg ≡ m → k ≡ kind_of m → Tries mesh c range (Heard from m) r new out → r' ≡ with_kind k r → IsHeard mesh c range from bytes r' new out
 heard_as mesh c range from bytes msg m k r r' new out s known is kind did r_is =
     subst (λ (x : Result (Kind × code.Effect) TurnError). IsHeard mesh c range from bytes x new out) (sym r_is)
     (at_message mesh c range from bytes m k r new out (readable mesh bytes msg s known) (sym (means mesh bytes msg s ∙ is)) kind did)

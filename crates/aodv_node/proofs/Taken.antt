@@ -22,7 +22,7 @@ use Rattle.aodv_inbox.specs.Queues.{Queue}
 use Rattle.aodv_node.specs.declared.answers.TurnError.{TurnError}
 use Rattle.aodv_node.specs.declared.answers.TurnError.TheVariants as errors
 use Rattle.aodv_node.specs.declared.answers.TurnDone as done
-use Rattle.aodv_node.specs.Seen.{NodeSeen, seen}
+use Rattle.aodv_node.specs.Seen.{NodeSeen, node_seen}
 use Rattle.aodv_node.specs.Turned.{IsReadable, IsTurn, needs_memory, taken_of}
 use Rattle.aodv_node.specs.Heard.{IsHeard, done_with}
 
@@ -84,5 +84,5 @@ short_of mesh range old new dest body rest r out is was other same =
     subst (λ (x : Result done.TurnDone TurnError). IsTurn mesh range old x new out) (sym is)
     (record { front = item.New dest body; rest = rest; was = was; readable = tt; needs = rw (ne_eqb dest (old.core).ip other) refl }, same)
 
-pub seen_same : {T : Type 0} (nodes : T → ℕ) (entries : T → Table) (new old : core.Core T) (inbox : Queue) → core_of entries new ≡ core_of entries old → nodes new.table ≡ nodes old.table → seen nodes entries new inbox ≡ seen nodes entries old inbox
+pub seen_same : {T : Type 0} (nodes : T → ℕ) (entries : T → Table) (new old : core.Core T) (inbox : Queue) → core_of entries new ≡ core_of entries old → nodes new.table ≡ nodes old.table → node_seen nodes entries new inbox ≡ node_seen nodes entries old inbox
 seen_same nodes entries new old inbox same size = λ i. record { core = same i; items = inbox.items; room = inbox.room; size = size i }

@@ -5,7 +5,7 @@ use Rattle.std.specs.FinSet as sets
 use Rattle.mesh_base.specs.Meshes.{Nodes}
 use Rattle.mesh_base.specs.Members.{NodeIds}
 use Rattle.mesh_base.specs.declared.events.Effect as code
-use Rattle.aodv_model.specs.Cores.{Seen, Core}
+use Rattle.aodv_model.specs.Cores.{SeenRequests, Core}
 use Rattle.aodv_model.specs.Handlers.{may_send, send, fresh_id, may_ask, ask}
 use Rattle.aodv_model.specs.Fullness.{send_full, ask_full}
 use Rattle.aodv_handlers.specs.Made.{IsMade, IsFull}
@@ -25,7 +25,7 @@ IsSend mesh range old d (Err (sends.Full field)) new out =
     (may_send old d ≡ true) × IsFull (send_full old range d) old field new
 
 -- the id comes next after one of o's that was seen
-abbrev pub follows : Seen → ℕ → ℕ → Bool
+abbrev pub follows : SeenRequests → ℕ → ℕ → Bool
 follows seen o id = nat_lt 0 id && sets.contains seen (o, id - 1)
 
 -- a request of the node's own may need memory: its id doesn't follow one of its own

@@ -57,9 +57,9 @@ IsHeard mesh c range from bytes (Err errors.NoMemory) new out =
     IsReadable mesh bytes × (needs_memory c (Heard from (meaning mesh bytes)) ≡ true) × (new ≡ c)
 
 -- the same answer, with the kind of the packet
-abbrev pub kinded : Kind → Result code.Effect TurnError → Result (Kind × code.Effect) TurnError
-kinded k (Ok e) = Ok (k, e)
-kinded k (Err why) = Err why
+abbrev pub with_kind : Kind → Result code.Effect TurnError → Result (Kind × code.Effect) TurnError
+with_kind k (Ok e) = Ok (k, e)
+with_kind k (Err why) = Err why
 
 -- a datum given to the node was taken: `own` is the datum where it is for the node itself
 abbrev pub done_with : Option Body → ℕ → done.TurnDone

@@ -22,8 +22,8 @@ pub record NodeSeen : Type 0 where
   pub size : ℕ
 
 -- what is seen of a core of the code and an inbox
-abbrev pub seen : {T : Type 0} → (T → ℕ) → (T → Table) → code.Core T → Queue → NodeSeen
-seen nodes entries core inbox = record {
+abbrev pub node_seen : {T : Type 0} → (T → ℕ) → (T → Table) → code.Core T → Queue → NodeSeen
+node_seen nodes entries core inbox = record {
   core = core_of entries core;
   items = inbox.items;
   room = inbox.room;

@@ -5,7 +5,7 @@ ghost use Rattle.aodv_model.specs.Soundness.{IsMessageInMesh};
 ghost use Rattle.aodv_wire.specs.declared.message.Message.TheVariants as messages;
 ghost use Rattle.aodv_meaning.specs.Meaning.{dests_in, stranger};
 ghost use Rattle.aodv_handlers.specs.Shown.{core_of, IsReady, parcel_of, reply_of, request_of};
-ghost use Rattle.aodv_node.specs.Heard.{IsHeard, TakesIfRoom, kinded};
+ghost use Rattle.aodv_node.specs.Heard.{IsHeard, TakesIfRoom, with_kind};
 ghost use Rattle.aodv_node.specs.Turned.{HasAllRooms};
 
 use crate::answers::TurnError;
@@ -54,7 +54,7 @@ pub(crate) fn handle<T: Table>(
 }
 
 fn with_kind(kind: Kind, done: Result<Effect, TurnError>) -> Result<(Kind, Effect), TurnError>
-    ensures { result ≡ kinded kind done }
+    ensures { result ≡ with_kind kind done }
 {
     match done {
         Ok(effect) => Ok((kind, effect)),

@@ -36,16 +36,16 @@ pub struct Node {
 
 impl Model for Node {
     ghost use Rattle.aodv_handlers.specs.Shown.{IsReady};
-    ghost use Rattle.aodv_node.specs.Seen.{NodeSeen, node_code, seen, IsSoundNode};
+    ghost use Rattle.aodv_node.specs.Seen.{NodeSeen, node_code, node_seen, IsSoundNode};
 
     ghost Value = { NodeSeen };
 
     ghost coded = { node_code };
 
-    ghost view = { λ a. seen (λ t. t.nodes) (λ t. t.entries) a.core a.inbox };
+    ghost view = { λ a. node_seen (λ t. t.nodes) (λ t. t.entries) a.core a.inbox };
 
     ghost invariant = { λ a. IsReady (λ t. t.nodes) (λ t. t.entries) (a.core).table.nodes a.core
-        × IsSoundNode (seen (λ t. t.nodes) (λ t. t.entries) a.core a.inbox) };
+        × IsSoundNode (node_seen (λ t. t.nodes) (λ t. t.entries) a.core a.inbox) };
 }
 
 impl Node {

@@ -2,7 +2,7 @@
 ghost use Rattle.std.specs.Prelude.{◌≡◌, length};
 ghost use Rattle.std.specs.List.{AllByRecursion};
 ghost use Rattle.aodv_handlers.specs.Shown.{IsReady};
-ghost use Rattle.aodv_node.specs.Seen.{seen, IsItemAt};
+ghost use Rattle.aodv_node.specs.Seen.{node_seen, IsItemAt};
 ghost use Rattle.aodv_node.specs.Turned.{HasAllRooms, IsTurn};
 ghost use Rattle.aodv_node.specs.Heard.{done_with as so_done};
 
@@ -47,8 +47,8 @@ pub(crate) fn take_turn<T: Table>(
     requires ready { IsReady T.nodes T.entries (length mesh.now) core.old }
     requires each { AllByRecursion (IsItemAt (length mesh.now) core.old.me) inbox.old.items }
     requires rows { HasAllRooms T.nodes T.rooms core.old.table }
-    ensures turn { let old = seen T.nodes T.entries core.old inbox.old in
-        let new = seen T.nodes T.entries core.new inbox.new in
+    ensures turn { let old = node_seen T.nodes T.entries core.old inbox.old in
+        let new = node_seen T.nodes T.entries core.new inbox.new in
         IsTurn mesh.now range.now old result new out.new.items }
     ensures ready { IsReady T.nodes T.entries (length mesh.now) core.new }
 {

@@ -13,7 +13,7 @@ use Rattle.mesh_base.specs.Members.{NodeIds}
 use Rattle.aodv_entry.specs.declared.entry.Entry.{Entry}
 use Rattle.aodv_entry.specs.declared.entry.Flag.TheVariants.{Inv}
 use Rattle.aodv_entry.proofs.RisingLaws.{no_later}
-use Rattle.aodv_model.specs.Tables.{Table, Dests, entry_after, update, invalidate, invalidated, add_pre, joined}
+use Rattle.aodv_model.specs.Tables.{Table, Dests, entry_after, update, invalidate, invalidated, add_pre, add_pre_at}
 use Rattle.aodv_model.proofs.Lookups.{get-invalidate, get-add_pre}
 use Rattle.aodv_table.proofs.Lookups.{get-with_entry, same_table}
 
@@ -76,21 +76,21 @@ none_invalid rt d n none = same_table rt (invalidate rt (one_pair d n)) (λ q. s
       | inr other ↦ ap (λ o. option_map (λ x. invalidated x o) (maps.get rt q)) (get-one_pair d n q ∙ ap (λ (b : Bool). cond b (Some n) None) (ne_eqb q d other)) ∙ untold (maps.get rt q)
     ]))
 
-unjoined : (d : ℕ) (p : NodeIds) (q : ℕ) (o : Option Entry) → (q ≡ d → ⊥) → option_map (joined d p q) o ≡ o
+unjoined : (d : ℕ) (p : NodeIds) (q : ℕ) (o : Option Entry) → (q ≡ d → ⊥) → option_map (add_pre_at d p q) o ≡ o
 unjoined d p q None other = refl
 unjoined d p q (Some e) other = rw (ne_eqb q d other) refl
 
 pub pre_joined : (rt : Table) (d : ℕ) (p : NodeIds) (e : Entry) → Some e ≡ maps.get rt d → maps.insert rt d (record e { pre = sets.union e.pre p }) ≡ add_pre rt d p
 pre_joined rt d p e had =
     put_is rt (add_pre rt d p) d e (record e { pre = sets.union e.pre p }) (sym had)
-    (get-add_pre rt d p d ∙ ap (option_map (joined d p d)) (sym had) ∙ ap (λ (b : Bool). Some (cond b (record e { pre = sets.union e.pre p }) e)) (eq-eqb d d refl))
+    (get-add_pre rt d p d ∙ ap (option_map (add_pre_at d p d)) (sym had) ∙ ap (λ (b : Bool). Some (cond b (record e { pre = sets.union e.pre p }) e)) (eq-eqb d d refl))
     (λ q other. get-add_pre rt d p q ∙ unjoined d p q (maps.get rt q) other)
 
 pub none_joined : (rt : Table) (d : ℕ) (p : NodeIds) → None ≡ maps.get rt d → rt ≡ add_pre rt d p
 none_joined rt d p none = same_table rt (add_pre rt d p) (λ q. sym (
     get-add_pre rt d p q
     ∙ elim (cases_eq q d) [
-      | inl same ↦ ap (option_map (joined d p q)) (ap (maps.get rt) same ∙ sym none) ∙ none ∙ ap (maps.get rt) (sym same)
+      | inl same ↦ ap (option_map (add_pre_at d p q)) (ap (maps.get rt) same ∙ sym none) ∙ none ∙ ap (maps.get rt) (sym same)
       | inr other ↦ unjoined d p q (maps.get rt q) other
     ]))
 

@@ -9,7 +9,7 @@ use aodv_entry::{Entry, Flag, Known};
 use mesh_base::NodeSet;
 
 /// The entry of a destination after r has come for it.
-#[tactic(auto, unfolding(aodv_model::specs::Tables::merged))]
+#[tactic(auto, unfolding(aodv_model::specs::Tables::merge))]
 pub(crate) fn entry_after(before: Option<Entry>, r: Entry) -> Entry
     ensures { result ≡ entry_after before r }
 {

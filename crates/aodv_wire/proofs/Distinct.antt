@@ -8,7 +8,7 @@ use Rattle.std.proofs.lemmas.List.Folds.{list_any_at}
 use Rattle.std.proofs.lemmas.List.Quantifiers.{all_pairs_push}
 use Rattle.std.specs.List.{list_any}
 use Rattle.mesh_base.specs.declared.addr.Addr.{Addr}
-use Rattle.aodv_wire.specs.RouteError.{first_repeated, repeated, addresses}
+use Rattle.aodv_wire.specs.RouteError.{first_repeated, repeated_address, addresses}
 use Rattle.aodv_wire.specs.Laws.{AreDistinct, IsFirstRepeated}
 
 abbrev same : Addr → Addr → Bool
@@ -52,8 +52,8 @@ none_found seen (x ∷ rest) all e = by (λ further r. none_found (seen ++ x ∷
 nobody : AreDistinct []
 nobody i j d h below = absurd (omega arith)
 
-pub repeated_is_first : (ps : List (Addr × ℕ)) (a : Addr) → repeated ps ≡ Some a → IsFirstRepeated (addresses ps) a
+pub repeated_is_first : (ps : List (Addr × ℕ)) (a : Addr) → repeated_address ps ≡ Some a → IsFirstRepeated (addresses ps) a
 repeated_is_first ps a e = found [] (addresses ps) a nobody e
 
-pub others_are_distinct : (ps : List (Addr × ℕ)) → repeated ps ≡ None → AreDistinct (addresses ps)
+pub others_are_distinct : (ps : List (Addr × ℕ)) → repeated_address ps ≡ None → AreDistinct (addresses ps)
 others_are_distinct ps e = none_found [] (addresses ps) nobody e

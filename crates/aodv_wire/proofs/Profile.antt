@@ -121,7 +121,7 @@ rrep_inside b are len clear zero_prefix =
 
 -- ---- a route error
 
-rerr_length : (b : List ℕ) → 4 ≤ length b → length b ≡ 4 + 8 * number_at b (place 0 24 8) → rerr.refusal b ≡ first_of (refuse_if (eqb (number_at b (place 0 8 1)) 1) OutsideProfile ∷ refuse_if (eqb (number_at b (place 0 24 8)) 0) NoDestinations ∷ option_map Repeated (rerr.repeated (rerr.destinations b)) ∷ [])
+rerr_length : (b : List ℕ) → 4 ≤ length b → length b ≡ 4 + 8 * number_at b (place 0 24 8) → rerr.refusal b ≡ first_of (refuse_if (eqb (number_at b (place 0 8 1)) 1) OutsideProfile ∷ refuse_if (eqb (number_at b (place 0 24 8)) 0) NoDestinations ∷ option_map Repeated (rerr.repeated_address (rerr.destinations b)) ∷ [])
 rerr_length b long len = rw (le-ltb (length b) 4 long, eq-eqb (length b) (4 + 8 * number_at b (place 0 24 8)) len) refl
 
 rerr_flag : (b : List ℕ) → AreBytes b → number_at b (place 0 8 1) ≡ slice_index b 1 / 128
@@ -136,7 +136,7 @@ rerr_outside b are long len set =
     let n : number_at b (place 0 8 1) ≡ 1 = rerr_flag b are ∙ omega (arith, mask_80 (slice_index b 1) h1) in
     rerr_length b long len ∙ rw n refl
 
-rerr_inside : (b : List ℕ) → AreBytes b → 4 ≤ length b → length b ≡ 4 + 8 * number_at b (place 0 24 8) → bit_and (slice_index b 1) 128 ≡ 0 → rerr.refusal b ≡ first_of (refuse_if (eqb (number_at b (place 0 24 8)) 0) NoDestinations ∷ option_map Repeated (rerr.repeated (rerr.destinations b)) ∷ [])
+rerr_inside : (b : List ℕ) → AreBytes b → 4 ≤ length b → length b ≡ 4 + 8 * number_at b (place 0 24 8) → bit_and (slice_index b 1) 128 ≡ 0 → rerr.refusal b ≡ first_of (refuse_if (eqb (number_at b (place 0 24 8)) 0) NoDestinations ∷ option_map Repeated (rerr.repeated_address (rerr.destinations b)) ∷ [])
 rerr_inside b are long len clear =
     let h1 = are 1 in
     let n : number_at b (place 0 8 1) ≡ 0 = rerr_flag b are ∙ omega (arith, mask_80 (slice_index b 1) h1) in
@@ -155,6 +155,6 @@ destinations_behind b lines len is =
     let count : length (drop 4 b) / 8 ≡ number_at b (place 0 24 8) = omega (arith, length-drop 4 b) in
     rw (is, count) refl
 
-pub rerr_repeated : (b : List ℕ) → AreBytes b → 4 ≤ length b → length b ≡ 4 + 8 * number_at b (place 0 24 8) → bit_and (slice_index b 1) 128 ≡ 0 → (number_at b (place 0 24 8) ≡ 0 → ⊥) → rerr.refusal b ≡ option_map Repeated (rerr.repeated (rerr.destinations b))
+pub rerr_repeated : (b : List ℕ) → AreBytes b → 4 ≤ length b → length b ≡ 4 + 8 * number_at b (place 0 24 8) → bit_and (slice_index b 1) 128 ≡ 0 → (number_at b (place 0 24 8) ≡ 0 → ⊥) → rerr.refusal b ≡ option_map Repeated (rerr.repeated_address (rerr.destinations b))
 rerr_repeated b are long len clear some =
-    rerr_inside b are long len clear ∙ rw (ne_eqb (number_at b (place 0 24 8)) 0 some) (only_one (option_map Repeated (rerr.repeated (rerr.destinations b))))
+    rerr_inside b are long len clear ∙ rw (ne_eqb (number_at b (place 0 24 8)) 0 some) (only_one (option_map Repeated (rerr.repeated_address (rerr.destinations b))))

@@ -14,7 +14,7 @@ use Rattle.aodv_wire.specs.RouteRequest as rreq
 use Rattle.aodv_wire.specs.RouteReply as rrep
 use Rattle.aodv_wire.specs.RouteError as rerr
 use Rattle.aodv_wire.specs.DataPacket as data_packet
-use Rattle.aodv_wire.specs.Spells.{Spells, kind, written}
+use Rattle.aodv_wire.specs.Spells.{Spells, kind, spelling}
 use Rattle.aodv_wire.proofs.Repeats.{AllBelow, AllBelow-push, not_seen}
 use Rattle.aodv_wire.proofs.Lines.{refusal_rreq, refusal_rrep, refusal_rerr, refusal_data, said_rreq, said_rrep, said_rerr, said_data}
 
@@ -46,8 +46,8 @@ rreq_first : (known : Bool) (hops n : ℕ) → hops < 256 → n ≡ 16777216 + c
 rreq_first true hops n h is = line_octets n 1 0 0 hops (omega arith) (omega arith) (omega arith) h (omega arith)
 rreq_first false hops n h is = line_octets n 1 8 0 hops (omega arith) (omega arith) (omega arith) h (omega arith)
 
-pub rreq_written : (m : code_rreq.Rreq) → m.hops < 256 → written (Rreq m) ≡ rreq_cells m
-unfolding written
+pub rreq_written : (m : code_rreq.Rreq) → m.hops < 256 → spelling (Rreq m) ≡ rreq_cells m
+unfolding spelling
 rreq_written m h =
     let l0 : line_of rreq.table (rreq.value m) 0 rreq.fields ≡ 16777216 + cond m.known 0 1 * 524288 + m.hops = omega arith in
     let l1 : line_of rreq.table (rreq.value m) 1 rreq.fields ≡ m.id = omega arith in
@@ -62,8 +62,8 @@ rreq_written m h =
 abbrev pub rrep_cells : code_rrep.Rrep → List ℕ
 rrep_cells m = (2 ∷ 0 ∷ 0 ∷ m.hops ∷ []) ++ big_bytes 4 m.dip.0 ++ big_bytes 4 m.dsn ++ big_bytes 4 m.oip.0 ++ big_bytes 4 4294967295
 
-pub rrep_written : (m : code_rrep.Rrep) → m.hops < 256 → written (Rrep m) ≡ rrep_cells m
-unfolding written
+pub rrep_written : (m : code_rrep.Rrep) → m.hops < 256 → spelling (Rrep m) ≡ rrep_cells m
+unfolding spelling
 rrep_written m h =
     let l0 : big_bytes 4 (line_of rrep.table (rrep.value m) 0 rrep.fields) ≡ 2 ∷ 0 ∷ 0 ∷ m.hops ∷ [] = line_octets _ 2 0 0 m.hops (omega arith) (omega arith) (omega arith) h (omega arith) in
     let l1 : line_of rrep.table (rrep.value m) 1 rrep.fields ≡ m.dip.0 = omega arith in
@@ -77,8 +77,8 @@ rrep_written m h =
 abbrev pub data_cells : data_packet.Datum → List ℕ
 data_cells m = (16 ∷ 0 ∷ 0 ∷ 0 ∷ []) ++ big_bytes 4 m.dip.0 ++ big_bytes 4 m.oip.0 ++ m.body
 
-pub data_written : (m : data_packet.Datum) → written (Parcel m) ≡ data_cells m
-unfolding written
+pub data_written : (m : data_packet.Datum) → spelling (Parcel m) ≡ data_cells m
+unfolding spelling
 data_written m =
     let l1 : line_of data_packet.table (data_packet.value m.dip m.oip) 1 data_packet.fields ≡ m.dip.0 = omega arith in
     let l2 : line_of data_packet.table (data_packet.value m.dip m.oip) 2 data_packet.fields ≡ m.oip.0 = omega arith in
@@ -160,8 +160,8 @@ pairs_are : (ps : List (Addr × ℕ)) → flat_map rerr.pair_bytes ps ≡ flat_m
 pairs_are [] = refl
 pairs_are (p ∷ ps) = both _ _ _ _ (pair_is p) (pairs_are ps)
 
-pub rerr_written : (ps : List (Addr × ℕ)) → length ps < 256 → written (Rerr ps) ≡ rerr_cells ps
-unfolding written
+pub rerr_written : (ps : List (Addr × ℕ)) → length ps < 256 → spelling (Rerr ps) ≡ rerr_cells ps
+unfolding spelling
 rerr_written ps few =
     let first : big_bytes 4 (line_of rerr.table (rerr.value (length ps)) 0 rerr.fields) ≡ 3 ∷ 0 ∷ 0 ∷ length ps ∷ [] = line_octets _ 3 0 0 (length ps) (omega arith) (omega arith) (omega arith) few (omega arith) in
     both _ _ _ _ (both _ _ [] [] first refl) (pairs_are ps)
@@ -180,7 +180,7 @@ none_repeated seen p (q ∷ ps) all rising =
     rw (not_seen seen p.0.0 p.0.0 (omega arith) all) (none_repeated (seen ++ p.0 ∷ []) q ps (AllBelow-push seen p.0 p.0.0 q.0.0 (omega (arith, rising.0)) rising.0 all) rising.1)
 
 -- rising addresses are named once each
-pub rising_is_distinct : (ps : List (Addr × ℕ)) → rerr.IsRising ps → rerr.repeated ps ≡ None
+pub rising_is_distinct : (ps : List (Addr × ℕ)) → rerr.IsRising ps → rerr.repeated_address ps ≡ None
 rising_is_distinct [] rising = refl
 rising_is_distinct (p ∷ ps) rising = none_repeated [] p ps tt rising
 

@@ -31,14 +31,14 @@ abbrev pub fields : List Field
 fields = Kind ∷ Zero ∷ DestinationAddress ∷ OriginatorAddress ∷ []
 
 -- reading: what the bytes have in a field
-abbrev pub found : List ℕ → Field → ℕ
-found b f = number_at b (table f)
+abbrev pub value_in : List ℕ → Field → ℕ
+value_in b f = number_at b (table f)
 
 -- the datum that stands in the fields, and in all bytes behind them
 abbrev pub datum : List ℕ → Datum
 datum b = record {
-  dip = record { 0 = found b DestinationAddress };
-  oip = record { 0 = found b OriginatorAddress };
+  dip = record { 0 = value_in b DestinationAddress };
+  oip = record { 0 = value_in b OriginatorAddress };
   body = drop 12 b;
 }
 
@@ -49,7 +49,7 @@ refusal b = first_of (
     refuse_if (nat_lt (length b) 13) WrongLength
     ∷ refuse_if (nat_lt 524 (length b)) WrongLength
     -- what follows the type in the first line is 0
-    ∷ refuse_if (not (found b Zero == 0)) BadData
+    ∷ refuse_if (not (value_in b Zero == 0)) BadData
     ∷ [])
 
 -- writing: each field's value

@@ -36,10 +36,10 @@ pub record IsFirstRepeated (xs : List Addr) (a : Addr) : Type 0 where
 -- the address that a refusal names is the first one that stands earlier too
 abbrev pub RepeatedIsFirst : Type 0
 RepeatedIsFirst =
-    (ps : List (Addr × ℕ)) (a : Addr) → rerr.repeated ps ≡ Some a
+    (ps : List (Addr × ℕ)) (a : Addr) → rerr.repeated_address ps ≡ Some a
     → IsFirstRepeated (rerr.addresses ps) a
 
 -- where none is named, no two are the same
 abbrev pub OthersAreDistinct : Type 0
 OthersAreDistinct =
-    (ps : List (Addr × ℕ)) → rerr.repeated ps ≡ None → AreDistinct (rerr.addresses ps)
+    (ps : List (Addr × ℕ)) → rerr.repeated_address ps ≡ None → AreDistinct (rerr.addresses ps)

@@ -38,8 +38,8 @@ abbrev pub pair_fields : List PairField
 pair_fields = UnreachableAddress ∷ UnreachableNumber ∷ []
 
 -- reading: what the bytes have in a field
-abbrev pub found : List ℕ → Field → ℕ
-found b f = number_at b (table f)
+abbrev pub value_in : List ℕ → Field → ℕ
+value_in b f = number_at b (table f)
 
 -- the pair of address and number in the first eight bytes
 abbrev pub pair : List ℕ → Addr × ℕ
@@ -56,7 +56,7 @@ pairs (suc n) b = pair b ∷ pairs n (drop 8 b)
 
 -- the pairs of a whole route error
 abbrev pub destinations : List ℕ → List (Addr × ℕ)
-destinations b = pairs (found b DestCount) (drop 4 b)
+destinations b = pairs (value_in b DestCount) (drop 4 b)
 
 -- the first of these addresses that stands among those before it, or among these
 abbrev pub first_repeated : List Addr → List Addr → Option Addr
@@ -68,21 +68,21 @@ abbrev pub addresses : List (Addr × ℕ) → List Addr
 addresses ps = map (λ p. p.0) ps
 
 -- the first address of these pairs that an earlier pair has too
-abbrev pub repeated : List (Addr × ℕ) → Option Addr
-repeated ps = first_repeated [] (addresses ps)
+abbrev pub repeated_address : List (Addr × ℕ) → Option Addr
+repeated_address ps = first_repeated [] (addresses ps)
 
 -- why bytes of this type spell no route error: the first line that applies
 abbrev pub refusal : List ℕ → Option WireError
 refusal b = first_of (
     -- 5.3: one line, and two for each of DestCount destinations
     refuse_if (nat_lt (length b) 4) WrongLength
-    ∷ refuse_if (not (length b == 4 + 8 * found b DestCount)) WrongLength
+    ∷ refuse_if (not (length b == 4 + 8 * value_in b DestCount)) WrongLength
     -- 6.12: N is set after a local repair
-    ∷ refuse_if (found b N == 1) OutsideProfile
+    ∷ refuse_if (value_in b N == 1) OutsideProfile
     -- 5.3: DestCount is at least 1
-    ∷ refuse_if (found b DestCount == 0) NoDestinations
+    ∷ refuse_if (value_in b DestCount == 0) NoDestinations
     -- its destinations are a map: no address has two numbers
-    ∷ option_map Repeated (repeated (destinations b))
+    ∷ option_map Repeated (repeated_address (destinations b))
     ∷ [])
 
 -- writing: each field's value, of a route error of n destinations

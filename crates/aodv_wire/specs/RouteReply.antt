@@ -33,16 +33,16 @@ fields =
     ∷ OriginatorAddress ∷ Lifetime ∷ []
 
 -- reading: what the bytes have in a field
-abbrev pub found : List ℕ → Field → ℕ
-found b f = number_at b (table f)
+abbrev pub value_in : List ℕ → Field → ℕ
+value_in b f = number_at b (table f)
 
 -- the reply that stands in the fields, reserved bits and lifetime aside
 abbrev pub reply : List ℕ → Rrep
 reply b = record {
-  hops = found b HopCount;
-  dip = record { 0 = found b DestinationAddress };
-  dsn = found b DestinationNumber;
-  oip = record { 0 = found b OriginatorAddress };
+  hops = value_in b HopCount;
+  dip = record { 0 = value_in b DestinationAddress };
+  dsn = value_in b DestinationNumber;
+  oip = record { 0 = value_in b OriginatorAddress };
 }
 
 -- why bytes of this type spell no reply: the first line that applies
@@ -52,12 +52,12 @@ refusal b = first_of (
     refuse_if (not (length b == 20)) WrongLength
     -- 5.2: R serves multicast; 6.7: A asks for an acknowledgment; 7: a prefix size makes it a route
     -- to a subnet
-    ∷ refuse_if (found b R == 1) OutsideProfile
-    ∷ refuse_if (found b A == 1) OutsideProfile
-    ∷ refuse_if (not (found b PrefixSize == 0)) OutsideProfile
+    ∷ refuse_if (value_in b R == 1) OutsideProfile
+    ∷ refuse_if (value_in b A == 1) OutsideProfile
+    ∷ refuse_if (not (value_in b PrefixSize == 0)) OutsideProfile
     -- 6.6.1, 6.6.2: the number is the destination's own, or that of a valid route; in AWN neither
     -- is 0
-    ∷ refuse_if (found b DestinationNumber == 0) ZeroNumber
+    ∷ refuse_if (value_in b DestinationNumber == 0) ZeroNumber
     ∷ [])
 
 -- writing: each field's value; the lifetime, in milliseconds, is the longest, and the rest is 0

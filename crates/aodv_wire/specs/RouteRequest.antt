@@ -37,19 +37,19 @@ fields =
     ∷ OriginatorAddress ∷ OriginatorNumber ∷ []
 
 -- reading: what the bytes have in a field
-abbrev pub found : List ℕ → Field → ℕ
-found b f = number_at b (table f)
+abbrev pub value_in : List ℕ → Field → ℕ
+value_in b f = number_at b (table f)
 
 -- the request that stands in the fields, reserved bits aside
 abbrev pub request : List ℕ → Rreq
 request b = record {
-  hops = found b HopCount;
-  id = found b RreqId;
-  dip = record { 0 = found b DestinationAddress };
-  dsn = found b DestinationNumber;
-  known = found b U == 0;
-  oip = record { 0 = found b OriginatorAddress };
-  osn = found b OriginatorNumber;
+  hops = value_in b HopCount;
+  id = value_in b RreqId;
+  dip = record { 0 = value_in b DestinationAddress };
+  dsn = value_in b DestinationNumber;
+  known = value_in b U == 0;
+  oip = record { 0 = value_in b OriginatorAddress };
+  osn = value_in b OriginatorNumber;
 }
 
 -- why bytes of this type spell no request: the first line that applies
@@ -59,13 +59,13 @@ refusal b = first_of (
     refuse_if (not (length b == 24)) WrongLength
     -- 5.1: J and R serve multicast; 6.6.3: G asks for a gratuitous reply; 6.3: D lets only the
     -- destination answer
-    ∷ refuse_if (found b J == 1) OutsideProfile
-    ∷ refuse_if (found b R == 1) OutsideProfile
-    ∷ refuse_if (found b G == 1) OutsideProfile
-    ∷ refuse_if (found b D == 1) OutsideProfile
+    ∷ refuse_if (value_in b J == 1) OutsideProfile
+    ∷ refuse_if (value_in b R == 1) OutsideProfile
+    ∷ refuse_if (value_in b G == 1) OutsideProfile
+    ∷ refuse_if (value_in b D == 1) OutsideProfile
     -- 6.1: a node raises its own number before it sends a request; AWN lets it begin at 1, so 0 is
     -- no number
-    ∷ refuse_if (found b OriginatorNumber == 0) ZeroNumber
+    ∷ refuse_if (value_in b OriginatorNumber == 0) ZeroNumber
     ∷ [])
 
 -- writing: each field's value; flags of no use here and reserved bits are 0

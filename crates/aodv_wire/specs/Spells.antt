@@ -42,8 +42,8 @@ pub record Spells (b : List ℕ) (m : Message) : Type 0 where
   pub stands : message_in_fields b ≡ m
 
 -- the one spelling that is written of a message
-unfoldable pub written : Message → List ℕ
-written (Rreq m) = rreq.bytes_of m
-written (Rrep m) = rrep.bytes_of m
-written (Rerr ps) = rerr.bytes_of ps
-written (Parcel m) = data_packet.bytes_of m
+unfoldable pub spelling : Message → List ℕ
+spelling (Rreq m) = rreq.bytes_of m
+spelling (Rrep m) = rrep.bytes_of m
+spelling (Rerr ps) = rerr.bytes_of ps
+spelling (Parcel m) = data_packet.bytes_of m

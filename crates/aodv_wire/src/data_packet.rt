@@ -1,6 +1,6 @@
 //! This project's packet of a datum. Its view borrows the packet that it was read from.
 ghost use Rattle.std.specs.Prelude.{◌≡◌, ◌<◌, ◌≤◌, length, Some, MatchResult};
-ghost use Rattle.aodv_wire.specs.Spells.{Spells, is_data, refusal, written};
+ghost use Rattle.aodv_wire.specs.Spells.{Spells, is_data, refusal, spelling};
 ghost use Rattle.aodv_wire.specs.Spells as packets;
 ghost use Rattle.aodv_wire.specs.declared.message.Message.TheVariants.{Parcel as a_parcel};
 
@@ -94,7 +94,7 @@ pub fn write_data(dip: Addr, oip: Addr, body: &[u8], out: &mut Packet)
     requires some { 1 ≤ length body.now }
     requires few { length body.now ≤ LONGEST_DATUM }
     ensures written { out.new.items
-        ≡ written (a_parcel (record { dip = dip; oip = oip; body = body.now })) }
+        ≡ spelling (a_parcel (record { dip = dip; oip = oip; body = body.now })) }
     ensures spells { Spells out.new.items
         (a_parcel (record { dip = dip; oip = oip; body = body.now })) }
 {

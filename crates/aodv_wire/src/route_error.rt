@@ -1,8 +1,8 @@
 //! The route error: RFC 3561 section 5.3. Its view borrows the packet that it was read from.
 ghost use Rattle.std.specs.Prelude.{◌≡◌, ◌<◌, ◌≤◌, ◌==◌, length, slice_get, take, Some, MatchResult};
 ghost use Rattle.std.specs.List.{list_any};
-ghost use Rattle.aodv_wire.specs.RouteError.{addresses, repeated, AreDestinations};
-ghost use Rattle.aodv_wire.specs.Spells.{Spells, refusal, written};
+ghost use Rattle.aodv_wire.specs.RouteError.{addresses, repeated_address, AreDestinations};
+ghost use Rattle.aodv_wire.specs.Spells.{Spells, refusal, spelling};
 ghost use Rattle.aodv_wire.specs.Spells as packets;
 ghost use Rattle.aodv_wire.specs.declared.message.Message.TheVariants.{Rerr as a_rerr};
 
@@ -93,7 +93,7 @@ impl RerrView<'_> {
     // The first address that an earlier pair has too. An address above all earlier ones isn't
     // sought among them, so pairs in rising order are read once.
     pub(crate) fn repeated_address(&self) -> Option<Addr>
-        ensures { result ≡ repeated self.now }
+        ensures { result ≡ repeated_address self.now }
     {
         let mut above: u64 = 0;
         for k in 0..self.len() {
@@ -141,7 +141,7 @@ pub(crate) fn read_rerr(bytes: &[u8]) -> Result<Message<'_>, WireError>
 /// Writes a route error in place of what `out` held: RFC 3561 section 5.3. The addresses rise.
 pub fn write_rerr(pairs: &[(Addr, u32)], out: &mut Packet)
     requires { AreDestinations pairs.now }
-    ensures written { out.new.items ≡ written (a_rerr pairs.now) }
+    ensures written { out.new.items ≡ spelling (a_rerr pairs.now) }
     ensures spells { Spells out.new.items (a_rerr pairs.now) }
 {
     out.clear();

@@ -1,6 +1,6 @@
 //! The route reply: RFC 3561 section 5.2.
 ghost use Rattle.std.specs.Prelude.{◌≡◌, ◌<◌, ◌≤◌, length, Some, MatchResult};
-ghost use Rattle.aodv_wire.specs.Spells.{Spells, refusal, written};
+ghost use Rattle.aodv_wire.specs.Spells.{Spells, refusal, spelling};
 ghost use Rattle.aodv_wire.specs.Spells as packets;
 ghost use Rattle.aodv_wire.specs.declared.message.Message.TheVariants.{Rrep as a_rrep};
 
@@ -63,7 +63,7 @@ pub(crate) fn read_rrep(bytes: &[u8]) -> Result<Message<'_>, WireError>
 /// longest.
 pub fn write_rrep(m: &Rrep, out: &mut Packet)
     requires { 1 ≤ m.now.dsn }
-    ensures written { out.new.items ≡ written (a_rrep m.now) }
+    ensures written { out.new.items ≡ spelling (a_rrep m.now) }
     ensures spells { Spells out.new.items (a_rrep m.now) }
 {
     out.clear();

@@ -1,6 +1,6 @@
 //! The route request: RFC 3561 section 5.1.
 ghost use Rattle.std.specs.Prelude.{◌≡◌, ◌<◌, ◌≤◌, length, Some, MatchResult};
-ghost use Rattle.aodv_wire.specs.Spells.{Spells, refusal, written};
+ghost use Rattle.aodv_wire.specs.Spells.{Spells, refusal, spelling};
 ghost use Rattle.aodv_wire.specs.Spells as packets;
 ghost use Rattle.aodv_wire.specs.declared.message.Message.TheVariants.{Rreq as a_rreq};
 
@@ -66,7 +66,7 @@ pub(crate) fn read_rreq(bytes: &[u8]) -> Result<Message<'_>, WireError>
 /// Writes a route request in place of what `out` held: RFC 3561 section 5.1.
 pub fn write_rreq(m: &Rreq, out: &mut Packet)
     requires { 1 ≤ m.now.osn }
-    ensures written { out.new.items ≡ written (a_rreq m.now) }
+    ensures written { out.new.items ≡ spelling (a_rreq m.now) }
     ensures spells { Spells out.new.items (a_rreq m.now) }
 {
     let flags = if m.known { 0 } else { UNKNOWN_NUMBER };

@@ -12,7 +12,7 @@ use Rattle.std.proofs.lemmas.List.Splits.{slice_split_at, slice_split_none}
 use Rattle.std.proofs.lemmas.Str.Parse.{IsNumeralModel, FoldsDigits, numerals_by_fold, numerals_by_value, tells_all_ascii_digits, tells_by_index}
 use Rattle.mesh_base.specs.Numbers.{read_on, is_canonical, number_up_to, positive}
 use Rattle.mesh_base.specs.Parts.{parts}
-use Rattle.mesh_base.specs.Addresses.{address_of, address_from, dotted}
+use Rattle.mesh_base.specs.Addresses.{address_of, address_from, dotted_decimal}
 use Rattle.mesh_base.specs.Meshes.{Nodes, IsMesh, addr_at, index_of}
 use Rattle.mesh_base.proofs.NumberLaws.{digits_up_to-fits}
 use Rattle.mesh_base.proofs.MeshLaws.{rising_le, index_of-found}
@@ -101,7 +101,7 @@ from_octets w x y z w_fits x_fits y_fits z_fits =
     ) refl
 
 -- an address is read back
-pub address_of-dotted : (a : ℕ) → a < 2 ^ 32 → address_of (dotted a) ≡ Some a
+pub address_of-dotted : (a : ℕ) → a < 2 ^ 32 → address_of (dotted_decimal a) ≡ Some a
 unfolding address_of
 address_of-dotted a fits =
     let w : a / 16777216 < 256 = omega arith in
@@ -121,7 +121,7 @@ one_lacks sep b text other lacks = All-append (λ c. eqb c sep ≡ false) (b ∷
     single sep b other (suc k) d lt = absurd (omega arith)
 
 -- an address has no byte below the dot
-pub dotted_lacks : (sep a : ℕ) → sep < 46 → a < 2 ^ 32 → Lacks sep (dotted a)
+pub dotted_lacks : (sep a : ℕ) → sep < 46 → a < 2 ^ 32 → Lacks sep (dotted_decimal a)
 dotted_lacks sep a low fits =
     let P : ℕ → Type 0 = λ b. eqb b sep ≡ false in
     let dot : eqb 46 sep ≡ false = ne_eqb 46 sep (λ e. omega arith) in

@@ -5,7 +5,7 @@ ghost use Rattle.std.specs.Fmt.{decimal};
 ghost use Rattle.std.specs.Option.{option_map};
 ghost use Rattle.mesh_base.specs.Numbers.{number_up_to};
 ghost use Rattle.mesh_base.specs.Parts.{parts};
-ghost use Rattle.mesh_base.specs.Addresses.{address_of, dotted};
+ghost use Rattle.mesh_base.specs.Addresses.{address_of, dotted_decimal};
 ghost use Rattle.mesh_base.specs.Octets.{first_octet, IsDotAt};
 
 use crate::limits::LINE_ROOM;

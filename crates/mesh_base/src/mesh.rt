@@ -1,6 +1,6 @@
 //! The nodes of a mesh.
 ghost use Rattle.std.specs.Prelude.{◌≡◌, ◌≤◌, ◌<◌, ◌+◌, ◌++◌, ◌↔◌, ℕ, [], length, None, IsTrue, IsSome, is_some, IsErrOf, IsOk, OnOk, OnErr, IfSome};
-ghost use Rattle.mesh_base.specs.Addresses.{dotted};
+ghost use Rattle.mesh_base.specs.Addresses.{dotted_decimal};
 ghost use Rattle.mesh_base.specs.Meshes.{Nodes, IsMesh, addr_at, first_at, index_of, index_in, with_node};
 
 use crate::addr::Addr;
@@ -31,7 +31,7 @@ pub struct Mesh {
 }
 
 impl Model for Mesh {
-    ghost use Rattle.mesh_base.specs.Addresses.{dotted};
+    ghost use Rattle.mesh_base.specs.Addresses.{dotted_decimal};
     ghost use Rattle.mesh_base.specs.Meshes.{Nodes, IsMesh};
 
     ghost Value = { Nodes };
@@ -105,7 +105,7 @@ impl Mesh {
     pub fn push_name(&self, i: usize, out: &mut LineBuf)
         requires node { i < length self.now }
         requires room { length out.old + 15 ≤ LINE_ROOM }
-        ensures text { out.new ≡ out.old ++ dotted (addr_at self.now i) }
+        ensures text { out.new ≡ out.old ++ dotted_decimal (addr_at self.now i) }
         ensures length { length out.new ≤ length out.old + 15 }
     {
         self.stem.write(self.at(i), out);

@@ -1,7 +1,7 @@
 //! The numbers of an address, written.
 ghost use Rattle.std.specs.Prelude.{◌≡◌, ◌<◌, ◌≤◌, ◌+◌, ◌/◌, ◌%◌, ◌++◌, ◌∷◌, [], length, take};
 ghost use Rattle.std.specs.Fmt.{decimal};
-ghost use Rattle.mesh_base.specs.Addresses.{dotted};
+ghost use Rattle.mesh_base.specs.Addresses.{dotted_decimal};
 ghost use Rattle.mesh_base.specs.Stems.{IsStem};
 
 use crate::addr::Addr;
@@ -98,7 +98,7 @@ fn push_octet(out: &mut LineBuf, n: u32)
 /// Appends an address as it is spelled: at most 15 bytes.
 pub fn write_dotted(a: Addr, out: &mut LineBuf)
     requires { length out.old + 15 ≤ LINE_ROOM }
-    ensures text { out.new ≡ out.old ++ dotted a.0 }
+    ensures text { out.new ≡ out.old ++ dotted_decimal a.0 }
     ensures length { length out.new ≤ length out.old + 15 }
 {
     push_octet_dot(out, a.0 / 16777216);
@@ -147,7 +147,7 @@ impl Stem {
     #[inline]
     pub(crate) fn write(&self, a: Addr, out: &mut LineBuf)
         requires { length out.old + 15 ≤ LINE_ROOM }
-        ensures text { out.new ≡ out.old ++ dotted a.0 }
+        ensures text { out.new ≡ out.old ++ dotted_decimal a.0 }
         ensures length { length out.new ≤ length out.old + 15 }
     {
         if a.0 / 256 == self.high {

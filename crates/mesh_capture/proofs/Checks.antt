@@ -5,7 +5,7 @@ use Rattle.std.specs.Prelude.{zero, suc}
 use Rattle.std.proofs.lemmas.List.{length-append}
 use Rattle.byteorder.specs.Endian.{big_bytes}
 use Rattle.mesh_capture.specs.declared.frame.Frame.{Frame}
-use Rattle.mesh_capture.specs.Frames.{carried, words_sum, checksum, sent_checksum, port_of, datagram_size, datagram_with, pseudo_header, datagram_checksum, datagram, packet_size, mark_of, header_with, header, record_header, framed}
+use Rattle.mesh_capture.specs.Frames.{carry, words_sum, checksum, sent_checksum, port_of, datagram_size, datagram_with, pseudo_header, datagram_checksum, datagram, packet_size, mark_of, header_with, header, record_header, record_of}
 use Rattle.mesh_capture.proofs.Sums.{checked, checked_sent}
 
 two_bytes : (s : ℕ) → s < 65536 → 256 * byte_at 1 s + byte_at 0 s ≡ s
@@ -37,10 +37,10 @@ header_has_sum : (f : Frame) → 1 ≤ words_sum (header_with 0 f)
 unfolding words_sum
 header_has_sum f = let e : 1 ≤ 256 * 69 + 0 + words_sum (big_bytes 2 (packet_size f) ++ big_bytes 2 (mark_of f.lost) ++ 0 ∷ 0 ∷ 64 ∷ 17 ∷ 0 ∷ 0 ∷ big_bytes 4 f.from ++ big_bytes 4 f.to) = omega arith in e
 
-pub header_sums : (f : Frame) → carried (words_sum (header f)) ≡ 65535
+pub header_sums : (f : Frame) → carry (words_sum (header f)) ≡ 65535
 unfolding header
 header_sums f =
-    ap carried (header_with_sum (checksum (header_with 0 f)) f (omega arith)) ∙ checked (words_sum (header_with 0 f)) (header_has_sum f)
+    ap carry (header_with_sum (checksum (header_with 0 f)) f (omega arith)) ∙ checked (words_sum (header_with 0 f)) (header_has_sum f)
 
 -- ---- the datagram
 
@@ -63,20 +63,20 @@ sent_fits : (s : ℕ) → s < 65536 → sent_checksum s < 65536
 sent_fits zero h = omega arith
 sent_fits (suc s) h = h
 
-pub datagram_sums : (f : Frame) → carried (words_sum (pseudo_header f ++ datagram f)) ≡ 65535
+pub datagram_sums : (f : Frame) → carry (words_sum (pseudo_header f ++ datagram f)) ≡ 65535
 unfolding datagram
 datagram_sums f =
-    ap carried (datagram_with_sum (datagram_checksum f) f (sent_fits _ (omega arith)))
+    ap carry (datagram_with_sum (datagram_checksum f) f (sent_fits _ (omega arith)))
     ∙ checked_sent (words_sum (pseudo_header f ++ datagram_with 0 f)) (datagram_has_sum f)
 
 -- ---- the size
 
-pub packet_length : (f : Frame) → length (framed f) ≡ 16 + packet_size f
-unfolding framed header datagram
+pub packet_length : (f : Frame) → length (record_of f) ≡ 16 + packet_size f
+unfolding record_of header datagram
 packet_length f =
     let sum : ℕ = datagram_checksum f in
     let head : List ℕ = big_bytes 2 (port_of f.packet) ++ big_bytes 2 (port_of f.packet) ++ big_bytes 2 (datagram_size f) ++ big_bytes 2 sum in
     let all = length-append (record_header f ++ header_with (checksum (header_with 0 f)) f ++ head) f.packet in
     let front : length (record_header f ++ header_with (checksum (header_with 0 f)) f ++ head) ≡ 44 = refl in
-    let e : length (framed f) ≡ length (record_header f ++ header_with (checksum (header_with 0 f)) f ++ head) + length f.packet = all in
+    let e : length (record_of f) ≡ length (record_header f ++ header_with (checksum (header_with 0 f)) f ++ head) + length f.packet = all in
     omega (arith, e, front)

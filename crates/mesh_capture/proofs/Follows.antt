@@ -11,7 +11,7 @@ use Rattle.mesh_io.specs.declared.line_error.LineError.TheVariants as error
 use Rattle.mesh_printed.specs.Pieces.{Piece, Whole, pieces_of, pieces_within}
 use Rattle.mesh_printed.proofs.Pieces.{pieces_at, pieces_none, IsAhead, GoesPast, ahead}
 use Rattle.mesh_capture.specs.declared.frame.Frame.{Frame}
-use Rattle.mesh_capture.specs.Copies.{Reading, Told, nothing_read, after_line}
+use Rattle.mesh_capture.specs.Copies.{Reading, LineOutcome, nothing_read, after_line}
 use Rattle.mesh_capture.specs.Captures.{Capture, framed_if, then_captured, captured_from}
 use Rattle.mesh_capture.specs.Outputs.{IsFile}
 use Rattle.mesh_capture.specs.Leads.{Leads}
@@ -216,7 +216,7 @@ line_goes r next line frame a b (Some s) told p = tt
 line_goes r next line frame a b None told p = λ pieces. by_line pieces
   where
     by_line : (pieces : List Piece) → Leads a b (captured_from next pieces) (captured_from r (Whole line ∷ pieces))
-    by_line pieces = subst (λ (t : Option Told). Leads a b (captured_from next pieces) (then_captured r t (λ now. captured_from now pieces))) (sym told) (leads_part a b (framed_if frame) (captured_from next pieces) p)
+    by_line pieces = subst (λ (t : Option LineOutcome). Leads a b (captured_from next pieces) (then_captured r t (λ now. captured_from now pieces))) (sym told) (leads_part a b (framed_if frame) (captured_from next pieces) p)
 
 pub line_stops : (r next : Reading) (line : List ℕ) (frame : Option Frame) (a b : Option (List ℕ)) (result : Option CaptureStatus) → after_line r line ≡ Some (record { now = next; frame = frame })
     → IfSome result (λ s. AppendsPrefix a b (framed_if frame)) → IfSome result (λ s. s ≡ WriteFault) → IfSome result (λ s. (pieces : List Piece) → IsFile a b (captured_from r (Whole line ∷ pieces)) s)
@@ -225,4 +225,4 @@ line_stops r next line frame a b None told p fault = tt
 line_stops r next line frame a b (Some s) told p fault = λ pieces. subst (λ (q : CaptureStatus). IsFile a b (captured_from r (Whole line ∷ pieces)) q) (sym fault) (by_line pieces)
   where
     by_line : (pieces : List Piece) → IsFile a b (captured_from r (Whole line ∷ pieces)) WriteFault
-    by_line pieces = subst (λ (t : Option Told). IsFile a b (then_captured r t (λ now. captured_from now pieces)) WriteFault) (sym told) (prefix_more a b (framed_if frame) (captured_from next pieces).file p)
+    by_line pieces = subst (λ (t : Option LineOutcome). IsFile a b (then_captured r t (λ now. captured_from now pieces)) WriteFault) (sym told) (prefix_more a b (framed_if frame) (captured_from next pieces).file p)

@@ -1,9 +1,9 @@
 -- Sums in ones' complement.
 use Rattle.std.proofs.Common.{◌≡◌, ℕ, ◌+◌, ◌-◌, ◌*◌, ◌%◌, ◌<◌, ◌≤◌, List, [], ◌∷◌, length, refl, sym, ap, ◌∙◌, arith}
 use Rattle.std.specs.Prelude.{zero, suc, slice_index, drop}
-use Rattle.mesh_capture.specs.Frames.{carried, words_sum, sent_checksum}
+use Rattle.mesh_capture.specs.Frames.{carry, words_sum, sent_checksum}
 
-pub carried_is : (n : ℕ) → 1 ≤ n → carried n ≡ 1 + (n - 1) % 65535
+pub carried_is : (n : ℕ) → 1 ≤ n → carry n ≡ 1 + (n - 1) % 65535
 carried_is zero h = absurd (omega arith)
 carried_is (suc n) h =
     let same : n ≡ suc n - 1 = omega arith in
@@ -11,19 +11,19 @@ carried_is (suc n) h =
     let e : suc (n % 65535) ≡ 1 + (suc n - 1) % 65535 = omega (arith, rest) in e
 
 -- a sum with the checksum of what it sums
-pub checked : (n : ℕ) → 1 ≤ n → carried (n + (65535 - carried n)) ≡ 65535
+pub checked : (n : ℕ) → 1 ≤ n → carry (n + (65535 - carry n)) ≡ 65535
 checked n h =
-    let c : carried n ≡ 1 + (n - 1) % 65535 = carried_is n h in
-    carried_is (n + (65535 - carried n)) (omega arith) ∙ rw c (omega arith)
+    let c : carry n ≡ 1 + (n - 1) % 65535 = carried_is n h in
+    carried_is (n + (65535 - carry n)) (omega arith) ∙ rw c (omega arith)
 
-pub checked_sent : (n : ℕ) → 1 ≤ n → carried (n + sent_checksum (65535 - carried n)) ≡ 65535
-checked_sent n h = by_sum (65535 - carried n) refl
+pub checked_sent : (n : ℕ) → 1 ≤ n → carry (n + sent_checksum (65535 - carry n)) ≡ 65535
+checked_sent n h = by_sum (65535 - carry n) refl
   where
-    by_sum : (s : ℕ) → 65535 - carried n ≡ s → carried (n + sent_checksum s) ≡ 65535
+    by_sum : (s : ℕ) → 65535 - carry n ≡ s → carry (n + sent_checksum s) ≡ 65535
     by_sum zero e =
-        let c : carried n ≡ 1 + (n - 1) % 65535 = carried_is n h in
+        let c : carry n ≡ 1 + (n - 1) % 65535 = carried_is n h in
         carried_is (n + 65535) (omega arith) ∙ omega (arith, c)
-    by_sum (suc s) e = ap (λ k. carried (n + k)) (sym e) ∙ checked n h
+    by_sum (suc s) e = ap (λ k. carry (n + k)) (sym e) ∙ checked n h
 
 -- ---- the words of some bytes
 

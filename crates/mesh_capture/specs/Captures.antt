@@ -3,8 +3,8 @@ use Rattle.std.specs.Prelude.{ℕ, ◌+◌, List, [], ◌∷◌, ◌++◌, Optio
 use Rattle.mesh_io.specs.NextLines.{text_limits}
 use Rattle.mesh_printed.specs.Pieces.{Piece, Whole, Past, pieces_within}
 use Rattle.mesh_capture.specs.declared.frame.Frame.{Frame}
-use Rattle.mesh_capture.specs.Frames.{framed, file_header}
-use Rattle.mesh_capture.specs.Copies.{Reading, Told, nothing_read, after_line}
+use Rattle.mesh_capture.specs.Frames.{record_of, file_header}
+use Rattle.mesh_capture.specs.Copies.{Reading, LineOutcome, nothing_read, after_line}
 
 -- the file, and the number of the line that is refused, if one is: it holds what the lines above
 -- tell
@@ -14,7 +14,7 @@ pub record Capture : Type 0 where
 
 abbrev pub framed_if : Option Frame → List ℕ
 framed_if None = []
-framed_if (Some f) = framed f
+framed_if (Some f) = record_of f
 
 -- the packets of a line, and then those of the lines below it
 abbrev pub before : Option Frame → Capture → Capture
@@ -23,7 +23,7 @@ before frame rest = record rest { file = framed_if frame ++ rest.file }
 abbrev pub refused_at : ℕ → Capture
 refused_at line = record { file = []; refused = Some line }
 
-abbrev pub then_captured : Reading → Option Told → (Reading → Capture) → Capture
+abbrev pub then_captured : Reading → Option LineOutcome → (Reading → Capture) → Capture
 then_captured r None others = refused_at (r.lines + 1)
 then_captured r (Some told) others = before told.frame (others told.now)
 

@@ -35,11 +35,11 @@ abbrev pub nothing_read : Reading
 nothing_read = record { events = 0; below = Other; flying = []; lines = 0 }
 
 -- what one line tells: what is known after it, and the copy that it ends
-pub record Told : Type 0 where
+pub record LineOutcome : Type 0 where
   pub now : Reading
   pub frame : Option Frame
 
-abbrev pub no_frame : Reading → Told
+abbrev pub no_frame : Reading → LineOutcome
 no_frame r = record { now = r; frame = None }
 
 abbrev pub is_one_of : List (List ℕ) → List ℕ → Bool
@@ -73,13 +73,13 @@ cast_packet (kind ∷ receivers ∷ hex ∷ []) = if has_receivers kind then pac
 cast_packet others = None
 
 -- a packet is cast: once below an event
-abbrev pub after_sent : Reading → Below → List (List ℕ) → Option Told
+abbrev pub after_sent : Reading → Below → List (List ℕ) → Option LineOutcome
 after_sent r (Casts None) words =
     option_map (λ packet. no_frame (record r { below = Casts (Some packet) })) (cast_packet words)
 after_sent r _ words = None
 
 -- a copy joins the flight. A number that is there already is refused
-abbrev pub with_copy : Reading → Option (List ℕ) → Option ℕ → Option Told
+abbrev pub with_copy : Reading → Option (List ℕ) → Option ℕ → Option LineOutcome
 with_copy r (Some packet) (Some id) =
     if is_some (packet_in r.flying id) then None
     else Some (no_frame (record r { flying = insert_entry nat_cmp r.flying id packet }))
@@ -102,49 +102,49 @@ packet_copied flying (Doubles id) = packet_in flying id
 packet_copied flying _ = None
 
 -- a line `copy` below an event. A line `flight` has lines of copies below it that are none of these
-abbrev pub after_copy : Reading → Below → List (List ℕ) → Option Told
+abbrev pub after_copy : Reading → Below → List (List ℕ) → Option LineOutcome
 after_copy r Other words = Some (no_frame r)
 after_copy r below words = with_copy r (packet_copied r.flying below) (copy_number words)
 
-abbrev pub with_frame : Reading → Frame → Told
+abbrev pub with_frame : Reading → Frame → LineOutcome
 with_frame r frame = record { now = r; frame = Some frame }
 
 -- the copy of this number leaves the flight, from here to there
-abbrev pub ended : Reading → Bool → ℕ → ℕ → ℕ → Option (List ℕ) → Option Told
-ended r lost id from to packet =
+abbrev pub end_outcome : Reading → Bool → ℕ → ℕ → ℕ → Option (List ℕ) → Option LineOutcome
+end_outcome r lost id from to packet =
     option_map (λ p. with_frame (record r { flying = remove_entry (is_at (nat_cmp id)) r.flying })
     (record { event = r.events; from = from; to = to; lost = lost; packet = p })) packet
 
 -- the words after `heard` or `lost`: `FROM TO`
-abbrev pub after_end : Reading → Bool → ℕ → List (List ℕ) → Option Told
+abbrev pub after_end : Reading → Bool → ℕ → List (List ℕ) → Option LineOutcome
 after_end r lost id (from ∷ to ∷ []) =
-    option_and_then (λ x. option_and_then (λ y. ended r lost id x y (packet_in r.flying id))
+    option_and_then (λ x. option_and_then (λ y. end_outcome r lost id x y (packet_in r.flying id))
     (address_of to)) (address_of from)
 after_end r lost id others = None
 
 -- a copy was heard below its delivery, or lost below its loss
-abbrev pub after_ended : Reading → Below → Bool → List (List ℕ) → Option Told
+abbrev pub after_ended : Reading → Below → Bool → List (List ℕ) → Option LineOutcome
 after_ended r (Delivers id) false words = after_end r false id words
 after_ended r (Loses id) true words = after_end r true id words
 after_ended r _ lost words = None
 
 -- one event more, with these effects below it
-abbrev pub counted : Reading → Below → Told
-counted r below = no_frame (record r { events = r.events + 1; below = below })
+abbrev pub event_outcome : Reading → Below → LineOutcome
+event_outcome r below = no_frame (record r { events = r.events + 1; below = below })
 
 abbrev pub is_link : List ℕ → Bool
 is_link word = is_one_of (codes "link" ∷ codes "cut" ∷ []) word
 
 -- an effect by its first word. Links that come and go with a node that moves are events; other
 -- effects, and the lines of tables, tell nothing of copies
-abbrev pub effect : Reading → List (List ℕ) → Option Told
+abbrev pub effect : Reading → List (List ℕ) → Option LineOutcome
 effect r [] = Some (no_frame r)
 effect r (word ∷ words) =
     if bytes_eq word (codes "sent") then after_sent r r.below words else
     if bytes_eq word (codes "copy") then after_copy r r.below words else
     if bytes_eq word (codes "heard") then after_ended r r.below false words else
     if bytes_eq word (codes "lost") then after_ended r r.below true words else
-    if is_link word then Some (counted r Other)
+    if is_link word then Some (event_outcome r Other)
     else Some (no_frame r)
 
 -- ---- lines without two spaces before them
@@ -184,21 +184,21 @@ is_no_event word =
     ∷ []) word
 
 -- a line that is an event, or none
-abbrev pub after_outer : Reading → Bool → Option Below → Option Told
-after_outer r no_event (Some below) = Some (counted r below)
+abbrev pub after_outer : Reading → Bool → Option Below → Option LineOutcome
+after_outer r no_event (Some below) = Some (event_outcome r below)
 after_outer r no_event None =
     if no_event then Some (no_frame (record r { below = Other })) else None
 
 -- a line by its first word. A word that no text of a run has is refused
-abbrev pub outer : Reading → List (List ℕ) → Option Told
+abbrev pub outer : Reading → List (List ℕ) → Option LineOutcome
 outer r [] = None
 outer r (word ∷ words) = after_outer r (is_no_event word) (event_by word words)
 
-abbrev pub line_by : Reading → List ℕ → Option Told
+abbrev pub line_by : Reading → List ℕ → Option LineOutcome
 line_by r line =
     if bytes_eq (take 2 line) (codes "  ") then effect r (parts 32 (drop 2 line))
     else outer r (parts 32 line)
 
 -- what one more line tells. None: it is refused
-unfoldable pub after_line : Reading → List ℕ → Option Told
+unfoldable pub after_line : Reading → List ℕ → Option LineOutcome
 after_line r line = line_by (record r { lines = r.lines + 1 }) line

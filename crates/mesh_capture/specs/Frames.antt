@@ -13,13 +13,13 @@ words_sum (high ∷ []) = 256 * high
 words_sum (high ∷ low ∷ bytes) = 256 * high + low + words_sum bytes
 
 -- a sum in ones' complement: what goes past 16 bits is added again
-abbrev pub carried : ℕ → ℕ
-carried zero = 0
-carried (suc n) = suc (n % 65535)
+abbrev pub carry : ℕ → ℕ
+carry zero = 0
+carry (suc n) = suc (n % 65535)
 
 -- the checksum of the internet (RFC 1071)
 abbrev pub checksum : List ℕ → ℕ
-checksum bytes = 65535 - carried (words_sum bytes)
+checksum bytes = 65535 - carry (words_sum bytes)
 
 -- ---- the datagram
 
@@ -88,5 +88,5 @@ record_header f =
     ++ big_bytes 4 (packet_size f) ++ big_bytes 4 (packet_size f)
 
 -- a packet in the file
-unfoldable pub framed : Frame → List ℕ
-framed f = record_header f ++ header f ++ datagram f
+unfoldable pub record_of : Frame → List ℕ
+record_of f = record_header f ++ header f ++ datagram f

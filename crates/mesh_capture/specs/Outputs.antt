@@ -1,7 +1,7 @@
 -- What was told of a text: what the two sinks held before, and what they hold now.
 use Rattle.std.specs.Prelude.{ℕ, ◌≡◌, List, [], codes, Option, Some, None, ⊤}
 use Rattle.std.specs.Io.KnownBytes.{Appends}
-use Rattle.mesh_grammar.specs.Written.{line, labelled}
+use Rattle.mesh_grammar.specs.Written.{line, label_number}
 use Rattle.mesh_io.specs.Puts.{AppendsPrefix}
 use Rattle.mesh_capture.specs.Captures.{Capture}
 use Rattle.mesh_capture.specs.declared.status.CaptureStatus.{CaptureStatus}
@@ -9,7 +9,7 @@ use Rattle.mesh_capture.specs.declared.status.CaptureStatus.TheVariants.{Done, U
 
 -- the line that names a refused line
 unfoldable pub bad_line : ℕ → List ℕ
-bad_line n = line (labelled (codes "bad line ") n)
+bad_line n = line (label_number (codes "bad line ") n)
 
 -- what is said of a capture beside its file
 abbrev pub refusal_line : Option ℕ → List ℕ

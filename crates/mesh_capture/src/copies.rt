@@ -217,7 +217,7 @@ impl Copies {
     fn count(&mut self, below: Below)
         requires few { self.old.events < self.old.lines }
         requires short { IsShortBelow below }
-        ensures { copies.no_frame self.new ≡ copies.counted self.old below }
+        ensures { copies.no_frame self.new ≡ copies.event_outcome self.old below }
     {
         self.events += 1;
         self.below = below;

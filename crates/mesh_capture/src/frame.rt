@@ -106,7 +106,7 @@ fn words_sum(bytes: &[u8]) -> u32
 
 // What goes past 16 bits is added again.
 fn carried(sum: u32) -> u16
-    ensures { result ≡ frames.carried sum }
+    ensures { result ≡ frames.carry sum }
 {
     match sum {
         0 => 0,
@@ -294,11 +294,11 @@ impl Frame {
     /// Puts the packet as it stands in the file in the place of what the buffer holds. The
     /// packet of the copy is one that a mesh may send, and the event's number in milliseconds is
     /// less than 2^32 seconds.
-    #[tactic(auto, unfolding(crate::specs::Frames::framed, crate::specs::Frames::header, crate::specs::Frames::datagram))]
+    #[tactic(auto, unfolding(crate::specs::Frames::record_of, crate::specs::Frames::header, crate::specs::Frames::datagram))]
     pub fn put_into(&self, out: &mut FrameBuf)
         requires short { length self.now.packet ≤ LONGEST_PACKET }
         requires soon { self.now.event / 1000 < 2 ^ 32 }
-        ensures { out.new.items ≡ frames.framed self.now }
+        ensures { out.new.items ≡ frames.record_of self.now }
     {
         let header = self.header_checksum(out);
         let datagram = self.datagram_checksum(out);

@@ -3,7 +3,7 @@ ghost use Rattle.std.specs.Prelude.{◌≡◌, ◌≤◌, ◌<◌, ◌/◌, ◌^
 ghost use Rattle.mesh_base.specs.declared.limits.TheConstants.{LONGEST_PACKET};
 ghost use Rattle.mesh_io.specs.Cause.{HasCause};
 ghost use Rattle.mesh_io.specs.Puts.{Puts};
-ghost use Rattle.mesh_capture.specs.Frames.{file_header, framed};
+ghost use Rattle.mesh_capture.specs.Frames.{file_header, record_of};
 ghost use Rattle.mesh_capture.specs.Kept.{most_lines};
 ghost use Rattle.mesh_capture.specs.Outputs.{bad_line};
 
@@ -26,7 +26,7 @@ pub fn put_header<O: Sink>(buf: &mut FrameBuf, out: &mut O) -> Result<(), PutFau
 pub fn put_frame<O: Sink>(frame: &Frame, buf: &mut FrameBuf, out: &mut O) -> Result<(), PutFault>
     requires short { length frame.now.packet ≤ LONGEST_PACKET }
     requires soon { frame.now.event ≤ most_lines }
-    ensures text { Puts (O.held out.old) (O.held out.new) (framed frame.now) result }
+    ensures text { Puts (O.held out.old) (O.held out.new) (record_of frame.now) result }
     ensures cause { HasCause (O.faults out.old) (O.faults out.new) result }
 {
     frame.put_into(buf);

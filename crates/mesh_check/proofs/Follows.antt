@@ -6,7 +6,7 @@ use Rattle.mesh_base.specs.Parts.{parts}
 use Rattle.mesh_io.specs.Cutting.{Tells}
 use Rattle.mesh_io.specs.NextLines.{Line, text_limits}
 use Rattle.mesh_io.specs.declared.line_error.LineError.TheVariants as error
-use Rattle.mesh_tables.specs.Printed.{Shown, Reading, nothing_read}
+use Rattle.mesh_tables.specs.Printed.{ShownTables, Reading, nothing_read}
 use Rattle.mesh_printed.specs.Pieces.{Piece, Whole, pieces_of}
 use Rattle.mesh_check.specs.Says.{Says, Refuses, Shows, says, says_from}
 use Rattle.mesh_check.specs.Reads.{Reads}
@@ -94,6 +94,6 @@ too_much (Some text) (Some bytes) after given given' r now line few h told =
 
 -- ---- what is said of the tables is said of the text
 
-pub no_cycle_said : (left : Option (List ℕ)) (shown : Shown) → IfSome left (λ text. says text ≡ Shows shown) → HasNoCycle (Shows shown) → IfSome left (λ text. HasNoCycle (says text))
+pub no_cycle_said : (left : Option (List ℕ)) (shown : ShownTables) → IfSome left (λ text. says text ≡ Shows shown) → HasNoCycle (Shows shown) → IfSome left (λ text. HasNoCycle (says text))
 no_cycle_said None shown h acyclic = tt
 no_cycle_said (Some text) shown h acyclic = subst HasNoCycle (sym h) acyclic

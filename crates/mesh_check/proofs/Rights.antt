@@ -4,7 +4,7 @@ use Rattle.std.proofs.lemmas.Option.{same_Some}
 use Rattle.mesh_tables.specs.declared.row.Row.{Row}
 use Rattle.mesh_tables.specs.declared.search.FailingEdge.{FailingEdge}
 use Rattle.mesh_tables.specs.Tables.{Tables, Edge, IsSound, IsFirstFailing, IsFirstFault}
-use Rattle.mesh_tables.specs.Printed.{Shown, tables_of}
+use Rattle.mesh_tables.specs.Printed.{ShownTables, tables_of}
 use Rattle.mesh_tables.specs.Search.{search}
 use Rattle.mesh_tables.proofs.Leasts.{search_is}
 use Rattle.mesh_check.specs.Says.{Says, Refuses, Shows}
@@ -14,7 +14,7 @@ use Rattle.mesh_check.specs.declared.status.CheckStatus.TheVariants.{Yes, No, Us
 
 -- ---- there is one
 
-by_fault : (shown : Shown) (found : Option FailingEdge) → IsFirstFault (tables_of shown) found → (status : CheckStatus) × (text : List ℕ) × IsRight (Shows shown) status text
+by_fault : (shown : ShownTables) (found : Option FailingEdge) → IsFirstFault (tables_of shown) found → (status : CheckStatus) × (text : List ℕ) × IsRight (Shows shown) status text
 by_fault shown None sound = (Yes, yes_line shown, (sound, refl))
 by_fault shown (Some e) first = (No, no_line e, record { edge = e; first = first; line_is = refl })
 
@@ -33,10 +33,10 @@ is_bad n ReadFault x r = absurd r
 is_bad n WriteFault x r = absurd r
 is_bad n NoMemory x r = absurd r
 
-abbrev IsYesOrNo : Shown → CheckStatus → List ℕ → Type 0
+abbrev IsYesOrNo : ShownTables → CheckStatus → List ℕ → Type 0
 IsYesOrNo shown a x = ((a ≡ Yes) × IsSound (tables_of shown) × (x ≡ yes_line shown)) ⊎ ((a ≡ No) × IsNo shown x)
 
-yes_or_no : (shown : Shown) (a : CheckStatus) (x : List ℕ) → IsRight (Shows shown) a x → IsYesOrNo shown a x
+yes_or_no : (shown : ShownTables) (a : CheckStatus) (x : List ℕ) → IsRight (Shows shown) a x → IsYesOrNo shown a x
 yes_or_no shown Yes x r = inl (refl, r.0, r.1)
 yes_or_no shown No x r = inr (refl, r)
 yes_or_no shown (BadLine m) x r = absurd r
@@ -68,7 +68,7 @@ same_edge t a b p q =
         let nexts : ℕ → FailingEdge = λ k. record { dest = b.dest; node = b.node; next = k } in
         ap dests d ∙ ap nodes x ∙ ap nexts y
 
-both : (shown : Shown) (a b : CheckStatus) (x y : List ℕ) → IsYesOrNo shown a x → IsYesOrNo shown b y → (a ≡ b) × (x ≡ y)
+both : (shown : ShownTables) (a b : CheckStatus) (x y : List ℕ) → IsYesOrNo shown a x → IsYesOrNo shown b y → (a ≡ b) × (x ≡ y)
 both shown a b x y (inl p) (inl q) = (p.0 ∙ sym q.0, p.2 ∙ sym q.2)
 both shown a b x y (inl p) (inr q) = absurd (p.1 _ _ _ ((q.1).first).fails)
 both shown a b x y (inr p) (inl q) = absurd (q.1 _ _ _ ((p.1).first).fails)

@@ -1,13 +1,13 @@
 -- What a printed text says.
 use Rattle.std.specs.Prelude.{ℕ, ◌+◌, List, [], ◌∷◌, Option, Some, None}
 use Rattle.mesh_io.specs.NextLines.{text_limits}
-use Rattle.mesh_tables.specs.Printed.{Shown, Reading, nothing_read, shown_by, after_line}
+use Rattle.mesh_tables.specs.Printed.{ShownTables, Reading, nothing_read, shown_by, after_line}
 use Rattle.mesh_printed.specs.Pieces.{Piece, Whole, Past, pieces_within}
 
 -- the line of this number is refused, or all lines are read and these tables are shown
 pub data Says : Type 0 where
   Refuses : ℕ → Says
-  Shows : Shown → Says
+  Shows : ShownTables → Says
 
 abbrev pub then_says : ℕ → Option Reading → (Reading → Says) → Says
 then_says line None others = Refuses line

@@ -1,31 +1,33 @@
 -- The answer that is right for what a text says, and the line that is written.
 use Rattle.std.specs.Prelude.{ℕ, ◌≡◌, List, ◌∷◌, ◌++◌, length, codes, Option, ⊤}
 use Rattle.std.specs.Io.KnownBytes.{Appends}
-use Rattle.mesh_base.specs.Addresses.{dotted}
-use Rattle.mesh_grammar.specs.Written.{line, labelled}
+use Rattle.mesh_base.specs.Addresses.{dotted_decimal}
+use Rattle.mesh_grammar.specs.Written.{line, label_number}
 use Rattle.mesh_io.specs.Puts.{AppendsPrefix}
 use Rattle.mesh_tables.specs.declared.search.FailingEdge.{FailingEdge}
 use Rattle.mesh_tables.specs.Tables.{Cycle, IsSound, IsFirstFailing}
-use Rattle.mesh_tables.specs.Printed.{Shown, tables_of, edges_in}
+use Rattle.mesh_tables.specs.Printed.{ShownTables, tables_of, edges_in}
 use Rattle.mesh_check.specs.Says.{Says, Refuses, Shows}
 use Rattle.mesh_check.specs.declared.status.CheckStatus.{CheckStatus}
 use Rattle.mesh_check.specs.declared.status.CheckStatus.TheVariants.{Yes, No, Usage, BadLine, ReadFault, WriteFault, NoMemory}
 
 unfoldable pub bad_line : ℕ → List ℕ
-bad_line n = line (labelled (codes "bad line ") n)
+bad_line n = line (label_number (codes "bad line ") n)
 
 -- how many nodes were shown, and how many edges they have
-unfoldable pub yes_line : Shown → List ℕ
+unfoldable pub yes_line : ShownTables → List ℕ
 yes_line shown =
-    line (labelled (codes "yes nodes ") (length shown)
-    ++ labelled (codes " edges ") (edges_in shown))
+    line (label_number (codes "yes nodes ") (length shown)
+    ++ label_number (codes " edges ") (edges_in shown))
 
 -- destination, node and next hop
 unfoldable pub no_line : FailingEdge → List ℕ
-no_line e = line (codes "no " ++ dotted e.dest ++ 32 ∷ dotted e.node ++ 32 ∷ dotted e.next)
+no_line e =
+    line (codes "no " ++ dotted_decimal e.dest ++ 32 ∷ dotted_decimal e.node
+    ++ 32 ∷ dotted_decimal e.next)
 
 -- an edge of these tables is the first that fails, and the line names it
-pub record IsNo (shown : Shown) (text : List ℕ) : Type 0 where
+pub record IsNo (shown : ShownTables) (text : List ℕ) : Type 0 where
   pub edge : FailingEdge
   pub first : IsFirstFailing (tables_of shown) edge
   pub line_is : text ≡ no_line edge

@@ -5,7 +5,7 @@ use Rattle.std.specs.Prelude.{◌==◌, ◌&&◌, length}
 use Rattle.std.proofs.lemmas.Bool.{ltb-true, ne_eqb}
 use Rattle.mesh_base.specs.declared.events.Item.TheVariants.{New, Heard}
 use Rattle.mesh_checkpoint.specs.Formats.{◌>>=◌, byte_at, get_either, get_maybe, maybe}
-use Rattle.mesh_checkpoint.specs.Checkpoint.{given, heard, item, world}
+use Rattle.mesh_checkpoint.specs.Checkpoint.{datum_format, heard_format, item, world}
 use Rattle.mesh_checkpoint.specs.Counts.{data_heard, data_in_item, data_in_world, data_in}
 use Rattle.mesh_checkpoint.specs.Reading.{IsPassed, Passes}
 use Rattle.mesh_checkpoint.proofs.Formats.{test_some, true_both}
@@ -49,24 +49,24 @@ either_second get other bytes k rest e some =
 
 -- ---- an item
 
-pub given_item : (nodes : ℕ) (bytes : List ℕ) (k : ℕ) (rest behind : List ℕ) → byte_at 0 2 bytes ≡ Some (k, rest) → k ≡ 0 → length rest < length bytes → IsPassed (given nodes) (λ p. 1) rest 1 behind → IsPassed (item nodes) data_in_item bytes 1 behind
+pub given_item : (nodes : ℕ) (bytes : List ℕ) (k : ℕ) (rest behind : List ℕ) → byte_at 0 2 bytes ≡ Some (k, rest) → k ≡ 0 → length rest < length bytes → IsPassed (datum_format nodes) (λ p. 1) rest 1 behind → IsPassed (item nodes) data_in_item bytes 1 behind
 given_item nodes bytes k rest behind e zeroth shorter p = record {
   value = New (p.value).0 (p.value).1;
-  read = rw (either_first (given nodes).get (heard nodes).get bytes k rest e zeroth, p.read) refl;
+  read = rw (either_first (datum_format nodes).get (heard_format nodes).get bytes k rest e zeroth, p.read) refl;
   count = refl;
   few = omega (arith, shorter, p.few);
 }
 
-heard_some : (nodes : ℕ) (bytes : List ℕ) (k : ℕ) (rest : List ℕ) (n : ℕ) (behind : List ℕ) → byte_at 0 2 bytes ≡ Some (k, rest) → k ≢ 0 → length rest < length bytes → IsPassed (heard nodes) data_heard rest n behind → IsPassed (item nodes) data_in_item bytes n behind
+heard_some : (nodes : ℕ) (bytes : List ℕ) (k : ℕ) (rest : List ℕ) (n : ℕ) (behind : List ℕ) → byte_at 0 2 bytes ≡ Some (k, rest) → k ≢ 0 → length rest < length bytes → IsPassed (heard_format nodes) data_heard rest n behind → IsPassed (item nodes) data_in_item bytes n behind
 heard_some nodes bytes k rest n behind e some shorter p = record {
   value = Heard (p.value).0 (p.value).1;
-  read = rw (either_second (given nodes).get (heard nodes).get bytes k rest e some, p.read) refl;
+  read = rw (either_second (datum_format nodes).get (heard_format nodes).get bytes k rest e some, p.read) refl;
   count = p.count;
   few = omega (arith, shorter, p.few);
 }
 
-pub heard_item : (nodes : ℕ) (bytes : List ℕ) (k : ℕ) (rest : List ℕ) (r : Option (ℕ × List ℕ)) → byte_at 0 2 bytes ≡ Some (k, rest) → k ≢ 0 → length rest < length bytes → Passes (heard nodes) data_heard rest r → Passes (item nodes) data_in_item bytes r
-heard_item nodes bytes k rest None e some shorter p = rw (either_second (given nodes).get (heard nodes).get bytes k rest e some, p) refl
+pub heard_item : (nodes : ℕ) (bytes : List ℕ) (k : ℕ) (rest : List ℕ) (r : Option (ℕ × List ℕ)) → byte_at 0 2 bytes ≡ Some (k, rest) → k ≢ 0 → length rest < length bytes → Passes (heard_format nodes) data_heard rest r → Passes (item nodes) data_in_item bytes r
+heard_item nodes bytes k rest None e some shorter p = rw (either_second (datum_format nodes).get (heard_format nodes).get bytes k rest e some, p) refl
 heard_item nodes bytes k rest (Some r) e some shorter p = heard_some nodes bytes k rest r.0 r.1 e some shorter p
 
 -- ---- a world, or none

@@ -6,7 +6,7 @@ use Rattle.std.specs.Int.{Width, w16, w32, w64, byte_len, from_be_bytes, to_be_b
 use Rattle.std.proofs.lemmas.Bool.{cases_lt, ltb-false, le-ltb, ltb-true, eqb-true}
 use Rattle.std.proofs.lemmas.List.{take_at, drop_at, take-append-drop, length-append, length-take, get_or-drop, get_or-take, get_or_past}
 use Rattle.std.proofs.lemmas.Nat.{be_bytes_2, be_bytes_4, be_bytes_8, from_be_bytes-to_be_bytes_2, from_be_bytes-to_be_bytes_4, from_be_bytes-to_be_bytes_8}
-use Rattle.mesh_checkpoint.specs.Formats.{◌>>=◌, only_if, Format, byte_at, byte, number_at, number, seq, get_times, all_fit, times, get_rising, rise, rising, as_form, is_from, counted, counted_rising, get_run, run, text, put_maybe, get_maybe, fits_maybe, maybe, put_either, get_either, fits_either, either}
+use Rattle.mesh_checkpoint.specs.Formats.{◌>>=◌, only_if, Format, byte_at, byte, number_at, number, seq, get_times, all_fit, times, get_rising, rise, rising, as_form, is_from, counted_list, counted_rising, get_run, run, text, put_maybe, get_maybe, fits_maybe, maybe, put_either, get_either, fits_either, either}
 use Rattle.mesh_checkpoint.specs.Laws.{AreBytes}
 
 pub bytes-drop : (n : ℕ) (bytes : List ℕ) → AreBytes bytes → AreBytes (drop n bytes)
@@ -245,7 +245,7 @@ counted_back count a p fits =
     let g = true_both (eqb (length p.1) p.0) (all_fit a.fits p.1) f.1 in
     ap (λ n. (n, p.1)) (eqb-true _ _ g.0)
 
-pub counted_is : {A : Type 0} (count : Format ℕ) (a : Format A) → IsFormat count → IsFormat a → IsFormat (counted count a)
+pub counted_is : {A : Type 0} (count : Format ℕ) (a : Format A) → IsFormat count → IsFormat a → IsFormat (counted_list count a)
 counted_is {A} count a ic ia = as_is (λ p. p.1) (λ xs. (length xs, xs)) (seq count (times a)) (seq_is count (times a) ic (λ n fits. times_is a ia n)) (λ xs. refl) (counted_back count a)
 
 rising_back : {A : Type 0} (key : A → ℕ) (count : Format ℕ) (a : Format A) (p : ℕ × List A) → (seq count (rising key a)).fits p ≡ true → (length p.1, p.1) ≡ p

@@ -12,7 +12,7 @@ use Rattle.mesh_checkpoint.specs.declared.surveying.SurveyError.TheVariants as e
 use Rattle.mesh_checkpoint.specs.Formats.{only_if, is_from, number_at, number}
 use Rattle.mesh_checkpoint.specs.Checkpoint.{Body, body}
 use Rattle.mesh_checkpoint.specs.Counts.{data_in, IsBalanced}
-use Rattle.mesh_checkpoint.specs.State.{magic, body_length, IsCheckpoint, stated, HasLength}
+use Rattle.mesh_checkpoint.specs.State.{magic, body_length, IsCheckpoint, stated_size, HasLength}
 use Rattle.mesh_checkpoint.specs.Points.{body_of}
 use Rattle.mesh_checkpoint.specs.Laws.{AreBytes, FittingIsWritten, OneCheckpoint, OneBody, BalancedIsTaken, OneRefusal, OneState, FittingIsState}
 use Rattle.mesh_checkpoint.proofs.Formats.{IsFormat, wide32, number_is, some_is, long_some, test_some, bytes-drop}
@@ -29,9 +29,9 @@ abbrev pub read_length : List ℕ → Option (ℕ × List ℕ)
 read_length b = number_at w32 0 (LONGEST_BODY + 1) (drop 4 b)
 
 -- what was read of the length is what is stated, and what stands behind it
-length_parts : (b : List ℕ) (count : ℕ) (rest : List ℕ) → read_length b ≡ Some (count, rest) → (4 ≤ length (drop 4 b)) × (stated b ≡ count) × (stated b ≤ LONGEST_BODY) × (drop 4 (drop 4 b) ≡ rest)
+length_parts : (b : List ℕ) (count : ℕ) (rest : List ℕ) → read_length b ≡ Some (count, rest) → (4 ≤ length (drop 4 b)) × (stated_size b ≡ count) × (stated_size b ≤ LONGEST_BODY) × (drop 4 (drop 4 b) ≡ rest)
 length_parts b count rest e =
-    let n = stated b in
+    let n = stated_size b in
     let found : ℕ × List ℕ = (n, drop 4 (drop 4 b)) in
     let g = long_some (ltb (length (drop 4 b)) 4) (only_if (is_from 0 (LONGEST_BODY + 1) n) found) (count, rest) e in
     let t = test_some (is_from 0 (LONGEST_BODY + 1) n) found (count, rest) g.1 in
@@ -44,10 +44,10 @@ has_length b count rest e whole =
     let behind : length (drop 4 (drop 4 b)) ≡ length rest = ap length p.3 in
     (p.2, (omega (arith, p.0, p.1, behind, whole, length-drop 4 b, length-drop 4 (drop 4 b))))
 
-length_read : (b : List ℕ) → HasLength b → read_length b ≡ Some (stated b, drop 4 (drop 4 b))
+length_read : (b : List ℕ) → HasLength b → read_length b ≡ Some (stated_size b, drop 4 (drop 4 b))
 length_read b has =
     let long : ltb (length (drop 4 b)) 4 ≡ false = le-ltb _ _ (omega (arith, has.1, length-drop 4 b)) in
-    let fits = within (stated b) has.0 in
+    let fits = within (stated_size b) has.0 in
     rw (long, fits) refl
 
 pub other_length : (b : List ℕ) (count : ℕ) (rest : List ℕ) → read_length b ≡ Some (count, rest) → length rest ≢ count → ¬ (HasLength b)
@@ -57,7 +57,7 @@ other_length b count rest e other has =
     other (omega (arith, has.1, p.0, p.1, behind, length-drop 4 b, length-drop 4 (drop 4 b)))
 
 pub no_length : (b : List ℕ) → read_length b ≡ None → ¬ (HasLength b)
-no_length b none has = none-some (stated b, drop 4 (drop 4 b)) (sym none ∙ length_read b has)
+no_length b none has = none-some (stated_size b, drop 4 (drop 4 b)) (sym none ∙ length_read b has)
 
 -- ---- of a checkpoint
 

@@ -11,7 +11,7 @@ use Rattle.aodv_node.specs.Seen.{NodeSeen}
 use Rattle.mesh_model.specs.Worlds.{Node}
 use Rattle.mesh_meaning.specs.Packets.{packet_of, IsWritten, IsWrittenItem, IsWrittenCopy, copy_in}
 use Rattle.mesh_checkpoint.specs.Points.{item_of, node_of, copy_of}
-use Rattle.mesh_checkpoint.specs.Seen.{listed}
+use Rattle.mesh_checkpoint.specs.Seen.{listed_node}
 
 packet_again : (mesh : Nodes) (bytes : List ℕ) → IsWritten mesh bytes → packet_of mesh (meaning mesh bytes) ≡ bytes
 unfolding packet_of
@@ -29,8 +29,8 @@ items_again mesh (i ∷ is) all = rw (item_again mesh i all.0, items_again mesh 
 abbrev pub node_meant : Nodes → NodeSeen → Node
 node_meant mesh n = record { core = n.core; queue = map (item_in mesh) n.items }
 
-pub node_again : (mesh : Nodes) (n : NodeSeen) → AllByRecursion (IsWrittenItem mesh) n.items → node_of mesh (node_meant mesh n) ≡ listed n
-node_again mesh n all = ap (λ (is : List items.Item). record (listed n) { inbox = is }) (items_again mesh n.items all)
+pub node_again : (mesh : Nodes) (n : NodeSeen) → AllByRecursion (IsWrittenItem mesh) n.items → node_of mesh (node_meant mesh n) ≡ listed_node n
+node_again mesh n all = ap (λ (is : List items.Item). record (listed_node n) { inbox = is }) (items_again mesh n.items all)
 
 pub copies_again : (mesh : Nodes) (cs : List Flying) → AllByRecursion (IsWrittenCopy mesh) cs → map (copy_of mesh) (map (copy_in mesh) cs) ≡ cs
 copies_again mesh [] all = refl

@@ -11,7 +11,7 @@ use Rattle.mesh_base.specs.declared.events.Item.TheVariants.{New, Heard}
 use Rattle.mesh_base.specs.declared.events.Flying.{Flying}
 use Rattle.mesh_checkpoint.specs.declared.body.Head.{Head}
 use Rattle.mesh_checkpoint.specs.declared.limits.TheConstants.{SUMS_END, MOST_STEPS, GREATEST_NEXT_ID, LONGEST_HEARD}
-use Rattle.mesh_checkpoint.specs.Formats.{Format, byte, number, seq, times, as_form, truth, counted, counted_rising, text, maybe, either}
+use Rattle.mesh_checkpoint.specs.Formats.{Format, byte, number, seq, times, as_form, truth, counted_list, counted_rising, text, maybe, either}
 
 -- ---- what a body holds
 
@@ -156,25 +156,25 @@ request nodes = seq (index nodes) λ _. any32
 abbrev pub request_key : ℕ × ℕ → ℕ
 request_key p = p.0 * 2 ^ 32 + p.1
 
-abbrev pub asked : ℕ → Format (List (ℕ × ℕ))
-asked nodes = counted_rising request_key any32 (request nodes)
+abbrev pub asked_format : ℕ → Format (List (ℕ × ℕ))
+asked_format nodes = counted_rising request_key any32 (request nodes)
 
 abbrev pub waits : ℕ → Format Waits
 waits nodes = as_form
     (λ p. record { dest = p.0; needs_request = p.1.0; bodies = p.1.1 })
     (λ w. (w.dest, (w.needs_request, w.bodies)))
-    (seq (index nodes) λ _. seq truth λ _. counted positive32 datum)
+    (seq (index nodes) λ _. seq truth λ _. counted_list positive32 datum)
 
 abbrev pub store : ℕ → Format (List Waits)
 store nodes = counted_rising (λ w. w.dest) any16 (waits nodes)
 
 -- a datum for a destination
-abbrev pub given : ℕ → Format (ℕ × List ℕ)
-given nodes = seq (index nodes) λ _. datum
+abbrev pub datum_format : ℕ → Format (ℕ × List ℕ)
+datum_format nodes = seq (index nodes) λ _. datum
 
 -- a packet from a sender
-abbrev pub heard : ℕ → Format (ℕ × List ℕ)
-heard nodes = seq (index nodes) λ _. text w16 0 (LONGEST_HEARD + 1)
+abbrev pub heard_format : ℕ → Format (ℕ × List ℕ)
+heard_format nodes = seq (index nodes) λ _. text w16 0 (LONGEST_HEARD + 1)
 
 abbrev pub item_of : (ℕ × List ℕ) ⊎ (ℕ × List ℕ) → Item
 item_of (inl p) = New p.0 p.1
@@ -185,10 +185,10 @@ parts_of (New dest body) = inl (dest, body)
 parts_of (Heard from bytes) = inr (from, bytes)
 
 abbrev pub item : ℕ → Format Item
-item nodes = as_form item_of parts_of (either (given nodes) (heard nodes))
+item nodes = as_form item_of parts_of (either (datum_format nodes) (heard_format nodes))
 
 abbrev pub inbox : ℕ → Format (List Item)
-inbox nodes = counted any32 (item nodes)
+inbox nodes = counted_list any32 (item nodes)
 
 abbrev pub node : ℕ → Format Node
 node nodes = as_form
@@ -200,8 +200,8 @@ node nodes = as_form
       inbox = p.1.1.1.1;
     })
     (λ n. (n.sn, (n.routes, (n.asked, (n.store, n.inbox)))))
-    (seq positive32 λ _. seq (routes nodes) λ _. seq (asked nodes) λ _. seq (store nodes) λ _.
-    inbox nodes)
+    (seq positive32 λ _. seq (routes nodes) λ _. seq (asked_format nodes) λ _.
+    seq (store nodes) λ _. inbox nodes)
 
 -- ---- the air
 

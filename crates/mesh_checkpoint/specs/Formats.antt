@@ -110,8 +110,8 @@ abbrev pub truth : Format Bool
 truth = as_form (λ n. n == 1) one_if (byte 0 2)
 
 -- a list behind its length
-abbrev pub counted : {A : Type 0} → Format ℕ → Format A → Format (List A)
-counted count a = as_form (λ p. p.1) (λ xs. (length xs, xs)) (seq count (times a))
+abbrev pub counted_list : {A : Type 0} → Format ℕ → Format A → Format (List A)
+counted_list count a = as_form (λ p. p.1) (λ xs. (length xs, xs)) (seq count (times a))
 
 -- a list whose keys rise, behind its length
 abbrev pub counted_rising : {A : Type 0} → (A → ℕ) → Format ℕ → Format A → Format (List A)

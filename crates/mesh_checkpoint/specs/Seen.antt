@@ -5,8 +5,8 @@ use Rattle.mesh_checkpoint.specs.Checkpoint.{Node}
 use Rattle.mesh_checkpoint.specs.Points.{routes_in, waits_in}
 
 -- its own number, its routes, the requests that it has seen, its store, and its inbox
-abbrev pub listed : NodeSeen → Node
-listed n = record {
+abbrev pub listed_node : NodeSeen → Node
+listed_node n = record {
   sn = (n.core).sn;
   routes = routes_in (n.core).rt;
   asked = pairs_in (n.core).seen;

@@ -29,12 +29,12 @@ pub record IsCheckpoint (b : List ℕ) (x : Body) : Type 0 where
 -- ---- why bytes are refused
 
 -- the number that bytes 4 to 7 state
-abbrev pub stated : List ℕ → ℕ
-stated b = number_of w32 (drop 4 b)
+abbrev pub stated_size : List ℕ → ℕ
+stated_size b = number_of w32 (drop 4 b)
 
 -- these bytes are there and state no more than the limit, and as many bytes stand behind them
 abbrev pub HasLength : List ℕ → Type 0
-HasLength b = (stated b ≤ LONGEST_BODY) × (length b ≡ 8 + stated b)
+HasLength b = (stated_size b ≤ LONGEST_BODY) × (length b ≡ 8 + stated_size b)
 
 -- the first refusal that applies
 abbrev pub IsRefused : List ℕ → SurveyError → Type 0

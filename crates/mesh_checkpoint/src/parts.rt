@@ -161,7 +161,7 @@ pub(crate) struct Item {
 impl Item {
     // A datum for a destination, behind the byte of its kind.
     fn pass_given<'b>(&self, bytes: &'b [u8]) -> Option<&'b [u8]>
-        ensures { Passes (model.given self.now.nodes) (λ p. 1) bytes.now
+        ensures { Passes (model.datum_format self.now.nodes) (λ p. 1) bytes.now
             (option_map (λ x. (1, x.now)) result) }
     {
         let (_dest, rest) = number16(bytes, 0, self.nodes)?;
@@ -171,7 +171,7 @@ impl Item {
 
     // A packet from a sender, behind the byte of its kind.
     fn pass_heard<'b>(&self, bytes: &'b [u8]) -> Option<(u64, &'b [u8])>
-        ensures { Passes (model.heard self.now.nodes) counts.data_heard bytes.now
+        ensures { Passes (model.heard_format self.now.nodes) counts.data_heard bytes.now
             (option_map (λ x. (x.0, x.1.now)) result) }
     {
         let (_from, rest) = number16(bytes, 0, self.nodes)?;

@@ -5,7 +5,7 @@ use Rattle.mesh_io.specs.Puts.{AppendsPrefix}
 use Rattle.mesh_io.proofs.Writing.{Appends-keeps, AppendsPrefix-keeps, AppendsPrefix-through}
 use Rattle.mesh_run.specs.declared.status.Status.{Status}
 use Rattle.mesh_run.specs.declared.status.Status.TheVariants as status
-use Rattle.mesh_text.specs.Text.{Written, whole}
+use Rattle.mesh_text.specs.Text.{RunText, whole}
 use Rattle.mesh_run.specs.Outputs.{IsOutput}
 use Rattle.mesh_cli.specs.Does.{IsWritten}
 
@@ -49,7 +49,7 @@ written_through before start opened closed now gathered text status.Usage s e al
 
 -- ---- what a run has told
 
-pub output_front : (a b : Option (List ℕ)) (w : Written) (s : Status) → IsOutput a b w s → AppendsPrefix a b (whole w)
+pub output_front : (a b : Option (List ℕ)) (w : RunText) (s : Status) → IsOutput a b w s → AppendsPrefix a b (whole w)
 output_front a b w status.Done t = Appends-front a b _ t.1
 output_front a b w (status.BadLine n) t = Appends-front a b _ t.1
 output_front a b w (status.Full n) t = Appends-front a b _ t.1
@@ -58,7 +58,7 @@ output_front a b w status.WriteFault t = t
 output_front a b w status.NoMemory t = t
 output_front a b w status.Usage t = absurd t
 
-pub output_keeps : (a b c : Option (List ℕ)) (w : Written) (s : Status) → IsOutput a b w s → Keeps b c → IsOutput a c w s
+pub output_keeps : (a b c : Option (List ℕ)) (w : RunText) (s : Status) → IsOutput a b w s → Keeps b c → IsOutput a c w s
 output_keeps a b c w status.Done t k = (t.0, Appends-keeps a b c _ t.1 k)
 output_keeps a b c w (status.BadLine n) t k = (t.0, Appends-keeps a b c _ t.1 k)
 output_keeps a b c w (status.Full n) t k = (t.0, Appends-keeps a b c _ t.1 k)
@@ -68,11 +68,11 @@ output_keeps a b c w status.NoMemory t k = AppendsPrefix-keeps a b c _ t k
 output_keeps a b c w status.Usage t k = t
 
 -- and then a write failed
-pub output_faulted : (a b c : Option (List ℕ)) (w : Written) (s : Status) → IsOutput a b w s → Keeps b c → IsOutput a c w status.WriteFault
+pub output_faulted : (a b c : Option (List ℕ)) (w : RunText) (s : Status) → IsOutput a b w s → Keeps b c → IsOutput a c w status.WriteFault
 output_faulted a b c w s t k = AppendsPrefix-keeps a b c _ (output_front a b w s t) k
 
 -- once the buffer has given its sink back
-pub output_through : (before start opened closed now : Option (List ℕ)) (gathered : List ℕ) (w : Written) (s : Status)
+pub output_through : (before start opened closed now : Option (List ℕ)) (gathered : List ℕ) (w : RunText) (s : Status)
     → before ≡ start → opened ≡ before → (s ≢ status.WriteFault → gathered ≡ []) → (gathered ≡ [] → now ≡ closed)
     → ((text : List ℕ) → AppendsPrefix start closed text → AppendsPrefix start now text) → IsOutput opened closed w s → IsOutput before now w s
 output_through before start opened closed now gathered w s is e all whole_is prefix t = by_status s all t

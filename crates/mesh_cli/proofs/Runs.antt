@@ -3,7 +3,7 @@ use Rattle.std.proofs.Common.{◌≡◌, ◌≢◌, ℕ, Bool, false, List, Opti
 use Rattle.mesh_base.specs.declared.events.Variant.{Variant}
 use Rattle.mesh_io.specs.Cause.{Rose}
 use Rattle.mesh_text.specs.Schedule.{Moment, opening}
-use Rattle.mesh_text.specs.Text.{Written, Finished, text_on, text_of_input}
+use Rattle.mesh_text.specs.Text.{RunText, Finished, text_on, text_of_input}
 use Rattle.mesh_text.proofs.RunLaws.{runs_are_loop_free}
 use Rattle.mesh_make.proofs.Allowed.{made_allowed}
 use Rattle.mesh_run.specs.declared.status.Status.{Status}
@@ -45,7 +45,7 @@ trial_so variant plan left after a b s t = (t, λ k d. runs_are_loop_free varian
 -- ---- completeness
 
 -- where nothing has failed, and each line is allowed and no counter full, a run is done, unless memory runs out
-run_completes : (say : Say) (w : Written) (a b : Option (List ℕ)) (s : Status) → (s ≡ status.ReadFault → ⊥) → (s ≡ status.WriteFault → ⊥) → IsOutput a b (part say w) s → w.verdict ≡ Finished → IsDoneOrShort s
+run_completes : (say : Say) (w : RunText) (a b : Option (List ℕ)) (s : Status) → (s ≡ status.ReadFault → ⊥) → (s ≡ status.WriteFault → ⊥) → IsOutput a b (part say w) s → w.verdict ≡ Finished → IsDoneOrShort s
 run_completes say w a b status.Done read write t finished = inl refl
 run_completes All w a b (status.BadLine n) read write t finished = absurd (let clash = sym finished ∙ t.0 in let P : ⊥ = cc in P)
 run_completes Last w a b (status.BadLine n) read write t finished = absurd (let clash = sym finished ∙ t.0 in let P : ⊥ = cc in P)

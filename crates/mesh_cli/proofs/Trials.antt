@@ -5,7 +5,7 @@ use Rattle.mesh_base.specs.declared.events.Variant.{Variant}
 use Rattle.mesh_io.proofs.Writing.{Appends-join}
 use Rattle.mesh_grammar.specs.Lines.{pieces_of}
 use Rattle.mesh_text.specs.Schedule.{Moment, opening}
-use Rattle.mesh_text.specs.Text.{Written, LineOutcome, On, goes_on, finished_run, text_from, text_on, text_of_input}
+use Rattle.mesh_text.specs.Text.{RunText, LineOutcome, On, goes_on, finished_run, text_from, text_on, text_of_input}
 use Rattle.mesh_run.specs.declared.say.Say.TheVariants.{Last}
 use Rattle.mesh_run.specs.declared.status.Status.{Status}
 use Rattle.mesh_run.specs.Runs.{IsLineDone}
@@ -13,15 +13,15 @@ use Rattle.mesh_run.specs.Outputs.{part, IsOutput}
 use Rattle.mesh_run.proofs.Telling.{told_before}
 
 -- where a text runs on by a line, the rest of a run says the same last line
-pub said_on : (v : Written) (m n : Moment) (k : LineOutcome) (text : List ℕ) (others : Moment → Written) → v ≡ goes_on m k others → k ≡ On text n → part Last (others n) ≡ part Last v
+pub said_on : (v : RunText) (m n : Moment) (k : LineOutcome) (text : List ℕ) (others : Moment → RunText) → v ≡ goes_on m k others → k ≡ On text n → part Last (others n) ≡ part Last v
 said_on v m n k text others goes on = sym (ap (part Last) (goes ∙ ap (λ c. goes_on m c others) on))
 
 -- what is told after nothing was written
-pub told_here : (v w : Written) (a b c : Option (List ℕ)) (s : Status) → part Last v ≡ part Last w → Appends a b [] → IsOutput b c (part Last v) s → IsOutput a c (part Last w) s
+pub told_here : (v w : RunText) (a b c : Option (List ℕ)) (s : Status) → part Last v ≡ part Last w → Appends a b [] → IsOutput b c (part Last v) s → IsOutput a c (part Last w) s
 told_here v w a b c s same none t = told_before Last w w [] a b c s refl none (subst (λ x. IsOutput b c x s) same t)
 
 -- the same where a line ends the run
-pub told_on : (v x w : Written) (a b c : Option (List ℕ)) (s : Status) → v ≡ x → part Last v ≡ part Last w → Appends a b [] → IsOutput b c (part Last x) s → IsOutput a c (part Last w) s
+pub told_on : (v x w : RunText) (a b c : Option (List ℕ)) (s : Status) → v ≡ x → part Last v ≡ part Last w → Appends a b [] → IsOutput b c (part Last x) s → IsOutput a c (part Last w) s
 told_on v x w a b c s goes same none t = told_here v w a b c s same none (subst (λ y. IsOutput b c (part Last y) s) (sym goes) t)
 
 -- one line more of which nothing is written

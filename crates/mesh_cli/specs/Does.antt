@@ -3,7 +3,7 @@ use Rattle.std.specs.Prelude.{ℕ, ◌≡◌, ◌⊎◌, true, false, Bool, List
 use Rattle.std.specs.Io.KnownBytes.{Appends, IsAtEnd}
 use Rattle.mesh_io.specs.Puts.{AppendsPrefix}
 use Rattle.mesh_base.specs.declared.events.Variant.{Variant}
-use Rattle.mesh_make.specs.Made.{made}
+use Rattle.mesh_make.specs.Made.{made_schedule}
 use Rattle.mesh_model.specs.Walks.{Cycle}
 use Rattle.mesh_text.specs.Schedule.{opening}
 use Rattle.mesh_text.specs.Text.{text_of_input, Finished}
@@ -18,7 +18,7 @@ use Rattle.mesh_cli.specs.declared.words.Command.TheVariants.{Run, Make, Trial}
 
 -- the schedule that is made
 abbrev pub made_by : Plan → List ℕ
-made_by plan = made plan.seed plan.nodes plan.steps
+made_by plan = made_schedule plan.seed plan.nodes plan.steps
 
 -- in no world to which the run of a schedule comes, after any number of its events, has a
 -- destination a loop

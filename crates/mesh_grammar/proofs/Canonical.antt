@@ -10,7 +10,7 @@ use Rattle.std.proofs.lemmas.Option.{option_and_then_some}
 use Rattle.std.proofs.lemmas.List.Splits.{join_with_byte-slice_split}
 use Rattle.mesh_base.specs.Numbers.{read_on, is_canonical, digits_up_to, number_up_to, positive}
 use Rattle.mesh_base.specs.Parts.{parts}
-use Rattle.mesh_base.specs.Addresses.{address_of, address_from, dotted}
+use Rattle.mesh_base.specs.Addresses.{address_of, address_from, dotted_decimal}
 use Rattle.mesh_base.proofs.NumberLaws.{read_on-ge}
 use Rattle.mesh_base.proofs.OctetLaws.{digit_range}
 use Rattle.mesh_base.proofs.Readings.{number_up_to-le}
@@ -95,7 +95,7 @@ positive_is_written most word n h fits = number_is_written most word n (positive
 
 four_are_written : (a b c d : List ℕ) (w x y z : ℕ) → w ≤ 255 → x ≤ 255 → y ≤ 255 → z ≤ 255
     → decimal w ≡ a → decimal x ≡ b → decimal y ≡ c → decimal z ≡ d
-    → dotted (16777216 * w + 65536 * x + 256 * y + z) ≡ join_with_byte 46 (a ∷ b ∷ c ∷ d ∷ [])
+    → dotted_decimal (16777216 * w + 65536 * x + 256 * y + z) ≡ join_with_byte 46 (a ∷ b ∷ c ∷ d ∷ [])
 four_are_written a b c d w x y z w_le x_le y_le z_le a_is b_is c_is d_is =
     let n : ℕ = 16777216 * w + 65536 * x + 256 * y + z in
     let first : n / 16777216 ≡ w = omega arith in
@@ -113,7 +113,7 @@ octet_is_written word n h =
     let le = number_up_to-le 255 word n h in
     (le, number_is_written 255 word n h (omega arith))
 
-four_stand : (a b c d : List ℕ) (n : ℕ) → address_from (a ∷ b ∷ c ∷ d ∷ []) ≡ Some n → dotted n ≡ join_with_byte 46 (a ∷ b ∷ c ∷ d ∷ [])
+four_stand : (a b c d : List ℕ) (n : ℕ) → address_from (a ∷ b ∷ c ∷ d ∷ []) ≡ Some n → dotted_decimal n ≡ join_with_byte 46 (a ∷ b ∷ c ∷ d ∷ [])
 unfolding address_from
 four_stand a b c d n h =
     option_and_then_some _ (number_up_to 255 a) n h (λ w w_is h1.
@@ -125,9 +125,9 @@ four_stand a b c d n h =
     let second = octet_is_written b x x_is in
     let third = octet_is_written c y y_is in
     let fourth = octet_is_written d z z_is in
-    ap dotted same ∙ four_are_written a b c d w x y z first.0 second.0 third.0 fourth.0 first.1 second.1 third.1 fourth.1))))
+    ap dotted_decimal same ∙ four_are_written a b c d w x y z first.0 second.0 third.0 fourth.0 first.1 second.1 third.1 fourth.1))))
 
-from_is_written : (ps : List (List ℕ)) (n : ℕ) → address_from ps ≡ Some n → dotted n ≡ join_with_byte 46 ps
+from_is_written : (ps : List (List ℕ)) (n : ℕ) → address_from ps ≡ Some n → dotted_decimal n ≡ join_with_byte 46 ps
 unfolding address_from
 from_is_written [] n h = absurd (let P : ⊥ = cc in P)
 from_is_written (a ∷ []) n h = absurd (let P : ⊥ = cc in P)
@@ -136,6 +136,6 @@ from_is_written (a ∷ b ∷ c ∷ []) n h = absurd (let P : ⊥ = cc in P)
 from_is_written (a ∷ b ∷ c ∷ d ∷ []) n h = four_stand a b c d n h
 from_is_written (a ∷ b ∷ c ∷ d ∷ e ∷ ps) n h = absurd (let P : ⊥ = cc in P)
 
-pub address_is_written : (word : List ℕ) (n : ℕ) → address_of word ≡ Some n → dotted n ≡ word
+pub address_is_written : (word : List ℕ) (n : ℕ) → address_of word ≡ Some n → dotted_decimal n ≡ word
 unfolding address_of
 address_is_written word n h = from_is_written (parts 46 word) n h ∙ join_with_byte-slice_split 46 word

@@ -8,7 +8,7 @@ use Rattle.std.proofs.lemmas.Bool.{and_parts}
 use Rattle.std.proofs.lemmas.List.Splits.{join_with_byte-slice_split}
 use Rattle.std.proofs.lemmas.Slice.Eq.{bytes_eq-Decides}
 use Rattle.mesh_base.specs.declared.limits.TheConstants.{LONGEST_DATUM}
-use Rattle.mesh_base.specs.Addresses.{address_of, dotted}
+use Rattle.mesh_base.specs.Addresses.{address_of, dotted_decimal}
 use Rattle.mesh_base.specs.Numbers.{number_up_to, positive}
 use Rattle.mesh_base.specs.Parts.{parts}
 use Rattle.mesh_base.proofs.Readings.{positive_in_range, address_fits}
@@ -19,7 +19,7 @@ use Rattle.mesh_grammar.specs.declared.form.Form.TheVariants as form
 use Rattle.mesh_grammar.specs.Words.{Mention, span_at, next_at, with_argument, address_at, number_at, are_printable, is_text, text_of, text_at, is_blank}
 use Rattle.mesh_grammar.specs.Forms.{Arguments, NoArgument, OneAddress, TwoAddresses, OneNumber, NumberedAddress, AddressesAndText, AddressAndNumber, AddressAndText, greatest_first, no_argument, one_address, two_addresses, one_number, address_sn, numbered_address, addresses_and_text, address_and_number, address_and_text, arguments_of, IsText, AreOfForm}
 use Rattle.mesh_grammar.specs.Scripts.{Row, Shape, row_in, shape_with, by_row, by_words, shape_by}
-use Rattle.mesh_grammar.specs.Written.{written}
+use Rattle.mesh_grammar.specs.Written.{command_text}
 use Rattle.mesh_grammar.specs.Laws.{HaveAddresses, IsReadable, AreReadable, addresses_of, IsTextOf, IsRead, ReadLineIsWritten}
 use Rattle.mesh_grammar.proofs.Canonical.{positive_is_written, address_is_written}
 
@@ -65,7 +65,7 @@ Given f words (Ok arguments) = IsGiven f words arguments
 
 module _ (f : Form) (words : List (List ℕ)) where
   address_case : (at : ℕ) (word : List ℕ) (next : Mention → Result (Arguments Mention) LineFault)
-      → ((m : Mention) → m.address < 2 ^ 32 → dotted m.address ≡ word → Given f words (next m)) → Given f words (address_at at word next)
+      → ((m : Mention) → m.address < 2 ^ 32 → dotted_decimal m.address ≡ word → Given f words (next m)) → Given f words (address_at at word next)
   unfolding Given
   address_case at word next given =
       with_argument_case (Given f words) (address_of word) (BadAddress (span_at at word)) (λ x. next (record { address = x; span = span_at at word })) tt
@@ -90,12 +90,12 @@ module _ (f : Form) (words : List (List ℕ)) where
       subst (λ text. Given f words (next text)) both.1 (given (is_text_if bytes both.0)))
 
 none_given : (words : List (List ℕ)) → Given form.Bare words (no_argument words NoArgument)
-unfolding Given written
+unfolding Given command_text
 none_given [] = record { form = tt; addresses = tt; text = λ word. refl }
 none_given (w ∷ ws) = tt
 
 one_given : (at : ℕ) (words : List (List ℕ)) → Given form.Address words (one_address at words OneAddress)
-unfolding Given written
+unfolding Given command_text
 one_given at [] = tt
 one_given at (a ∷ []) =
     address_case form.Address (a ∷ []) at a (λ m. Ok (OneAddress m)) (λ m fits is.
@@ -106,7 +106,7 @@ pub two_texts : (word a b : List ℕ) → word ++ 32 ∷ (a ++ 32 ∷ b) ≡ wor
 two_texts word a b = simp append_assoc
 
 two_given : (at : ℕ) (words : List (List ℕ)) → Given form.Addresses words (two_addresses at words TwoAddresses)
-unfolding Given written
+unfolding Given command_text
 two_given at [] = tt
 two_given at (a ∷ []) = tt
 two_given at (a ∷ b ∷ []) =
@@ -116,7 +116,7 @@ two_given at (a ∷ b ∷ []) =
 two_given at (a ∷ b ∷ c ∷ ws) = tt
 
 number_given : (most at : ℕ) (words : List (List ℕ)) → most < 2 ^ 64 → Given (form.Number most) words (one_number most at words OneNumber)
-unfolding Given written
+unfolding Given command_text
 number_given most at [] fits = tt
 number_given most at (n ∷ []) fits =
     number_case (form.Number most) (n ∷ []) most at n (λ k. Ok (OneNumber k)) fits (λ k one le is.
@@ -127,7 +127,7 @@ pub sn_text : (word a n : List ℕ) → word ++ 32 ∷ (a ++ 32 ∷ (codes "sn" 
 sn_text word a n = simp append_assoc
 
 sn_given : (at : ℕ) (a sn n : List ℕ) → Given form.Numbered (a ∷ sn ∷ n ∷ []) (address_sn at a sn n NumberedAddress)
-unfolding Given written
+unfolding Given command_text
 sn_given at a sn n =
     let ws : List (List ℕ) = a ∷ sn ∷ n ∷ [] in
     let third : ℕ = next_at (next_at at a) sn in
@@ -140,7 +140,7 @@ sn_given at a sn n =
     (λ _. tt)
 
 numbered_given : (at : ℕ) (words : List (List ℕ)) → Given form.Numbered words (numbered_address at words NumberedAddress)
-unfolding Given written numbered_address
+unfolding Given command_text numbered_address
 numbered_given at [] = tt
 numbered_given at (a ∷ []) =
     address_case form.Numbered (a ∷ []) at a (λ m. Ok (NumberedAddress m 1)) (λ m fits is.
@@ -153,7 +153,7 @@ pub three_texts : (word a b c : List ℕ) → word ++ 32 ∷ (a ++ 32 ∷ (b ++ 
 three_texts word a b c = simp append_assoc
 
 text_given : (at : ℕ) (words : List (List ℕ)) → Given form.Text words (addresses_and_text at words AddressesAndText)
-unfolding Given written addresses_and_text
+unfolding Given command_text addresses_and_text
 text_given at [] = tt
 text_given at (a ∷ []) = tt
 text_given at (a ∷ b ∷ []) = tt
@@ -169,7 +169,7 @@ text_given at (a ∷ b ∷ t ∷ ts) =
 
 address_number_given : (most at : ℕ) (words : List (List ℕ)) → most < 2 ^ 64
     → Given (form.AddressNumber most) words (address_and_number most at words AddressAndNumber)
-unfolding Given written
+unfolding Given command_text
 address_number_given most at [] fits = tt
 address_number_given most at (a ∷ []) fits = tt
 address_number_given most at (a ∷ n ∷ []) fits =
@@ -181,7 +181,7 @@ address_number_given most at (a ∷ n ∷ []) fits =
 address_number_given most at (a ∷ n ∷ w ∷ ws) fits = tt
 
 address_text_given : (at : ℕ) (words : List (List ℕ)) → Given form.AddressText words (address_and_text at words AddressAndText)
-unfolding Given written address_and_text
+unfolding Given command_text address_and_text
 address_text_given at [] = tt
 address_text_given at (a ∷ []) = tt
 address_text_given at (a ∷ t ∷ ts) =

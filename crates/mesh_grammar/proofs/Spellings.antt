@@ -6,7 +6,7 @@ use Rattle.std.proofs.lemmas.Bool.{ne_eqb, le-leb, and_from}
 use Rattle.std.proofs.lemmas.List.Splits.{length-slice_split, join_with_byte-slice_split}
 use Rattle.mesh_base.specs.declared.limits.TheConstants.{LONGEST_DATUM}
 use Rattle.mesh_base.specs.Parts.{parts}
-use Rattle.mesh_base.specs.Addresses.{dotted}
+use Rattle.mesh_base.specs.Addresses.{dotted_decimal}
 use Rattle.mesh_base.proofs.Spelling.{Lacks, one_lacks, parts_at, parts_none, decimal_lacks, dotted_lacks, positive-decimal, address_of-dotted}
 use Rattle.mesh_grammar.specs.declared.fault.LineFault.{LineFault}
 use Rattle.mesh_grammar.specs.declared.fault.LineFault.TheVariants.{BadAddress, BadNumber, BadText}
@@ -15,16 +15,16 @@ use Rattle.mesh_grammar.specs.declared.form.Form.TheVariants as form
 use Rattle.mesh_grammar.specs.Words.{Mention, span_at, next_at, with_argument, address_at, number_at, are_printable, is_text, text_of, text_at, is_blank}
 use Rattle.mesh_grammar.specs.Forms.{Arguments, NoArgument, OneAddress, TwoAddresses, OneNumber, NumberedAddress, AddressesAndText, AddressAndNumber, AddressAndText, greatest_first, numbered_address, addresses_and_text, address_and_text, arguments_of, IsText, AreOfForm}
 use Rattle.mesh_grammar.specs.Scripts.{Row, row_in, shape_with, by_row, by_words, shape_by}
-use Rattle.mesh_grammar.specs.Written.{written}
+use Rattle.mesh_grammar.specs.Written.{command_text}
 use Rattle.mesh_grammar.proofs.Readings.{sn_text, two_texts, three_texts}
-use Rattle.mesh_grammar.specs.Laws.{mention, after_address, mentioned, HaveAddresses, IsReadable, WrittenLineIsRead}
+use Rattle.mesh_grammar.specs.Laws.{mention, after_address, as_mentions, HaveAddresses, IsReadable, WrittenLineIsRead}
 
 -- ---- one argument
 
-pub address_there : {B : Type 0} (at a : ℕ) (next : Mention → Result B LineFault) → a < 2 ^ 32 → address_at at (dotted a) next ≡ next (mention at a)
+pub address_there : {B : Type 0} (at a : ℕ) (next : Mention → Result B LineFault) → a < 2 ^ 32 → address_at at (dotted_decimal a) next ≡ next (mention at a)
 address_there {B} at a next fits =
-    let next_of : ℕ → Result B LineFault = λ n. next (record { address = n; span = span_at at (dotted a) }) in
-    ap (λ o. with_argument o (BadAddress (span_at at (dotted a))) next_of) (address_of-dotted a fits)
+    let next_of : ℕ → Result B LineFault = λ n. next (record { address = n; span = span_at at (dotted_decimal a) }) in
+    ap (λ o. with_argument o (BadAddress (span_at at (dotted_decimal a))) next_of) (address_of-dotted a fits)
 
 pub number_there : {B : Type 0} (most at n : ℕ) (next : ℕ → Result B LineFault) → 1 ≤ n → n ≤ most → n < 2 ^ 64 → number_at most at (decimal n) next ≡ next n
 number_there most at n next one le fits = ap (λ o. with_argument o (BadNumber (span_at at (decimal n))) next) (positive-decimal most n one le fits)
@@ -49,13 +49,13 @@ text_there at body next is = ap (λ o. with_argument o (BadText (span_at at body
 
 words_in : Arguments ℕ → List (List ℕ)
 words_in NoArgument = []
-words_in (OneAddress a) = dotted a ∷ []
-words_in (TwoAddresses a b) = dotted a ∷ dotted b ∷ []
+words_in (OneAddress a) = dotted_decimal a ∷ []
+words_in (TwoAddresses a b) = dotted_decimal a ∷ dotted_decimal b ∷ []
 words_in (OneNumber n) = decimal n ∷ []
-words_in (NumberedAddress a first) = dotted a ∷ codes "sn" ∷ decimal first ∷ []
-words_in (AddressesAndText a b text) = dotted a ∷ dotted b ∷ parts 32 text
-words_in (AddressAndNumber a n) = dotted a ∷ decimal n ∷ []
-words_in (AddressAndText a text) = dotted a ∷ parts 32 text
+words_in (NumberedAddress a first) = dotted_decimal a ∷ codes "sn" ∷ decimal first ∷ []
+words_in (AddressesAndText a b text) = dotted_decimal a ∷ dotted_decimal b ∷ parts 32 text
+words_in (AddressAndNumber a n) = dotted_decimal a ∷ decimal n ∷ []
+words_in (AddressAndText a text) = dotted_decimal a ∷ parts 32 text
 
 -- numbers have at most 64 bits
 HaveNumbers : Arguments ℕ → Type 0
@@ -65,58 +65,58 @@ HaveNumbers (AddressAndNumber a n) = n < 2 ^ 64
 HaveNumbers others = Unit {0}
 
 module _ (word : List ℕ) (lacks : Lacks 32 word) where
-  after_name : (a : ℕ) (rest : List ℕ) → a < 2 ^ 32 → parts 32 (word ++ 32 ∷ (dotted a ++ 32 ∷ rest)) ≡ word ∷ dotted a ∷ parts 32 rest
+  after_name : (a : ℕ) (rest : List ℕ) → a < 2 ^ 32 → parts 32 (word ++ 32 ∷ (dotted_decimal a ++ 32 ∷ rest)) ≡ word ∷ dotted_decimal a ∷ parts 32 rest
   after_name a rest fits =
-      parts_at 32 word (dotted a ++ 32 ∷ rest) lacks
-      ∙ ap (λ ws. word ∷ ws) (parts_at 32 (dotted a) rest (dotted_lacks 32 a (omega arith) fits))
+      parts_at 32 word (dotted_decimal a ++ 32 ∷ rest) lacks
+      ∙ ap (λ ws. word ∷ ws) (parts_at 32 (dotted_decimal a) rest (dotted_lacks 32 a (omega arith) fits))
 
-  only_name : (a : ℕ) → a < 2 ^ 32 → parts 32 (dotted a) ≡ dotted a ∷ []
-  only_name a fits = parts_none 32 (dotted a) (dotted_lacks 32 a (omega arith) fits)
+  only_name : (a : ℕ) → a < 2 ^ 32 → parts 32 (dotted_decimal a) ≡ dotted_decimal a ∷ []
+  only_name a fits = parts_none 32 (dotted_decimal a) (dotted_lacks 32 a (omega arith) fits)
 
   only_number : (n : ℕ) → n < 2 ^ 64 → parts 32 (decimal n) ≡ decimal n ∷ []
   only_number n fits = parts_none 32 (decimal n) (decimal_lacks 32 n (omega arith) fits)
 
-  words_written : (arguments : Arguments ℕ) → HaveAddresses arguments → HaveNumbers arguments → parts 32 (written word arguments) ≡ word ∷ words_in arguments
-  unfolding written words_in HaveNumbers
+  words_written : (arguments : Arguments ℕ) → HaveAddresses arguments → HaveNumbers arguments → parts 32 (command_text word arguments) ≡ word ∷ words_in arguments
+  unfolding command_text words_in HaveNumbers
   words_written NoArgument fit low = parts_none 32 word lacks
-  words_written (OneAddress a) fit low = parts_at 32 word (dotted a) lacks ∙ ap (λ ws. word ∷ ws) (only_name a fit)
+  words_written (OneAddress a) fit low = parts_at 32 word (dotted_decimal a) lacks ∙ ap (λ ws. word ∷ ws) (only_name a fit)
   words_written (TwoAddresses a b) fit low =
-      ap (parts 32) (append_assoc word (32 ∷ dotted a) (32 ∷ dotted b))
-      ∙ after_name a (dotted b) fit.0
-      ∙ ap (λ ws. word ∷ dotted a ∷ ws) (only_name b fit.1)
+      ap (parts 32) (append_assoc word (32 ∷ dotted_decimal a) (32 ∷ dotted_decimal b))
+      ∙ after_name a (dotted_decimal b) fit.0
+      ∙ ap (λ ws. word ∷ dotted_decimal a ∷ ws) (only_name b fit.1)
   words_written (OneNumber n) fit low = parts_at 32 word (decimal n) lacks ∙ ap (λ ws. word ∷ ws) (only_number n low)
   words_written (NumberedAddress a first) fit low =
-      ap (parts 32) (sym (sn_text word (dotted a) (decimal first)))
+      ap (parts 32) (sym (sn_text word (dotted_decimal a) (decimal first)))
       ∙ after_name a (codes "sn" ++ 32 ∷ decimal first) fit
-      ∙ ap (λ ws. word ∷ dotted a ∷ codes "sn" ∷ ws) (only_number first low)
+      ∙ ap (λ ws. word ∷ dotted_decimal a ∷ codes "sn" ∷ ws) (only_number first low)
   words_written (AddressesAndText a b text) fit low =
-      ap (parts 32) (sym (three_texts word (dotted a) (dotted b) text))
-      ∙ after_name a (dotted b ++ 32 ∷ text) fit.0
-      ∙ ap (λ ws. word ∷ dotted a ∷ ws) (parts_at 32 (dotted b) text (dotted_lacks 32 b (omega arith) fit.1))
+      ap (parts 32) (sym (three_texts word (dotted_decimal a) (dotted_decimal b) text))
+      ∙ after_name a (dotted_decimal b ++ 32 ∷ text) fit.0
+      ∙ ap (λ ws. word ∷ dotted_decimal a ∷ ws) (parts_at 32 (dotted_decimal b) text (dotted_lacks 32 b (omega arith) fit.1))
   words_written (AddressAndNumber a n) fit low =
-      ap (parts 32) (sym (two_texts word (dotted a) (decimal n)))
+      ap (parts 32) (sym (two_texts word (dotted_decimal a) (decimal n)))
       ∙ after_name a (decimal n) fit
-      ∙ ap (λ ws. word ∷ dotted a ∷ ws) (only_number n low)
+      ∙ ap (λ ws. word ∷ dotted_decimal a ∷ ws) (only_number n low)
   words_written (AddressAndText a text) fit low =
-      ap (parts 32) (sym (two_texts word (dotted a) text)) ∙ after_name a text fit
+      ap (parts 32) (sym (two_texts word (dotted_decimal a) text)) ∙ after_name a text fit
 
 -- ---- the arguments of each form
 
 module _ (at : ℕ) where
-  one_there : (a : ℕ) → a < 2 ^ 32 → arguments_of form.Address at (dotted a ∷ []) ≡ Ok (OneAddress (mention at a))
+  one_there : (a : ℕ) → a < 2 ^ 32 → arguments_of form.Address at (dotted_decimal a ∷ []) ≡ Ok (OneAddress (mention at a))
   one_there a fits = address_there at a (λ x. Ok (OneAddress x)) fits
 
   two_there : (a b : ℕ) → a < 2 ^ 32 → b < 2 ^ 32
-      → arguments_of form.Addresses at (dotted a ∷ dotted b ∷ []) ≡ Ok (TwoAddresses (mention at a) (mention (after_address at a) b))
+      → arguments_of form.Addresses at (dotted_decimal a ∷ dotted_decimal b ∷ []) ≡ Ok (TwoAddresses (mention at a) (mention (after_address at a) b))
   two_there a b a_fits b_fits =
-      address_there at a (λ x. address_at (after_address at a) (dotted b) (λ y. Ok (TwoAddresses x y))) a_fits
+      address_there at a (λ x. address_at (after_address at a) (dotted_decimal b) (λ y. Ok (TwoAddresses x y))) a_fits
       ∙ address_there (after_address at a) b (λ y. Ok (TwoAddresses (mention at a) y)) b_fits
 
   count_there : (most n : ℕ) → most < 2 ^ 64 → 1 ≤ n → n ≤ most → arguments_of (form.Number most) at (decimal n ∷ []) ≡ Ok (OneNumber n)
   count_there most n fits one le = number_there most at n (λ k. Ok (OneNumber k)) one le (omega arith)
 
   numbered_there : (a first : ℕ) → a < 2 ^ 32 → 1 ≤ first → first ≤ greatest_first
-      → arguments_of form.Numbered at (dotted a ∷ codes "sn" ∷ decimal first ∷ []) ≡ Ok (NumberedAddress (mention at a) first)
+      → arguments_of form.Numbered at (dotted_decimal a ∷ codes "sn" ∷ decimal first ∷ []) ≡ Ok (NumberedAddress (mention at a) first)
   unfolding numbered_address
   numbered_there a first fits one le =
       let third : ℕ = next_at (after_address at a) (codes "sn") in
@@ -125,32 +125,32 @@ module _ (at : ℕ) where
 
   -- the words of the text, joined again
   text_joined : (a b : ℕ) (text : List ℕ) (ws : List (List ℕ)) → 1 ≤ length ws → join_with_byte 32 ws ≡ text → a < 2 ^ 32 → b < 2 ^ 32 → IsText text
-      → arguments_of form.Text at (dotted a ∷ dotted b ∷ ws) ≡ Ok (AddressesAndText (mention at a) (mention (after_address at a) b) text)
+      → arguments_of form.Text at (dotted_decimal a ∷ dotted_decimal b ∷ ws) ≡ Ok (AddressesAndText (mention at a) (mention (after_address at a) b) text)
   unfolding addresses_and_text
   text_joined a b text [] some joined a_fits b_fits is = absurd (omega arith)
   text_joined a b text (t ∷ ts) some joined a_fits b_fits is =
       let second : ℕ = after_address at a in
       let third : ℕ = after_address second b in
       let body : List ℕ = join_with_byte 32 (t ∷ ts) in
-      address_there at a (λ x. address_at second (dotted b) (λ y. text_at third body (λ z. Ok (AddressesAndText x y z)))) a_fits
+      address_there at a (λ x. address_at second (dotted_decimal b) (λ y. text_at third body (λ z. Ok (AddressesAndText x y z)))) a_fits
       ∙ address_there second b (λ y. text_at third body (λ z. Ok (AddressesAndText (mention at a) y z))) b_fits
       ∙ ap (λ l. text_at third l (λ z. Ok (AddressesAndText (mention at a) (mention second b) z))) joined
       ∙ text_there third text (λ z. Ok (AddressesAndText (mention at a) (mention second b) z)) is
 
   texts_there : (a b : ℕ) (text : List ℕ) → a < 2 ^ 32 → b < 2 ^ 32 → IsText text
-      → arguments_of form.Text at (dotted a ∷ dotted b ∷ parts 32 text) ≡ Ok (AddressesAndText (mention at a) (mention (after_address at a) b) text)
+      → arguments_of form.Text at (dotted_decimal a ∷ dotted_decimal b ∷ parts 32 text) ≡ Ok (AddressesAndText (mention at a) (mention (after_address at a) b) text)
   texts_there a b text a_fits b_fits is =
       text_joined a b text (parts 32 text) (omega (arith, length-slice_split (λ c. eqb c 32) text)) (join_with_byte-slice_split 32 text) a_fits b_fits is
 
   number_after : (most a n : ℕ) → most < 2 ^ 64 → a < 2 ^ 32 → 1 ≤ n → n ≤ most
-      → arguments_of (form.AddressNumber most) at (dotted a ∷ decimal n ∷ []) ≡ Ok (AddressAndNumber (mention at a) n)
+      → arguments_of (form.AddressNumber most) at (dotted_decimal a ∷ decimal n ∷ []) ≡ Ok (AddressAndNumber (mention at a) n)
   number_after most a n fits a_fits one le =
       address_there at a (λ x. number_at most (after_address at a) (decimal n) (λ k. Ok (AddressAndNumber x k))) a_fits
       ∙ number_there most (after_address at a) n (λ k. Ok (AddressAndNumber (mention at a) k)) one le (omega arith)
 
   -- the words of the text, joined again
   one_text_joined : (a : ℕ) (text : List ℕ) (ws : List (List ℕ)) → 1 ≤ length ws → join_with_byte 32 ws ≡ text → a < 2 ^ 32 → IsText text
-      → arguments_of form.AddressText at (dotted a ∷ ws) ≡ Ok (AddressAndText (mention at a) text)
+      → arguments_of form.AddressText at (dotted_decimal a ∷ ws) ≡ Ok (AddressAndText (mention at a) text)
   unfolding address_and_text
   one_text_joined a text [] some joined fits is = absurd (omega arith)
   one_text_joined a text (t ∷ ts) some joined fits is =
@@ -160,12 +160,12 @@ module _ (at : ℕ) where
       ∙ text_there second text (λ z. Ok (AddressAndText (mention at a) z)) is
 
   text_after : (a : ℕ) (text : List ℕ) → a < 2 ^ 32 → IsText text
-      → arguments_of form.AddressText at (dotted a ∷ parts 32 text) ≡ Ok (AddressAndText (mention at a) text)
+      → arguments_of form.AddressText at (dotted_decimal a ∷ parts 32 text) ≡ Ok (AddressAndText (mention at a) text)
   text_after a text fits is =
       one_text_joined a text (parts 32 text) (omega (arith, length-slice_split (λ c. eqb c 32) text)) (join_with_byte-slice_split 32 text) fits is
 
   arguments_there : (f : Form) (arguments : Arguments ℕ) → IsReadable f → AreOfForm f arguments → HaveAddresses arguments
-      → arguments_of f at (words_in arguments) ≡ Ok (mentioned at arguments)
+      → arguments_of f at (words_in arguments) ≡ Ok (as_mentions at arguments)
   unfolding words_in
   arguments_there form.Bare NoArgument readable is fit = refl
   arguments_there form.Address (OneAddress a) readable is fit = one_there a fit
@@ -200,8 +200,8 @@ not_shown true h = absurd (h refl)
 not_shown false h = refl
 
 -- a line that begins with a word is not blank
-begins : (word : List ℕ) (arguments : Arguments ℕ) → is_blank word ≢ true → is_blank (written word arguments) ≡ false
-unfolding written
+begins : (word : List ℕ) (arguments : Arguments ℕ) → is_blank word ≢ true → is_blank (command_text word arguments) ≡ false
+unfolding command_text
 begins [] arguments shown = absurd (shown refl)
 begins (b ∷ bs) NoArgument shown = not_shown (eqb b 35) shown
 begins (b ∷ bs) arguments shown = not_shown (eqb b 35) shown
@@ -226,7 +226,7 @@ pub written_line_is_read : (C : Type 0) → WrittenLineIsRead C
 written_line_is_read C rows row arguments is =
     let lacks : Lacks 32 row.word = lacks_space row.word is.word.whole in
     let numbers : HaveNumbers arguments = numbers_fit row.form arguments is.readable is.form in
-    line_there rows row (written row.word arguments) (words_in arguments) (mentioned (next_at 0 row.word) arguments)
+    line_there rows row (command_text row.word arguments) (words_in arguments) (as_mentions (next_at 0 row.word) arguments)
     (begins row.word arguments is.word.shown)
     (words_written row.word lacks arguments is.addresses numbers)
     is.found

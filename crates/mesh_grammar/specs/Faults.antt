@@ -5,11 +5,11 @@ use Rattle.mesh_grammar.specs.declared.fault.LineFault.{LineFault}
 use Rattle.mesh_grammar.specs.declared.fault.LineFault.TheVariants.{Word, Count, BadAddress, BadNumber, BadText, Late, Early, TwiceNode, TooManyNodes, Unknown, Same}
 use Rattle.mesh_grammar.specs.declared.fault.BadWhy.{BadWhy}
 use Rattle.mesh_grammar.specs.declared.fault.BadWhy.TheVariants.{Fault, TooLong, TooMuch}
-use Rattle.mesh_grammar.specs.Written.{line, labelled}
+use Rattle.mesh_grammar.specs.Written.{line, label_number}
 
 -- the bytes that a fault is about
 abbrev pub at_bytes : Span → List ℕ
-at_bytes span = labelled (codes " at bytes ") span.from ++ labelled (codes " to ") span.to
+at_bytes span = label_number (codes " at bytes ") span.from ++ label_number (codes " to ") span.to
 
 abbrev pub fault_text : LineFault → List ℕ
 fault_text (Word span) = codes "no command" ++ at_bytes span
@@ -31,4 +31,4 @@ why_text TooMuch = codes "input longer than 16777216 bytes"
 
 -- the last line of a run that a line has ended
 unfoldable pub bad_line : ℕ → BadWhy → List ℕ
-bad_line number why = line (labelled (codes "bad line ") number ++ codes ": " ++ why_text why)
+bad_line number why = line (label_number (codes "bad line ") number ++ codes ": " ++ why_text why)

@@ -1,35 +1,35 @@
 -- The statements that this crate proves of its definitions, for the table of any script.
 use Rattle.std.specs.Prelude.{◌≡◌, ◌≢◌, ◌<◌, ◌^◌, ◌⊎◌, ℕ, true, List, Some, Ok, ⊤}
 use Rattle.std.specs.List.{AllByRecursion}
-use Rattle.mesh_base.specs.Addresses.{dotted}
+use Rattle.mesh_base.specs.Addresses.{dotted_decimal}
 use Rattle.mesh_grammar.specs.declared.form.Form.{Form}
 use Rattle.mesh_grammar.specs.declared.form.Form.TheVariants as form
 use Rattle.mesh_grammar.specs.Words.{Mention, span_at, next_at, is_blank}
 use Rattle.mesh_grammar.specs.Forms.{Arguments, NoArgument, OneAddress, TwoAddresses, OneNumber, NumberedAddress, AddressesAndText, AddressAndNumber, AddressAndText, AreOfForm}
 use Rattle.mesh_grammar.specs.Scripts.{Row, Shape, row_in, shape_by}
-use Rattle.mesh_grammar.specs.Written.{written}
+use Rattle.mesh_grammar.specs.Written.{command_text}
 
 -- ---- what is written is read
 
 -- an address and where it stands
 abbrev pub mention : ℕ → ℕ → Mention
-mention at a = record { address = a; span = span_at at (dotted a) }
+mention at a = record { address = a; span = span_at at (dotted_decimal a) }
 
 -- where the word after an address stands
 abbrev pub after_address : ℕ → ℕ → ℕ
-after_address at a = next_at at (dotted a)
+after_address at a = next_at at (dotted_decimal a)
 
 -- written arguments, the first at this byte, as they are read
-abbrev pub mentioned : ℕ → Arguments ℕ → Arguments Mention
-mentioned at NoArgument = NoArgument
-mentioned at (OneAddress a) = OneAddress (mention at a)
-mentioned at (TwoAddresses a b) = TwoAddresses (mention at a) (mention (after_address at a) b)
-mentioned at (OneNumber n) = OneNumber n
-mentioned at (NumberedAddress a first) = NumberedAddress (mention at a) first
-mentioned at (AddressesAndText a b text) =
+abbrev pub as_mentions : ℕ → Arguments ℕ → Arguments Mention
+as_mentions at NoArgument = NoArgument
+as_mentions at (OneAddress a) = OneAddress (mention at a)
+as_mentions at (TwoAddresses a b) = TwoAddresses (mention at a) (mention (after_address at a) b)
+as_mentions at (OneNumber n) = OneNumber n
+as_mentions at (NumberedAddress a first) = NumberedAddress (mention at a) first
+as_mentions at (AddressesAndText a b text) =
     AddressesAndText (mention at a) (mention (after_address at a) b) text
-mentioned at (AddressAndNumber a n) = AddressAndNumber (mention at a) n
-mentioned at (AddressAndText a text) = AddressAndText (mention at a) text
+as_mentions at (AddressAndNumber a n) = AddressAndNumber (mention at a) n
+as_mentions at (AddressAndText a text) = AddressAndText (mention at a) text
 
 -- addresses have 32 bits
 abbrev pub HaveAddresses : Arguments ℕ → Type 0
@@ -69,10 +69,10 @@ pub record IsLine {C : Type 0} (rows : List (Row C)) (row : Row C) (arguments : 
 abbrev pub WrittenLineIsRead : (C : Type 0) → Type 0
 WrittenLineIsRead C = (rows : List (Row C)) (row : Row C) (arguments : Arguments ℕ)
     → IsLine rows row arguments
-    → shape_by rows (written row.word arguments)
+    → shape_by rows (command_text row.word arguments)
     ≡ Ok (Some (record {
       command = row.command;
-      arguments = mentioned (next_at 0 row.word) arguments;
+      arguments = as_mentions (next_at 0 row.word) arguments;
     }))
 
 -- ---- what is read is as it is written
@@ -92,9 +92,9 @@ addresses_of (AddressAndText a text) = AddressAndText a.address text
 -- which is 1
 abbrev pub IsTextOf : List ℕ → List ℕ → Arguments ℕ → Type 0
 IsTextOf line word (NumberedAddress a first) =
-    (line ≡ written word (NumberedAddress a first))
-    ⊎ ((first ≡ 1) × (line ≡ written word (OneAddress a)))
-IsTextOf line word arguments = line ≡ written word arguments
+    (line ≡ command_text word (NumberedAddress a first))
+    ⊎ ((first ≡ 1) × (line ≡ command_text word (OneAddress a)))
+IsTextOf line word arguments = line ≡ command_text word arguments
 
 -- a row of the table that the line's first word finds, with what the line says after it
 pub record IsRead {C : Type 0} (rows : List (Row C)) (line : List ℕ) (s : Shape C Mention)

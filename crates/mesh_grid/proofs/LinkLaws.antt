@@ -24,7 +24,7 @@ use Rattle.mesh_grammar.specs.Lines.{Piece, Whole, Long, Beyond, pieces_of_input
 use Rattle.mesh_grammar.specs.Written.{line}
 use Rattle.mesh_grammar.proofs.Readings.{if_case}
 use Rattle.mesh_text.specs.Schedule as schedule
-use Rattle.mesh_text.specs.Schedule.{Accepted, Nothing, NewNode, Does, Chooses, ShowsNode, ShowsRoute, ShowsFlight, line_of, world_of, started, stepped, counted, outcome_at}
+use Rattle.mesh_text.specs.Schedule.{AcceptedLine, Nothing, NewNode, Does, Chooses, ShowsNode, ShowsRoute, ShowsFlight, line_of, world_of, with_world, next_moment, with_line_read, outcome_at}
 use Rattle.mesh_text.specs.Lines.{words_of}
 use Rattle.mesh_text.specs.Ranges.{IsInTime}
 use Rattle.mesh_text.specs.Auto as auto
@@ -39,9 +39,9 @@ use Rattle.mesh_text.proofs.MomentLaws.{world_after_events, mesh_after_events}
 use Rattle.mesh_grid.specs.declared.place.Place.{Place}
 use Rattle.mesh_grid.specs.declared.place.Places.{Places}
 use Rattle.mesh_grid.specs.declared.line.Placing.{Placing}
-use Rattle.mesh_grid.specs.Places.{apart, squared, no_places, place_of, with_place}
+use Rattle.mesh_grid.specs.Places.{apart, squared_distance, no_places, place_of, with_place}
 use Rattle.mesh_grid.specs.Lines.{placing_of}
-use Rattle.mesh_grid.specs.Links.{are_near, is_due, may_come, come}
+use Rattle.mesh_grid.specs.Links.{are_near, is_due, may_come, with_placing}
 use Rattle.mesh_grid.specs.Text.{Moment, opening, has_begun, changes, change_line, outcome_of_placing, other_line, outcome_by, outcome_of_piece, places_by, places_after, next}
 use Rattle.mesh_grid.specs.Runs.{moment_by, moment_from, moment_at}
 use Rattle.mesh_grid.specs.Laws.{LinksFollowPlaces, LinesAreLoopFree}
@@ -127,46 +127,46 @@ StaysRan : schedule.Moment → auto.EventsOutcome → Type 0
 StaysRan m (auto.Ended text n) = Stays m n
 StaysRan m (auto.Full text n e field) = Unit {0}
 
-stays_more : (m : schedule.Moment) (e : Event) (text : List ℕ) (r : auto.EventsOutcome) → KeepsLinks e → StaysRan (stepped m e) r → StaysRan m (auto.before text r)
-unfolding StaysRan stepped
+stays_more : (m : schedule.Moment) (e : Event) (text : List ℕ) (r : auto.EventsOutcome) → KeepsLinks e → StaysRan (next_moment m e) r → StaysRan m (auto.before text r)
+unfolding StaysRan next_moment
 stays_more m e text (auto.Ended others n) keeps is = record { links = is.links ∙ same_links (world_of m) e keeps; mesh = is.mesh }
 stays_more m e text (auto.Full others n f field) keeps is = tt
 
-stays_done : (m : schedule.Moment) (e : Event) (o : Outcome) (others : schedule.Moment → auto.EventsOutcome) → KeepsLinks e → StaysRan (stepped m e) (others (stepped m e)) → StaysRan m (auto.done_then m e o others)
+stays_done : (m : schedule.Moment) (e : Event) (o : Outcome) (others : schedule.Moment → auto.EventsOutcome) → KeepsLinks e → StaysRan (next_moment m e) (others (next_moment m e)) → StaysRan m (auto.done_then m e o others)
 unfolding StaysRan
-stays_done m e Idle others keeps is = stays_more m e _ (others (stepped m e)) keeps is
+stays_done m e Idle others keeps is = stays_more m e _ (others (next_moment m e)) keeps is
 stays_done m e (worlds.Full x field) others keeps is = tt
-stays_done m e (Next w happening) others keeps is = stays_more m e _ (others (stepped m e)) keeps is
+stays_done m e (Next w happening) others keeps is = stays_more m e _ (others (next_moment m e)) keeps is
 
 stays_events : (m : schedule.Moment) (es : List Event) → AllByRecursion KeepsLinks es → StaysRan m (auto.outcome_of_events m es)
 unfolding StaysRan auto.outcome_of_events
 stays_events m [] keeps = record { links = refl; mesh = refl }
-stays_events m (e ∷ es) keeps = stays_done m e (outcome_at m e) (λ n. auto.outcome_of_events n es) keeps.0 (stays_events (stepped m e) es keeps.1)
+stays_events m (e ∷ es) keeps = stays_done m e (outcome_at m e) (λ n. auto.outcome_of_events n es) keeps.0 (stays_events (next_moment m e) es keeps.1)
 
 chosen_keep : (most : ℕ) (m : schedule.Moment) → AllByRecursion KeepsLinks (auto.events_chosen most m)
 chosen_keep most m = each_chosen (λ n. Unit {0}) KeepsLinks (λ n _. picked_keeps (world_of n)) (λ n e keeps _. tt) most m tt
 
 -- a line that names no link
-NoLink : Accepted → Type 0
+NoLink : AcceptedLine → Type 0
 NoLink (Does e) = KeepsLinks e
 NoLink others = Unit {0}
 
 -- it leads to a moment with the same links of the same nodes; or it adds a node where no world is made
-IsNode : Accepted → Type 0
+IsNode : AcceptedLine → Type 0
 IsNode (NewNode address first) = Unit {0}
 IsNode others = ⊥
 
-StaysCame : schedule.Moment → Accepted → LineOutcome → Type 0
+StaysCame : schedule.Moment → AcceptedLine → LineOutcome → Type 0
 StaysCame m a (On text n) = Stays m n ⊎ (IsNode a × ((world_of n).links ≡ (world_of m).links))
 StaysCame m a (Refused why) = Unit {0}
 StaysCame m a (Full text n e field) = Unit {0}
 
-stays_by_events : (m : schedule.Moment) (a : Accepted) (r : auto.EventsOutcome) → StaysRan (started m) r → StaysCame m a (outcome_by_events r)
+stays_by_events : (m : schedule.Moment) (a : AcceptedLine) (r : auto.EventsOutcome) → StaysRan (with_world m) r → StaysCame m a (outcome_by_events r)
 unfolding StaysCame StaysRan
 stays_by_events m a (auto.Ended text n) is = inl (record { links = is.links; mesh = is.mesh })
 stays_by_events m a (auto.Full text n e field) is = tt
 
-stays_of_auto : (m : schedule.Moment) (a : Accepted) (text : List ℕ) (did : ℕ) (r : auto.EventsOutcome) → StaysRan (started m) r → StaysCame m a (outcome_of_auto text did r)
+stays_of_auto : (m : schedule.Moment) (a : AcceptedLine) (text : List ℕ) (did : ℕ) (r : auto.EventsOutcome) → StaysRan (with_world m) r → StaysCame m a (outcome_of_auto text did r)
 unfolding StaysCame StaysRan
 stays_of_auto m a text did (auto.Ended others n) is = inl (record { links = is.links; mesh = is.mesh })
 stays_of_auto m a text did (auto.Full others n e field) is = tt
@@ -177,22 +177,22 @@ unfolding start
 fresh_links m n none too =
     ap (λ o. (unwrap_or o (start n.variant (first_numbers n.mesh))).links) too ∙ sym (ap (λ o. (unwrap_or o (start m.variant (first_numbers m.mesh))).links) none)
 
-line_stays : (m : schedule.Moment) (a : Accepted) → NoLink a → IsInTime (is_some m.world) a → StaysCame m a (outcome_of_line m a)
+line_stays : (m : schedule.Moment) (a : AcceptedLine) → NoLink a → IsInTime (is_some m.world) a → StaysCame m a (outcome_of_line m a)
 unfolding NoLink StaysCame IsNode outcome_of_line
 line_stays m Nothing named early = inl (record { links = refl; mesh = refl })
 line_stays m (NewNode address first) named early =
     let none : m.world ≡ None = not_made m.world early in
-    inr (tt, fresh_links m (counted (record m { mesh = with_node m.mesh address first })) none none)
-line_stays m (Does e) named early = stays_by_events m (Does e) (auto.outcome_of_events (started m) (e ∷ [])) (stays_events (started m) (e ∷ []) (named, tt))
+    inr (tt, fresh_links m (with_line_read (record m { mesh = with_node m.mesh address first })) none none)
+line_stays m (Does e) named early = stays_by_events m (Does e) (auto.outcome_of_events (with_world m) (e ∷ [])) (stays_events (with_world m) (e ∷ []) (named, tt))
 line_stays m (Chooses count) named early =
-    let chosen : List Event = auto.events_chosen count (started m) in
-    stays_of_auto m (Chooses count) (line (words_of m.mesh (Chooses count))) (length chosen) (auto.outcome_of_events (started m) chosen) (stays_events (started m) chosen (chosen_keep count (started m)))
+    let chosen : List Event = auto.events_chosen count (with_world m) in
+    stays_of_auto m (Chooses count) (line (words_of m.mesh (Chooses count))) (length chosen) (auto.outcome_of_events (with_world m) chosen) (stays_events (with_world m) chosen (chosen_keep count (with_world m)))
 line_stays m (ShowsNode x) named early = inl (record { links = refl; mesh = refl })
 line_stays m (ShowsRoute x d) named early = inl (record { links = refl; mesh = refl })
 line_stays m ShowsFlight named early = inl (record { links = refl; mesh = refl })
 
 -- a line that is not about a place names no link
-other_named : (m : Moment) (bytes : List ℕ) (a : Accepted) → placing_of m.run.mesh bytes ≡ Ok None → other_line m bytes ≡ Ok a → NoLink a
+other_named : (m : Moment) (bytes : List ℕ) (a : AcceptedLine) → placing_of m.run.mesh bytes ≡ Ok None → other_line m bytes ≡ Ok a → NoLink a
 unfolding NoLink words_of
 other_named m bytes (Does e) other is =
     no_link_line m.run.mesh bytes e other (read_line_is_written_as_it_was m.run.mesh (has_begun m) bytes (Does e) is)
@@ -267,20 +267,20 @@ grown_linked reach m n is fresh links kept = record {
   early = is.early;
 }
 
-not_begun : (b s : Bool) (a : Accepted) → IsNode a → IsInTime (b || s) a → b ≡ false
+not_begun : (b s : Bool) (a : AcceptedLine) → IsNode a → IsInTime (b || s) a → b ≡ false
 unfolding IsNode
 not_begun true s (NewNode address first) node early = absurd (let P : ⊥ = cc in P)
 not_begun false s (NewNode address first) node early = refl
 not_begun b s others node early = absurd node
 
-came_linked : (reach : ℕ) (m : Moment) (a : Accepted) (c : LineOutcome) → Linked reach m → StaysCame m.run a c → IsKeptCame c → IsInTime (has_begun m) a → LinkedCame reach m.places c
+came_linked : (reach : ℕ) (m : Moment) (a : AcceptedLine) (c : LineOutcome) → Linked reach m → StaysCame m.run a c → IsKeptCame c → IsInTime (has_begun m) a → LinkedCame reach m.places c
 unfolding StaysCame LinkedCame IsKeptCame
 came_linked reach m a (On text n) is (inl stays) kept early = same_linked reach m n is stays kept
 came_linked reach m a (On text n) is (inr node) kept early = grown_linked reach m n is (not_begun m.places.begun (is_some m.run.world) a node.0 early) node.1 kept
 came_linked reach m a (Refused why) is stays kept early = tt
 came_linked reach m a (Full text n e field) is stays kept early = tt
 
-other_linked : (reach : ℕ) (m : Moment) (bytes : List ℕ) (r : Result Accepted LineFault) → Linked reach m → placing_of m.run.mesh bytes ≡ Ok None → other_line m bytes ≡ r
+other_linked : (reach : ℕ) (m : Moment) (bytes : List ℕ) (r : Result AcceptedLine LineFault) → Linked reach m → placing_of m.run.mesh bytes ≡ Ok None → other_line m bytes ≡ r
     → Allowed m.run.mesh (is_some m.run.world) r → Allowed m.run.mesh (has_begun m) r → IsKeptCame (outcome_of_read m.run r) → LinkedCame reach m.places (outcome_of_read m.run r)
 unfolding Allowed IsKeptCame LinkedCame
 other_linked reach m bytes (Ok a) is other reads allowed early kept =
@@ -295,7 +295,7 @@ near_turned reach (Some p) (Some q) = ap (λ d. leb d (reach * reach)) distance
     side : (m n : ℕ) → apart m n ≡ apart n m
     side m n = omega arith
 
-    distance : squared p q ≡ squared q p
+    distance : squared_distance p q ≡ squared_distance q p
     distance = ap₂ (λ i j. i * i + j * j) (side p.x q.x) (side p.y q.y)
 near_turned reach None None = refl
 near_turned reach None (Some q) = refl
@@ -406,15 +406,15 @@ module _ (reach : ℕ) (m : Moment) (new : Placing) (is : Linked reach m) (insid
           (linked_turned then.links a x ∙ linked_x a first ∙ due_turned reach moved x a)
       pairs a b (inr first) (inr second) = linked_others a b first second
 
-  placing_linked : (bytes : List ℕ) → IsKeptCame (outcome_of_placing reach m bytes new) → LinkedCame reach (come m.places new) (outcome_of_placing reach m bytes new)
+  placing_linked : (bytes : List ℕ) → IsKeptCame (outcome_of_placing reach m bytes new) → LinkedCame reach (with_placing m.places new) (outcome_of_placing reach m bytes new)
   unfolding IsKeptCame LinkedCame
   placing_linked bytes = by (may_come m.places new)
     where
-      by : (b : Bool) → IsKeptCame (cond b (On (line bytes ++ flat_map (change_line m.run.mesh) (changes reach m new)) (counted (moment_after m.run (changes reach m new)))) (On (line bytes ++ line (codes "  idle")) (counted m.run)))
+      by : (b : Bool) → IsKeptCame (cond b (On (line bytes ++ flat_map (change_line m.run.mesh) (changes reach m new)) (with_line_read (moment_after m.run (changes reach m new)))) (On (line bytes ++ line (codes "  idle")) (with_line_read m.run)))
           → LinkedCame reach (record (cond b moved m.places) { begun = true })
-          (cond b (On (line bytes ++ flat_map (change_line m.run.mesh) (changes reach m new)) (counted (moment_after m.run (changes reach m new)))) (On (line bytes ++ line (codes "  idle")) (counted m.run)))
+          (cond b (On (line bytes ++ flat_map (change_line m.run.mesh) (changes reach m new)) (with_line_read (moment_after m.run (changes reach m new)))) (On (line bytes ++ line (codes "  idle")) (with_line_read m.run)))
       by true kept =
-          moved_linked (counted (moment_after m.run (changes reach m new))) kept (ap (λ v. v.links) (world_after_events m.run (changes reach m new))) (mesh_after_events m.run (changes reach m new))
+          moved_linked (with_line_read (moment_after m.run (changes reach m new))) kept (ap (λ v. v.links) (world_after_events m.run (changes reach m new))) (mesh_after_events m.run (changes reach m new))
       by false kept = record {
         kept = kept;
         size = is.size;

@@ -1,7 +1,7 @@
 -- What a line about a place is read as, and that no line of a run with places changes a link by itself.
 use Rattle.std.proofs.Common.{◌≡◌, ℕ, ◌<◌, Bool, true, false, ◌||◌, eqb, List, [], ◌∷◌, ◌++◌, Option, Some, None, Result, Ok, Err, length, refl, sym, ap, ◌∙◌, codes}
 use Rattle.std.specs.Str.{bytes_eq}
-use Rattle.mesh_base.specs.Addresses.{address_of, dotted}
+use Rattle.mesh_base.specs.Addresses.{address_of, dotted_decimal}
 use Rattle.mesh_base.specs.Meshes.{Nodes, index_of, addr_at}
 use Rattle.mesh_base.specs.Numbers.{number_up_to}
 use Rattle.mesh_base.specs.Parts.{parts}
@@ -10,7 +10,7 @@ use Rattle.mesh_model.specs.Worlds.{Event, Link, Cut}
 use Rattle.mesh_grammar.specs.declared.fault.LineFault.{LineFault}
 use Rattle.mesh_grammar.specs.declared.fault.LineFault.TheVariants.{Word, BadAddress, BadNumber, Early, Unknown}
 use Rattle.mesh_grammar.specs.Words.{Mention, span_at, next_at}
-use Rattle.mesh_grammar.specs.Written.{written}
+use Rattle.mesh_grammar.specs.Written.{command_text}
 use Rattle.mesh_grammar.proofs.Readings.{with_argument_case, if_case}
 use Rattle.mesh_text.specs.Lines.{event_words}
 use Rattle.mesh_grid.specs.declared.place.TheConstants.{GREATEST_PLACE}
@@ -78,13 +78,13 @@ KeepsLinks (Cut a b) = ⊥
 KeepsLinks others = Unit {0}
 
 pub no_link_line : (mesh : Nodes) (line : List ℕ) (e : Event) → placing_of mesh line ≡ Ok None → line ≡ event_words mesh e → KeepsLinks e
-unfolding event_words written
+unfolding event_words command_text
 no_link_line mesh line (Link a b) other is =
-    let refused = link_refused mesh (dotted (addr_at mesh a) ++ 32 ∷ dotted (addr_at mesh b)) in
+    let refused = link_refused mesh (dotted_decimal (addr_at mesh a) ++ 32 ∷ dotted_decimal (addr_at mesh b)) in
     let clash : Ok None ≡ Err (Word (span_at 0 (codes "link"))) = sym other ∙ ap (placing_of mesh) is ∙ refused in
     let P : ⊥ = cc in P
 no_link_line mesh line (Cut a b) other is =
-    let refused = cut_refused mesh (dotted (addr_at mesh a) ++ 32 ∷ dotted (addr_at mesh b)) in
+    let refused = cut_refused mesh (dotted_decimal (addr_at mesh a) ++ 32 ∷ dotted_decimal (addr_at mesh b)) in
     let clash : Ok None ≡ Err (Word (span_at 0 (codes "cut"))) = sym other ∙ ap (placing_of mesh) is ∙ refused in
     let P : ⊥ = cc in P
 no_link_line mesh line others other is = tt

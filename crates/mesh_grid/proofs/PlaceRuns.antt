@@ -14,11 +14,11 @@ use Rattle.mesh_grammar.specs.Lines.{Piece, Whole, Long, Beyond, pieces_of_input
 use Rattle.mesh_grammar.specs.Written.{line}
 use Rattle.mesh_grammar.proofs.Readings.{if_case}
 use Rattle.mesh_text.specs.Schedule as schedule
-use Rattle.mesh_text.specs.Schedule.{Accepted, Nothing, NewNode, Does, Chooses, ShowsNode, ShowsRoute, ShowsFlight, line_of, world_of, stepped, counted}
+use Rattle.mesh_text.specs.Schedule.{AcceptedLine, Nothing, NewNode, Does, Chooses, ShowsNode, ShowsRoute, ShowsFlight, line_of, world_of, next_moment, with_line_read}
 use Rattle.mesh_text.specs.Ranges.{IsInTime}
 use Rattle.mesh_text.specs.Runs as runs
 use Rattle.mesh_text.specs.Runs.{moment_after, events_after, events_read}
-use Rattle.mesh_text.specs.Text.{LineOutcome, On, Refused, Full, outcome_of_read, Written, FullAt, goes_on, finished_run}
+use Rattle.mesh_text.specs.Text.{LineOutcome, On, Refused, Full, outcome_of_read, RunText, FullAt, goes_on, finished_run}
 use Rattle.mesh_text.specs.Text as text
 use Rattle.mesh_text.proofs.InRange.{Allowed, line_allowed}
 use Rattle.mesh_text.proofs.Moments.{IsKept, UsualList, all_positive, opening_kept, stepped_kept, counted_kept, IsKeptCame, piece_kept as schedule_kept}
@@ -66,27 +66,27 @@ below_usual size reach places near new (suc n) first le =
 -- ---- the moment after events
 
 after_kept : (m : schedule.Moment) (es : List Event) → UsualList (length m.mesh) es → IsKept m → IsKept (moment_after m es)
-unfolding moment_after UsualList stepped
+unfolding moment_after UsualList next_moment
 after_kept m [] usual is = is
-after_kept m (e ∷ es) usual is = after_kept (stepped m e) es usual.1 (stepped_kept m e usual.0 is)
+after_kept m (e ∷ es) usual is = after_kept (next_moment m e) es usual.1 (stepped_kept m e usual.0 is)
 
 after_variant : (m : schedule.Moment) (es : List Event) → (moment_after m es).variant ≡ m.variant
-unfolding moment_after stepped
+unfolding moment_after next_moment
 after_variant m [] = refl
-after_variant m (e ∷ es) = after_variant (stepped m e) es
+after_variant m (e ∷ es) = after_variant (next_moment m e) es
 
 after_made : (m : schedule.Moment) (es : List Event) → is_some m.world ≡ true → is_some (moment_after m es).world ≡ true
-unfolding moment_after stepped
+unfolding moment_after next_moment
 after_made m [] made = made
-after_made m (e ∷ es) made = after_made (stepped m e) es refl
+after_made m (e ∷ es) made = after_made (next_moment m e) es refl
 
-events_go : (m : schedule.Moment) (es : List Event) (text : List ℕ) → GoesBy m es (On text (counted (moment_after m es)))
-unfolding GoesBy moment_after stepped
+events_go : (m : schedule.Moment) (es : List Event) (text : List ℕ) → GoesBy m es (On text (with_line_read (moment_after m es)))
+unfolding GoesBy moment_after next_moment
 events_go m [] text = inl (record { variant = refl; mesh = λ _. refl; world = refl; none = refl; count = refl })
 events_go m (e ∷ es) text = inr (record {
   variant = after_variant m (e ∷ es);
   mesh = mesh_after_events m (e ∷ es);
-  made = after_made (stepped m e) es refl;
+  made = after_made (next_moment m e) es refl;
   world = world_after_events m (e ∷ es);
   count = count_after_events m (e ∷ es);
 })
@@ -108,8 +108,8 @@ placing_leads reach m bytes new within is = by (may_come m.places new)
     usual = below_usual (length m.run.mesh) reach m.places (range (world_of m.run) new.node) new (length m.run.mesh) within (omega arith)
 
     by : (b : Bool) → Leads m.run (cond b (changes reach m new) [])
-        (cond b (On (line bytes ++ flat_map (change_line m.run.mesh) (changes reach m new)) (counted (moment_after m.run (changes reach m new))))
-        (On (line bytes ++ line (codes "  idle")) (counted m.run)))
+        (cond b (On (line bytes ++ flat_map (change_line m.run.mesh) (changes reach m new)) (with_line_read (moment_after m.run (changes reach m new))))
+        (On (line bytes ++ line (codes "  idle")) (with_line_read m.run)))
     by true = record {
       goes = events_go m.run (changes reach m new) (line bytes ++ flat_map (change_line m.run.mesh) (changes reach m new));
       kept = counted_kept (moment_after m.run (changes reach m new)) (after_kept m.run (changes reach m new) usual is);
@@ -122,12 +122,12 @@ placing_leads reach m bytes new within is = by (may_come m.places new)
     }
 
 -- a line as in a schedule comes in time there too
-in_time : (b s : Bool) (a : Accepted) → IsInTime (b || s) a → IsInTime s a
+in_time : (b s : Bool) (a : AcceptedLine) → IsInTime (b || s) a → IsInTime s a
 in_time true s (NewNode address first) early = absurd (let P : ⊥ = cc in P)
 in_time false s (NewNode address first) early = early
 in_time b s others early = tt
 
-also_allowed : (mesh : Nodes) (b s : Bool) (r : Result Accepted LineFault) → Allowed mesh (b || s) r → Allowed mesh s r
+also_allowed : (mesh : Nodes) (b s : Bool) (r : Result AcceptedLine LineFault) → Allowed mesh (b || s) r → Allowed mesh s r
 unfolding Allowed
 also_allowed mesh b s (Ok a) allowed = (allowed.0, in_time b s a allowed.1)
 also_allowed mesh b s (Err f) allowed = tt
@@ -135,7 +135,7 @@ also_allowed mesh b s (Err f) allowed = tt
 pub other_allowed : (m : Moment) (bytes : List ℕ) → IsKept m.run → Allowed m.run.mesh (is_some m.run.world) (other_line m bytes)
 other_allowed m bytes is = also_allowed m.run.mesh m.places.begun (is_some m.run.world) (other_line m bytes) (line_allowed m.run.mesh (has_begun m) bytes is.mesh.few)
 
-other_kept : (reach : ℕ) (m : Moment) (bytes : List ℕ) (r : Result Accepted LineFault) → placing_of m.run.mesh bytes ≡ Ok None → other_line m bytes ≡ r → IsKept m.run
+other_kept : (reach : ℕ) (m : Moment) (bytes : List ℕ) (r : Result AcceptedLine LineFault) → placing_of m.run.mesh bytes ≡ Ok None → other_line m bytes ≡ r → IsKept m.run
     → IsKeptCame (outcome_of_read m.run r)
 unfolding IsKeptCame
 other_kept reach m bytes (Ok a) other reads is =
@@ -175,7 +175,7 @@ run_follows reach m (piece ∷ pieces) is =
     goes_follows m.run (events_of_piece reach m piece) (outcome_of_piece reach m piece) (λ n. text_from reach (next m piece n) pieces) (λ n. events_from reach (next m piece n) pieces)
     leads.goes leads.kept leads.usual (λ n kept. run_follows reach (next m piece n) pieces kept)
 
-goes_kept : (m : schedule.Moment) (c : LineOutcome) (others : schedule.Moment → Written) → IsKeptCame c → IsKept m
+goes_kept : (m : schedule.Moment) (c : LineOutcome) (others : schedule.Moment → RunText) → IsKeptCame c → IsKept m
     → ((n : schedule.Moment) → IsKept n → IsKept (others n).after) → IsKept (goes_on m c others).after
 unfolding IsKeptCame
 goes_kept m (On text n) others kept is rest = rest n kept

@@ -16,7 +16,7 @@ use Rattle.mesh_grammar.specs.Commands.{shape_of}
 use Rattle.mesh_grammar.specs.Lines.{Whole, Long, Beyond}
 use Rattle.mesh_grammar.proofs.Readings.{if_case}
 use Rattle.mesh_text.specs.Schedule as schedule
-use Rattle.mesh_text.specs.Schedule.{Accepted, line_of, accepted, accepted_shape, result_and_then, stepped}
+use Rattle.mesh_text.specs.Schedule.{AcceptedLine, line_of, accepted_line, accepted_shape, result_and_then, next_moment}
 use Rattle.mesh_text.specs.Runs.{moment_after}
 use Rattle.mesh_text.specs.Text.{LineOutcome, On, Refused, Full, outcome_of_read, outcome_of_line}
 use Rattle.mesh_text.specs.Text as text
@@ -25,7 +25,7 @@ use Rattle.mesh_grid.specs.declared.place.Places.{Places}
 use Rattle.mesh_grid.specs.declared.line.Placing.{Placing}
 use Rattle.mesh_grid.specs.Places.{is_within, place_of}
 use Rattle.mesh_grid.specs.Lines.{placing_of}
-use Rattle.mesh_grid.specs.Links.{change, change_with, change_at, changes_below, come}
+use Rattle.mesh_grid.specs.Links.{change, change_with, change_at, changes_below, with_placing}
 use Rattle.mesh_grid.specs.Text.{Moment, has_begun, outcome_of_placing, other_line, outcome_by, outcome_of_piece, places_by, places_after}
 use Rattle.mesh_grid.specs.Laws.{OtherLineIsAsInSchedule}
 
@@ -56,7 +56,7 @@ places_read : (m : Moment) (bytes : List ℕ) → places_after m (Whole bytes) �
 unfolding places_after
 places_read m bytes = refl
 
-pub places-placing : (m : Moment) (bytes : List ℕ) (new : Placing) → placing_of m.run.mesh bytes ≡ Ok (Some new) → places_after m (Whole bytes) ≡ come m.places new
+pub places-placing : (m : Moment) (bytes : List ℕ) (new : Placing) → placing_of m.run.mesh bytes ≡ Ok (Some new) → places_after m (Whole bytes) ≡ with_placing m.places new
 places-placing m bytes new is = places_read m bytes ∙ ap (places_by m.places) is
 
 pub places-other : (m : Moment) (bytes : List ℕ) → placing_of m.run.mesh bytes ≡ Ok None → places_after m (Whole bytes) ≡ m.places
@@ -65,20 +65,20 @@ places-other m bytes is = places_read m bytes ∙ ap (places_by m.places) is
 -- ---- an allowed line is allowed as in a schedule
 
 -- where it is allowed late, it is allowed early
-shape_early : (mesh : Nodes) (c : Command) (arguments : Arguments Mention) (a : Accepted) → accepted mesh true c arguments ≡ Ok a → accepted mesh false c arguments ≡ Ok a
+shape_early : (mesh : Nodes) (c : Command) (arguments : Arguments Mention) (a : AcceptedLine) → accepted_line mesh true c arguments ≡ Ok a → accepted_line mesh false c arguments ≡ Ok a
 shape_early mesh c (NumberedAddress m first) a is = absurd (let clash : Err Late ≡ Ok a = is in let P : ⊥ = cc in P)
 shape_early mesh c others a is = is
 
-read_early : (mesh : Nodes) (r : Result (Option (Shape Command Mention)) LineFault) (a : Accepted) → result_and_then (accepted_shape mesh true) r ≡ Ok a → result_and_then (accepted_shape mesh false) r ≡ Ok a
+read_early : (mesh : Nodes) (r : Result (Option (Shape Command Mention)) LineFault) (a : AcceptedLine) → result_and_then (accepted_shape mesh true) r ≡ Ok a → result_and_then (accepted_shape mesh false) r ≡ Ok a
 read_early mesh (Ok None) a is = is
 read_early mesh (Ok (Some s)) a is = shape_early mesh s.command s.arguments a is
 read_early mesh (Err f) a is = is
 
-line_early : (mesh : Nodes) (line : List ℕ) (a : Accepted) → line_of mesh true line ≡ Ok a → line_of mesh false line ≡ Ok a
+line_early : (mesh : Nodes) (line : List ℕ) (a : AcceptedLine) → line_of mesh true line ≡ Ok a → line_of mesh false line ≡ Ok a
 unfolding line_of
 line_early mesh line a is = read_early mesh (shape_of line) a is
 
-either_early : (mesh : Nodes) (line : List ℕ) (a : Accepted) (b s : Bool) → line_of mesh (b || s) line ≡ Ok a → line_of mesh s line ≡ Ok a
+either_early : (mesh : Nodes) (line : List ℕ) (a : AcceptedLine) (b s : Bool) → line_of mesh (b || s) line ≡ Ok a → line_of mesh s line ≡ Ok a
 either_early mesh line a true true is = is
 either_early mesh line a true false is = line_early mesh line a is
 either_early mesh line a false s is = is
@@ -145,22 +145,22 @@ first_changes reach places near new (suc n) k le = by (cases_lt n k) (λ before.
 pub after-more : (m : schedule.Moment) (es more : List Event) → moment_after m (es ++ more) ≡ moment_after (moment_after m es) more
 unfolding moment_after
 after-more m [] more = refl
-after-more m (e ∷ es) more = after-more (stepped m e) es more
+after-more m (e ∷ es) more = after-more (next_moment m e) es more
 
 pub after-none : (m : schedule.Moment) → moment_after m [] ≡ m
 unfolding moment_after
 after-none m = refl
 
-pub after-one : (m : schedule.Moment) (e : Event) → moment_after m (e ∷ []) ≡ stepped m e
+pub after-one : (m : schedule.Moment) (e : Event) → moment_after m (e ∷ []) ≡ next_moment m e
 unfolding moment_after
 after-one m e = refl
 
 pub steps_after : (m : schedule.Moment) (es : List Event) → (moment_after m es).steps ≡ m.steps + length es
-unfolding moment_after stepped
+unfolding moment_after next_moment
 steps_after m [] = omega arith
-steps_after m (e ∷ es) = let rest = steps_after (stepped m e) es in omega arith
+steps_after m (e ∷ es) = let rest = steps_after (next_moment m e) es in omega arith
 
 pub lines_after : (m : schedule.Moment) (es : List Event) → (moment_after m es).lines ≡ m.lines
-unfolding moment_after stepped
+unfolding moment_after next_moment
 lines_after m [] = refl
-lines_after m (e ∷ es) = lines_after (stepped m e) es
+lines_after m (e ∷ es) = lines_after (next_moment m e) es

@@ -5,7 +5,7 @@ use Rattle.std.specs.Str.{bytes_eq}
 use Rattle.std.specs.Fmt.{decimal}
 use Rattle.std.proofs.lemmas.List.Splits.{join_with_byte-slice_split}
 use Rattle.std.proofs.lemmas.Slice.Eq.{bytes_eq-Decides}
-use Rattle.mesh_base.specs.Addresses.{address_of, dotted}
+use Rattle.mesh_base.specs.Addresses.{address_of, dotted_decimal}
 use Rattle.mesh_base.specs.Meshes.{Nodes, index_of}
 use Rattle.mesh_base.specs.Numbers.{number_up_to}
 use Rattle.mesh_base.specs.Parts.{parts}
@@ -34,14 +34,14 @@ WroteIn mesh first words (Ok None) = Unit {0}
 WroteIn mesh first words (Err f) = Unit {0}
 
 wrote_node : (mesh : Nodes) (first : Bool) (words : List (List ℕ)) (a : Mention) (place : Place)
-    → words ≡ dotted a.address ∷ decimal place.x ∷ decimal place.y ∷ [] → WroteIn mesh first words (placing_in mesh first a place)
+    → words ≡ dotted_decimal a.address ∷ decimal place.x ∷ decimal place.y ∷ [] → WroteIn mesh first words (placing_in mesh first a place)
 unfolding WroteIn
 wrote_node mesh first words a place is =
     if_case (WroteIn mesh first words) (eqb (length mesh) 0) (Err Early) _ (λ _. tt) (λ _.
     with_argument_case (WroteIn mesh first words) (index_of mesh a.address) (Unknown a.span) (λ x. Ok (Some (record { first = first; node = x; place = place }))) tt
     (λ x at. record {
       command = refl;
-      text = is ∙ ap (λ b. dotted b ∷ decimal place.x ∷ decimal place.y ∷ []) (sym (index_there mesh a.address x at).2);
+      text = is ∙ ap (λ b. dotted_decimal b ∷ decimal place.x ∷ decimal place.y ∷ []) (sym (index_there mesh a.address x at).2);
     }))
 
 wrote_coordinate : (mesh : Nodes) (first : Bool) (words : List (List ℕ)) (at : ℕ) (word : List ℕ) (next : ℕ → Result (Option Placing) LineFault)
@@ -61,7 +61,7 @@ wrote_at mesh first at (a ∷ x ∷ y ∷ []) =
     wrote_coordinate mesh first (a ∷ x ∷ y ∷ []) (next_at at a) x _ (λ east x_is.
     wrote_coordinate mesh first (a ∷ x ∷ y ∷ []) (next_at (next_at at a) x) y _ (λ north y_is.
     wrote_node mesh first (a ∷ x ∷ y ∷ []) (record { address = addr; span = span_at at a }) (record { x = east; y = north })
-    (ap (λ b. b ∷ x ∷ y ∷ []) (sym (address_is_written a addr a_at)) ∙ ap₂ (λ i j. dotted addr ∷ i ∷ j ∷ []) (sym x_is) (sym y_is)))))
+    (ap (λ b. b ∷ x ∷ y ∷ []) (sym (address_is_written a addr a_at)) ∙ ap₂ (λ i j. dotted_decimal addr ∷ i ∷ j ∷ []) (sym x_is) (sym y_is)))))
 wrote_at mesh first at (a ∷ x ∷ y ∷ z ∷ ws) = tt
 
 -- the whole line

@@ -7,7 +7,7 @@ use Rattle.mesh_model.specs.Places.{IsEvent}
 use Rattle.mesh_model.specs.Walks.{Cycle}
 use Rattle.mesh_model.specs.Worlds.{are_linked}
 use Rattle.mesh_grammar.specs.Lines.{Whole}
-use Rattle.mesh_text.specs.Schedule.{Accepted, world_of}
+use Rattle.mesh_text.specs.Schedule.{AcceptedLine, world_of}
 use Rattle.mesh_text.specs.Text as text
 use Rattle.mesh_text.specs.Text.{FullAt}
 use Rattle.mesh_text.specs.Accounts.{IsBalanced}
@@ -57,7 +57,7 @@ EventsAreOfMesh = (reach : ℕ) (variant : Variant) (input : List ℕ)
 
 -- a line that is not about a place, where it is allowed, comes to what it comes to in a schedule
 abbrev pub OtherLineIsAsInSchedule : Type 0
-OtherLineIsAsInSchedule = (reach : ℕ) (m : Moment) (line : List ℕ) (a : Accepted)
+OtherLineIsAsInSchedule = (reach : ℕ) (m : Moment) (line : List ℕ) (a : AcceptedLine)
     → placing_of m.run.mesh line ≡ Ok None → other_line m line ≡ Ok a
     → outcome_of_piece reach m (Whole line) ≡ text.outcome_of_piece m.run (Whole line)
 

@@ -11,7 +11,7 @@ use Rattle.mesh_grammar.specs.declared.fault.LineFault.{LineFault}
 use Rattle.mesh_grammar.specs.declared.fault.LineFault.TheVariants.{Word, Count, BadNumber, Early}
 use Rattle.mesh_grammar.specs.Words.{Mention, with_argument, span_at, next_at, address_at}
 use Rattle.mesh_text.specs.Lines.{name_of}
-use Rattle.mesh_text.specs.Schedule.{known}
+use Rattle.mesh_text.specs.Schedule.{as_node}
 use Rattle.mesh_grid.specs.declared.place.TheConstants.{GREATEST_PLACE}
 use Rattle.mesh_grid.specs.declared.place.Place.{Place}
 use Rattle.mesh_grid.specs.declared.line.Placing.{Placing}
@@ -25,7 +25,7 @@ coordinate_at at word next =
 abbrev pub placing_in : Nodes → Bool → Mention → Place → Result (Option Placing) LineFault
 placing_in mesh first a place =
     if length mesh == 0 then Err Early else
-    known mesh a (λ x. Ok (Some (record { first = first; node = x; place = place })))
+    as_node mesh a (λ x. Ok (Some (record { first = first; node = x; place = place })))
 
 -- an address and two coordinates, the first word at this byte
 abbrev pub placing_at : Nodes → Bool → ℕ → List (List ℕ) → Result (Option Placing) LineFault

@@ -58,8 +58,8 @@ abbrev pub may_come : Places → Placing → Bool
 may_come places new = is_enabled new.first (place_of places new.node)
 
 -- where the nodes are after a line about a place
-abbrev pub come : Places → Placing → Places
-come places new =
+abbrev pub with_placing : Places → Placing → Places
+with_placing places new =
     record (if may_come places new then with_place places new.node new.place else places) {
       begun = true;
     }

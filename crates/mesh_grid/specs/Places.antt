@@ -11,12 +11,12 @@ abbrev pub apart : ℕ → ℕ → ℕ
 apart m n = (m - n) + (n - m)
 
 -- the square of the distance of two places
-abbrev pub squared : Place → Place → ℕ
-squared p q = apart p.x q.x * apart p.x q.x + apart p.y q.y * apart p.y q.y
+abbrev pub squared_distance : Place → Place → ℕ
+squared_distance p q = apart p.x q.x * apart p.x q.x + apart p.y q.y * apart p.y q.y
 
 -- the distance is at most the reach
 abbrev pub is_within : ℕ → Place → Place → Bool
-is_within reach p q = nat_le (squared p q) (reach * reach)
+is_within reach p q = nat_le (squared_distance p q) (reach * reach)
 
 -- ---- where nodes are
 
@@ -33,5 +33,5 @@ abbrev pub with_place : Places → ℕ → Place → Places
 with_place places node p = record places { at = slice_set places.at node (Some p) }
 
 -- an allowed line about places has started the run
-abbrev pub begun : Places → Places
-begun places = record places { begun = true }
+abbrev pub with_run_begun : Places → Places
+with_run_begun places = record places { begun = true }

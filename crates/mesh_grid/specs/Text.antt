@@ -16,7 +16,7 @@ use Rattle.mesh_grid.specs.declared.place.Places.{Places}
 use Rattle.mesh_grid.specs.declared.line.Placing.{Placing}
 use Rattle.mesh_grid.specs.Places.{no_places}
 use Rattle.mesh_grid.specs.Lines.{placing_of}
-use Rattle.mesh_grid.specs.Links.{changes_below, may_come, come}
+use Rattle.mesh_grid.specs.Links.{changes_below, may_come, with_placing}
 
 -- a moment of a run with places: that of the run, and where the nodes are
 pub record Moment : Type 0 where
@@ -47,13 +47,13 @@ abbrev pub outcome_of_placing : ℕ → Moment → List ℕ → Placing → text
 outcome_of_placing reach m bytes new =
     if may_come m.places new
     then text.On (line bytes ++ flat_map (change_line m.run.mesh) (changes reach m new))
-    (schedule.counted (moment_after m.run (changes reach m new)))
-    else text.On (line bytes ++ line (codes "  idle")) (schedule.counted m.run)
+    (schedule.with_line_read (moment_after m.run (changes reach m new)))
+    else text.On (line bytes ++ line (codes "  idle")) (schedule.with_line_read m.run)
 
 -- ---- one line
 
 -- a line as in a schedule; but a line about places, too, makes a later `node` line late
-abbrev pub other_line : Moment → List ℕ → Result schedule.Accepted LineFault
+abbrev pub other_line : Moment → List ℕ → Result schedule.AcceptedLine LineFault
 other_line m bytes = schedule.line_of m.run.mesh (has_begun m) bytes
 
 abbrev pub outcome_by : ℕ → Moment → List ℕ → Result (Option Placing) LineFault → text.LineOutcome
@@ -68,7 +68,7 @@ outcome_of_piece reach m others = text.outcome_of_piece m.run others
 
 -- where the nodes are after it
 abbrev pub places_by : Places → Result (Option Placing) LineFault → Places
-places_by places (Ok (Some new)) = come places new
+places_by places (Ok (Some new)) = with_placing places new
 places_by places (Ok None) = places
 places_by places (Err fault) = places
 
@@ -83,16 +83,16 @@ next m piece n = record { run = n; places = places_after m piece }
 -- ---- all lines
 
 -- the run of these lines from a moment on
-unfoldable pub text_from : ℕ → Moment → List Piece → text.Written
+unfoldable pub text_from : ℕ → Moment → List Piece → text.RunText
 text_from reach m [] = text.finished_run m.run
 text_from reach m (piece ∷ pieces) =
     text.goes_on m.run (outcome_of_piece reach m piece)
     (λ n. text_from reach (next m piece n) pieces)
 
 -- what a run with places writes for an input from a moment on, and what it comes to
-abbrev pub text_on : ℕ → Moment → List ℕ → text.Written
+abbrev pub text_on : ℕ → Moment → List ℕ → text.RunText
 text_on reach m input = text_from reach m (pieces_of_input input)
 
 -- the same from the opening on
-unfoldable pub text_of_input : ℕ → Variant → List ℕ → text.Written
+unfoldable pub text_of_input : ℕ → Variant → List ℕ → text.RunText
 text_of_input reach variant input = text_on reach (opening variant) input

@@ -38,7 +38,7 @@ impl Places {
     /// A node comes to a place, where it may. The line has started the run either way.
     pub fn come(&mut self, new: &Placing)
         requires { new.now.node < MOST_NODES }
-        ensures { self.new ≡ links.come self.old new.now }
+        ensures { self.new ≡ links.with_placing self.old new.now }
     {
         if self.may_come(new) {
             self.put(new.node, new.place);

@@ -10,13 +10,13 @@ pub record Giving : Type 0 where
   pub calls : CallsSeen
 
 -- how many bytes a call gives that doesn't fail, to a buffer of this length
-abbrev pub given : Giving → ℕ → ℕ
-given source room = min (length source.left) (min room source.most)
+abbrev pub given_count : Giving → ℕ → ℕ
+given_count source room = min (length source.left) (min room source.most)
 
 -- what a call answers
 abbrev pub take_answer : Giving → ℕ → Result ℕ Failed
 take_answer source room =
-    if fails_next source.calls then Err (record {}) else Ok (given source room)
+    if fails_next source.calls then Err (record {}) else Ok (given_count source room)
 
 -- the source after a call
 abbrev pub after_take : Giving → ℕ → Giving
@@ -24,16 +24,16 @@ after_take source room =
     if fails_next source.calls
     then record source { calls = with_fault (with_call source.calls) }
     else record source {
-      left = drop (given source room) source.left;
+      left = drop (given_count source room) source.left;
       calls = with_call source.calls;
     }
 
 -- the buffer after a call: the bytes given, and then what stood there
-abbrev pub filled : Giving → List ℕ → List ℕ
-filled source buffer =
+abbrev pub filled_buffer : Giving → List ℕ → List ℕ
+filled_buffer source buffer =
     if fails_next source.calls then buffer
-    else take (given source (length buffer)) source.left
-    ++ drop (given source (length buffer)) buffer
+    else take (given_count source (length buffer)) source.left
+    ++ drop (given_count source (length buffer)) buffer
 
 -- the bytes held, the most that are held, the most that a call takes, and the calls so far
 pub record Taking : Type 0 where
@@ -43,8 +43,8 @@ pub record Taking : Type 0 where
   pub calls : CallsSeen
 
 -- how many bytes of a piece of this length a call takes that doesn't fail
-abbrev pub taken : Taking → ℕ → ℕ
-taken sink count = min count (min sink.most (sink.room - length sink.held))
+abbrev pub taken_count : Taking → ℕ → ℕ
+taken_count sink count = min count (min sink.most (sink.room - length sink.held))
 
 -- the next call fails: by plan, or since the sink is full
 abbrev pub refuses : Taking → Bool
@@ -52,7 +52,7 @@ refuses sink = fails_next sink.calls || nat_eq (length sink.held) sink.room
 
 -- what a call answers
 abbrev pub put_answer : Taking → ℕ → Result ℕ Failed
-put_answer sink count = if refuses sink then Err (record {}) else Ok (taken sink count)
+put_answer sink count = if refuses sink then Err (record {}) else Ok (taken_count sink count)
 
 -- the sink after a call
 abbrev pub after_put : Taking → List ℕ → Taking
@@ -60,6 +60,6 @@ after_put sink piece =
     if refuses sink
     then record sink { calls = with_fault (with_call sink.calls) }
     else record sink {
-      held = sink.held ++ take (taken sink (length piece)) piece;
+      held = sink.held ++ take (taken_count sink (length piece)) piece;
       calls = with_call sink.calls;
     }

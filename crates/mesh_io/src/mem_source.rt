@@ -4,7 +4,7 @@ ghost use Rattle.std.specs.Io.{ReadsAtMost};
 ghost use Rattle.std.specs.Io.KnownBytes.{ReadConsumes};
 ghost use Rattle.mesh_io.specs.Cause.{HasCause};
 ghost use Rattle.mesh_io.specs.Calls.{no_calls};
-ghost use Rattle.mesh_io.specs.Memory.{take_answer, after_take, filled};
+ghost use Rattle.mesh_io.specs.Memory.{take_answer, after_take, filled_buffer};
 
 use crate::calls::Calls;
 use crate::source::{Failed, Source};
@@ -79,7 +79,7 @@ impl Source for MemSource {
         ensures cause { HasCause self.old.calls.failed self.new.calls.failed result }
         ensures answer { result ≡ take_answer self.old (length buf.old) }
         ensures after { self.new ≡ after_take self.old (length buf.old) }
-        ensures buffer { buf.new ≡ filled self.old buf.old }
+        ensures buffer { buf.new ≡ filled_buffer self.old buf.old }
     {
         if self.calls.next() {
             self.calls.fail();

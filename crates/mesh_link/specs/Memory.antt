@@ -37,11 +37,11 @@ abbrev pub AreRooms : List ℕ → Type 0
 AreRooms rooms = AllByRecursion (λ most. LONGEST_PACKET ≤ most) rooms
 
 -- a call that fails, and one that doesn't
-abbrev pub failed : LinkSeen → LinkSeen
-failed link = record link { calls = with_fault (with_call link.calls) }
+abbrev pub after_failure : LinkSeen → LinkSeen
+after_failure link = record link { calls = with_fault (with_call link.calls) }
 
-abbrev pub called : LinkSeen → LinkSeen
-called link = record link { calls = with_call link.calls }
+abbrev pub after_call : LinkSeen → LinkSeen
+after_call link = record link { calls = with_call link.calls }
 
 -- a send of so many bytes fails: by plan, for want of room, or since the packet is too long
 abbrev pub refuses : LinkSeen → ℕ → Bool
@@ -50,12 +50,13 @@ refuses link size = fails_next link.calls || link.room == 0 || nat_lt LONGEST_PA
 -- the link after a call of each kind
 abbrev pub after_open : LinkSeen → ℕ → LinkSeen
 after_open link port =
-    if fails_next link.calls then failed link else record (called link) { port = Some port }
+    if fails_next link.calls then after_failure link
+    else record (after_call link) { port = Some port }
 
 abbrev pub after_send : LinkSeen → ℕ → List ℕ → LinkSeen
 after_send link port bytes =
-    if refuses link (length bytes) then failed link
-    else record (called link) {
+    if refuses link (length bytes) then after_failure link
+    else record (after_call link) {
       sent = link.sent ++ datagram port bytes ∷ [];
       room = link.room - 1;
     }
@@ -67,8 +68,8 @@ without_first (d ∷ ds) = ds
 
 abbrev pub after_receive : LinkSeen → LinkSeen
 after_receive link =
-    if fails_next link.calls then failed link
-    else record (called link) { arrived = without_first link.arrived }
+    if fails_next link.calls then after_failure link
+    else record (after_call link) { arrived = without_first link.arrived }
 
 -- ---- a link that never fails
 

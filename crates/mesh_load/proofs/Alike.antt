@@ -21,7 +21,7 @@ use Rattle.mesh_sound.specs.Edges.{IsBackedAt, IsFirstEdge}
 use Rattle.mesh_world.specs.Restored.{AreWritten, AreRequestsHonest, AreRepliesHonest, IsFirstPart}
 use Rattle.mesh_world.specs.declared.restored.Part.{Part}
 use Rattle.mesh_world.specs.declared.restored.Part.TheVariants as parts
-use Rattle.mesh_checkpoint.specs.Seen.{listed}
+use Rattle.mesh_checkpoint.specs.Seen.{listed_node}
 use Rattle.mesh_restore.specs.Nodes.{IsNodeAt, ArePrecursorsBelow}
 use Rattle.mesh_load.specs.Nodes.{AllFrom, IsSoundNodeAt}
 use Rattle.mesh_load.proofs.Listed.{precursors_below, one_node}
@@ -47,7 +47,7 @@ alike_back (m ∷ ns) (n ∷ ms) alike = (record { core = sym alike.0.core; item
 
 -- ---- nodes with the same listings are alike
 
-pub one_sound_node : (variant : Variant) (size x : ℕ) (m n : NodeSeen) → size ≤ 256 → IsSoundNodeAt variant size x m → IsSoundNodeAt variant size x n → listed m ≡ listed n → IsAlike m n
+pub one_sound_node : (variant : Variant) (size x : ℕ) (m n : NodeSeen) → size ≤ 256 → IsSoundNodeAt variant size x m → IsSoundNodeAt variant size x n → listed_node m ≡ listed_node n → IsAlike m n
 one_sound_node variant size x m n few is it same =
     let one = one_node variant x size m n few is.0 it.0 (precursors_below m size is.0.size_is is.1) (precursors_below n size it.0.size_is it.1) same in
     record { core = one.0; items = one.1; size = is.0.size_is ∙ sym it.0.size_is }
@@ -60,15 +60,15 @@ abbrev others_of_list : {X : Type 0} → List X → List X
 others_of_list [] = []
 others_of_list (x ∷ xs) = xs
 
-pub one_nodes : (variant : Variant) (size x : ℕ) (ns ms : List NodeSeen) → size ≤ 256 → AllFrom (IsSoundNodeAt variant size) x ns → AllFrom (IsSoundNodeAt variant size) x ms → map listed ns ≡ map listed ms → AreAlike ns ms
+pub one_nodes : (variant : Variant) (size x : ℕ) (ns ms : List NodeSeen) → size ≤ 256 → AllFrom (IsSoundNodeAt variant size) x ns → AllFrom (IsSoundNodeAt variant size) x ms → map listed_node ns ≡ map listed_node ms → AreAlike ns ms
 one_nodes variant size x [] [] few are they same = tt
 one_nodes variant size x [] (n ∷ ms) few are they same = cc
 one_nodes variant size x (m ∷ ns) [] few are they same = cc
 one_nodes variant size x (m ∷ ns) (n ∷ ms) few are they same =
-    (one_sound_node variant size x m n few are.0 they.0 (ap (first_of_list (listed m)) same), one_nodes variant size (x + 1) ns ms few are.1 they.1 (ap others_of_list same))
+    (one_sound_node variant size x m n few are.0 they.0 (ap (first_of_list (listed_node m)) same), one_nodes variant size (x + 1) ns ms few are.1 they.1 (ap others_of_list same))
 
 -- a node with the listing of one whose state is in order has a state in order
-pub sound_again : (variant : Variant) (size x : ℕ) (m n : NodeSeen) → size ≤ 256 → IsSoundNodeAt variant size x m → IsNodeAt variant x size n → ArePrecursorsBelow size (n.core).rt → listed m ≡ listed n → HasSoundCore n
+pub sound_again : (variant : Variant) (size x : ℕ) (m n : NodeSeen) → size ≤ 256 → IsSoundNodeAt variant size x m → IsNodeAt variant x size n → ArePrecursorsBelow size (n.core).rt → listed_node m ≡ listed_node n → HasSoundCore n
 sound_again variant size x m n few is it below same =
     let one = one_node variant x size m n few is.0 it (precursors_below m size is.0.size_is is.1) below same in
     let sizes : m.size ≡ n.size = is.0.size_is ∙ sym it.size_is in

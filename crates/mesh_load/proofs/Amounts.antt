@@ -25,7 +25,7 @@ use Rattle.aodv_meaning.specs.Meaning.{meaning, in_mesh}
 use Rattle.aodv_meaning.specs.Effects.{item_in}
 use Rattle.aodv_node.specs.Seen.{NodeSeen}
 use Rattle.mesh_model.specs.Worlds.{first_numbers}
-use Rattle.mesh_model.specs.Accounts.{any, total, total_below, counts, in_message, in_item, in_store, in_copy, waiting, queued, in_flight}
+use Rattle.mesh_model.specs.Accounts.{any, total, total_below, counts, in_message, in_item, in_store, in_copy, waiting, queued_data, in_flight}
 use Rattle.mesh_model.proofs.Totals.{total_below_same, total_below_change}
 use Rattle.mesh_model.proofs.AccountSteps.{start_empty}
 use Rattle.mesh_meaning.specs.Packets.{IsWritten, copy_in}
@@ -43,7 +43,7 @@ use Rattle.mesh_checkpoint.specs.Checkpoint as model
 use Rattle.mesh_checkpoint.specs.Checkpoint.{Waits}
 use Rattle.mesh_checkpoint.specs.Counts.{is_parcel, spells_datum, data_waiting, data_in_item, data_in_copy, data_at, data_in_world, data_in, IsBalanced}
 use Rattle.mesh_checkpoint.specs.Points.{waits_of, waits_in}
-use Rattle.mesh_checkpoint.specs.Seen.{listed}
+use Rattle.mesh_checkpoint.specs.Seen.{listed_node}
 
 -- ---- entries by rising destination
 
@@ -160,13 +160,13 @@ copies_total mesh (c ∷ cs) all =
 
 -- ---- nodes
 
-node_fits : (size : ℕ) (n : NodeSeen) → (model.node size).fits (listed n) ≡ true → (model.store size).fits (waits_in (n.core).store) ≡ true
+node_fits : (size : ℕ) (n : NodeSeen) → (model.node size).fits (listed_node n) ≡ true → (model.store size).fits (waits_in (n.core).store) ≡ true
 node_fits size n fit =
-    let list = listed n in
+    let list = listed_node n in
     let last = (model.store size).fits list.store && (model.inbox size).fits list.inbox in
-    let a = and_parts (model.positive32.fits list.sn) ((model.routes size).fits list.routes && ((model.asked size).fits list.asked && last)) fit in
-    let b = and_parts ((model.routes size).fits list.routes) ((model.asked size).fits list.asked && last) a.1 in
-    let c = and_parts ((model.asked size).fits list.asked) last b.1 in
+    let a = and_parts (model.positive32.fits list.sn) ((model.routes size).fits list.routes && ((model.asked_format size).fits list.asked && last)) fit in
+    let b = and_parts ((model.routes size).fits list.routes) ((model.asked_format size).fits list.asked && last) a.1 in
+    let c = and_parts ((model.asked_format size).fits list.asked) last b.1 in
     (and_parts ((model.store size).fits list.store) ((model.inbox size).fits list.inbox) c.1).0
 
 -- the data in the stores and in the queues of these nodes, in a mesh of so many
@@ -176,30 +176,30 @@ in_stores mesh size nodes = total (λ n. in_store any size (n.core).ip (n.core).
 abbrev in_queues : Nodes → List NodeSeen → ℕ
 in_queues mesh nodes = total (λ n. total (in_item any (n.core).ip) n.queue) (map (node_in mesh) nodes)
 
-nodes_total : (mesh : Nodes) (size : ℕ) (nodes : List NodeSeen) → all_fit (model.node size).fits (map listed nodes) ≡ true → AllByRecursion (λ n. AllByRecursion (IsItemWritten mesh) n.items) nodes
-    → in_stores mesh size nodes + in_queues mesh nodes ≡ sum_by data_at (map listed nodes)
+nodes_total : (mesh : Nodes) (size : ℕ) (nodes : List NodeSeen) → all_fit (model.node size).fits (map listed_node nodes) ≡ true → AllByRecursion (λ n. AllByRecursion (IsItemWritten mesh) n.items) nodes
+    → in_stores mesh size nodes + in_queues mesh nodes ≡ sum_by data_at (map listed_node nodes)
 nodes_total mesh size [] fit written = refl
 nodes_total mesh size (n ∷ nodes) fit written =
-    let both = and_parts ((model.node size).fits (listed n)) (all_fit (model.node size).fits (map listed nodes)) fit in
+    let both = and_parts ((model.node size).fits (listed_node n)) (all_fit (model.node size).fits (map listed_node nodes)) fit in
     let waits : in_store any size (n.core).ip (n.core).store ≡ sum_by data_waiting (waits_in (n.core).store) = store_total size (n.core).ip (n.core).store (node_fits size n both.0) in
     let queue : total (in_item any (n.core).ip) (map (item_in mesh) n.items) ≡ sum_by data_in_item n.items = items_total mesh (n.core).ip n.items written.0 in
-    let rest : in_stores mesh size nodes + in_queues mesh nodes ≡ sum_by data_at (map listed nodes) = nodes_total mesh size nodes both.1 written.1 in
-    let more : sum_by data_at (listed n ∷ map listed nodes) ≡ data_at (listed n) + sum_by data_at (map listed nodes) = sum_by-cons data_at (listed n) (map listed nodes) in
+    let rest : in_stores mesh size nodes + in_queues mesh nodes ≡ sum_by data_at (map listed_node nodes) = nodes_total mesh size nodes both.1 written.1 in
+    let more : sum_by data_at (listed_node n ∷ map listed_node nodes) ≡ data_at (listed_node n) + sum_by data_at (map listed_node nodes) = sum_by-cons data_at (listed_node n) (map listed_node nodes) in
     omega arith
 
 -- ---- the world
 
 -- the data of the nodes and the radio that were read are those of the world in the checkpoint
-pub data_agree : (mesh : Nodes) (nodes : List NodeSeen) (radio : RadioState) (w : model.World) → w.nodes ≡ map listed nodes → w.copies ≡ radio.flying
+pub data_agree : (mesh : Nodes) (nodes : List NodeSeen) (radio : RadioState) (w : model.World) → w.nodes ≡ map listed_node nodes → w.copies ≡ radio.flying
     → length nodes ≡ length mesh → all_fit (model.node (length mesh)).fits w.nodes ≡ true → AreWritten mesh nodes radio.flying
     → data_of (world_in mesh nodes radio) ≡ data_in_world w
-unfolding waiting queued in_flight world_in
+unfolding waiting queued_data in_flight world_in
 data_agree mesh nodes radio w nodes_are copies_are count fit written =
     let size : length (map (node_in mesh) nodes) ≡ length mesh = length-map nodes (node_in mesh) ∙ count in
     let stores : in_stores mesh (length (map (node_in mesh) nodes)) nodes ≡ in_stores mesh (length mesh) nodes = ap (λ k. in_stores mesh k nodes) size in
-    let at_nodes : in_stores mesh (length mesh) nodes + in_queues mesh nodes ≡ sum_by data_at (map listed nodes) =
+    let at_nodes : in_stores mesh (length mesh) nodes + in_queues mesh nodes ≡ sum_by data_at (map listed_node nodes) =
     nodes_total mesh (length mesh) nodes (ap (all_fit (model.node (length mesh)).fits) (sym nodes_are) ∙ fit) written.waits in
-    let listed_are : sum_by data_at (map listed nodes) ≡ sum_by data_at w.nodes = ap (sum_by data_at) (sym nodes_are) in
+    let listed_are : sum_by data_at (map listed_node nodes) ≡ sum_by data_at w.nodes = ap (sum_by data_at) (sym nodes_are) in
     let in_air : total (in_copy any) (map (copy_in mesh) radio.flying) ≡ sum_by data_in_copy radio.flying = copies_total mesh radio.flying written.flies in
     let flying_are : sum_by data_in_copy radio.flying ≡ sum_by data_in_copy w.copies = ap (sum_by data_in_copy) (sym copies_are) in
     omega arith

@@ -19,7 +19,7 @@ use Rattle.mesh_moment.specs.Moments.{moment_seen}
 use Rattle.mesh_checkpoint.specs.declared.body.Head.{Head}
 use Rattle.mesh_checkpoint.specs.Checkpoint.{World, Body}
 use Rattle.mesh_checkpoint.specs.Points.{node_of, copy_of, links_of, world_after, body_of}
-use Rattle.mesh_checkpoint.specs.Seen.{listed}
+use Rattle.mesh_checkpoint.specs.Seen.{listed_node}
 use Rattle.mesh_checkpoint.proofs.Written.{node_again, copies_again}
 
 -- the head of a body whose run is of this variant, has these sums, and has read so many lines
@@ -39,7 +39,7 @@ head_with variant sums lines = record {
 pub record IsWorldOf (nodes : List NodeSeen) (radio : RadioState) (steps : ℕ) (w : World)
     : Type 0 where
   pub steps_are : w.steps ≡ steps
-  pub nodes_are : w.nodes ≡ map listed nodes
+  pub nodes_are : w.nodes ≡ map listed_node nodes
   pub links_are : w.links ≡ links_of radio.ever radio.links
   pub next_is : w.next ≡ radio.next_copy
   pub copies_are : w.copies ≡ radio.flying
@@ -51,11 +51,11 @@ items_written mesh nodes [] all = tt
 items_written mesh nodes (item.New dest body ∷ is) all = (tt, items_written mesh nodes is all.1)
 items_written mesh nodes (item.Heard from bytes ∷ is) all = (all.0, items_written mesh nodes is all.1)
 
-nodes_again : (mesh : Nodes) (nodes ns : List NodeSeen) → AllByRecursion (λ n. AllByRecursion (InItem (Holds claims.Written mesh nodes)) n.items) ns → map (node_of mesh) (map (node_in mesh) ns) ≡ map listed ns
+nodes_again : (mesh : Nodes) (nodes ns : List NodeSeen) → AllByRecursion (λ n. AllByRecursion (InItem (Holds claims.Written mesh nodes)) n.items) ns → map (node_of mesh) (map (node_in mesh) ns) ≡ map listed_node ns
 nodes_again mesh nodes [] all = refl
 nodes_again mesh nodes (n ∷ ns) all =
-    let first : node_of mesh (node_in mesh n) ≡ listed n = node_again mesh n (items_written mesh nodes n.items all.0) in
-    let others : map (node_of mesh) (map (node_in mesh) ns) ≡ map listed ns = nodes_again mesh nodes ns all.1 in
+    let first : node_of mesh (node_in mesh n) ≡ listed_node n = node_again mesh n (items_written mesh nodes n.items all.0) in
+    let others : map (node_of mesh) (map (node_in mesh) ns) ≡ map listed_node ns = nodes_again mesh nodes ns all.1 in
     λ i. first i ∷ others i
 
 -- ---- the world

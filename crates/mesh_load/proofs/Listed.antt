@@ -27,7 +27,7 @@ use Rattle.aodv_node.specs.Seen.{NodeSeen}
 use Rattle.aodv_node.specs.Restored.{HasSoundCore}
 use Rattle.mesh_checkpoint.specs.Checkpoint.{Route, Node}
 use Rattle.mesh_checkpoint.specs.Points.{route_of, routes_in, waits_of, waits_in}
-use Rattle.mesh_checkpoint.specs.Seen.{listed}
+use Rattle.mesh_checkpoint.specs.Seen.{listed_node}
 use Rattle.mesh_restore.specs.Nodes.{IsNodeAt, ArePrecursorsBelow}
 
 -- ---- the members of a set
@@ -184,7 +184,7 @@ one_core c d below under named variant sn routes requests waits =
     let stores : c.store ≡ d.store = one_store c.store d.store waits in
     λ i. record { ip = named i; variant = variant i; sn = sn i; rt = tables i; seen = seen i; store = stores i }
 
-pub one_node : (variant : Variant) (me size : ℕ) (a b : NodeSeen) → size ≤ 256 → IsNodeAt variant me size a → IsNodeAt variant me size b → ArePrecursorsBelow size (a.core).rt → ArePrecursorsBelow size (b.core).rt → listed a ≡ listed b → (a.core ≡ b.core) × (a.items ≡ b.items)
+pub one_node : (variant : Variant) (me size : ℕ) (a b : NodeSeen) → size ≤ 256 → IsNodeAt variant me size a → IsNodeAt variant me size b → ArePrecursorsBelow size (a.core).rt → ArePrecursorsBelow size (b.core).rt → listed_node a ≡ listed_node b → (a.core ≡ b.core) × (a.items ≡ b.items)
 one_node variant me size a b few is it below under same = (
   one_core a.core b.core (below_more size 256 (a.core).rt few below) (below_more size 256 (b.core).rt few under) (is.named ∙ sym it.named) (is.variant_is ∙ sym it.variant_is)
       (ap (λ (n : Node). n.sn) same) (ap (λ (n : Node). n.routes) same) (ap (λ (n : Node). n.asked) same) (ap (λ (n : Node). n.store) same),

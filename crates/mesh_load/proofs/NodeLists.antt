@@ -13,7 +13,7 @@ use Rattle.mesh_world.specs.declared.restored.Part.TheVariants as parts
 use Rattle.mesh_checkpoint.specs.Formats.{get_times}
 use Rattle.mesh_checkpoint.specs.Checkpoint as model
 use Rattle.mesh_checkpoint.specs.Checkpoint.{Node}
-use Rattle.mesh_checkpoint.specs.Seen.{listed}
+use Rattle.mesh_checkpoint.specs.Seen.{listed_node}
 use Rattle.mesh_restore.specs.Nodes.{IsNodeAt, ArePrecursorsBelow}
 use Rattle.mesh_restore.specs.Reading.{Refuses}
 use Rattle.mesh_restore.specs.declared.error.ReadError.{ReadError}
@@ -56,7 +56,7 @@ middle (z ∷ zs) ys x (suc i) at = middle zs ys x i (omega (arith, at))
 -- i nodes were read
 pub record AreReadSoFar (variant : Variant) (size i : ℕ) (bytes : List ℕ) (nodes : List NodeSeen) (in_place : Bool) (rest : List ℕ) : Type 0 where
   pub parts : List NodeSeen
-  pub so_far : IsReadInTurn (model.node size).get size i bytes (map listed parts) rest
+  pub so_far : IsReadInTurn (model.node size).get size i bytes (map listed_node parts) rest
   pub count : length parts ≡ i
   pub each : AllFrom (IsSoundNodeAt variant size) 0 parts
   pub kept : in_place ≡ true → (nodes ≡ parts) × AllByRecursion HasItemsAt parts
@@ -86,11 +86,11 @@ pub restored_item : (parts : NodeSeen) (answer : Result NodeSeen Unfit) (why : U
 restored_item parts answer why is item restored = subst (λ (r : Result NodeSeen Unfit). IsRestored parts r) (is ∙ ap (λ (u : Unfit). Err u) item) restored
 
 -- one node more, each of whose items is in place
-pub one_kept : (variant : Variant) (size i : ℕ) (bytes : List ℕ) (nodes after : List NodeSeen) (in_place : Bool) (rest : List ℕ) (n : NodeSeen) (behind : List ℕ) → i < size → (model.node size).get rest ≡ Some (listed n, behind) → IsNodeAt variant i size n → HasSoundCore n → HasItemsAt n → after ≡ nodes ++ n ∷ []
+pub one_kept : (variant : Variant) (size i : ℕ) (bytes : List ℕ) (nodes after : List NodeSeen) (in_place : Bool) (rest : List ℕ) (n : NodeSeen) (behind : List ℕ) → i < size → (model.node size).get rest ≡ Some (listed_node n, behind) → IsNodeAt variant i size n → HasSoundCore n → HasItemsAt n → after ≡ nodes ++ n ∷ []
     → AreReadSoFar variant size i bytes nodes in_place rest → AreReadSoFar variant size (i + 1) bytes after in_place behind
 one_kept variant size i bytes nodes after in_place rest n behind lt read mine sound items pushed a = record {
   parts = a.parts ++ n ∷ [];
-  so_far = rw (map_push listed a.parts n) (one_more (model.node size).get size i bytes (map listed a.parts) rest (listed n) behind lt read a.so_far);
+  so_far = rw (map_push listed_node a.parts n) (one_more (model.node size).get size i bytes (map listed_node a.parts) rest (listed_node n) behind lt read a.so_far);
   count = length_push a.parts n ∙ ap (λ (k : ℕ). k + 1) a.count;
   each = all_from_push (IsSoundNodeAt variant size) 0 i a.parts n a.each (omega (arith, a.count)) (mine, sound);
   kept = λ t. let k = a.kept t in (pushed ∙ ap (λ (ns : List NodeSeen). ns ++ n ∷ []) k.0, all_push HasItemsAt a.parts n k.1 items);
@@ -98,11 +98,11 @@ one_kept variant size i bytes nodes after in_place rest n behind lt read mine so
 }
 
 -- one node more, with an item that isn't in place
-pub one_misplaced : (variant : Variant) (size i : ℕ) (bytes : List ℕ) (nodes : List NodeSeen) (in_place : Bool) (rest : List ℕ) (n : NodeSeen) (behind : List ℕ) → i < size → (model.node size).get rest ≡ Some (listed n, behind) → IsNodeAt variant i size n → HasSoundCore n → ¬ (HasItemsAt n)
+pub one_misplaced : (variant : Variant) (size i : ℕ) (bytes : List ℕ) (nodes : List NodeSeen) (in_place : Bool) (rest : List ℕ) (n : NodeSeen) (behind : List ℕ) → i < size → (model.node size).get rest ≡ Some (listed_node n, behind) → IsNodeAt variant i size n → HasSoundCore n → ¬ (HasItemsAt n)
     → AreReadSoFar variant size i bytes nodes in_place rest → AreReadSoFar variant size (i + 1) bytes nodes false behind
 one_misplaced variant size i bytes nodes in_place rest n behind lt read mine sound items a = record {
   parts = a.parts ++ n ∷ [];
-  so_far = rw (map_push listed a.parts n) (one_more (model.node size).get size i bytes (map listed a.parts) rest (listed n) behind lt read a.so_far);
+  so_far = rw (map_push listed_node a.parts n) (one_more (model.node size).get size i bytes (map listed_node a.parts) rest (listed_node n) behind lt read a.so_far);
   count = length_push a.parts n ∙ ap (λ (k : ℕ). k + 1) a.count;
   each = all_from_push (IsSoundNodeAt variant size) 0 i a.parts n a.each (omega (arith, a.count)) (mine, sound);
   kept = λ t. absurd (true_false (sym t));
@@ -111,14 +111,14 @@ one_misplaced variant size i bytes nodes in_place rest n behind lt read mine sou
 
 pub nodes_refused : (variant : Variant) (size i : ℕ) (bytes : List ℕ) (nodes : List NodeSeen) (in_place : Bool) (rest : List ℕ) (e : ReadError) → i < size → Refuses e ((model.node size).get rest) → AreReadSoFar variant size i bytes nodes in_place rest
     → IsRefusalOf (IsUnsoundNode variant size) (get_times (model.node size).get size bytes) (after_reading e)
-nodes_refused variant size i bytes nodes in_place rest Spelling lt refused a = stops_early (model.node size).get size i bytes (map listed a.parts) rest Spelling lt refused a.so_far
+nodes_refused variant size i bytes nodes in_place rest Spelling lt refused a = stops_early (model.node size).get size i bytes (map listed_node a.parts) rest Spelling lt refused a.so_far
 nodes_refused variant size i bytes nodes in_place rest NoMemory lt refused a = tt
 
 pub all_read : (variant : Variant) (size i : ℕ) (bytes : List ℕ) (nodes : List NodeSeen) (in_place : Bool) (rest : List ℕ) → size ≤ i → AreReadSoFar variant size i bytes nodes in_place rest → AreNodesRead variant size (get_times (model.node size).get size bytes) nodes in_place rest
 all_read variant size i bytes nodes in_place rest le a = record {
-  lists = map listed a.parts;
+  lists = map listed_node a.parts;
   parts = a.parts;
-  read_is = is_read (model.node size).get size i bytes (map listed a.parts) rest le a.so_far;
+  read_is = is_read (model.node size).get size i bytes (map listed_node a.parts) rest le a.so_far;
   listed_are = record { lists_are = refl; each = a.each };
   kept = a.kept;
   misplaced = a.misplaced;
@@ -135,18 +135,18 @@ begins_so size i bytes front rest l behind lists end lt read so_far whole =
     let next = one_more (model.node size).get size i bytes front rest l behind lt read so_far in
     found front l lists end (get_times (model.node size).get (size - (i + 1)) behind) (next ∙ whole)
 
-pub least_unsound : (variant : Variant) (size i : ℕ) (bytes : List ℕ) (nodes : List NodeSeen) (in_place : Bool) (rest : List ℕ) (n : NodeSeen) (behind : List ℕ) → i < size → (model.node size).get rest ≡ Some (listed n, behind) → IsNodeAt variant i size n → ArePrecursorsBelow size (n.core).rt → ¬ (HasSoundCore n)
+pub least_unsound : (variant : Variant) (size i : ℕ) (bytes : List ℕ) (nodes : List NodeSeen) (in_place : Bool) (rest : List ℕ) (n : NodeSeen) (behind : List ℕ) → i < size → (model.node size).get rest ≡ Some (listed_node n, behind) → IsNodeAt variant i size n → ArePrecursorsBelow size (n.core).rt → ¬ (HasSoundCore n)
     → AreReadSoFar variant size i bytes nodes in_place rest → IsRefusalOf (IsUnsoundNode variant size) (get_times (model.node size).get size bytes) (errors.Unsound (parts.Node i))
 least_unsound variant size i bytes nodes in_place rest n behind lt read mine below unsound a lists end whole =
-    let so = begins_so size i bytes (map listed a.parts) rest (listed n) behind lists end lt read a.so_far whole in
-    let count : length (map listed a.parts) ≡ i = length-map a.parts listed ∙ a.count in
-    let here : slice_get lists i ≡ Some (listed n) = ap (λ (ls : List Node). slice_get ls i) so.1 ∙ middle (map listed a.parts) so.0 (listed n) i (sym count) in (
+    let so = begins_so size i bytes (map listed_node a.parts) rest (listed_node n) behind lists end lt read a.so_far whole in
+    let count : length (map listed_node a.parts) ≡ i = length-map a.parts listed_node ∙ a.count in
+    let here : slice_get lists i ≡ Some (listed_node n) = ap (λ (ls : List Node). slice_get ls i) so.1 ∙ middle (map listed_node a.parts) so.0 (listed_node n) i (sym count) in (
       (n, record { mine = mine; below = below; listed_is = here }, unsound),
       λ y before.
           let at = at_index (IsSoundNodeAt variant size) 0 a.parts y a.each (omega (arith, before, a.count)) in
           let same : 0 + y ≡ y = omega arith in
           let p : IsSoundNodeAt variant size y at.0 = subst (λ (k : ℕ). IsSoundNodeAt variant size k at.0) same at.2 in
-          let there : slice_get lists y ≡ Some (listed at.0) =
-          ap (λ (ls : List Node). slice_get ls y) so.1 ∙ left (map listed a.parts) (listed n ∷ so.0) y (listed at.0) (slice_get-map listed a.parts y ∙ ap (option_map listed) at.1) in
+          let there : slice_get lists y ≡ Some (listed_node at.0) =
+          ap (λ (ls : List Node). slice_get ls y) so.1 ∙ left (map listed_node a.parts) (listed_node n ∷ so.0) y (listed_node at.0) (slice_get-map listed_node a.parts y ∙ ap (option_map listed_node) at.1) in
           (at.0, record { mine = p.0; below = precursors_below at.0 size (p.0).size_is p.1; listed_is = there }, p.1),
     )

@@ -12,7 +12,7 @@ use Rattle.mesh_world.specs.Restored.{AreSoundParts, IsFirstPart}
 use Rattle.mesh_world.specs.declared.restored.Part.{Part}
 use Rattle.mesh_world.specs.declared.restored.Part.TheVariants as parts
 use Rattle.mesh_checkpoint.specs.Checkpoint.{Node, World}
-use Rattle.mesh_checkpoint.specs.Seen.{listed}
+use Rattle.mesh_checkpoint.specs.Seen.{listed_node}
 use Rattle.mesh_load.specs.Nodes.{IsSoundNodeAt, AreListed, IsUnsoundAt}
 use Rattle.mesh_load.specs.Loading.{AreInPlace, IsUnsoundWorld}
 use Rattle.mesh_load.specs.Parts.{IsWorldFrom, IsMaybeWorldFrom, IsUnsoundIfWorld}
@@ -23,13 +23,13 @@ use Rattle.mesh_load.proofs.Alike.{AreAlike, one_nodes, sound_again, items_alike
 none_unsound_at : (variant : Variant) (size x : ℕ) (lists : List Node) (nodes : List NodeSeen) → size ≤ 256 → AreListed variant size lists nodes → ¬ (IsUnsoundAt variant size lists x)
 none_unsound_at variant size x lists nodes few l unsound =
     let n : NodeSeen = unsound.0 in
-    let within = slice_get_within lists x (listed n) (unsound.1).listed_is in
-    let long : length lists ≡ length nodes = ap (λ (ls : List Node). length ls) l.lists_are ∙ length-map nodes listed in
+    let within = slice_get_within lists x (listed_node n) (unsound.1).listed_is in
+    let long : length lists ≡ length nodes = ap (λ (ls : List Node). length ls) l.lists_are ∙ length-map nodes listed_node in
     let at = at_index (IsSoundNodeAt variant size) 0 nodes x l.each (omega (arith, within, long)) in
     let first : 0 + x ≡ x = omega arith in
     let is : IsSoundNodeAt variant size x at.0 = subst (λ (k : ℕ). IsSoundNodeAt variant size k at.0) first at.2 in
-    let there : slice_get lists x ≡ Some (listed at.0) = ap (λ (ls : List Node). slice_get ls x) l.lists_are ∙ slice_get-map listed nodes x ∙ ap (option_map listed) at.1 in
-    let same : listed at.0 ≡ listed n = same_Some (listed at.0) (listed n) (sym there ∙ (unsound.1).listed_is) in
+    let there : slice_get lists x ≡ Some (listed_node at.0) = ap (λ (ls : List Node). slice_get ls x) l.lists_are ∙ slice_get-map listed_node nodes x ∙ ap (option_map listed_node) at.1 in
+    let same : listed_node at.0 ≡ listed_node n = same_Some (listed_node at.0) (listed_node n) (sym there ∙ (unsound.1).listed_is) in
     unsound.2 (sound_again variant size x at.0 n few is (unsound.1).mine (unsound.1).below same)
 
 no_first_part : (mesh : Nodes) (nodes : List NodeSeen) (flying : List Flying) (part : Part) → AreSoundParts mesh nodes flying → ¬ (IsFirstPart mesh nodes flying part)

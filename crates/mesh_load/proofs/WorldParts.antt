@@ -24,8 +24,8 @@ use Rattle.mesh_checkpoint.specs.Checkpoint as model
 use Rattle.mesh_checkpoint.specs.Checkpoint.{Node, World}
 use Rattle.mesh_checkpoint.specs.Counts.{data_in_world}
 use Rattle.mesh_checkpoint.specs.Points.{links_of}
-use Rattle.mesh_checkpoint.specs.Seen.{listed}
-use Rattle.mesh_restore.specs.Air.{Aired, air, IsAirRead}
+use Rattle.mesh_checkpoint.specs.Seen.{listed_node}
+use Rattle.mesh_restore.specs.Air.{AirState, air, IsAirRead}
 use Rattle.mesh_restore.specs.Reading.{Refuses}
 use Rattle.mesh_restore.specs.declared.error.ReadError.{ReadError}
 use Rattle.mesh_restore.specs.declared.error.ReadError.TheVariants.{Spelling, NoMemory}
@@ -45,29 +45,29 @@ bind_some (Some x) f y e = (x, refl, e)
 
 -- ---- what is read of a world
 
-abbrev of_parts : ℕ → List Node → Aired → World
+abbrev of_parts : ℕ → List Node → AirState → World
 of_parts steps nodes aired = record { steps = steps; nodes = nodes; links = aired.0; next = aired.1.0; copies = aired.1.1 }
 
-abbrev with_nodes : List Node → Aired × List ℕ → Option ((List Node × Aired) × List ℕ)
+abbrev with_nodes : List Node → AirState × List ℕ → Option ((List Node × AirState) × List ℕ)
 with_nodes nodes z = Some ((nodes, z.0), z.1)
 
-abbrev with_steps : ℕ → (List Node × Aired) × List ℕ → Option ((ℕ × (List Node × Aired)) × List ℕ)
+abbrev with_steps : ℕ → (List Node × AirState) × List ℕ → Option ((ℕ × (List Node × AirState)) × List ℕ)
 with_steps steps y = Some ((steps, y.0), y.1)
 
-abbrev to_world : (ℕ × (List Node × Aired)) × List ℕ → Option (World × List ℕ)
+abbrev to_world : (ℕ × (List Node × AirState)) × List ℕ → Option (World × List ℕ)
 to_world x = Some (of_parts x.0.0 x.0.1.0 x.0.1.1, x.1)
 
-abbrev as_world : ℕ → List Node → Aired × List ℕ → Option (World × List ℕ)
+abbrev as_world : ℕ → List Node → AirState × List ℕ → Option (World × List ℕ)
 as_world steps nodes z = Some (of_parts steps nodes z.0, z.1)
 
 abbrev behind_nodes : ℕ → ℕ → List Node × List ℕ → Option (World × List ℕ)
 behind_nodes size steps y = (air size).get y.1 >>= as_world steps y.0
 
-collapse_air : (steps : ℕ) (nodes : List Node) (o : Option (Aired × List ℕ)) → (((o >>= with_nodes nodes) >>= with_steps steps) >>= to_world) ≡ (o >>= as_world steps nodes)
+collapse_air : (steps : ℕ) (nodes : List Node) (o : Option (AirState × List ℕ)) → (((o >>= with_nodes nodes) >>= with_steps steps) >>= to_world) ≡ (o >>= as_world steps nodes)
 collapse_air steps nodes None = refl
 collapse_air steps nodes (Some z) = refl
 
-abbrev then_air : ℕ → List Node × List ℕ → Option ((List Node × Aired) × List ℕ)
+abbrev then_air : ℕ → List Node × List ℕ → Option ((List Node × AirState) × List ℕ)
 then_air size y = (air size).get y.1 >>= with_nodes y.0
 
 collapse : (size steps : ℕ) (o : Option (List Node × List ℕ)) → (((o >>= then_air size) >>= with_steps steps) >>= to_world) ≡ (o >>= behind_nodes size steps)
@@ -83,7 +83,7 @@ world_at size steps bytes r one = rw one (collapse size steps (get_times (model.
 pub no_steps : (size : ℕ) (bytes : List ℕ) → read_steps bytes ≡ None → (model.world size).get bytes ≡ None
 no_steps size bytes none = rw none refl
 
-world_whole : (size steps : ℕ) (bytes r s t : List ℕ) (nodes : List Node) (aired : Aired) → read_steps bytes ≡ Some (steps, r) → get_times (model.node size).get size r ≡ Some (nodes, s) → (air size).get s ≡ Some (aired, t)
+world_whole : (size steps : ℕ) (bytes r s t : List ℕ) (nodes : List Node) (aired : AirState) → read_steps bytes ≡ Some (steps, r) → get_times (model.node size).get size r ≡ Some (nodes, s) → (air size).get s ≡ Some (aired, t)
     → (model.world size).get bytes ≡ Some (of_parts steps nodes aired, t)
 world_whole size steps bytes r s t nodes aired one two three = world_at size steps bytes r one ∙ rw (two, three) refl
 
@@ -218,7 +218,7 @@ are_kept mesh variant bytes steps nodes in_place radio apart p one two =
       copies_are = sym ((p.air_read).whole two);
       items = subst (λ (ns : List NodeSeen). AllByRecursion HasItemsAt ns) (sym kept.0) kept.1;
       count =
-          ap (λ (ns : List NodeSeen). length ns) kept.0 ∙ sym (length-map (p.nodes_read).parts listed) ∙ sym (ap (λ (ls : List Node). length ls) listed_are.lists_are)
+          ap (λ (ns : List NodeSeen). length ns) kept.0 ∙ sym (length-map (p.nodes_read).parts listed_node) ∙ sym (ap (λ (ls : List Node). length ls) listed_are.lists_are)
           ∙ times_length (model.node (length mesh)).get (length mesh) p.behind (p.nodes_read).lists p.rest (p.nodes_read).read_is;
     }
 

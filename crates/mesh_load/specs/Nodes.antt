@@ -5,7 +5,7 @@ use Rattle.mesh_base.specs.declared.events.Variant.{Variant}
 use Rattle.aodv_node.specs.Seen.{NodeSeen}
 use Rattle.aodv_node.specs.Restored.{HasSoundCore, HasItemsAt}
 use Rattle.mesh_checkpoint.specs.Checkpoint.{Node}
-use Rattle.mesh_checkpoint.specs.Seen.{listed}
+use Rattle.mesh_checkpoint.specs.Seen.{listed_node}
 use Rattle.mesh_restore.specs.Nodes.{IsNodeAt, ArePrecursorsBelow}
 
 -- P holds of each node and its index, the first of which is x
@@ -20,7 +20,7 @@ IsSoundNodeAt variant size x n = IsNodeAt variant x size n × HasSoundCore n
 -- these nodes are listed, and the state of each is in order
 pub record AreListed (variant : Variant) (size : ℕ) (lists : List Node) (nodes : List NodeSeen)
     : Type 0 where
-  pub lists_are : lists ≡ map listed nodes
+  pub lists_are : lists ≡ map listed_node nodes
   pub each : AllFrom (IsSoundNodeAt variant size) 0 nodes
 
 -- node x is listed so. Its precursors are nodes of the mesh, as others couldn't be listed
@@ -28,7 +28,7 @@ pub record IsListedAt (variant : Variant) (size : ℕ) (lists : List Node) (x : 
     : Type 0 where
   pub mine : IsNodeAt variant x size n
   pub below : ArePrecursorsBelow size (n.core).rt
-  pub listed_is : slice_get lists x ≡ Some (listed n)
+  pub listed_is : slice_get lists x ≡ Some (listed_node n)
 
 -- node x is listed, and its state is in order
 abbrev pub IsSoundAt : Variant → ℕ → List Node → ℕ → Type 0

@@ -9,12 +9,12 @@ use Rattle.mesh_base.specs.declared.limits.TheConstants.{LONGEST_INPUT}
 use Rattle.mesh_base.specs.Meshes.{Nodes, IsMesh, with_node}
 use Rattle.mesh_grammar.specs.Lines.{pieces_of}
 use Rattle.mesh_grammar.specs.Written.{line}
-use Rattle.mesh_text.specs.Schedule.{Moment, Accepted, opening, line_of}
+use Rattle.mesh_text.specs.Schedule.{Moment, AcceptedLine, opening, line_of}
 use Rattle.mesh_text.specs.Lines.{words_of}
 use Rattle.mesh_text.specs.Text.{outcome_of_line, text_from, text_on, text_of_input}
 use Rattle.mesh_make.specs.Words.{of_seed}
 use Rattle.mesh_make.specs.Drawn.{step_line}
-use Rattle.mesh_make.specs.Made.{node_address, mesh_of, node_line, node_lines, chain, step_lines, from_step, lines_of, text_in, made}
+use Rattle.mesh_make.specs.Made.{node_address, mesh_of, node_line, node_lines, chain, step_lines, from_step, lines_of, text_in, made_schedule}
 use Rattle.mesh_make.specs.Laws.{MadeSchedulesAreAllowed, MadeSchedulesAreShort}
 use Rattle.mesh_make.proofs.Texts.{IsShort, number_short, name_short, written_short}
 use Rattle.mesh_make.proofs.Grown.{IsMeshOf, is_new, next_mesh, mesh_of-is}
@@ -25,11 +25,11 @@ use Rattle.mesh_make.proofs.Safe.{IsSafe, Fine, Has, run_of, line_fine, line_saf
 -- ---- all lines after the nodes
 
 -- so many lines, each of which fits
-record AreFit (mesh : Nodes) (count : ℕ) (lines : List Accepted) : Type 0 where
+record AreFit (mesh : Nodes) (count : ℕ) (lines : List AcceptedLine) : Type 0 where
   each : AllByRecursion (IsFit mesh) lines
   count_is : length lines ≡ count
 
-one_fits : (mesh : Nodes) (n : ℕ) (a : Accepted) (rest : List Accepted) → IsFit mesh a → AreFit mesh n rest → AreFit mesh (suc n) (a ∷ rest)
+one_fits : (mesh : Nodes) (n : ℕ) (a : AcceptedLine) (rest : List AcceptedLine) → IsFit mesh a → AreFit mesh n rest → AreFit mesh (suc n) (a ∷ rest)
 one_fits mesh n a rest fit are = record { each = (fit, are.each); count_is = ap suc are.count_is }
 
 module _ (nodes : ℕ) (two : 2 ≤ nodes) (few : nodes ≤ 200) where
@@ -43,7 +43,7 @@ module _ (nodes : ℕ) (two : 2 ≤ nodes) (few : nodes ≤ 200) where
       one_fits (mesh_of nodes) (suc count) _ _ (fit_step nodes (mesh_of nodes) two few made_mesh s one (omega arith) rng)
       (steps_fit (s + 1) count (step_line nodes s rng).rng (omega arith) (omega arith))
 
-  chain_fits : (i count n : ℕ) (others : List Accepted) → i + count < nodes → AreFit (mesh_of nodes) n others → AreFit (mesh_of nodes) (count + n) (chain i count ++ others)
+  chain_fits : (i count n : ℕ) (others : List AcceptedLine) → i + count < nodes → AreFit (mesh_of nodes) n others → AreFit (mesh_of nodes) (count + n) (chain i count ++ others)
   unfolding chain
   chain_fits i zero n others le fit = record { each = fit.each; count_is = let e = fit.count_is in omega arith }
   chain_fits i (suc count) n others le fit =
@@ -51,7 +51,7 @@ module _ (nodes : ℕ) (two : 2 ≤ nodes) (few : nodes ≤ 200) where
       record { each = all.each; count_is = let e = all.count_is in omega arith }
 
 -- those of a whole schedule
-abbrev after_nodes : ℕ → ℕ → ℕ → List Accepted
+abbrev after_nodes : ℕ → ℕ → ℕ → List AcceptedLine
 after_nodes seed nodes steps = chain 0 (nodes - 1) ++ from_step nodes 1 steps (of_seed seed)
 
 all_fit : (seed nodes steps : ℕ) → 2 ≤ nodes → nodes ≤ 200 → steps ≤ 100000 → AreFit (mesh_of nodes) (nodes - 1 + suc steps) (after_nodes seed nodes steps)
@@ -63,7 +63,7 @@ all_fit seed nodes steps two few most =
 one_more : (words rest : List ℕ) (n : ℕ) → IsShort 38 words → length rest ≤ 39 * n → length (line words ++ rest) ≤ 39 * suc n
 one_more words rest n short le = omega (arith, length-append (line words) rest, length-append words (10 ∷ []), short.within)
 
-fit_length : (mesh : Nodes) (lines : List Accepted) → AllByRecursion (IsFit mesh) lines → length (text_in mesh lines) ≤ 39 * length lines
+fit_length : (mesh : Nodes) (lines : List AcceptedLine) → AllByRecursion (IsFit mesh) lines → length (text_in mesh lines) ≤ 39 * length lines
 fit_length mesh [] fit = omega arith
 fit_length mesh (a ∷ rest) fit = one_more (words_of mesh a) (text_in mesh rest) (length rest) fit.0.short (fit_length mesh rest fit.1)
 
@@ -71,7 +71,7 @@ pub node_short : (mesh : Nodes) (i : ℕ) → i < 200 → IsShort 38 (words_of m
 unfolding words_of
 node_short mesh i lt = written_short _ _ (record { others = refl; within = omega arith }) (name_short i lt, number_short 6 1 (omega arith) (omega arith) (omega arith))
 
-nodes_length : (mesh : Nodes) (i count k : ℕ) (others : List Accepted) → i + count ≤ 200 → length (text_in mesh others) ≤ 39 * k
+nodes_length : (mesh : Nodes) (i count k : ℕ) (others : List AcceptedLine) → i + count ≤ 200 → length (text_in mesh others) ≤ 39 * k
     → length (text_in mesh (node_lines i count ++ others)) ≤ 39 * (count + k)
 unfolding node_lines
 nodes_length mesh i zero k others le short = omega arith
@@ -80,16 +80,16 @@ nodes_length mesh i (suc count) k others le short =
     omega arith
 
 pub made_short : MadeSchedulesAreShort
-unfolding made lines_of
+unfolding made_schedule lines_of
 made_short seed nodes steps two few one most =
-    let others : List Accepted = after_nodes seed nodes steps in
+    let others : List AcceptedLine = after_nodes seed nodes steps in
     let fit = all_fit seed nodes steps two few most in
     let all = nodes_length (mesh_of nodes) 0 nodes (length others) others (omega arith) (fit_length (mesh_of nodes) others fit.each) in
     omega (arith, all, fit.count_is)
 
 -- ---- its run
 
-lines_go : (mesh : Nodes) (lines : List Accepted) (m : Moment) → IsMesh mesh → AllByRecursion (IsFit mesh) lines → Has mesh m → IsSafe (run_of m (text_in mesh lines))
+lines_go : (mesh : Nodes) (lines : List AcceptedLine) (m : Moment) → IsMesh mesh → AllByRecursion (IsFit mesh) lines → Has mesh m → IsSafe (run_of m (text_in mesh lines))
 unfolding pieces_of text_from
 lines_go mesh [] m is fit has = record { never = λ n e. let Q : ⊥ = cc in Q }
 lines_go mesh (a ∷ rest) m is fit has =
@@ -111,18 +111,18 @@ one_grown : (k : ℕ) (m : Moment) → IsBefore k m → Fine (IsBefore (k + 1)) 
 unfolding Fine outcome_of_line
 one_grown k m is = record { has = ap (λ mesh. with_node mesh (node_address k) 1) is.has ∙ next_mesh k; waits = is.waits }
 
-nodes_go : (nodes k count : ℕ) (m : Moment) (others : List Accepted) → nodes ≤ 200 → k + count ≡ nodes → IsBefore k m → ((n : Moment) → Has (mesh_of nodes) n → IsSafe (run_of n (text_in (mesh_of nodes) others)))
+nodes_go : (nodes k count : ℕ) (m : Moment) (others : List AcceptedLine) → nodes ≤ 200 → k + count ≡ nodes → IsBefore k m → ((n : Moment) → Has (mesh_of nodes) n → IsSafe (run_of n (text_in (mesh_of nodes) others)))
     → IsSafe (run_of m (text_in (mesh_of nodes) (node_lines k count ++ others)))
 unfolding node_lines
 nodes_go nodes k zero m others few all is rest = rest m (is.has ∙ ap mesh_of (let e : k ≡ nodes = omega arith in e))
 nodes_go nodes k (suc count) m others few all is rest =
     let mesh : Nodes = mesh_of k in
-    let made = mesh_of-is k (omega arith) in
+    let grown = mesh_of-is k (omega arith) in
     let early : is_some m.world ≡ false = ap is_some is.waits in
     let text : List ℕ = text_in (mesh_of nodes) (node_lines (k + 1) count ++ others) in
     let parses : line_of m.mesh (is_some m.world) (words_of mesh (node_line k)) ≡ Ok (node_line k) =
     subst (λ known. line_of known (is_some m.world) (words_of mesh (node_line k)) ≡ Ok (node_line k)) (sym is.has)
-    (printed_line_parses mesh (is_some m.world) (node_line k) made.is_mesh (is_new k mesh (omega arith) made) early) in
+    (printed_line_parses mesh (is_some m.world) (node_line k) grown.is_mesh (is_new k mesh (omega arith) grown) early) in
     subst (λ words. IsSafe (run_of m (line words ++ text))) (same_words mesh (mesh_of nodes) k)
     (line_safe (IsBefore (k + 1)) m (words_of mesh (node_line k)) text (node_line k) (node_short mesh k (omega arith))
     parses (one_grown k m is) (λ n next. nodes_go nodes (k + 1) count n others few (omega arith) next rest))
@@ -132,8 +132,8 @@ pub whole_input : (m : Moment) (input : List ℕ) → length input ≤ LONGEST_I
 unfolding text_on
 whole_input m input le = rw (le-ltb LONGEST_INPUT (length input) le, take_all LONGEST_INPUT input le) refl
 
-made_safe : (variant : Variant) (seed nodes steps : ℕ) → 2 ≤ nodes → nodes ≤ 200 → steps ≤ 100000 → IsSafe (run_of (opening variant) (made seed nodes steps))
-unfolding made lines_of mesh_of
+made_safe : (variant : Variant) (seed nodes steps : ℕ) → 2 ≤ nodes → nodes ≤ 200 → steps ≤ 100000 → IsSafe (run_of (opening variant) (made_schedule seed nodes steps))
+unfolding made_schedule lines_of mesh_of
 made_safe variant seed nodes steps two few most =
     nodes_go nodes 0 nodes (opening variant) (after_nodes seed nodes steps) few (omega arith) (record { has = refl; waits = refl })
     (λ n has. lines_go (mesh_of nodes) (after_nodes seed nodes steps) n (mesh_of-is nodes few).is_mesh (all_fit seed nodes steps two few most).each has)
@@ -141,6 +141,6 @@ made_safe variant seed nodes steps two few most =
 pub made_allowed : MadeSchedulesAreAllowed
 unfolding text_of_input
 made_allowed variant seed nodes steps n two few one most =
-    let short : length (made seed nodes steps) ≤ LONGEST_INPUT = omega (arith, made_short seed nodes steps two few one most) in
-    let safe : IsSafe (text_of_input variant (made seed nodes steps)) = subst IsSafe (sym (whole_input (opening variant) (made seed nodes steps) short)) (made_safe variant seed nodes steps two few most) in
+    let short : length (made_schedule seed nodes steps) ≤ LONGEST_INPUT = omega (arith, made_short seed nodes steps two few one most) in
+    let safe : IsSafe (text_of_input variant (made_schedule seed nodes steps)) = subst IsSafe (sym (whole_input (opening variant) (made_schedule seed nodes steps) short)) (made_safe variant seed nodes steps two few most) in
     safe.never n

@@ -5,10 +5,10 @@ use Rattle.mesh_base.specs.Meshes.{Nodes, IsMesh}
 use Rattle.mesh_base.specs.declared.limits.TheConstants.{LONGEST_INPUT}
 use Rattle.mesh_grammar.specs.Lines.{Whole}
 use Rattle.mesh_grammar.specs.Written.{line}
-use Rattle.mesh_text.specs.Schedule.{Moment, Accepted, Nothing, NewNode, Does, Chooses, ShowsNode, ShowsRoute, ShowsFlight, line_of}
+use Rattle.mesh_text.specs.Schedule.{Moment, AcceptedLine, Nothing, NewNode, Does, Chooses, ShowsNode, ShowsRoute, ShowsFlight, line_of}
 use Rattle.mesh_text.specs.Lines.{words_of}
 use Rattle.mesh_text.specs.Ranges.{IsInRange, IsInTime}
-use Rattle.mesh_text.specs.Text.{LineOutcome, On, Refused, Full, Written, outcome_of_line, outcome_of_read, outcome_of_piece, goes_on, lines_before, text_on}
+use Rattle.mesh_text.specs.Text.{LineOutcome, On, Refused, Full, RunText, outcome_of_line, outcome_of_read, outcome_of_piece, goes_on, lines_before, text_on}
 use Rattle.mesh_text.proofs.Printed.{printed_line_parses}
 use Rattle.mesh_script.specs.declared.line.Line.{Line}
 use Rattle.mesh_script.specs.Seen.{accepted_of}
@@ -70,7 +70,7 @@ none_after nodes steps End later = refl
 -- ---- the next moment
 
 -- a line adds its node, or leaves the mesh as it is
-mesh_goes : (m : Moment) (a : Accepted) → Fine (λ n. n.mesh ≡ mesh_after m.mesh a) (outcome_of_line m a)
+mesh_goes : (m : Moment) (a : AcceptedLine) → Fine (λ n. n.mesh ≡ mesh_after m.mesh a) (outcome_of_line m a)
 unfolding Fine outcome_of_line
 mesh_goes m (NewNode address first) = refl
 mesh_goes m Nothing = line_fine m.mesh m Nothing (λ _. tt) refl
@@ -96,7 +96,7 @@ still_waits nodes steps End rng m n said waits e node = absurd (let no = none_af
 
 -- ---- a maker, and the same once it has made its next line
 
-pub record IsNext (o n : Maker) (a : Accepted) : Type 0 where
+pub record IsNext (o n : Maker) (a : AcceptedLine) : Type 0 where
   pub making : IsMaking o
   pub more : is_done o ≡ false
   pub line_is : a ≡ (line_at o.size.nodes o.place o.rng).value
@@ -105,13 +105,13 @@ pub record IsNext (o n : Maker) (a : Accepted) : Type 0 where
   pub size : n.size ≡ o.size
   pub mesh : n.mesh ≡ mesh_after o.mesh a
 
-pub next_making : (o n : Maker) (a : Accepted) → IsNext o n a → IsPlace o.size.nodes o.size.steps n.place → IsMaking n
+pub next_making : (o n : Maker) (a : AcceptedLine) → IsNext o n a → IsPlace o.size.nodes o.size.steps n.place → IsMaking n
 next_making o n a next is_place = record {
   size = subst (λ (s : Size). IsSize s.nodes s.steps) (sym next.size) next.making.size;
   place = subst (λ (s : Size). IsPlace s.nodes s.steps n.place) (sym next.size) is_place;
   mesh =
       next.mesh ∙ ap (λ (mesh : Nodes). mesh_after mesh a) next.making.mesh
-      ∙ ap (λ (l : Accepted). mesh_after (mesh_of (nodes_at o.size.nodes o.place)) l) next.line_is
+      ∙ ap (λ (l : AcceptedLine). mesh_after (mesh_of (nodes_at o.size.nodes o.place)) l) next.line_is
       ∙ mesh_next o.size.nodes o.size.steps next.making.size o.place o.rng next.making.place next.more
       ∙ ap (λ (place : Place). mesh_of (nodes_at o.size.nodes place)) (sym next.place)
       ∙ ap (λ (s : Size). mesh_of (nodes_at s.nodes n.place)) (sym next.size);
@@ -121,16 +121,16 @@ next_making o n a next is_place = record {
 pub next_printable : (m : Maker) (line : Line) → IsMaking m → accepted_of line ≡ (line_at m.size.nodes m.place m.rng).value → IsInRange m.mesh (accepted_of line)
 next_printable m line making is =
     subst (λ (mesh : Nodes). IsInRange mesh (accepted_of line)) (sym making.mesh)
-    (subst (λ (a : Accepted). IsInRange (mesh_of (nodes_at m.size.nodes m.place)) a) (sym is) (line_fits m.size.nodes m.size.steps making.size m.place m.rng making.place))
+    (subst (λ (a : AcceptedLine). IsInRange (mesh_of (nodes_at m.size.nodes m.place)) a) (sym is) (line_fits m.size.nodes m.size.steps making.size m.place m.rng making.place))
 
 -- a short line that is allowed
-record IsShortLine (mesh : Nodes) (started : Bool) (a : Accepted) : Type 0 where
+record IsShortLine (mesh : Nodes) (started : Bool) (a : AcceptedLine) : Type 0 where
   is_mesh : IsMesh mesh
   short : IsShort 38 (words_of mesh a)
   range : IsInRange mesh a
   time : IsInTime started a
 
-module _ (o n : Maker) (a : Accepted) (next : IsNext o n a) where
+module _ (o n : Maker) (a : AcceptedLine) (next : IsNext o n a) where
   next_is : (started : Bool) → (is_node o.place ≡ true → started ≡ false) → IsShortLine o.mesh started a
   next_is started waits =
       let nodes : ℕ = o.size.nodes in
@@ -143,7 +143,7 @@ module _ (o n : Maker) (a : Accepted) (next : IsNext o n a) where
         range = line_fits nodes o.size.steps size o.place o.rng is;
         time = line_in_time nodes o.size.steps size o.place o.rng started is waits;
       } in
-      subst (λ (l : Accepted). IsShortLine o.mesh started l) (sym next.line_is)
+      subst (λ (l : AcceptedLine). IsShortLine o.mesh started l) (sym next.line_is)
       (subst (λ (mesh : Nodes). IsShortLine mesh started (line_at nodes o.place o.rng).value) (sym next.making.mesh) whole)
 
   text_next : still_to_come o ≡ line (words_of o.mesh a) ++ still_to_come n
@@ -189,7 +189,7 @@ module _ (o n : Maker) (a : Accepted) (next : IsNext o n a) where
         ∙ ap (λ (c : LineOutcome). goes_on m c (λ k. run_of k rest)) comes_to
         ∙ goes_same (outcome_of_line m a) (λ k. run_of k rest) (λ k. text_on k rest) (λ k. sym (whole_input k rest (omega arith)))
       where
-        goes_same : (c : LineOutcome) (f g : Moment → Written) → ((k : Moment) → f k ≡ g k) → goes_on m c f ≡ goes_on m c g
+        goes_same : (c : LineOutcome) (f g : Moment → RunText) → ((k : Moment) → f k ≡ g k) → goes_on m c f ≡ goes_on m c g
         goes_same (On text k) f g same = ap (lines_before text) (same k)
         goes_same (Refused why) f g same = refl
         goes_same (Full text k e field) f g same = refl

@@ -12,9 +12,9 @@ use Rattle.std.proofs.lemmas.List.Elements.{recursion_from_All, All-from_recursi
 use Rattle.std.proofs.lemmas.Str.Parse.{numerals_by_value, tells_by_index}
 use Rattle.rand_pcg.specs.Lcg.{Lcg}
 use Rattle.mesh_base.specs.Meshes.{Nodes, addr_at}
-use Rattle.mesh_base.specs.Addresses.{dotted}
+use Rattle.mesh_base.specs.Addresses.{dotted_decimal}
 use Rattle.mesh_model.specs.Worlds.{Event, Give, Turn, Ask, Link, Cut, Deliver, Lose}
-use Rattle.mesh_text.specs.Schedule.{Accepted, Nothing, NewNode, Does, Chooses, ShowsNode, ShowsRoute, ShowsFlight, of_pair}
+use Rattle.mesh_text.specs.Schedule.{AcceptedLine, Nothing, NewNode, Does, Chooses, ShowsNode, ShowsRoute, ShowsFlight, of_pair}
 use Rattle.mesh_grammar.specs.Forms.{OneNumber, TwoAddresses, IsText}
 use Rattle.mesh_text.specs.Lines.{Spelling, spelling, event_spelling, event_words, text_of, words_of}
 use Rattle.mesh_text.specs.Ranges.{IsInRange, IsInTime}
@@ -62,13 +62,13 @@ digits_shown n fits =
 -- ---- the lines
 
 -- a line that is allowed in this mesh at any time, and is short
-pub record IsFit (mesh : Nodes) (a : Accepted) : Type 0 where
+pub record IsFit (mesh : Nodes) (a : AcceptedLine) : Type 0 where
   pub range : IsInRange mesh a
   pub later : (started : Bool) → IsInTime started a
   pub short : IsShort 38 (words_of mesh a)
 
 -- how a line that is drawn is spelled
-abbrev line_spelling : Nodes → Accepted → Option Spelling
+abbrev line_spelling : Nodes → AcceptedLine → Option Spelling
 line_spelling mesh (Does e) = Some (event_spelling mesh e)
 line_spelling mesh (Chooses count) = Some (spelling (codes "auto") (OneNumber count))
 line_spelling mesh (ShowsRoute x d) = Some (spelling (codes "route") (TwoAddresses (addr_at mesh x) (addr_at mesh d)))
@@ -80,7 +80,7 @@ text_along s t e = let same : s ≡ t = cc in ap text_of same
 no_spelling : (P : Type 0) (s : Spelling) → None ≡ Some s → P
 no_spelling P s e = absurd (let Q : ⊥ = cc in Q)
 
-words_spelled : (mesh : Nodes) (a : Accepted) (s : Spelling) → line_spelling mesh a ≡ Some s → words_of mesh a ≡ text_of s
+words_spelled : (mesh : Nodes) (a : AcceptedLine) (s : Spelling) → line_spelling mesh a ≡ Some s → words_of mesh a ≡ text_of s
 unfolding words_of event_words
 words_spelled mesh Nothing s e = no_spelling _ s e
 words_spelled mesh (NewNode address first) s e = no_spelling _ s e
@@ -92,7 +92,7 @@ words_spelled mesh (ShowsRoute x d) s e =
 words_spelled mesh ShowsFlight s e = no_spelling _ s e
 
 -- a line by the word and the arguments that spell it
-fitting : (mesh : Nodes) (a : Accepted) (s : Spelling) → line_spelling mesh a ≡ Some s → IsInRange mesh a → ((started : Bool) → IsInTime started a) → list_all other s.word ≡ true → length s.word ≤ 7
+fitting : (mesh : Nodes) (a : AcceptedLine) (s : Spelling) → line_spelling mesh a ≡ Some s → IsInRange mesh a → ((started : Bool) → IsInTime started a) → list_all other s.word ≡ true → length s.word ≤ 7
     → AreShort s.arguments → IsFit mesh a
 fitting mesh a s is range later others within arguments =
     record { range = range; later = later; short = subst (IsShort 38) (sym (words_spelled mesh a s is)) (written_short s.word s.arguments (record { others = others; within = within }) arguments) }
@@ -104,8 +104,8 @@ module _ (nodes : ℕ) (mesh : Nodes) (two : 2 ≤ nodes) (few : nodes ≤ 200) 
   some : 1 ≤ length mesh
   some = omega (arith, is.size)
 
-  name : (a : ℕ) → a < nodes → IsShort 10 (dotted (addr_at mesh a))
-  name a lt = subst (λ n. IsShort 10 (dotted n)) (sym (is.named a lt)) (name_short a (omega arith))
+  name : (a : ℕ) → a < nodes → IsShort 10 (dotted_decimal (addr_at mesh a))
+  name a lt = subst (λ n. IsShort 10 (dotted_decimal n)) (sym (is.named a lt)) (name_short a (omega arith))
 
   number : (n : ℕ) → n ≤ 400000 → IsShort 6 (decimal n)
   number n le = number_short 6 n (omega arith) (omega arith) (omega arith)
@@ -155,7 +155,7 @@ module _ (nodes : ℕ) (mesh : Nodes) (two : 2 ≤ nodes) (few : nodes ≤ 200) 
         let digits : IsShort 6 (decimal s) = number s (omega arith) in
         let shown : AllByRecursion (λ b. (32 ≤ b) × (b ≤ 126)) (decimal s) = digits_shown s (omega arith) in
         let text : IsText (datum_text s) = (omega arith, omega (arith, digits.within), ((omega arith, omega arith), shown)) in
-        let names : IsShort 10 (dotted (addr_at mesh a)) × IsShort 10 (dotted (addr_at mesh b)) = (name a a_in, name b b_in.0) in
+        let names : IsShort 10 (dotted_decimal (addr_at mesh a)) × IsShort 10 (dotted_decimal (addr_at mesh b)) = (name a a_in, name b b_in.0) in
         let pair : (a < length mesh) × (b < length mesh) = (within a a_in, within b b_in.0) in
         let apart : (a < length mesh) × (b < length mesh) × (a ≢ b) = (pair.0, pair.1, b_in.1) in
         let link = fit_pair a b (Link a b) b_in.1 (fit_link a b a_in b_in.0 b_in.1) in

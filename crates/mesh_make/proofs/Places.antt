@@ -4,20 +4,20 @@ use Rattle.std.proofs.lemmas.Bool.{cases_lt, le-ltb, lt-ltb}
 use Rattle.rand_pcg.specs.Lcg.{Lcg}
 use Rattle.mesh_grammar.specs.Written.{line}
 use Rattle.mesh_base.specs.Meshes.{Nodes}
-use Rattle.mesh_text.specs.Schedule.{Accepted, Nothing, NewNode, Does, Chooses, ShowsNode, ShowsRoute, ShowsFlight}
+use Rattle.mesh_text.specs.Schedule.{AcceptedLine, Nothing, NewNode, Does, Chooses, ShowsNode, ShowsRoute, ShowsFlight}
 use Rattle.mesh_text.specs.Ranges.{IsInRange, IsInTime}
 use Rattle.mesh_text.specs.Lines.{words_of}
 use Rattle.mesh_make.specs.declared.maker.Place.{Place}
 use Rattle.mesh_make.specs.declared.maker.Place.TheVariants.{Node, Link, Step, Last, End}
 use Rattle.mesh_make.specs.Words.{of_seed}
 use Rattle.mesh_make.specs.Drawn.{step_line}
-use Rattle.mesh_make.specs.Made.{node_line, link_line, node_lines, chain, step_lines, mesh_of, text_in, lines_of, made}
+use Rattle.mesh_make.specs.Made.{node_line, link_line, node_lines, chain, step_lines, mesh_of, text_in, lines_of, made_schedule}
 use Rattle.mesh_make.proofs.Grown.{IsMeshOf, is_new, mesh_of-is, next_mesh}
 use Rattle.mesh_make.proofs.Fits.{IsFit, fit_chain, fit_last, fit_step}
 use Rattle.mesh_make.specs.Places.{IsPlace, IsSize, is_end, nodes_at, mesh_after, line_at, place_after, lines_from}
 
 -- the lines from a place on are its line and those from the next place, before which there are so many nodes
-record IsNext (nodes steps : ℕ) (place : Place) (line : Accepted) (rng next : Lcg) (there : ℕ) : Type 0 where
+record IsNext (nodes steps : ℕ) (place : Place) (line : AcceptedLine) (rng next : Lcg) (there : ℕ) : Type 0 where
   lines : lines_from nodes steps place rng ≡ line ∷ lines_from nodes steps (place_after nodes steps place) next
   nodes_next : nodes_at nodes (place_after nodes steps place) ≡ there
 
@@ -89,11 +89,11 @@ module _ (nodes steps : ℕ) where
       text_in (mesh_of nodes) (lines_from nodes steps place rng)
       ≡ line (words_of (mesh_of (nodes_at nodes place)) d.value) ++ text_in (mesh_of nodes) (lines_from nodes steps (place_after nodes steps place) d.rng)
   text_more place rng is more =
-      let rest : List Accepted = lines_from nodes steps (place_after nodes steps place) (line_at nodes place rng).rng in
+      let rest : List AcceptedLine = lines_from nodes steps (place_after nodes steps place) (line_at nodes place rng).rng in
       ap (text_in (mesh_of nodes)) (next place rng is more).lines
       ∙ ap (λ words. line words ++ text_in (mesh_of nodes) rest) (sym (words_at place rng))
 
-same_mesh : (mesh : Nodes) (a : Accepted) → IsInTime true a → mesh_after mesh a ≡ mesh
+same_mesh : (mesh : Nodes) (a : AcceptedLine) → IsInTime true a → mesh_after mesh a ≡ mesh
 same_mesh mesh Nothing late = refl
 same_mesh mesh (NewNode address first) late = cc
 same_mesh mesh (Does e) late = refl
@@ -132,8 +132,8 @@ module _ (nodes steps : ℕ) (size : IsSize nodes steps) where
   mesh_next place rng is more = mesh_left place rng is ∙ ap mesh_of (sym (next nodes steps place rng is more).nodes_next)
 
 -- all of it
-pub from_start : (seed nodes steps : ℕ) → text_in (mesh_of nodes) (lines_from nodes steps (Node 0) (of_seed seed)) ≡ made seed nodes steps
-unfolding lines_from made lines_of
+pub from_start : (seed nodes steps : ℕ) → text_in (mesh_of nodes) (lines_from nodes steps (Node 0) (of_seed seed)) ≡ made_schedule seed nodes steps
+unfolding lines_from made_schedule lines_of
 from_start seed nodes steps = let all : nodes - 0 ≡ nodes = omega arith in rw all refl
 
 -- nothing is left at the end

@@ -9,18 +9,18 @@ use Rattle.mesh_grammar.specs.Lines.{Piece, Whole, piece_of, pieces_of}
 use Rattle.mesh_grammar.specs.Written.{line}
 use Rattle.mesh_model.specs.Worlds as worlds
 use Rattle.mesh_model.specs.Worlds.{Event, Outcome, Idle, Next}
-use Rattle.mesh_text.specs.Schedule.{Moment, Accepted, Nothing, NewNode, Does, Chooses, ShowsNode, ShowsRoute, ShowsFlight, line_of, started, outcome_at, stepped}
+use Rattle.mesh_text.specs.Schedule.{Moment, AcceptedLine, Nothing, NewNode, Does, Chooses, ShowsNode, ShowsRoute, ShowsFlight, line_of, with_world, outcome_at, next_moment}
 use Rattle.mesh_text.specs.Ranges.{IsInTime}
 use Rattle.mesh_text.specs.Auto as auto
-use Rattle.mesh_text.specs.Text.{LineOutcome, On, Refused, Full, outcome_by_events, outcome_of_auto, outcome_of_line, outcome_of_read, outcome_of_piece, Written, RefusedAt, goes_on, text_from}
+use Rattle.mesh_text.specs.Text.{LineOutcome, On, Refused, Full, outcome_by_events, outcome_of_auto, outcome_of_line, outcome_of_read, outcome_of_piece, RunText, RefusedAt, goes_on, text_from}
 use Rattle.mesh_make.proofs.Texts.{IsShort, short_lacks}
 
 -- the run of a text from a moment on
-abbrev pub run_of : Moment → List ℕ → Written
+abbrev pub run_of : Moment → List ℕ → RunText
 run_of m text = text_from m (pieces_of false (parts 10 text))
 
 -- no line was refused
-pub record IsSafe (w : Written) : Type 0 where
+pub record IsSafe (w : RunText) : Type 0 where
   pub never : (n : ℕ) → w.verdict ≢ RefusedAt n
 
 -- a line wasn't refused, and P holds of the next moment
@@ -45,20 +45,20 @@ module _ (mesh : Nodes) where
   before_has text (auto.Ended others n) is = is
   before_has text (auto.Full others at e field) is = tt
 
-  done_has : (m : Moment) (e : Event) (o : Outcome) (others : Moment → auto.EventsOutcome) → HasRan (others (stepped m e)) → HasRan (auto.done_then m e o others)
+  done_has : (m : Moment) (e : Event) (o : Outcome) (others : Moment → auto.EventsOutcome) → HasRan (others (next_moment m e)) → HasRan (auto.done_then m e o others)
   unfolding HasRan
-  done_has m e Idle others is = before_has _ (others (stepped m e)) is
+  done_has m e Idle others is = before_has _ (others (next_moment m e)) is
   done_has m e (worlds.Full x field) others is = tt
-  done_has m e (Next w happening) others is = before_has _ (others (stepped m e)) is
+  done_has m e (Next w happening) others is = before_has _ (others (next_moment m e)) is
 
-  stepped_has : (m : Moment) (e : Event) → Has m → Has (stepped m e)
-  unfolding stepped
+  stepped_has : (m : Moment) (e : Event) → Has m → Has (next_moment m e)
+  unfolding next_moment
   stepped_has m e is = is
 
   events_have : (m : Moment) (es : List Event) → Has m → HasRan (auto.outcome_of_events m es)
   unfolding HasRan auto.outcome_of_events
   events_have m [] is = is
-  events_have m (e ∷ es) is = done_has m e (outcome_at m e) (λ n. auto.outcome_of_events n es) (events_have (stepped m e) es (stepped_has m e is))
+  events_have m (e ∷ es) is = done_has m e (outcome_at m e) (λ n. auto.outcome_of_events n es) (events_have (next_moment m e) es (stepped_has m e is))
 
   events_fine : (r : auto.EventsOutcome) → HasRan r → Fine Has (outcome_by_events r)
   unfolding Fine HasRan
@@ -71,14 +71,14 @@ module _ (mesh : Nodes) where
   auto_fine text did (auto.Full others at e field) is = tt
 
   -- a line that may come at any time is no `node` line
-  pub line_fine : (m : Moment) (a : Accepted) → ((early : Bool) → IsInTime early a) → Has m → Fine Has (outcome_of_line m a)
+  pub line_fine : (m : Moment) (a : AcceptedLine) → ((early : Bool) → IsInTime early a) → Has m → Fine Has (outcome_of_line m a)
   unfolding Fine outcome_of_line
   line_fine m Nothing later is = is
   line_fine m (NewNode address first) later is = absurd (let clash : true ≡ false = later true in let Q : ⊥ = cc in Q)
-  line_fine m (Does e) later is = events_fine (auto.outcome_of_events (started m) (e ∷ [])) (events_have (started m) (e ∷ []) is)
+  line_fine m (Does e) later is = events_fine (auto.outcome_of_events (with_world m) (e ∷ [])) (events_have (with_world m) (e ∷ []) is)
   line_fine m (Chooses count) later is =
-      let chosen : List Event = auto.events_chosen count (started m) in
-      auto_fine _ (length chosen) (auto.outcome_of_events (started m) chosen) (events_have (started m) chosen is)
+      let chosen : List Event = auto.events_chosen count (with_world m) in
+      auto_fine _ (length chosen) (auto.outcome_of_events (with_world m) chosen) (events_have (with_world m) chosen is)
   line_fine m (ShowsNode x) later is = is
   line_fine m (ShowsRoute x d) later is = is
   line_fine m ShowsFlight later is = is
@@ -103,17 +103,17 @@ after_line m words rest short =
     ∙ ap (λ piece. text_from m (piece ∷ pieces_of false (parts 10 rest))) whole
     ∙ first_piece m (Whole words) (pieces_of false (parts 10 rest))
 
-goes_safe : (P : Moment → Type 0) (m : Moment) (c : LineOutcome) (others : Moment → Written) → Fine P c → ((n : Moment) → P n → IsSafe (others n)) → IsSafe (goes_on m c others)
+goes_safe : (P : Moment → Type 0) (m : Moment) (c : LineOutcome) (others : Moment → RunText) → Fine P c → ((n : Moment) → P n → IsSafe (others n)) → IsSafe (goes_on m c others)
 unfolding Fine
 goes_safe P m (On text n) others fine rest = record { never = (rest n fine).never }
 goes_safe P m (Refused why) others fine rest = absurd fine
 goes_safe P m (Full text at e field) others fine rest = record { never = λ n e. let Q : ⊥ = cc in Q }
 
-came_fine : (P : Moment → Type 0) (m : Moment) (words : List ℕ) (a : Accepted) → line_of m.mesh (is_some m.world) words ≡ Ok a → Fine P (outcome_of_line m a) → Fine P (outcome_of_piece m (Whole words))
+came_fine : (P : Moment → Type 0) (m : Moment) (words : List ℕ) (a : AcceptedLine) → line_of m.mesh (is_some m.world) words ≡ Ok a → Fine P (outcome_of_line m a) → Fine P (outcome_of_piece m (Whole words))
 unfolding outcome_of_piece
 came_fine P m words a parses fine = subst (λ r. Fine P (outcome_of_read m r)) (sym parses) fine
 
-pub line_safe : (P : Moment → Type 0) (m : Moment) (words rest : List ℕ) (a : Accepted) → IsShort 38 words → line_of m.mesh (is_some m.world) words ≡ Ok a
+pub line_safe : (P : Moment → Type 0) (m : Moment) (words rest : List ℕ) (a : AcceptedLine) → IsShort 38 words → line_of m.mesh (is_some m.world) words ≡ Ok a
     → Fine P (outcome_of_line m a) → ((n : Moment) → P n → IsSafe (run_of n rest)) → IsSafe (run_of m (line words ++ rest))
 line_safe P m words rest a short parses fine others =
     subst IsSafe (sym (after_line m words rest short)) (goes_safe P m (outcome_of_piece m (Whole words)) (λ n. run_of n rest) (came_fine P m words a parses fine) others)

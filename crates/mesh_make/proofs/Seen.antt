@@ -6,7 +6,7 @@ use Rattle.std.proofs.lemmas.Bool.{cases_lt, ne_eqb}
 use Rattle.rand_pcg.specs.Lcg.{Lcg}
 use Rattle.mesh_grammar.specs.declared.command.Command.TheVariants as command
 use Rattle.mesh_model.specs.Worlds.{Event, Give, Turn, Ask, Link, Cut, Deliver, Lose}
-use Rattle.mesh_text.specs.Schedule.{Accepted, Nothing, Does, Chooses, ShowsRoute, of_pair}
+use Rattle.mesh_text.specs.Schedule.{AcceptedLine, Nothing, Does, Chooses, ShowsRoute, of_pair}
 use Rattle.mesh_make.specs.declared.sizes.TheConstants.{EVENTS_BETWEEN}
 use Rattle.mesh_make.specs.Words.{word, after}
 use Rattle.mesh_make.specs.Drawn.{node_by, other_by, copy_by, datum_text, Draw, Action, Events, actions, action_of, action_line, step_line}
@@ -17,12 +17,12 @@ abbrev action_at : ℕ → Action
 action_at r = get_or actions r (command.Auto, Events)
 
 -- a line and the generator after it
-abbrev drawn : Accepted → Lcg → Draw Accepted
+abbrev drawn : AcceptedLine → Lcg → Draw AcceptedLine
 drawn line rng = record { value = line; rng = rng }
 
 -- line s, whose first word is w. The generator is `next` after it, and `last` after the line
 module _ (nodes s : ℕ) (rng next last : Lcg) (w : ℕ) (first : w ≡ word rng) (moved : next ≡ after rng) where
-  abbrev line : Draw Accepted
+  abbrev line : Draw AcceptedLine
   line = step_line nodes s rng
 
   -- the two nodes, and a copy
@@ -58,7 +58,7 @@ module _ (nodes s : ℕ) (rng next last : Lcg) (w : ℕ) (first : w ≡ word rng
 
   -- two nodes
   module _ (x y : ℕ) (x_is : x ≡ a) (y_is : y ≡ b) (is : last ≡ after (after next)) where
-    by_two : (f : ℕ → ℕ → Accepted) → drawn (f x y) last ≡ drawn (f a b) (after (after next))
+    by_two : (f : ℕ → ℕ → AcceptedLine) → drawn (f x y) last ≡ drawn (f a b) (after (after next))
     by_two f = ap (λ n. drawn (f n y) last) x_is ∙ ap (λ n. drawn (f a n) last) y_is ∙ ap (drawn (f a b)) is
 
     -- those that are drawn differ, so that there is a line

@@ -6,10 +6,10 @@ use Rattle.std.proofs.lemmas.Fmt.{length-decimal-le}
 use Rattle.std.proofs.lemmas.List.{length-append}
 use Rattle.std.proofs.lemmas.List.Folds.{list_all-append}
 use Rattle.std.proofs.lemmas.List.Sums.{AllPass-from_list_all, list_all-from_AllPass}
-use Rattle.mesh_base.specs.Addresses.{dotted}
+use Rattle.mesh_base.specs.Addresses.{dotted_decimal}
 use Rattle.mesh_base.proofs.Spelling.{Lacks, decimal_lacks}
 use Rattle.mesh_grammar.specs.Forms.{Arguments, NoArgument, OneAddress, TwoAddresses, OneNumber, NumberedAddress, AddressesAndText, AddressAndNumber, AddressAndText}
-use Rattle.mesh_grammar.specs.Written.{written}
+use Rattle.mesh_grammar.specs.Written.{command_text}
 use Rattle.mesh_make.specs.Made.{node_address}
 
 -- the byte is no LF
@@ -47,7 +47,7 @@ number_short k n some lt fits = record {
 }
 
 -- the address of a node
-pub name_short : (i : ℕ) → i < 200 → IsShort 10 (dotted (node_address i))
+pub name_short : (i : ℕ) → i < 200 → IsShort 10 (dotted_decimal (node_address i))
 name_short i lt =
     let a : ℕ = node_address i in
     let w : a / 16777216 ≡ 10 = omega arith in
@@ -62,28 +62,28 @@ name_short i lt =
 -- arguments with short addresses, numbers of at most six digits and a text of at most seven bytes
 abbrev pub AreShort : Arguments ℕ → Type 0
 AreShort NoArgument = Unit {0}
-AreShort (OneAddress a) = IsShort 10 (dotted a)
-AreShort (TwoAddresses a b) = IsShort 10 (dotted a) × IsShort 10 (dotted b)
+AreShort (OneAddress a) = IsShort 10 (dotted_decimal a)
+AreShort (TwoAddresses a b) = IsShort 10 (dotted_decimal a) × IsShort 10 (dotted_decimal b)
 AreShort (OneNumber n) = IsShort 6 (decimal n)
-AreShort (NumberedAddress a first) = IsShort 10 (dotted a) × IsShort 6 (decimal first)
-AreShort (AddressesAndText a b text) = IsShort 10 (dotted a) × IsShort 10 (dotted b) × IsShort 7 text
-AreShort (AddressAndNumber a n) = IsShort 10 (dotted a) × IsShort 6 (decimal n)
-AreShort (AddressAndText a text) = IsShort 10 (dotted a) × IsShort 7 text
+AreShort (NumberedAddress a first) = IsShort 10 (dotted_decimal a) × IsShort 6 (decimal first)
+AreShort (AddressesAndText a b text) = IsShort 10 (dotted_decimal a) × IsShort 10 (dotted_decimal b) × IsShort 7 text
+AreShort (AddressAndNumber a n) = IsShort 10 (dotted_decimal a) × IsShort 6 (decimal n)
+AreShort (AddressAndText a text) = IsShort 10 (dotted_decimal a) × IsShort 7 text
 
 -- a command of at most seven letters, and its arguments
-pub written_short : (command : List ℕ) (arguments : Arguments ℕ) → IsShort 7 command → AreShort arguments → IsShort 38 (written command arguments)
-unfolding written
+pub written_short : (command : List ℕ) (arguments : Arguments ℕ) → IsShort 7 command → AreShort arguments → IsShort 38 (command_text command arguments)
+unfolding command_text
 written_short command NoArgument short are = record { others = short.others; within = omega (arith, short.within) }
-written_short command (OneAddress a) short are = parted 7 10 38 32 command (dotted a) refl (omega arith) short are
-written_short command (TwoAddresses a b) short are = parted 18 10 38 32 _ (dotted b) refl (omega arith) (parted 7 10 18 32 command (dotted a) refl (omega arith) short are.0) are.1
+written_short command (OneAddress a) short are = parted 7 10 38 32 command (dotted_decimal a) refl (omega arith) short are
+written_short command (TwoAddresses a b) short are = parted 18 10 38 32 _ (dotted_decimal b) refl (omega arith) (parted 7 10 18 32 command (dotted_decimal a) refl (omega arith) short are.0) are.1
 written_short command (OneNumber n) short are = parted 7 6 38 32 command (decimal n) refl (omega arith) short are
 written_short command (NumberedAddress a first) short are =
     joined 22 6 38 _ (decimal first) (omega arith)
-    (joined 18 4 22 _ (codes " sn ") (omega arith) (parted 7 10 18 32 command (dotted a) refl (omega arith) short are.0) (record { others = refl; within = omega arith })) are.1
+    (joined 18 4 22 _ (codes " sn ") (omega arith) (parted 7 10 18 32 command (dotted_decimal a) refl (omega arith) short are.0) (record { others = refl; within = omega arith })) are.1
 written_short command (AddressesAndText a b text) short are =
     parted 29 7 38 32 _ text refl (omega arith)
-    (parted 18 10 29 32 _ (dotted b) refl (omega arith) (parted 7 10 18 32 command (dotted a) refl (omega arith) short are.0) are.1) are.2
+    (parted 18 10 29 32 _ (dotted_decimal b) refl (omega arith) (parted 7 10 18 32 command (dotted_decimal a) refl (omega arith) short are.0) are.1) are.2
 written_short command (AddressAndNumber a n) short are =
-    parted 18 6 38 32 _ (decimal n) refl (omega arith) (parted 7 10 18 32 command (dotted a) refl (omega arith) short are.0) are.1
+    parted 18 6 38 32 _ (decimal n) refl (omega arith) (parted 7 10 18 32 command (dotted_decimal a) refl (omega arith) short are.0) are.1
 written_short command (AddressAndText a text) short are =
-    parted 18 7 38 32 _ text refl (omega arith) (parted 7 10 18 32 command (dotted a) refl (omega arith) short are.0) are.1
+    parted 18 7 38 32 _ text refl (omega arith) (parted 7 10 18 32 command (dotted_decimal a) refl (omega arith) short are.0) are.1

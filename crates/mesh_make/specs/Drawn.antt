@@ -7,7 +7,7 @@ use Rattle.mesh_grammar.specs.declared.command.Command.{Command}
 use Rattle.mesh_grammar.specs.declared.command.Command.TheVariants as command
 use Rattle.mesh_grammar.specs.Forms.{Arguments, OneAddress, TwoAddresses, OneNumber, AddressesAndText}
 use Rattle.mesh_text.specs.Schedule as lines
-use Rattle.mesh_text.specs.Schedule.{Accepted, Nothing}
+use Rattle.mesh_text.specs.Schedule.{AcceptedLine, Nothing}
 use Rattle.mesh_make.specs.declared.sizes.TheConstants.{EVENTS_BETWEEN}
 use Rattle.mesh_make.specs.Words.{word, after}
 
@@ -93,11 +93,11 @@ arguments_by Events nodes s rng = record { value = OneNumber EVENTS_BETWEEN; rng
 
 -- the line that a command makes of drawn arguments. There is one: they are of its form, and two
 -- nodes differ
-abbrev pub line_of : Command → Arguments ℕ → Accepted
-line_of command arguments = result_unwrap_or (lines.made command arguments) Nothing
+abbrev pub line_of : Command → Arguments ℕ → AcceptedLine
+line_of command arguments = result_unwrap_or (lines.made_line command arguments) Nothing
 
 -- line s, once what it does is known
-abbrev pub action_line : Action → ℕ → ℕ → Lcg → Draw Accepted
+abbrev pub action_line : Action → ℕ → ℕ → Lcg → Draw AcceptedLine
 action_line action nodes s rng =
     let drawn = arguments_by action.1 nodes s rng in record {
       value = line_of action.0 drawn.value;
@@ -105,5 +105,5 @@ action_line action nodes s rng =
     }
 
 -- line s of the steps: its first word chooses what it does
-unfoldable pub step_line : ℕ → ℕ → Lcg → Draw Accepted
+unfoldable pub step_line : ℕ → ℕ → Lcg → Draw AcceptedLine
 step_line nodes s rng = action_line (action_of (word rng)) nodes s (after rng)

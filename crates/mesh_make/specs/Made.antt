@@ -5,7 +5,7 @@ use Rattle.rand_pcg.specs.Lcg.{Lcg}
 use Rattle.mesh_base.specs.Meshes.{Nodes, with_node}
 use Rattle.mesh_grammar.specs.Written as written
 use Rattle.mesh_model.specs.Worlds.{Link}
-use Rattle.mesh_text.specs.Schedule.{Accepted, NewNode, Does, Chooses}
+use Rattle.mesh_text.specs.Schedule.{AcceptedLine, NewNode, Does, Chooses}
 use Rattle.mesh_text.specs.Lines.{words_of}
 use Rattle.mesh_make.specs.declared.sizes.TheConstants.{FIRST_ADDRESS, EVENTS_AT_END}
 use Rattle.mesh_make.specs.Words.{of_seed}
@@ -21,46 +21,46 @@ mesh_of zero = []
 mesh_of (suc count) = with_node (mesh_of count) (node_address count) 1
 
 -- node i, whose first sequence number is 1
-abbrev pub node_line : ℕ → Accepted
+abbrev pub node_line : ℕ → AcceptedLine
 node_line i = NewNode (node_address i) 1
 
 -- the link between node i and the next
-abbrev pub link_line : ℕ → Accepted
+abbrev pub link_line : ℕ → AcceptedLine
 link_line i = Does (Link i (i + 1))
 
 -- all comes to rest
-abbrev pub last_line : Accepted
+abbrev pub last_line : AcceptedLine
 last_line = Chooses EVENTS_AT_END
 
 -- so many nodes, from node i on
-unfoldable pub node_lines : ℕ → ℕ → List Accepted
+unfoldable pub node_lines : ℕ → ℕ → List AcceptedLine
 node_lines i zero = []
 node_lines i (suc count) = node_line i ∷ node_lines (i + 1) count
 
 -- so many links of the chain, from that of node i on
-unfoldable pub chain : ℕ → ℕ → List Accepted
+unfoldable pub chain : ℕ → ℕ → List AcceptedLine
 chain i zero = []
 chain i (suc count) = link_line i ∷ chain (i + 1) count
 
 -- so many lines of the steps, from line s on
-unfoldable pub step_lines : ℕ → ℕ → ℕ → Lcg → List Accepted
+unfoldable pub step_lines : ℕ → ℕ → ℕ → Lcg → List AcceptedLine
 step_lines nodes s zero rng = []
 step_lines nodes s (suc count) rng =
     let drawn = step_line nodes s rng in drawn.value ∷ step_lines nodes (s + 1) count drawn.rng
 
 -- the steps from line s on, and the last line
-abbrev pub from_step : ℕ → ℕ → ℕ → Lcg → List Accepted
+abbrev pub from_step : ℕ → ℕ → ℕ → Lcg → List AcceptedLine
 from_step nodes s count rng = step_lines nodes s count rng ++ last_line ∷ []
 
 -- the lines: the nodes, the chain that links them, the steps, and a last line
-unfoldable pub lines_of : ℕ → ℕ → ℕ → List Accepted
+unfoldable pub lines_of : ℕ → ℕ → ℕ → List AcceptedLine
 lines_of seed nodes steps =
     node_lines 0 nodes ++ (chain 0 (nodes - 1) ++ from_step nodes 1 steps (of_seed seed))
 
 -- the text of lines, each with its LF
-abbrev pub text_in : Nodes → List Accepted → List ℕ
+abbrev pub text_in : Nodes → List AcceptedLine → List ℕ
 text_in mesh lines = flat_map (λ l. written.line (words_of mesh l)) lines
 
 -- the schedule
-unfoldable pub made : ℕ → ℕ → ℕ → List ℕ
-made seed nodes steps = text_in (mesh_of nodes) (lines_of seed nodes steps)
+unfoldable pub made_schedule : ℕ → ℕ → ℕ → List ℕ
+made_schedule seed nodes steps = text_in (mesh_of nodes) (lines_of seed nodes steps)

@@ -28,5 +28,5 @@ pub record HasCome (maker : Maker) (m : Moment) : Type 0 where
   pub waits : is_node maker.place ≡ true → m.world ≡ None
 
 -- the rest of some lines, of which so many bytes are read, and then the lines that aren't made yet
-abbrev pub unread : Maker → List ℕ → ℕ → List ℕ
-unread maker lines read = drop read lines ++ still_to_come maker
+abbrev pub unread_text : Maker → List ℕ → ℕ → List ℕ
+unread_text maker lines read = drop read lines ++ still_to_come maker

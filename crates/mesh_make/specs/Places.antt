@@ -3,7 +3,7 @@ use Rattle.std.specs.Prelude.{ℕ, ◌+◌, ◌-◌, ◌<◌, ◌≤◌, if◌th
 use Rattle.rand_pcg.specs.Lcg.{Lcg}
 use Rattle.mesh_base.specs.declared.limits.TheConstants.{MOST_NODES}
 use Rattle.mesh_base.specs.Meshes.{Nodes, with_node}
-use Rattle.mesh_text.specs.Schedule.{Accepted, Nothing, NewNode}
+use Rattle.mesh_text.specs.Schedule.{AcceptedLine, Nothing, NewNode}
 use Rattle.mesh_make.specs.declared.maker.Place.{Place}
 use Rattle.mesh_make.specs.declared.maker.Place.TheVariants.{Node, Link, Step, Last, End}
 use Rattle.mesh_make.specs.declared.sizes.TheConstants.{MOST_STEPS}
@@ -41,12 +41,12 @@ nodes_at nodes (Node i) = i
 nodes_at nodes other = nodes
 
 -- the mesh after a line: one more node, or the same
-abbrev pub mesh_after : Nodes → Accepted → Nodes
+abbrev pub mesh_after : Nodes → AcceptedLine → Nodes
 mesh_after mesh (NewNode address first) = with_node mesh address first
 mesh_after mesh other = mesh
 
 -- the line at a place, and the generator after it
-unfoldable pub line_at : ℕ → Place → Lcg → Draw Accepted
+unfoldable pub line_at : ℕ → Place → Lcg → Draw AcceptedLine
 line_at nodes (Node i) rng = record { value = node_line i; rng = rng }
 line_at nodes (Link i) rng = record { value = link_line i; rng = rng }
 line_at nodes (Step s) rng = step_line nodes s rng
@@ -61,11 +61,11 @@ place_after nodes steps (Step s) = if nat_lt s steps then Step (s + 1) else Last
 place_after nodes steps Last = End
 place_after nodes steps End = End
 
-abbrev pub from_link : ℕ → ℕ → ℕ → Lcg → List Accepted
+abbrev pub from_link : ℕ → ℕ → ℕ → Lcg → List AcceptedLine
 from_link nodes steps i rng = chain i (nodes - (i + 1)) ++ from_step nodes 1 steps rng
 
 -- the lines from a place on
-unfoldable pub lines_from : ℕ → ℕ → Place → Lcg → List Accepted
+unfoldable pub lines_from : ℕ → ℕ → Place → Lcg → List AcceptedLine
 lines_from nodes steps (Node i) rng = node_lines i (nodes - i) ++ from_link nodes steps 0 rng
 lines_from nodes steps (Link i) rng = from_link nodes steps i rng
 lines_from nodes steps (Step s) rng = from_step nodes s (steps + 1 - s) rng

@@ -2,7 +2,7 @@
 ghost use Rattle.std.specs.Prelude.{◌≡◌, ◌<◌, ◌≤◌, ◌+◌, ◌++◌, [], length, false, IsTrue};
 ghost use Rattle.mesh_script.specs.Seen.{accepted_of, IsPrintable};
 ghost use Rattle.mesh_make.specs.Places.{IsPlace, IsSize, line_at, place_after, mesh_after};
-ghost use Rattle.mesh_make.specs.Made.{mesh_of, made};
+ghost use Rattle.mesh_make.specs.Made.{mesh_of, made_schedule};
 
 use crate::sizes::{EVENTS_AT_END, FIRST_ADDRESS};
 use crate::step::step_line;
@@ -111,7 +111,7 @@ impl Maker {
     pub fn new(seed: u64, nodes: u32, steps: u32) -> Maker
         requires size { IsSize nodes steps }
         ensures making { IsMaking result }
-        ensures text { still_to_come result ≡ made seed nodes steps }
+        ensures text { still_to_come result ≡ made_schedule seed nodes steps }
         ensures opening { (variant : Variant) → HasCome result (opening variant) }
     {
         Maker {

@@ -5,8 +5,8 @@ ghost use Rattle.std.specs.Io.KnownBytes.{ReadConsumes};
 ghost use Rattle.mesh_io.specs.Cause.{HasCause};
 ghost use Rattle.mesh_base.specs.declared.limits.TheConstants.{MOST_NODES};
 ghost use Rattle.mesh_make.specs.declared.sizes.TheConstants.{MOST_STEPS};
-ghost use Rattle.mesh_make.specs.Made.{made};
-ghost use Rattle.mesh_make.specs.Making.{IsMaking, still_to_come, unread};
+ghost use Rattle.mesh_make.specs.Made.{made_schedule};
+ghost use Rattle.mesh_make.specs.Making.{IsMaking, still_to_come, unread_text};
 
 use crate::maker::Maker;
 use mesh_base::LineBuf;
@@ -24,11 +24,11 @@ pub struct MadeSource {
 
 impl Model for MadeSource {
     ghost use Rattle.std.specs.Prelude.{List, ℕ, ◌≤◌, length};
-    ghost use Rattle.mesh_make.specs.Making.{IsMaking, unread};
+    ghost use Rattle.mesh_make.specs.Making.{IsMaking, unread_text};
 
     ghost Value = { List ℕ };
 
-    ghost view = { λ s. unread s.maker s.line s.at };
+    ghost view = { λ s. unread_text s.maker s.line s.at };
 
     ghost invariant = { λ s. (s.at ≤ length s.line) × IsMaking s.maker };
 }
@@ -38,7 +38,7 @@ impl Model for MadeSource {
 fn refill(maker: &mut Maker, text: &mut LineBuf, line: &mut LineBuf, at: usize) -> usize
     requires making { IsMaking maker.old }
     requires within { at ≤ length line.old }
-    ensures same { unread maker.new line.new result ≡ unread maker.old line.old at }
+    ensures same { unread_text maker.new line.new result ≡ unread_text maker.old line.old at }
     ensures within { result ≤ length line.new }
     ensures making { IsMaking maker.new }
     ensures end { result ≡ length line.new → still_to_come maker.new ≡ [] }
@@ -67,7 +67,7 @@ impl MadeSource {
         requires nodes_most { nodes ≤ MOST_NODES }
         requires one { 1 ≤ steps }
         requires steps_most { steps ≤ MOST_STEPS }
-        ensures { result ≡ made seed nodes steps }
+        ensures { result ≡ made_schedule seed nodes steps }
     {
         MadeSource {
             maker: Maker::new(seed, nodes, steps),

@@ -15,7 +15,7 @@ use Rattle.aodv_model.proofs.Entries.{if_case}
 use Rattle.aodv_model.proofs.SoundTurns.{Stands, Settles, turn_settles, send_settles, ask_settles}
 use Rattle.mesh_model.specs.Worlds.{is_parcel, World, Node, Copy, Event, Give, Turn, Send, Ask, Link, Cut, Deliver, Lose, Double, range, copies, done_by, push, with_item, find_copy, without, Changed, Taken, Sent, CopyHeard, CopyLost, CopyDoubled, Outcome, Idle, Next, unless_full, turn_of, send_of, ask_of, at_node, at_copy, with_link, without_link, without_copy, with_double, double_of, step, after, run, openings, start, are_linked}
 use Rattle.mesh_model.specs.Places.{IsNodeInMesh, IsCopyInMesh, AreNumbered, IsInMesh, IsEvent}
-use Rattle.mesh_model.specs.Accounts.{Test, total, total_below, counts, in_item, in_store, in_copy, waiting, queued, in_flight, given, doubled, in_found, in_taken, delivered, in_dropped, dropped, over_run, over_worlds}
+use Rattle.mesh_model.specs.Accounts.{Test, total, total_below, counts, in_item, in_store, in_copy, waiting, queued_data, in_flight, given_data, doubled_data, in_found, in_taken, delivered_data, in_dropped, dropped_data, over_run, over_worlds}
 use Rattle.mesh_model.proofs.Totals.{total-append, total-set, total_below_same}
 use Rattle.mesh_model.proofs.AccountTurns.{IsAccounted, turn_accounted, send_accounted, ask_accounted}
 use Rattle.mesh_model.proofs.Steps.{found_honest}
@@ -24,7 +24,7 @@ use Rattle.mesh_model.proofs.Sizes.{same_size, start_size}
 
 -- all that is in the world
 abbrev in_world : Test → World → ℕ
-in_world t w = waiting t w + queued t w + in_flight t w
+in_world t w = waiting t w + queued_data t w + in_flight t w
 
 abbrev stored : Test → ℕ → Node → ℕ
 stored t size n = in_store t size (n.core).ip (n.core).store
@@ -36,7 +36,7 @@ lined t n = total (in_item t (n.core).ip) n.queue
 done_sum : (t : Test) (w : World) (x : ℕ) (n : Node) (had out gone : ℕ) (did : Reaction) (queue : List Item) → slice_get w.nodes x ≡ Some n → (n.core).ip ≡ x → (did.core).ip ≡ x
     → IsAccounted t w x n.core had out gone did → lined t n ≡ had + total (in_item t x) queue
     → in_world t (done_by w x did queue) + (if (did.effect).deliver then out else 0) + (if (did.effect).lost then gone else 0) ≡ in_world t w
-unfolding waiting queued in_flight done_by
+unfolding waiting queued_data in_flight done_by
 done_sum t w x n had out gone did queue is named same account split =
     let size = length w.nodes in
     let new : Node = record { core = did.core; queue = queue } in
@@ -50,7 +50,7 @@ done_sum t w x n had out gone did queue is named same account split =
     omega arith
 
 item_sum : (t : Test) (w : World) (x : ℕ) (n : Node) (item : Item) → slice_get w.nodes x ≡ Some n → (n.core).ip ≡ x → in_world t (with_item w x (Some n) item) ≡ in_world t w + in_item t x item
-unfolding waiting queued in_flight
+unfolding waiting queued_data in_flight
 item_sum t w x n item is named =
     let size = length w.nodes in
     let new : Node = record n { queue = n.queue ++ item ∷ [] } in
@@ -90,7 +90,7 @@ one_goes f low next id c [] numbered is = absurd (none-some c is)
 one_goes f low next id c (d ∷ ds) numbered is = gone_case f next id d c ds (d.id == id) refl numbered.1 is (one_goes f (d.id + 1) next id c ds numbered.1)
 
 lighter_sum : (t : Test) (w : World) (id : ℕ) (c : Copy) → IsInMesh w → find_copy w.flying id ≡ Some c → in_world t (without_copy w id) + in_copy t c ≡ in_world t w
-unfolding waiting queued in_flight without
+unfolding waiting queued_data in_flight without
 lighter_sum t w id c places is = let e = one_goes (in_copy t) 1 w.next_copy id c w.flying places.numbered is in omega arith
 
 is_there : {A : Type 0} (xs : List A) (i : ℕ) → i < length xs → (x : A) × (slice_get xs i ≡ Some x)
@@ -102,7 +102,7 @@ is_there (x ∷ xs) (suc i) l = is_there xs i (omega arith)
 
 -- what comes and what goes
 abbrev Balanced : Test → World → Event → Outcome → Type 0
-Balanced t w e o = in_world t (after w o) + delivered t e o + dropped t e o ≡ in_world t w + given t e o + doubled t w e
+Balanced t w e o = in_world t (after w o) + delivered_data t e o + dropped_data t e o ≡ in_world t w + given_data t e o + doubled_data t w e
 
 turn_case : (t : Test) (w : World) (x : ℕ) (core : Core) (item : Item) (items : List Item) (full : Option Counter)
     → in_world t (done_by w x (turn core (range w x) item) items) + (if ((turn core (range w x) item).effect).deliver then in_taken t x (took core item) else 0) + (if ((turn core (range w x) item).effect).lost then in_dropped t (took core item) else 0) ≡ in_world t w
@@ -189,7 +189,7 @@ lose_case t w id None places is = refl
 lose_case t w id (Some c) places is = let light = lighter_sum t w id c places is in omega arith
 
 double_case : (t : Test) (w : World) (id : ℕ) (o : Option Copy) → find_copy w.flying id ≡ o → Balanced t w (Double id) (at_copy o (λ c. Next (with_double w c) (CopyDoubled w.next_copy c.to (is_parcel c.message))))
-unfolding waiting queued in_flight
+unfolding waiting queued_data in_flight
 double_case t w id None is = let none = ap (in_found t) is in omega arith
 double_case t w id (Some c) is =
     let all = total-append (in_copy t) w.flying (double_of w c ∷ []) in
@@ -197,7 +197,7 @@ double_case t w id (Some c) is =
     omega arith
 
 step_balanced_sum : (t : Test) (w : World) (e : Event) → IsEvent (length w.nodes) e → IsInMesh w → Balanced t w e (step w e)
-unfolding step waiting queued in_flight
+unfolding step waiting queued_data in_flight
 step_balanced_sum t w (Give x d b) ok places = give_case t w x d b (slice_get w.nodes x) places refl
 step_balanced_sum t w (Turn x) ok places = node_at t w (Turn x) (turn_of w x) (slice_get w.nodes x) refl (λ n is. turn_balanced t w x n.core n.queue places is)
 step_balanced_sum t w (Send x d) ok places = node_at t w (Send x d) (send_of w x d) (slice_get w.nodes x) refl (λ n is. send_balanced t w x d n.core n.queue places ok.1 is)
@@ -209,14 +209,14 @@ step_balanced_sum t w (Lose id) ok places = lose_case t w id (find_copy w.flying
 step_balanced_sum t w (Double id) ok places = double_case t w id (find_copy w.flying id) refl
 
 pub step_balanced : (t : Test) (w : World) (e : Event) → IsEvent (length w.nodes) e → IsInMesh w
-    → waiting t (after w (step w e)) + queued t (after w (step w e)) + in_flight t (after w (step w e)) + delivered t e (step w e) + dropped t e (step w e)
-    ≡ waiting t w + queued t w + in_flight t w + given t e (step w e) + doubled t w e
+    → waiting t (after w (step w e)) + queued_data t (after w (step w e)) + in_flight t (after w (step w e)) + delivered_data t e (step w e) + dropped_data t e (step w e)
+    ≡ waiting t w + queued_data t w + in_flight t w + given_data t e (step w e) + doubled_data t w e
 step_balanced t w e ok places = step_balanced_sum t w e ok places
 
 -- ---- runs
 
 run_balanced : (t : Test) (w : World) (es : List Event) → AllByRecursion (IsEvent (length w.nodes)) es → IsInMesh w
-    → in_world t w + over_run (given t) w es + over_worlds (doubled t) w es ≡ over_run (delivered t) w es + in_world t (run w es) + over_run (dropped t) w es
+    → in_world t w + over_run (given_data t) w es + over_worlds (doubled_data t) w es ≡ over_run (delivered_data t) w es + in_world t (run w es) + over_run (dropped_data t) w es
 unfolding over_run over_worlds run
 run_balanced t w [] all places = omega arith
 run_balanced t w (e ∷ es) all places =
@@ -242,14 +242,14 @@ none_lined t v ip [] = refl
 none_lined t v ip (first ∷ firsts) = omega (arith, none_lined t v (ip + 1) firsts)
 
 pub start_empty : (t : Test) (v : Variant) (firsts : List ℕ) → in_world t (start v firsts) ≡ 0
-unfolding start waiting queued in_flight
+unfolding start waiting queued_data in_flight
 start_empty t v firsts = let a = none_stored t (length (openings v 0 firsts)) v 0 firsts in let b = none_lined t v 0 firsts in omega arith
 
 pub account : (t : Test) (v : Variant) (firsts : List ℕ) (es : List Event) → AllByRecursion (λ n. 1 ≤ n) firsts → AllByRecursion (IsEvent (length firsts)) es
-    → over_run (given t) (start v firsts) es + over_worlds (doubled t) (start v firsts) es
-    ≡ over_run (delivered t) (start v firsts) es
-    + waiting t (run (start v firsts) es) + queued t (run (start v firsts) es) + in_flight t (run (start v firsts) es)
-    + over_run (dropped t) (start v firsts) es
+    → over_run (given_data t) (start v firsts) es + over_worlds (doubled_data t) (start v firsts) es
+    ≡ over_run (delivered_data t) (start v firsts) es
+    + waiting t (run (start v firsts) es) + queued_data t (run (start v firsts) es) + in_flight t (run (start v firsts) es)
+    + over_run (dropped_data t) (start v firsts) es
 account t v firsts es all ok =
     let sum = run_balanced t (start v firsts) es (subst (λ k. AllByRecursion (IsEvent k) es) (sym (start_size v firsts)) ok) (start_placed v firsts all) in
     let none = start_empty t v firsts in

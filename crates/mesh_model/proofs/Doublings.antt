@@ -7,7 +7,7 @@ use Rattle.aodv_model.specs.Handlers.{Reaction, took, turn, send, may_send, ask,
 use Rattle.aodv_model.specs.Fullness.{turn_full, send_full, ask_full}
 use Rattle.aodv_model.proofs.Entries.{if_case}
 use Rattle.mesh_model.specs.Worlds.{World, Node, Copy, Event, Give, Turn, Send, Ask, Link, Cut, Deliver, Lose, Double, Outcome, Idle, Next, Taken, Sent, CopyDoubled, range, copies, done_by, are_linked, find_copy, is_parcel, with_double, turn_of, send_of, ask_of, unless_full, at_node, at_copy, step}
-use Rattle.mesh_model.specs.Accounts.{any, in_message, in_found, doubled, doubled_at}
+use Rattle.mesh_model.specs.Accounts.{any, in_message, in_found, doubled_data, doubled_at}
 
 -- no data packet was doubled
 abbrev Doubles_none : Outcome → Type 0
@@ -53,7 +53,7 @@ double_told : (w : World) (o : Option Copy) → in_found any o ≡ doubled_at (a
 double_told w None = refl
 double_told w (Some c) = parcel_told (with_double w c) w.next_copy c.to c.message
 
-pub doubling_told : (w : World) (e : Event) → doubled any w e ≡ doubled_at (step w e)
+pub doubling_told : (w : World) (e : Event) → doubled_data any w e ≡ doubled_at (step w e)
 unfolding step
 doubling_told w (Give x d b) = node_none _ (slice_get w.nodes x) (λ core queue. refl)
 doubling_told w (Turn x) = node_none (turn_of w x) (slice_get w.nodes x) (turn_none w x)
@@ -76,5 +76,5 @@ found_few : (o : Option Copy) → in_found any o ≤ 1
 found_few None = omega arith
 found_few (Some c) = one_at_most c.message
 
-pub doubling_few : (w : World) (id : ℕ) → 0 + doubled any w (Double id) ≤ 1
+pub doubling_few : (w : World) (id : ℕ) → 0 + doubled_data any w (Double id) ≤ 1
 doubling_few w id = let few = found_few (find_copy w.flying id) in omega arith

@@ -12,7 +12,7 @@ use Rattle.aodv_model.proofs.Entries.{invalidated_sound, joined_sound, merged_so
 use Rattle.aodv_model.proofs.Lookups.{get-add_pre, get-invalidate, get-update}
 use Rattle.aodv_model.specs.Handlers.{neighbour_entry, route_entry}
 use Rattle.aodv_model.specs.Soundness.{AllSoundNumbers, HasSoundNumber}
-use Rattle.aodv_model.specs.Tables.{Dests, Table, add_pre, entry_after, invalidate, invalidated, joined, merged, update}
+use Rattle.aodv_model.specs.Tables.{Dests, Table, add_pre, entry_after, invalidate, invalidated, add_pre_at, merge, update}
 use Rattle.mesh_base.specs.Members.{NodeIds}
 use Rattle.mesh_model.proofs.Backing.{invalidated_backed, invalidated_keeps, joined_backed, joined_keeps, merged_backed, merged_keeps, merged_reaches}
 use Rattle.mesh_model.specs.Invariants.{AllBacked, AtLeast, IsAtLeast, IsBacked}
@@ -37,10 +37,10 @@ leads_then x y = record { fine = y.fine; grows = record { keeps = λ d n h one a
 pub leads_none : {tables : ℕ → Table} {a : Table} → IsFine tables a → Leads tables a a
 leads_none fine = record { fine = fine; grows = record { keeps = λ d n h one at. at } }
 
-at_updated : (rt : Table) (d : ℕ) (r : Entry) (q n h : ℕ) (b : Bool) → (q == d) ≡ b → maps.get (update rt d r) q ≡ (if b then Some (entry_after (maps.get rt d) r) else maps.get rt q) → ((s : Entry) → maps.get rt d ≡ Some s → IsAtLeast s n h → IsAtLeast (merged s r) n h) → AtLeast rt q n h → AtLeast (update rt d r) q n h
+at_updated : (rt : Table) (d : ℕ) (r : Entry) (q n h : ℕ) (b : Bool) → (q == d) ≡ b → maps.get (update rt d r) q ≡ (if b then Some (entry_after (maps.get rt d) r) else maps.get rt q) → ((s : Entry) → maps.get rt d ≡ Some s → IsAtLeast s n h → IsAtLeast (merge s r) n h) → AtLeast rt q n h → AtLeast (update rt d r) q n h
 at_updated rt d r q n h true same is over at =
     let here : maps.get rt d ≡ Some at.entry = ap (maps.get rt) (sym (eqb-true q d same)) ∙ at.there in
-    record { entry = merged at.entry r; there = is ∙ ap (λ o. Some (entry_after o r)) here; enough = over at.entry here at.enough }
+    record { entry = merge at.entry r; there = is ∙ ap (λ o. Some (entry_after o r)) here; enough = over at.entry here at.enough }
 at_updated rt d r q n h false same is over at = record { entry = at.entry; there = is ∙ at.there; enough = at.enough }
 
 update_grows : (rt : Table) (d : ℕ) (r : Entry) → AllSoundNumbers rt → r.flag ≡ Val → (r.dsk ≡ Unk → r.hops ≡ 1) → Grows rt (update rt d r)
@@ -110,7 +110,7 @@ invalidate_leads tables rt dests fine raises =
 
 pub add_pre_leads : (tables : ℕ → Table) (rt : Table) (d : ℕ) (nodes : NodeIds) → IsFine tables rt → Leads tables rt (add_pre rt d nodes)
 add_pre_leads tables rt d nodes fine =
-    mapped_leads tables rt (add_pre rt d nodes) (joined d nodes) fine (get-add_pre rt d nodes)
+    mapped_leads tables rt (add_pre rt d nodes) (add_pre_at d nodes) fine (get-add_pre rt d nodes)
     (λ q e here sound. joined_sound q d nodes e sound)
     (λ q e backed. joined_backed tables q d nodes e backed)
     (λ q e n h here one enough. joined_keeps q d nodes e n h enough)

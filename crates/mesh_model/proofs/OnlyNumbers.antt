@@ -10,7 +10,7 @@ use Rattle.mesh_base.specs.declared.events.Variant.{Variant}
 use Rattle.aodv_model.proofs.Entries.{if_case}
 use Rattle.aodv_model.proofs.Numbers.{ask_fills_number}
 use Rattle.aodv_model.specs.Cores.{Core, Heard, Item, New, Pkt, Rerr, Rrep, Rreq, has_seen}
-use Rattle.aodv_model.specs.Fullness.{ask_full, greatest, is_hop_full, is_number_full, learnt, send_full, turn_full}
+use Rattle.aodv_model.specs.Fullness.{ask_full, greatest, is_hop_full, is_number_full, after_learning, send_full, turn_full}
 use Rattle.aodv_model.specs.Handlers.{ask, key_of, may_ask, may_send, send, took, turn}
 use Rattle.mesh_model.proofs.Honest.{front_distinct, front_long, front_within, run_trails, start_trails}
 use Rattle.mesh_model.proofs.Lists.{each_map}
@@ -84,7 +84,7 @@ turn_fills v w x core [] few trails is = idle_fills
 turn_fills v w x core (item ∷ items) few trails is =
     let t : NodeHasWalks (around v w) x (record { core = core; queue = item ∷ items }) = trails.nodes x (record { core = core; queue = item ∷ items }) is in
     unless_fills x (turn_full core (range w x) item) (done_by w x (turn core (range w x) item) items) (Taken (took core item) (turn core (range w x) item).effect (copies w x ((turn core (range w x) item).effect).cast))
-    (λ f full. turn_number (is_hop_full core item) (is_number_full (learnt core item).rt ((turn core (range w x) item).effect).broken) f (hop_free v w x core item few t.queue.0) full)
+    (λ f full. turn_number (is_hop_full core item) (is_number_full (after_learning core item).rt ((turn core (range w x) item).effect).broken) f (hop_free v w x core item few t.queue.0) full)
 
 send_fills : (w : World) (x d : ℕ) (core : Core) (queue : List Item) → Fills (send_of w x d core queue)
 send_fills w x d core queue =

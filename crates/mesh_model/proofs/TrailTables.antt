@@ -11,7 +11,7 @@ use Rattle.aodv_model.proofs.Changes.{after_by, mapped_each, update_each}
 use Rattle.aodv_model.proofs.Entries.{Same, if_case}
 use Rattle.aodv_model.proofs.Lookups.{get-add_pre, get-invalidate}
 use Rattle.aodv_model.specs.Handlers.{is_stale, is_stale_beside, neighbour_entry, route_entry}
-use Rattle.aodv_model.specs.Tables.{Dests, Table, add_pre, entry_after, invalidate, invalidated, joined, merged, update}
+use Rattle.aodv_model.specs.Tables.{Dests, Table, add_pre, entry_after, invalidate, invalidated, add_pre_at, merge, update}
 use Rattle.mesh_base.specs.Members.{NodeIds}
 use Rattle.mesh_model.specs.Invariants.{AtLeast, IsAtLeast}
 use Rattle.mesh_model.specs.Trails.{Around, EntriesHaveWalks, EntryHasWalk, HasEntryWalk, HasReplyWalk, IsAbsent, IsBackedWalk, front}
@@ -49,17 +49,17 @@ on_trail a x d n y (z ∷ zs) t = at (x == y) refl (on_trail a x d n z zs t.4)
 -- ---- one entry over another
 
 -- what is not worse stays
-stays : (s r : Entry) (n h : ℕ) → IsAtLeast s n h → r.dsn ≡ n → h < r.hops → r.dsk ≡ Kno → Same (merged s r) s
-unfolding merged
+stays : (s r : Entry) (n h : ℕ) → IsAtLeast s n h → r.dsn ≡ n → h < r.hops → r.dsk ≡ Kno → Same (merge s r) s
+unfolding merge
 stays s r n h enough dsn more known = record { dsn = grind (arith, nat_tests); flag = grind (arith, nat_tests); hops = grind (arith, nat_tests); next = grind (arith, nat_tests) }
 
 -- the unknown one: the entry stays, or is one hop through its next hop
-pub near_shape : (s r : Entry) → r.hops ≡ 1 → Same (merged s r) s ⊎ (((merged s r).hops ≡ 1) × ((merged s r).next ≡ r.next))
-unfolding merged
+pub near_shape : (s r : Entry) → r.hops ≡ 1 → Same (merge s r) s ⊎ (((merge s r).hops ≡ 1) × ((merge s r).next ≡ r.next))
+unfolding merge
 near_shape s r one = grind (arith, nat_tests)
 
-pub known_shape : (s r : Entry) → r.dsk ≡ Kno → Same (merged s r) s ⊎ Same (merged s r) r
-unfolding merged
+pub known_shape : (s r : Entry) → r.dsk ≡ Kno → Same (merge s r) s ⊎ Same (merge s r) r
+unfolding merge
 known_shape s r known = grind (arith, nat_tests)
 
 traced_same : (a : Around) (x d : ℕ) (e s : Entry) → Same e s → EntryHasWalk a x d s → EntryHasWalk a x d e
@@ -80,8 +80,8 @@ neighbour_traced a x rt from all linked =
     update_each (EntryHasWalk a x) rt from (neighbour_entry from) all
     (after_by (EntryHasWalk a x from) (maps.get rt from) (neighbour_entry from) (near_traced a x from (neighbour_entry from) refl refl linked)
     (λ s is. elim (near_shape s (neighbour_entry from) refl) [
-      | inl same ↦ traced_same a x from (merged s (neighbour_entry from)) s same (all from s is)
-      | inr p ↦ near_traced a x from (merged s (neighbour_entry from)) p.0 p.1 linked
+      | inl same ↦ traced_same a x from (merge s (neighbour_entry from)) s same (all from s is)
+      | inr p ↦ near_traced a x from (merge s (neighbour_entry from)) p.0 p.1 linked
     ]))
 
 -- the walk of a message goes on to x
@@ -96,13 +96,13 @@ route_traced a x rt d n h from all grown one linked t =
     cases (inl absent) =
         after_by (EntryHasWalk a x d) (maps.get rt d) (route_entry n h from) (route_traced_by a x d n h from t.others t.walk t.long linked absent)
         (λ s is. elim (known_shape s (route_entry n h from) refl) [
-          | inl same ↦ traced_same a x d (merged s (route_entry n h from)) s same (all d s is)
-          | inr same ↦ traced_same a x d (merged s (route_entry n h from)) (route_entry n h from) same (route_traced_by a x d n h from t.others t.walk t.long linked absent)
+          | inl same ↦ traced_same a x d (merge s (route_entry n h from)) s same (all d s is)
+          | inr same ↦ traced_same a x d (merge s (route_entry n h from)) (route_entry n h from) same (route_traced_by a x d n h from t.others t.walk t.long linked absent)
         ])
     cases (inr found) =
         let at : AtLeast rt d n found.0 = grown n found.0 one found.2 in
         let less : found.0 < h + 1 = let l = found.1 in let e = t.long in omega arith in
-        rw at.there (traced_same a x d (merged at.entry (route_entry n h from)) at.entry (stays at.entry (route_entry n h from) n found.0 at.enough refl less refl) (all d at.entry at.there))
+        rw at.there (traced_same a x d (merge at.entry (route_entry n h from)) at.entry (stays at.entry (route_entry n h from) n found.0 at.enough refl less refl) (all d at.entry at.there))
 
 -- ---- changes of each entry
 
@@ -119,7 +119,7 @@ invalidate_traced a x rt dests all d e is =
 
 pub add_pre_traced : (a : Around) (x : ℕ) (rt : Table) (d : ℕ) (nodes : NodeIds) → EntriesHaveWalks a x rt → EntriesHaveWalks a x (add_pre rt d nodes)
 add_pre_traced a x rt d nodes all q e is =
-    mapped_each (EntryHasWalk a x) (joined d nodes) q e (maps.get rt q) (sym (get-add_pre rt d nodes q) ∙ is)
+    mapped_each (EntryHasWalk a x) (add_pre_at d nodes) q e (maps.get rt q) (sym (get-add_pre rt d nodes q) ∙ is)
     (λ s here. if_case (EntryHasWalk a x q) (q == d) (record s { pre = sets.union s.pre nodes }) s (λ _. all q s here) (λ _. all q s here))
 
 -- ---- stale replies

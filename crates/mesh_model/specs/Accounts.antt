@@ -56,8 +56,8 @@ unfoldable pub waiting : Test → World → ℕ
 waiting t w = total (λ n. in_store t (length w.nodes) (n.core).ip (n.core).store) w.nodes
 
 -- the data in queues, given or heard
-unfoldable pub queued : Test → World → ℕ
-queued t w = total (λ n. total (in_item t (n.core).ip) n.queue) w.nodes
+unfoldable pub queued_data : Test → World → ℕ
+queued_data t w = total (λ n. total (in_item t (n.core).ip) n.queue) w.nodes
 
 -- the data in flight
 unfoldable pub in_flight : Test → World → ℕ
@@ -72,9 +72,9 @@ if_goes (Full x f) n = 0
 if_goes (Next w happening) n = n
 
 -- the data given by an event with that outcome
-abbrev pub given : Test → Event → Outcome → ℕ
-given t (Give x d b) o = if_goes o (counts t x d b)
-given t others o = 0
+abbrev pub given_data : Test → Event → Outcome → ℕ
+given_data t (Give x d b) o = if_goes o (counts t x d b)
+given_data t others o = 0
 
 -- the datum of a copy, if there is one
 abbrev pub in_found : Test → Option Copy → ℕ
@@ -82,9 +82,9 @@ in_found t None = 0
 in_found t (Some c) = in_copy t c
 
 -- the datum that an event doubles in this world
-abbrev pub doubled : Test → World → Event → ℕ
-doubled t w (Double id) = in_found t (find_copy w.flying id)
-doubled t w others = 0
+abbrev pub doubled_data : Test → World → Event → ℕ
+doubled_data t w (Double id) = in_found t (find_copy w.flying id)
+doubled_data t w others = 0
 
 -- 1 where a data packet was doubled: what happened tells no more of it
 abbrev pub doubled_in : Happening → ℕ
@@ -113,9 +113,9 @@ delivered_at t x (Next w happening) = delivered_in t x happening
 delivered_at t x others = 0
 
 -- the data delivered: by turns
-abbrev pub delivered : Test → Event → Outcome → ℕ
-delivered t (Turn x) o = delivered_at t x o
-delivered t others o = 0
+abbrev pub delivered_data : Test → Event → Outcome → ℕ
+delivered_data t (Turn x) o = delivered_at t x o
+delivered_data t others o = 0
 
 -- what was taken, where it is dropped: the datum of a packet
 abbrev pub in_dropped : Test → Took → ℕ
@@ -130,9 +130,9 @@ dropped_in t (CopyLost c) = in_copy t c
 dropped_in t others = 0
 
 -- the data dropped: by turns, and with lost copies
-abbrev pub dropped : Test → Event → Outcome → ℕ
-dropped t e (Next w happening) = dropped_in t happening
-dropped t e others = 0
+abbrev pub dropped_data : Test → Event → Outcome → ℕ
+dropped_data t e (Next w happening) = dropped_in t happening
+dropped_data t e others = 0
 
 -- the sum over a run of what each event's outcome counts
 unfoldable pub over_run : (Event → Outcome → ℕ) → World → List Event → ℕ

@@ -12,7 +12,7 @@ use Rattle.mesh_model.specs.Worlds.{World, Event, Idle, Full, step, after, run, 
 use Rattle.mesh_model.specs.Walks.{table, Edge, IsWalk, Cycle}
 use Rattle.mesh_model.specs.Places.{IsInMesh, IsEvent}
 use Rattle.mesh_model.specs.Invariants.{IsLoopSafe, IsInvariant}
-use Rattle.mesh_model.specs.Accounts.{Test, waiting, queued, in_flight, given, doubled, doubled_at, delivered, dropped, any, over_run, over_worlds}
+use Rattle.mesh_model.specs.Accounts.{Test, waiting, queued_data, in_flight, given_data, doubled_data, doubled_at, delivered_data, dropped_data, any, over_run, over_worlds}
 use Rattle.mesh_model.specs.Trails.{HonestWalk, HasWalks}
 use Rattle.mesh_model.specs.Routes.{route_end, IsRouteEnd}
 use Rattle.mesh_model.specs.Choices.{pick, IsChoice, IsNoLater}
@@ -98,9 +98,9 @@ PickIsLeast = (w : World) (e : Event) → IsInMesh w → IsEvent (length w.nodes
 -- or was doubled
 abbrev pub StepBalances : Type 0
 StepBalances = (t : Test) (w : World) (e : Event) → IsEvent (length w.nodes) e → IsInMesh w
-    → waiting t (after w (step w e)) + queued t (after w (step w e))
-    + in_flight t (after w (step w e)) + delivered t e (step w e) + dropped t e (step w e)
-    ≡ waiting t w + queued t w + in_flight t w + given t e (step w e) + doubled t w e
+    → waiting t (after w (step w e)) + queued_data t (after w (step w e))
+    + in_flight t (after w (step w e)) + delivered_data t e (step w e) + dropped_data t e (step w e)
+    ≡ waiting t w + queued_data t w + in_flight t w + given_data t e (step w e) + doubled_data t w e
 
 -- a run: each datum that was given, or doubled in flight, was delivered, waits in a store or a
 -- queue, is in flight, or was dropped
@@ -108,16 +108,17 @@ abbrev pub Account : Type 0
 Account =
     (t : Test) (variant : Variant) (firsts : List ℕ) (events : List Event) → ArePositive firsts
     → AllByRecursion (IsEvent (length firsts)) events
-    → over_run (given t) (start variant firsts) events
-    + over_worlds (doubled t) (start variant firsts) events
-    ≡ over_run (delivered t) (start variant firsts) events
-    + waiting t (run (start variant firsts) events) + queued t (run (start variant firsts) events)
+    → over_run (given_data t) (start variant firsts) events
+    + over_worlds (doubled_data t) (start variant firsts) events
+    ≡ over_run (delivered_data t) (start variant firsts) events
+    + waiting t (run (start variant firsts) events)
+    + queued_data t (run (start variant firsts) events)
     + in_flight t (run (start variant firsts) events)
-    + over_run (dropped t) (start variant firsts) events
+    + over_run (dropped_data t) (start variant firsts) events
 
 -- what happened tells how many data, whatever they are, an event doubles
 abbrev pub DoublingIsTold : Type 0
-DoublingIsTold = (w : World) (e : Event) → doubled any w e ≡ doubled_at (step w e)
+DoublingIsTold = (w : World) (e : Event) → doubled_data any w e ≡ doubled_at (step w e)
 
 -- ---- honest hops
 

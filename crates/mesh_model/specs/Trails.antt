@@ -9,7 +9,7 @@ use Rattle.aodv_entry.specs.declared.entry.Entry.{Entry}
 use Rattle.aodv_entry.specs.declared.entry.Flag.TheVariants.{Val}
 use Rattle.aodv_model.specs.Pairs.{Pairs}
 use Rattle.aodv_model.specs.Tables.{Table}
-use Rattle.aodv_model.specs.Cores.{Message, Pkt, Rreq, Rrep, Rerr, Item, New, Heard, Seen, has_seen}
+use Rattle.aodv_model.specs.Cores.{Message, Pkt, Rreq, Rrep, Rerr, Item, New, Heard, SeenRequests, has_seen}
 use Rattle.aodv_model.specs.Handlers.{key_of}
 use Rattle.mesh_model.specs.Worlds.{World, Node, Copy, are_linked}
 use Rattle.mesh_model.specs.Walks.{table, last}
@@ -53,7 +53,7 @@ IsAbsent x zs = AllByRecursion (λ z. x ≢ z) zs
 pub record Around : Type 0 where
   pub variant : Variant
   pub tables : ℕ → Table
-  pub seen : ℕ → Seen
+  pub seen : ℕ → SeenRequests
   pub ever : Pairs
 
 -- a walk to d, its holder first: neighbours have been linked; the nodes before the last are all
@@ -113,7 +113,7 @@ abbrev pub CopyHasWalk : Around → Copy → Type 0
 CopyHasWalk a c = (are_linked a.ever c.from c.to ≡ true) × MessageHasWalk a c.from c.message
 
 -- the requests that a node has seen
-abbrev pub seen_in : Option Node → Seen
+abbrev pub seen_in : Option Node → SeenRequests
 seen_in None = sets.empty
 seen_in (Some n) = (n.core).seen
 

@@ -2,9 +2,9 @@
 use Rattle.std.proofs.Common.{◌≡◌, ℕ, ◌+◌, Bool, true, false, refl, sym, ap, ◌∙◌, arith}
 use Rattle.mesh_model.specs.Worlds as worlds
 use Rattle.mesh_model.specs.Worlds.{Event, Outcome, Idle, Next}
-use Rattle.mesh_model.specs.Accounts.{any, given, delivered, doubled_at, dropped}
+use Rattle.mesh_model.specs.Accounts.{any, given_data, delivered_data, doubled_at, dropped_data}
 use mir.Val.{bool_byte}
-use Rattle.mesh_text.specs.Schedule.{Sums, summed, idle_by}
+use Rattle.mesh_text.specs.Schedule.{Sums, sums_after, idle_by}
 use Rattle.mesh_world.specs.Steps.{is_idle}
 use Rattle.mesh_world.specs.Tallies.{count_of, says_idle, says_given, says_delivered, says_dropped, says_doubled, IsTally}
 use Rattle.mesh_world.specs.declared.tally.Tally.{Tally}
@@ -22,14 +22,14 @@ pub no_more : (n k : ℕ) → k ≡ 0 → n ≡ n + k
 no_more n k none = omega arith
 
 -- each sum is what it was, and what the event adds
-pub summed_by : (s : Sums) (e : Event) (o : Outcome) (v w x y z : ℕ) → v ≡ s.idle + idle_by o → w ≡ s.given + given any e o → x ≡ s.delivered + delivered any e o → y ≡ s.lost + dropped any e o → z ≡ s.copied + doubled_at o
-    → record { events = s.events + 1; idle = v; given = w; delivered = x; lost = y; copied = z } ≡ summed s e o
+pub summed_by : (s : Sums) (e : Event) (o : Outcome) (v w x y z : ℕ) → v ≡ s.idle + idle_by o → w ≡ s.given + given_data any e o → x ≡ s.delivered + delivered_data any e o → y ≡ s.lost + dropped_data any e o → z ≡ s.copied + doubled_at o
+    → record { events = s.events + 1; idle = v; given = w; delivered = x; lost = y; copied = z } ≡ sums_after s e o
 summed_by s e o v w x y z iv gw dx ly cz = λ i. record { events = s.events + 1; idle = iv i; given = gw i; delivered = dx i; lost = ly i; copied = cz i }
 
 -- the sums of an event by its tally
 pub tallied : (s : Sums) (e : Event) (o : Outcome) (t : Tally) (v w x y z : ℕ) → IsTally e o t → v ≡ s.idle + count_of (says_idle t) → w ≡ s.given + count_of (says_given e t)
     → x ≡ s.delivered + count_of (says_delivered t) → y ≡ s.lost + count_of (says_dropped t) → z ≡ s.copied + count_of (says_doubled t)
-    → record { events = s.events + 1; idle = v; given = w; delivered = x; lost = y; copied = z } ≡ summed s e o
+    → record { events = s.events + 1; idle = v; given = w; delivered = x; lost = y; copied = z } ≡ sums_after s e o
 tallied s e o t v w x y z is iv gw dx ly cz =
     summed_by s e o v w x y z (iv ∙ ap (λ n. s.idle + n) (sym (idle_is o ∙ ap count_of is.idle))) (gw ∙ ap (λ n. s.given + n) (sym is.given)) (dx ∙ ap (λ n. s.delivered + n) (sym is.delivered))
     (ly ∙ ap (λ n. s.lost + n) (sym is.dropped)) (cz ∙ ap (λ n. s.copied + n) (sym is.doubled))

@@ -9,13 +9,13 @@ use Rattle.mesh_base.proofs.Grown.{grown_is_mesh}
 use Rattle.mesh_base.specs.declared.events.Variant.{Variant}
 use Rattle.mesh_base.specs.declared.events.Done.{Done}
 use Rattle.mesh_model.specs.Worlds.{World, Event, Outcome, step, after, start, first_numbers}
-use Rattle.mesh_model.specs.Accounts.{any, waiting, queued, in_flight}
+use Rattle.mesh_model.specs.Accounts.{any, waiting, queued_data, in_flight}
 use Rattle.mesh_model.specs.Places.{IsEvent}
 use Rattle.mesh_model.proofs.AccountSteps.{start_empty}
 use Rattle.mesh_model.proofs.Sizes.{start_size}
 use Rattle.mesh_meaning.specs.Events.{node_of}
 use Rattle.mesh_meaning.specs.Answers.{outcome_in, IsDoneInMesh}
-use Rattle.mesh_text.specs.Schedule.{Sums, Moment, no_sums, world_of, stepped, summed}
+use Rattle.mesh_text.specs.Schedule.{Sums, Moment, no_sums, world_of, next_moment, sums_after}
 use Rattle.mesh_text.specs.Accounts.{IsBalanced}
 use Rattle.mesh_text.specs.Ranges.{IsNewNode}
 use Rattle.mesh_text.proofs.Moments.{event_keeps_account}
@@ -33,7 +33,7 @@ use Rattle.mesh_moment.proofs.OfVariant.{start_of, step_of}
 -- there are no data before the run has started
 pub record Nothing (w : World) : Type 0 where
   pub waiting : 0 ≡ waiting any w
-  pub queued : 0 ≡ queued any w
+  pub queued : 0 ≡ queued_data any w
   pub flying : 0 ≡ in_flight any w
 
 nothing_at : (v : Variant) (firsts : Nodes) → Nothing (start v (first_numbers firsts))
@@ -173,7 +173,7 @@ sound_started variant nodes (Some x) s lines w some none is before = absurd (let
 sound_started variant nodes None s lines w some none is before =
     let steps : w.steps ≡ 0 = ap (λ x. x.steps) is in
     let world : w.world ≡ start variant (first_numbers nodes) = ap (λ x. x.world) is in
-    let P : World → Type 0 = λ x. s.given + s.copied ≡ s.delivered + waiting any x + queued any x + in_flight any x + s.lost in
+    let P : World → Type 0 = λ x. s.given + s.copied ≡ s.delivered + waiting any x + queued_data any x + in_flight any x + s.lost in
     let count : length (start variant (first_numbers nodes)).nodes ≡ length nodes = start_size variant (first_numbers nodes) ∙ length-map nodes (λ p. p.1) in
     record {
       mesh = before.mesh;
@@ -220,7 +220,7 @@ as_seen (Some w) = refl
 pub first_answer : (variant : Variant) (nodes : Nodes) (s t : Sums) (lines : ℕ) (old new : WorldSeen) (e : Event) (d : Done) (packet : List ℕ) → old ≡ opening variant nodes
     → IsAnswer (moment_seen variant nodes (Some old) s lines) e d (moment_seen variant nodes (Some new) t lines) packet
     → IsAnswer (moment_seen variant nodes None s lines) e d (moment_seen variant nodes (Some new) t lines) packet
-unfolding stepped
+unfolding next_moment
 first_answer variant nodes s t lines old new e d packet is a =
     let b : IsAnswer (moment_seen variant nodes (Some (opening variant nodes)) s lines) e d (moment_seen variant nodes (Some new) t lines) packet =
     subst (λ w. IsAnswer (moment_seen variant nodes (Some w) s lines) e d (moment_seen variant nodes (Some new) t lines) packet) is a in
@@ -233,16 +233,16 @@ unseen (Some w) none = absurd (let P : ⊥ = cc in P)
 
 -- what is answered at a moment
 pub answer_at : (variant : Variant) (nodes : Nodes) (old new : WorldSeen) (s t : Sums) (lines : ℕ) (e : Event) (d : Done) (packet : List ℕ)
-    → old.mesh ≡ nodes → IsDone e old d new packet → t ≡ summed s e (step old.world e)
+    → old.mesh ≡ nodes → IsDone e old d new packet → t ≡ sums_after s e (step old.world e)
     → IsAnswer (moment_seen variant nodes (Some old) s lines) e d (moment_seen variant nodes (Some new) t lines) packet
-unfolding stepped
+unfolding next_moment
 answer_at variant nodes old new s t lines e d packet same done sum =
     let world : new.world ≡ after old.world (step old.world e) = ap (λ x. x.world) done.world in
     let steps : new.steps ≡ old.steps + 1 = ap (λ x. x.steps) done.world in
     record {
       moment = ap (λ w. let x : Moment = record { variant = variant; mesh = nodes; world = Some w; sums = t; lines = lines; steps = new.steps } in x) world
           ∙ ap (λ u. let x : Moment = record { variant = variant; mesh = nodes; world = Some (after old.world (step old.world e)); sums = u; lines = lines; steps = new.steps } in x) sum
-          ∙ ap (λ j. let x : Moment = record { variant = variant; mesh = nodes; world = Some (after old.world (step old.world e)); sums = summed s e (step old.world e); lines = lines; steps = j } in x) steps;
+          ∙ ap (λ j. let x : Moment = record { variant = variant; mesh = nodes; world = Some (after old.world (step old.world e)); sums = sums_after s e (step old.world e); lines = lines; steps = j } in x) steps;
       outcome = done.outcome ∙ ap (λ x. outcome_in x (node_of e) new.world d packet) same;
       in_mesh = subst (λ x. IsDoneInMesh x d packet) same done.in_mesh;
     }
@@ -254,13 +254,13 @@ pub record Answered (m : Moment) (variant : Variant) (nodes : Nodes) (new : Worl
   pub answer : IsAnswer m e d (moment_seen variant nodes (Some new) t lines) packet
 
 -- the sums count an event, by the tally of its answer
-pub sum_by : (e : Event) (old new : WorldSeen) (d : Done) (packet : List ℕ) (tally : Tally) (s t : Sums) → IsDone e old d new packet → IsTallyOf d tally → ((o : Outcome) → IsTally e o tally → t ≡ summed s e o)
-    → t ≡ summed s e (step old.world e)
+pub sum_by : (e : Event) (old new : WorldSeen) (d : Done) (packet : List ℕ) (tally : Tally) (s t : Sums) → IsDone e old d new packet → IsTallyOf d tally → ((o : Outcome) → IsTally e o tally → t ≡ sums_after s e o)
+    → t ≡ sums_after s e (step old.world e)
 sum_by e old new d packet tally s t done of counted = counted (step old.world e) (of old.mesh (node_of e) old.world new.world packet e done.in_mesh done.outcome)
 
 answered : (variant : Variant) (nodes : Nodes) (old new : WorldSeen) (s t : Sums) (lines : ℕ) (e : Event) (r : Result Done StepError) (d : Done) (packet : List ℕ)
     → IsSound (moment_seen variant nodes (Some old) s lines) (Some old) → IsEvent (length nodes) e
-    → IsStep e old r new packet → r ≡ Ok d → IsSoundWorld new → ((steps : ℕ) → AreCounts s steps → AreCounts t (steps + 1)) → t ≡ summed s e (step old.world e)
+    → IsStep e old r new packet → r ≡ Ok d → IsSoundWorld new → ((steps : ℕ) → AreCounts s steps → AreCounts t (steps + 1)) → t ≡ sums_after s e (step old.world e)
     → Answered (moment_seen variant nodes (Some old) s lines) variant nodes new t lines e d packet
 answered variant nodes old new s t lines e r d packet before event took ok sound counts sum =
     let done : IsDone e old d new packet = subst (λ x. IsStep e old x new packet) ok took in
@@ -287,7 +287,7 @@ answered variant nodes old new s t lines e r d packet before event took ok sound
 -- in the world that is seen
 pub answered_at : (m : Moment) (variant : Variant) (nodes : Nodes) (seen : Option WorldSeen) (old new : WorldSeen) (s t : Sums) (lines : ℕ) (e : Event) (r : Result Done StepError) (d : Done) (packet : List ℕ)
     → moment_seen variant nodes seen s lines ≡ m → seen ≡ Some old → IsSound (moment_seen variant nodes seen s lines) seen → IsEvent (length m.mesh) e
-    → IsStep e old r new packet → r ≡ Ok d → IsSoundWorld new → ((steps : ℕ) → AreCounts s steps → AreCounts t (steps + 1)) → t ≡ summed s e (step old.world e)
+    → IsStep e old r new packet → r ≡ Ok d → IsSoundWorld new → ((steps : ℕ) → AreCounts s steps → AreCounts t (steps + 1)) → t ≡ sums_after s e (step old.world e)
     → Answered m variant nodes new t lines e d packet
 answered_at m variant nodes seen old new s t lines e r d packet is some before event took ok sound counts sum =
     let here : IsSound (moment_seen variant nodes (Some old) s lines) (Some old) = subst (λ o. IsSound (moment_seen variant nodes o s lines) o) some before in
@@ -299,7 +299,7 @@ answered_at m variant nodes seen old new s t lines e r d packet is some before e
 -- in the opening world, which was made for it
 pub answered_first : (m : Moment) (variant : Variant) (nodes : Nodes) (seen : Option WorldSeen) (old new : WorldSeen) (s t : Sums) (lines : ℕ) (e : Event) (r : Result Done StepError) (d : Done) (packet : List ℕ)
     → moment_seen variant nodes seen s lines ≡ m → m.world ≡ None → old ≡ opening variant nodes → 1 ≤ length m.mesh → IsSound (moment_seen variant nodes seen s lines) seen → IsEvent (length m.mesh) e
-    → IsStep e old r new packet → r ≡ Ok d → IsSoundWorld new → ((steps : ℕ) → AreCounts s steps → AreCounts t (steps + 1)) → t ≡ summed s e (step old.world e)
+    → IsStep e old r new packet → r ≡ Ok d → IsSoundWorld new → ((steps : ℕ) → AreCounts s steps → AreCounts t (steps + 1)) → t ≡ sums_after s e (step old.world e)
     → Answered m variant nodes new t lines e d packet
 answered_first m variant nodes seen old new s t lines e r d packet is none opened some before event took ok sound counts sum =
     let unmade : option_map (λ w. w.world) seen ≡ None = ap (λ (k : Moment). k.world) is ∙ none in

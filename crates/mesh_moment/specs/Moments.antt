@@ -10,12 +10,12 @@ use Rattle.mesh_model.specs.Worlds as worlds
 use Rattle.mesh_model.specs.Worlds.{World, Event}
 use Rattle.aodv_model.specs.Codes.{variant_code}
 use Rattle.mesh_model.specs.Codes.{world_code}
-use Rattle.mesh_model.specs.Accounts.{any, waiting, queued, in_flight}
+use Rattle.mesh_model.specs.Accounts.{any, waiting, queued_data, in_flight}
 use Rattle.mesh_model.specs.Invariants.{IsInvariant}
 use Rattle.mesh_model.specs.Walks.{Cycle}
 use Rattle.mesh_meaning.specs.Events.{node_of}
 use Rattle.mesh_meaning.specs.Answers.{outcome_in, IsDoneInMesh}
-use Rattle.mesh_text.specs.Schedule.{Moment, Sums, Accepted, Nothing, NewNode, world_of, started, outcome_at, stepped}
+use Rattle.mesh_text.specs.Schedule.{Moment, Sums, AcceptedLine, Nothing, NewNode, world_of, with_world, outcome_at, next_moment}
 use Rattle.mesh_text.specs.Accounts.{IsBalanced}
 use Rattle.mesh_moment.specs.Sums.{AreCounts}
 use Rattle.mesh_world.specs.Seen.{WorldSeen, IsSoundWorld}
@@ -35,10 +35,10 @@ moment_seen variant nodes seen sums lines = record {
 }
 
 -- the moment at which a line is done: one that is neither blank nor of a node starts the run
-abbrev pub begun : Moment → Accepted → Moment
-begun m Nothing = m
-begun m (NewNode address first) = m
-begun m others = started m
+abbrev pub with_run_begun : Moment → AcceptedLine → Moment
+with_run_begun m Nothing = m
+with_run_begun m (NewNode address first) = m
+with_run_begun m others = with_world m
 
 -- all nodes run this variant of the protocol
 abbrev pub AreOfVariant : Variant → World → Type 0
@@ -65,7 +65,7 @@ pub record IsSound (m : Moment) (seen : Option WorldSeen) : Type 0 where
 -- where the data of a world are
 pub record AreTotals (w : World) (t : Totals) : Type 0 where
   pub waiting : t.waiting ≡ waiting any w
-  pub queued : t.queued ≡ queued any w
+  pub queued : t.queued ≡ queued_data any w
   pub flying : t.flying ≡ in_flight any w
 
 -- a world with the invariant, in which no destination's valid routes have a loop
@@ -83,7 +83,7 @@ pub record IsSafe (m : Moment) : Type 0 where
 -- and names nodes of the mesh only
 pub record IsAnswer (m : Moment) (e : Event) (done : Done) (n : Moment) (packet : List ℕ)
     : Type 0 where
-  pub moment : n ≡ stepped m e
+  pub moment : n ≡ next_moment m e
   pub outcome : outcome_at m e ≡ outcome_in m.mesh (node_of e) (world_of n) done packet
   pub in_mesh : IsDoneInMesh m.mesh done packet
 

@@ -94,7 +94,7 @@ impl<S: Steps> Point<S> {
     /// Counts a line that was done by other calls than `one`.
     pub fn count_line(&mut self)
         requires { self.old.lines < 2 ^ 62 }
-        ensures { self.new ≡ model.counted self.old }
+        ensures { self.new ≡ model.with_line_read self.old }
     {
         self.state.count_line();
     }
@@ -116,7 +116,7 @@ impl<S: Steps> Point<S> {
     /// Makes the opening world, unless there is a world. An `Err` changes nothing.
     pub fn begin(&mut self, alloc: Global) -> Result<(), NoMemory>
         requires { 1 ≤ length self.old.mesh }
-        ensures ok { OnOk result (self.new ≡ model.started self.old) }
+        ensures ok { OnOk result (self.new ≡ model.with_world self.old) }
         ensures err { OnErr result (self.new ≡ self.old) }
     {
         self.state.make_world(alloc)

@@ -4,12 +4,12 @@ ghost use Rattle.std.specs.Prelude.{◌≡◌, ◌<◌, ◌≤◌, ◌^◌, leng
 ghost use Rattle.mesh_base.specs.declared.limits.TheConstants.{MOST_NODES};
 ghost use Rattle.mesh_base.specs.Meshes.{IsMesh, with_node};
 ghost use Rattle.mesh_model.specs.Places.{IsEvent};
-ghost use Rattle.mesh_model.specs.Accounts.{any, waiting, queued, in_flight};
+ghost use Rattle.mesh_model.specs.Accounts.{any, waiting, queued_data, in_flight};
 ghost use Rattle.mesh_meaning.specs.Events.{event_of};
 ghost use Rattle.mesh_text.specs.Schedule as model;
 ghost use Rattle.mesh_text.specs.Ranges.{IsNewNode};
 ghost use Rattle.mesh_script.specs.Seen.{accepted_of, IsAllowed};
-ghost use Rattle.mesh_moment.specs.Moments.{begun, moment_seen, AreOfVariant, IsAnswer, IsAnswered, IsRefusal, IsSafe, IsSound};
+ghost use Rattle.mesh_moment.specs.Moments.{with_run_begun, moment_seen, AreOfVariant, IsAnswer, IsAnswered, IsRefusal, IsSafe, IsSound};
 
 use crate::sums::count;
 use mesh_base::{Addr, Done, Event, Mesh, NoMemory, Packet, Variant};
@@ -142,7 +142,7 @@ impl<S: Steps> State<S> {
         ensures safe { IsSafe self.now }
         ensures sums { sums_of result.sums ≡ self.now.sums }
         ensures waiting { result.waiting ≡ waiting any (model.world_of self.now) }
-        ensures queued { result.queued ≡ queued any (model.world_of self.now) }
+        ensures queued { result.queued ≡ queued_data any (model.world_of self.now) }
         ensures flying { result.flying ≡ in_flight any (model.world_of self.now) }
     {
         let totals = self.totals();
@@ -157,7 +157,7 @@ impl<S: Steps> State<S> {
     // The data of the world; there are none before the run has started.
     fn totals(&self) -> Totals
         ensures waiting { result.waiting ≡ waiting any (model.world_of self.now) }
-        ensures queued { result.queued ≡ queued any (model.world_of self.now) }
+        ensures queued { result.queued ≡ queued_data any (model.world_of self.now) }
         ensures flying { result.flying ≡ in_flight any (model.world_of self.now) }
     {
         match self.world() {
@@ -173,7 +173,7 @@ impl<S: Steps> State<S> {
     /// Counts a line.
     pub fn count_line(&mut self)
         requires { self.old.lines < 2 ^ 62 }
-        ensures { self.new ≡ model.counted self.old }
+        ensures { self.new ≡ model.with_line_read self.old }
     {
         self.lines += 1;
     }
@@ -281,7 +281,7 @@ impl<S: Steps> State<S> {
     /// started. An `Err` changes nothing.
     pub fn begin(&mut self, alloc: Global, line: &Line<'_>) -> Result<(), NoMemory>
         requires { IsAllowed self.old.mesh (is_some self.old.world) line.now }
-        ensures ok { OnOk result (self.new ≡ begun self.old (accepted_of line.now)) }
+        ensures ok { OnOk result (self.new ≡ with_run_begun self.old (accepted_of line.now)) }
         ensures err { OnErr result (self.new ≡ self.old) }
     {
         match line {
@@ -294,7 +294,7 @@ impl<S: Steps> State<S> {
     /// Makes the opening world, unless the run has started. An `Err` changes nothing.
     pub fn make_world(&mut self, alloc: Global) -> Result<(), NoMemory>
         requires { 1 ≤ length self.old.mesh }
-        ensures ok { OnOk result (self.new ≡ model.started self.old) }
+        ensures ok { OnOk result (self.new ≡ model.with_world self.old) }
         ensures err { OnErr result (self.new ≡ self.old) }
     {
         if self.started() {
@@ -309,7 +309,7 @@ impl<S: Steps> State<S> {
     fn open(&mut self, alloc: Global) -> Result<(), NoMemory>
         requires some { 1 ≤ length self.old.mesh }
         requires before { self.old.world ≡ None }
-        ensures ok { OnOk result (self.new ≡ model.started self.old) }
+        ensures ok { OnOk result (self.new ≡ model.with_world self.old) }
         ensures err { OnErr result (self.new ≡ self.old) }
     {
         let world = S::with(alloc, &self.mesh, self.variant)?;

@@ -2,7 +2,7 @@
 ghost use Rattle.std.specs.Prelude.{◌≡◌, ◌+◌, ◌^◌, ℕ};
 ghost use Rattle.mesh_model.specs.Worlds.{Outcome};
 ghost use Rattle.mesh_meaning.specs.Events.{event_of};
-ghost use Rattle.mesh_text.specs.Schedule.{summed};
+ghost use Rattle.mesh_text.specs.Schedule.{sums_after};
 ghost use Rattle.mesh_world.specs.Tallies.{is_give, IsTally};
 ghost use Rattle.mesh_report.specs.Sums.{sums_of};
 ghost use Rattle.mesh_moment.specs.Sums.{AreCounts};
@@ -26,7 +26,7 @@ fn is_give(e: &Event<'_>) -> bool
 pub(crate) fn count(sums: &mut Sums, e: &Event<'_>, tally: Tally)
     requires few { AreCounts (sums_of sums.old) (2 ^ 48) }
     ensures counted { (o : Outcome) → IsTally (event_of e.now) o tally
-        → sums_of sums.new ≡ summed (sums_of sums.old) (event_of e.now) o }
+        → sums_of sums.new ≡ sums_after (sums_of sums.old) (event_of e.now) o }
     ensures counts { (steps : ℕ) → AreCounts (sums_of sums.old) steps
         → AreCounts (sums_of sums.new) (steps + 1) }
 {

@@ -12,11 +12,11 @@ use Rattle.mesh_grammar.specs.declared.fault.LineFault.TheVariants.{Early, TooMa
 use Rattle.mesh_grammar.specs.Words.{Mention, next_at, with_argument}
 use Rattle.mesh_grammar.specs.Forms.{Arguments, NoArgument, OneAddress, OneNumber, NumberedAddress, AddressAndNumber, AddressAndText, greatest_first, AreOfForm}
 use Rattle.mesh_grammar.specs.Scripts.{Shape, row_in, shape_by}
-use Rattle.mesh_grammar.specs.Written.{written}
-use Rattle.mesh_grammar.specs.Laws.{mention, mentioned, HaveAddresses, IsReadable, IsWord, addresses_of}
+use Rattle.mesh_grammar.specs.Written.{command_text}
+use Rattle.mesh_grammar.specs.Laws.{mention, as_mentions, HaveAddresses, IsReadable, IsWord, addresses_of}
 use Rattle.mesh_grammar.proofs.Readings.{with_argument_case}
 use Rattle.mesh_grammar.proofs.Spellings.{written_line_is_read}
-use Rattle.mesh_text.specs.Schedule.{known, result_and_then}
+use Rattle.mesh_text.specs.Schedule.{as_node, result_and_then}
 use Rattle.mesh_peers.specs.declared.command.Command.{Command}
 use Rattle.mesh_peers.specs.declared.command.Command.TheVariants as command
 use Rattle.mesh_peers.specs.declared.limits.TheConstants.{GREATEST_PORT}
@@ -24,7 +24,7 @@ use Rattle.mesh_peers.specs.declared.line.NodeLine.{NodeLine}
 use Rattle.mesh_peers.specs.declared.shape.Shape as code
 use Rattle.mesh_peers.specs.Commands.{router_script, shape_of}
 use Rattle.mesh_peers.specs.Peers.{PeersSeen, at_port}
-use Rattle.mesh_peers.specs.Lines.{Accepted, Nothing, Own, Peer, Up, Down, Give, Polls, Turns, Sends, Asks, Shows, after_self, of_other, made, in_room, new_self, new_peer, accepted, accepted_shape, line_of, words_of, IsNew, IsNamed, IsInRange, IsInTime}
+use Rattle.mesh_peers.specs.Lines.{AcceptedLine, Nothing, Own, Peer, Up, Down, Give, Polls, Turns, Sends, Asks, Shows, after_self, of_other, made_line, in_room, new_self, new_peer, accepted_line, accepted_shape, line_of, words_of, IsNew, IsNamed, IsInRange, IsInTime}
 use Rattle.mesh_peers.specs.Seen.{form_of, seen_line, said_of, seen_shape, IsAllowed}
 use Rattle.mesh_peers.proofs.Said.{word_of, row_of, Said, said}
 use Rattle.mesh_text.proofs.Printed.{is_word}
@@ -34,7 +34,7 @@ append_none text = append-nil text
 
 -- ---- what is read is in its range
 
-unfoldable pub Allowed : PeersSeen → Bool → Result Accepted LineFault → Type 0
+unfoldable pub Allowed : PeersSeen → Bool → Result AcceptedLine LineFault → Type 0
 Allowed p started (Err f) = Unit {0}
 Allowed p started (Ok a) = IsInRange p a × IsInTime started a
 
@@ -51,7 +51,7 @@ module _ (p : PeersSeen) (started : Bool) where
   unfolding Allowed
   faulty f = tt
 
-  new_in_room : (a : ℕ) (line : Accepted) → length p.mesh ≤ MOST_NODES → index_of p.mesh a ≡ None → a < 2 ^ 32
+  new_in_room : (a : ℕ) (line : AcceptedLine) → length p.mesh ≤ MOST_NODES → index_of p.mesh a ≡ None → a < 2 ^ 32
       → (IsNew p.mesh a → Allowed p started (Ok line)) → Allowed p started (in_room p.mesh line)
   new_in_room a line few absent fits holds =
       if_case (Allowed p started) (eqb (length p.mesh) MOST_NODES) (Err TooManyNodes) (Ok line) (λ _. faulty TooManyNodes) (λ room.
@@ -79,41 +79,41 @@ module _ (p : PeersSeen) (started : Bool) where
       ((new, none_there (at_port p port) free, one, most), early)))))
 
   -- a line about nodes that are there, where the node itself was named
-  after_named : (me : Option ℕ) (r : Result Accepted LineFault) → (is_some me ≡ true → Allowed p started r) → Allowed p started (after_self me r)
+  after_named : (me : Option ℕ) (r : Result AcceptedLine LineFault) → (is_some me ≡ true → Allowed p started r) → Allowed p started (after_self me r)
   after_named None r holds = faulty Early
   after_named (Some x) r holds = holds refl
 
-  at_node : (make : Arguments ℕ → Result Accepted LineFault) (m : Mention) (next : ℕ → Result (Arguments ℕ) LineFault)
-      → ((x : ℕ) → x < length p.mesh → Allowed p started (result_and_then make (next x))) → Allowed p started (result_and_then make (known p.mesh m next))
+  at_node : (make : Arguments ℕ → Result AcceptedLine LineFault) (m : Mention) (next : ℕ → Result (Arguments ℕ) LineFault)
+      → ((x : ℕ) → x < length p.mesh → Allowed p started (result_and_then make (next x))) → Allowed p started (result_and_then make (as_node p.mesh m next))
   at_node make m next holds =
       with_argument_case (λ r. Allowed p started (result_and_then make r)) (index_of p.mesh m.address) (Unknown m.span) next (faulty (Unknown m.span))
       (λ x is. let there = index_there p.mesh m.address x is in holds x there.0)
 
-  other_allowed : (me : Option ℕ) (x : ℕ) (line : Accepted) → (me ≢ Some x → Allowed p started (Ok line)) → Allowed p started (of_other me x line)
+  other_allowed : (me : Option ℕ) (x : ℕ) (line : AcceptedLine) → (me ≢ Some x → Allowed p started (Ok line)) → Allowed p started (of_other me x line)
   other_allowed None x line holds = holds (λ e. absurd (let P : ⊥ = cc in P))
   other_allowed (Some y) x line holds =
       if_case (Allowed p started) (eqb x y) (Err Same) (Ok line) (λ _. faulty Same) (λ apart.
       let other : x ≢ y = eqb-false x y apart in holds (λ e. other (let same : y ≡ x = cc in sym same)))
 
   said_allowed : (size : ℕ) (c : Command) (arguments : Arguments Mention) → length p.mesh ≤ MOST_NODES → AreOfForm (form_of c) arguments
-      → HaveAddresses (addresses_of arguments) → Allowed p started (accepted p started size c arguments)
+      → HaveAddresses (addresses_of arguments) → Allowed p started (accepted_line p started size c arguments)
   unfolding Allowed
   said_allowed size command.Own (NumberedAddress m first) few form fit = self_allowed m first few fit form.0 form.1
   said_allowed size command.Peer (AddressAndNumber m port) few form fit = peer_allowed size m port few fit form.0 form.1
   said_allowed size command.Up (OneAddress m) few form fit =
-      after_named p.me _ (λ named. at_node (made p.me command.Up) m (λ x. Ok (OneAddress x)) (λ x lt.
+      after_named p.me _ (λ named. at_node (made_line p.me command.Up) m (λ x. Ok (OneAddress x)) (λ x lt.
       other_allowed p.me x (Up x) (λ other. (((named, lt), other), tt))))
   said_allowed size command.Down (OneAddress m) few form fit =
-      after_named p.me _ (λ named. at_node (made p.me command.Down) m (λ x. Ok (OneAddress x)) (λ x lt.
+      after_named p.me _ (λ named. at_node (made_line p.me command.Down) m (λ x. Ok (OneAddress x)) (λ x lt.
       other_allowed p.me x (Down x) (λ other. (((named, lt), other), tt))))
   said_allowed size command.Data (AddressAndText m text) few form fit =
-      after_named p.me _ (λ named. at_node (made p.me command.Data) m (λ x. Ok (AddressAndText x text)) (λ x lt. (((named, lt), form), tt)))
+      after_named p.me _ (λ named. at_node (made_line p.me command.Data) m (λ x. Ok (AddressAndText x text)) (λ x lt. (((named, lt), form), tt)))
   said_allowed size command.Poll (OneNumber n) few form fit = after_named p.me _ (λ named. ((named, form.0, form.1), tt))
   said_allowed size command.Turn (OneNumber n) few form fit = after_named p.me _ (λ named. ((named, form.0, form.1), tt))
   said_allowed size command.Send (OneAddress m) few form fit =
-      after_named p.me _ (λ named. at_node (made p.me command.Send) m (λ x. Ok (OneAddress x)) (λ x lt. ((named, lt), tt)))
+      after_named p.me _ (λ named. at_node (made_line p.me command.Send) m (λ x. Ok (OneAddress x)) (λ x lt. ((named, lt), tt)))
   said_allowed size command.Ask (OneAddress m) few form fit =
-      after_named p.me _ (λ named. at_node (made p.me command.Ask) m (λ x. Ok (OneAddress x)) (λ x lt. ((named, lt), tt)))
+      after_named p.me _ (λ named. at_node (made_line p.me command.Ask) m (λ x. Ok (OneAddress x)) (λ x lt. ((named, lt), tt)))
   said_allowed size command.Show NoArgument few form fit = after_named p.me _ (λ named. (named, tt))
   said_allowed size other arguments few form fit = absurd form
 
@@ -134,7 +134,7 @@ unfolding Allowed
 allowed p started line (Ok l) few is = subst (Allowed p started) (sym is) (line_allowed p started line few)
 allowed p started line (Err f) few is = tt
 
-pub line_of_said : (p : PeersSeen) (started : Bool) (line : List ℕ) (said : Option code.Shape) (r : Result Accepted LineFault)
+pub line_of_said : (p : PeersSeen) (started : Bool) (line : List ℕ) (said : Option code.Shape) (r : Result AcceptedLine LineFault)
     → seen_shape (Ok said) ≡ shape_of line → r ≡ accepted_shape p started (length line) (said_of said) → r ≡ line_of p started line
 unfolding line_of
 line_of_said p started line said r shape is =
@@ -159,36 +159,36 @@ readable others = tt
 
 -- a line of this command is read by its arguments
 line_said : (p : PeersSeen) (c : Command) (arguments : Arguments ℕ) → AreOfForm (form_of c) arguments → HaveAddresses arguments
-    → line_of p false (written (word_of c) arguments)
-    ≡ accepted p false (length (written (word_of c) arguments)) c (mentioned (next_at 0 (word_of c)) arguments)
+    → line_of p false (command_text (word_of c) arguments)
+    ≡ accepted_line p false (length (command_text (word_of c) arguments)) c (as_mentions (next_at 0 (word_of c)) arguments)
 unfolding line_of
 line_said p c arguments form fit =
-    ap (result_and_then (accepted_shape p false (length (written (word_of c) arguments))))
+    ap (result_and_then (accepted_shape p false (length (command_text (word_of c) arguments))))
     (written_line_is_read Command router_script (row_of c) arguments
     (record { found = row_there c; word = word_there c; readable = readable c; form = form; addresses = fit }))
 
 module _ (p : PeersSeen) (is : IsMesh p.mesh) where
-  named : (me : Option ℕ) (r : Result Accepted LineFault) → is_some me ≡ true → after_self me r ≡ r
+  named : (me : Option ℕ) (r : Result AcceptedLine LineFault) → is_some me ≡ true → after_self me r ≡ r
   named None r h = absurd (let P : ⊥ = cc in P)
   named (Some x) r h = refl
 
-  known_there : {B : Type 0} (at x : ℕ) (next : ℕ → Result B LineFault) → x < length p.mesh → known p.mesh (mention at (addr_at p.mesh x)) next ≡ next x
+  known_there : {B : Type 0} (at x : ℕ) (next : ℕ → Result B LineFault) → x < length p.mesh → as_node p.mesh (mention at (addr_at p.mesh x)) next ≡ next x
   known_there at x next lt = ap (λ o. with_argument o (Unknown ((mention at (addr_at p.mesh x)).span)) next) (index_of-at p.mesh x is lt)
 
-  of_others : (me : Option ℕ) (x : ℕ) (line : Accepted) → me ≢ Some x → of_other me x line ≡ Ok line
+  of_others : (me : Option ℕ) (x : ℕ) (line : AcceptedLine) → me ≢ Some x → of_other me x line ≡ Ok line
   of_others None x line apart = refl
   of_others (Some y) x line apart = ap (λ b. cond b (Err Same) (Ok line)) (ne_eqb x y (λ e. apart (ap Some (sym e))))
 
   line_of_one : (c : Command) (x : ℕ) → AreOfForm (form_of c) (OneAddress (addr_at p.mesh x)) → IsNamed p x
-      → line_of p false (written (word_of c) (OneAddress (addr_at p.mesh x))) ≡ made p.me c (OneAddress x)
+      → line_of p false (command_text (word_of c) (OneAddress (addr_at p.mesh x))) ≡ made_line p.me c (OneAddress x)
   line_of_one c x form there =
       line_said p c (OneAddress (addr_at p.mesh x)) form (is.addresses x there.1)
-      ∙ named p.me _ there.0 ∙ ap (result_and_then (made p.me c)) (known_there (next_at 0 (word_of c)) x (λ i. Ok (OneAddress i)) there.1)
+      ∙ named p.me _ there.0 ∙ ap (result_and_then (made_line p.me c)) (known_there (next_at 0 (word_of c)) x (λ i. Ok (OneAddress i)) there.1)
 
-  new_room : (line : Accepted) → length p.mesh < MOST_NODES → in_room p.mesh line ≡ Ok line
+  new_room : (line : AcceptedLine) → length p.mesh < MOST_NODES → in_room p.mesh line ≡ Ok line
   new_room line few = ap (λ b. cond b (Err TooManyNodes) (Ok line)) (ne_eqb (length p.mesh) MOST_NODES (λ e. omega arith))
 
-  parses : (a : Accepted) → IsInRange p a → line_of p false (words_of p.mesh a) ≡ Ok a
+  parses : (a : AcceptedLine) → IsInRange p a → line_of p false (words_of p.mesh a) ≡ Ok a
   unfolding words_of line_of shape_by
   parses Nothing range = refl
   parses (Own address first) range =
@@ -202,14 +202,14 @@ module _ (p : PeersSeen) (is : IsMesh p.mesh) where
   parses (Give x body) range =
       line_said p command.Data (AddressAndText (addr_at p.mesh x) body) range.1 (is.addresses x (range.0).1)
       ∙ named p.me _ (range.0).0
-      ∙ ap (result_and_then (made p.me command.Data)) (known_there (next_at 0 (word_of command.Data)) x (λ i. Ok (AddressAndText i body)) (range.0).1)
+      ∙ ap (result_and_then (made_line p.me command.Data)) (known_there (next_at 0 (word_of command.Data)) x (λ i. Ok (AddressAndText i body)) (range.0).1)
   parses (Polls count) range = line_said p command.Poll (OneNumber count) (range.1, range.2) tt ∙ named p.me _ range.0
   parses (Turns count) range = line_said p command.Turn (OneNumber count) (range.1, range.2) tt ∙ named p.me _ range.0
   parses (Sends x) range = line_of_one command.Send x tt range
   parses (Asks x) range = line_of_one command.Ask x tt range
   parses Shows range = line_said p command.Show NoArgument tt tt ∙ named p.me _ range
 
-pub again : (p : PeersSeen) (a : Accepted) (text : List ℕ) → IsMesh p.mesh → IsInRange p a → text ≡ words_of p.mesh a → line_of p false text ≡ Ok a
+pub again : (p : PeersSeen) (a : AcceptedLine) (text : List ℕ) → IsMesh p.mesh → IsInRange p a → text ≡ words_of p.mesh a → line_of p false text ≡ Ok a
 again p a text is range e =
     let P : List ℕ → Type 0 = λ t. line_of p false t ≡ Ok a in
     subst P (sym e) (parses p is a range)

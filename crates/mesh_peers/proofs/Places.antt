@@ -7,7 +7,7 @@ use Rattle.std.proofs.lemmas.List.Edits.{length-insert, get_or-insert_at, get_or
 use Rattle.mesh_base.specs.Meshes.{Nodes, IsMesh, addr_at, index_of, with_node}
 use Rattle.mesh_base.proofs.PartLaws.{place_le}
 use Rattle.mesh_base.proofs.Spelling.{index_of-at}
-use Rattle.mesh_peers.specs.Peers.{PeersSeen, place_for, moved, with_self, with_peer, ArePeers}
+use Rattle.mesh_peers.specs.Peers.{PeersSeen, place_for, moved_place, with_self, with_peer, ArePeers}
 
 pub place_within : (mesh : Nodes) (a : ℕ) → place_for mesh a ≤ length mesh
 place_within mesh a = place_le (λ q. not (ltb a q.0)) mesh
@@ -25,10 +25,10 @@ found_there mesh now a first is mesh_is =
 
 -- ---- the invariant
 
-moved_up : (place i : ℕ) → place ≤ i → moved place i ≡ i + 1
+moved_up : (place i : ℕ) → place ≤ i → moved_place place i ≡ i + 1
 moved_up place i le = grind (arith, nat_tests)
 
-moved_not : (place i : ℕ) → i < place → moved place i ≡ i
+moved_not : (place i : ℕ) → i < place → moved_place place i ≡ i
 moved_not place i lt = grind (arith, nat_tests)
 
 pub same_place : (i j : ℕ) → Some i ≡ Some j → i ≡ j
@@ -77,34 +77,34 @@ self_joins p a first none is =
     }
 
 -- where the node itself stands then
-moved_here : (me : Option ℕ) (place i : ℕ) → i < place → (me ≡ Some i) ↔ (option_map (moved place) me ≡ Some i)
+moved_here : (me : Option ℕ) (place i : ℕ) → i < place → (me ≡ Some i) ↔ (option_map (moved_place place) me ≡ Some i)
 moved_here None place i lt = (λ h. absurd (no_place i h), λ h. absurd (no_place i h))
 moved_here (Some k) place i lt = (
-  λ h. let same = same_place k i h in ap Some (ap (moved place) same ∙ moved_not place i lt),
+  λ h. let same = same_place k i h in ap Some (ap (moved_place place) same ∙ moved_not place i lt),
   λ h.
-      let same = same_place (moved place k) i h in
+      let same = same_place (moved_place place k) i h in
       elim (cases_lt k place) [
         | inl early ↦ ap Some (sym (moved_not place k early) ∙ same)
         | inr late ↦ let up = moved_up place k late in absurd (omega arith)
       ],
 )
 
-moved_past : (me : Option ℕ) (place j i : ℕ) → place ≤ j → i ≡ j + 1 → (me ≡ Some j) ↔ (option_map (moved place) me ≡ Some i)
+moved_past : (me : Option ℕ) (place j i : ℕ) → place ≤ j → i ≡ j + 1 → (me ≡ Some j) ↔ (option_map (moved_place place) me ≡ Some i)
 moved_past None place j i le next = (λ h. absurd (no_place j h), λ h. absurd (no_place i h))
 moved_past (Some k) place j i le next = (
-  λ h. let same = same_place k j h in ap Some (ap (moved place) same ∙ moved_up place j le ∙ sym next),
+  λ h. let same = same_place k j h in ap Some (ap (moved_place place) same ∙ moved_up place j le ∙ sym next),
   λ h.
-      let same = same_place (moved place k) i h in
+      let same = same_place (moved_place place k) i h in
       elim (cases_lt k place) [
         | inl early ↦ let not = moved_not place k early in absurd (omega arith)
         | inr late ↦ let up = moved_up place k late in let is : k ≡ j = omega arith in ap Some is
       ],
 )
 
-moved_not_there : (me : Option ℕ) (place i : ℕ) → i ≡ place → option_map (moved place) me ≡ Some i → ⊥
+moved_not_there : (me : Option ℕ) (place i : ℕ) → i ≡ place → option_map (moved_place place) me ≡ Some i → ⊥
 moved_not_there None place i is h = no_place i h
 moved_not_there (Some k) place i is h =
-    let same = same_place (moved place k) i h in
+    let same = same_place (moved_place place k) i h in
     elim (cases_lt k place) [
       | inl early ↦ let not = moved_not place k early in omega arith
       | inr late ↦ let up = moved_up place k late in omega arith
@@ -113,7 +113,7 @@ moved_not_there (Some k) place i is h =
 both_ways : {A B C : Type 0} → A ↔ B → B ↔ C → A ↔ C
 both_ways f g = (λ a. g.0 (f.0 a), λ c. f.1 (g.1 c))
 
-moved_within : (me : Option ℕ) (place size : ℕ) → IfSome me (λ i. i < size) → IfSome (option_map (moved place) me) (λ i. i < size + 1)
+moved_within : (me : Option ℕ) (place size : ℕ) → IfSome me (λ i. i < size) → IfSome (option_map (moved_place place) me) (λ i. i < size + 1)
 moved_within None place size h = tt
 moved_within (Some k) place size h =
     elim (cases_lt k place) [
@@ -129,9 +129,9 @@ peer_joins p a port some is =
     let more = longer_mesh p.mesh a 1 in
     record {
       each = omega (arith, more, longer_ports p.mesh p.ports a port is.each, is.each);
-      within = subst (λ n. IfSome (option_map (moved place) p.me) (λ i. i < n)) (sym more) (moved_within p.me place (length p.mesh) is.within);
+      within = subst (λ n. IfSome (option_map (moved_place place) p.me) (λ i. i < n)) (sym more) (moved_within p.me place (length p.mesh) is.within);
       mine = λ i lt.
-          port_there (λ q. (q ≡ 0) ↔ (option_map (moved place) p.me ≡ Some i)) p.ports place port i (omega (arith, le, is.each))
+          port_there (λ q. (q ≡ 0) ↔ (option_map (moved_place place) p.me ≡ Some i)) p.ports place port i (omega (arith, le, is.each))
           (λ early. both_ways (is.mine i (omega (arith, le))) (moved_here p.me place i early))
           (λ same. (λ zero. absurd (omega arith), λ e. absurd (moved_not_there p.me place i same e)))
           (λ j from next. both_ways (is.mine j (omega (arith, more, lt))) (moved_past p.me place j i from next));
@@ -145,6 +145,6 @@ unfolding with_self
 with_self_is p a first place mesh ports at mesh_is ports_is = rw (ports_is, mesh_is, at) refl
 
 pub with_peer_is : (p : PeersSeen) (a port place : ℕ) (mesh : Nodes) (me : Option ℕ) (ports : List ℕ) → place ≡ place_for p.mesh a → mesh ≡ with_node p.mesh a 1
-    → me ≡ option_map (moved place) p.me → ports ≡ insert p.ports place port → record { mesh = mesh; me = me; ports = ports } ≡ with_peer p a port
+    → me ≡ option_map (moved_place place) p.me → ports ≡ insert p.ports place port → record { mesh = mesh; me = me; ports = ports } ≡ with_peer p a port
 unfolding with_peer
 with_peer_is p a port place mesh me ports at mesh_is me_is ports_is = rw (ports_is, mesh_is, me_is, at) refl

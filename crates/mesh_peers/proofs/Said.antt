@@ -3,12 +3,12 @@ use Rattle.std.proofs.Common.{◌≡◌, ℕ, ◌≤◌, true, List, ◌∷◌, 
 use Rattle.std.specs.Fmt.{decimal}
 use Rattle.std.specs.List.{AllByRecursion}
 use Rattle.std.proofs.lemmas.List.{length-append}
-use Rattle.mesh_base.specs.Addresses.{dotted}
+use Rattle.mesh_base.specs.Addresses.{dotted_decimal}
 use Rattle.mesh_grammar.specs.declared.fault.LineFault.{LineFault}
 use Rattle.mesh_grammar.specs.Words.{Mention, is_blank}
 use Rattle.mesh_grammar.specs.Forms.{Arguments, NoArgument, OneAddress, TwoAddresses, OneNumber, NumberedAddress, AddressesAndText, AddressAndNumber, AddressAndText, AreOfForm}
 use Rattle.mesh_grammar.specs.Scripts.{Row, Shape}
-use Rattle.mesh_grammar.specs.Written.{written}
+use Rattle.mesh_grammar.specs.Written.{command_text}
 use Rattle.mesh_grammar.specs.Laws.{HaveAddresses, AreReadable, addresses_of, IsTextOf, IsRead}
 use Rattle.mesh_grammar.proofs.Readings.{row_found, LineRead, line_read}
 use Rattle.mesh_script.specs.Arguments.{mentions_of}
@@ -97,7 +97,7 @@ last_fits : (front : List ℕ) (n : ℕ) → length (decimal n) ≤ length (fron
 last_fits front n = omega (arith, length-append front (32 ∷ decimal n))
 
 ends : (line word : List ℕ) (arguments : Arguments Mention) → IsTextOf line word (addresses_of arguments) → EndsIn (length line) arguments
-unfolding written
+unfolding command_text
 ends line word NoArgument text = tt
 ends line word (OneAddress a) text = tt
 ends line word (TwoAddresses a b) text = tt
@@ -105,7 +105,7 @@ ends line word (OneNumber n) text = tt
 ends line word (NumberedAddress a first) text = tt
 ends line word (AddressesAndText a b t) text = tt
 ends line word (AddressAndNumber a n) text =
-    subst (λ l. length (decimal n) ≤ length l) (sym text) (last_fits (word ++ 32 ∷ dotted a.address) n)
+    subst (λ l. length (decimal n) ≤ length l) (sym text) (last_fits (word ++ 32 ∷ dotted_decimal a.address) n)
 ends line word (AddressAndText a t) text = tt
 
 said_shape : (line : List ℕ) (r : Result (Option code.Shape) LineFault) → Said line (seen_shape r) → IfOk r (IsSaidIn (length line))

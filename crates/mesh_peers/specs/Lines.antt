@@ -9,8 +9,8 @@ use Rattle.mesh_grammar.specs.declared.fault.Span.{Span}
 use Rattle.mesh_grammar.specs.Words.{Mention}
 use Rattle.mesh_grammar.specs.Forms.{Arguments, NoArgument, OneAddress, OneNumber, NumberedAddress, AddressAndNumber, AddressAndText, greatest_first, IsText}
 use Rattle.mesh_grammar.specs.Scripts.{Shape}
-use Rattle.mesh_grammar.specs.Written.{written}
-use Rattle.mesh_text.specs.Schedule.{placed, result_and_then}
+use Rattle.mesh_grammar.specs.Written.{command_text}
+use Rattle.mesh_text.specs.Schedule.{with_nodes, result_and_then}
 use Rattle.mesh_peers.specs.declared.command.Command.{Command}
 use Rattle.mesh_peers.specs.declared.command.Command.TheVariants as command
 use Rattle.mesh_peers.specs.declared.limits.TheConstants.{MOST_AT_ONCE, GREATEST_PORT}
@@ -20,55 +20,55 @@ use Rattle.mesh_peers.specs.Peers.{PeersSeen, at_port}
 -- ---- whether a line is allowed
 
 -- a line that is allowed at its place, with each node by its index
-pub data Accepted : Type 0 where
+pub data AcceptedLine : Type 0 where
   -- a blank line
-  Nothing : Accepted
+  Nothing : AcceptedLine
   -- the node itself, and a peer
-  Own : (address first : ℕ) → Accepted
-  Peer : (address port : ℕ) → Accepted
+  Own : (address first : ℕ) → AcceptedLine
+  Peer : (address port : ℕ) → AcceptedLine
   -- a peer comes into range, or leaves it
-  Up : (node : ℕ) → Accepted
-  Down : (node : ℕ) → Accepted
+  Up : (node : ℕ) → AcceptedLine
+  Down : (node : ℕ) → AcceptedLine
   -- a datum is given to the node
-  Give : (dest : ℕ) (body : List ℕ) → Accepted
+  Give : (dest : ℕ) (body : List ℕ) → AcceptedLine
   -- up to so many datagrams are received; up to so many turns are done
-  Polls : (count : ℕ) → Accepted
-  Turns : (count : ℕ) → Accepted
+  Polls : (count : ℕ) → AcceptedLine
+  Turns : (count : ℕ) → AcceptedLine
   -- a datum that waits is sent; a route is asked for
-  Sends : (dest : ℕ) → Accepted
-  Asks : (dest : ℕ) → Accepted
+  Sends : (dest : ℕ) → AcceptedLine
+  Asks : (dest : ℕ) → AcceptedLine
   -- the node's state is shown
-  Shows : Accepted
+  Shows : AcceptedLine
 
 -- no line but `self` and `peer` comes before the node itself is named
-abbrev pub after_self : Option ℕ → Result Accepted LineFault → Result Accepted LineFault
+abbrev pub after_self : Option ℕ → Result AcceptedLine LineFault → Result AcceptedLine LineFault
 after_self None r = Err Early
 after_self (Some me) r = r
 
 -- a line about a peer, which is not the node itself
-abbrev pub of_other : Option ℕ → ℕ → Accepted → Result Accepted LineFault
+abbrev pub of_other : Option ℕ → ℕ → AcceptedLine → Result AcceptedLine LineFault
 of_other None x line = Ok line
 of_other (Some me) x line = if x == me then Err Same else Ok line
 
 -- the line that a command makes of its arguments, with each node by its index. Arguments of another
 -- command make none
-abbrev pub made : Option ℕ → Command → Arguments ℕ → Result Accepted LineFault
-made me command.Up (OneAddress x) = of_other me x (Up x)
-made me command.Down (OneAddress x) = of_other me x (Down x)
-made me command.Data (AddressAndText x body) = Ok (Give x body)
-made me command.Poll (OneNumber count) = Ok (Polls count)
-made me command.Turn (OneNumber count) = Ok (Turns count)
-made me command.Send (OneAddress x) = Ok (Sends x)
-made me command.Ask (OneAddress x) = Ok (Asks x)
-made me command.Show NoArgument = Ok Shows
-made me others arguments = Err Count
+abbrev pub made_line : Option ℕ → Command → Arguments ℕ → Result AcceptedLine LineFault
+made_line me command.Up (OneAddress x) = of_other me x (Up x)
+made_line me command.Down (OneAddress x) = of_other me x (Down x)
+made_line me command.Data (AddressAndText x body) = Ok (Give x body)
+made_line me command.Poll (OneNumber count) = Ok (Polls count)
+made_line me command.Turn (OneNumber count) = Ok (Turns count)
+made_line me command.Send (OneAddress x) = Ok (Sends x)
+made_line me command.Ask (OneAddress x) = Ok (Asks x)
+made_line me command.Show NoArgument = Ok Shows
+made_line me others arguments = Err Count
 
 -- one more node, where there is room for it
-abbrev pub in_room : Nodes → Accepted → Result Accepted LineFault
+abbrev pub in_room : Nodes → AcceptedLine → Result AcceptedLine LineFault
 in_room mesh line = if length mesh == MOST_NODES then Err TooManyNodes else Ok line
 
 -- the node itself, once, before the run has started
-abbrev pub new_self : PeersSeen → Bool → Mention → ℕ → Result Accepted LineFault
+abbrev pub new_self : PeersSeen → Bool → Mention → ℕ → Result AcceptedLine LineFault
 new_self p started a first =
     if started then Err Late else
     if is_some p.me then Err (TwiceNode a.span) else
@@ -81,7 +81,7 @@ last_span size n = record { from = size - length (decimal n); to = size }
 
 -- a peer with an address and a port of its own, before the run has started. The port ends the line,
 -- which has this length
-abbrev pub new_peer : PeersSeen → Bool → ℕ → Mention → ℕ → Result Accepted LineFault
+abbrev pub new_peer : PeersSeen → Bool → ℕ → Mention → ℕ → Result AcceptedLine LineFault
 new_peer p started size a port =
     if started then Err Late else
     if is_some (index_of p.mesh a.address) then Err (TwiceNode a.span) else
@@ -90,37 +90,38 @@ new_peer p started size a port =
 
 -- a command and its arguments with these peers: one more node, or a line about the nodes that are
 -- there. A run has started once a line was neither blank nor a `self` or `peer` line
-abbrev pub accepted : PeersSeen → Bool → ℕ → Command → Arguments Mention → Result Accepted LineFault
-accepted p started size command (NumberedAddress a first) = new_self p started a first
-accepted p started size command (AddressAndNumber a port) = new_peer p started size a port
-accepted p started size command others =
-    after_self p.me (result_and_then (made p.me command) (placed p.mesh others))
+abbrev pub accepted_line : PeersSeen → Bool → ℕ → Command → Arguments Mention
+    → Result AcceptedLine LineFault
+accepted_line p started size command (NumberedAddress a first) = new_self p started a first
+accepted_line p started size command (AddressAndNumber a port) = new_peer p started size a port
+accepted_line p started size command others =
+    after_self p.me (result_and_then (made_line p.me command) (with_nodes p.mesh others))
 
 abbrev pub accepted_shape : PeersSeen → Bool → ℕ → Option (Shape Command Mention)
-    → Result Accepted LineFault
+    → Result AcceptedLine LineFault
 accepted_shape p started size None = Ok Nothing
-accepted_shape p started size (Some s) = accepted p started size s.command s.arguments
+accepted_shape p started size (Some s) = accepted_line p started size s.command s.arguments
 
 -- what a line comes to: its own faults first, then those of its place
-unfoldable pub line_of : PeersSeen → Bool → List ℕ → Result Accepted LineFault
+unfoldable pub line_of : PeersSeen → Bool → List ℕ → Result AcceptedLine LineFault
 line_of p started line =
     result_and_then (accepted_shape p started (length line)) (shape_of line)
 
 -- ---- how a line is written back
 
 -- the words of an allowed line. A blank one is written as none
-unfoldable pub words_of : Nodes → Accepted → List ℕ
+unfoldable pub words_of : Nodes → AcceptedLine → List ℕ
 words_of mesh Nothing = []
-words_of mesh (Own address first) = written (codes "self") (NumberedAddress address first)
-words_of mesh (Peer address port) = written (codes "peer") (AddressAndNumber address port)
-words_of mesh (Up x) = written (codes "up") (OneAddress (addr_at mesh x))
-words_of mesh (Down x) = written (codes "down") (OneAddress (addr_at mesh x))
-words_of mesh (Give x body) = written (codes "data") (AddressAndText (addr_at mesh x) body)
-words_of mesh (Polls count) = written (codes "poll") (OneNumber count)
-words_of mesh (Turns count) = written (codes "turn") (OneNumber count)
-words_of mesh (Sends x) = written (codes "send") (OneAddress (addr_at mesh x))
-words_of mesh (Asks x) = written (codes "ask") (OneAddress (addr_at mesh x))
-words_of mesh Shows = written (codes "show") NoArgument
+words_of mesh (Own address first) = command_text (codes "self") (NumberedAddress address first)
+words_of mesh (Peer address port) = command_text (codes "peer") (AddressAndNumber address port)
+words_of mesh (Up x) = command_text (codes "up") (OneAddress (addr_at mesh x))
+words_of mesh (Down x) = command_text (codes "down") (OneAddress (addr_at mesh x))
+words_of mesh (Give x body) = command_text (codes "data") (AddressAndText (addr_at mesh x) body)
+words_of mesh (Polls count) = command_text (codes "poll") (OneNumber count)
+words_of mesh (Turns count) = command_text (codes "turn") (OneNumber count)
+words_of mesh (Sends x) = command_text (codes "send") (OneAddress (addr_at mesh x))
+words_of mesh (Asks x) = command_text (codes "ask") (OneAddress (addr_at mesh x))
+words_of mesh Shows = command_text (codes "show") NoArgument
 
 -- ---- the lines that have a text which is read back
 
@@ -135,7 +136,7 @@ abbrev pub IsNamed : PeersSeen → ℕ → Type 0
 IsNamed p x = (is_some p.me ≡ true) × (x < length p.mesh)
 
 -- an allowed line of these peers
-abbrev pub IsInRange : PeersSeen → Accepted → Type 0
+abbrev pub IsInRange : PeersSeen → AcceptedLine → Type 0
 IsInRange p Nothing = ⊤
 IsInRange p (Own address first) =
     IsNew p.mesh address × (p.me ≡ None) × (1 ≤ first) × (first ≤ greatest_first)
@@ -151,7 +152,7 @@ IsInRange p (Asks x) = IsNamed p x
 IsInRange p Shows = is_some p.me ≡ true
 
 -- one more node comes only before a run has started
-abbrev pub IsInTime : Bool → Accepted → Type 0
+abbrev pub IsInTime : Bool → AcceptedLine → Type 0
 IsInTime started (Own address first) = started ≡ false
 IsInTime started (Peer address port) = started ≡ false
 IsInTime started others = ⊤

@@ -20,8 +20,8 @@ abbrev pub place_for : Nodes → ℕ → ℕ
 place_for mesh a = position_or_len (λ q. nat_lt a q.0) mesh
 
 -- where a node stands once there is one more at this place
-abbrev pub moved : ℕ → ℕ → ℕ
-moved place i = if nat_le place i then i + 1 else i
+abbrev pub moved_place : ℕ → ℕ → ℕ
+moved_place place i = if nat_le place i then i + 1 else i
 
 -- the node itself joins the mesh
 unfoldable pub with_self : PeersSeen → ℕ → ℕ → PeersSeen
@@ -35,7 +35,7 @@ with_self p a first = record {
 unfoldable pub with_peer : PeersSeen → ℕ → ℕ → PeersSeen
 with_peer p a port = record {
   mesh = with_node p.mesh a 1;
-  me = option_map (moved (place_for p.mesh a)) p.me;
+  me = option_map (moved_place (place_for p.mesh a)) p.me;
   ports = insert p.ports (place_for p.mesh a) port;
 }
 

@@ -15,7 +15,7 @@ use Rattle.mesh_peers.specs.declared.shape.Row.{Row}
 use Rattle.mesh_peers.specs.declared.shape.Shape.{Shape}
 use Rattle.mesh_peers.specs.declared.line.NodeLine.{NodeLine}
 use Rattle.mesh_peers.specs.declared.line.NodeLine.TheVariants as line
-use Rattle.mesh_peers.specs.Lines.{Accepted, Nothing, Own, Peer, Up, Down, Give, Polls, Turns, Sends, Asks, Shows, after_self, IsInRange, IsInTime}
+use Rattle.mesh_peers.specs.Lines.{AcceptedLine, Nothing, Own, Peer, Up, Down, Give, Polls, Turns, Sends, Asks, Shows, after_self, IsInRange, IsInTime}
 use Rattle.mesh_peers.specs.Peers.{PeersSeen}
 
 -- ---- a line by itself
@@ -63,7 +63,7 @@ IsSaidIn size (Some s) =
 
 -- ---- a line at its place
 
-abbrev pub accepted_of : NodeLine → Accepted
+abbrev pub accepted_of : NodeLine → AcceptedLine
 accepted_of line.Blank = Nothing
 accepted_of (line.Own a first) = Own a.0 first
 accepted_of (line.Peer a port) = Peer a.0 port
@@ -76,14 +76,14 @@ accepted_of (line.Send dest) = Sends dest
 accepted_of (line.Ask dest) = Asks dest
 accepted_of line.Show = Shows
 
-abbrev pub seen_line : Result NodeLine LineFault → Result Accepted LineFault
+abbrev pub seen_line : Result NodeLine LineFault → Result AcceptedLine LineFault
 seen_line (Ok l) = Ok (accepted_of l)
 seen_line (Err f) = Err f
 
 -- whether the node itself was named
 abbrev pub HasSelf : Option ℕ → Result (Unit {0}) LineFault → Type 0
-HasSelf me (Ok u) = (line : Result Accepted LineFault) → after_self me line ≡ line
-HasSelf me (Err f) = (line : Result Accepted LineFault) → after_self me line ≡ Err f
+HasSelf me (Ok u) = (line : Result AcceptedLine LineFault) → after_self me line ≡ line
+HasSelf me (Err f) = (line : Result AcceptedLine LineFault) → after_self me line ≡ Err f
 
 -- a line for these peers: what joins the mesh is not in it yet, and finds room; what the other
 -- lines name is in it

@@ -41,7 +41,7 @@ fn make_line<'a>(
     arguments: Arguments<'a, usize>,
 ) -> Result<NodeLine<'a>, LineFault>
     requires form { AreOfForm (form_of command) (places_of arguments) }
-    ensures { seen_line result ≡ lines.made peers.now.me command (places_of arguments.entry) }
+    ensures { seen_line result ≡ lines.made_line peers.now.me command (places_of arguments.entry) }
 {
     match (command, arguments) {
         (Command::Up, Arguments::OneAddress(node)) => of_other(peers, node, NodeLine::Up { node }),

@@ -64,7 +64,7 @@ fn join(
 // Where the node itself stands once there is one more node at this place.
 fn shifted(place: usize, me: Option<usize>) -> Option<usize>
     requires { IfSome me (λ i. i < MOST_NODES) }
-    ensures { result ≡ option_map (peers.moved place) me }
+    ensures { result ≡ option_map (peers.moved_place place) me }
 {
     match me {
         Some(i) if place <= i => Some(i + 1),

@@ -3,7 +3,7 @@
 ghost use Rattle.std.specs.Prelude.{◌≡◌, ◌<◌, ◌≤◌, ◌+◌, ◌++◌, length, false, Ok};
 ghost use Rattle.mesh_base.specs.Meshes.{addr_at};
 ghost use Rattle.mesh_grammar.specs.Forms.{OneAddress};
-ghost use Rattle.mesh_grammar.specs.Written.{written};
+ghost use Rattle.mesh_grammar.specs.Written.{command_text};
 ghost use Rattle.mesh_peers.specs.Lines as lines;
 ghost use Rattle.mesh_peers.specs.Seen.{accepted_of, IsPrintable};
 
@@ -17,7 +17,7 @@ fn push_of_node(out: &mut LineBuf, word: &[u8], mesh: &Mesh, node: usize)
     requires node { node < length mesh.now }
     requires room { length out.old + length word.now + 16 ≤ LINE_ROOM }
     ensures text { out.new
-        ≡ out.old ++ written word.now (OneAddress (addr_at mesh.now node)) }
+        ≡ out.old ++ command_text word.now (OneAddress (addr_at mesh.now node)) }
     ensures length { length out.new ≤ length out.old + length word.now + 16 }
 {
     push_written(out, word, &Arguments::OneAddress(mesh.at(node)));

@@ -14,7 +14,7 @@ use Rattle.mesh_io.specs.Puts.{AppendsPrefix}
 use Rattle.mesh_io.proofs.Writing.{Appends-join, AppendsPrefix-join, AppendsPrefix-more}
 use Rattle.mesh_grammar.proofs.Readings.{if_case}
 use Rattle.mesh_text.specs.Schedule as schedule
-use Rattle.mesh_text.specs.Schedule.{stepped, world_of}
+use Rattle.mesh_text.specs.Schedule.{next_moment, world_of}
 use Rattle.mesh_text.specs.Runs.{moment_after}
 use Rattle.mesh_text.proofs.Moments.{not_made}
 use Rattle.mesh_grid.specs.declared.place.Place.{Place}
@@ -86,18 +86,18 @@ is_change size reach places near new y e one is =
 -- ---- moments
 
 pub mesh_after : (m : schedule.Moment) (es : List Event) → (moment_after m es).mesh ≡ m.mesh
-unfolding moment_after stepped
+unfolding moment_after next_moment
 mesh_after m [] = refl
-mesh_after m (e ∷ es) = mesh_after (stepped m e) es
+mesh_after m (e ∷ es) = mesh_after (next_moment m e) es
 
-pub still : (m n : schedule.Moment) (mesh : Nodes) (e : Event) → n ≡ stepped m e → mesh ≡ n.mesh → mesh ≡ m.mesh
-unfolding stepped
+pub still : (m n : schedule.Moment) (mesh : Nodes) (e : Event) → n ≡ next_moment m e → mesh ≡ n.mesh → mesh ≡ m.mesh
+unfolding next_moment
 still m n mesh e is shown = shown ∙ ap (λ k. k.mesh) is
 
 pub no_change : (m : schedule.Moment) (es : List Event) → [] ≡ es → m ≡ moment_after m es
 no_change m es none = sym (after-none m) ∙ ap (moment_after m) none
 
-pub after_change : (m n : schedule.Moment) (e : Event) (es : List Event) → n ≡ stepped m e → e ∷ [] ≡ es → n ≡ moment_after m es
+pub after_change : (m n : schedule.Moment) (e : Event) (es : List Event) → n ≡ next_moment m e → e ∷ [] ≡ es → n ≡ moment_after m es
 after_change m n e es is one = is ∙ sym (after-one m e) ∙ ap (moment_after m) one
 
 -- ---- the nodes in range

@@ -11,7 +11,7 @@ use Rattle.mesh_grammar.specs.declared.fault.BadWhy.TheVariants.{Fault}
 use Rattle.mesh_grammar.specs.Lines.{Whole}
 use Rattle.mesh_grammar.specs.Written.{line}
 use Rattle.mesh_text.specs.Schedule as schedule
-use Rattle.mesh_text.specs.Schedule.{Accepted, counted, line_of, world_of}
+use Rattle.mesh_text.specs.Schedule.{AcceptedLine, with_line_read, line_of, world_of}
 use Rattle.mesh_text.specs.Runs.{moment_after}
 use Rattle.mesh_text.specs.Text as text
 use Rattle.mesh_text.specs.Text.{LineOutcome, On, Refused, text_in, outcome_of_read}
@@ -31,19 +31,19 @@ use Rattle.mesh_places.specs.Moments.{change_lines, below, IsWant}
 abbrev pub after_coming : ℕ → Moment → Placing → schedule.Moment
 after_coming reach m new = moment_after m.run (events_of_placing reach m new)
 
-coming_is : (reach : ℕ) (m : Moment) (bytes : List ℕ) (new : Placing) → outcome_of_placing reach m bytes new ≡ On (line bytes ++ below reach m new) (counted (after_coming reach m new))
+coming_is : (reach : ℕ) (m : Moment) (bytes : List ℕ) (new : Placing) → outcome_of_placing reach m bytes new ≡ On (line bytes ++ below reach m new) (with_line_read (after_coming reach m new))
 coming_is reach m bytes new = by (may_come m.places new)
   where
     by : (b : Bool)
-        → (if b then On (line bytes ++ change_lines m.run.mesh (changes reach m new)) (counted (moment_after m.run (changes reach m new)))
-        else On (line bytes ++ line (codes "  idle")) (counted m.run))
+        → (if b then On (line bytes ++ change_lines m.run.mesh (changes reach m new)) (with_line_read (moment_after m.run (changes reach m new)))
+        else On (line bytes ++ line (codes "  idle")) (with_line_read m.run))
         ≡ On (line bytes ++ (if b then change_lines m.run.mesh (changes reach m new) else line (codes "  idle")))
-        (counted (moment_after m.run (if b then changes reach m new else [])))
+        (with_line_read (moment_after m.run (if b then changes reach m new else [])))
     by true = refl
-    by false = ap (λ n. On (line bytes ++ line (codes "  idle")) (counted n)) (sym (after-none m.run))
+    by false = ap (λ n. On (line bytes ++ line (codes "  idle")) (with_line_read n)) (sym (after-none m.run))
 
 placed_is : (reach : ℕ) (m : Moment) (bytes : List ℕ) (new : Placing) → placing_of m.run.mesh bytes ≡ Ok (Some new)
-    → outcome_of_piece reach m (Whole bytes) ≡ On (line bytes ++ below reach m new) (counted (after_coming reach m new))
+    → outcome_of_piece reach m (Whole bytes) ≡ On (line bytes ++ below reach m new) (with_line_read (after_coming reach m new))
 placed_is reach m bytes new said = came-placing reach m bytes new said ∙ coming_is reach m bytes new
 
 -- where the node may not come there
@@ -51,7 +51,7 @@ pub idle_moment : (reach : ℕ) (m : Moment) (new : Placing) → false ≡ may_c
 idle_moment reach m new idle = sym (ap (λ b. moment_after m.run (if b then changes reach m new else [])) (sym idle) ∙ after-none m.run)
 
 -- it was done
-pub line_done : (reach : ℕ) (m : Moment) (bytes : List ℕ) (new : Placing) (n : schedule.Moment) (a b c : Option (List ℕ)) → placing_of m.run.mesh bytes ≡ Ok (Some new) → n ≡ counted (after_coming reach m new)
+pub line_done : (reach : ℕ) (m : Moment) (bytes : List ℕ) (new : Placing) (n : schedule.Moment) (a b c : Option (List ℕ)) → placing_of m.run.mesh bytes ≡ Ok (Some new) → n ≡ with_line_read (after_coming reach m new)
     → Appends a b (line bytes) → Appends b c (below reach m new) → IsLineDone false (outcome_of_piece reach m (Whole bytes)) n a c
 line_done reach m bytes new n a b c said is p q = record {
   text = line bytes ++ below reach m new;
@@ -94,7 +94,7 @@ some_bytes : (mesh : Nodes) (bytes : List ℕ) (new : Placing) → placing_of me
 some_bytes mesh [] new said = absurd (nothing_said mesh new said)
 some_bytes mesh (b ∷ bs) new said = omega arith
 
-pub steps_grow : (reach : ℕ) (m : Moment) (bytes : List ℕ) (new : Placing) (n : schedule.Moment) → length m.run.mesh ≤ MOST_NODES → placing_of m.run.mesh bytes ≡ Ok (Some new) → n ≡ counted (after_coming reach m new)
+pub steps_grow : (reach : ℕ) (m : Moment) (bytes : List ℕ) (new : Placing) (n : schedule.Moment) → length m.run.mesh ≤ MOST_NODES → placing_of m.run.mesh bytes ≡ Ok (Some new) → n ≡ with_line_read (after_coming reach m new)
     → 4 * n.steps ≤ 4 * m.run.steps + MOST_EVENTS * length bytes
 steps_grow reach m bytes new n few said is =
     let steps : n.steps ≡ m.run.steps + length (events_of_placing reach m new) = ap (λ k. k.steps) is ∙ steps_after m.run (events_of_placing reach m new) in
@@ -102,7 +102,7 @@ steps_grow reach m bytes new n few said is =
     let some = some_bytes m.run.mesh bytes new said in
     omega arith
 
-pub lines_grow : (reach : ℕ) (m : Moment) (new : Placing) (n : schedule.Moment) → n ≡ counted (after_coming reach m new) → n.lines ≡ m.run.lines + 1
+pub lines_grow : (reach : ℕ) (m : Moment) (new : Placing) (n : schedule.Moment) → n ≡ with_line_read (after_coming reach m new) → n.lines ≡ m.run.lines + 1
 lines_grow reach m new n is = ap (λ k. k.lines) is ∙ ap (λ k. k + 1) (lines_after m.run (events_of_placing reach m new))
 
 -- ---- another line
@@ -112,7 +112,7 @@ begun_late : (m : Moment) → m.places.begun ≡ true → has_begun m ≡ true
 begun_late m begun = ap (λ b. b || is_some m.run.world) begun
 
 -- the line is allowed, however late
-pub allowed_late : (reach : ℕ) (m : Moment) (bytes : List ℕ) (a : Accepted) → placing_of m.run.mesh bytes ≡ Ok None → m.places.begun ≡ true → line_of m.run.mesh true bytes ≡ Ok a
+pub allowed_late : (reach : ℕ) (m : Moment) (bytes : List ℕ) (a : AcceptedLine) → placing_of m.run.mesh bytes ≡ Ok None → m.places.begun ≡ true → line_of m.run.mesh true bytes ≡ Ok a
     → outcome_of_piece reach m (Whole bytes) ≡ text.outcome_of_piece m.run (Whole bytes)
 allowed_late reach m bytes a said begun is =
     other_line_is_as_in_schedule reach m bytes a said (ap (λ b. line_of m.run.mesh b bytes) (begun_late m begun) ∙ is)

@@ -9,7 +9,7 @@ use Rattle.mesh_grammar.specs.declared.fault.BadWhy.TheVariants.{Fault, TooLong,
 use Rattle.mesh_grammar.specs.Lines.{Piece, Long, Beyond}
 use Rattle.mesh_text.specs.Schedule as schedule
 use Rattle.mesh_text.specs.Text as texts
-use Rattle.mesh_text.specs.Text.{Written, LineOutcome, text_in, On, Refused, goes_on, lines_before, whole, finished_run, refused_run, overfull_run}
+use Rattle.mesh_text.specs.Text.{RunText, LineOutcome, text_in, On, Refused, goes_on, lines_before, whole, finished_run, refused_run, overfull_run}
 use Rattle.mesh_run.specs.declared.say.Say.TheVariants.{All}
 use Rattle.mesh_run.specs.declared.status.Status.{Status}
 use Rattle.mesh_run.specs.Outputs.{IsOutput}
@@ -48,7 +48,7 @@ text_from-end reach m = refl
 pub front_from_part : (reach : ℕ) (m : Moment) (piece : Piece) (a b : Option (List ℕ)) (pieces : List Piece) → AppendsPrefix a b (text_in (outcome_of_piece reach m piece))
     → AppendsPrefix a b (whole (text_from reach m (piece ∷ pieces)))
 front_from_part reach m piece a b pieces f =
-    subst (λ (w : Written). AppendsPrefix a b (whole w)) (sym (text_from-cons reach m piece pieces)) (front_of_came All m.run (outcome_of_piece reach m piece) (λ n. text_from reach (next m piece n) pieces) a b f)
+    subst (λ (w : RunText). AppendsPrefix a b (whole w)) (sym (text_from-cons reach m piece pieces)) (front_of_came All m.run (outcome_of_piece reach m piece) (λ n. text_from reach (next m piece n) pieces) a b f)
 
 -- a line that is too long, and one that goes past the input's limit
 pub told_long : (reach : ℕ) (m : Moment) (pieces : List Piece) (a b : Option (List ℕ)) (s : Status) → IsOutput a b (refused_run m.run TooLong) s → IsOutput a b (text_from reach m (Long ∷ pieces)) s

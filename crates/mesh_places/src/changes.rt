@@ -4,7 +4,7 @@ ghost use Rattle.mesh_io.specs.Cause.{HasCause};
 ghost use Rattle.mesh_io.specs.Puts.{Puts};
 ghost use Rattle.mesh_model.specs.Worlds.{range};
 ghost use Rattle.mesh_meaning.specs.Events.{event_of};
-ghost use Rattle.mesh_text.specs.Schedule.{world_of, stepped};
+ghost use Rattle.mesh_text.specs.Schedule.{world_of, next_moment};
 ghost use Rattle.mesh_text.specs.Runs.{moment_after};
 ghost use Rattle.mesh_base.specs.declared.limits.TheConstants.{MOST_NODES};
 ghost use Rattle.mesh_run.specs.Causes.{HasStopCause};
@@ -65,7 +65,7 @@ fn step_change(
 ) -> Result<(), NoMemory>
     requires change { IsChange (length at.old.mesh) (event_of event.now) }
     requires few { at.old.steps < 2 ^ 48 }
-    ensures moment { OnOk result (at.new ≡ stepped at.old (event_of event.now)) }
+    ensures moment { OnOk result (at.new ≡ next_moment at.old (event_of event.now)) }
 {
     match at.step(alloc, event, packet) {
         Ok(_) => Ok(()),

@@ -8,7 +8,7 @@ use Rattle.mesh_base.specs.Members.{NodeIds}
 use Rattle.mesh_base.specs.Meshes.{Nodes}
 use Rattle.aodv_model.specs.Cores.{Message}
 use Rattle.mesh_model.specs.Worlds.{members_below, copies_to}
-use Rattle.mesh_grammar.specs.Written.{line, labelled}
+use Rattle.mesh_grammar.specs.Written.{line, label_number}
 use Rattle.mesh_text.specs.Lines.{name_of}
 use Rattle.mesh_text.specs.Effects.{copies_text}
 use Rattle.mesh_io.specs.Puts.{AppendsPrefix, Puts}
@@ -19,7 +19,7 @@ use Rattle.mesh_base.proofs.Ranks.{members-none, members-next}
 
 -- the line of a copy
 abbrev pub copy_line : Nodes → ℕ → ℕ → List ℕ
-copy_line mesh id to = line (labelled (codes "  copy ") id ++ 32 ∷ name_of mesh to)
+copy_line mesh id to = line (label_number (codes "  copy ") id ++ 32 ∷ name_of mesh to)
 
 -- the lines of the copies for these receivers
 abbrev pub air_text : Nodes → ℕ → Message → List ℕ → ℕ → List ℕ

@@ -8,7 +8,7 @@ use Rattle.mesh_base.specs.declared.events.Done as dones
 use Rattle.mesh_base.specs.declared.events.Done.TheVariants as done
 use Rattle.mesh_base.specs.declared.events.Effect as effects
 use Rattle.mesh_base.specs.declared.events.Air as airs
-use Rattle.mesh_base.specs.Addresses.{dotted}
+use Rattle.mesh_base.specs.Addresses.{dotted_decimal}
 use Rattle.mesh_base.specs.Meshes.{Nodes, IsMesh, addr_at, index_of}
 use Rattle.aodv_wire.specs.declared.message.Message as wire
 use Rattle.aodv_wire.specs.declared.message.Message.TheVariants as messages
@@ -33,7 +33,7 @@ there mesh a rest e = by_index (index_of mesh a.0) refl e
 
 -- the datum of a packet, by its own addresses
 pub datum_there : (label : List ℕ) (mesh : Nodes) (b : List ℕ) (p : parcels.DataView) → message_in_fields b ≡ messages.Parcel p → stranger mesh (message_in_fields b) ≡ None
-    → datum_in label mesh (meaning mesh b) ≡ line (label ++ dotted (p.oip).0 ++ 32 ∷ dotted (p.dip).0 ++ 32 ∷ flat_map shown_byte p.body)
+    → datum_in label mesh (meaning mesh b) ≡ line (label ++ dotted_decimal (p.oip).0 ++ 32 ∷ dotted_decimal (p.dip).0 ++ 32 ∷ flat_map shown_byte p.body)
 unfolding meaning
 datum_there label mesh b p is known =
     let dest = there mesh p.dip (unless_in mesh p.oip None) (sym (ap (stranger mesh) is) ∙ known) in

@@ -39,9 +39,9 @@ reply b h =
 error : (b : List ℕ) → rerr.refusal b ≡ None → length b ≤ 2044
 error b h =
     let one = first (ltb (length b) 4) WrongLength _ h in
-    let two = first (not (eqb (length b) (4 + 8 * rerr.found b rerr.DestCount))) WrongLength _ one.1 in
-    let is = is_length (length b) (4 + 8 * rerr.found b rerr.DestCount) two.0 in
-    let few : rerr.found b rerr.DestCount < 2 ^ 8 = omega arith in
+    let two = first (not (eqb (length b) (4 + 8 * rerr.value_in b rerr.DestCount))) WrongLength _ one.1 in
+    let is = is_length (length b) (4 + 8 * rerr.value_in b rerr.DestCount) two.0 in
+    let few : rerr.value_in b rerr.DestCount < 2 ^ 8 = omega arith in
     omega arith
 
 datum : (b : List ℕ) → data_packet.refusal b ≡ None → length b ≤ 2044

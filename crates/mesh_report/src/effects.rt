@@ -1,7 +1,7 @@
 //! What an event did.
 ghost use Rattle.std.specs.Prelude.{◌≡◌, ℕ, ◌+◌, ◌*◌, ◌<◌, ◌≤◌, ◌^◌, ◌++◌, ◌∷◌, List, [], length, codes, IfSome, OnOk};
 ghost use Rattle.std.specs.List.{flat_map};
-ghost use Rattle.mesh_base.specs.Addresses.{dotted};
+ghost use Rattle.mesh_base.specs.Addresses.{dotted_decimal};
 ghost use Rattle.mesh_base.specs.Meshes.{Nodes};
 ghost use Rattle.aodv_model.specs.Cores.{Message as a_message};
 ghost use Rattle.aodv_model.specs.Soundness.{AreBelow};
@@ -11,7 +11,7 @@ ghost use Rattle.mesh_model.specs.Worlds.{World, members_below, copies_to};
 ghost use Rattle.mesh_meaning.specs.Packets.{IsWritten, IsWrittenCopy};
 ghost use Rattle.mesh_meaning.specs.Events.{event_of, node_of};
 ghost use Rattle.mesh_meaning.specs.Answers.{cast_in, effect_in, took_in, copies_in, happening_in, outcome_in, IsCastWritten, IsEffectInMesh, IsDoneInMesh};
-ghost use Rattle.mesh_grammar.specs.Written.{line, labelled};
+ghost use Rattle.mesh_grammar.specs.Written.{line, label_number};
 ghost use Rattle.mesh_text.specs.Lines.{name_of, words_of};
 ghost use Rattle.mesh_text.specs.Effects.{shown_byte, datum_in, kind_text, took_text, delivery_text, drop_text, datum_fate, broken_text, cast_text, copies_text, sent_text, outcome_text, outcome_lines};
 ghost use Rattle.mesh_script.specs.Seen.{accepted_of, IsPrintable};
@@ -37,7 +37,7 @@ fn push_datum(out: &mut LineBuf, label: &[u8], origin: Addr, dest: Addr, body: &
     requires short { length body.now ≤ LONGEST_DATUM }
     requires room { length out.old + length label.now + 2081 ≤ LINE_ROOM }
     ensures text { out.new ≡ out.old
-        ++ line (label.now ++ dotted origin.0 ++ 32 ∷ dotted dest.0
+        ++ line (label.now ++ dotted_decimal origin.0 ++ 32 ∷ dotted_decimal dest.0
         ++ 32 ∷ flat_map shown_byte body.now) }
     ensures length { length out.new ≤ length out.old + length label.now + 2081 }
 {
@@ -237,7 +237,7 @@ fn push_copy(out: &mut LineBuf, mesh: &Mesh, id: u64, to: usize)
     requires to { to < length mesh.now }
     requires room { length out.old + 44 ≤ LINE_ROOM }
     ensures text { out.new
-        ≡ out.old ++ line (labelled (codes "  copy ") id ++ 32 ∷ name_of mesh.now to) }
+        ≡ out.old ++ line (label_number (codes "  copy ") id ++ 32 ∷ name_of mesh.now to) }
 {
     push_labelled(out, b"  copy ", id);
     push_one(out, b" ", mesh, to);

@@ -3,7 +3,7 @@ ghost use Rattle.std.specs.Prelude.{◌≡◌, ◌+◌, ◌<◌, ◌≤◌, ◌+
 ghost use Rattle.mesh_model.specs.Places.{IsEvent};
 ghost use Rattle.mesh_meaning.specs.Events.{event_of};
 ghost use Rattle.mesh_grammar.specs.Faults.{at_bytes, fault_text, why_text, bad_line};
-ghost use Rattle.mesh_grammar.specs.Written.{labelled};
+ghost use Rattle.mesh_grammar.specs.Written.{label_number};
 ghost use Rattle.mesh_text.specs.Lines.{copied_words, field_text, full_line, summary_text};
 ghost use Rattle.mesh_text.specs.Auto.{auto_end};
 ghost use Rattle.mesh_io.specs.Cause.{HasCause};
@@ -36,9 +36,10 @@ pub struct Summary {
 fn push_done(out: &mut LineBuf, s: &Sums)
     requires room { length out.old + 116 ≤ LINE_ROOM }
     ensures text { out.new ≡ out.old
-        ++ (labelled (codes "done events ") s.now.events ++ labelled (codes " idle ") s.now.idle
-        ++ labelled (codes " given ") s.now.given
-        ++ labelled (codes " delivered ") s.now.delivered) }
+        ++ (label_number (codes "done events ") s.now.events
+        ++ label_number (codes " idle ") s.now.idle
+        ++ label_number (codes " given ") s.now.given
+        ++ label_number (codes " delivered ") s.now.delivered) }
     ensures length { length out.new ≤ length out.old + 116 }
 {
     push_labelled(out, b"done events ", s.events);

@@ -4,7 +4,7 @@ ghost use Rattle.std.specs.List.{flat_map};
 ghost use Rattle.mesh_base.specs.Meshes.{Nodes};
 ghost use Rattle.aodv_meaning.specs.Meaning.{meaning};
 ghost use Rattle.mesh_meaning.specs.Packets.{IsWritten, packet_of};
-ghost use Rattle.mesh_grammar.specs.Written.{line, labelled};
+ghost use Rattle.mesh_grammar.specs.Written.{line, label_number};
 ghost use Rattle.mesh_text.specs.Lines.{name_of, of_one, of_two, hex, hex_byte};
 ghost use Rattle.mesh_text.specs.Effects.{shown_byte, set_text};
 ghost use Rattle.aodv_model.specs.Soundness.{AreBelow};
@@ -58,7 +58,7 @@ pub(crate) fn push_two<const N: usize>(
 #[inline]
 pub(crate) fn push_labelled<const N: usize>(out: &mut LineBuf, label: &[u8; N], n: u64)
     requires room { length out.old + length label.now + 20 ≤ LINE_ROOM }
-    ensures text { out.new ≡ out.old ++ labelled label.now n }
+    ensures text { out.new ≡ out.old ++ label_number label.now n }
     ensures length { length out.new ≤ length out.old + length label.now + 20 }
 {
     out.push_array(label);

@@ -9,7 +9,7 @@ use Rattle.mesh_checkpoint.specs.Formats.{◌>>=◌, number_at, get_rising}
 use Rattle.mesh_checkpoint.specs.Checkpoint as model
 use Rattle.mesh_checkpoint.specs.Checkpoint.{Link, link_key}
 use Rattle.mesh_checkpoint.specs.Points.{links_of}
-use Rattle.mesh_restore.specs.Air.{Aired, air, ArePassed, AreLinksRead, AreCopiesRead, IsAirRead}
+use Rattle.mesh_restore.specs.Air.{AirState, air, ArePassed, AreLinksRead, AreCopiesRead, IsAirRead}
 use Rattle.mesh_restore.specs.Reading.{Refuses}
 use Rattle.mesh_restore.specs.declared.error.ReadError.{ReadError}
 use Rattle.mesh_restore.specs.declared.error.ReadError.TheVariants.{Spelling, NoMemory}
@@ -39,10 +39,10 @@ with_number n y = Some ((n, y.0), y.1)
 abbrev without_number : (ℕ × List Flying) × List ℕ → Option (List Flying × List ℕ)
 without_number x = Some ((x.0).1, x.1)
 
-abbrev with_links : List Link → (ℕ × List Flying) × List ℕ → Option (Aired × List ℕ)
+abbrev with_links : List Link → (ℕ × List Flying) × List ℕ → Option (AirState × List ℕ)
 with_links ls y = Some ((ls, y.0), y.1)
 
-abbrev as_aired : List Link → ℕ → List Flying × List ℕ → Option (Aired × List ℕ)
+abbrev as_aired : List Link → ℕ → List Flying × List ℕ → Option (AirState × List ℕ)
 as_aired ls next y = Some ((ls, (next, y.0)), y.1)
 
 collapse : (ls : List Link) (next many : ℕ) (o : Option (List Flying × List ℕ)) → ((((o >>= with_number many) >>= without_number) >>= with_number next) >>= with_links ls) ≡ (o >>= as_aired ls next)

@@ -39,7 +39,7 @@ heard_then None = refl
 heard_then (Some x) = refl
 
 pub item_given : (nodes : ℕ) (bytes : List ℕ) → (model.item nodes).get (0 ∷ bytes) ≡ get_given nodes bytes
-item_given nodes bytes = given_then ((model.given nodes).get bytes)
+item_given nodes bytes = given_then ((model.datum_format nodes).get bytes)
 
 pub item_heard : (nodes : ℕ) (bytes : List ℕ) → (model.item nodes).get (1 ∷ bytes) ≡ get_heard nodes bytes
-item_heard nodes bytes = heard_then ((model.heard nodes).get bytes)
+item_heard nodes bytes = heard_then ((model.heard_format nodes).get bytes)

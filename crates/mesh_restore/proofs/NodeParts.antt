@@ -21,21 +21,21 @@ pub table_refused : (nodes sn : ℕ) (bytes r : List ℕ) (e : ReadError) → mo
 table_refused nodes sn bytes r Spelling one none = rw (one, none) refl
 table_refused nodes sn bytes r NoMemory one none = tt
 
-pub asked_refused : (nodes sn : ℕ) (bytes r s : List ℕ) (routes : List model.Route) (e : ReadError) → model.positive32.get bytes ≡ Some (sn, r) → (model.routes nodes).get r ≡ Some (routes, s) → Refuses e ((model.asked nodes).get s) → Refuses e ((model.node nodes).get bytes)
+pub asked_refused : (nodes sn : ℕ) (bytes r s : List ℕ) (routes : List model.Route) (e : ReadError) → model.positive32.get bytes ≡ Some (sn, r) → (model.routes nodes).get r ≡ Some (routes, s) → Refuses e ((model.asked_format nodes).get s) → Refuses e ((model.node nodes).get bytes)
 asked_refused nodes sn bytes r s routes Spelling one two none = rw (one, two, none) refl
 asked_refused nodes sn bytes r s routes NoMemory one two none = tt
 
-pub store_refused : (nodes sn : ℕ) (bytes r s t : List ℕ) (routes : List model.Route) (asked : List (ℕ × ℕ)) (e : ReadError) → model.positive32.get bytes ≡ Some (sn, r) → (model.routes nodes).get r ≡ Some (routes, s) → (model.asked nodes).get s ≡ Some (asked, t) → Refuses e ((model.store nodes).get t) → Refuses e ((model.node nodes).get bytes)
+pub store_refused : (nodes sn : ℕ) (bytes r s t : List ℕ) (routes : List model.Route) (asked : List (ℕ × ℕ)) (e : ReadError) → model.positive32.get bytes ≡ Some (sn, r) → (model.routes nodes).get r ≡ Some (routes, s) → (model.asked_format nodes).get s ≡ Some (asked, t) → Refuses e ((model.store nodes).get t) → Refuses e ((model.node nodes).get bytes)
 store_refused nodes sn bytes r s t routes asked Spelling one two three none = rw (one, two, three, none) refl
 store_refused nodes sn bytes r s t routes asked NoMemory one two three none = tt
 
-pub inbox_refused : (nodes sn : ℕ) (bytes r s t u : List ℕ) (routes : List model.Route) (asked : List (ℕ × ℕ)) (store : List model.Waits) (e : ReadError) → model.positive32.get bytes ≡ Some (sn, r) → (model.routes nodes).get r ≡ Some (routes, s) → (model.asked nodes).get s ≡ Some (asked, t) → (model.store nodes).get t ≡ Some (store, u)
+pub inbox_refused : (nodes sn : ℕ) (bytes r s t u : List ℕ) (routes : List model.Route) (asked : List (ℕ × ℕ)) (store : List model.Waits) (e : ReadError) → model.positive32.get bytes ≡ Some (sn, r) → (model.routes nodes).get r ≡ Some (routes, s) → (model.asked_format nodes).get s ≡ Some (asked, t) → (model.store nodes).get t ≡ Some (store, u)
     → Refuses e ((model.inbox nodes).get u) → Refuses e ((model.node nodes).get bytes)
 inbox_refused nodes sn bytes r s t u routes asked store Spelling one two three four none = rw (one, two, three, four, none) refl
 inbox_refused nodes sn bytes r s t u routes asked store NoMemory one two three four none = tt
 
 pub node_read : (variant : Variant) (nodes me sn : ℕ) (bytes r s t u rest : List ℕ) (table : TableSeen) (asked : RoomySeen) (waiting : RoomyStore) (inbox : Queue) (answer : Result NodeSeen Unfit) → table.nodes ≡ nodes → ArePrecursorsBelow nodes table.entries → model.positive32.get bytes ≡ Some (sn, r) → (model.routes nodes).get r ≡ Some (routes_in table.entries, s)
-    → (model.asked nodes).get s ≡ Some (pairs_in asked.pairs, t) → (model.store nodes).get t ≡ Some (waits_in waiting.store, u) → (model.inbox nodes).get u ≡ Some (inbox.items, rest) → IsRestored (node_of variant me sn table asked waiting inbox) answer
+    → (model.asked_format nodes).get s ≡ Some (pairs_in asked.pairs, t) → (model.store nodes).get t ≡ Some (waits_in waiting.store, u) → (model.inbox nodes).get u ≡ Some (inbox.items, rest) → IsRestored (node_of variant me sn table asked waiting inbox) answer
     → IsNodeRead variant me nodes ((model.node nodes).get bytes) answer rest
 node_read variant nodes me sn bytes r s t u rest table asked waiting inbox answer size below one two three four five is = record {
   parts = node_of variant me sn table asked waiting inbox;

@@ -14,12 +14,12 @@ use Rattle.std.specs.FinSet as sets
 use Rattle.aodv_model.specs.Pairs.{pair_cmp, as_keys, pairs_in}
 use Rattle.aodv_model.proofs.PairLaws.{pair_cmp_total, same_pair}
 use Rattle.aodv_model.proofs.PairKeys.{get-as_keys-insert, get-keys_of}
-use Rattle.aodv_model.specs.Cores.{Seen}
+use Rattle.aodv_model.specs.Cores.{SeenRequests}
 use Rattle.mesh_checkpoint.specs.Checkpoint.{request_key}
 use Rattle.mesh_restore.proofs.Listings.{all_weaker, all_push, entries_last, no_entries, nat_greater}
 
 -- each pair has a key below a number, and an id of 32 bits
-abbrev pub ArePairsBelow : ℕ → Seen → Type 0
+abbrev pub ArePairsBelow : ℕ → SeenRequests → Type 0
 ArePairsBelow low seen = AllByRecursion (λ e. (request_key e.0 < low) × ((e.0).1 < 2 ^ 32)) (maps.entries (as_keys (sets.items seen)))
 
 -- ---- the map of a set has its pairs as keys
@@ -32,7 +32,7 @@ same_mark (Some u) None e = cc
 same_mark (Some u) (Some v) e = refl
 
 -- one pair more in the set is one key more in the map
-as_keys-insert : (seen : Seen) (p : ℕ × ℕ) → as_keys (sets.items (sets.insert seen p)) ≡ maps.insert (as_keys (sets.items seen)) p tt
+as_keys-insert : (seen : SeenRequests) (p : ℕ × ℕ) → as_keys (sets.items (sets.insert seen p)) ≡ maps.insert (as_keys (sets.items seen)) p tt
 as_keys-insert seen p =
     let each : (q : ℕ × ℕ) → maps.get (as_keys (sets.items (sets.insert seen p))) q ≡ maps.get (maps.insert (as_keys (sets.items seen)) p tt) q = λ q.
     same_mark _ _
@@ -70,13 +70,13 @@ is_after low p up small e below = key_greater p e.0 below.1 small (omega (arith,
 
 -- ---- a pair above all others is the last
 
-abbrev pub AreBeforePair : ℕ × ℕ → Seen → Type 0
+abbrev pub AreBeforePair : ℕ × ℕ → SeenRequests → Type 0
 AreBeforePair p seen = AllByRecursion (λ e. pair_cmp p e.0 ≡ Greater) (maps.entries (as_keys (sets.items seen)))
 
-pub last_key : (seen : Seen) (p : ℕ × ℕ) → AreBeforePair p seen → maps.entries (as_keys (sets.items (sets.insert seen p))) ≡ maps.entries (as_keys (sets.items seen)) ++ (p, tt) ∷ []
+pub last_key : (seen : SeenRequests) (p : ℕ × ℕ) → AreBeforePair p seen → maps.entries (as_keys (sets.items (sets.insert seen p))) ≡ maps.entries (as_keys (sets.items seen)) ++ (p, tt) ∷ []
 last_key seen p before = ap maps.entries (as_keys-insert seen p) ∙ entries_last pair_cmp_total (as_keys (sets.items seen)) p tt before
 
-pub last_pair : (seen : Seen) (p : ℕ × ℕ) → AreBeforePair p seen → pairs_in (sets.insert seen p) ≡ pairs_in seen ++ p ∷ []
+pub last_pair : (seen : SeenRequests) (p : ℕ × ℕ) → AreBeforePair p seen → pairs_in (sets.insert seen p) ≡ pairs_in seen ++ p ∷ []
 unfolding pairs_in
 last_pair seen p before =
     ap (λ (es : List ((ℕ × ℕ) × Unit {0})). map (λ e. e.0) es) (last_key seen p before)
@@ -86,7 +86,7 @@ not_found : (p : ℕ × ℕ) (es : List ((ℕ × ℕ) × Unit {0})) → AllByRec
 not_found p [] before = refl
 not_found p (e ∷ es) before = rw before.0 (not_found p es before.1)
 
-pub new_pair : (seen : Seen) (p : ℕ × ℕ) → AreBeforePair p seen → sets.contains seen p ≡ false
+pub new_pair : (seen : SeenRequests) (p : ℕ × ℕ) → AreBeforePair p seen → sets.contains seen p ≡ false
 new_pair seen p before =
     sym (get-keys_of seen p) ∙ ap is_some (maps.get-entries (as_keys (sets.items seen)) p) ∙ not_found p (maps.entries (as_keys (sets.items seen))) before
 
@@ -100,21 +100,21 @@ same_elsewhere f g p same (e ∷ es) before =
     apart : Equal ≡ Greater → ⊥
     apart h = cc
 
-pub same_values : {B : Type 0} (f g : ℕ × ℕ → B) (seen : Seen) (p : ℕ × ℕ) → ((q : ℕ × ℕ) → q ≢ p → f q ≡ g q) → AreBeforePair p seen → map f (pairs_in seen) ≡ map g (pairs_in seen)
+pub same_values : {B : Type 0} (f g : ℕ × ℕ → B) (seen : SeenRequests) (p : ℕ × ℕ) → ((q : ℕ × ℕ) → q ≢ p → f q ≡ g q) → AreBeforePair p seen → map f (pairs_in seen) ≡ map g (pairs_in seen)
 unfolding pairs_in
 same_values f g seen p same before = same_elsewhere f g p same (maps.entries (as_keys (sets.items seen))) before
 
-all_before : (seen : Seen) (low : ℕ) (p : ℕ × ℕ) → ArePairsBelow low seen → low ≤ request_key p → p.1 < 2 ^ 32 → AreBeforePair p seen
+all_before : (seen : SeenRequests) (low : ℕ) (p : ℕ × ℕ) → ArePairsBelow low seen → low ≤ request_key p → p.1 < 2 ^ 32 → AreBeforePair p seen
 all_before seen low p below up small =
     all_weaker (λ e. (request_key e.0 < low) × ((e.0).1 < 2 ^ 32)) (λ e. pair_cmp p e.0 ≡ Greater) (is_after low p up small) (maps.entries (as_keys (sets.items seen))) below
 
-keys_last : (seen : Seen) (low : ℕ) (p : ℕ × ℕ) → ArePairsBelow low seen → low ≤ request_key p → p.1 < 2 ^ 32 → maps.entries (as_keys (sets.items (sets.insert seen p))) ≡ maps.entries (as_keys (sets.items seen)) ++ (p, tt) ∷ []
+keys_last : (seen : SeenRequests) (low : ℕ) (p : ℕ × ℕ) → ArePairsBelow low seen → low ≤ request_key p → p.1 < 2 ^ 32 → maps.entries (as_keys (sets.items (sets.insert seen p))) ≡ maps.entries (as_keys (sets.items seen)) ++ (p, tt) ∷ []
 keys_last seen low p below up small = last_key seen p (all_before seen low p below up small)
 
-pub pairs_last : (seen : Seen) (low : ℕ) (p : ℕ × ℕ) → ArePairsBelow low seen → low ≤ request_key p → p.1 < 2 ^ 32 → pairs_in (sets.insert seen p) ≡ pairs_in seen ++ p ∷ []
+pub pairs_last : (seen : SeenRequests) (low : ℕ) (p : ℕ × ℕ) → ArePairsBelow low seen → low ≤ request_key p → p.1 < 2 ^ 32 → pairs_in (sets.insert seen p) ≡ pairs_in seen ++ p ∷ []
 pairs_last seen low p below up small = last_pair seen p (all_before seen low p below up small)
 
-pub pairs_below : (seen : Seen) (low : ℕ) (p : ℕ × ℕ) (above : ℕ) → ArePairsBelow low seen → low ≤ request_key p → p.1 < 2 ^ 32 → above ≡ request_key p + 1 → ArePairsBelow above (sets.insert seen p)
+pub pairs_below : (seen : SeenRequests) (low : ℕ) (p : ℕ × ℕ) (above : ℕ) → ArePairsBelow low seen → low ≤ request_key p → p.1 < 2 ^ 32 → above ≡ request_key p + 1 → ArePairsBelow above (sets.insert seen p)
 pairs_below seen low p above below up small next =
     rw next (rw (keys_last seen low p below up small)
     (all_push (λ e. (request_key e.0 < request_key p + 1) × ((e.0).1 < 2 ^ 32)) (maps.entries (as_keys (sets.items seen))) (p, tt)

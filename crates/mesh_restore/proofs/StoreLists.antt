@@ -10,7 +10,7 @@ use Rattle.std.specs.FinMap as maps
 use Rattle.std.specs.FinMap.{FinMap, find, nat_cmp-IsAntisymmetric}
 use Rattle.aodv_model.specs.Cores.{Body, Waiting, Store, add, unset, with_body}
 use Rattle.aodv_model.proofs.Stores.{need_unless, get-unset}
-use Rattle.mesh_checkpoint.specs.Formats.{◌>>=◌, only_if, truth, seq, counted, get_times}
+use Rattle.mesh_checkpoint.specs.Formats.{◌>>=◌, only_if, truth, seq, counted_list, get_times}
 use Rattle.mesh_restore.specs.Reading.{Refuses, get_from}
 use Rattle.mesh_restore.specs.declared.error.ReadError.{ReadError}
 use Rattle.mesh_restore.specs.declared.error.ReadError.TheVariants.{Spelling, NoMemory}
@@ -19,7 +19,7 @@ use Rattle.mesh_checkpoint.specs.Checkpoint.{Waits}
 use Rattle.mesh_restore.specs.Kept.{IsFilled, IsKeptFrom}
 use Rattle.mesh_restore.proofs.Loop.{IsReadInTurn, begins, one_more, is_stopped, is_read}
 use Rattle.mesh_checkpoint.specs.Points.{waits_of, waits_in}
-use Rattle.mesh_restore.specs.Stores.{with_bodies, settled, AreBelow}
+use Rattle.mesh_restore.specs.Stores.{with_bodies, with_need, AreBelow}
 use Rattle.mesh_restore.proofs.Listings.{listed_last, still_below, no_entries}
 
 get-at : {X : Type 0} (m : FinMap nat_cmp X) (k q : ℕ) (v : X) → maps.get (maps.insert m k v) q ≡ cond (eqb q k) (Some v) (maps.get m q)
@@ -155,7 +155,7 @@ below_low d low None down = refl
 below_low d low (Some y) down = rw down refl
 
 pub dest_below : (nodes low d : ℕ) (bytes r : List ℕ) → (model.index nodes).get bytes ≡ Some (d, r) → d < low → get_from (λ w. w.dest) (model.waits nodes).get low bytes ≡ None
-dest_below nodes low d bytes r one down = rw one (below_low d low ((seq truth (λ _. counted model.positive32 model.datum)).get r) (lt-leb _ _ down))
+dest_below nodes low d bytes r one down = rw one (below_low d low ((seq truth (λ _. counted_list model.positive32 model.datum)).get r) (lt-leb _ _ down))
 
 still : {A B : Type 0} (e : ReadError) (o : Option A) (f : A → Option B) → Refuses e o → Refuses e (o >>= f)
 still Spelling o f none = rw none refl
@@ -167,7 +167,7 @@ data_refused nodes low d needs count bytes r s t e one two three up refused =
     rw (waits_at nodes low d needs count bytes r s t one two three up) (still e (get_times model.datum.get count t) (as_waits d needs) refused)
 
 -- what is settled stands last
-settled_last : (before : Store) (low d : ℕ) (needs : Bool) (bs : List Body) (filled after : Store) → AreBelow low before → low ≤ d → 1 ≤ length bs → filled ≡ with_bodies before d bs → after ≡ settled filled d needs
+settled_last : (before : Store) (low d : ℕ) (needs : Bool) (bs : List Body) (filled after : Store) → AreBelow low before → low ≤ d → 1 ≤ length bs → filled ≡ with_bodies before d bs → after ≡ with_need filled d needs
     → (waits_in after ≡ waits_in before ++ waits_with d needs bs ∷ []) × AreBelow (d + 1) after
 settled_last before low d needs [] filled after below up some is after_is = absurd (omega (arith, some))
 settled_last before low d true (b ∷ bs) filled after below up some is after_is =
@@ -176,7 +176,7 @@ settled_last before low d false (b ∷ bs) filled after below up some is after_i
     rw (after_is, is, one_unset before d b bs) (waits_last before low d (waiting_with false b bs) below up, still_below before low d (waiting_with false b bs) below up)
 
 pub kept : (nodes low d : ℕ) (needs : Bool) (count : ℕ) (bytes r s t rest : List ℕ) (before filled after : Store) → AreBelow low before → low ≤ d → 1 ≤ count → (model.index nodes).get bytes ≡ Some (d, r) → truth.get r ≡ Some (needs, s) → model.positive32.get s ≡ Some (count, t)
-    → IsFilled before d count (get_times model.datum.get count t) filled rest → after ≡ settled filled d needs → IsKeptFrom (get_from (λ w. w.dest) (model.waits nodes).get low bytes) before after d rest
+    → IsFilled before d count (get_times model.datum.get count t) filled rest → after ≡ with_need filled d needs → IsKeptFrom (get_from (λ w. w.dest) (model.waits nodes).get low bytes) before after d rest
 kept nodes low d needs count bytes r s t rest before filled after below up some one two three f after_is =
     let last = settled_last before low d needs f.found filled after below up (omega (arith, some, f.many)) f.stored after_is in
     record {

@@ -46,16 +46,16 @@ pub record AreCopiesRead (read : Option (List Flying × List ℕ)) (before after
 -- ---- all that is in the air
 
 -- the links, the id of the next copy, and the copies
-abbrev pub Aired : Type 0
-Aired = List Link × (ℕ × List Flying)
+abbrev pub AirState : Type 0
+AirState = List Link × (ℕ × List Flying)
 
-abbrev pub air : ℕ → Format Aired
+abbrev pub air : ℕ → Format AirState
 air nodes =
     seq (links nodes) λ _. seq (number w64 1 (GREATEST_NEXT_ID + 1)) λ next. copies nodes next
 
 -- the radio has what was read, and these bytes are left. Where no copy is from a node to itself,
 -- they are all in flight
-pub record IsAirRead (nodes : ℕ) (read : Option (Aired × List ℕ)) (radio : RadioState)
+pub record IsAirRead (nodes : ℕ) (read : Option (AirState × List ℕ)) (radio : RadioState)
     (apart : Bool) (rest : List ℕ) : Type 0 where
   pub found : List Flying
   pub read_is : read ≡ Some ((links_of radio.ever radio.links, (radio.next_copy, found)), rest)

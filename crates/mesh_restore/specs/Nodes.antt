@@ -9,7 +9,7 @@ use Rattle.aodv_node.specs.declared.answers.Unfit.{Unfit}
 use Rattle.aodv_node.specs.Seen.{NodeSeen}
 use Rattle.aodv_node.specs.Restored.{IsRestored}
 use Rattle.mesh_checkpoint.specs.Checkpoint.{Node}
-use Rattle.mesh_checkpoint.specs.Seen.{listed}
+use Rattle.mesh_checkpoint.specs.Seen.{listed_node}
 
 -- node `me` of a mesh of so many nodes, of this variant
 pub record IsNodeAt (variant : Variant) (me size : ℕ) (n : NodeSeen) : Type 0 where
@@ -28,5 +28,5 @@ pub record IsNodeRead (variant : Variant) (me size : ℕ) (read : Option (Node �
   pub parts : NodeSeen
   pub mine : IsNodeAt variant me size parts
   pub below : ArePrecursorsBelow size (parts.core).rt
-  pub read_is : read ≡ Some (listed parts, rest)
+  pub read_is : read ≡ Some (listed_node parts, rest)
   pub answer_is : IsRestored parts answer

@@ -17,5 +17,5 @@ with_bodies store d (b ∷ bs) =
     maps.insert store d (record { needs_request = true; bodies = b ∷ bs })
 
 -- the store where what waits for d needs a request, or not
-abbrev pub settled : Store → ℕ → Bool → Store
-settled store d needs = if needs then store else unset store d
+abbrev pub with_need : Store → ℕ → Bool → Store
+with_need store d needs = if needs then store else unset store d

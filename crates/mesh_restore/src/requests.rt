@@ -53,7 +53,7 @@ fn pairs(alloc: Global, count: u32, bytes: &[u8], nodes: u32) -> Result<(Asked, 
 /// The requests at the front of bytes, in a mesh of so many nodes, and the bytes behind them.
 pub(crate) fn requests(alloc: Global, bytes: &[u8], nodes: u32) -> Result<(Asked, &[u8]), ReadError>
     ensures value { Reads (λ x. (pairs_in x.0.pairs, x.1.now)) result
-        ((model.asked nodes).get bytes.now) }
+        ((model.asked_format nodes).get bytes.now) }
     ensures nodes { IfOk result (λ x. length x.0.rooms ≡ nodes) }
 {
     let Some((count, rest)) = number32(bytes, 0, 4_294_967_296) else {

@@ -6,7 +6,7 @@ ghost use Rattle.mesh_checkpoint.specs.Formats.{get_rising, get_times};
 ghost use Rattle.mesh_checkpoint.specs.Checkpoint as model;
 ghost use Rattle.mesh_restore.specs.Reading.{Reads, Refuses, get_from};
 ghost use Rattle.mesh_checkpoint.specs.Points.{waits_in};
-ghost use Rattle.mesh_restore.specs.Stores.{settled, AreBelow};
+ghost use Rattle.mesh_restore.specs.Stores.{with_need, AreBelow};
 ghost use Rattle.mesh_restore.specs.Kept.{IsFilled, IsKeptFrom};
 
 use crate::error::ReadError;
@@ -46,7 +46,7 @@ fn bodies<'b>(
 // Data that came need a request, unless it is said that they don't.
 fn settle(waiting: &mut Waiting, dest: usize, needs_request: bool)
     requires { dest < length waiting.old.rooms }
-    ensures store { waiting.new.store ≡ settled waiting.old.store dest needs_request }
+    ensures store { waiting.new.store ≡ with_need waiting.old.store dest needs_request }
     ensures nodes { length waiting.new.rooms ≡ length waiting.old.rooms }
 {
     if !needs_request {

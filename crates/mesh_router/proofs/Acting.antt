@@ -15,32 +15,32 @@ use Rattle.aodv_node.specs.Seen.{NodeSeen, IsSoundNode}
 use Rattle.mesh_meaning.specs.Answers.{IsCastWritten}
 use Rattle.mesh_grammar.specs.Written.{line}
 use Rattle.mesh_peers.specs.Peers.{PeersSeen}
-use Rattle.mesh_peers.specs.Lines.{Accepted, Nothing, Own, Peer, Up, Down, Give, Polls, Turns, Sends, Asks, Shows, words_of}
+use Rattle.mesh_peers.specs.Lines.{AcceptedLine, Nothing, Own, Peer, Up, Down, Give, Polls, Turns, Sends, Asks, Shows, words_of}
 use Rattle.mesh_router.specs.declared.stop.Stop.{Stop}
 use Rattle.mesh_router.specs.declared.stop.Stop.TheVariants as stop
-use Rattle.mesh_router.specs.Logs.{Log, nothing, written, followed_by}
+use Rattle.mesh_router.specs.Logs.{Log, nothing, text_log, followed_by}
 use Rattle.mesh_router.specs.Routers.{Router}
 use Rattle.mesh_router.specs.Casts.{effect_log}
 use Rattle.mesh_router.specs.Turns.{StepOutcome, StepDone, log_before, act_of, idle_line}
 use Rattle.mesh_router.specs.Lines.{step_of}
 use Rattle.mesh_router.specs.Outputs.{Outputs, Adds, AddsPrefix, IsFault, HasCauses, HasSinkCause}
-use Rattle.mesh_router.specs.Peers.{reached, code_log, act_log}
+use Rattle.mesh_router.specs.Peers.{receivers_of, code_log, act_log}
 use Rattle.mesh_router.specs.Runs.{log_in, IsStepRun}
 use Rattle.mesh_router.proofs.Logging.{adds-none, adds-join}
 use Rattle.mesh_router.proofs.Turning.{router_as, IsEffectMeant, effect_meant, log_effect, reached_is, after-log}
 
 -- ---- a send or a request
 
-pub record IsActMeant (p : PeersSeen) (me : ℕ) (node new : NodeSeen) (near : NodeIds) (heard sent dropped : ℕ) (l : Accepted) (full : Option Counter) (reaction : Reaction) (e : effects.Effect) (out : List ℕ) : Type 0 where
+pub record IsActMeant (p : PeersSeen) (me : ℕ) (node new : NodeSeen) (near : NodeIds) (heard sent dropped : ℕ) (l : AcceptedLine) (full : Option Counter) (reaction : Reaction) (e : effects.Effect) (out : List ℕ) : Type 0 where
   pub is : act_of (router_as p node near heard sent dropped) (words_of p.mesh l) true full reaction
-      ≡ StepDone (act_log p near me l e out) (router_as p new near heard (sent + length (reached p near e.cast out)) dropped)
+      ≡ StepDone (act_log p near me l e out) (router_as p new near heard (sent + length (receivers_of p near e.cast out)) dropped)
   pub cast : IsCastWritten p.mesh e.cast out
   pub broken : IfSome e.broken (λ y. y < length p.mesh)
 
 effect_told : (r : Router) (x : ℕ) (e : effects.Effect) (effect : Effect) (out : List ℕ) → IsEffectMeant (r.peers).mesh e effect out → code_log r.peers r.range x None e out ≡ effect_log r effect
 effect_told r x e effect out m = log_effect r e out m.packet ∙ ap (effect_log r) (sym m.means)
 
-pub act_meant : (p : PeersSeen) (me : ℕ) (node new : NodeSeen) (near : NodeIds) (heard sent dropped : ℕ) (l : Accepted) (full : Option Counter) (reaction : Reaction) (e : effects.Effect) (out : List ℕ)
+pub act_meant : (p : PeersSeen) (me : ℕ) (node new : NodeSeen) (near : NodeIds) (heard sent dropped : ℕ) (l : AcceptedLine) (full : Option Counter) (reaction : Reaction) (e : effects.Effect) (out : List ℕ)
     → IsMesh p.mesh → IsCastInMesh (length p.mesh) (reaction.effect).cast → IsEffectInMesh (length p.mesh) reaction.effect → new ≡ record node { core = new.core } → IsMade p.mesh full reaction e new.core out
     → IsActMeant p me node new near heard sent dropped l full reaction e out
 act_meant p me node new near heard sent dropped l full reaction e out is in_mesh names others made =
@@ -50,13 +50,13 @@ act_meant p me node new near heard sent dropped l full reaction e out is in_mesh
     let queue : new.items ≡ node.items = ap (λ (n : NodeSeen). n.items) others in
     record {
       is = ap (λ (o : Option Counter). act_of r words true o reaction) made.free
-          ∙ (λ k. StepDone (followed_by (written (line words)) (sym (effect_told r me e reaction.effect out m) k))
+          ∙ (λ k. StepDone (followed_by (text_log (line words)) (sym (effect_told r me e reaction.effect out m) k))
           (record { peers = p; core = sym made.core k; queue = sym queue k; range = near; heard = heard; sent = sent + length (sym (reached_is r e reaction.effect out m) k); dropped = dropped }));
       cast = m.cast;
       broken = m.broken;
     }
 
-pub send_meant : (p : PeersSeen) (me : ℕ) (node new : NodeSeen) (near : NodeIds) (heard sent dropped : ℕ) (l : Accepted) (d : ℕ) (e : effects.Effect) (out : List ℕ)
+pub send_meant : (p : PeersSeen) (me : ℕ) (node new : NodeSeen) (near : NodeIds) (heard sent dropped : ℕ) (l : AcceptedLine) (d : ℕ) (e : effects.Effect) (out : List ℕ)
     → IsMesh p.mesh → IsSoundNode node → node.size ≡ length p.mesh → may_send node.core d ≡ true → new ≡ record node { core = new.core } → IsMade p.mesh (send_full node.core near d) (send node.core near d) e new.core out
     → IsActMeant p me node new near heard sent dropped l (send_full node.core near d) (send node.core near d) e out
 send_meant p me node new near heard sent dropped l d e out is sound size may others made =
@@ -65,7 +65,7 @@ send_meant p me node new near heard sent dropped l d e out is sound size may oth
     act_meant p me node new near heard sent dropped l (send_full node.core near d) (send node.core near d) e out is
     (subst (λ (n : ℕ). IsCastInMesh n ((send node.core near d).effect).cast) size reacts.cast) (subst (λ (n : ℕ). IsEffectInMesh n (send node.core near d).effect) size names) others made
 
-pub ask_meant : (p : PeersSeen) (me : ℕ) (node new : NodeSeen) (near : NodeIds) (heard sent dropped : ℕ) (l : Accepted) (d : ℕ) (e : effects.Effect) (out : List ℕ)
+pub ask_meant : (p : PeersSeen) (me : ℕ) (node new : NodeSeen) (near : NodeIds) (heard sent dropped : ℕ) (l : AcceptedLine) (d : ℕ) (e : effects.Effect) (out : List ℕ)
     → IsMesh p.mesh → IsSoundNode node → node.size ≡ length p.mesh → may_ask node.core d ≡ true → new ≡ record node { core = new.core } → IsMade p.mesh (ask_full node.core) (ask node.core d) e new.core out
     → IsActMeant p me node new near heard sent dropped l (ask_full node.core) (ask node.core d) e out
 ask_meant p me node new near heard sent dropped l d e out is sound size may others made =
@@ -126,12 +126,12 @@ causes_of_sink a b c r h = record {
 
 -- the line is idle
 pub act_idle : (p : PeersSeen) (node new : NodeSeen) (near : NodeIds) (heard sent dropped : ℕ) (words : List ℕ) (may : Bool) (full : Option Counter) (reaction : Reaction) (a b : Outputs)
-    → may ≡ false → new.core ≡ node.core → new ≡ record node { core = new.core } → Adds a b (written (line words ++ idle_line))
+    → may ≡ false → new.core ≡ node.core → new ≡ record node { core = new.core } → Adds a b (text_log (line words ++ idle_line))
     → IsStepRun (act_of (router_as p node near heard sent dropped) words may full reaction) a b (router_as p new near heard sent dropped) (Ok tt)
 act_idle p node new near heard sent dropped words may full reaction a b idle same others adds =
     let r = router_as p node near heard sent dropped in
     let queue : new.items ≡ node.items = ap (λ (n : NodeSeen). n.items) others in
-    let told = written (line words ++ idle_line) in
+    let told = text_log (line words ++ idle_line) in
     step_done _ (router_as p new near heard sent dropped) a b told
     (ap (λ (k : Bool). act_of r words k full reaction) idle ∙ (λ i. StepDone told (record r { core = sym same i; queue = sym queue i }))) adds
 
@@ -146,14 +146,14 @@ act_full r new words may full reaction field a is e = record {
 
 -- ---- lines that are no commands
 
-abbrev pub IsSkipped : Accepted → Type 0
+abbrev pub IsSkipped : AcceptedLine → Type 0
 IsSkipped Nothing = ⊤
 IsSkipped (Own a first) = ⊤
 IsSkipped (Peer a port) = ⊤
 IsSkipped (Polls count) = ⊤
 IsSkipped others = ⊥
 
-step_skips : (r : Router) (words : List ℕ) (l : Accepted) → IsSkipped l → step_of r words l ≡ StepDone nothing r
+step_skips : (r : Router) (words : List ℕ) (l : AcceptedLine) → IsSkipped l → step_of r words l ≡ StepDone nothing r
 unfolding step_of
 step_skips r words Nothing is = refl
 step_skips r words (Own a first) is = refl
@@ -167,5 +167,5 @@ step_skips r words (Sends d) is = absurd is
 step_skips r words (Asks d) is = absurd is
 step_skips r words Shows is = absurd is
 
-pub skipped : (r : Router) (words : List ℕ) (l : Accepted) (a : Outputs) → IsSkipped l → IsStepRun (step_of r words l) a a r (Ok tt)
+pub skipped : (r : Router) (words : List ℕ) (l : AcceptedLine) (a : Outputs) → IsSkipped l → IsStepRun (step_of r words l) a a r (Ok tt)
 skipped r words l a is = step_done _ r a a nothing (step_skips r words l is) (adds-none a)

@@ -5,7 +5,7 @@ use Rattle.std.specs.Prelude.{min, IfSome}
 use Rattle.mesh_link.specs.Datagrams.{Datagram, datagram, TakesFirst, Receives}
 use Rattle.mesh_router.specs.declared.limits.TheConstants.{MOST_RECEIVED}
 use Rattle.mesh_router.specs.Finds.{Find, later_finds, AreNext, left_after, arrivals, AreOf, AreFound}
-use Rattle.mesh_router.specs.Polls.{received}
+use Rattle.mesh_router.specs.Polls.{received_bytes}
 
 -- ---- one after another
 
@@ -57,7 +57,7 @@ told-next ds b xs p = p.next
 pub record Received (arrived left : Option (List Datagram)) (port : ℕ) (bytes : List ℕ) : Type 0 where
   pub datagram : Datagram
   pub port_is : datagram.port ≡ port
-  pub bytes_are : received datagram.bytes ≡ bytes
+  pub bytes_are : received_bytes datagram.bytes ≡ bytes
   pub taken : AreFound arrived left (Some datagram ∷ [])
 
 take-all : (n : ℕ) (xs : List ℕ) → length xs ≤ n → take n xs ≡ xs

@@ -8,7 +8,7 @@ use Rattle.mesh_io.specs.Puts.{AppendsPrefix}
 use Rattle.mesh_io.proofs.Writing.{Appends-join, Appends-none}
 use Rattle.mesh_link.specs.Datagrams.{Datagram}
 use Rattle.mesh_router.specs.declared.stop.Stop.{Stop}
-use Rattle.mesh_router.specs.Logs.{Log, Byte, Sent, nothing, written, followed_by, text_of, sent_of}
+use Rattle.mesh_router.specs.Logs.{Log, Byte, Sent, nothing, text_log, followed_by, text_of, sent_of}
 use Rattle.mesh_router.specs.Outputs.{Outputs, SendsAll, Adds, AddsPrefix, Says, HasCauses}
 
 -- ---- a log
@@ -22,8 +22,8 @@ log-nil a = append-nil a
 pub log-assoc : (a b c : Log) → followed_by (followed_by a b) c ≡ followed_by a (followed_by b c)
 log-assoc a b c = append_assoc a b c
 
-pub written-append : (a b : List ℕ) → written (a ++ b) ≡ followed_by (written a) (written b)
-unfolding written
+pub written-append : (a b : List ℕ) → text_log (a ++ b) ≡ followed_by (text_log a) (text_log b)
+unfolding text_log
 written-append [] b = refl
 written-append (c ∷ cs) b = ap (λ (s : Log). Byte c ∷ s) (written-append cs b)
 
@@ -49,13 +49,13 @@ sent-join [] b = refl
 sent-join (Byte c ∷ more) b = sent-join more b
 sent-join (Sent d ∷ more) b = ap (λ (l : List Datagram). d ∷ l) (sent-join more b)
 
-text-written : (text : List ℕ) → text_of (written text) ≡ text
-unfolding text_of written
+text-written : (text : List ℕ) → text_of (text_log text) ≡ text
+unfolding text_of text_log
 text-written [] = refl
 text-written (c ∷ cs) = ap (λ (l : List ℕ). c ∷ l) (text-written cs)
 
-sent-written : (text : List ℕ) → sent_of (written text) ≡ []
-unfolding sent_of written
+sent-written : (text : List ℕ) → sent_of (text_log text) ≡ []
+unfolding sent_of text_log
 sent-written [] = refl
 sent-written (c ∷ cs) = sent-written cs
 
@@ -128,7 +128,7 @@ says-fault a b x (Err e) is p = p
 
 -- ---- a text alone, and a datagram alone
 
-pub adds-text : (a b : Option (List ℕ)) (s t : Option (List Datagram)) (text : List ℕ) → t ≡ s → Appends a b text → Adds (a, s) (b, t) (written text)
+pub adds-text : (a b : Option (List ℕ)) (s t : Option (List Datagram)) (text : List ℕ) → t ≡ s → Appends a b text → Adds (a, s) (b, t) (text_log text)
 adds-text a b s t text same p = record {
   text = subst (λ (l : List ℕ). Appends a b l) (sym (text-written text)) p;
   sent = subst (λ (l : List Datagram). SendsAll s t l) (sym (sent-written text)) (same ∙ sends-none s);
@@ -141,18 +141,18 @@ adds-datagram a s t d p = record {
 }
 
 -- a prefix of the text was written, and nothing was sent
-pub prefix-text : (a b : Option (List ℕ)) (s t : Option (List Datagram)) (text : List ℕ) → t ≡ s → AppendsPrefix a b text → AddsPrefix (a, s) (b, t) (written text)
+pub prefix-text : (a b : Option (List ℕ)) (s t : Option (List Datagram)) (text : List ℕ) → t ≡ s → AppendsPrefix a b text → AddsPrefix (a, s) (b, t) (text_log text)
 prefix-text a b s t text same p = record {
-  prefix = written p.prefix;
-  rest = written p.rest;
-  whole = ap written p.whole ∙ written-append p.prefix p.rest;
+  prefix = text_log p.prefix;
+  rest = text_log p.rest;
+  whole = ap text_log p.whole ∙ written-append p.prefix p.rest;
   adds = adds-text a b s t p.prefix same p.grown;
 }
 
 -- the text was written, and nothing after it was sent
-pub prefix-unsent : (a b : Option (List ℕ)) (s t : Option (List Datagram)) (text : List ℕ) (others : Log) → t ≡ s → Appends a b text → AddsPrefix (a, s) (b, t) (followed_by (written text) others)
+pub prefix-unsent : (a b : Option (List ℕ)) (s t : Option (List Datagram)) (text : List ℕ) (others : Log) → t ≡ s → Appends a b text → AddsPrefix (a, s) (b, t) (followed_by (text_log text) others)
 prefix-unsent a b s t text others same p = record {
-  prefix = written text;
+  prefix = text_log text;
   rest = others;
   whole = refl;
   adds = adds-text a b s t text same p;

@@ -12,10 +12,10 @@ use Rattle.mesh_peers.specs.Peers.{PeersSeen, ArePeers, at_port}
 use Rattle.mesh_grammar.specs.Written.{line}
 use Rattle.mesh_router.specs.declared.stop.Stop.{Stop}
 use Rattle.mesh_router.specs.declared.stop.Stop.TheVariants as stop
-use Rattle.mesh_router.specs.Logs.{Log, nothing, written, followed_by}
+use Rattle.mesh_router.specs.Logs.{Log, nothing, text_log, followed_by}
 use Rattle.mesh_router.specs.Routers.{Router}
 use Rattle.mesh_router.specs.Finds.{Find, next_find, later_finds, AreNext, left_after, AreFound}
-use Rattle.mesh_router.specs.Polls.{Polled, polled, polled_by, polls_of, found_next, found_text, datagram_next, datagram_text, datagram_log, none_line}
+use Rattle.mesh_router.specs.Polls.{PollOutcome, poll_outcome, polled_by, polls_of, found_next, found_text, datagram_next, datagram_text, datagram_log, none_line}
 use Rattle.mesh_router.specs.Outputs.{Outputs, Adds, AddsPrefix}
 use Rattle.mesh_router.specs.Runs.{IsTaken, IsFoundOne, IsFoundNone, IsPolled, IsPolledInPart, IsPollStep, IsPollRun, IsPollLine, IsNotFull}
 use Rattle.mesh_router.specs.Short.{IsPollShort}
@@ -61,17 +61,17 @@ polls-suc : (most : ℕ) (r : Router) (finds : List Find) → polls_of (suc most
 unfolding polls_of
 polls-suc most r finds = refl
 
-polls-zero : (r : Router) (finds : List Find) → polls_of 0 r finds ≡ polled nothing r finds
+polls-zero : (r : Router) (finds : List Find) → polls_of 0 r finds ≡ poll_outcome nothing r finds
 unfolding polls_of
 polls-zero r finds = refl
 
 polls-some : (most : ℕ) (r : Router) (finds : List Find) (d : Datagram) → next_find finds ≡ Some d
-    → polls_of (suc most) r finds ≡ polled (followed_by (datagram_log r d) (polls_of most (datagram_next r d) (later_finds finds)).log)
+    → polls_of (suc most) r finds ≡ poll_outcome (followed_by (datagram_log r d) (polls_of most (datagram_next r d) (later_finds finds)).log)
     (polls_of most (datagram_next r d) (later_finds finds)).next (polls_of most (datagram_next r d) (later_finds finds)).left
 polls-some most r finds d e =
     polls-suc most r finds ∙ ap (λ (f : Find). polled_by r f (later_finds finds) (λ next left. polls_of most next left)) e
 
-polls-none : (most : ℕ) (r : Router) (finds : List Find) → next_find finds ≡ None → polls_of (suc most) r finds ≡ polled (written none_line) r (later_finds finds)
+polls-none : (most : ℕ) (r : Router) (finds : List Find) → next_find finds ≡ None → polls_of (suc most) r finds ≡ poll_outcome (text_log none_line) r (later_finds finds)
 polls-none most r finds e =
     polls-suc most r finds ∙ ap (λ (f : Find). polled_by r f (later_finds finds) (λ next left. polls_of most next left)) e
 
@@ -84,11 +84,11 @@ nothing_polled count old arrived left a b same out = record {
 }
 
 -- nothing was there, which was told in part
-pub none_polled : (others : ℕ) (old : Router) (arrived left : Option (List Datagram)) (a b : Outputs) → AreFound arrived left (None ∷ []) → AddsPrefix a b (written none_line) → IsPolledInPart (suc others) old arrived left a b
+pub none_polled : (others : ℕ) (old : Router) (arrived left : Option (List Datagram)) (a b : Outputs) → AreFound arrived left (None ∷ []) → AddsPrefix a b (text_log none_line) → IsPolledInPart (suc others) old arrived left a b
 none_polled others old arrived left a b taken p = record {
   found = None ∷ [];
   taken = taken;
-  told = λ finds are. subst (λ (q : Polled). AddsPrefix a b q.log) (sym (polls-none others old finds are.0)) p;
+  told = λ finds are. subst (λ (q : PollOutcome). AddsPrefix a b q.log) (sym (polls-none others old finds are.0)) p;
 }
 
 -- a datagram was found, which was told in part
@@ -97,7 +97,7 @@ one_polled others old d arrived left a b taken p = record {
   found = Some d ∷ [];
   taken = taken;
   told = λ finds are.
-      subst (λ (q : Polled). AddsPrefix a b q.log) (sym (polls-some others old finds d are.0))
+      subst (λ (q : PollOutcome). AddsPrefix a b q.log) (sym (polls-some others old finds d are.0))
       (prefix-more a b (datagram_log old d) (polls_of others (datagram_next old d) (later_finds finds)).log p);
 }
 
@@ -140,7 +140,7 @@ pub record ArePolled (count rest : ℕ) (old now : Router) (arrived left : Optio
   pub log : Log
   pub adds : Adds a b log
   pub goes : (finds : List Find) → AreNext finds found
-      → polls_of count old finds ≡ polled (followed_by log (polls_of rest now (left_after finds found)).log)
+      → polls_of count old finds ≡ poll_outcome (followed_by log (polls_of rest now (left_after finds found)).log)
       (polls_of rest now (left_after finds found)).next (polls_of rest now (left_after finds found)).left
 
 pub polls_begin : (count : ℕ) (old : Router) (arrived : Option (List Datagram)) (a : Outputs) → ArePolled count count old old arrived arrived a a
@@ -163,10 +163,10 @@ polls_next count rest old mid new x y z a b c p q = record {
       let mid_finds = left_after finds p.found in
       let next = next-rest finds p.found one are in
       let left : left_after finds (p.found ++ one) ≡ later_finds mid_finds = left-join finds p.found one in
-      let rest_of : Router → List Find → Polled = λ r fs. polled (followed_by (followed_by p.log (datagram_log mid q.datagram)) (polls_of rest r fs).log) (polls_of rest r fs).next (polls_of rest r fs).left in
+      let rest_of : Router → List Find → PollOutcome = λ r fs. poll_outcome (followed_by (followed_by p.log (datagram_log mid q.datagram)) (polls_of rest r fs).log) (polls_of rest r fs).next (polls_of rest r fs).left in
       p.goes finds (next-front finds p.found one are)
-      ∙ ap (λ (w : Polled). polled (followed_by p.log w.log) w.next w.left) (polls-some rest mid mid_finds q.datagram next.0)
-      ∙ (λ i. polled (sym (log-assoc p.log (datagram_log mid q.datagram) (polls_of rest (datagram_next mid q.datagram) (later_finds mid_finds)).log) i) (polls_of rest (datagram_next mid q.datagram) (later_finds mid_finds)).next (polls_of rest (datagram_next mid q.datagram) (later_finds mid_finds)).left)
+      ∙ ap (λ (w : PollOutcome). poll_outcome (followed_by p.log w.log) w.next w.left) (polls-some rest mid mid_finds q.datagram next.0)
+      ∙ (λ i. poll_outcome (sym (log-assoc p.log (datagram_log mid q.datagram) (polls_of rest (datagram_next mid q.datagram) (later_finds mid_finds)).log) i) (polls_of rest (datagram_next mid q.datagram) (later_finds mid_finds)).next (polls_of rest (datagram_next mid q.datagram) (later_finds mid_finds)).left)
       ∙ (λ i. rest_of (sym q.next i) (sym left i));
 }
 
@@ -175,16 +175,16 @@ pub polls_stop : (count rest : ℕ) (old mid new : Router) (x y z : Option (List
 polls_stop count rest old mid new x y z a b c p q = record {
   found = p.found ++ None ∷ [];
   taken = found-join x y z p.found (None ∷ []) p.taken q.taken;
-  log = followed_by p.log (written none_line);
-  adds = adds-join a b c p.log (written none_line) p.adds q.adds;
+  log = followed_by p.log (text_log none_line);
+  adds = adds-join a b c p.log (text_log none_line) p.adds q.adds;
   is = λ finds are.
       let one = None ∷ [] in
       let mid_finds = left_after finds p.found in
       let next = next-rest finds p.found one are in
       let left : left_after finds (p.found ++ one) ≡ later_finds mid_finds = left-join finds p.found one in
       p.goes finds (next-front finds p.found one are)
-      ∙ ap (λ (w : Polled). polled (followed_by p.log w.log) w.next w.left) (polls-none rest mid mid_finds next.0)
-      ∙ (λ i. polled (followed_by p.log (written none_line)) (sym q.same i) (sym left i));
+      ∙ ap (λ (w : PollOutcome). poll_outcome (followed_by p.log w.log) w.next w.left) (polls-none rest mid mid_finds next.0)
+      ∙ (λ i. poll_outcome (followed_by p.log (text_log none_line)) (sym q.same i) (sym left i));
 }
 
 -- all calls were done
@@ -196,8 +196,8 @@ polls_end count old now x y a b p = record {
   adds = p.adds;
   is = λ finds are.
       p.goes finds are
-      ∙ ap (λ (w : Polled). polled (followed_by p.log w.log) w.next w.left) (polls-zero now (left_after finds p.found))
-      ∙ ap (λ (s : Log). polled s now (left_after finds p.found)) (log-nil p.log);
+      ∙ ap (λ (w : PollOutcome). poll_outcome (followed_by p.log w.log) w.next w.left) (polls-zero now (left_after finds p.found))
+      ∙ ap (λ (s : Log). poll_outcome s now (left_after finds p.found)) (log-nil p.log);
 }
 
 -- a call has failed
@@ -208,7 +208,7 @@ polls_failed count rest old mid x y z a b c p q = record {
   told = λ finds are.
       let mid_finds = left_after finds p.found in
       let all = p.goes finds (next-front finds p.found q.found are) in
-      subst (λ (w : Polled). AddsPrefix a c w.log) (sym all)
+      subst (λ (w : PollOutcome). AddsPrefix a c w.log) (sym all)
       (prefix-join a b c p.log (polls_of (suc rest) mid mid_finds).log p.adds (q.told mid_finds (next-rest finds p.found q.found are)));
 }
 
@@ -234,24 +234,24 @@ the_err x = Err x
 poll_err : (x y : Stop) → the_err x ≡ the_err y → x ≡ y
 poll_err x y e = cc
 
-pub poll_line_cut : (count : ℕ) (words : List ℕ) (old new : Router) (arrived : Option (List Datagram)) (a b : Outputs) (r : Result (Unit {0}) Stop) (e : Stop) → r ≡ Err e → e ≡ stop.WriteFault → AddsPrefix a b (written (line words)) → IsPollLine count words old arrived arrived a b new r
+pub poll_line_cut : (count : ℕ) (words : List ℕ) (old new : Router) (arrived : Option (List Datagram)) (a b : Outputs) (r : Result (Unit {0}) Stop) (e : Stop) → r ≡ Err e → e ≡ stop.WriteFault → AddsPrefix a b (text_log (line words)) → IsPollLine count words old arrived arrived a b new r
 poll_line_cut count words old new arrived a b (Ok u) e was is p = absurd cc
 poll_line_cut count words old new arrived a b (Err x) e was is p = (
   subst IsNotFull (sym (poll_err x e was ∙ is)) tt,
-  record { found = []; taken = found-none arrived; told = λ finds are. prefix-more a b (written (line words)) (polls_of count old finds).log p },
+  record { found = []; taken = found-none arrived; told = λ finds are. prefix-more a b (text_log (line words)) (polls_of count old finds).log p },
 )
 
-pub poll_line : (count : ℕ) (words : List ℕ) (old new : Router) (arrived left : Option (List Datagram)) (a b c : Outputs) (r : Result (Unit {0}) Stop) → Adds a b (written (line words)) → IsPollRun count old arrived left b c new r
+pub poll_line : (count : ℕ) (words : List ℕ) (old new : Router) (arrived left : Option (List Datagram)) (a b c : Outputs) (r : Result (Unit {0}) Stop) → Adds a b (text_log (line words)) → IsPollRun count old arrived left b c new r
     → IfErr r IsNotFull → IsPollLine count words old arrived left a c new r
 poll_line count words old new arrived left a b c (Ok u) p q full = record {
   found = q.found;
   taken = q.taken;
   log = q.log;
-  adds = adds-join a b c (written (line words)) q.log p q.adds;
+  adds = adds-join a b c (text_log (line words)) q.log p q.adds;
   is = q.is;
 }
 poll_line count words old new arrived left a b c (Err e) p q full =
-    (full, record { found = q.found; taken = q.taken; told = λ finds are. prefix-join a b c (written (line words)) (polls_of count old finds).log p (q.told finds are) })
+    (full, record { found = q.found; taken = q.taken; told = λ finds are. prefix-join a b c (text_log (line words)) (polls_of count old finds).log p (q.told finds are) })
 
 -- ---- where memory is short
 

@@ -4,15 +4,15 @@ use Rattle.std.specs.Prelude.{unwrap_or, OnErr}
 use Rattle.mesh_grammar.specs.Written.{line}
 use Rattle.mesh_link.specs.Datagrams.{Datagram}
 use Rattle.mesh_peers.specs.Peers.{PeersSeen, with_self, with_peer}
-use Rattle.mesh_peers.specs.Lines.{Accepted, Nothing, Own, Peer, Up, Down, Give, Polls, Turns, Sends, Asks, Shows, words_of}
+use Rattle.mesh_peers.specs.Lines.{AcceptedLine, Nothing, Own, Peer, Up, Down, Give, Polls, Turns, Sends, Asks, Shows, words_of}
 use Rattle.mesh_router.specs.declared.stop.Stop.{Stop}
 use Rattle.mesh_router.specs.declared.stop.Stop.TheVariants as stop
-use Rattle.mesh_router.specs.Logs.{nothing, written, followed_by}
+use Rattle.mesh_router.specs.Logs.{nothing, text_log, followed_by}
 use Rattle.mesh_router.specs.Routers.{Router, fresh_at, Stage, Joining, Running, peers_in, router_in, Moment, counted_at, opening_moment}
 use Rattle.mesh_router.specs.Turns.{StepOutcome, StepDone, StepFull}
 use Rattle.mesh_router.specs.Finds.{Find, left_after, AreFound}
 use Rattle.mesh_router.specs.Polls.{polls_of}
-use Rattle.mesh_router.specs.Lines.{LineOutcome, On, words_at, refused_words, joined, stepped, polled_line, step_of, outcome_of_line}
+use Rattle.mesh_router.specs.Lines.{LineOutcome, On, words_at, refused_words, join_outcome, act_outcome, polled_line, step_of, outcome_of_line}
 use Rattle.mesh_router.specs.Outputs.{Outputs, Adds, AddsPrefix}
 use Rattle.mesh_router.specs.Runs.{log_in, log_of, IsCommand, IsStepRun, IsPollLineDone, IsPollLineInPart, IsNotFull, IsLineInPart, IsLineRun}
 use Rattle.mesh_base.specs.declared.limits.TheConstants.{LONGEST_INPUT}
@@ -35,11 +35,11 @@ pub outcome_blank : (m : Moment) (finds : List Find) → outcome_of_line m Nothi
 unfolding outcome_of_line
 outcome_blank m finds = refl
 
-pub outcome_self : (m : Moment) (a first : ℕ) (finds : List Find) → outcome_of_line m (Own a first) finds ≡ joined m (Own a first) (Joining (with_self (peers_in m.stage) a first)) finds
+pub outcome_self : (m : Moment) (a first : ℕ) (finds : List Find) → outcome_of_line m (Own a first) finds ≡ join_outcome m (Own a first) (Joining (with_self (peers_in m.stage) a first)) finds
 unfolding outcome_of_line
 outcome_self m a first finds = refl
 
-pub outcome_peer : (m : Moment) (a port : ℕ) (finds : List Find) → outcome_of_line m (Peer a port) finds ≡ joined m (Peer a port) (Joining (with_peer (peers_in m.stage) a port)) finds
+pub outcome_peer : (m : Moment) (a port : ℕ) (finds : List Find) → outcome_of_line m (Peer a port) finds ≡ join_outcome m (Peer a port) (Joining (with_peer (peers_in m.stage) a port)) finds
 unfolding outcome_of_line
 outcome_peer m a port finds = refl
 
@@ -47,7 +47,7 @@ outcome_polls : (m : Moment) (count : ℕ) (finds : List Find) → outcome_of_li
 unfolding outcome_of_line
 outcome_polls m count finds = refl
 
-outcome_step : (m : Moment) (l : Accepted) (finds : List Find) → IsCommand l → outcome_of_line m l finds ≡ stepped m l finds (step_of (router_in m.stage) (words_at m.stage l) l)
+outcome_step : (m : Moment) (l : AcceptedLine) (finds : List Find) → IsCommand l → outcome_of_line m l finds ≡ act_outcome m l finds (step_of (router_in m.stage) (words_at m.stage l) l)
 unfolding outcome_of_line
 outcome_step m Nothing finds is = absurd is
 outcome_step m (Own a first) finds is = absurd is
@@ -73,20 +73,20 @@ line_untold k words next arrived a r e was is =
     (record { found = []; taken = found-none arrived; told = λ finds are. prefix-none a (log_of (k finds)) })
 
 -- a prefix of the one line that joins the mesh
-pub joined_cut : (m : Moment) (l : Accepted) (stage : Stage) (words : List ℕ) (next : Moment) (arrived : Option (List Datagram)) (a b : Outputs) (r : Result (Unit {0}) Stop) (e : Stop) → ((finds : List Find) → outcome_of_line m l finds ≡ joined m l stage finds)
-    → r ≡ Err e → e ≡ stop.WriteFault → AddsPrefix a b (written (line (words_at m.stage l))) → IsLineRun (outcome_of_line m l) words next arrived arrived a b r
+pub joined_cut : (m : Moment) (l : AcceptedLine) (stage : Stage) (words : List ℕ) (next : Moment) (arrived : Option (List Datagram)) (a b : Outputs) (r : Result (Unit {0}) Stop) (e : Stop) → ((finds : List Find) → outcome_of_line m l finds ≡ join_outcome m l stage finds)
+    → r ≡ Err e → e ≡ stop.WriteFault → AddsPrefix a b (text_log (line (words_at m.stage l))) → IsLineRun (outcome_of_line m l) words next arrived arrived a b r
 joined_cut m l stage words next arrived a b r e is was fault p =
     subst (IsLineRun (outcome_of_line m l) words next arrived arrived a b) (sym (was ∙ ap the_err fault))
     (record { found = []; taken = found-none arrived; told = λ finds are. subst (λ (k : LineOutcome). AddsPrefix a b (log_of k)) (sym (is finds)) p })
 
-pub joined_done : (m : Moment) (l : Accepted) (stage : Stage) (words : List ℕ) (next : Moment) (arrived : Option (List Datagram)) (a b : Outputs) → ((finds : List Find) → outcome_of_line m l finds ≡ joined m l stage finds)
-    → next ≡ counted_at m stage → Adds a b (written (line (words_at m.stage l))) → IsLineRun (outcome_of_line m l) words next arrived arrived a b (Ok tt)
+pub joined_done : (m : Moment) (l : AcceptedLine) (stage : Stage) (words : List ℕ) (next : Moment) (arrived : Option (List Datagram)) (a b : Outputs) → ((finds : List Find) → outcome_of_line m l finds ≡ join_outcome m l stage finds)
+    → next ≡ counted_at m stage → Adds a b (text_log (line (words_at m.stage l))) → IsLineRun (outcome_of_line m l) words next arrived arrived a b (Ok tt)
 joined_done m l stage words next arrived a b is at p = record {
   found = [];
   taken = found-none arrived;
-  log = written (line (words_at m.stage l));
+  log = text_log (line (words_at m.stage l));
   adds = p;
-  is = λ finds are. is finds ∙ ap (λ (n : Moment). On (written (line (words_at m.stage l))) n finds) (sym at);
+  is = λ finds are. is finds ∙ ap (λ (n : Moment). On (text_log (line (words_at m.stage l))) n finds) (sym at);
 }
 
 pub blank_done : (m next : Moment) (words : List ℕ) (arrived : Option (List Datagram)) (a : Outputs) → next ≡ counted_at m m.stage → Adds a a nothing → IsLineRun (outcome_of_line m Nothing) words next arrived arrived a a (Ok tt)
@@ -100,17 +100,17 @@ blank_done m next words arrived a at p = record {
 
 -- ---- a command
 
-step-at : (m : Moment) (l : Accepted) (s : StepOutcome) (finds : List Find) → IsCommand l → step_of (router_in m.stage) (words_at m.stage l) l ≡ s → outcome_of_line m l finds ≡ stepped m l finds s
-step-at m l s finds is e = outcome_step m l finds is ∙ ap (stepped m l finds) e
+step-at : (m : Moment) (l : AcceptedLine) (s : StepOutcome) (finds : List Find) → IsCommand l → step_of (router_in m.stage) (words_at m.stage l) l ≡ s → outcome_of_line m l finds ≡ act_outcome m l finds s
+step-at m l s finds is e = outcome_step m l finds is ∙ ap (act_outcome m l finds) e
 
 -- its words and its router are those that it has once it runs
-as_begun : (m begun : Moment) (l : Accepted) → begun ≡ record m { stage = Running (router_in m.stage) } → step_of (router_in m.stage) (words_at m.stage l) l ≡ step_of (router_in begun.stage) (words_at begun.stage l) l
+as_begun : (m begun : Moment) (l : AcceptedLine) → begun ≡ record m { stage = Running (router_in m.stage) } → step_of (router_in m.stage) (words_at m.stage l) l ≡ step_of (router_in begun.stage) (words_at begun.stage l) l
 as_begun m begun l at =
     ap (λ (p : PeersSeen). step_of (router_in m.stage) (words_of p.mesh l) l) (sym (router_peers m.stage))
     ∙ ap (λ (k : Moment). step_of (router_in k.stage) (words_at k.stage l) l) (sym at)
 
 -- the moment of a router that runs, by the stage that was shown
-pub step_line : (m begun : Moment) (l : Accepted) (new next : Moment) (arrived left : Option (List Datagram)) (a b : Outputs) → IsCommand l → begun ≡ record m { stage = Running (router_in m.stage) } → left ≡ arrived
+pub step_line : (m begun : Moment) (l : AcceptedLine) (new next : Moment) (arrived left : Option (List Datagram)) (a b : Outputs) → IsCommand l → begun ≡ record m { stage = Running (router_in m.stage) } → left ≡ arrived
     → IsStepRun (step_of (router_in begun.stage) (words_at begun.stage l) l) a b (router_in new.stage) (Ok tt)
     → next ≡ counted_at m (Running (router_in new.stage)) → IsLineRun (outcome_of_line m l) (refused_words m.stage l) next arrived left a b (Ok tt)
 step_line m begun l new next arrived left a b is at same p e =
@@ -122,11 +122,11 @@ step_line m begun l new next arrived left a b is at same p e =
       is = λ finds are. step-at m l (StepDone p.log (router_in new.stage)) finds is (q ∙ p.is) ∙ ap (λ (n : Moment). On p.log n finds) (sym e);
     }
 
-by_log : (m : Moment) (l : Accepted) (finds : List Find) (s : StepOutcome) (a b : Outputs) → AddsPrefix a b (log_in s) → AddsPrefix a b (log_of (stepped m l finds s))
+by_log : (m : Moment) (l : AcceptedLine) (finds : List Find) (s : StepOutcome) (a b : Outputs) → AddsPrefix a b (log_in s) → AddsPrefix a b (log_of (act_outcome m l finds s))
 by_log m l finds (StepDone log next) a b p = p
 by_log m l finds (StepFull log field) a b p = p
 
-pub step_stopped : (m begun : Moment) (l : Accepted) (new next : Moment) (arrived left : Option (List Datagram)) (a b : Outputs) (r : Result (Unit {0}) Stop) (e : Stop) → IsCommand l → begun ≡ record m { stage = Running (router_in m.stage) } → left ≡ arrived
+pub step_stopped : (m begun : Moment) (l : AcceptedLine) (new next : Moment) (arrived left : Option (List Datagram)) (a b : Outputs) (r : Result (Unit {0}) Stop) (e : Stop) → IsCommand l → begun ≡ record m { stage = Running (router_in m.stage) } → left ≡ arrived
     → r ≡ Err e → IsStepRun (step_of (router_in begun.stage) (words_at begun.stage l) l) a b (router_in new.stage) (Err e)
     → IsLineRun (outcome_of_line m l) (refused_words m.stage l) next arrived left a b r
 step_stopped m begun l new next arrived left a b r e is at same was p =
@@ -162,12 +162,12 @@ pub poll_done : (m begun : Moment) (count : ℕ) (new next : Moment) (arrived le
 poll_done m begun count new next arrived left a b at p e = record {
   found = p.found;
   taken = p.taken;
-  log = followed_by (written (line (words_at m.stage (Polls count)))) p.log;
-  adds = subst (λ (w : List ℕ). Adds a b (followed_by (written (line w)) p.log)) (sym (poll_words m begun count at)) p.adds;
+  log = followed_by (text_log (line (words_at m.stage (Polls count)))) p.log;
+  adds = subst (λ (w : List ℕ). Adds a b (followed_by (text_log (line w)) p.log)) (sym (poll_words m begun count at)) p.adds;
   is = λ finds are.
       outcome_polls m count finds
       ∙ ap (polled_line m (Polls count)) (ap (λ (k : Moment). polls_of count (router_in k.stage) finds) (sym at) ∙ p.is finds are)
-      ∙ ap (λ (n : Moment). On (followed_by (written (line (words_at m.stage (Polls count)))) p.log) n (left_after finds p.found)) (sym e);
+      ∙ ap (λ (n : Moment). On (followed_by (text_log (line (words_at m.stage (Polls count)))) p.log) n (left_after finds p.found)) (sym e);
 }
 
 pub poll_stopped : (m begun : Moment) (count : ℕ) (next : Moment) (arrived left : Option (List Datagram)) (a b : Outputs) (r : Result (Unit {0}) Stop) (e : Stop) → begun ≡ record m { stage = Running (router_in m.stage) }
@@ -182,8 +182,8 @@ poll_stopped m begun count next arrived left a b r e at was p =
       taken = (p.1).taken;
       told = λ finds are.
           subst (λ (k : LineOutcome). AddsPrefix a b (log_of k)) (sym (outcome_polls m count finds))
-          (subst (λ (k : Moment). AddsPrefix a b (followed_by (written (line (words_at m.stage (Polls count)))) (polls_of count (router_in k.stage) finds).log)) at
-          (subst (λ (w : List ℕ). AddsPrefix a b (followed_by (written (line w)) (polls_of count (router_in begun.stage) finds).log)) (sym (poll_words m begun count at)) ((p.1).told finds are)));
+          (subst (λ (k : Moment). AddsPrefix a b (followed_by (text_log (line (words_at m.stage (Polls count)))) (polls_of count (router_in k.stage) finds).log)) at
+          (subst (λ (w : List ℕ). AddsPrefix a b (followed_by (text_log (line w)) (polls_of count (router_in begun.stage) finds).log)) (sym (poll_words m begun count at)) ((p.1).told finds are)));
     }
 
     by_stop : (e : Stop) → IsNotFull e → IsLineRun (outcome_of_line m (Polls count)) (refused_words m.stage (Polls count)) next arrived left a b (Err e)

@@ -15,10 +15,10 @@ use Rattle.mesh_grammar.specs.declared.fault.BadWhy.TheVariants.{TooLong, TooMuc
 use Rattle.mesh_grammar.specs.Lines.{Piece, Whole, Long, Beyond, pieces_of}
 use Rattle.mesh_grammar.specs.Faults.{bad_line}
 use Rattle.mesh_peers.specs.Peers.{PeersSeen}
-use Rattle.mesh_peers.specs.Lines.{Accepted, line_of}
+use Rattle.mesh_peers.specs.Lines.{AcceptedLine, line_of}
 use Rattle.mesh_router.specs.declared.status.NodeStatus.{NodeStatus}
 use Rattle.mesh_router.specs.declared.status.NodeStatus.TheVariants as status
-use Rattle.mesh_router.specs.Logs.{Log, nothing, written}
+use Rattle.mesh_router.specs.Logs.{Log, nothing, text_log}
 use Rattle.mesh_router.specs.Routers.{Moment, peers_in, is_running, opening_moment}
 use Rattle.mesh_router.specs.Finds.{Find, left_after, arrivals, AreFound}
 use Rattle.mesh_router.specs.Lines.{LineOutcome, On, Refused, Full, outcome_of_piece, outcome_of_read, outcome_of_line}
@@ -53,12 +53,12 @@ unfolding outcome_of_piece
 piece-beyond m finds = refl
 
 -- a line that was read
-pub read_line : (m : Moment) (p : PeersSeen) (started : Bool) (bytes : List ℕ) (r : Result Accepted LineFault) → p ≡ peers_in m.stage → started ≡ is_running m.stage → r ≡ line_of p started bytes
+pub read_line : (m : Moment) (p : PeersSeen) (started : Bool) (bytes : List ℕ) (r : Result AcceptedLine LineFault) → p ≡ peers_in m.stage → started ≡ is_running m.stage → r ≡ line_of p started bytes
     → (finds : List Find) → outcome_of_piece m (Whole bytes) finds ≡ outcome_of_read m r finds
 read_line m p started bytes r e f is = λ finds.
-    piece-whole m bytes finds ∙ ap (λ (o : Result Accepted LineFault). outcome_of_read m o finds) ((λ i. line_of (sym e i) (sym f i) bytes) ∙ sym is)
+    piece-whole m bytes finds ∙ ap (λ (o : Result AcceptedLine LineFault). outcome_of_read m o finds) ((λ i. line_of (sym e i) (sym f i) bytes) ∙ sym is)
 
-pub line_done : (m n : Moment) (piece : Piece) (l : Accepted) (x y : Option (List Datagram)) (a b : Outputs) → ((finds : List Find) → outcome_of_piece m piece finds ≡ outcome_of_line m l finds) → IsLineDone (outcome_of_line m l) n x y a b → IsLineDone (outcome_of_piece m piece) n x y a b
+pub line_done : (m n : Moment) (piece : Piece) (l : AcceptedLine) (x y : Option (List Datagram)) (a b : Outputs) → ((finds : List Find) → outcome_of_piece m piece finds ≡ outcome_of_line m l finds) → IsLineDone (outcome_of_line m l) n x y a b → IsLineDone (outcome_of_piece m piece) n x y a b
 line_done m n piece l x y a b e p = record { found = p.found; taken = p.taken; log = p.log; adds = p.adds; is = λ finds are. e finds ∙ p.is finds are }
 
 -- ---- where the run ends at a line
@@ -72,38 +72,38 @@ told_refused m piece why pieces x a b s e p = record {
       subst (λ (r : Run). IsOutput a b r s) (sym (run-cons m piece pieces finds ∙ ap (λ (k : LineOutcome). goes_on m k (λ n left. run_from n pieces left)) (e finds))) p;
 }
 
-run-full : (m : Moment) (piece : Piece) (l : Accepted) (pieces : List Piece) (finds : List Find) (log : Log) (words : List ℕ) (field : Counter) → ((fs : List Find) → outcome_of_piece m piece fs ≡ outcome_of_line m l fs) → outcome_of_line m l finds ≡ Full log words field
+run-full : (m : Moment) (piece : Piece) (l : AcceptedLine) (pieces : List Piece) (finds : List Find) (log : Log) (words : List ℕ) (field : Counter) → ((fs : List Find) → outcome_of_piece m piece fs ≡ outcome_of_line m l fs) → outcome_of_line m l finds ≡ Full log words field
     → run_from m (piece ∷ pieces) finds ≡ overfull_run m log words field
 run-full m piece l pieces finds log words field e is =
     run-cons m piece pieces finds ∙ ap (λ (k : LineOutcome). goes_on m k (λ n left. run_from n pieces left)) (e finds ∙ is)
 
-pub told_full : (m : Moment) (piece : Piece) (l : Accepted) (words : List ℕ) (field : Counter) (pieces : List Piece) (x y : Option (List Datagram)) (a b c : Outputs) → ((finds : List Find) → outcome_of_piece m piece finds ≡ outcome_of_line m l finds)
-    → IsLineFull (outcome_of_line m l) words field x y a b → Adds b c (written (full_line (m.lines + 1) words field)) → IsTold (run_from m (piece ∷ pieces)) x y a c (status.Full (m.lines + 1))
+pub told_full : (m : Moment) (piece : Piece) (l : AcceptedLine) (words : List ℕ) (field : Counter) (pieces : List Piece) (x y : Option (List Datagram)) (a b c : Outputs) → ((finds : List Find) → outcome_of_piece m piece finds ≡ outcome_of_line m l finds)
+    → IsLineFull (outcome_of_line m l) words field x y a b → Adds b c (text_log (full_line (m.lines + 1) words field)) → IsTold (run_from m (piece ∷ pieces)) x y a c (status.Full (m.lines + 1))
 told_full m piece l words field pieces x y a b c e p q = record {
   found = [];
   taken = subst (λ (o : Option (List Datagram)). AreFound x o []) (sym p.same) (found-none x);
   told = λ finds are.
       subst (λ (r : Run). IsOutput a c r (status.Full (m.lines + 1))) (sym (run-full m piece l pieces finds p.log words field e (p.is finds)))
-      (refl, adds-join a b c p.log (written (full_line (m.lines + 1) words field)) p.adds q);
+      (refl, adds-join a b c p.log (text_log (full_line (m.lines + 1) words field)) p.adds q);
 }
 
-pub told_full_cut : (m : Moment) (piece : Piece) (l : Accepted) (words : List ℕ) (field : Counter) (pieces : List Piece) (x y : Option (List Datagram)) (a b c : Outputs) → ((finds : List Find) → outcome_of_piece m piece finds ≡ outcome_of_line m l finds)
-    → IsLineFull (outcome_of_line m l) words field x y a b → AddsPrefix b c (written (full_line (m.lines + 1) words field)) → IsTold (run_from m (piece ∷ pieces)) x y a c status.WriteFault
+pub told_full_cut : (m : Moment) (piece : Piece) (l : AcceptedLine) (words : List ℕ) (field : Counter) (pieces : List Piece) (x y : Option (List Datagram)) (a b c : Outputs) → ((finds : List Find) → outcome_of_piece m piece finds ≡ outcome_of_line m l finds)
+    → IsLineFull (outcome_of_line m l) words field x y a b → AddsPrefix b c (text_log (full_line (m.lines + 1) words field)) → IsTold (run_from m (piece ∷ pieces)) x y a c status.WriteFault
 told_full_cut m piece l words field pieces x y a b c e p q = record {
   found = [];
   taken = subst (λ (o : Option (List Datagram)). AreFound x o []) (sym p.same) (found-none x);
   told = λ finds are.
       subst (λ (r : Run). AddsPrefix a c r.log) (sym (run-full m piece l pieces finds p.log words field e (p.is finds)))
-      (prefix-join a b c p.log (written (full_line (m.lines + 1) words field)) p.adds q);
+      (prefix-join a b c p.log (text_log (full_line (m.lines + 1) words field)) p.adds q);
 }
 
 -- a prefix of what a line says is one of what the run says
 first_of_run : (m : Moment) (k : LineOutcome) (others : Moment → List Find → Run) (a b : Outputs) → AddsPrefix a b (log_of k) → AddsPrefix a b (goes_on m k others).log
 first_of_run m (On log n left) others a b p = prefix-more a b log (others n left).log p
-first_of_run m (Refused why) others a b p = prefix-more a b nothing (written (bad_line (m.lines + 1) why)) p
-first_of_run m (Full log words field) others a b p = prefix-more a b log (written (full_line (m.lines + 1) words field)) p
+first_of_run m (Refused why) others a b p = prefix-more a b nothing (text_log (bad_line (m.lines + 1) why)) p
+first_of_run m (Full log words field) others a b p = prefix-more a b log (text_log (full_line (m.lines + 1) words field)) p
 
-pub told_in_part : (m : Moment) (piece : Piece) (l : Accepted) (pieces : List Piece) (x y : Option (List Datagram)) (a b : Outputs) (s : NodeStatus) → ((finds : List Find) → outcome_of_piece m piece finds ≡ outcome_of_line m l finds)
+pub told_in_part : (m : Moment) (piece : Piece) (l : AcceptedLine) (pieces : List Piece) (x y : Option (List Datagram)) (a b : Outputs) (s : NodeStatus) → ((finds : List Find) → outcome_of_piece m piece finds ≡ outcome_of_line m l finds)
     → ((r : Run) → AddsPrefix a b r.log → IsOutput a b r s) → IsLineInPart (outcome_of_line m l) x y a b → IsTold (run_from m (piece ∷ pieces)) x y a b s
 told_in_part m piece l pieces x y a b s e cut p = record {
   found = p.found;

@@ -31,13 +31,13 @@ use Rattle.mesh_report.specs.Legible.{IsTookLegible}
 use Rattle.mesh_peers.specs.Peers.{PeersSeen}
 use Rattle.mesh_router.specs.declared.stop.Stop.{Stop}
 use Rattle.mesh_router.specs.declared.stop.Stop.TheVariants as stop
-use Rattle.mesh_router.specs.Logs.{Log, nothing, written, followed_by}
+use Rattle.mesh_router.specs.Logs.{Log, nothing, text_log, followed_by}
 use Rattle.mesh_router.specs.Routers.{Router}
 use Rattle.mesh_router.specs.Casts.{sent_to_each, reached_by, cast_packet, effect_log}
 use Rattle.mesh_router.specs.Turns as turns
-use Rattle.mesh_router.specs.Turns.{TurnOutcome, StepOutcome, StepDone, StepFull, log_before, with_others, turns_of, turn_on, next_turn, handled, handled_turn, packet_turn, dropped_turn, turn_log, drop_line, refusal_words, stranger_words, idle_line}
+use Rattle.mesh_router.specs.Turns.{TurnOutcome, StepOutcome, StepDone, StepFull, log_before, with_others, turns_of, turn_on, next_turn, front_outcome, handled_turn, packet_turn, dropped_turn, turn_log, drop_line, refusal_words, stranger_words, idle_line}
 use Rattle.mesh_router.specs.Outputs.{Outputs, Adds, AddsPrefix, IsFault}
-use Rattle.mesh_router.specs.Peers.{reached, code_log}
+use Rattle.mesh_router.specs.Peers.{receivers_of, code_log}
 use Rattle.mesh_router.specs.Runs.{log_by, log_in, IsTurnDone, IsTurnIdle, IsTurnFull, IsTurnRun, IsStepDone, IsStepFull, IsStepRun}
 use Rattle.mesh_router.specs.Short.{IsTurnShort, HoldsAfter, AreTurnsShort}
 use Rattle.mesh_router.proofs.Logging.{log-assoc, log-nil, written-append, adds-none, adds-join, prefix-join, prefix-more}
@@ -109,10 +109,10 @@ effect_meant mesh e effect out is in_mesh named did sent =
 -- ---- its log
 
 pub log_effect : (r : Router) (e : effects.Effect) (out : List ℕ) → cast_packet (r.peers).mesh (cast_in (r.peers).mesh e.cast out) ≡ out
-    → followed_by (written (broken_text (r.peers).mesh e.broken ++ cast_text (r.peers).mesh (cast_in (r.peers).mesh e.cast out))) (sent_to_each r.peers out (reached r.peers r.range e.cast out))
+    → followed_by (text_log (broken_text (r.peers).mesh e.broken ++ cast_text (r.peers).mesh (cast_in (r.peers).mesh e.cast out))) (sent_to_each r.peers out (receivers_of r.peers r.range e.cast out))
     ≡ effect_log r (effect_in (r.peers).mesh e out)
 log_effect r e out packet =
-    ap (λ (l : List ℕ). followed_by (written (broken_text (r.peers).mesh e.broken ++ cast_text (r.peers).mesh (cast_in (r.peers).mesh e.cast out))) (sent_to_each r.peers l (reached r.peers r.range e.cast out))) (sym packet)
+    ap (λ (l : List ℕ). followed_by (text_log (broken_text (r.peers).mesh e.broken ++ cast_text (r.peers).mesh (cast_in (r.peers).mesh e.cast out))) (sent_to_each r.peers l (receivers_of r.peers r.range e.cast out))) (sym packet)
 
 -- of a turn
 pub log_turn : (r : Router) (t : taken.Took) (e : effects.Effect) (effect : Effect) (took : Took) (out : List ℕ) → IsEffectMeant (r.peers).mesh e effect out → took_in (r.peers).mesh t ≡ took
@@ -121,14 +121,14 @@ log_turn r t e effect took out m is =
     let mesh = (r.peers).mesh in
     let front : List ℕ = took_text mesh (r.core).ip (took_in mesh t) ++ datum_fate mesh (r.core).ip (took_in mesh t) (effect_in mesh e out) in
     let others : List ℕ = broken_text mesh e.broken ++ cast_text mesh (cast_in mesh e.cast out) in
-    let each = sent_to_each r.peers out (reached r.peers r.range e.cast out) in
+    let each = sent_to_each r.peers out (receivers_of r.peers r.range e.cast out) in
     ap (λ (s : Log). followed_by s each) (written-append front others)
-    ∙ log-assoc (written front) (written others) each
-    ∙ ap (followed_by (written front)) (log_effect r e out m.packet)
+    ∙ log-assoc (text_log front) (text_log others) each
+    ∙ ap (followed_by (text_log front)) (log_effect r e out m.packet)
     ∙ (λ i. turn_log r (is i) (sym m.means i))
 
 -- how many they are
-pub reached_is : (r : Router) (e : effects.Effect) (effect : Effect) (out : List ℕ) → IsEffectMeant (r.peers).mesh e effect out → reached r.peers r.range e.cast out ≡ reached_by r effect.cast
+pub reached_is : (r : Router) (e : effects.Effect) (effect : Effect) (out : List ℕ) → IsEffectMeant (r.peers).mesh e effect out → receivers_of r.peers r.range e.cast out ≡ reached_by r effect.cast
 reached_is r e effect out m = ap (λ (k : Effect). reached_by r k.cast) (sym m.means)
 
 -- ---- what was taken
@@ -175,7 +175,7 @@ on-strange r from bytes rest who e s = λ i. packet_turn r rest from bytes (e i)
 -- a front item that can be read is taken
 pub record IsTurnMeant (p : PeersSeen) (me : ℕ) (node new : NodeSeen) (near : NodeIds) (heard sent dropped : ℕ) (t : taken.Took) (e : effects.Effect) (out : List ℕ) : Type 0 where
   pub is : next_turn (router_as p node near heard sent dropped) ≡ turns.Done (code_log p near me (Some t) e out)
-      (router_as p new near heard (sent + length (reached p near e.cast out)) dropped)
+      (router_as p new near heard (sent + length (receivers_of p near e.cast out)) dropped)
   pub legible : IsTookLegible p.mesh t
   pub cast : IsCastWritten p.mesh e.cast out
   pub broken : IfSome e.broken (λ y. y < length p.mesh)
@@ -197,10 +197,10 @@ turn_meant p me node new near heard sent dropped d t out is mine sound size h to
     let took_in_is : took_in mesh t ≡ took node.core i = ap (took_in mesh) (took_is ∙ h.took) ∙ took_means mesh node.core h.front in
     record {
       is = ap (turn_on r) h.was ∙ on-readable r h.front new.items h.readable
-          ∙ ap (λ (o : Option Counter). handled r new.items (took node.core i) o reaction) (h.made).free
+          ∙ ap (λ (o : Option Counter). front_outcome r new.items (took node.core i) o reaction) (h.made).free
           ∙ (λ k. turns.Done (sym (log_turn r t d.effect reaction.effect (took node.core i) out m took_in_is) k)
           (record { peers = p; core = sym (h.made).core k; queue = new.items; range = near; heard = heard; sent = sent + length (sym (reached_is r d.effect reaction.effect out m) k); dropped = dropped }))
-          ∙ ap (λ (x : ℕ). turns.Done (code_log p near x (Some t) d.effect out) (router_as p new near heard (sent + length (reached p near d.effect.cast out)) dropped)) (sym mine);
+          ∙ ap (λ (x : ℕ). turns.Done (code_log p near x (Some t) d.effect out) (router_as p new near heard (sent + length (receivers_of p near d.effect.cast out)) dropped)) (sym mine);
       legible = subst (IsTookLegible mesh) (sym (took_is ∙ h.took)) (took_legible mesh (node.core).ip node.core h.front at h.readable);
       cast = m.cast;
       broken = m.broken;
@@ -208,20 +208,20 @@ turn_meant p me node new near heard sent dropped d t out is mine sound size h to
 
 -- a front packet that can't be read, or names a stranger, is dropped
 pub turn_refused : (p : PeersSeen) (node new : NodeSeen) (near : NodeIds) (heard sent dropped from : ℕ) (why : WireError) → (bytes : List ℕ) × (refusal bytes ≡ Some why) × IsDropped node from bytes new
-    → next_turn (router_as p node near heard sent dropped) ≡ turns.Done (written (drop_line p.mesh from (refusal_words why))) (router_as p new near heard sent (dropped + 1))
+    → next_turn (router_as p node near heard sent dropped) ≡ turns.Done (text_log (drop_line p.mesh from (refusal_words why))) (router_as p new near heard sent (dropped + 1))
 turn_refused p node new near heard sent dropped from why h =
     let r = router_as p node near heard sent dropped in
     let gone = h.2 in
     ap (turn_on r) gone.was ∙ on-refused r from h.0 new.items why h.1
-    ∙ (λ k. turns.Done (written (drop_line p.mesh from (refusal_words why))) (record { peers = p; core = sym gone.core k; queue = new.items; range = near; heard = heard; sent = sent; dropped = dropped + 1 }))
+    ∙ (λ k. turns.Done (text_log (drop_line p.mesh from (refusal_words why))) (record { peers = p; core = sym gone.core k; queue = new.items; range = near; heard = heard; sent = sent; dropped = dropped + 1 }))
 
 pub turn_strange : (p : PeersSeen) (node new : NodeSeen) (near : NodeIds) (heard sent dropped from : ℕ) (who : Addr) → (bytes : List ℕ) × (refusal bytes ≡ None) × (stranger p.mesh (message_in_fields bytes) ≡ Some who) × IsDropped node from bytes new
-    → next_turn (router_as p node near heard sent dropped) ≡ turns.Done (written (drop_line p.mesh from (stranger_words who))) (router_as p new near heard sent (dropped + 1))
+    → next_turn (router_as p node near heard sent dropped) ≡ turns.Done (text_log (drop_line p.mesh from (stranger_words who))) (router_as p new near heard sent (dropped + 1))
 turn_strange p node new near heard sent dropped from who h =
     let r = router_as p node near heard sent dropped in
     let gone = h.3 in
     ap (turn_on r) gone.was ∙ on-strange r from h.0 new.items who h.1 h.2
-    ∙ (λ k. turns.Done (written (drop_line p.mesh from (stranger_words who))) (record { peers = p; core = sym gone.core k; queue = new.items; range = near; heard = heard; sent = sent; dropped = dropped + 1 }))
+    ∙ (λ k. turns.Done (text_log (drop_line p.mesh from (stranger_words who))) (record { peers = p; core = sym gone.core k; queue = new.items; range = near; heard = heard; sent = sent; dropped = dropped + 1 }))
 
 -- the sender of a packet that was taken is in the mesh
 pub sender_below : (p : PeersSeen) (node new : NodeSeen) (from : ℕ) (bytes : List ℕ) → IsSoundNode node → node.size ≡ length p.mesh → IsDropped node from bytes new → from < length p.mesh
@@ -239,7 +239,7 @@ turn_full_at p node near heard sent dropped field h =
     let r = router_as p node near heard sent dropped in
     let i = item_in p.mesh h.front in
     ap (turn_on r) h.was ∙ on-readable r h.front h.rest h.readable
-    ∙ ap (λ (o : Option Counter). handled r h.rest (took node.core i) o (turn node.core near i)) h.full
+    ∙ ap (λ (o : Option Counter). front_outcome r h.rest (took node.core i) o (turn node.core near i)) h.full
 
 -- ---- what is told of a turn
 
@@ -314,9 +314,9 @@ turns_next count rest old mid new a b c p q = record {
 
 pub turns_stop : (count rest : ℕ) (old mid new : Router) (a b c : Outputs) → AreDone count (suc rest) old mid a b → IsTurnIdle (next_turn mid) mid new b c → IsStepDone (turns_of count old) new a c
 turns_stop count rest old mid new a b c p q = record {
-  log = followed_by p.log (written idle_line);
-  adds = adds-join a b c p.log (written idle_line) p.adds q.adds;
-  is = p.goes ∙ ap (log_before p.log) (turns-by rest mid turns.Idle q.is) ∙ ap (λ (r : Router). StepDone (followed_by p.log (written idle_line)) r) (sym q.same);
+  log = followed_by p.log (text_log idle_line);
+  adds = adds-join a b c p.log (text_log idle_line) p.adds q.adds;
+  is = p.goes ∙ ap (log_before p.log) (turns-by rest mid turns.Idle q.is) ∙ ap (λ (r : Router). StepDone (followed_by p.log (text_log idle_line)) r) (sym q.same);
 }
 
 pub turns_end : (count : ℕ) (old now : Router) (a b : Outputs) → AreDone count 0 old now a b → IsStepDone (turns_of count old) now a b

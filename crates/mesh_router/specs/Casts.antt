@@ -11,7 +11,7 @@ use Rattle.mesh_text.specs.Lines.{name_of}
 use Rattle.mesh_text.specs.Effects.{broken_text, cast_text}
 use Rattle.mesh_link.specs.Datagrams.{datagram}
 use Rattle.mesh_peers.specs.Peers.{PeersSeen}
-use Rattle.mesh_router.specs.Logs.{Log, Sent, nothing, written, followed_by}
+use Rattle.mesh_router.specs.Logs.{Log, Sent, nothing, text_log, followed_by}
 use Rattle.mesh_router.specs.Routers.{Router}
 
 -- the port of a node
@@ -24,7 +24,7 @@ to_line p x = line (codes "  to " ++ name_of p.mesh x ++ 32 ∷ decimal (port_at
 
 abbrev pub sent_to : PeersSeen → List ℕ → ℕ → Log
 sent_to p packet x =
-    followed_by (written (to_line p x)) (Sent (datagram (port_at p x) packet) ∷ [])
+    followed_by (text_log (to_line p x)) (Sent (datagram (port_at p x) packet) ∷ [])
 
 -- the same for some nodes, one after another
 abbrev pub sent_to_each : PeersSeen → List ℕ → List ℕ → Log
@@ -48,12 +48,12 @@ cast_log r cast = sent_to_each r.peers (cast_packet (r.peers).mesh cast) (reache
 -- a failed unicast, what was cast, and to whom it goes
 abbrev pub effect_log : Router → Effect → Log
 effect_log r e =
-    followed_by (written (broken_text (r.peers).mesh e.broken ++ cast_text (r.peers).mesh e.cast))
+    followed_by (text_log (broken_text (r.peers).mesh e.broken ++ cast_text (r.peers).mesh e.cast))
     (cast_log r e.cast)
 
 -- the router once its node has reacted, and has this queue
-abbrev pub reacted : Router → List Item → Reaction → Router
-reacted r queue reaction = record r {
+abbrev pub after_reaction : Router → List Item → Reaction → Router
+after_reaction r queue reaction = record r {
   core = reaction.core;
   queue = queue;
   sent = r.sent + length (reached_by r (reaction.effect).cast);

@@ -14,12 +14,12 @@ use Rattle.mesh_grammar.specs.Lines.{Piece, Whole, Long, Beyond}
 use Rattle.mesh_grammar.specs.Written.{line}
 use Rattle.mesh_text.specs.Tables.{node_text}
 use Rattle.mesh_peers.specs.Peers.{with_self, with_peer}
-use Rattle.mesh_peers.specs.Lines.{Accepted, Nothing, Own, Peer, Up, Down, Give, Polls, Turns, Sends, Asks, Shows, line_of, words_of}
-use Rattle.mesh_router.specs.Logs.{Log, nothing, written, followed_by}
+use Rattle.mesh_peers.specs.Lines.{AcceptedLine, Nothing, Own, Peer, Up, Down, Give, Polls, Turns, Sends, Asks, Shows, line_of, words_of}
+use Rattle.mesh_router.specs.Logs.{Log, nothing, text_log, followed_by}
 use Rattle.mesh_router.specs.Routers.{Router, Stage, Joining, Running, peers_in, router_in, is_running, Moment, counted_at}
 use Rattle.mesh_router.specs.Turns.{StepOutcome, StepDone, StepFull, log_before, turns_of, act_of, idle_line}
 use Rattle.mesh_router.specs.Finds.{Find}
-use Rattle.mesh_router.specs.Polls.{Polled, polls_of}
+use Rattle.mesh_router.specs.Polls.{PollOutcome, polls_of}
 
 -- what a line comes to: its log, the next moment, and what is left to be found; why it is
 -- refused; or its log before a counter is full, and the words of what was refused for it
@@ -29,77 +29,77 @@ pub data LineOutcome : Type 0 where
   Full : Log → (words : List ℕ) → Counter → LineOutcome
 
 -- the words of a line with the mesh of a moment
-abbrev pub words_at : Stage → Accepted → List ℕ
+abbrev pub words_at : Stage → AcceptedLine → List ℕ
 words_at stage l = words_of (peers_in stage).mesh l
 
 -- the words of what is refused for a full counter: a `turn` line may have done some of its turns
-abbrev pub refused_in : Nodes → Accepted → List ℕ
+abbrev pub refused_in : Nodes → AcceptedLine → List ℕ
 refused_in mesh (Turns count) = codes "turn"
 refused_in mesh others = words_of mesh others
 
-abbrev pub refused_words : Stage → Accepted → List ℕ
+abbrev pub refused_words : Stage → AcceptedLine → List ℕ
 refused_words stage l = refused_in (peers_in stage).mesh l
 
 -- one more node in the mesh
-abbrev pub joined : Moment → Accepted → Stage → List Find → LineOutcome
-joined m l next finds = On (written (line (words_at m.stage l))) (counted_at m next) finds
+abbrev pub join_outcome : Moment → AcceptedLine → Stage → List Find → LineOutcome
+join_outcome m l next finds = On (text_log (line (words_at m.stage l))) (counted_at m next) finds
 
 -- a command that makes the router act
-abbrev pub stepped : Moment → Accepted → List Find → StepOutcome → LineOutcome
-stepped m l finds (StepDone log next) = On log (counted_at m (Running next)) finds
-stepped m l finds (StepFull log field) = Full log (refused_words m.stage l) field
+abbrev pub act_outcome : Moment → AcceptedLine → List Find → StepOutcome → LineOutcome
+act_outcome m l finds (StepDone log next) = On log (counted_at m (Running next)) finds
+act_outcome m l finds (StepFull log field) = Full log (refused_words m.stage l) field
 
 -- datagrams that are received
-abbrev pub polled_line : Moment → Accepted → Polled → LineOutcome
+abbrev pub polled_line : Moment → AcceptedLine → PollOutcome → LineOutcome
 polled_line m l p =
-    On (followed_by (written (line (words_at m.stage l))) p.log)
+    On (followed_by (text_log (line (words_at m.stage l))) p.log)
     (counted_at m (Running p.next)) p.left
 
 -- ---- steps that cast nothing
 
 -- a peer comes into range or leaves it, below its line; the line is idle where it is there already,
 -- or isn't there
-abbrev pub ranged : Router → List ℕ → Bool → NodeIds → StepOutcome
-ranged r words changes range =
-    if changes then StepDone (written (line words)) (record r { range = range })
-    else StepDone (written (line words ++ idle_line)) r
+abbrev pub range_outcome : Router → List ℕ → Bool → NodeIds → StepOutcome
+range_outcome r words changes range =
+    if changes then StepDone (text_log (line words)) (record r { range = range })
+    else StepDone (text_log (line words ++ idle_line)) r
 
-abbrev pub given : Router → List ℕ → ℕ → List ℕ → StepOutcome
-given r words dest body =
-    StepDone (written (line words)) (record r { queue = r.queue ++ New dest body ∷ [] })
+abbrev pub give_outcome : Router → List ℕ → ℕ → List ℕ → StepOutcome
+give_outcome r words dest body =
+    StepDone (text_log (line words)) (record r { queue = r.queue ++ New dest body ∷ [] })
 
-abbrev pub shown : Router → List ℕ → StepOutcome
-shown r words =
-    StepDone (written (line words ++ node_text (r.peers).mesh r.core (length r.queue))) r
+abbrev pub show_outcome : Router → List ℕ → StepOutcome
+show_outcome r words =
+    StepDone (text_log (line words ++ node_text (r.peers).mesh r.core (length r.queue))) r
 
 -- ---- all lines
 
 -- what a command makes the router do, whose line has these words. The others leave it as it is
-unfoldable pub step_of : Router → List ℕ → Accepted → StepOutcome
+unfoldable pub step_of : Router → List ℕ → AcceptedLine → StepOutcome
 step_of r words (Up x) =
-    ranged r words (not (sets.contains r.range x)) (sets.insert r.range x)
-step_of r words (Down x) = ranged r words (sets.contains r.range x) (sets.remove r.range x)
-step_of r words (Give dest body) = given r words dest body
-step_of r words (Turns count) = log_before (written (line words)) (turns_of count r)
+    range_outcome r words (not (sets.contains r.range x)) (sets.insert r.range x)
+step_of r words (Down x) = range_outcome r words (sets.contains r.range x) (sets.remove r.range x)
+step_of r words (Give dest body) = give_outcome r words dest body
+step_of r words (Turns count) = log_before (text_log (line words)) (turns_of count r)
 step_of r words (Sends d) =
     act_of r words (may_send r.core d) (send_full r.core r.range d) (send r.core r.range d)
 step_of r words (Asks d) = act_of r words (may_ask r.core d) (ask_full r.core) (ask r.core d)
-step_of r words Shows = shown r words
+step_of r words Shows = show_outcome r words
 step_of r words others = StepDone nothing r
 
 -- an allowed line at a moment
-unfoldable pub outcome_of_line : Moment → Accepted → List Find → LineOutcome
+unfoldable pub outcome_of_line : Moment → AcceptedLine → List Find → LineOutcome
 outcome_of_line m Nothing finds = On nothing (counted_at m m.stage) finds
 outcome_of_line m (Own a first) finds =
-    joined m (Own a first) (Joining (with_self (peers_in m.stage) a first)) finds
+    join_outcome m (Own a first) (Joining (with_self (peers_in m.stage) a first)) finds
 outcome_of_line m (Peer a port) finds =
-    joined m (Peer a port) (Joining (with_peer (peers_in m.stage) a port)) finds
+    join_outcome m (Peer a port) (Joining (with_peer (peers_in m.stage) a port)) finds
 outcome_of_line m (Polls count) finds =
     polled_line m (Polls count) (polls_of count (router_in m.stage) finds)
 outcome_of_line m others finds =
-    stepped m others finds (step_of (router_in m.stage) (words_at m.stage others) others)
+    act_outcome m others finds (step_of (router_in m.stage) (words_at m.stage others) others)
 
-abbrev pub outcome_of_read : Moment → Result Accepted LineFault → List Find → LineOutcome
+abbrev pub outcome_of_read : Moment → Result AcceptedLine LineFault → List Find → LineOutcome
 outcome_of_read m (Ok l) finds = outcome_of_line m l finds
 outcome_of_read m (Err fault) finds = Refused (Fault fault)
 

@@ -15,8 +15,8 @@ abbrev pub nothing : Log
 nothing = []
 
 -- this text
-unfoldable pub written : List ℕ → Log
-written text = map Byte text
+unfoldable pub text_log : List ℕ → Log
+text_log text = map Byte text
 
 abbrev pub followed_by : Log → Log → Log
 followed_by a b = a ++ b

@@ -9,10 +9,10 @@ use Rattle.mesh_base.specs.declared.events.Took.{Took}
 use Rattle.mesh_meaning.specs.Answers.{cast_in, effect_in, took_in}
 use Rattle.mesh_model.specs.Worlds.{members_below, receivers}
 use Rattle.mesh_grammar.specs.Written.{line}
-use Rattle.mesh_peers.specs.Lines.{Accepted, words_of}
+use Rattle.mesh_peers.specs.Lines.{AcceptedLine, words_of}
 use Rattle.mesh_peers.specs.Peers.{PeersSeen}
 use Rattle.mesh_text.specs.Effects.{took_text, datum_fate, broken_text, cast_text}
-use Rattle.mesh_router.specs.Logs.{Log, written, followed_by}
+use Rattle.mesh_router.specs.Logs.{Log, text_log, followed_by}
 use Rattle.mesh_router.specs.Casts.{sent_to_each}
 
 -- another node of the mesh
@@ -23,8 +23,8 @@ abbrev pub ArePeers : PeersSeen → NodeIds → Type 0
 ArePeers p s = (x : ℕ) → sets.contains s x ≡ true → IsPeer p x
 
 -- those in range to whom a cast goes, by the packet that is cast
-abbrev pub reached : PeersSeen → NodeIds → Cast → List ℕ → List ℕ
-reached p range cast packet =
+abbrev pub receivers_of : PeersSeen → NodeIds → Cast → List ℕ → List ℕ
+receivers_of p range cast packet =
     members_below (length p.mesh) (receivers range (cast_in p.mesh cast packet))
 
 -- what node x took, if it did a turn, and what became of that
@@ -42,10 +42,10 @@ code_text mesh x t e packet =
 -- the log of what node x did
 abbrev pub code_log : PeersSeen → NodeIds → ℕ → Option Took → Effect → List ℕ → Log
 code_log p range x t e packet =
-    followed_by (written (code_text p.mesh x t e packet))
-    (sent_to_each p packet (reached p range e.cast packet))
+    followed_by (text_log (code_text p.mesh x t e packet))
+    (sent_to_each p packet (receivers_of p range e.cast packet))
 
 -- the log of what it did of its own accord, below its line
-abbrev pub act_log : PeersSeen → NodeIds → ℕ → Accepted → Effect → List ℕ → Log
+abbrev pub act_log : PeersSeen → NodeIds → ℕ → AcceptedLine → Effect → List ℕ → Log
 act_log p range x l effect packet =
-    followed_by (written (line (words_of p.mesh l))) (code_log p range x None effect packet)
+    followed_by (text_log (line (words_of p.mesh l))) (code_log p range x None effect packet)

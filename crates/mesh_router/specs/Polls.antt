@@ -3,27 +3,27 @@ use Rattle.std.specs.Prelude.{ℕ, zero, suc, ◌+◌, List, [], ◌∷◌, ◌+
 use Rattle.std.specs.Fmt.{decimal}
 use Rattle.mesh_base.specs.Meshes.{Nodes}
 use Rattle.mesh_base.specs.declared.events.Item.TheVariants.{Heard}
-use Rattle.mesh_grammar.specs.Written.{line, labelled}
+use Rattle.mesh_grammar.specs.Written.{line, label_number}
 use Rattle.mesh_text.specs.Lines.{name_of}
 use Rattle.mesh_link.specs.Datagrams.{Datagram}
 use Rattle.mesh_peers.specs.Peers.{at_port}
 use Rattle.mesh_router.specs.declared.limits.TheConstants.{MOST_RECEIVED}
-use Rattle.mesh_router.specs.Logs.{Log, nothing, written, followed_by}
+use Rattle.mesh_router.specs.Logs.{Log, nothing, text_log, followed_by}
 use Rattle.mesh_router.specs.Routers.{Router}
 use Rattle.mesh_router.specs.Finds.{Find, next_find, later_finds}
 
 -- its log, the router then, and what is left to be found
-pub record Polled : Type 0 where
+pub record PollOutcome : Type 0 where
   pub log : Log
   pub next : Router
   pub left : List Find
 
-abbrev pub polled : Log → Router → List Find → Polled
-polled log next left = record { log = log; next = next; left = left }
+abbrev pub poll_outcome : Log → Router → List Find → PollOutcome
+poll_outcome log next left = record { log = log; next = next; left = left }
 
 -- the first bytes of a datagram, as many as are received
-abbrev pub received : List ℕ → List ℕ
-received bytes = take MOST_RECEIVED bytes
+abbrev pub received_bytes : List ℕ → List ℕ
+received_bytes bytes = take MOST_RECEIVED bytes
 
 -- so many bytes were heard from a peer
 abbrev pub heard_line : Nodes → ℕ → ℕ → List ℕ
@@ -31,7 +31,7 @@ heard_line mesh from size = line (codes "  heard " ++ name_of mesh from ++ 32 �
 
 -- a datagram of that port was dropped
 abbrev pub strange_port_line : ℕ → List ℕ
-strange_port_line port = line (labelled (codes "  drop port ") port)
+strange_port_line port = line (label_number (codes "  drop port ") port)
 
 abbrev pub none_line : List ℕ
 none_line = line (codes "  none")
@@ -48,25 +48,25 @@ found_next r bytes (Some from) =
 found_next r bytes None = record r { dropped = r.dropped + 1 }
 
 abbrev pub datagram_text : Router → Datagram → List ℕ
-datagram_text r d = found_text r d.port (received d.bytes) (at_port r.peers d.port)
+datagram_text r d = found_text r d.port (received_bytes d.bytes) (at_port r.peers d.port)
 
 abbrev pub datagram_log : Router → Datagram → Log
-datagram_log r d = written (datagram_text r d)
+datagram_log r d = text_log (datagram_text r d)
 
 abbrev pub datagram_next : Router → Datagram → Router
-datagram_next r d = found_next r (received d.bytes) (at_port r.peers d.port)
+datagram_next r d = found_next r (received_bytes d.bytes) (at_port r.peers d.port)
 
 -- a datagram, and then others
-abbrev pub polled_after : Log → Polled → Polled
+abbrev pub polled_after : Log → PollOutcome → PollOutcome
 polled_after log p = record p { log = followed_by log p.log }
 
-abbrev pub polled_by : Router → Find → List Find → (Router → List Find → Polled) → Polled
-polled_by r None left others = polled (written none_line) r left
+abbrev pub polled_by : Router → Find → List Find → (Router → List Find → PollOutcome) → PollOutcome
+polled_by r None left others = poll_outcome (text_log none_line) r left
 polled_by r (Some d) left others =
     polled_after (datagram_log r d) (others (datagram_next r d) left)
 
 -- up to so many datagrams
-unfoldable pub polls_of : ℕ → Router → List Find → Polled
-polls_of zero r finds = polled nothing r finds
+unfoldable pub polls_of : ℕ → Router → List Find → PollOutcome
+polls_of zero r finds = poll_outcome nothing r finds
 polls_of (suc most) r finds =
     polled_by r (next_find finds) (later_finds finds) (λ next left. polls_of most next left)

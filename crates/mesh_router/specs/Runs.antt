@@ -5,24 +5,24 @@ use Rattle.mesh_base.specs.declared.events.Counter.{Counter}
 use Rattle.mesh_io.specs.Puts.{AppendsPrefix}
 use Rattle.mesh_link.specs.Datagrams.{Datagram}
 use Rattle.mesh_peers.specs.Peers.{at_port}
-use Rattle.mesh_peers.specs.Lines.{Accepted, Nothing, Own, Peer, Polls}
+use Rattle.mesh_peers.specs.Lines.{AcceptedLine, Nothing, Own, Peer, Polls}
 use Rattle.mesh_router.specs.declared.stop.Stop.{Stop}
 use Rattle.mesh_router.specs.declared.stop.Stop.TheVariants as stop
 use Rattle.mesh_grammar.specs.Written.{line}
-use Rattle.mesh_router.specs.Logs.{Log, nothing, written, followed_by}
+use Rattle.mesh_router.specs.Logs.{Log, nothing, text_log, followed_by}
 use Rattle.mesh_router.specs.Routers.{Router, Moment}
 use Rattle.mesh_router.specs.Lines.{LineOutcome, On, Refused, Full}
 use Rattle.mesh_router.specs.Turns as turns
 use Rattle.mesh_router.specs.Turns.{TurnOutcome, StepOutcome, StepDone, StepFull, idle_line}
 use Rattle.mesh_router.specs.Finds.{Find, AreNext, left_after, AreFound}
-use Rattle.mesh_router.specs.Polls.{polled, polls_of, found_next, found_text, datagram_next, datagram_log, none_line}
+use Rattle.mesh_router.specs.Polls.{poll_outcome, polls_of, found_next, found_text, datagram_next, datagram_log, none_line}
 use Rattle.mesh_router.specs.Outputs.{Outputs, Adds, AddsPrefix}
 
 -- ---- a turn
 
 -- all that a turn says
 abbrev pub log_by : TurnOutcome → Log
-log_by turns.Idle = written idle_line
+log_by turns.Idle = text_log idle_line
 log_by (turns.Done log next) = log
 log_by (turns.Full field) = nothing
 
@@ -36,7 +36,7 @@ pub record IsTurnDone (t : TurnOutcome) (new : Router) (before now : Outputs) : 
 pub record IsTurnIdle (t : TurnOutcome) (old new : Router) (before now : Outputs) : Type 0 where
   pub is : t ≡ turns.Idle
   pub same : new ≡ old
-  pub adds : Adds before now (written idle_line)
+  pub adds : Adds before now (text_log idle_line)
 
 -- a counter is full
 pub record IsTurnFull (t : TurnOutcome) (field : Counter) (before now : Outputs) : Type 0 where
@@ -102,7 +102,7 @@ pub record IsFoundNone (old new : Router) (arrived left : Option (List Datagram)
     (before now : Outputs) : Type 0 where
   pub taken : AreFound arrived left (None ∷ [])
   pub same : new ≡ old
-  pub adds : Adds before now (written none_line)
+  pub adds : Adds before now (text_log none_line)
 
 -- these were found, and what was done with them was told
 pub record IsPolled (count : ℕ) (old new : Router) (arrived left : Option (List Datagram))
@@ -112,7 +112,7 @@ pub record IsPolled (count : ℕ) (old new : Router) (arrived left : Option (Lis
   pub log : Log
   pub adds : Adds before now log
   pub is : (finds : List Find) → AreNext finds found
-      → polls_of count old finds ≡ polled log new (left_after finds found)
+      → polls_of count old finds ≡ poll_outcome log new (left_after finds found)
 
 -- these were found, and what was done with them was told in part
 pub record IsPolledInPart (count : ℕ) (old : Router) (arrived left : Option (List Datagram))
@@ -144,16 +144,16 @@ pub record IsPollLineDone (count : ℕ) (words : List ℕ) (old new : Router)
   pub found : List Find
   pub taken : AreFound arrived left found
   pub log : Log
-  pub adds : Adds before now (followed_by (written (line words)) log)
+  pub adds : Adds before now (followed_by (text_log (line words)) log)
   pub is : (finds : List Find) → AreNext finds found
-      → polls_of count old finds ≡ polled log new (left_after finds found)
+      → polls_of count old finds ≡ poll_outcome log new (left_after finds found)
 
 pub record IsPollLineInPart (count : ℕ) (words : List ℕ) (old : Router)
     (arrived left : Option (List Datagram)) (before now : Outputs) : Type 0 where
   pub found : List Find
   pub taken : AreFound arrived left found
   pub told : (finds : List Find) → AreNext finds found
-      → AddsPrefix before now (followed_by (written (line words)) (polls_of count old finds).log)
+      → AddsPrefix before now (followed_by (text_log (line words)) (polls_of count old finds).log)
 
 -- that stops it
 abbrev pub IsNotFull : Stop → Type 0
@@ -217,7 +217,7 @@ IsLineRun k words next arrived left before now result =
     (IsLineStopped k words arrived left before now)
 
 -- a line that makes the router act, or shows it
-abbrev pub IsCommand : Accepted → Type 0
+abbrev pub IsCommand : AcceptedLine → Type 0
 IsCommand Nothing = ⊥
 IsCommand (Own a first) = ⊥
 IsCommand (Peer a port) = ⊥

@@ -5,7 +5,7 @@ use Rattle.aodv_meaning.specs.Effects.{item_in}
 use Rattle.aodv_node.specs.Discovered.{IsAskShort}
 use Rattle.aodv_node.specs.Turned.{IsReadableItem, needs_memory}
 use Rattle.mesh_link.specs.Datagrams.{Datagram}
-use Rattle.mesh_peers.specs.Lines.{Accepted, Give, Turns, Asks}
+use Rattle.mesh_peers.specs.Lines.{AcceptedLine, Give, Turns, Asks}
 use Rattle.mesh_peers.specs.Peers.{PeersSeen, at_port}
 use Rattle.mesh_router.specs.Routers.{Router}
 use Rattle.mesh_router.specs.Turns as turns
@@ -32,7 +32,7 @@ AreTurnsShort (suc most) r =
     IsTurnShort r ⊎ HoldsAfter (next_turn r) (λ next. AreTurnsShort most next)
 
 -- a command may need memory
-abbrev pub IsStepShort : Router → Accepted → Type 0
+abbrev pub IsStepShort : Router → AcceptedLine → Type 0
 IsStepShort r (Give dest body) = ⊤
 IsStepShort r (Turns count) = AreTurnsShort count r
 IsStepShort r (Asks d) = IsAskShort r.core d

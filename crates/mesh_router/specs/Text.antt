@@ -5,10 +5,10 @@ use Rattle.mesh_base.specs.declared.events.Counter.{Counter}
 use Rattle.mesh_grammar.specs.declared.fault.BadWhy.{BadWhy}
 use Rattle.mesh_grammar.specs.Faults.{bad_line}
 use Rattle.mesh_grammar.specs.Lines.{Piece, pieces_of_input}
-use Rattle.mesh_grammar.specs.Written.{line, labelled}
+use Rattle.mesh_grammar.specs.Written.{line, label_number}
 use Rattle.mesh_text.specs.Lines.{field_text}
 use Rattle.mesh_text.specs.Text.{Verdict, Finished, RefusedAt, FullAt}
-use Rattle.mesh_router.specs.Logs.{Log, written, followed_by}
+use Rattle.mesh_router.specs.Logs.{Log, text_log, followed_by}
 use Rattle.mesh_router.specs.Routers.{Router, router_in, Moment, opening_moment}
 use Rattle.mesh_router.specs.Finds.{Find}
 use Rattle.mesh_router.specs.Lines.{LineOutcome, On, Refused, Full, outcome_of_piece}
@@ -23,29 +23,29 @@ pub record Run : Type 0 where
 -- of a whole script
 abbrev pub counts_line : Router → List ℕ
 counts_line r =
-    line (labelled (codes "done heard ") r.heard ++ labelled (codes " sent ") r.sent
-    ++ labelled (codes " dropped ") r.dropped)
+    line (label_number (codes "done heard ") r.heard ++ label_number (codes " sent ") r.sent
+    ++ label_number (codes " dropped ") r.dropped)
 
 -- of a run in which a counter is full at this line
 abbrev pub full_line : ℕ → List ℕ → Counter → List ℕ
 full_line number words field =
-    line (labelled (codes "full line ") number ++ codes ": " ++ words ++ codes ": "
+    line (label_number (codes "full line ") number ++ codes ": " ++ words ++ codes ": "
     ++ field_text field)
 
 -- ---- all lines
 
 abbrev pub finished_run : Moment → Run
-finished_run m = record { log = written (counts_line (router_in m.stage)); verdict = Finished }
+finished_run m = record { log = text_log (counts_line (router_in m.stage)); verdict = Finished }
 
 abbrev pub refused_run : Moment → BadWhy → Run
 refused_run m why = record {
-  log = written (bad_line (m.lines + 1) why);
+  log = text_log (bad_line (m.lines + 1) why);
   verdict = RefusedAt (m.lines + 1);
 }
 
 abbrev pub overfull_run : Moment → Log → List ℕ → Counter → Run
 overfull_run m log words field = record {
-  log = followed_by log (written (full_line (m.lines + 1) words field));
+  log = followed_by log (text_log (full_line (m.lines + 1) words field));
   verdict = FullAt (m.lines + 1);
 }
 

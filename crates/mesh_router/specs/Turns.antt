@@ -1,7 +1,7 @@
 -- The turns of a router, its sends and its requests.
 use Rattle.std.specs.Prelude.{ℕ, zero, suc, ◌+◌, Bool, true, false, List, [], ◌∷◌, ◌++◌, Option, Some, None, codes}
 use Rattle.mesh_base.specs.Meshes.{Nodes}
-use Rattle.mesh_base.specs.Addresses.{dotted}
+use Rattle.mesh_base.specs.Addresses.{dotted_decimal}
 use Rattle.mesh_base.specs.declared.addr.Addr.{Addr}
 use Rattle.mesh_base.specs.declared.events.Counter.{Counter}
 use Rattle.mesh_base.specs.declared.events.Item.{Item}
@@ -13,28 +13,28 @@ use Rattle.aodv_meaning.specs.Meaning.{stranger}
 use Rattle.aodv_meaning.specs.Effects.{item_in}
 use Rattle.aodv_model.specs.Handlers.{Took, Effect, Reaction, turn, took}
 use Rattle.aodv_model.specs.Fullness.{turn_full}
-use Rattle.mesh_grammar.specs.Written.{line, labelled}
+use Rattle.mesh_grammar.specs.Written.{line, label_number}
 use Rattle.mesh_text.specs.Lines.{name_of}
 use Rattle.mesh_text.specs.Effects.{took_text, datum_fate}
-use Rattle.mesh_router.specs.Logs.{Log, nothing, written, followed_by}
+use Rattle.mesh_router.specs.Logs.{Log, nothing, text_log, followed_by}
 use Rattle.mesh_router.specs.Routers.{Router}
-use Rattle.mesh_router.specs.Casts.{effect_log, reacted}
+use Rattle.mesh_router.specs.Casts.{effect_log, after_reaction}
 
 -- ---- what can't be read
 
 -- why bytes spell no message, in words
 abbrev pub refusal_words : WireError → List ℕ
 refusal_words wire.Short = codes "short"
-refusal_words (wire.UnknownType t) = labelled (codes "unknown type ") t
+refusal_words (wire.UnknownType t) = label_number (codes "unknown type ") t
 refusal_words wire.WrongLength = codes "wrong length"
 refusal_words wire.OutsideProfile = codes "outside profile"
 refusal_words wire.ZeroNumber = codes "zero number"
 refusal_words wire.NoDestinations = codes "no destinations"
-refusal_words (wire.Repeated a) = codes "repeated " ++ dotted a.0
+refusal_words (wire.Repeated a) = codes "repeated " ++ dotted_decimal a.0
 refusal_words wire.BadData = codes "bad data"
 
 abbrev pub stranger_words : Addr → List ℕ
-stranger_words a = codes "stranger " ++ dotted a.0
+stranger_words a = codes "stranger " ++ dotted_decimal a.0
 
 -- a packet of this node was dropped
 abbrev pub drop_line : Nodes → ℕ → List ℕ → List ℕ
@@ -51,26 +51,26 @@ pub data TurnOutcome : Type 0 where
 -- the front packet, which came from this node, is taken, and all else stays
 abbrev pub dropped_turn : Router → List Item → ℕ → List ℕ → TurnOutcome
 dropped_turn r rest from why =
-    Done (written (drop_line (r.peers).mesh from why))
+    Done (text_log (drop_line (r.peers).mesh from why))
     (record r { queue = rest; dropped = r.dropped + 1 })
 
 -- the log of a turn
 abbrev pub turn_log : Router → Took → Effect → Log
 turn_log r took e =
     followed_by
-    (written (took_text (r.peers).mesh (r.core).ip took
+    (text_log (took_text (r.peers).mesh (r.core).ip took
     ++ datum_fate (r.peers).mesh (r.core).ip took e))
     (effect_log r e)
 
 -- the node reacts to the front item
-abbrev pub handled : Router → List Item → Took → Option Counter → Reaction → TurnOutcome
-handled r rest took (Some field) reaction = Full field
-handled r rest took None reaction =
-    Done (turn_log r took reaction.effect) (reacted r rest reaction)
+abbrev pub front_outcome : Router → List Item → Took → Option Counter → Reaction → TurnOutcome
+front_outcome r rest took (Some field) reaction = Full field
+front_outcome r rest took None reaction =
+    Done (turn_log r took reaction.effect) (after_reaction r rest reaction)
 
 abbrev pub handled_turn : Router → List Item → Item → TurnOutcome
 handled_turn r rest front =
-    handled r rest (took r.core (item_in (r.peers).mesh front))
+    front_outcome r rest (took r.core (item_in (r.peers).mesh front))
     (turn_full r.core r.range (item_in (r.peers).mesh front))
     (turn r.core r.range (item_in (r.peers).mesh front))
 
@@ -109,7 +109,7 @@ idle_line = line (codes "  idle")
 
 -- a turn, and then others
 abbrev pub with_others : Router → TurnOutcome → (Router → StepOutcome) → StepOutcome
-with_others r Idle others = StepDone (written idle_line) r
+with_others r Idle others = StepDone (text_log idle_line) r
 with_others r (Done log next) others = log_before log (others next)
 with_others r (Full field) others = StepFull nothing field
 
@@ -120,8 +120,8 @@ turns_of (suc most) r = with_others r (next_turn r) (λ next. turns_of most next
 
 -- a send or a request of the node's own, below its line. Where a counter is full nothing is written
 abbrev pub act_of : Router → List ℕ → Bool → Option Counter → Reaction → StepOutcome
-act_of r words false full reaction = StepDone (written (line words ++ idle_line)) r
+act_of r words false full reaction = StepDone (text_log (line words ++ idle_line)) r
 act_of r words true (Some field) reaction = StepFull nothing field
 act_of r words true None reaction =
-    StepDone (followed_by (written (line words)) (effect_log r reaction.effect))
-    (reacted r r.queue reaction)
+    StepDone (followed_by (text_log (line words)) (effect_log r reaction.effect))
+    (after_reaction r r.queue reaction)

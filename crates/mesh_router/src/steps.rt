@@ -10,12 +10,12 @@ ghost use Rattle.mesh_io.specs.Puts.{Puts};
 ghost use Rattle.mesh_peers.specs.Lines.{words_of};
 ghost use Rattle.mesh_peers.specs.Seen.{accepted_of, IsPrintable};
 ghost use Rattle.mesh_router.specs.Turns.{act_of, idle_line, log_before, turns_of};
-ghost use Rattle.mesh_router.specs.Lines.{ranged, given, shown, step_of};
+ghost use Rattle.mesh_router.specs.Lines.{range_outcome, give_outcome, show_outcome, step_of};
 ghost use Rattle.mesh_link.specs.Datagrams.{Datagram};
 ghost use Rattle.aodv_model.specs.Soundness.{IsDatum};
 ghost use Rattle.mesh_meaning.specs.Answers.{IsCastWritten};
-ghost use Rattle.mesh_router.specs.Logs.{written};
-ghost use Rattle.mesh_router.specs.Peers.{IsPeer, ArePeers, reached, act_log};
+ghost use Rattle.mesh_router.specs.Logs.{text_log};
+ghost use Rattle.mesh_router.specs.Peers.{IsPeer, ArePeers, receivers_of, act_log};
 ghost use Rattle.mesh_router.specs.Outputs.{Says, HasCauses, HasSinkCause, IsFault};
 ghost use Rattle.mesh_router.specs.Seen.{HasCounts, IsGrown, most_grown};
 ghost use Rattle.mesh_router.specs.Runs.{IsStepRun, IsPollLine};
@@ -90,7 +90,7 @@ fn tell_act<O: Sink, L: Link>(
         (act_log peers.now range.now me (accepted_of line.now) effect scratch.old.packet.items)
         result }
     ensures count { IfOk result (λ n.
-        n ≡ length (reached peers.now range.now effect.cast scratch.old.packet.items)) }
+        n ≡ length (receivers_of peers.now range.now effect.cast scratch.old.packet.items)) }
     ensures few { IfOk result (λ n. n ≤ MOST_NODES) }
     ensures causes { HasCauses (O.faults out.old) (O.faults out.new)
         (L.faults link.old) (L.faults link.new) result }
@@ -216,7 +216,7 @@ impl Router {
         requires node { IsPeer self.old.peers node }
         requires printable { IsPrintable self.old.peers line.now }
         ensures step { (sent : Option (List Datagram)) → let r = self.old in
-            IsStepRun (ranged r (words_of r.peers.mesh (accepted_of line.now))
+            IsStepRun (range_outcome r (words_of r.peers.mesh (accepted_of line.now))
             (not (sets.contains r.range node)) (sets.insert r.range node))
             (O.held out.old, sent) (O.held out.new, sent) self.new result }
         ensures memory { ¬ IsErrOf result Stop.NoMemory }
@@ -245,7 +245,7 @@ impl Router {
     ) -> Result<(), Stop>
         requires printable { IsPrintable self.old.peers line.now }
         ensures step { (sent : Option (List Datagram)) → let r = self.old in
-            IsStepRun (ranged r (words_of r.peers.mesh (accepted_of line.now))
+            IsStepRun (range_outcome r (words_of r.peers.mesh (accepted_of line.now))
             (sets.contains r.range node) (sets.remove r.range node))
             (O.held out.old, sent) (O.held out.new, sent) self.new result }
         ensures memory { ¬ IsErrOf result Stop.NoMemory }
@@ -276,7 +276,7 @@ impl Router {
         requires datum { IsDatum body.now }
         requires printable { IsPrintable self.old.peers line.now }
         ensures step { (sent : Option (List Datagram)) → let r = self.old in
-            IsStepRun (given r (words_of r.peers.mesh (accepted_of line.now)) dest body.now)
+            IsStepRun (give_outcome r (words_of r.peers.mesh (accepted_of line.now)) dest body.now)
             (O.held out.old, sent) (O.held out.new, sent) self.new result }
         ensures grown { OnOk result (IsGrown 0 self.old self.new) }
         ensures peers { self.new.peers ≡ self.old.peers }
@@ -293,7 +293,7 @@ impl Router {
     fn show<O: Sink>(&self, line: &NodeLine<'_>, buf: &mut LineBuf, out: &mut O) -> Result<(), Stop>
         requires printable { IsPrintable self.now.peers line.now }
         ensures step { (sent : Option (List Datagram)) → let r = self.now in
-            IsStepRun (shown r (words_of r.peers.mesh (accepted_of line.now)))
+            IsStepRun (show_outcome r (words_of r.peers.mesh (accepted_of line.now)))
             (O.held out.old, sent) (O.held out.new, sent) self.now result }
         ensures memory { ¬ IsErrOf result Stop.NoMemory }
         ensures cause { HasSinkCause (O.faults out.old) (O.faults out.new) result }
@@ -317,7 +317,7 @@ impl Router {
         requires few { HasCounts (2 ^ 61) self.old }
         ensures step { let r = self.old in
             let words = words_of r.peers.mesh (accepted_of line.now) in
-            IsStepRun (log_before (written (ended words)) (turns_of count r))
+            IsStepRun (log_before (text_log (ended words)) (turns_of count r))
             (O.held out.old, L.sent link.old) (O.held out.new, L.sent link.new) self.new result }
         ensures memory { IsErrOf result Stop.NoMemory → AreTurnsShort count self.old }
         ensures grown { OnOk result (IsGrown (MOST_NODES * count) self.old self.new) }

@@ -1,6 +1,6 @@
 //! The turns of a router.
 ghost use Rattle.std.specs.Prelude.{◌≡◌, ◌<◌, ◌≤◌, ◌+◌, ◌*◌, ◌^◌, ◌++◌, ◌∷◌, [], length, codes, is_some, true, OnOk, IfErr, IfSome, IsErrOf, Some};
-ghost use Rattle.mesh_base.specs.Addresses.{dotted};
+ghost use Rattle.mesh_base.specs.Addresses.{dotted_decimal};
 ghost use Rattle.mesh_io.specs.Cause.{HasCause};
 ghost use Rattle.mesh_io.specs.Puts.{Puts};
 ghost use Rattle.mesh_router.specs.Turns.{refusal_words, stranger_words, drop_line, next_turn, turns_of, idle_line};

@@ -9,7 +9,7 @@ use Rattle.mesh_model.specs.Worlds.{Event, Outcome, Idle, Next}
 use Rattle.mesh_model.specs.Places.{IsEvent}
 use Rattle.mesh_model.specs.Choices.{pick}
 use Rattle.mesh_meaning.specs.Events.{event_of}
-use Rattle.mesh_text.specs.Schedule.{Moment, Does, Chooses, counted, started, stepped, outcome_at, world_of}
+use Rattle.mesh_text.specs.Schedule.{Moment, Does, Chooses, with_line_read, with_world, next_moment, outcome_at, world_of}
 use Rattle.mesh_text.specs.Lines.{words_of}
 use Rattle.mesh_grammar.specs.Written.{line}
 use Rattle.mesh_text.specs.Effects.{outcome_lines}
@@ -81,9 +81,9 @@ due_next (Some x) most did m e one h same =
 ran_then : (m : Moment) (e : Event) (o : Outcome) (others : Moment → List Event) → outcome_at m e ≡ o
     → outcome_of_events m (event_then m e o others) ≡ done_then m e o (λ n. outcome_of_events n (others n))
 unfolding outcome_of_events
-ran_then m e Idle others is = ap (λ o. done_then m e o (λ n. outcome_of_events n (others (stepped m e)))) is
+ran_then m e Idle others is = ap (λ o. done_then m e o (λ n. outcome_of_events n (others (next_moment m e)))) is
 ran_then m e (worlds.Full x field) others is = ap (λ o. done_then m e o (λ n. outcome_of_events n [])) is
-ran_then m e (Next w i) others is = ap (λ o. done_then m e o (λ n. outcome_of_events n (others (stepped m e)))) is
+ran_then m e (Next w i) others is = ap (λ o. done_then m e o (λ n. outcome_of_events n (others (next_moment m e)))) is
 
 pub ran_next : (m : Moment) (e : Event) (others : Moment → List Event)
     → outcome_of_events m (event_then m e (outcome_at m e) others) ≡ done_then m e (outcome_at m e) (λ n. outcome_of_events n (others n))
@@ -94,14 +94,14 @@ unfolding outcome_of_events
 nothing_more quiet m events a none = record { text = []; is = ap (outcome_of_events m) none; grown = shown_none quiet a }
 
 -- one was done, so as many are left as there were but one
-then_counts : (quiet : Bool) (m n : Moment) (e : Event) (o : Outcome) (others : Moment → List Event) (a b : Option (List ℕ)) → IsLineDone quiet (outcome_by m e o) n a b → n ≡ stepped m e
+then_counts : (quiet : Bool) (m n : Moment) (e : Event) (o : Outcome) (others : Moment → List Event) (a b : Option (List ℕ)) → IsLineDone quiet (outcome_by m e o) n a b → n ≡ next_moment m e
     → length (event_then m e o others) ≡ suc (length (others n))
 then_counts quiet m n e Idle others a b done next = ap (λ k. suc (length (others k))) (sym next)
 then_counts quiet m n e (worlds.Full x field) others a b done next = absurd (let h : Full [] m e field ≡ On done.text n = done.is in let P : ⊥ = cc in P)
 then_counts quiet m n e (Next w i) others a b done next = ap (λ k. suc (length (others k))) (sym next)
 
 pub due_counts : (quiet : Bool) (given : Option Event) (most did : ℕ) (m n : Moment) (e : Event) (a b : Option (List ℕ)) → IfSome given (λ _. most ≤ 1) → did < most → Some e ≡ next_in given m
-    → IsLineDone quiet (outcome_by m e (outcome_at m e)) n a b → n ≡ stepped m e → length (events_due given (most - did) m) ≡ suc (length (events_due given (most - (did + 1)) n))
+    → IsLineDone quiet (outcome_by m e (outcome_at m e)) n a b → n ≡ next_moment m e → length (events_due given (most - did) m) ≡ suc (length (events_due given (most - (did + 1)) n))
 due_counts quiet given most did m n e a b one h p done next =
     ap length (due_next given most did m e one h p) ∙ then_counts quiet m n e (outcome_at m e) (λ x. events_due given (most - (did + 1)) x) a b done next
 
@@ -138,10 +138,10 @@ moment_of_came m (Full text n e field) = m
 
 -- an event that was done
 pub on_then : (quiet : Bool) (m n k : Moment) (e : Event) (text : List ℕ) (ran : Moment → EventsOutcome) (a b c : Option (List ℕ)) (r : Result ℕ Stop)
-    → (g : IsLineDone quiet (On text (stepped m e)) n a b) → IsEventsRun quiet n (ran n) k b c r → IsEventsRun quiet m (before text (ran (stepped m e))) k a c r
-unfolding stepped moment_of_came
+    → (g : IsLineDone quiet (On text (next_moment m e)) n a b) → IsEventsRun quiet n (ran n) k b c r → IsEventsRun quiet m (before text (ran (next_moment m e))) k a c r
+unfolding next_moment moment_of_came
 on_then quiet m n k e text ran a b c r g q =
-    let same : stepped m e ≡ n = ap (moment_of_came m) g.is in
+    let same : next_moment m e ≡ n = ap (moment_of_came m) g.is in
     let words : text ≡ g.text = ap text_in g.is in
     let P : Moment → Type 0 = λ p. IsEventsRun quiet m (before text (ran p)) k a c r in
     let Q : List ℕ → Type 0 = λ l. Appends a b (output_if quiet l) in
@@ -187,9 +187,9 @@ full_stops quiet m n e full a b stop.NoMemory g = g
 
 then_stops : (quiet : Bool) (m n : Moment) (e : Event) (o : Outcome) (others : Moment → EventsOutcome) (a b : Option (List ℕ)) (t : Stop)
     → IsLineStopped quiet m (outcome_by m e o) n a b t → IsEventsRun quiet m (done_then m e o others) n a b (Err t)
-then_stops quiet m n e Idle others a b t g = on_stops quiet m n (stepped m e) (outcome_lines m.mesh e Idle) (others (stepped m e)) a b t g
+then_stops quiet m n e Idle others a b t g = on_stops quiet m n (next_moment m e) (outcome_lines m.mesh e Idle) (others (next_moment m e)) a b t g
 then_stops quiet m n e (worlds.Full x full) others a b t g = full_stops quiet m n e full a b t g
-then_stops quiet m n e (Next w i) others a b t g = on_stops quiet m n (stepped m e) (outcome_lines m.mesh e (Next w i)) (others (stepped m e)) a b t g
+then_stops quiet m n e (Next w i) others a b t g = on_stops quiet m n (next_moment m e) (outcome_lines m.mesh e (Next w i)) (others (next_moment m e)) a b t g
 
 -- one event more
 pub ran_goes : (quiet : Bool) (given : Option Event) (most did : ℕ) (m n k : Moment) (e : Event) (a b c : Option (List ℕ)) (r : Result ℕ Stop) → IfSome given (λ _. most ≤ 1) → did < most → Some e ≡ next_in given m
@@ -210,14 +210,14 @@ ran_stops quiet given most did m n e a b t one h p g =
 -- ---- the line of an event
 
 -- what is known after a refusal, of the moment before the run was started
-still_since : (m s n : Moment) (e : Event) → s ≡ started m → IsStill s n e → IsStill m n e
+still_since : (m s n : Moment) (e : Event) → s ≡ with_world m → IsStill s n e → IsStill m n e
 still_since m s n e same still = record {
   event = subst (λ x. IsEvent (length x.mesh) e) same still.event;
   mesh = still.mesh ∙ ap (λ x. x.mesh) same;
   lines = still.lines ∙ ap (λ x. x.lines) same;
 }
 
-came-does : (m s : Moment) (e : Event) → s ≡ started m → outcome_of_line m (Does e) ≡ outcome_by_events (outcome_of_events s (events_due (Some e) 1 s))
+came-does : (m s : Moment) (e : Event) → s ≡ with_world m → outcome_of_line m (Does e) ≡ outcome_by_events (outcome_of_events s (events_due (Some e) 1 s))
 unfolding outcome_of_line events_due
 came-does m s e same = ap (λ k. outcome_by_events (outcome_of_events k (e ∷ []))) (sym same)
 
@@ -226,21 +226,21 @@ text_by (Ended text n) = refl
 text_by (EventsFull text n e field) = refl
 
 -- in what follows `p` is the same moment as `n`, once the reference has come back
-pub does_goes : (quiet : Bool) (m s n p : Moment) (e : Event) (a b : Option (List ℕ)) → s ≡ started m → n ≡ p → IsEventsDone quiet (outcome_of_events s (events_due (Some e) 1 s)) n a b
-    → IsLineDone quiet (outcome_of_line m (Does e)) (counted p) a b
+pub does_goes : (quiet : Bool) (m s n p : Moment) (e : Event) (a b : Option (List ℕ)) → s ≡ with_world m → n ≡ p → IsEventsDone quiet (outcome_of_events s (events_due (Some e) 1 s)) n a b
+    → IsLineDone quiet (outcome_of_line m (Does e)) (with_line_read p) a b
 does_goes quiet m s n p e a b same back g = record {
   text = g.text;
-  is = came-does m s e same ∙ ap outcome_by_events g.is ∙ ap (λ k. On g.text (counted k)) back;
+  is = came-does m s e same ∙ ap outcome_by_events g.is ∙ ap (λ k. On g.text (with_line_read k)) back;
   grown = g.grown;
 }
 
-does_front : (quiet : Bool) (m s : Moment) (e : Event) (a b : Option (List ℕ)) → s ≡ started m → AppendsPrefix a b (output_if quiet (text_of (outcome_of_events s (events_due (Some e) 1 s))))
+does_front : (quiet : Bool) (m s : Moment) (e : Event) (a b : Option (List ℕ)) → s ≡ with_world m → AppendsPrefix a b (output_if quiet (text_of (outcome_of_events s (events_due (Some e) 1 s))))
     → AppendsPrefix a b (output_if quiet (text_in (outcome_of_line m (Does e))))
 does_front quiet m s e a b same g =
     let P : List ℕ → Type 0 = λ l. AppendsPrefix a b (output_if quiet l) in
     subst P (sym (ap text_in (came-does m s e same) ∙ text_by (outcome_of_events s (events_due (Some e) 1 s)))) g
 
-does_stopped : (quiet : Bool) (m s n : Moment) (e : Event) (a b : Option (List ℕ)) (t : Stop) → s ≡ started m → IsEventsRun quiet s (outcome_of_events s (events_due (Some e) 1 s)) n a b (Err t)
+does_stopped : (quiet : Bool) (m s n : Moment) (e : Event) (a b : Option (List ℕ)) (t : Stop) → s ≡ with_world m → IsEventsRun quiet s (outcome_of_events s (events_due (Some e) 1 s)) n a b (Err t)
     → IsLineStopped quiet m (outcome_of_line m (Does e)) n a b t
 does_stopped quiet m s n e a b (stop.BadLine f) same g = absurd g
 does_stopped quiet m s n e a b (stop.Full event node field) same g = record {
@@ -253,7 +253,7 @@ does_stopped quiet m s n e a b (stop.Full event node field) same g = record {
 does_stopped quiet m s n e a b stop.WriteFault same g = does_front quiet m s e a b same g
 does_stopped quiet m s n e a b stop.NoMemory same g = does_front quiet m s e a b same g
 
-pub does_stops : (quiet : Bool) (m s n p : Moment) (e : Event) (a b : Option (List ℕ)) (t : Stop) → s ≡ started m → n ≡ p → IsEventsRun quiet s (outcome_of_events s (events_due (Some e) 1 s)) n a b (Err t)
+pub does_stops : (quiet : Bool) (m s n p : Moment) (e : Event) (a b : Option (List ℕ)) (t : Stop) → s ≡ with_world m → n ≡ p → IsEventsRun quiet s (outcome_of_events s (events_due (Some e) 1 s)) n a b (Err t)
     → IsLineStopped quiet m (outcome_of_line m (Does e)) p a b t
 does_stops quiet m s n p e a b t same back g =
     subst (λ (x : Moment). IsLineStopped quiet m (outcome_of_line m (Does e)) x a b t) back (does_stopped quiet m s n e a b t same g)
@@ -271,7 +271,7 @@ front_at quiet w did (Ended others after) a b p = front_more quiet a b (w ++ oth
 front_at quiet w did (EventsFull others n e field) a b p = front_more quiet a b w others p
 
 pub line_goes : (quiet : Bool) (k : LineOutcome) (w : List ℕ) (did : ℕ) (ran : EventsOutcome) (n next : Moment) (a b c d : Option (List ℕ)) → k ≡ outcome_of_auto w did ran → Appends a b (output_if quiet w)
-    → IsEventsDone quiet ran n b c → Appends c d (output_if quiet (auto_end did)) → next ≡ counted n → IsLineDone quiet k next a d
+    → IsEventsDone quiet ran n b c → Appends c d (output_if quiet (auto_end did)) → next ≡ with_line_read n → IsLineDone quiet k next a d
 line_goes quiet k w did ran n next a b c d is p q r counts = record {
   text = w ++ q.text ++ auto_end did;
   is = is ∙ ap (outcome_of_auto w did) q.is ∙ ap (λ x. On (w ++ q.text ++ auto_end did) x) (sym counts);
@@ -292,7 +292,7 @@ line_end_front quiet k w did ran n a b c d is p q r =
     subst P (sym (is ∙ ap (outcome_of_auto w did) q.is)) (front_join quiet a c d (w ++ q.text) (auto_end did) (shown_join quiet a b c w q.text p q.grown) r)
 
 -- an event was not done, or not written whole
-pub line_stops : (quiet : Bool) (m s : Moment) (k : LineOutcome) (w : List ℕ) (did : ℕ) (ran : EventsOutcome) (n : Moment) (a b c : Option (List ℕ)) (t : Stop) → s ≡ started m → k ≡ outcome_of_auto w did ran
+pub line_stops : (quiet : Bool) (m s : Moment) (k : LineOutcome) (w : List ℕ) (did : ℕ) (ran : EventsOutcome) (n : Moment) (a b c : Option (List ℕ)) (t : Stop) → s ≡ with_world m → k ≡ outcome_of_auto w did ran
     → Appends a b (output_if quiet w) → IsEventsRun quiet s ran n b c (Err t) → IsLineStopped quiet m k n a c t
 line_stops quiet m s k w did ran n a b c (stop.BadLine f) same is p q = absurd q
 line_stops quiet m s k w did ran n a b c (stop.Full event node field) same is p q = record {
@@ -311,31 +311,31 @@ line_stops quiet m s k w did ran n a b c stop.NoMemory same is p q =
 
 -- ---- the same of the schedule's run
 
-came-chooses : (m s : Moment) (count did : ℕ) → s ≡ started m → did ≡ length (events_chosen count s)
+came-chooses : (m s : Moment) (count did : ℕ) → s ≡ with_world m → did ≡ length (events_chosen count s)
     → outcome_of_line m (Chooses count) ≡ outcome_of_auto (line (words_of m.mesh (Chooses count))) did (outcome_of_events s (events_chosen count s))
 unfolding outcome_of_line
 came-chooses m s count did same many =
     ap (λ k. outcome_of_auto (line (words_of m.mesh (Chooses count))) (length (events_chosen count k)) (outcome_of_events k (events_chosen count k))) (sym same)
     ∙ ap (λ x. outcome_of_auto (line (words_of m.mesh (Chooses count))) x (outcome_of_events s (events_chosen count s))) (sym many)
 
-pub auto_goes : (quiet : Bool) (m s n k : Moment) (count did : ℕ) (a b c d : Option (List ℕ)) → s ≡ started m → did ≡ length (events_chosen count s)
+pub auto_goes : (quiet : Bool) (m s n k : Moment) (count did : ℕ) (a b c d : Option (List ℕ)) → s ≡ with_world m → did ≡ length (events_chosen count s)
     → Appends a b (output_if quiet (line (words_of m.mesh (Chooses count))))
-    → IsEventsDone quiet (outcome_of_events s (events_chosen count s)) n b c → Appends c d (output_if quiet (auto_end did)) → k ≡ counted n → IsLineDone quiet (outcome_of_line m (Chooses count)) k a d
+    → IsEventsDone quiet (outcome_of_events s (events_chosen count s)) n b c → Appends c d (output_if quiet (auto_end did)) → k ≡ with_line_read n → IsLineDone quiet (outcome_of_line m (Chooses count)) k a d
 auto_goes quiet m s n k count did a b c d same many p q r next =
     line_goes quiet (outcome_of_line m (Chooses count)) (line (words_of m.mesh (Chooses count))) did (outcome_of_events s (events_chosen count s)) n k a b c d (came-chooses m s count did same many) p q r next
 
-pub auto_front : (quiet : Bool) (m s : Moment) (count : ℕ) (a b : Option (List ℕ)) → s ≡ started m → AppendsPrefix a b (output_if quiet (line (words_of m.mesh (Chooses count))))
+pub auto_front : (quiet : Bool) (m s : Moment) (count : ℕ) (a b : Option (List ℕ)) → s ≡ with_world m → AppendsPrefix a b (output_if quiet (line (words_of m.mesh (Chooses count))))
     → AppendsPrefix a b (output_if quiet (text_in (outcome_of_line m (Chooses count))))
 auto_front quiet m s count a b same p =
     line_front quiet (outcome_of_line m (Chooses count)) (line (words_of m.mesh (Chooses count))) _ (outcome_of_events s (events_chosen count s)) a b (came-chooses m s count _ same refl) p
 
-pub auto_end_front : (quiet : Bool) (m s n : Moment) (count did : ℕ) (a b c d : Option (List ℕ)) → s ≡ started m → did ≡ length (events_chosen count s)
+pub auto_end_front : (quiet : Bool) (m s n : Moment) (count did : ℕ) (a b c d : Option (List ℕ)) → s ≡ with_world m → did ≡ length (events_chosen count s)
     → Appends a b (output_if quiet (line (words_of m.mesh (Chooses count)))) → IsEventsDone quiet (outcome_of_events s (events_chosen count s)) n b c → AppendsPrefix c d (output_if quiet (auto_end did))
     → AppendsPrefix a d (output_if quiet (text_in (outcome_of_line m (Chooses count))))
 auto_end_front quiet m s n count did a b c d same many p q r =
     line_end_front quiet (outcome_of_line m (Chooses count)) (line (words_of m.mesh (Chooses count))) did (outcome_of_events s (events_chosen count s)) n a b c d (came-chooses m s count did same many) p q r
 
-pub auto_stops : (quiet : Bool) (m s n : Moment) (count : ℕ) (a b c : Option (List ℕ)) (t : Stop) → s ≡ started m
+pub auto_stops : (quiet : Bool) (m s n : Moment) (count : ℕ) (a b c : Option (List ℕ)) (t : Stop) → s ≡ with_world m
     → Appends a b (output_if quiet (line (words_of m.mesh (Chooses count)))) → IsEventsRun quiet s (outcome_of_events s (events_chosen count s)) n b c (Err t)
     → IsLineStopped quiet m (outcome_of_line m (Chooses count)) n a c t
 auto_stops quiet m s n count a b c t same p q =

@@ -15,7 +15,7 @@ use Rattle.mesh_meaning.specs.Events.{event_of, node_of}
 use Rattle.mesh_meaning.specs.Answers.{outcome_in}
 use Rattle.mesh_text.specs.Lines.{words_of}
 use Rattle.mesh_grammar.specs.Written.{line}
-use Rattle.mesh_text.specs.Schedule.{Moment, Accepted, NewNode, ShowsNode, ShowsRoute, ShowsFlight, counted, started, stepped, outcome_at, world_of}
+use Rattle.mesh_text.specs.Schedule.{Moment, AcceptedLine, NewNode, ShowsNode, ShowsRoute, ShowsFlight, with_line_read, with_world, next_moment, outcome_at, world_of}
 use Rattle.mesh_text.specs.Effects.{outcome_lines}
 use Rattle.mesh_text.specs.Tables.{node_text_in, end_text, flight_text}
 use Rattle.mesh_model.specs.Routes.{route_end}
@@ -32,7 +32,7 @@ use Rattle.mesh_run.proofs.OwnNode.{step_own}
 -- ---- an event by itself
 
 by_done : (m : Moment) (e : Event) (mesh : Nodes) (x : ℕ) (w : World) (d : Done) (packet : List ℕ)
-    → outcome_by m e (outcome_in mesh x w d packet) ≡ On (outcome_lines m.mesh e (outcome_in mesh x w d packet)) (stepped m e)
+    → outcome_by m e (outcome_in mesh x w d packet) ≡ On (outcome_lines m.mesh e (outcome_in mesh x w d packet)) (next_moment m e)
 by_done m e mesh x w done.Idle packet = refl
 by_done m e mesh x w done.Changed packet = refl
 by_done m e mesh x w (done.Taken took effect air) packet = refl
@@ -44,7 +44,7 @@ by_done m e mesh x w (done.Doubled id to parcel) packet = refl
 -- an event that has an answer goes on
 answer_came : (m n : Moment) (e : Event) (d : Done) (packet : List ℕ) → IsAnswer m e d n packet → outcome_by m e (outcome_at m e) ≡ On (outcome_lines m.mesh e (outcome_at m e)) n
 answer_came m n e d packet a =
-    ap (outcome_by m e) a.outcome ∙ by_done m e m.mesh (node_of e) (world_of n) d packet ∙ ap (λ o. On (outcome_lines m.mesh e o) (stepped m e)) (sym a.outcome)
+    ap (outcome_by m e) a.outcome ∙ by_done m e m.mesh (node_of e) (world_of n) d packet ∙ ap (λ o. On (outcome_lines m.mesh e o) (next_moment m e)) (sym a.outcome)
     ∙ ap (λ k. On (outcome_lines m.mesh e (outcome_at m e)) k) (sym a.moment)
 
 -- the text of an answer, whichever world is told of
@@ -87,24 +87,24 @@ refusal_stops quiet m n e errors.NoMemory a ev is same = AppendsPrefix-none a _
 
 -- an event changes no mesh
 pub answer_mesh : (m n : Moment) (e : Event) (d : Done) (packet : List ℕ) → IsAnswer m e d n packet → n.mesh ≡ m.mesh
-unfolding stepped
+unfolding next_moment
 answer_mesh m n e d packet a = ap (λ k. k.mesh) a.moment
 
 -- nor counts a line
-pub step_lines : (m s n : Moment) (e : Event) → s ≡ started m → n ≡ stepped s e → n.lines ≡ m.lines
-unfolding stepped
+pub step_lines : (m s n : Moment) (e : Event) → s ≡ with_world m → n ≡ next_moment s e → n.lines ≡ m.lines
+unfolding next_moment
 step_lines m s n e same next = ap (λ k. k.lines) next ∙ ap (λ k. k.lines) same
 
 -- ---- what an event and other lines are written as
 
 -- one more node
 pub node_goes : (quiet : Bool) (m n k : Moment) (mesh : Nodes) (address first : ℕ) (a b : Option (List ℕ)) → mesh ≡ m.mesh
-    → Appends a b (output_if quiet (line (words_of mesh (NewNode address first)))) → n ≡ record m { mesh = with_node m.mesh address first } → k ≡ counted n
+    → Appends a b (output_if quiet (line (words_of mesh (NewNode address first)))) → n ≡ record m { mesh = with_node m.mesh address first } → k ≡ with_line_read n
     → IsLineDone quiet (outcome_of_line m (NewNode address first)) k a b
 unfolding outcome_of_line
 node_goes quiet m n k mesh address first a b same p next last =
     let P : Nodes → Type 0 = λ l. Appends a b (output_if quiet (line (words_of l (NewNode address first)))) in
-    record { text = line (words_of m.mesh (NewNode address first)); is = ap (λ x. On (line (words_of m.mesh (NewNode address first))) x) (sym (last ∙ ap counted next)); grown = subst P same p }
+    record { text = line (words_of m.mesh (NewNode address first)); is = ap (λ x. On (line (words_of m.mesh (NewNode address first))) x) (sym (last ∙ ap with_line_read next)); grown = subst P same p }
 
 pub node_front : (quiet : Bool) (m : Moment) (mesh : Nodes) (address first : ℕ) (a b : Option (List ℕ)) → mesh ≡ m.mesh
     → AppendsPrefix a b (output_if quiet (line (words_of mesh (NewNode address first)))) → AppendsPrefix a b (output_if quiet (text_in (outcome_of_line m (NewNode address first))))
@@ -115,45 +115,45 @@ node_front quiet m mesh address first a b same p =
 
 -- ---- the moment after an event
 
-pub stepped_started : (m n : Moment) (e : Event) → n ≡ stepped m e → is_some n.world ≡ true
-unfolding stepped
+pub stepped_started : (m n : Moment) (e : Event) → n ≡ next_moment m e → is_some n.world ≡ true
+unfolding next_moment
 stepped_started m n e next = ap (λ k. is_some k.world) next
 
-pub stepped_mesh : (m n : Moment) (e : Event) → n ≡ stepped m e → n.mesh ≡ m.mesh
-unfolding stepped
+pub stepped_mesh : (m n : Moment) (e : Event) → n ≡ next_moment m e → n.mesh ≡ m.mesh
+unfolding next_moment
 stepped_mesh m n e next = ap (λ k. k.mesh) next
 
-pub stepped_lines : (m n : Moment) (e : Event) → n ≡ stepped m e → n.lines ≡ m.lines
-unfolding stepped
+pub stepped_lines : (m n : Moment) (e : Event) → n ≡ next_moment m e → n.lines ≡ m.lines
+unfolding next_moment
 stepped_lines m n e next = ap (λ k. k.lines) next
 
-pub stepped_steps : (m n : Moment) (e : Event) → n ≡ stepped m e → n.steps ≡ m.steps + 1
-unfolding stepped
+pub stepped_steps : (m n : Moment) (e : Event) → n ≡ next_moment m e → n.steps ≡ m.steps + 1
+unfolding next_moment
 stepped_steps m n e next = ap (λ k. k.steps) next
 
 -- ---- lines that show something
 
-pub shows_goes : (quiet : Bool) (m s k : Moment) (l : Accepted) (text : Moment → List ℕ) (a b : Option (List ℕ)) → outcome_of_line m l ≡ On (text (started m)) (counted (started m)) → s ≡ started m
-    → Appends a b (output_if quiet (text s)) → k ≡ counted s → IsLineDone quiet (outcome_of_line m l) k a b
+pub shows_goes : (quiet : Bool) (m s k : Moment) (l : AcceptedLine) (text : Moment → List ℕ) (a b : Option (List ℕ)) → outcome_of_line m l ≡ On (text (with_world m)) (with_line_read (with_world m)) → s ≡ with_world m
+    → Appends a b (output_if quiet (text s)) → k ≡ with_line_read s → IsLineDone quiet (outcome_of_line m l) k a b
 shows_goes quiet m s k l text a b outcome_of_piece same p next =
     let P : Moment → Type 0 = λ x. Appends a b (output_if quiet (text x)) in
-    record { text = text (started m); is = outcome_of_piece ∙ ap (λ x. On (text (started m)) x) (sym (next ∙ ap counted same)); grown = subst P same p }
+    record { text = text (with_world m); is = outcome_of_piece ∙ ap (λ x. On (text (with_world m)) x) (sym (next ∙ ap with_line_read same)); grown = subst P same p }
 
-pub shows_stops : (quiet : Bool) (m s : Moment) (l : Accepted) (text : Moment → List ℕ) (a b : Option (List ℕ)) → outcome_of_line m l ≡ On (text (started m)) (counted (started m)) → s ≡ started m
+pub shows_stops : (quiet : Bool) (m s : Moment) (l : AcceptedLine) (text : Moment → List ℕ) (a b : Option (List ℕ)) → outcome_of_line m l ≡ On (text (with_world m)) (with_line_read (with_world m)) → s ≡ with_world m
     → AppendsPrefix a b (output_if quiet (text s)) → AppendsPrefix a b (output_if quiet (text_in (outcome_of_line m l)))
 shows_stops quiet m s l text a b outcome_of_piece same p =
     let P : Moment → Type 0 = λ x. AppendsPrefix a b (output_if quiet (text x)) in
     let Q : List ℕ → Type 0 = λ x. AppendsPrefix a b (output_if quiet x) in
     subst Q (sym (ap text_in outcome_of_piece)) (subst P same p)
 
-pub node_came : (m : Moment) (x : ℕ) → outcome_of_line m (ShowsNode x) ≡ On (line (words_of m.mesh (ShowsNode x)) ++ node_text_in m.mesh (slice_get (world_of m).nodes x)) (counted (started m))
+pub node_came : (m : Moment) (x : ℕ) → outcome_of_line m (ShowsNode x) ≡ On (line (words_of m.mesh (ShowsNode x)) ++ node_text_in m.mesh (slice_get (world_of m).nodes x)) (with_line_read (with_world m))
 unfolding outcome_of_line
 node_came m x = refl
 
-pub route_came : (m : Moment) (x d : ℕ) → outcome_of_line m (ShowsRoute x d) ≡ On (line (words_of m.mesh (ShowsRoute x d)) ++ end_text m.mesh (route_end (world_of m) x d)) (counted (started m))
+pub route_came : (m : Moment) (x d : ℕ) → outcome_of_line m (ShowsRoute x d) ≡ On (line (words_of m.mesh (ShowsRoute x d)) ++ end_text m.mesh (route_end (world_of m) x d)) (with_line_read (with_world m))
 unfolding outcome_of_line
 route_came m x d = refl
 
-pub flight_came : (m : Moment) → outcome_of_line m ShowsFlight ≡ On (line (words_of m.mesh ShowsFlight) ++ flight_text m.mesh (world_of m).flying) (counted (started m))
+pub flight_came : (m : Moment) → outcome_of_line m ShowsFlight ≡ On (line (words_of m.mesh ShowsFlight) ++ flight_text m.mesh (world_of m).flying) (with_line_read (with_world m))
 unfolding outcome_of_line
 flight_came m = refl

@@ -9,10 +9,10 @@ use Rattle.mesh_base.specs.declared.events.Variant.{Variant}
 use Rattle.mesh_base.specs.Meshes.{Nodes, with_node}
 use Rattle.std.specs.Option.{unwrap_or}
 use Rattle.mesh_model.proofs.Sizes.{same_size}
-use Rattle.mesh_model.specs.Accounts.{any, in_taken, in_dropped, in_message, given, delivered, delivered_in, dropped, dropped_in, doubled_in, doubled_at}
+use Rattle.mesh_model.specs.Accounts.{any, in_taken, in_dropped, in_message, given_data, delivered_data, delivered_in, dropped_data, dropped_in, doubled_in, doubled_at}
 use Rattle.mesh_grammar.specs.Lines.{Whole}
 use Rattle.mesh_grammar.specs.Written.{line}
-use Rattle.mesh_text.specs.Schedule.{Moment, Accepted, Nothing, NewNode, Does, Chooses, ShowsNode, ShowsRoute, ShowsFlight, line_of, world_of, started, stepped, counted, outcome_at, idle_by}
+use Rattle.mesh_text.specs.Schedule.{Moment, AcceptedLine, Nothing, NewNode, Does, Chooses, ShowsNode, ShowsRoute, ShowsFlight, line_of, world_of, with_world, next_moment, with_line_read, outcome_at, idle_by}
 use Rattle.mesh_text.specs.Lines.{words_of}
 use Rattle.mesh_text.specs.Auto as auto
 use Rattle.mesh_text.specs.Ranges.{IsInRange}
@@ -33,7 +33,7 @@ idle_few Idle = omega arith
 idle_few (worlds.Full x field) = omega arith
 idle_few (Next w happening) = omega arith
 
-given_few : (e : Event) (o : Outcome) → given any e o ≤ 1
+given_few : (e : Event) (o : Outcome) → given_data any e o ≤ 1
 given_few (Give x d body) Idle = omega arith
 given_few (Give x d body) (worlds.Full y field) = omega arith
 given_few (Give x d body) (Next w happening) = omega arith
@@ -58,7 +58,7 @@ delivered_in_few x (Taken took effect copies) = by_test effect.deliver
     by_test false = omega arith
 delivered_in_few x others = omega arith
 
-delivered_few : (e : Event) (o : Outcome) → delivered any e o ≤ 1
+delivered_few : (e : Event) (o : Outcome) → delivered_data any e o ≤ 1
 delivered_few (Turn x) Idle = omega arith
 delivered_few (Turn x) (worlds.Full y field) = omega arith
 delivered_few (Turn x) (Next w happening) = delivered_in_few x happening
@@ -78,7 +78,7 @@ lost_in_few (Taken took effect copies) = by_test effect.lost
 lost_in_few (CopyLost c) = message_few c.message
 lost_in_few others = omega arith
 
-lost_few : (e : Event) (o : Outcome) → dropped any e o ≤ 1
+lost_few : (e : Event) (o : Outcome) → dropped_data any e o ≤ 1
 lost_few e Idle = omega arith
 lost_few e (worlds.Full x field) = omega arith
 lost_few e (Next w happening) = lost_in_few happening
@@ -111,12 +111,12 @@ grown_both m n k a b =
 abbrev pub IsSized : Moment → Type 0
 IsSized m = length (world_of m).nodes ≤ MOST_NODES
 
-stepped_sized : (m : Moment) (e : Event) → IsSized m → IsSized (stepped m e)
-unfolding stepped
+stepped_sized : (m : Moment) (e : Event) → IsSized m → IsSized (next_moment m e)
+unfolding next_moment
 stepped_sized m e sized = let same = same_size (world_of m) e in omega arith
 
-grown_event : (m : Moment) (e : Event) → IsSized m → IsGrown m (stepped m e)
-unfolding stepped
+grown_event : (m : Moment) (e : Event) → IsSized m → IsGrown m (next_moment m e)
+unfolding next_moment
 grown_event m e sized =
     let more = few_copies (world_of m) e sized in
     let o : Outcome = outcome_at m e in
@@ -135,23 +135,23 @@ GrowsTo m (auto.Full text n e field) most = Unit {0}
 
 -- ---- events one after another
 
-grows_before : (m : Moment) (e : Event) (text : List ℕ) (r : auto.EventsOutcome) (most : ℕ) → GrowsTo (stepped m e) r most → GrowsTo m (auto.before text r) (suc most)
-unfolding GrowsTo stepped
+grows_before : (m : Moment) (e : Event) (text : List ℕ) (r : auto.EventsOutcome) (most : ℕ) → GrowsTo (next_moment m e) r most → GrowsTo m (auto.before text r) (suc most)
+unfolding GrowsTo next_moment
 grows_before m e text (auto.Ended others n) most g =
     let steps = g.steps in
-    record { grown = λ sized. grown_both m (stepped m e) n (grown_event m e sized) (g.grown (stepped_sized m e sized)); lines = g.lines; steps = omega arith }
+    record { grown = λ sized. grown_both m (next_moment m e) n (grown_event m e sized) (g.grown (stepped_sized m e sized)); lines = g.lines; steps = omega arith }
 grows_before m e text (auto.Full others n f field) most g = tt
 
-grows_done : (m : Moment) (e : Event) (o : Outcome) (others : Moment → auto.EventsOutcome) (most : ℕ) → GrowsTo (stepped m e) (others (stepped m e)) most → GrowsTo m (auto.done_then m e o others) (suc most)
+grows_done : (m : Moment) (e : Event) (o : Outcome) (others : Moment → auto.EventsOutcome) (most : ℕ) → GrowsTo (next_moment m e) (others (next_moment m e)) most → GrowsTo m (auto.done_then m e o others) (suc most)
 unfolding GrowsTo
-grows_done m e Idle others most g = grows_before m e _ (others (stepped m e)) most g
+grows_done m e Idle others most g = grows_before m e _ (others (next_moment m e)) most g
 grows_done m e (worlds.Full x field) others most g = tt
-grows_done m e (Next w happening) others most g = grows_before m e _ (others (stepped m e)) most g
+grows_done m e (Next w happening) others most g = grows_before m e _ (others (next_moment m e)) most g
 
 grows_by : (m : Moment) (events : List Event) → GrowsTo m (auto.outcome_of_events m events) (length events)
 unfolding GrowsTo auto.outcome_of_events
 grows_by m [] = record { grown = λ sized. grown_same m m refl refl refl; lines = refl; steps = omega arith }
-grows_by m (e ∷ events) = grows_done m e (outcome_at m e) (λ n. auto.outcome_of_events n events) (length events) (grows_by (stepped m e) events)
+grows_by m (e ∷ events) = grows_done m e (outcome_at m e) (λ n. auto.outcome_of_events n events) (length events) (grows_by (next_moment m e) events)
 
 -- ---- a line
 
@@ -166,11 +166,11 @@ GrowsOn m (On text n) bytes = LineGrows m n bytes
 GrowsOn m (Refused why) bytes = Unit {0}
 GrowsOn m (Full text n e field) bytes = Unit {0}
 
-line_shown : (m : Moment) (bytes : ℕ) → LineGrows m (counted (started m)) bytes
-line_shown m bytes = record { lines = refl; grown = λ sized. grown_same m (counted (started m)) refl refl refl; steps = omega arith }
+line_shown : (m : Moment) (bytes : ℕ) → LineGrows m (with_line_read (with_world m)) bytes
+line_shown m bytes = record { lines = refl; grown = λ sized. grown_same m (with_line_read (with_world m)) refl refl refl; steps = omega arith }
 
 -- events that are few for the bytes of their line
-events_grow : (m n : Moment) (events bytes : ℕ) → Grows (started m) n events → 4 * events ≤ MOST_EVENTS * bytes → LineGrows m (counted n) bytes
+events_grow : (m n : Moment) (events bytes : ℕ) → Grows (with_world m) n events → 4 * events ≤ MOST_EVENTS * bytes → LineGrows m (with_line_read n) bytes
 events_grow m n events bytes g few =
     let steps = g.steps in let lines = g.lines in
     record {
@@ -179,12 +179,12 @@ events_grow m n events bytes g few =
       steps = omega arith;
     }
 
-line_events : (m : Moment) (r : auto.EventsOutcome) (events bytes : ℕ) → GrowsTo (started m) r events → 4 * events ≤ MOST_EVENTS * bytes → GrowsOn m (outcome_by_events r) bytes
+line_events : (m : Moment) (r : auto.EventsOutcome) (events bytes : ℕ) → GrowsTo (with_world m) r events → 4 * events ≤ MOST_EVENTS * bytes → GrowsOn m (outcome_by_events r) bytes
 unfolding GrowsTo GrowsOn
 line_events m (auto.Ended text n) events bytes g few = events_grow m n events bytes g few
 line_events m (auto.Full text n e field) events bytes g few = tt
 
-line_auto : (m : Moment) (text : List ℕ) (did : ℕ) (r : auto.EventsOutcome) (events bytes : ℕ) → GrowsTo (started m) r events → 4 * events ≤ MOST_EVENTS * bytes → GrowsOn m (outcome_of_auto text did r) bytes
+line_auto : (m : Moment) (text : List ℕ) (did : ℕ) (r : auto.EventsOutcome) (events bytes : ℕ) → GrowsTo (with_world m) r events → 4 * events ≤ MOST_EVENTS * bytes → GrowsOn m (outcome_of_auto text did r) bytes
 unfolding GrowsTo GrowsOn
 line_auto m text did (auto.Ended others n) events bytes g few = events_grow m n events bytes g few
 line_auto m text did (auto.Full others n e field) events bytes g few = tt
@@ -195,54 +195,54 @@ unfolding start
 other_nodes v some more None = refl
 other_nodes v some more (Some w) = refl
 
-line_by : (m : Moment) (bytes : List ℕ) (a : Accepted) → IsInRange m.mesh a → line_of m.mesh (is_some m.world) bytes ≡ Ok a → 4 * length (events_of_piece m (Whole bytes)) ≤ MOST_EVENTS * length bytes
+line_by : (m : Moment) (bytes : List ℕ) (a : AcceptedLine) → IsInRange m.mesh a → line_of m.mesh (is_some m.world) bytes ≡ Ok a → 4 * length (events_of_piece m (Whole bytes)) ≤ MOST_EVENTS * length bytes
     → GrowsOn m (outcome_of_line m a) (length bytes)
 unfolding GrowsOn outcome_of_line
-line_by m bytes Nothing range is few = record { lines = refl; grown = λ sized. grown_same m (counted m) refl refl refl; steps = omega arith }
+line_by m bytes Nothing range is few = record { lines = refl; grown = λ sized. grown_same m (with_line_read m) refl refl refl; steps = omega arith }
 line_by m bytes (NewNode address first) range is few = record { lines = refl; grown = λ sized. grown_same m _ refl refl (other_nodes m.variant m.mesh (with_node m.mesh address first) m.world); steps = omega arith }
 line_by m bytes (Does e) range is few =
-    line_events m (auto.outcome_of_events (started m) (e ∷ [])) (length (e ∷ [])) (length bytes) (grows_by (started m) (e ∷ [])) (subst (λ r. 4 * length (events_read m r) ≤ MOST_EVENTS * length bytes) is few)
+    line_events m (auto.outcome_of_events (with_world m) (e ∷ [])) (length (e ∷ [])) (length bytes) (grows_by (with_world m) (e ∷ [])) (subst (λ r. 4 * length (events_read m r) ≤ MOST_EVENTS * length bytes) is few)
 line_by m bytes (Chooses count) range is few =
-    let chosen : List Event = auto.events_chosen count (started m) in
-    line_auto m (line (words_of m.mesh (Chooses count))) (length chosen) (auto.outcome_of_events (started m) chosen) (length chosen) (length bytes) (grows_by (started m) chosen)
+    let chosen : List Event = auto.events_chosen count (with_world m) in
+    line_auto m (line (words_of m.mesh (Chooses count))) (length chosen) (auto.outcome_of_events (with_world m) chosen) (length chosen) (length bytes) (grows_by (with_world m) chosen)
     (subst (λ r. 4 * length (events_read m r) ≤ MOST_EVENTS * length bytes) is few)
 line_by m bytes (ShowsNode x) range is few = line_shown m (length bytes)
 line_by m bytes (ShowsRoute x d) range is few = line_shown m (length bytes)
 line_by m bytes ShowsFlight range is few = line_shown m (length bytes)
 
-pub line_grows : (m n : Moment) (bytes text : List ℕ) (a : Accepted) → length m.mesh ≤ MOST_NODES → line_of m.mesh (is_some m.world) bytes ≡ Ok a → outcome_of_line m a ≡ On text n → LineGrows m n (length bytes)
+pub line_grows : (m n : Moment) (bytes text : List ℕ) (a : AcceptedLine) → length m.mesh ≤ MOST_NODES → line_of m.mesh (is_some m.world) bytes ≡ Ok a → outcome_of_line m a ≡ On text n → LineGrows m n (length bytes)
 unfolding GrowsOn
 line_grows m n bytes text a few is on =
     let range = in_range m.mesh (is_some m.world) bytes a few is in
     subst (λ k. GrowsOn m k (length bytes)) on (line_by m bytes a range.0 is (line_has_few_events m bytes few))
 
 -- where it was done
-pub done_grows : {P : Type 0} (quiet : Bool) (m n : Moment) (bytes : List ℕ) (a : Accepted) (before now : Option (List ℕ)) (r : Result (Unit {0}) Stop) → (LineGrows m n (length bytes) → P) → length m.mesh ≤ MOST_NODES
+pub done_grows : {P : Type 0} (quiet : Bool) (m n : Moment) (bytes : List ℕ) (a : AcceptedLine) (before now : Option (List ℕ)) (r : Result (Unit {0}) Stop) → (LineGrows m n (length bytes) → P) → length m.mesh ≤ MOST_NODES
     → line_of m.mesh (is_some m.world) bytes ≡ Ok a → IsLineRun quiet m (outcome_of_line m a) n before now r → OnOk r P
 done_grows quiet m n bytes a before now (Ok done) of few is run = of (line_grows m n bytes run.text a few is run.is)
 done_grows quiet m n bytes a before now (Err stop) of few is run = tt
 
 -- the same by what a line is: it grows no more than one of four bytes
-value_by : (m : Moment) (a : Accepted) → IsInRange m.mesh a → GrowsOn m (outcome_of_line m a) 4
+value_by : (m : Moment) (a : AcceptedLine) → IsInRange m.mesh a → GrowsOn m (outcome_of_line m a) 4
 unfolding GrowsOn outcome_of_line
-value_by m Nothing range = record { lines = refl; grown = λ sized. grown_same m (counted m) refl refl refl; steps = omega arith }
+value_by m Nothing range = record { lines = refl; grown = λ sized. grown_same m (with_line_read m) refl refl refl; steps = omega arith }
 value_by m (NewNode address first) range = record { lines = refl; grown = λ sized. grown_same m _ refl refl (other_nodes m.variant m.mesh (with_node m.mesh address first) m.world); steps = omega arith }
-value_by m (Does e) range = line_events m (auto.outcome_of_events (started m) (e ∷ [])) (length (e ∷ [])) 4 (grows_by (started m) (e ∷ [])) (omega arith)
+value_by m (Does e) range = line_events m (auto.outcome_of_events (with_world m) (e ∷ [])) (length (e ∷ [])) 4 (grows_by (with_world m) (e ∷ [])) (omega arith)
 value_by m (Chooses count) range =
-    let chosen : List Event = auto.events_chosen count (started m) in
-    let few : length chosen ≤ count = chosen_few count (started m) in
+    let chosen : List Event = auto.events_chosen count (with_world m) in
+    let few : length chosen ≤ count = chosen_few count (with_world m) in
     let most : count ≤ MOST_EVENTS = range.2 in
-    line_auto m (line (words_of m.mesh (Chooses count))) (length chosen) (auto.outcome_of_events (started m) chosen) (length chosen) 4 (grows_by (started m) chosen) (omega arith)
+    line_auto m (line (words_of m.mesh (Chooses count))) (length chosen) (auto.outcome_of_events (with_world m) chosen) (length chosen) 4 (grows_by (with_world m) chosen) (omega arith)
 value_by m (ShowsNode x) range = line_shown m 4
 value_by m (ShowsRoute x d) range = line_shown m 4
 value_by m ShowsFlight range = line_shown m 4
 
-pub value_grows : (quiet : Bool) (m n : Moment) (a : Accepted) (before now : Option (List ℕ)) → IsInRange m.mesh a → IsLineDone quiet (outcome_of_line m a) n before now → LineGrows m n 4
+pub value_grows : (quiet : Bool) (m n : Moment) (a : AcceptedLine) (before now : Option (List ℕ)) → IsInRange m.mesh a → IsLineDone quiet (outcome_of_line m a) n before now → LineGrows m n 4
 unfolding GrowsOn
 value_grows quiet m n a before now range done = subst (λ k. GrowsOn m k 4) done.is (value_by m a range)
 
 -- lines that were done, and one more, by the bytes that were given
-pub steps_more : (len given after : ℕ) (ended : Bool) (n m s bytes : ℕ) → IsCounted len given after ended → bytes ≡ len → 4 * n ≤ 4 * m + MOST_EVENTS * bytes → 4 * m ≤ 4 * s + MOST_EVENTS * given
+pub steps_more : (len given_data after : ℕ) (ended : Bool) (n m s bytes : ℕ) → IsCounted len given_data after ended → bytes ≡ len → 4 * n ≤ 4 * m + MOST_EVENTS * bytes → 4 * m ≤ 4 * s + MOST_EVENTS * given_data
     → 4 * n ≤ 4 * s + MOST_EVENTS * after
-steps_more len given after ended n m s bytes (inl lf) size more few = omega arith
-steps_more len given after ended n m s bytes (inr last) size more few = let count = last.0 in omega arith
+steps_more len given_data after ended n m s bytes (inl lf) size more few = omega arith
+steps_more len given_data after ended n m s bytes (inr last) size more few = let count = last.0 in omega arith

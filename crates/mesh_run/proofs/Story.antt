@@ -15,7 +15,7 @@ use Rattle.mesh_io.proofs.FirstParts.{whole_line, nothing_after}
 use Rattle.mesh_io.proofs.FirstLines.{first_open}
 use Rattle.mesh_grammar.specs.Lines.{Piece, Whole, Long, Beyond, complete, pieces_of_input}
 use Rattle.mesh_text.specs.Schedule.{Moment}
-use Rattle.mesh_text.specs.Text.{Written, lines_before, whole, finished_run}
+use Rattle.mesh_text.specs.Text.{RunText, lines_before, whole, finished_run}
 use Rattle.mesh_text.proofs.Seams.{complete_seam}
 use Rattle.mesh_run.specs.declared.say.Say.{Say}
 use Rattle.mesh_run.specs.declared.say.Say.TheVariants.{All, Last, Faults}
@@ -75,12 +75,12 @@ pieces_with given l rest none short fits =
 -- ---- the story
 
 -- the lines so far were all complete, and were done: whatever follows them goes on from here
-pub record AreDone (start : List ℕ → Written) (at : List Piece → Written) (front lines : List ℕ) : Type 0 where
+pub record AreDone (start : List ℕ → RunText) (at : List Piece → RunText) (front lines : List ℕ) : Type 0 where
   pub complete_is : complete front ≡ front
   pub goes : (rest : List ℕ) → start (front ++ rest) ≡ lines_before lines (at (pieces_at (length front) rest))
 
 -- from the start on these lines were done, with this text; the others are to come
-pub record Story (say : Say) (start : List ℕ → Written) (at : List Piece → Written) (text to_come : List ℕ) (given : ℕ) (ended : Bool) (before now : Option (List ℕ)) : Type 0 where
+pub record Story (say : Say) (start : List ℕ → RunText) (at : List Piece → RunText) (text to_come : List ℕ) (given : ℕ) (ended : Bool) (before now : Option (List ℕ)) : Type 0 where
   pub front : List ℕ
   pub lines : List ℕ
   pub split : text ≡ front ++ to_come
@@ -91,7 +91,7 @@ pub record Story (say : Say) (start : List ℕ → Written) (at : List Piece →
   pub grown : Appends before now (output_if (is_quiet say) lines)
 
 -- where the source tells its bytes
-abbrev pub IsStory : Say → (List ℕ → Written) → (List Piece → Written) → Option (List ℕ) → Option (List ℕ) → ℕ → Bool → Option (List ℕ) → Option (List ℕ) → Type 0
+abbrev pub IsStory : Say → (List ℕ → RunText) → (List Piece → RunText) → Option (List ℕ) → Option (List ℕ) → ℕ → Bool → Option (List ℕ) → Option (List ℕ) → Type 0
 IsStory say start at None to_come given ended before now = Unit {0}
 IsStory say start at (Some text) None given ended before now = ⊥
 IsStory say start at (Some text) (Some bytes) given ended before now = Story say start at text bytes given ended before now
@@ -101,7 +101,7 @@ IsStory say start at (Some text) (Some bytes) given ended before now = Story say
 nothing_complete : complete [] ≡ []
 nothing_complete = open_complete [] refl
 
-pub story_begins : (say : Say) (start : List ℕ → Written) (at : List Piece → Written) (left : Option (List ℕ)) (pending : List ℕ) (given : ℕ) (ended : Bool) (before : Option (List ℕ))
+pub story_begins : (say : Say) (start : List ℕ → RunText) (at : List Piece → RunText) (left : Option (List ℕ)) (pending : List ℕ) (given : ℕ) (ended : Bool) (before : Option (List ℕ))
     → ((bytes : List ℕ) → start bytes ≡ at (pieces_of_input bytes)) → pending ≡ [] → given ≡ 0 → IsStory say start at left (prepend_known pending left) given ended before before
 story_begins say start at None pending given ended before from none zero_is = tt
 story_begins say start at (Some text) pending given ended before from none zero_is =
@@ -117,7 +117,7 @@ story_begins say start at (Some text) pending given ended before from none zero_
     }))
 
 -- what is held stays
-pub story_kept : (say : Say) (start : List ℕ → Written) (at : List Piece → Written) (left to_come : Option (List ℕ)) (given : ℕ) (ended : Bool) (before now after : Option (List ℕ)) → Keeps now after
+pub story_kept : (say : Say) (start : List ℕ → RunText) (at : List Piece → RunText) (left to_come : Option (List ℕ)) (given : ℕ) (ended : Bool) (before now after : Option (List ℕ)) → Keeps now after
     → IsStory say start at left to_come given ended before now → IsStory say start at left to_come given ended before after
 story_kept say start at None to_come given ended before now after keeps s = tt
 story_kept say start at (Some text) None given ended before now after keeps s = absurd s
@@ -138,11 +138,11 @@ none_next : (given : ℕ) (bytes : List ℕ) (f : FirstLine) → bytes ≡ [] �
 unfolding next_of
 none_next given bytes f none next = let clash : End ≡ Line f = sym (ap (next_of schedule_limits given) none) ∙ next in let P : ⊥ = cc in P
 
-before_both : (a b : List ℕ) (w : Written) → lines_before a (lines_before b w) ≡ lines_before (a ++ b) w
+before_both : (a b : List ℕ) (w : RunText) → lines_before a (lines_before b w) ≡ lines_before (a ++ b) w
 before_both a b w = ap (λ l. record w { lines = l }) (sym (append_assoc a b w.lines))
 
 -- the lines so far and this one
-done_more : (start : List ℕ → Written) (at n : List Piece → Written) (front lines text l : List ℕ) → AreDone start at front lines → HasNoLf l → complete (l ++ 10 ∷ []) ≡ l ++ 10 ∷ []
+done_more : (start : List ℕ → RunText) (at n : List Piece → RunText) (front lines text l : List ℕ) → AreDone start at front lines → HasNoLf l → complete (l ++ 10 ∷ []) ≡ l ++ 10 ∷ []
     → length l ≤ LONGEST_LINE → length front + (length l + 1) ≤ LONGEST_INPUT → ((pieces : List Piece) → at (Whole l ∷ pieces) ≡ lines_before text (n pieces))
     → AreDone start n (front ++ (l ++ 10 ∷ [])) (lines ++ text)
 done_more start at n front lines text l done none ends short few on =
@@ -162,7 +162,7 @@ open_ended : (len given after size : ℕ) (ended : Bool) → size ≡ len + 0 �
 open_ended len given after size ended is more (inl lf) = absurd (omega arith)
 open_ended len given after size ended is more (inr last) = last.1
 
-line_told : (say : Say) (start : List ℕ → Written) (at n : List Piece → Written) (text bytes line words : List ℕ) (given after : ℕ) (ended ended' : Bool) (before now later : Option (List ℕ)) (left : Option (List ℕ))
+line_told : (say : Say) (start : List ℕ → RunText) (at n : List Piece → RunText) (text bytes line words : List ℕ) (given after : ℕ) (ended ended' : Bool) (before now later : Option (List ℕ)) (left : Option (List ℕ))
     → given ≤ LONGEST_INPUT → after ≤ LONGEST_INPUT → length line ≤ LONGEST_LINE → Story say start at text bytes given ended before now → FindsLine schedule_limits given bytes line after left
     → IsCounted (length line) given after ended' → ((pieces : List Piece) → at (Whole line ∷ pieces) ≡ lines_before words (n pieces)) → Appends now later (output_if (is_quiet say) words)
     → IsStory say start n (Some text) left after ended' before later
@@ -222,7 +222,7 @@ line_told say start at n text bytes line words given after ended ended' before n
           grown = grown;
         }
 
-pub story_goes : (say : Say) (start : List ℕ → Written) (at n : List Piece → Written) (left to_come after : Option (List ℕ)) (line words : List ℕ) (given given' : ℕ) (ended ended' : Bool) (before now later : Option (List ℕ))
+pub story_goes : (say : Say) (start : List ℕ → RunText) (at n : List Piece → RunText) (left to_come after : Option (List ℕ)) (line words : List ℕ) (given given' : ℕ) (ended ended' : Bool) (before now later : Option (List ℕ))
     → given ≤ LONGEST_INPUT → given' ≤ LONGEST_INPUT → length line ≤ LONGEST_LINE → IsStory say start at left to_come given ended before now
     → IfSome to_come (λ bytes. Tells schedule_limits given bytes (Ok true) line given' after) → IsCounted (length line) given given' ended'
     → ((pieces : List Piece) → at (Whole line ∷ pieces) ≡ lines_before words (n pieces)) → Appends now later (output_if (is_quiet say) words) → IsStory say start n left after given' ended' before later
@@ -234,7 +234,7 @@ story_goes say start at n (Some text) (Some bytes) after line words given given'
 -- ---- its ends
 
 -- an answer that is no failed read
-pub output_from : (say : Say) (start : List ℕ → Written) (bytes : List ℕ) (left before now : Option (List ℕ)) (s : Status) → s ≢ ReadFault → IsOutput before now (part say (start bytes)) s
+pub output_from : (say : Say) (start : List ℕ → RunText) (bytes : List ℕ) (left before now : Option (List ℕ)) (s : Status) → s ≢ ReadFault → IsOutput before now (part say (start bytes)) s
     → IsOutputOf say start bytes left before now s
 output_from say start bytes left before now Done read t = t
 output_from say start bytes left before now (BadLine n) read t = t
@@ -245,18 +245,18 @@ output_from say start bytes left before now NoMemory read t = t
 output_from say start bytes left before now Usage read t = t
 
 -- what is told of the lines to come is told of all
-story_tells : (say : Say) (start : List ℕ → Written) (at : List Piece → Written) (text bytes : List ℕ) (given : ℕ) (ended : Bool) (before now later left : Option (List ℕ)) (s : Status)
+story_tells : (say : Say) (start : List ℕ → RunText) (at : List Piece → RunText) (text bytes : List ℕ) (given : ℕ) (ended : Bool) (before now later left : Option (List ℕ)) (s : Status)
     → Story say start at text bytes given ended before now → s ≢ ReadFault → IsOutput now later (part say (at (pieces_at given bytes))) s → IsOutputOf say start text left before later s
 story_tells say start at text bytes given ended before now later left s is read t =
     output_from say start text left before later s read (told_before say (start text) (at (pieces_at given bytes)) is.lines before now later s is.all is.grown t)
 
 -- what is told of a next piece, whatever follows it
-told_next : (say : Say) (at : List Piece → Written) (piece : Piece) (ps : List Piece) (now later : Option (List ℕ)) (s : Status)
+told_next : (say : Say) (at : List Piece → RunText) (piece : Piece) (ps : List Piece) (now later : Option (List ℕ)) (s : Status)
     → ((pieces : List Piece) → IsOutput now later (part say (at (piece ∷ pieces))) s) → Begins piece ps → IsOutput now later (part say (at ps)) s
 told_next say at piece ps now later s t a = subst (λ l. IsOutput now later (part say (at l)) s) (sym a.1) (t a.0)
 
 -- a line ended the run
-pub story_stops : (say : Say) (start : List ℕ → Written) (at : List Piece → Written) (left to_come after new : Option (List ℕ)) (line : List ℕ) (given given' : ℕ) (ended : Bool) (before now later : Option (List ℕ)) (s : Status)
+pub story_stops : (say : Say) (start : List ℕ → RunText) (at : List Piece → RunText) (left to_come after new : Option (List ℕ)) (line : List ℕ) (given given' : ℕ) (ended : Bool) (before now later : Option (List ℕ)) (s : Status)
     → given ≤ LONGEST_INPUT → IsStory say start at left to_come given ended before now → IfSome to_come (λ bytes. Tells schedule_limits given bytes (Ok true) line given' after) → s ≢ ReadFault
     → ((pieces : List Piece) → IsOutput now later (part say (at (Whole line ∷ pieces))) s) → IfSome left (λ bytes. IsOutputOf say start bytes new before later s)
 story_stops say start at None to_come after new line given given' ended before now later s few is told read t = tt
@@ -268,26 +268,26 @@ story_stops say start at (Some text) (Some bytes) after new line given given' en
     (subst (λ ps. IsOutput now later (part say (at ps)) s) (sym pieces) (t (pieces_at (given + line_size told.first) (told.first).rest)))
 
 -- the end of the input
-pub story_ends : (say : Say) (start : List ℕ → Written) (at : List Piece → Written) (m : Moment) (left to_come after new : Option (List ℕ)) (line : List ℕ) (given given' : ℕ) (ended : Bool) (before now later : Option (List ℕ)) (s : Status)
+pub story_ends : (say : Say) (start : List ℕ → RunText) (at : List Piece → RunText) (m : Moment) (left to_come after new : Option (List ℕ)) (line : List ℕ) (given given' : ℕ) (ended : Bool) (before now later : Option (List ℕ)) (s : Status)
     → at [] ≡ finished_run m → IsStory say start at left to_come given ended before now → IfSome to_come (λ bytes. Tells schedule_limits given bytes (Ok false) line given' after) → s ≢ ReadFault
     → IsOutput now later (part say (finished_run m)) s → IfSome left (λ bytes. IsOutputOf say start bytes new before later s)
 story_ends say start at m None to_come after new line given given' ended before now later s end is told read t = tt
 story_ends say start at m (Some text) None after new line given given' ended before now later s end is told read t = absurd is
 story_ends say start at m (Some text) (Some bytes) after new line given given' ended before now later s end is told read t =
     story_tells say start at text bytes given ended before now later new s is read
-    (subst (λ (w : Written). IsOutput now later (part say w) s) (sym (ap at (ap (pieces_at given) told.0 ∙ pieces_none given) ∙ end)) t)
+    (subst (λ (w : RunText). IsOutput now later (part say w) s) (sym (ap at (ap (pieces_at given) told.0 ∙ pieces_none given) ∙ end)) t)
 
 -- the moment to which the run came
-pub story_after : (say : Say) (start : List ℕ → Written) (at : List Piece → Written) (m : Moment) (left to_come after : Option (List ℕ)) (line : List ℕ) (given given' : ℕ) (ended : Bool) (before now : Option (List ℕ))
+pub story_after : (say : Say) (start : List ℕ → RunText) (at : List Piece → RunText) (m : Moment) (left to_come after : Option (List ℕ)) (line : List ℕ) (given given' : ℕ) (ended : Bool) (before now : Option (List ℕ))
     → at [] ≡ finished_run m → IsStory say start at left to_come given ended before now → IfSome to_come (λ bytes. Tells schedule_limits given bytes (Ok false) line given' after)
     → IfSome left (λ bytes. m ≡ (start bytes).after)
 story_after say start at m None to_come after line given given' ended before now end is told = tt
 story_after say start at m (Some text) None after line given given' ended before now end is told = absurd is
 story_after say start at m (Some text) (Some bytes) after line given given' ended before now end is told =
-    sym (ap (λ (w : Written). w.after) (is.all ∙ ap (λ ps. lines_before is.lines (at ps)) (ap (pieces_at given) told.0 ∙ pieces_none given) ∙ ap (lines_before is.lines) end))
+    sym (ap (λ (w : RunText). w.after) (is.all ∙ ap (λ ps. lines_before is.lines (at ps)) (ap (pieces_at given) told.0 ∙ pieces_none given) ∙ ap (lines_before is.lines) end))
 
 -- a limit
-pub story_long : (say : Say) (start : List ℕ → Written) (at : List Piece → Written) (left to_come after new : Option (List ℕ)) (line : List ℕ) (given given' : ℕ) (ended : Bool) (before now later : Option (List ℕ)) (s : Status)
+pub story_long : (say : Say) (start : List ℕ → RunText) (at : List Piece → RunText) (left to_come after new : Option (List ℕ)) (line : List ℕ) (given given' : ℕ) (ended : Bool) (before now later : Option (List ℕ)) (s : Status)
     → given ≤ LONGEST_INPUT → IsStory say start at left to_come given ended before now → IfSome to_come (λ bytes. Tells schedule_limits given bytes (Err error.TooLong) line given' after) → s ≢ ReadFault
     → ((pieces : List Piece) → IsOutput now later (part say (at (Long ∷ pieces))) s) → IfSome left (λ bytes. IsOutputOf say start bytes new before later s)
 story_long say start at None to_come after new line given given' ended before now later s few is told read t = tt
@@ -296,7 +296,7 @@ story_long say start at (Some text) (Some bytes) after new line given given' end
     story_tells say start at text bytes given ended before now later new s is read
     (told_next say at Long (pieces_at given bytes) now later s t (subst (IsAhead given bytes) told.0 (ahead given bytes few)))
 
-pub story_much : (say : Say) (start : List ℕ → Written) (at : List Piece → Written) (left to_come after new : Option (List ℕ)) (line : List ℕ) (given given' : ℕ) (ended : Bool) (before now later : Option (List ℕ)) (s : Status)
+pub story_much : (say : Say) (start : List ℕ → RunText) (at : List Piece → RunText) (left to_come after new : Option (List ℕ)) (line : List ℕ) (given given' : ℕ) (ended : Bool) (before now later : Option (List ℕ)) (s : Status)
     → given ≤ LONGEST_INPUT → IsStory say start at left to_come given ended before now → IfSome to_come (λ bytes. Tells schedule_limits given bytes (Err error.TooMuch) line given' after) → s ≢ ReadFault
     → ((pieces : List Piece) → IsOutput now later (part say (at (Beyond ∷ pieces))) s) → IfSome left (λ bytes. IsOutputOf say start bytes new before later s)
 story_much say start at None to_come after new line given given' ended before now later s few is told read t = tt
@@ -306,11 +306,11 @@ story_much say start at (Some text) (Some bytes) after new line given given' end
     (told_next say at Beyond (pieces_at given bytes) now later s t (subst (IsAhead given bytes) told.0 (ahead given bytes few)))
 
 -- what was told of the lines so far is a prefix
-story_front : (say : Say) (start : List ℕ → Written) (at : List Piece → Written) (text bytes : List ℕ) (given : ℕ) (ended : Bool) (before now : Option (List ℕ)) → Story say start at text bytes given ended before now
+story_front : (say : Say) (start : List ℕ → RunText) (at : List Piece → RunText) (text bytes : List ℕ) (given : ℕ) (ended : Bool) (before now : Option (List ℕ)) → Story say start at text bytes given ended before now
     → AppendsPrefix before now (whole (part say (start text)))
-story_front say start at text bytes given ended before now is = subst (λ (v : Written). AppendsPrefix before now (whole (part say v))) (sym is.all) (by_say say is.grown)
+story_front say start at text bytes given ended before now is = subst (λ (v : RunText). AppendsPrefix before now (whole (part say v))) (sym is.all) (by_say say is.grown)
   where
-    w : Written
+    w : RunText
     w = at (pieces_at given bytes)
 
     by_say : (say : Say) → Appends before now (output_if (is_quiet say) is.lines) → AppendsPrefix before now (whole (part say (lines_before is.lines w)))
@@ -318,7 +318,7 @@ story_front say start at text bytes given ended before now is = subst (λ (v : W
     by_say Last p = record { prefix = []; rest = w.last; whole = refl; grown = p }
     by_say Faults p = record { prefix = []; rest = (part Faults w).last; whole = refl; grown = p }
 
-pub story_breaks : (say : Say) (start : List ℕ → Written) (at : List Piece → Written) (left to_come new : Option (List ℕ)) (given : ℕ) (ended : Bool) (before now : Option (List ℕ)) → IsStory say start at left to_come given ended before now
+pub story_breaks : (say : Say) (start : List ℕ → RunText) (at : List Piece → RunText) (left to_come new : Option (List ℕ)) (given : ℕ) (ended : Bool) (before now : Option (List ℕ)) → IsStory say start at left to_come given ended before now
     → IfSome left (λ bytes. IsOutputOf say start bytes new before now WriteFault)
 story_breaks say start at None to_come new given ended before now is = tt
 story_breaks say start at (Some text) None new given ended before now is = absurd is
@@ -330,7 +330,7 @@ cut_lines All m lines = append-nil lines
 cut_lines Last m lines = refl
 cut_lines Faults m lines = refl
 
-cut_short : (say : Say) (start : List ℕ → Written) (at : List Piece → Written) (m : Moment) (text front lines pending rest : List ℕ) (before now : Option (List ℕ)) → at [] ≡ finished_run m → text ≡ front ++ (pending ++ rest)
+cut_short : (say : Say) (start : List ℕ → RunText) (at : List Piece → RunText) (m : Moment) (text front lines pending rest : List ℕ) (before now : Option (List ℕ)) → at [] ≡ finished_run m → text ≡ front ++ (pending ++ rest)
     → AreDone start at front lines → HasNoLf pending → Appends before now (output_if (is_quiet say) lines) → AppendsPrefix before now (whole (part say (start text))) → IsCutShort say start text (Some rest) before now
 cut_short say start at m text front lines pending rest before now end split done none grown prefix =
     let taken : complete (front ++ pending) ≡ front = complete_seam front pending done.complete_is ∙ ap (λ l. front ++ l) (open_complete pending none) ∙ append-nil front in
@@ -339,12 +339,12 @@ cut_short say start at m text front lines pending rest before now end split done
     record {
       taken = front ++ pending;
       consumed = split ∙ sym (append_assoc front pending rest);
-      done = ap (λ (x : Written). x.verdict) w;
-      grown = subst (λ l. Appends before now l) (sym (ap (λ (x : Written). (part say x).lines) w ∙ cut_lines say m lines)) grown;
+      done = ap (λ (x : RunText). x.verdict) w;
+      grown = subst (λ l. Appends before now l) (sym (ap (λ (x : RunText). (part say x).lines) w ∙ cut_lines say m lines)) grown;
       prefix = prefix;
     }
 
-pub story_cut : (say : Say) (start : List ℕ → Written) (at : List Piece → Written) (m : Moment) (left to_come new : Option (List ℕ)) (pending line : List ℕ) (given given' : ℕ) (ended : Bool) (before now : Option (List ℕ))
+pub story_cut : (say : Say) (start : List ℕ → RunText) (at : List Piece → RunText) (m : Moment) (left to_come new : Option (List ℕ)) (pending line : List ℕ) (given given' : ℕ) (ended : Bool) (before now : Option (List ℕ))
     → at [] ≡ finished_run m → IsStory say start at left to_come given ended before now
     → IfSome to_come (λ bytes. Tells schedule_limits given bytes (Err error.ReadFault) line given' (prepend_known pending new))
     → HasNoLf pending → ¬ (ended ≡ true) → IfSome left (λ bytes. IsOutputOf say start bytes new before now ReadFault)

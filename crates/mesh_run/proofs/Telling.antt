@@ -10,9 +10,9 @@ use Rattle.mesh_grammar.specs.declared.fault.BadWhy.{BadWhy}
 use Rattle.mesh_grammar.specs.declared.fault.BadWhy.TheVariants.{Fault, TooLong, TooMuch}
 use Rattle.mesh_grammar.specs.Lines.{Piece, Whole, Long, Beyond, pieces_of_input}
 use Rattle.mesh_text.specs.Lines.{full_line}
-use Rattle.mesh_text.specs.Schedule.{Moment, Accepted, line_of}
+use Rattle.mesh_text.specs.Schedule.{Moment, AcceptedLine, line_of}
 use Rattle.mesh_text.specs.Text as texts
-use Rattle.mesh_text.specs.Text.{Written, LineOutcome, outcome_of_piece, outcome_of_read, outcome_of_line, text_in, On, Refused, text_from, text_on, goes_on, lines_before, whole, finished_run, refused_run, overfull_run, FullAt}
+use Rattle.mesh_text.specs.Text.{RunText, LineOutcome, outcome_of_piece, outcome_of_read, outcome_of_line, text_in, On, Refused, text_from, text_on, goes_on, lines_before, whole, finished_run, refused_run, overfull_run, FullAt}
 use Rattle.mesh_run.specs.declared.status.Status.{Status}
 use Rattle.mesh_run.specs.declared.status.Status.TheVariants.{Done, Usage, BadLine, Full, ReadFault, WriteFault, NoMemory}
 use Rattle.mesh_run.specs.declared.stop.Stop.{Stop}
@@ -47,21 +47,21 @@ came-whole : (m : Moment) (bytes : List ℕ) → outcome_of_piece m (Whole bytes
 unfolding outcome_of_piece
 came-whole m bytes = refl
 
-came-accepted : (m : Moment) (bytes : List ℕ) (a : Accepted) → line_of m.mesh (is_some m.world) bytes ≡ Ok a → outcome_of_piece m (Whole bytes) ≡ outcome_of_line m a
+came-accepted : (m : Moment) (bytes : List ℕ) (a : AcceptedLine) → line_of m.mesh (is_some m.world) bytes ≡ Ok a → outcome_of_piece m (Whole bytes) ≡ outcome_of_line m a
 came-accepted m bytes a e = came-whole m bytes ∙ ap (outcome_of_read m) e
 
 pub came-refused : (m : Moment) (bytes : List ℕ) (f : LineFault) → line_of m.mesh (is_some m.world) bytes ≡ Err f → outcome_of_piece m (Whole bytes) ≡ Refused (Fault f)
 came-refused m bytes f e = came-whole m bytes ∙ ap (outcome_of_read m) e
 
 -- an allowed line that was done
-pub goes_accepted : (quiet : Bool) (m n : Moment) (bytes : List ℕ) (l : Accepted) (a b : Option (List ℕ)) → line_of m.mesh (is_some m.world) bytes ≡ Ok l
+pub goes_accepted : (quiet : Bool) (m n : Moment) (bytes : List ℕ) (l : AcceptedLine) (a b : Option (List ℕ)) → line_of m.mesh (is_some m.world) bytes ≡ Ok l
     → IsLineDone quiet (outcome_of_line m l) n a b → IsLineDone quiet (outcome_of_piece m (Whole bytes)) n a b
 goes_accepted quiet m n bytes l a b e g =
     let P : LineOutcome → Type 0 = λ k. IsLineDone quiet k n a b in
     subst P (sym (came-accepted m bytes l e)) g
 
 -- an allowed line that was not done whole
-pub stops_accepted : (quiet : Bool) (m n : Moment) (bytes : List ℕ) (l : Accepted) (a b : Option (List ℕ)) (stop : Stop) → line_of m.mesh (is_some m.world) bytes ≡ Ok l
+pub stops_accepted : (quiet : Bool) (m n : Moment) (bytes : List ℕ) (l : AcceptedLine) (a b : Option (List ℕ)) (stop : Stop) → line_of m.mesh (is_some m.world) bytes ≡ Ok l
     → IsLineStopped quiet m (outcome_of_line m l) n a b stop → IsLineStopped quiet m (outcome_of_piece m (Whole bytes)) n a b stop
 stops_accepted quiet m n bytes l a b stop e g =
     let P : LineOutcome → Type 0 = λ k. IsLineStopped quiet m k n a b stop in
@@ -70,7 +70,7 @@ stops_accepted quiet m n bytes l a b stop e g =
 -- ---- telling
 
 -- a text before what is told
-Told-after : (a b c : Option (List ℕ)) (prefix : List ℕ) (v w : Written) (s : Status) → v.verdict ≡ w.verdict → whole v ≡ prefix ++ whole w
+Told-after : (a b c : Option (List ℕ)) (prefix : List ℕ) (v w : RunText) (s : Status) → v.verdict ≡ w.verdict → whole v ≡ prefix ++ whole w
     → Appends a b prefix → IsOutput b c w s → IsOutput a c v s
 Told-after a b c prefix v w Done e h p t = (e ∙ t.0, Appends-join a b c prefix (whole w) _ h p t.1)
 Told-after a b c prefix v w (BadLine n) e h p t = (e ∙ t.0, Appends-join a b c prefix (whole w) _ h p t.1)
@@ -81,27 +81,27 @@ Told-after a b c prefix v w NoMemory e h p t = AppendsPrefix-join a b c prefix (
 Told-after a b c prefix v w Usage e h p t = t
 
 -- lines before what is told
-Told-join : (a b c : Option (List ℕ)) (prefix : List ℕ) (w : Written) (s : Status) → Appends a b prefix → IsOutput b c w s → IsOutput a c (lines_before prefix w) s
+Told-join : (a b c : Option (List ℕ)) (prefix : List ℕ) (w : RunText) (s : Status) → Appends a b prefix → IsOutput b c w s → IsOutput a c (lines_before prefix w) s
 Told-join a b c prefix w s p t = Told-after a b c prefix (lines_before prefix w) w s refl (append_assoc prefix w.lines w.last) p t
 
 -- being quiet and going on
-part-lines_before : (say : Say) (prefix : List ℕ) (w : Written) → part say (lines_before prefix w) ≡ lines_before (output_if (is_quiet say) prefix) (part say w)
+part-lines_before : (say : Say) (prefix : List ℕ) (w : RunText) → part say (lines_before prefix w) ≡ lines_before (output_if (is_quiet say) prefix) (part say w)
 part-lines_before All prefix w = refl
 part-lines_before Last prefix w = refl
 part-lines_before Faults prefix w = refl
 
 -- what is told of a run is told of lines before it
-pub told_before : (say : Say) (v w : Written) (text : List ℕ) (a b c : Option (List ℕ)) (s : Status) → v ≡ lines_before text w → Appends a b (output_if (is_quiet say) text)
+pub told_before : (say : Say) (v w : RunText) (text : List ℕ) (a b c : Option (List ℕ)) (s : Status) → v ≡ lines_before text w → Appends a b (output_if (is_quiet say) text)
     → IsOutput b c (part say w) s → IsOutput a c (part say v) s
 told_before say v w text a b c s is p t =
-    let P : Written → Type 0 = λ x. IsOutput a c x s in
+    let P : RunText → Type 0 = λ x. IsOutput a c x s in
     subst P (sym (ap (part say) is ∙ part-lines_before say text w)) (Told-join a b c (output_if (is_quiet say) text) (part say w) s p t)
 
 -- a prefix of a line's text is a prefix of all that follows
 front_longer : (a b : Option (List ℕ)) (text more : List ℕ) → AppendsPrefix a b text → AppendsPrefix a b (text ++ more)
 front_longer a b text more f = AppendsPrefix-more a b text more (text ++ more) refl f
 
-pub front_of_came : (say : Say) (m : Moment) (k : LineOutcome) (others : Moment → Written) (a b : Option (List ℕ)) → AppendsPrefix a b (output_if (is_quiet say) (text_in k))
+pub front_of_came : (say : Say) (m : Moment) (k : LineOutcome) (others : Moment → RunText) (a b : Option (List ℕ)) → AppendsPrefix a b (output_if (is_quiet say) (text_in k))
     → AppendsPrefix a b (whole (part say (goes_on m k others)))
 front_of_came All m (On text n) others a b f = front_longer a b _ _ (front_longer a b text _ f)
 front_of_came All m (Refused why) others a b f = front_longer a b [] _ f
@@ -117,7 +117,7 @@ front_of_came Faults m (texts.Full text n e field) others a b f = front_longer a
 pub front_from_part : (say : Say) (m : Moment) (piece : Piece) (a b : Option (List ℕ)) (pieces : List Piece) → AppendsPrefix a b (output_if (is_quiet say) (text_in (outcome_of_piece m piece)))
     → AppendsPrefix a b (whole (part say (text_from m (piece ∷ pieces))))
 front_from_part say m piece a b pieces f =
-    let P : Written → Type 0 = λ w. AppendsPrefix a b (whole (part say w)) in
+    let P : RunText → Type 0 = λ w. AppendsPrefix a b (whole (part say w)) in
     subst P (sym (text_from-cons m piece pieces)) (front_of_came say m (outcome_of_piece m piece) (λ n. text_from n pieces) a b f)
 
 -- the last line of a refused line is written, however little is said
@@ -127,26 +127,26 @@ part-refused_run Last m why = refl
 part-refused_run Faults m why = refl
 
 -- what is told of a run that comes to a refused line first
-pub refused_told : (say : Say) (m : Moment) (why : BadWhy) (w : Written) (a b : Option (List ℕ)) (s : Status) → w ≡ refused_run m why → IsOutput a b (refused_run m why) s → IsOutput a b (part say w) s
+pub refused_told : (say : Say) (m : Moment) (why : BadWhy) (w : RunText) (a b : Option (List ℕ)) (s : Status) → w ≡ refused_run m why → IsOutput a b (refused_run m why) s → IsOutput a b (part say w) s
 refused_told say m why w a b s is t =
-    let P : Written → Type 0 = λ x. IsOutput a b x s in
+    let P : RunText → Type 0 = λ x. IsOutput a b x s in
     subst P (sym (ap (part say) is ∙ part-refused_run say m why)) t
 
 -- or to one that isn't allowed, which left the moment as it was
-pub bad_told : (say : Say) (m n : Moment) (f : LineFault) (w : Written) (a b c : Option (List ℕ)) (s : Status)
+pub bad_told : (say : Say) (m n : Moment) (f : LineFault) (w : RunText) (a b c : Option (List ℕ)) (s : Status)
     → w ≡ refused_run m (Fault f) → n ≡ m → Keeps a b → IsOutput b c (refused_run n (Fault f)) s → IsOutput a c (part say w) s
 bad_told say m n f w a b c s is same kept t =
     let Q : Moment → Type 0 = λ k. IsOutput b c (refused_run k (Fault f)) s in
     refused_told say m (Fault f) w a c s is (Told-join a b c [] (refused_run m (Fault f)) s (Appends-kept a b kept) (subst Q same t))
 
 -- or to one with an event that is refused for a full counter
-pub full_told : (say : Say) (m n : Moment) (k : LineOutcome) (others : Moment → Written) (w : Written) (e : Event) (node : ℕ) (field : Field) (a b c : Option (List ℕ)) (s : Status)
+pub full_told : (say : Say) (m n : Moment) (k : LineOutcome) (others : Moment → RunText) (w : RunText) (e : Event) (node : ℕ) (field : Field) (a b c : Option (List ℕ)) (s : Status)
     → w ≡ goes_on m k others → IsLineFull (is_quiet say) m k n a b e node field → IsOutput b c (overfull_run n [] e field) s → IsOutput a c (part say w) s
 full_told say m n k others w e node field a b c s is g t =
     let verdict : FullAt (m.lines + 1) ≡ FullAt (n.lines + 1) = ap (λ l. FullAt (l + 1)) (sym g.still.lines) in
     let line : full_line m.mesh (m.lines + 1) e field ≡ full_line n.mesh (n.lines + 1) e field =
     ap (λ x. full_line x (m.lines + 1) e field) (sym g.still.mesh) ∙ ap (λ l. full_line n.mesh (l + 1) e field) (sym g.still.lines) in
-    let P : Written → Type 0 = λ x. IsOutput a c x s in
+    let P : RunText → Type 0 = λ x. IsOutput a c x s in
     subst P (sym (ap (part say) (is ∙ ap (λ r. goes_on m r others) g.is)))
     (by_say say verdict line g.grown)
   where

@@ -5,7 +5,7 @@ use Rattle.mesh_grammar.specs.declared.fault.LineFault.{LineFault}
 use Rattle.mesh_grammar.specs.Lines.{Whole}
 use Rattle.mesh_model.specs.Worlds as worlds
 use Rattle.mesh_model.specs.Worlds.{Event, Outcome, Idle, Next}
-use Rattle.mesh_text.specs.Schedule.{Moment, Accepted, Chooses, line_of, started, stepped, outcome_at}
+use Rattle.mesh_text.specs.Schedule.{Moment, AcceptedLine, Chooses, line_of, with_world, next_moment, outcome_at}
 use Rattle.mesh_text.specs.Text.{On, Full}
 use Rattle.mesh_text.specs.Auto.{event_then, events_chosen}
 use Rattle.mesh_text.specs.Runs.{events_of_line, events_read, events_of_piece, moment_after}
@@ -19,11 +19,11 @@ pub reached_none : (m n : Moment) (events : List Event) → n ≡ m → IsReache
 unfolding moment_after
 reached_none m n events same = (0, same)
 
-pub reached_one : (m n : Moment) (e : Event) (others : List Event) → n ≡ stepped m e → IsReached m (e ∷ others) n
+pub reached_one : (m n : Moment) (e : Event) (others : List Event) → n ≡ next_moment m e → IsReached m (e ∷ others) n
 unfolding moment_after
 reached_one m n e others next = (1, next)
 
-reached_more : (m s n : Moment) (e : Event) (others : List Event) → s ≡ stepped m e → IsReached s others n → IsReached m (e ∷ others) n
+reached_more : (m s n : Moment) (e : Event) (others : List Event) → s ≡ next_moment m e → IsReached s others n → IsReached m (e ∷ others) n
 unfolding moment_after
 reached_more m s n e others next way = (suc way.0, way.1 ∙ ap (λ k. moment_after k (take way.0 others)) next)
 
@@ -38,26 +38,26 @@ reached_longer m n e others way = by_count way.0 way.1
   where
     by_count : (k : ℕ) → n ≡ moment_after m (take k (e ∷ [])) → IsReached m (e ∷ others) n
     by_count zero is = (0, is)
-    by_count (suc k) is = (1, is ∙ ap (λ l. moment_after (stepped m e) l) (none_taken k))
+    by_count (suc k) is = (1, is ∙ ap (λ l. moment_after (next_moment m e) l) (none_taken k))
 
 -- ---- events one after another
 
-then_on : (quiet : Bool) (m n k : Moment) (e : Event) (o : Outcome) (others : Moment → List Event) (a b : Option (List ℕ)) → IsLineDone quiet (outcome_by m e o) n a b → n ≡ stepped m e
+then_on : (quiet : Bool) (m n k : Moment) (e : Event) (o : Outcome) (others : Moment → List Event) (a b : Option (List ℕ)) → IsLineDone quiet (outcome_by m e o) n a b → n ≡ next_moment m e
     → IsReached n (others n) k → IsReached m (event_then m e o others) k
 then_on quiet m n k e Idle others a b done next way =
-    reached_more m n k e (others (stepped m e)) next (subst (λ s. IsReached n (others s) k) next way)
+    reached_more m n k e (others (next_moment m e)) next (subst (λ s. IsReached n (others s) k) next way)
 then_on quiet m n k e (worlds.Full x field) others a b done next way = absurd (let h : Full [] m e field ≡ On done.text n = done.is in let P : ⊥ = cc in P)
 then_on quiet m n k e (Next w i) others a b done next way =
-    reached_more m n k e (others (stepped m e)) next (subst (λ s. IsReached n (others s) k) next way)
+    reached_more m n k e (others (next_moment m e)) next (subst (λ s. IsReached n (others s) k) next way)
 
 then_first : (m k : Moment) (e : Event) (o : Outcome) (others : Moment → List Event) → IsReached m (e ∷ []) k → IsReached m (event_then m e o others) k
-then_first m k e Idle others way = reached_longer m k e (others (stepped m e)) way
+then_first m k e Idle others way = reached_longer m k e (others (next_moment m e)) way
 then_first m k e (worlds.Full x field) others way = way
-then_first m k e (Next w i) others way = reached_longer m k e (others (stepped m e)) way
+then_first m k e (Next w i) others way = reached_longer m k e (others (next_moment m e)) way
 
 -- one was done, and then others
 pub way_goes : (quiet : Bool) (given : Option Event) (most did : ℕ) (m n k : Moment) (e : Event) (a b : Option (List ℕ)) → IfSome given (λ _. most ≤ 1) → did < most → Some e ≡ next_in given m
-    → IsLineDone quiet (line_outcome_at m e) n a b → n ≡ stepped m e → IsReached n (events_due given (most - (did + 1)) n) k → IsReached m (events_due given (most - did) m) k
+    → IsLineDone quiet (line_outcome_at m e) n a b → n ≡ next_moment m e → IsReached n (events_due given (most - (did + 1)) n) k → IsReached m (events_due given (most - did) m) k
 way_goes quiet given most did m n k e a b one h next done after way =
     subst (λ l. IsReached m l k) (sym (due_next given most did m e one h next)) (then_on quiet m n k e (outcome_at m e) (λ s. events_due given (most - (did + 1)) s) a b done after way)
 
@@ -74,21 +74,21 @@ chosen_way s m n k count same back way =
 
 -- ---- a line
 
-pub way_of_event : (m s n k : Moment) (e : Event) → s ≡ started m → n ≡ k → IsReached s (events_due (Some e) 1 s) n → IsOnTheWay m (e ∷ []) k
+pub way_of_event : (m s n k : Moment) (e : Event) → s ≡ with_world m → n ≡ k → IsReached s (events_due (Some e) 1 s) n → IsOnTheWay m (e ∷ []) k
 unfolding events_due
-way_of_event m s n k e same back way = inr (subst (λ (x : Moment). IsReached (started m) (e ∷ []) x) back (subst (λ x. IsReached x (e ∷ []) n) same way))
+way_of_event m s n k e same back way = inr (subst (λ (x : Moment). IsReached (with_world m) (e ∷ []) x) back (subst (λ x. IsReached x (e ∷ []) n) same way))
 
-pub way_of_choices : (m s n : Moment) (count : ℕ) → s ≡ started m → IsReached s (events_chosen count s) n → IsOnTheWay m (events_of_line m (Chooses count)) n
+pub way_of_choices : (m s n : Moment) (count : ℕ) → s ≡ with_world m → IsReached s (events_chosen count s) n → IsOnTheWay m (events_of_line m (Chooses count)) n
 way_of_choices m s n count same way = inr (subst (λ k. IsReached k (events_chosen count k) n) same way)
 
-pub way_of_start : (m n : Moment) (events : List Event) → n ≡ started m → IsOnTheWay m events n
-way_of_start m n events same = inr (reached_none (started m) n events same)
+pub way_of_start : (m n : Moment) (events : List Event) → n ≡ with_world m → IsOnTheWay m events n
+way_of_start m n events same = inr (reached_none (with_world m) n events same)
 
 -- the line of these bytes
-way_of_read : (m n : Moment) (bytes : List ℕ) (a : Accepted) → line_of m.mesh (is_some m.world) bytes ≡ Ok a → IsOnTheWay m (events_of_line m a) n → IsOnTheWay m (events_of_piece m (Whole bytes)) n
-way_of_read m n bytes a is way = subst (λ (r : Result Accepted LineFault). IsOnTheWay m (events_read m r) n) (sym is) way
+way_of_read : (m n : Moment) (bytes : List ℕ) (a : AcceptedLine) → line_of m.mesh (is_some m.world) bytes ≡ Ok a → IsOnTheWay m (events_of_line m a) n → IsOnTheWay m (events_of_piece m (Whole bytes)) n
+way_of_read m n bytes a is way = subst (λ (r : Result AcceptedLine LineFault). IsOnTheWay m (events_read m r) n) (sym is) way
 
-pub way_where_read : (m n : Moment) (bytes : List ℕ) (a : Accepted) (r : Result (Unit {0}) Stop) → line_of m.mesh (is_some m.world) bytes ≡ Ok a → OnErr r (IsOnTheWay m (events_of_line m a) n)
+pub way_where_read : (m n : Moment) (bytes : List ℕ) (a : AcceptedLine) (r : Result (Unit {0}) Stop) → line_of m.mesh (is_some m.world) bytes ≡ Ok a → OnErr r (IsOnTheWay m (events_of_line m a) n)
     → OnErr r (IsOnTheWay m (events_of_piece m (Whole bytes)) n)
 way_where_read m n bytes a (Ok u) is way = tt
 way_where_read m n bytes a (Err t) is way = way_of_read m n bytes a is way

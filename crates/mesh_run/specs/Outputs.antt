@@ -5,7 +5,7 @@ use Rattle.std.specs.Io.KnownBytes.{Appends, Consumes}
 use Rattle.mesh_io.specs.Puts.{AppendsPrefix}
 use Rattle.mesh_grammar.specs.Lines.{complete}
 use Rattle.mesh_text.specs.Schedule.{Moment}
-use Rattle.mesh_text.specs.Text.{Written, Verdict, Finished, RefusedAt, FullAt, whole, output, text_on}
+use Rattle.mesh_text.specs.Text.{RunText, Verdict, Finished, RefusedAt, FullAt, whole, output, text_on}
 use Rattle.mesh_run.specs.declared.say.Say.{Say}
 use Rattle.mesh_run.specs.declared.say.Say.TheVariants.{All, Last, Faults}
 use Rattle.mesh_run.specs.declared.status.Status.{Status}
@@ -27,14 +27,14 @@ fault_line (RefusedAt n) last = last
 fault_line (FullAt n) last = last
 
 -- the part of a run that is written
-abbrev pub part : Say → Written → Written
+abbrev pub part : Say → RunText → RunText
 part All w = output false w
 part Last w = output true w
 part Faults w = record w { lines = []; last = fault_line w.verdict w.last }
 
 -- a run that was to write this has answered: the whole text and its verdict, or a prefix of the
 -- text and a fault or want of memory
-abbrev pub IsOutput : Option (List ℕ) → Option (List ℕ) → Written → Status → Type 0
+abbrev pub IsOutput : Option (List ℕ) → Option (List ℕ) → RunText → Status → Type 0
 IsOutput before now w Done = (w.verdict ≡ Finished) × Appends before now (whole w)
 IsOutput before now w (BadLine n) = (w.verdict ≡ RefusedAt n) × Appends before now (whole w)
 IsOutput before now w (Full n) = (w.verdict ≡ FullAt n) × Appends before now (whole w)
@@ -46,7 +46,7 @@ IsOutput before now w Usage = ⊥
 -- a read failed after some bytes were taken: their complete lines were all allowed and done, and
 -- their text was written, which is a prefix of what the whole input comes to. `text` says what an
 -- input comes to
-pub record IsCutShort (say : Say) (text : List ℕ → Written) (bytes : List ℕ)
+pub record IsCutShort (say : Say) (text : List ℕ → RunText) (bytes : List ℕ)
     (left before now : Option (List ℕ)) : Type 0 where
   pub taken : List ℕ
   pub consumed : Consumes (Some bytes) left taken
@@ -56,7 +56,7 @@ pub record IsCutShort (say : Say) (text : List ℕ → Written) (bytes : List �
 
 -- a run of these bytes has answered, where the source has this left. After a failed read what was
 -- written is the text of the lines that were read whole
-abbrev pub IsOutputOf : Say → (List ℕ → Written) → List ℕ → Option (List ℕ) → Option (List ℕ)
+abbrev pub IsOutputOf : Say → (List ℕ → RunText) → List ℕ → Option (List ℕ) → Option (List ℕ)
     → Option (List ℕ) → Status → Type 0
 IsOutputOf say text bytes left before now Done = IsOutput before now (part say (text bytes)) Done
 IsOutputOf say text bytes left before now (BadLine n) =

@@ -13,7 +13,7 @@ use Rattle.mesh_grammar.specs.declared.fault.BadWhy.TheVariants.{Fault}
 use Rattle.mesh_base.specs.Meshes.{Nodes}
 use Rattle.mesh_base.specs.declared.limits.TheConstants.{LONGEST_LINE}
 use Rattle.mesh_text.specs.Lines.{words_of}
-use Rattle.mesh_text.specs.Schedule.{Moment, Accepted, Does, ShowsNode, ShowsRoute, ShowsFlight, started, counted, outcome_at, stepped, world_of}
+use Rattle.mesh_text.specs.Schedule.{Moment, AcceptedLine, Does, ShowsNode, ShowsRoute, ShowsFlight, with_world, with_line_read, outcome_at, next_moment, world_of}
 use Rattle.mesh_text.specs.Effects.{outcome_lines}
 use Rattle.mesh_text.specs.Auto.{EventsOutcome, Ended, Full as EventsFull, events_chosen}
 use Rattle.mesh_text.specs.Runs.{moment_after}
@@ -28,13 +28,13 @@ abbrev pub output_if : Bool → List ℕ → List ℕ
 output_if quiet text = if quiet then [] else text
 
 -- the line that shows this
-abbrev pub line_of_shown : Shown → Accepted
+abbrev pub line_of_shown : Shown → AcceptedLine
 line_of_shown (shown.Node node) = ShowsNode node
 line_of_shown (shown.Route node dest) = ShowsRoute node dest
 line_of_shown shown.Flight = ShowsFlight
 
 -- the bytes of a line are what the line is written back as
-abbrev pub IsLineOf : Nodes → Accepted → List ℕ → Type 0
+abbrev pub IsLineOf : Nodes → AcceptedLine → List ℕ → Type 0
 IsLineOf mesh l bytes = (length bytes ≤ LONGEST_LINE) × (bytes ≡ words_of mesh l)
 
 -- ---- what came of a line, or of one event
@@ -85,7 +85,7 @@ IsLineRun quiet m k n before now result =
 abbrev pub IsUncountedRun : Bool → Moment → LineOutcome → Moment → Option (List ℕ) → Option (List ℕ)
     → Result (Unit {0}) Stop → Type 0
 IsUncountedRun quiet m k n before now result =
-    MatchResult result (λ _. IsLineDone quiet k (counted n) before now)
+    MatchResult result (λ _. IsLineDone quiet k (with_line_read n) before now)
     (IsLineStopped quiet m k n before now)
 
 -- ---- the moments that a line goes through
@@ -97,15 +97,15 @@ IsReached m events n = (k : ℕ) × (n ≡ moment_after m (take k events))
 -- a line with these events goes through a moment before it is counted: the one before it; or, once
 -- the run has started, that after some of its events
 abbrev pub IsOnTheWay : Moment → List Event → Moment → Type 0
-IsOnTheWay m events n = (n ≡ m) ⊎ IsReached (started m) events n
+IsOnTheWay m events n = (n ≡ m) ⊎ IsReached (with_world m) events n
 
 -- ---- one event
 
 -- what an event comes to, by its outcome, where no line is counted
 abbrev pub outcome_by : Moment → Event → Outcome → LineOutcome
-outcome_by m e Idle = On (outcome_lines m.mesh e Idle) (stepped m e)
+outcome_by m e Idle = On (outcome_lines m.mesh e Idle) (next_moment m e)
 outcome_by m e (worlds.Full x field) = Full [] m e field
-outcome_by m e (Next w happening) = On (outcome_lines m.mesh e (Next w happening)) (stepped m e)
+outcome_by m e (Next w happening) = On (outcome_lines m.mesh e (Next w happening)) (next_moment m e)
 
 abbrev pub line_outcome_at : Moment → Event → LineOutcome
 line_outcome_at m e = outcome_by m e (outcome_at m e)

@@ -4,7 +4,7 @@ ghost use Rattle.mesh_base.specs.declared.events.Event.{Event};
 ghost use Rattle.mesh_model.specs.Worlds.{World};
 ghost use Rattle.mesh_meaning.specs.Answers.{outcome_in, IsDoneInMesh};
 ghost use Rattle.mesh_meaning.specs.Events.{event_of, node_of};
-ghost use Rattle.mesh_text.specs.Schedule.{stepped, NewNode, Does, ShowsNode, ShowsRoute, ShowsFlight};
+ghost use Rattle.mesh_text.specs.Schedule.{next_moment, NewNode, Does, ShowsNode, ShowsRoute, ShowsFlight};
 ghost use Rattle.mesh_text.specs.Lines.{words_of};
 ghost use Rattle.mesh_grammar.specs.Written.{line as line_of_words};
 ghost use Rattle.mesh_text.specs.Effects.{outcome_lines};
@@ -70,7 +70,7 @@ pub fn do_event<S: Steps, O: Sink>(
         → IfSome bytes (λ b. IsLineOf at.old.mesh (Does (event_of event.now)) b.now) }
     ensures comes { IsLineRun quiet at.old (line_outcome_at at.old (event_of event.now))
         at.new (O.held out.old) (O.held out.new) (answer_of event.now result) }
-    ensures moment { OnOk result (at.new ≡ stepped at.old (event_of event.now)) }
+    ensures moment { OnOk result (at.new ≡ next_moment at.old (event_of event.now)) }
     ensures way { OnErr result (IsReached at.old (event_of event.now ∷ []) at.new) }
     ensures cause { HasStopCause
         (O.faults out.old) (O.faults out.new) (answer_of event.now result) }

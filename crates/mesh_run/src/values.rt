@@ -2,7 +2,7 @@
 ghost use Rattle.std.specs.Prelude.{◌≡◌, ◌≢◌, ◌<◌, ◌≤◌, ◌+◌, ◌^◌, is_some, true, IfSome, IfNone, Some};
 ghost use Rattle.mesh_base.specs.declared.limits.TheConstants.{MOST_EVENTS};
 ghost use Rattle.mesh_text.specs.Schedule.{Moment};
-ghost use Rattle.mesh_text.specs.Text.{Written, goes_on, outcome_of_line};
+ghost use Rattle.mesh_text.specs.Text.{RunText, goes_on, outcome_of_line};
 ghost use Rattle.mesh_script.specs.Seen.{accepted_of, IsAllowed};
 ghost use Rattle.mesh_run.specs.declared.say.Say.TheVariants.{Last};
 ghost use Rattle.mesh_run.specs.Causes.{HasCauseIf};
@@ -37,7 +37,7 @@ pub fn do_value<S: Steps, O: Sink>(
     ensures lines { IfNone result (at.new.lines ≡ at.old.lines + 1) }
     ensures grown { IfNone result (IsGrown at.old at.new) }
     ensures steps { IfNone result (at.new.steps ≤ at.old.steps + MOST_EVENTS) }
-    ensures told { IfSome result (λ status. (others : Moment → Written)
+    ensures told { IfSome result (λ status. (others : Moment → RunText)
         → IsOutput (O.held out.old) (O.held out.new) (part Last
         (goes_on at.old (outcome_of_line at.old (accepted_of line.entry)) others)) status) }
     ensures cause { HasCauseIf (result ≡ Some Status.WriteFault)

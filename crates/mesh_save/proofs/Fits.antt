@@ -23,9 +23,9 @@ use Rattle.aodv_model.specs.Soundness.{IsDatum, HasSoundNumber, AreBelow, IsPlac
 use Rattle.aodv_node.specs.Seen.{NodeSeen, IsItemAt, IsSoundNode}
 use Rattle.mesh_checkpoint.specs.declared.limits.TheConstants.{LONGEST_BODY, LONGEST_HEARD}
 use Rattle.mesh_checkpoint.specs.Formats.{truth}
-use Rattle.mesh_checkpoint.specs.Checkpoint.{Node, index, any16, any32, positive32, datum, indices, route, routes, request, request_key, asked, waits, store, item, inbox, node}
+use Rattle.mesh_checkpoint.specs.Checkpoint.{Node, index, any16, any32, positive32, datum, indices, route, routes, request, request_key, asked_format, waits, store, item, inbox, node}
 use Rattle.mesh_checkpoint.specs.Points.{route_of, routes_in, waits_of, waits_in}
-use Rattle.mesh_checkpoint.specs.Seen.{listed}
+use Rattle.mesh_checkpoint.specs.Seen.{listed_node}
 use Rattle.mesh_save.specs.Requests.{AreRequestsOf}
 use Rattle.mesh_save.specs.Narrow.{AreEntriesNarrow}
 use Rattle.mesh_model.proofs.Lists.{each_map}
@@ -88,12 +88,12 @@ request_rises size x y p q less = elim (lesser_pair x y less) [
   | inr same ↦ omega (arith, same.0, same.1)
 ]
 
-pub asked_fits : (size : ℕ) (seen : Pairs) → AreRequestsOf size seen → length ((asked size).put (pairs_in seen)) ≤ LONGEST_BODY → IsFit (asked size) (pairs_in seen)
+pub asked_fits : (size : ℕ) (seen : Pairs) → AreRequestsOf size seen → length ((asked_format size).put (pairs_in seen)) ≤ LONGEST_BODY → IsFit (asked_format size) (pairs_in seen)
 asked_fits size seen ids short =
     let ps = pairs_in seen in
     let all = each_pair seen (λ p. (p.0 < size) × (p.1 < 2 ^ 32)) ids in
     let bytes = flat_map (request size).put ps in
-    let whole : length ((asked size).put ps) ≡ 4 + length bytes = omega arith in
+    let whole : length ((asked_format size).put ps) ≡ 4 + length bytes = omega arith in
     let many = is_in 0 (2 ^ 32) (length ps) (omega arith) (omega (arith, short, whole, no_more (request size).put (λ p. omega arith) ps)) in
     let each = each_map (λ p. (p.0 < size) × (p.1 < 2 ^ 32)) (IsFit (request size)) (λ p h. and_from _ _ (index_fits size p.0 h.0) (is_in 0 (2 ^ 32) p.1 (omega arith) h.1)) ps all in
     rising_fits request_key any32 (request size) ps many each (pairs_rise seen request_key (λ p. (p.0 < size) × (p.1 < 2 ^ 32)) (request_rises size) all)
@@ -167,7 +167,7 @@ pub core_fits : (size : ℕ) (core : Core) (is : List Item) → size ≤ MOST_NO
     → AllByRecursion (IsFit (item size)) is → length ((node size).put (listed_of core is)) ≤ LONGEST_BODY → IsFit (node size) (listed_of core is)
 core_fits size core is small sound stored narrow ids sn items short =
     let r = (routes size).put (routes_in core.rt) in
-    let a = (asked size).put (pairs_in core.seen) in
+    let a = (asked_format size).put (pairs_in core.seen) in
     let s = (store size).put (waits_in core.store) in
     let i = (inbox size).put is in
     let whole : length ((node size).put (listed_of core is)) ≡ 4 + (length r + (length a + (length s + length i))) =
@@ -178,7 +178,7 @@ core_fits size core is small sound stored narrow ids sn items short =
     (and_from _ _ (store_fits size core.store small stored (omega (arith, short, whole))) (inbox_fits size is items (omega (arith, short, whole))))))
 
 pub node_fits : (size : ℕ) (n : NodeSeen) → size ≤ MOST_NODES → n.size ≡ size → IsSoundNode n → AreEntriesNarrow (n.core).rt → AreRequestsOf size (n.core).seen → (n.core).sn < 2 ^ 32 → AllByRecursion IsItemShort n.items
-    → length ((node size).put (listed n)) ≤ LONGEST_BODY → IsFit (node size) (listed n)
+    → length ((node size).put (listed_node n)) ≤ LONGEST_BODY → IsFit (node size) (listed_node n)
 node_fits size n small same sound narrow ids sn items short =
     let me = (n.core).ip in
     let each = subst (λ (k : ℕ). AllByRecursion (IsItemAt k me) n.items) same sound.each in

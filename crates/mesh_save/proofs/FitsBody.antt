@@ -23,9 +23,9 @@ use Rattle.aodv_model.specs.Pairs.{Pairs, pair_cmp, pairs_in}
 use Rattle.aodv_model.specs.Cores.{Message, Pkt, Rreq, Rrep, Rerr, Item, New, Heard}
 use Rattle.aodv_model.specs.Soundness.{IsMessageInMesh, IsItemInMesh}
 use Rattle.aodv_wire.specs.RouteError as rerr
-use Rattle.aodv_wire.specs.Spells.{written}
+use Rattle.aodv_wire.specs.Spells.{spelling}
 use Rattle.aodv_meaning.specs.Meaning.{meaning}
-use Rattle.aodv_meaning.specs.Sent.{addressed, pairs_of}
+use Rattle.aodv_meaning.specs.Sent.{pair_by_address, pairs_of}
 use Rattle.aodv_meaning.specs.Effects.{item_in}
 use Rattle.mesh_model.specs.Numbered.{AreNumberedBy}
 use Rattle.mesh_model.specs.Worlds as model
@@ -174,7 +174,7 @@ lines_of_pairs (p ∷ ps) = omega (arith, lines_of_pairs ps, length-append (rerr
 
 -- the packet of a message in the mesh is no longer than the longest
 pub packet_short : (mesh : Nodes) (m : Message) → length mesh ≤ MOST_NODES → IsMessageInMesh (length mesh) m → length (packet_of mesh m) ≤ LONGEST_PACKET
-unfolding packet_of written
+unfolding packet_of spelling
 packet_short mesh (Pkt b d o) small is = omega (arith, is.2.1)
 packet_short mesh (Rreq m) small is = omega arith
 packet_short mesh (Rrep m) small is = omega arith
@@ -183,27 +183,27 @@ packet_short mesh (Rerr dests) small is =
     let es = maps.entries dests in
     let ps = pairs_of mesh dests in
     let below : AllByRecursion (λ e. e.0 < size) es = each_entry nat_cmp nat_cmp_total (λ d n. d < size) dests is in
-    let many : length ps ≤ size = omega (arith, length-map es (addressed mesh), few (λ e. e.0) size es (numbers_rise dests size below) below) in
+    let many : length ps ≤ size = omega (arith, length-map es (pair_by_address mesh), few (λ e. e.0) size es (numbers_rise dests size below) below) in
     omega (arith, many, small, lines_of_pairs ps)
 
 -- packets that wait at a node
 pub heard_short : (mesh : Nodes) (x : ℕ) (is : List items.Item) → length mesh ≤ MOST_NODES → AllByRecursion (IsWrittenItem mesh) is → AllByRecursion (IsItemInMesh (length mesh) x) (map (item_in mesh) is) → AllByRecursion IsItemShort is
 unfolding packet_of
-heard_short mesh x [] small written in_mesh = tt
-heard_short mesh x (item.New dest body ∷ is) small written in_mesh = (tt, heard_short mesh x is small written.1 in_mesh.1)
-heard_short mesh x (item.Heard from bytes ∷ is) small written in_mesh =
+heard_short mesh x [] small spelling in_mesh = tt
+heard_short mesh x (item.New dest body ∷ is) small spelling in_mesh = (tt, heard_short mesh x is small spelling.1 in_mesh.1)
+heard_short mesh x (item.Heard from bytes ∷ is) small spelling in_mesh =
     let most = packet_short mesh (meaning mesh bytes) small in_mesh.0.2 in
-    let same : length bytes ≡ length (packet_of mesh (meaning mesh bytes)) = ap length written.0.written in
-    (omega (arith, most, same), heard_short mesh x is small written.1 in_mesh.1)
+    let same : length bytes ≡ length (packet_of mesh (meaning mesh bytes)) = ap length spelling.0.written in
+    (omega (arith, most, same), heard_short mesh x is small spelling.1 in_mesh.1)
 
 -- copies in flight
 pub flying_short : (mesh : Nodes) (cs : List Flying) → length mesh ≤ MOST_NODES → AllByRecursion (IsWrittenCopy mesh) cs → AllByRecursion (IsCopyInMesh (length mesh)) (map (copy_in mesh) cs) → AllByRecursion (IsCopyShort (length mesh)) cs
 unfolding packet_of
-flying_short mesh [] small written in_mesh = tt
-flying_short mesh (c ∷ cs) small written in_mesh =
+flying_short mesh [] small spelling in_mesh = tt
+flying_short mesh (c ∷ cs) small spelling in_mesh =
     let most = packet_short mesh (meaning mesh c.bytes) small in_mesh.0.3 in
-    let same : length c.bytes ≡ length (packet_of mesh (meaning mesh c.bytes)) = ap length written.0.written in
-    ((in_mesh.0.0, in_mesh.0.1, omega (arith, most, same)), flying_short mesh cs small written.1 in_mesh.1)
+    let same : length c.bytes ≡ length (packet_of mesh (meaning mesh c.bytes)) = ap length spelling.0.written in
+    ((in_mesh.0.0, in_mesh.0.1, omega (arith, most, same)), flying_short mesh cs small spelling.1 in_mesh.1)
 
 -- ---- the nodes of the model
 

@@ -17,7 +17,7 @@ use Rattle.aodv_model.specs.Pairs.{Pairs, pair_cmp, as_keys, pairs_in}
 use Rattle.aodv_model.proofs.PairLaws.{pair_cmp_total}
 use Rattle.aodv_model.proofs.PairKeys.{get-keys_of}
 use Rattle.mesh_model.proofs.Lists.{each_map}
-use Rattle.mesh_checkpoint.specs.Formats.{Format, is_from, all_fit, rise, counted, counted_rising, text}
+use Rattle.mesh_checkpoint.specs.Formats.{Format, is_from, all_fit, rise, counted_list, counted_rising, text}
 
 -- ---- what holds of each value of a list
 
@@ -50,7 +50,7 @@ each_fits a (x ∷ xs) all = and_from (a.fits x) (all_fit a.fits xs) all.0 (each
 pub text_fits : (w : Width) (low end : ℕ) (b : List ℕ) → low ≤ length b → length b < end → IsFit (text w low end) b
 text_fits w low end b up lt = and_from _ _ (is_in low end (length b) up lt) (eq-eqb (length b) (length b) refl)
 
-pub counted_fits : {A : Type 0} (count : Format ℕ) (a : Format A) (xs : List A) → IsFit count (length xs) → AllByRecursion (IsFit a) xs → IsFit (counted count a) xs
+pub counted_fits : {A : Type 0} (count : Format ℕ) (a : Format A) (xs : List A) → IsFit count (length xs) → AllByRecursion (IsFit a) xs → IsFit (counted_list count a) xs
 counted_fits count a xs many all = and_from _ _ many (and_from _ _ (eq-eqb (length xs) (length xs) refl) (each_fits a xs all))
 
 -- ---- keys that rise

@@ -19,7 +19,7 @@ abbrev pub request_bytes : ℕ × ℕ → List ℕ
 request_bytes = (model.request 0).put
 
 abbrev pub requests_bytes : List (ℕ × ℕ) → List ℕ
-requests_bytes = (model.asked 0).put
+requests_bytes = (model.asked_format 0).put
 
 abbrev pub waits_bytes : Waits → List ℕ
 waits_bytes = (model.waits 0).put

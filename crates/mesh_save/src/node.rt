@@ -1,7 +1,7 @@
 //! A node, as it is put.
 ghost use Rattle.std.specs.Prelude.{◌≡◌, ◌≤◌};
 ghost use Rattle.mesh_base.specs.declared.limits.TheConstants.{MOST_NODES};
-ghost use Rattle.mesh_checkpoint.specs.Seen.{listed};
+ghost use Rattle.mesh_checkpoint.specs.Seen.{listed_node};
 ghost use Rattle.mesh_save.specs.Bytes.{node_bytes};
 ghost use Rattle.mesh_save.specs.Narrow.{IsNarrow};
 
@@ -17,7 +17,7 @@ use aodv_node::Node;
 pub(crate) fn put_node<P: Pen>(pen: &mut P, node: &Node, nodes: usize)
     requires size { node.now.size ≡ nodes }
     requires few { nodes ≤ MOST_NODES }
-    ensures bytes { P.wrote pen.old (node_bytes (listed node.now)) pen.new }
+    ensures bytes { P.wrote pen.old (node_bytes (listed_node node.now)) pen.new }
     ensures narrow { IsNarrow nodes node.now.core }
 {
     put32(pen, u64::from(node.sn()));

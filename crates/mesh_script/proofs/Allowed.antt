@@ -5,7 +5,7 @@ use Rattle.std.proofs.lemmas.List.{append-nil}
 use Rattle.mesh_base.specs.declared.limits.TheConstants.{MOST_NODES}
 use Rattle.mesh_base.specs.Meshes.{Nodes, IsMesh}
 use Rattle.mesh_grammar.specs.declared.fault.LineFault.{LineFault}
-use Rattle.mesh_text.specs.Schedule.{Accepted, Nothing, NewNode, Does, Chooses, ShowsNode, ShowsRoute, ShowsFlight, line_of, accepted_shape}
+use Rattle.mesh_text.specs.Schedule.{AcceptedLine, Nothing, NewNode, Does, Chooses, ShowsNode, ShowsRoute, ShowsFlight, line_of, accepted_shape}
 use Rattle.mesh_text.specs.Ranges.{IsInRange, IsInTime, IsEcho}
 use Rattle.mesh_text.specs.Lines.{words_of}
 use Rattle.mesh_grammar.specs.Commands.{shape_of}
@@ -15,13 +15,13 @@ use Rattle.mesh_text.proofs.Printed.{printed_line_parses}
 use Rattle.mesh_script.specs.declared.line.Line.{Line}
 use Rattle.mesh_script.specs.declared.shape.Shape.{Shape}
 use Rattle.mesh_script.specs.Shapes.{said_of, seen_shape}
-use Rattle.mesh_script.specs.Seen.{accepted_of, seen_line, counted, IsAllowed}
+use Rattle.mesh_script.specs.Seen.{accepted_of, seen_line, short_count, IsAllowed}
 
-of_count : (count : ℕ) → count < 2 ^ 32 → counted (Ok (Chooses count)) ≡ Ok (Chooses count)
+of_count : (count : ℕ) → count < 2 ^ 32 → short_count (Ok (Chooses count)) ≡ Ok (Chooses count)
 of_count count h = grind (arith, nat_tests)
 
 -- a line in its range has a count of 32 bits
-pub counted_in_range : (mesh : Nodes) (a : Accepted) → IsInRange mesh a → counted (Ok a) ≡ Ok a
+pub counted_in_range : (mesh : Nodes) (a : AcceptedLine) → IsInRange mesh a → short_count (Ok a) ≡ Ok a
 counted_in_range mesh Nothing h = refl
 counted_in_range mesh (NewNode address first) h = refl
 counted_in_range mesh (Does e) h = refl
@@ -30,22 +30,22 @@ counted_in_range mesh (ShowsNode x) h = refl
 counted_in_range mesh (ShowsRoute x d) h = refl
 counted_in_range mesh ShowsFlight h = refl
 
-pub counted_line : (mesh : Nodes) (started : Bool) (line : List ℕ) → length mesh ≤ MOST_NODES → counted (line_of mesh started line) ≡ line_of mesh started line
+pub counted_line : (mesh : Nodes) (started : Bool) (line : List ℕ) → length mesh ≤ MOST_NODES → short_count (line_of mesh started line) ≡ line_of mesh started line
 counted_line mesh started line few = by_line (line_of mesh started line) refl
   where
-    by_line : (r : Result Accepted LineFault) → line_of mesh started line ≡ r → counted r ≡ r
+    by_line : (r : Result AcceptedLine LineFault) → line_of mesh started line ≡ r → short_count r ≡ r
     by_line (Ok a) e = counted_in_range mesh a (in_range mesh started line a few e).0
     by_line (Err f) e = refl
 
 -- ---- the line of what is said
 
-pub line_of_said : (mesh : Nodes) (started : Bool) (line : List ℕ) (said : Option Shape) (r : Result Accepted LineFault) → length mesh ≤ MOST_NODES
-    → seen_shape (Ok said) ≡ shape_of line → r ≡ counted (accepted_shape mesh started (said_of said))
+pub line_of_said : (mesh : Nodes) (started : Bool) (line : List ℕ) (said : Option Shape) (r : Result AcceptedLine LineFault) → length mesh ≤ MOST_NODES
+    → seen_shape (Ok said) ≡ shape_of line → r ≡ short_count (accepted_shape mesh started (said_of said))
     → r ≡ line_of mesh started line
 unfolding line_of
 line_of_said mesh started line said r few shape is =
     let e : line_of mesh started line ≡ accepted_shape mesh started (said_of said) = rw (sym shape) refl in
-    is ∙ ap counted (sym e) ∙ counted_line mesh started line few
+    is ∙ ap short_count (sym e) ∙ counted_line mesh started line few
 
 -- ---- what is known of a line that was read
 
@@ -61,7 +61,7 @@ echo mesh started line (Err f) is = tt
 
 -- ---- what is written is read
 
-early : (a : Accepted) → IsInTime false a
+early : (a : AcceptedLine) → IsInTime false a
 early Nothing = tt
 early (NewNode address first) = refl
 early (Does e) = tt
@@ -70,7 +70,7 @@ early (ShowsNode x) = tt
 early (ShowsRoute x d) = tt
 early ShowsFlight = tt
 
-pub again : (mesh : Nodes) (a : Accepted) (text : List ℕ) → IsMesh mesh → IsInRange mesh a → text ≡ words_of mesh a → line_of mesh false text ≡ Ok a
+pub again : (mesh : Nodes) (a : AcceptedLine) (text : List ℕ) → IsMesh mesh → IsInRange mesh a → text ≡ words_of mesh a → line_of mesh false text ≡ Ok a
 again mesh a text is range e =
     let P : List ℕ → Type 0 = λ t. line_of mesh false t ≡ Ok a in
     subst P (sym e) (printed_line_parses mesh false a is range (early a))

@@ -12,7 +12,7 @@ use Rattle.mesh_grammar.specs.Commands.{greatest_id}
 use Rattle.mesh_grammar.specs.Forms as forms
 use Rattle.mesh_grammar.specs.Scripts.{shape_by, shape_with}
 use Rattle.mesh_grammar.specs.declared.command.Command.TheVariants as command
-use Rattle.mesh_text.specs.Schedule.{Accepted, Does, line_of, after_nodes, accepted_shape, result_and_then}
+use Rattle.mesh_text.specs.Schedule.{AcceptedLine, Does, line_of, after_nodes, accepted_shape, result_and_then}
 use Rattle.mesh_script.proofs.Cuts.{only_address, only_number}
 
 -- bytes that begin with two fours
@@ -24,7 +24,7 @@ two_fours bytes rest word front back one more two last =
     ∙ ap (λ l. front ++ l) (sym more ∙ sym (take-append-drop 4 rest) ∙ ap (λ l. l ++ drop 4 rest) two ∙ ap (λ l. back ++ l) (sym last))
 
 -- a mesh that has a node of this address has a node
-some_nodes : (mesh : Nodes) (a x : ℕ) (r : Result Accepted LineFault) → index_of mesh a ≡ Some x → after_nodes mesh r ≡ r
+some_nodes : (mesh : Nodes) (a x : ℕ) (r : Result AcceptedLine LineFault) → index_of mesh a ≡ Some x → after_nodes mesh r ≡ r
 unfolding index_of
 some_nodes [] a x r is = absurd (none-some x is)
 some_nodes (p ∷ ps) a x r is = refl
@@ -36,7 +36,7 @@ turn_line mesh started word m x reads span is =
     ap (λ r. result_and_then (accepted_shape mesh started) (shape_with command.Turn r)) (only_address 5 word m reads span)
     ∙ (some_nodes mesh m.address x _ is ∙ rw is refl)
 
-pub delivery_line : (mesh : Nodes) (started : Bool) (word : List ℕ) (id : ℕ) → ((line : Result Accepted LineFault) → after_nodes mesh line ≡ line) → positive (number_up_to greatest_id word) ≡ Some id
+pub delivery_line : (mesh : Nodes) (started : Bool) (word : List ℕ) (id : ℕ) → ((line : Result AcceptedLine LineFault) → after_nodes mesh line ≡ line) → positive (number_up_to greatest_id word) ≡ Some id
     → line_of mesh started (100 ∷ 101 ∷ 108 ∷ 105 ∷ 118 ∷ 101 ∷ 114 ∷ 32 ∷ word) ≡ Ok (Does (Deliver id))
 unfolding line_of shape_by
 delivery_line mesh started word id nodes reads =

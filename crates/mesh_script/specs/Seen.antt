@@ -4,12 +4,12 @@ use Rattle.mesh_base.specs.Meshes.{Nodes}
 use Rattle.mesh_meaning.specs.Events.{event_of}
 use Rattle.mesh_grammar.specs.declared.fault.LineFault.{LineFault}
 use Rattle.mesh_grammar.specs.declared.fault.LineFault.TheVariants.{Count}
-use Rattle.mesh_text.specs.Schedule.{Accepted, Nothing, NewNode, Does, Chooses, ShowsNode, ShowsRoute, ShowsFlight, after_nodes}
+use Rattle.mesh_text.specs.Schedule.{AcceptedLine, Nothing, NewNode, Does, Chooses, ShowsNode, ShowsRoute, ShowsFlight, after_nodes}
 use Rattle.mesh_text.specs.Ranges.{IsInRange, IsInTime}
 use Rattle.mesh_script.specs.declared.line.Line.{Line}
 use Rattle.mesh_script.specs.declared.line.Line.TheVariants as line
 
-abbrev pub accepted_of : Line → Accepted
+abbrev pub accepted_of : Line → AcceptedLine
 accepted_of line.Blank = Nothing
 accepted_of (line.Node a first) = NewNode a.0 first
 accepted_of (line.Step e) = Does (event_of e)
@@ -18,19 +18,19 @@ accepted_of (line.Show node) = ShowsNode node
 accepted_of (line.Route node dest) = ShowsRoute node dest
 accepted_of line.Flight = ShowsFlight
 
-abbrev pub seen_line : Result Line LineFault → Result Accepted LineFault
+abbrev pub seen_line : Result Line LineFault → Result AcceptedLine LineFault
 seen_line (Ok l) = Ok (accepted_of l)
 seen_line (Err f) = Err f
 
 -- a line of the program has a count of 32 bits: with a greater one it has a fault
-abbrev pub counted : Result Accepted LineFault → Result Accepted LineFault
-counted (Ok (Chooses count)) = if nat_lt count (2 ^ 32) then Ok (Chooses count) else Err Count
-counted others = others
+abbrev pub short_count : Result AcceptedLine LineFault → Result AcceptedLine LineFault
+short_count (Ok (Chooses count)) = if nat_lt count (2 ^ 32) then Ok (Chooses count) else Err Count
+short_count others = others
 
 -- whether there is a node
 abbrev pub HasNodes : Nodes → Result (Unit {0}) LineFault → Type 0
-HasNodes mesh (Ok u) = (line : Result Accepted LineFault) → after_nodes mesh line ≡ line
-HasNodes mesh (Err f) = (line : Result Accepted LineFault) → after_nodes mesh line ≡ Err f
+HasNodes mesh (Ok u) = (line : Result AcceptedLine LineFault) → after_nodes mesh line ≡ line
+HasNodes mesh (Err f) = (line : Result AcceptedLine LineFault) → after_nodes mesh line ≡ Err f
 
 -- a line for a mesh: a node is not in it yet, and finds room; what the other lines name is in it
 abbrev pub IsPrintable : Nodes → Line → Type 0

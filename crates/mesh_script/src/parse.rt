@@ -6,7 +6,7 @@ ghost use Rattle.mesh_text.specs.Ranges.{IsEcho};
 ghost use Rattle.mesh_text.specs.Schedule as schedule;
 ghost use Rattle.mesh_script.specs.Arguments.{mention_of, mentions_of, places_of, places_in};
 ghost use Rattle.mesh_script.specs.Shapes.{said_of};
-ghost use Rattle.mesh_script.specs.Seen.{seen_line, accepted_of, counted, IsAllowed, HasNodes};
+ghost use Rattle.mesh_script.specs.Seen.{seen_line, accepted_of, short_count, IsAllowed, HasNodes};
 
 use crate::forms::Arguments;
 use crate::line::Line;
@@ -40,7 +40,7 @@ pub fn placed<'a>(
     mesh: &Mesh,
     arguments: &Arguments<'a, Mention>,
 ) -> Result<Arguments<'a, usize>, LineFault>
-    ensures { places_in result ≡ schedule.placed mesh.now (mentions_of arguments.now) }
+    ensures { places_in result ≡ schedule.with_nodes mesh.now (mentions_of arguments.now) }
 {
     match *arguments {
         Arguments::NoArgument => Ok(Arguments::NoArgument),
@@ -86,7 +86,7 @@ fn of_pair<'a>(a: usize, b: usize, event: Event<'a>) -> Result<Line<'a>, LineFau
 
 // A count of events has 32 bits.
 fn auto(count: u64) -> Result<Line<'static>, LineFault>
-    ensures { seen_line result ≡ counted (Ok (schedule.Chooses count)) }
+    ensures { seen_line result ≡ short_count (Ok (schedule.Chooses count)) }
 {
     if count > u64::from(u32::MAX) {
         return Err(LineFault::Count);
@@ -103,7 +103,8 @@ pub fn make_line<'a>(
     command: Command,
     arguments: Arguments<'a, usize>,
 ) -> Result<Line<'a>, LineFault>
-    ensures { seen_line result ≡ counted (schedule.made command (places_of arguments.entry)) }
+    ensures { seen_line result
+        ≡ short_count (schedule.made_line command (places_of arguments.entry)) }
 {
     match (command, arguments) {
         (Command::Link, Arguments::TwoAddresses(a, b)) => of_pair(a, b, Event::Link { a, b }),
@@ -157,7 +158,7 @@ fn new_node(
 // moved for nothing.
 fn line_at<'a>(said: &Option<Shape<'a>>, mesh: &Mesh, started: bool) -> Result<Line<'a>, LineFault>
     ensures { seen_line result
-        ≡ counted (schedule.accepted_shape mesh.now started (said_of said.now)) }
+        ≡ short_count (schedule.accepted_shape mesh.now started (said_of said.now)) }
 {
     let Some(shape) = said else {
         return Ok(Line::Blank);

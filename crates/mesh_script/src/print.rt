@@ -2,12 +2,12 @@
 //! number.
 ghost use Rattle.std.specs.Prelude.{◌≡◌, ◌<◌, ◌≤◌, ◌+◌, ◌++◌, ◌∷◌, length, false, Ok};
 ghost use Rattle.std.specs.Fmt.{decimal};
-ghost use Rattle.mesh_base.specs.Addresses.{dotted};
+ghost use Rattle.mesh_base.specs.Addresses.{dotted_decimal};
 ghost use Rattle.mesh_base.specs.Meshes.{addr_at};
 ghost use Rattle.mesh_model.specs.Places.{IsEvent};
 ghost use Rattle.mesh_meaning.specs.Events.{event_of};
 ghost use Rattle.mesh_grammar.specs.Forms as forms;
-ghost use Rattle.mesh_grammar.specs.Written.{written};
+ghost use Rattle.mesh_grammar.specs.Written.{command_text};
 ghost use Rattle.mesh_text.specs.Lines as lines;
 ghost use Rattle.mesh_text.specs.Schedule.{line_of};
 ghost use Rattle.mesh_script.specs.Arguments.{addresses_of, width_of};
@@ -24,7 +24,7 @@ pub const LONGEST_WRITTEN: usize = 549;
 
 fn push_address(out: &mut LineBuf, a: Addr)
     requires room { length out.old + 16 ≤ LINE_ROOM }
-    ensures text { out.new ≡ out.old ++ 32 ∷ dotted a.0 }
+    ensures text { out.new ≡ out.old ++ 32 ∷ dotted_decimal a.0 }
     ensures length { length out.new ≤ length out.old + 16 }
 {
     out.push(b' ');
@@ -42,11 +42,11 @@ fn push_argument(out: &mut LineBuf, n: u64)
 
 /// Appends a word and its arguments.
 #[inline(always)]
-#[tactic(auto, using(std::proofs::lemmas::List::append_assoc), unfolding(mesh_grammar::specs::Written::written))]
+#[tactic(auto, using(std::proofs::lemmas::List::append_assoc), unfolding(mesh_grammar::specs::Written::command_text))]
 pub fn push_written(out: &mut LineBuf, word: &[u8], arguments: &Arguments<'_, Addr>)
     requires { length out.old + length word.now + width_of (addresses_of arguments.now)
         ≤ LINE_ROOM }
-    ensures text { out.new ≡ out.old ++ written word.now (addresses_of arguments.now) }
+    ensures text { out.new ≡ out.old ++ command_text word.now (addresses_of arguments.now) }
     ensures length { length out.new
         ≤ length out.old + length word.now + width_of (addresses_of arguments.now) }
 {
@@ -84,12 +84,12 @@ pub fn push_written(out: &mut LineBuf, word: &[u8], arguments: &Arguments<'_, Ad
 
 // A word, and the address of a node after a space.
 #[inline(always)]
-#[tactic(auto, using(std::proofs::lemmas::List::append_assoc), unfolding(mesh_grammar::specs::Written::written))]
+#[tactic(auto, using(std::proofs::lemmas::List::append_assoc), unfolding(mesh_grammar::specs::Written::command_text))]
 fn push_one<const N: usize>(out: &mut LineBuf, word: &[u8; N], mesh: &Mesh, i: usize)
     requires node { i < length mesh.now }
     requires room { length out.old + length word.now + 16 ≤ LINE_ROOM }
     ensures text { out.new
-        ≡ out.old ++ written word.now (forms.OneAddress (addr_at mesh.now i)) }
+        ≡ out.old ++ command_text word.now (forms.OneAddress (addr_at mesh.now i)) }
     ensures length { length out.new ≤ length out.old + length word.now + 16 }
 {
     out.push_array(word);
@@ -99,13 +99,13 @@ fn push_one<const N: usize>(out: &mut LineBuf, word: &[u8; N], mesh: &Mesh, i: u
 
 // The same of two nodes.
 #[inline(always)]
-#[tactic(auto, using(std::proofs::lemmas::List::append_assoc), unfolding(mesh_grammar::specs::Written::written))]
+#[tactic(auto, using(std::proofs::lemmas::List::append_assoc), unfolding(mesh_grammar::specs::Written::command_text))]
 fn push_two<const N: usize>(out: &mut LineBuf, word: &[u8; N], mesh: &Mesh, i: usize, j: usize)
     requires first { i < length mesh.now }
     requires second { j < length mesh.now }
     requires room { length out.old + length word.now + 32 ≤ LINE_ROOM }
     ensures text { out.new ≡ out.old
-        ++ written word.now (forms.TwoAddresses (addr_at mesh.now i) (addr_at mesh.now j)) }
+        ++ command_text word.now (forms.TwoAddresses (addr_at mesh.now i) (addr_at mesh.now j)) }
     ensures length { length out.new ≤ length out.old + length word.now + 32 }
 {
     push_one(out, word, mesh, i);
@@ -115,10 +115,10 @@ fn push_two<const N: usize>(out: &mut LineBuf, word: &[u8; N], mesh: &Mesh, i: u
 
 // A word, and a number after a space.
 #[inline(always)]
-#[tactic(auto, using(std::proofs::lemmas::List::append_assoc), unfolding(mesh_grammar::specs::Written::written))]
+#[tactic(auto, using(std::proofs::lemmas::List::append_assoc), unfolding(mesh_grammar::specs::Written::command_text))]
 fn push_numbered<const N: usize>(out: &mut LineBuf, word: &[u8; N], n: u64)
     requires room { length out.old + length word.now + 21 ≤ LINE_ROOM }
-    ensures text { out.new ≡ out.old ++ written word.now (forms.OneNumber n) }
+    ensures text { out.new ≡ out.old ++ command_text word.now (forms.OneNumber n) }
     ensures length { length out.new ≤ length out.old + length word.now + 21 }
 {
     out.push_array(word);
@@ -126,7 +126,7 @@ fn push_numbered<const N: usize>(out: &mut LineBuf, word: &[u8; N], n: u64)
 }
 
 /// Appends an event as a line of a schedule, without LF.
-#[tactic(auto, using(std::proofs::lemmas::List::append_assoc), unfolding(mesh_text::specs::Lines::event_words, mesh_grammar::specs::Written::written))]
+#[tactic(auto, using(std::proofs::lemmas::List::append_assoc), unfolding(mesh_text::specs::Lines::event_words, mesh_grammar::specs::Written::command_text))]
 #[inline(always)]
 pub fn push_event(out: &mut LineBuf, mesh: &Mesh, event: &Event<'_>)
     requires event { IsEvent (length mesh.now) (event_of event.now) }
@@ -153,7 +153,7 @@ pub fn push_event(out: &mut LineBuf, mesh: &Mesh, event: &Event<'_>)
 }
 
 /// Appends a line in canonical form, without LF. A blank line is written as none.
-#[tactic(auto, using(crate::proofs::Allowed::append_none), unfolding(mesh_text::specs::Lines::words_of, mesh_text::specs::Lines::event_words, mesh_grammar::specs::Written::written))]
+#[tactic(auto, using(crate::proofs::Allowed::append_none), unfolding(mesh_text::specs::Lines::words_of, mesh_text::specs::Lines::event_words, mesh_grammar::specs::Written::command_text))]
 #[inline(always)]
 pub fn push_line(out: &mut LineBuf, mesh: &Mesh, line: &Line<'_>)
     requires printable { IsPrintable mesh.now line.now }

@@ -11,7 +11,7 @@ use Rattle.std.proofs.lemmas.List.Folds.{flat_map-map}
 use Rattle.mesh_base.specs.Meshes.{Nodes}
 use Rattle.aodv_entry.specs.declared.entry.Entry.{Entry}
 use Rattle.aodv_model.specs.Tables.{Table}
-use Rattle.aodv_model.specs.Cores.{Seen, Store, Waiting}
+use Rattle.aodv_model.specs.Cores.{SeenRequests, Store, Waiting}
 use Rattle.aodv_model.proofs.Listing.{at}
 use Rattle.aodv_model.proofs.Keys.{below, below_more, below_none, below_all}
 use Rattle.aodv_model.proofs.PairKeys.{pairs_before, none_before, all_before}
@@ -52,10 +52,10 @@ store_listed mesh store n within =
 -- ---- of the requests that were seen
 
 -- those of one originator
-abbrev pub asked_of : Nodes → Seen → ℕ → List ℕ
+abbrev pub asked_of : Nodes → SeenRequests → ℕ → List ℕ
 asked_of mesh seen o = flat_map (asked_line mesh o) (ids_beside seen o)
 
-pub asked_listed : (mesh : Nodes) (seen : Seen) (n : ℕ) → ((o id : ℕ) → sets.contains seen (o, id) ≡ true → o < n) → each_from (n - 0) 0 (asked_of mesh seen) ≡ asked_text mesh seen
+pub asked_listed : (mesh : Nodes) (seen : SeenRequests) (n : ℕ) → ((o id : ℕ) → sets.contains seen (o, id) ≡ true → o < n) → each_from (n - 0) 0 (asked_of mesh seen) ≡ asked_text mesh seen
 unfolding asked_text
 asked_listed mesh seen n within =
     let line : ℕ × ℕ → List ℕ = λ p. asked_line mesh p.0 p.1 in

@@ -6,7 +6,7 @@ use Rattle.std.specs.Io.KnownBytes.{Appends}
 use Rattle.mesh_base.specs.Meshes.{Nodes}
 use Rattle.mesh_io.specs.Puts.{AppendsPrefix, Puts}
 use Rattle.mesh_io.proofs.Writing.{Appends-none, Appends-join, AppendsPrefix-join, AppendsPrefix-more, Puts-join}
-use Rattle.aodv_model.specs.Cores.{Seen, Store, Core}
+use Rattle.aodv_model.specs.Cores.{SeenRequests, Store, Core}
 use Rattle.mesh_text.specs.Tables.{number_line, asked_text, routes_text, store_text, node_text}
 
 -- the texts of so many numbers from i on, one after another
@@ -76,9 +76,9 @@ five-5 u v w x y z a b c d e t p q r s l =
     Puts-join u y z (a ++ b ++ c ++ d) e _ t refl (Appends-join u x y (a ++ b ++ c) d _ refl (Appends-join u w x (a ++ b) c _ refl (Appends-join u v w a b _ refl p q) r) s) l
 
 -- the text of a node, by its parts as they are read
-pub node_is : (mesh : Nodes) (core : Core) (queue sn count : ℕ) (seen : Seen) (store : Store) → sn ≡ core.sn → seen ≡ core.seen → store ≡ core.store → count ≡ queue
+pub node_is : (mesh : Nodes) (core : Core) (queue sn count : ℕ) (seen : SeenRequests) (store : Store) → sn ≡ core.sn → seen ≡ core.seen → store ≡ core.store → count ≡ queue
     → number_line (codes "sn") sn ++ asked_text mesh seen ++ routes_text mesh core.rt ++ store_text mesh store ++ number_line (codes "inbox") count ≡ node_text mesh core queue
 unfolding node_text
 node_is mesh core queue sn count seen store es ed et ec =
-    let t : ℕ → Seen → Store → ℕ → List ℕ = λ a b c d. number_line (codes "sn") a ++ asked_text mesh b ++ routes_text mesh core.rt ++ store_text mesh c ++ number_line (codes "inbox") d in
+    let t : ℕ → SeenRequests → Store → ℕ → List ℕ = λ a b c d. number_line (codes "sn") a ++ asked_text mesh b ++ routes_text mesh core.rt ++ store_text mesh c ++ number_line (codes "inbox") d in
     ap (λ x. t x seen store count) es ∙ ap (λ x. t core.sn x store count) ed ∙ ap (λ x. t core.sn core.seen x count) et ∙ ap (λ x. t core.sn core.seen core.store x) ec

@@ -3,7 +3,7 @@ use Rattle.std.proofs.Common.{◌≡◌, ℕ, ◌≤◌, List, length, None, sym
 use Rattle.mesh_base.specs.Meshes.{Nodes, IsMesh}
 use Rattle.aodv_model.specs.Soundness.{IsMessageInMesh}
 use Rattle.aodv_wire.specs.declared.message.Message as wire
-use Rattle.aodv_wire.specs.Spells.{Spells, written}
+use Rattle.aodv_wire.specs.Spells.{Spells, spelling}
 use Rattle.aodv_meaning.specs.Meaning.{in_mesh, meaning, stranger}
 use Rattle.aodv_meaning.specs.Sent.{IsWritable, IsAsWritten}
 use Rattle.aodv_meaning.proofs.Means.{spelled_in}
@@ -16,13 +16,13 @@ means mesh b m s = ap (in_mesh mesh) s.stands
 
 -- ---- of bytes that are read, whether they are written
 
-pub is_as_written : (mesh : Nodes) (b again : List ℕ) (m : wire.Message) → IsMesh mesh → 1 ≤ length mesh → Spells b m → stranger mesh m ≡ None → IsWritable m → again ≡ written m → again ≡ b → IsWritten mesh b
+pub is_as_written : (mesh : Nodes) (b again : List ℕ) (m : wire.Message) → IsMesh mesh → 1 ≤ length mesh → Spells b m → stranger mesh m ≡ None → IsWritable m → again ≡ spelling m → again ≡ b → IsWritten mesh b
 is_as_written mesh b again m is some s known writable again_is same =
     (written_is_sent mesh b is some).0 (record {
       allowed = s.allowed;
       known = ap (stranger mesh) s.stands ∙ known;
       writable = subst IsWritable (sym s.stands) writable;
-      same = sym same ∙ again_is ∙ ap written (sym s.stands);
+      same = sym same ∙ again_is ∙ ap spelling (sym s.stands);
     })
 
 pub as_written : (mesh : Nodes) (b : List ℕ) → IsMesh mesh → 1 ≤ length mesh → IsWritten mesh b → IsAsWritten mesh b
@@ -34,8 +34,8 @@ known_in mesh b m is some s w = ap (stranger mesh) (sym s.stands) ∙ (as_writte
 pub writable_in : (mesh : Nodes) (b : List ℕ) (m : wire.Message) → IsMesh mesh → 1 ≤ length mesh → Spells b m → IsWritten mesh b → IsWritable m
 writable_in mesh b m is some s w = subst IsWritable s.stands (as_written mesh b is some w).writable
 
-pub same_in : (mesh : Nodes) (b again : List ℕ) (m : wire.Message) → IsMesh mesh → 1 ≤ length mesh → Spells b m → again ≡ written m → IsWritten mesh b → again ≡ b
-same_in mesh b again m is some s again_is w = again_is ∙ ap written (sym s.stands) ∙ sym (as_written mesh b is some w).same
+pub same_in : (mesh : Nodes) (b again : List ℕ) (m : wire.Message) → IsMesh mesh → 1 ≤ length mesh → Spells b m → again ≡ spelling m → IsWritten mesh b → again ≡ b
+same_in mesh b again m is some s again_is w = again_is ∙ ap spelling (sym s.stands) ∙ sym (as_written mesh b is some w).same
 
 -- ---- what they say
 

@@ -4,7 +4,7 @@ use Rattle.std.specs.Int.{w32, to_be_bytes, from_be_bytes}
 use Rattle.std.proofs.Math.Seq.{take-append_seam, drop-append_seam}
 use Rattle.std.proofs.lemmas.Nat.{from_be_bytes-to_be_bytes_4}
 use Rattle.mesh_checkpoint.specs.Checkpoint.{Body, body}
-use Rattle.mesh_checkpoint.specs.State.{magic, stated, body_length, HasLength, IsCheckpoint}
+use Rattle.mesh_checkpoint.specs.State.{magic, stated_size, body_length, HasLength, IsCheckpoint}
 use Rattle.mesh_state.specs.Fronts.{front_size, front_of, rest_of, IsOtherHead}
 use Rattle.mesh_checkpoint.specs.Points.{body_of}
 use Rattle.mesh_state.specs.Laws.{CheckpointIsFront}
@@ -13,7 +13,7 @@ use Rattle.mesh_state.proofs.Fronts.{size_with, stated_in}
 pub magic_of : (b : List ℕ) (x : Body) → IsCheckpoint b x → take 4 b ≡ magic
 magic_of b x is = ap (take 4) is.spelled
 
-stated_length : (n : ℕ) (bytes : List ℕ) → n < 2 ^ 32 → stated (magic ++ (to_be_bytes w32 n ++ bytes)) ≡ n
+stated_length : (n : ℕ) (bytes : List ℕ) → n < 2 ^ 32 → stated_size (magic ++ (to_be_bytes w32 n ++ bytes)) ≡ n
 stated_length n bytes few = ap (λ l. from_be_bytes w32 l) (take-append_seam (to_be_bytes w32 n) bytes) ∙ from_be_bytes-to_be_bytes_4 n few
 
 whole_length : (n : ℕ) (bytes : List ℕ) → length (magic ++ (to_be_bytes w32 n ++ bytes)) ≡ 8 + length bytes
@@ -22,7 +22,7 @@ whole_length n bytes = omega (arith, length-append (to_be_bytes w32 n) bytes)
 pub length_of : (b : List ℕ) (x : Body) → IsCheckpoint b x → HasLength b
 length_of b x is =
     let short = is.short in
-    let says : stated b ≡ body_length x = ap stated is.spelled ∙ stated_length (body_length x) (body.put x) (omega arith) in
+    let says : stated_size b ≡ body_length x = ap stated_size is.spelled ∙ stated_length (body_length x) (body.put x) (omega arith) in
     let whole : length b ≡ 8 + body_length x = ap length is.spelled ∙ whole_length (body_length x) (body.put x) in
     (omega arith, omega arith)
 
@@ -40,7 +40,7 @@ seam_size : (b rest : List ℕ) → HasLength b → front_size (b ++ rest) ≡ l
 seam_size b rest has =
     let most = has.0 in
     let whole = has.1 in
-    let says : stated b ≡ stated (b ++ rest) = ap stated (sym (take-append_seam b rest)) ∙ stated_in (length b) (b ++ rest) (omega arith) in
+    let says : stated_size b ≡ stated_size (b ++ rest) = ap stated_size (sym (take-append_seam b rest)) ∙ stated_in (length b) (b ++ rest) (omega arith) in
     let both = length-append b rest in
     size_with (b ++ rest) (omega arith) (omega arith) (omega arith) ∙ omega arith
 

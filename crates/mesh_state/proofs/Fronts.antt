@@ -8,31 +8,31 @@ use Rattle.std.proofs.Math.Seq.{take-add, take_all}
 use Rattle.std.proofs.lemmas.List.{take-take, drop-drop, drop-take}
 use Rattle.std.proofs.lemmas.Bool.Decides.{nat_tests}
 use Rattle.mesh_checkpoint.specs.declared.limits.TheConstants.{LONGEST_BODY}
-use Rattle.mesh_checkpoint.specs.State.{magic, stated}
+use Rattle.mesh_checkpoint.specs.State.{magic, stated_size}
 use Rattle.mesh_state.specs.declared.front.TheConstants.{HEAD_SIZE}
 use Rattle.mesh_state.specs.Fronts.{front_size, front_of, rest_of, IsOtherHead, IsFrontTaken, IsTaken, TakesUpTo}
 
 -- ---- the size of a front
 
-pub size_with : (bytes : List ℕ) → 8 ≤ length bytes → stated bytes ≤ 268435456 → 8 + stated bytes ≤ length bytes → front_size bytes ≡ 8 + stated bytes
+pub size_with : (bytes : List ℕ) → 8 ≤ length bytes → stated_size bytes ≤ 268435456 → 8 + stated_size bytes ≤ length bytes → front_size bytes ≡ 8 + stated_size bytes
 size_with bytes head within there = grind (arith, nat_tests)
 
-pub size_short : (bytes : List ℕ) → length bytes < 8 + stated bytes → front_size bytes ≡ length bytes
+pub size_short : (bytes : List ℕ) → length bytes < 8 + stated_size bytes → front_size bytes ≡ length bytes
 size_short bytes short = grind (arith, nat_tests)
 
 pub size_whole : (bytes : List ℕ) → 8 ≤ length bytes → 8 ≤ front_size bytes
 size_whole bytes whole = grind (arith, nat_tests)
 
 -- the first 8 bytes say the length
-pub stated_in : (n : ℕ) (bytes : List ℕ) → 8 ≤ n → stated (take n bytes) ≡ stated bytes
+pub stated_in : (n : ℕ) (bytes : List ℕ) → 8 ≤ n → stated_size (take n bytes) ≡ stated_size bytes
 stated_in n bytes whole =
     let split : n ≡ 4 + (n - 4) = omega arith in
     let few : 4 ≤ n - 4 = omega arith in
-    ap (λ k. stated (take k bytes)) split ∙ ap (λ l. from_be_bytes w32 (take 4 l)) (drop-take 4 (n - 4) bytes) ∙ ap (λ l. from_be_bytes w32 l) (take-take 4 (n - 4) (drop 4 bytes) few)
+    ap (λ k. stated_size (take k bytes)) split ∙ ap (λ l. from_be_bytes w32 (take 4 l)) (drop-take 4 (n - 4) bytes) ∙ ap (λ l. from_be_bytes w32 l) (take-take 4 (n - 4) (drop 4 bytes) few)
 
 -- ---- no body follows
 
-short_front : (bytes : List ℕ) → length bytes < 8 + stated bytes → (taken : List ℕ) (left : Option (List ℕ)) (n : ℕ) → length bytes ≤ n → taken ≡ take n bytes → left ≡ Some (drop n bytes)
+short_front : (bytes : List ℕ) → length bytes < 8 + stated_size bytes → (taken : List ℕ) (left : Option (List ℕ)) (n : ℕ) → length bytes ≤ n → taken ≡ take n bytes → left ≡ Some (drop n bytes)
     → ¬ (IsOtherHead (take 8 bytes)) → IsFrontTaken bytes taken left
 unfolding front_of rest_of
 short_front bytes short taken left n few is rest known =
@@ -54,7 +54,7 @@ head_alone bytes taken left is rest (inr other) = inr (record { head = is; other
 
 -- ---- a body follows
 
-no_other : (head : List ℕ) → take 4 head ≡ magic → stated head ≤ LONGEST_BODY → ¬ (IsOtherHead head)
+no_other : (head : List ℕ) → take 4 head ≡ magic → stated_size head ≤ LONGEST_BODY → ¬ (IsOtherHead head)
 no_other head first within o =
     elim o.other [
       | inl bad ↦ bad first
@@ -71,30 +71,30 @@ at_most a b = tested (leb a b) refl
 joined : (bytes head taken : List ℕ) (size : ℕ) → head ≡ take 8 bytes → take 8 taken ≡ head → drop 8 taken ≡ take size (drop 8 bytes) → taken ≡ take (8 + size) bytes
 joined bytes head taken size is front behind = sym (take-append-drop 8 taken) ∙ ap₂ (λ a b. a ++ b) (front ∙ is) behind ∙ sym (take-add 8 size bytes)
 
-whole_front : (bytes taken : List ℕ) (left : Option (List ℕ)) → 8 ≤ length bytes → stated bytes ≤ 268435456 → 8 + stated bytes ≤ length bytes → taken ≡ take (8 + stated bytes) bytes → left ≡ Some (drop (8 + stated bytes) bytes)
+whole_front : (bytes taken : List ℕ) (left : Option (List ℕ)) → 8 ≤ length bytes → stated_size bytes ≤ 268435456 → 8 + stated_size bytes ≤ length bytes → taken ≡ take (8 + stated_size bytes) bytes → left ≡ Some (drop (8 + stated_size bytes) bytes)
     → ¬ (IsOtherHead (take 8 bytes)) → IsFrontTaken bytes taken left
 unfolding front_of rest_of
 whole_front bytes taken left head within there is rest known =
-    let size : front_size bytes ≡ 8 + stated bytes = size_with bytes head within there in
+    let size : front_size bytes ≡ 8 + stated_size bytes = size_with bytes head within there in
     record {
       same_head = known;
       front = is ∙ sym (ap (λ k. take k bytes) size);
       rest = rest ∙ ap (λ l. Some l) (sym (ap (λ k. drop k bytes) size));
     }
 
-with_body : (bytes head taken : List ℕ) (size : ℕ) (left : Option (List ℕ)) → head ≡ take 8 bytes → length head ≡ 8 → size ≡ stated head → size ≤ 268435456 → take 4 head ≡ magic → take 8 taken ≡ head
+with_body : (bytes head taken : List ℕ) (size : ℕ) (left : Option (List ℕ)) → head ≡ take 8 bytes → length head ≡ 8 → size ≡ stated_size head → size ≤ 268435456 → take 4 head ≡ magic → take 8 taken ≡ head
     → drop 8 taken ≡ take size (drop 8 bytes) → left ≡ Some (drop size (drop 8 bytes)) → IsFrontTaken bytes taken left
 with_body bytes head taken size left is eight says within first front behind rest =
-    let within_head : stated head ≤ LONGEST_BODY = subst (λ n. n ≤ LONGEST_BODY) says within in
+    let within_head : stated_size head ≤ LONGEST_BODY = subst (λ n. n ≤ LONGEST_BODY) says within in
     let known : ¬ (IsOtherHead (take 8 bytes)) = subst (λ h. ¬ (IsOtherHead h)) is (no_other head first within_head) in
-    let same : size ≡ stated bytes = says ∙ ap stated is ∙ stated_in 8 bytes (omega arith) in
-    let whole : taken ≡ take (8 + stated bytes) bytes = joined bytes head taken size is front behind ∙ ap (λ k. take (8 + k) bytes) same in
-    let after : left ≡ Some (drop (8 + stated bytes) bytes) = rest ∙ ap (λ l. Some l) (drop-drop size 8 bytes ∙ ap (λ k. drop (8 + k) bytes) same) in
+    let same : size ≡ stated_size bytes = says ∙ ap stated_size is ∙ stated_in 8 bytes (omega arith) in
+    let whole : taken ≡ take (8 + stated_size bytes) bytes = joined bytes head taken size is front behind ∙ ap (λ k. take (8 + k) bytes) same in
+    let after : left ≡ Some (drop (8 + stated_size bytes) bytes) = rest ∙ ap (λ l. Some l) (drop-drop size 8 bytes ∙ ap (λ k. drop (8 + k) bytes) same) in
     let few : length head ≡ length (take 8 bytes) = ap length is in
     let long : length (take 8 bytes) ≡ _ = length-take 8 bytes in
-    elim (at_most (8 + stated bytes) (length bytes)) [
+    elim (at_most (8 + stated_size bytes) (length bytes)) [
       | inl there ↦ whole_front bytes taken left (omega arith) (omega arith) there whole after known
-      | inr short ↦ short_front bytes short taken left (8 + stated bytes) (omega arith) whole after known
+      | inr short ↦ short_front bytes short taken left (8 + stated_size bytes) (omega arith) whole after known
     ]
 
 -- ---- where the source tells its bytes
@@ -118,7 +118,7 @@ pub taken_alone : (l0 l1 k : Option (List ℕ)) (v : ℕ) (taken front : List �
     → IfSome l0 (λ bytes. IsTaken bytes front k)
 taken_alone l0 l1 k v taken front e f none t other = moved l0 l1 k taken front e f (alone l0 l1 v taken none t other)
 
-behind : (l0 l1 l2 : Option (List ℕ)) (v w size : ℕ) (head taken : List ℕ) → v ≡ 0 → TakesUpTo HEAD_SIZE l0 l1 (drop v head) → w ≡ 8 → length head ≡ HEAD_SIZE → size ≡ stated head → size ≤ LONGEST_BODY
+behind : (l0 l1 l2 : Option (List ℕ)) (v w size : ℕ) (head taken : List ℕ) → v ≡ 0 → TakesUpTo HEAD_SIZE l0 l1 (drop v head) → w ≡ 8 → length head ≡ HEAD_SIZE → size ≡ stated_size head → size ≤ LONGEST_BODY
     → take 4 head ≡ magic → take w taken ≡ head → TakesUpTo size l1 l2 (drop w taken) → IfSome l0 (λ bytes. IsTaken bytes taken l2)
 behind None l1 l2 v w size head taken none t eight whole says within first front u = tt
 behind (Some bytes) l1 l2 v w size head taken none t eight whole says within first front u =
@@ -126,7 +126,7 @@ behind (Some bytes) l1 l2 v w size head taken none t eight whole says within fir
     let q : TakesUpTo size (Some (drop 8 bytes)) l2 (drop w taken) = subst (λ l. TakesUpTo size l l2 (drop w taken)) t.1 u in
     inl (with_body bytes head taken size l2 (sym all ∙ t.0) whole says within first (ap (λ k. take k taken) (sym eight) ∙ front) (ap (λ k. drop k taken) (sym eight) ∙ q.0) q.1)
 
-pub taken_body : (l0 l1 l2 k : Option (List ℕ)) (v w size : ℕ) (head taken front : List ℕ) → front ≡ taken → k ≡ l2 → v ≡ 0 → TakesUpTo HEAD_SIZE l0 l1 (drop v head) → w ≡ 8 → length head ≡ HEAD_SIZE → size ≡ stated head
+pub taken_body : (l0 l1 l2 k : Option (List ℕ)) (v w size : ℕ) (head taken front : List ℕ) → front ≡ taken → k ≡ l2 → v ≡ 0 → TakesUpTo HEAD_SIZE l0 l1 (drop v head) → w ≡ 8 → length head ≡ HEAD_SIZE → size ≡ stated_size head
     → size ≤ LONGEST_BODY → take 4 head ≡ magic → take w taken ≡ head → TakesUpTo size l1 l2 (drop w taken) → IfSome l0 (λ bytes. IsTaken bytes front k)
 taken_body l0 l1 l2 k v w size head taken front e f none t eight whole says within first kept u =
     moved l0 l2 k taken front e f (behind l0 l1 l2 v w size head taken none t eight whole says within first kept u)

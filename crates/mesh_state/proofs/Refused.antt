@@ -3,7 +3,7 @@ use Rattle.std.proofs.Common.{◌≡◌, ◌≢◌, ◌∙◌, ◌⊎◌, ℕ, �
 use Rattle.std.proofs.lemmas.List.{take-take}
 use Rattle.mesh_checkpoint.specs.declared.limits.TheConstants.{LONGEST_BODY}
 use Rattle.mesh_checkpoint.specs.Points.{body_of, IsState}
-use Rattle.mesh_checkpoint.specs.State.{magic, stated, HasLength}
+use Rattle.mesh_checkpoint.specs.State.{magic, stated_size, HasLength}
 use Rattle.mesh_load.specs.declared.error.StateError.{StateError}
 use Rattle.mesh_load.specs.declared.error.StateError.TheVariants as errors
 use Rattle.mesh_load.specs.Loading.{IsRefused}
@@ -23,16 +23,16 @@ same_first bytes taken is whole =
     let size = size_whole bytes (whole_input bytes taken is whole) in
     take-take 4 (front_size bytes) bytes (omega arith) ∙ sym (ap (take 4) is ∙ take-take 4 8 bytes (omega arith))
 
-same_stated : (bytes taken : List ℕ) → taken ≡ take 8 bytes → length taken ≡ 8 → stated (front_of bytes) ≡ stated taken
+same_stated : (bytes taken : List ℕ) → taken ≡ take 8 bytes → length taken ≡ 8 → stated_size (front_of bytes) ≡ stated_size taken
 unfolding front_of
 same_stated bytes taken is whole =
-    stated_in (front_size bytes) bytes (size_whole bytes (whole_input bytes taken is whole)) ∙ sym (ap stated is ∙ stated_in 8 bytes (omega arith))
+    stated_in (front_size bytes) bytes (size_whole bytes (whole_input bytes taken is whole)) ∙ sym (ap stated_size is ∙ stated_in 8 bytes (omega arith))
 
-too_long : (b c : List ℕ) → (take 4 b ≢ magic) ⊎ (LONGEST_BODY < stated b) → take 4 b ≡ magic → stated c ≡ stated b → ¬ (HasLength c)
+too_long : (b c : List ℕ) → (take 4 b ≢ magic) ⊎ (LONGEST_BODY < stated_size b) → take 4 b ≡ magic → stated_size c ≡ stated_size b → ¬ (HasLength c)
 too_long b c (inl first) is same has = first is
 too_long b c (inr long) is same has = let most = has.0 in absurd (omega arith)
 
-head_refused : (b c : List ℕ) → IsOtherHead b → take 4 c ≡ take 4 b → stated c ≡ stated b → (why : StateError) → IsRefused b why → IsRefused c why
+head_refused : (b c : List ℕ) → IsOtherHead b → take 4 c ≡ take 4 b → stated_size c ≡ stated_size b → (why : StateError) → IsRefused b why → IsRefused c why
 head_refused b c other first same errors.NotState bad = λ is. bad (sym first ∙ is)
 head_refused b c other first same errors.Length bad = (first ∙ bad.0, too_long b c other.other bad.0 same)
 head_refused b c other first same errors.Spelling bad = absurd (too_long b b other.other bad.0 refl bad.1)

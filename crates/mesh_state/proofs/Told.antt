@@ -4,7 +4,7 @@ use Rattle.std.specs.Io.KnownBytes.{Appends, Keeps}
 use Rattle.mesh_base.specs.declared.events.Variant.TheVariants.{Base}
 use Rattle.mesh_io.proofs.Writing.{Appends-join, AppendsPrefix-join, Keeps-same}
 use Rattle.mesh_text.specs.Schedule.{Moment, opening}
-use Rattle.mesh_text.specs.Text.{Written, Verdict, Finished, whole, text_on}
+use Rattle.mesh_text.specs.Text.{RunText, Verdict, Finished, whole, text_on}
 use Rattle.mesh_run.specs.declared.say.Say.TheVariants.{All, Faults}
 use Rattle.mesh_run.specs.declared.status.Status.{Status}
 use Rattle.mesh_run.specs.declared.status.Status.TheVariants as status
@@ -39,7 +39,7 @@ stopped_told start None after a b s e other t = tt
 stopped_told start (Some bytes) after a b s e other t = stopped bytes after a b s other (subst (λ x. IsOutputFrom Faults x bytes after a b s) e t)
 
 -- of a run that is done no line was told
-nothing_said : (w : Written) (a b : Option (List ℕ)) → w.verdict ≡ Finished → Appends a b (whole (part Faults w)) → Appends a b []
+nothing_said : (w : RunText) (a b : Option (List ℕ)) → w.verdict ≡ Finished → Appends a b (whole (part Faults w)) → Appends a b []
 nothing_said w a b finished t = let P : Verdict → Type 0 = λ v. Appends a b ([] ++ fault_line v w.last) in subst P finished t
 
 keeps_of : (a b : Option (List ℕ)) → Appends a b [] → Keeps a b

@@ -5,7 +5,7 @@ use Rattle.std.specs.Io.KnownBytes.{Keeps}
 use Rattle.mesh_base.specs.declared.events.Variant.TheVariants.{Base}
 use Rattle.mesh_io.specs.Cause.{Rose}
 use Rattle.mesh_text.specs.Schedule.{Moment, opening}
-use Rattle.mesh_text.specs.Text.{Written, Finished, text_on}
+use Rattle.mesh_text.specs.Text.{RunText, Finished, text_on}
 use Rattle.mesh_run.specs.declared.say.Say.TheVariants.{All, Faults}
 use Rattle.mesh_run.specs.declared.status.Status.{Status}
 use Rattle.mesh_run.specs.declared.status.Status.TheVariants.{Done, Usage, ReadFault, WriteFault, NoMemory}
@@ -24,17 +24,17 @@ use Rattle.mesh_state.specs.Fronts.{front_of, rest_of, IsTaken}
 -- ---- with `save`, of the run of a schedule
 
 -- the run was done, and the checkpoint of its last moment was written
-pub record IsSaved (w : Written) (before now : Option (List ℕ)) : Type 0 where
+pub record IsSaved (w : RunText) (before now : Option (List ℕ)) : Type 0 where
   pub finished : w.verdict ≡ Finished
   pub written : IsWritten w.after before now
 
 -- the run was done, and a prefix of that checkpoint was written
-pub record IsCutOff (w : Written) (before now : Option (List ℕ)) : Type 0 where
+pub record IsCutOff (w : RunText) (before now : Option (List ℕ)) : Type 0 where
   pub finished : w.verdict ≡ Finished
   pub cut : IsCut w.after before now
 
 -- the run was done, its last moment has too long a body for a checkpoint, and nothing was written
-pub record IsTooBig (w : Written) (before now : Option (List ℕ)) : Type 0 where
+pub record IsTooBig (w : RunText) (before now : Option (List ℕ)) : Type 0 where
   pub finished : w.verdict ≡ Finished
   pub long : IsTooLong w.after
   pub kept : Keeps before now

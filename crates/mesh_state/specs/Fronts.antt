@@ -1,19 +1,19 @@
 -- The front of an input, where a checkpoint stands, and the rest that follows it.
 use Rattle.std.specs.Prelude.{ℕ, ◌≡◌, ◌≢◌, ◌<◌, ◌+◌, ◌⊎◌, Bool, ◌&&◌, nat_le, if◌then◌else◌, List, length, take, drop, Option, Some, None, ⊤}
 use Rattle.mesh_checkpoint.specs.declared.limits.TheConstants.{LONGEST_BODY}
-use Rattle.mesh_checkpoint.specs.State.{magic, stated}
+use Rattle.mesh_checkpoint.specs.State.{magic, stated_size}
 use Rattle.mesh_state.specs.declared.front.TheConstants.{HEAD_SIZE}
 
 -- a head is there, and behind it as many bytes as it states, within the limit
 abbrev pub has_body : List ℕ → Bool
 has_body bytes =
-    nat_le HEAD_SIZE (length bytes) && nat_le (stated bytes) LONGEST_BODY
-    && nat_le (HEAD_SIZE + stated bytes) (length bytes)
+    nat_le HEAD_SIZE (length bytes) && nat_le (stated_size bytes) LONGEST_BODY
+    && nat_le (HEAD_SIZE + stated_size bytes) (length bytes)
 
 -- the front has the first 8 bytes and as many more as they state; it is the whole input where that
 -- is more than the limit or than there is
 abbrev pub front_size : List ℕ → ℕ
-front_size bytes = if has_body bytes then HEAD_SIZE + stated bytes else length bytes
+front_size bytes = if has_body bytes then HEAD_SIZE + stated_size bytes else length bytes
 
 unfoldable pub front_of : List ℕ → List ℕ
 front_of bytes = take (front_size bytes) bytes
@@ -26,7 +26,7 @@ rest_of bytes = drop (front_size bytes) bytes
 -- that it states is above the limit
 pub record IsOtherHead (head : List ℕ) : Type 0 where
   pub whole : length head ≡ HEAD_SIZE
-  pub other : (take 4 head ≢ magic) ⊎ (LONGEST_BODY < stated head)
+  pub other : (take 4 head ≢ magic) ⊎ (LONGEST_BODY < stated_size head)
 
 -- the front was taken of these bytes, and the rest is left. Their first 8 don't show that no body
 -- follows

@@ -1,7 +1,7 @@
 //! The front of an input, where a checkpoint stands.
 ghost use Rattle.std.specs.Prelude.{◌≡◌, ◌≤◌, ◌<◌, ◌+◌, ◌⊎◌, length, take, drop, IfOk, IfSome, IfNone, IsErrOf, vec_len};
 ghost use Rattle.mesh_run.specs.Causes.{HasCauseIf};
-ghost use Rattle.mesh_checkpoint.specs.State.{magic, stated};
+ghost use Rattle.mesh_checkpoint.specs.State.{magic, stated_size};
 ghost use Rattle.mesh_state.specs.Fronts.{IsOtherHead, IsTaken, TakesUpTo};
 
 use mesh_checkpoint::LONGEST_BODY;
@@ -55,7 +55,7 @@ fn body_size(head: &[u8]) -> Option<usize>
     requires { length head.now ≤ HEAD_SIZE }
     ensures whole { IfSome result (λ size. length head.now ≡ HEAD_SIZE) }
     ensures first { IfSome result (λ size. take 4 head.now ≡ magic) }
-    ensures size { IfSome result (λ size. (size ≡ stated head.now) × (size ≤ LONGEST_BODY)) }
+    ensures size { IfSome result (λ size. (size ≡ stated_size head.now) × (size ≤ LONGEST_BODY)) }
     ensures none { IfNone result ((length head.now < HEAD_SIZE) ⊎ IsOtherHead head.now) }
 {
     if head.len() < HEAD_SIZE {

@@ -11,7 +11,7 @@ use Rattle.std.proofs.lemmas.List.Sums.{count_by-le-length}
 use Rattle.std.proofs.lemmas.Map.Made.{lookup-map_values}
 use Rattle.aodv_entry.specs.Quality.{is_val}
 use Rattle.mesh_tables.specs.declared.row.Row.{Row}
-use Rattle.mesh_tables.specs.Printed.{Table, Shown, table_in, edges_of, edges_in}
+use Rattle.mesh_tables.specs.Printed.{Table, ShownTables, table_in, edges_of, edges_in}
 use Rattle.mesh_tables.specs.Kept.{shown_in, size_of}
 
 pub table_in_shown : (ts : List (ℕ × BTreeMap ℕ Row)) (x : ℕ) → table_in (shown_in ts) x ≡ option_map (λ (m : BTreeMap ℕ Row). m.entries) (lookup (is_at (nat_cmp x)) ts)
@@ -28,7 +28,7 @@ shown_insert (t ∷ ts) x m = by_order (nat_cmp x t.0) (shown_insert ts x m)
     by_order Equal h = refl
     by_order Greater h = ap (λ s. (t.0, (t.1).entries) ∷ s) h
 
-pub size_insert : (ts : Shown) (x : ℕ) (rows : Table) → size_of (insert_entry nat_cmp ts x rows) ≤ size_of ts + length rows
+pub size_insert : (ts : ShownTables) (x : ℕ) (rows : Table) → size_of (insert_entry nat_cmp ts x rows) ≤ size_of ts + length rows
 size_insert [] x rows = omega arith
 size_insert (t ∷ ts) x rows = by_order (nat_cmp x t.0) (size_insert ts x rows)
   where
@@ -47,7 +47,7 @@ length_shown ts = simp length-map
 edges_fit : (x : ℕ) (rows : Table) → edges_of x rows ≤ length rows
 edges_fit x rows = count_by-le-length (λ (e : ℕ × Row). is_val (e.1).flag && not (eqb e.0 x)) rows
 
-pub edges_within : (ts : Shown) → edges_in ts ≤ size_of ts
+pub edges_within : (ts : ShownTables) → edges_in ts ≤ size_of ts
 edges_within [] = let zero : 0 ≤ 0 = omega arith in zero
 edges_within (t ∷ ts) =
     let one = edges_fit t.0 t.1 in

@@ -15,7 +15,7 @@ use Rattle.aodv_entry.specs.declared.entry.Flag.TheVariants.{Val, Inv}
 use Rattle.mesh_tables.specs.declared.row.Row.{Row}
 use Rattle.mesh_tables.specs.declared.search.FailingEdge.{FailingEdge}
 use Rattle.mesh_tables.specs.Tables.{Tables, Fails, Cycle, IsFirstFault, is_better_row}
-use Rattle.mesh_tables.specs.Printed.{Table, Shown, row_in, table_in, tables_of}
+use Rattle.mesh_tables.specs.Printed.{Table, ShownTables, row_in, table_in, tables_of}
 use Rattle.mesh_tables.specs.Search.{next_against, failing_next, failing_by, failing_at, is_before, lesser, search_rows, search}
 use Rattle.mesh_tables.proofs.Cycles.{no_cycle}
 
@@ -154,14 +154,14 @@ rows_least Seen t x (l ∷ ls) best least =
     more d z (inr (inl b, same)) = inl (inr (b, same))
     more d z (inr (inr b, same)) = inr (b, same)
 
-abbrev WasShown : Shown → ℕ → ℕ → Type 0
+abbrev WasShown : ShownTables → ℕ → ℕ → Type 0
 WasShown [] d z = ⊥
 WasShown (s ∷ ss) d z = (HasDest s.1 d × (z ≡ s.0)) ⊎ WasShown ss d z
 
-abbrev AndShown : (ℕ → ℕ → Type 0) → Shown → ℕ → ℕ → Type 0
+abbrev AndShown : (ℕ → ℕ → Type 0) → ShownTables → ℕ → ℕ → Type 0
 AndShown Seen ss d z = Seen d z ⊎ WasShown ss d z
 
-shown_least : (Seen : ℕ → ℕ → Type 0) (t : Tables) (ss : Shown) (best : Option FailingEdge) → IsLeast Seen t best → IsLeast (AndShown Seen ss) t (search t ss best)
+shown_least : (Seen : ℕ → ℕ → Type 0) (t : Tables) (ss : ShownTables) (best : Option FailingEdge) → IsLeast Seen t best → IsLeast (AndShown Seen ss) t (search t ss best)
 shown_least Seen t [] best least = weaker Seen (AndShown Seen []) t best (λ d z s. elim s [
   | inl a ↦ a
   | inr b ↦ absurd b
@@ -193,12 +193,12 @@ has_dest : (ls : Table) (d : ℕ) (e : Row) → row_in ls d ≡ Some e → HasDe
 has_dest [] d e is = absurd (none-some e is)
 has_dest (l ∷ ls) d e is = dest_by l ls d e (is_at (nat_cmp d) l.0) refl (has_dest ls d e) is
 
-shown_by : (s : ℕ × Table) (ss : Shown) (x d : ℕ) (e : Row) (b : Bool) → is_at (nat_cmp x) s.0 ≡ b → (tables_of ss x d ≡ Some e → WasShown ss d x)
+shown_by : (s : ℕ × Table) (ss : ShownTables) (x d : ℕ) (e : Row) (b : Bool) → is_at (nat_cmp x) s.0 ≡ b → (tables_of ss x d ≡ Some e → WasShown ss d x)
     → option_and_then (λ rows. row_in rows d) (cond b (Some s.1) (table_in ss x)) ≡ Some e → WasShown (s ∷ ss) d x
 shown_by s ss x d e true same rest is = inl (has_dest s.1 d e is, same_key x s.0 same)
 shown_by s ss x d e false other rest is = inr (rest is)
 
-was_shown : (ss : Shown) (x d : ℕ) (e : Row) → tables_of ss x d ≡ Some e → WasShown ss d x
+was_shown : (ss : ShownTables) (x d : ℕ) (e : Row) → tables_of ss x d ≡ Some e → WasShown ss d x
 was_shown [] x d e is = absurd (none-some e is)
 was_shown (s ∷ ss) x d e is = shown_by s ss x d e (is_at (nat_cmp x) s.0) refl (was_shown ss x d e) is
 
@@ -206,7 +206,7 @@ verdict_of : (t : Tables) (Seen : ℕ → ℕ → Type 0) (found : Option Failin
 verdict_of t Seen None all least = λ d x y f. least d x y (all d x y f) f
 verdict_of t Seen (Some p) all least = record { fails = least.0; first = λ d x y f. least.1 d x y (all d x y f) f }
 
-pub search_is : (ss : Shown) → IsFirstFault (tables_of ss) (search (tables_of ss) ss None)
+pub search_is : (ss : ShownTables) → IsFirstFault (tables_of ss) (search (tables_of ss) ss None)
 search_is ss =
     verdict_of (tables_of ss) (AndShown (λ d x. ⊥) ss) (search (tables_of ss) ss None)
     (λ d x y f. inr (was_shown ss x d (f.edge).row (f.edge).there))

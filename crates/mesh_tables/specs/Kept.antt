@@ -4,16 +4,16 @@ use Rattle.std.specs.BTreeMap.{BTreeMap}
 use Rattle.mesh_tables.specs.declared.row.Row.{Row}
 use Rattle.mesh_tables.specs.declared.printed.OpenBlock.{OpenBlock}
 use Rattle.mesh_tables.specs.declared.entry_line.Words.{Words}
-use Rattle.mesh_tables.specs.Printed.{Shown, Block}
+use Rattle.mesh_tables.specs.Printed.{ShownTables, Block}
 
-abbrev pub shown_in : List (ℕ × BTreeMap ℕ Row) → Shown
+abbrev pub shown_in : List (ℕ × BTreeMap ℕ Row) → ShownTables
 shown_in tables = map (λ t. (t.0, (t.1).entries)) tables
 
 abbrev pub block_in : OpenBlock → Block
 block_in b = record { node = b.node; rows = (b.rows).entries }
 
 -- how many entries there are
-abbrev pub size_of : Shown → ℕ
+abbrev pub size_of : ShownTables → ℕ
 size_of [] = 0
 size_of (t ∷ ts) = length t.1 + size_of ts
 

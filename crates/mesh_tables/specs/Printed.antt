@@ -30,15 +30,15 @@ abbrev pub row_in : Table → ℕ → Option Row
 row_in rows d = lookup (is_at (nat_cmp d)) rows
 
 -- the tables of the nodes that were shown, by rising address
-abbrev pub Shown : Type 0
-Shown = List (ℕ × Table)
+abbrev pub ShownTables : Type 0
+ShownTables = List (ℕ × Table)
 
 -- the table of x
-abbrev pub table_in : Shown → ℕ → Option Table
+abbrev pub table_in : ShownTables → ℕ → Option Table
 table_in shown x = lookup (is_at (nat_cmp x)) shown
 
 -- what they answer
-abbrev pub tables_of : Shown → Tables
+abbrev pub tables_of : ShownTables → Tables
 tables_of shown x d = option_and_then (λ rows. row_in rows d) (table_in shown x)
 
 -- the edges of x: its valid entries for others
@@ -46,7 +46,7 @@ abbrev pub edges_of : ℕ → Table → ℕ
 edges_of x rows = count_by (λ e. is_val (e.1).flag && not (e.0 == x)) rows
 
 -- the edges of all destinations, also those whose next hop wasn't shown
-abbrev pub edges_in : Shown → ℕ
+abbrev pub edges_in : ShownTables → ℕ
 edges_in [] = 0
 edges_in (t ∷ ts) = edges_of t.0 t.1 + edges_in ts
 
@@ -100,19 +100,19 @@ pub record Block : Type 0 where
 -- what the lines read so far show: the tables whose blocks are closed, the block that is open, and
 -- how many lines
 pub record Reading : Type 0 where
-  pub closed : Shown
+  pub closed : ShownTables
   pub block : Option Block
   pub lines : ℕ
 
 abbrev pub nothing_read : Reading
 nothing_read = record { closed = []; block = None; lines = 0 }
 
-abbrev pub with_block : Shown → Option Block → Shown
+abbrev pub with_block : ShownTables → Option Block → ShownTables
 with_block shown None = shown
 with_block shown (Some b) = insert_entry nat_cmp shown b.node b.rows
 
 -- all that is shown: the open block closes
-abbrev pub shown_by : Reading → Shown
+abbrev pub shown_by : Reading → ShownTables
 shown_by r = with_block r.closed r.block
 
 abbrev pub closed_up : Reading → Reading

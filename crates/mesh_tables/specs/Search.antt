@@ -4,7 +4,7 @@ use Rattle.aodv_entry.specs.Quality.{is_val}
 use Rattle.mesh_tables.specs.declared.row.Row.{Row}
 use Rattle.mesh_tables.specs.declared.search.FailingEdge.{FailingEdge}
 use Rattle.mesh_tables.specs.Tables.{Tables, is_better_row}
-use Rattle.mesh_tables.specs.Printed.{Table, Shown}
+use Rattle.mesh_tables.specs.Printed.{Table, ShownTables}
 
 -- ---- one edge
 
@@ -43,6 +43,6 @@ abbrev pub search_rows : Tables → ℕ → Table → Option FailingEdge → Opt
 search_rows t x [] best = best
 search_rows t x (e ∷ es) best = search_rows t x es (lesser best e.0 x (failing_at t x e.0))
 
-abbrev pub search : Tables → Shown → Option FailingEdge → Option FailingEdge
+abbrev pub search : Tables → ShownTables → Option FailingEdge → Option FailingEdge
 search t [] best = best
 search t (s ∷ ss) best = search t ss (search_rows t s.0 s.1 best)

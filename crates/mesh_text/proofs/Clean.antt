@@ -7,7 +7,7 @@ use Rattle.std.proofs.lemmas.Bool.{ne_eqb, and_from, and_parts, leb-true}
 use Rattle.std.proofs.lemmas.List.Elements.{All-from_recursion}
 use Rattle.std.specs.List.{AllByRecursion}
 use Rattle.aodv_model.proofs.Entries.{if_case}
-use Rattle.mesh_base.specs.Addresses.{dotted}
+use Rattle.mesh_base.specs.Addresses.{dotted_decimal}
 use Rattle.mesh_base.specs.Members.{NodeIds}
 use Rattle.mesh_base.specs.Meshes.{Nodes, addr_at}
 use Rattle.mesh_base.proofs.Spelling.{Lacks}
@@ -56,7 +56,7 @@ pub decimal_clean : (n : ℕ) → is_clean (decimal n) ≡ true
 unfolding digits
 decimal_clean n = onto_clean 64 n [] refl
 
-pub dotted_clean : (a : ℕ) → is_clean (dotted a) ≡ true
+pub dotted_clean : (a : ℕ) → is_clean (dotted_decimal a) ≡ true
 dotted_clean a =
     let w : List ℕ = decimal (a / 16777216) in
     let x : List ℕ = 46 ∷ decimal (a / 65536 % 256) in

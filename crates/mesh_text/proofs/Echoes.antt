@@ -12,15 +12,15 @@ use Rattle.mesh_grammar.specs.Words.{Mention}
 use Rattle.mesh_grammar.specs.Forms.{Arguments, NoArgument, OneAddress, TwoAddresses, OneNumber, NumberedAddress, AddressesAndText, AreOfForm}
 use Rattle.mesh_grammar.specs.Scripts.{Shape}
 use Rattle.mesh_grammar.specs.Commands.{shape_of}
-use Rattle.mesh_grammar.specs.Written.{written}
+use Rattle.mesh_grammar.specs.Written.{command_text}
 use Rattle.mesh_grammar.specs.Laws.{addresses_of, IsTextOf}
-use Rattle.mesh_text.specs.Schedule.{Accepted, Does, NewNode, of_pair, made, new_node, accepted, accepted_shape, result_and_then, line_of}
+use Rattle.mesh_text.specs.Schedule.{AcceptedLine, Does, NewNode, of_pair, made_line, new_node, accepted_line, accepted_shape, result_and_then, line_of}
 use Rattle.mesh_text.specs.Lines.{words_of, event_words}
 use Rattle.mesh_text.specs.Ranges.{IsEcho}
 use Rattle.mesh_text.specs.Laws.{ReadLineIsWrittenAsItWas}
 use Rattle.mesh_text.proofs.Shapes.{form_of, word_of, Said, said, IsAt, none_placed, number_placed, one_placed, two_placed, text_placed}
 
-unfoldable pub Echoed : Nodes → List ℕ → Result Accepted LineFault → Type 0
+unfoldable pub Echoed : Nodes → List ℕ → Result AcceptedLine LineFault → Type 0
 Echoed mesh line (Err f) = Unit {0}
 Echoed mesh line (Ok a) = IsEcho mesh line a
 
@@ -41,46 +41,46 @@ module _ (mesh : Nodes) (started : Bool) (line : List ℕ) where
       if_case (Echoed mesh line) (eqb (length mesh) MOST_NODES) _ _ (λ _. tt) (λ _. is)))
 
   -- the text of one node, or of two, by their places in the mesh
-  one_text : (word : List ℕ) (m : Mention) (x : ℕ) → line ≡ written word (OneAddress m.address) → IsAt mesh m x
-      → line ≡ written word (OneAddress (addr_at mesh x))
-  one_text word m x text at = text ∙ ap (λ a. written word (OneAddress a)) (sym at.1)
+  one_text : (word : List ℕ) (m : Mention) (x : ℕ) → line ≡ command_text word (OneAddress m.address) → IsAt mesh m x
+      → line ≡ command_text word (OneAddress (addr_at mesh x))
+  one_text word m x text at = text ∙ ap (λ a. command_text word (OneAddress a)) (sym at.1)
 
-  two_text : (word : List ℕ) (m n : Mention) (x y : ℕ) → line ≡ written word (TwoAddresses m.address n.address) → IsAt mesh m x → IsAt mesh n y
-      → line ≡ written word (TwoAddresses (addr_at mesh x) (addr_at mesh y))
-  two_text word m n x y text x_at y_at = text ∙ ap₂ (λ a b. written word (TwoAddresses a b)) (sym x_at.1) (sym y_at.1)
+  two_text : (word : List ℕ) (m n : Mention) (x y : ℕ) → line ≡ command_text word (TwoAddresses m.address n.address) → IsAt mesh m x → IsAt mesh n y
+      → line ≡ command_text word (TwoAddresses (addr_at mesh x) (addr_at mesh y))
+  two_text word m n x y text x_at y_at = text ∙ ap₂ (λ a b. command_text word (TwoAddresses a b)) (sym x_at.1) (sym y_at.1)
 
-  text_text : (word : List ℕ) (m n : Mention) (body : List ℕ) (x y : ℕ) → line ≡ written word (AddressesAndText m.address n.address body)
-      → IsAt mesh m x → IsAt mesh n y → line ≡ written word (AddressesAndText (addr_at mesh x) (addr_at mesh y) body)
-  text_text word m n body x y text x_at y_at = text ∙ ap₂ (λ a b. written word (AddressesAndText a b body)) (sym x_at.1) (sym y_at.1)
+  text_text : (word : List ℕ) (m n : Mention) (body : List ℕ) (x y : ℕ) → line ≡ command_text word (AddressesAndText m.address n.address body)
+      → IsAt mesh m x → IsAt mesh n y → line ≡ command_text word (AddressesAndText (addr_at mesh x) (addr_at mesh y) body)
+  text_text word m n body x y text x_at y_at = text ∙ ap₂ (λ a b. command_text word (AddressesAndText a b body)) (sym x_at.1) (sym y_at.1)
 
   said_echoed : (c : Command) (arguments : Arguments Mention) → AreOfForm (form_of c) arguments
-      → IsTextOf line (word_of c) (addresses_of arguments) → Echoed mesh line (accepted mesh started c arguments)
+      → IsTextOf line (word_of c) (addresses_of arguments) → Echoed mesh line (accepted_line mesh started c arguments)
   unfolding Echoed words_of event_words
   said_echoed command.Node (NumberedAddress m first) form text = node_echoed m first text
   said_echoed command.Link (TwoAddresses m n) form text =
-      two_placed mesh (Echoed mesh line) faulty (made command.Link) m n (λ x y x_at y_at.
+      two_placed mesh (Echoed mesh line) faulty (made_line command.Link) m n (λ x y x_at y_at.
       pair_echoed x y (Link x y) (two_text (word_of command.Link) m n x y text x_at y_at))
   said_echoed command.Cut (TwoAddresses m n) form text =
-      two_placed mesh (Echoed mesh line) faulty (made command.Cut) m n (λ x y x_at y_at.
+      two_placed mesh (Echoed mesh line) faulty (made_line command.Cut) m n (λ x y x_at y_at.
       pair_echoed x y (Cut x y) (two_text (word_of command.Cut) m n x y text x_at y_at))
   said_echoed command.Data (AddressesAndText m n body) form text =
-      text_placed mesh (Echoed mesh line) faulty (made command.Data) m n body (λ x y x_at y_at.
+      text_placed mesh (Echoed mesh line) faulty (made_line command.Data) m n body (λ x y x_at y_at.
       text_text (word_of command.Data) m n body x y text x_at y_at)
   said_echoed command.Turn (OneAddress m) form text =
-      one_placed mesh (Echoed mesh line) faulty (made command.Turn) m (λ x at. one_text (word_of command.Turn) m x text at)
+      one_placed mesh (Echoed mesh line) faulty (made_line command.Turn) m (λ x at. one_text (word_of command.Turn) m x text at)
   said_echoed command.Send (TwoAddresses m n) form text =
-      two_placed mesh (Echoed mesh line) faulty (made command.Send) m n (λ x y x_at y_at. two_text (word_of command.Send) m n x y text x_at y_at)
+      two_placed mesh (Echoed mesh line) faulty (made_line command.Send) m n (λ x y x_at y_at. two_text (word_of command.Send) m n x y text x_at y_at)
   said_echoed command.Ask (TwoAddresses m n) form text =
-      two_placed mesh (Echoed mesh line) faulty (made command.Ask) m n (λ x y x_at y_at. two_text (word_of command.Ask) m n x y text x_at y_at)
-  said_echoed command.Deliver (OneNumber id) form text = number_placed mesh (Echoed mesh line) faulty (made command.Deliver) id (λ _. text)
-  said_echoed command.Lose (OneNumber id) form text = number_placed mesh (Echoed mesh line) faulty (made command.Lose) id (λ _. text)
-  said_echoed command.Copy (OneNumber id) form text = number_placed mesh (Echoed mesh line) faulty (made command.Copy) id (λ _. text)
-  said_echoed command.Auto (OneNumber count) form text = number_placed mesh (Echoed mesh line) faulty (made command.Auto) count (λ _. text)
+      two_placed mesh (Echoed mesh line) faulty (made_line command.Ask) m n (λ x y x_at y_at. two_text (word_of command.Ask) m n x y text x_at y_at)
+  said_echoed command.Deliver (OneNumber id) form text = number_placed mesh (Echoed mesh line) faulty (made_line command.Deliver) id (λ _. text)
+  said_echoed command.Lose (OneNumber id) form text = number_placed mesh (Echoed mesh line) faulty (made_line command.Lose) id (λ _. text)
+  said_echoed command.Copy (OneNumber id) form text = number_placed mesh (Echoed mesh line) faulty (made_line command.Copy) id (λ _. text)
+  said_echoed command.Auto (OneNumber count) form text = number_placed mesh (Echoed mesh line) faulty (made_line command.Auto) count (λ _. text)
   said_echoed command.Show (OneAddress m) form text =
-      one_placed mesh (Echoed mesh line) faulty (made command.Show) m (λ x at. one_text (word_of command.Show) m x text at)
+      one_placed mesh (Echoed mesh line) faulty (made_line command.Show) m (λ x at. one_text (word_of command.Show) m x text at)
   said_echoed command.Route (TwoAddresses m n) form text =
-      two_placed mesh (Echoed mesh line) faulty (made command.Route) m n (λ x y x_at y_at. two_text (word_of command.Route) m n x y text x_at y_at)
-  said_echoed command.Flight NoArgument form text = none_placed mesh (Echoed mesh line) faulty (made command.Flight) (λ _. text)
+      two_placed mesh (Echoed mesh line) faulty (made_line command.Route) m n (λ x y x_at y_at. two_text (word_of command.Route) m n x y text x_at y_at)
+  said_echoed command.Flight NoArgument form text = none_placed mesh (Echoed mesh line) faulty (made_line command.Flight) (λ _. text)
   said_echoed other arguments form text = absurd form
 
   shape_echoed : (r : Result (Option (Shape Command Mention)) LineFault) → Said line r → Echoed mesh line (result_and_then (accepted_shape mesh started) r)

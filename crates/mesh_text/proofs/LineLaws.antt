@@ -6,8 +6,8 @@ use Rattle.mesh_model.specs.Worlds as worlds
 use Rattle.mesh_model.specs.Worlds.{Event, Give, Turn, Send, Ask, Link, Cut, Deliver, Lose, Double, Outcome, Idle, Next}
 use Rattle.mesh_model.specs.Choices.{pick}
 use Rattle.mesh_grammar.specs.declared.fault.LineFault.{LineFault}
-use Rattle.mesh_grammar.specs.Written.{written}
-use Rattle.mesh_text.specs.Schedule.{Moment, Accepted, Does, Chooses, line_of, world_of, started, stepped, outcome_at}
+use Rattle.mesh_grammar.specs.Written.{command_text}
+use Rattle.mesh_text.specs.Schedule.{Moment, AcceptedLine, Does, Chooses, line_of, world_of, with_world, next_moment, outcome_at}
 use Rattle.mesh_text.specs.Lines.{words_of, event_words}
 use Rattle.mesh_text.specs.Auto.{event_then, choice_then, events_chosen}
 use Rattle.mesh_text.specs.Runs.{events_read}
@@ -18,11 +18,11 @@ use Rattle.mesh_text.proofs.Echoes.{read_line_is_written_as_it_was, Echoed, echo
 -- ---- bytes
 
 auto_words : (mesh : Nodes) (count : ℕ) → 4 ≤ length (words_of mesh (Chooses count))
-unfolding words_of written
+unfolding words_of command_text
 auto_words mesh count = omega arith
 
 event_has_words : (mesh : Nodes) (e : Event) → 1 ≤ length (event_words mesh e)
-unfolding event_words written
+unfolding event_words command_text
 event_has_words mesh (Give x d body) = omega arith
 event_has_words mesh (Turn x) = omega arith
 event_has_words mesh (Send x d) = omega arith
@@ -34,14 +34,14 @@ event_has_words mesh (Lose id) = omega arith
 event_has_words mesh (Double id) = omega arith
 
 pub auto_line_has_four_bytes : AutoLineHasFourBytes
-auto_line_has_four_bytes mesh started line count is =
-    let same : length line ≡ length (words_of mesh (Chooses count)) = ap length (read_line_is_written_as_it_was mesh started line (Chooses count) is) in
+auto_line_has_four_bytes mesh with_world line count is =
+    let same : length line ≡ length (words_of mesh (Chooses count)) = ap length (read_line_is_written_as_it_was mesh with_world line (Chooses count) is) in
     let four = auto_words mesh count in
     omega arith
 
 -- ---- events
 
-event_few : (most : ℕ) (m : Moment) (e : Event) (o : Outcome) (more : Moment → List Event) → length (more (stepped m e)) ≤ most
+event_few : (most : ℕ) (m : Moment) (e : Event) (o : Outcome) (more : Moment → List Event) → length (more (next_moment m e)) ≤ most
     → length (event_then m e o more) ≤ suc most
 event_few most m e Idle more few = omega arith
 event_few most m e (worlds.Full x field) more few = omega arith
@@ -50,14 +50,14 @@ event_few most m e (Next w happening) more few = omega arith
 choice_few : (most : ℕ) (m : Moment) (o : Option Event) (more : Moment → List Event) → ((n : Moment) → length (more n) ≤ most)
     → length (choice_then m o more) ≤ suc most
 choice_few most m None more few = omega arith
-choice_few most m (Some e) more few = event_few most m e (outcome_at m e) more (few (stepped m e))
+choice_few most m (Some e) more few = event_few most m e (outcome_at m e) more (few (next_moment m e))
 
 pub chosen_few : (most : ℕ) (m : Moment) → length (events_chosen most m) ≤ most
 unfolding events_chosen
 chosen_few zero m = omega arith
 chosen_few (suc most) m = choice_few most m (pick (world_of m)) (λ n. events_chosen most n) (chosen_few most)
 
-read_few : (m : Moment) (line : List ℕ) (r : Result Accepted LineFault) → Allowed m.mesh (is_some m.world) r → Echoed m.mesh line r
+read_few : (m : Moment) (line : List ℕ) (r : Result AcceptedLine LineFault) → Allowed m.mesh (is_some m.world) r → Echoed m.mesh line r
     → 4 * length (events_read m r) ≤ MOST_EVENTS * length line
 unfolding Allowed Echoed words_of
 read_few m line (Err f) allowed echo = omega arith
@@ -68,7 +68,7 @@ read_few m line (Ok (Does e)) allowed echo =
 read_few m line (Ok (Chooses count)) allowed echo =
     let same : length line ≡ length (words_of m.mesh (Chooses count)) = ap length echo in
     let four = auto_words m.mesh count in
-    let few = chosen_few count (started m) in
+    let few = chosen_few count (with_world m) in
     let most : count ≤ MOST_EVENTS = allowed.0.2 in
     omega arith
 read_few m line (Ok others) allowed echo = omega arith

@@ -10,9 +10,9 @@ use Rattle.mesh_model.specs.Invariants.{IsLoopSafe}
 use Rattle.mesh_model.proofs.Steps.{run_kept}
 use Rattle.mesh_model.proofs.Acyclic.{no_cycle}
 use Rattle.mesh_grammar.specs.Lines.{Piece, pieces_of_input}
-use Rattle.mesh_text.specs.Schedule.{Moment, opening, world_of, stepped}
+use Rattle.mesh_text.specs.Schedule.{Moment, opening, world_of, next_moment}
 use Rattle.mesh_text.specs.Lines.{done_line}
-use Rattle.mesh_text.specs.Text.{LineOutcome, On, Refused, Full, outcome_of_piece, Finished, FullAt, Written, goes_on, text_from, text_on}
+use Rattle.mesh_text.specs.Text.{LineOutcome, On, Refused, Full, outcome_of_piece, Finished, FullAt, RunText, goes_on, text_from, text_on}
 use Rattle.mesh_text.specs.Runs.{events_of_piece, events_after, events_from, events_of_input, moment_after, moment_in_next, prefix_of_input, moment_at}
 use Rattle.mesh_text.specs.Laws.{MomentIsOfRun, MomentIsLoopFree, LastLineIsOfLastMoment}
 use Rattle.mesh_text.proofs.Moments.{IsKept, opening_kept, text_kept}
@@ -21,19 +21,19 @@ use Rattle.mesh_text.proofs.RunLaws.{run_append, NotFull, Follows, follows}
 -- ---- after events
 
 pub world_after_events : (m : Moment) (es : List Event) → world_of (moment_after m es) ≡ run (world_of m) es
-unfolding moment_after stepped run
+unfolding moment_after next_moment run
 world_after_events m [] = refl
-world_after_events m (e ∷ es) = world_after_events (stepped m e) es
+world_after_events m (e ∷ es) = world_after_events (next_moment m e) es
 
 pub mesh_after_events : (m : Moment) (es : List Event) → (moment_after m es).mesh ≡ m.mesh
-unfolding moment_after stepped
+unfolding moment_after next_moment
 mesh_after_events m [] = refl
-mesh_after_events m (e ∷ es) = mesh_after_events (stepped m e) es
+mesh_after_events m (e ∷ es) = mesh_after_events (next_moment m e) es
 
 pub count_after_events : (m : Moment) (es : List Event) → (moment_after m es).sums.events ≡ m.sums.events + length es
-unfolding moment_after stepped
+unfolding moment_after next_moment
 count_after_events m [] = omega arith
-count_after_events m (e ∷ es) = let rest = count_after_events (stepped m e) es in omega arith
+count_after_events m (e ∷ es) = let rest = count_after_events (next_moment m e) es in omega arith
 
 -- ---- at a moment
 
@@ -64,7 +64,7 @@ reached_more v n all rest es others parts is = record {
 -- ---- after the first lines
 
 -- the events of all lines are those of the first and those of the others from there on
-Splits : Moment → ℕ → List Piece → Written → Type 0
+Splits : Moment → ℕ → List Piece → RunText → Type 0
 Splits m i pieces w = w.verdict ≡ Finished → events_from m pieces ≡ events_from m (take i pieces) ++ events_from w.after (drop i pieces)
 
 goes_splits : (m : Moment) (es : List Event) (c : LineOutcome) (i : ℕ) (pieces : List Piece)
@@ -88,7 +88,7 @@ splits m (suc i) (piece ∷ pieces) finished =
 take_whole : (k : ℕ) (es : List Event) → k ≡ length es → take k es ≡ es
 take_whole k es same = ap (λ j. take j es) same ∙ ap (take (length es)) (sym (append-nil es)) ∙ take-append_seam es []
 
-follows_reached : (v : Variant) (w : Written) (es all rest : List Event) → w.verdict ≡ Finished → Follows (opening v) es w → all ≡ es ++ rest → IsReached v w.after all rest
+follows_reached : (v : Variant) (w : RunText) (es all rest : List Event) → w.verdict ≡ Finished → Follows (opening v) es w → all ≡ es ++ rest → IsReached v w.after all rest
 unfolding NotFull
 follows_reached v w es all rest finished is split =
     let all_counted = is.all (λ number full. let clash : Finished ≡ FullAt number = sym finished ∙ full in let P : ⊥ = cc in P) in
@@ -147,10 +147,10 @@ moment_is_loop_free v input i k d =
 
 -- ---- the last line
 
-EndsWell : Written → Type 0
+EndsWell : RunText → Type 0
 EndsWell w = w.verdict ≡ Finished → w.last ≡ done_line w.after
 
-goes_well : (m : Moment) (c : LineOutcome) (others : Moment → Written) → ((n : Moment) → EndsWell (others n)) → EndsWell (goes_on m c others)
+goes_well : (m : Moment) (c : LineOutcome) (others : Moment → RunText) → ((n : Moment) → EndsWell (others n)) → EndsWell (goes_on m c others)
 unfolding EndsWell
 goes_well m (On text n) others rest finished = rest n finished
 goes_well m (Refused why) others rest finished = absurd (let P : ⊥ = cc in P)

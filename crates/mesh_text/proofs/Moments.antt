@@ -9,7 +9,7 @@ use Rattle.mesh_base.specs.declared.events.Variant.{Variant}
 use Rattle.mesh_base.proofs.Grown.{grown_is_mesh}
 use Rattle.mesh_model.specs.Worlds as worlds
 use Rattle.mesh_model.specs.Worlds.{World, Event, Give, Double, Happening, CopyDoubled, Outcome, Idle, Next, step, start, first_numbers}
-use Rattle.mesh_model.specs.Accounts.{any, waiting, queued, in_flight, given, doubled, doubled_in, doubled_at, if_goes}
+use Rattle.mesh_model.specs.Accounts.{any, waiting, queued_data, in_flight, given_data, doubled_data, doubled_in, doubled_at, if_goes}
 use Rattle.mesh_model.specs.Choices.{pick}
 use Rattle.mesh_model.specs.Places.{IsEvent}
 use Rattle.mesh_model.specs.Invariants.{IsInvariant}
@@ -19,13 +19,13 @@ use Rattle.mesh_model.proofs.AccountSteps.{step_balanced, start_empty}
 use Rattle.mesh_model.proofs.Doublings.{doubling_told}
 use Rattle.mesh_model.proofs.Chosen.{OnSome}
 use Rattle.mesh_grammar.specs.declared.fault.LineFault.{LineFault}
-use Rattle.mesh_text.specs.Schedule.{Moment, opening, Accepted, Nothing, NewNode, Does, Chooses, ShowsNode, ShowsRoute, ShowsFlight, line_of, world_of, started, outcome_at, stepped, counted, idle_by}
+use Rattle.mesh_text.specs.Schedule.{Moment, opening, AcceptedLine, Nothing, NewNode, Does, Chooses, ShowsNode, ShowsRoute, ShowsFlight, line_of, world_of, with_world, outcome_at, next_moment, with_line_read, idle_by}
 use Rattle.mesh_grammar.specs.Lines.{Piece, Whole, Long, Beyond}
 use Rattle.mesh_grammar.specs.Written.{line}
 use Rattle.mesh_text.specs.Lines.{words_of}
 use Rattle.mesh_text.specs.Ranges.{IsNewNode, IsInRange, IsInTime}
 use Rattle.mesh_text.specs.Auto as auto
-use Rattle.mesh_text.specs.Text.{LineOutcome, On, Refused, Full, outcome_by_events, outcome_of_auto, outcome_of_line, outcome_of_read, outcome_of_piece, Written, goes_on, text_from, text_on, text_of_input}
+use Rattle.mesh_text.specs.Text.{LineOutcome, On, Refused, Full, outcome_by_events, outcome_of_auto, outcome_of_line, outcome_of_read, outcome_of_piece, RunText, goes_on, text_from, text_on, text_of_input}
 use Rattle.mesh_text.specs.Accounts.{IsBalanced}
 use Rattle.mesh_text.specs.Laws.{EventKeepsAccount, DataAreAccountedFor, SumsAreInOrder}
 use Rattle.mesh_text.proofs.InRange.{Allowed, line_allowed}
@@ -55,8 +55,8 @@ fresh_world : (m : Moment) → m.world ≡ None → world_of m ≡ start m.varia
 fresh_world m fresh = ap (λ o. unwrap_or o (start m.variant (first_numbers m.mesh))) fresh
 
 -- no datum is in the mesh
-fresh_empty : (m : Moment) → m.world ≡ None → waiting any (world_of m) + queued any (world_of m) + in_flight any (world_of m) ≡ 0
-fresh_empty m fresh = ap (λ w. waiting any w + queued any w + in_flight any w) (fresh_world m fresh) ∙ start_empty any m.variant (first_numbers m.mesh)
+fresh_empty : (m : Moment) → m.world ≡ None → waiting any (world_of m) + queued_data any (world_of m) + in_flight any (world_of m) ≡ 0
+fresh_empty m fresh = ap (λ w. waiting any w + queued_data any w + in_flight any w) (fresh_world m fresh) ∙ start_empty any m.variant (first_numbers m.mesh)
 
 fresh_kept : (m : Moment) → m.world ≡ None → IsMesh m.mesh → m.sums.given + m.sums.copied ≡ m.sums.delivered + m.sums.lost
     → m.sums.idle + m.sums.given + m.sums.copied ≤ m.sums.events → IsKept m
@@ -85,22 +85,22 @@ no_nodes = record {
 pub opening_kept : (v : Variant) → IsKept (opening v)
 opening_kept v = fresh_kept (opening v) refl no_nodes refl (omega arith)
 
-grown_kept : (m : Moment) (address first : ℕ) → m.world ≡ None → IsNewNode m.mesh address first → IsKept m → IsKept (counted (record m { mesh = with_node m.mesh address first }))
+grown_kept : (m : Moment) (address first : ℕ) → m.world ≡ None → IsNewNode m.mesh address first → IsKept m → IsKept (with_line_read (record m { mesh = with_node m.mesh address first }))
 grown_kept m address first fresh new is =
-    fresh_kept (counted (record m { mesh = with_node m.mesh address first })) fresh
+    fresh_kept (with_line_read (record m { mesh = with_node m.mesh address first })) fresh
     (grown_is_mesh m.mesh address first is.mesh new.absent new.few new.positive new.fits (let most = new.most in omega arith))
     (fresh_sums m fresh is.balanced)
     is.ordered
 
 -- ---- events
 
-pub counted_kept : (m : Moment) → IsKept m → IsKept (counted m)
+pub counted_kept : (m : Moment) → IsKept m → IsKept (with_line_read m)
 counted_kept m is = record { mesh = is.mesh; size = is.size; invariant = is.invariant; balanced = is.balanced; ordered = is.ordered }
 
-pub started_kept : (m : Moment) → IsKept m → IsKept (started m)
+pub started_kept : (m : Moment) → IsKept m → IsKept (with_world m)
 started_kept m is = record { mesh = is.mesh; size = is.size; invariant = is.invariant; balanced = is.balanced; ordered = is.ordered }
 
-given_at_most : (e : Event) (o : Outcome) → given any e o ≤ if_goes o 1
+given_at_most : (e : Event) (o : Outcome) → given_data any e o ≤ if_goes o 1
 given_at_most (Give x d body) Idle = omega arith
 given_at_most (Give x d body) (worlds.Full y field) = omega arith
 given_at_most (Give x d body) (Next w happening) = omega arith
@@ -116,7 +116,7 @@ copied_at_most Idle = omega arith
 copied_at_most (worlds.Full x field) = omega arith
 copied_at_most (Next w happening) = doubled_at_most happening
 
-not_both : (w : World) (e : Event) → given any e (step w e) + doubled any w e ≤ if_goes (step w e) 1
+not_both : (w : World) (e : Event) → given_data any e (step w e) + doubled_data any w e ≤ if_goes (step w e) 1
 not_both w (Give x d body) = omega (arith, given_at_most (Give x d body) (step w (Give x d body)))
 not_both w (Double id) = omega (arith, copied_at_most (step w (Double id)), doubling_told w (Double id))
 not_both w others = omega arith
@@ -127,18 +127,18 @@ goes_or_idle (worlds.Full x field) = omega arith
 goes_or_idle (Next w happening) = omega arith
 
 -- an event is idle, or gives a datum, or doubles one, or none of these
-one_at_most : (w : World) (e : Event) → idle_by (step w e) + given any e (step w e) + doubled_at (step w e) ≤ 1
+one_at_most : (w : World) (e : Event) → idle_by (step w e) + given_data any e (step w e) + doubled_at (step w e) ≤ 1
 one_at_most w e = omega (arith, not_both w e, doubling_told w e, goes_or_idle (step w e))
 
 pub event_keeps_account : EventKeepsAccount
-unfolding stepped
+unfolding next_moment
 event_keeps_account m e in_mesh within before =
     let account = step_balanced any (world_of m) e within in_mesh in
     let copied = doubling_told (world_of m) e in
     omega arith
 
-pub stepped_kept : (m : Moment) (e : Event) → IsEvent (length m.mesh) e → IsKept m → IsKept (stepped m e)
-unfolding stepped
+pub stepped_kept : (m : Moment) (e : Event) → IsEvent (length m.mesh) e → IsKept m → IsKept (next_moment m e)
+unfolding next_moment
 stepped_kept m e within is =
     let w : World = world_of m in
     let event : IsEvent (length w.nodes) e = subst (λ k. IsEvent k e) (sym is.size) within in
@@ -163,17 +163,17 @@ unfolding IsKeptRan
 before_kept text (auto.Ended others n) is = is
 before_kept text (auto.Full others n e field) is = tt
 
-done_kept : (m : Moment) (e : Event) (o : Outcome) (others : Moment → auto.EventsOutcome) → IsKeptRan (others (stepped m e)) → IsKeptRan (auto.done_then m e o others)
+done_kept : (m : Moment) (e : Event) (o : Outcome) (others : Moment → auto.EventsOutcome) → IsKeptRan (others (next_moment m e)) → IsKeptRan (auto.done_then m e o others)
 unfolding IsKeptRan
-done_kept m e Idle others is = before_kept _ (others (stepped m e)) is
+done_kept m e Idle others is = before_kept _ (others (next_moment m e)) is
 done_kept m e (worlds.Full x field) others is = tt
-done_kept m e (Next w happening) others is = before_kept _ (others (stepped m e)) is
+done_kept m e (Next w happening) others is = before_kept _ (others (next_moment m e)) is
 
 unfoldable pub UsualList : ℕ → List Event → Type 0
 UsualList size es = AllByRecursion (IsEvent size) es
 
-stepped_mesh : (m : Moment) (e : Event) → (stepped m e).mesh ≡ m.mesh
-unfolding stepped
+stepped_mesh : (m : Moment) (e : Event) → (next_moment m e).mesh ≡ m.mesh
+unfolding next_moment
 stepped_mesh m e = refl
 
 events_kept : (m : Moment) (es : List Event) → UsualList (length m.mesh) es → IsKept m → IsKeptRan (auto.outcome_of_events m es)
@@ -181,7 +181,7 @@ unfolding IsKeptRan UsualList auto.outcome_of_events
 events_kept m [] usual is = is
 events_kept m (e ∷ es) usual is =
     done_kept m e (outcome_at m e) (λ n. auto.outcome_of_events n es)
-    (events_kept (stepped m e) es (subst (λ mesh. UsualList (length mesh) es) (sym (stepped_mesh m e)) usual.1) (stepped_kept m e usual.0 is))
+    (events_kept (next_moment m e) es (subst (λ mesh. UsualList (length mesh) es) (sym (stepped_mesh m e)) usual.1) (stepped_kept m e usual.0 is))
 
 -- each event that is chosen is one of the mesh
 pub chosen_usual : (most : ℕ) (m : Moment) → IsKept m → UsualList (length m.mesh) (auto.events_chosen most m)
@@ -213,20 +213,20 @@ pub not_made : (o : Option World) → is_some o ≡ false → o ≡ None
 not_made None h = refl
 not_made (Some w) h = absurd (let P : ⊥ = cc in P)
 
-line_kept : (m : Moment) (a : Accepted) → IsInRange m.mesh a → IsInTime (is_some m.world) a → IsKept m → IsKeptCame (outcome_of_line m a)
+line_kept : (m : Moment) (a : AcceptedLine) → IsInRange m.mesh a → IsInTime (is_some m.world) a → IsKept m → IsKeptCame (outcome_of_line m a)
 unfolding IsKeptCame outcome_of_line UsualList
 line_kept m Nothing range early is = counted_kept m is
 line_kept m (NewNode address first) range early is = grown_kept m address first (not_made m.world early) range is
-line_kept m (Does e) range early is = line_events_kept (auto.outcome_of_events (started m) (e ∷ [])) (events_kept (started m) (e ∷ []) (range.1, tt) (started_kept m is))
+line_kept m (Does e) range early is = line_events_kept (auto.outcome_of_events (with_world m) (e ∷ [])) (events_kept (with_world m) (e ∷ []) (range.1, tt) (started_kept m is))
 line_kept m (Chooses count) range early is =
-    let chosen : List Event = auto.events_chosen count (started m) in
-    auto_kept (line (words_of m.mesh (Chooses count))) (length chosen) (auto.outcome_of_events (started m) chosen)
-    (events_kept (started m) chosen (chosen_usual count (started m) (started_kept m is)) (started_kept m is))
-line_kept m (ShowsNode x) range early is = counted_kept (started m) (started_kept m is)
-line_kept m (ShowsRoute x d) range early is = counted_kept (started m) (started_kept m is)
-line_kept m ShowsFlight range early is = counted_kept (started m) (started_kept m is)
+    let chosen : List Event = auto.events_chosen count (with_world m) in
+    auto_kept (line (words_of m.mesh (Chooses count))) (length chosen) (auto.outcome_of_events (with_world m) chosen)
+    (events_kept (with_world m) chosen (chosen_usual count (with_world m) (started_kept m is)) (started_kept m is))
+line_kept m (ShowsNode x) range early is = counted_kept (with_world m) (started_kept m is)
+line_kept m (ShowsRoute x d) range early is = counted_kept (with_world m) (started_kept m is)
+line_kept m ShowsFlight range early is = counted_kept (with_world m) (started_kept m is)
 
-result_kept : (m : Moment) (r : Result Accepted LineFault) → Allowed m.mesh (is_some m.world) r → IsKept m → IsKeptCame (outcome_of_read m r)
+result_kept : (m : Moment) (r : Result AcceptedLine LineFault) → Allowed m.mesh (is_some m.world) r → IsKept m → IsKeptCame (outcome_of_read m r)
 unfolding IsKeptCame Allowed
 result_kept m (Ok a) allowed is = line_kept m a allowed.0 allowed.1 is
 result_kept m (Err f) allowed is = tt
@@ -239,7 +239,7 @@ piece_kept m Beyond is = tt
 
 -- ---- whole runs
 
-goes_kept : (m : Moment) (c : LineOutcome) (others : Moment → Written) → IsKeptCame c → IsKept m → ((n : Moment) → IsKept n → IsKept (others n).after) → IsKept (goes_on m c others).after
+goes_kept : (m : Moment) (c : LineOutcome) (others : Moment → RunText) → IsKeptCame c → IsKept m → ((n : Moment) → IsKept n → IsKept (others n).after) → IsKept (goes_on m c others).after
 unfolding IsKeptCame
 goes_kept m (On text n) others outcome_of_piece is rest = rest n outcome_of_piece
 goes_kept m (Refused why) others outcome_of_piece is rest = is

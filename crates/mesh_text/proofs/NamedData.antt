@@ -5,7 +5,7 @@ use Rattle.std.specs.List.{AllByRecursion}
 use Rattle.std.specs.Fmt.{decimal}
 use Rattle.mesh_base.specs.declared.events.Counter.{Counter}
 use Rattle.mesh_base.specs.declared.events.Variant.{Variant}
-use Rattle.mesh_base.specs.Addresses.{dotted}
+use Rattle.mesh_base.specs.Addresses.{dotted_decimal}
 use Rattle.mesh_base.specs.Meshes.{Nodes, addr_at, with_node}
 use Rattle.aodv_model.specs.Cores.{Item, Core}
 use Rattle.aodv_model.specs.Handlers.{Reaction, may_send, send, may_ask, ask}
@@ -13,21 +13,21 @@ use Rattle.aodv_model.specs.Fullness.{send_full, ask_full}
 use Rattle.aodv_model.proofs.Entries.{if_case}
 use Rattle.mesh_model.specs.Worlds as worlds
 use Rattle.mesh_model.specs.Worlds.{World, Node, Copy, Event, Give, Turn, Send, Ask, Link, Cut, Deliver, Lose, Double, Outcome, Idle, Next, Sent, range, copies, done_by, are_linked, find_copy, send_of, ask_of, unless_full, at_node, at_copy, step}
-use Rattle.mesh_model.specs.Accounts.{any, delivered_at, delivered, dropped}
+use Rattle.mesh_model.specs.Accounts.{any, delivered_at, delivered_data, dropped_data}
 use Rattle.mesh_model.specs.Choices.{pick, IsChoice}
 use Rattle.mesh_model.specs.Routes.{route_end}
 use Rattle.mesh_model.proofs.Chosen.{OnSome, pick_is_enabled}
 use Rattle.mesh_meaning.specs.Events.{node_of}
 use Rattle.mesh_grammar.specs.declared.fault.LineFault.{LineFault}
 use Rattle.mesh_grammar.specs.Lines.{Piece, Whole, Long, Beyond}
-use Rattle.mesh_grammar.specs.Written.{line, written}
-use Rattle.mesh_text.specs.Schedule.{Moment, opening, Accepted, Nothing, NewNode, Does, Chooses, ShowsNode, ShowsRoute, ShowsFlight, line_of, world_of, started, outcome_at, stepped, counted}
+use Rattle.mesh_grammar.specs.Written.{line, command_text}
+use Rattle.mesh_text.specs.Schedule.{Moment, opening, AcceptedLine, Nothing, NewNode, Does, Chooses, ShowsNode, ShowsRoute, ShowsFlight, line_of, world_of, with_world, outcome_at, next_moment, with_line_read}
 use Rattle.mesh_text.specs.Lines.{words_of, event_words}
 use Rattle.mesh_text.specs.Effects.{outcome_text, outcome_lines}
 use Rattle.mesh_text.specs.Tables.{node_text_in, end_text, flight_text}
 use Rattle.mesh_text.specs.Ranges.{IsEventLine, IsInRange}
 use Rattle.mesh_text.specs.Auto as auto
-use Rattle.mesh_text.specs.Text.{LineOutcome, On, Refused, Full, outcome_by_events, outcome_of_auto, outcome_of_line, outcome_of_read, outcome_of_piece, Written, goes_on, text_from, text_on, text_of_input}
+use Rattle.mesh_text.specs.Text.{LineOutcome, On, Refused, Full, outcome_by_events, outcome_of_auto, outcome_of_line, outcome_of_read, outcome_of_piece, RunText, goes_on, text_from, text_on, text_of_input}
 use Rattle.mesh_text.specs.Laws.{DataAreNamed}
 use Rattle.mesh_text.proofs.InRange.{Allowed, line_allowed}
 use Rattle.mesh_text.proofs.Picks.{each_chosen}
@@ -72,7 +72,7 @@ ask_none w x d core queue =
     if_case NoDelivery (may_ask core d) (unless_full x (ask_full core) goes) Idle (λ _. unless_none x (ask_full core) goes (λ y. refl)) (λ _ y. refl)
 
 -- what an event delivers, at the node at which it is
-delivered_here : (w : World) (e : Event) → delivered_at any (node_of e) (step w e) ≡ delivered any e (step w e)
+delivered_here : (w : World) (e : Event) → delivered_at any (node_of e) (step w e) ≡ delivered_data any e (step w e)
 unfolding step NoDelivery
 delivered_here w (Give x d b) = node_none _ (slice_get w.nodes x) (λ core queue y. refl) x
 delivered_here w (Turn x) = refl
@@ -91,17 +91,17 @@ abbrev HasCleanBody : Event → Type 0
 HasCleanBody (Give x d body) = is_clean body ≡ true
 HasCleanBody others = Unit {0}
 
-one_word : (a : ℕ) (mesh : Nodes) → is_clean (dotted (addr_at mesh a)) ≡ true
+one_word : (a : ℕ) (mesh : Nodes) → is_clean (dotted_decimal (addr_at mesh a)) ≡ true
 one_word a mesh = dotted_clean (addr_at mesh a)
 
-two_words : (mesh : Nodes) (a b : ℕ) → is_clean (dotted (addr_at mesh a) ++ 32 ∷ dotted (addr_at mesh b)) ≡ true
-two_words mesh a b = clean_append (dotted (addr_at mesh a)) (32 ∷ dotted (addr_at mesh b)) (dotted_clean (addr_at mesh a)) (dotted_clean (addr_at mesh b))
+two_words : (mesh : Nodes) (a b : ℕ) → is_clean (dotted_decimal (addr_at mesh a) ++ 32 ∷ dotted_decimal (addr_at mesh b)) ≡ true
+two_words mesh a b = clean_append (dotted_decimal (addr_at mesh a)) (32 ∷ dotted_decimal (addr_at mesh b)) (dotted_clean (addr_at mesh a)) (dotted_clean (addr_at mesh b))
 
 event_silent : (mesh : Nodes) (e : Event) → HasCleanBody e → Tells 0 0 (line (event_words mesh e))
-unfolding event_words written
+unfolding event_words command_text
 event_silent mesh (Give x d body) clean =
     silent_line (event_words mesh (Give x d body))
-    (clean_append (dotted (addr_at mesh x) ++ 32 ∷ dotted (addr_at mesh d)) (32 ∷ body) (two_words mesh x d) clean) refl refl
+    (clean_append (dotted_decimal (addr_at mesh x) ++ 32 ∷ dotted_decimal (addr_at mesh d)) (32 ∷ body) (two_words mesh x d) clean) refl refl
 event_silent mesh (Turn x) clean = silent_line (event_words mesh (Turn x)) (one_word x mesh) refl refl
 event_silent mesh (Send x d) clean = silent_line (event_words mesh (Send x d)) (two_words mesh x d) refl refl
 event_silent mesh (Ask x d) clean = silent_line (event_words mesh (Ask x d)) (two_words mesh x d) refl refl
@@ -111,7 +111,7 @@ event_silent mesh (Deliver id) clean = silent_line (event_words mesh (Deliver id
 event_silent mesh (Lose id) clean = silent_line (event_words mesh (Lose id)) (decimal_clean id) refl refl
 event_silent mesh (Double id) clean = silent_line (event_words mesh (Double id)) (decimal_clean id) refl refl
 
-outcome_told : (mesh : Nodes) (x : ℕ) (e : Event) (o : Outcome) → Tells (delivered_at any x o) (dropped any e o) (outcome_text mesh x o)
+outcome_told : (mesh : Nodes) (x : ℕ) (e : Event) (o : Outcome) → Tells (delivered_at any x o) (dropped_data any e o) (outcome_text mesh x o)
 outcome_told mesh x e Idle = silent_line (codes "  idle") refl refl refl
 outcome_told mesh x e (worlds.Full y field) = tells_none
 outcome_told mesh x e (Next w happening) = happening_told mesh x happening
@@ -138,16 +138,16 @@ told_then m n k s t first second =
       lost = omega arith;
     }
 
-event_told : (m : Moment) (e : Event) → HasCleanBody e → Told m (stepped m e) (outcome_lines m.mesh e (outcome_at m e))
-unfolding stepped outcome_lines
+event_told : (m : Moment) (e : Event) → HasCleanBody e → Told m (next_moment m e) (outcome_lines m.mesh e (outcome_at m e))
+unfolding next_moment outcome_lines
 event_told m e clean =
     let o : Outcome = outcome_at m e in
     record {
-      d = delivered any e o;
-      x = dropped any e o;
-      tells = silent_before (delivered any e o) (dropped any e o) (line (event_words m.mesh e)) (outcome_text m.mesh (node_of e) o)
+      d = delivered_data any e o;
+      x = dropped_data any e o;
+      tells = silent_before (delivered_data any e o) (dropped_data any e o) (line (event_words m.mesh e)) (outcome_text m.mesh (node_of e) o)
           (event_silent m.mesh e clean)
-          (subst (λ d. Tells d (dropped any e o) (outcome_text m.mesh (node_of e) o)) (delivered_here (world_of m) e) (outcome_told m.mesh (node_of e) e o));
+          (subst (λ d. Tells d (dropped_data any e o) (outcome_text m.mesh (node_of e) o)) (delivered_here (world_of m) e) (outcome_told m.mesh (node_of e) e o));
       delivered = refl;
       lost = refl;
     }
@@ -163,18 +163,18 @@ unfolding ToldRan
 before_told m n text (auto.Ended others k) first is = told_then m n k text others first is
 before_told m n text (auto.Full others k e field) first is = tt
 
-done_told : (m : Moment) (e : Event) (o : Outcome) (others : Moment → auto.EventsOutcome) → Told m (stepped m e) (outcome_lines m.mesh e o) → ToldRan (stepped m e) (others (stepped m e))
+done_told : (m : Moment) (e : Event) (o : Outcome) (others : Moment → auto.EventsOutcome) → Told m (next_moment m e) (outcome_lines m.mesh e o) → ToldRan (next_moment m e) (others (next_moment m e))
     → ToldRan m (auto.done_then m e o others)
 unfolding ToldRan
-done_told m e Idle others first is = before_told m (stepped m e) _ (others (stepped m e)) first is
+done_told m e Idle others first is = before_told m (next_moment m e) _ (others (next_moment m e)) first is
 done_told m e (worlds.Full x field) others first is = tt
-done_told m e (Next w happening) others first is = before_told m (stepped m e) _ (others (stepped m e)) first is
+done_told m e (Next w happening) others first is = before_told m (next_moment m e) _ (others (next_moment m e)) first is
 
 events_told : (m : Moment) (es : List Event) → AllByRecursion HasCleanBody es → ToldRan m (auto.outcome_of_events m es)
 unfolding ToldRan auto.outcome_of_events
 events_told m [] clean = silent_told m m [] tells_none refl refl
 events_told m (e ∷ es) clean =
-    done_told m e (outcome_at m e) (λ n. auto.outcome_of_events n es) (event_told m e clean.0) (events_told (stepped m e) es clean.1)
+    done_told m e (outcome_at m e) (λ n. auto.outcome_of_events n es) (event_told m e clean.0) (events_told (next_moment m e) es clean.1)
 
 -- no event that is chosen gives a datum
 
@@ -200,12 +200,12 @@ ToldCame m (On text n) = Told m n text
 ToldCame m (Refused why) = Unit {0}
 ToldCame m (Full text n e field) = Unit {0}
 
-line_events_told : (m : Moment) (r : auto.EventsOutcome) → ToldRan (started m) r → ToldCame m (outcome_by_events r)
+line_events_told : (m : Moment) (r : auto.EventsOutcome) → ToldRan (with_world m) r → ToldCame m (outcome_by_events r)
 unfolding ToldCame ToldRan
 line_events_told m (auto.Ended text n) is = record { d = is.d; x = is.x; tells = is.tells; delivered = is.delivered; lost = is.lost }
 line_events_told m (auto.Full text n e field) is = tt
 
-auto_told : (m : Moment) (text : List ℕ) (did : ℕ) (r : auto.EventsOutcome) → Tells 0 0 text → ToldRan (started m) r → ToldCame m (outcome_of_auto text did r)
+auto_told : (m : Moment) (text : List ℕ) (did : ℕ) (r : auto.EventsOutcome) → Tells 0 0 text → ToldRan (with_world m) r → ToldCame m (outcome_of_auto text did r)
 unfolding ToldCame ToldRan
 auto_told m text did (auto.Ended others n) silent is =
     let end : Tells 0 0 (auto.auto_end did) = silent_line (codes "auto did " ++ decimal did) (decimal_clean did) refl refl in
@@ -222,38 +222,38 @@ event_line_clean : (mesh : Nodes) (e : Event) → IsEventLine mesh e → HasClea
 event_line_clean mesh (Give x d body) range = clean_body body range.2.2
 event_line_clean mesh others range = tt
 
-node_words_clean : (address first : ℕ) → is_clean (dotted address ++ codes " sn " ++ decimal first) ≡ true
+node_words_clean : (address first : ℕ) → is_clean (dotted_decimal address ++ codes " sn " ++ decimal first) ≡ true
 node_words_clean address first =
-    clean_append (dotted address ++ codes " sn ") (decimal first) (clean_append (dotted address) (codes " sn ") (dotted_clean address) refl) (decimal_clean first)
+    clean_append (dotted_decimal address ++ codes " sn ") (decimal first) (clean_append (dotted_decimal address) (codes " sn ") (dotted_clean address) refl) (decimal_clean first)
 
-line_told : (m : Moment) (a : Accepted) → IsInRange m.mesh a → ToldCame m (outcome_of_line m a)
-unfolding ToldCame outcome_of_line words_of written
-line_told m Nothing range = silent_told m (counted m) [] tells_none refl refl
+line_told : (m : Moment) (a : AcceptedLine) → IsInRange m.mesh a → ToldCame m (outcome_of_line m a)
+unfolding ToldCame outcome_of_line words_of command_text
+line_told m Nothing range = silent_told m (with_line_read m) [] tells_none refl refl
 line_told m (NewNode address first) range =
-    silent_told m (counted (record m { mesh = with_node m.mesh address first })) (line (words_of m.mesh (NewNode address first)))
+    silent_told m (with_line_read (record m { mesh = with_node m.mesh address first })) (line (words_of m.mesh (NewNode address first)))
     (silent_line (words_of m.mesh (NewNode address first)) (node_words_clean address first) refl refl) refl refl
-line_told m (Does e) range = line_events_told m (auto.outcome_of_events (started m) (e ∷ [])) (events_told (started m) (e ∷ []) (event_line_clean m.mesh e range, tt))
+line_told m (Does e) range = line_events_told m (auto.outcome_of_events (with_world m) (e ∷ [])) (events_told (with_world m) (e ∷ []) (event_line_clean m.mesh e range, tt))
 line_told m (Chooses count) range =
-    let chosen : List Event = auto.events_chosen count (started m) in
-    auto_told m (line (words_of m.mesh (Chooses count))) (length chosen) (auto.outcome_of_events (started m) chosen)
-    (silent_line (words_of m.mesh (Chooses count)) (decimal_clean count) refl refl) (events_told (started m) chosen (chosen_clean count (started m)))
+    let chosen : List Event = auto.events_chosen count (with_world m) in
+    auto_told m (line (words_of m.mesh (Chooses count))) (length chosen) (auto.outcome_of_events (with_world m) chosen)
+    (silent_line (words_of m.mesh (Chooses count)) (decimal_clean count) refl refl) (events_told (with_world m) chosen (chosen_clean count (with_world m)))
 line_told m (ShowsNode x) range =
     let shown : List ℕ = node_text_in m.mesh (slice_get (world_of m).nodes x) in
-    silent_told m (counted (started m)) (line (words_of m.mesh (ShowsNode x)) ++ shown)
+    silent_told m (with_line_read (with_world m)) (line (words_of m.mesh (ShowsNode x)) ++ shown)
     (silent_append (line (words_of m.mesh (ShowsNode x))) shown
     (silent_line (words_of m.mesh (ShowsNode x)) (one_word x m.mesh) refl refl) (node_in_silent m.mesh (slice_get (world_of m).nodes x))) refl refl
 line_told m (ShowsRoute x d) range =
     let shown : List ℕ = end_text m.mesh (route_end (world_of m) x d) in
-    silent_told m (counted (started m)) (line (words_of m.mesh (ShowsRoute x d)) ++ shown)
+    silent_told m (with_line_read (with_world m)) (line (words_of m.mesh (ShowsRoute x d)) ++ shown)
     (silent_append (line (words_of m.mesh (ShowsRoute x d))) shown
     (silent_line (words_of m.mesh (ShowsRoute x d)) (two_words m.mesh x d) refl refl) (end_silent m.mesh (route_end (world_of m) x d))) refl refl
 line_told m ShowsFlight range =
     let shown : List ℕ = flight_text m.mesh (world_of m).flying in
-    silent_told m (counted (started m)) (line (words_of m.mesh ShowsFlight) ++ shown)
+    silent_told m (with_line_read (with_world m)) (line (words_of m.mesh ShowsFlight) ++ shown)
     (silent_append (line (words_of m.mesh ShowsFlight)) shown
     (silent_line (words_of m.mesh ShowsFlight) refl refl refl) (flight_silent m.mesh (world_of m).flying)) refl refl
 
-read_told : (m : Moment) (r : Result Accepted LineFault) → Allowed m.mesh (is_some m.world) r → ToldCame m (outcome_of_read m r)
+read_told : (m : Moment) (r : Result AcceptedLine LineFault) → Allowed m.mesh (is_some m.world) r → ToldCame m (outcome_of_read m r)
 unfolding ToldCame Allowed
 read_told m (Ok a) allowed = line_told m a allowed.0
 read_told m (Err f) allowed = tt
@@ -266,10 +266,10 @@ piece_told m Beyond is = tt
 
 -- ---- a run
 
-ToldRun : Moment → Written → Type 0
+ToldRun : Moment → RunText → Type 0
 ToldRun m w = NotFull w.verdict → Told m w.after w.lines
 
-goes_told : (m : Moment) (c : LineOutcome) (others : Moment → Written) → ToldCame m c → IsKeptCame c → ((n : Moment) → IsKept n → ToldRun n (others n)) → ToldRun m (goes_on m c others)
+goes_told : (m : Moment) (c : LineOutcome) (others : Moment → RunText) → ToldCame m c → IsKeptCame c → ((n : Moment) → IsKept n → ToldRun n (others n)) → ToldRun m (goes_on m c others)
 unfolding ToldCame IsKeptCame ToldRun NotFull
 goes_told m (On text n) others is kept rest not_full = told_then m n (others n).after text (others n).lines is (rest n kept not_full)
 goes_told m (Refused why) others is kept rest not_full = silent_told m m [] tells_none refl refl

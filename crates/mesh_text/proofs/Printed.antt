@@ -14,10 +14,10 @@ use Rattle.mesh_grammar.specs.Words.{next_at, with_argument, is_blank}
 use Rattle.mesh_grammar.specs.Forms.{Arguments, NoArgument, OneAddress, TwoAddresses, OneNumber, NumberedAddress, AddressesAndText, AreOfForm}
 use Rattle.mesh_grammar.specs.Scripts.{row_in, shape_by}
 use Rattle.mesh_grammar.specs.Commands.{schedule}
-use Rattle.mesh_grammar.specs.Written.{written}
-use Rattle.mesh_grammar.specs.Laws.{mention, mentioned, HaveAddresses, IsReadable, IsWord}
+use Rattle.mesh_grammar.specs.Written.{command_text}
+use Rattle.mesh_grammar.specs.Laws.{mention, as_mentions, HaveAddresses, IsReadable, IsWord}
 use Rattle.mesh_grammar.proofs.Spellings.{written_line_is_read}
-use Rattle.mesh_text.specs.Schedule.{Accepted, Nothing, NewNode, Does, Chooses, ShowsNode, ShowsRoute, ShowsFlight, after_nodes, known, placed, made, new_node, accepted, accepted_shape, of_pair, result_and_then, line_of}
+use Rattle.mesh_text.specs.Schedule.{AcceptedLine, Nothing, NewNode, Does, Chooses, ShowsNode, ShowsRoute, ShowsFlight, after_nodes, as_node, with_nodes, made_line, new_node, accepted_line, accepted_shape, of_pair, result_and_then, line_of}
 use Rattle.mesh_text.specs.Lines.{words_of, event_words}
 use Rattle.mesh_text.specs.Ranges.{IsEventLine, IsNewNode, IsInRange, IsInTime}
 use Rattle.mesh_text.specs.Laws.{PrintedLineParses}
@@ -54,13 +54,13 @@ readable others = tt
 
 -- ---- places
 
-after_some : (mesh : Nodes) (r : Result Accepted LineFault) → 1 ≤ length mesh → after_nodes mesh r ≡ r
+after_some : (mesh : Nodes) (r : Result AcceptedLine LineFault) → 1 ≤ length mesh → after_nodes mesh r ≡ r
 after_some [] r some = absurd (omega arith)
 after_some (p ∷ ps) r some = refl
 
 -- a line of this command is read by its arguments
 line_said : (mesh : Nodes) (started : Bool) (c : Command) (arguments : Arguments ℕ) → AreOfForm (form_of c) arguments → HaveAddresses arguments
-    → line_of mesh started (written (word_of c) arguments) ≡ accepted mesh started c (mentioned (next_at 0 (word_of c)) arguments)
+    → line_of mesh started (command_text (word_of c) arguments) ≡ accepted_line mesh started c (as_mentions (next_at 0 (word_of c)) arguments)
 unfolding line_of
 line_said mesh started c arguments form fit =
     ap (result_and_then (accepted_shape mesh started))
@@ -68,29 +68,29 @@ line_said mesh started c arguments form fit =
     (record { found = row_there c; word = word_there c; readable = readable c; form = form; addresses = fit }))
 
 module _ (mesh : Nodes) (started : Bool) (is : IsMesh mesh) where
-  known_there : {B : Type 0} (at x : ℕ) (next : ℕ → Result B LineFault) → x < length mesh → known mesh (mention at (addr_at mesh x)) next ≡ next x
+  known_there : {B : Type 0} (at x : ℕ) (next : ℕ → Result B LineFault) → x < length mesh → as_node mesh (mention at (addr_at mesh x)) next ≡ next x
   known_there at x next lt = ap (λ o. with_argument o (Unknown ((mention at (addr_at mesh x)).span)) next) (index_of-at mesh x is lt)
 
   one_there : (c : Command) (at x : ℕ) → x < length mesh
-      → after_nodes mesh (result_and_then (made c) (placed mesh (OneAddress (mention at (addr_at mesh x))))) ≡ made c (OneAddress x)
+      → after_nodes mesh (result_and_then (made_line c) (with_nodes mesh (OneAddress (mention at (addr_at mesh x))))) ≡ made_line c (OneAddress x)
   one_there c at x lt =
-      after_some mesh _ (omega arith) ∙ ap (result_and_then (made c)) (known_there at x (λ i. Ok (OneAddress i)) lt)
+      after_some mesh _ (omega arith) ∙ ap (result_and_then (made_line c)) (known_there at x (λ i. Ok (OneAddress i)) lt)
 
   two_there : (c : Command) (at next x y : ℕ) → x < length mesh → y < length mesh
-      → after_nodes mesh (result_and_then (made c) (placed mesh (TwoAddresses (mention at (addr_at mesh x)) (mention next (addr_at mesh y)))))
-      ≡ made c (TwoAddresses x y)
+      → after_nodes mesh (result_and_then (made_line c) (with_nodes mesh (TwoAddresses (mention at (addr_at mesh x)) (mention next (addr_at mesh y)))))
+      ≡ made_line c (TwoAddresses x y)
   two_there c at next x y x_lt y_lt =
       after_some mesh _ (omega arith)
-      ∙ ap (result_and_then (made c)) (known_there at x (λ i. known mesh (mention next (addr_at mesh y)) (λ j. Ok (TwoAddresses i j))) x_lt)
-      ∙ ap (result_and_then (made c)) (known_there next y (λ j. Ok (TwoAddresses x j)) y_lt)
+      ∙ ap (result_and_then (made_line c)) (known_there at x (λ i. as_node mesh (mention next (addr_at mesh y)) (λ j. Ok (TwoAddresses i j))) x_lt)
+      ∙ ap (result_and_then (made_line c)) (known_there next y (λ j. Ok (TwoAddresses x j)) y_lt)
 
   text_there : (c : Command) (at next x y : ℕ) (text : List ℕ) → x < length mesh → y < length mesh
-      → after_nodes mesh (result_and_then (made c) (placed mesh (AddressesAndText (mention at (addr_at mesh x)) (mention next (addr_at mesh y)) text)))
-      ≡ made c (AddressesAndText x y text)
+      → after_nodes mesh (result_and_then (made_line c) (with_nodes mesh (AddressesAndText (mention at (addr_at mesh x)) (mention next (addr_at mesh y)) text)))
+      ≡ made_line c (AddressesAndText x y text)
   text_there c at next x y text x_lt y_lt =
       after_some mesh _ (omega arith)
-      ∙ ap (result_and_then (made c)) (known_there at x (λ i. known mesh (mention next (addr_at mesh y)) (λ j. Ok (AddressesAndText i j text))) x_lt)
-      ∙ ap (result_and_then (made c)) (known_there next y (λ j. Ok (AddressesAndText x j text)) y_lt)
+      ∙ ap (result_and_then (made_line c)) (known_there at x (λ i. as_node mesh (mention next (addr_at mesh y)) (λ j. Ok (AddressesAndText i j text))) x_lt)
+      ∙ ap (result_and_then (made_line c)) (known_there next y (λ j. Ok (AddressesAndText x j text)) y_lt)
 
   new_there : (at address first : ℕ) → IsNewNode mesh address first → new_node mesh false (mention at address) first ≡ Ok (NewNode address first)
   new_there at address first new =
@@ -105,19 +105,19 @@ module _ (mesh : Nodes) (started : Bool) (is : IsMesh mesh) where
   -- ---- lines
 
   line_of_one : (c : Command) (x : ℕ) → AreOfForm (form_of c) (OneAddress (addr_at mesh x)) → x < length mesh
-      → line_of mesh started (written (word_of c) (OneAddress (addr_at mesh x))) ≡ made c (OneAddress x)
+      → line_of mesh started (command_text (word_of c) (OneAddress (addr_at mesh x))) ≡ made_line c (OneAddress x)
   line_of_one c x form lt =
       line_said mesh started c (OneAddress (addr_at mesh x)) form (is.addresses x lt)
       ∙ one_there c (next_at 0 (word_of c)) x lt
 
   line_of_two : (c : Command) (x y : ℕ) → AreOfForm (form_of c) (TwoAddresses (addr_at mesh x) (addr_at mesh y)) → x < length mesh → y < length mesh
-      → line_of mesh started (written (word_of c) (TwoAddresses (addr_at mesh x) (addr_at mesh y))) ≡ made c (TwoAddresses x y)
+      → line_of mesh started (command_text (word_of c) (TwoAddresses (addr_at mesh x) (addr_at mesh y))) ≡ made_line c (TwoAddresses x y)
   line_of_two c x y form x_lt y_lt =
       line_said mesh started c (TwoAddresses (addr_at mesh x) (addr_at mesh y)) form (is.addresses x x_lt, is.addresses y y_lt)
       ∙ two_there c _ _ x y x_lt y_lt
 
   line_of_number : (c : Command) (n : ℕ) → AreOfForm {A = ℕ} (form_of c) (OneNumber n) → 1 ≤ length mesh
-      → line_of mesh started (written (word_of c) (OneNumber n)) ≡ made c (OneNumber n)
+      → line_of mesh started (command_text (word_of c) (OneNumber n)) ≡ made_line c (OneNumber n)
   line_of_number c n form some = line_said mesh started c (OneNumber n) form tt ∙ after_some mesh _ some
 
   event_line : (e : Event) → IsEventLine mesh e → line_of mesh started (event_words mesh e) ≡ Ok (Does e)
@@ -139,7 +139,7 @@ module _ (mesh : Nodes) (started : Bool) (is : IsMesh mesh) where
   unfolding line_of shape_by
   blank_line = refl
 
-  parses : (a : Accepted) → IsInRange mesh a → IsInTime started a → line_of mesh started (words_of mesh a) ≡ Ok a
+  parses : (a : AcceptedLine) → IsInRange mesh a → IsInTime started a → line_of mesh started (words_of mesh a) ≡ Ok a
   unfolding words_of event_words
   parses Nothing range early = blank_line
   parses (NewNode address first) range early =

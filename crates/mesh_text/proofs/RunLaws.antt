@@ -13,13 +13,13 @@ use Rattle.mesh_model.proofs.Lists.{each_append}
 use Rattle.mesh_model.proofs.MeshSteps.{run_keeps}
 use Rattle.mesh_model.proofs.Acyclic.{loop_free}
 use Rattle.mesh_grammar.specs.declared.fault.LineFault.{LineFault}
-use Rattle.mesh_text.specs.Schedule.{Moment, opening, Accepted, Nothing, NewNode, Does, Chooses, ShowsNode, ShowsRoute, ShowsFlight, line_of, world_of, started, outcome_at, stepped, counted}
+use Rattle.mesh_text.specs.Schedule.{Moment, opening, AcceptedLine, Nothing, NewNode, Does, Chooses, ShowsNode, ShowsRoute, ShowsFlight, line_of, world_of, with_world, outcome_at, next_moment, with_line_read}
 use Rattle.mesh_grammar.specs.Lines.{Piece, Whole, Long, Beyond}
 use Rattle.mesh_grammar.specs.Written.{line}
 use Rattle.mesh_text.specs.Lines.{words_of}
 use Rattle.mesh_text.specs.Ranges.{IsInRange, IsInTime}
 use Rattle.mesh_text.specs.Auto as auto
-use Rattle.mesh_text.specs.Text.{LineOutcome, On, Refused, Full, outcome_by_events, outcome_of_auto, outcome_of_line, outcome_of_read, outcome_of_piece, Verdict, FullAt, Written, goes_on, text_from, text_on, text_of_input}
+use Rattle.mesh_text.specs.Text.{LineOutcome, On, Refused, Full, outcome_by_events, outcome_of_auto, outcome_of_line, outcome_of_read, outcome_of_piece, Verdict, FullAt, RunText, goes_on, text_from, text_on, text_of_input}
 use Rattle.mesh_text.specs.Auto.{events_chosen}
 use Rattle.mesh_text.specs.Runs.{events_of_line, events_read, events_of_piece, events_after, events_from, events_of_input, mesh_of_input, world_after}
 use Rattle.mesh_text.specs.Laws.{RunIsRunOfEvents, AllEventsCount, EventsAreOfMesh, RunsAreLoopFree, RunKeepsInvariant}
@@ -49,49 +49,49 @@ pub record IsRan (m n : Moment) (es : List Event) : Type 0 where
   pub world : world_of n ≡ run (world_of m) es
   pub count : n.sums.events ≡ m.sums.events + length es
 
-ran_more : (m : Moment) (e : Event) (n : Moment) (es : List Event) → IsRan (stepped m e) n es → IsRan m n (e ∷ es)
-unfolding stepped run
+ran_more : (m : Moment) (e : Event) (n : Moment) (es : List Event) → IsRan (next_moment m e) n es → IsRan m n (e ∷ es)
+unfolding next_moment run
 ran_more m e n es is = record { variant = is.variant; mesh = is.mesh; made = is.made; world = is.world; count = let count = is.count in omega arith }
 
 RanTo : Moment → auto.EventsOutcome → List Event → Type 0
 RanTo m (auto.Ended text n) es = IsRan m n es
 RanTo m (auto.Full text n e field) es = Unit {0}
 
-ran_before : (m : Moment) (e : Event) (text : List ℕ) (r : auto.EventsOutcome) (es : List Event) → RanTo (stepped m e) r es → RanTo m (auto.before text r) (e ∷ es)
+ran_before : (m : Moment) (e : Event) (text : List ℕ) (r : auto.EventsOutcome) (es : List Event) → RanTo (next_moment m e) r es → RanTo m (auto.before text r) (e ∷ es)
 unfolding RanTo
 ran_before m e text (auto.Ended others n) es is = ran_more m e n es is
 ran_before m e text (auto.Full others n f field) es is = tt
 
-done_ran : (m : Moment) (e : Event) (o : Outcome) (others : Moment → auto.EventsOutcome) (es : List Event) → RanTo (stepped m e) (others (stepped m e)) es
+done_ran : (m : Moment) (e : Event) (o : Outcome) (others : Moment → auto.EventsOutcome) (es : List Event) → RanTo (next_moment m e) (others (next_moment m e)) es
     → RanTo m (auto.done_then m e o others) (e ∷ es)
 unfolding RanTo
-done_ran m e Idle others es is = ran_before m e _ (others (stepped m e)) es is
+done_ran m e Idle others es is = ran_before m e _ (others (next_moment m e)) es is
 done_ran m e (worlds.Full x field) others es is = tt
-done_ran m e (Next w happening) others es is = ran_before m e _ (others (stepped m e)) es is
+done_ran m e (Next w happening) others es is = ran_before m e _ (others (next_moment m e)) es is
 
-stepped_made : (m : Moment) (e : Event) → is_some (stepped m e).world ≡ true
-unfolding stepped
+stepped_made : (m : Moment) (e : Event) → is_some (next_moment m e).world ≡ true
+unfolding next_moment
 stepped_made m e = refl
 
 events_ran : (m : Moment) (es : List Event) → is_some m.world ≡ true → RanTo m (auto.outcome_of_events m es) es
 unfolding RanTo auto.outcome_of_events
 events_ran m [] made = record { variant = refl; mesh = refl; made = made; world = sym (run_none (world_of m)); count = omega arith }
 events_ran m (e ∷ es) made =
-    done_ran m e (outcome_at m e) (λ n. auto.outcome_of_events n es) es (events_ran (stepped m e) es (stepped_made m e))
+    done_ran m e (outcome_at m e) (λ n. auto.outcome_of_events n es) es (events_ran (next_moment m e) es (stepped_made m e))
 
 -- each of them is an event of the mesh
 
-line_events_usual : (m : Moment) (a : Accepted) → IsInRange m.mesh a → IsKept m → UsualList (length m.mesh) (events_of_line m a)
+line_events_usual : (m : Moment) (a : AcceptedLine) → IsInRange m.mesh a → IsKept m → UsualList (length m.mesh) (events_of_line m a)
 unfolding UsualList
 line_events_usual m Nothing range is = tt
 line_events_usual m (NewNode address first) range is = tt
 line_events_usual m (Does e) range is = (range.1, tt)
-line_events_usual m (Chooses count) range is = chosen_usual count (started m) (started_kept m is)
+line_events_usual m (Chooses count) range is = chosen_usual count (with_world m) (started_kept m is)
 line_events_usual m (ShowsNode x) range is = tt
 line_events_usual m (ShowsRoute x d) range is = tt
 line_events_usual m ShowsFlight range is = tt
 
-pub read_usual : (m : Moment) (r : Result Accepted LineFault) → Allowed m.mesh (is_some m.world) r → IsKept m → UsualList (length m.mesh) (events_read m r)
+pub read_usual : (m : Moment) (r : Result AcceptedLine LineFault) → Allowed m.mesh (is_some m.world) r → IsKept m → UsualList (length m.mesh) (events_read m r)
 unfolding Allowed UsualList
 read_usual m (Ok a) allowed is = line_events_usual m a allowed.0 is
 read_usual m (Err f) allowed is = tt
@@ -127,7 +127,7 @@ unfolding GoesBy RanTo
 auto_goes m text did (auto.Ended others n) es is = inr (record { variant = is.variant; mesh = is.mesh; made = is.made; world = is.world; count = is.count })
 auto_goes m text did (auto.Full others n e field) es is = tt
 
-start_goes : (m : Moment) (es : List Event) (c : LineOutcome) → GoesBy (started m) es c → GoesBy m es c
+start_goes : (m : Moment) (es : List Event) (c : LineOutcome) → GoesBy (with_world m) es c → GoesBy m es c
 unfolding GoesBy
 start_goes m es (On text n) (inl is) =
     let same : n.world ≡ Some (world_of m) = is.world in
@@ -142,26 +142,26 @@ start_goes m es (On text n) (inr is) = inr (record { variant = is.variant; mesh 
 start_goes m es (Refused why) is = is
 start_goes m es (Full text n e field) is = tt
 
-shown : (m : Moment) → IsRan m (counted (started m)) []
+shown : (m : Moment) → IsRan m (with_line_read (with_world m)) []
 shown m = record { variant = refl; mesh = refl; made = refl; world = sym (run_none (world_of m)); count = omega arith }
 
-line_goes : (m : Moment) (a : Accepted) → IsInTime (is_some m.world) a → GoesBy m (events_of_line m a) (outcome_of_line m a)
+line_goes : (m : Moment) (a : AcceptedLine) → IsInTime (is_some m.world) a → GoesBy m (events_of_line m a) (outcome_of_line m a)
 unfolding GoesBy outcome_of_line
 line_goes m Nothing early = inl (record { variant = refl; mesh = λ _. refl; world = refl; none = refl; count = refl })
 line_goes m (NewNode address first) early = inl (record { variant = refl; mesh = λ made. absurd (let clash : true ≡ false = sym made ∙ early in let P : ⊥ = cc in P); world = refl; none = refl; count = refl })
 line_goes m (Does e) early =
-    let ran : auto.EventsOutcome = auto.outcome_of_events (started m) (e ∷ []) in
-    start_goes m (e ∷ []) (outcome_by_events ran) (line_events_go (started m) ran (e ∷ []) (events_ran (started m) (e ∷ []) refl))
+    let ran : auto.EventsOutcome = auto.outcome_of_events (with_world m) (e ∷ []) in
+    start_goes m (e ∷ []) (outcome_by_events ran) (line_events_go (with_world m) ran (e ∷ []) (events_ran (with_world m) (e ∷ []) refl))
 line_goes m (Chooses count) early =
-    let chosen : List Event = events_chosen count (started m) in
+    let chosen : List Event = events_chosen count (with_world m) in
     let text : List ℕ = line (words_of m.mesh (Chooses count)) in
-    let ran : auto.EventsOutcome = auto.outcome_of_events (started m) chosen in
-    start_goes m chosen (outcome_of_auto text (length chosen) ran) (auto_goes (started m) text (length chosen) ran chosen (events_ran (started m) chosen refl))
+    let ran : auto.EventsOutcome = auto.outcome_of_events (with_world m) chosen in
+    start_goes m chosen (outcome_of_auto text (length chosen) ran) (auto_goes (with_world m) text (length chosen) ran chosen (events_ran (with_world m) chosen refl))
 line_goes m (ShowsNode x) early = inr (shown m)
 line_goes m (ShowsRoute x d) early = inr (shown m)
 line_goes m ShowsFlight early = inr (shown m)
 
-pub result_goes : (m : Moment) (r : Result Accepted LineFault) → Allowed m.mesh (is_some m.world) r → GoesBy m (events_read m r) (outcome_of_read m r)
+pub result_goes : (m : Moment) (r : Result AcceptedLine LineFault) → Allowed m.mesh (is_some m.world) r → GoesBy m (events_read m r) (outcome_of_read m r)
 unfolding Allowed GoesBy
 result_goes m (Ok a) allowed = line_goes m a allowed.1
 result_goes m (Err f) allowed = refl
@@ -186,7 +186,7 @@ unfoldable pub NotFull : Verdict → Type 0
 NotFull v = (number : ℕ) → v ≢ FullAt number
 
 -- what was written from m on, where these events were done
-pub record Follows (m : Moment) (es : List Event) (w : Written) : Type 0 where
+pub record Follows (m : Moment) (es : List Event) (w : RunText) : Type 0 where
   pub mesh : is_some m.world ≡ true → w.after.mesh ≡ m.mesh
   pub low : m.sums.events ≤ w.after.sums.events
   pub world : world_of w.after ≡ run (base m w.after.mesh) (take (w.after.sums.events - m.sums.events) es)
@@ -197,7 +197,7 @@ take_none : (k : ℕ) (es : List Event) → k ≡ 0 → take k es ≡ []
 take_none k es none = ap (λ n. take n es) none
 
 -- where the run ends at a line
-ends_at : (m : Moment) (es : List Event) (w : Written) → w.after ≡ m → UsualList (length m.mesh) es → (NotFull w.verdict → es ≡ []) → Follows m es w
+ends_at : (m : Moment) (es : List Event) (w : RunText) → w.after ≡ m → UsualList (length m.mesh) es → (NotFull w.verdict → es ≡ []) → Follows m es w
 unfolding UsualList
 ends_at m es w same usual none =
     let mesh : w.after.mesh ≡ m.mesh = ap (λ n. n.mesh) same in
@@ -212,7 +212,7 @@ ends_at m es w same usual none =
     }
 
 -- after a line with no event
-quiet_follows : (m n : Moment) (es more : List Event) (w : Written) → Quiet m n es → Follows n more w → Follows m (es ++ more) w
+quiet_follows : (m n : Moment) (es more : List Event) (w : RunText) → Quiet m n es → Follows n more w → Follows m (es ++ more) w
 quiet_follows m n es more w quiet rest =
     let whole : es ++ more ≡ more = ap (λ l. l ++ more) quiet.none in
     let count : n.sums.events ≡ m.sums.events = quiet.count in
@@ -228,7 +228,7 @@ quiet_follows m n es more w quiet rest =
     })
 
 -- after a line with events
-ran_follows : (m n : Moment) (es more : List Event) (w : Written) → IsRan m n es → UsualList (length m.mesh) es → Follows n more w → Follows m (es ++ more) w
+ran_follows : (m n : Moment) (es more : List Event) (w : RunText) → IsRan m n es → UsualList (length m.mesh) es → Follows n more w → Follows m (es ++ more) w
 unfolding UsualList
 ran_follows m n es more w ran usual rest =
     let count : n.sums.events ≡ m.sums.events + length es = ran.count in
@@ -248,7 +248,7 @@ ran_follows m n es more w ran usual rest =
       usual = each_append (IsEvent (length w.after.mesh)) es more (subst (λ j. AllByRecursion (IsEvent j) es) (ap length (sym mesh)) usual) rest.usual;
     }
 
-pub goes_follows : (m : Moment) (es : List Event) (c : LineOutcome) (others : Moment → Written) (more : Moment → List Event) → GoesBy m es c → IsKeptCame c → UsualList (length m.mesh) es
+pub goes_follows : (m : Moment) (es : List Event) (c : LineOutcome) (others : Moment → RunText) (more : Moment → List Event) → GoesBy m es c → IsKeptCame c → UsualList (length m.mesh) es
     → ((n : Moment) → IsKept n → Follows n (more n) (others n)) → Follows m (es ++ events_after c more) (goes_on m c others)
 unfolding GoesBy IsKeptCame NotFull
 goes_follows m es (On text n) others more (inl quiet) kept usual rest =

@@ -9,7 +9,7 @@ use Rattle.mesh_base.specs.declared.limits.TheConstants.{LONGEST_INPUT}
 use Rattle.mesh_base.specs.Parts.{parts}
 use Rattle.mesh_grammar.specs.Lines.{Piece, piece_of, pieces_of, pieces_of_input, complete, complete_parts}
 use Rattle.mesh_text.specs.Schedule.{Moment}
-use Rattle.mesh_text.specs.Text.{LineOutcome, On, Refused, Full, outcome_of_piece, Finished, Written, lines_before, goes_on, text_from, text_on}
+use Rattle.mesh_text.specs.Text.{LineOutcome, On, Refused, Full, outcome_of_piece, Finished, RunText, lines_before, goes_on, text_from, text_on}
 use Rattle.mesh_text.specs.Laws.{RunGoesOn}
 
 -- ---- parts
@@ -128,7 +128,7 @@ pieces_seam a b whole few =
 
 -- ---- the run
 
-GoesOn : Moment → Written → List Piece → List Piece → Type 0
+GoesOn : Moment → RunText → List Piece → List Piece → Type 0
 GoesOn m w ps qs = w.verdict ≡ Finished → text_from m (ps ++ qs) ≡ lines_before w.lines (text_from w.after qs)
 
 came_goes_on : (m : Moment) (c : LineOutcome) (ps qs : List Piece) → ((n : Moment) → GoesOn n (text_from n ps) ps qs)
@@ -137,8 +137,8 @@ came_goes_on : (m : Moment) (c : LineOutcome) (ps qs : List Piece) → ((n : Mom
     ≡ lines_before (goes_on m c (λ n. text_from n ps)).lines (text_from (goes_on m c (λ n. text_from n ps)).after qs)
 unfolding GoesOn
 came_goes_on m (On text n) ps qs rest finished =
-    let w : Written = text_from n ps in
-    let v : Written = text_from w.after qs in
+    let w : RunText = text_from n ps in
+    let v : RunText = text_from w.after qs in
     ap (lines_before text) (rest n finished) ∙ ap (λ l. record v { lines = l }) (sym (append_assoc text w.lines v.lines))
 came_goes_on m (Refused why) ps qs rest finished = absurd (let P : ⊥ = cc in P)
 came_goes_on m (Full text n e field) ps qs rest finished = absurd (let P : ⊥ = cc in P)

@@ -16,7 +16,7 @@ use Rattle.mesh_grammar.specs.Scripts.{Row, Shape}
 use Rattle.mesh_grammar.specs.Commands.{schedule, greatest_id, shape_of}
 use Rattle.mesh_grammar.specs.Laws.{HaveAddresses, AreReadable, addresses_of, IsTextOf, IsRead}
 use Rattle.mesh_grammar.proofs.Readings.{with_argument_case, row_found, LineRead, line_read}
-use Rattle.mesh_text.specs.Schedule.{Accepted, after_nodes, known, placed, result_and_then}
+use Rattle.mesh_text.specs.Schedule.{AcceptedLine, after_nodes, as_node, with_nodes, result_and_then}
 
 -- ---- the table
 
@@ -126,16 +126,16 @@ abbrev pub IsAt : Nodes → Mention → ℕ → Type 0
 IsAt mesh m x = (x < length mesh) × (addr_at mesh x ≡ m.address)
 
 -- what holds of a line that is made of arguments, where a fault doesn't break it
-module _ (mesh : Nodes) (P : Result Accepted LineFault → Type 0) (faulty : (f : LineFault) → P (Err f)) (make : Arguments ℕ → Result Accepted LineFault) where
+module _ (mesh : Nodes) (P : Result AcceptedLine LineFault → Type 0) (faulty : (f : LineFault) → P (Err f)) (make : Arguments ℕ → Result AcceptedLine LineFault) where
   abbrev PlacedSo : Arguments Mention → Type 0
-  PlacedSo arguments = P (after_nodes mesh (result_and_then make (placed mesh arguments)))
+  PlacedSo arguments = P (after_nodes mesh (result_and_then make (with_nodes mesh arguments)))
 
-  some_node : (nodes : Nodes) (r : Result Accepted LineFault) → (1 ≤ length nodes → P r) → P (after_nodes nodes r)
+  some_node : (nodes : Nodes) (r : Result AcceptedLine LineFault) → (1 ≤ length nodes → P r) → P (after_nodes nodes r)
   some_node [] r holds = faulty Early
   some_node (p ∷ ps) r holds = holds (omega arith)
 
   at_node : (m : Mention) (next : ℕ → Result (Arguments ℕ) LineFault) → ((x : ℕ) → IsAt mesh m x → P (result_and_then make (next x)))
-      → P (result_and_then make (known mesh m next))
+      → P (result_and_then make (as_node mesh m next))
   at_node m next holds =
       with_argument_case (λ r. P (result_and_then make r)) (index_of mesh m.address) (Unknown m.span) next (faulty (Unknown m.span))
       (λ x is. let there = index_there mesh m.address x is in holds x (there.0, there.2))
@@ -151,9 +151,9 @@ module _ (mesh : Nodes) (P : Result Accepted LineFault → Type 0) (faulty : (f 
 
   pub two_placed : (m n : Mention) → ((x y : ℕ) → IsAt mesh m x → IsAt mesh n y → P (make (TwoAddresses x y))) → PlacedSo (TwoAddresses m n)
   two_placed m n holds =
-      some_node mesh _ (λ some. at_node m (λ x. known mesh n (λ y. Ok (TwoAddresses x y))) (λ x x_at. at_node n (λ y. Ok (TwoAddresses x y)) (λ y y_at. holds x y x_at y_at)))
+      some_node mesh _ (λ some. at_node m (λ x. as_node mesh n (λ y. Ok (TwoAddresses x y))) (λ x x_at. at_node n (λ y. Ok (TwoAddresses x y)) (λ y y_at. holds x y x_at y_at)))
 
   pub text_placed : (m n : Mention) (text : List ℕ) → ((x y : ℕ) → IsAt mesh m x → IsAt mesh n y → P (make (AddressesAndText x y text)))
       → PlacedSo (AddressesAndText m n text)
   text_placed m n text holds =
-      some_node mesh _ (λ some. at_node m (λ x. known mesh n (λ y. Ok (AddressesAndText x y text))) (λ x x_at. at_node n (λ y. Ok (AddressesAndText x y text)) (λ y y_at. holds x y x_at y_at)))
+      some_node mesh _ (λ some. at_node m (λ x. as_node mesh n (λ y. Ok (AddressesAndText x y text))) (λ x x_at. at_node n (λ y. Ok (AddressesAndText x y text)) (λ y y_at. holds x y x_at y_at)))

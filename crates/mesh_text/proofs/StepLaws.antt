@@ -6,10 +6,10 @@ use Rattle.mesh_model.specs.Worlds.{Event, Outcome, Idle, Next}
 use Rattle.mesh_grammar.specs.declared.fault.LineFault.{LineFault}
 use Rattle.mesh_grammar.specs.Lines.{Piece, Whole, Long, Beyond, pieces_of_input}
 use Rattle.mesh_grammar.specs.Written.{line}
-use Rattle.mesh_text.specs.Schedule.{Moment, Accepted, Nothing, NewNode, Does, Chooses, ShowsNode, ShowsRoute, ShowsFlight, line_of, started, outcome_at, stepped}
+use Rattle.mesh_text.specs.Schedule.{Moment, AcceptedLine, Nothing, NewNode, Does, Chooses, ShowsNode, ShowsRoute, ShowsFlight, line_of, with_world, outcome_at, next_moment}
 use Rattle.mesh_text.specs.Lines.{words_of}
 use Rattle.mesh_text.specs.Auto as auto
-use Rattle.mesh_text.specs.Text.{LineOutcome, On, Refused, Full, outcome_by_events, outcome_of_auto, outcome_of_line, outcome_of_read, outcome_of_piece, Written, goes_on, text_from, text_on}
+use Rattle.mesh_text.specs.Text.{LineOutcome, On, Refused, Full, outcome_by_events, outcome_of_auto, outcome_of_line, outcome_of_read, outcome_of_piece, RunText, goes_on, text_from, text_on}
 use Rattle.mesh_text.specs.Auto.{events_chosen}
 use Rattle.mesh_text.specs.Runs.{events_of_line, events_read, events_of_piece, moment_after}
 use Rattle.mesh_text.specs.Laws.{StepsAreEvents, FullEventStands}
@@ -24,50 +24,50 @@ EvenRan : Moment → auto.EventsOutcome → Type 0
 EvenRan m (auto.Ended text n) = IsEven m n
 EvenRan m (auto.Full text n e field) = Unit {0}
 
-before_even : (m : Moment) (e : Event) (text : List ℕ) (r : auto.EventsOutcome) → EvenRan (stepped m e) r → EvenRan m (auto.before text r)
-unfolding EvenRan stepped
+before_even : (m : Moment) (e : Event) (text : List ℕ) (r : auto.EventsOutcome) → EvenRan (next_moment m e) r → EvenRan m (auto.before text r)
+unfolding EvenRan next_moment
 before_even m e text (auto.Ended others n) even = omega arith
 before_even m e text (auto.Full others n f field) even = tt
 
-done_even : (m : Moment) (e : Event) (o : Outcome) (others : Moment → auto.EventsOutcome) → EvenRan (stepped m e) (others (stepped m e)) → EvenRan m (auto.done_then m e o others)
+done_even : (m : Moment) (e : Event) (o : Outcome) (others : Moment → auto.EventsOutcome) → EvenRan (next_moment m e) (others (next_moment m e)) → EvenRan m (auto.done_then m e o others)
 unfolding EvenRan
-done_even m e Idle others even = before_even m e _ (others (stepped m e)) even
+done_even m e Idle others even = before_even m e _ (others (next_moment m e)) even
 done_even m e (worlds.Full x field) others even = tt
-done_even m e (Next w happening) others even = before_even m e _ (others (stepped m e)) even
+done_even m e (Next w happening) others even = before_even m e _ (others (next_moment m e)) even
 
 events_even : (m : Moment) (es : List Event) → EvenRan m (auto.outcome_of_events m es)
 unfolding EvenRan auto.outcome_of_events
 events_even m [] = refl
-events_even m (e ∷ es) = done_even m e (outcome_at m e) (λ n. auto.outcome_of_events n es) (events_even (stepped m e) es)
+events_even m (e ∷ es) = done_even m e (outcome_at m e) (λ n. auto.outcome_of_events n es) (events_even (next_moment m e) es)
 
 EvenCame : Moment → LineOutcome → Type 0
 EvenCame m (On text n) = IsEven m n
 EvenCame m (Refused why) = Unit {0}
 EvenCame m (Full text n e field) = Unit {0}
 
-line_events_even : (m : Moment) (r : auto.EventsOutcome) → EvenRan (started m) r → EvenCame m (outcome_by_events r)
+line_events_even : (m : Moment) (r : auto.EventsOutcome) → EvenRan (with_world m) r → EvenCame m (outcome_by_events r)
 unfolding EvenCame EvenRan
 line_events_even m (auto.Ended text n) even = even
 line_events_even m (auto.Full text n e field) even = tt
 
-auto_even : (m : Moment) (text : List ℕ) (did : ℕ) (r : auto.EventsOutcome) → EvenRan (started m) r → EvenCame m (outcome_of_auto text did r)
+auto_even : (m : Moment) (text : List ℕ) (did : ℕ) (r : auto.EventsOutcome) → EvenRan (with_world m) r → EvenCame m (outcome_of_auto text did r)
 unfolding EvenCame EvenRan
 auto_even m text did (auto.Ended others n) even = even
 auto_even m text did (auto.Full others n e field) even = tt
 
-line_even : (m : Moment) (a : Accepted) → EvenCame m (outcome_of_line m a)
+line_even : (m : Moment) (a : AcceptedLine) → EvenCame m (outcome_of_line m a)
 unfolding EvenCame outcome_of_line
 line_even m Nothing = refl
 line_even m (NewNode address first) = refl
-line_even m (Does e) = line_events_even m (auto.outcome_of_events (started m) (e ∷ [])) (events_even (started m) (e ∷ []))
+line_even m (Does e) = line_events_even m (auto.outcome_of_events (with_world m) (e ∷ [])) (events_even (with_world m) (e ∷ []))
 line_even m (Chooses count) =
-    let chosen : List Event = events_chosen count (started m) in
-    auto_even m (line (words_of m.mesh (Chooses count))) (length chosen) (auto.outcome_of_events (started m) chosen) (events_even (started m) chosen)
+    let chosen : List Event = events_chosen count (with_world m) in
+    auto_even m (line (words_of m.mesh (Chooses count))) (length chosen) (auto.outcome_of_events (with_world m) chosen) (events_even (with_world m) chosen)
 line_even m (ShowsNode x) = refl
 line_even m (ShowsRoute x d) = refl
 line_even m ShowsFlight = refl
 
-read_even : (m : Moment) (r : Result Accepted LineFault) → EvenCame m (outcome_of_read m r)
+read_even : (m : Moment) (r : Result AcceptedLine LineFault) → EvenCame m (outcome_of_read m r)
 unfolding EvenCame
 read_even m (Ok a) = line_even m a
 read_even m (Err f) = tt
@@ -78,7 +78,7 @@ piece_even m (Whole line) = read_even m (line_of m.mesh (is_some m.world) line)
 piece_even m Long = tt
 piece_even m Beyond = tt
 
-goes_even : (m : Moment) (c : LineOutcome) (others : Moment → Written) → EvenCame m c → ((n : Moment) → IsEven n (others n).after) → IsEven m (goes_on m c others).after
+goes_even : (m : Moment) (c : LineOutcome) (others : Moment → RunText) → EvenCame m c → ((n : Moment) → IsEven n (others n).after) → IsEven m (goes_on m c others).after
 unfolding EvenCame
 goes_even m (On text n) others even rest = omega (arith, rest n)
 goes_even m (Refused why) others even rest = refl
@@ -106,47 +106,47 @@ StandsRan : Moment → List Event → auto.EventsOutcome → Type 0
 StandsRan m es (auto.Ended text n) = Unit {0}
 StandsRan m es (auto.Full text n e field) = Stands m es n e field
 
-before_stands : (m : Moment) (e : Event) (text : List ℕ) (r : auto.EventsOutcome) (es : List Event) → StandsRan (stepped m e) es r → StandsRan m (e ∷ es) (auto.before text r)
+before_stands : (m : Moment) (e : Event) (text : List ℕ) (r : auto.EventsOutcome) (es : List Event) → StandsRan (next_moment m e) es r → StandsRan m (e ∷ es) (auto.before text r)
 unfolding StandsRan moment_after
 before_stands m e text (auto.Ended others n) es is = tt
 before_stands m e text (auto.Full others n f field) es is = record { k = suc is.k; there = is.there; node = is.node; refused = is.refused }
 
 done_stands : (m : Moment) (e : Event) (o : Outcome) (others : Moment → auto.EventsOutcome) (es : List Event) → outcome_at m e ≡ o
-    → StandsRan (stepped m e) es (others (stepped m e)) → StandsRan m (e ∷ es) (auto.done_then m e o others)
+    → StandsRan (next_moment m e) es (others (next_moment m e)) → StandsRan m (e ∷ es) (auto.done_then m e o others)
 unfolding StandsRan moment_after
-done_stands m e Idle others es is rest = before_stands m e _ (others (stepped m e)) es rest
+done_stands m e Idle others es is rest = before_stands m e _ (others (next_moment m e)) es rest
 done_stands m e (worlds.Full x field) others es is rest = record { k = 0; there = refl; node = x; refused = is }
-done_stands m e (Next w happening) others es is rest = before_stands m e _ (others (stepped m e)) es rest
+done_stands m e (Next w happening) others es is rest = before_stands m e _ (others (next_moment m e)) es rest
 
 events_stand : (m : Moment) (es : List Event) → StandsRan m es (auto.outcome_of_events m es)
 unfolding StandsRan auto.outcome_of_events
 events_stand m [] = tt
-events_stand m (e ∷ es) = done_stands m e (outcome_at m e) (λ n. auto.outcome_of_events n es) es refl (events_stand (stepped m e) es)
+events_stand m (e ∷ es) = done_stands m e (outcome_at m e) (λ n. auto.outcome_of_events n es) es refl (events_stand (next_moment m e) es)
 
 StandsCame : Moment → List Event → LineOutcome → Type 0
 StandsCame m es (On text n) = Unit {0}
 StandsCame m es (Refused why) = Unit {0}
-StandsCame m es (Full text n e field) = Stands (started m) es n e field
+StandsCame m es (Full text n e field) = Stands (with_world m) es n e field
 
-line_events_stand : (m : Moment) (r : auto.EventsOutcome) (es : List Event) → StandsRan (started m) es r → StandsCame m es (outcome_by_events r)
+line_events_stand : (m : Moment) (r : auto.EventsOutcome) (es : List Event) → StandsRan (with_world m) es r → StandsCame m es (outcome_by_events r)
 unfolding StandsCame StandsRan
 line_events_stand m (auto.Ended text n) es is = tt
 line_events_stand m (auto.Full text n e field) es is = is
 
-auto_stands : (m : Moment) (text : List ℕ) (did : ℕ) (r : auto.EventsOutcome) (es : List Event) → StandsRan (started m) es r → StandsCame m es (outcome_of_auto text did r)
+auto_stands : (m : Moment) (text : List ℕ) (did : ℕ) (r : auto.EventsOutcome) (es : List Event) → StandsRan (with_world m) es r → StandsCame m es (outcome_of_auto text did r)
 unfolding StandsCame StandsRan
 auto_stands m text did (auto.Ended others n) es is = tt
 auto_stands m text did (auto.Full others n e field) es is = is
 
-line_stands : (m : Moment) (a : Accepted) → StandsCame m (events_of_line m a) (outcome_of_line m a)
+line_stands : (m : Moment) (a : AcceptedLine) → StandsCame m (events_of_line m a) (outcome_of_line m a)
 unfolding StandsCame outcome_of_line
-line_stands m (Does e) = line_events_stand m (auto.outcome_of_events (started m) (e ∷ [])) (e ∷ []) (events_stand (started m) (e ∷ []))
+line_stands m (Does e) = line_events_stand m (auto.outcome_of_events (with_world m) (e ∷ [])) (e ∷ []) (events_stand (with_world m) (e ∷ []))
 line_stands m (Chooses count) =
-    let chosen : List Event = events_chosen count (started m) in
-    auto_stands m (line (words_of m.mesh (Chooses count))) (length chosen) (auto.outcome_of_events (started m) chosen) chosen (events_stand (started m) chosen)
+    let chosen : List Event = events_chosen count (with_world m) in
+    auto_stands m (line (words_of m.mesh (Chooses count))) (length chosen) (auto.outcome_of_events (with_world m) chosen) chosen (events_stand (with_world m) chosen)
 line_stands m others = tt
 
-read_stands : (m : Moment) (r : Result Accepted LineFault) → StandsCame m (events_read m r) (outcome_of_read m r)
+read_stands : (m : Moment) (r : Result AcceptedLine LineFault) → StandsCame m (events_read m r) (outcome_of_read m r)
 unfolding StandsCame
 read_stands m (Ok a) = line_stands m a
 read_stands m (Err f) = tt

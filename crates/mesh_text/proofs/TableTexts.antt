@@ -11,11 +11,11 @@ use Rattle.aodv_entry.specs.declared.entry.Flag.{Flag}
 use Rattle.aodv_entry.specs.declared.entry.Flag.TheVariants.{Val, Inv}
 use Rattle.aodv_model.specs.Pairs.{pairs_in}
 use Rattle.aodv_model.specs.Tables.{Table}
-use Rattle.aodv_model.specs.Cores.{Body, Seen, Store, Waiting, Core}
+use Rattle.aodv_model.specs.Cores.{Body, SeenRequests, Store, Waiting, Core}
 use Rattle.mesh_model.specs.Worlds.{Node, Copy}
 use Rattle.mesh_model.specs.Routes.{End, Arrived, Stuck}
 use Rattle.mesh_meaning.specs.Packets.{packet_of}
-use Rattle.mesh_grammar.specs.Written.{labelled}
+use Rattle.mesh_grammar.specs.Written.{label_number}
 use Rattle.mesh_text.specs.Lines.{name_of, hex}
 use Rattle.mesh_text.specs.Effects.{set_text}
 use Rattle.mesh_text.specs.Tables.{number_line, asked_line, asked_text, known_text, flag_text, entry_text, routes_text, req_text, waits_line, waits_text, store_text, node_text, node_text_in, stuck_line, end_text, flying_text, flight_text}
@@ -32,7 +32,7 @@ asked_silent : (mesh : Nodes) (o id : ℕ) → Tells 0 0 (asked_line mesh o id)
 unfolding asked_line
 asked_silent mesh o id = silent_line (codes "  asked " ++ name_of mesh o ++ 32 ∷ decimal id) (name_then mesh o (32 ∷ decimal id) (decimal_clean id)) refl refl
 
-seen_silent : (mesh : Nodes) (seen : Seen) → Tells 0 0 (asked_text mesh seen)
+seen_silent : (mesh : Nodes) (seen : SeenRequests) → Tells 0 0 (asked_text mesh seen)
 unfolding asked_text
 seen_silent mesh seen = each_silent (λ (p : ℕ × ℕ). asked_line mesh p.0 p.1) (pairs_in seen) (λ p. asked_silent mesh p.0 p.1)
 
@@ -132,7 +132,7 @@ unfolding flying_text
 flying_silent mesh c =
     let a : List ℕ = decimal c.id ++ 32 ∷ name_of mesh c.from in
     let b : List ℕ = a ++ 32 ∷ name_of mesh c.to in
-    silent_line (labelled (codes "  copy ") c.id ++ 32 ∷ name_of mesh c.from ++ 32 ∷ name_of mesh c.to ++ 32 ∷ hex (packet_of mesh c.message))
+    silent_line (label_number (codes "  copy ") c.id ++ 32 ∷ name_of mesh c.from ++ 32 ∷ name_of mesh c.to ++ 32 ∷ hex (packet_of mesh c.message))
     (clean_append b (32 ∷ hex (packet_of mesh c.message))
     (clean_append a (32 ∷ name_of mesh c.to) (clean_append (decimal c.id) (32 ∷ name_of mesh c.from) (decimal_clean c.id) (name_clean mesh c.from)) (name_clean mesh c.to))
     (hex_clean (packet_of mesh c.message))) refl refl

@@ -12,7 +12,7 @@ use Rattle.aodv_model.specs.Handlers.{Cast, Nothing, One, Many, All, Effect, Too
 use Rattle.mesh_model.specs.Worlds.{Copy, Happening, Changed, Taken, Sent, CopyHeard, CopyLost, CopyDoubled}
 use Rattle.mesh_model.specs.Accounts.{any, in_message, in_taken, in_dropped, delivered_in, dropped_in}
 use Rattle.mesh_meaning.specs.Packets.{packet_of}
-use Rattle.mesh_grammar.specs.Written.{line, labelled}
+use Rattle.mesh_grammar.specs.Written.{line, label_number}
 use Rattle.mesh_text.specs.Lines.{name_of, hex}
 use Rattle.mesh_text.specs.Effects.{shown_byte, datum_text, datum_in, took_text, delivery_text, drop_text, set_text, broken_text, cast_text, copies_text, sent_text, datum_fate, happening_text}
 use Rattle.mesh_text.specs.Accounts.{begins, lines_with}
@@ -156,8 +156,8 @@ copy_clean mesh id to = clean_append (decimal id) (32 ∷ name_of mesh to) (deci
 copies_silent : (mesh : Nodes) (cs : List Copy) → Tells 0 0 (copies_text mesh cs)
 copies_silent mesh [] = tells_none
 copies_silent mesh (c ∷ cs) =
-    silent_append (line (labelled (codes "  copy ") c.id ++ 32 ∷ name_of mesh c.to)) (copies_text mesh cs)
-    (silent_line (labelled (codes "  copy ") c.id ++ 32 ∷ name_of mesh c.to) (copy_clean mesh c.id c.to) refl refl) (copies_silent mesh cs)
+    silent_append (line (label_number (codes "  copy ") c.id ++ 32 ∷ name_of mesh c.to)) (copies_text mesh cs)
+    (silent_line (label_number (codes "  copy ") c.id ++ 32 ∷ name_of mesh c.to) (copy_clean mesh c.id c.to) refl refl) (copies_silent mesh cs)
 
 sent_silent : (mesh : Nodes) (e : Effect) (cs : List Copy) → Tells 0 0 (sent_text mesh e cs)
 sent_silent mesh e cs =
@@ -179,4 +179,4 @@ happening_told mesh x (CopyHeard from to) = silent_line (codes "  heard " ++ nam
 happening_told mesh x (CopyLost c) =
     silent_before 0 _ (line (codes "  lost " ++ name_of mesh c.from ++ 32 ∷ name_of mesh c.to)) (datum_in (codes "  dropped ") mesh c.message)
     (silent_line (codes "  lost " ++ name_of mesh c.from ++ 32 ∷ name_of mesh c.to) (two_clean mesh c.from c.to) refl refl) (dropped_message mesh c.message)
-happening_told mesh x (CopyDoubled id to parcel) = silent_line (labelled (codes "  copy ") id ++ 32 ∷ name_of mesh to) (copy_clean mesh id to) refl refl
+happening_told mesh x (CopyDoubled id to parcel) = silent_line (label_number (codes "  copy ") id ++ 32 ∷ name_of mesh to) (copy_clean mesh id to) refl refl

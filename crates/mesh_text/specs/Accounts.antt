@@ -2,7 +2,7 @@
 use Rattle.std.specs.Prelude.{◌≡◌, ◌+◌, ◌==◌, ◌&&◌, ℕ, Bool, true, false, List, [], ◌∷◌}
 use Rattle.std.specs.List.{count_by}
 use Rattle.mesh_base.specs.Parts.{parts}
-use Rattle.mesh_model.specs.Accounts.{any, waiting, queued, in_flight}
+use Rattle.mesh_model.specs.Accounts.{any, waiting, queued_data, in_flight}
 use Rattle.mesh_text.specs.Schedule.{Moment, world_of}
 
 -- what was given or doubled was delivered, waits in a store or a queue, is in flight, or was
@@ -10,7 +10,7 @@ use Rattle.mesh_text.specs.Schedule.{Moment, world_of}
 abbrev pub IsBalanced : Moment → Type 0
 IsBalanced m =
     m.sums.given + m.sums.copied
-    ≡ m.sums.delivered + waiting any (world_of m) + queued any (world_of m)
+    ≡ m.sums.delivered + waiting any (world_of m) + queued_data any (world_of m)
     + in_flight any (world_of m) + m.sums.lost
 
 -- ---- lines of a text

@@ -4,8 +4,8 @@ use Rattle.mesh_base.specs.declared.events.Counter.{Counter}
 use Rattle.mesh_model.specs.Worlds as worlds
 use Rattle.mesh_model.specs.Worlds.{Event, Outcome, Idle, Next}
 use Rattle.mesh_model.specs.Choices.{pick}
-use Rattle.mesh_text.specs.Schedule.{Moment, world_of, outcome_at, stepped}
-use Rattle.mesh_grammar.specs.Written.{line, labelled}
+use Rattle.mesh_text.specs.Schedule.{Moment, world_of, outcome_at, next_moment}
+use Rattle.mesh_grammar.specs.Written.{line, label_number}
 use Rattle.mesh_text.specs.Effects.{outcome_lines}
 
 -- ---- what comes of events
@@ -23,10 +23,10 @@ before text (Full others n e field) = Full (text ++ others) n e field
 
 -- one event, and then the others from the moment after it
 abbrev pub done_then : Moment → Event → Outcome → (Moment → EventsOutcome) → EventsOutcome
-done_then m e Idle others = before (outcome_lines m.mesh e Idle) (others (stepped m e))
+done_then m e Idle others = before (outcome_lines m.mesh e Idle) (others (next_moment m e))
 done_then m e (worlds.Full x field) others = Full [] m e field
 done_then m e (Next w happening) others =
-    before (outcome_lines m.mesh e (Next w happening)) (others (stepped m e))
+    before (outcome_lines m.mesh e (Next w happening)) (others (next_moment m e))
 
 -- these events from a moment on, each at the moment after the one before it
 unfoldable pub outcome_of_events : Moment → List Event → EventsOutcome
@@ -39,9 +39,9 @@ outcome_of_events m (e ∷ events) =
 -- an event, and then the others from the moment after it; an event that is refused for a full
 -- counter is the last
 abbrev pub event_then : Moment → Event → Outcome → (Moment → List Event) → List Event
-event_then m e Idle others = e ∷ others (stepped m e)
+event_then m e Idle others = e ∷ others (next_moment m e)
 event_then m e (worlds.Full x field) others = e ∷ []
-event_then m e (Next w happening) others = e ∷ others (stepped m e)
+event_then m e (Next w happening) others = e ∷ others (next_moment m e)
 
 -- the event that is chosen, if any, and then the others
 abbrev pub choice_then : Moment → Option Event → (Moment → List Event) → List Event
@@ -55,4 +55,4 @@ events_chosen (suc most) m = choice_then m (pick (world_of m)) (λ n. events_cho
 
 -- the line after so many events that were chosen
 abbrev pub auto_end : ℕ → List ℕ
-auto_end did = line (labelled (codes "auto did ") did)
+auto_end did = line (label_number (codes "auto did ") did)

@@ -9,7 +9,7 @@ use Rattle.mesh_model.specs.Worlds as worlds
 use Rattle.mesh_model.specs.Worlds.{Copy, Event, Happening, Changed, Taken, Sent, CopyHeard, CopyLost, CopyDoubled, Outcome, Idle, Next, members_below}
 use Rattle.mesh_meaning.specs.Events.{node_of}
 use Rattle.mesh_meaning.specs.Packets.{packet_of}
-use Rattle.mesh_grammar.specs.Written.{line, labelled}
+use Rattle.mesh_grammar.specs.Written.{line, label_number}
 use Rattle.mesh_text.specs.Lines.{name_of, hex, hex_byte, event_words}
 
 -- ---- data
@@ -91,7 +91,7 @@ cast_text mesh (All m) = line (codes "  sent all " ++ hex (packet_of mesh m))
 abbrev pub copies_text : Nodes → List Copy → List ℕ
 copies_text mesh [] = []
 copies_text mesh (c ∷ cs) =
-    line (labelled (codes "  copy ") c.id ++ 32 ∷ name_of mesh c.to) ++ copies_text mesh cs
+    line (label_number (codes "  copy ") c.id ++ 32 ∷ name_of mesh c.to) ++ copies_text mesh cs
 
 -- a failed unicast, what was cast, and its copies
 abbrev pub sent_text : Nodes → Effect → List Copy → List ℕ
@@ -117,7 +117,7 @@ happening_text mesh x (CopyLost c) =
     line (codes "  lost " ++ name_of mesh c.from ++ 32 ∷ name_of mesh c.to)
     ++ datum_in (codes "  dropped ") mesh c.message
 happening_text mesh x (CopyDoubled id to parcel) =
-    line (labelled (codes "  copy ") id ++ 32 ∷ name_of mesh to)
+    line (label_number (codes "  copy ") id ++ 32 ∷ name_of mesh to)
 
 -- what came of an event at node x. A refused event isn't written
 abbrev pub outcome_text : Nodes → ℕ → Outcome → List ℕ

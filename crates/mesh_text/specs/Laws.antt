@@ -10,7 +10,7 @@ use Rattle.mesh_model.specs.Worlds as worlds
 use Rattle.mesh_model.specs.Worlds.{Event, run, start, first_numbers}
 use Rattle.mesh_model.specs.Places.{IsInMesh, IsEvent}
 use Rattle.mesh_model.specs.Invariants.{IsInvariant}
-use Rattle.mesh_text.specs.Schedule.{Moment, Accepted, Chooses, line_of, world_of, started, stepped, outcome_at}
+use Rattle.mesh_text.specs.Schedule.{Moment, AcceptedLine, Chooses, line_of, world_of, with_world, next_moment, outcome_at}
 use Rattle.mesh_grammar.specs.Lines.{Piece, Whole, complete}
 use Rattle.mesh_text.specs.Lines.{words_of, done_line}
 use Rattle.mesh_text.specs.Text.{Full, outcome_of_piece, Finished, FullAt, lines_before, text_on, text_of_input}
@@ -22,19 +22,19 @@ use Rattle.mesh_text.specs.Ranges.{IsInRange, IsInTime, IsEcho}
 
 -- what a line is read as is in its range
 abbrev pub ReadLineIsInRange : Type 0
-ReadLineIsInRange = (mesh : Nodes) (started : Bool) (line : List ℕ) (a : Accepted)
+ReadLineIsInRange = (mesh : Nodes) (started : Bool) (line : List ℕ) (a : AcceptedLine)
     → length mesh ≤ MOST_NODES → line_of mesh started line ≡ Ok a
     → IsInRange mesh a × IsInTime started a
 
 -- a line, as it is written back, is read as that line
 abbrev pub PrintedLineParses : Type 0
-PrintedLineParses = (mesh : Nodes) (started : Bool) (a : Accepted)
+PrintedLineParses = (mesh : Nodes) (started : Bool) (a : AcceptedLine)
     → IsMesh mesh → IsInRange mesh a → IsInTime started a
     → line_of mesh started (words_of mesh a) ≡ Ok a
 
 -- a line that is read is written back as it stands, but for `node ADDR`
 abbrev pub ReadLineIsWrittenAsItWas : Type 0
-ReadLineIsWrittenAsItWas = (mesh : Nodes) (started : Bool) (line : List ℕ) (a : Accepted)
+ReadLineIsWrittenAsItWas = (mesh : Nodes) (started : Bool) (line : List ℕ) (a : AcceptedLine)
     → line_of mesh started line ≡ Ok a → IsEcho mesh line a
 
 -- a line of chosen events has at least 4 bytes
@@ -52,7 +52,7 @@ LineHasFewEvents = (m : Moment) (line : List ℕ) → length m.mesh ≤ MOST_NOD
 -- an event of the mesh keeps the account
 abbrev pub EventKeepsAccount : Type 0
 EventKeepsAccount = (m : Moment) (e : Event) → IsInMesh (world_of m)
-    → IsEvent (length (world_of m).nodes) e → IsBalanced m → IsBalanced (stepped m e)
+    → IsEvent (length (world_of m).nodes) e → IsBalanced m → IsBalanced (next_moment m e)
 
 -- after the last allowed line of any input each datum that was given or doubled was delivered,
 -- waits in a store or a queue, is in flight, or was dropped
@@ -142,7 +142,7 @@ StepsAreEvents = (m : Moment) (input : List ℕ) →
 abbrev pub FullEventStands : Type 0
 FullEventStands = (m : Moment) (piece : Piece) (text : List ℕ) (n : Moment) (e : Event)
     (field : Counter) → outcome_of_piece m piece ≡ Full text n e field
-    → (k : ℕ) × (n ≡ moment_after (started m) (take k (events_of_piece m piece)))
+    → (k : ℕ) × (n ≡ moment_after (with_world m) (take k (events_of_piece m piece)))
     × (node : ℕ) × (outcome_at n e ≡ worlds.Full node field)
 
 -- ---- the last line

@@ -2,19 +2,19 @@
 -- of a run.
 use Rattle.std.specs.Prelude.{ℕ, zero, suc, ◌/◌, ◌%◌, ◌+◌, List, [], ◌∷◌, ◌++◌, codes, if◌then◌else◌, nat_lt}
 use Rattle.std.specs.List.{flat_map}
-use Rattle.mesh_base.specs.Addresses.{dotted}
+use Rattle.mesh_base.specs.Addresses.{dotted_decimal}
 use Rattle.mesh_base.specs.Meshes.{Nodes, addr_at}
 use Rattle.mesh_base.specs.declared.events.Counter as full
 use Rattle.mesh_base.specs.declared.events.Counter.TheVariants as field
 use Rattle.mesh_model.specs.Worlds.{Event, Give, Turn, Send, Ask, Link, Cut, Deliver, Lose, Double}
-use Rattle.mesh_model.specs.Accounts.{any, waiting, queued, in_flight}
+use Rattle.mesh_model.specs.Accounts.{any, waiting, queued_data, in_flight}
 use Rattle.mesh_grammar.specs.Forms.{Arguments, NoArgument, OneAddress, TwoAddresses, OneNumber, NumberedAddress, AddressesAndText}
-use Rattle.mesh_grammar.specs.Written.{line, labelled, written}
-use Rattle.mesh_text.specs.Schedule.{Sums, Moment, Accepted, Nothing, NewNode, Does, Chooses, ShowsNode, ShowsRoute, ShowsFlight, world_of}
+use Rattle.mesh_grammar.specs.Written.{line, label_number, command_text}
+use Rattle.mesh_text.specs.Schedule.{Sums, Moment, AcceptedLine, Nothing, NewNode, Does, Chooses, ShowsNode, ShowsRoute, ShowsFlight, world_of}
 
 -- the address of a node, as it is written
 abbrev pub name_of : Nodes → ℕ → List ℕ
-name_of mesh i = dotted (addr_at mesh i)
+name_of mesh i = dotted_decimal (addr_at mesh i)
 
 -- a label, with the space after it, and the names of one node or two
 abbrev pub of_one : List ℕ → Nodes → ℕ → List ℕ
@@ -34,7 +34,7 @@ abbrev pub spelling : List ℕ → Arguments ℕ → Spelling
 spelling word arguments = record { word = word; arguments = arguments }
 
 abbrev pub text_of : Spelling → List ℕ
-text_of s = written s.word s.arguments
+text_of s = command_text s.word s.arguments
 
 -- an event as a line of a schedule
 abbrev pub event_spelling : Nodes → Event → Spelling
@@ -58,15 +58,15 @@ unfoldable pub event_words : Nodes → Event → List ℕ
 event_words mesh e = text_of (event_spelling mesh e)
 
 -- the words of an allowed line. A blank one is written as none
-unfoldable pub words_of : Nodes → Accepted → List ℕ
+unfoldable pub words_of : Nodes → AcceptedLine → List ℕ
 words_of mesh Nothing = []
-words_of mesh (NewNode address first) = written (codes "node") (NumberedAddress address first)
+words_of mesh (NewNode address first) = command_text (codes "node") (NumberedAddress address first)
 words_of mesh (Does e) = event_words mesh e
-words_of mesh (Chooses count) = written (codes "auto") (OneNumber count)
-words_of mesh (ShowsNode x) = written (codes "show") (OneAddress (addr_at mesh x))
+words_of mesh (Chooses count) = command_text (codes "auto") (OneNumber count)
+words_of mesh (ShowsNode x) = command_text (codes "show") (OneAddress (addr_at mesh x))
 words_of mesh (ShowsRoute x d) =
-    written (codes "route") (TwoAddresses (addr_at mesh x) (addr_at mesh d))
-words_of mesh ShowsFlight = written (codes "flight") NoArgument
+    command_text (codes "route") (TwoAddresses (addr_at mesh x) (addr_at mesh d))
+words_of mesh ShowsFlight = command_text (codes "flight") NoArgument
 
 -- ---- bytes
 
@@ -86,21 +86,21 @@ hex bytes = flat_map hex_byte bytes
 -- how many data packets were doubled, where any were
 abbrev pub copied_words : ℕ → List ℕ
 copied_words zero = []
-copied_words (suc n) = labelled (codes " copied ") (suc n)
+copied_words (suc n) = label_number (codes " copied ") (suc n)
 
 -- of a run that read its whole input: what was counted, and the data in stores, in queues and in
 -- flight
 unfoldable pub summary_text : Sums → ℕ → ℕ → ℕ → List ℕ
 summary_text s waits queues flies =
-    labelled (codes "done events ") s.events ++ labelled (codes " idle ") s.idle
-    ++ labelled (codes " given ") s.given ++ labelled (codes " delivered ") s.delivered
-    ++ labelled (codes " waiting ") waits ++ labelled (codes " queued ") queues
-    ++ labelled (codes " flying ") flies
-    ++ line (labelled (codes " lost ") s.lost ++ copied_words s.copied)
+    label_number (codes "done events ") s.events ++ label_number (codes " idle ") s.idle
+    ++ label_number (codes " given ") s.given ++ label_number (codes " delivered ") s.delivered
+    ++ label_number (codes " waiting ") waits ++ label_number (codes " queued ") queues
+    ++ label_number (codes " flying ") flies
+    ++ line (label_number (codes " lost ") s.lost ++ copied_words s.copied)
 
 abbrev pub done_line : Moment → List ℕ
 done_line m =
-    summary_text m.sums (waiting any (world_of m)) (queued any (world_of m))
+    summary_text m.sums (waiting any (world_of m)) (queued_data any (world_of m))
     (in_flight any (world_of m))
 
 -- ---- a counter is full
@@ -114,5 +114,5 @@ field_text field.Id = codes "id"
 -- of a run that an event of this line has ended, since a counter is full
 unfoldable pub full_line : Nodes → ℕ → Event → full.Counter → List ℕ
 full_line mesh number e field =
-    line (labelled (codes "full line ") number ++ codes ": " ++ event_words mesh e ++ codes ": "
+    line (label_number (codes "full line ") number ++ codes ": " ++ event_words mesh e ++ codes ": "
     ++ field_text field)

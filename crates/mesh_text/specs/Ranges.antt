@@ -8,8 +8,8 @@ use Rattle.mesh_model.specs.Places.{IsEvent}
 use Rattle.mesh_grammar.specs.Words.{is_blank}
 use Rattle.mesh_grammar.specs.Forms.{Arguments, OneAddress, OneNumber, AddressesAndText, greatest_first, IsText}
 use Rattle.mesh_grammar.specs.Commands.{greatest_id}
-use Rattle.mesh_grammar.specs.Written.{written}
-use Rattle.mesh_text.specs.Schedule.{Accepted, Nothing, NewNode, Does, Chooses, ShowsNode, ShowsRoute, ShowsFlight}
+use Rattle.mesh_grammar.specs.Written.{command_text}
+use Rattle.mesh_text.specs.Schedule.{AcceptedLine, Nothing, NewNode, Does, Chooses, ShowsNode, ShowsRoute, ShowsFlight}
 use Rattle.mesh_text.specs.Lines.{event_spelling, words_of}
 
 -- arguments that the line of an event may have: the number of a copy, from 1; and a datum's text
@@ -32,7 +32,7 @@ pub record IsNewNode (mesh : Nodes) (address first : ℕ) : Type 0 where
   pub most : first ≤ greatest_first
 
 -- an allowed line of this mesh
-abbrev pub IsInRange : Nodes → Accepted → Type 0
+abbrev pub IsInRange : Nodes → AcceptedLine → Type 0
 IsInRange mesh Nothing = ⊤
 IsInRange mesh (NewNode address first) = IsNewNode mesh address first
 IsInRange mesh (Does e) = IsEventLine mesh e
@@ -42,15 +42,15 @@ IsInRange mesh (ShowsRoute x d) = (x < length mesh) × (d < length mesh)
 IsInRange mesh ShowsFlight = 1 ≤ length mesh
 
 -- one more node comes only before a run has started
-abbrev pub IsInTime : Bool → Accepted → Type 0
+abbrev pub IsInTime : Bool → AcceptedLine → Type 0
 IsInTime started (NewNode address first) = started ≡ false
 IsInTime started others = ⊤
 
 -- the line that was read is as it is written back, but that it may name a node without its number,
 -- which is 1 then
-abbrev pub IsEcho : Nodes → List ℕ → Accepted → Type 0
+abbrev pub IsEcho : Nodes → List ℕ → AcceptedLine → Type 0
 IsEcho mesh line Nothing = is_blank line ≡ true
 IsEcho mesh line (NewNode address first) =
     (line ≡ words_of mesh (NewNode address first))
-    ⊎ ((first ≡ 1) × (line ≡ written (codes "node") (OneAddress address)))
+    ⊎ ((first ≡ 1) × (line ≡ command_text (codes "node") (OneAddress address)))
 IsEcho mesh line other = line ≡ words_of mesh other

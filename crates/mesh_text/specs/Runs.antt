@@ -5,20 +5,20 @@ use Rattle.mesh_base.specs.Meshes.{Nodes}
 use Rattle.mesh_base.specs.declared.events.Variant.{Variant}
 use Rattle.mesh_model.specs.Worlds.{World, Event, run, start, first_numbers}
 use Rattle.mesh_grammar.specs.declared.fault.LineFault.{LineFault}
-use Rattle.mesh_text.specs.Schedule.{Moment, Accepted, Does, Chooses, line_of, started, stepped, opening}
+use Rattle.mesh_text.specs.Schedule.{Moment, AcceptedLine, Does, Chooses, line_of, with_world, next_moment, opening}
 use Rattle.mesh_grammar.specs.Lines.{Piece, Whole, Long, Beyond, pieces_of_input}
 use Rattle.mesh_text.specs.Auto.{events_chosen}
-use Rattle.mesh_text.specs.Text.{LineOutcome, On, Refused, Full, outcome_of_piece, Written, text_from, text_of_input}
+use Rattle.mesh_text.specs.Text.{LineOutcome, On, Refused, Full, outcome_of_piece, RunText, text_from, text_of_input}
 
 -- ---- the events of a line
 
 -- those of an allowed line
-abbrev pub events_of_line : Moment → Accepted → List Event
+abbrev pub events_of_line : Moment → AcceptedLine → List Event
 events_of_line m (Does e) = e ∷ []
-events_of_line m (Chooses count) = events_chosen count (started m)
+events_of_line m (Chooses count) = events_chosen count (with_world m)
 events_of_line m others = []
 
-abbrev pub events_read : Moment → Result Accepted LineFault → List Event
+abbrev pub events_read : Moment → Result AcceptedLine LineFault → List Event
 events_read m (Ok a) = events_of_line m a
 events_read m (Err fault) = []
 
@@ -48,7 +48,7 @@ events_of_input variant input = events_from (opening variant) (pieces_of_input i
 -- the moment after these events
 unfoldable pub moment_after : Moment → List Event → Moment
 moment_after m [] = m
-moment_after m (e ∷ es) = moment_after (stepped m e) es
+moment_after m (e ∷ es) = moment_after (next_moment m e) es
 
 -- after the first k events of a line
 abbrev pub moment_in : Moment → Piece → ℕ → Moment
@@ -59,7 +59,7 @@ moment_in_next m None k = m
 moment_in_next m (Some piece) k = moment_in m piece k
 
 -- the run of the first i lines of an input
-abbrev pub prefix_of_input : Variant → List ℕ → ℕ → Written
+abbrev pub prefix_of_input : Variant → List ℕ → ℕ → RunText
 prefix_of_input variant input i = text_from (opening variant) (take i (pieces_of_input input))
 
 -- after those lines, and k events of the next

@@ -5,7 +5,7 @@ use Rattle.mesh_base.specs.Meshes.{Nodes, index_of}
 use Rattle.mesh_base.specs.declared.events.Variant.{Variant}
 use Rattle.mesh_model.specs.Worlds as worlds
 use Rattle.mesh_model.specs.Worlds.{World, Event, Give, Turn, Send, Ask, Link, Cut, Deliver, Lose, Double, Outcome, Idle, Next, step, after, start, first_numbers}
-use Rattle.mesh_model.specs.Accounts.{any, given, doubled_at, delivered, dropped}
+use Rattle.mesh_model.specs.Accounts.{any, given_data, doubled_at, delivered_data, dropped_data}
 use Rattle.mesh_base.specs.declared.limits.TheConstants.{MOST_NODES}
 use Rattle.mesh_grammar.specs.declared.command.Command.{Command}
 use Rattle.mesh_grammar.specs.declared.command.Command.TheVariants as command
@@ -53,65 +53,66 @@ opening variant = record {
 -- ---- whether a line is allowed
 
 -- a line that is allowed at a moment
-pub data Accepted : Type 0 where
+pub data AcceptedLine : Type 0 where
   -- a blank line
-  Nothing : Accepted
+  Nothing : AcceptedLine
   -- one more node
-  NewNode : (address first : ℕ) → Accepted
+  NewNode : (address first : ℕ) → AcceptedLine
   -- one event
-  Does : Event → Accepted
+  Does : Event → AcceptedLine
   -- up to so many events, each chosen by what is enabled
-  Chooses : (count : ℕ) → Accepted
+  Chooses : (count : ℕ) → AcceptedLine
   -- a node's state is shown; where its valid routes to a destination lead; the copies in flight
-  ShowsNode : (node : ℕ) → Accepted
-  ShowsRoute : (node dest : ℕ) → Accepted
-  ShowsFlight : Accepted
+  ShowsNode : (node : ℕ) → AcceptedLine
+  ShowsRoute : (node dest : ℕ) → AcceptedLine
+  ShowsFlight : AcceptedLine
 
 -- no line but a `node` line comes before the first node
-abbrev pub after_nodes : Nodes → Result Accepted LineFault → Result Accepted LineFault
+abbrev pub after_nodes : Nodes → Result AcceptedLine LineFault → Result AcceptedLine LineFault
 after_nodes [] r = Err Early
 after_nodes (p ∷ ps) r = r
 
 -- an address as a node of the mesh
-abbrev pub known : {B : Type 0} → Nodes → Mention → (ℕ → Result B LineFault) → Result B LineFault
-known mesh a next = with_argument (index_of mesh a.address) (Unknown a.span) next
+abbrev pub as_node : {B : Type 0} → Nodes → Mention → (ℕ → Result B LineFault) → Result B LineFault
+as_node mesh a next = with_argument (index_of mesh a.address) (Unknown a.span) next
 
 -- arguments with each node by its index. The leftmost address that is no node is the fault
-abbrev pub placed : Nodes → Arguments Mention → Result (Arguments ℕ) LineFault
-placed mesh NoArgument = Ok NoArgument
-placed mesh (OneAddress a) = known mesh a (λ x. Ok (OneAddress x))
-placed mesh (TwoAddresses a b) = known mesh a (λ x. known mesh b (λ y. Ok (TwoAddresses x y)))
-placed mesh (OneNumber n) = Ok (OneNumber n)
-placed mesh (NumberedAddress a first) = known mesh a (λ x. Ok (NumberedAddress x first))
-placed mesh (AddressesAndText a b text) =
-    known mesh a (λ x. known mesh b (λ y. Ok (AddressesAndText x y text)))
-placed mesh (AddressAndNumber a n) = known mesh a (λ x. Ok (AddressAndNumber x n))
-placed mesh (AddressAndText a text) = known mesh a (λ x. Ok (AddressAndText x text))
+abbrev pub with_nodes : Nodes → Arguments Mention → Result (Arguments ℕ) LineFault
+with_nodes mesh NoArgument = Ok NoArgument
+with_nodes mesh (OneAddress a) = as_node mesh a (λ x. Ok (OneAddress x))
+with_nodes mesh (TwoAddresses a b) =
+    as_node mesh a (λ x. as_node mesh b (λ y. Ok (TwoAddresses x y)))
+with_nodes mesh (OneNumber n) = Ok (OneNumber n)
+with_nodes mesh (NumberedAddress a first) = as_node mesh a (λ x. Ok (NumberedAddress x first))
+with_nodes mesh (AddressesAndText a b text) =
+    as_node mesh a (λ x. as_node mesh b (λ y. Ok (AddressesAndText x y text)))
+with_nodes mesh (AddressAndNumber a n) = as_node mesh a (λ x. Ok (AddressAndNumber x n))
+with_nodes mesh (AddressAndText a text) = as_node mesh a (λ x. Ok (AddressAndText x text))
 
 -- an event of two nodes that are not the same
-abbrev pub of_pair : ℕ → ℕ → Event → Result Accepted LineFault
+abbrev pub of_pair : ℕ → ℕ → Event → Result AcceptedLine LineFault
 of_pair a b e = if a == b then Err Same else Ok (Does e)
 
 -- the line that a command makes of its arguments, with each node by its index. Arguments of another
 -- command make none
-abbrev pub made : Command → Arguments ℕ → Result Accepted LineFault
-made command.Link (TwoAddresses a b) = of_pair a b (Link a b)
-made command.Cut (TwoAddresses a b) = of_pair a b (Cut a b)
-made command.Data (AddressesAndText x d body) = Ok (Does (Give x d body))
-made command.Turn (OneAddress x) = Ok (Does (Turn x))
-made command.Send (TwoAddresses x d) = Ok (Does (Send x d))
-made command.Ask (TwoAddresses x d) = Ok (Does (Ask x d))
-made command.Deliver (OneNumber id) = Ok (Does (Deliver id))
-made command.Lose (OneNumber id) = Ok (Does (Lose id))
-made command.Copy (OneNumber id) = Ok (Does (Double id))
-made command.Auto (OneNumber count) = Ok (Chooses count)
-made command.Show (OneAddress x) = Ok (ShowsNode x)
-made command.Route (TwoAddresses x d) = Ok (ShowsRoute x d)
-made command.Flight NoArgument = Ok ShowsFlight
-made others arguments = Err Count
+abbrev pub made_line : Command → Arguments ℕ → Result AcceptedLine LineFault
+made_line command.Link (TwoAddresses a b) = of_pair a b (Link a b)
+made_line command.Cut (TwoAddresses a b) = of_pair a b (Cut a b)
+made_line command.Data (AddressesAndText x d body) = Ok (Does (Give x d body))
+made_line command.Turn (OneAddress x) = Ok (Does (Turn x))
+made_line command.Send (TwoAddresses x d) = Ok (Does (Send x d))
+made_line command.Ask (TwoAddresses x d) = Ok (Does (Ask x d))
+made_line command.Deliver (OneNumber id) = Ok (Does (Deliver id))
+made_line command.Lose (OneNumber id) = Ok (Does (Lose id))
+made_line command.Copy (OneNumber id) = Ok (Does (Double id))
+made_line command.Auto (OneNumber count) = Ok (Chooses count)
+made_line command.Show (OneAddress x) = Ok (ShowsNode x)
+made_line command.Route (TwoAddresses x d) = Ok (ShowsRoute x d)
+made_line command.Flight NoArgument = Ok ShowsFlight
+made_line others arguments = Err Count
 
 -- a node that isn't there yet, before the run has started
-abbrev pub new_node : Nodes → Bool → Mention → ℕ → Result Accepted LineFault
+abbrev pub new_node : Nodes → Bool → Mention → ℕ → Result AcceptedLine LineFault
 new_node mesh started a first =
     if started then Err Late else
     if is_some (index_of mesh a.address) then Err (TwiceNode a.span) else
@@ -124,18 +125,19 @@ result_and_then next (Err e) = Err e
 
 -- a command and its arguments with this mesh: one more node, or a line about the nodes that are
 -- there. A run has started once a line was neither blank nor a `node` line
-abbrev pub accepted : Nodes → Bool → Command → Arguments Mention → Result Accepted LineFault
-accepted mesh started command (NumberedAddress a first) = new_node mesh started a first
-accepted mesh started command others =
-    after_nodes mesh (result_and_then (made command) (placed mesh others))
+abbrev pub accepted_line : Nodes → Bool → Command → Arguments Mention
+    → Result AcceptedLine LineFault
+accepted_line mesh started command (NumberedAddress a first) = new_node mesh started a first
+accepted_line mesh started command others =
+    after_nodes mesh (result_and_then (made_line command) (with_nodes mesh others))
 
 abbrev pub accepted_shape : Nodes → Bool → Option (Shape Command Mention)
-    → Result Accepted LineFault
+    → Result AcceptedLine LineFault
 accepted_shape mesh started None = Ok Nothing
-accepted_shape mesh started (Some s) = accepted mesh started s.command s.arguments
+accepted_shape mesh started (Some s) = accepted_line mesh started s.command s.arguments
 
 -- what a line comes to: its own faults first, then those of its place
-unfoldable pub line_of : Nodes → Bool → List ℕ → Result Accepted LineFault
+unfoldable pub line_of : Nodes → Bool → List ℕ → Result AcceptedLine LineFault
 line_of mesh started line = result_and_then (accepted_shape mesh started) (shape_of line)
 
 -- ---- what lines and events leave
@@ -146,8 +148,8 @@ abbrev pub world_of : Moment → World
 world_of m = unwrap_or m.world (start m.variant (first_numbers m.mesh))
 
 -- the same moment, with its world made
-abbrev pub started : Moment → Moment
-started m = record m { world = Some (world_of m) }
+abbrev pub with_world : Moment → Moment
+with_world m = record m { world = Some (world_of m) }
 
 abbrev pub idle_by : Outcome → ℕ
 idle_by Idle = 1
@@ -155,13 +157,13 @@ idle_by (worlds.Full x f) = 0
 idle_by (Next w happening) = 0
 
 -- what was counted, with one more event and what came of it
-abbrev pub summed : Sums → Event → Outcome → Sums
-summed s e o = record {
+abbrev pub sums_after : Sums → Event → Outcome → Sums
+sums_after s e o = record {
   events = s.events + 1;
   idle = s.idle + idle_by o;
-  given = s.given + given any e o;
-  delivered = s.delivered + delivered any e o;
-  lost = s.lost + dropped any e o;
+  given = s.given + given_data any e o;
+  delivered = s.delivered + delivered_data any e o;
+  lost = s.lost + dropped_data any e o;
   copied = s.copied + doubled_at o;
 }
 
@@ -170,13 +172,13 @@ abbrev pub outcome_at : Moment → Event → Outcome
 outcome_at m e = step (world_of m) e
 
 -- the moment after an event that isn't refused. One that is idle is a step too
-unfoldable pub stepped : Moment → Event → Moment
-stepped m e = record m {
+unfoldable pub next_moment : Moment → Event → Moment
+next_moment m e = record m {
   world = Some (after (world_of m) (outcome_at m e));
-  sums = summed m.sums e (outcome_at m e);
+  sums = sums_after m.sums e (outcome_at m e);
   steps = m.steps + 1;
 }
 
 -- one more line was read
-abbrev pub counted : Moment → Moment
-counted m = record m { lines = m.lines + 1 }
+abbrev pub with_line_read : Moment → Moment
+with_line_read m = record m { lines = m.lines + 1 }

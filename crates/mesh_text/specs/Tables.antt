@@ -11,11 +11,11 @@ use Rattle.aodv_entry.specs.declared.entry.Flag.{Flag}
 use Rattle.aodv_entry.specs.declared.entry.Flag.TheVariants.{Val, Inv}
 use Rattle.aodv_model.specs.Pairs.{pairs_in}
 use Rattle.aodv_model.specs.Tables.{Table}
-use Rattle.aodv_model.specs.Cores.{Body, Seen, Store, Core}
+use Rattle.aodv_model.specs.Cores.{Body, SeenRequests, Store, Core}
 use Rattle.mesh_model.specs.Worlds.{Node, Copy}
 use Rattle.mesh_model.specs.Routes.{End, Arrived, Stuck}
 use Rattle.mesh_meaning.specs.Packets.{packet_of}
-use Rattle.mesh_grammar.specs.Written.{line, labelled}
+use Rattle.mesh_grammar.specs.Written.{line, label_number}
 use Rattle.mesh_text.specs.Lines.{name_of, hex}
 use Rattle.mesh_text.specs.Effects.{set_text}
 
@@ -30,7 +30,7 @@ unfoldable pub asked_line : Nodes → ℕ → ℕ → List ℕ
 asked_line mesh o id = line (codes "  asked " ++ name_of mesh o ++ 32 ∷ decimal id)
 
 -- the requests that were seen, by rising originator and then by rising id
-unfoldable pub asked_text : Nodes → Seen → List ℕ
+unfoldable pub asked_text : Nodes → SeenRequests → List ℕ
 asked_text mesh seen = flat_map (λ p. asked_line mesh p.0 p.1) (pairs_in seen)
 
 abbrev pub known_text : Known → List ℕ
@@ -98,7 +98,7 @@ end_text mesh (Stuck at hops) = stuck_line mesh at hops
 -- a copy in flight
 unfoldable pub flying_text : Nodes → Copy → List ℕ
 flying_text mesh c =
-    line (labelled (codes "  copy ") c.id ++ 32 ∷ name_of mesh c.from ++ 32 ∷ name_of mesh c.to
+    line (label_number (codes "  copy ") c.id ++ 32 ∷ name_of mesh c.from ++ 32 ∷ name_of mesh c.to
     ++ 32 ∷ hex (packet_of mesh c.message))
 
 abbrev pub flight_text : Nodes → List Copy → List ℕ

@@ -21,11 +21,11 @@ use Rattle.mesh_world.proofs.Arrivals.{map-push}
 use Rattle.mesh_world.proofs.Frames.{each_set}
 use Rattle.mesh_world.specs.Seen.{WorldSeen, IsSoundWorld}
 use Rattle.mesh_world.specs.Steps.{IsDone}
-use Rattle.mesh_walks.specs.Kept.{Kept, walked, walked_by, with_item}
+use Rattle.mesh_walks.specs.Kept.{KeptLists, lists_after, walked_by, with_item}
 use Rattle.mesh_trail.specs.Lists.{IsPushed, IsRoomed, row}
 use Rattle.mesh_trail.specs.Casts.{list_of}
 use Rattle.mesh_trail.specs.Steps.{hears, idles}
-use Rattle.mesh_trail.specs.Trails.{AreWalks, kept, queue_of}
+use Rattle.mesh_trail.specs.Trails.{AreWalks, kept_lists, queue_of}
 use Rattle.mesh_trail.specs.declared.lists.NodeLists.{NodeLists}
 use Rattle.mesh_trail.specs.declared.casts.Cast.{Cast}
 use Rattle.mesh_trail.proofs.Moves.{AreFlying, IsAfter, after_done, goes_on, no_cast}
@@ -36,16 +36,16 @@ roomed_so w nodes now casts x t l r = subst (λ ns. AreWalks w ns casts) (sym r.
 
 -- the lists once one has joined x's queue
 pub joined : (e : Event) (old new : WorldSeen) (nodes now : List NodeLists) (casts : List Cast) (x : ℕ) (l : List ℕ) → IsAfter e old new → IsSoundWorld new → (new.world).next_copy ≡ (old.world).next_copy
-    → walked old.world e (kept nodes casts) ≡ with_item (kept nodes casts) x (reverse l) → x < length old.mesh → IsPushed x l nodes now → AreWalks old nodes casts → AreWalks new now casts
+    → lists_after old.world e (kept_lists nodes casts) ≡ with_item (kept_lists nodes casts) x (reverse l) → x < length old.mesh → IsPushed x l nodes now → AreWalks old nodes casts → AreWalks new now casts
 joined e old new nodes now casts x l later sound next is below p t =
     let there = is_there old nodes casts x t below in
-    let flying = (walked old.world e (kept nodes casts)).flying in
-    let f : AreFlying old new (λ id. reverse (list_of casts id)) flying casts casts = no_cast e old new nodes casts flying later t next (λ id. ap (λ (k : Kept). k.flying id) is) in
+    let flying = (lists_after old.world e (kept_lists nodes casts)).flying in
+    let f : AreFlying old new (λ id. reverse (list_of casts id)) flying casts casts = no_cast e old new nodes casts flying later t next (λ id. ap (λ (k : KeptLists). k.flying id) is) in
     subst (λ ns. AreWalks new ns casts) (sym p.is)
     (goes_on e old new nodes (slice_set nodes x p.now) casts casts later sound (record {
       agrees = record {
-        entries = λ z d. ap (λ (k : Kept). k.entries z d) is ∙ still_at (turned_row d) nodes x p.now z there (ap (λ (v : Vec (List ℕ)). reverse (row v.items d)) p.entries ∙ ap (turned_row d) (sym p.there));
-        queues = λ z. ap (λ (k : Kept). k.queues z) is
+        entries = λ z d. ap (λ (k : KeptLists). k.entries z d) is ∙ still_at (turned_row d) nodes x p.now z there (ap (λ (v : Vec (List ℕ)). reverse (row v.items d)) p.entries ∙ ap (turned_row d) (sym p.there));
+        queues = λ z. ap (λ (k : KeptLists). k.queues z) is
             ∙ changed_so turned_queue nodes x p.now (map reverse (queue_at nodes x) ++ reverse l ∷ []) z there (ap (λ o. turned_queue o ++ reverse l ∷ []) p.there ∙ sym (map-push reverse ((p.node).queue).items l) ∙ ap (map reverse) (sym p.queue));
         flying = f.lists;
       };
@@ -65,9 +65,9 @@ pub given : (x dest : ℕ) (b : List ℕ) (old new : WorldSeen) (d : Done) (pack
 given x dest b old new d packet nodes now casts sound is busy below p t =
     let later = after_done (Give x dest b) old new d packet is in
     joined (Give x dest b) old new nodes now casts x [] later sound (quiet_after (Give x dest b) old new later tt)
-    (walked_is old.world (Give x dest b) (kept nodes casts) (outcome_in old.mesh x new.world d packet) is.outcome ∙ by d busy) below p t
+    (walked_is old.world (Give x dest b) (kept_lists nodes casts) (outcome_in old.mesh x new.world d packet) is.outcome ∙ by d busy) below p t
   where
-    by : (d : Done) → idles d ≡ false → walked_by old.world (Give x dest b) (outcome_in old.mesh x new.world d packet) (kept nodes casts) ≡ with_item (kept nodes casts) x []
+    by : (d : Done) → idles d ≡ false → walked_by old.world (Give x dest b) (outcome_in old.mesh x new.world d packet) (kept_lists nodes casts) ≡ with_item (kept_lists nodes casts) x []
     by done.Idle busy = cc
     by done.Changed busy = refl
     by (done.Taken took effect air) busy = refl
@@ -81,7 +81,7 @@ idle_walks e old new d packet nodes casts sound is idle t =
     let later = after_done e old new d packet is in
     let none : step old.world e ≡ Idle = is.outcome ∙ by d idle in
     let next : (new.world).next_copy ≡ (old.world).next_copy = ap (λ (w : World). w.next_copy) (later.world ∙ ap (worlds.after old.world) none) in
-    unmoved e old new nodes casts later sound (walked_is old.world e (kept nodes casts) Idle none) next t
+    unmoved e old new nodes casts later sound (walked_is old.world e (kept_lists nodes casts) Idle none) next t
   where
     by : (d : Done) → idles d ≡ true → outcome_in old.mesh (node_of e) new.world d packet ≡ Idle
     by done.Idle idle = refl
@@ -143,23 +143,23 @@ pub heard : (id : ℕ) (c : Copy) (old new : WorldSeen) (d : Done) (packet : Lis
 heard id c old new d packet nodes now casts l sound is busy found list p t =
     let later = after_done (Deliver id) old new d packet is in
     joined (Deliver id) old new nodes now casts c.to l later sound (quiet_after (Deliver id) old new later tt)
-    (walked_is old.world (Deliver id) (kept nodes casts) (outcome_in old.mesh 0 new.world d packet) is.outcome ∙ by d busy is.outcome) (receiver_below old id c t.sound found) p t
+    (walked_is old.world (Deliver id) (kept_lists nodes casts) (outcome_in old.mesh 0 new.world d packet) is.outcome ∙ by d busy is.outcome) (receiver_below old id c t.sound found) p t
   where
-    by : (d : Done) → hears d ≡ true → step old.world (Deliver id) ≡ outcome_in old.mesh 0 new.world d packet → walked_by old.world (Deliver id) (outcome_in old.mesh 0 new.world d packet) (kept nodes casts) ≡ with_item (kept nodes casts) c.to (reverse l)
+    by : (d : Done) → hears d ≡ true → step old.world (Deliver id) ≡ outcome_in old.mesh 0 new.world d packet → walked_by old.world (Deliver id) (outcome_in old.mesh 0 new.world d packet) (kept_lists nodes casts) ≡ with_item (kept_lists nodes casts) c.to (reverse l)
     by done.Idle busy is = cc
     by done.Changed busy is = cc
     by (done.Taken took effect air) busy is = cc
     by (done.Sent effect air) busy is = cc
-    by (done.Heard from to) busy is = (λ i. with_item (kept nodes casts) (receiver_is old.world new.world id from to c found is i) (reverse (sym list i)))
+    by (done.Heard from to) busy is = (λ i. with_item (kept_lists nodes casts) (receiver_is old.world new.world id from to c found is i) (reverse (sym list i)))
     by (done.Lost flying) busy is = cc
     by (done.Doubled i to parcel) busy is = cc
 
 pub unheard : (id : ℕ) (old new : WorldSeen) (d : Done) (packet : List ℕ) (nodes : List NodeLists) (casts : List Cast) → IsSoundWorld new → IsDone (Deliver id) old d new packet → hears d ≡ false → AreWalks old nodes casts → AreWalks new nodes casts
 unheard id old new d packet nodes casts sound is idle t =
     let later = after_done (Deliver id) old new d packet is in
-    unmoved (Deliver id) old new nodes casts later sound (walked_is old.world (Deliver id) (kept nodes casts) (outcome_in old.mesh 0 new.world d packet) is.outcome ∙ by d idle) (quiet_after (Deliver id) old new later tt) t
+    unmoved (Deliver id) old new nodes casts later sound (walked_is old.world (Deliver id) (kept_lists nodes casts) (outcome_in old.mesh 0 new.world d packet) is.outcome ∙ by d idle) (quiet_after (Deliver id) old new later tt) t
   where
-    by : (d : Done) → hears d ≡ false → walked_by old.world (Deliver id) (outcome_in old.mesh 0 new.world d packet) (kept nodes casts) ≡ kept nodes casts
+    by : (d : Done) → hears d ≡ false → walked_by old.world (Deliver id) (outcome_in old.mesh 0 new.world d packet) (kept_lists nodes casts) ≡ kept_lists nodes casts
     by done.Idle idle = refl
     by done.Changed idle = refl
     by (done.Taken took effect air) idle = refl

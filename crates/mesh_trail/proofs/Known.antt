@@ -21,13 +21,13 @@ use Rattle.mesh_trail.specs.declared.lists.Hand.{Hand}
 use Rattle.mesh_trail.specs.declared.lists.NodeLists.{NodeLists}
 use Rattle.mesh_trail.specs.declared.casts.Cast.{Cast}
 use Rattle.mesh_trail.specs.Heard.{is_known, knows}
-use Rattle.mesh_trail.specs.Lists.{put, row}
+use Rattle.mesh_trail.specs.Lists.{put_if, row}
 use Rattle.mesh_trail.specs.Steps.{FitsReply, IsReady, KnowsNear, front_list}
-use Rattle.mesh_trail.specs.Trails.{AreWalks, kept, rows_of}
+use Rattle.mesh_trail.specs.Trails.{AreWalks, kept_lists, rows_of}
 
 -- ---- a list that is there already
 
-pub put_there : (near : Bool) (y : ℕ) (l : List ℕ) (rows : List (List ℕ)) → y < length rows → row rows y ≡ l → put near y l rows ≡ rows
+pub put_there : (near : Bool) (y : ℕ) (l : List ℕ) (rows : List (List ℕ)) → y < length rows → row rows y ≡ l → put_if near y l rows ≡ rows
 put_there false y l rows below is = refl
 put_there true y l rows below is = there rows y below is
   where
@@ -36,7 +36,7 @@ put_there true y l rows below is = there rows y below is
     there (r ∷ rs) zero below is = ap (λ (k : List ℕ). k ∷ rs) (sym is)
     there (r ∷ rs) (suc y) below is = ap (λ (ks : List (List ℕ)). r ∷ ks) (there rs y (omega arith) is)
 
-pub put_off : (near : Bool) (y : ℕ) (l : List ℕ) (rows : List (List ℕ)) → near ≡ false → put near y l rows ≡ rows
+pub put_off : (near : Bool) (y : ℕ) (l : List ℕ) (rows : List (List ℕ)) → near ≡ false → put_if near y l rows ≡ rows
 put_off false y l rows is = refl
 put_off true y l rows is = cc
 
@@ -60,7 +60,7 @@ row_is : (w : WorldSeen) (nodes : List NodeLists) (casts : List Cast) (x y : ℕ
 row_is w nodes casts x y n m None t at is there known = cc
 row_is w nodes casts x y n None (Some e) t at is there known = absurd (none-some e (sym (maps.get-empty nat_cmp y) ∙ sym (ap (λ o. maps.get (rt_in o) y) is) ∙ there))
 row_is w nodes casts x y n (Some m) (Some e) t at is there known =
-    let h : NodeHolds (around t.variant w.world) x m ((kept nodes casts).entries x) ((kept nodes casts).queues x) = (t.holds).nodes x m is in
+    let h : NodeHolds (around t.variant w.world) x m ((kept_lists nodes casts).entries x) ((kept_lists nodes casts).queues x) = (t.holds).nodes x m is in
     let parts = both_true (is_val e.flag) ((e.hops == 1) && (e.next == y)) known in
     let others = both_true (e.hops == 1) (e.next == y) parts.1 in
     let walk : IsEntryWalk (around t.variant w.world) x y e.dsn e.hops e.next (reverse (row (rows_of (slice_get nodes x)) y)) = h.entries y e (sym (ap (λ o. maps.get (rt_in o) y) is) ∙ there) (val_is e.flag parts.0) in

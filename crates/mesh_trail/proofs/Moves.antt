@@ -10,7 +10,7 @@ use Rattle.mesh_model.specs.Trails.{around}
 use Rattle.mesh_model.proofs.Lists.{each_map}
 use Rattle.mesh_model.proofs.OnlyNumbers.{only_numbers_fill}
 use Rattle.mesh_meaning.specs.Packets.{copy_in}
-use Rattle.mesh_walks.specs.Kept.{Kept, from_id_on, walked}
+use Rattle.mesh_walks.specs.Kept.{KeptLists, from_id_on, lists_after}
 use Rattle.mesh_walks.specs.Held.{CopyHolds, Holds, IsEntryWalk, ItemsHold, MessageHolds, NodeHolds}
 use Rattle.mesh_walks.proofs.Steps.{both, id_after, id_before, step_holds}
 use Rattle.mesh_world.specs.Seen.{WorldSeen, IsSoundWorld}
@@ -19,7 +19,7 @@ use Rattle.mesh_world.specs.declared.steps.StepError.{StepError}
 use Rattle.mesh_world.specs.declared.steps.StepError.TheVariants as errors
 use Rattle.mesh_trail.specs.Walks.{FillsNumber}
 use Rattle.mesh_trail.specs.Casts.{IsCovered, AreEnding, list_of, flies_in}
-use Rattle.mesh_trail.specs.Trails.{AreWalks, IsOfRun, kept}
+use Rattle.mesh_trail.specs.Trails.{AreWalks, IsOfRun, kept_lists}
 use Rattle.mesh_trail.specs.declared.lists.NodeLists.{NodeLists}
 use Rattle.mesh_trail.specs.declared.casts.Cast.{Cast}
 use Rattle.mesh_trail.proofs.Places.{Stays, covered_below, covered_kept, covered_more, covered_new, ends_kept, ends_more, flying_stays, list_kept, list_new, list_old}
@@ -27,12 +27,12 @@ use Rattle.mesh_trail.proofs.Ways.{flies, run_more}
 
 -- ---- lists that are the same where it matters
 
-pub record Agrees (w : World) (k now : Kept) : Type 0 where
+pub record Agrees (w : World) (k now : KeptLists) : Type 0 where
   pub entries : (x d : ℕ) → k.entries x d ≡ now.entries x d
   pub queues : (x : ℕ) → k.queues x ≡ now.queues x
   pub flying : AllByRecursion (λ (c : Copy). k.flying c.id ≡ now.flying c.id) w.flying
 
-pub holds_so : (v : Variant) (w : World) (k now : Kept) → Agrees w k now → Holds v w k → Holds v w now
+pub holds_so : (v : Variant) (w : World) (k now : KeptLists) → Agrees w k now → Holds v w k → Holds v w now
 holds_so v w k now same h = record {
   nodes = λ x n is. let t : NodeHolds (around v w) x n (k.entries x) (k.queues x) = h.nodes x n is in record {
     variant = t.variant;
@@ -53,7 +53,7 @@ swept w nodes casts now fs shown is t =
       sound = t.sound;
       variant = t.variant;
       ran = t.ran;
-      holds = holds_so t.variant w.world (kept nodes casts) (kept nodes (filter (flies_in fs) casts)) (record {
+      holds = holds_so t.variant w.world (kept_lists nodes casts) (kept_lists nodes (filter (flies_in fs) casts)) (record {
         entries = λ x d. refl;
         queues = λ x. refl;
         flying = both (λ (c : Copy). Stays (flies_in fs) c.id) (λ (c : Copy). IsCovered casts c.id) (λ (c : Copy). reverse (list_of casts c.id) ≡ reverse (list_of (filter (flies_in fs) casts) c.id))
@@ -85,7 +85,7 @@ ran_on v e old new is r = record {
 
 -- the lists now: those that the event leaves
 pub record Follows (e : Event) (old new : WorldSeen) (nodes nodes' : List NodeLists) (casts casts' : List Cast) : Type 0 where
-  pub agrees : Agrees new.world (walked old.world e (kept nodes casts)) (kept nodes' casts')
+  pub agrees : Agrees new.world (lists_after old.world e (kept_lists nodes casts)) (kept_lists nodes' casts')
   pub count : length nodes' ≡ length nodes
   pub rows : AllByRecursion (λ n. length (n.entries).items ≡ length old.mesh) nodes'
   pub covered : AllByRecursion (λ (c : Copy). IsCovered casts' c.id) (new.world).flying
@@ -98,8 +98,8 @@ goes_on e old new nodes nodes' casts casts' then sound f t =
       sound = sound;
       variant = t.variant;
       ran = ran_on t.variant e old.world new.world then.world t.ran;
-      holds = holds_so t.variant new.world (walked old.world e (kept nodes casts)) (kept nodes' casts') f.agrees
-          (subst (λ (w : World). Holds t.variant w (walked old.world e (kept nodes casts))) (sym then.world) (step_holds t.variant old.world e (kept nodes casts) (t.sound).invariant t.holds));
+      holds = holds_so t.variant new.world (lists_after old.world e (kept_lists nodes casts)) (kept_lists nodes' casts') f.agrees
+          (subst (λ (w : World). Holds t.variant w (lists_after old.world e (kept_lists nodes casts))) (sym then.world) (step_holds t.variant old.world e (kept_lists nodes casts) (t.sound).invariant t.holds));
       count = f.count ∙ t.count ∙ sym size;
       rows = subst (λ n. AllByRecursion (λ m. length (m.entries).items ≡ n) nodes') (sym size) f.rows;
       covered = f.covered;

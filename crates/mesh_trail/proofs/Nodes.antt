@@ -14,11 +14,11 @@ use Rattle.mesh_base.specs.declared.events.Done.{Done}
 use Rattle.mesh_world.proofs.Frames.{each_get, each_set, set_got}
 use Rattle.mesh_world.specs.Seen.{WorldSeen, IsSoundWorld}
 use Rattle.mesh_world.specs.Steps.{IsStep}
-use Rattle.mesh_walks.specs.Kept.{Kept, walked, walked_by, changed_at}
+use Rattle.mesh_walks.specs.Kept.{KeptLists, lists_after, walked_by, changed_at}
 use Rattle.mesh_trail.specs.Lists.{row}
 use Rattle.mesh_trail.specs.Casts.{list_of}
 use Rattle.mesh_trail.specs.Steps.{MovesNothing}
-use Rattle.mesh_trail.specs.Trails.{AreWalks, kept, rows_of, queue_of}
+use Rattle.mesh_trail.specs.Trails.{AreWalks, kept_lists, rows_of, queue_of}
 use Rattle.mesh_trail.specs.declared.lists.NodeLists.{NodeLists}
 use Rattle.mesh_trail.specs.declared.casts.Cast.{Cast}
 use Rattle.mesh_trail.proofs.Moves.{AreFlying, IsAfter, after_done, goes_on, holds_so, no_cast}
@@ -70,7 +70,7 @@ roomed w nodes casts x n now t at l entries queue = record {
   sound = t.sound;
   variant = t.variant;
   ran = t.ran;
-  holds = holds_so t.variant w.world (kept nodes casts) (kept (slice_set nodes x now) casts) (record {
+  holds = holds_so t.variant w.world (kept_lists nodes casts) (kept_lists (slice_set nodes x now) casts) (record {
     entries = λ z d. still_at (turned_row d) nodes x now z l (ap (λ (v : Vec (List ℕ)). reverse (row v.items d)) entries ∙ ap (turned_row d) (sym at));
     queues = λ z. still_at turned_queue nodes x now z l (ap (map reverse) queue ∙ ap turned_queue (sym at));
     flying = each (w.world).flying;
@@ -87,24 +87,24 @@ roomed w nodes casts x n now t at l entries queue = record {
 
 -- ---- events that move no list
 
-pub unmoved : (e : Event) (old new : WorldSeen) (nodes : List NodeLists) (casts : List Cast) → IsAfter e old new → IsSoundWorld new → walked old.world e (kept nodes casts) ≡ kept nodes casts → (new.world).next_copy ≡ (old.world).next_copy
+pub unmoved : (e : Event) (old new : WorldSeen) (nodes : List NodeLists) (casts : List Cast) → IsAfter e old new → IsSoundWorld new → lists_after old.world e (kept_lists nodes casts) ≡ kept_lists nodes casts → (new.world).next_copy ≡ (old.world).next_copy
     → AreWalks old nodes casts → AreWalks new nodes casts
 unmoved e old new nodes casts later sound same next t =
-    let now = (walked old.world e (kept nodes casts)).flying in
-    let f : AreFlying old new (λ id. reverse (list_of casts id)) now casts casts = no_cast e old new nodes casts now later t next (λ id. ap (λ (k : Kept). k.flying id) same) in
+    let now = (lists_after old.world e (kept_lists nodes casts)).flying in
+    let f : AreFlying old new (λ id. reverse (list_of casts id)) now casts casts = no_cast e old new nodes casts now later t next (λ id. ap (λ (k : KeptLists). k.flying id) same) in
     goes_on e old new nodes nodes casts casts later sound (record {
-      agrees = record { entries = λ x d. ap (λ (k : Kept). k.entries x d) same; queues = λ x. ap (λ (k : Kept). k.queues x) same; flying = f.lists };
+      agrees = record { entries = λ x d. ap (λ (k : KeptLists). k.entries x d) same; queues = λ x. ap (λ (k : KeptLists). k.queues x) same; flying = f.lists };
       count = refl;
       rows = t.rows;
       covered = f.covered;
       ends = f.ends;
     }) t
 
-pub walked_is : (w : World) (e : Event) (k : Kept) (o : Outcome) → step w e ≡ o → walked w e k ≡ walked_by w e o k
-unfolding walked
+pub walked_is : (w : World) (e : Event) (k : KeptLists) (o : Outcome) → step w e ≡ o → lists_after w e k ≡ walked_by w e o k
+unfolding lists_after
 walked_is w e k o is = ap (λ (p : Outcome). walked_by w e p k) is
 
-walked_still : (w : World) (e : Event) (k : Kept) → MovesNothing e → walked w e k ≡ k
+walked_still : (w : World) (e : Event) (k : KeptLists) → MovesNothing e → lists_after w e k ≡ k
 walked_still w e k still = walked_is w e k (step w e) refl ∙ by e still (step w e)
   where
     by : (e : Event) → MovesNothing e → (o : Outcome) → walked_by w e o k ≡ k
@@ -141,4 +141,4 @@ quiet_after e old new later quiet = ap (λ (w : World). w.next_copy) later.world
 pub passed : (e : Event) (old new : WorldSeen) (d : Done) (packet : List ℕ) (nodes : List NodeLists) (casts : List Cast) → MovesNothing e → IsSoundWorld new → IsStep e old (Ok d) new packet → AreWalks old nodes casts → AreWalks new nodes casts
 passed e old new d packet nodes casts still sound is t =
     let later = after_done e old new d packet is in
-    unmoved e old new nodes casts later sound (walked_still old.world e (kept nodes casts) still) (quiet_after e old new later (quiet e still)) t
+    unmoved e old new nodes casts later sound (walked_still old.world e (kept_lists nodes casts) still) (quiet_after e old new later (quiet e still)) t

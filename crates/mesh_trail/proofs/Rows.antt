@@ -16,7 +16,7 @@ use Rattle.mesh_trail.specs.declared.said.Said.{Said}
 use Rattle.mesh_trail.specs.declared.heard.Front.TheVariants as fronts
 use Rattle.mesh_trail.specs.Said.{said_of, IsSaidIn}
 use Rattle.mesh_trail.specs.Heard.{leads_to, tells, lesson_of}
-use Rattle.mesh_trail.specs.Lists.{list_in, row, put, learnt, reply_list}
+use Rattle.mesh_trail.specs.Lists.{list_in, row, put_if, after_lesson, reply_list}
 use Rattle.mesh_trail.specs.Steps.{front_list, rows_after, sent_after}
 
 -- ---- lists turned round
@@ -41,11 +41,11 @@ row_set rows d l q le = by (q == d) refl
     by true is = rw is (ap list_in (ap (slice_get (slice_set rows d l)) (eqb-true q d is) ∙ set_got rows d l le))
     by false is = rw is (ap list_in (set_other rows d q l (eqb-false q d is)))
 
-row_put : (b : Bool) (rows : List (List ℕ)) (d : ℕ) (l : List ℕ) (q : ℕ) → d < length rows → row (put b d l rows) q ≡ (if b && (q == d) then l else row rows q)
+row_put : (b : Bool) (rows : List (List ℕ)) (d : ℕ) (l : List ℕ) (q : ℕ) → d < length rows → row (put_if b d l rows) q ≡ (if b && (q == d) then l else row rows q)
 row_put true rows d l q le = row_set rows d l q le
 row_put false rows d l q le = refl
 
-put_length : (b : Bool) (rows : List (List ℕ)) (d : ℕ) (l : List ℕ) → length (put b d l rows) ≡ length rows
+put_length : (b : Bool) (rows : List (List ℕ)) (d : ℕ) (l : List ℕ) → length (put_if b d l rows) ≡ length rows
 put_length true rows d l = set_length rows d l
   where
     set_length : (rows : List (List ℕ)) (d : ℕ) (l : List ℕ) → length (slice_set rows d l) ≡ length rows
@@ -61,7 +61,7 @@ set_within (r ∷ rows) zero l (suc q) k new old = old
 set_within (r ∷ rows) (suc d) l zero k new old = old
 set_within (r ∷ rows) (suc d) l (suc q) k new old = set_within rows d l q k new old
 
-pub put_within : (b : Bool) (rows : List (List ℕ)) (d : ℕ) (l : List ℕ) (q k : ℕ) → length l ≤ k → length (row rows q) ≤ k → length (row (put b d l rows) q) ≤ k
+pub put_within : (b : Bool) (rows : List (List ℕ)) (d : ℕ) (l : List ℕ) (q k : ℕ) → length l ≤ k → length (row rows q) ≤ k → length (row (put_if b d l rows) q) ≤ k
 put_within true rows d l q k new old = set_within rows d l q k new old
 put_within false rows d l q k new old = old
 
@@ -106,10 +106,10 @@ turned_eq y d q e = subst (λ (k : ℕ). (y == d) ≡ (k == y)) (sym e) (swap y 
     swap a b = grind (arith, nat_tests)
 
 row_learnt : (t n : Bool) (rows : List (List ℕ)) (y d : ℕ) (near told : List ℕ) (q : ℕ) → y < length rows → d < length rows
-    → row (put (t && not (n && (y == d))) d told (put n y near rows)) q ≡ pick ((q == y) && n) ((q == d) && t) near told (row rows q)
+    → row (put_if (t && not (n && (y == d))) d told (put_if n y near rows)) q ≡ pick ((q == y) && n) ((q == d) && t) near told (row rows q)
 row_learnt t n rows y d near told q ly ld =
     let size = put_length n rows y near in
-    row_put (t && not (n && (y == d))) (put n y near rows) d told q (omega arith)
+    row_put (t && not (n && (y == d))) (put_if n y near rows) d told q (omega arith)
     ∙ ap (λ (l : List ℕ). if (t && not (n && (y == d))) && (q == d) then told else l) (row_put n rows y near q ly)
     ∙ by (q == d) refl
   where
@@ -142,7 +142,7 @@ entry_untold x y m l q old (Some e) told = ap (λ (b : Bool). pick (is_near y q 
 
 route_row : (rt : Table) (x y d n h : ℕ) (m : Message) (rows : List (List ℕ)) (l near told : List ℕ) (q : ℕ) → ((e : Entry) → is_told y m q e ≡ is_route y d n h q e)
     → y < length rows → d < length rows → near ≡ y ∷ x ∷ [] → told ≡ l ++ x ∷ []
-    → reverse (row (put (tells y n h (maps.get rt d) && not (leads_to y (maps.get rt y) && (y == d))) d told (put (leads_to y (maps.get rt y)) y near rows)) q)
+    → reverse (row (put_if (tells y n h (maps.get rt d) && not (leads_to y (maps.get rt y) && (y == d))) d told (put_if (leads_to y (maps.get rt y)) y near rows)) q)
     ≡ entry_list x y m (reverse l) q (reverse (row rows q)) (maps.get rt q)
 route_row rt x y d n h m rows l near told q says ly ld near_is told_is =
     ap reverse (row_learnt (tells y n h (maps.get rt d)) (leads_to y (maps.get rt y)) rows y d near told q ly ld)
@@ -168,10 +168,10 @@ turned_rows rt x y (Rerr dests) rows l near told q ly inside near_is told_is =
     swapped false true near old = refl
     swapped false false near old = refl
 
-pub rows_count : (rt : Table) (y : ℕ) (s : Said) (near told : List ℕ) (rows : List (List ℕ)) → length (learnt (lesson_of rt y s) near told rows) ≡ length rows
+pub rows_count : (rt : Table) (y : ℕ) (s : Said) (near told : List ℕ) (rows : List (List ℕ)) → length (after_lesson (lesson_of rt y s) near told rows) ≡ length rows
 rows_count rt y s near told rows =
     let l = lesson_of rt y s in
-    put_length (l.told && not (l.near && (l.from == l.dest))) (put l.near l.from near rows) l.dest told ∙ put_length l.near rows l.from near
+    put_length (l.told && not (l.near && (l.from == l.dest))) (put_if l.near l.from near rows) l.dest told ∙ put_length l.near rows l.from near
 
 -- ---- what is cast
 

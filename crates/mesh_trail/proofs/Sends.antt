@@ -17,11 +17,11 @@ use Rattle.mesh_meaning.specs.Answers.{IsCastWritten, IsDoneInMesh, cast_in, hap
 use Rattle.mesh_meaning.specs.Events.{node_of}
 use Rattle.mesh_world.specs.Seen.{WorldSeen, IsSoundWorld}
 use Rattle.mesh_world.specs.Steps.{IsDone}
-use Rattle.mesh_walks.specs.Kept.{Kept, copies_in, from_id_on, own_list, walked, walked_by, with_copies}
+use Rattle.mesh_walks.specs.Kept.{KeptLists, copies_in, from_id_on, own_list, lists_after, walked_by, with_copies}
 use Rattle.mesh_trail.specs.Said.{said_of}
 use Rattle.mesh_trail.specs.Casts.{list_of}
 use Rattle.mesh_trail.specs.Steps.{IsOwnOf, sent_after}
-use Rattle.mesh_trail.specs.Trails.{AreWalks, kept}
+use Rattle.mesh_trail.specs.Trails.{AreWalks, kept_lists}
 use Rattle.mesh_trail.specs.declared.heard.Front.TheVariants as fronts
 use Rattle.mesh_trail.specs.declared.lists.NodeLists.{NodeLists}
 use Rattle.mesh_trail.specs.declared.casts.Cast as lists
@@ -34,36 +34,36 @@ use Rattle.mesh_trail.proofs.Ways.{DoublesIn, IsNoDouble, MakesIn, StartsAt, dou
 pub record NodesGo (e : Event) (old : WorldSeen) (nodes nodes' : List NodeLists) (casts : List lists.Cast) : Type 0 where
   pub count : length nodes' ≡ length nodes
   pub rows : AllByRecursion (λ n. length (n.entries).items ≡ length old.mesh) nodes'
-  pub entries : (x d : ℕ) → (walked old.world e (kept nodes casts)).entries x d ≡ turned_row d (slice_get nodes' x)
-  pub queues : (x : ℕ) → (walked old.world e (kept nodes casts)).queues x ≡ turned_queue (slice_get nodes' x)
+  pub entries : (x d : ℕ) → (lists_after old.world e (kept_lists nodes casts)).entries x d ≡ turned_row d (slice_get nodes' x)
+  pub queues : (x : ℕ) → (lists_after old.world e (kept_lists nodes casts)).queues x ≡ turned_queue (slice_get nodes' x)
 
 pub stayed : (e : Event) (old new : WorldSeen) (nodes nodes' : List NodeLists) (casts : List lists.Cast) → IsAfter e old new → IsSoundWorld new → NodesGo e old nodes nodes' casts → (new.world).next_copy ≡ (old.world).next_copy
-    → ((id : ℕ) → (walked old.world e (kept nodes casts)).flying id ≡ reverse (list_of casts id)) → AreWalks old nodes casts → AreWalks new nodes' casts
+    → ((id : ℕ) → (lists_after old.world e (kept_lists nodes casts)).flying id ≡ reverse (list_of casts id)) → AreWalks old nodes casts → AreWalks new nodes' casts
 stayed e old new nodes nodes' casts later sound go next same t =
-    let now = (walked old.world e (kept nodes casts)).flying in
+    let now = (lists_after old.world e (kept_lists nodes casts)).flying in
     let f : AreFlying old new (λ id. reverse (list_of casts id)) now casts casts = no_cast e old new nodes casts now later t next same in
     goes_on e old new nodes nodes' casts casts later sound (record { agrees = record { entries = go.entries; queues = go.queues; flying = f.lists }; count = go.count; rows = go.rows; covered = f.covered; ends = f.ends }) t
 
 pub launched : (e : Event) (old new : WorldSeen) (nodes nodes' : List NodeLists) (casts casts' : List lists.Cast) (c : lists.Cast) → IsAfter e old new → IsSoundWorld new → NodesGo e old nodes nodes' casts → (old.world).next_copy ≤ (new.world).next_copy
     → casts' ≡ casts ++ c ∷ [] → c.first ≡ (old.world).next_copy → c.end ≡ (new.world).next_copy
-    → ((id : ℕ) → (walked old.world e (kept nodes casts)).flying id ≡ from_id_on (λ i. reverse (list_of casts i)) (old.world).next_copy (reverse c.list) id) → AreWalks old nodes casts → AreWalks new nodes' casts'
+    → ((id : ℕ) → (lists_after old.world e (kept_lists nodes casts)).flying id ≡ from_id_on (λ i. reverse (list_of casts i)) (old.world).next_copy (reverse c.list) id) → AreWalks old nodes casts → AreWalks new nodes' casts'
 launched e old new nodes nodes' casts casts' c later sound go more is first end same t =
-    let now = (walked old.world e (kept nodes casts)).flying in
+    let now = (lists_after old.world e (kept_lists nodes casts)).flying in
     let f : AreFlying old new (λ id. reverse (list_of casts id)) now casts casts' = one_cast e old new nodes casts casts' c now later t more is first end same in
     goes_on e old new nodes nodes' casts casts' later sound (record { agrees = record { entries = go.entries; queues = go.queues; flying = f.lists }; count = go.count; rows = go.rows; covered = f.covered; ends = f.ends }) t
 
 -- the lists of the nodes are as they were
-nodes_stay : (e : Event) (old : WorldSeen) (new : WorldSeen) (nodes : List NodeLists) (casts : List lists.Cast) (flying : ℕ → List ℕ) → AreWalks old nodes casts → walked old.world e (kept nodes casts) ≡ record (kept nodes casts) { flying = flying } → NodesGo e old nodes nodes casts
-nodes_stay e old new nodes casts flying t is = record { count = refl; rows = t.rows; entries = λ x d. ap (λ (k : Kept). k.entries x d) is; queues = λ x. ap (λ (k : Kept). k.queues x) is }
+nodes_stay : (e : Event) (old : WorldSeen) (new : WorldSeen) (nodes : List NodeLists) (casts : List lists.Cast) (flying : ℕ → List ℕ) → AreWalks old nodes casts → lists_after old.world e (kept_lists nodes casts) ≡ record (kept_lists nodes casts) { flying = flying } → NodesGo e old nodes nodes casts
+nodes_stay e old new nodes casts flying t is = record { count = refl; rows = t.rows; entries = λ x d. ap (λ (k : KeptLists). k.entries x d) is; queues = λ x. ap (λ (k : KeptLists). k.queues x) is }
 
 -- ---- a copy is doubled
 
-abbrev DoubledTo : World → ℕ → Kept → Outcome → Type 0
+abbrev DoubledTo : World → ℕ → KeptLists → Outcome → Type 0
 DoubledTo w id k o =
     (((after w o).next_copy ≡ w.next_copy) × (walked_by w (Double id) o k ≡ record k { flying = k.flying }))
     ⊎ (((after w o).next_copy ≡ w.next_copy + 1) × (walked_by w (Double id) o k ≡ record k { flying = from_id_on k.flying w.next_copy (k.flying id) }))
 
-doubled_to : (w : World) (id : ℕ) (k : Kept) (o : Outcome) → DoublesIn w id k o → DoubledTo w id k o
+doubled_to : (w : World) (id : ℕ) (k : KeptLists) (o : Outcome) → DoublesIn w id k o → DoubledTo w id k o
 doubled_to w id k Idle d = inl (refl, refl)
 doubled_to w id k (worlds.Full x f) d = inl (refl, refl)
 doubled_to w id k (Next w' h) d = inr (d.0, d.1)
@@ -72,26 +72,26 @@ pub doubled : (id : ℕ) (old new : WorldSeen) (d : Done) (packet : List ℕ) (n
     → casts' ≡ casts ++ c ∷ [] → c.first ≡ (old.world).next_copy → c.end ≡ (new.world).next_copy → c.list ≡ list_of casts id → AreWalks old nodes casts → AreWalks new nodes casts'
 doubled id old new d packet nodes casts casts' c sound is less more first end list t =
     let later = after_done (Double id) old new d packet is in
-    let k = kept nodes casts in
+    let k = kept_lists nodes casts in
     by later (doubled_to old.world id k (step old.world (Double id)) (doubles old.world id k)) (walked_is old.world (Double id) k (step old.world (Double id)) refl)
   where
-    by : IsAfter (Double id) old new → DoubledTo old.world id (kept nodes casts) (step old.world (Double id)) → walked old.world (Double id) (kept nodes casts) ≡ walked_by old.world (Double id) (step old.world (Double id)) (kept nodes casts) → AreWalks new nodes casts'
+    by : IsAfter (Double id) old new → DoubledTo old.world id (kept_lists nodes casts) (step old.world (Double id)) → lists_after old.world (Double id) (kept_lists nodes casts) ≡ walked_by old.world (Double id) (step old.world (Double id)) (kept_lists nodes casts) → AreWalks new nodes casts'
     by later (inl s) now = absurd (let e : (new.world).next_copy ≡ (old.world).next_copy = ap (λ (w : World). w.next_copy) later.world ∙ s.0 in omega arith)
     by later (inr s) now =
         let all = now ∙ s.1 in
         launched (Double id) old new nodes nodes casts casts' c later sound (nodes_stay (Double id) old new nodes casts _ t all) (omega arith) more first end
-        (λ i. ap (λ (k : Kept). k.flying i) all ∙ ap (λ l. from_id_on (λ i. reverse (list_of casts i)) (old.world).next_copy (reverse l) i) (sym list)) t
+        (λ i. ap (λ (k : KeptLists). k.flying i) all ∙ ap (λ l. from_id_on (λ i. reverse (list_of casts i)) (old.world).next_copy (reverse l) i) (sym list)) t
 
 pub undoubled : (id : ℕ) (old new : WorldSeen) (d : Done) (packet : List ℕ) (nodes : List NodeLists) (casts : List lists.Cast) → IsSoundWorld new → IsDone (Double id) old d new packet → (new.world).next_copy ≤ (old.world).next_copy → AreWalks old nodes casts → AreWalks new nodes casts
 undoubled id old new d packet nodes casts sound is less t =
     let later = after_done (Double id) old new d packet is in
-    let k = kept nodes casts in
+    let k = kept_lists nodes casts in
     by later (doubled_to old.world id k (step old.world (Double id)) (doubles old.world id k)) (walked_is old.world (Double id) k (step old.world (Double id)) refl)
   where
-    by : IsAfter (Double id) old new → DoubledTo old.world id (kept nodes casts) (step old.world (Double id)) → walked old.world (Double id) (kept nodes casts) ≡ walked_by old.world (Double id) (step old.world (Double id)) (kept nodes casts) → AreWalks new nodes casts
+    by : IsAfter (Double id) old new → DoubledTo old.world id (kept_lists nodes casts) (step old.world (Double id)) → lists_after old.world (Double id) (kept_lists nodes casts) ≡ walked_by old.world (Double id) (step old.world (Double id)) (kept_lists nodes casts) → AreWalks new nodes casts
     by later (inl s) now =
         let all = now ∙ s.1 in
-        stayed (Double id) old new nodes nodes casts later sound (nodes_stay (Double id) old new nodes casts _ t all) (ap (λ (w : World). w.next_copy) later.world ∙ s.0) (λ i. ap (λ (k : Kept). k.flying i) all) t
+        stayed (Double id) old new nodes nodes casts later sound (nodes_stay (Double id) old new nodes casts _ t all) (ap (λ (w : World). w.next_copy) later.world ∙ s.0) (λ i. ap (λ (k : KeptLists). k.flying i) all) t
     by later (inr s) now = absurd (let e : (new.world).next_copy ≡ (old.world).next_copy + 1 = ap (λ (w : World). w.next_copy) later.world ∙ s.0 in omega arith)
 
 -- ---- what is cast
@@ -145,7 +145,7 @@ some_cast (c ∷ cs) flying list next id m some starts says = λ i. from_id_on f
 pub record Casts (e : Event) (old new : WorldSeen) (x : ℕ) (d : Done) (packet : List ℕ) (nodes : List NodeLists) (casts : List lists.Cast) (list : Message → List ℕ) : Type 0 where
   pub next : (new.world).next_copy ≡ (old.world).next_copy + length (copies_in (happening_in old.mesh x d packet))
   pub starts : StartsAt (old.world).next_copy (copies_in (happening_in old.mesh x d packet))
-  pub flying : (id : ℕ) → (walked old.world e (kept nodes casts)).flying id ≡ with_copies (λ i. reverse (list_of casts i)) list (copies_in (happening_in old.mesh x d packet)) id
+  pub flying : (id : ℕ) → (lists_after old.world e (kept_lists nodes casts)).flying id ≡ with_copies (λ i. reverse (list_of casts i)) list (copies_in (happening_in old.mesh x d packet)) id
 
 pub cast_done : (e : Event) (old new : WorldSeen) (x : ℕ) (d : Done) (packet : List ℕ) (nodes nodes' : List NodeLists) (casts casts' : List lists.Cast) (c : lists.Cast) (list : Message → List ℕ) → IsSoundWorld new → IsDone e old d new packet → Casts e old new x d packet nodes casts list
     → NodesGo e old nodes nodes' casts → (old.world).next_copy < (new.world).next_copy → casts' ≡ casts ++ c ∷ [] → c.first ≡ (old.world).next_copy → c.end ≡ (new.world).next_copy
@@ -177,28 +177,28 @@ pub made_by : (e : Event) (old new : WorldSeen) (d : Done) (packet : List ℕ) (
 made_by e old new d packet h one is = subst (MakesIn old.world) is (makes old.world e one)
 
 own_by : (e : Event) (y : ℕ) (old new : WorldSeen) (d : Done) (packet : List ℕ) (nodes : List NodeLists) (casts : List lists.Cast) → IsNoDouble e → node_of e ≡ y
-    → ((w' : World) (h : Happening) → walked_by old.world e (Next w' h) (kept nodes casts) ≡ record (kept nodes casts) { flying = with_copies (λ i. reverse (list_of casts i)) (own_list y) (copies_in h) })
-    → walked_by old.world e Idle (kept nodes casts) ≡ kept nodes casts → IsDone e old d new packet → AreWalks old nodes casts
+    → ((w' : World) (h : Happening) → walked_by old.world e (Next w' h) (kept_lists nodes casts) ≡ record (kept_lists nodes casts) { flying = with_copies (λ i. reverse (list_of casts i)) (own_list y) (copies_in h) })
+    → walked_by old.world e Idle (kept_lists nodes casts) ≡ kept_lists nodes casts → IsDone e old d new packet → AreWalks old nodes casts
     → Casts e old new y d packet nodes casts (own_list y) × NodesGo e old nodes nodes casts
 own_by e y old new d packet nodes casts one at moves none is t = by d is (is.outcome ∙ ap (λ (x : ℕ). outcome_in old.mesh x new.world d packet) at)
   where
     some : (d : Done) (h : Happening) → h ≡ happening_in old.mesh y d packet → step old.world e ≡ Next new.world h → Casts e old new y d packet nodes casts (own_list y) × NodesGo e old nodes nodes casts
     some d h same out =
         let made = made_by e old new d packet h one out in
-        let all = walked_is old.world e (kept nodes casts) (Next new.world h) out ∙ moves new.world h in (
+        let all = walked_is old.world e (kept_lists nodes casts) (Next new.world h) out ∙ moves new.world h in (
           record {
             next = made.0 ∙ ap (λ (g : Happening). (old.world).next_copy + length (copies_in g)) same;
             starts = subst (λ (g : Happening). StartsAt (old.world).next_copy (copies_in g)) same made.1;
-            flying = λ i. ap (λ (k : Kept). k.flying i) all ∙ ap (λ (g : Happening). with_copies (λ i. reverse (list_of casts i)) (own_list y) (copies_in g) i) same;
+            flying = λ i. ap (λ (k : KeptLists). k.flying i) all ∙ ap (λ (g : Happening). with_copies (λ i. reverse (list_of casts i)) (own_list y) (copies_in g) i) same;
           },
           nodes_stay e old new nodes casts _ t all,
         )
 
     by : (d : Done) → IsDone e old d new packet → step old.world e ≡ outcome_in old.mesh y new.world d packet → Casts e old new y d packet nodes casts (own_list y) × NodesGo e old nodes nodes casts
     by done.Idle is out =
-        let all = walked_is old.world e (kept nodes casts) Idle out ∙ none in
+        let all = walked_is old.world e (kept_lists nodes casts) Idle out ∙ none in
         let next = idle_next e old new y packet is in
-        (record { next = omega arith; starts = tt; flying = λ i. ap (λ (k : Kept). k.flying i) all }, nodes_stay e old new nodes casts _ t all)
+        (record { next = omega arith; starts = tt; flying = λ i. ap (λ (k : KeptLists). k.flying i) all }, nodes_stay e old new nodes casts _ t all)
     by done.Changed is out = some done.Changed _ refl out
     by (done.Taken took effect air) is out = some (done.Taken took effect air) _ refl out
     by (done.Sent effect air) is out = some (done.Sent effect air) _ refl out
@@ -215,8 +215,8 @@ own_casts x (worlds.Cut a b) old new done packet nodes casts own is t = absurd o
 own_casts x (worlds.Deliver id) old new done packet nodes casts own is t = absurd own
 own_casts x (worlds.Lose id) old new done packet nodes casts own is t = absurd own
 own_casts x (worlds.Double id) old new done packet nodes casts own is t = absurd own
-own_casts x (worlds.Send y dest) old new d packet nodes casts own is t = own_by (worlds.Send y dest) x old new d packet nodes casts tt own (λ w' h. ap (λ (z : ℕ). record (kept nodes casts) { flying = with_copies (λ i. reverse (list_of casts i)) (own_list z) (copies_in h) }) own) refl is t
-own_casts x (worlds.Ask y dest) old new d packet nodes casts own is t = own_by (worlds.Ask y dest) x old new d packet nodes casts tt own (λ w' h. ap (λ (z : ℕ). record (kept nodes casts) { flying = with_copies (λ i. reverse (list_of casts i)) (own_list z) (copies_in h) }) own) refl is t
+own_casts x (worlds.Send y dest) old new d packet nodes casts own is t = own_by (worlds.Send y dest) x old new d packet nodes casts tt own (λ w' h. ap (λ (z : ℕ). record (kept_lists nodes casts) { flying = with_copies (λ i. reverse (list_of casts i)) (own_list z) (copies_in h) }) own) refl is t
+own_casts x (worlds.Ask y dest) old new d packet nodes casts own is t = own_by (worlds.Ask y dest) x old new d packet nodes casts tt own (λ w' h. ap (λ (z : ℕ). record (kept_lists nodes casts) { flying = with_copies (λ i. reverse (list_of casts i)) (own_list z) (copies_in h) }) own) refl is t
 
 pub own_sent : (x : ℕ) (e : Event) (old new : WorldSeen) (d : Done) (packet : List ℕ) (nodes : List NodeLists) (casts casts' : List lists.Cast) (c : lists.Cast) (rows : List (List ℕ)) (l : List ℕ) → IsOwnOf x e → IsSoundWorld new → IsDone e old d new packet
     → (old.world).next_copy < (new.world).next_copy → casts' ≡ casts ++ c ∷ [] → c.first ≡ (old.world).next_copy → c.end ≡ (new.world).next_copy

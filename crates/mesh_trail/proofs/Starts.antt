@@ -20,7 +20,7 @@ use Rattle.mesh_walks.specs.Held.{Holds}
 use Rattle.mesh_walks.proofs.Turned.{held_is_honest, start_holds}
 use Rattle.mesh_trail.specs.Walks.{IsRouteWalk}
 use Rattle.mesh_trail.specs.Lists.{IsBlank, list_in, row}
-use Rattle.mesh_trail.specs.Trails.{AreWalks, kept, queue_of, rows_of}
+use Rattle.mesh_trail.specs.Trails.{AreWalks, kept_lists, queue_of, rows_of}
 use Rattle.mesh_trail.specs.declared.lists.NodeLists.{NodeLists}
 use Rattle.mesh_trail.specs.declared.casts.Cast.{Cast}
 use Rattle.mesh_trail.proofs.Moves.{holds_so}
@@ -74,7 +74,7 @@ starts v mesh w nodes casts size is sound size_is count blank none =
       sound = sound;
       variant = v;
       ran = record { firsts = firsts; events = []; numbers = first_numbers_are mesh (subst IsMesh at sound.mesh) (subst (λ (m : Nodes). 1 ≤ length m) at sound.some); is = world ∙ sym (none_ran v firsts) };
-      holds = holds_so v w.world nothing_kept (kept nodes []) (record {
+      holds = holds_so v w.world nothing_kept (kept_lists nodes []) (record {
         entries = λ x d. ap reverse (sym (blank_row size nodes x d blank));
         queues = λ x. ap (map reverse) (sym (blank_queue size nodes x blank));
         flying = subst (AllByRecursion _) (sym still) tt;
@@ -98,7 +98,7 @@ pub route_walk : (w : WorldSeen) (nodes : List NodeLists) (casts : List Cast) (x
     → maps.get (table w.world x) d ≡ Some e → e.flag ≡ Val → IsRouteWalk w.world x d walk
 route_walk w nodes casts x d n l walk e t at here same there valid =
     let is : reverse (reverse (row (rows_of (slice_get nodes x)) d)) ≡ walk = reverse-reverse (row (rows_of (slice_get nodes x)) d) ∙ ap (λ o. row (rows_of o) d) at ∙ ap list_in here ∙ sym same in
-    let h = held_is_honest t.variant w.world (kept nodes casts) x d e t.holds there valid in
+    let h = held_is_honest t.variant w.world (kept_lists nodes casts) x d e t.holds there valid in
     record { entry = e; there = there; valid = valid; honest = subst (IsHonestWalk (w.world).ever x d e.hops) is h.0; few = h.1 }
 
 pub route_short : (w : WorldSeen) (x d : ℕ) (walk : List ℕ) → IsSoundWorld w → IsRouteWalk w.world x d walk → length walk ≤ length w.mesh + 1

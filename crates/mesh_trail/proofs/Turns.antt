@@ -15,7 +15,7 @@ use Rattle.mesh_world.proofs.Frames.{each_set}
 use Rattle.mesh_world.specs.Seen.{WorldSeen}
 use Rattle.mesh_world.specs.Steps.{IsDone}
 use Rattle.mesh_walks.specs.Kept as walks
-use Rattle.mesh_walks.specs.Kept.{Kept, after_front, after_turn, changed_at, copies_in, entries_after, first_list, own_list, walked, walked_by, with_copies}
+use Rattle.mesh_walks.specs.Kept.{KeptLists, after_front, after_turn, changed_at, copies_in, entries_after, first_list, own_list, lists_after, walked_by, with_copies}
 use Rattle.mesh_trail.specs.declared.said.Said.{Said}
 use Rattle.mesh_trail.specs.declared.said.Said.TheVariants as says
 use Rattle.mesh_trail.specs.declared.heard.Front.{Front}
@@ -25,9 +25,9 @@ use Rattle.mesh_trail.specs.declared.lists.NodeLists.{NodeLists}
 use Rattle.mesh_trail.specs.declared.casts.Cast as lists
 use Rattle.mesh_trail.specs.Said.{said_of, IsSaidIn}
 use Rattle.mesh_trail.specs.Heard.{IsFrontIn, front_in, front_of, lesson_of}
-use Rattle.mesh_trail.specs.Lists.{learnt, put, reply_list, row, sent_list}
+use Rattle.mesh_trail.specs.Lists.{after_lesson, put_if, reply_list, row, sent_list}
 use Rattle.mesh_trail.specs.Steps.{FitsReply, HasRoomFor, IsInHand, IsReady, front_list, idles, rows_after, sent_after}
-use Rattle.mesh_trail.specs.Trails.{AreWalks, kept}
+use Rattle.mesh_trail.specs.Trails.{AreWalks, kept_lists}
 use Rattle.mesh_trail.proofs.Nodes.{changed_so, is_there, rows_at, still_at, turned_queue, turned_row, walked_is}
 use Rattle.mesh_trail.proofs.Rows.{put_within, rows_count, turned_drop, turned_first, turned_own, turned_rows, turned_sent}
 use Rattle.mesh_trail.proofs.Sends.{Casts, NodesGo, made_by}
@@ -47,18 +47,18 @@ choice_fits : (b : Bool) (x room : ℕ) (l : List ℕ) → 2 ≤ room → length
 choice_fits true x room l two le = omega arith
 choice_fits false x room l two le = le
 
-learnt_fits : (rt : Table) (y : ℕ) (s : Said) (near told : List ℕ) (rows : List (List ℕ)) (q room : ℕ) → length near ≤ room → length told ≤ room → length (row rows q) ≤ room → length (row (learnt (lesson_of rt y s) near told rows) q) ≤ room
+learnt_fits : (rt : Table) (y : ℕ) (s : Said) (near told : List ℕ) (rows : List (List ℕ)) (q room : ℕ) → length near ≤ room → length told ≤ room → length (row rows q) ≤ room → length (row (after_lesson (lesson_of rt y s) near told rows) q) ≤ room
 learnt_fits rt y s near told rows q room a b c =
     let l = lesson_of rt y s in
-    put_within (l.told && not (l.near && (l.from == l.dest))) (put l.near l.from near rows) l.dest told q room b (put_within l.near rows l.from near q room a c)
+    put_within (l.told && not (l.near && (l.from == l.dest))) (put_if l.near l.from near rows) l.dest told q room b (put_within l.near rows l.from near q room a c)
 
-reply_fits : (rt : Table) (x y : ℕ) (s : Said) (near told : List ℕ) (rows : List (List ℕ)) (room : ℕ) → 2 ≤ room → length near ≤ room → length told ≤ room → FitsReply rows room s → length (reply_list x (learnt (lesson_of rt y s) near told rows) s) ≤ room
+reply_fits : (rt : Table) (x y : ℕ) (s : Said) (near told : List ℕ) (rows : List (List ℕ)) (room : ℕ) → 2 ≤ room → length near ≤ room → length told ≤ room → FitsReply rows room s → length (reply_list x (after_lesson (lesson_of rt y s) near told rows) s) ≤ room
 reply_fits rt x y says.Parcel near told rows room two a b fits = omega arith
 reply_fits rt x y says.Error near told rows room two a b fits = omega arith
 reply_fits rt x y (says.Request o n h d) near told rows room two a b fits = choice_fits (d == x) x room _ two (learnt_fits rt y (says.Request o n h d) near told rows d room a b fits)
 reply_fits rt x y (says.Reply d n h) near told rows room two a b fits = learnt_fits rt y (says.Reply d n h) near told rows d room a b fits
 
-heard_fits : (rt : Table) (x y : ℕ) (s : Said) (rows : List (List ℕ)) (l : List ℕ) (hand : Hand) → IsInHand x y s rows l hand → (cast : Said) → length (sent_list x (learnt (lesson_of rt y s) hand.near hand.told rows) s l cast) ≤ hand.room
+heard_fits : (rt : Table) (x y : ℕ) (s : Said) (rows : List (List ℕ)) (l : List ℕ) (hand : Hand) → IsInHand x y s rows l hand → (cast : Said) → length (sent_list x (after_lesson (lesson_of rt y s) hand.near hand.told rows) s l cast) ≤ hand.room
 heard_fits rt x y s rows l hand r says.Parcel = let two = r.two in omega arith
 heard_fits rt x y s rows l hand r says.Error = let two = r.two in omega arith
 heard_fits rt x y s rows l hand r (says.Request o n h d) = let e = pair_long l x in let more = r.more in omega arith
@@ -114,11 +114,11 @@ pub record Turned (x : ℕ) (old new : WorldSeen) (d : Done) (packet : List ℕ)
 
 module _ (x : ℕ) (old new : WorldSeen) (d : Done) (packet : List ℕ) (nodes : List NodeLists) (casts : List lists.Cast) (n now : NodeLists) (hand : Hand)
     (t : AreWalks old nodes casts) (below : x < length old.mesh) (at : slice_get nodes x ≡ Some n) where
-  abbrev K : Kept
-  K = kept nodes casts
+  abbrev K : KeptLists
+  K = kept_lists nodes casts
 
-  abbrev W : Kept
-  W = walked old.world (Turn x) K
+  abbrev W : KeptLists
+  W = lists_after old.world (Turn x) K
 
   abbrev copies : List worlds.Copy
   copies = copies_in (happening_in old.mesh x d packet)
@@ -137,12 +137,12 @@ module _ (x : ℕ) (old new : WorldSeen) (d : Done) (packet : List ℕ) (nodes :
       let there = is_there old nodes casts x t below in
       record {
         list = own_list x;
-        makes = record { next = made.0; starts = made.1; flying = λ i. ap (λ (k : Kept). k.flying i) all };
+        makes = record { next = made.0; starts = made.1; flying = λ i. ap (λ (k : KeptLists). k.flying i) all };
         go = record {
           count = length-set nodes x now;
           rows = row_counts refl (ap length took.rows);
-          entries = λ z q. ap (λ (k : Kept). k.entries z q) all ∙ still_at (turned_row q) nodes x now z there (ap (λ rs. reverse (row rs q)) took.rows ∙ ap (turned_row q) (sym at));
-          queues = λ z. ap (λ (k : Kept). k.queues z) all ∙ queue_goes took.queue z;
+          entries = λ z q. ap (λ (k : KeptLists). k.entries z q) all ∙ still_at (turned_row q) nodes x now z there (ap (λ rs. reverse (row rs q)) took.rows ∙ ap (turned_row q) (sym at));
+          queues = λ z. ap (λ (k : KeptLists). k.queues z) all ∙ queue_goes took.queue z;
         };
         said = λ cast. turned_own x (now.entries).items (front_list (n.queue).items) cast;
       }
@@ -177,12 +177,12 @@ module _ (x : ℕ) (old new : WorldSeen) (d : Done) (packet : List ℕ) (nodes :
       let same = entries_are y m near inside took in
       record {
         list = walks.sent_list x (heard_entries y m) m heard_list;
-        makes = record { next = made.0; starts = made.1; flying = λ i. ap (λ (k : Kept). k.flying i) all };
+        makes = record { next = made.0; starts = made.1; flying = λ i. ap (λ (k : KeptLists). k.flying i) all };
         go = record {
           count = length-set nodes x now;
           rows = row_counts refl (ap length took.rows ∙ rows_count (table new.world x) y (said_of m) hand.near hand.told (n.entries).items);
-          entries = λ z q. ap (λ (k : Kept). k.entries z q) all ∙ ap (λ (f : ℕ → List ℕ). f q) (changed_so (λ o q. turned_row q o) nodes x now (heard_entries y m) z there same);
-          queues = λ z. ap (λ (k : Kept). k.queues z) all ∙ queue_goes took.queue z;
+          entries = λ z q. ap (λ (k : KeptLists). k.entries z q) all ∙ ap (λ (f : ℕ → List ℕ). f q) (changed_so (λ o q. turned_row q o) nodes x now (heard_entries y m) z there same);
+          queues = λ z. ap (λ (k : KeptLists). k.queues z) all ∙ queue_goes took.queue z;
         };
         said = λ cast. turned_sent x y (now.entries).items m (front_list (n.queue).items) cast ∙ (λ i. walks.sent_list x (sym same i) m (sym heard_is i) cast);
       }

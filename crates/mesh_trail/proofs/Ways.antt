@@ -9,7 +9,7 @@ use Rattle.aodv_model.specs.Fullness.{ask_full, send_full, turn_full}
 use Rattle.aodv_model.specs.Handlers.{All, Cast, Many, Nothing, One, Reaction, ask, may_ask, may_send, send, turn}
 use Rattle.mesh_model.proofs.Lists.{each_append, each_filter}
 use Rattle.mesh_model.specs.Worlds.{is_parcel, Ask, Changed, Copy, CopyDoubled, CopyHeard, CopyLost, Cut, Deliver, Double, Event, Give, Full, Next, Idle, Link, Lose, Node, Outcome, Send, Sent, Turn, World, after, are_linked, ask_of, at_copy, at_node, copies, copies_of, copies_to, done_by, double_of, find_copy, members_below, push, range, receivers, run, send_of, step, turn_of, unless_full, with_double, with_item, with_link, without, without_copy, without_link}
-use Rattle.mesh_walks.specs.Kept.{Kept, after_doubling, copies_in, from_id_on}
+use Rattle.mesh_walks.specs.Kept.{KeptLists, after_doubling, copies_in, from_id_on}
 
 -- ---- the ids of copies
 
@@ -116,12 +116,12 @@ makes w (Lose id) one = copy_case (MakesIn w) (λ c. Next (without_copy w id) (C
 makes w (Double id) one = absurd one
 
 -- a doubled copy has the number of the next
-abbrev pub DoublesIn : World → ℕ → Kept → Outcome → Type 0
+abbrev pub DoublesIn : World → ℕ → KeptLists → Outcome → Type 0
 DoublesIn w id k Idle = ⊤
 DoublesIn w id k (Full x f) = ⊤
 DoublesIn w id k (Next w' h) = (w'.next_copy ≡ w.next_copy + 1) × (after_doubling id h k ≡ record k { flying = from_id_on k.flying w.next_copy (k.flying id) })
 
-pub doubles : (w : World) (id : ℕ) (k : Kept) → DoublesIn w id k (step w (Double id))
+pub doubles : (w : World) (id : ℕ) (k : KeptLists) → DoublesIn w id k (step w (Double id))
 unfolding step
 doubles w id k = copy_case (DoublesIn w id k) (λ c. Next (with_double w c) (CopyDoubled w.next_copy c.to (is_parcel c.message))) (find_copy w.flying id) tt (λ c. (refl, refl))
 

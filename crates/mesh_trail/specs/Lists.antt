@@ -46,14 +46,15 @@ abbrev pub row : List (List ℕ) → ℕ → List ℕ
 row rows d = list_in (slice_get rows d)
 
 -- this list for d, or as before
-abbrev pub put : Bool → ℕ → List ℕ → List (List ℕ) → List (List ℕ)
-put changes d l rows = if changes then slice_set rows d l else rows
+abbrev pub put_if : Bool → ℕ → List ℕ → List (List ℕ) → List (List ℕ)
+put_if changes d l rows = if changes then slice_set rows d l else rows
 
 -- a node has learnt that a neighbour is near, with this list of two, or the longer list of the
 -- route that was told
-abbrev pub learnt : Lesson → List ℕ → List ℕ → List (List ℕ) → List (List ℕ)
-learnt l near told rows =
-    put (l.told && not (l.near && (l.from == l.dest))) l.dest told (put l.near l.from near rows)
+abbrev pub after_lesson : Lesson → List ℕ → List ℕ → List (List ℕ) → List (List ℕ)
+after_lesson l near told rows =
+    put_if (l.told && not (l.near && (l.from == l.dest))) l.dest told
+    (put_if l.near l.from near rows)
 
 -- the list of a reply of x to what was said, or of one that it passes on
 abbrev pub reply_list : ℕ → List (List ℕ) → Said → List ℕ

@@ -10,7 +10,7 @@ use Rattle.mesh_trail.specs.declared.heard.Front.{Front}
 use Rattle.mesh_trail.specs.declared.heard.Front.TheVariants as fronts
 use Rattle.mesh_trail.specs.declared.lists.Hand.{Hand}
 use Rattle.mesh_trail.specs.Heard.{lesson_of}
-use Rattle.mesh_trail.specs.Lists.{list_in, row, learnt, sent_list}
+use Rattle.mesh_trail.specs.Lists.{list_in, row, after_lesson, sent_list}
 
 -- the list beside the front of the queue
 abbrev pub front_list : List (List ℕ) → List ℕ
@@ -20,7 +20,7 @@ front_list queue = list_in (slice_get queue 0)
 abbrev pub rows_after : Table → Front → List ℕ → List ℕ → List (List ℕ) → List (List ℕ)
 rows_after rt fronts.Empty near told rows = rows
 rows_after rt fronts.New near told rows = rows
-rows_after rt (fronts.Heard y s) near told rows = learnt (lesson_of rt y s) near told rows
+rows_after rt (fronts.Heard y s) near told rows = after_lesson (lesson_of rt y s) near told rows
 
 -- the list of what it casts
 abbrev pub sent_after : ℕ → Front → List (List ℕ) → List ℕ → Said → List ℕ

@@ -3,7 +3,7 @@ use Rattle.std.specs.Prelude.{◌≡◌, ℕ, Option, Some, None, List, [], leng
 use Rattle.std.specs.List.{AllByRecursion}
 use Rattle.mesh_base.specs.declared.events.Variant.{Variant}
 use Rattle.mesh_model.specs.Worlds.{World, Event, AreFirstNumbers, start, run}
-use Rattle.mesh_walks.specs.Kept.{Kept}
+use Rattle.mesh_walks.specs.Kept.{KeptLists}
 use Rattle.mesh_walks.specs.Held.{Holds}
 use Rattle.mesh_world.specs.Seen.{WorldSeen, IsSoundWorld}
 use Rattle.mesh_trail.specs.Lists.{row}
@@ -21,8 +21,8 @@ queue_of None = []
 queue_of (Some n) = (n.queue).items
 
 -- the lists as mesh_walks has them: from the holder to the destination
-abbrev pub kept : List NodeLists → List Cast → Kept
-kept nodes casts = record {
+abbrev pub kept_lists : List NodeLists → List Cast → KeptLists
+kept_lists nodes casts = record {
   entries = λ x d. reverse (row (rows_of (slice_get nodes x)) d);
   queues = λ x. map reverse (queue_of (slice_get nodes x));
   flying = λ id. reverse (list_of casts id);
@@ -40,7 +40,7 @@ pub record AreWalks (w : WorldSeen) (nodes : List NodeLists) (casts : List Cast)
   pub sound : IsSoundWorld w
   pub variant : Variant
   pub ran : IsOfRun variant w.world
-  pub holds : Holds variant w.world (kept nodes casts)
+  pub holds : Holds variant w.world (kept_lists nodes casts)
   pub count : length nodes ≡ length w.mesh
   pub rows : AllByRecursion (λ n. length (n.entries).items ≡ length w.mesh) nodes
   pub covered : AllByRecursion (λ c. IsCovered casts c.id) (w.world).flying

@@ -1,7 +1,7 @@
 //! The lists of one node.
 ghost use Rattle.std.specs.Prelude.{◌≡◌, ◌<◌, [], true, length, slice_set, IfOk, OnOk};
 ghost use Rattle.std.specs.List.{AllByRecursion};
-ghost use Rattle.mesh_trail.specs.Lists.{IsBlank, IsRoomed, HasPlace, IsPushed, row, put, learnt};
+ghost use Rattle.mesh_trail.specs.Lists.{IsBlank, IsRoomed, HasPlace, IsPushed, row, put_if, after_lesson};
 
 use crate::heard::{Front, Lesson};
 use crate::walk::{Room, Walk};
@@ -98,7 +98,7 @@ fn exchange(rows: &mut Vec<Walk>, d: usize, list: &mut Walk)
 fn exchange_near(rows: &mut Vec<Walk>, lesson: Lesson, hand: &mut Hand)
     requires from { lesson.from < length rows.old.items }
     requires known { hand.old.known ≡ true → row rows.old.items lesson.from ≡ hand.old.near }
-    ensures rows { rows.new.items ≡ put lesson.near lesson.from hand.old.near rows.old.items }
+    ensures rows { rows.new.items ≡ put_if lesson.near lesson.from hand.old.near rows.old.items }
     ensures told { hand.new.told ≡ hand.old.told }
     ensures room { hand.new.room ≡ hand.old.room }
 {
@@ -114,7 +114,7 @@ pub(crate) fn learn(rows: &mut Vec<Walk>, lesson: Lesson, hand: &mut Hand)
     requires from { lesson.from < length rows.old.items }
     requires dest { lesson.dest < length rows.old.items }
     requires known { hand.old.known ≡ true → row rows.old.items lesson.from ≡ hand.old.near }
-    ensures rows { rows.new.items ≡ learnt lesson hand.old.near hand.old.told rows.old.items }
+    ensures rows { rows.new.items ≡ after_lesson lesson hand.old.near hand.old.told rows.old.items }
     ensures room { hand.new.room ≡ hand.old.room }
 {
     exchange_near(rows, lesson, hand);

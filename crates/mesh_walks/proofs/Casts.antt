@@ -19,7 +19,7 @@ use Rattle.aodv_model.proofs.Readings.{join_answer_alike, join_reply_alike, know
 use Rattle.aodv_model.specs.Cores.{Body, Core, Message, Pkt, Rerr, RouteReply, RouteRequest, Rrep, Rreq, add, bodies_in, drop, has_seen}
 use Rattle.aodv_model.specs.Handlers.{All, Cast, Many, Nothing, One, Reaction, after_hearing, after_reply, after_request, ask, broken_by, can_answer, casting, is_stale, data_error, delivering, error_cast, first_body, forward_own_entry, forward_reply, forward_request, fresh_id, is_empty, is_error, join_answer_precursors, join_reply_precursors, key_of, link_broken, losing, losing_if_broken, on_message, on_new, on_new_rreq, on_pkt, on_rerr, on_rrep, on_rreq, only, plain, precs_of, reply_for_self, reply_from_table, reply_on, retract, route_entry, send, unicast, with_precs}
 use Rattle.aodv_model.specs.Pairs.{Pairs, pair_cmp}
-use Rattle.aodv_model.specs.Tables.{Dests, Table, accepted_unreachable, dhops, entry_after, hops_in, in_vD, is_valid_in, merged, nhop, number_in, sqn, sqnf, status_in, unreachable_by, update}
+use Rattle.aodv_model.specs.Tables.{Dests, Table, accepted_unreachable, dhops, entry_after, hops_in, in_vD, is_valid_in, merge, nhop, number_in, sqn, sqnf, status_in, unreachable_by, update}
 use Rattle.mesh_base.specs.Members.{NodeIds}
 use Rattle.mesh_base.specs.declared.events.Variant.{Variant}
 use Rattle.mesh_base.specs.declared.events.Variant.TheVariants.{Base, Error, Number, Reply}
@@ -157,8 +157,8 @@ record IsExact (e : Entry) (n h : ℕ) : Type 0 where
   hops : e.hops ≡ h
   flag : e.flag ≡ Val
 
-exact_or : (s r : Entry) (n h : ℕ) → r.dsn ≡ n → r.hops ≡ h + 1 → r.flag ≡ Val → r.dsk ≡ Kno → (((merged s r).dsn ≡ n) × (((merged s r).hops ≡ h + 1) × ((merged s r).flag ≡ Val))) ⊎ IsAtLeast s n h
-unfolding merged
+exact_or : (s r : Entry) (n h : ℕ) → r.dsn ≡ n → r.hops ≡ h + 1 → r.flag ≡ Val → r.dsk ≡ Kno → (((merge s r).dsn ≡ n) × (((merge s r).hops ≡ h + 1) × ((merge s r).flag ≡ Val))) ⊎ IsAtLeast s n h
+unfolding merge
 exact_or s r n h dsn hops flag known = grind (arith, nat_tests)
 
 -- a reply that isn't stale leaves an entry with its number and hops

@@ -18,7 +18,7 @@ use Rattle.mesh_model.specs.Trails.{Around, CopyHasWalk, EntriesHaveWalks, HasEn
 use Rattle.mesh_model.specs.Worlds.{World, are_linked, is_parcel}
 use Rattle.mesh_walks.proofs.Stems.{Had, IsFrom, Stays, Stems}
 use Rattle.mesh_walks.specs.Held.{CopyHolds, EntriesHold, Holds, IsEntryWalk, ItemHolds, ItemsHold, MessageHolds, NodeHolds}
-use Rattle.mesh_walks.specs.Kept.{Kept, entries_after, entry_list, is_near, is_route, is_told}
+use Rattle.mesh_walks.specs.Kept.{KeptLists, entries_after, entry_list, is_near, is_route, is_told}
 
 -- ---- where lists are walks there are walks
 
@@ -44,7 +44,7 @@ items_have a x [] (walk ∷ walks) t = absurd t
 items_have a x (item ∷ items) [] t = absurd t
 items_have a x (item ∷ items) (walk ∷ walks) t = (item_has a x item walk t.0, items_have a x items walks t.1)
 
-pub has_walks : (v : Variant) (w : World) (k : Kept) → Holds v w k → HasWalks v w
+pub has_walks : (v : Variant) (w : World) (k : KeptLists) → Holds v w k → HasWalks v w
 has_walks v w k t = record {
   nodes = λ x n is. let p : NodeHolds (around v w) x n (k.entries x) (k.queues x) = t.nodes x n is in
       record { variant = p.variant; entries = entries_have (around v w) x (n.core).rt (k.entries x) p.entries; queue = items_have (around v w) x n.queue (k.queues x) p.queue };

@@ -12,7 +12,7 @@ use Rattle.aodv_model.proofs.Entries.{Same, if_case}
 use Rattle.aodv_model.proofs.Lookups.{get-add_pre, get-invalidate}
 use Rattle.aodv_model.specs.Cores.{Body, Core, Message, Pkt, Rerr, RouteReply, RouteRequest, Rrep, Rreq, add, bodies_in, drop, has_seen}
 use Rattle.aodv_model.specs.Handlers.{One, Reaction, after_hearing, after_reply, after_request, broken_by, can_answer, casting, is_stale, data_error, delivering, first_body, forward_own_entry, forward_reply, forward_request, join_answer_precursors, join_reply_precursors, key_of, link_broken, losing, losing_if_broken, neighbour_entry, on_message, on_new, on_new_rreq, on_pkt, on_rerr, on_rrep, on_rreq, one, only, plain, reply_for_self, reply_from_table, reply_on, retract, route_entry, send, unicast}
-use Rattle.aodv_model.specs.Tables.{Dests, Table, accepted_unreachable, add_pre, in_vD, invalidate, invalidated, joined, merged, nhop, unreachable_by, update}
+use Rattle.aodv_model.specs.Tables.{Dests, Table, accepted_unreachable, add_pre, in_vD, invalidate, invalidated, add_pre_at, merge, nhop, unreachable_by, update}
 use Rattle.mesh_base.specs.Members.{NodeIds}
 use Rattle.mesh_base.specs.declared.events.Variant.{Variant}
 use Rattle.mesh_base.specs.declared.events.Variant.TheVariants.{Base, Error, Number, Reply}
@@ -76,7 +76,7 @@ invalidate_stays rt dests = record {
 
 pub add_pre_stays : (rt : Table) (d : ℕ) (nodes : NodeIds) → Stays rt (add_pre rt d nodes)
 add_pre_stays rt d nodes = record {
-  had = λ q e is. mapped_each (HadWhere rt) (joined d nodes) q e (maps.get rt q) (sym (get-add_pre rt d nodes q) ∙ is)
+  had = λ q e is. mapped_each (HadWhere rt) (add_pre_at d nodes) q e (maps.get rt q) (sym (get-add_pre rt d nodes q) ∙ is)
       (λ s here. if_case (HadWhere rt q) (q == d) (record s { pre = sets.union s.pre nodes }) s
       (λ _ valid. record { entry = s; there = here; same = record { dsn = refl; flag = refl; hops = refl; next = refl } })
       (λ _ valid. record { entry = s; there = here; same = same_entry }));
@@ -117,7 +117,7 @@ stems_stays y m a b c first second = stems_then y m a b c first (stems_of y m b 
 abbrev IsFromWhere : ℕ → Message → Table → ℕ → Entry → Type 0
 IsFromWhere y m rt q e = e.flag ≡ Val → IsFrom y m rt q e
 
-update_stems : (y : ℕ) (m : Message) (rt : Table) (d : ℕ) (r : Entry) → IsFrom y m rt d r → ((s : Entry) → maps.get rt d ≡ Some s → IsFrom y m rt d (merged s r)) → Stems y m rt (update rt d r)
+update_stems : (y : ℕ) (m : Message) (rt : Table) (d : ℕ) (r : Entry) → IsFrom y m rt d r → ((s : Entry) → maps.get rt d ≡ Some s → IsFrom y m rt d (merge s r)) → Stems y m rt (update rt d r)
 update_stems y m rt d r new over = record {
   from = update_each (IsFromWhere y m rt) rt d r (λ q e is valid. inr (inr (record { entry = e; there = is; same = same_entry })))
       (after_by (IsFromWhere y m rt d) (maps.get rt d) r (λ _. new) (λ s is _. over s is));
@@ -137,7 +137,7 @@ hearing_stems m rt y =
     update_stems y m rt y (neighbour_entry y) (inl (is_near_of y (neighbour_entry y) refl refl))
     (λ s is. elim (near_shape s (neighbour_entry y) refl) [
       | inl same ↦ inr (inr (record { entry = s; there = is; same = same }))
-      | inr p ↦ inl (is_near_of y (merged s (neighbour_entry y)) p.0 p.1)
+      | inr p ↦ inl (is_near_of y (merge s (neighbour_entry y)) p.0 p.1)
     ])
 
 pub route_stems : (y : ℕ) (m : Message) (rt : Table) (d n h : ℕ) → ((e : Entry) → is_route y d n h d e ≡ true → is_told y m d e ≡ true) → Stems y m rt (update rt d (route_entry n h y))
@@ -147,7 +147,7 @@ route_stems y m rt d n h told =
     update_stems y m rt d r new
     (λ s is. elim (known_shape s r refl) [
       | inl same ↦ inr (inr (record { entry = s; there = is; same = same }))
-      | inr same ↦ from_then y m rt d (merged s r) r same new
+      | inr same ↦ from_then y m rt d (merge s r) r same new
     ])
 
 -- ---- what stays at a break

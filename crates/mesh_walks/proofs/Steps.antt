@@ -30,7 +30,7 @@ use Rattle.mesh_walks.proofs.Stays.{copy_stays, entries_stay, items_more, items_
 use Rattle.mesh_walks.proofs.Stems.{itself, message_stems, new_stays, parcel_stays, send_stays}
 use Rattle.mesh_walks.specs.Held.{CopyHolds, EntriesHold, Holds, ItemHolds, ItemsHold, MessageHolds, NodeHolds}
 use Rattle.mesh_walks.specs.Kept as kept
-use Rattle.mesh_walks.specs.Kept.{Kept, after_item, after_turn, changed_at, entries_after, first_list, from_id_on, own_list, sent_list, walked, walked_by, with_copies}
+use Rattle.mesh_walks.specs.Kept.{KeptLists, after_item, after_turn, changed_at, entries_after, first_list, from_id_on, own_list, sent_list, lists_after, walked_by, with_copies}
 use Rattle.mesh_model.proofs.TrailSteps.{trail_of, seen_later, later_of, here_of}
 
 -- ---- the list of each id
@@ -123,7 +123,7 @@ copies_hold a b core w flying list x c later ip rt seen within s =
 -- ---- one node changes
 
 -- the lists of another node
-record SameElsewhere (x : ℕ) (k k' : Kept) : Type 0 where
+record SameElsewhere (x : ℕ) (k k' : KeptLists) : Type 0 where
   entries : (y : ℕ) → y ≢ x → k'.entries y ≡ k.entries y
   queues : (y : ℕ) → y ≢ x → k'.queues y ≡ k.queues y
 
@@ -133,7 +133,7 @@ node_at nodes x old new is y n true same found =
     inl (sym e, same_Some new n (sym (ap (slice_get (set nodes x new)) e ∙ set_same nodes x new old is) ∙ found))
 node_at nodes x old new is y n false other found = let apart : y ≢ x = eqb-false y x other in inr (apart, sym (set_other nodes x y new apart) ∙ found)
 
-node_holds : (v : Variant) (w w' : World) (x : ℕ) (old new : Node) (k k' : Kept) → Holds v w k → slice_get w.nodes x ≡ Some old → w'.nodes ≡ set w.nodes x new → w'.links ≡ w.links → w'.ever ≡ w.ever → Later (around v w) (around v w') → SameElsewhere x k k'
+node_holds : (v : Variant) (w w' : World) (x : ℕ) (old new : Node) (k k' : KeptLists) → Holds v w k → slice_get w.nodes x ≡ Some old → w'.nodes ≡ set w.nodes x new → w'.links ≡ w.links → w'.ever ≡ w.ever → Later (around v w) (around v w') → SameElsewhere x k k'
     → NodeHolds (around v w') x new (k'.entries x) (k'.queues x) → AllByRecursion (CopyHolds (around v w') k'.flying) w'.flying → Holds v w' k'
 node_holds v w w' x old new k k' holds is nodes links ever later same mine flying = record {
   nodes = λ y n found. at y n (node_at w.nodes x old new is y n (y == x) refl (subst (λ ns. slice_get ns y ≡ Some n) nodes found));
@@ -148,7 +148,7 @@ node_holds v w w' x old new k k' holds is nodes links ever later same mine flyin
         (subst (λ ls. NodeHolds (around v w') y n (k.entries y) ls) (sym (same.queues y p.0))
         (node_stays (around v w) (around v w') later y n (k.entries y) (k.queues y) (holds.nodes y n p.1)))
 
-done_holds : (v : Variant) (w : World) (x : ℕ) (n : Node) (did : Reaction) (queue : List Item) (list : Message → List ℕ) (k k' : Kept) → IsInvariant w → Holds v w k → slice_get w.nodes x ≡ Some n → IsOk (table w) n.core did → Traces (around v w) n.core did → SameElsewhere x k k'
+done_holds : (v : Variant) (w : World) (x : ℕ) (n : Node) (did : Reaction) (queue : List Item) (list : Message → List ℕ) (k k' : KeptLists) → IsInvariant w → Holds v w k → slice_get w.nodes x ≡ Some n → IsOk (table w) n.core did → Traces (around v w) n.core did → SameElsewhere x k k'
     → EntriesHold (around v w) x (did.core).rt (k'.entries x) → ItemsHold (around v w) x queue (k'.queues x) → CastHolds (around v w) did.core list (did.effect).cast → k'.flying ≡ with_copies k.flying list (copies w x (did.effect).cast)
     → Holds v (done_by w x did queue) k'
 unfolding done_by
@@ -185,7 +185,7 @@ elsewhere f x v y apart = rw (differ y x apart) refl
 
 -- ---- turns
 
-abbrev Keeps : Variant → World → Event → Kept → Outcome → Type 0
+abbrev Keeps : Variant → World → Event → KeptLists → Outcome → Type 0
 Keeps v w e k o = Holds v (after w o) (walked_by w e o k)
 
 first_holds : (a : Around) (x : ℕ) (item : Item) (items : List Item) (walks : List (List ℕ)) → ItemsHold a x (item ∷ items) walks → ItemHolds a x item (first_list walks) × ItemsHold a x items (drop 1 walks)
@@ -200,7 +200,7 @@ record Known (v : Variant) (w : World) (n : Node) (item : Item) : Type 0 where
   ok : IsOk (table w) n.core (turn n.core (range w (n.core).ip) item)
   traces : Traces (around v w) n.core (turn n.core (range w (n.core).ip) item)
 
-known : (v : Variant) (w : World) (core : Core) (item : Item) (items : List Item) (k : Kept) → IsInvariant w → Holds v w k → slice_get w.nodes core.ip ≡ Some (record { core = core; queue = item ∷ items }) → ItemHolds (around v w) core.ip item (first_list (k.queues core.ip))
+known : (v : Variant) (w : World) (core : Core) (item : Item) (items : List Item) (k : KeptLists) → IsInvariant w → Holds v w k → slice_get w.nodes core.ip ≡ Some (record { core = core; queue = item ∷ items }) → ItemHolds (around v w) core.ip item (first_list (k.queues core.ip))
     → Known v w (record { core = core; queue = item ∷ items }) item
 known v w core item items k inv holds is t =
     let n : Node = record { core = core; queue = item ∷ items } in
@@ -215,11 +215,11 @@ known v w core item items k inv holds is t =
       traces = turn_traces (table w) (around v w) core (range w core.ip) item (fit (table w) n good) here good.queue.0 (item_has (around v w) core.ip item (first_list (k.queues core.ip)) t);
     }
 
-abbrev ItemKeeps : Variant → World → Core → Item → List Item → Kept → Type 0
+abbrev ItemKeeps : Variant → World → Core → Item → List Item → KeptLists → Type 0
 ItemKeeps v w core item items k =
     let did = turn core (range w core.ip) item in Holds v (done_by w core.ip did items) (after_item core.ip (did.core).rt item (copies w core.ip (did.effect).cast) k)
 
-new_keeps : (v : Variant) (w : World) (core : Core) (b : Body) (d : ℕ) (items : List Item) (k : Kept) → IsInvariant w → Holds v w k → slice_get w.nodes core.ip ≡ Some (record { core = core; queue = New b d ∷ items }) → ItemKeeps v w core (New b d) items k
+new_keeps : (v : Variant) (w : World) (core : Core) (b : Body) (d : ℕ) (items : List Item) (k : KeptLists) → IsInvariant w → Holds v w k → slice_get w.nodes core.ip ≡ Some (record { core = core; queue = New b d ∷ items }) → ItemKeeps v w core (New b d) items k
 new_keeps v w core b d items k inv holds is =
     let x = core.ip in
     let item : Item = New b d in
@@ -228,14 +228,14 @@ new_keeps v w core b d items k inv holds is =
     let p : NodeHolds (around v w) x n (k.entries x) (k.queues x) = holds.nodes x n is in
     let both = first_holds (around v w) x item items (k.queues x) p.queue in
     let has : Known v w n item = known v w core item items k inv holds is both.0 in
-    let k' : Kept = after_item x (did.core).rt item (copies w x (did.effect).cast) k in
+    let k' : KeptLists = after_item x (did.core).rt item (copies w x (did.effect).cast) k in
     done_holds v w x n did items (own_list x) k k' inv holds is has.ok has.traces
     (record { entries = λ y apart. refl; queues = λ y apart. elsewhere k.queues x (drop 1 (k.queues x)) y apart })
     (stays_hold (around v w) x core.rt (did.core).rt (k.entries x) (new_stays core b d) p.entries)
     (subst (ItemsHold (around v w) x items) (sym (here_changed k.queues x (drop 1 (k.queues x)))) both.1)
     (new_holds (around v w) (own_list x) core b d) refl
 
-heard_keeps : (v : Variant) (w : World) (core : Core) (y : ℕ) (m : Message) (items : List Item) (k : Kept) → IsInvariant w → Holds v w k → slice_get w.nodes core.ip ≡ Some (record { core = core; queue = Heard y m ∷ items }) → ItemKeeps v w core (Heard y m) items k
+heard_keeps : (v : Variant) (w : World) (core : Core) (y : ℕ) (m : Message) (items : List Item) (k : KeptLists) → IsInvariant w → Holds v w k → slice_get w.nodes core.ip ≡ Some (record { core = core; queue = Heard y m ∷ items }) → ItemKeeps v w core (Heard y m) items k
 heard_keeps v w core y m items k inv holds is =
     let x = core.ip in
     let a : Around = around v w in
@@ -247,7 +247,7 @@ heard_keeps v w core y m items k inv holds is =
     let has : Known v w n item = known v w core item items k inv holds is both.0 in
     let l : List ℕ = first_list (k.queues x) in
     let walks : ℕ → List ℕ = entries_after x y m l (did.core).rt (k.entries x) in
-    let k' : Kept = after_item x (did.core).rt item (copies w x (did.effect).cast) k in
+    let k' : KeptLists = after_item x (did.core).rt item (copies w x (did.effect).cast) k in
     let all : EntriesHold a x (did.core).rt walks =
     entries_hold a x y (table w y) m l core.rt (did.core).rt (k.entries x) (parcel_stays core (range w x) y m) (message_stems core (range w x) y m) p.entries
     (λ d j g one at. has.ok.leads.grows.keeps d j g one (has.here.tables d j g one at)) has.good.queue.0 both.0.0 both.0.1 in
@@ -257,11 +257,11 @@ heard_keeps v w core y m items k inv holds is =
     (subst (ItemsHold a x items) (sym (here_changed k.queues x (drop 1 (k.queues x)))) both.1)
     (message_tells (table w) a y m l (k.entries x) core (range w x) (fit (table w) n has.good) has.here has.good.queue.0 both.0.0 both.0.1 all) refl
 
-item_keeps : (v : Variant) (w : World) (core : Core) (item : Item) (items : List Item) (k : Kept) → IsInvariant w → Holds v w k → slice_get w.nodes core.ip ≡ Some (record { core = core; queue = item ∷ items }) → ItemKeeps v w core item items k
+item_keeps : (v : Variant) (w : World) (core : Core) (item : Item) (items : List Item) (k : KeptLists) → IsInvariant w → Holds v w k → slice_get w.nodes core.ip ≡ Some (record { core = core; queue = item ∷ items }) → ItemKeeps v w core item items k
 item_keeps v w core (New b d) items k inv holds is = new_keeps v w core b d items k inv holds is
 item_keeps v w core (Heard y m) items k inv holds is = heard_keeps v w core y m items k inv holds is
 
-unless_keeps : (v : Variant) (w : World) (e : Event) (k : Kept) (x : ℕ) (o : Option Counter) (outcome : Outcome) → Holds v w k → Keeps v w e k outcome → Keeps v w e k (unless_full x o outcome)
+unless_keeps : (v : Variant) (w : World) (e : Event) (k : KeptLists) (x : ℕ) (o : Option Counter) (outcome : Outcome) → Holds v w k → Keeps v w e k outcome → Keeps v w e k (unless_full x o outcome)
 unless_keeps v w e k x (Some f) outcome holds kept = holds
 unless_keeps v w e k x None outcome holds kept = kept
 
@@ -269,7 +269,7 @@ mine_after : (w : World) (x : ℕ) (n : Node) (did : Reaction) (queue : List Ite
 unfolding done_by
 mine_after w x n did queue is = ap rt_in (set_same w.nodes x (record { core = did.core; queue = queue }) n is)
 
-turn_at : (v : Variant) (w : World) (core : Core) (queue : List Item) (k : Kept) → IsInvariant w → Holds v w k → slice_get w.nodes core.ip ≡ Some (record { core = core; queue = queue }) → Keeps v w (Turn core.ip) k (turn_of w core.ip core queue)
+turn_at : (v : Variant) (w : World) (core : Core) (queue : List Item) (k : KeptLists) → IsInvariant w → Holds v w k → slice_get w.nodes core.ip ≡ Some (record { core = core; queue = queue }) → Keeps v w (Turn core.ip) k (turn_of w core.ip core queue)
 turn_at v w core [] k inv holds is = holds
 turn_at v w core (item ∷ items) k inv holds is =
     let x = core.ip in
@@ -282,13 +282,13 @@ turn_at v w core (item ∷ items) k inv holds is =
     (subst (λ rt. Holds v w' (after_item x rt item new k)) (sym (mine_after w x n did items is)) (item_keeps v w core item items k inv holds is)))
 
 -- at the node of that index
-turn_keeps : (v : Variant) (w : World) (x : ℕ) (n : Node) (k : Kept) → IsInvariant w → Holds v w k → slice_get w.nodes x ≡ Some n → Keeps v w (Turn x) k (turn_of w x n.core n.queue)
+turn_keeps : (v : Variant) (w : World) (x : ℕ) (n : Node) (k : KeptLists) → IsInvariant w → Holds v w k → slice_get w.nodes x ≡ Some n → Keeps v w (Turn x) k (turn_of w x n.core n.queue)
 turn_keeps v w x n k inv holds is =
     subst (λ x. slice_get w.nodes x ≡ Some n → Keeps v w (Turn x) k (turn_of w x n.core n.queue)) (inv.loop_safe.named x n is) (turn_at v w n.core n.queue k inv holds) is
 
 -- ---- of a node's own accord
 
-own_keeps : (v : Variant) (w : World) (n : Node) (did : Reaction) (k : Kept) → IsInvariant w → Holds v w k → slice_get w.nodes (n.core).ip ≡ Some n → IsOk (table w) n.core did → Traces (around v w) n.core did
+own_keeps : (v : Variant) (w : World) (n : Node) (did : Reaction) (k : KeptLists) → IsInvariant w → Holds v w k → slice_get w.nodes (n.core).ip ≡ Some n → IsOk (table w) n.core did → Traces (around v w) n.core did
     → EntriesHold (around v w) (n.core).ip (did.core).rt (k.entries (n.core).ip) → CastHolds (around v w) did.core (own_list (n.core).ip) (did.effect).cast
     → Holds v (done_by w (n.core).ip did n.queue) (record k { flying = with_copies k.flying (own_list (n.core).ip) (copies w (n.core).ip (did.effect).cast) })
 own_keeps v w n did k inv holds is ok traces entries cast =
@@ -296,7 +296,7 @@ own_keeps v w n did k inv holds is ok traces entries cast =
     done_holds v w x n did n.queue (own_list x) k (record k { flying = with_copies k.flying (own_list x) (copies w x (did.effect).cast) }) inv holds is ok traces
     (record { entries = λ y apart. refl; queues = λ y apart. refl }) entries (holds.nodes x n is).queue cast refl
 
-send_at : (v : Variant) (w : World) (n : Node) (d : ℕ) (k : Kept) → IsInvariant w → Holds v w k → slice_get w.nodes (n.core).ip ≡ Some n → Keeps v w (Send (n.core).ip d) k (send_of w (n.core).ip d n.core n.queue)
+send_at : (v : Variant) (w : World) (n : Node) (d : ℕ) (k : KeptLists) → IsInvariant w → Holds v w k → slice_get w.nodes (n.core).ip ≡ Some n → Keeps v w (Send (n.core).ip d) k (send_of w (n.core).ip d n.core n.queue)
 send_at v w n d k inv holds is =
     let x = (n.core).ip in
     let good : IsLoopSafeNode (table w) n = inv.loop_safe.nodes x n is in
@@ -314,7 +314,7 @@ asked_entries : (a : Around) (x : ℕ) (core : Core) (d : ℕ) (walks : ℕ → 
 unfolding ask
 asked_entries a x core d walks all = all
 
-ask_at : (v : Variant) (w : World) (n : Node) (d : ℕ) (k : Kept) → IsInvariant w → Holds v w k → slice_get w.nodes (n.core).ip ≡ Some n → Keeps v w (Ask (n.core).ip d) k (ask_of w (n.core).ip d n.core n.queue)
+ask_at : (v : Variant) (w : World) (n : Node) (d : ℕ) (k : KeptLists) → IsInvariant w → Holds v w k → slice_get w.nodes (n.core).ip ≡ Some n → Keeps v w (Ask (n.core).ip d) k (ask_of w (n.core).ip d n.core n.queue)
 ask_at v w n d k inv holds is =
     let x = (n.core).ip in
     let good : IsLoopSafeNode (table w) n = inv.loop_safe.nodes x n is in
@@ -328,18 +328,18 @@ ask_at v w n d k inv holds is =
     (ask_holds (around v w) n.core d here)))
     (λ _. holds)
 
-send_keeps : (v : Variant) (w : World) (x d : ℕ) (n : Node) (k : Kept) → IsInvariant w → Holds v w k → slice_get w.nodes x ≡ Some n → Keeps v w (Send x d) k (send_of w x d n.core n.queue)
+send_keeps : (v : Variant) (w : World) (x d : ℕ) (n : Node) (k : KeptLists) → IsInvariant w → Holds v w k → slice_get w.nodes x ≡ Some n → Keeps v w (Send x d) k (send_of w x d n.core n.queue)
 send_keeps v w x d n k inv holds is =
     subst (λ x. slice_get w.nodes x ≡ Some n → Keeps v w (Send x d) k (send_of w x d n.core n.queue)) (inv.loop_safe.named x n is) (send_at v w n d k inv holds) is
 
-ask_keeps : (v : Variant) (w : World) (x d : ℕ) (n : Node) (k : Kept) → IsInvariant w → Holds v w k → slice_get w.nodes x ≡ Some n → Keeps v w (Ask x d) k (ask_of w x d n.core n.queue)
+ask_keeps : (v : Variant) (w : World) (x d : ℕ) (n : Node) (k : KeptLists) → IsInvariant w → Holds v w k → slice_get w.nodes x ≡ Some n → Keeps v w (Ask x d) k (ask_of w x d n.core n.queue)
 ask_keeps v w x d n k inv holds is =
     subst (λ x. slice_get w.nodes x ≡ Some n → Keeps v w (Ask x d) k (ask_of w x d n.core n.queue)) (inv.loop_safe.named x n is) (ask_at v w n d k inv holds) is
 
 -- ---- what leaves tables alone
 
 -- the same nodes, and walks of what flies
-same_holds : (v : Variant) (w w' : World) (k k' : Kept) → w'.nodes ≡ w.nodes → ((p : ℕ × ℕ) → sets.contains w.ever p ≡ true → sets.contains w'.ever p ≡ true) → Holds v w k → k'.entries ≡ k.entries → k'.queues ≡ k.queues
+same_holds : (v : Variant) (w w' : World) (k k' : KeptLists) → w'.nodes ≡ w.nodes → ((p : ℕ × ℕ) → sets.contains w.ever p ≡ true → sets.contains w'.ever p ≡ true) → Holds v w k → k'.entries ≡ k.entries → k'.queues ≡ k.queues
     → (Later (around v w) (around v w') → AllByRecursion (CopyHolds (around v w') k'.flying) w'.flying) → ((p : ℕ × ℕ) → sets.contains w'.links p ≡ true → sets.contains w'.ever p ≡ true) → Holds v w' k'
 same_holds v w w' k k' nodes ever holds entries queues flying stood =
     let later : Later (around v w) (around v w') = record {
@@ -358,7 +358,7 @@ same_holds v w w' k k' nodes ever holds entries queues flying stood =
 same_flying : (v : Variant) (w : World) (b : Around) (flying : ℕ → List ℕ) → Later (around v w) b → AllByRecursion (CopyHolds (around v w) flying) w.flying → AllByRecursion (CopyHolds b flying) w.flying
 same_flying v w b flying later all = each_map (CopyHolds (around v w) flying) (CopyHolds b flying) (λ c t. copy_stays (around v w) b later flying flying c refl t) w.flying all
 
-item_joins : (v : Variant) (w : World) (x : ℕ) (o : Option Node) (item : Item) (walk : List ℕ) (k : Kept) → Holds v w k → slice_get w.nodes x ≡ o → ItemHolds (around v w) x item walk → Holds v (with_item w x o item) (kept.with_item k x walk)
+item_joins : (v : Variant) (w : World) (x : ℕ) (o : Option Node) (item : Item) (walk : List ℕ) (k : KeptLists) → Holds v w k → slice_get w.nodes x ≡ o → ItemHolds (around v w) x item walk → Holds v (with_item w x o item) (kept.with_item k x walk)
 item_joins v w x None item walk k holds is t = record {
   nodes = λ y n found. subst (λ ls. NodeHolds (around v w) y n (k.entries y) ls) (sym (elsewhere k.queues x (k.queues x ++ walk ∷ []) y (λ e. none y n e found))) (holds.nodes y n found);
   flying = holds.flying;
@@ -370,7 +370,7 @@ item_joins v w x None item walk k holds is t = record {
 item_joins v w x (Some n) item walk k holds is t =
     let new : Node = record n { queue = n.queue ++ item ∷ [] } in
     let w' : World = with_item w x (Some n) item in
-    let k' : Kept = kept.with_item k x walk in
+    let k' : KeptLists = kept.with_item k x walk in
     let p : NodeHolds (around v w) x n (k.entries x) (k.queues x) = holds.nodes x n is in
     let later : Later (around v w) (around v w') = later_of v w w' x n new is refl refl (record { keeps = λ d n h one at. at }) (λ key e. e) in
     node_holds v w w' x n new k k' holds is refl refl refl later
@@ -383,21 +383,21 @@ item_joins v w x (Some n) item walk k holds is t =
     })
     (same_flying v w (around v w') k.flying later holds.flying)
 
-push_holds : (v : Variant) (w : World) (x : ℕ) (item : Item) (walk : List ℕ) (k : Kept) → Holds v w k → ItemHolds (around v w) x item walk → Holds v (push w x item) (kept.with_item k x walk)
+push_holds : (v : Variant) (w : World) (x : ℕ) (item : Item) (walk : List ℕ) (k : KeptLists) → Holds v w k → ItemHolds (around v w) x item walk → Holds v (push w x item) (kept.with_item k x walk)
 unfolding push
 push_holds v w x item walk k holds t = item_joins v w x (slice_get w.nodes x) item walk k holds refl t
 
 -- ---- outcomes
 
-node_case : (v : Variant) (w : World) (e : Event) (k : Kept) (f : Core → List Item → Outcome) (o : Option Node) → Holds v w k → ((n : Node) → o ≡ Some n → Keeps v w e k (f n.core n.queue)) → Keeps v w e k (at_node o f)
+node_case : (v : Variant) (w : World) (e : Event) (k : KeptLists) (f : Core → List Item → Outcome) (o : Option Node) → Holds v w k → ((n : Node) → o ≡ Some n → Keeps v w e k (f n.core n.queue)) → Keeps v w e k (at_node o f)
 node_case v w e k f None holds some = holds
 node_case v w e k f (Some n) holds some = some n refl
 
-copy_case : (v : Variant) (w : World) (e : Event) (k : Kept) (f : Copy → Outcome) (o : Option Copy) → Holds v w k → ((c : Copy) → o ≡ Some c → Keeps v w e k (f c)) → Keeps v w e k (at_copy o f)
+copy_case : (v : Variant) (w : World) (e : Event) (k : KeptLists) (f : Copy → Outcome) (o : Option Copy) → Holds v w k → ((c : Copy) → o ≡ Some c → Keeps v w e k (f c)) → Keeps v w e k (at_copy o f)
 copy_case v w e k f None holds some = holds
 copy_case v w e k f (Some c) holds some = some c refl
 
-lighter : (v : Variant) (w : World) (id : ℕ) (k : Kept) → Holds v w k → Holds v (without_copy w id) k
+lighter : (v : Variant) (w : World) (id : ℕ) (k : KeptLists) → Holds v w k → Holds v (without_copy w id) k
 lighter v w id k holds = same_holds v w (without_copy w id) k k refl (λ p e. e) holds refl refl (λ _. without_honest (CopyHolds (around v w) k.flying) w.flying id holds.flying) holds.stood
 
 -- the copy of an id is of that id
@@ -409,7 +409,7 @@ found_id (d ∷ ds) id c is = at (d.id == id) refl is (found_id ds id c)
     at true same is later = ap (λ (e : Copy). e.id) (sym (same_Some d c is)) ∙ eqb-true d.id id same
     at false other is later = later is
 
-step_by : (v : Variant) (w : World) (e : Event) (k : Kept) → IsInvariant w → Holds v w k → Keeps v w e k (step w e)
+step_by : (v : Variant) (w : World) (e : Event) (k : KeptLists) → IsInvariant w → Holds v w k → Keeps v w e k (step w e)
 unfolding step
 step_by v w (Give x d b) k inv holds = node_case v w (Give x d b) k (λ core queue. Next (push w x (New b d)) Changed) (slice_get w.nodes x) holds (λ n is. push_holds v w x (New b d) [] k holds tt)
 step_by v w (Turn x) k inv holds = node_case v w (Turn x) k (turn_of w x) (slice_get w.nodes x) holds (λ n is. turn_keeps v w x n k inv holds is)
@@ -445,6 +445,6 @@ step_by v w (Double id) k inv holds =
     ))
     holds.stood)
 
-pub step_holds : (v : Variant) (w : World) (e : Event) (k : Kept) → IsInvariant w → Holds v w k → Holds v (after w (step w e)) (walked w e k)
-unfolding walked
+pub step_holds : (v : Variant) (w : World) (e : Event) (k : KeptLists) → IsInvariant w → Holds v w k → Holds v (after w (step w e)) (lists_after w e k)
+unfolding lists_after
 step_holds v w e k inv holds = step_by v w e k inv holds

@@ -19,7 +19,7 @@ use Rattle.mesh_model.specs.Walks.{last, table}
 use Rattle.mesh_model.specs.Worlds.{Node, World, are_linked, openings, pair, start}
 use Rattle.mesh_walks.proofs.Listed.{has_walks}
 use Rattle.mesh_walks.specs.Held.{Holds, IsEntryWalk, NodeHolds}
-use Rattle.mesh_walks.specs.Kept.{Kept, nothing_kept}
+use Rattle.mesh_walks.specs.Kept.{KeptLists, nothing_kept}
 
 -- ---- the opening world
 
@@ -61,7 +61,7 @@ turned_honest v w x d n h y walk t =
     let honest : IsHonestWalk w.ever x d h (onto (y ∷ t.others) (x ∷ [])) = turn_round (around v w) d n x h y t.others x [] t.backed t.linked tt refl (tt, tt) (t.absent, tt) (let l = t.long in omega arith) in
     subst (λ list. IsHonestWalk w.ever x d h (reverse list)) (sym t.is) honest
 
-pub held_is_honest : (v : Variant) (w : World) (k : Kept) (x d : ℕ) (e : Entry) → Holds v w k → maps.get (table w x) d ≡ Some e → e.flag ≡ Val → IsHonestWalk w.ever x d e.hops (reverse (k.entries x d)) × (e.hops ≤ length w.nodes)
+pub held_is_honest : (v : Variant) (w : World) (k : KeptLists) (x d : ℕ) (e : Entry) → Holds v w k → maps.get (table w x) d ≡ Some e → e.flag ≡ Val → IsHonestWalk w.ever x d e.hops (reverse (k.entries x d)) × (e.hops ≤ length w.nodes)
 held_is_honest v w k x d e holds there valid =
     let found = node_in w x d e (slice_get w.nodes x) refl there in
     let t : IsEntryWalk (around v w) x d e.dsn e.hops e.next (k.entries x d) = (holds.nodes x found.0 found.1).entries d e found.2 valid in

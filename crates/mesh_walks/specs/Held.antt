@@ -12,7 +12,7 @@ use Rattle.aodv_model.specs.Cores.{Message, Pkt, Rreq, Rrep, Rerr, Item, New, He
 use Rattle.aodv_model.specs.Handlers.{key_of}
 use Rattle.mesh_model.specs.Worlds.{World, Node, Copy, are_linked}
 use Rattle.mesh_model.specs.Trails.{Around, IsAbsent, IsBackedWalk, around, front}
-use Rattle.mesh_walks.specs.Kept.{Kept}
+use Rattle.mesh_walks.specs.Kept.{KeptLists}
 
 -- the list is the walk of x's entry for d with number n, h hops and next hop y: x, and then the
 -- walk of y, on which x doesn't stand before the end
@@ -82,7 +82,7 @@ pub record NodeHolds (a : Around) (x : ℕ) (n : Node) (walks : ℕ
 
 -- all nodes are of the variant; the lists are the walks of each valid entry, and of each request
 -- and reply in a queue or in flight; and a link that stands has ever stood
-pub record Holds (variant : Variant) (w : World) (k : Kept) : Type 0 where
+pub record Holds (variant : Variant) (w : World) (k : KeptLists) : Type 0 where
   pub nodes : (x : ℕ) (n : Node) → slice_get w.nodes x ≡ Some n
       → NodeHolds (around variant w) x n (k.entries x) (k.queues x)
   pub flying : AllByRecursion (CopyHolds (around variant w) k.flying) w.flying

@@ -13,13 +13,13 @@ use Rattle.mesh_model.specs.Worlds.{World, Node, Copy, Event, Give, Turn, Send, 
 -- the lists of each node's entry for each destination; of the items of each node's queue; and of
 -- the copy of each id. The list of what is no request or reply, of an entry that isn't valid, and
 -- of a copy that doesn't fly says nothing
-pub record Kept : Type 0 where
+pub record KeptLists : Type 0 where
   pub entries : ℕ → ℕ → List ℕ
   pub queues : ℕ → List (List ℕ)
   pub flying : ℕ → List ℕ
 
 -- none yet
-abbrev pub nothing_kept : Kept
+abbrev pub nothing_kept : KeptLists
 nothing_kept = record { entries = λ x d. []; queues = λ x. []; flying = λ id. [] }
 
 -- ---- changes
@@ -100,7 +100,7 @@ with_copies flying list (c ∷ cs) = from_id_on flying c.id (list c.message)
 -- ---- events
 
 -- x has taken this item from the front of its queue, made these copies, and its table is now that
-abbrev pub after_item : ℕ → Table → Item → List Copy → Kept → Kept
+abbrev pub after_item : ℕ → Table → Item → List Copy → KeptLists → KeptLists
 after_item x now (New b d) copies k =
     record k {
       queues = changed_at k.queues x (drop 1 (k.queues x));
@@ -117,11 +117,11 @@ after_item x now (Heard y m) copies k =
     }
 
 -- the front of the queue
-abbrev pub after_front : ℕ → Table → List Item → List Copy → Kept → Kept
+abbrev pub after_front : ℕ → Table → List Item → List Copy → KeptLists → KeptLists
 after_front x now [] copies k = k
 after_front x now (item ∷ items) copies k = after_item x now item copies k
 
-abbrev pub after_turn : ℕ → Table → Option Node → List Copy → Kept → Kept
+abbrev pub after_turn : ℕ → Table → Option Node → List Copy → KeptLists → KeptLists
 after_turn x now None copies k = k
 after_turn x now (Some n) copies k = after_front x now n.queue copies k
 
@@ -132,22 +132,22 @@ copies_in (Sent effect copies) = copies
 copies_in others = []
 
 -- the list joins those of x's queue
-abbrev pub with_item : Kept → ℕ → List ℕ → Kept
+abbrev pub with_item : KeptLists → ℕ → List ℕ → KeptLists
 with_item k x l = record k { queues = changed_at k.queues x (k.queues x ++ l ∷ []) }
 
 -- a copy is heard with its list
-abbrev pub after_delivery : ℕ → Happening → Kept → Kept
+abbrev pub after_delivery : ℕ → Happening → KeptLists → KeptLists
 after_delivery id (CopyHeard from to) k = with_item k to (k.flying id)
 after_delivery id others k = k
 
 -- a doubled copy has the list of its first copy
-abbrev pub after_doubling : ℕ → Happening → Kept → Kept
+abbrev pub after_doubling : ℕ → Happening → KeptLists → KeptLists
 after_doubling id (CopyDoubled new to parcel) k =
     record k { flying = from_id_on k.flying new (k.flying id) }
 after_doubling id others k = k
 
 -- the lists after an event that led from the world w to the world w'
-abbrev pub after_event : World → World → Event → Happening → Kept → Kept
+abbrev pub after_event : World → World → Event → Happening → KeptLists → KeptLists
 after_event w w' (Give x d b) h k = with_item k x []
 after_event w w' (Turn x) h k = after_turn x (table w' x) (slice_get w.nodes x) (copies_in h) k
 after_event w w' (Send x d) h k =
@@ -161,11 +161,11 @@ after_event w w' (Lose id) h k = k
 after_event w w' (Double id) h k = after_doubling id h k
 
 -- an event that is idle or refused changes none
-abbrev pub walked_by : World → Event → Outcome → Kept → Kept
+abbrev pub walked_by : World → Event → Outcome → KeptLists → KeptLists
 walked_by w e Idle k = k
 walked_by w e (worlds.Full x f) k = k
 walked_by w e (Next w' h) k = after_event w w' e h k
 
 -- the lists after an event
-unfoldable pub walked : World → Event → Kept → Kept
-walked w e k = walked_by w e (step w e) k
+unfoldable pub lists_after : World → Event → KeptLists → KeptLists
+lists_after w e k = walked_by w e (step w e) k

@@ -8,7 +8,7 @@ use Rattle.mesh_model.specs.Worlds.{World, Event, step, after, start}
 use Rattle.mesh_model.specs.Walks.{table}
 use Rattle.mesh_model.specs.Invariants.{IsInvariant}
 use Rattle.mesh_model.specs.Trails.{IsHonestWalk}
-use Rattle.mesh_walks.specs.Kept.{Kept, nothing_kept, walked}
+use Rattle.mesh_walks.specs.Kept.{KeptLists, nothing_kept, lists_after}
 use Rattle.mesh_walks.specs.Held.{Holds}
 
 -- the opening world has nothing of which a walk is to be kept
@@ -19,13 +19,13 @@ StartHolds =
 -- every event, in every variant, keeps these very lists walks
 abbrev pub StepHolds : Type 0
 StepHolds =
-    (variant : Variant) (w : World) (e : Event) (k : Kept) → IsInvariant w → Holds variant w k
-    → Holds variant (after w (step w e)) (walked w e k)
+    (variant : Variant) (w : World) (e : Event) (k : KeptLists) → IsInvariant w → Holds variant w k
+    → Holds variant (after w (step w e)) (lists_after w e k)
 
 -- the list of a valid entry, turned round, is an honest walk with the entry's hops; these are at
 -- most the number of nodes
 abbrev pub HeldIsHonest : Type 0
 HeldIsHonest =
-    (variant : Variant) (w : World) (k : Kept) (x d : ℕ) (e : Entry) → Holds variant w k
+    (variant : Variant) (w : World) (k : KeptLists) (x d : ℕ) (e : Entry) → Holds variant w k
     → maps.get (table w x) d ≡ Some e → e.flag ≡ Val
     → IsHonestWalk w.ever x d e.hops (reverse (k.entries x d)) × (e.hops ≤ length w.nodes)

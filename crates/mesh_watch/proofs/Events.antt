@@ -17,7 +17,7 @@ use Rattle.mesh_grammar.specs.declared.fault.BadWhy.{BadWhy}
 use Rattle.mesh_grammar.specs.declared.fault.BadWhy.TheVariants.{Fault}
 use Rattle.mesh_grammar.specs.Written.{line}
 use Rattle.mesh_text.specs.Lines.{words_of}
-use Rattle.mesh_text.specs.Schedule.{Moment, Does, ShowsNode, counted, started, stepped, outcome_at, world_of}
+use Rattle.mesh_text.specs.Schedule.{Moment, Does, ShowsNode, with_line_read, with_world, next_moment, outcome_at, world_of}
 use Rattle.mesh_text.specs.Effects.{outcome_lines}
 use Rattle.mesh_text.specs.Tables.{node_text_in}
 use Rattle.mesh_text.specs.Auto.{Ended, before, done_then}
@@ -41,7 +41,7 @@ pub block_is : (m n : Moment) (e : Event) (d : Done) (packet : List ℕ) (change
     → changed ≡ changed_by e (outcome_in m.mesh (node_of e) (world_of n) d packet) → block_below m e ≡ shown_if n changed
 unfolding block_below
 block_is m n e d packet changed a is =
-    ap (λ o. shown_if (stepped m e) (changed_by e o)) a.outcome ∙ ap (shown_if (stepped m e)) (sym is) ∙ ap (λ k. shown_if k changed) (sym a.moment)
+    ap (λ o. shown_if (next_moment m e) (changed_by e o)) a.outcome ∙ ap (shown_if (next_moment m e)) (sym is) ∙ ap (λ k. shown_if k changed) (sym a.moment)
 
 -- a node's line, and its state below it
 pub shown_front : (m : Moment) (x : ℕ) (mesh : Nodes) (a b : Option (List ℕ)) → mesh ≡ m.mesh → AppendsPrefix a b (line (words_of mesh (ShowsNode x))) → AppendsPrefix a b (shown_node m x)
@@ -57,7 +57,7 @@ shown_whole m x mesh state a b c r same is p q =
 -- ---- an event by itself
 
 by_done : (m : Moment) (e : Event) (mesh : Nodes) (x : ℕ) (w : World) (d : Done) (packet : List ℕ)
-    → outcome_by m e (outcome_in mesh x w d packet) ≡ On (outcome_lines m.mesh e (outcome_in mesh x w d packet)) (stepped m e)
+    → outcome_by m e (outcome_in mesh x w d packet) ≡ On (outcome_lines m.mesh e (outcome_in mesh x w d packet)) (next_moment m e)
 by_done m e mesh x w done.Idle packet = refl
 by_done m e mesh x w done.Changed packet = refl
 by_done m e mesh x w (done.Taken took effect air) packet = refl
@@ -100,7 +100,7 @@ watched_alone m n e d packet mesh a b is same p by =
 answer_came : (m n : Moment) (e : Event) (d : Done) (packet : List ℕ) → IsAnswer m e d n packet → watched_event m e ≡ On (watched_lines m e) n
 answer_came m n e d packet a =
     ap (with_block (block_below m e))
-    (ap (outcome_by m e) a.outcome ∙ by_done m e m.mesh (node_of e) (world_of n) d packet ∙ ap (λ o. On (outcome_lines m.mesh e o) (stepped m e)) (sym a.outcome))
+    (ap (outcome_by m e) a.outcome ∙ by_done m e m.mesh (node_of e) (world_of n) d packet ∙ ap (λ o. On (outcome_lines m.mesh e o) (next_moment m e)) (sym a.outcome))
     ∙ ap (On (watched_lines m e)) (sym a.moment)
 
 pub answer_goes : (m n : Moment) (e : Event) (d : Done) (packet : List ℕ) (a b : Option (List ℕ)) → IsAnswer m e d n packet → Appends a b (watched_lines m e) → IsLineDone false (watched_event m e) n a b
@@ -119,14 +119,14 @@ refusal_stops m n e node field a ev is same =
 -- ---- a line with one event
 
 abbrev count : LineOutcome → LineOutcome
-count (On text n) = On text (counted n)
+count (On text n) = On text (with_line_read n)
 count (Refused why) = Refused why
 count (Full text n e field) = Full text n e field
 
 came-counted : (s : Moment) (e : Event) (o : Outcome) (block : List ℕ) → outcome_by_events (done_then s e o (λ n. before block (Ended [] n))) ≡ count (with_block block (outcome_by s e o))
-came-counted s e Idle block = ap (λ l. On (outcome_lines s.mesh e Idle ++ l) (counted (stepped s e))) (append-nil block)
+came-counted s e Idle block = ap (λ l. On (outcome_lines s.mesh e Idle ++ l) (with_line_read (next_moment s e))) (append-nil block)
 came-counted s e (worlds.Full x field) block = refl
-came-counted s e (Next w h) block = ap (λ l. On (outcome_lines s.mesh e (Next w h) ++ l) (counted (stepped s e))) (append-nil block)
+came-counted s e (Next w h) block = ap (λ l. On (outcome_lines s.mesh e (Next w h) ++ l) (with_line_read (next_moment s e))) (append-nil block)
 
 text-counted : (k : LineOutcome) → text_in (count k) ≡ text_in k
 text-counted (On text n) = refl
@@ -134,9 +134,9 @@ text-counted (Refused why) = refl
 text-counted (Full text n e field) = refl
 
 -- the line of an event, by what came of the event once the run had started
-came-does : (m s : Moment) (e : Event) → s ≡ started m → watched_line m (Does e) ≡ count (watched_event s e)
+came-does : (m s : Moment) (e : Event) → s ≡ with_world m → watched_line m (Does e) ≡ count (watched_event s e)
 unfolding watched_line watched_events
-came-does m s e same = subst (λ k. watched_line m (Does e) ≡ count (watched_event k e)) (sym same) (came-counted (started m) e (outcome_at (started m) e) (block_below (started m) e))
+came-does m s e same = subst (λ k. watched_line m (Does e) ≡ count (watched_event k e)) (sym same) (came-counted (with_world m) e (outcome_at (with_world m) e) (block_below (with_world m) e))
 
 -- an event is no line that isn't allowed
 never_bad : (m : Moment) (e : Event) (o : Outcome) (block : List ℕ) (why : BadWhy) → with_block block (outcome_by m e o) ≡ Refused why → ⊥
@@ -144,10 +144,10 @@ never_bad m e Idle block why h = cc
 never_bad m e (worlds.Full x field) block why h = cc
 never_bad m e (Next w i) block why h = cc
 
-pub step_goes : (m s n k : Moment) (e : Event) (a b : Option (List ℕ)) → s ≡ started m → IsLineDone false (watched_event s e) n a b → k ≡ counted n → IsLineDone false (watched_line m (Does e)) k a b
+pub step_goes : (m s n k : Moment) (e : Event) (a b : Option (List ℕ)) → s ≡ with_world m → IsLineDone false (watched_event s e) n a b → k ≡ with_line_read n → IsLineDone false (watched_line m (Does e)) k a b
 step_goes m s n k e a b same g next = record { text = g.text; is = came-does m s e same ∙ ap count g.is ∙ ap (λ q. On g.text q) (sym next); grown = g.grown }
 
-pub step_stops : (m s n : Moment) (e : Event) (a b : Option (List ℕ)) (t : Stop) → s ≡ started m → IsLineStopped false s (watched_event s e) n a b t → IsLineStopped false m (watched_line m (Does e)) n a b t
+pub step_stops : (m s n : Moment) (e : Event) (a b : Option (List ℕ)) (t : Stop) → s ≡ with_world m → IsLineStopped false s (watched_event s e) n a b t → IsLineStopped false m (watched_line m (Does e)) n a b t
 step_stops m s n e a b (stop.BadLine f) same g = absurd (never_bad s e (outcome_at s e) (block_below s e) (Fault f) g.0)
 step_stops m s n e a b (stop.Full event node field) same g = record {
   text = g.text;

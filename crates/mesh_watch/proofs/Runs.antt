@@ -3,7 +3,7 @@ use Rattle.std.proofs.Common.{◌≡◌, ◌∙◌, ◌⊎◌, ℕ, List, Option
 use Rattle.mesh_base.specs.declared.events.Variant.{Variant}
 use Rattle.mesh_io.specs.Cause.{Rose}
 use Rattle.mesh_text.specs.Schedule.{Moment, opening, world_of}
-use Rattle.mesh_text.specs.Text.{Written, Finished, text_of_input}
+use Rattle.mesh_text.specs.Text.{RunText, Finished, text_of_input}
 use Rattle.mesh_text.specs.Runs.{world_after}
 use Rattle.mesh_text.proofs.RunLaws.{run_of_events, runs_are_loop_free}
 use Rattle.mesh_run.specs.declared.status.Status.{Status}
@@ -14,7 +14,7 @@ use Rattle.mesh_watch.proofs.SameRun.{same_run, watched_run_is_the_run}
 
 watched_run : (variant : Variant) (schedule : List ℕ) → IsWatchedRun variant schedule
 watched_run variant schedule = record {
-  worlds = subst (λ (m : Moment). world_of m ≡ world_after variant schedule m.sums.events) (sym (ap (λ (w : Written). w.after) (watched_run_is_the_run variant schedule))) (run_of_events variant schedule);
+  worlds = subst (λ (m : Moment). world_of m ≡ world_after variant schedule m.sums.events) (sym (ap (λ (w : RunText). w.after) (watched_run_is_the_run variant schedule))) (run_of_events variant schedule);
   loop_free = λ k d. runs_are_loop_free variant schedule k d;
 }
 
@@ -40,7 +40,7 @@ completes : (variant : Variant) (bytes : List ℕ) (after a b : Option (List ℕ
     → (text_of_input variant bytes).verdict ≡ Finished → (s ≡ status.Done) ⊎ (s ≡ status.NoMemory)
 unfolding text_of_input
 completes variant bytes after a b s read write t finished =
-    by_output (opening variant) bytes after a b s read write t (ap (λ (w : Written). w.verdict) (same_run (opening variant) bytes) ∙ finished)
+    by_output (opening variant) bytes after a b s read write t (ap (λ (w : RunText). w.verdict) (same_run (opening variant) bytes) ∙ finished)
 
 by_left : (variant : Variant) (left after a b : Option (List ℕ)) (s : Status) (rb ra wb wa : ℕ) → IfSome left (λ bytes. IsRun variant bytes after a b s) → (s ≡ status.ReadFault → Rose rb ra) → (s ≡ status.WriteFault → Rose wb wa)
     → IfSome left (λ bytes. (text_of_input variant bytes).verdict ≡ Finished → (Rose rb ra → ⊥) → (Rose wb wa → ⊥) → (s ≡ status.Done) ⊎ (s ≡ status.NoMemory))

@@ -5,11 +5,11 @@ use Rattle.mesh_model.specs.Worlds.{Event, Outcome, Idle, Next}
 use Rattle.mesh_grammar.specs.declared.fault.LineFault.{LineFault}
 use Rattle.mesh_grammar.specs.Lines.{Piece, Whole, Long, Beyond, pieces_of_input}
 use Rattle.mesh_grammar.specs.Written.{line}
-use Rattle.mesh_text.specs.Schedule.{Moment, Accepted, Nothing, NewNode, Does, Chooses, ShowsNode, ShowsRoute, ShowsFlight, line_of, started, stepped, outcome_at, opening}
+use Rattle.mesh_text.specs.Schedule.{Moment, AcceptedLine, Nothing, NewNode, Does, Chooses, ShowsNode, ShowsRoute, ShowsFlight, line_of, with_world, next_moment, outcome_at, opening}
 use Rattle.mesh_text.specs.Lines.{words_of}
 use Rattle.mesh_text.specs.Accounts.{IsBalanced}
 use Rattle.mesh_text.specs.Auto.{EventsOutcome, Ended, Full as EventsFull, before, done_then, outcome_of_events, events_chosen}
-use Rattle.mesh_text.specs.Text.{LineOutcome, On, Refused, Full, outcome_by_events, outcome_of_auto, outcome_of_line, outcome_of_read, outcome_of_piece, Written, goes_on, text_from, text_on, text_of_input}
+use Rattle.mesh_text.specs.Text.{LineOutcome, On, Refused, Full, outcome_by_events, outcome_of_auto, outcome_of_line, outcome_of_read, outcome_of_piece, RunText, goes_on, text_from, text_on, text_of_input}
 use Rattle.mesh_text.proofs.Moments.{data_are_accounted_for as run_is_accounted_for}
 use Rattle.mesh_watch.specs.Blocks.{block_below}
 use Rattle.mesh_watch.specs.Text.{watched_events, watched_line, watched_read, watched_piece, watched_from, watched_on, watched_of_input}
@@ -30,17 +30,17 @@ bare_before : (text : List ℕ) (r : EventsOutcome) → bare_events (before text
 bare_before text (Ended others n) = refl
 bare_before text (EventsFull others n e field) = refl
 
-bare_done : (m : Moment) (e : Event) (o : Outcome) (f g : Moment → EventsOutcome) → bare_events (f (stepped m e)) ≡ bare_events (g (stepped m e)) → bare_events (done_then m e o f) ≡ bare_events (done_then m e o g)
-bare_done m e Idle f g same = bare_before _ (f (stepped m e)) ∙ same ∙ sym (bare_before _ (g (stepped m e)))
+bare_done : (m : Moment) (e : Event) (o : Outcome) (f g : Moment → EventsOutcome) → bare_events (f (next_moment m e)) ≡ bare_events (g (next_moment m e)) → bare_events (done_then m e o f) ≡ bare_events (done_then m e o g)
+bare_done m e Idle f g same = bare_before _ (f (next_moment m e)) ∙ same ∙ sym (bare_before _ (g (next_moment m e)))
 bare_done m e (worlds.Full x field) f g same = refl
-bare_done m e (Next w happening) f g same = bare_before _ (f (stepped m e)) ∙ same ∙ sym (bare_before _ (g (stepped m e)))
+bare_done m e (Next w happening) f g same = bare_before _ (f (next_moment m e)) ∙ same ∙ sym (bare_before _ (g (next_moment m e)))
 
 pub bare_watched : (m : Moment) (es : List Event) → bare_events (watched_events m es) ≡ bare_events (outcome_of_events m es)
 unfolding watched_events outcome_of_events
 bare_watched m [] = refl
 bare_watched m (e ∷ es) =
     bare_done m e (outcome_at m e) (λ n. before (block_below m e) (watched_events n es)) (λ n. outcome_of_events n es)
-    (bare_before (block_below m e) (watched_events (stepped m e) es) ∙ bare_watched (stepped m e) es)
+    (bare_before (block_below m e) (watched_events (next_moment m e) es) ∙ bare_watched (next_moment m e) es)
 
 bare_of_events : (r : EventsOutcome) → bare (outcome_by_events r) ≡ bare (outcome_by_events (bare_events r))
 bare_of_events (Ended text n) = refl
@@ -50,23 +50,23 @@ bare_of_auto : (text : List ℕ) (did : ℕ) (r : EventsOutcome) → bare (outco
 bare_of_auto text did (Ended others n) = refl
 bare_of_auto text did (EventsFull others n e field) = refl
 
-pub bare_line : (m : Moment) (a : Accepted) → bare (watched_line m a) ≡ bare (outcome_of_line m a)
+pub bare_line : (m : Moment) (a : AcceptedLine) → bare (watched_line m a) ≡ bare (outcome_of_line m a)
 unfolding watched_line outcome_of_line
 bare_line m Nothing = refl
 bare_line m (NewNode address first) = refl
 bare_line m (Does e) =
-    bare_of_events (watched_events (started m) (e ∷ [])) ∙ ap (λ r. bare (outcome_by_events r)) (bare_watched (started m) (e ∷ []))
-    ∙ sym (bare_of_events (outcome_of_events (started m) (e ∷ [])))
+    bare_of_events (watched_events (with_world m) (e ∷ [])) ∙ ap (λ r. bare (outcome_by_events r)) (bare_watched (with_world m) (e ∷ []))
+    ∙ sym (bare_of_events (outcome_of_events (with_world m) (e ∷ [])))
 bare_line m (Chooses count) =
     let text : List ℕ = line (words_of m.mesh (Chooses count)) in
-    let chosen : List Event = events_chosen count (started m) in
-    bare_of_auto text (length chosen) (watched_events (started m) chosen) ∙ ap (λ r. bare (outcome_of_auto [] (length chosen) r)) (bare_watched (started m) chosen)
-    ∙ sym (bare_of_auto text (length chosen) (outcome_of_events (started m) chosen))
+    let chosen : List Event = events_chosen count (with_world m) in
+    bare_of_auto text (length chosen) (watched_events (with_world m) chosen) ∙ ap (λ r. bare (outcome_of_auto [] (length chosen) r)) (bare_watched (with_world m) chosen)
+    ∙ sym (bare_of_auto text (length chosen) (outcome_of_events (with_world m) chosen))
 bare_line m (ShowsNode x) = refl
 bare_line m (ShowsRoute x d) = refl
 bare_line m ShowsFlight = refl
 
-bare_read : (m : Moment) (r : Result Accepted LineFault) → bare (watched_read m r) ≡ bare (outcome_of_read m r)
+bare_read : (m : Moment) (r : Result AcceptedLine LineFault) → bare (watched_read m r) ≡ bare (outcome_of_read m r)
 bare_read m (Ok a) = bare_line m a
 bare_read m (Err fault) = refl
 
@@ -78,15 +78,15 @@ bare_piece m Beyond = refl
 
 -- ---- a run, but for its lines
 
-abbrev bare_run : Written → Written
+abbrev bare_run : RunText → RunText
 bare_run w = record w { lines = [] }
 
-bare_goes : (m : Moment) (k : LineOutcome) (f : Moment → Written) → bare_run (goes_on m k f) ≡ bare_run (goes_on m (bare k) f)
+bare_goes : (m : Moment) (k : LineOutcome) (f : Moment → RunText) → bare_run (goes_on m k f) ≡ bare_run (goes_on m (bare k) f)
 bare_goes m (On text n) f = refl
 bare_goes m (Refused why) f = refl
 bare_goes m (Full text n e field) f = refl
 
-bare_both : (m : Moment) (k : LineOutcome) (f g : Moment → Written) → ((n : Moment) → bare_run (f n) ≡ bare_run (g n)) → bare_run (goes_on m k f) ≡ bare_run (goes_on m k g)
+bare_both : (m : Moment) (k : LineOutcome) (f g : Moment → RunText) → ((n : Moment) → bare_run (f n) ≡ bare_run (g n)) → bare_run (goes_on m k f) ≡ bare_run (goes_on m k g)
 bare_both m (On text n) f g same = same n
 bare_both m (Refused why) f g same = refl
 bare_both m (Full text n e field) f g same = refl
@@ -101,11 +101,11 @@ bare_from m (piece ∷ pieces) =
 
 pub same_run : (m : Moment) (input : List ℕ) → watched_on m input ≡ record (text_on m input) { lines = (watched_on m input).lines }
 unfolding text_on
-same_run m input = ap (λ (w : Written). record w { lines = (watched_from m (pieces_of_input input)).lines }) (bare_from m (pieces_of_input input))
+same_run m input = ap (λ (w : RunText). record w { lines = (watched_from m (pieces_of_input input)).lines }) (bare_from m (pieces_of_input input))
 
 pub watched_run_is_the_run : WatchedRunIsTheRun
 unfolding watched_of_input text_of_input
 watched_run_is_the_run variant input = same_run (opening variant) input
 
 pub data_are_accounted_for : DataAreAccountedFor
-data_are_accounted_for variant input = subst IsBalanced (sym (ap (λ (w : Written). w.after) (watched_run_is_the_run variant input))) (run_is_accounted_for variant input)
+data_are_accounted_for variant input = subst IsBalanced (sym (ap (λ (w : RunText). w.after) (watched_run_is_the_run variant input))) (run_is_accounted_for variant input)

@@ -7,9 +7,9 @@ use Rattle.mesh_model.specs.Worlds.{Event}
 use Rattle.mesh_grammar.specs.declared.fault.LineFault.{LineFault}
 use Rattle.mesh_grammar.specs.declared.fault.BadWhy.TheVariants.{Fault, TooLong, TooMuch}
 use Rattle.mesh_grammar.specs.Lines.{Piece, Whole, Long, Beyond}
-use Rattle.mesh_text.specs.Schedule.{Moment, Accepted, Nothing, NewNode, ShowsNode, ShowsRoute, ShowsFlight, line_of}
+use Rattle.mesh_text.specs.Schedule.{Moment, AcceptedLine, Nothing, NewNode, ShowsNode, ShowsRoute, ShowsFlight, line_of}
 use Rattle.mesh_text.specs.Text as texts
-use Rattle.mesh_text.specs.Text.{Written, LineOutcome, text_in, On, Refused, goes_on, lines_before, whole, finished_run, refused_run, overfull_run}
+use Rattle.mesh_text.specs.Text.{RunText, LineOutcome, text_in, On, Refused, goes_on, lines_before, whole, finished_run, refused_run, overfull_run}
 use Rattle.mesh_run.specs.declared.say.Say.TheVariants.{All}
 use Rattle.mesh_run.specs.declared.status.Status.{Status}
 use Rattle.mesh_run.specs.Outputs.{IsOutput}
@@ -40,7 +40,7 @@ came-whole : (m : Moment) (bytes : List ℕ) → watched_piece m (Whole bytes) �
 unfolding watched_piece
 came-whole m bytes = refl
 
-pub came-accepted : (m : Moment) (bytes : List ℕ) (a : Accepted) → line_of m.mesh (is_some m.world) bytes ≡ Ok a → watched_piece m (Whole bytes) ≡ watched_line m a
+pub came-accepted : (m : Moment) (bytes : List ℕ) (a : AcceptedLine) → line_of m.mesh (is_some m.world) bytes ≡ Ok a → watched_piece m (Whole bytes) ≡ watched_line m a
 came-accepted m bytes a e = came-whole m bytes ∙ ap (watched_read m) e
 
 pub came-refused : (m : Moment) (bytes : List ℕ) (f : LineFault) → line_of m.mesh (is_some m.world) bytes ≡ Err f → watched_piece m (Whole bytes) ≡ Refused (Fault f)
@@ -59,7 +59,7 @@ came-beyond m = refl
 -- a line that is done in part
 pub front_from_part : (m : Moment) (piece : Piece) (a b : Option (List ℕ)) (pieces : List Piece) → AppendsPrefix a b (text_in (watched_piece m piece)) → AppendsPrefix a b (whole (watched_from m (piece ∷ pieces)))
 front_from_part m piece a b pieces f =
-    subst (λ (w : Written). AppendsPrefix a b (whole w)) (sym (came_to m piece pieces (watched_piece m piece) refl)) (front_of_came All m (watched_piece m piece) (λ n. watched_from n pieces) a b f)
+    subst (λ (w : RunText). AppendsPrefix a b (whole w)) (sym (came_to m piece pieces (watched_piece m piece) refl)) (front_of_came All m (watched_piece m piece) (λ n. watched_from n pieces) a b f)
 
 -- a line that is too long, and one that goes past the input's limit
 pub told_long : (m : Moment) (pieces : List Piece) (a b : Option (List ℕ)) (s : Status) → IsOutput a b (refused_run m TooLong) s → IsOutput a b (watched_from m (Long ∷ pieces)) s
@@ -82,7 +82,7 @@ told_full m n piece e node field pieces a b c s g t =
 
 -- ---- what was told of a line, by what is read of it
 
-pub run_accepted : (m n : Moment) (bytes : List ℕ) (l : Accepted) (a b : Option (List ℕ)) (r : Result (Unit {0}) Stop) → line_of m.mesh (is_some m.world) bytes ≡ Ok l
+pub run_accepted : (m n : Moment) (bytes : List ℕ) (l : AcceptedLine) (a b : Option (List ℕ)) (r : Result (Unit {0}) Stop) → line_of m.mesh (is_some m.world) bytes ≡ Ok l
     → IsLineRun false m (watched_line m l) n a b r → IsLineRun false m (watched_piece m (Whole bytes)) n a b r
 run_accepted m n bytes l a b r e g = subst (λ k. IsLineRun false m k n a b r) (sym (came-accepted m bytes l e)) g
 
@@ -93,7 +93,7 @@ pub run_other : (m n : Moment) (bytes : List ℕ) (l : Line) (a b : Option (List
 unfolding texts.outcome_of_piece watched_line
 run_other m n bytes l a b r is step many g = by_line l is step many
   where
-    by : (k : Accepted) → line_of m.mesh (is_some m.world) bytes ≡ Ok k → watched_line m k ≡ texts.outcome_of_line m k → IsLineRun false m (watched_piece m (Whole bytes)) n a b r
+    by : (k : AcceptedLine) → line_of m.mesh (is_some m.world) bytes ≡ Ok k → watched_line m k ≡ texts.outcome_of_line m k → IsLineRun false m (watched_piece m (Whole bytes)) n a b r
     by k e same = run_accepted m n bytes k a b r e (subst (λ x. IsLineRun false m x n a b r) (sym same) (subst (λ x. IsLineRun false m (texts.outcome_of_read m x) n a b r) e g))
 
     by_line : (l : Line) → line_of m.mesh (is_some m.world) bytes ≡ Ok (accepted_of l) → ((e : _) → l ≢ line.Step e) → ((count : _) → l ≢ line.Auto count) → IsLineRun false m (watched_piece m (Whole bytes)) n a b r

@@ -6,11 +6,11 @@ use Rattle.mesh_model.specs.Worlds.{Event, Outcome, Idle, Next}
 use Rattle.mesh_grammar.specs.declared.fault.LineFault.{LineFault}
 use Rattle.mesh_grammar.specs.Lines.{Piece, Whole, Long, Beyond, pieces_of_input}
 use Rattle.mesh_grammar.specs.Written.{line}
-use Rattle.mesh_text.specs.Schedule.{Moment, Accepted, Nothing, NewNode, Does, Chooses, ShowsNode, ShowsRoute, ShowsFlight, line_of, started, stepped, outcome_at, opening}
+use Rattle.mesh_text.specs.Schedule.{Moment, AcceptedLine, Nothing, NewNode, Does, Chooses, ShowsNode, ShowsRoute, ShowsFlight, line_of, with_world, next_moment, outcome_at, opening}
 use Rattle.mesh_text.specs.Lines.{words_of}
 use Rattle.mesh_text.specs.Effects.{outcome_lines}
 use Rattle.mesh_text.specs.Auto.{EventsOutcome, Ended, Full as EventsFull, before, done_then, outcome_of_events, events_chosen, auto_end}
-use Rattle.mesh_text.specs.Text.{LineOutcome, On, Refused, Full, text_in, outcome_by_events, outcome_of_auto, outcome_of_line, outcome_of_read, outcome_of_piece, Written, goes_on, text_from, text_on, text_of_input}
+use Rattle.mesh_text.specs.Text.{LineOutcome, On, Refused, Full, text_in, outcome_by_events, outcome_of_auto, outcome_of_line, outcome_of_read, outcome_of_piece, RunText, goes_on, text_from, text_on, text_of_input}
 use Rattle.mesh_run.specs.Runs.{text_of}
 use Rattle.mesh_run.proofs.Chosen.{text-before}
 use Rattle.mesh_watch.specs.Blocks.{changed_by, shown_node, shown_if, block_below}
@@ -38,7 +38,7 @@ with_shown m (Some x) = record { parts = parts.Block m x ∷ []; run = refl; wat
 
 with_below : (m : Moment) (e : Event) → IsWithBlocks [] (block_below m e)
 unfolding block_below
-with_below m e = with_shown (stepped m e) (changed_by e (outcome_at m e))
+with_below m e = with_shown (next_moment m e) (changed_by e (outcome_at m e))
 
 -- ---- events one after another
 
@@ -50,9 +50,9 @@ with_blocked : (m : Moment) (e : Event) (r q : EventsOutcome) → IsWithBlocks (
 with_blocked m e r q p = subst (λ l. IsWithBlocks (text_of r) l) (sym (text-before (block_below m e) q)) (with_both [] (block_below m e) (text_of r) (text_of q) (with_below m e) p)
 
 with_done : (m : Moment) (e : Event) (o : Outcome) (f h : Moment → EventsOutcome) → ((n : Moment) → IsWithBlocks (text_of (f n)) (text_of (h n))) → IsWithBlocks (text_of (done_then m e o f)) (text_of (done_then m e o h))
-with_done m e Idle f h p = with_before (outcome_lines m.mesh e Idle) (f (stepped m e)) (h (stepped m e)) (p (stepped m e))
+with_done m e Idle f h p = with_before (outcome_lines m.mesh e Idle) (f (next_moment m e)) (h (next_moment m e)) (p (next_moment m e))
 with_done m e (worlds.Full x field) f h p = with_text []
-with_done m e (Next w i) f h p = with_before (outcome_lines m.mesh e (Next w i)) (f (stepped m e)) (h (stepped m e)) (p (stepped m e))
+with_done m e (Next w i) f h p = with_before (outcome_lines m.mesh e (Next w i)) (f (next_moment m e)) (h (next_moment m e)) (p (next_moment m e))
 
 with_events : (m : Moment) (es : List Event) → IsWithBlocks (text_of (outcome_of_events m es)) (text_of (watched_events m es))
 unfolding outcome_of_events watched_events
@@ -76,20 +76,20 @@ with_auto w did (EventsFull s n e f) (EventsFull t n' e' f') same p = with_both 
 with_auto w did (Ended s n) (EventsFull t n' e' f') same p = absurd (let P : ⊥ = cc in P)
 with_auto w did (EventsFull s n e f) (Ended t n') same p = absurd (let P : ⊥ = cc in P)
 
-with_line : (m : Moment) (a : Accepted) → IsWithBlocks (text_in (outcome_of_line m a)) (text_in (watched_line m a))
+with_line : (m : Moment) (a : AcceptedLine) → IsWithBlocks (text_in (outcome_of_line m a)) (text_in (watched_line m a))
 unfolding watched_line outcome_of_line
 with_line m Nothing = with_text []
 with_line m (NewNode address first) = with_text _
-with_line m (Does e) = with_by_events (outcome_of_events (started m) (e ∷ [])) (watched_events (started m) (e ∷ [])) (with_events (started m) (e ∷ []))
+with_line m (Does e) = with_by_events (outcome_of_events (with_world m) (e ∷ [])) (watched_events (with_world m) (e ∷ [])) (with_events (with_world m) (e ∷ []))
 with_line m (Chooses count) =
-    let chosen : List Event = events_chosen count (started m) in
-    with_auto (line (words_of m.mesh (Chooses count))) (length chosen) (outcome_of_events (started m) chosen) (watched_events (started m) chosen) (bare_watched (started m) chosen)
-    (with_events (started m) chosen)
+    let chosen : List Event = events_chosen count (with_world m) in
+    with_auto (line (words_of m.mesh (Chooses count))) (length chosen) (outcome_of_events (with_world m) chosen) (watched_events (with_world m) chosen) (bare_watched (with_world m) chosen)
+    (with_events (with_world m) chosen)
 with_line m (ShowsNode x) = with_text _
 with_line m (ShowsRoute x d) = with_text _
 with_line m ShowsFlight = with_text _
 
-with_read : (m : Moment) (r : Result Accepted LineFault) → IsWithBlocks (text_in (outcome_of_read m r)) (text_in (watched_read m r))
+with_read : (m : Moment) (r : Result AcceptedLine LineFault) → IsWithBlocks (text_in (outcome_of_read m r)) (text_in (watched_read m r))
 with_read m (Ok a) = with_line m a
 with_read m (Err fault) = with_text []
 
@@ -101,7 +101,7 @@ with_piece m Beyond = with_text []
 
 -- ---- all lines
 
-with_goes : (m : Moment) (k l : LineOutcome) (f h : Moment → Written) → bare l ≡ bare k → IsWithBlocks (text_in k) (text_in l) → ((n : Moment) → IsWithBlocks (f n).lines (h n).lines) → IsWithBlocks (goes_on m k f).lines (goes_on m l h).lines
+with_goes : (m : Moment) (k l : LineOutcome) (f h : Moment → RunText) → bare l ≡ bare k → IsWithBlocks (text_in k) (text_in l) → ((n : Moment) → IsWithBlocks (f n).lines (h n).lines) → IsWithBlocks (goes_on m k f).lines (goes_on m l h).lines
 with_goes m (On s n) (On t n') f h same p rest =
     let next : n' ≡ n = cc in
     with_both s t (f n).lines (h n').lines p (subst (λ x. IsWithBlocks (f n).lines (h x).lines) (sym next) (rest n))

@@ -1,7 +1,7 @@
 -- The node that an event has changed, and the block that shows it below the event.
 use Rattle.std.specs.Prelude.{ℕ, List, [], Option, Some, None}
 use Rattle.mesh_model.specs.Worlds.{Event, Give, Turn, Send, Ask, Deliver, Happening, CopyHeard, Outcome, Next}
-use Rattle.mesh_text.specs.Schedule.{Moment, ShowsNode, outcome_at, stepped}
+use Rattle.mesh_text.specs.Schedule.{Moment, ShowsNode, outcome_at, next_moment}
 use Rattle.mesh_text.specs.Text.{outcome_of_line, text_in}
 
 -- the node whose state a happening has changed. A link that comes or goes, and a copy that is lost
@@ -30,4 +30,4 @@ shown_if m (Some x) = shown_node m x
 -- the block below an event that comes at moment m: the node that the event has changed, at the
 -- moment after it
 unfoldable pub block_below : Moment → Event → List ℕ
-block_below m e = shown_if (stepped m e) (changed_by e (outcome_at m e))
+block_below m e = shown_if (next_moment m e) (changed_by e (outcome_at m e))

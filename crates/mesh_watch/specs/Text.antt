@@ -7,10 +7,10 @@ use Rattle.mesh_grammar.specs.declared.fault.LineFault.{LineFault}
 use Rattle.mesh_grammar.specs.declared.fault.BadWhy.TheVariants.{Fault}
 use Rattle.mesh_grammar.specs.Lines.{Piece, Whole, pieces_of_input}
 use Rattle.mesh_grammar.specs.Written.{line}
-use Rattle.mesh_text.specs.Schedule.{Moment, Accepted, Does, Chooses, line_of, started, outcome_at, opening}
+use Rattle.mesh_text.specs.Schedule.{Moment, AcceptedLine, Does, Chooses, line_of, with_world, outcome_at, opening}
 use Rattle.mesh_text.specs.Lines.{words_of}
 use Rattle.mesh_text.specs.Auto.{EventsOutcome, Ended, before, done_then, events_chosen}
-use Rattle.mesh_text.specs.Text.{LineOutcome, Refused, outcome_by_events, outcome_of_auto, outcome_of_line, outcome_of_piece, Written, goes_on, finished_run}
+use Rattle.mesh_text.specs.Text.{LineOutcome, Refused, outcome_by_events, outcome_of_auto, outcome_of_line, outcome_of_piece, RunText, goes_on, finished_run}
 use Rattle.mesh_watch.specs.Blocks.{block_below}
 
 -- these events from a moment on, each with its block
@@ -22,15 +22,15 @@ watched_events m (e ∷ events) =
 -- ---- one line
 
 -- an allowed line at a moment: its events have their blocks
-unfoldable pub watched_line : Moment → Accepted → LineOutcome
-watched_line m (Does e) = outcome_by_events (watched_events (started m) (e ∷ []))
+unfoldable pub watched_line : Moment → AcceptedLine → LineOutcome
+watched_line m (Does e) = outcome_by_events (watched_events (with_world m) (e ∷ []))
 watched_line m (Chooses count) =
-    let chosen = events_chosen count (started m) in
+    let chosen = events_chosen count (with_world m) in
     outcome_of_auto (line (words_of m.mesh (Chooses count))) (length chosen)
-    (watched_events (started m) chosen)
+    (watched_events (with_world m) chosen)
 watched_line m others = outcome_of_line m others
 
-abbrev pub watched_read : Moment → Result Accepted LineFault → LineOutcome
+abbrev pub watched_read : Moment → Result AcceptedLine LineFault → LineOutcome
 watched_read m (Ok a) = watched_line m a
 watched_read m (Err fault) = Refused (Fault fault)
 
@@ -42,15 +42,15 @@ watched_piece m others = outcome_of_piece m others
 -- ---- all lines
 
 -- the watched run of these lines from a moment on
-unfoldable pub watched_from : Moment → List Piece → Written
+unfoldable pub watched_from : Moment → List Piece → RunText
 watched_from m [] = finished_run m
 watched_from m (piece ∷ pieces) =
     goes_on m (watched_piece m piece) (λ n. watched_from n pieces)
 
 -- what a watched run writes for an input from a moment on, and what it comes to
-abbrev pub watched_on : Moment → List ℕ → Written
+abbrev pub watched_on : Moment → List ℕ → RunText
 watched_on m input = watched_from m (pieces_of_input input)
 
 -- the same from the opening on
-unfoldable pub watched_of_input : Variant → List ℕ → Written
+unfoldable pub watched_of_input : Variant → List ℕ → RunText
 watched_of_input variant input = watched_on (opening variant) input

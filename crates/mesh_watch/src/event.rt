@@ -7,7 +7,7 @@ ghost use Rattle.mesh_model.specs.Worlds.{World, Deliver};
 ghost use Rattle.mesh_model.specs.Places.{IsEvent};
 ghost use Rattle.mesh_meaning.specs.Answers.{outcome_in, IsDoneInMesh};
 ghost use Rattle.mesh_meaning.specs.Events.{event_of};
-ghost use Rattle.mesh_text.specs.Schedule.{Moment, stepped, outcome_at, Does};
+ghost use Rattle.mesh_text.specs.Schedule.{Moment, next_moment, outcome_at, Does};
 ghost use Rattle.mesh_text.specs.Effects.{outcome_lines};
 ghost use Rattle.mesh_script.specs.Seen.{IsPrintable};
 ghost use Rattle.mesh_moment.specs.Moments.{IsAnswer};
@@ -121,7 +121,7 @@ pub fn do_event<'a, O: Sink>(
     requires echo { IfSome bytes (λ b. IsLineOf at.old.point.mesh (Does (event_of event)) b.now) }
     ensures comes { IsLineRun false at.old.point (watched_event at.old.point (event_of event.entry))
         at.new.point (O.held out.old) (O.held out.new) result }
-    ensures moment { OnOk result (at.new.point ≡ stepped at.old.point (event_of event.entry)) }
+    ensures moment { OnOk result (at.new.point ≡ next_moment at.old.point (event_of event.entry)) }
     ensures cause { HasStopCause (O.faults out.old) (O.faults out.new) result }
 {
     let answer = at.point.step(alloc, &event, &mut at.packet);

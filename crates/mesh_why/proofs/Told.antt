@@ -6,7 +6,7 @@ use Rattle.mesh_base.specs.declared.events.Variant.TheVariants.{Base}
 use Rattle.mesh_io.specs.Puts.{AppendsPrefix}
 use Rattle.mesh_io.proofs.Writing.{Appends-join, AppendsPrefix-join}
 use Rattle.mesh_text.specs.Schedule.{Moment, opening}
-use Rattle.mesh_text.specs.Text.{Written, Finished, text_on}
+use Rattle.mesh_text.specs.Text.{RunText, Finished, text_on}
 use Rattle.mesh_run.specs.declared.say.Say.TheVariants.{Last}
 use Rattle.mesh_run.specs.declared.status.Status.{Status}
 use Rattle.mesh_run.specs.declared.status.Status.TheVariants as status
@@ -15,10 +15,10 @@ use Rattle.mesh_why.specs.Routes.{IsRoute, route_line}
 use Rattle.mesh_why.specs.Answers.{IsDone, IsCut, IsAnswered}
 
 -- the mesh of the last moment
-line_there : (w : Written) (at : Moment) (mesh : Nodes) (route : Option (List ℕ)) → at ≡ w.after → mesh ≡ at.mesh → w.last ++ route_line (w.after).mesh route ≡ w.last ++ route_line mesh route
+line_there : (w : RunText) (at : Moment) (mesh : Nodes) (route : Option (List ℕ)) → at ≡ w.after → mesh ≡ at.mesh → w.last ++ route_line (w.after).mesh route ≡ w.last ++ route_line mesh route
 line_there w at mesh route e m = ap (λ n. w.last ++ route_line n route) (sym (m ∙ ap (λ x. x.mesh) e))
 
-both : (asked : ℕ × ℕ) (w : Written) (at : Moment) (mesh : Nodes) (a b c : Option (List ℕ)) (route : Option (List ℕ)) → at ≡ w.after → mesh ≡ at.mesh → w.verdict ≡ Finished → Appends a b w.last → IsRoute at asked route
+both : (asked : ℕ × ℕ) (w : RunText) (at : Moment) (mesh : Nodes) (a b c : Option (List ℕ)) (route : Option (List ℕ)) → at ≡ w.after → mesh ≡ at.mesh → w.verdict ≡ Finished → Appends a b w.last → IsRoute at asked route
     → Appends b c (route_line mesh route) → IsDone asked w a c
 both asked w at mesh a b c route e m finished p is q = record {
   finished = finished;
@@ -27,7 +27,7 @@ both asked w at mesh a b c route e m finished p is q = record {
   grown = Appends-join a b c w.last (route_line mesh route) _ (line_there w at mesh route e m) p q;
 }
 
-one : (asked : ℕ × ℕ) (w : Written) (at : Moment) (mesh : Nodes) (a b c : Option (List ℕ)) (route : Option (List ℕ)) → at ≡ w.after → mesh ≡ at.mesh → w.verdict ≡ Finished → Appends a b w.last → IsRoute at asked route
+one : (asked : ℕ × ℕ) (w : RunText) (at : Moment) (mesh : Nodes) (a b c : Option (List ℕ)) (route : Option (List ℕ)) → at ≡ w.after → mesh ≡ at.mesh → w.verdict ≡ Finished → Appends a b w.last → IsRoute at asked route
     → AppendsPrefix b c (route_line mesh route) → IsCut asked w a c
 one asked w at mesh a b c route e m finished p is q = record {
   finished = finished;

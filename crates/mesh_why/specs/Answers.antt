@@ -4,7 +4,7 @@ use Rattle.std.specs.Io.KnownBytes.{Appends}
 use Rattle.mesh_base.specs.declared.events.Variant.TheVariants.{Base}
 use Rattle.mesh_io.specs.Puts.{AppendsPrefix}
 use Rattle.mesh_text.specs.Schedule.{opening}
-use Rattle.mesh_text.specs.Text.{Written, Finished, text_on}
+use Rattle.mesh_text.specs.Text.{RunText, Finished, text_on}
 use Rattle.mesh_run.specs.declared.say.Say.TheVariants.{Last}
 use Rattle.mesh_run.specs.declared.status.Status.{Status}
 use Rattle.mesh_run.specs.declared.status.Status.TheVariants.{Done, Usage, BadLine, Full, ReadFault, WriteFault, NoMemory}
@@ -12,14 +12,14 @@ use Rattle.mesh_run.specs.Outputs.{IsOutputFrom}
 use Rattle.mesh_why.specs.Routes.{IsRoute, route_line}
 
 -- the run was done, and its last line and that of the route were written
-pub record IsDone (asked : ℕ × ℕ) (w : Written) (before now : Option (List ℕ)) : Type 0 where
+pub record IsDone (asked : ℕ × ℕ) (w : RunText) (before now : Option (List ℕ)) : Type 0 where
   pub finished : w.verdict ≡ Finished
   pub route : Option (List ℕ)
   pub is : IsRoute w.after asked route
   pub grown : Appends before now (w.last ++ route_line (w.after).mesh route)
 
 -- the run was done, and a prefix of the two lines was written
-pub record IsCut (asked : ℕ × ℕ) (w : Written) (before now : Option (List ℕ)) : Type 0 where
+pub record IsCut (asked : ℕ × ℕ) (w : RunText) (before now : Option (List ℕ)) : Type 0 where
   pub finished : w.verdict ≡ Finished
   pub route : Option (List ℕ)
   pub is : IsRoute w.after asked route

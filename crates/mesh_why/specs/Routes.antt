@@ -5,7 +5,7 @@ use Rattle.mesh_base.specs.Addresses.{address_of}
 use Rattle.mesh_base.specs.Meshes.{Nodes, index_of}
 use Rattle.mesh_model.specs.Worlds.{World}
 use Rattle.mesh_model.specs.Routes.{next_hop}
-use Rattle.mesh_grammar.specs.Written.{line, labelled}
+use Rattle.mesh_grammar.specs.Written.{line, label_number}
 use Rattle.mesh_text.specs.Lines.{name_of}
 use Rattle.mesh_text.specs.Schedule.{Moment}
 use Rattle.mesh_trail.specs.Walks.{IsRouteWalk}
@@ -41,7 +41,7 @@ names_after mesh walk = flat_map (λ x. 32 ∷ name_of mesh x) walk
 
 -- the hops of a walk and its nodes, from the destination on
 unfoldable pub walk_line : Nodes → List ℕ → List ℕ
-walk_line mesh walk = line (labelled (codes "walk ") (length walk - 1) ++ names_after mesh walk)
+walk_line mesh walk = line (label_number (codes "walk ") (length walk - 1) ++ names_after mesh walk)
 
 abbrev pub route_line : Nodes → Option (List ℕ) → List ℕ
 route_line mesh None = line (codes "none")

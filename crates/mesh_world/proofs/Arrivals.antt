@@ -27,7 +27,7 @@ use Rattle.mesh_meaning.specs.Packets.{IsWritten, IsWrittenItem, IsWrittenCopy, 
 use Rattle.mesh_world.specs.Seen.{node_in}
 use Rattle.mesh_world.specs.Kept.{Ready, IsKept, IsKeptNode, IsReadyFor, world_in}
 use Rattle.mesh_world.specs.declared.steps.StepError.TheVariants as errors
-use Rattle.mesh_world.specs.Noted.{noted, with_turn, has_items}
+use Rattle.mesh_world.specs.Noted.{ready_with, with_turn, has_items}
 use Rattle.mesh_world.proofs.Frames.{Ends, Beside, ends_done, ends_idle, ends_no_memory, beside, later, shown_at, noted_beside, map-set, each_set, each_append, set_again, count_of}
 use Rattle.mesh_world.proofs.ReadySets.{noted_ready, noted_by_turn, some_item}
 use Rattle.mesh_world.proofs.Turns.{stands, kept_node}
@@ -50,7 +50,7 @@ joined n roomy new i core same size is sound = record {
 }
 
 -- it is noted by its turn alone
-pub noted_joined : (mesh : Nodes) (nodes : List NodeSeen) (radio : RadioState) (ready ready' : Ready) (steps x : ℕ) (n new : NodeSeen) (i : items.Item) → IsKept mesh nodes radio ready steps → slice_get nodes x ≡ Some n → Joined n new i → ready' ≡ with_turn ready x → ready' ≡ noted ready x new (length mesh)
+pub noted_joined : (mesh : Nodes) (nodes : List NodeSeen) (radio : RadioState) (ready ready' : Ready) (steps x : ℕ) (n new : NodeSeen) (i : items.Item) → IsKept mesh nodes radio ready steps → slice_get nodes x ≡ Some n → Joined n new i → ready' ≡ with_turn ready x → ready' ≡ ready_with ready x new (length mesh)
 noted_joined mesh nodes radio ready ready' steps x n new i k at j is = is ∙ noted_by_turn mesh nodes ready x n new k.sets at j.core (ap has_items j.items ∙ some_item n.items i)
 
 pub map-push : {A B : Type 0} (f : A → B) (xs : List A) (x : A) → map f (xs ++ x ∷ []) ≡ map f xs ++ f x ∷ []
@@ -67,10 +67,10 @@ pushed mesh nodes radio x n new i at j =
     ∙ (λ k. record w { nodes = (ap (slice_set (map (node_in mesh) nodes) x) node ∙ sym (map-set (node_in mesh) nodes x new)) k })
 
 beside_joined : (mesh : Nodes) (nodes : List NodeSeen) (radio radio' : RadioState) (ready ready' : Ready) (steps x : ℕ) (n new : NodeSeen) (i : items.Item) → IsKept mesh nodes radio ready steps → x < length mesh → slice_get nodes x ≡ Some n → IsWrittenItem mesh i → Joined n new i
-    → AllByRecursion (IsWrittenCopy mesh) radio'.flying → radio'.size ≡ radio.size → radio'.next_copy ≡ radio.next_copy → ready' ≡ noted ready x new (length mesh) → Beside mesh (slice_set nodes x new) radio' ready' (steps + 1)
+    → AllByRecursion (IsWrittenCopy mesh) radio'.flying → radio'.size ≡ radio.size → radio'.next_copy ≡ radio.next_copy → ready' ≡ ready_with ready x new (length mesh) → Beside mesh (slice_set nodes x new) radio' ready' (steps + 1)
 beside_joined mesh nodes radio radio' ready ready' steps x n new i k l at written j flying size next noted_is =
     let had = kept_node mesh nodes radio ready steps x n k at in
-    noted_beside mesh (slice_set nodes x new) radio' ready' (noted ready x new (length mesh)) (steps + 1) noted_is
+    noted_beside mesh (slice_set nodes x new) radio' ready' (ready_with ready x new (length mesh)) (steps + 1) noted_is
     (record {
       each = each_set (IsKeptNode mesh) nodes x new k.each
           (record { items = subst (AllByRecursion (IsWrittenItem mesh)) (sym j.items) (each_append (IsWrittenItem mesh) n.items (i ∷ []) had.items (written, tt)); size = j.size ∙ had.size; sound = j.sound });
@@ -87,7 +87,7 @@ unfolding step
 give_at w x d b n e = ap (λ o. at_node o (λ core queue. Next (push w x (New b d)) Changed)) e
 
 pub give_done : (mesh : Nodes) (nodes : List NodeSeen) (radio : RadioState) (ready ready' : Ready) (steps x dest : ℕ) (body copy : Body) (n new : NodeSeen) (packet : List ℕ)
-    → IsKept mesh nodes radio ready steps → steps < 2 ^ 48 → x < length mesh → dest < length mesh → IsDatum body → copy ≡ body → slice_get nodes x ≡ Some n → Joined n new (item.New dest copy) → ready' ≡ noted ready x new (length mesh)
+    → IsKept mesh nodes radio ready steps → steps < 2 ^ 48 → x < length mesh → dest < length mesh → IsDatum body → copy ≡ body → slice_get nodes x ≡ Some n → Joined n new (item.New dest copy) → ready' ≡ ready_with ready x new (length mesh)
     → Ends (Give x dest body) mesh nodes radio steps (Ok done.Changed) (slice_set nodes x new) radio ready' (steps + 1) packet
 give_done mesh nodes radio ready ready' steps x dest body copy n new packet k few l below datum copied at j' noted_is =
     let w = world_in mesh nodes radio in
@@ -198,7 +198,7 @@ without_flying : (mesh : Nodes) (old new : RadioState) (id : ℕ) → new ≡ wi
 without_flying mesh old new id is all = subst (λ (r : RadioState). AllByRecursion (IsWrittenCopy mesh) r.flying) (sym is) (without_all (IsWrittenCopy mesh) old.flying id all)
 
 deliver_here : (mesh : Nodes) (nodes : List NodeSeen) (radio radio' : RadioState) (ready ready' : Ready) (steps id : ℕ) (f : Flying) (n new : NodeSeen) (packet : List ℕ)
-    → IsKept mesh nodes radio ready steps → steps < 2 ^ 48 → radios.find_copy radio.flying id ≡ Some f → InFlight mesh f → radio' ≡ without_copy radio id → slice_get nodes f.to ≡ Some n → Joined n new (item.Heard f.from f.bytes) → ready' ≡ noted ready f.to new (length mesh)
+    → IsKept mesh nodes radio ready steps → steps < 2 ^ 48 → radios.find_copy radio.flying id ≡ Some f → InFlight mesh f → radio' ≡ without_copy radio id → slice_get nodes f.to ≡ Some n → Joined n new (item.Heard f.from f.bytes) → ready' ≡ ready_with ready f.to new (length mesh)
     → Ends (Deliver id) mesh nodes radio steps (Ok (done.Heard f.from f.to)) (slice_set nodes f.to new) radio' ready' (steps + 1) packet
 deliver_here mesh nodes radio radio' ready ready' steps id f n new packet k few found flies gone at j noted_is =
     let w = world_in mesh nodes radio in
@@ -211,11 +211,11 @@ deliver_here mesh nodes radio radio' ready ready' steps id f n new packet k few 
     (beside_joined mesh nodes radio radio' ready ready' steps f.to n new i k flies.to at flies.written j (without_flying mesh radio radio' id gone k.flying) (ap (λ (r : RadioState). r.size) gone) (ap (λ (r : RadioState). r.next_copy) gone) noted_is)
 
 pub deliver_done : (mesh : Nodes) (nodes : List NodeSeen) (radio radio' : RadioState) (ready ready' : Ready) (steps id to : ℕ) (f : Flying) (n roomy new : NodeSeen) (packet : List ℕ)
-    → IsKept mesh nodes radio ready steps → steps < 2 ^ 48 → Seen mesh radio id to f → radio' ≡ without_copy radio id → slice_get nodes to ≡ Some n → Joined n new (item.Heard f.from f.bytes) → ready' ≡ noted ready to new (length mesh)
+    → IsKept mesh nodes radio ready steps → steps < 2 ^ 48 → Seen mesh radio id to f → radio' ≡ without_copy radio id → slice_get nodes to ≡ Some n → Joined n new (item.Heard f.from f.bytes) → ready' ≡ ready_with ready to new (length mesh)
     → Ends (Deliver id) mesh nodes radio steps (Ok (done.Heard f.from to)) (slice_set (slice_set nodes to roomy) to new) radio' ready' (steps + 1) packet
 deliver_done mesh nodes radio radio' ready ready' steps id to f n roomy new packet k few t gone at j noted_is =
     subst (λ (ns : List NodeSeen). Ends (Deliver id) mesh nodes radio steps (Ok (done.Heard f.from to)) ns radio' ready' (steps + 1) packet) (sym (set_again nodes to roomy new))
-    (subst (λ (y : ℕ). slice_get nodes y ≡ Some n → ready' ≡ noted ready y new (length mesh) → Ends (Deliver id) mesh nodes radio steps (Ok (done.Heard f.from y)) (slice_set nodes y new) radio' ready' (steps + 1) packet) t.receiver
+    (subst (λ (y : ℕ). slice_get nodes y ≡ Some n → ready' ≡ ready_with ready y new (length mesh) → Ends (Deliver id) mesh nodes radio steps (Ok (done.Heard f.from y)) (slice_set nodes y new) radio' ready' (steps + 1) packet) t.receiver
     (λ here are. deliver_here mesh nodes radio radio' ready ready' steps id f n new packet k few t.found t.flies gone here j are) at noted_is)
 
 pub deliver_idle : (mesh : Nodes) (nodes : List NodeSeen) (radio : RadioState) (ready : Ready) (steps id : ℕ) (o : Option Held) (packet : List ℕ) → IsKept mesh nodes radio ready steps → steps < 2 ^ 48 → IsFound o radio id → o ≡ None

@@ -25,7 +25,7 @@ use Rattle.aodv_meaning.specs.Meaning.{meaning, in_mesh}
 use Rattle.aodv_node.specs.Seen.{NodeSeen}
 use Rattle.mesh_radio.specs.Radios.{RadioState}
 use Rattle.mesh_meaning.specs.Packets.{IsWrittenItem, IsWrittenCopy, copy_in}
-use Rattle.mesh_model.specs.Accounts.{total, total_below, counts, in_message, in_item, in_store, in_copy, waiting, queued, in_flight}
+use Rattle.mesh_model.specs.Accounts.{total, total_below, counts, in_message, in_item, in_store, in_copy, waiting, queued_data, in_flight}
 use Rattle.mesh_world.specs.Seen.{node_in}
 use Rattle.mesh_model.specs.Accounts.{any}
 use Rattle.mesh_world.specs.Kept.{world_in}
@@ -190,8 +190,8 @@ module _ (mesh : Nodes) (nodes : List NodeSeen) (radio : RadioState) (are : AreC
   waiting_means = sym (total_map (λ n. n.size ≡ length nodes) (node_in mesh) (λ n. in_store any (length (map (node_in mesh) nodes)) (n.core).ip (n.core).store) waiting_at nodes are.sizes
       (λ n same. store_counts (length (map (node_in mesh) nodes)) n (same ∙ sym (length-map nodes (node_in mesh)))))
 
-  pub queued_means : sum_by (λ n. queued_in n.items) nodes ≡ queued any (world_in mesh nodes radio)
-  unfolding queued world_in
+  pub queued_means : sum_by (λ n. queued_in n.items) nodes ≡ queued_data any (world_in mesh nodes radio)
+  unfolding queued_data world_in
   queued_means = sym (total_map (λ n. AllByRecursion (IsWrittenItem mesh) n.items) (node_in mesh) (λ n. total (in_item any (n.core).ip) n.queue) (λ n. queued_in n.items) nodes are.items
       (λ n all. items_count mesh (n.core).ip n.items all))
 
@@ -268,5 +268,5 @@ module _ (mesh : Nodes) (nodes : List NodeSeen) (radio : RadioState) (are : AreC
   pub tally_waiting : (k waits queues : ℕ) → length nodes ≤ k → IsTallied nodes k waits queues → waits ≡ waiting any (world_in mesh nodes radio)
   tally_waiting k waits queues end was = was.in_stores ∙ (ap (sum_by waiting_at) (take_all k nodes end) ∙ waiting_means mesh nodes radio are)
 
-  pub tally_queued : (k waits queues : ℕ) → length nodes ≤ k → IsTallied nodes k waits queues → queues ≡ queued any (world_in mesh nodes radio)
+  pub tally_queued : (k waits queues : ℕ) → length nodes ≤ k → IsTallied nodes k waits queues → queues ≡ queued_data any (world_in mesh nodes radio)
   tally_queued k waits queues end was = was.in_inboxes ∙ (ap (sum_by (λ n. queued_in n.items)) (take_all k nodes end) ∙ queued_means mesh nodes radio are)

@@ -13,7 +13,7 @@ use Rattle.mesh_model.specs.Worlds as worlds
 use Rattle.mesh_model.specs.Worlds.{World, Event, Outcome, Idle, step, after}
 use Rattle.mesh_model.specs.Places.{IsEvent}
 use Rattle.mesh_model.specs.Invariants.{IsInvariant}
-use Rattle.mesh_model.specs.Accounts.{waiting, queued, in_flight, given, doubled, delivered, dropped}
+use Rattle.mesh_model.specs.Accounts.{waiting, queued_data, in_flight, given_data, doubled_data, delivered_data, dropped_data}
 use Rattle.mesh_model.proofs.Sizes.{same_size}
 use Rattle.mesh_model.proofs.MeshSteps.{step_keeps}
 use Rattle.mesh_model.proofs.AccountSteps.{step_balanced}
@@ -31,17 +31,17 @@ use Rattle.mesh_world.specs.declared.steps.StepError.TheVariants as errors
 
 -- ---- the invariant follows from the one equation of a step
 
-pub sound_after : (w : WorldSeen) (e : Event) (o : Outcome) → IsSoundWorld w → w.steps < 2 ^ 48 → IsEvent (length w.mesh) e → step w.world e ≡ o → given any e o + doubled any w.world e ≤ 1
+pub sound_after : (w : WorldSeen) (e : Event) (o : Outcome) → IsSoundWorld w → w.steps < 2 ^ 48 → IsEvent (length w.mesh) e → step w.world e ≡ o → given_data any e o + doubled_data any w.world e ≤ 1
     → IsSoundWorld (record w { world = after w.world o; steps = w.steps + 1 })
 sound_after w e o s most ok is one =
     let here : IsEvent (length (w.world).nodes) e = subst (λ (n : ℕ). IsEvent n e) (sym s.count) ok in
     let world : after w.world (step w.world e) ≡ after w.world o = ap (after w.world) is in
     let kept : IsInvariant (after w.world o) = subst IsInvariant world (step_keeps w.world e here s.invariant) in
     let size : length (after w.world o).nodes ≡ length (w.world).nodes = sym (ap (λ (v : World). length v.nodes) world) ∙ same_size w.world e in
-    let sum : waiting any (after w.world o) + queued any (after w.world o) + in_flight any (after w.world o) + delivered any e o + dropped any e o
-    ≡ waiting any w.world + queued any w.world + in_flight any w.world + given any e o + doubled any w.world e =
-    subst (λ (p : Outcome). waiting any (after w.world p) + queued any (after w.world p) + in_flight any (after w.world p) + delivered any e p + dropped any e p
-    ≡ waiting any w.world + queued any w.world + in_flight any w.world + given any e p + doubled any w.world e) is (step_balanced any w.world e here (s.invariant).in_mesh) in
+    let sum : waiting any (after w.world o) + queued_data any (after w.world o) + in_flight any (after w.world o) + delivered_data any e o + dropped_data any e o
+    ≡ waiting any w.world + queued_data any w.world + in_flight any w.world + given_data any e o + doubled_data any w.world e =
+    subst (λ (p : Outcome). waiting any (after w.world p) + queued_data any (after w.world p) + in_flight any (after w.world p) + delivered_data any e p + dropped_data any e p
+    ≡ waiting any w.world + queued_data any w.world + in_flight any w.world + given_data any e p + doubled_data any w.world e) is (step_balanced any w.world e here (s.invariant).in_mesh) in
     let few = s.few in
     record {
       mesh = s.mesh;
@@ -87,7 +87,7 @@ keeps : (mesh : Nodes) (nodes : List NodeSeen) (radio : RadioState) (ready : Rea
 keeps mesh nodes radio ready steps s b = record { sound = s; each = b.each; flying = b.flying; size = b.size; numbers = b.numbers; sets = b.sets }
 
 pub ends_done : (e : Event) (mesh : Nodes) (nodes : List NodeSeen) (radio : RadioState) (ready : Ready) (steps : ℕ) (d : Done) (nodes' : List NodeSeen) (radio' : RadioState) (ready' : Ready) (packet : List ℕ) (o : Outcome)
-    → IsKept mesh nodes radio ready steps → steps < 2 ^ 48 → IsEvent (length mesh) e → step (world_in mesh nodes radio) e ≡ o → given any e o + doubled any (world_in mesh nodes radio) e ≤ 1
+    → IsKept mesh nodes radio ready steps → steps < 2 ^ 48 → IsEvent (length mesh) e → step (world_in mesh nodes radio) e ≡ o → given_data any e o + doubled_data any (world_in mesh nodes radio) e ≤ 1
     → after (world_in mesh nodes radio) o ≡ world_in mesh nodes' radio' → o ≡ outcome_in mesh (node_of e) (world_in mesh nodes' radio') d packet → IsDoneInMesh mesh d packet
     → Beside mesh nodes' radio' ready' (steps + 1) → Ends e mesh nodes radio steps (Ok d) nodes' radio' ready' (steps + 1) packet
 ends_done e mesh nodes radio ready steps d nodes' radio' ready' packet o kept most ok is one world outcome in_mesh b =

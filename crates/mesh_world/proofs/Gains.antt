@@ -6,7 +6,7 @@ use Rattle.aodv_model.specs.Cores.{New}
 use Rattle.aodv_model.specs.Handlers.{Effect, Took}
 use Rattle.mesh_model.specs.Worlds as worlds
 use Rattle.mesh_model.specs.Worlds.{World, Node, Copy, Event, Give, Turn, Send, Ask, Link, Cut, Deliver, Lose, Double, Happening, Changed, Taken, Sent, CopyHeard, CopyLost, CopyDoubled, Outcome, Idle, Next, unless_full, send_of, ask_of, at_node, at_copy, find_copy, is_parcel, are_linked, push, step}
-use Rattle.mesh_model.specs.Accounts.{any, given, delivered, delivered_at, delivered_in, in_taken}
+use Rattle.mesh_model.specs.Accounts.{any, given_data, delivered_data, delivered_at, delivered_in, in_taken}
 use Rattle.mesh_world.specs.Tallies.{count_of}
 
 -- ---- given
@@ -33,7 +33,7 @@ give_changes w x d b = by_node (slice_get w.nodes x)
     by_node None = refl
     by_node (Some n) = refl
 
-pub gives_none : (old new : World) (e : Event) (h : Happening) → NotChanged h → step old e ≡ Next new h → given any e (step old e) ≡ 0
+pub gives_none : (old new : World) (e : Event) (h : Happening) → NotChanged h → step old e ≡ Next new h → given_data any e (step old e) ≡ 0
 unfolding happening_in
 gives_none old new (Give x d b) h other is =
     let same : h ≡ Changed = ap happening_in (sym is) ∙ give_changes old x d b in
@@ -118,7 +118,7 @@ no_take_copy w id = (heard (find_copy w.flying id) _, lost (find_copy w.flying i
     doubled (Some c) v k = tt
 
 pub delivers_taken : (old new : World) (e : Event) (t : Took) (f : Effect) (cs : List Copy) (r : Bool) → step old e ≡ Next new (Taken t f cs) → f.deliver ≡ true
-    → ((x : ℕ) → in_taken any x t ≡ count_of r) → delivered any e (step old e) ≡ count_of r
+    → ((x : ℕ) → in_taken any x t ≡ count_of r) → delivered_data any e (step old e) ≡ count_of r
 delivers_taken old new (Turn x) t f cs r is true_is counts = ap (delivered_at any x) is ∙ ap (λ b. cond b (in_taken any x t) 0) true_is ∙ counts x
 delivers_taken old new (Give x d b) t f cs r is true_is counts = absurd (subst NoTake is (no_take_give old x d b))
 delivers_taken old new (Send x d) t f cs r is true_is counts = absurd (subst NoTake is (no_take_send old x d))
@@ -146,7 +146,7 @@ none_taken x (CopyHeard from to) other = refl
 none_taken x (CopyLost c) other = refl
 none_taken x (CopyDoubled id to parcel) other = refl
 
-pub delivers_none : (old new : World) (e : Event) (h : Happening) → NotTaken h → step old e ≡ Next new h → delivered any e (step old e) ≡ 0
+pub delivers_none : (old new : World) (e : Event) (h : Happening) → NotTaken h → step old e ≡ Next new h → delivered_data any e (step old e) ≡ 0
 delivers_none old new (Turn x) h other is = ap (delivered_at any x) is ∙ none_taken x h other
 delivers_none old new (Give x d b) h other is = refl
 delivers_none old new (Send x d) h other is = refl

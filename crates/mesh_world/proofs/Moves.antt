@@ -8,7 +8,7 @@ use Rattle.aodv_node.specs.Seen.{NodeSeen}
 use Rattle.mesh_model.specs.Worlds.{Event}
 use Rattle.mesh_radio.specs.Radios.{RadioState}
 use Rattle.mesh_world.specs.Kept.{Ready}
-use Rattle.mesh_world.specs.Noted.{noted}
+use Rattle.mesh_world.specs.Noted.{ready_with}
 use Rattle.mesh_world.specs.Parts.{IsDoneTo}
 use Rattle.mesh_world.specs.declared.parts.Parts.{Parts}
 use Rattle.mesh_world.specs.declared.steps.StepError.{StepError}
@@ -33,9 +33,9 @@ after_cast e old pre mid new answer out cast is d =
 
 -- the node is noted as it is before the cast
 pub noted_before : (pre mid : Parts) (ready : Ready) (x count : ℕ) (n : NodeSeen) → mid ≡ record pre { radio = mid.radio } → slice_get (pre.nodes).items x ≡ Some n → length (pre.nodes).items ≡ count
-    → ((m : NodeSeen) → slice_get (mid.nodes).items x ≡ Some m → ready ≡ noted mid.ready x m (length (mid.nodes).items)) → ready ≡ noted pre.ready x n count
+    → ((m : NodeSeen) → slice_get (mid.nodes).items x ≡ Some m → ready ≡ ready_with mid.ready x m (length (mid.nodes).items)) → ready ≡ ready_with pre.ready x n count
 noted_before pre mid ready x count n cast at size is =
-    is n (ap (λ (p : Parts). slice_get (p.nodes).items x) cast ∙ at) ∙ (λ i. noted (cast i).ready x n (length ((cast i).nodes).items)) ∙ ap (noted pre.ready x n) size
+    is n (ap (λ (p : Parts). slice_get (p.nodes).items x) cast ∙ at) ∙ (λ i. ready_with (cast i).ready x n (length ((cast i).nodes).items)) ∙ ap (ready_with pre.ready x n) size
 
 pub sound_before : (P : NodeSeen → Type 0) (pre mid : Parts) (x : ℕ) (n : NodeSeen) → mid ≡ record pre { radio = mid.radio } → slice_get (pre.nodes).items x ≡ Some n
     → ((m : NodeSeen) → slice_get (mid.nodes).items x ≡ Some m → P m) → P n
@@ -57,5 +57,5 @@ changed old x n radio = record old { nodes = with_item old.nodes x n; radio = ra
 
 -- the node is noted as it is
 pub noted_at : (nodes : List NodeSeen) (ready new : Ready) (x count : ℕ) (n : NodeSeen) → slice_get nodes x ≡ Some n → length nodes ≡ count
-    → ((m : NodeSeen) → slice_get nodes x ≡ Some m → new ≡ noted ready x m (length nodes)) → new ≡ noted ready x n count
-noted_at nodes ready new x count n at size is = is n at ∙ ap (noted ready x n) size
+    → ((m : NodeSeen) → slice_get nodes x ≡ Some m → new ≡ ready_with ready x m (length nodes)) → new ≡ ready_with ready x n count
+noted_at nodes ready new x count n at size is = is n at ∙ ap (ready_with ready x n) size

@@ -23,8 +23,8 @@ use Rattle.mesh_meaning.specs.Packets.{IsWrittenCopy, copy_in}
 use Rattle.mesh_meaning.specs.Answers.{cast_in, effect_in, copies_in, IsCastWritten, IsEffectInMesh}
 use Rattle.mesh_world.specs.Seen.{node_in}
 use Rattle.mesh_world.specs.Kept.{Ready, IsKept, IsKeptNode, world_in}
-use Rattle.mesh_world.specs.Noted.{noted}
-use Rattle.mesh_world.specs.Parts.{reached}
+use Rattle.mesh_world.specs.Noted.{ready_with}
+use Rattle.mesh_world.specs.Parts.{near_receivers}
 use Rattle.mesh_world.proofs.Receivers.{reached_near}
 use Rattle.mesh_world.proofs.Frames.{Beside, map-set, each_set, each_append, count_of}
 use Rattle.mesh_world.proofs.Casts.{Flies, flies, flights_length}
@@ -50,8 +50,8 @@ pub record Acts (mesh : Nodes) (x : ℕ) (new : NodeSeen) (reaction : Reaction) 
 
 -- what the radio did for it
 pub record Sends (mesh : Nodes) (x : ℕ) (near : NodeIds) (effect : code.Effect) (out : List ℕ) (air : Air) (old new : RadioState) : Type 0 where
-  pub radio : new ≡ with_copies old x out (reached mesh near effect.cast out)
-  pub answer : air ≡ record { first = old.next_copy; to = reached mesh near effect.cast out }
+  pub radio : new ≡ with_copies old x out (near_receivers mesh near effect.cast out)
+  pub answer : air ≡ record { first = old.next_copy; to = near_receivers mesh near effect.cast out }
   pub few : new.next_copy ≤ old.next_copy + 200
 
 -- what came of both
@@ -60,15 +60,15 @@ pub record Comes (mesh : Nodes) (nodes : List NodeSeen) (radio : RadioState) (re
   pub copies : copies (world_in mesh nodes radio) x (reaction.effect).cast ≡ copies_in mesh x effect.cast air out
   pub means : reaction.effect ≡ effect_in mesh effect out
   pub in_mesh : IsEffectInMesh mesh effect air out
-  pub beside : Beside mesh (slice_set nodes x new) radio' (noted ready x new (length mesh)) (steps + 1)
+  pub beside : Beside mesh (slice_set nodes x new) radio' (ready_with ready x new (length mesh)) (steps + 1)
 
 map-append : {A B : Type 0} (f : A → B) (xs ys : List A) → map f (xs ++ ys) ≡ map f xs ++ map f ys
 map-append f [] ys = refl
 map-append f (x ∷ xs) ys = ap (λ zs. f x ∷ zs) (map-append f xs ys)
 
 -- the receivers, by either cast
-same_reached : (mesh : Nodes) (near : NodeIds) (e : code.Effect) (effect : Effect) (out : List ℕ) → e ≡ effect_of effect → cast_in mesh (cast_of effect.cast) out ≡ effect.cast → reached mesh near e.cast out ≡ receivers near effect.cast
-same_reached mesh near e effect out is means = ap (λ (k : code.Effect). reached mesh near k.cast out) is ∙ ap (receivers near) means
+same_reached : (mesh : Nodes) (near : NodeIds) (e : code.Effect) (effect : Effect) (out : List ℕ) → e ≡ effect_of effect → cast_in mesh (cast_of effect.cast) out ≡ effect.cast → near_receivers mesh near e.cast out ≡ receivers near effect.cast
+same_reached mesh near e effect out is means = ap (λ (k : code.Effect). near_receivers mesh near k.cast out) is ∙ ap (receivers near) means
 
 -- the world after it, where the copies are those of the radio
 made : (mesh : Nodes) (nodes : List NodeSeen) (old new : RadioState) (x : ℕ) (n : NodeSeen) (reaction : Reaction) (out : List ℕ) (to : NodeIds) → n.core ≡ reaction.core
@@ -107,7 +107,7 @@ comes mesh nodes old new ready steps x near n reaction effect out air k few l ne
     let c = (reaction.effect).cast in
     let w = world_in mesh nodes old in
     let f : Flies mesh near c old.next_copy x out = flies mesh near c old.next_copy x out (k.sound).mesh a.cast (a.aimed).cast a.packet in
-    let to : NodeIds = reached mesh near effect.cast out in
+    let to : NodeIds = near_receivers mesh near effect.cast out in
     let to_is : to ≡ receivers near c = same_reached mesh near effect reaction.effect out a.did f.means in
     let casts : cast_in mesh effect.cast out ≡ c = ap (λ (e : code.Effect). cast_in mesh e.cast out) a.did ∙ f.means in
     let tos_are : members_below old.size to ≡ members_below (length mesh) (receivers near c) = λ i. members_below (k.size i) (to_is i) in

@@ -22,7 +22,7 @@ use Rattle.mesh_model.specs.Choices.{least_from, waits, may_turn_in, may_send_in
 use Rattle.mesh_model.proofs.Lists.{set_same, set_other, each_append}
 use Rattle.mesh_world.specs.Seen.{node_in}
 use Rattle.mesh_world.specs.Kept.{Ready, IsReadyFor}
-use Rattle.mesh_world.specs.Noted.{none_ready, with_or_without, with_turn, has_items, has_below, noted}
+use Rattle.mesh_world.specs.Noted.{none_ready, with_or_without, with_turn, has_items, has_below, ready_with}
 
 -- ---- whether a member is below n
 
@@ -77,8 +77,8 @@ filled (item ∷ items) false e = refl
 pub note_is : (r : Ready) (n : NodeSeen) (x nodes : ℕ) (turns sends asks turns' sends' asks' : NodeIds) (t s a : Bool) → record { turns = turns; sends = sends; asks = asks } ≡ r
     → turns' ≡ with_or_without t turns x → sends' ≡ with_or_without s sends x → asks' ≡ with_or_without a asks x
     → t ≡ has_items n.items → s ≡ has_below nodes (may_send n.core) → a ≡ has_below nodes (may_ask n.core)
-    → record { turns = turns'; sends = sends'; asks = asks' } ≡ noted r x n nodes
-unfolding noted
+    → record { turns = turns'; sends = sends'; asks = asks' } ≡ ready_with r x n nodes
+unfolding ready_with
 note_is r n x nodes turns sends asks turns' sends' asks' t s a was et es ea bt bs ba =
     let to_turns : turns' ≡ with_or_without (has_items n.items) r.turns x = et ∙ (ap (λ b. with_or_without b turns x) bt ∙ ap (λ (r : Ready). with_or_without (has_items n.items) r.turns x) was) in
     let to_sends : sends' ≡ with_or_without (has_below nodes (may_send n.core)) r.sends x = es ∙ (ap (λ b. with_or_without b sends x) bs ∙ ap (λ (r : Ready). with_or_without (has_below nodes (may_send n.core)) r.sends x) was) in
@@ -135,8 +135,8 @@ unfolding first_ask_in
 asks_in size n = below_same size (may_ask_in (Some n)) (may_ask n.core) (λ q. refl)
 
 -- where a node changes and is noted, the sets are again those of the nodes
-pub noted_ready : (mesh : Nodes) (nodes : List NodeSeen) (r : Ready) (x : ℕ) (n : NodeSeen) → IsReadyFor mesh nodes r → x < length nodes → IsReadyFor mesh (slice_set nodes x n) (noted r x n (length mesh))
-unfolding noted
+pub noted_ready : (mesh : Nodes) (nodes : List NodeSeen) (r : Ready) (x : ℕ) (n : NodeSeen) → IsReadyFor mesh nodes r → x < length nodes → IsReadyFor mesh (slice_set nodes x n) (ready_with r x n (length mesh))
+unfolding ready_with
 noted_ready mesh nodes r x n ready l =
     let here : slice_get (map (node_in mesh) (slice_set nodes x n)) x ≡ Some (node_in mesh n) = node_here mesh nodes x n l in
     record {
@@ -160,8 +160,8 @@ some_item [] i = refl
 some_item (item ∷ items) i = refl
 
 -- where an item joins an inbox, and the core is the same, the node is noted by its turn alone
-pub noted_by_turn : (mesh : Nodes) (nodes : List NodeSeen) (r : Ready) (x : ℕ) (n new : NodeSeen) → IsReadyFor mesh nodes r → slice_get nodes x ≡ Some n → new.core ≡ n.core → has_items new.items ≡ true → with_turn r x ≡ noted r x new (length mesh)
-unfolding noted
+pub noted_by_turn : (mesh : Nodes) (nodes : List NodeSeen) (r : Ready) (x : ℕ) (n new : NodeSeen) → IsReadyFor mesh nodes r → slice_get nodes x ≡ Some n → new.core ≡ n.core → has_items new.items ≡ true → with_turn r x ≡ ready_with r x new (length mesh)
+unfolding ready_with
 noted_by_turn mesh nodes r x n new ready at core some =
     let shown : slice_get (map (node_in mesh) nodes) x ≡ Some (node_in mesh n) = slice_get-map (node_in mesh) nodes x ∙ ap (option_map (node_in mesh)) at in
     let turns : sets.insert r.turns x ≡ with_or_without (has_items new.items) r.turns x = ap (λ b. with_or_without b r.turns x) (sym some) in
@@ -231,8 +231,8 @@ last_there mesh nodes n q apart =
     slice_get-map (node_in mesh) (nodes ++ n ∷ []) q ∙ (ap (option_map (node_in mesh)) (pushed_there nodes n q apart) ∙ sym (slice_get-map (node_in mesh) nodes q))
 
 -- where a node joins at the end and is noted, the sets are again those of the nodes
-pub pushed_ready : (mesh : Nodes) (nodes : List NodeSeen) (r : Ready) (n : NodeSeen) → IsReadyFor mesh nodes r → IsReadyFor mesh (nodes ++ n ∷ []) (noted r (length nodes) n (length mesh))
-unfolding noted
+pub pushed_ready : (mesh : Nodes) (nodes : List NodeSeen) (r : Ready) (n : NodeSeen) → IsReadyFor mesh nodes r → IsReadyFor mesh (nodes ++ n ∷ []) (ready_with r (length nodes) n (length mesh))
+unfolding ready_with
 pushed_ready mesh nodes r n ready =
     let x = length nodes in
     let more = nodes ++ n ∷ [] in
@@ -253,12 +253,12 @@ pub record IsReadyUpTo (mesh : Nodes) (nodes : List NodeSeen) (k : ℕ) (r : Rea
 pub ready_up_to_none : (mesh : Nodes) (nodes : List NodeSeen) (r : Ready) → r ≡ none_ready → IsReadyUpTo mesh nodes 0 r
 ready_up_to_none mesh nodes r is = record { sets = subst (IsReadyFor mesh []) (sym is) (opening_ready mesh [] tt) }
 
-pub ready_up_to_more : (mesh : Nodes) (nodes : List NodeSeen) (k : ℕ) (n : NodeSeen) (r r' : Ready) (count : ℕ) → n ≡ get_or nodes k n → k < length nodes → count ≡ length mesh → r' ≡ noted r k n count → IsReadyUpTo mesh nodes k r → IsReadyUpTo mesh nodes (k + 1) r'
+pub ready_up_to_more : (mesh : Nodes) (nodes : List NodeSeen) (k : ℕ) (n : NodeSeen) (r r' : Ready) (count : ℕ) → n ≡ get_or nodes k n → k < length nodes → count ≡ length mesh → r' ≡ ready_with r k n count → IsReadyUpTo mesh nodes k r → IsReadyUpTo mesh nodes (k + 1) r'
 ready_up_to_more mesh nodes k n r r' count is l count_is noted_is before =
     let front : length (take k nodes) ≡ k = length-take-le k nodes (omega arith) in
     let grown : take k nodes ++ n ∷ [] ≡ take (k + 1) nodes = ap (λ (m : NodeSeen). take k nodes ++ m ∷ []) is ∙ sym (take_more nodes k n l) in
-    let same : noted r (length (take k nodes)) n (length mesh) ≡ r' = (λ i. noted r (front i) n (sym count_is i)) ∙ sym noted_is in
-    record { sets = subst (IsReadyFor mesh (take (k + 1) nodes)) same (subst (λ (ns : List NodeSeen). IsReadyFor mesh ns (noted r (length (take k nodes)) n (length mesh))) grown (pushed_ready mesh (take k nodes) r n before.sets)) }
+    let same : ready_with r (length (take k nodes)) n (length mesh) ≡ r' = (λ i. ready_with r (front i) n (sym count_is i)) ∙ sym noted_is in
+    record { sets = subst (IsReadyFor mesh (take (k + 1) nodes)) same (subst (λ (ns : List NodeSeen). IsReadyFor mesh ns (ready_with r (length (take k nodes)) n (length mesh))) grown (pushed_ready mesh (take k nodes) r n before.sets)) }
 
 pub ready_up_to_all : (mesh : Nodes) (nodes : List NodeSeen) (k : ℕ) (r : Ready) → length nodes ≤ k → IsReadyUpTo mesh nodes k r → IsReadyFor mesh nodes r
 ready_up_to_all mesh nodes k r le up = subst (λ (ns : List NodeSeen). IsReadyFor mesh ns r) (take_all k nodes le) up.sets

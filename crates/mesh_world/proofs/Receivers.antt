@@ -17,7 +17,7 @@ use Rattle.mesh_model.proofs.MeshSteps.{receivers_in}
 use Rattle.mesh_meaning.specs.Answers.{cast_in}
 use Rattle.mesh_radio.specs.Copies.{copies_to}
 use Rattle.mesh_radio.specs.Radios.{RadioState, with_copies}
-use Rattle.mesh_world.specs.Parts.{reached, with_cast}
+use Rattle.mesh_world.specs.Parts.{near_receivers, with_cast}
 use Rattle.mesh_world.proofs.Casts.{no_members}
 
 or_left : (a b : Bool) → b ≡ false → (a || b) ≡ true → a ≡ true
@@ -48,32 +48,32 @@ one_away near y away = same_nodes sets.empty (sets.intersection (one y) near) (�
     ∙ sym (sets.contains-intersection nat_cmp_total (one y) near q))
 
 pub reached_one : (mesh : Nodes) (near : NodeIds) (c : cast.Cast) (packet : List ℕ) (y : ℕ) (s none : NodeIds) (b : Bool)
-    → c ≡ casts.One y → none ≡ sets.empty → b ≡ sets.contains near y → b ≡ true → s ≡ sets.insert none y → s ≡ reached mesh near c packet
+    → c ≡ casts.One y → none ≡ sets.empty → b ≡ sets.contains near y → b ≡ true → s ≡ sets.insert none y → s ≡ near_receivers mesh near c packet
 unfolding receivers
 reached_one mesh near c packet y s none b is empty has here added =
-    added ∙ ap (λ (e : NodeIds). sets.insert e y) empty ∙ one_here near y (sym has ∙ here) ∙ sym (ap (λ (k : cast.Cast). reached mesh near k packet) is)
+    added ∙ ap (λ (e : NodeIds). sets.insert e y) empty ∙ one_here near y (sym has ∙ here) ∙ sym (ap (λ (k : cast.Cast). near_receivers mesh near k packet) is)
 
 pub reached_none : (mesh : Nodes) (near : NodeIds) (c : cast.Cast) (packet : List ℕ) (y : ℕ) (none : NodeIds) (b : Bool)
-    → c ≡ casts.One y → none ≡ sets.empty → b ≡ sets.contains near y → b ≡ false → none ≡ reached mesh near c packet
+    → c ≡ casts.One y → none ≡ sets.empty → b ≡ sets.contains near y → b ≡ false → none ≡ near_receivers mesh near c packet
 unfolding receivers
 reached_none mesh near c packet y none b is empty has away =
-    empty ∙ one_away near y (sym has ∙ away) ∙ sym (ap (λ (k : cast.Cast). reached mesh near k packet) is)
+    empty ∙ one_away near y (sym has ∙ away) ∙ sym (ap (λ (k : cast.Cast). near_receivers mesh near k packet) is)
 
-pub reached_near : (mesh : Nodes) (near : NodeIds) (c : cast.Cast) (packet : List ℕ) (s : NodeIds) → s ≡ reached mesh near c packet → (q : ℕ) → sets.contains s q ≡ true → sets.contains near q ≡ true
+pub reached_near : (mesh : Nodes) (near : NodeIds) (c : cast.Cast) (packet : List ℕ) (s : NodeIds) → s ≡ near_receivers mesh near c packet → (q : ℕ) → sets.contains s q ≡ true → sets.contains near q ≡ true
 reached_near mesh near c packet s is q t = receivers_in near (cast_in mesh c packet) q (sym (ap (λ (r : NodeIds). sets.contains r q) is) ∙ t)
 
 not_true : (b : Bool) (c : Bool) → (b ≡ true → c ≡ true) → c ≡ false → b ≡ false
 not_true true c h f = sym (h refl) ∙ f
 not_true false c h f = refl
 
-pub reached_apart : (mesh : Nodes) (near : NodeIds) (c : cast.Cast) (packet : List ℕ) (s : NodeIds) (x : ℕ) → s ≡ reached mesh near c packet → sets.contains near x ≡ false → sets.contains s x ≡ false
+pub reached_apart : (mesh : Nodes) (near : NodeIds) (c : cast.Cast) (packet : List ℕ) (s : NodeIds) (x : ℕ) → s ≡ near_receivers mesh near c packet → sets.contains near x ≡ false → sets.contains s x ≡ false
 reached_apart mesh near c packet s x is apart = not_true (sets.contains s x) (sets.contains near x) (reached_near mesh near c packet s is x) apart
 
 -- ---- a cast to nobody
 
-pub reached_nobody : (mesh : Nodes) (near : NodeIds) (c : cast.Cast) (packet : List ℕ) (s : NodeIds) → c ≡ casts.Nothing → s ≡ sets.empty → s ≡ reached mesh near c packet
+pub reached_nobody : (mesh : Nodes) (near : NodeIds) (c : cast.Cast) (packet : List ℕ) (s : NodeIds) → c ≡ casts.Nothing → s ≡ sets.empty → s ≡ near_receivers mesh near c packet
 unfolding receivers
-reached_nobody mesh near c packet s is empty = empty ∙ sym (ap (λ (k : cast.Cast). reached mesh near k packet) is)
+reached_nobody mesh near c packet s is empty = empty ∙ sym (ap (λ (k : cast.Cast). near_receivers mesh near k packet) is)
 
 no_copies : (r : RadioState) (x : ℕ) (packet : List ℕ) → r ≡ with_copies r x packet sets.empty
 no_copies r x packet =

@@ -23,14 +23,14 @@ use Rattle.aodv_node.specs.Seen.{NodeSeen, IsSoundNode}
 use Rattle.mesh_model.specs.Worlds as worlds
 use Rattle.mesh_model.specs.Worlds.{World, Event, Send, Ask, Outcome, Idle, Next, Sent, step, range, linked_below, send_of, ask_of, unless_full, at_node, done_by, copies}
 use Rattle.mesh_model.specs.Places.{IsEvent}
-use Rattle.mesh_model.specs.Accounts.{given, doubled}
+use Rattle.mesh_model.specs.Accounts.{given_data, doubled_data}
 use Rattle.mesh_radio.specs.Radios.{RadioState}
 use Rattle.mesh_meaning.specs.Events.{node_of}
 use Rattle.mesh_meaning.specs.Packets.{IsWrittenItem}
 use Rattle.mesh_meaning.specs.Answers.{outcome_in}
 use Rattle.mesh_model.specs.Accounts.{any}
 use Rattle.mesh_world.specs.Kept.{Ready, IsKept, world_in}
-use Rattle.mesh_world.specs.Noted.{noted}
+use Rattle.mesh_world.specs.Noted.{ready_with}
 use Rattle.mesh_world.specs.declared.steps.StepError.TheVariants as errors
 use Rattle.mesh_world.proofs.Frames.{Ends, ends_done, shown_at, noted_beside, roomed, began, node_at}
 use Rattle.mesh_world.proofs.Reactions.{near_is, Acts, Sends, Comes, comes}
@@ -43,10 +43,10 @@ same_node old new others core = others ∙ (λ i. record old { core = core i })
 -- ---- a reaction that is cast, and takes nothing from the queue
 
 pub sent_done : (e : Event) (mesh : Nodes) (nodes : List NodeSeen) (radio radio' : RadioState) (ready ready' : Ready) (steps x : ℕ) (near : NodeIds) (n new : NodeSeen) (reaction : Reaction) (effect : code.Effect) (out : List ℕ) (air : Air)
-    → IsKept mesh nodes radio ready steps → steps < 2 ^ 48 → x < length mesh → IsEvent (length mesh) e → ((o : Outcome) (w : World) → given any e o + doubled any w e ≤ 1) → node_of e ≡ x
+    → IsKept mesh nodes radio ready steps → steps < 2 ^ 48 → x < length mesh → IsEvent (length mesh) e → ((o : Outcome) (w : World) → given_data any e o + doubled_data any w e ≤ 1) → node_of e ≡ x
     → near ≡ range (world_in mesh nodes radio) x
     → step (world_in mesh nodes radio) e ≡ Next (done_by (world_in mesh nodes radio) x reaction (map (item_in mesh) n.items)) (Sent reaction.effect (copies (world_in mesh nodes radio) x (reaction.effect).cast))
-    → new.items ≡ n.items → Acts mesh x new reaction effect out → Sends mesh x near effect out air radio radio' → ready' ≡ noted ready x new (length mesh)
+    → new.items ≡ n.items → Acts mesh x new reaction effect out → Sends mesh x near effect out air radio radio' → ready' ≡ ready_with ready x new (length mesh)
     → Ends e mesh nodes radio steps (Ok (done.Sent effect air)) (slice_set nodes x new) radio' ready' (steps + 1) out
 sent_done e mesh nodes radio radio' ready ready' steps x near n new reaction effect out air k few l ok one place near_at goes same a sends noted_is =
     let w = world_in mesh nodes radio in
@@ -58,7 +58,7 @@ sent_done e mesh nodes radio radio' ready ready' steps x near n new reaction eff
     k few ok goes (one o w) world
     (subst (λ (y : ℕ). o ≡ outcome_in mesh y w' (done.Sent effect air) out) (sym place) (λ j. Next (world j) (Sent (c.means j) (c.copies j))))
     c.in_mesh
-    (noted_beside mesh (slice_set nodes x new) radio' ready' (noted ready x new (length mesh)) (steps + 1) noted_is c.beside)
+    (noted_beside mesh (slice_set nodes x new) radio' ready' (ready_with ready x new (length mesh)) (steps + 1) noted_is c.beside)
 
 acts : (mesh : Nodes) (nodes : List NodeSeen) (radio : RadioState) (ready : Ready) (steps x : ℕ) (n new : NodeSeen) (reaction : Reaction) (o : Option Counter) (effect : code.Effect) (out : List ℕ)
     → IsKept mesh nodes radio ready steps → slice_get nodes x ≡ Some n → IsSoundNode new → new ≡ record n { core = new.core } → IsMade mesh o reaction effect new.core out
@@ -115,7 +115,7 @@ send_full_end mesh nodes old radio ready steps x d near f field n new out k room
 pub send_done_end : (mesh : Nodes) (nodes : List NodeSeen) (old radio radio' : RadioState) (ready ready' : Ready) (steps x d : ℕ) (near : NodeIds) (n new : NodeSeen) (effect : code.Effect) (out : List ℕ) (air : Air)
     → IsKept mesh nodes old ready steps → radio ≡ record old { room = radio.room; most = radio.most } → steps < 2 ^ 48 → x < length mesh → d < length mesh → n ≡ slice_index_or nodes x n → near ≡ linked_below radio.links x radio.size
     → IsSoundNode new → new ≡ record n { core = new.core } → (may_send n.core d ≡ true) × IsMade mesh (send_full n.core near d) (send n.core near d) effect new.core out
-    → Sends mesh x near effect out air radio radio' → ready' ≡ noted ready x new (length mesh)
+    → Sends mesh x near effect out air radio radio' → ready' ≡ ready_with ready x new (length mesh)
     → Ends (Send x d) mesh nodes old steps (Ok (done.Sent effect air)) (slice_set nodes x new) radio' ready' (steps + 1) out
 send_done_end mesh nodes old radio radio' ready ready' steps x d near n new effect out air k rooms few l below is linked sound others t sends noted_is =
     let w = world_in mesh nodes radio in
@@ -176,7 +176,7 @@ ask_full_end mesh nodes old radio ready steps x d f field n new out k rooms l is
 pub ask_done_end : (mesh : Nodes) (nodes : List NodeSeen) (old radio radio' : RadioState) (ready ready' : Ready) (steps x d : ℕ) (near : NodeIds) (n new : NodeSeen) (effect : code.Effect) (out : List ℕ) (air : Air)
     → IsKept mesh nodes old ready steps → radio ≡ record old { room = radio.room; most = radio.most } → steps < 2 ^ 48 → x < length mesh → d < length mesh → n ≡ slice_index_or nodes x n → near ≡ linked_below radio.links x radio.size
     → IsSoundNode new → new ≡ record n { core = new.core } → (may_ask n.core d ≡ true) × IsMade mesh (ask_full n.core) (ask n.core d) effect new.core out
-    → Sends mesh x near effect out air radio radio' → ready' ≡ noted ready x new (length mesh)
+    → Sends mesh x near effect out air radio radio' → ready' ≡ ready_with ready x new (length mesh)
     → Ends (Ask x d) mesh nodes old steps (Ok (done.Sent effect air)) (slice_set nodes x new) radio' ready' (steps + 1) out
 ask_done_end mesh nodes old radio radio' ready ready' steps x d near n new effect out air k rooms few l below is linked sound others t sends noted_is =
     let w = world_in mesh nodes radio in

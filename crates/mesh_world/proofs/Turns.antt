@@ -34,7 +34,7 @@ use Rattle.mesh_meaning.specs.Packets.{IsWritten, IsWrittenItem}
 use Rattle.mesh_meaning.specs.Answers.{took_in, IsTookInMesh}
 use Rattle.mesh_world.specs.Seen.{node_in}
 use Rattle.mesh_world.specs.Kept.{Ready, IsKept, IsKeptNode, world_in}
-use Rattle.mesh_world.specs.Noted.{noted}
+use Rattle.mesh_world.specs.Noted.{ready_with}
 use Rattle.mesh_world.proofs.Frames.{Ends, ends_done, ends_idle, ends_full, ends_no_memory, beside, shown_at, each_get, set_back, noted_beside, later, with_same, roomed, began, node_at}
 use Rattle.mesh_world.proofs.Reactions.{near_is, Acts, Sends, Comes, comes}
 
@@ -133,7 +133,7 @@ acts mesh nodes radio ready steps x near n new d out k l at sound t =
 
 pub turn_done : (mesh : Nodes) (nodes : List NodeSeen) (radio radio' : RadioState) (ready ready' : Ready) (steps x : ℕ) (near : NodeIds) (n new : NodeSeen) (d : TurnDone) (out : List ℕ) (air : Air)
     → IsKept mesh nodes radio ready steps → steps < 2 ^ 48 → x < length mesh → slice_get nodes x ≡ Some n → near ≡ linked_below radio.links x radio.size → IsSoundNode new → IsTaken mesh near n d new out
-    → Sends mesh x near d.effect out air radio radio' → ready' ≡ noted ready x new (length mesh)
+    → Sends mesh x near d.effect out air radio radio' → ready' ≡ ready_with ready x new (length mesh)
     → Ends (Turn x) mesh nodes radio steps (Ok (done.Taken d.took d.effect air)) (slice_set nodes x new) radio' ready' (steps + 1) out
 turn_done mesh nodes radio radio' ready ready' steps x near n new d out air k few l at linked sound t sends noted_is =
     let w = world_in mesh nodes radio in
@@ -150,7 +150,7 @@ turn_done mesh nodes radio radio' ready ready' steps x near n new d out air k fe
     k few l (turn_goes mesh nodes radio x n near t.front new.items at near_at t.was (t.made).free) (omega arith) c.world
     (λ j. Next (c.world j) (Taken (took_is j) (c.means j) (c.copies j)))
     (subst (IsTookInMesh mesh) (sym t.took) (took_in_mesh mesh n.core t.front placed front_written), c.in_mesh)
-    (noted_beside mesh (slice_set nodes x new) radio' ready' (noted ready x new (length mesh)) (steps + 1) noted_is c.beside)
+    (noted_beside mesh (slice_set nodes x new) radio' ready' (ready_with ready x new (length mesh)) (steps + 1) noted_is c.beside)
 
 -- ---- no packet of a world is refused, or names a stranger
 
@@ -219,7 +219,7 @@ turn_full_end mesh nodes old radio ready steps x near f field n new out k rooms 
 
 pub turn_done_end : (mesh : Nodes) (nodes : List NodeSeen) (old radio radio' : RadioState) (ready ready' : Ready) (steps x : ℕ) (near : NodeIds) (n new : NodeSeen) (d : TurnDone) (out : List ℕ) (air : Air)
     → IsKept mesh nodes old ready steps → radio ≡ record old { room = radio.room; most = radio.most } → steps < 2 ^ 48 → x < length mesh → n ≡ slice_index_or nodes x n → near ≡ linked_below radio.links x radio.size
-    → IsSoundNode new → IsTaken mesh near n d new out → Sends mesh x near d.effect out air radio radio' → ready' ≡ noted ready x new (length mesh)
+    → IsSoundNode new → IsTaken mesh near n d new out → Sends mesh x near d.effect out air radio radio' → ready' ≡ ready_with ready x new (length mesh)
     → Ends (Turn x) mesh nodes old steps (Ok (done.Taken d.took d.effect air)) (slice_set nodes x new) radio' ready' (steps + 1) out
 turn_done_end mesh nodes old radio radio' ready ready' steps x near n new d out air k rooms few l is linked sound t sends noted_is =
     let r = roomed mesh nodes old radio ready steps rooms k in

@@ -4,7 +4,7 @@ use Rattle.std.specs.Prelude.{slice_get, slice_index_or}
 use Rattle.std.specs.List.{AllByRecursion}
 use Rattle.mesh_base.specs.Meshes.{Nodes}
 use Rattle.aodv_node.specs.Seen.{NodeSeen}
-use Rattle.mesh_model.specs.Accounts.{waiting, queued, in_flight}
+use Rattle.mesh_model.specs.Accounts.{waiting, queued_data, in_flight}
 use Rattle.mesh_radio.specs.Radios.{RadioState}
 use Rattle.mesh_meaning.specs.Packets.{IsWrittenItem, copy_in}
 use Rattle.mesh_world.specs.Seen.{WorldSeen, node_in}
@@ -34,7 +34,7 @@ counted mesh nodes radio ready steps k = record {
   items = each_by (IsKeptNode mesh) (λ n. AllByRecursion (IsWrittenItem mesh) n.items) nodes (λ n h. h.items) k.each;
   sizes = sizes mesh nodes radio ready steps k;
   flying = k.flying;
-  few = few (waiting any (world_in mesh nodes radio)) (queued any (world_in mesh nodes radio)) (in_flight any (world_in mesh nodes radio)) steps (k.sound).few (k.sound).steps;
+  few = few (waiting any (world_in mesh nodes radio)) (queued_data any (world_in mesh nodes radio)) (in_flight any (world_in mesh nodes radio)) steps (k.sound).few (k.sound).steps;
 }
   where
     few : (a b c steps : ℕ) → a + b + c ≤ 2 ^ 60 + steps → steps ≤ 2 ^ 48 → a + b + c < 2 ^ 64

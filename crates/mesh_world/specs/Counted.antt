@@ -10,7 +10,7 @@ use Rattle.aodv_wire.specs.Spells.{is_data}
 use Rattle.aodv_model.specs.Cores.{bodies_in}
 use Rattle.aodv_node.specs.Seen.{NodeSeen}
 use Rattle.mesh_model.specs.Worlds.{World}
-use Rattle.mesh_model.specs.Accounts.{total_below, waiting, queued, in_flight}
+use Rattle.mesh_model.specs.Accounts.{total_below, waiting, queued_data, in_flight}
 use Rattle.mesh_radio.specs.Radios.{RadioState}
 use Rattle.mesh_meaning.specs.Packets.{IsWrittenItem, IsWrittenCopy}
 use Rattle.mesh_model.specs.Accounts.{any}
@@ -46,7 +46,7 @@ pub record AreCounted (mesh : Nodes) (nodes : List NodeSeen) (radio : RadioState
   pub items : AllByRecursion (λ n. AllByRecursion (IsWrittenItem mesh) n.items) nodes
   pub sizes : AllByRecursion (λ n. n.size ≡ length nodes) nodes
   pub flying : AllByRecursion (IsWrittenCopy mesh) radio.flying
-  pub few : waiting any (world_in mesh nodes radio) + queued any (world_in mesh nodes radio)
+  pub few : waiting any (world_in mesh nodes radio) + queued_data any (world_in mesh nodes radio)
       + in_flight any (world_in mesh nodes radio) < 2 ^ 64
 
 -- n is this count of the world

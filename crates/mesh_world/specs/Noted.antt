@@ -41,8 +41,8 @@ abbrev pub has_below : ℕ → (ℕ → Bool) → Bool
 has_below size passes = is_some (least_from size 0 passes)
 
 -- the sets once node x, of a mesh of so many nodes, has come to be n
-unfoldable pub noted : Ready → ℕ → NodeSeen → ℕ → Ready
-noted r x n nodes = record {
+unfoldable pub ready_with : Ready → ℕ → NodeSeen → ℕ → Ready
+ready_with r x n nodes = record {
   turns = with_or_without (has_items n.items) r.turns x;
   sends = with_or_without (has_below nodes (may_send n.core)) r.sends x;
   asks = with_or_without (has_below nodes (may_ask n.core)) r.asks x;

@@ -54,17 +54,17 @@ AreOpened v mesh me [] = ⊤
 AreOpened v mesh me (n ∷ ns) = IsOpened v mesh me n × AreOpened v mesh (me + 1) ns
 
 -- those of the nodes in range to whom a cast goes
-abbrev pub reached : Nodes → NodeIds → Cast → List ℕ → NodeIds
-reached mesh range cast packet = receivers range (cast_in mesh cast packet)
+abbrev pub near_receivers : Nodes → NodeIds → Cast → List ℕ → NodeIds
+near_receivers mesh range cast packet = receivers range (cast_in mesh cast packet)
 
 -- the radio after such a cast of node x
 abbrev pub with_cast : Nodes → RadioState → ℕ → NodeIds → Cast → List ℕ → RadioState
 with_cast mesh radio x range cast packet =
-    with_copies radio x packet (reached mesh range cast packet)
+    with_copies radio x packet (near_receivers mesh range cast packet)
 
 -- the copies of it
 abbrev pub air_of : Nodes → RadioState → NodeIds → Cast → List ℕ → Air
 air_of mesh radio range cast packet = record {
   first = radio.next_copy;
-  to = reached mesh range cast packet;
+  to = near_receivers mesh range cast packet;
 }

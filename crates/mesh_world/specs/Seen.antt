@@ -12,7 +12,7 @@ use Rattle.aodv_entry.specs.declared.entry.Flag.TheVariants.{Val}
 use Rattle.aodv_entry.specs.Quality.{is_better}
 use Rattle.mesh_model.specs.Walks.{table, Edge, Cycle}
 use Rattle.mesh_model.specs.Invariants.{IsInvariant}
-use Rattle.mesh_model.specs.Accounts.{any, waiting, queued, in_flight}
+use Rattle.mesh_model.specs.Accounts.{any, waiting, queued_data, in_flight}
 use Rattle.mesh_model.specs.Codes.{world_code}
 
 -- the mesh, the world of its nodes, and how many steps were taken
@@ -46,7 +46,7 @@ most_steps = 2 ^ 48
 
 -- the data of a world, wherever they are
 abbrev pub data_of : World → ℕ
-data_of w = waiting any w + queued any w + in_flight any w
+data_of w = waiting any w + queued_data any w + in_flight any w
 
 -- what every world of the program keeps: there is a node for each address of the mesh; what
 -- excludes cycles, and that all is in its place; so no destination has a cycle, and quality rises

@@ -4,7 +4,7 @@ use Rattle.mesh_base.specs.Meshes.{Nodes}
 use Rattle.mesh_base.specs.declared.events.Done.{Done}
 use Rattle.mesh_model.specs.Worlds as worlds
 use Rattle.mesh_model.specs.Worlds.{World, Event, Give, Outcome, step}
-use Rattle.mesh_model.specs.Accounts.{any, given, delivered, dropped, doubled_at}
+use Rattle.mesh_model.specs.Accounts.{any, given_data, delivered_data, dropped_data, doubled_at}
 use Rattle.mesh_meaning.specs.Answers.{outcome_in, IsDoneInMesh}
 use Rattle.mesh_world.specs.Seen.{WorldSeen}
 use Rattle.mesh_world.specs.Steps.{is_idle, IsDone}
@@ -53,9 +53,9 @@ says_doubled others = false
 -- of the outcome of an event
 pub record IsTally (e : Event) (o : Outcome) (t : Tally) : Type 0 where
   pub idle : is_idle o ≡ says_idle t
-  pub given : given any e o ≡ count_of (says_given e t)
-  pub delivered : delivered any e o ≡ count_of (says_delivered t)
-  pub dropped : dropped any e o ≡ count_of (says_dropped t)
+  pub given : given_data any e o ≡ count_of (says_given e t)
+  pub delivered : delivered_data any e o ≡ count_of (says_delivered t)
+  pub dropped : dropped_data any e o ≡ count_of (says_dropped t)
   pub doubled : doubled_at o ≡ count_of (says_doubled t)
 
 -- of an answer, whichever event it is to and whatever world it comes of

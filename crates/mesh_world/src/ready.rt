@@ -2,7 +2,7 @@
 ghost use Rattle.std.specs.Prelude.{◌≡◌, ◌<◌, IfSome};
 ghost use Rattle.std.specs.FinSet as sets;
 ghost use Rattle.mesh_base.specs.Members.{IsLeastFrom};
-ghost use Rattle.mesh_world.specs.Noted.{none_ready, noted, with_turn, with_or_without, has_below};
+ghost use Rattle.mesh_world.specs.Noted.{none_ready, ready_with, with_turn, with_or_without, has_below};
 
 use aodv_node::Node;
 use mesh_base::NodeSet;
@@ -44,7 +44,7 @@ impl Ready {
     #[inline(always)]
     pub(crate) fn note(&mut self, x: usize, node: &Node, nodes: usize)
         requires { x < 256 }
-        ensures { self.new ≡ noted self.old x node.now nodes }
+        ensures { self.new ≡ ready_with self.old x node.now nodes }
     {
         put(&mut self.turns, x, !node.inbox().is_empty());
         put(&mut self.sends, x, has_below(&node.sendable(), nodes));

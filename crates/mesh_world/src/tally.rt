@@ -2,7 +2,7 @@
 ghost use Rattle.std.specs.Prelude.{◌≡◌, ℕ, List, true, Ok, IsOk};
 ghost use Rattle.mesh_base.specs.Meshes.{Nodes};
 ghost use Rattle.mesh_model.specs.Worlds.{World, Event as an_event, step};
-ghost use Rattle.mesh_model.specs.Accounts.{any, delivered, dropped, in_taken, in_dropped};
+ghost use Rattle.mesh_model.specs.Accounts.{any, delivered_data, dropped_data, in_taken, in_dropped};
 ghost use Rattle.mesh_meaning.specs.Answers.{outcome_in, took_in, IsDoneInMesh, IsTookInMesh};
 ghost use Rattle.mesh_world.specs.Seen.{WorldSeen};
 ghost use Rattle.mesh_world.specs.Steps.{IsStep};
@@ -58,7 +58,7 @@ fn delivers(done: &Done) -> bool
     ensures { (mesh : Nodes) (x : ℕ) (old new : World) (packet : List ℕ) (e : an_event)
         → IsDoneInMesh mesh done.now packet
         → step old e ≡ outcome_in mesh x new done.now packet
-        → delivered any e (step old e) ≡ count_of result }
+        → delivered_data any e (step old e) ≡ count_of result }
 {
     match done {
         Done::Taken { took, effect, .. } => effect.deliver && is_own_or_data(took),
@@ -76,7 +76,7 @@ fn delivers(done: &Done) -> bool
 fn drops(done: &Done) -> bool
     ensures { (mesh : Nodes) (x : ℕ) (w : World) (packet : List ℕ) (e : an_event)
         → IsDoneInMesh mesh done.now packet
-        → dropped any e (outcome_in mesh x w done.now packet) ≡ count_of result }
+        → dropped_data any e (outcome_in mesh x w done.now packet) ≡ count_of result }
 {
     match done {
         Done::Taken { took, effect, .. } => effect.lost && is_heard_data(took),

@@ -26,7 +26,7 @@ pub struct Totals {
 pub(crate) fn count_data(nodes: &[Node], radio: &Radio) -> Totals
     requires few { (mesh : Nodes) × AreCounted mesh nodes.now radio.now }
     ensures waiting { IsCountOf nodes.now radio.now (model.waiting any) result.waiting }
-    ensures queued { IsCountOf nodes.now radio.now (model.queued any) result.queued }
+    ensures queued { IsCountOf nodes.now radio.now (model.queued_data any) result.queued }
     ensures flying { IsCountOf nodes.now radio.now (model.in_flight any) result.flying }
 {
     let mut waiting = 0;

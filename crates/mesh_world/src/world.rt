@@ -183,7 +183,7 @@ impl World {
     /// at.
     pub fn totals(&self) -> Totals
         ensures waiting { result.waiting ≡ accounts.waiting any self.now.world }
-        ensures queued { result.queued ≡ accounts.queued any self.now.world }
+        ensures queued { result.queued ≡ accounts.queued_data any self.now.world }
         ensures flying { result.flying ≡ accounts.in_flight any self.now.world }
     {
         count_data(&self.parts.nodes, &self.parts.radio)

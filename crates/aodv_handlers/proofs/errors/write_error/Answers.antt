@@ -5,9 +5,9 @@ use Rattle.mesh_base.specs.declared.addr.Addr.{Addr}
 use Rattle.mesh_base.specs.declared.events.Variant.{Variant}
 use Rattle.mesh_base.specs.Meshes.{Nodes}
 use Rattle.aodv_wire.specs.declared.message.Message.TheVariants as messages
-use Rattle.aodv_wire.specs.Spells.{Spells, written}
+use Rattle.aodv_wire.specs.Spells.{Spells, spelling}
 use Rattle.aodv_model.specs.Tables.{Table, Dests}
-use Rattle.aodv_handlers.specs.Parts.{told}
+use Rattle.aodv_handlers.specs.Parts.{named_dests}
 use Rattle.aodv_meaning.specs.Sent.{pairs_of}
 use Rattle.aodv_handlers.proofs.RouteErrors.{HasTold, dest_below, told_none, told_more, told_same, told_all, writable}
 use Rattle.aodv_handlers.proofs.errors.write_error.Goals.{then-is_told, else-is_told}
@@ -45,7 +45,7 @@ loop-k-preserved g c =
           (sym c.is_told.ensures ∙ w.if-is_told.false))
     ]
 
-ended : (mesh : Nodes) (v : Variant) (rt : Table) (dests : Dests) (k n : ℕ) (pairs slice : List (Addr × ℕ)) → HasTold mesh v rt dests k pairs → n ≡ length (maps.entries dests) → n ≤ k → slice ≡ pairs → slice ≡ pairs_of mesh (told v rt dests)
+ended : (mesh : Nodes) (v : Variant) (rt : Table) (dests : Dests) (k n : ℕ) (pairs slice : List (Addr × ℕ)) → HasTold mesh v rt dests k pairs → n ≡ length (maps.entries dests) → n ≤ k → slice ≡ pairs → slice ≡ pairs_of mesh (named_dests v rt dests)
 ended mesh v rt dests k n pairs slice has n_is end is = is ∙ told_all mesh v rt dests k pairs has (omega arith)
 
 pub write_rerr-requires : goal.write_rerr-requires
@@ -61,6 +61,6 @@ returns g c =
     let rt = g.T.Table.entries c.args.table.now in
     let pairs = ended mesh c.args.variant rt c.args.dests.now c.loop-k.k c.len-k-end.result c.loop-k.pairs.items c.as_slice.result.now c.loop-k.invariant c.len-k-end.ensures.value c.loop-k-test.false c.as_slice.ensures.value in
     record {
-      written = c.write_rerr.ensures.written ∙ ap (λ ps. written (messages.Rerr ps)) pairs;
+      written = c.write_rerr.ensures.written ∙ ap (λ ps. spelling (messages.Rerr ps)) pairs;
       spells = subst (λ ps. Spells c.write_rerr.new.out.items (messages.Rerr ps)) pairs c.write_rerr.ensures.spells;
     }

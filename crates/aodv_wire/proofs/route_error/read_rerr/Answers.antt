@@ -3,7 +3,7 @@ use Rattle.std.specs.Prelude.{option_map}
 use Rattle.aodv_wire.specs.declared.error.WireError.TheVariants.{Repeated}
 use Rattle.aodv_wire.specs.declared.message.Message.TheVariants.{Rerr}
 use Rattle.aodv_wire.specs.Layout.{number_at, place}
-use Rattle.aodv_wire.specs.RouteError.{repeated}
+use Rattle.aodv_wire.specs.RouteError.{repeated_address}
 use Rattle.aodv_wire.proofs.Lines.{are_bytes, refusal_rerr, said_rerr}
 use Rattle.aodv_wire.proofs.Profile.{rerr_outside, rerr_nobody, rerr_repeated, destinations_behind}
 use Rattle.aodv_wire.proofs.route_error.read_rerr.Goals as goal
@@ -28,7 +28,7 @@ returns-in-Some c =
     let len : length b ≡ 4 + 8 * number_at b (place 0 24 8) = omega (arith, c.if-len-from.false, c.from.ensures, c.last_octet-count.ensures) in
     refusal_rerr b c.requires.some c.requires.kind
     ∙ rerr_repeated b (are_bytes b c.type_inv.bytes) (omega arith) len c.if-bytes-ne0.false (λ e. c.if-count-eq0.false (c.last_octet-count.ensures ∙ e))
-    ∙ ap (λ ps. option_map Repeated (repeated ps)) (sym (destinations_behind b _ len c.split_at.ensures.back))
+    ∙ ap (λ ps. option_map Repeated (repeated_address ps)) (sym (destinations_behind b _ len c.split_at.ensures.back))
     ∙ ap (option_map Repeated) (sym c.repeated_address.ensures ∙ c.in-Some.is)
 
 pub returns-in-None : goal.returns-in-None
@@ -39,7 +39,7 @@ returns-in-None c =
       allowed =
           refusal_rerr b c.requires.some c.requires.kind
           ∙ rerr_repeated b (are_bytes b c.type_inv.bytes) (omega arith) len c.if-bytes-ne0.false (λ e. c.if-count-eq0.false (c.last_octet-count.ensures ∙ e))
-          ∙ ap (λ ps. option_map Repeated (repeated ps)) (sym (destinations_behind b _ len c.split_at.ensures.back))
+          ∙ ap (λ ps. option_map Repeated (repeated_address ps)) (sym (destinations_behind b _ len c.split_at.ensures.back))
           ∙ ap (option_map Repeated) (sym c.repeated_address.ensures ∙ c.in-None.is);
       stands = said_rerr b c.requires.kind ∙ ap Rerr (sym (destinations_behind b _ len c.split_at.ensures.back));
     }

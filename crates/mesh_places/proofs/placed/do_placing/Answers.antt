@@ -1,8 +1,8 @@
 use Rattle.std.proofs.Common.{◌∙◌, sym, ap, subst, arith}
 use Rattle.std.proofs.lemmas.Result.{err_from_is_err_and}
 use Rattle.mesh_run.specs.declared.stop.Stop.{Stop}
-use Rattle.mesh_text.specs.Schedule.{counted}
-use Rattle.mesh_grid.specs.Links.{come}
+use Rattle.mesh_text.specs.Schedule.{with_line_read}
+use Rattle.mesh_grid.specs.Links.{with_placing}
 use Rattle.mesh_grid.specs.Runs.{events_of_placing}
 use Rattle.mesh_grid.proofs.PlaceSteps.{places-placing, lines_after}
 use Rattle.mesh_places.specs.Moments.{IsWant, moment_of}
@@ -37,11 +37,11 @@ count_line-requires g c =
 
 pub returns-clause-comes : goal.returns-clause-comes
 returns-clause-comes g c =
-    let is = c.count_line.ensures ∙ ap counted c.in_ok-do_coming.ensures.moment in
+    let is = c.count_line.ensures ∙ ap with_line_read c.in_ok-do_coming.ensures.moment in
     record {
       comes = line_done c.args.reach (moment_of c.args.at.now) c.args.bytes.now c.args.new.now c.count_line.new.self (g.O.Sink.held c.args.out.now) (g.O.Sink.held c.put_echo.new.out) (g.O.Sink.held c.do_coming.new.out)
           c.requires.said is c.in_ok-put_echo.ensures.text c.in_ok-do_coming.ensures.text;
-      places = c.come.ensures ∙ ap (λ p. come p c.args.new.now) c.do_coming.ensures.places ∙ sym (places-placing (moment_of c.args.at.now) c.args.bytes.now c.args.new.now c.requires.said);
+      places = c.come.ensures ∙ ap (λ p. with_placing p c.args.new.now) c.do_coming.ensures.places ∙ sym (places-placing (moment_of c.args.at.now) c.args.bytes.now c.args.new.now c.requires.said);
       lines = lines_grow c.args.reach (moment_of c.args.at.now) c.args.new.now c.count_line.new.self is;
       steps = steps_grow c.args.reach (moment_of c.args.at.now) c.args.bytes.now c.args.new.now c.count_line.new.self c.requires.nodes c.requires.said is;
     }

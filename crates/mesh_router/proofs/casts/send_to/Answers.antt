@@ -1,7 +1,7 @@
 use Rattle.std.proofs.Common.{◌∷◌, [], ℕ, List, refl, ◌∙◌, sym, subst, rules}
 use Rattle.mesh_link.specs.Datagrams.{Datagram, datagram}
 use Rattle.mesh_router.specs.Casts.{port_at, to_line}
-use Rattle.mesh_router.specs.Logs.{Sent, written}
+use Rattle.mesh_router.specs.Logs.{Sent, text_log}
 use Rattle.mesh_router.specs.Outputs.{SendsAll}
 use Rattle.mesh_router.proofs.Logging.{says-fault, prefix-more, prefix-text, prefix-unsent, adds-join, adds-text, adds-datagram}
 use Rattle.mesh_router.proofs.Peers.{port_is}
@@ -15,7 +15,7 @@ pub returns-in_err-put_to-clause-says : goal.returns-in_err-put_to-clause-says
 returns-in_err-put_to-clause-says g c =
     let p = c.args.peers.now in
     says-fault _ _ _ _ (search rules)
-    (prefix-more _ _ (written (to_line p c.args.x)) (Sent (datagram (port_at p c.args.x) c.args.packet.now.items) ∷ [])
+    (prefix-more _ _ (text_log (to_line p c.args.x)) (Sent (datagram (port_at p c.args.x) c.args.packet.now.items) ∷ [])
     (prefix-text _ _ _ _ (to_line p c.args.x) refl c.in_err-put_to.ensures.text))
 
 pub returns-in_err-send-clause-says : goal.returns-in_err-send-clause-says
@@ -30,7 +30,7 @@ returns-clause-says g c =
     let line = to_line p c.args.x in
     let port = port_is p c.args.x c.in-Some.port (sym c.port.ensures.value ∙ c.in-Some.is) in
     let d : Datagram = datagram (port_at p c.args.x) c.args.packet.now.items in
-    adds-join _ (g.O.Sink.held c.put_to.new.out, g.L.Link.sent c.args.link.now) _ (written line) (Sent d ∷ [])
+    adds-join _ (g.O.Sink.held c.put_to.new.out, g.L.Link.sent c.args.link.now) _ (text_log line) (Sent d ∷ [])
     (adds-text _ _ _ _ line refl c.in_ok-put_to.ensures.text)
     (adds-datagram _ _ _ d
     (subst (λ (k : ℕ). SendsAll (g.L.Link.sent c.args.link.now) (g.L.Link.sent c.send.new.self) (datagram k c.args.packet.now.items ∷ [])) (sym port)

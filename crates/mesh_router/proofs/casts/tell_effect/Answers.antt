@@ -14,7 +14,7 @@ use Rattle.mesh_base.specs.Members.{NodeIds}
 use Rattle.mesh_meaning.specs.Answers.{cast_in}
 use Rattle.mesh_io.specs.Puts.{AppendsPrefix}
 use Rattle.mesh_router.specs.Casts.{sent_to_each}
-use Rattle.mesh_router.specs.Logs.{Log, written, followed_by}
+use Rattle.mesh_router.specs.Logs.{Log, text_log, followed_by}
 use Rattle.mesh_router.specs.Outputs.{Says}
 use Rattle.mesh_router.proofs.Logging.{says-fault, prefix-more, prefix-text, adds-text, says-join}
 use Rattle.mesh_router.proofs.casts.tell_effect.Goals as goal
@@ -27,7 +27,7 @@ returns-in_err-put_effect-clause-says g c =
     let log = code_text p.mesh c.args.me (option_map (λ (t : Bor Took). t.now) c.args.took) c.args.effect.now packet in
     let e : text c.mesh-2.result.now ≡ log = ap text c.mesh-2.ensures.mesh ∙ effect_is p.mesh c.args.me c.args.took c.args.effect.now packet in
     says-fault _ _ _ c.from_residual.result c.from_residual.ensures.0
-    (prefix-more _ _ (written log) (sent_to_each p packet (members_below (length p.mesh) (receivers c.args.range.now (cast_in p.mesh c.args.effect.now.cast packet))))
+    (prefix-more _ _ (text_log log) (sent_to_each p packet (members_below (length p.mesh) (receivers c.args.range.now (cast_in p.mesh c.args.effect.now.cast packet))))
     (prefix-text _ _ _ _ log refl
     (subst (λ (l : List ℕ). AppendsPrefix (g.O.Sink.held c.args.out.now) (g.O.Sink.held c.put_effect.new.out) l) e c.in_err-put_effect.ensures.text)))
 
@@ -49,7 +49,7 @@ returns-clause-says g c =
     let e : text c.mesh-2.result.now ≡ log = ap text c.mesh-2.ensures.mesh ∙ effect_is p.mesh c.args.me c.args.took c.args.effect.now packet in
     let to : NodeIds → Log = λ s. sent_to_each p packet (members_below (length p.mesh) s) in
     let q : to c.receivers-to.result ≡ to (receivers c.args.range.now cast) = ap to (c.receivers-to.ensures p.mesh packet) in
-    subst (λ (s : Log). Says (g.O.Sink.held c.args.out.now, g.L.Link.sent c.args.link.now) (g.O.Sink.held c.send_to_each.new.out, g.L.Link.sent c.send_to_each.new.link) (followed_by (written log) s) c.send_to_each.result) q
-    (says-join _ (g.O.Sink.held c.put_effect.new.out, g.L.Link.sent c.args.link.now) _ (written log) (to c.receivers-to.result) c.send_to_each.result
+    subst (λ (s : Log). Says (g.O.Sink.held c.args.out.now, g.L.Link.sent c.args.link.now) (g.O.Sink.held c.send_to_each.new.out, g.L.Link.sent c.send_to_each.new.link) (followed_by (text_log log) s) c.send_to_each.result) q
+    (says-join _ (g.O.Sink.held c.put_effect.new.out, g.L.Link.sent c.args.link.now) _ (text_log log) (to c.receivers-to.result) c.send_to_each.result
     (adds-text _ _ _ _ log refl (subst (λ (l : List ℕ). Appends (g.O.Sink.held c.args.out.now) (g.O.Sink.held c.put_effect.new.out) l) e c.in_ok-put_effect.ensures.text))
     c.send_to_each.ensures.says)

@@ -1,7 +1,7 @@
 use Rattle.std.proofs.Common.{◌≡◌, ◌≤◌, Ok, Err, ap, ◌∙◌, sym, subst, arith}
 use Rattle.std.proofs.lemmas.Result.{err_from_is_err_and}
 use Rattle.mesh_peers.specs.Peers.{PeersSeen}
-use Rattle.mesh_peers.specs.Lines.{Accepted, Polls}
+use Rattle.mesh_peers.specs.Lines.{AcceptedLine, Polls}
 use Rattle.mesh_peers.specs.Seen.{accepted_of, IsPrintable}
 use Rattle.mesh_peers.specs.declared.line.NodeLine.{NodeLine}
 use Rattle.mesh_router.specs.declared.stop.Stop.{Stop}
@@ -35,9 +35,9 @@ returns-in_err-poll-clause-line g c =
     let q = err_from_is_err_and r c.from_residual-in_err-poll.ensures.1 in
     let m = c.args.at.now in
     let e : accepted_of c.args.line.now ≡ Polls c.args.count = ap accepted_of c.requires.line in
-    let told = subst (λ (k : Accepted). IsPollLine c.args.count (words_at c.begin.new.self.stage k) (router_in c.begin.new.self.stage) (g.L.Link.arrived c.args.link.now) (g.L.Link.arrived c.poll.new.link) (g.O.Sink.held c.args.out.now, g.L.Link.sent c.args.link.now) (g.O.Sink.held c.poll.new.out, g.L.Link.sent c.poll.new.link) (router_in c.poll.new.self.stage) (Err q.0)) e
+    let told = subst (λ (k : AcceptedLine). IsPollLine c.args.count (words_at c.begin.new.self.stage k) (router_in c.begin.new.self.stage) (g.L.Link.arrived c.args.link.now) (g.L.Link.arrived c.poll.new.link) (g.O.Sink.held c.args.out.now, g.L.Link.sent c.args.link.now) (g.O.Sink.held c.poll.new.out, g.L.Link.sent c.poll.new.link) (router_in c.poll.new.self.stage) (Err q.0)) e
     (subst (λ (x : Stop). IsPollLine c.args.count (words_at c.begin.new.self.stage (accepted_of c.args.line.now)) (router_in c.begin.new.self.stage) (g.L.Link.arrived c.args.link.now) (g.L.Link.arrived c.poll.new.link) (g.O.Sink.held c.args.out.now, g.L.Link.sent c.args.link.now) (g.O.Sink.held c.poll.new.out, g.L.Link.sent c.poll.new.link) (router_in c.poll.new.self.stage) (Err x)) (sym q.2) c.in_err-poll.ensures.polls) in
-    subst (λ (k : Accepted). IsLineRun (outcome_of_line m k) (refused_words m.stage k) c.poll.new.self (g.L.Link.arrived c.args.link.now) (g.L.Link.arrived c.poll.new.link) (g.O.Sink.held c.args.out.now, g.L.Link.sent c.args.link.now) (g.O.Sink.held c.poll.new.out, g.L.Link.sent c.poll.new.link) r) (sym e)
+    subst (λ (k : AcceptedLine). IsLineRun (outcome_of_line m k) (refused_words m.stage k) c.poll.new.self (g.L.Link.arrived c.args.link.now) (g.L.Link.arrived c.poll.new.link) (g.O.Sink.held c.args.out.now, g.L.Link.sent c.args.link.now) (g.O.Sink.held c.poll.new.out, g.L.Link.sent c.poll.new.link) r) (sym e)
     (poll_stopped m c.begin.new.self c.args.count c.poll.new.self _ _ _ _ r q.0 c.in_ok-begin.ensures.ok q.1 told)
 
 pub returns-in_err-poll-clause-peers : goal.returns-in_err-poll-clause-peers
@@ -48,8 +48,8 @@ pub returns-clause-line : goal.returns-clause-line
 returns-clause-line g c =
     let m = c.args.at.now in
     let e : accepted_of c.args.line.now ≡ Polls c.args.count = ap accepted_of c.requires.line in
-    let told = subst (λ (k : Accepted). IsPollLineDone c.args.count (words_at c.begin.new.self.stage k) (router_in c.begin.new.self.stage) (router_in c.poll.new.self.stage) (g.L.Link.arrived c.args.link.now) (g.L.Link.arrived c.poll.new.link) (g.O.Sink.held c.args.out.now, g.L.Link.sent c.args.link.now) (g.O.Sink.held c.poll.new.out, g.L.Link.sent c.poll.new.link)) e c.in_ok-poll.ensures.polls in
-    subst (λ (k : Accepted). IsLineRun (outcome_of_line m k) (refused_words m.stage k) c.count_line.new.self (g.L.Link.arrived c.args.link.now) (g.L.Link.arrived c.poll.new.link) (g.O.Sink.held c.args.out.now, g.L.Link.sent c.args.link.now) (g.O.Sink.held c.poll.new.out, g.L.Link.sent c.poll.new.link) (Ok tt)) (sym e)
+    let told = subst (λ (k : AcceptedLine). IsPollLineDone c.args.count (words_at c.begin.new.self.stage k) (router_in c.begin.new.self.stage) (router_in c.poll.new.self.stage) (g.L.Link.arrived c.args.link.now) (g.L.Link.arrived c.poll.new.link) (g.O.Sink.held c.args.out.now, g.L.Link.sent c.args.link.now) (g.O.Sink.held c.poll.new.out, g.L.Link.sent c.poll.new.link)) e c.in_ok-poll.ensures.polls in
+    subst (λ (k : AcceptedLine). IsLineRun (outcome_of_line m k) (refused_words m.stage k) c.count_line.new.self (g.L.Link.arrived c.args.link.now) (g.L.Link.arrived c.poll.new.link) (g.O.Sink.held c.args.out.now, g.L.Link.sent c.args.link.now) (g.O.Sink.held c.poll.new.out, g.L.Link.sent c.poll.new.link) (Ok tt)) (sym e)
     (poll_done m c.begin.new.self c.args.count c.poll.new.self c.count_line.new.self _ _ _ _ c.in_ok-begin.ensures.ok told
     (counted_step m c.begin.new.self c.poll.new.self c.count_line.new.self c.in_ok-begin.ensures.ok c.poll.ensures.stage c.count_line.ensures))
 

@@ -4,11 +4,11 @@ use Rattle.std.specs.Io.KnownBytes.{Appends}
 use Rattle.mesh_io.specs.Puts.{AppendsPrefix}
 use Rattle.mesh_grammar.specs.Written.{line}
 use Rattle.mesh_peers.specs.Peers.{PeersSeen, with_self}
-use Rattle.mesh_peers.specs.Lines.{Accepted, Own, words_of}
+use Rattle.mesh_peers.specs.Lines.{AcceptedLine, Own, words_of}
 use Rattle.mesh_peers.specs.Seen.{accepted_of}
 use Rattle.mesh_router.specs.Routers.{Joining, Moment, peers_in, router_in, counted_at}
 use Rattle.mesh_router.specs.Finds.{Find}
-use Rattle.mesh_router.specs.Lines.{outcome_of_line, joined, words_at, refused_words}
+use Rattle.mesh_router.specs.Lines.{outcome_of_line, join_outcome, words_at, refused_words}
 use Rattle.mesh_router.proofs.Logging.{adds-text, prefix-text}
 use Rattle.mesh_router.proofs.Running.{outcome_self, joined_cut, joined_done, grown_joined, counted_joined}
 use Rattle.mesh_router.proofs.lines.do_self.Goals as goal
@@ -19,8 +19,8 @@ returns-in_err-put_line-clause-line g c =
     let l = accepted_of c.args.line.now in
     let e : l ≡ Own c.args.addr.0 c.args.first = ap accepted_of c.requires.line in
     let stage = Joining (with_self (peers_in m.stage) c.args.addr.0 c.args.first) in
-    let is : (finds : List Find) → outcome_of_line m l finds ≡ joined m l stage finds =
-    λ finds. subst (λ (k : Accepted). outcome_of_line m k finds ≡ joined m k stage finds) (sym e) (outcome_self m c.args.addr.0 c.args.first finds) in
+    let is : (finds : List Find) → outcome_of_line m l finds ≡ join_outcome m l stage finds =
+    λ finds. subst (λ (k : AcceptedLine). outcome_of_line m k finds ≡ join_outcome m k stage finds) (sym e) (outcome_self m c.args.addr.0 c.args.first finds) in
     let text : PeersSeen → List ℕ = λ p. line (words_of p.mesh l) in
     let q = err_from_is_err_and c.from_residual.result c.from_residual.ensures.1 in
     let put = subst (λ (t : List ℕ). AppendsPrefix (g.O.Sink.held c.args.out.now) (g.O.Sink.held c.put_line.new.out) t) (ap text c.peers.ensures) c.in_err-put_line.ensures.text in
@@ -32,8 +32,8 @@ returns-clause-line g c =
     let l = accepted_of c.args.line.now in
     let e : l ≡ Own c.args.addr.0 c.args.first = ap accepted_of c.requires.line in
     let stage = Joining (with_self (peers_in m.stage) c.args.addr.0 c.args.first) in
-    let is : (finds : List Find) → outcome_of_line m l finds ≡ joined m l stage finds =
-    λ finds. subst (λ (k : Accepted). outcome_of_line m k finds ≡ joined m k stage finds) (sym e) (outcome_self m c.args.addr.0 c.args.first finds) in
+    let is : (finds : List Find) → outcome_of_line m l finds ≡ join_outcome m l stage finds =
+    λ finds. subst (λ (k : AcceptedLine). outcome_of_line m k finds ≡ join_outcome m k stage finds) (sym e) (outcome_self m c.args.addr.0 c.args.first finds) in
     let text : PeersSeen → List ℕ = λ p. line (words_of p.mesh l) in
     let put = subst (λ (t : List ℕ). Appends (g.O.Sink.held c.args.out.now) (g.O.Sink.held c.put_line.new.out) t) (ap text c.peers.ensures) c.in_ok-put_line.ensures.text in
     λ arrived sent. joined_done m l stage (refused_words m.stage l) c.count_line.new.self arrived _ _ is (counted_joined m c.set_self.new.self c.count_line.new.self stage c.set_self.ensures c.count_line.ensures)

@@ -1,5 +1,5 @@
 use Rattle.std.proofs.Common.{◌∙◌, ℕ, List, Ok, Err, refl, sym, ap, subst, rules}
-use Rattle.mesh_text.specs.Schedule.{Moment, Chooses, counted}
+use Rattle.mesh_text.specs.Schedule.{Moment, Chooses, with_line_read}
 use Rattle.mesh_text.specs.Auto.{auto_end, events_chosen}
 use Rattle.mesh_text.specs.Text.{outcome_of_line}
 use Rattle.std.specs.Io.KnownBytes.{Appends}
@@ -37,7 +37,7 @@ returns-then-quiet-clause-comes g c =
     let P : List ℕ → Type 0 = λ l. Appends (g.O.Sink.held c.args.out.now) (g.O.Sink.held c.say_echo.new.out) l in
     let many = chosen_many c.at.inside.state c.args.at.now c.args.count c.in-Ok.did c.at.view_is c.in-Ok.ensures.did in
     let ran = chosen_ran c.args.quiet c.at.inside.state c.args.at.now c.do_events-ran.new.task.at.now c.args.count _ _ (Ok c.in-Ok.did) c.at.view_is c.in-Ok.ensures.ran in
-    subst (λ (n : Moment). IsLineDone c.args.quiet (outcome_of_line c.args.at.now (Chooses c.args.count)) (counted n) (g.O.Sink.held c.args.out.now) (g.O.Sink.held c.do_events-ran.new.out))
+    subst (λ (n : Moment). IsLineDone c.args.quiet (outcome_of_line c.args.at.now (Chooses c.args.count)) (with_line_read n) (g.O.Sink.held c.args.out.now) (g.O.Sink.held c.do_events-ran.new.out))
     (search rules)
     (auto_goes c.args.quiet c.args.at.now c.args.at.now c.do_events-ran.new.task.at.now _ c.args.count c.in-Ok.did _ (g.O.Sink.held c.say_echo.new.out) (g.O.Sink.held c.do_events-ran.new.out) _ (started_same c.args.at.now c.requires.started) many
     (subst P (echoed c.args.quiet c.args.bytes.now _ (λ loud. (c.requires.echo loud).1)) c.in_ok-say_echo.ensures.text) ran (quiet_none c.args.quiet (auto_end c.in-Ok.did) _ c.if-quiet.true) refl)
@@ -57,7 +57,7 @@ returns-clause-comes g c =
     let many = chosen_many c.at.inside.state c.args.at.now c.args.count c.in-Ok.did c.at.view_is c.in-Ok.ensures.did in
     let ran = chosen_ran c.args.quiet c.at.inside.state c.args.at.now c.do_events-ran.new.task.at.now c.args.count _ _ (Ok c.in-Ok.did) c.at.view_is c.in-Ok.ensures.ran in
     auto_goes c.args.quiet c.args.at.now c.args.at.now c.do_events-ran.new.task.at.now _ c.args.count c.in-Ok.did _ (g.O.Sink.held c.say_echo.new.out) (g.O.Sink.held c.do_events-ran.new.out) _ (started_same c.args.at.now c.requires.started) many
-    (subst P (echoed c.args.quiet c.args.bytes.now _ (λ loud. (c.requires.echo loud).1)) c.in_ok-say_echo.ensures.text) ran (loud_whole c.args.quiet _ _ _ c.if-quiet.false c.in_ok-put_auto_end.ensures.text) (ap counted (c.at-2.view_is ∙ search rules))
+    (subst P (echoed c.args.quiet c.args.bytes.now _ (λ loud. (c.requires.echo loud).1)) c.in_ok-say_echo.ensures.text) ran (loud_whole c.args.quiet _ _ _ c.if-quiet.false c.in_ok-put_auto_end.ensures.text) (ap with_line_read (c.at-2.view_is ∙ search rules))
 
 pub returns-in-Err-clause-way : goal.returns-in-Err-clause-way
 returns-in-Err-clause-way g c = chosen_way c.at.inside.state c.args.at.now c.do_events-ran.new.task.at.now _ c.args.count c.at.view_is (search rules) c.in-Err.ensures.way

@@ -1,5 +1,5 @@
 use Rattle.std.proofs.Common.{◌≡◌, ◌∙◌, ◌<◌, ◌⊎◌, sym, ap, subst, length, take, arith}
-use Rattle.mesh_checkpoint.specs.State.{stated}
+use Rattle.mesh_checkpoint.specs.State.{stated_size}
 use Rattle.mesh_state.specs.declared.front.TheConstants.{HEAD_SIZE}
 use Rattle.mesh_state.specs.Fronts.{IsOtherHead}
 use Rattle.mesh_state.proofs.Fronts.{taken_alone, taken_body}
@@ -19,7 +19,7 @@ returns-clause-taken g c =
           let size : length head ≡ 8 = ap length (sym seen) ∙ w.in-Some.ensures.whole in
           let says = w.in-Some.ensures.size in
           taken_body (left c.args.input.now) (left c.take_more.new.input) (left w.take_more-in-Some.new.input) (left c.match-body_size.input) _ _ w.in-Some.size head w.take_more-in-Some.new.bytes.items c.match-body_size.front.items
-          (ap (λ v. v.items) w.front-is) (ap left w.input-is) c.new-front.ensures.len c.in_ok-take_more.ensures.taken (omega arith) size (says.0 ∙ ap stated seen) says.1 (ap (take 4) (sym seen) ∙ w.in-Some.ensures.first) w.in_ok-take_more-2.ensures.kept w.in_ok-take_more-2.ensures.taken
+          (ap (λ v. v.items) w.front-is) (ap left w.input-is) c.new-front.ensures.len c.in_ok-take_more.ensures.taken (omega arith) size (says.0 ∙ ap stated_size seen) says.1 (ap (take 4) (sym seen) ∙ w.in-Some.ensures.first) w.in_ok-take_more-2.ensures.kept w.in_ok-take_more-2.ensures.taken
       | in_default w ↦
           let other : (length head < HEAD_SIZE) ⊎ IsOtherHead head = subst (λ l. (length l < HEAD_SIZE) ⊎ IsOtherHead l) seen w.in_default.ensures.none in
           taken_alone (left c.args.input.now) (left c.take_more.new.input) (left c.match-body_size.input) _ head c.match-body_size.front.items (ap (λ v. v.items) w.front-is) (ap left w.input-is) c.new-front.ensures.len c.in_ok-take_more.ensures.taken other

@@ -1,5 +1,5 @@
 use Rattle.std.proofs.Common.{ap, ◌∙◌}
-use Rattle.mesh_model.specs.Accounts.{any, doubled_at, dropped}
+use Rattle.mesh_model.specs.Accounts.{any, doubled_at, dropped_data}
 use Rattle.mesh_meaning.specs.Answers.{outcome_in}
 use Rattle.mesh_world.specs.Steps.{is_idle}
 use Rattle.mesh_world.proofs.Gains.{gives_none, delivers_none}
@@ -12,7 +12,7 @@ returns-in-Taken c = λ mesh x old new packet e all is.
       idle = ap is_idle here;
       given = gives_none old new e _ tt here;
       delivered = c.delivers.ensures mesh x old new packet e all is;
-      dropped = ap (dropped any e) is ∙ c.drops.ensures mesh x new packet e all;
+      dropped = ap (dropped_data any e) is ∙ c.drops.ensures mesh x new packet e all;
       doubled = ap doubled_at here;
     }
 
@@ -23,7 +23,7 @@ returns-in-Sent c = λ mesh x old new packet e all is.
       idle = ap is_idle here;
       given = gives_none old new e _ tt here;
       delivered = delivers_none old new e _ tt here;
-      dropped = ap (dropped any e) here;
+      dropped = ap (dropped_data any e) here;
       doubled = ap doubled_at here;
     }
 
@@ -34,7 +34,7 @@ returns-in-Heard c = λ mesh x old new packet e all is.
       idle = ap is_idle here;
       given = gives_none old new e _ tt here;
       delivered = delivers_none old new e _ tt here;
-      dropped = ap (dropped any e) here;
+      dropped = ap (dropped_data any e) here;
       doubled = ap doubled_at here;
     }
 
@@ -45,7 +45,7 @@ returns-in-Lost c = λ mesh x old new packet e all is.
       idle = ap is_idle here;
       given = gives_none old new e _ tt here;
       delivered = delivers_none old new e _ tt here;
-      dropped = ap (dropped any e) is ∙ c.drops-in-Lost.ensures mesh x new packet e all;
+      dropped = ap (dropped_data any e) is ∙ c.drops-in-Lost.ensures mesh x new packet e all;
       doubled = ap doubled_at here;
     }
 
@@ -56,6 +56,6 @@ returns-in-Doubled c = λ mesh x old new packet e all is.
       idle = ap is_idle here;
       given = gives_none old new e _ tt here;
       delivered = delivers_none old new e _ tt here;
-      dropped = ap (dropped any e) here;
+      dropped = ap (dropped_data any e) here;
       doubled = ap doubled_at here;
     }

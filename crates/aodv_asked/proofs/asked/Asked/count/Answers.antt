@@ -1,5 +1,5 @@
 use Rattle.std.proofs.Common.{◌<◌, ◌≤◌, ◌+◌, length, ap, subst, ◌∙◌, arith}
-use Rattle.aodv_asked.specs.Tops.{topped, with_interval, IsBehind}
+use Rattle.aodv_asked.specs.Tops.{rows_with_tops, with_interval, IsBehind}
 use Rattle.aodv_asked.proofs.RowLaws.{rows_len, row_read}
 use Rattle.aodv_asked.proofs.TopLaws.{count_all, count_few}
 use Rattle.aodv_asked.proofs.KeptLaws.{top_read, behind_topped, ids_topped}
@@ -28,6 +28,6 @@ returns c =
     let top = top_read tops c.args.o v (omega (arith, c.self.invariant.each)) c.index-2.ensures in
     let ids = row_read rows c.args.o row lt c.index.ensures in
     let behind = subst (λ s. IsBehind s v) ids (behind_topped rows tops c.self.inside.roomy c.args.o v c.self.invariant top) in
-    count_beside (topped rows tops) c.args.self.now.pairs c.args.o (c.count.result + c.count-2.result) (with_interval row.ids v) (ap (λ s. s.pairs) c.self.view_is)
+    count_beside (rows_with_tops rows tops) c.args.self.now.pairs c.args.o (c.count.result + c.count-2.result) (with_interval row.ids v) (ap (λ s. s.pairs) c.self.view_is)
     (ids_topped rows tops c.args.o v lt top ∙ ap (λ s. with_interval s v) ids)
     (λ n below. ap (λ k. c.count.result + k) c.count-2.ensures.value ∙ count_all row.ids v c.count.result n behind c.count.ensures below)

@@ -1,5 +1,5 @@
 use Rattle.std.proofs.Common.{◌<◌, length, Some, ap, subst, ◌∙◌, arith}
-use Rattle.aodv_asked.specs.Tops.{topped, top_at, with_interval, IsBehind}
+use Rattle.aodv_asked.specs.Tops.{rows_with_tops, top_at, with_interval, IsBehind}
 use Rattle.aodv_asked.proofs.RowLaws.{rows_len, row_read, least_shown}
 use Rattle.aodv_asked.proofs.TopLaws.{least_row, least_top}
 use Rattle.aodv_asked.proofs.KeptLaws.{top_read, topped_at, ids_topped}
@@ -14,7 +14,7 @@ returns-in-Some c =
     let lt : c.args.o < length rows = omega (arith, c.requires, rows_len rows _ (ap (λ s. s.rooms) c.self.view_is)) in
     let ids = row_read rows c.args.o row lt c.index.ensures in
     let behind = subst (λ s. IsBehind s v) ids (c.self.invariant.behind c.args.o) in
-    least_shown (topped rows tops) c.args.self.now.pairs c.args.o c.args.from (Some c.in-Some.id) (with_interval row.ids v) (ap (λ s. s.pairs) c.self.view_is)
+    least_shown (rows_with_tops rows tops) c.args.self.now.pairs c.args.o c.args.from (Some c.in-Some.id) (with_interval row.ids v) (ap (λ s. s.pairs) c.self.view_is)
     (topped_at rows tops c.args.o lt ∙ ap (λ s. with_interval s v) ids)
     (least_row row.ids v c.args.from c.in-Some.id behind c.in-Some.ensures)
 
@@ -27,6 +27,6 @@ returns-in-None c =
     let lt : c.args.o < length rows = omega (arith, c.requires, rows_len rows _ (ap (λ s. s.rooms) c.self.view_is)) in
     let ids = row_read rows c.args.o row lt c.index.ensures in
     let top = top_read tops c.args.o v (omega (arith, c.self.invariant.each)) c.index-in-None.ensures in
-    least_shown (topped rows tops) c.args.self.now.pairs c.args.o c.args.from c.least_from-in-None.result (with_interval row.ids v) (ap (λ s. s.pairs) c.self.view_is)
+    least_shown (rows_with_tops rows tops) c.args.self.now.pairs c.args.o c.args.from c.least_from-in-None.result (with_interval row.ids v) (ap (λ s. s.pairs) c.self.view_is)
     (ids_topped rows tops c.args.o v lt top ∙ ap (λ s. with_interval s v) ids)
     (least_top row.ids v c.args.from c.least_from-in-None.result c.in-None.ensures c.least_from-in-None.ensures)

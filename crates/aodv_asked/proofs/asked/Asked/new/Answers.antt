@@ -4,7 +4,7 @@ use Rattle.std.proofs.lemmas.List.{length-append}
 use Rattle.std.specs.List.{All}
 use Rattle.aodv_asked.specs.Intervals.{RoomyIds}
 use Rattle.aodv_asked.specs.Rows.{pairs_of}
-use Rattle.aodv_asked.specs.Tops.{no_top, topped, AreKept}
+use Rattle.aodv_asked.specs.Tops.{no_top, rows_with_tops, AreKept}
 use Rattle.aodv_asked.proofs.RowLaws.{AreEmpty, empty_at, empty_push, empty_pairs, rooms_are, rooms_push}
 use Rattle.aodv_asked.proofs.KeptLaws.{topped_none, kept_none, none_noted, noted_below, room_of_all}
 use Rattle.aodv_asked.proofs.asked.Asked.new.Goals as goal
@@ -34,7 +34,7 @@ invariant_of-result c =
 pub returns-clause-pairs : goal.returns-clause-pairs
 returns-clause-pairs c =
     let tops : c.in_ok-tops.tops.items ≡ replicate c.args.nodes no_top = c.in_ok-tops.ensures.items_if_clones_equal (λ y same. same) ∙ ap (replicate c.args.nodes) c.none.ensures in
-    ap (λ vs. pairs_of (topped c.loop-o.rows.items vs)) tops ∙ ap pairs_of (topped_none c.loop-o.rows.items c.args.nodes) ∙ empty_pairs c.loop-o.rows.items c.loop-o.invariant.empty
+    ap (λ vs. pairs_of (rows_with_tops c.loop-o.rows.items vs)) tops ∙ ap pairs_of (topped_none c.loop-o.rows.items c.args.nodes) ∙ empty_pairs c.loop-o.rows.items c.loop-o.invariant.empty
 
 pub returns-clause-rooms : goal.returns-clause-rooms
 returns-clause-rooms c = λ o lt.

@@ -1,5 +1,5 @@
 use Rattle.std.proofs.Common.{sym, ap, ◌∙◌}
-use Rattle.mesh_text.specs.Schedule.{Accepted}
+use Rattle.mesh_text.specs.Schedule.{AcceptedLine}
 use Rattle.mesh_script.specs.Seen.{accepted_of}
 use Rattle.mesh_base.specs.Meshes.{Nodes}
 use Rattle.mesh_make.specs.Made.{mesh_of}
@@ -30,7 +30,7 @@ returns-clause-making c =
       place = c.place_after-self.ensures.is_place;
       mesh =
           c.grow.ensures ∙ ap (λ (mesh : Nodes). mesh_after mesh (accepted_of c.line_at-line.result)) making.mesh
-          ∙ ap (λ (line : Accepted). mesh_after (mesh_of (nodes_at m.size.nodes m.place)) line) c.line_at-line.ensures.line
+          ∙ ap (λ (line : AcceptedLine). mesh_after (mesh_of (nodes_at m.size.nodes m.place)) line) c.line_at-line.ensures.line
           ∙ mesh_next m.size.nodes m.size.steps making.size m.place m.rng making.place c.requires.more
           ∙ ap (λ place. mesh_of (nodes_at m.size.nodes place)) (sym c.place_after-self.ensures.after);
     }

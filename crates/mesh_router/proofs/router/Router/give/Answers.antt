@@ -3,9 +3,9 @@ use Rattle.std.proofs.lemmas.Result.{err_from_is_err_and}
 use Rattle.mesh_grammar.specs.Written.{line}
 use Rattle.mesh_peers.specs.Lines.{words_of}
 use Rattle.mesh_peers.specs.Seen.{accepted_of}
-use Rattle.mesh_router.specs.Logs.{written}
+use Rattle.mesh_router.specs.Logs.{text_log}
 use Rattle.mesh_router.specs.Routers.{Router}
-use Rattle.mesh_router.specs.Lines.{given}
+use Rattle.mesh_router.specs.Lines.{give_outcome}
 use Rattle.mesh_router.specs.Turns.{StepDone}
 use Rattle.mesh_base.specs.declared.events.Item.TheVariants.{New}
 use Rattle.aodv_node.specs.Seen.{NodeSeen}
@@ -34,7 +34,7 @@ returns-in_err-put_line-clause-step g c =
     let words = words_of p.mesh l in
     let q = err_from_is_err_and c.from_residual-in_err-put_line.result c.from_residual-in_err-put_line.ensures.1 in
     λ sent.
-    let P : Router → Type 0 = λ r. IsStepRun (given r (words_of r.peers.mesh l) c.args.dest c.args.body.now) (g.O.Sink.held c.args.out.now, sent) (g.O.Sink.held c.put_line.new.out, sent) (router_as p c.give.new.self near c.self.inside.heard c.self.inside.sent c.self.inside.dropped) c.from_residual-in_err-put_line.result in
+    let P : Router → Type 0 = λ r. IsStepRun (give_outcome r (words_of r.peers.mesh l) c.args.dest c.args.body.now) (g.O.Sink.held c.args.out.now, sent) (g.O.Sink.held c.put_line.new.out, sent) (router_as p c.give.new.self near c.self.inside.heard c.self.inside.sent c.self.inside.dropped) c.from_residual-in_err-put_line.result in
     subst P c.self.view_is (step_cut _ _ _ _ c.from_residual-in_err-put_line.result q.0 q.1 (not_full-write q.0 q.2)
     (prefix-text _ _ _ _ (line words) refl c.in_err-put_line.ensures.text))
 
@@ -50,7 +50,7 @@ returns-clause-step g c =
     let items : node.items ++ New c.args.dest c.args.body.now ∷ [] ≡ c.give.new.self.items = sym (ap (λ (n : NodeSeen). n.items) c.give.ensures
     ∙ (λ i. c.make_room.ensures.items i ++ New c.args.dest (c.in_ok-copied.ensures.copy i) ∷ [])) in
     λ sent.
-    let P : Router → Type 0 = λ k. IsStepRun (given k (words_of k.peers.mesh l) c.args.dest c.args.body.now) (g.O.Sink.held c.args.out.now, sent) (g.O.Sink.held c.put_line.new.out, sent) (router_as p c.give.new.self near c.self.inside.heard c.self.inside.sent c.self.inside.dropped) (Ok tt) in
-    subst P c.self.view_is (step_done _ (router_as p c.give.new.self near c.self.inside.heard c.self.inside.sent c.self.inside.dropped) _ _ (written (line words))
-    (λ i. StepDone (written (line words)) (record r { core = core i; queue = items i }))
+    let P : Router → Type 0 = λ k. IsStepRun (give_outcome k (words_of k.peers.mesh l) c.args.dest c.args.body.now) (g.O.Sink.held c.args.out.now, sent) (g.O.Sink.held c.put_line.new.out, sent) (router_as p c.give.new.self near c.self.inside.heard c.self.inside.sent c.self.inside.dropped) (Ok tt) in
+    subst P c.self.view_is (step_done _ (router_as p c.give.new.self near c.self.inside.heard c.self.inside.sent c.self.inside.dropped) _ _ (text_log (line words))
+    (λ i. StepDone (text_log (line words)) (record r { core = core i; queue = items i }))
     (adds-text _ _ _ _ (line words) refl c.in_ok-put_line.ensures.text))

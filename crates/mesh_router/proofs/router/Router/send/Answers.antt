@@ -8,7 +8,7 @@ use Rattle.aodv_node.specs.declared.answers.SendError.{SendError}
 use Rattle.mesh_grammar.specs.Written.{line}
 use Rattle.mesh_peers.specs.Lines.{words_of}
 use Rattle.mesh_peers.specs.Seen.{accepted_of}
-use Rattle.mesh_router.specs.Logs.{written}
+use Rattle.mesh_router.specs.Logs.{text_log}
 use Rattle.mesh_router.specs.declared.stop.Stop.TheVariants.{Full}
 use Rattle.mesh_router.specs.Routers.{Router}
 use Rattle.mesh_router.specs.Turns.{StepDone, act_of, idle_line}
@@ -69,7 +69,7 @@ returns-in_err-put_idle-in-Err-Idle-clause-step g c =
     let q = err_from_is_err_and c.from_residual-in_err-put_idle-in-Err-Idle.result c.from_residual-in_err-put_idle-in-Err-Idle.ensures.1 in
     let may = (subst (λ (e : SendError). IsSend c.mesh-2.result.now near node.core c.args.dest (Err e) c.send.new.self.core c.send.new.out.items) c.in-Err-Idle.field-0-is c.in-Err-Idle.ensures.does).0 in
     let P : Router → Type 0 = λ r. IsStepRun (act_of r (words_of r.peers.mesh l) (may_send r.core c.args.dest) (send_full r.core r.range c.args.dest) (send r.core r.range c.args.dest)) (g.O.Sink.held c.args.out.now, g.L.Link.sent c.args.link.now) (g.O.Sink.held c.put_idle.new.out, g.L.Link.sent c.args.link.now) (router_as p c.send.new.self near c.self.inside.heard c.self.inside.sent c.self.inside.dropped) c.from_residual-in_err-put_idle-in-Err-Idle.result in
-    subst P c.self.view_is (step_cut_in _ (router_as p node near c.self.inside.heard c.self.inside.sent c.self.inside.dropped) _ _ _ (written (line words ++ idle_line)) c.from_residual-in_err-put_idle-in-Err-Idle.result q.0 q.1 (not_full-write q.0 q.2)
+    subst P c.self.view_is (step_cut_in _ (router_as p node near c.self.inside.heard c.self.inside.sent c.self.inside.dropped) _ _ _ (text_log (line words ++ idle_line)) c.from_residual-in_err-put_idle-in-Err-Idle.result q.0 q.1 (not_full-write q.0 q.2)
     (ap (λ (b : Bool). act_of (router_as p node near c.self.inside.heard c.self.inside.sent c.self.inside.dropped) words b (send_full node.core near c.args.dest) (send node.core near c.args.dest)) may)
     (prefix-text _ _ _ _ (line words ++ idle_line) refl c.in_err-put_idle-in-Err-Idle.ensures.text))
 

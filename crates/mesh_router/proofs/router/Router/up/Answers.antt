@@ -5,10 +5,10 @@ use Rattle.mesh_base.specs.Members.{NodeIds}
 use Rattle.mesh_grammar.specs.Written.{line}
 use Rattle.mesh_peers.specs.Lines.{words_of}
 use Rattle.mesh_peers.specs.Seen.{accepted_of}
-use Rattle.mesh_router.specs.Logs.{written}
+use Rattle.mesh_router.specs.Logs.{text_log}
 use Rattle.mesh_router.specs.Routers.{Router}
 use Rattle.mesh_router.specs.Turns.{StepDone, idle_line}
-use Rattle.mesh_router.specs.Lines.{ranged}
+use Rattle.mesh_router.specs.Lines.{range_outcome}
 use Rattle.mesh_router.specs.Peers.{IsPeer, ArePeers}
 use Rattle.mesh_router.specs.Runs.{IsStepRun}
 use Rattle.mesh_router.proofs.Logging.{adds-text, prefix-text}
@@ -26,9 +26,9 @@ returns-in_err-put_idle-clause-step g c =
     let words = words_of p.mesh l in
     let q = err_from_is_err_and c.from_residual.result c.from_residual.ensures.1 in
     λ sent.
-    let P : Router → Type 0 = λ r. IsStepRun (ranged r (words_of r.peers.mesh l) (not (sets.contains r.range c.args.node)) (sets.insert r.range c.args.node)) (g.O.Sink.held c.args.out.now, sent) (g.O.Sink.held c.put_idle.new.out, sent) c.args.self.now c.from_residual.result in
-    subst P c.self.view_is (step_cut_in _ (router_as p node near c.self.inside.heard c.self.inside.sent c.self.inside.dropped) _ _ _ (written (line words ++ idle_line)) c.from_residual.result q.0 q.1 (not_full-write q.0 q.2)
-    (ap (λ (b : Bool). ranged (router_as p node near c.self.inside.heard c.self.inside.sent c.self.inside.dropped) words (not b) (sets.insert near c.args.node)) (sym c.has.ensures.value ∙ c.if-has.true))
+    let P : Router → Type 0 = λ r. IsStepRun (range_outcome r (words_of r.peers.mesh l) (not (sets.contains r.range c.args.node)) (sets.insert r.range c.args.node)) (g.O.Sink.held c.args.out.now, sent) (g.O.Sink.held c.put_idle.new.out, sent) c.args.self.now c.from_residual.result in
+    subst P c.self.view_is (step_cut_in _ (router_as p node near c.self.inside.heard c.self.inside.sent c.self.inside.dropped) _ _ _ (text_log (line words ++ idle_line)) c.from_residual.result q.0 q.1 (not_full-write q.0 q.2)
+    (ap (λ (b : Bool). range_outcome (router_as p node near c.self.inside.heard c.self.inside.sent c.self.inside.dropped) words (not b) (sets.insert near c.args.node)) (sym c.has.ensures.value ∙ c.if-has.true))
     (prefix-text _ _ _ _ (line words ++ idle_line) refl c.in_err-put_idle.ensures.text))
 
 pub returns-in_err-put_line-clause-step : goal.returns-in_err-put_line-clause-step
@@ -40,9 +40,9 @@ returns-in_err-put_line-clause-step g c =
     let words = words_of p.mesh l in
     let q = err_from_is_err_and c.from_residual-in_err-put_line.result c.from_residual-in_err-put_line.ensures.1 in
     λ sent.
-    let P : Router → Type 0 = λ r. IsStepRun (ranged r (words_of r.peers.mesh l) (not (sets.contains r.range c.args.node)) (sets.insert r.range c.args.node)) (g.O.Sink.held c.args.out.now, sent) (g.O.Sink.held c.put_line.new.out, sent) (router_as p node c.add.new.self c.self.inside.heard c.self.inside.sent c.self.inside.dropped) c.from_residual-in_err-put_line.result in
-    subst P c.self.view_is (step_cut_in _ (router_as p node (sets.insert near c.args.node) c.self.inside.heard c.self.inside.sent c.self.inside.dropped) _ _ _ (written (line words)) c.from_residual-in_err-put_line.result q.0 q.1 (not_full-write q.0 q.2)
-    (ap (λ (b : Bool). ranged (router_as p node near c.self.inside.heard c.self.inside.sent c.self.inside.dropped) words (not b) (sets.insert near c.args.node)) (sym c.has.ensures.value ∙ c.if-has.false))
+    let P : Router → Type 0 = λ r. IsStepRun (range_outcome r (words_of r.peers.mesh l) (not (sets.contains r.range c.args.node)) (sets.insert r.range c.args.node)) (g.O.Sink.held c.args.out.now, sent) (g.O.Sink.held c.put_line.new.out, sent) (router_as p node c.add.new.self c.self.inside.heard c.self.inside.sent c.self.inside.dropped) c.from_residual-in_err-put_line.result in
+    subst P c.self.view_is (step_cut_in _ (router_as p node (sets.insert near c.args.node) c.self.inside.heard c.self.inside.sent c.self.inside.dropped) _ _ _ (text_log (line words)) c.from_residual-in_err-put_line.result q.0 q.1 (not_full-write q.0 q.2)
+    (ap (λ (b : Bool). range_outcome (router_as p node near c.self.inside.heard c.self.inside.sent c.self.inside.dropped) words (not b) (sets.insert near c.args.node)) (sym c.has.ensures.value ∙ c.if-has.false))
     (prefix-text _ _ _ _ (line words) refl c.in_err-put_line.ensures.text))
 
 pub invariant_of-self : goal.invariant_of-self
@@ -69,9 +69,9 @@ returns-then-has-clause-step g c =
     let l = accepted_of c.args.line.now in
     let words = words_of p.mesh l in
     λ sent.
-    let P : Router → Type 0 = λ r. IsStepRun (ranged r (words_of r.peers.mesh l) (not (sets.contains r.range c.args.node)) (sets.insert r.range c.args.node)) (g.O.Sink.held c.args.out.now, sent) (g.O.Sink.held c.put_idle.new.out, sent) r (Ok tt) in
-    subst P c.self.view_is (step_done _ (router_as p node near c.self.inside.heard c.self.inside.sent c.self.inside.dropped) _ _ (written (line words ++ idle_line))
-    (ap (λ (b : Bool). ranged (router_as p node near c.self.inside.heard c.self.inside.sent c.self.inside.dropped) words (not b) (sets.insert near c.args.node)) (sym c.has.ensures.value ∙ c.if-has.true))
+    let P : Router → Type 0 = λ r. IsStepRun (range_outcome r (words_of r.peers.mesh l) (not (sets.contains r.range c.args.node)) (sets.insert r.range c.args.node)) (g.O.Sink.held c.args.out.now, sent) (g.O.Sink.held c.put_idle.new.out, sent) r (Ok tt) in
+    subst P c.self.view_is (step_done _ (router_as p node near c.self.inside.heard c.self.inside.sent c.self.inside.dropped) _ _ (text_log (line words ++ idle_line))
+    (ap (λ (b : Bool). range_outcome (router_as p node near c.self.inside.heard c.self.inside.sent c.self.inside.dropped) words (not b) (sets.insert near c.args.node)) (sym c.has.ensures.value ∙ c.if-has.true))
     (adds-text _ _ _ _ (line words ++ idle_line) refl c.in_ok-put_idle.ensures.text))
 
 pub returns-clause-step : goal.returns-clause-step
@@ -82,8 +82,8 @@ returns-clause-step g c =
     let l = accepted_of c.args.line.now in
     let words = words_of p.mesh l in
     λ sent.
-    let P : Router → Type 0 = λ r. IsStepRun (ranged r (words_of r.peers.mesh l) (not (sets.contains r.range c.args.node)) (sets.insert r.range c.args.node)) (g.O.Sink.held c.args.out.now, sent) (g.O.Sink.held c.put_line.new.out, sent) (router_as p node c.add.new.self c.self.inside.heard c.self.inside.sent c.self.inside.dropped) (Ok tt) in
-    subst P c.self.view_is (step_done _ (router_as p node c.add.new.self c.self.inside.heard c.self.inside.sent c.self.inside.dropped) _ _ (written (line words))
-    (ap (λ (b : Bool). ranged (router_as p node near c.self.inside.heard c.self.inside.sent c.self.inside.dropped) words (not b) (sets.insert near c.args.node)) (sym c.has.ensures.value ∙ c.if-has.false)
-    ∙ ap (λ (s : NodeIds). StepDone (written (line words)) (router_as p node s c.self.inside.heard c.self.inside.sent c.self.inside.dropped)) (sym c.add.ensures))
+    let P : Router → Type 0 = λ r. IsStepRun (range_outcome r (words_of r.peers.mesh l) (not (sets.contains r.range c.args.node)) (sets.insert r.range c.args.node)) (g.O.Sink.held c.args.out.now, sent) (g.O.Sink.held c.put_line.new.out, sent) (router_as p node c.add.new.self c.self.inside.heard c.self.inside.sent c.self.inside.dropped) (Ok tt) in
+    subst P c.self.view_is (step_done _ (router_as p node c.add.new.self c.self.inside.heard c.self.inside.sent c.self.inside.dropped) _ _ (text_log (line words))
+    (ap (λ (b : Bool). range_outcome (router_as p node near c.self.inside.heard c.self.inside.sent c.self.inside.dropped) words (not b) (sets.insert near c.args.node)) (sym c.has.ensures.value ∙ c.if-has.false)
+    ∙ ap (λ (s : NodeIds). StepDone (text_log (line words)) (router_as p node s c.self.inside.heard c.self.inside.sent c.self.inside.dropped)) (sym c.add.ensures))
     (adds-text _ _ _ _ (line words) refl c.in_ok-put_line.ensures.text))

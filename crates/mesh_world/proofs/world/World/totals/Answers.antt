@@ -22,9 +22,9 @@ returns-clause-waiting c =
 pub returns-clause-queued : goal.returns-clause-queued
 returns-clause-queued c =
     let p = c.self.inside.parts in
-    subst (λ (ns : List NodeSeen). IsCountOf ns p.radio (accounts.queued any) c.count_data.result.queued) c.deref.ensures.value c.count_data.ensures.queued p.mesh
+    subst (λ (ns : List NodeSeen). IsCountOf ns p.radio (accounts.queued_data any) c.count_data.result.queued) c.deref.ensures.value c.count_data.ensures.queued p.mesh
     (counted p.mesh p.nodes.items p.radio p.ready p.steps c.self.invariant)
-    ∙ ap (λ (w : WorldSeen). accounts.queued any w.world) c.self.view_is
+    ∙ ap (λ (w : WorldSeen). accounts.queued_data any w.world) c.self.view_is
 
 pub returns-clause-flying : goal.returns-clause-flying
 returns-clause-flying c =
