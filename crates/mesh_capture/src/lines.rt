@@ -8,7 +8,6 @@ ghost use Rattle.mesh_capture.specs.Kept.{most_lines};
 ghost use Rattle.mesh_capture.specs.Outputs.{bad_line};
 
 use crate::frame::{Frame, FrameBuf, put_file_header};
-use arrayvec::ArrayVec;
 use mesh_base::{LineBuf, push_number, push_text};
 use mesh_io::{PutFault, Sink, put_all};
 

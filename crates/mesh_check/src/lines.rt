@@ -5,7 +5,6 @@ ghost use Rattle.mesh_io.specs.Puts.{Puts};
 ghost use Rattle.mesh_tables.specs.Printed.{edges_in};
 ghost use Rattle.mesh_check.specs.Verdicts as verdicts;
 
-use arrayvec::ArrayVec;
 use mesh_base::{Addr, LineBuf, push_number, push_text, write_dotted};
 use mesh_io::{PutFault, Sink, put_all};
 use mesh_tables::{FailingEdge, PrintedTables};

@@ -6,7 +6,6 @@ ghost use Rattle.mesh_io.specs.Puts.{Puts};
 ghost use Rattle.mesh_why.specs.Routes.{IsRoute, names_after, walk_line, route_line};
 
 use crate::words::Asked;
-use arrayvec::ArrayVec;
 use mesh_base::{LINE_ROOM, LineBuf, MOST_NODES, Mesh, push_number, push_text};
 use mesh_io::{PutFault, Sink, put_all};
 use mesh_run::Point;
