@@ -1,4 +1,4 @@
--- Which ids the intervals have, by a place among them.
+-- Which ids the intervals have, by a position among them.
 use Rattle.std.proofs.Common.{◌≡◌, ◌<◌, ◌≤◌, ℕ, zero, suc, ◌+◌, Bool, true, false, ltb, leb, ◌&&◌, ◌||◌, List, [], ◌∷◌, length, Some, None, refl, sym, ap, subst, ◌∙◌, arith, ◌⊎◌, inl, inr}
 use Rattle.std.specs.List.Sorted.{IsNonDecreasingBy}
 use Rattle.std.proofs.lemmas.Bool.{le-leb, lt-leb, cases_lt}
@@ -64,53 +64,53 @@ in_none (v ∷ vs) id none =
     and_false true = refl
     and_false false = refl
 
--- a place: the intervals before it end before `from`, the others don't
-pub record IsPlace (vs : List Interval) (from place : ℕ) : Type 0 where
-  pub within : place ≤ length vs
-  pub before : (i : ℕ) → i < place → (interval_at vs i).last < from
-  pub after : (i : ℕ) → place ≤ i → i < length vs → from ≤ (interval_at vs i).last
+-- a position: the intervals before it end before `from`, the others don't
+pub record IsPosition (vs : List Interval) (from position : ℕ) : Type 0 where
+  pub within : position ≤ length vs
+  pub before : (i : ℕ) → i < position → (interval_at vs i).last < from
+  pub after : (i : ℕ) → position ≤ i → i < length vs → from ≤ (interval_at vs i).last
 
-pub place_along : (xs vs : List Interval) (from place : ℕ) → xs ≡ vs → place ≤ length xs → ((i : ℕ) → i < place → (interval_at xs i).last < from) → ((i : ℕ) → place ≤ i → i < length xs → from ≤ (interval_at xs i).last) → IsPlace vs from place
-place_along xs vs from place same within before after = subst (λ ys. IsPlace ys from place) same (record { within = within; before = before; after = after })
+pub position_along : (xs vs : List Interval) (from position : ℕ) → xs ≡ vs → position ≤ length xs → ((i : ℕ) → i < position → (interval_at xs i).last < from) → ((i : ℕ) → position ≤ i → i < length xs → from ≤ (interval_at xs i).last) → IsPosition vs from position
+position_along xs vs from position same within before after = subst (λ ys. IsPosition ys from position) same (record { within = within; before = before; after = after })
 
--- no id from `from` on lies before the interval at the place
-none_early : (vs : List Interval) (from place id : ℕ) → AreApart 0 vs → IsPlace vs from place → from ≤ id → (place < length vs → id < (interval_at vs place).first) → contains (ids_in vs) id ≡ false
-none_early vs from place id apart at le early =
+-- no id from `from` on lies before the interval at the position
+none_early : (vs : List Interval) (from position id : ℕ) → AreApart 0 vs → IsPosition vs from position → from ≤ id → (position < length vs → id < (interval_at vs position).first) → contains (ids_in vs) id ≡ false
+none_early vs from position id apart at le early =
     contains-ids_in 0 vs id apart ∙ in_none vs id (λ i lt.
-    elim (cases_lt i place) [
+    elim (cases_lt i position) [
       | inl less ↦ inl (let ended = at.before i less in omega arith)
-      | inr later ↦ inr (let up = (rises 0 vs place i apart later lt).0 in let first = early (omega arith) in omega arith)
+      | inr later ↦ inr (let up = (rises 0 vs position i apart later lt).0 in let first = early (omega arith) in omega arith)
     ])
 
-pub none_from : (vs : List Interval) (from place id : ℕ) → AreApart 0 vs → IsPlace vs from place → length vs ≤ place → from ≤ id → contains (ids_in vs) id ≡ false
-none_from vs from place id apart at past le = none_early vs from place id apart at le (λ lt. absurd (omega arith))
+pub none_from : (vs : List Interval) (from position id : ℕ) → AreApart 0 vs → IsPosition vs from position → length vs ≤ position → from ≤ id → contains (ids_in vs) id ≡ false
+none_from vs from position id apart at past le = none_early vs from position id apart at le (λ lt. absurd (omega arith))
 
 pub there : (vs : List Interval) (k id : ℕ) → AreApart 0 vs → k < length vs → (interval_at vs k).first ≤ id → id ≤ (interval_at vs k).last → contains (ids_in vs) id ≡ true
 there vs k id apart lt lo hi = contains-ids_in 0 vs id apart ∙ in_at vs k id lt lo hi
 
--- whether the id is there is seen at its place
-pub has_at : (vs : List Interval) (id place : ℕ) (v : Interval) → AreApart 0 vs → IsPlace vs id place → place < length vs → interval_at vs place ≡ v → leb v.first id ≡ contains (ids_in vs) id
-has_at vs id place v apart at lt is =
+-- whether the id is there is seen at its position
+pub has_at : (vs : List Interval) (id position : ℕ) (v : Interval) → AreApart 0 vs → IsPosition vs id position → position < length vs → interval_at vs position ≡ v → leb v.first id ≡ contains (ids_in vs) id
+has_at vs id position v apart at lt is =
     elim (cases_lt id v.first) [
-      | inl early ↦ lt-leb v.first id early ∙ sym (none_early vs id place id apart at (omega arith) (λ _. let first : (interval_at vs place).first ≡ v.first = ap (λ (x : Interval). x.first) is in omega arith))
+      | inl early ↦ lt-leb v.first id early ∙ sym (none_early vs id position id apart at (omega arith) (λ _. let first : (interval_at vs position).first ≡ v.first = ap (λ (x : Interval). x.first) is in omega arith))
       | inr from ↦
-          let first : (interval_at vs place).first ≡ v.first = ap (λ (x : Interval). x.first) is in
-          le-leb v.first id from ∙ sym (there vs place id apart lt (omega arith) (at.after place (omega arith) lt))
+          let first : (interval_at vs position).first ≡ v.first = ap (λ (x : Interval). x.first) is in
+          le-leb v.first id from ∙ sym (there vs position id apart lt (omega arith) (at.after position (omega arith) lt))
     ]
 
-pub least_past : (vs : List Interval) (from place : ℕ) → AreApart 0 vs → IsPlace vs from place → length vs ≤ place → IsLeastFrom (ids_in vs) from None
-least_past vs from place apart at past q le = none_from vs from place q apart at past le
+pub least_past : (vs : List Interval) (from position : ℕ) → AreApart 0 vs → IsPosition vs from position → length vs ≤ position → IsLeastFrom (ids_in vs) from None
+least_past vs from position apart at past q le = none_from vs from position q apart at past le
 
-pub least_first : (vs : List Interval) (from place : ℕ) (v : Interval) → AreApart 0 vs → IsPlace vs from place → place < length vs → interval_at vs place ≡ v → from ≤ v.first → IsLeastFrom (ids_in vs) from (Some v.first)
-least_first vs from place v apart at lt is le =
-    let first : (interval_at vs place).first ≡ v.first = ap (λ (x : Interval). x.first) is in
-    let some = some_in 0 vs place apart lt in
-    (le, there vs place v.first apart lt (omega arith) (omega arith), λ q low less. none_early vs from place q apart at low (λ _. omega arith))
+pub least_first : (vs : List Interval) (from position : ℕ) (v : Interval) → AreApart 0 vs → IsPosition vs from position → position < length vs → interval_at vs position ≡ v → from ≤ v.first → IsLeastFrom (ids_in vs) from (Some v.first)
+least_first vs from position v apart at lt is le =
+    let first : (interval_at vs position).first ≡ v.first = ap (λ (x : Interval). x.first) is in
+    let some = some_in 0 vs position apart lt in
+    (le, there vs position v.first apart lt (omega arith) (omega arith), λ q low less. none_early vs from position q apart at low (λ _. omega arith))
 
-pub least_inside : (vs : List Interval) (from place : ℕ) (v : Interval) → AreApart 0 vs → IsPlace vs from place → place < length vs → interval_at vs place ≡ v → v.first < from → IsLeastFrom (ids_in vs) from (Some from)
-least_inside vs from place v apart at lt is less =
-    let first : (interval_at vs place).first ≡ v.first = ap (λ (x : Interval). x.first) is in
-    (omega arith, there vs place from apart lt (omega arith) (at.after place (omega arith) lt), λ q low high. absurd (omega arith))
+pub least_inside : (vs : List Interval) (from position : ℕ) (v : Interval) → AreApart 0 vs → IsPosition vs from position → position < length vs → interval_at vs position ≡ v → v.first < from → IsLeastFrom (ids_in vs) from (Some from)
+least_inside vs from position v apart at lt is less =
+    let first : (interval_at vs position).first ≡ v.first = ap (λ (x : Interval). x.first) is in
+    (omega arith, there vs position from apart lt (omega arith) (at.after position (omega arith) lt), λ q low high. absurd (omega arith))
 
 -- ---- the greatest
 

@@ -109,7 +109,7 @@ pub no_ids_in : ids_in [] ≡ empty
 unfolding ids_in
 no_ids_in = refl
 
--- ---- at the place of a number
+-- ---- at the position of a number
 
 pub with_id-at : (vs : List Interval) (k q : ℕ) → AreApart 0 vs → AllBefore (take k vs) q → with_id vs q ≡ take k vs ++ with_id (drop k vs) q
 with_id-at vs k q apart before =
@@ -143,7 +143,7 @@ later_apart lo lo' (v ∷ ys) apart h = (h v ys refl, apart.1, apart.2)
 pub near_is : (vs : List Interval) (q : ℕ) → AreApart 0 vs → is_near_to vs q ≡ is_near_in (ids_in vs) q
 near_is vs q apart = rw (contains-ids_in 0 vs q apart, contains-ids_in 0 vs (q + 1) apart, contains-ids_in 0 vs (q - 1) apart) refl
 
--- the intervals before a place end before the id, and not next to it
+-- the intervals before a position end before the id, and not next to it
 pub all_before : (xs vs : List Interval) (k q : ℕ) → xs ≡ vs → k ≤ length xs → ((i : ℕ) → i < k → (interval_at xs i).last + 1 < q) → AllBefore (take k vs) q
 all_before xs vs k q same le each = subst (λ ys. AllBefore (take k ys) q) same (along xs k le each)
   where

@@ -1,5 +1,5 @@
 pub mod IntervalLaws
-pub mod PlaceLaws
+pub mod PositionLaws
 pub mod FindLaws
 pub mod TopLaws
 pub mod RowLaws

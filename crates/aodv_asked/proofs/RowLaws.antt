@@ -9,7 +9,7 @@ use Rattle.std.specs.Ordering.{nat_cmp, eq_by_cmp, ordering_then, is_eq}
 use Rattle.std.specs.Cmp.{unsigned_tied}
 use Rattle.std.proofs.lemmas.Bool.{ne_eqb, cases_eq, cases_lt, eqb-true}
 use Rattle.std.proofs.lemmas.Cmp.{nat_cmp_total}
-use Rattle.std.proofs.lemmas.List.{get_or-set_same, get_or-set_other, length-map, map-set, get_or-map, get_or_default, get_or_past}
+use Rattle.std.proofs.lemmas.List.{get_or-set_same, get_or-set_other, length-map, map-set, get_or_default, get_or_past}
 use Rattle.std.specs.FinSet as sets
 use Rattle.aodv_model.specs.Pairs.{pair_cmp}
 use Rattle.mesh_base.specs.Members.{IsLeastFrom}
@@ -61,25 +61,25 @@ unfolding pairs_from
 before [] i p q lt = sets.contains-empty pair_cmp (p, q)
 before (row ∷ rows) i p q lt = with_apart (pairs_from (i + 1) rows) i (sets.items row.ids) p q (λ e. omega arith) ∙ before rows (i + 1) p q (omega arith)
 
-from_place : (rows : List RoomyIds) (i k q : ℕ) → sets.contains (pairs_from i rows) (i + k, q) ≡ sets.contains (ids_at rows k) q
+from_position : (rows : List RoomyIds) (i k q : ℕ) → sets.contains (pairs_from i rows) (i + k, q) ≡ sets.contains (ids_at rows k) q
 unfolding pairs_from
-from_place [] i k q = sets.contains-empty pair_cmp (i + k, q) ∙ sym (sets.contains-empty nat_cmp q)
-from_place (row ∷ rows) i zero q =
+from_position [] i k q = sets.contains-empty pair_cmp (i + k, q) ∙ sym (sets.contains-empty nat_cmp q)
+from_position (row ∷ rows) i zero q =
     let none : i + 0 ≡ i = omega arith in
     ap (λ (p : ℕ). sets.contains (with_ids (pairs_from (i + 1) rows) i (sets.items row.ids)) (p, q)) none
     ∙ with_here (pairs_from (i + 1) rows) i row.ids q (before rows (i + 1) i q (omega arith))
-from_place (row ∷ rows) i (suc k) q =
+from_position (row ∷ rows) i (suc k) q =
     let next : i + suc k ≡ (i + 1) + k = omega arith in
     with_apart (pairs_from (i + 1) rows) i (sets.items row.ids) (i + suc k) q (λ e. omega arith)
     ∙ ap (λ (p : ℕ). sets.contains (pairs_from (i + 1) rows) (p, q)) next
-    ∙ from_place rows (i + 1) k q
+    ∙ from_position rows (i + 1) k q
 
 -- an id stands beside o where it is in o's row
 pub contains-pairs_of : (rows : List RoomyIds) (o q : ℕ) → sets.contains (pairs_of rows) (o, q) ≡ sets.contains (ids_at rows o) q
 unfolding pairs_of
 contains-pairs_of rows o q =
     let none : 0 + o ≡ o = omega arith in
-    ap (λ (p : ℕ). sets.contains (pairs_from 0 rows) (p, q)) (sym none) ∙ from_place rows 0 o q
+    ap (λ (p : ℕ). sets.contains (pairs_from 0 rows) (p, q)) (sym none) ∙ from_position rows 0 o q
 
 pub shown : (rows : List RoomyIds) (seen : SeenRequests) (o q : ℕ) → pairs_of rows ≡ seen → sets.contains seen (o, q) ≡ sets.contains (ids_at rows o) q
 shown rows seen o q is = ap (λ (s : SeenRequests). sets.contains s (o, q)) (sym is) ∙ contains-pairs_of rows o q
@@ -144,12 +144,6 @@ one_more rows o id row lt is = same_pairs (pairs_of (put rows o row)) (sets.inse
 
 -- ---- rooms
 
-room_read : (rows : List RoomyIds) (o : ℕ) (ids : RoomyIds) → o < length rows → ids ≡ get_or rows o ids → get_or (rooms_of rows) o 0 ≡ ids.room
-room_read rows o ids lt at = get_or-map (λ (r : RoomyIds). r.room) rows o ids 0 lt ∙ ap (λ (r : RoomyIds). r.room) (sym at)
-
-pub room_shown : (rows : List RoomyIds) (rooms : List ℕ) (o : ℕ) (row : RoomyIds) → o < length rows → rooms_of rows ≡ rooms → row ≡ get_or rows o row → get_or rooms o 0 ≡ row.room
-room_shown rows rooms o row lt is at = ap (λ (rs : List ℕ). get_or rs o 0) (sym is) ∙ room_read rows o row lt at
-
 pub room_put_here : (rows : List RoomyIds) (o : ℕ) (row : RoomyIds) → o < length rows → get_or (rooms_of (put rows o row)) o 0 ≡ row.room
 room_put_here rows o row lt =
     ap (λ (rs : List ℕ). get_or rs o 0) (map-set (λ (r : RoomyIds). r.room) rows o row)
@@ -160,16 +154,6 @@ room_put_apart rows rooms o row q is apart =
     ap (λ (rs : List ℕ). get_or rs q 0) (map-set (λ (r : RoomyIds). r.room) rows o row)
     ∙ get_or-set_other (rooms_of rows) o q row.room 0 apart
     ∙ ap (λ (rs : List ℕ). get_or rs q 0) is
-
-pub rooms_kept : (rows : List RoomyIds) (rooms : List ℕ) (o : ℕ) (row row' : RoomyIds) → o < length rows → rooms_of rows ≡ rooms → row ≡ get_or rows o row → row.room ≤ row'.room → (q : ℕ) → get_or rooms q 0 ≤ get_or (rooms_of (put rows o row')) q 0
-rooms_kept rows rooms o row row' lt is at le q =
-    elim (cases_eq q o) [
-      | inl same ↦
-          let old = room_shown rows rooms o row lt is at in
-          let new = room_put_here rows o row' lt in
-          subst (λ p. get_or rooms p 0 ≤ get_or (rooms_of (put rows o row')) p 0) (sym same) (omega arith)
-      | inr apart ↦ let same = room_put_apart rows rooms o row' q is apart in omega arith
-    ]
 
 -- ---- the greatest id beside o
 
@@ -280,9 +264,6 @@ unfolding next_request_id
 next_is seen o g is = ap (λ (n : ℕ). n + 1) is
 
 -- ---- rows that are just made
-
-pub rooms_are : (rows : List RoomyIds) (o n : ℕ) → All (λ (r : RoomyIds). r.room ≡ n) rows → o < length rows → get_or (rooms_of rows) o 0 ≡ n
-rooms_are rows o n each lt = get_or-map (λ (r : RoomyIds). r.room) rows o no_ids 0 lt ∙ each o no_ids lt
 
 one_room : (ids : RoomyIds) (n : ℕ) → ids.room ≡ n → All (λ (r : RoomyIds). r.room ≡ n) (ids ∷ [])
 one_room ids n is zero d lt = is

@@ -4,6 +4,7 @@ use Rattle.std.proofs.lemmas.Bool.{le-leb, lt-leb, cases_lt}
 use Rattle.std.proofs.lemmas.Bool.Decides.{nat_tests}
 use Rattle.std.proofs.lemmas.Cmp.{nat_cmp_total}
 use Rattle.std.specs.Cmp.{unsigned_tied}
+use Rattle.std.specs.List.{remove}
 use Rattle.std.specs.Ordering.{nat_cmp}
 use Rattle.std.specs.FinMap.{nat_cmp-IsAntisymmetric}
 use Rattle.std.specs.FinSet.{empty, insert, contains, contains-empty, contains-insert, same_set}
@@ -379,7 +380,14 @@ split_last (w ∷ []) zero v len at = ap (λ (x : Interval). x ∷ []) at
 split_last (w ∷ x ∷ vs) zero v len at = absurd (omega arith)
 split_last (w ∷ vs) (suc k) v len at = ap (λ (xs : List Interval). w ∷ xs) (split_last vs k v (omega arith) at)
 
--- the interval v at place k is the last of those of the ids
+-- the intervals without the last one
+pub removed_last : (vs : List Interval) (k : ℕ) → k + 1 ≡ length vs → remove vs k ≡ take k vs
+removed_last [] k len = absurd (omega arith)
+removed_last (v ∷ []) zero len = refl
+removed_last (v ∷ w ∷ vs) zero len = absurd (omega arith)
+removed_last (v ∷ vs) (suc k) len = ap (λ (xs : List Interval). v ∷ xs) (removed_last vs k (omega arith))
+
+-- the interval v at position k is the last of those of the ids
 pub record IsLastOf (vs : List Interval) (ids : IdSet) (k : ℕ) (v : Interval) : Type 0 where
   pub apart : AreApart 0 (take k vs ++ v ∷ [])
   pub parts : vs ≡ take k vs ++ v ∷ []

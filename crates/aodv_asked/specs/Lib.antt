@@ -4,6 +4,8 @@
 pub mod Requests
 -- Intervals: the ids beside one originator, kept as intervals.
 pub mod Intervals
+-- Storage: the intervals of a list, and where they stand. Only the crate's own functions cite it.
+pub mod Storage
 -- Rows: how the ids of each originator show the requests.
 pub mod Rows
 -- Insertions: how one more id changes the intervals. Only the crate's own functions cite it.

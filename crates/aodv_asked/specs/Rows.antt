@@ -26,6 +26,6 @@ pairs_from o (row ∷ rows) = with_ids (pairs_from (o + 1) rows) o (sets.items r
 unfoldable pub pairs_of : List RoomyIds → SeenRequests
 pairs_of rows = pairs_from 0 rows
 
--- for how many more ids of each node there is room
+-- for how many more ids each row has room
 abbrev pub rooms_of : List RoomyIds → List ℕ
 rooms_of rows = map (λ row. row.room) rows

@@ -1,5 +1,5 @@
 -- The last interval of each originator's ids, kept apart from its row, which has the ids before it.
-use Rattle.std.specs.Prelude.{◌≡◌, ◌≢◌, ◌<◌, ◌⊎◌, ℕ, ◌+◌, ◌-◌, Bool, true, List, [], ◌∷◌, length, slice_index_or}
+use Rattle.std.specs.Prelude.{◌≡◌, ◌≢◌, ◌<◌, ◌⊎◌, ℕ, ◌+◌, ◌-◌, Bool, true, if◌then◌else◌, nat_lt, List, [], ◌∷◌, length, slice_index_or}
 use Rattle.std.specs.FinSet.{empty, insert, contains}
 use Rattle.mesh_base.specs.Members.{NodeIds}
 use Rattle.aodv_asked.specs.declared.interval.Interval.{Interval}
@@ -39,24 +39,34 @@ HasOneMore v id grown =
 abbrev pub top_at : List Interval → ℕ → Interval
 top_at tops o = slice_index_or tops o no_top
 
--- for how many more ids of o there is room
+-- for how many more ids there is room in o's row
 abbrev pub room_at : List RoomyIds → ℕ → ℕ
 room_at rows o = (slice_index_or rows o no_ids).room
 
--- a row with the ids of an interval
-abbrev pub with_top : RoomyIds → Interval → RoomyIds
-with_top row v = record { ids = with_interval row.ids v; room = row.room }
+-- room for one id, where the interval is without ids
+abbrev pub room_in : Interval → ℕ
+room_in v = if nat_lt v.last v.first then 1 else 0
 
--- each row with the ids of its last interval
+-- a row with an interval behind it: the ids of both, and the room of both
+abbrev pub with_top : RoomyIds → Interval → RoomyIds
+with_top row v = record { ids = with_interval row.ids v; room = row.room + room_in v }
+
+-- each row with its last interval behind it
 unfoldable pub rows_with_tops : List RoomyIds → List Interval → List RoomyIds
 rows_with_tops rows [] = rows
 rows_with_tops [] (v ∷ tops) = []
 rows_with_tops (row ∷ rows) (v ∷ tops) = with_top row v ∷ rows_with_tops rows tops
 
--- a last interval stands behind each row, and each roomy node has room
+-- a last interval stands behind each row; the row has room where that interval is without ids, and
+-- where its node is roomy
 pub record AreKept (rows : List RoomyIds) (tops : List Interval) (roomy : NodeIds) : Type 0 where
   pub each : length tops ≡ length rows
   pub behind : (o : ℕ) → IsBehind (ids_at rows o) (top_at tops o)
+  pub free :
+      (o : ℕ)
+      → o < length rows
+      → (top_at tops o).last < (top_at tops o).first
+      → 0 < room_at rows o
   pub room : (o : ℕ) → contains roomy o ≡ true → 0 < room_at rows o
 
 -- each roomy node is o, if it has room, or another one that was roomy before

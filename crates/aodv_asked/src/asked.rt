@@ -14,12 +14,13 @@ use std::marker::Model;
 /// For each originator the ids of its requests that were seen. Its last interval of ids stands in
 /// an array of its own, of 8 bytes an originator, since most requests that are heard are copies of
 /// the newest one: these look at no row. `roomy` has the originators whose row is known to have
-/// room.
+/// room. What is read for each request that is heard, `tops` and `roomy`, stands together.
 #[derive(Drop)]
 pub struct Asked {
     tops: Vec<Interval>,
-    rows: Vec<Ids>,
     roomy: NodeSet,
+    rows: Vec<Ids>,
+    alloc: Global,
 }
 
 impl Model for Asked {
@@ -34,7 +35,7 @@ impl Model for Asked {
 
     ghost view = { λ a. record {
       pairs = pairs_of (rows_with_tops a.rows.items a.tops.items);
-      rooms = rooms_of a.rows.items;
+      rooms = rooms_of (rows_with_tops a.rows.items a.tops.items);
     } };
 
     ghost invariant = { λ a. AreKept a.rows.items a.tops.items a.roomy };
@@ -53,6 +54,7 @@ fn note_room(roomy: &mut NodeSet, o: usize, has_room: bool)
     }
 }
 
+#[tactic(auto, using(crate::proofs::KeptLaws::nodes_seen))]
 impl Asked {
     /// No requests, in a mesh of so many nodes, and room for two ids of each.
     pub fn new(alloc: Global, nodes: usize) -> Result<Asked, NoMemory>
@@ -64,10 +66,15 @@ impl Asked {
         let mut rows = Vec::with_capacity(alloc, nodes)?;
         let mut roomy = NodeSet::new();
         for o in 0..nodes {
-            rows.push(Ids::new(alloc))?;
+            rows.push(Ids::new())?;
             note_room(&mut roomy, o, true);
         }
-        Ok(Asked { tops, rows, roomy })
+        Ok(Asked {
+            tops,
+            roomy,
+            rows,
+            alloc,
+        })
     }
 
     /// The number of nodes of the mesh. Each request that was seen is of one of them.
@@ -109,7 +116,7 @@ impl Asked {
             return Ok(());
         }
         let ids = &mut self.rows[o];
-        ids.make_room()?;
+        ids.make_room(self.alloc)?;
         note_room(&mut self.roomy, o, true);
         Ok(())
     }

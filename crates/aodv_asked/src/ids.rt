@@ -1,6 +1,5 @@
 //! Ids as rising intervals that neither meet nor adjoin.
 ghost use Rattle.std.specs.Prelude.{◌≡◌, ◌<◌, ◌≤◌, ◌+◌, ◌-◌, ◌⊎◌, ℕ, nat_lt, IsOk, OnOk, OnErr, IsTrue, length, insert};
-ghost use Rattle.smallvec.specs.SmallVec.{small_vec_len};
 ghost use Rattle.std.specs.FinSet as sets;
 ghost use Rattle.mesh_base.specs.Members.{IsLeastFrom, members_below};
 ghost use Rattle.aodv_model.specs.Soundness.{AreBelow};
@@ -9,20 +8,18 @@ ghost use Rattle.aodv_asked.specs.Insertions.{interval, interval_at, with_id, is
 ghost use Rattle.aodv_asked.specs.Tops.{with_interval, AreBefore, IsBehind};
 
 use crate::interval::{Interval, narrowed};
+use crate::intervals::Intervals;
 use mesh_base::NoMemory;
-use smallvec::SmallVec;
 use std::alloc::Global;
 use std::marker::Model;
 
-/// A set of ids. Two intervals take no memory.
+/// A set of ids. One interval takes no memory.
 #[derive(Drop)]
 pub(crate) struct Ids {
-    intervals: SmallVec<Interval, 2>,
+    intervals: Intervals,
 }
 
 impl Model for Ids {
-    ghost use Rattle.std.specs.Prelude.{◌-◌};
-    ghost use Rattle.smallvec.specs.SmallVec.{small_vec_len};
     ghost use Rattle.aodv_asked.specs.Intervals.{RoomyIds, ids_code};
 
     ghost Value = { RoomyIds };
@@ -33,7 +30,7 @@ impl Model for Ids {
 
     ghost view = { λ a. record {
       ids = ids_in a.intervals.items;
-      room = (a.intervals).capacity - small_vec_len a.intervals;
+      room = a.intervals.room;
     } };
 
     ghost invariant = { λ a. AreApart 0 a.intervals.items };
@@ -51,7 +48,7 @@ fn count_before(intervals: &[Interval], from: u64) -> usize
 }
 
 // The first interval that doesn't end before the id and apart from it.
-fn place_of(intervals: &[Interval], id: u32) -> usize
+fn position_of(intervals: &[Interval], id: u32) -> usize
     requires { AreApart 0 intervals.now }
     ensures within { result ≤ length intervals.now }
     ensures before { (i : ℕ) → i < result → (interval_at intervals.now i).last + 1 < id }
@@ -62,79 +59,68 @@ fn place_of(intervals: &[Interval], id: u32) -> usize
 }
 
 // The intervals with one more id.
-fn put(intervals: &mut SmallVec<Interval, 2>, id: u32)
+fn put(intervals: &mut Intervals, id: u32)
     requires apart { AreApart 0 intervals.old.items }
-    requires room { (small_vec_len intervals.old < intervals.old.capacity)
-        ⊎ IsTrue (is_near_to intervals.old.items id) }
+    requires room { (0 < intervals.old.room) ⊎ IsTrue (is_near_to intervals.old.items id) }
     ensures items { intervals.new.items ≡ with_id intervals.old.items id }
-    ensures room { intervals.old.capacity - small_vec_len intervals.old
-        ≤ intervals.new.capacity - small_vec_len intervals.new + 1 }
+    ensures room { intervals.old.room ≤ intervals.new.room + 1 }
 {
-    let place = place_of(intervals.as_slice(), id);
+    let position = position_of(intervals.as_slice(), id);
     let len = intervals.len();
-    if place == len {
-        put_new(intervals, place, id);
+    if position == len {
+        put_new(intervals, position, id);
         return;
     }
-    let here = intervals[place];
+    let here = intervals.as_slice()[position];
     let next = u64::from(id) + 1;
     if next < u64::from(here.first) {
-        put_new(intervals, place, id);
+        put_new(intervals, position, id);
         return;
     }
     if next == u64::from(here.first) {
-        intervals[place] = Interval {
-            first: id,
-            last: here.last,
-        };
+        intervals.set(position, Interval { first: id, ..here });
         return;
     }
     if id <= here.last {
         return;
     }
-    if place + 1 < len {
-        let after = intervals[place + 1];
+    if position + 1 < len {
+        let after = intervals.as_slice()[position + 1];
         if next == u64::from(after.first) {
-            intervals.remove(place + 1);
-            intervals[place] = Interval {
+            let joined = Interval {
                 first: here.first,
                 last: after.last,
             };
+            intervals.remove(position + 1);
+            intervals.set(position, joined);
             return;
         }
     }
-    intervals[place] = Interval {
-        first: here.first,
-        last: id,
-    };
+    intervals.set(position, Interval { last: id, ..here });
 }
 
 // One more interval, of this id alone, where there is room.
-fn put_new(intervals: &mut SmallVec<Interval, 2>, place: usize, id: u32)
-    requires place { place ≤ length intervals.old.items }
-    requires room { small_vec_len intervals.old < intervals.old.capacity }
-    ensures items { intervals.new.items ≡ insert intervals.old.items place (interval id id) }
-    ensures room { intervals.old.capacity - small_vec_len intervals.old
-        ≤ intervals.new.capacity - small_vec_len intervals.new + 1 }
+fn put_new(intervals: &mut Intervals, position: usize, id: u32)
+    requires position { position ≤ length intervals.old.items }
+    requires room { 0 < intervals.old.room }
+    ensures items { intervals.new.items ≡ insert intervals.old.items position (interval id id) }
+    ensures room { intervals.old.room ≤ intervals.new.room + 1 }
 {
     let only = Interval {
         first: id,
         last: id,
     };
-    match intervals.insert(place, only) {
-        Ok(()) => {}
-        Err(_) => unreachable!(),
-    }
+    intervals.insert(position, only);
 }
 
 impl Ids {
-    /// No ids.
-    pub(crate) fn new(alloc: Global) -> Ids
+    /// No ids, and room for one.
+    pub(crate) fn new() -> Ids
         ensures ids { result.ids ≡ sets.empty }
-        ensures room { result.room ≡ 2 }
+        ensures room { result.room ≡ 1 }
     {
         Ids {
-            intervals: SmallVec::new(alloc),
+            intervals: Intervals::new(),
         }
     }
 
@@ -142,11 +128,11 @@ impl Ids {
     pub(crate) fn has_room(&self) -> bool
         ensures { result ≡ nat_lt 0 self.now.room }
     {
-        self.intervals.len() < self.intervals.capacity()
+        self.intervals.has_room()
     }
 
     /// Makes room for one more id.
-    pub(crate) fn make_room(&mut self) -> Result<(), NoMemory>
+    pub(crate) fn make_room(&mut self, alloc: Global) -> Result<(), NoMemory>
         ensures ids { self.new.ids ≡ self.old.ids }
         ensures here { OnOk result (0 < self.new.room) }
         ensures there { 0 < self.old.room → IsOk result }
@@ -154,21 +140,16 @@ impl Ids {
         ensures keeps { self.old.room ≤ self.new.room }
         ensures refused { OnErr result (self.new ≡ self.old) }
     {
-        if self.has_room() {
-            return Ok(());
-        }
-        match self.intervals.reserve(1) {
-            Ok(()) => Ok(()),
-            Err(_) => Err(NoMemory),
-        }
+        self.intervals.make_room(alloc)
     }
 
     /// Whether the id is there.
     pub(crate) fn has(&self, id: u32) -> bool
         ensures { result ≡ sets.contains self.now.ids id }
     {
-        let place = count_before(self.intervals.as_slice(), u64::from(id));
-        place < self.intervals.len() && self.intervals[place].first <= id
+        let intervals = self.intervals.as_slice();
+        let position = count_before(intervals, u64::from(id));
+        position < intervals.len() && intervals[position].first <= id
     }
 
     /// Adds an id. It takes no memory.
@@ -188,10 +169,7 @@ impl Ids {
         ensures ids { self.new.ids ≡ with_interval self.old.ids top }
         ensures room { self.old.room ≤ self.new.room + 1 }
     {
-        match self.intervals.push(top) {
-            Ok(()) => {}
-            Err(_) => unreachable!(),
-        }
+        self.intervals.push(top);
     }
 
     /// Takes away the ids that lead up to `id`, one after another, and returns the first of them,
@@ -207,11 +185,11 @@ impl Ids {
         if len == 0 {
             return id;
         }
-        let last = self.intervals[len - 1];
+        let last = self.intervals.as_slice()[len - 1];
         if last.last + 1 < id {
             return id;
         }
-        self.intervals.truncate(len - 1);
+        self.intervals.remove(len - 1);
         last.first
     }
 
@@ -227,6 +205,7 @@ impl Ids {
         ensures ids { with_interval self.new.ids result
             ≡ sets.insert (with_interval self.old.ids top) id }
         ensures behind { IsBehind self.new.ids result }
+        ensures some { result.first ≤ result.last }
         ensures room { self.old.room ≤ self.new.room + 1 }
     {
         if top.last < id {
@@ -264,8 +243,8 @@ impl Ids {
         ensures { IsLeastFrom self.now.ids from result }
     {
         let intervals = self.intervals.as_slice();
-        let place = count_before(intervals, from);
-        let here = intervals.get(place)?;
+        let position = count_before(intervals, from);
+        let here = intervals.get(position)?;
         if from <= u64::from(here.first) {
             return Some(here.first);
         }

@@ -33,6 +33,7 @@ impl Interval {
     /// None says that the id is below the interval, or above it and apart from it.
     pub(crate) fn grown(self, id: u32) -> Option<Interval>
         ensures grown { IfSome result (λ grown. HasOneMore self id grown) }
+        ensures there { IfSome result (λ grown. grown.first ≤ grown.last) }
         ensures some { IsNone result → self.first ≤ self.last }
         ensures apart { IsNone result → (id < self.first) ⊎ (self.last + 1 < id) }
     {

@@ -6,5 +6,6 @@
 mod asked;
 mod ids;
 mod interval;
+mod intervals;
 
 pub use asked::Asked;

@@ -1,8 +1,8 @@
 use Rattle.std.proofs.Common.{◌<◌, ◌≤◌, ◌+◌, length, ap, subst, ◌∙◌, arith}
 use Rattle.aodv_asked.specs.Tops.{rows_with_tops, with_interval, IsBehind}
-use Rattle.aodv_asked.proofs.RowLaws.{rows_len, row_read}
+use Rattle.aodv_asked.proofs.RowLaws.{row_read}
 use Rattle.aodv_asked.proofs.TopLaws.{count_all, count_few}
-use Rattle.aodv_asked.proofs.KeptLaws.{top_read, behind_topped, ids_topped}
+use Rattle.aodv_asked.proofs.KeptLaws.{nodes_len, top_read, behind_topped, ids_topped}
 use Rattle.aodv_asked.proofs.Counts.{count_beside}
 use Rattle.aodv_asked.proofs.asked.Asked.count.Goals as goal
 
@@ -12,7 +12,7 @@ overflow_add-result c =
     let tops = c.self.inside.tops.items in
     let v = c.index-2.result.now in
     let row = c.index.result.now in
-    let lt : c.args.o < length rows = omega (arith, c.requires, rows_len rows _ (ap (λ s. s.rooms) c.self.view_is)) in
+    let lt : c.args.o < length rows = omega (arith, c.requires, nodes_len rows c.self.inside.tops.items _ (ap (λ s. s.rooms) c.self.view_is)) in
     let top = top_read tops c.args.o v (omega (arith, c.self.invariant.each)) c.index-2.ensures in
     let behind = subst (λ ids. IsBehind ids v) (row_read rows c.args.o row lt c.index.ensures) (behind_topped rows tops c.self.inside.roomy c.args.o v c.self.invariant top) in
     let few : c.count.result ≤ v.first = count_few row.ids v c.count.result behind c.count.ensures in
@@ -24,7 +24,7 @@ returns c =
     let tops = c.self.inside.tops.items in
     let v = c.index-2.result.now in
     let row = c.index.result.now in
-    let lt : c.args.o < length rows = omega (arith, c.requires, rows_len rows _ (ap (λ s. s.rooms) c.self.view_is)) in
+    let lt : c.args.o < length rows = omega (arith, c.requires, nodes_len rows c.self.inside.tops.items _ (ap (λ s. s.rooms) c.self.view_is)) in
     let top = top_read tops c.args.o v (omega (arith, c.self.invariant.each)) c.index-2.ensures in
     let ids = row_read rows c.args.o row lt c.index.ensures in
     let behind = subst (λ s. IsBehind s v) ids (behind_topped rows tops c.self.inside.roomy c.args.o v c.self.invariant top) in

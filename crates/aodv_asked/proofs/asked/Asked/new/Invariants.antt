@@ -9,6 +9,6 @@ abbrev pub invariant-loop-o : goal.invariant-loop-o
 invariant-loop-o l = record {
   len : length l.rows.items ≡ l.o;
   empty : AreEmpty l.rows.items;
-  rooms : All (λ (r : RoomyIds). r.room ≡ 2) l.rows.items;
+  rooms : All (λ (r : RoomyIds). r.room ≡ 1) l.rows.items;
   roomy : (q : _) → sets.contains l.roomy q ≡ true → q < l.o;
 }

@@ -34,3 +34,8 @@ pub returns-clause-ids : goal.returns-clause-ids
 returns-clause-ids c =
     let next : c.args.id + 1 ≡ c.args.top.first = elim c.requires.apart [ inl below ↦ omega arith | inr above ↦ absurd (omega arith) ] in
     top_down c.args.self.now.ids c.take_up_to.new.self.ids c.args.top c.args.id c.take_up_to.result c.take_up_to.ensures.ids c.take_up_to.ensures.within next c.requires.some
+
+pub returns-clause-some : goal.returns-clause-some
+returns-clause-some c =
+    let next : c.args.id + 1 ≡ c.args.top.first = elim c.requires.apart [ inl below ↦ omega arith | inr above ↦ absurd (omega arith) ] in
+    omega (arith, c.take_up_to.ensures.within, c.requires.some)

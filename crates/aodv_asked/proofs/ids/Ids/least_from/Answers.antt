@@ -3,14 +3,14 @@ use Rattle.std.proofs.lemmas.List.{get_or_read}
 use borrow.Author.Tests.{ltb-true}
 use Rattle.mesh_base.specs.Members.{IsLeastFrom}
 use Rattle.aodv_asked.specs.Insertions.{interval, interval_at}
-use Rattle.aodv_asked.proofs.FindLaws.{place_along, least_past, least_first, least_inside}
+use Rattle.aodv_asked.proofs.FindLaws.{position_along, least_past, least_first, least_inside}
 use Rattle.aodv_asked.proofs.ids.Ids.least_from.Goals as goal
 
 pub returns-in_err-here : goal.returns-in_err-here
 returns-in_err-here c =
     let vs = c.self.inside.intervals.items in
-    let k = c.count_before-place.result in
-    let at = place_along _ vs _ k c.as_slice-intervals.ensures c.count_before-place.ensures.within c.count_before-place.ensures.before c.count_before-place.ensures.after in
+    let k = c.count_before-position.result in
+    let at = position_along _ vs _ k c.as_slice-intervals.ensures c.count_before-position.ensures.within c.count_before-position.ensures.before c.count_before-position.ensures.after in
     let len = ap length c.as_slice-intervals.ensures in
     let none : length c.as_slice-intervals.result.now ≤ k = c.in_err-here.ensures.lookup.3 in
     let past : length vs ≤ k = omega (arith, len, none) in
@@ -19,8 +19,8 @@ returns-in_err-here c =
 pub returns-then-from : goal.returns-then-from
 returns-then-from c =
     let vs = c.self.inside.intervals.items in
-    let k = c.count_before-place.result in
-    let at = place_along _ vs _ k c.as_slice-intervals.ensures c.count_before-place.ensures.within c.count_before-place.ensures.before c.count_before-place.ensures.after in
+    let k = c.count_before-position.result in
+    let at = position_along _ vs _ k c.as_slice-intervals.ensures c.count_before-position.ensures.within c.count_before-position.ensures.before c.count_before-position.ensures.after in
     let xs = c.as_slice-intervals.result.now in
     let v = c.in_ok-here.here.now in
     let below : k < length xs = ltb-true k (length xs) (sym c.in_ok-here.ensures.lookup.0) in
@@ -32,8 +32,8 @@ returns-then-from c =
 pub returns : goal.returns
 returns c =
     let vs = c.self.inside.intervals.items in
-    let k = c.count_before-place.result in
-    let at = place_along _ vs _ k c.as_slice-intervals.ensures c.count_before-place.ensures.within c.count_before-place.ensures.before c.count_before-place.ensures.after in
+    let k = c.count_before-position.result in
+    let at = position_along _ vs _ k c.as_slice-intervals.ensures c.count_before-position.ensures.within c.count_before-position.ensures.before c.count_before-position.ensures.after in
     let xs = c.as_slice-intervals.result.now in
     let v = c.in_ok-here.here.now in
     let below : k < length xs = ltb-true k (length xs) (sym c.in_ok-here.ensures.lookup.0) in

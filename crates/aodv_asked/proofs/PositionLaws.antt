@@ -1,29 +1,19 @@
 -- What the cases of adding a number do.
 use Rattle.std.proofs.Common.{◌≡◌, ◌<◌, ◌≤◌, ℕ, zero, suc, ◌+◌, ◌-◌, false, ltb, ◌&&◌, List, [], ◌∷◌, ◌++◌, length, get_or, set, take, drop, refl, sym, ap, subst, ◌∙◌, arith, eq-eqb, ◌⊎◌, inl, inr, IsTrue}
-use Rattle.std.specs.List.{insert, remove, refill}
+use Rattle.std.specs.List.{insert, remove}
 use Rattle.std.proofs.lemmas.Bool.{le-ltb, lt-ltb, ne_eqb, lt-leb, le-leb, cases_lt}
-use Rattle.std.proofs.lemmas.List.{append-nil, length-set, take_all, take-append-drop, set_split, drop_all, get_or_default}
-use Rattle.std.proofs.Math.Seq.{drop-length}
+use Rattle.std.proofs.lemmas.List.{take-append-drop, set_split, drop_all, get_or_default}
 use Rattle.aodv_asked.specs.declared.interval.Interval.{Interval}
 use Rattle.aodv_asked.specs.Intervals.{AreApart}
 use Rattle.aodv_asked.specs.Insertions.{interval, is_in, is_near_to, extension, with_id}
 use Rattle.aodv_asked.proofs.IntervalLaws.{AllBefore, with_id-at, drop_at, is_in-append, is_in_before, is_in_after}
 
--- v is the interval at place k
+-- v is the interval at position k
 abbrev pub IsAt : List Interval → ℕ → Interval → Type 0
 IsAt vs k v = get_or vs k (interval 0 0) ≡ v
 
 at_any : (vs : List Interval) (k : ℕ) (v : Interval) → k < length vs → IsAt vs k v → (d : Interval) → get_or vs k d ≡ v
 at_any vs k v h at d = get_or_default vs k d (interval 0 0) h ∙ at
-
--- a write through a slice of the intervals
-pub written : (vs ws : List Interval) (k : ℕ) (v : Interval) → ws ≡ vs → refill (length vs) vs (set ws k v) ≡ set vs k v
-written vs ws k v same =
-    let len : length (set vs k v) ≡ length vs = length-set vs k v in
-    let none : drop (length (set vs k v)) vs ≡ [] = ap (λ n. drop n vs) len ∙ drop-length vs in
-    let whole : take (length vs) (set vs k v ++ []) ≡ set vs k v =
-    ap (λ xs. take (length vs) xs) (append-nil (set vs k v)) ∙ take_all (length vs) (set vs k v) (omega (arith, len)) in
-    ap (λ xs. refill (length vs) vs (set xs k v)) same ∙ ap (λ xs. take (length vs) (set vs k v ++ xs)) none ∙ whole
 
 early : (v : Interval) (r : List Interval) (q : ℕ) → q + 1 < v.first → with_id (v ∷ r) q ≡ interval q q ∷ v ∷ r
 early v r q h = rw (lt-ltb (q + 1) v.first h) refl
