@@ -121,7 +121,7 @@ no_last a b c (d ∷ []) h =
     rw h (none_then (number_up_to 255 a) _ (λ w. none_then (number_up_to 255 b) _ (λ x. none_then (number_up_to 255 c) _ (λ y. refl))))
 no_last a b c (d ∷ e ∷ ps) h = refl
 
-four_are : (a b c d : List ℕ) (w x y z : ℕ)
+pub four_are : (a b c d : List ℕ) (w x y z : ℕ)
     → number_up_to 255 a ≡ Some w → number_up_to 255 b ≡ Some x → number_up_to 255 c ≡ Some y → number_up_to 255 d ≡ Some z
     → address_from (a ∷ b ∷ c ∷ d ∷ []) ≡ Some (16777216 * w + 65536 * x + 256 * y + z)
 unfolding address_from
@@ -177,7 +177,7 @@ not_none : {P : Type 0} (o : Option ℕ) (n : ℕ) → o ≡ Some n → o ≡ No
 not_none None n h none = absurd (let Q : ⊥ = cc in Q)
 not_none (Some k) n h none = absurd (let Q : ⊥ = cc in Q)
 
-number_digits : (most : ℕ) (ds : List ℕ) (n : ℕ) → number_up_to most ds ≡ Some n → all_ascii_digits ds ≡ true
+pub number_digits : (most : ℕ) (ds : List ℕ) (n : ℕ) → number_up_to most ds ≡ Some n → all_ascii_digits ds ≡ true
 number_digits most ds n h = by_test _ (all_ascii_digits ds) (λ digits. digits) (λ other. not_none (number_up_to most ds) n h (no_digits most ds other))
 
 pub number_word : (most : ℕ) (ds : List ℕ) (n : ℕ) → number_up_to most ds ≡ Some n → parts 32 ds ≡ ds ∷ []

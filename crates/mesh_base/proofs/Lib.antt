@@ -11,3 +11,4 @@ pub mod Grown
 pub mod AddressLaws
 pub mod Ranks
 pub mod BitCounts
+pub mod StemLaws

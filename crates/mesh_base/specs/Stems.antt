@@ -1,5 +1,5 @@
 -- The first three numbers of an address, as they are kept written.
-use Rattle.std.specs.Prelude.{◌≡◌, ◌≤◌, ℕ, ◌/◌, ◌%◌, List, [], ◌∷◌, ◌++◌, take}
+use Rattle.std.specs.Prelude.{◌≡◌, ◌<◌, ◌≤◌, ◌^◌, ℕ, ◌/◌, ◌%◌, List, [], ◌∷◌, ◌++◌, take}
 use Rattle.std.specs.Fmt.{decimal}
 
 -- these numbers, each with a dot, from the address divided by 256
@@ -8,7 +8,8 @@ stem_of high =
     decimal (high / 65536) ++ 46 ∷ decimal (high / 256 % 256) ++ 46 ∷ decimal (high % 256)
     ++ 46 ∷ []
 
--- they are the first cells of a chunk, so many of them
+-- they are an address's, and the first cells of a chunk, so many of them
 pub record IsStem (high : ℕ) (cells : List ℕ) (width : ℕ) : Type 0 where
   pub text : take width cells ≡ stem_of high
   pub short : width ≤ 12
+  pub octets : high < 2 ^ 24

@@ -1,15 +1,11 @@
 //! Addresses, as RFC 3561 section 5 has them in its packets and as a schedule spells them.
-ghost use Rattle.std.specs.Prelude.{◌≡◌, ◌+◌, ◌≤◌, ◌<◌, ◌∷◌, [], ◌++◌, true, false, IsTrue, IfSome, IfNone};
+ghost use Rattle.std.specs.Prelude.{◌≡◌, ◌+◌, ◌≤◌, ◌<◌, ◌∷◌, [], true, false, IsTrue, IfSome, IfNone};
 ghost use Rattle.std.specs.Char.{is_ascii_digit};
-ghost use Rattle.std.specs.Fmt.{decimal};
 ghost use Rattle.std.specs.Option.{option_map};
 ghost use Rattle.mesh_base.specs.Numbers.{number_up_to};
 ghost use Rattle.mesh_base.specs.Parts.{parts};
-ghost use Rattle.mesh_base.specs.Addresses.{address_of, dotted_decimal};
+ghost use Rattle.mesh_base.specs.Addresses.{address_of};
 ghost use Rattle.mesh_base.specs.Octets.{first_octet, IsDotAt};
-
-use crate::limits::LINE_ROOM;
-use crate::line_buf::LineBuf;
 
 /// The address of a node: its four numbers, the first the highest.
 #[derive(Clone, Copy, Debug, Default, PartialEq, Eq, PartialOrd, Ord)]
@@ -71,7 +67,7 @@ fn of_three(a: u8, b: u8, c: u8) -> Option<u32>
 
 // The whole text as one number.
 #[inline(always)]
-fn octet(text: &[u8]) -> Option<u32>
+pub(crate) fn octet(text: &[u8]) -> Option<u32>
     ensures value { result ≡ number_up_to 255 text.now }
     ensures within { IfSome result (λ n. n ≤ 255) }
 {

@@ -27,4 +27,4 @@ pub use line_buf::LineBuf;
 pub use mesh::{Mesh, MeshError};
 pub use octets::write_dotted;
 pub use set::NodeSet;
-pub use text::{Packet, cut, number_up_to, push_decimal, push_number, push_text};
+pub use text::{Packet, are_equal, cut, number_up_to, push_decimal, push_number, push_text};

@@ -1,12 +1,14 @@
-//! The numbers of an address, written.
-ghost use Rattle.std.specs.Prelude.{◌≡◌, ◌<◌, ◌≤◌, ◌+◌, ◌/◌, ◌%◌, ◌++◌, ◌∷◌, [], length, take};
+//! The numbers of an address, written, and an address read by the three that most of a mesh share.
+ghost use Rattle.std.specs.Prelude.{◌≡◌, ◌<◌, ◌≤◌, ◌+◌, ◌/◌, ◌%◌, ◌++◌, ◌∷◌, [], length, take, IfSome};
 ghost use Rattle.std.specs.Fmt.{decimal};
-ghost use Rattle.mesh_base.specs.Addresses.{dotted_decimal};
-ghost use Rattle.mesh_base.specs.Stems.{IsStem};
+ghost use Rattle.std.specs.Option.{option_map};
+ghost use Rattle.mesh_base.specs.Addresses.{address_of, dotted_decimal};
+ghost use Rattle.mesh_base.specs.Stems.{stem_of, IsStem};
 
-use crate::addr::Addr;
+use crate::addr::{Addr, octet};
 use crate::limits::LINE_ROOM;
 use crate::line_buf::{LineBuf, overwrite};
+use crate::text::are_equal;
 
 // The numbers below 256, each with a dot, in chunks of four bytes.
 static OCTETS: [[u8; 4]; 256] = [
@@ -140,6 +142,36 @@ impl Stem {
             cells,
             width: z,
         }
+    }
+
+    // What stands behind these numbers in a text that begins with them. None says nothing: numbers
+    // of more than eight bytes and those of a short text aren't looked for.
+    #[inline(always)]
+    fn behind<'t>(&self, text: &'t [u8]) -> Option<&'t [u8]>
+        ensures { IfSome result (λ rest. text.now ≡ stem_of self.now.high ++ rest.now) }
+    {
+        if self.width > 8 {
+            return None;
+        }
+        let (front, rest) = text.split_at_checked(self.width)?;
+        let (numbers, _) = self.cells.split_at_checked(self.width)?;
+        let starts = are_equal(front.first_chunk::<4>()?, numbers.first_chunk::<4>()?);
+        let ends = are_equal(front.last_chunk::<4>()?, numbers.last_chunk::<4>()?);
+        if starts && ends { Some(rest) } else { None }
+    }
+
+    /// Reads an address as `Addr::parse` does: at once where it begins with these numbers.
+    #[inline(always)]
+    #[tactic(auto, using(crate::proofs::StemLaws::stem_and_last))]
+    pub(crate) fn read(&self, text: &[u8]) -> Option<Addr>
+        ensures { option_map (λ a. a.0) result ≡ address_of text.now }
+    {
+        if let Some(last) = self.behind(text) {
+            if let Some(z) = octet(last) {
+                return Some(Addr(256 * self.high + z));
+            }
+        }
+        Addr::parse(text)
     }
 
     /// Appends an address as it is spelled. The numbers that it has in common with these are copied

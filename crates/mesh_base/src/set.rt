@@ -25,7 +25,6 @@ impl Model for NodeSet {
 
     ghost invariant = { λ a. AreWords a.words };
 
-    ghost use Rattle.std.specs.Prelude.{List, ℕ};
     ghost use Rattle.std.proofs.Common.{ap};
     ghost use Rattle.mesh_base.specs.Members.{words_of};
     ghost use Rattle.mesh_base.specs.Words.{words_again};

@@ -1,5 +1,5 @@
 //! Buffers for a line and a packet, parts of texts, and decimal numbers.
-ghost use Rattle.std.specs.Prelude.{◌≡◌, ◌+◌, ◌/◌, ◌%◌, ◌<◌, ◌≤◌, List, ℕ, [], ◌∷◌, ◌++◌, length, position, ◌==◌, IfNone, IfSome};
+ghost use Rattle.std.specs.Prelude.{◌≡◌, ◌↔◌, ◌+◌, ◌/◌, ◌%◌, ◌<◌, ◌≤◌, [], ◌∷◌, ◌++◌, length, position, ◌==◌, IfNone, IfSome, IsTrue};
 ghost use Rattle.std.specs.Fmt.{decimal};
 ghost use Rattle.mesh_base.specs.Parts.{parts, rest_parts};
 ghost use Rattle.mesh_base.specs.Numbers as numbers;
@@ -29,6 +29,14 @@ pub fn cut(bytes: &[u8], sep: u8) -> (&[u8], Option<&[u8]>)
         None => (bytes, None),
         Some(at) => (&bytes[..at], Some(&bytes[at + 1..])),
     }
+}
+
+/// Whether four bytes are these: as numbers they are compared at once.
+#[inline(always)]
+pub fn are_equal(bytes: &[u8; 4], these: &[u8; 4]) -> bool
+    ensures { IsTrue result ↔ (bytes.now ≡ these.now) }
+{
+    u32::from_le_bytes(*bytes) == u32::from_le_bytes(*these)
 }
 
 fn is_canonical(bytes: &[u8]) -> bool

@@ -29,12 +29,13 @@ unfolding index_of
 some_nodes [] a x r is = absurd (none-some x is)
 some_nodes (p ∷ ps) a x r is = refl
 
-pub turn_line : (mesh : Nodes) (started : Bool) (word : List ℕ) (m : Mention) (x : ℕ) → address_of word ≡ Some m.address → m.span ≡ span_at 5 word → index_of mesh m.address ≡ Some x
+pub turn_line : (mesh : Nodes) (started : Bool) (word : List ℕ) (a x : ℕ) → address_of word ≡ Some a → index_of mesh a ≡ Some x
     → line_of mesh started (116 ∷ 117 ∷ 114 ∷ 110 ∷ 32 ∷ word) ≡ Ok (Does (Turn x))
 unfolding line_of shape_by
-turn_line mesh started word m x reads span is =
-    ap (λ r. result_and_then (accepted_shape mesh started) (shape_with command.Turn r)) (only_address 5 word m reads span)
-    ∙ (some_nodes mesh m.address x _ is ∙ rw is refl)
+turn_line mesh started word a x reads is =
+    let m : Mention = record { address = a; span = span_at 5 word } in
+    ap (λ r. result_and_then (accepted_shape mesh started) (shape_with command.Turn r)) (only_address 5 word m reads refl)
+    ∙ (some_nodes mesh a x _ is ∙ rw is refl)
 
 pub delivery_line : (mesh : Nodes) (started : Bool) (word : List ℕ) (id : ℕ) → ((line : Result AcceptedLine LineFault) → after_nodes mesh line ≡ line) → positive (number_up_to greatest_id word) ≡ Some id
     → line_of mesh started (100 ∷ 101 ∷ 108 ∷ 105 ∷ 118 ∷ 101 ∷ 114 ∷ 32 ∷ word) ≡ Ok (Does (Deliver id))

@@ -14,6 +14,6 @@ mod words;
 pub use forms::{Arguments, Read, arguments_of};
 pub use line::Line;
 pub use mesh_grammar::{Command, LineFault, Span};
-pub use parse::{make_line, parse_line, placed};
+pub use parse::{parse_line, placed};
 pub use print::{LONGEST_WRITTEN, print_line, push_event, push_line, push_written};
 pub use words::{Mention, is_blank, next_at, span_at};

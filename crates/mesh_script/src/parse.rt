@@ -1,5 +1,5 @@
 //! Whether a line is allowed at its place.
-ghost use Rattle.std.specs.Prelude.{◌≡◌, ◌<◌, length, IfOk, IfErr, Some, None, Ok};
+ghost use Rattle.std.specs.Prelude.{◌≡◌, ◌<◌, IfOk, IfErr, Some, None, Ok};
 ghost use Rattle.mesh_base.specs.Meshes.{index_of};
 ghost use Rattle.mesh_meaning.specs.Events.{event_of};
 ghost use Rattle.mesh_text.specs.Ranges.{IsEcho};
@@ -26,7 +26,7 @@ pub(crate) fn after_nodes(mesh: &Mesh) -> Result<(), LineFault>
     Ok(())
 }
 
-pub(crate) fn index(mesh: &Mesh, node: Mention) -> Result<usize, LineFault>
+fn index(mesh: &Mesh, node: Mention) -> Result<usize, LineFault>
     ensures value { IfOk result (λ i. index_of mesh.now (mention_of node).address ≡ Some i) }
     ensures none { IfErr result (λ f. index_of mesh.now (mention_of node).address ≡ None) }
     ensures fault { IfErr result (λ f. f ≡ LineFault.Unknown node.span) }
@@ -99,10 +99,7 @@ fn auto(count: u64) -> Result<Line<'static>, LineFault>
 /// The line that a command makes of its arguments, with each node by its index. Arguments of
 /// another command are a fault, and so is a count of events past 32 bits.
 #[inline(always)]
-pub fn make_line<'a>(
-    command: Command,
-    arguments: Arguments<'a, usize>,
-) -> Result<Line<'a>, LineFault>
+fn make_line<'a>(command: Command, arguments: Arguments<'a, usize>) -> Result<Line<'a>, LineFault>
     ensures { seen_line result
         ≡ short_count (schedule.made_line command (places_of arguments.entry)) }
 {

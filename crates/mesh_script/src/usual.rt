@@ -1,26 +1,22 @@
 //! Turns and deliveries: most lines of a long schedule are one of these, and they are read without
 //! looking for words.
-ghost use Rattle.std.specs.Prelude.{◌≡◌, ◌↔◌, ◌+◌, ◌<◌, ◌^◌, ◌∷◌, Bool, IsTrue, length, IfSome, Ok};
+ghost use Rattle.std.specs.Prelude.{◌≡◌, ◌+◌, ◌<◌, ◌^◌, ◌∷◌, Bool, length, IfSome, Ok};
 ghost use Rattle.mesh_text.specs.Schedule.{line_of};
 ghost use Rattle.mesh_script.specs.Seen.{accepted_of};
 
 use crate::line::Line;
-use crate::parse::{after_nodes, index};
-use crate::words::{address, number};
-use mesh_base::{Event, Mesh};
+use crate::parse::after_nodes;
+use crate::words::number;
+use mesh_base::{Event, Mesh, are_equal};
 
 // A turn of the node that this is the address of, where there is one.
+#[tactic(auto, using(crate::proofs::UsualLines::turn_line))]
 fn turn<'a>(word: &[u8], mesh: &Mesh) -> Option<Line<'a>>
-    requires { 5 + length word.now < 2 ^ 63 }
     ensures { IfSome result (λ l. (started : Bool) → line_of mesh.now started
         (116 ∷ 117 ∷ 114 ∷ 110 ∷ 32 ∷ word.now) ≡ Ok (accepted_of l)) }
 {
-    let Ok(mention) = address(5, word) else {
-        return None;
-    };
-    let Ok(node) = index(mesh, mention) else {
-        return None;
-    };
+    let addr = mesh.parse_addr(word)?;
+    let node = mesh.index_of(addr)?;
     Some(Line::Step(Event::Turn { node }))
 }
 
@@ -34,14 +30,6 @@ fn delivery<'a>(word: &[u8], mesh: &Mesh) -> Option<Line<'a>>
     after_nodes(mesh).ok()?;
     let id = number(u64::MAX, 8, word).ok()?;
     Some(Line::Step(Event::Deliver { id }))
-}
-
-// Whether four bytes are these: as numbers they are compared at once.
-#[inline(always)]
-fn are_equal(bytes: &[u8; 4], name: &[u8; 4]) -> bool
-    ensures { IsTrue result ↔ (bytes.now ≡ name.now) }
-{
-    u32::from_le_bytes(*bytes) == u32::from_le_bytes(*name)
 }
 
 // What follows `turn` and its space.
