@@ -1,5 +1,5 @@
 //! The data that wait for one destination.
-ghost use Rattle.std.specs.Prelude.{◌≡◌, ◌<◌, ◌≤◌, ◌++◌, ◌∷◌, [], ◌+◌, ◌-◌, ◌↔◌, true, length, drop, slice_index_or, nat_lt, IfOk, IfSome, IsSome, IsTrue, IsOk, OnOk, OnErr};
+ghost use Rattle.std.specs.Prelude.{◌≡◌, ◌<◌, ◌≤◌, ◌++◌, ◌∷◌, [], ◌+◌, ◌-◌, ◌↔◌, true, length, drop, slice_index_or, nat_lt, IfSome, IsSome, IsTrue, IsOk, OnOk, OnErr};
 ghost use Rattle.std.specs.VecDeque.{deque_len, deque_capacity};
 
 use mesh_base::{Bytes, NoMemory};
@@ -10,12 +10,13 @@ use std::marker::Model;
 /// Places for the data of one destination.
 #[derive(Drop)]
 struct Places {
-    // Most destinations that have data have one datum, which takes no memory of its own.
-    first: Option<Bytes>,
     // Those behind the first.
     rest: VecDeque<Bytes>,
     // Room for one more was made. Other free places aren't promised to anyone.
     roomy: bool,
+    // Most destinations that have data have one datum, which takes no memory of its own. Whether
+    // there is one stands beside what else is asked of places, in one line of the cache.
+    first: Option<Bytes>,
 }
 
 impl Model for Places {

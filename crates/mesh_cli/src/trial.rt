@@ -18,6 +18,7 @@ use mesh_run::{Point, Say, Status, do_value, finish};
 use mesh_world::World;
 use std::alloc::Global;
 use std::marker::Brand;
+use std::mem;
 
 // Does the lines that are still to come, and writes the last line of their text.
 fn do_made<O: Sink>(alloc: Global, at: &mut Point<World>, maker: &mut Maker, out: &mut O) -> Status
@@ -61,6 +62,8 @@ fn trial_gathered<O: Sink>(
     let mut at: Point<World> = Point::with(variant);
     let mut maker = Maker::new(plan.seed, plan.nodes, plan.steps);
     let status = do_made(alloc, &mut at, &mut maker, buffer);
+    // The process ends with its run, and its memory goes back as a whole.
+    mem::forget(at);
     if status == Status::WriteFault {
         return status;
     }

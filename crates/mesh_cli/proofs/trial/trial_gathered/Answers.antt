@@ -30,8 +30,8 @@ returns-in-Ok-clause-told g c =
     (told_whole c.with-at.result c.args.variant (still_to_come c.new-maker.result) (made_by c.args.plan) (held_by g.O.Sink.held c.args.buffer.now) (held_by g.O.Sink.held c.do_made-status.new.out) c.do_made-status.result c.with-at.ensures c.new-maker.ensures.text c.do_made-status.ensures.told)
     c.flush.ensures.held
 
-pub returns-clause-told : goal.returns-clause-told
-returns-clause-told g c =
+pub returns-in-Err-clause-told : goal.returns-in-Err-clause-told
+returns-in-Err-clause-told g c =
     output_faulted (held_by g.O.Sink.held c.args.buffer.now) (held_by g.O.Sink.held c.do_made-status.new.out) (held_by g.O.Sink.held c.flush.new.self) (part Last (text_of_input c.args.variant (made_by c.args.plan))) c.do_made-status.result
     (told_whole c.with-at.result c.args.variant (still_to_come c.new-maker.result) (made_by c.args.plan) (held_by g.O.Sink.held c.args.buffer.now) (held_by g.O.Sink.held c.do_made-status.new.out) c.do_made-status.result c.with-at.ensures c.new-maker.ensures.text c.do_made-status.ensures.told)
     c.flush.ensures.held
