@@ -29,7 +29,7 @@ use Rattle.aodv_meaning.specs.Sent.{IsSent, IsPacket, pairs_of, addr}
 use Rattle.aodv_meaning.specs.Effects.{cast_of}
 use Rattle.aodv_handlers.specs.Made.{IsMade, number_full, only_cast}
 use Rattle.aodv_handlers.proofs.Unicasts.{no_entries, sent_same}
-use Rattle.aodv_handlers.proofs.Ready.{retract_sound}
+use Rattle.aodv_handlers.proofs.Order.{retract_sound}
 use Rattle.aodv_handlers.proofs.Requests.{made_at}
 use Rattle.aodv_handlers.proofs.Stated.{stated_below}
 

@@ -1,6 +1,6 @@
 pub mod Lists
 pub mod RouteErrors
-pub mod Ready
+pub mod Order
 pub mod Unicasts
 pub mod Restored
 pub mod Requests

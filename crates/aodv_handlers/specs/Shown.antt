@@ -22,7 +22,7 @@ core_of entries c = record {
 
 -- the core is that of a node of a mesh of this size: its parts are made for that size, and what it
 -- shows is sound
-pub record IsReady {T : Type 0} (nodes : T → ℕ) (entries : T
+pub record IsInOrder {T : Type 0} (nodes : T → ℕ) (entries : T
     → Table) (size : ℕ) (c : code.Core T) : Type 0 where
   pub table : nodes c.table ≡ size
   pub asked : length (c.asked).rooms ≡ size

@@ -12,10 +12,10 @@ pub struct Core<T> {
     pub sn: u32,
     /// The variant of the protocol that it runs. No step changes it.
     pub variant: Variant,
-    /// Its routing table.
-    pub table: T,
     /// The route requests that it has seen.
     pub asked: Asked,
+    /// Its routing table.
+    pub table: T,
     /// The data that wait for a route.
     pub waiting: Waiting,
 }

@@ -1,7 +1,6 @@
 //! Data: given to the node, and on their way through it (AWN's NEWPKT and PKT; RFC 3561, section
 //! 6.11).
-ghost use Rattle.std.specs.Prelude.{◌≡◌, ◌≢◌, ◌<◌, ◌≤◌, ℕ, ◌==◌, ◌&&◌, ◌||◌, not, if◌then◌else◌, true, false, length, slice_index, Option, Some, None};
-ghost use Rattle.std.specs.FinMap as maps;
+ghost use Rattle.std.specs.Prelude.{◌≡◌, ◌≢◌, ◌<◌, ℕ, ◌==◌, ◌&&◌, ◌||◌, not, if◌then◌else◌, true, false, length, slice_index, Option, Some, None};
 ghost use Rattle.mesh_base.specs.Members.{NodeIds};
 ghost use Rattle.aodv_model.specs.Cores.{New};
 ghost use Rattle.aodv_entry.specs.Quality.{is_val};
@@ -11,7 +10,7 @@ ghost use Rattle.aodv_model.specs.Soundness.{IsDatum, IsMessageInMesh};
 ghost use Rattle.aodv_wire.specs.declared.message.Message.TheVariants.{Parcel as a_parcel};
 ghost use Rattle.aodv_meaning.specs.Meaning.{index, stranger};
 ghost use Rattle.aodv_meaning.specs.Sent.{IsPacket};
-ghost use Rattle.aodv_handlers.specs.Shown.{core_of, IsReady, parcel_of};
+ghost use Rattle.aodv_handlers.specs.Shown.{core_of, IsInOrder, parcel_of};
 ghost use Rattle.aodv_meaning.specs.Effects.{cast_of};
 ghost use Rattle.aodv_handlers.specs.Made.{Reacts};
 
@@ -36,8 +35,8 @@ pub fn new_packet<T: Table>(core: &mut Core<T>, dest: usize, body: Bytes) -> Opt
         core_of T.entries core.new ≡ (on_new c body dest).core }
     ensures free { let c = core_of T.entries core.old in
         (range : NodeIds) → turn_full c range (New body dest) ≡ None }
-    ensures ready { (size : ℕ) → IsReady T.nodes T.entries size core.old
-        → IsReady T.nodes T.entries size core.new }
+    ensures order { (size : ℕ) → IsInOrder T.nodes T.entries size core.old
+        → IsInOrder T.nodes T.entries size core.new }
     ensures table { core.new.table ≡ core.old.table }
     ensures asked { core.new.asked ≡ core.old.asked }
 {
@@ -92,12 +91,12 @@ pub fn take_datum<T: Table>(
     m: &Datum<'_>,
     out: &mut Packet,
 ) -> Result<Effect, Counter>
-    requires ready { IsReady T.nodes T.entries (length mesh.now) core.old }
+    requires order { IsInOrder T.nodes T.entries (length mesh.now) core.old }
     requires says { IsMessageInMesh (length mesh.now) (parcel_of m.now) }
     ensures does { let dip = m.now.dip in let oip = m.now.oip in
         Reacts T.entries mesh.now (λ c. on_pkt c range.now m.now.body.now dip oip)
         core.old result core.new out.new.items }
-    ensures ready { IsReady T.nodes T.entries (length mesh.now) core.new }
+    ensures order { IsInOrder T.nodes T.entries (length mesh.now) core.new }
     ensures rooms { T.rooms core.new.table ≡ T.rooms core.old.table }
     ensures asked { core.new.asked ≡ core.old.asked }
 {
@@ -133,13 +132,13 @@ pub fn on_data<T: Table>(
     m: &DataView<'_>,
     out: &mut Packet,
 ) -> Result<Effect, Counter>
-    requires ready { IsReady T.nodes T.entries (length mesh.now) core.old }
+    requires order { IsInOrder T.nodes T.entries (length mesh.now) core.old }
     requires known { stranger mesh.now (a_parcel m.now) ≡ None }
     requires datum { IsDatum m.now.body }
     ensures does { let dip = index mesh.now m.now.dip in let oip = index mesh.now m.now.oip in
         Reacts T.entries mesh.now (λ c. on_pkt c range.now m.now.body dip oip)
         core.old result core.new out.new.items }
-    ensures ready { IsReady T.nodes T.entries (length mesh.now) core.new }
+    ensures order { IsInOrder T.nodes T.entries (length mesh.now) core.new }
     ensures rooms { T.rooms core.new.table ≡ T.rooms core.old.table }
     ensures asked { core.new.asked ≡ core.old.asked }
 {

@@ -1,13 +1,12 @@
 //! What a node does of its own accord: it sends a datum that waited, and asks for a route (AWN's
 //! main process; RFC 3561, section 6.3).
-ghost use Rattle.std.specs.Prelude.{◌≡◌, ◌≢◌, ◌<◌, ◌≤◌, ◌+◌, ℕ, true, false, length, ◌⊎◌, slice_index, Some, None, IfSome, IfOk, IfErr, IsTrue, is_none};
-ghost use Rattle.std.specs.FinMap as maps;
+ghost use Rattle.std.specs.Prelude.{◌≡◌, ◌<◌, true, false, length, ◌⊎◌, slice_index, Some, None, IfSome, IfOk, IfErr, IsTrue, is_none};
 ghost use Rattle.aodv_model.specs.Tables.{sqn, sqnf};
 ghost use Rattle.aodv_model.specs.Handlers.{fresh_id, may_send as can_send, may_ask as can_ask};
 ghost use Rattle.aodv_model.specs.Fullness.{is_id_full, ask_full};
 ghost use Rattle.aodv_asked.specs.Requests.{is_near};
 ghost use Rattle.aodv_entry.specs.Quality.{is_kno, inc as raised};
-ghost use Rattle.aodv_handlers.specs.Shown.{core_of, IsReady};
+ghost use Rattle.aodv_handlers.specs.Shown.{core_of, IsInOrder};
 ghost use Rattle.aodv_handlers.specs.Made.{Sends, Asks};
 
 use crate::cores::Core;
@@ -44,11 +43,11 @@ pub fn send_stored<T: Table>(
     dest: usize,
     out: &mut Packet,
 ) -> Result<Effect, Counter>
-    requires ready { IsReady T.nodes T.entries (length mesh.now) core.old }
+    requires order { IsInOrder T.nodes T.entries (length mesh.now) core.old }
     requires dest { dest < length mesh.now }
     requires may { can_send (core_of T.entries core.old) dest ≡ true }
     ensures does { Sends T.entries mesh.now range.now dest core.old result core.new out.new.items }
-    ensures ready { IsReady T.nodes T.entries (length mesh.now) core.new }
+    ensures order { IsInOrder T.nodes T.entries (length mesh.now) core.new }
     ensures rooms { T.rooms core.new.table ≡ T.rooms core.old.table }
     ensures asked { core.new.asked ≡ core.old.asked }
 {
@@ -117,14 +116,14 @@ pub fn start_request<T: Table>(
     dest: usize,
     out: &mut Packet,
 ) -> Result<Effect, Counter>
-    requires ready { IsReady T.nodes T.entries (length mesh.now) core.old }
+    requires order { IsInOrder T.nodes T.entries (length mesh.now) core.old }
     requires dest { dest < length mesh.now }
     requires may { can_ask (core_of T.entries core.old) dest ≡ true }
     requires asked { let c = core_of T.entries core.old in
         (0 < slice_index core.old.asked.rooms c.ip)
         ⊎ IsTrue (is_near c.seen c.ip (fresh_id c.variant c)) }
     ensures does { Asks T.entries mesh.now dest core.old result core.new out.new.items }
-    ensures ready { IsReady T.nodes T.entries (length mesh.now) core.new }
+    ensures order { IsInOrder T.nodes T.entries (length mesh.now) core.new }
     ensures table { core.new.table ≡ core.old.table }
 {
     let (sn, id) = next_request(core)?;

@@ -1,12 +1,12 @@
 //! Route errors, and links that are broken (RFC 3561, section 6.11).
-ghost use Rattle.std.specs.Prelude.{◌≡◌, ◌<◌, ◌≤◌, ℕ, length};
+ghost use Rattle.std.specs.Prelude.{◌≡◌, ◌<◌, ◌≤◌, length};
 ghost use Rattle.std.specs.FinMap as maps;
 ghost use Rattle.aodv_model.specs.Tables.{precs};
 ghost use Rattle.aodv_model.specs.Cores.{Rerr};
 ghost use Rattle.aodv_model.specs.Handlers.{is_empty as no_node, is_error, precs_of, error_cast as the_error_cast, retract as retracted};
 ghost use Rattle.aodv_model.specs.Soundness.{AreDestsBelow};
 ghost use Rattle.aodv_meaning.specs.Sent.{IsSent, IsPacket};
-ghost use Rattle.aodv_handlers.specs.Shown.{core_of, IsReady};
+ghost use Rattle.aodv_handlers.specs.Shown.{core_of, IsInOrder};
 ghost use Rattle.aodv_meaning.specs.Effects.{cast_of};
 ghost use Rattle.aodv_handlers.specs.Made.{Breaks};
 ghost use Rattle.aodv_handlers.specs.Parts.{tells, named_dests};
@@ -153,9 +153,9 @@ pub fn link_broken<T: Table>(
     next: usize,
     out: &mut Packet,
 ) -> Result<Cast, Counter>
-    requires ready { IsReady T.nodes T.entries (length mesh.now) core.old }
+    requires order { IsInOrder T.nodes T.entries (length mesh.now) core.old }
     ensures does { Breaks T.entries mesh.now next core.old result core.new out.new.items }
-    ensures ready { IsReady T.nodes T.entries (length mesh.now) core.new }
+    ensures order { IsInOrder T.nodes T.entries (length mesh.now) core.new }
     ensures rooms { T.rooms core.new.table ≡ T.rooms core.old.table }
     ensures asked { core.new.asked ≡ core.old.asked }
 {

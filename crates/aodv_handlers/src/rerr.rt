@@ -1,5 +1,5 @@
 //! Route errors from neighbours (AWN's RERR; RFC 3561, section 6.11).
-ghost use Rattle.std.specs.Prelude.{◌≡◌, ◌≢◌, ◌<◌, ◌≤◌, ℕ, ◌&&◌, ◌==◌, nat_lt, if◌then◌else◌, unwrap_or, true, length, get_or, Some, None, Ok};
+ghost use Rattle.std.specs.Prelude.{◌≡◌, ◌≢◌, ◌<◌, ℕ, ◌&&◌, ◌==◌, nat_lt, if◌then◌else◌, unwrap_or, true, length, get_or, Some, None, Ok};
 ghost use Rattle.std.specs.Bool.{OnFalse};
 ghost use Rattle.std.specs.FinMap as maps;
 ghost use Rattle.std.specs.FinSet as sets;
@@ -9,8 +9,8 @@ ghost use Rattle.aodv_wire.specs.declared.message.Message.TheVariants.{Rerr as a
 ghost use Rattle.aodv_meaning.specs.Effects.{cast_of};
 ghost use Rattle.aodv_meaning.specs.Meaning.{dests_in, stranger};
 ghost use Rattle.aodv_meaning.specs.Sent.{IsPacket};
-ghost use Rattle.aodv_handlers.specs.Shown.{core_of, IsReady};
-ghost use Rattle.aodv_handlers.specs.Made.{Reacts, IsMade, number_full};
+ghost use Rattle.aodv_handlers.specs.Shown.{core_of, IsInOrder};
+ghost use Rattle.aodv_handlers.specs.Made.{Reacts};
 ghost use Rattle.aodv_handlers.specs.Parts.{gone_by};
 
 use crate::cores::Core;
@@ -170,14 +170,14 @@ pub fn on_rerr<T: Table>(
     m: &RerrView<'_>,
     out: &mut Packet,
 ) -> Effect
-    requires ready { IsReady T.nodes T.entries (length mesh.now) core.old }
+    requires order { IsInOrder T.nodes T.entries (length mesh.now) core.old }
     requires known { stranger mesh.now (a_rerr m.now) ≡ None }
     requires from { from < length mesh.now }
     requires other { from ≢ core.old.me }
     requires row_from { sets.contains (T.rooms core.old.table) from ≡ true }
     ensures does { Reacts T.entries mesh.now (λ c. turned c from (dests_in mesh.now m.now))
         core.old (Ok result) core.new out.new.items }
-    ensures ready { IsReady T.nodes T.entries (length mesh.now) core.new }
+    ensures order { IsInOrder T.nodes T.entries (length mesh.now) core.new }
     ensures rooms { T.rooms core.new.table ≡ T.rooms core.old.table }
     ensures asked { core.new.asked ≡ core.old.asked }
 {

@@ -1,8 +1,7 @@
 //! What handlers read from a routing table, and the entries that they make.
-ghost use Rattle.std.specs.Prelude.{◌≡◌, ◌<◌, ◌≤◌, ◌+◌, ℕ, true, IsSome, IsNone, IfSome, nat_le};
-ghost use Rattle.std.specs.FinMap as maps;
+ghost use Rattle.std.specs.Prelude.{◌≡◌, ◌<◌, ◌+◌, true};
 ghost use Rattle.std.specs.FinSet as sets;
-ghost use Rattle.aodv_model.specs.Tables.{nhop, sqn, sqnf, in_vD, update, add_pre};
+ghost use Rattle.aodv_model.specs.Tables.{nhop, sqn, in_vD, update, add_pre};
 ghost use Rattle.aodv_model.specs.Handlers.{one, neighbour_entry as the_neighbour_entry, route_entry as the_route_entry};
 
 use aodv_entry::{Entry, Flag, Known};

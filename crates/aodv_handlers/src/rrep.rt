@@ -1,16 +1,15 @@
 //! Route replies (AWN's RREP; RFC 3561, section 6.7).
-ghost use Rattle.std.specs.Prelude.{◌≡◌, ◌≢◌, ◌<◌, ◌≤◌, ℕ, Bool, ◌||◌, not, true, false, length, Some, None, IfSome};
-ghost use Rattle.std.specs.FinMap as maps;
+ghost use Rattle.std.specs.Prelude.{◌≡◌, ◌≢◌, ◌<◌, ◌≤◌, Bool, ◌||◌, not, true, length, Some, None, IfSome};
 ghost use Rattle.std.specs.FinSet as sets;
 ghost use Rattle.mesh_base.specs.Members.{NodeIds};
 ghost use Rattle.mesh_base.specs.declared.events.Variant.TheVariants as variants;
-ghost use Rattle.aodv_model.specs.Tables.{in_kD, in_vD, nhop, sqn};
+ghost use Rattle.aodv_model.specs.Tables.{in_kD, sqn};
 ghost use Rattle.aodv_model.specs.Cores.{Rrep as a_reply, Heard};
 ghost use Rattle.aodv_model.specs.Soundness.{IsMessageInMesh};
 ghost use Rattle.aodv_model.specs.Handlers.{reply_on};
 ghost use Rattle.aodv_wire.specs.declared.message.Message.TheVariants.{Rrep as a_rrep};
 ghost use Rattle.aodv_meaning.specs.Meaning.{index, reply_in, stranger};
-ghost use Rattle.aodv_handlers.specs.Shown.{core_of, IsReady, reply_of};
+ghost use Rattle.aodv_handlers.specs.Shown.{core_of, IsInOrder, reply_of};
 ghost use Rattle.aodv_handlers.specs.Made.{Reacts, TakesTurn};
 ghost use Rattle.aodv_handlers.specs.Parts.{IsNumberedAs, end_of_rrep, pass_on as passed_on, passing};
 
@@ -32,14 +31,14 @@ fn pass_on<T: Table>(
     m: Reply,
     out: &mut Packet,
 ) -> Result<Effect, Counter>
-    requires ready { IsReady T.nodes T.entries (length mesh.now) core.old }
+    requires order { IsInOrder T.nodes T.entries (length mesh.now) core.old }
     requires dip { m.dip < length mesh.now }
     requires oip { m.oip < length mesh.now }
     requires dsn { 1 ≤ m.dsn }
     requires entry { in_kD (T.entries core.old.table) m.dip ≡ true }
     ensures does { Reacts T.entries mesh.now (λ c. passed_on c range.now (reply_of m))
         core.old result core.new out.new.items }
-    ensures ready { IsReady T.nodes T.entries (length mesh.now) core.new }
+    ensures order { IsInOrder T.nodes T.entries (length mesh.now) core.new }
     ensures rooms { T.rooms core.new.table ≡ T.rooms core.old.table }
     ensures asked { core.new.asked ≡ core.old.asked }
 {
@@ -117,7 +116,7 @@ pub fn take_reply<T: Table>(
     m: &Reply,
     out: &mut Packet,
 ) -> Result<Effect, Counter>
-    requires ready { IsReady T.nodes T.entries (length mesh.now) core.old }
+    requires order { IsInOrder T.nodes T.entries (length mesh.now) core.old }
     requires says { IsMessageInMesh (length mesh.now) (a_reply (reply_of m.now)) }
     requires from { from < length mesh.now }
     requires other { from ≢ core.old.me }
@@ -125,7 +124,7 @@ pub fn take_reply<T: Table>(
     requires row_dip { sets.contains (T.rooms core.old.table) m.now.dip ≡ true }
     ensures does { let item = Heard from (a_reply (reply_of m.now)) in
         TakesTurn T.entries mesh.now range.now item core.old result core.new out.new.items }
-    ensures ready { IsReady T.nodes T.entries (length mesh.now) core.new }
+    ensures order { IsInOrder T.nodes T.entries (length mesh.now) core.new }
     ensures rooms { T.rooms core.new.table ≡ T.rooms core.old.table }
     ensures asked { core.new.asked ≡ core.old.asked }
 {
@@ -159,7 +158,7 @@ pub fn on_rrep<T: Table>(
     m: &Rrep,
     out: &mut Packet,
 ) -> Result<Effect, Counter>
-    requires ready { IsReady T.nodes T.entries (length mesh.now) core.old }
+    requires order { IsInOrder T.nodes T.entries (length mesh.now) core.old }
     requires known { stranger mesh.now (a_rrep m.now) ≡ None }
     requires dsn { 1 ≤ m.now.dsn }
     requires from { from < length mesh.now }
@@ -168,7 +167,7 @@ pub fn on_rrep<T: Table>(
     requires row_dip { sets.contains (T.rooms core.old.table) (index mesh.now m.now.dip) ≡ true }
     ensures does { let item = Heard from (a_reply (reply_in mesh.now m.now)) in
         TakesTurn T.entries mesh.now range.now item core.old result core.new out.new.items }
-    ensures ready { IsReady T.nodes T.entries (length mesh.now) core.new }
+    ensures order { IsInOrder T.nodes T.entries (length mesh.now) core.new }
     ensures rooms { T.rooms core.new.table ≡ T.rooms core.old.table }
     ensures asked { core.new.asked ≡ core.old.asked }
 {

@@ -1,5 +1,5 @@
 //! Route requests (AWN's RREQ; RFC 3561, sections 6.5 and 6.6).
-ghost use Rattle.std.specs.Prelude.{◌≡◌, ◌≢◌, ◌<◌, ◌≤◌, ℕ, true, length, Some, None, Ok, IfSome, IsNone, is_some, max, slice_index};
+ghost use Rattle.std.specs.Prelude.{◌≡◌, ◌≢◌, ◌<◌, ◌≤◌, true, length, Some, None, Ok, IfSome, is_some, max, slice_index};
 ghost use Rattle.std.specs.FinMap as maps;
 ghost use Rattle.std.specs.FinSet as sets;
 ghost use Rattle.aodv_model.specs.Cores.{Rreq as a_request, Heard};
@@ -7,7 +7,7 @@ ghost use Rattle.aodv_model.specs.Soundness.{IsMessageInMesh};
 ghost use Rattle.aodv_model.specs.Handlers.{key_of, reply_for_self as own_reply, reply_from_table as table_reply, forward_request as forwarded, on_new_rreq, can_answer};
 ghost use Rattle.aodv_wire.specs.declared.message.Message.TheVariants.{Rreq as a_rreq};
 ghost use Rattle.aodv_meaning.specs.Meaning.{index, request_in, stranger};
-ghost use Rattle.aodv_handlers.specs.Shown.{core_of, IsReady, request_of};
+ghost use Rattle.aodv_handlers.specs.Shown.{core_of, IsInOrder, request_of};
 ghost use Rattle.aodv_handlers.specs.Made.{Reacts, TakesTurn};
 
 use crate::cores::Core;
@@ -34,11 +34,11 @@ fn reply_for_self<T: Table>(
     m: &Request,
     out: &mut Packet,
 ) -> Result<Effect, Counter>
-    requires ready { IsReady T.nodes T.entries (length mesh.now) core.old }
+    requires order { IsInOrder T.nodes T.entries (length mesh.now) core.old }
     requires says { IsMessageInMesh (length mesh.now) (a_request (request_of m.now)) }
     ensures does { Reacts T.entries mesh.now (λ c. own_reply c range.now (request_of m.now))
         core.old result core.new out.new.items }
-    ensures ready { IsReady T.nodes T.entries (length mesh.now) core.new }
+    ensures order { IsInOrder T.nodes T.entries (length mesh.now) core.new }
     ensures rooms { T.rooms core.new.table ≡ T.rooms core.old.table }
     ensures asked { core.new.asked ≡ core.old.asked }
 {
@@ -86,7 +86,7 @@ fn reply_from_table<T: Table>(
     route: Entry,
     out: &mut Packet,
 ) -> Result<Effect, Counter>
-    requires ready { IsReady T.nodes T.entries (length mesh.now) core.old }
+    requires order { IsInOrder T.nodes T.entries (length mesh.now) core.old }
     requires says { IsMessageInMesh (length mesh.now) (a_request (request_of m.now)) }
     requires from { from < length mesh.now }
     requires room_dip { sets.contains (T.rooms core.old.table) m.now.dip ≡ true }
@@ -95,7 +95,7 @@ fn reply_from_table<T: Table>(
     requires can { can_answer (core_of T.entries core.old) (request_of m.now) ≡ true }
     ensures does { Reacts T.entries mesh.now (λ c. table_reply c range.now from (request_of m.now))
         core.old result core.new out.new.items }
-    ensures ready { IsReady T.nodes T.entries (length mesh.now) core.new }
+    ensures order { IsInOrder T.nodes T.entries (length mesh.now) core.new }
     ensures rooms { T.rooms core.new.table ≡ T.rooms core.old.table }
     ensures asked { core.new.asked ≡ core.old.asked }
 {
@@ -124,7 +124,7 @@ fn reply_from_table<T: Table>(
 // The node passes the request on.
 #[tactic(auto, unfolding(aodv_model::specs::Handlers::forward_request))]
 fn forward_request<T: Table>(core: &Core<T>, mesh: &Mesh, m: &Request, out: &mut Packet) -> Effect
-    requires ready { IsReady T.nodes T.entries (length mesh.now) core.now }
+    requires order { IsInOrder T.nodes T.entries (length mesh.now) core.now }
     requires says { IsMessageInMesh (length mesh.now) (a_request (request_of m.now)) }
     requires hops { m.now.hops < 255 }
     ensures { Reacts T.entries mesh.now (λ c. forwarded c (request_of m.now))
@@ -154,14 +154,14 @@ fn on_new<T: Table>(
     m: &Request,
     out: &mut Packet,
 ) -> Result<Effect, Counter>
-    requires ready { IsReady T.nodes T.entries (length mesh.now) core.old }
+    requires order { IsInOrder T.nodes T.entries (length mesh.now) core.old }
     requires says { IsMessageInMesh (length mesh.now) (a_request (request_of m.now)) }
     requires from { from < length mesh.now }
     requires hops { m.now.hops < 255 }
     requires room { sets.contains (T.rooms core.old.table) m.now.oip ≡ true }
     ensures does { Reacts T.entries mesh.now (λ c. on_new_rreq c range.now from (request_of m.now))
         core.old result core.new out.new.items }
-    ensures ready { IsReady T.nodes T.entries (length mesh.now) core.new }
+    ensures order { IsInOrder T.nodes T.entries (length mesh.now) core.new }
     ensures rooms { T.rooms core.new.table ≡ T.rooms core.old.table }
     ensures asked { core.new.asked ≡ core.old.asked }
 {
@@ -194,7 +194,7 @@ pub fn take_request<T: Table>(
     m: &Request,
     out: &mut Packet,
 ) -> Result<Effect, Counter>
-    requires ready { IsReady T.nodes T.entries (length mesh.now) core.old }
+    requires order { IsInOrder T.nodes T.entries (length mesh.now) core.old }
     requires says { IsMessageInMesh (length mesh.now) (a_request (request_of m.now)) }
     requires from { from < length mesh.now }
     requires other { from ≢ core.old.me }
@@ -203,7 +203,7 @@ pub fn take_request<T: Table>(
     requires asked { 0 < slice_index core.old.asked.rooms m.now.oip }
     ensures does { let item = Heard from (a_request (request_of m.now)) in
         TakesTurn T.entries mesh.now range.now item core.old result core.new out.new.items }
-    ensures ready { IsReady T.nodes T.entries (length mesh.now) core.new }
+    ensures order { IsInOrder T.nodes T.entries (length mesh.now) core.new }
     ensures rooms { T.rooms core.new.table ≡ T.rooms core.old.table }
 {
     let mark = mark_of(core.variant, m);
@@ -241,7 +241,7 @@ pub fn on_rreq<T: Table>(
     m: &Rreq,
     out: &mut Packet,
 ) -> Result<Effect, Counter>
-    requires ready { IsReady T.nodes T.entries (length mesh.now) core.old }
+    requires order { IsInOrder T.nodes T.entries (length mesh.now) core.old }
     requires known { stranger mesh.now (a_rreq m.now) ≡ None }
     requires osn { 1 ≤ m.now.osn }
     requires from { from < length mesh.now }
@@ -251,7 +251,7 @@ pub fn on_rreq<T: Table>(
     requires asked { 0 < slice_index core.old.asked.rooms (index mesh.now m.now.oip) }
     ensures does { let item = Heard from (a_request (request_in mesh.now m.now)) in
         TakesTurn T.entries mesh.now range.now item core.old result core.new out.new.items }
-    ensures ready { IsReady T.nodes T.entries (length mesh.now) core.new }
+    ensures order { IsInOrder T.nodes T.entries (length mesh.now) core.new }
     ensures rooms { T.rooms core.new.table ≡ T.rooms core.old.table }
 {
     let request = Request {

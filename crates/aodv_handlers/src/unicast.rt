@@ -1,9 +1,9 @@
 //! Unicasts, which may find their receiver out of range (AWN's conditional unicast).
-ghost use Rattle.std.specs.Prelude.{◌≡◌, ◌<◌, ◌≤◌, ℕ, false, length};
+ghost use Rattle.std.specs.Prelude.{◌≡◌, ◌<◌, ◌≤◌, false, length};
 ghost use Rattle.aodv_model.specs.Cores.{Rrep as a_reply};
 ghost use Rattle.aodv_model.specs.Soundness.{IsMessageInMesh};
 ghost use Rattle.aodv_model.specs.Handlers.{unicast, broken_by, link_broken as broken};
-ghost use Rattle.aodv_handlers.specs.Shown.{core_of, IsReady, parcel_of, reply_of};
+ghost use Rattle.aodv_handlers.specs.Shown.{IsInOrder, parcel_of, reply_of};
 ghost use Rattle.aodv_handlers.specs.Made.{Reacts};
 
 use crate::cores::Core;
@@ -32,10 +32,10 @@ pub(crate) fn fail<T: Table>(
     y: usize,
     out: &mut Packet,
 ) -> Result<Effect, Counter>
-    requires ready { IsReady T.nodes T.entries (length mesh.now) core.old }
+    requires order { IsInOrder T.nodes T.entries (length mesh.now) core.old }
     ensures does { Reacts T.entries mesh.now (λ c. broken_by y (broken c y))
         core.old result core.new out.new.items }
-    ensures ready { IsReady T.nodes T.entries (length mesh.now) core.new }
+    ensures order { IsInOrder T.nodes T.entries (length mesh.now) core.new }
     ensures rooms { T.rooms core.new.table ≡ T.rooms core.old.table }
     ensures asked { core.new.asked ≡ core.old.asked }
 {
@@ -58,13 +58,13 @@ pub(crate) fn send_reply<T: Table>(
     m: Reply,
     out: &mut Packet,
 ) -> Result<Effect, Counter>
-    requires ready { IsReady T.nodes T.entries (length mesh.now) core.old }
+    requires order { IsInOrder T.nodes T.entries (length mesh.now) core.old }
     requires dip { m.dip < length mesh.now }
     requires oip { m.oip < length mesh.now }
     requires dsn { 1 ≤ m.dsn }
     ensures does { Reacts T.entries mesh.now (λ c. unicast c (a_reply (reply_of m)) y range.now)
         core.old result core.new out.new.items }
-    ensures ready { IsReady T.nodes T.entries (length mesh.now) core.new }
+    ensures order { IsInOrder T.nodes T.entries (length mesh.now) core.new }
     ensures rooms { T.rooms core.new.table ≡ T.rooms core.old.table }
     ensures asked { core.new.asked ≡ core.old.asked }
 {
@@ -91,11 +91,11 @@ pub(crate) fn send_datum<T: Table>(
     m: &Datum<'_>,
     out: &mut Packet,
 ) -> Result<Effect, Counter>
-    requires ready { IsReady T.nodes T.entries (length mesh.now) core.old }
+    requires order { IsInOrder T.nodes T.entries (length mesh.now) core.old }
     requires says { IsMessageInMesh (length mesh.now) (parcel_of m.now) }
     ensures does { Reacts T.entries mesh.now (λ c. unicast c (parcel_of m.now) y range.now)
         core.old result core.new out.new.items }
-    ensures ready { IsReady T.nodes T.entries (length mesh.now) core.new }
+    ensures order { IsInOrder T.nodes T.entries (length mesh.now) core.new }
     ensures rooms { T.rooms core.new.table ≡ T.rooms core.old.table }
     ensures asked { core.new.asked ≡ core.old.asked }
 {

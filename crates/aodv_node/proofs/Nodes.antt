@@ -9,7 +9,7 @@ use Rattle.aodv_model.specs.Cores.{opening}
 use Rattle.aodv_table.specs.Calls.{nodes_below}
 use Rattle.aodv_table.specs.declared.rows.RowTable.{RowTable}
 use Rattle.aodv_handlers.specs.declared.cores.Core as core
-use Rattle.aodv_handlers.specs.Shown.{IsReady}
+use Rattle.aodv_handlers.specs.Shown.{IsInOrder}
 use Rattle.aodv_inbox.specs.Queues.{Queue}
 use Rattle.aodv_node.specs.declared.answers.TurnError.{TurnError}
 use Rattle.aodv_node.specs.declared.answers.SendError.{SendError}
@@ -23,21 +23,21 @@ use Rattle.aodv_node.proofs.Keeps.{Follows, turn_keeps, send_keeps, ask_keeps, o
 abbrev pub seen_node : core.Core RowTable → Queue → NodeSeen
 seen_node c inbox = node_seen (λ t. t.nodes) (λ t. t.entries) c inbox
 
-abbrev pub Ready : ℕ → core.Core RowTable → Type 0
-Ready size c = IsReady (λ t. t.nodes) (λ t. t.entries) size c
+abbrev pub Order : ℕ → core.Core RowTable → Type 0
+Order size c = IsInOrder (λ t. t.nodes) (λ t. t.entries) size c
 
 abbrev pub Kept : core.Core RowTable → Queue → Type 0
-Kept c inbox = Ready (c.table).nodes c × IsSoundNode (seen_node c inbox)
+Kept c inbox = Order (c.table).nodes c × IsSoundNode (seen_node c inbox)
 
-ready_here : (size : ℕ) (c : core.Core RowTable) → Ready size c → Ready (c.table).nodes c
-ready_here size c r = subst (λ (n : ℕ). Ready n c) (sym r.table) r
+order_here : (size : ℕ) (c : core.Core RowTable) → Order size c → Order (c.table).nodes c
+order_here size c r = subst (λ (n : ℕ). Order n c) (sym r.table) r
 
-pub ready_for : (size : ℕ) (c : core.Core RowTable) (inbox : Queue) (value : NodeSeen) → size ≡ value.size → seen_node c inbox ≡ value → Kept c inbox → Ready size c
-ready_for size c inbox value is view kept = subst (λ (n : ℕ). Ready n c) (sym (is ∙ ap (λ (n : NodeSeen). n.size) (sym view))) kept.0
+pub order_for : (size : ℕ) (c : core.Core RowTable) (inbox : Queue) (value : NodeSeen) → size ≡ value.size → seen_node c inbox ≡ value → Kept c inbox → Order size c
+order_for size c inbox value is view kept = subst (λ (n : ℕ). Order n c) (sym (is ∙ ap (λ (n : NodeSeen). n.size) (sym view))) kept.0
 
 -- the number of nodes is the same
-same_size : (size : ℕ) (old new : core.Core RowTable) (q : Queue) (value : NodeSeen) → size ≡ value.size → seen_node old q ≡ value → Ready size new → (new.table).nodes ≡ (old.table).nodes
-same_size size old new q value is view ready = ready.table ∙ is ∙ ap (λ (n : NodeSeen). n.size) (sym view)
+same_size : (size : ℕ) (old new : core.Core RowTable) (q : Queue) (value : NodeSeen) → size ≡ value.size → seen_node old q ≡ value → Order size new → (new.table).nodes ≡ (old.table).nodes
+same_size size old new q value is view order = order.table ∙ is ∙ ap (λ (n : NodeSeen). n.size) (sym view)
 
 -- what a call leaves: what a node keeps, and the node is the same one
 pub record Leaves (old new : core.Core RowTable) (q : Queue) : Type 0 where
@@ -45,23 +45,23 @@ pub record Leaves (old new : core.Core RowTable) (q : Queue) : Type 0 where
   pub me : new.me ≡ old.me
   pub nodes : (new.table).nodes ≡ (old.table).nodes
 
-leaves : (size : ℕ) (old new : core.Core RowTable) (q q' : Queue) (value : NodeSeen) → size ≡ value.size → seen_node old q ≡ value → Ready size new → Follows (seen_node old q) (seen_node new q') → Leaves old new q'
-leaves size old new q q' value is view ready f = record { kept = (ready_here size new ready, f.sound); me = f.me; nodes = same_size size old new q value is view ready }
+leaves : (size : ℕ) (old new : core.Core RowTable) (q q' : Queue) (value : NodeSeen) → size ≡ value.size → seen_node old q ≡ value → Order size new → Follows (seen_node old q) (seen_node new q') → Leaves old new q'
+leaves size old new q q' value is view order f = record { kept = (order_here size new order, f.sound); me = f.me; nodes = same_size size old new q value is view order }
 
 pub turned : (mesh : Nodes) (range : NodeIds) (old new : core.Core RowTable) (q q' : Queue) (r : Result done.TurnDone TurnError) (out : List ℕ) (value : NodeSeen)
-    → length mesh ≡ value.size → seen_node old q ≡ value → Kept old q → Ready (length mesh) new → IsTurn mesh range (seen_node old q) r (seen_node new q') out → Leaves old new q'
-turned mesh range old new q q' r out value size view kept ready did =
-    leaves (length mesh) old new q q' value size view ready (turn_keeps mesh range (seen_node old q) r (seen_node new q') out (size ∙ ap (λ (n : NodeSeen). n.size) (sym view)) kept.1 did)
+    → length mesh ≡ value.size → seen_node old q ≡ value → Kept old q → Order (length mesh) new → IsTurn mesh range (seen_node old q) r (seen_node new q') out → Leaves old new q'
+turned mesh range old new q q' r out value size view kept order did =
+    leaves (length mesh) old new q q' value size view order (turn_keeps mesh range (seen_node old q) r (seen_node new q') out (size ∙ ap (λ (n : NodeSeen). n.size) (sym view)) kept.1 did)
 
 pub sent : (mesh : Nodes) (range : NodeIds) (d : ℕ) (old new : core.Core RowTable) (q : Queue) (r : Result code.Effect SendError) (out : List ℕ) (value : NodeSeen)
-    → length mesh ≡ value.size → seen_node old q ≡ value → Kept old q → Ready (length mesh) new → IsSend mesh range (seen_node old q).core d r (seen_node new q).core out → Leaves old new q
-sent mesh range d old new q r out value size view kept ready did =
-    leaves (length mesh) old new q q value size view ready (send_keeps mesh range (seen_node old q) d r (seen_node new q) out kept.1 (same_size (length mesh) old new q value size view ready) refl did)
+    → length mesh ≡ value.size → seen_node old q ≡ value → Kept old q → Order (length mesh) new → IsSend mesh range (seen_node old q).core d r (seen_node new q).core out → Leaves old new q
+sent mesh range d old new q r out value size view kept order did =
+    leaves (length mesh) old new q q value size view order (send_keeps mesh range (seen_node old q) d r (seen_node new q) out kept.1 (same_size (length mesh) old new q value size view order) refl did)
 
 pub asked_for : (mesh : Nodes) (d : ℕ) (old new : core.Core RowTable) (q : Queue) (r : Result code.Effect AskError) (out : List ℕ) (value : NodeSeen)
-    → length mesh ≡ value.size → seen_node old q ≡ value → Kept old q → Ready (length mesh) new → IsAsk mesh (seen_node old q).core d r (seen_node new q).core out → Leaves old new q
-asked_for mesh d old new q r out value size view kept ready did =
-    leaves (length mesh) old new q q value size view ready (ask_keeps mesh (seen_node old q) d r (seen_node new q) out kept.1 (same_size (length mesh) old new q value size view ready) refl did)
+    → length mesh ≡ value.size → seen_node old q ≡ value → Kept old q → Order (length mesh) new → IsAsk mesh (seen_node old q).core d r (seen_node new q).core out → Leaves old new q
+asked_for mesh d old new q r out value size view kept order did =
+    leaves (length mesh) old new q q value size view order (ask_keeps mesh (seen_node old q) d r (seen_node new q) out kept.1 (same_size (length mesh) old new q value size view order) refl did)
 
 pub opens : (c : core.Core RowTable) (inbox : Queue) (size : ℕ) → c.me < size → 1 ≤ c.sn → c.table ≡ record { entries = maps.empty; rooms = nodes_below size; nodes = size }
     → (c.asked).pairs ≡ sets.empty → length (c.asked).rooms ≡ size → (c.waiting).store ≡ maps.empty → length (c.waiting).rooms ≡ size → inbox.items ≡ [] → Kept c inbox

@@ -1,6 +1,6 @@
 //! The send of a stored datum, and a request of the node's own, each where it may be done.
-ghost use Rattle.std.specs.Prelude.{◌≡◌, ◌<◌, length};
-ghost use Rattle.aodv_handlers.specs.Shown.{core_of, IsReady};
+ghost use Rattle.std.specs.Prelude.{◌<◌, length};
+ghost use Rattle.aodv_handlers.specs.Shown.{core_of, IsInOrder};
 ghost use Rattle.aodv_node.specs.Discovered.{IsSend, IsAsk};
 
 use crate::answers::{AskError, SendError};
@@ -17,11 +17,11 @@ pub(crate) fn try_send<T: Table>(
     dest: usize,
     out: &mut Packet,
 ) -> Result<Effect, SendError>
-    requires ready { IsReady T.nodes T.entries (length mesh.now) core.old }
+    requires order { IsInOrder T.nodes T.entries (length mesh.now) core.old }
     requires dest { dest < length mesh.now }
     ensures does { let old = core_of T.entries core.old in let new = core_of T.entries core.new in
         IsSend mesh.now range.now old dest result new out.new.items }
-    ensures ready { IsReady T.nodes T.entries (length mesh.now) core.new }
+    ensures order { IsInOrder T.nodes T.entries (length mesh.now) core.new }
 {
     if !may_send(core, dest) {
         return Err(SendError::Idle);
@@ -39,11 +39,11 @@ pub(crate) fn try_ask<T: Table>(
     dest: usize,
     out: &mut Packet,
 ) -> Result<Effect, AskError>
-    requires ready { IsReady T.nodes T.entries (length mesh.now) core.old }
+    requires order { IsInOrder T.nodes T.entries (length mesh.now) core.old }
     requires dest { dest < length mesh.now }
     ensures does { let old = core_of T.entries core.old in let new = core_of T.entries core.new in
         IsAsk mesh.now old dest result new out.new.items }
-    ensures ready { IsReady T.nodes T.entries (length mesh.now) core.new }
+    ensures order { IsInOrder T.nodes T.entries (length mesh.now) core.new }
 {
     if !may_ask(core, dest) {
         return Err(AskError::Idle);

@@ -1,10 +1,10 @@
 //! A turn on the bytes of a packet that was heard.
-ghost use Rattle.std.specs.Prelude.{◌≡◌, ◌≢◌, ◌<◌, ℕ, length, None};
+ghost use Rattle.std.specs.Prelude.{◌≡◌, ◌≢◌, ◌<◌, length, None};
 ghost use Rattle.aodv_model.specs.Cores.{Heard, Rreq as a_request, Rrep as a_reply, Rerr as an_error};
 ghost use Rattle.aodv_model.specs.Soundness.{IsMessageInMesh};
 ghost use Rattle.aodv_wire.specs.declared.message.Message.TheVariants as messages;
 ghost use Rattle.aodv_meaning.specs.Meaning.{dests_in, stranger};
-ghost use Rattle.aodv_handlers.specs.Shown.{core_of, IsReady, parcel_of, reply_of, request_of};
+ghost use Rattle.aodv_handlers.specs.Shown.{core_of, IsInOrder, parcel_of, reply_of, request_of};
 ghost use Rattle.aodv_node.specs.Heard.{IsHeard, TakesIfRoom, with_kind};
 ghost use Rattle.aodv_node.specs.Turned.{HasAllRooms};
 
@@ -25,13 +25,13 @@ pub(crate) fn handle<T: Table>(
     bytes: &[u8],
     out: &mut Packet,
 ) -> Result<(Kind, Effect), TurnError>
-    requires ready { IsReady T.nodes T.entries (length mesh.now) core.old }
+    requires order { IsInOrder T.nodes T.entries (length mesh.now) core.old }
     requires from { from < length mesh.now }
     requires other { from ≢ core.old.me }
     requires rows { HasAllRooms T.nodes T.rooms core.old.table }
     ensures does { let old = core_of T.entries core.old in let new = core_of T.entries core.new in
         IsHeard mesh.now old range.now from bytes.now result new out.new.items }
-    ensures ready { IsReady T.nodes T.entries (length mesh.now) core.new }
+    ensures order { IsInOrder T.nodes T.entries (length mesh.now) core.new }
 {
     match read(bytes) {
         Err(why) => Err(TurnError::Unreadable { from, why }),
@@ -70,13 +70,13 @@ fn handle_request<T: Table>(
     m: &Request,
     out: &mut Packet,
 ) -> Result<Effect, TurnError>
-    requires ready { IsReady T.nodes T.entries (length mesh.now) core.old }
+    requires order { IsInOrder T.nodes T.entries (length mesh.now) core.old }
     requires says { IsMessageInMesh (length mesh.now) (a_request (request_of m.now)) }
     requires from { from < length mesh.now }
     requires other { from ≢ core.old.me }
     ensures does { let message = Heard from (a_request (request_of m.now)) in
         TakesIfRoom T.entries mesh.now range.now message core.old result core.new out.new.items }
-    ensures ready { IsReady T.nodes T.entries (length mesh.now) core.new }
+    ensures order { IsInOrder T.nodes T.entries (length mesh.now) core.new }
 {
     make_row(core, from)?;
     make_row(core, m.oip)?;
@@ -95,14 +95,14 @@ fn handle_reply<T: Table>(
     m: &Reply,
     out: &mut Packet,
 ) -> Result<Effect, TurnError>
-    requires ready { IsReady T.nodes T.entries (length mesh.now) core.old }
+    requires order { IsInOrder T.nodes T.entries (length mesh.now) core.old }
     requires says { IsMessageInMesh (length mesh.now) (a_reply (reply_of m.now)) }
     requires from { from < length mesh.now }
     requires other { from ≢ core.old.me }
     requires rows { HasAllRooms T.nodes T.rooms core.old.table }
     ensures does { let message = Heard from (a_reply (reply_of m.now)) in
         TakesIfRoom T.entries mesh.now range.now message core.old result core.new out.new.items }
-    ensures ready { IsReady T.nodes T.entries (length mesh.now) core.new }
+    ensures order { IsInOrder T.nodes T.entries (length mesh.now) core.new }
 {
     make_row(core, from)?;
     make_row(core, m.dip)?;
@@ -120,14 +120,14 @@ fn handle_error<T: Table>(
     m: &RerrView<'_>,
     out: &mut Packet,
 ) -> Result<Effect, TurnError>
-    requires ready { IsReady T.nodes T.entries (length mesh.now) core.old }
+    requires order { IsInOrder T.nodes T.entries (length mesh.now) core.old }
     requires known { stranger mesh.now (messages.Rerr m.now) ≡ None }
     requires from { from < length mesh.now }
     requires other { from ≢ core.old.me }
     requires rows { HasAllRooms T.nodes T.rooms core.old.table }
     ensures does { let message = Heard from (an_error (dests_in mesh.now m.now)) in
         TakesIfRoom T.entries mesh.now range.now message core.old result core.new out.new.items }
-    ensures ready { IsReady T.nodes T.entries (length mesh.now) core.new }
+    ensures order { IsInOrder T.nodes T.entries (length mesh.now) core.new }
 {
     make_row(core, from)?;
     Ok(on_rerr(core, mesh, from, m, out))
@@ -141,11 +141,11 @@ fn handle_datum<T: Table>(
     m: &Datum<'_>,
     out: &mut Packet,
 ) -> Result<Effect, TurnError>
-    requires ready { IsReady T.nodes T.entries (length mesh.now) core.old }
+    requires order { IsInOrder T.nodes T.entries (length mesh.now) core.old }
     requires says { IsMessageInMesh (length mesh.now) (parcel_of m.now) }
     ensures does { let message = Heard from (parcel_of m.now) in
         TakesIfRoom T.entries mesh.now range.now message core.old result core.new out.new.items }
-    ensures ready { IsReady T.nodes T.entries (length mesh.now) core.new }
+    ensures order { IsInOrder T.nodes T.entries (length mesh.now) core.new }
 {
     match take_datum(core, mesh, range, m, out) {
         Ok(effect) => Ok(effect),

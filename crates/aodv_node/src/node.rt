@@ -1,5 +1,5 @@
 //! A router.
-ghost use Rattle.std.specs.Prelude.{◌≡◌, ◌≢◌, ◌<◌, ◌≤◌, ℕ, [], length, IfOk, IsOk, OnOk, OnErr, Some, None};
+ghost use Rattle.std.specs.Prelude.{◌≡◌, ◌≢◌, ◌<◌, ◌≤◌, ℕ, [], length, IfOk, IsOk, OnOk, OnErr};
 ghost use Rattle.std.specs.FinMap as maps;
 ghost use Rattle.std.specs.FinSet as sets;
 ghost use Rattle.mesh_base.specs.Meshes.{first_at};
@@ -27,15 +27,17 @@ use mesh_base::{Bytes, Effect, Item, Mesh, NoMemory, NodeSet, Packet, Variant};
 use std::alloc::Global;
 use std::marker::Model;
 
-/// One AODV router. It is used with the mesh that it was made with.
+/// One AODV router. It is used with the mesh that it was made with. Its inbox stands right before
+/// what a core asks of each packet that is heard, so that an event at a node reads few lines of the
+/// cache.
 #[derive(Drop)]
 pub struct Node {
-    core: Core<RowTable>,
     inbox: Inbox,
+    core: Core<RowTable>,
 }
 
 impl Model for Node {
-    ghost use Rattle.aodv_handlers.specs.Shown.{IsReady};
+    ghost use Rattle.aodv_handlers.specs.Shown.{IsInOrder};
     ghost use Rattle.aodv_node.specs.Seen.{NodeSeen, node_code, node_seen, IsSoundNode};
 
     ghost Value = { NodeSeen };
@@ -44,7 +46,7 @@ impl Model for Node {
 
     ghost view = { λ a. node_seen (λ t. t.nodes) (λ t. t.entries) a.core a.inbox };
 
-    ghost invariant = { λ a. IsReady (λ t. t.nodes) (λ t. t.entries) (a.core).table.nodes a.core
+    ghost invariant = { λ a. IsInOrder (λ t. t.nodes) (λ t. t.entries) (a.core).table.nodes a.core
         × IsSoundNode (node_seen (λ t. t.nodes) (λ t. t.entries) a.core a.inbox) };
 }
 

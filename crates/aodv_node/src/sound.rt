@@ -1,5 +1,5 @@
 //! Whether parts that were kept are those of a node.
-ghost use Rattle.std.specs.Prelude.{◌≡◌, ◌≢◌, ◌<◌, ◌↔◌, ℕ, IsTrue, length};
+ghost use Rattle.std.specs.Prelude.{◌<◌, ◌↔◌, IsTrue};
 ghost use Rattle.std.specs.List.{AllByRecursion};
 ghost use Rattle.aodv_inbox.specs.Queues.{IsItem};
 ghost use Rattle.aodv_model.specs.Soundness.{AreBelow, HasSoundNumber, IsPlaced, IsSoundTable};

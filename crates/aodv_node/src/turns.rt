@@ -1,7 +1,7 @@
 //! A node's turn, over its core and its inbox.
 ghost use Rattle.std.specs.Prelude.{◌≡◌, length};
 ghost use Rattle.std.specs.List.{AllByRecursion};
-ghost use Rattle.aodv_handlers.specs.Shown.{IsReady};
+ghost use Rattle.aodv_handlers.specs.Shown.{IsInOrder};
 ghost use Rattle.aodv_node.specs.Seen.{node_seen, IsItemAt};
 ghost use Rattle.aodv_node.specs.Turned.{HasAllRooms, IsTurn};
 ghost use Rattle.aodv_node.specs.Heard.{done_with as so_done};
@@ -44,13 +44,13 @@ pub(crate) fn take_turn<T: Table>(
     range: &NodeSet,
     out: &mut Packet,
 ) -> Result<TurnDone, TurnError>
-    requires ready { IsReady T.nodes T.entries (length mesh.now) core.old }
+    requires order { IsInOrder T.nodes T.entries (length mesh.now) core.old }
     requires each { AllByRecursion (IsItemAt (length mesh.now) core.old.me) inbox.old.items }
     requires rows { HasAllRooms T.nodes T.rooms core.old.table }
     ensures turn { let old = node_seen T.nodes T.entries core.old inbox.old in
         let new = node_seen T.nodes T.entries core.new inbox.new in
         IsTurn mesh.now range.now old result new out.new.items }
-    ensures ready { IsReady T.nodes T.entries (length mesh.now) core.new }
+    ensures order { IsInOrder T.nodes T.entries (length mesh.now) core.new }
 {
     let Some(item) = inbox.front() else {
         return Err(TurnError::Idle);

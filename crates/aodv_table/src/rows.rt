@@ -1,9 +1,8 @@
 //! A table with a row for every node.
-ghost use Rattle.std.specs.Prelude.{◌≡◌, ◌<◌, ◌≤◌, ℕ, true, length, slice_set, IsOk, IsSome, IfOk, OnOk, OnErr, None};
-ghost use Rattle.std.specs.FinMap as maps;
+ghost use Rattle.std.specs.Prelude.{◌≡◌, ◌<◌, ◌≤◌, true, IsOk, IfOk, OnOk, OnErr, None};
 ghost use Rattle.std.specs.FinSet as sets;
 ghost use Rattle.mesh_base.specs.Members.{AreAmong};
-ghost use Rattle.aodv_table.specs.Calls.{IsBelow, with_entry, nodes_below};
+ghost use Rattle.aodv_table.specs.Calls.{IsBelow, nodes_below};
 ghost use Rattle.aodv_table.specs.Seen.{without_entries};
 
 use crate::merge::{mark_neighbour, mark_valid};
@@ -20,10 +19,10 @@ use std::marker::Model;
 /// set of their own.
 #[derive(Drop)]
 pub struct RowTable {
-    nodes: usize,
-    rows: Vec<Row>,
-    valid: NodeSet,
     neighbours: NodeSet,
+    rows: Vec<Row>,
+    nodes: usize,
+    valid: NodeSet,
 }
 
 impl Model for RowTable {

@@ -3,7 +3,7 @@ ghost use Rattle.std.specs.Prelude.{◌≡◌, ◌<◌, ◌≤◌, ℕ, true, le
 ghost use Rattle.std.specs.FinMap as maps;
 ghost use Rattle.std.specs.FinSet as sets;
 ghost use Rattle.aodv_meaning.specs.Meaning.{unless_in, strange_pair};
-ghost use Rattle.aodv_handlers.specs.Shown.{IsReady};
+ghost use Rattle.aodv_handlers.specs.Shown.{IsInOrder};
 
 use aodv_asked::Asked;
 use aodv_handlers::{
@@ -36,7 +36,7 @@ fn opening<T: Table>(alloc: Global, table: T, mesh: &Mesh, me: usize) -> Result<
     requires nodes { T.nodes table ≡ length mesh.now }
     requires mine { me < length mesh.now }
     requires empty { T.entries table ≡ maps.empty }
-    ensures { IfOk result (λ c. IsReady T.nodes T.entries (length mesh.now) c) }
+    ensures { IfOk result (λ c. IsInOrder T.nodes T.entries (length mesh.now) c) }
 {
     let nodes = mesh.len();
     let asked = Asked::new(alloc, nodes)?;
@@ -52,9 +52,9 @@ fn opening<T: Table>(alloc: Global, table: T, mesh: &Mesh, me: usize) -> Result<
 }
 
 fn make_rooms<T: Table>(core: &mut Core<T>, mesh: &Mesh, d: usize) -> Result<(), NoMemory>
-    requires ready { IsReady T.nodes T.entries (length mesh.now) core.old }
+    requires order { IsInOrder T.nodes T.entries (length mesh.now) core.old }
     requires below { d < length mesh.now }
-    ensures ready { IsReady T.nodes T.entries (length mesh.now) core.new }
+    ensures order { IsInOrder T.nodes T.entries (length mesh.now) core.new }
     ensures me { core.new.me ≡ core.old.me }
     ensures row { OnOk result (sets.contains (T.rooms core.new.table) d ≡ true) }
     ensures asked { OnOk result (0 < slice_index core.new.asked.rooms d) }
@@ -85,11 +85,11 @@ fn takes_a_datum<T: Table>(
     dest: usize,
     body: Bytes,
 ) -> Result<bool, NoMemory>
-    requires ready { IsReady T.nodes T.entries (length mesh.now) core.old }
+    requires order { IsInOrder T.nodes T.entries (length mesh.now) core.old }
     requires some { 1 ≤ length body }
     requires few { length body ≤ 512 }
     requires dest { dest < length mesh.now }
-    ensures { IsReady T.nodes T.entries (length mesh.now) core.new }
+    ensures { IsInOrder T.nodes T.entries (length mesh.now) core.new }
 {
     make_rooms(core, mesh, dest)?;
     Ok(new_packet(core, dest, body).is_none())
@@ -101,9 +101,9 @@ fn ask<T: Table>(
     dest: usize,
     out: &mut Packet,
 ) -> Result<Option<Effect>, NoMemory>
-    requires ready { IsReady T.nodes T.entries (length mesh.now) core.old }
+    requires order { IsInOrder T.nodes T.entries (length mesh.now) core.old }
     requires dest { dest < length mesh.now }
-    ensures { IsReady T.nodes T.entries (length mesh.now) core.new }
+    ensures { IsInOrder T.nodes T.entries (length mesh.now) core.new }
 {
     let me = core.me;
     make_rooms(core, mesh, me)?;
@@ -120,9 +120,9 @@ fn send<T: Table>(
     dest: usize,
     out: &mut Packet,
 ) -> Option<Effect>
-    requires ready { IsReady T.nodes T.entries (length mesh.now) core.old }
+    requires order { IsInOrder T.nodes T.entries (length mesh.now) core.old }
     requires dest { dest < length mesh.now }
-    ensures { IsReady T.nodes T.entries (length mesh.now) core.new }
+    ensures { IsInOrder T.nodes T.entries (length mesh.now) core.new }
 {
     if !may_send(core, dest) {
         return None;
@@ -139,9 +139,9 @@ fn hears_a_request<T: Table>(
     m: &Rreq,
     out: &mut Packet,
 ) -> Result<Option<Effect>, NoMemory>
-    requires ready { IsReady T.nodes T.entries (length mesh.now) core.old }
+    requires order { IsInOrder T.nodes T.entries (length mesh.now) core.old }
     requires from { from < length mesh.now }
-    ensures { IsReady T.nodes T.entries (length mesh.now) core.new }
+    ensures { IsInOrder T.nodes T.entries (length mesh.now) core.new }
 {
     let Some(oip) = mesh.index_of(m.oip) else {
         return Ok(None);
@@ -163,9 +163,9 @@ fn hears_a_reply<T: Table>(
     m: &Rrep,
     out: &mut Packet,
 ) -> Result<Option<Effect>, NoMemory>
-    requires ready { IsReady T.nodes T.entries (length mesh.now) core.old }
+    requires order { IsInOrder T.nodes T.entries (length mesh.now) core.old }
     requires from { from < length mesh.now }
-    ensures { IsReady T.nodes T.entries (length mesh.now) core.new }
+    ensures { IsInOrder T.nodes T.entries (length mesh.now) core.new }
 {
     let Some(dip) = mesh.index_of(m.dip) else {
         return Ok(None);
@@ -185,8 +185,8 @@ fn hears_data<T: Table>(
     m: &DataView<'_>,
     out: &mut Packet,
 ) -> Option<Effect>
-    requires ready { IsReady T.nodes T.entries (length mesh.now) core.old }
-    ensures { IsReady T.nodes T.entries (length mesh.now) core.new }
+    requires order { IsInOrder T.nodes T.entries (length mesh.now) core.old }
+    ensures { IsInOrder T.nodes T.entries (length mesh.now) core.new }
 {
     let long = m.body().len();
     if long < 1 || 512 < long || !are_known(mesh, m.dip(), m.oip()) {
@@ -202,9 +202,9 @@ fn hears_an_error<T: Table>(
     m: &RerrView<'_>,
     out: &mut Packet,
 ) -> Result<Option<Effect>, NoMemory>
-    requires ready { IsReady T.nodes T.entries (length mesh.now) core.old }
+    requires order { IsInOrder T.nodes T.entries (length mesh.now) core.old }
     requires from { from < length mesh.now }
-    ensures { IsReady T.nodes T.entries (length mesh.now) core.new }
+    ensures { IsInOrder T.nodes T.entries (length mesh.now) core.new }
 {
     make_rooms(core, mesh, from)?;
     if from == core.me || !is_one_known(mesh, m) {
@@ -222,8 +222,8 @@ fn hear<T: Table>(
     bytes: &[u8],
     out: &mut Packet,
 ) -> Result<Option<Effect>, NoMemory>
-    requires ready { IsReady T.nodes T.entries (length mesh.now) core.old }
-    ensures { IsReady T.nodes T.entries (length mesh.now) core.new }
+    requires order { IsInOrder T.nodes T.entries (length mesh.now) core.old }
+    ensures { IsInOrder T.nodes T.entries (length mesh.now) core.new }
 {
     if mesh.len() <= from {
         return Ok(None);
@@ -293,12 +293,12 @@ fn find<T: Table>(
     log: &mut Log,
 ) -> Result<(), NoMemory>
     requires mesh { length mesh.now ≡ 3 }
-    requires first { IsReady T.nodes T.entries (length mesh.now) first.old }
-    requires second { IsReady T.nodes T.entries (length mesh.now) second.old }
-    requires third { IsReady T.nodes T.entries (length mesh.now) third.old }
-    ensures first { IsReady T.nodes T.entries (length mesh.now) first.new }
-    ensures second { IsReady T.nodes T.entries (length mesh.now) second.new }
-    ensures third { IsReady T.nodes T.entries (length mesh.now) third.new }
+    requires first { IsInOrder T.nodes T.entries (length mesh.now) first.old }
+    requires second { IsInOrder T.nodes T.entries (length mesh.now) second.old }
+    requires third { IsInOrder T.nodes T.entries (length mesh.now) third.old }
+    ensures first { IsInOrder T.nodes T.entries (length mesh.now) first.new }
+    ensures second { IsInOrder T.nodes T.entries (length mesh.now) second.new }
+    ensures third { IsInOrder T.nodes T.entries (length mesh.now) third.new }
 {
     let end = set_of(1, 1);
     let both_ends = set_of(0, 2);
@@ -327,9 +327,9 @@ fn pass_on<T: Table>(
     log: &mut Log,
 ) -> Result<(), NoMemory>
     requires mesh { length mesh.now ≡ 3 }
-    requires first { IsReady T.nodes T.entries (length mesh.now) first.old }
-    requires second { IsReady T.nodes T.entries (length mesh.now) second.old }
-    requires third { IsReady T.nodes T.entries (length mesh.now) third.old }
+    requires first { IsInOrder T.nodes T.entries (length mesh.now) first.old }
+    requires second { IsInOrder T.nodes T.entries (length mesh.now) second.old }
+    requires third { IsInOrder T.nodes T.entries (length mesh.now) third.old }
 {
     let end = set_of(1, 1);
     let mut out = Packet::new();
@@ -351,9 +351,9 @@ fn send_one<T: Table>(
     mesh: &Mesh,
 ) -> Result<Log, NoMemory>
     requires mesh { length mesh.now ≡ 3 }
-    requires first { IsReady T.nodes T.entries (length mesh.now) first.old }
-    requires second { IsReady T.nodes T.entries (length mesh.now) second.old }
-    requires third { IsReady T.nodes T.entries (length mesh.now) third.old }
+    requires first { IsInOrder T.nodes T.entries (length mesh.now) first.old }
+    requires second { IsInOrder T.nodes T.entries (length mesh.now) second.old }
+    requires third { IsInOrder T.nodes T.entries (length mesh.now) third.old }
 {
     let mut log = Log {
         did: [Deed::Other; 9],
@@ -444,7 +444,7 @@ fn lose_the_route<T: Table>(
     mesh: &Mesh,
 ) -> Result<([Deed; 3], [bool; 3]), NoMemory>
     requires mesh { length mesh.now ≡ 3 }
-    requires ready { IsReady T.nodes T.entries (length mesh.now) core.old }
+    requires order { IsInOrder T.nodes T.entries (length mesh.now) core.old }
 {
     let end = set_of(1, 1);
     let mut out = Packet::new();

@@ -1,5 +1,5 @@
 //! What the lines of a printed text tell of copies, line by line.
-ghost use Rattle.std.specs.Prelude.{◌≡◌, ◌≤◌, ◌+◌, ◌<◌, ◌^◌, ◌||◌, Some, None, OnOk, IfOk, IfSome, IsErrOf, length};
+ghost use Rattle.std.specs.Prelude.{◌≡◌, ◌≤◌, ◌+◌, ◌<◌, Some, None, OnOk, IfOk, IfSome, IsErrOf};
 ghost use Rattle.std.specs.Map.{remove_entry};
 ghost use Rattle.std.specs.Ordering.{nat_cmp};
 ghost use Rattle.std.specs.BTreeMap.{insert_entry, is_at};
@@ -57,7 +57,7 @@ pub struct Copies {
 }
 
 impl Model for Copies {
-    ghost use Rattle.std.specs.Prelude.{◌≤◌, ◌^◌};
+    ghost use Rattle.std.specs.Prelude.{◌≤◌};
     ghost use Rattle.mesh_capture.specs.Copies.{Reading};
     ghost use Rattle.mesh_capture.specs.Kept.{AreShort, IsShortBelow, most_lines};
 

@@ -2,7 +2,7 @@
 ghost use Rattle.std.specs.Prelude.{◌≡◌, ◌∷◌, [], Some, None, IfSome, IfNone, codes};
 ghost use Rattle.std.specs.Str.{bytes_eq};
 ghost use Rattle.mesh_base.specs.Addresses.{address_of};
-ghost use Rattle.mesh_base.specs.Parts.{parts, rest_parts};
+ghost use Rattle.mesh_base.specs.Parts.{rest_parts};
 ghost use Rattle.mesh_capture.specs.Copies as copies;
 ghost use Rattle.mesh_capture.specs.Words.{one_word, two_words, three_words, ends_of};
 

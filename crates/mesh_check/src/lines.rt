@@ -1,8 +1,6 @@
 //! The one line that a check writes.
-ghost use Rattle.std.specs.Prelude.{◌≡◌, length};
 ghost use Rattle.mesh_io.specs.Cause.{HasCause};
 ghost use Rattle.mesh_io.specs.Puts.{Puts};
-ghost use Rattle.mesh_tables.specs.Printed.{edges_in};
 ghost use Rattle.mesh_check.specs.Verdicts as verdicts;
 
 use mesh_base::{Addr, LineBuf, push_number, push_text, write_dotted};

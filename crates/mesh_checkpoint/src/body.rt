@@ -7,7 +7,7 @@ ghost use Rattle.mesh_checkpoint.specs.Counts as counts;
 ghost use Rattle.mesh_checkpoint.specs.Reading.{Gives, Passes, PassesBody};
 
 use crate::limits::{GREATEST_NEXT_ID, MOST_STEPS, SUMS_END};
-use crate::numbers::{byte, number16, number32, number64, truth};
+use crate::numbers::{byte, number16, number32, number64};
 use crate::part::{pass_all, pass_rising};
 use crate::parts::{END16, END32, InFlight, Link, Node, Station};
 use mesh_base::Variant;

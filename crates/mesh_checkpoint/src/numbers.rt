@@ -1,6 +1,6 @@
 //! Numbers and texts at the front of bytes. Each reader answers what it has read and the bytes
 //! behind it, or None where the bytes don't begin so.
-ghost use Rattle.std.specs.Prelude.{◌≡◌, ◌<◌, ◌≤◌, length, IfSome};
+ghost use Rattle.std.specs.Prelude.{◌<◌, ◌≤◌, length, IfSome};
 ghost use Rattle.std.specs.Int.{w16, w32, w64};
 ghost use Rattle.mesh_checkpoint.specs.Formats.{byte, number, truth, text};
 ghost use Rattle.mesh_checkpoint.specs.Reading.{Gives};

@@ -5,7 +5,7 @@ ghost use Rattle.mesh_base.specs.declared.events.Flying as declared_flying;
 ghost use Rattle.mesh_checkpoint.specs.Formats.{one_if};
 ghost use Rattle.mesh_checkpoint.specs.Checkpoint as model;
 ghost use Rattle.mesh_checkpoint.specs.Counts as counts;
-ghost use Rattle.mesh_checkpoint.specs.Reading.{Passes, PassesBy};
+ghost use Rattle.mesh_checkpoint.specs.Reading.{Passes};
 
 use crate::limits::LONGEST_HEARD;
 use crate::numbers::{byte, number16, number32, number64, text, truth};

@@ -1,5 +1,5 @@
 //! A source cut into lines.
-ghost use Rattle.std.specs.Prelude.{◌≡◌, ◌≢◌, ◌≤◌, ◌<◌, ◌+◌, [], Ok, Err, true, false, length, take, drop, IfSome, OnOk, OnErr, IsErrOf};
+ghost use Rattle.std.specs.Prelude.{◌≡◌, ◌≤◌, ◌<◌, ◌+◌, [], Ok, Err, true, false, length, take, drop, IfSome, OnOk, OnErr, IsErrOf};
 ghost use Rattle.std.specs.Io.KnownBytes.{IsAtEnd, Keeps};
 ghost use Rattle.mesh_io.specs.Cause.{HasCause, HasReadCause};
 ghost use Rattle.mesh_io.specs.NextLines.{known_after};

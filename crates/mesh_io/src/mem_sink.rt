@@ -1,5 +1,5 @@
 //! A sink in memory, which takes few bytes a call and fails at given calls.
-ghost use Rattle.std.specs.Prelude.{◌≡◌, ◌≤◌, ◌<◌, length, ◌+◌, ◌-◌, ◌++◌, [], take, Some, IfOk, min, vec_len, vec_capacity};
+ghost use Rattle.std.specs.Prelude.{◌≡◌, ◌≤◌, ◌<◌, length, ◌+◌, ◌-◌, ◌++◌, [], Some, IfOk, min, vec_capacity};
 ghost use Rattle.std.specs.Io.KnownBytes.{WriteAppends};
 ghost use Rattle.mesh_io.specs.Cause.{HasCause};
 ghost use Rattle.mesh_io.specs.Calls.{no_calls};

@@ -1,5 +1,5 @@
 //! A source and a sink that never fail.
-ghost use Rattle.std.specs.Prelude.{◌≡◌, Some, None, Ok, Err, drop, take, ◌++◌, length, min, ◌≤◌, ◌<◌, IfOk};
+ghost use Rattle.std.specs.Prelude.{◌≡◌, Some, None, Ok, drop, take, ◌++◌, length, min, ◌≤◌, ◌<◌, IfOk};
 ghost use Rattle.std.specs.Io.{ReadsAtMost};
 ghost use Rattle.std.specs.Io.KnownBytes.{ReadConsumes, WriteAppends};
 ghost use Rattle.mesh_io.specs.Cause.{HasCause};

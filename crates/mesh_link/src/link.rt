@@ -1,5 +1,5 @@
 //! What carries datagrams.
-ghost use Rattle.std.specs.Prelude.{◌≡◌, ◌≢◌, ◌≤◌, ℕ, List, Option, Some, None, length, is_some, true, OnOk, OnErr, IfOk, IfSome};
+ghost use Rattle.std.specs.Prelude.{◌≡◌, ◌≤◌, ℕ, List, Option, Some, None, length, is_some, true, OnOk, OnErr, IfOk, IfSome};
 ghost use Rattle.mesh_io.specs.Cause.{HasCause};
 ghost use Rattle.mesh_link.specs.Datagrams.{Datagram, Receives, Sends};
 

@@ -1,5 +1,5 @@
 //! A checkpoint's bytes as the moment of a run.
-ghost use Rattle.std.specs.Prelude.{◌≡◌, ◌<◌, ◌≤◌, ℕ, List, IfOk, MatchResult};
+ghost use Rattle.std.specs.Prelude.{◌≡◌, ◌<◌, ◌≤◌, IfOk, MatchResult};
 ghost use Rattle.mesh_checkpoint.specs.Checkpoint as model;
 ghost use Rattle.mesh_checkpoint.specs.Points.{IsState};
 ghost use Rattle.mesh_load.specs.Loading.{IsRefused};

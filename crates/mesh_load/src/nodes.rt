@@ -1,5 +1,5 @@
 //! The nodes of a checkpoint.
-ghost use Rattle.std.specs.Prelude.{◌≡◌, ◌<◌, length, MatchResult};
+ghost use Rattle.std.specs.Prelude.{◌<◌, length, MatchResult};
 ghost use Rattle.mesh_checkpoint.specs.Formats.{get_times};
 ghost use Rattle.mesh_checkpoint.specs.Checkpoint as model;
 ghost use Rattle.mesh_load.specs.Nodes.{AreNodesRead};

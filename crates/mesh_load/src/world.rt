@@ -1,5 +1,5 @@
 //! The world of a checkpoint.
-ghost use Rattle.std.specs.Prelude.{◌≡◌, ◌≤◌, length, IfSome};
+ghost use Rattle.std.specs.Prelude.{◌≤◌, length, IfSome};
 ghost use Rattle.mesh_checkpoint.specs.Formats.{maybe};
 ghost use Rattle.mesh_checkpoint.specs.Checkpoint as model;
 ghost use Rattle.mesh_load.specs.Loading.{IsUnsoundWorld};

@@ -2,7 +2,7 @@
 ghost use Rattle.std.specs.Prelude.{◌≡◌, ◌<◌, ◌≤◌, ◌+◌, ◌++◌, [], length, false, IsTrue};
 ghost use Rattle.mesh_script.specs.Seen.{accepted_of, IsPrintable};
 ghost use Rattle.mesh_make.specs.Places.{IsPlace, IsSize, line_at, place_after, mesh_after};
-ghost use Rattle.mesh_make.specs.Made.{mesh_of, made_schedule};
+ghost use Rattle.mesh_make.specs.Made.{made_schedule};
 
 use crate::sizes::{EVENTS_AT_END, FIRST_ADDRESS};
 use crate::step::step_line;

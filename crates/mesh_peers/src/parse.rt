@@ -2,7 +2,7 @@
 ghost use Rattle.std.specs.Prelude.{◌≡◌, ◌≤◌, length, IfOk};
 ghost use Rattle.std.specs.Fmt.{decimal};
 ghost use Rattle.mesh_grammar.specs.Forms.{AreOfForm};
-ghost use Rattle.mesh_script.specs.Arguments.{mention_of, mentions_of, places_of};
+ghost use Rattle.mesh_script.specs.Arguments.{mention_of, places_of};
 ghost use Rattle.mesh_peers.specs.Lines as lines;
 ghost use Rattle.mesh_peers.specs.Seen.{said_of, accepted_of, seen_line, form_of, IsSaidIn, HasSelf, IsAllowed};
 

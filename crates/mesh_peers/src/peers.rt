@@ -73,7 +73,7 @@ fn shifted(place: usize, me: Option<usize>) -> Option<usize>
 }
 
 // The first port that is this one.
-fn place_of(ports: &[u16], port: u16) -> Option<usize>
+fn index_of_port(ports: &[u16], port: u16) -> Option<usize>
     ensures value { result ≡ position (λ q. q == port) ports.now }
     ensures within { IfSome result (λ i. i < length ports.now) }
 {
@@ -126,7 +126,7 @@ impl Peers {
         if port == 0 {
             return None;
         }
-        place_of(self.ports.as_slice(), port)
+        index_of_port(self.ports.as_slice(), port)
     }
 
     /// The node itself joins the mesh.

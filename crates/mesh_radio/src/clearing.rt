@@ -1,5 +1,5 @@
 //! What becomes of casts that are done with.
-ghost use Rattle.std.specs.Prelude.{◌≡◌, ℕ, ◌≤◌, filter, slice_get, Some, true, false};
+ghost use Rattle.std.specs.Prelude.{◌≡◌, ℕ, ◌≤◌, filter, slice_get, Some, false};
 ghost use Rattle.std.specs.Bool.{OnTrue};
 ghost use Rattle.mesh_radio.specs.Casts.{Entry, AreRising, AreGone, IsTidied, has_left, spare, with_cast_at, without_packet};
 

@@ -1,5 +1,5 @@
 //! Copies of packets in flight, by rising id.
-ghost use Rattle.std.specs.Prelude.{◌≡◌, ℕ, ◌<◌, ◌≤◌, ◌+◌, ◌^◌, ◌∷◌, [], length, slice_get, option_map, true, OnOk, OnErr, IsOk, IfSome, IfNone, if◌then◌else◌};
+ghost use Rattle.std.specs.Prelude.{◌≡◌, ◌<◌, ◌≤◌, ◌+◌, ◌^◌, ◌∷◌, [], length, slice_get, option_map, OnOk, OnErr, IsOk, IfSome, IfNone, if◌then◌else◌};
 ghost use Rattle.mesh_base.specs.Views.{flying_seen};
 ghost use Rattle.mesh_base.specs.Members.{member_list};
 ghost use Rattle.aodv_wire.specs.Spells.{is_data};
@@ -284,7 +284,7 @@ impl Copies {
         ensures same { self.new ≡ record self.old { room = self.new.room; most = self.new.most } }
         ensures ok { OnOk result ((copies ≤ self.new.room) × (bytes ≤ self.new.most)) }
         ensures exact { OnOk result (self.new ≡ with_room self.old copies bytes) }
-        ensures ready { copies ≤ self.old.room → bytes ≤ self.old.most
+        ensures there { copies ≤ self.old.room → bytes ≤ self.old.most
             → IsOk result × (self.new ≡ self.old) }
         ensures refused { OnErr result (self.new ≡ self.old) }
     {

@@ -2,7 +2,7 @@
 ghost use Rattle.std.specs.Prelude.{◌≡◌, ℕ, ◌≤◌};
 ghost use Rattle.std.specs.Bool.{OnTrue};
 ghost use Rattle.mesh_radio.specs.Copies.{AreBefore};
-ghost use Rattle.mesh_radio.specs.Casts.{Entry, AreCasts, IsCut, IsFront, IsLeastOf, copies_of, spare};
+ghost use Rattle.mesh_radio.specs.Casts.{AreCasts, IsCut, IsFront, IsLeastOf, copies_of, spare};
 
 use crate::casts::{Cast, Casts, Least, least_from};
 use mesh_base::NodeSet;

@@ -1,5 +1,5 @@
 //! Places of ids among rising ids.
-ghost use Rattle.std.specs.Prelude.{◌≡◌, ℕ, ◌<◌, length, slice_index, IfSome};
+ghost use Rattle.std.specs.Prelude.{◌≡◌, ◌<◌, length, slice_index, IfSome};
 ghost use Rattle.std.specs.Map.{keys_of};
 ghost use Rattle.mesh_radio.specs.Casts.{IsSplit, AreSorted};
 

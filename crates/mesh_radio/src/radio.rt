@@ -1,5 +1,5 @@
 //! The radio of a mesh.
-ghost use Rattle.std.specs.Prelude.{◌≡◌, ◌≢◌, ◌<◌, ◌≤◌, ◌+◌, ◌^◌, ◌∷◌, [], ℕ, true, false, not, length, slice_get, OnOk, OnErr, IsOk, IfOk, IfSome, IfNone, option_map, is_some};
+ghost use Rattle.std.specs.Prelude.{◌≡◌, ◌≢◌, ◌<◌, ◌≤◌, ◌+◌, ◌^◌, ◌∷◌, [], ℕ, true, false, not, length, slice_get, OnOk, OnErr, IsOk, IfOk, IfSome, IfNone, option_map};
 ghost use Rattle.std.specs.Bool.{OnTrue, OnFalse};
 ghost use Rattle.std.specs.List.{AllByRecursion};
 ghost use Rattle.std.specs.FinSet as sets;
@@ -23,9 +23,6 @@ pub struct Radio {
 }
 
 impl Model for Radio {
-    ghost use Rattle.std.specs.Prelude.{◌≡◌, ◌≤◌};
-    ghost use Rattle.std.specs.List.{AllByRecursion};
-    ghost use Rattle.mesh_radio.specs.Copies.{IsBetween};
     ghost use Rattle.mesh_radio.specs.Radios.{RadioState};
     ghost use Rattle.mesh_radio.specs.Kept.{radio_code, radio_of, IsRadio};
 
@@ -125,7 +122,7 @@ impl Radio {
         ensures same { self.new ≡ record self.old { room = self.new.room; most = self.new.most } }
         ensures ok { OnOk result ((copies ≤ self.new.room) × (bytes ≤ self.new.most)) }
         ensures exact { OnOk result (self.new ≡ with_more_room self.old copies bytes) }
-        ensures ready { copies ≤ self.old.room → bytes ≤ self.old.most
+        ensures there { copies ≤ self.old.room → bytes ≤ self.old.most
             → IsOk result × (self.new ≡ self.old) }
         ensures refused { OnErr result (self.new ≡ self.old) }
     {

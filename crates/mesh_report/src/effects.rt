@@ -10,7 +10,7 @@ ghost use Rattle.aodv_meaning.specs.Effects.{kind_of};
 ghost use Rattle.mesh_model.specs.Worlds.{World, members_below, copies_to};
 ghost use Rattle.mesh_meaning.specs.Packets.{IsWritten, IsWrittenCopy};
 ghost use Rattle.mesh_meaning.specs.Events.{event_of, node_of};
-ghost use Rattle.mesh_meaning.specs.Answers.{cast_in, effect_in, took_in, copies_in, happening_in, outcome_in, IsCastWritten, IsEffectInMesh, IsDoneInMesh};
+ghost use Rattle.mesh_meaning.specs.Answers.{cast_in, effect_in, took_in, copies_in, outcome_in, IsCastWritten, IsEffectInMesh, IsDoneInMesh};
 ghost use Rattle.mesh_grammar.specs.Written.{line, label_number};
 ghost use Rattle.mesh_text.specs.Lines.{name_of, words_of};
 ghost use Rattle.mesh_text.specs.Effects.{shown_byte, datum_in, kind_text, took_text, delivery_text, drop_text, datum_fate, broken_text, cast_text, copies_text, sent_text, outcome_text, outcome_lines};

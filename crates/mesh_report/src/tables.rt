@@ -1,5 +1,5 @@
 //! The lines of a node's state, of a route's end, and of the copies in flight.
-ghost use Rattle.std.specs.Prelude.{◌≡◌, ◌+◌, ◌*◌, ◌<◌, ◌≤◌, ◌++◌, ◌∷◌, length};
+ghost use Rattle.std.specs.Prelude.{◌≡◌, ◌+◌, ◌<◌, ◌≤◌, ◌++◌, ◌∷◌, length};
 ghost use Rattle.std.specs.Fmt.{decimal};
 ghost use Rattle.mesh_base.specs.Views.{flying_seen};
 ghost use Rattle.aodv_model.specs.Soundness.{AreBelow};

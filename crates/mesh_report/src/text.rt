@@ -1,5 +1,5 @@
 //! Names of nodes, numbers and bytes, each appended to a line's buffer.
-ghost use Rattle.std.specs.Prelude.{◌≡◌, ◌+◌, ◌*◌, ◌<◌, ◌≤◌, ◌++◌, ◌∷◌, [], length};
+ghost use Rattle.std.specs.Prelude.{◌≡◌, ◌+◌, ◌*◌, ◌<◌, ◌≤◌, ◌++◌, ◌∷◌, length};
 ghost use Rattle.std.specs.List.{flat_map};
 ghost use Rattle.mesh_base.specs.Meshes.{Nodes};
 ghost use Rattle.aodv_meaning.specs.Meaning.{meaning};

@@ -1,5 +1,5 @@
 //! The links and the copies in flight.
-ghost use Rattle.std.specs.Prelude.{◌≡◌, ◌≤◌, MatchResult};
+ghost use Rattle.std.specs.Prelude.{◌≤◌, MatchResult};
 ghost use Rattle.mesh_base.specs.declared.limits.TheConstants.{MOST_NODES};
 ghost use Rattle.mesh_restore.specs.Reading.{Refuses};
 ghost use Rattle.mesh_restore.specs.Air.{air, IsAirRead};

@@ -1,6 +1,6 @@
 //! The copies in flight.
 ghost use Rattle.std.specs.Prelude.{◌≡◌, ◌<◌, ◌≤◌, [], length, IfOk, MatchResult, ◌&&◌};
-ghost use Rattle.mesh_base.specs.declared.limits.TheConstants.{MOST_NODES, LONGEST_PACKET};
+ghost use Rattle.mesh_base.specs.declared.limits.TheConstants.{LONGEST_PACKET};
 ghost use Rattle.mesh_radio.specs.Copies.{AreBefore};
 ghost use Rattle.mesh_checkpoint.specs.Formats.{get_rising};
 ghost use Rattle.mesh_checkpoint.specs.Checkpoint as model;

@@ -1,5 +1,5 @@
 //! What waits for a node's turns.
-ghost use Rattle.std.specs.Prelude.{◌≡◌, ◌<◌, ◌≤◌, IfSome, IfOk, length};
+ghost use Rattle.std.specs.Prelude.{◌<◌, IfOk};
 ghost use Rattle.aodv_inbox.specs.Queues.{IsItem};
 ghost use Rattle.mesh_checkpoint.specs.Formats.{get_times};
 ghost use Rattle.mesh_checkpoint.specs.Checkpoint as model;

@@ -1,9 +1,8 @@
 //! The routing table of a node.
-ghost use Rattle.std.specs.Prelude.{◌≡◌, ◌<◌, ◌≤◌, IfSome, IfOk, length};
-ghost use Rattle.std.specs.Int.{w16};
+ghost use Rattle.std.specs.Prelude.{◌≡◌, ◌<◌, ◌≤◌, IfSome, IfOk};
 ghost use Rattle.mesh_base.specs.declared.limits.TheConstants.{MOST_NODES};
 ghost use Rattle.mesh_base.specs.Members.{member_list};
-ghost use Rattle.mesh_checkpoint.specs.Formats.{number, get_rising};
+ghost use Rattle.mesh_checkpoint.specs.Formats.{get_rising};
 ghost use Rattle.mesh_checkpoint.specs.Checkpoint as model;
 ghost use Rattle.mesh_checkpoint.specs.Reading.{Gives};
 ghost use Rattle.mesh_restore.specs.Reading.{Reads};

@@ -1,6 +1,5 @@
 //! The data that wait for a route.
-ghost use Rattle.std.specs.Prelude.{◌≡◌, ◌<◌, ◌≤◌, ◌+◌, ◌++◌, ◌∷◌, [], MatchResult, IfSome, IfOk, OnOk, length, Some, ℕ};
-ghost use Rattle.std.specs.FinMap as maps;
+ghost use Rattle.std.specs.Prelude.{◌≡◌, ◌<◌, ◌≤◌, ◌+◌, MatchResult, IfOk, length, Some};
 ghost use Rattle.mesh_base.specs.declared.limits.TheConstants.{MOST_NODES};
 ghost use Rattle.mesh_checkpoint.specs.Formats.{get_rising, get_times};
 ghost use Rattle.mesh_checkpoint.specs.Checkpoint as model;

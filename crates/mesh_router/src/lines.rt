@@ -1,7 +1,6 @@
 //! A line of a router's script.
-ghost use Rattle.std.specs.Prelude.{◌≡◌, ◌<◌, ◌+◌, ◌^◌, is_some, true, false, OnOk, OnErr, Option, List};
+ghost use Rattle.std.specs.Prelude.{◌≡◌, ◌<◌, ◌+◌, ◌^◌, is_some, true, OnOk, OnErr, Option, List};
 ghost use Rattle.mesh_link.specs.Datagrams.{Datagram};
-ghost use Rattle.mesh_peers.specs.Lines.{words_of};
 ghost use Rattle.mesh_peers.specs.Seen.{accepted_of, IsAllowed, IsPrintable};
 ghost use Rattle.mesh_router.specs.Routers.{peers_in, router_in, is_running, Running};
 ghost use Rattle.mesh_router.specs.Lines as lines;

@@ -1,5 +1,5 @@
 //! The datagrams that a router receives.
-ghost use Rattle.std.specs.Prelude.{◌≡◌, ◌<◌, ◌≤◌, ◌+◌, ◌^◌, ◌++◌, ◌∷◌, [], ℕ, List, length, codes, is_some, true, OnOk, IfErr, IsErrOf};
+ghost use Rattle.std.specs.Prelude.{◌≡◌, ◌<◌, ◌+◌, ◌^◌, List, length, codes, is_some, true, OnOk, IfErr, IsErrOf};
 ghost use Rattle.mesh_io.specs.Cause.{HasCause};
 ghost use Rattle.mesh_io.specs.Puts.{Puts};
 ghost use Rattle.mesh_router.specs.Polls.{heard_line, strange_port_line};
@@ -10,7 +10,6 @@ ghost use Rattle.mesh_router.specs.Runs.{IsNotFull, IsTaken, IsPollStep, IsPollR
 ghost use Rattle.mesh_router.specs.Short.{IsPollShort};
 
 use crate::casts::push_node;
-use crate::limits::MOST_RECEIVED;
 use crate::router::Router;
 use crate::stop::{Scratch, Stop};
 use mesh_base::{Bytes, LineBuf, Mesh, push_number, push_text};

@@ -1,5 +1,5 @@
 //! What the other commands make a router do.
-ghost use Rattle.std.specs.Prelude.{◌≡◌, ◌≢◌, ◌<◌, ◌≤◌, ◌+◌, ◌*◌, ◌^◌, ◌++◌, ◌∷◌, [], not, length, codes, is_some, true, OnOk, IfOk, IfErr, IfSome, IsErrOf, Option, List};
+ghost use Rattle.std.specs.Prelude.{◌≡◌, ◌<◌, ◌≤◌, ◌+◌, ◌*◌, ◌^◌, ◌++◌, not, length, codes, is_some, true, OnOk, IfOk, IfErr, IfSome, IsErrOf, Option, List};
 ghost use Rattle.std.specs.FinSet as sets;
 ghost use Rattle.aodv_model.specs.Handlers as model;
 ghost use Rattle.aodv_model.specs.Fullness.{send_full, ask_full};

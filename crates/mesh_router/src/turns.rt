@@ -1,9 +1,8 @@
 //! The turns of a router.
-ghost use Rattle.std.specs.Prelude.{◌≡◌, ◌<◌, ◌≤◌, ◌+◌, ◌*◌, ◌^◌, ◌++◌, ◌∷◌, [], length, codes, is_some, true, OnOk, IfErr, IfSome, IsErrOf, Some};
-ghost use Rattle.mesh_base.specs.Addresses.{dotted_decimal};
+ghost use Rattle.std.specs.Prelude.{◌≡◌, ◌<◌, ◌≤◌, ◌+◌, ◌*◌, ◌^◌, ◌++◌, length, codes, is_some, true, OnOk, IsErrOf, Some};
 ghost use Rattle.mesh_io.specs.Cause.{HasCause};
 ghost use Rattle.mesh_io.specs.Puts.{Puts};
-ghost use Rattle.mesh_router.specs.Turns.{refusal_words, stranger_words, drop_line, next_turn, turns_of, idle_line};
+ghost use Rattle.mesh_router.specs.Turns.{refusal_words, stranger_words, drop_line, next_turn, turns_of};
 ghost use Rattle.mesh_router.specs.Outputs.{HasCauses};
 ghost use Rattle.mesh_router.specs.Seen.{HasCounts, IsGrown};
 ghost use Rattle.mesh_router.specs.Runs.{IsTurnRun, IsStepRun};

@@ -4,7 +4,7 @@ ghost use Rattle.mesh_base.specs.declared.events.Event.{Event};
 ghost use Rattle.mesh_model.specs.Worlds.{World};
 ghost use Rattle.mesh_meaning.specs.Answers.{outcome_in, IsDoneInMesh};
 ghost use Rattle.mesh_meaning.specs.Events.{event_of, node_of};
-ghost use Rattle.mesh_text.specs.Schedule.{next_moment, NewNode, Does, ShowsNode, ShowsRoute, ShowsFlight};
+ghost use Rattle.mesh_text.specs.Schedule.{next_moment, NewNode, Does};
 ghost use Rattle.mesh_text.specs.Lines.{words_of};
 ghost use Rattle.mesh_grammar.specs.Written.{line as line_of_words};
 ghost use Rattle.mesh_text.specs.Effects.{outcome_lines};

@@ -1,5 +1,5 @@
 //! What a run shows of its world: a node, where a route leads, and the copies in flight.
-ghost use Rattle.std.specs.Prelude.{◌≡◌, ◌<◌, ◌≤◌, ◌+◌, ◌++◌, length, map, slice_get, is_some, true, false, Some};
+ghost use Rattle.std.specs.Prelude.{◌≡◌, ◌<◌, ◌+◌, ◌++◌, length, map, slice_get, is_some, true, false, Some};
 ghost use Rattle.std.specs.List.{AllByRecursion};
 ghost use Rattle.mesh_model.specs.Routes.{route_end};
 ghost use Rattle.mesh_meaning.specs.Packets.{IsWrittenCopy, copy_in};

@@ -10,7 +10,7 @@ ghost use Rattle.mesh_save.specs.Links.{link_of, pairs_from};
 
 use crate::fields::{put_text, put_truth, put16, put32, put64};
 use crate::pen::Pen;
-use mesh_base::{FlyingView, NodeSet};
+use mesh_base::FlyingView;
 use mesh_radio::Radio;
 
 // With how many nodes above it a node's link has ever stood.

@@ -1,5 +1,5 @@
 //! Whether valid routes are backed by their next hops.
-ghost use Rattle.std.specs.Prelude.{◌≡◌, ◌<◌, ◌↔◌, ℕ, IsTrue, IfSome, IfNone, length};
+ghost use Rattle.std.specs.Prelude.{◌<◌, ◌↔◌, ℕ, IsTrue, IfSome, IfNone, length};
 ghost use Rattle.mesh_sound.specs.Claims.{AreSized};
 ghost use Rattle.mesh_sound.specs.Edges.{IsBackedAt, AreBacked, IsFirstEdge};
 

@@ -1,6 +1,5 @@
 //! Whether requests and replies are honest.
 ghost use Rattle.std.specs.Prelude.{◌≡◌, ◌<◌, ◌↔◌, IsTrue, length};
-ghost use Rattle.mesh_base.specs.Meshes.{Nodes};
 ghost use Rattle.aodv_model.specs.Soundness.{IsMessageInMesh};
 ghost use Rattle.aodv_wire.specs.declared.message.Message.TheVariants as messages;
 ghost use Rattle.aodv_meaning.specs.Meaning.{in_mesh, meaning, request_in, reply_in, stranger};

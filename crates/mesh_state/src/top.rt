@@ -1,10 +1,8 @@
 //! The top call.
-ghost use Rattle.std.specs.Prelude.{◌≡◌, ◌≢◌, ◌<◌, ◌≤◌, ◌↔◌, ◌⊎◌, map, Some, None};
+ghost use Rattle.std.specs.Prelude.{◌≡◌, ◌≢◌, ◌<◌, ◌↔◌, ◌⊎◌, map, Some, None};
 ghost use Rattle.std.specs.Io.KnownBytes.{IsAtEnd};
 ghost use Rattle.mesh_base.specs.declared.events.Variant.TheVariants.{Base};
 ghost use Rattle.mesh_text.specs.Schedule.{opening};
-ghost use Rattle.mesh_run.specs.Causes.{HasCauseIf, HasStatusCause, HasSourceCause};
-ghost use Rattle.mesh_run.specs.Outputs.{IsOutputFrom};
 ghost use Rattle.mesh_checkpoint.specs.Points.{IsTooLong};
 ghost use Rattle.mesh_save.specs.Saved.{IsWritten, IsCut};
 ghost use Rattle.mesh_state.specs.Words.{asked_of};
@@ -15,7 +13,6 @@ ghost use Rattle.mesh_state.specs.Small.{IsSmall};
 use crate::front::{FrontError, take_front};
 use crate::status::StateStatus;
 use crate::words::{Asked, asked_of};
-use mesh_checkpoint::{MOST_STEPS, SUMS_END};
 use mesh_io::{Sink, Source};
 use mesh_load::{StateError, load};
 use mesh_run::{Point, Say, Status, do_input};

@@ -1,7 +1,7 @@
 //! The words of an entry line.
-ghost use Rattle.std.specs.Prelude.{◌≡◌, ◌∷◌, [], ℕ, List, Option, Some, None, option_map, IfSome, IfNone, is_some};
+ghost use Rattle.std.specs.Prelude.{◌≡◌, ◌∷◌, [], Option, Some, None, IfSome, IfNone, is_some};
 ghost use Rattle.std.specs.List.{list_all};
-ghost use Rattle.mesh_base.specs.Parts.{parts, rest_parts};
+ghost use Rattle.mesh_base.specs.Parts.{parts};
 ghost use Rattle.mesh_base.specs.Addresses.{address_of};
 ghost use Rattle.mesh_base.specs.Numbers.{number_up_to, positive};
 ghost use Rattle.mesh_tables.specs.Printed as printed;

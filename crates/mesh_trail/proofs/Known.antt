@@ -22,7 +22,7 @@ use Rattle.mesh_trail.specs.declared.lists.NodeLists.{NodeLists}
 use Rattle.mesh_trail.specs.declared.casts.Cast.{Cast}
 use Rattle.mesh_trail.specs.Heard.{is_known, knows}
 use Rattle.mesh_trail.specs.Lists.{put_if, row}
-use Rattle.mesh_trail.specs.Steps.{FitsReply, IsReady, KnowsNear, front_list}
+use Rattle.mesh_trail.specs.Steps.{FitsReply, IsPrepared, KnowsNear, front_list}
 use Rattle.mesh_trail.specs.Trails.{AreWalks, kept_lists, rows_of}
 
 -- ---- a list that is there already
@@ -69,18 +69,18 @@ row_is w nodes casts x y n (Some m) (Some e) t at is there known =
     sym (reverse-reverse (row (n.entries).items y)) ∙ ap reverse two
 
 pub near_known : (w : WorldSeen) (nodes : List NodeLists) (casts : List Cast) (x : ℕ) (front : Front) (n : NodeLists) (hand now : Hand) → AreWalks w nodes casts → slice_get nodes x ≡ Some n
-    → now.known ≡ knows (table w.world x) front → now.near ≡ hand.near → IsReady x front (n.entries).items (front_list (n.queue).items) hand → KnowsNear front now (n.entries).items
+    → now.known ≡ knows (table w.world x) front → now.near ≡ hand.near → IsPrepared x front (n.entries).items (front_list (n.queue).items) hand → KnowsNear front now (n.entries).items
 near_known w nodes casts x fronts.Empty n hand now t at known near r = tt
 near_known w nodes casts x fronts.New n hand now t at known near r = tt
 near_known w nodes casts x (fronts.Heard y s) n hand now t at known near r = λ yes.
     row_is w nodes casts x y n (slice_get (w.world).nodes x) (maps.get (table w.world x) y) t at refl refl (sym known ∙ yes) ∙ sym (near ∙ r.near)
 
--- ---- the lists in hand alone make a node ready
+-- ---- whether a node is prepared depends on the lists in hand alone
 
-pub ready_so : (x : ℕ) (front : Front) (rows : List (List ℕ)) (l : List ℕ) (hand now : Hand) → now.near ≡ hand.near → now.told ≡ hand.told → now.room ≡ hand.room → IsReady x front rows l hand → IsReady x front rows l now
-ready_so x fronts.Empty rows l hand now near told room r = subst (λ k. 1 ≤ k) (sym room) r
-ready_so x fronts.New rows l hand now near told room r = subst (λ k. 1 ≤ k) (sym room) r
-ready_so x (fronts.Heard y s) rows l hand now near told room r = record {
+pub prepared_so : (x : ℕ) (front : Front) (rows : List (List ℕ)) (l : List ℕ) (hand now : Hand) → now.near ≡ hand.near → now.told ≡ hand.told → now.room ≡ hand.room → IsPrepared x front rows l hand → IsPrepared x front rows l now
+prepared_so x fronts.Empty rows l hand now near told room r = subst (λ k. 1 ≤ k) (sym room) r
+prepared_so x fronts.New rows l hand now near told room r = subst (λ k. 1 ≤ k) (sym room) r
+prepared_so x (fronts.Heard y s) rows l hand now near told room r = record {
   near = near ∙ r.near;
   told = told ∙ r.told;
   two = subst (λ k. 2 ≤ k) (sym room) r.two;

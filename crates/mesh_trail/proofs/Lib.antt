@@ -10,4 +10,4 @@ pub mod Sends
 pub mod Turns
 pub mod Starts
 pub mod Known
-pub mod Readiness
+pub mod Prepared

@@ -26,7 +26,7 @@ use Rattle.mesh_trail.specs.declared.casts.Cast as lists
 use Rattle.mesh_trail.specs.Said.{said_of, IsSaidIn}
 use Rattle.mesh_trail.specs.Heard.{IsFrontIn, front_in, front_of, lesson_of}
 use Rattle.mesh_trail.specs.Lists.{after_lesson, put_if, reply_list, row, sent_list}
-use Rattle.mesh_trail.specs.Steps.{FitsReply, HasRoomFor, IsInHand, IsReady, front_list, idles, rows_after, sent_after}
+use Rattle.mesh_trail.specs.Steps.{FitsReply, HasRoomFor, IsInHand, IsPrepared, front_list, idles, rows_after, sent_after}
 use Rattle.mesh_trail.specs.Trails.{AreWalks, kept_lists}
 use Rattle.mesh_trail.proofs.Nodes.{changed_so, is_there, rows_at, still_at, turned_queue, turned_row, walked_is}
 use Rattle.mesh_trail.proofs.Rows.{put_within, rows_count, turned_drop, turned_first, turned_own, turned_rows, turned_sent}
@@ -68,16 +68,16 @@ heard_fits rt x y s rows l hand r (says.Reply d n h) =
     let told : length hand.told ≡ length l + 1 = ap length r.told ∙ pair_long l x in
     reply_fits rt x y s hand.near hand.told rows hand.room r.two (omega arith) (omega arith) r.reply
 
-pub room_for : (rt : Table) (x : ℕ) (front : Front) (rows : List (List ℕ)) (l : List ℕ) (hand : Hand) → IsReady x front rows l hand → HasRoomFor x front (rows_after rt front hand.near hand.told rows) l hand.room
-room_for rt x fronts.Empty rows l hand ready = own_fits x rows hand.room ready
-room_for rt x fronts.New rows l hand ready = own_fits x rows hand.room ready
-room_for rt x (fronts.Heard y s) rows l hand ready = heard_fits rt x y s rows l hand ready
+pub room_for : (rt : Table) (x : ℕ) (front : Front) (rows : List (List ℕ)) (l : List ℕ) (hand : Hand) → IsPrepared x front rows l hand → HasRoomFor x front (rows_after rt front hand.near hand.told rows) l hand.room
+room_for rt x fronts.Empty rows l hand prepared = own_fits x rows hand.room prepared
+room_for rt x fronts.New rows l hand prepared = own_fits x rows hand.room prepared
+room_for rt x (fronts.Heard y s) rows l hand prepared = heard_fits rt x y s rows l hand prepared
 
-pub room_so : (rt : Table) (x : ℕ) (front : Front) (rows now : List (List ℕ)) (l list : List ℕ) (hand : Hand) (room : ℕ) → IsReady x front rows l hand → now ≡ rows_after rt front hand.near hand.told rows → list ≡ l → room ≡ hand.room → HasRoomFor x front now list room
-room_so rt x front rows now l list hand room ready is same fits cast =
+pub room_so : (rt : Table) (x : ℕ) (front : Front) (rows now : List (List ℕ)) (l list : List ℕ) (hand : Hand) (room : ℕ) → IsPrepared x front rows l hand → now ≡ rows_after rt front hand.near hand.told rows → list ≡ l → room ≡ hand.room → HasRoomFor x front now list room
+room_so rt x front rows now l list hand room prepared is same fits cast =
     subst (λ r. length (sent_after x front r list cast) ≤ room) (sym is)
     (subst (λ k. length (sent_after x front (rows_after rt front hand.near hand.told rows) k cast) ≤ room) (sym same)
-    (subst (λ m. length (sent_after x front (rows_after rt front hand.near hand.told rows) l cast) ≤ m) (sym fits) (room_for rt x front rows l hand ready cast)))
+    (subst (λ m. length (sent_after x front (rows_after rt front hand.near hand.told rows) l cast) ≤ m) (sym fits) (room_for rt x front rows l hand prepared cast)))
 
 pub rows_long : (rt : Table) (front : Front) (near told : List ℕ) (rows : List (List ℕ)) → length (rows_after rt front near told rows) ≡ length rows
 rows_long rt fronts.Empty near told rows = refl
@@ -101,7 +101,7 @@ step_at w x o is = ap (λ (p : Option Node). at_node p (turn_of w x)) is
 
 -- what the code did to the lists of node x, which heard this
 pub record Took (x : ℕ) (rt : Table) (front : Front) (hand : Hand) (n now : NodeLists) : Type 0 where
-  pub ready : IsReady x front (n.entries).items (front_list (n.queue).items) hand
+  pub prepared : IsPrepared x front (n.entries).items (front_list (n.queue).items) hand
   pub queue : (now.queue).items ≡ drop 1 (n.queue).items
   pub rows : (now.entries).items ≡ rows_after rt front hand.near hand.told (n.entries).items
 
@@ -159,7 +159,7 @@ module _ (x : ℕ) (old new : WorldSeen) (d : Done) (packet : List ℕ) (nodes :
   entries_are : (y : ℕ) (m : Message) → y < length old.mesh → IsSaidIn (length old.mesh) (said_of m) → Took x (table new.world x) (fronts.Heard y (said_of m)) hand n now → heard_entries y m ≡ (λ q. reverse (row (now.entries).items q))
   entries_are y m near inside took =
       let size = rows_at nodes old casts x n t at in
-      let r : IsInHand x y (said_of m) (n.entries).items (front_list (n.queue).items) hand = took.ready in
+      let r : IsInHand x y (said_of m) (n.entries).items (front_list (n.queue).items) hand = took.prepared in
       (λ i. entries_after x y m (heard_is i) (table new.world x) (λ q. turned_row q (at i)))
       ∙ (λ i q. (sym (turned_rows (table new.world x) x y m (n.entries).items (front_list (n.queue).items) hand.near hand.told q (omega arith) (subst (λ k. IsSaidIn k (said_of m)) (sym size) inside) r.near r.told)
       ∙ ap (λ rs. reverse (row rs q)) (sym took.rows)) i)

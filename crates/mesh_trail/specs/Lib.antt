@@ -14,5 +14,6 @@ pub mod Steps
 pub mod Casts
 -- Trails: that all these lists are walks.
 pub mod Trails
--- Ready: what is made ready for an event before the world does it, and what the world has answered.
-pub mod Ready
+-- Preparations: what is prepared for an event before the world does it, and what the world has
+-- answered.
+pub mod Preparations

@@ -44,10 +44,10 @@ pub record IsInHand (x y : ℕ) (s : Said) (rows : List (List ℕ)) (l : List �
   pub more : length l + 1 ≤ hand.room
   pub reply : FitsReply rows hand.room s
 
-abbrev pub IsReady : ℕ → Front → List (List ℕ) → List ℕ → Hand → Type 0
-IsReady x fronts.Empty rows l hand = 1 ≤ hand.room
-IsReady x fronts.New rows l hand = 1 ≤ hand.room
-IsReady x (fronts.Heard y s) rows l hand = IsInHand x y s rows l hand
+abbrev pub IsPrepared : ℕ → Front → List (List ℕ) → List ℕ → Hand → Type 0
+IsPrepared x fronts.Empty rows l hand = 1 ≤ hand.room
+IsPrepared x fronts.New rows l hand = 1 ≤ hand.room
+IsPrepared x (fronts.Heard y s) rows l hand = IsInHand x y s rows l hand
 
 -- if the list of the neighbour's entry is known to be that of the two nodes, it is
 abbrev pub KnowsNear : Front → Hand → List (List ℕ) → Type 0

@@ -1,12 +1,12 @@
 //! What a step of a node needs in hand, and what it does with it.
-ghost use Rattle.std.specs.Prelude.{◌≡◌, ◌<◌, ◌≤◌, ◌+◌, ◌++◌, ◌∷◌, [], length, drop, slice_get, None, OnOk};
+ghost use Rattle.std.specs.Prelude.{◌≡◌, ◌<◌, ◌≤◌, [], length, drop, None, OnOk};
 ghost use Rattle.aodv_wire.specs.Spells.{refusal};
 ghost use Rattle.aodv_meaning.specs.Meaning.{meaning};
 ghost use Rattle.mesh_model.specs.Walks.{table};
 ghost use Rattle.mesh_trail.specs.Said.{said_of};
 ghost use Rattle.mesh_trail.specs.Heard.{IsFrontIn};
-ghost use Rattle.mesh_trail.specs.Lists.{row, list_in, sent_list};
-ghost use Rattle.mesh_trail.specs.Steps.{IsReady, KnowsNear, FitsReply, HasRoomFor, front_list, rows_after, sent_after};
+ghost use Rattle.mesh_trail.specs.Lists.{row, sent_list};
+ghost use Rattle.mesh_trail.specs.Steps.{IsPrepared, KnowsNear, FitsReply, HasRoomFor, front_list, rows_after, sent_after};
 
 use crate::heard::{Front, lesson_at};
 use crate::lists::{Hand, NodeLists, learn};
@@ -46,14 +46,14 @@ fn first_in(lists: &NodeLists) -> &[usize]
     }
 }
 
-/// Makes ready what node x may keep and cast, where this is at the front of its queue.
-pub(crate) fn ready_hand(
+/// Prepares what node x may keep and cast, where this is at the front of its queue.
+pub(crate) fn prepare_hand(
     hand: &mut Hand,
     lists: &NodeLists,
     x: usize,
     front: Front,
 ) -> Result<(), NoMemory>
-    ensures { OnOk result (IsReady x front lists.now.entries.items
+    ensures { OnOk result (IsPrepared x front lists.now.entries.items
         (front_list lists.now.queue.items) hand.new) }
 {
     let Front::Heard { from, said } = front else {

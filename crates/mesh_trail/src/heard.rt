@@ -1,5 +1,5 @@
 //! What waits at the front of a queue, and what its node learns of it.
-ghost use Rattle.std.specs.Prelude.{◌≡◌, ◌<◌, ◌≤◌, Option, length, slice_get};
+ghost use Rattle.std.specs.Prelude.{◌≡◌, ◌<◌, Option, length, slice_get};
 ghost use Rattle.mesh_model.specs.Walks.{table};
 ghost use Rattle.mesh_trail.specs.Said.{IsSaidIn};
 ghost use Rattle.mesh_trail.specs.Heard.{front_of, IsFrontIn, leads_to, is_known, knows, tells, lesson_of};

@@ -10,10 +10,10 @@ ghost use Rattle.mesh_trail.specs.Walks.{FillsNumber};
 ghost use Rattle.mesh_trail.specs.Heard.{IsFrontIn};
 ghost use Rattle.mesh_trail.specs.Steps.{IsOwnOf, idles, hears};
 ghost use Rattle.mesh_trail.specs.Trails.{AreKept};
-ghost use Rattle.mesh_trail.specs.Ready.{IsNodeReady, IsReadyFor, HasDone, HasAnswered};
+ghost use Rattle.mesh_trail.specs.Preparations.{IsNodePrepared, IsPreparedFor, HasDone, HasAnswered};
 
 use crate::casts::{Cast, find, sweep};
-use crate::hands::{list_for, ready_hand, take_front};
+use crate::hands::{list_for, prepare_hand, take_front};
 use crate::heard::{Front, front_at, knows};
 use crate::lists::{Hand, NodeLists, make_place, push_list};
 use crate::walk::Walk;
@@ -68,31 +68,31 @@ impl Parts {
         Ok(())
     }
 
-    // Makes ready what node x may keep and cast, with this at the front of its queue.
-    fn ready_node(&mut self, x: usize, front: Front) -> Result<(), NoMemory>
+    // Prepares what node x may keep and cast, with this at the front of its queue.
+    fn prepare_node(&mut self, x: usize, front: Front) -> Result<(), NoMemory>
         requires kept { AreKept self.old }
         requires node { x < length self.old.world.mesh }
         requires front { IsFrontIn (length self.old.world.mesh) front }
         ensures kept { AreKept self.new }
         ensures world { self.new.world ≡ self.old.world }
-        ensures ready { OnOk result (IsNodeReady x front self.new.world self.new) }
+        ensures prepared { OnOk result (IsNodePrepared x front self.new.world self.new) }
     {
         self.make_room()?;
         let lists = &self.nodes[x];
-        ready_hand(&mut self.hand, lists, x, front)?;
+        prepare_hand(&mut self.hand, lists, x, front)?;
         self.hand.known = knows(&self.world, x, front);
         self.hand.front = front;
         self.hand.first = self.world.radio().next_id();
         Ok(())
     }
 
-    // Makes ready the list of the copy of this id, and room for it beside the queue of its
+    // Prepares the list of the copy of this id, and room for it beside the queue of its
     // receiver.
-    fn ready_copy(&mut self, id: u64) -> Result<(), NoMemory>
+    fn prepare_copy(&mut self, id: u64) -> Result<(), NoMemory>
         requires kept { AreKept self.old }
         ensures kept { AreKept self.new }
         ensures world { self.new.world ≡ self.old.world }
-        ensures ready { OnOk result (IsReadyFor (model.Deliver id) self.new.world self.new) }
+        ensures prepared { OnOk result (IsPreparedFor (model.Deliver id) self.new.world self.new) }
     {
         let Some(copy) = self.world.radio().find(id) else {
             return Ok(());
@@ -104,12 +104,12 @@ impl Parts {
         Ok(())
     }
 
-    // Makes ready the list of a second copy beside that of this id.
-    fn ready_double(&mut self, id: u64) -> Result<(), NoMemory>
+    // Prepares the list of a second copy beside that of this id.
+    fn prepare_double(&mut self, id: u64) -> Result<(), NoMemory>
         requires kept { AreKept self.old }
         ensures kept { AreKept self.new }
         ensures world { self.new.world ≡ self.old.world }
-        ensures ready { OnOk result (IsReadyFor (model.Double id) self.new.world self.new) }
+        ensures prepared { OnOk result (IsPreparedFor (model.Double id) self.new.world self.new) }
     {
         self.make_room()?;
         self.hand.taken.copy(find(self.casts.as_slice(), id))?;
@@ -118,23 +118,23 @@ impl Parts {
     }
 
     /// Takes all memory that the lists need for an event, before the world does it.
-    pub fn ready(&mut self, e: &Event<'_>) -> Result<(), NoMemory>
+    pub fn prepare(&mut self, e: &Event<'_>) -> Result<(), NoMemory>
         requires kept { AreKept self.old }
         requires event { IsEvent (length self.old.world.mesh) (event_of e.now) }
         ensures kept { AreKept self.new }
         ensures world { self.new.world ≡ self.old.world }
-        ensures ready { OnOk result (IsReadyFor (event_of e.now) self.new.world self.new) }
+        ensures prepared { OnOk result (IsPreparedFor (event_of e.now) self.new.world self.new) }
     {
         match *e {
             Event::Give { node, .. } => make_place(&mut self.nodes, node),
             Event::Turn { node } => {
                 let front = front_at(&self.world, node);
-                self.ready_node(node, front)
+                self.prepare_node(node, front)
             }
-            Event::Send { node, .. } => self.ready_node(node, Front::New),
-            Event::Ask { node, .. } => self.ready_node(node, Front::New),
-            Event::Deliver { id } => self.ready_copy(id),
-            Event::Double { id } => self.ready_double(id),
+            Event::Send { node, .. } => self.prepare_node(node, Front::New),
+            Event::Ask { node, .. } => self.prepare_node(node, Front::New),
+            Event::Deliver { id } => self.prepare_copy(id),
+            Event::Double { id } => self.prepare_double(id),
             Event::Link { .. } | Event::Cut { .. } | Event::Lose { .. } => Ok(()),
         }
     }
@@ -219,7 +219,7 @@ impl Parts {
         }
     }
 
-    /// The lists follow what the world has answered to an event for which they were made ready.
+    /// The lists follow what the world has answered to an event for which they were prepared.
     pub fn follow(
         &mut self,
         alloc: Global,

@@ -3,7 +3,7 @@ ghost use Rattle.std.specs.Prelude.{◌≡◌, ◌≤◌, ◌<◌, ◌+◌, ◌^
 ghost use Rattle.mesh_model.specs.Places.{IsEvent};
 ghost use Rattle.mesh_model.specs.Routes.{next_hop};
 ghost use Rattle.mesh_meaning.specs.Events.{event_of};
-ghost use Rattle.mesh_world.specs.Seen.{WorldSeen, IsSoundWorld, opening};
+ghost use Rattle.mesh_world.specs.Seen.{WorldSeen, IsSoundWorld};
 ghost use Rattle.mesh_world.specs.Steps.{IsStep};
 ghost use Rattle.mesh_trail.specs.Walks.{IsRouteWalk, FillsNumber};
 
@@ -94,7 +94,7 @@ impl Steps for Trail {
         ensures sound { IsSoundWorld self.new }
         ensures number { FillsNumber result }
     {
-        self.parts.ready(e)?;
+        self.parts.prepare(e)?;
         let answer = self.parts.world.step(alloc, e, out);
         self.parts.follow(alloc, e, &answer, out);
         answer

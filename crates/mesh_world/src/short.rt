@@ -1,13 +1,12 @@
 //! An event for which memory may be short.
-ghost use Rattle.std.specs.Prelude.{◌≡◌, ◌<◌, ◌^◌, List, ℕ, true, false, length};
+ghost use Rattle.std.specs.Prelude.{◌≡◌, ◌<◌, true, false, length};
 ghost use Rattle.mesh_model.specs.Places.{IsEvent};
 ghost use Rattle.mesh_meaning.specs.Events.{event_of};
 ghost use Rattle.mesh_world.specs.Parts.{AreKept, seen_in};
-ghost use Rattle.mesh_world.specs.Steps.{may_need_memory, IsShortOf, changes_link};
+ghost use Rattle.mesh_world.specs.Steps.{may_need_memory};
 
 use crate::parts::Parts;
-use crate::steps::StepError;
-use mesh_base::{Done, Event};
+use mesh_base::Event;
 
 impl Parts {
     /// Whether the event may ask for memory. It is looked at only where memory was short.

@@ -8,7 +8,7 @@ ghost use Rattle.mesh_model.specs.Places.{IsEvent};
 ghost use Rattle.mesh_radio.specs.Radios.{most_copies_at_first};
 ghost use Rattle.mesh_meaning.specs.Packets.{IsWrittenCopy, IsWrittenItem, copy_in};
 ghost use Rattle.mesh_meaning.specs.Events.{event_of};
-ghost use Rattle.mesh_world.specs.Seen.{WorldSeen, opening, IsSoundWorld, node_in, data_of, most_data_at_first};
+ghost use Rattle.mesh_world.specs.Seen.{WorldSeen, IsSoundWorld, node_in, data_of, most_data_at_first};
 ghost use Rattle.mesh_world.specs.Kept.{world_in, seen_of};
 ghost use Rattle.mesh_model.specs.Accounts.{any};
 ghost use Rattle.mesh_world.specs.Steps.{IsStep, IsShortOf, may_need_memory};

@@ -6,14 +6,14 @@ use Rattle.aodv_model.specs.Handlers.{link_broken, retract}
 use Rattle.aodv_model.specs.Soundness.{AreDestsBelow}
 use Rattle.aodv_model.proofs.PlacedTables.{unreachable_by_below}
 use Rattle.aodv_handlers.specs.Shown.{core_of}
-use Rattle.aodv_handlers.proofs.Ready.{ready_after, broken_sound}
+use Rattle.aodv_handlers.proofs.Order.{order_after, broken_sound}
 use Rattle.aodv_handlers.proofs.Unicasts.{break_made, past_full}
 use Rattle.aodv_handlers.proofs.errors.link_broken.Goals as goal
 
 pub retract-requires-clause-below : goal.retract-requires-clause-below
 retract-requires-clause-below g c =
     subst (λ (m : Dests). AreDestsBelow (length c.args.mesh.now) m) (sym c.in-Ok.ensures.1)
-    (unreachable_by_below (length c.args.mesh.now) c.args.core.now.me (g.T.Table.entries c.args.core.now.table) c.args.next c.requires.ready.sound.table.places)
+    (unreachable_by_below (length c.args.mesh.now) c.args.core.now.me (g.T.Table.entries c.args.core.now.table) c.args.next c.requires.order.sound.table.places)
 
 pub returns-in-Ok-clause-does : goal.returns-in-Ok-clause-does
 returns-in-Ok-clause-does g c =
@@ -28,11 +28,11 @@ me : (core : Core) (y : ℕ) → (link_broken core y).core.ip ≡ core.ip
 unfolding link_broken retract
 me core y = refl
 
-pub returns-in-Ok-clause-ready : goal.returns-in-Ok-clause-ready
-returns-in-Ok-clause-ready g c =
+pub returns-in-Ok-clause-order : goal.returns-in-Ok-clause-order
+returns-in-Ok-clause-order g c =
     let core = core_of g.T.Table.entries c.args.core.now in
-    ready_after g.T.Table.nodes g.T.Table.entries (length c.args.mesh.now) c.args.core.now c.retract.new.core (link_broken core c.args.next).core c.requires.ready c.retract.ensures.nodes (ap (λ (a : RoomySeen). length a.rooms) c.retract.ensures.asked) (ap length c.retract.ensures.waiting)
-    (c.retract.ensures.core ∙ after core c.args.next c.dests_via.new.out c.in-Ok.ensures.1) (me core c.args.next) (broken_sound (length c.args.mesh.now) core c.args.next c.requires.ready.sound)
+    order_after g.T.Table.nodes g.T.Table.entries (length c.args.mesh.now) c.args.core.now c.retract.new.core (link_broken core c.args.next).core c.requires.order c.retract.ensures.nodes (ap (λ (a : RoomySeen). length a.rooms) c.retract.ensures.asked) (ap length c.retract.ensures.waiting)
+    (c.retract.ensures.core ∙ after core c.args.next c.dests_via.new.out c.in-Ok.ensures.1) (me core c.args.next) (broken_sound (length c.args.mesh.now) core c.args.next c.requires.order.sound)
 
 pub returns-in-Err-clause-does : goal.returns-in-Err-clause-does
 returns-in-Err-clause-does g c = record {

@@ -11,7 +11,7 @@ use Rattle.aodv_model.proofs.SoundTables.{nhop_below, join_reply_table}
 use Rattle.aodv_table.specs.Calls.{with_entry}
 use Rattle.aodv_handlers.specs.Shown.{core_of, reply_of}
 use Rattle.aodv_handlers.specs.Parts.{pass_on}
-use Rattle.aodv_handlers.proofs.Ready.{ready_table, ready_back}
+use Rattle.aodv_handlers.proofs.Order.{order_table, order_back}
 use Rattle.aodv_handlers.proofs.Restored.{joins_back}
 use Rattle.aodv_handlers.proofs.Requests.{AreFullAlike, made_at, refused_at}
 use Rattle.aodv_handlers.proofs.Replies.{joined_reply, passed_is}
@@ -27,32 +27,32 @@ pub get-kept_onward-requires : goal.get-kept_onward-requires
 get-kept_onward-requires g c =
     let core = c.args.core.now in
     let size = length c.args.mesh.now in
-    let some : 0 < size = let m = c.requires.ready.mine in omega arith in
-    inside size (g.T.Table.nodes core.table) c.next_hop-onward.result (nhop (g.T.Table.entries core.table) c.args.m.dip) c.next_hop-onward.ensures (nhop_below size core.me (g.T.Table.entries core.table) c.args.m.dip some c.requires.ready.sound.table) c.requires.ready.table
+    let some : 0 < size = let m = c.requires.order.mine in omega arith in
+    inside size (g.T.Table.nodes core.table) c.next_hop-onward.result (nhop (g.T.Table.entries core.table) c.args.m.dip) c.next_hop-onward.ensures (nhop_below size core.me (g.T.Table.entries core.table) c.args.m.dip some c.requires.order.sound.table) c.requires.order.table
 
 pub join_precursor-requires-clause-node : goal.join_precursor-requires-clause-node
 join_precursor-requires-clause-node g c =
     let core = c.args.core.now in
     let size = length c.args.mesh.now in
-    let some : 0 < size = let m = c.requires.ready.mine in omega arith in
-    fits size c.next_hop-towards.result (nhop (g.T.Table.entries core.table) c.args.m.oip) c.next_hop-towards.ensures (nhop_below size core.me (g.T.Table.entries core.table) c.args.m.oip some c.requires.ready.sound.table) c.len-few.ensures.is_mesh.few
+    let some : 0 < size = let m = c.requires.order.mine in omega arith in
+    fits size c.next_hop-towards.result (nhop (g.T.Table.entries core.table) c.args.m.oip) c.next_hop-towards.ensures (nhop_below size core.me (g.T.Table.entries core.table) c.args.m.oip some c.requires.order.sound.table) c.len-few.ensures.is_mesh.few
 
 pub join_precursor-requires-2-clause-node : goal.join_precursor-requires-2-clause-node
 join_precursor-requires-2-clause-node g c =
     let core = c.args.core.now in
     let size = length c.args.mesh.now in
-    let some : 0 < size = let m = c.requires.ready.mine in omega arith in
-    fits size c.next_hop-towards.result (nhop (g.T.Table.entries core.table) c.args.m.oip) c.next_hop-towards.ensures (nhop_below size core.me (g.T.Table.entries core.table) c.args.m.oip some c.requires.ready.sound.table) c.len-few.ensures.is_mesh.few
+    let some : 0 < size = let m = c.requires.order.mine in omega arith in
+    fits size c.next_hop-towards.result (nhop (g.T.Table.entries core.table) c.args.m.oip) c.next_hop-towards.ensures (nhop_below size core.me (g.T.Table.entries core.table) c.args.m.oip some c.requires.order.sound.table) c.len-few.ensures.is_mesh.few
 
-pub send_reply-requires-clause-ready : goal.send_reply-requires-clause-ready
-send_reply-requires-clause-ready g c =
+pub send_reply-requires-clause-order : goal.send_reply-requires-clause-order
+send_reply-requires-clause-order g c =
     let core = c.args.core.now in
     let rt = g.T.Table.entries core.table in
     let size = length c.args.mesh.now in
-    let some : 0 < size = let m = c.requires.ready.mine in omega arith in
+    let some : 0 < size = let m = c.requires.order.mine in omega arith in
     let is = joined_reply rt (g.T.Table.entries c.join_precursor.new.table) (g.T.Table.entries c.join_precursor-2.new.table) c.args.m.dip c.args.m.oip c.next_hop-towards.result c.next_hop-onward.result c.next_hop-towards.ensures c.next_hop-onward.ensures c.join_precursor.ensures.entries c.join_precursor-2.ensures.entries in
-    ready_table g.T.Table.nodes g.T.Table.entries size core _ c.requires.ready (c.join_precursor-2.ensures.nodes ∙ c.join_precursor.ensures.nodes) refl refl refl c.requires.ready.sound.own
-    (subst (IsSoundTable size core.me) (sym is) (join_reply_table size core.me rt c.args.m.dip c.args.m.oip some c.requires.ready.sound.table))
+    order_table g.T.Table.nodes g.T.Table.entries size core _ c.requires.order (c.join_precursor-2.ensures.nodes ∙ c.join_precursor.ensures.nodes) refl refl refl c.requires.order.sound.own
+    (subst (IsSoundTable size core.me) (sym is) (join_reply_table size core.me rt c.args.m.dip c.args.m.oip some c.requires.order.sound.table))
 
 -- precursors change no number
 alike : (rt rt2 : Table) (d o : ℕ) → rt2 ≡ join_reply_precursors rt d o → AreFullAlike rt2 rt
@@ -85,9 +85,9 @@ returns-in-Err-clause-does g c =
     (passed_is core c.args.range.now (reply_of c.args.m) rt2 c.next_hop-towards.result is c.next_hop-towards.ensures)
     (λ i. record (c.in-Err.ensures.does.same i) { rt = rows i }) c.in-Err.ensures.does
 
-pub returns-in-Err-clause-ready : goal.returns-in-Err-clause-ready
-returns-in-Err-clause-ready g c =
+pub returns-in-Err-clause-order : goal.returns-in-Err-clause-order
+returns-in-Err-clause-order g c =
     let core = core_of g.T.Table.entries c.args.core.now in
     let rows = back core.rt (g.T.Table.entries c.join_precursor.new.table) (g.T.Table.entries c.join_precursor-2.new.table) (g.T.Table.entries c.put.new.self) (g.T.Table.entries c.put-in-Err.new.self) (g.T.Table.entries c.send_reply.new.core.table) c.args.m.dip c.next_hop-onward.result c.next_hop-towards.result c.get-kept_dip.result c.get-kept_onward.result
     c.join_precursor.ensures.entries c.join_precursor-2.ensures.entries c.get-kept_dip.ensures.value c.get-kept_onward.ensures.value (ap (λ (c : Core). c.rt) c.in-Err.ensures.does.same) c.put.ensures.entries c.put-in-Err.ensures.entries in
-    ready_back g.T.Table.nodes g.T.Table.entries (length c.args.mesh.now) c.args.core.now c.send_reply.new.core _ c.requires.ready c.in-Err.ensures.ready (c.put-in-Err.ensures.nodes ∙ c.put.ensures.nodes) refl refl (λ i. record (c.in-Err.ensures.does.same i) { rt = rows i })
+    order_back g.T.Table.nodes g.T.Table.entries (length c.args.mesh.now) c.args.core.now c.send_reply.new.core _ c.requires.order c.in-Err.ensures.order (c.put-in-Err.ensures.nodes ∙ c.put.ensures.nodes) refl refl (λ i. record (c.in-Err.ensures.does.same i) { rt = rows i })

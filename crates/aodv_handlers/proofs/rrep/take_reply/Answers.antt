@@ -10,7 +10,7 @@ use Rattle.aodv_model.proofs.Readings.{route_above}
 use Rattle.aodv_table.specs.Calls.{with_entry}
 use Rattle.aodv_handlers.specs.Shown.{core_of, reply_of}
 use Rattle.aodv_handlers.specs.Parts.{pass_on}
-use Rattle.aodv_handlers.proofs.Ready.{ready_table, ready_back}
+use Rattle.aodv_handlers.proofs.Order.{order_table, order_back}
 use Rattle.aodv_handlers.proofs.Restored.{updates_back}
 use Rattle.aodv_handlers.proofs.Requests.{asked_table}
 use Rattle.aodv_handlers.proofs.Replies.{ends, ended_made, passed_made, passed_refused, chosen_none, chosen_some}
@@ -32,25 +32,25 @@ returns-in_default-clause-does g c =
     (chosen_none (record core { rt = rt2 }) c.args.range.now _ c.reply_to_pass_on.result (c.reply_to_pass_on.ensures.does c.args.range.now) c.in_default.is) in
     ended_made mesh core c.args.range.now c.args.from m rt2 c.casting.result c.clear.new.self.items end c.casting.ensures c.clear.ensures
 
-pub returns-in_default-clause-ready : goal.returns-in_default-clause-ready
-returns-in_default-clause-ready g c =
+pub returns-in_default-clause-order : goal.returns-in_default-clause-order
+returns-in_default-clause-order g c =
     let core = c.args.core.now in
     let rt = g.T.Table.entries core.table in
     let rt1 = g.T.Table.entries c.note_neighbour.new.table in
     let m = c.args.m.now in
-    ready_table g.T.Table.nodes g.T.Table.entries (length c.args.mesh.now) core _ c.requires.ready (c.update-changed.ensures.nodes ∙ c.note_neighbour.ensures.nodes) refl refl refl c.requires.ready.sound.own
-    (asked_table (length c.args.mesh.now) core.me rt (g.T.Table.entries c.update-changed.new.self) c.args.from c.args.m.now.dip m.dsn m.hops c.requires.from c.requires.other c.requires.says.0 c.requires.says.2 c.requires.ready.sound.table
+    order_table g.T.Table.nodes g.T.Table.entries (length c.args.mesh.now) core _ c.requires.order (c.update-changed.ensures.nodes ∙ c.note_neighbour.ensures.nodes) refl refl refl c.requires.order.sound.own
+    (asked_table (length c.args.mesh.now) core.me rt (g.T.Table.entries c.update-changed.new.self) c.args.from c.args.m.now.dip m.dsn m.hops c.requires.from c.requires.other c.requires.says.0 c.requires.says.2 c.requires.order.sound.table
     (both rt rt1 (g.T.Table.entries c.update-changed.new.self) c.args.from c.args.m.now.dip (neighbour_entry c.args.from) (route_entry m.dsn m.hops c.args.from)
     c.note_neighbour.ensures.entries (c.update-changed.ensures.entries ∙ ap (update rt1 c.args.m.now.dip) c.route_entry.ensures)))
 
-pub pass_on-requires-clause-ready : goal.pass_on-requires-clause-ready
-pass_on-requires-clause-ready g c =
+pub pass_on-requires-clause-order : goal.pass_on-requires-clause-order
+pass_on-requires-clause-order g c =
     let core = c.args.core.now in
     let rt = g.T.Table.entries core.table in
     let rt1 = g.T.Table.entries c.note_neighbour.new.table in
     let m = c.args.m.now in
-    ready_table g.T.Table.nodes g.T.Table.entries (length c.args.mesh.now) core _ c.requires.ready (c.update-changed.ensures.nodes ∙ c.note_neighbour.ensures.nodes) refl refl refl c.requires.ready.sound.own
-    (asked_table (length c.args.mesh.now) core.me rt (g.T.Table.entries c.update-changed.new.self) c.args.from c.args.m.now.dip m.dsn m.hops c.requires.from c.requires.other c.requires.says.0 c.requires.says.2 c.requires.ready.sound.table
+    order_table g.T.Table.nodes g.T.Table.entries (length c.args.mesh.now) core _ c.requires.order (c.update-changed.ensures.nodes ∙ c.note_neighbour.ensures.nodes) refl refl refl c.requires.order.sound.own
+    (asked_table (length c.args.mesh.now) core.me rt (g.T.Table.entries c.update-changed.new.self) c.args.from c.args.m.now.dip m.dsn m.hops c.requires.from c.requires.other c.requires.says.0 c.requires.says.2 c.requires.order.sound.table
     (both rt rt1 (g.T.Table.entries c.update-changed.new.self) c.args.from c.args.m.now.dip (neighbour_entry c.args.from) (route_entry m.dsn m.hops c.args.from)
     c.note_neighbour.ensures.entries (c.update-changed.ensures.entries ∙ ap (update rt1 c.args.m.now.dip) c.route_entry.ensures)))
 
@@ -102,9 +102,9 @@ returns-in-Err-clause-does g c =
     c.note_neighbour.ensures.entries c.update-changed.ensures.entries c.get-kept_from.ensures.value c.get-kept_dip.ensures.value (ap (λ (c : Core). c.rt) c.in-Err.ensures.does.same) c.put.ensures.entries c.put-in-Err.ensures.entries in
     passed_refused core new c.args.range.now c.args.from m rt2 rt4 _ c.in-Err.full end c.in-Err.ensures.does rows
 
-pub returns-in-Err-clause-ready : goal.returns-in-Err-clause-ready
-returns-in-Err-clause-ready g c =
+pub returns-in-Err-clause-order : goal.returns-in-Err-clause-order
+returns-in-Err-clause-order g c =
     let core = core_of g.T.Table.entries c.args.core.now in
     let rows = back core.rt (g.T.Table.entries c.note_neighbour.new.table) (g.T.Table.entries c.update-changed.new.self) (g.T.Table.entries c.put.new.self) (g.T.Table.entries c.put-in-Err.new.self) (g.T.Table.entries c.pass_on.new.core.table) c.args.from c.args.m.now.dip (neighbour_entry c.args.from) c.route_entry.result c.get-kept_from.result c.get-kept_dip.result
     c.note_neighbour.ensures.entries c.update-changed.ensures.entries c.get-kept_from.ensures.value c.get-kept_dip.ensures.value (ap (λ (c : Core). c.rt) c.in-Err.ensures.does.same) c.put.ensures.entries c.put-in-Err.ensures.entries in
-    ready_back g.T.Table.nodes g.T.Table.entries (length c.args.mesh.now) c.args.core.now c.pass_on.new.core _ c.requires.ready c.in-Err.ensures.ready (c.put-in-Err.ensures.nodes ∙ c.put.ensures.nodes) refl refl (λ i. record (c.in-Err.ensures.does.same i) { rt = rows i })
+    order_back g.T.Table.nodes g.T.Table.entries (length c.args.mesh.now) c.args.core.now c.pass_on.new.core _ c.requires.order c.in-Err.ensures.order (c.put-in-Err.ensures.nodes ∙ c.put.ensures.nodes) refl refl (λ i. record (c.in-Err.ensures.does.same i) { rt = rows i })

@@ -10,23 +10,23 @@ use Rattle.aodv_model.proofs.FullNumbers.{number_full_after_answer}
 use Rattle.aodv_model.proofs.SoundTables.{join_answer_table}
 use Rattle.aodv_table.specs.Calls.{with_entry}
 use Rattle.aodv_handlers.specs.Shown.{core_of, request_of}
-use Rattle.aodv_handlers.proofs.Ready.{ready_table, ready_back}
+use Rattle.aodv_handlers.proofs.Order.{order_table, order_back}
 use Rattle.aodv_handlers.proofs.Restored.{joins_back}
 use Rattle.aodv_handlers.proofs.Requests.{AreFullAlike, made_at, refused_at, joined_answer, answer_is}
 use Rattle.aodv_handlers.proofs.rreq.reply_from_table.Goals as goal
 
 pub join_precursor-requires-2-clause-node : goal.join_precursor-requires-2-clause-node
 join_precursor-requires-2-clause-node g c =
-    let placed = c.requires.ready.sound.table.places c.args.m.now.dip c.args.route c.requires.route in
+    let placed = c.requires.order.sound.table.places c.args.m.now.dip c.args.route c.requires.route in
     omega (arith, placed.near, c.len-few.ensures.is_mesh.few)
 
-pub send_reply-requires-clause-ready : goal.send_reply-requires-clause-ready
-send_reply-requires-clause-ready g c =
+pub send_reply-requires-clause-order : goal.send_reply-requires-clause-order
+send_reply-requires-clause-order g c =
     let core = c.args.core.now in
     let rt = g.T.Table.entries core.table in
     let is = joined_answer rt (g.T.Table.entries c.join_precursor.new.table) (g.T.Table.entries c.join_precursor-2.new.table) c.args.m.now.dip c.args.m.now.oip c.args.from c.args.route c.requires.route c.join_precursor.ensures.entries c.join_precursor-2.ensures.entries in
-    ready_table g.T.Table.nodes g.T.Table.entries (length c.args.mesh.now) core _ c.requires.ready (c.join_precursor-2.ensures.nodes ∙ c.join_precursor.ensures.nodes) refl refl refl c.requires.ready.sound.own
-    (subst (IsSoundTable (length c.args.mesh.now) core.me) (sym is) (join_answer_table (length c.args.mesh.now) core.me rt c.args.m.now.dip c.args.m.now.oip c.args.from c.requires.from c.requires.ready.sound.table))
+    order_table g.T.Table.nodes g.T.Table.entries (length c.args.mesh.now) core _ c.requires.order (c.join_precursor-2.ensures.nodes ∙ c.join_precursor.ensures.nodes) refl refl refl c.requires.order.sound.own
+    (subst (IsSoundTable (length c.args.mesh.now) core.me) (sym is) (join_answer_table (length c.args.mesh.now) core.me rt c.args.m.now.dip c.args.m.now.oip c.args.from c.requires.from c.requires.order.sound.table))
 
 -- precursors change no number
 alike : (rt rt2 : Table) (d o from : ℕ) → rt2 ≡ join_answer_precursors rt d o from → AreFullAlike rt2 rt
@@ -59,9 +59,9 @@ returns-in-Err-clause-does g c =
     (answer_is core c.args.range.now c.args.from (request_of c.args.m.now) c.args.route rt2 c.next_hop-towards.result c.requires.route is c.next_hop-towards.ensures)
     (λ i. record (c.in-Err.ensures.does.same i) { rt = rows i }) c.in-Err.ensures.does
 
-pub returns-in-Err-clause-ready : goal.returns-in-Err-clause-ready
-returns-in-Err-clause-ready g c =
+pub returns-in-Err-clause-order : goal.returns-in-Err-clause-order
+returns-in-Err-clause-order g c =
     let core = core_of g.T.Table.entries c.args.core.now in
     let rows = back core.rt (g.T.Table.entries c.join_precursor.new.table) (g.T.Table.entries c.join_precursor-2.new.table) (g.T.Table.entries c.put.new.self) (g.T.Table.entries c.put-in-Err.new.self) (g.T.Table.entries c.send_reply.new.core.table) c.args.m.now.dip c.args.m.now.oip c.args.from c.args.route c.get-kept_oip.result
     c.requires.route c.join_precursor.ensures.entries c.join_precursor-2.ensures.entries c.get-kept_oip.ensures.value (ap (λ (c : Core). c.rt) c.in-Err.ensures.does.same) c.put.ensures.entries c.put-in-Err.ensures.entries in
-    ready_back g.T.Table.nodes g.T.Table.entries (length c.args.mesh.now) c.args.core.now c.send_reply.new.core _ c.requires.ready c.in-Err.ensures.ready (c.put-in-Err.ensures.nodes ∙ c.put.ensures.nodes) refl refl (λ i. record (c.in-Err.ensures.does.same i) { rt = rows i })
+    order_back g.T.Table.nodes g.T.Table.entries (length c.args.mesh.now) c.args.core.now c.send_reply.new.core _ c.requires.order c.in-Err.ensures.order (c.put-in-Err.ensures.nodes ∙ c.put.ensures.nodes) refl refl (λ i. record (c.in-Err.ensures.does.same i) { rt = rows i })

@@ -1,7 +1,7 @@
 use Rattle.std.proofs.Common.{ℕ, refl, sym, ap, subst, ◌∙◌, drop, Some}
 use Rattle.std.specs.Prelude.{length, option_copied}
 use Rattle.mesh_base.specs.declared.events.Item.TheVariants as item
-use Rattle.aodv_handlers.specs.Shown.{core_of, IsReady}
+use Rattle.aodv_handlers.specs.Shown.{core_of, IsInOrder}
 use Rattle.aodv_node.specs.Seen.{IsItemAt}
 use Rattle.aodv_node.proofs.Fronts.{front_of, none_of, first_has}
 use Rattle.aodv_node.proofs.Taken.{datum_taken, stopped, stopped_short, no_memory, short_of, seen_same}
@@ -12,7 +12,7 @@ returns-in_default-clause-turn g c = (none_of c.args.inbox.now.items (option_cop
 
 pub make_store-requires-clause-below : goal.make_store-requires-clause-below
 make_store-requires-clause-below g c =
-    rw c.requires.ready.table
+    rw c.requires.order.table
     (first_has (IsItemAt (length c.args.mesh.now) c.args.core.now.me) c.args.inbox.now.items (item.New c.in-New.dest c.in-New.body) (option_copied c.front.result) c.requires.each c.front.ensures.front (ap option_copied c.in-Some.is ∙ ap Some c.in-New.is)).0
 
 pub handle-requires-clause-from : goal.handle-requires-clause-from
@@ -34,7 +34,7 @@ returns-in-Some-New-clause-turn g c =
       took = did.took;
       made = did.made;
       room = c.pop.ensures.keeps;
-      size = (c.new_packet-own.ensures.ready (g.T.Table.nodes c.args.core.now.table) c.make_store.ensures.ready).table;
+      size = (c.new_packet-own.ensures.order (g.T.Table.nodes c.args.core.now.table) c.make_store.ensures.order).table;
     }
 
 pub returns-in-Err-Full-clause-turn : goal.returns-in-Err-Full-clause-turn
@@ -48,12 +48,12 @@ returns-in-Err-Full-clause-turn g c =
         readable = full.0;
         full = full.1.overfull;
       },
-      seen_same g.T.Table.nodes g.T.Table.entries c.handle.new.core c.args.core.now c.args.inbox.now full.1.same (c.handle.ensures.ready.table ∙ sym c.requires.ready.table),
+      seen_same g.T.Table.nodes g.T.Table.entries c.handle.new.core c.args.core.now c.args.inbox.now full.1.same (c.handle.ensures.order.table ∙ sym c.requires.order.table),
     )
 
-pub returns-in-Some-New-clause-ready : goal.returns-in-Some-New-clause-ready
-returns-in-Some-New-clause-ready g c =
-    c.new_packet-own.ensures.ready (length c.args.mesh.now) (subst (λ (n : ℕ). IsReady g.T.Table.nodes g.T.Table.entries n c.make_store.new.core) c.requires.ready.table c.make_store.ensures.ready)
+pub returns-in-Some-New-clause-order : goal.returns-in-Some-New-clause-order
+returns-in-Some-New-clause-order g c =
+    c.new_packet-own.ensures.order (length c.args.mesh.now) (subst (λ (n : ℕ). IsInOrder g.T.Table.nodes g.T.Table.entries n c.make_store.new.core) c.requires.order.table c.make_store.ensures.order)
 
 pub returns-in_err-make_store-in-New-clause-turn : goal.returns-in_err-make_store-in-New-clause-turn
 returns-in_err-make_store-in-New-clause-turn g c =
@@ -74,5 +74,5 @@ returns-in-Err-NoMemory-clause-turn g c =
         readable = short.0;
         needs = short.1;
       },
-      seen_same g.T.Table.nodes g.T.Table.entries c.handle.new.core c.args.core.now c.args.inbox.now short.2 (c.handle.ensures.ready.table ∙ sym c.requires.ready.table),
+      seen_same g.T.Table.nodes g.T.Table.entries c.handle.new.core c.args.core.now c.args.inbox.now short.2 (c.handle.ensures.order.table ∙ sym c.requires.order.table),
     )

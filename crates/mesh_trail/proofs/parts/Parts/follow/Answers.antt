@@ -5,10 +5,10 @@ use Rattle.mesh_model.specs.Worlds as model
 use Rattle.mesh_meaning.specs.Events.{event_of}
 use Rattle.mesh_world.specs.declared.steps.StepError.{StepError}
 use Rattle.mesh_trail.specs.Steps.{MovesNothing}
-use Rattle.mesh_trail.specs.Ready.{IsAnsweredIn}
+use Rattle.mesh_trail.specs.Preparations.{IsAnsweredIn}
 use Rattle.mesh_trail.proofs.Moves.{fills}
 use Rattle.mesh_trail.proofs.Nodes.{passed}
-use Rattle.mesh_trail.proofs.Readiness.{done_so}
+use Rattle.mesh_trail.proofs.Prepared.{done_so}
 use Rattle.mesh_trail.proofs.parts.Parts.follow.Goals as goal
 
 pub returns-in_default-clause-number : goal.returns-in_default-clause-number

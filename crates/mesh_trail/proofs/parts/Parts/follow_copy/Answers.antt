@@ -16,7 +16,7 @@ push_list-requires-clause-node c =
     let old = c.requires.2.0 in
     let a = c.requires.2.1 in
     let k = heard_flew c.requires.0 old p.world c.args.done.now c.requires.1 a.step (sym c.if-not-is_heard.ensures) in
-    subst (λ (to : ℕ). to < length p.nodes.items) (sym (a.ready k.0 k.1).receiver) (is_there old p.nodes.items p.casts.items k.0.to a.kept (receiver_below old c.requires.0 k.0 a.kept.sound k.1))
+    subst (λ (to : ℕ). to < length p.nodes.items) (sym (a.prepared k.0 k.1).receiver) (is_there old p.nodes.items p.casts.items k.0.to a.kept (receiver_below old c.requires.0 k.0 a.kept.sound k.1))
 
 pub push_list-requires-clause-room : goal.push_list-requires-clause-room
 push_list-requires-clause-room c =
@@ -24,7 +24,7 @@ push_list-requires-clause-room c =
     let old = c.requires.2.0 in
     let a = c.requires.2.1 in
     let k = heard_flew c.requires.0 old p.world c.args.done.now c.requires.1 a.step (sym c.if-not-is_heard.ensures) in
-    let r = a.ready k.0 k.1 in
+    let r = a.prepared k.0 k.1 in
     subst (λ (to : ℕ). HasPlace to p.nodes.items) (sym r.receiver) r.place
 
 pub returns-clause-kept : goal.returns-clause-kept
@@ -33,7 +33,7 @@ returns-clause-kept c =
     let old = c.requires.2.0 in
     let a = c.requires.2.1 in
     let k = heard_flew c.requires.0 old p.world c.args.done.now c.requires.1 a.step (sym c.if-not-is_heard.ensures) in
-    let r = a.ready k.0 k.1 in
+    let r = a.prepared k.0 k.1 in
     let list = c.replace-list.result in
     heard c.requires.0 k.0 old p.world c.args.done.now c.requires.1 p.nodes.items c.push_list.new.nodes.items p.casts.items list a.sound a.step (sym c.if-not-is_heard.ensures) k.1 (c.replace-list.ensures.value ∙ r.list)
     (subst (λ (to : ℕ). IsPushed to list p.nodes.items c.push_list.new.nodes.items) r.receiver c.push_list.ensures) a.kept

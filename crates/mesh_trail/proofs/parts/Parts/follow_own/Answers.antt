@@ -6,7 +6,7 @@ use Rattle.mesh_trail.specs.Steps.{sent_after}
 use Rattle.mesh_trail.specs.declared.casts.Cast.{Cast}
 use Rattle.mesh_trail.specs.declared.heard.Front.TheVariants as fronts
 use Rattle.mesh_trail.proofs.Moves.{after_done}
-use Rattle.mesh_trail.proofs.Readiness.{own_ready}
+use Rattle.mesh_trail.proofs.Prepared.{own_prepared}
 use Rattle.mesh_trail.proofs.Sends.{own_none, own_sent}
 use Rattle.mesh_trail.proofs.parts.Parts.follow_own.Goals as goal
 
@@ -19,7 +19,7 @@ returns-then-first-end-clause-kept c =
     let old = c.requires.3.0 in
     let a = c.requires.3.1 in
     let out = c.args.out.now.items in
-    let first : p.hand.first ≡ old.world.next_copy = (own_ready c.args.x e old p own a.ready).cast.first in
+    let first : p.hand.first ≡ old.world.next_copy = (own_prepared c.args.x e old p own a.prepared).cast.first in
     let end : c.next_id-end.result ≡ p.world.world.next_copy = c.next_id-end.ensures ∙ c.radio.ensures.next in
     let less : old.world.next_copy < p.world.world.next_copy = let test = c.if-first-end.true in omega arith in
     let mesh : p.world.mesh ≡ old.mesh = (after_done e old p.world did out a.step).mesh in
@@ -35,7 +35,7 @@ returns-else-first-end-clause-kept c =
     let own = c.requires.2 in
     let old = c.requires.3.0 in
     let a = c.requires.3.1 in
-    let first : p.hand.first ≡ old.world.next_copy = (own_ready c.args.x e old p own a.ready).cast.first in
+    let first : p.hand.first ≡ old.world.next_copy = (own_prepared c.args.x e old p own a.prepared).cast.first in
     let end : c.next_id-end.result ≡ p.world.world.next_copy = c.next_id-end.ensures ∙ c.radio.ensures.next in
     let less : p.world.world.next_copy ≤ old.world.next_copy = let test = c.if-first-end.false in omega arith in
     own_none c.args.x e old p.world c.requires.1 c.args.out.now.items p.nodes.items p.casts.items own a.sound a.step less a.kept

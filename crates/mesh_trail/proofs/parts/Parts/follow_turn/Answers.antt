@@ -5,7 +5,7 @@ use Rattle.mesh_model.specs.Walks.{table}
 use Rattle.mesh_model.specs.Worlds.{Turn}
 use Rattle.mesh_trail.specs.Said.{said_of}
 use Rattle.mesh_trail.specs.Heard.{IsFrontIn, front_of}
-use Rattle.mesh_trail.specs.Steps.{IsReady, front_list, sent_after}
+use Rattle.mesh_trail.specs.Steps.{IsPrepared, front_list, sent_after}
 use Rattle.mesh_trail.specs.declared.casts.Cast.{Cast}
 use Rattle.mesh_trail.specs.declared.heard.Front.{Front}
 use Rattle.mesh_trail.proofs.Moves.{after_done}
@@ -23,14 +23,14 @@ returns-then-first-end-clause-kept c =
     let out = c.args.out.now.items in
     let old = c.requires.0 in
     let a = c.requires.1 in
-    let r = a.ready in
+    let r = a.prepared in
     let n = c.index_mut-lists.result.now in
     let at = node_at p.nodes.items old p.casts.items x n a.kept r.node c.index_mut-lists.ensures.value in
     let front = p.hand.front in
     let waits : front ≡ front_of (slice_get old.world.nodes x) = r.waits in
     let now = c.take_front.new.lists in
-    let ready = subst (λ (f : Front). IsReady x f n.entries.items (front_list n.queue.items) p.hand) (sym waits) (r.lists n at) in
-    let took : Took x (table p.world.world x) front p.hand n now = record { ready = ready; queue = c.take_front.ensures.queue; rows = c.take_front.ensures.rows } in
+    let prepared = subst (λ (f : Front). IsPrepared x f n.entries.items (front_list n.queue.items) p.hand) (sym waits) (r.lists n at) in
+    let took : Took x (table p.world.world x) front p.hand n now = record { prepared = prepared; queue = c.take_front.ensures.queue; rows = c.take_front.ensures.rows } in
     let inside = subst (IsFrontIn (length old.mesh)) (sym waits) r.inside in
     let t : Turned x old p.world d out p.nodes.items p.casts.items front n now = turned x old p.world d out p.nodes.items p.casts.items n now p.hand front a.kept r.node at a.step (sym c.if-is_idle.ensures) waits inside took in
     let first : p.hand.first ≡ old.world.next_copy = r.cast.first in
@@ -51,14 +51,14 @@ returns-else-first-end-clause-kept c =
     let out = c.args.out.now.items in
     let old = c.requires.0 in
     let a = c.requires.1 in
-    let r = a.ready in
+    let r = a.prepared in
     let n = c.index_mut-lists.result.now in
     let at = node_at p.nodes.items old p.casts.items x n a.kept r.node c.index_mut-lists.ensures.value in
     let front = p.hand.front in
     let waits : front ≡ front_of (slice_get old.world.nodes x) = r.waits in
     let now = c.take_front.new.lists in
-    let ready = subst (λ (f : Front). IsReady x f n.entries.items (front_list n.queue.items) p.hand) (sym waits) (r.lists n at) in
-    let took : Took x (table p.world.world x) front p.hand n now = record { ready = ready; queue = c.take_front.ensures.queue; rows = c.take_front.ensures.rows } in
+    let prepared = subst (λ (f : Front). IsPrepared x f n.entries.items (front_list n.queue.items) p.hand) (sym waits) (r.lists n at) in
+    let took : Took x (table p.world.world x) front p.hand n now = record { prepared = prepared; queue = c.take_front.ensures.queue; rows = c.take_front.ensures.rows } in
     let inside = subst (IsFrontIn (length old.mesh)) (sym waits) r.inside in
     let t : Turned x old p.world d out p.nodes.items p.casts.items front n now = turned x old p.world d out p.nodes.items p.casts.items n now p.hand front a.kept r.node at a.step (sym c.if-is_idle.ensures) waits inside took in
     let first : p.hand.first ≡ old.world.next_copy = r.cast.first in

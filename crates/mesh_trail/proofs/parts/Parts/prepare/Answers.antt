@@ -3,7 +3,7 @@ use Rattle.mesh_model.specs.Places.{IsEvent}
 use Rattle.mesh_model.specs.Worlds as model
 use Rattle.mesh_meaning.specs.Events.{event_of}
 use Rattle.mesh_trail.proofs.Arrivals.{roomed_so}
-use Rattle.mesh_trail.proofs.parts.Parts.ready.Goals as goal
+use Rattle.mesh_trail.proofs.parts.Parts.prepare.Goals as goal
 
 pub returns-in-Give-clause-kept : goal.returns-in-Give-clause-kept
 returns-in-Give-clause-kept c =

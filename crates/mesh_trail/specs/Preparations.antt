@@ -1,4 +1,4 @@
--- What is made ready for an event before the world does it, and what the world has answered.
+-- What is prepared for an event before the world does it, and what the world has answered.
 use Rattle.std.specs.Prelude.{◌≡◌, ◌<◌, ℕ, Some, List, length, slice_get, Result, Ok, ⊤}
 use Rattle.std.specs.Vec.{vec_len, vec_capacity}
 use Rattle.mesh_base.specs.declared.events.Done.{Done}
@@ -12,56 +12,56 @@ use Rattle.mesh_trail.specs.declared.lists.NodeLists.{NodeLists}
 use Rattle.mesh_trail.specs.declared.parts.Parts.{Parts}
 use Rattle.mesh_trail.specs.Heard.{IsFrontIn, front_of}
 use Rattle.mesh_trail.specs.Lists.{HasPlace}
-use Rattle.mesh_trail.specs.Steps.{IsReady, KnowsNear, front_list}
+use Rattle.mesh_trail.specs.Steps.{IsPrepared, KnowsNear, front_list}
 use Rattle.mesh_trail.specs.Casts.{list_of}
 use Rattle.mesh_trail.specs.Trails.{AreWalks}
 
 -- there is room for one more cast, and the id of its first copy is at hand
-pub record IsCastReady (w : WorldSeen) (p : Parts) : Type 0 where
+pub record IsCastPrepared (w : WorldSeen) (p : Parts) : Type 0 where
   pub room : vec_len p.casts < vec_capacity p.casts
   pub first : (p.hand).first ≡ (w.world).next_copy
 
 -- what node x may keep and cast is at hand, with this at the front of its queue
-pub record IsNodeReady (x : ℕ) (front : Front) (w : WorldSeen) (p : Parts) : Type 0 where
+pub record IsNodePrepared (x : ℕ) (front : Front) (w : WorldSeen) (p : Parts) : Type 0 where
   pub node : x < length w.mesh
   pub inside : IsFrontIn (length w.mesh) front
   pub waits : (p.hand).front ≡ front
   pub lists : (n : NodeLists) → slice_get (p.nodes).items x ≡ Some n
-      → IsReady x front (n.entries).items (front_list (n.queue).items) p.hand
+      → IsPrepared x front (n.entries).items (front_list (n.queue).items) p.hand
   pub known : (n : NodeLists) → slice_get (p.nodes).items x ≡ Some n
       → KnowsNear front p.hand (n.entries).items
-  pub cast : IsCastReady w p
+  pub cast : IsCastPrepared w p
 
 -- the list of a copy is at hand, and room for it beside the queue of its receiver
-pub record IsCopyReady (id to : ℕ) (p : Parts) : Type 0 where
+pub record IsCopyPrepared (id to : ℕ) (p : Parts) : Type 0 where
   pub receiver : (p.hand).to ≡ to
   pub list : (p.hand).taken ≡ list_of (p.casts).items id
   pub place : HasPlace to (p.nodes).items
 
 -- the list of a second copy is at hand
-pub record IsDoublingReady (id : ℕ) (w : WorldSeen) (p : Parts) : Type 0 where
+pub record IsDoublingPrepared (id : ℕ) (w : WorldSeen) (p : Parts) : Type 0 where
   pub list : (p.hand).taken ≡ list_of (p.casts).items id
-  pub cast : IsCastReady w p
+  pub cast : IsCastPrepared w p
 
--- the parts are ready for the event in this world
-abbrev pub IsReadyFor : model.Event → WorldSeen → Parts → Type 0
-IsReadyFor (model.Give x d b) w p = (x < length w.mesh) × HasPlace x (p.nodes).items
-IsReadyFor (model.Turn x) w p = IsNodeReady x (front_of (slice_get (w.world).nodes x)) w p
-IsReadyFor (model.Send x d) w p = IsNodeReady x fronts.New w p
-IsReadyFor (model.Ask x d) w p = IsNodeReady x fronts.New w p
-IsReadyFor (model.Deliver id) w p =
-    (c : model.Copy) → model.find_copy (w.world).flying id ≡ Some c → IsCopyReady id c.to p
-IsReadyFor (model.Double id) w p = IsDoublingReady id w p
-IsReadyFor others w p = ⊤
+-- the parts are prepared for the event in this world
+abbrev pub IsPreparedFor : model.Event → WorldSeen → Parts → Type 0
+IsPreparedFor (model.Give x d b) w p = (x < length w.mesh) × HasPlace x (p.nodes).items
+IsPreparedFor (model.Turn x) w p = IsNodePrepared x (front_of (slice_get (w.world).nodes x)) w p
+IsPreparedFor (model.Send x d) w p = IsNodePrepared x fronts.New w p
+IsPreparedFor (model.Ask x d) w p = IsNodePrepared x fronts.New w p
+IsPreparedFor (model.Deliver id) w p =
+    (c : model.Copy) → model.find_copy (w.world).flying id ≡ Some c → IsCopyPrepared id c.to p
+IsPreparedFor (model.Double id) w p = IsDoublingPrepared id w p
+IsPreparedFor others w p = ⊤
 
 -- the world of the parts has answered to the event; their lists are still those of the world before
--- it, and ready
+-- it, and prepared
 pub record IsAnsweredIn (e : model.Event) (old : WorldSeen) (p : Parts)
     (answer : Result Done StepError) (packet : List ℕ) : Type 0 where
   pub step : IsStep e old answer p.world packet
   pub sound : IsSoundWorld p.world
   pub kept : AreWalks old (p.nodes).items (p.casts).items
-  pub ready : IsReadyFor e old p
+  pub prepared : IsPreparedFor e old p
 
 -- so it has done the event, or found that it wasn't enabled
 abbrev pub HasDone : model.Event → Parts → Done → List ℕ → Type 0

@@ -7,10 +7,10 @@ use Rattle.mesh_trail.specs.Casts.{list_of}
 use Rattle.mesh_trail.specs.Lists.{HasPlace}
 use Rattle.mesh_trail.proofs.Arrivals.{found_at, none_at, receiver_below, roomed_so}
 use Rattle.mesh_trail.proofs.Nodes.{is_there}
-use Rattle.mesh_trail.proofs.parts.Parts.ready_copy.Goals as goal
+use Rattle.mesh_trail.proofs.parts.Parts.prepare_copy.Goals as goal
 
-pub returns-in_default-clause-ready : goal.returns-in_default-clause-ready
-returns-in_default-clause-ready c = λ k is. absurd (none-some k (sym (none_at c.args.self.now.world c.radio.result.now.flying c.args.id c.radio.ensures.flying c.in_default.ensures) ∙ is))
+pub returns-in_default-clause-prepared : goal.returns-in_default-clause-prepared
+returns-in_default-clause-prepared c = λ k is. absurd (none-some k (sym (none_at c.args.self.now.world c.radio.result.now.flying c.args.id c.radio.ensures.flying c.in_default.ensures) ∙ is))
 
 pub make_place-requires : goal.make_place-requires
 make_place-requires c =
@@ -33,8 +33,8 @@ returns-clause-kept c =
     let below = receiver_below old.world c.args.id (copy_in old.world.mesh (flying_seen c.in-Some.copy)) c.requires.kept.sound found in
     roomed_so old.world old.nodes.items c.make_place.new.nodes.items old.casts.items c.in-Some.copy.to c.requires.kept below c.make_place.ensures.same
 
-pub returns-clause-ready : goal.returns-clause-ready
-returns-clause-ready c = λ k is.
+pub returns-clause-prepared : goal.returns-clause-prepared
+returns-clause-prepared c = λ k is.
     let old = c.args.self.now in
     let found = found_at old.world c.radio.result.now.flying c.args.id (flying_seen c.in-Some.copy) c.radio.ensures.flying c.in-Some.ensures in
     let same = same_Some (copy_in old.world.mesh (flying_seen c.in-Some.copy)) k (sym found ∙ is) in
