@@ -7,6 +7,7 @@
 
 #[cfg(test)]
 mod fault_tests;
+mod schedule;
 #[cfg(test)]
 mod tests;
 mod top;

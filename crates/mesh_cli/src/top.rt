@@ -5,12 +5,12 @@ ghost use Rattle.mesh_run.specs.Causes.{HasStatusCause, HasSourceCause};
 ghost use Rattle.mesh_cli.specs.Words.{command_of, IsAllowed, IsPlan};
 ghost use Rattle.mesh_cli.specs.Does.{IsCommandRun, IsWritten, Completes, IsReadBy, reads, made_by};
 
+use crate::schedule::run_schedule;
 use crate::trial::trial;
 use crate::words::{Command, Plan, command_of};
 use mesh_io::{Sink, Source};
 use mesh_make::make;
-use mesh_run::{Status, run};
-use mesh_world::World;
+use mesh_run::Status;
 use std::alloc::Global;
 
 // Writes a made schedule. It stands apart, so that no other command pays for its frame.
@@ -44,7 +44,7 @@ fn do_command<I: Source, O: Sink>(
     ensures words { result ≢ Status.Usage }
 {
     match command {
-        Command::Run { variant, quiet } => run::<World, I, O>(alloc, quiet, variant, input, out),
+        Command::Run { variant, quiet } => run_schedule(alloc, quiet, variant, input, out),
         Command::Make(plan) => make_schedule(plan, out),
         Command::Trial { variant, plan } => trial(alloc, variant, plan, out),
     }

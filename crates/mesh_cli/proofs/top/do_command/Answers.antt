@@ -3,7 +3,7 @@ use Rattle.mesh_run.proofs.Faults.{source_apart}
 use Rattle.mesh_cli.proofs.top.do_command.Goals as goal
 
 pub returns-in-Run-clause-told : goal.returns-in-Run-clause-told
-returns-in-Run-clause-told g c = rw c.in-Run.is (runs_so c.in-Run.variant c.in-Run.quiet _ _ _ _ c.run.result c.run.ensures.told)
+returns-in-Run-clause-told g c = rw c.in-Run.is (runs_so c.in-Run.variant c.in-Run.quiet _ _ _ _ c.run_schedule.result c.run_schedule.ensures.told)
 
 pub returns-in-Trial-clause-told : goal.returns-in-Trial-clause-told
 returns-in-Trial-clause-told g c = rw c.in-Trial.is (trial_so c.in-Trial.variant c.in-Trial.plan (g.I.Source.left c.args.input.now) (g.I.Source.left c.args.input.now) _ _ c.trial.result c.trial.ensures.told)

@@ -1,0 +1,37 @@
+//! The run of a schedule that is read.
+ghost use Rattle.std.specs.Prelude.{◌≡◌, ◌≢◌, IfSome};
+ghost use Rattle.std.specs.Io.KnownBytes.{IsAtEnd};
+ghost use Rattle.mesh_text.specs.Schedule.{opening};
+ghost use Rattle.mesh_run.specs.Causes.{HasStatusCause, HasSourceCause};
+ghost use Rattle.mesh_run.specs.Outputs.{say_by, IsOutputFrom};
+
+use mesh_base::Variant;
+use mesh_io::{Sink, Source};
+use mesh_run::{Point, Say, Status, do_input};
+use mesh_world::World;
+use std::alloc::Global;
+use std::mem;
+
+/// Runs the schedule that the source gives, where all nodes run this variant of the protocol, and
+/// writes its text, or the last line alone where it is quiet.
+#[inline(never)]
+pub fn run_schedule<I: Source, O: Sink>(
+    alloc: Global,
+    quiet: bool,
+    variant: Variant,
+    input: &mut I,
+    out: &mut O,
+) -> Status
+    ensures told { IfSome (I.left input.old) (λ bytes. IsOutputFrom (say_by quiet)
+        (opening variant) bytes (I.left input.new) (O.held out.old) (O.held out.new) result) }
+    ensures end { result ≡ Status.Done → IsAtEnd (I.left input.new) }
+    ensures read { HasSourceCause (I.faults input.old) (I.faults input.new) result }
+    ensures write { HasStatusCause Status.WriteFault (O.faults out.old) (O.faults out.new) result }
+    ensures words { result ≢ Status.Usage }
+{
+    let mut at: Point<World> = Point::with(variant);
+    let status = do_input(alloc, &mut at, Say::by(quiet), input, out);
+    // The process ends with its run, and its memory goes back as a whole.
+    mem::forget(at);
+    status
+}
