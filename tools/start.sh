@@ -4,9 +4,10 @@
 
 : "${top:?}"
 
-# The kit that the proofs are written for.
-# shellcheck disable=SC2034 # ./build and ./mesh read it
-kit=rattle-kit-13f
+# The kit that the proofs were last made with, and the sum of its logic: another kit with the same sum, the
+# word behind `logic` of `rt version`, proves the same.
+# shellcheck disable=SC2034 # ./build reads them
+kit=rattle-kit-13f logic=dac8208d650f15bf
 
 # --- Which program is made of the files as they stand now.
 #
