@@ -11,8 +11,6 @@ mod laws;
 mod lines;
 mod reading;
 mod status;
-#[cfg(test)]
-mod tests;
 mod top;
 mod words;
 

@@ -9,8 +9,6 @@ mod laws;
 mod lines;
 mod reading;
 mod status;
-#[cfg(test)]
-mod tests;
 mod top;
 
 use mesh_io::{StdSink, StdSource};

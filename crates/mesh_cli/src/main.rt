@@ -5,11 +5,7 @@
 //! status of the answer.
 #![tactic(auto)]
 
-#[cfg(test)]
-mod fault_tests;
 mod schedule;
-#[cfg(test)]
-mod tests;
 mod top;
 mod trial;
 mod words;

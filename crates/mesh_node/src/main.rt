@@ -5,8 +5,6 @@
 //! the answer.
 #![tactic(auto)]
 
-#[cfg(test)]
-mod tests;
 mod top;
 mod words;
 
