@@ -26,7 +26,11 @@ mod report;
 #[cfg(test)]
 mod restore;
 #[cfg(test)]
+mod router_faults;
+#[cfg(test)]
 mod run;
+#[cfg(test)]
+mod run_faults;
 #[cfg(test)]
 mod script;
 #[cfg(test)]
