@@ -4,7 +4,7 @@ ghost use Rattle.std.specs.Prelude.{◌≡◌, ◌↔◌, IsTrue};
 use mesh_base::NodeSet;
 
 /// Whether a destination's sequence number is known.
-#[derive(Clone, Copy, Debug, PartialEq, Eq)]
+#[derive(Clone, Copy, PartialEq, Eq)]
 pub enum Known {
     /// The number came with a request or a reply.
     Kno,
@@ -13,7 +13,7 @@ pub enum Known {
 }
 
 /// Whether an entry may be used to forward.
-#[derive(Clone, Copy, Debug, PartialEq, Eq)]
+#[derive(Clone, Copy, PartialEq, Eq)]
 pub enum Flag {
     /// The entry may be used.
     Val,
