@@ -1,7 +1,7 @@
 //! The commands of a schedule.
 
 /// The first word of a line.
-#[derive(Clone, Copy, Debug, PartialEq, Eq)]
+#[derive(Clone, Copy, PartialEq, Eq)]
 pub enum Command {
     Node,
     Link,

@@ -35,7 +35,7 @@ pub enum LineFault {
 }
 
 /// Why a run ends at a line: its fault, or a limit that it goes past.
-#[derive(Clone, Copy, Debug, PartialEq, Eq)]
+#[derive(Clone, Copy, PartialEq, Eq)]
 pub enum BadWhy {
     Fault(LineFault),
     /// The line has a 601st byte.

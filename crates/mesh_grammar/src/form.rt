@@ -1,7 +1,7 @@
 //! What may stand after a command.
 
 /// The form of a command's arguments.
-#[derive(Clone, Copy, Debug, PartialEq, Eq)]
+#[derive(Clone, Copy, PartialEq, Eq)]
 pub enum Form {
     /// Nothing.
     Bare,
