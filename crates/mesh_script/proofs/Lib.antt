@@ -1,3 +1,5 @@
 pub mod Cuts
 pub mod Allowed
 pub mod UsualLines
+-- SameBytes: whether two lists of bytes are equal.
+pub mod SameBytes

@@ -10,7 +10,7 @@ use mesh_grammar::{Form, LineFault};
 
 /// The arguments of a command, in which an `A` stands for each address: a mention where a line is
 /// read, a node's index once it is allowed, and the address itself where a line is written.
-#[derive(Clone, Copy)]
+#[derive(Drop)]
 pub enum Arguments<'a, A> {
     NoArgument,
     OneAddress(A),

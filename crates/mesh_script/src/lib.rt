@@ -16,4 +16,4 @@ pub use line::Line;
 pub use mesh_grammar::{Command, LineFault, Span};
 pub use parse::{parse_line, placed};
 pub use print::{LONGEST_WRITTEN, print_line, push_event, push_line, push_written};
-pub use words::{Mention, is_blank, next_at, span_at};
+pub use words::{Mention, is_blank, is_word, next_at, span_at};

@@ -5,12 +5,12 @@ ghost use Rattle.mesh_grammar.specs.Scripts.{row_in};
 ghost use Rattle.mesh_script.specs.Shapes.{row_with, seen_shape};
 
 use crate::forms::{Arguments, arguments_of};
-use crate::words::{Mention, is_blank, next_at, span_at};
+use crate::words::{Mention, is_blank, is_word, next_at, span_at};
 use mesh_base::{MOST_EVENTS, cut};
 use mesh_grammar::{Command, Form, LineFault};
 
 /// A command with its arguments.
-#[derive(Clone, Copy)]
+#[derive(Drop)]
 pub struct Shape<'a> {
     pub command: Command,
     pub arguments: Arguments<'a, Mention>,
@@ -36,20 +36,20 @@ fn row_of(word: &[u8]) -> Option<Row>
     ensures none { IfNone result (row_in commands.schedule word.now ≡ None) }
 {
     match word {
-        b"node" => found(Command::Node, Form::Numbered),
-        b"link" => found(Command::Link, Form::Addresses),
-        b"cut" => found(Command::Cut, Form::Addresses),
-        b"data" => found(Command::Data, Form::Text),
-        b"turn" => found(Command::Turn, Form::Address),
-        b"send" => found(Command::Send, Form::Addresses),
-        b"ask" => found(Command::Ask, Form::Addresses),
-        b"deliver" => found(Command::Deliver, Form::Number { most: u64::MAX }),
-        b"lose" => found(Command::Lose, Form::Number { most: u64::MAX }),
-        b"copy" => found(Command::Copy, Form::Number { most: u64::MAX }),
-        b"auto" => found(Command::Auto, Form::Number { most: MOST_EVENTS }),
-        b"show" => found(Command::Show, Form::Address),
-        b"route" => found(Command::Route, Form::Addresses),
-        b"flight" => found(Command::Flight, Form::Bare),
+        _ if is_word(word, b"node") => found(Command::Node, Form::Numbered),
+        _ if is_word(word, b"link") => found(Command::Link, Form::Addresses),
+        _ if is_word(word, b"cut") => found(Command::Cut, Form::Addresses),
+        _ if is_word(word, b"data") => found(Command::Data, Form::Text),
+        _ if is_word(word, b"turn") => found(Command::Turn, Form::Address),
+        _ if is_word(word, b"send") => found(Command::Send, Form::Addresses),
+        _ if is_word(word, b"ask") => found(Command::Ask, Form::Addresses),
+        _ if is_word(word, b"deliver") => found(Command::Deliver, Form::Number { most: u64::MAX }),
+        _ if is_word(word, b"lose") => found(Command::Lose, Form::Number { most: u64::MAX }),
+        _ if is_word(word, b"copy") => found(Command::Copy, Form::Number { most: u64::MAX }),
+        _ if is_word(word, b"auto") => found(Command::Auto, Form::Number { most: MOST_EVENTS }),
+        _ if is_word(word, b"show") => found(Command::Show, Form::Address),
+        _ if is_word(word, b"route") => found(Command::Route, Form::Addresses),
+        _ if is_word(word, b"flight") => found(Command::Flight, Form::Bare),
         _ => None,
     }
 }

@@ -1,5 +1,6 @@
 //! The words of a line, and what each may be.
 ghost use Rattle.std.specs.Prelude.{◌≡◌, ◌<◌, ◌≤◌, ◌+◌, ◌^◌, length, IfOk, IfErr, Some, None};
+ghost use Rattle.std.specs.Str.{bytes_eq};
 ghost use Rattle.mesh_base.specs.Addresses.{address_of};
 ghost use Rattle.mesh_base.specs.Numbers as numbers;
 ghost use Rattle.mesh_grammar.specs.Words as words;
@@ -23,6 +24,24 @@ pub fn is_blank(line: &[u8]) -> bool
         [] => true,
         [first, ..] => *first == b'#',
     }
+}
+
+/// Whether a word is this one. A `match` on words would be a test of each byte on its own, and its
+/// proof a case for each.
+#[inline(always)]
+#[tactic(auto, using(crate::proofs::SameBytes::other_length, crate::proofs::SameBytes::other_byte, crate::proofs::SameBytes::same_bytes))]
+pub fn is_word<const N: usize>(word: &[u8], this: &[u8; N]) -> bool
+    ensures { result ≡ bytes_eq word.now this.now }
+{
+    if word.len() != N {
+        return false;
+    }
+    for i in 0..N {
+        if word[i] != this[i] {
+            return false;
+        }
+    }
+    true
 }
 
 fn are_printable(bytes: &[u8]) -> bool
