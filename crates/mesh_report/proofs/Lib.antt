@@ -1,3 +1,5 @@
+-- Appended: pieces that are appended one after the other, as one text.
+pub mod Appended
 pub mod Members
 pub mod Packets
 pub mod Copies

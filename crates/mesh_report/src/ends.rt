@@ -20,7 +20,7 @@ use mesh_script::push_event;
 // ---- the whole input was read
 
 /// What was counted in a run, and where the data are at its end.
-#[derive(Clone, Copy, Debug, PartialEq, Eq)]
+#[derive(Clone, Copy, PartialEq, Eq)]
 pub struct Summary {
     /// What was counted.
     pub sums: Sums,
@@ -131,7 +131,6 @@ fn push_why(out: &mut LineBuf, why: &BadWhy)
     }
 }
 
-#[tactic(auto, using(std::proofs::lemmas::List::append_assoc), unfolding(mesh_grammar::specs::Faults::bad_line))]
 fn push_bad(out: &mut LineBuf, line: u64, why: &BadWhy)
     requires room { length out.old + 102 ≤ LINE_ROOM }
     ensures text { out.new ≡ out.old ++ bad_line line why.now }

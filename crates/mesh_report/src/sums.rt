@@ -3,7 +3,7 @@ ghost use Rattle.std.specs.Prelude.{◌≡◌};
 
 /// What was counted so far: events, those that were idle, the data that were given, delivered and
 /// dropped, and the data packets that were doubled.
-#[derive(Clone, Copy, Debug, PartialEq, Eq)]
+#[derive(Clone, Copy, PartialEq, Eq)]
 pub struct Sums {
     /// Events that were done, idle ones too.
     pub events: u64,

@@ -15,7 +15,6 @@ use mesh_io::{PutFault, Sink, put_all};
 
 // ---- a node
 
-#[tactic(auto, unfolding(mesh_text::specs::Tables::number_line))]
 fn push_number_line(out: &mut LineBuf, label: &[u8], n: u64)
     requires room { length out.old + length label.now + 24 ≤ LINE_ROOM }
     ensures text { out.new ≡ out.old ++ number_line label.now n }
