@@ -1,7 +1,7 @@
 //! The commands of a router's script.
 
 /// The first word of a line.
-#[derive(Clone, Copy, Debug, PartialEq, Eq)]
+#[derive(Clone, Copy, PartialEq, Eq)]
 pub enum Command {
     /// `self`.
     Own,

@@ -8,10 +8,10 @@ use crate::command::Command;
 use crate::limits::{GREATEST_PORT, MOST_AT_ONCE};
 use mesh_base::cut;
 use mesh_grammar::{Form, LineFault};
-use mesh_script::{Arguments, Mention, arguments_of, is_blank, next_at, span_at};
+use mesh_script::{Arguments, Mention, arguments_of, is_blank, is_word, next_at, span_at};
 
 /// A command with its arguments.
-#[derive(Clone, Copy)]
+#[derive(Drop)]
 pub struct Shape<'a> {
     pub command: Command,
     pub arguments: Arguments<'a, Mention>,
@@ -37,21 +37,21 @@ fn row_of(word: &[u8]) -> Option<Row>
     ensures none { IfNone result (row_in commands.router_script word.now ≡ None) }
 {
     match word {
-        b"self" => found(Command::Own, Form::Numbered),
-        b"peer" => found(
+        _ if is_word(word, b"self") => found(Command::Own, Form::Numbered),
+        _ if is_word(word, b"peer") => found(
             Command::Peer,
             Form::AddressNumber {
                 most: GREATEST_PORT,
             },
         ),
-        b"up" => found(Command::Up, Form::Address),
-        b"down" => found(Command::Down, Form::Address),
-        b"data" => found(Command::Data, Form::AddressText),
-        b"poll" => found(Command::Poll, Form::Number { most: MOST_AT_ONCE }),
-        b"turn" => found(Command::Turn, Form::Number { most: MOST_AT_ONCE }),
-        b"send" => found(Command::Send, Form::Address),
-        b"ask" => found(Command::Ask, Form::Address),
-        b"show" => found(Command::Show, Form::Bare),
+        _ if is_word(word, b"up") => found(Command::Up, Form::Address),
+        _ if is_word(word, b"down") => found(Command::Down, Form::Address),
+        _ if is_word(word, b"data") => found(Command::Data, Form::AddressText),
+        _ if is_word(word, b"poll") => found(Command::Poll, Form::Number { most: MOST_AT_ONCE }),
+        _ if is_word(word, b"turn") => found(Command::Turn, Form::Number { most: MOST_AT_ONCE }),
+        _ if is_word(word, b"send") => found(Command::Send, Form::Address),
+        _ if is_word(word, b"ask") => found(Command::Ask, Form::Address),
+        _ if is_word(word, b"show") => found(Command::Show, Form::Bare),
         _ => None,
     }
 }
