@@ -8,10 +8,10 @@ ghost use Rattle.mesh_grid.specs.Lines as lines;
 use crate::place::{GREATEST_PLACE, Place};
 use mesh_base::{Addr, Mesh, cut, number_up_to};
 use mesh_grammar::{LineFault, Span};
-use mesh_script::{next_at, span_at};
+use mesh_script::{is_word, next_at, span_at};
 
 /// A node comes to a place: for the first time by `place`, from another by `move`.
-#[derive(Clone, Copy, Debug, PartialEq, Eq)]
+#[derive(Clone, Copy, PartialEq, Eq)]
 pub struct Placing {
     pub first: bool,
     pub node: usize,
@@ -100,9 +100,10 @@ pub fn placing_of(bytes: &[u8], mesh: &Mesh) -> Result<Option<Placing>, LineFaul
     // A slice has fewer than 2 ^ 63 bytes: no place in it overflows.
     let _length = bytes.len();
     match word {
-        b"place" => placing_at(mesh, true, next_at(0, word), arguments),
-        b"move" => placing_at(mesh, false, next_at(0, word), arguments),
-        b"link" | b"cut" => Err(LineFault::Word(span_at(0, word))),
+        _ if is_word(word, b"place") => placing_at(mesh, true, next_at(0, word), arguments),
+        _ if is_word(word, b"move") => placing_at(mesh, false, next_at(0, word), arguments),
+        _ if is_word(word, b"link") => Err(LineFault::Word(span_at(0, word))),
+        _ if is_word(word, b"cut") => Err(LineFault::Word(span_at(0, word))),
         _ => Ok(None),
     }
 }

@@ -8,7 +8,7 @@ use mesh_base::MOST_NODES;
 pub const GREATEST_PLACE: u64 = 1_000_000;
 
 /// A place on the grid. Both coordinates count from 0.
-#[derive(Clone, Copy, Debug, PartialEq, Eq)]
+#[derive(Clone, Copy, PartialEq, Eq)]
 pub struct Place {
     pub x: u32,
     pub y: u32,
