@@ -7,7 +7,7 @@ ghost use Rattle.mesh_base.specs.Stems.{stem_of, IsStem};
 
 use crate::addr::{Addr, octet};
 use crate::limits::LINE_ROOM;
-use crate::line_buf::{LineBuf, overwrite};
+use crate::line_buf::LineBuf;
 use crate::text::are_equal;
 
 // The numbers below 256, each with a dot, in chunks of four bytes.
@@ -116,7 +116,7 @@ fn join(cells: &mut [u8; 16], at: usize, n: u32) -> usize
     ensures text { take result cells.new ≡ take at cells.old ++ (decimal n ++ 46 ∷ []) }
     ensures length { result ≤ at + 4 }
 {
-    overwrite(cells, at, &chunk(n));
+    cells[at..at + 4].copy_from_slice(&chunk(n));
     at + width(n)
 }
 
