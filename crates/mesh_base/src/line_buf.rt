@@ -83,10 +83,27 @@ impl LineBuf {
         ensures text { self.new ≡ self.old ++ bytes.now }
         ensures length { length self.new ≡ length self.old + SIZE }
     {
-        self.push_slice(bytes);
+        // Copied first: for the compiler, what is appended may else lie in the line.
+        let bytes = *bytes;
+        self.push_slice(&bytes);
     }
 
-    /// Appends the first bytes of a chunk.
+    // Appends the first bytes of a chunk, so many as are known beforehand.
+    #[inline]
+    fn push_piece<const PIECE: usize>(&mut self, chunk: &[u8])
+        requires within { PIECE ≤ length chunk.now }
+        requires room { length self.old + PIECE ≤ LINE_ROOM }
+        ensures text { self.new ≡ self.old ++ take PIECE chunk.now }
+        ensures length { length self.new ≡ length self.old + PIECE }
+    {
+        let Some(piece) = chunk.first_chunk::<PIECE>() else {
+            unreachable!();
+        };
+        self.push_array(piece);
+    }
+
+    /// Appends the first bytes of a chunk. Of the widths that numbers and addresses have, each
+    /// makes a copy whose size is known beforehand.
     #[inline]
     pub(crate) fn push_front<const SIZE: usize>(&mut self, chunk: &[u8; SIZE], width: usize)
         requires within { width ≤ SIZE }
@@ -94,6 +111,19 @@ impl LineBuf {
         ensures text { self.new ≡ self.old ++ take width chunk.now }
         ensures length { length self.new ≡ length self.old + width }
     {
-        self.push_slice(&chunk[..width]);
+        match width {
+            1 => self.push_piece::<1>(chunk),
+            2 => self.push_piece::<2>(chunk),
+            3 => self.push_piece::<3>(chunk),
+            4 => self.push_piece::<4>(chunk),
+            6 => self.push_piece::<6>(chunk),
+            7 => self.push_piece::<7>(chunk),
+            8 => self.push_piece::<8>(chunk),
+            9 => self.push_piece::<9>(chunk),
+            10 => self.push_piece::<10>(chunk),
+            11 => self.push_piece::<11>(chunk),
+            12 => self.push_piece::<12>(chunk),
+            _ => self.push_slice(&chunk[..width]),
+        }
     }
 }
