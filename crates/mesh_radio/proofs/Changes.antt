@@ -1,11 +1,12 @@
 -- What stays true of the casts when one comes, a copy goes, or casts that are done with go.
 use Rattle.std.proofs.Common.{◌≡◌, ℕ, ◌+◌, ◌^◌, ◌<◌, List, [], ◌∷◌, ◌++◌, Some, length, subst, sym, ap, ◌∙◌}
 use Rattle.std.specs.Prelude.{slice_get}
+use Rattle.indexmap.specs.IndexMap.{set_value_at}
 use Rattle.std.specs.FinSet.{insert, empty}
 use Rattle.mesh_base.specs.Members.{member_list}
 use Rattle.mesh_base.proofs.Ranks.{member_list-one}
 use Rattle.mesh_radio.specs.Copies.{copies_to}
-use Rattle.mesh_radio.specs.Casts.{Entry, AreCasts, AreLeft, IsTidied, size, copies_of, with_cast_at, without_to}
+use Rattle.mesh_radio.specs.Casts.{Entry, AreCasts, AreLeft, IsTidied, size, copies_of, without_to}
 use Rattle.mesh_radio.specs.declared.casts.Cast.{Cast}
 use Rattle.mesh_radio.proofs.Entries.{rising-push, lefts-push, rising-taken, lefts-taken, cast-copies}
 
@@ -29,7 +30,7 @@ copies-one es now next m c is lt one left =
 
 -- ---- a copy that goes
 
-pub casts-taken : (es now : List Entry) (next place to : ℕ) (e : Entry) → AreCasts es next → slice_get es place ≡ Some e → now ≡ with_cast_at es place (without_to e.1 to) → AreCasts now next
+pub casts-taken : (es now : List Entry) (next place to : ℕ) (e : Entry) → AreCasts es next → slice_get es place ≡ Some e → now ≡ set_value_at es place (without_to e.1 to) → AreCasts now next
 casts-taken es now next place to e are at is = subst (λ xs. AreCasts xs next) (sym is) (record {
   rising = rising-taken 1 next place to es e are.rising at;
   few = are.few;

@@ -5,7 +5,7 @@ use Rattle.std.specs.List.{AllByRecursion}
 use Rattle.std.specs.FinSet.{contains, remove}
 use Rattle.std.specs.FinMap.{nat_cmp-IsAntisymmetric}
 use Rattle.std.proofs.lemmas.Cmp.{nat_cmp_total}
-use Rattle.std.proofs.lemmas.Bool.{le-leb, lt-leb, cases_lt, cases_eq}
+use Rattle.std.proofs.lemmas.Bool.{ne_eqb, le-leb, lt-leb, cases_lt, cases_eq}
 use Rattle.std.proofs.lemmas.Option.{same_Some, slice_get_within, slice_get_past, slice_get-get_or, none-some}
 use Rattle.std.specs.Map.{keys_of}
 use Rattle.mesh_base.specs.declared.events.Flying.{Flying}
@@ -17,7 +17,8 @@ use Rattle.mesh_radio.proofs.Orders.{remove_here, remove_other}
 use Rattle.mesh_radio.proofs.Finds.{absent, without_none}
 use Rattle.mesh_base.proofs.Ranks.{members-all}
 use Rattle.mesh_radio.proofs.Numbered.{numbered, outside, found_in, taken_in, one_less, data_less, few_copies, data_append}
-use Rattle.mesh_radio.specs.Casts.{Entry, size, slot, slots_of, slots_at, copies_of, AreRising, AreLeft, IsSplit, IsFound, AreSorted, entry_of, slot_for, copy_of, with_cast_at, without_to}
+use Rattle.indexmap.specs.IndexMap.{insert_entry, set_value_at}
+use Rattle.mesh_radio.specs.Casts.{Entry, size, slot, slots_of, slots_at, copies_of, AreRising, AreLeft, IsSplit, IsFound, AreSorted, entry_of, slot_for, copy_of, without_to}
 use Rattle.mesh_radio.specs.declared.casts.Cast.{Cast}
 use Rattle.mesh_base.proofs.Ranks.{Rises, members-sorted}
 
@@ -152,10 +153,6 @@ split-tail k id n ks s = record {
   above = λ j le lt. s.above (suc j) (omega arith) (omega arith);
 }
 
-pub keys_length : (es : List Entry) → length (keys_of es) ≡ length es
-keys_length [] = refl
-keys_length (e ∷ es) = let rest = keys_length es in omega arith
-
 pub split-entry : (es : List Entry) (id k : ℕ) → IsSplit (keys_of es) id k → entry_of es id ≡ last_of es k
 split-entry [] id zero s = refl
 split-entry [] id (suc k) s = let w = s.within in absurd (omega arith)
@@ -163,8 +160,12 @@ split-entry (e ∷ es) id zero s = ap (λ b. cond b (Some (unwrap_or (entry_of e
 split-entry (e ∷ es) id (suc k) s =
     ap (λ b. cond b (Some (unwrap_or (entry_of es id) e)) None) (le-leb e.0 id (s.below 0 (omega arith)))
     ∙ ap (λ o. Some (unwrap_or o e)) (split-entry es id k (split-tail e.0 id k (keys_of es) s))
-    ∙ last e es k (λ lt. let w = s.within in let len = keys_length es in omega arith)
+    ∙ last e es k (λ lt. let w = s.within in let len = keys-length es in omega arith)
   where
+    keys-length : (es : List Entry) → length (keys_of es) ≡ length es
+    keys-length [] = refl
+    keys-length (e ∷ es) = let rest = keys-length es in omega arith
+
     last : (e : Entry) (es : List Entry) (k : ℕ) → (0 < k → k - 1 < length es) → Some (unwrap_or (last_of es k) e) ≡ slice_get (e ∷ es) k
     last e es zero lt = refl
     last e es (suc k) lt = some (slice_get es k) (slice_get-get_or es k e (let l = lt (omega arith) in omega arith))
@@ -178,9 +179,6 @@ key-at [] zero e h = absurd cc
 key-at [] (suc j) e h = absurd cc
 key-at (x ∷ es) zero e h = ap (λ (y : Entry). y.0) (same_Some x e h)
 key-at (x ∷ es) (suc j) e h = key-at es j e h
-
-pub key-read : (es : List Entry) (j : ℕ) (e : Entry) → j < length es → (get_or es j e).0 ≡ slice_index (keys_of es) j
-key-read es j e lt = sym (key-at es j (get_or es j e) (slice_get-get_or es j e lt))
 
 -- ---- the firsts rise
 
@@ -264,6 +262,14 @@ copies-few low next (e ∷ es) r =
     omega arith
 
 -- ---- a cast more
+
+pub insert-last : (low next : ℕ) (es : List Entry) (c : Cast) → AreRising low es next → insert_entry eqb es next c ≡ es ++ (next, c) ∷ []
+insert-last low next [] c r = refl
+insert-last low next (e ∷ es) c r =
+    let later = rising-low (e.0 + size e.1) next es r.2 in
+    let one = r.1 in
+    ap (λ b. cond b ((e.0, c) ∷ es) (e ∷ insert_entry eqb es next c)) (ne_eqb next e.0 (λ same. omega arith))
+    ∙ ap (λ (xs : List Entry). e ∷ xs) (insert-last (e.0 + size e.1) next es c r.2)
 
 pub rising-push : (low next : ℕ) (es : List Entry) (c : Cast) → AreRising low es next → 0 < size c → AreRising low (es ++ (next, c) ∷ []) (next + size c)
 rising-push low next [] c r some = (r, some, omega arith)
@@ -350,7 +356,7 @@ rising-first low next (suc place) (x ∷ es) e r at = let rest = rising-first (x
 
 pub copies-taken : (low next id place to : ℕ) (es : List Entry) (e : Entry) → AreRising low es next → slice_get es place ≡ Some e → e.0 ≤ id
     → slice_get (member_list (e.1).to) (id - e.0) ≡ Some to → contains (e.1).left to ≡ true
-    → IsLess (copies_of es) (copies_of (with_cast_at es place (without_to e.1 to))) id (e.1).bytes
+    → IsLess (copies_of es) (copies_of (set_value_at es place (without_to e.1 to))) id (e.1).bytes
 copies-taken low next id zero to [] e r at le member left = absurd cc
 copies-taken low next id (suc place) to [] e r at le member left = absurd cc
 copies-taken low next id zero to (x ∷ es) e r at le member left =
@@ -378,7 +384,7 @@ copies-taken low next id (suc place) to (x ∷ es) e r at le member left =
     let up = rising-first (x.0 + size x.1) next place es e r.2 at in
     let xs = copies_in (slots_at x) in
     let none = without_none xs id (slots-out x.1 x.0 id (member_list (x.1).to) (inr (omega arith))) in
-    let now = copies_of (with_cast_at es place (without_to e.1 to)) in
+    let now = copies_of (set_value_at es place (without_to e.1 to)) in
     let long = length-append xs (copies_of es) in
     let short = length-append xs now in
     let all = data_append xs (copies_of es) in
@@ -389,15 +395,8 @@ copies-taken low next id (suc place) to (x ∷ es) e r at le member left =
       of_data = omega (arith, rest.of_data);
     }
 
--- a cast that is written over
-pub written : (es : List Entry) (place : ℕ) (e x : Entry) (w : Cast) → slice_get es place ≡ Some e → x ≡ e → slice_set es place (x.0, w) ≡ with_cast_at es place w
-written [] zero e x w at is = absurd cc
-written [] (suc place) e x w at is = absurd cc
-written (y ∷ es) zero e x w at is = ap (λ (z : Entry). (z.0, w) ∷ es) (is ∙ sym (same_Some y e at))
-written (y ∷ es) (suc place) e x w at is = ap (λ (zs : List Entry). y ∷ zs) (written es place e x w at is)
-
 -- the casts stand where they stood
-pub rising-taken : (low next place to : ℕ) (es : List Entry) (e : Entry) → AreRising low es next → slice_get es place ≡ Some e → AreRising low (with_cast_at es place (without_to e.1 to)) next
+pub rising-taken : (low next place to : ℕ) (es : List Entry) (e : Entry) → AreRising low es next → slice_get es place ≡ Some e → AreRising low (set_value_at es place (without_to e.1 to)) next
 rising-taken low next zero to [] e r at = absurd cc
 rising-taken low next (suc place) to [] e r at = absurd cc
 rising-taken low next zero to (x ∷ es) e r at =
@@ -406,7 +405,7 @@ rising-taken low next zero to (x ∷ es) e r at =
     (r.0, subst (λ n. 0 < n) (sym long) r.1, subst (λ n. AreRising (x.0 + n) es next) (sym long) r.2)
 rising-taken low next (suc place) to (x ∷ es) e r at = (r.0, r.1, rising-taken (x.0 + size x.1) next place to es e r.2 at)
 
-pub lefts-taken : (place to : ℕ) (es : List Entry) (e : Entry) → AllByRecursion (λ x. AreLeft x.1) es → slice_get es place ≡ Some e → AllByRecursion (λ x. AreLeft x.1) (with_cast_at es place (without_to e.1 to))
+pub lefts-taken : (place to : ℕ) (es : List Entry) (e : Entry) → AllByRecursion (λ x. AreLeft x.1) es → slice_get es place ≡ Some e → AllByRecursion (λ x. AreLeft x.1) (set_value_at es place (without_to e.1 to))
 lefts-taken zero to [] e all at = absurd cc
 lefts-taken (suc place) to [] e all at = absurd cc
 lefts-taken zero to (x ∷ es) e all at = (fewer e.1 to (subst (λ (y : Entry). AreLeft y.1) (same_Some x e at) all.0), all.1)
@@ -419,7 +418,7 @@ lefts-taken zero to (x ∷ es) e all at = (fewer e.1 to (subst (λ (y : Entry). 
 lefts-taken (suc place) to (x ∷ es) e all at = (all.0, lefts-taken place to es e all.1 at)
 
 pub found-taken : (low next id place to : ℕ) (es : List Entry) (e : Entry) → AreRising low es next → IsFound es id place to → slice_get es place ≡ Some e
-    → IsLess (copies_of es) (copies_of (with_cast_at es place (without_to e.1 to))) id (e.1).bytes
+    → IsLess (copies_of es) (copies_of (set_value_at es place (without_to e.1 to))) id (e.1).bytes
 found-taken low next id place to es e r f at =
     let same : f.entry ≡ e = same_Some f.entry e (sym f.at ∙ at) in
     copies-taken low next id place to es e r at

@@ -9,7 +9,7 @@ use Rattle.std.proofs.lemmas.Cmp.{nat_cmp_total}
 use Rattle.std.proofs.lemmas.Bool.{cases_lt, cases_eq, lt-ltb, le-ltb}
 use Rattle.std.proofs.lemmas.List.{take_all, take-append-le, take-append-drop, length-take, length-take-le, drop_all, length_push}
 use Rattle.std.proofs.lemmas.Option.{same_Some}
-use Rattle.std.specs.List.Retain.{RetainsInTurn}
+use Rattle.std.specs.Map.Calls.{RetainsPairs}
 use Rattle.mesh_base.specs.declared.events.Flying.{Flying}
 use Rattle.mesh_base.specs.Members.{NodeIds, members_below, member_list, rank}
 use Rattle.mesh_base.proofs.Ranks.{member-rank}
@@ -195,28 +195,26 @@ cut-gone low next id e es rest r before le more =
       lefts = cut.lefts;
     }
 
-module _ {F : Type 0} (T : F → Entry → Bool → F → Entry → Type 0) (id : ℕ) (f : F)
-    (says : (e : Entry) (b : Bool) (g : F) (w : Entry) → T f e b g w → IsCut id e w b × (g ≡ f)) where
-  pub all-cut : (low next : ℕ) (es now : List Entry) → RetainsInTurn T f es now → AreRising low es next → AllByRecursion (λ e. AreLeft e.1) es
+module _ {F : Type 0} (T : F → ℕ → Cast → Bool → Cast → F → Type 0) (id : ℕ) (f : F)
+    (says : (k : ℕ) (c : Cast) (b : Bool) (w : Cast) (g : F) → T f k c b w g → IsCut id k c w b × (g ≡ f)) where
+  pub all-cut : (low next : ℕ) (es now : List Entry) → RetainsPairs T f es now → AreRising low es next → AllByRecursion (λ e. AreLeft e.1) es
       → AreBefore id (copies_of es) → low ≤ id → AreCut low id es now
   all-cut low next [] now h r all before le = subst (AreCut low id []) (sym h) (cut-none low id le)
   all-cut low next (e ∷ es) now h r all before le =
-      let w = (h.2).1 in
-      let said = says e h.0 h.1 h.2 h.3 in
-      let rest = subst (λ g. RetainsInTurn T g es h.4) said.1 h.5 in
+      let said = says e.0 e.1 h.0 h.1 h.2 h.4 in
+      let rest = subst (λ g. RetainsPairs T g es h.3) said.1 h.5 in
       let cut = said.0 in
       let parts = before-split id (copies_in (slots_at e)) (copies_of es) before in
       subst (AreCut low id (e ∷ es)) (sym h.6) (elim (cases_lt e.0 id) [
         | inl lt ↦
             let stays = cut.stays_below ∙ lt-ltb e.0 id lt in
-            let how = subst (λ b. OnTrue b ((w ≡ record e.1 { to = w.to }) × IsFront (e.1).to (id - e.0) w.to)) stays cut.cut in
-            subst (λ b. AreCut low id (e ∷ es) (cond b (h.2 ∷ h.4) h.4)) (sym stays)
-            (subst (λ k. AreCut low id (e ∷ es) ((k, w) ∷ h.4)) (sym cut.first)
-            (cut-kept low next id e w es h.4 r all.0 parts.0 lt how.0 how.1
-            (λ few up. all-cut (e.0 + size w) next es h.4 rest up all.1 parts.1 few)))
+            let how = subst (λ b. OnTrue b ((h.1 ≡ record e.1 { to = (h.1).to }) × IsFront (e.1).to (id - e.0) (h.1).to)) stays cut.cut in
+            subst (λ b. AreCut low id (e ∷ es) (cond b ((e.0, h.1) ∷ h.3) h.3)) (sym stays)
+            (cut-kept low next id e h.1 es h.3 r all.0 parts.0 lt how.0 how.1
+            (λ few up. all-cut (e.0 + size h.1) next es h.3 rest up all.1 parts.1 few))
         | inr ge ↦
-            subst (λ b. AreCut low id (e ∷ es) (cond b (h.2 ∷ h.4) h.4)) (sym (cut.stays_below ∙ le-ltb e.0 id ge))
-            (cut-gone low next id e es h.4 r parts.0 ge (λ up. all-cut low next es h.4 rest up all.1 parts.1 le))
+            subst (λ b. AreCut low id (e ∷ es) (cond b ((e.0, h.1) ∷ h.3) h.3)) (sym (cut.stays_below ∙ le-ltb e.0 id ge))
+            (cut-gone low next id e es h.3 r parts.0 ge (λ up. all-cut low next es h.3 rest up all.1 parts.1 le))
       ])
 
 -- ---- an id after those of all casts

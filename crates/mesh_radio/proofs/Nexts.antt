@@ -1,5 +1,5 @@
 -- The first copy from an id on.
-use Rattle.std.proofs.Common.{◌≡◌, ◌≢◌, ℕ, zero, suc, ◌+◌, ◌-◌, ◌<◌, ◌≤◌, inl, inr, true, false, cond, leb, List, [], ◌∷◌, Option, Some, None, unwrap_or, refl, sym, ap, subst, ◌∙◌, arith, eq-eqb}
+use Rattle.std.proofs.Common.{◌≡◌, ◌≢◌, ℕ, zero, suc, ◌+◌, ◌-◌, ◌<◌, ◌≤◌, inl, inr, true, false, cond, leb, List, [], ◌∷◌, length, Option, Some, None, unwrap_or, refl, sym, ap, subst, ◌∙◌, arith, eq-eqb}
 use Rattle.std.specs.Prelude.{slice_get, IfSome, IfNone}
 use Rattle.std.specs.List.{AllByRecursion}
 use Rattle.std.specs.Map.{keys_of}
@@ -14,7 +14,7 @@ use Rattle.mesh_radio.proofs.Finds.{from_zero}
 use Rattle.mesh_radio.specs.Casts.{Entry, size, slot_for, copies_of, AreRising, AreLeft, IsSplit, IsNext, IsBefore, IsFrom, NoneUpTo, copies_before, entry_of, copy_of}
 use Rattle.mesh_radio.specs.declared.casts.Cast.{Cast}
 use Rattle.mesh_base.proofs.Ranks.{members-sorted, members-order, rises-order, member-rank}
-use Rattle.mesh_radio.proofs.Entries.{keys_length, rising-low, rising-first, slot-there, slot-gone, find-all, copies-numbered, key-at}
+use Rattle.mesh_radio.proofs.Entries.{rising-low, rising-first, slot-there, slot-gone, find-all, copies-numbered, key-at}
 
 -- ---- the cast of an id
 
@@ -236,10 +236,14 @@ before-by es k q h = by (slice_get es k) refl
     by None is = tt
     by (Some e) is = h e is
 
+keys-long : (es : List Entry) → length (keys_of es) ≡ length es
+keys-long [] = refl
+keys-long (e ∷ es) = let rest = keys-long es in omega arith
+
 pub split-before : (es : List Entry) (id k : ℕ) → IsSplit (keys_of es) id k → IsBefore es k id
 split-before es id k s = before-by es k id (λ e at.
     let inside = slice_get_within es k e at in
-    let long = keys_length es in
+    let long = keys-long es in
     let key = key-at es k e at in
     let up = s.above k (omega arith) (omega arith) in
     omega arith)

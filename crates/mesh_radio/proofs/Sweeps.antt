@@ -9,7 +9,8 @@ use Rattle.mesh_base.specs.Members.{IsLeastFrom, members_below, member_list, ran
 use Rattle.mesh_base.specs.declared.events.Flying.{Flying}
 use Rattle.mesh_radio.specs.Copies.{find_copy, without}
 use Rattle.mesh_radio.specs.Kept.{copies_in}
-use Rattle.mesh_radio.specs.Casts.{Entry, size, slots_of, slots_at, copies_of, AreRising, AreLeft, AreGone, IsTidied, IsBefore, has_left, entry_of, copy_of, with_cast_at, without_to, without_packet}
+use Rattle.indexmap.specs.IndexMap.{set_value_at}
+use Rattle.mesh_radio.specs.Casts.{Entry, size, slots_of, slots_at, copies_of, AreRising, AreLeft, AreGone, IsTidied, IsBefore, has_left, entry_of, copy_of, without_to, without_packet}
 use Rattle.mesh_radio.specs.declared.casts.Cast.{Cast}
 use Rattle.mesh_base.proofs.Ranks.{members-zero, member-past, members-sorted, rises-bound, no-first}
 use Rattle.mesh_radio.proofs.Entries.{IsLess, rising-low, slot-gone, find-all, rising-taken}
@@ -84,7 +85,7 @@ gone-more es next gone e r g at least = record {
 
 -- ---- a packet that goes
 
-packet-same : (low next place : ℕ) (es : List Entry) (e : Entry) → slice_get es place ≡ Some e → has_left e.1 ≡ false → copies_of (with_cast_at es place (without_packet e.1)) ≡ copies_of es
+packet-same : (low next place : ℕ) (es : List Entry) (e : Entry) → slice_get es place ≡ Some e → has_left e.1 ≡ false → copies_of (set_value_at es place (without_packet e.1)) ≡ copies_of es
 packet-same low next zero [] e at none = absurd cc
 packet-same low next (suc place) [] e at none = absurd cc
 packet-same low next zero (x ∷ es) e at none =
@@ -94,7 +95,7 @@ packet-same low next zero (x ∷ es) e at none =
     ∙ sym (cast-empty x (ap (λ (y : Entry). has_left y.1) same ∙ none)))
 packet-same low next (suc place) (x ∷ es) e at none = ap (λ (fs : List Flying). copies_in (slots_at x) ++ fs) (packet-same low next place es e at none)
 
-packet-rising : (low next place : ℕ) (es : List Entry) (e : Entry) → slice_get es place ≡ Some e → AreRising low es next → AreRising low (with_cast_at es place (without_packet e.1)) next
+packet-rising : (low next place : ℕ) (es : List Entry) (e : Entry) → slice_get es place ≡ Some e → AreRising low es next → AreRising low (set_value_at es place (without_packet e.1)) next
 packet-rising low next zero [] e at r = absurd cc
 packet-rising low next (suc place) [] e at r = absurd cc
 packet-rising low next zero (x ∷ es) e at r =
@@ -102,14 +103,14 @@ packet-rising low next zero (x ∷ es) e at r =
     (r.0, subst (λ n. 0 < n) (sym long) r.1, subst (λ n. AreRising (x.0 + n) es next) (sym long) r.2)
 packet-rising low next (suc place) (x ∷ es) e at r = (r.0, r.1, packet-rising (x.0 + size x.1) next place es e at r.2)
 
-packet-lefts : (place : ℕ) (es : List Entry) (e : Entry) → slice_get es place ≡ Some e → AllByRecursion (λ x. AreLeft x.1) es → AllByRecursion (λ x. AreLeft x.1) (with_cast_at es place (without_packet e.1))
+packet-lefts : (place : ℕ) (es : List Entry) (e : Entry) → slice_get es place ≡ Some e → AllByRecursion (λ x. AreLeft x.1) es → AllByRecursion (λ x. AreLeft x.1) (set_value_at es place (without_packet e.1))
 packet-lefts zero [] e at all = absurd cc
 packet-lefts (suc place) [] e at all = absurd cc
 packet-lefts zero (x ∷ es) e at all = (subst (λ (y : Entry). AreLeft y.1) (same_Some x e at) all.0, all.1)
 packet-lefts (suc place) (x ∷ es) e at all = (all.0, packet-lefts place es e at all.1)
 
 -- where no copy of the cast flies
-pub packet-tidied : (place : ℕ) (es : List Entry) (e : Entry) → slice_get es place ≡ Some e → has_left e.1 ≡ false → IsTidied es (with_cast_at es place (without_packet e.1))
+pub packet-tidied : (place : ℕ) (es : List Entry) (e : Entry) → slice_get es place ≡ Some e → has_left e.1 ≡ false → IsTidied es (set_value_at es place (without_packet e.1))
 packet-tidied place es e at none = record {
   same = packet-same 0 0 place es e at none;
   rising = λ low next r. packet-rising low next place es e at r;
@@ -148,14 +149,14 @@ gone-push es next gone c r g = record {
 
 -- ---- after a take
 
-before-taken : (es : List Entry) (place k q : ℕ) (w : Cast) → IsBefore (with_cast_at es place w) k q → IsBefore es k q
+before-taken : (es : List Entry) (place k q : ℕ) (w : Cast) → IsBefore (set_value_at es place w) k q → IsBefore es k q
 before-taken [] place k q w b = b
 before-taken (e ∷ es) zero zero q w b = b
 before-taken (e ∷ es) zero (suc k) q w b = b
 before-taken (e ∷ es) (suc place) zero q w b = b
 before-taken (e ∷ es) (suc place) (suc k) q w b = before-taken es place k q w b
 
-length-taken : (es : List Entry) (place : ℕ) (w : Cast) → length (with_cast_at es place w) ≡ length es
+length-taken : (es : List Entry) (place : ℕ) (w : Cast) → length (set_value_at es place w) ≡ length es
 length-taken [] place w = refl
 length-taken (e ∷ es) zero w = refl
 length-taken (e ∷ es) (suc place) w = let rest = length-taken es place w in omega arith
@@ -178,11 +179,11 @@ find-without (f ∷ fs) id q none = by f fs (without fs id) id q none (find-with
         ] refl none
 
 pub gone-taken : (es : List Entry) (next id place gone to : ℕ) (e : Entry) (bytes : List ℕ) → AreRising 1 es next → slice_get es place ≡ Some e
-    → IsLess (copies_of es) (copies_of (with_cast_at es place (without_to e.1 to))) id bytes → AreGone es gone → AreGone (with_cast_at es place (without_to e.1 to)) gone
+    → IsLess (copies_of es) (copies_of (set_value_at es place (without_to e.1 to))) id bytes → AreGone es gone → AreGone (set_value_at es place (without_to e.1 to)) gone
 gone-taken es next id place gone to e bytes r at less g = record {
   within = let w = g.within in let long = length-taken es place (without_to e.1 to) in omega arith;
   none = λ q le b.
-      sym (find-all 1 next q (with_cast_at es place (without_to e.1 to)) (rising-taken 1 next place to es e r at))
+      sym (find-all 1 next q (set_value_at es place (without_to e.1 to)) (rising-taken 1 next place to es e r at))
       ∙ ap (λ fs. find_copy fs q) less.others
       ∙ find-without (copies_of es) id q (find-all 1 next q es r ∙ g.none q le (before-taken es place gone q (without_to e.1 to) b));
 }
@@ -204,9 +205,9 @@ some-left c None least below = sym (none-left c None least refl)
 some-left c (Some m) least below =
     sym (any-first (member_list c.left) (rank c.left m) m (sym (member_of_rank c.left m (rank c.left m) below least.1 refl)))
 
-pub gone-without-packet : (es : List Entry) (next place gone : ℕ) (e : Entry) → AreRising 1 es next → slice_get es place ≡ Some e → has_left e.1 ≡ false → AreGone es gone → AreGone (with_cast_at es place (without_packet e.1)) gone
+pub gone-without-packet : (es : List Entry) (next place gone : ℕ) (e : Entry) → AreRising 1 es next → slice_get es place ≡ Some e → has_left e.1 ≡ false → AreGone es gone → AreGone (set_value_at es place (without_packet e.1)) gone
 gone-without-packet es next place gone e r at none g =
-    let now = with_cast_at es place (without_packet e.1) in
+    let now = set_value_at es place (without_packet e.1) in
     let tidied = packet-tidied place es e at none in
     record {
       within = let w = g.within in let long = length-taken es place (without_packet e.1) in omega arith;

@@ -1,6 +1,6 @@
 -- How the code keeps copies in flight: casts by the ids of their first copies. No public contract
 -- cites this file.
-use Rattle.std.specs.Prelude.{◌≡◌, ℕ, zero, suc, ◌+◌, ◌-◌, ◌^◌, ◌<◌, ◌≤◌, Bool, true, nat_le, nat_lt, ◌⊎◌, take, if◌then◌else◌, Option, Some, None, List, [], ◌∷◌, ◌++◌, length, slice_get, slice_index, unwrap_or, is_some, IfSome, Vec, vec_len, vec_capacity}
+use Rattle.std.specs.Prelude.{◌≡◌, ℕ, ◌+◌, ◌-◌, ◌^◌, ◌<◌, ◌≤◌, Bool, true, nat_le, nat_lt, ◌⊎◌, take, if◌then◌else◌, Option, Some, None, List, [], ◌∷◌, ◌++◌, length, slice_get, slice_index, unwrap_or, is_some, IfSome}
 use Rattle.std.specs.Bool.{OnTrue}
 use Rattle.std.specs.List.{AllByRecursion}
 use Rattle.std.specs.FinSet.{contains, remove}
@@ -155,16 +155,6 @@ pub record AreGone (es : List Entry) (gone : ℕ) : Type 0 where
 
 -- ---- changes
 
--- so many casts more find room
-abbrev pub spare : {Z : Type 0} → Vec Entry Z → ℕ
-spare v = vec_capacity v - vec_len v
-
--- that cast in place of the one that stands here
-abbrev pub with_cast_at : List Entry → ℕ → Cast → List Entry
-with_cast_at [] place w = []
-with_cast_at (e ∷ es) zero w = (e.0, w) ∷ es
-with_cast_at (e ∷ es) (suc place) w = e ∷ with_cast_at es place w
-
 -- the cast without the copy to that receiver
 abbrev pub without_to : Cast → ℕ → Cast
 without_to c to = record c { left = remove c.left to }
@@ -191,9 +181,7 @@ pub record IsFront (whole : NodeIds) (count : ℕ) (front : NodeIds) : Type 0 wh
   pub list : member_list front ≡ take count (member_list whole)
   pub same : (q : ℕ) → (rank whole q < count) ⊎ (256 ≤ q) → contains front q ≡ contains whole q
 
--- of the cast there stay only the copies below `id`, if there are such
-pub record IsCut (id : ℕ) (e now : Entry) (stays : Bool) : Type 0 where
-  pub first : now.0 ≡ e.0
-  pub stays_below : stays ≡ nat_lt e.0 id
-  pub cut : OnTrue stays
-      ((now.1 ≡ record e.1 { to = (now.1).to }) × IsFront (e.1).to (id - e.0) (now.1).to)
+-- of the cast with that first id there stay only the copies below `id`, if there are such
+pub record IsCut (id first : ℕ) (c now : Cast) (stays : Bool) : Type 0 where
+  pub stays_below : stays ≡ nat_lt first id
+  pub cut : OnTrue stays ((now ≡ record c { to = now.to }) × IsFront c.to (id - first) now.to)

@@ -1,10 +1,12 @@
 //! Casts by the ids of their first copies: what is found among them, and how they change.
-ghost use Rattle.std.specs.Prelude.{◌≡◌, ℕ, ◌<◌, ◌≤◌, ◌+◌, ◌-◌, ◌^◌, ◌++◌, ◌∷◌, [], slice_get, option_map, Some, IfSome, IfNone};
+ghost use Rattle.std.specs.Prelude.{◌≡◌, ℕ, ◌<◌, ◌≤◌, ◌+◌, ◌-◌, ◌^◌, ◌++◌, ◌∷◌, [], slice_get, Some, IfSome, IfNone};
 ghost use Rattle.std.specs.Map.{keys_of};
+ghost use Rattle.indexmap.specs.IndexMap.{spare, with_value_at};
 ghost use Rattle.mesh_base.specs.Members.{member_list, rank};
-ghost use Rattle.mesh_radio.specs.Casts.{Entry, AreCasts, AreLeft, IsFound, IsNext, IsSplit, IsFrom, AreGone, IsLeast, IsLeastOf, NoneUpTo, HasNone, HasNoneFrom, size, spare, with_cast_at, without_to};
+ghost use Rattle.mesh_radio.specs.Casts.{Entry, AreCasts, AreLeft, IsFound, IsNext, IsSplit, IsFrom, AreGone, IsLeast, IsLeastOf, NoneUpTo, HasNone, HasNoneFrom, size, without_to};
 
 use crate::places::place_near;
+use indexmap::IndexMap;
 use mesh_base::{Bytes, NodeSet};
 
 /// A packet that was cast, to whom, and those of them to whom its copy still flies. Its copies have
@@ -18,16 +20,7 @@ pub struct Cast {
 }
 
 /// Casts by the ids of their first copies, which rise.
-pub type Casts = Vec<(u64, Cast)>;
-
-/// The cast at this place, and the id of its first copy.
-#[inline(always)]
-pub fn cast_at(casts: &Casts, place: usize) -> Option<(u64, &Cast)>
-    ensures entry { option_map (λ e. (e.0, e.1.now)) result ≡ slice_get casts.now.items place }
-{
-    let (first, cast) = casts.get(place)?;
-    Some((*first, cast))
-}
+pub type Casts = IndexMap<u64, Cast>;
 
 /// Where a copy stands: the place of its cast, and its receiver.
 #[derive(Clone, Copy)]
@@ -75,17 +68,17 @@ fn receiver(to: &NodeSet, rank: usize) -> Option<usize>
 // Where the copy of this id stands: the place of its cast is sought by halves, and its receiver by
 // its rank. The hint makes no difference but to how long that takes.
 fn find_near(casts: &Casts, id: u64, hint: usize) -> Option<Spot>
-    requires { (next : ℕ) × AreCasts casts.now.items next }
-    ensures some { IfSome result (λ s. IsFound casts.now.items id s.place s.to) }
+    requires { (next : ℕ) × AreCasts casts.now.entries next }
+    ensures some { IfSome result (λ s. IsFound casts.now.entries id s.place s.to) }
     ensures below { IfSome result (λ s. s.to < 256) }
-    ensures none { IfNone result (HasNone casts.now.items id) }
+    ensures none { IfNone result (HasNone casts.now.entries id) }
 {
-    let after = place_near(casts.as_slice(), id, hint);
+    let after = place_near(casts.keys().as_slice(), id, hint);
     if after == 0 {
         return None;
     }
-    let (first, cast) = cast_at(casts, after - 1)?;
-    let to = receiver(&cast.to, (id - first) as usize)?;
+    let (first, cast) = casts.get_index(after - 1)?;
+    let to = receiver(&cast.to, (id - *first) as usize)?;
     if cast.left.has(to) {
         return Some(Spot {
             place: after - 1,
@@ -98,11 +91,11 @@ fn find_near(casts: &Casts, id: u64, hint: usize) -> Option<Spot>
 /// Where the copy of this id stands. The least copy is found at once.
 #[inline(always)]
 pub fn find(casts: &Casts, least: &Option<Least>, id: u64) -> Option<Spot>
-    requires casts { (next : ℕ) × AreCasts casts.now.items next }
-    requires least { IsLeastOf casts.now.items least.now }
-    ensures some { IfSome result (λ s. IsFound casts.now.items id s.place s.to) }
+    requires casts { (next : ℕ) × AreCasts casts.now.entries next }
+    requires least { IsLeastOf casts.now.entries least.now }
+    ensures some { IfSome result (λ s. IsFound casts.now.entries id s.place s.to) }
     ensures below { IfSome result (λ s. s.to < 256) }
-    ensures none { IfNone result (HasNone casts.now.items id) }
+    ensures none { IfNone result (HasNone casts.now.entries id) }
 {
     let Some(least) = least else {
         return None;
@@ -118,31 +111,31 @@ pub fn find(casts: &Casts, least: &Option<Least>, id: u64) -> Option<Spot>
 // The receiver of the first copy from this id on of the cast before this place, which is the id's
 // own.
 fn rest_of(casts: &Casts, after: usize, id: u64) -> Option<usize>
-    requires casts { (next : ℕ) × AreCasts casts.now.items next }
-    requires split { IsSplit (keys_of casts.now.items) id after }
-    ensures some { IfSome result (λ to. (0 < after) × IsNext casts.now.items id (after - 1) to) }
-    ensures none { IfNone result (NoneUpTo casts.now.items id after) }
+    requires casts { (next : ℕ) × AreCasts casts.now.entries next }
+    requires split { IsSplit (keys_of casts.now.entries) id after }
+    ensures some { IfSome result (λ to. (0 < after) × IsNext casts.now.entries id (after - 1) to) }
+    ensures none { IfNone result (NoneUpTo casts.now.entries id after) }
 {
     if after == 0 {
         return None;
     }
-    let (first, cast) = cast_at(casts, after - 1)?;
-    let start = cast.to.nth((id - first) as usize)?;
+    let (first, cast) = casts.get_index(after - 1)?;
+    let start = cast.to.nth((id - *first) as usize)?;
     cast.left.next_from(start)
 }
 
 // Where the first copy stands of the casts from this place on.
 fn walk(casts: &Casts, place: usize, id: u64) -> Option<Spot>
-    requires casts { (next : ℕ) × AreCasts casts.now.items next }
-    requires none { NoneUpTo casts.now.items id place }
-    requires from { IsFrom casts.now.items place id }
-    ensures some { IfSome result (λ s. IsNext casts.now.items id s.place s.to) }
-    ensures none { IfNone result (HasNoneFrom casts.now.items id) }
+    requires casts { (next : ℕ) × AreCasts casts.now.entries next }
+    requires none { NoneUpTo casts.now.entries id place }
+    requires from { IsFrom casts.now.entries place id }
+    ensures some { IfSome result (λ s. IsNext casts.now.entries id s.place s.to) }
+    ensures none { IfNone result (HasNoneFrom casts.now.entries id) }
 {
     let len = casts.len();
     let mut place = place;
     'casts: while place < len {
-        let (_, cast) = cast_at(casts, place)?;
+        let (_, cast) = casts.get_index(place)?;
         if let Some(to) = cast.left.next_from(0) {
             return Some(Spot { place, to });
         }
@@ -154,11 +147,11 @@ fn walk(casts: &Casts, place: usize, id: u64) -> Option<Spot>
 /// Where the first copy from this id on stands. The hint makes no difference but to how long that
 /// takes.
 pub fn find_next(casts: &Casts, id: u64, hint: usize) -> Option<Spot>
-    requires { (next : ℕ) × AreCasts casts.now.items next }
-    ensures some { IfSome result (λ s. IsNext casts.now.items id s.place s.to) }
-    ensures none { IfNone result (HasNoneFrom casts.now.items id) }
+    requires { (next : ℕ) × AreCasts casts.now.entries next }
+    ensures some { IfSome result (λ s. IsNext casts.now.entries id s.place s.to) }
+    ensures none { IfNone result (HasNoneFrom casts.now.entries id) }
 {
-    let place = place_near(casts.as_slice(), id, hint);
+    let place = place_near(casts.keys().as_slice(), id, hint);
     if let Some(to) = rest_of(casts, place, id) {
         return Some(Spot {
             place: place - 1,
@@ -170,24 +163,24 @@ pub fn find_next(casts: &Casts, id: u64, hint: usize) -> Option<Spot>
 
 /// The least copy, where so many casts at the front have none in flight.
 pub fn least_from(casts: &Casts, gone: usize) -> Option<Least>
-    requires casts { (next : ℕ) × AreCasts casts.now.items next }
-    requires gone { AreGone casts.now.items gone }
-    ensures { IsLeastOf casts.now.items result }
+    requires casts { (next : ℕ) × AreCasts casts.now.entries next }
+    requires gone { AreGone casts.now.entries gone }
+    ensures { IsLeastOf casts.now.entries result }
 {
     let spot = walk(casts, gone, 0)?;
-    let (first, cast) = cast_at(casts, spot.place)?;
+    let (first, cast) = casts.get_index(spot.place)?;
     Some(Least {
-        id: first + cast.to.count_below(spot.to) as u64,
+        id: *first + cast.to.count_below(spot.to) as u64,
         spot,
     })
 }
 
 // The least copy: this one, or, if none was known, the least after so many casts at the front.
 fn least_or(casts: &Casts, least: Option<Least>, gone: usize) -> Option<Least>
-    requires casts { (next : ℕ) × AreCasts casts.now.items next }
-    requires least { IfSome least (λ l. IsLeast casts.now.items l.spot.place l.id l.spot.to) }
-    requires gone { IfNone least (AreGone casts.now.items gone) }
-    ensures { IsLeastOf casts.now.items result }
+    requires casts { (next : ℕ) × AreCasts casts.now.entries next }
+    requires least { IfSome least (λ l. IsLeast casts.now.entries l.spot.place l.id l.spot.to) }
+    requires gone { IfNone least (AreGone casts.now.entries gone) }
+    ensures { IsLeastOf casts.now.entries result }
 {
     match least {
         Some(least) => Some(least),
@@ -199,19 +192,22 @@ fn least_or(casts: &Casts, least: Option<Least>, gone: usize) -> Option<Least>
 /// was.
 #[inline(always)]
 pub fn launch(casts: &mut Casts, least: Option<Least>, next: u64, cast: Cast) -> Option<Least>
-    requires casts { AreCasts casts.old.items next }
-    requires least { IsLeastOf casts.old.items least }
+    requires casts { AreCasts casts.old.entries next }
+    requires least { IsLeastOf casts.old.entries least }
     requires room { 0 < spare casts.old }
     requires some { 0 < size cast }
     requires left { AreLeft cast }
     requires few { next + size cast < 2 ^ 64 }
-    ensures entries { casts.new.items ≡ casts.old.items ++ (next, cast) ∷ [] }
-    ensures casts { AreCasts casts.new.items (next + size cast) }
-    ensures least { IsLeastOf casts.new.items result }
+    ensures entries { casts.new.entries ≡ casts.old.entries ++ (next, cast) ∷ [] }
+    ensures casts { AreCasts casts.new.entries (next + size cast) }
+    ensures least { IsLeastOf casts.new.entries result }
     ensures spare { spare casts.old ≤ spare casts.new + 1 }
 {
     let place = casts.len();
-    casts.push_reserved((next, cast));
+    match casts.insert(next, cast) {
+        Ok(_) => {}
+        Err(_) => unreachable!(),
+    }
     least_or(casts, least, place)
 }
 
@@ -231,11 +227,10 @@ pub fn front_of(least: &Option<Least>) -> usize
 #[inline(always)]
 pub fn remove_at(casts: &mut Casts, place: usize, to: usize)
     requires { to < 256 }
-    ensures entries { (e : Entry) → slice_get casts.old.items place ≡ Some e →
-        casts.new.items ≡ with_cast_at casts.old.items place (without_to e.1 to) }
-    ensures spare { spare casts.new ≡ spare casts.old }
+    ensures { (e : Entry) → slice_get casts.old.entries place ≡ Some e →
+        casts.new ≡ with_value_at casts.old place (without_to e.1 to) }
 {
-    if place < casts.len() {
-        casts[place].1.left.remove(to);
+    if let Some(cast) = casts.get_index_mut(place) {
+        cast.left.remove(to);
     }
 }

@@ -1,9 +1,10 @@
 //! What becomes of casts that are done with.
 ghost use Rattle.std.specs.Prelude.{◌≡◌, ℕ, ◌≤◌, filter, slice_get, Some, false};
 ghost use Rattle.std.specs.Bool.{OnTrue};
-ghost use Rattle.mesh_radio.specs.Casts.{Entry, AreRising, AreGone, IsTidied, has_left, spare, with_cast_at, without_packet};
+ghost use Rattle.indexmap.specs.IndexMap.{spare, with_value_at};
+ghost use Rattle.mesh_radio.specs.Casts.{Entry, AreRising, AreGone, IsTidied, has_left, without_packet};
 
-use crate::casts::{Cast, Casts, cast_at};
+use crate::casts::{Cast, Casts};
 use mesh_base::Bytes;
 
 /// So few casts that are done with are left to lie: to sweep them would cost more than they take
@@ -13,9 +14,9 @@ const LYING: usize = 64;
 // Whether no copy of the cast at this place flies.
 fn is_done(casts: &Casts, place: usize) -> bool
     ensures { OnTrue result
-        ((e : Entry) × (slice_get casts.now.items place ≡ Some e) × (has_left e.1 ≡ false)) }
+        ((e : Entry) × (slice_get casts.now.entries place ≡ Some e) × (has_left e.1 ≡ false)) }
 {
-    match cast_at(casts, place) {
+    match casts.get_index(place) {
         Some((_, cast)) => cast.left.next_from(0).is_none(),
         None => false,
     }
@@ -23,12 +24,11 @@ fn is_done(casts: &Casts, place: usize) -> bool
 
 // The packet of the cast at this place goes.
 fn drop_packet(casts: &mut Casts, place: usize)
-    ensures entries { (e : Entry) → slice_get casts.old.items place ≡ Some e →
-        casts.new.items ≡ with_cast_at casts.old.items place (without_packet e.1) }
-    ensures spare { spare casts.new ≡ spare casts.old }
+    ensures { (e : Entry) → slice_get casts.old.entries place ≡ Some e →
+        casts.new ≡ with_value_at casts.old place (without_packet e.1) }
 {
-    if place < casts.len() {
-        casts[place].1.bytes = Bytes::empty();
+    if let Some(cast) = casts.get_index_mut(place) {
+        cast.bytes = Bytes::empty();
     }
 }
 
@@ -37,13 +37,13 @@ fn drop_packet(casts: &mut Casts, place: usize)
 #[cold]
 #[inline(never)]
 fn sweep(casts: &mut Casts)
-    ensures entries { casts.new.items ≡ filter (λ e. has_left e.1) casts.old.items }
+    ensures entries { casts.new.entries ≡ filter (λ e. has_left e.1) casts.old.entries }
     ensures spare { spare casts.old ≤ spare casts.new }
 {
     casts.retain(
-        |cast: &(u64, Cast)| -> bool
-            ensures { result ≡ has_left cast.now.1 }
-        { cast.1.left.next_from(0).is_some() },
+        |_first: &u64, cast: &mut Cast| -> bool
+            ensures { (result ≡ has_left cast.old) × (cast.new ≡ cast.old) }
+        { cast.left.next_from(0).is_some() },
     );
 }
 
@@ -52,10 +52,10 @@ fn sweep(casts: &mut Casts)
 /// done with than are not, those go too, wherever they stand: about `done` of them lie there. The
 /// answer is how many casts at the front have no copy in flight then.
 pub fn clear(casts: &mut Casts, place: usize, gone: usize, done: &mut usize) -> usize
-    requires rising { (next : ℕ) × AreRising 1 casts.old.items next }
-    requires gone { AreGone casts.old.items gone }
-    ensures tidied { IsTidied casts.old.items casts.new.items }
-    ensures gone { AreGone casts.new.items result }
+    requires rising { (next : ℕ) × AreRising 1 casts.old.entries next }
+    requires gone { AreGone casts.old.entries gone }
+    ensures tidied { IsTidied casts.old.entries casts.new.entries }
+    ensures gone { AreGone casts.new.entries result }
     ensures spare { spare casts.old ≤ spare casts.new }
 {
     if !is_done(casts, place) {

@@ -6,9 +6,7 @@ ghost use Rattle.aodv_wire.specs.Spells.{is_data};
 ghost use Rattle.mesh_radio.specs.Copies.{held_seen, find_copy, IsCopyWithin, without, from_id, data_in, AreBefore, AreNumbered};
 ghost use Rattle.mesh_radio.specs.Kept.{with_flights, with_flight, with_second, with_room};
 
-use crate::casts::{
-    Cast, Casts, Least, cast_at, find, find_next, front_of, launch, least_from, remove_at,
-};
+use crate::casts::{Cast, Casts, Least, find, find_next, front_of, launch, least_from, remove_at};
 use crate::clearing::clear;
 use crate::joining::make_way;
 use crate::rooms::Rooms;
@@ -45,21 +43,22 @@ pub struct Copies {
 
 impl Model for Copies {
     ghost use Rattle.std.specs.Prelude.{◌≤◌};
+    ghost use Rattle.indexmap.specs.IndexMap.{spare};
     ghost use Rattle.mesh_radio.specs.Kept.{Flights};
-    ghost use Rattle.mesh_radio.specs.Casts.{copies_of, spare, AreKept, IsLeastOf};
+    ghost use Rattle.mesh_radio.specs.Casts.{copies_of, AreKept, IsLeastOf};
 
     ghost Value = { Flights };
 
     ghost view = { λ a. record {
-      flying = copies_of a.casts.items;
+      flying = copies_of a.casts.entries;
       next_copy = a.next;
       room = a.rooms.room;
       most = a.rooms.most;
     } };
 
-    ghost invariant = { λ a. AreKept a.casts.items a.next a.count a.of_data
+    ghost invariant = { λ a. AreKept a.casts.entries a.next a.count a.of_data
         × (a.rooms.room ≤ spare a.casts)
-        × IsLeastOf a.casts.items a.least };
+        × IsLeastOf a.casts.entries a.least };
 }
 
 // So many copies, if the packet is a datum's, else none.
@@ -122,7 +121,7 @@ impl Copies {
         ensures { option_map held_seen result ≡ find_copy self.now.flying id }
     {
         let spot = find(&self.casts, &self.least, id)?;
-        let (_, cast) = cast_at(&self.casts, spot.place)?;
+        let (_, cast) = self.casts.get_index(spot.place)?;
         Some(Held {
             id,
             from: cast.from,
@@ -142,9 +141,9 @@ impl Copies {
     {
         let spot = find_next(&self.casts, id, *hint)?;
         *hint = spot.place;
-        let (first, cast) = cast_at(&self.casts, spot.place)?;
+        let (first, cast) = self.casts.get_index(spot.place)?;
         Some(FlyingView {
-            id: first + cast.to.count_below(spot.to) as u64,
+            id: *first + cast.to.count_below(spot.to) as u64,
             from: cast.from,
             to: spot.to,
             bytes: cast.bytes.as_slice(),
@@ -200,7 +199,7 @@ impl Copies {
         ensures doubled { self.new ≡ with_second self.old (find_copy self.old.flying id) }
     {
         let spot = find(&self.casts, &self.least, id)?;
-        let (_, cast) = cast_at(&self.casts, spot.place)?;
+        let (_, cast) = self.casts.get_index(spot.place)?;
         let mut to = NodeSet::new();
         to.add(spot.to);
         let second = Cast {
@@ -236,7 +235,7 @@ impl Copies {
         let Some(spot) = find(&self.casts, &self.least, id) else {
             return;
         };
-        let Some((_, cast)) = cast_at(&self.casts, spot.place) else {
+        let Some((_, cast)) = self.casts.get_index(spot.place) else {
             return;
         };
         let less = if_data(cast.bytes.as_slice(), 1);

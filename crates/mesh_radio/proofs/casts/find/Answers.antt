@@ -5,11 +5,11 @@ use Rattle.mesh_radio.proofs.casts.find.Goals as goal
 
 pub returns-in_default-clause-none : goal.returns-in_default-clause-none
 returns-in_default-clause-none c =
-    none-there c.args.casts.now.items c.requires.casts.0 c.args.id (c.requires.casts.1).rising (subst (IsLeastOf c.args.casts.now.items) c.in_default.is c.requires.least)
+    none-there c.args.casts.now.entries c.requires.casts.0 c.args.id (c.requires.casts.1).rising (subst (IsLeastOf c.args.casts.now.entries) c.in_default.is c.requires.least)
 
 pub returns-then-id-least-clause-some : goal.returns-then-id-least-clause-some
 returns-then-id-least-clause-some c =
-    let es = c.args.casts.now.items in
+    let es = c.args.casts.now.entries in
     let l = c.in-Some.least in
     let same : c.args.id ≡ l.id = search rules in
     subst (λ i. IsFound es i l.spot.place l.spot.to) (sym same)

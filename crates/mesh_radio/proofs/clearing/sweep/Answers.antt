@@ -1,6 +1,6 @@
 use Rattle.std.proofs.Common.{rules}
-use Rattle.std.proofs.lemmas.Fn.{filter_same}
+use Rattle.indexmap.proofs.CallerLemmas.{filter-RetainsPairs}
 use Rattle.mesh_radio.proofs.clearing.sweep.Goals as goal
 
 pub returns-clause-entries : goal.returns-clause-entries
-returns-clause-entries c = filter_same _ _ _ (λ x b g call. search rules) _ _ c.retain.ensures.filtered
+returns-clause-entries c = filter-RetainsPairs _ _ _ (λ k v b w g call. search rules) _ _ c.retain.ensures.filtered

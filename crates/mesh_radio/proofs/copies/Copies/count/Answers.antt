@@ -7,4 +7,4 @@ use Rattle.mesh_radio.proofs.copies.Copies.count.Goals as goal
 pub returns-clause-numbered : goal.returns-clause-numbered
 returns-clause-numbered c =
     let inside = c.self.inside in
-    subst (λ (v : Flights). AreNumbered 1 v.flying v.next_copy) c.self.view_is (copies-numbered 1 inside.next inside.casts.items (c.self.invariant.0).casts.rising)
+    subst (λ (v : Flights). AreNumbered 1 v.flying v.next_copy) c.self.view_is (copies-numbered 1 inside.next inside.casts.entries (c.self.invariant.0).casts.rising)

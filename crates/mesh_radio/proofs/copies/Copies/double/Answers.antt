@@ -17,21 +17,21 @@ pub returns-in_err-spot-clause-told : goal.returns-in_err-spot-clause-told
 returns-in_err-spot-clause-told c =
     let inside = c.self.inside in
     c.from_residual.ensures
-    ∙ ap (option_map (λ (f : Flying). (inside.next, f.to))) (sym (find-all 1 inside.next c.args.id inside.casts.items (c.self.invariant.0).casts.rising ∙ c.in_err-spot.ensures.none))
+    ∙ ap (option_map (λ (f : Flying). (inside.next, f.to))) (sym (find-all 1 inside.next c.args.id inside.casts.entries (c.self.invariant.0).casts.rising ∙ c.in_err-spot.ensures.none))
     ∙ ap (λ (v : Flights). option_map (λ (f : Flying). (v.next_copy, f.to)) (find_copy v.flying c.args.id)) c.self.view_is
 
 pub returns-in_err-spot-clause-doubled : goal.returns-in_err-spot-clause-doubled
 returns-in_err-spot-clause-doubled c =
     let inside = c.self.inside in
-    let none = find-all 1 inside.next c.args.id inside.casts.items (c.self.invariant.0).casts.rising ∙ c.in_err-spot.ensures.none in
+    let none = find-all 1 inside.next c.args.id inside.casts.entries (c.self.invariant.0).casts.rising ∙ c.in_err-spot.ensures.none in
     ap (with_second c.args.self.now) (sym none ∙ ap (λ (v : Flights). find_copy v.flying c.args.id) c.self.view_is)
 
 pub fill-requires-clause-fits : goal.fill-requires-clause-fits
 fill-requires-clause-fits c =
     let inside = c.self.inside in
-    let e : Entry = (c.in_ok-cast.field-0-0, c.in_ok-cast.cast.now) in
+    let e : Entry = (c.in_ok-cast.field-0-0.now, c.in_ok-cast.cast.now) in
     let spot = c.in_ok-spot.spot in
-    let copy = found-copy inside.casts.items 1 inside.next c.args.id spot.place spot.to e (c.self.invariant.0).casts.rising c.in_ok-spot.ensures.some (sym c.in_ok-cast.ensures.entry) in
+    let copy = found-copy inside.casts.entries 1 inside.next c.args.id spot.place spot.to e (c.self.invariant.0).casts.rising c.in_ok-spot.ensures.some (sym c.in_ok-cast.ensures.entry) in
     let most = ap (λ (v : Flights). v.most) c.self.view_is in
     subst (λ n. length c.as_slice.result.now ≤ n) (sym most)
     (subst (λ bs. length bs ≤ c.args.self.now.most) (sym c.as_slice.ensures)
@@ -55,7 +55,7 @@ overflow_add-self-2 c =
     let inside = c.self.inside in
     let kept = c.self.invariant.0 in
     let next = ap (λ (v : Flights). v.next_copy) c.self.view_is in
-    let few = copies-few 1 inside.next inside.casts.items kept.casts.rising in
+    let few = copies-few 1 inside.next inside.casts.entries kept.casts.rising in
     omega (arith, kept.counted, c.requires.next)
 
 pub overflow_add-self-3 : goal.overflow_add-self-3
@@ -63,8 +63,8 @@ overflow_add-self-3 c =
     let inside = c.self.inside in
     let kept = c.self.invariant.0 in
     let next = ap (λ (v : Flights). v.next_copy) c.self.view_is in
-    let few = copies-few 1 inside.next inside.casts.items kept.casts.rising in
-    let fewer = data_few (copies_of inside.casts.items) in
+    let few = copies-few 1 inside.next inside.casts.entries kept.casts.rising in
+    let fewer = data_few (copies_of inside.casts.entries) in
     let more = at_most_all (is_data c.as_slice-2.result.now) 1 in
     omega (arith, kept.with_data, c.if_data-more.ensures, c.requires.next)
 
@@ -72,18 +72,18 @@ pub invariant_of-self : goal.invariant_of-self
 invariant_of-self c =
     let inside = c.self.inside in
     let kept = c.self.invariant.0 in
-    let es = inside.casts.items in
+    let es = inside.casts.entries in
     let spot = c.in_ok-spot.spot in
     let second : Cast = record { to = c.add.new.self; left = c.add.new.self; from = c.in_ok-cast.cast.now.from; bytes = c.fill.result } in
     let copy : Flying = record { id = inside.next; from = second.from; to = spot.to; bytes = second.bytes } in
     let launched = c.launch-self-inside in
     let only = c.add.ensures ∙ ap (λ s. insert s spot.to) c.new-to.ensures in
     let one = size-one second spot.to c.in_ok-spot.ensures.below only in
-    let copies = copies-one es launched.new.casts.items inside.next spot.to second launched.ensures.entries c.in_ok-spot.ensures.below only refl in
+    let copies = copies-one es launched.new.casts.entries inside.next spot.to second launched.ensures.entries c.in_ok-spot.ensures.below only refl in
     let room = ap (λ (m : Memory). m.room) c.fill.ensures.room in
     let later : inside.next + size second ≡ inside.next + 1 = omega arith in (
       record {
-        casts = subst (AreCasts launched.new.casts.items) later launched.ensures.casts;
+        casts = subst (AreCasts launched.new.casts.entries) later launched.ensures.casts;
         counted = omega (arith, kept.counted, ap length copies, length-append (copies_of es) (copy ∷ []));
         with_data = omega (
           arith,
@@ -102,22 +102,22 @@ pub returns-clause-told : goal.returns-clause-told
 returns-clause-told c =
     let inside = c.self.inside in
     let spot = c.in_ok-spot.spot in
-    let e : Entry = (c.in_ok-cast.field-0-0, c.in_ok-cast.cast.now) in
-    let copy = found-copy inside.casts.items 1 inside.next c.args.id spot.place spot.to e (c.self.invariant.0).casts.rising c.in_ok-spot.ensures.some (sym c.in_ok-cast.ensures.entry) in
+    let e : Entry = (c.in_ok-cast.field-0-0.now, c.in_ok-cast.cast.now) in
+    let copy = found-copy inside.casts.entries 1 inside.next c.args.id spot.place spot.to e (c.self.invariant.0).casts.rising c.in_ok-spot.ensures.some (sym c.in_ok-cast.ensures.entry) in
     ap (option_map (λ (f : Flying). (inside.next, f.to))) (sym copy)
     ∙ ap (λ (v : Flights). option_map (λ (f : Flying). (v.next_copy, f.to)) (find_copy v.flying c.args.id)) c.self.view_is
 
 pub returns-clause-doubled : goal.returns-clause-doubled
 returns-clause-doubled c =
     let inside = c.self.inside in
-    let es = inside.casts.items in
+    let es = inside.casts.entries in
     let spot = c.in_ok-spot.spot in
-    let e : Entry = (c.in_ok-cast.field-0-0, c.in_ok-cast.cast.now) in
+    let e : Entry = (c.in_ok-cast.field-0-0.now, c.in_ok-cast.cast.now) in
     let second : Cast = record { to = c.add.new.self; left = c.add.new.self; from = (e.1).from; bytes = c.fill.result } in
     let before : Flights = record { flying = copies_of es; next_copy = inside.next; room = inside.rooms.room; most = inside.rooms.most } in
     let only = c.add.ensures ∙ ap (λ s. insert s spot.to) c.new-to.ensures in
     let copy = found-copy es 1 inside.next c.args.id spot.place spot.to e (c.self.invariant.0).casts.rising c.in_ok-spot.ensures.some (sym c.in_ok-cast.ensures.entry) in
-    let flying = copies-one es c.launch-self-inside.new.casts.items inside.next spot.to second c.launch-self-inside.ensures.entries c.in_ok-spot.ensures.below only refl
+    let flying = copies-one es c.launch-self-inside.new.casts.entries inside.next spot.to second c.launch-self-inside.ensures.entries c.in_ok-spot.ensures.below only refl
     ∙ ap (λ bs. copies_of es ++ record { id = inside.next; from = (e.1).from; to = spot.to; bytes = bs } ∷ []) (c.fill.ensures.bytes ∙ c.as_slice.ensures) in
     let room = ap (λ (m : Memory). m.room) c.fill.ensures.room in
     let most = ap (λ (m : Memory). m.most) c.fill.ensures.room in

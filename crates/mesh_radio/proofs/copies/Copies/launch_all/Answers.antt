@@ -16,7 +16,7 @@ overflow_add-self-2 c =
     let inside = c.self.inside in
     let kept = c.self.invariant.0 in
     let next = ap (λ (v : Flights). v.next_copy) c.self.view_is in
-    let few = copies-few 1 inside.next inside.casts.items kept.casts.rising in
+    let few = copies-few 1 inside.next inside.casts.entries kept.casts.rising in
     omega (arith, kept.counted, c.requires.all, c.requires.next)
 
 pub overflow_add-self-3 : goal.overflow_add-self-3
@@ -24,8 +24,8 @@ overflow_add-self-3 c =
     let inside = c.self.inside in
     let kept = c.self.invariant.0 in
     let next = ap (λ (v : Flights). v.next_copy) c.self.view_is in
-    let few = copies-few 1 inside.next inside.casts.items kept.casts.rising in
-    let fewer = data_few (copies_of inside.casts.items) in
+    let few = copies-few 1 inside.next inside.casts.entries kept.casts.rising in
+    let fewer = data_few (copies_of inside.casts.entries) in
     let more = at_most_all (is_data c.args.bytes.now) c.args.copies in
     omega (arith, kept.with_data, c.if_data.ensures, c.requires.all, c.requires.next)
 
@@ -43,7 +43,7 @@ pub invariant_of-self : goal.invariant_of-self
 invariant_of-self c =
     let inside = c.self.inside in
     let kept = c.self.invariant.0 in
-    let es = inside.casts.items in
+    let es = inside.casts.entries in
     let ms = member_list c.args.to.now in
     let cast : Cast = record { to = c.args.to.now; left = c.args.to.now; from = c.args.from; bytes = c.fill.result } in
     let launched = c.launch-self-inside in
@@ -52,7 +52,7 @@ invariant_of-self c =
     let room = ap (λ (m : Memory). m.room) c.fill.ensures.room in
     let later : inside.next + size cast ≡ inside.next + c.args.copies = omega arith in (
       record {
-        casts = subst (AreCasts launched.new.casts.items) later launched.ensures.casts;
+        casts = subst (AreCasts launched.new.casts.entries) later launched.ensures.casts;
         counted = omega (arith, kept.counted, ap length copies, length-append (copies_of es) (copies_to ms inside.next cast.from cast.bytes), copies_to-length ms inside.next cast.from cast.bytes);
         with_data = omega (
           arith,
@@ -72,7 +72,7 @@ invariant_of-self c =
 pub returns : goal.returns
 returns c =
     let inside = c.self.inside in
-    let es = inside.casts.items in
+    let es = inside.casts.entries in
     let ms = member_list c.args.to.now in
     let cast : Cast = record { to = c.args.to.now; left = c.args.to.now; from = c.args.from; bytes = c.fill.result } in
     let made : c.args.copies ≡ length ms = c.requires.all in

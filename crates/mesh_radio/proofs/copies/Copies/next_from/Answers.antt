@@ -9,7 +9,7 @@ use Rattle.mesh_radio.proofs.copies.Copies.next_from.Goals as goal
 pub returns-in_err-spot-clause-none : goal.returns-in_err-spot-clause-none
 returns-in_err-spot-clause-none c =
     let inside = c.self.inside in
-    let es = inside.casts.items in
+    let es = inside.casts.entries in
     let kept = c.self.invariant.0 in
     none-or c.from_residual.result _
     (ap (λ (v : Flights). from_id v.flying c.args.id) (sym c.self.view_is)
@@ -19,15 +19,15 @@ pub overflow_add-result : goal.overflow_add-result
 overflow_add-result c =
     let inside = c.self.inside in
     let kept = c.self.invariant.0 in
-    let within = next-within inside.casts.items inside.next c.args.id c.in_ok-spot.spot.place c.in_ok-spot.spot.to (c.in_ok-first.first, c.in_ok-first.cast.now) kept.casts.rising kept.casts.lefts c.in_ok-spot.ensures.some (sym c.in_ok-first.ensures.entry) in
+    let within = next-within inside.casts.entries inside.next c.args.id c.in_ok-spot.spot.place c.in_ok-spot.spot.to (c.in_ok-first.first.now, c.in_ok-first.cast.now) kept.casts.rising kept.casts.lefts c.in_ok-spot.ensures.some (sym c.in_ok-first.ensures.entry) in
     omega (arith, c.count_below.ensures.value, within.1, kept.casts.few)
 
 pub returns-clause-some : goal.returns-clause-some
 returns-clause-some c =
     let inside = c.self.inside in
-    let es = inside.casts.items in
+    let es = inside.casts.entries in
     let kept = c.self.invariant.0 in
-    let first = c.in_ok-first.first in
+    let first = c.in_ok-first.first.now in
     let cast = c.in_ok-first.cast.now in
     let to = c.in_ok-spot.spot.to in
     let told = next-told es inside.next c.args.id c.in_ok-spot.spot.place to (first, cast) kept.casts.rising kept.casts.lefts c.in_ok-spot.ensures.some (sym c.in_ok-first.ensures.entry) in
@@ -41,6 +41,6 @@ pub returns-clause-below : goal.returns-clause-below
 returns-clause-below c =
     let inside = c.self.inside in
     let kept = c.self.invariant.0 in
-    let within = next-within inside.casts.items inside.next c.args.id c.in_ok-spot.spot.place c.in_ok-spot.spot.to (c.in_ok-first.first, c.in_ok-first.cast.now) kept.casts.rising kept.casts.lefts c.in_ok-spot.ensures.some (sym c.in_ok-first.ensures.entry) in
+    let within = next-within inside.casts.entries inside.next c.args.id c.in_ok-spot.spot.place c.in_ok-spot.spot.to (c.in_ok-first.first.now, c.in_ok-first.cast.now) kept.casts.rising kept.casts.lefts c.in_ok-spot.ensures.some (sym c.in_ok-first.ensures.entry) in
     let next = ap (λ (v : Flights). v.next_copy) c.self.view_is in
     (omega (arith, c.count_below.ensures.value, within.0), omega (arith, c.count_below.ensures.value, within.1), omega (arith, kept.casts.few))

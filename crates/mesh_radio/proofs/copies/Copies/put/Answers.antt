@@ -31,15 +31,15 @@ pub overflow_add-self : goal.overflow_add-self
 overflow_add-self c =
     let inside = c.self.inside in
     let kept = c.self.invariant.0 in
-    let few = copies-few 1 inside.next inside.casts.items kept.casts.rising in
+    let few = copies-few 1 inside.next inside.casts.entries kept.casts.rising in
     omega (arith, kept.counted, kept.casts.few)
 
 pub overflow_add-self-2 : goal.overflow_add-self-2
 overflow_add-self-2 c =
     let inside = c.self.inside in
     let kept = c.self.invariant.0 in
-    let few = copies-few 1 inside.next inside.casts.items kept.casts.rising in
-    let fewer = data_few (copies_of inside.casts.items) in
+    let few = copies-few 1 inside.next inside.casts.entries kept.casts.rising in
+    let fewer = data_few (copies_of inside.casts.entries) in
     let more = at_most_all (is_data c.as_slice.result.now) 1 in
     omega (arith, kept.with_data, kept.casts.few, c.if_data-more.ensures)
 
@@ -48,14 +48,14 @@ invariant_of-self-2 c =
     let inside = c.self.inside in
     let kept = c.self.invariant.0 in
     let f = c.args.f in
-    let es = inside.casts.items in
-    let before = c.make_way-least.new.casts.items in
+    let es = inside.casts.entries in
+    let before = c.make_way-least.new.casts.entries in
     let cast : Cast = record { to = c.add.new.self; left = c.add.new.self; from = f.from; bytes = f.bytes } in
     let only = c.add.ensures ∙ ap (λ s. insert s f.to) c.new-to.ensures in
     let launched = c.launch-self-inside in
-    let now = launched.new.casts.items in
+    let now = launched.new.casts.entries in
     let one = size-one cast f.to c.requires.receiver only in
-    let same : copies_of before ≡ copies_of es = c.make_way-least.ensures.same ∙ ap copies_of c.reserve.ensures.items in
+    let same : copies_of before ≡ copies_of es = c.make_way-least.ensures.same ∙ ap copies_of c.reserve.ensures.entries in
     let copies : copies_of now ≡ copies_of es ++ f ∷ [] =
     copies-one before now f.id f.to cast launched.ensures.entries c.requires.receiver only refl ∙ ap (λ fs. fs ++ f ∷ []) same in
     let next = ap (λ (v : Flights). v.next_copy) c.self.view_is in
@@ -80,13 +80,13 @@ pub returns-clause-ok : goal.returns-clause-ok
 returns-clause-ok c =
     let inside = c.self.inside in
     let f = c.args.f in
-    let es = inside.casts.items in
-    let before = c.make_way-least.new.casts.items in
+    let es = inside.casts.entries in
+    let before = c.make_way-least.new.casts.entries in
     let cast : Cast = record { to = c.add.new.self; left = c.add.new.self; from = f.from; bytes = f.bytes } in
     let only = c.add.ensures ∙ ap (λ s. insert s f.to) c.new-to.ensures in
     let launched = c.launch-self-inside in
-    let now = launched.new.casts.items in
-    let same : copies_of before ≡ copies_of es = c.make_way-least.ensures.same ∙ ap copies_of c.reserve.ensures.items in
+    let now = launched.new.casts.entries in
+    let same : copies_of before ≡ copies_of es = c.make_way-least.ensures.same ∙ ap copies_of c.reserve.ensures.entries in
     let flying : copies_of now ≡ copies_of es ++ f ∷ [] =
     copies-one before now f.id f.to cast launched.ensures.entries c.requires.receiver only refl ∙ ap (λ fs. fs ++ f ∷ []) same in
     (λ i. record { flying = flying i; next_copy = inside.next; room = inside.rooms.room; most = inside.rooms.most })

@@ -10,12 +10,12 @@ pub returns-in_err-spot : goal.returns-in_err-spot
 returns-in_err-spot c =
     let inside = c.self.inside in
     c.from_residual.ensures
-    ∙ sym (ap (option_map (λ (f : Flying). f.to)) (find-all 1 inside.next c.args.id inside.casts.items (c.self.invariant.0).casts.rising ∙ c.in_err-spot.ensures.none))
+    ∙ sym (ap (option_map (λ (f : Flying). f.to)) (find-all 1 inside.next c.args.id inside.casts.entries (c.self.invariant.0).casts.rising ∙ c.in_err-spot.ensures.none))
     ∙ ap (λ (v : Flights). option_map (λ (f : Flying). f.to) (find_copy v.flying c.args.id)) c.self.view_is
 
 pub returns : goal.returns
 returns c =
     let inside = c.self.inside in
     let found = c.in_ok-spot.ensures.some in
-    sym (ap (option_map (λ (f : Flying). f.to)) (found-copy inside.casts.items 1 inside.next c.args.id c.in_ok-spot.spot.place c.in_ok-spot.spot.to found.entry (c.self.invariant.0).casts.rising found found.at))
+    sym (ap (option_map (λ (f : Flying). f.to)) (found-copy inside.casts.entries 1 inside.next c.args.id c.in_ok-spot.spot.place c.in_ok-spot.spot.to found.entry (c.self.invariant.0).casts.rising found found.at))
     ∙ ap (λ (v : Flights). option_map (λ (f : Flying). f.to) (find_copy v.flying c.args.id)) c.self.view_is
