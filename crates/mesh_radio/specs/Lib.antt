@@ -7,3 +7,5 @@ pub mod Radios
 pub mod Kept
 -- Casts: how it keeps the copies, as casts by their first copies.
 pub mod Casts
+-- Hashes: how the number of a cast is hashed.
+pub mod Hashes

@@ -5,9 +5,11 @@ ghost use Rattle.indexmap.specs.IndexMap.{spare, with_value_at};
 ghost use Rattle.mesh_base.specs.Members.{member_list, rank};
 ghost use Rattle.mesh_radio.specs.Casts.{Entry, AreCasts, AreLeft, IsFound, IsNext, IsSplit, IsFrom, AreGone, IsLeast, IsLeastOf, NoneUpTo, HasNone, HasNoneFrom, size, without_to};
 
+use crate::hashes::NumberHasher;
 use crate::places::place_near;
 use indexmap::IndexMap;
 use mesh_base::{Bytes, NodeSet};
+use std::hash::BuildHasherDefault;
 
 /// A packet that was cast, to whom, and those of them to whom its copy still flies. Its copies have
 /// the ids from the cast's first on, by rising receiver.
@@ -20,7 +22,7 @@ pub struct Cast {
 }
 
 /// Casts by the ids of their first copies, which rise.
-pub type Casts = IndexMap<u64, Cast>;
+pub type Casts = IndexMap<u64, Cast, BuildHasherDefault<NumberHasher>>;
 
 /// Where a copy stands: the place of its cast, and its receiver.
 #[derive(Clone, Copy)]

@@ -13,6 +13,7 @@ use crate::rooms::Rooms;
 use aodv_wire::is_data;
 use mesh_base::{Bytes, Flying, FlyingView, MOST_NODES, NoMemory, NodeSet};
 use std::alloc::Global;
+use std::hash::BuildHasherDefault;
 use std::marker::Model;
 
 /// A copy in flight. Its packet, which copies of one cast share, is lent as it is kept, so that it
@@ -75,7 +76,7 @@ impl Copies {
         ensures { result ≡ record { flying = []; next_copy = next; room = 0; most = 0 } }
     {
         Copies {
-            casts: Casts::new(alloc),
+            casts: Casts::with_hasher(alloc, BuildHasherDefault::new()),
             least: None,
             done: 0,
             next,

@@ -7,6 +7,7 @@ mod adjacency;
 mod casts;
 mod clearing;
 mod copies;
+mod hashes;
 mod joining;
 mod places;
 mod radio;
