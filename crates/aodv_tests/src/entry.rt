@@ -2,12 +2,12 @@
 use aodv_entry::{Dests, Entry, Flag, Known, better, inc, nsqn};
 use mesh_base::NodeSet;
 
-fn first(dests: &Dests) -> Option<(usize, u32)> {
-    if dests.len() > 0 {
-        Some(dests.pair(0))
-    } else {
-        None
-    }
+// Whether node 2 has the number 7, and no other has one.
+fn has_one(dests: &Dests) -> bool {
+    matches!(dests.number(2), Some(7))
+        && dests.number(3).is_none()
+        && dests.len() == 1
+        && dests.pair(0) == (2, 7)
 }
 
 #[test]
@@ -15,12 +15,9 @@ fn finds_the_number_of_a_destination(rt: HostRuntime) {
     let mut dests = Dests::new();
     assert!(rt; dests.is_empty());
     dests.push(2, 7);
-    assert_eq!(rt; dests.number(2), Some(7));
-    assert_eq!(rt; dests.number(3), None);
-    assert_eq!(rt; dests.len(), 1);
-    assert_eq!(rt; first(&dests), Some((2, 7)));
+    assert!(rt; has_one(&dests));
     dests.clear();
-    assert_eq!(rt; dests.number(2), None);
+    assert!(rt; dests.number(2).is_none());
 }
 
 fn entry(dsn: u32, flag: Flag, hops: u8) -> Entry {
@@ -35,15 +32,24 @@ fn entry(dsn: u32, flag: Flag, hops: u8) -> Entry {
 }
 
 #[test]
+fn a_number_is_raised_unless_it_is_0_or_the_last(rt: HostRuntime) {
+    assert!(rt; matches!(inc(0), Some(0)));
+    assert!(rt; matches!(inc(5), Some(6)));
+    assert!(rt; inc(4294967295).is_none());
+}
+
+// Whether an entry that broke with number 6 and 3 hops is as good as one with number 5.
+fn is_as_good_as_before(broken: &Entry) -> bool {
+    nsqn(broken) == 5
+        && better(&entry(5, Flag::Val, 2), broken)
+        && !better(&entry(5, Flag::Val, 3), broken)
+        && better(&entry(6, Flag::Val, 9), broken)
+}
+
+#[test]
 fn an_invalid_entry_is_as_good_as_the_number_before_its_break(rt: HostRuntime) {
-    assert_eq!(rt; inc(0), Some(0));
-    assert_eq!(rt; inc(5), Some(6));
-    assert_eq!(rt; inc(4294967295), None);
     let broken = entry(6, Flag::Inv, 3);
-    assert_eq!(rt; nsqn(&broken), 5);
-    assert!(rt; better(&entry(5, Flag::Val, 2), &broken));
-    assert!(rt; !better(&entry(5, Flag::Val, 3), &broken));
-    assert!(rt; better(&entry(6, Flag::Val, 9), &broken));
+    assert!(rt; is_as_good_as_before(&broken));
     assert!(rt; broken.same(&entry(6, Flag::Inv, 3)));
     assert!(rt; !broken.same(&entry(6, Flag::Val, 3)));
 }

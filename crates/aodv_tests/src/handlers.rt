@@ -13,7 +13,6 @@ use aodv_handlers::{
 use aodv_table::{PlainTable, RowTable, Table};
 use aodv_waiting::Waiting;
 use aodv_wire::{DataView, Message, RerrView, Rrep, Rreq, read};
-use arrayvec::ArrayVec;
 use mesh_base::{Addr, Bytes, Cast, Effect, Mesh, NoMemory, NodeSet, Packet, Variant};
 use std::alloc::Global;
 use std::test::Fail;
@@ -247,8 +246,8 @@ enum Deed {
     Other,
 }
 
-fn deed_of(effect: Option<Effect>) -> Deed {
-    let Some(effect) = effect else {
+fn deed_of(effect: Result<Option<Effect>, NoMemory>) -> Deed {
+    let Ok(Some(effect)) = effect else {
         return Deed::Other;
     };
     if effect.lost || effect.broken.is_some() {
@@ -263,35 +262,73 @@ fn deed_of(effect: Option<Effect>) -> Deed {
     }
 }
 
-// What nine calls did, one after another, and the packets that they cast.
-#[derive(Drop)]
-struct Log {
-    did: [Deed; 9],
-    packets: ArrayVec<u8, 256>,
+// What a call is to do, and the packet that it is to cast.
+type Due<'a> = (Deed, &'a [u8]);
+
+fn is_due(effect: Result<Option<Effect>, NoMemory>, out: &Packet, due: Due<'_>) -> bool {
+    let (deed, packet) = due;
+    deed_of(effect) == deed && out.as_slice() == packet
 }
 
-fn join(all: &mut ArrayVec<u8, 256>, packet: &[u8]) {
-    let _ = all.try_extend_from_slice(packet);
-}
-
-fn set_of(a: usize, b: usize) -> NodeSet
-    requires first { a < 256 }
-    requires second { b < 256 }
-{
+// The nodes that reach this one, of three in a row.
+fn beside(node: usize) -> NodeSet {
     let mut nodes = NodeSet::new();
-    nodes.add(a);
-    nodes.add(b);
+    if node == 1 {
+        nodes.add(0);
+        nodes.add(2);
+    } else {
+        nodes.add(1);
+    }
     nodes
 }
 
-// The first of three nodes in a row asks for a route to the third, and hears of it.
+// Whether a node does what is due where it asks for a route to the third.
+fn asks<T: Table>(core: &mut Core<T>, mesh: &Mesh, due: Due<'_>, out: &mut Packet) -> bool
+    requires mesh { length mesh.now ≡ 3 }
+    requires order { IsInOrder T.nodes T.entries (length mesh.now) core.old }
+    ensures { IsInOrder T.nodes T.entries (length mesh.now) core.new }
+{
+    let effect = ask(core, mesh, 2, out);
+    is_due(effect, out, due)
+}
+
+// Whether a node does what is due where it sends to the third.
+fn sends<T: Table>(core: &mut Core<T>, mesh: &Mesh, due: Due<'_>, out: &mut Packet) -> bool
+    requires mesh { length mesh.now ≡ 3 }
+    requires order { IsInOrder T.nodes T.entries (length mesh.now) core.old }
+    ensures { IsInOrder T.nodes T.entries (length mesh.now) core.new }
+{
+    let range = beside(core.me);
+    let effect = send(core, mesh, &range, 2, out);
+    is_due(Ok(effect), out, due)
+}
+
+// Whether a node does what is due where it hears these bytes.
+fn hears<T: Table>(
+    core: &mut Core<T>,
+    mesh: &Mesh,
+    from: usize,
+    bytes: &[u8],
+    due: Due<'_>,
+    out: &mut Packet,
+) -> bool
+    requires { IsInOrder T.nodes T.entries (length mesh.now) core.old }
+    ensures { IsInOrder T.nodes T.entries (length mesh.now) core.new }
+{
+    let range = beside(core.me);
+    let effect = hear(core, mesh, &range, from, bytes, out);
+    is_due(effect, out, due)
+}
+
+// The first of three nodes in a row asks for a route to the third, and hears of it: whether each
+// call does what is due.
 fn find<T: Table>(
     first: &mut Core<T>,
     second: &mut Core<T>,
     third: &mut Core<T>,
     mesh: &Mesh,
-    log: &mut Log,
-) -> Result<(), NoMemory>
+    out: &mut Packet,
+) -> [bool; 6]
     requires mesh { length mesh.now ≡ 3 }
     requires first { IsInOrder T.nodes T.entries (length mesh.now) first.old }
     requires second { IsInOrder T.nodes T.entries (length mesh.now) second.old }
@@ -300,75 +337,75 @@ fn find<T: Table>(
     ensures second { IsInOrder T.nodes T.entries (length mesh.now) second.new }
     ensures third { IsInOrder T.nodes T.entries (length mesh.now) third.new }
 {
-    let end = set_of(1, 1);
-    let both_ends = set_of(0, 2);
-    let mut out = Packet::new();
-    log.did[0] = deed_of(ask(first, mesh, 2, &mut out)?);
-    join(&mut log.packets, out.as_slice());
-    log.did[1] = deed_of(hear(second, mesh, &both_ends, 0, ASKED, &mut out)?);
-    join(&mut log.packets, out.as_slice());
-    log.did[2] = deed_of(hear(first, mesh, &end, 1, ASKED_ON, &mut out)?);
-    join(&mut log.packets, out.as_slice());
-    log.did[3] = deed_of(hear(third, mesh, &end, 1, ASKED_ON, &mut out)?);
-    join(&mut log.packets, out.as_slice());
-    log.did[4] = deed_of(hear(second, mesh, &both_ends, 2, ANSWERED, &mut out)?);
-    join(&mut log.packets, out.as_slice());
-    log.did[5] = deed_of(hear(first, mesh, &end, 1, ANSWERED_ON, &mut out)?);
-    join(&mut log.packets, out.as_slice());
-    Ok(())
+    [
+        asks(first, mesh, (Deed::SentToAll, ASKED), out),
+        hears(second, mesh, 0, ASKED, (Deed::SentToAll, ASKED_ON), out),
+        hears(first, mesh, 1, ASKED_ON, (Deed::Nothing, b""), out),
+        hears(third, mesh, 1, ASKED_ON, (Deed::SentTo(1), ANSWERED), out),
+        hears(
+            second,
+            mesh,
+            2,
+            ANSWERED,
+            (Deed::SentTo(0), ANSWERED_ON),
+            out,
+        ),
+        hears(first, mesh, 1, ANSWERED_ON, (Deed::Nothing, b""), out),
+    ]
 }
 
-// The datum that waits at the first of three nodes comes to the third.
+// The datum that waits at the first of three nodes comes to the third: whether each call does what
+// is due.
 fn pass_on<T: Table>(
     first: &mut Core<T>,
     second: &mut Core<T>,
     third: &mut Core<T>,
     mesh: &Mesh,
-    log: &mut Log,
-) -> Result<(), NoMemory>
+    out: &mut Packet,
+) -> [bool; 3]
     requires mesh { length mesh.now ≡ 3 }
     requires first { IsInOrder T.nodes T.entries (length mesh.now) first.old }
     requires second { IsInOrder T.nodes T.entries (length mesh.now) second.old }
     requires third { IsInOrder T.nodes T.entries (length mesh.now) third.old }
 {
-    let end = set_of(1, 1);
-    let mut out = Packet::new();
-    log.did[6] = deed_of(send(first, mesh, &end, 2, &mut out));
-    join(&mut log.packets, out.as_slice());
-    log.did[7] = deed_of(hear(second, mesh, &set_of(0, 2), 0, DATUM, &mut out)?);
-    join(&mut log.packets, out.as_slice());
-    log.did[8] = deed_of(hear(third, mesh, &end, 1, DATUM, &mut out)?);
-    join(&mut log.packets, out.as_slice());
-    Ok(())
+    [
+        sends(first, mesh, (Deed::SentTo(1), DATUM), out),
+        hears(second, mesh, 0, DATUM, (Deed::SentTo(2), DATUM), out),
+        hears(third, mesh, 1, DATUM, (Deed::Delivered, b""), out),
+    ]
 }
 
-// The first of three nodes in a row has a datum for the third, finds a route and sends the datum.
-fn send_one<T: Table>(
+// Whether the first of three nodes in a row, which has a datum for the third, finds a route and
+// sends the datum, with these effects and packets.
+fn sends_one<T: Table>(
     alloc: Global,
     first: &mut Core<T>,
     second: &mut Core<T>,
     third: &mut Core<T>,
     mesh: &Mesh,
-) -> Result<Log, NoMemory>
+) -> Result<bool, NoMemory>
     requires mesh { length mesh.now ≡ 3 }
     requires first { IsInOrder T.nodes T.entries (length mesh.now) first.old }
     requires second { IsInOrder T.nodes T.entries (length mesh.now) second.old }
     requires third { IsInOrder T.nodes T.entries (length mesh.now) third.old }
 {
-    let mut log = Log {
-        did: [Deed::Other; 9],
-        packets: ArrayVec::new(),
-    };
+    let mut out = Packet::new();
     let body = Bytes::copy_of(alloc, b"hi")?;
     let _ = takes_a_datum(first, mesh, 2, body)?;
-    find(first, second, third, mesh, &mut log)?;
-    pass_on(first, second, third, mesh, &mut log)?;
-    Ok(log)
+    let found = find(first, second, third, mesh, &mut out);
+    let passed = pass_on(first, second, third, mesh, &mut out);
+    Ok(found == [true; 6] && passed == [true; 3])
 }
 
-// The log of three nodes in a row, each with one of these tables. It only makes the nodes, since
+// The same of three nodes in a row, each with one of these tables. It only makes the nodes, since
 // each way out of a function that owns them ends all three.
-fn discover<T: Table>(alloc: Global, one: T, two: T, three: T, mesh: &Mesh) -> Result<Log, NoMemory>
+fn discovers<T: Table>(
+    alloc: Global,
+    one: T,
+    two: T,
+    three: T,
+    mesh: &Mesh,
+) -> Result<bool, NoMemory>
     requires mesh { length mesh.now ≡ 3 }
     requires one { (T.nodes one ≡ 3) × (T.entries one ≡ maps.empty) }
     requires two { (T.nodes two ≡ 3) × (T.entries two ≡ maps.empty) }
@@ -377,7 +414,25 @@ fn discover<T: Table>(alloc: Global, one: T, two: T, three: T, mesh: &Mesh) -> R
     let mut first = opening(alloc, one, mesh, 0)?;
     let mut second = opening(alloc, two, mesh, 1)?;
     let mut third = opening(alloc, three, mesh, 2)?;
-    send_one(alloc, &mut first, &mut second, &mut third, mesh)
+    sends_one(alloc, &mut first, &mut second, &mut third, mesh)
+}
+
+fn discovers_over_maps(alloc: Global, mesh: &Mesh) -> Result<bool, NoMemory>
+    requires { length mesh.now ≡ 3 }
+{
+    let one = PlainTable::new(alloc, 3);
+    let two = PlainTable::new(alloc, 3);
+    let three = PlainTable::new(alloc, 3);
+    discovers(alloc, one, two, three, mesh)
+}
+
+fn discovers_over_rows(alloc: Global, mesh: &Mesh) -> Result<bool, NoMemory>
+    requires { length mesh.now ≡ 3 }
+{
+    let one = RowTable::new(alloc, 3)?;
+    let two = RowTable::new(alloc, 3)?;
+    let three = RowTable::new(alloc, 3)?;
+    discovers(alloc, one, two, three, mesh)
 }
 
 fn mesh_of_three() -> Mesh {
@@ -388,84 +443,45 @@ fn mesh_of_three() -> Mesh {
     mesh
 }
 
-// The packets of the discovery, one after another.
-fn packets() -> ArrayVec<u8, 256> {
-    let mut all = ArrayVec::new();
-    join(&mut all, ASKED);
-    join(&mut all, ASKED_ON);
-    join(&mut all, ANSWERED);
-    join(&mut all, ANSWERED_ON);
-    join(&mut all, DATUM);
-    join(&mut all, DATUM);
-    all
-}
-
-// What the calls of the discovery do: they cast, and the last delivers.
-const DISCOVERY: [Deed; 9] = [
-    Deed::SentToAll,
-    Deed::SentToAll,
-    Deed::Nothing,
-    Deed::SentTo(1),
-    Deed::SentTo(0),
-    Deed::Nothing,
-    Deed::SentTo(1),
-    Deed::SentTo(2),
-    Deed::Delivered,
-];
-
-// Each call of a discovery over a map and over rows: the same effects, and the same packets.
 #[test]
 fn both_tables_cast_the_same_packets(rt: HostRuntime) -> Result<(), Fail> {
     let mesh = mesh_of_three();
-    assert_eq!(rt; mesh.len(), 3);
-    let alloc = rt.alloc();
-    let one = PlainTable::new(alloc, 3);
-    let two = PlainTable::new(alloc, 3);
-    let three = PlainTable::new(alloc, 3);
-    let plain = discover(alloc, one, two, three, &mesh)?;
-    let one = RowTable::new(alloc, 3)?;
-    let two = RowTable::new(alloc, 3)?;
-    let three = RowTable::new(alloc, 3)?;
-    let rows = discover(alloc, one, two, three, &mesh)?;
-    for k in 0..9 {
-        assert_eq!(rt; plain.did[k], DISCOVERY[k]);
-        assert_eq!(rt; rows.did[k], DISCOVERY[k]);
-    }
-    assert_eq!(rt; plain.packets.as_slice(), packets().as_slice());
-    assert_eq!(rt; rows.packets.as_slice(), packets().as_slice());
+    assert!(rt; mesh.len() == 3);
+    assert!(rt; discovers_over_maps(rt.alloc(), &mesh)?);
+    assert!(rt; discovers_over_rows(rt.alloc(), &mesh)?);
     Ok(())
 }
 
-// What a node does that has a datum, hears of a route, hears that it is lost, and asks; and whether
-// it had room for the datum, could send nothing without a route, and could then lose its link.
-fn lose_the_route<T: Table>(
+// A node has a datum, hears of a route, hears that it is lost, and asks: whether it had room for
+// the datum, could send nothing without a route, and could lose its link at the end.
+fn loses_its_route<T: Table>(
     alloc: Global,
     core: &mut Core<T>,
     mesh: &Mesh,
-) -> Result<([Deed; 3], [bool; 3]), NoMemory>
+) -> Result<bool, NoMemory>
     requires mesh { length mesh.now ≡ 3 }
     requires order { IsInOrder T.nodes T.entries (length mesh.now) core.old }
 {
-    let end = set_of(1, 1);
+    let end = beside(0);
     let mut out = Packet::new();
     let body = Bytes::copy_of(alloc, b"hi")?;
     let taken = takes_a_datum(core, mesh, 2, body)?;
-    let found = deed_of(hear(core, mesh, &end, 1, ANSWERED_ON, &mut out)?);
-    let told = deed_of(hear(core, mesh, &end, 1, BROKEN, &mut out)?);
+    let found = deed_of(hear(core, mesh, &end, 1, ANSWERED_ON, &mut out));
+    let told = deed_of(hear(core, mesh, &end, 1, BROKEN, &mut out));
     let idle = send(core, mesh, &end, 2, &mut out).is_none();
-    let asked = deed_of(ask(core, mesh, 2, &mut out)?);
+    let asked = deed_of(ask(core, mesh, 2, &mut out));
     let ended = link_broken(core, mesh, 1, &mut out).is_ok();
-    Ok(([found, told, asked], [taken, idle, ended]))
+    Ok(
+        [found, told, asked] == [Deed::Nothing, Deed::Nothing, Deed::SentToAll]
+            && [taken, idle, ended] == [true; 3],
+    )
 }
 
 #[test]
 fn a_node_that_lost_its_route_asks_again(rt: HostRuntime) -> Result<(), Fail> {
     let mesh = mesh_of_three();
-    assert_eq!(rt; mesh.len(), 3);
-    let alloc = rt.alloc();
-    let mut first = opening(alloc, PlainTable::new(alloc, 3), &mesh, 0)?;
-    let (did, are) = lose_the_route(alloc, &mut first, &mesh)?;
-    assert_eq!(rt; did, [Deed::Nothing, Deed::Nothing, Deed::SentToAll]);
-    assert_eq!(rt; are, [true; 3]);
+    assert!(rt; mesh.len() == 3);
+    let mut first = opening(rt.alloc(), PlainTable::new(rt.alloc(), 3), &mesh, 0)?;
+    assert!(rt; loses_its_route(rt.alloc(), &mut first, &mesh)?);
     Ok(())
 }

@@ -38,7 +38,23 @@ fn fault_of(node: &mut Node, mesh: &Mesh) -> Option<TurnError>
     }
 }
 
-// Whether node 0 refuses a packet of node 1 so, and then has so many packets left.
+// Whether a node refuses a packet of node 1 so, and then has so many packets left.
+fn refuses(
+    node: &mut Node,
+    alloc: Global,
+    mesh: &Mesh,
+    bytes: &[u8],
+    why: TurnError,
+    left: usize,
+) -> Result<bool, NoMemory>
+    requires size { node.old.size ≡ 2 }
+    requires mesh { length mesh.now ≡ 2 }
+    requires me { node.old.core.ip ≡ 0 }
+{
+    hear(node, alloc, bytes)?;
+    Ok(fault_of(node, mesh) == Some(why) && node.inbox().len() == left)
+}
+
 fn is_refused(
     alloc: Global,
     mesh: &Mesh,
@@ -49,14 +65,13 @@ fn is_refused(
     requires { length mesh.now ≡ 2 }
 {
     let mut node = Node::new(alloc, mesh, 0)?;
-    hear(&mut node, alloc, bytes)?;
-    Ok(fault_of(&mut node, mesh) == Some(why) && node.inbox().len() == left)
+    refuses(&mut node, alloc, mesh, bytes, why, left)
 }
 
 #[test]
 fn a_turn_is_refused(rt: HostRuntime) -> Result<(), Fail> {
     let mesh = two_nodes();
-    assert_eq!(rt; mesh.len(), 2);
+    assert!(rt; mesh.len() == 2);
     let request: [u8; 24] = [
         1, 8, 0, 0, 0, 0, 0, 1, 10, 0, 0, 9, 0, 0, 0, 0, 10, 0, 0, 2, 0, 0, 0, 2,
     ];
@@ -150,36 +165,57 @@ fn asked(node: &mut Node, mesh: &Mesh, out: &mut Packet) -> Result<Cast, AskErro
     Ok(node.ask(mesh, 1, out)?.cast)
 }
 
-#[test]
-fn a_datum_goes_to_a_neighbour(rt: HostRuntime) -> Result<(), Fail> {
-    let mesh = two_nodes();
-    assert_eq!(rt; mesh.len(), 2);
+// The reply of node 1, and the packet in which it gets its datum.
+const REPLY: &[u8] = b"\x02\0\0\0\x0a\0\0\x02\0\0\0\x01\x0a\0\0\x01\xff\xff\xff\xff";
+
+const DATUM: &[u8] = b"\x10\0\0\0\x0a\0\0\x02\x0a\0\0\x01hi";
+
+// Whether a node that has taken a datum asks for a route once, and sends nothing before it has one.
+fn asks_once(node: &mut Node, mesh: &Mesh, range: &NodeSet, out: &mut Packet) -> bool
+    requires size { node.old.size ≡ 2 }
+    requires mesh { length mesh.now ≡ 2 }
+    requires me { node.old.core.ip ≡ 0 }
+    ensures size { node.new.size ≡ 2 }
+    ensures me { node.new.core.ip ≡ 0 }
+{
+    let stored = stores(node, mesh, range, out);
+    let idle = matches!(sent(node, mesh, range, out), Err(SendError::Idle));
+    let has_asked = matches!(asked(node, mesh, out), Ok(Cast::All));
+    let is_request = node.sn() == 2 && out.len() == 24;
+    let is_done = matches!(asked(node, mesh, out), Err(AskError::Idle));
+    stored && idle && has_asked && is_request && is_done
+}
+
+// Whether a node takes a reply, sends the datum that waits, and then has no other.
+fn sends_at_a_reply(node: &mut Node, mesh: &Mesh, range: &NodeSet, out: &mut Packet) -> bool
+    requires size { node.old.size ≡ 2 }
+    requires mesh { length mesh.now ≡ 2 }
+{
+    takes_a_reply(node, mesh, range, out)
+        && matches!(sent(node, mesh, range, out), Ok(Cast::One(1)))
+        && out.as_slice() == DATUM
+        && !node.waiting().has(1)
+}
+
+fn passes_a_datum_on(node: &mut Node, alloc: Global, mesh: &Mesh) -> Result<bool, NoMemory>
+    requires size { node.old.size ≡ 2 }
+    requires mesh { length mesh.now ≡ 2 }
+    requires me { node.old.core.ip ≡ 0 }
+{
     let mut range = NodeSet::new();
     range.add(1);
     let mut out = Packet::new();
+    give(node, alloc)?;
+    let has_asked = asks_once(node, mesh, &range, &mut out);
+    hear(node, alloc, REPLY)?;
+    Ok(has_asked && sends_at_a_reply(node, mesh, &range, &mut out))
+}
+
+#[test]
+fn a_datum_goes_to_a_neighbour(rt: HostRuntime) -> Result<(), Fail> {
+    let mesh = two_nodes();
+    assert!(rt; mesh.len() == 2);
     let mut node = Node::new(rt.alloc(), &mesh, 0)?;
-    give(&mut node, rt.alloc())?;
-    assert!(rt; stores(&mut node, &mesh, &range, &mut out));
-    assert!(rt;
-        matches!(
-            sent(&mut node, &mesh, &range, &mut out),
-            Err(SendError::Idle)
-        )
-    );
-    assert!(rt; matches!(asked(&mut node, &mesh, &mut out), Ok(Cast::All)));
-    assert_eq!(rt; node.sn(), 2);
-    assert_eq!(rt; out.len(), 24);
-    assert!(rt; matches!(asked(&mut node, &mesh, &mut out), Err(AskError::Idle)));
-    let reply: [u8; 20] = [
-        2, 0, 0, 0, 10, 0, 0, 2, 0, 0, 0, 1, 10, 0, 0, 1, 255, 255, 255, 255,
-    ];
-    hear(&mut node, rt.alloc(), &reply)?;
-    assert!(rt; takes_a_reply(&mut node, &mesh, &range, &mut out));
-    assert!(rt; matches!(sent(&mut node, &mesh, &range, &mut out), Ok(Cast::One(1))));
-    assert_eq!(rt;
-        out.as_slice(),
-        [16, 0, 0, 0, 10, 0, 0, 2, 10, 0, 0, 1, 104, 105].as_slice()
-    );
-    assert!(rt; !node.waiting().has(1));
+    assert!(rt; passes_a_datum_on(&mut node, rt.alloc(), &mesh)?);
     Ok(())
 }

@@ -3,7 +3,9 @@
 ghost use Rattle.std.specs.Prelude.{◌≤◌};
 
 use aodv_wire::{Message, RerrView, Rrep, Rreq, read};
-use mesh_base::Addr;
+use mesh_base::{Addr, Packet};
+use std::alloc::{AllocError, Global};
+use std::fmt::{Display, Formatter, Result as Written, Write};
 use std::test::Fail;
 
 // In each line the bytes of a packet in hexadecimal digits, and what they are: a message, or why
@@ -194,65 +196,80 @@ fn digit(c: u8) -> u8
     }
 }
 
-fn packet_of(rt: &HostRuntime, digits: &str) -> Result<Vec<u8>, Fail> {
-    let digits = digits.as_bytes();
-    let mut bytes = Vec::new(rt.alloc());
+fn packet_of(digits: &[u8]) -> Packet {
+    let mut packet = Packet::new();
     for i in 0..digits.len() / 2 {
-        bytes.push(16 * digit(digits[2 * i]) + digit(digits[2 * i + 1]))?;
+        let _ = packet.try_push(16 * digit(digits[2 * i]) + digit(digits[2 * i + 1]));
     }
-    Ok(bytes)
+    packet
 }
 
-fn dotted(rt: &HostRuntime, a: Addr) -> Result<String, Fail> {
-    let [w, x, y, z] = a.0.to_be_bytes();
-    Ok(format!(in rt.alloc(); "{w}.{x}.{y}.{z}")?)
+#[derive(Drop)]
+struct Dotted(Addr);
+
+impl Display for Dotted {
+    fn fmt<W: Write>(&self, f: &mut Formatter<W>) -> Written {
+        let [w, x, y, z] = self.0.0.to_be_bytes();
+        write!(f, "{w}.{x}.{y}.{z}")
+    }
 }
 
-fn error_words(rt: &HostRuntime, pairs: &RerrView<'_>) -> Result<String, Fail> {
-    let mut words = String::from_str(rt.alloc(), "RERR")?;
+fn write_request<W: Write>(f: &mut Formatter<W>, m: &Rreq) -> Written {
+    let (dip, oip) = (Dotted(m.dip), Dotted(m.oip));
+    let known = if m.known { "kno" } else { "unk" };
+    let (hops, id, dsn, osn) = (m.hops, m.id, m.dsn, m.osn);
+    write!(
+        f,
+        "RREQ hops {hops} id {id} dip {dip} dsn {dsn} {known} oip {oip} osn {osn}"
+    )
+}
+
+fn write_reply<W: Write>(f: &mut Formatter<W>, m: &Rrep) -> Written {
+    let (dip, oip) = (Dotted(m.dip), Dotted(m.oip));
+    let (hops, dsn) = (m.hops, m.dsn);
+    write!(f, "RREP hops {hops} dip {dip} dsn {dsn} oip {oip}")
+}
+
+fn write_error<W: Write>(f: &mut Formatter<W>, pairs: &RerrView<'_>) -> Written {
+    f.write_str("RERR")?;
     for k in 0..pairs.len() {
         let (dest, number) = pairs.pair(k);
         let mark = if k == 0 { "" } else { "," };
-        let dest = dotted(rt, dest)?;
-        words.push_str(&format!(in rt.alloc(); "{mark} {dest} to {number}")?)?;
+        let dest = Dotted(dest);
+        write!(f, "{mark} {dest} to {number}")?;
     }
-    Ok(words)
-}
-
-fn request_words(rt: &HostRuntime, m: &Rreq) -> Result<String, Fail> {
-    let (dip, oip) = (dotted(rt, m.dip)?, dotted(rt, m.oip)?);
-    let known = if m.known { "kno" } else { "unk" };
-    let (hops, id, dsn, osn) = (m.hops, m.id, m.dsn, m.osn);
-    Ok(format!(in rt.alloc();
-        "RREQ hops {hops} id {id} dip {dip} dsn {dsn} {known} oip {oip} osn {osn}"
-    )?)
-}
-
-fn reply_words(rt: &HostRuntime, m: &Rrep) -> Result<String, Fail> {
-    let (dip, oip) = (dotted(rt, m.dip)?, dotted(rt, m.oip)?);
-    let (hops, dsn) = (m.hops, m.dsn);
-    Ok(format!(in rt.alloc(); "RREP hops {hops} dip {dip} dsn {dsn} oip {oip}")?)
+    Ok(())
 }
 
 // What bytes are, in words.
-fn words_of(rt: &HostRuntime, packet: &[u8]) -> Result<String, Fail> {
-    match read(packet) {
-        Err(why) => Ok(format!(in rt.alloc(); "{why:?}")?),
-        Ok(Message::Rreq(m)) => request_words(rt, &m),
-        Ok(Message::Rrep(m)) => reply_words(rt, &m),
-        Ok(Message::Rerr(pairs)) => error_words(rt, &pairs),
-        Ok(Message::Parcel(_)) => Ok(String::from_str(rt.alloc(), "data")?),
+#[derive(Drop)]
+struct Words<'a>(&'a [u8]);
+
+impl Display for Words<'_> {
+    fn fmt<W: Write>(&self, f: &mut Formatter<W>) -> Written {
+        match read(self.0) {
+            Err(why) => write!(f, "{why:?}"),
+            Ok(Message::Rreq(m)) => write_request(f, &m),
+            Ok(Message::Rrep(m)) => write_reply(f, &m),
+            Ok(Message::Rerr(pairs)) => write_error(f, &pairs),
+            Ok(Message::Parcel(_)) => f.write_str("data"),
+        }
     }
+}
+
+// Whether the bytes of these digits are what the words say.
+fn is_read(alloc: Global, digits: &str, due: &str) -> Result<bool, AllocError> {
+    let packet = packet_of(digits.as_bytes());
+    let words = Words(packet.as_slice());
+    Ok(format!(in alloc; "{words}")?.as_str() == due)
 }
 
 #[test]
 fn outside_packets_are_read(rt: HostRuntime) -> Result<(), Fail> {
     for row in PACKETS.lines() {
         let (digits, due) = row.split_once(' ').unwrap_or((row, ""));
-        let packet = packet_of(&rt, digits)?;
-        let words = words_of(&rt, &packet)?;
-        assert_eq!(rt; words.as_str(), due, "{digits}");
+        assert!(rt; is_read(rt.alloc(), digits, due)?, "{digits}");
     }
-    assert_eq!(rt; PACKETS.lines().count(), 173);
+    assert!(rt; PACKETS.lines().count() == 173);
     Ok(())
 }

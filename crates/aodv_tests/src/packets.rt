@@ -15,11 +15,8 @@ const REQUEST: [u8; 24] = [
     1, 0x0f, 0xff, 0, 0, 0, 0, 1, 10, 0, 0, 1, 0, 0, 0, 0, 10, 0, 0, 2, 0, 0, 0, 2,
 ];
 
-fn why(bytes: &[u8]) -> Option<WireError> {
-    match read(bytes) {
-        Ok(_) => None,
-        Err(e) => Some(e),
-    }
+fn is_refused(bytes: &[u8], why: WireError) -> bool {
+    matches!(read(bytes), Err(e) if e == why)
 }
 
 #[test]
@@ -37,7 +34,9 @@ fn refuses_as_the_formats_say(rt: HostRuntime) {
         2, 0, 5, 0, 10, 0, 0, 3, 0, 0, 0, 1, 10, 0, 0, 1, 0xff, 0xff, 0xff, 0xff,
     ];
     let twice: [u8; 20] = [3, 0, 0, 2, 10, 0, 0, 3, 0, 0, 0, 2, 10, 0, 0, 3, 0, 0, 0, 5];
-    let table: [(&[u8], WireError); 10] = [
+    let no_body: [u8; 12] = [16, 0, 0, 0, 10, 0, 0, 3, 10, 0, 0, 1];
+    let bad_data: [u8; 14] = [16, 0, 0, 1, 10, 0, 0, 3, 10, 0, 0, 1, 0x68, 0x69];
+    let table: [(&[u8], WireError); 11] = [
         (&[], WireError::Short),
         (&[4, 0], WireError::UnknownType(4)),
         (&REQUEST[..23], WireError::WrongLength),
@@ -47,18 +46,20 @@ fn refuses_as_the_formats_say(rt: HostRuntime) {
         (&prefix, WireError::OutsideProfile),
         (&[3, 0, 0, 0], WireError::NoDestinations),
         (&twice, WireError::Repeated(THREE)),
-        (
-            &[16, 0, 0, 1, 10, 0, 0, 3, 10, 0, 0, 1, 0x68, 0x69],
-            WireError::BadData,
-        ),
+        (&bad_data, WireError::BadData),
+        (&no_body, WireError::WrongLength),
     ];
     for (bytes, error) in table {
-        assert_eq!(rt; why(bytes), Some(error), "{error}");
+        assert!(rt; is_refused(bytes, error), "{error}");
     }
-    assert_eq!(rt;
-        why(&[16, 0, 0, 0, 10, 0, 0, 3, 10, 0, 0, 1]),
-        Some(WireError::WrongLength)
-    );
+}
+
+fn is_request(bytes: &[u8], due: Rreq) -> bool {
+    matches!(read(bytes), Ok(Message::Rreq(m)) if m == due)
+}
+
+fn is_reply(bytes: &[u8], due: Rrep) -> bool {
+    matches!(read(bytes), Ok(Message::Rrep(m)) if m == due)
 }
 
 #[test]
@@ -72,28 +73,18 @@ fn reads_what_the_formats_say(rt: HostRuntime) {
         oip: TWO,
         osn: 2,
     };
-    match read(&REQUEST) {
-        Ok(Message::Rreq(m)) => assert_eq!(rt; m, request),
-        _ => assert!(rt; false, "no request"),
-    }
-    let reply: [u8; 20] = [2, 0, 0, 0, 10, 0, 0, 3, 0, 0, 0, 1, 10, 0, 0, 1, 0, 0, 0, 0];
-    match read(&reply) {
-        Ok(Message::Rrep(m)) => assert_eq!(rt;
-            m,
-            Rrep {
-                hops: 0,
-                dip: THREE,
-                dsn: 1,
-                oip: ONE
-            }
-        ),
-        _ => assert!(rt; false, "no reply"),
-    }
+    assert!(rt; is_request(&REQUEST, request));
+    let bytes: [u8; 20] = [2, 0, 0, 0, 10, 0, 0, 3, 0, 0, 0, 1, 10, 0, 0, 1, 0, 0, 0, 0];
+    let reply = Rrep {
+        hops: 0,
+        dip: THREE,
+        dsn: 1,
+        oip: ONE,
+    };
+    assert!(rt; is_reply(&bytes, reply));
 }
 
-#[test]
-fn writes_these_bytes(rt: HostRuntime) {
-    let mut out = Packet::new();
+fn writes_a_request(out: &mut Packet) -> bool {
     let known = Rreq {
         hops: 7,
         id: 0x01020304,
@@ -103,51 +94,51 @@ fn writes_these_bytes(rt: HostRuntime) {
         oip: TWO,
         osn: 6,
     };
-    write_rreq(&known, &mut out);
-    assert_eq!(rt;
-        out.as_slice(),
-        [
-            1, 0, 0, 7, 1, 2, 3, 4, 10, 0, 0, 1, 0, 0, 0, 5, 10, 0, 0, 2, 0, 0, 0, 6
+    write_rreq(&known, out);
+    out.as_slice()
+        == [
+            1, 0, 0, 7, 1, 2, 3, 4, 10, 0, 0, 1, 0, 0, 0, 5, 10, 0, 0, 2, 0, 0, 0, 6,
         ]
         .as_slice()
-    );
-    write_rrep(
-        &Rrep {
-            hops: 8,
-            dip: THREE,
-            dsn: 9,
-            oip: ONE,
-        },
-        &mut out,
-    );
-    assert_eq!(rt;
-        out.as_slice(),
-        [
-            2, 0, 0, 8, 10, 0, 0, 3, 0, 0, 0, 9, 10, 0, 0, 1, 255, 255, 255, 255
+}
+
+fn writes_a_reply(out: &mut Packet) -> bool {
+    let reply = Rrep {
+        hops: 8,
+        dip: THREE,
+        dsn: 9,
+        oip: ONE,
+    };
+    write_rrep(&reply, out);
+    out.as_slice()
+        == [
+            2, 0, 0, 8, 10, 0, 0, 3, 0, 0, 0, 9, 10, 0, 0, 1, 255, 255, 255, 255,
         ]
         .as_slice()
-    );
-    write_data(THREE, ONE, b"hi", &mut out);
-    assert_eq!(rt;
-        out.as_slice(),
-        [16, 0, 0, 0, 10, 0, 0, 3, 10, 0, 0, 1, 0x68, 0x69].as_slice()
-    );
-    match read(&out) {
-        Ok(Message::Parcel(datum)) => assert_eq!(rt; datum.body(), b"hi".as_slice()),
-        _ => assert!(rt; false, "no datum"),
+}
+
+fn writes_a_datum(out: &mut Packet) -> bool {
+    write_data(THREE, ONE, b"hi", out);
+    out.as_slice() == [16, 0, 0, 0, 10, 0, 0, 3, 10, 0, 0, 1, 0x68, 0x69].as_slice()
+        && matches!(read(out), Ok(Message::Parcel(datum)) if datum.body() == b"hi".as_slice())
+}
+
+fn writes_an_error(out: &mut Packet) -> bool {
+    write_rerr(&[(ONE, 2), (THREE, 4)], out);
+    if out.as_slice() != [3, 0, 0, 2, 10, 0, 0, 1, 0, 0, 0, 2, 10, 0, 0, 3, 0, 0, 0, 4].as_slice() {
+        return false;
     }
-    write_rerr(&[(ONE, 2), (THREE, 4)], &mut out);
-    assert_eq!(rt;
-        out.as_slice(),
-        [3, 0, 0, 2, 10, 0, 0, 1, 0, 0, 0, 2, 10, 0, 0, 3, 0, 0, 0, 4].as_slice()
-    );
-    match read(&out) {
-        Ok(Message::Rerr(pairs)) => {
-            assert_eq!(rt; pairs.len(), 2);
-            if pairs.len() == 2 {
-                assert_eq!(rt; pairs.pair(1), (THREE, 4));
-            }
-        }
-        _ => assert!(rt; false, "no route error"),
+    match read(out) {
+        Ok(Message::Rerr(pairs)) => pairs.len() == 2 && pairs.pair(1) == (THREE, 4),
+        _ => false,
     }
+}
+
+#[test]
+fn writes_these_bytes(rt: HostRuntime) {
+    let mut out = Packet::new();
+    assert!(rt; writes_a_request(&mut out));
+    assert!(rt; writes_a_reply(&mut out));
+    assert!(rt; writes_a_datum(&mut out));
+    assert!(rt; writes_an_error(&mut out));
 }

@@ -6,6 +6,7 @@ ghost use Rattle.aodv_entry.specs.declared.entry.Flag.TheVariants.{Val};
 use aodv_entry::{Dests, Entry, Flag, Known};
 use aodv_table::{PlainTable, RowTable, Table};
 use mesh_base::{NoMemory, NodeSet};
+use std::alloc::Global;
 use std::test::Fail;
 
 fn entry(dsn: u32, dsk: Known, flag: Flag, hops: u8, next: usize) -> Entry {
@@ -53,41 +54,38 @@ fn raised() -> Entry {
     entry(6, Known::Kno, Flag::Inv, 3, 1)
 }
 
-// r comes for a destination that has that entry, or none: whether the table says that it changed,
-// the entry that is then there, and whether the destination is valid.
+// What stands in a table, what comes, what stands there then, and whether that is new.
+type Case = (Option<Entry>, Entry, Entry, bool);
+
+// Whether the table says that it changed, the entry that is then there, and whether the destination
+// is valid.
 fn updated<T: Table>(
-    mut table: T,
+    table: &mut T,
     before: Option<Entry>,
-    r: Entry,
+    comes: Entry,
 ) -> Result<(bool, Option<Entry>, bool), NoMemory>
-    requires nodes { T.nodes table ≡ 10 }
-    requires valid { r.flag ≡ Val }
+    requires nodes { T.nodes table.old ≡ 10 }
+    requires valid { comes.flag ≡ Val }
 {
     table.make_room(3)?;
     table.put(3, before);
-    let changed = table.update(3, r);
+    let changed = table.update(3, comes);
     Ok((changed, table.get(3), table.valid().has(3)))
 }
 
-// Whether r gives that entry for a destination that has this one, or none, and the table says so.
-fn gives<T: Table>(
-    table: T,
-    before: Option<Entry>,
-    r: Entry,
-    after: Entry,
-    changes: bool,
-) -> Result<bool, NoMemory>
-    requires { T.nodes table ≡ 10 }
+// Whether the table gives what the case says.
+fn gives<T: Table>(table: &mut T, case: &Case) -> Result<bool, NoMemory>
+    requires { T.nodes table.old ≡ 10 }
 {
-    if r.flag != Flag::Val {
+    let (before, comes, after, changes) = *case;
+    if comes.flag != Flag::Val {
         return Ok(false);
     }
-    let (changed, entry, valid) = updated(table, before, r)?;
+    let (changed, entry, valid) = updated(table, before, comes)?;
     Ok(changed == changes && same(entry, Some(after)) && valid == (after.flag == Flag::Val))
 }
 
-// What is there, what comes, what is there then, and whether that is new.
-fn cases() -> [(Option<Entry>, Entry, Entry, bool); 8] {
+fn cases() -> [Case; 8] {
     [
         (None, heard(), heard(), true),
         (
@@ -128,8 +126,8 @@ fn cases() -> [(Option<Entry>, Entry, Entry, bool); 8] {
 // Whether a table with two entries by node 2, the later of them with the greatest number, has both
 // among the destinations by node 2 and none by node 3, and names the later where the numbers are
 // raised.
-fn names_the_later<T: Table>(mut table: T) -> Result<bool, NoMemory>
-    requires { T.nodes table ≡ 10 }
+fn names_the_later<T: Table>(table: &mut T) -> Result<bool, NoMemory>
+    requires { T.nodes table.old ≡ 10 }
 {
     table.make_room(1)?;
     table.make_room(9)?;
@@ -138,24 +136,27 @@ fn names_the_later<T: Table>(mut table: T) -> Result<bool, NoMemory>
     let mut out = Dests::new();
     let raised = table.dests_via(2, &mut out);
     let by_two = table.through(2);
-    Ok(by_two.has(1) && by_two.has(9) && table.through(3).is_empty() && raised == Err(9))
+    Ok(by_two.has(1) && by_two.has(9) && table.through(3).is_empty() && matches!(raised, Err(9)))
+}
+
+fn both_give(alloc: Global, case: &Case) -> Result<bool, NoMemory> {
+    Ok(
+        gives(&mut PlainTable::new(alloc, 10), case)?
+            && gives(&mut RowTable::new(alloc, 10)?, case)?,
+    )
 }
 
 #[test]
 fn an_entry_gives_way_to_a_better_one(rt: HostRuntime) -> Result<(), Fail> {
-    let cases = cases();
-    for (k, (before, r, after, changes)) in cases.iter().enumerate() {
-        let plain = PlainTable::new(rt.alloc(), 10);
-        assert!(rt; gives(plain, *before, *r, *after, *changes)?, "row {k}");
-        let rows = RowTable::new(rt.alloc(), 10)?;
-        assert!(rt; gives(rows, *before, *r, *after, *changes)?, "row {k}");
+    for (k, case) in cases().iter().enumerate() {
+        assert!(rt; both_give(rt.alloc(), case)?, "row {k}");
     }
     Ok(())
 }
 
 #[test]
 fn a_number_that_cannot_be_raised_is_named(rt: HostRuntime) -> Result<(), Fail> {
-    assert!(rt; names_the_later(PlainTable::new(rt.alloc(), 10))?);
-    assert!(rt; names_the_later(RowTable::new(rt.alloc(), 10)?)?);
+    assert!(rt; names_the_later(&mut PlainTable::new(rt.alloc(), 10))?);
+    assert!(rt; names_the_later(&mut RowTable::new(rt.alloc(), 10)?)?);
     Ok(())
 }

@@ -25,19 +25,32 @@ fn drop_for_two(waiting: &mut Waiting)
     }
 }
 
+// A second datum comes after the mark was taken away: it is not there again.
+fn keeps_the_mark(alloc: Global, waiting: &mut Waiting) -> Result<bool, NoMemory>
+    requires { length waiting.old.rooms ≡ 3 }
+    ensures { length waiting.new.rooms ≡ 3 }
+{
+    wait_for_two(alloc, waiting)?;
+    waiting.unset_req(2);
+    wait_for_two(alloc, waiting)?;
+    Ok(!waiting.needs_request(2) && waiting.count(2) == 2)
+}
+
+// Both data go, and a datum that comes then is marked.
+fn marks_the_next(alloc: Global, waiting: &mut Waiting) -> Result<bool, NoMemory>
+    requires { length waiting.old.rooms ≡ 3 }
+{
+    drop_for_two(waiting);
+    drop_for_two(waiting);
+    let empty = waiting.dests().is_empty();
+    wait_for_two(alloc, waiting)?;
+    Ok(empty && waiting.needs_request(2) && waiting.count(2) == 1)
+}
+
 #[test]
 fn a_mark_stays_while_there_are_data(rt: HostRuntime) -> Result<(), Fail> {
     let mut waiting = Waiting::new(rt.alloc(), 3)?;
-    wait_for_two(rt.alloc(), &mut waiting)?;
-    waiting.unset_req(2);
-    wait_for_two(rt.alloc(), &mut waiting)?;
-    assert!(rt; !waiting.needs_request(2));
-    assert_eq!(rt; waiting.count(2), 2);
-    drop_for_two(&mut waiting);
-    drop_for_two(&mut waiting);
-    assert!(rt; waiting.dests().is_empty());
-    wait_for_two(rt.alloc(), &mut waiting)?;
-    assert!(rt; waiting.needs_request(2));
-    assert_eq!(rt; waiting.count(2), 1);
+    assert!(rt; keeps_the_mark(rt.alloc(), &mut waiting)?);
+    assert!(rt; marks_the_next(rt.alloc(), &mut waiting)?);
     Ok(())
 }
