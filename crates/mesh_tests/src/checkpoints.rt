@@ -33,17 +33,26 @@ const TWO: [u8; 182] = [
     0, 0, 0, 0,
 ];
 
+// The answer to the checkpoint of an empty input, with another byte at this place.
+fn survey_with(at: usize, byte: u8) -> Result<u64, SurveyError>
+    requires { at < 68 }
+{
+    let mut other = EMPTY;
+    other[at] = byte;
+    survey(&other)
+}
+
+fn is_surveyed() -> bool {
+    matches!(survey(&EMPTY), Ok(0))
+        && matches!(survey(&EMPTY[1..]), Err(SurveyError::NotState))
+        && matches!(survey(&EMPTY[..67]), Err(SurveyError::Length))
+        && matches!(survey_with(40, 1), Err(SurveyError::Sums))
+        && matches!(survey_with(67, 1), Err(SurveyError::Spelling))
+}
+
 #[test]
 fn surveys_an_empty_checkpoint(rt: HostRuntime) {
-    assert_eq!(rt; survey(&EMPTY), Ok(0));
-    assert_eq!(rt; survey(&EMPTY[1..]), Err(SurveyError::NotState));
-    assert_eq!(rt; survey(&EMPTY[..67]), Err(SurveyError::Length));
-    let mut given = EMPTY;
-    given[40] = 1;
-    assert_eq!(rt; survey(&given), Err(SurveyError::Sums));
-    let mut world = EMPTY;
-    world[67] = 1;
-    assert_eq!(rt; survey(&world), Err(SurveyError::Spelling));
+    assert!(rt; is_surveyed());
 }
 
 // How many nodes a moment has, and how many steps its world has done.
@@ -63,23 +72,30 @@ fn loaded(alloc: Global, bytes: &[u8]) -> Result<(usize, Option<u64>), StateErro
     }
 }
 
-#[test]
-fn an_empty_checkpoint_is_loaded(rt: HostRuntime) {
-    assert_eq!(rt; loaded(rt.alloc(), &EMPTY), Ok((0, None)));
+fn loads_the_empty(alloc: Global) -> bool {
     let mut other = EMPTY;
     other[0] = 0;
-    assert_eq!(rt; loaded(rt.alloc(), &other), Err(StateError::NotState));
+    matches!(loaded(alloc, &EMPTY), Ok((0, None)))
+        && matches!(loaded(alloc, &other), Err(StateError::NotState))
+}
+
+#[test]
+fn an_empty_checkpoint_is_loaded(rt: HostRuntime) {
+    assert!(rt; loads_the_empty(rt.alloc()));
+}
+
+fn loads_the_two(alloc: Global) -> bool {
+    // The number of the route of node 0 to itself.
+    let mut unbacked = TWO;
+    unbacked[103] = 6;
+    matches!(loaded(alloc, &TWO), Ok((2, Some(3))))
+        && matches!(
+            loaded(alloc, &unbacked),
+            Err(StateError::Unsound(Part::Edge { node: 0, dest: 0 }))
+        )
 }
 
 #[test]
 fn a_world_is_loaded(rt: HostRuntime) {
-    assert_eq!(rt; loaded(rt.alloc(), &TWO), Ok((2, Some(3))));
-    // The number of the route of node 0 to itself.
-    let mut unbacked = TWO;
-    unbacked[103] = 6;
-    let part = Part::Edge { node: 0, dest: 0 };
-    assert_eq!(rt;
-        loaded(rt.alloc(), &unbacked),
-        Err(StateError::Unsound(part))
-    );
+    assert!(rt; loads_the_two(rt.alloc()));
 }

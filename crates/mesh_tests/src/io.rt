@@ -1,5 +1,5 @@
 //! Each call that can find no memory, and the sizes of what passes through.
-use mesh_base::Bytes;
+use crate::lines::source_of;
 use mesh_io::{
     BufferRoom, Buffered, Failed, LineError, Lines, LongLines, MemSink, MemSource, PutFault,
     Source, StdSink, StdSource, put_all,
@@ -7,79 +7,104 @@ use mesh_io::{
 use std::fs::File;
 use std::test::Fail;
 
+// Whether this is the answer for a buffer of nine bytes, which then begins with these.
+fn gives(source: &mut MemSource, answer: Result<usize, Failed>, front: &[u8]) -> bool {
+    let mut buf = [0u8; 9];
+    source.take(&mut buf) == answer && buf.starts_with(front)
+}
+
+fn gives_seven_a_call(source: &mut MemSource) -> bool {
+    gives(source, Ok(7), b"node 10")
+        && gives(source, Err(Failed), b"")
+        && gives(source, Ok(6), b".0.0.1")
+        && gives(source, Ok(0), b"")
+}
+
 #[test]
 fn a_source_gives_seven_bytes_a_call(rt: HostRuntime) -> Result<(), Fail> {
-    let bytes = Bytes::copy_of(rt.alloc(), b"node 10.0.0.1")?;
-    let mut source = MemSource::new(rt.alloc(), bytes, 7, &[2])?;
-    let mut buf = [0u8; 9];
-    for (answer, prefix) in [
-        (Ok(7), b"node 10".as_slice()),
-        (Err(Failed), b"".as_slice()),
-        (Ok(6), b".0.0.1".as_slice()),
-        (Ok(0), b"".as_slice()),
-    ] {
-        assert_eq!(rt; source.take(&mut buf), answer);
-        assert!(rt; buf.starts_with(prefix));
-    }
+    let mut source = source_of(rt.alloc(), b"node 10.0.0.1", 7, &[2])?;
+    assert!(rt; gives_seven_a_call(&mut source));
     Ok(())
+}
+
+fn gathers(buffer: &mut Buffered<MemSink>) -> bool {
+    put_all(buffer, b"node ").is_ok()
+        && put_all(buffer, b"10.0").is_ok()
+        && put_all(buffer, b".0.1").is_ok()
+        && buffer.flush().is_ok()
+}
+
+fn loses(buffer: &mut Buffered<MemSink>) -> bool {
+    put_all(buffer, b"lost").is_ok() && matches!(buffer.flush(), Err(PutFault))
 }
 
 #[test]
 fn pieces_are_gathered_to_one_call(rt: HostRuntime) -> Result<(), Fail> {
+    let room = BufferRoom::new(rt.alloc())?;
     let sink = MemSink::new(rt.alloc(), 100, 100, &[2])?;
-    let mut buffer = Buffered::new(sink, BufferRoom::new(rt.alloc())?);
-    for piece in [b"node ".as_slice(), b"10.0".as_slice(), b".0.1".as_slice()] {
-        assert_eq!(rt; put_all(&mut buffer, piece), Ok(()));
-    }
-    assert_eq!(rt; buffer.flush(), Ok(()));
-    assert_eq!(rt; put_all(&mut buffer, b"lost"), Ok(()));
-    assert_eq!(rt; buffer.flush(), Err(PutFault));
-    let sink = buffer.into_inner();
-    assert_eq!(rt; sink.held(), b"node 10.0.0.1".as_slice());
+    let mut buffer = Buffered::new(sink, room);
+    assert!(rt; gathers(&mut buffer) && loses(&mut buffer));
+    assert!(rt; buffer.into_inner().held() == b"node 10.0.0.1".as_slice());
     Ok(())
 }
 
-// The lines of these bytes, from a source that gives 7 bytes a call and fails at its second.
+type Answer<'a> = Result<Option<&'a [u8]>, LineError>;
+
+fn come<S: Source>(lines: &mut Lines<'_, S>, answers: &[Answer<'_>]) -> bool {
+    for answer in answers {
+        if lines.next() != *answer {
+            return false;
+        }
+    }
+    true
+}
+
+/// The lines from a source that gives 7 bytes a call and fails at its second.
+const ANSWERS: [Answer<'static>; 6] = [
+    Err(LineError::ReadFault),
+    Ok(Some(b"node 10.0.0.1")),
+    Ok(Some(b"")),
+    Ok(Some(b"turn")),
+    Ok(None),
+    Ok(None),
+];
+
 #[test]
 fn lines_come_one_by_one(rt: HostRuntime) -> Result<(), Fail> {
-    let bytes = Bytes::copy_of(rt.alloc(), b"node 10.0.0.1\n\nturn")?;
-    let mut source = MemSource::new(rt.alloc(), bytes, 7, &[2])?;
-    let mut lines = Lines::new(&mut source);
-    for answer in [
-        Err(LineError::ReadFault),
-        Ok(Some(b"node 10.0.0.1".as_slice())),
-        Ok(Some(b"".as_slice())),
-        Ok(Some(b"turn".as_slice())),
-        Ok(None),
-        Ok(None),
-    ] {
-        assert_eq!(rt; lines.next(), answer);
-    }
+    let mut source = source_of(rt.alloc(), b"node 10.0.0.1\n\nturn", 7, &[2])?;
+    assert!(rt; come(&mut Lines::new(&mut source), &ANSWERS));
     Ok(())
+}
+
+const TOO_LONG: [Answer<'static>; 2] = [Err(LineError::TooLong), Err(LineError::TooLong)];
+
+fn only_600_come(lines: &mut Lines<'_, MemSource>) -> bool {
+    come(lines, &[Ok(Some(&[b'x'; 600]))]) && lines.is_decided() && come(lines, &TOO_LONG)
 }
 
 #[test]
 fn a_line_has_at_most_600_bytes(rt: HostRuntime) -> Result<(), Fail> {
-    let mut bytes = vec![in rt.alloc(); b'x'; 1202]?;
+    let mut bytes = [b'x'; 1202];
     bytes[600] = b'\n';
-    let mut source = MemSource::new(rt.alloc(), Bytes::from_vec(bytes), 4096, &[])?;
-    let mut lines = Lines::new(&mut source);
-    assert_eq!(rt; lines.next(), Ok(Some([b'x'; 600].as_slice())));
-    assert!(rt; lines.is_decided());
-    assert_eq!(rt; lines.next(), Err(LineError::TooLong));
-    assert_eq!(rt; lines.next(), Err(LineError::TooLong));
+    let mut source = source_of(rt.alloc(), &bytes, 4096, &[])?;
+    assert!(rt; only_600_come(&mut Lines::new(&mut source)));
     Ok(())
+}
+
+fn is_too_long(lines: &mut LongLines<'_, MemSource>) -> bool {
+    matches!(lines.next(), Err(LineError::TooLong))
+}
+
+fn only_8192_come(lines: &mut LongLines<'_, MemSource>) -> bool {
+    lines.next() == Ok(Some([b'x'; 8192].as_slice())) && is_too_long(lines) && is_too_long(lines)
 }
 
 #[test]
 fn a_line_of_a_printed_text_has_at_most_8192_bytes(rt: HostRuntime) -> Result<(), Fail> {
-    let mut bytes = vec![in rt.alloc(); b'x'; 16386]?;
+    let mut bytes = [b'x'; 16386];
     bytes[8192] = b'\n';
-    let mut source = MemSource::new(rt.alloc(), Bytes::from_vec(bytes), 4096, &[])?;
-    let mut lines = LongLines::new(&mut source);
-    assert_eq!(rt; lines.next(), Ok(Some([b'x'; 8192].as_slice())));
-    assert_eq!(rt; lines.next(), Err(LineError::TooLong));
-    assert_eq!(rt; lines.next(), Err(LineError::TooLong));
+    let mut source = source_of(rt.alloc(), &bytes, 4096, &[])?;
+    assert!(rt; only_8192_come(&mut LongLines::new(&mut source)));
     Ok(())
 }
 
@@ -87,21 +112,20 @@ fn a_line_of_a_printed_text_has_at_most_8192_bytes(rt: HostRuntime) -> Result<()
 fn lines_pass_through_a_pipe(rt: HostRuntime) -> Result<(), Fail> {
     let (reader, writer) = std::io::pipe(&rt)?;
     let mut sink = StdSink::new(writer);
-    assert_eq!(rt; put_all(&mut sink, b"node 10.0.0.1\n"), Ok(()));
     let mut source = StdSource::new(reader);
     let mut lines = Lines::new(&mut source);
-    assert_eq!(rt; lines.next(), Ok(Some(b"node 10.0.0.1".as_slice())));
+    assert!(rt; put_all(&mut sink, b"node 10.0.0.1\n").is_ok());
+    assert!(rt; come(&mut lines, &[Ok(Some(b"node 10.0.0.1"))]));
     drop(sink);
-    assert_eq!(rt; lines.next(), Ok(None));
+    assert!(rt; come(&mut lines, &[Ok(None)]));
     Ok(())
 }
 
 #[test]
 fn what_the_system_refuses_is_a_fault(rt: HostRuntime) -> Result<(), Fail> {
     let mut sink = StdSink::new(File::create(&rt, "/dev/full")?);
-    assert_eq!(rt; put_all(&mut sink, b"turn"), Err(PutFault));
+    assert!(rt; matches!(put_all(&mut sink, b"turn"), Err(PutFault)));
     let mut source = StdSource::new(File::open(&rt, "/")?);
-    let mut lines = Lines::new(&mut source);
-    assert_eq!(rt; lines.next(), Err(LineError::ReadFault));
+    assert!(rt; come(&mut Lines::new(&mut source), &[Err(LineError::ReadFault)]));
     Ok(())
 }

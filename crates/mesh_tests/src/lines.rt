@@ -1,6 +1,9 @@
 //! What the tests of lines share.
-use mesh_base::{Addr, Mesh, MeshError};
-use mesh_grammar::Span;
+ghost use Rattle.std.specs.Prelude.{◌<◌};
+
+use mesh_base::{Addr, Bytes, Mesh, MeshError, NoMemory};
+use mesh_io::MemSource;
+use std::alloc::Global;
 
 /// The mesh of 10.0.0.1 and 10.0.0.2.
 pub(crate) fn two_nodes() -> Result<Mesh, MeshError> {
@@ -10,7 +13,14 @@ pub(crate) fn two_nodes() -> Result<Mesh, MeshError> {
     Ok(mesh)
 }
 
-/// The bytes of a line from one up to another.
-pub(crate) fn span(from: usize, to: usize) -> Span {
-    Span { from, to }
+/// Gives these bytes, at most `most` of them at each call, and fails at the calls that are planned.
+pub(crate) fn source_of(
+    alloc: Global,
+    bytes: &[u8],
+    most: usize,
+    fails: &[u64],
+) -> Result<MemSource, NoMemory>
+    requires { 0 < most }
+{
+    MemSource::new(alloc, Bytes::copy_of(alloc, bytes)?, most, fails)
 }

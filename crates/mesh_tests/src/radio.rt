@@ -49,17 +49,32 @@ fn takes_copy_2(radio: &mut Radio) -> bool {
     found && to == Some(2) && radio.find(2).is_none()
 }
 
+// Whether copy 1 is the only one, and copy 3 would be next.
+fn keeps_copy_1(radio: &Radio) -> bool {
+    radio.first_id() == Some(1) && radio.next_from(2, &mut 0).is_none() && radio.next_id() == 3
+}
+
+// Whether both copies of what node 0 casts fly on where its link is cut, and one where the other is
+// taken.
+fn fly_on(radio: &mut Radio) -> Result<bool, NoMemory>
+    requires size { radio.old.size ≡ 3 }
+    requires next { radio.old.next_copy ≡ 1 }
+{
+    let first = cast(radio)?.first;
+    Ok(
+        first == 1
+            && cuts(radio)
+            && radio.count() == 2
+            && takes_copy_2(radio)
+            && keeps_copy_1(radio),
+    )
+}
+
 #[test]
 fn copies_fly_on_by_themselves(rt: HostRuntime) -> Result<(), Fail> {
     let mut radio = Radio::new(rt.alloc(), 3)?;
     assert!(rt; links(&mut radio));
-    assert_eq!(rt; cast(&mut radio)?.first, 1);
-    assert!(rt; cuts(&mut radio));
-    assert_eq!(rt; radio.count(), 2);
-    assert!(rt; takes_copy_2(&mut radio));
-    assert_eq!(rt; radio.first_id(), Some(1));
-    assert!(rt; radio.next_from(2, &mut 0).is_none());
-    assert_eq!(rt; radio.next_id(), 3);
+    assert!(rt; fly_on(&mut radio)?);
     Ok(())
 }
 
@@ -84,12 +99,14 @@ fn put_two(radio: &mut Radio) -> Result<(), NoMemory>
     })
 }
 
+fn has_two(radio: &Radio) -> bool {
+    radio.count() == 2 && radio.first_id() == Some(4) && radio.next_id() == 9
+}
+
 #[test]
 fn copies_are_put_back(rt: HostRuntime) -> Result<(), Fail> {
     let mut radio = Radio::restore(rt.alloc(), 3, 9)?;
     put_two(&mut radio)?;
-    assert_eq!(rt; radio.count(), 2);
-    assert_eq!(rt; radio.first_id(), Some(4));
-    assert_eq!(rt; radio.next_id(), 9);
+    assert!(rt; has_two(&radio));
     Ok(())
 }

@@ -5,7 +5,6 @@ use aodv_node::{Node, Unfit};
 use mesh_base::{Addr, Mesh, Variant};
 use mesh_restore::{ReadError, read_mesh, read_node, read_radio};
 use std::alloc::Global;
-use std::test::Fail;
 
 /// Two nodes, 10.0.0.1 and 10.0.0.2.
 const MESH: [u8; 18] = [0, 2, 10, 0, 0, 1, 0, 0, 0, 1, 10, 0, 0, 2, 0, 0, 0, 9];
@@ -29,16 +28,16 @@ const AIR: [u8; 35] = [
     77,
 ];
 
-#[test]
-fn a_mesh_is_read(rt: HostRuntime) -> Result<(), Fail> {
+fn reads_the_mesh() -> bool {
     match read_mesh(&MESH) {
-        Some((mesh, rest)) => {
-            assert!(rt; rest.is_empty());
-            assert_eq!(rt; mesh.len(), 2);
-        }
-        None => assert!(rt; false),
+        Some((mesh, rest)) => rest.is_empty() && mesh.len() == 2,
+        None => false,
     }
-    Ok(())
+}
+
+#[test]
+fn a_mesh_is_read(rt: HostRuntime) {
+    assert!(rt; reads_the_mesh());
 }
 
 // The number of a node that was made of its parts.
@@ -63,32 +62,35 @@ fn node_read(
     }
 }
 
+fn reads_the_node(alloc: Global, mesh: &Mesh) -> bool
+    requires { 0 < length mesh.now }
+{
+    // The packet that waits would be from the node itself.
+    let mut own = NODE;
+    own[50] = 0;
+    matches!(node_read(alloc, mesh, &NODE), Ok((Ok(7), 5)))
+        && matches!(node_read(alloc, mesh, &own), Ok((Err(Unfit::Item), 5)))
+}
+
 #[test]
 fn a_node_is_read(rt: HostRuntime) {
     let mut mesh = Mesh::new();
     let _ = mesh.add(Addr(0x0a000001), 1);
     let _ = mesh.add(Addr(0x0a000002), 9);
-    assert_eq!(rt; mesh.len(), 2);
-    assert_eq!(rt; node_read(rt.alloc(), &mesh, &NODE), Ok((Ok(7), 5)));
-    // The packet that waits would be from the node itself.
-    let mut own = NODE;
-    own[50] = 0;
-    assert_eq!(rt;
-        node_read(rt.alloc(), &mesh, &own),
-        Ok((Err(Unfit::Item), 5))
-    );
+    assert!(rt; mesh.len() == 2);
+    assert!(rt; reads_the_node(rt.alloc(), &mesh));
+}
+
+fn reads_the_air(alloc: Global) -> bool {
+    match read_radio(alloc, &AIR, 2) {
+        Ok((radio, apart, rest)) => {
+            apart && rest.len() == 1 && radio.count() == 1 && radio.range(0).is_empty()
+        }
+        Err(_) => false,
+    }
 }
 
 #[test]
-fn links_and_copies_are_read(rt: HostRuntime) -> Result<(), Fail> {
-    match read_radio(rt.alloc(), &AIR, 2) {
-        Ok((radio, apart, rest)) => {
-            assert!(rt; apart);
-            assert_eq!(rt; rest.len(), 1);
-            assert_eq!(rt; radio.count(), 1);
-            assert!(rt; radio.range(0).is_empty());
-        }
-        Err(_) => assert!(rt; false),
-    }
-    Ok(())
+fn links_and_copies_are_read(rt: HostRuntime) {
+    assert!(rt; reads_the_air(rt.alloc()));
 }

@@ -1,5 +1,6 @@
 //! Runs of whole schedules.
-use mesh_base::{Bytes, Variant};
+use crate::lines::source_of;
+use mesh_base::{NoMemory, Variant};
 use mesh_io::{MemSink, MemSource};
 use mesh_run::{Status, run};
 use mesh_world::World;
@@ -13,36 +14,30 @@ const SCHEDULE: &str =
 const TEXT: &str =
     "node 10.0.0.1 sn 1\nnode 10.0.0.2 sn 4294967295\nlink 10.0.0.1 10.0.0.2\ndata 10.0.0.1 10.0.0.2 x\nturn 10.0.0.1\n  took new 10.0.0.2\nauto 5\nask 10.0.0.1 10.0.0.2\n  sent all 01080000000000010a000002000000000a00000100000002\n  copy 1 10.0.0.2\ndeliver 1\n  heard 10.0.0.1 10.0.0.2\nturn 10.0.0.2\n  took rreq 10.0.0.1\n  sent one 10.0.0.1 020000000a000002ffffffff0a000001ffffffff\n  copy 2 10.0.0.1\ndeliver 2\n  heard 10.0.0.2 10.0.0.1\nturn 10.0.0.1\n  took rrep 10.0.0.2\nauto did 5\ncut 10.0.0.1 10.0.0.2\nfull line 8: send 10.0.0.1 10.0.0.2: number\n";
 
-// The call. It stands alone, since what it promises would be gone through at each way out of a
-// function that owns what it is lent.
-fn run_from(alloc: Global, quiet: bool, input: &mut MemSource, out: &mut MemSink) -> Status {
-    run::<World, _, _>(alloc, quiet, Variant::Base, input, out)
+// Whether the run ends at line 8 with a counter that is full, and this text. It stands alone, since
+// what the run promises would be gone through at each way out of a function that owns what it is
+// lent.
+fn fills(alloc: Global, quiet: bool, text: &str, input: &mut MemSource, out: &mut MemSink) -> bool {
+    let status = run::<World, _, _>(alloc, quiet, Variant::Base, input, out);
+    status == Status::Full { line: 8 } && out.held() == text.as_bytes()
 }
 
-// Runs a schedule, read 7 bytes at a time and written 5 bytes at a time.
-fn is_told(
-    rt: &HostRuntime,
-    quiet: bool,
-    schedule: &str,
-    status: Status,
-    text: &str,
-) -> Result<bool, Fail> {
-    let bytes = Bytes::copy_of(rt.alloc(), schedule.as_bytes())?;
-    let mut input = MemSource::new(rt.alloc(), bytes, 7, &[])?;
-    let mut out = MemSink::new(rt.alloc(), 1000, 5, &[])?;
-    let answer = run_from(rt.alloc(), quiet, &mut input, &mut out);
-    Ok(answer == status && out.held() == text.as_bytes())
+// Runs the schedule, read 7 bytes at a time and written 5 bytes at a time.
+fn is_told(alloc: Global, quiet: bool, text: &str) -> Result<bool, NoMemory> {
+    let mut input = source_of(alloc, SCHEDULE.as_bytes(), 7, &[])?;
+    let mut out = MemSink::new(alloc, 1000, 5, &[])?;
+    Ok(fills(alloc, quiet, text, &mut input, &mut out))
 }
 
 #[test]
 fn runs_until_a_counter_is_full(rt: HostRuntime) -> Result<(), Fail> {
-    assert!(rt; is_told(&rt, false, SCHEDULE, Status::Full { line: 8 }, TEXT)?);
+    assert!(rt; is_told(rt.alloc(), false, TEXT)?);
     Ok(())
 }
 
 #[test]
 fn is_quiet_but_for_the_last_line(rt: HostRuntime) -> Result<(), Fail> {
     let text = "full line 8: send 10.0.0.1 10.0.0.2: number\n";
-    assert!(rt; is_told(&rt, true, SCHEDULE, Status::Full { line: 8 }, text)?);
+    assert!(rt; is_told(rt.alloc(), true, text)?);
     Ok(())
 }
