@@ -12,7 +12,7 @@ use mesh_io::{LineError, LongLines, Source};
 use mesh_tables::{PrintedTables, ReadError};
 
 /// Why the tables of a source weren't read.
-#[derive(Clone, Copy, Debug, PartialEq, Eq)]
+#[derive(Clone, Copy, PartialEq, Eq)]
 pub enum Unread {
     /// This line, counted from 1, is refused.
     BadLine { line: u64 },

@@ -17,7 +17,7 @@ const NODES_END: u32 = 201;
 
 /// The head of a body: the variant of the protocol, how many lines were read, and the sums of the
 /// run.
-#[derive(Clone, Copy, Debug, PartialEq, Eq)]
+#[derive(Clone, Copy, PartialEq, Eq)]
 pub struct Head {
     pub variant: Variant,
     pub lines: u64,

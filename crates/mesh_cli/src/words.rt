@@ -7,7 +7,7 @@ use mesh_make::MOST_STEPS;
 use mesh_run::variant_named;
 
 /// What a schedule is made from.
-#[derive(Clone, Copy, Debug, PartialEq, Eq)]
+#[derive(Clone, Copy, PartialEq, Eq)]
 pub struct Plan {
     pub seed: u64,
     /// The number of nodes, from 2 to 200.
@@ -17,7 +17,7 @@ pub struct Plan {
 }
 
 /// What the words ask for.
-#[derive(Clone, Copy, Debug, PartialEq, Eq)]
+#[derive(Clone, Copy, PartialEq, Eq)]
 pub enum Command {
     /// To run the schedule that is read, where all nodes run this variant of the protocol, and to
     /// write its text, or the last line alone.

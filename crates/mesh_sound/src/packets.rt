@@ -11,7 +11,7 @@ use mesh_base::{Item, Mesh, Packet};
 use mesh_radio::Radio;
 
 /// What is claimed of a packet.
-#[derive(Clone, Copy, Debug, PartialEq, Eq)]
+#[derive(Clone, Copy, PartialEq, Eq)]
 pub enum Claim {
     /// It is as a node of the mesh writes it.
     Written,

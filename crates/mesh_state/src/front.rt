@@ -15,7 +15,7 @@ pub const HEAD_SIZE: usize = 8;
 const ASKED: usize = 4096;
 
 /// Why a front wasn't read.
-#[derive(Clone, Copy, Debug, PartialEq, Eq)]
+#[derive(Clone, Copy, PartialEq, Eq)]
 pub enum FrontError {
     /// The source failed.
     ReadFault,

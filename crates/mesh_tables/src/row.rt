@@ -6,7 +6,7 @@ use aodv_entry::{Entry, Flag, Known, better};
 use mesh_base::NodeSet;
 
 /// An entry of a printed table. Its precursors are not kept: no cycle depends on them.
-#[derive(Clone, Copy, Debug, PartialEq, Eq)]
+#[derive(Clone, Copy, PartialEq, Eq)]
 pub struct Row {
     /// The destination's sequence number.
     pub dsn: u32,

@@ -12,7 +12,7 @@ use std::collections::BTreeMap;
 
 /// An edge whose next hop has a valid entry that isn't better: the destination, the node and its
 /// next hop, as addresses.
-#[derive(Clone, Copy, Debug, PartialEq, Eq)]
+#[derive(Clone, Copy, PartialEq, Eq)]
 pub struct FailingEdge {
     pub dest: u32,
     pub node: u32,

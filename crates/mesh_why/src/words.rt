@@ -5,7 +5,7 @@ ghost use Rattle.mesh_why.specs.Routes.{of_two, asked_of};
 use mesh_base::Addr;
 
 /// Whose route is asked for, and to what destination.
-#[derive(Clone, Copy, Debug, PartialEq, Eq)]
+#[derive(Clone, Copy, PartialEq, Eq)]
 pub struct Asked {
     pub node: Addr,
     pub dest: Addr,

@@ -12,7 +12,7 @@ use mesh_base::Item;
 use mesh_radio::Radio;
 
 /// Where the data of a world are.
-#[derive(Clone, Copy, Debug, PartialEq, Eq)]
+#[derive(Clone, Copy, PartialEq, Eq)]
 pub struct Totals {
     /// How many data wait in stores for a route.
     pub waiting: u64,

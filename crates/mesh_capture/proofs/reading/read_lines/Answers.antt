@@ -12,6 +12,7 @@ use Rattle.mesh_capture.specs.Outputs.{IsFile}
 use Rattle.mesh_capture.specs.Leads.{Leads}
 use Rattle.mesh_capture.specs.declared.status.CaptureStatus.{CaptureStatus}
 use Rattle.mesh_capture.specs.declared.status.CaptureStatus.TheVariants.{ReadFault, WriteFault}
+use Rattle.mesh_capture.proofs.Apart.{line_or_fault, too_long_or_fault, too_much_or_fault, write_or_done, write_or_read, write_or_words, done_or_read, done_or_write, done_or_words, read_or_done, read_or_write, read_or_words, bad_or_done, bad_or_read, bad_or_write, bad_or_words}
 use Rattle.mesh_capture.proofs.Faults.{cause_as, cause_after, no_cause, a_cause, unsome}
 use Rattle.mesh_capture.proofs.Follows.{packets_of, starts, hands_on, finds, reads_on, reads_off, faults, ends, too_long, too_much, prefix_same}
 use Rattle.mesh_capture.proofs.reading.read_lines.Goals as goal
@@ -47,7 +48,7 @@ lines-preserved g c =
     let more = c.in_default-read_line.ensures.lines in
     record {
       same = c.advance.ensures.same ∙ c.lines.invariant.same;
-      faults = c.in-Ok-true.ensures.cause.none (λ e. cc) ∙ c.lines.invariant.faults;
+      faults = c.in-Ok-true.ensures.cause.none line_or_fault ∙ c.lines.invariant.faults;
       sink = c.in_default-read_line.ensures.cause.none (λ e. cc) ∙ c.in_default.ensures.cause.none ∙ c.lines.invariant.sink;
       followed = reads_on (left (source_of c.args.lines.now).now) (ahead_of left c.advance.new.self) (given_of c.advance.new.self) c.lines.copies c.read_line.new.copies (line_of c.advance.new.self) (held c.args.out.now) (held c.hand_on.new.out) (held c.read_line.new.out) next goes;
       few = c.advance.ensures.few;
@@ -62,10 +63,10 @@ returns-in-Err g c =
     record {
       same = c.lines.invariant.same;
       told = faults (left (source_of c.args.lines.now).now) (ahead_of left c.lines.lines) (given_of c.lines.lines) c.lines.copies WriteFault (held c.args.out.now) (held c.hand_on.new.out) (held c.hand_on.new.out) kept (λ w. prefix_same (held c.hand_on.new.out) w.file);
-      end = λ e. cc;
-      read = no_cause _ _ c.lines.invariant.faults (λ e. cc);
+      end = write_or_done;
+      read = no_cause _ _ c.lines.invariant.faults write_or_read;
       write = cause_after _ _ _ c.lines.invariant.sink (a_cause _ _ c.hand_on.ensures.cause.later c.in-Err.ensures.cause.failed refl);
-      words = λ e. cc;
+      words = write_or_words;
     }
 
 pub returns-in-Some : goal.returns-in-Some
@@ -84,7 +85,7 @@ returns-in-Some g c =
       same = c.advance.ensures.same ∙ c.lines.invariant.same;
       told = reads_off (left (source_of c.args.lines.now).now) (ahead_of left c.advance.new.self) (given_of c.advance.new.self) c.lines.copies (line_of c.advance.new.self) c.in-Some.status (held c.args.out.now) (held c.hand_on.new.out) (held c.read_line.new.out) next stops;
       end = λ e. absurd (c.in-Some.ensures.done (ap Some e));
-      read = no_cause _ _ (c.in-Ok-true.ensures.cause.none (λ e. cc) ∙ c.lines.invariant.faults) (λ e. c.in-Some.ensures.read (ap Some e));
+      read = no_cause _ _ (c.in-Ok-true.ensures.cause.none line_or_fault ∙ c.lines.invariant.faults) (λ e. c.in-Some.ensures.read (ap Some e));
       write = cause_after _ _ _ (c.in_default.ensures.cause.none ∙ c.lines.invariant.sink) (cause_as _ _ (λ e. unsome e) (λ e. ap Some e) c.in-Some.ensures.cause);
       words = λ e. c.in-Some.ensures.words (ap Some e);
     }
@@ -102,9 +103,9 @@ returns-in-Ok-false g c =
       same = c.advance.ensures.same ∙ c.lines.invariant.same;
       told = ends (left (source_of c.args.lines.now).now) (ahead_of left c.lines.lines) (ahead_of left c.advance.new.self) (given_of c.lines.lines) (given_of c.advance.new.self) c.lines.copies (line_of c.advance.new.self) (held c.args.out.now) (held c.hand_on.new.out) kept told;
       end = λ e. c.advance.ensures.end found;
-      read = no_cause _ _ (c.in-Ok-false.ensures.cause.none (λ e. cc) ∙ c.lines.invariant.faults) (λ e. cc);
-      write = no_cause _ _ (c.in_default.ensures.cause.none ∙ c.lines.invariant.sink) (λ e. cc);
-      words = λ e. cc;
+      read = no_cause _ _ (c.in-Ok-false.ensures.cause.none line_or_fault ∙ c.lines.invariant.faults) done_or_read;
+      write = no_cause _ _ (c.in_default.ensures.cause.none ∙ c.lines.invariant.sink) done_or_write;
+      words = done_or_words;
     }
 
 pub returns-in-Err-ReadFault : goal.returns-in-Err-ReadFault
@@ -116,10 +117,10 @@ returns-in-Err-ReadFault g c =
     record {
       same = c.advance.ensures.same ∙ c.lines.invariant.same;
       told = faults (left (source_of c.args.lines.now).now) (ahead_of left c.lines.lines) (given_of c.lines.lines) c.lines.copies ReadFault (held c.args.out.now) (held c.hand_on.new.out) (held c.hand_on.new.out) kept (λ w. prefix_same (held c.hand_on.new.out) w.file);
-      end = λ e. cc;
+      end = read_or_done;
       read = cause_after _ _ _ c.lines.invariant.faults (a_cause _ _ c.advance.ensures.cause.later (c.advance.ensures.cause.failed found) refl);
-      write = no_cause _ _ (c.in_default.ensures.cause.none ∙ c.lines.invariant.sink) (λ e. cc);
-      words = λ e. cc;
+      write = no_cause _ _ (c.in_default.ensures.cause.none ∙ c.lines.invariant.sink) read_or_write;
+      words = read_or_words;
     }
 
 pub returns-in-Err-TooLong : goal.returns-in-Err-TooLong
@@ -135,10 +136,10 @@ returns-in-Err-TooLong g c =
       same = c.advance.ensures.same ∙ c.lines.invariant.same;
       told = subst (λ (s : CaptureStatus). IfSome (left (source_of c.args.lines.now).now) (λ text. IsFile (held c.args.out.now) (held c.hand_on.new.out) (packets_of text) s)) (sym c.past.ensures)
           (too_long (left (source_of c.args.lines.now).now) (ahead_of left c.lines.lines) (ahead_of left c.advance.new.self) (given_of c.lines.lines) (given_of c.advance.new.self) c.lines.copies (line_of c.advance.new.self) (held c.args.out.now) (held c.hand_on.new.out) c.lines.invariant.few kept told);
-      end = λ e. absurd (let P : ⊥ = let is = c.past.ensures in cc in P);
-      read = no_cause _ _ (c.in-Err-TooLong.ensures.cause.none (λ e. cc) ∙ c.lines.invariant.faults) (λ e. let is = c.past.ensures in cc);
-      write = no_cause _ _ (c.in_default.ensures.cause.none ∙ c.lines.invariant.sink) (λ e. let is = c.past.ensures in cc);
-      words = λ e. let is = c.past.ensures in cc;
+      end = bad_or_done c.past.ensures;
+      read = no_cause _ _ (c.in-Err-TooLong.ensures.cause.none (too_long_or_fault c.in-Err-TooLong.field-0-is) ∙ c.lines.invariant.faults) (bad_or_read c.past.ensures);
+      write = no_cause _ _ (c.in_default.ensures.cause.none ∙ c.lines.invariant.sink) (bad_or_write c.past.ensures);
+      words = bad_or_words c.past.ensures;
     }
 
 pub returns-in-Err-TooMuch : goal.returns-in-Err-TooMuch
@@ -154,8 +155,8 @@ returns-in-Err-TooMuch g c =
       same = c.advance.ensures.same ∙ c.lines.invariant.same;
       told = subst (λ (s : CaptureStatus). IfSome (left (source_of c.args.lines.now).now) (λ text. IsFile (held c.args.out.now) (held c.hand_on.new.out) (packets_of text) s)) (sym c.past-in-Err-TooMuch.ensures)
           (too_much (left (source_of c.args.lines.now).now) (ahead_of left c.lines.lines) (ahead_of left c.advance.new.self) (given_of c.lines.lines) (given_of c.advance.new.self) c.lines.copies (line_of c.advance.new.self) (held c.args.out.now) (held c.hand_on.new.out) c.lines.invariant.few kept told);
-      end = λ e. absurd (let P : ⊥ = let is = c.past-in-Err-TooMuch.ensures in cc in P);
-      read = no_cause _ _ (c.in-Err-TooMuch.ensures.cause.none (λ e. cc) ∙ c.lines.invariant.faults) (λ e. let is = c.past-in-Err-TooMuch.ensures in cc);
-      write = no_cause _ _ (c.in_default.ensures.cause.none ∙ c.lines.invariant.sink) (λ e. let is = c.past-in-Err-TooMuch.ensures in cc);
-      words = λ e. let is = c.past-in-Err-TooMuch.ensures in cc;
+      end = bad_or_done c.past-in-Err-TooMuch.ensures;
+      read = no_cause _ _ (c.in-Err-TooMuch.ensures.cause.none (too_much_or_fault c.in-Err-TooMuch.field-0-is) ∙ c.lines.invariant.faults) (bad_or_read c.past-in-Err-TooMuch.ensures);
+      write = no_cause _ _ (c.in_default.ensures.cause.none ∙ c.lines.invariant.sink) (bad_or_write c.past-in-Err-TooMuch.ensures);
+      words = bad_or_words c.past-in-Err-TooMuch.ensures;
     }
