@@ -11,5 +11,6 @@ stem_of high =
 -- they are an address's, and the first cells of a chunk, so many of them
 pub record IsStem (high : ℕ) (cells : List ℕ) (width : ℕ) : Type 0 where
   pub text : take width cells ≡ stem_of high
+  pub some : 6 ≤ width
   pub short : width ≤ 12
   pub octets : high < 2 ^ 24

@@ -102,11 +102,11 @@ impl LineBuf {
         self.push_array(piece);
     }
 
-    /// Appends the first bytes of a chunk. Of the widths that numbers and addresses have, each
-    /// makes a copy whose size is known beforehand.
+    /// Appends the first bytes of a short chunk: for each width, a copy whose size is known.
     #[inline]
-    pub(crate) fn push_front<const SIZE: usize>(&mut self, chunk: &[u8; SIZE], width: usize)
-        requires within { width ≤ SIZE }
+    pub(crate) fn push_one_to_four(&mut self, chunk: &[u8; 4], width: usize)
+        requires some { 1 ≤ width }
+        requires within { width ≤ 4 }
         requires room { length self.old + width ≤ LINE_ROOM }
         ensures text { self.new ≡ self.old ++ take width chunk.now }
         ensures length { length self.new ≡ length self.old + width }
@@ -115,15 +115,27 @@ impl LineBuf {
             1 => self.push_piece::<1>(chunk),
             2 => self.push_piece::<2>(chunk),
             3 => self.push_piece::<3>(chunk),
-            4 => self.push_piece::<4>(chunk),
+            _ => self.push_piece::<4>(chunk),
+        }
+    }
+
+    /// Appends the first bytes of a chunk: for each width, a copy whose size is known.
+    #[inline]
+    pub(crate) fn push_six_to_twelve(&mut self, chunk: &[u8; 16], width: usize)
+        requires some { 6 ≤ width }
+        requires within { width ≤ 12 }
+        requires room { length self.old + width ≤ LINE_ROOM }
+        ensures text { self.new ≡ self.old ++ take width chunk.now }
+        ensures length { length self.new ≡ length self.old + width }
+    {
+        match width {
             6 => self.push_piece::<6>(chunk),
             7 => self.push_piece::<7>(chunk),
             8 => self.push_piece::<8>(chunk),
             9 => self.push_piece::<9>(chunk),
             10 => self.push_piece::<10>(chunk),
             11 => self.push_piece::<11>(chunk),
-            12 => self.push_piece::<12>(chunk),
-            _ => self.push_slice(&chunk[..width]),
+            _ => self.push_piece::<12>(chunk),
         }
     }
 }

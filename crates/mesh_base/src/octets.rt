@@ -83,7 +83,7 @@ fn push_octet_dot(out: &mut LineBuf, n: u32)
     ensures text { out.new ≡ out.old ++ (decimal n ++ 46 ∷ []) }
     ensures length { length out.new ≤ length out.old + 4 }
 {
-    out.push_front(&chunk(n), width(n));
+    out.push_one_to_four(&chunk(n), width(n));
 }
 
 // Appends a number below 256.
@@ -94,7 +94,7 @@ fn push_octet(out: &mut LineBuf, n: u32)
     ensures text { out.new ≡ out.old ++ decimal n }
     ensures length { length out.new ≤ length out.old + 3 }
 {
-    out.push_front(&chunk(n), width(n) - 1);
+    out.push_one_to_four(&chunk(n), width(n) - 1);
 }
 
 /// Appends an address as it is spelled: at most 15 bytes.
@@ -114,6 +114,7 @@ fn join(cells: &mut [u8; 16], at: usize, n: u32) -> usize
     requires octet { n < 256 }
     requires room { at ≤ 12 }
     ensures text { take result cells.new ≡ take at cells.old ++ (decimal n ++ 46 ∷ []) }
+    ensures some { at + 2 ≤ result }
     ensures length { result ≤ at + 4 }
 {
     cells[at..at + 4].copy_from_slice(&chunk(n));
@@ -183,7 +184,7 @@ impl Stem {
         ensures length { length out.new ≤ length out.old + 15 }
     {
         if a.0 / 256 == self.high {
-            out.push_front(&self.cells, self.width);
+            out.push_six_to_twelve(&self.cells, self.width);
             push_octet(out, a.0 % 256);
         } else {
             write_dotted(a, out);
