@@ -89,7 +89,7 @@ impl LineBuf {
     }
 
     // Appends the first bytes of a chunk, so many as are known beforehand.
-    #[inline]
+    #[inline(always)]
     fn push_piece<const PIECE: usize>(&mut self, chunk: &[u8])
         requires within { PIECE ≤ length chunk.now }
         requires room { length self.old + PIECE ≤ LINE_ROOM }
@@ -103,7 +103,7 @@ impl LineBuf {
     }
 
     /// Appends the first bytes of a short chunk: for each width, a copy whose size is known.
-    #[inline]
+    #[inline(always)]
     pub(crate) fn push_one_to_four(&mut self, chunk: &[u8; 4], width: usize)
         requires some { 1 ≤ width }
         requires within { width ≤ 4 }
@@ -120,7 +120,7 @@ impl LineBuf {
     }
 
     /// Appends the first bytes of a chunk: for each width, a copy whose size is known.
-    #[inline]
+    #[inline(always)]
     pub(crate) fn push_six_to_twelve(&mut self, chunk: &[u8; 16], width: usize)
         requires some { 6 ≤ width }
         requires within { width ≤ 12 }

@@ -101,7 +101,7 @@ impl Mesh {
     }
 
     /// Appends the address of node i as it is spelled: at most 15 bytes.
-    #[inline]
+    #[inline(always)]
     pub fn push_name(&self, i: usize, out: &mut LineBuf)
         requires node { i < length self.now }
         requires room { length out.old + 15 ≤ LINE_ROOM }

@@ -87,7 +87,7 @@ fn push_octet_dot(out: &mut LineBuf, n: u32)
 }
 
 // Appends a number below 256.
-#[inline]
+#[inline(always)]
 fn push_octet(out: &mut LineBuf, n: u32)
     requires octet { n < 256 }
     requires room { length out.old + 3 ≤ LINE_ROOM }
@@ -177,7 +177,7 @@ impl Stem {
 
     /// Appends an address as it is spelled. The numbers that it has in common with these are copied
     /// whole.
-    #[inline]
+    #[inline(always)]
     pub(crate) fn write(&self, a: Addr, out: &mut LineBuf)
         requires { length out.old + 15 ≤ LINE_ROOM }
         ensures text { out.new ≡ out.old ++ dotted_decimal a.0 }

@@ -12,7 +12,7 @@ ghost use Rattle.aodv_model.specs.Soundness.{AreBelow};
 use mesh_base::{LINE_ROOM, LineBuf, Mesh, NodeSet, push_number, push_text};
 
 /// A node's address.
-#[inline]
+#[inline(always)]
 pub(crate) fn push_name(out: &mut LineBuf, mesh: &Mesh, i: usize)
     requires node { i < length mesh.now }
     requires room { length out.old + 15 ≤ LINE_ROOM }
