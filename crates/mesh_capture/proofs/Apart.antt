@@ -11,10 +11,10 @@ use Rattle.mesh_capture.specs.declared.status.CaptureStatus.TheVariants as statu
 pub line_or_fault : {T E A : Type 0} {x : T} {y : E} → Ok x ≡ Err y → A
 line_or_fault e = absurd (let P : ⊥ = cc in P)
 
-pub too_long_or_fault : {T A : Type 0} {x : LineError} → x ≡ error.TooLong → Err {T} x ≡ Err error.ReadFault → A
+pub too_long_or_fault : {T A : Type 0} {x : LineError} → x ≡ error.TooLong → Err {T = T} x ≡ Err error.ReadFault → A
 too_long_or_fault is e = absurd (let P : ⊥ = cc in P)
 
-pub too_much_or_fault : {T A : Type 0} {x : LineError} → x ≡ error.TooMuch → Err {T} x ≡ Err error.ReadFault → A
+pub too_much_or_fault : {T A : Type 0} {x : LineError} → x ≡ error.TooMuch → Err {T = T} x ≡ Err error.ReadFault → A
 too_much_or_fault is e = absurd (let P : ⊥ = cc in P)
 
 -- ---- what a capture comes to
