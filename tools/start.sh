@@ -35,9 +35,9 @@ sum_of_sources() {
     (
         cd "$top" || exit 1
         # shellcheck disable=SC2046 # each is a word
-        set -- crates.txt HANDLES $(crates_of "$1" | while read -r crate; do
+        set -- crates.txt HANDLES $(crates_of "$1" | while read -r it; do
             for part in src specs proofs; do
-                [ ! -d "crates/$crate/$part" ] || echo "crates/$crate/$part"
+                [ ! -d "crates/$it/$part" ] || echo "crates/$it/$part"
             done
         done)
         find "$@" -type f -print0 | LC_ALL=C sort -z | xargs -0 sha256sum | sha256sum
@@ -82,29 +82,98 @@ version() {
     echo "${0##*/} of commit ${commit:-unknown}, for $kit"
 }
 
-# What a status other than 0 means, in the programs' own words of docs/FORMATS.md.
+# How a program is proved, and what that takes: a check of a crate takes about a minute of four processors.
+proving() {
+    case $1 in mesh_cli) by=./build ;; *) by="./build $1" ;; esac
+    echo "$by proves it, in about $(crates_of "$1" | wc -l) minutes on four processors, the first time"
+}
+
+# A program that starts with a closed stream would get a socket or a file in its place. `reads` is empty where
+# the call reads nothing.
+look_at_streams() {
+    { true 3>&2; } || exec 2>/dev/null
+    if ! { true 3<&0; } 2>/dev/null; then
+        [ -z "$reads" ] || end_with 5 "standard input is closed"
+        exec </dev/null
+    fi
+    { true 3>&1; } 2>/dev/null || end_with 6 "standard output is closed"
+}
+
+end_with() {
+    echo "${0##*/}: status $1: $2" >&2
+    exit "$1"
+}
+
+# Whether standard output is a pipe whose reader has gone: `tail -f` ends then at once, and writes nothing.
+is_broken_pipe() {
+    [ -p /dev/stdout ] || return 1
+    timeout 0.2 tail -f /dev/null 2>/dev/null
+    case $? in 1 | 141) ;; *) return 1 ;; esac
+}
+
+# What a status other than 0 of the program of this crate means (docs/FORMATS.md).
 meaning_of() {
-    case $1 in
-    2) echo "the words are of no form; see ${0##*/} --help" ;;
-    3) echo "a line was refused; the last line of the text says which, and why" ;;
-    4) echo "a counter is at its field's greatest value; the last line of the text says which" ;;
-    5) echo "the input could not be read" ;;
-    6) echo "the text could not be written to its end" ;;
-    7) echo "there was not enough memory" ;;
-    9) echo "the tables are not sound; the line names the first next hop that is no better" ;;
-    129 | 130 | 131 | 13? | 14? | 15?) echo "a signal ended it (number $(($1 - 128)))" ;;
+    case $crate:$1 in
+    *:2) echo "the words are of no form; see ${0##*/} --help" ;;
+    mesh_check:3) echo "a line was refused; the line that is written says which" ;;
+    mesh_capture:3) echo "a line was refused; the capture is that of the lines above it" ;;
+    *:3) echo "a line was refused; the last line of the text says which, and why$(hint_at_lint)" ;;
+    *:4) echo "a counter is at its field's greatest value; the last line of the text says which" ;;
+    *:5) echo "the input could not be read" ;;
+    *:6) echo "the output could not be written to its end" ;;
+    *:7) echo "there was not enough memory" ;;
+    mesh_node:8) echo "the port could not be opened, or a datagram could not be received or sent" ;;
+    mesh_check:9) echo "the tables are not sound; the line names the first next hop that is no better" ;;
+    mesh_state:9) echo "the input begins with no checkpoint from which a run can go on; the line above says why" ;;
+    mesh_state:10) echo "the checkpoint would be longer than 268435456 bytes" ;;
+    *:129 | *:13? | *:14? | *:15?) echo "a signal ended it (number $(($1 - 128)))" ;;
     *) echo "no status of this program" ;;
     esac
 }
 
-# Runs the program, and says in one line what a status other than 0 means. A signal that ends this
-# script ends the program too.
+# An installed copy has no checks.
+hint_at_lint() {
+    [ ! -x "$top/checks/lint" ] ||
+        echo "; checks/lint FILE knows what editors leave in a file, as CRLF and double spaces"
+}
+
+# Says in one line what the status means, but where the text itself says so and nobody looks, and where the
+# reader of the text has gone, as `head` does.
+tell_status() {
+    case $status in
+    0) return ;;
+    3 | 4 | 9) [ -t 2 ] || return 0 ;;
+    6) ! is_broken_pipe || return 0 ;;
+    esac
+    echo "${0##*/}: status $status: $(meaning_of "$status")" >&2
+}
+
+# The one line of mesh_check is held until it ends, in a file that has no name any more, so that nothing is
+# left of it however the script ends. Where no file can be made the line is written and not looked at.
+hold_line() {
+    held=$(mktemp 2>/dev/null) || return 1
+    # shellcheck disable=SC2094 # what is written is read when the program has ended
+    exec 4>"$held" 5<"$held"
+    rm -f "$held"
+}
+
+write_line() {
+    line=$(cat <&5)
+    [ -z "$line" ] || printf '%s\n' "$line" | cat 2>/dev/null || status=6
+    [ "$status:$line" != "0:yes nodes 0 edges 0" ] ||
+        echo "${0##*/}: no table was shown: the text has no line show ADDR (mesh run writes one for each line show)" >&2
+}
+
+# Runs the program, and tells what a status other than 0 means. A signal that ends this script ends the
+# program too.
 run_and_tell() {
     # A program in the background would read from /dev/null.
     exec 3<&0
-    "$program" "$@" <&3 3<&- &
+    holds=
+    if [ "$crate" = mesh_check ] && hold_line; then holds=1; else exec 4>&1 5</dev/null; fi
+    "$program" "$@" <&3 3<&- >&4 4>&- 5<&- &
     child=$!
-    exec 3<&-
+    exec 3<&- 4>&-
     caught=
     for signal in HUP INT QUIT TERM; do
         # shellcheck disable=SC2064 # child and signal are meant as they are now
@@ -121,33 +190,175 @@ run_and_tell() {
         trap - "$caught"
         kill -s "$caught" $$
     fi
-    [ "$status" -eq 0 ] || echo "${0##*/}: status $status: $(meaning_of "$status")" >&2
+    [ -z "$holds" ] || write_line
+    tell_status
     exit "$status"
 }
 
-# start CRATE WORD..: starts the program of the crate with these words, and builds it first where that
-# is due. Beside an installed start script the program lies ready, in the folder programs.
+# start CRATE WORD..: starts the program of the crate with these words. Where none is made of the files as
+# they stand it is made first, without a proof. Beside an installed start script the program lies ready, in
+# the folder programs.
 start() {
     crate=$1
     shift
+    look_at_streams
     program=$top/crates/$crate/out/$crate
     if [ -x "$top/programs/$crate" ]; then
         program=$top/programs/$crate
     elif ! is_current "$crate" "$program"; then
-        if is_current "$crate" "$program.tried"; then
-            program=$program.tried
-            echo "${0##*/}: this program is not proved here and not optimised (./build --try made it); ./build proves it" >&2
-        else
-            "$top/build" "$crate" </dev/null >&2 || exit
-        fi
+        program=$program.unproved
+        is_current "$crate" "$program" || "$top/build" --unproved "$crate" </dev/null >&2 || exit
+        # ./sweep says it once, for all its trials.
+        [ -n "${MESH_IS_TOLD-}" ] || echo "${0##*/}: this program is not proved here; $(proving "$crate")" >&2
     fi
-    if [ -t 2 ]; then
-        run_and_tell "$@"
-    fi
-    exec "$program" "$@"
+    run_and_tell "$@"
 }
 
-# --- Words.
+# main CRATE WORD..: what a start script does; `usage` and `look_at_words` are its own.
+main() {
+    crate=$1
+    shift
+    case ${1-} in
+    --help | -h) usage ;;
+    --version) version ;;
+    *)
+        look_at_words "$@"
+        start "$crate" "$@"
+        ;;
+    esac
+}
+
+# --- Words. A start script sets `call`, how it is called, `options`, what may stand first, in order, `operands`,
+# the names of the words behind that, `reads`, what it reads, and `runs`, its variant where it takes none.
+
+call=${0##*/} options='' operands='' reads='' runs=''
+
+# Says in one line what is wrong with the words, and then the forms.
+refuse() {
+    case $1 in "$call "*) echo "$1" ;; *) echo "$call: $1" ;; esac >&2
+    usage >&2
+    exit 2
+}
+
+# The words as a choice: a, b or c.
+either() {
+    said=$1
+    shift
+    while [ $# -gt 1 ]; do
+        said="$said, $1"
+        shift
+    done
+    echo "$said${1+ or $1}"
+}
+
+# need_command COMMANDS WORD..: refuses a first word that is none of the commands.
+need_command() {
+    # shellcheck disable=SC2086 # each is a word
+    choice=$(either $1)
+    for it in $1; do
+        [ "${2-}" != "$it" ] || return 0
+    done
+    [ -n "${2-}" ] || refuse "a command is missing: $choice"
+    for it in $options; do
+        [ "$2" != "$it" ] || refuse "$it comes after the command, which is $choice"
+    done
+    case $2 in -?*) refuse_option "$2" ;; esac
+    [ ! -f "$2" ] || call="$call ${1%% *}" refuse_file "$2"
+    refuse "there is no command $2: it is $choice"
+}
+
+# Refuses a word that names a file, or stands where a file might be named.
+refuse_file() {
+    [ "$1" != - ] || refuse "$call reads $reads from standard input without the word -"
+    refuse "$call reads $reads from standard input: $call${operands:+ $operands} < $1"
+}
+
+# Looks at the options that stand first, and sets `taken` to the number of their words. Refuses each later one.
+look_at_options() {
+    taken=0 found='' behind=${operands%% *}
+    for it in $options; do
+        [ "${1-}" = "$it" ] || continue
+        found="$found $it" behind=$it
+        if [ "$it" = --variant ]; then
+            need_variant "${2-}"
+            shift
+            taken=$((taken + 1))
+        fi
+        shift
+        taken=$((taken + 1))
+    done
+    for it; do
+        case $it in -?*) refuse_option "$it" ;; esac
+    done
+}
+
+need_variant() {
+    case $1 in
+    base | number | error | reply) ;;
+    '') refuse "the NAME of --variant is missing: $(either base number error reply)" ;;
+    *) refuse "there is no variant $1: it is $(either base number error reply)" ;;
+    esac
+}
+
+# Says of an option that it is out of its place, or that there is none of its name.
+refuse_option() {
+    for it in $options; do
+        [ "${1%%=*}" = "$it" ] || continue
+        [ "$1" = "$it" ] || refuse "$1 is two words: $it ${1#*=}"
+        case " $found " in *" $it "*) refuse "$it stands twice" ;; esac
+        [ "$it" != --variant ] || it="$it NAME"
+        refuse "$it comes before $behind"
+    done
+    # shellcheck disable=SC2086 # each is a word
+    case $1 in
+    --variant*) refuse "$call has no --variant${runs:+: it runs $runs}" ;;
+    *) refuse "$call has no option $1${options:+: it has $(either $options)}" ;;
+    esac
+}
+
+# no_more WORD..: refuses words that are left.
+no_more() {
+    [ $# -gt 0 ] || return 0
+    [ -z "$reads" ] || refuse_file "$1"
+    refuse "$1 is a word too many"
+}
+
+# What is wrong with a number in range all the same.
+as_written() {
+    case $1 in 0[0-9]*) echo ' without leading zeros' ;; esac
+}
+
+# need_number NAME FROM TO [WORD]
+need_number() {
+    [ $# -gt 3 ] || refuse "$1 is missing, a number from $2 to $3"
+    ! is_number "$4" "$2" "$3" || return 0
+    [ -z "$reads" ] || [ ! -f "$4" ] || refuse_file "$4"
+    refuse "$1 is a number from $2 to $3$(as_written "$4"), and not $4"
+}
+
+# need_seed [WORD]
+need_seed() {
+    [ $# -gt 0 ] || refuse "SEED is missing, a number below 2^64"
+    is_seed "$1" || refuse "SEED is a number below 2^64$(as_written "$1"), and not $1"
+}
+
+# need_address NAME [WORD]
+need_address() {
+    [ $# -gt 1 ] || refuse "$1 is missing, an address as 10.0.0.1"
+    ! is_address "$2" || return 0
+    [ ! -f "$2" ] || refuse_file "$2"
+    refuse "$1 is an address as 10.0.0.1, and not $2"
+}
+
+# Whether $1 is an address; the program decides again for itself.
+is_address() {
+    case $1 in *.*.*.*.* | *[!0-9.]*) return 1 ;; *.*.*.*) ;; *) return 1 ;; esac
+    rest=$1.
+    while [ -n "$rest" ]; do
+        is_number "${rest%%.*}" 0 255 || return 1
+        rest=${rest#*.}
+    done
+}
 
 # Whether $1 is a number from $2 to $3: decimal digits without a leading zero, or 0.
 is_number() {
