@@ -126,9 +126,15 @@ meaning_of() {
     mesh_check:9) echo "the tables are not sound; the line names the first next hop that is no better" ;;
     mesh_state:9) echo "the input begins with no checkpoint from which a run can go on; the line above says why" ;;
     mesh_state:10) echo "the checkpoint would be longer than 268435456 bytes" ;;
+    *:132) echo "signal 4 ended it$(as_unproved)" ;;
     *:129 | *:13? | *:14? | *:15?) echo "a signal ended it (number $(($1 - 128)))" ;;
     *) echo "no status of this program" ;;
     esac
+}
+
+# What that signal is to a program that tools/unproved made.
+as_unproved() {
+    case $program in *.unproved) echo ": an index, an unwrap or a prove! failed, which a proof would exclude" ;; esac
 }
 
 # An installed copy has no checks.
