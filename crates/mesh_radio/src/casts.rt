@@ -206,8 +206,10 @@ pub fn launch(casts: &mut Casts, least: Option<Least>, next: u64, cast: Cast) ->
     ensures spare { spare casts.old ≤ spare casts.new + 1 }
 {
     let place = casts.len();
-    match casts.insert(next, cast) {
-        Ok(_) => {}
+    match casts.entry(next) {
+        Ok(entry) => {
+            entry.insert_entry(cast);
+        }
         Err(_) => unreachable!(),
     }
     least_or(casts, least, place)
