@@ -1,6 +1,6 @@
 -- Answers that differ. Each stands here by itself, since `cc` reads all that is known at its place,
 -- and at the end of a loop that is much.
-use Rattle.std.proofs.Common.{◌≡◌, ℕ, Ok, Err}
+use Rattle.std.proofs.Common.{◌≡◌, ℕ, Result, Ok, Err}
 use Rattle.mesh_io.specs.declared.line_error.LineError.{LineError}
 use Rattle.mesh_io.specs.declared.line_error.LineError.TheVariants as error
 use Rattle.mesh_capture.specs.declared.status.CaptureStatus.{CaptureStatus}
@@ -11,10 +11,10 @@ use Rattle.mesh_capture.specs.declared.status.CaptureStatus.TheVariants as statu
 pub line_or_fault : {T E A : Type 0} {x : T} {y : E} → Ok x ≡ Err y → A
 line_or_fault e = absurd (let P : ⊥ = cc in P)
 
-pub too_long_or_fault : {T A : Type 0} {x : LineError} → x ≡ error.TooLong → Err {T = T} x ≡ Err error.ReadFault → A
+pub too_long_or_fault : {T A : Type 0} {x : LineError} → x ≡ error.TooLong → ◌≡◌ {A = Result T LineError} (Err x) (Err error.ReadFault) → A
 too_long_or_fault is e = absurd (let P : ⊥ = cc in P)
 
-pub too_much_or_fault : {T A : Type 0} {x : LineError} → x ≡ error.TooMuch → Err {T = T} x ≡ Err error.ReadFault → A
+pub too_much_or_fault : {T A : Type 0} {x : LineError} → x ≡ error.TooMuch → ◌≡◌ {A = Result T LineError} (Err x) (Err error.ReadFault) → A
 too_much_or_fault is e = absurd (let P : ⊥ = cc in P)
 
 -- ---- what a capture comes to
