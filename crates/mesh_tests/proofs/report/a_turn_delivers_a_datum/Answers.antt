@@ -2,7 +2,7 @@ use Rattle.std.proofs.Common.{◌≡◌, ◌<◌, ℕ, true, false, ap, ◌∙�
 use Rattle.std.specs.Ordering.{nat_cmp}
 use Rattle.std.specs.FinSet.{empty, contains, contains-empty}
 use Rattle.mesh_base.specs.Members.{NodeIds}
-use Rattle.mesh_tests.proofs.report.tells.Goals as goal
+use Rattle.mesh_tests.proofs.report.a_turn_delivers_a_datum.Goals as goal
 
 no_member : (s : NodeIds) (size p : ℕ) → s ≡ empty → contains s p ≡ true → p < size
 no_member s size p e is =
