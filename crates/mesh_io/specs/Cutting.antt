@@ -1,15 +1,37 @@
 -- What is seen of a source that is cut into lines, and what it answers.
-use Rattle.std.specs.Prelude.{ℕ, ◌+◌, ◌-◌, ◌≡◌, ◌⊎◌, Bool, true, false, if◌then◌else◌, List, [], length, take, drop, Option, Some, None, Result, Ok, Err, ⊤}
+use Rattle.std.specs.Prelude.{ℕ, ◌+◌, ◌-◌, ◌≡◌, ◌≤◌, ◌⊎◌, Bool, true, false, if◌then◌else◌, List, [], length, take, drop, Option, Some, None, Result, Ok, Err, ⊤}
+use Rattle.std.specs.Borrow.{MutBor}
 use Rattle.std.specs.Io.KnownBytes.{prepend_known}
 use Rattle.mesh_io.specs.NextLines.{FirstLine, first_line, line_size, Line, TooLong, TooMuch, next_of}
 use Rattle.mesh_io.specs.Decisions.{decides}
 use Rattle.mesh_io.specs.declared.limits.Limits.{Limits}
+use Rattle.mesh_io.specs.declared.read_buffer.TheConstants.{ASKED}
 use Rattle.mesh_io.specs.declared.source.Source.{Ghosts}
 use Rattle.mesh_io.specs.declared.cutter.Cutter.{Cutter}
 use Rattle.mesh_io.specs.declared.decision.Decision.{Decision}
 use Rattle.mesh_io.specs.declared.decision.Decision.TheVariants as decision
 use Rattle.mesh_io.specs.declared.line_error.LineError.{LineError}
 use Rattle.mesh_io.specs.declared.line_error.LineError.TheVariants as error
+
+-- a reader with so many bytes of room can hold the longest line and one read
+abbrev pub HasRoom : Limits → ℕ → Type 0
+HasRoom most room = most.line + ASKED ≤ room
+
+-- the source that is read
+abbrev pub source_in : {S : Type 0} {room : ℕ} {G : Ghosts S} → Cutter S room G → MutBor S
+source_in cutter = cutter.source
+
+-- the limits of its lines
+abbrev pub limits_in : {S : Type 0} {room : ℕ} {G : Ghosts S} → Cutter S room G → Limits
+limits_in cutter = cutter.most
+
+-- how many bytes were given, each LF among them
+abbrev pub given_in : {S : Type 0} {room : ℕ} {G : Ghosts S} → Cutter S room G → ℕ
+given_in cutter = cutter.given
+
+-- the source has answered that it has ended
+abbrev pub has_ended_in : {S : Type 0} {room : ℕ} {G : Ghosts S} → Cutter S room G → Bool
+has_ended_in cutter = cutter.ended
 
 -- the line that was found last
 abbrev pub line_in : {S : Type 0} {room : ℕ} {G : Ghosts S} → Cutter S room G → List ℕ

@@ -7,10 +7,17 @@ ghost use Rattle.mesh_io.specs.Decisions.{decision_of};
 ghost use Rattle.mesh_io.specs.declared.read_buffer.TheConstants.{ASKED};
 
 use crate::decision::{Decision, decide};
-use crate::limits::Limits;
+use crate::limits::{LONGEST_TEXT_LINE, Limits};
 use crate::line_error::LineError;
 use crate::read_buffer::{ASKED, ReadBuffer};
 use crate::source::{Failed, Source};
+use mesh_base::LONGEST_LINE;
+
+/// Room for the longest line of a schedule and one read, in bytes.
+pub const SCHEDULE_ROOM: usize = LONGEST_LINE + ASKED;
+
+/// Room for the longest line of a printed text and one read, in bytes.
+pub const TEXT_ROOM: usize = LONGEST_TEXT_LINE + ASKED;
 
 /// Cuts what a source gives into lines within these limits. The line that was found last stands at
 /// the buffer's prefix, with its LF, and behind it the bytes that were read and not yet given. The
@@ -37,17 +44,17 @@ pub struct Cutter<'s, S: Source, const ROOM: usize> {
 }
 
 impl<'s, S: Source, const ROOM: usize> Cutter<'s, S, ROOM> {
-    ghost use Rattle.mesh_io.specs.Cutting.{line_in, pending_in, ahead_in, faults_in, decides_in, reads_to_come, Tells, Refuses, IsCounted, HasNoLf, refusal_in};
+    ghost use Rattle.mesh_io.specs.Cutting.{HasRoom, source_in, limits_in, given_in, has_ended_in, line_in, pending_in, ahead_in, faults_in, decides_in, reads_to_come, Tells, Refuses, IsCounted, HasNoLf, refusal_in};
 
     /// At the prefix of the source.
     pub fn new(source: &'s mut S, most: Limits) -> Cutter<'s, S, ROOM>
-        requires { most.line + ASKED ≤ ROOM }
-        ensures same { result.source.ghost_name ≡ source.entry.ghost_name }
-        ensures source { result.source.now ≡ source.old }
-        ensures most { result.most ≡ most }
+        requires { HasRoom most ROOM }
+        ensures same { (source_in result).ghost_name ≡ source.entry.ghost_name }
+        ensures source { (source_in result).now ≡ source.old }
+        ensures most { limits_in result ≡ most }
         ensures pending { pending_in result ≡ [] }
-        ensures given { result.given ≡ 0 }
-        ensures ended { result.ended ≡ false }
+        ensures given { given_in result ≡ 0 }
+        ensures ended { has_ended_in result ≡ false }
     {
         Cutter {
             source,
@@ -63,8 +70,8 @@ impl<'s, S: Source, const ROOM: usize> Cutter<'s, S, ROOM> {
 
     /// The source. What was read of it and not given is lost.
     pub fn give_back(self) -> &'s mut S
-        ensures same { result.ghost_name ≡ self.entry.source.ghost_name }
-        ensures source { result.now ≡ self.entry.source.now }
+        ensures same { result.ghost_name ≡ (source_in self.entry).ghost_name }
+        ensures source { result.now ≡ (source_in self.entry).now }
     {
         let Cutter {
             source,
@@ -150,22 +157,22 @@ impl<'s, S: Source, const ROOM: usize> Cutter<'s, S, ROOM> {
 
     /// Finds the next line, if there is one.
     pub fn advance(&mut self) -> Result<bool, LineError>
-        ensures same { self.new.source.ghost_name ≡ self.old.source.ghost_name }
-        ensures most { self.new.most ≡ self.old.most }
+        ensures same { (source_in self.new).ghost_name ≡ (source_in self.old).ghost_name }
+        ensures most { limits_in self.new ≡ limits_in self.old }
         ensures told { IfSome (ahead_in S.left self.old) (λ bytes.
-            Tells self.old.most self.old.given bytes result
-            (line_in self.new) self.new.given (ahead_in S.left self.new)) }
-        ensures unread { decides_in self.old ≡ true → self.new.source.now ≡ self.old.source.now }
+            Tells (limits_in self.old) (given_in self.old) bytes result
+            (line_in self.new) (given_in self.new) (ahead_in S.left self.new)) }
+        ensures unread { decides_in self.old ≡ true → (source_in self.new).now ≡ (source_in self.old).now }
         ensures stays { IfSome (refusal_in self.old) (λ refusal.
             (result ≡ Err refusal) × (self.new ≡ self.old)) }
         ensures kept { Refuses result (refusal_in self.new) }
         ensures unasked { decides_in self.old ≡ true → ¬ IsErrOf result LineError.ReadFault }
-        ensures short { result ≡ Ok true → length (line_in self.new) ≤ self.old.most.line }
+        ensures short { result ≡ Ok true → length (line_in self.new) ≤ (limits_in self.old).line }
         ensures counted { result ≡ Ok true → IsCounted (length (line_in self.new))
-            self.old.given self.new.given self.new.ended }
-        ensures grows { result ≡ Ok true → self.old.given < self.new.given }
-        ensures few { self.new.given ≤ self.new.most.input }
-        ensures end { result ≡ Ok false → IsAtEnd (S.left self.new.source.now) }
+            (given_in self.old) (given_in self.new) (has_ended_in self.new) }
+        ensures grows { result ≡ Ok true → given_in self.old < given_in self.new }
+        ensures few { given_in self.new ≤ (limits_in self.new).input }
+        ensures end { result ≡ Ok false → IsAtEnd (S.left (source_in self.new).now) }
         ensures pending { IsErrOf result LineError.ReadFault → HasNoLf (pending_in self.new) }
         ensures cause { HasReadCause (faults_in S.faults self.old)
             (faults_in S.faults self.new) result }

@@ -1,4 +1,8 @@
 //! The limits of the lines of an input.
+ghost use Rattle.std.specs.Prelude.{◌≡◌};
+ghost use Rattle.mesh_io.specs.NextLines.{schedule_limits, text_limits};
+
+use mesh_base::{LONGEST_INPUT, LONGEST_LINE};
 
 /// The most bytes of a line of a printed text, without its LF. The longest that `mesh run` writes,
 /// a route error cast to 200 nodes, has some 6,430.
@@ -12,4 +16,26 @@ pub const LONGEST_TEXT: usize = 268_435_456;
 pub struct Limits {
     pub line: usize,
     pub input: usize,
+}
+
+impl Limits {
+    /// Those of a schedule.
+    pub fn of_schedule() -> Limits
+        ensures { result ≡ schedule_limits }
+    {
+        Limits {
+            line: LONGEST_LINE,
+            input: LONGEST_INPUT,
+        }
+    }
+
+    /// Those of a printed text.
+    pub fn of_text() -> Limits
+        ensures { result ≡ text_limits }
+    {
+        Limits {
+            line: LONGEST_TEXT_LINE,
+            input: LONGEST_TEXT,
+        }
+    }
 }

@@ -2,17 +2,13 @@
 ghost use Rattle.std.specs.Prelude.{◌≡◌, ◌≤◌, ◌<◌, [], Ok, Err, true, false, length, IfSome, IsErrOf};
 ghost use Rattle.std.specs.Io.KnownBytes.{IsAtEnd};
 ghost use Rattle.mesh_io.specs.Cause.{HasReadCause};
+ghost use Rattle.mesh_base.specs.declared.limits.TheConstants.{LONGEST_LINE, LONGEST_INPUT};
 ghost use Rattle.mesh_io.specs.NextLines.{schedule_limits};
 
-use crate::cutter::Cutter;
+use crate::cutter::{Cutter, SCHEDULE_ROOM};
 use crate::limits::Limits;
 use crate::line_error::LineError;
-use crate::read_buffer::ASKED;
 use crate::source::Source;
-use mesh_base::{LONGEST_INPUT, LONGEST_LINE};
-
-/// Room for the longest line of a schedule and one read, in bytes.
-const LINES_ROOM: usize = LONGEST_LINE + ASKED;
 
 /// Reads a source line by line: a line has at most `LONGEST_LINE` bytes, and the input at most
 /// `LONGEST_INPUT`. What goes past a limit first, in the order of the bytes, is refused, and where
@@ -23,7 +19,7 @@ const LINES_ROOM: usize = LONGEST_LINE + ASKED;
 /// in itself and is best made where it stays.
 #[derive(Drop)]
 pub struct Lines<'s, S: Source> {
-    cutter: Cutter<'s, S, LINES_ROOM>,
+    cutter: Cutter<'s, S, SCHEDULE_ROOM>,
     ghost most: { cutter.most ≡ schedule_limits },
 }
 
@@ -39,12 +35,8 @@ impl<'s, S: Source> Lines<'s, S> {
         ensures given { given_of result ≡ 0 }
         ensures ended { has_ended result ≡ false }
     {
-        let most = Limits {
-            line: LONGEST_LINE,
-            input: LONGEST_INPUT,
-        };
         Lines {
-            cutter: Cutter::new(source, most),
+            cutter: Cutter::new(source, Limits::of_schedule()),
         }
     }
 

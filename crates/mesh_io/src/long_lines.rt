@@ -2,22 +2,19 @@
 ghost use Rattle.std.specs.Prelude.{◌≡◌, ◌≤◌, ◌<◌, [], Ok, Err, true, false, IfSome, IsErrOf};
 ghost use Rattle.std.specs.Io.KnownBytes.{IsAtEnd};
 ghost use Rattle.mesh_io.specs.Cause.{HasReadCause};
+ghost use Rattle.mesh_io.specs.declared.limits.TheConstants.{LONGEST_TEXT};
 ghost use Rattle.mesh_io.specs.NextLines.{text_limits};
 
-use crate::cutter::Cutter;
-use crate::limits::{LONGEST_TEXT, LONGEST_TEXT_LINE, Limits};
+use crate::cutter::{Cutter, TEXT_ROOM};
+use crate::limits::Limits;
 use crate::line_error::LineError;
-use crate::read_buffer::ASKED;
 use crate::source::Source;
-
-/// Room for the longest line of a printed text and one read, in bytes.
-const LONG_LINES_ROOM: usize = LONGEST_TEXT_LINE + ASKED;
 
 /// Reads a printed text line by line, by the rules of `Lines` with greater limits: a line has at
 /// most `LONGEST_TEXT_LINE` bytes, and the text at most `LONGEST_TEXT`.
 #[derive(Drop)]
 pub struct LongLines<'s, S: Source> {
-    cutter: Cutter<'s, S, LONG_LINES_ROOM>,
+    cutter: Cutter<'s, S, TEXT_ROOM>,
     ghost most: { cutter.most ≡ text_limits },
 }
 
@@ -33,12 +30,8 @@ impl<'s, S: Source> LongLines<'s, S> {
         ensures given { given_of result ≡ 0 }
         ensures ended { has_ended result ≡ false }
     {
-        let most = Limits {
-            line: LONGEST_TEXT_LINE,
-            input: LONGEST_TEXT,
-        };
         LongLines {
-            cutter: Cutter::new(source, most),
+            cutter: Cutter::new(source, Limits::of_text()),
         }
     }
 

@@ -1,0 +1,25 @@
+-- What holds of the lines of an input.
+use Rattle.std.specs.Prelude.{◌≡◌, ◌⊎◌, List, [], ◌∷◌, ◌++◌, ℕ, ⊤}
+use Rattle.mesh_io.specs.declared.limits.Limits.{Limits}
+use Rattle.mesh_shell.specs.Pieces.{Piece, Whole, Long, Beyond, pieces_within}
+
+-- none goes past a limit
+abbrev pub AreWhole : List Piece → Type 0
+AreWhole [] = ⊤
+AreWhole (Whole line ∷ pieces) = AreWhole pieces
+AreWhole (Long ∷ pieces) = ⊥
+AreWhole (Beyond ∷ pieces) = ⊥
+
+-- the lines, each with its LF
+abbrev pub text_of : List Piece → List ℕ
+text_of [] = []
+text_of (Whole line ∷ pieces) = line ++ 10 ∷ text_of pieces
+text_of (Long ∷ pieces) = text_of pieces
+text_of (Beyond ∷ pieces) = text_of pieces
+
+-- where no limit is passed the lines are the whole text, but for a LF that its last line may lack
+abbrev pub LinesAreTheText : Type 0
+LinesAreTheText =
+    (most : Limits) (text : List ℕ) → AreWhole (pieces_within most text)
+    → (text_of (pieces_within most text) ≡ text)
+    ⊎ (text_of (pieces_within most text) ≡ text ++ 10 ∷ [])

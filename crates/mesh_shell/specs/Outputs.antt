@@ -1,0 +1,89 @@
+-- What was told of a run: what the sink held before, and what it holds now. Where a sink doesn't
+-- tell what it holds, the verdict alone is claimed.
+use Rattle.std.specs.Prelude.{ℕ, ◌≡◌, ◌⊎◌, Bool, true, false, List, [], ◌∷◌, ◌++◌, Option, Some, None, Result, Ok, Err}
+use Rattle.std.specs.Io.KnownBytes.{Appends, Consumes}
+use Rattle.mesh_io.specs.Puts.{AppendsPrefix}
+use Rattle.mesh_io.specs.Cutting.{HasNoLf}
+use Rattle.mesh_io.specs.declared.limits.Limits.{Limits}
+use Rattle.mesh_shell.specs.Story.{Outcome, On, Ended, Ending, Story, RunText, whole, text_on}
+use Rattle.mesh_shell.specs.declared.fault.Fault.{Fault}
+use Rattle.mesh_shell.specs.declared.fault.Fault.TheVariants.{ReadFault, WriteFault, NoMemory}
+
+-- ---- one line
+
+-- it was done and its text written, and the run goes on from the next moment
+pub record IsLineDone {M V : Type 0} (k : Outcome M V) (n : M) (before now : Option (List ℕ))
+    : Type 0 where
+  pub text : List ℕ
+  pub is : k ≡ On text n
+  pub grown : Appends before now text
+
+-- it has ended the run, and the last text is written
+pub record IsLineLast {M V : Type 0} (k : Outcome M V) (v : V) (before now : Option (List ℕ))
+    : Type 0 where
+  pub text : List ℕ
+  pub is : k ≡ Ended text v
+  pub grown : Appends before now text
+
+-- the text of a line
+abbrev pub text_in : {M V : Type 0} → Outcome M V → List ℕ
+text_in (On text n) = text
+text_in (Ended text v) = text
+
+-- either, or a prefix of its text was written
+abbrev pub IsLineRun : {M V : Type 0} → Outcome M V → M → Option (List ℕ) → Option (List ℕ)
+    → Result (Option V) Fault → Type 0
+IsLineRun k n before now (Ok None) = IsLineDone k n before now
+IsLineRun k n before now (Ok (Some v)) = IsLineLast k v before now
+IsLineRun k n before now (Err e) = AppendsPrefix before now (text_in k)
+
+-- a line that can only end the run has done so
+abbrev pub IsLastRun : {M V : Type 0} → Outcome M V → Option (List ℕ) → Option (List ℕ)
+    → Result V Fault → Type 0
+IsLastRun k before now (Ok v) = IsLineLast k v before now
+IsLastRun k before now (Err e) = AppendsPrefix before now (text_in k)
+
+-- ---- the end
+
+-- the last text is written, and the moment is the one after it
+abbrev pub IsEndRun : {M V : Type 0} → Ending M V → M → Option (List ℕ) → Option (List ℕ)
+    → Result V Fault → Type 0
+IsEndRun e n before now (Ok v) = (v ≡ e.verdict) × (n ≡ e.after) × Appends before now e.text
+IsEndRun e n before now (Err fault) = AppendsPrefix before now e.text
+
+-- ---- a run
+
+-- no byte, or the last is an LF
+abbrev pub EndsWithLf : List ℕ → Type 0
+EndsWithLf bytes = (bytes ≡ []) ⊎ ((front : List ℕ) × (bytes ≡ front ++ 10 ∷ []))
+
+-- a read failed after some lines, each with its LF, and bytes without one were taken. The lines
+-- were all done and none has ended the run, and their text was written, which is a prefix of what
+-- the whole input comes to. `text` says what an input comes to
+pub record IsCutShort {M V : Type 0} (text : List ℕ → RunText M V) (bytes : List ℕ)
+    (left before now : Option (List ℕ)) : Type 0 where
+  pub lines : List ℕ
+  pub others : List ℕ
+  pub whole_lines : EndsWithLf lines
+  pub unended : HasNoLf others
+  pub consumed : Consumes (Some bytes) left (lines ++ others)
+  pub done : (text lines).complete ≡ true
+  pub grown : Appends before now (text lines).lines
+  pub prefix : AppendsPrefix before now (whole (text bytes))
+
+-- a run of these bytes has answered, where the source has this left: the whole text was written and
+-- the verdict answered; or a read failed, and the text of the lines that were read whole was; or a
+-- write failed, or memory was asked for and not found, and a prefix of the text was
+abbrev pub IsOutputOf : {M V : Type 0} → (List ℕ → RunText M V) → List ℕ → Option (List ℕ)
+    → Option (List ℕ) → Option (List ℕ) → Result V Fault → Type 0
+IsOutputOf text bytes left before now (Ok v) =
+    (v ≡ (text bytes).verdict) × Appends before now (whole (text bytes))
+IsOutputOf text bytes left before now (Err ReadFault) = IsCutShort text bytes left before now
+IsOutputOf text bytes left before now (Err WriteFault) = AppendsPrefix before now (whole (text bytes))
+IsOutputOf text bytes left before now (Err NoMemory) = AppendsPrefix before now (whole (text bytes))
+
+-- the same of a script's run from a moment on
+abbrev pub IsOutputFrom : {M V : Type 0} → Story M V → Limits → M → List ℕ → Option (List ℕ)
+    → Option (List ℕ) → Option (List ℕ) → Result V Fault → Type 0
+IsOutputFrom story most m bytes left before now result =
+    IsOutputOf (text_on story most m) bytes left before now result

@@ -1,0 +1,22 @@
+-- What a script's calls answer.
+use Rattle.std.specs.Prelude.{ℕ, List, length, max, Option, Some, None, Result, IfOk, IfNone, IfSome}
+use Rattle.mesh_shell.specs.Pieces.{Piece, Long, Beyond}
+use Rattle.mesh_shell.specs.declared.fault.Fault.{Fault}
+use Rattle.mesh_shell.specs.declared.limit.Limit.{Limit}
+use Rattle.mesh_shell.specs.declared.limit.Limit.TheVariants.{Line, Input}
+
+-- how many bytes a line takes of an input at least: the last may have no LF
+abbrev pub size_of_line : List ℕ → ℕ
+size_of_line line = max 1 (length line)
+
+abbrev pub piece_past : Limit → Piece
+piece_past Line = Long
+piece_past Input = Beyond
+
+-- where a line hasn't ended the run
+abbrev pub GoesOn : {V : Type 0} → Result (Option V) Fault → Type 0 → Type 0
+GoesOn result P = IfOk result (λ ended. IfNone ended P)
+
+-- the verdict of a run that a line has ended is none of the end
+abbrev pub EndsEarly : {V : Type 0} → (V → Type 0) → Result (Option V) Fault → Type 0
+EndsEarly is_final result = IfOk result (λ ended. IfSome ended (λ v. ¬ (is_final v)))

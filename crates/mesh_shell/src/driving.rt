@@ -1,0 +1,160 @@
+//! A run from its source to its sink.
+ghost use Rattle.std.specs.Prelude.{◌≡◌, ◌<◌, ◌+◌, ◌^◌, [], IfSome, IfOk, IsErrOf};
+ghost use Rattle.std.specs.Io.KnownBytes.{IsAtEnd};
+ghost use Rattle.mesh_io.specs.Buffering.{inner_of, gathered_in, held_by};
+ghost use Rattle.mesh_io.specs.Cutting.{HasRoom};
+ghost use Rattle.mesh_shell.specs.Story.{text_on};
+ghost use Rattle.mesh_shell.specs.Outputs.{IsOutputFrom};
+ghost use Rattle.mesh_shell.specs.Causes.{HasFaultCause, HasSourceCause};
+
+use crate::fault::Fault;
+use crate::lines::do_lines;
+use crate::reader::LineReader;
+use crate::script::Script;
+use mesh_io::{BufferRoom, Buffered, Cutter, Limits, Loan, Sink, Source, Through};
+use std::alloc::Global;
+use std::marker::Brand;
+
+// Does lines into a buffer, and hands on what is gathered, unless a write failed.
+fn do_gathered<S: Script, R: LineReader, O: Sink>(
+    script: &mut S,
+    lines: &mut R,
+    buffer: &mut Buffered<O>,
+) -> Result<S::Verdict, Fault>
+    requires room { S.has_room script.old ((R.limits lines.old).input + 1) }
+    requires pending { R.pending lines.old ≡ [] }
+    requires given { R.given lines.old ≡ 0 }
+    ensures same { R.name lines.new ≡ R.name lines.old }
+    ensures told { IfSome (R.left lines.old) (λ bytes.
+        IsOutputFrom S.story (R.limits lines.old) script.old bytes (R.left lines.new)
+        (held_by O.held buffer.old) (held_by O.held buffer.new) result) }
+    ensures after { IfOk result (λ v. S.is_final v → IfSome (R.left lines.old)
+        (λ bytes. script.new ≡ (text_on S.story (R.limits lines.old) script.old bytes).after)) }
+    ensures leads { IfOk result (λ v. S.is_final v
+        → S.leads script.old (R.limits lines.old).input script.new) }
+    ensures sound { IfOk result (λ v. S.is_final v → S.is_sound script.new) }
+    ensures end { IfOk result (λ v. S.is_final v → IsAtEnd (R.left lines.new)) }
+    ensures handed_on { ¬ IsErrOf result Fault.WriteFault → gathered_in buffer.new ≡ [] }
+    ensures read { HasSourceCause (R.faults lines.old) (R.faults lines.new) result }
+    ensures write { HasFaultCause Fault.WriteFault
+        (O.faults (inner_of buffer.old)) (O.faults (inner_of buffer.new)) result }
+{
+    let result = do_lines(script, lines, buffer);
+    if let Err(Fault::WriteFault) = result {
+        return result;
+    }
+    match buffer.flush() {
+        Ok(()) => result,
+        Err(_) => Err(Fault::WriteFault),
+    }
+}
+
+// Does lines through a buffer before the sink, which comes back.
+fn do_through<'s, S: Script, R: LineReader, O: Sink, L: Loan>(
+    room: BufferRoom,
+    script: &mut S,
+    lines: &mut R,
+    out: &'s mut O,
+    answer: &mut Result<S::Verdict, Fault>,
+) -> &'s mut O
+    requires room { S.has_room script.old ((R.limits lines.old).input + 1) }
+    requires pending { R.pending lines.old ≡ [] }
+    requires given { R.given lines.old ≡ 0 }
+    requires name { out.ghost_name ≡ L.name }
+    requires start { O.held out.now ≡ L.start }
+    ensures sink { result.ghost_name ≡ out.entry.ghost_name }
+    ensures same { R.name lines.new ≡ R.name lines.old }
+    ensures told { IfSome (R.left lines.old) (λ bytes.
+        IsOutputFrom S.story (R.limits lines.old) script.old bytes (R.left lines.new)
+        (O.held out.entry.now) (O.held result.now) answer.new) }
+    ensures after { IfOk answer.new (λ v. S.is_final v → IfSome (R.left lines.old)
+        (λ bytes. script.new ≡ (text_on S.story (R.limits lines.old) script.old bytes).after)) }
+    ensures leads { IfOk answer.new (λ v. S.is_final v
+        → S.leads script.old (R.limits lines.old).input script.new) }
+    ensures sound { IfOk answer.new (λ v. S.is_final v → S.is_sound script.new) }
+    ensures end { IfOk answer.new (λ v. S.is_final v → IsAtEnd (R.left lines.new)) }
+    ensures read { HasSourceCause (R.faults lines.old) (R.faults lines.new) answer.new }
+    ensures write { HasFaultCause Fault.WriteFault
+        (O.faults out.entry.now) (O.faults result.now) answer.new }
+{
+    let mut buffer: Buffered<Through<'s, O, L>> = Buffered::lent(out, room);
+    *answer = do_gathered(script, lines, &mut buffer);
+    buffer.give_back()
+}
+
+// Does lines from their reader to a sink. The memory of the buffer is taken first.
+fn do_buffered<S: Script, R: LineReader, O: Sink>(
+    alloc: Global,
+    script: &mut S,
+    lines: &mut R,
+    out: &mut O,
+) -> Result<S::Verdict, Fault>
+    requires room { S.has_room script.old ((R.limits lines.old).input + 1) }
+    requires pending { R.pending lines.old ≡ [] }
+    requires given { R.given lines.old ≡ 0 }
+    ensures same { R.name lines.new ≡ R.name lines.old }
+    ensures told { IfSome (R.left lines.old) (λ bytes.
+        IsOutputFrom S.story (R.limits lines.old) script.old bytes (R.left lines.new)
+        (O.held out.old) (O.held out.new) result) }
+    ensures after { IfOk result (λ v. S.is_final v → IfSome (R.left lines.old)
+        (λ bytes. script.new ≡ (text_on S.story (R.limits lines.old) script.old bytes).after)) }
+    ensures leads { IfOk result (λ v. S.is_final v
+        → S.leads script.old (R.limits lines.old).input script.new) }
+    ensures sound { IfOk result (λ v. S.is_final v → S.is_sound script.new) }
+    ensures end { IfOk result (λ v. S.is_final v → IsAtEnd (R.left lines.new)) }
+    ensures read { HasSourceCause (R.faults lines.old) (R.faults lines.new) result }
+    ensures write { HasFaultCause Fault.WriteFault (O.faults out.old) (O.faults out.new) result }
+{
+    let Ok(room) = BufferRoom::new(alloc) else {
+        return Err(Fault::NoMemory);
+    };
+    let mut answer = Err(Fault::NoMemory);
+    // It says that what comes back is `out`, as the buffer has left it.
+    let _out = do_through::<S, R, O, Brand>(room, script, lines, out, &mut answer);
+    answer
+}
+
+/// Runs a script over the lines of a source, up to its end or the first line that ends the run, and
+/// writes its text to the sink. A line has at most `most.line` bytes, and the input `most.input`;
+/// `ROOM` is what the longest line and one read need.
+///
+/// What is written is gathered in a buffer of 65536 bytes, whose memory is taken first. It is
+/// handed on when it is full, before each read of the source, and at the end, unless a write has
+/// failed.
+pub fn run<S: Script, I: Source, O: Sink, const ROOM: usize>(
+    alloc: Global,
+    script: &mut S,
+    most: Limits,
+    input: &mut I,
+    out: &mut O,
+) -> Result<S::Verdict, Fault>
+    requires fits { HasRoom most ROOM }
+    requires small { ROOM < 2 ^ 32 }
+    requires room { S.has_room script.old (most.input + 1) }
+
+    // What is written is the text of the input, and the answer its verdict. After a failed write,
+    // or want of memory, it is a prefix of that text; after a failed read it is the text of the
+    // lines that were read whole.
+    ensures told { IfSome (I.left input.old) (λ bytes.
+        IsOutputFrom S.story most script.old bytes (I.left input.new)
+        (O.held out.old) (O.held out.new) result) }
+
+    // The verdict of the end is answered only where the input was read to its end, and the script
+    // is then at the moment to which the input leads.
+    ensures end { IfOk result (λ v. S.is_final v → IsAtEnd (I.left input.new)) }
+    ensures after { IfOk result (λ v. S.is_final v → IfSome (I.left input.old)
+        (λ bytes. script.new ≡ (text_on S.story most script.old bytes).after)) }
+    ensures leads { IfOk result (λ v. S.is_final v → S.leads script.old most.input script.new) }
+    ensures sound { IfOk result (λ v. S.is_final v → S.is_sound script.new) }
+
+    // A fault is answered only where the source or the sink has failed in this call, and no other
+    // answer is given where one of them has.
+    ensures read { HasSourceCause (I.faults input.old) (I.faults input.new) result }
+    ensures write { HasFaultCause Fault.WriteFault (O.faults out.old) (O.faults out.new) result }
+{
+    let mut lines: Cutter<'_, I, ROOM> = Cutter::new(input, most);
+    let result = do_buffered(alloc, script, &mut lines, out);
+    // It says that `input` is the source as the lines have left it.
+    let _input = lines.give_back();
+    result
+}

@@ -1,0 +1,18 @@
+//! The shell of all programs that read lines: a script says what each line of an input does, and
+//! one loop runs it from a source to a sink. Of a printed text, or a schedule, it states what is
+//! written and answered, whatever the script.
+#![tactic(auto)]
+
+mod driving;
+mod fault;
+pub mod laws;
+mod limit;
+mod lines;
+mod reader;
+mod script;
+
+pub use driving::run;
+pub use fault::Fault;
+pub use limit::Limit;
+pub use reader::LineReader;
+pub use script::Script;
