@@ -9,7 +9,7 @@ use Rattle.mesh_io.specs.NextLines.{FirstLine, first_line, with_byte, line_size,
 use Rattle.mesh_io.specs.Cutting.{Tells, FindsLine, IsCounted, HasNoLf}
 use Rattle.mesh_io.specs.declared.limits.Limits.{Limits}
 use Rattle.mesh_io.specs.declared.line_error.LineError.TheVariants as error
-use Rattle.mesh_io.proofs.Writing.{Appends-join, Appends-none, Appends-keeps, AppendsPrefix-join}
+use Rattle.mesh_io.proofs.Writing.{Appends-join, Appends-keeps, AppendsPrefix-join, AppendsPrefix-more}
 use Rattle.mesh_io.proofs.FirstParts.{whole_line, nothing_after}
 use Rattle.mesh_io.proofs.FirstLines.{first_open}
 use Rattle.mesh_shell.specs.Pieces.{Piece, Whole, Long, Beyond, pieces_within}
@@ -88,22 +88,45 @@ IsProgress most start at None to_come given ended before now = Unit {0}
 IsProgress most start at (Some text) None given ended before now = ⊥
 IsProgress most start at (Some text) (Some bytes) given ended before now = Progress most start at text bytes given ended before now
 
+-- ---- what was told of a text
+
+-- what was told of a text without a failed read: all of it with its verdict, or a prefix
+abbrev pub IsWritten : {M V : Type 0} → RunText M V → Option (List ℕ) → Option (List ℕ) → Result V Fault → Type 0
+IsWritten w before now (Ok v) = (v ≡ w.verdict) × Appends before now (whole w)
+IsWritten w before now (Err e) = AppendsPrefix before now (whole w)
+
+output_from : {M V : Type 0} (start : List ℕ → RunText M V) (bytes : List ℕ) (left before now : Option (List ℕ)) (s : Result V Fault) → ¬ IsErrOf s ReadFault → IsWritten (start bytes) before now s
+    → IsOutputOf start bytes left before now s
+output_from start bytes left before now (Ok v) read t = t
+output_from start bytes left before now (Err ReadFault) read t = absurd (read refl)
+output_from start bytes left before now (Err WriteFault) read t = t
+output_from start bytes left before now (Err NoMemory) read t = t
+
 -- ---- its begin
 
-pub begins : {M V : Type 0} (most : Limits) (start : List ℕ → RunText M V) (at : List Piece → RunText M V) (left : Option (List ℕ)) (pending : List ℕ) (given : ℕ) (ended : Bool) (before : Option (List ℕ))
-    → ((bytes : List ℕ) → start bytes ≡ at (pieces_within most bytes)) → pending ≡ [] → given ≡ 0 → IsProgress most start at left (prepend_known pending left) given ended before before
-begins most start at None pending given ended before from none zero_is = tt
-begins most start at (Some text) pending given ended before from none zero_is =
-    subst (λ (p : List ℕ). Progress most start at text (p ++ text) given ended before before) (sym none)
-    (subst (λ (n : ℕ). Progress most start at text text n ended before before) (sym zero_is) (record {
+pub begins : {M V : Type 0} (most : Limits) (start : List ℕ → RunText M V) (at : List Piece → RunText M V) (head : List ℕ) (left : Option (List ℕ)) (pending : List ℕ) (given : ℕ) (ended : Bool) (before now : Option (List ℕ))
+    → ((bytes : List ℕ) → start bytes ≡ lines_before head (at (pieces_within most bytes))) → pending ≡ [] → given ≡ 0 → Appends before now head → IsProgress most start at left (prepend_known pending left) given ended before now
+begins most start at head None pending given ended before now from none zero_is grown = tt
+begins most start at head (Some text) pending given ended before now from none zero_is grown =
+    subst (λ (p : List ℕ). Progress most start at text (p ++ text) given ended before now) (sym none)
+    (subst (λ (n : ℕ). Progress most start at text text n ended before now) (sym zero_is) (record {
       front = [];
-      lines = [];
+      lines = head;
       split = refl;
       count = refl;
-      all = from text ∙ ap at (pieces_at_front most text);
-      done = inr (record { whole_lines = inl refl; goes = λ rest. from rest ∙ ap at (pieces_at_front most rest) });
-      grown = Appends-none before;
+      all = from text ∙ ap (λ ps. lines_before head (at ps)) (pieces_at_front most text);
+      done = inr (record { whole_lines = inl refl; goes = λ rest. from rest ∙ ap (λ ps. lines_before head (at ps)) (pieces_at_front most rest) });
+      grown = grown;
     }))
+
+-- the head was not written whole
+pub head_broken : {M V : Type 0} (start : List ℕ → RunText M V) (others : List ℕ → RunText M V) (head : List ℕ) (left new before now : Option (List ℕ)) (fault : Fault)
+    → ((bytes : List ℕ) → start bytes ≡ lines_before head (others bytes)) → ¬ IsErrOf {T = V} (Err fault) ReadFault → AppendsPrefix before now head → IfSome left (λ bytes. IsOutputOf {M = M} {V = V} start bytes new before now (Err fault))
+head_broken start others head None new before now fault from read front = tt
+head_broken {M} {V} start others head (Some bytes) new before now fault from read front =
+    output_from start bytes new before now (Err fault) read
+    (subst (λ (w : RunText M V). AppendsPrefix before now (whole w)) (sym (from bytes))
+    (AppendsPrefix-more before now head _ _ (append_assoc head (others bytes).lines (others bytes).last) front))
 
 -- what is held stays
 pub kept : {M V : Type 0} (most : Limits) (start : List ℕ → RunText M V) (at : List Piece → RunText M V) (left to_come : Option (List ℕ)) (given : ℕ) (ended : Bool) (before now after : Option (List ℕ)) → Keeps now after
@@ -221,18 +244,6 @@ goes most start at n (Some text) (Some bytes) after line words given given' ende
     line_told most start at n text bytes line words given given' ended ended' before now later after few fits short s told counted on more
 
 -- ---- its ends
-
--- what was told of a text without a failed read: all of it with its verdict, or a prefix
-abbrev pub IsWritten : {M V : Type 0} → RunText M V → Option (List ℕ) → Option (List ℕ) → Result V Fault → Type 0
-IsWritten w before now (Ok v) = (v ≡ w.verdict) × Appends before now (whole w)
-IsWritten w before now (Err e) = AppendsPrefix before now (whole w)
-
-output_from : {M V : Type 0} (start : List ℕ → RunText M V) (bytes : List ℕ) (left before now : Option (List ℕ)) (s : Result V Fault) → ¬ IsErrOf s ReadFault → IsWritten (start bytes) before now s
-    → IsOutputOf start bytes left before now s
-output_from start bytes left before now (Ok v) read t = t
-output_from start bytes left before now (Err ReadFault) read t = absurd (read refl)
-output_from start bytes left before now (Err WriteFault) read t = t
-output_from start bytes left before now (Err NoMemory) read t = t
 
 -- lines before what is told
 written_before : {M V : Type 0} (v w : RunText M V) (text : List ℕ) (a b c : Option (List ℕ)) (s : Result V Fault) → v ≡ lines_before text w → Appends a b text → IsWritten w b c s → IsWritten v a c s

@@ -16,7 +16,7 @@ use Rattle.mesh_shell.proofs.Progress.{IsWritten}
 
 -- ---- the text from a moment on
 
-pub text_on-pieces : {M V : Type 0} (story : Story M V) (most : Limits) (m : M) (input : List ℕ) → text_on story most m input ≡ text_from story m (pieces_within most input)
+pub text_on-pieces : {M V : Type 0} (story : Story M V) (most : Limits) (m : M) (input : List ℕ) → text_on story most m input ≡ lines_before (story.head m) (text_from story m (pieces_within most input))
 unfolding text_on
 text_on-pieces story most m input = refl
 

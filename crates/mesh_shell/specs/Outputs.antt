@@ -43,6 +43,19 @@ abbrev pub IsLastRun : {M V : Type 0} → Outcome M V → Option (List ℕ) → 
 IsLastRun k before now (Ok v) = IsLineLast k v before now
 IsLastRun k before now (Err e) = AppendsPrefix before now (text_in k)
 
+-- ---- the head
+
+-- it is written, and the moment is the same
+pub record IsHeadWritten {M : Type 0} (text : List ℕ) (m n : M) (before now : Option (List ℕ))
+    : Type 0 where
+  pub same : n ≡ m
+  pub grown : Appends before now text
+
+abbrev pub IsHeadRun : {M : Type 0} → List ℕ → M → M → Option (List ℕ) → Option (List ℕ)
+    → Result (Unit {0}) Fault → Type 0
+IsHeadRun text m n before now (Ok done) = IsHeadWritten text m n before now
+IsHeadRun text m n before now (Err e) = AppendsPrefix before now text
+
 -- ---- the end
 
 -- the last text is written, and the moment is the one after it

@@ -15,12 +15,14 @@ pub record Ending (M V : Type 0) : Type 0 where
   pub verdict : V
   pub after : M
 
--- what a script makes of each line, and of the end, at a moment
+-- what a script writes before the first line, and what it makes of each line, and of the end, at a
+-- moment
 pub record Story (M V : Type 0) : Type 0 where
+  pub head : M → List ℕ
   pub outcome : M → Piece → Outcome M V
   pub ending : M → Ending M V
 
--- the text of a run: that of the lines that were done, and what the end, or the line that has ended
+-- the text of a run: that of the lines that were done, the head before them, and what the end, or the line that has ended
 -- it, wrote last; its verdict; the moment after it, which is the one before the line that has ended
 -- it; and whether the input was done to its end
 pub record RunText (M V : Type 0) : Type 0 where
@@ -70,4 +72,5 @@ text_from story m (piece ∷ pieces) =
 
 -- the run of an input within these limits
 unfoldable pub text_on : {M V : Type 0} → Story M V → Limits → M → List ℕ → RunText M V
-text_on story most m input = text_from story m (pieces_within most input)
+text_on story most m input =
+    lines_before (story.head m) (text_from story m (pieces_within most input))

@@ -30,9 +30,9 @@ fn hand_on<R: LineReader, O: Sink>(lines: &R, out: &mut Buffered<O>) -> Result<(
     out.flush()
 }
 
-/// Does the lines of a source from its front, up to its end or the first that ends the run. What is
-/// gathered is handed on before each read, so that a line's text is there before the next is
-/// awaited.
+/// Does the lines of a source from its front, up to its end or the first that ends the run, after
+/// what the script writes first. What is gathered is handed on before each read, so that a line's
+/// text is there before the next is awaited.
 pub fn do_lines<S: Script, R: LineReader, O: Sink>(
     script: &mut S,
     lines: &mut R,
@@ -57,6 +57,9 @@ pub fn do_lines<S: Script, R: LineReader, O: Sink>(
     ensures write { HasFaultCause Fault.WriteFault
         (O.faults (inner_of out.old)) (O.faults (inner_of out.new)) result }
 {
+    if let Err(fault) = script.begin(out) {
+        return Err(fault);
+    }
     'lines: loop {
         if let Err(_) = hand_on(lines, out) {
             return Err(Fault::WriteFault);

@@ -2,7 +2,7 @@
 ghost use Rattle.std.specs.Prelude.{◌≡◌, ◌+◌, ◌≤◌, ℕ, List, Option, length, IfOk, OnOk, IsErrOf};
 ghost use Rattle.mesh_shell.specs.Pieces.{Whole};
 ghost use Rattle.mesh_shell.specs.Story.{Story};
-ghost use Rattle.mesh_shell.specs.Outputs.{IsLineRun, IsLastRun, IsEndRun};
+ghost use Rattle.mesh_shell.specs.Outputs.{IsHeadRun, IsLineRun, IsLastRun, IsEndRun};
 ghost use Rattle.mesh_shell.specs.Causes.{HasFaultCause};
 ghost use Rattle.mesh_shell.specs.Scripts.{GoesOn, EndsEarly, size_of_line, piece_past};
 
@@ -15,7 +15,7 @@ pub trait Script {
     /// What a run answers where nothing fails.
     type Verdict: Copy;
 
-    /// What each line comes to, and the end.
+    /// What is written first, and what each line comes to, and the end.
     ghost story: { Story Self Self.Verdict };
 
     /// Lines of so many bytes, each LF among them, can lead from the one moment to the other.
@@ -29,6 +29,14 @@ pub trait Script {
 
     /// The verdict is one that only the end of the input brings.
     ghost is_final: { Self.Verdict → Type 0 };
+
+    /// Writes what stands before the text of the first line.
+    fn begin<O: Sink>(&mut self, out: &mut O) -> Result<(), Fault>
+        ensures comes { IsHeadRun (story.head self.old) self.old self.new
+            (O.held out.old) (O.held out.new) result }
+        ensures cause { HasFaultCause Fault.WriteFault
+            (O.faults out.old) (O.faults out.new) result }
+        ensures read { ¬ IsErrOf result Fault.ReadFault };
 
     /// Does one line, without its LF, and writes its text. A verdict ends the run.
     fn line<O: Sink>(&mut self, line: &[u8], out: &mut O) -> Result<Option<Self::Verdict>, Fault>

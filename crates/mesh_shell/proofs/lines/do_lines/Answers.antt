@@ -7,35 +7,54 @@ use Rattle.mesh_io.specs.Cutting.{Tells}
 use Rattle.mesh_io.specs.declared.line_error.LineError.{LineError}
 use Rattle.mesh_io.specs.declared.line_error.LineError.TheVariants as error
 use Rattle.mesh_io.proofs.Deciding.{decides_ended}
-use Rattle.mesh_shell.specs.Pieces.{Piece, Whole, Long, Beyond}
-use Rattle.mesh_shell.specs.Story.{text_from, text_on}
-use Rattle.mesh_shell.specs.Outputs.{text_in, IsLineDone, IsLineLast, IsLineRun}
+use Rattle.mesh_shell.specs.Pieces.{Piece, Whole, Long, Beyond, pieces_within}
+use Rattle.mesh_shell.specs.Story.{lines_before, text_from, text_on}
+use Rattle.mesh_shell.specs.Outputs.{IsHeadWritten, IsHeadRun, text_in, IsLineDone, IsLineLast, IsLineRun}
 use Rattle.mesh_shell.specs.Scripts.{size_of_line, GoesOn}
-use Rattle.mesh_shell.proofs.Progress.{begins, kept, goes, stops, ends, comes_to, long, beyond, breaks, cut}
+use Rattle.mesh_shell.proofs.Progress.{begins, head_broken, kept, goes, stops, ends, comes_to, long, beyond, breaks, cut}
 use Rattle.mesh_shell.proofs.Steps.{text_on-pieces, text_from-end, line_on, line_last, line_broken, last_told, end_told, end_after, end_leads, tells_as, room_for, leads_within, counted_size}
 use Rattle.mesh_shell.specs.Causes.{HasFaultCause}
 use Rattle.mesh_shell.specs.declared.fault.Fault.TheVariants.{ReadFault, WriteFault}
 use Rattle.mesh_shell.proofs.Faults.{no_error, no_fault, fault_after, fault_of_err, err_as}
 use Rattle.mesh_shell.proofs.lines.do_lines.Goals as goal
 
+pub returns-in-Err-clause-told : goal.returns-in-Err-clause-told
+returns-in-Err-clause-told g c =
+    let story = g.S.Script.story in
+    let most = g.R.LineReader.limits c.args.lines.now in
+    let left = g.R.LineReader.left in
+    let held = held_by g.O.Sink.held in
+    let front : AppendsPrefix (held c.args.out.now) (held c.begin.new.out) (story.head c.args.script.now) =
+    subst (λ r. IsHeadRun (story.head c.args.script.now) c.args.script.now c.begin.new.self (held c.args.out.now) (held c.begin.new.out) r) c.in-Err.is c.begin.ensures.comes in
+    head_broken (text_on story most c.args.script.now) (λ bytes. text_from story c.args.script.now (pieces_within most bytes)) (story.head c.args.script.now) (left c.args.lines.now) (left c.args.lines.now) (held c.args.out.now) (held c.begin.new.out) c.in-Err.fault
+    (text_on-pieces story most c.args.script.now) (λ e. c.begin.ensures.read (subst (λ r. IsErrOf r ReadFault) (sym c.in-Err.is) (err_as c.in-Err.fault ReadFault e))) front
+
+pub returns-in-Err-clause-write : goal.returns-in-Err-clause-write
+returns-in-Err-clause-write g c = fault_of_err c.in-Err.fault WriteFault _ _ (subst (λ r. HasFaultCause WriteFault (g.O.Sink.faults (inner_of c.args.out.now)) (g.O.Sink.faults (inner_of c.begin.new.out)) r) c.in-Err.is c.begin.ensures.cause)
+
 pub lines-init : goal.lines-init
 lines-init g c =
     let story = g.S.Script.story in
     let most = g.R.LineReader.limits c.args.lines.now in
+    let held = held_by g.O.Sink.held in
+    let wrote : IsHeadWritten (story.head c.args.script.now) c.args.script.now c.begin.new.self (held c.args.out.now) (held c.begin.new.out) =
+    subst (λ r. IsHeadRun (story.head c.args.script.now) c.args.script.now c.begin.new.self (held c.args.out.now) (held c.begin.new.out) r) c.in_default.is c.begin.ensures.comes in
     record {
       same = refl;
       most = refl;
       progress =
-          begins most (text_on story most c.args.script.now) (text_from story c.args.script.now) (g.R.LineReader.left c.args.lines.now) (g.R.LineReader.pending c.args.lines.now) (g.R.LineReader.given c.args.lines.now)
-          (g.R.LineReader.ended c.args.lines.now) (held_by g.O.Sink.held c.args.out.now) (text_on-pieces story most c.args.script.now) c.requires.pending c.requires.given;
+          begins most (text_on story most c.args.script.now) (text_from story c.begin.new.self) (story.head c.args.script.now) (g.R.LineReader.left c.args.lines.now) (g.R.LineReader.pending c.args.lines.now) (g.R.LineReader.given c.args.lines.now)
+          (g.R.LineReader.ended c.args.lines.now) (held c.args.out.now) (held c.begin.new.out)
+          (λ bytes. text_on-pieces story most c.args.script.now bytes ∙ ap (λ m. lines_before (story.head c.args.script.now) (text_from story m (pieces_within most bytes))) (sym wrote.same))
+          c.requires.pending c.requires.given wrote.grown;
       few = omega (arith, c.requires.given);
       reads = refl;
-      writes = refl;
-      leads = g.met.S.Script.stays c.args.script.now (g.R.LineReader.given c.args.lines.now);
+      writes = c.begin.ensures.cause.none (no_error _ _ WriteFault c.in_default.is);
+      leads = subst (g.S.Script.leads c.args.script.now (g.R.LineReader.given c.args.lines.now)) (sym wrote.same) (g.met.S.Script.stays c.args.script.now (g.R.LineReader.given c.args.lines.now));
     }
 
-pub returns-in-Err-clause-told : goal.returns-in-Err-clause-told
-returns-in-Err-clause-told g c =
+pub returns-in-Err-hand_on-clause-told : goal.returns-in-Err-hand_on-clause-told
+returns-in-Err-hand_on-clause-told g c =
     let story = g.S.Script.story in
     let most = g.R.LineReader.limits c.args.lines.now in
     let left = g.R.LineReader.left in
@@ -87,7 +106,7 @@ lines-preserved g c =
           (line_on story c.lines.script c.line-in-Ok-true.new.self (Whole (g.R.LineReader.found c.advance.new.self)) (held c.hand_on.new.out) (held c.line-in-Ok-true.new.out) did) did.grown;
       few = few;
       reads = c.in-Ok-true.ensures.cause.none (λ e. cc) ∙ c.lines.invariant.reads;
-      writes = c.line-in-Ok-true.ensures.cause.none (no_error _ _ WriteFault c.in-Ok-None.is) ∙ c.in_default.ensures.cause.none ∙ c.lines.invariant.writes;
+      writes = c.line-in-Ok-true.ensures.cause.none (no_error _ _ WriteFault c.in-Ok-None.is) ∙ c.in_default-hand_on.ensures.cause.none ∙ c.lines.invariant.writes;
       leads = leads_within g.S.Script.leads g.met.S.Script.stays g.met.S.Script.joins c.args.script.now c.lines.script c.line-in-Ok-true.new.self (g.R.LineReader.given c.lines.lines) (size_of_line c.line.result.now) (g.R.LineReader.given c.advance.new.self) c.lines.invariant.leads led (omega (arith, counted, line));
     }
 
@@ -114,7 +133,7 @@ returns-in-Ok-Some-clause-told g c =
 
 pub returns-in-Ok-Some-clause-write : goal.returns-in-Ok-Some-clause-write
 returns-in-Ok-Some-clause-write g c =
-    let same = c.line-in-Ok-true.ensures.cause.none (no_error _ _ WriteFault c.in-Ok-Some.is) ∙ c.in_default.ensures.cause.none ∙ c.lines.invariant.writes in
+    let same = c.line-in-Ok-true.ensures.cause.none (no_error _ _ WriteFault c.in-Ok-Some.is) ∙ c.in_default-hand_on.ensures.cause.none ∙ c.lines.invariant.writes in
     no_fault _ _ _ _ same (λ e. cc)
 
 pub returns-in-Err-line-clause-told : goal.returns-in-Err-line-clause-told
@@ -139,7 +158,7 @@ returns-in-Err-line-clause-told g c =
 
 pub returns-in-Err-line-clause-write : goal.returns-in-Err-line-clause-write
 returns-in-Err-line-clause-write g c =
-    let same = c.in_default.ensures.cause.none ∙ c.lines.invariant.writes in
+    let same = c.in_default-hand_on.ensures.cause.none ∙ c.lines.invariant.writes in
     fault_after WriteFault _ _ _ same (fault_of_err c.in-Err-line.fault WriteFault _ _ (subst (λ r. HasFaultCause WriteFault (g.O.Sink.faults (inner_of c.hand_on.new.out)) (g.O.Sink.faults (inner_of c.line-in-Ok-true.new.out)) r) c.in-Err-line.is c.line-in-Ok-true.ensures.cause))
 
 pub returns-in-Ok-false-clause-told : goal.returns-in-Ok-false-clause-told
