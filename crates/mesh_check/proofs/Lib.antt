@@ -1,2 +1,2 @@
-pub mod Follows
 pub mod Rights
+pub mod Said

@@ -7,5 +7,5 @@ pub mod Verdicts
 pub mod Codes
 -- Laws: each text has one right answer.
 pub mod Laws
--- Reads: what was read of a text. No public contract cites it.
-pub mod Reads
+-- Rooms: how many lines are read. No public contract cites it.
+pub mod Rooms

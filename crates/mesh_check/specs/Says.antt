@@ -1,24 +1,42 @@
 -- What a printed text says.
-use Rattle.std.specs.Prelude.{ℕ, ◌+◌, List, [], ◌∷◌, Option, Some, None}
+use Rattle.std.specs.Prelude.{ℕ, ◌+◌, List, [], Option, Some, None}
 use Rattle.mesh_io.specs.NextLines.{text_limits}
-use Rattle.mesh_tables.specs.Printed.{ShownTables, Reading, nothing_read, shown_by, after_line}
-use Rattle.mesh_printed.specs.Pieces.{Piece, Whole, Past, pieces_within}
+use Rattle.mesh_shell.specs.Pieces.{Piece, Whole, Long, Beyond}
+use Rattle.mesh_shell.specs.Story.{Outcome, On, Ended, Story, RunText, text_on}
+use Rattle.mesh_tables.specs.Printed.{ShownTables, Reading, nothing_read, closed_up, after_line}
+use Rattle.mesh_check.specs.declared.reading.ReadVerdict.{ReadVerdict}
+use Rattle.mesh_check.specs.declared.reading.ReadVerdict.TheVariants.{Read, BadLine}
+
+-- what a line comes to: it is refused, or the tables show what they do after it
+abbrev pub line_outcome : Reading → Option Reading → Outcome Reading ReadVerdict
+line_outcome r None = Ended [] (BadLine (r.lines + 1))
+line_outcome r (Some next) = On [] next
+
+abbrev pub outcome_of_piece : Reading → Piece → Outcome Reading ReadVerdict
+outcome_of_piece r (Whole line) = line_outcome r (after_line r line)
+outcome_of_piece r Long = Ended [] (BadLine (r.lines + 1))
+outcome_of_piece r Beyond = Ended [] (BadLine (r.lines + 1))
+
+-- the lines are read, and nothing is written of them; at the end the block that is open closes
+abbrev pub reading : Story Reading ReadVerdict
+reading = record {
+  head = λ r. [];
+  outcome = outcome_of_piece;
+  ending = λ r. record { text = []; verdict = Read; after = closed_up r };
+}
+
+-- what is read of a text
+abbrev pub reading_of : List ℕ → RunText Reading ReadVerdict
+reading_of text = text_on reading text_limits nothing_read text
 
 -- the line of this number is refused, or all lines are read and these tables are shown
 pub data Says : Type 0 where
   Refuses : ℕ → Says
   Shows : ShownTables → Says
 
-abbrev pub then_says : ℕ → Option Reading → (Reading → Says) → Says
-then_says line None others = Refuses line
-then_says line (Some r) others = others r
+abbrev pub said_by : ReadVerdict → Reading → Says
+said_by Read r = Shows r.closed
+said_by (BadLine n) r = Refuses n
 
--- what the lines to come say, after those that were read
-unfoldable pub says_from : Reading → List Piece → Says
-says_from r [] = Shows (shown_by r)
-says_from r (Whole line ∷ pieces) =
-    then_says (r.lines + 1) (after_line r line) (λ next. says_from next pieces)
-says_from r (Past ∷ pieces) = Refuses (r.lines + 1)
-
-unfoldable pub says : List ℕ → Says
-says text = says_from nothing_read (pieces_within text_limits text)
+abbrev pub says : List ℕ → Says
+says text = said_by (reading_of text).verdict (reading_of text).after

@@ -1,5 +1,5 @@
 -- The answer that is right for what a text says, and the line that is written.
-use Rattle.std.specs.Prelude.{ℕ, ◌≡◌, List, ◌∷◌, ◌++◌, length, codes, Option, ⊤}
+use Rattle.std.specs.Prelude.{ℕ, ◌≡◌, List, ◌∷◌, ◌++◌, length, codes, Option, None, ⊤}
 use Rattle.std.specs.Io.KnownBytes.{Appends}
 use Rattle.mesh_base.specs.Addresses.{dotted_decimal}
 use Rattle.mesh_grammar.specs.Written.{line, label_number}
@@ -7,7 +7,8 @@ use Rattle.mesh_io.specs.Puts.{AppendsPrefix}
 use Rattle.mesh_tables.specs.declared.search.FailingEdge.{FailingEdge}
 use Rattle.mesh_tables.specs.Tables.{Cycle, IsSound, IsFirstFailing}
 use Rattle.mesh_tables.specs.Printed.{ShownTables, tables_of, edges_in}
-use Rattle.mesh_check.specs.Says.{Says, Refuses, Shows}
+use Rattle.mesh_shell.specs.Outputs as runs
+use Rattle.mesh_check.specs.Says.{Says, Refuses, Shows, reading_of}
 use Rattle.mesh_check.specs.declared.status.CheckStatus.{CheckStatus}
 use Rattle.mesh_check.specs.declared.status.CheckStatus.TheVariants.{Yes, No, Usage, BadLine, ReadFault, WriteFault, NoMemory}
 
@@ -74,6 +75,11 @@ IsOutput before now s Usage = ⊥
 IsOutput before now s ReadFault = now ≡ before
 IsOutput before now s WriteFault = IsCutShort before now s
 IsOutput before now s NoMemory = now ≡ before
+
+-- a read failed after some lines, each with its LF, and bytes without one were taken, and this is
+-- left: none of the lines is refused
+abbrev pub IsCutOff : List ℕ → Option (List ℕ) → Type 0
+IsCutOff text left = runs.IsCutShort reading_of text left None None
 
 -- no destination has a cycle in the tables that a text shows
 abbrev pub HasNoCycle : Says → Type 0

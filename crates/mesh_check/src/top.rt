@@ -3,12 +3,13 @@ ghost use Rattle.std.specs.Prelude.{◌≡◌, ◌≢◌, ◌↔◌, ◌<◌, �
 ghost use Rattle.std.specs.Io.KnownBytes.{IsAtEnd};
 ghost use Rattle.mesh_io.specs.Cause.{Rose};
 ghost use Rattle.mesh_check.specs.Says.{says, Refuses, Shows};
-ghost use Rattle.mesh_check.specs.Verdicts.{IsOutput, HasNoCycle, IsDecided};
+ghost use Rattle.mesh_check.specs.Verdicts.{IsOutput, IsCutOff, HasNoCycle, IsDecided};
 
 use crate::lines::{put_bad, put_no, put_yes};
-use crate::reading::{Unread, read_tables};
+use crate::reading::{Checking, ReadVerdict, read_tables};
 use crate::status::CheckStatus;
 use mesh_io::{Sink, Source};
+use mesh_shell::Fault;
 use mesh_tables::PrintedTables;
 use std::alloc::Global;
 
@@ -18,6 +19,7 @@ fn tell<O: Sink>(tables: &PrintedTables, out: &mut O) -> CheckStatus
     ensures acyclic { result ≡ CheckStatus.Yes → HasNoCycle (Shows tables.now.closed) }
     ensures write { result ≡ CheckStatus.WriteFault
         → Rose (O.faults out.old) (O.faults out.new) }
+    ensures none { result ≢ CheckStatus.WriteFault → O.faults out.new ≡ O.faults out.old }
     ensures read { result ≢ CheckStatus.ReadFault }
     ensures memory { result ≢ CheckStatus.NoMemory }
     ensures words { result ≢ CheckStatus.Usage }
@@ -39,6 +41,7 @@ fn refuse<O: Sink>(line: u64, out: &mut O) -> CheckStatus
     ensures told { IsOutput (O.held out.old) (O.held out.new) (Refuses line) result }
     ensures write { result ≡ CheckStatus.WriteFault
         → Rose (O.faults out.old) (O.faults out.new) }
+    ensures none { result ≢ CheckStatus.WriteFault → O.faults out.new ≡ O.faults out.old }
     ensures yes { result ≢ CheckStatus.Yes }
     ensures no { result ≢ CheckStatus.No }
     ensures read { result ≢ CheckStatus.ReadFault }
@@ -78,11 +81,20 @@ pub fn check<I: Source, O: Sink>(
     ensures yes_at_the_end { result ≡ CheckStatus.Yes → IsAtEnd (I.left input.new) }
     ensures no_at_the_end { result ≡ CheckStatus.No → IsAtEnd (I.left input.new) }
 
-    // A fault is answered only where the source or the sink has failed in this call.
+    // A fault is answered only where the source or the sink has failed in this call, and no other
+    // answer is given where one of them has.
     ensures cause_of_read_fault { result ≡ CheckStatus.ReadFault
         → Rose (I.faults input.old) (I.faults input.new) }
     ensures cause_of_write_fault { result ≡ CheckStatus.WriteFault
         → Rose (O.faults out.old) (O.faults out.new) }
+    ensures no_other_fault_of_input { result ≢ CheckStatus.ReadFault
+        → I.faults input.new ≡ I.faults input.old }
+    ensures no_other_fault_of_out { result ≢ CheckStatus.WriteFault
+        → O.faults out.new ≡ O.faults out.old }
+
+    // After a failed read none of the lines that were read whole is refused.
+    ensures cut_off { result ≡ CheckStatus.ReadFault
+        → IfSome (I.left input.old) (λ text. IsCutOff text (I.left input.new)) }
 
     // Nothing is written of a text that couldn't be read.
     ensures nothing_written_after_read_fault { result ≡ CheckStatus.ReadFault → out.new ≡ out.old }
@@ -97,11 +109,15 @@ pub fn check<I: Source, O: Sink>(
     if !words.is_empty() {
         return CheckStatus::Usage;
     }
-    let mut tables = PrintedTables::new(alloc);
-    match read_tables(&mut tables, input) {
-        Ok(()) => tell(&tables, out),
-        Err(Unread::BadLine { line }) => refuse(line, out),
-        Err(Unread::ReadFault) => CheckStatus::ReadFault,
-        Err(Unread::NoMemory) => CheckStatus::NoMemory,
+    let mut checking = Checking {
+        tables: PrintedTables::new(alloc),
+    };
+    match read_tables(alloc, &mut checking, input) {
+        Ok(ReadVerdict::Read) => tell(&checking.tables, out),
+        Ok(ReadVerdict::BadLine { line }) => refuse(line, out),
+        Err(Fault::ReadFault) => CheckStatus::ReadFault,
+        Err(Fault::NoMemory) => CheckStatus::NoMemory,
+        // The lines are read into no sink.
+        Err(Fault::WriteFault) => unreachable!(),
     }
 }
