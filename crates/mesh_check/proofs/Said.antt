@@ -2,10 +2,10 @@
 use Rattle.std.proofs.Common.{◌≡◌, List, ℕ, Option, Some, None, Result, Ok, refl, sym, ap₂, subst}
 use Rattle.std.specs.Prelude.{IfSome, IfOk}
 use Rattle.mesh_io.specs.NextLines.{text_limits}
-use Rattle.mesh_tables.specs.Printed.{ShownTables, Reading, nothing_read}
+use Rattle.mesh_tables.specs.Printed.{Reading, nothing_read}
 use Rattle.mesh_shell.specs.Outputs.{IsOutputFrom}
 use Rattle.mesh_shell.specs.declared.fault.Fault.{Fault}
-use Rattle.mesh_check.specs.Says.{Says, Shows, says, said_by, reading, reading_of}
+use Rattle.mesh_check.specs.Says.{Shows, says, said_by, reading, reading_of}
 use Rattle.mesh_check.specs.Verdicts.{HasNoCycle}
 use Rattle.mesh_check.specs.declared.reading.ReadVerdict.{ReadVerdict}
 use Rattle.mesh_check.specs.declared.reading.ReadVerdict.TheVariants.{Read}

@@ -2,13 +2,12 @@
 use Rattle.std.proofs.Common.{◌≡◌, Bool, Option, Some, None, Result, Err, sym, ap, subst}
 use Rattle.std.proofs.Math.Nat.{ℕ_set}
 use Rattle.std.specs.Option.{IfSome}
-use Rattle.mesh_io.specs.NextLines.{schedule_limits, text_limits}
+use Rattle.mesh_io.specs.NextLines.{schedule_limits}
 use Rattle.mesh_io.specs.declared.limits.Limits.{Limits}
 use Rattle.mesh_io.specs.declared.source.Source.{Ghosts}
 use Rattle.mesh_io.specs.declared.cutter.Cutter.{Cutter}
 use Rattle.mesh_io.specs.declared.lines.Lines.{Lines}
-use Rattle.mesh_io.specs.declared.cutter.TheConstants.{SCHEDULE_ROOM, TEXT_ROOM}
-use Rattle.mesh_io.specs.declared.long_lines.LongLines.{LongLines}
+use Rattle.mesh_io.specs.declared.cutter.TheConstants.{SCHEDULE_ROOM}
 use Rattle.mesh_io.specs.declared.line_error.LineError.{LineError}
 
 limits_prop : (x y : Limits) → IsProp (x ≡ y)
@@ -27,17 +26,3 @@ pub reader_stays : {S : Type 0} {G : Ghosts S} (old : Lines S G) (now : Cutter S
     → IfSome refusal (λ r. (result ≡ Err r) × ◌≡◌ {A = Lines S G} (record { cutter = now; most = most }) old)
 reader_stays old now most result None h = tt
 reader_stays old now most result (Some r) h = (h.0, same_reader old now most h.1)
-
--- ---- the same of a reader of a printed text's lines
-
-pub same_long_reader : {S : Type 0} {G : Ghosts S} (old : LongLines S G) (now : Cutter S TEXT_ROOM G) (most : now.most ≡ text_limits) → now ≡ old.cutter
-    → ◌≡◌ {A = LongLines S G} (record { cutter = now; most = most }) old
-same_long_reader {S} {G} old now most e =
-    subst (λ c. (m : c.most ≡ text_limits) → ◌≡◌ {A = LongLines S G} (record { cutter = c; most = m }) old) (sym e)
-    (λ m. ap (λ p. record { cutter = old.cutter; most = p }) (limits_prop (old.cutter).most text_limits m old.most)) most
-
-pub long_reader_stays : {S : Type 0} {G : Ghosts S} (old : LongLines S G) (now : Cutter S TEXT_ROOM G) (most : now.most ≡ text_limits) (result : Result Bool LineError)
-    (refusal : Option LineError) → IfSome refusal (λ r. (result ≡ Err r) × (now ≡ old.cutter))
-    → IfSome refusal (λ r. (result ≡ Err r) × ◌≡◌ {A = LongLines S G} (record { cutter = now; most = most }) old)
-long_reader_stays old now most result None h = tt
-long_reader_stays old now most result (Some r) h = (h.0, same_long_reader old now most h.1)

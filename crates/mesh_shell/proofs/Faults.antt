@@ -1,8 +1,8 @@
 -- Counts of faults, and what they are the cause of.
-use Rattle.std.proofs.Common.{◌≡◌, ◌≤◌, ◌+◌, ◌-◌, ◌^◌, min, ℕ, Result, Ok, Err, refl, sym, ◌∙◌, ap, subst, arith}
+use Rattle.std.proofs.Common.{◌≡◌, ◌≤◌, ◌+◌, ◌-◌, ◌^◌, min, ℕ, Result, Ok, Err, sym, ◌∙◌, ap, subst, arith}
 use Rattle.std.specs.Prelude.{IsErrOf}
 use Rattle.mesh_io.specs.Cause.{Rose}
-use Rattle.mesh_shell.specs.Causes.{HasFaultCause, HasSourceCause}
+use Rattle.mesh_shell.specs.Causes.{HasFaultCause}
 use Rattle.mesh_shell.specs.declared.fault.Fault.{Fault}
 
 -- a count that rose after it didn't fall has risen

@@ -1,14 +1,13 @@
 -- What a script's calls tell of the lines to come.
-use Rattle.std.proofs.Common.{◌≡◌, ◌≤◌, ◌<◌, ◌+◌, ◌-◌, ℕ, inl, inr, Bool, List, [], ◌∷◌, ◌++◌, Option, Some, None, Result, Ok, Err, max, length, refl, sym, ap, subst, ◌∙◌, append_assoc, arith}
+use Rattle.std.proofs.Common.{◌≡◌, ◌≤◌, ◌<◌, ◌+◌, ◌-◌, ℕ, inl, inr, Bool, List, [], ◌∷◌, Option, Some, None, Result, Ok, Err, length, refl, sym, ap, subst, ◌∙◌, append_assoc, arith}
 use Rattle.std.specs.Prelude.{IfSome, IfOk, OnOk}
-use Rattle.std.specs.Io.KnownBytes.{Appends}
 use Rattle.mesh_io.specs.Puts.{AppendsPrefix}
 use Rattle.mesh_io.specs.Cutting.{Tells, IsCounted}
 use Rattle.mesh_io.specs.declared.limits.Limits.{Limits}
 use Rattle.mesh_io.specs.declared.line_error.LineError.{LineError}
 use Rattle.mesh_io.proofs.Writing.{AppendsPrefix-more}
 use Rattle.mesh_shell.specs.Pieces.{Piece, pieces_within}
-use Rattle.mesh_shell.specs.Story.{Outcome, On, Ended, Ending, Story, RunText, whole, lines_before, finished_run, ended_run, goes_on, text_from, text_on}
+use Rattle.mesh_shell.specs.Story.{Outcome, On, Ended, Ending, Story, RunText, whole, lines_before, finished_run, goes_on, text_from, text_on}
 use Rattle.mesh_shell.specs.Outputs.{text_in, IsLineDone, IsLineLast, IsLastRun, IsEndRun}
 use Rattle.mesh_shell.specs.Scripts.{size_of_line}
 use Rattle.mesh_shell.specs.declared.fault.Fault.{Fault}

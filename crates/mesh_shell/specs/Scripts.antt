@@ -1,5 +1,5 @@
 -- What a script's calls answer.
-use Rattle.std.specs.Prelude.{ℕ, List, length, max, Option, Some, None, Result, IfOk, IfNone, IfSome}
+use Rattle.std.specs.Prelude.{ℕ, List, length, max, Option, Result, IfOk, IfNone, IfSome}
 use Rattle.mesh_shell.specs.Pieces.{Piece, Long, Beyond}
 use Rattle.mesh_shell.specs.declared.fault.Fault.{Fault}
 use Rattle.mesh_shell.specs.declared.limit.Limit.{Limit}

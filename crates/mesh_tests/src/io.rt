@@ -1,8 +1,8 @@
 //! Each call that can find no memory, and the sizes of what passes through.
 use crate::lines::source_of;
 use mesh_io::{
-    BufferRoom, Buffered, Failed, LineError, Lines, LongLines, MemSink, MemSource, PutFault,
-    Source, StdSink, StdSource, put_all,
+    BufferRoom, Buffered, Cutter, Failed, Limits, LineError, Lines, MemSink, MemSource, PutFault,
+    Source, StdSink, StdSource, TEXT_ROOM, put_all,
 };
 use std::fs::File;
 use std::test::Fail;
@@ -91,12 +91,15 @@ fn a_line_has_at_most_600_bytes(rt: HostRuntime) -> Result<(), Fail> {
     Ok(())
 }
 
-fn is_too_long(lines: &mut LongLines<'_, MemSource>) -> bool {
-    matches!(lines.next(), Err(LineError::TooLong))
+fn is_too_long(lines: &mut Cutter<'_, MemSource, TEXT_ROOM>) -> bool {
+    matches!(lines.advance(), Err(LineError::TooLong))
 }
 
-fn only_8192_come(lines: &mut LongLines<'_, MemSource>) -> bool {
-    lines.next() == Ok(Some([b'x'; 8192].as_slice())) && is_too_long(lines) && is_too_long(lines)
+fn only_8192_come(lines: &mut Cutter<'_, MemSource, TEXT_ROOM>) -> bool {
+    matches!(lines.advance(), Ok(true))
+        && lines.line() == [b'x'; 8192].as_slice()
+        && is_too_long(lines)
+        && is_too_long(lines)
 }
 
 #[test]
@@ -104,7 +107,7 @@ fn a_line_of_a_printed_text_has_at_most_8192_bytes(rt: HostRuntime) -> Result<()
     let mut bytes = [b'x'; 16386];
     bytes[8192] = b'\n';
     let mut source = source_of(rt.alloc(), &bytes, 4096, &[])?;
-    assert!(rt; only_8192_come(&mut LongLines::new(&mut source)));
+    assert!(rt; only_8192_come(&mut Cutter::new(&mut source, Limits::of_text())));
     Ok(())
 }
 

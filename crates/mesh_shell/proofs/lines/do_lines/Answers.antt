@@ -1,5 +1,5 @@
-use Rattle.std.proofs.Common.{◌≡◌, ℕ, ◌+◌, ◌≤◌, Bool, List, Some, None, Ok, Err, length, true, false, Option, Result, refl, ap, sym, subst, ◌∙◌, arith}
-use Rattle.std.specs.Prelude.{IfSome, IfOk, OnOk, IsErrOf}
+use Rattle.std.proofs.Common.{◌≡◌, ◌+◌, ◌≤◌, Bool, Some, None, Ok, Err, length, true, false, Result, refl, ap, sym, subst, ◌∙◌, arith}
+use Rattle.std.specs.Prelude.{IfSome, IsErrOf}
 use Rattle.std.specs.Io.KnownBytes.{prepend_known}
 use Rattle.mesh_io.specs.Puts.{AppendsPrefix}
 use Rattle.mesh_io.specs.Buffering.{inner_of, held_by}
@@ -7,7 +7,7 @@ use Rattle.mesh_io.specs.Cutting.{Tells}
 use Rattle.mesh_io.specs.declared.line_error.LineError.{LineError}
 use Rattle.mesh_io.specs.declared.line_error.LineError.TheVariants as error
 use Rattle.mesh_io.proofs.Deciding.{decides_ended}
-use Rattle.mesh_shell.specs.Pieces.{Piece, Whole, Long, Beyond, pieces_within}
+use Rattle.mesh_shell.specs.Pieces.{Whole, Long, Beyond, pieces_within}
 use Rattle.mesh_shell.specs.Story.{lines_before, text_from, text_on}
 use Rattle.mesh_shell.specs.Outputs.{IsHeadWritten, IsHeadRun, text_in, IsLineDone, IsLineLast, IsLineRun}
 use Rattle.mesh_shell.specs.Scripts.{size_of_line, GoesOn}

@@ -1,5 +1,0 @@
-use Rattle.mesh_printed.proofs.Pieces.{no_pieces}
-use Rattle.mesh_printed.proofs.laws.an_empty_text_has_no_line.Goals as goal
-
-pub returns : goal.returns
-returns c = no_pieces
