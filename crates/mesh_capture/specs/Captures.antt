@@ -1,40 +1,47 @@
--- The capture of a printed text: a file that holds one packet for each copy that was heard or lost.
-use Rattle.std.specs.Prelude.{ℕ, ◌+◌, List, [], ◌∷◌, ◌++◌, Option, Some, None}
+-- The capture of a printed text: a file that holds one packet for each copy that was heard or lost,
+-- and whether a line was refused.
+use Rattle.std.specs.Prelude.{ℕ, ◌+◌, List, [], Option, Some, None}
 use Rattle.mesh_io.specs.NextLines.{text_limits}
-use Rattle.mesh_printed.specs.Pieces.{Piece, Whole, Past, pieces_within}
+use Rattle.mesh_shell.specs.Pieces.{Piece, Whole, Long, Beyond}
+use Rattle.mesh_shell.specs.Story.{Outcome, On, Ended, Ending, Story, RunText, text_on}
 use Rattle.mesh_capture.specs.declared.frame.Frame.{Frame}
+use Rattle.mesh_capture.specs.declared.status.CaptureVerdict.{CaptureVerdict}
+use Rattle.mesh_capture.specs.declared.status.CaptureVerdict.TheVariants.{Done, BadLine}
 use Rattle.mesh_capture.specs.Frames.{record_of, file_header}
 use Rattle.mesh_capture.specs.Copies.{Reading, LineOutcome, nothing_read, after_line}
 
--- the file, and the number of the line that is refused, if one is: it holds what the lines above
--- tell
-pub record Capture : Type 0 where
-  pub file : List ℕ
-  pub refused : Option ℕ
-
+-- the packet of the copy that a line has ended, if it has
 abbrev pub framed_if : Option Frame → List ℕ
 framed_if None = []
 framed_if (Some f) = record_of f
 
--- the packets of a line, and then those of the lines below it
-abbrev pub before : Option Frame → Capture → Capture
-before frame rest = record rest { file = framed_if frame ++ rest.file }
+-- the line below those that were read is refused
+abbrev pub refused_after : Reading → Outcome Reading CaptureVerdict
+refused_after r = Ended [] (BadLine (r.lines + 1))
 
-abbrev pub refused_at : ℕ → Capture
-refused_at line = record { file = []; refused = Some line }
+-- a line that tells this, or is refused
+abbrev pub captured_after : Reading → Option LineOutcome → Outcome Reading CaptureVerdict
+captured_after r None = refused_after r
+captured_after r (Some told) = On (framed_if told.frame) told.now
 
-abbrev pub then_captured : Reading → Option LineOutcome → (Reading → Capture) → Capture
-then_captured r None others = refused_at (r.lines + 1)
-then_captured r (Some told) others = before told.frame (others told.now)
+-- a line that goes past a limit is refused too
+abbrev pub line_captured : Reading → Piece → Outcome Reading CaptureVerdict
+line_captured r (Whole line) = captured_after r (after_line r line)
+line_captured r Long = refused_after r
+line_captured r Beyond = refused_after r
 
--- what the lines to come tell, after those that were read
-unfoldable pub captured_from : Reading → List Piece → Capture
-captured_from r [] = record { file = []; refused = None }
-captured_from r (Whole line ∷ pieces) =
-    then_captured r (after_line r line) (λ now. captured_from now pieces)
-captured_from r (Past ∷ pieces) = refused_at (r.lines + 1)
+-- nothing more is written at the end
+abbrev pub capture_done : Reading → Ending Reading CaptureVerdict
+capture_done r = record { text = []; verdict = Done; after = r }
 
-unfoldable pub capture_of : List ℕ → Capture
-capture_of text =
-    let c = captured_from nothing_read (pieces_within text_limits text) in
-    record c { file = file_header ++ c.file }
+-- the header of the file stands before the packets
+abbrev pub capture : Story Reading CaptureVerdict
+capture = record {
+  head = λ r. file_header;
+  outcome = line_captured;
+  ending = capture_done;
+}
+
+-- the capture of a whole text
+abbrev pub capture_of : List ℕ → RunText Reading CaptureVerdict
+capture_of text = text_on capture text_limits nothing_read text

@@ -1,7 +1,18 @@
--- The status with which the process ends.
-use Rattle.std.specs.Prelude.{ℕ}
+-- The status of an answer, and that with which the process ends.
+use Rattle.std.specs.Prelude.{ℕ, Result, Ok, Err}
+use Rattle.mesh_shell.specs.declared.fault.Fault.{Fault}
+use Rattle.mesh_shell.specs.declared.fault.Fault.TheVariants as fault
+use Rattle.mesh_capture.specs.declared.status.CaptureVerdict.{CaptureVerdict}
+use Rattle.mesh_capture.specs.declared.status.CaptureVerdict.TheVariants as verdict
 use Rattle.mesh_capture.specs.declared.status.CaptureStatus.{CaptureStatus}
 use Rattle.mesh_capture.specs.declared.status.CaptureStatus.TheVariants.{Done, Usage, BadLine, ReadFault, WriteFault, NoMemory}
+
+abbrev pub status_of : Result CaptureVerdict Fault → CaptureStatus
+status_of (Ok verdict.Done) = Done
+status_of (Ok (verdict.BadLine line)) = BadLine line
+status_of (Err fault.ReadFault) = ReadFault
+status_of (Err fault.WriteFault) = WriteFault
+status_of (Err fault.NoMemory) = NoMemory
 
 abbrev pub code_of : CaptureStatus → ℕ
 code_of Done = 0

@@ -9,12 +9,10 @@ pub mod Captures
 pub mod Outputs
 -- Causes: when a fault is answered.
 pub mod Causes
--- Codes: the status with which the process ends.
+-- Codes: the status of an answer, and that with which the process ends.
 pub mod Codes
 -- Laws: what a receiver of a packet checks.
 pub mod Laws
--- Words, Kept and Leads: the words of a line, what is kept of packets, and how what is written goes
--- on. No public contract cites them.
+-- Words and Kept: the words of a line, and what is kept of packets. No public contract cites them.
 pub mod Words
 pub mod Kept
-pub mod Leads

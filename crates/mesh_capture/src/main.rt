@@ -5,11 +5,11 @@
 //! answer.
 #![tactic(auto)]
 
+mod capturing;
 mod copies;
 mod frame;
 mod laws;
 mod lines;
-mod reading;
 mod status;
 mod top;
 mod words;

@@ -1,6 +1,17 @@
 //! What a capture answers.
 ghost use Rattle.std.specs.Prelude.{◌≡◌};
 
+use mesh_shell::Fault;
+
+/// What a capture comes to where nothing fails.
+#[derive(Clone, Copy)]
+pub enum CaptureVerdict {
+    /// Every line was read, and its packets were written.
+    Done,
+    /// This line, counted from 1, is refused. The packets of the lines above it were written.
+    BadLine { line: u64 },
+}
+
 /// What a capture came to.
 #[derive(Clone, Copy, PartialEq, Eq)]
 pub enum CaptureStatus {
@@ -19,7 +30,20 @@ pub enum CaptureStatus {
 }
 
 impl CaptureStatus {
-    ghost use Rattle.mesh_capture.specs.Codes.{code_of};
+    ghost use Rattle.mesh_capture.specs.Codes.{code_of, status_of};
+
+    /// The status of an answer.
+    pub fn of(answer: Result<CaptureVerdict, Fault>) -> CaptureStatus
+        ensures { result ≡ status_of answer }
+    {
+        match answer {
+            Ok(CaptureVerdict::Done) => CaptureStatus::Done,
+            Ok(CaptureVerdict::BadLine { line }) => CaptureStatus::BadLine { line },
+            Err(Fault::ReadFault) => CaptureStatus::ReadFault,
+            Err(Fault::WriteFault) => CaptureStatus::WriteFault,
+            Err(Fault::NoMemory) => CaptureStatus::NoMemory,
+        }
+    }
 
     /// The status with which the process ends.
     pub fn code(&self) -> u8

@@ -1,140 +1,32 @@
 //! The top call.
-ghost use Rattle.std.specs.Prelude.{ℕ, ◌≡◌, ◌≢◌, ◌↔◌, ◌<◌, ◌⊎◌, [], length, IfSome};
+ghost use Rattle.std.specs.Prelude.{ℕ, ◌≡◌, ◌≢◌, ◌↔◌, ◌<◌, ◌⊎◌, length, IfSome};
 ghost use Rattle.std.specs.Io.KnownBytes.{IsAtEnd};
 ghost use Rattle.mesh_io.specs.Cause.{Rose};
-ghost use Rattle.mesh_io.specs.Buffering.{inner_of, gathered_in, held_by};
-ghost use Rattle.mesh_io.specs.NextLines.{text_limits};
-ghost use Rattle.mesh_printed.specs.Pieces.{pieces_within};
-ghost use Rattle.mesh_capture.specs.Copies.{nothing_read};
-ghost use Rattle.mesh_capture.specs.Captures.{capture_of, captured_from};
-ghost use Rattle.mesh_capture.specs.Outputs.{IsFile, IsSaid, IsDecided};
-ghost use Rattle.mesh_capture.specs.Leads.{IsRefused};
+ghost use Rattle.mesh_capture.specs.Captures.{capture_of};
+ghost use Rattle.mesh_capture.specs.Outputs.{IsFile, IsSaid, IsDecided, IsRefused};
 ghost use Rattle.mesh_capture.specs.Causes.{HasSourceCause, HasStatusCause};
 
-use crate::copies::Copies;
-use crate::frame::FrameBuf;
-use crate::lines::{put_bad, put_header};
-use crate::reading::read_lines;
+use crate::capturing::Capturing;
+use crate::lines::put_bad;
 use crate::status::CaptureStatus;
-use arrayvec::ArrayVec;
-use mesh_io::{BufferRoom, Buffered, Loan, LongLines, Sink, Source, Through};
+use mesh_io::{Limits, Sink, Source, TEXT_ROOM};
+use mesh_shell::run;
 use std::alloc::Global;
-use std::marker::Brand;
-
-// Writes the packets of a source.
-fn write_packets<I: Source, O: Sink>(
-    alloc: Global,
-    input: &mut I,
-    buf: &mut FrameBuf,
-    buffer: &mut Buffered<O>,
-) -> CaptureStatus
-    ensures told { IfSome (I.left input.old) (λ text. IsFile
-        (held_by O.held buffer.old) (held_by O.held buffer.new)
-        (captured_from nothing_read (pieces_within text_limits text)) result) }
-    ensures end { result ≡ CaptureStatus.Done → IsAtEnd (I.left input.new) }
-    ensures read { HasStatusCause CaptureStatus.ReadFault
-        (I.faults input.old) (I.faults input.new) result }
-    ensures write { HasStatusCause CaptureStatus.WriteFault
-        (O.faults (inner_of buffer.old)) (O.faults (inner_of buffer.new)) result }
-    ensures words { result ≢ CaptureStatus.Usage }
-{
-    let mut copies = Copies::new(alloc);
-    let mut lines = LongLines::new(input);
-    let status = read_lines(&mut copies, &mut lines, buf, buffer);
-    // It says that `input` is the source as the lines have left it.
-    let _input = lines.give_back();
-    status
-}
-
-// Writes the header of the file, and then its packets.
-fn write_all<I: Source, O: Sink>(
-    alloc: Global,
-    input: &mut I,
-    buffer: &mut Buffered<O>,
-) -> CaptureStatus
-    ensures told { IfSome (I.left input.old) (λ text. IsFile
-        (held_by O.held buffer.old) (held_by O.held buffer.new) (capture_of text) result) }
-    ensures end { result ≡ CaptureStatus.Done → IsAtEnd (I.left input.new) }
-    ensures read { HasStatusCause CaptureStatus.ReadFault
-        (I.faults input.old) (I.faults input.new) result }
-    ensures write { HasStatusCause CaptureStatus.WriteFault
-        (O.faults (inner_of buffer.old)) (O.faults (inner_of buffer.new)) result }
-    ensures words { result ≢ CaptureStatus.Usage }
-{
-    let mut buf: FrameBuf = ArrayVec::new();
-    match put_header(&mut buf, buffer) {
-        Ok(()) => write_packets(alloc, input, &mut buf, buffer),
-        Err(_) => CaptureStatus::WriteFault,
-    }
-}
-
-// Writes the capture of a source into a buffer, and hands on what is gathered, unless a write
-// failed.
-fn write_gathered<I: Source, O: Sink>(
-    alloc: Global,
-    input: &mut I,
-    buffer: &mut Buffered<O>,
-) -> CaptureStatus
-    ensures told { IfSome (I.left input.old) (λ text. IsFile
-        (held_by O.held buffer.old) (held_by O.held buffer.new) (capture_of text) result) }
-    ensures handed_on { result ≢ CaptureStatus.WriteFault → gathered_in buffer.new ≡ [] }
-    ensures end { result ≡ CaptureStatus.Done → IsAtEnd (I.left input.new) }
-    ensures read { HasSourceCause (I.faults input.old) (I.faults input.new) result }
-    ensures write { HasStatusCause CaptureStatus.WriteFault
-        (O.faults (inner_of buffer.old)) (O.faults (inner_of buffer.new)) result }
-    ensures words { result ≢ CaptureStatus.Usage }
-{
-    let status = write_all(alloc, input, buffer);
-    if status == CaptureStatus::WriteFault {
-        return status;
-    }
-    match buffer.flush() {
-        Ok(()) => status,
-        Err(_) => CaptureStatus::WriteFault,
-    }
-}
-
-// Writes the capture of a source through a buffer before the sink, which comes back.
-fn write_through<'s, I: Source, O: Sink, L: Loan>(
-    alloc: Global,
-    room: BufferRoom,
-    input: &mut I,
-    out: &'s mut O,
-    status: &mut CaptureStatus,
-) -> &'s mut O
-    requires name { out.ghost_name ≡ L.name }
-    requires start { O.held out.now ≡ L.start }
-    ensures same { result.ghost_name ≡ out.entry.ghost_name }
-    ensures told { IfSome (I.left input.old) (λ text. IsFile
-        (O.held out.entry.now) (O.held result.now) (capture_of text) status.new) }
-    ensures end { status.new ≡ CaptureStatus.Done → IsAtEnd (I.left input.new) }
-    ensures read { HasSourceCause (I.faults input.old) (I.faults input.new) status.new }
-    ensures write { HasStatusCause CaptureStatus.WriteFault
-        (O.faults out.entry.now) (O.faults result.now) status.new }
-    ensures words { status.new ≢ CaptureStatus.Usage }
-{
-    let mut buffer: Buffered<Through<'s, O, L>> = Buffered::lent(out, room);
-    *status = write_gathered(alloc, input, &mut buffer);
-    buffer.give_back()
-}
 
 // Writes the capture of a source.
 fn write_file<I: Source, O: Sink>(alloc: Global, input: &mut I, out: &mut O) -> CaptureStatus
     ensures told { IfSome (I.left input.old) (λ text.
-        IsFile (O.held out.old) (O.held out.new) (capture_of text) result) }
+        IsFile text (I.left input.new) (O.held out.old) (O.held out.new) result) }
     ensures end { result ≡ CaptureStatus.Done → IsAtEnd (I.left input.new) }
     ensures read { HasSourceCause (I.faults input.old) (I.faults input.new) result }
     ensures write { HasStatusCause CaptureStatus.WriteFault
         (O.faults out.old) (O.faults out.new) result }
     ensures words { result ≢ CaptureStatus.Usage }
 {
-    let Ok(room) = BufferRoom::new(alloc) else {
-        return CaptureStatus::NoMemory;
-    };
-    let mut status = CaptureStatus::Done;
-    // It says that what comes back is `out`, as the buffer has left it.
-    let _out = write_through::<I, O, Brand>(alloc, room, input, out, &mut status);
-    status
+    let mut capturing = Capturing::new(alloc);
+    let most = Limits::of_text();
+    let answer = run::<Capturing, I, O, TEXT_ROOM>(alloc, &mut capturing, most, input, out);
+    CaptureStatus::of(answer)
 }
 
 // Says that a line is refused.
@@ -151,8 +43,7 @@ fn refuse<E: Sink>(line: u64, errors: &mut E) -> CaptureStatus
 
 /// Writes to `out` the capture of the printed text that the source gives: one packet for each copy
 /// that was heard or lost. Where a line is refused, `out` has the capture of the lines above it,
-/// and
-/// `errors` a line `bad line N`.
+/// and `errors` a line `bad line N`.
 ///
 /// What is written to `out` is gathered in a buffer of 65536 bytes, and handed on when that is
 /// full, before each read of the source, and at the end, unless a write has failed.
@@ -168,10 +59,11 @@ pub fn capture<I: Source, O: Sink, E: Sink>(
     ensures untouched_with_a_word { result ≡ CaptureStatus.Usage
         → (input.new ≡ input.old) × (out.new ≡ out.old) × (errors.new ≡ errors.old) }
 
-    // What is written is the capture of the text, and the answer its verdict. After a failed read
-    // or write, or want of memory, it is a prefix of that file.
+    // What is written is the capture of the text, and the answer its verdict. After a failed
+    // write, or want of memory, it is a prefix of that file; after a failed read it is the header
+    // and the packets of the lines that were read whole.
     ensures file_of_the_text { length words.now ≡ 0 → IfSome (I.left input.old) (λ text.
-        IsFile (O.held out.old) (O.held out.new) (capture_of text) result) }
+        IsFile text (I.left input.new) (O.held out.old) (O.held out.new) result) }
 
     // Nothing is said but the line of a refusal, or a prefix of it after a failed write.
     ensures line_of_a_refusal { length words.now ≡ 0 → IfSome (I.left input.old) (λ text.

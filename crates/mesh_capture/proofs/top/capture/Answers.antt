@@ -1,4 +1,4 @@
-use Rattle.mesh_capture.proofs.Ends.{not_silent}
+use Rattle.mesh_capture.proofs.Refusals.{not_silent}
 use Rattle.mesh_capture.proofs.top.capture.Goals as goal
 
 pub returns-in-BadLine-clause-silent : goal.returns-in-BadLine-clause-silent

@@ -1,4 +1,0 @@
-use Rattle.mesh_capture.proofs.top.write_file.Given as goal
-
-abbrev pub ghosts-write_through : goal.ghosts-write_through
-ghosts-write_through g a = record { name = a.out.ghost_name; start = g.O.Sink.held a.out.now }
