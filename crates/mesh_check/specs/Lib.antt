@@ -1,11 +1,9 @@
 -- Read in this order.
 -- Says: what a printed text says.
 pub mod Says
--- Answers: the answer that is right for it, and the line that is written.
+-- Verdicts: the answer that is right for it, and the line that is written.
 pub mod Verdicts
 -- Codes: the status with which the process ends.
 pub mod Codes
 -- Laws: each text has one right answer.
 pub mod Laws
--- Rooms: how many lines are read. No public contract cites it.
-pub mod Rooms

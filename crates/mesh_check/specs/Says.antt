@@ -1,11 +1,15 @@
 -- What a printed text says.
-use Rattle.std.specs.Prelude.{ℕ, ◌+◌, List, [], Option, Some, None}
+use Rattle.std.specs.Prelude.{ℕ, ◌+◌, ◌^◌, List, [], Option, Some, None}
 use Rattle.mesh_io.specs.NextLines.{text_limits}
 use Rattle.mesh_shell.specs.Pieces.{Piece, Whole, Long, Beyond}
 use Rattle.mesh_shell.specs.Story.{Outcome, On, Ended, Story, RunText, text_on}
 use Rattle.mesh_tables.specs.Printed.{ShownTables, Reading, nothing_read, closed_up, after_line}
 use Rattle.mesh_check.specs.declared.reading.ReadVerdict.{ReadVerdict}
 use Rattle.mesh_check.specs.declared.reading.ReadVerdict.TheVariants.{Read, BadLine}
+
+-- the most lines that are read
+abbrev pub most_lines : ℕ
+most_lines = 2 ^ 61
 
 -- what a line comes to: it is refused, or the tables show what they do after it
 abbrev pub line_outcome : Reading → Option Reading → Outcome Reading ReadVerdict

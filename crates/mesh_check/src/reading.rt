@@ -1,12 +1,11 @@
 //! The tables that a source shows.
 ghost use Rattle.std.specs.Prelude.{◌≡◌, ◌+◌, ◌<◌, ◌≤◌, ◌^◌, ℕ, ⊤, IfSome, IfOk, IsErrOf, None};
 ghost use Rattle.std.specs.Io.KnownBytes.{IsAtEnd};
-ghost use Rattle.mesh_io.specs.Cause.{Rose};
 ghost use Rattle.mesh_io.specs.NextLines.{text_limits};
 ghost use Rattle.mesh_tables.specs.Printed.{nothing_read};
 ghost use Rattle.mesh_shell.specs.Outputs.{IsOutputFrom};
 ghost use Rattle.mesh_shell.specs.Causes.{HasFaultCause};
-ghost use Rattle.mesh_check.specs.Says.{reading, reading_of, says};
+ghost use Rattle.mesh_check.specs.Says.{most_lines, reading, reading_of};
 
 use mesh_io::{Limits, Sink, Source, SureSink, TEXT_ROOM};
 use mesh_shell::{Fault, Limit, Script, run};
@@ -38,17 +37,16 @@ impl Model for Checking {
 }
 
 impl Script for Checking {
-    ghost use Rattle.mesh_check.specs.Rooms as rooms;
-    ghost use Rattle.mesh_check.specs.Rooms.{Leads, HasRoom};
+    ghost use Rattle.std.proofs.Common.{arith};
     ghost use Rattle.mesh_check.specs.declared.reading.ReadVerdict.TheVariants as verdicts;
 
     type Verdict = ReadVerdict;
 
     ghost story = { reading };
 
-    ghost leads = { Leads };
+    ghost leads = { λ before size after. after.lines ≤ before.lines + size };
 
-    ghost has_room = { HasRoom };
+    ghost has_room = { λ r size. r.lines + size ≤ most_lines };
 
     ghost is_sound = { λ r. ⊤ };
 
@@ -80,11 +78,11 @@ impl Script for Checking {
         }
     }
 
-    ghost stays = { rooms.stays };
+    ghost stays = { λ m n. Prim.omega arith };
 
-    ghost joins = { rooms.joins };
+    ghost joins = { λ a b c m n p q. Prim.omega arith };
 
-    ghost leaves = { rooms.leaves };
+    ghost leaves = { λ a b m n p q. Prim.omega arith };
 }
 
 /// Reads all lines of a source, up to its end or the first that is refused.
