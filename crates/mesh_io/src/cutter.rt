@@ -162,7 +162,8 @@ impl<'s, S: Source, const ROOM: usize> Cutter<'s, S, ROOM> {
         ensures told { IfSome (ahead_in S.left self.old) (λ bytes.
             Tells (limits_in self.old) (given_in self.old) bytes result
             (line_in self.new) (given_in self.new) (ahead_in S.left self.new)) }
-        ensures unread { decides_in self.old ≡ true → (source_in self.new).now ≡ (source_in self.old).now }
+        ensures unread { decides_in self.old ≡ true →
+            (source_in self.new).now ≡ (source_in self.old).now }
         ensures stays { IfSome (refusal_in self.old) (λ refusal.
             (result ≡ Err refusal) × (self.new ≡ self.old)) }
         ensures kept { Refuses result (refusal_in self.new) }

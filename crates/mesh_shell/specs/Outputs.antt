@@ -92,8 +92,10 @@ abbrev pub IsOutputOf : {M V : Type 0} → (List ℕ → RunText M V) → List �
 IsOutputOf text bytes left before now (Ok v) =
     (v ≡ (text bytes).verdict) × Appends before now (whole (text bytes))
 IsOutputOf text bytes left before now (Err ReadFault) = IsCutShort text bytes left before now
-IsOutputOf text bytes left before now (Err WriteFault) = AppendsPrefix before now (whole (text bytes))
-IsOutputOf text bytes left before now (Err NoMemory) = AppendsPrefix before now (whole (text bytes))
+IsOutputOf text bytes left before now (Err WriteFault) =
+    AppendsPrefix before now (whole (text bytes))
+IsOutputOf text bytes left before now (Err NoMemory) =
+    AppendsPrefix before now (whole (text bytes))
 
 -- the same of a script's run from a moment on
 abbrev pub IsOutputFrom : {M V : Type 0} → Story M V → Limits → M → List ℕ → Option (List ℕ)

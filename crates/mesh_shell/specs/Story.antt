@@ -22,9 +22,9 @@ pub record Story (M V : Type 0) : Type 0 where
   pub outcome : M → Piece → Outcome M V
   pub ending : M → Ending M V
 
--- the text of a run: that of the lines that were done, the head before them, and what the end, or the line that has ended
--- it, wrote last; its verdict; the moment after it, which is the one before the line that has ended
--- it; and whether the input was done to its end
+-- the text of a run: the head and the text of the lines that were done, and what the end, or the
+-- line that has ended it, wrote last; its verdict; the moment after it, which is the one before the
+-- line that has ended it; and whether the input was done to its end
 pub record RunText (M V : Type 0) : Type 0 where
   pub lines : List ℕ
   pub last : List ℕ

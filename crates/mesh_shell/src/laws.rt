@@ -9,8 +9,8 @@ pub fn an_empty_text_has_no_line()
     ensures { (most : Limits) → pieces_within most [] ≡ [] }
 {}
 
-/// Where no limit is passed the lines of an input, each with its LF, are the input, but for a LF that
-/// its last line may lack.
+/// Where no limit is passed the lines of an input, each with its LF, are the input, but for a LF
+/// that its last line may lack.
 pub fn lines_are_the_text()
     ensures { LinesAreTheText }
 {}
