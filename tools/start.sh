@@ -117,7 +117,10 @@ meaning_of() {
     *:2) echo "the words are of no form; see ${0##*/} --help" ;;
     mesh_check:3) echo "a line was refused; the line that is written says which" ;;
     mesh_capture:3) echo "a line was refused; the capture is that of the lines above it" ;;
-    *:3) echo "a line was refused; the last line of the text says which, and why$(hint_at_lint)" ;;
+    *:3)
+        echo "a line was refused; the last line of the text says which, and why;" \
+            "mesh lint FILE knows what editors leave in a file, as CRLF and double spaces"
+        ;;
     *:4) echo "a counter is at its field's greatest value; the last line of the text says which" ;;
     *:5) echo "the input could not be read" ;;
     *:6) echo "the output could not be written to its end" ;;
@@ -135,12 +138,6 @@ meaning_of() {
 # What that signal is to a program that tools/unproved made.
 as_unproved() {
     case $program in *.unproved) echo ": an index, an unwrap or a prove! failed, which a proof would exclude" ;; esac
-}
-
-# An installed copy has no checks.
-hint_at_lint() {
-    [ ! -x "$top/checks/lint" ] ||
-        echo "; checks/lint FILE knows what editors leave in a file, as CRLF and double spaces"
 }
 
 # Says in one line what the status means, but where the text itself says so and nobody looks, and where the
@@ -214,7 +211,7 @@ start() {
     elif ! is_current "$crate" "$program"; then
         program=$program.unproved
         is_current "$crate" "$program" || "$top/build" --unproved "$crate" </dev/null >&2 || exit
-        # ./sweep says it once, for all its trials.
+        # A sweep says it once, for all its trials.
         [ -n "${MESH_IS_TOLD-}" ] || echo "${0##*/}: this program is not proved here; $(proving "$crate")" >&2
     fi
     run_and_tell "$@"
