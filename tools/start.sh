@@ -79,7 +79,7 @@ version() {
     elif [ -r "$top/COMMIT" ]; then
         read -r commit <"$top/COMMIT"
     fi
-    echo "${0##*/} of commit ${commit:-unknown}, for $kit"
+    echo "$called of commit ${commit:-unknown}, for $kit"
 }
 
 # How a program is proved, and what that takes: a check of a crate takes about a minute of four processors.
@@ -100,7 +100,7 @@ look_at_streams() {
 }
 
 end_with() {
-    echo "${0##*/}: status $1: $2" >&2
+    echo "$called: status $1: $2" >&2
     exit "$1"
 }
 
@@ -114,7 +114,7 @@ is_broken_pipe() {
 # What a status other than 0 of the program of this crate means (docs/FORMATS.md).
 meaning_of() {
     case $crate:$1 in
-    *:2) echo "the words are of no form; see ${0##*/} --help" ;;
+    *:2) echo "the words are of no form; see $called --help" ;;
     mesh_check:3) echo "a line was refused; the line that is written says which" ;;
     mesh_capture:3) echo "a line was refused; the capture is that of the lines above it" ;;
     *:3)
@@ -148,7 +148,7 @@ tell_status() {
     3 | 4 | 9) [ -t 2 ] || return 0 ;;
     6) ! is_broken_pipe || return 0 ;;
     esac
-    echo "${0##*/}: status $status: $(meaning_of "$status")" >&2
+    echo "$called: status $status: $(meaning_of "$status")" >&2
 }
 
 # The one line of mesh_check is held until it ends, in a file that has no name any more, so that nothing is
@@ -164,7 +164,7 @@ write_line() {
     line=$(cat <&5)
     [ -z "$line" ] || printf '%s\n' "$line" | cat 2>/dev/null || status=6
     [ "$status:$line" != "0:yes nodes 0 edges 0" ] ||
-        echo "${0##*/}: no table was shown: the text has no line show ADDR (mesh run writes one for each line show)" >&2
+        echo "$called: no table was shown: the text has no line show ADDR (mesh run writes one for each line show)" >&2
 }
 
 # Runs the program, and tells what a status other than 0 means. A signal that ends this script ends the
@@ -212,7 +212,7 @@ start() {
         program=$program.unproved
         is_current "$crate" "$program" || "$top/build" --unproved "$crate" </dev/null >&2 || exit
         # A sweep says it once, for all its trials.
-        [ -n "${MESH_IS_TOLD-}" ] || echo "${0##*/}: this program is not proved here; $(proving "$crate")" >&2
+        [ -n "${MESH_IS_TOLD-}" ] || echo "$called: this program is not proved here; $(proving "$crate")" >&2
     fi
     run_and_tell "$@"
 }
@@ -222,7 +222,7 @@ main() {
     crate=$1
     shift
     case ${1-} in
-    --help | -h) usage ;;
+    --help | -h) forms ;;
     --version) version ;;
     *)
         look_at_words "$@"
@@ -234,12 +234,24 @@ main() {
 # --- Words. A start script sets `call`, how it is called, `options`, what may stand first, in order, `operands`,
 # the names of the words behind that, `reads`, what it reads, and `runs`, its variant where it takes none.
 
-call=${0##*/} options='' operands='' reads='' runs=''
+# The name of the script, or the command of `mesh` that starts it.
+called=${MESH_CALLED_AS:-${0##*/}}
+unset MESH_CALLED_AS
+call=$called options='' operands='' reads='' runs=''
+variants='base number error reply'
+
+# The forms of the words, as `usage` has them, with the name that was called.
+forms() {
+    case $called in
+    "${0##*/}") usage ;;
+    *) usage | sed "s/${0##*/}\([^(]\)/$called\1/g; s/${0##*/}\$/$called/" ;;
+    esac
+}
 
 # Says in one line what is wrong with the words, and then the forms.
 refuse() {
     case $1 in "$call "*) echo "$1" ;; *) echo "$call: $1" ;; esac >&2
-    usage >&2
+    forms >&2
     exit 2
 }
 
@@ -266,7 +278,7 @@ need_command() {
         [ "$2" != "$it" ] || refuse "$it comes after the command, which is $choice"
     done
     case $2 in -?*) refuse_option "$2" ;; esac
-    [ ! -f "$2" ] || call="$call ${1%% *}" refuse_file "$2"
+    [ -z "$reads" ] || [ ! -f "$2" ] || call="$call ${choice%%[, ]*}" refuse_file "$2"
     refuse "there is no command $2: it is $choice"
 }
 
@@ -296,11 +308,13 @@ look_at_options() {
 }
 
 need_variant() {
-    case $1 in
-    base | number | error | reply) ;;
-    '') refuse "the NAME of --variant is missing: $(either base number error reply)" ;;
-    *) refuse "there is no variant $1: it is $(either base number error reply)" ;;
-    esac
+    for it in $variants; do
+        [ "$1" != "$it" ] || return 0
+    done
+    # shellcheck disable=SC2086 # each is a word
+    choice=$(either $variants)
+    [ -n "$1" ] || refuse "the NAME of --variant is missing: $choice"
+    refuse "there is no variant $1: it is $choice"
 }
 
 # Says of an option that it is out of its place, or that there is none of its name.
