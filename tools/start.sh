@@ -1,6 +1,6 @@
 # shellcheck shell=sh
 # What ./build and the start scripts share. Whoever reads this file has set `top`, the folder of the
-# repository or of the installed start script. It defines functions, and does nothing by itself.
+# repository or of the installed copy. It defines functions, and does nothing by itself.
 
 : "${top:?}"
 
@@ -199,8 +199,8 @@ run_and_tell() {
 }
 
 # start CRATE WORD..: starts the program of the crate with these words. Where none is made of the files as
-# they stand it is made first, without a proof. Beside an installed start script the program lies ready, in
-# the folder programs.
+# they stand it is made first, without a proof. In an installed copy the program lies ready, in the folder
+# programs.
 start() {
     crate=$1
     shift
