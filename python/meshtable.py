@@ -198,11 +198,13 @@ def plot_script(points: Sequence[Point], file: str) -> str:
     said += [f"set xlabel '{'nodes' if is_over_nodes else 'variant'}'", "set ylabel 'delivered, % of the data given'"]
     said += [f"set xrange {span(x for x, _, _ in every)}", "set key outside" if is_over_nodes else "unset key"]
     said += [f"set yrange {span(mean + sign * half for _, mean, half in every for sign in (1, -1))}"]
+    how = "yerrorlines"
     if not is_over_nodes and not are_numbers:
         said.append("set xtics (" + ", ".join(f"{quoted(it)} {at}" for at, it in enumerate(names)) + ")")
-    said.append("plot " + ", ".join(f"'-' using 1:2:3 with yerrorlines title {quoted(it)}" for it in lines))
+        how = "yerrorbars"
+    said.append("plot " + ", ".join(f"'-' using 1:2:3 with {how} pointtype 7 title {quoted(it)}" for it in lines))
     for line in lines.values():
-        said += [*(f"{x:g} {mean:g} {half:g}" for x, mean, half in line), "e"]
+        said += [*(f"{x:g} {mean:g} {half:g}" for x, mean, half in sorted(line)), "e"]
     return "\n".join(said) + "\n"
 
 
