@@ -72,7 +72,8 @@ def is_row(cells: Sequence[str]) -> bool:
 def read(name: str, lines: Union[Iterable[str], None] = None) -> Iterator[Row]:
     """The rows of the file of this name, one by one, or of its lines. Bad at the first that is none."""
     if lines is None:
-        with open(name, newline="", encoding="utf-8") as file:
+        # A spreadsheet may have written it, with a byte order mark.
+        with open(name, newline="", encoding="utf-8-sig") as file:
             yield from read(name, file)
         return
     cells_of = csv.reader(lines, strict=True)
