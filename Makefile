@@ -1,6 +1,6 @@
-# `make` proves and builds the programs, `make install PREFIX=..` puts them, the scripts, the examples, the manual
-# pages and the shells' completions where a package would, and `make check` runs all that is checked outside the
-# merge gate.
+# `make` proves and builds the programs, `make install PREFIX=..` puts them, the scripts, the modules for Python, the
+# examples, the manual pages and the shells' completions where a package would, and `make check` runs all that is
+# checked outside the merge gate.
 PREFIX = /usr/local
 DESTDIR =
 libexec = $(DESTDIR)$(PREFIX)/libexec/mesh
@@ -25,8 +25,8 @@ check:
 # The start script finds the programs and the scripts around itself, and links are followed to it.
 install: all
 	install -d $(libexec)/programs $(bin) $(man)/man1 $(man)/man5 $(doc)/examples/three-routers $(bash) $(zsh)
-	for folder in bin scripts scripts/traces tools view; do install -d $(libexec)/$$folder || exit; done
-	for file in bin/* scripts/* scripts/traces/* tools/start.sh tools/commands view/*; do \
+	for folder in bin python scripts scripts/traces tools view; do install -d $(libexec)/$$folder || exit; done
+	for file in bin/* python/*.py scripts/* scripts/traces/* tools/start.sh tools/commands view/*; do \
 	    [ -d $$file ] || install -m $$([ -x $$file ] && echo 755 || echo 644) $$file $(libexec)/$$file || exit; \
 	done
 	for crate in $(crates); do \

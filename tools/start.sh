@@ -198,22 +198,25 @@ run_and_tell() {
     exit "$status"
 }
 
-# start CRATE WORD..: starts the program of the crate with these words. Where none is made of the files as
-# they stand it is made first, without a proof. In an installed copy the program lies ready, in the folder
-# programs.
+# Sets `program` to that of the crate $1. Where none is made of the files as they stand it is made first, without
+# a proof. In an installed copy the program lies ready, in the folder programs.
+find_program() {
+    program=$top/programs/$1
+    [ ! -x "$program" ] || return 0
+    program=$top/crates/$1/out/$1
+    ! is_current "$1" "$program" || return 0
+    program=$program.unproved
+    is_current "$1" "$program" || "$top/build" --unproved "$1" </dev/null >&2 || exit
+    # A sweep says it once, for all its runs.
+    [ -n "${MESH_IS_TOLD-}" ] || echo "$called: this program is not proved here; $(proving "$1")" >&2
+}
+
+# start CRATE WORD..: starts the program of the crate with these words.
 start() {
     crate=$1
     shift
     look_at_streams
-    program=$top/crates/$crate/out/$crate
-    if [ -x "$top/programs/$crate" ]; then
-        program=$top/programs/$crate
-    elif ! is_current "$crate" "$program"; then
-        program=$program.unproved
-        is_current "$crate" "$program" || "$top/build" --unproved "$crate" </dev/null >&2 || exit
-        # A sweep says it once, for all its trials.
-        [ -n "${MESH_IS_TOLD-}" ] || echo "$called: this program is not proved here; $(proving "$crate")" >&2
-    fi
+    find_program "$crate"
     run_and_tell "$@"
 }
 
