@@ -34,6 +34,7 @@ install: all
 	done
 	bin/mesh --version | sed 's/.* of commit \([^,]*\),.*/\1/' >$(libexec)/COMMIT
 	chmod 644 $(libexec)/COMMIT
+	install -m 644 VERSION $(libexec)/VERSION
 	for start in $(starts); do ln -sf ../libexec/mesh/bin/$$start $(bin)/$$start || exit; done
 	for page in $(pages); do install -m 644 docs/man/$$page $(man)/man1/$$page || exit; done
 	install -m 644 docs/man/mesh.5 $(man)/man5/mesh.5

@@ -72,14 +72,16 @@ is_current() {
 
 # --- Starting a program.
 
-# Which commit this is, and of which kit: in a clone git knows, and an installed copy has it in a file.
+# Which version and which commit this is, and of which kit. The commit git knows in a clone, and an installed copy
+# has it in a file.
 version() {
+    read -r number <"$top/VERSION"
     if [ -e "$top/.git" ] && command -v git >/dev/null; then
         commit=$(git -C "$top" describe --always --dirty 2>/dev/null)
     elif [ -r "$top/COMMIT" ]; then
         read -r commit <"$top/COMMIT"
     fi
-    echo "$called of commit ${commit:-unknown}, for $kit"
+    echo "$called $number of commit ${commit:-unknown}, for $kit"
 }
 
 # How a program is proved, and what that takes: a check of a crate takes about a minute of four processors.
