@@ -1,11 +1,15 @@
-# `make` proves and builds the programs, `make install PREFIX=..` puts them and their manual pages where
-# a package would, and `make check` runs all that is checked outside the merge gate.
+# `make` proves and builds the programs, `make install PREFIX=..` puts them, the scripts, the modules for Python, the
+# examples, the manual pages and the shells' completions where a package would, and `make check` runs all that is
+# checked outside the merge gate.
 PREFIX = /usr/local
 DESTDIR =
 libexec = $(DESTDIR)$(PREFIX)/libexec/mesh
 bin = $(DESTDIR)$(PREFIX)/bin
-man = $(DESTDIR)$(PREFIX)/share/man
-examples = $(DESTDIR)$(PREFIX)/share/doc/mesh/examples
+share = $(DESTDIR)$(PREFIX)/share
+man = $(share)/man
+doc = $(share)/doc/mesh
+bash = $(share)/bash-completion/completions
+zsh = $(share)/zsh/site-functions
 
 # The crates of the programs; the start script of mesh_cli is `mesh`.
 crates = mesh_cli mesh_capture mesh_check mesh_node mesh_places mesh_state mesh_watch mesh_why
@@ -18,25 +22,32 @@ all:
 check:
 	checks/all
 
-# The start script finds the program beside itself, and links are followed to it.
+# The start script finds the programs and the scripts around itself, and links are followed to it.
 install: all
-	install -d $(libexec)/tools $(libexec)/programs $(bin) $(man)/man1 $(man)/man5 $(examples)
-	install -m 755 $(starts) $(libexec)
-	install -m 644 tools/start.sh $(libexec)/tools/start.sh
+	install -d $(libexec)/programs $(bin) $(man)/man1 $(man)/man5 $(doc)/examples/three-routers $(bash) $(zsh)
+	for folder in bin python scripts scripts/traces tools view; do install -d $(libexec)/$$folder || exit; done
+	for file in bin/* python/*.py scripts/* scripts/traces/* tools/start.sh tools/commands view/*; do \
+	    [ -d $$file ] || install -m $$([ -x $$file ] && echo 755 || echo 644) $$file $(libexec)/$$file || exit; \
+	done
 	for crate in $(crates); do \
 	    install -m 755 crates/$$crate/out/$$crate $(libexec)/programs || exit; \
 	done
-	./mesh --version | sed 's/.* of commit \([^,]*\),.*/\1/' >$(libexec)/COMMIT
+	bin/mesh --version | sed 's/.* of commit \([^,]*\),.*/\1/' >$(libexec)/COMMIT
 	chmod 644 $(libexec)/COMMIT
-	for start in $(starts); do ln -sf ../libexec/mesh/$$start $(bin)/$$start || exit; done
+	install -m 644 VERSION $(libexec)/VERSION
+	for start in $(starts); do ln -sf ../libexec/mesh/bin/$$start $(bin)/$$start || exit; done
 	for page in $(pages); do install -m 644 docs/man/$$page $(man)/man1/$$page || exit; done
 	install -m 644 docs/man/mesh.5 $(man)/man5/mesh.5
-	install -m 644 examples/*.mesh examples/*.places examples/*.txt examples/*.tables $(examples)
+	install -m 644 examples/*.* $(doc)/examples
+	install -m 644 examples/three-routers/* $(doc)/examples/three-routers
+	install -m 644 completions/mesh.bash $(bash)/mesh
+	install -m 644 completions/_mesh $(zsh)/_mesh
 
 uninstall:
-	rm -rf $(libexec) $(examples)
+	rm -rf $(libexec) $(doc)/examples
+	[ ! -d $(doc) ] || rmdir $(doc) 2>/dev/null || :
 	for start in $(starts); do rm -f $(bin)/$$start; done
 	for page in $(pages); do rm -f $(man)/man1/$$page; done
-	rm -f $(man)/man5/mesh.5
+	rm -f $(man)/man5/mesh.5 $(bash)/mesh $(zsh)/_mesh
 
 .PHONY: all check install uninstall

@@ -6,7 +6,7 @@ top=$(cd "$top" && pwd -P) || exit 1
 
 # The program under test: the start script, or what the environment names.
 # shellcheck disable=SC2034 # the checks use it
-mesh=${MESH:-$top/mesh}
+mesh=${MESH:-$top/bin/mesh}
 
 # A folder for a check's files, which goes when the check ends.
 scratch() {

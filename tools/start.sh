@@ -1,6 +1,6 @@
 # shellcheck shell=sh
 # What ./build and the start scripts share. Whoever reads this file has set `top`, the folder of the
-# repository or of the installed start script. It defines functions, and does nothing by itself.
+# repository or of the installed copy. It defines functions, and does nothing by itself.
 
 : "${top:?}"
 
@@ -72,14 +72,16 @@ is_current() {
 
 # --- Starting a program.
 
-# Which commit this is, and of which kit: in a clone git knows, and an installed copy has it in a file.
+# Which version and which commit this is, and of which kit. The commit git knows in a clone, and an installed copy
+# has it in a file.
 version() {
+    read -r number <"$top/VERSION"
     if [ -e "$top/.git" ] && command -v git >/dev/null; then
         commit=$(git -C "$top" describe --always --dirty 2>/dev/null)
     elif [ -r "$top/COMMIT" ]; then
         read -r commit <"$top/COMMIT"
     fi
-    echo "${0##*/} of commit ${commit:-unknown}, for $kit"
+    echo "$called $number of commit ${commit:-unknown}, for $kit"
 }
 
 # How a program is proved, and what that takes: a check of a crate takes about a minute of four processors.
@@ -100,7 +102,7 @@ look_at_streams() {
 }
 
 end_with() {
-    echo "${0##*/}: status $1: $2" >&2
+    echo "$called: status $1: $2" >&2
     exit "$1"
 }
 
@@ -114,10 +116,13 @@ is_broken_pipe() {
 # What a status other than 0 of the program of this crate means (docs/FORMATS.md).
 meaning_of() {
     case $crate:$1 in
-    *:2) echo "the words are of no form; see ${0##*/} --help" ;;
+    *:2) echo "the words are of no form; see $called --help" ;;
     mesh_check:3) echo "a line was refused; the line that is written says which" ;;
     mesh_capture:3) echo "a line was refused; the capture is that of the lines above it" ;;
-    *:3) echo "a line was refused; the last line of the text says which, and why$(hint_at_lint)" ;;
+    *:3)
+        echo "a line was refused; the last line of the text says which, and why;" \
+            "mesh lint FILE knows what editors leave in a file, as CRLF and double spaces"
+        ;;
     *:4) echo "a counter is at its field's greatest value; the last line of the text says which" ;;
     *:5) echo "the input could not be read" ;;
     *:6) echo "the output could not be written to its end" ;;
@@ -137,12 +142,6 @@ as_unproved() {
     case $program in *.unproved) echo ": an index, an unwrap or a prove! failed, which a proof would exclude" ;; esac
 }
 
-# An installed copy has no checks.
-hint_at_lint() {
-    [ ! -x "$top/checks/lint" ] ||
-        echo "; checks/lint FILE knows what editors leave in a file, as CRLF and double spaces"
-}
-
 # Says in one line what the status means, but where the text itself says so and nobody looks, and where the
 # reader of the text has gone, as `head` does.
 tell_status() {
@@ -151,7 +150,7 @@ tell_status() {
     3 | 4 | 9) [ -t 2 ] || return 0 ;;
     6) ! is_broken_pipe || return 0 ;;
     esac
-    echo "${0##*/}: status $status: $(meaning_of "$status")" >&2
+    echo "$called: status $status: $(meaning_of "$status")" >&2
 }
 
 # The one line of mesh_check is held until it ends, in a file that has no name any more, so that nothing is
@@ -167,7 +166,7 @@ write_line() {
     line=$(cat <&5)
     [ -z "$line" ] || printf '%s\n' "$line" | cat 2>/dev/null || status=6
     [ "$status:$line" != "0:yes nodes 0 edges 0" ] ||
-        echo "${0##*/}: no table was shown: the text has no line show ADDR (mesh run writes one for each line show)" >&2
+        echo "$called: no table was shown: the text has no line show ADDR (mesh run writes one for each line show)" >&2
 }
 
 # Runs the program, and tells what a status other than 0 means. A signal that ends this script ends the
@@ -201,22 +200,25 @@ run_and_tell() {
     exit "$status"
 }
 
-# start CRATE WORD..: starts the program of the crate with these words. Where none is made of the files as
-# they stand it is made first, without a proof. Beside an installed start script the program lies ready, in
-# the folder programs.
+# Sets `program` to that of the crate $1. Where none is made of the files as they stand it is made first, without
+# a proof. In an installed copy the program lies ready, in the folder programs.
+find_program() {
+    program=$top/programs/$1
+    [ ! -x "$program" ] || return 0
+    program=$top/crates/$1/out/$1
+    ! is_current "$1" "$program" || return 0
+    program=$program.unproved
+    is_current "$1" "$program" || "$top/build" --unproved "$1" </dev/null >&2 || exit
+    # A sweep says it once, for all its runs.
+    [ -n "${MESH_IS_TOLD-}" ] || echo "$called: this program is not proved here; $(proving "$1")" >&2
+}
+
+# start CRATE WORD..: starts the program of the crate with these words.
 start() {
     crate=$1
     shift
     look_at_streams
-    program=$top/crates/$crate/out/$crate
-    if [ -x "$top/programs/$crate" ]; then
-        program=$top/programs/$crate
-    elif ! is_current "$crate" "$program"; then
-        program=$program.unproved
-        is_current "$crate" "$program" || "$top/build" --unproved "$crate" </dev/null >&2 || exit
-        # ./sweep says it once, for all its trials.
-        [ -n "${MESH_IS_TOLD-}" ] || echo "${0##*/}: this program is not proved here; $(proving "$crate")" >&2
-    fi
+    find_program "$crate"
     run_and_tell "$@"
 }
 
@@ -225,7 +227,7 @@ main() {
     crate=$1
     shift
     case ${1-} in
-    --help | -h) usage ;;
+    --help | -h) forms ;;
     --version) version ;;
     *)
         look_at_words "$@"
@@ -237,12 +239,24 @@ main() {
 # --- Words. A start script sets `call`, how it is called, `options`, what may stand first, in order, `operands`,
 # the names of the words behind that, `reads`, what it reads, and `runs`, its variant where it takes none.
 
-call=${0##*/} options='' operands='' reads='' runs=''
+# The name of the script, or the command of `mesh` that starts it.
+called=${MESH_CALLED_AS:-${0##*/}}
+unset MESH_CALLED_AS
+call=$called options='' operands='' reads='' runs=''
+variants='base number error reply'
+
+# The forms of the words, as `usage` has them, with the name that was called.
+forms() {
+    case $called in
+    "${0##*/}") usage ;;
+    *) usage | sed "s/${0##*/}\([^(]\)/$called\1/g; s/${0##*/}\$/$called/" ;;
+    esac
+}
 
 # Says in one line what is wrong with the words, and then the forms.
 refuse() {
     case $1 in "$call "*) echo "$1" ;; *) echo "$call: $1" ;; esac >&2
-    usage >&2
+    forms >&2
     exit 2
 }
 
@@ -269,7 +283,7 @@ need_command() {
         [ "$2" != "$it" ] || refuse "$it comes after the command, which is $choice"
     done
     case $2 in -?*) refuse_option "$2" ;; esac
-    [ ! -f "$2" ] || call="$call ${1%% *}" refuse_file "$2"
+    [ -z "$reads" ] || [ ! -f "$2" ] || call="$call ${choice%%[, ]*}" refuse_file "$2"
     refuse "there is no command $2: it is $choice"
 }
 
@@ -299,11 +313,13 @@ look_at_options() {
 }
 
 need_variant() {
-    case $1 in
-    base | number | error | reply) ;;
-    '') refuse "the NAME of --variant is missing: $(either base number error reply)" ;;
-    *) refuse "there is no variant $1: it is $(either base number error reply)" ;;
-    esac
+    for it in $variants; do
+        [ "$1" != "$it" ] || return 0
+    done
+    # shellcheck disable=SC2086 # each is a word
+    choice=$(either $variants)
+    [ -n "$1" ] || refuse "the NAME of --variant is missing: $choice"
+    refuse "there is no variant $1: it is $choice"
 }
 
 # Says of an option that it is out of its place, or that there is none of its name.

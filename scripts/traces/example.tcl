@@ -1,4 +1,4 @@
-# traces/waypoints 6 40 1000 20 180
+# mesh traces waypoints 6 40 1000 20 180
 $node_(0) set X_ 793.3
 $node_(0) set Y_ 822.0
 $node_(0) set Z_ 0.0
