@@ -4,6 +4,8 @@ use Rattle.mesh_shell.specs.declared.fault.Fault.{Fault}
 use Rattle.mesh_shell.specs.declared.fault.Fault.TheVariants as fault
 use Rattle.mesh_capture.specs.declared.status.CaptureVerdict.{CaptureVerdict}
 use Rattle.mesh_capture.specs.declared.status.CaptureVerdict.TheVariants as verdict
+use Rattle.mesh_shell.specs.declared.words.WordsError.{WordsError}
+use Rattle.mesh_shell.specs.declared.words.WordsError.TheVariants as words
 use Rattle.mesh_capture.specs.declared.status.CaptureStatus.{CaptureStatus}
 use Rattle.mesh_capture.specs.declared.status.CaptureStatus.TheVariants.{Done, Usage, BadLine, ReadFault, WriteFault, NoMemory}
 
@@ -13,6 +15,11 @@ status_of (Ok (verdict.BadLine line)) = BadLine line
 status_of (Err fault.ReadFault) = ReadFault
 status_of (Err fault.WriteFault) = WriteFault
 status_of (Err fault.NoMemory) = NoMemory
+
+-- the status where there are no words to take: those that are no text are words too
+abbrev pub without_words : WordsError → CaptureStatus
+without_words words.NotText = Usage
+without_words words.NoMemory = NoMemory
 
 abbrev pub code_of : CaptureStatus → ℕ
 code_of Done = 0

@@ -59,6 +59,7 @@ fn put_ended<O: Sink>(frame: Option<Frame>, buf: &mut FrameBuf, out: &mut O) -> 
 }
 
 impl Script for Capturing {
+    ghost use Rattle.mesh_io.specs.declared.limits.TheConstants.{LONGEST_TEXT_LINE};
     ghost use Rattle.std.proofs.Common.{arith};
     ghost use Rattle.mesh_capture.specs.Kept.{most_lines};
     ghost use Rattle.mesh_capture.specs.Captures.{capture};
@@ -72,24 +73,24 @@ impl Script for Capturing {
 
     ghost has_room = { λ r size. r.lines + size ≤ most_lines };
 
+    ghost longest = { LONGEST_TEXT_LINE };
+
     ghost is_sound = { λ r. ⊤ };
 
     ghost is_final = { λ v. v ≡ verdict.Done };
 
     fn begin<O: Sink>(&mut self, out: &mut O) -> Result<(), Fault> {
-        match put_header(&mut self.buf, out) {
-            Ok(()) => Ok(()),
-            Err(_) => Err(Fault::WriteFault),
-        }
+        put_header(&mut self.buf, out)?;
+        Ok(())
     }
 
     fn line<O: Sink>(&mut self, line: &[u8], out: &mut O) -> Result<Option<CaptureVerdict>, Fault> {
         let number = self.copies.lines() + 1;
         match self.copies.read(line) {
-            Ok(frame) => match put_ended(frame, &mut self.buf, out) {
-                Ok(()) => Ok(None),
-                Err(_) => Err(Fault::WriteFault),
-            },
+            Ok(frame) => {
+                put_ended(frame, &mut self.buf, out)?;
+                Ok(None)
+            }
             Err(ReadError::BadLine) => Ok(Some(CaptureVerdict::BadLine { line: number })),
             Err(ReadError::NoMemory) => Err(Fault::NoMemory),
         }

@@ -15,36 +15,15 @@ mod top;
 mod words;
 
 use mesh_io::{StdSink, StdSource};
+use mesh_shell::{texts_of, words_of};
 use status::CaptureStatus;
+use std::io;
 use std::process::ExitCode;
-use std::rt::Env;
-use std::{env, io};
-
-// The words of the command line without the program's name. Words that are no text are words too.
-fn words_of<R: Env + AllocGlobal>(rt: &R) -> Result<Vec<String>, CaptureStatus> {
-    let given = match env::args(rt) {
-        Ok(given) => given,
-        Err(e) if e.kind() == io::ErrorKind::OutOfMemory => return Err(CaptureStatus::NoMemory),
-        Err(_) => return Err(CaptureStatus::Usage),
-    };
-    let mut words = Vec::new(rt.alloc());
-    for word in given.skip(1) {
-        if words.push(word).is_err() {
-            return Err(CaptureStatus::NoMemory);
-        }
-    }
-    Ok(words)
-}
 
 // Writes the capture of standard input.
 fn status_of(rt: &HostRuntime) -> Result<CaptureStatus, CaptureStatus> {
     let words = words_of(rt)?;
-    let mut texts: Vec<&str> = Vec::new(rt.alloc());
-    for word in &words {
-        if texts.push(word.as_str()).is_err() {
-            return Err(CaptureStatus::NoMemory);
-        }
-    }
+    let texts = texts_of(rt.alloc(), &words)?;
     let mut input = StdSource::new(rt.stdin());
     let mut out = StdSink::new(io::writer(rt));
     let mut errors = StdSink::new(rt.stderr());

@@ -1,7 +1,7 @@
 //! What a capture answers.
 ghost use Rattle.std.specs.Prelude.{◌≡◌};
 
-use mesh_shell::Fault;
+use mesh_shell::{Fault, WordsError};
 
 /// What a capture comes to where nothing fails.
 #[derive(Clone, Copy)]
@@ -56,6 +56,20 @@ impl CaptureStatus {
             CaptureStatus::ReadFault => 5,
             CaptureStatus::WriteFault => 6,
             CaptureStatus::NoMemory => 7,
+        }
+    }
+}
+
+impl From<WordsError> for CaptureStatus {
+    ghost use Rattle.std.specs.Prelude.{◌≡◌};
+    ghost use Rattle.mesh_capture.specs.Codes.{without_words};
+
+    ghost from_gives = { λ e status. status ≡ without_words e };
+
+    fn from(e: WordsError) -> CaptureStatus {
+        match e {
+            WordsError::NotText => CaptureStatus::Usage,
+            WordsError::NoMemory => CaptureStatus::NoMemory,
         }
     }
 }

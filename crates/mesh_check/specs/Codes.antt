@@ -1,7 +1,14 @@
 -- The status with which the process ends.
 use Rattle.std.specs.Prelude.{ℕ}
+use Rattle.mesh_shell.specs.declared.words.WordsError.{WordsError}
+use Rattle.mesh_shell.specs.declared.words.WordsError.TheVariants as words
 use Rattle.mesh_check.specs.declared.status.CheckStatus.{CheckStatus}
 use Rattle.mesh_check.specs.declared.status.CheckStatus.TheVariants.{Yes, No, Usage, BadLine, ReadFault, WriteFault, NoMemory}
+
+-- the status where there are no words to take: those that are no text are words too
+abbrev pub without_words : WordsError → CheckStatus
+without_words words.NotText = Usage
+without_words words.NoMemory = NoMemory
 
 abbrev pub code_of : CheckStatus → ℕ
 code_of Yes = 0

@@ -12,36 +12,15 @@ mod status;
 mod top;
 
 use mesh_io::{StdSink, StdSource};
+use mesh_shell::{texts_of, words_of};
 use status::CheckStatus;
+use std::io;
 use std::process::ExitCode;
-use std::rt::Env;
-use std::{env, io};
-
-// The words of the command line without the program's name. Words that are no text are words too.
-fn words_of<R: Env + AllocGlobal>(rt: &R) -> Result<Vec<String>, CheckStatus> {
-    let given = match env::args(rt) {
-        Ok(given) => given,
-        Err(e) if e.kind() == io::ErrorKind::OutOfMemory => return Err(CheckStatus::NoMemory),
-        Err(_) => return Err(CheckStatus::Usage),
-    };
-    let mut words = Vec::new(rt.alloc());
-    for word in given.skip(1) {
-        if words.push(word).is_err() {
-            return Err(CheckStatus::NoMemory);
-        }
-    }
-    Ok(words)
-}
 
 // Checks standard input, and writes to standard output.
 fn status_of(rt: &HostRuntime) -> Result<CheckStatus, CheckStatus> {
     let words = words_of(rt)?;
-    let mut texts: Vec<&str> = Vec::new(rt.alloc());
-    for word in &words {
-        if texts.push(word.as_str()).is_err() {
-            return Err(CheckStatus::NoMemory);
-        }
-    }
+    let texts = texts_of(rt.alloc(), &words)?;
     let mut input = StdSource::new(rt.stdin());
     let mut out = StdSink::new(io::writer(rt));
     Ok(top::check(rt.alloc(), &texts, &mut input, &mut out))

@@ -37,6 +37,7 @@ impl Model for Checking {
 }
 
 impl Script for Checking {
+    ghost use Rattle.mesh_io.specs.declared.limits.TheConstants.{LONGEST_TEXT_LINE};
     ghost use Rattle.std.proofs.Common.{arith};
     ghost use Rattle.mesh_check.specs.declared.reading.ReadVerdict.TheVariants as verdicts;
 
@@ -48,6 +49,8 @@ impl Script for Checking {
 
     ghost has_room = { λ r size. r.lines + size ≤ most_lines };
 
+    ghost longest = { LONGEST_TEXT_LINE };
+
     ghost is_sound = { λ r. ⊤ };
 
     ghost is_final = { λ v. v ≡ verdicts.Read };
@@ -56,6 +59,7 @@ impl Script for Checking {
         Ok(())
     }
 
+    #[inline]
     fn line<O: Sink>(&mut self, line: &[u8], _: &mut O) -> Result<Option<ReadVerdict>, Fault> {
         let number = self.tables.lines() + 1;
         match self.tables.read(line) {

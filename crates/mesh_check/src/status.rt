@@ -1,6 +1,8 @@
 //! What a check answers.
 ghost use Rattle.std.specs.Prelude.{◌≡◌};
 
+use mesh_shell::WordsError;
+
 /// What a check came to.
 #[derive(Clone, Copy, PartialEq, Eq)]
 pub enum CheckStatus {
@@ -35,6 +37,20 @@ impl CheckStatus {
             CheckStatus::ReadFault => 5,
             CheckStatus::WriteFault => 6,
             CheckStatus::NoMemory => 7,
+        }
+    }
+}
+
+impl From<WordsError> for CheckStatus {
+    ghost use Rattle.std.specs.Prelude.{◌≡◌};
+    ghost use Rattle.mesh_check.specs.Codes.{without_words};
+
+    ghost from_gives = { λ e status. status ≡ without_words e };
+
+    fn from(e: WordsError) -> CheckStatus {
+        match e {
+            WordsError::NotText => CheckStatus::Usage,
+            WordsError::NoMemory => CheckStatus::NoMemory,
         }
     }
 }

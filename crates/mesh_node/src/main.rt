@@ -8,40 +8,37 @@
 mod top;
 mod words;
 
-use mesh_io::{StdSink, StdSource};
+use mesh_io::{Source, StdSink, StdSource};
 use mesh_link::UdpLink;
 use mesh_router::NodeStatus;
+use mesh_shell::{WordsError, texts_of, words_of};
+use std::io;
+use std::io::Write;
 use std::process::ExitCode;
-use std::rt::Env;
-use std::{env, io};
 
-// The words of the command line without the program's name. Words that are no text are of no form.
-fn words_of<R: Env + AllocGlobal>(rt: &R) -> Result<Vec<String>, NodeStatus> {
-    let given = match env::args(rt) {
-        Ok(given) => given,
-        Err(e) if e.kind() == io::ErrorKind::OutOfMemory => return Err(NodeStatus::NoMemory),
-        Err(_) => return Err(NodeStatus::Usage),
-    };
-    let mut words = Vec::new(rt.alloc());
-    for word in given.skip(1) {
-        if words.push(word).is_err() {
-            return Err(NodeStatus::NoMemory);
-        }
+// The status where there are no words to take. Words that are no text are of no form.
+fn without_words(e: WordsError) -> NodeStatus {
+    match e {
+        WordsError::NotText => NodeStatus::Usage,
+        WordsError::NoMemory => NodeStatus::NoMemory,
     }
-    Ok(words)
 }
 
-// Runs the router over standard input and output and a socket.
+// Runs the router over standard input and output and a socket. Where one of the two streams is
+// closed it is told before a socket is opened, which would take its place: whoever sends datagrams
+// would then write the script.
 fn status_of(rt: &HostRuntime) -> Result<NodeStatus, NodeStatus> {
-    let words = words_of(rt)?;
-    let mut texts: Vec<&str> = Vec::new(rt.alloc());
-    for word in &words {
-        if texts.push(word.as_str()).is_err() {
-            return Err(NodeStatus::NoMemory);
-        }
-    }
+    let words = words_of(rt).map_err(without_words)?;
+    let texts = texts_of(rt.alloc(), &words).map_err(without_words)?;
     let mut input = StdSource::new(rt.stdin());
-    let mut out = StdSink::new(io::writer(rt));
+    if input.take(&mut []).is_err() {
+        return Err(NodeStatus::ReadFault);
+    }
+    let mut writer = io::writer(rt);
+    if writer.write(&[]).is_err() {
+        return Err(NodeStatus::WriteFault);
+    }
+    let mut out = StdSink::new(writer);
     let mut link = UdpLink::new(rt);
     Ok(top::node_run(rt.alloc(), &texts, &mut input, &mut out, &mut link))
 }

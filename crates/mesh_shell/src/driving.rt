@@ -1,5 +1,5 @@
 //! A run from its source to its sink.
-ghost use Rattle.std.specs.Prelude.{◌≡◌, ◌<◌, ◌+◌, ◌^◌, [], IfSome, IfOk, IsErrOf};
+ghost use Rattle.std.specs.Prelude.{◌≡◌, ◌≤◌, ◌<◌, ◌+◌, ◌^◌, [], IfSome, IfOk, IsErrOf};
 ghost use Rattle.std.specs.Io.KnownBytes.{IsAtEnd};
 ghost use Rattle.mesh_io.specs.Buffering.{inner_of, gathered_in, held_by};
 ghost use Rattle.mesh_io.specs.Cutting.{HasRoom};
@@ -21,6 +21,7 @@ fn do_gathered<S: Script, R: LineReader, O: Sink>(
     lines: &mut R,
     buffer: &mut Buffered<O>,
 ) -> Result<S::Verdict, Fault>
+    requires short { (R.limits lines.old).line ≤ S.longest }
     requires room { S.has_room script.old ((R.limits lines.old).input + 1) }
     requires pending { R.pending lines.old ≡ [] }
     requires given { R.given lines.old ≡ 0 }
@@ -57,6 +58,7 @@ fn do_through<'s, S: Script, R: LineReader, O: Sink, L: Loan>(
     out: &'s mut O,
     answer: &mut Result<S::Verdict, Fault>,
 ) -> &'s mut O
+    requires short { (R.limits lines.old).line ≤ S.longest }
     requires room { S.has_room script.old ((R.limits lines.old).input + 1) }
     requires pending { R.pending lines.old ≡ [] }
     requires given { R.given lines.old ≡ 0 }
@@ -89,6 +91,7 @@ fn do_buffered<S: Script, R: LineReader, O: Sink>(
     lines: &mut R,
     out: &mut O,
 ) -> Result<S::Verdict, Fault>
+    requires short { (R.limits lines.old).line ≤ S.longest }
     requires room { S.has_room script.old ((R.limits lines.old).input + 1) }
     requires pending { R.pending lines.old ≡ [] }
     requires given { R.given lines.old ≡ 0 }
@@ -130,6 +133,7 @@ pub fn run<S: Script, I: Source, O: Sink, const ROOM: usize>(
 ) -> Result<S::Verdict, Fault>
     requires fits { HasRoom most ROOM }
     requires small { ROOM < 2 ^ 32 }
+    requires short { most.line ≤ S.longest }
     requires room { S.has_room script.old (most.input + 1) }
 
     // What is written is the text of the input, and the answer its verdict. After a failed write,

@@ -1,4 +1,5 @@
 //! Why a run isn't done whole.
+use mesh_io::PutFault;
 use thiserror::Error;
 
 /// Why a run isn't done whole.
@@ -13,4 +14,15 @@ pub enum Fault {
     /// Memory was asked for and not found.
     #[error("no memory")]
     NoMemory,
+}
+
+impl From<PutFault> for Fault {
+    ghost use Rattle.std.specs.Prelude.{◌≡◌};
+    ghost use Rattle.mesh_shell.specs.declared.fault.Fault.TheVariants as faults;
+
+    ghost from_gives = { λ put fault. fault ≡ faults.WriteFault };
+
+    fn from(_: PutFault) -> Fault {
+        Fault::WriteFault
+    }
 }

@@ -10,9 +10,11 @@ mod limit;
 mod lines;
 mod reader;
 mod script;
+mod words;
 
 pub use driving::run;
 pub use fault::Fault;
 pub use limit::Limit;
 pub use reader::LineReader;
 pub use script::Script;
+pub use words::{WordsError, texts_of, words_of};

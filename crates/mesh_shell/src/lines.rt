@@ -38,6 +38,7 @@ pub fn do_lines<S: Script, R: LineReader, O: Sink>(
     lines: &mut R,
     out: &mut Buffered<O>,
 ) -> Result<S::Verdict, Fault>
+    requires short { (R.limits lines.old).line ≤ S.longest }
     requires room { S.has_room script.old ((R.limits lines.old).input + 1) }
     requires pending { R.pending lines.old ≡ [] }
     requires given { R.given lines.old ≡ 0 }

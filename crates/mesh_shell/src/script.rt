@@ -24,6 +24,9 @@ pub trait Script {
     /// Lines of so many bytes can be done from this moment on.
     ghost has_room: { Self → ℕ → Type 0 };
 
+    /// How many bytes the longest line has that it does.
+    ghost longest: { ℕ };
+
     /// What holds of the moment to which an input has led that was done to its end.
     ghost is_sound: { Self → Type 0 };
 
@@ -40,6 +43,7 @@ pub trait Script {
 
     /// Does one line, without its LF, and writes its text. A verdict ends the run.
     fn line<O: Sink>(&mut self, line: &[u8], out: &mut O) -> Result<Option<Self::Verdict>, Fault>
+        requires short { length line.now ≤ longest }
         requires room { has_room self.old (size_of_line line.now) }
         ensures comes { IsLineRun (story.outcome self.old (Whole line.now)) self.new
             (O.held out.old) (O.held out.new) result }

@@ -70,7 +70,10 @@ line-requires-in-Ok-true g c =
     let same = c.advance.ensures.most ∙ c.lines.invariant.most in
     let few : g.R.LineReader.given c.advance.new.self ≤ most.input = subst (λ m. g.R.LineReader.given c.advance.new.self ≤ m.input) same c.advance.ensures.few in
     let line = ap size_of_line c.line.ensures in
+    let short : length (g.R.LineReader.found c.advance.new.self) ≤ most.line = subst (λ m. length (g.R.LineReader.found c.advance.new.self) ≤ m.line) c.lines.invariant.most (c.advance.ensures.short found) in
+    let bytes = ap length c.line.ensures in
     record {
+      short = omega (arith, short, bytes, c.requires.short);
       room = room_for g.S.Script.leads g.S.Script.has_room g.met.S.Script.stays g.met.S.Script.leaves c.args.script.now c.lines.script (most.input + 1) (g.R.LineReader.given c.lines.lines) (size_of_line c.line.result.now) c.requires.room c.lines.invariant.leads (omega (arith, counted, few, line));
     }
 
