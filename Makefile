@@ -1,8 +1,11 @@
-# `make` proves and builds the programs, `make install PREFIX=..` puts them, the scripts, the modules for Python, the
-# examples, the manual pages and the shells' completions where a package would, and `make check` runs all that is
-# checked outside the merge gate.
+# `make` proves and builds the programs and the library, `make install PREFIX=..` puts them, the library's headers and
+# modules, the scripts, the examples, the manual pages and the shells' completions where a package would, and
+# `make check` runs all that is checked outside the merge gate.
 PREFIX = /usr/local
 DESTDIR =
+include = $(DESTDIR)$(PREFIX)/include
+lib = $(DESTDIR)$(PREFIX)/lib
+site = $(lib)/python3/dist-packages
 libexec = $(DESTDIR)$(PREFIX)/libexec/mesh
 bin = $(DESTDIR)$(PREFIX)/bin
 share = $(DESTDIR)$(PREFIX)/share
@@ -18,6 +21,7 @@ pages = $(starts:=.1)
 
 all:
 	for crate in $(crates); do ./build $$crate || exit; done
+	tools/library
 
 check:
 	checks/all
@@ -42,6 +46,13 @@ install: all
 	install -m 644 examples/three-routers/* $(doc)/examples/three-routers
 	install -m 644 completions/mesh.bash $(bash)/mesh
 	install -m 644 completions/_mesh $(zsh)/_mesh
+	install -d $(include) $(lib)/pkgconfig $(site)
+	install -m 644 include/aodv.h bindings/cpp/aodv.hpp $(include)
+	install -m 644 out/libaodv.a $(lib)
+	[ ! -e out/libaodv.so.1 ] || { install -m 755 out/libaodv.so.1 $(lib) && ln -sf libaodv.so.1 $(lib)/libaodv.so; }
+	sed 's|@PREFIX@|$(PREFIX)|; s|@VERSION@|'"$$(cat VERSION)"'|' include/aodv.pc.in >$(lib)/pkgconfig/aodv.pc
+	chmod 644 $(lib)/pkgconfig/aodv.pc
+	install -m 644 bindings/python/aodv.py $(site)
 
 uninstall:
 	rm -rf $(libexec) $(doc)/examples
@@ -49,5 +60,7 @@ uninstall:
 	for start in $(starts); do rm -f $(bin)/$$start; done
 	for page in $(pages); do rm -f $(man)/man1/$$page; done
 	rm -f $(man)/man5/mesh.5 $(bash)/mesh $(zsh)/_mesh
+	rm -f $(include)/aodv.h $(include)/aodv.hpp $(lib)/libaodv.a $(lib)/libaodv.so $(lib)/libaodv.so.1
+	rm -f $(lib)/pkgconfig/aodv.pc $(site)/aodv.py
 
 .PHONY: all check install uninstall

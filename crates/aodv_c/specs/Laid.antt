@@ -1,0 +1,64 @@
+-- What a call leaves in memory of the caller's own.
+use Rattle.std.specs.Prelude.{◌≡◌, ℕ, Bool, true, false, Option, Some, None, Result, Ok, Err, is_some, unwrap_or, List, take}
+use Rattle.aodv_entry.specs.declared.entry.Flag.{Flag}
+use Rattle.aodv_entry.specs.declared.entry.Flag.TheVariants as flags
+use Rattle.aodv_entry.specs.declared.entry.Known.{Known}
+use Rattle.aodv_entry.specs.declared.entry.Known.TheVariants as knowns
+use Rattle.aodv_router.specs.declared.outcome.Outcome as told
+use Rattle.aodv_router.specs.declared.outcome.Row as rows
+use Rattle.aodv_router.specs.declared.answers.Stranger.{Stranger}
+use Rattle.aodv_c.specs.declared.outcome.Outcome.{Outcome}
+use Rattle.aodv_c.specs.declared.outcome.Row.{Row}
+use Rattle.aodv_c.specs.declared.outcome.Addrs.{Addrs}
+use Rattle.aodv_c.specs.Codes.{took_code, from_of, dest_of, cast_code}
+
+-- the outcome of the router, field by field. Lists are their first elements, as many as there are
+pub record LaysOut (o : told.Outcome) (out : Outcome) : Type 0 where
+  pub took : out.took ≡ took_code o.took
+  pub from : out.from ≡ from_of o.took
+  pub dest : out.dest ≡ dest_of o.took
+  pub delivered : out.delivered ≡ o.delivered
+  pub lost : out.lost ≡ o.lost
+  pub broken : out.broken ≡ is_some o.broken
+  pub broke : out.broke ≡ unwrap_or o.broken 0
+  pub cast : out.cast ≡ cast_code o.cast
+  pub to : take out.to_len out.to ≡ (o.to).items
+  pub packet : take out.packet_len out.packet ≡ (o.packet).items
+  pub body : take out.body_len out.body ≡ (o.body).items
+
+-- where the router has an outcome it is laid out; else the caller's is as it was
+abbrev pub IsLaid : {E : Type 0} → Result told.Outcome E → Outcome → Outcome → Type 0
+IsLaid (Ok o) old new = LaysOut o new
+IsLaid (Err e) old new = new ≡ old
+
+-- a list of addresses
+pub record LaysAddrs (rising : List ℕ) (list : Addrs) : Type 0 where
+  pub addrs : take list.len list.addrs ≡ rising
+
+abbrev pub is_known : Known → Bool
+is_known knowns.Kno = true
+is_known knowns.Unk = false
+
+abbrev pub is_valid : Flag → Bool
+is_valid flags.Val = true
+is_valid flags.Inv = false
+
+-- an entry of the table
+pub record LaysRow (r : rows.Row) (row : Row) : Type 0 where
+  pub dsn : row.dsn ≡ r.dsn
+  pub known : row.known ≡ is_known r.dsk
+  pub valid : row.valid ≡ is_valid r.flag
+  pub hops : row.hops ≡ r.hops
+  pub next : row.next ≡ r.next
+  pub pre : take row.pre_len row.pre ≡ (r.pre).items
+
+-- where there is an entry it is laid out; else the caller's row is as it was
+abbrev pub IsRowLaid : Result (Option rows.Row) Stranger → Row → Row → Type 0
+IsRowLaid (Ok (Some r)) old new = LaysRow r new
+IsRowLaid (Ok None) old new = new ≡ old
+IsRowLaid (Err e) old new = new ≡ old
+
+-- where there is a value it is written; else the caller's is as it was
+abbrev pub IsWritten : {A : Type 0} → Result A Stranger → A → A → Type 0
+IsWritten (Ok x) old new = new ≡ x
+IsWritten (Err e) old new = new ≡ old

@@ -1,0 +1,25 @@
+//! A router with its mesh, in addresses, for programs that bring their own radio. Each call takes
+//! anything: addresses of no node, and any bytes. A call that is refused says why and leaves the
+//! router as it was, but that a turn takes a packet which can't be read, or which names a stranger.
+//!
+//! An address is a number of 32 bits, as 0x0A000001 for 10.0.0.1. Whoever runs a router hands it
+//! the packets that its neighbours cast, and casts those that it answers with. `turn`, `send` and
+//! `ask` take the addresses that are near: to whom a unicast would come now.
+//!
+//! What is proved is about one router: each call does what AODV's handlers do, as the model of one
+//! node says. That no mesh of nodes has a loop is proved of worlds in which all nodes do so and
+//! packets arrive as they were sent, or not at all. It isn't claimed of routers in processes of
+//! their own, of which nothing here says that the others do the same.
+#![tactic(auto)]
+
+mod answers;
+mod mesh;
+mod outcome;
+mod places;
+mod reads;
+mod router;
+mod tells;
+
+pub use answers::{AskError, GiveError, HearError, NewError, SendError, Stranger, TurnError};
+pub use outcome::{Addrs, Body, Casting, Outcome, Row, Taken};
+pub use router::Router;
