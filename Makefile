@@ -42,6 +42,7 @@ install: all
 	for start in $(starts); do ln -sf ../libexec/mesh/bin/$$start $(bin)/$$start || exit; done
 	for page in $(pages); do install -m 644 docs/man/$$page $(man)/man1/$$page || exit; done
 	install -m 644 docs/man/mesh.5 $(man)/man5/mesh.5
+	install -m 644 LICENSE-MIT LICENSE-APACHE $(doc)
 	install -m 644 examples/*.* $(doc)/examples
 	install -m 644 examples/three-routers/* $(doc)/examples/three-routers
 	install -m 644 completions/mesh.bash $(bash)/mesh
@@ -55,7 +56,7 @@ install: all
 	install -m 644 bindings/python/aodv.py $(site)
 
 uninstall:
-	rm -rf $(libexec) $(doc)/examples
+	rm -rf $(libexec) $(doc)/examples $(doc)/LICENSE-MIT $(doc)/LICENSE-APACHE
 	[ ! -d $(doc) ] || rmdir $(doc) 2>/dev/null || :
 	for start in $(starts); do rm -f $(bin)/$$start; done
 	for page in $(pages); do rm -f $(man)/man1/$$page; done

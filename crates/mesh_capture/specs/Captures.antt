@@ -17,7 +17,7 @@ framed_if (Some f) = record_of f
 
 -- the line below those that were read is refused
 abbrev pub refused_after : Reading → Outcome Reading CaptureVerdict
-refused_after r = Ended [] (BadLine (r.lines + 1))
+refused_after r = Ended [] [] (BadLine (r.lines + 1))
 
 -- a line that tells this, or is refused
 abbrev pub captured_after : Reading → Option LineOutcome → Outcome Reading CaptureVerdict

@@ -13,13 +13,13 @@ most_lines = 2 ^ 61
 
 -- what a line comes to: it is refused, or the tables show what they do after it
 abbrev pub line_outcome : Reading → Option Reading → Outcome Reading ReadVerdict
-line_outcome r None = Ended [] (BadLine (r.lines + 1))
+line_outcome r None = Ended [] [] (BadLine (r.lines + 1))
 line_outcome r (Some next) = On [] next
 
 abbrev pub outcome_of_piece : Reading → Piece → Outcome Reading ReadVerdict
 outcome_of_piece r (Whole line) = line_outcome r (after_line r line)
-outcome_of_piece r Long = Ended [] (BadLine (r.lines + 1))
-outcome_of_piece r Beyond = Ended [] (BadLine (r.lines + 1))
+outcome_of_piece r Long = Ended [] [] (BadLine (r.lines + 1))
+outcome_of_piece r Beyond = Ended [] [] (BadLine (r.lines + 1))
 
 -- the lines are read, and nothing is written of them; at the end the block that is open closes
 abbrev pub reading : Story Reading ReadVerdict

@@ -3,7 +3,8 @@ use Rattle.std.proofs.Common.{◌≡◌, ◌≢◌, ℕ, Bool, false, List, Opti
 use Rattle.mesh_base.specs.declared.events.Variant.{Variant}
 use Rattle.mesh_io.specs.Cause.{Rose}
 use Rattle.mesh_text.specs.Schedule.{Moment, opening}
-use Rattle.mesh_text.specs.Text.{RunText, Finished, text_on, text_of_input}
+use Rattle.mesh_text.specs.Text.{RunText, text_on, text_of_input}
+use Rattle.mesh_text.specs.declared.verdict.Verdict.TheVariants.{Finished}
 use Rattle.mesh_text.proofs.RunLaws.{runs_are_loop_free}
 use Rattle.mesh_make.proofs.Allowed.{made_allowed}
 use Rattle.mesh_run.specs.declared.status.Status.{Status}

@@ -6,7 +6,8 @@ use Rattle.mesh_base.specs.declared.events.Variant.{Variant}
 use Rattle.mesh_make.specs.Made.{made_schedule}
 use Rattle.mesh_model.specs.Walks.{Cycle}
 use Rattle.mesh_text.specs.Schedule.{opening}
-use Rattle.mesh_text.specs.Text.{text_of_input, Finished}
+use Rattle.mesh_text.specs.Text.{text_of_input}
+use Rattle.mesh_text.specs.declared.verdict.Verdict.TheVariants.{Finished}
 use Rattle.mesh_text.specs.Runs.{world_after}
 use Rattle.mesh_run.specs.declared.status.Status.{Status}
 use Rattle.mesh_run.specs.declared.status.Status.TheVariants as status

@@ -7,7 +7,7 @@ ghost use Rattle.mesh_run.specs.Outputs.{say_by, IsOutputFrom};
 
 use mesh_base::Variant;
 use mesh_io::{Sink, Source};
-use mesh_run::{Point, Say, Status, do_input};
+use mesh_run::{Point, Running, Say, Status, do_input};
 use mesh_world::World;
 use std::alloc::Global;
 use std::mem;
@@ -29,9 +29,13 @@ pub fn run_schedule<I: Source, O: Sink>(
     ensures write { HasStatusCause Status.WriteFault (O.faults out.old) (O.faults out.new) result }
     ensures words { result ≢ Status.Usage }
 {
-    let mut at: Point<World> = Point::with(variant);
-    let status = do_input(alloc, &mut at, Say::by(quiet), input, out);
+    let mut running: Running<World> = Running {
+        alloc,
+        at: Point::with(variant),
+        say: Say::by(quiet),
+    };
+    let status = do_input(&mut running, input, out);
     // The process ends with its run, and its memory goes back as a whole.
-    mem::forget(at);
+    mem::forget(running);
     status
 }

@@ -54,9 +54,9 @@ fn do_command<I: Source, O: Sink>(
 /// and writes the text of its run, `run --quiet` the text's last line alone; `make` writes the
 /// schedule that a seed makes; `trial` runs such a schedule, and writes the last line of its text.
 /// `run --variant NAME` and `trial --variant NAME` let all nodes run that variant of the protocol.
-/// What `run` and `trial` write is gathered in a buffer of 65536 bytes, and handed on when that is
-/// full, before each read of the source, and at the end, unless a write has failed. `make` writes
-/// some 8000 bytes at a time, and takes no memory.
+/// What `run` writes is gathered in a buffer of 65536 bytes, and handed on when that is full, before
+/// each read of the source, and at the end, unless a write has failed. `make` writes some 8000 bytes
+/// at a time, and takes no memory.
 pub fn mesh<I: Source, O: Sink>(alloc: Global, words: &[&str], input: &mut I, out: &mut O) -> Status
     // The words are of no form: nothing is read or written.
     ensures usage_exactly_for_other_words { (result ≡ Status.Usage)

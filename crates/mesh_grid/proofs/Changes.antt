@@ -10,7 +10,7 @@ use Rattle.mesh_base.specs.Members.{NodeIds}
 use Rattle.aodv_model.specs.Pairs.{Pairs, pair_cmp}
 use Rattle.aodv_model.proofs.PairLaws.{pair_cmp_total, same_pair}
 use Rattle.mesh_grammar.proofs.Readings.{if_case}
-use Rattle.mesh_model.specs.Worlds.{World, Event, Link, Cut, Changed, Idle, Next, step, after, run, pair, are_linked, linked_below, range, with_link, without_link}
+use Rattle.mesh_model.specs.Worlds.{World, Link, Cut, Changed, Idle, Next, step, after, run, pair, are_linked, linked_below, range, with_link, without_link}
 use Rattle.mesh_text.proofs.RunLaws.{run_append, run_none, run_one}
 use Rattle.mesh_grid.specs.declared.place.Place.{Place}
 use Rattle.mesh_grid.specs.declared.place.Places.{Places}

@@ -20,7 +20,8 @@ use Rattle.mesh_model.specs.Choices.{first_turn, first_copy, first_send, first_a
 use Rattle.mesh_model.proofs.Acyclic.{no_cycle}
 use Rattle.mesh_model.proofs.Chosen.{OnSome}
 use Rattle.mesh_grammar.specs.declared.fault.LineFault.{LineFault}
-use Rattle.mesh_grammar.specs.Lines.{Piece, Whole, Long, Beyond, pieces_of_input}
+use Rattle.mesh_shell.specs.Pieces.{Piece, Whole, Long, Beyond}
+use Rattle.mesh_shell.specs.Story as shell
 use Rattle.mesh_grammar.specs.Written.{line}
 use Rattle.mesh_grammar.proofs.Readings.{if_case}
 use Rattle.mesh_text.specs.Schedule as schedule
@@ -29,7 +30,7 @@ use Rattle.mesh_text.specs.Lines.{words_of}
 use Rattle.mesh_text.specs.Ranges.{IsInTime}
 use Rattle.mesh_text.specs.Auto as auto
 use Rattle.mesh_text.specs.Runs.{moment_after}
-use Rattle.mesh_text.specs.Text.{LineOutcome, On, Refused, Full, outcome_by_events, outcome_of_auto, outcome_of_line, outcome_of_read}
+use Rattle.mesh_text.specs.Text.{pieces_of_input, LineOutcome, On, Refused, Full, outcome_by_events, outcome_of_auto, outcome_of_line, outcome_of_read}
 use Rattle.mesh_text.specs.Text as text
 use Rattle.mesh_text.proofs.Picks.{each_chosen}
 use Rattle.mesh_text.proofs.InRange.{Allowed, line_allowed}
@@ -42,8 +43,8 @@ use Rattle.mesh_grid.specs.declared.line.Placing.{Placing}
 use Rattle.mesh_grid.specs.Places.{apart, squared_distance, no_places, place_of, with_place}
 use Rattle.mesh_grid.specs.Lines.{placing_of}
 use Rattle.mesh_grid.specs.Links.{are_near, is_due, may_come, with_placing}
-use Rattle.mesh_grid.specs.Text.{Moment, opening, has_begun, changes, change_line, outcome_of_placing, other_line, outcome_by, outcome_of_piece, places_by, places_after, next}
-use Rattle.mesh_grid.specs.Runs.{moment_by, moment_from, moment_at}
+use Rattle.mesh_grid.specs.Text.{Moment, opening, has_begun, changes, change_line, outcome_of_placing, other_line, outcome_by, outcome_of_piece, places_by, places_after, next, RunText, goes_on, text_from}
+use Rattle.mesh_grid.specs.Runs.{moment_at}
 use Rattle.mesh_grid.specs.Laws.{LinksFollowPlaces, LinesAreLoopFree}
 use Rattle.mesh_grid.proofs.PlaceLines.{ComesIn, comes_in, KeepsLinks, no_link_line}
 use Rattle.mesh_grid.proofs.Changes.{pair_apart, linked_turned, linked_with, unchanged, changed, range_is}
@@ -440,19 +441,18 @@ piece_linked reach m (Whole bytes) is =
 piece_linked reach m Long is = tt
 piece_linked reach m Beyond is = tt
 
-goes_linked : (reach : ℕ) (m : Moment) (piece : Piece) (c : LineOutcome) (others : schedule.Moment → Moment) → Linked reach m → LinkedCame reach (places_after m piece) c
-    → ((n : schedule.Moment) → Linked reach (next m piece n) → Linked reach (others n)) → Linked reach (moment_by m c others)
+goes_linked : (reach : ℕ) (m : Moment) (piece : Piece) (c : LineOutcome) (others : Moment → RunText) → Linked reach m → LinkedCame reach (places_after m piece) c
+    → ((n : Moment) → Linked reach n → Linked reach (others n).after) → Linked reach (goes_on m piece c others).after
 unfolding LinkedCame
-goes_linked reach m piece (On text n) others is kept rest = rest n kept
+goes_linked reach m piece (On text n) others is kept rest = rest (next m piece n) kept
 goes_linked reach m piece (Refused why) others is kept rest = is
 goes_linked reach m piece (Full text n e field) others is kept rest = is
 
-run_linked : (reach : ℕ) (m : Moment) (pieces : List Piece) → Linked reach m → Linked reach (moment_from reach m pieces)
-unfolding moment_from
+run_linked : (reach : ℕ) (m : Moment) (pieces : List Piece) → Linked reach m → Linked reach (text_from reach m pieces).after
+unfolding shell.text_from
 run_linked reach m [] is = is
 run_linked reach m (piece ∷ pieces) is =
-    goes_linked reach m piece (outcome_of_piece reach m piece) (λ n. moment_from reach (next m piece n) pieces) is (piece_linked reach m piece is)
-    (λ n then. run_linked reach (next m piece n) pieces then)
+    goes_linked reach m piece (outcome_of_piece reach m piece) (λ n. text_from reach n pieces) is (piece_linked reach m piece is) (λ n then. run_linked reach n pieces then)
 
 pub links_follow_places : LinksFollowPlaces
 unfolding moment_at
@@ -463,4 +463,4 @@ pub lines_are_loop_free : LinesAreLoopFree
 unfolding moment_at
 lines_are_loop_free reach v input i d =
     let is = run_linked reach (opening v) (take i (pieces_of_input input)) (opening_linked reach v) in
-    no_cycle (world_of (moment_from reach (opening v) (take i (pieces_of_input input))).run) d is.kept.invariant.loop_safe
+    no_cycle (world_of (text_from reach (opening v) (take i (pieces_of_input input))).after.run) d is.kept.invariant.loop_safe

@@ -10,7 +10,8 @@ use Rattle.mesh_model.specs.Places.{IsEvent}
 use Rattle.mesh_model.proofs.Lists.{each_append}
 use Rattle.mesh_model.proofs.Acyclic.{loop_free}
 use Rattle.mesh_grammar.specs.declared.fault.LineFault.{LineFault}
-use Rattle.mesh_grammar.specs.Lines.{Piece, Whole, Long, Beyond, pieces_of_input}
+use Rattle.mesh_shell.specs.Pieces.{Piece, Whole, Long, Beyond}
+use Rattle.mesh_shell.specs.Story as shell
 use Rattle.mesh_grammar.specs.Written.{line}
 use Rattle.mesh_grammar.proofs.Readings.{if_case}
 use Rattle.mesh_text.specs.Schedule as schedule
@@ -18,7 +19,7 @@ use Rattle.mesh_text.specs.Schedule.{AcceptedLine, Nothing, NewNode, Does, Choos
 use Rattle.mesh_text.specs.Ranges.{IsInTime}
 use Rattle.mesh_text.specs.Runs as runs
 use Rattle.mesh_text.specs.Runs.{moment_after, events_after, events_read}
-use Rattle.mesh_text.specs.Text.{LineOutcome, On, Refused, Full, outcome_of_read, RunText, FullAt, goes_on, finished_run}
+use Rattle.mesh_text.specs.Text.{pieces_of_input, LineOutcome, On, Refused, Full, outcome_of_read}
 use Rattle.mesh_text.specs.Text as text
 use Rattle.mesh_text.proofs.InRange.{Allowed, line_allowed}
 use Rattle.mesh_text.proofs.Moments.{IsKept, UsualList, all_positive, opening_kept, stepped_kept, counted_kept, IsKeptCame, piece_kept as schedule_kept}
@@ -30,7 +31,7 @@ use Rattle.mesh_grid.specs.declared.line.Placing.{Placing}
 use Rattle.mesh_grid.specs.Places.{is_within, place_of}
 use Rattle.mesh_grid.specs.Lines.{placing_of}
 use Rattle.mesh_grid.specs.Links.{change, change_with, change_at, changes_below, may_come}
-use Rattle.mesh_grid.specs.Text.{Moment, opening, has_begun, changes, change_line, outcome_of_placing, other_line, outcome_by, outcome_of_piece, next, text_from, text_of_input}
+use Rattle.mesh_grid.specs.Text.{Moment, opening, has_begun, changes, change_line, outcome_of_placing, other_line, outcome_by, outcome_of_piece, next, RunText, goes_on, text_from, text_of_input}
 use Rattle.mesh_grid.specs.Runs.{events_of_placing, events_by, events_of_piece, events_from, events_of_input, mesh_of_input, world_after}
 use Rattle.mesh_grid.specs.Laws.{WorldsAreOfEvents, RunsWithPlacesAreLoopFree, DataAreAccountedFor, EventsAreOfMesh}
 use Rattle.mesh_grid.proofs.PlaceLines.{ComesIn, comes_in}
@@ -167,47 +168,57 @@ piece_kept reach m piece is = (piece_leads reach m piece is).kept
 
 -- ---- whole runs
 
-run_follows : (reach : ℕ) (m : Moment) (pieces : List Piece) → IsKept m.run → Follows m.run (events_from reach m pieces) (text_from reach m pieces)
-unfolding events_from text_from text.text_from runs.events_from
+-- the run without its places
+abbrev run_in : RunText → text.RunText
+run_in w = record { lines = w.lines; last = w.last; verdict = w.verdict; after = w.after.run; complete = w.complete }
+
+goes_in : (m : Moment) (piece : Piece) (c : LineOutcome) (others : Moment → RunText) → text.goes_on m.run c (λ n. run_in (others (next m piece n))) ≡ run_in (goes_on m piece c others)
+goes_in m piece (On text n) others = refl
+goes_in m piece (Refused why) others = refl
+goes_in m piece (Full text n e field) others = refl
+
+run_follows : (reach : ℕ) (m : Moment) (pieces : List Piece) → IsKept m.run → Follows m.run (events_from reach m pieces) (run_in (text_from reach m pieces))
+unfolding events_from shell.text_from runs.events_from
 run_follows reach m [] is = let none = follows m.run [] is in record { mesh = λ _. refl; low = omega arith; world = none.world; all = λ _. omega arith; usual = tt }
 run_follows reach m (piece ∷ pieces) is =
     let leads = piece_leads reach m piece is in
-    goes_follows m.run (events_of_piece reach m piece) (outcome_of_piece reach m piece) (λ n. text_from reach (next m piece n) pieces) (λ n. events_from reach (next m piece n) pieces)
-    leads.goes leads.kept leads.usual (λ n kept. run_follows reach (next m piece n) pieces kept)
+    subst (Follows m.run (events_from reach m (piece ∷ pieces))) (goes_in m piece (outcome_of_piece reach m piece) (λ n. text_from reach n pieces))
+    (goes_follows m.run (events_of_piece reach m piece) (outcome_of_piece reach m piece) (λ n. run_in (text_from reach (next m piece n) pieces)) (λ n. events_from reach (next m piece n) pieces)
+    leads.goes leads.kept leads.usual (λ n kept. run_follows reach (next m piece n) pieces kept))
 
-goes_kept : (m : schedule.Moment) (c : LineOutcome) (others : schedule.Moment → RunText) → IsKeptCame c → IsKept m
-    → ((n : schedule.Moment) → IsKept n → IsKept (others n).after) → IsKept (goes_on m c others).after
+goes_kept : (m : Moment) (piece : Piece) (c : LineOutcome) (others : Moment → RunText) → IsKeptCame c → IsKept m.run
+    → ((n : Moment) → IsKept n.run → IsKept (others n).after.run) → IsKept (goes_on m piece c others).after.run
 unfolding IsKeptCame
-goes_kept m (On text n) others kept is rest = rest n kept
-goes_kept m (Refused why) others kept is rest = is
-goes_kept m (Full text n e field) others kept is rest = is
+goes_kept m piece (On text n) others kept is rest = rest (next m piece n) kept
+goes_kept m piece (Refused why) others kept is rest = is
+goes_kept m piece (Full text n e field) others kept is rest = is
 
-run_kept : (reach : ℕ) (m : Moment) (pieces : List Piece) → IsKept m.run → IsKept (text_from reach m pieces).after
-unfolding text_from
+run_kept : (reach : ℕ) (m : Moment) (pieces : List Piece) → IsKept m.run → IsKept (text_from reach m pieces).after.run
+unfolding shell.text_from
 run_kept reach m [] is = is
 run_kept reach m (piece ∷ pieces) is =
-    goes_kept m.run (outcome_of_piece reach m piece) (λ n. text_from reach (next m piece n) pieces) (piece_kept reach m piece is) is (λ n kept. run_kept reach (next m piece n) pieces kept)
+    goes_kept m piece (outcome_of_piece reach m piece) (λ n. text_from reach n pieces) (piece_kept reach m piece is) is (λ n kept. run_kept reach n pieces kept)
 
 -- ---- the laws
 
 pub worlds_are_of_events : WorldsAreOfEvents
-unfolding text_of_input events_of_input NotFull
+unfolding text_of_input shell.text_on events_of_input NotFull
 worlds_are_of_events reach v input =
     let is = run_follows reach (opening v) (pieces_of_input input) (opening_kept v) in
-    let events : ℕ = (text_of_input reach v input).after.sums.events in
+    let events : ℕ = (text_of_input reach v input).after.run.sums.events in
     let count : events - 0 ≡ events = omega arith in
     (is.world ∙ ap (λ k. world_after reach v input k) count, λ not_full. let all = is.all not_full in omega arith)
 
 pub runs_with_places_are_loop_free : RunsWithPlacesAreLoopFree
-unfolding text_of_input
+unfolding text_of_input shell.text_on
 runs_with_places_are_loop_free reach v input k d =
     loop_free v (first_numbers (mesh_of_input reach v input)) (take k (events_of_input reach v input)) d
     (all_positive (mesh_of_input reach v input) (run_kept reach (opening v) (pieces_of_input input) (opening_kept v)).mesh)
 
 pub data_are_accounted_for : DataAreAccountedFor
-unfolding text_of_input
+unfolding text_of_input shell.text_on
 data_are_accounted_for reach v input = (run_kept reach (opening v) (pieces_of_input input) (opening_kept v)).balanced
 
 pub events_are_of_mesh : EventsAreOfMesh
-unfolding text_of_input events_of_input
+unfolding text_of_input shell.text_on events_of_input
 events_are_of_mesh reach v input = (run_follows reach (opening v) (pieces_of_input input) (opening_kept v)).usual

@@ -13,7 +13,7 @@ use Rattle.mesh_grammar.specs.Words.{Mention}
 use Rattle.mesh_grammar.specs.Forms.{Arguments, NumberedAddress}
 use Rattle.mesh_grammar.specs.Scripts.{Shape}
 use Rattle.mesh_grammar.specs.Commands.{shape_of}
-use Rattle.mesh_grammar.specs.Lines.{Whole, Long, Beyond}
+use Rattle.mesh_shell.specs.Pieces.{Whole, Long, Beyond}
 use Rattle.mesh_grammar.proofs.Readings.{if_case}
 use Rattle.mesh_text.specs.Schedule as schedule
 use Rattle.mesh_text.specs.Schedule.{AcceptedLine, line_of, accepted_line, accepted_shape, result_and_then, next_moment}

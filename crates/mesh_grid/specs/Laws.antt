@@ -6,10 +6,10 @@ use Rattle.mesh_base.specs.declared.events.Variant.{Variant}
 use Rattle.mesh_model.specs.Places.{IsEvent}
 use Rattle.mesh_model.specs.Walks.{Cycle}
 use Rattle.mesh_model.specs.Worlds.{are_linked}
-use Rattle.mesh_grammar.specs.Lines.{Whole}
+use Rattle.mesh_shell.specs.Pieces.{Whole}
+use Rattle.mesh_text.specs.declared.verdict.Verdict.TheVariants.{FullAt}
 use Rattle.mesh_text.specs.Schedule.{AcceptedLine, world_of}
 use Rattle.mesh_text.specs.Text as text
-use Rattle.mesh_text.specs.Text.{FullAt}
 use Rattle.mesh_text.specs.Accounts.{IsBalanced}
 use Rattle.mesh_grid.specs.declared.line.Placing.{Placing}
 use Rattle.mesh_grid.specs.Lines.{placing_of, place_words}
@@ -29,9 +29,9 @@ LinksFollowPlaces = (reach : ℕ) (variant : Variant) (input : List ℕ) (i a b 
 abbrev pub WorldsAreOfEvents : Type 0
 WorldsAreOfEvents = (reach : ℕ) (variant : Variant) (input : List ℕ) →
     let w = text_of_input reach variant input in
-    (world_of w.after ≡ world_after reach variant input w.after.sums.events)
+    (world_of w.after.run ≡ world_after reach variant input w.after.run.sums.events)
     × (((number : ℕ) → w.verdict ≢ FullAt number)
-    → w.after.sums.events ≡ length (events_of_input reach variant input))
+    → w.after.run.sums.events ≡ length (events_of_input reach variant input))
 
 -- after any number of an input's events no destination's valid routes have a loop
 abbrev pub RunsWithPlacesAreLoopFree : Type 0
@@ -47,7 +47,7 @@ LinesAreLoopFree = (reach : ℕ) (variant : Variant) (input : List ℕ) (i d : �
 -- or a queue, is in flight, or was dropped
 abbrev pub DataAreAccountedFor : Type 0
 DataAreAccountedFor = (reach : ℕ) (variant : Variant) (input : List ℕ)
-    → IsBalanced (text_of_input reach variant input).after
+    → IsBalanced (text_of_input reach variant input).after.run
 
 -- each event of an input is one of its mesh
 abbrev pub EventsAreOfMesh : Type 0

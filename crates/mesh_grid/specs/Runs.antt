@@ -5,14 +5,13 @@ use Rattle.mesh_base.specs.Meshes.{Nodes}
 use Rattle.mesh_base.specs.declared.events.Variant.{Variant}
 use Rattle.mesh_model.specs.Worlds.{World, Event, run, start, first_numbers}
 use Rattle.mesh_grammar.specs.declared.fault.LineFault.{LineFault}
-use Rattle.mesh_grammar.specs.Lines.{Piece, Whole, pieces_of_input}
-use Rattle.mesh_text.specs.Schedule as schedule
-use Rattle.mesh_text.specs.Text.{LineOutcome, On, Refused, Full}
+use Rattle.mesh_shell.specs.Pieces.{Piece, Whole}
+use Rattle.mesh_text.specs.Text.{pieces_of_input}
 use Rattle.mesh_text.specs.Runs as runs
 use Rattle.mesh_grid.specs.declared.line.Placing.{Placing}
 use Rattle.mesh_grid.specs.Lines.{placing_of}
 use Rattle.mesh_grid.specs.Links.{may_come}
-use Rattle.mesh_grid.specs.Text.{Moment, opening, changes, other_line, outcome_of_piece, next, text_of_input}
+use Rattle.mesh_grid.specs.Text.{Moment, opening, changes, other_line, outcome_of_piece, next, text_from, text_of_input}
 
 -- ---- the events of an input
 
@@ -42,27 +41,17 @@ events_of_input reach variant input = events_from reach (opening variant) (piece
 
 -- ---- the moments
 
-abbrev pub moment_by : Moment → LineOutcome → (schedule.Moment → Moment) → Moment
-moment_by m (On text n) others = others n
-moment_by m (Refused why) others = m
-moment_by m (Full text n e field) others = m
-
--- the moment after the lines, up to the first that isn't allowed or is refused for a full counter
-unfoldable pub moment_from : ℕ → Moment → List Piece → Moment
-moment_from reach m [] = m
-moment_from reach m (piece ∷ pieces) =
-    moment_by m (outcome_of_piece reach m piece) (λ n. moment_from reach (next m piece n) pieces)
-
--- after the first i lines of an input
+-- the moment after the first i lines of an input, up to the first that isn't allowed or is refused
+-- for a full counter
 unfoldable pub moment_at : ℕ → Variant → List ℕ → ℕ → Moment
 moment_at reach variant input i =
-    moment_from reach (opening variant) (take i (pieces_of_input input))
+    (text_from reach (opening variant) (take i (pieces_of_input input))).after
 
 -- ---- the worlds
 
 -- the nodes of an input
 abbrev pub mesh_of_input : ℕ → Variant → List ℕ → Nodes
-mesh_of_input reach variant input = (text_of_input reach variant input).after.mesh
+mesh_of_input reach variant input = (text_of_input reach variant input).after.run.mesh
 
 -- the world after the first k events of an input
 abbrev pub world_after : ℕ → Variant → List ℕ → ℕ → World

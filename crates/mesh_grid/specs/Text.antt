@@ -1,15 +1,19 @@
 -- The text of a run with places, and its verdict, from the bytes of its input.
-use Rattle.std.specs.Prelude.{ℕ, ◌||◌, Bool, is_some, List, [], ◌∷◌, ◌++◌, length, if◌then◌else◌, Option, Some, None, Result, Ok, Err, codes}
+use Rattle.std.specs.Prelude.{ℕ, ◌||◌, Bool, is_some, List, [], ◌++◌, length, if◌then◌else◌, Option, Some, None, Result, Ok, Err, codes}
 use Rattle.std.specs.List.{flat_map}
 use Rattle.mesh_base.specs.Meshes.{Nodes}
 use Rattle.mesh_base.specs.declared.events.Variant.{Variant}
 use Rattle.mesh_model.specs.Worlds.{Event, range}
 use Rattle.mesh_grammar.specs.declared.fault.LineFault.{LineFault}
 use Rattle.mesh_grammar.specs.declared.fault.BadWhy.TheVariants.{Fault}
-use Rattle.mesh_grammar.specs.Lines.{Piece, Whole, pieces_of_input}
+use Rattle.mesh_io.specs.NextLines.{schedule_limits}
+use Rattle.mesh_shell.specs.Pieces.{Piece, Whole}
+use Rattle.mesh_shell.specs.Story as shell
 use Rattle.mesh_grammar.specs.Written.{line}
+use Rattle.mesh_text.specs.declared.verdict.Verdict.{Verdict}
+use Rattle.mesh_text.specs.declared.verdict.Verdict.TheVariants.{Finished}
 use Rattle.mesh_text.specs.Schedule as schedule
-use Rattle.mesh_text.specs.Lines.{event_words}
+use Rattle.mesh_text.specs.Lines.{event_words, done_line}
 use Rattle.mesh_text.specs.Runs.{moment_after}
 use Rattle.mesh_text.specs.Text as text
 use Rattle.mesh_grid.specs.declared.place.Places.{Places}
@@ -82,17 +86,45 @@ next m piece n = record { run = n; places = places_after m piece }
 
 -- ---- all lines
 
+-- what a run with places writes: its lines and its last line; what it came to; and the moment after
+-- its last allowed line
+abbrev pub RunText : Type 0
+RunText = shell.RunText Moment Verdict
+
+-- at the end of the input
+abbrev pub ending : Moment → shell.Ending Moment Verdict
+ending m = record { text = done_line m.run; verdict = Finished; after = m }
+
+-- the same text or end, where the next moment is made of the one of the run
+abbrev pub outcome_with : (schedule.Moment → Moment) → shell.Outcome schedule.Moment Verdict
+    → shell.Outcome Moment Verdict
+outcome_with next_of (shell.On text n) = shell.On text (next_of n)
+outcome_with next_of (shell.Ended text last v) = shell.Ended text last v
+
+-- how a line that comes to this goes on, or ends the run: as in a schedule
+abbrev pub outcome_in_run : Moment → Piece → text.LineOutcome → shell.Outcome Moment Verdict
+outcome_in_run m piece k = outcome_with (next m piece) (text.outcome_in_run m.run k)
+
+-- what a line came to, and then the rest of the run from the next moment on
+abbrev pub goes_on : Moment → Piece → text.LineOutcome → (Moment → RunText) → RunText
+goes_on m piece k others = shell.goes_on m (outcome_in_run m piece k) others
+
+-- a run with places: nothing stands before the text of its first line
+abbrev pub placed_run : ℕ → shell.Story Moment Verdict
+placed_run reach = record {
+  head = λ m. [];
+  outcome = λ m piece. outcome_in_run m piece (outcome_of_piece reach m piece);
+  ending = ending;
+}
+
 -- the run of these lines from a moment on
-unfoldable pub text_from : ℕ → Moment → List Piece → text.RunText
-text_from reach m [] = text.finished_run m.run
-text_from reach m (piece ∷ pieces) =
-    text.goes_on m.run (outcome_of_piece reach m piece)
-    (λ n. text_from reach (next m piece n) pieces)
+abbrev pub text_from : ℕ → Moment → List Piece → RunText
+text_from reach m pieces = shell.text_from (placed_run reach) m pieces
 
 -- what a run with places writes for an input from a moment on, and what it comes to
-abbrev pub text_on : ℕ → Moment → List ℕ → text.RunText
-text_on reach m input = text_from reach m (pieces_of_input input)
+abbrev pub text_on : ℕ → Moment → List ℕ → RunText
+text_on reach m input = shell.text_on (placed_run reach) schedule_limits m input
 
 -- the same from the opening on
-unfoldable pub text_of_input : ℕ → Variant → List ℕ → text.RunText
+unfoldable pub text_of_input : ℕ → Variant → List ℕ → RunText
 text_of_input reach variant input = text_on reach (opening variant) input

@@ -1,13 +1,12 @@
 -- A made schedule is short, and its run ends at no refused line.
 use Rattle.std.proofs.Common.{◌≡◌, ℕ, zero, suc, ◌+◌, ◌-◌, ◌*◌, ◌<◌, ◌≤◌, false, List, [], ◌∷◌, ◌++◌, length, None, Ok, refl, sym, ap, subst, ◌∙◌, arith, length-append, is_some}
 use Rattle.std.specs.List.{AllByRecursion}
-use Rattle.std.proofs.lemmas.Bool.{le-ltb}
-use Rattle.std.proofs.lemmas.List.{take_all}
 use Rattle.rand_pcg.specs.Lcg.{Lcg}
 use Rattle.mesh_base.specs.declared.events.Variant.{Variant}
 use Rattle.mesh_base.specs.declared.limits.TheConstants.{LONGEST_INPUT}
 use Rattle.mesh_base.specs.Meshes.{Nodes, IsMesh, with_node}
-use Rattle.mesh_grammar.specs.Lines.{pieces_of}
+use Rattle.mesh_shell.specs.Pieces.{pieces_of}
+use Rattle.mesh_shell.specs.Story as shell
 use Rattle.mesh_grammar.specs.Written.{line}
 use Rattle.mesh_text.specs.Schedule.{Moment, AcceptedLine, opening, line_of}
 use Rattle.mesh_text.specs.Lines.{words_of}
@@ -20,6 +19,7 @@ use Rattle.mesh_make.proofs.Texts.{IsShort, number_short, name_short, written_sh
 use Rattle.mesh_make.proofs.Grown.{IsMeshOf, is_new, next_mesh, mesh_of-is}
 use Rattle.mesh_make.proofs.Fits.{IsFit, fit_chain, fit_last, fit_step}
 use Rattle.mesh_text.proofs.Printed.{printed_line_parses}
+use Rattle.mesh_text.proofs.Seams.{short_pieces}
 use Rattle.mesh_make.proofs.Safe.{IsSafe, Fine, Has, run_of, line_fine, line_safe}
 
 -- ---- all lines after the nodes
@@ -90,7 +90,7 @@ made_short seed nodes steps two few one most =
 -- ---- its run
 
 lines_go : (mesh : Nodes) (lines : List AcceptedLine) (m : Moment) → IsMesh mesh → AllByRecursion (IsFit mesh) lines → Has mesh m → IsSafe (run_of m (text_in mesh lines))
-unfolding pieces_of text_from
+unfolding pieces_of shell.text_from
 lines_go mesh [] m is fit has = record { never = λ n e. let Q : ⊥ = cc in Q }
 lines_go mesh (a ∷ rest) m is fit has =
     let early = is_some m.world in
@@ -129,8 +129,8 @@ nodes_go nodes k (suc count) m others few all is rest =
 
 -- an input that is not too long is run whole
 pub whole_input : (m : Moment) (input : List ℕ) → length input ≤ LONGEST_INPUT → text_on m input ≡ run_of m input
-unfolding text_on
-whole_input m input le = rw (le-ltb LONGEST_INPUT (length input) le, take_all LONGEST_INPUT input le) refl
+unfolding shell.text_on
+whole_input m input le = ap (text_from m) (short_pieces input le)
 
 made_safe : (variant : Variant) (seed nodes steps : ℕ) → 2 ≤ nodes → nodes ≤ 200 → steps ≤ 100000 → IsSafe (run_of (opening variant) (made_schedule seed nodes steps))
 unfolding made_schedule lines_of mesh_of

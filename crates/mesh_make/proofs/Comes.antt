@@ -3,7 +3,7 @@ use Rattle.std.proofs.Common.{◌≡◌, ℕ, ◌+◌, ◌<◌, ◌≤◌, Bool,
 use Rattle.rand_pcg.specs.Lcg.{Lcg}
 use Rattle.mesh_base.specs.Meshes.{Nodes, IsMesh}
 use Rattle.mesh_base.specs.declared.limits.TheConstants.{LONGEST_INPUT}
-use Rattle.mesh_grammar.specs.Lines.{Whole}
+use Rattle.mesh_shell.specs.Pieces.{Whole}
 use Rattle.mesh_grammar.specs.Written.{line}
 use Rattle.mesh_text.specs.Schedule.{Moment, AcceptedLine, Nothing, NewNode, Does, Chooses, ShowsNode, ShowsRoute, ShowsFlight, line_of}
 use Rattle.mesh_text.specs.Lines.{words_of}

@@ -1,23 +1,26 @@
 -- Runs that end at no line that is refused.
 use Rattle.std.proofs.Common.{◌≡◌, ◌≢◌, ℕ, ◌≤◌, Bool, true, false, eqb, List, [], ◌∷◌, ◌++◌, Ok, length, refl, sym, ap, subst, ◌∙◌, arith, append_assoc, is_some}
-use Rattle.std.proofs.lemmas.Bool.{le-leb}
 use Rattle.std.proofs.lemmas.List.Splits.{length-slice_split}
 use Rattle.mesh_base.specs.Parts.{parts}
 use Rattle.mesh_base.specs.Meshes.{Nodes}
 use Rattle.mesh_base.proofs.Spelling.{parts_at}
-use Rattle.mesh_grammar.specs.Lines.{Piece, Whole, piece_of, pieces_of}
+use Rattle.mesh_io.specs.NextLines.{schedule_limits}
+use Rattle.mesh_shell.specs.Pieces.{Piece, Whole, piece_of, pieces_of}
+use Rattle.mesh_shell.specs.Story as shell
+use Rattle.mesh_shell.proofs.Pieces.{piece_short}
 use Rattle.mesh_grammar.specs.Written.{line}
 use Rattle.mesh_model.specs.Worlds as worlds
 use Rattle.mesh_model.specs.Worlds.{Event, Outcome, Idle, Next}
+use Rattle.mesh_text.specs.declared.verdict.Verdict.TheVariants.{RefusedAt}
 use Rattle.mesh_text.specs.Schedule.{Moment, AcceptedLine, Nothing, NewNode, Does, Chooses, ShowsNode, ShowsRoute, ShowsFlight, line_of, with_world, outcome_at, next_moment}
 use Rattle.mesh_text.specs.Ranges.{IsInTime}
 use Rattle.mesh_text.specs.Auto as auto
-use Rattle.mesh_text.specs.Text.{LineOutcome, On, Refused, Full, outcome_by_events, outcome_of_auto, outcome_of_line, outcome_of_read, outcome_of_piece, RunText, RefusedAt, goes_on, text_from}
+use Rattle.mesh_text.specs.Text.{LineOutcome, On, Refused, Full, outcome_by_events, outcome_of_auto, outcome_of_line, outcome_of_read, outcome_of_piece, RunText, goes_on, text_from}
 use Rattle.mesh_make.proofs.Texts.{IsShort, short_lacks}
 
 -- the run of a text from a moment on
 abbrev pub run_of : Moment → List ℕ → RunText
-run_of m text = text_from m (pieces_of false (parts 10 text))
+run_of m text = text_from m (pieces_of schedule_limits false (parts 10 text))
 
 -- no line was refused
 pub record IsSafe (w : RunText) : Type 0 where
@@ -85,23 +88,24 @@ module _ (mesh : Nodes) where
 
 -- ---- one line and the rest of a text
 
-more_pieces : (words : List ℕ) (ps : List (List ℕ)) → 1 ≤ length ps → pieces_of false (words ∷ ps) ≡ piece_of words ∷ pieces_of false ps
+more_pieces : (words : List ℕ) (ps : List (List ℕ)) → 1 ≤ length ps → pieces_of schedule_limits false (words ∷ ps) ≡ piece_of schedule_limits words ∷ pieces_of schedule_limits false ps
 unfolding pieces_of
 more_pieces words [] some = absurd (omega arith)
 more_pieces words (p ∷ ps) some = refl
 
 first_piece : (m : Moment) (piece : Piece) (pieces : List Piece) → text_from m (piece ∷ pieces) ≡ goes_on m (outcome_of_piece m piece) (λ n. text_from n pieces)
-unfolding text_from
+unfolding shell.text_from
 first_piece m piece pieces = refl
 
 pub after_line : (m : Moment) (words rest : List ℕ) → IsShort 38 words → run_of m (line words ++ rest) ≡ goes_on m (outcome_of_piece m (Whole words)) (λ n. run_of n rest)
 after_line m words rest short =
     let cut : parts 10 (line words ++ rest) ≡ words ∷ parts 10 rest = ap (parts 10) (append_assoc words (10 ∷ []) rest) ∙ parts_at 10 words rest (short_lacks 38 words short) in
-    let whole : piece_of words ≡ Whole words = rw (le-leb (length words) 600 (omega (arith, short.within))) refl in
-    ap (λ ps. text_from m (pieces_of false ps)) cut
+    let few : length words ≤ 600 = omega (arith, short.within) in
+    let whole : piece_of schedule_limits words ≡ Whole words = piece_short schedule_limits words few in
+    ap (λ ps. text_from m (pieces_of schedule_limits false ps)) cut
     ∙ ap (text_from m) (more_pieces words (parts 10 rest) (omega (arith, length-slice_split (λ b. eqb b 10) rest)))
-    ∙ ap (λ piece. text_from m (piece ∷ pieces_of false (parts 10 rest))) whole
-    ∙ first_piece m (Whole words) (pieces_of false (parts 10 rest))
+    ∙ ap (λ piece. text_from m (piece ∷ pieces_of schedule_limits false (parts 10 rest))) whole
+    ∙ first_piece m (Whole words) (pieces_of schedule_limits false (parts 10 rest))
 
 goes_safe : (P : Moment → Type 0) (m : Moment) (c : LineOutcome) (others : Moment → RunText) → Fine P c → ((n : Moment) → P n → IsSafe (others n)) → IsSafe (goes_on m c others)
 unfolding Fine

@@ -2,7 +2,8 @@
 use Rattle.std.specs.Prelude.{ℕ, ◌≤◌, ◌<◌, ◌≢◌, length}
 use Rattle.mesh_base.specs.declared.events.Variant.{Variant}
 use Rattle.mesh_base.specs.declared.limits.TheConstants.{MOST_NODES}
-use Rattle.mesh_text.specs.Text.{RefusedAt, text_of_input}
+use Rattle.mesh_text.specs.declared.verdict.Verdict.TheVariants.{RefusedAt}
+use Rattle.mesh_text.specs.Text.{text_of_input}
 use Rattle.mesh_make.specs.declared.sizes.TheConstants.{MOST_STEPS}
 use Rattle.mesh_make.specs.Made.{made_schedule}
 

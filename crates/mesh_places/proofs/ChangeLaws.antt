@@ -14,7 +14,7 @@ use Rattle.mesh_io.specs.Puts.{AppendsPrefix}
 use Rattle.mesh_io.proofs.Writing.{Appends-join, AppendsPrefix-join, AppendsPrefix-more}
 use Rattle.mesh_grammar.proofs.Readings.{if_case}
 use Rattle.mesh_text.specs.Schedule as schedule
-use Rattle.mesh_text.specs.Schedule.{next_moment, world_of}
+use Rattle.mesh_text.specs.Schedule.{next_moment, with_world, world_of}
 use Rattle.mesh_text.specs.Runs.{moment_after}
 use Rattle.mesh_text.proofs.Moments.{not_made}
 use Rattle.mesh_grid.specs.declared.place.Place.{Place}
@@ -24,6 +24,7 @@ use Rattle.mesh_grid.specs.Places.{is_within, place_of}
 use Rattle.mesh_grid.specs.Links.{change, change_with, change_at, changes_below}
 use Rattle.mesh_grid.specs.Text.{Moment, change_line, changes}
 use Rattle.mesh_grid.proofs.PlaceSteps.{few_changes, first_changes, after-more, after-none, after-one, steps_after}
+use Rattle.mesh_places.specs.declared.placed.Placed.{Placed}
 use Rattle.mesh_places.specs.Moments.{IsChange, change_lines}
 
 -- ---- a change fills no counter
@@ -41,6 +42,11 @@ unfolding step
 fills_nothing size w (Link a b) x f is full = link_fills w a b x f (are_linked w.links a b) full
 fills_nothing size w (Cut a b) x f is full = cut_fills w a b x f (are_linked w.links a b) full
 fills_nothing size w others x f is full = absurd is
+
+pub is_event : (size : ℕ) (e : Event) → IsChange size e → IsEvent size e
+is_event size (Link a b) is = is
+is_event size (Cut a b) is = is
+is_event size others is = absurd is
 
 -- ---- what follows is a change
 
@@ -90,15 +96,24 @@ unfolding moment_after next_moment
 mesh_after m [] = refl
 mesh_after m (e ∷ es) = mesh_after (next_moment m e) es
 
-pub still : (m n : schedule.Moment) (mesh : Nodes) (e : Event) → n ≡ next_moment m e → mesh ≡ n.mesh → mesh ≡ m.mesh
+-- a change makes the opening world where there is none
+pub begun_next : (m n : schedule.Moment) (e : Event) → n ≡ with_world m → next_moment n e ≡ next_moment m e
 unfolding next_moment
-still m n mesh e is shown = shown ∙ ap (λ k. k.mesh) is
+begun_next m n e is = ap (λ k. next_moment k e) is
+
+pub still : (m n : schedule.Moment) (e : Event) → n ≡ next_moment m e → n.mesh ≡ m.mesh
+unfolding next_moment
+still m n e is = ap (λ k. k.mesh) is
 
 pub no_change : (m : schedule.Moment) (es : List Event) → [] ≡ es → m ≡ moment_after m es
 no_change m es none = sym (after-none m) ∙ ap (moment_after m) none
 
 pub after_change : (m n : schedule.Moment) (e : Event) (es : List Event) → n ≡ next_moment m e → e ∷ [] ≡ es → n ≡ moment_after m es
 after_change m n e es is one = is ∙ sym (after-one m e) ∙ ap (moment_after m) one
+
+-- of the run with places the moment alone has changed, and then again
+pub only_so : (p q r : Placed) → q ≡ record p { point = q.point } → r ≡ record q { point = r.point } → r ≡ record p { point = r.point }
+only_so p q r before then = then ∙ ap (λ (k : Placed). record k { point = r.point }) before
 
 -- ---- the nodes in range
 
@@ -139,11 +154,11 @@ module _ (reach : ℕ) (places : Places) (near : NodeIds) (new : Placing) where
   lines_more mesh n = ap (change_lines mesh) (one_more n) ∙ flat_map-append (change_line mesh) (changes_below reach places near new n) (change_at reach places near new n)
 
   -- the moment after the change with one node more
-  pub moment_more : (m at then : schedule.Moment) (here : Places) (n : ℕ) → here ≡ places → at ≡ moment_after m (changes_below reach places near new n) → then ≡ moment_after at (change_at reach here near new n)
+  pub moment_more : (m at then : schedule.Moment) (es : List Event) (n : ℕ) → es ≡ change_at reach places near new n → at ≡ moment_after m (changes_below reach places near new n) → then ≡ moment_after at es
       → then ≡ moment_after m (changes_below reach places near new (n + 1))
-  moment_more m at then here n same is next =
-      next ∙ ap (λ p. moment_after at (change_at reach p near new n)) same ∙ ap (λ k. moment_after k (change_at reach places near new n)) is
-      ∙ sym (after-more m (changes_below reach places near new n) (change_at reach places near new n)) ∙ ap (moment_after m) (sym (one_more n))
+  moment_more m at then es n same is next =
+      next ∙ ap (moment_after at) same ∙ ap (λ k. moment_after k (change_at reach places near new n)) is ∙ sym (after-more m (changes_below reach places near new n) (change_at reach places near new n))
+      ∙ ap (moment_after m) (sym (one_more n))
 
   -- the mesh is the same, and the steps are few
   pub same_mesh : (m at : schedule.Moment) (n : ℕ) → at ≡ moment_after m (changes_below reach places near new n) → at.mesh ≡ m.mesh
@@ -156,19 +171,19 @@ module _ (reach : ℕ) (places : Places) (near : NodeIds) (new : Placing) where
       omega arith
 
   -- the text of the change with one node more
-  pub text_more : (mesh shown : Nodes) (here : Places) (n : ℕ) (a b c : Option (List ℕ)) → shown ≡ mesh → here ≡ places → Appends a b (change_lines mesh (changes_below reach places near new n))
-      → Appends b c (change_lines shown (change_at reach here near new n)) → Appends a c (change_lines mesh (changes_below reach places near new (n + 1)))
-  text_more mesh shown here n a b c same there p q =
+  pub text_more : (mesh shown : Nodes) (es : List Event) (n : ℕ) (a b c : Option (List ℕ)) → shown ≡ mesh → es ≡ change_at reach places near new n → Appends a b (change_lines mesh (changes_below reach places near new n))
+      → Appends b c (change_lines shown es) → Appends a c (change_lines mesh (changes_below reach places near new (n + 1)))
+  text_more mesh shown es n a b c same there p q =
       let r : Appends b c (change_lines mesh (change_at reach places near new n)) =
-      subst (λ k. Appends b c (change_lines k (change_at reach places near new n))) same (subst (λ k. Appends b c (change_lines shown (change_at reach k near new n))) there q) in
+      subst (λ k. Appends b c (change_lines k (change_at reach places near new n))) same (subst (λ k. Appends b c (change_lines shown k)) there q) in
       Appends-join a b c _ _ _ (lines_more mesh n) p r
 
   -- a prefix of it is one of all
-  pub text_cut : (mesh shown : Nodes) (here : Places) (n size : ℕ) (a b c : Option (List ℕ)) → shown ≡ mesh → here ≡ places → n < size → Appends a b (change_lines mesh (changes_below reach places near new n))
-      → AppendsPrefix b c (change_lines shown (change_at reach here near new n)) → AppendsPrefix a c (change_lines mesh (changes_below reach places near new size))
-  text_cut mesh shown here n size a b c same there lt p q =
+  pub text_cut : (mesh shown : Nodes) (es : List Event) (n size : ℕ) (a b c : Option (List ℕ)) → shown ≡ mesh → es ≡ change_at reach places near new n → n < size → Appends a b (change_lines mesh (changes_below reach places near new n))
+      → AppendsPrefix b c (change_lines shown es) → AppendsPrefix a c (change_lines mesh (changes_below reach places near new size))
+  text_cut mesh shown es n size a b c same there lt p q =
       let r : AppendsPrefix b c (change_lines mesh (change_at reach places near new n)) =
-      subst (λ k. AppendsPrefix b c (change_lines k (change_at reach places near new n))) same (subst (λ k. AppendsPrefix b c (change_lines shown (change_at reach k near new n))) there q) in
+      subst (λ k. AppendsPrefix b c (change_lines k (change_at reach places near new n))) same (subst (λ k. AppendsPrefix b c (change_lines shown k)) there q) in
       let joined : AppendsPrefix a c (change_lines mesh (changes_below reach places near new (n + 1))) = AppendsPrefix-join a b c _ _ _ (lines_more mesh n) p r in
       let others = first_changes reach places near new size (n + 1) (omega arith) in
       AppendsPrefix-more a c (change_lines mesh (changes_below reach places near new (n + 1))) (change_lines mesh others.0) _

@@ -8,7 +8,7 @@ use Rattle.mesh_io.proofs.Writing.{Appends-join, AppendsPrefix-join, AppendsPref
 use Rattle.mesh_model.specs.Worlds.{range}
 use Rattle.mesh_grammar.specs.declared.fault.LineFault.{LineFault}
 use Rattle.mesh_grammar.specs.declared.fault.BadWhy.TheVariants.{Fault}
-use Rattle.mesh_grammar.specs.Lines.{Whole}
+use Rattle.mesh_shell.specs.Pieces.{Whole}
 use Rattle.mesh_grammar.specs.Written.{line}
 use Rattle.mesh_text.specs.Schedule as schedule
 use Rattle.mesh_text.specs.Schedule.{AcceptedLine, with_line_read, line_of, world_of}
@@ -102,8 +102,11 @@ steps_grow reach m bytes new n few said is =
     let some = some_bytes m.run.mesh bytes new said in
     omega arith
 
+pub lines_same : (reach : ℕ) (m : Moment) (new : Placing) (n : schedule.Moment) → n ≡ after_coming reach m new → n.lines ≡ m.run.lines
+lines_same reach m new n is = ap (λ k. k.lines) is ∙ lines_after m.run (events_of_placing reach m new)
+
 pub lines_grow : (reach : ℕ) (m : Moment) (new : Placing) (n : schedule.Moment) → n ≡ with_line_read (after_coming reach m new) → n.lines ≡ m.run.lines + 1
-lines_grow reach m new n is = ap (λ k. k.lines) is ∙ ap (λ k. k + 1) (lines_after m.run (events_of_placing reach m new))
+lines_grow reach m new n is = ap (λ k. k.lines) is ∙ ap (λ k. k + 1) (lines_same reach m new (after_coming reach m new) refl)
 
 -- ---- another line
 

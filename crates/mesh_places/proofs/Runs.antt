@@ -1,26 +1,41 @@
 -- What the run of any schedule with places comes to.
-use Rattle.std.proofs.Common.{◌≡◌, ◌∙◌, ◌⊎◌, ℕ, List, Option, Some, None, IfSome, refl, sym, subst, inl, inr}
+use Rattle.std.proofs.Common.{◌≡◌, ◌∙◌, ◌⊎◌, ℕ, List, Option, Some, None, IfSome, Result, refl, sym, subst, inl, inr}
 use Rattle.mesh_base.specs.declared.events.Variant.TheVariants.{Base}
 use Rattle.mesh_io.specs.Cause.{Rose}
-use Rattle.mesh_text.specs.Text.{Finished}
+use Rattle.mesh_io.specs.NextLines.{schedule_limits}
+use Rattle.mesh_io.specs.declared.limits.Limits.{Limits}
+use Rattle.mesh_shell.specs.Outputs as outputs
+use Rattle.mesh_shell.specs.declared.fault.Fault.{Fault}
+use Rattle.mesh_text.specs.declared.verdict.Verdict.{Verdict}
+use Rattle.mesh_text.specs.declared.verdict.Verdict.TheVariants.{Finished}
+use Rattle.mesh_run.specs.Codes.{status_of}
 use Rattle.mesh_run.specs.declared.status.Status.{Status}
 use Rattle.mesh_run.specs.declared.status.Status.TheVariants as status
 use Rattle.mesh_grid.specs.Text.{Moment, opening, text_of_input}
 use Rattle.mesh_grid.proofs.PlaceRuns.{worlds_are_of_events, runs_with_places_are_loop_free}
 use Rattle.mesh_grid.proofs.LinkLaws.{links_follow_places}
+use Rattle.mesh_places.specs.declared.placed.Placed.{Placed}
+use Rattle.mesh_places.specs.Moments.{moment_of}
 use Rattle.mesh_places.specs.Outputs.{IsOutputFrom, IsPlacedRun, IsRun}
+use Rattle.mesh_places.specs.Running.{running}
+use Rattle.mesh_places.proofs.Telling.{input_told}
 
-placed_run : (reach : ℕ) (schedule : List ℕ) → IsPlacedRun reach schedule
-placed_run reach schedule = record {
+is_placed : (reach : ℕ) (schedule : List ℕ) → IsPlacedRun reach schedule
+is_placed reach schedule = record {
   worlds = (worlds_are_of_events reach Base schedule).0;
   loop_free = λ k d. runs_with_places_are_loop_free reach Base schedule k d;
   links = λ i a b. links_follow_places reach Base schedule i a b;
 }
 
--- what was told, and that it is of such a run
-pub runs_so : (reach : ℕ) (start : Moment) (left after a b : Option (List ℕ)) (s : Status) → start ≡ opening Base → IfSome left (λ bytes. IsOutputFrom reach start bytes after a b s) → IfSome left (λ bytes. IsRun reach bytes after a b s)
-runs_so reach start None after a b s is t = tt
-runs_so reach start (Some bytes) after a b s is t = (subst (λ m. IsOutputFrom reach m bytes after a b s) is t, placed_run reach bytes)
+-- what the script's answer tells, and that it is of such a run
+pub runs_so : (reach : ℕ) (p : Placed) (most : Limits) (given left before now : Option (List ℕ)) (answer : Result Verdict Fault) (s : Status) → p.reach ≡ reach → moment_of p ≡ opening Base → most ≡ schedule_limits → s ≡ status_of answer
+    → IfSome given (λ bytes. outputs.IsOutputFrom running most p bytes left before now answer) → IfSome given (λ bytes. IsRun reach bytes left before now s)
+runs_so reach p most None left before now answer s far opens limits is told = tt
+runs_so reach p most (Some bytes) left before now answer s far opens limits is told =
+    let within = subst (λ (l : Limits). outputs.IsOutputFrom running l p bytes left before now answer) limits told in
+    let here = subst (λ (k : ℕ). IsOutputFrom k (moment_of p) bytes left before now (status_of answer)) far (input_told p bytes left before now answer within) in
+    let opened = subst (λ (m : Moment). IsOutputFrom reach m bytes left before now (status_of answer)) opens here in
+    (subst (λ (k : Status). IsOutputFrom reach (opening Base) bytes left before now k) (sym is) opened, is_placed reach bytes)
 
 -- ---- completeness
 

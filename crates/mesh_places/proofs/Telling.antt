@@ -1,70 +1,100 @@
--- What is told of a run with places, one line after another.
-use Rattle.std.proofs.Common.{◌≡◌, ℕ, List, [], ◌∷◌, Option, refl, sym, ap, subst, ◌∙◌, false}
-use Rattle.std.specs.Io.KnownBytes.{Keeps}
-use Rattle.mesh_base.specs.declared.events.Counter.{Counter as Field}
+-- What a run with places tells, as a script: of a line, and of its input.
+use Rattle.std.proofs.Common.{◌≡◌, ℕ, ◌+◌, ◌*◌, ◌≤◌, List, Option, Result, Ok, Err, OnOk, IsErr, length, refl, sym, ap, subst, ◌∙◌, arith}
+use Rattle.std.specs.Io.KnownBytes.{Appends}
+use Rattle.mesh_base.specs.declared.limits.TheConstants.{MOST_EVENTS}
+use Rattle.mesh_grammar.specs.Faults.{bad_line}
+use Rattle.mesh_io.specs.NextLines.{schedule_limits}
 use Rattle.mesh_io.specs.Puts.{AppendsPrefix}
-use Rattle.mesh_model.specs.Worlds.{Event}
-use Rattle.mesh_grammar.specs.declared.fault.LineFault.{LineFault}
-use Rattle.mesh_grammar.specs.declared.fault.BadWhy.TheVariants.{Fault, TooLong, TooMuch}
-use Rattle.mesh_grammar.specs.Lines.{Piece, Long, Beyond}
+use Rattle.mesh_shell.specs.Outputs as outputs
+use Rattle.mesh_shell.specs.Pieces.{Piece, Whole}
+use Rattle.mesh_shell.specs.Story as shell
+use Rattle.mesh_shell.specs.Scripts.{GoesOn, size_of_line, piece_past}
+use Rattle.mesh_shell.specs.declared.fault.Fault.{Fault}
+use Rattle.mesh_shell.specs.declared.limit.Limit.{Limit}
+use Rattle.mesh_shell.specs.declared.limit.Limit.TheVariants.{Line, Input}
 use Rattle.mesh_text.specs.Schedule as schedule
 use Rattle.mesh_text.specs.Text as texts
-use Rattle.mesh_text.specs.Text.{RunText, LineOutcome, text_in, On, Refused, goes_on, lines_before, whole, finished_run, refused_run, overfull_run}
-use Rattle.mesh_run.specs.declared.say.Say.TheVariants.{All}
-use Rattle.mesh_run.specs.declared.status.Status.{Status}
-use Rattle.mesh_run.specs.Outputs.{IsOutput}
-use Rattle.mesh_run.specs.Runs.{IsLineFull}
-use Rattle.mesh_run.proofs.Telling.{front_of_came, refused_told, bad_told, full_told}
-use Rattle.mesh_grid.specs.Text.{Moment, outcome_of_piece, places_after, next, text_from}
+use Rattle.mesh_text.specs.Text.{Refused}
+use Rattle.mesh_text.specs.declared.verdict.Verdict.{Verdict}
+use Rattle.mesh_text.specs.declared.verdict.Verdict.TheVariants.{RefusedAt}
+use Rattle.mesh_run.specs.Codes.{status_of}
+use Rattle.mesh_run.specs.Ends.{IsSettled, why_past}
+use Rattle.mesh_run.specs.Running.{outcome_as}
+use Rattle.mesh_run.specs.declared.stop.Stop.{Stop}
+use Rattle.mesh_run.proofs.Loud.{IsSeenAs, loud_line_as, loud_past_as, loud_past_failed_as, loud_told_as, text_on_as}
+use Rattle.mesh_run.proofs.Settled.{goes_on_where_done, line_at}
+use Rattle.mesh_grid.specs.Text.{Moment, outcome_of_piece, outcome_with, next, places_after, placed_run, text_on}
 use Rattle.mesh_grid.proofs.PlaceSteps.{came-long, came-beyond}
+use Rattle.mesh_places.specs.declared.placed.Placed.{Placed}
+use Rattle.mesh_places.specs.Moments.{moment_of, moved, IsRunOfLine}
+use Rattle.mesh_places.specs.Outputs.{IsOutputFrom}
+use Rattle.mesh_run.specs.Room.{CanLead}
+use Rattle.mesh_places.specs.Running.{running}
 
--- ---- the text from a moment on
+-- ---- a line
 
-text_from-cons : (reach : ℕ) (m : Moment) (piece : Piece) (pieces : List Piece)
-    → text_from reach m (piece ∷ pieces) ≡ goes_on m.run (outcome_of_piece reach m piece) (λ n. text_from reach (next m piece n) pieces)
-unfolding text_from
-text_from-cons reach m piece pieces = refl
+-- the state to which a line leads with the run at this moment
+abbrev after_line : Placed → Piece → schedule.Moment → Placed
+after_line p piece n = moved p (next (moment_of p) piece n)
 
-came_to : (reach : ℕ) (m : Moment) (piece : Piece) (pieces : List Piece) (k : LineOutcome) → outcome_of_piece reach m piece ≡ k
-    → text_from reach m (piece ∷ pieces) ≡ goes_on m.run k (λ n. text_from reach (next m piece n) pieces)
-came_to reach m piece pieces k e = text_from-cons reach m piece pieces ∙ ap (λ r. goes_on m.run r (λ n. text_from reach (next m piece n) pieces)) e
+as_with : {N : Type 0} (to : Moment → N) (next_of : schedule.Moment → Moment) (c : shell.Outcome schedule.Moment Verdict) → outcome_as to (outcome_with next_of c) ≡ outcome_as (λ n. to (next_of n)) c
+as_with to next_of (shell.On text n) = refl
+as_with to next_of (shell.Ended text last v) = refl
 
--- the moment after a line
-next_is : (m n : Moment) (piece : Piece) → n.places ≡ places_after m piece → next m piece n.run ≡ n
-next_is m n piece is = ap (λ p. record n { places = p }) (sym is)
+outcome_is : (p : Placed) (piece : Piece) → running.outcome p piece ≡ outcome_as (after_line p piece) (texts.outcome_in_run p.point (outcome_of_piece p.reach (moment_of p) piece))
+outcome_is p piece = as_with (moved p) (next (moment_of p) piece) (texts.outcome_in_run p.point (outcome_of_piece p.reach (moment_of p) piece))
 
-pub text_from-on : (reach : ℕ) (m n : Moment) (piece : Piece) (text : List ℕ) (pieces : List Piece) → outcome_of_piece reach m piece ≡ On text n.run → n.places ≡ places_after m piece
-    → text_from reach m (piece ∷ pieces) ≡ lines_before text (text_from reach n pieces)
-text_from-on reach m n piece text pieces e places =
-    came_to reach m piece pieces (On text n.run) e ∙ ap (λ k. lines_before text (text_from reach k pieces)) (next_is m n piece places)
+-- what was done of the line, and what was settled then; `r` is the same as `q`
+pub line_told : (p q r : Placed) (bytes : List ℕ) (a b d : Option (List ℕ)) (did : Result (Unit {0}) Stop) (result : Result (Option Verdict) Fault) → IsRunOfLine p q bytes a b did → IsSettled q.point b d did result → r ≡ q
+    → outputs.IsLineRun (running.outcome p (Whole bytes)) r a d result
+line_told p q r bytes a b d did result ran told same =
+    let at : Placed = after_line p (Whole bytes) q.point in
+    let here : outputs.IsLineRun (running.outcome p (Whole bytes)) at a d result =
+    subst (λ (c : shell.Outcome Placed Verdict). outputs.IsLineRun c at a d result) (sym (outcome_is p (Whole bytes)))
+    (loud_line_as (after_line p (Whole bytes)) p.point q.point (outcome_of_piece p.reach (moment_of p) (Whole bytes)) a b d did result ran.comes told) in
+    line_at (running.outcome p (Whole bytes)) at r a d result (goes_on_where_done (r ≡ at) q.point b d did result told (by_did did ran.places)) here
+  where
+    by_did : (did : Result (Unit {0}) Stop) → OnOk did (q.places ≡ places_after (moment_of p) (Whole bytes)) → OnOk did (r ≡ after_line p (Whole bytes) q.point)
+    by_did (Ok done) places = same ∙ ran.only ∙ ap (λ there. moved p (record { run = q.point; places = there })) places
+    by_did (Err stop) places = tt
 
-pub text_from-end : (reach : ℕ) (m : Moment) → text_from reach m [] ≡ finished_run m.run
-unfolding text_from texts.text_from
-text_from-end reach m = refl
+-- how far it leads where it was done
+pub line_leads : (p q r : Placed) (bytes : List ℕ) (a b d : Option (List ℕ)) (did : Result (Unit {0}) Stop) (result : Result (Option Verdict) Fault) → IsRunOfLine p q bytes a b did → IsSettled q.point b d did result → r ≡ q
+    → GoesOn result (CanLead p.point (size_of_line bytes) r.point)
+line_leads p q r bytes a b d did result ran told same = goes_on_where_done (CanLead p.point (size_of_line bytes) r.point) q.point b d did result told (by_did did ran.lines ran.steps)
+  where
+    by_did : (did : Result (Unit {0}) Stop) → OnOk did (q.point.lines ≡ p.point.lines + 1) → OnOk did (4 * q.point.steps ≤ 4 * p.point.steps + MOST_EVENTS * length bytes) → OnOk did (CanLead p.point (size_of_line bytes) r.point)
+    by_did (Ok done) lines steps =
+        let here : CanLead p.point (size_of_line bytes) q.point = record { lines = omega arith; steps = omega arith } in
+        subst (λ (x : Placed). CanLead p.point (size_of_line bytes) x.point) (sym same) here
+    by_did (Err stop) lines steps = tt
 
--- ---- what is told
+-- ---- a line that goes past a limit
 
--- a line that is done in part
-pub front_from_part : (reach : ℕ) (m : Moment) (piece : Piece) (a b : Option (List ℕ)) (pieces : List Piece) → AppendsPrefix a b (text_in (outcome_of_piece reach m piece))
-    → AppendsPrefix a b (whole (text_from reach m (piece ∷ pieces)))
-front_from_part reach m piece a b pieces f =
-    subst (λ (w : RunText). AppendsPrefix a b (whole w)) (sym (text_from-cons reach m piece pieces)) (front_of_came All m.run (outcome_of_piece reach m piece) (λ n. text_from reach (next m piece n) pieces) a b f)
+came_past : (reach : ℕ) (m : Moment) (limit : Limit) → outcome_of_piece reach m (piece_past limit) ≡ Refused (why_past limit)
+came_past reach m Line = came-long reach m
+came_past reach m Input = came-beyond reach m
 
--- a line that is too long, and one that goes past the input's limit
-pub told_long : (reach : ℕ) (m : Moment) (pieces : List Piece) (a b : Option (List ℕ)) (s : Status) → IsOutput a b (refused_run m.run TooLong) s → IsOutput a b (text_from reach m (Long ∷ pieces)) s
-told_long reach m pieces a b s t = refused_told All m.run TooLong (text_from reach m (Long ∷ pieces)) a b s (came_to reach m Long pieces (Refused TooLong) (came-long reach m)) t
+-- its last line is written, or a prefix of it
+pub past_told : (p : Placed) (limit : Limit) (v : Verdict) (a b : Option (List ℕ)) → v ≡ RefusedAt (p.point.lines + 1) → Appends a b (bad_line (p.point.lines + 1) (why_past limit))
+    → outputs.IsLineLast (running.outcome p (piece_past limit)) v a b
+past_told p limit v a b verdict put =
+    subst (λ (c : shell.Outcome Placed Verdict). outputs.IsLineLast c v a b) (sym (outcome_is p (piece_past limit)))
+    (loud_past_as (after_line p (piece_past limit)) p.point _ v (why_past limit) a b (came_past p.reach (moment_of p) limit) verdict put)
 
-pub told_beyond : (reach : ℕ) (m : Moment) (pieces : List Piece) (a b : Option (List ℕ)) (s : Status) → IsOutput a b (refused_run m.run TooMuch) s → IsOutput a b (text_from reach m (Beyond ∷ pieces)) s
-told_beyond reach m pieces a b s t = refused_told All m.run TooMuch (text_from reach m (Beyond ∷ pieces)) a b s (came_to reach m Beyond pieces (Refused TooMuch) (came-beyond reach m)) t
+pub past_broken : (p : Placed) (limit : Limit) (a b : Option (List ℕ)) (answer : Result Verdict Fault) → IsErr answer → AppendsPrefix a b (bad_line (p.point.lines + 1) (why_past limit))
+    → outputs.IsLastRun (running.outcome p (piece_past limit)) a b answer
+past_broken p limit a b answer failed put =
+    subst (λ (c : shell.Outcome Placed Verdict). outputs.IsLastRun c a b answer) (sym (outcome_is p (piece_past limit)))
+    (loud_past_failed_as (after_line p (piece_past limit)) p.point _ (why_past limit) a b answer failed (came_past p.reach (moment_of p) limit) put)
 
--- a line that isn't allowed
-pub told_bad : (reach : ℕ) (m : Moment) (n : schedule.Moment) (piece : Piece) (f : LineFault) (pieces : List Piece) (a b c : Option (List ℕ)) (s : Status)
-    → outcome_of_piece reach m piece ≡ Refused (Fault f) → n ≡ m.run → Keeps a b → IsOutput b c (refused_run n (Fault f)) s → IsOutput a c (text_from reach m (piece ∷ pieces)) s
-told_bad reach m n piece f pieces a b c s e same kept t =
-    bad_told All m.run n f (text_from reach m (piece ∷ pieces)) a b c s (came_to reach m piece pieces (Refused (Fault f)) e) same kept t
+-- ---- an input
 
--- one with an event that is refused for a full counter
-pub told_full : (reach : ℕ) (m : Moment) (n : schedule.Moment) (piece : Piece) (e : Event) (node : ℕ) (field : Field) (pieces : List Piece) (a b c : Option (List ℕ)) (s : Status)
-    → IsLineFull false m.run (outcome_of_piece reach m piece) n a b e node field → IsOutput b c (overfull_run n [] e field) s → IsOutput a c (text_from reach m (piece ∷ pieces)) s
-told_full reach m n piece e node field pieces a b c s g t =
-    full_told All m.run n (outcome_of_piece reach m piece) (λ x. text_from reach (next m piece x) pieces) (text_from reach m (piece ∷ pieces)) e node field a b c s (text_from-cons reach m piece pieces) g t
+-- the script makes of each moment what the run with places does
+is_placed_run : (p : Placed) → IsSeenAs (moved p) (placed_run p.reach) running
+is_placed_run p = record { head = λ m. refl; outcome = λ m piece. refl; ending = λ m. refl }
+
+pub input_told : (p : Placed) (bytes : List ℕ) (left before now : Option (List ℕ)) (answer : Result Verdict Fault) → outputs.IsOutputFrom running schedule_limits p bytes left before now answer
+    → IsOutputFrom p.reach (moment_of p) bytes left before now (status_of answer)
+input_told p bytes left before now answer told =
+    loud_told_as (moved p) (text_on p.reach (moment_of p)) (shell.text_on running schedule_limits p) (λ input. text_on_as (moved p) (placed_run p.reach) running (is_placed_run p) schedule_limits (moment_of p) input) bytes left before now answer told

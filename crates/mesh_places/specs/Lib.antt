@@ -4,6 +4,8 @@ pub mod Words
 -- Outputs: what was told of a run with places. This is what the contract of the top call cites
 -- beside the definitions of mesh_grid.
 pub mod Outputs
--- The other says what the parts of a run do.
--- Moments: a moment of a run with places, and what was told of one line.
+-- The others say what the parts of a run do.
+-- Moments: a run with places between two lines, and what was told of one line.
 pub mod Moments
+-- Running: a run with places as a script.
+pub mod Running

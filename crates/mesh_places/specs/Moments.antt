@@ -1,10 +1,10 @@
--- A moment of a run with places, as the program has it, and what was told of one line.
+-- A run with places between two lines, as the program has it, and what was told of one line.
 use Rattle.std.specs.Prelude.{ℕ, ◌≡◌, ◌≤◌, ◌<◌, ◌≢◌, ◌+◌, ◌*◌, false, if◌then◌else◌, List, Option, Result, OnOk, length, codes, ⊤}
 use Rattle.std.specs.List.{flat_map}
 use Rattle.mesh_base.specs.declared.limits.TheConstants.{MOST_EVENTS}
 use Rattle.mesh_base.specs.Meshes.{Nodes}
 use Rattle.mesh_model.specs.Worlds.{Event, Link, Cut}
-use Rattle.mesh_grammar.specs.Lines.{Whole}
+use Rattle.mesh_shell.specs.Pieces.{Whole}
 use Rattle.mesh_grammar.specs.Written.{line}
 use Rattle.mesh_run.specs.declared.stop.Stop.{Stop}
 use Rattle.mesh_run.specs.declared.stop.Stop.TheVariants as stop
@@ -15,7 +15,11 @@ use Rattle.mesh_grid.specs.Text.{Moment, changes, change_line, outcome_of_piece,
 use Rattle.mesh_places.specs.declared.placed.Placed.{Placed}
 
 abbrev pub moment_of : Placed → Moment
-moment_of at = record { run = at.point; places = at.places }
+moment_of p = record { run = p.point; places = p.places }
+
+-- the run at another moment
+abbrev pub moved : Placed → Moment → Placed
+moved p n = record p { point = n.run; places = n.places }
 
 -- changes, each on a line
 abbrev pub change_lines : Nodes → List Event → List ℕ
@@ -39,10 +43,12 @@ IsWant stop.WriteFault = ⊤
 IsWant stop.NoMemory = ⊤
 IsWant others = ⊥
 
--- what was told of a line, from moment m to moment n
-pub record IsRunOfLine (reach : ℕ) (m n : Moment) (bytes : List ℕ) (before now : Option (List ℕ))
+-- what was told of a line that has led the run from p to q, of which the moment alone has changed
+pub record IsRunOfLine (p q : Placed) (bytes : List ℕ) (before now : Option (List ℕ))
     (result : Result (Unit {0}) Stop) : Type 0 where
-  pub comes : IsLineRun false m.run (outcome_of_piece reach m (Whole bytes)) n.run before now result
-  pub places : OnOk result (n.places ≡ places_after m (Whole bytes))
-  pub lines : OnOk result (n.run.lines ≡ m.run.lines + 1)
-  pub steps : OnOk result (4 * n.run.steps ≤ 4 * m.run.steps + MOST_EVENTS * length bytes)
+  pub comes : IsLineRun false p.point (outcome_of_piece p.reach (moment_of p) (Whole bytes)) q.point
+      before now result
+  pub only : q ≡ moved p (moment_of q)
+  pub places : OnOk result (q.places ≡ places_after (moment_of p) (Whole bytes))
+  pub lines : OnOk result (q.point.lines ≡ p.point.lines + 1)
+  pub steps : OnOk result (4 * q.point.steps ≤ 4 * p.point.steps + MOST_EVENTS * length bytes)

@@ -26,7 +26,7 @@ IsOutputFrom reach m bytes left before now s =
 -- line the links that stand are those that are due between nodes with places
 pub record IsPlacedRun (reach : ℕ) (schedule : List ℕ) : Type 0 where
   pub worlds : let w = text_of_input reach Base schedule in
-      world_of w.after ≡ world_after reach Base schedule w.after.sums.events
+      world_of w.after.run ≡ world_after reach Base schedule w.after.run.sums.events
   pub loop_free : (k d : ℕ) → ¬ (Cycle (world_after reach Base schedule k) d)
   pub links : (i a b : ℕ) → let m = moment_at reach Base schedule i in
       are_linked (world_of m.run).links a b ≡ is_due reach m.places a b

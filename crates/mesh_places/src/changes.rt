@@ -14,10 +14,11 @@ ghost use Rattle.mesh_grid.specs.Runs.{events_of_placing};
 ghost use Rattle.mesh_places.specs.Moments.{IsChange, IsWant, below, change_lines, moment_of};
 
 use crate::placed::Placed;
-use mesh_base::{Event, LineBuf, Mesh, NoMemory, NodeSet, Packet, push_text};
+use mesh_base::{Event, NoMemory, NodeSet, push_text};
 use mesh_grid::Placing;
 use mesh_io::{PutFault, Sink, put_all};
-use mesh_run::{Point, Stop};
+use mesh_moment::Point;
+use mesh_run::Stop;
 use mesh_script::{Line, push_line};
 use mesh_world::{StepError, World};
 use std::alloc::Global;
@@ -38,37 +39,32 @@ fn range_of(at: &Point<World>, node: usize) -> NodeSet
 }
 
 // A change, on a line below that of the node.
-fn put_change<O: Sink>(
-    mesh: &Mesh,
-    event: Event<'_>,
-    buf: &mut LineBuf,
-    out: &mut O,
-) -> Result<(), PutFault>
-    requires { IsChange (length mesh.now) (event_of event) }
+fn put_change<O: Sink>(at: &mut Point<World>, event: Event<'_>, out: &mut O) -> Result<(), PutFault>
+    requires { IsChange (length at.old.mesh) (event_of event) }
     ensures text { Puts (O.held out.old) (O.held out.new)
-        (change_line mesh.now (event_of event.entry)) result }
+        (change_line at.old.mesh (event_of event.entry)) result }
+    ensures same { at.new ≡ at.old }
     ensures cause { HasCause (O.faults out.old) (O.faults out.new) result }
 {
-    buf.clear();
-    push_text(buf, b"  ");
-    push_line(buf, mesh, &Line::Step(event));
-    buf.push(b'\n');
-    put_all(out, buf.as_slice())
+    let line = &mut at.line;
+    line.clear();
+    push_text(line, b"  ");
+    push_line(line, at.state.mesh(), &Line::Step(event));
+    line.push(b'\n');
+    put_all(out, line.as_slice())
 }
 
-// Does one change. A link that comes or goes fills no counter.
-fn step_change(
-    alloc: Global,
-    at: &mut Point<World>,
-    event: &Event<'_>,
-    packet: &mut Packet,
-) -> Result<(), NoMemory>
+// Does one change, in the opening world where there is none yet. A link that comes or goes fills no
+// counter.
+fn step_change(alloc: Global, at: &mut Point<World>, event: &Event<'_>) -> Result<(), NoMemory>
     requires change { IsChange (length at.old.mesh) (event_of event.now) }
     requires few { at.old.steps < 2 ^ 48 }
     ensures moment { OnOk result (at.new ≡ next_moment at.old (event_of event.now)) }
 {
-    match at.step(alloc, event, packet) {
-        Ok(_) => Ok(()),
+    at.begin(alloc)?;
+    let state = &mut at.state;
+    match state.step_counted(alloc, event, &mut at.packet, false, &mut at.done) {
+        Ok(()) => Ok(()),
         Err(StepError::NoMemory) => Err(NoMemory),
         Err(StepError::Full { .. }) => unreachable!(),
     }
@@ -77,9 +73,7 @@ fn step_change(
 // Does the change with node `y` that follows where a node comes to a place, if there is one, and
 // writes it. `near` are the nodes that the node is linked to.
 fn do_change<O: Sink>(
-    alloc: Global,
     at: &mut Placed,
-    reach: u32,
     near: &NodeSet,
     new: &Placing,
     y: usize,
@@ -90,69 +84,58 @@ fn do_change<O: Sink>(
     requires nodes { length at.old.point.mesh ≤ MOST_NODES }
     requires few { at.old.point.steps < 2 ^ 48 }
     ensures moment { OnOk result (at.new.point
-        ≡ moment_after at.old.point (change_at reach at.old.places near.now new.now y)) }
-    ensures places { at.new.places ≡ at.old.places }
+        ≡ moment_after at.old.point (change_at at.old.reach at.old.places near.now new.now y)) }
+    ensures only { at.new ≡ record at.old { point = at.new.point } }
     ensures text { Puts (O.held out.old) (O.held out.new)
-        (change_lines at.old.point.mesh (change_at reach at.old.places near.now new.now y)) result }
+        (change_lines at.old.point.mesh
+        (change_at at.old.reach at.old.places near.now new.now y)) result }
     ensures stops { IfErr result IsWant }
     ensures cause { HasStopCause (O.faults out.old) (O.faults out.new) result }
 {
-    let Some(event) = at.places.change_at(reach, near, new, y) else {
+    let Some(event) = at.places.change_at(at.reach, near, new, y) else {
         return Ok(());
     };
-    step_change(alloc, &mut at.point, &event, &mut at.packet)?;
-    put_change(at.point.mesh(), event, &mut at.line, out)?;
+    step_change(at.alloc, &mut at.point, &event)?;
+    put_change(&mut at.point, event, out)?;
     Ok(())
 }
 
 // Does the changes that follow where a node comes to a place, and writes each below its line.
-fn do_changes<O: Sink>(
-    alloc: Global,
-    at: &mut Placed,
-    reach: u32,
-    new: &Placing,
-    out: &mut O,
-) -> Result<(), Stop<'static>>
+fn do_changes<O: Sink>(at: &mut Placed, new: &Placing, out: &mut O) -> Result<(), Stop<'static>>
     requires node { new.now.node < length at.old.point.mesh }
     requires nodes { length at.old.point.mesh ≤ MOST_NODES }
     requires few { at.old.point.steps < 2 ^ 47 }
     ensures moment { OnOk result (at.new.point
-        ≡ moment_after at.old.point (changes reach (moment_of at.old) new.now)) }
-    ensures places { at.new.places ≡ at.old.places }
+        ≡ moment_after at.old.point (changes at.old.reach (moment_of at.old) new.now)) }
+    ensures only { at.new ≡ record at.old { point = at.new.point } }
     ensures text { Puts (O.held out.old) (O.held out.new)
-        (change_lines at.old.point.mesh (changes reach (moment_of at.old) new.now)) result }
+        (change_lines at.old.point.mesh (changes at.old.reach (moment_of at.old) new.now)) result }
     ensures stops { IfErr result IsWant }
     ensures cause { HasStopCause (O.faults out.old) (O.faults out.new) result }
 {
     let near = range_of(&at.point, new.node);
     for y in 0..at.point.mesh().len() {
-        do_change(alloc, at, reach, &near, new, y, out)?;
+        do_change(at, &near, new, y, out)?;
     }
     Ok(())
 }
 
 /// Does what follows from a line about a place, and writes it below the line: the changes, or
 /// `idle` where the node may not come there.
-pub fn do_coming<O: Sink>(
-    alloc: Global,
-    at: &mut Placed,
-    reach: u32,
-    new: &Placing,
-    out: &mut O,
-) -> Result<(), Stop<'static>>
+pub fn do_coming<O: Sink>(at: &mut Placed, new: &Placing, out: &mut O) -> Result<(), Stop<'static>>
     requires node { new.now.node < length at.old.point.mesh }
     requires nodes { length at.old.point.mesh ≤ MOST_NODES }
     requires few { at.old.point.steps < 2 ^ 47 }
     ensures moment { OnOk result (at.new.point
-        ≡ moment_after at.old.point (events_of_placing reach (moment_of at.old) new.now)) }
-    ensures places { at.new.places ≡ at.old.places }
+        ≡ moment_after at.old.point (events_of_placing at.old.reach (moment_of at.old) new.now)) }
+    ensures only { at.new ≡ record at.old { point = at.new.point } }
     ensures text { Puts (O.held out.old) (O.held out.new)
-        (below reach (moment_of at.old) new.now) result }
+        (below at.old.reach (moment_of at.old) new.now) result }
     ensures stops { IfErr result IsWant }
     ensures cause { HasStopCause (O.faults out.old) (O.faults out.new) result }
 {
     if at.places.may_come(new) {
-        return do_changes(alloc, at, reach, new, out);
+        return do_changes(at, new, out);
     }
     put_all(out, b"  idle\n")?;
     Ok(())

@@ -8,7 +8,5 @@ pub mod Dones
 pub mod Legible
 -- Gathering: texts that are put in part.
 pub mod Gathering
--- Pieces: the lines of the bytes that an input has left.
-pub mod Pieces
 -- HexBytes: the table of the two digits of each byte.
 pub mod HexBytes

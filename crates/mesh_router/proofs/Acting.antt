@@ -26,7 +26,7 @@ use Rattle.mesh_router.specs.Lines.{step_of}
 use Rattle.mesh_router.specs.Outputs.{Outputs, Adds, AddsPrefix, IsFault, HasCauses, HasSinkCause}
 use Rattle.mesh_router.specs.Peers.{receivers_of, code_log, act_log}
 use Rattle.mesh_router.specs.Runs.{log_in, IsStepRun}
-use Rattle.mesh_router.proofs.Logging.{adds-none, adds-join}
+use Rattle.mesh_router.specs.Joins.{adds-join, adds-none}
 use Rattle.mesh_router.proofs.Turning.{router_as, IsEffectMeant, effect_meant, log_effect, reached_is, after-log}
 
 -- ---- a send or a request

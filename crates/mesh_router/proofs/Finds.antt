@@ -1,51 +1,18 @@
 -- What calls that receive have found, one after another.
-use Rattle.std.proofs.Common.{◌≡◌, ℕ, zero, suc, ◌≤◌, List, [], ◌∷◌, ◌++◌, Option, Some, None, Ok, length, take, refl, sym, ap, ◌∙◌, subst, arith, inl, inr}
+use Rattle.std.proofs.Common.{◌≡◌, ℕ, zero, suc, ◌≤◌, List, [], ◌∷◌, Option, Some, None, Ok, length, take, refl, sym, ap, ◌∙◌, subst, arith, inl, inr}
 use Rattle.std.proofs.lemmas.Bool.{cases_lt}
 use Rattle.std.specs.Prelude.{min, IfSome}
 use Rattle.mesh_link.specs.Datagrams.{Datagram, datagram, TakesFirst, Receives}
 use Rattle.mesh_router.specs.declared.limits.TheConstants.{MOST_RECEIVED}
-use Rattle.mesh_router.specs.Finds.{Find, later_finds, AreNext, left_after, arrivals, AreOf, AreFound}
+use Rattle.mesh_router.specs.Finds.{Find, AreNext, arrivals, AreOf, AreFound}
 use Rattle.mesh_router.specs.Polls.{received_bytes}
 
 -- ---- one after another
-
-pub next-join : (all xs ys : List Find) → AreNext all xs → AreNext (left_after all xs) ys → AreNext all (xs ++ ys)
-next-join all [] ys p q = q
-next-join all (x ∷ xs) ys p q = (p.0, next-join (later_finds all) xs ys p.1 q)
-
-pub next-front : (all xs ys : List Find) → AreNext all (xs ++ ys) → AreNext all xs
-next-front all [] ys p = tt
-next-front all (x ∷ xs) ys p = (p.0, next-front (later_finds all) xs ys p.1)
-
-pub next-rest : (all xs ys : List Find) → AreNext all (xs ++ ys) → AreNext (left_after all xs) ys
-next-rest all [] ys p = p
-next-rest all (x ∷ xs) ys p = next-rest (later_finds all) xs ys p.1
-
-pub left-join : (all xs ys : List Find) → left_after all (xs ++ ys) ≡ left_after (left_after all xs) ys
-left-join all [] ys = refl
-left-join all (x ∷ xs) ys = left-join (later_finds all) xs ys
 
 -- what was found is what is found next
 pub next-self : (xs : List Find) → AreNext xs xs
 next-self [] = tt
 next-self (x ∷ xs) = (refl, next-self xs)
-
-pub found-none : (a : Option (List Datagram)) → AreFound a a []
-found-none None = refl
-found-none (Some ds) = record { left = ds; now_is = refl; next = tt; others = refl }
-
-found-more : (ds left : List Datagram) (c : Option (List Datagram)) (xs ys : List Find) → AreNext (arrivals ds) xs → left_after (arrivals ds) xs ≡ arrivals left → AreOf left c ys → AreOf ds c (xs ++ ys)
-found-more ds left c xs ys next others q = record {
-  left = q.left;
-  now_is = q.now_is;
-  next = next-join (arrivals ds) xs ys next (subst (λ (l : List Find). AreNext l ys) (sym others) q.next);
-  others = left-join (arrivals ds) xs ys ∙ ap (λ (l : List Find). left_after l ys) others ∙ q.others;
-}
-
-pub found-join : (a b c : Option (List Datagram)) (xs ys : List Find) → AreFound a b xs → AreFound b c ys → AreFound a c (xs ++ ys)
-found-join None b c xs ys p q = (let h : AreFound None c ys = subst (λ (k : Option (List Datagram)). AreFound k c ys) p q in h)
-found-join (Some ds) b c xs ys p q =
-    found-more ds p.left c xs ys p.next p.others (subst (λ (k : Option (List Datagram)). AreFound k c ys) p.now_is q)
 
 -- where they are told, those that have arrived are what is found
 pub told-next : (ds : List Datagram) (b : Option (List Datagram)) (xs : List Find) → AreFound (Some ds) b xs → AreNext (arrivals ds) xs

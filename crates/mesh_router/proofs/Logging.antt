@@ -1,14 +1,14 @@
 -- What was written and sent, one after another.
-use Rattle.std.proofs.Common.{◌≡◌, ℕ, ◌≤◌, List, [], ◌∷◌, ◌++◌, Option, Some, None, Result, Ok, Err, refl, sym, ap, ◌∙◌, subst, append_assoc, append-nil, arith}
-use Rattle.std.specs.Prelude.{option_map}
+use Rattle.std.proofs.Common.{◌≡◌, ℕ, ◌≤◌, List, [], ◌∷◌, ◌++◌, Option, Result, Ok, Err, refl, sym, ap, ◌∙◌, subst, append_assoc, append-nil, arith}
 use Rattle.std.specs.Io.KnownBytes.{Appends}
 use Rattle.std.specs.Result.{IsErr}
 use Rattle.mesh_io.specs.Cause.{Rose}
 use Rattle.mesh_io.specs.Puts.{AppendsPrefix}
-use Rattle.mesh_io.proofs.Writing.{Appends-join, Appends-none}
+use Rattle.mesh_io.proofs.Writing.{Appends-none}
 use Rattle.mesh_link.specs.Datagrams.{Datagram}
 use Rattle.mesh_router.specs.declared.stop.Stop.{Stop}
 use Rattle.mesh_router.specs.Logs.{Log, Byte, Sent, nothing, text_log, followed_by, text_of, sent_of}
+use Rattle.mesh_router.specs.Joins.{sends-none, adds-none, adds-join}
 use Rattle.mesh_router.specs.Outputs.{Outputs, SendsAll, Adds, AddsPrefix, Says, HasCauses}
 
 -- ---- a log
@@ -29,26 +29,6 @@ written-append (c ∷ cs) b = ap (λ (s : Log). Byte c ∷ s) (written-append cs
 
 -- ---- its text and its datagrams
 
-text-none : text_of nothing ≡ []
-unfolding text_of
-text-none = refl
-
-sent-none : sent_of nothing ≡ []
-unfolding sent_of
-sent-none = refl
-
-text-join : (a b : Log) → text_of (followed_by a b) ≡ text_of a ++ text_of b
-unfolding text_of
-text-join [] b = refl
-text-join (Byte c ∷ more) b = ap (λ (l : List ℕ). c ∷ l) (text-join more b)
-text-join (Sent d ∷ more) b = text-join more b
-
-sent-join : (a b : Log) → sent_of (followed_by a b) ≡ sent_of a ++ sent_of b
-unfolding sent_of
-sent-join [] b = refl
-sent-join (Byte c ∷ more) b = sent-join more b
-sent-join (Sent d ∷ more) b = ap (λ (l : List Datagram). d ∷ l) (sent-join more b)
-
 text-written : (text : List ℕ) → text_of (text_log text) ≡ text
 unfolding text_of text_log
 text-written [] = refl
@@ -67,29 +47,7 @@ sent-sent : (d : Datagram) → sent_of (Sent d ∷ []) ≡ d ∷ []
 unfolding sent_of
 sent-sent d = refl
 
--- ---- datagrams
-
-sends-none : (a : Option (List Datagram)) → SendsAll a a []
-sends-none None = refl
-sends-none (Some xs) = ap Some (sym (append-nil xs))
-
-sends-join : (a b c : Option (List Datagram)) (xs ys : List Datagram) → SendsAll a b xs → SendsAll b c ys → SendsAll a c (xs ++ ys)
-sends-join None b c xs ys p q = q ∙ ap (option_map (λ l. l ++ ys)) p
-sends-join (Some old) b c xs ys p q = q ∙ ap (option_map (λ l. l ++ ys)) p ∙ ap Some (append_assoc old xs ys)
-
 -- ---- both
-
-pub adds-none : (a : Outputs) → Adds a a nothing
-adds-none a = record {
-  text = subst (λ (l : List ℕ). Appends a.0 a.0 l) (sym text-none) (Appends-none a.0);
-  sent = subst (λ (l : List Datagram). SendsAll a.1 a.1 l) (sym sent-none) (sends-none a.1);
-}
-
-pub adds-join : (a b c : Outputs) (x y : Log) → Adds a b x → Adds b c y → Adds a c (followed_by x y)
-adds-join a b c x y p q = record {
-  text = Appends-join a.0 b.0 c.0 (text_of x) (text_of y) (text_of (followed_by x y)) (text-join x y) p.text q.text;
-  sent = subst (λ (l : List Datagram). SendsAll a.1 c.1 l) (sym (sent-join x y)) (sends-join a.1 b.1 c.1 (sent_of x) (sent_of y) p.sent q.sent);
-}
 
 pub adds-equal : (a b : Outputs) (x y : Log) → x ≡ y → Adds a b x → Adds a b y
 adds-equal a b x y e p = subst (Adds a b) e p

@@ -26,7 +26,8 @@ use Rattle.mesh_report.proofs.Copies.{members-front}
 use Rattle.mesh_router.specs.Logs.{Log, followed_by}
 use Rattle.mesh_router.specs.Outputs.{Outputs, Adds, AddsPrefix}
 use Rattle.mesh_router.specs.Casts.{port_at, sent_to, sent_to_each}
-use Rattle.mesh_router.proofs.Logging.{log-nil, log-assoc, adds-none, adds-join, adds-equal, prefix-join, prefix-more}
+use Rattle.mesh_router.specs.Joins.{adds-join, adds-none}
+use Rattle.mesh_router.proofs.Logging.{log-nil, log-assoc, adds-equal, prefix-join, prefix-more}
 
 port_cases : (n port : ℕ) (b : Bool) → (if b then None else Some n) ≡ Some port → n ≡ port
 port_cases n port true e = absurd cc

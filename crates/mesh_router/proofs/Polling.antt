@@ -19,8 +19,9 @@ use Rattle.mesh_router.specs.Polls.{PollOutcome, poll_outcome, polled_by, polls_
 use Rattle.mesh_router.specs.Outputs.{Outputs, Adds, AddsPrefix}
 use Rattle.mesh_router.specs.Runs.{IsTaken, IsFoundOne, IsFoundNone, IsPolled, IsPolledInPart, IsPollStep, IsPollRun, IsPollLine, IsNotFull}
 use Rattle.mesh_router.specs.Short.{IsPollShort}
-use Rattle.mesh_router.proofs.Logging.{log-assoc, log-nil, adds-none, adds-join, adds-text, prefix-none, prefix-join, prefix-more, prefix-text}
-use Rattle.mesh_router.proofs.Finds.{next-front, next-rest, left-join, found-none, found-join, Received}
+use Rattle.mesh_router.specs.Joins.{adds-join, adds-none, found-join, found-none, left-join, next-front, next-rest}
+use Rattle.mesh_router.proofs.Logging.{log-assoc, log-nil, adds-text, prefix-none, prefix-join, prefix-more, prefix-text}
+use Rattle.mesh_router.proofs.Finds.{Received}
 
 -- ---- a datagram of a port
 

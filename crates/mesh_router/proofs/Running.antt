@@ -1,5 +1,5 @@
 -- A line of the script, by what the router does for it.
-use Rattle.std.proofs.Common.{◌≡◌, ℕ, ◌*◌, ◌^◌, ◌≤◌, ◌+◌, List, [], Option, Result, Ok, Err, refl, sym, ap, ◌∙◌, subst, arith}
+use Rattle.std.proofs.Common.{◌≡◌, ℕ, ◌≤◌, ◌+◌, List, [], Option, Result, Ok, Err, refl, sym, ap, ◌∙◌, subst, arith}
 use Rattle.std.specs.Prelude.{unwrap_or, OnErr}
 use Rattle.mesh_grammar.specs.Written.{line}
 use Rattle.mesh_link.specs.Datagrams.{Datagram}
@@ -15,11 +15,10 @@ use Rattle.mesh_router.specs.Polls.{polls_of}
 use Rattle.mesh_router.specs.Lines.{LineOutcome, On, words_at, refused_words, join_outcome, act_outcome, polled_line, step_of, outcome_of_line}
 use Rattle.mesh_router.specs.Outputs.{Outputs, Adds, AddsPrefix}
 use Rattle.mesh_router.specs.Runs.{log_in, log_of, IsCommand, IsStepRun, IsPollLineDone, IsPollLineInPart, IsNotFull, IsLineInPart, IsLineRun}
-use Rattle.mesh_base.specs.declared.limits.TheConstants.{LONGEST_INPUT}
 use Rattle.mesh_peers.specs.Peers.{no_peers}
-use Rattle.mesh_router.specs.Seen.{IsGrown, HasCounts, most_grown}
+use Rattle.mesh_router.specs.Seen.{IsGrown, HasCounts}
+use Rattle.mesh_router.specs.Joins.{found-none}
 use Rattle.mesh_router.proofs.Logging.{prefix-none}
-use Rattle.mesh_router.proofs.Finds.{found-none}
 
 -- ---- what a line comes to
 
@@ -241,17 +240,3 @@ opening_counts n m e =
     let none = fresh_counts no_peers (unwrap_or no_peers.me 0) in
     subst (λ (k : Moment). HasCounts n (router_in k.stage)) (sym e)
     (record { heard = omega (arith, none.0); sent = omega (arith, none.1); dropped = omega (arith, none.2) })
-
-pub counts_more : (m n : Moment) → n.lines ≡ m.lines + 1 → HasCounts (most_grown * m.lines) (router_in m.stage) → IsGrown most_grown (router_in m.stage) (router_in n.stage) → HasCounts (most_grown * n.lines) (router_in n.stage)
-counts_more m n e h g = record {
-  heard = (let a = h.heard in let b = g.heard in omega arith);
-  sent = (let a = h.sent in let b = g.sent in omega arith);
-  dropped = (let a = h.dropped in let b = g.dropped in omega arith);
-}
-
-pub counts_few : (m : Moment) → m.lines ≤ LONGEST_INPUT → HasCounts (most_grown * m.lines) (router_in m.stage) → HasCounts (2 ^ 61) (router_in m.stage)
-counts_few m le h = record {
-  heard = (let a = h.heard in omega arith);
-  sent = (let a = h.sent in omega arith);
-  dropped = (let a = h.dropped in omega arith);
-}

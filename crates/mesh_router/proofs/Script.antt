@@ -1,18 +1,23 @@
 -- What is told of a script, one line after another.
-use Rattle.std.proofs.Common.{◌≡◌, ℕ, ◌+◌, ◌-◌, ◌≤◌, Bool, true, false, List, [], ◌∷◌, ◌++◌, length, take, Option, Some, None, Result, Ok, Err, refl, sym, ap, subst, ◌∙◌, arith}
-use Rattle.std.specs.Prelude.{IfSome, nat_lt, ⊤}
-use Rattle.std.specs.Io.KnownBytes.{prepend_known}
-use Rattle.mesh_base.specs.declared.limits.TheConstants.{LONGEST_INPUT}
+use Rattle.std.proofs.Common.{◌≡◌, ℕ, ◌+◌, Bool, List, [], ◌∷◌, ◌++◌, Option, Some, None, Result, refl, sym, ap, subst, ◌∙◌}
+use Rattle.std.specs.Prelude.{IfSome, ⊤}
+use Rattle.mesh_base.specs.declared.limits.TheConstants.{LONGEST_LINE}
 use Rattle.mesh_base.specs.declared.events.Counter.{Counter}
-use Rattle.mesh_base.specs.Parts.{parts}
-use Rattle.mesh_io.specs.Cutting.{Tells}
-use Rattle.mesh_io.specs.NextLines.{Line, schedule_limits}
-use Rattle.mesh_io.specs.declared.line_error.LineError.TheVariants as error
+use Rattle.mesh_io.specs.NextLines.{schedule_limits}
+use Rattle.mesh_io.specs.declared.limits.Limits.{Limits}
+use Rattle.mesh_io.specs.declared.sink.Sink as sinks
+use Rattle.mesh_link.specs.declared.link.Link as links
 use Rattle.mesh_link.specs.Datagrams.{Datagram}
 use Rattle.mesh_grammar.specs.declared.fault.LineFault.{LineFault}
 use Rattle.mesh_grammar.specs.declared.fault.BadWhy.{BadWhy}
 use Rattle.mesh_grammar.specs.declared.fault.BadWhy.TheVariants.{TooLong, TooMuch}
-use Rattle.mesh_grammar.specs.Lines.{Piece, Whole, Long, Beyond, pieces_of}
+use Rattle.mesh_shell.specs.Pieces.{Piece, Whole, Long, Beyond, pieces_within}
+use Rattle.mesh_shell.specs.Scripts.{piece_past}
+use Rattle.mesh_shell.specs.Runs.{End, AtEnd, AtLine, AtWait, AtFault, HasEnded, LeavesOf, IsRan}
+use Rattle.mesh_shell.specs.declared.limit.Limit.{Limit}
+use Rattle.mesh_shell.specs.declared.limit.Limit.TheVariants as limit
+use Rattle.mesh_shell.specs.declared.reader.LineReader as readers
+use Rattle.mesh_shell.specs.declared.runner.Runner as runners
 use Rattle.mesh_grammar.specs.Faults.{bad_line}
 use Rattle.mesh_peers.specs.Peers.{PeersSeen}
 use Rattle.mesh_peers.specs.Lines.{AcceptedLine, line_of}
@@ -20,15 +25,17 @@ use Rattle.mesh_router.specs.declared.status.NodeStatus.{NodeStatus}
 use Rattle.mesh_router.specs.declared.status.NodeStatus.TheVariants as status
 use Rattle.mesh_router.specs.Logs.{Log, nothing, text_log}
 use Rattle.mesh_router.specs.Routers.{Moment, peers_in, is_running, opening_moment}
-use Rattle.mesh_router.specs.Finds.{Find, left_after, arrivals, AreFound}
-use Rattle.mesh_router.specs.Lines.{LineOutcome, On, Refused, Full, outcome_of_piece, outcome_of_read, outcome_of_line}
+use Rattle.mesh_router.specs.Finds.{Find, AreNext, left_after, arrivals, AreFound}
+use Rattle.mesh_router.specs.Lines.{LineOutcome, On, Refused, Full, why_past, outcome_of_piece, outcome_of_read, outcome_of_line}
 use Rattle.mesh_router.specs.Text.{Run, finished_run, refused_run, overfull_run, run_after, goes_on, run_from, run_of_script, full_line}
 use Rattle.mesh_router.specs.Outputs.{Outputs, Adds, AddsPrefix}
 use Rattle.mesh_router.specs.Runs.{log_of, IsLineDone, IsLineFull, IsLineInPart}
 use Rattle.mesh_router.specs.Output.{IsOutput, IsTold, IsScriptRun}
-use Rattle.mesh_router.proofs.Logging.{adds-join, prefix-none, prefix-join, prefix-more}
-use Rattle.mesh_router.proofs.Finds.{next-front, next-rest, next-self, found-none, found-join, told-next}
-use Rattle.mesh_report.proofs.Pieces.{pieces_at, pieces_none, IsAhead, Begins, ahead}
+use Rattle.mesh_router.specs.Routing.{outputs_by, arrived_by, HasLed, HasStopped, HasFinished, IsCut, HasRoomFor}
+use Rattle.mesh_router.specs.declared.run.Routing.{Routing}
+use Rattle.mesh_router.specs.Joins.{adds-join, found-join, found-none, next-front, next-rest}
+use Rattle.mesh_router.proofs.Logging.{prefix-none, prefix-join, prefix-more}
+use Rattle.mesh_router.proofs.Finds.{next-self, told-next}
 
 -- ---- one line
 
@@ -127,106 +134,81 @@ output_after a b c log r status.WriteFault p q = prefix-join a b c log r.log p q
 output_after a b c log r status.NoMemory p q = prefix-join a b c log r.log p q
 output_after a b c log r status.LinkFault p q = prefix-join a b c log r.log p q
 
-told_after : (m n : Moment) (piece : Piece) (pieces : List Piece) (x y z : Option (List Datagram)) (a b c : Outputs) (s : NodeStatus) → IsLineDone (outcome_of_piece m piece) n x y a b → IsTold (run_from n pieces) y z b c s → IsTold (run_from m (piece ∷ pieces)) x z a c s
-told_after m n piece pieces x y z a b c s p q = record {
-  found = p.found ++ q.found;
-  taken = found-join x y z p.found q.found p.taken q.taken;
-  told = λ finds are.
-      let left = left_after finds p.found in
-      subst (λ (r : Run). IsOutput a c r s)
-      (sym (run-cons m piece pieces finds ∙ ap (λ (k : LineOutcome). goes_on m k (λ t fs. run_from t pieces fs)) (p.is finds (next-front finds p.found q.found are))))
-      (output_after a b c p.log (run_from n pieces left) s p.adds (q.told left (next-rest finds p.found q.found are)));
+-- what a line that was done does, whatever lines come after it
+pub line_goes : (m n : Moment) (piece : Piece) (x y : Option (List Datagram)) (a b : Outputs) (p : IsLineDone (outcome_of_piece m piece) n x y a b) (others : List Piece) (finds : List Find) → AreNext finds p.found
+    → run_from m (piece ∷ others) finds ≡ run_after p.log (run_from n others (left_after finds p.found))
+line_goes m n piece x y a b p others finds are = run-cons m piece others finds ∙ ap (λ (k : LineOutcome). goes_on m k (λ t fs. run_from t others fs)) (p.is finds are)
+
+-- ---- where the run ends
+
+pub told_end : (m : Moment) (x : Option (List Datagram)) (a b : Outputs) (s : NodeStatus) → IsOutput a b (finished_run m) s → IsTold (run_from m []) x x a b s
+told_end m x a b s p = record { found = []; taken = found-none x; told = λ finds are. subst (λ (r : Run). IsOutput a b r s) (sym (run-nil m finds)) p }
+
+pub told_past : (m : Moment) (limit : Limit) (x : Option (List Datagram)) (a b : Outputs) (s : NodeStatus) → IsOutput a b (refused_run m (why_past limit)) s → (others : List Piece) → IsTold (run_from m (piece_past limit ∷ others)) x x a b s
+told_past m limit.Line x a b s p = λ others. told_refused m Long TooLong others x a b s (piece-long m) p
+told_past m limit.Input x a b s p = λ others. told_refused m Beyond TooMuch others x a b s (piece-beyond m) p
+
+-- nothing more was told
+told_cut : (m : Moment) (later : List Piece) (x : Option (List Datagram)) (a : Outputs) → IsTold (run_from m later) x x a a status.ReadFault
+told_cut m later x a = record { found = []; taken = found-none x; told = λ finds are. prefix-none a (run_from m later finds).log }
+
+-- ---- a run
+
+-- the lines of a script, as they are run
+abbrev pub runner_of : {O L : Type 0} → sinks.Ghosts O → links.Ghosts L → runners.Ghosts (Routing O L) NodeStatus
+runner_of sink link = record {
+  leads = HasLed sink link;
+  stops = HasStopped sink link;
+  ends = HasFinished sink link;
+  breaks = λ old new answer. ⊥;
+  cuts = IsCut;
+  has_handed_on = λ r. ⊤;
+  has_room = HasRoomFor link;
+  longest = LONGEST_LINE;
 }
 
--- what is told of the bytes to come, and of what was told before, is told of the script
-abbrev pub Leads : Option (List ℕ) → Option (List ℕ) → ℕ → Moment → Option (List Datagram) → Option (List Datagram) → Outputs → Outputs → Type 0
-Leads None left given m x y a b = ⊤
-Leads (Some script) None given m x y a b = ⊥
-Leads (Some script) (Some bytes) given m x y a b =
-    (z : Option (List Datagram)) (c : Outputs) (s : NodeStatus) → IsTold (run_from m (pieces_at given bytes)) y z b c s → IsTold (run_of_script script) x z a c s
+-- what is told of lines, after others that were done
+told_after : {O L : Type 0} (sink : sinks.Ghosts O) (link : links.Ghosts L) (a b : Routing O L) (lines later : List Piece) (z : Option (List Datagram)) (c : Outputs) (s : NodeStatus) → HasLed sink link a lines b
+    → IsTold (run_from b.at.now later) (arrived_by link b) z (outputs_by sink link b) c s → IsTold (run_from a.at.now (lines ++ later)) (arrived_by link a) z (outputs_by sink link a) c s
+told_after sink link a b lines later z c s p q = record {
+  found = p.found ++ q.found;
+  taken = found-join (arrived_by link a) (arrived_by link b) z p.found q.found p.taken q.taken;
+  told = λ finds are.
+      let left = left_after finds p.found in
+      subst (λ (r : Run). IsOutput (outputs_by sink link a) c r s) (sym (p.goes later finds (next-front finds p.found q.found are)))
+      (output_after (outputs_by sink link a) (outputs_by sink link b) c p.log (run_from b.at.now later left) s p.adds (q.told left (next-rest finds p.found q.found are)));
+}
 
-pub leads_begin : (script left : Option (List ℕ)) (pending : List ℕ) (given : ℕ) (m : Moment) (x : Option (List Datagram)) (a : Outputs) → left ≡ script → pending ≡ [] → given ≡ 0 → m ≡ opening_moment → Leads script (prepend_known pending left) given m x x a a
-unfolding run_of_script
-leads_begin script left pending given m x a e f g h =
-    subst (λ (l : Option (List ℕ)). Leads script (prepend_known pending l) given m x x a a) (sym e)
-    (subst (λ (p : List ℕ). Leads script (prepend_known p script) given m x x a a) (sym f)
-    (subst (λ (n : ℕ). Leads script (prepend_known [] script) n m x x a a) (sym g)
-    (subst (λ (k : Moment). Leads script (prepend_known [] script) 0 k x x a a) (sym h) (front script))))
-  where
-    all : (bytes : List ℕ) → run_from opening_moment (pieces_at 0 bytes) ≡ run_of_script bytes
-    all bytes =
-        let room : LONGEST_INPUT - 0 ≡ LONGEST_INPUT = omega arith in
-        ap (λ (n : ℕ). run_from opening_moment (pieces_of (nat_lt n (length bytes)) (parts 10 (take n bytes)))) room
-
-    front : (script : Option (List ℕ)) → Leads script (prepend_known [] script) 0 opening_moment x x a a
-    front None = tt
-    front (Some bytes) = λ z c s told. subst (λ (r : List Find → Run). IsTold r x z a c s) (all bytes) told
-
--- the pieces ahead, where a line was found
-line_ahead : (given given' : ℕ) (bytes line : List ℕ) (after : Option (List ℕ)) (rest : List ℕ) → given ≤ LONGEST_INPUT → (told : Tells schedule_limits given bytes (Ok true) line given' after) → told.first.rest ≡ rest
-    → pieces_at given bytes ≡ Whole line ∷ pieces_at given' rest
-line_ahead given given' bytes line after rest few told e =
-    let a : IsAhead given bytes (Line told.first) = subst (IsAhead given bytes) told.next (ahead given bytes few) in
-    a.1 ∙ (λ i. Whole (sym told.line_is i) ∷ pieces_at (sym told.after_is i) (e i))
+told_at : {O L : Type 0} (sink : sinks.Ghosts O) (link : links.Ghosts L) (mid new : Routing O L) (answer : NodeStatus) (most : Limits) (bytes left : Option (List ℕ)) (faults now : ℕ) (done later : List Piece) (at : End)
+    → HasEnded (runner_of sink link) at mid new answer → LeavesOf most bytes left faults now done later at → IsTold (run_from mid.at.now later) (arrived_by link mid) (arrived_by link new) (outputs_by sink link mid) (outputs_by sink link new) answer
+told_at sink link mid new answer most bytes left faults now done later AtEnd ended leaves =
+    subst (λ (ps : List Piece). IsTold (run_from mid.at.now ps) (arrived_by link mid) (arrived_by link new) (outputs_by sink link mid) (outputs_by sink link new) answer) (sym leaves.0) ended.told
+told_at sink link mid new answer most bytes left faults now done later (AtLine piece) ended leaves =
+    subst (λ (ps : List Piece). IsTold (run_from mid.at.now ps) (arrived_by link mid) (arrived_by link new) (outputs_by sink link mid) (outputs_by sink link new) answer) (sym (leaves.0).1) (ended.told (leaves.0).0)
+told_at sink link mid new answer most bytes left faults now done later AtWait ended leaves = absurd ended
+told_at {O} {L} sink link mid new answer most bytes left faults now done later AtFault ended leaves =
+    subst (λ (s : NodeStatus). IsTold (run_from mid.at.now later) (arrived_by link mid) (arrived_by link new) (outputs_by sink link mid) (outputs_by sink link new) s) (sym ended.is)
+    (subst (λ (r : Routing O L). IsTold (run_from mid.at.now later) (arrived_by link mid) (arrived_by link r) (outputs_by sink link mid) (outputs_by sink link r) status.ReadFault) (sym ended.same)
+    (told_cut mid.at.now later (arrived_by link mid) (outputs_by sink link mid)))
 
 -- the finds of a whole run
 script_run : (script : List ℕ) (x z : Option (List Datagram)) (a c : Outputs) (s : NodeStatus) → IsTold (run_of_script script) x z a c s → IsScriptRun script x a c s
 script_run script None z a c s p = record { finds = p.found; arrivals_are = tt; output = p.told p.found (next-self p.found) }
 script_run script (Some ds) z a c s p = record { finds = arrivals ds; arrivals_are = refl; output = p.told (arrivals ds) (told-next ds z p.found p.taken) }
 
--- a line was found and done
-pub leads_on : (script left after : Option (List ℕ)) (given given' : ℕ) (line : List ℕ) (m n : Moment) (x y z : Option (List Datagram)) (a b c : Outputs) → given ≤ LONGEST_INPUT → Leads script left given m x y a b
-    → IfSome left (λ bytes. Tells schedule_limits given bytes (Ok true) line given' after) → IsLineDone (outcome_of_piece m (Whole line)) n y z b c → Leads script after given' n x z a c
-leads_on None left after given given' line m n x y z a b c few h told p = tt
-leads_on (Some script) None after given given' line m n x y z a b c few h told p = absurd h
-leads_on (Some script) (Some bytes) after given given' line m n x y z a b c few h told p =
-    subst (λ (o : Option (List ℕ)). Leads (Some script) o given' n x z a c) (sym told.left_is)
-    (λ u d s q. h u d s (subst (λ (ps : List Piece). IsTold (run_from m ps) y u b d s) (sym (line_ahead given given' bytes line after (told.first).rest few told refl))
-    (told_after m n (Whole line) (pieces_at given' (told.first).rest) y z u b c d s p q)))
+pub route_told : {O L R : Type 0} (sink : sinks.Ghosts O) (link : links.Ghosts L) (reader : readers.Ghosts R) (lines after : R) (old new : Routing O L) (answer : NodeStatus) → IsRan (runner_of sink link) reader lines after old new answer
+    → reader.limits lines ≡ schedule_limits → old.at.now ≡ opening_moment → IfSome (reader.left lines) (λ script. IsScriptRun script (arrived_by link old) (outputs_by sink link old) (outputs_by sink link new) answer)
+unfolding run_of_script
+route_told {O} {L} sink link reader lines after old new answer ran most opening = by_bytes (reader.left lines) ran.all
+  where
+    told : IsTold (run_from old.at.now (ran.done ++ ran.later)) (arrived_by link old) (arrived_by link new) (outputs_by sink link old) (outputs_by sink link new) answer
+    told =
+        told_after sink link old ran.mid ran.done ran.later (arrived_by link new) (outputs_by sink link new) answer ran.led
+        (told_at sink link ran.mid new answer (reader.limits lines) (reader.left lines) (reader.left after) (reader.faults lines) (reader.faults after) ran.done ran.later ran.at ran.ended ran.leaves)
 
--- and stopped
-pub leads_off : (script left after : Option (List ℕ)) (given given' : ℕ) (line : List ℕ) (m : Moment) (x y z : Option (List Datagram)) (a b c : Outputs) (s : NodeStatus) → given ≤ LONGEST_INPUT → Leads script left given m x y a b
-    → IfSome left (λ bytes. Tells schedule_limits given bytes (Ok true) line given' after) → ((pieces : List Piece) → IsTold (run_from m (Whole line ∷ pieces)) y z b c s) → IfSome script (λ t. IsScriptRun t x a c s)
-leads_off None left after given given' line m x y z a b c s few h told p = tt
-leads_off (Some script) None after given given' line m x y z a b c s few h told p = absurd h
-leads_off (Some script) (Some bytes) after given given' line m x y z a b c s few h told p =
-    script_run script x z a c s
-    (h z c s (subst (λ (ps : List Piece). IsTold (run_from m ps) y z b c s) (sym (line_ahead given given' bytes line after (told.first).rest few told refl)) (p (pieces_at given' (told.first).rest))))
-
--- the end
-pub leads_end : (script left after : Option (List ℕ)) (given given' : ℕ) (line : List ℕ) (m : Moment) (x y : Option (List Datagram)) (a b c : Outputs) (s : NodeStatus) → Leads script left given m x y a b
-    → IfSome left (λ bytes. Tells schedule_limits given bytes (Ok false) line given' after) → IsOutput b c (finished_run m) s → IfSome script (λ t. IsScriptRun t x a c s)
-leads_end None left after given given' line m x y a b c s h told p = tt
-leads_end (Some script) None after given given' line m x y a b c s h told p = absurd h
-leads_end (Some script) (Some bytes) after given given' line m x y a b c s h told p =
-    let none : pieces_at given bytes ≡ [] = ap (pieces_at given) told.0 ∙ pieces_none given in
-    script_run script x y a c s
-    (h y c s (subst (λ (ps : List Piece). IsTold (run_from m ps) y y b c s) (sym none) (record { found = []; taken = found-none y; told = λ finds are. subst (λ (r : Run). IsOutput b c r s) (sym (run-nil m finds)) p })))
-
-refused_ahead : (given : ℕ) (bytes : List ℕ) (piece : Piece) (why : BadWhy) (script : List ℕ) (m : Moment) (x y : Option (List Datagram)) (a b c : Outputs) (s : NodeStatus) → Begins piece (pieces_at given bytes) → ((finds : List Find) → outcome_of_piece m piece finds ≡ Refused why)
-    → Leads (Some script) (Some bytes) given m x y a b → IsOutput b c (refused_run m why) s → IsScriptRun script x a c s
-refused_ahead given bytes piece why script m x y a b c s begins e h p =
-    script_run script x y a c s (h y c s (subst (λ (ps : List Piece). IsTold (run_from m ps) y y b c s) (sym begins.1) (told_refused m piece why begins.0 y b c s e p)))
-
--- a limit
-pub leads_long : (script left after : Option (List ℕ)) (given given' : ℕ) (line : List ℕ) (m : Moment) (x y : Option (List Datagram)) (a b c : Outputs) (s : NodeStatus) → given ≤ LONGEST_INPUT → Leads script left given m x y a b
-    → IfSome left (λ bytes. Tells schedule_limits given bytes (Err error.TooLong) line given' after) → IsOutput b c (refused_run m TooLong) s → IfSome script (λ t. IsScriptRun t x a c s)
-leads_long None left after given given' line m x y a b c s few h told p = tt
-leads_long (Some script) None after given given' line m x y a b c s few h told p = absurd h
-leads_long (Some script) (Some bytes) after given given' line m x y a b c s few h told p =
-    refused_ahead given bytes Long TooLong script m x y a b c s (subst (IsAhead given bytes) told.0 (ahead given bytes few)) (piece-long m) h p
-
-pub leads_much : (script left after : Option (List ℕ)) (given given' : ℕ) (line : List ℕ) (m : Moment) (x y : Option (List Datagram)) (a b c : Outputs) (s : NodeStatus) → given ≤ LONGEST_INPUT → Leads script left given m x y a b
-    → IfSome left (λ bytes. Tells schedule_limits given bytes (Err error.TooMuch) line given' after) → IsOutput b c (refused_run m TooMuch) s → IfSome script (λ t. IsScriptRun t x a c s)
-leads_much None left after given given' line m x y a b c s few h told p = tt
-leads_much (Some script) None after given given' line m x y a b c s few h told p = absurd h
-leads_much (Some script) (Some bytes) after given given' line m x y a b c s few h told p =
-    refused_ahead given bytes Beyond TooMuch script m x y a b c s (subst (IsAhead given bytes) told.0 (ahead given bytes few)) (piece-beyond m) h p
-
--- a read has failed
-pub leads_cut : (script left : Option (List ℕ)) (given : ℕ) (m : Moment) (x y : Option (List Datagram)) (a b : Outputs) → Leads script left given m x y a b → IfSome script (λ t. IsScriptRun t x a b status.ReadFault)
-leads_cut None left given m x y a b h = tt
-leads_cut (Some script) None given m x y a b h = absurd h
-leads_cut (Some script) (Some bytes) given m x y a b h =
-    script_run script x y a b status.ReadFault
-    (h y b status.ReadFault (record { found = []; taken = found-none y; told = λ finds are. prefix-none b (run_from m (pieces_at given bytes) finds).log }))
+    by_bytes : (bytes : Option (List ℕ)) → IfSome bytes (λ b. pieces_within (reader.limits lines) b ≡ ran.done ++ ran.later) → IfSome bytes (λ script. IsScriptRun script (arrived_by link old) (outputs_by sink link old) (outputs_by sink link new) answer)
+    by_bytes None all = tt
+    by_bytes (Some script) all =
+        script_run script (arrived_by link old) (arrived_by link new) (outputs_by sink link old) (outputs_by sink link new) answer
+        (subst (λ (m : Moment). IsTold (run_from m (pieces_within schedule_limits script)) (arrived_by link old) (arrived_by link new) (outputs_by sink link old) (outputs_by sink link new) answer) opening
+        (subst (λ (ps : List Piece). IsTold (run_from old.at.now ps) (arrived_by link old) (arrived_by link new) (outputs_by sink link old) (outputs_by sink link new) answer) (sym all ∙ ap (λ (l : Limits). pieces_within l script) most) told))

@@ -40,7 +40,8 @@ use Rattle.mesh_router.specs.Outputs.{Outputs, Adds, AddsPrefix, IsFault}
 use Rattle.mesh_router.specs.Peers.{receivers_of, code_log}
 use Rattle.mesh_router.specs.Runs.{log_by, log_in, IsTurnDone, IsTurnIdle, IsTurnFull, IsTurnRun, IsStepDone, IsStepFull, IsStepRun}
 use Rattle.mesh_router.specs.Short.{IsTurnShort, HoldsAfter, AreTurnsShort}
-use Rattle.mesh_router.proofs.Logging.{log-assoc, log-nil, written-append, adds-none, adds-join, prefix-join, prefix-more}
+use Rattle.mesh_router.specs.Joins.{adds-join, adds-none}
+use Rattle.mesh_router.proofs.Logging.{log-assoc, log-nil, written-append, prefix-join, prefix-more}
 
 -- what is seen of a router of these parts
 abbrev pub router_as : PeersSeen → NodeSeen → NodeIds → ℕ → ℕ → ℕ → Router

@@ -31,3 +31,9 @@ pub mod Stages
 pub mod Codes
 -- Output: what was told of the run of a script.
 pub mod Output
+-- Joins: what was written, sent and found, one after another.
+pub mod Joins
+-- Routing: the lines of a script as they are run.
+pub mod Routing
+-- RoutingLaws: the laws of that.
+pub mod RoutingLaws

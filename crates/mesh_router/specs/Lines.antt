@@ -10,7 +10,9 @@ use Rattle.aodv_model.specs.Fullness.{send_full, ask_full}
 use Rattle.mesh_grammar.specs.declared.fault.LineFault.{LineFault}
 use Rattle.mesh_grammar.specs.declared.fault.BadWhy.{BadWhy}
 use Rattle.mesh_grammar.specs.declared.fault.BadWhy.TheVariants.{Fault, TooLong, TooMuch}
-use Rattle.mesh_grammar.specs.Lines.{Piece, Whole, Long, Beyond}
+use Rattle.mesh_shell.specs.Pieces.{Piece, Whole, Long, Beyond}
+use Rattle.mesh_shell.specs.declared.limit.Limit.{Limit}
+use Rattle.mesh_shell.specs.declared.limit.Limit.TheVariants.{Line, Input}
 use Rattle.mesh_grammar.specs.Written.{line}
 use Rattle.mesh_text.specs.Tables.{node_text}
 use Rattle.mesh_peers.specs.Peers.{with_self, with_peer}
@@ -102,6 +104,11 @@ outcome_of_line m others finds =
 abbrev pub outcome_of_read : Moment → Result AcceptedLine LineFault → List Find → LineOutcome
 outcome_of_read m (Ok l) finds = outcome_of_line m l finds
 outcome_of_read m (Err fault) finds = Refused (Fault fault)
+
+-- why a line that goes past a limit is refused
+abbrev pub why_past : Limit → BadWhy
+why_past Line = TooLong
+why_past Input = TooMuch
 
 -- what a line of the script comes to at a moment
 unfoldable pub outcome_of_piece : Moment → Piece → List Find → LineOutcome

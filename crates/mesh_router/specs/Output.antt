@@ -1,7 +1,7 @@
 -- What was told of the run of a script.
 use Rattle.std.specs.Prelude.{◌≡◌, ℕ, List, Option, IfSome}
 use Rattle.mesh_link.specs.Datagrams.{Datagram}
-use Rattle.mesh_text.specs.Text.{Finished, RefusedAt, FullAt}
+use Rattle.mesh_text.specs.declared.verdict.Verdict.TheVariants.{Finished, RefusedAt, FullAt}
 use Rattle.mesh_router.specs.declared.status.NodeStatus.{NodeStatus}
 use Rattle.mesh_router.specs.declared.status.NodeStatus.TheVariants.{Done, Usage, BadLine, Full, ReadFault, WriteFault, NoMemory, LinkFault}
 use Rattle.mesh_router.specs.Finds.{Find, AreNext, AreFound, arrivals}

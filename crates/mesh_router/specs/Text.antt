@@ -4,10 +4,12 @@ use Rattle.std.specs.Prelude.{ℕ, ◌+◌, List, [], ◌∷◌, ◌++◌, codes
 use Rattle.mesh_base.specs.declared.events.Counter.{Counter}
 use Rattle.mesh_grammar.specs.declared.fault.BadWhy.{BadWhy}
 use Rattle.mesh_grammar.specs.Faults.{bad_line}
-use Rattle.mesh_grammar.specs.Lines.{Piece, pieces_of_input}
+use Rattle.mesh_shell.specs.Pieces.{Piece}
 use Rattle.mesh_grammar.specs.Written.{line, label_number}
 use Rattle.mesh_text.specs.Lines.{field_text}
-use Rattle.mesh_text.specs.Text.{Verdict, Finished, RefusedAt, FullAt}
+use Rattle.mesh_text.specs.Text.{pieces_of_input}
+use Rattle.mesh_text.specs.declared.verdict.Verdict.{Verdict}
+use Rattle.mesh_text.specs.declared.verdict.Verdict.TheVariants.{Finished, RefusedAt, FullAt}
 use Rattle.mesh_router.specs.Logs.{Log, text_log, followed_by}
 use Rattle.mesh_router.specs.Routers.{Router, router_in, Moment, opening_moment}
 use Rattle.mesh_router.specs.Finds.{Find}

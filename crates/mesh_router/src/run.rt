@@ -1,11 +1,11 @@
 //! The run of a router's script.
 ghost use Rattle.std.specs.Prelude.{◌≡◌, ◌≢◌, ◌<◌, ◌≤◌, ◌+◌, ◌^◌, ◌∷◌, [], List, is_some, true, OnOk, IfErr, IfSome, Err};
 ghost use Rattle.std.specs.Io.KnownBytes.{IsAtEnd};
-ghost use Rattle.mesh_grammar.specs.Lines.{Piece, Whole};
+ghost use Rattle.mesh_shell.specs.Pieces.{Piece, Whole};
 ghost use Rattle.mesh_io.specs.Cause.{Rose};
-ghost use Rattle.mesh_io.specs.Reading.{faults_of, given_of, pending_of, source_of};
+ghost use Rattle.mesh_io.specs.NextLines.{schedule_limits};
 ghost use Rattle.mesh_router.specs.Routers.{router_in, opening_moment};
-ghost use Rattle.mesh_router.specs.Lines.{outcome_of_piece};
+ghost use Rattle.mesh_router.specs.Lines.{outcome_of_piece, why_past};
 ghost use Rattle.mesh_router.specs.Text.{run_from};
 ghost use Rattle.mesh_router.specs.Seen.{HasCounts, IsGrown, most_grown};
 ghost use Rattle.mesh_router.specs.Runs.{IsLineDone};
@@ -17,9 +17,10 @@ use crate::point::Point;
 use crate::status::NodeStatus;
 use crate::stop::{Scratch, Stop};
 use mesh_grammar::BadWhy;
-use mesh_io::{LineError, Lines, Sink, Source};
+use mesh_io::{Cutter, Limits, SCHEDULE_ROOM, Sink, Source};
 use mesh_link::Link;
 use mesh_peers::parse_node_line;
+use mesh_shell::{Limit, LineReader, Runner, run_lines};
 use std::alloc::Global;
 
 // Does one line that isn't too long. Where the run ends at it, that is told.
@@ -73,51 +74,113 @@ fn one<O: Sink, L: Link>(
     }
 }
 
-// Runs the lines of a source from its front.
-fn run_lines<I: Source, O: Sink, L: Link>(
-    alloc: Global,
-    at: &mut Point,
-    lines: &mut Lines<'_, I>,
-    scratch: &mut Scratch,
-    out: &mut O,
-    link: &mut L,
-) -> NodeStatus
-    requires opening { at.old ≡ opening_moment }
-    requires pending { pending_of lines.old ≡ [] }
-    requires given { given_of lines.old ≡ 0 }
-    requires open { is_some (L.port link.old) ≡ true }
-    ensures same { (source_of lines.new).ghost_name ≡ (source_of lines.old).ghost_name }
-    ensures told { IfSome (I.left (source_of lines.old).now) (λ script.
-        IsScriptRun script (L.arrived link.old) (O.held out.old, L.sent link.old)
-        (O.held out.new, L.sent link.new) result) }
-    ensures end { result ≡ NodeStatus.Done → IsAtEnd (I.left (source_of lines.new).now) }
-    ensures read { result ≡ NodeStatus.ReadFault
-        → Rose (faults_of I.faults lines.old) (faults_of I.faults lines.new) }
-    ensures write { result ≡ NodeStatus.WriteFault → Rose (O.faults out.old) (O.faults out.new) }
-    ensures send { result ≡ NodeStatus.LinkFault
-        → Rose (L.faults link.old) (L.faults link.new) }
-    ensures sink { O.faults out.old ≤ O.faults out.new }
-    ensures links { L.faults link.old ≤ L.faults link.new }
-    ensures port { L.port link.new ≡ L.port link.old }
-    ensures words { result ≢ NodeStatus.Usage }
+// Why a line that goes past a limit is refused.
+fn why_past(limit: Limit) -> BadWhy
+    ensures { result ≡ why_past limit }
 {
-    'lines: loop {
-        match lines.advance() {
-            Ok(true) => {
-                if let Err(status) = one(alloc, at, lines.line(), scratch, out, link) {
-                    return status;
-                }
-            }
-            Ok(false) => return finish(at, &mut scratch.line, out),
-            Err(LineError::ReadFault) => return NodeStatus::ReadFault,
-            Err(LineError::TooLong) => {
-                return refuse(at, BadWhy::TooLong, &mut scratch.line, out);
-            }
-            Err(LineError::TooMuch) => {
-                return refuse(at, BadWhy::TooMuch, &mut scratch.line, out);
-            }
+    match limit {
+        Limit::Line => BadWhy::TooLong,
+        Limit::Input => BadWhy::TooMuch,
+    }
+}
+
+/// The lines of a script, run from a point over a link: what each writes and sends is put at once,
+/// in one order.
+pub(crate) struct Routing<'a, O, L> {
+    alloc: Global,
+    at: &'a mut Point,
+    scratch: &'a mut Scratch,
+    out: &'a mut O,
+    link: &'a mut L,
+}
+
+impl<O: Sink, L: Link> Runner for Routing<'_, O, L> {
+    ghost use Rattle.std.specs.Prelude.{⊤};
+    ghost use Rattle.mesh_base.specs.declared.limits.TheConstants.{LONGEST_LINE};
+    ghost use Rattle.mesh_router.specs.Routing.{HasLed, HasStopped, HasFinished, IsCut, HasRoomFor};
+    ghost use Rattle.mesh_router.specs.RoutingLaws.{stays_there, joins_both, leaves_room};
+
+    type Answer = NodeStatus;
+
+    ghost leads = { HasLed O.Sink L.Link };
+
+    ghost stops = { HasStopped O.Sink L.Link };
+
+    ghost ends = { HasFinished O.Sink L.Link };
+
+    ghost breaks = { λ old new answer. ⊥ };
+
+    ghost cuts = { IsCut };
+
+    ghost has_handed_on = { λ r. ⊤ };
+
+    ghost has_room = { HasRoomFor L.Link };
+
+    ghost longest = { LONGEST_LINE };
+
+    // All is put at once, so nothing is gathered.
+    #[inline]
+    fn wait(&mut self) -> Option<NodeStatus> {
+        None
+    }
+
+    #[inline]
+    fn line(&mut self, line: &[u8]) -> Option<NodeStatus> {
+        match one(self.alloc, self.at, line, self.scratch, self.out, self.link) {
+            Ok(()) => None,
+            Err(status) => Some(status),
         }
     }
+
+    fn past(&mut self, limit: Limit) -> NodeStatus {
+        refuse(self.at, why_past(limit), &mut self.scratch.line, self.out)
+    }
+
+    fn end(&mut self) -> NodeStatus {
+        finish(self.at, &mut self.scratch.line, self.out)
+    }
+
+    #[inline]
+    fn cut(&mut self) -> NodeStatus {
+        NodeStatus::ReadFault
+    }
+
+    ghost stays = { stays_there _ _ };
+
+    ghost joins = { joins_both _ _ };
+
+    ghost leaves = { leaves_room _ _ };
+}
+
+// Runs the lines of a script from its front.
+fn route<R: LineReader, O: Sink, L: Link>(
+    routing: &mut Routing<'_, O, L>,
+    lines: &mut R,
+) -> NodeStatus
+    requires opening { routing.old.at.now ≡ opening_moment }
+    requires most { R.limits lines.old ≡ schedule_limits }
+    requires pending { R.pending lines.old ≡ [] }
+    requires given { R.given lines.old ≡ 0 }
+    requires open { is_some (L.port routing.old.link.now) ≡ true }
+    ensures same { R.name lines.new ≡ R.name lines.old }
+    ensures same_out { routing.new.out.ghost_name ≡ routing.old.out.ghost_name }
+    ensures same_link { routing.new.link.ghost_name ≡ routing.old.link.ghost_name }
+    ensures told { IfSome (R.left lines.old) (λ script.
+        IsScriptRun script (L.arrived routing.old.link.now)
+        (O.held routing.old.out.now, L.sent routing.old.link.now)
+        (O.held routing.new.out.now, L.sent routing.new.link.now) result) }
+    ensures end { result ≡ NodeStatus.Done → IsAtEnd (R.left lines.new) }
+    ensures read { result ≡ NodeStatus.ReadFault → Rose (R.faults lines.old) (R.faults lines.new) }
+    ensures write { result ≡ NodeStatus.WriteFault
+        → Rose (O.faults routing.old.out.now) (O.faults routing.new.out.now) }
+    ensures send { result ≡ NodeStatus.LinkFault
+        → Rose (L.faults routing.old.link.now) (L.faults routing.new.link.now) }
+    ensures sink { O.faults routing.old.out.now ≤ O.faults routing.new.out.now }
+    ensures links { L.faults routing.old.link.now ≤ L.faults routing.new.link.now }
+    ensures port { L.port routing.new.link.now ≡ L.port routing.old.link.now }
+    ensures words { result ≢ NodeStatus.Usage }
+{
+    run_lines(routing, lines)
 }
 
 /// Runs a router's script over an open link, from its source to the sink and the link: each line of
@@ -153,8 +216,23 @@ pub fn run_script<I: Source, O: Sink, L: Link>(
 {
     let mut at = Point::new();
     let mut scratch = Scratch::new();
-    let mut lines = Lines::new(input);
-    let status = run_lines(alloc, &mut at, &mut lines, &mut scratch, out, link);
+    let mut lines: Cutter<'_, I, SCHEDULE_ROOM> = Cutter::new(input, Limits::of_schedule());
+    let mut routing = Routing {
+        alloc,
+        at: &mut at,
+        scratch: &mut scratch,
+        out,
+        link,
+    };
+    let status = route(&mut routing, &mut lines);
+    // It says that `out` and `link` are what the run has left.
+    let Routing {
+        alloc: _,
+        at: _,
+        scratch: _,
+        out: _,
+        link: _,
+    } = routing;
     // It says that `input` is the source as the lines have left it.
     let _source = lines.give_back();
     status

@@ -10,7 +10,7 @@ use Rattle.mesh_base.specs.Meshes.{Nodes, with_node}
 use Rattle.std.specs.Option.{unwrap_or}
 use Rattle.mesh_model.proofs.Sizes.{same_size}
 use Rattle.mesh_model.specs.Accounts.{any, in_taken, in_dropped, in_message, given_data, delivered_data, delivered_in, dropped_data, dropped_in, doubled_in, doubled_at}
-use Rattle.mesh_grammar.specs.Lines.{Whole}
+use Rattle.mesh_shell.specs.Pieces.{Whole}
 use Rattle.mesh_grammar.specs.Written.{line}
 use Rattle.mesh_text.specs.Schedule.{Moment, AcceptedLine, Nothing, NewNode, Does, Chooses, ShowsNode, ShowsRoute, ShowsFlight, line_of, world_of, with_world, next_moment, with_line_read, outcome_at, idle_by}
 use Rattle.mesh_text.specs.Lines.{words_of}

@@ -6,9 +6,9 @@ pub mod Begun
 pub mod Chosen
 pub mod Ways
 pub mod Tables
-pub mod Completes
-pub mod Story
 pub mod NextCopies
 pub mod Growth
 pub mod Faults
-pub mod Buffers
+pub mod Settled
+pub mod Scripts
+pub mod Loud

@@ -1,12 +1,15 @@
--- Codes: the status with which a process ends. Outputs: what was told of a run. This is what the
--- contract of `run` cites beside the definitions of mesh_text. Causes: when a fault is answered.
--- Variants: the variants of the protocol, by name. The others say what the parts of a run do.
--- Stops: why an event isn't done. Runs: what was told of one line, of one event, and of events that
--- were chosen. Driven: what a run over the lines of a source comes to.
+-- Codes: what a run answers, and the status with which a process ends. Outputs: what was told of a
+-- run. This is what the contract of `run` cites beside the definitions of mesh_text. Causes: when a
+-- fault is answered. Variants: the variants of the protocol, by name. The others say what the parts
+-- of a run do. Stops: why an event isn't done. Runs: what was told of one line, of one event, and
+-- of events that were chosen. Ends: the end of a run at a line that wasn't done. Room: how far
+-- lines can lead. Running: the run of a schedule as a script.
 pub mod Codes
 pub mod Outputs
 pub mod Causes
 pub mod Variants
 pub mod Stops
 pub mod Runs
-pub mod Driven
+pub mod Ends
+pub mod Room
+pub mod Running

@@ -1,11 +1,14 @@
 -- What was told of a run: what the sink held before, and what it holds now. Where a sink doesn't
 -- tell what it holds, the verdict alone is claimed.
-use Rattle.std.specs.Prelude.{ℕ, ◌≡◌, Bool, true, false, if◌then◌else◌, List, [], Option, Some}
-use Rattle.std.specs.Io.KnownBytes.{Appends, Consumes}
+use Rattle.std.specs.Prelude.{ℕ, ◌≡◌, Bool, true, false, if◌then◌else◌, List, [], Option}
+use Rattle.std.specs.Io.KnownBytes.{Appends}
 use Rattle.mesh_io.specs.Puts.{AppendsPrefix}
-use Rattle.mesh_grammar.specs.Lines.{complete}
+use Rattle.mesh_shell.specs.Story.{RunText, whole}
+use Rattle.mesh_shell.specs.Outputs.{IsCutShort}
 use Rattle.mesh_text.specs.Schedule.{Moment}
-use Rattle.mesh_text.specs.Text.{RunText, Verdict, Finished, RefusedAt, FullAt, whole, output, text_on}
+use Rattle.mesh_text.specs.Text.{text_on}
+use Rattle.mesh_text.specs.declared.verdict.Verdict.{Verdict}
+use Rattle.mesh_text.specs.declared.verdict.Verdict.TheVariants.{Finished, RefusedAt, FullAt}
 use Rattle.mesh_run.specs.declared.say.Say.{Say}
 use Rattle.mesh_run.specs.declared.say.Say.TheVariants.{All, Last, Faults}
 use Rattle.mesh_run.specs.declared.status.Status.{Status}
@@ -26,15 +29,17 @@ fault_line Finished last = []
 fault_line (RefusedAt n) last = last
 fault_line (FullAt n) last = last
 
--- the part of a run that is written
-abbrev pub part : Say → RunText → RunText
-part All w = output false w
-part Last w = output true w
+-- the part of a run that is written: all of it; its last line alone; or that line where it tells of
+-- a fault, and else nothing
+abbrev pub part : {M : Type 0} → Say → RunText M Verdict → RunText M Verdict
+part All w = w
+part Last w = record w { lines = [] }
 part Faults w = record w { lines = []; last = fault_line w.verdict w.last }
 
 -- a run that was to write this has answered: the whole text and its verdict, or a prefix of the
 -- text and a fault or want of memory
-abbrev pub IsOutput : Option (List ℕ) → Option (List ℕ) → RunText → Status → Type 0
+abbrev pub IsOutput : {M : Type 0} → Option (List ℕ) → Option (List ℕ) → RunText M Verdict → Status
+    → Type 0
 IsOutput before now w Done = (w.verdict ≡ Finished) × Appends before now (whole w)
 IsOutput before now w (BadLine n) = (w.verdict ≡ RefusedAt n) × Appends before now (whole w)
 IsOutput before now w (Full n) = (w.verdict ≡ FullAt n) × Appends before now (whole w)
@@ -43,27 +48,17 @@ IsOutput before now w WriteFault = AppendsPrefix before now (whole w)
 IsOutput before now w NoMemory = AppendsPrefix before now (whole w)
 IsOutput before now w Usage = ⊥
 
--- a read failed after some bytes were taken: their complete lines were all allowed and done, and
--- their text was written, which is a prefix of what the whole input comes to. `text` says what an
--- input comes to
-pub record IsCutShort (say : Say) (text : List ℕ → RunText) (bytes : List ℕ)
-    (left before now : Option (List ℕ)) : Type 0 where
-  pub taken : List ℕ
-  pub consumed : Consumes (Some bytes) left taken
-  pub done : (text (complete taken)).verdict ≡ Finished
-  pub grown : Appends before now (part say (text (complete taken))).lines
-  pub prefix : AppendsPrefix before now (whole (part say (text bytes)))
-
 -- a run of these bytes has answered, where the source has this left. After a failed read what was
--- written is the text of the lines that were read whole
-abbrev pub IsOutputOf : Say → (List ℕ → RunText) → List ℕ → Option (List ℕ) → Option (List ℕ)
-    → Option (List ℕ) → Status → Type 0
+-- written is the text of the lines that were read whole. `text` says what an input comes to
+abbrev pub IsOutputOf : {M : Type 0} → Say → (List ℕ → RunText M Verdict) → List ℕ
+    → Option (List ℕ) → Option (List ℕ) → Option (List ℕ) → Status → Type 0
 IsOutputOf say text bytes left before now Done = IsOutput before now (part say (text bytes)) Done
 IsOutputOf say text bytes left before now (BadLine n) =
     IsOutput before now (part say (text bytes)) (BadLine n)
 IsOutputOf say text bytes left before now (Full n) =
     IsOutput before now (part say (text bytes)) (Full n)
-IsOutputOf say text bytes left before now ReadFault = IsCutShort say text bytes left before now
+IsOutputOf say text bytes left before now ReadFault =
+    IsCutShort (λ input. part say (text input)) bytes left before now
 IsOutputOf say text bytes left before now WriteFault =
     IsOutput before now (part say (text bytes)) WriteFault
 IsOutputOf say text bytes left before now NoMemory =

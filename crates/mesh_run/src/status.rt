@@ -1,6 +1,9 @@
 //! What a run answers.
 ghost use Rattle.std.specs.Prelude.{◌≡◌};
 
+use mesh_shell::{Fault, WordsError};
+use mesh_text::Verdict;
+
 /// What a run came to.
 #[derive(Clone, Copy, Debug, PartialEq, Eq)]
 pub enum Status {
@@ -22,7 +25,21 @@ pub enum Status {
 }
 
 impl Status {
-    ghost use Rattle.mesh_run.specs.Codes.{code_of};
+    ghost use Rattle.mesh_run.specs.Codes.{status_of, code_of};
+
+    /// What a run answers, by what its script has come to.
+    pub fn of(answer: Result<Verdict, Fault>) -> Status
+        ensures { result ≡ status_of answer }
+    {
+        match answer {
+            Ok(Verdict::Finished) => Status::Done,
+            Ok(Verdict::RefusedAt(line)) => Status::BadLine { line },
+            Ok(Verdict::FullAt(line)) => Status::Full { line },
+            Err(Fault::ReadFault) => Status::ReadFault,
+            Err(Fault::WriteFault) => Status::WriteFault,
+            Err(Fault::NoMemory) => Status::NoMemory,
+        }
+    }
 
     /// The status with which the process ends.
     pub fn code(&self) -> u8
@@ -36,6 +53,19 @@ impl Status {
             Status::ReadFault => 5,
             Status::WriteFault => 6,
             Status::NoMemory => 7,
+        }
+    }
+}
+
+impl From<WordsError> for Status {
+    ghost use Rattle.mesh_run.specs.Codes.{status_without_words};
+
+    ghost from_gives = { λ error status. status ≡ status_without_words error };
+
+    fn from(error: WordsError) -> Status {
+        match error {
+            WordsError::NotText => Status::Usage,
+            WordsError::NoMemory => Status::NoMemory,
         }
     }
 }

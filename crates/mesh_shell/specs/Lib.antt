@@ -1,9 +1,13 @@
 -- Pieces: the lines of an input. Story: what a script makes of them. Outputs: what was told of a
--- run. Causes: when a fault is answered. Scripts: what the calls of a script answer. Laws: what
--- holds of the lines.
+-- run. Causes: when a fault is answered. Scripts: the sizes of lines, and what the calls of a
+-- script answer. Runs: what was told of a run of lines, whatever was done with them. Scripted: a
+-- script as a runner of lines. ScriptedLaws: its laws. Laws: what holds of the lines.
 pub mod Pieces
 pub mod Story
 pub mod Outputs
 pub mod Causes
 pub mod Scripts
+pub mod Runs
+pub mod Scripted
+pub mod ScriptedLaws
 pub mod Laws

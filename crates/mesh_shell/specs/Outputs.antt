@@ -18,17 +18,18 @@ pub record IsLineDone {M V : Type 0} (k : Outcome M V) (n : M) (before now : Opt
   pub is : k ≡ On text n
   pub grown : Appends before now text
 
--- it has ended the run, and the last text is written
+-- it has ended the run, and its text and the last are written
 pub record IsLineLast {M V : Type 0} (k : Outcome M V) (v : V) (before now : Option (List ℕ))
     : Type 0 where
   pub text : List ℕ
-  pub is : k ≡ Ended text v
-  pub grown : Appends before now text
+  pub last : List ℕ
+  pub is : k ≡ Ended text last v
+  pub grown : Appends before now (text ++ last)
 
--- the text of a line
+-- all that a line writes
 abbrev pub text_in : {M V : Type 0} → Outcome M V → List ℕ
 text_in (On text n) = text
-text_in (Ended text v) = text
+text_in (Ended text last v) = text ++ last
 
 -- either, or a prefix of its text was written
 abbrev pub IsLineRun : {M V : Type 0} → Outcome M V → M → Option (List ℕ) → Option (List ℕ)

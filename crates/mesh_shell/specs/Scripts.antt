@@ -1,6 +1,6 @@
--- What a script's calls answer.
-use Rattle.std.specs.Prelude.{ℕ, List, length, max, Option, Result, IfOk, IfNone, IfSome}
-use Rattle.mesh_shell.specs.Pieces.{Piece, Long, Beyond}
+-- The sizes of lines, and what a script's calls answer.
+use Rattle.std.specs.Prelude.{ℕ, ◌+◌, List, [], ◌∷◌, length, max, Option, Result, IfOk, IfNone, IfSome}
+use Rattle.mesh_shell.specs.Pieces.{Piece, Whole, Long, Beyond}
 use Rattle.mesh_shell.specs.declared.fault.Fault.{Fault}
 use Rattle.mesh_shell.specs.declared.limit.Limit.{Limit}
 use Rattle.mesh_shell.specs.declared.limit.Limit.TheVariants.{Line, Input}
@@ -8,6 +8,16 @@ use Rattle.mesh_shell.specs.declared.limit.Limit.TheVariants.{Line, Input}
 -- how many bytes a line takes of an input at least: the last may have no LF
 abbrev pub size_of_line : List ℕ → ℕ
 size_of_line line = max 1 (length line)
+
+-- the same of a line as it is cut, and of lines: one byte of a line that goes past a limit counts
+abbrev pub size_of_piece : Piece → ℕ
+size_of_piece (Whole line) = size_of_line line
+size_of_piece Long = 1
+size_of_piece Beyond = 1
+
+abbrev pub size_of_pieces : List Piece → ℕ
+size_of_pieces [] = 0
+size_of_pieces (piece ∷ pieces) = size_of_piece piece + size_of_pieces pieces
 
 abbrev pub piece_past : Limit → Piece
 piece_past Line = Long

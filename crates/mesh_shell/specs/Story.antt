@@ -3,11 +3,11 @@ use Rattle.std.specs.Prelude.{ℕ, Bool, true, false, List, [], ◌∷◌, ◌++
 use Rattle.mesh_io.specs.declared.limits.Limits.{Limits}
 use Rattle.mesh_shell.specs.Pieces.{Piece, pieces_within}
 
--- what a line comes to: a text, and the run goes on from the next moment; or the last text, with
--- the verdict of the run
+-- what a line comes to: its text, and the run goes on from the next moment; or its text as far as
+-- it was done, and then the last text, with the verdict of the run
 pub data Outcome (M V : Type 0) : Type 0 where
-  On : List ℕ → M → Outcome M V
-  Ended : List ℕ → V → Outcome M V
+  On : (text : List ℕ) → M → Outcome M V
+  Ended : (text last : List ℕ) → V → Outcome M V
 
 -- what the end of the input comes to: the last text, the verdict, and the moment after it
 pub record Ending (M V : Type 0) : Type 0 where
@@ -22,9 +22,9 @@ pub record Story (M V : Type 0) : Type 0 where
   pub outcome : M → Piece → Outcome M V
   pub ending : M → Ending M V
 
--- the text of a run: the head and the text of the lines that were done, and what the end, or the
--- line that has ended it, wrote last; its verdict; the moment after it, which is the one before the
--- line that has ended it; and whether the input was done to its end
+-- the text of a run: the head and the text of its lines as far as they were done, and what the end,
+-- or the line that has ended it, wrote last; its verdict; the moment after it, which is the one
+-- before the line that has ended it; and whether the input was done to its end
 pub record RunText (M V : Type 0) : Type 0 where
   pub lines : List ℕ
   pub last : List ℕ
@@ -46,10 +46,10 @@ finished_run e = record {
 }
 
 -- a line has ended the run
-abbrev pub ended_run : {M V : Type 0} → M → List ℕ → V → RunText M V
-ended_run m text v = record {
-  lines = [];
-  last = text;
+abbrev pub ended_run : {M V : Type 0} → M → (text last : List ℕ) → V → RunText M V
+ended_run m text last v = record {
+  lines = text;
+  last = last;
   verdict = v;
   after = m;
   complete = false;
@@ -62,7 +62,7 @@ lines_before text w = record w { lines = text ++ w.lines }
 -- what a line came to, and then the rest of the run from the next moment on
 abbrev pub goes_on : {M V : Type 0} → M → Outcome M V → (M → RunText M V) → RunText M V
 goes_on m (On text n) others = lines_before text (others n)
-goes_on m (Ended text v) others = ended_run m text v
+goes_on m (Ended text last v) others = ended_run m text last v
 
 -- the run of these lines from a moment on
 unfoldable pub text_from : {M V : Type 0} → Story M V → M → List Piece → RunText M V

@@ -8,9 +8,9 @@ ghost use Rattle.mesh_shell.specs.Outputs.{IsOutputFrom};
 ghost use Rattle.mesh_shell.specs.Causes.{HasFaultCause, HasSourceCause};
 
 use crate::fault::Fault;
-use crate::lines::do_lines;
 use crate::reader::LineReader;
 use crate::script::Script;
+use crate::scripted::do_lines;
 use mesh_io::{BufferRoom, Buffered, Cutter, Limits, Loan, Sink, Source, Through};
 use std::alloc::Global;
 use std::marker::Brand;

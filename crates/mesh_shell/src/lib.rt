@@ -9,12 +9,16 @@ pub mod laws;
 mod limit;
 mod lines;
 mod reader;
+mod runner;
 mod script;
+mod scripted;
 mod words;
 
 pub use driving::run;
 pub use fault::Fault;
 pub use limit::Limit;
+pub use lines::run_lines;
 pub use reader::LineReader;
+pub use runner::Runner;
 pub use script::Script;
 pub use words::{WordsError, texts_of, words_of};

@@ -1,80 +1,55 @@
 //! The one loop over the lines of an input.
-ghost use Rattle.std.specs.Prelude.{◌≡◌, ◌≤◌, ◌+◌, [], true, false, IfSome, IfOk, OnOk, Result, IsErrOf};
-ghost use Rattle.std.specs.Io.KnownBytes.{IsAtEnd, Keeps};
-ghost use Rattle.mesh_io.specs.Buffering.{inner_of, gathered_in, held_by};
-ghost use Rattle.mesh_io.specs.Cause.{HasCause};
+ghost use Rattle.std.specs.Prelude.{◌≡◌, ◌≤◌, ◌+◌, [], true, false, IfNone, IfSome};
 ghost use Rattle.mesh_io.specs.Decisions.{decides};
-ghost use Rattle.mesh_shell.specs.Story.{text_on};
-ghost use Rattle.mesh_shell.specs.Outputs.{IsOutputFrom};
-ghost use Rattle.mesh_shell.specs.Causes.{HasFaultCause};
+ghost use Rattle.mesh_shell.specs.Runs.{IsRan};
 
-use crate::fault::Fault;
 use crate::limit::Limit;
 use crate::reader::LineReader;
-use crate::script::Script;
-use mesh_io::{Buffered, LineError, PutFault, Sink};
+use crate::runner::Runner;
+use mesh_io::LineError;
 
 // Hands on what is gathered, unless the next answer needs no read: nothing is awaited then, and
 // nothing changes.
-fn hand_on<R: LineReader, O: Sink>(lines: &R, out: &mut Buffered<O>) -> Result<(), PutFault>
-    ensures held { Keeps (held_by O.held out.old) (held_by O.held out.new) }
-    ensures handed_on { decides (R.limits lines.now) (R.given lines.now)
-        (R.ended lines.now) (R.pending lines.now) ≡ false → OnOk result (gathered_in out.new ≡ []) }
-    ensures same { decides (R.limits lines.now) (R.given lines.now)
-        (R.ended lines.now) (R.pending lines.now) ≡ true → out.new ≡ out.old }
-    ensures cause { HasCause (O.faults (inner_of out.old)) (O.faults (inner_of out.new)) result }
+#[inline]
+fn hand_on<R: Runner, L: LineReader>(runner: &mut R, lines: &L) -> Option<R::Answer>
+    ensures goes { IfNone result (R.leads runner.old [] runner.new) }
+    ensures handed_on { decides (L.limits lines.now) (L.given lines.now)
+        (L.ended lines.now) (L.pending lines.now) ≡ false
+        → IfNone result (R.has_handed_on runner.new) }
+    ensures same { decides (L.limits lines.now) (L.given lines.now)
+        (L.ended lines.now) (L.pending lines.now) ≡ true → runner.new ≡ runner.old }
+    ensures breaks { IfSome result (λ answer. R.breaks runner.old runner.new answer) }
 {
     if lines.is_decided() {
-        return Ok(());
+        return None;
     }
-    out.flush()
+    runner.wait()
 }
 
-/// Does the lines of a source from its front, up to its end or the first that ends the run, after
-/// what the script writes first. What is gathered is handed on before each read, so that a line's
-/// text is there before the next is awaited.
-pub fn do_lines<S: Script, R: LineReader, O: Sink>(
-    script: &mut S,
-    lines: &mut R,
-    out: &mut Buffered<O>,
-) -> Result<S::Verdict, Fault>
-    requires short { (R.limits lines.old).line ≤ S.longest }
-    requires room { S.has_room script.old ((R.limits lines.old).input + 1) }
-    requires pending { R.pending lines.old ≡ [] }
-    requires given { R.given lines.old ≡ 0 }
-    ensures same { R.name lines.new ≡ R.name lines.old }
-    ensures told { IfSome (R.left lines.old) (λ bytes.
-        IsOutputFrom S.story (R.limits lines.old) script.old bytes
-        (R.left lines.new)
-        (held_by O.held out.old) (held_by O.held out.new) result) }
-    ensures after { IfOk result (λ v. S.is_final v → IfSome (R.left lines.old)
-        (λ bytes. script.new ≡ (text_on S.story (R.limits lines.old) script.old bytes).after)) }
-    ensures leads { IfOk result (λ v. S.is_final v
-        → S.leads script.old (R.limits lines.old).input script.new) }
-    ensures sound { IfOk result (λ v. S.is_final v → S.is_sound script.new) }
-    ensures end { IfOk result (λ v. S.is_final v → IsAtEnd (R.left lines.new)) }
-    ensures read { HasFaultCause Fault.ReadFault
-        (R.faults lines.old) (R.faults lines.new) result }
-    ensures write { HasFaultCause Fault.WriteFault
-        (O.faults (inner_of out.old)) (O.faults (inner_of out.new)) result }
+/// Does the lines of a source from its front, up to its end or the first that ends the run. What is
+/// gathered is handed on before each read, so that a line's text is there before the next is
+/// awaited.
+pub fn run_lines<R: Runner, L: LineReader>(runner: &mut R, lines: &mut L) -> R::Answer
+    requires short { (L.limits lines.old).line ≤ R.longest }
+    requires room { R.has_room runner.old ((L.limits lines.old).input + 1) }
+    requires pending { L.pending lines.old ≡ [] }
+    requires given { L.given lines.old ≡ 0 }
+    ensures same { L.name lines.new ≡ L.name lines.old }
+    ensures ran { IsRan R.Runner L.LineReader lines.old lines.new runner.old runner.new result }
 {
-    if let Err(fault) = script.begin(out) {
-        return Err(fault);
-    }
     'lines: loop {
-        if let Err(_) = hand_on(lines, out) {
-            return Err(Fault::WriteFault);
+        if let Some(answer) = hand_on(runner, lines) {
+            return answer;
         }
         match lines.advance() {
-            Ok(true) => match script.line(lines.line(), out) {
-                Ok(None) => {}
-                Ok(Some(verdict)) => return Ok(verdict),
-                Err(fault) => return Err(fault),
+            Ok(true) => match runner.line(lines.line()) {
+                None => {}
+                Some(answer) => return answer,
             },
-            Ok(false) => return script.end(out),
-            Err(LineError::ReadFault) => return Err(Fault::ReadFault),
-            Err(LineError::TooLong) => return script.past(Limit::Line, out),
-            Err(LineError::TooMuch) => return script.past(Limit::Input, out),
+            Ok(false) => return runner.end(),
+            Err(LineError::ReadFault) => return runner.cut(),
+            Err(LineError::TooLong) => return runner.past(Limit::Line),
+            Err(LineError::TooMuch) => return runner.past(Limit::Input),
         }
     }
 }

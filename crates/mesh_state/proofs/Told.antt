@@ -4,7 +4,10 @@ use Rattle.std.specs.Io.KnownBytes.{Appends, Keeps}
 use Rattle.mesh_base.specs.declared.events.Variant.TheVariants.{Base}
 use Rattle.mesh_io.proofs.Writing.{Appends-join, AppendsPrefix-join, Keeps-same}
 use Rattle.mesh_text.specs.Schedule.{Moment, opening}
-use Rattle.mesh_text.specs.Text.{RunText, Verdict, Finished, whole, text_on}
+use Rattle.mesh_text.specs.Text.{RunText, whole, text_on}
+use Rattle.mesh_text.specs.declared.verdict.Verdict.{Verdict}
+use Rattle.mesh_text.specs.declared.verdict.Verdict.TheVariants.{Finished}
+use Rattle.mesh_run.specs.declared.say.Say.{Say}
 use Rattle.mesh_run.specs.declared.say.Say.TheVariants.{All, Faults}
 use Rattle.mesh_run.specs.declared.status.Status.{Status}
 use Rattle.mesh_run.specs.declared.status.Status.TheVariants as status
@@ -23,6 +26,10 @@ use Rattle.mesh_state.proofs.Refused.{refused, restored}
 
 -- ---- with `save`
 
+-- of a run from the opening on that tells its faults alone
+told_of : (say : Say) (start : Moment) (bytes : List ℕ) (after a b : Option (List ℕ)) (s : Status) → say ≡ Faults → start ≡ opening Base → IsOutputFrom say start bytes after a b s → IsOutputFrom Faults (opening Base) bytes after a b s
+told_of say start bytes after a b s l e t = subst (λ x. IsOutputFrom Faults x bytes after a b s) e (subst (λ x. IsOutputFrom x start bytes after a b s) l t)
+
 -- a run that isn't done
 stopped : (bytes : List ℕ) (after a b : Option (List ℕ)) (s : Status) → s ≢ status.Done → IsOutputFrom Faults (opening Base) bytes after a b s → IsRunSaved bytes after a b s
 stopped bytes after a b status.Done other t = absurd (other refl)
@@ -33,10 +40,10 @@ stopped bytes after a b status.WriteFault other t = inl t
 stopped bytes after a b status.NoMemory other t = t
 stopped bytes after a b status.Usage other t = t
 
-pub stopped_told : (start : Moment) (left after a b : Option (List ℕ)) (s : Status) → start ≡ opening Base → s ≢ status.Done → IfSome left (λ bytes. IsOutputFrom Faults start bytes after a b s)
+pub stopped_told : (say : Say) (start : Moment) (left after a b : Option (List ℕ)) (s : Status) → say ≡ Faults → start ≡ opening Base → s ≢ status.Done → IfSome left (λ bytes. IsOutputFrom say start bytes after a b s)
     → HasAnswered (Some Save) left after a b (Run s)
-stopped_told start None after a b s e other t = tt
-stopped_told start (Some bytes) after a b s e other t = stopped bytes after a b s other (subst (λ x. IsOutputFrom Faults x bytes after a b s) e t)
+stopped_told say start None after a b s l e other t = tt
+stopped_told say start (Some bytes) after a b s l e other t = stopped bytes after a b s other (told_of say start bytes after a b s l e t)
 
 -- of a run that is done no line was told
 nothing_said : (w : RunText) (a b : Option (List ℕ)) → w.verdict ≡ Finished → Appends a b (whole (part Faults w)) → Appends a b []
@@ -53,10 +60,10 @@ record CameTo (bytes : List ℕ) (at : Moment) (a b : Option (List ℕ)) : Type 
   after : at ≡ (text_on (opening Base) bytes).after
   nothing : Appends a b []
 
-came_to : (start at : Moment) (bytes : List ℕ) (after a b : Option (List ℕ)) (s : Status) → start ≡ opening Base → s ≡ status.Done
-    → IsOutputFrom Faults start bytes after a b s → at ≡ (text_on start bytes).after → CameTo bytes at a b
-came_to start at bytes after a b s e d told past =
-    let so : IsOutputFrom Faults (opening Base) bytes after a b status.Done = subst (λ x. IsOutputFrom Faults (opening Base) bytes after a b x) d (subst (λ x. IsOutputFrom Faults x bytes after a b s) e told) in
+came_to : (say : Say) (start at : Moment) (bytes : List ℕ) (after a b : Option (List ℕ)) (s : Status) → say ≡ Faults → start ≡ opening Base → s ≡ status.Done
+    → IsOutputFrom say start bytes after a b s → at ≡ (text_on start bytes).after → CameTo bytes at a b
+came_to say start at bytes after a b s l e d told past =
+    let so : IsOutputFrom Faults (opening Base) bytes after a b status.Done = subst (λ x. IsOutputFrom Faults (opening Base) bytes after a b x) d (told_of say start bytes after a b s l e told) in
     record {
       finished = so.0;
       after = past ∙ ap (λ x. (text_on x bytes).after) e;
@@ -96,11 +103,11 @@ saved bytes at after a b c r came done cut big (inr (inr is)) =
     let so : IsTooBig (text_on (opening Base) bytes) a c = record { finished = came.finished; long = subst IsTooLong came.after long.0; kept = kept } in
     subst P (sym is) so
 
-pub saved_told : (start at : Moment) (left after a b c : Option (List ℕ)) (s : Status) (r : StateStatus) → start ≡ opening Base → s ≡ status.Done
-    → IfSome left (λ bytes. IsOutputFrom Faults start bytes after a b s) → IfSome left (λ bytes. at ≡ (text_on start bytes).after) → (r ≡ Run status.Done → IsWritten at b c)
+pub saved_told : (say : Say) (start at : Moment) (left after a b c : Option (List ℕ)) (s : Status) (r : StateStatus) → say ≡ Faults → start ≡ opening Base → s ≡ status.Done
+    → IfSome left (λ bytes. IsOutputFrom say start bytes after a b s) → IfSome left (λ bytes. at ≡ (text_on start bytes).after) → (r ≡ Run status.Done → IsWritten at b c)
     → (r ≡ Run status.WriteFault → IsCut at b c) → (r ≡ TooBig → IsTooLong at × (c ≡ b)) → (r ≡ Run status.Done) ⊎ ((r ≡ Run status.WriteFault) ⊎ (r ≡ TooBig)) → HasAnswered (Some Save) left after a c r
-saved_told start at None after a b c s r e d told past done cut big one = tt
-saved_told start at (Some bytes) after a b c s r e d told past done cut big one = saved bytes at after a b c r (came_to start at bytes after a b s e d told past) done cut big one
+saved_told say start at None after a b c s r l e d told past done cut big one = tt
+saved_told say start at (Some bytes) after a b c s r l e d told past done cut big one = saved bytes at after a b c r (came_to say start at bytes after a b s l e d told past) done cut big one
 
 -- ---- with `go`
 

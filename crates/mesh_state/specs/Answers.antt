@@ -5,7 +5,8 @@ use Rattle.std.specs.Io.KnownBytes.{Keeps}
 use Rattle.mesh_base.specs.declared.events.Variant.TheVariants.{Base}
 use Rattle.mesh_io.specs.Cause.{Rose}
 use Rattle.mesh_text.specs.Schedule.{Moment, opening}
-use Rattle.mesh_text.specs.Text.{RunText, Finished, text_on}
+use Rattle.mesh_text.specs.Text.{RunText, text_on}
+use Rattle.mesh_text.specs.declared.verdict.Verdict.TheVariants.{Finished}
 use Rattle.mesh_run.specs.declared.say.Say.TheVariants.{All, Faults}
 use Rattle.mesh_run.specs.declared.status.Status.{Status}
 use Rattle.mesh_run.specs.declared.status.Status.TheVariants.{Done, Usage, ReadFault, WriteFault, NoMemory}

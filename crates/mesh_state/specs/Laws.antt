@@ -3,7 +3,8 @@ use Rattle.std.specs.Prelude.{◌≡◌, ◌≤◌, ◌⊎◌, ℕ, List, [], �
 use Rattle.mesh_base.specs.declared.limits.TheConstants.{LONGEST_INPUT}
 use Rattle.mesh_base.specs.declared.events.Variant.TheVariants.{Base}
 use Rattle.mesh_text.specs.Schedule.{Moment}
-use Rattle.mesh_text.specs.Text.{Finished, lines_before, text_on, text_of_input}
+use Rattle.mesh_text.specs.Text.{lines_before, text_on, text_of_input}
+use Rattle.mesh_text.specs.declared.verdict.Verdict.TheVariants.{Finished}
 use Rattle.mesh_checkpoint.specs.Points.{IsState}
 use Rattle.mesh_state.specs.Fronts.{front_of, rest_of}
 

@@ -1,8 +1,12 @@
 //! The top call.
-ghost use Rattle.std.specs.Prelude.{◌≡◌, ◌≢◌, ◌<◌, ◌↔◌, ◌⊎◌, map, Some, None};
+ghost use Rattle.std.specs.Prelude.{◌≡◌, ◌≢◌, ◌<◌, ◌^◌, ◌↔◌, ◌⊎◌, map, Some, None, IfSome};
 ghost use Rattle.std.specs.Io.KnownBytes.{IsAtEnd};
 ghost use Rattle.mesh_base.specs.declared.events.Variant.TheVariants.{Base};
 ghost use Rattle.mesh_text.specs.Schedule.{opening};
+ghost use Rattle.mesh_run.specs.declared.say.Say.TheVariants.{Faults};
+ghost use Rattle.mesh_run.specs.Causes.{HasSourceCause, HasStatusCause};
+ghost use Rattle.mesh_run.specs.Outputs.{IsOutputFrom};
+ghost use Rattle.mesh_run.specs.declared.say.Say.TheVariants.{All};
 ghost use Rattle.mesh_checkpoint.specs.Points.{IsTooLong};
 ghost use Rattle.mesh_save.specs.Saved.{IsWritten, IsCut};
 ghost use Rattle.mesh_state.specs.Words.{asked_of};
@@ -15,7 +19,7 @@ use crate::status::StateStatus;
 use crate::words::{Asked, asked_of};
 use mesh_io::{Sink, Source};
 use mesh_load::{StateError, load};
-use mesh_run::{Point, Say, Status, do_input};
+use mesh_run::{Point, Running, Say, Status, do_input};
 use mesh_save::SaveError;
 use mesh_world::World;
 use std::alloc::Global;
@@ -44,12 +48,12 @@ fn put_state<O: Sink>(at: &Point<World>, out: &mut O) -> StateStatus
 
 // Runs the schedule from its start on, and writes the checkpoint of its last moment.
 fn save_from<I: Source, O: Sink>(
-    alloc: Global,
-    at: &mut Point<World>,
+    running: &mut Running<World>,
     input: &mut I,
     out: &mut O,
 ) -> StateStatus
-    requires { at.old ≡ opening Base }
+    requires start { running.old.at ≡ opening Base }
+    requires say { running.old.say ≡ Faults }
     ensures told { HasAnswered (Some Asked.Save) (I.left input.old)
         (I.left input.new) (O.held out.old) (O.held out.new) result }
     ensures end { result ≡ StateStatus.Run Status.Done → IsAtEnd (I.left input.new) }
@@ -57,13 +61,15 @@ fn save_from<I: Source, O: Sink>(
     ensures write { HasWriteCause (O.faults out.old) (O.faults out.new) result }
     ensures words { result ≢ StateStatus.Run Status.Usage }
 {
-    match do_input(alloc, at, Say::Faults, input, out) {
-        Status::Done => put_state(at, out),
+    match do_input(running, input, out) {
+        Status::Done => put_state(&running.at, out),
         status => StateStatus::Run(status),
     }
 }
 
-// The same, in a world of its own.
+// The same, in a world of its own. It stands apart, so that what goes on from a checkpoint doesn't
+// pay for its frame.
+#[inline(never)]
 fn save<I: Source, O: Sink>(alloc: Global, input: &mut I, out: &mut O) -> StateStatus
     ensures told { HasAnswered (Some Asked.Save) (I.left input.old)
         (I.left input.new) (O.held out.old) (O.held out.new) result }
@@ -72,8 +78,12 @@ fn save<I: Source, O: Sink>(alloc: Global, input: &mut I, out: &mut O) -> StateS
     ensures write { HasWriteCause (O.faults out.old) (O.faults out.new) result }
     ensures words { result ≢ StateStatus.Run Status.Usage }
 {
-    let mut at: Point<World> = Point::start();
-    save_from(alloc, &mut at, input, out)
+    let mut running: Running<World> = Running {
+        alloc,
+        at: Point::start(),
+        say: Say::Faults,
+    };
+    save_from(&mut running, input, out)
 }
 
 // What is answered of a front that isn't loaded.
@@ -86,7 +96,29 @@ fn answer_by(why: StateError) -> StateStatus
     }
 }
 
+// Does the lines of an input from a moment on. It stands apart, so that what loads the moment
+// doesn't pay for its frame.
+#[inline(never)]
+fn go_on<I: Source, O: Sink>(alloc: Global, at: Point<World>, input: &mut I, out: &mut O) -> Status
+    requires lines { at.lines < 2 ^ 61 }
+    requires steps { at.steps < 2 ^ 46 }
+    ensures told { IfSome (I.left input.old) (λ bytes. IsOutputFrom All at bytes
+        (I.left input.new) (O.held out.old) (O.held out.new) result) }
+    ensures end { result ≡ Status.Done → IsAtEnd (I.left input.new) }
+    ensures read { HasSourceCause (I.faults input.old) (I.faults input.new) result }
+    ensures write { HasStatusCause Status.WriteFault (O.faults out.old) (O.faults out.new) result }
+    ensures words { result ≢ Status.Usage }
+{
+    let mut running = Running {
+        alloc,
+        at,
+        say: Say::All,
+    };
+    do_input(&mut running, input, out)
+}
+
 // Goes on from the checkpoint at the input's front with the lines that follow it.
+#[inline(never)]
 fn go<I: Source, O: Sink>(alloc: Global, input: &mut I, out: &mut O) -> StateStatus
     ensures told { HasAnswered (Some Asked.Go) (I.left input.old)
         (I.left input.new) (O.held out.old) (O.held out.new) result }
@@ -101,7 +133,7 @@ fn go<I: Source, O: Sink>(alloc: Global, input: &mut I, out: &mut O) -> StateSta
         Err(FrontError::NoMemory) => return StateStatus::Run(Status::NoMemory),
     };
     match loaded {
-        Ok(mut at) => StateStatus::Run(do_input(alloc, &mut at, Say::All, input, out)),
+        Ok(at) => StateStatus::Run(go_on(alloc, at, input, out)),
         Err(why) => answer_by(why),
     }
 }

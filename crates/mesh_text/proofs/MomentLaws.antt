@@ -9,10 +9,12 @@ use Rattle.mesh_model.specs.Worlds.{Event, run, start, first_numbers}
 use Rattle.mesh_model.specs.Invariants.{IsLoopSafe}
 use Rattle.mesh_model.proofs.Steps.{run_kept}
 use Rattle.mesh_model.proofs.Acyclic.{no_cycle}
-use Rattle.mesh_grammar.specs.Lines.{Piece, pieces_of_input}
+use Rattle.mesh_shell.specs.Pieces.{Piece}
+use Rattle.mesh_shell.specs.Story as shell
 use Rattle.mesh_text.specs.Schedule.{Moment, opening, world_of, next_moment}
 use Rattle.mesh_text.specs.Lines.{done_line}
-use Rattle.mesh_text.specs.Text.{LineOutcome, On, Refused, Full, outcome_of_piece, Finished, FullAt, RunText, goes_on, text_from, text_on}
+use Rattle.mesh_text.specs.Text.{pieces_of_input, LineOutcome, On, Refused, Full, outcome_of_piece, RunText, goes_on, text_from}
+use Rattle.mesh_text.specs.declared.verdict.Verdict.TheVariants.{Finished, FullAt}
 use Rattle.mesh_text.specs.Runs.{events_of_piece, events_after, events_from, events_of_input, moment_after, moment_in_next, prefix_of_input, moment_at}
 use Rattle.mesh_text.specs.Laws.{MomentIsOfRun, MomentIsLoopFree, LastLineIsOfLastMoment}
 use Rattle.mesh_text.proofs.Moments.{IsKept, opening_kept, text_kept}
@@ -79,7 +81,7 @@ goes_splits m es (Refused why) i pieces rest finished = absurd (let P : ⊥ = cc
 goes_splits m es (Full text n e field) i pieces rest finished = absurd (let P : ⊥ = cc in P)
 
 splits : (m : Moment) (i : ℕ) (pieces : List Piece) → Splits m i pieces (text_from m (take i pieces))
-unfolding Splits text_from events_from
+unfolding Splits shell.text_from events_from
 splits m zero pieces finished = refl
 splits m (suc i) [] finished = refl
 splits m (suc i) (piece ∷ pieces) finished =
@@ -157,10 +159,10 @@ goes_well m (Refused why) others rest finished = absurd (let P : ⊥ = cc in P)
 goes_well m (Full text n e field) others rest finished = absurd (let P : ⊥ = cc in P)
 
 ends_well : (m : Moment) (pieces : List Piece) → EndsWell (text_from m pieces)
-unfolding EndsWell text_from
+unfolding EndsWell shell.text_from
 ends_well m [] finished = refl
 ends_well m (piece ∷ pieces) finished = goes_well m (outcome_of_piece m piece) (λ n. text_from n pieces) (λ n. ends_well n pieces) finished
 
 pub last_line_is_of_last_moment : LastLineIsOfLastMoment
-unfolding EndsWell text_on
+unfolding EndsWell shell.text_on
 last_line_is_of_last_moment m input finished = ends_well m (pieces_of_input input) finished

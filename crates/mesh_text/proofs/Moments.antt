@@ -19,13 +19,14 @@ use Rattle.mesh_model.proofs.AccountSteps.{step_balanced, start_empty}
 use Rattle.mesh_model.proofs.Doublings.{doubling_told}
 use Rattle.mesh_model.proofs.Chosen.{OnSome}
 use Rattle.mesh_grammar.specs.declared.fault.LineFault.{LineFault}
+use Rattle.mesh_shell.specs.Story as shell
 use Rattle.mesh_text.specs.Schedule.{Moment, opening, AcceptedLine, Nothing, NewNode, Does, Chooses, ShowsNode, ShowsRoute, ShowsFlight, line_of, world_of, with_world, outcome_at, next_moment, with_line_read, idle_by}
-use Rattle.mesh_grammar.specs.Lines.{Piece, Whole, Long, Beyond}
+use Rattle.mesh_shell.specs.Pieces.{Piece, Whole, Long, Beyond}
 use Rattle.mesh_grammar.specs.Written.{line}
 use Rattle.mesh_text.specs.Lines.{words_of}
 use Rattle.mesh_text.specs.Ranges.{IsNewNode, IsInRange, IsInTime}
 use Rattle.mesh_text.specs.Auto as auto
-use Rattle.mesh_text.specs.Text.{LineOutcome, On, Refused, Full, outcome_by_events, outcome_of_auto, outcome_of_line, outcome_of_read, outcome_of_piece, RunText, goes_on, text_from, text_on, text_of_input}
+use Rattle.mesh_text.specs.Text.{LineOutcome, On, Refused, Full, outcome_by_events, outcome_of_auto, outcome_of_line, outcome_of_read, outcome_of_piece, RunText, goes_on, text_from, text_of_input}
 use Rattle.mesh_text.specs.Accounts.{IsBalanced}
 use Rattle.mesh_text.specs.Laws.{EventKeepsAccount, DataAreAccountedFor, SumsAreInOrder}
 use Rattle.mesh_text.proofs.InRange.{Allowed, line_allowed}
@@ -246,12 +247,12 @@ goes_kept m (Refused why) others outcome_of_piece is rest = is
 goes_kept m (Full text n e field) others outcome_of_piece is rest = is
 
 pub text_kept : (m : Moment) (pieces : List Piece) → IsKept m → IsKept (text_from m pieces).after
-unfolding text_from
+unfolding shell.text_from
 text_kept m [] is = is
 text_kept m (piece ∷ pieces) is = goes_kept m (outcome_of_piece m piece) (λ n. text_from n pieces) (piece_kept m piece is) is (λ n kept. text_kept n pieces kept)
 
 pub input_kept : (v : Variant) (input : List ℕ) → IsKept (text_of_input v input).after
-unfolding text_of_input text_on
+unfolding text_of_input shell.text_on
 input_kept v input = text_kept (opening v) _ (opening_kept v)
 
 pub data_are_accounted_for : DataAreAccountedFor

@@ -19,15 +19,16 @@ use Rattle.mesh_model.specs.Routes.{route_end}
 use Rattle.mesh_model.proofs.Chosen.{OnSome, pick_is_enabled}
 use Rattle.mesh_meaning.specs.Events.{node_of}
 use Rattle.mesh_grammar.specs.declared.fault.LineFault.{LineFault}
-use Rattle.mesh_grammar.specs.Lines.{Piece, Whole, Long, Beyond}
+use Rattle.mesh_shell.specs.Pieces.{Piece, Whole, Long, Beyond}
 use Rattle.mesh_grammar.specs.Written.{line, command_text}
+use Rattle.mesh_shell.specs.Story as shell
 use Rattle.mesh_text.specs.Schedule.{Moment, opening, AcceptedLine, Nothing, NewNode, Does, Chooses, ShowsNode, ShowsRoute, ShowsFlight, line_of, world_of, with_world, outcome_at, next_moment, with_line_read}
 use Rattle.mesh_text.specs.Lines.{words_of, event_words}
 use Rattle.mesh_text.specs.Effects.{outcome_text, outcome_lines}
 use Rattle.mesh_text.specs.Tables.{node_text_in, end_text, flight_text}
 use Rattle.mesh_text.specs.Ranges.{IsEventLine, IsInRange}
 use Rattle.mesh_text.specs.Auto as auto
-use Rattle.mesh_text.specs.Text.{LineOutcome, On, Refused, Full, outcome_by_events, outcome_of_auto, outcome_of_line, outcome_of_read, outcome_of_piece, RunText, goes_on, text_from, text_on, text_of_input}
+use Rattle.mesh_text.specs.Text.{LineOutcome, On, Refused, Full, outcome_by_events, outcome_of_auto, outcome_of_line, outcome_of_read, outcome_of_piece, RunText, goes_on, text_from, text_of_input}
 use Rattle.mesh_text.specs.Laws.{DataAreNamed}
 use Rattle.mesh_text.proofs.InRange.{Allowed, line_allowed}
 use Rattle.mesh_text.proofs.Picks.{each_chosen}
@@ -276,7 +277,7 @@ goes_told m (Refused why) others is kept rest not_full = silent_told m m [] tell
 goes_told m (Full text n e field) others is kept rest not_full = absurd (not_full (m.lines + 1) refl)
 
 text_told : (m : Moment) (pieces : List Piece) → IsKept m → ToldRun m (text_from m pieces)
-unfolding ToldRun text_from
+unfolding ToldRun shell.text_from
 text_told m [] is not_full = silent_told m m [] tells_none refl refl
 text_told m (piece ∷ pieces) is not_full =
     goes_told m (outcome_of_piece m piece) (λ n. text_from n pieces) (piece_told m piece is) (piece_kept m piece is) (λ n kept. text_told n pieces kept) not_full
@@ -294,5 +295,5 @@ told_whole v n text is =
     (omega arith, omega arith)
 
 pub data_are_named : DataAreNamed
-unfolding text_of_input text_on ToldRun NotFull
+unfolding text_of_input shell.text_on ToldRun NotFull
 data_are_named v input not_full = told_whole v (text_of_input v input).after (text_of_input v input).lines (text_told (opening v) _ (opening_kept v) not_full)

@@ -13,13 +13,16 @@ use Rattle.mesh_model.proofs.Lists.{each_append}
 use Rattle.mesh_model.proofs.MeshSteps.{run_keeps}
 use Rattle.mesh_model.proofs.Acyclic.{loop_free}
 use Rattle.mesh_grammar.specs.declared.fault.LineFault.{LineFault}
+use Rattle.mesh_shell.specs.Story as shell
 use Rattle.mesh_text.specs.Schedule.{Moment, opening, AcceptedLine, Nothing, NewNode, Does, Chooses, ShowsNode, ShowsRoute, ShowsFlight, line_of, world_of, with_world, outcome_at, next_moment, with_line_read}
-use Rattle.mesh_grammar.specs.Lines.{Piece, Whole, Long, Beyond}
+use Rattle.mesh_shell.specs.Pieces.{Piece, Whole, Long, Beyond}
 use Rattle.mesh_grammar.specs.Written.{line}
 use Rattle.mesh_text.specs.Lines.{words_of}
 use Rattle.mesh_text.specs.Ranges.{IsInRange, IsInTime}
 use Rattle.mesh_text.specs.Auto as auto
-use Rattle.mesh_text.specs.Text.{LineOutcome, On, Refused, Full, outcome_by_events, outcome_of_auto, outcome_of_line, outcome_of_read, outcome_of_piece, Verdict, FullAt, RunText, goes_on, text_from, text_on, text_of_input}
+use Rattle.mesh_text.specs.Text.{LineOutcome, On, Refused, Full, outcome_by_events, outcome_of_auto, outcome_of_line, outcome_of_read, outcome_of_piece, RunText, goes_on, text_from, text_of_input}
+use Rattle.mesh_text.specs.declared.verdict.Verdict.{Verdict}
+use Rattle.mesh_text.specs.declared.verdict.Verdict.TheVariants.{FullAt}
 use Rattle.mesh_text.specs.Auto.{events_chosen}
 use Rattle.mesh_text.specs.Runs.{events_of_line, events_read, events_of_piece, events_after, events_from, events_of_input, mesh_of_input, world_after}
 use Rattle.mesh_text.specs.Laws.{RunIsRunOfEvents, AllEventsCount, EventsAreOfMesh, RunsAreLoopFree, RunKeepsInvariant}
@@ -266,14 +269,14 @@ goes_follows m es (Full text n e field) others more goes kept usual rest =
     (ends_at m es (goes_on m (Full text n e field) others) refl usual (λ not_full. absurd (not_full (m.lines + 1) refl)))
 
 pub follows : (m : Moment) (pieces : List Piece) → IsKept m → Follows m (events_from m pieces) (text_from m pieces)
-unfolding events_from text_from UsualList
+unfolding events_from shell.text_from UsualList
 follows m [] is = ends_at m [] (text_from m []) refl tt (λ _. refl)
 follows m (piece ∷ pieces) is =
     goes_follows m (events_of_piece m piece) (outcome_of_piece m piece) (λ n. text_from n pieces) (λ n. events_from n pieces) (piece_goes m piece is) (piece_kept m piece is) (piece_usual m piece is)
     (λ n kept. follows n pieces kept)
 
 input_follows : (v : Variant) (input : List ℕ) → Follows (opening v) (events_of_input v input) (text_of_input v input)
-unfolding events_of_input text_of_input text_on
+unfolding events_of_input text_of_input shell.text_on
 input_follows v input = follows (opening v) _ (opening_kept v)
 
 -- ---- the laws

@@ -7,9 +7,13 @@ use Rattle.std.proofs.lemmas.List.Splits.{length-slice_split, join_with_byte-sli
 use Rattle.std.proofs.Math.Seq.{take_all}
 use Rattle.mesh_base.specs.declared.limits.TheConstants.{LONGEST_INPUT}
 use Rattle.mesh_base.specs.Parts.{parts}
-use Rattle.mesh_grammar.specs.Lines.{Piece, piece_of, pieces_of, pieces_of_input, complete, complete_parts}
+use Rattle.mesh_grammar.specs.Lines.{complete, complete_parts}
+use Rattle.mesh_io.specs.NextLines.{schedule_limits}
+use Rattle.mesh_shell.specs.Pieces.{Piece, piece_of, pieces_of}
+use Rattle.mesh_shell.specs.Story as shell
 use Rattle.mesh_text.specs.Schedule.{Moment}
-use Rattle.mesh_text.specs.Text.{LineOutcome, On, Refused, Full, outcome_of_piece, Finished, RunText, lines_before, goes_on, text_from, text_on}
+use Rattle.mesh_text.specs.Text.{pieces_of_input, LineOutcome, On, Refused, Full, outcome_of_piece, RunText, lines_before, goes_on, text_from}
+use Rattle.mesh_text.specs.declared.verdict.Verdict.TheVariants.{Finished}
 use Rattle.mesh_text.specs.Laws.{RunGoesOn}
 
 -- ---- parts
@@ -99,21 +103,21 @@ complete_seam a b whole =
 
 -- ---- pieces
 
-first_piece : (l : List ℕ) (ls : List (List ℕ)) → 1 ≤ length ls → pieces_of false (l ∷ ls) ≡ piece_of l ∷ pieces_of false ls
+first_piece : (l : List ℕ) (ls : List (List ℕ)) → 1 ≤ length ls → pieces_of schedule_limits false (l ∷ ls) ≡ piece_of schedule_limits l ∷ pieces_of schedule_limits false ls
 unfolding pieces_of
 first_piece l [] some = absurd (omega arith)
 first_piece l (m ∷ ls) some = refl
 
-pieces_glue : (ls rs : List (List ℕ)) → 1 ≤ length ls → 1 ≤ length rs → EndsEmpty ls → pieces_of false (glue ls rs) ≡ pieces_of false ls ++ pieces_of false rs
+pieces_glue : (ls rs : List (List ℕ)) → 1 ≤ length ls → 1 ≤ length rs → EndsEmpty ls → pieces_of schedule_limits false (glue ls rs) ≡ pieces_of schedule_limits false ls ++ pieces_of schedule_limits false rs
 unfolding EndsEmpty glue pieces_of
 pieces_glue [] rs some more empty = absurd (omega arith)
 pieces_glue (l ∷ []) rs some more empty =
-    subst (λ k. pieces_of false (glue (k ∷ []) rs) ≡ pieces_of false (k ∷ []) ++ pieces_of false rs) (sym empty) (ap (pieces_of false) (glue_none rs more))
+    subst (λ k. pieces_of schedule_limits false (glue (k ∷ []) rs) ≡ pieces_of schedule_limits false (k ∷ []) ++ pieces_of schedule_limits false rs) (sym empty) (ap (pieces_of schedule_limits false) (glue_none rs more))
 pieces_glue (l ∷ m ∷ ls) rs some more empty =
-    first_piece l (glue (m ∷ ls) rs) (glue_some (m ∷ ls) rs more) ∙ ap (λ ps. piece_of l ∷ ps) (pieces_glue (m ∷ ls) rs (omega arith) more empty)
+    first_piece l (glue (m ∷ ls) rs) (glue_some (m ∷ ls) rs more) ∙ ap (λ ps. piece_of schedule_limits l ∷ ps) (pieces_glue (m ∷ ls) rs (omega arith) more empty)
 
-pub short_pieces : (input : List ℕ) → length input ≤ LONGEST_INPUT → pieces_of_input input ≡ pieces_of false (parts 10 input)
-short_pieces input few = ap₂ (λ more bytes. pieces_of more (parts 10 bytes)) (not_more (nat_lt LONGEST_INPUT (length input)) refl) (take_all LONGEST_INPUT input few)
+pub short_pieces : (input : List ℕ) → length input ≤ LONGEST_INPUT → pieces_of_input input ≡ pieces_of schedule_limits false (parts 10 input)
+short_pieces input few = ap₂ (λ more bytes. pieces_of schedule_limits more (parts 10 bytes)) (not_more (nat_lt LONGEST_INPUT (length input)) refl) (take_all LONGEST_INPUT input few)
   where
     not_more : (b : Bool) → nat_lt LONGEST_INPUT (length input) ≡ b → nat_lt LONGEST_INPUT (length input) ≡ false
     not_more true is = absurd (let past = ltb-true LONGEST_INPUT (length input) is in omega arith)
@@ -122,7 +126,7 @@ short_pieces input few = ap₂ (λ more bytes. pieces_of more (parts 10 bytes)) 
 pieces_seam : (a b : List ℕ) → complete a ≡ a → length (a ++ b) ≤ LONGEST_INPUT → pieces_of_input (a ++ b) ≡ pieces_of_input a ++ pieces_of_input b
 pieces_seam a b whole few =
     let both = length-append a b in
-    short_pieces (a ++ b) few ∙ ap (pieces_of false) (parts_glue a b)
+    short_pieces (a ++ b) few ∙ ap (pieces_of schedule_limits false) (parts_glue a b)
     ∙ pieces_glue (parts 10 a) (parts 10 b) (some_parts a) (some_parts b) (complete_ends a whole)
     ∙ sym (ap₂ (λ ps qs. ps ++ qs) (short_pieces a (omega arith)) (short_pieces b (omega arith)))
 
@@ -144,11 +148,11 @@ came_goes_on m (Refused why) ps qs rest finished = absurd (let P : ⊥ = cc in P
 came_goes_on m (Full text n e field) ps qs rest finished = absurd (let P : ⊥ = cc in P)
 
 goes_on_from : (m : Moment) (ps qs : List Piece) → GoesOn m (text_from m ps) ps qs
-unfolding GoesOn text_from
+unfolding GoesOn shell.text_from
 goes_on_from m [] qs finished = refl
 goes_on_from m (p ∷ ps) qs finished = came_goes_on m (outcome_of_piece m p) ps qs (λ n. goes_on_from n ps qs) finished
 
 pub run_goes_on : RunGoesOn
-unfolding text_on GoesOn
+unfolding shell.text_on GoesOn
 run_goes_on m front rest whole few finished =
     ap (text_from m) (pieces_seam front rest whole few) ∙ goes_on_from m (pieces_of_input front) (pieces_of_input rest) finished

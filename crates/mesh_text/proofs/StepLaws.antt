@@ -4,12 +4,13 @@ use Rattle.mesh_base.specs.declared.events.Counter.{Counter}
 use Rattle.mesh_model.specs.Worlds as worlds
 use Rattle.mesh_model.specs.Worlds.{Event, Outcome, Idle, Next}
 use Rattle.mesh_grammar.specs.declared.fault.LineFault.{LineFault}
-use Rattle.mesh_grammar.specs.Lines.{Piece, Whole, Long, Beyond, pieces_of_input}
+use Rattle.mesh_shell.specs.Pieces.{Piece, Whole, Long, Beyond}
 use Rattle.mesh_grammar.specs.Written.{line}
+use Rattle.mesh_shell.specs.Story as shell
 use Rattle.mesh_text.specs.Schedule.{Moment, AcceptedLine, Nothing, NewNode, Does, Chooses, ShowsNode, ShowsRoute, ShowsFlight, line_of, with_world, outcome_at, next_moment}
 use Rattle.mesh_text.specs.Lines.{words_of}
 use Rattle.mesh_text.specs.Auto as auto
-use Rattle.mesh_text.specs.Text.{LineOutcome, On, Refused, Full, outcome_by_events, outcome_of_auto, outcome_of_line, outcome_of_read, outcome_of_piece, RunText, goes_on, text_from, text_on}
+use Rattle.mesh_text.specs.Text.{pieces_of_input, LineOutcome, On, Refused, Full, outcome_by_events, outcome_of_auto, outcome_of_line, outcome_of_read, outcome_of_piece, RunText, goes_on, text_from}
 use Rattle.mesh_text.specs.Auto.{events_chosen}
 use Rattle.mesh_text.specs.Runs.{events_of_line, events_read, events_of_piece, moment_after}
 use Rattle.mesh_text.specs.Laws.{StepsAreEvents, FullEventStands}
@@ -85,12 +86,12 @@ goes_even m (Refused why) others even rest = refl
 goes_even m (Full text n e field) others even rest = refl
 
 text_even : (m : Moment) (pieces : List Piece) → IsEven m (text_from m pieces).after
-unfolding text_from
+unfolding shell.text_from
 text_even m [] = refl
 text_even m (piece ∷ pieces) = goes_even m (outcome_of_piece m piece) (λ n. text_from n pieces) (piece_even m piece) (λ n. text_even n pieces)
 
 pub steps_are_events : StepsAreEvents
-unfolding text_on
+unfolding shell.text_on
 steps_are_events m input = text_even m (pieces_of_input input)
 
 -- ---- a refused event

@@ -11,9 +11,11 @@ use Rattle.mesh_model.specs.Worlds.{Event, run, start, first_numbers}
 use Rattle.mesh_model.specs.Places.{IsInMesh, IsEvent}
 use Rattle.mesh_model.specs.Invariants.{IsInvariant}
 use Rattle.mesh_text.specs.Schedule.{Moment, AcceptedLine, Chooses, line_of, world_of, with_world, next_moment, outcome_at}
-use Rattle.mesh_grammar.specs.Lines.{Piece, Whole, complete}
+use Rattle.mesh_grammar.specs.Lines.{complete}
+use Rattle.mesh_shell.specs.Pieces.{Piece, Whole}
 use Rattle.mesh_text.specs.Lines.{words_of, done_line}
-use Rattle.mesh_text.specs.Text.{Full, outcome_of_piece, Finished, FullAt, lines_before, text_on, text_of_input}
+use Rattle.mesh_text.specs.Text.{Full, outcome_of_piece, lines_before, text_on, text_of_input}
+use Rattle.mesh_text.specs.declared.verdict.Verdict.TheVariants.{Finished, FullAt}
 use Rattle.mesh_text.specs.Accounts.{IsBalanced, lines_with}
 use Rattle.mesh_text.specs.Runs.{events_of_piece, events_of_input, moment_after, prefix_of_input, moment_at, mesh_of_input, world_after}
 use Rattle.mesh_text.specs.Ranges.{IsInRange, IsInTime, IsEcho}

@@ -6,9 +6,9 @@ use Rattle.mesh_base.specs.declared.events.Variant.{Variant}
 use Rattle.mesh_model.specs.Worlds.{World, Event, run, start, first_numbers}
 use Rattle.mesh_grammar.specs.declared.fault.LineFault.{LineFault}
 use Rattle.mesh_text.specs.Schedule.{Moment, AcceptedLine, Does, Chooses, line_of, with_world, next_moment, opening}
-use Rattle.mesh_grammar.specs.Lines.{Piece, Whole, Long, Beyond, pieces_of_input}
+use Rattle.mesh_shell.specs.Pieces.{Piece, Whole, Long, Beyond}
 use Rattle.mesh_text.specs.Auto.{events_chosen}
-use Rattle.mesh_text.specs.Text.{LineOutcome, On, Refused, Full, outcome_of_piece, RunText, text_from, text_of_input}
+use Rattle.mesh_text.specs.Text.{pieces_of_input, LineOutcome, On, Refused, Full, outcome_of_piece, RunText, text_from, text_of_input}
 
 -- ---- the events of a line
 

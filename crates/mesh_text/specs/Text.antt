@@ -1,5 +1,5 @@
 -- The text of a run and its verdict, from the bytes of its input.
-use Rattle.std.specs.Prelude.{ℕ, ◌+◌, Bool, List, [], ◌∷◌, ◌++◌, Result, Ok, Err, length, if◌then◌else◌, is_some, slice_get}
+use Rattle.std.specs.Prelude.{ℕ, ◌+◌, List, [], ◌∷◌, ◌++◌, Result, Ok, Err, length, is_some, slice_get}
 use Rattle.mesh_base.specs.Meshes.{with_node}
 use Rattle.mesh_base.specs.declared.events.Counter.{Counter}
 use Rattle.mesh_base.specs.declared.events.Variant.{Variant}
@@ -10,7 +10,12 @@ use Rattle.mesh_grammar.specs.declared.fault.BadWhy.{BadWhy}
 use Rattle.mesh_grammar.specs.declared.fault.BadWhy.TheVariants.{Fault, TooLong, TooMuch}
 use Rattle.mesh_text.specs.Schedule.{Moment, AcceptedLine, Nothing, NewNode, Does, Chooses, ShowsNode, ShowsRoute, ShowsFlight, line_of, with_line_read, with_world, world_of, opening}
 use Rattle.mesh_grammar.specs.Faults.{bad_line}
-use Rattle.mesh_grammar.specs.Lines.{Piece, Whole, Long, Beyond, pieces_of_input}
+use Rattle.mesh_io.specs.NextLines.{schedule_limits}
+use Rattle.mesh_shell.specs.Pieces.{Piece, Whole, Long, Beyond, pieces_within}
+use Rattle.mesh_shell.specs.Story as shell
+pub use Rattle.mesh_shell.specs.Story.{whole, lines_before}
+use Rattle.mesh_text.specs.declared.verdict.Verdict.{Verdict}
+use Rattle.mesh_text.specs.declared.verdict.Verdict.TheVariants.{Finished, RefusedAt, FullAt}
 use Rattle.mesh_grammar.specs.Written.{line}
 use Rattle.mesh_text.specs.Lines.{words_of, done_line, full_line}
 use Rattle.mesh_text.specs.Tables.{node_text_in, end_text, flight_text}
@@ -78,68 +83,58 @@ text_in (Full text n e field) = text
 
 -- ---- all lines
 
--- the whole input was read; the line of this number was refused; or an event of it, for a full
--- counter
-pub data Verdict : Type 0 where
-  Finished : Verdict
-  RefusedAt : ℕ → Verdict
-  FullAt : ℕ → Verdict
+-- the lines of an input
+abbrev pub pieces_of_input : List ℕ → List Piece
+pieces_of_input input = pieces_within schedule_limits input
 
 -- what a run writes: its lines and its last line; what it came to; and the moment after its last
 -- allowed line
-pub record RunText : Type 0 where
-  pub lines : List ℕ
-  pub last : List ℕ
-  pub verdict : Verdict
-  pub after : Moment
-
-abbrev pub whole : RunText → List ℕ
-whole w = w.lines ++ w.last
-
--- the text, or its last line alone
-abbrev pub output : Bool → RunText → RunText
-output quiet w = record w { lines = if quiet then [] else w.lines }
+abbrev pub RunText : Type 0
+RunText = shell.RunText Moment Verdict
 
 -- at the end of the input
+abbrev pub ending : Moment → shell.Ending Moment Verdict
+ending m = record { text = done_line m; verdict = Finished; after = m }
+
 abbrev pub finished_run : Moment → RunText
-finished_run m = record { lines = []; last = done_line m; verdict = Finished; after = m }
+finished_run m = shell.finished_run (ending m)
 
 -- at a line that is refused
 abbrev pub refused_run : Moment → BadWhy → RunText
-refused_run m why = record {
-  lines = [];
-  last = bad_line (m.lines + 1) why;
-  verdict = RefusedAt (m.lines + 1);
-  after = m;
-}
+refused_run m why = shell.ended_run m [] (bad_line (m.lines + 1) why) (RefusedAt (m.lines + 1))
 
 -- at a line with an event that is refused for a full counter, after a text
 abbrev pub overfull_run : Moment → List ℕ → Event → Counter → RunText
-overfull_run m text e field = record {
-  lines = text;
-  last = full_line m.mesh (m.lines + 1) e field;
-  verdict = FullAt (m.lines + 1);
-  after = m;
-}
+overfull_run m text e field =
+    shell.ended_run m text (full_line m.mesh (m.lines + 1) e field) (FullAt (m.lines + 1))
 
--- lines before others
-abbrev pub lines_before : List ℕ → RunText → RunText
-lines_before text w = record w { lines = text ++ w.lines }
+-- how a line that comes to this goes on, or ends the run
+abbrev pub outcome_in_run : Moment → LineOutcome → shell.Outcome Moment Verdict
+outcome_in_run m (On text n) = shell.On text n
+outcome_in_run m (Refused why) =
+    shell.Ended [] (bad_line (m.lines + 1) why) (RefusedAt (m.lines + 1))
+outcome_in_run m (Full text n e field) =
+    shell.Ended text (full_line m.mesh (m.lines + 1) e field) (FullAt (m.lines + 1))
 
 -- what a line came to, and then the rest of the run from the next moment on
 abbrev pub goes_on : Moment → LineOutcome → (Moment → RunText) → RunText
-goes_on m (On text n) others = lines_before text (others n)
-goes_on m (Refused why) others = refused_run m why
-goes_on m (Full text n e field) others = overfull_run m text e field
+goes_on m k others = shell.goes_on m (outcome_in_run m k) others
+
+-- a run of a schedule: nothing stands before the text of its first line
+abbrev pub schedule_run : shell.Story Moment Verdict
+schedule_run = record {
+  head = λ m. [];
+  outcome = λ m piece. outcome_in_run m (outcome_of_piece m piece);
+  ending = ending;
+}
 
 -- the run of these lines from a moment on
-unfoldable pub text_from : Moment → List Piece → RunText
-text_from m [] = finished_run m
-text_from m (piece ∷ pieces) = goes_on m (outcome_of_piece m piece) (λ n. text_from n pieces)
+abbrev pub text_from : Moment → List Piece → RunText
+text_from m pieces = shell.text_from schedule_run m pieces
 
 -- what a run writes for an input from a moment on, and what it comes to
-unfoldable pub text_on : Moment → List ℕ → RunText
-text_on m input = text_from m (pieces_of_input input)
+abbrev pub text_on : Moment → List ℕ → RunText
+text_on m input = shell.text_on schedule_run schedule_limits m input
 
 -- the same from the opening on
 unfoldable pub text_of_input : Variant → List ℕ → RunText

@@ -1,9 +1,10 @@
 //! What a schedule and the text of its run are: whether a line is allowed at a moment, what an
 //! event of it does, and the text and verdict that an input's bytes have. These are definitions
-//! for the contracts of other crates, with their laws; a program has nothing of them.
+//! for the contracts of other crates, with their laws; a program has nothing of them but `Verdict`.
 #![tactic(auto)]
 
 mod laws;
+mod verdict;
 
 pub use laws::{
     a_line_has_few_events, a_printed_line_parses, a_read_line_is_in_range,
@@ -14,3 +15,4 @@ pub use laws::{
     runs_are_loop_free, steps_are_events, the_last_line_is_of_the_last_moment,
     the_sums_are_in_order,
 };
+pub use verdict::Verdict;

@@ -1,5 +1,5 @@
 -- What comes of an event with its block, and of a line with one event.
-use Rattle.std.proofs.Common.{◌≡◌, ◌∙◌, ℕ, false, List, [], ◌∷◌, ◌++◌, Option, None, Result, length, refl, sym, ap, subst, append-nil}
+use Rattle.std.proofs.Common.{◌≡◌, ◌∙◌, ℕ, false, List, [], ◌∷◌, ◌++◌, Option, None, Result, Ok, IfOk, length, refl, sym, ap, subst, append-nil}
 use Rattle.std.specs.List.{slice_get}
 use Rattle.std.specs.Io.KnownBytes.{Appends}
 use Rattle.mesh_base.specs.Meshes.{Nodes}
@@ -22,6 +22,7 @@ use Rattle.mesh_text.specs.Effects.{outcome_lines}
 use Rattle.mesh_text.specs.Tables.{node_text_in}
 use Rattle.mesh_text.specs.Auto.{Ended, before, done_then}
 use Rattle.mesh_text.specs.Text.{LineOutcome, On, Refused, Full, outcome_by_events, text_in}
+use Rattle.mesh_world.specs.declared.steps.StepError.{StepError}
 use Rattle.mesh_run.specs.declared.stop.Stop.{Stop}
 use Rattle.mesh_run.specs.declared.stop.Stop.TheVariants as stop
 use Rattle.mesh_moment.specs.Moments.{IsAnswer}
@@ -65,6 +66,11 @@ by_done m e mesh x w (done.Sent effect air) packet = refl
 by_done m e mesh x w (done.Heard from to) packet = refl
 by_done m e mesh x w (done.Lost flying) packet = refl
 by_done m e mesh x w (done.Doubled id to parcel) packet = refl
+
+-- an answer at a moment that is the same as this
+pub answer_seen : (s m n : Moment) (e : Event) (d : Done) (packet : List ℕ) (r : Result Done StepError) → s ≡ m → r ≡ Ok d → IfOk r (λ x. IsAnswer s e x n packet) → IsAnswer m e d n packet
+answer_seen s m n e d packet r same is answer =
+    subst (λ (k : Moment). IsAnswer k e d n packet) same (subst (λ (x : Result Done StepError). IfOk x (λ y. IsAnswer s e y n packet)) is answer)
 
 -- the lines of an event, with its block
 abbrev pub watched_lines : Moment → Event → List ℕ

@@ -1,27 +1,39 @@
 -- What the watched run of any schedule comes to.
-use Rattle.std.proofs.Common.{◌≡◌, ◌∙◌, ◌⊎◌, ℕ, List, Option, Some, None, IfSome, refl, sym, ap, subst, inl, inr}
+use Rattle.std.proofs.Common.{◌≡◌, ◌∙◌, ◌⊎◌, ℕ, List, Option, Some, None, IfSome, Result, refl, sym, ap, subst, inl, inr}
 use Rattle.mesh_base.specs.declared.events.Variant.{Variant}
 use Rattle.mesh_io.specs.Cause.{Rose}
+use Rattle.mesh_io.specs.NextLines.{schedule_limits}
+use Rattle.mesh_io.specs.declared.limits.Limits.{Limits}
+use Rattle.mesh_shell.specs.Outputs as outputs
+use Rattle.mesh_shell.specs.declared.fault.Fault.{Fault}
 use Rattle.mesh_text.specs.Schedule.{Moment, opening, world_of}
-use Rattle.mesh_text.specs.Text.{RunText, Finished, text_of_input}
+use Rattle.mesh_text.specs.Text.{RunText, text_of_input}
+use Rattle.mesh_text.specs.declared.verdict.Verdict.{Verdict}
+use Rattle.mesh_text.specs.declared.verdict.Verdict.TheVariants.{Finished}
 use Rattle.mesh_text.specs.Runs.{world_after}
 use Rattle.mesh_text.proofs.RunLaws.{run_of_events, runs_are_loop_free}
+use Rattle.mesh_run.specs.Codes.{status_of}
 use Rattle.mesh_run.specs.declared.status.Status.{Status}
 use Rattle.mesh_run.specs.declared.status.Status.TheVariants as status
-use Rattle.mesh_watch.specs.Text.{watched_on}
+use Rattle.mesh_run.proofs.Loud.{loud_told}
+use Rattle.mesh_watch.specs.Text.{watched_run, watched_on}
 use Rattle.mesh_watch.specs.Outputs.{IsOutputFrom, IsWatchedRun, IsRun}
 use Rattle.mesh_watch.proofs.SameRun.{same_run, watched_run_is_the_run}
 
-watched_run : (variant : Variant) (schedule : List ℕ) → IsWatchedRun variant schedule
-watched_run variant schedule = record {
+is_watched : (variant : Variant) (schedule : List ℕ) → IsWatchedRun variant schedule
+is_watched variant schedule = record {
   worlds = subst (λ (m : Moment). world_of m ≡ world_after variant schedule m.sums.events) (sym (ap (λ (w : RunText). w.after) (watched_run_is_the_run variant schedule))) (run_of_events variant schedule);
   loop_free = λ k d. runs_are_loop_free variant schedule k d;
 }
 
--- what was told, and that it is of such a run
-pub runs_so : (variant : Variant) (m : Moment) (left after a b : Option (List ℕ)) (s : Status) → m ≡ opening variant → IfSome left (λ bytes. IsOutputFrom m bytes after a b s) → IfSome left (λ bytes. IsRun variant bytes after a b s)
-runs_so variant m None after a b s same t = tt
-runs_so variant m (Some bytes) after a b s same t = (subst (λ (k : Moment). IsOutputFrom k bytes after a b s) same t, watched_run variant bytes)
+-- what the script's answer tells, and that it is of such a run
+pub runs_so : (variant : Variant) (m : Moment) (most : Limits) (given left before now : Option (List ℕ)) (answer : Result Verdict Fault) (s : Status) → m ≡ opening variant → most ≡ schedule_limits → s ≡ status_of answer
+    → IfSome given (λ bytes. outputs.IsOutputFrom watched_run most m bytes left before now answer) → IfSome given (λ bytes. IsRun variant bytes left before now s)
+runs_so variant m most None left before now answer s opens limits is told = tt
+runs_so variant m most (Some bytes) left before now answer s opens limits is told =
+    let here = subst (λ (k : Moment). outputs.IsOutputFrom watched_run most k bytes left before now answer) opens told in
+    let within = subst (λ (l : Limits). outputs.IsOutputFrom watched_run l (opening variant) bytes left before now answer) limits here in
+    (subst (λ (k : Status). IsOutputFrom (opening variant) bytes left before now k) (sym is) (loud_told (watched_on (opening variant)) bytes left before now answer within), is_watched variant bytes)
 
 -- ---- completeness
 

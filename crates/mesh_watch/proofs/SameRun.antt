@@ -3,13 +3,14 @@ use Rattle.std.proofs.Common.{◌≡◌, ℕ, List, [], ◌∷◌, Result, Ok, E
 use Rattle.mesh_model.specs.Worlds as worlds
 use Rattle.mesh_model.specs.Worlds.{Event, Outcome, Idle, Next}
 use Rattle.mesh_grammar.specs.declared.fault.LineFault.{LineFault}
-use Rattle.mesh_grammar.specs.Lines.{Piece, Whole, Long, Beyond, pieces_of_input}
+use Rattle.mesh_shell.specs.Pieces.{Piece, Whole, Long, Beyond}
+use Rattle.mesh_shell.specs.Story as shell
 use Rattle.mesh_grammar.specs.Written.{line}
 use Rattle.mesh_text.specs.Schedule.{Moment, AcceptedLine, Nothing, NewNode, Does, Chooses, ShowsNode, ShowsRoute, ShowsFlight, line_of, with_world, next_moment, outcome_at, opening}
 use Rattle.mesh_text.specs.Lines.{words_of}
 use Rattle.mesh_text.specs.Accounts.{IsBalanced}
 use Rattle.mesh_text.specs.Auto.{EventsOutcome, Ended, Full as EventsFull, before, done_then, outcome_of_events, events_chosen}
-use Rattle.mesh_text.specs.Text.{LineOutcome, On, Refused, Full, outcome_by_events, outcome_of_auto, outcome_of_line, outcome_of_read, outcome_of_piece, RunText, goes_on, text_from, text_on, text_of_input}
+use Rattle.mesh_text.specs.Text.{pieces_of_input, LineOutcome, On, Refused, Full, outcome_by_events, outcome_of_auto, outcome_of_line, outcome_of_read, outcome_of_piece, RunText, goes_on, text_from, text_on, text_of_input}
 use Rattle.mesh_text.proofs.Moments.{data_are_accounted_for as run_is_accounted_for}
 use Rattle.mesh_watch.specs.Blocks.{block_below}
 use Rattle.mesh_watch.specs.Text.{watched_events, watched_line, watched_read, watched_piece, watched_from, watched_on, watched_of_input}
@@ -92,7 +93,7 @@ bare_both m (Refused why) f g same = refl
 bare_both m (Full text n e field) f g same = refl
 
 bare_from : (m : Moment) (pieces : List Piece) → bare_run (watched_from m pieces) ≡ bare_run (text_from m pieces)
-unfolding watched_from text_from
+unfolding shell.text_from
 bare_from m [] = refl
 bare_from m (piece ∷ pieces) =
     bare_goes m (watched_piece m piece) (λ n. watched_from n pieces) ∙ ap (λ k. bare_run (goes_on m k (λ n. watched_from n pieces))) (bare_piece m piece)
@@ -100,7 +101,7 @@ bare_from m (piece ∷ pieces) =
     ∙ bare_both m (outcome_of_piece m piece) (λ n. watched_from n pieces) (λ n. text_from n pieces) (λ n. bare_from n pieces)
 
 pub same_run : (m : Moment) (input : List ℕ) → watched_on m input ≡ record (text_on m input) { lines = (watched_on m input).lines }
-unfolding text_on
+unfolding shell.text_on
 same_run m input = ap (λ (w : RunText). record w { lines = (watched_from m (pieces_of_input input)).lines }) (bare_from m (pieces_of_input input))
 
 pub watched_run_is_the_run : WatchedRunIsTheRun

@@ -1,38 +1,34 @@
--- What is told of a watched run, one line after another.
-use Rattle.std.proofs.Common.{◌≡◌, ◌≢◌, ℕ, List, [], ◌∷◌, Option, Result, Ok, Err, is_some, false, refl, sym, ap, subst, ◌∙◌}
-use Rattle.std.specs.Io.KnownBytes.{Keeps}
-use Rattle.mesh_base.specs.declared.events.Counter.{Counter as Field}
-use Rattle.mesh_io.specs.Puts.{AppendsPrefix}
-use Rattle.mesh_model.specs.Worlds.{Event}
+-- What is told of a line of a watched run.
+use Rattle.std.proofs.Common.{◌≡◌, ◌≢◌, ℕ, ◌+◌, ◌*◌, ◌≤◌, List, [], Option, Result, Ok, Err, OnOk, IsErr, length, is_some, false, refl, sym, ap, subst, ◌∙◌, arith}
+use Rattle.std.specs.Io.KnownBytes.{Appends}
+use Rattle.mesh_base.specs.declared.limits.TheConstants.{MOST_EVENTS}
 use Rattle.mesh_grammar.specs.declared.fault.LineFault.{LineFault}
-use Rattle.mesh_grammar.specs.declared.fault.BadWhy.TheVariants.{Fault, TooLong, TooMuch}
-use Rattle.mesh_grammar.specs.Lines.{Piece, Whole, Long, Beyond}
+use Rattle.mesh_grammar.specs.declared.fault.BadWhy.{BadWhy}
+use Rattle.mesh_grammar.specs.declared.fault.BadWhy.TheVariants.{Fault}
+use Rattle.mesh_grammar.specs.Faults.{bad_line}
+use Rattle.mesh_io.specs.Puts.{AppendsPrefix}
+use Rattle.mesh_shell.specs.Outputs as outputs
+use Rattle.mesh_shell.specs.Pieces.{Whole}
+use Rattle.mesh_shell.specs.Story as shell
+use Rattle.mesh_shell.specs.Scripts.{GoesOn, size_of_line, piece_past}
+use Rattle.mesh_shell.specs.declared.fault.Fault.{Fault as ShellFault}
+use Rattle.mesh_shell.specs.declared.limit.Limit.{Limit}
+use Rattle.mesh_shell.specs.declared.limit.Limit.TheVariants.{Line as LineLimit, Input}
 use Rattle.mesh_text.specs.Schedule.{Moment, AcceptedLine, Nothing, NewNode, ShowsNode, ShowsRoute, ShowsFlight, line_of}
 use Rattle.mesh_text.specs.Text as texts
-use Rattle.mesh_text.specs.Text.{RunText, LineOutcome, text_in, On, Refused, goes_on, lines_before, whole, finished_run, refused_run, overfull_run}
-use Rattle.mesh_run.specs.declared.say.Say.TheVariants.{All}
-use Rattle.mesh_run.specs.declared.status.Status.{Status}
-use Rattle.mesh_run.specs.Outputs.{IsOutput}
-use Rattle.mesh_run.specs.Runs.{IsLineFull, IsLineRun}
+use Rattle.mesh_text.specs.Text.{Refused, outcome_in_run}
+use Rattle.mesh_text.specs.declared.verdict.Verdict.{Verdict}
+use Rattle.mesh_text.specs.declared.verdict.Verdict.TheVariants.{RefusedAt}
+use Rattle.mesh_run.specs.Ends.{IsSettled, why_past}
+use Rattle.mesh_run.specs.Runs.{IsLineRun}
 use Rattle.mesh_run.specs.declared.stop.Stop.{Stop}
 use Rattle.mesh_script.specs.declared.line.Line.{Line}
 use Rattle.mesh_script.specs.declared.line.Line.TheVariants as line
 use Rattle.mesh_script.specs.Seen.{accepted_of}
-use Rattle.mesh_run.proofs.Telling.{front_of_came, refused_told, bad_told, full_told}
-use Rattle.mesh_watch.specs.Text.{watched_line, watched_read, watched_piece, watched_from}
-
--- ---- the text from a moment on
-
-came_to : (m : Moment) (piece : Piece) (pieces : List Piece) (k : LineOutcome) → watched_piece m piece ≡ k → watched_from m (piece ∷ pieces) ≡ goes_on m k (λ n. watched_from n pieces)
-unfolding watched_from
-came_to m piece pieces k e = ap (λ r. goes_on m r (λ n. watched_from n pieces)) e
-
-pub watched_from-on : (m n : Moment) (piece : Piece) (text : List ℕ) (pieces : List Piece) → watched_piece m piece ≡ On text n → watched_from m (piece ∷ pieces) ≡ lines_before text (watched_from n pieces)
-watched_from-on m n piece text pieces e = came_to m piece pieces (On text n) e
-
-pub watched_from-end : (m : Moment) → watched_from m [] ≡ finished_run m
-unfolding watched_from
-watched_from-end m = refl
+use Rattle.mesh_run.proofs.Loud.{loud_line}
+use Rattle.mesh_run.proofs.Settled.{goes_on_where_done}
+use Rattle.mesh_run.specs.Room.{CanLead}
+use Rattle.mesh_watch.specs.Text.{watched_line, watched_read, watched_piece}
 
 -- ---- a line, by what is read of it
 
@@ -40,45 +36,17 @@ came-whole : (m : Moment) (bytes : List ℕ) → watched_piece m (Whole bytes) �
 unfolding watched_piece
 came-whole m bytes = refl
 
-pub came-accepted : (m : Moment) (bytes : List ℕ) (a : AcceptedLine) → line_of m.mesh (is_some m.world) bytes ≡ Ok a → watched_piece m (Whole bytes) ≡ watched_line m a
+came-accepted : (m : Moment) (bytes : List ℕ) (a : AcceptedLine) → line_of m.mesh (is_some m.world) bytes ≡ Ok a → watched_piece m (Whole bytes) ≡ watched_line m a
 came-accepted m bytes a e = came-whole m bytes ∙ ap (watched_read m) e
 
 pub came-refused : (m : Moment) (bytes : List ℕ) (f : LineFault) → line_of m.mesh (is_some m.world) bytes ≡ Err f → watched_piece m (Whole bytes) ≡ Refused (Fault f)
 came-refused m bytes f e = came-whole m bytes ∙ ap (watched_read m) e
 
-came-long : (m : Moment) → watched_piece m Long ≡ Refused TooLong
+-- one that goes past a limit
+pub came-past : (m : Moment) (limit : Limit) → watched_piece m (piece_past limit) ≡ Refused (why_past limit)
 unfolding watched_piece texts.outcome_of_piece
-came-long m = refl
-
-came-beyond : (m : Moment) → watched_piece m Beyond ≡ Refused TooMuch
-unfolding watched_piece texts.outcome_of_piece
-came-beyond m = refl
-
--- ---- what is told
-
--- a line that is done in part
-pub front_from_part : (m : Moment) (piece : Piece) (a b : Option (List ℕ)) (pieces : List Piece) → AppendsPrefix a b (text_in (watched_piece m piece)) → AppendsPrefix a b (whole (watched_from m (piece ∷ pieces)))
-front_from_part m piece a b pieces f =
-    subst (λ (w : RunText). AppendsPrefix a b (whole w)) (sym (came_to m piece pieces (watched_piece m piece) refl)) (front_of_came All m (watched_piece m piece) (λ n. watched_from n pieces) a b f)
-
--- a line that is too long, and one that goes past the input's limit
-pub told_long : (m : Moment) (pieces : List Piece) (a b : Option (List ℕ)) (s : Status) → IsOutput a b (refused_run m TooLong) s → IsOutput a b (watched_from m (Long ∷ pieces)) s
-told_long m pieces a b s t = refused_told All m TooLong (watched_from m (Long ∷ pieces)) a b s (came_to m Long pieces (Refused TooLong) (came-long m)) t
-
-pub told_beyond : (m : Moment) (pieces : List Piece) (a b : Option (List ℕ)) (s : Status) → IsOutput a b (refused_run m TooMuch) s → IsOutput a b (watched_from m (Beyond ∷ pieces)) s
-told_beyond m pieces a b s t = refused_told All m TooMuch (watched_from m (Beyond ∷ pieces)) a b s (came_to m Beyond pieces (Refused TooMuch) (came-beyond m)) t
-
--- a line that isn't allowed
-pub told_bad : (m n : Moment) (piece : Piece) (f : LineFault) (pieces : List Piece) (a b c : Option (List ℕ)) (s : Status)
-    → watched_piece m piece ≡ Refused (Fault f) → n ≡ m → Keeps a b → IsOutput b c (refused_run n (Fault f)) s → IsOutput a c (watched_from m (piece ∷ pieces)) s
-told_bad m n piece f pieces a b c s e same kept t =
-    bad_told All m n f (watched_from m (piece ∷ pieces)) a b c s (came_to m piece pieces (Refused (Fault f)) e) same kept t
-
--- one with an event that is refused for a full counter
-pub told_full : (m n : Moment) (piece : Piece) (e : Event) (node : ℕ) (field : Field) (pieces : List Piece) (a b c : Option (List ℕ)) (s : Status)
-    → IsLineFull false m (watched_piece m piece) n a b e node field → IsOutput b c (overfull_run n [] e field) s → IsOutput a c (watched_from m (piece ∷ pieces)) s
-told_full m n piece e node field pieces a b c s g t =
-    full_told All m n (watched_piece m piece) (λ x. watched_from x pieces) (watched_from m (piece ∷ pieces)) e node field a b c s (came_to m piece pieces (watched_piece m piece) refl) g t
+came-past m LineLimit = refl
+came-past m Input = refl
 
 -- ---- what was told of a line, by what is read of it
 
@@ -104,3 +72,43 @@ run_other m n bytes l a b r is step many g = by_line l is step many
     by_line (line.Show node) is step many = by (ShowsNode node) is refl
     by_line (line.Route node dest) is step many = by (ShowsRoute node dest) is refl
     by_line line.Flight is step many = by ShowsFlight is refl
+
+-- ---- what its script tells
+
+-- what was done of the line, and what was settled then; `s` is the same moment as `m`, and `k` as `n`
+pub line_told : (s m n k : Moment) (bytes : List ℕ) (a b d : Option (List ℕ)) (did : Result (Unit {0}) Stop) (result : Result (Option Verdict) ShellFault) → s ≡ m → k ≡ n
+    → IsLineRun false s (watched_piece s (Whole bytes)) n a b did → IsSettled n b d did result → outputs.IsLineRun (outcome_in_run m (watched_piece m (Whole bytes))) k a d result
+line_told s m n k bytes a b d did result same back ran told =
+    subst (λ (x : Moment). outputs.IsLineRun (outcome_in_run m (watched_piece m (Whole bytes))) x a d result) (sym back)
+    (subst (λ (x : Moment). outputs.IsLineRun (outcome_in_run x (watched_piece x (Whole bytes))) n a d result) same
+    (loud_line s n (watched_piece s (Whole bytes)) a b d did result ran told))
+
+-- how far it leads where it was done
+pub line_leads : (s m n k : Moment) (bytes : List ℕ) (b d : Option (List ℕ)) (did : Result (Unit {0}) Stop) (result : Result (Option Verdict) ShellFault) → s ≡ m → k ≡ n → IsSettled n b d did result
+    → OnOk did (n.lines ≡ s.lines + 1) → OnOk did (4 * n.steps ≤ 4 * s.steps + MOST_EVENTS * length bytes) → GoesOn result (CanLead m (size_of_line bytes) k)
+line_leads s m n k bytes b d did result same back told lines steps = goes_on_where_done (CanLead m (size_of_line bytes) k) n b d did result told (by_did did lines steps)
+  where
+    by_did : (did : Result (Unit {0}) Stop) → OnOk did (n.lines ≡ s.lines + 1) → OnOk did (4 * n.steps ≤ 4 * s.steps + MOST_EVENTS * length bytes) → OnOk did (CanLead m (size_of_line bytes) k)
+    by_did (Ok done) lines steps =
+        let lines_before = ap (λ (x : Moment). x.lines) same in
+        let lines_after = ap (λ (x : Moment). x.lines) back in
+        let steps_before = ap (λ (x : Moment). x.steps) same in
+        let steps_after = ap (λ (x : Moment). x.steps) back in
+        record { lines = omega arith; steps = omega arith }
+    by_did (Err stop) lines steps = tt
+
+-- the last line of one that goes past a limit
+pub past_told : (s m : Moment) (limit : Limit) (why : BadWhy) (v : Verdict) (a b : Option (List ℕ)) → s ≡ m → why ≡ why_past limit → v ≡ RefusedAt (s.lines + 1) → Appends a b (bad_line (s.lines + 1) why)
+    → outputs.IsLineLast (outcome_in_run m (watched_piece m (piece_past limit))) v a b
+past_told s m limit why v a b same is verdict put = record {
+  text = [];
+  last = bad_line (m.lines + 1) why;
+  is = ap (outcome_in_run m) (came-past m limit ∙ ap Refused (sym is)) ∙ ap (shell.Ended [] (bad_line (m.lines + 1) why)) (sym (verdict ∙ ap (λ (x : Moment). RefusedAt (x.lines + 1)) same));
+  grown = subst (λ (x : Moment). Appends a b (bad_line (x.lines + 1) why)) same put;
+}
+
+pub past_broken : (s m : Moment) (limit : Limit) (why : BadWhy) (a b : Option (List ℕ)) (answer : Result Verdict ShellFault) → s ≡ m → why ≡ why_past limit → IsErr answer → AppendsPrefix a b (bad_line (s.lines + 1) why)
+    → outputs.IsLastRun (outcome_in_run m (watched_piece m (piece_past limit))) a b answer
+past_broken s m limit why a b (Ok v) same is failed put = absurd (let P : ⊥ = cc in P)
+past_broken s m limit why a b (Err e) same is failed put =
+    subst (λ (k : texts.LineOutcome). AppendsPrefix a b (outputs.text_in (outcome_in_run m k))) (sym (came-past m limit ∙ ap Refused (sym is))) (subst (λ (x : Moment). AppendsPrefix a b (bad_line (x.lines + 1) why)) same put)

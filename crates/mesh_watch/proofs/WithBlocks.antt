@@ -4,13 +4,14 @@ use Rattle.std.proofs.lemmas.Grind.{flat_map-append}
 use Rattle.mesh_model.specs.Worlds as worlds
 use Rattle.mesh_model.specs.Worlds.{Event, Outcome, Idle, Next}
 use Rattle.mesh_grammar.specs.declared.fault.LineFault.{LineFault}
-use Rattle.mesh_grammar.specs.Lines.{Piece, Whole, Long, Beyond, pieces_of_input}
+use Rattle.mesh_shell.specs.Pieces.{Piece, Whole, Long, Beyond}
+use Rattle.mesh_shell.specs.Story as shell
 use Rattle.mesh_grammar.specs.Written.{line}
 use Rattle.mesh_text.specs.Schedule.{Moment, AcceptedLine, Nothing, NewNode, Does, Chooses, ShowsNode, ShowsRoute, ShowsFlight, line_of, with_world, next_moment, outcome_at, opening}
 use Rattle.mesh_text.specs.Lines.{words_of}
 use Rattle.mesh_text.specs.Effects.{outcome_lines}
 use Rattle.mesh_text.specs.Auto.{EventsOutcome, Ended, Full as EventsFull, before, done_then, outcome_of_events, events_chosen, auto_end}
-use Rattle.mesh_text.specs.Text.{LineOutcome, On, Refused, Full, text_in, outcome_by_events, outcome_of_auto, outcome_of_line, outcome_of_read, outcome_of_piece, RunText, goes_on, text_from, text_on, text_of_input}
+use Rattle.mesh_text.specs.Text.{pieces_of_input, LineOutcome, On, Refused, Full, text_in, outcome_by_events, outcome_of_auto, outcome_of_line, outcome_of_read, outcome_of_piece, RunText, goes_on, text_from, text_on, text_of_input}
 use Rattle.mesh_run.specs.Runs.{text_of}
 use Rattle.mesh_run.proofs.Chosen.{text-before}
 use Rattle.mesh_watch.specs.Blocks.{changed_by, shown_node, shown_if, block_below}
@@ -115,11 +116,11 @@ with_goes m (Full s n e field) (On t n') f h same p rest = absurd (let P : ⊥ =
 with_goes m (Full s n e field) (Refused why) f h same p rest = absurd (let P : ⊥ = cc in P)
 
 with_from : (m : Moment) (pieces : List Piece) → IsWithBlocks (text_from m pieces).lines (watched_from m pieces).lines
-unfolding watched_from text_from
+unfolding shell.text_from
 with_from m [] = with_text []
 with_from m (piece ∷ pieces) =
     with_goes m (outcome_of_piece m piece) (watched_piece m piece) (λ n. text_from n pieces) (λ n. watched_from n pieces) (bare_piece m piece) (with_piece m piece) (λ n. with_from n pieces)
 
 pub blocks_are_all_that_is_added : BlocksAreAllThatIsAdded
-unfolding watched_of_input text_of_input text_on
+unfolding watched_of_input text_of_input shell.text_on
 blocks_are_all_that_is_added variant input = with_from (opening variant) (pieces_of_input input)

@@ -5,12 +5,15 @@ use Rattle.mesh_base.specs.declared.events.Variant.{Variant}
 use Rattle.mesh_model.specs.Worlds.{Event}
 use Rattle.mesh_grammar.specs.declared.fault.LineFault.{LineFault}
 use Rattle.mesh_grammar.specs.declared.fault.BadWhy.TheVariants.{Fault}
-use Rattle.mesh_grammar.specs.Lines.{Piece, Whole, pieces_of_input}
+use Rattle.mesh_io.specs.NextLines.{schedule_limits}
+use Rattle.mesh_shell.specs.Pieces.{Piece, Whole}
+use Rattle.mesh_shell.specs.Story as shell
 use Rattle.mesh_grammar.specs.Written.{line}
 use Rattle.mesh_text.specs.Schedule.{Moment, AcceptedLine, Does, Chooses, line_of, with_world, outcome_at, opening}
 use Rattle.mesh_text.specs.Lines.{words_of}
 use Rattle.mesh_text.specs.Auto.{EventsOutcome, Ended, before, done_then, events_chosen}
-use Rattle.mesh_text.specs.Text.{LineOutcome, Refused, outcome_by_events, outcome_of_auto, outcome_of_line, outcome_of_piece, RunText, goes_on, finished_run}
+use Rattle.mesh_text.specs.Text.{LineOutcome, Refused, outcome_by_events, outcome_of_auto, outcome_of_line, outcome_of_piece, RunText, ending, outcome_in_run}
+use Rattle.mesh_text.specs.declared.verdict.Verdict.{Verdict}
 use Rattle.mesh_watch.specs.Blocks.{block_below}
 
 -- these events from a moment on, each with its block
@@ -41,15 +44,22 @@ watched_piece m others = outcome_of_piece m others
 
 -- ---- all lines
 
+-- a watched run of a schedule: nothing stands before the text of its first line, and it ends as the
+-- run does
+abbrev pub watched_run : shell.Story Moment Verdict
+watched_run = record {
+  head = λ m. [];
+  outcome = λ m piece. outcome_in_run m (watched_piece m piece);
+  ending = ending;
+}
+
 -- the watched run of these lines from a moment on
-unfoldable pub watched_from : Moment → List Piece → RunText
-watched_from m [] = finished_run m
-watched_from m (piece ∷ pieces) =
-    goes_on m (watched_piece m piece) (λ n. watched_from n pieces)
+abbrev pub watched_from : Moment → List Piece → RunText
+watched_from m pieces = shell.text_from watched_run m pieces
 
 -- what a watched run writes for an input from a moment on, and what it comes to
 abbrev pub watched_on : Moment → List ℕ → RunText
-watched_on m input = watched_from m (pieces_of_input input)
+watched_on m input = shell.text_on watched_run schedule_limits m input
 
 -- the same from the opening on
 unfoldable pub watched_of_input : Variant → List ℕ → RunText

@@ -1,99 +1,19 @@
 //! The top call.
-ghost use Rattle.std.specs.Prelude.{◌≡◌, ◌≢◌, ◌<◌, ◌^◌, ◌↔◌, ◌⊎◌, map, None, [], IfSome};
+ghost use Rattle.std.specs.Prelude.{◌≡◌, ◌≢◌, ◌↔◌, ◌⊎◌, map, None, IfSome};
 ghost use Rattle.std.specs.Io.KnownBytes.{IsAtEnd};
 ghost use Rattle.mesh_io.specs.Cause.{Rose};
-ghost use Rattle.mesh_io.specs.Buffering.{inner_of, gathered_in, held_by};
-ghost use Rattle.mesh_text.specs.Text.{text_of_input, Finished};
+ghost use Rattle.mesh_text.specs.Text.{text_of_input};
+ghost use Rattle.mesh_text.specs.declared.verdict.Verdict.TheVariants.{Finished};
 ghost use Rattle.mesh_run.specs.Causes.{HasSourceCause, HasStatusCause};
 ghost use Rattle.mesh_watch.specs.Words.{variant_of};
-ghost use Rattle.mesh_watch.specs.Outputs.{IsOutputFrom, IsRun};
+ghost use Rattle.mesh_watch.specs.Outputs.{IsRun};
 
-use crate::lines::do_lines;
 use crate::watched::Watched;
 use crate::words::variant_of;
 use mesh_base::Variant;
-use mesh_io::{BufferRoom, Buffered, Lines, Loan, Sink, Source, Through};
+use mesh_io::{Limits, SCHEDULE_ROOM, Sink, Source};
 use mesh_run::Status;
 use std::alloc::Global;
-use std::marker::Brand;
-
-// Does the lines of a source into a buffer, and hands on what is gathered, unless a write failed.
-fn run_gathered<I: Source, O: Sink>(
-    alloc: Global,
-    at: &mut Watched,
-    input: &mut I,
-    buffer: &mut Buffered<O>,
-) -> Status
-    requires few { at.old.point.lines < 2 ^ 61 }
-    requires steps { at.old.point.steps < 2 ^ 46 }
-    ensures told { IfSome (I.left input.old) (λ bytes. IsOutputFrom at.old.point bytes
-        (I.left input.new) (held_by O.held buffer.old) (held_by O.held buffer.new) result) }
-    ensures handed_on { result ≢ Status.WriteFault → gathered_in buffer.new ≡ [] }
-    ensures end { result ≡ Status.Done → IsAtEnd (I.left input.new) }
-    ensures read { HasSourceCause (I.faults input.old) (I.faults input.new) result }
-    ensures write { HasStatusCause Status.WriteFault
-        (O.faults (inner_of buffer.old)) (O.faults (inner_of buffer.new)) result }
-    ensures words { result ≢ Status.Usage }
-{
-    let mut lines = Lines::new(input);
-    let status = do_lines(alloc, at, &mut lines, buffer);
-    // It says that `input` is the source as the lines have left it.
-    let _input = lines.give_back();
-    if status == Status::WriteFault {
-        return status;
-    }
-    match buffer.flush() {
-        Ok(()) => status,
-        Err(_) => Status::WriteFault,
-    }
-}
-
-// Does the lines of a source through a buffer before the sink, which comes back.
-fn run_through<'s, I: Source, O: Sink, L: Loan>(
-    alloc: Global,
-    room: BufferRoom,
-    at: &mut Watched,
-    input: &mut I,
-    out: &'s mut O,
-    status: &mut Status,
-) -> &'s mut O
-    requires few { at.old.point.lines < 2 ^ 61 }
-    requires steps { at.old.point.steps < 2 ^ 46 }
-    requires name { out.ghost_name ≡ L.name }
-    requires start { O.held out.now ≡ L.start }
-    ensures same { result.ghost_name ≡ out.entry.ghost_name }
-    ensures told { IfSome (I.left input.old) (λ bytes. IsOutputFrom at.old.point bytes
-        (I.left input.new) (O.held out.entry.now) (O.held result.now) status.new) }
-    ensures end { status.new ≡ Status.Done → IsAtEnd (I.left input.new) }
-    ensures read { HasSourceCause (I.faults input.old) (I.faults input.new) status.new }
-    ensures write { HasStatusCause Status.WriteFault
-        (O.faults out.entry.now) (O.faults result.now) status.new }
-    ensures words { status.new ≢ Status.Usage }
-{
-    let mut buffer: Buffered<Through<'s, O, L>> = Buffered::lent(out, room);
-    *status = run_gathered(alloc, at, input, &mut buffer);
-    buffer.give_back()
-}
-
-// Does the lines of a source, from a moment on.
-fn run_on<I: Source, O: Sink>(alloc: Global, at: &mut Watched, input: &mut I, out: &mut O) -> Status
-    requires few { at.old.point.lines < 2 ^ 61 }
-    requires steps { at.old.point.steps < 2 ^ 46 }
-    ensures told { IfSome (I.left input.old) (λ bytes. IsOutputFrom at.old.point bytes
-        (I.left input.new) (O.held out.old) (O.held out.new) result) }
-    ensures end { result ≡ Status.Done → IsAtEnd (I.left input.new) }
-    ensures read { HasSourceCause (I.faults input.old) (I.faults input.new) result }
-    ensures write { HasStatusCause Status.WriteFault (O.faults out.old) (O.faults out.new) result }
-    ensures words { result ≢ Status.Usage }
-{
-    let Ok(room) = BufferRoom::new(alloc) else {
-        return Status::NoMemory;
-    };
-    let mut status = Status::Done;
-    // It says that what comes back is `out`, as the buffer has left it.
-    let _out = run_through::<I, O, Brand>(alloc, room, at, input, out, &mut status);
-    status
-}
 
 // Runs a schedule.
 fn run<I: Source, O: Sink>(alloc: Global, variant: Variant, input: &mut I, out: &mut O) -> Status
@@ -104,8 +24,15 @@ fn run<I: Source, O: Sink>(alloc: Global, variant: Variant, input: &mut I, out: 
     ensures write { HasStatusCause Status.WriteFault (O.faults out.old) (O.faults out.new) result }
     ensures words { result ≢ Status.Usage }
 {
-    let mut at = Watched::with(variant);
-    run_on(alloc, &mut at, input, out)
+    let mut watched = Watched::with(alloc, variant);
+    let answer = mesh_shell::run::<Watched, I, O, SCHEDULE_ROOM>(
+        alloc,
+        &mut watched,
+        Limits::of_schedule(),
+        input,
+        out,
+    );
+    Status::of(answer)
 }
 
 /// Runs the schedule that the source gives, in a world of its own, and writes its text to the sink,

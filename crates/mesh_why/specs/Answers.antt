@@ -4,7 +4,8 @@ use Rattle.std.specs.Io.KnownBytes.{Appends}
 use Rattle.mesh_base.specs.declared.events.Variant.TheVariants.{Base}
 use Rattle.mesh_io.specs.Puts.{AppendsPrefix}
 use Rattle.mesh_text.specs.Schedule.{opening}
-use Rattle.mesh_text.specs.Text.{RunText, Finished, text_on}
+use Rattle.mesh_text.specs.Text.{RunText, text_on}
+use Rattle.mesh_text.specs.declared.verdict.Verdict.TheVariants.{Finished}
 use Rattle.mesh_run.specs.declared.say.Say.TheVariants.{Last}
 use Rattle.mesh_run.specs.declared.status.Status.{Status}
 use Rattle.mesh_run.specs.declared.status.Status.TheVariants.{Done, Usage, BadLine, Full, ReadFault, WriteFault, NoMemory}

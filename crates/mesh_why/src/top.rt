@@ -4,7 +4,9 @@ ghost use Rattle.std.specs.Io.KnownBytes.{IsAtEnd};
 ghost use Rattle.mesh_base.specs.declared.events.Variant.TheVariants.{Base};
 ghost use Rattle.mesh_io.specs.Cause.{Rose};
 ghost use Rattle.mesh_text.specs.Schedule.{opening};
-ghost use Rattle.mesh_text.specs.Text.{text_of_input, Finished};
+ghost use Rattle.mesh_text.specs.Text.{text_of_input};
+ghost use Rattle.mesh_text.specs.declared.verdict.Verdict.TheVariants.{Finished};
+ghost use Rattle.mesh_run.specs.declared.say.Say.TheVariants.{Last};
 ghost use Rattle.mesh_run.specs.Causes.{HasStatusCause, HasSourceCause};
 ghost use Rattle.mesh_why.specs.Routes.{asked_of};
 ghost use Rattle.mesh_why.specs.Answers.{IsAnswered};
@@ -12,20 +14,20 @@ ghost use Rattle.mesh_why.specs.Answers.{IsAnswered};
 use crate::route::{put_route, walk_at};
 use crate::words::{Asked, asked_of};
 use mesh_io::{Sink, Source};
-use mesh_run::{Point, Say, Status, do_input};
+use mesh_run::{Point, Running, Say, Status, do_input};
 use mesh_trail::Trail;
 use std::alloc::Global;
 
 // Runs a schedule from its start on, and writes the last line of its text and the line of the
 // route.
 fn answer_from<I: Source, O: Sink>(
-    alloc: Global,
-    at: &mut Point<Trail>,
+    running: &mut Running<Trail>,
     asked: Asked,
     input: &mut I,
     out: &mut O,
 ) -> Status
-    requires { at.old ≡ opening Base }
+    requires start { running.old.at ≡ opening Base }
+    requires say { running.old.say ≡ Last }
     ensures told { IfSome (I.left input.old) (λ bytes. IsAnswered (asked.node.0, asked.dest.0) bytes
         (I.left input.new) (O.held out.old) (O.held out.new) result) }
     ensures end { result ≡ Status.Done → IsAtEnd (I.left input.new) }
@@ -33,10 +35,11 @@ fn answer_from<I: Source, O: Sink>(
     ensures write { HasStatusCause Status.WriteFault (O.faults out.old) (O.faults out.new) result }
     ensures words { result ≢ Status.Usage }
 {
-    let status = do_input(alloc, at, Say::Last, input, out);
+    let status = do_input(running, input, out);
     if status != Status::Done {
         return status;
     }
+    let at = &running.at;
     match put_route(at.mesh(), walk_at(at, asked), out) {
         Ok(()) => Status::Done,
         Err(_) => Status::WriteFault,
@@ -52,8 +55,12 @@ fn answer<I: Source, O: Sink>(alloc: Global, asked: Asked, input: &mut I, out: &
     ensures write { HasStatusCause Status.WriteFault (O.faults out.old) (O.faults out.new) result }
     ensures words { result ≢ Status.Usage }
 {
-    let mut at: Point<Trail> = Point::start();
-    answer_from(alloc, &mut at, asked, input, out)
+    let mut running: Running<Trail> = Running {
+        alloc,
+        at: Point::start(),
+        say: Say::Last,
+    };
+    answer_from(&mut running, asked, input, out)
 }
 
 /// Runs the schedule that the source gives, in a world of its own where all nodes run the protocol

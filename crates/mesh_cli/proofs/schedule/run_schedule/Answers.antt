@@ -8,4 +8,4 @@ pub returns-clause-told : goal.returns-clause-told
 returns-clause-told g c =
     let told : Say → Moment → Type 0 =
     λ s m. IfSome (g.I.Source.left c.args.input.now) (λ bytes. IsOutputFrom s m bytes (g.I.Source.left c.do_input-status.new.input) (g.O.Sink.held c.args.out.now) (g.O.Sink.held c.do_input-status.new.out) c.do_input-status.result) in
-    subst (λ s. told s (opening c.args.variant)) c.by.ensures (subst (λ m. told c.by.result m) c.with-at.ensures c.do_input-status.ensures.told)
+    subst (λ s. told s (opening c.args.variant)) c.by.ensures (subst (λ m. told c.by.result m) c.with.ensures c.do_input-status.ensures.told)

@@ -3,7 +3,8 @@ use Rattle.mesh_link.specs.Datagrams.{Datagram, datagram}
 use Rattle.mesh_router.specs.Casts.{port_at, to_line}
 use Rattle.mesh_router.specs.Logs.{Sent, text_log}
 use Rattle.mesh_router.specs.Outputs.{SendsAll}
-use Rattle.mesh_router.proofs.Logging.{says-fault, prefix-more, prefix-text, prefix-unsent, adds-join, adds-text, adds-datagram}
+use Rattle.mesh_router.specs.Joins.{adds-join}
+use Rattle.mesh_router.proofs.Logging.{says-fault, prefix-more, prefix-text, prefix-unsent, adds-text, adds-datagram}
 use Rattle.mesh_router.proofs.Peers.{port_is}
 use Rattle.mesh_router.proofs.casts.send_to.Goals as goal
 

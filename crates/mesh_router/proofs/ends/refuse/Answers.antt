@@ -2,7 +2,7 @@ use Rattle.std.proofs.Common.{◌+◌, ℕ, refl, sym, ap, subst}
 use Rattle.mesh_grammar.specs.Faults.{bad_line}
 use Rattle.std.specs.Io.KnownBytes.{Appends}
 use Rattle.mesh_io.specs.Puts.{AppendsPrefix}
-use Rattle.mesh_text.specs.Text.{RefusedAt}
+use Rattle.mesh_text.specs.declared.verdict.Verdict.TheVariants.{RefusedAt}
 use Rattle.mesh_router.proofs.Logging.{adds-text, prefix-text}
 use Rattle.mesh_router.proofs.ends.refuse.Goals as goal
 

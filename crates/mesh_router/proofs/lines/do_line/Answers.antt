@@ -3,7 +3,7 @@ use Rattle.mesh_peers.specs.Lines.{AcceptedLine, Nothing}
 use Rattle.mesh_peers.specs.Seen.{accepted_of}
 use Rattle.mesh_router.specs.Lines.{outcome_of_line, refused_words}
 use Rattle.mesh_router.specs.Runs.{IsLineRun}
-use Rattle.mesh_router.proofs.Logging.{adds-none}
+use Rattle.mesh_router.specs.Joins.{adds-none}
 use Rattle.mesh_router.proofs.Running.{blank_done}
 use Rattle.mesh_router.proofs.lines.do_line.Goals as goal
 

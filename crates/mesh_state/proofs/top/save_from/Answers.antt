@@ -1,7 +1,5 @@
 use Rattle.std.proofs.Common.{◌≡◌, rules}
 use Rattle.mesh_run.specs.declared.status.Status.TheVariants as status
-use Rattle.mesh_run.proofs.Faults.{cause_after}
-use Rattle.mesh_state.proofs.Causes.{read_done, unwritten}
 use Rattle.mesh_state.proofs.Small.{small_end}
 use Rattle.mesh_state.proofs.Told.{saved_told}
 use Rattle.mesh_state.proofs.top.save_from.Goals as goal
@@ -9,10 +7,10 @@ use Rattle.mesh_state.proofs.top.save_from.Goals as goal
 pub put_state-requires : goal.put_state-requires
 put_state-requires g c =
     let done : c.do_input.result ≡ status.Done = search rules in
-    small_end c.args.at.now c.do_input.new.at c.requires (c.do_input.ensures.grown done) (c.do_input.ensures.lines done) (c.do_input.ensures.steps done)
+    small_end c.args.running.now.at c.do_input.new.running.at c.requires.start (c.do_input.ensures.grown done) (c.do_input.ensures.lines done) (c.do_input.ensures.steps done)
 
 pub returns-in-Done-clause-told : goal.returns-in-Done-clause-told
 returns-in-Done-clause-told g c =
     let done : c.do_input.result ≡ status.Done = search rules in
-    saved_told c.args.at.now c.do_input.new.at _ _ _ _ _ c.do_input.result c.put_state.result c.requires done c.do_input.ensures.told (c.do_input.ensures.after done)
+    saved_told c.args.running.now.say c.args.running.now.at c.do_input.new.running.at _ _ _ _ _ c.do_input.result c.put_state.result c.requires.say c.requires.start done c.do_input.ensures.told (c.do_input.ensures.after done)
     c.put_state.ensures.saved c.put_state.ensures.cut c.put_state.ensures.too_big c.put_state.ensures.one

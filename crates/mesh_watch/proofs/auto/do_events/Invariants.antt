@@ -10,14 +10,14 @@ use Rattle.mesh_watch.proofs.auto.do_events.Given as goal
 abbrev pub invariant-events : goal.invariant-events
 invariant-events g l = record {
   ran : (now : Option (List ℕ)) (n : Moment) (r : Result ℕ Stop)
-      → IsEventsRun false l.at.point (watched_events l.at.point (events_chosen (l.count - l.did) l.at.point)) n (g.O.Sink.held l.out) now r
-      → IsEventsRun false l.initial.at.point (watched_events l.initial.at.point (events_chosen l.count l.initial.at.point)) n (g.O.Sink.held l.initial.out) now r;
-  left : l.did + length (events_chosen (l.count - l.did) l.at.point) ≡ length (events_chosen l.count l.initial.at.point);
-  started : is_some l.at.point.world ≡ true;
-  lines : l.at.point.lines ≡ l.initial.at.point.lines;
+      → IsEventsRun false l.at (watched_events l.at (events_chosen (l.count - l.did) l.at)) n (g.O.Sink.held l.out) now r
+      → IsEventsRun false l.initial.at (watched_events l.initial.at (events_chosen l.count l.initial.at)) n (g.O.Sink.held l.initial.out) now r;
+  left : l.did + length (events_chosen (l.count - l.did) l.at) ≡ length (events_chosen l.count l.initial.at);
+  started : is_some l.at.world ≡ true;
+  lines : l.at.lines ≡ l.initial.at.lines;
   faults : g.O.Sink.faults l.out ≡ g.O.Sink.faults l.initial.out;
   within : l.did ≤ l.count;
-  steps : l.at.point.steps ≤ l.initial.at.point.steps + l.did;
+  steps : l.at.steps ≤ l.initial.at.steps + l.did;
 }
 
 abbrev pub decreases-events : goal.decreases-events

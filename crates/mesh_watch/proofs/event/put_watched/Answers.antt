@@ -8,14 +8,14 @@ use Rattle.mesh_watch.proofs.event.put_watched.Goals as goal
 pub returns-in_err-say_event-clause-text : goal.returns-in_err-say_event-clause-text
 returns-in_err-say_event-clause-text g c = λ m is.
     let p = err_from_is_err_and c.from_residual.result c.from_residual.ensures.1 in
-    rw p.1 (watched_front m c.args.at.now.point (event_of c.args.event.now) c.args.done.now c.args.at.now.packet.items _ _ _ is c.mesh-mesh.ensures.value (c.in_err-say_event.ensures.text (world_of c.args.at.now.point)))
+    rw p.1 (watched_front m c.args.state.now (event_of c.args.event.now) c.args.done.now c.args.packet.now.items _ _ _ is c.mesh-mesh.ensures.value (c.in_err-say_event.ensures.text (world_of c.args.state.now)))
 
 pub returns-in-Some-clause-text : goal.returns-in-Some-clause-text
 returns-in-Some-clause-text g c = λ m is.
-    watched_whole m c.args.at.now.point (event_of c.args.event.now) c.args.done.now c.args.at.now.packet.items _ (Some c.in-Some.node) _ (g.O.Sink.held c.say_event.new.out) _ c.put_shown.result is c.mesh-mesh.ensures.value
-    (c.in_ok-say_event.ensures.text (world_of c.args.at.now.point)) (c.in-Some.ensures.value m.mesh (node_of (event_of c.args.event.now)) (world_of c.args.at.now.point) c.args.at.now.packet.items) c.put_shown.ensures.text
+    watched_whole m c.args.state.now (event_of c.args.event.now) c.args.done.now c.args.packet.now.items _ (Some c.in-Some.node) _ (g.O.Sink.held c.say_event.new.out) _ c.put_shown.result is c.mesh-mesh.ensures.value
+    (c.in_ok-say_event.ensures.text (world_of c.args.state.now)) (c.in-Some.ensures.value m.mesh (node_of (event_of c.args.event.now)) (world_of c.args.state.now) c.args.packet.now.items) c.put_shown.ensures.text
 
 pub returns-in-None-clause-text : goal.returns-in-None-clause-text
 returns-in-None-clause-text g c = λ m is.
-    watched_alone m c.args.at.now.point (event_of c.args.event.now) c.args.done.now c.args.at.now.packet.items _ _ _ is c.mesh-mesh.ensures.value
-    (c.in_ok-say_event.ensures.text (world_of c.args.at.now.point)) (c.in-None.ensures.value m.mesh (node_of (event_of c.args.event.now)) (world_of c.args.at.now.point) c.args.at.now.packet.items)
+    watched_alone m c.args.state.now (event_of c.args.event.now) c.args.done.now c.args.packet.now.items _ _ _ is c.mesh-mesh.ensures.value
+    (c.in_ok-say_event.ensures.text (world_of c.args.state.now)) (c.in-None.ensures.value m.mesh (node_of (event_of c.args.event.now)) (world_of c.args.state.now) c.args.packet.now.items)

@@ -1,0 +1,63 @@
+-- The end of a run at a line that wasn't done.
+use Rattle.std.specs.Prelude.{ℕ, ◌≡◌, ◌+◌, ◌<◌, ◌≤◌, ◌^◌, List, Option, Some, None, Result, Ok, Err, IsErrOf, length, ⊤}
+use Rattle.std.specs.Io.KnownBytes.{Appends}
+use Rattle.mesh_grammar.specs.Faults.{bad_line}
+use Rattle.mesh_grammar.specs.declared.fault.BadWhy.{BadWhy}
+use Rattle.mesh_grammar.specs.declared.fault.BadWhy.TheVariants.{Fault, TooLong, TooMuch}
+use Rattle.mesh_io.specs.Cause.{Rose}
+use Rattle.mesh_io.specs.Puts.{AppendsPrefix}
+use Rattle.mesh_meaning.specs.Events.{event_of}
+use Rattle.mesh_model.specs.Places.{IsEvent}
+use Rattle.mesh_shell.specs.declared.fault.Fault.{Fault as ShellFault}
+use Rattle.mesh_shell.specs.declared.fault.Fault.TheVariants.{ReadFault, WriteFault, NoMemory}
+use Rattle.mesh_shell.specs.declared.limit.Limit.{Limit}
+use Rattle.mesh_shell.specs.declared.limit.Limit.TheVariants.{Line, Input}
+use Rattle.mesh_text.specs.Lines.{full_line}
+use Rattle.mesh_text.specs.Schedule.{Moment}
+use Rattle.mesh_text.specs.declared.verdict.Verdict.{Verdict}
+use Rattle.mesh_text.specs.declared.verdict.Verdict.TheVariants.{RefusedAt, FullAt}
+use Rattle.mesh_run.specs.declared.stop.Stop.{Stop}
+use Rattle.mesh_run.specs.declared.stop.Stop.TheVariants as stop
+
+-- why a line that goes past a limit is refused
+abbrev pub why_past : Limit → BadWhy
+why_past Line = TooLong
+why_past Input = TooMuch
+
+-- the last line is written and this is the verdict, or a prefix of it is
+abbrev pub IsLastWritten : List ℕ → Verdict → Option (List ℕ) → Option (List ℕ)
+    → Result (Option Verdict) ShellFault → Type 0
+IsLastWritten text v before now (Ok None) = ⊥
+IsLastWritten text v before now (Ok (Some w)) = (w ≡ v) × Appends before now text
+IsLastWritten text v before now (Err ReadFault) = ⊥
+IsLastWritten text v before now (Err WriteFault) = AppendsPrefix before now text
+IsLastWritten text v before now (Err NoMemory) = ⊥
+
+-- a last line can tell of what stopped the run at this moment
+abbrev pub CanBeTold : Moment → Result (Unit {0}) Stop → Type 0
+CanBeTold n (Ok done) = ⊤
+CanBeTold n (Err (stop.BadLine f)) = n.lines < 2 ^ 62
+CanBeTold n (Err (stop.Full e node field)) =
+    (n.lines < 2 ^ 62) × IsEvent (length n.mesh) (event_of e)
+CanBeTold n (Err stop.WriteFault) = ⊤
+CanBeTold n (Err stop.NoMemory) = ⊤
+
+-- a run whose next line came to this at moment n goes on, or has ended
+abbrev pub IsSettled : Moment → Option (List ℕ) → Option (List ℕ) → Result (Unit {0}) Stop
+    → Result (Option Verdict) ShellFault → Type 0
+IsSettled n before now (Ok done) result = (result ≡ Ok None) × (now ≡ before)
+IsSettled n before now (Err (stop.BadLine f)) result =
+    IsLastWritten (bad_line (n.lines + 1) (Fault f)) (RefusedAt (n.lines + 1)) before now result
+IsSettled n before now (Err (stop.Full e node field)) result =
+    IsLastWritten (full_line n.mesh (n.lines + 1) (event_of e) field) (FullAt (n.lines + 1))
+    before now result
+IsSettled n before now (Err stop.WriteFault) result = (result ≡ Err WriteFault) × (now ≡ before)
+IsSettled n before now (Err stop.NoMemory) result = (result ≡ Err NoMemory) × (now ≡ before)
+
+-- the sink's fault is told where the line's text was not written, or where the last line is not
+pub record HasSettledCause (before now : ℕ) (did : Result (Unit {0}) Stop)
+    (result : Result (Option Verdict) ShellFault) : Type 0 where
+  pub later : before ≤ now
+  pub told : IsErrOf did stop.WriteFault → IsErrOf result WriteFault
+  pub failed : IsErrOf result WriteFault → ¬ IsErrOf did stop.WriteFault → Rose before now
+  pub none : ¬ IsErrOf result WriteFault → now ≡ before

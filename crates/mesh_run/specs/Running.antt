@@ -1,0 +1,55 @@
+-- The run of a schedule as a script: what its lines and its end make of the moment.
+use Rattle.std.specs.Prelude.{ℕ, Bool, List, []}
+use Rattle.mesh_shell.specs.Story.{Outcome, On, Ended, Story}
+use Rattle.mesh_moment.specs.Sums.{IsGrown}
+use Rattle.mesh_text.specs.Lines.{done_line}
+use Rattle.mesh_text.specs.Schedule.{Moment}
+use Rattle.mesh_text.specs.Text.{outcome_of_piece, outcome_in_run}
+use Rattle.mesh_text.specs.declared.verdict.Verdict.{Verdict}
+use Rattle.mesh_text.specs.declared.verdict.Verdict.TheVariants.{Finished}
+use Rattle.mesh_run.specs.declared.running.Running.{Running}
+use Rattle.mesh_run.specs.declared.say.Say.{Say}
+use Rattle.mesh_run.specs.declared.say.Say.TheVariants.{All, Last, Faults}
+use Rattle.mesh_run.specs.Outputs.{is_quiet}
+use Rattle.mesh_run.specs.Room.{CanLead}
+use Rattle.mesh_run.specs.Runs.{output_if}
+
+-- what is written of a line: a quiet run leaves its text out, and not a last line
+abbrev pub said : {M V : Type 0} → Bool → Outcome M V → Outcome M V
+said quiet (On text n) = On (output_if quiet text) n
+said quiet (Ended text last v) = Ended (output_if quiet text) last v
+
+-- what is written at the end of an input
+abbrev pub last_said : Say → List ℕ → List ℕ
+last_said All last = last
+last_said Last last = last
+last_said Faults last = []
+
+-- the next moment, seen as that of another state
+abbrev pub outcome_as : {M N V : Type 0} → (M → N) → Outcome M V → Outcome N V
+outcome_as to (On text n) = On text (to n)
+outcome_as to (Ended text last v) = Ended text last v
+
+-- the run at another moment
+abbrev pub moved : {S : Type 0} → Running S → Moment → Running S
+moved r n = record r { at = n }
+
+-- the run of a schedule, as far as it is said
+abbrev pub running : {S : Type 0} → Story (Running S) Verdict
+running = record {
+  head = λ r. [];
+  outcome = λ r piece.
+      outcome_as (moved r)
+      (said (is_quiet r.say) (outcome_in_run r.at (outcome_of_piece r.at piece)));
+  ending = λ r. record {
+    text = last_said r.say (done_line r.at);
+    verdict = Finished;
+    after = r;
+  };
+}
+
+-- lines of so many bytes can lead from the one moment to the other: the sums have grown by no more
+-- than the steps
+pub record CanRun {S : Type 0} (r : Running S) (size : ℕ) (q : Running S) : Type 0 where
+  pub grown : IsGrown r.at q.at
+  pub led : CanLead r.at size q.at
