@@ -1,5 +1,5 @@
 -- The run of a made schedule whose lines are values. Nothing but the last line is said of it.
-use Rattle.std.proofs.Common.{◌≡◌, ℕ, ◌+◌, true, List, [], ◌++◌, Option, Result, Ok, Err, refl, sym, ap, ap₂, subst, ◌∙◌}
+use Rattle.std.proofs.Common.{◌≡◌, ℕ, ◌+◌, false, List, [], ◌++◌, Option, Result, Ok, Err, refl, sym, ap, ap₂, subst, ◌∙◌}
 use Rattle.std.specs.Prelude.{IsErr}
 use Rattle.std.specs.Io.KnownBytes.{Appends}
 use Rattle.mesh_base.specs.declared.events.Variant.{Variant}
@@ -52,7 +52,7 @@ told_on v x w a b c s goes same none t = told_here v w a b c s same none (subst 
 -- ---- a line of which only a last line is written
 
 -- it was done, and nothing was written
-pub value_on : (m n : Moment) (k : LineOutcome) (b c : Option (List ℕ)) → IsLineDone (said true (outcome_in_run m k)) n b c → ((text : List ℕ) × (k ≡ On text n)) × Appends b c []
+pub value_on : (m n : Moment) (k : LineOutcome) (b c : Option (List ℕ)) → IsLineDone (said false (outcome_in_run m k)) n b c → ((text : List ℕ) × (k ≡ On text n)) × Appends b c []
 value_on m n (On text x) b c done =
     let next : x ≡ n = let is = done.is in cc in
     let none : [] ≡ done.text = let is = done.is in cc in
@@ -61,7 +61,7 @@ value_on m n (Refused why) b c done = absurd (let is = done.is in let P : ⊥ = 
 value_on m n (Full text x e field) b c done = absurd (let is = done.is in let P : ⊥ = cc in P)
 
 -- it has ended the run
-pub value_last : (m : Moment) (k : LineOutcome) (others : Moment → RunText) (v : Verdict) (b c : Option (List ℕ)) → IsLineLast (said true (outcome_in_run m k)) v b c → IsOutput b c (part Last (goes_on m k others)) (status_of (Ok v))
+pub value_last : (m : Moment) (k : LineOutcome) (others : Moment → RunText) (v : Verdict) (b c : Option (List ℕ)) → IsLineLast (said false (outcome_in_run m k)) v b c → IsOutput b c (part Last (goes_on m k others)) (status_of (Ok v))
 value_last m (On text x) others v b c last = absurd (let is = last.is in let P : ⊥ = cc in P)
 value_last m (Refused why) others v b c last =
     let verdict : RefusedAt (m.lines + 1) ≡ v = let is = last.is in cc in
@@ -73,10 +73,10 @@ value_last m (Full words x e field) others v b c last =
     subst (λ x. IsOutput b c (part Last (overfull_run m words e field)) (status_of (Ok x))) verdict (refl, subst (λ l. Appends b c l) (sym text) last.grown)
 
 -- or was not done or not written whole
-pub value_broken : (m : Moment) (k : LineOutcome) (others : Moment → RunText) (e : Fault) (b c : Option (List ℕ)) → AppendsPrefix b c (text_in (said true (outcome_in_run m k))) → IsOutput b c (part Last (goes_on m k others)) (status_of (Err e))
+pub value_broken : (m : Moment) (k : LineOutcome) (others : Moment → RunText) (e : Fault) (b c : Option (List ℕ)) → AppendsPrefix b c (text_in (said false (outcome_in_run m k))) → IsOutput b c (part Last (goes_on m k others)) (status_of (Err e))
 value_broken m k others e b c front = by_fault e (by_outcome k front)
   where
-    by_outcome : (k : LineOutcome) → AppendsPrefix b c (text_in (said true (outcome_in_run m k))) → AppendsPrefix b c (whole (part Last (goes_on m k others)))
+    by_outcome : (k : LineOutcome) → AppendsPrefix b c (text_in (said false (outcome_in_run m k))) → AppendsPrefix b c (whole (part Last (goes_on m k others)))
     by_outcome (On text n) front = AppendsPrefix-more b c [] _ _ refl front
     by_outcome (Refused why) front = front
     by_outcome (Full text n e field) front = front

@@ -52,7 +52,7 @@ idle_moment reach m new idle = sym (ap (λ b. moment_after m.run (if b then chan
 
 -- it was done
 pub line_done : (reach : ℕ) (m : Moment) (bytes : List ℕ) (new : Placing) (n : schedule.Moment) (a b c : Option (List ℕ)) → placing_of m.run.mesh bytes ≡ Ok (Some new) → n ≡ with_line_read (after_coming reach m new)
-    → Appends a b (line bytes) → Appends b c (below reach m new) → IsLineDone false (outcome_of_piece reach m (Whole bytes)) n a c
+    → Appends a b (line bytes) → Appends b c (below reach m new) → IsLineDone true (outcome_of_piece reach m (Whole bytes)) n a c
 line_done reach m bytes new n a b c said is p q = record {
   text = line bytes ++ below reach m new;
   is = placed_is reach m bytes new said ∙ ap (λ k. On (line bytes ++ below reach m new) k) (sym is);
@@ -60,19 +60,19 @@ line_done reach m bytes new n a b c said is p q = record {
 }
 
 -- or not written whole
-stopped : (m n : schedule.Moment) (k : LineOutcome) (a b : Option (List ℕ)) (s : Stop) → IsWant s → AppendsPrefix a b (text_in k) → IsLineStopped false m k n a b s
+stopped : (m n : schedule.Moment) (k : LineOutcome) (a b : Option (List ℕ)) (s : Stop) → IsWant s → AppendsPrefix a b (text_in k) → IsLineStopped true m k n a b s
 stopped m n k a b stop.WriteFault want p = p
 stopped m n k a b stop.NoMemory want p = p
 stopped m n k a b others want p = absurd want
 
 pub unwritten : (reach : ℕ) (m : Moment) (bytes : List ℕ) (new : Placing) (n : schedule.Moment) (a b : Option (List ℕ)) (s : Stop) → placing_of m.run.mesh bytes ≡ Ok (Some new) → IsWant s
-    → AppendsPrefix a b (line bytes) → IsLineStopped false m.run (outcome_of_piece reach m (Whole bytes)) n a b s
+    → AppendsPrefix a b (line bytes) → IsLineStopped true m.run (outcome_of_piece reach m (Whole bytes)) n a b s
 unwritten reach m bytes new n a b s said want p =
     stopped m.run n (outcome_of_piece reach m (Whole bytes)) a b s want
     (AppendsPrefix-more a b (line bytes) (below reach m new) _ (ap text_in (placed_is reach m bytes new said)) p)
 
 pub half_written : (reach : ℕ) (m : Moment) (bytes : List ℕ) (new : Placing) (n : schedule.Moment) (a b c : Option (List ℕ)) (s : Stop) → placing_of m.run.mesh bytes ≡ Ok (Some new) → IsWant s
-    → Appends a b (line bytes) → AppendsPrefix b c (below reach m new) → IsLineStopped false m.run (outcome_of_piece reach m (Whole bytes)) n a c s
+    → Appends a b (line bytes) → AppendsPrefix b c (below reach m new) → IsLineStopped true m.run (outcome_of_piece reach m (Whole bytes)) n a c s
 half_written reach m bytes new n a b c s said want p q =
     stopped m.run n (outcome_of_piece reach m (Whole bytes)) a c s want
     (AppendsPrefix-join a b c (line bytes) (below reach m new) _ (ap text_in (placed_is reach m bytes new said)) p q)

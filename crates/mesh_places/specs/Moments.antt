@@ -1,5 +1,5 @@
 -- A run with places between two lines, as the program has it, and what was told of one line.
-use Rattle.std.specs.Prelude.{ℕ, ◌≡◌, ◌≤◌, ◌<◌, ◌≢◌, ◌+◌, ◌*◌, false, if◌then◌else◌, List, Option, Result, OnOk, length, codes, ⊤}
+use Rattle.std.specs.Prelude.{ℕ, ◌≡◌, ◌≤◌, ◌<◌, ◌≢◌, ◌+◌, ◌*◌, true, if◌then◌else◌, List, Option, Result, OnOk, length, codes, ⊤}
 use Rattle.std.specs.List.{flat_map}
 use Rattle.mesh_base.specs.declared.limits.TheConstants.{MOST_EVENTS}
 use Rattle.mesh_base.specs.Meshes.{Nodes}
@@ -46,7 +46,7 @@ IsWant others = ⊥
 -- what was told of a line that has led the run from p to q, of which the moment alone has changed
 pub record IsRunOfLine (p q : Placed) (bytes : List ℕ) (before now : Option (List ℕ))
     (result : Result (Unit {0}) Stop) : Type 0 where
-  pub comes : IsLineRun false p.point (outcome_of_piece p.reach (moment_of p) (Whole bytes)) q.point
+  pub comes : IsLineRun true p.point (outcome_of_piece p.reach (moment_of p) (Whole bytes)) q.point
       before now result
   pub only : q ≡ moved p (moment_of q)
   pub places : OnOk result (q.places ≡ places_after (moment_of p) (Whole bytes))

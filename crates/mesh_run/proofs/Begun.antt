@@ -27,25 +27,25 @@ shows_on m (shown.Node node) = refl
 shows_on m (shown.Route node dest) = refl
 shows_on m shown.Flight = refl
 
--- nothing of it is written in a quiet run
-pub shows_quiet : (quiet : Bool) (m : Moment) (what : Shown) (a : Option (List ℕ)) → quiet ≡ true → is_some m.world ≡ true → IsLineDone quiet (outcome_of_line m (line_of_shown what)) (with_line_read m) a a
-shows_quiet quiet m what a is some =
+-- nothing of it is written where it isn't said
+pub shows_unsaid : (say : Bool) (m : Moment) (what : Shown) (a : Option (List ℕ)) → say ≡ false → is_some m.world ≡ true → IsLineDone say (outcome_of_line m (line_of_shown what)) (with_line_read m) a a
+shows_unsaid say m what a is some =
     subst (λ q. IsLineDone q (outcome_of_line m (line_of_shown what)) (with_line_read m) a a) (sym is) (record {
       text = text_in (outcome_of_line m (line_of_shown what));
       is = shows_on m what ∙ ap (λ k. On (text_in (outcome_of_line m (line_of_shown what))) (with_line_read k)) (sym (started_same m some));
-      grown = shown_none true a;
+      grown = shown_none false a;
     })
 
--- all of it is written in another
-pub shows_whole_line : (quiet : Bool) (m n : Moment) (what : Shown) (a b : Option (List ℕ)) → quiet ≡ false → is_some m.world ≡ true → n ≡ m → Appends a b (text_in (outcome_of_line m (line_of_shown what)))
-    → IsLineDone quiet (outcome_of_line m (line_of_shown what)) (with_line_read n) a b
-shows_whole_line quiet m n what a b is some same p =
+-- all of it is written where it is
+pub shows_whole_line : (say : Bool) (m n : Moment) (what : Shown) (a b : Option (List ℕ)) → say ≡ true → is_some m.world ≡ true → n ≡ m → Appends a b (text_in (outcome_of_line m (line_of_shown what)))
+    → IsLineDone say (outcome_of_line m (line_of_shown what)) (with_line_read n) a b
+shows_whole_line say m n what a b is some same p =
     subst (λ q. IsLineDone q (outcome_of_line m (line_of_shown what)) (with_line_read n) a b) (sym is) (record {
       text = text_in (outcome_of_line m (line_of_shown what));
       is = shows_on m what ∙ ap (λ k. On (text_in (outcome_of_line m (line_of_shown what))) (with_line_read k)) (sym (same ∙ started_same m some));
       grown = p;
     })
 
-pub shows_part : (quiet : Bool) (m : Moment) (what : Shown) (a b : Option (List ℕ)) → quiet ≡ false → AppendsPrefix a b (text_in (outcome_of_line m (line_of_shown what)))
-    → AppendsPrefix a b (output_if quiet (text_in (outcome_of_line m (line_of_shown what))))
-shows_part quiet m what a b is p = subst (λ q. AppendsPrefix a b (output_if q (text_in (outcome_of_line m (line_of_shown what))))) (sym is) p
+pub shows_part : (say : Bool) (m : Moment) (what : Shown) (a b : Option (List ℕ)) → say ≡ true → AppendsPrefix a b (text_in (outcome_of_line m (line_of_shown what)))
+    → AppendsPrefix a b (output_if say (text_in (outcome_of_line m (line_of_shown what))))
+shows_part say m what a b is p = subst (λ q. AppendsPrefix a b (output_if q (text_in (outcome_of_line m (line_of_shown what))))) (sym is) p

@@ -89,21 +89,21 @@ pub ran_next : (m : Moment) (e : Event) (others : Moment → List Event)
     → outcome_of_events m (event_then m e (outcome_at m e) others) ≡ done_then m e (outcome_at m e) (λ n. outcome_of_events n (others n))
 ran_next m e others = ran_then m e (outcome_at m e) others refl
 
-pub nothing_more : (quiet : Bool) (m : Moment) (events : List Event) (a : Option (List ℕ)) → events ≡ [] → IsEventsDone quiet (outcome_of_events m events) m a a
+pub nothing_more : (say : Bool) (m : Moment) (events : List Event) (a : Option (List ℕ)) → events ≡ [] → IsEventsDone say (outcome_of_events m events) m a a
 unfolding outcome_of_events
-nothing_more quiet m events a none = record { text = []; is = ap (outcome_of_events m) none; grown = shown_none quiet a }
+nothing_more say m events a none = record { text = []; is = ap (outcome_of_events m) none; grown = shown_none say a }
 
 -- one was done, so as many are left as there were but one
-then_counts : (quiet : Bool) (m n : Moment) (e : Event) (o : Outcome) (others : Moment → List Event) (a b : Option (List ℕ)) → IsLineDone quiet (outcome_by m e o) n a b → n ≡ next_moment m e
+then_counts : (say : Bool) (m n : Moment) (e : Event) (o : Outcome) (others : Moment → List Event) (a b : Option (List ℕ)) → IsLineDone say (outcome_by m e o) n a b → n ≡ next_moment m e
     → length (event_then m e o others) ≡ suc (length (others n))
-then_counts quiet m n e Idle others a b done next = ap (λ k. suc (length (others k))) (sym next)
-then_counts quiet m n e (worlds.Full x field) others a b done next = absurd (let h : Full [] m e field ≡ On done.text n = done.is in let P : ⊥ = cc in P)
-then_counts quiet m n e (Next w i) others a b done next = ap (λ k. suc (length (others k))) (sym next)
+then_counts say m n e Idle others a b done next = ap (λ k. suc (length (others k))) (sym next)
+then_counts say m n e (worlds.Full x field) others a b done next = absurd (let h : Full [] m e field ≡ On done.text n = done.is in let P : ⊥ = cc in P)
+then_counts say m n e (Next w i) others a b done next = ap (λ k. suc (length (others k))) (sym next)
 
-pub due_counts : (quiet : Bool) (given : Option Event) (most did : ℕ) (m n : Moment) (e : Event) (a b : Option (List ℕ)) → IfSome given (λ _. most ≤ 1) → did < most → Some e ≡ next_in given m
-    → IsLineDone quiet (outcome_by m e (outcome_at m e)) n a b → n ≡ next_moment m e → length (events_due given (most - did) m) ≡ suc (length (events_due given (most - (did + 1)) n))
-due_counts quiet given most did m n e a b one h p done next =
-    ap length (due_next given most did m e one h p) ∙ then_counts quiet m n e (outcome_at m e) (λ x. events_due given (most - (did + 1)) x) a b done next
+pub due_counts : (say : Bool) (given : Option Event) (most did : ℕ) (m n : Moment) (e : Event) (a b : Option (List ℕ)) → IfSome given (λ _. most ≤ 1) → did < most → Some e ≡ next_in given m
+    → IsLineDone say (outcome_by m e (outcome_at m e)) n a b → n ≡ next_moment m e → length (events_due given (most - did) m) ≡ suc (length (events_due given (most - (did + 1)) n))
+due_counts say given most did m n e a b one h p done next =
+    ap length (due_next given most did m e one h p) ∙ then_counts say m n e (outcome_at m e) (λ x. events_due given (most - (did + 1)) x) a b done next
 
 -- ---- one event, and then the others
 
@@ -111,24 +111,24 @@ pub text-before : (text : List ℕ) (ran : EventsOutcome) → text_of (before te
 text-before text (Ended others after) = refl
 text-before text (EventsFull others n e field) = refl
 
-before_to : (quiet : Bool) (m n k : Moment) (text : List ℕ) (ran : EventsOutcome) (a b c : Option (List ℕ)) (r : Result ℕ Stop) → n.mesh ≡ m.mesh → n.lines ≡ m.lines
-    → Appends a b (output_if quiet text) → IsEventsRun quiet n ran k b c r → IsEventsRun quiet m (before text ran) k a c r
-before_to quiet m n k text ran a b c (Ok did) em el p q =
-    record { text = text ++ q.text; is = ap (before text) q.is; grown = shown_join quiet a b c text q.text p q.grown }
-before_to quiet m n k text ran a b c (Err (stop.BadLine f)) em el p q = q
-before_to quiet m n k text ran a b c (Err (stop.Full event node field)) em el p q = record {
+before_to : (say : Bool) (m n k : Moment) (text : List ℕ) (ran : EventsOutcome) (a b c : Option (List ℕ)) (r : Result ℕ Stop) → n.mesh ≡ m.mesh → n.lines ≡ m.lines
+    → Appends a b (output_if say text) → IsEventsRun say n ran k b c r → IsEventsRun say m (before text ran) k a c r
+before_to say m n k text ran a b c (Ok did) em el p q =
+    record { text = text ++ q.text; is = ap (before text) q.is; grown = shown_join say a b c text q.text p q.grown }
+before_to say m n k text ran a b c (Err (stop.BadLine f)) em el p q = q
+before_to say m n k text ran a b c (Err (stop.Full event node field)) em el p q = record {
   text = text ++ q.text;
   is = ap (before text) q.is;
   refused = q.refused;
-  grown = shown_join quiet a b c text q.text p q.grown;
+  grown = shown_join say a b c text q.text p q.grown;
   still = record { event = subst (λ l. IsEvent (length l) (event_of event)) em q.still.event; mesh = q.still.mesh ∙ em; lines = q.still.lines ∙ el };
 }
-before_to quiet m n k text ran a b c (Err stop.WriteFault) em el p q =
-    let P : List ℕ → Type 0 = λ l. AppendsPrefix a c (output_if quiet l) in
-    subst P (sym (text-before text ran)) (front_join quiet a b c text (text_of ran) p q)
-before_to quiet m n k text ran a b c (Err stop.NoMemory) em el p q =
-    let P : List ℕ → Type 0 = λ l. AppendsPrefix a c (output_if quiet l) in
-    subst P (sym (text-before text ran)) (front_join quiet a b c text (text_of ran) p q)
+before_to say m n k text ran a b c (Err stop.WriteFault) em el p q =
+    let P : List ℕ → Type 0 = λ l. AppendsPrefix a c (output_if say l) in
+    subst P (sym (text-before text ran)) (front_join say a b c text (text_of ran) p q)
+before_to say m n k text ran a b c (Err stop.NoMemory) em el p q =
+    let P : List ℕ → Type 0 = λ l. AppendsPrefix a c (output_if say l) in
+    subst P (sym (text-before text ran)) (front_join say a b c text (text_of ran) p q)
 
 -- the moment after what came of an event
 moment_of_came : Moment → LineOutcome → Moment
@@ -137,33 +137,33 @@ moment_of_came m (Refused why) = m
 moment_of_came m (Full text n e field) = m
 
 -- an event that was done
-pub on_then : (quiet : Bool) (m n k : Moment) (e : Event) (text : List ℕ) (ran : Moment → EventsOutcome) (a b c : Option (List ℕ)) (r : Result ℕ Stop)
-    → (g : IsLineDone quiet (On text (next_moment m e)) n a b) → IsEventsRun quiet n (ran n) k b c r → IsEventsRun quiet m (before text (ran (next_moment m e))) k a c r
+pub on_then : (say : Bool) (m n k : Moment) (e : Event) (text : List ℕ) (ran : Moment → EventsOutcome) (a b c : Option (List ℕ)) (r : Result ℕ Stop)
+    → (g : IsLineDone say (On text (next_moment m e)) n a b) → IsEventsRun say n (ran n) k b c r → IsEventsRun say m (before text (ran (next_moment m e))) k a c r
 unfolding next_moment moment_of_came
-on_then quiet m n k e text ran a b c r g q =
+on_then say m n k e text ran a b c r g q =
     let same : next_moment m e ≡ n = ap (moment_of_came m) g.is in
     let words : text ≡ g.text = ap text_in g.is in
-    let P : Moment → Type 0 = λ p. IsEventsRun quiet m (before text (ran p)) k a c r in
-    let Q : List ℕ → Type 0 = λ l. Appends a b (output_if quiet l) in
-    subst P (sym same) (before_to quiet m n k text (ran n) a b c r (ap (λ p. p.mesh) (sym same)) (ap (λ p. p.lines) (sym same)) (subst Q (sym words) g.grown) q)
+    let P : Moment → Type 0 = λ p. IsEventsRun say m (before text (ran p)) k a c r in
+    let Q : List ℕ → Type 0 = λ l. Appends a b (output_if say l) in
+    subst P (sym same) (before_to say m n k text (ran n) a b c r (ap (λ p. p.mesh) (sym same)) (ap (λ p. p.lines) (sym same)) (subst Q (sym words) g.grown) q)
 
-then_goes : (quiet : Bool) (m n k : Moment) (e : Event) (o : Outcome) (others : Moment → EventsOutcome) (a b c : Option (List ℕ)) (r : Result ℕ Stop)
-    → IsLineDone quiet (outcome_by m e o) n a b → IsEventsRun quiet n (others n) k b c r → IsEventsRun quiet m (done_then m e o others) k a c r
-then_goes quiet m n k e Idle others a b c r g q = on_then quiet m n k e (outcome_lines m.mesh e Idle) others a b c r g q
-then_goes quiet m n k e (worlds.Full x field) others a b c r g q = absurd (let h : Full [] m e field ≡ On g.text n = g.is in let P : ⊥ = cc in P)
-then_goes quiet m n k e (Next w i) others a b c r g q = on_then quiet m n k e (outcome_lines m.mesh e (Next w i)) others a b c r g q
+then_goes : (say : Bool) (m n k : Moment) (e : Event) (o : Outcome) (others : Moment → EventsOutcome) (a b c : Option (List ℕ)) (r : Result ℕ Stop)
+    → IsLineDone say (outcome_by m e o) n a b → IsEventsRun say n (others n) k b c r → IsEventsRun say m (done_then m e o others) k a c r
+then_goes say m n k e Idle others a b c r g q = on_then say m n k e (outcome_lines m.mesh e Idle) others a b c r g q
+then_goes say m n k e (worlds.Full x field) others a b c r g q = absurd (let h : Full [] m e field ≡ On g.text n = g.is in let P : ⊥ = cc in P)
+then_goes say m n k e (Next w i) others a b c r g q = on_then say m n k e (outcome_lines m.mesh e (Next w i)) others a b c r g q
 
 -- an event that was not done, or not written whole
-pub on_stops : (quiet : Bool) (m n p : Moment) (text : List ℕ) (ran : EventsOutcome) (a b : Option (List ℕ)) (t : Stop)
-    → IsLineStopped quiet m (On text p) n a b t → IsEventsRun quiet m (before text ran) n a b (Err t)
-on_stops quiet m n p text ran a b (stop.BadLine f) g = absurd (let h = g.0 in let P : ⊥ = cc in P)
-on_stops quiet m n p text ran a b (stop.Full event node field) g = absurd (let h : On text p ≡ Full g.text n (event_of event) field = g.is in let P : ⊥ = cc in P)
-on_stops quiet m n p text ran a b stop.WriteFault g =
-    let P : List ℕ → Type 0 = λ l. AppendsPrefix a b (output_if quiet l) in
-    subst P (sym (text-before text ran)) (front_more quiet a b text (text_of ran) g)
-on_stops quiet m n p text ran a b stop.NoMemory g =
-    let P : List ℕ → Type 0 = λ l. AppendsPrefix a b (output_if quiet l) in
-    subst P (sym (text-before text ran)) (front_more quiet a b text (text_of ran) g)
+pub on_stops : (say : Bool) (m n p : Moment) (text : List ℕ) (ran : EventsOutcome) (a b : Option (List ℕ)) (t : Stop)
+    → IsLineStopped say m (On text p) n a b t → IsEventsRun say m (before text ran) n a b (Err t)
+on_stops say m n p text ran a b (stop.BadLine f) g = absurd (let h = g.0 in let P : ⊥ = cc in P)
+on_stops say m n p text ran a b (stop.Full event node field) g = absurd (let h : On text p ≡ Full g.text n (event_of event) field = g.is in let P : ⊥ = cc in P)
+on_stops say m n p text ran a b stop.WriteFault g =
+    let P : List ℕ → Type 0 = λ l. AppendsPrefix a b (output_if say l) in
+    subst P (sym (text-before text ran)) (front_more say a b text (text_of ran) g)
+on_stops say m n p text ran a b stop.NoMemory g =
+    let P : List ℕ → Type 0 = λ l. AppendsPrefix a b (output_if say l) in
+    subst P (sym (text-before text ran)) (front_more say a b text (text_of ran) g)
 
 ran_in : EventsOutcome → LineOutcome → EventsOutcome
 ran_in d (On text n) = d
@@ -171,41 +171,41 @@ ran_in d (Refused why) = d
 ran_in d (Full text n e field) = EventsFull text n e field
 
 -- one that is refused for a full counter
-pub full_stops : (quiet : Bool) (m n : Moment) (e : Event) (full : Counter) (a b : Option (List ℕ)) (t : Stop)
-    → IsLineStopped quiet m (Full [] m e full) n a b t → IsEventsRun quiet m (EventsFull [] m e full) n a b (Err t)
+pub full_stops : (say : Bool) (m n : Moment) (e : Event) (full : Counter) (a b : Option (List ℕ)) (t : Stop)
+    → IsLineStopped say m (Full [] m e full) n a b t → IsEventsRun say m (EventsFull [] m e full) n a b (Err t)
 unfolding ran_in
-full_stops quiet m n e full a b (stop.BadLine f) g = absurd (let h = g.0 in let P : ⊥ = cc in P)
-full_stops quiet m n e full a b (stop.Full event node field) g = record {
+full_stops say m n e full a b (stop.BadLine f) g = absurd (let h = g.0 in let P : ⊥ = cc in P)
+full_stops say m n e full a b (stop.Full event node field) g = record {
   text = g.text;
   is = ap (ran_in (EventsFull [] m e full)) g.is;
   refused = g.refused;
   grown = g.grown;
   still = g.still;
 }
-full_stops quiet m n e full a b stop.WriteFault g = g
-full_stops quiet m n e full a b stop.NoMemory g = g
+full_stops say m n e full a b stop.WriteFault g = g
+full_stops say m n e full a b stop.NoMemory g = g
 
-then_stops : (quiet : Bool) (m n : Moment) (e : Event) (o : Outcome) (others : Moment → EventsOutcome) (a b : Option (List ℕ)) (t : Stop)
-    → IsLineStopped quiet m (outcome_by m e o) n a b t → IsEventsRun quiet m (done_then m e o others) n a b (Err t)
-then_stops quiet m n e Idle others a b t g = on_stops quiet m n (next_moment m e) (outcome_lines m.mesh e Idle) (others (next_moment m e)) a b t g
-then_stops quiet m n e (worlds.Full x full) others a b t g = full_stops quiet m n e full a b t g
-then_stops quiet m n e (Next w i) others a b t g = on_stops quiet m n (next_moment m e) (outcome_lines m.mesh e (Next w i)) (others (next_moment m e)) a b t g
+then_stops : (say : Bool) (m n : Moment) (e : Event) (o : Outcome) (others : Moment → EventsOutcome) (a b : Option (List ℕ)) (t : Stop)
+    → IsLineStopped say m (outcome_by m e o) n a b t → IsEventsRun say m (done_then m e o others) n a b (Err t)
+then_stops say m n e Idle others a b t g = on_stops say m n (next_moment m e) (outcome_lines m.mesh e Idle) (others (next_moment m e)) a b t g
+then_stops say m n e (worlds.Full x full) others a b t g = full_stops say m n e full a b t g
+then_stops say m n e (Next w i) others a b t g = on_stops say m n (next_moment m e) (outcome_lines m.mesh e (Next w i)) (others (next_moment m e)) a b t g
 
 -- one event more
-pub ran_goes : (quiet : Bool) (given : Option Event) (most did : ℕ) (m n k : Moment) (e : Event) (a b c : Option (List ℕ)) (r : Result ℕ Stop) → IfSome given (λ _. most ≤ 1) → did < most → Some e ≡ next_in given m
-    → IsLineDone quiet (outcome_by m e (outcome_at m e)) n a b → IsEventsRun quiet n (outcome_of_events n (events_due given (most - (did + 1)) n)) k b c r
-    → IsEventsRun quiet m (outcome_of_events m (events_due given (most - did) m)) k a c r
-ran_goes quiet given most did m n k e a b c r one h p g q =
-    let P : EventsOutcome → Type 0 = λ ran. IsEventsRun quiet m ran k a c r in
+pub ran_goes : (say : Bool) (given : Option Event) (most did : ℕ) (m n k : Moment) (e : Event) (a b c : Option (List ℕ)) (r : Result ℕ Stop) → IfSome given (λ _. most ≤ 1) → did < most → Some e ≡ next_in given m
+    → IsLineDone say (outcome_by m e (outcome_at m e)) n a b → IsEventsRun say n (outcome_of_events n (events_due given (most - (did + 1)) n)) k b c r
+    → IsEventsRun say m (outcome_of_events m (events_due given (most - did) m)) k a c r
+ran_goes say given most did m n k e a b c r one h p g q =
+    let P : EventsOutcome → Type 0 = λ ran. IsEventsRun say m ran k a c r in
     subst P (sym (ap (outcome_of_events m) (due_next given most did m e one h p) ∙ ran_next m e (λ x. events_due given (most - (did + 1)) x)))
-    (then_goes quiet m n k e (outcome_at m e) (λ x. outcome_of_events x (events_due given (most - (did + 1)) x)) a b c r g q)
+    (then_goes say m n k e (outcome_at m e) (λ x. outcome_of_events x (events_due given (most - (did + 1)) x)) a b c r g q)
 
-pub ran_stops : (quiet : Bool) (given : Option Event) (most did : ℕ) (m n : Moment) (e : Event) (a b : Option (List ℕ)) (t : Stop) → IfSome given (λ _. most ≤ 1) → did < most → Some e ≡ next_in given m
-    → IsLineStopped quiet m (outcome_by m e (outcome_at m e)) n a b t → IsEventsRun quiet m (outcome_of_events m (events_due given (most - did) m)) n a b (Err t)
-ran_stops quiet given most did m n e a b t one h p g =
-    let P : EventsOutcome → Type 0 = λ ran. IsEventsRun quiet m ran n a b (Err t) in
+pub ran_stops : (say : Bool) (given : Option Event) (most did : ℕ) (m n : Moment) (e : Event) (a b : Option (List ℕ)) (t : Stop) → IfSome given (λ _. most ≤ 1) → did < most → Some e ≡ next_in given m
+    → IsLineStopped say m (outcome_by m e (outcome_at m e)) n a b t → IsEventsRun say m (outcome_of_events m (events_due given (most - did) m)) n a b (Err t)
+ran_stops say given most did m n e a b t one h p g =
+    let P : EventsOutcome → Type 0 = λ ran. IsEventsRun say m ran n a b (Err t) in
     subst P (sym (ap (outcome_of_events m) (due_next given most did m e one h p) ∙ ran_next m e (λ x. events_due given (most - (did + 1)) x)))
-    (then_stops quiet m n e (outcome_at m e) (λ x. outcome_of_events x (events_due given (most - (did + 1)) x)) a b t g)
+    (then_stops say m n e (outcome_at m e) (λ x. outcome_of_events x (events_due given (most - (did + 1)) x)) a b t g)
 
 -- ---- the line of an event
 
@@ -226,88 +226,88 @@ text_by (Ended text n) = refl
 text_by (EventsFull text n e field) = refl
 
 -- in what follows `p` is the same moment as `n`, once the reference has come back
-pub does_goes : (quiet : Bool) (m s n p : Moment) (e : Event) (a b : Option (List ℕ)) → s ≡ with_world m → n ≡ p → IsEventsDone quiet (outcome_of_events s (events_due (Some e) 1 s)) n a b
-    → IsLineDone quiet (outcome_of_line m (Does e)) (with_line_read p) a b
-does_goes quiet m s n p e a b same back g = record {
+pub does_goes : (say : Bool) (m s n p : Moment) (e : Event) (a b : Option (List ℕ)) → s ≡ with_world m → n ≡ p → IsEventsDone say (outcome_of_events s (events_due (Some e) 1 s)) n a b
+    → IsLineDone say (outcome_of_line m (Does e)) (with_line_read p) a b
+does_goes say m s n p e a b same back g = record {
   text = g.text;
   is = came-does m s e same ∙ ap outcome_by_events g.is ∙ ap (λ k. On g.text (with_line_read k)) back;
   grown = g.grown;
 }
 
-does_front : (quiet : Bool) (m s : Moment) (e : Event) (a b : Option (List ℕ)) → s ≡ with_world m → AppendsPrefix a b (output_if quiet (text_of (outcome_of_events s (events_due (Some e) 1 s))))
-    → AppendsPrefix a b (output_if quiet (text_in (outcome_of_line m (Does e))))
-does_front quiet m s e a b same g =
-    let P : List ℕ → Type 0 = λ l. AppendsPrefix a b (output_if quiet l) in
+does_front : (say : Bool) (m s : Moment) (e : Event) (a b : Option (List ℕ)) → s ≡ with_world m → AppendsPrefix a b (output_if say (text_of (outcome_of_events s (events_due (Some e) 1 s))))
+    → AppendsPrefix a b (output_if say (text_in (outcome_of_line m (Does e))))
+does_front say m s e a b same g =
+    let P : List ℕ → Type 0 = λ l. AppendsPrefix a b (output_if say l) in
     subst P (sym (ap text_in (came-does m s e same) ∙ text_by (outcome_of_events s (events_due (Some e) 1 s)))) g
 
-does_stopped : (quiet : Bool) (m s n : Moment) (e : Event) (a b : Option (List ℕ)) (t : Stop) → s ≡ with_world m → IsEventsRun quiet s (outcome_of_events s (events_due (Some e) 1 s)) n a b (Err t)
-    → IsLineStopped quiet m (outcome_of_line m (Does e)) n a b t
-does_stopped quiet m s n e a b (stop.BadLine f) same g = absurd g
-does_stopped quiet m s n e a b (stop.Full event node field) same g = record {
+does_stopped : (say : Bool) (m s n : Moment) (e : Event) (a b : Option (List ℕ)) (t : Stop) → s ≡ with_world m → IsEventsRun say s (outcome_of_events s (events_due (Some e) 1 s)) n a b (Err t)
+    → IsLineStopped say m (outcome_of_line m (Does e)) n a b t
+does_stopped say m s n e a b (stop.BadLine f) same g = absurd g
+does_stopped say m s n e a b (stop.Full event node field) same g = record {
   text = g.text;
   is = came-does m s e same ∙ ap outcome_by_events g.is;
   refused = g.refused;
   grown = g.grown;
   still = still_since m s n (event_of event) same g.still;
 }
-does_stopped quiet m s n e a b stop.WriteFault same g = does_front quiet m s e a b same g
-does_stopped quiet m s n e a b stop.NoMemory same g = does_front quiet m s e a b same g
+does_stopped say m s n e a b stop.WriteFault same g = does_front say m s e a b same g
+does_stopped say m s n e a b stop.NoMemory same g = does_front say m s e a b same g
 
-pub does_stops : (quiet : Bool) (m s n p : Moment) (e : Event) (a b : Option (List ℕ)) (t : Stop) → s ≡ with_world m → n ≡ p → IsEventsRun quiet s (outcome_of_events s (events_due (Some e) 1 s)) n a b (Err t)
-    → IsLineStopped quiet m (outcome_of_line m (Does e)) p a b t
-does_stops quiet m s n p e a b t same back g =
-    subst (λ (x : Moment). IsLineStopped quiet m (outcome_of_line m (Does e)) x a b t) back (does_stopped quiet m s n e a b t same g)
+pub does_stops : (say : Bool) (m s n p : Moment) (e : Event) (a b : Option (List ℕ)) (t : Stop) → s ≡ with_world m → n ≡ p → IsEventsRun say s (outcome_of_events s (events_due (Some e) 1 s)) n a b (Err t)
+    → IsLineStopped say m (outcome_of_line m (Does e)) p a b t
+does_stops say m s n p e a b t same back g =
+    subst (λ (x : Moment). IsLineStopped say m (outcome_of_line m (Does e)) x a b t) back (does_stopped say m s n e a b t same g)
 
 -- ---- the line of chosen events
 
 -- here `k` is what the line comes to, and `ran` the events, of which there were `did`, from moment s on
-front_in : (quiet : Bool) (w : List ℕ) (did : ℕ) (ran : EventsOutcome) (a b c : Option (List ℕ)) → Appends a b (output_if quiet w) → AppendsPrefix b c (output_if quiet (text_of ran))
-    → AppendsPrefix a c (output_if quiet (text_in (outcome_of_auto w did ran)))
-front_in quiet w did (Ended others after) a b c p q = front_more quiet a c (w ++ others) (auto_end did) (front_join quiet a b c w others p q)
-front_in quiet w did (EventsFull others n e field) a b c p q = front_join quiet a b c w others p q
+front_in : (say : Bool) (w : List ℕ) (did : ℕ) (ran : EventsOutcome) (a b c : Option (List ℕ)) → Appends a b (output_if say w) → AppendsPrefix b c (output_if say (text_of ran))
+    → AppendsPrefix a c (output_if say (text_in (outcome_of_auto w did ran)))
+front_in say w did (Ended others after) a b c p q = front_more say a c (w ++ others) (auto_end did) (front_join say a b c w others p q)
+front_in say w did (EventsFull others n e field) a b c p q = front_join say a b c w others p q
 
-front_at : (quiet : Bool) (w : List ℕ) (did : ℕ) (ran : EventsOutcome) (a b : Option (List ℕ)) → AppendsPrefix a b (output_if quiet w) → AppendsPrefix a b (output_if quiet (text_in (outcome_of_auto w did ran)))
-front_at quiet w did (Ended others after) a b p = front_more quiet a b (w ++ others) (auto_end did) (front_more quiet a b w others p)
-front_at quiet w did (EventsFull others n e field) a b p = front_more quiet a b w others p
+front_at : (say : Bool) (w : List ℕ) (did : ℕ) (ran : EventsOutcome) (a b : Option (List ℕ)) → AppendsPrefix a b (output_if say w) → AppendsPrefix a b (output_if say (text_in (outcome_of_auto w did ran)))
+front_at say w did (Ended others after) a b p = front_more say a b (w ++ others) (auto_end did) (front_more say a b w others p)
+front_at say w did (EventsFull others n e field) a b p = front_more say a b w others p
 
-pub line_goes : (quiet : Bool) (k : LineOutcome) (w : List ℕ) (did : ℕ) (ran : EventsOutcome) (n next : Moment) (a b c d : Option (List ℕ)) → k ≡ outcome_of_auto w did ran → Appends a b (output_if quiet w)
-    → IsEventsDone quiet ran n b c → Appends c d (output_if quiet (auto_end did)) → next ≡ with_line_read n → IsLineDone quiet k next a d
-line_goes quiet k w did ran n next a b c d is p q r counts = record {
+pub line_goes : (say : Bool) (k : LineOutcome) (w : List ℕ) (did : ℕ) (ran : EventsOutcome) (n next : Moment) (a b c d : Option (List ℕ)) → k ≡ outcome_of_auto w did ran → Appends a b (output_if say w)
+    → IsEventsDone say ran n b c → Appends c d (output_if say (auto_end did)) → next ≡ with_line_read n → IsLineDone say k next a d
+line_goes say k w did ran n next a b c d is p q r counts = record {
   text = w ++ q.text ++ auto_end did;
   is = is ∙ ap (outcome_of_auto w did) q.is ∙ ap (λ x. On (w ++ q.text ++ auto_end did) x) (sym counts);
-  grown = shown_join quiet a c d (w ++ q.text) (auto_end did) (shown_join quiet a b c w q.text p q.grown) r;
+  grown = shown_join say a c d (w ++ q.text) (auto_end did) (shown_join say a b c w q.text p q.grown) r;
 }
 
 -- the line itself is not written whole
-pub line_front : (quiet : Bool) (k : LineOutcome) (w : List ℕ) (did : ℕ) (ran : EventsOutcome) (a b : Option (List ℕ)) → k ≡ outcome_of_auto w did ran → AppendsPrefix a b (output_if quiet w) → AppendsPrefix a b (output_if quiet (text_in k))
-line_front quiet k w did ran a b is p =
-    let P : LineOutcome → Type 0 = λ x. AppendsPrefix a b (output_if quiet (text_in x)) in
-    subst P (sym is) (front_at quiet w did ran a b p)
+pub line_front : (say : Bool) (k : LineOutcome) (w : List ℕ) (did : ℕ) (ran : EventsOutcome) (a b : Option (List ℕ)) → k ≡ outcome_of_auto w did ran → AppendsPrefix a b (output_if say w) → AppendsPrefix a b (output_if say (text_in k))
+line_front say k w did ran a b is p =
+    let P : LineOutcome → Type 0 = λ x. AppendsPrefix a b (output_if say (text_in x)) in
+    subst P (sym is) (front_at say w did ran a b p)
 
 -- nor the line after the events
-pub line_end_front : (quiet : Bool) (k : LineOutcome) (w : List ℕ) (did : ℕ) (ran : EventsOutcome) (n : Moment) (a b c d : Option (List ℕ)) → k ≡ outcome_of_auto w did ran → Appends a b (output_if quiet w)
-    → IsEventsDone quiet ran n b c → AppendsPrefix c d (output_if quiet (auto_end did)) → AppendsPrefix a d (output_if quiet (text_in k))
-line_end_front quiet k w did ran n a b c d is p q r =
-    let P : LineOutcome → Type 0 = λ x. AppendsPrefix a d (output_if quiet (text_in x)) in
-    subst P (sym (is ∙ ap (outcome_of_auto w did) q.is)) (front_join quiet a c d (w ++ q.text) (auto_end did) (shown_join quiet a b c w q.text p q.grown) r)
+pub line_end_front : (say : Bool) (k : LineOutcome) (w : List ℕ) (did : ℕ) (ran : EventsOutcome) (n : Moment) (a b c d : Option (List ℕ)) → k ≡ outcome_of_auto w did ran → Appends a b (output_if say w)
+    → IsEventsDone say ran n b c → AppendsPrefix c d (output_if say (auto_end did)) → AppendsPrefix a d (output_if say (text_in k))
+line_end_front say k w did ran n a b c d is p q r =
+    let P : LineOutcome → Type 0 = λ x. AppendsPrefix a d (output_if say (text_in x)) in
+    subst P (sym (is ∙ ap (outcome_of_auto w did) q.is)) (front_join say a c d (w ++ q.text) (auto_end did) (shown_join say a b c w q.text p q.grown) r)
 
 -- an event was not done, or not written whole
-pub line_stops : (quiet : Bool) (m s : Moment) (k : LineOutcome) (w : List ℕ) (did : ℕ) (ran : EventsOutcome) (n : Moment) (a b c : Option (List ℕ)) (t : Stop) → s ≡ with_world m → k ≡ outcome_of_auto w did ran
-    → Appends a b (output_if quiet w) → IsEventsRun quiet s ran n b c (Err t) → IsLineStopped quiet m k n a c t
-line_stops quiet m s k w did ran n a b c (stop.BadLine f) same is p q = absurd q
-line_stops quiet m s k w did ran n a b c (stop.Full event node field) same is p q = record {
+pub line_stops : (say : Bool) (m s : Moment) (k : LineOutcome) (w : List ℕ) (did : ℕ) (ran : EventsOutcome) (n : Moment) (a b c : Option (List ℕ)) (t : Stop) → s ≡ with_world m → k ≡ outcome_of_auto w did ran
+    → Appends a b (output_if say w) → IsEventsRun say s ran n b c (Err t) → IsLineStopped say m k n a c t
+line_stops say m s k w did ran n a b c (stop.BadLine f) same is p q = absurd q
+line_stops say m s k w did ran n a b c (stop.Full event node field) same is p q = record {
   text = w ++ q.text;
   is = is ∙ ap (outcome_of_auto w did) q.is;
   refused = q.refused;
-  grown = shown_join quiet a b c w q.text p q.grown;
+  grown = shown_join say a b c w q.text p q.grown;
   still = still_since m s n (event_of event) same q.still;
 }
-line_stops quiet m s k w did ran n a b c stop.WriteFault same is p q =
-    let P : LineOutcome → Type 0 = λ x. AppendsPrefix a c (output_if quiet (text_in x)) in
-    subst P (sym is) (front_in quiet w did ran a b c p q)
-line_stops quiet m s k w did ran n a b c stop.NoMemory same is p q =
-    let P : LineOutcome → Type 0 = λ x. AppendsPrefix a c (output_if quiet (text_in x)) in
-    subst P (sym is) (front_in quiet w did ran a b c p q)
+line_stops say m s k w did ran n a b c stop.WriteFault same is p q =
+    let P : LineOutcome → Type 0 = λ x. AppendsPrefix a c (output_if say (text_in x)) in
+    subst P (sym is) (front_in say w did ran a b c p q)
+line_stops say m s k w did ran n a b c stop.NoMemory same is p q =
+    let P : LineOutcome → Type 0 = λ x. AppendsPrefix a c (output_if say (text_in x)) in
+    subst P (sym is) (front_in say w did ran a b c p q)
 
 -- ---- the same of the schedule's run
 
@@ -318,34 +318,34 @@ came-chooses m s count did same many =
     ap (λ k. outcome_of_auto (line (words_of m.mesh (Chooses count))) (length (events_chosen count k)) (outcome_of_events k (events_chosen count k))) (sym same)
     ∙ ap (λ x. outcome_of_auto (line (words_of m.mesh (Chooses count))) x (outcome_of_events s (events_chosen count s))) (sym many)
 
-pub auto_goes : (quiet : Bool) (m s n k : Moment) (count did : ℕ) (a b c d : Option (List ℕ)) → s ≡ with_world m → did ≡ length (events_chosen count s)
-    → Appends a b (output_if quiet (line (words_of m.mesh (Chooses count))))
-    → IsEventsDone quiet (outcome_of_events s (events_chosen count s)) n b c → Appends c d (output_if quiet (auto_end did)) → k ≡ with_line_read n → IsLineDone quiet (outcome_of_line m (Chooses count)) k a d
-auto_goes quiet m s n k count did a b c d same many p q r next =
-    line_goes quiet (outcome_of_line m (Chooses count)) (line (words_of m.mesh (Chooses count))) did (outcome_of_events s (events_chosen count s)) n k a b c d (came-chooses m s count did same many) p q r next
+pub auto_goes : (say : Bool) (m s n k : Moment) (count did : ℕ) (a b c d : Option (List ℕ)) → s ≡ with_world m → did ≡ length (events_chosen count s)
+    → Appends a b (output_if say (line (words_of m.mesh (Chooses count))))
+    → IsEventsDone say (outcome_of_events s (events_chosen count s)) n b c → Appends c d (output_if say (auto_end did)) → k ≡ with_line_read n → IsLineDone say (outcome_of_line m (Chooses count)) k a d
+auto_goes say m s n k count did a b c d same many p q r next =
+    line_goes say (outcome_of_line m (Chooses count)) (line (words_of m.mesh (Chooses count))) did (outcome_of_events s (events_chosen count s)) n k a b c d (came-chooses m s count did same many) p q r next
 
-pub auto_front : (quiet : Bool) (m s : Moment) (count : ℕ) (a b : Option (List ℕ)) → s ≡ with_world m → AppendsPrefix a b (output_if quiet (line (words_of m.mesh (Chooses count))))
-    → AppendsPrefix a b (output_if quiet (text_in (outcome_of_line m (Chooses count))))
-auto_front quiet m s count a b same p =
-    line_front quiet (outcome_of_line m (Chooses count)) (line (words_of m.mesh (Chooses count))) _ (outcome_of_events s (events_chosen count s)) a b (came-chooses m s count _ same refl) p
+pub auto_front : (say : Bool) (m s : Moment) (count : ℕ) (a b : Option (List ℕ)) → s ≡ with_world m → AppendsPrefix a b (output_if say (line (words_of m.mesh (Chooses count))))
+    → AppendsPrefix a b (output_if say (text_in (outcome_of_line m (Chooses count))))
+auto_front say m s count a b same p =
+    line_front say (outcome_of_line m (Chooses count)) (line (words_of m.mesh (Chooses count))) _ (outcome_of_events s (events_chosen count s)) a b (came-chooses m s count _ same refl) p
 
-pub auto_end_front : (quiet : Bool) (m s n : Moment) (count did : ℕ) (a b c d : Option (List ℕ)) → s ≡ with_world m → did ≡ length (events_chosen count s)
-    → Appends a b (output_if quiet (line (words_of m.mesh (Chooses count)))) → IsEventsDone quiet (outcome_of_events s (events_chosen count s)) n b c → AppendsPrefix c d (output_if quiet (auto_end did))
-    → AppendsPrefix a d (output_if quiet (text_in (outcome_of_line m (Chooses count))))
-auto_end_front quiet m s n count did a b c d same many p q r =
-    line_end_front quiet (outcome_of_line m (Chooses count)) (line (words_of m.mesh (Chooses count))) did (outcome_of_events s (events_chosen count s)) n a b c d (came-chooses m s count did same many) p q r
+pub auto_end_front : (say : Bool) (m s n : Moment) (count did : ℕ) (a b c d : Option (List ℕ)) → s ≡ with_world m → did ≡ length (events_chosen count s)
+    → Appends a b (output_if say (line (words_of m.mesh (Chooses count)))) → IsEventsDone say (outcome_of_events s (events_chosen count s)) n b c → AppendsPrefix c d (output_if say (auto_end did))
+    → AppendsPrefix a d (output_if say (text_in (outcome_of_line m (Chooses count))))
+auto_end_front say m s n count did a b c d same many p q r =
+    line_end_front say (outcome_of_line m (Chooses count)) (line (words_of m.mesh (Chooses count))) did (outcome_of_events s (events_chosen count s)) n a b c d (came-chooses m s count did same many) p q r
 
-pub auto_stops : (quiet : Bool) (m s n : Moment) (count : ℕ) (a b c : Option (List ℕ)) (t : Stop) → s ≡ with_world m
-    → Appends a b (output_if quiet (line (words_of m.mesh (Chooses count)))) → IsEventsRun quiet s (outcome_of_events s (events_chosen count s)) n b c (Err t)
-    → IsLineStopped quiet m (outcome_of_line m (Chooses count)) n a c t
-auto_stops quiet m s n count a b c t same p q =
-    line_stops quiet m s (outcome_of_line m (Chooses count)) (line (words_of m.mesh (Chooses count))) _ (outcome_of_events s (events_chosen count s)) n a b c t same (came-chooses m s count _ same refl) p q
+pub auto_stops : (say : Bool) (m s n : Moment) (count : ℕ) (a b c : Option (List ℕ)) (t : Stop) → s ≡ with_world m
+    → Appends a b (output_if say (line (words_of m.mesh (Chooses count)))) → IsEventsRun say s (outcome_of_events s (events_chosen count s)) n b c (Err t)
+    → IsLineStopped say m (outcome_of_line m (Chooses count)) n a c t
+auto_stops say m s n count a b c t same p q =
+    line_stops say m s (outcome_of_line m (Chooses count)) (line (words_of m.mesh (Chooses count))) _ (outcome_of_events s (events_chosen count s)) n a b c t same (came-chooses m s count _ same refl) p q
 
 -- where none is given, all are chosen
-pub chosen_ran : (quiet : Bool) (s m n : Moment) (count : ℕ) (a b : Option (List ℕ)) (r : Result ℕ Stop) → s ≡ m → IsEventsRun quiet s (outcome_of_events s (events_due None count s)) n a b r
-    → IsEventsRun quiet m (outcome_of_events m (events_chosen count m)) n a b r
+pub chosen_ran : (say : Bool) (s m n : Moment) (count : ℕ) (a b : Option (List ℕ)) (r : Result ℕ Stop) → s ≡ m → IsEventsRun say s (outcome_of_events s (events_due None count s)) n a b r
+    → IsEventsRun say m (outcome_of_events m (events_chosen count m)) n a b r
 unfolding events_due
-chosen_ran quiet s m n count a b r same g = subst (λ (x : Moment). IsEventsRun quiet x (outcome_of_events x (events_chosen count x)) n a b r) same g
+chosen_ran say s m n count a b r same g = subst (λ (x : Moment). IsEventsRun say x (outcome_of_events x (events_chosen count x)) n a b r) same g
 
 pub chosen_many : (s m : Moment) (count did : ℕ) → s ≡ m → did ≡ length (events_due None count s) → did ≡ length (events_chosen count m)
 unfolding events_due

@@ -52,36 +52,36 @@ pub answer_text : (m n : Moment) (e : Event) (d : Done) (packet : List ℕ) → 
     → outcome_lines m.mesh e (outcome_in m.mesh (node_of e) (world_of n) d packet) ≡ outcome_lines m.mesh e (outcome_at m e)
 answer_text m n e d packet a = ap (outcome_lines m.mesh e) (sym a.outcome)
 
-pub answer_goes : (quiet : Bool) (m n : Moment) (e : Event) (d : Done) (packet : List ℕ) (a b : Option (List ℕ)) → IsAnswer m e d n packet
-    → Appends a b (output_if quiet (outcome_lines m.mesh e (outcome_in m.mesh (node_of e) (world_of n) d packet))) → IsLineDone quiet (outcome_by m e (outcome_at m e)) n a b
-answer_goes quiet m n e d packet a b is p =
-    let P : List ℕ → Type 0 = λ l. Appends a b (output_if quiet l) in
+pub answer_goes : (say : Bool) (m n : Moment) (e : Event) (d : Done) (packet : List ℕ) (a b : Option (List ℕ)) → IsAnswer m e d n packet
+    → Appends a b (output_if say (outcome_lines m.mesh e (outcome_in m.mesh (node_of e) (world_of n) d packet))) → IsLineDone say (outcome_by m e (outcome_at m e)) n a b
+answer_goes say m n e d packet a b is p =
+    let P : List ℕ → Type 0 = λ l. Appends a b (output_if say l) in
     record { text = outcome_lines m.mesh e (outcome_at m e); is = answer_came m n e d packet is; grown = subst P (answer_text m n e d packet is) p }
 
-pub answer_front : (quiet : Bool) (m n : Moment) (e : Event) (d : Done) (packet : List ℕ) (a b : Option (List ℕ)) → IsAnswer m e d n packet
-    → AppendsPrefix a b (output_if quiet (outcome_lines m.mesh e (outcome_in m.mesh (node_of e) (world_of n) d packet)))
-    → AppendsPrefix a b (output_if quiet (text_in (outcome_by m e (outcome_at m e))))
-answer_front quiet m n e d packet a b is p =
-    let P : List ℕ → Type 0 = λ l. AppendsPrefix a b (output_if quiet l) in
+pub answer_front : (say : Bool) (m n : Moment) (e : Event) (d : Done) (packet : List ℕ) (a b : Option (List ℕ)) → IsAnswer m e d n packet
+    → AppendsPrefix a b (output_if say (outcome_lines m.mesh e (outcome_in m.mesh (node_of e) (world_of n) d packet)))
+    → AppendsPrefix a b (output_if say (text_in (outcome_by m e (outcome_at m e))))
+answer_front say m n e d packet a b is p =
+    let P : List ℕ → Type 0 = λ l. AppendsPrefix a b (output_if say l) in
     subst P (answer_text m n e d packet is ∙ sym (ap text_in (answer_came m n e d packet is))) p
 
-pub refusal_fills : (quiet : Bool) (m n : Moment) (e : Event) (x : ℕ) (field : Field) (a : Option (List ℕ)) → IsEvent (length m.mesh) e → outcome_at m e ≡ worlds.Full x field
-    → n ≡ m → IsLineFull quiet m (outcome_by m e (outcome_at m e)) n a a e x field
-refusal_fills quiet m n e x field a ev is same = record {
+pub refusal_fills : (say : Bool) (m n : Moment) (e : Event) (x : ℕ) (field : Field) (a : Option (List ℕ)) → IsEvent (length m.mesh) e → outcome_at m e ≡ worlds.Full x field
+    → n ≡ m → IsLineFull say m (outcome_by m e (outcome_at m e)) n a a e x field
+refusal_fills say m n e x field a ev is same = record {
   text = [];
   is = ap (outcome_by m e) is ∙ ap (λ k. Full [] k e field) (sym same);
   refused = ap (λ k. outcome_at k e) same ∙ is;
-  grown = shown_none quiet a;
+  grown = shown_none say a;
   still = record { event = ev; mesh = ap (λ k. k.mesh) same; lines = ap (λ k. k.lines) same };
 }
 
 -- an event that isn't done stops the run
-pub refusal_stops : (quiet : Bool) (m n : Moment) (e : EventGiven) (error : StepError) (a : Option (List ℕ)) → IsEvent (length m.mesh) (event_of e) → IsRefusal m (event_of e) error
-    → n ≡ m → IsLineStopped quiet m (outcome_by m (event_of e) (outcome_at m (event_of e))) n a a (stop_of e (event_stop_of error))
-refusal_stops quiet m n e (errors.Full node field) a ev is same =
+pub refusal_stops : (say : Bool) (m n : Moment) (e : EventGiven) (error : StepError) (a : Option (List ℕ)) → IsEvent (length m.mesh) (event_of e) → IsRefusal m (event_of e) error
+    → n ≡ m → IsLineStopped say m (outcome_by m (event_of e) (outcome_at m (event_of e))) n a a (stop_of e (event_stop_of error))
+refusal_stops say m n e (errors.Full node field) a ev is same =
     let own : node ≡ node_of (event_of e) = step_own (world_of m) (event_of e) node field is in
-    refusal_fills quiet m n (event_of e) (node_of (event_of e)) field a ev (is ∙ ap (λ x. worlds.Full x field) own) same
-refusal_stops quiet m n e errors.NoMemory a ev is same = AppendsPrefix-none a _
+    refusal_fills say m n (event_of e) (node_of (event_of e)) field a ev (is ∙ ap (λ x. worlds.Full x field) own) same
+refusal_stops say m n e errors.NoMemory a ev is same = AppendsPrefix-none a _
 
 -- ---- what an event leaves as it was
 
@@ -98,19 +98,19 @@ step_lines m s n e same next = ap (λ k. k.lines) next ∙ ap (λ k. k.lines) sa
 -- ---- what an event and other lines are written as
 
 -- one more node
-pub node_goes : (quiet : Bool) (m n k : Moment) (mesh : Nodes) (address first : ℕ) (a b : Option (List ℕ)) → mesh ≡ m.mesh
-    → Appends a b (output_if quiet (line (words_of mesh (NewNode address first)))) → n ≡ record m { mesh = with_node m.mesh address first } → k ≡ with_line_read n
-    → IsLineDone quiet (outcome_of_line m (NewNode address first)) k a b
+pub node_goes : (say : Bool) (m n k : Moment) (mesh : Nodes) (address first : ℕ) (a b : Option (List ℕ)) → mesh ≡ m.mesh
+    → Appends a b (output_if say (line (words_of mesh (NewNode address first)))) → n ≡ record m { mesh = with_node m.mesh address first } → k ≡ with_line_read n
+    → IsLineDone say (outcome_of_line m (NewNode address first)) k a b
 unfolding outcome_of_line
-node_goes quiet m n k mesh address first a b same p next last =
-    let P : Nodes → Type 0 = λ l. Appends a b (output_if quiet (line (words_of l (NewNode address first)))) in
+node_goes say m n k mesh address first a b same p next last =
+    let P : Nodes → Type 0 = λ l. Appends a b (output_if say (line (words_of l (NewNode address first)))) in
     record { text = line (words_of m.mesh (NewNode address first)); is = ap (λ x. On (line (words_of m.mesh (NewNode address first))) x) (sym (last ∙ ap with_line_read next)); grown = subst P same p }
 
-pub node_front : (quiet : Bool) (m : Moment) (mesh : Nodes) (address first : ℕ) (a b : Option (List ℕ)) → mesh ≡ m.mesh
-    → AppendsPrefix a b (output_if quiet (line (words_of mesh (NewNode address first)))) → AppendsPrefix a b (output_if quiet (text_in (outcome_of_line m (NewNode address first))))
+pub node_front : (say : Bool) (m : Moment) (mesh : Nodes) (address first : ℕ) (a b : Option (List ℕ)) → mesh ≡ m.mesh
+    → AppendsPrefix a b (output_if say (line (words_of mesh (NewNode address first)))) → AppendsPrefix a b (output_if say (text_in (outcome_of_line m (NewNode address first))))
 unfolding outcome_of_line
-node_front quiet m mesh address first a b same p =
-    let P : Nodes → Type 0 = λ l. AppendsPrefix a b (output_if quiet (line (words_of l (NewNode address first)))) in
+node_front say m mesh address first a b same p =
+    let P : Nodes → Type 0 = λ l. AppendsPrefix a b (output_if say (line (words_of l (NewNode address first)))) in
     subst P same p
 
 -- ---- the moment after an event
@@ -133,17 +133,17 @@ stepped_steps m n e next = ap (λ k. k.steps) next
 
 -- ---- lines that show something
 
-pub shows_goes : (quiet : Bool) (m s k : Moment) (l : AcceptedLine) (text : Moment → List ℕ) (a b : Option (List ℕ)) → outcome_of_line m l ≡ On (text (with_world m)) (with_line_read (with_world m)) → s ≡ with_world m
-    → Appends a b (output_if quiet (text s)) → k ≡ with_line_read s → IsLineDone quiet (outcome_of_line m l) k a b
-shows_goes quiet m s k l text a b outcome_of_piece same p next =
-    let P : Moment → Type 0 = λ x. Appends a b (output_if quiet (text x)) in
+pub shows_goes : (say : Bool) (m s k : Moment) (l : AcceptedLine) (text : Moment → List ℕ) (a b : Option (List ℕ)) → outcome_of_line m l ≡ On (text (with_world m)) (with_line_read (with_world m)) → s ≡ with_world m
+    → Appends a b (output_if say (text s)) → k ≡ with_line_read s → IsLineDone say (outcome_of_line m l) k a b
+shows_goes say m s k l text a b outcome_of_piece same p next =
+    let P : Moment → Type 0 = λ x. Appends a b (output_if say (text x)) in
     record { text = text (with_world m); is = outcome_of_piece ∙ ap (λ x. On (text (with_world m)) x) (sym (next ∙ ap with_line_read same)); grown = subst P same p }
 
-pub shows_stops : (quiet : Bool) (m s : Moment) (l : AcceptedLine) (text : Moment → List ℕ) (a b : Option (List ℕ)) → outcome_of_line m l ≡ On (text (with_world m)) (with_line_read (with_world m)) → s ≡ with_world m
-    → AppendsPrefix a b (output_if quiet (text s)) → AppendsPrefix a b (output_if quiet (text_in (outcome_of_line m l)))
-shows_stops quiet m s l text a b outcome_of_piece same p =
-    let P : Moment → Type 0 = λ x. AppendsPrefix a b (output_if quiet (text x)) in
-    let Q : List ℕ → Type 0 = λ x. AppendsPrefix a b (output_if quiet x) in
+pub shows_stops : (say : Bool) (m s : Moment) (l : AcceptedLine) (text : Moment → List ℕ) (a b : Option (List ℕ)) → outcome_of_line m l ≡ On (text (with_world m)) (with_line_read (with_world m)) → s ≡ with_world m
+    → AppendsPrefix a b (output_if say (text s)) → AppendsPrefix a b (output_if say (text_in (outcome_of_line m l)))
+shows_stops say m s l text a b outcome_of_piece same p =
+    let P : Moment → Type 0 = λ x. AppendsPrefix a b (output_if say (text x)) in
+    let Q : List ℕ → Type 0 = λ x. AppendsPrefix a b (output_if say x) in
     subst Q (sym (ap text_in outcome_of_piece)) (subst P same p)
 
 pub node_came : (m : Moment) (x : ℕ) → outcome_of_line m (ShowsNode x) ≡ On (line (words_of m.mesh (ShowsNode x)) ++ node_text_in m.mesh (slice_get (world_of m).nodes x)) (with_line_read (with_world m))

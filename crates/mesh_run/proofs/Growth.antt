@@ -217,10 +217,10 @@ line_grows m n bytes text a few is on =
     subst (λ k. GrowsOn m k (length bytes)) on (line_by m bytes a range.0 is (line_has_few_events m bytes few))
 
 -- where it was done
-pub done_grows : {P : Type 0} (quiet : Bool) (m n : Moment) (bytes : List ℕ) (a : AcceptedLine) (before now : Option (List ℕ)) (r : Result (Unit {0}) Stop) → (LineGrows m n (length bytes) → P) → length m.mesh ≤ MOST_NODES
-    → line_of m.mesh (is_some m.world) bytes ≡ Ok a → IsLineRun quiet m (outcome_of_line m a) n before now r → OnOk r P
-done_grows quiet m n bytes a before now (Ok done) of few is run = of (line_grows m n bytes run.text a few is run.is)
-done_grows quiet m n bytes a before now (Err stop) of few is run = tt
+pub done_grows : {P : Type 0} (say : Bool) (m n : Moment) (bytes : List ℕ) (a : AcceptedLine) (before now : Option (List ℕ)) (r : Result (Unit {0}) Stop) → (LineGrows m n (length bytes) → P) → length m.mesh ≤ MOST_NODES
+    → line_of m.mesh (is_some m.world) bytes ≡ Ok a → IsLineRun say m (outcome_of_line m a) n before now r → OnOk r P
+done_grows say m n bytes a before now (Ok done) of few is run = of (line_grows m n bytes run.text a few is run.is)
+done_grows say m n bytes a before now (Err stop) of few is run = tt
 
 -- the same by what a line is: it grows no more than one of four bytes
 value_by : (m : Moment) (a : AcceptedLine) → IsInRange m.mesh a → GrowsOn m (outcome_of_line m a) 4
@@ -237,9 +237,9 @@ value_by m (ShowsNode x) range = line_shown m 4
 value_by m (ShowsRoute x d) range = line_shown m 4
 value_by m ShowsFlight range = line_shown m 4
 
-pub value_grows : (quiet : Bool) (m n : Moment) (a : AcceptedLine) (before now : Option (List ℕ)) → IsInRange m.mesh a → IsLineDone quiet (outcome_of_line m a) n before now → LineGrows m n 4
+pub value_grows : (say : Bool) (m n : Moment) (a : AcceptedLine) (before now : Option (List ℕ)) → IsInRange m.mesh a → IsLineDone say (outcome_of_line m a) n before now → LineGrows m n 4
 unfolding GrowsOn
-value_grows quiet m n a before now range done = subst (λ k. GrowsOn m k 4) done.is (value_by m a range)
+value_grows say m n a before now range done = subst (λ k. GrowsOn m k 4) done.is (value_by m a range)
 
 -- lines that were done, and one more, by the bytes that were given
 pub steps_more : (len given_data after : ℕ) (ended : Bool) (n m s bytes : ℕ) → IsCounted len given_data after ended → bytes ≡ len → 4 * n ≤ 4 * m + MOST_EVENTS * bytes → 4 * m ≤ 4 * s + MOST_EVENTS * given_data

@@ -29,7 +29,7 @@ use Rattle.mesh_run.proofs.Settled.{line_told, past_written, past_failed}
 
 -- ---- a line
 
-all_said : {M N V : Type 0} (to : M → N) (k : shell.Outcome M V) → outcome_as to (said false k) ≡ outcome_as to k
+all_said : {M N V : Type 0} (to : M → N) (k : shell.Outcome M V) → outcome_as to (said true k) ≡ outcome_as to k
 all_said to (shell.On text n) = refl
 all_said to (shell.Ended text last v) = refl
 
@@ -39,12 +39,12 @@ same_as (shell.Ended text last v) = refl
 
 -- what a line came to, and what was settled then
 pub loud_line_as : {N : Type 0} (to : Moment → N) (m n : Moment) (k : LineOutcome) (a b d : Option (List ℕ)) (did : Result (Unit {0}) Stop) (result : Result (Option Verdict) Fault)
-    → IsLineRun false m k n a b did → IsSettled n b d did result → outputs.IsLineRun (outcome_as to (outcome_in_run m k)) (to n) a d result
+    → IsLineRun true m k n a b did → IsSettled n b d did result → outputs.IsLineRun (outcome_as to (outcome_in_run m k)) (to n) a d result
 loud_line_as {N} to m n k a b d did result ran told =
-    subst (λ (c : shell.Outcome N Verdict). outputs.IsLineRun c (to n) a d result) (all_said to (outcome_in_run m k)) (line_told false to m n k a b d did result ran told)
+    subst (λ (c : shell.Outcome N Verdict). outputs.IsLineRun c (to n) a d result) (all_said to (outcome_in_run m k)) (line_told true to m n k a b d did result ran told)
 
 pub loud_line : (m n : Moment) (k : LineOutcome) (a b d : Option (List ℕ)) (did : Result (Unit {0}) Stop) (result : Result (Option Verdict) Fault)
-    → IsLineRun false m k n a b did → IsSettled n b d did result → outputs.IsLineRun (outcome_in_run m k) n a d result
+    → IsLineRun true m k n a b did → IsSettled n b d did result → outputs.IsLineRun (outcome_in_run m k) n a d result
 loud_line m n k a b d did result ran told =
     subst (λ (c : shell.Outcome Moment Verdict). outputs.IsLineRun c n a d result) (same_as (outcome_in_run m k)) (loud_line_as (λ (x : Moment). x) m n k a b d did result ran told)
 
@@ -52,12 +52,12 @@ loud_line m n k a b d did result ran told =
 pub loud_past_as : {N : Type 0} (to : Moment → N) (m : Moment) (k : LineOutcome) (v : Verdict) (why : BadWhy) (a b : Option (List ℕ)) → k ≡ Refused why → v ≡ RefusedAt (m.lines + 1) → Appends a b (bad_line (m.lines + 1) why)
     → outputs.IsLineLast (outcome_as to (outcome_in_run m k)) v a b
 loud_past_as {N} to m k v why a b is verdict put =
-    subst (λ (c : shell.Outcome N Verdict). outputs.IsLineLast c v a b) (all_said to (outcome_in_run m k)) (past_written false to m k v why a b is verdict put)
+    subst (λ (c : shell.Outcome N Verdict). outputs.IsLineLast c v a b) (all_said to (outcome_in_run m k)) (past_written true to m k v why a b is verdict put)
 
 pub loud_past_failed_as : {N : Type 0} (to : Moment → N) (m : Moment) (k : LineOutcome) (why : BadWhy) (a b : Option (List ℕ)) (answer : Result Verdict Fault) → IsErr answer → k ≡ Refused why → AppendsPrefix a b (bad_line (m.lines + 1) why)
     → outputs.IsLastRun (outcome_as to (outcome_in_run m k)) a b answer
 loud_past_failed_as {N} to m k why a b answer failed is put =
-    subst (λ (c : shell.Outcome N Verdict). outputs.IsLastRun c a b answer) (all_said to (outcome_in_run m k)) (past_failed false to m k why a b answer failed is put)
+    subst (λ (c : shell.Outcome N Verdict). outputs.IsLastRun c a b answer) (all_said to (outcome_in_run m k)) (past_failed true to m k why a b answer failed is put)
 
 -- ---- a story whose moments have more than those of another
 

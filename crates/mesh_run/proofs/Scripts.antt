@@ -23,7 +23,7 @@ use Rattle.mesh_run.specs.declared.status.Status.TheVariants as status
 use Rattle.mesh_run.specs.declared.status.Status.TheVariants.{Done, BadLine, Full as Overfull}
 use Rattle.mesh_run.specs.Codes.{status_of}
 use Rattle.mesh_run.specs.Ends.{why_past}
-use Rattle.mesh_run.specs.Outputs.{is_quiet, part, IsOutputOf}
+use Rattle.mesh_run.specs.Outputs.{says_lines, part, IsOutputOf}
 use Rattle.mesh_run.specs.Running.{said, outcome_as, moved, running}
 use Rattle.mesh_run.specs.Runs.{output_if}
 
@@ -50,11 +50,11 @@ finished_as r say is = by_say r.say
 -- one line, and then others from the next moment on
 line_as : {S : Type 0} (r : Running S) (k : LineOutcome) (others : Moment → RunText) (script : Running S → shell.RunText (Running S) Verdict)
     → ((n : Moment) → script (moved r n) ≡ text_as (moved r n) (others n))
-    → shell.goes_on r (outcome_as (moved r) (said (is_quiet r.say) (outcome_in_run r.at k))) script ≡ text_as r (goes_on r.at k others)
+    → shell.goes_on r (outcome_as (moved r) (said (says_lines r.say) (outcome_in_run r.at k))) script ≡ text_as r (goes_on r.at k others)
 line_as {S} r k others script rest = by_say r.say k rest
   where
     by_say : (say : Say) (k : LineOutcome) → let q : Running S = record r { say = say } in ((n : Moment) → script (moved q n) ≡ text_as (moved q n) (others n))
-        → shell.goes_on q (outcome_as (moved q) (said (is_quiet say) (outcome_in_run r.at k))) script ≡ text_as q (goes_on r.at k others)
+        → shell.goes_on q (outcome_as (moved q) (said (says_lines say) (outcome_in_run r.at k))) script ≡ text_as q (goes_on r.at k others)
     by_say All (On text n) rest = ap (lines_before text) (rest n)
     by_say Last (On text n) rest = ap (lines_before []) (rest n)
     by_say Faults (On text n) rest = ap (lines_before []) (rest n)

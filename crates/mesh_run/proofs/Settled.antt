@@ -31,67 +31,67 @@ use Rattle.mesh_run.proofs.Faults.{rose_later}
 use Rattle.mesh_run.proofs.Shown.{shown_kept}
 
 -- what stopped a line that was in its range can be told
-pub can_be_told : (quiet : Bool) (m n : Moment) (k : LineOutcome) (before now : Option (List ℕ)) (did : Result (Unit {0}) Stop) → m.lines < 2 ^ 62 → IsLineRun quiet m k n before now did → CanBeTold n did
-can_be_told quiet m n k before now (Ok done) few ran = tt
-can_be_told quiet m n k before now (Err (stop.BadLine f)) few ran = subst (λ (x : Moment). x.lines < 2 ^ 62) (sym ran.1) few
-can_be_told quiet m n k before now (Err (stop.Full e node field)) few ran = (omega (arith, ran.still.lines), subst (λ (mesh : Nodes). IsEvent (length mesh) (event_of e)) (sym ran.still.mesh) ran.still.event)
-can_be_told quiet m n k before now (Err stop.WriteFault) few ran = tt
-can_be_told quiet m n k before now (Err stop.NoMemory) few ran = tt
+pub can_be_told : (say : Bool) (m n : Moment) (k : LineOutcome) (before now : Option (List ℕ)) (did : Result (Unit {0}) Stop) → m.lines < 2 ^ 62 → IsLineRun say m k n before now did → CanBeTold n did
+can_be_told say m n k before now (Ok done) few ran = tt
+can_be_told say m n k before now (Err (stop.BadLine f)) few ran = subst (λ (x : Moment). x.lines < 2 ^ 62) (sym ran.1) few
+can_be_told say m n k before now (Err (stop.Full e node field)) few ran = (omega (arith, ran.still.lines), subst (λ (mesh : Nodes). IsEvent (length mesh) (event_of e)) (sym ran.still.mesh) ran.still.event)
+can_be_told say m n k before now (Err stop.WriteFault) few ran = tt
+can_be_told say m n k before now (Err stop.NoMemory) few ran = tt
 
 -- ---- what is told
 
 -- a line that has ended the run, and its last line
-last_told : {N : Type 0} (quiet : Bool) (c : shell.Outcome N Verdict) (n : N) (text last here : List ℕ) (v w : Verdict) (a b d : Option (List ℕ)) (result : Result (Option Verdict) Fault)
-    → c ≡ shell.Ended (output_if quiet text) last v → last ≡ here → v ≡ w → Appends a b (output_if quiet text) → IsLastWritten here w b d result → outputs.IsLineRun c n a d result
-last_told quiet c n text last here v w a b d (Ok None) is same also grown told = absurd told
-last_told quiet c n text last here v w a b d (Ok (Some x)) is same also grown told =
+last_told : {N : Type 0} (say : Bool) (c : shell.Outcome N Verdict) (n : N) (text last here : List ℕ) (v w : Verdict) (a b d : Option (List ℕ)) (result : Result (Option Verdict) Fault)
+    → c ≡ shell.Ended (output_if say text) last v → last ≡ here → v ≡ w → Appends a b (output_if say text) → IsLastWritten here w b d result → outputs.IsLineRun c n a d result
+last_told say c n text last here v w a b d (Ok None) is same also grown told = absurd told
+last_told say c n text last here v w a b d (Ok (Some x)) is same also grown told =
     let it : v ≡ x = also ∙ sym told.0 in
     record {
-      text = output_if quiet text;
+      text = output_if say text;
       last = last;
-      is = is ∙ ap (shell.Ended (output_if quiet text) last) it;
-      grown = Appends-join a b d (output_if quiet text) here (output_if quiet text ++ last) (ap (λ l. output_if quiet text ++ l) same) grown told.1;
+      is = is ∙ ap (shell.Ended (output_if say text) last) it;
+      grown = Appends-join a b d (output_if say text) here (output_if say text ++ last) (ap (λ l. output_if say text ++ l) same) grown told.1;
     }
-last_told quiet c n text last here v w a b d (Err ReadFault) is same also grown told = absurd told
-last_told {N} quiet c n text last here v w a b d (Err WriteFault) is same also grown told =
+last_told say c n text last here v w a b d (Err ReadFault) is same also grown told = absurd told
+last_told {N} say c n text last here v w a b d (Err WriteFault) is same also grown told =
     subst (λ (x : shell.Outcome N Verdict). AppendsPrefix a d (outputs.text_in x)) (sym is)
-    (AppendsPrefix-join a b d (output_if quiet text) here (output_if quiet text ++ last) (ap (λ l. output_if quiet text ++ l) same) grown told)
-last_told quiet c n text last here v w a b d (Err NoMemory) is same also grown told = absurd told
+    (AppendsPrefix-join a b d (output_if say text) here (output_if say text ++ last) (ap (λ l. output_if say text ++ l) same) grown told)
+last_told say c n text last here v w a b d (Err NoMemory) is same also grown told = absurd told
 
 -- a prefix of a line's text is a prefix of all that it writes
-front_told : {N : Type 0} (quiet : Bool) (to : Moment → N) (m : Moment) (k : LineOutcome) (a b : Option (List ℕ)) → AppendsPrefix a b (output_if quiet (text_in k))
-    → AppendsPrefix a b (outputs.text_in (outcome_as to (said quiet (outcome_in_run m k))))
-front_told quiet to m (On text n) a b front = front
-front_told quiet to m (Refused why) a b front = AppendsPrefix-more a b (output_if quiet []) _ _ refl front
-front_told quiet to m (Full text n e field) a b front = AppendsPrefix-more a b (output_if quiet text) _ _ refl front
+front_told : {N : Type 0} (say : Bool) (to : Moment → N) (m : Moment) (k : LineOutcome) (a b : Option (List ℕ)) → AppendsPrefix a b (output_if say (text_in k))
+    → AppendsPrefix a b (outputs.text_in (outcome_as to (said say (outcome_in_run m k))))
+front_told say to m (On text n) a b front = front
+front_told say to m (Refused why) a b front = AppendsPrefix-more a b (output_if say []) _ _ refl front
+front_told say to m (Full text n e field) a b front = AppendsPrefix-more a b (output_if say text) _ _ refl front
 
 -- what a line came to, and what was settled then
-pub line_told : {N : Type 0} (quiet : Bool) (to : Moment → N) (m n : Moment) (k : LineOutcome) (a b d : Option (List ℕ)) (did : Result (Unit {0}) Stop) (result : Result (Option Verdict) Fault)
-    → IsLineRun quiet m k n a b did → IsSettled n b d did result → outputs.IsLineRun (outcome_as to (said quiet (outcome_in_run m k))) (to n) a d result
-line_told {N} quiet to m n k a b d (Ok done) result ran told =
-    let C : shell.Outcome N Verdict = outcome_as to (said quiet (outcome_in_run m k)) in
+pub line_told : {N : Type 0} (say : Bool) (to : Moment → N) (m n : Moment) (k : LineOutcome) (a b d : Option (List ℕ)) (did : Result (Unit {0}) Stop) (result : Result (Option Verdict) Fault)
+    → IsLineRun say m k n a b did → IsSettled n b d did result → outputs.IsLineRun (outcome_as to (said say (outcome_in_run m k))) (to n) a d result
+line_told {N} say to m n k a b d (Ok done) result ran told =
+    let C : shell.Outcome N Verdict = outcome_as to (said say (outcome_in_run m k)) in
     subst (λ (r : Result (Option Verdict) Fault). outputs.IsLineRun C (to n) a d r) (sym told.0) (record {
-      text = output_if quiet ran.text;
-      is = ap (λ (x : LineOutcome). outcome_as to (said quiet (outcome_in_run m x))) ran.is;
-      grown = subst (λ (x : Option (List ℕ)). Appends a x (output_if quiet ran.text)) (sym told.1) ran.grown;
+      text = output_if say ran.text;
+      is = ap (λ (x : LineOutcome). outcome_as to (said say (outcome_in_run m x))) ran.is;
+      grown = subst (λ (x : Option (List ℕ)). Appends a x (output_if say ran.text)) (sym told.1) ran.grown;
     })
-line_told quiet to m n k a b d (Err (stop.BadLine f)) result ran told =
+line_told say to m n k a b d (Err (stop.BadLine f)) result ran told =
     let same : m.lines + 1 ≡ n.lines + 1 = ap (λ (x : Moment). x.lines + 1) (sym ran.1) in
-    last_told quiet _ (to n) [] (bad_line (m.lines + 1) (LineFault f)) (bad_line (n.lines + 1) (LineFault f)) (RefusedAt (m.lines + 1)) (RefusedAt (n.lines + 1)) a b d result
-    (ap (λ (x : LineOutcome). outcome_as to (said quiet (outcome_in_run m x))) ran.0) (ap (λ l. bad_line l (LineFault f)) same) (ap RefusedAt same) (shown_kept quiet a b ran.2) told
-line_told quiet to m n k a b d (Err (stop.Full e node field)) result ran told =
+    last_told say _ (to n) [] (bad_line (m.lines + 1) (LineFault f)) (bad_line (n.lines + 1) (LineFault f)) (RefusedAt (m.lines + 1)) (RefusedAt (n.lines + 1)) a b d result
+    (ap (λ (x : LineOutcome). outcome_as to (said say (outcome_in_run m x))) ran.0) (ap (λ l. bad_line l (LineFault f)) same) (ap RefusedAt same) (shown_kept say a b ran.2) told
+line_told say to m n k a b d (Err (stop.Full e node field)) result ran told =
     let same : m.lines + 1 ≡ n.lines + 1 = ap (λ l. l + 1) (sym ran.still.lines) in
-    last_told quiet _ (to n) ran.text (full_line m.mesh (m.lines + 1) (event_of e) field) (full_line n.mesh (n.lines + 1) (event_of e) field) (FullAt (m.lines + 1)) (FullAt (n.lines + 1)) a b d result
-    (ap (λ (x : LineOutcome). outcome_as to (said quiet (outcome_in_run m x))) ran.is)
+    last_told say _ (to n) ran.text (full_line m.mesh (m.lines + 1) (event_of e) field) (full_line n.mesh (n.lines + 1) (event_of e) field) (FullAt (m.lines + 1)) (FullAt (n.lines + 1)) a b d result
+    (ap (λ (x : LineOutcome). outcome_as to (said say (outcome_in_run m x))) ran.is)
     (ap (λ x. full_line x (m.lines + 1) (event_of e) field) (sym ran.still.mesh) ∙ ap (λ l. full_line n.mesh l (event_of e) field) same) (ap FullAt same) ran.grown told
-line_told {N} quiet to m n k a b d (Err stop.WriteFault) result ran told =
-    let C : shell.Outcome N Verdict = outcome_as to (said quiet (outcome_in_run m k)) in
+line_told {N} say to m n k a b d (Err stop.WriteFault) result ran told =
+    let C : shell.Outcome N Verdict = outcome_as to (said say (outcome_in_run m k)) in
     subst (λ (r : Result (Option Verdict) Fault). outputs.IsLineRun C (to n) a d r) (sym told.0)
-    (front_told quiet to m k a d (subst (λ (x : Option (List ℕ)). AppendsPrefix a x (output_if quiet (text_in k))) (sym told.1) ran))
-line_told {N} quiet to m n k a b d (Err stop.NoMemory) result ran told =
-    let C : shell.Outcome N Verdict = outcome_as to (said quiet (outcome_in_run m k)) in
+    (front_told say to m k a d (subst (λ (x : Option (List ℕ)). AppendsPrefix a x (output_if say (text_in k))) (sym told.1) ran))
+line_told {N} say to m n k a b d (Err stop.NoMemory) result ran told =
+    let C : shell.Outcome N Verdict = outcome_as to (said say (outcome_in_run m k)) in
     subst (λ (r : Result (Option Verdict) Fault). outputs.IsLineRun C (to n) a d r) (sym told.0)
-    (front_told quiet to m k a d (subst (λ (x : Option (List ℕ)). AppendsPrefix a x (output_if quiet (text_in k))) (sym told.1) ran))
+    (front_told say to m k a d (subst (λ (x : Option (List ℕ)). AppendsPrefix a x (output_if say (text_in k))) (sym told.1) ran))
 
 -- ---- why a fault is told
 
@@ -120,9 +120,9 @@ line_cause a b d did result line last = by_did (sink_failed did)
 
 -- ---- where a run goes on
 
-pub on_done : {P : Type 0} (quiet : Bool) (m n : Moment) (k : LineOutcome) (a b : Option (List ℕ)) (did : Result (Unit {0}) Stop) → IsLineRun quiet m k n a b did → (IsLineDone quiet k n a b → P) → OnOk did P
-on_done quiet m n k a b (Ok done) ran to = to ran
-on_done quiet m n k a b (Err e) ran to = tt
+pub on_done : {P : Type 0} (say : Bool) (m n : Moment) (k : LineOutcome) (a b : Option (List ℕ)) (did : Result (Unit {0}) Stop) → IsLineRun say m k n a b did → (IsLineDone say k n a b → P) → OnOk did P
+on_done say m n k a b (Ok done) ran to = to ran
+on_done say m n k a b (Err e) ran to = tt
 
 -- its line was done
 pub goes_on_where_done : (P : Type 0) (n : Moment) (b d : Option (List ℕ)) (did : Result (Unit {0}) Stop) (result : Result (Option Verdict) Fault) → IsSettled n b d did result → OnOk did P → GoesOn result P
@@ -153,24 +153,24 @@ line_at c m n a b (Err e) same told = told
 -- ---- a line that goes past a limit
 
 -- its last line is written
-pub past_written : {N : Type 0} (quiet : Bool) (to : Moment → N) (m : Moment) (k : LineOutcome) (v : Verdict) (why : BadWhy) (a b : Option (List ℕ)) → k ≡ Refused why → v ≡ RefusedAt (m.lines + 1) → Appends a b (bad_line (m.lines + 1) why)
-    → outputs.IsLineLast (outcome_as to (said quiet (outcome_in_run m k))) v a b
-past_written quiet to m k v why a b is verdict put = by_quiet quiet
+pub past_written : {N : Type 0} (say : Bool) (to : Moment → N) (m : Moment) (k : LineOutcome) (v : Verdict) (why : BadWhy) (a b : Option (List ℕ)) → k ≡ Refused why → v ≡ RefusedAt (m.lines + 1) → Appends a b (bad_line (m.lines + 1) why)
+    → outputs.IsLineLast (outcome_as to (said say (outcome_in_run m k))) v a b
+past_written say to m k v why a b is verdict put = by_say say
   where
-    by_quiet : (q : Bool) → outputs.IsLineLast (outcome_as to (said q (outcome_in_run m k))) v a b
-    by_quiet true = record { text = []; last = bad_line (m.lines + 1) why; is = ap (λ (x : LineOutcome). outcome_as to (said true (outcome_in_run m x))) is ∙ ap (shell.Ended [] (bad_line (m.lines + 1) why)) (sym verdict); grown = put }
-    by_quiet false = record { text = []; last = bad_line (m.lines + 1) why; is = ap (λ (x : LineOutcome). outcome_as to (said false (outcome_in_run m x))) is ∙ ap (shell.Ended [] (bad_line (m.lines + 1) why)) (sym verdict); grown = put }
+    by_say : (q : Bool) → outputs.IsLineLast (outcome_as to (said q (outcome_in_run m k))) v a b
+    by_say true = record { text = []; last = bad_line (m.lines + 1) why; is = ap (λ (x : LineOutcome). outcome_as to (said true (outcome_in_run m x))) is ∙ ap (shell.Ended [] (bad_line (m.lines + 1) why)) (sym verdict); grown = put }
+    by_say false = record { text = []; last = bad_line (m.lines + 1) why; is = ap (λ (x : LineOutcome). outcome_as to (said false (outcome_in_run m x))) is ∙ ap (shell.Ended [] (bad_line (m.lines + 1) why)) (sym verdict); grown = put }
 
 -- or a prefix of it is
-past_broken : {N : Type 0} (quiet : Bool) (to : Moment → N) (m : Moment) (k : LineOutcome) (why : BadWhy) (a b : Option (List ℕ)) → k ≡ Refused why → AppendsPrefix a b (bad_line (m.lines + 1) why)
-    → AppendsPrefix a b (outputs.text_in (outcome_as to (said quiet (outcome_in_run m k))))
-past_broken quiet to m k why a b is put = by_quiet quiet
+past_broken : {N : Type 0} (say : Bool) (to : Moment → N) (m : Moment) (k : LineOutcome) (why : BadWhy) (a b : Option (List ℕ)) → k ≡ Refused why → AppendsPrefix a b (bad_line (m.lines + 1) why)
+    → AppendsPrefix a b (outputs.text_in (outcome_as to (said say (outcome_in_run m k))))
+past_broken say to m k why a b is put = by_say say
   where
-    by_quiet : (q : Bool) → AppendsPrefix a b (outputs.text_in (outcome_as to (said q (outcome_in_run m k))))
-    by_quiet true = subst (λ (x : LineOutcome). AppendsPrefix a b (outputs.text_in (outcome_as to (said true (outcome_in_run m x))))) (sym is) put
-    by_quiet false = subst (λ (x : LineOutcome). AppendsPrefix a b (outputs.text_in (outcome_as to (said false (outcome_in_run m x))))) (sym is) put
+    by_say : (q : Bool) → AppendsPrefix a b (outputs.text_in (outcome_as to (said q (outcome_in_run m k))))
+    by_say true = subst (λ (x : LineOutcome). AppendsPrefix a b (outputs.text_in (outcome_as to (said true (outcome_in_run m x))))) (sym is) put
+    by_say false = subst (λ (x : LineOutcome). AppendsPrefix a b (outputs.text_in (outcome_as to (said false (outcome_in_run m x))))) (sym is) put
 
-pub past_failed : {N : Type 0} (quiet : Bool) (to : Moment → N) (m : Moment) (k : LineOutcome) (why : BadWhy) (a b : Option (List ℕ)) (answer : Result Verdict Fault) → IsErr answer → k ≡ Refused why → AppendsPrefix a b (bad_line (m.lines + 1) why)
-    → outputs.IsLastRun (outcome_as to (said quiet (outcome_in_run m k))) a b answer
-past_failed quiet to m k why a b (Ok v) failed is put = absurd (let P : ⊥ = cc in P)
-past_failed quiet to m k why a b (Err e) failed is put = past_broken quiet to m k why a b is put
+pub past_failed : {N : Type 0} (say : Bool) (to : Moment → N) (m : Moment) (k : LineOutcome) (why : BadWhy) (a b : Option (List ℕ)) (answer : Result Verdict Fault) → IsErr answer → k ≡ Refused why → AppendsPrefix a b (bad_line (m.lines + 1) why)
+    → outputs.IsLastRun (outcome_as to (said say (outcome_in_run m k))) a b answer
+past_failed say to m k why a b (Ok v) failed is put = absurd (let P : ⊥ = cc in P)
+past_failed say to m k why a b (Err e) failed is put = past_broken say to m k why a b is put

@@ -1,5 +1,5 @@
 -- Texts of all nodes one after another, and of the copies in flight.
-use Rattle.std.proofs.Common.{◌≡◌, ℕ, ◌+◌, Bool, false, List, [], ◌∷◌, ◌++◌, Option, Some, Result, length, map, refl, sym, ap, subst, ◌∙◌}
+use Rattle.std.proofs.Common.{◌≡◌, ℕ, ◌+◌, Bool, true, List, [], ◌∷◌, ◌++◌, Option, Some, Result, length, map, refl, sym, ap, subst, ◌∙◌}
 use Rattle.std.specs.List.{AllByRecursion}
 use Rattle.std.proofs.lemmas.List.{length-map}
 use Rattle.std.specs.Io.KnownBytes.{Appends}
@@ -25,19 +25,19 @@ node_shown mesh o n e =
     ap (node_text mesh n.core) (sym (length-map n.items (item_in mesh))) ∙ ap (node_text_in mesh) (sym e)
 
 -- a line and what it shows
-pub shows_whole : {T E : Type 0} (quiet : Bool) (xs ys xs' ys' : List ℕ) (a b c : Option (List ℕ)) (r : Result T E) → quiet ≡ false → xs ≡ xs' → ys ≡ ys'
-    → Appends a b xs → Puts b c ys r → Puts a c (output_if quiet (xs' ++ ys')) r
-shows_whole quiet xs ys xs' ys' a b c r loud ex ey p q =
+pub shows_whole : {T E : Type 0} (say : Bool) (xs ys xs' ys' : List ℕ) (a b c : Option (List ℕ)) (r : Result T E) → say ≡ true → xs ≡ xs' → ys ≡ ys'
+    → Appends a b xs → Puts b c ys r → Puts a c (output_if say (xs' ++ ys')) r
+shows_whole say xs ys xs' ys' a b c r loud ex ey p q =
     let P : Bool → Type 0 = λ k. Puts a c (output_if k (xs' ++ ys')) r in
     let Q : List ℕ → Type 0 = λ l. Appends a b l in
     let R : List ℕ → Type 0 = λ l. Puts b c l r in
     subst P (sym loud) (Puts-join a b c xs' ys' (xs' ++ ys') r refl (subst Q ex p) (subst R ey q))
 
-pub shows_front : (quiet : Bool) (xs xs' ys : List ℕ) (a b : Option (List ℕ)) → quiet ≡ false → xs ≡ xs' → AppendsPrefix a b xs → AppendsPrefix a b (output_if quiet (xs' ++ ys))
-shows_front quiet xs xs' ys a b loud ex p =
+pub shows_front : (say : Bool) (xs xs' ys : List ℕ) (a b : Option (List ℕ)) → say ≡ true → xs ≡ xs' → AppendsPrefix a b xs → AppendsPrefix a b (output_if say (xs' ++ ys))
+shows_front say xs xs' ys a b loud ex p =
     let P : Bool → Type 0 = λ k. AppendsPrefix a b (output_if k (xs' ++ ys)) in
     let Q : List ℕ → Type 0 = λ l. AppendsPrefix a b l in
-    subst P (sym loud) (front_more false a b xs' ys (subst Q ex p))
+    subst P (sym loud) (front_more true a b xs' ys (subst Q ex p))
 
 -- ---- the copies in flight
 

@@ -19,15 +19,15 @@ pub came-refused : (m : Moment) (bytes : List ℕ) (f : LineFault) → line_of m
 came-refused m bytes f e = came-whole m bytes ∙ ap (outcome_of_read m) e
 
 -- an allowed line that was done
-pub goes_accepted : (quiet : Bool) (m n : Moment) (bytes : List ℕ) (l : AcceptedLine) (a b : Option (List ℕ)) → line_of m.mesh (is_some m.world) bytes ≡ Ok l
-    → IsLineDone quiet (outcome_of_line m l) n a b → IsLineDone quiet (outcome_of_piece m (Whole bytes)) n a b
-goes_accepted quiet m n bytes l a b e g =
-    let P : LineOutcome → Type 0 = λ k. IsLineDone quiet k n a b in
+pub goes_accepted : (say : Bool) (m n : Moment) (bytes : List ℕ) (l : AcceptedLine) (a b : Option (List ℕ)) → line_of m.mesh (is_some m.world) bytes ≡ Ok l
+    → IsLineDone say (outcome_of_line m l) n a b → IsLineDone say (outcome_of_piece m (Whole bytes)) n a b
+goes_accepted say m n bytes l a b e g =
+    let P : LineOutcome → Type 0 = λ k. IsLineDone say k n a b in
     subst P (sym (came-accepted m bytes l e)) g
 
 -- an allowed line that was not done whole
-pub stops_accepted : (quiet : Bool) (m n : Moment) (bytes : List ℕ) (l : AcceptedLine) (a b : Option (List ℕ)) (stop : Stop) → line_of m.mesh (is_some m.world) bytes ≡ Ok l
-    → IsLineStopped quiet m (outcome_of_line m l) n a b stop → IsLineStopped quiet m (outcome_of_piece m (Whole bytes)) n a b stop
-stops_accepted quiet m n bytes l a b stop e g =
-    let P : LineOutcome → Type 0 = λ k. IsLineStopped quiet m k n a b stop in
+pub stops_accepted : (say : Bool) (m n : Moment) (bytes : List ℕ) (l : AcceptedLine) (a b : Option (List ℕ)) (stop : Stop) → line_of m.mesh (is_some m.world) bytes ≡ Ok l
+    → IsLineStopped say m (outcome_of_line m l) n a b stop → IsLineStopped say m (outcome_of_piece m (Whole bytes)) n a b stop
+stops_accepted say m n bytes l a b stop e g =
+    let P : LineOutcome → Type 0 = λ k. IsLineStopped say m k n a b stop in
     subst P (sym (came-accepted m bytes l e)) g

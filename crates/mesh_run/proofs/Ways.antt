@@ -42,12 +42,12 @@ reached_longer m n e others way = by_count way.0 way.1
 
 -- ---- events one after another
 
-then_on : (quiet : Bool) (m n k : Moment) (e : Event) (o : Outcome) (others : Moment → List Event) (a b : Option (List ℕ)) → IsLineDone quiet (outcome_by m e o) n a b → n ≡ next_moment m e
+then_on : (say : Bool) (m n k : Moment) (e : Event) (o : Outcome) (others : Moment → List Event) (a b : Option (List ℕ)) → IsLineDone say (outcome_by m e o) n a b → n ≡ next_moment m e
     → IsReached n (others n) k → IsReached m (event_then m e o others) k
-then_on quiet m n k e Idle others a b done next way =
+then_on say m n k e Idle others a b done next way =
     reached_more m n k e (others (next_moment m e)) next (subst (λ s. IsReached n (others s) k) next way)
-then_on quiet m n k e (worlds.Full x field) others a b done next way = absurd (let h : Full [] m e field ≡ On done.text n = done.is in let P : ⊥ = cc in P)
-then_on quiet m n k e (Next w i) others a b done next way =
+then_on say m n k e (worlds.Full x field) others a b done next way = absurd (let h : Full [] m e field ≡ On done.text n = done.is in let P : ⊥ = cc in P)
+then_on say m n k e (Next w i) others a b done next way =
     reached_more m n k e (others (next_moment m e)) next (subst (λ s. IsReached n (others s) k) next way)
 
 then_first : (m k : Moment) (e : Event) (o : Outcome) (others : Moment → List Event) → IsReached m (e ∷ []) k → IsReached m (event_then m e o others) k
@@ -56,10 +56,10 @@ then_first m k e (worlds.Full x field) others way = way
 then_first m k e (Next w i) others way = reached_longer m k e (others (next_moment m e)) way
 
 -- one was done, and then others
-pub way_goes : (quiet : Bool) (given : Option Event) (most did : ℕ) (m n k : Moment) (e : Event) (a b : Option (List ℕ)) → IfSome given (λ _. most ≤ 1) → did < most → Some e ≡ next_in given m
-    → IsLineDone quiet (line_outcome_at m e) n a b → n ≡ next_moment m e → IsReached n (events_due given (most - (did + 1)) n) k → IsReached m (events_due given (most - did) m) k
-way_goes quiet given most did m n k e a b one h next done after way =
-    subst (λ l. IsReached m l k) (sym (due_next given most did m e one h next)) (then_on quiet m n k e (outcome_at m e) (λ s. events_due given (most - (did + 1)) s) a b done after way)
+pub way_goes : (say : Bool) (given : Option Event) (most did : ℕ) (m n k : Moment) (e : Event) (a b : Option (List ℕ)) → IfSome given (λ _. most ≤ 1) → did < most → Some e ≡ next_in given m
+    → IsLineDone say (line_outcome_at m e) n a b → n ≡ next_moment m e → IsReached n (events_due given (most - (did + 1)) n) k → IsReached m (events_due given (most - did) m) k
+way_goes say given most did m n k e a b one h next done after way =
+    subst (λ l. IsReached m l k) (sym (due_next given most did m e one h next)) (then_on say m n k e (outcome_at m e) (λ s. events_due given (most - (did + 1)) s) a b done after way)
 
 -- the next one was not done, or not written
 pub way_stops : (given : Option Event) (most did : ℕ) (m k : Moment) (e : Event) → IfSome given (λ _. most ≤ 1) → did < most → Some e ≡ next_in given m → IsReached m (e ∷ []) k → IsReached m (events_due given (most - did) m) k

@@ -14,11 +14,11 @@ use Rattle.mesh_run.specs.declared.say.Say.TheVariants.{All, Last, Faults}
 use Rattle.mesh_run.specs.declared.status.Status.{Status}
 use Rattle.mesh_run.specs.declared.status.Status.TheVariants.{Done, Usage, BadLine, Full, ReadFault, WriteFault, NoMemory}
 
--- the lines are left out
-abbrev pub is_quiet : Say → Bool
-is_quiet All = false
-is_quiet Last = true
-is_quiet Faults = true
+-- the text of the lines is written
+abbrev pub says_lines : Say → Bool
+says_lines All = true
+says_lines Last = false
+says_lines Faults = false
 
 abbrev pub say_by : Bool → Say
 say_by quiet = if quiet then Last else All

@@ -10,14 +10,14 @@ use Rattle.mesh_text.specs.declared.verdict.Verdict.TheVariants.{Finished}
 use Rattle.mesh_run.specs.declared.running.Running.{Running}
 use Rattle.mesh_run.specs.declared.say.Say.{Say}
 use Rattle.mesh_run.specs.declared.say.Say.TheVariants.{All, Last, Faults}
-use Rattle.mesh_run.specs.Outputs.{is_quiet}
+use Rattle.mesh_run.specs.Outputs.{says_lines}
 use Rattle.mesh_run.specs.Room.{CanLead}
 use Rattle.mesh_run.specs.Runs.{output_if}
 
--- what is written of a line: a quiet run leaves its text out, and not a last line
+-- what is written of a line: its text where it is said, and a last line always
 abbrev pub said : {M V : Type 0} → Bool → Outcome M V → Outcome M V
-said quiet (On text n) = On (output_if quiet text) n
-said quiet (Ended text last v) = Ended (output_if quiet text) last v
+said say (On text n) = On (output_if say text) n
+said say (Ended text last v) = Ended (output_if say text) last v
 
 -- what is written at the end of an input
 abbrev pub last_said : Say → List ℕ → List ℕ
@@ -40,7 +40,7 @@ running = record {
   head = λ r. [];
   outcome = λ r piece.
       outcome_as (moved r)
-      (said (is_quiet r.say) (outcome_in_run r.at (outcome_of_piece r.at piece)));
+      (said (says_lines r.say) (outcome_in_run r.at (outcome_of_piece r.at piece)));
   ending = λ r. record {
     text = last_said r.say (done_line r.at);
     verdict = Finished;

@@ -1,5 +1,5 @@
--- What was told of one line, of one event, and of events that were chosen. A text is left out where
--- a run is quiet.
+-- What was told of one line, of one event, and of events that were chosen. A text is written
+-- where it is to be said, and else left out.
 use Rattle.std.specs.Prelude.{ℕ, zero, suc, ◌≡◌, ◌≤◌, ◌⊎◌, List, [], ◌∷◌, take, Bool, if◌then◌else◌, Option, Some, None, Result, Ok, Err, MatchResult, IsSomeAnd, length}
 use Rattle.std.specs.Io.KnownBytes.{Appends, Keeps}
 use Rattle.mesh_base.specs.declared.events.Counter as full
@@ -23,9 +23,9 @@ use Rattle.mesh_run.specs.declared.show.Shown.TheVariants as shown
 use Rattle.mesh_run.specs.declared.stop.Stop.{Stop}
 use Rattle.mesh_run.specs.declared.stop.Stop.TheVariants as stop
 
--- what a quiet run leaves out
+-- a text that is written where it is to be said
 abbrev pub output_if : Bool → List ℕ → List ℕ
-output_if quiet text = if quiet then [] else text
+output_if say text = if say then text else []
 
 -- the line that shows this
 abbrev pub line_of_shown : Shown → AcceptedLine
@@ -40,11 +40,11 @@ IsLineOf mesh l bytes = (length bytes ≤ LONGEST_LINE) × (bytes ≡ words_of m
 -- ---- what came of a line, or of one event
 
 -- it was done and its text written, and the run goes on from the next moment
-pub record IsLineDone (quiet : Bool) (k : LineOutcome) (n : Moment) (before now : Option (List ℕ))
+pub record IsLineDone (say : Bool) (k : LineOutcome) (n : Moment) (before now : Option (List ℕ))
     : Type 0 where
   pub text : List ℕ
   pub is : k ≡ On text n
-  pub grown : Appends before now (output_if quiet text)
+  pub grown : Appends before now (output_if say text)
 
 -- what is known after a refusal for a full counter: the event is of the mesh, and mesh and line are
 -- still the same
@@ -55,38 +55,38 @@ pub record IsStill (m n : Moment) (e : Event) : Type 0 where
 
 -- an event was refused for this node's full counter at the moment that is left, after a text
 pub record IsLineFull
-    (quiet : Bool) (m : Moment) (k : LineOutcome) (n : Moment) (before now : Option (List ℕ))
+    (say : Bool) (m : Moment) (k : LineOutcome) (n : Moment) (before now : Option (List ℕ))
     (e : Event) (node : ℕ) (field : full.Counter) : Type 0 where
   pub text : List ℕ
   pub is : k ≡ Full text n e field
   pub refused : outcome_at n e ≡ worlds.Full node field
-  pub grown : Appends before now (output_if quiet text)
+  pub grown : Appends before now (output_if say text)
   pub still : IsStill m n e
 
 -- it was refused, or was not done or not written whole
 abbrev pub IsLineStopped : Bool → Moment → LineOutcome → Moment → Option (List ℕ) → Option (List ℕ)
     → Stop → Type 0
-IsLineStopped quiet m k n before now (stop.BadLine f) =
+IsLineStopped say m k n before now (stop.BadLine f) =
     (k ≡ Refused (Fault f)) × (n ≡ m) × Keeps before now
-IsLineStopped quiet m k n before now (stop.Full e node field) =
-    IsLineFull quiet m k n before now (event_of e) node field
-IsLineStopped quiet m k n before now stop.WriteFault =
-    AppendsPrefix before now (output_if quiet (text_in k))
-IsLineStopped quiet m k n before now stop.NoMemory =
-    AppendsPrefix before now (output_if quiet (text_in k))
+IsLineStopped say m k n before now (stop.Full e node field) =
+    IsLineFull say m k n before now (event_of e) node field
+IsLineStopped say m k n before now stop.WriteFault =
+    AppendsPrefix before now (output_if say (text_in k))
+IsLineStopped say m k n before now stop.NoMemory =
+    AppendsPrefix before now (output_if say (text_in k))
 
 -- either
 abbrev pub IsLineRun : Bool → Moment → LineOutcome → Moment → Option (List ℕ) → Option (List ℕ)
     → Result (Unit {0}) Stop → Type 0
-IsLineRun quiet m k n before now result =
-    MatchResult result (λ _. IsLineDone quiet k n before now) (IsLineStopped quiet m k n before now)
+IsLineRun say m k n before now result =
+    MatchResult result (λ _. IsLineDone say k n before now) (IsLineStopped say m k n before now)
 
 -- either, of a line that is not counted yet
 abbrev pub IsUncountedRun : Bool → Moment → LineOutcome → Moment → Option (List ℕ) → Option (List ℕ)
     → Result (Unit {0}) Stop → Type 0
-IsUncountedRun quiet m k n before now result =
-    MatchResult result (λ _. IsLineDone quiet k (with_line_read n) before now)
-    (IsLineStopped quiet m k n before now)
+IsUncountedRun say m k n before now result =
+    MatchResult result (λ _. IsLineDone say k (with_line_read n) before now)
+    (IsLineStopped say m k n before now)
 
 -- ---- the moments that a line goes through
 
@@ -114,20 +114,20 @@ line_outcome_at m e = outcome_by m e (outcome_at m e)
 
 -- all were done and written
 pub record IsEventsDone
-    (quiet : Bool) (ran : EventsOutcome) (n : Moment) (before now : Option (List ℕ)) : Type 0 where
+    (say : Bool) (ran : EventsOutcome) (n : Moment) (before now : Option (List ℕ)) : Type 0 where
   pub text : List ℕ
   pub is : ran ≡ Ended text n
-  pub grown : Appends before now (output_if quiet text)
+  pub grown : Appends before now (output_if say text)
 
 -- one was refused for this node's full counter at the moment that is left, after the text of the
 -- others
 pub record IsEventsFull
-    (quiet : Bool) (m : Moment) (ran : EventsOutcome) (n : Moment) (before now : Option (List ℕ))
+    (say : Bool) (m : Moment) (ran : EventsOutcome) (n : Moment) (before now : Option (List ℕ))
     (e : Event) (node : ℕ) (field : full.Counter) : Type 0 where
   pub text : List ℕ
   pub is : ran ≡ EventsFull text n e field
   pub refused : outcome_at n e ≡ worlds.Full node field
-  pub grown : Appends before now (output_if quiet text)
+  pub grown : Appends before now (output_if say text)
   pub still : IsStill m n e
 
 abbrev pub text_of : EventsOutcome → List ℕ
@@ -137,14 +137,14 @@ text_of (EventsFull text n e field) = text
 -- what was told of them, from moment m to moment n. None of them is a line that is refused
 abbrev pub IsEventsRun : Bool → Moment → EventsOutcome → Moment → Option (List ℕ)
     → Option (List ℕ) → Result ℕ Stop → Type 0
-IsEventsRun quiet m ran n before now (Ok did) = IsEventsDone quiet ran n before now
-IsEventsRun quiet m ran n before now (Err (stop.BadLine f)) = ⊥
-IsEventsRun quiet m ran n before now (Err (stop.Full e node field)) =
-    IsEventsFull quiet m ran n before now (event_of e) node field
-IsEventsRun quiet m ran n before now (Err stop.WriteFault) =
-    AppendsPrefix before now (output_if quiet (text_of ran))
-IsEventsRun quiet m ran n before now (Err stop.NoMemory) =
-    AppendsPrefix before now (output_if quiet (text_of ran))
+IsEventsRun say m ran n before now (Ok did) = IsEventsDone say ran n before now
+IsEventsRun say m ran n before now (Err (stop.BadLine f)) = ⊥
+IsEventsRun say m ran n before now (Err (stop.Full e node field)) =
+    IsEventsFull say m ran n before now (event_of e) node field
+IsEventsRun say m ran n before now (Err stop.WriteFault) =
+    AppendsPrefix before now (output_if say (text_of ran))
+IsEventsRun say m ran n before now (Err stop.NoMemory) =
+    AppendsPrefix before now (output_if say (text_of ran))
 
 -- ---- an event that is given, or those that a run chooses
 

@@ -1,5 +1,5 @@
 //! Events that the run chooses, one after another.
-ghost use Rattle.std.specs.Prelude.{◌≡◌, ◌<◌, ◌≤◌, ◌+◌, ◌^◌, length, is_some, true, false, OnOk, OnErr, IfOk, IfSome, option_map};
+ghost use Rattle.std.specs.Prelude.{◌≡◌, ◌<◌, ◌≤◌, ◌+◌, ◌^◌, length, is_some, true, OnOk, OnErr, IfOk, IfSome, option_map};
 ghost use Rattle.mesh_meaning.specs.Events.{event_of};
 ghost use Rattle.mesh_text.specs.Schedule.{Chooses};
 ghost use Rattle.mesh_text.specs.Text.{outcome_of_line};
@@ -66,7 +66,7 @@ fn event_after<'e, 'a, S: Steps>(
 pub fn do_events<'a, S: Steps, O: Sink>(
     alloc: Global,
     task: &mut Task<'_, 'a, '_, S>,
-    quiet: bool,
+    say: bool,
     out: &mut O,
 ) -> Result<u32, Stop<'a>>
     requires started { is_some task.old.at.now.world ≡ true }
@@ -75,10 +75,10 @@ pub fn do_events<'a, S: Steps, O: Sink>(
     requires few { task.old.at.now.steps + task.old.count < 2 ^ 48 }
     requires printable { IfSome task.old.given (λ e.
         IsPrintable task.old.at.now.mesh (Line.Step e)) }
-    requires echo { quiet ≡ false → IfSome task.old.bytes (λ b.
+    requires echo { say ≡ true → IfSome task.old.bytes (λ b.
         IsLineOfGiven task.old.at.now.mesh (option_map event_of task.old.given) b.now) }
     ensures same { task.new.at.ghost_name ≡ task.old.at.ghost_name }
-    ensures ran { IsEventsRun quiet task.old.at.now (outcome_of_events task.old.at.now
+    ensures ran { IsEventsRun say task.old.at.now (outcome_of_events task.old.at.now
         (events_due (option_map event_of task.old.given) task.old.count task.old.at.now))
         task.new.at.now (O.held out.old) (O.held out.new) result }
     ensures did { IfOk result (λ did. did ≡ length
@@ -95,7 +95,7 @@ pub fn do_events<'a, S: Steps, O: Sink>(
         let Some(event) = event_after(task.at, &task.given, &mut chosen) else {
             return Ok(did);
         };
-        if let Err(stop) = do_event(alloc, task.at, task.bytes, event, quiet, out) {
+        if let Err(stop) = do_event(alloc, task.at, task.bytes, event, say, out) {
             return Err(stop.of_event(*event));
         }
         did += 1;
@@ -103,19 +103,19 @@ pub fn do_events<'a, S: Steps, O: Sink>(
     Ok(did)
 }
 
-// A line as it stands, unless the run is quiet.
+// A line as it stands, where it is said.
 fn say_echo<O: Sink>(
     bytes: &[u8],
-    quiet: bool,
+    say: bool,
     buf: &mut LineBuf,
     out: &mut O,
 ) -> Result<(), PutFault>
-    requires { quiet ≡ false → length bytes.now ≤ LONGEST_LINE }
+    requires { say ≡ true → length bytes.now ≤ LONGEST_LINE }
     ensures text { Puts (O.held out.old) (O.held out.new)
-        (output_if quiet (line_of_words bytes.now)) result }
+        (output_if say (line_of_words bytes.now)) result }
     ensures cause { HasCause (O.faults out.old) (O.faults out.new) result }
 {
-    if quiet {
+    if !say {
         return Ok(());
     }
     put_echo(bytes, buf, out)
@@ -128,27 +128,27 @@ pub fn do_auto<S: Steps, O: Sink>(
     at: &mut Point<S>,
     bytes: &[u8],
     count: u32,
-    quiet: bool,
+    say: bool,
     out: &mut O,
 ) -> Result<(), Stop<'static>>
     requires started { is_some at.old.world ≡ true }
     requires steps { at.old.steps < 2 ^ 47 }
     requires printable { IsPrintable at.old.mesh (Line.Auto count) }
-    requires echo { quiet ≡ false → IsLineOf at.old.mesh (Chooses count) bytes.now }
-    ensures comes { IsUncountedRun quiet at.old (outcome_of_line at.old (Chooses count))
+    requires echo { say ≡ true → IsLineOf at.old.mesh (Chooses count) bytes.now }
+    ensures comes { IsUncountedRun say at.old (outcome_of_line at.old (Chooses count))
         at.new (O.held out.old) (O.held out.new) result }
     ensures lines { OnOk result (at.new.lines ≡ at.old.lines) }
     ensures way { OnErr result (IsReached at.old (events_chosen count at.old) at.new) }
     ensures cause { HasStopCause (O.faults out.old) (O.faults out.new) result }
 {
-    say_echo(bytes, quiet, &mut at.line, out)?;
+    say_echo(bytes, say, &mut at.line, out)?;
     let mut task = Task {
         at: &mut *at,
         given: None,
         bytes: None,
         count,
     };
-    let ran = do_events(alloc, &mut task, quiet, out);
+    let ran = do_events(alloc, &mut task, say, out);
     // It says that `at` is the moment as the events have left it.
     let Task {
         at: _at,
@@ -160,7 +160,7 @@ pub fn do_auto<S: Steps, O: Sink>(
         Ok(did) => did,
         Err(stop) => return Err(stop),
     };
-    if quiet {
+    if !say {
         return Ok(());
     }
     put_auto_end(did, &mut at.line, out)?;

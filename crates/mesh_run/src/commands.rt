@@ -1,5 +1,5 @@
 //! What each command does.
-ghost use Rattle.std.specs.Prelude.{◌≡◌, ◌≢◌, ◌<◌, ◌≤◌, ◌^◌, ◌∷◌, [], length, is_some, true, false, OnOk, OnErr, IfSome};
+ghost use Rattle.std.specs.Prelude.{◌≡◌, ◌≢◌, ◌<◌, ◌≤◌, ◌^◌, ◌∷◌, [], length, is_some, true, OnOk, OnErr, IfSome};
 ghost use Rattle.mesh_base.specs.declared.events.Event.{Event};
 ghost use Rattle.mesh_model.specs.Worlds.{World};
 ghost use Rattle.mesh_meaning.specs.Answers.{outcome_in, IsDoneInMesh};
@@ -60,15 +60,15 @@ pub fn do_event<S: Steps, O: Sink>(
     at: &mut Point<S>,
     bytes: Option<&[u8]>,
     event: &Event<'_>,
-    quiet: bool,
+    say: bool,
     out: &mut O,
 ) -> Result<(), EventStop>
     requires started { is_some at.old.world ≡ true }
     requires few { at.old.steps < 2 ^ 48 }
     requires printable { IsPrintable at.old.mesh (Line.Step event.now) }
-    requires echo { quiet ≡ false
+    requires echo { say ≡ true
         → IfSome bytes (λ b. IsLineOf at.old.mesh (Does (event_of event.now)) b.now) }
-    ensures comes { IsLineRun quiet at.old (line_outcome_at at.old (event_of event.now))
+    ensures comes { IsLineRun say at.old (line_outcome_at at.old (event_of event.now))
         at.new (O.held out.old) (O.held out.new) (answer_of event.now result) }
     ensures moment { OnOk result (at.new ≡ next_moment at.old (event_of event.now)) }
     ensures way { OnErr result (IsReached at.old (event_of event.now ∷ []) at.new) }
@@ -76,10 +76,10 @@ pub fn do_event<S: Steps, O: Sink>(
         (O.faults out.old) (O.faults out.new) (answer_of event.now result) }
 {
     let state = &mut at.state;
-    if let Err(error) = state.step_counted(alloc, event, &mut at.packet, !quiet, &mut at.done) {
+    if let Err(error) = state.step_counted(alloc, event, &mut at.packet, say, &mut at.done) {
         return Err(event_stop_of(error));
     }
-    if quiet {
+    if !say {
         return Ok(());
     }
     let mesh = at.state.mesh();
@@ -100,21 +100,21 @@ fn event_stop_of(error: StepError) -> EventStop
     }
 }
 
-// A line as it is written back, unless the run is quiet.
+// A line as it is written back, where it is said.
 fn say_line<O: Sink>(
     mesh: &Mesh,
     line: &Line<'_>,
-    quiet: bool,
+    say: bool,
     buf: &mut LineBuf,
     out: &mut O,
 ) -> Result<(), PutFault>
     requires printable { IsPrintable mesh.now line.now }
     requires some { line.now ≢ Line.Blank }
     ensures text { Puts (O.held out.old) (O.held out.new)
-        (output_if quiet (line_of_words (words_of mesh.now (accepted_of line.now)))) result }
+        (output_if say (line_of_words (words_of mesh.now (accepted_of line.now)))) result }
     ensures cause { HasCause (O.faults out.old) (O.faults out.new) result }
 {
-    if quiet {
+    if !say {
         return Ok(());
     }
     put_line(mesh, line, buf, out)
@@ -125,38 +125,38 @@ fn do_node<S: Steps, O: Sink>(
     at: &mut Point<S>,
     addr: Addr,
     first: u32,
-    quiet: bool,
+    say: bool,
     out: &mut O,
 ) -> Result<(), Stop<'static>>
     requires allowed { IsAllowed at.old.mesh (is_some at.old.world) (Line.Node addr first) }
-    ensures comes { IsUncountedRun quiet at.old (outcome_of_line at.old (NewNode addr.0 first))
+    ensures comes { IsUncountedRun say at.old (outcome_of_line at.old (NewNode addr.0 first))
         at.new (O.held out.old) (O.held out.new) result }
     ensures lines { OnOk result (at.new.lines ≡ at.old.lines) }
     ensures same { OnErr result (at.new ≡ at.old) }
     ensures cause { HasStopCause (O.faults out.old) (O.faults out.new) result }
 {
     let line = Line::Node { addr, first };
-    say_line(at.state.mesh(), &line, quiet, &mut at.line, out)?;
+    say_line(at.state.mesh(), &line, say, &mut at.line, out)?;
     at.state.add_node(addr, first);
     Ok(())
 }
 
-// Does an allowed line other than that of an event, and writes its text unless the run is quiet.
+// Does an allowed line other than that of an event, and writes its text where `say`.
 #[tactic(auto, unfolding(mesh_text::specs::Text::outcome_of_line))]
 fn do_rest<'a, S: Steps, O: Sink>(
     alloc: Global,
     at: &mut Point<S>,
     bytes: &[u8],
     line: Line<'a>,
-    quiet: bool,
+    say: bool,
     out: &mut O,
 ) -> Result<(), Stop<'a>>
     requires steps { at.old.steps < 2 ^ 47 }
     requires allowed { IsAllowed at.old.mesh (is_some at.old.world) line }
     requires no_event { (e : Event) → line ≢ Line.Step e }
     requires short { length bytes.now ≤ LONGEST_LINE }
-    requires echo { quiet ≡ false → IsEcho at.old.mesh bytes.now (accepted_of line) }
-    ensures comes { IsUncountedRun quiet at.old (outcome_of_line at.old (accepted_of line.entry))
+    requires echo { say ≡ true → IsEcho at.old.mesh bytes.now (accepted_of line) }
+    ensures comes { IsUncountedRun say at.old (outcome_of_line at.old (accepted_of line.entry))
         at.new (O.held out.old) (O.held out.new) result }
     ensures lines { OnOk result (at.new.lines ≡ at.old.lines) }
     ensures way { OnErr result (IsOnTheWay at.old
@@ -166,31 +166,31 @@ fn do_rest<'a, S: Steps, O: Sink>(
     at.state.begin(alloc, &line)?;
     match line {
         Line::Blank => Ok(()),
-        Line::Node { addr, first } => do_node(at, addr, first, quiet, out),
+        Line::Node { addr, first } => do_node(at, addr, first, say, out),
         Line::Step(_) => unreachable!(),
-        Line::Auto { count } => do_auto(alloc, at, bytes, count, quiet, out),
-        Line::Show { node } => do_show(at, bytes, Shown::Node { node }, quiet, out),
-        Line::Route { node, dest } => do_show(at, bytes, Shown::Route { node, dest }, quiet, out),
-        Line::Flight => do_show(at, bytes, Shown::Flight, quiet, out),
+        Line::Auto { count } => do_auto(alloc, at, bytes, count, say, out),
+        Line::Show { node } => do_show(at, bytes, Shown::Node { node }, say, out),
+        Line::Route { node, dest } => do_show(at, bytes, Shown::Route { node, dest }, say, out),
+        Line::Flight => do_show(at, bytes, Shown::Flight, say, out),
     }
 }
 
-// Does an allowed line, and writes its text unless the run is quiet. The line of an event comes
-// most often: it is done apart from the others, so that it doesn't make room for what they answer.
+// Does an allowed line, and writes its text where `say`. The line of an event comes most often: it
+// is done apart from the others, so that it doesn't make room for what they answer.
 #[inline(always)]
 fn do_uncounted<'a, S: Steps, O: Sink>(
     alloc: Global,
     at: &mut Point<S>,
     bytes: &[u8],
     line: Line<'a>,
-    quiet: bool,
+    say: bool,
     out: &mut O,
 ) -> Result<(), Stop<'a>>
     requires steps { at.old.steps < 2 ^ 47 }
     requires allowed { IsAllowed at.old.mesh (is_some at.old.world) line }
     requires short { length bytes.now ≤ LONGEST_LINE }
-    requires echo { quiet ≡ false → IsEcho at.old.mesh bytes.now (accepted_of line) }
-    ensures comes { IsUncountedRun quiet at.old (outcome_of_line at.old (accepted_of line.entry))
+    requires echo { say ≡ true → IsEcho at.old.mesh bytes.now (accepted_of line) }
+    ensures comes { IsUncountedRun say at.old (outcome_of_line at.old (accepted_of line.entry))
         at.new (O.held out.old) (O.held out.new) result }
     ensures lines { OnOk result (at.new.lines ≡ at.old.lines) }
     ensures way { OnErr result (IsOnTheWay at.old
@@ -198,7 +198,7 @@ fn do_uncounted<'a, S: Steps, O: Sink>(
     ensures cause { HasStopCause (O.faults out.old) (O.faults out.new) result }
 {
     let Line::Step(event) = line else {
-        do_rest(alloc, at, bytes, line, quiet, out)?;
+        do_rest(alloc, at, bytes, line, say, out)?;
         return Ok(());
     };
     at.state.begin(alloc, &line)?;
@@ -208,7 +208,7 @@ fn do_uncounted<'a, S: Steps, O: Sink>(
         bytes: Some(bytes),
         count: 1,
     };
-    let ran = do_events(alloc, &mut task, quiet, out);
+    let ran = do_events(alloc, &mut task, say, out);
     // It says that `at` is the moment as the event has left it.
     let Task {
         at: _at,
@@ -222,29 +222,29 @@ fn do_uncounted<'a, S: Steps, O: Sink>(
     Ok(())
 }
 
-/// Does an allowed line, writes its text unless the run is quiet, and counts it. Every line but
-/// that of a node is written back as it stands; of a quiet run's line the bytes aren't asked for.
+/// Does an allowed line, writes its text where `say`, and counts it. Every line but that of a node
+/// is written back as it stands; of a line that isn't said the bytes aren't asked for.
 #[inline(always)]
 pub fn do_line<'a, S: Steps, O: Sink>(
     alloc: Global,
     at: &mut Point<S>,
     bytes: &[u8],
     line: Line<'a>,
-    quiet: bool,
+    say: bool,
     out: &mut O,
 ) -> Result<(), Stop<'a>>
     requires few { at.old.lines < 2 ^ 62 }
     requires steps { at.old.steps < 2 ^ 47 }
     requires allowed { IsAllowed at.old.mesh (is_some at.old.world) line }
     requires short { length bytes.now ≤ LONGEST_LINE }
-    requires echo { quiet ≡ false → IsEcho at.old.mesh bytes.now (accepted_of line) }
-    ensures comes { IsLineRun quiet at.old (outcome_of_line at.old (accepted_of line.entry))
+    requires echo { say ≡ true → IsEcho at.old.mesh bytes.now (accepted_of line) }
+    ensures comes { IsLineRun say at.old (outcome_of_line at.old (accepted_of line.entry))
         at.new (O.held out.old) (O.held out.new) result }
     ensures way { OnErr result (IsOnTheWay at.old
         (events_of_line at.old (accepted_of line.entry)) at.new) }
     ensures cause { HasStopCause (O.faults out.old) (O.faults out.new) result }
 {
-    if let Err(stop) = do_uncounted(alloc, at, bytes, line, quiet, out) {
+    if let Err(stop) = do_uncounted(alloc, at, bytes, line, say, out) {
         return Err(stop);
     }
     at.state.count_line();

@@ -16,8 +16,8 @@ use mesh_script::parse_line;
 use mesh_world::Steps;
 use std::alloc::Global;
 
-/// Does one line of at most `LONGEST_LINE` bytes, writes its text unless the run is quiet, and
-/// counts the line. It never writes a last line: where it answers BadLine or Full, its caller does.
+/// Does one line of at most `LONGEST_LINE` bytes, writes its text where `say`, and counts the line.
+/// It never writes a last line: where it answers BadLine or Full, its caller does.
 ///
 /// BadLine comes exactly where the line isn't allowed, and the moment is then as it was. Full comes
 /// exactly where an event of the line would raise a node's counter past its field's greatest value;
@@ -28,13 +28,13 @@ pub fn one<'a, S: Steps, O: Sink>(
     alloc: Global,
     at: &mut Point<S>,
     bytes: &'a [u8],
-    quiet: bool,
+    say: bool,
     out: &mut O,
 ) -> Result<(), Stop<'a>>
     requires few { at.old.lines < 2 ^ 62 }
     requires steps { at.old.steps < 2 ^ 47 }
     requires short { length bytes.now ≤ LONGEST_LINE }
-    ensures comes { IsLineRun quiet at.old (outcome_of_piece at.old (Whole bytes.now))
+    ensures comes { IsLineRun say at.old (outcome_of_piece at.old (Whole bytes.now))
         at.new (O.held out.old) (O.held out.new) result }
     ensures way { OnErr result (IsOnTheWay at.old
         (events_of_piece at.old (Whole bytes.now)) at.new) }
@@ -46,6 +46,6 @@ pub fn one<'a, S: Steps, O: Sink>(
 {
     match parse_line(bytes, at.state.mesh(), at.state.started()) {
         Err(fault) => Err(Stop::BadLine(fault)),
-        Ok(line) => do_line(alloc, at, bytes, line, quiet, out),
+        Ok(line) => do_line(alloc, at, bytes, line, say, out),
     }
 }

@@ -47,7 +47,7 @@ impl<S: Steps> Script for Running<S> {
 
     #[inline]
     fn line<O: Sink>(&mut self, line: &[u8], out: &mut O) -> Result<Option<Verdict>, Fault> {
-        let did = one(self.alloc, &mut self.at, line, self.say.is_quiet(), out);
+        let did = one(self.alloc, &mut self.at, line, self.say.says_lines(), out);
         settle(&mut self.at, did, out)
     }
 

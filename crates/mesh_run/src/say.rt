@@ -13,7 +13,7 @@ pub enum Say {
 }
 
 impl Say {
-    ghost use Rattle.mesh_run.specs.Outputs.{say_by, is_quiet};
+    ghost use Rattle.mesh_run.specs.Outputs.{say_by, says_lines};
 
     /// The text, or its last line alone.
     pub fn by(quiet: bool) -> Say
@@ -22,14 +22,14 @@ impl Say {
         if quiet { Say::Last } else { Say::All }
     }
 
-    /// The lines are left out.
-    pub fn is_quiet(&self) -> bool
-        ensures { result ≡ is_quiet self.now }
+    /// The text of the lines is written.
+    pub fn says_lines(&self) -> bool
+        ensures { result ≡ says_lines self.now }
     {
         match self {
-            Say::All => false,
-            Say::Last => true,
-            Say::Faults => true,
+            Say::All => true,
+            Say::Last => false,
+            Say::Faults => false,
         }
     }
 }

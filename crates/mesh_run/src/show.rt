@@ -1,5 +1,5 @@
 //! What a run shows of its world: a node, where a route leads, and the copies in flight.
-ghost use Rattle.std.specs.Prelude.{◌≡◌, ◌<◌, ◌+◌, ◌++◌, length, map, slice_get, is_some, true, false, Some};
+ghost use Rattle.std.specs.Prelude.{◌≡◌, ◌<◌, ◌+◌, ◌++◌, length, map, slice_get, is_some, true, Some};
 ghost use Rattle.std.specs.List.{AllByRecursion};
 ghost use Rattle.mesh_model.specs.Routes.{route_end};
 ghost use Rattle.mesh_meaning.specs.Packets.{IsWrittenCopy, copy_in};
@@ -161,24 +161,23 @@ fn show<S: Steps, O: Sink>(
     }
 }
 
-/// Does a line that shows something: writes it as it stands, and what it shows, unless the run is
-/// quiet.
+/// Does a line that shows something: writes it as it stands, and what it shows, where `say`.
 pub fn do_show<S: Steps, O: Sink>(
     at: &mut Point<S>,
     bytes: &[u8],
     what: Shown,
-    quiet: bool,
+    say: bool,
     out: &mut O,
 ) -> Result<(), Stop<'static>>
     requires started { is_some at.old.world ≡ true }
     requires within { IsInRange at.old.mesh (line_of_shown what) }
-    requires echo { quiet ≡ false → IsLineOf at.old.mesh (line_of_shown what) bytes.now }
-    ensures comes { IsUncountedRun quiet at.old (outcome_of_line at.old (line_of_shown what))
+    requires echo { say ≡ true → IsLineOf at.old.mesh (line_of_shown what) bytes.now }
+    ensures comes { IsUncountedRun say at.old (outcome_of_line at.old (line_of_shown what))
         at.new (O.held out.old) (O.held out.new) result }
     ensures same { at.new ≡ at.old }
     ensures cause { HasStopCause (O.faults out.old) (O.faults out.new) result }
 {
-    if quiet {
+    if !say {
         return Ok(());
     }
     match show(at, bytes, what, out) {

@@ -1,5 +1,5 @@
 //! Lines that are given as values.
-ghost use Rattle.std.specs.Prelude.{◌≡◌, ◌<◌, ◌≤◌, ◌+◌, ◌^◌, is_some, true, IsErrOf};
+ghost use Rattle.std.specs.Prelude.{◌≡◌, ◌<◌, ◌≤◌, ◌+◌, ◌^◌, is_some, false, IsErrOf};
 ghost use Rattle.mesh_base.specs.declared.limits.TheConstants.{MOST_EVENTS};
 ghost use Rattle.mesh_text.specs.Text.{outcome_in_run, outcome_of_line};
 ghost use Rattle.mesh_script.specs.Seen.{accepted_of, IsAllowed};
@@ -30,7 +30,7 @@ pub fn do_value<S: Steps, O: Sink>(
     requires steps { at.old.steps < 2 ^ 47 }
     requires allowed { IsAllowed at.old.mesh (is_some at.old.world) line }
     ensures comes { IsLineRun
-        (said true (outcome_in_run at.old (outcome_of_line at.old (accepted_of line.entry))))
+        (said false (outcome_in_run at.old (outcome_of_line at.old (accepted_of line.entry))))
         at.new (O.held out.old) (O.held out.new) result }
     ensures lines { GoesOn result (at.new.lines ≡ at.old.lines + 1) }
     ensures grown { GoesOn result (IsGrown at.old at.new) }
@@ -41,6 +41,6 @@ pub fn do_value<S: Steps, O: Sink>(
 {
     // A world has no more nodes than a mesh may have.
     let _started = at.state.started();
-    let did = do_line(alloc, at, &[], line, true, out);
+    let did = do_line(alloc, at, &[], line, false, out);
     settle(at, did, out)
 }

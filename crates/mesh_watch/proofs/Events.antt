@@ -1,5 +1,5 @@
 -- What comes of an event with its block, and of a line with one event.
-use Rattle.std.proofs.Common.{◌≡◌, ◌∙◌, ℕ, false, List, [], ◌∷◌, ◌++◌, Option, None, Result, Ok, IfOk, length, refl, sym, ap, subst, append-nil}
+use Rattle.std.proofs.Common.{◌≡◌, ◌∙◌, ℕ, true, List, [], ◌∷◌, ◌++◌, Option, None, Result, Ok, IfOk, length, refl, sym, ap, subst, append-nil}
 use Rattle.std.specs.List.{slice_get}
 use Rattle.std.specs.Io.KnownBytes.{Appends}
 use Rattle.mesh_base.specs.Meshes.{Nodes}
@@ -109,7 +109,7 @@ answer_came m n e d packet a =
     (ap (outcome_by m e) a.outcome ∙ by_done m e m.mesh (node_of e) (world_of n) d packet ∙ ap (λ o. On (outcome_lines m.mesh e o) (next_moment m e)) (sym a.outcome))
     ∙ ap (On (watched_lines m e)) (sym a.moment)
 
-pub answer_goes : (m n : Moment) (e : Event) (d : Done) (packet : List ℕ) (a b : Option (List ℕ)) → IsAnswer m e d n packet → Appends a b (watched_lines m e) → IsLineDone false (watched_event m e) n a b
+pub answer_goes : (m n : Moment) (e : Event) (d : Done) (packet : List ℕ) (a b : Option (List ℕ)) → IsAnswer m e d n packet → Appends a b (watched_lines m e) → IsLineDone true (watched_event m e) n a b
 answer_goes m n e d packet a b is p = record { text = watched_lines m e; is = answer_came m n e d packet is; grown = p }
 
 pub answer_front : (m n : Moment) (e : Event) (d : Done) (packet : List ℕ) (a b : Option (List ℕ)) → IsAnswer m e d n packet → AppendsPrefix a b (watched_lines m e) → AppendsPrefix a b (text_in (watched_event m e))
@@ -117,9 +117,9 @@ answer_front m n e d packet a b is p = subst (λ l. AppendsPrefix a b l) (sym (a
 
 -- an event that is refused stops the run
 pub refusal_stops : (m n : Moment) (e : EventGiven) (node : ℕ) (field : _) (a : Option (List ℕ)) → IsEvent (length m.mesh) (event_of e) → outcome_at m (event_of e) ≡ worlds.Full node field
-    → n ≡ m → IsLineFull false m (watched_event m (event_of e)) n a a (event_of e) node field
+    → n ≡ m → IsLineFull true m (watched_event m (event_of e)) n a a (event_of e) node field
 refusal_stops m n e node field a ev is same =
-    let g = refusal_fills false m n (event_of e) node field a ev is same in
+    let g = refusal_fills true m n (event_of e) node field a ev is same in
     record { text = g.text; is = ap (with_block (block_below m (event_of e))) g.is; refused = g.refused; grown = g.grown; still = g.still }
 
 -- ---- a line with one event
@@ -150,10 +150,10 @@ never_bad m e Idle block why h = cc
 never_bad m e (worlds.Full x field) block why h = cc
 never_bad m e (Next w i) block why h = cc
 
-pub step_goes : (m s n k : Moment) (e : Event) (a b : Option (List ℕ)) → s ≡ with_world m → IsLineDone false (watched_event s e) n a b → k ≡ with_line_read n → IsLineDone false (watched_line m (Does e)) k a b
+pub step_goes : (m s n k : Moment) (e : Event) (a b : Option (List ℕ)) → s ≡ with_world m → IsLineDone true (watched_event s e) n a b → k ≡ with_line_read n → IsLineDone true (watched_line m (Does e)) k a b
 step_goes m s n k e a b same g next = record { text = g.text; is = came-does m s e same ∙ ap count g.is ∙ ap (λ q. On g.text q) (sym next); grown = g.grown }
 
-pub step_stops : (m s n : Moment) (e : Event) (a b : Option (List ℕ)) (t : Stop) → s ≡ with_world m → IsLineStopped false s (watched_event s e) n a b t → IsLineStopped false m (watched_line m (Does e)) n a b t
+pub step_stops : (m s n : Moment) (e : Event) (a b : Option (List ℕ)) (t : Stop) → s ≡ with_world m → IsLineStopped true s (watched_event s e) n a b t → IsLineStopped true m (watched_line m (Does e)) n a b t
 step_stops m s n e a b (stop.BadLine f) same g = absurd (never_bad s e (outcome_at s e) (block_below s e) (Fault f) g.0)
 step_stops m s n e a b (stop.Full event node field) same g = record {
   text = g.text;

@@ -1,5 +1,5 @@
 -- By how much a line of a watched run lets the lines and the steps grow: as it does in the run.
-use Rattle.std.proofs.Common.{◌≡◌, ◌∙◌, ℕ, ◌≤◌, List, [], Option, Result, Ok, Err, OnOk, length, is_some, false, sym, ap}
+use Rattle.std.proofs.Common.{◌≡◌, ◌∙◌, ℕ, ◌≤◌, List, [], Option, Result, Ok, Err, OnOk, length, is_some, true, sym, ap}
 use Rattle.mesh_base.specs.declared.limits.TheConstants.{MOST_NODES}
 use Rattle.mesh_text.specs.Schedule.{Moment, AcceptedLine, line_of}
 use Rattle.mesh_text.specs.Text.{LineOutcome, On, Refused, Full, outcome_of_line}
@@ -17,7 +17,7 @@ on_bare (Full text m e field) n same = absurd (let P : ⊥ = cc in P)
 
 -- where it was done
 pub watched_grows : {P : Type 0} (m n : Moment) (bytes : List ℕ) (a : AcceptedLine) (before now : Option (List ℕ)) (r : Result (Unit {0}) Stop) → (LineGrows m n (length bytes) → P) → length m.mesh ≤ MOST_NODES
-    → line_of m.mesh (is_some m.world) bytes ≡ Ok a → IsLineRun false m (watched_line m a) n before now r → OnOk r P
+    → line_of m.mesh (is_some m.world) bytes ≡ Ok a → IsLineRun true m (watched_line m a) n before now r → OnOk r P
 watched_grows m n bytes a before now (Ok done) of few is run =
     let on = on_bare (outcome_of_line m a) n (sym (bare_line m a) ∙ ap bare run.is) in
     of (line_grows m n bytes on.0 a few is on.1)

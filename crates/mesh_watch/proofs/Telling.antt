@@ -1,5 +1,5 @@
 -- What is told of a line of a watched run.
-use Rattle.std.proofs.Common.{◌≡◌, ◌≢◌, ℕ, ◌+◌, ◌*◌, ◌≤◌, List, [], Option, Result, Ok, Err, OnOk, IsErr, length, is_some, false, refl, sym, ap, subst, ◌∙◌, arith}
+use Rattle.std.proofs.Common.{◌≡◌, ◌≢◌, ℕ, ◌+◌, ◌*◌, ◌≤◌, List, [], Option, Result, Ok, Err, OnOk, IsErr, length, is_some, true, refl, sym, ap, subst, ◌∙◌, arith}
 use Rattle.std.specs.Io.KnownBytes.{Appends}
 use Rattle.mesh_base.specs.declared.limits.TheConstants.{MOST_EVENTS}
 use Rattle.mesh_grammar.specs.declared.fault.LineFault.{LineFault}
@@ -51,20 +51,20 @@ came-past m Input = refl
 -- ---- what was told of a line, by what is read of it
 
 pub run_accepted : (m n : Moment) (bytes : List ℕ) (l : AcceptedLine) (a b : Option (List ℕ)) (r : Result (Unit {0}) Stop) → line_of m.mesh (is_some m.world) bytes ≡ Ok l
-    → IsLineRun false m (watched_line m l) n a b r → IsLineRun false m (watched_piece m (Whole bytes)) n a b r
-run_accepted m n bytes l a b r e g = subst (λ k. IsLineRun false m k n a b r) (sym (came-accepted m bytes l e)) g
+    → IsLineRun true m (watched_line m l) n a b r → IsLineRun true m (watched_piece m (Whole bytes)) n a b r
+run_accepted m n bytes l a b r e g = subst (λ k. IsLineRun true m k n a b r) (sym (came-accepted m bytes l e)) g
 
 -- a line that does no event comes to what it comes to in the run
 pub run_other : (m n : Moment) (bytes : List ℕ) (l : Line) (a b : Option (List ℕ)) (r : Result (Unit {0}) Stop) → line_of m.mesh (is_some m.world) bytes ≡ Ok (accepted_of l)
     → ((e : _) → l ≢ line.Step e) → ((count : _) → l ≢ line.Auto count)
-    → IsLineRun false m (texts.outcome_of_piece m (Whole bytes)) n a b r → IsLineRun false m (watched_piece m (Whole bytes)) n a b r
+    → IsLineRun true m (texts.outcome_of_piece m (Whole bytes)) n a b r → IsLineRun true m (watched_piece m (Whole bytes)) n a b r
 unfolding texts.outcome_of_piece watched_line
 run_other m n bytes l a b r is step many g = by_line l is step many
   where
-    by : (k : AcceptedLine) → line_of m.mesh (is_some m.world) bytes ≡ Ok k → watched_line m k ≡ texts.outcome_of_line m k → IsLineRun false m (watched_piece m (Whole bytes)) n a b r
-    by k e same = run_accepted m n bytes k a b r e (subst (λ x. IsLineRun false m x n a b r) (sym same) (subst (λ x. IsLineRun false m (texts.outcome_of_read m x) n a b r) e g))
+    by : (k : AcceptedLine) → line_of m.mesh (is_some m.world) bytes ≡ Ok k → watched_line m k ≡ texts.outcome_of_line m k → IsLineRun true m (watched_piece m (Whole bytes)) n a b r
+    by k e same = run_accepted m n bytes k a b r e (subst (λ x. IsLineRun true m x n a b r) (sym same) (subst (λ x. IsLineRun true m (texts.outcome_of_read m x) n a b r) e g))
 
-    by_line : (l : Line) → line_of m.mesh (is_some m.world) bytes ≡ Ok (accepted_of l) → ((e : _) → l ≢ line.Step e) → ((count : _) → l ≢ line.Auto count) → IsLineRun false m (watched_piece m (Whole bytes)) n a b r
+    by_line : (l : Line) → line_of m.mesh (is_some m.world) bytes ≡ Ok (accepted_of l) → ((e : _) → l ≢ line.Step e) → ((count : _) → l ≢ line.Auto count) → IsLineRun true m (watched_piece m (Whole bytes)) n a b r
     by_line line.Blank is step many = by Nothing is refl
     by_line (line.Node x first) is step many = by (NewNode x.0 first) is refl
     by_line (line.Step e) is step many = absurd (step e refl)
@@ -77,7 +77,7 @@ run_other m n bytes l a b r is step many g = by_line l is step many
 
 -- what was done of the line, and what was settled then; `s` is the same moment as `m`, and `k` as `n`
 pub line_told : (s m n k : Moment) (bytes : List ℕ) (a b d : Option (List ℕ)) (did : Result (Unit {0}) Stop) (result : Result (Option Verdict) ShellFault) → s ≡ m → k ≡ n
-    → IsLineRun false s (watched_piece s (Whole bytes)) n a b did → IsSettled n b d did result → outputs.IsLineRun (outcome_in_run m (watched_piece m (Whole bytes))) k a d result
+    → IsLineRun true s (watched_piece s (Whole bytes)) n a b did → IsSettled n b d did result → outputs.IsLineRun (outcome_in_run m (watched_piece m (Whole bytes))) k a d result
 line_told s m n k bytes a b d did result same back ran told =
     subst (λ (x : Moment). outputs.IsLineRun (outcome_in_run m (watched_piece m (Whole bytes))) x a d result) (sym back)
     (subst (λ (x : Moment). outputs.IsLineRun (outcome_in_run x (watched_piece x (Whole bytes))) n a d result) same

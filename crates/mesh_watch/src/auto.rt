@@ -1,5 +1,5 @@
 //! Events that the run chooses, one after another, each with its block.
-ghost use Rattle.std.specs.Prelude.{◌≡◌, ◌<◌, ◌+◌, ◌^◌, length, is_some, true, false, OnOk, IfOk};
+ghost use Rattle.std.specs.Prelude.{◌≡◌, ◌<◌, ◌+◌, ◌^◌, length, is_some, true, OnOk, IfOk};
 ghost use Rattle.mesh_text.specs.Schedule.{Chooses};
 ghost use Rattle.mesh_text.specs.Auto.{events_chosen};
 ghost use Rattle.mesh_script.specs.Seen.{IsPrintable};
@@ -26,7 +26,7 @@ fn do_events<O: Sink>(
 ) -> Result<u32, Stop<'static>>
     requires started { is_some at.old.world ≡ true }
     requires few { at.old.steps + count < 2 ^ 48 }
-    ensures ran { IsEventsRun false at.old (watched_events at.old (events_chosen count at.old))
+    ensures ran { IsEventsRun true at.old (watched_events at.old (events_chosen count at.old))
         at.new (O.held out.old) (O.held out.new) result }
     ensures did { IfOk result (λ did. did ≡ length (events_chosen count at.old)) }
     ensures lines { OnOk result (at.new.lines ≡ at.old.lines) }
@@ -58,7 +58,7 @@ pub fn do_auto<O: Sink>(
     requires steps { at.old.steps < 2 ^ 47 }
     requires printable { IsPrintable at.old.mesh (Line.Auto count) }
     requires echo { IsLineOf at.old.mesh (Chooses count) bytes.now }
-    ensures comes { IsLineRun false at.old (watched_line at.old (Chooses count))
+    ensures comes { IsLineRun true at.old (watched_line at.old (Chooses count))
         at.new (O.held out.old) (O.held out.new) result }
     ensures cause { HasStopCause (O.faults out.old) (O.faults out.new) result }
 {

@@ -1,5 +1,5 @@
 //! An event, and the block of the node that it has changed.
-ghost use Rattle.std.specs.Prelude.{◌≡◌, ◌<◌, ◌^◌, ◌++◌, List, ℕ, length, is_some, true, false, OnOk, IfSome};
+ghost use Rattle.std.specs.Prelude.{◌≡◌, ◌<◌, ◌^◌, ◌++◌, List, ℕ, length, is_some, true, OnOk, IfSome};
 ghost use Rattle.mesh_base.specs.Meshes.{Nodes};
 ghost use Rattle.mesh_io.specs.Cause.{HasCause};
 ghost use Rattle.mesh_io.specs.Puts.{Puts};
@@ -124,7 +124,7 @@ pub fn do_event<'a, O: Sink>(
     requires few { at.old.steps < 2 ^ 48 }
     requires printable { IsPrintable at.old.mesh (Line.Step event) }
     requires echo { IfSome bytes (λ b. IsLineOf at.old.mesh (Does (event_of event)) b.now) }
-    ensures comes { IsLineRun false at.old (watched_event at.old (event_of event.entry))
+    ensures comes { IsLineRun true at.old (watched_event at.old (event_of event.entry))
         at.new (O.held out.old) (O.held out.new) result }
     ensures moment { OnOk result (at.new ≡ next_moment at.old (event_of event.entry)) }
     ensures cause { HasStopCause (O.faults out.old) (O.faults out.new) result }
@@ -168,7 +168,7 @@ pub fn do_step<'a, O: Sink>(
     requires steps { at.old.steps < 2 ^ 47 }
     requires printable { IsPrintable at.old.mesh (Line.Step event) }
     requires echo { IsLineOf at.old.mesh (Does (event_of event)) bytes.now }
-    ensures comes { IsLineRun false at.old (watched_line at.old (Does (event_of event.entry)))
+    ensures comes { IsLineRun true at.old (watched_line at.old (Does (event_of event.entry)))
         at.new (O.held out.old) (O.held out.new) result }
     ensures cause { HasStopCause (O.faults out.old) (O.faults out.new) result }
 {

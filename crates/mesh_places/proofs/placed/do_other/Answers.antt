@@ -1,4 +1,4 @@
-use Rattle.std.proofs.Common.{false, refl, sym, subst}
+use Rattle.std.proofs.Common.{true, refl, sym, subst}
 use Rattle.mesh_io.proofs.Writing.{Keeps-same}
 use Rattle.mesh_text.specs.Text.{LineOutcome}
 use Rattle.mesh_run.specs.Runs.{IsLineRun}
@@ -18,7 +18,7 @@ returns-in-Err-clause-comes g c = record {
 
 pub returns-in-Ok-clause-comes : goal.returns-in-Ok-clause-comes
 returns-in-Ok-clause-comes g c = record {
-  comes = subst (λ (k : LineOutcome). IsLineRun false c.args.at.now.point k c.one.new.at (g.O.Sink.held c.args.out.now) (g.O.Sink.held c.one.new.out) c.one.result) (sym c.in-Ok.ensures.same) c.one.ensures.comes;
+  comes = subst (λ (k : LineOutcome). IsLineRun true c.args.at.now.point k c.one.new.at (g.O.Sink.held c.args.out.now) (g.O.Sink.held c.one.new.out) c.one.result) (sym c.in-Ok.ensures.same) c.one.ensures.comes;
   only = refl;
   places = on_ok c.one.result (sym (places-other (moment_of c.args.at.now) c.args.bytes.now c.requires.said));
   lines = c.one.ensures.lines;

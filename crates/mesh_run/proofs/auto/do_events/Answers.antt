@@ -15,7 +15,7 @@ use Rattle.mesh_run.proofs.auto.do_events.Goals as goal
 pub returns-in_default-clause-ran : goal.returns-in_default-clause-ran
 returns-in_default-clause-ran g c =
     c.events.invariant.ran (g.O.Sink.held c.events.out) c.events.task.at.now (Ok c.events.did)
-    (nothing_more c.args.quiet c.events.task.at.now _ _ (due_none (option_map event_of c.events.task.given) (c.events.task.count - c.events.did) c.events.task.at.now c.in_default.ensures.value))
+    (nothing_more c.args.say c.events.task.at.now _ _ (due_none (option_map event_of c.events.task.given) (c.events.task.count - c.events.did) c.events.task.at.now c.in_default.ensures.value))
 
 pub returns-in_default-clause-did : goal.returns-in_default-clause-did
 returns-in_default-clause-did g c =
@@ -30,7 +30,7 @@ pub returns-in-Err-clause-ran : goal.returns-in-Err-clause-ran
 returns-in-Err-clause-ran g c =
     let why : Stop = stop_of c.in-Some.event.now c.in-Err.stop in
     rw c.of_event.ensures (c.events.invariant.ran (g.O.Sink.held c.do_event.new.out) c.do_event.new.at (Err why)
-    (ran_stops c.args.quiet (option_map event_of c.events.task.given) c.events.task.count c.events.did c.events.task.at.now c.do_event.new.at (event_of c.in-Some.event.now) _ _ why
+    (ran_stops c.args.say (option_map event_of c.events.task.given) c.events.task.count c.events.did c.events.task.at.now c.do_event.new.at (event_of c.in-Some.event.now) _ _ why
     c.events.invariant.one c.events-test.true c.in-Some.ensures.value c.in-Err.ensures.comes))
 
 pub returns-in-Err-clause-way : goal.returns-in-Err-clause-way
@@ -48,14 +48,14 @@ events-preserved g c =
     let mesh = stepped_mesh c.events.task.at.now c.do_event.new.at (event_of c.in-Some.event.now) next in
     let lines = stepped_lines c.events.task.at.now c.do_event.new.at (event_of c.in-Some.event.now) next in
     let steps = stepped_steps c.events.task.at.now c.do_event.new.at (event_of c.in-Some.event.now) next in
-    let counts = due_counts c.args.quiet (option_map event_of c.events.task.given) c.events.task.count c.events.did c.events.task.at.now c.do_event.new.at (event_of c.in-Some.event.now) _ _
+    let counts = due_counts c.args.say (option_map event_of c.events.task.given) c.events.task.count c.events.did c.events.task.at.now c.do_event.new.at (event_of c.in-Some.event.now) _ _
     c.events.invariant.one c.events-test.true c.in-Some.ensures.value c.in_default-do_event.ensures.comes next in
     record {
       ran = λ now n r p. c.events.invariant.ran now n r
-          (ran_goes c.args.quiet (option_map event_of c.events.task.given) c.events.task.count c.events.did c.events.task.at.now c.do_event.new.at n (event_of c.in-Some.event.now)
+          (ran_goes c.args.say (option_map event_of c.events.task.given) c.events.task.count c.events.did c.events.task.at.now c.do_event.new.at n (event_of c.in-Some.event.now)
           (g.O.Sink.held c.events.out) (g.O.Sink.held c.do_event.new.out) now r c.events.invariant.one c.events-test.true c.in-Some.ensures.value c.in_default-do_event.ensures.comes p);
       way = λ n p. c.events.invariant.way n
-          (way_goes c.args.quiet (option_map event_of c.events.task.given) c.events.task.count c.events.did c.events.task.at.now c.do_event.new.at n (event_of c.in-Some.event.now) _ _
+          (way_goes c.args.say (option_map event_of c.events.task.given) c.events.task.count c.events.did c.events.task.at.now c.do_event.new.at n (event_of c.in-Some.event.now) _ _
           c.events.invariant.one c.events-test.true c.in-Some.ensures.value c.in_default-do_event.ensures.comes next p);
       left = omega (arith, counts, c.events.invariant.left);
       same = c.events.invariant.same;
@@ -73,7 +73,7 @@ events-preserved g c =
 pub returns-clause-ran : goal.returns-clause-ran
 returns-clause-ran g c =
     c.events.invariant.ran (g.O.Sink.held c.events.out) c.events.task.at.now (Ok c.events.did)
-    (nothing_more c.args.quiet c.events.task.at.now _ _ (due_all (option_map event_of c.events.task.given) c.events.task.count c.events.did c.events.task.at.now c.events-test.false))
+    (nothing_more c.args.say c.events.task.at.now _ _ (due_all (option_map event_of c.events.task.given) c.events.task.count c.events.did c.events.task.at.now c.events-test.false))
 
 pub returns-clause-did : goal.returns-clause-did
 returns-clause-did g c =

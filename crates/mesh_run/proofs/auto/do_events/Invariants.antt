@@ -14,8 +14,8 @@ use Rattle.mesh_run.proofs.auto.do_events.Given as goal
 abbrev pub invariant-events : goal.invariant-events
 invariant-events g l = record {
   ran : (now : Option (List ℕ)) (n : Moment) (r : Result ℕ Stop)
-      → IsEventsRun l.quiet l.task.at.now (outcome_of_events l.task.at.now (events_due (option_map event_of l.task.given) (l.task.count - l.did) l.task.at.now)) n (g.O.Sink.held l.out) now r
-      → IsEventsRun l.quiet l.initial.task.at.now (outcome_of_events l.initial.task.at.now (events_due (option_map event_of l.initial.task.given) l.initial.task.count l.initial.task.at.now)) n
+      → IsEventsRun l.say l.task.at.now (outcome_of_events l.task.at.now (events_due (option_map event_of l.task.given) (l.task.count - l.did) l.task.at.now)) n (g.O.Sink.held l.out) now r
+      → IsEventsRun l.say l.initial.task.at.now (outcome_of_events l.initial.task.at.now (events_due (option_map event_of l.initial.task.given) l.initial.task.count l.initial.task.at.now)) n
       (g.O.Sink.held l.initial.out) now r;
   way : (n : Moment) → IsReached l.task.at.now (events_due (option_map event_of l.task.given) (l.task.count - l.did) l.task.at.now) n
       → IsReached l.initial.task.at.now (events_due (option_map event_of l.initial.task.given) l.initial.task.count l.initial.task.at.now) n;
@@ -25,7 +25,7 @@ invariant-events g l = record {
   started : is_some l.task.at.now.world ≡ true;
   one : IfSome (option_map event_of l.task.given) (λ _. l.task.count ≤ 1);
   printable : IfSome l.task.given (λ e. IsPrintable l.task.at.now.mesh (line.Step e));
-  echo : l.quiet ≡ false → IfSome l.task.bytes (λ b. IsLineOfGiven l.task.at.now.mesh (option_map event_of l.task.given) b.now);
+  echo : l.say ≡ true → IfSome l.task.bytes (λ b. IsLineOfGiven l.task.at.now.mesh (option_map event_of l.task.given) b.now);
   lines : l.task.at.now.lines ≡ l.initial.task.at.now.lines;
   faults : g.O.Sink.faults l.out ≡ g.O.Sink.faults l.initial.out;
   fits : l.task.count < 2 ^ 32;

@@ -1,4 +1,4 @@
-use Rattle.std.proofs.Common.{◌≡◌, ◌∙◌, ℕ, List, [], ◌∷◌, false, not, Result, Ok, Err, sym, ap, subst}
+use Rattle.std.proofs.Common.{◌≡◌, ◌∙◌, ℕ, List, [], ◌∷◌, true, Result, Ok, Err, sym, ap, subst}
 use Rattle.std.specs.Prelude.{IfSome, OnErr, OnOk}
 use Rattle.std.specs.Io.KnownBytes.{Appends}
 use Rattle.mesh_base.specs.declared.events.Event.{Event as EventGiven}
@@ -22,7 +22,7 @@ use Rattle.mesh_run.proofs.commands.do_event.Goals.{in-Ok, in-Err-say_event}
 
 pub say_event-requires-clause-printable : goal.say_event-requires-clause-printable
 say_event-requires-clause-printable g c =
-    let told = c.step_counted.ensures.told (ap not c.if-quiet.false) in
+    let told = c.step_counted.ensures.told c.if-not-say.false in
     let here = subst (λ r. OnOk r (IsAnswer c.at.inside.state (event_of c.args.event.now) c.step_counted.new.answer c.step_counted.new.self c.step_counted.new.out.items)) c.in_default.is told in
     let is = subst (λ (m : Moment). IsAnswer m (event_of c.args.event.now) c.step_counted.new.answer c.step_counted.new.self c.step_counted.new.out.items) c.at.view_is here in
     let same : c.mesh-mesh.result.now ≡ c.args.at.now.mesh = c.mesh-mesh.ensures.value ∙ answer_mesh c.args.at.now c.step_counted.new.self (event_of c.args.event.now) c.step_counted.new.answer c.step_counted.new.out.items is in
@@ -30,7 +30,7 @@ say_event-requires-clause-printable g c =
 
 pub say_event-requires-clause-in_mesh : goal.say_event-requires-clause-in_mesh
 say_event-requires-clause-in_mesh g c =
-    let told = c.step_counted.ensures.told (ap not c.if-quiet.false) in
+    let told = c.step_counted.ensures.told c.if-not-say.false in
     let here = subst (λ r. OnOk r (IsAnswer c.at.inside.state (event_of c.args.event.now) c.step_counted.new.answer c.step_counted.new.self c.step_counted.new.out.items)) c.in_default.is told in
     let is = subst (λ (m : Moment). IsAnswer m (event_of c.args.event.now) c.step_counted.new.answer c.step_counted.new.self c.step_counted.new.out.items) c.at.view_is here in
     let same : c.mesh-mesh.result.now ≡ c.args.at.now.mesh = c.mesh-mesh.ensures.value ∙ answer_mesh c.args.at.now c.step_counted.new.self (event_of c.args.event.now) c.step_counted.new.answer c.step_counted.new.out.items is in
@@ -38,16 +38,16 @@ say_event-requires-clause-in_mesh g c =
 
 pub say_event-requires-clause-echo : goal.say_event-requires-clause-echo
 say_event-requires-clause-echo g c =
-    let told = c.step_counted.ensures.told (ap not c.if-quiet.false) in
+    let told = c.step_counted.ensures.told c.if-not-say.false in
     let here = subst (λ r. OnOk r (IsAnswer c.at.inside.state (event_of c.args.event.now) c.step_counted.new.answer c.step_counted.new.self c.step_counted.new.out.items)) c.in_default.is told in
     let is = subst (λ (m : Moment). IsAnswer m (event_of c.args.event.now) c.step_counted.new.answer c.step_counted.new.self c.step_counted.new.out.items) c.at.view_is here in
     let same : c.mesh-mesh.result.now ≡ c.args.at.now.mesh = c.mesh-mesh.ensures.value ∙ answer_mesh c.args.at.now c.step_counted.new.self (event_of c.args.event.now) c.step_counted.new.answer c.step_counted.new.out.items is in
-    subst (λ (m : Nodes). IfSome c.args.bytes (λ b. IsLineOf m (Does (event_of c.args.event.now)) b.now)) (sym same) (c.requires.echo c.if-quiet.false)
+    subst (λ (m : Nodes). IfSome c.args.bytes (λ b. IsLineOf m (Does (event_of c.args.event.now)) b.now)) (sym same) (c.requires.echo c.if-not-say.false)
 
 pub returns-clause-comes : goal.returns-clause-comes
 returns-clause-comes g c =
     let e : Event = event_of c.args.event.now in
-    let told = c.step_counted.ensures.told (ap not c.if-quiet.false) in
+    let told = c.step_counted.ensures.told c.if-not-say.false in
     let here = subst (λ r. OnOk r (IsAnswer c.at.inside.state e c.step_counted.new.answer c.step_counted.new.self c.step_counted.new.out.items)) c.in_default.is told in
     let is = subst (λ (m : Moment). IsAnswer m e c.step_counted.new.answer c.step_counted.new.self c.step_counted.new.out.items) c.at.view_is here in
     let same : c.mesh-mesh.result.now ≡ c.args.at.now.mesh = c.mesh-mesh.ensures.value ∙ answer_mesh c.args.at.now c.step_counted.new.self e c.step_counted.new.answer c.step_counted.new.out.items is in
@@ -58,14 +58,14 @@ returns-clause-comes g c =
     let text : Nodes → List ℕ = λ k. outcome_lines k e (outcome_in k (node_of e) w d packet) in
     let before = g.O.Sink.held c.args.out.now in
     let now = g.O.Sink.held c.say_event.new.out in
-    let run : Result (Unit {0}) EventStop → Type 0 = λ r. IsLineRun c.args.quiet c.args.at.now (line_outcome_at c.args.at.now e) n before now (answer_of c.args.event.now r) in
+    let run : Result (Unit {0}) EventStop → Type 0 = λ r. IsLineRun c.args.say c.args.at.now (line_outcome_at c.args.at.now e) n before now (answer_of c.args.event.now r) in
     elim c.match-say_event.branch [
       | in-Ok b ↦
           subst run (sym b.result-is)
-          (rw c.if-quiet.false (answer_goes false c.args.at.now n e d packet _ _ is (subst (λ k. Appends before now (text k)) same (b.in-Ok.ensures.text w))))
+          (rw c.if-not-say.false (answer_goes true c.args.at.now n e d packet _ _ is (subst (λ k. Appends before now (text k)) same (b.in-Ok.ensures.text w))))
       | in-Err-say_event b ↦
           subst run (sym b.result-is)
-          (rw c.if-quiet.false (answer_front false c.args.at.now n e d packet _ _ is (subst (λ k. AppendsPrefix before now (text k)) same (b.in-Err-say_event.ensures.text w))))
+          (rw c.if-not-say.false (answer_front true c.args.at.now n e d packet _ _ is (subst (λ k. AppendsPrefix before now (text k)) same (b.in-Err-say_event.ensures.text w))))
     ]
 
 pub returns-in-Err-clause-comes : goal.returns-in-Err-clause-comes
@@ -74,11 +74,11 @@ returns-in-Err-clause-comes g c =
     let e : EventGiven = c.args.event.now in
     let same : c.step_counted.new.self ≡ m = c.in-Err.ensures.same ∙ c.at.view_is in
     let refused : IsRefusal m (event_of e) c.in-Err.error = subst (λ (k : Moment). IsRefusal k (event_of e) c.in-Err.error) c.at.view_is c.in-Err.ensures.refused in
-    rw c.event_stop_of.ensures (refusal_stops c.args.quiet m c.step_counted.new.self e c.in-Err.error _ c.requires.printable.1 refused same)
+    rw c.event_stop_of.ensures (refusal_stops c.args.say m c.step_counted.new.self e c.in-Err.error _ c.requires.printable.1 refused same)
 
 pub returns-clause-way : goal.returns-clause-way
 returns-clause-way g c =
-    let told = c.step_counted.ensures.told (ap not c.if-quiet.false) in
+    let told = c.step_counted.ensures.told c.if-not-say.false in
     let here = subst (λ r. OnOk r (IsAnswer c.at.inside.state (event_of c.args.event.now) c.step_counted.new.answer c.step_counted.new.self c.step_counted.new.out.items)) c.in_default.is told in
     let is = subst (λ (m : Moment). IsAnswer m (event_of c.args.event.now) c.step_counted.new.answer c.step_counted.new.self c.step_counted.new.out.items) c.at.view_is here in
     on_err c.match-say_event.result (reached_one c.args.at.now c.step_counted.new.self (event_of c.args.event.now) [] is.moment)

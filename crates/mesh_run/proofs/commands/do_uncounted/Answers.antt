@@ -8,7 +8,7 @@ use Rattle.mesh_run.proofs.commands.do_uncounted.Goals as goal
 pub returns-in-Err-clause-comes : goal.returns-in-Err-clause-comes
 returns-in-Err-clause-comes g c =
     let begun_is : c.begin.new.self ≡ with_world c.args.at.now = search rules in
-    rw c.in-Step.is (does_stops c.args.quiet c.args.at.now c.begin.new.self c.do_events-ran.new.task.at.now _ (event_of c.in-Step.event) (g.O.Sink.held c.args.out.now) (g.O.Sink.held c.do_events-ran.new.out) c.in-Err.stop
+    rw c.in-Step.is (does_stops c.args.say c.args.at.now c.begin.new.self c.do_events-ran.new.task.at.now _ (event_of c.in-Step.event) (g.O.Sink.held c.args.out.now) (g.O.Sink.held c.do_events-ran.new.out) c.in-Err.stop
     begun_is (search rules) c.in-Err.ensures.ran)
 
 pub returns-in-Err-clause-way : goal.returns-in-Err-clause-way
@@ -19,5 +19,5 @@ returns-in-Err-clause-way g c =
 pub returns-clause-comes : goal.returns-clause-comes
 returns-clause-comes g c =
     let begun_is : c.begin.new.self ≡ with_world c.args.at.now = search rules in
-    rw c.in-Step.is (does_goes c.args.quiet c.args.at.now c.begin.new.self c.do_events-ran.new.task.at.now _ (event_of c.in-Step.event) (g.O.Sink.held c.args.out.now) (g.O.Sink.held c.do_events-ran.new.out)
+    rw c.in-Step.is (does_goes c.args.say c.args.at.now c.begin.new.self c.do_events-ran.new.task.at.now _ (event_of c.in-Step.event) (g.O.Sink.held c.args.out.now) (g.O.Sink.held c.do_events-ran.new.out)
     begun_is (search rules) c.in_default-ran.ensures.ran)

@@ -18,23 +18,23 @@ pub returns-in-Ok-clause-comes : goal.returns-in-Ok-clause-comes
 returns-in-Ok-clause-comes g c =
     let e : line_of c.args.at.now.mesh (is_some c.args.at.now.world) c.args.bytes.now ≡ Ok (accepted_of c.in-Ok.line) = search rules in
     MatchResult-weaker c.do_line.result c.do_line.ensures.comes
-    (λ _ p. goes_accepted c.args.quiet c.args.at.now c.do_line.new.at c.args.bytes.now (accepted_of c.in-Ok.line) _ _ e p)
-    (λ stop p. stops_accepted c.args.quiet c.args.at.now c.do_line.new.at c.args.bytes.now (accepted_of c.in-Ok.line) _ _ stop e p)
+    (λ _ p. goes_accepted c.args.say c.args.at.now c.do_line.new.at c.args.bytes.now (accepted_of c.in-Ok.line) _ _ e p)
+    (λ stop p. stops_accepted c.args.say c.args.at.now c.do_line.new.at c.args.bytes.now (accepted_of c.in-Ok.line) _ _ stop e p)
 
 pub returns-in-Ok-clause-lines : goal.returns-in-Ok-clause-lines
 returns-in-Ok-clause-lines g c =
     let e : line_of c.args.at.now.mesh (is_some c.args.at.now.world) c.args.bytes.now ≡ Ok (accepted_of c.in-Ok.line) = search rules in
-    done_grows c.args.quiet c.args.at.now c.do_line.new.at c.args.bytes.now (accepted_of c.in-Ok.line) _ _ c.do_line.result (λ g. g.lines) (subst (λ (m : Moment). length m.mesh ≤ MOST_NODES) c.at.view_is c.mesh.ensures.is_mesh.few) e c.do_line.ensures.comes
+    done_grows c.args.say c.args.at.now c.do_line.new.at c.args.bytes.now (accepted_of c.in-Ok.line) _ _ c.do_line.result (λ g. g.lines) (subst (λ (m : Moment). length m.mesh ≤ MOST_NODES) c.at.view_is c.mesh.ensures.is_mesh.few) e c.do_line.ensures.comes
 
 pub returns-in-Ok-clause-grown : goal.returns-in-Ok-clause-grown
 returns-in-Ok-clause-grown g c =
     let e : line_of c.args.at.now.mesh (is_some c.args.at.now.world) c.args.bytes.now ≡ Ok (accepted_of c.in-Ok.line) = search rules in
-    done_grows c.args.quiet c.args.at.now c.do_line.new.at c.args.bytes.now (accepted_of c.in-Ok.line) _ _ c.do_line.result (λ g. g.grown (subst IsSized c.at.view_is c.started.ensures.sized)) (subst (λ (m : Moment). length m.mesh ≤ MOST_NODES) c.at.view_is c.mesh.ensures.is_mesh.few) e c.do_line.ensures.comes
+    done_grows c.args.say c.args.at.now c.do_line.new.at c.args.bytes.now (accepted_of c.in-Ok.line) _ _ c.do_line.result (λ g. g.grown (subst IsSized c.at.view_is c.started.ensures.sized)) (subst (λ (m : Moment). length m.mesh ≤ MOST_NODES) c.at.view_is c.mesh.ensures.is_mesh.few) e c.do_line.ensures.comes
 
 pub returns-in-Ok-clause-steps : goal.returns-in-Ok-clause-steps
 returns-in-Ok-clause-steps g c =
     let e : line_of c.args.at.now.mesh (is_some c.args.at.now.world) c.args.bytes.now ≡ Ok (accepted_of c.in-Ok.line) = search rules in
-    done_grows c.args.quiet c.args.at.now c.do_line.new.at c.args.bytes.now (accepted_of c.in-Ok.line) _ _ c.do_line.result (λ g. g.steps) (subst (λ (m : Moment). length m.mesh ≤ MOST_NODES) c.at.view_is c.mesh.ensures.is_mesh.few) e c.do_line.ensures.comes
+    done_grows c.args.say c.args.at.now c.do_line.new.at c.args.bytes.now (accepted_of c.in-Ok.line) _ _ c.do_line.result (λ g. g.steps) (subst (λ (m : Moment). length m.mesh ≤ MOST_NODES) c.at.view_is c.mesh.ensures.is_mesh.few) e c.do_line.ensures.comes
 
 pub returns-in-Err-clause-way : goal.returns-in-Err-clause-way
 returns-in-Err-clause-way g c = inl refl

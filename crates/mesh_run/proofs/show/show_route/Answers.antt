@@ -1,4 +1,4 @@
-use Rattle.std.proofs.Common.{◌≡◌, ◌∙◌, false, refl, ap}
+use Rattle.std.proofs.Common.{◌≡◌, ◌∙◌, true, refl, ap}
 use Rattle.std.proofs.lemmas.Result.{err_from_is_err_and}
 use Rattle.mesh_base.specs.Meshes.{Nodes}
 use Rattle.mesh_model.specs.Worlds.{World}
@@ -15,7 +15,7 @@ pub returns-in_err-put_echo-clause-text : goal.returns-in_err-put_echo-clause-te
 returns-in_err-put_echo-clause-text g c =
     let p = err_from_is_err_and c.from_residual.result c.from_residual.ensures.1 in
     let words = ap line c.requires.echo.1 in
-    rw p.1 (shows_front false _ _ _ _ _ refl words c.in_err-put_echo.ensures.text)
+    rw p.1 (shows_front true _ _ _ _ _ refl words c.in_err-put_echo.ensures.text)
 
 pub returns-clause-text : goal.returns-clause-text
 returns-clause-text g c =
@@ -24,4 +24,4 @@ returns-clause-text g c =
     let end : end_text c.mesh.result.now (end_in c.follow.result) ≡ end_text c.args.at.now.mesh (route_end (world_of c.args.at.now) c.args.node c.args.dest) =
     ap (λ (m : Nodes). end_text m (end_in c.follow.result)) again ∙ ap (end_text c.args.at.now.mesh) c.follow.ensures.value
     ∙ ap (λ (w : World). end_text c.args.at.now.mesh (route_end w c.args.node c.args.dest)) (ap (λ (w : WorldSeen). w.world) c.world-world.ensures ∙ (c.in-Some.ensures.world ∙ ap (λ (m : Moment). world_of m) c.at.view_is)) in
-    shows_whole false _ _ _ _ _ (g.O.Sink.held c.put_echo.new.out) _ c.put_end.result refl words end c.in_ok-put_echo.ensures.text c.put_end.ensures.text
+    shows_whole true _ _ _ _ _ (g.O.Sink.held c.put_echo.new.out) _ c.put_end.result refl words end c.in_ok-put_echo.ensures.text c.put_end.ensures.text
