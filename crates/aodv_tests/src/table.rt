@@ -139,6 +139,16 @@ fn names_the_later<T: Table>(table: &mut T) -> Result<bool, NoMemory>
     Ok(by_two.has(1) && by_two.has(9) && table.through(3).is_empty() && matches!(raised, Err(9)))
 }
 
+// Whether a table whose only valid entry by node 2 is that of node 1, with the greatest number, names
+// node 1.
+fn names_the_only<T: Table>(table: &mut T) -> Result<bool, NoMemory>
+    requires { T.nodes table.old ≡ 10 }
+{
+    table.make_room(1)?;
+    table.put(1, Some(entry(4294967295, Known::Kno, Flag::Val, 2, 2)));
+    Ok(matches!(table.dests_via(2, &mut Dests::new()), Err(1)))
+}
+
 fn both_give(alloc: Global, case: &Case) -> Result<bool, NoMemory> {
     Ok(
         gives(&mut PlainTable::new(alloc, 10), case)?
@@ -158,5 +168,7 @@ fn an_entry_gives_way_to_a_better_one(rt: HostRuntime) -> Result<(), Fail> {
 fn a_number_that_cannot_be_raised_is_named(rt: HostRuntime) -> Result<(), Fail> {
     assert!(rt; names_the_later(&mut PlainTable::new(rt.alloc(), 10))?);
     assert!(rt; names_the_later(&mut RowTable::new(rt.alloc(), 10)?)?);
+    assert!(rt; names_the_only(&mut PlainTable::new(rt.alloc(), 10))?);
+    assert!(rt; names_the_only(&mut RowTable::new(rt.alloc(), 10)?)?);
     Ok(())
 }
