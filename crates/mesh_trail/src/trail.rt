@@ -17,7 +17,7 @@ use mesh_world::{StepError, Steps, World};
 use std::alloc::Global;
 use std::marker::Model;
 
-/// A world, and the walk over which each of its valid routes came. As a `Steps` it is its world.
+/// A world, and an honest walk for each of its valid routes. As a `Steps` it is its world.
 ///
 /// A node takes as much memory for walks as its routes have hops, and a copy in flight none beside
 /// that of its cast.
@@ -40,7 +40,7 @@ impl Model for Trail {
 }
 
 impl Trail {
-    /// The walk over which the valid route of a node to `dest` came: the nodes from `dest` to the
+    /// An honest walk for the valid route of a node to `dest`: the nodes from `dest` to the
     /// node, one more than the route has hops. Each is linked to the next at some time, though
     /// maybe not now; and all after the first are different. None where the node has no valid
     /// route to `dest`.

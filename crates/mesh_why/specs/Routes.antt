@@ -1,4 +1,4 @@
--- The route that two words ask for, the walk over which it came, and its line.
+-- The route that two words ask for, an honest walk for it, and its line.
 use Rattle.std.specs.Prelude.{◌≡◌, ℕ, ◌-◌, List, [], ◌∷◌, ◌++◌, length, codes, Option, Some, None, option_map, option_and_then}
 use Rattle.std.specs.List.{flat_map}
 use Rattle.mesh_base.specs.Addresses.{address_of}

@@ -1,4 +1,4 @@
-//! The walk over which a route came, and its line.
+//! An honest walk for a route, and its line.
 ghost use Rattle.std.specs.Prelude.{◌≡◌, ◌≤◌, ◌<◌, ◌+◌, ◌*◌, ◌++◌, length, option_map, IfSome};
 ghost use Rattle.std.specs.List.{All};
 ghost use Rattle.mesh_io.specs.Cause.{HasCause};

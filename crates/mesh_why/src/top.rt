@@ -64,7 +64,7 @@ fn answer<I: Source, O: Sink>(alloc: Global, asked: Asked, input: &mut I, out: &
 }
 
 /// Runs the schedule that the source gives, in a world of its own where all nodes run the protocol
-/// as AWN has it, and says over what links a node's route came. The words are two addresses: the
+/// as AWN has it, and prints an honest walk for a node's route. The words are two addresses: the
 /// node's, and that of the route's destination.
 ///
 /// The last line of the run's text is written; and where the run is done a line `walk H` with the
