@@ -10,3 +10,4 @@ pub mod Following
 pub mod Ahead
 pub mod Staying
 pub mod Readers
+pub mod Lending

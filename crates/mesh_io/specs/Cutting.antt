@@ -1,7 +1,8 @@
 -- What is seen of a source that is cut into lines, and what it answers.
-use Rattle.std.specs.Prelude.{ℕ, ◌+◌, ◌-◌, ◌≡◌, ◌≤◌, ◌⊎◌, Bool, true, false, if◌then◌else◌, List, [], length, take, drop, Option, Some, None, Result, Ok, Err, ⊤}
-use Rattle.std.specs.Borrow.{MutBor}
-use Rattle.std.specs.Io.KnownBytes.{prepend_known}
+use Rattle.std.specs.Prelude.{ℕ, ◌+◌, ◌-◌, ◌≡◌, ◌≤◌, ◌<◌, ◌⊎◌, Bool, true, false, if◌then◌else◌, List, [], length, take, drop, Option, Some, None, IfSome, Result, Ok, Err, IsErrOf, ⊤}
+use Rattle.std.specs.Borrow.{Bor, MutBor}
+use Rattle.std.specs.Io.KnownBytes.{prepend_known, IsAtEnd}
+use Rattle.mesh_io.specs.Cause.{HasReadCause}
 use Rattle.mesh_io.specs.NextLines.{FirstLine, first_line, line_size, Line, TooLong, TooMuch, next_of}
 use Rattle.mesh_io.specs.Decisions.{decides}
 use Rattle.mesh_io.specs.declared.limits.Limits.{Limits}
@@ -109,3 +110,37 @@ Tells most given bytes (Err error.TooMuch) line after left =
     (next_of most given bytes ≡ TooMuch) × (after ≡ given) × (left ≡ Some bytes)
 Tells most given bytes (Err error.TooLong) line after left =
     (next_of most given bytes ≡ TooLong) × (after ≡ given) × (left ≡ Some bytes)
+
+-- whether a line was lent, and which
+abbrev pub found_in : Result (Option (Bor (List ℕ))) LineError → Result Bool LineError
+found_in (Ok (Some line)) = Ok true
+found_in (Ok None) = Ok false
+found_in (Err error) = Err error
+
+abbrev pub shown_in : Result (Option (Bor (List ℕ))) LineError → List ℕ
+shown_in (Ok (Some line)) = line.now
+shown_in (Ok None) = []
+shown_in (Err error) = []
+
+-- what a call that lends the next line has answered, and what it has done once the line isn't lent
+-- any more: each fact is one of `advance`
+pub record NextTells {S : Type 0} {room : ℕ} {G : Ghosts S} (most : Limits)
+    (left : S → Option (List ℕ)) (faults : S → ℕ) (old : Cutter S room G)
+    (result : Result (Option (Bor (List ℕ))) LineError) (now : Cutter S room G) : Type 0 where
+  pub same : (source_in now).ghost_name ≡ (source_in old).ghost_name
+  pub limits : limits_in now ≡ most
+  pub told : IfSome (ahead_in left old)
+      (λ bytes. Tells most (given_in old) bytes (found_in result) (shown_in result)
+      (given_in now) (ahead_in left now))
+  pub unread : decides_in old ≡ true → (source_in now).now ≡ (source_in old).now
+  pub stays : IfSome (refusal_in old) (λ refusal. (found_in result ≡ Err refusal) × (now ≡ old))
+  pub kept : Refuses (found_in result) (refusal_in now)
+  pub unasked : decides_in old ≡ true → ¬ IsErrOf (found_in result) error.ReadFault
+  pub short : found_in result ≡ Ok true → length (shown_in result) ≤ most.line
+  pub counted : found_in result ≡ Ok true
+      → IsCounted (length (shown_in result)) (given_in old) (given_in now) (has_ended_in now)
+  pub grows : found_in result ≡ Ok true → given_in old < given_in now
+  pub few : given_in now ≤ most.input
+  pub end : found_in result ≡ Ok false → IsAtEnd (left (source_in now).now)
+  pub pending : IsErrOf (found_in result) error.ReadFault → HasNoLf (pending_in now)
+  pub cause : HasReadCause (faults_in faults old) (faults_in faults now) (found_in result)

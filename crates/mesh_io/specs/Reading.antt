@@ -1,10 +1,12 @@
 -- What is seen of a reader of lines.
-use Rattle.std.specs.Prelude.{ℕ, ◌≡◌, Bool, true, false, List, [], Option, Some, None, IfSome, Result, Ok, Err}
-use Rattle.std.specs.Borrow.{Bor, MutBor}
+use Rattle.std.specs.Prelude.{ℕ, Bool, List, Option}
+use Rattle.std.specs.Borrow.{MutBor}
 use Rattle.mesh_io.specs.NextLines.{schedule_limits}
 use Rattle.mesh_io.specs.Decisions.{decides}
-use Rattle.mesh_io.specs.Cutting.{line_in, pending_in, ahead_in, faults_in, refusal_in, Tells}
+use Rattle.mesh_io.specs.Cutting.{line_in, pending_in, ahead_in, faults_in, refusal_in}
 use Rattle.mesh_io.specs.declared.source.Source.{Ghosts}
+use Rattle.mesh_io.specs.declared.cutter.Cutter.{Cutter}
+use Rattle.mesh_io.specs.declared.cutter.TheConstants.{SCHEDULE_ROOM}
 use Rattle.mesh_io.specs.declared.lines.Lines.{Lines}
 use Rattle.mesh_io.specs.declared.line_error.LineError.{LineError}
 
@@ -45,21 +47,6 @@ ahead_of left lines = ahead_in left lines.cutter
 abbrev pub faults_of : {S : Type 0} {G : Ghosts S} → (S → ℕ) → Lines S G → ℕ
 faults_of faults lines = faults_in faults lines.cutter
 
--- whether a line was found, and which
-abbrev pub found_in : Result (Option (Bor (List ℕ))) LineError → Result Bool LineError
-found_in (Ok (Some line)) = Ok true
-found_in (Ok None) = Ok false
-found_in (Err error) = Err error
-
-abbrev pub shown_in : Result (Option (Bor (List ℕ))) LineError → List ℕ
-shown_in (Ok (Some line)) = line.now
-shown_in (Ok None) = []
-shown_in (Err error) = []
-
--- what a call in one has answered, once the line isn't lent any more
-pub record NextTells {S : Type 0} {G : Ghosts S} (left : S → Option (List ℕ)) (old : Lines S G)
-    (result : Result (Option (Bor (List ℕ))) LineError) (now : Lines S G) : Type 0 where
-  pub same : (source_of now).ghost_name ≡ (source_of old).ghost_name
-  pub told : IfSome (ahead_of left old)
-      (λ bytes. Tells schedule_limits (given_of old) bytes (found_in result) (shown_in result)
-      (given_of now) (ahead_of left now))
+-- what cuts the source
+abbrev pub cutter_of : {S : Type 0} {G : Ghosts S} → Lines S G → Cutter S SCHEDULE_ROOM G
+cutter_of lines = lines.cutter

@@ -195,3 +195,26 @@ impl<'s, S: Source, const ROOM: usize> Cutter<'s, S, ROOM> {
         }
     }
 }
+
+impl<'s, S: Source, const ROOM: usize> Cutter<'s, S, ROOM> {
+    ghost use Rattle.std.specs.Borrow.{sem};
+    ghost use Rattle.std.specs.Io.BufRead.{Rests};
+    ghost use mir.Syntax.{named};
+    ghost use Rattle.mesh_io.specs.contracts.cutter.Cutter.{the_row};
+    ghost use Rattle.mesh_io.specs.Cutting.{limits_in, NextTells};
+
+    /// The next line without its LF, in one call: None is the end of the input. Where a caller
+    /// states what it makes of a line, `advance` and `line` serve better: the line lent here is the
+    /// reader's own, so nothing is known of the reader until it is given back.
+    pub fn next(&mut self) -> Result<Option<&[u8]>, LineError>
+        ensures* after { sem 𝓛 (Rests
+            (the_row (record { mir = named 0; lft = [] }) S.row ROOM.row S.Source) self.entry
+            (λ now. NextTells (limits_in self.old) S.left S.faults self.old result now)) }
+    {
+        match self.advance() {
+            Ok(true) => Ok(Some(self.line())),
+            Ok(false) => Ok(None),
+            Err(error) => Err(error),
+        }
+    }
+}

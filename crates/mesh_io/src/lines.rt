@@ -96,14 +96,16 @@ impl<'s, S: Source> Lines<'s, S> {
     ghost use Rattle.std.specs.Io.BufRead.{Rests};
     ghost use mir.Syntax.{named};
     ghost use Rattle.mesh_io.specs.contracts.lines.Lines.{the_row};
-    ghost use Rattle.mesh_io.specs.Reading.{NextTells};
+    ghost use Rattle.mesh_io.specs.Reading.{cutter_of};
+    ghost use Rattle.mesh_io.specs.Cutting.{NextTells};
 
     /// The next line without its LF, in one call: None is the end of the input. Where a caller
     /// states what it makes of a line, `advance` and `line` serve better: the line lent here is the
     /// reader's own, so nothing is known of the reader until it is given back.
     pub fn next(&mut self) -> Result<Option<&[u8]>, LineError>
         ensures* after { sem 𝓛 (Rests (the_row (record { mir = named 0; lft = [] }) S.row S.Source)
-            self.entry (λ now. NextTells S.left self.old result now)) }
+            self.entry (λ now. NextTells schedule_limits S.left S.faults
+            (cutter_of self.old) result (cutter_of now))) }
     {
         if self.advance()? {
             Ok(Some(self.line()))
