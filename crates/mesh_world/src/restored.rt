@@ -16,7 +16,7 @@ use thiserror::Error;
 /// A part that isn't as in a world.
 #[derive(Clone, Copy, Debug, PartialEq, Eq, Error)]
 pub enum Part {
-    /// The state of this node by itself: its own number, its table, or its store.
+    /// The state of this node, by its table alone: what else it has is in order once it is read.
     #[error("a node's state is out of order")]
     Node { node: usize },
     /// An item in an inbox, or a copy in flight: no node of the mesh writes such a packet.
