@@ -11,5 +11,8 @@ pub mod Clean
 pub mod Tellings
 pub mod TableTexts
 pub mod NamedData
+pub mod DataInMesh
+pub mod DatumLines
+pub mod NamedRuns
 pub mod Seams
 pub mod StepLaws

@@ -13,7 +13,7 @@ use Rattle.aodv_model.specs.Fullness.{send_full, ask_full}
 use Rattle.aodv_model.proofs.Entries.{if_case}
 use Rattle.mesh_model.specs.Worlds as worlds
 use Rattle.mesh_model.specs.Worlds.{World, Node, Copy, Event, Give, Turn, Send, Ask, Link, Cut, Deliver, Lose, Double, Outcome, Idle, Next, Sent, range, copies, done_by, are_linked, find_copy, send_of, ask_of, unless_full, at_node, at_copy, step}
-use Rattle.mesh_model.specs.Accounts.{any, delivered_at, delivered_data, dropped_data}
+use Rattle.mesh_model.specs.Accounts.{Test, any, delivered_at, delivered_data, dropped_data}
 use Rattle.mesh_model.specs.Choices.{pick, IsChoice}
 use Rattle.mesh_model.specs.Routes.{route_end}
 use Rattle.mesh_model.proofs.Chosen.{OnSome, pick_is_enabled}
@@ -29,76 +29,77 @@ use Rattle.mesh_text.specs.Tables.{node_text_in, end_text, flight_text}
 use Rattle.mesh_text.specs.Ranges.{IsEventLine, IsInRange}
 use Rattle.mesh_text.specs.Auto as auto
 use Rattle.mesh_text.specs.Text.{LineOutcome, On, Refused, Full, outcome_by_events, outcome_of_auto, outcome_of_line, outcome_of_read, outcome_of_piece, RunText, goes_on, text_from, text_of_input}
+use Rattle.mesh_text.specs.Accounts.{lines_with}
 use Rattle.mesh_text.specs.Laws.{DataAreNamed}
 use Rattle.mesh_text.proofs.InRange.{Allowed, line_allowed}
 use Rattle.mesh_text.proofs.Picks.{each_chosen}
 use Rattle.mesh_text.proofs.Moments.{IsKept, IsKeptCame, opening_kept, piece_kept}
 use Rattle.mesh_text.proofs.RunLaws.{NotFull}
 use Rattle.mesh_text.proofs.Clean.{is_clean, clean_append, decimal_clean, dotted_clean, clean_body}
-use Rattle.mesh_text.proofs.Tellings.{deliveries, drops, Tells, tells_none, tells_append, silent_append, silent_before, silent_after, silent_line, happening_told}
+use Rattle.mesh_text.proofs.Tellings.{Naming, all_named, deliveries_in, drops_in, Tells, tells_none, tells_append, silent_append, silent_before, silent_after, silent_line, happening_told}
 use Rattle.mesh_text.proofs.TableTexts.{node_in_silent, end_silent, flight_silent}
 
 -- ---- only turns deliver
 
 NoDelivery : Outcome → Type 0
-NoDelivery o = (x : ℕ) → delivered_at any x o ≡ 0
+NoDelivery o = (t : Test) (x : ℕ) → delivered_at t x o ≡ 0
 
 node_none : (f : Core → List Item → Outcome) (o : Option Node) → ((core : Core) (queue : List Item) → NoDelivery (f core queue)) → NoDelivery (at_node o f)
 unfolding NoDelivery
-node_none f None each = λ x. refl
+node_none f None each = λ t x. refl
 node_none f (Some n) each = each n.core n.queue
 
 copy_none : (f : Copy → Outcome) (o : Option Copy) → ((c : Copy) → NoDelivery (f c)) → NoDelivery (at_copy o f)
 unfolding NoDelivery
-copy_none f None each = λ x. refl
+copy_none f None each = λ t x. refl
 copy_none f (Some c) each = each c
 
 unless_none : (x : ℕ) (full : Option Counter) (o : Outcome) → NoDelivery o → NoDelivery (unless_full x full o)
 unfolding NoDelivery
 unless_none x None o h = h
-unless_none x (Some f) o h = λ y. refl
+unless_none x (Some f) o h = λ t y. refl
 
 send_none : (w : World) (x d : ℕ) (core : Core) (queue : List Item) → NoDelivery (send_of w x d core queue)
 unfolding NoDelivery
 send_none w x d core queue =
     let did : Reaction = send core (range w x) d in
     let goes : Outcome = Next (done_by w x did queue) (Sent did.effect (copies w x (did.effect).cast)) in
-    if_case NoDelivery (may_send core d) (unless_full x (send_full core (range w x) d) goes) Idle (λ _. unless_none x (send_full core (range w x) d) goes (λ y. refl)) (λ _ y. refl)
+    if_case NoDelivery (may_send core d) (unless_full x (send_full core (range w x) d) goes) Idle (λ _. unless_none x (send_full core (range w x) d) goes (λ t y. refl)) (λ _ t y. refl)
 
 ask_none : (w : World) (x d : ℕ) (core : Core) (queue : List Item) → NoDelivery (ask_of w x d core queue)
 unfolding NoDelivery
 ask_none w x d core queue =
     let did : Reaction = ask core d in
     let goes : Outcome = Next (done_by w x did queue) (Sent did.effect (copies w x (did.effect).cast)) in
-    if_case NoDelivery (may_ask core d) (unless_full x (ask_full core) goes) Idle (λ _. unless_none x (ask_full core) goes (λ y. refl)) (λ _ y. refl)
+    if_case NoDelivery (may_ask core d) (unless_full x (ask_full core) goes) Idle (λ _. unless_none x (ask_full core) goes (λ t y. refl)) (λ _ t y. refl)
 
 -- what an event delivers, at the node at which it is
-delivered_here : (w : World) (e : Event) → delivered_at any (node_of e) (step w e) ≡ delivered_data any e (step w e)
+pub delivered_here : (t : Test) (w : World) (e : Event) → delivered_at t (node_of e) (step w e) ≡ delivered_data t e (step w e)
 unfolding step NoDelivery
-delivered_here w (Give x d b) = node_none _ (slice_get w.nodes x) (λ core queue y. refl) x
-delivered_here w (Turn x) = refl
-delivered_here w (Send x d) = node_none _ (slice_get w.nodes x) (send_none w x d) x
-delivered_here w (Ask x d) = node_none _ (slice_get w.nodes x) (ask_none w x d) x
-delivered_here w (Link a b) = if_case NoDelivery (are_linked w.links a b) Idle _ (λ _ y. refl) (λ _ y. refl) 0
-delivered_here w (Cut a b) = if_case NoDelivery (are_linked w.links a b) _ Idle (λ _ y. refl) (λ _ y. refl) 0
-delivered_here w (Deliver id) = copy_none _ (find_copy w.flying id) (λ c y. refl) 0
-delivered_here w (Lose id) = copy_none _ (find_copy w.flying id) (λ c y. refl) 0
-delivered_here w (Double id) = copy_none _ (find_copy w.flying id) (λ c y. refl) 0
+delivered_here t w (Give x d b) = node_none _ (slice_get w.nodes x) (λ core queue t y. refl) t x
+delivered_here t w (Turn x) = refl
+delivered_here t w (Send x d) = node_none _ (slice_get w.nodes x) (send_none w x d) t x
+delivered_here t w (Ask x d) = node_none _ (slice_get w.nodes x) (ask_none w x d) t x
+delivered_here t w (Link a b) = if_case NoDelivery (are_linked w.links a b) Idle _ (λ _ t y. refl) (λ _ t y. refl) t 0
+delivered_here t w (Cut a b) = if_case NoDelivery (are_linked w.links a b) _ Idle (λ _ t y. refl) (λ _ t y. refl) t 0
+delivered_here t w (Deliver id) = copy_none _ (find_copy w.flying id) (λ c t y. refl) t 0
+delivered_here t w (Lose id) = copy_none _ (find_copy w.flying id) (λ c t y. refl) t 0
+delivered_here t w (Double id) = copy_none _ (find_copy w.flying id) (λ c t y. refl) t 0
 
 -- ---- an event
 
 -- the words of an event that names no datum with an LF
-abbrev HasCleanBody : Event → Type 0
+abbrev pub HasCleanBody : Event → Type 0
 HasCleanBody (Give x d body) = is_clean body ≡ true
 HasCleanBody others = Unit {0}
 
-one_word : (a : ℕ) (mesh : Nodes) → is_clean (dotted_decimal (addr_at mesh a)) ≡ true
+pub one_word : (a : ℕ) (mesh : Nodes) → is_clean (dotted_decimal (addr_at mesh a)) ≡ true
 one_word a mesh = dotted_clean (addr_at mesh a)
 
-two_words : (mesh : Nodes) (a b : ℕ) → is_clean (dotted_decimal (addr_at mesh a) ++ 32 ∷ dotted_decimal (addr_at mesh b)) ≡ true
+pub two_words : (mesh : Nodes) (a b : ℕ) → is_clean (dotted_decimal (addr_at mesh a) ++ 32 ∷ dotted_decimal (addr_at mesh b)) ≡ true
 two_words mesh a b = clean_append (dotted_decimal (addr_at mesh a)) (32 ∷ dotted_decimal (addr_at mesh b)) (dotted_clean (addr_at mesh a)) (dotted_clean (addr_at mesh b))
 
-event_silent : (mesh : Nodes) (e : Event) → HasCleanBody e → Tells 0 0 (line (event_words mesh e))
+event_silent : {k : Naming} → (mesh : Nodes) (e : Event) → HasCleanBody e → Tells k 0 0 (line (event_words mesh e))
 unfolding event_words command_text
 event_silent mesh (Give x d body) clean =
     silent_line (event_words mesh (Give x d body))
@@ -112,20 +113,31 @@ event_silent mesh (Deliver id) clean = silent_line (event_words mesh (Deliver id
 event_silent mesh (Lose id) clean = silent_line (event_words mesh (Lose id)) (decimal_clean id) refl refl
 event_silent mesh (Double id) clean = silent_line (event_words mesh (Double id)) (decimal_clean id) refl refl
 
-outcome_told : (mesh : Nodes) (x : ℕ) (e : Event) (o : Outcome) → Tells (delivered_at any x o) (dropped_data any e o) (outcome_text mesh x o)
+outcome_told : {k : Naming} → (mesh : Nodes) (x : ℕ) (e : Event) (o : Outcome) → Tells k (delivered_at (deliveries_in k mesh) x o) (dropped_data (drops_in k mesh) e o) (outcome_text mesh x o)
 outcome_told mesh x e Idle = silent_line (codes "  idle") refl refl refl
 outcome_told mesh x e (worlds.Full y field) = tells_none
 outcome_told mesh x e (Next w happening) = happening_told mesh x happening
+
+-- an event names what it delivers and drops
+pub event_named : {k : Naming} → (m : Moment) (e : Event) → HasCleanBody e
+    → Tells k (delivered_data (deliveries_in k m.mesh) e (outcome_at m e)) (dropped_data (drops_in k m.mesh) e (outcome_at m e)) (outcome_lines m.mesh e (outcome_at m e))
+unfolding outcome_lines
+event_named {k = k} m e clean =
+    let o : Outcome = outcome_at m e in
+    let x : ℕ = dropped_data (drops_in k m.mesh) e o in
+    silent_before (delivered_data (deliveries_in k m.mesh) e o) x (line (event_words m.mesh e)) (outcome_text m.mesh (node_of e) o)
+    (event_silent m.mesh e clean)
+    (subst (λ d. Tells k d x (outcome_text m.mesh (node_of e) o)) (delivered_here (deliveries_in k m.mesh) (world_of m) e) (outcome_told m.mesh (node_of e) e o))
 
 -- from m to n by a text
 record Told (m n : Moment) (text : List ℕ) : Type 0 where
   d : ℕ
   x : ℕ
-  tells : Tells d x text
+  tells : Tells all_named d x text
   delivered : n.sums.delivered ≡ m.sums.delivered + d
   lost : n.sums.lost ≡ m.sums.lost + x
 
-silent_told : (m n : Moment) (text : List ℕ) → Tells 0 0 text → n.sums.delivered ≡ m.sums.delivered → n.sums.lost ≡ m.sums.lost → Told m n text
+silent_told : (m n : Moment) (text : List ℕ) → Tells all_named 0 0 text → n.sums.delivered ≡ m.sums.delivered → n.sums.lost ≡ m.sums.lost → Told m n text
 silent_told m n text tells same lost = record { d = 0; x = 0; tells = tells; delivered = omega arith; lost = omega arith }
 
 told_then : (m n k : Moment) (s t : List ℕ) → Told m n s → Told n k t → Told m k (s ++ t)
@@ -140,18 +152,14 @@ told_then m n k s t first second =
     }
 
 event_told : (m : Moment) (e : Event) → HasCleanBody e → Told m (next_moment m e) (outcome_lines m.mesh e (outcome_at m e))
-unfolding next_moment outcome_lines
-event_told m e clean =
-    let o : Outcome = outcome_at m e in
-    record {
-      d = delivered_data any e o;
-      x = dropped_data any e o;
-      tells = silent_before (delivered_data any e o) (dropped_data any e o) (line (event_words m.mesh e)) (outcome_text m.mesh (node_of e) o)
-          (event_silent m.mesh e clean)
-          (subst (λ d. Tells d (dropped_data any e o) (outcome_text m.mesh (node_of e) o)) (delivered_here (world_of m) e) (outcome_told m.mesh (node_of e) e o));
-      delivered = refl;
-      lost = refl;
-    }
+unfolding next_moment
+event_told m e clean = record {
+  d = delivered_data any e (outcome_at m e);
+  x = dropped_data any e (outcome_at m e);
+  tells = event_named m e clean;
+  delivered = refl;
+  lost = refl;
+}
 
 -- ---- events one after another
 
@@ -191,7 +199,7 @@ picked_clean w = by (pick w) refl
     by None is = tt
     by (Some e) is = choice_clean e (pick_is_enabled w e is).0
 
-chosen_clean : (most : ℕ) (m : Moment) → AllByRecursion HasCleanBody (auto.events_chosen most m)
+pub chosen_clean : (most : ℕ) (m : Moment) → AllByRecursion HasCleanBody (auto.events_chosen most m)
 chosen_clean most m = each_chosen (λ n. Unit {0}) HasCleanBody (λ n _. picked_clean (world_of n)) (λ n e clean _. tt) most m tt
 
 -- ---- a line
@@ -206,10 +214,10 @@ unfolding ToldCame ToldRan
 line_events_told m (auto.Ended text n) is = record { d = is.d; x = is.x; tells = is.tells; delivered = is.delivered; lost = is.lost }
 line_events_told m (auto.Full text n e field) is = tt
 
-auto_told : (m : Moment) (text : List ℕ) (did : ℕ) (r : auto.EventsOutcome) → Tells 0 0 text → ToldRan (with_world m) r → ToldCame m (outcome_of_auto text did r)
+auto_told : (m : Moment) (text : List ℕ) (did : ℕ) (r : auto.EventsOutcome) → Tells all_named 0 0 text → ToldRan (with_world m) r → ToldCame m (outcome_of_auto text did r)
 unfolding ToldCame ToldRan
 auto_told m text did (auto.Ended others n) silent is =
-    let end : Tells 0 0 (auto.auto_end did) = silent_line (codes "auto did " ++ decimal did) (decimal_clean did) refl refl in
+    let end : Tells all_named 0 0 (auto.auto_end did) = silent_line (codes "auto did " ++ decimal did) (decimal_clean did) refl refl in
     record {
       d = is.d;
       x = is.x;
@@ -219,11 +227,11 @@ auto_told m text did (auto.Ended others n) silent is =
     }
 auto_told m text did (auto.Full others n e field) silent is = tt
 
-event_line_clean : (mesh : Nodes) (e : Event) → IsEventLine mesh e → HasCleanBody e
+pub event_line_clean : (mesh : Nodes) (e : Event) → IsEventLine mesh e → HasCleanBody e
 event_line_clean mesh (Give x d body) range = clean_body body range.2.2
 event_line_clean mesh others range = tt
 
-node_words_clean : (address first : ℕ) → is_clean (dotted_decimal address ++ codes " sn " ++ decimal first) ≡ true
+pub node_words_clean : (address first : ℕ) → is_clean (dotted_decimal address ++ codes " sn " ++ decimal first) ≡ true
 node_words_clean address first =
     clean_append (dotted_decimal address ++ codes " sn ") (decimal first) (clean_append (dotted_decimal address) (codes " sn ") (dotted_clean address) refl) (decimal_clean first)
 
@@ -281,6 +289,12 @@ unfolding ToldRun shell.text_from
 text_told m [] is not_full = silent_told m m [] tells_none refl refl
 text_told m (piece ∷ pieces) is not_full =
     goes_told m (outcome_of_piece m piece) (λ n. text_from n pieces) (piece_told m piece is) (piece_kept m piece is) (λ n kept. text_told n pieces kept) not_full
+
+abbrev deliveries : List ℕ → ℕ
+deliveries text = lines_with (codes "  delivered ") text
+
+abbrev drops : List ℕ → ℕ
+drops text = lines_with (codes "  dropped ") text
 
 told_whole : (v : Variant) (n : Moment) (text : List ℕ) → Told (opening v) n text → (deliveries text ≡ n.sums.delivered) × (drops text ≡ n.sums.lost)
 told_whole v n text is =

@@ -9,6 +9,7 @@ use Rattle.mesh_base.specs.declared.events.Variant.{Variant}
 use Rattle.mesh_model.specs.Worlds as worlds
 use Rattle.mesh_model.specs.Worlds.{World, Event, Outcome, Idle, Next, step, after, run, start, first_numbers}
 use Rattle.mesh_model.specs.Places.{IsEvent}
+use Rattle.mesh_model.proofs.AccountSteps.{account}
 use Rattle.mesh_model.proofs.Lists.{each_append}
 use Rattle.mesh_model.proofs.MeshSteps.{run_keeps}
 use Rattle.mesh_model.proofs.Acyclic.{loop_free}
@@ -25,7 +26,7 @@ use Rattle.mesh_text.specs.declared.verdict.Verdict.{Verdict}
 use Rattle.mesh_text.specs.declared.verdict.Verdict.TheVariants.{FullAt}
 use Rattle.mesh_text.specs.Auto.{events_chosen}
 use Rattle.mesh_text.specs.Runs.{events_of_line, events_read, events_of_piece, events_after, events_from, events_of_input, mesh_of_input, world_after}
-use Rattle.mesh_text.specs.Laws.{RunIsRunOfEvents, AllEventsCount, EventsAreOfMesh, RunsAreLoopFree, RunKeepsInvariant}
+use Rattle.mesh_text.specs.Laws.{RunIsRunOfEvents, AllEventsCount, EventsAreOfMesh, RunsAreLoopFree, RunKeepsInvariant, EachDatumIsAccountedFor}
 use Rattle.mesh_text.proofs.InRange.{Allowed, line_allowed}
 use Rattle.mesh_text.proofs.Moments.{IsKept, all_positive, started_kept, UsualList, chosen_usual, IsKeptCame, piece_kept, input_kept, opening_kept}
 
@@ -169,7 +170,7 @@ unfolding Allowed GoesBy
 result_goes m (Ok a) allowed = line_goes m a allowed.1
 result_goes m (Err f) allowed = refl
 
-piece_goes : (m : Moment) (piece : Piece) → IsKept m → GoesBy m (events_of_piece m piece) (outcome_of_piece m piece)
+pub piece_goes : (m : Moment) (piece : Piece) → IsKept m → GoesBy m (events_of_piece m piece) (outcome_of_piece m piece)
 unfolding outcome_of_piece GoesBy
 piece_goes m (Whole line) is = result_goes m (line_of m.mesh (is_some m.world) line) (line_allowed m.mesh (is_some m.world) line is.mesh.few)
 piece_goes m Long is = refl
@@ -181,7 +182,7 @@ piece_goes m Beyond is = refl
 abbrev pub base : Moment → Nodes → World
 base m mesh = unwrap_or m.world (start m.variant (first_numbers mesh))
 
-made_base : (o : Option World) (v w : World) → is_some o ≡ true → unwrap_or o v ≡ unwrap_or o w
+pub made_base : (o : Option World) (v w : World) → is_some o ≡ true → unwrap_or o v ≡ unwrap_or o w
 made_base None v w made = absurd (let P : ⊥ = cc in P)
 made_base (Some x) v w made = refl
 
@@ -303,11 +304,20 @@ each_take P zero es all = tt
 each_take P (suc k) [] all = tt
 each_take P (suc k) (e ∷ es) all = (all.0, each_take P k es all.1)
 
+-- the first k events of an input are of its mesh
+first_events : (v : Variant) (input : List ℕ) (k : ℕ) → AllByRecursion (IsEvent (length (first_numbers (mesh_of_input v input)))) (take k (events_of_input v input))
+first_events v input k =
+    let mesh : Nodes = mesh_of_input v input in
+    subst (λ n. AllByRecursion (IsEvent n) (take k (events_of_input v input))) (sym (length-map mesh (λ p. p.1)))
+    (each_take (IsEvent (length mesh)) k (events_of_input v input) (events_are_of_mesh v input))
+
 pub run_keeps_invariant : RunKeepsInvariant
 run_keeps_invariant v input k =
     let mesh : Nodes = mesh_of_input v input in
-    let size : length (first_numbers mesh) ≡ length mesh = length-map mesh (λ p. p.1) in
-    let events : AllByRecursion (IsEvent (length (first_numbers mesh))) (take k (events_of_input v input)) =
-    subst (λ n. AllByRecursion (IsEvent n) (take k (events_of_input v input))) (sym size)
-    (each_take (IsEvent (length mesh)) k (events_of_input v input) (events_are_of_mesh v input)) in
-    (run_keeps v (first_numbers mesh) (take k (events_of_input v input)) (all_positive mesh (input_kept v input).mesh) events).0
+    (run_keeps v (first_numbers mesh) (take k (events_of_input v input)) (all_positive mesh (input_kept v input).mesh) (first_events v input k)).0
+
+pub each_datum_is_accounted_for : EachDatumIsAccountedFor
+each_datum_is_accounted_for v input t k =
+    let mesh : Nodes = mesh_of_input v input in
+    let sums = account t v (first_numbers mesh) (take k (events_of_input v input)) (all_positive mesh (input_kept v input).mesh) (first_events v input k) in
+    omega arith

@@ -20,19 +20,19 @@ use Rattle.mesh_text.specs.Lines.{name_of, hex}
 use Rattle.mesh_text.specs.Effects.{set_text}
 use Rattle.mesh_text.specs.Tables.{number_line, asked_line, asked_text, known_text, flag_text, entry_text, routes_text, req_text, waits_line, waits_text, store_text, node_text, node_text_in, stuck_line, end_text, flying_text, flight_text}
 use Rattle.mesh_text.proofs.Clean.{is_clean, clean_append, decimal_clean, name_clean, name_then, hex_clean, set_clean}
-use Rattle.mesh_text.proofs.Tellings.{Tells, tells_none, silent_append, silent_line}
+use Rattle.mesh_text.proofs.Tellings.{Naming, Tells, tells_none, silent_append, silent_line}
 
-each_silent : {X : Type 0} (f : X → List ℕ) (xs : List X) → ((x : X) → Tells 0 0 (f x)) → Tells 0 0 (flat_map f xs)
+each_silent : {k : Naming} {X : Type 0} (f : X → List ℕ) (xs : List X) → ((x : X) → Tells k 0 0 (f x)) → Tells k 0 0 (flat_map f xs)
 each_silent f [] each = tells_none
 each_silent f (x ∷ xs) each = silent_append (f x) (flat_map f xs) (each x) (each_silent f xs each)
 
 -- ---- a node
 
-asked_silent : (mesh : Nodes) (o id : ℕ) → Tells 0 0 (asked_line mesh o id)
+asked_silent : {k : Naming} → (mesh : Nodes) (o id : ℕ) → Tells k 0 0 (asked_line mesh o id)
 unfolding asked_line
 asked_silent mesh o id = silent_line (codes "  asked " ++ name_of mesh o ++ 32 ∷ decimal id) (name_then mesh o (32 ∷ decimal id) (decimal_clean id)) refl refl
 
-seen_silent : (mesh : Nodes) (seen : SeenRequests) → Tells 0 0 (asked_text mesh seen)
+seen_silent : {k : Naming} → (mesh : Nodes) (seen : SeenRequests) → Tells k 0 0 (asked_text mesh seen)
 unfolding asked_text
 seen_silent mesh seen = each_silent (λ (p : ℕ × ℕ). asked_line mesh p.0 p.1) (pairs_in seen) (λ p. asked_silent mesh p.0 p.1)
 
@@ -44,7 +44,7 @@ flag_clean : (f : Flag) → is_clean (flag_text f) ≡ true
 flag_clean Val = refl
 flag_clean Inv = refl
 
-entry_silent : (mesh : Nodes) (d : ℕ) (e : Entry) → Tells 0 0 (entry_text mesh d e)
+entry_silent : {k : Naming} → (mesh : Nodes) (d : ℕ) (e : Entry) → Tells k 0 0 (entry_text mesh d e)
 unfolding entry_text
 entry_silent mesh d e =
     let a : List ℕ = name_of mesh d ++ 32 ∷ decimal e.dsn in
@@ -64,7 +64,7 @@ entry_silent mesh d e =
     (set_clean mesh e.pre))
     refl refl
 
-routes_silent : (mesh : Nodes) (rt : Table) → Tells 0 0 (routes_text mesh rt)
+routes_silent : {k : Naming} → (mesh : Nodes) (rt : Table) → Tells k 0 0 (routes_text mesh rt)
 unfolding routes_text
 routes_silent mesh rt = each_silent (λ (e : ℕ × Entry). entry_text mesh e.0 e.1) (maps.entries rt) (λ e. entry_silent mesh e.0 e.1)
 
@@ -72,35 +72,35 @@ req_clean : (b : Bool) → is_clean (req_text b) ≡ true
 req_clean true = refl
 req_clean false = refl
 
-waits_silent : (mesh : Nodes) (d : ℕ) (needs : Bool) (count : ℕ) → Tells 0 0 (waits_line mesh d needs count)
+waits_silent : {k : Naming} → (mesh : Nodes) (d : ℕ) (needs : Bool) (count : ℕ) → Tells k 0 0 (waits_line mesh d needs count)
 unfolding waits_line
 waits_silent mesh d needs count =
     silent_line (codes "  waits " ++ name_of mesh d ++ req_text needs ++ decimal count)
     (clean_append (name_of mesh d ++ req_text needs) (decimal count) (name_then mesh d (req_text needs) (req_clean needs)) (decimal_clean count)) refl refl
 
-waits_text_silent : (mesh : Nodes) (d : ℕ) (needs : Bool) (bs : List Body) → Tells 0 0 (waits_text mesh d needs bs)
+waits_text_silent : {k : Naming} → (mesh : Nodes) (d : ℕ) (needs : Bool) (bs : List Body) → Tells k 0 0 (waits_text mesh d needs bs)
 waits_text_silent mesh d needs [] = tells_none
 waits_text_silent mesh d needs (b ∷ bs) = waits_silent mesh d needs (length (b ∷ bs))
 
-store_silent : (mesh : Nodes) (store : Store) → Tells 0 0 (store_text mesh store)
+store_silent : {k : Naming} → (mesh : Nodes) (store : Store) → Tells k 0 0 (store_text mesh store)
 unfolding store_text
 store_silent mesh store =
     each_silent (λ (e : ℕ × Waiting). waits_text mesh e.0 (e.1).needs_request (e.1).bodies) (maps.entries store) (λ e. waits_text_silent mesh e.0 (e.1).needs_request (e.1).bodies)
 
 -- a line of a short label and a number
-sn_silent : (n : ℕ) → Tells 0 0 (number_line (codes "sn") n)
+sn_silent : {k : Naming} → (n : ℕ) → Tells k 0 0 (number_line (codes "sn") n)
 unfolding number_line
 sn_silent n = silent_line (32 ∷ 32 ∷ codes "sn" ++ 32 ∷ decimal n) (decimal_clean n) refl refl
 
-inbox_silent : (n : ℕ) → Tells 0 0 (number_line (codes "inbox") n)
+inbox_silent : {k : Naming} → (n : ℕ) → Tells k 0 0 (number_line (codes "inbox") n)
 unfolding number_line
 inbox_silent n = silent_line (32 ∷ 32 ∷ codes "inbox" ++ 32 ∷ decimal n) (decimal_clean n) refl refl
 
-arrived_silent : (n : ℕ) → Tells 0 0 (number_line (codes "arrived") n)
+arrived_silent : {k : Naming} → (n : ℕ) → Tells k 0 0 (number_line (codes "arrived") n)
 unfolding number_line
 arrived_silent n = silent_line (32 ∷ 32 ∷ codes "arrived" ++ 32 ∷ decimal n) (decimal_clean n) refl refl
 
-node_silent : (mesh : Nodes) (core : Core) (queue : ℕ) → Tells 0 0 (node_text mesh core queue)
+node_silent : {k : Naming} → (mesh : Nodes) (core : Core) (queue : ℕ) → Tells k 0 0 (node_text mesh core queue)
 unfolding node_text
 node_silent mesh core queue =
     let a : List ℕ = number_line (codes "sn") core.sn in
@@ -116,18 +116,18 @@ node_silent mesh core queue =
     (store_silent mesh core.store))
     (inbox_silent queue)
 
-pub node_in_silent : (mesh : Nodes) (o : Option Node) → Tells 0 0 (node_text_in mesh o)
+pub node_in_silent : {k : Naming} → (mesh : Nodes) (o : Option Node) → Tells k 0 0 (node_text_in mesh o)
 node_in_silent mesh None = tells_none
 node_in_silent mesh (Some n) = node_silent mesh n.core (length n.queue)
 
 -- ---- a route and the air
 
-pub end_silent : (mesh : Nodes) (end : End) → Tells 0 0 (end_text mesh end)
+pub end_silent : {k : Naming} → (mesh : Nodes) (end : End) → Tells k 0 0 (end_text mesh end)
 unfolding stuck_line
 end_silent mesh (Arrived hops) = arrived_silent hops
 end_silent mesh (Stuck at hops) = silent_line (codes "  stuck " ++ name_of mesh at ++ 32 ∷ decimal hops) (name_then mesh at (32 ∷ decimal hops) (decimal_clean hops)) refl refl
 
-flying_silent : (mesh : Nodes) (c : Copy) → Tells 0 0 (flying_text mesh c)
+flying_silent : {k : Naming} → (mesh : Nodes) (c : Copy) → Tells k 0 0 (flying_text mesh c)
 unfolding flying_text
 flying_silent mesh c =
     let a : List ℕ = decimal c.id ++ 32 ∷ name_of mesh c.from in
@@ -137,6 +137,6 @@ flying_silent mesh c =
     (clean_append a (32 ∷ name_of mesh c.to) (clean_append (decimal c.id) (32 ∷ name_of mesh c.from) (decimal_clean c.id) (name_clean mesh c.from)) (name_clean mesh c.to))
     (hex_clean (packet_of mesh c.message))) refl refl
 
-pub flight_silent : (mesh : Nodes) (cs : List Copy) → Tells 0 0 (flight_text mesh cs)
+pub flight_silent : {k : Naming} → (mesh : Nodes) (cs : List Copy) → Tells k 0 0 (flight_text mesh cs)
 flight_silent mesh [] = tells_none
 flight_silent mesh (c ∷ cs) = silent_append (flying_text mesh c) (flight_text mesh cs) (flying_silent mesh c) (flight_silent mesh cs)

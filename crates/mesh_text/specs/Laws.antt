@@ -18,6 +18,8 @@ use Rattle.mesh_text.specs.Text.{Full, outcome_of_piece, lines_before, text_on, 
 use Rattle.mesh_text.specs.declared.verdict.Verdict.TheVariants.{Finished, FullAt}
 use Rattle.mesh_text.specs.Accounts.{IsBalanced, lines_with}
 use Rattle.mesh_text.specs.Runs.{events_of_piece, events_of_input, moment_after, prefix_of_input, moment_at, mesh_of_input, world_after}
+use Rattle.mesh_text.specs.EveryWorld.{IsAccountedRun}
+use Rattle.mesh_text.specs.NamedData.{IsNamedRun}
 use Rattle.mesh_text.specs.Ranges.{IsInRange, IsInTime, IsEcho}
 
 -- ---- lines
@@ -62,6 +64,10 @@ abbrev pub DataAreAccountedFor : Type 0
 DataAreAccountedFor = (variant : Variant) (input : List ℕ)
     → IsBalanced (text_of_input variant input).after
 
+-- and so is each datum by itself, in each world to which an input comes
+abbrev pub EachDatumIsAccountedFor : Type 0
+EachDatumIsAccountedFor = (variant : Variant) (input : List ℕ) → IsAccountedRun variant input
+
 -- unless a full counter has ended the run, its text names each datum that was delivered or dropped,
 -- in a line each
 abbrev pub DataAreNamed : Type 0
@@ -70,6 +76,10 @@ DataAreNamed = (variant : Variant) (input : List ℕ)
     → let w = text_of_input variant input in
     (lines_with (codes "  delivered ") w.lines ≡ w.after.sums.delivered)
     × (lines_with (codes "  dropped ") w.lines ≡ w.after.sums.lost)
+
+-- and each datum by itself, however the run ends
+abbrev pub EachDatumIsNamed : Type 0
+EachDatumIsNamed = (variant : Variant) (input : List ℕ) → IsNamedRun variant input
 
 -- no event is idle and gives or doubles a datum; and no more data were delivered and dropped than
 -- were given and doubled

@@ -15,6 +15,10 @@ pub mod Text
 pub mod Accounts
 -- Runs: the events that an input's lines do, and the moments and worlds that they lead through.
 pub mod Runs
+-- EveryWorld: what holds in every world to which an input comes.
+pub mod EveryWorld
+-- NamedData: the lines of a text that name a datum.
+pub mod NamedData
 -- Ranges: the lines that have a text which is read back.
 pub mod Ranges
 -- Laws: what is proved of these definitions.

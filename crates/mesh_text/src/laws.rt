@@ -1,5 +1,5 @@
 //! Laws of the definitions. Each function has an empty body and a contract that states a law.
-ghost use Rattle.mesh_text.specs.Laws.{PrintedLineParses, ReadLineIsInRange, ReadLineIsWrittenAsItWas, DataAreAccountedFor, DataAreNamed, SumsAreInOrder, RunIsRunOfEvents, AllEventsCount, EventsAreOfMesh, RunsAreLoopFree, RunKeepsInvariant, AutoLineHasFourBytes, LineHasFewEvents, EventKeepsAccount, MomentIsOfRun, MomentIsLoopFree, RunGoesOn, StepsAreEvents, FullEventStands, LastLineIsOfLastMoment};
+ghost use Rattle.mesh_text.specs.Laws.{PrintedLineParses, ReadLineIsInRange, ReadLineIsWrittenAsItWas, DataAreAccountedFor, EachDatumIsAccountedFor, DataAreNamed, EachDatumIsNamed, SumsAreInOrder, RunIsRunOfEvents, AllEventsCount, EventsAreOfMesh, RunsAreLoopFree, RunKeepsInvariant, AutoLineHasFourBytes, LineHasFewEvents, EventKeepsAccount, MomentIsOfRun, MomentIsLoopFree, RunGoesOn, StepsAreEvents, FullEventStands, LastLineIsOfLastMoment};
 
 /// A line that is written back is read as the same line.
 pub fn a_printed_line_parses()
@@ -22,6 +22,12 @@ pub fn a_read_line_is_written_as_it_was()
 /// dropped.
 pub fn data_are_accounted_for()
     ensures { DataAreAccountedFor }
+{}
+
+/// After any number of an input's events, each datum that was given or doubled was delivered, waits,
+/// is in flight, or was dropped.
+pub fn each_datum_is_accounted_for()
+    ensures { EachDatumIsAccountedFor }
 {}
 
 /// The sums of a run are in order: idle events, given data and doubled data are no more than the
@@ -89,6 +95,12 @@ pub fn the_last_line_is_of_the_last_moment()
 /// Unless a full counter has ended a run, its text names each datum that was delivered or dropped.
 pub fn data_are_named()
     ensures { DataAreNamed }
+{}
+
+/// However a run ends, its text has a line for each time that a datum was delivered, and one for each
+/// time that it was dropped.
+pub fn each_datum_is_named()
+    ensures { EachDatumIsNamed }
 {}
 
 /// A run of complete lines and of what follows them is the run of what follows, from the last

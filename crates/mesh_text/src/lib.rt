@@ -11,8 +11,8 @@ pub use laws::{
     a_read_line_is_written_as_it_was, a_refused_event_stands_in_its_line, a_run_goes_on,
     a_run_is_a_run_of_events, a_run_keeps_the_invariant, all_events_count,
     an_auto_line_has_four_bytes, an_event_keeps_the_account, data_are_accounted_for,
-    data_are_named, events_are_of_the_mesh, every_moment_is_loop_free, every_moment_is_of_the_run,
-    runs_are_loop_free, steps_are_events, the_last_line_is_of_the_last_moment,
-    the_sums_are_in_order,
+    data_are_named, each_datum_is_accounted_for, each_datum_is_named, events_are_of_the_mesh,
+    every_moment_is_loop_free, every_moment_is_of_the_run, runs_are_loop_free, steps_are_events,
+    the_last_line_is_of_the_last_moment, the_sums_are_in_order,
 };
 pub use verdict::Verdict;
