@@ -169,7 +169,7 @@ piece_kept reach m piece is = (piece_leads reach m piece is).kept
 -- ---- whole runs
 
 -- the run without its places
-abbrev run_in : RunText → text.RunText
+abbrev pub run_in : RunText → text.RunText
 run_in w = record { lines = w.lines; last = w.last; verdict = w.verdict; after = w.after.run; complete = w.complete }
 
 goes_in : (m : Moment) (piece : Piece) (c : LineOutcome) (others : Moment → RunText) → text.goes_on m.run c (λ n. run_in (others (next m piece n))) ≡ run_in (goes_on m piece c others)
@@ -177,7 +177,7 @@ goes_in m piece (On text n) others = refl
 goes_in m piece (Refused why) others = refl
 goes_in m piece (Full text n e field) others = refl
 
-run_follows : (reach : ℕ) (m : Moment) (pieces : List Piece) → IsKept m.run → Follows m.run (events_from reach m pieces) (run_in (text_from reach m pieces))
+pub run_follows : (reach : ℕ) (m : Moment) (pieces : List Piece) → IsKept m.run → Follows m.run (events_from reach m pieces) (run_in (text_from reach m pieces))
 unfolding events_from shell.text_from runs.events_from
 run_follows reach m [] is = let none = follows m.run [] is in record { mesh = λ _. refl; low = omega arith; world = none.world; all = λ _. omega arith; usual = tt }
 run_follows reach m (piece ∷ pieces) is =
@@ -193,7 +193,7 @@ goes_kept m piece (On text n) others kept is rest = rest (next m piece n) kept
 goes_kept m piece (Refused why) others kept is rest = is
 goes_kept m piece (Full text n e field) others kept is rest = is
 
-run_kept : (reach : ℕ) (m : Moment) (pieces : List Piece) → IsKept m.run → IsKept (text_from reach m pieces).after.run
+pub run_kept : (reach : ℕ) (m : Moment) (pieces : List Piece) → IsKept m.run → IsKept (text_from reach m pieces).after.run
 unfolding shell.text_from
 run_kept reach m [] is = is
 run_kept reach m (piece ∷ pieces) is =

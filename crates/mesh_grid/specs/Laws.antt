@@ -15,7 +15,7 @@ use Rattle.mesh_grid.specs.declared.line.Placing.{Placing}
 use Rattle.mesh_grid.specs.Lines.{placing_of, place_words}
 use Rattle.mesh_grid.specs.Links.{is_due}
 use Rattle.mesh_grid.specs.Text.{Moment, other_line, outcome_of_piece, text_of_input}
-use Rattle.mesh_grid.specs.Runs.{moment_at, mesh_of_input, world_after, events_of_input}
+use Rattle.mesh_grid.specs.Runs.{AreDone, moment_at, moment_within, mesh_of_input, world_after, IsOfEvents, events_of_input}
 
 -- after each allowed line of an input the links that stand are those that are due: of two nodes
 -- with places, the one within reach of the other. Before there is a world none is due
@@ -33,6 +33,13 @@ WorldsAreOfEvents = (reach : ℕ) (variant : Variant) (input : List ℕ) →
     × (((number : ℕ) → w.verdict ≢ FullAt number)
     → w.after.run.sums.events ≡ length (events_of_input reach variant input))
 
+-- the same of each moment before: after the first i lines, which were all done, and k events of the
+-- next
+abbrev pub MomentIsOfEvents : Type 0
+MomentIsOfEvents = (reach : ℕ) (variant : Variant) (input : List ℕ) (i k : ℕ)
+    → AreDone reach variant input i
+    → IsOfEvents reach variant input (moment_within reach variant input i k)
+
 -- after any number of an input's events no destination's valid routes have a loop
 abbrev pub RunsWithPlacesAreLoopFree : Type 0
 RunsWithPlacesAreLoopFree = (reach : ℕ) (variant : Variant) (input : List ℕ) (k d : ℕ)
@@ -42,6 +49,11 @@ RunsWithPlacesAreLoopFree = (reach : ℕ) (variant : Variant) (input : List ℕ)
 abbrev pub LinesAreLoopFree : Type 0
 LinesAreLoopFree = (reach : ℕ) (variant : Variant) (input : List ℕ) (i d : ℕ)
     → ¬ (Cycle (world_of (moment_at reach variant input i).run) d)
+
+-- or after any event of the next
+abbrev pub MomentIsLoopFree : Type 0
+MomentIsLoopFree = (reach : ℕ) (variant : Variant) (input : List ℕ) (i k d : ℕ)
+    → ¬ (Cycle (world_of (moment_within reach variant input i k)) d)
 
 -- after the last allowed line each datum that was given or doubled was delivered, waits in a store
 -- or a queue, is in flight, or was dropped

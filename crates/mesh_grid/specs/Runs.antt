@@ -1,17 +1,20 @@
 -- The events of a run with places, one after another, and the moments and worlds that they lead
 -- through. A line that puts a node to a place has the changes of links that follow.
-use Rattle.std.specs.Prelude.{ℕ, List, [], ◌∷◌, ◌++◌, if◌then◌else◌, Option, Some, None, Result, Ok, Err, take}
+use Rattle.std.specs.Prelude.{ℕ, ◌≡◌, List, [], ◌∷◌, ◌++◌, if◌then◌else◌, Option, Some, None, Result, Ok, Err, take, slice_get}
 use Rattle.mesh_base.specs.Meshes.{Nodes}
 use Rattle.mesh_base.specs.declared.events.Variant.{Variant}
 use Rattle.mesh_model.specs.Worlds.{World, Event, run, start, first_numbers}
 use Rattle.mesh_grammar.specs.declared.fault.LineFault.{LineFault}
 use Rattle.mesh_shell.specs.Pieces.{Piece, Whole}
+use Rattle.mesh_text.specs.Schedule as schedule
 use Rattle.mesh_text.specs.Text.{pieces_of_input}
 use Rattle.mesh_text.specs.Runs as runs
+use Rattle.mesh_text.specs.Runs.{moment_after}
+use Rattle.mesh_text.specs.declared.verdict.Verdict.TheVariants.{Finished}
 use Rattle.mesh_grid.specs.declared.line.Placing.{Placing}
 use Rattle.mesh_grid.specs.Lines.{placing_of}
 use Rattle.mesh_grid.specs.Links.{may_come}
-use Rattle.mesh_grid.specs.Text.{Moment, opening, changes, other_line, outcome_of_piece, next, text_from, text_of_input}
+use Rattle.mesh_grid.specs.Text.{Moment, opening, changes, other_line, outcome_of_piece, next, RunText, text_from, text_of_input}
 
 -- ---- the events of an input
 
@@ -41,11 +44,29 @@ events_of_input reach variant input = events_from reach (opening variant) (piece
 
 -- ---- the moments
 
--- the moment after the first i lines of an input, up to the first that isn't allowed or is refused
--- for a full counter
+-- the run of the first i lines of an input
+abbrev pub prefix_of_input : ℕ → Variant → List ℕ → ℕ → RunText
+prefix_of_input reach variant input i =
+    text_from reach (opening variant) (take i (pieces_of_input input))
+
+-- each of them is allowed, and none is refused for a full counter
+abbrev pub AreDone : ℕ → Variant → List ℕ → ℕ → Type 0
+AreDone reach variant input i = (prefix_of_input reach variant input i).verdict ≡ Finished
+
+-- the moment after them, up to the first that isn't allowed or is refused for a full counter
 unfoldable pub moment_at : ℕ → Variant → List ℕ → ℕ → Moment
-moment_at reach variant input i =
-    (text_from reach (opening variant) (take i (pieces_of_input input))).after
+moment_at reach variant input i = (prefix_of_input reach variant input i).after
+
+-- the run at a moment, and after the first k events of the next line, if there is one
+abbrev pub run_within : ℕ → Moment → Option Piece → ℕ → schedule.Moment
+run_within reach m None k = m.run
+run_within reach m (Some piece) k = moment_after m.run (take k (events_of_piece reach m piece))
+
+-- the run after the first i lines of an input, and k events of the next. A line about a place has
+-- the changes of links that follow
+abbrev pub moment_within : ℕ → Variant → List ℕ → (i k : ℕ) → schedule.Moment
+moment_within reach variant input i k =
+    run_within reach (moment_at reach variant input i) (slice_get (pieces_of_input input) i) k
 
 -- ---- the worlds
 
@@ -58,3 +79,11 @@ abbrev pub world_after : ℕ → Variant → List ℕ → ℕ → World
 world_after reach variant input k =
     run (start variant (first_numbers (mesh_of_input reach variant input)))
     (take k (events_of_input reach variant input))
+
+-- the world of a moment is the one that as many of the input's events lead to as were counted, one
+-- after another, from the nodes that are there
+abbrev pub IsOfEvents : ℕ → Variant → List ℕ → schedule.Moment → Type 0
+IsOfEvents reach variant input m =
+    schedule.world_of m
+    ≡ run (start variant (first_numbers m.mesh))
+    (take m.sums.events (events_of_input reach variant input))

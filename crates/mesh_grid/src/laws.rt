@@ -1,5 +1,5 @@
 //! Laws of the definitions. Each function has an empty body and a contract that states a law.
-ghost use Rattle.mesh_grid.specs.Laws.{LinksFollowPlaces, WorldsAreOfEvents, RunsWithPlacesAreLoopFree, LinesAreLoopFree, DataAreAccountedFor, EventsAreOfMesh, OtherLineIsAsInSchedule, PlaceLineIsWrittenAsItStands};
+ghost use Rattle.mesh_grid.specs.Laws.{LinksFollowPlaces, WorldsAreOfEvents, MomentIsOfEvents, RunsWithPlacesAreLoopFree, LinesAreLoopFree, MomentIsLoopFree, DataAreAccountedFor, EventsAreOfMesh, OtherLineIsAsInSchedule, PlaceLineIsWrittenAsItStands};
 
 /// After each allowed line the links that stand are those that follow from the places.
 pub fn links_follow_places()
@@ -12,6 +12,11 @@ pub fn worlds_are_of_events()
     ensures { WorldsAreOfEvents }
 {}
 
+/// So is the world of each moment of it: after each of its lines, and after each event of the next.
+pub fn each_moment_is_of_events()
+    ensures { MomentIsOfEvents }
+{}
+
 /// After any number of events of a run with places no destination's valid routes have a loop.
 pub fn runs_with_places_are_loop_free()
     ensures { RunsWithPlacesAreLoopFree }
@@ -20,6 +25,11 @@ pub fn runs_with_places_are_loop_free()
 /// After no line of a run with places have a destination's valid routes a loop.
 pub fn lines_are_loop_free()
     ensures { LinesAreLoopFree }
+{}
+
+/// Nor after any event of the next line.
+pub fn moments_are_loop_free()
+    ensures { MomentIsLoopFree }
 {}
 
 /// In a run with places each datum that was given or doubled was delivered, waits, is in flight, or
