@@ -11,3 +11,4 @@ pub mod Leasts
 pub mod Changes
 pub mod Links
 pub mod Joins
+pub mod Ranks

@@ -1,16 +1,18 @@
 //! The radio of a mesh.
-ghost use Rattle.std.specs.Prelude.{◌≡◌, ◌≢◌, ◌<◌, ◌≤◌, ◌+◌, ◌^◌, ◌∷◌, [], ℕ, true, false, not, length, slice_get, OnOk, OnErr, IsOk, IfOk, IfSome, IfNone, option_map};
+ghost use Rattle.std.specs.Prelude.{◌≡◌, ◌≢◌, ◌<◌, ◌≤◌, ◌+◌, ◌^◌, ◌∷◌, [], ℕ, true, false, not, length, slice_get, Some, OnOk, OnErr, IsOk, IfOk, IfSome, IfNone, option_map};
 ghost use Rattle.std.specs.Bool.{OnTrue, OnFalse};
 ghost use Rattle.std.specs.List.{AllByRecursion};
 ghost use Rattle.std.specs.FinSet as sets;
 ghost use Rattle.mesh_base.specs.Views.{flying_seen};
 ghost use Rattle.mesh_model.specs.Worlds.{are_linked, linked_below};
-ghost use Rattle.mesh_radio.specs.Copies.{held_seen, find_copy, from_id, data_in, AreBefore, AreNumbered, IsBetween, longest_packet};
+ghost use Rattle.mesh_radio.specs.Copies.{held_seen, find_copy, from_id, data_in, AreBefore, AreNumbered, IsBetween, IsCopyWithin, longest_packet};
 ghost use Rattle.mesh_radio.specs.Radios.{opening, most_copies_at_first, with_more_room, with_link, without_link, with_copies, with_copy, with_double, without_copy, receivers, AreLinksOf};
 
 use crate::adjacency::Adjacency;
 use crate::copies::{Copies, Held};
-use mesh_base::{Air, Flying, FlyingView, LONGEST_PACKET, MOST_NODES, NoMemory, NodeSet, Packet};
+use mesh_base::{
+    Air, Bytes, Flying, FlyingView, LONGEST_PACKET, MOST_NODES, NoMemory, NodeSet, Packet,
+};
 use std::alloc::Global;
 use std::marker::Model;
 
@@ -189,6 +191,28 @@ impl Radio {
         self.copies.remove(id)
     }
 
+    /// The copy of this id is taken out of the air. None where no copy in flight has it. Copies of
+    /// one cast share a packet, so what is answered is a copy of it: memory is asked for where that
+    /// has more than 32 bytes.
+    pub fn take(&mut self, alloc: Global, id: u64) -> Result<Option<Flying>, NoMemory>
+        ensures taken { IfOk result (λ copy. copy ≡ find_copy self.old.flying id) }
+        ensures gone { OnOk result (self.new ≡ without_copy self.old id) }
+        ensures short { IsCopyWithin self.old.flying id 32 → IsOk result }
+        ensures refused { OnErr result (self.new ≡ self.old) }
+    {
+        let Some(copy) = self.find(id) else {
+            return Ok(None);
+        };
+        let taken = Flying {
+            id: copy.id,
+            from: copy.from,
+            to: copy.to,
+            bytes: Bytes::copy_of(alloc, copy.bytes)?,
+        };
+        self.remove(id);
+        Ok(Some(taken))
+    }
+
     /// The copy of this id, which flies on. None where no copy in flight has it.
     #[inline(always)]
     pub fn find(&self, id: u64) -> Option<FlyingView<'_>>
@@ -241,6 +265,27 @@ impl Radio {
         ensures none { IfNone result (from_id self.now.flying id ≡ []) }
     {
         self.copies.next_from(id, hint)
+    }
+
+    /// The copy in flight of this rank, counted from 0 by rising id. It goes over those before it:
+    /// `next_from` is better where all are wanted.
+    pub fn at(&self, k: usize) -> FlyingView<'_>
+        requires { k < length self.now.flying }
+        ensures { slice_get self.now.flying k ≡ Some (flying_seen result) }
+    {
+        let mut id = 0;
+        let mut hint = 0;
+        let mut rank = 0;
+        'ranks: loop {
+            let Some(copy) = self.next_from(id, &mut hint) else {
+                unreachable!();
+            };
+            if rank == k {
+                return copy;
+            }
+            rank += 1;
+            id = copy.id + 1;
+        }
     }
 
     /// The id that the next copy gets.
