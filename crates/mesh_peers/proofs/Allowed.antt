@@ -158,16 +158,16 @@ readable command.Turn = omega arith
 readable others = tt
 
 -- a line of this command is read by its arguments
-line_said : (p : PeersSeen) (c : Command) (arguments : Arguments ℕ) → AreOfForm (form_of c) arguments → HaveAddresses arguments
-    → line_of p false (command_text (word_of c) arguments)
-    ≡ accepted_line p false (length (command_text (word_of c) arguments)) c (as_mentions (next_at 0 (word_of c)) arguments)
+line_said : (p : PeersSeen) (started : Bool) (c : Command) (arguments : Arguments ℕ) → AreOfForm (form_of c) arguments → HaveAddresses arguments
+    → line_of p started (command_text (word_of c) arguments)
+    ≡ accepted_line p started (length (command_text (word_of c) arguments)) c (as_mentions (next_at 0 (word_of c)) arguments)
 unfolding line_of
-line_said p c arguments form fit =
-    ap (result_and_then (accepted_shape p false (length (command_text (word_of c) arguments))))
+line_said p started c arguments form fit =
+    ap (result_and_then (accepted_shape p started (length (command_text (word_of c) arguments))))
     (written_line_is_read Command router_script (row_of c) arguments
     (record { found = row_there c; word = word_there c; readable = readable c; form = form; addresses = fit }))
 
-module _ (p : PeersSeen) (is : IsMesh p.mesh) where
+module _ (p : PeersSeen) (started : Bool) (is : IsMesh p.mesh) where
   named : (me : Option ℕ) (r : Result AcceptedLine LineFault) → is_some me ≡ true → after_self me r ≡ r
   named None r h = absurd (let P : ⊥ = cc in P)
   named (Some x) r h = refl
@@ -180,36 +180,39 @@ module _ (p : PeersSeen) (is : IsMesh p.mesh) where
   of_others (Some y) x line apart = ap (λ b. cond b (Err Same) (Ok line)) (ne_eqb x y (λ e. apart (ap Some (sym e))))
 
   line_of_one : (c : Command) (x : ℕ) → AreOfForm (form_of c) (OneAddress (addr_at p.mesh x)) → IsNamed p x
-      → line_of p false (command_text (word_of c) (OneAddress (addr_at p.mesh x))) ≡ made_line p.me c (OneAddress x)
+      → line_of p started (command_text (word_of c) (OneAddress (addr_at p.mesh x))) ≡ made_line p.me c (OneAddress x)
   line_of_one c x form there =
-      line_said p c (OneAddress (addr_at p.mesh x)) form (is.addresses x there.1)
+      line_said p started c (OneAddress (addr_at p.mesh x)) form (is.addresses x there.1)
       ∙ named p.me _ there.0 ∙ ap (result_and_then (made_line p.me c)) (known_there (next_at 0 (word_of c)) x (λ i. Ok (OneAddress i)) there.1)
 
   new_room : (line : AcceptedLine) → length p.mesh < MOST_NODES → in_room p.mesh line ≡ Ok line
   new_room line few = ap (λ b. cond b (Err TooManyNodes) (Ok line)) (ne_eqb (length p.mesh) MOST_NODES (λ e. omega arith))
 
-  parses : (a : AcceptedLine) → IsInRange p a → line_of p false (words_of p.mesh a) ≡ Ok a
+  parses : (a : AcceptedLine) → IsInRange p a → IsInTime started a → line_of p started (words_of p.mesh a) ≡ Ok a
   unfolding words_of line_of shape_by
-  parses Nothing range = refl
-  parses (Own address first) range =
-      line_said p command.Own (NumberedAddress address first) (range.2, range.3) (range.0).fits
+  parses Nothing range time = refl
+  parses (Own address first) range time =
+      line_said p started command.Own (NumberedAddress address first) (range.2, range.3) (range.0).fits
+      ∙ ap (λ b. new_self p b (mention (next_at 0 (word_of command.Own)) address) first) time
       ∙ rw (ap is_some range.1, ap is_some (range.0).absent) (new_room (Own address first) (range.0).few)
-  parses (Peer address port) range =
-      line_said p command.Peer (AddressAndNumber address port) (range.2, range.3) (range.0).fits
+  parses (Peer address port) range time =
+      line_said p started command.Peer (AddressAndNumber address port) (range.2, range.3) (range.0).fits
+      ∙ ap (λ b. new_peer p b (length (command_text (word_of command.Peer) (AddressAndNumber address port))) (mention (next_at 0 (word_of command.Peer)) address) port) time
       ∙ rw (ap is_some (range.0).absent, ap is_some range.1) (new_room (Peer address port) (range.0).few)
-  parses (Up x) range = line_of_one command.Up x tt range.0 ∙ of_others p.me x (Up x) range.1
-  parses (Down x) range = line_of_one command.Down x tt range.0 ∙ of_others p.me x (Down x) range.1
-  parses (Give x body) range =
-      line_said p command.Data (AddressAndText (addr_at p.mesh x) body) range.1 (is.addresses x (range.0).1)
+  parses (Up x) range time = line_of_one command.Up x tt range.0 ∙ of_others p.me x (Up x) range.1
+  parses (Down x) range time = line_of_one command.Down x tt range.0 ∙ of_others p.me x (Down x) range.1
+  parses (Give x body) range time =
+      line_said p started command.Data (AddressAndText (addr_at p.mesh x) body) range.1 (is.addresses x (range.0).1)
       ∙ named p.me _ (range.0).0
       ∙ ap (result_and_then (made_line p.me command.Data)) (known_there (next_at 0 (word_of command.Data)) x (λ i. Ok (AddressAndText i body)) (range.0).1)
-  parses (Polls count) range = line_said p command.Poll (OneNumber count) (range.1, range.2) tt ∙ named p.me _ range.0
-  parses (Turns count) range = line_said p command.Turn (OneNumber count) (range.1, range.2) tt ∙ named p.me _ range.0
-  parses (Sends x) range = line_of_one command.Send x tt range
-  parses (Asks x) range = line_of_one command.Ask x tt range
-  parses Shows range = line_said p command.Show NoArgument tt tt ∙ named p.me _ range
+  parses (Polls count) range time = line_said p started command.Poll (OneNumber count) (range.1, range.2) tt ∙ named p.me _ range.0
+  parses (Turns count) range time = line_said p started command.Turn (OneNumber count) (range.1, range.2) tt ∙ named p.me _ range.0
+  parses (Sends x) range time = line_of_one command.Send x tt range
+  parses (Asks x) range time = line_of_one command.Ask x tt range
+  parses Shows range time = line_said p started command.Show NoArgument tt tt ∙ named p.me _ range
 
-pub again : (p : PeersSeen) (a : AcceptedLine) (text : List ℕ) → IsMesh p.mesh → IsInRange p a → text ≡ words_of p.mesh a → line_of p false text ≡ Ok a
-again p a text is range e =
-    let P : List ℕ → Type 0 = λ t. line_of p false t ≡ Ok a in
-    subst P (sym e) (parses p is a range)
+pub again : (p : PeersSeen) (a : AcceptedLine) (text : List ℕ) → IsMesh p.mesh → IsInRange p a → text ≡ words_of p.mesh a
+    → (started : Bool) → IsInTime started a → line_of p started text ≡ Ok a
+again p a text is range e started time =
+    let P : List ℕ → Type 0 = λ t. line_of p started t ≡ Ok a in
+    subst P (sym e) (parses p started is a range time)

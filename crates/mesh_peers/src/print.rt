@@ -1,6 +1,6 @@
 //! The text in which a line is written back: each node by its address, and the node itself with its
 //! number.
-ghost use Rattle.std.specs.Prelude.{◌≡◌, ◌<◌, ◌≤◌, ◌+◌, ◌++◌, length, false, Ok};
+ghost use Rattle.std.specs.Prelude.{◌≡◌, ◌<◌, ◌≤◌, ◌+◌, ◌++◌, Bool, length, Ok};
 ghost use Rattle.mesh_base.specs.Meshes.{addr_at};
 ghost use Rattle.mesh_grammar.specs.Forms.{OneAddress};
 ghost use Rattle.mesh_grammar.specs.Written.{command_text};
@@ -73,7 +73,8 @@ pub fn print_node_line(line: &NodeLine<'_>, peers: &Peers, out: &mut LineBuf)
     requires { IsPrintable peers.now line.now }
     ensures text { out.new ≡ lines.words_of peers.now.mesh (accepted_of line.now) }
     ensures short { length out.new ≤ LONGEST_WRITTEN }
-    ensures again { lines.line_of peers.now false out.new ≡ Ok (accepted_of line.now) }
+    ensures again { (started : Bool) → lines.IsInTime started (accepted_of line.now)
+        → lines.line_of peers.now started out.new ≡ Ok (accepted_of line.now) }
 {
     // The mesh has distinct addresses, each of 32 bits.
     let _size = peers.mesh().len();

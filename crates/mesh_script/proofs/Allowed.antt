@@ -1,5 +1,5 @@
 -- What is known of a line that is read: it is in its range, and so is its count. And a line that is written back is read as it.
-use Rattle.std.proofs.Common.{◌≡◌, ℕ, ◌^◌, ◌<◌, ◌≤◌, Bool, false, List, [], ◌++◌, Option, Result, Ok, Err, length, IfOk, ap, subst, refl, sym, ◌∙◌, arith}
+use Rattle.std.proofs.Common.{◌≡◌, ℕ, ◌^◌, ◌<◌, ◌≤◌, Bool, List, [], ◌++◌, Option, Result, Ok, Err, length, IfOk, ap, subst, refl, sym, ◌∙◌, arith}
 use Rattle.std.proofs.lemmas.Bool.Decides.{nat_tests}
 use Rattle.std.proofs.lemmas.List.{append-nil}
 use Rattle.mesh_base.specs.declared.limits.TheConstants.{MOST_NODES}
@@ -61,19 +61,11 @@ echo mesh started line (Err f) is = tt
 
 -- ---- what is written is read
 
-early : (a : AcceptedLine) → IsInTime false a
-early Nothing = tt
-early (NewNode address first) = refl
-early (Does e) = tt
-early (Chooses count) = tt
-early (ShowsNode x) = tt
-early (ShowsRoute x d) = tt
-early ShowsFlight = tt
-
-pub again : (mesh : Nodes) (a : AcceptedLine) (text : List ℕ) → IsMesh mesh → IsInRange mesh a → text ≡ words_of mesh a → line_of mesh false text ≡ Ok a
-again mesh a text is range e =
-    let P : List ℕ → Type 0 = λ t. line_of mesh false t ≡ Ok a in
-    subst P (sym e) (printed_line_parses mesh false a is range (early a))
+pub again : (mesh : Nodes) (a : AcceptedLine) (text : List ℕ) → IsMesh mesh → IsInRange mesh a → text ≡ words_of mesh a
+    → (started : Bool) → IsInTime started a → line_of mesh started text ≡ Ok a
+again mesh a text is range e started time =
+    let P : List ℕ → Type 0 = λ t. line_of mesh started t ≡ Ok a in
+    subst P (sym e) (printed_line_parses mesh started a is range time)
 
 pub append_none : (text : List ℕ) → text ++ [] ≡ text
 append_none text = append-nil text

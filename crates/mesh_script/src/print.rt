@@ -1,6 +1,6 @@
 //! The text in which a line is written back: each node by its address, and a new node with its
 //! number.
-ghost use Rattle.std.specs.Prelude.{◌≡◌, ◌<◌, ◌≤◌, ◌+◌, ◌++◌, ◌∷◌, length, false, Ok};
+ghost use Rattle.std.specs.Prelude.{◌≡◌, ◌<◌, ◌≤◌, ◌+◌, ◌++◌, ◌∷◌, Bool, length, Ok};
 ghost use Rattle.std.specs.Fmt.{decimal};
 ghost use Rattle.mesh_base.specs.Addresses.{dotted_decimal};
 ghost use Rattle.mesh_base.specs.Meshes.{addr_at};
@@ -9,6 +9,7 @@ ghost use Rattle.mesh_meaning.specs.Events.{event_of};
 ghost use Rattle.mesh_grammar.specs.Forms as forms;
 ghost use Rattle.mesh_grammar.specs.Written.{command_text};
 ghost use Rattle.mesh_text.specs.Lines as lines;
+ghost use Rattle.mesh_text.specs.Ranges.{IsInTime};
 ghost use Rattle.mesh_text.specs.Schedule.{line_of};
 ghost use Rattle.mesh_script.specs.Arguments.{addresses_of, width_of};
 ghost use Rattle.mesh_script.specs.Seen.{accepted_of, IsPrintable};
@@ -184,7 +185,8 @@ pub fn print_line(line: &Line<'_>, mesh: &Mesh, out: &mut LineBuf)
     requires { IsPrintable mesh.now line.now }
     ensures text { out.new ≡ lines.words_of mesh.now (accepted_of line.now) }
     ensures short { length out.new ≤ LONGEST_WRITTEN }
-    ensures again { line_of mesh.now false out.new ≡ Ok (accepted_of line.now) }
+    ensures again { (started : Bool) → IsInTime started (accepted_of line.now)
+        → line_of mesh.now started out.new ≡ Ok (accepted_of line.now) }
 {
     // The mesh has distinct addresses, each of 32 bits.
     let _size = mesh.len();
