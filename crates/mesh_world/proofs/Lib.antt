@@ -4,6 +4,7 @@ pub mod Ways
 pub mod Counts
 pub mod Gains
 pub mod Tallies
+pub mod Accounts
 pub mod Receivers
 pub mod Frames
 pub mod Casts

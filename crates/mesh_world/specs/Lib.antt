@@ -6,6 +6,8 @@ pub mod Seen
 pub mod Steps
 -- Tallies: what is counted of an event.
 pub mod Tallies
+-- Accounts: the account of each datum at an event.
+pub mod Accounts
 -- Kept: the world that nodes and a radio are, and how the code keeps one.
 pub mod Kept
 -- Noted: how the kept sets follow the nodes. No public contract cites it.

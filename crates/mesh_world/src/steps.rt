@@ -6,6 +6,7 @@ ghost use Rattle.mesh_meaning.specs.Events.{event_of};
 ghost use Rattle.mesh_world.specs.Seen.{WorldSeen, opening, IsSoundWorld};
 ghost use Rattle.mesh_world.specs.Steps.{IsStep};
 ghost use Rattle.mesh_world.specs.Tallies.{answer_with, IsStepCounted};
+ghost use Rattle.mesh_world.specs.Accounts.{KeepsAccount};
 
 use crate::tally::{Tally, tell_answer};
 use crate::world::World;
@@ -55,12 +56,15 @@ pub trait Steps: Drop {
     }
 
     /// Does one event. All memory is taken before the first change. The packet that is cast is left
-    /// in `out`. No step ends at 2^48 steps, which is more than any schedule asks for.
+    /// in `out`. Each datum that was in the world, or was given or doubled, is in the world then, or
+    /// was delivered or dropped. No step ends at 2^48 steps, which is more than any schedule asks
+    /// for.
     fn step(&mut self, alloc: Global, e: &Event<'_>, out: &mut Packet) -> Result<Done, StepError>
         requires event { IsEvent (length (seen self.old).mesh) (event_of e.now) }
         requires few { (seen self.old).steps < 2 ^ 48 }
         ensures step { let event = event_of e.now in
             IsStep event (seen self.old) result (seen self.new) out.new.items }
+        ensures account { KeepsAccount (event_of e.now) (seen self.old) result (seen self.new) }
         ensures sound { IsSoundWorld (seen self.new) };
 
     /// Does one event, as `step` does, and answers what is counted of it. What came of it is left
@@ -78,6 +82,7 @@ pub trait Steps: Drop {
         ensures counted { IsStepCounted (event_of e.now) (seen self.old) result (seen self.new) }
         ensures told { let event = event_of e.now in wanted ≡ true → IsStep event
             (seen self.old) (answer_with result answer.new) (seen self.new) out.new.items }
+        ensures account { KeepsAccount (event_of e.now) (seen self.old) result (seen self.new) }
         ensures sound { IsSoundWorld (seen self.new) }
     {
         let given = self.step(alloc, e, out);

@@ -7,6 +7,7 @@ ghost use Rattle.mesh_meaning.specs.Answers.{outcome_in, took_in, IsDoneInMesh, 
 ghost use Rattle.mesh_world.specs.Seen.{WorldSeen};
 ghost use Rattle.mesh_world.specs.Steps.{IsStep};
 ghost use Rattle.mesh_world.specs.Tallies.{count_of, answer_with, IsTallyOf, HasTally, IsStepCounted};
+ghost use Rattle.mesh_world.specs.Accounts.{KeepsAccount};
 
 use crate::steps::StepError;
 use aodv_wire::is_data;
@@ -133,6 +134,8 @@ pub(crate) fn tell_answer(
 ) -> Result<Tally, StepError>
     ensures counted { (e : an_event) (old new : WorldSeen) (packet : List ℕ)
         → IsStep e old given new packet → IsStepCounted e old result new }
+    ensures account { (e : an_event) (old new : WorldSeen)
+        → KeepsAccount e old given new → KeepsAccount e old result new }
     ensures told { wanted ≡ true → answer_with result answer.new ≡ given }
 {
     match given {

@@ -13,6 +13,7 @@ ghost use Rattle.mesh_world.specs.Kept.{world_in, seen_of};
 ghost use Rattle.mesh_model.specs.Accounts.{any};
 ghost use Rattle.mesh_world.specs.Steps.{IsStep, IsShortOf, may_need_memory};
 ghost use Rattle.mesh_world.specs.Tallies.{answer_with, IsStepCounted};
+ghost use Rattle.mesh_world.specs.Accounts.{KeepsAccount};
 ghost use Rattle.mesh_world.specs.Ends.{end_in, IsEndIn};
 ghost use Rattle.mesh_world.specs.Parts.{AreOpened};
 ghost use Rattle.mesh_world.specs.Restored.{AreNodesOf, AreWritten, AreSoundParts, IsFirstPart, most_steps_at_first};
@@ -213,6 +214,7 @@ impl Steps for World {
         requires event { IsEvent (length self.old.mesh) (event_of e.now) }
         requires few { self.old.steps < 2 ^ 48 }
         ensures step { IsStep (event_of e.now) self.old result self.new out.new.items }
+        ensures account { KeepsAccount (event_of e.now) self.old result self.new }
         ensures memory { IsShortOf self.old.world (event_of e.now) result }
         ensures sound { IsSoundWorld self.new }
     {
@@ -239,6 +241,7 @@ impl Steps for World {
         ensures counted { IsStepCounted (event_of e.now) self.old result self.new }
         ensures told { wanted ≡ true → IsStep (event_of e.now)
             self.old (answer_with result answer.new) self.new out.new.items }
+        ensures account { KeepsAccount (event_of e.now) self.old result self.new }
         ensures memory { IsShortOf self.old.world (event_of e.now) result }
         ensures sound { IsSoundWorld self.new }
     {

@@ -1,3 +1,4 @@
+use Rattle.mesh_world.proofs.Accounts.{accounted_at}
 use Rattle.mesh_world.proofs.Tallies.{counted_at, never_short, steps_at}
 use Rattle.mesh_world.proofs.world.WorldSteps.step_counted.Goals as goal
 
@@ -13,6 +14,9 @@ returns-in-Give-clause-counted c = counted_at _ _ _ _ _ _ _ _ _ c.in-Give.is c.s
 pub returns-in-Give-clause-told : goal.returns-in-Give-clause-told
 returns-in-Give-clause-told c = steps_at _ _ _ _ _ _ _ _ _ c.in-Give.is c.self.view_is (c.give.ensures.done c.args.out.now.items)
 
+pub returns-in-Give-clause-account : goal.returns-in-Give-clause-account
+returns-in-Give-clause-account c = accounted_at _ _ _ _ _ _ _ _ _ c.in-Give.is c.self.view_is c.self.invariant c.requires.event (c.give.ensures.done c.args.out.now.items)
+
 pub invariant_of-self-in-Turn : goal.invariant_of-self-in-Turn
 invariant_of-self-in-Turn c = (c.turn.ensures.done).done.kept
 
@@ -24,6 +28,9 @@ returns-in-Turn-clause-counted c = counted_at _ _ _ _ _ _ _ _ _ c.in-Turn.is c.s
 
 pub returns-in-Turn-clause-told : goal.returns-in-Turn-clause-told
 returns-in-Turn-clause-told c = steps_at _ _ _ _ _ _ _ _ _ c.in-Turn.is c.self.view_is (c.turn.ensures.done)
+
+pub returns-in-Turn-clause-account : goal.returns-in-Turn-clause-account
+returns-in-Turn-clause-account c = accounted_at _ _ _ _ _ _ _ _ _ c.in-Turn.is c.self.view_is c.self.invariant c.requires.event (c.turn.ensures.done)
 
 pub invariant_of-self-in-Send : goal.invariant_of-self-in-Send
 invariant_of-self-in-Send c = (c.send.ensures.done).done.kept
@@ -37,6 +44,9 @@ returns-in-Send-clause-counted c = counted_at _ _ _ _ _ _ _ _ _ c.in-Send.is c.s
 pub returns-in-Send-clause-told : goal.returns-in-Send-clause-told
 returns-in-Send-clause-told c = steps_at _ _ _ _ _ _ _ _ _ c.in-Send.is c.self.view_is (c.send.ensures.done)
 
+pub returns-in-Send-clause-account : goal.returns-in-Send-clause-account
+returns-in-Send-clause-account c = accounted_at _ _ _ _ _ _ _ _ _ c.in-Send.is c.self.view_is c.self.invariant c.requires.event (c.send.ensures.done)
+
 pub invariant_of-self-in-Ask : goal.invariant_of-self-in-Ask
 invariant_of-self-in-Ask c = (c.ask.ensures.done).done.kept
 
@@ -48,6 +58,9 @@ returns-in-Ask-clause-counted c = counted_at _ _ _ _ _ _ _ _ _ c.in-Ask.is c.sel
 
 pub returns-in-Ask-clause-told : goal.returns-in-Ask-clause-told
 returns-in-Ask-clause-told c = steps_at _ _ _ _ _ _ _ _ _ c.in-Ask.is c.self.view_is (c.ask.ensures.done)
+
+pub returns-in-Ask-clause-account : goal.returns-in-Ask-clause-account
+returns-in-Ask-clause-account c = accounted_at _ _ _ _ _ _ _ _ _ c.in-Ask.is c.self.view_is c.self.invariant c.requires.event (c.ask.ensures.done)
 
 pub invariant_of-self-in-Link : goal.invariant_of-self-in-Link
 invariant_of-self-in-Link c = (c.link.ensures.done c.args.out.now.items).done.kept
@@ -61,6 +74,9 @@ returns-in-Link-clause-counted c = counted_at _ _ _ _ _ _ _ _ _ c.in-Link.is c.s
 pub returns-in-Link-clause-told : goal.returns-in-Link-clause-told
 returns-in-Link-clause-told c = steps_at _ _ _ _ _ _ _ _ _ c.in-Link.is c.self.view_is (c.link.ensures.done c.args.out.now.items)
 
+pub returns-in-Link-clause-account : goal.returns-in-Link-clause-account
+returns-in-Link-clause-account c = accounted_at _ _ _ _ _ _ _ _ _ c.in-Link.is c.self.view_is c.self.invariant c.requires.event (c.link.ensures.done c.args.out.now.items)
+
 pub invariant_of-self-in-Cut : goal.invariant_of-self-in-Cut
 invariant_of-self-in-Cut c = (c.cut.ensures.done c.args.out.now.items).done.kept
 
@@ -72,6 +88,9 @@ returns-in-Cut-clause-counted c = counted_at _ _ _ _ _ _ _ _ _ c.in-Cut.is c.sel
 
 pub returns-in-Cut-clause-told : goal.returns-in-Cut-clause-told
 returns-in-Cut-clause-told c = steps_at _ _ _ _ _ _ _ _ _ c.in-Cut.is c.self.view_is (c.cut.ensures.done c.args.out.now.items)
+
+pub returns-in-Cut-clause-account : goal.returns-in-Cut-clause-account
+returns-in-Cut-clause-account c = accounted_at _ _ _ _ _ _ _ _ _ c.in-Cut.is c.self.view_is c.self.invariant c.requires.event (c.cut.ensures.done c.args.out.now.items)
 
 pub invariant_of-self-in-Deliver : goal.invariant_of-self-in-Deliver
 invariant_of-self-in-Deliver c = (c.deliver_copy.ensures.done c.args.out.now.items).done.kept
@@ -85,6 +104,9 @@ returns-in-Deliver-clause-counted c = counted_at _ _ _ _ _ _ _ _ _ c.in-Deliver.
 pub returns-in-Deliver-clause-told : goal.returns-in-Deliver-clause-told
 returns-in-Deliver-clause-told c = steps_at _ _ _ _ _ _ _ _ _ c.in-Deliver.is c.self.view_is (c.deliver_copy.ensures.done c.args.out.now.items)
 
+pub returns-in-Deliver-clause-account : goal.returns-in-Deliver-clause-account
+returns-in-Deliver-clause-account c = accounted_at _ _ _ _ _ _ _ _ _ c.in-Deliver.is c.self.view_is c.self.invariant c.requires.event (c.deliver_copy.ensures.done c.args.out.now.items)
+
 pub invariant_of-self-in-Lose : goal.invariant_of-self-in-Lose
 invariant_of-self-in-Lose c = (c.lose_copy.ensures.done c.args.out.now.items).done.kept
 
@@ -97,6 +119,9 @@ returns-in-Lose-clause-counted c = counted_at _ _ _ _ _ _ _ _ _ c.in-Lose.is c.s
 pub returns-in-Lose-clause-told : goal.returns-in-Lose-clause-told
 returns-in-Lose-clause-told c = steps_at _ _ _ _ _ _ _ _ _ c.in-Lose.is c.self.view_is (c.lose_copy.ensures.done c.args.out.now.items)
 
+pub returns-in-Lose-clause-account : goal.returns-in-Lose-clause-account
+returns-in-Lose-clause-account c = accounted_at _ _ _ _ _ _ _ _ _ c.in-Lose.is c.self.view_is c.self.invariant c.requires.event (c.lose_copy.ensures.done c.args.out.now.items)
+
 pub invariant_of-self-in-Double : goal.invariant_of-self-in-Double
 invariant_of-self-in-Double c = (c.double_copy.ensures.done c.args.out.now.items).done.kept
 
@@ -108,6 +133,9 @@ returns-in-Double-clause-counted c = counted_at _ _ _ _ _ _ _ _ _ c.in-Double.is
 
 pub returns-in-Double-clause-told : goal.returns-in-Double-clause-told
 returns-in-Double-clause-told c = steps_at _ _ _ _ _ _ _ _ _ c.in-Double.is c.self.view_is (c.double_copy.ensures.done c.args.out.now.items)
+
+pub returns-in-Double-clause-account : goal.returns-in-Double-clause-account
+returns-in-Double-clause-account c = accounted_at _ _ _ _ _ _ _ _ _ c.in-Double.is c.self.view_is c.self.invariant c.requires.event (c.double_copy.ensures.done c.args.out.now.items)
 
 pub returns-in-Link-clause-memory : goal.returns-in-Link-clause-memory
 returns-in-Link-clause-memory c = λ short. absurd (never_short c.link.result c.link.ensures.ok short)
