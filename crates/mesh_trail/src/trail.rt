@@ -5,6 +5,7 @@ ghost use Rattle.mesh_model.specs.Routes.{next_hop};
 ghost use Rattle.mesh_meaning.specs.Events.{event_of};
 ghost use Rattle.mesh_world.specs.Seen.{WorldSeen, IsSoundWorld};
 ghost use Rattle.mesh_world.specs.Steps.{IsStep};
+ghost use Rattle.mesh_world.specs.Accounts.{KeepsAccount};
 ghost use Rattle.mesh_trail.specs.Walks.{IsRouteWalk, FillsNumber};
 
 use crate::heard::Front;
@@ -91,6 +92,7 @@ impl Steps for Trail {
         requires event { IsEvent (length self.old.mesh) (event_of e.now) }
         requires few { self.old.steps < 2 ^ 48 }
         ensures step { IsStep (event_of e.now) self.old result self.new out.new.items }
+        ensures account { KeepsAccount (event_of e.now) self.old result self.new }
         ensures sound { IsSoundWorld self.new }
         ensures number { FillsNumber result }
     {
