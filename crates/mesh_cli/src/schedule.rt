@@ -5,12 +5,12 @@ ghost use Rattle.mesh_text.specs.Schedule.{opening};
 ghost use Rattle.mesh_run.specs.Causes.{HasStatusCause, HasSourceCause};
 ghost use Rattle.mesh_run.specs.Outputs.{say_by, IsOutputFrom};
 
+use crate::memory::Memory;
 use mesh_base::Variant;
 use mesh_io::{Sink, Source};
 use mesh_run::{Point, Running, Say, Status, do_input};
 use mesh_world::World;
 use std::alloc::Global;
-use std::mem;
 
 /// Runs the schedule that the source gives, where all nodes run this variant of the protocol, and
 /// writes its text, or the last line alone where it is quiet.
@@ -21,6 +21,7 @@ pub fn run_schedule<I: Source, O: Sink>(
     variant: Variant,
     input: &mut I,
     out: &mut O,
+    memory: Memory,
 ) -> Status
     ensures told { IfSome (I.left input.old) (λ bytes. IsOutputFrom (say_by quiet)
         (opening variant) bytes (I.left input.new) (O.held out.old) (O.held out.new) result) }
@@ -35,7 +36,6 @@ pub fn run_schedule<I: Source, O: Sink>(
         say: Say::by(quiet),
     };
     let status = do_input(&mut running, input, out);
-    // The process ends with its run, and its memory goes back as a whole.
-    mem::forget(running);
+    memory.end(running);
     status
 }

@@ -11,6 +11,7 @@ ghost use Rattle.mesh_run.specs.Outputs.{part, IsOutput};
 ghost use Rattle.mesh_cli.specs.Words.{IsPlan};
 ghost use Rattle.mesh_cli.specs.Does.{made_by};
 
+use crate::memory::Memory;
 use crate::words::Plan;
 use mesh_base::{LineBuf, Variant};
 use mesh_io::Sink;
@@ -20,7 +21,6 @@ use mesh_shell::Fault;
 use mesh_text::Verdict;
 use mesh_world::World;
 use std::alloc::Global;
-use std::mem;
 
 // Does the lines that are still to come, and writes the last line of their text.
 fn do_made<O: Sink>(
@@ -54,7 +54,13 @@ fn do_made<O: Sink>(
 /// Runs a made schedule, where all nodes run this variant of the protocol, and writes the last line
 /// of its text. The lines are run as values, and none is written or read.
 #[inline(never)]
-pub fn trial<O: Sink>(alloc: Global, variant: Variant, plan: Plan, out: &mut O) -> Status
+pub fn trial<O: Sink>(
+    alloc: Global,
+    variant: Variant,
+    plan: Plan,
+    out: &mut O,
+    memory: Memory,
+) -> Status
     requires { IsPlan plan }
     ensures told { IsOutput (O.held out.old) (O.held out.new)
         (part Last (text_of_input variant (made_by plan))) result }
@@ -65,7 +71,6 @@ pub fn trial<O: Sink>(alloc: Global, variant: Variant, plan: Plan, out: &mut O) 
     let mut at: Point<World> = Point::with(variant);
     let mut maker = Maker::new(plan.seed, plan.nodes, plan.steps);
     let answer = do_made(alloc, &mut at, &mut maker, out);
-    // The process ends with its run, and its memory goes back as a whole.
-    mem::forget(at);
+    memory.end(at);
     Status::of(answer)
 }
