@@ -16,10 +16,10 @@ use Rattle.aodv_wire.specs.declared.data_packet.DataView as parcels
 use Rattle.aodv_wire.specs.Spells.{message_in_fields}
 use Rattle.aodv_meaning.specs.Meaning.{index, meaning, in_mesh, unless_in, stranger}
 use Rattle.aodv_meaning.proofs.Means.{index_there, sent_means}
-use Rattle.mesh_meaning.specs.Answers.{IsTookInMesh, IsDoneInMesh}
+use Rattle.mesh_meaning.specs.Answers.{IsTookInMesh, IsDoneInMesh, IsPacketInMesh}
 use Rattle.mesh_grammar.specs.Written.{line}
 use Rattle.mesh_text.specs.Effects.{shown_byte, datum_in}
-use Rattle.mesh_report.specs.Legible.{IsTookLegible}
+use Rattle.mesh_report.specs.Legible.{IsLegible, IsTookLegible, IsDoneLegible}
 
 -- an address that is no stranger is its node's
 there : (mesh : Nodes) (a : Addr) (rest : Option Addr) → unless_in mesh a rest ≡ None → (addr_at mesh (index mesh a) ≡ a.0) × (rest ≡ None)
@@ -49,15 +49,25 @@ no_datum label mesh b m is none old =
     sym (append-nil old) ∙ ap (λ (l : List ℕ). old ++ l) (sym (ap (λ n. datum_in label mesh (in_mesh mesh n)) is ∙ none))
 
 -- what was written of a message can be read
-pub written_is_legible : (mesh : Nodes) (took : taken.Took) → IsMesh mesh → IsTookInMesh mesh took → IsTookLegible mesh took
+packet_is_legible : (mesh : Nodes) (bytes : List ℕ) → IsMesh mesh → IsPacketInMesh mesh bytes → IsLegible mesh bytes
+packet_is_legible mesh bytes is h =
+    let means = sent_means mesh bytes (meaning mesh bytes) is h.in_mesh h.written in
+    record { allowed = h.written.spells.allowed; known = means.1 }
+
+written_is_legible : (mesh : Nodes) (took : taken.Took) → IsMesh mesh → IsTookInMesh mesh took → IsTookLegible mesh took
 written_is_legible mesh (takes.Own body) is h = h
 written_is_legible mesh (takes.Stored dest) is h = h
-written_is_legible mesh (takes.Heard from kind bytes) is h =
-    let means = sent_means mesh bytes (meaning mesh bytes) is h.2.in_mesh h.2.written in
-    (h.0, h.1, record { allowed = h.2.written.spells.allowed; known = means.1 })
+written_is_legible mesh (takes.Heard from kind bytes) is h = (h.0, h.1, packet_is_legible mesh bytes is h.2)
+
+pub done_is_legible : (mesh : Nodes) (d : dones.Done) (packet : List ℕ) → IsMesh mesh → IsDoneInMesh mesh d packet → IsDoneLegible mesh d packet
+done_is_legible mesh done.Idle packet is h = tt
+done_is_legible mesh done.Changed packet is h = tt
+done_is_legible mesh (done.Taken took effect air) packet is h = (written_is_legible mesh took is h.0, h.1)
+done_is_legible mesh (done.Sent effect air) packet is h = h
+done_is_legible mesh (done.Heard from to) packet is h = h
+done_is_legible mesh (done.Lost flying) packet is h = (h.0, h.1, packet_is_legible mesh flying.bytes is h.2)
+done_is_legible mesh (done.Doubled id to parcel) packet is h = h
 
 pub taken_is_legible : (mesh : Nodes) (d : dones.Done) (took : taken.Took) (effect : effects.Effect) (air : airs.Air) (packet : List ℕ) → d ≡ done.Taken took effect air
-    → IsMesh mesh → IsDoneInMesh mesh d packet → IsTookLegible mesh took
-taken_is_legible mesh d took effect air packet is mesh_is h =
-    let P : dones.Done → Type 0 = λ k. IsDoneInMesh mesh k packet in
-    written_is_legible mesh took mesh_is (subst P is h).0
+    → IsDoneLegible mesh d packet → IsTookLegible mesh took
+taken_is_legible mesh d took effect air packet is h = let P : dones.Done → Type 0 = λ k. IsDoneLegible mesh k packet in (subst P is h).0

@@ -1,15 +1,18 @@
--- What a node's step did, where what it took may be any packet that can be read, whoever wrote it.
-use Rattle.std.specs.Prelude.{◌≡◌, ◌<◌, ℕ, List, [], ◌++◌, length, Option, Some, None}
+-- What an event and a node's step did, where a packet that was taken, and one that was lost, may be
+-- any that can be read, whoever wrote it.
+use Rattle.std.specs.Prelude.{◌≡◌, ◌<◌, ℕ, List, [], ◌++◌, length, Option, Some, None, ⊤}
 use Rattle.std.specs.Borrow.{Bor}
 use Rattle.mesh_base.specs.Meshes.{Nodes}
 use Rattle.mesh_base.specs.declared.events.Effect as effects
 use Rattle.mesh_base.specs.declared.events.Took as taken
 use Rattle.mesh_base.specs.declared.events.Took.TheVariants as takes
+use Rattle.mesh_base.specs.declared.events.Done.{Done}
+use Rattle.mesh_base.specs.declared.events.Done.TheVariants as done
 use Rattle.aodv_model.specs.Soundness.{IsDatum}
 use Rattle.aodv_wire.specs.Spells.{refusal, message_in_fields}
 use Rattle.aodv_meaning.specs.Meaning.{meaning, stranger}
 use Rattle.aodv_meaning.specs.Effects.{kind_of}
-use Rattle.mesh_meaning.specs.Answers.{effect_in, took_in}
+use Rattle.mesh_meaning.specs.Answers.{effect_in, took_in, IsEffectInMesh}
 use Rattle.mesh_text.specs.Effects.{took_text, datum_fate, broken_text, cast_text}
 
 -- the bytes spell a message, and it names nodes of the mesh only
@@ -24,6 +27,18 @@ IsTookLegible mesh (takes.Own body) = IsDatum body
 IsTookLegible mesh (takes.Stored dest) = dest < length mesh
 IsTookLegible mesh (takes.Heard from kind bytes) =
     (from < length mesh) × (kind ≡ kind_of (meaning mesh bytes)) × IsLegible mesh bytes
+
+-- what an event did, where a packet that was taken and one that was lost may be anybody's
+abbrev pub IsDoneLegible : Nodes → Done → List ℕ → Type 0
+IsDoneLegible mesh done.Idle packet = ⊤
+IsDoneLegible mesh done.Changed packet = ⊤
+IsDoneLegible mesh (done.Taken took effect air) packet =
+    IsTookLegible mesh took × IsEffectInMesh mesh effect air packet
+IsDoneLegible mesh (done.Sent effect air) packet = IsEffectInMesh mesh effect air packet
+IsDoneLegible mesh (done.Heard from to) packet = (from < length mesh) × (to < length mesh)
+IsDoneLegible mesh (done.Lost flying) packet =
+    (flying.from < length mesh) × (flying.to < length mesh) × IsLegible mesh flying.bytes
+IsDoneLegible mesh (done.Doubled id to parcel) packet = to < length mesh
 
 -- what node x took, if its step was a turn, and what became of that. The packet that was cast has
 -- no part in it

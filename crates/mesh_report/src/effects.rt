@@ -8,7 +8,7 @@ ghost use Rattle.aodv_model.specs.Soundness.{AreBelow};
 ghost use Rattle.aodv_meaning.specs.Meaning.{meaning};
 ghost use Rattle.aodv_meaning.specs.Effects.{kind_of};
 ghost use Rattle.mesh_model.specs.Worlds.{World, members_below, copies_to};
-ghost use Rattle.mesh_meaning.specs.Packets.{IsWritten, IsWrittenCopy};
+ghost use Rattle.mesh_meaning.specs.Packets.{IsWritten};
 ghost use Rattle.mesh_meaning.specs.Events.{event_of, node_of};
 ghost use Rattle.mesh_meaning.specs.Answers.{cast_in, effect_in, took_in, copies_in, outcome_in, IsCastWritten, IsEffectInMesh, IsDoneInMesh};
 ghost use Rattle.mesh_grammar.specs.Written.{line, label_number};
@@ -18,7 +18,7 @@ ghost use Rattle.mesh_script.specs.Seen.{accepted_of, IsPrintable};
 ghost use Rattle.mesh_io.specs.Cause.{HasCause};
 ghost use Rattle.mesh_io.specs.Puts.{Puts};
 ghost use Rattle.mesh_report.specs.Gathering.{MakesRoom};
-ghost use Rattle.mesh_report.specs.Legible.{IsLegible, IsTookLegible, taken_text, effect_text};
+ghost use Rattle.mesh_report.specs.Legible.{IsLegible, IsTookLegible, IsDoneLegible, taken_text, effect_text};
 
 use crate::event::node_of;
 use crate::text::{push_labelled, push_one, push_packet, push_set, push_shown, push_two};
@@ -377,7 +377,7 @@ fn push_lost_copy(out: &mut LineBuf, mesh: &Mesh, from: usize, to: usize)
 fn push_lost(out: &mut LineBuf, mesh: &Mesh, flying: &Flying)
     requires from { flying.now.from < length mesh.now }
     requires to { flying.now.to < length mesh.now }
-    requires written { IsWrittenCopy mesh.now flying.now }
+    requires legible { IsLegible mesh.now flying.now.bytes }
     requires room { length out.old + 2131 ≤ LINE_ROOM }
     ensures text { out.new ≡ out.old
         ++ (line (codes "  lost " ++ name_of mesh.now flying.now.from
@@ -401,7 +401,7 @@ fn put_after<O: Sink>(
     out: &mut O,
 ) -> Result<(), PutFault>
     requires place { node_of (event_of e.now) < length mesh.now }
-    requires in_mesh { IsDoneInMesh mesh.now done.now packet.now.items }
+    requires legible { IsDoneLegible mesh.now done.now packet.now.items }
     requires room { length buf.old ≤ LONGEST_LINE + 1 }
     ensures text { (w : World) → Puts (O.held out.old) (O.held out.new) (buf.old
         ++ outcome_text mesh.now (node_of (event_of e.now))
@@ -426,7 +426,8 @@ fn put_after<O: Sink>(
 }
 
 /// Writes what an event did, one line for each effect. The packet is the one that was cast, if any.
-/// Nothing is written of a datum that joined an inbox or of a link that changed.
+/// One that was taken or lost may be any that can be read. Nothing is written of a datum that joined
+/// an inbox or of a link that changed.
 pub fn put_done<O: Sink>(
     mesh: &Mesh,
     e: &Event<'_>,
@@ -436,7 +437,7 @@ pub fn put_done<O: Sink>(
     out: &mut O,
 ) -> Result<(), PutFault>
     requires place { node_of (event_of e.now) < length mesh.now }
-    requires in_mesh { IsDoneInMesh mesh.now done.now packet.now.items }
+    requires legible { IsDoneLegible mesh.now done.now packet.now.items }
     ensures text { (w : World) → Puts (O.held out.old) (O.held out.new)
         (outcome_text mesh.now (node_of (event_of e.now))
         (outcome_in mesh.now (node_of (event_of e.now)) w done.now packet.now.items)) result }
@@ -462,6 +463,8 @@ pub fn put_event<O: Sink>(
         (outcome_in mesh.now (node_of (event_of e.now)) w done.now packet.now.items)) result }
     ensures cause { HasCause (O.faults out.old) (O.faults out.new) result }
 {
+    // The mesh has distinct addresses.
+    let _nodes = mesh.len();
     print_line(&Line::Step(*e), mesh, buf);
     buf.push(b'\n');
     put_after(mesh, e, done, packet, buf, out)
@@ -487,6 +490,8 @@ pub fn put_echoed_event<O: Sink>(
         (outcome_in mesh.now (node_of (event_of e.now)) w done.now packet.now.items)) result }
     ensures cause { HasCause (O.faults out.old) (O.faults out.new) result }
 {
+    // The mesh has distinct addresses.
+    let _nodes = mesh.len();
     buf.clear();
     push_text(buf, bytes);
     buf.push(b'\n');

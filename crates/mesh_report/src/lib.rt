@@ -16,5 +16,6 @@ mod text;
 pub use effects::{put_done, put_echoed_event, put_effect, put_event};
 pub use ends::{Summary, put_auto_end, put_bad, put_full, put_summary};
 pub use line::{put_echo, put_line};
+pub use mesh_grammar::BadWhy;
 pub use sums::Sums;
 pub use tables::{put_asked, put_entry, put_flying, put_number, put_stuck, put_waits};

@@ -1,5 +1,5 @@
 //! The line of a schedule, as it is written back, or as it stands.
-ghost use Rattle.std.specs.Prelude.{◌≢◌, ◌≤◌, length};
+ghost use Rattle.std.specs.Prelude.{◌≤◌, length};
 ghost use Rattle.mesh_grammar.specs.Written.{line as ended};
 ghost use Rattle.mesh_text.specs.Lines.{words_of};
 ghost use Rattle.mesh_script.specs.Seen.{accepted_of, IsPrintable};
@@ -10,7 +10,7 @@ use mesh_base::{LONGEST_LINE, LineBuf, Mesh, push_text};
 use mesh_io::{PutFault, Sink, put_all};
 use mesh_script::{Line, print_line};
 
-/// Writes an allowed line in canonical form. A blank line isn't written back.
+/// Writes an allowed line in canonical form, and its LF: of a blank line the LF alone.
 pub fn put_line<O: Sink>(
     mesh: &Mesh,
     line: &Line<'_>,
@@ -18,7 +18,6 @@ pub fn put_line<O: Sink>(
     out: &mut O,
 ) -> Result<(), PutFault>
     requires printable { IsPrintable mesh.now line.now }
-    requires some { line.now ≢ Line.Blank }
     ensures text { Puts (O.held out.old) (O.held out.new)
         (ended (words_of mesh.now (accepted_of line.now))) result }
     ensures cause { HasCause (O.faults out.old) (O.faults out.new) result }

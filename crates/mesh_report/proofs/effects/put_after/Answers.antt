@@ -9,4 +9,4 @@ returns-in-Taken-clause-text g c = λ w.
 
 pub push_turn-requires-clause-took : goal.push_turn-requires-clause-took
 push_turn-requires-clause-took g c =
-    taken_is_legible c.args.mesh.now c.args.done.now _ _ _ c.args.packet.now.items c.in-Taken.is c.len-nodes.ensures.is_mesh c.requires.in_mesh
+    taken_is_legible c.args.mesh.now c.args.done.now _ _ _ c.args.packet.now.items c.in-Taken.is c.requires.legible

@@ -9,6 +9,6 @@ no_member s size p e is =
     let none : contains s p ≡ false = ap (λ (t : NodeIds). contains t p) e ∙ contains-empty nat_cmp p in
     absurd cc
 
-pub put_done-requires-clause-in_mesh : goal.put_done-requires-clause-in_mesh
-put_done-requires-clause-in_mesh g c =
+pub put_done-requires-clause-legible : goal.put_done-requires-clause-legible
+put_done-requires-clause-legible g c =
     (search rules, record { broken = search rules; cast = search rules; receivers = λ p is. no_member c.new.result _ p c.new.ensures is; few = search rules })
