@@ -14,9 +14,19 @@ pub mod Bodies
 pub mod Sound
 -- BodyParts: the parts of a body, one after another.
 pub mod BodyParts
+-- Moments: a checkpoint has one moment.
+pub mod Moments
 -- Making: the moment that is made of the parts of a body has that body.
 pub mod Making
 -- Loaded: what is loaded of bytes is what a checkpoint is of.
 pub mod Loaded
--- Moments: a checkpoint has one moment.
-pub mod Moments
+-- Sendable: each request that a node casts has an id within its field, and each route error names a destination.
+pub mod Sendable
+-- SendableRuns: so has each that waits or flies in a run.
+pub mod SendableRuns
+-- ClearPackets: a message whose numbers are within their fields is what its packet means.
+pub mod ClearPackets
+-- PlainRuns: after the lines of any input the moment is plain.
+pub mod PlainRuns
+-- Unrefused: no refusal applies to the checkpoint of a moment of a run.
+pub mod Unrefused

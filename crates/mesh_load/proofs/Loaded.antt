@@ -19,6 +19,7 @@ use Rattle.mesh_load.specs.declared.error.StateError.{StateError}
 use Rattle.mesh_load.specs.declared.error.StateError.TheVariants as errors
 use Rattle.mesh_load.specs.Errors.{after_survey}
 use Rattle.mesh_load.specs.Loading.{IsUnsoundWorld, IsRefused}
+use Rattle.mesh_load.specs.Moments.{IsPlainMoment}
 use Rattle.mesh_load.specs.Parts.{IsMade, Makes, IsRefusalOf, IsUnsoundIfWorld, IsBody, IsUnsoundBody, IsMomentOf}
 
 -- ---- the bytes of the body
@@ -117,3 +118,7 @@ few_lines read (Err e) made = tt
 pub few_steps : (read : Option (Body × List ℕ)) (r : Result Moment StateError) → Makes IsMomentOf IsUnsoundBody read r → IfOk r (λ p. p.steps ≤ MOST_STEPS)
 few_steps read (Ok m) made = (made.made).steps
 few_steps read (Err e) made = tt
+
+pub is_plain : (read : Option (Body × List ℕ)) (r : Result Moment StateError) → Makes IsMomentOf IsUnsoundBody read r → IfOk r IsPlainMoment
+is_plain read (Ok m) made = (made.made).plain
+is_plain read (Err e) made = tt

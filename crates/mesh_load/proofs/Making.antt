@@ -4,6 +4,7 @@ use Rattle.std.specs.Prelude.{IfSome, nat_le, nat_lt, ◌&&◌, option_map}
 use Rattle.std.specs.Option.{ForSome, unwrap_or}
 use Rattle.std.specs.List.{AllByRecursion}
 use Rattle.std.proofs.lemmas.Bool.{and_parts, ltb-true}
+use Rattle.std.proofs.lemmas.List.{length-map}
 use Rattle.std.proofs.lemmas.Option.{same_Some}
 use Rattle.mesh_base.specs.declared.limits.TheConstants.{MOST_NODES}
 use Rattle.mesh_base.specs.Meshes.{Nodes}
@@ -16,7 +17,8 @@ use Rattle.mesh_world.specs.Seen.{WorldSeen, node_in, most_data_at_first}
 use Rattle.mesh_text.specs.Schedule.{Moment, Sums}
 use Rattle.mesh_text.specs.Accounts as accounts
 use Rattle.mesh_moment.specs.Moments as moments
-use Rattle.mesh_moment.specs.Moments.{AreOfVariant, moment_seen}
+use Rattle.mesh_model.specs.Places.{IsInMesh}
+use Rattle.mesh_moment.specs.Moments.{AreOfVariant, IsSafe, IsSafeWorld, moment_seen}
 use Rattle.mesh_checkpoint.specs.declared.body.Head.{Head}
 use Rattle.mesh_checkpoint.specs.declared.limits.TheConstants.{SUMS_END, MOST_STEPS}
 use Rattle.mesh_checkpoint.specs.Formats.{◌>>=◌, is_from, rising, fits_maybe}
@@ -26,11 +28,13 @@ use Rattle.mesh_checkpoint.specs.Counts.{data_in, IsBalanced}
 use Rattle.mesh_checkpoint.specs.Points.{body_of}
 use Rattle.mesh_load.specs.declared.error.StateError.{StateError}
 use Rattle.mesh_load.specs.declared.error.StateError.TheVariants as errors
+use Rattle.mesh_load.specs.Moments.{IsPlainWorld, HasPlainWorld, IsPlainMoment}
 use Rattle.mesh_load.specs.Nodes.{AllFrom, IsSoundNodeAt}
 use Rattle.mesh_load.specs.Parts.{IsMade, IsRefusalOf, IsFitting, IsMaybeWorldFrom, IsUnsoundIfWorld, IsBody, sums_in, IsUnsoundBody, IsMomentOf}
 use Rattle.mesh_load.proofs.Amounts.{AreSumsOf, balanced_made, balanced_unmade}
 use Rattle.mesh_load.proofs.Bodies.{IsWorldOf, body_again, body_without_world}
 use Rattle.mesh_load.proofs.Sound.{none_unsound_if}
+use Rattle.mesh_load.proofs.Moments.{plain_in}
 use Rattle.mesh_load.proofs.WorldParts.{bind_some, world_ranges}
 use Rattle.mesh_load.proofs.BodyParts.{read_maybe, as_body, body_at}
 
@@ -69,7 +73,7 @@ below : (end n : ℕ) → is_from 0 end n ≡ true → n < end
 below end n is = ltb-true n end (and_parts (nat_le 0 n) (nat_lt n end) is).1
 
 -- the numbers of a body are in the table's ranges
-body_ranges : (head : Head) (nodes : Nodes) (world : Option World) → model.body.fits (body_with head nodes world) ≡ true → (is_from 0 (MOST_NODES + 1) (length nodes) ≡ true) × (fits_maybe (has_nodes nodes) (model.world (length nodes)).fits world ≡ true)
+pub body_ranges : (head : Head) (nodes : Nodes) (world : Option World) → model.body.fits (body_with head nodes world) ≡ true → (is_from 0 (MOST_NODES + 1) (length nodes) ≡ true) × (fits_maybe (has_nodes nodes) (model.world (length nodes)).fits world ≡ true)
 body_ranges head nodes world fits =
     let of_world : Bool = fits_maybe (has_nodes nodes) (model.world (length nodes)).fits world in
     let all = and_parts (model.head.fits head) (model.mesh.fits nodes && of_world) fits in
@@ -77,10 +81,13 @@ body_ranges head nodes world fits =
     let count = and_parts (is_from 0 (MOST_NODES + 1) (length nodes)) ((rising (λ p. p.0) model.station (length nodes)).fits nodes) behind.0 in
     (count.0, behind.1)
 
-few_nodes : (bytes s : List ℕ) (head : Head) (nodes : Nodes) → HasParts bytes s head nodes → length nodes ≤ 256
-few_nodes bytes s head nodes p =
+few_mesh : (bytes s : List ℕ) (head : Head) (nodes : Nodes) → HasParts bytes s head nodes → length nodes ≤ MOST_NODES
+few_mesh bytes s head nodes p =
     let lt = below (MOST_NODES + 1) (length nodes) (body_ranges head nodes p.world p.fits).0 in
     omega (arith, lt)
+
+few_nodes : (bytes s : List ℕ) (head : Head) (nodes : Nodes) → HasParts bytes s head nodes → length nodes ≤ 256
+few_nodes bytes s head nodes p = omega (arith, few_mesh bytes s head nodes p)
 
 fitting_world : (nodes : Nodes) (world : Option World) → fits_maybe (has_nodes nodes) (model.world (length nodes)).fits world ≡ true → data_in world < most_data_at_first → IfSome world (IsFitting (length nodes))
 fitting_world nodes None fits few = tt
@@ -169,10 +176,28 @@ few_steps mesh variant (Some w) (Some seen) fit is =
     let same : seen.steps ≡ w.steps = ap (λ (s : WorldSeen). s.steps) is.seen_is in
     omega (arith, lt, same)
 
+-- the world's messages are what their packets mean, and all that it names is in its mesh
+plain_seen : (mesh : Nodes) (variant : Variant) (world : Option World) (seen : Option WorldSeen) → length mesh ≤ MOST_NODES → IsMaybeWorldFrom mesh variant world seen → IfSome (option_map (λ (w : WorldSeen). w.world) seen) IsSafeWorld
+    → HasPlainWorld variant mesh (unwrap_or (option_map (λ (w : WorldSeen). w.steps) seen) 0) (option_map (λ (w : WorldSeen). w.world) seen)
+unfolding world_in
+plain_seen mesh variant None None few is safe = refl
+plain_seen mesh variant (Some w) None few is safe = absurd is
+plain_seen mesh variant None (Some seen) few is safe = absurd is
+plain_seen mesh variant (Some w) (Some seen) few is safe =
+    let made : worlds.World = world_in mesh is.nodes is.radio in
+    let same : seen.world ≡ made = ap (λ (s : WorldSeen). s.world) is.seen_is in
+    let count : length (map (node_in mesh) is.nodes) ≡ length is.nodes = length-map is.nodes (node_in mesh) in
+    subst (IsPlainWorld variant mesh) (sym same) (record {
+      in_mesh = subst IsInMesh same ((safe.invariant).in_mesh);
+      few = omega (arith, count, is.count, few);
+      variant_is = world_of_variant mesh variant is.nodes is.radio (is.listed_are).each;
+      plain = plain_in mesh is.nodes is.radio (is.in_place).written;
+    })
+
 -- the moment has the body that was read
 pub point_made : (bytes s : List ℕ) (head : Head) (nodes : Nodes) (seen : Option WorldSeen) (sums : Sums) (m : Moment) → HasParts bytes s head nodes → IsMade (IsMaybeWorldFrom nodes head.variant) (read_maybe nodes s) seen → sums ≡ sums_in head → head.lines < SUMS_END
-    → m ≡ moment_seen head.variant nodes seen sums head.lines → IsMade IsMomentOf (model.body.get bytes) m
-point_made bytes s head nodes seen sums m p made are few is =
+    → m ≡ moment_seen head.variant nodes seen sums head.lines → IsSafe m → IsMade IsMomentOf (model.body.get bytes) m
+point_made bytes s head nodes seen sums m p made are few is safe =
     let world_is : IsMaybeWorldFrom nodes head.variant p.world seen = made_of nodes head.variant s p.world seen p.world_read made in
     let moment : m ≡ moment_seen head.variant nodes seen (sums_in head) head.lines = is ∙ ap (λ (t : Sums). moment_seen head.variant nodes seen t head.lines) are in
     record {
@@ -181,6 +206,9 @@ point_made bytes s head nodes seen sums m p made are few is =
       read_is = p.body_is;
       made = record {
         body_is = ap body_of moment ∙ body_with_seen head nodes p.world seen world_is;
+        plain =
+            let there = subst (λ (k : Moment). IfSome k.world IsSafeWorld) is safe.world in
+            subst IsPlainMoment (sym is) (plain_seen nodes head.variant p.world seen (few_mesh bytes s head nodes p) world_is there);
         sound = λ part. none_unsound_if nodes head.variant p.world seen part (few_nodes bytes s head nodes p) world_is;
         lines = rw is few;
         steps = rw is (few_steps nodes head.variant p.world seen (fits_world bytes s head nodes p) world_is);

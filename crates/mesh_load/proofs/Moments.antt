@@ -28,8 +28,9 @@ use Rattle.mesh_world.specs.Restored.{AreWritten}
 use Rattle.mesh_world.proofs.Frames.{each_get}
 use Rattle.mesh_checkpoint.specs.declared.body.Head.{Head}
 use Rattle.mesh_checkpoint.specs.Checkpoint.{Node, Link, World, Body}
-use Rattle.mesh_checkpoint.specs.Points.{item_of, node_of, links_of, copy_of, world_after}
-use Rattle.mesh_load.specs.Moments.{IsPlain, IsPlainItem, ArePlain, IsPlainWorld, HasPlainWorld, OneMoment}
+use Rattle.mesh_checkpoint.specs.Points.{item_of, node_of, links_of, copy_of, world_after, body_of}
+use Rattle.mesh_checkpoint.specs.Laws.{OneBody}
+use Rattle.mesh_load.specs.Moments.{IsPlain, IsPlainItem, ArePlain, IsPlainWorld, HasPlainWorld, OneMoment, OneStart}
 use Rattle.mesh_restore.specs.Nodes.{ArePrecursorsBelow}
 use Rattle.mesh_load.proofs.Listed.{pairs-contains, one_pairs, below_more, one_core}
 
@@ -39,7 +40,7 @@ item_again : (mesh : Nodes) (i : Item) → IsPlainItem mesh i → item_in mesh (
 item_again mesh (New body dest) plain = refl
 item_again mesh (Heard from m) plain = ap (λ (n : Message). Heard from n) plain
 
-queue_again : (mesh : Nodes) (is : List Item) → AllByRecursion (IsPlainItem mesh) is → map (item_in mesh) (map (item_of mesh) is) ≡ is
+pub queue_again : (mesh : Nodes) (is : List Item) → AllByRecursion (IsPlainItem mesh) is → map (item_in mesh) (map (item_of mesh) is) ≡ is
 queue_again mesh [] plain = refl
 queue_again mesh (i ∷ is) plain =
     let first : item_in mesh (item_of mesh i) ≡ i = item_again mesh i plain.0 in
@@ -49,7 +50,7 @@ queue_again mesh (i ∷ is) plain =
 one_queue : (mesh : Nodes) (is js : List Item) → AllByRecursion (IsPlainItem mesh) is → AllByRecursion (IsPlainItem mesh) js → map (item_of mesh) is ≡ map (item_of mesh) js → is ≡ js
 one_queue mesh is js plain even same = sym (queue_again mesh is plain) ∙ ap (map (item_in mesh)) same ∙ queue_again mesh js even
 
-copies_again : (mesh : Nodes) (cs : List model.Copy) → AllByRecursion (λ c. IsPlain mesh c.message) cs → map (copy_in mesh) (map (copy_of mesh) cs) ≡ cs
+pub copies_again : (mesh : Nodes) (cs : List model.Copy) → AllByRecursion (λ c. IsPlain mesh c.message) cs → map (copy_in mesh) (map (copy_of mesh) cs) ≡ cs
 copies_again mesh [] plain = refl
 copies_again mesh (c ∷ cs) plain =
     let first : meaning mesh (packet_of mesh c.message) ≡ c.message = plain.0 in
@@ -210,6 +211,10 @@ one_moment m n is it same =
       lines = (heads i).lines;
       steps = both.1 i;
     }
+
+-- a checkpoint has one body
+pub one_start : OneBody → OneStart
+one_start one b m n is it first second = one_moment m n is it (one b (body_of m) (body_of n) first second)
 
 -- ---- what was read of packets is plain
 

@@ -284,6 +284,7 @@ made mesh variant bytes steps nodes radio seen k between sound fit is = record {
     radio = radio;
     seen_is = is ∙ ap (λ (n : ℕ). seen_of mesh nodes radio n) (sym k.steps_are);
     listed_are = k.listed_are;
+    count = k.count;
     links_are = k.links_are;
     next_is = k.next_is;
     copies_are = k.copies_are;

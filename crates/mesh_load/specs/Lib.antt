@@ -5,7 +5,7 @@ pub mod Errors
 pub mod Nodes
 -- Loading: why bytes are refused from which no run goes on.
 pub mod Loading
--- Parts: what a reader of a part of a body answers.
-pub mod Parts
 -- Moments: the moments of which a checkpoint has all.
 pub mod Moments
+-- Parts: what a reader of a part of a body answers.
+pub mod Parts

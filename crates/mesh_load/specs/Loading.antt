@@ -9,8 +9,10 @@ use Rattle.aodv_node.specs.Restored.{HasItemsAt}
 use Rattle.mesh_world.specs.Restored.{AreWritten, IsFirstPart}
 use Rattle.mesh_world.specs.declared.restored.Part.{Part}
 use Rattle.mesh_world.specs.declared.restored.Part.TheVariants as parts
+use Rattle.mesh_text.specs.Text.{text_of_input}
 use Rattle.mesh_checkpoint.specs.Checkpoint.{World, Body}
 use Rattle.mesh_checkpoint.specs.Counts.{IsBalanced}
+use Rattle.mesh_checkpoint.specs.Points.{IsState}
 use Rattle.mesh_checkpoint.specs.State as state
 use Rattle.mesh_checkpoint.specs.State.{IsCheckpoint}
 use Rattle.mesh_checkpoint.specs.declared.surveying.SurveyError.TheVariants as survey
@@ -54,3 +56,10 @@ IsRefused b errors.Spelling = state.IsRefused b survey.Spelling
 IsRefused b errors.Sums = state.IsRefused b survey.Sums
 IsRefused b (errors.Unsound part) = IsUnsound b part
 IsRefused b errors.NoMemory = ⊤
+
+-- of those that apply to a checkpoint of a moment of a run there is none but want of memory
+abbrev pub RunIsUnrefused : Type 0
+RunIsUnrefused =
+    (variant : Variant) (input b : List ℕ) (why : StateError)
+    → IsState b (text_of_input variant input).after → IsRefused b why
+    → why ≡ errors.NoMemory

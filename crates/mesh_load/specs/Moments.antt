@@ -1,5 +1,5 @@
 -- The moments of which a checkpoint has all.
-use Rattle.std.specs.Prelude.{◌≡◌, ◌≤◌, ℕ, Option, Some, None, length, ⊤}
+use Rattle.std.specs.Prelude.{◌≡◌, ◌≤◌, ℕ, List, Option, Some, None, length, ⊤}
 use Rattle.std.specs.List.{AllByRecursion}
 use Rattle.mesh_base.specs.declared.limits.TheConstants.{MOST_NODES}
 use Rattle.mesh_base.specs.declared.events.Variant.{Variant}
@@ -10,8 +10,9 @@ use Rattle.mesh_model.specs.Worlds as model
 use Rattle.mesh_model.specs.Places.{IsInMesh}
 use Rattle.mesh_meaning.specs.Packets.{packet_of}
 use Rattle.mesh_text.specs.Schedule.{Moment}
+use Rattle.mesh_text.specs.Text.{text_of_input}
 use Rattle.mesh_moment.specs.Moments.{AreOfVariant}
-use Rattle.mesh_checkpoint.specs.Points.{body_of}
+use Rattle.mesh_checkpoint.specs.Points.{body_of, IsState}
 
 -- the message is what its packet means. So is each that was read of a packet
 abbrev pub IsPlain : Nodes → Message → Type 0
@@ -45,3 +46,14 @@ IsPlainMoment m = HasPlainWorld m.variant m.mesh m.steps m.world
 -- a body is of one such moment
 abbrev pub OneMoment : Type 0
 OneMoment = (m n : Moment) → IsPlainMoment m → IsPlainMoment n → body_of m ≡ body_of n → m ≡ n
+
+-- so a checkpoint is of one
+abbrev pub OneStart : Type 0
+OneStart =
+    (b : List ℕ) (m n : Moment) → IsPlainMoment m → IsPlainMoment n → IsState b m → IsState b n
+    → m ≡ n
+
+-- after the lines of any input, as far as they were done, the moment is such a moment
+abbrev pub RunIsPlain : Type 0
+RunIsPlain =
+    (variant : Variant) (input : List ℕ) → IsPlainMoment (text_of_input variant input).after

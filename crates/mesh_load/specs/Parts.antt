@@ -19,6 +19,7 @@ use Rattle.mesh_load.specs.declared.error.StateError.{StateError}
 use Rattle.mesh_load.specs.declared.error.StateError.TheVariants as errors
 use Rattle.mesh_load.specs.Nodes.{AreListed, IsLeastUnsound}
 use Rattle.mesh_load.specs.Loading.{AreInPlace, IsUnsoundWorld}
+use Rattle.mesh_load.specs.Moments.{IsPlainMoment}
 
 -- ---- any part
 
@@ -66,6 +67,7 @@ pub record IsWorldFrom (mesh : Nodes) (variant : Variant) (found : World) (seen 
   pub radio : RadioState
   pub seen_is : seen ≡ seen_of mesh nodes radio found.steps
   pub listed_are : AreListed variant (length mesh) found.nodes nodes
+  pub count : length nodes ≡ length mesh
   pub links_are : found.links ≡ links_of radio.ever radio.links
   pub next_is : found.next ≡ radio.next_copy
   pub copies_are : found.copies ≡ radio.flying
@@ -110,9 +112,10 @@ abbrev pub IsUnsoundBody : Body → Part → Type 0
 IsUnsoundBody x part = IsUnsoundIfWorld x.mesh (x.head).variant x.world part
 
 -- the moment has this body, each part of which is as in a run, and its numbers are in the table's
--- ranges
+-- ranges; and it is the one moment with this body
 pub record IsMomentOf (x : Body) (m : Moment) : Type 0 where
   pub body_is : body_of m ≡ x
+  pub plain : IsPlainMoment m
   pub sound : (part : Part) → ¬ (IsUnsoundBody x part)
   pub lines : m.lines < SUMS_END
   pub steps : m.steps ≤ MOST_STEPS

@@ -8,5 +8,5 @@ mod nodes;
 mod world;
 
 pub use error::StateError;
-pub use laws::one_moment;
+pub use laws::{a_run_is_plain, a_run_is_unrefused, one_moment, one_start};
 pub use loading::load;

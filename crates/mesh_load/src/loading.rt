@@ -3,6 +3,7 @@ ghost use Rattle.std.specs.Prelude.{◌≡◌, ◌<◌, ◌≤◌, IfOk, MatchRe
 ghost use Rattle.mesh_checkpoint.specs.Checkpoint as model;
 ghost use Rattle.mesh_checkpoint.specs.Points.{IsState};
 ghost use Rattle.mesh_load.specs.Loading.{IsRefused};
+ghost use Rattle.mesh_load.specs.Moments.{IsPlainMoment};
 ghost use Rattle.mesh_report.specs.Sums.{sums_of};
 ghost use Rattle.mesh_load.specs.Parts.{Makes, IsBody, IsMomentOf, IsUnsoundBody, sums_in};
 
@@ -45,15 +46,20 @@ fn restore(alloc: Global, body: &[u8]) -> Result<Point<World>, StateError>
     };
     let world = read_maybe_world(alloc, &mesh, head.variant, rest)?;
     match Point::from_parts(mesh, head.variant, world, sums_in(&head), head.lines) {
-        Some(point) => Ok(point),
+        Some(point) => {
+            // It says that all which the world names is in its mesh.
+            let _world = point.world();
+            Ok(point)
+        }
         None => Err(StateError::Sums),
     }
 }
 
-/// The moment of which these bytes are the checkpoint; or the first refusal that applies. Nothing
-/// asks for memory before it is known that the bytes are a checkpoint with balanced sums.
+/// The one moment of which these bytes are the checkpoint; or the first refusal that applies.
+/// Nothing asks for memory before it is known that the bytes are a checkpoint with balanced sums.
 pub fn load(alloc: Global, b: &[u8]) -> Result<Point<World>, StateError>
     ensures exact { MatchResult result (λ p. IsState b.now p) (λ e. IsRefused b.now e) }
+    ensures plain { IfOk result IsPlainMoment }
     ensures unrefused { IfOk result (λ _. (e : StateError) → IsRefused b.now e
         → e ≡ StateError.NoMemory) }
     ensures lines { IfOk result (λ p. p.lines < SUMS_END) }

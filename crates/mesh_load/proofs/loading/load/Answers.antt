@@ -1,4 +1,4 @@
-use Rattle.mesh_load.proofs.Loaded.{is_body, all_behind, exact, none_refused, few_lines, few_steps}
+use Rattle.mesh_load.proofs.Loaded.{is_body, all_behind, exact, none_refused, is_plain, few_lines, few_steps}
 use Rattle.mesh_load.proofs.loading.load.Goals as goal
 
 pub restore-requires : goal.restore-requires
@@ -15,3 +15,6 @@ returns-clause-lines c = few_lines _ c.restore.result c.restore.ensures
 
 pub returns-clause-steps : goal.returns-clause-steps
 returns-clause-steps c = few_steps _ c.restore.result c.restore.ensures
+
+pub returns-clause-plain : goal.returns-clause-plain
+returns-clause-plain c = is_plain _ c.restore.result c.restore.ensures

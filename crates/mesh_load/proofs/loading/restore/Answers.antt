@@ -22,7 +22,7 @@ from_parts-requires-clause-world c =
 pub returns-in-Some-from_parts : goal.returns-in-Some-from_parts
 returns-in-Some-from_parts c =
     let parts = has_parts c.args.body.now c.in-Some.rest.now c.in-Some-read_mesh.rest.now c.in-Some.head c.in-Some-read_mesh.mesh c.requires c.in-Some.ensures.value c.in-Some-read_mesh.ensures in
-    point_made c.args.body.now c.in-Some-read_mesh.rest.now c.in-Some.head c.in-Some-read_mesh.mesh c.in_ok-world.world (sums_of c.sums_in.result) c.in-Some-from_parts.point parts c.in_ok-world.ensures c.sums_in.ensures (c.in-Some.ensures.below).lines c.in-Some-from_parts.ensures.moment
+    point_made c.args.body.now c.in-Some-read_mesh.rest.now c.in-Some.head c.in-Some-read_mesh.mesh c.in_ok-world.world (sums_of c.sums_in.result) c.in-Some-from_parts.point parts c.in_ok-world.ensures c.sums_in.ensures (c.in-Some.ensures.below).lines c.in-Some-from_parts.ensures.moment c.world-world.ensures.safe
 
 pub returns-in-None : goal.returns-in-None
 returns-in-None c =

@@ -1,0 +1,5 @@
+use Rattle.mesh_load.proofs.Moments as lemmas
+use Rattle.mesh_load.proofs.laws.one_start.Goals as goal
+
+pub returns : goal.returns
+returns c = lemmas.one_start c.one_body.ensures
