@@ -25,7 +25,7 @@ use Rattle.mesh_run.specs.declared.stop.Stop.{Stop}
 use Rattle.mesh_script.specs.declared.line.Line.{Line}
 use Rattle.mesh_script.specs.declared.line.Line.TheVariants as line
 use Rattle.mesh_script.specs.Seen.{accepted_of}
-use Rattle.mesh_run.proofs.Loud.{loud_line}
+use Rattle.mesh_run.proofs.Loud.{same_as, loud_line, loud_past_as, loud_past_failed_as}
 use Rattle.mesh_run.proofs.Settled.{goes_on_where_done}
 use Rattle.mesh_run.specs.Room.{CanLead}
 use Rattle.mesh_watch.specs.Text.{watched_line, watched_read, watched_piece}
@@ -100,15 +100,16 @@ line_leads s m n k bytes b d did result same back told lines steps = goes_on_whe
 -- the last line of one that goes past a limit
 pub past_told : (s m : Moment) (limit : Limit) (why : BadWhy) (v : Verdict) (a b : Option (List ℕ)) → s ≡ m → why ≡ why_past limit → v ≡ RefusedAt (s.lines + 1) → Appends a b (bad_line (s.lines + 1) why)
     → outputs.IsLineLast (outcome_in_run m (watched_piece m (piece_past limit))) v a b
-past_told s m limit why v a b same is verdict put = record {
-  text = [];
-  last = bad_line (m.lines + 1) why;
-  is = ap (outcome_in_run m) (came-past m limit ∙ ap Refused (sym is)) ∙ ap (shell.Ended [] (bad_line (m.lines + 1) why)) (sym (verdict ∙ ap (λ (x : Moment). RefusedAt (x.lines + 1)) same));
-  grown = subst (λ (x : Moment). Appends a b (bad_line (x.lines + 1) why)) same put;
-}
+past_told s m limit why v a b same is verdict put =
+    let piece : texts.LineOutcome = watched_piece m (piece_past limit) in
+    let here = subst (λ (x : Moment). Appends a b (bad_line (x.lines + 1) why)) same put in
+    subst (λ (c : shell.Outcome Moment Verdict). outputs.IsLineLast c v a b) (same_as (outcome_in_run m piece))
+    (loud_past_as (λ (x : Moment). x) m piece v why a b (came-past m limit ∙ ap Refused (sym is)) (verdict ∙ ap (λ (x : Moment). RefusedAt (x.lines + 1)) same) here)
 
 pub past_broken : (s m : Moment) (limit : Limit) (why : BadWhy) (a b : Option (List ℕ)) (answer : Result Verdict ShellFault) → s ≡ m → why ≡ why_past limit → IsErr answer → AppendsPrefix a b (bad_line (s.lines + 1) why)
     → outputs.IsLastRun (outcome_in_run m (watched_piece m (piece_past limit))) a b answer
-past_broken s m limit why a b (Ok v) same is failed put = absurd (let P : ⊥ = cc in P)
-past_broken s m limit why a b (Err e) same is failed put =
-    subst (λ (k : texts.LineOutcome). AppendsPrefix a b (outputs.text_in (outcome_in_run m k))) (sym (came-past m limit ∙ ap Refused (sym is))) (subst (λ (x : Moment). AppendsPrefix a b (bad_line (x.lines + 1) why)) same put)
+past_broken s m limit why a b answer same is failed put =
+    let piece : texts.LineOutcome = watched_piece m (piece_past limit) in
+    let here = subst (λ (x : Moment). AppendsPrefix a b (bad_line (x.lines + 1) why)) same put in
+    subst (λ (c : shell.Outcome Moment Verdict). outputs.IsLastRun c a b answer) (same_as (outcome_in_run m piece))
+    (loud_past_failed_as (λ (x : Moment). x) m piece why a b answer failed (came-past m limit ∙ ap Refused (sym is)) here)
