@@ -1,5 +1,5 @@
 -- What was read at the front of an input, from the pieces that were taken.
-use Rattle.std.proofs.Common.{◌≡◌, ◌∙◌, ℕ, Bool, true, false, refl, ◌+◌, ◌-◌, ◌<◌, ◌≤◌, ◌⊎◌, inl, inr, List, ◌++◌, length, take, drop, Option, Some, None, IfSome, sym, ap, ap₂, subst, arith, take-append-drop, length-take}
+use Rattle.std.proofs.Common.{◌≡◌, ◌∙◌, ℕ, Bool, true, false, refl, ◌+◌, ◌-◌, ◌<◌, ◌≤◌, ◌⊎◌, inl, inr, List, ◌++◌, length, take, drop, Option, Some, None, IfSome, sym, ap, ap₂, subst, arith, take-append-drop, length-take, length-drop, append_assoc}
 use Rattle.std.specs.Int.{w32, from_be_bytes}
 use Rattle.std.proofs.Math.Dec.{leb}
 use Rattle.std.proofs.lemmas.Bool.{leb-true, leb-false}
@@ -10,7 +10,8 @@ use Rattle.std.proofs.lemmas.Bool.Decides.{nat_tests}
 use Rattle.mesh_checkpoint.specs.declared.limits.TheConstants.{LONGEST_BODY}
 use Rattle.mesh_checkpoint.specs.State.{magic, stated_size}
 use Rattle.mesh_state.specs.declared.front.TheConstants.{HEAD_SIZE}
-use Rattle.mesh_state.specs.Fronts.{front_size, front_of, rest_of, IsOtherHead, IsFrontTaken, IsTaken, TakesUpTo}
+use Rattle.std.specs.Io.KnownBytes.{Consumes}
+use Rattle.mesh_state.specs.Fronts.{front_size, front_of, rest_of, IsOtherHead, IsFrontTaken, IsTaken, IsFrontCut, TakesFewer, TakesUpTo}
 
 -- ---- the size of a front
 
@@ -130,3 +131,45 @@ pub taken_body : (l0 l1 l2 k : Option (List ℕ)) (v w size : ℕ) (head taken f
     → size ≤ LONGEST_BODY → take 4 head ≡ magic → take w taken ≡ head → TakesUpTo size l1 l2 (drop w taken) → IfSome l0 (λ bytes. IsTaken bytes front k)
 taken_body l0 l1 l2 k v w size head taken front e f none t eight whole says within first kept u =
     moved l0 l2 k taken front e f (behind l0 l1 l2 v w size head taken none t eight whole says within first kept u)
+
+-- ---- where a read failed
+
+cut_alone : (l0 l1 : Option (List ℕ)) (taken : List ℕ) → TakesFewer HEAD_SIZE l0 l1 taken → IfSome l0 (λ bytes. IsFrontCut bytes l1)
+cut_alone None l1 taken t = tt
+cut_alone (Some bytes) l1 taken t = record {
+  taken = taken;
+  consumed = t.0;
+  fewer = omega (arith, t.1);
+  same_head = λ o. let whole = o.whole in let size = length-take 8 taken in omega (arith, t.1);
+}
+
+pub cut_head : (l0 l1 : Option (List ℕ)) (v : ℕ) (taken : List ℕ) → v ≡ 0 → TakesFewer HEAD_SIZE l0 l1 (drop v taken) → IfSome l0 (λ bytes. IsFrontCut bytes l1)
+cut_head l0 l1 v taken none t = cut_alone l0 l1 (drop v taken) t
+
+joined_bytes : (bytes taken : List ℕ) (l : Option (List ℕ)) → take 8 taken ≡ take 8 bytes → Consumes (Some (drop 8 bytes)) l (drop 8 taken) → Consumes (Some bytes) l taken
+joined_bytes bytes taken None same c = c
+joined_bytes bytes taken (Some rest) same c =
+    sym (take-append-drop 8 bytes) ∙ ap₂ (λ a b. a ++ b) (sym same) c ∙ sym (append_assoc (take 8 taken) (drop 8 taken) rest) ∙ ap (λ l. l ++ rest) (take-append-drop 8 taken)
+
+cut_with : (bytes head taken : List ℕ) (size : ℕ) (left : Option (List ℕ)) → head ≡ take 8 bytes → length head ≡ 8 → size ≡ stated_size head → size ≤ 268435456 → take 4 head ≡ magic → take 8 taken ≡ head
+    → TakesFewer size (Some (drop 8 bytes)) left (drop 8 taken) → IsFrontCut bytes left
+cut_with bytes head taken size left is eight says within first front t =
+    let within_head : stated_size head ≤ LONGEST_BODY = subst (λ n. n ≤ LONGEST_BODY) says within in
+    let long : length (take 8 taken) ≡ length head = ap length front in
+    let whole : length (take 8 taken) ≡ _ = length-take 8 taken in
+    let behind : length (drop 8 taken) ≡ _ = length-drop 8 taken in
+    let states : stated_size taken ≡ size = sym (stated_in 8 taken (omega arith)) ∙ ap stated_size front ∙ sym says in
+    record {
+      taken = taken;
+      consumed = joined_bytes bytes taken left (front ∙ is) t.0;
+      fewer = omega (arith, t.1);
+      same_head = subst (λ h. ¬ (IsOtherHead h)) (sym front) (no_other head first within_head);
+    }
+
+pub cut_body : (l0 l1 l2 : Option (List ℕ)) (v w size : ℕ) (head taken : List ℕ) → v ≡ 0 → TakesUpTo HEAD_SIZE l0 l1 (drop v head) → w ≡ 8 → length head ≡ HEAD_SIZE → size ≡ stated_size head → size ≤ LONGEST_BODY
+    → take 4 head ≡ magic → take w taken ≡ head → TakesFewer size l1 l2 (drop w taken) → IfSome l0 (λ bytes. IsFrontCut bytes l2)
+cut_body None l1 l2 v w size head taken none t eight whole says within first kept u = tt
+cut_body (Some bytes) l1 l2 v w size head taken none t eight whole says within first kept u =
+    let all : drop v head ≡ head = ap (λ k. drop k head) none in
+    let q : TakesFewer size (Some (drop 8 bytes)) l2 (drop w taken) = subst (λ l. TakesFewer size l l2 (drop w taken)) t.1 u in
+    cut_with bytes head taken size l2 (sym all ∙ t.0) whole says within first (ap (λ k. take k taken) (sym eight) ∙ kept) (subst (λ k. TakesFewer size (Some (drop 8 bytes)) l2 (drop k taken)) eight q)

@@ -5,5 +5,6 @@ pub mod Checkpoints
 pub mod Refused
 pub mod Told
 pub mod Completes
+pub mod GoneOn
 pub mod Causes
 pub mod Small

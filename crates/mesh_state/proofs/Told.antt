@@ -17,10 +17,11 @@ use Rattle.mesh_save.specs.Saved.{IsWritten, IsCut}
 use Rattle.mesh_load.specs.declared.error.StateError.{StateError}
 use Rattle.mesh_load.specs.declared.error.StateError.TheVariants as errors
 use Rattle.mesh_load.specs.Loading.{IsRefused}
+use Rattle.mesh_load.specs.Moments.{IsPlainMoment}
 use Rattle.mesh_state.specs.declared.words.Asked.TheVariants.{Save, Go}
 use Rattle.mesh_state.specs.declared.status.StateStatus.{StateStatus}
 use Rattle.mesh_state.specs.declared.status.StateStatus.TheVariants.{Run, TooBig}
-use Rattle.mesh_state.specs.Fronts.{front_of, rest_of, IsTaken}
+use Rattle.mesh_state.specs.Fronts.{front_of, rest_of, IsTaken, IsFrontCut}
 use Rattle.mesh_state.specs.Answers.{IsSaved, IsCutOff, IsTooBig, IsUnrefused, answer_by, IsRunOn, IsBadState, IsRunGone, IsRunSaved, IsAnswered, HasAnswered}
 use Rattle.mesh_state.proofs.Refused.{refused, restored}
 
@@ -122,18 +123,23 @@ gone bytes left a b status.Usage other t = absurd (other refl)
 
 -- the rest was run from the front's moment
 gone_from : (left0 left1 left2 a b : Option (List ℕ)) (taken : List ℕ) (start : Moment) (s : Status) → s ≢ status.Usage → IfSome left0 (λ bytes. IsTaken bytes taken left1)
-    → IsState taken start → IsUnrefused taken → IfSome left1 (λ bytes. IsOutputFrom All start bytes left2 a b s) → HasAnswered (Some Go) left0 left2 a b (Run s)
-gone_from None left1 left2 a b taken start s other read is free told = tt
-gone_from (Some bytes) left1 left2 a b taken start s other read is free told =
+    → IsState taken start → IsPlainMoment start → IsUnrefused taken → IfSome left1 (λ bytes. IsOutputFrom All start bytes left2 a b s) → HasAnswered (Some Go) left0 left2 a b (Run s)
+gone_from None left1 left2 a b taken start s other read is plain free told = tt
+gone_from (Some bytes) left1 left2 a b taken start s other read is plain free told =
     let r = restored bytes taken left1 start read is in
     let front : IsUnrefused (front_of bytes) = subst IsUnrefused r.2 free in
     let so : IsOutputFrom All start (rest_of bytes) left2 a b s = subst (λ o. IfSome o (λ l. IsOutputFrom All start l left2 a b s)) r.1 told in
-    gone bytes left2 a b s other (record { unrefused = front; start = start; state = r.0; told = so })
+    gone bytes left2 a b s other (record { unrefused = front; start = start; plain = plain; state = r.0; told = so })
 
 pub gone_told : (left0 left1 left2 a b : Option (List ℕ)) (taken seen : List ℕ) (start : Moment) (s : Status) → seen ≡ taken → s ≢ status.Usage → IfSome left0 (λ bytes. IsTaken bytes taken left1)
-    → IsState seen start → ((why : StateError) → IsRefused seen why → why ≡ errors.NoMemory) → IfSome left1 (λ bytes. IsOutputFrom All start bytes left2 a b s) → HasAnswered (Some Go) left0 left2 a b (Run s)
-gone_told left0 left1 left2 a b taken seen start s e other read is free told =
-    gone_from left0 left1 left2 a b taken start s other read (subst (λ l. IsState l start) e is) (subst IsUnrefused e (λ why apart bad. apart (free why bad))) told
+    → IsState seen start → IsPlainMoment start → ((why : StateError) → IsRefused seen why → why ≡ errors.NoMemory) → IfSome left1 (λ bytes. IsOutputFrom All start bytes left2 a b s) → HasAnswered (Some Go) left0 left2 a b (Run s)
+gone_told left0 left1 left2 a b taken seen start s e other read is plain free told =
+    gone_from left0 left1 left2 a b taken start s other read (subst (λ l. IsState l start) e is) plain (subst IsUnrefused e (λ why apart bad. apart (free why bad))) told
+
+-- a read failed within the front
+pub cut_told : (left0 left1 a : Option (List ℕ)) → IfSome left0 (λ bytes. IsFrontCut bytes left1) → HasAnswered (Some Go) left0 left1 a a (Run status.ReadFault)
+cut_told None left1 a cut = tt
+cut_told (Some bytes) left1 a cut = inl (cut, Keeps-same a)
 
 -- the front was refused
 bad_front : (bytes : List ℕ) (left1 a : Option (List ℕ)) (taken : List ℕ) (why : StateError) → why ≢ errors.NoMemory → IsTaken bytes taken left1 → IsRefused taken why → IsBadState bytes left1 a a why

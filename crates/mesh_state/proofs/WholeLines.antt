@@ -8,7 +8,8 @@ use Rattle.mesh_grammar.specs.Lines.{complete, complete_parts}
 use Rattle.mesh_text.specs.Schedule.{opening}
 use Rattle.mesh_text.specs.Text.{text_of_input}
 use Rattle.mesh_text.proofs.Seams.{run_goes_on}
-use Rattle.mesh_state.specs.Laws.{HasWholeLines, SavedRunGoesOn}
+use Rattle.mesh_state.specs.Saved.{HasWholeLines}
+use Rattle.mesh_state.specs.Laws.{SavedRunGoesOn}
 
 -- a byte more before parts of which all but the last are these bytes
 onto : (x : ℕ) (ls : List (List ℕ)) (s : List ℕ) → complete_parts ls ≡ s → 1 ≤ length s → complete_parts (onto_first x ls) ≡ x ∷ s

@@ -1,6 +1,6 @@
 -- What a call has written and answered. Where a sink doesn't tell what it holds, the answer alone
 -- is claimed.
-use Rattle.std.specs.Prelude.{◌≡◌, ◌≢◌, ◌⊎◌, ℕ, List, Option, IfSome}
+use Rattle.std.specs.Prelude.{◌≡◌, ◌≢◌, ◌⊎◌, ℕ, List, ◌++◌, Option, IfSome, ⊤}
 use Rattle.std.specs.Io.KnownBytes.{Keeps}
 use Rattle.mesh_base.specs.declared.events.Variant.TheVariants.{Base}
 use Rattle.mesh_io.specs.Cause.{Rose}
@@ -10,17 +10,19 @@ use Rattle.mesh_text.specs.declared.verdict.Verdict.TheVariants.{Finished}
 use Rattle.mesh_run.specs.declared.say.Say.TheVariants.{All, Faults}
 use Rattle.mesh_run.specs.declared.status.Status.{Status}
 use Rattle.mesh_run.specs.declared.status.Status.TheVariants.{Done, Usage, ReadFault, WriteFault, NoMemory}
-use Rattle.mesh_run.specs.Outputs.{IsOutputFrom}
+use Rattle.mesh_run.specs.Outputs.{IsOutputOf, IsOutputFrom}
 use Rattle.mesh_checkpoint.specs.Points.{IsState, IsTooLong}
 use Rattle.mesh_save.specs.Saved.{IsWritten, IsCut}
 use Rattle.mesh_load.specs.declared.error.StateError.{StateError}
 use Rattle.mesh_load.specs.declared.error.StateError.TheVariants as errors
 use Rattle.mesh_load.specs.Loading.{IsRefused}
+use Rattle.mesh_load.specs.Moments.{IsPlainMoment}
 use Rattle.mesh_state.specs.declared.words.Asked.{Asked}
 use Rattle.mesh_state.specs.declared.words.Asked.TheVariants.{Save, Go}
 use Rattle.mesh_state.specs.declared.status.StateStatus.{StateStatus}
 use Rattle.mesh_state.specs.declared.status.StateStatus.TheVariants.{Run, BadState, TooBig}
-use Rattle.mesh_state.specs.Fronts.{front_of, rest_of, IsTaken}
+use Rattle.mesh_state.specs.Fronts.{front_of, rest_of, IsTaken, IsFrontCut}
+use Rattle.mesh_state.specs.Saved.{IsSavedOf, IsTextBelow}
 
 -- ---- with `save`, of the run of a schedule
 
@@ -57,10 +59,11 @@ IsRunSaved bytes left before now others =
 abbrev pub IsUnrefused : List ℕ → Type 0
 IsUnrefused front = (why : StateError) → why ≢ errors.NoMemory → ¬ (IsRefused front why)
 
--- the front is not refused, it is the checkpoint of a moment, and the rest was run from there
+-- the front is not refused, it is the checkpoint of one moment, and the rest was run from there
 pub record IsRunOn (bytes : List ℕ) (left before now : Option (List ℕ)) (s : Status) : Type 0 where
   pub unrefused : IsUnrefused (front_of bytes)
   pub start : Moment
+  pub plain : IsPlainMoment start
   pub state : IsState (front_of bytes) start
   pub told : IsOutputFrom All start (rest_of bytes) left before now s
 
@@ -73,15 +76,28 @@ pub record IsBadState (bytes : List ℕ) (left before now : Option (List ℕ)) (
   pub refusal : why ≢ errors.NoMemory
   pub kept : Keeps before now
 
--- nothing was written where a read of the front failed, or memory ran out before the run
+-- it ran so; or nothing was written, where a read failed within the front, or memory ran out before
+-- the run
+abbrev pub RanUnlessCut : (Status → Type 0) → List ℕ → Option (List ℕ) → Option (List ℕ)
+    → Option (List ℕ) → Status → Type 0
+RanUnlessCut ran bytes left before now Usage = ⊥
+RanUnlessCut ran bytes left before now ReadFault =
+    (IsFrontCut bytes left × Keeps before now) ⊎ ran ReadFault
+RanUnlessCut ran bytes left before now NoMemory = Keeps before now ⊎ ran NoMemory
+RanUnlessCut ran bytes left before now others = ran others
+
+-- the rest was run from the front's moment on
 abbrev pub IsRunGone : List ℕ → Option (List ℕ) → Option (List ℕ) → Option (List ℕ) → Status
     → Type 0
-IsRunGone bytes left before now Usage = ⊥
-IsRunGone bytes left before now ReadFault =
-    Keeps before now ⊎ IsRunOn bytes left before now ReadFault
-IsRunGone bytes left before now NoMemory =
-    Keeps before now ⊎ IsRunOn bytes left before now NoMemory
-IsRunGone bytes left before now others = IsRunOn bytes left before now others
+IsRunGone bytes left before now s =
+    RanUnlessCut (IsRunOn bytes left before now) bytes left before now s
+
+-- what was written and answered of the second lines is what they come to below the first
+abbrev pub IsGoneOn : List ℕ → List ℕ → Option (List ℕ) → Option (List ℕ) → Option (List ℕ)
+    → Status → Type 0
+IsGoneOn first second left before now s =
+    (text : List ℕ → RunText) × IsTextBelow first text
+    × IsOutputOf All text second left before now s
 
 -- ---- either
 
@@ -95,6 +111,17 @@ IsAnswered Go bytes left before now (Run s) = IsRunGone bytes left before now s
 IsAnswered Go bytes left before now (BadState why) = IsBadState bytes left before now why
 IsAnswered Go bytes left before now TooBig = ⊥
 
+-- with `go`, where the source gave the checkpoint of a schedule's last moment and then more lines,
+-- the run went on as that of the schedule with these lines behind it; the checkpoint isn't refused
+abbrev pub IsContinued : Asked → List ℕ → Option (List ℕ) → Option (List ℕ) → Option (List ℕ)
+    → StateStatus → Type 0
+IsContinued Go bytes left before now (Run s) =
+    (first second saved : List ℕ) → IsSavedOf first saved → bytes ≡ saved ++ second
+    → RanUnlessCut (IsGoneOn first second left before now) bytes left before now s
+IsContinued Go bytes left before now (BadState why) =
+    (first second saved : List ℕ) → IsSavedOf first saved → bytes ≢ saved ++ second
+IsContinued asked bytes left before now others = ⊤
+
 -- with `save` the schedule's run is done, and its last moment's body isn't too long; with `go` the
 -- front isn't refused, and the run of the rest is done
 abbrev pub IsAllowed : Asked → List ℕ → Type 0
@@ -103,7 +130,7 @@ IsAllowed Save bytes =
     × ¬ (IsTooLong (text_on (opening Base) bytes).after)
 IsAllowed Go bytes =
     IsUnrefused (front_of bytes)
-    × ((start : Moment) → IsState (front_of bytes) start
+    × ((start : Moment) → IsPlainMoment start → IsState (front_of bytes) start
     → (text_on start (rest_of bytes)).verdict ≡ Finished)
 
 -- with `go` a refusal of the front applies
@@ -155,3 +182,9 @@ abbrev pub HasRefused : Option Asked → Option (List ℕ) → (r s : ℕ) → S
 HasRefused asked given r s answer =
     IfSome asked (λ a. IfSome given (λ bytes.
     HasRefusal a bytes → ¬ (Rose r s) → IsRefusalOrShort answer))
+
+-- where it began with the checkpoint of a schedule's last moment, the run went on as the schedule's
+abbrev pub HasGoneOn : Option Asked → Option (List ℕ) → Option (List ℕ) → Option (List ℕ)
+    → Option (List ℕ) → StateStatus → Type 0
+HasGoneOn asked given left before now answer =
+    IfSome asked (λ a. IfSome given (λ bytes. IsContinued a bytes left before now answer))

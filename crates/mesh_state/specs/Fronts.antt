@@ -1,5 +1,6 @@
 -- The front of an input, where a checkpoint stands, and the rest that follows it.
 use Rattle.std.specs.Prelude.{ℕ, ◌≡◌, ◌≢◌, ◌<◌, ◌+◌, ◌⊎◌, Bool, ◌&&◌, nat_le, if◌then◌else◌, List, length, take, drop, Option, Some, None, ⊤}
+use Rattle.std.specs.Io.KnownBytes.{Consumes}
 use Rattle.mesh_checkpoint.specs.declared.limits.TheConstants.{LONGEST_BODY}
 use Rattle.mesh_checkpoint.specs.State.{magic, stated_size}
 use Rattle.mesh_state.specs.declared.front.TheConstants.{HEAD_SIZE}
@@ -44,6 +45,18 @@ pub record IsHeadTaken (bytes taken : List ℕ) (left : Option (List ℕ)) : Typ
 -- either of these
 abbrev pub IsTaken : List ℕ → List ℕ → Option (List ℕ) → Type 0
 IsTaken bytes taken left = IsFrontTaken bytes taken left ⊎ IsHeadTaken bytes taken left
+
+-- a read failed within the front. These bytes were taken: fewer than a head has, or than the head
+-- and the body that it states. Their first 8 don't show that no body follows
+pub record IsFrontCut (bytes : List ℕ) (left : Option (List ℕ)) : Type 0 where
+  pub taken : List ℕ
+  pub consumed : Consumes (Some bytes) left taken
+  pub fewer : length taken < HEAD_SIZE + stated_size taken
+  pub same_head : ¬ (IsOtherHead (take HEAD_SIZE taken))
+
+-- these bytes were taken of the known bytes, and are fewer than so many
+abbrev pub TakesFewer : ℕ → Option (List ℕ) → Option (List ℕ) → List ℕ → Type 0
+TakesFewer count before left taken = Consumes before left taken × (length taken < count)
 
 -- so many bytes were taken of the known bytes, or all where there are fewer
 abbrev pub TakesUpTo : ℕ → Option (List ℕ) → Option (List ℕ) → List ℕ → Type 0

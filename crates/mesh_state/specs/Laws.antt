@@ -1,16 +1,14 @@
 -- The statements that this crate proves of its definitions.
-use Rattle.std.specs.Prelude.{◌≡◌, ◌≤◌, ◌⊎◌, ℕ, List, [], ◌∷◌, ◌++◌, length}
+use Rattle.std.specs.Prelude.{◌≡◌, ◌≤◌, ℕ, List, ◌++◌, length}
 use Rattle.mesh_base.specs.declared.limits.TheConstants.{LONGEST_INPUT}
 use Rattle.mesh_base.specs.declared.events.Variant.TheVariants.{Base}
 use Rattle.mesh_text.specs.Schedule.{Moment}
 use Rattle.mesh_text.specs.Text.{lines_before, text_on, text_of_input}
 use Rattle.mesh_text.specs.declared.verdict.Verdict.TheVariants.{Finished}
 use Rattle.mesh_checkpoint.specs.Points.{IsState}
+use Rattle.mesh_load.specs.Moments.{IsPlainMoment}
 use Rattle.mesh_state.specs.Fronts.{front_of, rest_of}
-
--- no bytes, or bytes of which the last is an LF
-abbrev pub HasWholeLines : List ℕ → Type 0
-HasWholeLines bytes = (bytes ≡ []) ⊎ ((front : List ℕ) × (bytes ≡ front ++ 10 ∷ []))
+use Rattle.mesh_state.specs.Saved.{HasWholeLines, IsSavedOf}
 
 -- of a checkpoint and what follows it, the checkpoint is the front
 abbrev pub CheckpointIsFront : Type 0
@@ -25,3 +23,12 @@ SavedRunGoesOn = (first second : List ℕ) → HasWholeLines first
     → text_of_input Base (first ++ second)
     ≡ lines_before (text_of_input Base first).lines
     (text_on (text_of_input Base first).after second)
+
+-- a run that goes on from a moment with this checkpoint, with the lines behind it, is that of the
+-- whole schedule below the lines that were done
+abbrev pub LoadedRunGoesOn : Type 0
+LoadedRunGoesOn = (first second saved : List ℕ) (start : Moment) → IsSavedOf first saved
+    → length (first ++ second) ≤ LONGEST_INPUT
+    → IsPlainMoment start → IsState (front_of (saved ++ second)) start
+    → text_of_input Base (first ++ second)
+    ≡ lines_before (text_of_input Base first).lines (text_on start (rest_of (saved ++ second)))

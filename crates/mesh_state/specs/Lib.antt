@@ -9,6 +9,8 @@ pub mod Fronts
 pub mod Small
 -- Causes: when a call answers a fault of its source or its sink.
 pub mod Causes
+-- Saved: a run whose checkpoint was saved, and what the lines that follow come to below it.
+pub mod Saved
 -- Answers: what a call has written and answered.
 pub mod Answers
 -- Laws: what is proved of these definitions.

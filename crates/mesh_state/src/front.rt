@@ -2,7 +2,7 @@
 ghost use Rattle.std.specs.Prelude.{◌≡◌, ◌≤◌, ◌<◌, ◌+◌, ◌⊎◌, length, take, drop, IfOk, IfSome, IfNone, IsErrOf, vec_len};
 ghost use Rattle.mesh_run.specs.Causes.{HasCauseIf};
 ghost use Rattle.mesh_checkpoint.specs.State.{magic, stated_size};
-ghost use Rattle.mesh_state.specs.Fronts.{IsOtherHead, IsTaken, TakesUpTo};
+ghost use Rattle.mesh_state.specs.Fronts.{IsOtherHead, IsTaken, IsFrontCut, TakesFewer, TakesUpTo};
 
 use mesh_checkpoint::LONGEST_BODY;
 use mesh_io::Source;
@@ -29,6 +29,8 @@ fn take_more<I: Source>(input: &mut I, count: usize, bytes: &mut Vec<u8>) -> Res
     ensures few { vec_len bytes.new ≤ vec_len bytes.old + count }
     ensures taken { IfOk result (λ _. TakesUpTo count (I.left input.old) (I.left input.new)
         (drop (vec_len bytes.old) bytes.new.items)) }
+    ensures cut { IsErrOf result FrontError.ReadFault → TakesFewer count (I.left input.old)
+        (I.left input.new) (drop (vec_len bytes.old) bytes.new.items) }
     ensures cause { HasCauseIf (IsErrOf result FrontError.ReadFault)
         (I.faults input.old) (I.faults input.new) }
 {
@@ -76,6 +78,8 @@ fn body_size(head: &[u8]) -> Option<usize>
 pub fn take_front<I: Source>(alloc: Global, input: &mut I) -> Result<Vec<u8>, FrontError>
     ensures taken { IfOk result (λ front. IfSome (I.left input.old) (λ bytes.
         IsTaken bytes front.items (I.left input.new))) }
+    ensures cut { IsErrOf result FrontError.ReadFault → IfSome (I.left input.old) (λ bytes.
+        IsFrontCut bytes (I.left input.new)) }
     ensures cause { HasCauseIf (IsErrOf result FrontError.ReadFault)
         (I.faults input.old) (I.faults input.new) }
 {

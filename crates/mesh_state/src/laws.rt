@@ -1,5 +1,7 @@
 //! Laws of the definitions. Each function has an empty body and a contract that states a law.
-ghost use Rattle.mesh_state.specs.Laws.{CheckpointIsFront, SavedRunGoesOn};
+ghost use Rattle.mesh_state.specs.Laws.{CheckpointIsFront, SavedRunGoesOn, LoadedRunGoesOn};
+
+use mesh_load::one_start;
 
 /// Of a checkpoint and the lines that follow it, the checkpoint is the front, and the lines are the
 /// rest.
@@ -12,3 +14,11 @@ pub fn a_checkpoint_is_the_front()
 pub fn a_saved_run_goes_on()
     ensures { SavedRunGoesOn }
 {}
+
+/// A run that goes on from the checkpoint of a schedule's last moment is that of the schedule with
+/// the lines that follow behind it.
+pub fn a_loaded_run_goes_on()
+    ensures { LoadedRunGoesOn }
+{
+    one_start();
+}

@@ -11,14 +11,14 @@ ghost use Rattle.mesh_checkpoint.specs.Points.{IsTooLong};
 ghost use Rattle.mesh_save.specs.Saved.{IsWritten, IsCut};
 ghost use Rattle.mesh_state.specs.Words.{asked_of};
 ghost use Rattle.mesh_state.specs.Causes.{HasReadCause, HasWriteCause};
-ghost use Rattle.mesh_state.specs.Answers.{answer_by, HasAnswered, HasCompleted, HasRefused};
+ghost use Rattle.mesh_state.specs.Answers.{answer_by, HasAnswered, HasGoneOn, HasCompleted, HasRefused};
 ghost use Rattle.mesh_state.specs.Small.{IsSmall};
 
 use crate::front::{FrontError, take_front};
 use crate::status::StateStatus;
 use crate::words::{Asked, asked_of};
 use mesh_io::{Sink, Source};
-use mesh_load::{StateError, load};
+use mesh_load::{StateError, a_run_is_unrefused, load, one_start};
 use mesh_run::{Point, Running, Say, Status, do_input};
 use mesh_save::SaveError;
 use mesh_world::World;
@@ -179,10 +179,18 @@ pub fn state<I: Source, O: Sink>(
 
     // With `save` the answer is the verdict of the run, and where that is done the checkpoint of
     // its last moment is written, unless its body is too long. With `go` the answer is the first
-    // refusal of the front, and nothing is written; or the front is the checkpoint of a moment, and
-    // what is written and answered is the text and the verdict of the rest from there. After a
-    // failed write, or want of memory, a prefix of that is written.
+    // refusal of the front, and nothing is written; or the front is the checkpoint of one moment,
+    // and what is written and answered is the text and the verdict of the rest from there. After a
+    // failed read the text of the lines that were read whole is written, and nothing only where
+    // fewer bytes were taken than the front has; after a failed write, or want of memory, a prefix.
     ensures told { HasAnswered (asked_of (map (λ w. w.now) words.now)) (I.left input.old)
+        (I.left input.new) (O.held out.old) (O.held out.new) result }
+
+    // Where a schedule of whole lines is done, and the source gives the checkpoint of its last
+    // moment and then more lines, `go` refuses nothing and goes on as the run of the schedule with
+    // these lines behind it: what is written is that run's text below the schedule's lines, and the
+    // answer is its verdict.
+    ensures goes_on { HasGoneOn (asked_of (map (λ w. w.now) words.now)) (I.left input.old)
         (I.left input.new) (O.held out.old) (O.held out.new) result }
 
     // Done only where the input was read to its end.
@@ -201,6 +209,9 @@ pub fn state<I: Source, O: Sink>(
     ensures refused { HasRefused (asked_of (map (λ w. w.now) words.now)) (I.left input.old)
         (I.faults input.old) (I.faults input.new) result }
 {
+    // A checkpoint is of one moment, and one of a run isn't refused.
+    one_start();
+    a_run_is_unrefused();
     match asked_of(words) {
         Some(asked) => answer(alloc, asked, input, out),
         None => StateStatus::Run(Status::Usage),

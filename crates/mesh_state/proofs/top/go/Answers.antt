@@ -4,7 +4,7 @@ use Rattle.mesh_state.proofs.top.go.Goals as goal
 pub returns-in-Ok-loaded-clause-told : goal.returns-in-Ok-loaded-clause-told
 returns-in-Ok-loaded-clause-told g c =
     gone_told (g.I.Source.left c.args.input.now) (g.I.Source.left c.take_front.new.input) (g.I.Source.left c.go_on.new.input) _ _ c.in-Ok.front.items c.deref.result.now c.in-Ok-loaded.at c.go_on.result c.deref.ensures.value
-    c.go_on.ensures.words c.in-Ok.ensures.taken c.in-Ok-loaded.ensures.exact c.in-Ok-loaded.ensures.unrefused c.go_on.ensures.told
+    c.go_on.ensures.words c.in-Ok.ensures.taken c.in-Ok-loaded.ensures.exact c.in-Ok-loaded.ensures.plain c.in-Ok-loaded.ensures.unrefused c.go_on.ensures.told
 
 pub returns-in-Err-clause-told : goal.returns-in-Err-clause-told
 returns-in-Err-clause-told g c =

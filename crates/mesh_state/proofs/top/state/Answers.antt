@@ -1,6 +1,11 @@
 use Rattle.std.proofs.Common.{◌∙◌, sym}
 use Rattle.mesh_state.proofs.Completes.{answer_completes, answer_refuses}
+use Rattle.mesh_state.proofs.GoneOn.{answer_goes_on}
 use Rattle.mesh_state.proofs.top.state.Goals as goal
+
+pub returns-in-Some-clause-goes_on : goal.returns-in-Some-clause-goes_on
+returns-in-Some-clause-goes_on g c =
+    answer_goes_on c.one_start.ensures c.a_run_is_unrefused.ensures _ c.in-Some.asked (g.I.Source.left c.args.input.now) _ _ _ c.answer.result (sym c.in-Some.is ∙ c.asked_of.ensures) c.answer.ensures.told
 
 pub returns-in-Some-clause-complete : goal.returns-in-Some-clause-complete
 returns-in-Some-clause-complete g c =
