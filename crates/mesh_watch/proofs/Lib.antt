@@ -1,4 +1,5 @@
 pub mod SameRun
+pub mod WholeLines
 pub mod WithBlocks
 pub mod Events
 pub mod Chosen

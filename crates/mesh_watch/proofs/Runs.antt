@@ -18,12 +18,17 @@ use Rattle.mesh_run.specs.declared.status.Status.TheVariants as status
 use Rattle.mesh_run.proofs.Loud.{loud_told}
 use Rattle.mesh_watch.specs.Text.{watched_run, watched_on}
 use Rattle.mesh_watch.specs.Outputs.{IsOutputFrom, IsWatchedRun, IsRun}
-use Rattle.mesh_watch.proofs.SameRun.{same_run, watched_run_is_the_run}
+use Rattle.mesh_watch.proofs.SameRun.{same_run, watched_run_is_the_run, moment_is_the_runs, moment_is_of_events, moments_are_loop_free}
+use Rattle.mesh_watch.proofs.WithBlocks.{blocks_are_all_that_is_added}
 
 is_watched : (variant : Variant) (schedule : List ℕ) → IsWatchedRun variant schedule
 is_watched variant schedule = record {
   worlds = subst (λ (m : Moment). world_of m ≡ world_after variant schedule m.sums.events) (sym (ap (λ (w : RunText). w.after) (watched_run_is_the_run variant schedule))) (run_of_events variant schedule);
+  same = λ i k. moment_is_the_runs variant schedule i k;
+  moments = λ i k done. moment_is_of_events variant schedule i k done;
   loop_free = λ k d. runs_are_loop_free variant schedule k d;
+  moments_loop_free = λ i k d. moments_are_loop_free variant schedule i k d;
+  blocks = blocks_are_all_that_is_added variant schedule;
 }
 
 -- what the script's answer tells, and that it is of such a run

@@ -1,20 +1,26 @@
 -- A watched run differs from the run in its lines alone.
-use Rattle.std.proofs.Common.{◌≡◌, ℕ, List, [], ◌∷◌, Result, Ok, Err, length, is_some, refl, sym, ap, subst, ◌∙◌}
+use Rattle.std.proofs.Common.{◌≡◌, ℕ, List, [], ◌∷◌, Result, Ok, Err, length, take, is_some, refl, sym, ap, subst, ◌∙◌}
+use Rattle.std.specs.Prelude.{slice_get}
+use Rattle.mesh_base.specs.declared.events.Variant.{Variant}
+use Rattle.mesh_model.specs.Walks.{Cycle}
 use Rattle.mesh_model.specs.Worlds as worlds
 use Rattle.mesh_model.specs.Worlds.{Event, Outcome, Idle, Next}
 use Rattle.mesh_grammar.specs.declared.fault.LineFault.{LineFault}
 use Rattle.mesh_shell.specs.Pieces.{Piece, Whole, Long, Beyond}
 use Rattle.mesh_shell.specs.Story as shell
 use Rattle.mesh_grammar.specs.Written.{line}
-use Rattle.mesh_text.specs.Schedule.{Moment, AcceptedLine, Nothing, NewNode, Does, Chooses, ShowsNode, ShowsRoute, ShowsFlight, line_of, with_world, next_moment, outcome_at, opening}
+use Rattle.mesh_text.specs.Schedule.{Moment, AcceptedLine, Nothing, NewNode, Does, Chooses, ShowsNode, ShowsRoute, ShowsFlight, line_of, world_of, with_world, next_moment, outcome_at, opening}
 use Rattle.mesh_text.specs.Lines.{words_of}
 use Rattle.mesh_text.specs.Accounts.{IsBalanced}
 use Rattle.mesh_text.specs.Auto.{EventsOutcome, Ended, Full as EventsFull, before, done_then, outcome_of_events, events_chosen}
 use Rattle.mesh_text.specs.Text.{pieces_of_input, LineOutcome, On, Refused, Full, outcome_by_events, outcome_of_auto, outcome_of_line, outcome_of_read, outcome_of_piece, RunText, goes_on, text_from, text_on, text_of_input}
+use Rattle.mesh_text.specs.Runs.{moment_in_next, prefix_of_input}
 use Rattle.mesh_text.proofs.Moments.{data_are_accounted_for as run_is_accounted_for}
+use Rattle.mesh_text.proofs.MomentLaws.{moment_is_of_run, moment_is_loop_free}
 use Rattle.mesh_watch.specs.Blocks.{block_below}
 use Rattle.mesh_watch.specs.Text.{watched_events, watched_line, watched_read, watched_piece, watched_from, watched_on, watched_of_input}
-use Rattle.mesh_watch.specs.Laws.{WatchedRunIsTheRun, DataAreAccountedFor}
+use Rattle.mesh_watch.specs.Moments.{watched_prefix, AreDone, moment_within, IsOfEvents}
+use Rattle.mesh_watch.specs.Laws.{WatchedRunIsTheRun, MomentIsTheRuns, DataAreAccountedFor}
 
 -- ---- what a line comes to, but for its text
 
@@ -110,3 +116,18 @@ watched_run_is_the_run variant input = same_run (opening variant) input
 
 pub data_are_accounted_for : DataAreAccountedFor
 data_are_accounted_for variant input = subst IsBalanced (sym (ap (λ (w : RunText). w.after) (watched_run_is_the_run variant input))) (run_is_accounted_for variant input)
+
+-- ---- each moment
+
+pub moment_is_the_runs : MomentIsTheRuns
+moment_is_the_runs variant input i k =
+    ap (λ (w : RunText). moment_in_next w.after (slice_get (pieces_of_input input) i) k) (bare_from (opening variant) (take i (pieces_of_input input)))
+
+pub moment_is_of_events : (variant : Variant) (input : List ℕ) (i k : ℕ) → AreDone variant input i → IsOfEvents variant input (moment_within variant input i k)
+moment_is_of_events variant input i k done =
+    let same : (watched_prefix variant input i).verdict ≡ (prefix_of_input variant input i).verdict = ap (λ (w : RunText). w.verdict) (bare_from (opening variant) (take i (pieces_of_input input))) in
+    subst (IsOfEvents variant input) (sym (moment_is_the_runs variant input i k)) (moment_is_of_run variant input i k (sym same ∙ done))
+
+pub moments_are_loop_free : (variant : Variant) (input : List ℕ) (i k d : ℕ) → ¬ (Cycle (world_of (moment_within variant input i k)) d)
+moments_are_loop_free variant input i k d =
+    subst (λ (m : Moment). ¬ (Cycle (world_of m) d)) (sym (moment_is_the_runs variant input i k)) (moment_is_loop_free variant input i k d)

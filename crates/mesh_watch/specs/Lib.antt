@@ -5,6 +5,8 @@ pub mod Words
 pub mod Blocks
 -- Text: the text of a watched run, and its verdict.
 pub mod Text
+-- Moments: the moments of a watched run.
+pub mod Moments
 -- Parts: what the blocks add to the text of a run.
 pub mod Parts
 -- Laws: what is proved of these definitions.

@@ -56,8 +56,10 @@ pub fn watch<I: Source, O: Sink>(
 
     // What is written is the text of the input with its blocks, and the answer its verdict. After a
     // failed write, or want of memory, it is a prefix of that text; after a failed read it is the
-    // text of the lines that were read whole. In no world to which that run comes, after any number
-    // of its events, does a destination have a loop.
+    // text of the lines that were read whole. Each block is whole lines, directly below those of
+    // its event, and shows the node that the event has changed, at the moment after it. After each
+    // line of that run, and after each event of the next, the world is that of the run without
+    // blocks, to which its events so far lead, and in no such world does a destination have a loop.
     ensures text_of_a_loop_free_run { IfSome (variant_of (map (λ w. w.now) words.now)) (λ variant.
         IfSome (I.left input.old) (λ bytes. IsRun variant bytes
         (I.left input.new) (O.held out.old) (O.held out.new) result)) }
