@@ -9,6 +9,7 @@ site = $(lib)/python3/dist-packages
 libexec = $(DESTDIR)$(PREFIX)/libexec/mesh
 bin = $(DESTDIR)$(PREFIX)/bin
 share = $(DESTDIR)$(PREFIX)/share
+ns3 = $(share)/mesh/ns3
 man = $(share)/man
 doc = $(share)/doc/mesh
 bash = $(share)/bash-completion/completions
@@ -54,6 +55,8 @@ install: all
 	sed 's|@PREFIX@|$(PREFIX)|; s|@VERSION@|'"$$(cat VERSION)"'|' include/aodv.pc.in >$(lib)/pkgconfig/aodv.pc
 	chmod 644 $(lib)/pkgconfig/aodv.pc
 	install -m 644 bindings/python/aodv.py $(site)
+	install -d $(ns3)
+	install -m 644 bindings/ns3/*.h bindings/ns3/*.cc $(ns3)
 
 uninstall:
 	rm -rf $(libexec) $(doc)/examples $(doc)/LICENSE-MIT $(doc)/LICENSE-APACHE
@@ -63,5 +66,7 @@ uninstall:
 	rm -f $(man)/man5/mesh.5 $(bash)/mesh $(zsh)/_mesh
 	rm -f $(include)/aodv.h $(include)/aodv.hpp $(lib)/libaodv.a $(lib)/libaodv.so $(lib)/libaodv.so.1
 	rm -f $(lib)/pkgconfig/aodv.pc $(site)/aodv.py
+	rm -rf $(ns3)
+	[ ! -d $(share)/mesh ] || rmdir $(share)/mesh 2>/dev/null || :
 
 .PHONY: all check install uninstall
