@@ -12,3 +12,4 @@ pub mod Faults
 pub mod Settled
 pub mod Scripts
 pub mod Loud
+pub mod EveryInput

@@ -4,6 +4,8 @@ ghost use Rattle.std.specs.Io.KnownBytes.{IsAtEnd};
 ghost use Rattle.mesh_base.specs.declared.limits.TheConstants.{LONGEST_INPUT, MOST_EVENTS};
 ghost use Rattle.mesh_text.specs.Schedule.{opening};
 ghost use Rattle.mesh_text.specs.Text.{text_on};
+ghost use Rattle.mesh_text.specs.EveryWorld.{IsLoopFreeRun, IsAccountedRun};
+ghost use Rattle.mesh_text.specs.NamedData.{IsNamedRun};
 ghost use Rattle.mesh_moment.specs.Moments.{IsSafe};
 ghost use Rattle.mesh_run.specs.Causes.{HasStatusCause, HasSourceCause};
 ghost use Rattle.mesh_moment.specs.Sums.{IsGrown};
@@ -20,7 +22,8 @@ use mesh_world::Steps;
 use std::alloc::Global;
 
 /// Does the lines of an input as `drive` does, in a run that stays where it is: a large world is not
-/// moved. The memory of the buffer is taken first.
+/// moved. Whatever the answer, and whether or not the source tells its bytes, the moment that is left
+/// is safe. The memory of the buffer is taken first.
 pub fn do_input<S: Steps, I: Source, O: Sink>(
     running: &mut Running<S>,
     input: &mut I,
@@ -33,7 +36,7 @@ pub fn do_input<S: Steps, I: Source, O: Sink>(
         (I.left input.new) (O.held out.old) (O.held out.new) result) }
     ensures after { result ≡ Status.Done → IfSome (I.left input.old)
         (λ bytes. running.new.at ≡ (text_on running.old.at bytes).after) }
-    ensures safe { result ≡ Status.Done → IsSafe running.new.at }
+    ensures safe { IsSafe running.new.at }
     ensures grown { result ≡ Status.Done → IsGrown running.old.at running.new.at }
     ensures lines { result ≡ Status.Done
         → running.new.at.lines ≤ running.old.at.lines + LONGEST_INPUT }
@@ -46,7 +49,10 @@ pub fn do_input<S: Steps, I: Source, O: Sink>(
 {
     let alloc = running.alloc;
     let most = Limits::of_schedule();
-    Status::of(shell_run::<Running<S>, I, O, SCHEDULE_ROOM>(alloc, running, most, input, out))
+    let answer = shell_run::<Running<S>, I, O, SCHEDULE_ROOM>(alloc, running, most, input, out);
+    // Where its world is asked for it is said that the moment is safe.
+    let _world = running.at.world();
+    Status::of(answer)
 }
 
 /// Does the lines of an input in order, from a moment on, up to its end or the first that stops the
@@ -106,7 +112,8 @@ pub fn drive<S: Steps, I: Source, O: Sink>(
 
 /// Runs the schedule that the source gives, in a world of its own where all nodes run this variant
 /// of the protocol, and writes its text to the sink, line by line; a quiet run writes the last line
-/// alone.
+/// alone. Where the source doesn't tell its bytes, each world of the run is safe too: it is the one
+/// that `do_input` goes through.
 #[inline(never)]
 pub fn run<S: Steps, I: Source, O: Sink>(
     alloc: Global,
@@ -120,6 +127,13 @@ pub fn run<S: Steps, I: Source, O: Sink>(
     // lines that were read whole.
     ensures told { IfSome (I.left input.old) (λ bytes. IsOutputFrom (say_by quiet)
         (opening variant) bytes (I.left input.new) (O.held out.old) (O.held out.new) result) }
+
+    // In no world to which the lines come, after any number of their events, has a destination a
+    // loop; in each of them every datum is accounted for; and the text has a line for each time
+    // that a datum was delivered or dropped.
+    ensures loop_free { IfSome (I.left input.old) (IsLoopFreeRun variant) }
+    ensures accounted { IfSome (I.left input.old) (IsAccountedRun variant) }
+    ensures named { IfSome (I.left input.old) (IsNamedRun variant) }
 
     // Done only where the input was read to its end.
     ensures end { result ≡ Status.Done → IsAtEnd (I.left input.new) }
