@@ -1,3 +1,4 @@
+pub mod CutLaws
 pub mod WordLaws
 pub mod Kept
 pub mod Sums

@@ -1,7 +1,6 @@
 -- What the lines of a printed text tell of copies: which are in flight, with which packet, and
--- which are heard or lost. Effects, which begin with two spaces, are those of the event above them.
-use Rattle.std.specs.Prelude.{ℕ, ◌+◌, Bool, true, false, ◌||◌, if◌then◌else◌, List, [], ◌∷◌, take, drop, Option, Some, None, option_and_then, option_map, Result, Ok, Err, codes, length, nat_le, ◌&&◌, is_some}
-use Rattle.std.specs.List.{list_any}
+-- which are heard or lost. Effects, which begin with two spaces, are those of the line above them.
+use Rattle.std.specs.Prelude.{ℕ, ◌+◌, ◌==◌, Bool, true, false, ◌||◌, if◌then◌else◌, List, [], ◌∷◌, take, drop, Option, Some, None, option_and_then, option_map, Result, Ok, Err, codes, length, nat_le, ◌&&◌, is_some}
 use Rattle.std.specs.Str.{bytes_eq}
 use Rattle.std.specs.Map.{lookup, remove_entry}
 use Rattle.std.specs.Ordering.{nat_cmp}
@@ -10,21 +9,24 @@ use Rattle.hex.specs.Hex.{decode_of}
 use Rattle.hex.specs.declared.error.FromHexError.{FromHexError}
 use Rattle.mesh_base.specs.declared.limits.TheConstants.{LONGEST_PACKET}
 use Rattle.mesh_base.specs.Parts.{parts}
-use Rattle.mesh_base.specs.Addresses.{address_of}
-use Rattle.mesh_base.specs.Numbers.{number_up_to, positive}
+use Rattle.mesh_capture.specs.declared.form.Field.TheVariants.{Address}
 use Rattle.mesh_capture.specs.declared.frame.Frame.{Frame}
-use Rattle.mesh_capture.specs.declared.copies.Below.{Below}
-use Rattle.mesh_capture.specs.declared.copies.Below.TheVariants.{Other, Casts, Delivers, Loses, Doubles}
+use Rattle.mesh_capture.specs.declared.copies.FlyingCopy.{FlyingCopy}
+use Rattle.mesh_capture.specs.declared.below.Below.{Below}
+use Rattle.mesh_capture.specs.declared.below.Below.TheVariants.{Nothing, Link, Casts, Delivers, Loses, Doubles, Node, Route, Flight, Place}
+use Rattle.mesh_capture.specs.Forms.{is_address, are_addresses, is_hex, are}
+use Rattle.mesh_capture.specs.Lines.{address_in, ends_of, is_idle, is_taken, is_of_cast, is_of_loss, is_of_node, is_of_route, is_of_flight}
+use Rattle.mesh_capture.specs.Belows.{number_of, is_link, event_by, other_by}
 
--- the packets in flight, by rising number of their copies
+-- the copies in flight, each with its sender, its receiver and its packet, by rising number
 abbrev pub Flying : Type 0
-Flying = List (ℕ × List ℕ)
+Flying = List (ℕ × FlyingCopy)
 
-abbrev pub packet_in : Flying → ℕ → Option (List ℕ)
-packet_in flying id = lookup (is_at (nat_cmp id)) flying
+abbrev pub copy_in : Flying → ℕ → Option FlyingCopy
+copy_in flying id = lookup (is_at (nat_cmp id)) flying
 
--- what the lines read so far tell: how many events there were, the last one, the copies in flight,
--- and how many lines
+-- what the lines read so far tell: how many events there were, what stands below the last line, the
+-- copies in flight, and how many lines
 pub record Reading : Type 0 where
   pub events : ℕ
   pub below : Below
@@ -32,7 +34,7 @@ pub record Reading : Type 0 where
   pub lines : ℕ
 
 abbrev pub nothing_read : Reading
-nothing_read = record { events = 0; below = Other; flying = []; lines = 0 }
+nothing_read = record { events = 0; below = Nothing; flying = []; lines = 0 }
 
 -- what one line tells: what is known after it, and the copy that it ends
 pub record LineOutcome : Type 0 where
@@ -42,10 +44,11 @@ pub record LineOutcome : Type 0 where
 abbrev pub no_frame : Reading → LineOutcome
 no_frame r = record { now = r; frame = None }
 
-abbrev pub is_one_of : List (List ℕ) → List ℕ → Bool
-is_one_of words word = list_any (λ w. bytes_eq word w) words
+-- a line of its form that tells nothing of copies
+abbrev pub told_if : Bool → Reading → Option LineOutcome
+told_if of_form r = if of_form then Some (no_frame r) else None
 
--- ---- effects
+-- ---- packets and copies
 
 -- a packet that a mesh may send
 abbrev pub is_packet : List ℕ → Bool
@@ -57,142 +60,134 @@ packet_by (Err e) = None
 
 -- the packet that hexadecimal tells
 abbrev pub packet_of : List ℕ → Option (List ℕ)
-packet_of word = packet_by (decode_of word)
+packet_of word = if is_hex word then packet_by (decode_of word) else None
 
-abbrev pub is_all : List ℕ → Bool
-is_all kind = bytes_eq kind (codes "all")
+-- one receiver, or many
+abbrev pub are_receivers : List ℕ → List ℕ → Bool
+are_receivers kind receivers =
+    (bytes_eq kind (codes "one") && is_address receivers)
+    || (bytes_eq kind (codes "many") && are_addresses receivers)
 
-abbrev pub has_receivers : List ℕ → Bool
-has_receivers kind = is_one_of (codes "one" ∷ codes "many" ∷ []) kind
-
--- the words after `sent`: `all HEX`, or `one ADDR HEX` and `many LIST HEX`, whose receivers the
--- copies below tell
+-- the words after `sent`: `all HEX`, or `one ADDR HEX` and `many LIST HEX`. Which of the receivers
+-- have a copy the lines below tell
 abbrev pub cast_packet : List (List ℕ) → Option (List ℕ)
-cast_packet (kind ∷ hex ∷ []) = if is_all kind then packet_of hex else None
-cast_packet (kind ∷ receivers ∷ hex ∷ []) = if has_receivers kind then packet_of hex else None
+cast_packet (kind ∷ hex ∷ []) = if bytes_eq kind (codes "all") then packet_of hex else None
+cast_packet (kind ∷ receivers ∷ hex ∷ []) =
+    if are_receivers kind receivers then packet_of hex else None
 cast_packet others = None
 
 -- a packet is cast: once below an event
 abbrev pub after_sent : Reading → Below → List (List ℕ) → Option LineOutcome
-after_sent r (Casts None) words =
-    option_map (λ packet. no_frame (record r { below = Casts (Some packet) })) (cast_packet words)
+after_sent r (Casts node None) words =
+    option_map (λ packet. no_frame (record r { below = Casts node (Some packet) }))
+    (cast_packet words)
 after_sent r _ words = None
 
--- a copy joins the flight. A number that is there already is refused
-abbrev pub with_copy : Reading → Option (List ℕ) → Option ℕ → Option LineOutcome
-with_copy r (Some packet) (Some id) =
-    if is_some (packet_in r.flying id) then None
-    else Some (no_frame (record r { flying = insert_entry nat_cmp r.flying id packet }))
-with_copy r packet id = None
+-- a copy of this number joins the flight. One that is there already is refused
+abbrev pub with_copy : Reading → ℕ → FlyingCopy → Option LineOutcome
+with_copy r id copy =
+    if is_some (copy_in r.flying id) then None
+    else Some (no_frame (record r { flying = insert_entry nat_cmp r.flying id copy }))
 
--- the number of a copy, from 1 to the greatest of 64 bits
-abbrev pub number_of : List ℕ → Option ℕ
-number_of word = positive (number_up_to 18446744073709551615 word)
+-- the words of a new copy, `ID TO`: its number and its receiver
+abbrev pub copy_words : List (List ℕ) → Option (ℕ × ℕ)
+copy_words [] = None
+copy_words (id ∷ to) = option_and_then (λ n. option_map (λ a. (n, a)) (address_in to)) (number_of id)
 
--- the words of a new copy, `ID TO`: its number
-abbrev pub copy_number : List (List ℕ) → Option ℕ
-copy_number (id ∷ to ∷ []) =
-    option_and_then (λ receiver. number_of id) (address_of to)
-copy_number others = None
+-- another one of a copy, which has the same receiver
+abbrev pub doubled_copy : Option FlyingCopy → ℕ → Option FlyingCopy
+doubled_copy None to = None
+doubled_copy (Some c) to = if c.to == to then Some c else None
 
--- the packet of a new copy: what was cast, or that of the copy that is doubled
-abbrev pub packet_copied : Flying → Below → Option (List ℕ)
-packet_copied flying (Casts packet) = packet
-packet_copied flying (Doubles id) = packet_in flying id
-packet_copied flying _ = None
+-- a new copy for this receiver: of what was cast, or of the copy that is doubled
+abbrev pub new_copy : Flying → Below → ℕ → Option FlyingCopy
+new_copy flying (Casts node (Some packet)) to =
+    Some (record { from = node; to = to; packet = packet })
+new_copy flying (Doubles id) to = doubled_copy (copy_in flying id) to
+new_copy flying _ to = None
 
--- a line `copy` below an event. A line `flight` has lines of copies below it that are none of these
-abbrev pub after_copy : Reading → Below → List (List ℕ) → Option LineOutcome
-after_copy r Other words = Some (no_frame r)
-after_copy r below words = with_copy r (packet_copied r.flying below) (copy_number words)
+-- a line `copy` below an event
+abbrev pub after_copy : Reading → Below → Option (ℕ × ℕ) → Option LineOutcome
+after_copy r below None = None
+after_copy r below (Some w) = option_and_then (with_copy r w.0) (new_copy r.flying below w.1)
+
+-- ---- the ends of copies
 
 abbrev pub with_frame : Reading → Frame → LineOutcome
 with_frame r frame = record { now = r; frame = Some frame }
 
+-- these are the copy's sender and its receiver
+abbrev pub is_between : ℕ × ℕ → FlyingCopy → Bool
+is_between ends c = (c.from == ends.0) && (c.to == ends.1)
+
+abbrev pub frame_of : Reading → Bool → FlyingCopy → Frame
+frame_of r lost c =
+    record { event = r.events; from = c.from; to = c.to; lost = lost; packet = c.packet }
+
 -- the copy of this number leaves the flight, from here to there
-abbrev pub end_outcome : Reading → Bool → ℕ → ℕ → ℕ → Option (List ℕ) → Option LineOutcome
-end_outcome r lost id from to packet =
-    option_map (λ p. with_frame (record r { flying = remove_entry (is_at (nat_cmp id)) r.flying })
-    (record { event = r.events; from = from; to = to; lost = lost; packet = p })) packet
+abbrev pub end_outcome : Reading → Bool → ℕ → ℕ × ℕ → Option FlyingCopy → Option LineOutcome
+end_outcome r lost id ends None = None
+end_outcome r lost id ends (Some c) =
+    if is_between ends c
+    then Some (with_frame (record r { flying = remove_entry (is_at (nat_cmp id)) r.flying })
+    (frame_of r lost c))
+    else None
 
 -- the words after `heard` or `lost`: `FROM TO`
 abbrev pub after_end : Reading → Bool → ℕ → List (List ℕ) → Option LineOutcome
-after_end r lost id (from ∷ to ∷ []) =
-    option_and_then (λ x. option_and_then (λ y. end_outcome r lost id x y (packet_in r.flying id))
-    (address_of to)) (address_of from)
-after_end r lost id others = None
+after_end r lost id words =
+    option_and_then (λ ends. end_outcome r lost id ends (copy_in r.flying id)) (ends_of words)
 
--- a copy was heard below its delivery, or lost below its loss
-abbrev pub after_ended : Reading → Below → Bool → List (List ℕ) → Option LineOutcome
-after_ended r (Delivers id) false words = after_end r false id words
-after_ended r (Loses id) true words = after_end r true id words
-after_ended r _ lost words = None
+-- ---- lines with two spaces before them
 
--- one event more, with these effects below it
+-- one event more, with these lines below it
 abbrev pub event_outcome : Reading → Below → LineOutcome
 event_outcome r below = no_frame (record r { events = r.events + 1; below = below })
 
-abbrev pub is_link : List ℕ → Bool
-is_link word = is_one_of (codes "link" ∷ codes "cut" ∷ []) word
+-- a link that comes or goes with a node that moves is an event
+abbrev pub after_link : Reading → List (List ℕ) → Option LineOutcome
+after_link r words =
+    if are (Address ∷ Address ∷ []) words then Some (event_outcome r Place) else None
 
--- an effect by its first word. Links that come and go with a node that moves are events; other
--- effects, and the lines of tables, tell nothing of copies
+-- an effect by its first word, below such a line
+abbrev pub effect_below : Reading → Below → List ℕ → List (List ℕ) → Option LineOutcome
+effect_below r Nothing word words = None
+effect_below r Link word words = told_if (is_idle word words) r
+effect_below r (Casts node packet) word words =
+    if bytes_eq word (codes "copy") then after_copy r (Casts node packet) (copy_words words) else
+    if bytes_eq word (codes "took") then told_if (is_taken words) r else
+    if bytes_eq word (codes "sent") then after_sent r (Casts node packet) words
+    else told_if (is_of_cast word words) r
+effect_below r (Delivers id) word words =
+    if bytes_eq word (codes "heard") then after_end r false id words
+    else told_if (is_idle word words) r
+effect_below r (Loses id) word words =
+    if bytes_eq word (codes "lost") then after_end r true id words
+    else told_if (is_of_loss word words) r
+effect_below r (Doubles id) word words =
+    if bytes_eq word (codes "copy") then after_copy r (Doubles id) (copy_words words)
+    else told_if (is_idle word words) r
+effect_below r Node word words = told_if (is_of_node word words) r
+effect_below r Route word words = told_if (is_of_route word words) r
+effect_below r Flight word words = told_if (is_of_flight word words) r
+effect_below r Place word words =
+    if is_link word then after_link r words else told_if (is_idle word words) r
+
 abbrev pub effect : Reading → List (List ℕ) → Option LineOutcome
-effect r [] = Some (no_frame r)
-effect r (word ∷ words) =
-    if bytes_eq word (codes "sent") then after_sent r r.below words else
-    if bytes_eq word (codes "copy") then after_copy r r.below words else
-    if bytes_eq word (codes "heard") then after_ended r r.below false words else
-    if bytes_eq word (codes "lost") then after_ended r r.below true words else
-    if is_link word then Some (event_outcome r Other)
-    else Some (no_frame r)
+effect r [] = None
+effect r (word ∷ words) = effect_below r r.below word words
 
 -- ---- lines without two spaces before them
 
--- one word, a copy's number
-abbrev pub number_in : List (List ℕ) → Option ℕ
-number_in (word ∷ []) = number_of word
-number_in others = None
+-- an event, or another line
+abbrev pub after_outer : Reading → Option Below → Option Below → Option LineOutcome
+after_outer r (Some below) other = Some (event_outcome r below)
+after_outer r None (Some below) = Some (no_frame (record r { below = below }))
+after_outer r None None = None
 
--- the events that may cast a packet
-abbrev pub casts : List (List ℕ)
-casts = codes "turn" ∷ codes "send" ∷ codes "ask" ∷ []
-
--- the events that neither cast a packet nor end or double a copy
-abbrev pub quiet_events : List (List ℕ)
-quiet_events = codes "link" ∷ codes "cut" ∷ codes "data" ∷ []
-
--- the event that a line is, if it is one
-abbrev pub event_by : List ℕ → List (List ℕ) → Option Below
-event_by word words =
-    if is_one_of casts word then Some (Casts None) else
-    if bytes_eq word (codes "deliver") then option_map Delivers (number_in words) else
-    if bytes_eq word (codes "lose") then option_map Loses (number_in words) else
-    if bytes_eq word (codes "copy") then option_map Doubles (number_in words) else
-    if is_one_of quiet_events word then Some Other else None
-
--- the first lines of a text and its last ones
-abbrev pub is_edge : List ℕ → Bool
-is_edge word =
-    is_one_of (codes "node" ∷ codes "place" ∷ codes "done" ∷ codes "full" ∷ codes "bad" ∷ []) word
-
--- these and the other lines that are no events
-abbrev pub is_no_event : List ℕ → Bool
-is_no_event word =
-    is_edge word
-    || is_one_of (codes "auto" ∷ codes "show" ∷ codes "route" ∷ codes "flight" ∷ codes "move"
-    ∷ []) word
-
--- a line that is an event, or none
-abbrev pub after_outer : Reading → Bool → Option Below → Option LineOutcome
-after_outer r no_event (Some below) = Some (event_outcome r below)
-after_outer r no_event None =
-    if no_event then Some (no_frame (record r { below = Other })) else None
-
--- a line by its first word. A word that no text of a run has is refused
 abbrev pub outer : Reading → List (List ℕ) → Option LineOutcome
 outer r [] = None
-outer r (word ∷ words) = after_outer r (is_no_event word) (event_by word words)
+outer r (word ∷ words) = after_outer r (event_by word words) (other_by word words)
 
 abbrev pub line_by : Reading → List ℕ → Option LineOutcome
 line_by r line =

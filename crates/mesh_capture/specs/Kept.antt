@@ -2,9 +2,9 @@
 -- few enough for their times. Of these only the number of lines stands in a public contract.
 use Rattle.std.specs.Prelude.{ℕ, ◌≤◌, ◌^◌, List, [], ◌∷◌, length, Some, None, ⊤}
 use Rattle.mesh_base.specs.declared.limits.TheConstants.{LONGEST_PACKET}
-use Rattle.mesh_capture.specs.declared.copies.Below.{Below}
-use Rattle.mesh_capture.specs.declared.copies.Below.TheVariants.{Other, Casts, Delivers, Loses, Doubles}
-use Rattle.mesh_capture.specs.Copies.{Flying}
+use Rattle.mesh_capture.specs.declared.below.Below.{Below}
+use Rattle.mesh_capture.specs.declared.below.Below.TheVariants.{Nothing, Link, Casts, Delivers, Loses, Doubles, Node, Route, Flight, Place}
+use Rattle.mesh_capture.specs.declared.copies.FlyingCopy.{FlyingCopy}
 
 -- the most lines that are read
 abbrev pub most_lines : ℕ
@@ -13,14 +13,13 @@ most_lines = 2 ^ 40
 abbrev pub IsShort : List ℕ → Type 0
 IsShort packet = length packet ≤ LONGEST_PACKET
 
-abbrev pub AreShort : Flying → Type 0
+abbrev pub IsShortCopy : FlyingCopy → Type 0
+IsShortCopy c = IsShort c.packet
+
+abbrev pub AreShort : List (ℕ × FlyingCopy) → Type 0
 AreShort [] = ⊤
-AreShort (copy ∷ flying) = IsShort copy.1 × AreShort flying
+AreShort (copy ∷ flying) = IsShortCopy copy.1 × AreShort flying
 
 abbrev pub IsShortBelow : Below → Type 0
-IsShortBelow Other = ⊤
-IsShortBelow (Casts None) = ⊤
-IsShortBelow (Casts (Some packet)) = IsShort packet
-IsShortBelow (Delivers id) = ⊤
-IsShortBelow (Loses id) = ⊤
-IsShortBelow (Doubles id) = ⊤
+IsShortBelow (Casts node (Some packet)) = IsShort packet
+IsShortBelow others = ⊤

@@ -1,6 +1,12 @@
 -- Read in this order.
 -- Frames: what a capture holds of one copy, and the header of the file.
 pub mod Frames
+-- Forms: what each word of a printed line may be.
+pub mod Forms
+-- Lines: the lines that tell nothing of copies.
+pub mod Lines
+-- Belows: the lines without two spaces before them, and what stands below each.
+pub mod Belows
 -- Copies: what the lines of a printed text tell of copies.
 pub mod Copies
 -- Captures: the capture of a whole text.

@@ -1,19 +1,21 @@
 //! What the lines of a printed text tell of copies, line by line.
-ghost use Rattle.std.specs.Prelude.{◌≡◌, ◌≤◌, ◌+◌, ◌<◌, Some, None, OnOk, IfOk, IfSome, IsErrOf};
+ghost use Rattle.std.specs.Prelude.{◌≡◌, ◌≤◌, ◌+◌, ◌<◌, true, false, Some, None, OnOk, IfOk, IfErr, IfSome, IsErrOf, is_some};
 ghost use Rattle.std.specs.Map.{remove_entry};
 ghost use Rattle.std.specs.Ordering.{nat_cmp};
 ghost use Rattle.std.specs.BTreeMap.{insert_entry, is_at};
 ghost use Rattle.mesh_base.specs.Parts.{parts, rest_parts};
 ghost use Rattle.mesh_capture.specs.Copies as copies;
-ghost use Rattle.mesh_capture.specs.Kept.{IsShort, IsShortBelow, AreShort, most_lines};
+ghost use Rattle.mesh_capture.specs.Kept.{IsShort, IsShortBelow, IsShortCopy, AreShort, most_lines};
 
+use crate::below::{Below, event_by, other_by};
+use crate::form::{Field, are, are_addresses, is_hex};
 use crate::frame::Frame;
-use crate::words::{
-    casts, copy_number, ends, has_receivers, is, is_link, is_no_event, is_quiet, number_in, three,
-    two,
+use crate::quiet::{
+    is_idle, is_of_cast, is_of_flight, is_of_loss, is_of_node, is_of_route, is_taken,
 };
+use crate::words::{copy_words, cut, ends, is, is_address, is_link, three, two};
 use hex::FromHexError;
-use mesh_base::{Bytes, LONGEST_PACKET, cut};
+use mesh_base::{Bytes, LONGEST_PACKET};
 use std::alloc::Global;
 use std::collections::BTreeMap;
 use std::marker::Model;
@@ -30,19 +32,15 @@ pub enum ReadError {
     NoMemory,
 }
 
-/// The event whose effects stand below its line.
+/// A copy in flight.
 #[derive(Drop)]
-pub enum Below {
-    /// None that has to do with copies.
-    Other,
-    /// One that may cast a packet: the packet, once it is cast.
-    Casts(Option<Bytes>),
-    /// The copy of this number is delivered.
-    Delivers(u64),
-    /// The copy of this number is lost.
-    Loses(u64),
-    /// The copy of this number is doubled.
-    Doubles(u64),
+pub struct FlyingCopy {
+    /// The address of its sender.
+    pub from: u32,
+    /// The address of its receiver.
+    pub to: u32,
+    /// Its packet.
+    pub packet: Bytes,
 }
 
 /// What the lines read so far tell. It takes memory for the packets of the copies in flight, as far
@@ -52,7 +50,7 @@ pub struct Copies {
     alloc: Global,
     events: u64,
     below: Below,
-    flying: BTreeMap<u64, Bytes>,
+    flying: BTreeMap<u64, FlyingCopy>,
     lines: u64,
 }
 
@@ -74,11 +72,33 @@ impl Model for Copies {
         × IsShortBelow c.below × AreShort c.flying.entries };
 }
 
+// What a line tells that tells nothing of copies.
+fn told(of_form: bool) -> Result<Option<Frame>, ReadError>
+    ensures done { IfOk result (λ frame. (of_form ≡ true) × (frame ≡ None)) }
+    ensures bad { IfErr result (λ e. of_form ≡ false) }
+{
+    if of_form {
+        Ok(None)
+    } else {
+        Err(ReadError::BadLine)
+    }
+}
+
 // A packet that a mesh may send.
 fn is_packet(bytes: &[u8]) -> bool
     ensures { result ≡ copies.is_packet bytes.now }
 {
     !bytes.is_empty() && bytes.len() <= LONGEST_PACKET
+}
+
+// The same bytes, without memory where they are few.
+fn kept(bytes: Vec<u8>) -> Bytes
+    ensures { result ≡ bytes.items }
+{
+    match Bytes::short(bytes.as_slice()) {
+        Some(short) => short,
+        None => Bytes::from_vec(bytes),
+    }
 }
 
 // The packet that hexadecimal tells.
@@ -87,11 +107,21 @@ fn packet_of(alloc: Global, word: &[u8]) -> Result<Bytes, ReadError>
     ensures bad { IsErrOf result ReadError.BadLine → copies.packet_of word.now ≡ None }
     ensures short { IfOk result IsShort }
 {
+    if !is_hex(word) {
+        return Err(ReadError::BadLine);
+    }
     match hex::decode(alloc, word) {
-        Ok(bytes) if is_packet(bytes.as_slice()) => Ok(Bytes::from_vec(bytes)),
+        Ok(bytes) if is_packet(bytes.as_slice()) => Ok(kept(bytes)),
         Err(FromHexError::OutOfMemory) => Err(ReadError::NoMemory),
         _ => Err(ReadError::BadLine),
     }
+}
+
+// One receiver, or many.
+fn are_receivers(kind: &[u8], receivers: &[u8]) -> bool
+    ensures { result ≡ copies.are_receivers kind.now receivers.now }
+{
+    (is(kind, b"one") && is_address(receivers)) || (is(kind, b"many") && are_addresses(receivers))
 }
 
 // The packet of a cast, after `sent`.
@@ -102,40 +132,17 @@ fn cast_packet(alloc: Global, words: Option<&[u8]>) -> Result<Bytes, ReadError>
         copies.cast_packet (rest_parts 32 words.entry) ≡ None }
     ensures short { IfOk result IsShort }
 {
-    if let Some((all, hex)) = two(words) {
+    if let Some((all, hex)) = two(words, b' ') {
         return if is(all, b"all") {
             packet_of(alloc, hex)
         } else {
             Err(ReadError::BadLine)
         };
     }
-    match three(words) {
-        Some((kind, _, hex)) if has_receivers(kind) => packet_of(alloc, hex),
+    match three(words, b' ') {
+        Some((kind, receivers, hex)) if are_receivers(kind, receivers) => packet_of(alloc, hex),
         _ => Err(ReadError::BadLine),
     }
-}
-
-// The event that a line is, if it is one.
-fn event_by(word: &[u8], words: Option<&[u8]>) -> Option<Below>
-    ensures value { result ≡ copies.event_by word.now (rest_parts 32 words.entry) }
-    ensures short { IfSome result IsShortBelow }
-{
-    if casts(word) {
-        return Some(Below::Casts(None));
-    }
-    if is(word, b"deliver") {
-        return Some(Below::Delivers(number_in(words)?));
-    }
-    if is(word, b"lose") {
-        return Some(Below::Loses(number_in(words)?));
-    }
-    if is(word, b"copy") {
-        return Some(Below::Doubles(number_in(words)?));
-    }
-    if is_quiet(word) {
-        return Some(Below::Other);
-    }
-    None
 }
 
 // A copy of a packet.
@@ -143,51 +150,75 @@ fn copy_of(alloc: Global, packet: &Bytes) -> Result<Bytes, ReadError>
     ensures done { IfOk result (λ copy. copy ≡ packet.now) }
     ensures memory { ¬ IsErrOf result ReadError.BadLine }
 {
+    if let Some(short) = packet.again() {
+        return Ok(short);
+    }
     match Bytes::copy_of(alloc, packet.as_slice()) {
         Ok(copy) => Ok(copy),
         Err(_) => Err(ReadError::NoMemory),
     }
 }
 
-// A copy of the packet of a copy in flight.
+// Another one of a copy in flight, for the same receiver.
 #[tactic(auto, using(crate::proofs::Kept::short_found))]
-fn copy_in(alloc: Global, flying: &BTreeMap<u64, Bytes>, id: u64) -> Result<Bytes, ReadError>
+fn doubled_copy(
+    alloc: Global,
+    flying: &BTreeMap<u64, FlyingCopy>,
+    id: u64,
+    to: u32,
+) -> Result<FlyingCopy, ReadError>
     requires { AreShort flying.now.entries }
-    ensures done { IfOk result (λ packet.
-        copies.packet_in flying.now.entries id ≡ Some packet) }
+    ensures done { IfOk result (λ copy.
+        copies.doubled_copy (copies.copy_in flying.now.entries id) to ≡ Some copy) }
     ensures bad { IsErrOf result ReadError.BadLine →
-        copies.packet_in flying.now.entries id ≡ None }
-    ensures short { IfOk result IsShort }
+        copies.doubled_copy (copies.copy_in flying.now.entries id) to ≡ None }
+    ensures short { IfOk result IsShortCopy }
 {
-    match flying.get(&id) {
-        Some(packet) => copy_of(alloc, packet),
-        None => Err(ReadError::BadLine),
+    let Some(copy) = flying.get(&id) else {
+        return Err(ReadError::BadLine);
+    };
+    if copy.to != to {
+        return Err(ReadError::BadLine);
     }
+    let packet = copy_of(alloc, &copy.packet)?;
+    Ok(FlyingCopy {
+        from: copy.from,
+        to,
+        packet,
+    })
 }
 
-// A packet joins the flight.
-fn put_packet(flying: &mut BTreeMap<u64, Bytes>, id: u64, packet: Bytes) -> Result<(), ReadError>
+// A copy joins the flight, unless one of this number is there.
+#[tactic(auto, using(crate::proofs::Kept::short_insert))]
+fn put_copy(
+    flying: &mut BTreeMap<u64, FlyingCopy>,
+    id: u64,
+    copy: FlyingCopy,
+) -> Result<(), ReadError>
     requires all { AreShort flying.old.entries }
-    requires one { IsShort packet }
+    requires one { IsShortCopy copy }
     ensures put { OnOk result (flying.new.entries
-        ≡ insert_entry nat_cmp flying.old.entries id packet) }
+        ≡ insert_entry nat_cmp flying.old.entries id copy) }
+    ensures apart { OnOk result (copies.copy_in flying.old.entries id ≡ None) }
+    ensures there { IsErrOf result ReadError.BadLine
+        → is_some (copies.copy_in flying.old.entries id) ≡ true }
     ensures short { AreShort flying.new.entries }
-    ensures memory { ¬ IsErrOf result ReadError.BadLine }
 {
-    match flying.insert(id, packet) {
-        Ok(_) => Ok(()),
+    match flying.insert(id, copy) {
+        Ok(None) => Ok(()),
+        Ok(Some(_)) => Err(ReadError::BadLine),
         Err(_) => Err(ReadError::NoMemory),
     }
 }
 
-// A packet leaves the flight.
-fn take_packet(flying: &mut BTreeMap<u64, Bytes>, id: u64) -> Option<Bytes>
+// A copy leaves the flight.
+fn take_copy(flying: &mut BTreeMap<u64, FlyingCopy>, id: u64) -> Option<FlyingCopy>
     requires { AreShort flying.old.entries }
-    ensures value { result ≡ copies.packet_in flying.old.entries id }
+    ensures value { result ≡ copies.copy_in flying.old.entries id }
     ensures entries { flying.new.entries
         ≡ remove_entry (is_at (nat_cmp id)) flying.old.entries }
     ensures short { AreShort flying.new.entries }
-    ensures packet { IfSome result IsShort }
+    ensures packet { IfSome result IsShortCopy }
 {
     flying.remove(&id)
 }
@@ -200,7 +231,7 @@ impl Copies {
         Copies {
             alloc,
             events: 0,
-            below: Below::Other,
+            below: Below::Nothing,
             flying: BTreeMap::new(alloc),
             lines: 0,
         }
@@ -233,62 +264,51 @@ impl Copies {
         ensures lines { OnOk result (self.new.lines ≡ self.old.lines) }
     {
         match self.below {
-            Below::Casts(None) => {
-                self.below = Below::Casts(Some(cast_packet(self.alloc, words)?));
+            Below::Casts(node, None) => {
+                self.below = Below::Casts(node, Some(cast_packet(self.alloc, words)?));
                 Ok(())
             }
             _ => Err(ReadError::BadLine),
         }
     }
 
-    // A copy of a packet, for one more copy in flight.
-    fn packet_copied(&self) -> Result<Bytes, ReadError>
-        ensures done { IfOk result (λ packet.
-            copies.packet_copied self.now.flying self.now.below ≡ Some packet) }
+    // A new copy: of what was cast, or of the copy that is doubled.
+    fn new_copy(&self, to: u32) -> Result<FlyingCopy, ReadError>
+        ensures done { IfOk result (λ copy.
+            copies.new_copy self.now.flying self.now.below to ≡ Some copy) }
         ensures bad { IsErrOf result ReadError.BadLine →
-            copies.packet_copied self.now.flying self.now.below ≡ None }
-        ensures short { IfOk result IsShort }
+            copies.new_copy self.now.flying self.now.below to ≡ None }
+        ensures short { IfOk result IsShortCopy }
     {
         match &self.below {
-            Below::Casts(Some(packet)) => copy_of(self.alloc, packet),
-            Below::Doubles(id) => copy_in(self.alloc, &self.flying, *id),
+            Below::Casts(node, Some(packet)) => {
+                let packet = copy_of(self.alloc, packet)?;
+                Ok(FlyingCopy {
+                    from: *node,
+                    to,
+                    packet,
+                })
+            }
+            Below::Doubles(id) => doubled_copy(self.alloc, &self.flying, *id, to),
             _ => Err(ReadError::BadLine),
         }
     }
 
     // A copy joins the flight.
-    fn join(&mut self, words: Option<&[u8]>) -> Result<(), ReadError>
-        ensures done { OnOk result (copies.with_copy self.old
-            (copies.packet_copied self.old.flying self.old.below)
-            (copies.copy_number (rest_parts 32 words.entry)) ≡ Some (copies.no_frame self.new)) }
-        ensures bad { IsErrOf result ReadError.BadLine → copies.with_copy self.old
-            (copies.packet_copied self.old.flying self.old.below)
-            (copies.copy_number (rest_parts 32 words.entry)) ≡ None }
-        ensures lines { OnOk result (self.new.lines ≡ self.old.lines) }
-    {
-        let Some(id) = copy_number(words) else {
-            return Err(ReadError::BadLine);
-        };
-        let packet = self.packet_copied()?;
-        if self.flying.contains_key(&id) {
-            return Err(ReadError::BadLine);
-        }
-        put_packet(&mut self.flying, id, packet)
-    }
-
-    // A line of a copy. One that shows a copy in flight tells nothing.
     fn copy(&mut self, words: Option<&[u8]>) -> Result<(), ReadError>
         ensures done { OnOk result
-            (copies.after_copy self.old self.old.below (rest_parts 32 words.entry)
-            ≡ Some (copies.no_frame self.new)) }
+            (copies.after_copy self.old self.old.below
+            (copies.copy_words (rest_parts 32 words.entry)) ≡ Some (copies.no_frame self.new)) }
         ensures bad { IsErrOf result ReadError.BadLine →
-            copies.after_copy self.old self.old.below (rest_parts 32 words.entry) ≡ None }
+            copies.after_copy self.old self.old.below
+            (copies.copy_words (rest_parts 32 words.entry)) ≡ None }
         ensures lines { OnOk result (self.new.lines ≡ self.old.lines) }
     {
-        match self.below {
-            Below::Other => Ok(()),
-            _ => self.join(words),
-        }
+        let Some((id, to)) = copy_words(words) else {
+            return Err(ReadError::BadLine);
+        };
+        let copy = self.new_copy(to)?;
+        put_copy(&mut self.flying, id, copy)
     }
 
     // A copy leaves the flight.
@@ -305,34 +325,37 @@ impl Copies {
         let Some((from, to)) = ends(words) else {
             return Err(ReadError::BadLine);
         };
-        match take_packet(&mut self.flying, id) {
-            Some(packet) => Ok(Frame {
-                event: self.events,
-                from,
-                to,
-                lost,
-                packet,
-            }),
-            None => Err(ReadError::BadLine),
+        let Some(copy) = take_copy(&mut self.flying, id) else {
+            return Err(ReadError::BadLine);
+        };
+        if copy.from != from || copy.to != to {
+            return Err(ReadError::BadLine);
         }
+        let FlyingCopy { from, to, packet } = copy;
+        Ok(Frame {
+            event: self.events,
+            from,
+            to,
+            lost,
+            packet,
+        })
     }
 
-    // A copy was heard or lost, as the event above says.
-    fn ended(&mut self, lost: bool, words: Option<&[u8]>) -> Result<Frame, ReadError>
-        ensures done { IfOk result (λ frame.
-            copies.after_ended self.old self.old.below lost (rest_parts 32 words.entry)
-            ≡ Some (copies.with_frame self.new frame)) }
+    // A link has come or gone with a node.
+    fn link(&mut self, words: Option<&[u8]>) -> Result<(), ReadError>
+        requires few { self.old.events < self.old.lines }
+        ensures done { OnOk result
+            (copies.after_link self.old (rest_parts 32 words.entry)
+            ≡ Some (copies.no_frame self.new)) }
         ensures bad { IsErrOf result ReadError.BadLine →
-            copies.after_ended self.old self.old.below lost (rest_parts 32 words.entry) ≡ None }
+            copies.after_link self.old (rest_parts 32 words.entry) ≡ None }
         ensures lines { OnOk result (self.new.lines ≡ self.old.lines) }
-        ensures soon { IfOk result (λ frame. frame.event ≤ most_lines) }
-        ensures short { IfOk result (λ frame. IsShort frame.packet) }
     {
-        match self.below {
-            Below::Delivers(id) if !lost => self.end(false, id, words),
-            Below::Loses(id) if lost => self.end(true, id, words),
-            _ => Err(ReadError::BadLine),
+        if !are(&[Field::Address, Field::Address], words) {
+            return Err(ReadError::BadLine);
         }
+        self.count(Below::Place);
+        Ok(())
     }
 
     // An effect, without the two spaces before it.
@@ -347,25 +370,32 @@ impl Copies {
         ensures short { IfOk result (λ frame. IfSome frame (λ f. IsShort f.packet)) }
     {
         let (word, words) = cut(text, b' ');
-        if is(word, b"sent") {
-            self.sent(words)?;
-            return Ok(None);
+        match self.below {
+            Below::Casts(_, _) | Below::Doubles(_) if is(word, b"copy") => {
+                self.copy(words)?;
+                Ok(None)
+            }
+            Below::Casts(_, _) if is(word, b"took") => told(is_taken(words)),
+            Below::Casts(_, _) if is(word, b"sent") => {
+                self.sent(words)?;
+                Ok(None)
+            }
+            Below::Delivers(id) if is(word, b"heard") => Ok(Some(self.end(false, id, words)?)),
+            Below::Loses(id) if is(word, b"lost") => Ok(Some(self.end(true, id, words)?)),
+            Below::Place if is_link(word) => {
+                self.link(words)?;
+                Ok(None)
+            }
+            Below::Casts(_, _) => told(is_of_cast(word, words)),
+            Below::Loses(_) => told(is_of_loss(word, words)),
+            Below::Node => told(is_of_node(word, words)),
+            Below::Route => told(is_of_route(word, words)),
+            Below::Flight => told(is_of_flight(word, words)),
+            Below::Nothing => Err(ReadError::BadLine),
+            Below::Link | Below::Delivers(_) | Below::Doubles(_) | Below::Place => {
+                told(is_idle(word, words))
+            }
         }
-        if is(word, b"copy") {
-            self.copy(words)?;
-            return Ok(None);
-        }
-        if is(word, b"heard") {
-            return Ok(Some(self.ended(false, words)?));
-        }
-        if is(word, b"lost") {
-            return Ok(Some(self.ended(true, words)?));
-        }
-        if is_link(word) {
-            self.count(Below::Other);
-            return Ok(None);
-        }
-        Ok(None)
     }
 
     // A line without two spaces before it.
@@ -378,9 +408,12 @@ impl Copies {
         ensures lines { OnOk result (self.new.lines ≡ self.old.lines) }
     {
         let (word, words) = cut(line, b' ');
-        match event_by(word, words) {
-            Some(below) => self.count(below),
-            None if is_no_event(word) => self.below = Below::Other,
+        if let Some(below) = event_by(word, words) {
+            self.count(below);
+            return Ok(());
+        }
+        match other_by(word, words) {
+            Some(below) => self.below = below,
             None => return Err(ReadError::BadLine),
         }
         Ok(())

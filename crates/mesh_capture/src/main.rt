@@ -5,11 +5,15 @@
 //! answer.
 #![tactic(auto)]
 
+mod below;
 mod capturing;
 mod copies;
+mod form;
 mod frame;
+mod last;
 mod laws;
 mod lines;
+mod quiet;
 mod status;
 mod top;
 mod words;

@@ -1,5 +1,5 @@
 use Rattle.mesh_capture.proofs.Kept.{short_remove, short_lookup}
-use Rattle.mesh_capture.proofs.copies.take_packet.Goals as goal
+use Rattle.mesh_capture.proofs.copies.take_copy.Goals as goal
 
 pub returns-clause-short : goal.returns-clause-short
 returns-clause-short c = rw c.remove.ensures.entries (short_remove _ c.args.flying.now.entries c.requires)
