@@ -13,6 +13,7 @@ use Rattle.mesh_run.specs.declared.status.Status.{Status}
 use Rattle.mesh_run.specs.declared.status.Status.TheVariants as status
 use Rattle.mesh_grid.specs.Text.{Moment, opening, text_of_input}
 use Rattle.mesh_grid.proofs.PlaceRuns.{worlds_are_of_events, runs_with_places_are_loop_free}
+use Rattle.mesh_grid.proofs.PlaceMoments.{moment_is_of_events, moment_is_loop_free}
 use Rattle.mesh_grid.proofs.LinkLaws.{links_follow_places}
 use Rattle.mesh_places.specs.declared.placed.Placed.{Placed}
 use Rattle.mesh_places.specs.Moments.{moment_of}
@@ -23,7 +24,9 @@ use Rattle.mesh_places.proofs.Telling.{input_told}
 is_placed : (reach : ℕ) (schedule : List ℕ) → IsPlacedRun reach schedule
 is_placed reach schedule = record {
   worlds = (worlds_are_of_events reach Base schedule).0;
+  moments = λ i k done. moment_is_of_events reach Base schedule i k done;
   loop_free = λ k d. runs_with_places_are_loop_free reach Base schedule k d;
+  moments_loop_free = λ i k d. moment_is_loop_free reach Base schedule i k d;
   links = λ i a b. links_follow_places reach Base schedule i a b;
 }
 

@@ -9,7 +9,7 @@ use Rattle.mesh_run.specs.declared.say.Say.TheVariants.{All}
 use Rattle.mesh_run.specs.declared.status.Status.{Status}
 use Rattle.mesh_grid.specs.Links.{is_due}
 use Rattle.mesh_grid.specs.Text.{Moment, opening, text_on, text_of_input}
-use Rattle.mesh_grid.specs.Runs.{moment_at, world_after}
+use Rattle.mesh_grid.specs.Runs.{AreDone, moment_at, moment_within, world_after, IsOfEvents}
 
 -- ---- what is written and answered
 
@@ -22,12 +22,17 @@ IsOutputFrom reach m bytes left before now s =
 
 -- ---- the run that is written
 
--- its worlds are those of its events, and in none of them has a destination a loop; and after each
--- line the links that stand are those that are due between nodes with places
+-- its worlds are those of its events: the last one; and the one after each line, and after each
+-- event of the next. In none of them has a destination a loop; and after each line the links that
+-- stand are those that are due between nodes with places
 pub record IsPlacedRun (reach : ℕ) (schedule : List ℕ) : Type 0 where
   pub worlds : let w = text_of_input reach Base schedule in
       world_of w.after.run ≡ world_after reach Base schedule w.after.run.sums.events
+  pub moments : (i k : ℕ) → AreDone reach Base schedule i
+      → IsOfEvents reach Base schedule (moment_within reach Base schedule i k)
   pub loop_free : (k d : ℕ) → ¬ (Cycle (world_after reach Base schedule k) d)
+  pub moments_loop_free : (i k d : ℕ)
+      → ¬ (Cycle (world_of (moment_within reach Base schedule i k)) d)
   pub links : (i a b : ℕ) → let m = moment_at reach Base schedule i in
       are_linked (world_of m.run).links a b ≡ is_due reach m.places a b
 

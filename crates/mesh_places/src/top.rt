@@ -56,9 +56,9 @@ pub fn places<I: Source, O: Sink>(
 
     // What is written is the text of the input, and the answer its verdict. After a failed write,
     // or want of memory, it is a prefix of that text; after a failed read it is the text of the
-    // lines that were read whole. In no world to which that run comes, after any number of its
-    // events, does a destination have a loop; and after each line the links that stand are those
-    // that follow from the places.
+    // lines that were read whole. After each line of that run, and after each event of the next,
+    // the world is the one to which its events so far lead, and in no such world does a destination
+    // have a loop; and after each line the links that stand are those that follow from the places.
     ensures text_of_a_loop_free_run { IfSome (reach_of (map (λ w. w.now) words.now)) (λ reach.
         IfSome (I.left input.old) (λ bytes. IsRun reach bytes
         (I.left input.new) (O.held out.old) (O.held out.new) result)) }
