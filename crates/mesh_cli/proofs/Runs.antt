@@ -5,7 +5,8 @@ use Rattle.mesh_io.specs.Cause.{Rose}
 use Rattle.mesh_text.specs.Schedule.{Moment, opening}
 use Rattle.mesh_text.specs.Text.{RunText, text_on, text_of_input}
 use Rattle.mesh_text.specs.declared.verdict.Verdict.TheVariants.{Finished}
-use Rattle.mesh_text.proofs.RunLaws.{runs_are_loop_free}
+use Rattle.mesh_text.proofs.NamedRuns.{each_datum_is_named}
+use Rattle.mesh_text.proofs.RunLaws.{runs_are_loop_free, each_datum_is_accounted_for}
 use Rattle.mesh_make.proofs.Allowed.{made_allowed}
 use Rattle.mesh_run.specs.declared.status.Status.{Status}
 use Rattle.mesh_run.specs.declared.status.Status.TheVariants as status
@@ -16,7 +17,7 @@ use Rattle.mesh_cli.specs.declared.words.Plan.{Plan}
 use Rattle.mesh_cli.specs.declared.words.Command.{Command}
 use Rattle.mesh_cli.specs.declared.words.Command.TheVariants.{Run, Make, Trial}
 use Rattle.mesh_cli.specs.Words.{IsAllowed}
-use Rattle.mesh_cli.specs.Does.{IsCommandRun, IsWritten, IsDoneOrShort, Completes, reads, made_by}
+use Rattle.mesh_cli.specs.Does.{IsSoundRun, IsCommandRun, IsWritten, IsDoneOrShort, Completes, reads, made_by}
 
 no_bad : (c : Command) (left after a b : Option (List ℕ)) (s : Status) (n : ℕ) → IsAllowed c → IsCommandRun c left after a b s → reads c ≡ false → s ≢ status.BadLine n
 no_bad (Run variant quiet) left after a b s n allowed t reads_not e = cc
@@ -32,16 +33,23 @@ no_command_bad command c left after a b s e allowed t =
     let P : Option Command → Type 0 = λ o. IfSome o (λ x. reads x ≡ false → (n : ℕ) → s ≢ status.BadLine n) in
     subst P e (λ reads_not n. no_bad c left after a b s n allowed t reads_not)
 
--- what was told of a run, and that it is loop free
+every_run : (variant : Variant) (schedule : List ℕ) → IsSoundRun variant schedule
+every_run variant schedule = record {
+  loop_free = λ k d. runs_are_loop_free variant schedule k d;
+  accounted = each_datum_is_accounted_for variant schedule;
+  named = each_datum_is_named variant schedule;
+}
+
+-- what was told of a run, and that it is sound
 pub runs_so : (variant : Variant) (quiet : Bool) (left after a b : Option (List ℕ)) (s : Status) → IfSome left (λ bytes. IsOutputFrom (say_by quiet) (opening variant) bytes after a b s)
     → IsCommandRun (Run variant quiet) left after a b s
 runs_so variant quiet None after a b s t = tt
-runs_so variant quiet (Some bytes) after a b s t = (t, λ k d. runs_are_loop_free variant bytes k d)
+runs_so variant quiet (Some bytes) after a b s t = (t, every_run variant bytes)
 
 -- the same of a made schedule
 pub trial_so : (variant : Variant) (plan : Plan) (left after a b : Option (List ℕ)) (s : Status) → IsOutput a b (part Last (text_of_input variant (made_by plan))) s
     → IsCommandRun (Trial variant plan) left after a b s
-trial_so variant plan left after a b s t = (t, λ k d. runs_are_loop_free variant (made_by plan) k d)
+trial_so variant plan left after a b s t = (t, every_run variant (made_by plan))
 
 -- ---- completeness
 

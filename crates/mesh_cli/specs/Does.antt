@@ -4,11 +4,11 @@ use Rattle.std.specs.Io.KnownBytes.{Appends, IsAtEnd}
 use Rattle.mesh_io.specs.Puts.{AppendsPrefix}
 use Rattle.mesh_base.specs.declared.events.Variant.{Variant}
 use Rattle.mesh_make.specs.Made.{made_schedule}
-use Rattle.mesh_model.specs.Walks.{Cycle}
 use Rattle.mesh_text.specs.Schedule.{opening}
 use Rattle.mesh_text.specs.Text.{text_of_input}
 use Rattle.mesh_text.specs.declared.verdict.Verdict.TheVariants.{Finished}
-use Rattle.mesh_text.specs.Runs.{world_after}
+use Rattle.mesh_text.specs.EveryWorld.{IsLoopFreeRun, IsAccountedRun}
+use Rattle.mesh_text.specs.NamedData.{IsNamedRun}
 use Rattle.mesh_run.specs.declared.status.Status.{Status}
 use Rattle.mesh_run.specs.declared.status.Status.TheVariants as status
 use Rattle.mesh_run.specs.declared.say.Say.TheVariants.{Last}
@@ -21,10 +21,13 @@ use Rattle.mesh_cli.specs.declared.words.Command.TheVariants.{Run, Make, Trial}
 abbrev pub made_by : Plan → List ℕ
 made_by plan = made_schedule plan.seed plan.nodes plan.steps
 
--- in no world to which the run of a schedule comes, after any number of its events, has a
--- destination a loop
-abbrev pub IsLoopFreeRun : Variant → List ℕ → Type 0
-IsLoopFreeRun variant schedule = (k d : ℕ) → ¬ (Cycle (world_after variant schedule k) d)
+-- what holds of the run of every schedule: in no world to which it comes has a destination a loop,
+-- in each of them every datum is accounted for, and its text names each datum that was delivered or
+-- dropped
+pub record IsSoundRun (variant : Variant) (schedule : List ℕ) : Type 0 where
+  pub loop_free : IsLoopFreeRun variant schedule
+  pub accounted : IsAccountedRun variant schedule
+  pub named : IsNamedRun variant schedule
 
 -- the command reads its schedule from the source
 abbrev pub reads : Command → Bool
@@ -45,17 +48,17 @@ IsWritten before now text status.NoMemory = ⊥
 -- what the source has left before and after, what the sink held before and holds now, and the
 -- answer. `run` writes the text of the schedule that the source has left; `run --quiet` its last
 -- line alone; `make` the made schedule; `trial` the last line of the text of the made schedule.
--- What runs is loop free
+-- What runs is sound
 abbrev pub IsCommandRun : Command → Option (List ℕ) → Option (List ℕ) → Option (List ℕ)
     → Option (List ℕ) → Status → Type 0
 IsCommandRun (Run variant quiet) left after before now s =
     IfSome left
     (λ bytes. IsOutputFrom (say_by quiet) (opening variant) bytes after before now s
-    × IsLoopFreeRun variant bytes)
+    × IsSoundRun variant bytes)
 IsCommandRun (Make plan) left after before now s = IsWritten before now (made_by plan) s
 IsCommandRun (Trial variant plan) left after before now s =
     IsOutput before now (part Last (text_of_input variant (made_by plan))) s
-    × IsLoopFreeRun variant (made_by plan)
+    × IsSoundRun variant (made_by plan)
 
 -- the command was done, or memory ran out
 abbrev pub IsDoneOrShort : Status → Type 0

@@ -56,10 +56,10 @@ fn do_command<I: Source, O: Sink>(
 /// and writes the text of its run, `run --quiet` the text's last line alone; `make` writes the
 /// schedule that a seed makes; `trial` runs such a schedule, and writes the last line of its text.
 /// `run --variant NAME` and `trial --variant NAME` let all nodes run that variant of the protocol.
-/// What `run` writes is gathered in a buffer of 65536 bytes, and handed on when that is full, before
-/// each read of the source, and at the end, unless a write has failed. `make` writes some 8000 bytes
-/// at a time, and takes no memory. The memory of a run is given back at its end, or left to a
-/// process that ends with this call.
+/// What `run` writes is gathered in a buffer of 65536 bytes, and handed on when that is full,
+/// before each read of the source, and at the end, unless a write has failed. `make` writes some
+/// 8000 bytes at a time, and takes no memory. The memory of a run is given back at its end, or left
+/// to a process that ends with this call.
 pub fn mesh<I: Source, O: Sink>(
     alloc: Global,
     words: &[&str],
@@ -74,10 +74,12 @@ pub fn mesh<I: Source, O: Sink>(
         → (input.new ≡ input.old) × (out.new ≡ out.old) }
 
     // What is written is the text that the command asks for, and the answer its verdict. After a
-    // failed write, or want of memory, it is a prefix of that text; after a failed read it is what
-    // is written of the lines that were read whole. In no world to which the run comes that is
-    // written so, after any number of its events, does a destination have a loop. `make` answers no
-    // want of memory.
+    // failed write, or where memory runs out, it is a prefix of that text; after a failed read it
+    // is what is written of the lines that were read whole. In no world of the run that is written
+    // so, after any number of its events, does a destination have a loop; in each of them every
+    // datum is accounted for; and the run's text names each that was delivered or dropped. All this
+    // is said where the source tells its bytes; where it doesn't, each world of the run is safe all
+    // the same, as `do_input` says of the moment that it leaves. `make` never runs out of memory.
     ensures text_of_a_loop_free_run { IfSome (command_of (map (λ w. w.now) words.now)) (λ command.
         IsCommandRun command (I.left input.old) (I.left input.new)
         (O.held out.old) (O.held out.new) result) }

@@ -21,9 +21,9 @@ use mesh_shell::run as shell_run;
 use mesh_world::Steps;
 use std::alloc::Global;
 
-/// Does the lines of an input as `drive` does, in a run that stays where it is: a large world is not
-/// moved. Whatever the answer, and whether or not the source tells its bytes, the moment that is left
-/// is safe. The memory of the buffer is taken first.
+/// Does the lines of an input as `drive` does, in a run that stays where it is: a large world isn't
+/// moved. Whatever the answer, and whether or not the source tells its bytes, the moment that is
+/// left is safe. The memory of the buffer is taken first.
 pub fn do_input<S: Steps, I: Source, O: Sink>(
     running: &mut Running<S>,
     input: &mut I,
