@@ -1,4 +1,4 @@
-//! Laws of the definitions. Each function has an empty body and a contract that states a law.
+//! Laws of the definitions. Each function does nothing, and has a contract that states a law.
 ghost use Rattle.mesh_state.specs.Laws.{CheckpointIsFront, SavedRunGoesOn, LoadedRunGoesOn};
 
 use mesh_load::one_start;
