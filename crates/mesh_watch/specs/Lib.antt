@@ -1,18 +1,2 @@
--- Read in this order.
 -- Words: the variant of the protocol that the words of a command line ask for.
 pub mod Words
--- Blocks: the node that an event has changed, and the block that shows it.
-pub mod Blocks
--- Text: the text of a watched run, and its verdict.
-pub mod Text
--- Moments: the moments of a watched run.
-pub mod Moments
--- Parts: what the blocks add to the text of a run.
-pub mod Parts
--- Laws: what is proved of these definitions.
-pub mod Laws
--- Outputs: what was told of a watched run. This is what the contract of the top call cites.
-pub mod Outputs
--- The other says what the parts of a run do.
--- Lines: what one event comes to.
-pub mod Lines

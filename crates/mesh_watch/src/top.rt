@@ -1,39 +1,18 @@
 //! The top call.
-ghost use Rattle.std.specs.Prelude.{◌≡◌, ◌≢◌, ◌↔◌, ◌⊎◌, map, None, IfSome};
+ghost use Rattle.std.specs.Prelude.{◌≡◌, ◌↔◌, ◌⊎◌, map, None, IfSome};
 ghost use Rattle.std.specs.Io.KnownBytes.{IsAtEnd};
 ghost use Rattle.mesh_io.specs.Cause.{Rose};
 ghost use Rattle.mesh_text.specs.Text.{text_of_input};
 ghost use Rattle.mesh_text.specs.declared.verdict.Verdict.TheVariants.{Finished};
 ghost use Rattle.mesh_run.specs.Causes.{HasSourceCause, HasStatusCause};
+ghost use Rattle.mesh_blocks.specs.Outputs.{IsRun};
 ghost use Rattle.mesh_watch.specs.Words.{variant_of};
-ghost use Rattle.mesh_watch.specs.Outputs.{IsRun};
 
-use crate::watched::Watched;
 use crate::words::variant_of;
-use mesh_base::Variant;
-use mesh_io::{Limits, SCHEDULE_ROOM, Sink, Source};
+use mesh_blocks::run;
+use mesh_io::{Sink, Source};
 use mesh_run::Status;
 use std::alloc::Global;
-
-// Runs a schedule.
-fn run<I: Source, O: Sink>(alloc: Global, variant: Variant, input: &mut I, out: &mut O) -> Status
-    ensures told { IfSome (I.left input.old) (λ bytes. IsRun variant bytes
-        (I.left input.new) (O.held out.old) (O.held out.new) result) }
-    ensures end { result ≡ Status.Done → IsAtEnd (I.left input.new) }
-    ensures read { HasSourceCause (I.faults input.old) (I.faults input.new) result }
-    ensures write { HasStatusCause Status.WriteFault (O.faults out.old) (O.faults out.new) result }
-    ensures words { result ≢ Status.Usage }
-{
-    let mut watched = Watched::with(alloc, variant);
-    let answer = mesh_shell::run::<Watched, I, O, SCHEDULE_ROOM>(
-        alloc,
-        &mut watched,
-        Limits::of_schedule(),
-        input,
-        out,
-    );
-    Status::of(answer)
-}
 
 /// Runs the schedule that the source gives, in a world of its own, and writes its text to the sink,
 /// line by line, with a block below each event that has changed a node: what a line `show` of that

@@ -1,0 +1,170 @@
+-- What comes of an event with its block, and of a line with one event.
+use Rattle.std.proofs.Common.{◌≡◌, ◌∙◌, ℕ, true, List, [], ◌∷◌, ◌++◌, Option, None, Result, Ok, IfOk, length, refl, sym, ap, subst, append-nil}
+use Rattle.std.specs.List.{slice_get}
+use Rattle.std.specs.Io.KnownBytes.{Appends}
+use Rattle.mesh_base.specs.Meshes.{Nodes}
+use Rattle.mesh_base.specs.declared.events.Done.{Done}
+use Rattle.mesh_base.specs.declared.events.Done.TheVariants as done
+use Rattle.mesh_base.specs.declared.events.Event.{Event as EventGiven}
+use Rattle.mesh_io.specs.Puts.{AppendsPrefix, Puts}
+use Rattle.mesh_io.proofs.Writing.{AppendsPrefix-more, Puts-join}
+use Rattle.mesh_model.specs.Worlds as worlds
+use Rattle.mesh_model.specs.Worlds.{World, Event, Outcome, Idle, Next}
+use Rattle.mesh_model.specs.Places.{IsEvent}
+use Rattle.mesh_meaning.specs.Events.{event_of, node_of}
+use Rattle.mesh_meaning.specs.Answers.{outcome_in}
+use Rattle.mesh_grammar.specs.declared.fault.BadWhy.{BadWhy}
+use Rattle.mesh_grammar.specs.declared.fault.BadWhy.TheVariants.{Fault}
+use Rattle.mesh_grammar.specs.Written.{line}
+use Rattle.mesh_text.specs.Lines.{words_of}
+use Rattle.mesh_text.specs.Schedule.{Moment, Does, ShowsNode, with_line_read, with_world, next_moment, outcome_at, world_of}
+use Rattle.mesh_text.specs.Effects.{outcome_lines}
+use Rattle.mesh_text.specs.Tables.{node_text_in}
+use Rattle.mesh_text.specs.Auto.{Ended, before, done_then}
+use Rattle.mesh_text.specs.Text.{LineOutcome, On, Refused, Full, outcome_by_events, text_in}
+use Rattle.mesh_world.specs.declared.steps.StepError.{StepError}
+use Rattle.mesh_run.specs.declared.stop.Stop.{Stop}
+use Rattle.mesh_run.specs.declared.stop.Stop.TheVariants as stop
+use Rattle.mesh_moment.specs.Moments.{IsAnswer}
+use Rattle.mesh_run.specs.Runs.{IsLineDone, IsLineFull, IsLineStopped, outcome_by}
+use Rattle.mesh_run.proofs.Events.{answer_text, answer_mesh, node_came, refusal_fills}
+use Rattle.mesh_blocks.specs.Blocks.{changed_by, shown_node, shown_if, block_below}
+use Rattle.mesh_blocks.specs.Text.{watched_events, watched_line}
+use Rattle.mesh_blocks.specs.Lines.{with_block, watched_event}
+
+-- ---- the block
+
+pub shown_is : (m : Moment) (x : ℕ) → shown_node m x ≡ line (words_of m.mesh (ShowsNode x)) ++ node_text_in m.mesh (slice_get (world_of m).nodes x)
+shown_is m x = ap text_in (node_came m x)
+
+-- the block below an event that has this answer
+pub block_is : (m n : Moment) (e : Event) (d : Done) (packet : List ℕ) (changed : Option ℕ) → IsAnswer m e d n packet
+    → changed ≡ changed_by e (outcome_in m.mesh (node_of e) (world_of n) d packet) → block_below m e ≡ shown_if n changed
+unfolding block_below
+block_is m n e d packet changed a is =
+    ap (λ o. shown_if (next_moment m e) (changed_by e o)) a.outcome ∙ ap (shown_if (next_moment m e)) (sym is) ∙ ap (λ k. shown_if k changed) (sym a.moment)
+
+-- a node's line, and its state below it
+pub shown_front : (m : Moment) (x : ℕ) (mesh : Nodes) (a b : Option (List ℕ)) → mesh ≡ m.mesh → AppendsPrefix a b (line (words_of mesh (ShowsNode x))) → AppendsPrefix a b (shown_node m x)
+shown_front m x mesh a b same p =
+    AppendsPrefix-more a b (line (words_of m.mesh (ShowsNode x))) _ _ (shown_is m x) (subst (λ (l : Nodes). AppendsPrefix a b (line (words_of l (ShowsNode x)))) same p)
+
+pub shown_whole : {T E : Type 0} (m : Moment) (x : ℕ) (mesh : Nodes) (state : List ℕ) (a b c : Option (List ℕ)) (r : Result T E) → mesh ≡ m.mesh → state ≡ node_text_in m.mesh (slice_get (world_of m).nodes x)
+    → Appends a b (line (words_of mesh (ShowsNode x))) → Puts b c state r → Puts a c (shown_node m x) r
+shown_whole m x mesh state a b c r same is p q =
+    Puts-join a b c (line (words_of m.mesh (ShowsNode x))) (node_text_in m.mesh (slice_get (world_of m).nodes x)) _ r (shown_is m x)
+    (subst (λ (l : Nodes). Appends a b (line (words_of l (ShowsNode x)))) same p) (subst (λ (l : List ℕ). Puts b c l r) is q)
+
+-- ---- an event by itself
+
+by_done : (m : Moment) (e : Event) (mesh : Nodes) (x : ℕ) (w : World) (d : Done) (packet : List ℕ)
+    → outcome_by m e (outcome_in mesh x w d packet) ≡ On (outcome_lines m.mesh e (outcome_in mesh x w d packet)) (next_moment m e)
+by_done m e mesh x w done.Idle packet = refl
+by_done m e mesh x w done.Changed packet = refl
+by_done m e mesh x w (done.Taken took effect air) packet = refl
+by_done m e mesh x w (done.Sent effect air) packet = refl
+by_done m e mesh x w (done.Heard from to) packet = refl
+by_done m e mesh x w (done.Lost flying) packet = refl
+by_done m e mesh x w (done.Doubled id to parcel) packet = refl
+
+-- an answer at a moment that is the same as this
+pub answer_seen : (s m n : Moment) (e : Event) (d : Done) (packet : List ℕ) (r : Result Done StepError) → s ≡ m → r ≡ Ok d → IfOk r (λ x. IsAnswer s e x n packet) → IsAnswer m e d n packet
+answer_seen s m n e d packet r same is answer =
+    subst (λ (k : Moment). IsAnswer k e d n packet) same (subst (λ (x : Result Done StepError). IfOk x (λ y. IsAnswer s e y n packet)) is answer)
+
+-- the lines of an event, with its block
+abbrev pub watched_lines : Moment → Event → List ℕ
+watched_lines m e = outcome_lines m.mesh e (outcome_at m e) ++ block_below m e
+
+-- the lines of an event that has this answer, as they were written
+event_text : (P : List ℕ → Type 0) (m n : Moment) (e : Event) (d : Done) (packet : List ℕ) (mesh : Nodes) → IsAnswer m e d n packet → mesh ≡ n.mesh
+    → P (outcome_lines mesh e (outcome_in mesh (node_of e) (world_of n) d packet)) → P (outcome_lines m.mesh e (outcome_at m e))
+event_text P m n e d packet mesh a same p =
+    subst P (ap (λ (l : Nodes). outcome_lines l e (outcome_in l (node_of e) (world_of n) d packet)) (same ∙ answer_mesh m n e d packet a) ∙ answer_text m n e d packet a) p
+
+pub watched_front : (m n : Moment) (e : Event) (d : Done) (packet : List ℕ) (mesh : Nodes) (a b : Option (List ℕ)) → IsAnswer m e d n packet → mesh ≡ n.mesh
+    → AppendsPrefix a b (outcome_lines mesh e (outcome_in mesh (node_of e) (world_of n) d packet)) → AppendsPrefix a b (watched_lines m e)
+watched_front m n e d packet mesh a b is same p =
+    AppendsPrefix-more a b (outcome_lines m.mesh e (outcome_at m e)) (block_below m e) _ refl (event_text (λ l. AppendsPrefix a b l) m n e d packet mesh is same p)
+
+pub watched_whole : {T E : Type 0} (m n : Moment) (e : Event) (d : Done) (packet : List ℕ) (mesh : Nodes) (changed : Option ℕ) (a b c : Option (List ℕ)) (r : Result T E) → IsAnswer m e d n packet → mesh ≡ n.mesh
+    → Appends a b (outcome_lines mesh e (outcome_in mesh (node_of e) (world_of n) d packet)) → changed ≡ changed_by e (outcome_in m.mesh (node_of e) (world_of n) d packet)
+    → Puts b c (shown_if n changed) r → Puts a c (watched_lines m e) r
+watched_whole m n e d packet mesh changed a b c r is same p by q =
+    Puts-join a b c (outcome_lines m.mesh e (outcome_at m e)) (block_below m e) _ r refl (event_text (λ l. Appends a b l) m n e d packet mesh is same p)
+    (subst (λ (l : List ℕ). Puts b c l r) (sym (block_is m n e d packet changed is by)) q)
+
+-- where no node has changed
+pub watched_alone : (m n : Moment) (e : Event) (d : Done) (packet : List ℕ) (mesh : Nodes) (a b : Option (List ℕ)) → IsAnswer m e d n packet → mesh ≡ n.mesh
+    → Appends a b (outcome_lines mesh e (outcome_in mesh (node_of e) (world_of n) d packet)) → None ≡ changed_by e (outcome_in m.mesh (node_of e) (world_of n) d packet) → Appends a b (watched_lines m e)
+watched_alone m n e d packet mesh a b is same p by =
+    let lines : List ℕ = outcome_lines m.mesh e (outcome_at m e) in
+    subst (λ (l : List ℕ). Appends a b (lines ++ l)) (sym (block_is m n e d packet None is by))
+    (subst (λ (l : List ℕ). Appends a b l) (sym (append-nil lines)) (event_text (λ l. Appends a b l) m n e d packet mesh is same p))
+
+-- an event that has an answer goes on
+answer_came : (m n : Moment) (e : Event) (d : Done) (packet : List ℕ) → IsAnswer m e d n packet → watched_event m e ≡ On (watched_lines m e) n
+answer_came m n e d packet a =
+    ap (with_block (block_below m e))
+    (ap (outcome_by m e) a.outcome ∙ by_done m e m.mesh (node_of e) (world_of n) d packet ∙ ap (λ o. On (outcome_lines m.mesh e o) (next_moment m e)) (sym a.outcome))
+    ∙ ap (On (watched_lines m e)) (sym a.moment)
+
+pub answer_goes : (m n : Moment) (e : Event) (d : Done) (packet : List ℕ) (a b : Option (List ℕ)) → IsAnswer m e d n packet → Appends a b (watched_lines m e) → IsLineDone true (watched_event m e) n a b
+answer_goes m n e d packet a b is p = record { text = watched_lines m e; is = answer_came m n e d packet is; grown = p }
+
+pub answer_front : (m n : Moment) (e : Event) (d : Done) (packet : List ℕ) (a b : Option (List ℕ)) → IsAnswer m e d n packet → AppendsPrefix a b (watched_lines m e) → AppendsPrefix a b (text_in (watched_event m e))
+answer_front m n e d packet a b is p = subst (λ l. AppendsPrefix a b l) (sym (ap text_in (answer_came m n e d packet is))) p
+
+-- an event that is refused stops the run
+pub refusal_stops : (m n : Moment) (e : EventGiven) (node : ℕ) (field : _) (a : Option (List ℕ)) → IsEvent (length m.mesh) (event_of e) → outcome_at m (event_of e) ≡ worlds.Full node field
+    → n ≡ m → IsLineFull true m (watched_event m (event_of e)) n a a (event_of e) node field
+refusal_stops m n e node field a ev is same =
+    let g = refusal_fills true m n (event_of e) node field a ev is same in
+    record { text = g.text; is = ap (with_block (block_below m (event_of e))) g.is; refused = g.refused; grown = g.grown; still = g.still }
+
+-- ---- a line with one event
+
+abbrev count : LineOutcome → LineOutcome
+count (On text n) = On text (with_line_read n)
+count (Refused why) = Refused why
+count (Full text n e field) = Full text n e field
+
+came-counted : (s : Moment) (e : Event) (o : Outcome) (block : List ℕ) → outcome_by_events (done_then s e o (λ n. before block (Ended [] n))) ≡ count (with_block block (outcome_by s e o))
+came-counted s e Idle block = ap (λ l. On (outcome_lines s.mesh e Idle ++ l) (with_line_read (next_moment s e))) (append-nil block)
+came-counted s e (worlds.Full x field) block = refl
+came-counted s e (Next w h) block = ap (λ l. On (outcome_lines s.mesh e (Next w h) ++ l) (with_line_read (next_moment s e))) (append-nil block)
+
+text-counted : (k : LineOutcome) → text_in (count k) ≡ text_in k
+text-counted (On text n) = refl
+text-counted (Refused why) = refl
+text-counted (Full text n e field) = refl
+
+-- the line of an event, by what came of the event once the run had started
+came-does : (m s : Moment) (e : Event) → s ≡ with_world m → watched_line m (Does e) ≡ count (watched_event s e)
+unfolding watched_line watched_events
+came-does m s e same = subst (λ k. watched_line m (Does e) ≡ count (watched_event k e)) (sym same) (came-counted (with_world m) e (outcome_at (with_world m) e) (block_below (with_world m) e))
+
+-- an event is no line that isn't allowed
+never_bad : (m : Moment) (e : Event) (o : Outcome) (block : List ℕ) (why : BadWhy) → with_block block (outcome_by m e o) ≡ Refused why → ⊥
+never_bad m e Idle block why h = cc
+never_bad m e (worlds.Full x field) block why h = cc
+never_bad m e (Next w i) block why h = cc
+
+pub step_goes : (m s n k : Moment) (e : Event) (a b : Option (List ℕ)) → s ≡ with_world m → IsLineDone true (watched_event s e) n a b → k ≡ with_line_read n → IsLineDone true (watched_line m (Does e)) k a b
+step_goes m s n k e a b same g next = record { text = g.text; is = came-does m s e same ∙ ap count g.is ∙ ap (λ q. On g.text q) (sym next); grown = g.grown }
+
+pub step_stops : (m s n : Moment) (e : Event) (a b : Option (List ℕ)) (t : Stop) → s ≡ with_world m → IsLineStopped true s (watched_event s e) n a b t → IsLineStopped true m (watched_line m (Does e)) n a b t
+step_stops m s n e a b (stop.BadLine f) same g = absurd (never_bad s e (outcome_at s e) (block_below s e) (Fault f) g.0)
+step_stops m s n e a b (stop.Full event node field) same g = record {
+  text = g.text;
+  is = came-does m s e same ∙ ap count g.is;
+  refused = g.refused;
+  grown = g.grown;
+  still = record {
+    event = subst (λ k. IsEvent (length k.mesh) (event_of event)) same g.still.event;
+    mesh = g.still.mesh ∙ ap (λ k. k.mesh) same;
+    lines = g.still.lines ∙ ap (λ k. k.lines) same;
+  };
+}
+step_stops m s n e a b stop.WriteFault same g = subst (λ l. AppendsPrefix a b l) (sym (ap text_in (came-does m s e same) ∙ text-counted (watched_event s e))) g
+step_stops m s n e a b stop.NoMemory same g = subst (λ l. AppendsPrefix a b l) (sym (ap text_in (came-does m s e same) ∙ text-counted (watched_event s e))) g

@@ -1,0 +1,133 @@
+-- A watched run differs from the run in its lines alone.
+use Rattle.std.proofs.Common.{◌≡◌, ℕ, List, [], ◌∷◌, Result, Ok, Err, length, take, is_some, refl, sym, ap, subst, ◌∙◌}
+use Rattle.std.specs.Prelude.{slice_get}
+use Rattle.mesh_base.specs.declared.events.Variant.{Variant}
+use Rattle.mesh_model.specs.Walks.{Cycle}
+use Rattle.mesh_model.specs.Worlds as worlds
+use Rattle.mesh_model.specs.Worlds.{Event, Outcome, Idle, Next}
+use Rattle.mesh_grammar.specs.declared.fault.LineFault.{LineFault}
+use Rattle.mesh_shell.specs.Pieces.{Piece, Whole, Long, Beyond}
+use Rattle.mesh_shell.specs.Story as shell
+use Rattle.mesh_grammar.specs.Written.{line}
+use Rattle.mesh_text.specs.Schedule.{Moment, AcceptedLine, Nothing, NewNode, Does, Chooses, ShowsNode, ShowsRoute, ShowsFlight, line_of, world_of, with_world, next_moment, outcome_at, opening}
+use Rattle.mesh_text.specs.Lines.{words_of}
+use Rattle.mesh_text.specs.Accounts.{IsBalanced}
+use Rattle.mesh_text.specs.Auto.{EventsOutcome, Ended, Full as EventsFull, before, done_then, outcome_of_events, events_chosen}
+use Rattle.mesh_text.specs.Text.{pieces_of_input, LineOutcome, On, Refused, Full, outcome_by_events, outcome_of_auto, outcome_of_line, outcome_of_read, outcome_of_piece, RunText, goes_on, text_from, text_on, text_of_input}
+use Rattle.mesh_text.specs.Runs.{moment_in_next, prefix_of_input}
+use Rattle.mesh_text.proofs.Moments.{data_are_accounted_for as run_is_accounted_for}
+use Rattle.mesh_text.proofs.MomentLaws.{moment_is_of_run, moment_is_loop_free}
+use Rattle.mesh_blocks.specs.Blocks.{block_below}
+use Rattle.mesh_blocks.specs.Text.{watched_events, watched_line, watched_read, watched_piece, watched_from, watched_on, watched_of_input}
+use Rattle.mesh_blocks.specs.Moments.{watched_prefix, AreDone, moment_within, IsOfEvents}
+use Rattle.mesh_blocks.specs.Laws.{WatchedRunIsTheRun, MomentIsTheRuns, DataAreAccountedFor}
+
+-- ---- what a line comes to, but for its text
+
+abbrev pub bare : LineOutcome → LineOutcome
+bare (On text n) = On [] n
+bare (Refused why) = Refused why
+bare (Full text n e field) = Full [] n e field
+
+abbrev pub bare_events : EventsOutcome → EventsOutcome
+bare_events (Ended text n) = Ended [] n
+bare_events (EventsFull text n e field) = EventsFull [] n e field
+
+bare_before : (text : List ℕ) (r : EventsOutcome) → bare_events (before text r) ≡ bare_events r
+bare_before text (Ended others n) = refl
+bare_before text (EventsFull others n e field) = refl
+
+bare_done : (m : Moment) (e : Event) (o : Outcome) (f g : Moment → EventsOutcome) → bare_events (f (next_moment m e)) ≡ bare_events (g (next_moment m e)) → bare_events (done_then m e o f) ≡ bare_events (done_then m e o g)
+bare_done m e Idle f g same = bare_before _ (f (next_moment m e)) ∙ same ∙ sym (bare_before _ (g (next_moment m e)))
+bare_done m e (worlds.Full x field) f g same = refl
+bare_done m e (Next w happening) f g same = bare_before _ (f (next_moment m e)) ∙ same ∙ sym (bare_before _ (g (next_moment m e)))
+
+pub bare_watched : (m : Moment) (es : List Event) → bare_events (watched_events m es) ≡ bare_events (outcome_of_events m es)
+unfolding watched_events outcome_of_events
+bare_watched m [] = refl
+bare_watched m (e ∷ es) =
+    bare_done m e (outcome_at m e) (λ n. before (block_below m e) (watched_events n es)) (λ n. outcome_of_events n es)
+    (bare_before (block_below m e) (watched_events (next_moment m e) es) ∙ bare_watched (next_moment m e) es)
+
+bare_of_events : (r : EventsOutcome) → bare (outcome_by_events r) ≡ bare (outcome_by_events (bare_events r))
+bare_of_events (Ended text n) = refl
+bare_of_events (EventsFull text n e field) = refl
+
+bare_of_auto : (text : List ℕ) (did : ℕ) (r : EventsOutcome) → bare (outcome_of_auto text did r) ≡ bare (outcome_of_auto [] did (bare_events r))
+bare_of_auto text did (Ended others n) = refl
+bare_of_auto text did (EventsFull others n e field) = refl
+
+pub bare_line : (m : Moment) (a : AcceptedLine) → bare (watched_line m a) ≡ bare (outcome_of_line m a)
+unfolding watched_line outcome_of_line
+bare_line m Nothing = refl
+bare_line m (NewNode address first) = refl
+bare_line m (Does e) =
+    bare_of_events (watched_events (with_world m) (e ∷ [])) ∙ ap (λ r. bare (outcome_by_events r)) (bare_watched (with_world m) (e ∷ []))
+    ∙ sym (bare_of_events (outcome_of_events (with_world m) (e ∷ [])))
+bare_line m (Chooses count) =
+    let text : List ℕ = line (words_of m.mesh (Chooses count)) in
+    let chosen : List Event = events_chosen count (with_world m) in
+    bare_of_auto text (length chosen) (watched_events (with_world m) chosen) ∙ ap (λ r. bare (outcome_of_auto [] (length chosen) r)) (bare_watched (with_world m) chosen)
+    ∙ sym (bare_of_auto text (length chosen) (outcome_of_events (with_world m) chosen))
+bare_line m (ShowsNode x) = refl
+bare_line m (ShowsRoute x d) = refl
+bare_line m ShowsFlight = refl
+
+bare_read : (m : Moment) (r : Result AcceptedLine LineFault) → bare (watched_read m r) ≡ bare (outcome_of_read m r)
+bare_read m (Ok a) = bare_line m a
+bare_read m (Err fault) = refl
+
+pub bare_piece : (m : Moment) (piece : Piece) → bare (watched_piece m piece) ≡ bare (outcome_of_piece m piece)
+unfolding watched_piece outcome_of_piece
+bare_piece m (Whole bytes) = bare_read m (line_of m.mesh (is_some m.world) bytes)
+bare_piece m Long = refl
+bare_piece m Beyond = refl
+
+-- ---- a run, but for its lines
+
+abbrev bare_run : RunText → RunText
+bare_run w = record w { lines = [] }
+
+bare_goes : (m : Moment) (k : LineOutcome) (f : Moment → RunText) → bare_run (goes_on m k f) ≡ bare_run (goes_on m (bare k) f)
+bare_goes m (On text n) f = refl
+bare_goes m (Refused why) f = refl
+bare_goes m (Full text n e field) f = refl
+
+bare_both : (m : Moment) (k : LineOutcome) (f g : Moment → RunText) → ((n : Moment) → bare_run (f n) ≡ bare_run (g n)) → bare_run (goes_on m k f) ≡ bare_run (goes_on m k g)
+bare_both m (On text n) f g same = same n
+bare_both m (Refused why) f g same = refl
+bare_both m (Full text n e field) f g same = refl
+
+bare_from : (m : Moment) (pieces : List Piece) → bare_run (watched_from m pieces) ≡ bare_run (text_from m pieces)
+unfolding shell.text_from
+bare_from m [] = refl
+bare_from m (piece ∷ pieces) =
+    bare_goes m (watched_piece m piece) (λ n. watched_from n pieces) ∙ ap (λ k. bare_run (goes_on m k (λ n. watched_from n pieces))) (bare_piece m piece)
+    ∙ sym (bare_goes m (outcome_of_piece m piece) (λ n. watched_from n pieces))
+    ∙ bare_both m (outcome_of_piece m piece) (λ n. watched_from n pieces) (λ n. text_from n pieces) (λ n. bare_from n pieces)
+
+pub same_run : (m : Moment) (input : List ℕ) → watched_on m input ≡ record (text_on m input) { lines = (watched_on m input).lines }
+unfolding shell.text_on
+same_run m input = ap (λ (w : RunText). record w { lines = (watched_from m (pieces_of_input input)).lines }) (bare_from m (pieces_of_input input))
+
+pub watched_run_is_the_run : WatchedRunIsTheRun
+unfolding watched_of_input text_of_input
+watched_run_is_the_run variant input = same_run (opening variant) input
+
+pub data_are_accounted_for : DataAreAccountedFor
+data_are_accounted_for variant input = subst IsBalanced (sym (ap (λ (w : RunText). w.after) (watched_run_is_the_run variant input))) (run_is_accounted_for variant input)
+
+-- ---- each moment
+
+pub moment_is_the_runs : MomentIsTheRuns
+moment_is_the_runs variant input i k =
+    ap (λ (w : RunText). moment_in_next w.after (slice_get (pieces_of_input input) i) k) (bare_from (opening variant) (take i (pieces_of_input input)))
+
+pub moment_is_of_events : (variant : Variant) (input : List ℕ) (i k : ℕ) → AreDone variant input i → IsOfEvents variant input (moment_within variant input i k)
+moment_is_of_events variant input i k done =
+    let same : (watched_prefix variant input i).verdict ≡ (prefix_of_input variant input i).verdict = ap (λ (w : RunText). w.verdict) (bare_from (opening variant) (take i (pieces_of_input input))) in
+    subst (IsOfEvents variant input) (sym (moment_is_the_runs variant input i k)) (moment_is_of_run variant input i k (sym same ∙ done))
+
+pub moments_are_loop_free : (variant : Variant) (input : List ℕ) (i k d : ℕ) → ¬ (Cycle (world_of (moment_within variant input i k)) d)
+moments_are_loop_free variant input i k d =
+    subst (λ (m : Moment). ¬ (Cycle (world_of m) d)) (sym (moment_is_the_runs variant input i k)) (moment_is_loop_free variant input i k d)

@@ -1,0 +1,32 @@
+use Rattle.std.proofs.Common.{sym, subst, ◌∙◌, arith}
+use Rattle.std.specs.Io.KnownBytes.{IsAtEnd}
+use Rattle.mesh_text.specs.Schedule.{Moment}
+use Rattle.mesh_run.specs.declared.status.Status.{Status}
+use Rattle.mesh_run.specs.declared.status.Status.TheVariants as status
+use Rattle.mesh_run.specs.Causes.{HasSourceCause, HasStatusCause}
+use Rattle.mesh_run.proofs.Loud.{source_cause, sink_cause}
+use Rattle.mesh_run.proofs.Scripts.{where_done, no_words}
+use Rattle.mesh_blocks.proofs.Runs.{runs_so, run_completes}
+use Rattle.mesh_blocks.proofs.driving.run.Goals as goal
+
+pub returns-clause-told : goal.returns-clause-told
+returns-clause-told g c =
+    runs_so c.args.variant c.with-watched.result c.of_schedule.result _ _ _ _ c.run-answer.result c.of.result c.with-watched.ensures c.of_schedule.ensures c.of.ensures c.run-answer.ensures.told
+
+pub returns-clause-end : goal.returns-clause-end
+returns-clause-end g c = λ done. where_done (IsAtEnd (g.I.Source.left c.run-answer.new.input)) c.run-answer.result (sym c.of.ensures ∙ done) c.run-answer.ensures.end
+
+pub returns-clause-read : goal.returns-clause-read
+returns-clause-read g c =
+    subst (λ (s : Status). HasSourceCause (g.I.Source.faults c.args.input.now) (g.I.Source.faults c.run-answer.new.input) s) (sym c.of.ensures) (source_cause _ _ c.run-answer.result c.run-answer.ensures.read)
+
+pub returns-clause-write : goal.returns-clause-write
+returns-clause-write g c =
+    subst (λ (s : Status). HasStatusCause status.WriteFault (g.O.Sink.faults c.args.out.now) (g.O.Sink.faults c.run-answer.new.out) s) (sym c.of.ensures) (sink_cause _ _ c.run-answer.result c.run-answer.ensures.write)
+
+pub returns-clause-words : goal.returns-clause-words
+returns-clause-words g c = λ e. no_words c.run-answer.result (sym c.of.ensures ∙ e)
+
+pub returns-clause-complete : goal.returns-clause-complete
+returns-clause-complete g c =
+    run_completes c.args.variant (g.I.Source.left c.args.input.now) _ _ _ c.of.result _ _ _ _ (returns-clause-told g c) (returns-clause-read g c).failed (returns-clause-write g c).failed

@@ -1,0 +1,38 @@
+use Rattle.std.proofs.Common.{sym, subst}
+use Rattle.std.specs.Prelude.{IfSome, length}
+use Rattle.mesh_base.specs.Meshes.{Nodes}
+use Rattle.mesh_model.specs.Places.{IsEvent}
+use Rattle.mesh_meaning.specs.Events.{event_of}
+use Rattle.mesh_meaning.specs.Answers.{IsDoneInMesh}
+use Rattle.mesh_text.specs.Schedule.{Does}
+use Rattle.mesh_script.specs.Seen.{IsPrintable}
+use Rattle.mesh_script.specs.declared.line.Line.TheVariants as line
+use Rattle.mesh_run.specs.Runs.{IsLineOf}
+use Rattle.mesh_run.proofs.Events.{answer_mesh, stepped_started}
+use Rattle.mesh_blocks.proofs.Events.{answer_seen}
+use Rattle.mesh_blocks.proofs.event.do_event.Goals as goal
+
+pub put_watched-requires-clause-started : goal.put_watched-requires-clause-started
+put_watched-requires-clause-started g c =
+    let is = answer_seen c.at.inside.state c.args.at.now c.step_made-answer.new.self (event_of c.args.event) c.in-Ok.done c.step_made-answer.new.out.items c.step_made-answer.result c.at.view_is c.in-Ok.is c.step_made-answer.ensures.done in
+    stepped_started c.args.at.now c.step_made-answer.new.self (event_of c.args.event) is.moment
+
+pub put_watched-requires-clause-event : goal.put_watched-requires-clause-event
+put_watched-requires-clause-event g c =
+    let is = answer_seen c.at.inside.state c.args.at.now c.step_made-answer.new.self (event_of c.args.event) c.in-Ok.done c.step_made-answer.new.out.items c.step_made-answer.result c.at.view_is c.in-Ok.is c.step_made-answer.ensures.done in
+    subst (λ (m : Nodes). IsEvent (length m) (event_of c.args.event)) (sym (answer_mesh c.args.at.now c.step_made-answer.new.self (event_of c.args.event) c.in-Ok.done c.step_made-answer.new.out.items is)) c.requires.printable.1
+
+pub put_watched-requires-clause-printable : goal.put_watched-requires-clause-printable
+put_watched-requires-clause-printable g c =
+    let is = answer_seen c.at.inside.state c.args.at.now c.step_made-answer.new.self (event_of c.args.event) c.in-Ok.done c.step_made-answer.new.out.items c.step_made-answer.result c.at.view_is c.in-Ok.is c.step_made-answer.ensures.done in
+    subst (λ (m : Nodes). IsPrintable m (line.Step c.args.event)) (sym (answer_mesh c.args.at.now c.step_made-answer.new.self (event_of c.args.event) c.in-Ok.done c.step_made-answer.new.out.items is)) c.requires.printable
+
+pub put_watched-requires-clause-in_mesh : goal.put_watched-requires-clause-in_mesh
+put_watched-requires-clause-in_mesh g c =
+    let is = answer_seen c.at.inside.state c.args.at.now c.step_made-answer.new.self (event_of c.args.event) c.in-Ok.done c.step_made-answer.new.out.items c.step_made-answer.result c.at.view_is c.in-Ok.is c.step_made-answer.ensures.done in
+    subst (λ (m : Nodes). IsDoneInMesh m c.in-Ok.done c.step_made-answer.new.out.items) (sym (answer_mesh c.args.at.now c.step_made-answer.new.self (event_of c.args.event) c.in-Ok.done c.step_made-answer.new.out.items is)) is.in_mesh
+
+pub put_watched-requires-clause-echo : goal.put_watched-requires-clause-echo
+put_watched-requires-clause-echo g c =
+    let is = answer_seen c.at.inside.state c.args.at.now c.step_made-answer.new.self (event_of c.args.event) c.in-Ok.done c.step_made-answer.new.out.items c.step_made-answer.result c.at.view_is c.in-Ok.is c.step_made-answer.ensures.done in
+    subst (λ (m : Nodes). IfSome c.args.bytes (λ b. IsLineOf m (Does (event_of c.args.event)) b.now)) (sym (answer_mesh c.args.at.now c.step_made-answer.new.self (event_of c.args.event) c.in-Ok.done c.step_made-answer.new.out.items is)) c.requires.echo

@@ -1,0 +1,42 @@
+-- What was told of a watched run: what the sink held before, and what it holds now.
+use Rattle.std.specs.Prelude.{ℕ, ◌≡◌, List, Option}
+use Rattle.mesh_base.specs.declared.events.Variant.{Variant}
+use Rattle.mesh_model.specs.Walks.{Cycle}
+use Rattle.mesh_text.specs.Schedule.{Moment, opening, world_of}
+use Rattle.mesh_text.specs.Runs.{moment_at, world_after}
+use Rattle.mesh_run.specs.Outputs.{IsOutputOf}
+use Rattle.mesh_run.specs.declared.say.Say.TheVariants.{All}
+use Rattle.mesh_run.specs.declared.status.Status.{Status}
+use Rattle.mesh_blocks.specs.Text.{watched_on, watched_of_input}
+use Rattle.mesh_blocks.specs.Moments.{AreDone, moment_within, IsOfEvents}
+use Rattle.mesh_blocks.specs.Parts.{HasBlocksBelowEvents}
+
+-- ---- what is written and answered
+
+-- a watched run of these bytes from a moment on has answered, where the source has this left. After
+-- a failed read what was written is the text of the lines that were read whole
+abbrev pub IsOutputFrom : Moment → List ℕ → Option (List ℕ) → Option (List ℕ) → Option (List ℕ)
+    → Status → Type 0
+IsOutputFrom m bytes left before now s = IsOutputOf All (watched_on m) bytes left before now s
+
+-- ---- the run that is written
+
+-- its worlds are those of the schedule's run: the last one; and the one after each line, and after
+-- each event of the next. In none of them has a destination a loop. Its text is that of the run
+-- with a block directly below each event that has changed a node
+pub record IsWatchedRun (variant : Variant) (schedule : List ℕ) : Type 0 where
+  pub worlds : let w = watched_of_input variant schedule in
+      world_of w.after ≡ world_after variant schedule w.after.sums.events
+  pub same : (i k : ℕ) → moment_within variant schedule i k ≡ moment_at variant schedule i k
+  pub moments : (i k : ℕ) → AreDone variant schedule i
+      → IsOfEvents variant schedule (moment_within variant schedule i k)
+  pub loop_free : (k d : ℕ) → ¬ (Cycle (world_after variant schedule k) d)
+  pub moments_loop_free : (i k d : ℕ)
+      → ¬ (Cycle (world_of (moment_within variant schedule i k)) d)
+  pub blocks : HasBlocksBelowEvents variant schedule
+
+-- what was told of the schedule that a source had, which is that of such a run
+abbrev pub IsRun : Variant → List ℕ → Option (List ℕ) → Option (List ℕ) → Option (List ℕ) → Status
+    → Type 0
+IsRun variant schedule left before now s =
+    IsOutputFrom (opening variant) schedule left before now s × IsWatchedRun variant schedule

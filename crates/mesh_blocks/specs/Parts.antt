@@ -1,0 +1,72 @@
+-- What the blocks add to the text of a run: whole lines, each block directly below the lines of its
+-- event, and of the node that the event has changed, at the moment after it.
+use Rattle.std.specs.Prelude.{ℕ, ◌≡◌, ◌≢◌, List, [], ◌∷◌, ◌++◌}
+use Rattle.std.specs.List.{concat, AllByRecursion}
+use Rattle.mesh_base.specs.Meshes.{Nodes}
+use Rattle.mesh_base.specs.declared.events.Variant.{Variant}
+use Rattle.mesh_model.specs.Worlds.{Event}
+use Rattle.mesh_shell.specs.Outputs.{EndsWithLf}
+use Rattle.mesh_text.specs.Schedule.{Moment, opening, with_world, outcome_at, next_moment}
+use Rattle.mesh_text.specs.Effects.{outcome_lines}
+use Rattle.mesh_text.specs.Text.{text_of_input}
+use Rattle.mesh_text.specs.Runs.{events_of_input, mesh_of_input}
+use Rattle.mesh_text.specs.declared.verdict.Verdict.TheVariants.{FullAt}
+use Rattle.mesh_blocks.specs.Blocks.{block_below}
+use Rattle.mesh_blocks.specs.Text.{watched_of_input}
+
+-- ---- parts
+
+-- a part of a text: the lines of an event that was done, or others
+pub data Part : Type 0 where
+  Did : Event → Part
+  Other : (text : List ℕ) → Part
+
+-- the events that were done
+abbrev pub events_in : List Part → List Event
+events_in [] = []
+events_in (Did e ∷ parts) = e ∷ events_in parts
+events_in (Other text ∷ parts) = events_in parts
+
+-- ---- their texts, from a moment on: each event leads to the next
+
+-- an event that is done at a moment, and below it what it did
+abbrev pub event_text : Moment → Event → List ℕ
+event_text m e = outcome_lines m.mesh e (outcome_at m e)
+
+-- one after another in the text of the run
+abbrev pub run_texts : Moment → List Part → List (List ℕ)
+run_texts m [] = []
+run_texts m (Did e ∷ parts) = event_text m e ∷ run_texts (next_moment m e) parts
+run_texts m (Other text ∷ parts) = text ∷ run_texts m parts
+
+-- in the watched text each event has its block directly below it
+abbrev pub watched_texts : Moment → List Part → List (List ℕ)
+watched_texts m [] = []
+watched_texts m (Did e ∷ parts) =
+    event_text m e ∷ block_below m e ∷ watched_texts (next_moment m e) parts
+watched_texts m (Other text ∷ parts) = text ∷ watched_texts m parts
+
+-- the text and the watched text of these events, from a moment on: the same parts in both, but for
+-- the blocks, and each part and each block is whole lines
+pub record IsWithBlocks (m : Moment) (es : List Event) (text watched : List ℕ) : Type 0 where
+  pub parts : List Part
+  pub events : es ≡ events_in parts
+  pub run : text ≡ concat (run_texts m parts)
+  pub watched_run : watched ≡ concat (watched_texts m parts)
+  pub whole : AllByRecursion EndsWithLf (watched_texts m parts)
+
+-- ---- a run
+
+-- before the first event: the nodes are there, and their world is made
+abbrev pub before_events : Variant → Nodes → Moment
+before_events variant mesh = with_world (record (opening variant) { mesh = mesh })
+
+-- the events of the input stand in order, each with its block: all of them, unless a full counter
+-- has ended the run; then those before the one that it refused
+pub record HasBlocksBelowEvents (variant : Variant) (input : List ℕ) : Type 0 where
+  pub done : List Event
+  pub rest : List Event
+  pub events : events_of_input variant input ≡ done ++ rest
+  pub all : ((number : ℕ) → (text_of_input variant input).verdict ≢ FullAt number) → rest ≡ []
+  pub blocks : IsWithBlocks (before_events variant (mesh_of_input variant input)) done
+      (text_of_input variant input).lines (watched_of_input variant input).lines

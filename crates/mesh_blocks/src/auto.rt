@@ -1,0 +1,74 @@
+//! Events that the run chooses, one after another, each with its block.
+ghost use Rattle.std.specs.Prelude.{◌≡◌, ◌<◌, ◌+◌, ◌^◌, length, is_some, true, OnOk, IfOk};
+ghost use Rattle.mesh_text.specs.Schedule.{Chooses};
+ghost use Rattle.mesh_text.specs.Auto.{events_chosen};
+ghost use Rattle.mesh_script.specs.Seen.{IsPrintable};
+ghost use Rattle.mesh_run.specs.Causes.{HasStopCause};
+ghost use Rattle.mesh_run.specs.Runs.{IsLineOf, IsLineRun, IsEventsRun};
+ghost use Rattle.mesh_blocks.specs.Text.{watched_events, watched_line};
+
+use crate::event::do_event;
+use mesh_io::Sink;
+use mesh_moment::{Point, next_event};
+use mesh_report::{put_auto_end, put_echo};
+use mesh_run::Stop;
+use mesh_script::Line;
+use mesh_world::World;
+use std::alloc::Global;
+
+// Does up to so many events, each chosen when the one before it is done. It answers how many there
+// were.
+fn do_events<O: Sink>(
+    alloc: Global,
+    at: &mut Point<World>,
+    count: u32,
+    out: &mut O,
+) -> Result<u32, Stop<'static>>
+    requires started { is_some at.old.world ≡ true }
+    requires few { at.old.steps + count < 2 ^ 48 }
+    ensures ran { IsEventsRun true at.old (watched_events at.old (events_chosen count at.old))
+        at.new (O.held out.old) (O.held out.new) result }
+    ensures did { IfOk result (λ did. did ≡ length (events_chosen count at.old)) }
+    ensures lines { OnOk result (at.new.lines ≡ at.old.lines) }
+    ensures cause { HasStopCause (O.faults out.old) (O.faults out.new) result }
+{
+    let mut did: u32 = 0;
+    'events: while did < count {
+        let Some(event) = next_event(at) else {
+            return Ok(did);
+        };
+        if let Err(stop) = do_event(alloc, at, None, event, out) {
+            return Err(stop);
+        }
+        did += 1;
+    }
+    Ok(did)
+}
+
+/// Does a line of events that the run chooses, starts the run where that is due, and counts the
+/// line: writes it as it stands, the events with their blocks, and their number.
+pub fn do_auto<O: Sink>(
+    alloc: Global,
+    at: &mut Point<World>,
+    bytes: &[u8],
+    count: u32,
+    out: &mut O,
+) -> Result<(), Stop<'static>>
+    requires few { at.old.lines < 2 ^ 62 }
+    requires steps { at.old.steps < 2 ^ 47 }
+    requires printable { IsPrintable at.old.mesh (Line.Auto count) }
+    requires echo { IsLineOf at.old.mesh (Chooses count) bytes.now }
+    ensures comes { IsLineRun true at.old (watched_line at.old (Chooses count))
+        at.new (O.held out.old) (O.held out.new) result }
+    ensures cause { HasStopCause (O.faults out.old) (O.faults out.new) result }
+{
+    at.begin(alloc)?;
+    put_echo(bytes, &mut at.line, out)?;
+    let did = match do_events(alloc, at, count, out) {
+        Ok(did) => did,
+        Err(stop) => return Err(stop),
+    };
+    put_auto_end(did, &mut at.line, out)?;
+    at.count_line();
+    Ok(())
+}

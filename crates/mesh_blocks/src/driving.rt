@@ -1,0 +1,64 @@
+//! A watched run from its source to its sink.
+ghost use Rattle.std.specs.Prelude.{◌≡◌, ◌≢◌, ◌⊎◌, IfSome};
+ghost use Rattle.std.specs.Io.KnownBytes.{IsAtEnd};
+ghost use Rattle.mesh_io.specs.Cause.{Rose};
+ghost use Rattle.mesh_text.specs.Text.{text_of_input};
+ghost use Rattle.mesh_text.specs.declared.verdict.Verdict.TheVariants.{Finished};
+ghost use Rattle.mesh_run.specs.Causes.{HasSourceCause, HasStatusCause};
+ghost use Rattle.mesh_blocks.specs.Outputs.{IsRun};
+
+use crate::watched::Watched;
+use mesh_base::Variant;
+use mesh_io::{Limits, SCHEDULE_ROOM, Sink, Source};
+use mesh_run::Status;
+use std::alloc::Global;
+
+/// Runs the schedule that the source gives, in a world of its own where all nodes run this variant
+/// of the protocol, and writes its text to the sink, line by line, with a block below each event
+/// that has changed a node: what a line `show` of that node writes at the moment after the event.
+///
+/// What is written is gathered in a buffer of 65536 bytes, and handed on when that is full, before
+/// each read of the source, and at the end, unless a write has failed.
+#[inline(never)]
+pub fn run<I: Source, O: Sink>(
+    alloc: Global,
+    variant: Variant,
+    input: &mut I,
+    out: &mut O,
+) -> Status
+    // What is written is the text of the input with its blocks, and the answer its verdict. After a
+    // failed write, or want of memory, it is a prefix of that text; after a failed read it is the
+    // text of the lines that were read whole. Each block is whole lines, directly below those of
+    // its event, and shows the node that the event has changed, at the moment after it. After each
+    // line of that run, and after each event of the next, the world is that of the run without
+    // blocks, to which its events so far lead, and in no such world does a destination have a loop.
+    ensures told { IfSome (I.left input.old) (λ bytes. IsRun variant bytes
+        (I.left input.new) (O.held out.old) (O.held out.new) result) }
+
+    // Done only where the input was read to its end.
+    ensures end { result ≡ Status.Done → IsAtEnd (I.left input.new) }
+
+    // A fault is answered only where the source or the sink has failed in this call, and no other
+    // answer is given where one of them has.
+    ensures read { HasSourceCause (I.faults input.old) (I.faults input.new) result }
+    ensures write { HasStatusCause Status.WriteFault (O.faults out.old) (O.faults out.new) result }
+    ensures words { result ≢ Status.Usage }
+
+    // Where every line is allowed, no event is refused and nothing has failed, the whole text is
+    // written, unless memory runs out.
+    ensures complete { IfSome (I.left input.old) (λ bytes.
+        (text_of_input variant bytes).verdict ≡ Finished
+        → (Rose (I.faults input.old) (I.faults input.new) → ⊥)
+        → (Rose (O.faults out.old) (O.faults out.new) → ⊥)
+        → (result ≡ Status.Done) ⊎ (result ≡ Status.NoMemory)) }
+{
+    let mut watched = Watched::with(alloc, variant);
+    let answer = mesh_shell::run::<Watched, I, O, SCHEDULE_ROOM>(
+        alloc,
+        &mut watched,
+        Limits::of_schedule(),
+        input,
+        out,
+    );
+    Status::of(answer)
+}

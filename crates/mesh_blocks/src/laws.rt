@@ -1,0 +1,26 @@
+//! Laws of the definitions. Each function has an empty body and a contract that states a law.
+ghost use Rattle.mesh_blocks.specs.Laws.{WatchedRunIsTheRun, MomentIsTheRuns, BlocksAreAllThatIsAdded, DataAreAccountedFor};
+
+/// A watched run differs from the run in its lines alone: it comes to the same moment, verdict and
+/// last line.
+pub fn a_watched_run_is_the_run()
+    ensures { WatchedRunIsTheRun }
+{}
+
+/// So it does at each moment: after each of its lines, and after each event of the next.
+pub fn each_moment_is_the_runs()
+    ensures { MomentIsTheRuns }
+{}
+
+/// The text of a watched run is that of the run with a block directly below each event that has
+/// changed a node, which shows that node at the moment after the event as a line `show` does. The
+/// lines of events, the blocks, and what stands between them are whole lines.
+pub fn blocks_are_all_that_is_added()
+    ensures { BlocksAreAllThatIsAdded }
+{}
+
+/// In a watched run each datum that was given or doubled was delivered, waits, is in flight, or was
+/// dropped.
+pub fn data_are_accounted_for()
+    ensures { DataAreAccountedFor }
+{}

@@ -1,5 +1,0 @@
-use Rattle.mesh_watch.proofs.SameRun as lemmas
-use Rattle.mesh_watch.proofs.laws.a_watched_run_is_the_run.Goals as goal
-
-pub returns : goal.returns
-returns c = lemmas.watched_run_is_the_run

@@ -1,5 +1,0 @@
-use Rattle.mesh_watch.proofs.WithBlocks as lemmas
-use Rattle.mesh_watch.proofs.laws.blocks_are_all_that_is_added.Goals as goal
-
-pub returns : goal.returns
-returns c = lemmas.blocks_are_all_that_is_added

@@ -1,7 +1,0 @@
-use Rattle.std.proofs.Common.{◌∙◌, sym}
-use Rattle.mesh_watch.proofs.Runs.{run_completes}
-use Rattle.mesh_watch.proofs.top.watch.Goals as goal
-
-pub returns-in-Some-clause-complete : goal.returns-in-Some-clause-complete
-returns-in-Some-clause-complete g c =
-    run_completes _ c.in-Some.variant (g.I.Source.left c.args.input.now) _ _ _ c.run.result _ _ _ _ (sym c.in-Some.is ∙ c.variant_of.ensures) c.run.ensures.told c.run.ensures.read.failed c.run.ensures.write.failed
