@@ -9,14 +9,14 @@ use Rattle.hex.specs.Hex.{decode_of}
 use Rattle.hex.specs.declared.error.FromHexError.{FromHexError}
 use Rattle.mesh_base.specs.declared.limits.TheConstants.{LONGEST_PACKET}
 use Rattle.mesh_base.specs.Parts.{parts}
-use Rattle.mesh_capture.specs.declared.form.Field.TheVariants.{Address}
+use Rattle.mesh_lines.specs.declared.form.Field.TheVariants.{Address}
 use Rattle.mesh_capture.specs.declared.frame.Frame.{Frame}
 use Rattle.mesh_capture.specs.declared.copies.FlyingCopy.{FlyingCopy}
-use Rattle.mesh_capture.specs.declared.below.Below.{Below}
-use Rattle.mesh_capture.specs.declared.below.Below.TheVariants.{Nothing, Link, Casts, Delivers, Loses, Doubles, Node, Route, Flight, Place}
-use Rattle.mesh_capture.specs.Forms.{is_address, are_addresses, is_hex, are}
-use Rattle.mesh_capture.specs.Lines.{address_in, ends_of, is_idle, is_taken, is_of_cast, is_of_loss, is_of_node, is_of_route, is_of_flight}
-use Rattle.mesh_capture.specs.Belows.{number_of, is_link, event_by, other_by}
+use Rattle.mesh_lines.specs.declared.below.Below.{Below}
+use Rattle.mesh_lines.specs.declared.below.Below.TheVariants.{Nothing, Link, Casts, Delivers, Loses, Doubles, Node, Route, Flight, Place}
+use Rattle.mesh_lines.specs.Forms.{is_address, are_addresses, is_hex, are}
+use Rattle.mesh_lines.specs.Lines.{ends_of, is_idle, is_taken, is_of_cast, is_of_loss, is_of_node, is_of_route}
+use Rattle.mesh_lines.specs.Belows.{number_of, copy_words, is_link, event_by, other_by}
 
 -- the copies in flight, each with its sender, its receiver and its packet, by rising number
 abbrev pub Flying : Type 0
@@ -83,16 +83,13 @@ after_sent r (Casts node None) words =
     (cast_packet words)
 after_sent r _ words = None
 
--- a copy of this number joins the flight. One that is there already is refused
-abbrev pub with_copy : Reading → ℕ → FlyingCopy → Option LineOutcome
-with_copy r id copy =
-    if is_some (copy_in r.flying id) then None
-    else Some (no_frame (record r { flying = insert_entry nat_cmp r.flying id copy }))
+-- a copy of this number joins the flight
+abbrev pub joined : Reading → ℕ → FlyingCopy → LineOutcome
+joined r id copy = no_frame (record r { flying = insert_entry nat_cmp r.flying id copy })
 
--- the words of a new copy, `ID TO`: its number and its receiver
-abbrev pub copy_words : List (List ℕ) → Option (ℕ × ℕ)
-copy_words [] = None
-copy_words (id ∷ to) = option_and_then (λ n. option_map (λ a. (n, a)) (address_in to)) (number_of id)
+-- a new copy joins the flight. One whose number is there already is refused
+abbrev pub with_copy : Reading → ℕ → FlyingCopy → Option LineOutcome
+with_copy r id copy = if is_some (copy_in r.flying id) then None else Some (joined r id copy)
 
 -- another one of a copy, which has the same receiver
 abbrev pub doubled_copy : Option FlyingCopy → ℕ → Option FlyingCopy
@@ -110,6 +107,33 @@ new_copy flying _ to = None
 abbrev pub after_copy : Reading → Below → Option (ℕ × ℕ) → Option LineOutcome
 after_copy r below None = None
 after_copy r below (Some w) = option_and_then (with_copy r w.0) (new_copy r.flying below w.1)
+
+-- ---- the copies that `flight` shows
+
+-- the copy of this number, from here to there
+abbrev pub shown_as : ℕ → ℕ × ℕ → List ℕ → ℕ × FlyingCopy
+shown_as id ends packet = (id, record { from = ends.0; to = ends.1; packet = packet })
+
+-- the words of a copy that is shown, `ID FROM TO HEX`
+abbrev pub shown_copy : List (List ℕ) → Option (ℕ × FlyingCopy)
+shown_copy (id ∷ from ∷ to ∷ hex ∷ []) =
+    option_and_then (λ n. option_and_then (λ ends. option_map (shown_as n ends) (packet_of hex))
+    (ends_of (from ∷ to ∷ []))) (number_of id)
+shown_copy others = None
+
+-- the same sender, receiver and packet
+abbrev pub is_same_copy : FlyingCopy → FlyingCopy → Bool
+is_same_copy a b = (a.from == b.from) && (a.to == b.to) && bytes_eq a.packet b.packet
+
+-- a copy that is shown joins the flight. One that is there already has to be the same
+abbrev pub with_shown : Reading → ℕ → FlyingCopy → Option FlyingCopy → Option LineOutcome
+with_shown r id shown None = Some (joined r id shown)
+with_shown r id shown (Some known) = told_if (is_same_copy shown known) r
+
+-- a line `copy` below `flight`
+abbrev pub after_shown : Reading → Option (ℕ × FlyingCopy) → Option LineOutcome
+after_shown r None = None
+after_shown r (Some s) = with_shown r s.0 s.1 (copy_in r.flying s.0)
 
 -- ---- the ends of copies
 
@@ -169,7 +193,8 @@ effect_below r (Doubles id) word words =
     else told_if (is_idle word words) r
 effect_below r Node word words = told_if (is_of_node word words) r
 effect_below r Route word words = told_if (is_of_route word words) r
-effect_below r Flight word words = told_if (is_of_flight word words) r
+effect_below r Flight word words =
+    if bytes_eq word (codes "copy") then after_shown r (shown_copy words) else None
 effect_below r Place word words =
     if is_link word then after_link r words else told_if (is_idle word words) r
 

@@ -7,9 +7,10 @@ ghost use Rattle.mesh_capture.specs.Copies.{nothing_read};
 ghost use Rattle.mesh_capture.specs.Kept.{most_lines};
 ghost use Rattle.mesh_capture.specs.Captures.{framed_if};
 
-use crate::copies::{Copies, ReadError};
+use crate::copies::Copies;
 use crate::frame::{Frame, FrameBuf};
 use crate::lines::{put_frame, put_header};
+use crate::packets::ReadError;
 use crate::status::CaptureVerdict;
 use arrayvec::ArrayVec;
 use mesh_io::{PutFault, Sink};

@@ -4,33 +4,21 @@ ghost use Rattle.std.specs.Map.{remove_entry};
 ghost use Rattle.std.specs.Ordering.{nat_cmp};
 ghost use Rattle.std.specs.BTreeMap.{insert_entry, is_at};
 ghost use Rattle.mesh_base.specs.Parts.{parts, rest_parts};
+ghost use Rattle.mesh_lines.specs.Belows as belows;
+ghost use Rattle.mesh_lines.specs.Packets.{IsShort, IsShortBelow};
 ghost use Rattle.mesh_capture.specs.Copies as copies;
-ghost use Rattle.mesh_capture.specs.Kept.{IsShort, IsShortBelow, IsShortCopy, AreShort, most_lines};
+ghost use Rattle.mesh_capture.specs.Kept.{IsShortCopy, AreShort, most_lines};
 
-use crate::below::{Below, event_by, other_by};
-use crate::form::{Field, are, are_addresses, is_hex};
 use crate::frame::Frame;
-use crate::quiet::{
-    is_idle, is_of_cast, is_of_flight, is_of_loss, is_of_node, is_of_route, is_taken,
+use crate::packets::{ReadError, cast_packet, copy_of, packet_of};
+use mesh_base::Bytes;
+use mesh_lines::{
+    Below, Field, address, are, copy_words, cut, ends, event_by, four, is, is_idle, is_link,
+    is_of_cast, is_of_loss, is_of_node, is_of_route, is_taken, number, other_by,
 };
-use crate::words::{copy_words, cut, ends, is, is_address, is_link, three, two};
-use hex::FromHexError;
-use mesh_base::{Bytes, LONGEST_PACKET};
 use std::alloc::Global;
 use std::collections::BTreeMap;
 use std::marker::Model;
-use thiserror::Error;
-
-/// Why a line isn't read.
-#[derive(Clone, Copy, Debug, PartialEq, Eq, Error)]
-pub enum ReadError {
-    /// No text of a run has the line where it stands.
-    #[error("the line is refused")]
-    BadLine,
-    /// Memory was asked for and not found.
-    #[error("no memory for a packet")]
-    NoMemory,
-}
 
 /// A copy in flight.
 #[derive(Drop)]
@@ -57,7 +45,8 @@ pub struct Copies {
 impl Model for Copies {
     ghost use Rattle.std.specs.Prelude.{◌≤◌};
     ghost use Rattle.mesh_capture.specs.Copies.{Reading};
-    ghost use Rattle.mesh_capture.specs.Kept.{AreShort, IsShortBelow, most_lines};
+    ghost use Rattle.mesh_lines.specs.Packets.{IsShortBelow};
+    ghost use Rattle.mesh_capture.specs.Kept.{AreShort, most_lines};
 
     ghost Value = { Reading };
 
@@ -81,81 +70,6 @@ fn told(of_form: bool) -> Result<Option<Frame>, ReadError>
         Ok(None)
     } else {
         Err(ReadError::BadLine)
-    }
-}
-
-// A packet that a mesh may send.
-fn is_packet(bytes: &[u8]) -> bool
-    ensures { result ≡ copies.is_packet bytes.now }
-{
-    !bytes.is_empty() && bytes.len() <= LONGEST_PACKET
-}
-
-// The same bytes, without memory where they are few.
-fn kept(bytes: Vec<u8>) -> Bytes
-    ensures { result ≡ bytes.items }
-{
-    match Bytes::short(bytes.as_slice()) {
-        Some(short) => short,
-        None => Bytes::from_vec(bytes),
-    }
-}
-
-// The packet that hexadecimal tells.
-fn packet_of(alloc: Global, word: &[u8]) -> Result<Bytes, ReadError>
-    ensures done { IfOk result (λ packet. copies.packet_of word.now ≡ Some packet) }
-    ensures bad { IsErrOf result ReadError.BadLine → copies.packet_of word.now ≡ None }
-    ensures short { IfOk result IsShort }
-{
-    if !is_hex(word) {
-        return Err(ReadError::BadLine);
-    }
-    match hex::decode(alloc, word) {
-        Ok(bytes) if is_packet(bytes.as_slice()) => Ok(kept(bytes)),
-        Err(FromHexError::OutOfMemory) => Err(ReadError::NoMemory),
-        _ => Err(ReadError::BadLine),
-    }
-}
-
-// One receiver, or many.
-fn are_receivers(kind: &[u8], receivers: &[u8]) -> bool
-    ensures { result ≡ copies.are_receivers kind.now receivers.now }
-{
-    (is(kind, b"one") && is_address(receivers)) || (is(kind, b"many") && are_addresses(receivers))
-}
-
-// The packet of a cast, after `sent`.
-fn cast_packet(alloc: Global, words: Option<&[u8]>) -> Result<Bytes, ReadError>
-    ensures done { IfOk result (λ packet.
-        copies.cast_packet (rest_parts 32 words.entry) ≡ Some packet) }
-    ensures bad { IsErrOf result ReadError.BadLine →
-        copies.cast_packet (rest_parts 32 words.entry) ≡ None }
-    ensures short { IfOk result IsShort }
-{
-    if let Some((all, hex)) = two(words, b' ') {
-        return if is(all, b"all") {
-            packet_of(alloc, hex)
-        } else {
-            Err(ReadError::BadLine)
-        };
-    }
-    match three(words, b' ') {
-        Some((kind, receivers, hex)) if are_receivers(kind, receivers) => packet_of(alloc, hex),
-        _ => Err(ReadError::BadLine),
-    }
-}
-
-// A copy of a packet.
-fn copy_of(alloc: Global, packet: &Bytes) -> Result<Bytes, ReadError>
-    ensures done { IfOk result (λ copy. copy ≡ packet.now) }
-    ensures memory { ¬ IsErrOf result ReadError.BadLine }
-{
-    if let Some(short) = packet.again() {
-        return Ok(short);
-    }
-    match Bytes::copy_of(alloc, packet.as_slice()) {
-        Ok(copy) => Ok(copy),
-        Err(_) => Err(ReadError::NoMemory),
     }
 }
 
@@ -209,6 +123,31 @@ fn put_copy(
         Ok(Some(_)) => Err(ReadError::BadLine),
         Err(_) => Err(ReadError::NoMemory),
     }
+}
+
+// A copy that `flight` shows, and its number.
+fn shown_copy(alloc: Global, words: Option<&[u8]>) -> Result<(u64, FlyingCopy), ReadError>
+    ensures done { IfOk result (λ shown.
+        copies.shown_copy (rest_parts 32 words.entry) ≡ Some shown) }
+    ensures bad { IsErrOf result ReadError.BadLine →
+        copies.shown_copy (rest_parts 32 words.entry) ≡ None }
+    ensures short { IfOk result (λ shown. IsShortCopy shown.1) }
+{
+    let Some((id, from, to, hex)) = four(words, b' ') else {
+        return Err(ReadError::BadLine);
+    };
+    let (Some(id), Some(from), Some(to)) = (number(id), address(from), address(to)) else {
+        return Err(ReadError::BadLine);
+    };
+    let packet = packet_of(alloc, hex)?;
+    Ok((id, FlyingCopy { from, to, packet }))
+}
+
+// The same sender, receiver and packet.
+fn is_same_copy(a: &FlyingCopy, b: &FlyingCopy) -> bool
+    ensures { result ≡ copies.is_same_copy a.now b.now }
+{
+    a.from == b.from && a.to == b.to && is(a.packet.as_slice(), b.packet.as_slice())
 }
 
 // A copy leaves the flight.
@@ -298,10 +237,10 @@ impl Copies {
     fn copy(&mut self, words: Option<&[u8]>) -> Result<(), ReadError>
         ensures done { OnOk result
             (copies.after_copy self.old self.old.below
-            (copies.copy_words (rest_parts 32 words.entry)) ≡ Some (copies.no_frame self.new)) }
+            (belows.copy_words (rest_parts 32 words.entry)) ≡ Some (copies.no_frame self.new)) }
         ensures bad { IsErrOf result ReadError.BadLine →
             copies.after_copy self.old self.old.below
-            (copies.copy_words (rest_parts 32 words.entry)) ≡ None }
+            (belows.copy_words (rest_parts 32 words.entry)) ≡ None }
         ensures lines { OnOk result (self.new.lines ≡ self.old.lines) }
     {
         let Some((id, to)) = copy_words(words) else {
@@ -309,6 +248,23 @@ impl Copies {
         };
         let copy = self.new_copy(to)?;
         put_copy(&mut self.flying, id, copy)
+    }
+
+    // A copy that `flight` shows joins the flight, or is the same as the one of its number there.
+    fn shown(&mut self, words: Option<&[u8]>) -> Result<(), ReadError>
+        ensures done { OnOk result
+            (copies.after_shown self.old (copies.shown_copy (rest_parts 32 words.entry))
+            ≡ Some (copies.no_frame self.new)) }
+        ensures bad { IsErrOf result ReadError.BadLine →
+            copies.after_shown self.old (copies.shown_copy (rest_parts 32 words.entry)) ≡ None }
+        ensures lines { OnOk result (self.new.lines ≡ self.old.lines) }
+    {
+        let (id, copy) = shown_copy(self.alloc, words)?;
+        match self.flying.get(&id) {
+            Some(known) if is_same_copy(&copy, known) => Ok(()),
+            Some(_) => Err(ReadError::BadLine),
+            None => put_copy(&mut self.flying, id, copy),
+        }
     }
 
     // A copy leaves the flight.
@@ -390,8 +346,11 @@ impl Copies {
             Below::Loses(_) => told(is_of_loss(word, words)),
             Below::Node => told(is_of_node(word, words)),
             Below::Route => told(is_of_route(word, words)),
-            Below::Flight => told(is_of_flight(word, words)),
-            Below::Nothing => Err(ReadError::BadLine),
+            Below::Flight if is(word, b"copy") => {
+                self.shown(words)?;
+                Ok(None)
+            }
+            Below::Nothing | Below::Flight => Err(ReadError::BadLine),
             Below::Link | Below::Delivers(_) | Below::Doubles(_) | Below::Place => {
                 told(is_idle(word, words))
             }

@@ -1,5 +1,5 @@
 //! Laws of the definitions. Each function has an empty body and a contract that states a law.
-ghost use Rattle.mesh_capture.specs.Laws.{HeadersSumToAllOnes, DatagramsSumToAllOnes, PacketsAreAsLongAsTheySay};
+ghost use Rattle.mesh_capture.specs.Laws.{HeadersSumToAllOnes, DatagramsSumToAllOnes, PacketsAreAsLongAsTheySay, RunIsCaptured};
 
 /// The words of a packet's header sum to all ones, as its receiver checks.
 pub fn headers_sum_to_all_ones()
@@ -14,4 +14,10 @@ pub fn datagrams_sum_to_all_ones()
 /// A packet is as long as it says.
 pub fn packets_are_as_long_as_they_say()
     ensures { PacketsAreAsLongAsTheySay }
+{}
+
+/// The text of a run has as its capture the packets of the copies that its events deliver and
+/// lose, and no line of it is refused, where no line of its input shows a node.
+pub fn a_run_is_captured()
+    ensures { RunIsCaptured }
 {}

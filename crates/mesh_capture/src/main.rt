@@ -5,18 +5,14 @@
 //! answer.
 #![tactic(auto)]
 
-mod below;
 mod capturing;
 mod copies;
-mod form;
 mod frame;
-mod last;
 mod laws;
 mod lines;
-mod quiet;
+mod packets;
 mod status;
 mod top;
-mod words;
 
 use mesh_io::{StdSink, StdSource};
 use mesh_shell::{texts_of, words_of};

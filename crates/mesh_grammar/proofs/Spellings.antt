@@ -34,20 +34,22 @@ all_shown [] all = refl
 all_shown (b ∷ bs) all =
     and_from (leb 32 b && leb b 126) _ (and_from (leb 32 b) (leb b 126) (le-leb 32 b all.0.0) (le-leb b 126 all.0.1)) (all_shown bs all.1)
 
-is_text_of : (body : List ℕ) → IsText body → text_of body ≡ Some body
-is_text_of body is =
+pub text_is : (body : List ℕ) → IsText body → is_text body ≡ true
+text_is body is =
     let low : leb 1 (length body) ≡ true = le-leb 1 (length body) is.0 in
     let high : leb (length body) LONGEST_DATUM ≡ true = le-leb (length body) LONGEST_DATUM is.1 in
     let short : leb 1 (length body) && leb (length body) LONGEST_DATUM ≡ true = and_from (leb 1 (length body)) (leb (length body) LONGEST_DATUM) low high in
-    let all : is_text body ≡ true = and_from (leb 1 (length body) && leb (length body) LONGEST_DATUM) _ short (all_shown body is.2) in
-    rw all refl
+    and_from (leb 1 (length body) && leb (length body) LONGEST_DATUM) _ short (all_shown body is.2)
+
+is_text_of : (body : List ℕ) → IsText body → text_of body ≡ Some body
+is_text_of body is = ap (λ b. cond b (Some body) None) (text_is body is)
 
 pub text_there : {B : Type 0} (at : ℕ) (body : List ℕ) (next : List ℕ → Result B LineFault) → IsText body → text_at at body next ≡ next body
 text_there at body next is = ap (λ o. with_argument o (BadText (span_at at body)) next) (is_text_of body is)
 
 -- ---- the words of arguments
 
-words_in : Arguments ℕ → List (List ℕ)
+unfoldable pub words_in : Arguments ℕ → List (List ℕ)
 words_in NoArgument = []
 words_in (OneAddress a) = dotted_decimal a ∷ []
 words_in (TwoAddresses a b) = dotted_decimal a ∷ dotted_decimal b ∷ []
@@ -58,7 +60,7 @@ words_in (AddressAndNumber a n) = dotted_decimal a ∷ decimal n ∷ []
 words_in (AddressAndText a text) = dotted_decimal a ∷ parts 32 text
 
 -- numbers have at most 64 bits
-HaveNumbers : Arguments ℕ → Type 0
+unfoldable pub HaveNumbers : Arguments ℕ → Type 0
 HaveNumbers (OneNumber n) = n < 2 ^ 64
 HaveNumbers (NumberedAddress a first) = first < 2 ^ 64
 HaveNumbers (AddressAndNumber a n) = n < 2 ^ 64
@@ -76,7 +78,7 @@ module _ (word : List ℕ) (lacks : Lacks 32 word) where
   only_number : (n : ℕ) → n < 2 ^ 64 → parts 32 (decimal n) ≡ decimal n ∷ []
   only_number n fits = parts_none 32 (decimal n) (decimal_lacks 32 n (omega arith) fits)
 
-  words_written : (arguments : Arguments ℕ) → HaveAddresses arguments → HaveNumbers arguments → parts 32 (command_text word arguments) ≡ word ∷ words_in arguments
+  pub words_written : (arguments : Arguments ℕ) → HaveAddresses arguments → HaveNumbers arguments → parts 32 (command_text word arguments) ≡ word ∷ words_in arguments
   unfolding command_text words_in HaveNumbers
   words_written NoArgument fit low = parts_none 32 word lacks
   words_written (OneAddress a) fit low = parts_at 32 word (dotted_decimal a) lacks ∙ ap (λ ws. word ∷ ws) (only_name a fit)
