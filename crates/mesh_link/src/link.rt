@@ -30,6 +30,8 @@ pub trait Link {
 
     /// Takes the first datagram that has arrived, and says from which port it came and how many of
     /// its bytes stand in the buffer's front: as many as fit. None says that nothing is there now.
+    /// At a socket the kernel keeps what has arrived in a buffer of its own, and drops, untold, the
+    /// datagrams of a burst for which that has no room.
     fn receive(&mut self, buf: &mut [u8]) -> Result<Option<(u16, usize)>, Failed>
         requires { is_some (port self.old) ≡ true }
         ensures bound { IfOk result (λ o. IfSome o (λ p. p.1 ≤ length buf.new)) }

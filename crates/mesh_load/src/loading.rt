@@ -1,4 +1,4 @@
-//! A checkpoint's bytes as the moment of a run.
+//! A checkpoint's bytes as the state of a run.
 ghost use Rattle.std.specs.Prelude.{◌≡◌, ◌<◌, ◌≤◌, IfOk, MatchResult};
 ghost use Rattle.mesh_checkpoint.specs.Checkpoint as model;
 ghost use Rattle.mesh_checkpoint.specs.Points.{IsState};
@@ -12,7 +12,7 @@ use crate::world::read_maybe_world;
 use mesh_checkpoint::{
     Head, MOST_STEPS, SUMS_END, balanced_is_taken, one_body, read_head, survey, written_is_read,
 };
-use mesh_moment::Point;
+use mesh_moment::{Point, State};
 use mesh_report::Sums;
 use mesh_restore::read_mesh;
 use mesh_world::World;
@@ -32,9 +32,9 @@ fn sums_in(head: &Head) -> Sums
     }
 }
 
-// The moment with this body, or the first part of its world that isn't as in a run. Of the other
-// refusals only want of memory comes: the bytes are a body, and its sums are balanced.
-fn restore(alloc: Global, body: &[u8]) -> Result<Point<World>, StateError>
+// The state at the moment with this body, or the first part of its world that isn't as in a run. Of
+// the other refusals only want of memory comes: the bytes are a body, and its sums are balanced.
+fn restore(alloc: Global, body: &[u8]) -> Result<State<World>, StateError>
     requires { IsBody body.now }
     ensures { Makes IsMomentOf IsUnsoundBody (model.body.get body.now) result }
 {
@@ -49,15 +49,17 @@ fn restore(alloc: Global, body: &[u8]) -> Result<Point<World>, StateError>
         Some(point) => {
             // It says that all which the world names is in its mesh.
             let _world = point.world();
-            Ok(point)
+            // Without the point's buffers, which take two thirds of its room.
+            Ok(point.state)
         }
         None => Err(StateError::Sums),
     }
 }
 
-/// The one moment of which these bytes are the checkpoint; or the first refusal that applies.
-/// Nothing asks for memory before it is known that the bytes are a checkpoint with balanced sums.
-pub fn load(alloc: Global, b: &[u8]) -> Result<Point<World>, StateError>
+/// The state at the one moment of which these bytes are the checkpoint; or the first refusal that
+/// applies. Nothing asks for memory before it is known that the bytes are a checkpoint with balanced
+/// sums.
+pub fn load(alloc: Global, b: &[u8]) -> Result<State<World>, StateError>
     ensures exact { MatchResult result (λ p. IsState b.now p) (λ e. IsRefused b.now e) }
     ensures plain { IfOk result IsPlainMoment }
     ensures unrefused { IfOk result (λ _. (e : StateError) → IsRefused b.now e

@@ -19,6 +19,7 @@ use crate::status::StateStatus;
 use crate::words::{Asked, asked_of};
 use mesh_io::{Sink, Source};
 use mesh_load::{StateError, a_run_is_unrefused, load, one_start};
+use mesh_moment::State;
 use mesh_run::{Point, Running, Say, Status, do_input};
 use mesh_save::SaveError;
 use mesh_world::World;
@@ -96,10 +97,17 @@ fn answer_by(why: StateError) -> StateStatus
     }
 }
 
-// Does the lines of an input from a moment on. It stands apart, so that what loads the moment
-// doesn't pay for its frame.
+// The moment comes to be that of this state, where it stands.
+fn come_to(at: &mut Point<World>, state: State<World>)
+    ensures { at.new ≡ state }
+{
+    at.state = state;
+}
+
+// Does the lines of an input from a state on. It stands apart, so that what loads the state, which
+// takes a third of a moment's room, doesn't pay for its frame.
 #[inline(never)]
-fn go_on<I: Source, O: Sink>(alloc: Global, at: Point<World>, input: &mut I, out: &mut O) -> Status
+fn go_on<I: Source, O: Sink>(alloc: Global, at: State<World>, input: &mut I, out: &mut O) -> Status
     requires lines { at.lines < 2 ^ 61 }
     requires steps { at.steps < 2 ^ 46 }
     ensures told { IfSome (I.left input.old) (λ bytes. IsOutputFrom All at bytes
@@ -109,11 +117,12 @@ fn go_on<I: Source, O: Sink>(alloc: Global, at: Point<World>, input: &mut I, out
     ensures write { HasStatusCause Status.WriteFault (O.faults out.old) (O.faults out.new) result }
     ensures words { result ≢ Status.Usage }
 {
-    let mut running = Running {
+    let mut running: Running<World> = Running {
         alloc,
-        at,
+        at: Point::start(),
         say: Say::All,
     };
+    come_to(&mut running.at, at);
     do_input(&mut running, input, out)
 }
 

@@ -1,7 +1,7 @@
 //! Checkpoints written out byte for byte.
 use mesh_checkpoint::{SurveyError, survey};
 use mesh_load::{StateError, load};
-use mesh_run::Point;
+use mesh_moment::State;
 use mesh_world::{Part, World};
 use std::alloc::Global;
 
@@ -51,7 +51,7 @@ fn surveys_an_empty_checkpoint(rt: HostRuntime) {
 }
 
 // How many nodes a moment has, and how many steps its world has done.
-fn sizes_of(at: &Point<World>) -> (usize, Option<u64>) {
+fn sizes_of(at: &State<World>) -> (usize, Option<u64>) {
     let steps = match at.world() {
         Some(world) => Some(world.steps()),
         None => None,
