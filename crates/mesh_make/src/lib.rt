@@ -16,4 +16,5 @@ pub use laws::{made_schedules_are_allowed, made_schedules_are_short};
 pub use maker::Maker;
 pub use sizes::MOST_STEPS;
 pub use source::MadeSource;
+pub use word::{next, start};
 pub use writing::make;

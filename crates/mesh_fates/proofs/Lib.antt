@@ -1,0 +1,3 @@
+mod Planned
+mod Deciding
+mod Lawful

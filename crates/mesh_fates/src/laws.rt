@@ -1,0 +1,32 @@
+//! Laws of the definitions. Each function has an empty body and a contract that states a law.
+ghost use Rattle.mesh_fates.specs.Laws.{LosslessLeavesNothing, PromptIsDueNext, DecidingKeepsOrder, DoublingKeepsOrder, FatesTakeWords, CastsTakeWords};
+
+/// Where all rates are 0 no copy is lost or doubled.
+pub fn lossless_leaves_nothing()
+    ensures { LosslessLeavesNothing }
+{}
+
+/// Where no copy is late each that is planned is due in the next tick.
+pub fn prompt_is_due_next()
+    ensures { PromptIsDueNext }
+{}
+
+/// A plan stays ordered by tick, and then by number, whatever is decided of the copies of a cast.
+pub fn deciding_keeps_order()
+    ensures { DecidingKeepsOrder }
+{}
+
+/// A plan stays ordered where the input makes a double.
+pub fn doubling_keeps_order()
+    ensures { DoublingKeepsOrder }
+{}
+
+/// A fate takes three words, or five where the copy is doubled.
+pub fn fates_take_words()
+    ensures { FatesTakeWords }
+{}
+
+/// The copies of a cast take three words each, and two more for each of them that is doubled.
+pub fn casts_take_words()
+    ensures { CastsTakeWords }
+{}
