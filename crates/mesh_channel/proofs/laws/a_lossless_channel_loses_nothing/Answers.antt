@@ -1,0 +1,5 @@
+use Rattle.mesh_channel.proofs.Lossless as lemmas
+use Rattle.mesh_channel.proofs.laws.a_lossless_channel_loses_nothing.Goals as goal
+
+pub returns : goal.returns
+returns c = lemmas.lossless_channel_loses_nothing

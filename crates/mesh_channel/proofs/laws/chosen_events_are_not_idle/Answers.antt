@@ -1,0 +1,5 @@
+use Rattle.mesh_channel.proofs.NotIdle as lemmas
+use Rattle.mesh_channel.proofs.laws.chosen_events_are_not_idle.Goals as goal
+
+pub returns : goal.returns
+returns c = lemmas.chosen_events_are_not_idle

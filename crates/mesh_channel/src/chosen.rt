@@ -1,0 +1,130 @@
+//! The events of a line that the channel fills.
+ghost use Rattle.std.specs.Prelude.{◌≡◌, ◌<◌, ◌≤◌, ◌-◌, ◌^◌, length, is_some, true, max, option_map, OnOk, IfSome};
+ghost use Rattle.mesh_meaning.specs.Events.{event_of};
+ghost use Rattle.mesh_text.specs.Schedule.{world_of};
+ghost use Rattle.mesh_text.specs.Auto.{outcome_of_events};
+ghost use Rattle.mesh_script.specs.Seen.{IsPrintable};
+ghost use Rattle.mesh_script.specs.declared.line.Line.{Line};
+ghost use Rattle.mesh_run.specs.Outputs.{says_lines};
+ghost use Rattle.mesh_run.specs.Causes.{HasStopCause};
+ghost use Rattle.mesh_run.specs.Runs.{IsEventsRun, IsLineRun};
+ghost use Rattle.mesh_channel.specs.Choices as choices;
+ghost use Rattle.mesh_channel.specs.Chosen.{chosen_from, chosen};
+ghost use Rattle.mesh_channel.specs.Text.{outcome_of_drawn};
+ghost use Rattle.mesh_channel.specs.Moments.{moment_of, moved, choice_of, counted_of, IsLeftBehind};
+ghost use Rattle.mesh_channel.specs.Room.{most_left, HasFewCopies, CanLead};
+
+use crate::channeled::Channeled;
+use crate::choice::next_choice;
+use crate::event::{after_chosen, do_event};
+use crate::until::{LAST_TICK, MOST_CHOSEN, Until};
+use mesh_base::Event;
+use mesh_io::Sink;
+use mesh_run::Stop;
+use mesh_world::Steps;
+
+// How many events the channel may choose, once a run has started.
+fn most_of(at: &Channeled) -> u64
+    requires { is_some at.now.point.world ≡ true }
+    ensures { result ≡ MOST_CHOSEN - at.now.point.steps }
+{
+    let Some(world) = at.point.world() else {
+        unreachable!();
+    };
+    MOST_CHOSEN.saturating_sub(world.world().steps())
+}
+
+// The next event of a line that has done so many.
+fn choose(at: &mut Channeled, until: &Until, did: u64) -> Option<Event<'static>>
+    requires { is_some at.old.point.world ≡ true }
+    ensures value { choice_of (option_map event_of result) at.new.channel
+        ≡ choices.next_choice until.now did (world_of at.old.point) at.old.channel }
+    ensures left { IsLeftBehind at.old.channel (option_map event_of result) at.new.channel }
+    ensures tick { at.old.channel.tick ≤ LAST_TICK → choices.last_tick until.now ≤ LAST_TICK
+        → at.new.channel.tick ≤ LAST_TICK }
+    ensures printable { IfSome result (λ e. IsPrintable at.old.point.mesh (Line.Step e)) }
+    ensures only { at.new ≡ record at.old { channel = at.new.channel } }
+{
+    let Some(world) = at.point.world() else {
+        unreachable!();
+    };
+    let world = world.world();
+    // A world is sound: its mesh has nodes, and no more than a mesh may have.
+    let _mesh = world.mesh();
+    next_choice(until, did, world, &mut at.channel)
+}
+
+// Does up to so many events that the channel chooses, each when the one before it is done.
+fn do_events<O: Sink>(
+    at: &mut Channeled,
+    until: &Until,
+    most: u64,
+    out: &mut O,
+) -> Result<(), Stop<'static>>
+    requires started { is_some at.old.point.world ≡ true }
+    requires last { choices.last_tick until.now ≤ LAST_TICK }
+    requires tick { at.old.channel.tick ≤ LAST_TICK }
+    requires left { length at.old.channel.left ≤ most_left }
+    requires copies { HasFewCopies at.old.point }
+    requires most { most ≡ MOST_CHOSEN - at.old.point.steps }
+    ensures ran { IsEventsRun (says_lines at.old.say) at.old.point (outcome_of_events at.old.point
+        (chosen_from most at.old.rates until.now 0 at.old.point at.old.channel).events)
+        at.new.point (O.held out.old) (O.held out.new) (counted_of result) }
+    ensures channel { OnOk result (at.new.channel
+        ≡ (chosen_from most at.old.rates until.now 0 at.old.point at.old.channel).channel) }
+    ensures only { at.new ≡ moved at.old (moment_of at.new) }
+    ensures lines { OnOk result (at.new.point.lines ≡ at.old.point.lines) }
+    ensures steps { OnOk result (at.new.point.steps ≤ max at.old.point.steps MOST_CHOSEN) }
+    ensures tick { OnOk result (at.new.channel.tick ≤ LAST_TICK) }
+    ensures left { OnOk result (length at.new.channel.left ≤ most_left) }
+    ensures copies { OnOk result (HasFewCopies at.new.point) }
+    ensures cause { HasStopCause (O.faults out.old) (O.faults out.new) result }
+{
+    let mut did: u64 = 0;
+    'events: while did < most {
+        let Some(event) = choose(at, until, did) else {
+            return Ok(());
+        };
+        let done = match do_event(at, None, event, out) {
+            Ok(done) => done,
+            Err(stop) => return Err(stop),
+        };
+        after_chosen(&mut at.channel, &at.rates, &done)?;
+        did += 1;
+    }
+    Ok(())
+}
+
+/// Does a line that the channel fills, and counts it: the events that it chooses, each written as a
+/// line of its own. Before anything has happened it chooses none.
+pub fn do_chosen<O: Sink>(
+    at: &mut Channeled,
+    until: &Until,
+    out: &mut O,
+) -> Result<(), Stop<'static>>
+    requires few { at.old.point.lines < 2 ^ 62 }
+    requires last { choices.last_tick until.now ≤ LAST_TICK }
+    requires tick { at.old.channel.tick ≤ LAST_TICK }
+    requires left { length at.old.channel.left ≤ most_left }
+    requires copies { HasFewCopies at.old.point }
+    ensures comes { IsLineRun (says_lines at.old.say) at.old.point (outcome_of_drawn at.old.point
+        (chosen at.old.rates until.now at.old.point at.old.channel).events)
+        at.new.point (O.held out.old) (O.held out.new) result }
+    ensures channel { OnOk result (at.new.channel
+        ≡ (chosen at.old.rates until.now at.old.point at.old.channel).channel) }
+    ensures only { at.new ≡ moved at.old (moment_of at.new) }
+    ensures led { OnOk result (CanLead at.old 1 at.new) }
+    ensures cause { HasStopCause (O.faults out.old) (O.faults out.new) result }
+{
+    let started = at.point.world().is_some();
+    if !started {
+        at.point.count_line();
+        return Ok(());
+    }
+    let most = most_of(at);
+    if let Err(stop) = do_events(at, until, most, out) {
+        return Err(stop);
+    }
+    at.point.count_line();
+    Ok(())
+}
