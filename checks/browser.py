@@ -1,4 +1,4 @@
-"""Headless Chromium, spoken to by its protocol over two pipes; for checks/page."""
+"""Headless Chromium, spoken to by its protocol over two pipes; for checks/page and checks/live."""
 import base64
 import json
 import os
@@ -11,7 +11,8 @@ NAMES = ("chromium", "chromium-browser", "google-chrome", "google-chrome-stable"
 CHROMIUM = os.environ.get("CHROMIUM") or next(filter(None, map(shutil.which, NAMES)), None)
 # Seconds: for an answer of the browser; for reading a large run.
 PATIENCE, LOADING = 120, 90
-KEYS = {"ArrowRight": 39, "End": 35, "Home": 36}
+KEYS = {"ArrowDown": 40, "ArrowRight": 39, "End": 35, "Enter": 13, "Escape": 27, "Home": 36, "Tab": 9}
+CTRL = 2
 
 
 def fail(why):
@@ -98,15 +99,25 @@ class Browser:
                 fail(f"{condition} isn't so after {seconds} seconds; the console: {self.said[:3]}")
             time.sleep(0.02)
 
-    def press(self, key):
+    def press(self, key, modifiers=0):
+        text = "\r" if key == "Enter" and not modifiers else key if len(key) == 1 else ""
         for kind in ("keyDown", "keyUp"):
             self.call(
                 "Input.dispatchKeyEvent",
                 type=kind,
                 key=key,
+                modifiers=modifiers,
                 windowsVirtualKeyCode=KEYS.get(key, ord(key[0].upper())),
-                **({"text": key} if kind == "keyDown" and len(key) == 1 else {}),
+                **({"text": text} if kind == "keyDown" and text else {}),
             )
+
+    def write(self, text):
+        """Types the text where the focus is."""
+        self.call("Input.insertText", text=text)
+
+    def click(self, x, y):
+        for kind in ("mousePressed", "mouseReleased"):
+            self.call("Input.dispatchMouseEvent", type=kind, x=x, y=y, button="left", buttons=1, clickCount=1)
 
     def drag(self, x, y, by_x, by_y):
         for kind, at_x, at_y in (
