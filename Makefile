@@ -16,13 +16,14 @@ bash = $(share)/bash-completion/completions
 zsh = $(share)/zsh/site-functions
 
 # The crates of the programs; the start script of mesh_cli is `mesh`.
-crates = mesh_cli mesh_capture mesh_check mesh_node mesh_places mesh_state mesh_watch mesh_why
+crates = mesh_cli mesh_capture mesh_check mesh_node mesh_places mesh_state mesh_watch mesh_why mesh_channel
 starts = $(crates:mesh_cli=mesh)
 pages = $(starts:=.1)
 
 all:
 	for crate in $(crates); do ./build $$crate || exit; done
 	tools/library
+	view/wasm
 
 check:
 	checks/all
@@ -30,13 +31,14 @@ check:
 # The start script finds the programs and the scripts around itself, and links are followed to it.
 install: all
 	install -d $(libexec)/programs $(bin) $(man)/man1 $(man)/man5 $(doc)/examples/three-routers $(bash) $(zsh)
-	for folder in bin python scripts scripts/traces tools view; do install -d $(libexec)/$$folder || exit; done
-	for file in bin/* python/*.py scripts/* scripts/traces/* tools/start.sh tools/commands view/*; do \
+	for folder in bin python scripts scripts/traces tools view view/live; do install -d $(libexec)/$$folder || exit; done
+	for file in bin/* python/*.py scripts/* scripts/traces/* tools/start.sh tools/commands view/index.html view/make view/live/*; do \
 	    [ -d $$file ] || install -m $$([ -x $$file ] && echo 755 || echo 644) $$file $(libexec)/$$file || exit; \
 	done
 	for crate in $(crates); do \
 	    install -m 755 crates/$$crate/out/$$crate $(libexec)/programs || exit; \
 	done
+	install -m 644 out/mesh.wasm $(libexec)/programs
 	bin/mesh --version | sed 's/.* of commit \([^,]*\),.*/\1/' >$(libexec)/COMMIT
 	chmod 644 $(libexec)/COMMIT
 	install -m 644 VERSION $(libexec)/VERSION
@@ -46,6 +48,8 @@ install: all
 	install -m 644 LICENSE-MIT LICENSE-APACHE $(doc)
 	install -m 644 examples/*.* $(doc)/examples
 	install -m 644 examples/three-routers/* $(doc)/examples/three-routers
+	$(libexec)/view/make --live >$(doc)/play.html
+	chmod 644 $(doc)/play.html
 	install -m 644 completions/mesh.bash $(bash)/mesh
 	install -m 644 completions/_mesh $(zsh)/_mesh
 	install -d $(include) $(lib)/pkgconfig $(site)
@@ -59,7 +63,7 @@ install: all
 	install -m 644 bindings/ns3/*.h bindings/ns3/*.cc $(ns3)
 
 uninstall:
-	rm -rf $(libexec) $(doc)/examples $(doc)/LICENSE-MIT $(doc)/LICENSE-APACHE
+	rm -rf $(libexec) $(doc)/examples $(doc)/play.html $(doc)/LICENSE-MIT $(doc)/LICENSE-APACHE
 	[ ! -d $(doc) ] || rmdir $(doc) 2>/dev/null || :
 	for start in $(starts); do rm -f $(bin)/$$start; done
 	for page in $(pages); do rm -f $(man)/man1/$$page; done

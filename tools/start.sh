@@ -115,6 +115,7 @@ is_broken_pipe() {
 
 # What a status other than 0 of the program of this crate means (docs/FORMATS.md).
 meaning_of() {
+    case $crate:$1 in *:3 | *:4) set -- "$1${writes:+:$writes}" ;; esac
     case $crate:$1 in
     *:2) echo "the words are of no form; see $called --help" ;;
     mesh_check:3) echo "a line was refused; the line that is written says which" ;;
@@ -124,6 +125,8 @@ meaning_of() {
             "mesh lint FILE knows what editors leave in a file, as CRLF and double spaces"
         ;;
     *:4) echo "a counter is at its field's greatest value; the last line of the text says which" ;;
+    *:3:*) echo "a line was refused; in place of $writes stands the line that says which, and why" ;;
+    *:4:*) echo "a counter is at its field's greatest value; in place of $writes stands the line that says which" ;;
     *:5) echo "the input could not be read" ;;
     *:6) echo "the output could not be written to its end" ;;
     *:7) echo "there was not enough memory" ;;
@@ -142,12 +145,13 @@ as_unproved() {
     case $program in *.unproved) echo ": an index, an unwrap or a prove! failed, which a proof would exclude" ;; esac
 }
 
-# Says in one line what the status means, but where the text itself says so and nobody looks, and where the
-# reader of the text has gone, as `head` does.
+# Says in one line what the status means, but where the text or a line of the program itself says so and nobody
+# looks, and where the reader of the text has gone, as `head` does.
 tell_status() {
     case $status in
     0) return ;;
-    3 | 4 | 9) [ -t 2 ] || return 0 ;;
+    3 | 4) [ -n "$writes" ] || [ -t 2 ] || return 0 ;;
+    9 | 10) [ -t 2 ] || return 0 ;;
     6) ! is_broken_pipe || return 0 ;;
     esac
     echo "$called: status $status: $(meaning_of "$status")" >&2
@@ -237,12 +241,13 @@ main() {
 }
 
 # --- Words. A start script sets `call`, how it is called, `options`, what may stand first, in order, `operands`,
-# the names of the words behind that, `reads`, what it reads, and `runs`, its variant where it takes none.
+# the names of the words behind that, `reads`, what it reads, `writes`, what it writes where that is no text, and
+# `runs`, its variant where it takes none.
 
 # The name of the script, or the command of `mesh` that starts it.
 called=${MESH_CALLED_AS:-${0##*/}}
 unset MESH_CALLED_AS
-call=$called options='' operands='' reads='' runs=''
+call=$called options='' operands='' reads='' writes='' runs=''
 variants='base number error reply'
 
 # The forms of the words, as `usage` has them, with the name that was called.
