@@ -72,8 +72,8 @@ given_by g (option ∷ value ∷ words) =
     then option_and_then (λ h. given_by h (value ∷ words)) (with_quiet g)
     else option_and_then (λ h. given_by h words) (with_value g option value)
 
--- what they ask for: the protocol as AWN has it, seed 1 and a channel that loses, delays and doubles
--- nothing, where nothing else is said
+-- what they ask for: the protocol as AWN has it, seed 1 and a channel that loses, delays and
+-- doubles nothing, where nothing else is said
 abbrev pub options : Given → Options
 options g = record {
   variant = unwrap_or g.variant Base;

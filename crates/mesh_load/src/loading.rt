@@ -57,8 +57,8 @@ fn restore(alloc: Global, body: &[u8]) -> Result<State<World>, StateError>
 }
 
 /// The state at the one moment of which these bytes are the checkpoint; or the first refusal that
-/// applies. Nothing asks for memory before it is known that the bytes are a checkpoint with balanced
-/// sums.
+/// applies. Nothing asks for memory before it is known that the bytes are a checkpoint with
+/// balanced sums.
 pub fn load(alloc: Global, b: &[u8]) -> Result<State<World>, StateError>
     ensures exact { MatchResult result (λ p. IsState b.now p) (λ e. IsRefused b.now e) }
     ensures plain { IfOk result IsPlainMoment }

@@ -24,8 +24,8 @@ pub fn data_are_accounted_for()
     ensures { DataAreAccountedFor }
 {}
 
-/// After any number of an input's events, each datum that was given or doubled was delivered, waits,
-/// is in flight, or was dropped.
+/// After any number of an input's events, each datum that was given or doubled was delivered,
+/// waits, is in flight, or was dropped.
 pub fn each_datum_is_accounted_for()
     ensures { EachDatumIsAccountedFor }
 {}
@@ -97,8 +97,8 @@ pub fn data_are_named()
     ensures { DataAreNamed }
 {}
 
-/// However a run ends, its text has a line for each time that a datum was delivered, and one for each
-/// time that it was dropped.
+/// However a run ends, its text has a line for each time that a datum was delivered, and one for
+/// each time that it was dropped.
 pub fn each_datum_is_named()
     ensures { EachDatumIsNamed }
 {}
