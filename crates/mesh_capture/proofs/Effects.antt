@@ -48,6 +48,7 @@ MayBeIdle (below.Casts node packet) = Unit {0}
 MayBeIdle (below.Delivers id) = Unit {0}
 MayBeIdle (below.Loses id) = Unit {0}
 MayBeIdle (below.Doubles id) = Unit {0}
+MayBeIdle below.Place = Unit {0}
 MayBeIdle other = ⊥
 
 idle_below : (r : Reading) (b : Below) → MayBeIdle b → effect_below r b (codes "idle") [] ≡ Some (no_frame r)
@@ -56,11 +57,11 @@ idle_below r (below.Casts node packet) may = refl
 idle_below r (below.Delivers id) may = refl
 idle_below r (below.Loses id) may = refl
 idle_below r (below.Doubles id) may = refl
+idle_below r below.Place may = refl
 idle_below r below.Nothing may = absurd may
 idle_below r below.Node may = absurd may
 idle_below r below.Route may = absurd may
 idle_below r below.Flight may = absurd may
-idle_below r below.Place may = absurd may
 
 pub idle_reads : (mesh : Nodes) (a : Stand) → MayBeIdle a.below → Reads mesh a (line (codes "  idle")) [] a
 idle_reads mesh a may =

@@ -152,10 +152,10 @@ done_before k m e es o (auto.Full others n f field) same done speaks is more = �
     let sum : k + length text + length others ≡ k + length (text ++ others) = omega arith in
     (rest.0, to_append m (next_moment m e) n b one.0 rest.0 text others _ (frames_of (next_moment m e) es) one.1 rest.1, subst (λ j. IsSteady j n) sum rest.2, stepped_along m e n rest.3, rest.4)
 
-same_steady : (k : ℕ) (m : Moment) → IsSteady k m → IsSteady (k + 0) m
+pub same_steady : (k : ℕ) (m : Moment) → IsSteady k m → IsSteady (k + 0) m
 same_steady k m is = let sum : k ≡ k + 0 = omega arith in subst (λ j. IsSteady j m) sum is
 
-done_told : (k : ℕ) (m : Moment) (e : Event) (es : List Event) (o : Outcome) (others : Moment → auto.EventsOutcome) → outcome_at m e ≡ o → Speaks m e → Stops o es → IsSteady k m
+pub done_told : (k : ℕ) (m : Moment) (e : Event) (es : List Event) (o : Outcome) (others : Moment → auto.EventsOutcome) → outcome_at m e ≡ o → Speaks m e → Stops o es → IsSteady k m
     → (IsEventLine m.mesh e → RanTold (k + length (outcome_lines m.mesh e o)) (next_moment m e) es (others (next_moment m e))) → RanTold k m (e ∷ es) (auto.done_then m e o others)
 unfolding RanTold Stops frames_from
 done_told k m e es Idle others same speaks stops is more = done_before k m e es Idle (others (next_moment m e)) same tt speaks is more

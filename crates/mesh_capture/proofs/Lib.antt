@@ -25,3 +25,8 @@ pub mod RunLines
 pub mod WholeRuns
 pub mod Spans
 pub mod LastLines
+pub mod Fields
+pub mod FieldRuns
+pub mod Listings
+pub mod NodeTexts
+pub mod ShownNodes

@@ -1,10 +1,14 @@
--- A run that shows no node and has read its whole input: each line of its text is read, to the last.
-use Rattle.std.proofs.Common.{◌≡◌, ◌≢◌, ◌⊎◌, inl, inr, ℕ, zero, suc, ◌+◌, ◌<◌, ◌≤◌, Bool, true, false, List, [], ◌∷◌, ◌++◌, Option, Some, None, Result, Ok, Err, length, length-append, is_some, refl, sym, ap, ap₂, ◌∙◌, subst, arith, append_assoc, append-nil}
+-- The lines of a run: each line of its text is read.
+use Rattle.std.proofs.Common.{◌≡◌, ◌≢◌, ◌⊎◌, inl, inr, ℕ, zero, suc, ◌+◌, ◌<◌, ◌≤◌, Bool, true, false, List, [], ◌∷◌, ◌++◌, Option, Some, None, Result, Ok, Err, length, length-append, get_or, is_some, refl, sym, ap, ap₂, ◌∙◌, subst, arith, append_assoc, append-nil}
+use Rattle.std.specs.Prelude.{slice_get}
 use Rattle.std.specs.Option.{unwrap_or}
 use Rattle.std.specs.List.{AllByRecursion}
+use Rattle.std.proofs.lemmas.List.{get_or_default}
+use Rattle.std.proofs.lemmas.List.Elements.{recursion_from_All}
+use Rattle.aodv_model.specs.Fullness.{greatest}
 use Rattle.mesh_base.specs.declared.limits.TheConstants.{MOST_EVENTS}
 use Rattle.mesh_base.specs.declared.events.Variant.{Variant}
-use Rattle.mesh_base.specs.Meshes.{Nodes, IsMesh, with_node}
+use Rattle.mesh_base.specs.Meshes.{Nodes, IsMesh, first_at, with_node}
 use Rattle.mesh_grammar.specs.Commands.{greatest_id}
 use Rattle.mesh_grammar.specs.declared.fault.LineFault.{LineFault}
 use Rattle.mesh_grammar.specs.Written.{line}
@@ -16,6 +20,9 @@ use Rattle.mesh_model.specs.Routes.{End, Arrived, Stuck, IsRouteEnd, route_end}
 use Rattle.mesh_model.specs.Worlds as worlds
 use Rattle.mesh_model.specs.Worlds.{World, Event, Outcome, Idle, Next, start, first_numbers, run}
 use Rattle.mesh_model.proofs.AccountSteps.{start_empty}
+use Rattle.mesh_model.proofs.Honest.{start_trails}
+use Rattle.mesh_model.proofs.NumberSteps.{IsWithin, start_within}
+use Rattle.mesh_model.specs.Trails.{HasWalks}
 use Rattle.mesh_model.proofs.RouteEnds.{route_ends}
 use Rattle.mesh_shell.specs.Pieces.{Piece, Whole, Long, Beyond}
 use Rattle.mesh_shell.specs.Story as shell
@@ -25,7 +32,7 @@ use Rattle.mesh_text.specs.Lines.{words_of}
 use Rattle.mesh_text.specs.Ranges.{IsInRange, IsInTime}
 use Rattle.mesh_text.specs.Runs.{events_of_line}
 use Rattle.mesh_text.specs.Schedule.{Moment, AcceptedLine, Nothing, NewNode, Does, Chooses, ShowsNode, ShowsRoute, ShowsFlight, world_of, with_world, with_line_read, outcome_at, next_moment}
-use Rattle.mesh_text.specs.Tables.{end_text, flight_text}
+use Rattle.mesh_text.specs.Tables.{end_text, flight_text, node_text_in}
 use Rattle.mesh_text.specs.Text.{LineOutcome, On, Refused, Full, outcome_by_events, outcome_of_auto, outcome_of_line}
 use Rattle.mesh_text.proofs.Moments.{IsKept, IsKeptCame, counted_kept, started_kept, not_made}
 use Rattle.mesh_lines.specs.declared.below.Below.{Below}
@@ -34,24 +41,24 @@ use Rattle.mesh_capture.specs.declared.frame.Frame.{Frame}
 use Rattle.mesh_capture.specs.Runs.{frames_from}
 use Rattle.mesh_capture.proofs.Effects.{stand}
 use Rattle.mesh_capture.proofs.EventLists.{reading_at, ReadsTo, to_none, to_append, frames_of, IsAlong, IsRefused, RanTold, events_told}
+use Rattle.mesh_capture.proofs.FieldRuns.{AreFitting, start_fits}
 use Rattle.mesh_capture.proofs.LastLines.{IsNearWhy}
-use Rattle.mesh_capture.proofs.OtherLines.{with_below, auto_reads, auto_end_reads, node_line_reads, route_reads, flight_reads}
+use Rattle.mesh_capture.proofs.OtherLines.{with_below, auto_reads, auto_end_reads, node_line_reads, show_reads, route_reads, flight_reads}
 use Rattle.mesh_capture.proofs.PacketTexts.{strange}
 use Rattle.mesh_capture.proofs.Shown.{hops_of, end_reads, flight_shown}
-use Rattle.mesh_capture.proofs.Steady.{IsSteady, one_speaks, chosen_speak}
+use Rattle.mesh_capture.proofs.ShownNodes.{node_in_reads}
+use Rattle.mesh_capture.proofs.Steady.{IsSteady, later_steady, one_speaks, chosen_speak}
 use Rattle.mesh_capture.proofs.Told.{IsTold, Stand, Reads, flight_told}
 
 -- ---- moments
 
-counted_steady : (k : ℕ) (m : Moment) → IsSteady k m → IsSteady k (with_line_read m)
-counted_steady k m is = record { kept = counted_kept m is.kept; texts = is.texts; copies = is.copies; events = is.events }
+pub counted_steady : (k : ℕ) (m : Moment) → IsSteady k m → IsSteady k (with_line_read m)
+counted_steady k m is =
+    record { kept = counted_kept m is.kept; texts = is.texts; copies = is.copies; events = is.events; walks = is.walks; within = is.within; fits = is.fits }
 
-started_steady : (k : ℕ) (m : Moment) → IsSteady k m → IsSteady k (with_world m)
-started_steady k m is = record { kept = started_kept m is.kept; texts = is.texts; copies = is.copies; events = is.events }
-
-later_steady : (k j : ℕ) (m : Moment) → k ≤ j → IsSteady k m → IsSteady j m
-later_steady k j m le is =
-    let copies = is.copies in let events = is.events in record { kept = is.kept; texts = is.texts; copies = omega arith; events = omega arith }
+pub started_steady : (k : ℕ) (m : Moment) → IsSteady k m → IsSteady k (with_world m)
+started_steady k m is =
+    record { kept = started_kept m is.kept; texts = is.texts; copies = is.copies; events = is.events; walks = is.walks; within = is.within; fits = is.fits }
 
 -- ---- one line
 
@@ -62,13 +69,13 @@ LineTold k m es (Refused why) = IsNearWhy why
 LineTold k m es (Full text n e field) =
     (b : Below) → k + length text ≤ LONGEST_TEXT → (c : Below) × ReadsTo m b text (frames_of m es) n c × IsSteady (k + length text) n × IsAlong m n × IsRefused n e field
 
-by_events : (k : ℕ) (m : Moment) (es : List Event) (r : auto.EventsOutcome) → RanTold k (with_world m) es r → LineTold k m es (outcome_by_events r)
+pub by_events : (k : ℕ) (m : Moment) (es : List Event) (r : auto.EventsOutcome) → RanTold k (with_world m) es r → LineTold k m es (outcome_by_events r)
 unfolding RanTold LineTold
 by_events k m es (auto.Ended text n) told = λ b fits. let is = told b fits in (is.0, is.1, counted_steady (k + length text) n is.2, ap (λ l. l + 1) is.3.lines)
 by_events k m es (auto.Full text n e field) told = λ b fits. let is = told b fits in (is.0, is.1, is.2, record { mesh = is.3.mesh; lines = is.3.lines }, is.4)
 
 -- a choice of events, with its own line before them and its end after them
-by_choice : (k : ℕ) (m : Moment) (count : ℕ) (es : List Event) (r : auto.EventsOutcome) → 1 ≤ count → count ≤ MOST_EVENTS → length es ≤ count → IsSteady k m
+pub by_choice : (k : ℕ) (m : Moment) (count : ℕ) (es : List Event) (r : auto.EventsOutcome) → 1 ≤ count → count ≤ MOST_EVENTS → length es ≤ count → IsSteady k m
     → ((j : ℕ) → k ≤ j → RanTold j (with_world m) es r) → LineTold k m es (outcome_of_auto (line (words_of m.mesh (Chooses count))) (length es) r)
 unfolding RanTold LineTold
 by_choice k m count es (auto.Ended others n) some few less is told =
@@ -113,7 +120,7 @@ choice_few : (m : Moment) (o : Option Event) (others : Moment → List Event) (m
 choice_few m None others most few = omega arith
 choice_few m (Some e) others most few = then_few m e (outcome_at m e) others most (few (next_moment m e))
 
-chosen_few : (most : ℕ) (m : Moment) → length (events_chosen most m) ≤ most
+pub chosen_few : (most : ℕ) (m : Moment) → length (events_chosen most m) ≤ most
 unfolding events_chosen
 chosen_few zero m = omega arith
 chosen_few (suc most) m = choice_few m (pick (world_of m)) (λ n. events_chosen most n) most (λ n. chosen_few most n)
@@ -124,6 +131,17 @@ no_flight : (mesh : Nodes) (m : Moment) → m.world ≡ None → flight_told mes
 unfolding flight_told start
 no_flight mesh m fresh = ap (λ o. flight_told mesh (unwrap_or o (start m.variant (first_numbers m.mesh))).flying) fresh
 
+-- the first number of each node is within its field
+all_within : (mesh : Nodes) → IsMesh mesh → AllByRecursion (λ n. (1 ≤ n) × (n ≤ greatest)) (first_numbers mesh)
+all_within mesh is = through mesh (recursion_from_All (λ p. (1 ≤ p.1) × (p.1 ≤ greatest)) mesh (λ k d lt. same mesh k d lt (is.positive k lt, omega (arith, is.firsts k lt))))
+  where
+    same : (mesh : Nodes) (k : ℕ) (d : ℕ × ℕ) → k < length mesh → (1 ≤ first_at mesh k) × (first_at mesh k ≤ greatest) → (1 ≤ (get_or mesh k d).1) × ((get_or mesh k d).1 ≤ greatest)
+    same mesh k d lt one = rw (get_or_default mesh k d (0, 0) lt) one
+
+    through : (mesh : Nodes) → AllByRecursion (λ p. (1 ≤ p.1) × (p.1 ≤ greatest)) mesh → AllByRecursion (λ n. (1 ≤ n) × (n ≤ greatest)) (first_numbers mesh)
+    through [] all = tt
+    through (p ∷ ps) all = (all.0, through ps all.1)
+
 in_all : World → ℕ
 in_all w = waiting strange w + queued_data strange w + in_flight strange w
 
@@ -131,9 +149,18 @@ pub fresh_steady : (k : ℕ) (m : Moment) → m.world ≡ None → IsKept m → 
 unfolding start in_all
 fresh_steady k m fresh kept events =
     let same : world_of m ≡ start m.variant (first_numbers m.mesh) = ap (λ o. unwrap_or o (start m.variant (first_numbers m.mesh))) fresh in
-    let none = start_empty strange m.variant (first_numbers m.mesh) in
+    let firsts : List ℕ = first_numbers m.mesh in
+    let none = start_empty strange m.variant firsts in
     let copies : (world_of m).next_copy ≡ 1 = ap (λ (w : World). w.next_copy) same in
-    record { kept = kept; texts = subst (λ w. in_all w ≡ 0) (sym same) none; copies = omega arith; events = events }
+    record {
+      kept = kept;
+      texts = subst (λ w. in_all w ≡ 0) (sym same) none;
+      copies = omega arith;
+      events = events;
+      walks = subst (HasWalks m.variant) (sym same) (start_trails m.variant firsts);
+      within = subst IsWithin (sym same) (start_within m.variant firsts (all_within m.mesh kept.mesh));
+      fits = subst (AreFitting m.sums.events) (sym same) (start_fits m.sums.events m.variant firsts);
+    }
 
 node_told : (k : ℕ) (m : Moment) (address first : ℕ) → m.world ≡ None → IsInRange m.mesh (NewNode address first) → IsKept (with_line_read (record m { mesh = with_node m.mesh address first })) → IsSteady k m
     → LineTold k m [] (outcome_of_line m (NewNode address first))
@@ -172,23 +199,28 @@ few_hops : (w : World) (x d : ℕ) (e : End) → IsRouteEnd w x d e → hops_of 
 few_hops w x d (Arrived hops) leads = let short = leads.short in omega arith
 few_hops w x d (Stuck at hops) leads = let short = leads.0.short in omega arith
 
--- ---- any line but `show`
+-- a node by itself
+pub block_told : (k : ℕ) (m : Moment) (x : ℕ) (b : Below) → k ≤ LONGEST_TEXT → IsSteady k m → ReadsTo m b (line (words_of m.mesh (ShowsNode x)) ++ node_text_in m.mesh (slice_get (world_of m).nodes x)) [] m below.Node
+block_told k m x b short is =
+    to_append m m m b below.Node below.Node (line (words_of m.mesh (ShowsNode x))) (node_text_in m.mesh (slice_get (world_of m).nodes x)) [] []
+    (show_reads m.mesh is.kept.mesh (stand (world_of m).flying m.sums.events b) x) (node_in_reads k m x short is)
 
-abbrev pub ShowsNone : AcceptedLine → Type 0
-ShowsNone (ShowsNode x) = ⊥
-ShowsNone others = Unit {0}
+-- ---- any line
 
-pub line_told : (k : ℕ) (m : Moment) (a : AcceptedLine) → ShowsNone a → IsInRange m.mesh a → IsInTime (is_some m.world) a → IsKeptCame (outcome_of_line m a) → IsSteady k m → LineTold k m (events_of_line m a) (outcome_of_line m a)
+pub line_told : (k : ℕ) (m : Moment) (a : AcceptedLine) → IsInRange m.mesh a → IsInTime (is_some m.world) a → IsKeptCame (outcome_of_line m a) → IsSteady k m → LineTold k m (events_of_line m a) (outcome_of_line m a)
 unfolding LineTold IsKeptCame outcome_of_line frames_from
-line_told k m Nothing quiet range early kept is = λ b fits. (b, to_none m b, counted_steady (k + 0) m (later_steady k (k + 0) m (omega arith) is), refl)
-line_told k m (NewNode address first) quiet range early kept is = node_told k m address first (not_made m.world early) range kept is
-line_told k m (Does e) quiet range early kept is = by_events k m (e ∷ []) (auto.outcome_of_events (with_world m) (e ∷ [])) (events_told k (with_world m) (e ∷ []) (one_speaks (with_world m) e range) (started_steady k m is))
-line_told k m (Chooses count) quiet range early kept is =
+line_told k m Nothing range early kept is = λ b fits. (b, to_none m b, counted_steady (k + 0) m (later_steady k (k + 0) m (omega arith) is), refl)
+line_told k m (NewNode address first) range early kept is = node_told k m address first (not_made m.world early) range kept is
+line_told k m (Does e) range early kept is = by_events k m (e ∷ []) (auto.outcome_of_events (with_world m) (e ∷ [])) (events_told k (with_world m) (e ∷ []) (one_speaks (with_world m) e range) (started_steady k m is))
+line_told k m (Chooses count) range early kept is =
     let chosen : List Event = events_chosen count (with_world m) in
     by_choice k m count chosen (auto.outcome_of_events (with_world m) chosen) range.1 range.2 (chosen_few count (with_world m)) is
     (λ j le. events_told j (with_world m) chosen (chosen_speak count (with_world m) range.0 (started_kept m is.kept)) (later_steady k j (with_world m) le (started_steady k m is)))
-line_told k m (ShowsNode x) quiet range early kept is = absurd quiet
-line_told k m (ShowsRoute x d) quiet range early kept is =
+line_told k m (ShowsNode x) range early kept is =
+    λ b fits. shown_told k m (line (words_of m.mesh (ShowsNode x))) (node_text_in m.mesh (slice_get (world_of m).nodes x)) b below.Node is
+    (λ c. show_reads m.mesh is.kept.mesh (stand (world_of m).flying m.sums.events c) x)
+    (node_in_reads k m x (omega arith) is) b
+line_told k m (ShowsRoute x d) range early kept is =
     let end : End = route_end (world_of m) x d in
     let lt : x < length (world_of m).nodes = subst (λ size. x < size) (sym is.kept.size) range.0 in
     let few = few_hops (world_of m) x d end (route_ends (world_of m) x d is.kept.invariant lt) in
@@ -197,7 +229,7 @@ line_told k m (ShowsRoute x d) quiet range early kept is =
     λ b fits. shown_told k m (line (words_of m.mesh (ShowsRoute x d))) (end_text m.mesh end) b below.Route is
     (λ c. route_reads m.mesh is.kept.mesh (stand (world_of m).flying m.sums.events c) x d)
     (end_reads m.mesh is.kept.mesh (world_of m).flying m.sums.events end (omega arith)) b
-line_told k m ShowsFlight quiet range early kept is =
+line_told k m ShowsFlight range early kept is =
     let in_mesh = is.kept.invariant.in_mesh in
     let texts = is.texts in
     let copies = is.copies in

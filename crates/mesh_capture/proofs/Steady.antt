@@ -16,6 +16,9 @@ use Rattle.mesh_model.specs.Worlds as worlds
 use Rattle.mesh_model.specs.Worlds.{World, Copy, Event, Give, Turn, Send, Ask, Link, Cut, Deliver, Lose, Double, Outcome, Idle, Next, after, at_copy, step, find_copy, push, without_copy, CopyHeard}
 use Rattle.mesh_model.proofs.AccountSteps.{step_balanced}
 use Rattle.mesh_model.proofs.Chosen.{pick_is_enabled}
+use Rattle.mesh_model.proofs.NumberSteps.{IsWithin, step_within}
+use Rattle.mesh_model.proofs.TrailSteps.{step_trails}
+use Rattle.mesh_model.specs.Trails.{HasWalks}
 use Rattle.mesh_text.specs.Auto.{event_then, choice_then, events_chosen}
 use Rattle.mesh_text.specs.Effects.{outcome_lines}
 use Rattle.mesh_text.specs.Ranges.{IsEventLine}
@@ -23,16 +26,28 @@ use Rattle.mesh_text.specs.Schedule.{Moment, world_of, outcome_at, next_moment}
 use Rattle.mesh_text.proofs.Moments.{IsKept, stepped_kept}
 use Rattle.mesh_capture.proofs.Data.{copy_has_none}
 use Rattle.mesh_capture.proofs.Events.{IsPlain}
+use Rattle.mesh_capture.proofs.FieldRuns.{AreFitting, step_fit}
 use Rattle.mesh_capture.proofs.Flights.{numbers_end}
 use Rattle.mesh_capture.proofs.Growth.{event_pays, some_lines}
 use Rattle.mesh_capture.proofs.PacketTexts.{strange}
 
--- after a text of k bytes: no datum is strange, and there are no more copies and events than bytes
+-- after a text of k bytes: no datum is strange, and there are no more copies and events than bytes; each number is within
+-- its field, and no queue has more items than there were events
 pub record IsSteady (k : ℕ) (m : Moment) : Type 0 where
   pub kept : IsKept m
   pub texts : waiting strange (world_of m) + queued_data strange (world_of m) + in_flight strange (world_of m) ≡ 0
   pub copies : (world_of m).next_copy ≤ k + 1
   pub events : m.sums.events ≤ k
+  pub walks : HasWalks m.variant (world_of m)
+  pub within : IsWithin (world_of m)
+  pub fits : AreFitting m.sums.events (world_of m)
+
+-- the same after a longer text
+pub later_steady : (k j : ℕ) (m : Moment) → k ≤ j → IsSteady k m → IsSteady j m
+later_steady k j m le is =
+    let copies = is.copies in
+    let events = is.events in
+    record { kept = is.kept; texts = is.texts; copies = omega arith; events = omega arith; walks = is.walks; within = is.within; fits = is.fits }
 
 pub steady_plain : (k : ℕ) (m : Moment) → IsSteady k m → IsPlain m.mesh (world_of m)
 steady_plain k m is = record { mesh_is = is.kept.mesh; size = is.kept.size; in_mesh = is.kept.invariant.in_mesh; texts = is.texts }
@@ -59,24 +74,33 @@ doubled_none w (Double id) none = by_copy (find_copy w.flying id) refl
     by_copy (Some c) is = copy_has_none strange w none id c is
 doubled_none w others none = refl
 
-pub stepped_steady : (k : ℕ) (m : Moment) (e : Event) → IsEventLine m.mesh e → IsSteady k m → IsSteady (k + length (outcome_lines m.mesh e (outcome_at m e))) (next_moment m e)
+-- the same after an event, where the text has grown and has paid for the event's copies
+pub next_steady : (k j : ℕ) (m : Moment) (e : Event) → IsEventLine m.mesh e → IsSteady k m → k + 1 ≤ j → (after (world_of m) (outcome_at m e)).next_copy ≤ j + 1 → IsSteady j (next_moment m e)
 unfolding next_moment
-stepped_steady k m e range is =
+next_steady k j m e range is longer paid =
     let w : World = world_of m in
     let event : IsEvent (length w.nodes) e = subst (λ size. IsEvent size e) (sym is.kept.size) range.1 in
     let account = step_balanced strange w e event is.kept.invariant.in_mesh in
     let given = given_none m.mesh e (step w e) range in
     let doubled = doubled_none w e is.texts in
     let texts = is.texts in
-    let copies = is.copies in
     let events = is.events in
-    let paid = event_pays m.mesh w e in
     record {
       kept = stepped_kept m e range.1 is.kept;
       texts = omega arith;
-      copies = omega arith;
-      events = let more = some_lines m.mesh e (outcome_at m e) in omega arith;
+      copies = paid;
+      events = omega arith;
+      walks = step_trails m.variant w e is.kept.invariant.loop_safe is.walks;
+      within = step_within m.variant w e is.kept.invariant.loop_safe is.walks is.within;
+      fits = step_fit m.sums.events w e is.within is.fits;
     }
+
+pub stepped_steady : (k : ℕ) (m : Moment) (e : Event) → IsEventLine m.mesh e → IsSteady k m → IsSteady (k + length (outcome_lines m.mesh e (outcome_at m e))) (next_moment m e)
+stepped_steady k m e range is =
+    let copies = is.copies in
+    let paid = event_pays m.mesh (world_of m) e in
+    let more = some_lines m.mesh e (outcome_at m e) in
+    next_steady k (k + length (outcome_lines m.mesh e (outcome_at m e))) m e range is (omega arith) (omega arith)
 
 -- ---- which events are read
 

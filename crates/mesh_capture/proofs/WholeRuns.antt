@@ -1,4 +1,4 @@
--- The text of a run that shows no node is read to its last line.
+-- The text of a run is read to its last line.
 use Rattle.std.proofs.Common.{◌≡◌, ◌≢◌, ◌⊎◌, inl, inr, ℕ, zero, suc, ◌+◌, ◌<◌, ◌≤◌, Bool, true, false, eqb, leb, ◌&&◌, take, List, [], ◌∷◌, ◌++◌, codes, Option, Some, None, Result, Ok, Err, length, length-append, is_some, refl, sym, ap, ap₂, ◌∙◌, subst, arith, append_assoc, append-nil}
 use Rattle.std.specs.Prelude.{nat_lt}
 use Rattle.std.specs.List.{AllByRecursion}
@@ -17,7 +17,6 @@ use Rattle.mesh_grammar.specs.Commands.{greatest_id}
 use Rattle.mesh_grammar.specs.declared.fault.BadWhy.{BadWhy}
 use Rattle.mesh_grammar.specs.declared.fault.LineFault.{LineFault}
 use Rattle.mesh_grammar.specs.Faults.{bad_line}
-use Rattle.mesh_grammar.specs.Written.{command_text}
 use Rattle.mesh_io.specs.declared.limits.TheConstants.{LONGEST_TEXT}
 use Rattle.mesh_io.specs.declared.limits.Limits.{Limits}
 use Rattle.mesh_io.specs.NextLines.{text_limits, schedule_limits}
@@ -28,27 +27,24 @@ use Rattle.mesh_shell.specs.Laws.{AreWhole}
 use Rattle.mesh_shell.specs.Pieces.{Piece, Whole, Long, Beyond, piece_of, last_piece, pieces_of, pieces_within}
 use Rattle.mesh_shell.specs.Story as shell
 use Rattle.mesh_shell.specs.Story.{whole}
-use Rattle.mesh_text.specs.Accounts.{begins}
-use Rattle.mesh_text.specs.Lines.{words_of, done_line, full_line}
-use Rattle.mesh_text.specs.Ranges.{IsEcho}
+use Rattle.mesh_text.specs.Lines.{done_line, full_line}
 use Rattle.mesh_text.specs.Runs.{events_of_line, events_read, events_of_piece, events_after, events_from, events_of_input, mesh_of_input}
-use Rattle.mesh_text.specs.Schedule.{Moment, opening, AcceptedLine, ShowsNode, line_of, world_of}
+use Rattle.mesh_text.specs.Schedule.{Moment, opening, AcceptedLine, line_of, world_of}
 use Rattle.mesh_text.specs.Text.{LineOutcome, On, Refused, Full, outcome_of_line, outcome_of_read, outcome_of_piece, pieces_of_input, RunText, goes_on, text_from, text_of_input}
-use Rattle.mesh_text.proofs.Echoes.{read_line_is_written_as_it_was}
 use Rattle.mesh_text.proofs.InRange.{Allowed, line_allowed}
 use Rattle.mesh_text.proofs.Moments.{IsKept, IsKeptCame, opening_kept, piece_kept}
-use Rattle.mesh_text.proofs.RunLaws.{base, made_base, Quiet, IsRan, GoesBy, piece_goes, Follows, follows}
+use Rattle.mesh_text.proofs.RunLaws.{base, made_base, Quiet, IsRan, GoesBy, piece_goes, follows}
 use Rattle.mesh_lines.specs.declared.below.Below.{Below}
 use Rattle.mesh_lines.specs.declared.below.Below.TheVariants as below
 use Rattle.mesh_capture.specs.declared.frame.Frame.{Frame}
 use Rattle.mesh_capture.specs.Copies.{Reading}
 use Rattle.mesh_capture.specs.Laws.{RunIsCaptured}
-use Rattle.mesh_capture.specs.Runs.{frames_of_event, frames_from, frames_of_input, ShowsNoNode}
+use Rattle.mesh_capture.specs.Runs.{frames_of_event, frames_from, frames_of_input}
 use Rattle.mesh_capture.proofs.Captured.{captured, text_short}
 use Rattle.mesh_capture.proofs.EventLists.{reading_at, ReadsTo, frames_of, IsAlong, IsRefused, refused_casts}
 use Rattle.mesh_capture.proofs.LastLines.{IsNearWhy, full_reads, bad_reads}
 use Rattle.mesh_capture.proofs.Effects.{stand}
-use Rattle.mesh_capture.proofs.RunLines.{LineTold, ShowsNone, line_told, fresh_steady}
+use Rattle.mesh_capture.proofs.RunLines.{LineTold, line_told, fresh_steady}
 use Rattle.mesh_capture.proofs.Steady.{IsSteady}
 use Rattle.mesh_capture.proofs.Spans.{fault_near}
 use Rattle.mesh_capture.proofs.Summaries.{summary_reads}
@@ -56,37 +52,24 @@ use Rattle.mesh_capture.proofs.Told.{IsTold, told_append, flight_told}
 
 -- ---- one line
 
-quiet_line : (mesh : Nodes) (line : List ℕ) (a : AcceptedLine) → IsEcho mesh line a → begins (codes "show ") line ≡ false → ShowsNone a
-unfolding words_of command_text
-quiet_line mesh line (ShowsNode x) echo other =
-    let shown : begins (codes "show ") line ≡ true = ap (begins (codes "show ")) echo in
-    let clash : true ≡ false = sym shown ∙ other in let P : ⊥ = cc in P
-quiet_line mesh line others echo other = tt
-
 -- a line that is read
-read_told : (k : ℕ) (m : Moment) (bytes : List ℕ) (r : Result AcceptedLine LineFault) → line_of m.mesh (is_some m.world) bytes ≡ r → begins (codes "show ") bytes ≡ false → Allowed m.mesh (is_some m.world) r
+pub read_told : (k : ℕ) (m : Moment) (started : Bool) (bytes : List ℕ) (r : Result AcceptedLine LineFault) → line_of m.mesh started bytes ≡ r → Allowed m.mesh (is_some m.world) r
     → length bytes ≤ LONGEST_LINE → IsKeptCame (outcome_of_read m r) → IsSteady k m → LineTold k m (events_read m r) (outcome_of_read m r)
 unfolding Allowed LineTold IsKeptCame
-read_told k m bytes (Ok a) same other allowed short kept is =
-    line_told k m a (quiet_line m.mesh bytes a (read_line_is_written_as_it_was m.mesh (is_some m.world) bytes a same) other) allowed.0 allowed.1 kept is
-read_told k m bytes (Err f) same other allowed short kept is = fault_near greatest_id m.mesh (is_some m.world) bytes f (omega arith) same
+read_told k m started bytes (Ok a) same allowed short kept is = line_told k m a allowed.0 allowed.1 kept is
+read_told k m started bytes (Err f) same allowed short kept is = fault_near greatest_id m.mesh started bytes f (omega arith) same
 
--- a line does not show a node
-abbrev IsOther : Piece → Type 0
-IsOther (Whole line) = begins (codes "show ") line ≡ false
-IsOther others = Unit {0}
-
--- it is no longer than a line of a schedule
-abbrev IsShort : Piece → Type 0
+-- a line is no longer than a line of a schedule
+abbrev pub IsShort : Piece → Type 0
 IsShort (Whole line) = length line ≤ LONGEST_LINE
 IsShort others = Unit {0}
 
-piece_told : (k : ℕ) (m : Moment) (piece : Piece) → IsOther piece → IsShort piece → IsKeptCame (outcome_of_piece m piece) → IsSteady k m → LineTold k m (events_of_piece m piece) (outcome_of_piece m piece)
+piece_told : (k : ℕ) (m : Moment) (piece : Piece) → IsShort piece → IsKeptCame (outcome_of_piece m piece) → IsSteady k m → LineTold k m (events_of_piece m piece) (outcome_of_piece m piece)
 unfolding LineTold outcome_of_piece
-piece_told k m (Whole line) other short kept is =
-    read_told k m line (line_of m.mesh (is_some m.world) line) refl other (line_allowed m.mesh (is_some m.world) line is.kept.mesh.few) short kept is
-piece_told k m Long other short kept is = tt
-piece_told k m Beyond other short kept is = tt
+piece_told k m (Whole line) short kept is =
+    read_told k m (is_some m.world) line (line_of m.mesh (is_some m.world) line) refl (line_allowed m.mesh (is_some m.world) line is.kept.mesh.few) short kept is
+piece_told k m Long short kept is = tt
+piece_told k m Beyond short kept is = tt
 
 -- ---- the packets of a run
 
@@ -100,7 +83,7 @@ frames_append mesh n w (e ∷ es) ys =
     ∙ sym (append_assoc (frames_of_event mesh n w e) (frames_from mesh (n + 1) next es) (frames_from mesh (n + length (e ∷ es)) (run next es) ys))
 
 -- from a moment on, with this mesh at the end
-abbrev frames_to : Nodes → Moment → List Event → List Frame
+abbrev pub frames_to : Nodes → Moment → List Event → List Frame
 frames_to mesh m es = frames_from mesh (m.sums.events + 1) (base m mesh) es
 
 quiet_frames : (mesh : Nodes) (m n : Moment) (es more : List Event) → Quiet m n es → frames_of m es ++ frames_to mesh n more ≡ frames_to mesh m (es ++ more)
@@ -123,7 +106,7 @@ ran_frames mesh m n es more here ran =
 
 -- ---- the last line
 
-done_told : (k : ℕ) (m : Moment) (b : Below) → k ≤ LONGEST_TEXT → IsSteady k m → ReadsTo m b (done_line m) [] m below.Nothing
+pub done_told : (k : ℕ) (m : Moment) (b : Below) → k ≤ LONGEST_TEXT → IsSteady k m → ReadsTo m b (done_line m) [] m below.Nothing
 done_told k m b short is =
     let events = is.events in
     let balanced = is.kept.balanced in
@@ -143,13 +126,33 @@ done_told k m b short is =
 
 -- ---- all lines
 
--- the whole text of a run from a moment on is told, with this mesh at the end
-abbrev WholeTold : Nodes → Moment → Below → RunText → List Event → Type 0
-WholeTold mesh m b w es = (j : ℕ) → (s : Reading) × IsTold (reading_at m b j) (whole w) (frames_to mesh m es) s
+-- a text from a moment on is told, with this mesh at the end
+abbrev pub TextTold : Nodes → Moment → Below → List ℕ → List Event → Type 0
+TextTold mesh m b text es = (j : ℕ) → (s : Reading) × IsTold (reading_at m b j) text (frames_to mesh m es) s
 
-frames_then : (mesh : Nodes) (m n : Moment) (es more : List Event) (w : RunText) → Quiet m n es ⊎ IsRan m n es → Follows n more w → w.after.mesh ≡ mesh → frames_of m es ++ frames_to mesh n more ≡ frames_to mesh m (es ++ more)
-frames_then mesh m n es more w (inl quiet) led here = quiet_frames mesh m n es more quiet
-frames_then mesh m n es more w (inr ran) led here = ran_frames mesh m n es more (sym (led.mesh ran.made ∙ ran.mesh) ∙ here) ran
+-- the whole text of a run
+abbrev WholeTold : Nodes → Moment → Below → RunText → List Event → Type 0
+WholeTold mesh m b w es = TextTold mesh m b (whole w) es
+
+-- the packets of a line's events, and then those of the others. Once there is a world the mesh stays
+pub frames_then : (mesh : Nodes) (m n : Moment) (es more : List Event) → Quiet m n es ⊎ IsRan m n es → (is_some n.world ≡ true → mesh ≡ n.mesh) → frames_of m es ++ frames_to mesh n more ≡ frames_to mesh m (es ++ more)
+frames_then mesh m n es more (inl quiet) stays = quiet_frames mesh m n es more quiet
+frames_then mesh m n es more (inr ran) stays = ran_frames mesh m n es more (sym (stays ran.made ∙ ran.mesh)) ran
+
+-- the text of a line, and then the rest
+pub on_told : (mesh : Nodes) (k : ℕ) (m n : Moment) (b : Below) (es more : List Event) (text rest : List ℕ) → LineTold k m es (On text n) → k + length text ≤ LONGEST_TEXT → frames_of m es ++ frames_to mesh n more ≡ frames_to mesh m (es ++ more)
+    → ((c : Below) → IsSteady (k + length text) n → n.lines ≡ m.lines + 1 → TextTold mesh n c rest more) → TextTold mesh m b (text ++ rest) (es ++ more)
+unfolding LineTold
+on_told mesh k m n b es more text rest told fits frames next =
+    let own = told b fits in
+    let later = next own.0 own.2 own.3 in
+    λ j.
+    let one = own.1 j in
+    let two = later one.0 in (
+      two.0,
+      subst (λ fs. IsTold (reading_at m b j) (text ++ rest) fs two.0) frames
+          (told_append (reading_at m b j) (reading_at n own.0 one.0) two.0 text rest (frames_of m es) (frames_to mesh n more) one.1 two.1),
+    )
 
 -- where a full counter or a line has ended the run
 last_frames : (mesh : Nodes) (m : Moment) (es : List Event) → m.mesh ≡ mesh → frames_of m es ++ [] ≡ frames_to mesh m (es ++ [])
@@ -160,13 +163,17 @@ no_frames : (mesh : Nodes) (m : Moment) (es : List Event) → es ≡ [] → [] �
 unfolding frames_from
 no_frames mesh m es none = ap (λ l. frames_to mesh m (l ++ [])) (sym none)
 
-refused_told : (mesh : Nodes) (m : Moment) (b : Below) (es : List Event) (why : BadWhy) → IsNearWhy why → m.lines + 1 ≤ greatest_id → es ≡ [] → (j : ℕ) → (s : Reading) × IsTold (reading_at m b j) (bad_line (m.lines + 1) why) (frames_to mesh m (es ++ [])) s
+pub refused_near : (k : ℕ) (m : Moment) (es : List Event) (why : BadWhy) → LineTold k m es (Refused why) → IsNearWhy why
+unfolding LineTold
+refused_near k m es why told = told
+
+pub refused_told : (mesh : Nodes) (m : Moment) (b : Below) (es : List Event) (why : BadWhy) → IsNearWhy why → m.lines + 1 ≤ greatest_id → es ≡ [] → TextTold mesh m b (bad_line (m.lines + 1) why) (es ++ [])
 refused_told mesh m b es why near few none j =
     let read = bad_reads m.mesh (stand (world_of m).flying m.sums.events b) (m.lines + 1) why near (omega arith) few j in
     (reading_at m below.Nothing read.0, subst (λ fs. IsTold (reading_at m b j) (bad_line (m.lines + 1) why) fs (reading_at m below.Nothing read.0)) (no_frames mesh m es none) read.1)
 
 full_told : (mesh : Nodes) (m n : Moment) (b c : Below) (es : List Event) (text : List ℕ) (e : Event) (f : Counter) → ReadsTo m b text (frames_of m es) n c → IsAlong m n → IsRefused n e f → IsMesh n.mesh → m.lines + 1 ≤ greatest_id → m.mesh ≡ mesh
-    → (j : ℕ) → (s : Reading) × IsTold (reading_at m b j) (text ++ full_line m.mesh (m.lines + 1) e f) (frames_to mesh m (es ++ [])) s
+    → TextTold mesh m b (text ++ full_line m.mesh (m.lines + 1) e f) (es ++ [])
 full_told mesh m n b c es text e f reads along refused is few here j =
     let first = reads j in
     let line : List ℕ = full_line m.mesh (m.lines + 1) e f in
@@ -179,50 +186,39 @@ full_told mesh m n b c es text e f reads along refused is few here j =
           (told_append (reading_at m b j) (reading_at n c first.0) (reading_at n below.Nothing last.0) text line (frames_of m es) [] first.1 last.1),
     )
 
-then_told : (mesh : Nodes) (k : ℕ) (m : Moment) (b : Below) (es : List Event) (o : LineOutcome) (others : Moment → RunText) (more : Moment → List Event) → m.lines + 1 ≤ greatest_id → GoesBy m es o → IsKeptCame o → LineTold k m es o
-    → ((n : Moment) → IsKept n → Follows n (more n) (others n))
+-- the same where a full counter ends the run within a line
+pub stopped_told : (mesh : Nodes) (k : ℕ) (m n : Moment) (b : Below) (es : List Event) (text : List ℕ) (e : Event) (f : Counter) → LineTold k m es (Full text n e f) → m.lines + 1 ≤ greatest_id → m.mesh ≡ mesh
+    → k + length (text ++ full_line m.mesh (m.lines + 1) e f) ≤ LONGEST_TEXT → TextTold mesh m b (text ++ full_line m.mesh (m.lines + 1) e f) (es ++ [])
+unfolding LineTold
+stopped_told mesh k m n b es text e f told few here fits =
+    let all = length-append text (full_line m.mesh (m.lines + 1) e f) in
+    let own = told b (omega arith) in
+    full_told mesh m n b own.0 es text e f own.1 own.3 own.4 own.2.kept.mesh few here
+
+pub then_told : (mesh : Nodes) (k : ℕ) (m : Moment) (b : Below) (es : List Event) (o : LineOutcome) (others : Moment → RunText) (more : Moment → List Event) → m.lines + 1 ≤ greatest_id → GoesBy m es o → IsKeptCame o → LineTold k m es o
+    → ((n : Moment) → IsKept n → is_some n.world ≡ true → (others n).after.mesh ≡ n.mesh)
     → ((j : ℕ) (n : Moment) (c : Below) → n.lines ≡ m.lines + 1 → IsSteady j n → (others n).after.mesh ≡ mesh → j + length (whole (others n)) ≤ LONGEST_TEXT → WholeTold mesh n c (others n) (more n))
     → (goes_on m o others).after.mesh ≡ mesh → k + length (whole (goes_on m o others)) ≤ LONGEST_TEXT → WholeTold mesh m b (goes_on m o others) (es ++ events_after o more)
-unfolding GoesBy IsKeptCame LineTold
-then_told mesh k m b es (Refused why) others more few goes kept told led rest here fits = refused_told mesh m b es why told few goes
-then_told mesh k m b es (Full text n e field) others more few goes kept told led rest here fits =
-    let all = length-append text (full_line m.mesh (m.lines + 1) e field) in
-    let own = told b (omega arith) in
-    full_told mesh m n b own.0 es text e field own.1 own.3 own.4 own.2.kept.mesh few here
+unfolding GoesBy IsKeptCame
+then_told mesh k m b es (Refused why) others more few goes kept told led rest here fits = refused_told mesh m b es why (refused_near k m es why told) few goes
+then_told mesh k m b es (Full text n e field) others more few goes kept told led rest here fits = stopped_told mesh k m n b es text e field told few here fits
 then_told mesh k m b es (On text n) others more few goes kept told led rest here fits =
     let w : RunText = others n in
     let whole_is : (text ++ w.lines) ++ w.last ≡ text ++ whole w = append_assoc text w.lines w.last in
     let long : length ((text ++ w.lines) ++ w.last) ≡ length (text ++ whole w) = ap length whole_is in
     let all = length-append text (whole w) in
-    let own = told b (omega arith) in
-    let next = rest (k + length text) n own.0 own.3 own.2 here (omega arith) in
-    let frames : frames_of m es ++ frames_to mesh n (more n) ≡ frames_to mesh m (es ++ more n) = frames_then mesh m n es (more n) w goes (led n kept) here in
-    λ j.
-    let one = own.1 j in
-    let two = next one.0 in (
-      two.0,
-      subst (λ t. IsTold (reading_at m b j) t (frames_to mesh m (es ++ more n)) two.0) (sym whole_is)
-          (subst (λ fs. IsTold (reading_at m b j) (text ++ whole w) fs two.0) frames
-          (told_append (reading_at m b j) (reading_at n own.0 one.0) two.0 text (whole w) (frames_of m es) (frames_to mesh n (more n)) one.1 two.1)),
-    )
+    subst (λ t. TextTold mesh m b t (es ++ more n)) (sym whole_is)
+    (on_told mesh k m n b es (more n) text (whole w) told (omega arith) (frames_then mesh m n es (more n) goes (λ made. sym here ∙ led n kept made))
+    (λ c steady lines. rest (k + length text) n c lines steady here (omega arith)))
 
-this_other : (piece : Piece) (pieces : List Piece) → ShowsNoNode (piece ∷ pieces) → IsOther piece
-this_other (Whole line) pieces quiet = quiet.0
-this_other others pieces quiet = tt
-
-others_quiet : (piece : Piece) (pieces : List Piece) → ShowsNoNode (piece ∷ pieces) → ShowsNoNode pieces
-others_quiet (Whole line) pieces quiet = quiet.1
-others_quiet Long pieces quiet = quiet
-others_quiet Beyond pieces quiet = quiet
-
-run_told : (mesh : Nodes) (k : ℕ) (m : Moment) (b : Below) (pieces : List Piece) → ShowsNoNode pieces → AllByRecursion IsShort pieces → m.lines + length pieces ≤ greatest_id → IsSteady k m → (text_from m pieces).after.mesh ≡ mesh
+run_told : (mesh : Nodes) (k : ℕ) (m : Moment) (b : Below) (pieces : List Piece) → AllByRecursion IsShort pieces → m.lines + length pieces ≤ greatest_id → IsSteady k m → (text_from m pieces).after.mesh ≡ mesh
     → k + length (whole (text_from m pieces)) ≤ LONGEST_TEXT → WholeTold mesh m b (text_from m pieces) (events_from m pieces)
 unfolding events_from shell.text_from frames_from
-run_told mesh k m b [] quiet short few is here fits = λ j. let last = done_told k m b (omega arith) is j in (reading_at m below.Nothing last.0, last.1)
-run_told mesh k m b (piece ∷ pieces) quiet short few is here fits =
+run_told mesh k m b [] short few is here fits = λ j. let last = done_told k m b (omega arith) is j in (reading_at m below.Nothing last.0, last.1)
+run_told mesh k m b (piece ∷ pieces) short few is here fits =
     then_told mesh k m b (events_of_piece m piece) (outcome_of_piece m piece) (λ n. text_from n pieces) (λ n. events_from n pieces) (omega arith) (piece_goes m piece is.kept) (piece_kept m piece is.kept)
-    (piece_told k m piece (this_other piece pieces quiet) short.0 (piece_kept m piece is.kept) is) (λ n kept. follows n pieces kept)
-    (λ j n c lines steady same room. run_told mesh j n c pieces (others_quiet piece pieces quiet) short.1 (omega arith) steady same room) here fits
+    (piece_told k m piece short.0 (piece_kept m piece is.kept) is) (λ n kept made. (follows n pieces kept).mesh made)
+    (λ j n c lines steady same room. run_told mesh j n c pieces short.1 (omega arith) steady same room) here fits
 
 -- ---- the lines of an input
 
@@ -255,7 +251,7 @@ pieces_short most more [] = (tt, omega arith)
 pieces_short most more (l ∷ []) = (last_short most more l, few_last most more l)
 pieces_short most more (l ∷ m ∷ ls) = let rest = pieces_short most more (m ∷ ls) in ((one_short most l, rest.0), omega (arith, rest.1))
 
-input_short : (input : List ℕ) → AllByRecursion IsShort (pieces_of_input input) × (length (pieces_of_input input) ≤ LONGEST_INPUT + 1)
+pub input_short : (input : List ℕ) → AllByRecursion IsShort (pieces_of_input input) × (length (pieces_of_input input) ≤ LONGEST_INPUT + 1)
 input_short input =
     let taken : List ℕ = take LONGEST_INPUT input in
     let all = pieces_short schedule_limits (nat_lt LONGEST_INPUT (length input)) (parts 10 taken) in
@@ -268,10 +264,10 @@ input_short input =
 
 pub run_is_captured : RunIsCaptured
 unfolding events_of_input text_of_input shell.text_on flight_told start
-run_is_captured variant input quiet within =
+run_is_captured variant input within =
     let m : Moment = opening variant in
     let mesh : Nodes = mesh_of_input variant input in
     let steady = fresh_steady 0 m refl (opening_kept variant) (omega arith) in
     let short = input_short input in
-    let told = run_told mesh 0 m below.Nothing (pieces_of_input input) quiet short.0 (omega (arith, short.1)) steady refl (omega (arith, text_short text_limits (whole (text_of_input variant input)) within)) 0 in
+    let told = run_told mesh 0 m below.Nothing (pieces_of_input input) short.0 (omega (arith, short.1)) steady refl (omega (arith, text_short text_limits (whole (text_of_input variant input)) within)) 0 in
     captured (whole (text_of_input variant input)) (frames_of_input variant input) told.0 told.1 within

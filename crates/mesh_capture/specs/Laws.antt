@@ -5,9 +5,9 @@ use Rattle.mesh_io.specs.NextLines.{text_limits}
 use Rattle.mesh_shell.specs.Laws.{AreWhole}
 use Rattle.mesh_shell.specs.Pieces.{pieces_within}
 use Rattle.mesh_shell.specs.Story.{whole}
-use Rattle.mesh_text.specs.Text.{pieces_of_input, text_of_input}
+use Rattle.mesh_text.specs.Text.{text_of_input}
 use Rattle.mesh_capture.specs.Captures.{capture_of}
-use Rattle.mesh_capture.specs.Runs.{frames_of_input, ShowsNoNode, file_of}
+use Rattle.mesh_capture.specs.Runs.{frames_of_input, file_of}
 use Rattle.mesh_capture.specs.declared.status.CaptureVerdict.TheVariants.{Done}
 use Rattle.mesh_capture.specs.declared.frame.Frame.{Frame}
 use Rattle.mesh_capture.specs.Frames.{words_sum, carry, header, datagram, pseudo_header, record_of, packet_size}
@@ -30,11 +30,10 @@ PacketsAreAsLongAsTheySay = (f : Frame) → length (record_of f) ≡ 16 + packet
 -- ---- the text of a run
 
 -- the text of a run has as its capture the packets of the copies that its events deliver and lose,
--- and no line of it is refused: where no line of its input shows a node, and neither a line of the
--- text nor the whole goes past its limit
+-- and no line of it is refused: where neither a line of the text nor the whole goes past its limit
 abbrev pub RunIsCaptured : Type 0
 RunIsCaptured = (variant : Variant) (input : List ℕ) →
     let text = whole (text_of_input variant input) in
-    ShowsNoNode (pieces_of_input input) → AreWhole (pieces_within text_limits text)
+    AreWhole (pieces_within text_limits text)
     → (whole (capture_of text) ≡ file_of (frames_of_input variant input))
     × ((capture_of text).verdict ≡ Done)

@@ -1,12 +1,10 @@
 -- The packets of a run: one for each copy that was heard or lost, of the event that has ended it.
-use Rattle.std.specs.Prelude.{ℕ, ◌≡◌, ◌+◌, Bool, true, false, List, [], ◌∷◌, ◌++◌, codes, Option, Some, None, ⊤}
+use Rattle.std.specs.Prelude.{ℕ, ◌+◌, Bool, true, false, List, [], ◌∷◌, ◌++◌, Option, Some, None}
 use Rattle.std.specs.List.{flat_map}
 use Rattle.mesh_base.specs.Meshes.{Nodes, addr_at}
 use Rattle.mesh_base.specs.declared.events.Variant.{Variant}
 use Rattle.mesh_model.specs.Worlds.{World, Copy, Event, Deliver, Lose, find_copy, step, after, start, first_numbers}
 use Rattle.mesh_meaning.specs.Packets.{packet_of}
-use Rattle.mesh_shell.specs.Pieces.{Piece, Whole, Long, Beyond}
-use Rattle.mesh_text.specs.Accounts.{begins}
 use Rattle.mesh_text.specs.Runs.{events_of_input, mesh_of_input}
 use Rattle.mesh_capture.specs.declared.frame.Frame.{Frame}
 use Rattle.mesh_capture.specs.Frames.{record_of, file_header}
@@ -44,13 +42,6 @@ abbrev pub frames_of_input : Variant → List ℕ → List Frame
 frames_of_input variant input =
     let mesh = mesh_of_input variant input in
     frames_from mesh 1 (start variant (first_numbers mesh)) (events_of_input variant input)
-
--- no line of an input shows a node
-abbrev pub ShowsNoNode : List Piece → Type 0
-ShowsNoNode [] = ⊤
-ShowsNoNode (Whole line ∷ pieces) = (begins (codes "show ") line ≡ false) × ShowsNoNode pieces
-ShowsNoNode (Long ∷ pieces) = ShowsNoNode pieces
-ShowsNoNode (Beyond ∷ pieces) = ShowsNoNode pieces
 
 -- the file that holds these packets
 abbrev pub file_of : List Frame → List ℕ

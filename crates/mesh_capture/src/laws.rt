@@ -17,7 +17,7 @@ pub fn packets_are_as_long_as_they_say()
 {}
 
 /// The text of a run has as its capture the packets of the copies that its events deliver and
-/// lose, and no line of it is refused, where no line of its input shows a node.
+/// lose, and no line of it is refused, where it is within the limits of a text.
 pub fn a_run_is_captured()
     ensures { RunIsCaptured }
 {}
