@@ -3,10 +3,9 @@ use Rattle.std.proofs.Common.{◌≡◌, ℕ, ◌≤◌, Bool, true, false, cond
 use Rattle.std.specs.Prelude.{nat_lt}
 use Rattle.std.specs.List.{AllByRecursion, flat_map}
 use Rattle.std.proofs.Math.Seq.{take_all}
-use Rattle.std.proofs.lemmas.Grind.{flat_map-append}
 use Rattle.std.proofs.lemmas.Bool.Decides.{nat_tests}
 use Rattle.mesh_base.specs.Parts.{parts}
-use Rattle.mesh_base.proofs.Spelling.{Lacks, parts_at, parts_none}
+use Rattle.mesh_base.proofs.Spelling.{parts_at, parts_none}
 use Rattle.mesh_grammar.specs.Written.{line}
 use Rattle.mesh_io.specs.declared.limits.Limits.{Limits}
 use Rattle.mesh_io.specs.NextLines.{text_limits}
@@ -19,7 +18,7 @@ use Rattle.mesh_capture.specs.declared.frame.Frame.{Frame}
 use Rattle.mesh_capture.specs.declared.status.CaptureVerdict.{CaptureVerdict}
 use Rattle.mesh_capture.specs.declared.status.CaptureVerdict.TheVariants.{Done}
 use Rattle.mesh_capture.specs.Captures.{capture, captured_after, framed_if, capture_of}
-use Rattle.mesh_capture.specs.Copies.{Reading, LineOutcome, nothing_read, after_line}
+use Rattle.mesh_capture.specs.Copies.{Reading, LineOutcome, nothing_read}
 use Rattle.mesh_capture.specs.Frames.{record_of, file_header}
 use Rattle.mesh_capture.specs.Runs.{file_of}
 use Rattle.mesh_capture.proofs.Told.{AreTaken, IsTold, frames_in}

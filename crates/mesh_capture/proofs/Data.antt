@@ -1,10 +1,10 @@
 -- Where no datum of a world passes a test, none does that a node takes or sends, or that a copy has.
-use Rattle.std.proofs.Common.{◌≡◌, ℕ, zero, suc, ◌+◌, ◌<◌, ◌≤◌, inl, inr, Bool, true, false, eqb, cond, ◌&&◌, List, [], ◌∷◌, Option, Some, None, length, refl, sym, ap, ◌∙◌, subst, arith}
+use Rattle.std.proofs.Common.{◌≡◌, ℕ, zero, suc, ◌+◌, ◌<◌, inl, inr, Bool, true, false, eqb, cond, ◌&&◌, List, [], ◌∷◌, Some, length, refl, sym, ap, ◌∙◌, arith}
 use Rattle.std.specs.Prelude.{slice_get}
 use Rattle.std.specs.FinMap as maps
 use Rattle.std.proofs.lemmas.Bool.{cases_eq}
 use Rattle.std.proofs.lemmas.Option.{same_Some, none-some, slice_get_within}
-use Rattle.aodv_model.specs.Cores.{Body, Item, Core, bodies_in, has_data}
+use Rattle.aodv_model.specs.Cores.{Body, bodies_in, has_data}
 use Rattle.aodv_model.specs.Handlers.{first_body, may_send}
 use Rattle.mesh_model.specs.Accounts.{Test, total, total_below, counts, in_copy, in_item, in_store, waiting, queued_data, in_flight}
 use Rattle.mesh_model.specs.Worlds.{World, Node, Copy, find_copy}

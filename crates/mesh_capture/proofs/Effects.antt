@@ -1,13 +1,13 @@
 -- The effects below an event: each is read below it, and the copies that they tell of join the flight and leave it.
-use Rattle.std.proofs.Common.{◌≡◌, ℕ, ◌+◌, ◌<◌, ◌≤◌, Bool, true, false, eqb, cond, not, ◌&&◌, ◌||◌, List, [], ◌∷◌, ◌++◌, codes, Option, Some, None, option_map, option_and_then, length, refl, sym, ap, subst, ◌∙◌, arith, append_assoc, append-nil, eq-eqb}
+use Rattle.std.proofs.Common.{◌≡◌, ℕ, ◌≤◌, Bool, true, false, eqb, cond, not, List, [], ◌∷◌, ◌++◌, codes, Option, Some, None, option_map, option_and_then, refl, sym, ap, ◌∙◌, arith, eq-eqb}
 use Rattle.std.specs.Prelude.{is_some}
-use Rattle.std.specs.List.{AllByRecursion, flat_map, list_all, join_with_byte}
+use Rattle.std.specs.List.{flat_map, list_all, join_with_byte}
 use Rattle.std.specs.Map.{remove_entry}
 use Rattle.std.specs.Ordering.{nat_cmp}
 use Rattle.std.specs.BTreeMap.{insert_entry, is_at}
 use Rattle.std.specs.Fmt.{decimal}
 use Rattle.std.proofs.lemmas.Bool.{and_from, and_parts}
-use Rattle.aodv_model.specs.Cores.{Body, Message, Pkt, Rreq, Rrep, Rerr}
+use Rattle.aodv_model.specs.Cores.{Body, Pkt, Rreq, Rrep, Rerr}
 use Rattle.aodv_model.specs.Handlers.{Took, Own, Stored, FromNeighbour}
 use Rattle.mesh_base.specs.Meshes.{Nodes, IsMesh, addr_at}
 use Rattle.mesh_base.specs.Parts.{parts}
@@ -19,17 +19,16 @@ use Rattle.mesh_grammar.specs.Commands.{greatest_id}
 use Rattle.mesh_grammar.specs.Words.{are_printable, is_text}
 use Rattle.mesh_grammar.specs.Written.{line, label_number}
 use Rattle.mesh_grammar.proofs.Readings.{is_text_if, three_texts}
-use Rattle.mesh_text.specs.Effects.{shown_byte, datum_text, datum_in, took_text, broken_text}
-use Rattle.mesh_text.specs.Lines.{name_of, hex}
-use Rattle.mesh_text.proofs.Clean.{is_clean, name_clean, decimal_clean, hex_clean, shown_clean, clean_append}
+use Rattle.mesh_text.specs.Effects.{shown_byte, datum_text, took_text, broken_text}
+use Rattle.mesh_text.specs.Lines.{name_of}
+use Rattle.mesh_text.proofs.Clean.{is_clean, name_clean, decimal_clean, shown_clean, clean_append}
 use Rattle.mesh_lines.specs.declared.below.Below.{Below}
 use Rattle.mesh_lines.specs.declared.below.Below.TheVariants as below
 use Rattle.mesh_lines.specs.declared.form.Field.TheVariants.{Address}
 use Rattle.mesh_lines.specs.Belows.{copy_words}
 use Rattle.mesh_lines.specs.Forms.{is_body}
-use Rattle.mesh_lines.specs.Lines.{is_taken_kind, is_of_cast, is_of_loss, address_in}
-use Rattle.mesh_capture.specs.declared.frame.Frame.{Frame}
-use Rattle.mesh_capture.specs.Copies.{Flying, Reading, LineOutcome, no_frame, copy_in, told_if, after_copy, with_copy, new_copy, doubled_copy, after_end, end_outcome, effect_below}
+use Rattle.mesh_lines.specs.Lines.{is_taken_kind, address_in}
+use Rattle.mesh_capture.specs.Copies.{Flying, Reading, no_frame, copy_in, told_if, after_copy, with_copy, doubled_copy, after_end, end_outcome, effect_below}
 use Rattle.mesh_capture.specs.Runs.{copy_frame}
 use Rattle.mesh_capture.proofs.EventLines.{ends_read, one_is, text_read}
 use Rattle.mesh_capture.proofs.Flights.{copy_found, absent, joined, left}

@@ -1,35 +1,32 @@
 -- The lines without two spaces before them: an event is read as itself, and any other line as what it shows.
-use Rattle.std.proofs.Common.{◌≡◌, ℕ, ◌+◌, ◌^◌, ◌<◌, ◌≤◌, Bool, true, false, cond, ◌&&◌, ◌||◌, List, [], ◌∷◌, ◌++◌, codes, Option, Some, None, option_map, option_and_then, length, refl, sym, ap, ◌∙◌, arith}
+use Rattle.std.proofs.Common.{◌≡◌, ℕ, ◌+◌, ◌^◌, ◌<◌, ◌≤◌, Bool, true, cond, ◌&&◌, List, [], ◌∷◌, ◌++◌, codes, Some, None, option_map, option_and_then, refl, ap, ◌∙◌, arith}
 use Rattle.std.specs.Prelude.{is_some}
 use Rattle.std.specs.Fmt.{decimal}
 use Rattle.std.proofs.lemmas.Bool.{and_from}
-use Rattle.mesh_base.specs.declared.limits.TheConstants.{MOST_EVENTS}
-use Rattle.mesh_base.specs.Addresses.{address_of, dotted_decimal}
+use Rattle.mesh_base.specs.Addresses.{address_of}
 use Rattle.mesh_base.specs.Meshes.{Nodes, IsMesh, addr_at}
-use Rattle.mesh_base.specs.Numbers.{number_up_to, positive}
 use Rattle.mesh_base.specs.Parts.{parts}
-use Rattle.mesh_base.proofs.Spelling.{Lacks, address_of-dotted, number_up_to-decimal, positive-decimal}
+use Rattle.mesh_base.proofs.Spelling.{Lacks, number_up_to-decimal, positive-decimal}
 use Rattle.mesh_model.specs.Worlds.{Event, Give, Turn, Send, Ask, Link, Cut, Deliver, Lose, Double}
-use Rattle.mesh_grammar.specs.Commands.{greatest_id}
-use Rattle.mesh_grammar.specs.Forms.{Arguments, NoArgument, OneAddress, TwoAddresses, OneNumber, NumberedAddress, AddressesAndText, greatest_first, IsText}
+use Rattle.mesh_grammar.specs.Forms.{Arguments, OneAddress, TwoAddresses, OneNumber, AddressesAndText, IsText}
 use Rattle.mesh_grammar.specs.Laws.{HaveAddresses}
 use Rattle.mesh_grammar.specs.Words.{is_text}
-use Rattle.mesh_grammar.specs.Written.{line, command_text, label_number}
+use Rattle.mesh_grammar.specs.Written.{line, command_text}
 use Rattle.mesh_grammar.proofs.Spellings.{words_in, HaveNumbers, words_written, text_is}
 use Rattle.mesh_text.specs.Lines.{name_of, event_words}
-use Rattle.mesh_text.specs.Ranges.{IsEventLine, IsNewNode}
-use Rattle.mesh_text.proofs.Clean.{is_clean, name_clean, decimal_clean, dotted_clean, clean_append, clean_body}
+use Rattle.mesh_text.specs.Ranges.{IsEventLine}
+use Rattle.mesh_text.proofs.Clean.{is_clean, name_clean, decimal_clean, clean_append, clean_body}
 use Rattle.mesh_lines.specs.declared.below.Below.{Below}
 use Rattle.mesh_lines.specs.declared.below.Below.TheVariants as below
 use Rattle.mesh_lines.specs.declared.form.Field.{Field}
-use Rattle.mesh_lines.specs.declared.form.Field.TheVariants.{Address, Positive, UpTo, Did, Sn}
+use Rattle.mesh_lines.specs.declared.form.Field.TheVariants.{Address, Positive, UpTo}
 use Rattle.mesh_lines.specs.Forms.{is_address, are, fits, text_behind, holds_of}
 use Rattle.mesh_lines.specs.Lines.{ends_of}
 use Rattle.mesh_lines.specs.Belows.{casting, event_by, other_by}
 use Rattle.mesh_lines.proofs.WordLaws.{text_of_ends}
 use Rattle.mesh_capture.specs.Copies.{Reading, after_outer, line_by, outer}
 use Rattle.mesh_capture.proofs.Told.{Stand, Reads, reading_of, reads_outer}
-use Rattle.mesh_capture.proofs.Words.{word_lacks, words_apart, name_lacks, name_read, is_name, number_lacks, number_read, address_fits}
+use Rattle.mesh_capture.proofs.Words.{word_lacks, name_read, is_name, number_read, address_fits}
 
 -- ---- words of each form
 

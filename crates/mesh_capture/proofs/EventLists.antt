@@ -4,7 +4,7 @@ use Rattle.mesh_base.specs.declared.events.Counter.{Counter}
 use Rattle.mesh_base.specs.Meshes.{Nodes}
 use Rattle.std.specs.Prelude.{slice_get}
 use Rattle.aodv_model.proofs.Entries.{if_case}
-use Rattle.aodv_model.specs.Cores.{Core, Item, New, Heard}
+use Rattle.aodv_model.specs.Cores.{New, Heard}
 use Rattle.mesh_io.specs.declared.limits.TheConstants.{LONGEST_TEXT}
 use Rattle.mesh_model.specs.Worlds as worlds
 use Rattle.mesh_model.specs.Worlds.{World, Node, Copy, Event, Give, Turn, Send, Ask, Link, Cut, Deliver, Lose, Double, Outcome, Idle, Next, Changed, CopyHeard, CopyLost, CopyDoubled, after, step, at_node, at_copy, find_copy, push, without_copy, with_double, is_parcel, with_link, without_link, are_linked}

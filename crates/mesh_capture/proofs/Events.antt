@@ -1,6 +1,6 @@
 -- An event of a run, as it is written, is read from the world before it to the world after it, and ends the copy that it delivers or loses.
-use Rattle.std.proofs.Common.{◌≡◌, ◌≢◌, ℕ, zero, suc, ◌+◌, ◌<◌, ◌≤◌, Bool, true, false, cond, List, [], ◌∷◌, ◌++◌, codes, Option, Some, None, length, refl, sym, ap, subst, ◌∙◌, arith, append-nil}
-use Rattle.std.specs.Prelude.{if◌then◌else◌, slice_get, ◌==◌}
+use Rattle.std.proofs.Common.{◌≡◌, ◌≢◌, ℕ, zero, suc, ◌+◌, ◌<◌, ◌≤◌, true, false, List, [], ◌∷◌, ◌++◌, codes, Option, Some, None, length, refl, sym, subst, arith}
+use Rattle.std.specs.Prelude.{slice_get, ◌==◌}
 use Rattle.std.proofs.lemmas.Option.{none-some, slice_get_within}
 use Rattle.aodv_model.proofs.Entries.{if_case}
 use Rattle.aodv_model.proofs.MeshNames.{turn_names_the_mesh, send_names_the_mesh, ask_names_the_mesh}
@@ -14,8 +14,8 @@ use Rattle.mesh_base.specs.Meshes.{Nodes, IsMesh, addr_at}
 use Rattle.mesh_grammar.specs.Commands.{greatest_id}
 use Rattle.mesh_grammar.specs.Written.{line}
 use Rattle.mesh_meaning.specs.Events.{node_of}
-use Rattle.mesh_model.specs.Accounts.{total, in_item, in_copy, in_message, in_taken, in_dropped, waiting, queued_data, in_flight, delivered_data, dropped_data}
-use Rattle.mesh_model.specs.Places.{IsInMesh, IsNodeInMesh, IsEvent, AreNumbered}
+use Rattle.mesh_model.specs.Accounts.{in_item, in_message, in_taken, in_dropped, waiting, queued_data, in_flight}
+use Rattle.mesh_model.specs.Places.{IsInMesh, IsNodeInMesh, IsEvent}
 use Rattle.mesh_model.specs.Worlds as worlds
 use Rattle.mesh_model.specs.Worlds.{World, Node, Copy, Event, Give, Turn, Send, Ask, Link, Cut, Deliver, Lose, Double, Outcome, Idle, Next, Happening, Changed, Taken, Sent, CopyHeard, CopyLost, CopyDoubled, after, step, at_node, at_copy, unless_full, turn_of, send_of, ask_of, done_by, push, with_item, without_copy, with_double, is_parcel, with_link, without_link, are_linked, range, copies, copies_of, receivers, members_below, find_copy}
 use Rattle.mesh_model.proofs.MeshSteps.{own}
@@ -33,7 +33,7 @@ use Rattle.mesh_capture.proofs.EventLines.{below_of, event_read}
 use Rattle.mesh_capture.proofs.Flights.{numbers_end}
 use Rattle.mesh_capture.proofs.Happenings.{IsReadable, packet_in, turn_reads, sent_reads}
 use Rattle.mesh_capture.proofs.PacketTexts.{strange, not_strange}
-use Rattle.mesh_capture.proofs.Told.{Stand, Reads, reads_none, reads_append}
+use Rattle.mesh_capture.proofs.Told.{Reads, reads_none, reads_append}
 
 -- a world of this mesh, in which each datum is one that a schedule may give
 pub record IsPlain (mesh : Nodes) (w : World) : Type 0 where

@@ -1,5 +1,5 @@
--- Every step keeps the hops of all entries and messages and the ids of all requests within their fields, and puts at most
--- one item into a queue.
+-- Every step keeps the hops of all entries and messages, and the ids of all requests, within their
+-- fields, and puts at most one item into a queue.
 use Rattle.std.proofs.Common.{◌≡◌, ℕ, zero, suc, ◌+◌, ◌≤◌, ◌==◌, List, [], ◌∷◌, ◌++◌, length, length-append, set, Some, None, Option, refl, subst, arith}
 use Rattle.std.specs.Prelude.{slice_get}
 use Rattle.std.specs.List.{AllByRecursion}

@@ -1,6 +1,6 @@
--- What a node does keeps the hops of its entries and the ids of the requests that it has seen within their fields, and
--- so are the hops and the ids of what it casts.
-use Rattle.std.proofs.Common.{◌≡◌, ◌≢◌, ◌⊎◌, inl, inr, ℕ, ◌+◌, ◌≤◌, Bool, true, false, not, ◌&&◌, ◌||◌, ◌==◌, Option, Some, None, is_some, refl, sym, ap, ◌∙◌, subst, arith}
+-- What a node does keeps the hops of its entries, and the ids of the requests that it has seen,
+-- within their fields. So are the hops and the ids of what it casts.
+use Rattle.std.proofs.Common.{◌≡◌, ◌≢◌, ℕ, ◌+◌, ◌≤◌, Bool, true, false, not, ◌&&◌, ◌||◌, ◌==◌, Option, Some, None, is_some, refl, sym, ap, ◌∙◌, subst, arith}
 use Rattle.std.specs.Prelude.{if◌then◌else◌, ⊤}
 use Rattle.std.specs.FinMap as maps
 use Rattle.std.specs.FinSet as sets
@@ -17,7 +17,7 @@ use Rattle.aodv_entry.specs.Quality.{inc}
 use Rattle.aodv_model.specs.Pairs.{Pairs, pair_cmp}
 use Rattle.aodv_model.specs.Tables.{Table, Dests, update, merge, invalidate, invalidated, add_pre, add_pre_at, in_vD, in_iD, nhop, dhops, hops_in, sqn, precs, unreachable_by}
 use Rattle.aodv_model.specs.Cores.{Body, RouteRequest, RouteReply, Message, Pkt, Rreq, Rrep, Rerr, Item, New, Heard, Core, SeenRequests, has_seen, last_request_id, next_request_id, opening}
-use Rattle.aodv_model.specs.Handlers.{Cast, Nothing, One, Many, All, Reaction, one, casting, plain, only, losing, losing_if_broken, broken_by, delivering, is_empty, is_error, precs_of, with_precs, error_cast, retract, link_broken, unicast, neighbour_entry, route_entry, after_hearing, on_new, data_error, on_pkt, key_of, after_request, reply_for_self, can_answer, join_answer_precursors, reply_from_table, forward_request, on_new_rreq, on_rreq, after_reply, is_stale, join_reply_precursors, forward_reply, forward_own_entry, reply_on, on_rrep, on_rerr, turn, drop_if_sent, send, fresh_id, ask}
+use Rattle.aodv_model.specs.Handlers.{Cast, Nothing, One, Many, All, Reaction, one, casting, plain, only, losing, losing_if_broken, broken_by, delivering, is_empty, is_error, precs_of, with_precs, error_cast, retract, link_broken, unicast, neighbour_entry, route_entry, after_hearing, on_new, data_error, on_pkt, key_of, after_request, reply_for_self, can_answer, join_answer_precursors, reply_from_table, forward_request, on_new_rreq, on_rreq, after_reply, is_stale, join_reply_precursors, forward_reply, forward_own_entry, reply_on, on_rrep, on_rerr, turn, send, fresh_id, ask}
 use Rattle.aodv_model.specs.Fullness.{greatest, greatest_hops, is_hop_full, is_number_full, after_learning, turn_full, ask_full}
 use Rattle.aodv_model.proofs.Changes.{after_by, mapped_each, update_each}
 use Rattle.aodv_model.proofs.Entries.{if_case}

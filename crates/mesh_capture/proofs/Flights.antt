@@ -1,5 +1,5 @@
 -- The flight that the lines tell is that of the world: a copy is found, joins it and leaves it in both.
-use Rattle.std.proofs.Common.{◌≡◌, ◌≢◌, ℕ, ◌+◌, ◌<◌, ◌≤◌, inl, inr, Bool, true, false, eqb, cond, not, List, [], ◌∷◌, ◌++◌, Option, Some, None, option_map, length, refl, sym, ap, ◌∙◌, arith, eq-eqb, Greater}
+use Rattle.std.proofs.Common.{◌≡◌, ℕ, ◌+◌, ◌<◌, ◌≤◌, inl, inr, Bool, true, false, eqb, cond, not, List, [], ◌∷◌, ◌++◌, Some, None, option_map, refl, sym, ap, ◌∙◌, arith, eq-eqb, Greater}
 use Rattle.std.specs.Prelude.{is_some}
 use Rattle.std.specs.Map.{remove_entry}
 use Rattle.std.specs.List.{filter}

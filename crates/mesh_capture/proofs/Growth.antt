@@ -1,6 +1,6 @@
 -- An event makes no more copies than its text has bytes.
-use Rattle.std.proofs.Common.{◌≡◌, ℕ, ◌+◌, ◌≤◌, List, [], ◌∷◌, ◌++◌, codes, Option, Some, None, length, length-append, refl, ap, arith}
-use Rattle.std.specs.Prelude.{if◌then◌else◌, slice_get}
+use Rattle.std.proofs.Common.{◌≡◌, ℕ, ◌+◌, ◌≤◌, List, [], ◌∷◌, ◌++◌, codes, Option, Some, None, length, length-append, refl, arith}
+use Rattle.std.specs.Prelude.{slice_get}
 use Rattle.aodv_model.proofs.Entries.{if_case}
 use Rattle.aodv_model.specs.Cores.{Core, Item, New, Heard}
 use Rattle.aodv_model.specs.Fullness.{turn_full, send_full, ask_full}
@@ -9,8 +9,7 @@ use Rattle.mesh_base.specs.declared.events.Counter.{Counter}
 use Rattle.mesh_base.specs.Meshes.{Nodes}
 use Rattle.mesh_grammar.specs.Written.{line, label_number}
 use Rattle.mesh_meaning.specs.Events.{node_of}
-use Rattle.mesh_model.specs.Worlds as worlds
-use Rattle.mesh_model.specs.Worlds.{World, Node, Copy, Event, Give, Turn, Send, Ask, Link, Cut, Deliver, Lose, Double, Outcome, Idle, Next, Happening, Changed, Taken, Sent, CopyHeard, CopyLost, CopyDoubled, after, step, at_node, at_copy, unless_full, turn_of, send_of, ask_of, done_by, push, with_item, without_copy, with_double, is_parcel, with_link, without_link, are_linked, range, copies, find_copy}
+use Rattle.mesh_model.specs.Worlds.{World, Node, Copy, Event, Give, Turn, Send, Ask, Link, Cut, Deliver, Lose, Double, Outcome, Idle, Next, Changed, Taken, Sent, CopyHeard, CopyLost, CopyDoubled, after, step, at_node, at_copy, unless_full, turn_of, send_of, ask_of, done_by, push, with_item, without_copy, with_double, is_parcel, with_link, without_link, are_linked, range, copies, find_copy}
 use Rattle.mesh_text.specs.Effects.{took_text, datum_fate, broken_text, cast_text, copies_text, sent_text, happening_text, outcome_text, outcome_lines}
 use Rattle.mesh_text.specs.Lines.{name_of, event_words}
 

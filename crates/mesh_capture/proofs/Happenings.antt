@@ -1,19 +1,18 @@
 -- What an event did, as it is written, leads from the flight before it to that after it.
-use Rattle.std.proofs.Common.{◌≡◌, ℕ, ◌+◌, ◌<◌, ◌≤◌, Bool, true, false, cond, ◌&&◌, ◌||◌, List, [], ◌∷◌, ◌++◌, codes, Option, Some, None, option_map, length, refl, sym, ap, subst, ◌∙◌, arith, append_assoc, append-nil}
+use Rattle.std.proofs.Common.{◌≡◌, ℕ, ◌+◌, ◌≤◌, true, false, cond, ◌||◌, List, [], ◌∷◌, ◌++◌, codes, Option, Some, None, option_map, length, refl, sym, ap, subst, ◌∙◌, arith, append_assoc, append-nil}
 use Rattle.std.specs.Prelude.{if◌then◌else◌}
-use Rattle.std.specs.List.{AllByRecursion}
-use Rattle.aodv_model.specs.Cores.{Body, Message, Pkt, Rreq, Rrep, Rerr}
+use Rattle.aodv_model.specs.Cores.{Message, Pkt, Rreq, Rrep, Rerr}
 use Rattle.aodv_model.specs.Handlers.{Cast, Nothing, One, Many, All, Effect, Took, Own, Stored, FromNeighbour}
-use Rattle.aodv_model.specs.Soundness.{IsCastInMesh, IsAimed, IsMessageInMesh}
+use Rattle.aodv_model.specs.Soundness.{IsCastInMesh, IsAimed}
 use Rattle.mesh_base.specs.Meshes.{Nodes, IsMesh, addr_at}
 use Rattle.mesh_base.specs.Parts.{parts}
 use Rattle.mesh_grammar.specs.Commands.{greatest_id}
 use Rattle.mesh_grammar.specs.Written.{line, label_number}
 use Rattle.mesh_meaning.specs.Packets.{packet_of}
-use Rattle.mesh_model.specs.Accounts.{in_message, in_taken, in_dropped}
+use Rattle.mesh_model.specs.Accounts.{in_taken, in_dropped}
 use Rattle.mesh_model.specs.Places.{AreNumbered}
 use Rattle.mesh_model.specs.Worlds.{Copy, copies_to, copies_of}
-use Rattle.mesh_text.specs.Effects.{datum_in, delivery_text, drop_text, datum_fate, broken_text, cast_text, copies_text, sent_text, set_text, took_text}
+use Rattle.mesh_text.specs.Effects.{delivery_text, drop_text, datum_fate, broken_text, cast_text, copies_text, sent_text, set_text, took_text}
 use Rattle.mesh_text.specs.Lines.{name_of, hex}
 use Rattle.mesh_text.proofs.Clean.{is_clean, name_clean, hex_clean, set_clean, clean_append}
 use Rattle.mesh_lines.specs.declared.below.Below.{Below}
@@ -25,7 +24,7 @@ use Rattle.mesh_capture.proofs.Effects.{stand, took_reads, delivered_reads, drop
 use Rattle.mesh_capture.proofs.Groups.{group_read, group_lacks}
 use Rattle.mesh_capture.proofs.Hexes.{IsPacketText, hex_lacks, packet_read}
 use Rattle.mesh_capture.proofs.PacketTexts.{strange, not_strange, packet_text}
-use Rattle.mesh_capture.proofs.Told.{Stand, Reads, reading_of, came, reads_none, reads_both, reads_if, reads_effect}
+use Rattle.mesh_capture.proofs.Told.{Stand, Reads, reading_of, reads_none, reads_both, reads_if, reads_effect}
 use Rattle.mesh_capture.proofs.Words.{word_lacks, words_apart, name_lacks, is_name}
 
 -- the packet of a cast

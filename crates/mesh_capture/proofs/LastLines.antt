@@ -1,7 +1,7 @@
 -- The last line of a run that a line or a full counter has ended is read as one.
-use Rattle.std.proofs.Common.{◌≡◌, ◌≢◌, ℕ, zero, suc, ◌+◌, ◌/◌, ◌%◌, ◌^◌, ◌<◌, ◌≤◌, Bool, true, false, eqb, cond, not, ◌&&◌, ◌||◌, List, [], ◌∷◌, ◌++◌, codes, Option, Some, None, option_map, length, get_or, take, drop, refl, sym, ap, ◌∙◌, arith, append_assoc}
+use Rattle.std.proofs.Common.{◌≡◌, ℕ, ◌/◌, ◌%◌, ◌^◌, ◌<◌, ◌≤◌, Bool, true, false, eqb, cond, ◌&&◌, ◌||◌, List, [], ◌∷◌, ◌++◌, codes, Some, None, option_map, get_or, refl, sym, ap, ◌∙◌, arith, append_assoc}
 use Rattle.std.specs.Prelude.{is_some}
-use Rattle.std.specs.List.{list_any, join_with_byte}
+use Rattle.std.specs.List.{list_any}
 use Rattle.std.specs.Fmt.{decimal, digits}
 use Rattle.std.specs.Str.Parse.{digits_value}
 use Rattle.std.proofs.lemmas.Bool.{and_from, ne_eqb}
@@ -22,8 +22,8 @@ use Rattle.mesh_grammar.specs.declared.fault.LineFault.TheVariants.{Word, Count,
 use Rattle.mesh_grammar.specs.declared.fault.Span.{Span}
 use Rattle.mesh_grammar.specs.Commands.{greatest_id}
 use Rattle.mesh_grammar.specs.Faults.{at_bytes, fault_text, why_text, bad_line}
-use Rattle.mesh_grammar.specs.Written.{line, label_number, command_text}
-use Rattle.mesh_model.specs.Worlds.{Event, Give, Turn, Send, Ask, Link, Cut, Deliver, Lose, Double}
+use Rattle.mesh_grammar.specs.Written.{command_text}
+use Rattle.mesh_model.specs.Worlds.{Event, Turn, Send, Ask}
 use Rattle.mesh_text.specs.Lines.{name_of, event_words, field_text, full_line}
 use Rattle.mesh_text.proofs.Clean.{is_clean, decimal_clean, name_clean, clean_append}
 use Rattle.mesh_lines.specs.declared.below.Below.TheVariants as below

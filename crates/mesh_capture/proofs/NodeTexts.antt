@@ -1,5 +1,5 @@
 -- What `show` writes of a node is read below it, where each of its numbers is within its field.
-use Rattle.std.proofs.Common.{◌≡◌, ℕ, ◌+◌, ◌^◌, ◌<◌, ◌≤◌, ◌⊎◌, inl, inr, Bool, true, false, ◌&&◌, ◌||◌, List, [], ◌∷◌, ◌++◌, codes, Option, Some, None, length, refl, sym, ap, ◌∙◌, subst, arith, append_assoc}
+use Rattle.std.proofs.Common.{◌≡◌, ℕ, ◌≤◌, inl, inr, Bool, true, false, ◌||◌, List, [], ◌∷◌, ◌++◌, codes, Some, None, length, refl, ap, ◌∙◌, arith, append_assoc}
 use Rattle.std.specs.List.{AllByRecursion, flat_map, join_with_byte}
 use Rattle.std.specs.Str.{bytes_eq}
 use Rattle.std.specs.Fmt.{decimal}
@@ -26,12 +26,12 @@ use Rattle.mesh_grammar.specs.Written.{line}
 use Rattle.mesh_model.specs.Worlds.{Copy}
 use Rattle.mesh_text.specs.Effects.{set_text, names}
 use Rattle.mesh_text.specs.Lines.{name_of}
-use Rattle.mesh_text.specs.Tables.{number_line, asked_line, asked_text, known_text, flag_text, entry_text, routes_text, req_text, waits_line, waits_text, store_text, node_text}
+use Rattle.mesh_text.specs.Tables.{number_line, asked_line, asked_text, known_text, flag_text, entry_text, routes_text, waits_line, waits_text, store_text, node_text}
 use Rattle.mesh_text.proofs.Clean.{is_clean, name_clean, decimal_clean, set_clean, clean_append}
 use Rattle.mesh_lines.specs.declared.below.Below.TheVariants as below
 use Rattle.mesh_lines.specs.declared.form.Field.TheVariants.{Address, UpTo, Positive, Known as KnownField, Flag as FlagField, Request, Precursors}
 use Rattle.mesh_lines.specs.declared.quiet.TheConstants.{MOST_HOPS}
-use Rattle.mesh_lines.specs.Forms.{are, are_addresses, fits}
+use Rattle.mesh_lines.specs.Forms.{are, fits}
 use Rattle.mesh_lines.specs.Lines.{number}
 use Rattle.mesh_capture.specs.Copies.{told_if}
 use Rattle.mesh_capture.proofs.Effects.{stand}

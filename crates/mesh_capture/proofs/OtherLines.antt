@@ -1,35 +1,30 @@
 -- The lines of a run that are no events: a node, a choice of events and its end, and those that show something.
-use Rattle.std.proofs.Common.{◌≡◌, ℕ, ◌+◌, ◌^◌, ◌<◌, ◌≤◌, Bool, true, false, cond, ◌&&◌, ◌||◌, List, [], ◌∷◌, ◌++◌, codes, Option, Some, None, length, refl, sym, ap, ap₂, ◌∙◌, arith}
+use Rattle.std.proofs.Common.{◌≡◌, ℕ, ◌≤◌, Bool, true, false, cond, ◌&&◌, ◌||◌, List, [], ◌∷◌, ◌++◌, codes, Some, None, refl, ap, ap₂, arith}
 use Rattle.std.specs.Prelude.{is_some}
-use Rattle.std.specs.List.{join_with_byte}
 use Rattle.std.specs.Fmt.{decimal}
-use Rattle.std.proofs.lemmas.Bool.{and_from}
 use Rattle.mesh_base.specs.declared.limits.TheConstants.{MOST_EVENTS}
 use Rattle.mesh_base.specs.Addresses.{dotted_decimal}
 use Rattle.mesh_base.specs.Meshes.{Nodes, IsMesh, addr_at}
 use Rattle.mesh_base.specs.Parts.{parts}
 use Rattle.mesh_base.proofs.Spelling.{Lacks, address_of-dotted}
-use Rattle.mesh_grammar.specs.Commands.{greatest_id}
 use Rattle.mesh_grammar.specs.Forms.{Arguments, NoArgument, OneAddress, TwoAddresses, OneNumber, NumberedAddress, greatest_first}
 use Rattle.mesh_grammar.specs.Laws.{HaveAddresses}
-use Rattle.mesh_grammar.specs.Written.{line, command_text, label_number}
+use Rattle.mesh_grammar.specs.Written.{line, command_text}
 use Rattle.mesh_grammar.proofs.Spellings.{words_in, HaveNumbers, words_written}
 use Rattle.mesh_text.specs.Auto.{auto_end}
 use Rattle.mesh_text.specs.Lines.{name_of, words_of}
 use Rattle.mesh_text.specs.Ranges.{IsNewNode}
-use Rattle.mesh_text.specs.Schedule.{AcceptedLine, NewNode, Chooses, ShowsNode, ShowsRoute, ShowsFlight}
-use Rattle.mesh_text.specs.Tables.{number_line, stuck_line, end_text}
+use Rattle.mesh_text.specs.Schedule.{NewNode, Chooses, ShowsNode, ShowsRoute, ShowsFlight}
 use Rattle.mesh_text.proofs.Clean.{is_clean, name_clean, decimal_clean, dotted_clean, clean_append}
 use Rattle.mesh_lines.specs.declared.below.Below.{Below}
 use Rattle.mesh_lines.specs.declared.below.Below.TheVariants as below
-use Rattle.mesh_lines.specs.declared.form.Field.TheVariants.{Address, Positive, UpTo, Did, Sn}
+use Rattle.mesh_lines.specs.declared.form.Field.TheVariants.{Address, Positive, UpTo, Did}
 use Rattle.mesh_lines.specs.Forms.{are, fits}
 use Rattle.mesh_lines.specs.Belows.{event_by, other_by}
-use Rattle.mesh_capture.specs.Copies.{Reading, after_outer, line_by, outer, told_if}
-use Rattle.mesh_capture.proofs.Effects.{stand}
-use Rattle.mesh_capture.proofs.EventLines.{one_is, two_are, names_are, number_fits, positive_fits}
-use Rattle.mesh_capture.proofs.Told.{Stand, Reads, reading_of, reads_outer, reads_effect}
-use Rattle.mesh_capture.proofs.Words.{word_lacks, words_apart, name_lacks, number_lacks, is_name, address_fits}
+use Rattle.mesh_capture.specs.Copies.{Reading, after_outer, line_by, outer}
+use Rattle.mesh_capture.proofs.EventLines.{one_is, names_are, number_fits, positive_fits}
+use Rattle.mesh_capture.proofs.Told.{Stand, Reads, reading_of, reads_outer}
+use Rattle.mesh_capture.proofs.Words.{word_lacks, words_apart, number_lacks, is_name, address_fits}
 
 -- another line, with this below it
 abbrev pub with_below : Stand → Below → Stand

@@ -1,12 +1,11 @@
 -- The packet of a message of the mesh is one that a text may hold.
-use Rattle.std.proofs.Common.{◌≡◌, ℕ, zero, suc, ◌+◌, ◌*◌, ◌<◌, ◌≤◌, Bool, true, false, cond, leb, not, ◌&&◌, List, [], ◌∷◌, ◌++◌, map, length, length-append, refl, ap, ◌∙◌, arith, inl, inr}
+use Rattle.std.proofs.Common.{◌≡◌, ℕ, zero, suc, ◌*◌, ◌<◌, ◌≤◌, Bool, true, false, cond, leb, not, ◌&&◌, List, [], ◌∷◌, length, length-append, refl, arith, inl, inr}
 use Rattle.std.specs.FinMap as maps
-use Rattle.std.specs.List.{AllByRecursion, flat_map}
-use Rattle.std.specs.Int.{byte_at}
+use Rattle.std.specs.List.{flat_map}
 use Rattle.byteorder.specs.Endian.{big_bytes}
 use Rattle.std.proofs.lemmas.Bool.{cases_lt, and_parts, leb-true}
 use Rattle.std.proofs.lemmas.List.{length-map}
-use Rattle.aodv_meaning.specs.Sent.{addr, rreq_of, rrep_of, pair_by_address, pairs_of, out_of}
+use Rattle.aodv_meaning.specs.Sent.{addr, rreq_of, rrep_of, pair_by_address, pairs_of}
 use Rattle.aodv_meaning.proofs.Writings.{destinations}
 use Rattle.aodv_model.specs.Cores.{Body, Message, Pkt, Rreq, Rrep, Rerr}
 use Rattle.aodv_model.specs.Soundness.{IsMessageInMesh}
@@ -18,7 +17,7 @@ use Rattle.aodv_wire.specs.RouteRequest as rreq
 use Rattle.aodv_wire.specs.DataPacket as data_packet
 use Rattle.aodv_wire.specs.Spells.{spelling}
 use Rattle.mesh_base.specs.declared.addr.Addr.{Addr}
-use Rattle.mesh_base.specs.declared.limits.TheConstants.{LONGEST_PACKET, MOST_NODES}
+use Rattle.mesh_base.specs.declared.limits.TheConstants.{MOST_NODES}
 use Rattle.mesh_base.specs.Meshes.{Nodes, IsMesh}
 use Rattle.mesh_grammar.specs.Words.{are_printable, is_text}
 use Rattle.mesh_meaning.specs.Packets.{packet_of}

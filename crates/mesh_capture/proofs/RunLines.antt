@@ -1,5 +1,5 @@
 -- The lines of a run: each line of its text is read.
-use Rattle.std.proofs.Common.{◌≡◌, ◌≢◌, ◌⊎◌, inl, inr, ℕ, zero, suc, ◌+◌, ◌<◌, ◌≤◌, Bool, true, false, List, [], ◌∷◌, ◌++◌, Option, Some, None, Result, Ok, Err, length, length-append, get_or, is_some, refl, sym, ap, ap₂, ◌∙◌, subst, arith, append_assoc, append-nil}
+use Rattle.std.proofs.Common.{◌≡◌, ℕ, zero, suc, ◌+◌, ◌<◌, ◌≤◌, List, [], ◌∷◌, ◌++◌, Option, Some, None, length, length-append, get_or, is_some, refl, sym, ap, ◌∙◌, subst, arith, append-nil}
 use Rattle.std.specs.Prelude.{slice_get}
 use Rattle.std.specs.Option.{unwrap_or}
 use Rattle.std.specs.List.{AllByRecursion}
@@ -7,10 +7,7 @@ use Rattle.std.proofs.lemmas.List.{get_or_default}
 use Rattle.std.proofs.lemmas.List.Elements.{recursion_from_All}
 use Rattle.aodv_model.specs.Fullness.{greatest}
 use Rattle.mesh_base.specs.declared.limits.TheConstants.{MOST_EVENTS}
-use Rattle.mesh_base.specs.declared.events.Variant.{Variant}
 use Rattle.mesh_base.specs.Meshes.{Nodes, IsMesh, first_at, with_node}
-use Rattle.mesh_grammar.specs.Commands.{greatest_id}
-use Rattle.mesh_grammar.specs.declared.fault.LineFault.{LineFault}
 use Rattle.mesh_grammar.specs.Written.{line}
 use Rattle.mesh_io.specs.declared.limits.TheConstants.{LONGEST_TEXT}
 use Rattle.mesh_model.specs.Accounts.{total, in_copy, waiting, queued_data, in_flight}
@@ -24,8 +21,6 @@ use Rattle.mesh_model.proofs.Honest.{start_trails}
 use Rattle.mesh_model.proofs.NumberSteps.{IsWithin, start_within}
 use Rattle.mesh_model.specs.Trails.{HasWalks}
 use Rattle.mesh_model.proofs.RouteEnds.{route_ends}
-use Rattle.mesh_shell.specs.Pieces.{Piece, Whole, Long, Beyond}
-use Rattle.mesh_shell.specs.Story as shell
 use Rattle.mesh_text.specs.Auto as auto
 use Rattle.mesh_text.specs.Auto.{event_then, choice_then, events_chosen}
 use Rattle.mesh_text.specs.Lines.{words_of}
@@ -37,18 +32,17 @@ use Rattle.mesh_text.specs.Text.{LineOutcome, On, Refused, Full, outcome_by_even
 use Rattle.mesh_text.proofs.Moments.{IsKept, IsKeptCame, counted_kept, started_kept, not_made}
 use Rattle.mesh_lines.specs.declared.below.Below.{Below}
 use Rattle.mesh_lines.specs.declared.below.Below.TheVariants as below
-use Rattle.mesh_capture.specs.declared.frame.Frame.{Frame}
 use Rattle.mesh_capture.specs.Runs.{frames_from}
 use Rattle.mesh_capture.proofs.Effects.{stand}
 use Rattle.mesh_capture.proofs.EventLists.{reading_at, ReadsTo, to_none, to_append, frames_of, IsAlong, IsRefused, RanTold, events_told}
 use Rattle.mesh_capture.proofs.FieldRuns.{AreFitting, start_fits}
 use Rattle.mesh_capture.proofs.LastLines.{IsNearWhy}
-use Rattle.mesh_capture.proofs.OtherLines.{with_below, auto_reads, auto_end_reads, node_line_reads, show_reads, route_reads, flight_reads}
+use Rattle.mesh_capture.proofs.OtherLines.{auto_reads, auto_end_reads, node_line_reads, show_reads, route_reads, flight_reads}
 use Rattle.mesh_capture.proofs.PacketTexts.{strange}
 use Rattle.mesh_capture.proofs.Shown.{hops_of, end_reads, flight_shown}
 use Rattle.mesh_capture.proofs.ShownNodes.{node_in_reads}
 use Rattle.mesh_capture.proofs.Steady.{IsSteady, later_steady, one_speaks, chosen_speak}
-use Rattle.mesh_capture.proofs.Told.{IsTold, Stand, Reads, flight_told}
+use Rattle.mesh_capture.proofs.Told.{IsTold, Stand, flight_told}
 
 -- ---- moments
 

@@ -1,39 +1,33 @@
 -- What `route` and `flight` show, and the last line of a run that has read its whole input.
-use Rattle.std.proofs.Common.{◌≡◌, ℕ, zero, suc, ◌+◌, ◌^◌, ◌<◌, ◌≤◌, Bool, true, false, eqb, cond, ◌&&◌, ◌||◌, List, [], ◌∷◌, ◌++◌, codes, Option, Some, None, option_map, option_and_then, length, refl, sym, ap, ap₂, ◌∙◌, subst, arith, append_assoc, eq-eqb}
-use Rattle.std.specs.List.{AllByRecursion, join_with_byte}
-use Rattle.std.specs.Str.{bytes_eq}
+use Rattle.std.proofs.Common.{◌≡◌, ℕ, ◌+◌, ◌≤◌, true, eqb, cond, ◌&&◌, List, [], ◌∷◌, ◌++◌, codes, Some, None, option_map, option_and_then, length, refl, sym, ap, ◌∙◌, subst, arith, append_assoc, eq-eqb}
+use Rattle.std.specs.List.{AllByRecursion}
 use Rattle.std.specs.Fmt.{decimal}
 use Rattle.std.proofs.lemmas.Bool.{and_from, ne_eqb}
 use Rattle.std.proofs.lemmas.Slice.Eq.{bytes_eq-Decides}
 use Rattle.mesh_base.specs.Meshes.{Nodes, IsMesh, addr_at}
 use Rattle.mesh_base.specs.Parts.{parts}
 use Rattle.mesh_grammar.specs.Commands.{greatest_id}
-use Rattle.mesh_grammar.specs.Written.{line, label_number}
 use Rattle.mesh_grammar.proofs.Readings.{three_texts}
 use Rattle.mesh_meaning.specs.Packets.{packet_of}
-use Rattle.mesh_model.specs.Accounts.{total, in_copy, in_message}
+use Rattle.mesh_model.specs.Accounts.{total, in_copy}
 use Rattle.mesh_model.specs.Places.{AreNumbered, IsCopyInMesh}
 use Rattle.mesh_model.specs.Routes.{End, Arrived, Stuck}
 use Rattle.mesh_model.specs.Worlds.{Copy, find_copy}
-use Rattle.mesh_text.specs.Lines.{name_of, hex, copied_words, summary_text}
-use Rattle.mesh_text.specs.Schedule.{Sums}
+use Rattle.mesh_text.specs.Lines.{name_of, hex}
 use Rattle.mesh_text.specs.Tables.{number_line, stuck_line, end_text, flying_text, flight_text}
-use Rattle.mesh_text.proofs.Clean.{is_clean, name_clean, decimal_clean, hex_clean, clean_append}
-use Rattle.mesh_lines.specs.declared.below.Below.{Below}
+use Rattle.mesh_text.proofs.Clean.{name_clean, decimal_clean, hex_clean, clean_append}
 use Rattle.mesh_lines.specs.declared.below.Below.TheVariants as below
-use Rattle.mesh_lines.specs.declared.form.Field.{Field}
 use Rattle.mesh_lines.specs.declared.form.Field.TheVariants.{Address}
-use Rattle.mesh_lines.specs.Belows.{number_of, event_by, other_by}
-use Rattle.mesh_lines.specs.Forms.{are, fits}
+use Rattle.mesh_lines.specs.Forms.{are}
 use Rattle.mesh_lines.specs.Lines.{number, ends_of}
 use Rattle.mesh_capture.specs.Copies as copies
 use Rattle.mesh_capture.specs.Copies.{Reading, told_if, copy_in, shown_as, shown_copy, is_same_copy, after_shown, with_shown}
 use Rattle.mesh_capture.proofs.Effects.{stand}
-use Rattle.mesh_capture.proofs.EventLines.{ends_read, one_is, two_are, number_fits, positive_fits}
+use Rattle.mesh_capture.proofs.EventLines.{ends_read, one_is, two_are, number_fits}
 use Rattle.mesh_capture.proofs.Flights.{copy_found, numbers_end}
 use Rattle.mesh_capture.proofs.Hexes.{IsPacketText, hex_lacks, packet_read}
 use Rattle.mesh_capture.proofs.PacketTexts.{strange, packet_text}
-use Rattle.mesh_capture.proofs.Told.{Stand, Reads, reading_of, came, copy_told, flight_told, reads_none, reads_both, reads_effect}
+use Rattle.mesh_capture.proofs.Told.{Stand, Reads, reading_of, copy_told, flight_told, reads_none, reads_both, reads_effect}
 use Rattle.mesh_capture.proofs.Words.{word_lacks, words_apart, name_lacks, number_lacks, is_name, number_read}
 
 -- a copy is found by its number, which is between those before it and the next

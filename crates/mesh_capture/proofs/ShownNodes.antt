@@ -1,11 +1,10 @@
 -- At each moment of a run what `show` writes of a node is read.
-use Rattle.std.proofs.Common.{◌≡◌, ℕ, zero, suc, ◌+◌, ◌<◌, ◌≤◌, inl, inr, List, [], ◌∷◌, Option, Some, None, length, refl, sym, ap, ◌∙◌, subst, arith}
+use Rattle.std.proofs.Common.{◌≡◌, ℕ, zero, suc, ◌<◌, ◌≤◌, inl, inr, List, [], ◌∷◌, Option, Some, None, length, refl, ap, arith}
 use Rattle.std.specs.Prelude.{slice_get}
 use Rattle.std.specs.FinMap as maps
 use Rattle.std.proofs.lemmas.Bool.{cases_eq}
-use Rattle.std.proofs.lemmas.Option.{none-some, same_Some, slice_get_within}
+use Rattle.std.proofs.lemmas.Option.{same_Some, slice_get_within}
 use Rattle.aodv_model.specs.Cores.{Body, Waiting, bodies_in}
-use Rattle.mesh_grammar.specs.Commands.{greatest_id}
 use Rattle.mesh_io.specs.declared.limits.TheConstants.{LONGEST_TEXT}
 use Rattle.mesh_model.specs.Accounts.{any, total, total_below, counts, in_store, waiting}
 use Rattle.mesh_model.specs.Worlds.{World, Node}

@@ -1,5 +1,5 @@
 -- The bytes that a fault of a line is about stand in the line.
-use Rattle.std.proofs.Common.{◌≡◌, ℕ, ◌+◌, ◌≤◌, Bool, true, false, eqb, cond, List, [], ◌∷◌, ◌++◌, codes, Option, Some, None, Result, Ok, Err, length, length-append, is_some, refl, sym, ap, ◌∙◌, subst, arith}
+use Rattle.std.proofs.Common.{◌≡◌, ℕ, ◌+◌, ◌≤◌, Bool, true, false, eqb, cond, List, [], ◌∷◌, codes, Option, Some, None, Result, Ok, Err, length, length-append, is_some, ap, subst, arith}
 use Rattle.std.specs.List.{join_with_byte}
 use Rattle.std.specs.Str.{bytes_eq}
 use Rattle.std.proofs.lemmas.List.Splits.{join_with_byte-slice_split}
@@ -11,14 +11,14 @@ use Rattle.mesh_grammar.specs.declared.command.Command.{Command}
 use Rattle.mesh_base.specs.declared.limits.TheConstants.{MOST_NODES}
 use Rattle.mesh_grammar.specs.declared.command.Command.TheVariants as command
 use Rattle.mesh_grammar.specs.declared.fault.LineFault.{LineFault}
-use Rattle.mesh_grammar.specs.declared.fault.LineFault.TheVariants.{Word, Count, BadAddress, BadNumber, BadText, Late, Early, TwiceNode, TooManyNodes, Unknown, Same}
+use Rattle.mesh_grammar.specs.declared.fault.LineFault.TheVariants.{Word, Count, BadAddress, BadNumber, BadText, TwiceNode, TooManyNodes, Unknown, Same}
 use Rattle.mesh_grammar.specs.declared.fault.Span.{Span}
 use Rattle.mesh_grammar.specs.declared.form.Form.{Form}
 use Rattle.mesh_grammar.specs.declared.form.Form.TheVariants as form
 use Rattle.mesh_grammar.specs.Commands.{schedule, shape_of}
 use Rattle.mesh_grammar.specs.Forms.{Arguments, NoArgument, OneAddress, TwoAddresses, OneNumber, NumberedAddress, AddressesAndText, AddressAndNumber, AddressAndText, greatest_first, address_sn, numbered_address, addresses_and_text, address_and_text, arguments_of}
 use Rattle.mesh_grammar.specs.Scripts.{Row, Shape, row_in, shape_with, by_row, by_words, shape_by}
-use Rattle.mesh_grammar.specs.Words.{Mention, span_at, next_at, with_argument, address_at, number_at, text_of, text_at, is_blank}
+use Rattle.mesh_grammar.specs.Words.{Mention, span_at, next_at, address_at, number_at, text_of, text_at, is_blank}
 use Rattle.mesh_grammar.proofs.Readings.{with_argument_case, if_case}
 use Rattle.mesh_model.specs.Worlds.{Link, Cut}
 use Rattle.mesh_text.specs.Schedule.{AcceptedLine, NewNode, Does, after_nodes, as_node, with_nodes, made_line, new_node, result_and_then, accepted_line, accepted_shape, line_of}

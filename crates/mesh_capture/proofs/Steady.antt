@@ -1,15 +1,13 @@
 -- What holds of each moment of a run whose text has had so many bytes, and which events are read from there on.
-use Rattle.std.proofs.Common.{◌≡◌, ◌≢◌, ◌⊎◌, inl, inr, ℕ, zero, suc, ◌+◌, ◌<◌, ◌≤◌, Bool, true, false, eqb, cond, not, List, [], ◌∷◌, ◌++◌, Option, Some, None, length, refl, sym, ap, ◌∙◌, subst, arith}
-use Rattle.std.proofs.lemmas.Option.{none-some, same_Some}
+use Rattle.std.proofs.Common.{◌≡◌, ◌≢◌, ◌⊎◌, inl, inr, ℕ, zero, suc, ◌+◌, ◌<◌, ◌≤◌, Bool, true, false, eqb, cond, not, List, [], ◌∷◌, Option, Some, None, length, refl, sym, ap, subst, arith}
+use Rattle.std.proofs.lemmas.Option.{none-some}
 use Rattle.std.proofs.lemmas.Bool.{eqb-true}
 use Rattle.aodv_model.specs.Cores.{Heard}
 use Rattle.mesh_base.specs.Meshes.{Nodes}
-use Rattle.mesh_grammar.specs.Commands.{greatest_id}
-use Rattle.mesh_grammar.specs.Forms.{IsText}
 use Rattle.mesh_grammar.specs.Words.{is_text}
 use Rattle.mesh_grammar.proofs.Spellings.{text_is}
 use Rattle.mesh_io.specs.declared.limits.TheConstants.{LONGEST_TEXT}
-use Rattle.mesh_model.specs.Accounts.{any, counts, if_goes, in_found, waiting, queued_data, in_flight, given_data, doubled_data}
+use Rattle.mesh_model.specs.Accounts.{counts, if_goes, in_found, waiting, queued_data, in_flight, given_data, doubled_data}
 use Rattle.mesh_model.specs.Choices.{pick, IsChoice}
 use Rattle.mesh_model.specs.Places.{IsInMesh, IsEvent, AreNumbered}
 use Rattle.mesh_model.specs.Worlds as worlds
@@ -31,8 +29,8 @@ use Rattle.mesh_capture.proofs.Flights.{numbers_end}
 use Rattle.mesh_capture.proofs.Growth.{event_pays, some_lines}
 use Rattle.mesh_capture.proofs.PacketTexts.{strange}
 
--- after a text of k bytes: no datum is strange, and there are no more copies and events than bytes; each number is within
--- its field, and no queue has more items than there were events
+-- after a text of k bytes: no datum is strange, and there are no more copies and events than bytes;
+-- each number is within its field, and no queue has more items than there were events
 pub record IsSteady (k : ℕ) (m : Moment) : Type 0 where
   pub kept : IsKept m
   pub texts : waiting strange (world_of m) + queued_data strange (world_of m) + in_flight strange (world_of m) ≡ 0

@@ -1,5 +1,5 @@
 -- The text of a run is read to its last line.
-use Rattle.std.proofs.Common.{◌≡◌, ◌≢◌, ◌⊎◌, inl, inr, ℕ, zero, suc, ◌+◌, ◌<◌, ◌≤◌, Bool, true, false, eqb, leb, ◌&&◌, take, List, [], ◌∷◌, ◌++◌, codes, Option, Some, None, Result, Ok, Err, length, length-append, is_some, refl, sym, ap, ap₂, ◌∙◌, subst, arith, append_assoc, append-nil}
+use Rattle.std.proofs.Common.{◌≡◌, ◌⊎◌, inl, inr, ℕ, ◌+◌, ◌≤◌, Bool, true, false, eqb, leb, ◌&&◌, take, List, [], ◌∷◌, ◌++◌, Result, Ok, Err, length, length-append, is_some, refl, sym, ap, ap₂, ◌∙◌, subst, arith, append_assoc, append-nil}
 use Rattle.std.specs.Prelude.{nat_lt}
 use Rattle.std.specs.List.{AllByRecursion}
 use Rattle.std.specs.Option.{unwrap_or}
@@ -11,7 +11,6 @@ use Rattle.aodv_model.proofs.Entries.{if_case}
 use Rattle.mesh_base.specs.declared.events.Counter.{Counter}
 use Rattle.mesh_base.specs.declared.limits.TheConstants.{LONGEST_LINE, LONGEST_INPUT}
 use Rattle.mesh_base.specs.Parts.{parts}
-use Rattle.mesh_base.specs.declared.events.Variant.{Variant}
 use Rattle.mesh_base.specs.Meshes.{Nodes, IsMesh}
 use Rattle.mesh_grammar.specs.Commands.{greatest_id}
 use Rattle.mesh_grammar.specs.declared.fault.BadWhy.{BadWhy}
@@ -23,14 +22,13 @@ use Rattle.mesh_io.specs.NextLines.{text_limits, schedule_limits}
 use Rattle.mesh_model.proofs.Lists.{each_map}
 use Rattle.mesh_model.specs.Worlds.{World, Event, start, first_numbers, run, after, step}
 use Rattle.mesh_model.specs.Accounts.{any, waiting, queued_data, in_flight}
-use Rattle.mesh_shell.specs.Laws.{AreWhole}
-use Rattle.mesh_shell.specs.Pieces.{Piece, Whole, Long, Beyond, piece_of, last_piece, pieces_of, pieces_within}
+use Rattle.mesh_shell.specs.Pieces.{Piece, Whole, Long, Beyond, piece_of, last_piece, pieces_of}
 use Rattle.mesh_shell.specs.Story as shell
 use Rattle.mesh_shell.specs.Story.{whole}
 use Rattle.mesh_text.specs.Lines.{done_line, full_line}
-use Rattle.mesh_text.specs.Runs.{events_of_line, events_read, events_of_piece, events_after, events_from, events_of_input, mesh_of_input}
+use Rattle.mesh_text.specs.Runs.{events_read, events_of_piece, events_after, events_from, events_of_input, mesh_of_input}
 use Rattle.mesh_text.specs.Schedule.{Moment, opening, AcceptedLine, line_of, world_of}
-use Rattle.mesh_text.specs.Text.{LineOutcome, On, Refused, Full, outcome_of_line, outcome_of_read, outcome_of_piece, pieces_of_input, RunText, goes_on, text_from, text_of_input}
+use Rattle.mesh_text.specs.Text.{LineOutcome, On, Refused, Full, outcome_of_read, outcome_of_piece, pieces_of_input, RunText, goes_on, text_from, text_of_input}
 use Rattle.mesh_text.proofs.InRange.{Allowed, line_allowed}
 use Rattle.mesh_text.proofs.Moments.{IsKept, IsKeptCame, opening_kept, piece_kept}
 use Rattle.mesh_text.proofs.RunLaws.{base, made_base, Quiet, IsRan, GoesBy, piece_goes, follows}
@@ -134,7 +132,8 @@ TextTold mesh m b text es = (j : ℕ) → (s : Reading) × IsTold (reading_at m 
 abbrev WholeTold : Nodes → Moment → Below → RunText → List Event → Type 0
 WholeTold mesh m b w es = TextTold mesh m b (whole w) es
 
--- the packets of a line's events, and then those of the others. Once there is a world the mesh stays
+-- the packets of a line's events, and then those of the others. Once there is a world, the mesh
+-- stays
 pub frames_then : (mesh : Nodes) (m n : Moment) (es more : List Event) → Quiet m n es ⊎ IsRan m n es → (is_some n.world ≡ true → mesh ≡ n.mesh) → frames_of m es ++ frames_to mesh n more ≡ frames_to mesh m (es ++ more)
 frames_then mesh m n es more (inl quiet) stays = quiet_frames mesh m n es more quiet
 frames_then mesh m n es more (inr ran) stays = ran_frames mesh m n es more (sym (stays ran.made ∙ ran.mesh)) ran
