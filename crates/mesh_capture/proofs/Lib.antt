@@ -30,3 +30,5 @@ pub mod FieldRuns
 pub mod Listings
 pub mod NodeTexts
 pub mod ShownNodes
+pub mod PlaceLines
+pub mod PlacedRuns

@@ -6,8 +6,9 @@ use Rattle.mesh_shell.specs.Laws.{AreWhole}
 use Rattle.mesh_shell.specs.Pieces.{pieces_within}
 use Rattle.mesh_shell.specs.Story.{whole}
 use Rattle.mesh_text.specs.Text.{text_of_input}
+use Rattle.mesh_grid.specs.Text as places
 use Rattle.mesh_capture.specs.Captures.{capture_of}
-use Rattle.mesh_capture.specs.Runs.{frames_of_input, file_of}
+use Rattle.mesh_capture.specs.Runs.{frames_of_input, frames_of_placed_input, file_of}
 use Rattle.mesh_capture.specs.declared.status.CaptureVerdict.TheVariants.{Done}
 use Rattle.mesh_capture.specs.declared.frame.Frame.{Frame}
 use Rattle.mesh_capture.specs.Frames.{words_sum, carry, header, datagram, pseudo_header, record_of, packet_size}
@@ -36,4 +37,13 @@ RunIsCaptured = (variant : Variant) (input : List ℕ) →
     let text = whole (text_of_input variant input) in
     AreWhole (pieces_within text_limits text)
     → (whole (capture_of text) ≡ file_of (frames_of_input variant input))
+    × ((capture_of text).verdict ≡ Done)
+
+-- so has the text of a run with places, whatever the reach: there each link that comes or goes is
+-- an event too
+abbrev pub RunWithPlacesIsCaptured : Type 0
+RunWithPlacesIsCaptured = (reach : ℕ) (variant : Variant) (input : List ℕ) →
+    let text = whole (places.text_of_input reach variant input) in
+    AreWhole (pieces_within text_limits text)
+    → (whole (capture_of text) ≡ file_of (frames_of_placed_input reach variant input))
     × ((capture_of text).verdict ≡ Done)

@@ -6,6 +6,7 @@ use Rattle.mesh_base.specs.declared.events.Variant.{Variant}
 use Rattle.mesh_model.specs.Worlds.{World, Copy, Event, Deliver, Lose, find_copy, step, after, start, first_numbers}
 use Rattle.mesh_meaning.specs.Packets.{packet_of}
 use Rattle.mesh_text.specs.Runs.{events_of_input, mesh_of_input}
+use Rattle.mesh_grid.specs.Runs as places
 use Rattle.mesh_capture.specs.declared.frame.Frame.{Frame}
 use Rattle.mesh_capture.specs.Frames.{record_of, file_header}
 
@@ -42,6 +43,13 @@ abbrev pub frames_of_input : Variant → List ℕ → List Frame
 frames_of_input variant input =
     let mesh = mesh_of_input variant input in
     frames_from mesh 1 (start variant (first_numbers mesh)) (events_of_input variant input)
+
+-- the same of an input with places: the links that come and go with them are events as well
+abbrev pub frames_of_placed_input : ℕ → Variant → List ℕ → List Frame
+frames_of_placed_input reach variant input =
+    let mesh = places.mesh_of_input reach variant input in
+    frames_from mesh 1 (start variant (first_numbers mesh))
+    (places.events_of_input reach variant input)
 
 -- the file that holds these packets
 abbrev pub file_of : List Frame → List ℕ
