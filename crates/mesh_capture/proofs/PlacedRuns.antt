@@ -1,33 +1,30 @@
 -- The text of a run with places is read to its last line.
-use Rattle.std.proofs.Common.{◌≡◌, ◌⊎◌, inl, inr, ℕ, zero, suc, ◌+◌, ◌<◌, ◌≤◌, Bool, true, false, cond, List, [], ◌∷◌, ◌++◌, codes, Option, Some, None, Result, Ok, Err, length, length-append, is_some, refl, sym, ap, subst, ◌∙◌, arith, append-nil}
+use Rattle.std.proofs.Common.{◌≡◌, inl, inr, ℕ, ◌+◌, ◌≤◌, Bool, true, false, cond, List, [], ◌∷◌, ◌++◌, codes, Option, Some, None, Result, Ok, Err, length, length-append, is_some, refl, sym, ap, subst, ◌∙◌, arith}
 use Rattle.std.specs.List.{AllByRecursion, flat_map}
 use Rattle.aodv_model.proofs.Entries.{if_case}
 use Rattle.mesh_base.specs.declared.limits.TheConstants.{LONGEST_LINE}
 use Rattle.mesh_base.specs.Meshes.{Nodes, IsMesh}
-use Rattle.mesh_base.specs.declared.events.Variant.{Variant}
 use Rattle.mesh_grammar.specs.Commands.{greatest_id}
 use Rattle.mesh_grammar.specs.Written.{line}
 use Rattle.mesh_grammar.specs.declared.fault.LineFault.{LineFault}
 use Rattle.mesh_io.specs.declared.limits.TheConstants.{LONGEST_TEXT}
 use Rattle.mesh_io.specs.NextLines.{text_limits}
-use Rattle.mesh_model.specs.Worlds.{World, Copy, Event, Give, Turn, Send, Ask, Link, Cut, Deliver, Lose, Double, Changed, Idle, Next, after, step, range, with_link, without_link, are_linked, start}
-use Rattle.mesh_shell.specs.Laws.{AreWhole}
-use Rattle.mesh_shell.specs.Pieces.{Piece, Whole, Long, Beyond, pieces_within}
+use Rattle.mesh_model.specs.Worlds.{World, Event, Give, Turn, Send, Ask, Link, Cut, Deliver, Lose, Double, Changed, Idle, Next, after, step, range, with_link, without_link, are_linked, start}
+use Rattle.mesh_shell.specs.Pieces.{Piece, Whole, Long, Beyond}
 use Rattle.mesh_shell.specs.Story as shell
 use Rattle.mesh_shell.specs.Story.{whole}
 use Rattle.mesh_text.specs.Lines.{event_words}
-use Rattle.mesh_text.specs.Runs.{events_read, events_after, moment_after}
+use Rattle.mesh_text.specs.Runs.{events_after, moment_after}
 use Rattle.mesh_text.specs.Schedule as schedule
 use Rattle.mesh_text.specs.Schedule.{AcceptedLine, line_of, world_of, next_moment, with_line_read}
 use Rattle.mesh_text.specs.Text as text
 use Rattle.mesh_text.specs.Text.{LineOutcome, On, Refused, Full, outcome_of_read, pieces_of_input}
-use Rattle.mesh_text.proofs.InRange.{Allowed}
 use Rattle.mesh_text.proofs.MomentLaws.{world_after_events, mesh_after_events, count_after_events}
 use Rattle.mesh_text.proofs.Moments.{IsKept, IsKeptCame, opening_kept}
 use Rattle.mesh_text.proofs.RunLaws.{GoesBy, result_goes}
 use Rattle.mesh_grid.specs.declared.line.Placing.{Placing}
 use Rattle.mesh_grid.specs.Links.{may_come}
-use Rattle.mesh_grid.specs.Lines.{placing_of, place_words}
+use Rattle.mesh_grid.specs.Lines.{placing_of}
 use Rattle.mesh_grid.specs.Runs.{events_by, events_of_piece, events_of_placing, events_from, events_of_input, mesh_of_input}
 use Rattle.mesh_grid.specs.Text.{Moment, opening, has_begun, changes, change_line, other_line, outcome_by, outcome_of_placing, outcome_of_piece, next, RunText, goes_on, text_from, text_of_input}
 use Rattle.mesh_grid.proofs.PlaceRuns.{other_allowed, piece_kept, run_in, run_follows}
@@ -39,8 +36,7 @@ use Rattle.mesh_capture.proofs.Captured.{captured, text_short}
 use Rattle.mesh_capture.proofs.Effects.{stand, idle_reads}
 use Rattle.mesh_capture.proofs.EventLists.{reading_at, ReadsTo, to_none, to_append, frames_of}
 use Rattle.mesh_capture.proofs.PlaceLines.{IsPlaceLine, PlacingTold, placing_told, place_reads, IsChange, AreChanges, change_reads, change_range, changes_are}
-use Rattle.mesh_capture.proofs.RunLines.{LineTold, counted_steady, fresh_steady, line_told}
-use Rattle.mesh_capture.proofs.Spans.{fault_near}
+use Rattle.mesh_capture.proofs.RunLines.{LineTold, counted_steady, fresh_steady}
 use Rattle.mesh_capture.proofs.Steady.{IsSteady, later_steady, next_steady}
 use Rattle.mesh_capture.proofs.Told.{IsTold, flight_told, reading_of}
 use Rattle.mesh_capture.proofs.WholeRuns.{IsShort, TextTold, then_told, input_short}
