@@ -32,3 +32,4 @@ pub mod NodeTexts
 pub mod ShownNodes
 pub mod PlaceLines
 pub mod PlacedRuns
+pub mod WatchedRuns

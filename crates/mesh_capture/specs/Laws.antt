@@ -6,6 +6,7 @@ use Rattle.mesh_shell.specs.Laws.{AreWhole}
 use Rattle.mesh_shell.specs.Pieces.{pieces_within}
 use Rattle.mesh_shell.specs.Story.{whole}
 use Rattle.mesh_text.specs.Text.{text_of_input}
+use Rattle.mesh_blocks.specs.Text.{watched_of_input}
 use Rattle.mesh_grid.specs.Text as places
 use Rattle.mesh_capture.specs.Captures.{capture_of}
 use Rattle.mesh_capture.specs.Runs.{frames_of_input, frames_of_placed_input, file_of}
@@ -35,6 +36,14 @@ PacketsAreAsLongAsTheySay = (f : Frame) → length (record_of f) ≡ 16 + packet
 abbrev pub RunIsCaptured : Type 0
 RunIsCaptured = (variant : Variant) (input : List ℕ) →
     let text = whole (text_of_input variant input) in
+    AreWhole (pieces_within text_limits text)
+    → (whole (capture_of text) ≡ file_of (frames_of_input variant input))
+    × ((capture_of text).verdict ≡ Done)
+
+-- so has the text of a watched run: its blocks tell of no copy, and none of their lines is refused
+abbrev pub WatchedRunIsCaptured : Type 0
+WatchedRunIsCaptured = (variant : Variant) (input : List ℕ) →
+    let text = whole (watched_of_input variant input) in
     AreWhole (pieces_within text_limits text)
     → (whole (capture_of text) ≡ file_of (frames_of_input variant input))
     × ((capture_of text).verdict ≡ Done)
