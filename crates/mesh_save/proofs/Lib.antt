@@ -5,8 +5,8 @@ mod Tables
 mod LinkRows
 mod Ids
 mod Finished
-mod FitsParts
-mod Fits
-mod FitsBody
+pub mod FitsParts
+pub mod Fits
+pub mod FitsBody
 mod Worlds
 mod Whole

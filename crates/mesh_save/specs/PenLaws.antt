@@ -3,7 +3,7 @@ use Rattle.std.proofs.Common.{◌≡◌, ℕ, Bool, true, false, List, [], ◌++
 use Rattle.std.proofs.lemmas.Bool.{true≢false}
 use Rattle.mesh_io.specs.Puts.{AppendsPrefix}
 use Rattle.mesh_io.proofs.Writing.{Appends-none, Appends-join, AppendsPrefix-join, AppendsPrefix-more}
-use Rattle.mesh_save.specs.Pens.{HasMeasured, HasFailed, HasWritten}
+use Rattle.mesh_save.specs.Pens.{HasMeasured, HasFailed, HasWritten, HasKept}
 
 pub measured_nothing : (n : ℕ) → HasMeasured n [] n
 measured_nothing n = omega arith
@@ -54,3 +54,13 @@ written_both false false false x y z l m n p q r a b one two =
       },
       two.1 ∙ one.1,
     )
+
+pub kept_nothing : (f : Bool) (p : List ℕ) → HasKept f f p p []
+kept_nothing f p going = (going, sym (append-nil p))
+
+pub kept_both : (f g h : Bool) (p q r a b : List ℕ)
+    → HasKept f g p q a → HasKept g h q r b → HasKept f h p r (a ++ b)
+kept_both f g h p q r a b one two going =
+    let back = two going in
+    let front = one back.0 in
+    (front.0, back.1 ∙ ap (λ (t : List ℕ). t ++ b) front.1 ∙ append_assoc p a b)

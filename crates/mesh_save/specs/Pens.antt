@@ -38,3 +38,8 @@ HasWritten false true before now m n gathered left text =
 abbrev pub IsPut : List ℕ → (failed : Bool) (before now : Option (List ℕ)) (m n : ℕ) → Type 0
 IsPut text false before now m n = Appends before now text × (n ≡ m)
 IsPut text true before now m n = AppendsPrefix before now text × HasFailed m n
+
+-- the text joined these bytes, unless memory ran out before or then
+abbrev pub HasKept : (failed fails : Bool) (before now text : List ℕ) → Type 0
+HasKept failed fails before now text =
+    fails ≡ false → (failed ≡ false) × (now ≡ before ++ text)

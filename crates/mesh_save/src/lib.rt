@@ -1,4 +1,4 @@
-//! Writing the checkpoint of a moment.
+//! Writing the checkpoint of a moment, and the bytes of one node.
 #![tactic(auto)]
 
 mod air;
@@ -6,10 +6,12 @@ mod body;
 mod fields;
 mod inbox;
 mod node;
+mod page;
 mod pen;
 mod requests;
 mod routes;
 mod saving;
 mod store;
 
+pub use page::append_node;
 pub use saving::{SaveError, save};
