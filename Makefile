@@ -16,7 +16,7 @@ bash = $(share)/bash-completion/completions
 zsh = $(share)/zsh/site-functions
 
 # The crates of the programs; the start script of mesh_cli is `mesh`.
-crates = mesh_cli mesh_capture mesh_check mesh_node mesh_places mesh_state mesh_watch mesh_why mesh_channel
+crates = mesh_cli mesh_capture mesh_check mesh_node mesh_places mesh_state mesh_watch mesh_why mesh_channel mesh_explore
 starts = $(crates:mesh_cli=mesh)
 pages = $(starts:=.1)
 

@@ -133,6 +133,7 @@ meaning_of() {
     mesh_node:8) echo "the port could not be opened, or a datagram could not be received or sent" ;;
     mesh_check:9) echo "the tables are not sound; the line names the first next hop that is no better" ;;
     mesh_state:9) echo "the input begins with no checkpoint from which a run can go on; the line above says why" ;;
+    mesh_explore:9) echo "the search stopped at so many worlds, and kinds of ends may be missing; --worlds N lets it go on" ;;
     mesh_state:10) echo "the checkpoint would be longer than 268435456 bytes" ;;
     *:132) echo "signal 4 ended it$(as_unproved)" ;;
     *:129 | *:13? | *:14? | *:15?) echo "a signal ended it (number $(($1 - 128)))" ;;
