@@ -186,8 +186,9 @@ def quoted(text: str) -> str:
     return "'" + text.replace("'", "''") + "'"
 
 
-def plot_script(points: Sequence[Point], file: str) -> str:
-    """What gnuplot is told: a line for each variant over the nodes, or without nodes one over the variants."""
+def plot_script(points: Sequence[Point], file: str, axis: Optional[str] = None) -> str:
+    """What gnuplot is told: a line for each variant over the nodes, or without nodes one over the variants. The axis
+    of these has that name, if it is given."""
     names = list(dict.fromkeys(it[0] for it in points))
     is_over_nodes, are_numbers = any(it[1] for it in points), all(order_of(it)[1] < math.inf for it in names)
     lines: Dict[str, List[Tuple[float, float, float]]] = collections.defaultdict(list)
@@ -196,7 +197,8 @@ def plot_script(points: Sequence[Point], file: str) -> str:
         lines[variant if is_over_nodes else ""].append((x, mean, half or 0))
     every = [it for line in lines.values() for it in line]
     said = ['set terminal svg size 720,480 background rgb "white"', f"set output {quoted(file)}"]
-    said += [f"set xlabel '{'nodes' if is_over_nodes else 'variant'}'", "set ylabel 'delivered, % of the data given'"]
+    name = axis or ("nodes" if is_over_nodes else "variant")
+    said += [f"set xlabel {quoted(name)} noenhanced", "set ylabel 'delivered, % of the data given'"]
     said += [f"set xrange {span(x for x, _, _ in every)}", "set key outside" if is_over_nodes else "unset key"]
     said += [f"set yrange {span(mean + sign * half for _, mean, half in every for sign in (1, -1))}"]
     how = "yerrorlines"
@@ -209,6 +211,6 @@ def plot_script(points: Sequence[Point], file: str) -> str:
     return "\n".join(said) + "\n"
 
 
-def plot(points: Sequence[Point], file: str) -> int:
+def plot(points: Sequence[Point], file: str, axis: Optional[str] = None) -> int:
     """Draws the delivered share by gnuplot; answers its status."""
-    return subprocess.run(["gnuplot"], input=plot_script(points, file), text=True).returncode
+    return subprocess.run(["gnuplot"], input=plot_script(points, file, axis), text=True).returncode
