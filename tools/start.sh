@@ -115,7 +115,7 @@ is_broken_pipe() {
 
 # What a status other than 0 of the program of this crate means (docs/FORMATS.md).
 meaning_of() {
-    case $crate:$1 in *:3 | *:4) set -- "$1${writes:+:$writes}" ;; esac
+    case $crate:$1 in *:3 | *:4 | mesh_explore:9 | mesh_explore:1[01]) set -- "$1${writes:+:$writes}" ;; esac
     case $crate:$1 in
     *:2) echo "the words are of no form; see $called --help" ;;
     mesh_check:3) echo "a line was refused; the line that is written says which" ;;
@@ -134,6 +134,9 @@ meaning_of() {
     mesh_check:9) echo "the tables are not sound; the line names the first next hop that is no better" ;;
     mesh_state:9) echo "the input begins with no checkpoint from which a run can go on; the line above says why" ;;
     mesh_explore:9) echo "the search stopped at so many worlds, and kinds of ends may be missing; --worlds N lets it go on" ;;
+    mesh_explore:9:*) echo "the search stopped at so many worlds with fewer kinds of ends; --worlds N lets it go on" ;;
+    mesh_explore:10:*) echo "there are fewer kinds of ends; without --end they are listed" ;;
+    mesh_explore:11:*) echo "no schedule was found that leads to this end, which should not be: please report it" ;;
     mesh_state:10) echo "the checkpoint would be longer than 268435456 bytes" ;;
     *:132) echo "signal 4 ended it$(as_unproved)" ;;
     *:129 | *:13? | *:14? | *:15?) echo "a signal ended it (number $(($1 - 128)))" ;;
@@ -152,7 +155,7 @@ tell_status() {
     case $status in
     0) return ;;
     3 | 4) [ -n "$writes" ] || [ -t 2 ] || return 0 ;;
-    9 | 10) [ -t 2 ] || return 0 ;;
+    9 | 10) [ -t 2 ] || [ "$crate${writes:+:}" = mesh_explore: ] || return 0 ;;
     6) ! is_broken_pipe || return 0 ;;
     esac
     echo "$called: status $status: $(meaning_of "$status")" >&2
