@@ -177,6 +177,15 @@ write_line() {
         echo "$called: no table was shown: the text has no line show ADDR (mesh run writes one for each line show)" >&2
 }
 
+# Tells each second how long the program has run, and in how much memory. What is written next stands in its place.
+tell_progress() {
+    seconds=0
+    while sleep 1 && [ -r "/proc/$child/status" ]; do
+        seconds=$((seconds + 1))
+        awk -v seconds="$seconds" '/^VmRSS:/ { printf "%d s, %d MB \r", seconds, $2 / 1024 }' "/proc/$child/status" >&2
+    done
+}
+
 # Runs the program, and tells what a status other than 0 means. A signal that ends this script ends the
 # program too.
 run_and_tell() {
@@ -187,6 +196,11 @@ run_and_tell() {
     "$program" "$@" <&3 3<&- >&4 4>&- 5<&- &
     child=$!
     exec 3<&- 4>&-
+    teller=
+    if [ -n "$searches" ] && [ -t 2 ]; then
+        tell_progress &
+        teller=$!
+    fi
     caught=
     for signal in HUP INT QUIT TERM; do
         # shellcheck disable=SC2064 # child and signal are meant as they are now
@@ -199,6 +213,7 @@ run_and_tell() {
         wait "$child"
         status=$?
     done
+    [ -z "$teller" ] || kill "$teller" 2>/dev/null
     if [ -n "$caught" ]; then
         trap - "$caught"
         kill -s "$caught" $$
@@ -245,13 +260,13 @@ main() {
 }
 
 # --- Words. A start script sets `call`, how it is called, `options`, what may stand first, in order, `operands`,
-# the names of the words behind that, `reads`, what it reads, `writes`, what it writes where that is no text, and
-# `runs`, its variant where it takes none.
+# the names of the words behind that, `reads`, what it reads, `writes`, what it writes where that is no text,
+# `runs`, its variant where it takes none, and `searches` where it may take long without a word.
 
 # The name of the script, or the command of `mesh` that starts it.
 called=${MESH_CALLED_AS:-${0##*/}}
 unset MESH_CALLED_AS
-call=$called options='' operands='' reads='' writes='' runs=''
+call=$called options='' operands='' reads='' writes='' runs='' searches=''
 variants='base number error reply'
 
 # The forms of the words, as `usage` has them, with the name that was called.
