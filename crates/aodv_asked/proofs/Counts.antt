@@ -1,5 +1,5 @@
 -- How many ids there are.
-use Rattle.std.proofs.Common.{◌≡◌, ◌<◌, ◌≤◌, ℕ, zero, suc, ◌+◌, ◌-◌, Bool, true, false, leb, ◌&&◌, ◌||◌, List, [], ◌∷◌, length, length-append, get_or, take, refl, sym, ap, subst, ◌∙◌, arith, inl, inr}
+use Rattle.std.proofs.Common.{◌≡◌, ◌<◌, ◌≤◌, ℕ, zero, suc, ◌+◌, ◌-◌, Bool, true, false, leb, ◌&&◌, ◌||◌, List, [], ◌∷◌, length, length-append, get_or, take, refl, sym, ap, ◌∙◌, arith, inl, inr}
 use Rattle.std.specs.Prelude.{min}
 use Rattle.std.specs.FinSet as sets
 use Rattle.std.proofs.lemmas.Bool.{cases_lt, le-leb, lt-leb}
@@ -10,18 +10,11 @@ use Rattle.aodv_asked.specs.declared.interval.Interval.{Interval}
 use Rattle.aodv_asked.specs.Insertions.{interval, interval_at, is_in}
 use Rattle.aodv_asked.specs.Intervals.{ids_in, AreApart, RoomyIds, IdSet}
 use Rattle.aodv_asked.specs.Requests.{ids_below, ids_beside}
+use Rattle.aodv_asked.specs.Spots.{width, total}
 use Rattle.aodv_asked.specs.Rows.{ids_at, pairs_of}
 use Rattle.aodv_asked.proofs.IntervalLaws.{contains-ids_in, is_in_after}
 use Rattle.aodv_asked.proofs.RowLaws.{shown}
 use Rattle.aodv_asked.proofs.Listed.{seen_below}
-
--- how many ids an interval has, and how many such a list has
-abbrev pub width : Interval → ℕ
-width v = v.last + 1 - v.first
-
-abbrev pub total : List Interval → ℕ
-total [] = 0
-total (v ∷ vs) = width v + total vs
 
 total_more : (vs : List Interval) (k : ℕ) (d : Interval) → k < length vs → total (take (suc k) vs) ≡ total (take k vs) + width (get_or vs k d)
 total_more [] k d lt = absurd (omega arith)
@@ -41,21 +34,12 @@ whole_interval lo [] k apart lt = absurd (omega arith)
 whole_interval lo (v ∷ vs) zero apart lt = apart.1
 whole_interval lo (v ∷ vs) (suc k) apart lt = whole_interval (v.last + 2) vs k apart.2 (omega arith)
 
--- the same of the intervals as they are read
-pub total_at : (xs vs : List Interval) (k : ℕ) → xs ≡ vs → AreApart 0 vs → k < length xs → ((interval_at xs k).first ≤ (interval_at xs k).last) × (total (take k xs) ≤ (interval_at xs k).first)
-total_at xs vs k is apart lt =
-    let here : AreApart 0 xs = subst (AreApart 0) (sym is) apart in
-    let whole = whole_interval 0 xs k here lt in
-    let low = total_before 0 xs k here lt in
-    (whole, omega (arith, low))
-
 -- one more of them
-pub total_next : (xs : List Interval) (k count more : ℕ) → k < length xs → count ≡ total (take k xs) → more ≡ width (interval_at xs k) → count + more ≡ total (take (k + 1) xs)
-total_next xs k count more lt is m =
+pub total_step : (xs : List Interval) (k : ℕ) → k < length xs → total (take (k + 1) xs) ≡ total (take k xs) + width (interval_at xs k)
+total_step xs k lt =
     let step = total_more xs k (interval 0 0) lt in
-    let up : suc k ≡ k + 1 = omega arith in
-    let same = ap (λ n. total (take n xs)) up in
-    omega (arith, step, same)
+    let up : k + 1 ≡ suc k = omega arith in
+    ap (λ n. total (take n xs)) up ∙ step
 
 -- all of them
 pub total_whole : (xs : List Interval) (k : ℕ) → length xs ≤ k → total (take k xs) ≡ total xs

@@ -1,5 +1,5 @@
 -- Which ids the intervals have, by a position among them.
-use Rattle.std.proofs.Common.{◌≡◌, ◌<◌, ◌≤◌, ℕ, zero, suc, ◌+◌, Bool, true, false, ltb, leb, ◌&&◌, ◌||◌, List, [], ◌∷◌, length, Some, None, refl, sym, ap, subst, ◌∙◌, arith, ◌⊎◌, inl, inr}
+use Rattle.std.proofs.Common.{◌≡◌, ◌<◌, ◌≤◌, ℕ, zero, suc, ◌+◌, Bool, true, false, ltb, leb, ◌&&◌, ◌||◌, List, [], ◌∷◌, length, Some, None, refl, sym, ap, ◌∙◌, arith, ◌⊎◌, inl, inr}
 use Rattle.std.specs.List.Sorted.{IsNonDecreasingBy}
 use Rattle.std.proofs.lemmas.Bool.{le-leb, lt-leb, cases_lt}
 use Rattle.std.proofs.lemmas.Bool.Decides.{nat_tests}
@@ -9,6 +9,7 @@ use Rattle.mesh_base.specs.Members.{IsLeastFrom}
 use Rattle.aodv_asked.specs.declared.interval.Interval.{Interval}
 use Rattle.aodv_asked.specs.Intervals.{ids_in, AreApart}
 use Rattle.aodv_asked.specs.Insertions.{interval, interval_at, is_in}
+use Rattle.aodv_asked.specs.Spots.{IsPosition}
 use Rattle.aodv_asked.proofs.IntervalLaws.{contains-ids_in}
 
 -- ---- the intervals rise
@@ -63,15 +64,6 @@ in_none (v ∷ vs) id none =
     and_false : (b : Bool) → ((b && false) || false) ≡ false
     and_false true = refl
     and_false false = refl
-
--- a position: the intervals before it end before `from`, the others don't
-pub record IsPosition (vs : List Interval) (from position : ℕ) : Type 0 where
-  pub within : position ≤ length vs
-  pub before : (i : ℕ) → i < position → (interval_at vs i).last < from
-  pub after : (i : ℕ) → position ≤ i → i < length vs → from ≤ (interval_at vs i).last
-
-pub position_along : (xs vs : List Interval) (from position : ℕ) → xs ≡ vs → position ≤ length xs → ((i : ℕ) → i < position → (interval_at xs i).last < from) → ((i : ℕ) → position ≤ i → i < length xs → from ≤ (interval_at xs i).last) → IsPosition vs from position
-position_along xs vs from position same within before after = subst (λ ys. IsPosition ys from position) same (record { within = within; before = before; after = after })
 
 -- no id from `from` on lies before the interval at the position
 none_early : (vs : List Interval) (from position id : ℕ) → AreApart 0 vs → IsPosition vs from position → from ≤ id → (position < length vs → id < (interval_at vs position).first) → contains (ids_in vs) id ≡ false

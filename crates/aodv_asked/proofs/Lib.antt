@@ -7,3 +7,5 @@ pub mod KeptLaws
 pub mod Counts
 pub mod Listed
 pub mod PairRows
+pub mod ChunkLaws
+pub mod ChunkFinds

@@ -62,24 +62,24 @@ put_within vs k q v apart before h at lo hi =
     sym (take-append-drop k vs) ∙ ap (λ (r : List Interval). take k vs ++ r) (drop_at vs k v h (at_any vs k v h at))
     ∙ sym (here vs k q v apart before h at ∙ ap (λ (r : List Interval). take k vs ++ r) (within v (drop (suc k) vs) q lo hi))
 
-set-remove_suc : (vs : List Interval) (k : ℕ) (x : Interval) → suc k < length vs → set (remove vs (suc k)) k x ≡ take k vs ++ x ∷ drop (suc (suc k)) vs
-set-remove_suc [] k x h = absurd (omega arith)
-set-remove_suc (v ∷ vs) zero x h = refl
-set-remove_suc (v ∷ vs) (suc k) x h = ap (λ (r : List Interval). v ∷ r) (set-remove_suc vs k x (omega arith))
+remove-set_suc : (vs : List Interval) (k : ℕ) (x : Interval) → suc k < length vs → remove (set vs k x) (suc k) ≡ take k vs ++ x ∷ drop (suc (suc k)) vs
+remove-set_suc [] k x h = absurd (omega arith)
+remove-set_suc (v ∷ vs) zero x h = refl
+remove-set_suc (v ∷ vs) (suc k) x h = ap (λ (r : List Interval). v ∷ r) (remove-set_suc vs k x (omega arith))
 
-set-remove : (vs : List Interval) (k : ℕ) (x : Interval) → k + 1 < length vs → set (remove vs (k + 1)) k x ≡ take k vs ++ x ∷ drop (k + 2) vs
-set-remove vs k x h =
+remove-set : (vs : List Interval) (k : ℕ) (x : Interval) → k + 1 < length vs → remove (set vs k x) (k + 1) ≡ take k vs ++ x ∷ drop (k + 2) vs
+remove-set vs k x h =
     let one : k + 1 ≡ suc k = omega arith in
     let two : suc (suc k) ≡ k + 2 = omega arith in
-    ap (λ (i : ℕ). set (remove vs i) k x) one ∙ set-remove_suc vs k x (omega arith) ∙ ap (λ (i : ℕ). take k vs ++ x ∷ drop i vs) two
+    ap (λ (i : ℕ). remove (set vs k x) i) one ∙ remove-set_suc vs k x (omega arith) ∙ ap (λ (i : ℕ). take k vs ++ x ∷ drop i vs) two
 
 pub put_both : (vs : List Interval) (k q : ℕ) (v w : Interval) → AreApart 0 vs → AllBefore (take k vs) q → k + 1 < length vs → IsAt vs k v → IsAt vs (k + 1) w → v.last < q → q ≤ v.last + 1 → q + 1 ≡ w.first
-    → set (remove vs (k + 1)) k (interval v.first w.last) ≡ with_id vs q
+    → remove (set vs k (interval v.first w.last)) (k + 1) ≡ with_id vs q
 put_both vs k q v w apart before h at next-at lt le e =
     let rest : drop (suc k) vs ≡ w ∷ drop (suc (suc k)) vs = drop_at vs (suc k) w (omega arith) (at_any vs (suc k) w (omega arith) (ap (λ (i : ℕ). get_or vs i (interval 0 0)) (omega arith) ∙ next-at)) in
     let two : k + 2 ≡ suc (suc k) = omega arith in
     let some = some_at vs k v apart (omega arith) at in
-    set-remove vs k (interval v.first w.last) h
+    remove-set vs k (interval v.first w.last) h
     ∙ ap (λ (i : ℕ). take k vs ++ interval v.first w.last ∷ drop i vs) two
     ∙ sym (here vs k q v apart before (omega arith) at ∙ ap (λ (r : List Interval). take k vs ++ with_id (v ∷ r) q) rest
     ∙ ap (λ (r : List Interval). take k vs ++ r) (behind v (w ∷ drop (suc (suc k)) vs) q some.0 (omega arith) ∙ rw (eq-eqb (q + 1) w.first e) refl))

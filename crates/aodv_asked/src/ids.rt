@@ -1,13 +1,14 @@
 //! Ids as rising intervals that neither meet nor adjoin.
-ghost use Rattle.std.specs.Prelude.{◌≡◌, ◌<◌, ◌≤◌, ◌+◌, ◌-◌, ◌⊎◌, ℕ, nat_lt, IsOk, OnOk, OnErr, IsTrue, length, insert};
+ghost use Rattle.std.specs.Prelude.{◌≡◌, ◌<◌, ◌≤◌, ◌+◌, ◌-◌, ◌⊎◌, ℕ, nat_lt, IsOk, OnOk, OnErr, IsTrue, length};
 ghost use Rattle.std.specs.FinSet as sets;
 ghost use Rattle.mesh_base.specs.Members.{IsLeastFrom, members_below};
 ghost use Rattle.aodv_model.specs.Soundness.{AreBelow};
 ghost use Rattle.aodv_asked.specs.Intervals.{AreApart, is_near_in, with_range};
-ghost use Rattle.aodv_asked.specs.Insertions.{interval, interval_at, with_id, is_near_to};
+ghost use Rattle.aodv_asked.specs.Insertions.{with_id, is_near_to};
+ghost use Rattle.aodv_asked.specs.Spots.{IsFirstFrom};
 ghost use Rattle.aodv_asked.specs.Tops.{with_interval, AreBefore, IsBehind};
 
-use crate::interval::{Interval, narrowed};
+use crate::interval::{Interval, Spot, narrowed};
 use crate::intervals::Intervals;
 use mesh_base::NoMemory;
 use std::alloc::Global;
@@ -36,26 +37,12 @@ impl Model for Ids {
     ghost invariant = { λ a. AreApart 0 a.intervals.items };
 }
 
-// How many intervals end before `from`: a binary search.
-fn count_before(intervals: &[Interval], from: u64) -> usize
-    requires { AreApart 0 intervals.now }
-    ensures within { result ≤ length intervals.now }
-    ensures before { (i : ℕ) → i < result → (interval_at intervals.now i).last < from }
-    ensures after { (i : ℕ) → result ≤ i → i < length intervals.now
-        → from ≤ (interval_at intervals.now i).last }
-{
-    intervals.partition_point(|v| u64::from(v.last) < from)
-}
-
 // The first interval that doesn't end before the id and apart from it.
-fn position_of(intervals: &[Interval], id: u32) -> usize
-    requires { AreApart 0 intervals.now }
-    ensures within { result ≤ length intervals.now }
-    ensures before { (i : ℕ) → i < result → (interval_at intervals.now i).last + 1 < id }
-    ensures here { result < length intervals.now
-        → id ≤ (interval_at intervals.now result).last + 1 }
+fn find_near(intervals: &Intervals, id: u32) -> Option<Spot>
+    requires { AreApart 0 intervals.now.items }
+    ensures { IsFirstFrom intervals.now (id - 1) result }
 {
-    count_before(intervals, u64::from(id.saturating_sub(1)))
+    intervals.find(u64::from(id.saturating_sub(1)))
 }
 
 // The intervals with one more id.
@@ -65,52 +52,52 @@ fn put(intervals: &mut Intervals, id: u32)
     ensures items { intervals.new.items ≡ with_id intervals.old.items id }
     ensures room { intervals.old.room ≤ intervals.new.room + 1 }
 {
-    let position = position_of(intervals.as_slice(), id);
-    let len = intervals.len();
-    if position == len {
-        put_new(intervals, position, id);
-        return;
+    match find_near(intervals, id) {
+        Some(spot) => put_from(intervals, spot, id),
+        None => intervals.push(Interval {
+            first: id,
+            last: id,
+        }),
     }
-    let here = intervals.as_slice()[position];
+}
+
+// The intervals with one more id, where the first that doesn't end before it and apart from it
+// stands at the spot.
+fn put_from(intervals: &mut Intervals, spot: Spot, id: u32)
+    requires apart { AreApart 0 intervals.old.items }
+    requires near { IsFirstFrom intervals.old (id - 1) (Some spot) }
+    requires room { (0 < intervals.old.room) ⊎ IsTrue (is_near_to intervals.old.items id) }
+    ensures items { intervals.new.items ≡ with_id intervals.old.items id }
+    ensures room { intervals.old.room ≤ intervals.new.room + 1 }
+{
+    let here = intervals.at(spot);
     let next = u64::from(id) + 1;
     if next < u64::from(here.first) {
-        put_new(intervals, position, id);
+        let first = id;
+        intervals.insert(spot, Interval { first, last: id });
         return;
     }
     if next == u64::from(here.first) {
-        intervals.set(position, Interval { first: id, ..here });
+        intervals.set(spot, Interval { first: id, ..here });
         return;
     }
     if id <= here.last {
         return;
     }
-    if position + 1 < len {
-        let after = intervals.as_slice()[position + 1];
-        if next == u64::from(after.first) {
-            let joined = Interval {
-                first: here.first,
-                last: after.last,
-            };
-            intervals.remove(position + 1);
-            intervals.set(position, joined);
-            return;
+    let longer = Interval { last: id, ..here };
+    match intervals.behind(spot) {
+        Some(behind) => {
+            let after = intervals.at(behind);
+            if next == u64::from(after.first) {
+                let last = after.last;
+                intervals.set(spot, Interval { last, ..here });
+                intervals.remove(behind);
+            } else {
+                intervals.set(spot, longer);
+            }
         }
+        None => intervals.set(spot, longer),
     }
-    intervals.set(position, Interval { last: id, ..here });
-}
-
-// One more interval, of this id alone, where there is room.
-fn put_new(intervals: &mut Intervals, position: usize, id: u32)
-    requires position { position ≤ length intervals.old.items }
-    requires room { 0 < intervals.old.room }
-    ensures items { intervals.new.items ≡ insert intervals.old.items position (interval id id) }
-    ensures room { intervals.old.room ≤ intervals.new.room + 1 }
-{
-    let only = Interval {
-        first: id,
-        last: id,
-    };
-    intervals.insert(position, only);
 }
 
 impl Ids {
@@ -147,9 +134,10 @@ impl Ids {
     pub(crate) fn has(&self, id: u32) -> bool
         ensures { result ≡ sets.contains self.now.ids id }
     {
-        let intervals = self.intervals.as_slice();
-        let position = count_before(intervals, u64::from(id));
-        position < intervals.len() && intervals[position].first <= id
+        match self.intervals.find(u64::from(id)) {
+            Some(spot) => self.intervals.at(spot).first <= id,
+            None => false,
+        }
     }
 
     /// Adds an id. It takes no memory.
@@ -181,16 +169,17 @@ impl Ids {
         ensures apart { AreBefore self.new.ids result }
         ensures room { self.old.room ≤ self.new.room }
     {
-        let len = self.intervals.len();
-        if len == 0 {
-            return id;
+        match self.intervals.last() {
+            Some(spot) => {
+                let last = self.intervals.at(spot);
+                if last.last + 1 < id {
+                    return id;
+                }
+                self.intervals.remove(spot);
+                last.first
+            }
+            None => id,
         }
-        let last = self.intervals.as_slice()[len - 1];
-        if last.last + 1 < id {
-            return id;
-        }
-        self.intervals.remove(len - 1);
-        last.first
     }
 
     /// Adds an id beside the ids here and those of `top`, the interval that stands behind them. It
@@ -231,20 +220,15 @@ impl Ids {
         ensures { (n : ℕ) → AreBelow n self.now.ids
             → result ≡ length (members_below n self.now.ids) }
     {
-        let mut count = 0;
-        for v in self.intervals.as_slice() {
-            count += u64::from(v.last - v.first) + 1;
-        }
-        count
+        self.intervals.count()
     }
 
     /// The least id that is not below `from`.
     pub(crate) fn least_from(&self, from: u64) -> Option<u32>
         ensures { IsLeastFrom self.now.ids from result }
     {
-        let intervals = self.intervals.as_slice();
-        let position = count_before(intervals, from);
-        let here = intervals.get(position)?;
+        let spot = self.intervals.find(from)?;
+        let here = self.intervals.at(spot);
         if from <= u64::from(here.first) {
             return Some(here.first);
         }

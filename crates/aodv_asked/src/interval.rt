@@ -1,7 +1,8 @@
 //! Intervals of ids.
 ghost use Rattle.std.specs.Prelude.{◌≡◌, ◌<◌, ◌≤◌, ◌+◌, ◌-◌, ◌⊎◌, IfSome, IsNone};
 ghost use Rattle.mesh_base.specs.Members.{IsLeastFrom};
-ghost use Rattle.aodv_asked.specs.Intervals.{IsGreatest};
+ghost use Rattle.aodv_asked.specs.Intervals.{AreApart, IsGreatest};
+ghost use Rattle.aodv_asked.specs.Spots.{IsPosition, total};
 ghost use Rattle.aodv_asked.specs.Tops.{no_top, ids_of, HasOneMore};
 
 /// The ids from `first` to `last`. Where there is none, `first` is 1 and `last` is 0.
@@ -9,6 +10,32 @@ ghost use Rattle.aodv_asked.specs.Tops.{no_top, ids_of, HasOneMore};
 pub(crate) struct Interval {
     pub(crate) first: u32,
     pub(crate) last: u32,
+}
+
+/// Where an interval of a list stands: its chunk, and its offset in that.
+#[derive(Clone, Copy)]
+pub(crate) struct Spot {
+    pub(crate) chunk: usize,
+    pub(crate) offset: usize,
+}
+
+/// How many intervals end before `from`: a binary search.
+pub(crate) fn count_before(intervals: &[Interval], from: u64) -> usize
+    requires { AreApart 0 intervals.now }
+    ensures { IsPosition intervals.now from result }
+{
+    intervals.partition_point(|v| u64::from(v.last) < from)
+}
+
+/// So many more than `count` as the intervals have ids. It looks at no id.
+pub(crate) fn count_on(mut count: u64, intervals: &[Interval]) -> u64
+    requires { AreApart count intervals.now }
+    ensures { result ≡ count + total intervals.now }
+{
+    for v in intervals {
+        count += u64::from(v.last - v.first) + 1;
+    }
+    count
 }
 
 /// A number that is at most this one of 32 bits.

@@ -1,19 +1,23 @@
 //! Lists of intervals of ids.
-ghost use Rattle.std.specs.Prelude.{◌≡◌, ◌<◌, ◌≤◌, ◌+◌, ◌++◌, ◌∷◌, [], length, nat_lt, insert, remove, slice_set, vec_len, vec_capacity, IfOk, IsOk, OnOk, OnErr};
+ghost use Rattle.std.specs.Prelude.{◌≡◌, ◌<◌, ◌≤◌, ◌+◌, ◌++◌, ◌∷◌, ℕ, [], length, nat_lt, insert, remove, slice_set, vec_len, vec_capacity, IfOk, IsOk, OnOk, OnErr};
+ghost use Rattle.aodv_asked.specs.Intervals.{AreApart};
+ghost use Rattle.aodv_asked.specs.Insertions.{interval_at};
+ghost use Rattle.aodv_asked.specs.Spots.{RoomyIntervals, position_of, IsThere, IsFirstFrom, IsBehindSpot, IsLastSpot, total};
 
-use crate::interval::Interval;
+use crate::chunks::{CHUNK, Chunks};
+use crate::interval::{Interval, Spot, count_before, count_on};
 use mesh_base::NoMemory;
 use std::alloc::Global;
 use std::marker::Model;
-use std::slice;
 
 /// Where the intervals of a list stand. One takes no memory, nor does room for it.
 #[derive(Drop)]
 enum Storage {
     Empty,
     One(Interval),
-    // It is boxed, so that a list takes 16 bytes.
-    Many(Box<Vec<Interval>>),
+    // These are boxed, so that a list takes 16 bytes. From `CHUNK` intervals on there are chunks.
+    Few(Box<Vec<Interval>>),
+    Many(Box<Chunks>),
 }
 
 /// A list of intervals. Most lists are empty, and few have more than one.
@@ -23,7 +27,8 @@ pub(crate) struct Intervals {
 }
 
 impl Model for Intervals {
-    ghost use Rattle.aodv_asked.specs.Storage.{RoomyIntervals, stored};
+    ghost use Rattle.aodv_asked.specs.Spots.{RoomyIntervals};
+    ghost use Rattle.aodv_asked.specs.Storage.{stored};
 
     ghost Value = { RoomyIntervals };
 
@@ -51,25 +56,85 @@ impl Intervals {
         }
     }
 
-    /// The intervals.
-    pub(crate) fn as_slice(&self) -> &[Interval]
-        ensures { result.now ≡ self.now.items }
+    /// The first interval that doesn't end before `from`: a binary search.
+    pub(crate) fn find(&self, from: u64) -> Option<Spot>
+        requires { AreApart 0 self.now.items }
+        ensures { IsFirstFrom self.now from result }
     {
         match &self.storage {
-            Storage::Empty => &[],
-            Storage::One(only) => slice::from_ref(only),
-            Storage::Many(intervals) => intervals.as_slice(),
+            Storage::Empty => None,
+            Storage::One(only) => {
+                if u64::from(only.last) < from {
+                    return None;
+                }
+                Some(Spot {
+                    chunk: 0,
+                    offset: 0,
+                })
+            }
+            Storage::Few(intervals) => {
+                let offset = count_before(intervals.as_slice(), from);
+                if offset == intervals.len() {
+                    return None;
+                }
+                Some(Spot { chunk: 0, offset })
+            }
+            Storage::Many(chunks) => chunks.find(from),
         }
     }
 
-    /// The number of intervals.
-    pub(crate) fn len(&self) -> usize
-        ensures { result ≡ length self.now.items }
+    /// The last interval.
+    pub(crate) fn last(&self) -> Option<Spot>
+        ensures { IsLastSpot self.now result }
     {
         match &self.storage {
-            Storage::Empty => 0,
-            Storage::One(_) => 1,
-            Storage::Many(intervals) => intervals.len(),
+            Storage::Empty => None,
+            Storage::One(_) => Some(Spot {
+                chunk: 0,
+                offset: 0,
+            }),
+            Storage::Few(intervals) => {
+                let len = intervals.len();
+                if len == 0 {
+                    return None;
+                }
+                Some(Spot {
+                    chunk: 0,
+                    offset: len - 1,
+                })
+            }
+            Storage::Many(chunks) => chunks.last(),
+        }
+    }
+
+    /// The interval behind the one at a spot.
+    pub(crate) fn behind(&self, spot: Spot) -> Option<Spot>
+        requires { IsThere self.now spot }
+        ensures { IsBehindSpot self.now spot result }
+    {
+        match &self.storage {
+            Storage::Empty | Storage::One(_) => None,
+            Storage::Few(intervals) => {
+                let offset = spot.offset + 1;
+                if offset == intervals.len() {
+                    return None;
+                }
+                Some(Spot { chunk: 0, offset })
+            }
+            Storage::Many(chunks) => chunks.behind(spot),
+        }
+    }
+
+    /// The interval at a spot.
+    pub(crate) fn at(&self, spot: Spot) -> Interval
+        requires { IsThere self.now spot }
+        ensures { result ≡ interval_at self.now.items (position_of self.now spot) }
+    {
+        match &self.storage {
+            Storage::Empty => unreachable!(),
+            Storage::One(only) => *only,
+            Storage::Few(intervals) => intervals[spot.offset],
+            Storage::Many(chunks) => chunks.at(spot),
         }
     }
 
@@ -80,7 +145,8 @@ impl Intervals {
         match &self.storage {
             Storage::Empty => true,
             Storage::One(_) => false,
-            Storage::Many(intervals) => intervals.len() < intervals.capacity(),
+            Storage::Few(intervals) => intervals.len() < intervals.capacity(),
+            Storage::Many(chunks) => chunks.has_room(),
         }
     }
 
@@ -99,31 +165,37 @@ impl Intervals {
             Storage::Empty => {}
             Storage::One(only) => {
                 let first = *only;
-                self.storage = Storage::Many(memory_with(alloc, first)?);
+                self.storage = Storage::Few(memory_with(alloc, first)?);
             }
-            Storage::Many(intervals) => {
-                if intervals.len() == intervals.capacity() {
-                    intervals.reserve(1)?;
+            Storage::Few(intervals) => {
+                if intervals.len() < intervals.capacity() {
+                    return Ok(());
                 }
+                if intervals.len() < CHUNK {
+                    intervals.reserve(1)?;
+                    return Ok(());
+                }
+                self.storage = Storage::Many(Chunks::of_full(alloc, intervals)?);
             }
+            Storage::Many(chunks) => chunks.make_room(alloc)?,
         }
         Ok(())
     }
 
-    /// Puts an interval at the position, before those from there on.
-    pub(crate) fn insert(&mut self, position: usize, v: Interval)
-        requires position { position ≤ length self.old.items }
+    /// Puts an interval before the one at a spot.
+    pub(crate) fn insert(&mut self, spot: Spot, v: Interval)
+        requires spot { IsThere self.old spot }
         requires room { 0 < self.old.room }
-        ensures items { self.new.items ≡ insert self.old.items position v }
-        ensures room { self.old.room ≡ self.new.room + 1 }
+        ensures items { self.new.items ≡ insert self.old.items (position_of self.old spot) v }
+        ensures room { self.old.room ≤ self.new.room + 1 }
     {
         match &mut self.storage {
-            Storage::Empty => self.storage = Storage::One(v),
-            Storage::One(_) => unreachable!(),
-            Storage::Many(intervals) => match intervals.insert(position, v) {
+            Storage::Empty | Storage::One(_) => unreachable!(),
+            Storage::Few(intervals) => match intervals.insert(spot.offset, v) {
                 Ok(()) => {}
                 Err(_) => unreachable!(),
             },
+            Storage::Many(chunks) => chunks.insert(spot, v),
         }
     }
 
@@ -131,40 +203,57 @@ impl Intervals {
     pub(crate) fn push(&mut self, v: Interval)
         requires { 0 < self.old.room }
         ensures items { self.new.items ≡ self.old.items ++ v ∷ [] }
-        ensures room { self.old.room ≡ self.new.room + 1 }
+        ensures room { self.old.room ≤ self.new.room + 1 }
     {
         match &mut self.storage {
             Storage::Empty => self.storage = Storage::One(v),
             Storage::One(_) => unreachable!(),
-            Storage::Many(intervals) => intervals.push_reserved(v),
+            Storage::Few(intervals) => intervals.push_reserved(v),
+            Storage::Many(chunks) => chunks.push(v),
         }
     }
 
-    /// Puts an interval at the position, where another was.
-    pub(crate) fn set(&mut self, position: usize, v: Interval)
-        requires { position < length self.old.items }
-        ensures items { self.new.items ≡ slice_set self.old.items position v }
+    /// Puts an interval at a spot, where another was.
+    pub(crate) fn set(&mut self, spot: Spot, v: Interval)
+        requires { IsThere self.old spot }
+        ensures items { self.new.items ≡ slice_set self.old.items (position_of self.old spot) v }
         ensures room { self.new.room ≡ self.old.room }
+        ensures lengths { self.new.lengths ≡ self.old.lengths }
     {
         match &mut self.storage {
             Storage::Empty => unreachable!(),
             Storage::One(only) => *only = v,
-            Storage::Many(intervals) => intervals[position] = v,
+            Storage::Few(intervals) => intervals[spot.offset] = v,
+            Storage::Many(chunks) => chunks.set(spot, v),
         }
     }
 
-    /// Takes the interval at the position away.
-    pub(crate) fn remove(&mut self, position: usize)
-        requires { position < length self.old.items }
-        ensures items { self.new.items ≡ remove self.old.items position }
-        ensures room { self.new.room ≡ self.old.room + 1 }
+    /// Takes the interval at a spot away.
+    pub(crate) fn remove(&mut self, spot: Spot)
+        requires { IsThere self.old spot }
+        ensures items { self.new.items ≡ remove self.old.items (position_of self.old spot) }
+        ensures room { self.old.room ≤ self.new.room }
     {
         match &mut self.storage {
             Storage::Empty => unreachable!(),
             Storage::One(_) => self.storage = Storage::Empty,
-            Storage::Many(intervals) => {
-                intervals.remove(position);
+            Storage::Few(intervals) => {
+                intervals.remove(spot.offset);
             }
+            Storage::Many(chunks) => chunks.remove(spot),
+        }
+    }
+
+    /// How many ids there are. It looks at each interval once, and at no id.
+    pub(crate) fn count(&self) -> u64
+        requires { AreApart 0 self.now.items }
+        ensures { result ≡ total self.now.items }
+    {
+        match &self.storage {
+            Storage::Empty => 0,
+            Storage::One(only) => only.count(),
+            Storage::Few(intervals) => count_on(0, intervals.as_slice()),
+            Storage::Many(chunks) => chunks.count(),
         }
     }
 }

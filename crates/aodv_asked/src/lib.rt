@@ -4,6 +4,7 @@
 #![tactic(auto)]
 
 mod asked;
+mod chunks;
 mod ids;
 mod interval;
 mod intervals;

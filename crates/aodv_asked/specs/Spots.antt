@@ -1,0 +1,67 @@
+-- Where the intervals of a list stand: a chunk, and an offset in it.
+use Rattle.std.specs.Prelude.{◌≡◌, ◌<◌, ◌≤◌, ℕ, zero, suc, ◌+◌, ◌-◌, if◌then◌else◌, nat_lt, List, [], ◌∷◌, length, Option, Some, None}
+use Rattle.aodv_asked.specs.declared.interval.Interval.{Interval}
+use Rattle.aodv_asked.specs.declared.interval.Spot.{Spot}
+use Rattle.aodv_asked.specs.Insertions.{interval_at}
+
+-- what is seen of a list: the intervals, for how many more there is room, and how many each chunk
+-- has, or nothing where they are in no chunks
+pub record RoomyIntervals : Type 0 where
+  pub items : List Interval
+  pub room : ℕ
+  pub lengths : List ℕ
+
+-- how many all chunks have
+abbrev pub all_of : List ℕ → ℕ
+all_of [] = 0
+all_of (n ∷ ns) = n + all_of ns
+
+-- the position in the whole list of what stands at an offset in the chunk k, where the chunks have
+-- so many; with no chunks it is the offset
+abbrev pub place : List ℕ → ℕ → ℕ → ℕ
+place [] k o = o
+place (n ∷ ns) zero o = if nat_lt o n then o else n + all_of ns
+place (n ∷ ns) (suc k) o = n + place ns k o
+
+-- the position of a spot
+abbrev pub position_of : RoomyIntervals → Spot → ℕ
+position_of vs s = place vs.lengths s.chunk s.offset
+
+-- an interval stands at the spot
+abbrev pub IsThere : RoomyIntervals → Spot → Type 0
+IsThere vs s = position_of vs s < length vs.items
+
+-- a position: the intervals before it end before `from`, the others don't
+pub record IsPosition (vs : List Interval) (from position : ℕ) : Type 0 where
+  pub within : position ≤ length vs
+  pub before : (i : ℕ) → i < position → (interval_at vs i).last < from
+  pub after : (i : ℕ) → position ≤ i → i < length vs → from ≤ (interval_at vs i).last
+
+-- the spot of the first interval that doesn't end before `from`
+abbrev pub IsFirstFrom : RoomyIntervals → ℕ → Option Spot → Type 0
+IsFirstFrom vs from None = IsPosition vs.items from (length vs.items)
+IsFirstFrom vs from (Some s) =
+    IsPosition vs.items from (position_of vs s) × IsThere vs s
+
+-- the spot of the interval behind the one at a spot
+abbrev pub IsBehindSpot : RoomyIntervals → Spot → Option Spot → Type 0
+IsBehindSpot vs s None = length vs.items ≡ position_of vs s + 1
+IsBehindSpot vs s (Some next) =
+    (position_of vs next ≡ position_of vs s + 1) × IsThere vs next
+
+-- the spot of the last interval
+abbrev pub IsLastSpot : RoomyIntervals → Option Spot → Type 0
+IsLastSpot vs None = length vs.items ≡ 0
+IsLastSpot vs (Some s) = position_of vs s + 1 ≡ length vs.items
+
+-- how many ids an interval has, and how many such a list has
+abbrev pub width : Interval → ℕ
+width v = v.last + 1 - v.first
+
+abbrev pub total : List Interval → ℕ
+total [] = 0
+total (v ∷ vs) = width v + total vs
+
+-- the last id of a chunk
+abbrev pub last_in : List Interval → ℕ
+last_in vs = (interval_at vs (length vs - 1)).last
