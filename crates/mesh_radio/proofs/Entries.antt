@@ -7,7 +7,7 @@ use Rattle.std.specs.FinMap.{nat_cmp-IsAntisymmetric}
 use Rattle.std.proofs.lemmas.Cmp.{nat_cmp_total}
 use Rattle.std.proofs.lemmas.Bool.{ne_eqb, le-leb, lt-leb, cases_lt, cases_eq}
 use Rattle.std.proofs.lemmas.Option.{same_Some, slice_get_within, slice_get_past, slice_get-get_or, none-some}
-use Rattle.std.specs.Map.{keys_of}
+use Rattle.std.specs.Map.{keys_of, values_of}
 use Rattle.mesh_base.specs.declared.events.Flying.{Flying}
 use Rattle.mesh_base.specs.Members.{member_list}
 use Rattle.aodv_wire.specs.Spells.{is_data}
@@ -227,6 +227,23 @@ found-copy es low next id place to e r f at =
     let same : f.entry ≡ e = same_Some f.entry e (sym f.at ∙ at) in
     find-all low next id es r ∙ ap (λ o. copy_of o id) f.is ∙ ap (slot_for ((f.entry).1) id) f.member ∙ slot-there ((f.entry).1) id to f.left
     ∙ ap (λ (x : Entry). Some (record { id = id; from = (x.1).from; to = to; bytes = (x.1).bytes })) same
+
+-- the cast at a place, among the values
+pub value-at : (es : List Entry) (place : ℕ) (e : Entry) (c : Cast) → slice_get es place ≡ Some e → slice_get (values_of es) place ≡ Some c → e.1 ≡ c
+value-at [] place e c at there = absurd cc
+value-at (x ∷ es) zero e c at there = ap (λ (y : Entry). y.1) (sym (same_Some x e at)) ∙ same_Some x.1 c there
+value-at (x ∷ es) (suc place) e c at there = value-at es place e c at there
+
+pub found-value : (es : List Entry) (place : ℕ) (e : Entry) → slice_get es place ≡ Some e → slice_get (values_of es) place ≡ Some e.1
+found-value [] place e at = absurd cc
+found-value (x ∷ es) zero e at = ap (λ (y : Entry). Some y.1) (same_Some x e at)
+found-value (x ∷ es) (suc place) e at = found-value es place e at
+
+-- a cast that is put where it is
+pub set-same : (es : List Entry) (place : ℕ) (c : Cast) → slice_get (values_of es) place ≡ Some c → set_value_at es place c ≡ es
+set-same [] place c at = absurd cc
+set-same (x ∷ es) zero c at = ap (λ v. (x.0, v) ∷ es) (sym (same_Some x.1 c at))
+set-same (x ∷ es) (suc place) c at = ap (λ xs. x ∷ xs) (set-same es place c at)
 
 pub none-or : {A : Type 0} (r : Option A) (P : Type 0) → P → IfNone r P
 none-or None P p = p

@@ -7,5 +7,7 @@ pub mod Radios
 pub mod Kept
 -- Casts: how it keeps the copies, as casts by their first copies.
 pub mod Casts
+-- Shared: where the bytes of a packet are.
+pub mod Shared
 -- Hashes: how the number of a cast is hashed.
 pub mod Hashes

@@ -1,14 +1,17 @@
 //! Casts by the ids of their first copies: what is found among them, and how they change.
-ghost use Rattle.std.specs.Prelude.{◌≡◌, ℕ, ◌<◌, ◌≤◌, ◌+◌, ◌-◌, ◌^◌, ◌++◌, ◌∷◌, [], slice_get, Some, IfSome, IfNone};
+ghost use Rattle.std.specs.Prelude.{◌≡◌, ℕ, ◌<◌, ◌≤◌, ◌+◌, ◌-◌, ◌^◌, ◌++◌, ◌∷◌, [], length, slice_get, Some, IfSome, IfNone};
 ghost use Rattle.std.specs.Map.{keys_of};
-ghost use Rattle.indexmap.specs.IndexMap.{spare, with_value_at};
+ghost use Rattle.indexmap.specs.IndexMap.{spare, values, with_value_at};
 ghost use Rattle.mesh_base.specs.Members.{member_list, rank};
+ghost use Rattle.mesh_radio.specs.declared.casts.Cast.{Cast};
 ghost use Rattle.mesh_radio.specs.Casts.{Entry, AreCasts, AreLeft, IsFound, IsNext, IsSplit, IsFrom, AreGone, IsLeast, IsLeastOf, NoneUpTo, HasNone, HasNoneFrom, size, without_to};
 
 use crate::hashes::NumberHasher;
 use crate::places::place_near;
+use crate::rooms::Rooms;
+use crate::shared::Shared;
 use indexmap::IndexMap;
-use mesh_base::{Bytes, NodeSet};
+use mesh_base::NodeSet;
 use std::hash::BuildHasherDefault;
 
 /// A packet that was cast, to whom, and those of them to whom its copy still flies. Its copies have
@@ -18,7 +21,7 @@ pub struct Cast {
     pub to: NodeSet,
     pub left: NodeSet,
     pub from: usize,
-    pub bytes: Bytes,
+    pub bytes: Shared,
 }
 
 /// Casts by the ids of their first copies, which rise.
@@ -236,5 +239,22 @@ pub fn remove_at(casts: &mut Casts, place: usize, to: usize)
 {
     if let Some(cast) = casts.get_index_mut(place) {
         cast.left.remove(to);
+    }
+}
+
+/// The packet of the cast at this place once more: shared with it, or, where memory for that isn't
+/// there, in the memory of a room.
+pub fn double_packet(casts: &mut Casts, place: usize, rooms: &mut Rooms) -> Shared
+    requires room { 1 ≤ rooms.old.room }
+    requires fits { (c : Cast) → slice_get (values casts.old) place ≡ Some c
+        → length c.bytes ≤ rooms.old.most }
+    ensures entries { casts.new.entries ≡ casts.old.entries }
+    ensures spare { spare casts.new ≡ spare casts.old }
+    ensures bytes { (c : Cast) → slice_get (values casts.old) place ≡ Some c
+        → (result ≡ c.bytes) × (rooms.new ≡ record rooms.old { room = rooms.old.room - 1 }) }
+{
+    match casts.get_index_mut(place) {
+        Some(cast) => rooms.double(&mut cast.bytes),
+        None => Shared::empty(),
     }
 }

@@ -5,7 +5,7 @@ ghost use Rattle.indexmap.specs.IndexMap.{spare, with_value_at};
 ghost use Rattle.mesh_radio.specs.Casts.{Entry, AreRising, AreGone, IsTidied, has_left, without_packet};
 
 use crate::casts::{Cast, Casts};
-use mesh_base::Bytes;
+use crate::shared::Shared;
 
 /// So few casts that are done with are left to lie: to sweep them would cost more than they take
 /// up.
@@ -28,7 +28,7 @@ fn drop_packet(casts: &mut Casts, place: usize)
         casts.new ≡ with_value_at casts.old place (without_packet e.1) }
 {
     if let Some(cast) = casts.get_index_mut(place) {
-        cast.bytes = Bytes::empty();
+        cast.bytes = Shared::empty();
     }
 }
 
@@ -51,6 +51,7 @@ fn sweep(casts: &mut Casts)
 /// have no copy in flight. With the last copy of a cast its packet goes, and once more casts are
 /// done with than are not, those go too, wherever they stand: about `done` of them lie there. The
 /// answer is how many casts at the front have no copy in flight then.
+#[inline(always)]
 pub fn clear(casts: &mut Casts, place: usize, gone: usize, done: &mut usize) -> usize
     requires rising { (next : ℕ) × AreRising 1 casts.old.entries next }
     requires gone { AreGone casts.old.entries gone }

@@ -6,10 +6,13 @@ ghost use Rattle.aodv_wire.specs.Spells.{is_data};
 ghost use Rattle.mesh_radio.specs.Copies.{held_seen, find_copy, IsCopyWithin, without, from_id, data_in, AreBefore, AreNumbered};
 ghost use Rattle.mesh_radio.specs.Kept.{with_flights, with_flight, with_second, with_room};
 
-use crate::casts::{Cast, Casts, Least, find, find_next, front_of, launch, least_from, remove_at};
+use crate::casts::{
+    Cast, Casts, Least, double_packet, find, find_next, front_of, launch, least_from, remove_at,
+};
 use crate::clearing::clear;
 use crate::joining::make_way;
 use crate::rooms::Rooms;
+use crate::shared::Shared;
 use aodv_wire::is_data;
 use mesh_base::{Bytes, Flying, FlyingView, MOST_NODES, NoMemory, NodeSet};
 use std::alloc::Global;
@@ -127,7 +130,7 @@ impl Copies {
             id,
             from: cast.from,
             to: spot.to,
-            bytes: &cast.bytes,
+            bytes: cast.bytes.as_bytes(),
         })
     }
 
@@ -181,7 +184,7 @@ impl Copies {
             to: *to,
             left: *to,
             from,
-            bytes: self.rooms.fill(bytes, copies),
+            bytes: Shared::own(self.rooms.fill(bytes, copies)),
         };
         self.least = launch(&mut self.casts, self.least, self.next, cast);
         self.next += copies as u64;
@@ -189,8 +192,8 @@ impl Copies {
         self.of_data += if_data(bytes, copies);
     }
 
-    /// A second copy like that of this id flies, with the next id and a packet of its own. The
-    /// answer is its id and receiver.
+    /// A second copy like that of this id flies, with the next id. They share the packet's memory
+    /// where that can be. The answer is its id and receiver.
     pub fn double(&mut self, id: u64) -> Option<(u64, usize)>
         requires room { 1 ≤ self.old.room }
         requires fits { IsCopyWithin self.old.flying id self.old.most }
@@ -201,13 +204,14 @@ impl Copies {
     {
         let spot = find(&self.casts, &self.least, id)?;
         let (_, cast) = self.casts.get_index(spot.place)?;
+        let from = cast.from;
         let mut to = NodeSet::new();
         to.add(spot.to);
         let second = Cast {
             to,
             left: to,
-            from: cast.from,
-            bytes: self.rooms.fill(cast.bytes.as_slice(), 1),
+            from,
+            bytes: double_packet(&mut self.casts, spot.place, &mut self.rooms),
         };
         let new = self.next;
         let more = if_data(second.bytes.as_slice(), 1);
@@ -267,7 +271,7 @@ impl Copies {
             to,
             left: to,
             from: f.from,
-            bytes: f.bytes,
+            bytes: Shared::own(f.bytes),
         };
         self.least = launch(&mut self.casts, least, f.id, cast);
         self.count += 1;

@@ -12,6 +12,7 @@ mod joining;
 mod places;
 mod radio;
 mod rooms;
+mod shared;
 mod shelf;
 
 pub use copies::Held;

@@ -15,14 +15,14 @@ use Rattle.mesh_radio.proofs.copies.Copies.put.Goals as goal
 pub launch-self-inside-requires-clause-some : goal.launch-self-inside-requires-clause-some
 launch-self-inside-requires-clause-some c =
     let f = c.args.f in
-    let cast : Cast = record { to = c.add.new.self; left = c.add.new.self; from = f.from; bytes = f.bytes } in
+    let cast : Cast = record { to = c.add.new.self; left = c.add.new.self; from = f.from; bytes = c.own.result } in
     let one = size-one cast f.to c.requires.receiver (c.add.ensures ∙ ap (λ s. insert s f.to) c.new-to.ensures) in
     omega arith
 
 pub launch-self-inside-requires-clause-few : goal.launch-self-inside-requires-clause-few
 launch-self-inside-requires-clause-few c =
     let f = c.args.f in
-    let cast : Cast = record { to = c.add.new.self; left = c.add.new.self; from = f.from; bytes = f.bytes } in
+    let cast : Cast = record { to = c.add.new.self; left = c.add.new.self; from = f.from; bytes = c.own.result } in
     let one = size-one cast f.to c.requires.receiver (c.add.ensures ∙ ap (λ s. insert s f.to) c.new-to.ensures) in
     let next = ap (λ (v : Flights). v.next_copy) c.self.view_is in
     omega (arith, c.requires.id.1, (c.self.invariant.0).casts.few)
@@ -50,14 +50,16 @@ invariant_of-self-2 c =
     let f = c.args.f in
     let es = inside.casts.entries in
     let before = c.make_way-least.new.casts.entries in
-    let cast : Cast = record { to = c.add.new.self; left = c.add.new.self; from = f.from; bytes = f.bytes } in
+    let cast : Cast = record { to = c.add.new.self; left = c.add.new.self; from = f.from; bytes = c.own.result } in
     let only = c.add.ensures ∙ ap (λ s. insert s f.to) c.new-to.ensures in
     let launched = c.launch-self-inside in
     let now = launched.new.casts.entries in
     let one = size-one cast f.to c.requires.receiver only in
     let same : copies_of before ≡ copies_of es = c.make_way-least.ensures.same ∙ ap copies_of c.reserve.ensures.entries in
     let copies : copies_of now ≡ copies_of es ++ f ∷ [] =
-    copies-one before now f.id f.to cast launched.ensures.entries c.requires.receiver only refl ∙ ap (λ fs. fs ++ f ∷ []) same in
+    copies-one before now f.id f.to cast launched.ensures.entries c.requires.receiver only refl
+    ∙ ap (λ bs. copies_of before ++ record f { bytes = bs } ∷ []) c.own.ensures
+    ∙ ap (λ fs. fs ++ f ∷ []) same in
     let next = ap (λ (v : Flights). v.next_copy) c.self.view_is in
     let room = ap (λ (v : Flights). v.room) c.self.view_is in (
       record {
@@ -82,12 +84,14 @@ returns-clause-ok c =
     let f = c.args.f in
     let es = inside.casts.entries in
     let before = c.make_way-least.new.casts.entries in
-    let cast : Cast = record { to = c.add.new.self; left = c.add.new.self; from = f.from; bytes = f.bytes } in
+    let cast : Cast = record { to = c.add.new.self; left = c.add.new.self; from = f.from; bytes = c.own.result } in
     let only = c.add.ensures ∙ ap (λ s. insert s f.to) c.new-to.ensures in
     let launched = c.launch-self-inside in
     let now = launched.new.casts.entries in
     let same : copies_of before ≡ copies_of es = c.make_way-least.ensures.same ∙ ap copies_of c.reserve.ensures.entries in
     let flying : copies_of now ≡ copies_of es ++ f ∷ [] =
-    copies-one before now f.id f.to cast launched.ensures.entries c.requires.receiver only refl ∙ ap (λ fs. fs ++ f ∷ []) same in
+    copies-one before now f.id f.to cast launched.ensures.entries c.requires.receiver only refl
+    ∙ ap (λ bs. copies_of before ++ record f { bytes = bs } ∷ []) c.own.ensures
+    ∙ ap (λ fs. fs ++ f ∷ []) same in
     (λ i. record { flying = flying i; next_copy = inside.next; room = inside.rooms.room; most = inside.rooms.most })
     ∙ ap (λ (v : Flights). with_flight v f) c.self.view_is
