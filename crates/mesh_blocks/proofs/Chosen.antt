@@ -1,5 +1,5 @@
 -- Events that the run chooses, one after another, each with its block.
-use Rattle.std.proofs.Common.{◌≡◌, ◌∙◌, ℕ, suc, ◌+◌, ◌-◌, ◌<◌, ◌≤◌, true, List, [], ◌∷◌, ◌++◌, Option, Some, None, Result, Err, length, refl, sym, ap, subst, append_assoc}
+use Rattle.std.proofs.Common.{◌≡◌, ◌∙◌, ℕ, suc, ◌+◌, ◌-◌, ◌<◌, ◌≤◌, true, List, [], ◌++◌, Option, Some, None, Result, Err, length, refl, sym, ap, subst, append_assoc}
 use Rattle.std.specs.Io.KnownBytes.{Appends}
 use Rattle.mesh_io.specs.Puts.{AppendsPrefix}
 use Rattle.mesh_model.specs.Worlds as worlds
@@ -15,9 +15,10 @@ use Rattle.mesh_run.specs.declared.stop.Stop.{Stop}
 use Rattle.mesh_run.specs.Runs.{IsLineDone, IsLineStopped, outcome_by, IsEventsDone, IsEventsRun, events_due}
 use Rattle.mesh_run.proofs.Shown.{shown_none}
 use Rattle.mesh_run.proofs.Chosen.{due_all, due_none, due_next, on_then, on_stops, full_stops, line_goes, line_front, line_end_front, line_stops}
-use Rattle.mesh_blocks.specs.Blocks.{block_below}
+use Rattle.mesh_blocks.specs.declared.below.Below.{Below}
+use Rattle.mesh_blocks.specs.Forms.{below_text}
 use Rattle.mesh_blocks.specs.Text.{watched_events, watched_line}
-use Rattle.mesh_blocks.specs.Lines.{with_block, watched_event}
+use Rattle.mesh_blocks.specs.Lines.{with_below, watched_event}
 
 -- ---- how many are left
 
@@ -36,33 +37,33 @@ chosen_next : (most did : ℕ) (m : Moment) (e : Event) → did < most → Some 
 unfolding events_due
 chosen_next most did m e h p = due_next None most did m e tt h p
 
-pub nothing_more : (m : Moment) (events : List Event) (a : Option (List ℕ)) → events ≡ [] → IsEventsDone true (watched_events m events) m a a
+pub nothing_more : (form : Below) (m : Moment) (events : List Event) (a : Option (List ℕ)) → events ≡ [] → IsEventsDone true (watched_events form m events) m a a
 unfolding watched_events
-nothing_more m events a none = record { text = []; is = ap (watched_events m) none; grown = shown_none true a }
+nothing_more form m events a none = record { text = []; is = ap (watched_events form m) none; grown = shown_none true a }
 
 -- one was done, so as many are left as there were but one
-then_counts : (m n : Moment) (e : Event) (o : Outcome) (block : List ℕ) (others : Moment → List Event) (a b : Option (List ℕ)) → IsLineDone true (with_block block (outcome_by m e o)) n a b → n ≡ next_moment m e
+then_counts : (m n : Moment) (e : Event) (o : Outcome) (block : List ℕ) (others : Moment → List Event) (a b : Option (List ℕ)) → IsLineDone true (with_below block (outcome_by m e o)) n a b → n ≡ next_moment m e
     → length (event_then m e o others) ≡ suc (length (others n))
 then_counts m n e Idle block others a b done next = ap (λ k. suc (length (others k))) (sym next)
 then_counts m n e (worlds.Full x field) block others a b done next = absurd (let h : Full [] m e field ≡ On done.text n = done.is in let P : ⊥ = cc in P)
 then_counts m n e (Next w i) block others a b done next = ap (λ k. suc (length (others k))) (sym next)
 
-pub chosen_counts : (most did : ℕ) (m n : Moment) (e : Event) (a b : Option (List ℕ)) → did < most → Some e ≡ pick (world_of m)
-    → IsLineDone true (watched_event m e) n a b → n ≡ next_moment m e → length (events_chosen (most - did) m) ≡ suc (length (events_chosen (most - (did + 1)) n))
-chosen_counts most did m n e a b h p done next =
-    ap length (chosen_next most did m e h p) ∙ then_counts m n e (outcome_at m e) (block_below m e) (λ x. events_chosen (most - (did + 1)) x) a b done next
+pub chosen_counts : (form : Below) (most did : ℕ) (m n : Moment) (e : Event) (a b : Option (List ℕ)) → did < most → Some e ≡ pick (world_of m)
+    → IsLineDone true (watched_event form m e) n a b → n ≡ next_moment m e → length (events_chosen (most - did) m) ≡ suc (length (events_chosen (most - (did + 1)) n))
+chosen_counts form most did m n e a b h p done next =
+    ap length (chosen_next most did m e h p) ∙ then_counts m n e (outcome_at m e) (below_text form m e) (λ x. events_chosen (most - (did + 1)) x) a b done next
 
 -- what comes of one event, and then of others
-ran_then : (m : Moment) (e : Event) (o : Outcome) (others : Moment → List Event) → outcome_at m e ≡ o
-    → watched_events m (event_then m e o others) ≡ done_then m e o (λ n. before (block_below m e) (watched_events n (others n)))
+ran_then : (form : Below) (m : Moment) (e : Event) (o : Outcome) (others : Moment → List Event) → outcome_at m e ≡ o
+    → watched_events form m (event_then m e o others) ≡ done_then m e o (λ n. before (below_text form m e) (watched_events form n (others n)))
 unfolding watched_events
-ran_then m e Idle others is = ap (λ o. done_then m e o (λ n. before (block_below m e) (watched_events n (others (next_moment m e))))) is
-ran_then m e (worlds.Full x field) others is = ap (λ o. done_then m e o (λ n. before (block_below m e) (watched_events n []))) is
-ran_then m e (Next w i) others is = ap (λ o. done_then m e o (λ n. before (block_below m e) (watched_events n (others (next_moment m e))))) is
+ran_then form m e Idle others is = ap (λ o. done_then m e o (λ n. before (below_text form m e) (watched_events form n (others (next_moment m e))))) is
+ran_then form m e (worlds.Full x field) others is = ap (λ o. done_then m e o (λ n. before (below_text form m e) (watched_events form n []))) is
+ran_then form m e (Next w i) others is = ap (λ o. done_then m e o (λ n. before (below_text form m e) (watched_events form n (others (next_moment m e))))) is
 
-ran_next : (most did : ℕ) (m : Moment) (e : Event) → did < most → Some e ≡ pick (world_of m)
-    → watched_events m (events_chosen (most - did) m) ≡ done_then m e (outcome_at m e) (λ n. before (block_below m e) (watched_events n (events_chosen (most - (did + 1)) n)))
-ran_next most did m e h p = ap (watched_events m) (chosen_next most did m e h p) ∙ ran_then m e (outcome_at m e) (λ n. events_chosen (most - (did + 1)) n) refl
+ran_next : (form : Below) (most did : ℕ) (m : Moment) (e : Event) → did < most → Some e ≡ pick (world_of m)
+    → watched_events form m (events_chosen (most - did) m) ≡ done_then m e (outcome_at m e) (λ n. before (below_text form m e) (watched_events form n (events_chosen (most - (did + 1)) n)))
+ran_next form most did m e h p = ap (watched_events form m) (chosen_next most did m e h p) ∙ ran_then form m e (outcome_at m e) (λ n. events_chosen (most - (did + 1)) n) refl
 
 -- ---- one event, and then the others
 
@@ -77,7 +78,7 @@ block_then m n k e text block others a b c r g q =
     subst (λ p. IsEventsRun true m p k a c r) (sym (before_both text block (others (next_moment m e)))) (on_then true m n k e (text ++ block) others a b c r g q)
 
 then_goes : (m n k : Moment) (e : Event) (o : Outcome) (block : List ℕ) (others : Moment → EventsOutcome) (a b c : Option (List ℕ)) (r : Result ℕ Stop)
-    → IsLineDone true (with_block block (outcome_by m e o)) n a b → IsEventsRun true n (others n) k b c r → IsEventsRun true m (done_then m e o (λ x. before block (others x))) k a c r
+    → IsLineDone true (with_below block (outcome_by m e o)) n a b → IsEventsRun true n (others n) k b c r → IsEventsRun true m (done_then m e o (λ x. before block (others x))) k a c r
 then_goes m n k e Idle block others a b c r g q = block_then m n k e (outcome_lines m.mesh e Idle) block others a b c r g q
 then_goes m n k e (worlds.Full x field) block others a b c r g q = absurd (let h : Full [] m e field ≡ On g.text n = g.is in let P : ⊥ = cc in P)
 then_goes m n k e (Next w i) block others a b c r g q = block_then m n k e (outcome_lines m.mesh e (Next w i)) block others a b c r g q
@@ -88,52 +89,52 @@ block_stops : (m n p : Moment) (text block : List ℕ) (ran : EventsOutcome) (a 
 block_stops m n p text block ran a b t g = subst (λ q. IsEventsRun true m q n a b (Err t)) (sym (before_both text block ran)) (on_stops true m n p (text ++ block) ran a b t g)
 
 then_stops : (m n : Moment) (e : Event) (o : Outcome) (block : List ℕ) (others : Moment → EventsOutcome) (a b : Option (List ℕ)) (t : Stop)
-    → IsLineStopped true m (with_block block (outcome_by m e o)) n a b t → IsEventsRun true m (done_then m e o (λ x. before block (others x))) n a b (Err t)
+    → IsLineStopped true m (with_below block (outcome_by m e o)) n a b t → IsEventsRun true m (done_then m e o (λ x. before block (others x))) n a b (Err t)
 then_stops m n e Idle block others a b t g = block_stops m n (next_moment m e) (outcome_lines m.mesh e Idle) block (others (next_moment m e)) a b t g
 then_stops m n e (worlds.Full x full) block others a b t g = full_stops true m n e full a b t g
 then_stops m n e (Next w i) block others a b t g = block_stops m n (next_moment m e) (outcome_lines m.mesh e (Next w i)) block (others (next_moment m e)) a b t g
 
 -- one event more
-pub ran_goes : (most did : ℕ) (m n k : Moment) (e : Event) (a b c : Option (List ℕ)) (r : Result ℕ Stop) → did < most → Some e ≡ pick (world_of m)
-    → IsLineDone true (watched_event m e) n a b → IsEventsRun true n (watched_events n (events_chosen (most - (did + 1)) n)) k b c r → IsEventsRun true m (watched_events m (events_chosen (most - did) m)) k a c r
-ran_goes most did m n k e a b c r h p g q =
-    subst (λ ran. IsEventsRun true m ran k a c r) (sym (ran_next most did m e h p))
-    (then_goes m n k e (outcome_at m e) (block_below m e) (λ x. watched_events x (events_chosen (most - (did + 1)) x)) a b c r g q)
+pub ran_goes : (form : Below) (most did : ℕ) (m n k : Moment) (e : Event) (a b c : Option (List ℕ)) (r : Result ℕ Stop) → did < most → Some e ≡ pick (world_of m)
+    → IsLineDone true (watched_event form m e) n a b → IsEventsRun true n (watched_events form n (events_chosen (most - (did + 1)) n)) k b c r → IsEventsRun true m (watched_events form m (events_chosen (most - did) m)) k a c r
+ran_goes form most did m n k e a b c r h p g q =
+    subst (λ ran. IsEventsRun true m ran k a c r) (sym (ran_next form most did m e h p))
+    (then_goes m n k e (outcome_at m e) (below_text form m e) (λ x. watched_events form x (events_chosen (most - (did + 1)) x)) a b c r g q)
 
-pub ran_stops : (most did : ℕ) (m n : Moment) (e : Event) (a b : Option (List ℕ)) (t : Stop) → did < most → Some e ≡ pick (world_of m)
-    → IsLineStopped true m (watched_event m e) n a b t → IsEventsRun true m (watched_events m (events_chosen (most - did) m)) n a b (Err t)
-ran_stops most did m n e a b t h p g =
-    subst (λ ran. IsEventsRun true m ran n a b (Err t)) (sym (ran_next most did m e h p))
-    (then_stops m n e (outcome_at m e) (block_below m e) (λ x. watched_events x (events_chosen (most - (did + 1)) x)) a b t g)
+pub ran_stops : (form : Below) (most did : ℕ) (m n : Moment) (e : Event) (a b : Option (List ℕ)) (t : Stop) → did < most → Some e ≡ pick (world_of m)
+    → IsLineStopped true m (watched_event form m e) n a b t → IsEventsRun true m (watched_events form m (events_chosen (most - did) m)) n a b (Err t)
+ran_stops form most did m n e a b t h p g =
+    subst (λ ran. IsEventsRun true m ran n a b (Err t)) (sym (ran_next form most did m e h p))
+    (then_stops m n e (outcome_at m e) (below_text form m e) (λ x. watched_events form x (events_chosen (most - (did + 1)) x)) a b t g)
 
 -- ---- the line of chosen events
 
-came-chooses : (m s : Moment) (count did : ℕ) → s ≡ with_world m → did ≡ length (events_chosen count s)
-    → watched_line m (Chooses count) ≡ outcome_of_auto (line (words_of m.mesh (Chooses count))) did (watched_events s (events_chosen count s))
+came-chooses : (form : Below) (m s : Moment) (count did : ℕ) → s ≡ with_world m → did ≡ length (events_chosen count s)
+    → watched_line form m (Chooses count) ≡ outcome_of_auto (line (words_of m.mesh (Chooses count))) did (watched_events form s (events_chosen count s))
 unfolding watched_line
-came-chooses m s count did same many =
-    ap (λ k. outcome_of_auto (line (words_of m.mesh (Chooses count))) (length (events_chosen count k)) (watched_events k (events_chosen count k))) (sym same)
-    ∙ ap (λ x. outcome_of_auto (line (words_of m.mesh (Chooses count))) x (watched_events s (events_chosen count s))) (sym many)
+came-chooses form m s count did same many =
+    ap (λ k. outcome_of_auto (line (words_of m.mesh (Chooses count))) (length (events_chosen count k)) (watched_events form k (events_chosen count k))) (sym same)
+    ∙ ap (λ x. outcome_of_auto (line (words_of m.mesh (Chooses count))) x (watched_events form s (events_chosen count s))) (sym many)
 
-pub auto_goes : (m s n k : Moment) (count did : ℕ) (a b c d : Option (List ℕ)) → s ≡ with_world m → did ≡ length (events_chosen count s) → Appends a b (line (words_of m.mesh (Chooses count)))
-    → IsEventsDone true (watched_events s (events_chosen count s)) n b c → Appends c d (auto_end did) → k ≡ with_line_read n → IsLineDone true (watched_line m (Chooses count)) k a d
-auto_goes m s n k count did a b c d same many p q r next =
-    line_goes true (watched_line m (Chooses count)) (line (words_of m.mesh (Chooses count))) did (watched_events s (events_chosen count s)) n k a b c d (came-chooses m s count did same many) p q r next
+pub auto_goes : (form : Below) (m s n k : Moment) (count did : ℕ) (a b c d : Option (List ℕ)) → s ≡ with_world m → did ≡ length (events_chosen count s) → Appends a b (line (words_of m.mesh (Chooses count)))
+    → IsEventsDone true (watched_events form s (events_chosen count s)) n b c → Appends c d (auto_end did) → k ≡ with_line_read n → IsLineDone true (watched_line form m (Chooses count)) k a d
+auto_goes form m s n k count did a b c d same many p q r next =
+    line_goes true (watched_line form m (Chooses count)) (line (words_of m.mesh (Chooses count))) did (watched_events form s (events_chosen count s)) n k a b c d (came-chooses form m s count did same many) p q r next
 
 -- the line itself is not written whole
-pub auto_front : (m s : Moment) (count : ℕ) (a b : Option (List ℕ)) → s ≡ with_world m → AppendsPrefix a b (line (words_of m.mesh (Chooses count))) → AppendsPrefix a b (text_in (watched_line m (Chooses count)))
-auto_front m s count a b same p =
-    line_front true (watched_line m (Chooses count)) (line (words_of m.mesh (Chooses count))) _ (watched_events s (events_chosen count s)) a b (came-chooses m s count _ same refl) p
+pub auto_front : (form : Below) (m s : Moment) (count : ℕ) (a b : Option (List ℕ)) → s ≡ with_world m → AppendsPrefix a b (line (words_of m.mesh (Chooses count))) → AppendsPrefix a b (text_in (watched_line form m (Chooses count)))
+auto_front form m s count a b same p =
+    line_front true (watched_line form m (Chooses count)) (line (words_of m.mesh (Chooses count))) _ (watched_events form s (events_chosen count s)) a b (came-chooses form m s count _ same refl) p
 
 -- nor the line after the events
-pub auto_end_front : (m s n : Moment) (count did : ℕ) (a b c d : Option (List ℕ)) → s ≡ with_world m → did ≡ length (events_chosen count s)
-    → Appends a b (line (words_of m.mesh (Chooses count))) → IsEventsDone true (watched_events s (events_chosen count s)) n b c → AppendsPrefix c d (auto_end did)
-    → AppendsPrefix a d (text_in (watched_line m (Chooses count)))
-auto_end_front m s n count did a b c d same many p q r =
-    line_end_front true (watched_line m (Chooses count)) (line (words_of m.mesh (Chooses count))) did (watched_events s (events_chosen count s)) n a b c d (came-chooses m s count did same many) p q r
+pub auto_end_front : (form : Below) (m s n : Moment) (count did : ℕ) (a b c d : Option (List ℕ)) → s ≡ with_world m → did ≡ length (events_chosen count s)
+    → Appends a b (line (words_of m.mesh (Chooses count))) → IsEventsDone true (watched_events form s (events_chosen count s)) n b c → AppendsPrefix c d (auto_end did)
+    → AppendsPrefix a d (text_in (watched_line form m (Chooses count)))
+auto_end_front form m s n count did a b c d same many p q r =
+    line_end_front true (watched_line form m (Chooses count)) (line (words_of m.mesh (Chooses count))) did (watched_events form s (events_chosen count s)) n a b c d (came-chooses form m s count did same many) p q r
 
 -- an event was not done, or not written whole
-pub auto_stops : (m s n : Moment) (count : ℕ) (a b c : Option (List ℕ)) (t : Stop) → s ≡ with_world m
-    → Appends a b (line (words_of m.mesh (Chooses count))) → IsEventsRun true s (watched_events s (events_chosen count s)) n b c (Err t) → IsLineStopped true m (watched_line m (Chooses count)) n a c t
-auto_stops m s n count a b c t same p q =
-    line_stops true m s (watched_line m (Chooses count)) (line (words_of m.mesh (Chooses count))) _ (watched_events s (events_chosen count s)) n a b c t same (came-chooses m s count _ same refl) p q
+pub auto_stops : (form : Below) (m s n : Moment) (count : ℕ) (a b c : Option (List ℕ)) (t : Stop) → s ≡ with_world m
+    → Appends a b (line (words_of m.mesh (Chooses count))) → IsEventsRun true s (watched_events form s (events_chosen count s)) n b c (Err t) → IsLineStopped true m (watched_line form m (Chooses count)) n a c t
+auto_stops form m s n count a b c t same p q =
+    line_stops true m s (watched_line form m (Chooses count)) (line (words_of m.mesh (Chooses count))) _ (watched_events form s (events_chosen count s)) n a b c t same (came-chooses form m s count _ same refl) p q

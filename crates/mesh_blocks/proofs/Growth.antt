@@ -6,6 +6,7 @@ use Rattle.mesh_text.specs.Text.{LineOutcome, On, Refused, Full, outcome_of_line
 use Rattle.mesh_run.specs.declared.stop.Stop.{Stop}
 use Rattle.mesh_run.specs.Runs.{IsLineRun}
 use Rattle.mesh_run.proofs.Growth.{LineGrows, line_grows}
+use Rattle.mesh_blocks.specs.declared.below.Below.{Below}
 use Rattle.mesh_blocks.specs.Text.{watched_line}
 use Rattle.mesh_blocks.proofs.SameRun.{bare, bare_line}
 
@@ -16,9 +17,9 @@ on_bare (Refused why) n same = absurd (let P : ⊥ = cc in P)
 on_bare (Full text m e field) n same = absurd (let P : ⊥ = cc in P)
 
 -- where it was done
-pub watched_grows : {P : Type 0} (m n : Moment) (bytes : List ℕ) (a : AcceptedLine) (before now : Option (List ℕ)) (r : Result (Unit {0}) Stop) → (LineGrows m n (length bytes) → P) → length m.mesh ≤ MOST_NODES
-    → line_of m.mesh (is_some m.world) bytes ≡ Ok a → IsLineRun true m (watched_line m a) n before now r → OnOk r P
-watched_grows m n bytes a before now (Ok done) of few is run =
-    let on = on_bare (outcome_of_line m a) n (sym (bare_line m a) ∙ ap bare run.is) in
+pub watched_grows : {P : Type 0} (form : Below) (m n : Moment) (bytes : List ℕ) (a : AcceptedLine) (before now : Option (List ℕ)) (r : Result (Unit {0}) Stop) → (LineGrows m n (length bytes) → P) → length m.mesh ≤ MOST_NODES
+    → line_of m.mesh (is_some m.world) bytes ≡ Ok a → IsLineRun true m (watched_line form m a) n before now r → OnOk r P
+watched_grows form m n bytes a before now (Ok done) of few is run =
+    let on = on_bare (outcome_of_line m a) n (sym (bare_line form m a) ∙ ap bare run.is) in
     of (line_grows m n bytes on.0 a few is on.1)
-watched_grows m n bytes a before now (Err stop) of few is run = tt
+watched_grows form m n bytes a before now (Err stop) of few is run = tt

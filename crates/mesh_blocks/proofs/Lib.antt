@@ -6,3 +6,7 @@ pub mod Chosen
 pub mod Growth
 pub mod Telling
 pub mod Runs
+pub mod Lined
+pub mod ChangeLaws
+pub mod ChangeTexts
+pub mod Receivers

@@ -16,51 +16,52 @@ use Rattle.mesh_run.specs.Codes.{status_of}
 use Rattle.mesh_run.specs.declared.status.Status.{Status}
 use Rattle.mesh_run.specs.declared.status.Status.TheVariants as status
 use Rattle.mesh_run.proofs.Loud.{loud_told}
+use Rattle.mesh_blocks.specs.declared.below.Below.{Below}
 use Rattle.mesh_blocks.specs.Text.{watched_run, watched_on}
 use Rattle.mesh_blocks.specs.Outputs.{IsOutputFrom, IsWatchedRun, IsRun}
 use Rattle.mesh_blocks.proofs.SameRun.{same_run, watched_run_is_the_run, moment_is_the_runs, moment_is_of_events, moments_are_loop_free}
 use Rattle.mesh_blocks.proofs.WithBlocks.{blocks_are_all_that_is_added}
 
-pub is_watched : (variant : Variant) (schedule : List ℕ) → IsWatchedRun variant schedule
-is_watched variant schedule = record {
-  worlds = subst (λ (m : Moment). world_of m ≡ world_after variant schedule m.sums.events) (sym (ap (λ (w : RunText). w.after) (watched_run_is_the_run variant schedule))) (run_of_events variant schedule);
-  same = λ i k. moment_is_the_runs variant schedule i k;
-  moments = λ i k done. moment_is_of_events variant schedule i k done;
+pub is_watched : (form : Below) (variant : Variant) (schedule : List ℕ) → IsWatchedRun form variant schedule
+is_watched form variant schedule = record {
+  worlds = subst (λ (m : Moment). world_of m ≡ world_after variant schedule m.sums.events) (sym (ap (λ (w : RunText). w.after) (watched_run_is_the_run form variant schedule))) (run_of_events variant schedule);
+  same = λ i k. moment_is_the_runs form variant schedule i k;
+  moments = λ i k done. moment_is_of_events form variant schedule i k done;
   loop_free = λ k d. runs_are_loop_free variant schedule k d;
-  moments_loop_free = λ i k d. moments_are_loop_free variant schedule i k d;
-  blocks = blocks_are_all_that_is_added variant schedule;
+  moments_loop_free = λ i k d. moments_are_loop_free form variant schedule i k d;
+  blocks = blocks_are_all_that_is_added form variant schedule;
 }
 
 -- what the script's answer tells, and that it is of such a run
-pub runs_so : (variant : Variant) (m : Moment) (most : Limits) (given left before now : Option (List ℕ)) (answer : Result Verdict Fault) (s : Status) → m ≡ opening variant → most ≡ schedule_limits → s ≡ status_of answer
-    → IfSome given (λ bytes. outputs.IsOutputFrom watched_run most m bytes left before now answer) → IfSome given (λ bytes. IsRun variant bytes left before now s)
-runs_so variant m most None left before now answer s opens limits is told = tt
-runs_so variant m most (Some bytes) left before now answer s opens limits is told =
-    let here = subst (λ (k : Moment). outputs.IsOutputFrom watched_run most k bytes left before now answer) opens told in
-    let within = subst (λ (l : Limits). outputs.IsOutputFrom watched_run l (opening variant) bytes left before now answer) limits here in
-    (subst (λ (k : Status). IsOutputFrom (opening variant) bytes left before now k) (sym is) (loud_told (watched_on (opening variant)) bytes left before now answer within), is_watched variant bytes)
+pub runs_so : (form : Below) (variant : Variant) (m : Moment) (most : Limits) (given left before now : Option (List ℕ)) (answer : Result Verdict Fault) (s : Status) → m ≡ opening variant → most ≡ schedule_limits → s ≡ status_of answer
+    → IfSome given (λ bytes. outputs.IsOutputFrom (watched_run form) most m bytes left before now answer) → IfSome given (λ bytes. IsRun form variant bytes left before now s)
+runs_so form variant m most None left before now answer s opens limits is told = tt
+runs_so form variant m most (Some bytes) left before now answer s opens limits is told =
+    let here = subst (λ (k : Moment). outputs.IsOutputFrom (watched_run form) most k bytes left before now answer) opens told in
+    let within = subst (λ (l : Limits). outputs.IsOutputFrom (watched_run form) l (opening variant) bytes left before now answer) limits here in
+    (subst (λ (k : Status). IsOutputFrom form (opening variant) bytes left before now k) (sym is) (loud_told (watched_on form (opening variant)) bytes left before now answer within), is_watched form variant bytes)
 
 -- ---- completeness
 
 -- where nothing has failed, and each line is allowed and no counter full, a run is done, unless memory runs out
-by_output : (m : Moment) (bytes : List ℕ) (after a b : Option (List ℕ)) (s : Status) → ¬ (s ≡ status.ReadFault) → ¬ (s ≡ status.WriteFault) → IsOutputFrom m bytes after a b s
-    → (watched_on m bytes).verdict ≡ Finished → (s ≡ status.Done) ⊎ (s ≡ status.NoMemory)
-by_output m bytes after a b status.Done read write t finished = inl refl
-by_output m bytes after a b (status.BadLine n) read write t finished = absurd (let clash = sym finished ∙ t.0 in let P : ⊥ = cc in P)
-by_output m bytes after a b (status.Full n) read write t finished = absurd (let clash = sym finished ∙ t.0 in let P : ⊥ = cc in P)
-by_output m bytes after a b status.ReadFault read write t finished = absurd (read refl)
-by_output m bytes after a b status.WriteFault read write t finished = absurd (write refl)
-by_output m bytes after a b status.NoMemory read write t finished = inr refl
-by_output m bytes after a b status.Usage read write t finished = absurd t
+by_output : (form : Below) (m : Moment) (bytes : List ℕ) (after a b : Option (List ℕ)) (s : Status) → ¬ (s ≡ status.ReadFault) → ¬ (s ≡ status.WriteFault) → IsOutputFrom form m bytes after a b s
+    → (watched_on form m bytes).verdict ≡ Finished → (s ≡ status.Done) ⊎ (s ≡ status.NoMemory)
+by_output form m bytes after a b status.Done read write t finished = inl refl
+by_output form m bytes after a b (status.BadLine n) read write t finished = absurd (let clash = sym finished ∙ t.0 in let P : ⊥ = cc in P)
+by_output form m bytes after a b (status.Full n) read write t finished = absurd (let clash = sym finished ∙ t.0 in let P : ⊥ = cc in P)
+by_output form m bytes after a b status.ReadFault read write t finished = absurd (read refl)
+by_output form m bytes after a b status.WriteFault read write t finished = absurd (write refl)
+by_output form m bytes after a b status.NoMemory read write t finished = inr refl
+by_output form m bytes after a b status.Usage read write t finished = absurd t
 
-completes : (variant : Variant) (bytes : List ℕ) (after a b : Option (List ℕ)) (s : Status) → ¬ (s ≡ status.ReadFault) → ¬ (s ≡ status.WriteFault) → IsOutputFrom (opening variant) bytes after a b s
+completes : (form : Below) (variant : Variant) (bytes : List ℕ) (after a b : Option (List ℕ)) (s : Status) → ¬ (s ≡ status.ReadFault) → ¬ (s ≡ status.WriteFault) → IsOutputFrom form (opening variant) bytes after a b s
     → (text_of_input variant bytes).verdict ≡ Finished → (s ≡ status.Done) ⊎ (s ≡ status.NoMemory)
 unfolding text_of_input
-completes variant bytes after a b s read write t finished =
-    by_output (opening variant) bytes after a b s read write t (ap (λ (w : RunText). w.verdict) (same_run (opening variant) bytes) ∙ finished)
+completes form variant bytes after a b s read write t finished =
+    by_output form (opening variant) bytes after a b s read write t (ap (λ (w : RunText). w.verdict) (same_run form (opening variant) bytes) ∙ finished)
 
 -- the same of what a source tells, where a fault is answered only where there was one
-pub run_completes : (variant : Variant) (left after a b : Option (List ℕ)) (s : Status) (rb ra wb wa : ℕ) → IfSome left (λ bytes. IsRun variant bytes after a b s) → (s ≡ status.ReadFault → Rose rb ra) → (s ≡ status.WriteFault → Rose wb wa)
+pub run_completes : (form : Below) (variant : Variant) (left after a b : Option (List ℕ)) (s : Status) (rb ra wb wa : ℕ) → IfSome left (λ bytes. IsRun form variant bytes after a b s) → (s ≡ status.ReadFault → Rose rb ra) → (s ≡ status.WriteFault → Rose wb wa)
     → IfSome left (λ bytes. (text_of_input variant bytes).verdict ≡ Finished → (Rose rb ra → ⊥) → (Rose wb wa → ⊥) → (s ≡ status.Done) ⊎ (s ≡ status.NoMemory))
-run_completes variant None after a b s rb ra wb wa t read write = tt
-run_completes variant (Some bytes) after a b s rb ra wb wa t read write = λ finished none nothing. completes variant bytes after a b s (λ x. none (read x)) (λ x. nothing (write x)) t.0 finished
+run_completes form variant None after a b s rb ra wb wa t read write = tt
+run_completes form variant (Some bytes) after a b s rb ra wb wa t read write = λ finished none nothing. completes form variant bytes after a b s (λ x. none (read x)) (λ x. nothing (write x)) t.0 finished

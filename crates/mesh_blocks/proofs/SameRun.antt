@@ -17,7 +17,8 @@ use Rattle.mesh_text.specs.Text.{pieces_of_input, LineOutcome, On, Refused, Full
 use Rattle.mesh_text.specs.Runs.{moment_in_next, prefix_of_input}
 use Rattle.mesh_text.proofs.Moments.{data_are_accounted_for as run_is_accounted_for}
 use Rattle.mesh_text.proofs.MomentLaws.{moment_is_of_run, moment_is_loop_free}
-use Rattle.mesh_blocks.specs.Blocks.{block_below}
+use Rattle.mesh_blocks.specs.declared.below.Below.{Below}
+use Rattle.mesh_blocks.specs.Forms.{below_text}
 use Rattle.mesh_blocks.specs.Text.{watched_events, watched_line, watched_read, watched_piece, watched_from, watched_on, watched_of_input}
 use Rattle.mesh_blocks.specs.Moments.{watched_prefix, AreDone, moment_within, IsOfEvents}
 use Rattle.mesh_blocks.specs.Laws.{WatchedRunIsTheRun, MomentIsTheRuns, DataAreAccountedFor}
@@ -42,12 +43,12 @@ bare_done m e Idle f g same = bare_before _ (f (next_moment m e)) ∙ same ∙ s
 bare_done m e (worlds.Full x field) f g same = refl
 bare_done m e (Next w happening) f g same = bare_before _ (f (next_moment m e)) ∙ same ∙ sym (bare_before _ (g (next_moment m e)))
 
-pub bare_watched : (m : Moment) (es : List Event) → bare_events (watched_events m es) ≡ bare_events (outcome_of_events m es)
+pub bare_watched : (form : Below) (m : Moment) (es : List Event) → bare_events (watched_events form m es) ≡ bare_events (outcome_of_events m es)
 unfolding watched_events outcome_of_events
-bare_watched m [] = refl
-bare_watched m (e ∷ es) =
-    bare_done m e (outcome_at m e) (λ n. before (block_below m e) (watched_events n es)) (λ n. outcome_of_events n es)
-    (bare_before (block_below m e) (watched_events (next_moment m e) es) ∙ bare_watched (next_moment m e) es)
+bare_watched form m [] = refl
+bare_watched form m (e ∷ es) =
+    bare_done m e (outcome_at m e) (λ n. before (below_text form m e) (watched_events form n es)) (λ n. outcome_of_events n es)
+    (bare_before (below_text form m e) (watched_events form (next_moment m e) es) ∙ bare_watched form (next_moment m e) es)
 
 bare_of_events : (r : EventsOutcome) → bare (outcome_by_events r) ≡ bare (outcome_by_events (bare_events r))
 bare_of_events (Ended text n) = refl
@@ -57,31 +58,31 @@ bare_of_auto : (text : List ℕ) (did : ℕ) (r : EventsOutcome) → bare (outco
 bare_of_auto text did (Ended others n) = refl
 bare_of_auto text did (EventsFull others n e field) = refl
 
-pub bare_line : (m : Moment) (a : AcceptedLine) → bare (watched_line m a) ≡ bare (outcome_of_line m a)
+pub bare_line : (form : Below) (m : Moment) (a : AcceptedLine) → bare (watched_line form m a) ≡ bare (outcome_of_line m a)
 unfolding watched_line outcome_of_line
-bare_line m Nothing = refl
-bare_line m (NewNode address first) = refl
-bare_line m (Does e) =
-    bare_of_events (watched_events (with_world m) (e ∷ [])) ∙ ap (λ r. bare (outcome_by_events r)) (bare_watched (with_world m) (e ∷ []))
+bare_line form m Nothing = refl
+bare_line form m (NewNode address first) = refl
+bare_line form m (Does e) =
+    bare_of_events (watched_events form (with_world m) (e ∷ [])) ∙ ap (λ r. bare (outcome_by_events r)) (bare_watched form (with_world m) (e ∷ []))
     ∙ sym (bare_of_events (outcome_of_events (with_world m) (e ∷ [])))
-bare_line m (Chooses count) =
+bare_line form m (Chooses count) =
     let text : List ℕ = line (words_of m.mesh (Chooses count)) in
     let chosen : List Event = events_chosen count (with_world m) in
-    bare_of_auto text (length chosen) (watched_events (with_world m) chosen) ∙ ap (λ r. bare (outcome_of_auto [] (length chosen) r)) (bare_watched (with_world m) chosen)
+    bare_of_auto text (length chosen) (watched_events form (with_world m) chosen) ∙ ap (λ r. bare (outcome_of_auto [] (length chosen) r)) (bare_watched form (with_world m) chosen)
     ∙ sym (bare_of_auto text (length chosen) (outcome_of_events (with_world m) chosen))
-bare_line m (ShowsNode x) = refl
-bare_line m (ShowsRoute x d) = refl
-bare_line m ShowsFlight = refl
+bare_line form m (ShowsNode x) = refl
+bare_line form m (ShowsRoute x d) = refl
+bare_line form m ShowsFlight = refl
 
-bare_read : (m : Moment) (r : Result AcceptedLine LineFault) → bare (watched_read m r) ≡ bare (outcome_of_read m r)
-bare_read m (Ok a) = bare_line m a
-bare_read m (Err fault) = refl
+bare_read : (form : Below) (m : Moment) (r : Result AcceptedLine LineFault) → bare (watched_read form m r) ≡ bare (outcome_of_read m r)
+bare_read form m (Ok a) = bare_line form m a
+bare_read form m (Err fault) = refl
 
-pub bare_piece : (m : Moment) (piece : Piece) → bare (watched_piece m piece) ≡ bare (outcome_of_piece m piece)
+pub bare_piece : (form : Below) (m : Moment) (piece : Piece) → bare (watched_piece form m piece) ≡ bare (outcome_of_piece m piece)
 unfolding watched_piece outcome_of_piece
-bare_piece m (Whole bytes) = bare_read m (line_of m.mesh (is_some m.world) bytes)
-bare_piece m Long = refl
-bare_piece m Beyond = refl
+bare_piece form m (Whole bytes) = bare_read form m (line_of m.mesh (is_some m.world) bytes)
+bare_piece form m Long = refl
+bare_piece form m Beyond = refl
 
 -- ---- a run, but for its lines
 
@@ -98,36 +99,36 @@ bare_both m (On text n) f g same = same n
 bare_both m (Refused why) f g same = refl
 bare_both m (Full text n e field) f g same = refl
 
-bare_from : (m : Moment) (pieces : List Piece) → bare_run (watched_from m pieces) ≡ bare_run (text_from m pieces)
+bare_from : (form : Below) (m : Moment) (pieces : List Piece) → bare_run (watched_from form m pieces) ≡ bare_run (text_from m pieces)
 unfolding shell.text_from
-bare_from m [] = refl
-bare_from m (piece ∷ pieces) =
-    bare_goes m (watched_piece m piece) (λ n. watched_from n pieces) ∙ ap (λ k. bare_run (goes_on m k (λ n. watched_from n pieces))) (bare_piece m piece)
-    ∙ sym (bare_goes m (outcome_of_piece m piece) (λ n. watched_from n pieces))
-    ∙ bare_both m (outcome_of_piece m piece) (λ n. watched_from n pieces) (λ n. text_from n pieces) (λ n. bare_from n pieces)
+bare_from form m [] = refl
+bare_from form m (piece ∷ pieces) =
+    bare_goes m (watched_piece form m piece) (λ n. watched_from form n pieces) ∙ ap (λ k. bare_run (goes_on m k (λ n. watched_from form n pieces))) (bare_piece form m piece)
+    ∙ sym (bare_goes m (outcome_of_piece m piece) (λ n. watched_from form n pieces))
+    ∙ bare_both m (outcome_of_piece m piece) (λ n. watched_from form n pieces) (λ n. text_from n pieces) (λ n. bare_from form n pieces)
 
-pub same_run : (m : Moment) (input : List ℕ) → watched_on m input ≡ record (text_on m input) { lines = (watched_on m input).lines }
+pub same_run : (form : Below) (m : Moment) (input : List ℕ) → watched_on form m input ≡ record (text_on m input) { lines = (watched_on form m input).lines }
 unfolding shell.text_on
-same_run m input = ap (λ (w : RunText). record w { lines = (watched_from m (pieces_of_input input)).lines }) (bare_from m (pieces_of_input input))
+same_run form m input = ap (λ (w : RunText). record w { lines = (watched_from form m (pieces_of_input input)).lines }) (bare_from form m (pieces_of_input input))
 
 pub watched_run_is_the_run : WatchedRunIsTheRun
 unfolding watched_of_input text_of_input
-watched_run_is_the_run variant input = same_run (opening variant) input
+watched_run_is_the_run form variant input = same_run form (opening variant) input
 
 pub data_are_accounted_for : DataAreAccountedFor
-data_are_accounted_for variant input = subst IsBalanced (sym (ap (λ (w : RunText). w.after) (watched_run_is_the_run variant input))) (run_is_accounted_for variant input)
+data_are_accounted_for form variant input = subst IsBalanced (sym (ap (λ (w : RunText). w.after) (watched_run_is_the_run form variant input))) (run_is_accounted_for variant input)
 
 -- ---- each moment
 
 pub moment_is_the_runs : MomentIsTheRuns
-moment_is_the_runs variant input i k =
-    ap (λ (w : RunText). moment_in_next w.after (slice_get (pieces_of_input input) i) k) (bare_from (opening variant) (take i (pieces_of_input input)))
+moment_is_the_runs form variant input i k =
+    ap (λ (w : RunText). moment_in_next w.after (slice_get (pieces_of_input input) i) k) (bare_from form (opening variant) (take i (pieces_of_input input)))
 
-pub moment_is_of_events : (variant : Variant) (input : List ℕ) (i k : ℕ) → AreDone variant input i → IsOfEvents variant input (moment_within variant input i k)
-moment_is_of_events variant input i k done =
-    let same : (watched_prefix variant input i).verdict ≡ (prefix_of_input variant input i).verdict = ap (λ (w : RunText). w.verdict) (bare_from (opening variant) (take i (pieces_of_input input))) in
-    subst (IsOfEvents variant input) (sym (moment_is_the_runs variant input i k)) (moment_is_of_run variant input i k (sym same ∙ done))
+pub moment_is_of_events : (form : Below) (variant : Variant) (input : List ℕ) (i k : ℕ) → AreDone form variant input i → IsOfEvents variant input (moment_within form variant input i k)
+moment_is_of_events form variant input i k done =
+    let same : (watched_prefix form variant input i).verdict ≡ (prefix_of_input variant input i).verdict = ap (λ (w : RunText). w.verdict) (bare_from form (opening variant) (take i (pieces_of_input input))) in
+    subst (IsOfEvents variant input) (sym (moment_is_the_runs form variant input i k)) (moment_is_of_run variant input i k (sym same ∙ done))
 
-pub moments_are_loop_free : (variant : Variant) (input : List ℕ) (i k d : ℕ) → ¬ (Cycle (world_of (moment_within variant input i k)) d)
-moments_are_loop_free variant input i k d =
-    subst (λ (m : Moment). ¬ (Cycle (world_of m) d)) (sym (moment_is_the_runs variant input i k)) (moment_is_loop_free variant input i k d)
+pub moments_are_loop_free : (form : Below) (variant : Variant) (input : List ℕ) (i k d : ℕ) → ¬ (Cycle (world_of (moment_within form variant input i k)) d)
+moments_are_loop_free form variant input i k d =
+    subst (λ (m : Moment). ¬ (Cycle (world_of m) d)) (sym (moment_is_the_runs form variant input i k)) (moment_is_loop_free variant input i k d)

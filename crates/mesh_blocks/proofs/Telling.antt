@@ -1,5 +1,5 @@
 -- What is told of a line of a watched run.
-use Rattle.std.proofs.Common.{◌≡◌, ◌≢◌, ℕ, ◌+◌, ◌*◌, ◌≤◌, List, [], Option, Result, Ok, Err, OnOk, IsErr, length, is_some, true, refl, sym, ap, subst, ◌∙◌, arith}
+use Rattle.std.proofs.Common.{◌≡◌, ◌≢◌, ℕ, ◌+◌, ◌*◌, ◌≤◌, List, Option, Result, Ok, Err, OnOk, IsErr, length, is_some, true, refl, sym, ap, subst, ◌∙◌, arith}
 use Rattle.std.specs.Io.KnownBytes.{Appends}
 use Rattle.mesh_base.specs.declared.limits.TheConstants.{MOST_EVENTS}
 use Rattle.mesh_grammar.specs.declared.fault.LineFault.{LineFault}
@@ -28,43 +28,44 @@ use Rattle.mesh_script.specs.Seen.{accepted_of}
 use Rattle.mesh_run.proofs.Loud.{same_as, loud_line, loud_past_as, loud_past_failed_as}
 use Rattle.mesh_run.proofs.Settled.{goes_on_where_done}
 use Rattle.mesh_run.specs.Room.{CanLead}
+use Rattle.mesh_blocks.specs.declared.below.Below.{Below}
 use Rattle.mesh_blocks.specs.Text.{watched_line, watched_read, watched_piece}
 
 -- ---- a line, by what is read of it
 
-came-whole : (m : Moment) (bytes : List ℕ) → watched_piece m (Whole bytes) ≡ watched_read m (line_of m.mesh (is_some m.world) bytes)
+came-whole : (form : Below) (m : Moment) (bytes : List ℕ) → watched_piece form m (Whole bytes) ≡ watched_read form m (line_of m.mesh (is_some m.world) bytes)
 unfolding watched_piece
-came-whole m bytes = refl
+came-whole form m bytes = refl
 
-came-accepted : (m : Moment) (bytes : List ℕ) (a : AcceptedLine) → line_of m.mesh (is_some m.world) bytes ≡ Ok a → watched_piece m (Whole bytes) ≡ watched_line m a
-came-accepted m bytes a e = came-whole m bytes ∙ ap (watched_read m) e
+came-accepted : (form : Below) (m : Moment) (bytes : List ℕ) (a : AcceptedLine) → line_of m.mesh (is_some m.world) bytes ≡ Ok a → watched_piece form m (Whole bytes) ≡ watched_line form m a
+came-accepted form m bytes a e = came-whole form m bytes ∙ ap (watched_read form m) e
 
-pub came-refused : (m : Moment) (bytes : List ℕ) (f : LineFault) → line_of m.mesh (is_some m.world) bytes ≡ Err f → watched_piece m (Whole bytes) ≡ Refused (Fault f)
-came-refused m bytes f e = came-whole m bytes ∙ ap (watched_read m) e
+pub came-refused : (form : Below) (m : Moment) (bytes : List ℕ) (f : LineFault) → line_of m.mesh (is_some m.world) bytes ≡ Err f → watched_piece form m (Whole bytes) ≡ Refused (Fault f)
+came-refused form m bytes f e = came-whole form m bytes ∙ ap (watched_read form m) e
 
 -- one that goes past a limit
-pub came-past : (m : Moment) (limit : Limit) → watched_piece m (piece_past limit) ≡ Refused (why_past limit)
+pub came-past : (form : Below) (m : Moment) (limit : Limit) → watched_piece form m (piece_past limit) ≡ Refused (why_past limit)
 unfolding watched_piece texts.outcome_of_piece
-came-past m LineLimit = refl
-came-past m Input = refl
+came-past form m LineLimit = refl
+came-past form m Input = refl
 
 -- ---- what was told of a line, by what is read of it
 
-pub run_accepted : (m n : Moment) (bytes : List ℕ) (l : AcceptedLine) (a b : Option (List ℕ)) (r : Result (Unit {0}) Stop) → line_of m.mesh (is_some m.world) bytes ≡ Ok l
-    → IsLineRun true m (watched_line m l) n a b r → IsLineRun true m (watched_piece m (Whole bytes)) n a b r
-run_accepted m n bytes l a b r e g = subst (λ k. IsLineRun true m k n a b r) (sym (came-accepted m bytes l e)) g
+pub run_accepted : (form : Below) (m n : Moment) (bytes : List ℕ) (l : AcceptedLine) (a b : Option (List ℕ)) (r : Result (Unit {0}) Stop) → line_of m.mesh (is_some m.world) bytes ≡ Ok l
+    → IsLineRun true m (watched_line form m l) n a b r → IsLineRun true m (watched_piece form m (Whole bytes)) n a b r
+run_accepted form m n bytes l a b r e g = subst (λ k. IsLineRun true m k n a b r) (sym (came-accepted form m bytes l e)) g
 
 -- a line that does no event comes to what it comes to in the run
-pub run_other : (m n : Moment) (bytes : List ℕ) (l : Line) (a b : Option (List ℕ)) (r : Result (Unit {0}) Stop) → line_of m.mesh (is_some m.world) bytes ≡ Ok (accepted_of l)
+pub run_other : (form : Below) (m n : Moment) (bytes : List ℕ) (l : Line) (a b : Option (List ℕ)) (r : Result (Unit {0}) Stop) → line_of m.mesh (is_some m.world) bytes ≡ Ok (accepted_of l)
     → ((e : _) → l ≢ line.Step e) → ((count : _) → l ≢ line.Auto count)
-    → IsLineRun true m (texts.outcome_of_piece m (Whole bytes)) n a b r → IsLineRun true m (watched_piece m (Whole bytes)) n a b r
+    → IsLineRun true m (texts.outcome_of_piece m (Whole bytes)) n a b r → IsLineRun true m (watched_piece form m (Whole bytes)) n a b r
 unfolding texts.outcome_of_piece watched_line
-run_other m n bytes l a b r is step many g = by_line l is step many
+run_other form m n bytes l a b r is step many g = by_line l is step many
   where
-    by : (k : AcceptedLine) → line_of m.mesh (is_some m.world) bytes ≡ Ok k → watched_line m k ≡ texts.outcome_of_line m k → IsLineRun true m (watched_piece m (Whole bytes)) n a b r
-    by k e same = run_accepted m n bytes k a b r e (subst (λ x. IsLineRun true m x n a b r) (sym same) (subst (λ x. IsLineRun true m (texts.outcome_of_read m x) n a b r) e g))
+    by : (k : AcceptedLine) → line_of m.mesh (is_some m.world) bytes ≡ Ok k → watched_line form m k ≡ texts.outcome_of_line m k → IsLineRun true m (watched_piece form m (Whole bytes)) n a b r
+    by k e same = run_accepted form m n bytes k a b r e (subst (λ x. IsLineRun true m x n a b r) (sym same) (subst (λ x. IsLineRun true m (texts.outcome_of_read m x) n a b r) e g))
 
-    by_line : (l : Line) → line_of m.mesh (is_some m.world) bytes ≡ Ok (accepted_of l) → ((e : _) → l ≢ line.Step e) → ((count : _) → l ≢ line.Auto count) → IsLineRun true m (watched_piece m (Whole bytes)) n a b r
+    by_line : (l : Line) → line_of m.mesh (is_some m.world) bytes ≡ Ok (accepted_of l) → ((e : _) → l ≢ line.Step e) → ((count : _) → l ≢ line.Auto count) → IsLineRun true m (watched_piece form m (Whole bytes)) n a b r
     by_line line.Blank is step many = by Nothing is refl
     by_line (line.Node x first) is step many = by (NewNode x.0 first) is refl
     by_line (line.Step e) is step many = absurd (step e refl)
@@ -76,12 +77,13 @@ run_other m n bytes l a b r is step many g = by_line l is step many
 -- ---- what its script tells
 
 -- what was done of the line, and what was settled then; `s` is the same moment as `m`, and `k` as `n`
-pub line_told : (s m n k : Moment) (bytes : List ℕ) (a b d : Option (List ℕ)) (did : Result (Unit {0}) Stop) (result : Result (Option Verdict) ShellFault) → s ≡ m → k ≡ n
-    → IsLineRun true s (watched_piece s (Whole bytes)) n a b did → IsSettled n b d did result → outputs.IsLineRun (outcome_in_run m (watched_piece m (Whole bytes))) k a d result
-line_told s m n k bytes a b d did result same back ran told =
-    subst (λ (x : Moment). outputs.IsLineRun (outcome_in_run m (watched_piece m (Whole bytes))) x a d result) (sym back)
-    (subst (λ (x : Moment). outputs.IsLineRun (outcome_in_run x (watched_piece x (Whole bytes))) n a d result) same
-    (loud_line s n (watched_piece s (Whole bytes)) a b d did result ran told))
+pub line_told : (form f : Below) (s m n k : Moment) (bytes : List ℕ) (a b d : Option (List ℕ)) (did : Result (Unit {0}) Stop) (result : Result (Option Verdict) ShellFault) → f ≡ form → s ≡ m → k ≡ n
+    → IsLineRun true s (watched_piece f s (Whole bytes)) n a b did → IsSettled n b d did result → outputs.IsLineRun (outcome_in_run m (watched_piece form m (Whole bytes))) k a d result
+line_told form f s m n k bytes a b d did result is same back ran told =
+    subst (λ (x : Moment). outputs.IsLineRun (outcome_in_run m (watched_piece form m (Whole bytes))) x a d result) (sym back)
+    (subst (λ (x : Moment). outputs.IsLineRun (outcome_in_run x (watched_piece form x (Whole bytes))) n a d result) same
+    (subst (λ (x : Below). outputs.IsLineRun (outcome_in_run s (watched_piece x s (Whole bytes))) n a d result) is
+    (loud_line s n (watched_piece f s (Whole bytes)) a b d did result ran told)))
 
 -- how far it leads where it was done
 pub line_leads : (s m n k : Moment) (bytes : List ℕ) (b d : Option (List ℕ)) (did : Result (Unit {0}) Stop) (result : Result (Option Verdict) ShellFault) → s ≡ m → k ≡ n → IsSettled n b d did result
@@ -98,18 +100,18 @@ line_leads s m n k bytes b d did result same back told lines steps = goes_on_whe
     by_did (Err stop) lines steps = tt
 
 -- the last line of one that goes past a limit
-pub past_told : (s m : Moment) (limit : Limit) (why : BadWhy) (v : Verdict) (a b : Option (List ℕ)) → s ≡ m → why ≡ why_past limit → v ≡ RefusedAt (s.lines + 1) → Appends a b (bad_line (s.lines + 1) why)
-    → outputs.IsLineLast (outcome_in_run m (watched_piece m (piece_past limit))) v a b
-past_told s m limit why v a b same is verdict put =
-    let piece : texts.LineOutcome = watched_piece m (piece_past limit) in
+pub past_told : (form : Below) (s m : Moment) (limit : Limit) (why : BadWhy) (v : Verdict) (a b : Option (List ℕ)) → s ≡ m → why ≡ why_past limit → v ≡ RefusedAt (s.lines + 1) → Appends a b (bad_line (s.lines + 1) why)
+    → outputs.IsLineLast (outcome_in_run m (watched_piece form m (piece_past limit))) v a b
+past_told form s m limit why v a b same is verdict put =
+    let piece : texts.LineOutcome = watched_piece form m (piece_past limit) in
     let here = subst (λ (x : Moment). Appends a b (bad_line (x.lines + 1) why)) same put in
     subst (λ (c : shell.Outcome Moment Verdict). outputs.IsLineLast c v a b) (same_as (outcome_in_run m piece))
-    (loud_past_as (λ (x : Moment). x) m piece v why a b (came-past m limit ∙ ap Refused (sym is)) (verdict ∙ ap (λ (x : Moment). RefusedAt (x.lines + 1)) same) here)
+    (loud_past_as (λ (x : Moment). x) m piece v why a b (came-past form m limit ∙ ap Refused (sym is)) (verdict ∙ ap (λ (x : Moment). RefusedAt (x.lines + 1)) same) here)
 
-pub past_broken : (s m : Moment) (limit : Limit) (why : BadWhy) (a b : Option (List ℕ)) (answer : Result Verdict ShellFault) → s ≡ m → why ≡ why_past limit → IsErr answer → AppendsPrefix a b (bad_line (s.lines + 1) why)
-    → outputs.IsLastRun (outcome_in_run m (watched_piece m (piece_past limit))) a b answer
-past_broken s m limit why a b answer same is failed put =
-    let piece : texts.LineOutcome = watched_piece m (piece_past limit) in
+pub past_broken : (form : Below) (s m : Moment) (limit : Limit) (why : BadWhy) (a b : Option (List ℕ)) (answer : Result Verdict ShellFault) → s ≡ m → why ≡ why_past limit → IsErr answer → AppendsPrefix a b (bad_line (s.lines + 1) why)
+    → outputs.IsLastRun (outcome_in_run m (watched_piece form m (piece_past limit))) a b answer
+past_broken form s m limit why a b answer same is failed put =
+    let piece : texts.LineOutcome = watched_piece form m (piece_past limit) in
     let here = subst (λ (x : Moment). AppendsPrefix a b (bad_line (x.lines + 1) why)) same put in
     subst (λ (c : shell.Outcome Moment Verdict). outputs.IsLastRun c a b answer) (same_as (outcome_in_run m piece))
-    (loud_past_failed_as (λ (x : Moment). x) m piece why a b answer failed (came-past m limit ∙ ap Refused (sym is)) here)
+    (loud_past_failed_as (λ (x : Moment). x) m piece why a b answer failed (came-past form m limit ∙ ap Refused (sym is)) here)

@@ -1,5 +1,5 @@
--- The lines of an event, and those that show a node, are whole lines.
-use Rattle.std.proofs.Common.{inl, inr, ℕ, Bool, true, false, List, [], ◌∷◌, ◌++◌, codes, Option, Some, None, length, append-nil, append_assoc, refl, sym, ap, subst, ◌∙◌}
+-- The lines of an event, those that show a node, and those that show what has changed of it are whole lines.
+use Rattle.std.proofs.Common.{inl, inr, ℕ, Bool, true, false, List, [], ◌∷◌, ◌++◌, codes, Option, Some, None, length, drop, append-nil, append_assoc, refl, sym, ap, subst, ◌∙◌}
 use Rattle.std.specs.List.{flat_map}
 use Rattle.std.specs.Prelude.{if◌then◌else◌}
 use Rattle.std.specs.Fmt.{decimal}
@@ -20,6 +20,7 @@ use Rattle.mesh_grammar.specs.Written.{line, label_number}
 use Rattle.mesh_text.specs.Lines.{name_of, hex, event_words}
 use Rattle.mesh_text.specs.Effects.{shown_byte, datum_text, datum_in, kind_text, took_text, delivery_text, drop_text, set_text, broken_text, cast_text, copies_text, sent_text, datum_fate, happening_text, outcome_text, outcome_lines}
 use Rattle.mesh_text.specs.Tables.{number_line, asked_line, asked_text, known_text, flag_text, entry_text, routes_text, req_text, waits_line, waits_text, store_text, node_text, node_text_in, stuck_line, end_text, flying_text, flight_text}
+use Rattle.mesh_blocks.specs.Changes.{Change, Went, Came, change_text, changes_text}
 
 -- ---- texts
 
@@ -95,6 +96,15 @@ node_whole mesh core queue =
 pub node_in_whole : (mesh : Nodes) (o : Option Node) → EndsWithLf (node_text_in mesh o)
 node_in_whole mesh None = whole_none
 node_in_whole mesh (Some n) = node_whole mesh n.core (length n.queue)
+
+-- ---- what has changed of it
+
+change_whole : (c : Change) → EndsWithLf (change_text c)
+change_whole (Went l) = whole_line (codes "  - " ++ drop 2 l)
+change_whole (Came l) = whole_line (codes "  + " ++ drop 2 l)
+
+pub changes_whole : (cs : List Change) → EndsWithLf (changes_text cs)
+changes_whole cs = whole_each change_text cs change_whole
 
 -- ---- a route, and the air
 

@@ -1,33 +1,51 @@
 -- The statements that this crate proves of its definitions.
-use Rattle.std.specs.Prelude.{ℕ, ◌≡◌, List}
+use Rattle.std.specs.Prelude.{ℕ, ◌≡◌, ◌+◌, List, []}
 use Rattle.mesh_base.specs.declared.events.Variant.{Variant}
 use Rattle.mesh_text.specs.Accounts.{IsBalanced}
 use Rattle.mesh_text.specs.Text.{text_of_input}
 use Rattle.mesh_text.specs.Runs.{moment_at}
+use Rattle.mesh_blocks.specs.declared.below.Below.{Below}
+use Rattle.mesh_blocks.specs.Changes.{changes, lines_gone, lines_come, times}
 use Rattle.mesh_blocks.specs.Text.{watched_of_input}
 use Rattle.mesh_blocks.specs.Moments.{moment_within}
 use Rattle.mesh_blocks.specs.Parts.{HasBlocksBelowEvents}
 
+-- ---- a watched run
+
 -- a watched run differs from the run in its lines alone: it comes to the same moment, verdict and
 -- last line
 abbrev pub WatchedRunIsTheRun : Type 0
-WatchedRunIsTheRun = (variant : Variant) (input : List ℕ) →
-    let w = watched_of_input variant input in
+WatchedRunIsTheRun = (below : Below) (variant : Variant) (input : List ℕ) →
+    let w = watched_of_input below variant input in
     w ≡ record (text_of_input variant input) { lines = w.lines }
 
 -- it does so at each moment: after the first i lines, and k events of the next
 abbrev pub MomentIsTheRuns : Type 0
-MomentIsTheRuns = (variant : Variant) (input : List ℕ) (i k : ℕ)
-    → moment_within variant input i k ≡ moment_at variant input i k
+MomentIsTheRuns = (below : Below) (variant : Variant) (input : List ℕ) (i k : ℕ)
+    → moment_within below variant input i k ≡ moment_at variant input i k
 
 -- so each datum that was given or doubled was delivered, waits in a store or a queue, is in flight,
 -- or was dropped
 abbrev pub DataAreAccountedFor : Type 0
-DataAreAccountedFor =
-    (variant : Variant) (input : List ℕ) → IsBalanced (watched_of_input variant input).after
+DataAreAccountedFor = (below : Below) (variant : Variant) (input : List ℕ)
+    → IsBalanced (watched_of_input below variant input).after
 
--- its text is that of the run with a block directly below each event that has changed a node: of
--- that node, at the moment after it. The lines of events, the blocks, and what stands between them
--- are whole lines
+-- its text is that of the run, and directly below each event that has changed a node the block of
+-- that node at the moment after it, or what has changed of its block. The lines of events, what
+-- stands below them, and what stands between them are whole lines
 abbrev pub BlocksAreAllThatIsAdded : Type 0
-BlocksAreAllThatIsAdded = (variant : Variant) (input : List ℕ) → HasBlocksBelowEvents variant input
+BlocksAreAllThatIsAdded =
+    (below : Below) (variant : Variant) (input : List ℕ) → HasBlocksBelowEvents below variant input
+
+-- ---- the changes of a block
+
+-- the changes lead from the lines before to the lines after: how often any line stands there after,
+-- and how often it went, is how often it stood there before and how often it came
+abbrev pub ChangesLeadOn : Type 0
+ChangesLeadOn = (before after : List (List ℕ)) (l : List ℕ) →
+    let made = changes before after in
+    times l after + times l (lines_gone made) ≡ times l before + times l (lines_come made)
+
+-- from lines to the same lines nothing has changed
+abbrev pub SameLinesHaveNoChanges : Type 0
+SameLinesHaveNoChanges = (lines : List (List ℕ)) → changes lines lines ≡ []

@@ -1,11 +1,15 @@
 -- Read in this order.
 -- Blocks: the node that an event has changed, and the block that shows it.
 pub mod Blocks
+-- Changes: what has changed of its block.
+pub mod Changes
+-- Forms: what stands below an event, the block or the changes.
+pub mod Forms
 -- Text: the text of a watched run, and its verdict.
 pub mod Text
 -- Moments: the moments of a watched run.
 pub mod Moments
--- Parts: what the blocks add to the text of a run.
+-- Parts: what a watched run adds to the text of a run.
 pub mod Parts
 -- Laws: what is proved of these definitions.
 pub mod Laws

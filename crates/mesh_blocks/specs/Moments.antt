@@ -6,20 +6,23 @@ use Rattle.mesh_text.specs.Schedule.{Moment, opening, world_of}
 use Rattle.mesh_text.specs.Text.{RunText, pieces_of_input}
 use Rattle.mesh_text.specs.Runs.{events_of_input, moment_in_next}
 use Rattle.mesh_text.specs.declared.verdict.Verdict.TheVariants.{Finished}
+use Rattle.mesh_blocks.specs.declared.below.Below.{Below}
 use Rattle.mesh_blocks.specs.Text.{watched_from}
 
 -- the watched run of the first i lines of an input
-abbrev pub watched_prefix : Variant → List ℕ → ℕ → RunText
-watched_prefix variant input i = watched_from (opening variant) (take i (pieces_of_input input))
+abbrev pub watched_prefix : Below → Variant → List ℕ → ℕ → RunText
+watched_prefix below variant input i =
+    watched_from below (opening variant) (take i (pieces_of_input input))
 
 -- each of them is allowed, and none is refused for a full counter
-abbrev pub AreDone : Variant → List ℕ → ℕ → Type 0
-AreDone variant input i = (watched_prefix variant input i).verdict ≡ Finished
+abbrev pub AreDone : Below → Variant → List ℕ → ℕ → Type 0
+AreDone below variant input i = (watched_prefix below variant input i).verdict ≡ Finished
 
 -- the moment after them, and k events of the next
-abbrev pub moment_within : Variant → List ℕ → (i k : ℕ) → Moment
-moment_within variant input i k =
-    moment_in_next (watched_prefix variant input i).after (slice_get (pieces_of_input input) i) k
+abbrev pub moment_within : Below → Variant → List ℕ → (i k : ℕ) → Moment
+moment_within below variant input i k =
+    let before = watched_prefix below variant input i in
+    moment_in_next before.after (slice_get (pieces_of_input input) i) k
 
 -- the world of a moment is the one that as many of the input's events lead to as were counted, one
 -- after another, from the nodes that are there

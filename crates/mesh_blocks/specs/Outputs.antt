@@ -7,6 +7,7 @@ use Rattle.mesh_text.specs.Runs.{moment_at, world_after}
 use Rattle.mesh_run.specs.Outputs.{IsOutputOf}
 use Rattle.mesh_run.specs.declared.say.Say.TheVariants.{All}
 use Rattle.mesh_run.specs.declared.status.Status.{Status}
+use Rattle.mesh_blocks.specs.declared.below.Below.{Below}
 use Rattle.mesh_blocks.specs.Text.{watched_on, watched_of_input}
 use Rattle.mesh_blocks.specs.Moments.{AreDone, moment_within, IsOfEvents}
 use Rattle.mesh_blocks.specs.Parts.{HasBlocksBelowEvents}
@@ -15,28 +16,30 @@ use Rattle.mesh_blocks.specs.Parts.{HasBlocksBelowEvents}
 
 -- a watched run of these bytes from a moment on has answered, where the source has this left. After
 -- a failed read what was written is the text of the lines that were read whole
-abbrev pub IsOutputFrom : Moment → List ℕ → Option (List ℕ) → Option (List ℕ) → Option (List ℕ)
-    → Status → Type 0
-IsOutputFrom m bytes left before now s = IsOutputOf All (watched_on m) bytes left before now s
+abbrev pub IsOutputFrom : Below → Moment → List ℕ → Option (List ℕ) → Option (List ℕ)
+    → Option (List ℕ) → Status → Type 0
+IsOutputFrom below m bytes left before now s =
+    IsOutputOf All (watched_on below m) bytes left before now s
 
 -- ---- the run that is written
 
 -- its worlds are those of the schedule's run: the last one; and the one after each line, and after
--- each event of the next. In none of them has a destination a loop. Its text is that of the run
--- with a block directly below each event that has changed a node
-pub record IsWatchedRun (variant : Variant) (schedule : List ℕ) : Type 0 where
-  pub worlds : let w = watched_of_input variant schedule in
+-- each event of the next. In none of them has a destination a loop. Its text is that of the run,
+-- and directly below each event that has changed a node its block, or the changes of its block
+pub record IsWatchedRun (below : Below) (variant : Variant) (schedule : List ℕ) : Type 0 where
+  pub worlds : let w = watched_of_input below variant schedule in
       world_of w.after ≡ world_after variant schedule w.after.sums.events
-  pub same : (i k : ℕ) → moment_within variant schedule i k ≡ moment_at variant schedule i k
-  pub moments : (i k : ℕ) → AreDone variant schedule i
-      → IsOfEvents variant schedule (moment_within variant schedule i k)
+  pub same : (i k : ℕ) → moment_within below variant schedule i k ≡ moment_at variant schedule i k
+  pub moments : (i k : ℕ) → AreDone below variant schedule i
+      → IsOfEvents variant schedule (moment_within below variant schedule i k)
   pub loop_free : (k d : ℕ) → ¬ (Cycle (world_after variant schedule k) d)
   pub moments_loop_free : (i k d : ℕ)
-      → ¬ (Cycle (world_of (moment_within variant schedule i k)) d)
-  pub blocks : HasBlocksBelowEvents variant schedule
+      → ¬ (Cycle (world_of (moment_within below variant schedule i k)) d)
+  pub blocks : HasBlocksBelowEvents below variant schedule
 
 -- what was told of the schedule that a source had, which is that of such a run
-abbrev pub IsRun : Variant → List ℕ → Option (List ℕ) → Option (List ℕ) → Option (List ℕ) → Status
-    → Type 0
-IsRun variant schedule left before now s =
-    IsOutputFrom (opening variant) schedule left before now s × IsWatchedRun variant schedule
+abbrev pub IsRun : Below → Variant → List ℕ → Option (List ℕ) → Option (List ℕ) → Option (List ℕ)
+    → Status → Type 0
+IsRun below variant schedule left before now s =
+    IsOutputFrom below (opening variant) schedule left before now s
+    × IsWatchedRun below variant schedule

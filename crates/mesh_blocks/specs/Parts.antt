@@ -1,5 +1,5 @@
--- What the blocks add to the text of a run: whole lines, each block directly below the lines of its
--- event, and of the node that the event has changed, at the moment after it.
+-- What a watched run adds to the text of a run: whole lines, directly below the lines of each event
+-- that has changed a node, which show that node at the moment after it, or what has changed of it.
 use Rattle.std.specs.Prelude.{ℕ, ◌≡◌, ◌≢◌, List, [], ◌∷◌, ◌++◌}
 use Rattle.std.specs.List.{concat, AllByRecursion}
 use Rattle.mesh_base.specs.Meshes.{Nodes}
@@ -11,7 +11,8 @@ use Rattle.mesh_text.specs.Effects.{outcome_lines}
 use Rattle.mesh_text.specs.Text.{text_of_input}
 use Rattle.mesh_text.specs.Runs.{events_of_input, mesh_of_input}
 use Rattle.mesh_text.specs.declared.verdict.Verdict.TheVariants.{FullAt}
-use Rattle.mesh_blocks.specs.Blocks.{block_below}
+use Rattle.mesh_blocks.specs.declared.below.Below.{Below}
+use Rattle.mesh_blocks.specs.Forms.{below_text}
 use Rattle.mesh_blocks.specs.Text.{watched_of_input}
 
 -- ---- parts
@@ -39,21 +40,22 @@ run_texts m [] = []
 run_texts m (Did e ∷ parts) = event_text m e ∷ run_texts (next_moment m e) parts
 run_texts m (Other text ∷ parts) = text ∷ run_texts m parts
 
--- in the watched text each event has its block directly below it
-abbrev pub watched_texts : Moment → List Part → List (List ℕ)
-watched_texts m [] = []
-watched_texts m (Did e ∷ parts) =
-    event_text m e ∷ block_below m e ∷ watched_texts (next_moment m e) parts
-watched_texts m (Other text ∷ parts) = text ∷ watched_texts m parts
+-- in the watched text each event has its block, or the changes of its block, directly below it
+abbrev pub watched_texts : Below → Moment → List Part → List (List ℕ)
+watched_texts below m [] = []
+watched_texts below m (Did e ∷ parts) =
+    event_text m e ∷ below_text below m e ∷ watched_texts below (next_moment m e) parts
+watched_texts below m (Other text ∷ parts) = text ∷ watched_texts below m parts
 
 -- the text and the watched text of these events, from a moment on: the same parts in both, but for
--- the blocks, and each part and each block is whole lines
-pub record IsWithBlocks (m : Moment) (es : List Event) (text watched : List ℕ) : Type 0 where
+-- what stands below the events, and each part and all that stands below an event is whole lines
+pub record IsWithBlocks (below : Below) (m : Moment) (es : List Event) (text watched : List ℕ)
+    : Type 0 where
   pub parts : List Part
   pub events : es ≡ events_in parts
   pub run : text ≡ concat (run_texts m parts)
-  pub watched_run : watched ≡ concat (watched_texts m parts)
-  pub whole : AllByRecursion EndsWithLf (watched_texts m parts)
+  pub watched_run : watched ≡ concat (watched_texts below m parts)
+  pub whole : AllByRecursion EndsWithLf (watched_texts below m parts)
 
 -- ---- a run
 
@@ -61,12 +63,12 @@ pub record IsWithBlocks (m : Moment) (es : List Event) (text watched : List ℕ)
 abbrev pub before_events : Variant → Nodes → Moment
 before_events variant mesh = with_world (record (opening variant) { mesh = mesh })
 
--- the events of the input stand in order, each with its block: all of them, unless a full counter
--- has ended the run; then those before the one that it refused
-pub record HasBlocksBelowEvents (variant : Variant) (input : List ℕ) : Type 0 where
+-- the events of the input stand in order, each with what belongs below it: all of them, unless a
+-- full counter has ended the run; then those before the one that it refused
+pub record HasBlocksBelowEvents (below : Below) (variant : Variant) (input : List ℕ) : Type 0 where
   pub done : List Event
   pub rest : List Event
   pub events : events_of_input variant input ≡ done ++ rest
   pub all : ((number : ℕ) → (text_of_input variant input).verdict ≢ FullAt number) → rest ≡ []
-  pub blocks : IsWithBlocks (before_events variant (mesh_of_input variant input)) done
-      (text_of_input variant input).lines (watched_of_input variant input).lines
+  pub blocks : IsWithBlocks below (before_events variant (mesh_of_input variant input)) done
+      (text_of_input variant input).lines (watched_of_input below variant input).lines

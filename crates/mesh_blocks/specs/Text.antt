@@ -1,5 +1,5 @@
--- The text of a watched run, and its verdict, from the bytes of its input: the text of the run,
--- with a block below each event that has changed a node.
+-- The text of a watched run, and its verdict, from the bytes of its input: the text of the run, and
+-- below each event that has changed a node its block, or the changes of its block.
 use Rattle.std.specs.Prelude.{ℕ, List, [], ◌∷◌, Result, Ok, Err, length, is_some}
 use Rattle.mesh_base.specs.declared.events.Variant.{Variant}
 use Rattle.mesh_model.specs.Worlds.{Event}
@@ -14,53 +14,56 @@ use Rattle.mesh_text.specs.Lines.{words_of}
 use Rattle.mesh_text.specs.Auto.{EventsOutcome, Ended, before, done_then, events_chosen}
 use Rattle.mesh_text.specs.Text.{LineOutcome, Refused, outcome_by_events, outcome_of_auto, outcome_of_line, outcome_of_piece, RunText, ending, outcome_in_run}
 use Rattle.mesh_text.specs.declared.verdict.Verdict.{Verdict}
-use Rattle.mesh_blocks.specs.Blocks.{block_below}
+use Rattle.mesh_blocks.specs.declared.below.Below.{Below}
+use Rattle.mesh_blocks.specs.Forms.{below_text}
 
--- these events from a moment on, each with its block
-unfoldable pub watched_events : Moment → List Event → EventsOutcome
-watched_events m [] = Ended [] m
-watched_events m (e ∷ events) =
-    done_then m e (outcome_at m e) (λ n. before (block_below m e) (watched_events n events))
+-- these events from a moment on, each with what stands below it
+unfoldable pub watched_events : Below → Moment → List Event → EventsOutcome
+watched_events below m [] = Ended [] m
+watched_events below m (e ∷ events) =
+    done_then m e (outcome_at m e)
+    (λ n. before (below_text below m e) (watched_events below n events))
 
 -- ---- one line
 
--- an allowed line at a moment: its events have their blocks
-unfoldable pub watched_line : Moment → AcceptedLine → LineOutcome
-watched_line m (Does e) = outcome_by_events (watched_events (with_world m) (e ∷ []))
-watched_line m (Chooses count) =
+-- an allowed line at a moment
+unfoldable pub watched_line : Below → Moment → AcceptedLine → LineOutcome
+watched_line below m (Does e) = outcome_by_events (watched_events below (with_world m) (e ∷ []))
+watched_line below m (Chooses count) =
     let chosen = events_chosen count (with_world m) in
     outcome_of_auto (line (words_of m.mesh (Chooses count))) (length chosen)
-    (watched_events (with_world m) chosen)
-watched_line m others = outcome_of_line m others
+    (watched_events below (with_world m) chosen)
+watched_line below m others = outcome_of_line m others
 
-abbrev pub watched_read : Moment → Result AcceptedLine LineFault → LineOutcome
-watched_read m (Ok a) = watched_line m a
-watched_read m (Err fault) = Refused (Fault fault)
+abbrev pub watched_read : Below → Moment → Result AcceptedLine LineFault → LineOutcome
+watched_read below m (Ok a) = watched_line below m a
+watched_read below m (Err fault) = Refused (Fault fault)
 
 -- what a line of the input comes to at a moment
-unfoldable pub watched_piece : Moment → Piece → LineOutcome
-watched_piece m (Whole line) = watched_read m (line_of m.mesh (is_some m.world) line)
-watched_piece m others = outcome_of_piece m others
+unfoldable pub watched_piece : Below → Moment → Piece → LineOutcome
+watched_piece below m (Whole line) =
+    watched_read below m (line_of m.mesh (is_some m.world) line)
+watched_piece below m others = outcome_of_piece m others
 
 -- ---- all lines
 
 -- a watched run of a schedule: nothing stands before the text of its first line, and it ends as the
 -- run does
-abbrev pub watched_run : shell.Story Moment Verdict
-watched_run = record {
+abbrev pub watched_run : Below → shell.Story Moment Verdict
+watched_run below = record {
   head = λ m. [];
-  outcome = λ m piece. outcome_in_run m (watched_piece m piece);
+  outcome = λ m piece. outcome_in_run m (watched_piece below m piece);
   ending = ending;
 }
 
 -- the watched run of these lines from a moment on
-abbrev pub watched_from : Moment → List Piece → RunText
-watched_from m pieces = shell.text_from watched_run m pieces
+abbrev pub watched_from : Below → Moment → List Piece → RunText
+watched_from below m pieces = shell.text_from (watched_run below) m pieces
 
 -- what a watched run writes for an input from a moment on, and what it comes to
-abbrev pub watched_on : Moment → List ℕ → RunText
-watched_on m input = shell.text_on watched_run schedule_limits m input
+abbrev pub watched_on : Below → Moment → List ℕ → RunText
+watched_on below m input = shell.text_on (watched_run below) schedule_limits m input
 
 -- the same from the opening on
-unfoldable pub watched_of_input : Variant → List ℕ → RunText
-watched_of_input variant input = watched_on (opening variant) input
+unfoldable pub watched_of_input : Below → Variant → List ℕ → RunText
+watched_of_input below variant input = watched_on below (opening variant) input

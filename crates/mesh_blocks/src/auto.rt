@@ -1,4 +1,4 @@
-//! Events that the run chooses, one after another, each with its block.
+//! Events that the run chooses, one after another, each with what stands below it.
 ghost use Rattle.std.specs.Prelude.{◌≡◌, ◌<◌, ◌+◌, ◌^◌, length, is_some, true, OnOk, IfOk};
 ghost use Rattle.mesh_text.specs.Schedule.{Chooses};
 ghost use Rattle.mesh_text.specs.Auto.{events_chosen};
@@ -7,6 +7,8 @@ ghost use Rattle.mesh_run.specs.Causes.{HasStopCause};
 ghost use Rattle.mesh_run.specs.Runs.{IsLineOf, IsLineRun, IsEventsRun};
 ghost use Rattle.mesh_blocks.specs.Text.{watched_events, watched_line};
 
+use crate::below::Below;
+use crate::draft::Drafts;
 use crate::event::do_event;
 use mesh_io::Sink;
 use mesh_moment::{Point, next_event};
@@ -21,13 +23,15 @@ use std::alloc::Global;
 fn do_events<O: Sink>(
     alloc: Global,
     at: &mut Point<World>,
+    below: Below,
+    drafts: &mut Drafts,
     count: u32,
     out: &mut O,
 ) -> Result<u32, Stop<'static>>
     requires started { is_some at.old.world ≡ true }
     requires few { at.old.steps + count < 2 ^ 48 }
-    ensures ran { IsEventsRun true at.old (watched_events at.old (events_chosen count at.old))
-        at.new (O.held out.old) (O.held out.new) result }
+    ensures ran { IsEventsRun true at.old
+        (watched_events below at.old (events_chosen count at.old)) at.new (O.held out.old) (O.held out.new) result }
     ensures did { IfOk result (λ did. did ≡ length (events_chosen count at.old)) }
     ensures lines { OnOk result (at.new.lines ≡ at.old.lines) }
     ensures cause { HasStopCause (O.faults out.old) (O.faults out.new) result }
@@ -37,7 +41,7 @@ fn do_events<O: Sink>(
         let Some(event) = next_event(at) else {
             return Ok(did);
         };
-        if let Err(stop) = do_event(alloc, at, None, event, out) {
+        if let Err(stop) = do_event(alloc, at, below, drafts, None, event, out) {
             return Err(stop);
         }
         did += 1;
@@ -46,10 +50,12 @@ fn do_events<O: Sink>(
 }
 
 /// Does a line of events that the run chooses, starts the run where that is due, and counts the
-/// line: writes it as it stands, the events with their blocks, and their number.
+/// line: writes it as it stands, the events with what stands below each, and their number.
 pub fn do_auto<O: Sink>(
     alloc: Global,
     at: &mut Point<World>,
+    below: Below,
+    drafts: &mut Drafts,
     bytes: &[u8],
     count: u32,
     out: &mut O,
@@ -58,13 +64,13 @@ pub fn do_auto<O: Sink>(
     requires steps { at.old.steps < 2 ^ 47 }
     requires printable { IsPrintable at.old.mesh (Line.Auto count) }
     requires echo { IsLineOf at.old.mesh (Chooses count) bytes.now }
-    ensures comes { IsLineRun true at.old (watched_line at.old (Chooses count))
+    ensures comes { IsLineRun true at.old (watched_line below at.old (Chooses count))
         at.new (O.held out.old) (O.held out.new) result }
     ensures cause { HasStopCause (O.faults out.old) (O.faults out.new) result }
 {
     at.begin(alloc)?;
     put_echo(bytes, &mut at.line, out)?;
-    let did = match do_events(alloc, at, count, out) {
+    let did = match do_events(alloc, at, below, drafts, count, out) {
         Ok(did) => did,
         Err(stop) => return Err(stop),
     };

@@ -7,32 +7,67 @@ ghost use Rattle.mesh_text.specs.declared.verdict.Verdict.TheVariants.{Finished}
 ghost use Rattle.mesh_run.specs.Causes.{HasSourceCause, HasStatusCause};
 ghost use Rattle.mesh_blocks.specs.Outputs.{IsRun};
 
+use crate::below::{Below, Form, WithBlocks, WithChanges};
 use crate::watched::Watched;
 use mesh_base::Variant;
 use mesh_io::{Limits, SCHEDULE_ROOM, Sink, Source};
 use mesh_run::Status;
 use std::alloc::Global;
 
-/// Runs the schedule that the source gives, in a world of its own where all nodes run this variant
-/// of the protocol, and writes its text to the sink, line by line, with a block below each event
-/// that has changed a node: what a line `show` of that node writes at the moment after the event.
-///
-/// What is written is gathered in a buffer of 65536 bytes, and handed on when that is full, before
-/// each read of the source, and at the end, unless a write has failed.
-#[inline(never)]
-pub fn run<I: Source, O: Sink>(
+// The same in one form.
+fn run_as<F: Form, I: Source, O: Sink>(
     alloc: Global,
     variant: Variant,
     input: &mut I,
     out: &mut O,
 ) -> Status
-    // What is written is the text of the input with its blocks, and the answer its verdict. After a
-    // failed write, or want of memory, it is a prefix of that text; after a failed read it is the
-    // text of the lines that were read whole. Each block is whole lines, directly below those of
-    // its event, and shows the node that the event has changed, at the moment after it. After each
-    // line of that run, and after each event of the next, the world is that of the run without
+    ensures told { IfSome (I.left input.old) (λ bytes. IsRun F.below variant bytes
+        (I.left input.new) (O.held out.old) (O.held out.new) result) }
+    ensures end { result ≡ Status.Done → IsAtEnd (I.left input.new) }
+    ensures read { HasSourceCause (I.faults input.old) (I.faults input.new) result }
+    ensures write { HasStatusCause Status.WriteFault (O.faults out.old) (O.faults out.new) result }
+    ensures words { result ≢ Status.Usage }
+    ensures complete { IfSome (I.left input.old) (λ bytes.
+        (text_of_input variant bytes).verdict ≡ Finished
+        → (Rose (I.faults input.old) (I.faults input.new) → ⊥)
+        → (Rose (O.faults out.old) (O.faults out.new) → ⊥)
+        → (result ≡ Status.Done) ⊎ (result ≡ Status.NoMemory)) }
+{
+    let mut watched: Watched<F> = Watched::with(alloc, variant);
+    let answer = mesh_shell::run::<Watched<F>, I, O, SCHEDULE_ROOM>(
+        alloc,
+        &mut watched,
+        Limits::of_schedule(),
+        input,
+        out,
+    );
+    Status::of(answer)
+}
+
+/// Runs the schedule that the source gives, in a world of its own where all nodes run this variant
+/// of the protocol, and writes its text to the sink, line by line, with what is asked for below
+/// each event that has changed a node: with `Blocks` what a line `show` of that node writes at the
+/// moment after the event; with `Changes` a line that names the node, and then each line of that
+/// block that went with the event or came, in the block's order.
+///
+/// What is written is gathered in a buffer of 65536 bytes, and handed on when that is full, before
+/// each read of the source, and at the end, unless a write has failed. With `Changes` two blocks
+/// are held in memory.
+#[inline(never)]
+pub fn run<I: Source, O: Sink>(
+    alloc: Global,
+    variant: Variant,
+    below: Below,
+    input: &mut I,
+    out: &mut O,
+) -> Status
+    // What is written is the text of the input with its blocks, or their changes, and the answer
+    // its verdict. After a failed write, or want of memory, it is a prefix of that text; after a
+    // failed read it is the text of the lines that were read whole. A block and its changes are
+    // whole lines, directly below those of the event, of the node that the event has changed. After
+    // each line of that run, and after each event of the next, the world is that of the run without
     // blocks, to which its events so far lead, and in no such world does a destination have a loop.
-    ensures told { IfSome (I.left input.old) (λ bytes. IsRun variant bytes
+    ensures told { IfSome (I.left input.old) (λ bytes. IsRun below variant bytes
         (I.left input.new) (O.held out.old) (O.held out.new) result) }
 
     // Done only where the input was read to its end.
@@ -52,13 +87,8 @@ pub fn run<I: Source, O: Sink>(
         → (Rose (O.faults out.old) (O.faults out.new) → ⊥)
         → (result ≡ Status.Done) ⊎ (result ≡ Status.NoMemory)) }
 {
-    let mut watched = Watched::with(alloc, variant);
-    let answer = mesh_shell::run::<Watched, I, O, SCHEDULE_ROOM>(
-        alloc,
-        &mut watched,
-        Limits::of_schedule(),
-        input,
-        out,
-    );
-    Status::of(answer)
+    match below {
+        Below::Blocks => run_as::<WithBlocks, I, O>(alloc, variant, input, out),
+        Below::Changes => run_as::<WithChanges, I, O>(alloc, variant, input, out),
+    }
 }

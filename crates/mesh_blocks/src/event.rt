@@ -1,96 +1,134 @@
-//! An event, and the block of the node that it has changed.
-ghost use Rattle.std.specs.Prelude.{◌≡◌, ◌<◌, ◌^◌, ◌++◌, List, ℕ, length, is_some, true, OnOk, IfSome};
+//! An event, and what stands below it.
+ghost use Rattle.std.specs.Prelude.{◌≡◌, ◌<◌, ◌^◌, ◌++◌, length, is_some, true, OnOk, IfSome, IsErrOf};
 ghost use Rattle.mesh_base.specs.Meshes.{Nodes};
 ghost use Rattle.mesh_io.specs.Cause.{HasCause};
 ghost use Rattle.mesh_io.specs.Puts.{Puts};
-ghost use Rattle.mesh_model.specs.Worlds as worlds;
-ghost use Rattle.mesh_model.specs.Worlds.{Deliver};
 ghost use Rattle.mesh_model.specs.Places.{IsEvent};
-ghost use Rattle.mesh_meaning.specs.Answers.{outcome_in, IsDoneInMesh};
+ghost use Rattle.mesh_meaning.specs.Answers.{IsDoneInMesh};
 ghost use Rattle.mesh_meaning.specs.Events.{event_of};
 ghost use Rattle.mesh_text.specs.Schedule.{Moment, next_moment, outcome_at, Does};
 ghost use Rattle.mesh_text.specs.Effects.{outcome_lines};
 ghost use Rattle.mesh_script.specs.Seen.{IsPrintable};
 ghost use Rattle.mesh_moment.specs.Moments.{IsAnswer};
-ghost use Rattle.mesh_run.specs.Causes.{HasStopCause};
+ghost use Rattle.mesh_run.specs.Causes.{HasCauseIf, HasStopCause};
 ghost use Rattle.mesh_run.specs.Runs.{IsLineOf, IsLineRun};
-ghost use Rattle.mesh_blocks.specs.Blocks.{changed_by, shown_node, block_below};
+ghost use Rattle.mesh_blocks.specs.Changes.{changed_line, changed_from};
+ghost use Rattle.mesh_blocks.specs.Forms.{below_text};
 ghost use Rattle.mesh_blocks.specs.Text.{watched_line};
-ghost use Rattle.mesh_blocks.specs.Lines.{watched_event};
+ghost use Rattle.mesh_blocks.specs.Lines.{watched_event, shown_by, IsKeptFor};
+ghost use Rattle.mesh_blocks.specs.declared.event.Unwritten.TheVariants as unwritten;
 
-use mesh_base::{Done, Event, LineBuf, Packet};
-use mesh_io::{PutFault, Sink};
+use crate::below::Below;
+use crate::block::{changed_by, draw_block, draw_block_before, put_shown};
+use crate::changes::put_changes;
+use crate::draft::Drafts;
+use mesh_base::{Done, Event, LineBuf, Mesh, NoMemory, Packet};
+use mesh_io::{PutFault, Sink, put_all};
 use mesh_moment::{Point, State};
-use mesh_report::put_line;
 use mesh_run::{Stop, say_event};
 use mesh_script::Line;
-use mesh_show::put_node;
-use mesh_world::{StepError, Steps, World};
+use mesh_world::{StepError, World};
 use std::alloc::Global;
 
-// The node whose state an event has changed, by what it did.
-fn changed_by(event: &Event<'_>, done: &Done) -> Option<usize>
-    ensures value { (mesh : Nodes) (x : ℕ) (w : worlds.World) (packet : List ℕ) → result
-        ≡ changed_by (event_of event.now) (outcome_in mesh x w done.now packet) }
-    ensures within { (mesh : Nodes) (packet : List ℕ) → IsEvent (length mesh) (event_of event.now)
-        → IsDoneInMesh mesh done.now packet → IfSome result (λ x. x < length mesh) }
-{
-    if let Done::Idle = done {
-        return None;
-    }
-    match event {
-        Event::Give { node, .. } => Some(*node),
-        Event::Turn { node } => Some(*node),
-        Event::Send { node, .. } => Some(*node),
-        Event::Ask { node, .. } => Some(*node),
-        Event::Deliver { .. } => heard_by(done),
-        _ => None,
+/// Why an event was not written whole with what stands below it.
+#[derive(Clone, Copy)]
+pub enum Unwritten {
+    WriteFault,
+    NoMemory,
+}
+
+impl From<PutFault> for Unwritten {
+    ghost from_gives = { λ _ fault. fault ≡ unwritten.WriteFault };
+
+    fn from(_fault: PutFault) -> Self {
+        Unwritten::WriteFault
     }
 }
 
-// The receiver of a copy that was heard.
-fn heard_by(done: &Done) -> Option<usize>
-    ensures value { (mesh : Nodes) (x id : ℕ) (w : worlds.World) (packet : List ℕ) → result
-        ≡ changed_by (Deliver id) (outcome_in mesh x w done.now packet) }
-    ensures within { (mesh : Nodes) (packet : List ℕ) → IsDoneInMesh mesh done.now packet
-        → IfSome result (λ x. x < length mesh) }
-{
-    match done {
-        Done::Heard { to, .. } => Some(*to),
-        _ => None,
+impl From<NoMemory> for Unwritten {
+    ghost from_gives = { λ _ fault. fault ≡ unwritten.NoMemory };
+
+    fn from(_none: NoMemory) -> Self {
+        Unwritten::NoMemory
     }
 }
 
-// A node as a line `show` shows it.
-fn put_shown<O: Sink>(
-    state: &State<World>,
+// The line that names a node that was changed.
+fn put_changed_line<O: Sink>(
+    mesh: &Mesh,
     node: usize,
     buf: &mut LineBuf,
     out: &mut O,
 ) -> Result<(), PutFault>
-    requires started { is_some state.now.world ≡ true }
-    requires node { node < length state.now.mesh }
-    ensures text { Puts (O.held out.old) (O.held out.new) (shown_node state.now node) result }
+    requires { node < length mesh.now }
+    ensures text { Puts (O.held out.old) (O.held out.new) (changed_line mesh.now node) result }
     ensures cause { HasCause (O.faults out.old) (O.faults out.new) result }
 {
-    let Some(made) = state.world() else {
-        unreachable!();
-    };
-    let world = made.world();
-    put_line(world.mesh(), &Line::Show { node }, buf, out)?;
-    put_node(world.mesh(), world.node(node), buf, out)
+    buf.clear();
+    buf.push_slice(b"changed ");
+    mesh.push_name(node, buf);
+    buf.push(b'\n');
+    put_all(out, buf.as_slice())
 }
 
-// An event, what it did, and the block of the node that it has changed, at the moment after it.
+// What has changed of the block of a node, which is kept as it was before.
+fn put_changed<O: Sink>(
+    state: &State<World>,
+    node: usize,
+    drafts: &mut Drafts,
+    buf: &mut LineBuf,
+    out: &mut O,
+) -> Result<(), Unwritten>
+    requires started { is_some state.now.world ≡ true }
+    requires node { node < length state.now.mesh }
+    ensures text { Puts (O.held out.old) (O.held out.new)
+        (changed_from drafts.old.before.bytes.items state.now node) result }
+    ensures cause { HasCauseIf (IsErrOf result Unwritten.WriteFault)
+        (O.faults out.old) (O.faults out.new) }
+{
+    draw_block(state, node, buf, &mut drafts.after)?;
+    put_changed_line(state.mesh(), node, buf, out)?;
+    put_changes(drafts.before.text(), drafts.after.text(), out)?;
+    Ok(())
+}
+
+// What stands below an event that has changed this node.
+fn put_below<O: Sink>(
+    state: &State<World>,
+    node: usize,
+    below: Below,
+    drafts: &mut Drafts,
+    buf: &mut LineBuf,
+    out: &mut O,
+) -> Result<(), Unwritten>
+    requires started { is_some state.now.world ≡ true }
+    requires node { node < length state.now.mesh }
+    ensures text { Puts (O.held out.old) (O.held out.new)
+        (shown_by below drafts.old.before.bytes.items state.now node) result }
+    ensures cause { HasCauseIf (IsErrOf result Unwritten.WriteFault)
+        (O.faults out.old) (O.faults out.new) }
+{
+    match below {
+        Below::Blocks => {
+            put_shown(state, node, buf, out)?;
+            Ok(())
+        }
+        Below::Changes => put_changed(state, node, drafts, buf, out),
+    }
+}
+
+// An event, what it did, and what stands below it.
 fn put_watched<O: Sink>(
     state: &State<World>,
+    below: Below,
     bytes: Option<&[u8]>,
     event: &Event<'_>,
     done: &Done,
     packet: &Packet,
+    drafts: &mut Drafts,
     buf: &mut LineBuf,
     out: &mut O,
-) -> Result<(), PutFault>
+) -> Result<(), Unwritten>
     requires started { is_some state.now.world ≡ true }
     requires event { IsEvent (length state.now.mesh) (event_of event.now) }
     requires printable { IsPrintable state.now.mesh (Line.Step event.now) }
@@ -98,24 +136,47 @@ fn put_watched<O: Sink>(
     requires echo { IfSome bytes (λ b. IsLineOf state.now.mesh (Does (event_of event.now)) b.now) }
     ensures text { (m : Moment)
         → IsAnswer m (event_of event.now) done.now state.now packet.now.items
+        → IsKeptFor below m (event_of event.now) drafts.old.before.bytes.items
         → Puts (O.held out.old) (O.held out.new)
         (outcome_lines m.mesh (event_of event.now) (outcome_at m (event_of event.now))
-        ++ block_below m (event_of event.now)) result }
-    ensures cause { HasCause (O.faults out.old) (O.faults out.new) result }
+        ++ below_text below m (event_of event.now)) result }
+    ensures cause { HasCauseIf (IsErrOf result Unwritten.WriteFault)
+        (O.faults out.old) (O.faults out.new) }
 {
     let mesh = state.mesh();
     say_event(mesh, bytes, event, done, packet, buf, out)?;
     match changed_by(event, done) {
-        Some(node) => put_shown(state, node, buf, out),
+        Some(node) => put_below(state, node, below, drafts, buf, out),
         None => Ok(()),
     }
 }
 
-/// Does an event once the run has started, and writes it with its block: as its line stands, where
-/// it has one.
+// Keeps the block of the node that an event will change, where the changes are to be written.
+fn keep_block(
+    state: &State<World>,
+    below: Below,
+    event: &Event<'_>,
+    buf: &mut LineBuf,
+    drafts: &mut Drafts,
+) -> Result<(), NoMemory>
+    requires started { is_some state.now.world ≡ true }
+    requires event { IsEvent (length state.now.mesh) (event_of event.now) }
+    ensures { OnOk result
+        (IsKeptFor below state.now (event_of event.now) drafts.new.before.bytes.items) }
+{
+    match below {
+        Below::Blocks => Ok(()),
+        Below::Changes => draw_block_before(state, event, buf, &mut drafts.before),
+    }
+}
+
+/// Does an event once the run has started, and writes it with what stands below it: as its line
+/// stands, where it has one.
 pub fn do_event<'a, O: Sink>(
     alloc: Global,
     at: &mut Point<World>,
+    below: Below,
+    drafts: &mut Drafts,
     bytes: Option<&[u8]>,
     event: Event<'a>,
     out: &mut O,
@@ -124,26 +185,30 @@ pub fn do_event<'a, O: Sink>(
     requires few { at.old.steps < 2 ^ 48 }
     requires printable { IsPrintable at.old.mesh (Line.Step event) }
     requires echo { IfSome bytes (λ b. IsLineOf at.old.mesh (Does (event_of event)) b.now) }
-    ensures comes { IsLineRun true at.old (watched_event at.old (event_of event.entry))
+    ensures comes { IsLineRun true at.old (watched_event below at.old (event_of event.entry))
         at.new (O.held out.old) (O.held out.new) result }
     ensures moment { OnOk result (at.new ≡ next_moment at.old (event_of event.entry)) }
     ensures cause { HasStopCause (O.faults out.old) (O.faults out.new) result }
 {
+    keep_block(&at.state, below, &event, &mut at.line, drafts)?;
     let state = &mut at.state;
     let answer = state.step_made(alloc, &event, &mut at.packet);
     match &answer {
         Ok(done) => {
             match put_watched(
                 &at.state,
+                below,
                 bytes,
                 &event,
                 done,
                 &at.packet,
+                drafts,
                 &mut at.line,
                 out,
             ) {
                 Ok(()) => Ok(()),
-                Err(_) => Err(Stop::WriteFault),
+                Err(Unwritten::WriteFault) => Err(Stop::WriteFault),
+                Err(Unwritten::NoMemory) => Err(Stop::NoMemory),
             }
         }
         Err(StepError::Full { node, field }) => Err(Stop::Full {
@@ -156,10 +221,12 @@ pub fn do_event<'a, O: Sink>(
 }
 
 /// Does a line with one event, starts the run where that is due, and counts the line: writes it as
-/// it stands, what the event did, and its block.
+/// it stands, what the event did, and what stands below it.
 pub fn do_step<'a, O: Sink>(
     alloc: Global,
     at: &mut Point<World>,
+    below: Below,
+    drafts: &mut Drafts,
     bytes: &[u8],
     event: Event<'a>,
     out: &mut O,
@@ -168,12 +235,12 @@ pub fn do_step<'a, O: Sink>(
     requires steps { at.old.steps < 2 ^ 47 }
     requires printable { IsPrintable at.old.mesh (Line.Step event) }
     requires echo { IsLineOf at.old.mesh (Does (event_of event)) bytes.now }
-    ensures comes { IsLineRun true at.old (watched_line at.old (Does (event_of event.entry)))
+    ensures comes { IsLineRun true at.old (watched_line below at.old (Does (event_of event.entry)))
         at.new (O.held out.old) (O.held out.new) result }
     ensures cause { HasStopCause (O.faults out.old) (O.faults out.new) result }
 {
     at.begin(alloc)?;
-    if let Err(stop) = do_event(alloc, at, Some(bytes), event, out) {
+    if let Err(stop) = do_event(alloc, at, below, drafts, Some(bytes), event, out) {
         return Err(stop);
     }
     at.count_line();

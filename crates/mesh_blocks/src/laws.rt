@@ -1,5 +1,5 @@
 //! Laws of the definitions. Each function has an empty body and a contract that states a law.
-ghost use Rattle.mesh_blocks.specs.Laws.{WatchedRunIsTheRun, MomentIsTheRuns, BlocksAreAllThatIsAdded, DataAreAccountedFor};
+ghost use Rattle.mesh_blocks.specs.Laws.{WatchedRunIsTheRun, MomentIsTheRuns, BlocksAreAllThatIsAdded, DataAreAccountedFor, ChangesLeadOn, SameLinesHaveNoChanges};
 
 /// A watched run differs from the run in its lines alone: it comes to the same moment, verdict and
 /// last line.
@@ -12,9 +12,10 @@ pub fn each_moment_is_the_runs()
     ensures { MomentIsTheRuns }
 {}
 
-/// The text of a watched run is that of the run with a block directly below each event that has
-/// changed a node, which shows that node at the moment after the event as a line `show` does. The
-/// lines of events, the blocks, and what stands between them are whole lines.
+/// The text of a watched run is that of the run, and directly below each event that has changed a
+/// node it has a block, which shows that node at the moment after the event as a line `show` does,
+/// or what has changed of that block. The lines of events, what stands below them, and what stands
+/// between them are whole lines.
 pub fn blocks_are_all_that_is_added()
     ensures { BlocksAreAllThatIsAdded }
 {}
@@ -23,4 +24,15 @@ pub fn blocks_are_all_that_is_added()
 /// dropped.
 pub fn data_are_accounted_for()
     ensures { DataAreAccountedFor }
+{}
+
+/// The changes of a block lead from the one block to the other: any line stands as often in the
+/// block before, with the times that it came, as in the block after, with the times that it went.
+pub fn changes_lead_on()
+    ensures { ChangesLeadOn }
+{}
+
+/// A block that is as it was has no changes.
+pub fn same_lines_have_no_changes()
+    ensures { SameLinesHaveNoChanges }
 {}

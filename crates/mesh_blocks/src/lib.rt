@@ -1,17 +1,23 @@
-//! The run of a schedule with a block below each event that has changed a node: what a line `show`
-//! of that node writes at the moment after the event. Without its blocks the text is that of the
-//! run, as are the moments, the verdict and the last line. The page and the program `mesh_watch`
-//! run schedules by it.
+//! The run of a schedule with what it changes: below each event that has changed a node stands a
+//! block, which is what a line `show` of that node writes at the moment after the event, or the
+//! changes of that block, which are the lines that went and those that came. Without them the text
+//! is that of the run, as are the moments, the verdict and the last line. The page and the program
+//! `mesh_watch` run schedules by it.
 #![tactic(auto)]
 
 mod auto;
+mod below;
+mod block;
+mod changes;
+mod draft;
 mod driving;
 mod event;
 mod laws;
 mod watched;
 
+pub use below::Below;
 pub use driving::run;
 pub use laws::{
-    a_watched_run_is_the_run, blocks_are_all_that_is_added, data_are_accounted_for,
-    each_moment_is_the_runs,
+    a_watched_run_is_the_run, blocks_are_all_that_is_added, changes_lead_on,
+    data_are_accounted_for, each_moment_is_the_runs, same_lines_have_no_changes,
 };

@@ -6,6 +6,7 @@ use Rattle.mesh_shell.specs.Laws.{AreWhole}
 use Rattle.mesh_shell.specs.Pieces.{pieces_within}
 use Rattle.mesh_shell.specs.Story.{whole}
 use Rattle.mesh_text.specs.Text.{text_of_input}
+use Rattle.mesh_blocks.specs.declared.below.Below.TheVariants.{Blocks}
 use Rattle.mesh_blocks.specs.Text.{watched_of_input}
 use Rattle.mesh_grid.specs.Text as places
 use Rattle.mesh_capture.specs.Captures.{capture_of}
@@ -40,10 +41,11 @@ RunIsCaptured = (variant : Variant) (input : List ℕ) →
     → (whole (capture_of text) ≡ file_of (frames_of_input variant input))
     × ((capture_of text).verdict ≡ Done)
 
--- so has the text of a watched run: its blocks tell of no copy, and none of their lines is refused
+-- so has the text of a watched run with blocks: they tell of no copy, and none of their lines is
+-- refused
 abbrev pub WatchedRunIsCaptured : Type 0
 WatchedRunIsCaptured = (variant : Variant) (input : List ℕ) →
-    let text = whole (watched_of_input variant input) in
+    let text = whole (watched_of_input Blocks variant input) in
     AreWhole (pieces_within text_limits text)
     → (whole (capture_of text) ≡ file_of (frames_of_input variant input))
     × ((capture_of text).verdict ≡ Done)

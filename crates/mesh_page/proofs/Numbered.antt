@@ -6,6 +6,7 @@ use Rattle.mesh_text.specs.EveryWorld.{IsLoopFreeRun, IsAccountedRun}
 use Rattle.mesh_text.specs.NamedData.{IsNamedRun}
 use Rattle.mesh_text.proofs.NamedRuns.{each_datum_is_named}
 use Rattle.mesh_text.proofs.RunLaws.{runs_are_loop_free, each_datum_is_accounted_for}
+use Rattle.mesh_blocks.specs.declared.below.Below.TheVariants.{Blocks}
 use Rattle.mesh_blocks.specs.Outputs.{IsWatchedRun}
 use Rattle.mesh_blocks.proofs.Runs.{is_watched}
 
@@ -21,6 +22,6 @@ pub named : (o : Option Variant) (bytes : List ℕ) → IfSome o (λ v. IsNamedR
 named None bytes = tt
 named (Some v) bytes = each_datum_is_named v bytes
 
-pub watched : (o : Option Variant) (bytes : List ℕ) → IfSome o (λ v. IsWatchedRun v bytes)
+pub watched : (o : Option Variant) (bytes : List ℕ) → IfSome o (λ v. IsWatchedRun Blocks v bytes)
 watched None bytes = tt
-watched (Some v) bytes = is_watched v bytes
+watched (Some v) bytes = is_watched Blocks v bytes

@@ -7,12 +7,13 @@ use Rattle.mesh_run.specs.Codes.{code_of}
 use Rattle.mesh_run.specs.Outputs.{IsOutput}
 use Rattle.mesh_run.specs.declared.status.Status.{Status}
 use Rattle.mesh_run.specs.declared.status.Status.TheVariants.{ReadFault}
+use Rattle.mesh_blocks.specs.declared.below.Below.TheVariants.{Blocks}
 use Rattle.mesh_blocks.specs.Text.{watched_on}
 
 -- what a schedule comes to: the run with a block below each event that has changed a node, or the
 -- run without
 abbrev pub text_by : (blocks : Bool) → Variant → List ℕ → RunText
-text_by true variant input = watched_on (opening variant) input
+text_by true variant input = watched_on Blocks (opening variant) input
 text_by false variant input = text_on (opening variant) input
 
 -- a run that was to write this text has written so much, and answered the number of its status: the

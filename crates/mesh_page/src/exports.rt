@@ -6,6 +6,7 @@ ghost use Rattle.mesh_text.specs.NamedData.{IsNamedRun};
 ghost use Rattle.mesh_text.specs.declared.verdict.Verdict.TheVariants.{Finished};
 ghost use Rattle.mesh_run.specs.Codes.{code_of};
 ghost use Rattle.mesh_run.specs.declared.status.Status.TheVariants as statuses;
+ghost use Rattle.mesh_blocks.specs.declared.below.Below.TheVariants as below;
 ghost use Rattle.mesh_blocks.specs.Outputs.{IsWatchedRun};
 ghost use Rattle.mesh_page.specs.Variants.{variant_numbered};
 ghost use Rattle.mesh_page.specs.Told.{text_by, IsTold};
@@ -54,7 +55,7 @@ pub extern "C" fn mesh_page_run(
     ensures accounted { IfSome (variant_numbered variant) (λ v. IsAccountedRun v input.now) }
     ensures named { IfSome (variant_numbered variant) (λ v. IsNamedRun v input.now) }
     ensures blocks { blocks ≡ true
-        → IfSome (variant_numbered variant) (λ v. IsWatchedRun v input.now) }
+        → IfSome (variant_numbered variant) (λ v. IsWatchedRun below.Blocks v input.now) }
 
     // What stands behind the text is as it was, and only a full room is answered as one.
     ensures room { length out.new ≡ length out.old }

@@ -6,6 +6,7 @@ ghost use Rattle.mesh_page.specs.Told.{text_by};
 
 use crate::sheet::{Lent, Sheet};
 use mesh_base::{Bytes, Variant};
+use mesh_blocks::Below;
 use mesh_io::{Sink, SureSource};
 use mesh_run::Status;
 use mesh_world::World;
@@ -27,7 +28,7 @@ fn run_by<O: Sink>(
     ensures words { result ≢ Status.Usage }
 {
     if blocks {
-        mesh_blocks::run(alloc, variant, input, out)
+        mesh_blocks::run(alloc, variant, Below::Blocks, input, out)
     } else {
         mesh_run::run::<World, SureSource, O>(alloc, false, variant, input, out)
     }

@@ -1,2 +1,2 @@
--- Words: the variant of the protocol that the words of a command line ask for.
+-- Words: what the words of a command line ask for.
 pub mod Words

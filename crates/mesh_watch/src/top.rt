@@ -6,9 +6,9 @@ ghost use Rattle.mesh_text.specs.Text.{text_of_input};
 ghost use Rattle.mesh_text.specs.declared.verdict.Verdict.TheVariants.{Finished};
 ghost use Rattle.mesh_run.specs.Causes.{HasSourceCause, HasStatusCause};
 ghost use Rattle.mesh_blocks.specs.Outputs.{IsRun};
-ghost use Rattle.mesh_watch.specs.Words.{variant_of};
+ghost use Rattle.mesh_watch.specs.Words.{asked_of};
 
-use crate::words::variant_of;
+use crate::words::asked_of;
 use mesh_blocks::run;
 use mesh_io::{Sink, Source};
 use mesh_run::Status;
@@ -16,11 +16,14 @@ use std::alloc::Global;
 
 /// Runs the schedule that the source gives, in a world of its own, and writes its text to the sink,
 /// line by line, with a block below each event that has changed a node: what a line `show` of that
-/// node writes at the moment after the event. Without words all nodes run the protocol as AWN has
-/// it, with `--variant NAME` that variant of it.
+/// node writes at the moment after the event. With a last word `--changes` it writes in place of a
+/// block a line that names the node, and then each line of the block that went with the event or
+/// came, in the block's order. All nodes run the protocol as AWN has it, with the words
+/// `--variant NAME` that variant of it.
 ///
 /// What is written is gathered in a buffer of 65536 bytes, and handed on when that is full, before
-/// each read of the source, and at the end, unless a write has failed.
+/// each read of the source, and at the end, unless a write has failed. With `--changes` two blocks
+/// are held in memory.
 pub fn watch<I: Source, O: Sink>(
     alloc: Global,
     words: &[&str],
@@ -29,18 +32,18 @@ pub fn watch<I: Source, O: Sink>(
 ) -> Status
     // The words are of no form: nothing is read or written.
     ensures usage_exactly_for_other_words { (result ≡ Status.Usage)
-        ↔ (variant_of (map (λ w. w.now) words.now) ≡ None) }
+        ↔ (asked_of (map (λ w. w.now) words.now) ≡ None) }
     ensures untouched_by_other_words { result ≡ Status.Usage
         → (input.new ≡ input.old) × (out.new ≡ out.old) }
 
-    // What is written is the text of the input with its blocks, and the answer its verdict. After a
-    // failed write, or want of memory, it is a prefix of that text; after a failed read it is the
-    // text of the lines that were read whole. Each block is whole lines, directly below those of
-    // its event, and shows the node that the event has changed, at the moment after it. After each
-    // line of that run, and after each event of the next, the world is that of the run without
+    // What is written is the text of the input with its blocks, or their changes, and the answer
+    // its verdict. After a failed write, or want of memory, it is a prefix of that text; after a
+    // failed read it is the text of the lines that were read whole. A block and its changes are
+    // whole lines, directly below those of the event, of the node that the event has changed. After
+    // each line of that run, and after each event of the next, the world is that of the run without
     // blocks, to which its events so far lead, and in no such world does a destination have a loop.
-    ensures text_of_a_loop_free_run { IfSome (variant_of (map (λ w. w.now) words.now)) (λ variant.
-        IfSome (I.left input.old) (λ bytes. IsRun variant bytes
+    ensures text_of_a_loop_free_run { IfSome (asked_of (map (λ w. w.now) words.now)) (λ asked.
+        IfSome (I.left input.old) (λ bytes. IsRun asked.below asked.variant bytes
         (I.left input.new) (O.held out.old) (O.held out.new) result)) }
 
     // Done only where the input was read to its end.
@@ -55,14 +58,14 @@ pub fn watch<I: Source, O: Sink>(
 
     // Where every line is allowed, no event is refused and nothing has failed, the whole text is
     // written, unless memory runs out.
-    ensures complete { IfSome (variant_of (map (λ w. w.now) words.now)) (λ variant.
-        IfSome (I.left input.old) (λ bytes. (text_of_input variant bytes).verdict ≡ Finished
+    ensures complete { IfSome (asked_of (map (λ w. w.now) words.now)) (λ asked.
+        IfSome (I.left input.old) (λ bytes. (text_of_input asked.variant bytes).verdict ≡ Finished
         → (Rose (I.faults input.old) (I.faults input.new) → ⊥)
         → (Rose (O.faults out.old) (O.faults out.new) → ⊥)
         → (result ≡ Status.Done) ⊎ (result ≡ Status.NoMemory))) }
 {
-    match variant_of(words) {
-        Some(variant) => run(alloc, variant, input, out),
+    match asked_of(words) {
+        Some(asked) => run(alloc, asked.variant, asked.below, input, out),
         None => Status::Usage,
     }
 }

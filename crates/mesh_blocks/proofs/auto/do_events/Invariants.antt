@@ -10,8 +10,8 @@ use Rattle.mesh_blocks.proofs.auto.do_events.Given as goal
 abbrev pub invariant-events : goal.invariant-events
 invariant-events g l = record {
   ran : (now : Option (List ℕ)) (n : Moment) (r : Result ℕ Stop)
-      → IsEventsRun true l.at (watched_events l.at (events_chosen (l.count - l.did) l.at)) n (g.O.Sink.held l.out) now r
-      → IsEventsRun true l.initial.at (watched_events l.initial.at (events_chosen l.count l.initial.at)) n (g.O.Sink.held l.initial.out) now r;
+      → IsEventsRun true l.at (watched_events l.below l.at (events_chosen (l.count - l.did) l.at)) n (g.O.Sink.held l.out) now r
+      → IsEventsRun true l.initial.at (watched_events l.below l.initial.at (events_chosen l.count l.initial.at)) n (g.O.Sink.held l.initial.out) now r;
   left : l.did + length (events_chosen (l.count - l.did) l.at) ≡ length (events_chosen l.count l.initial.at);
   started : is_some l.at.world ≡ true;
   lines : l.at.lines ≡ l.initial.at.lines;

@@ -1,6 +1,8 @@
 use Rattle.std.proofs.Common.{sym, subst}
 use Rattle.std.specs.Prelude.{IfSome, length}
+use Rattle.std.proofs.lemmas.Result.{err_from_is_err_and}
 use Rattle.mesh_base.specs.Meshes.{Nodes}
+use Rattle.mesh_io.proofs.Writing.{AppendsPrefix-none}
 use Rattle.mesh_model.specs.Places.{IsEvent}
 use Rattle.mesh_meaning.specs.Events.{event_of}
 use Rattle.mesh_meaning.specs.Answers.{IsDoneInMesh}
@@ -36,3 +38,9 @@ pub put_watched-requires-clause-echo : goal.put_watched-requires-clause-echo
 put_watched-requires-clause-echo g c =
     let is = answer_seen c.at.inside.state c.args.at.now c.step_made-answer.new.self (event_of c.args.event) c.in-Ok.done c.step_made-answer.new.out.items c.step_made-answer.result c.at.view_is c.in-Ok.is c.step_made-answer.ensures.done in
     subst (λ (m : Nodes). IfSome c.args.bytes (λ b. IsLineOf m (Does (event_of c.args.event)) b.now)) (sym (answer_mesh c.args.at.now c.step_made-answer.new.self (event_of c.args.event) c.in-Ok.done c.step_made-answer.new.out.items is)) c.requires.echo
+
+-- no memory for the block before
+pub returns-in_err-keep_block-clause-comes : goal.returns-in_err-keep_block-clause-comes
+returns-in_err-keep_block-clause-comes g c =
+    let p = err_from_is_err_and c.from_residual.result c.from_residual.ensures.1 in
+    rw (p.1, p.2) (AppendsPrefix-none (g.O.Sink.held c.args.out.now) _)

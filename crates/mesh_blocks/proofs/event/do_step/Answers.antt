@@ -5,7 +5,7 @@ use Rattle.mesh_blocks.proofs.Events.{step_goes, step_stops}
 use Rattle.mesh_blocks.proofs.event.do_step.Goals as goal
 
 pub returns-in-Err-clause-comes : goal.returns-in-Err-clause-comes
-returns-in-Err-clause-comes g c = step_stops c.args.at.now c.begin.new.self c.do_event.new.at (event_of c.args.event) _ _ c.in-Err.stop c.in_ok-begin.ensures.ok c.in-Err.ensures.comes
+returns-in-Err-clause-comes g c = step_stops c.args.below c.args.at.now c.begin.new.self c.do_event.new.at (event_of c.args.event) _ _ c.in-Err.stop c.in_ok-begin.ensures.ok c.in-Err.ensures.comes
 
 pub count_line-requires : goal.count_line-requires
 count_line-requires g c =
@@ -14,4 +14,4 @@ count_line-requires g c =
 
 pub returns-clause-comes : goal.returns-clause-comes
 returns-clause-comes g c =
-    step_goes c.args.at.now c.begin.new.self c.do_event.new.at c.count_line.new.self (event_of c.args.event) _ _ c.in_ok-begin.ensures.ok c.in_default.ensures.comes c.count_line.ensures
+    step_goes c.args.below c.args.at.now c.begin.new.self c.do_event.new.at c.count_line.new.self (event_of c.args.event) _ _ c.in_ok-begin.ensures.ok c.in_default.ensures.comes c.count_line.ensures

@@ -8,7 +8,7 @@ use Rattle.mesh_text.specs.Schedule.{world_of}
 use Rattle.mesh_text.specs.Tables.{node_text, node_text_in}
 use Rattle.mesh_run.proofs.Tables.{node_shown}
 use Rattle.mesh_blocks.proofs.Events.{shown_front, shown_whole}
-use Rattle.mesh_blocks.proofs.event.put_shown.Goals as goal
+use Rattle.mesh_blocks.proofs.block.put_shown.Goals as goal
 
 pub returns-in_err-put_line-clause-text : goal.returns-in_err-put_line-clause-text
 returns-in_err-put_line-clause-text g c =

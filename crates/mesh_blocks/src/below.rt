@@ -1,0 +1,49 @@
+//! What a watched run writes below an event that has changed a node.
+ghost use Rattle.std.specs.Prelude.{◌≡◌};
+
+/// What stands below an event that has changed a node.
+#[derive(Clone, Copy, Debug, PartialEq, Eq)]
+pub enum Below {
+    /// The node's block: what a line `show` of that node writes at the moment after the event.
+    Blocks,
+    /// The lines of that block that went with the event, and those that came.
+    Changes,
+}
+
+/// A form of a watched run, for a type to name.
+pub trait Form {
+    ghost use Rattle.mesh_blocks.specs.declared.below.Below.{Below};
+
+    /// What stands below its events.
+    ghost below: { Below };
+
+    /// The same.
+    fn below() -> Below
+        ensures { result ≡ below };
+}
+
+/// With blocks.
+pub struct WithBlocks;
+
+/// With the changes of blocks.
+pub struct WithChanges;
+
+impl Form for WithBlocks {
+    ghost use Rattle.mesh_blocks.specs.declared.below.Below.TheVariants.{Blocks};
+
+    ghost below = { Blocks };
+
+    fn below() -> Below {
+        Below::Blocks
+    }
+}
+
+impl Form for WithChanges {
+    ghost use Rattle.mesh_blocks.specs.declared.below.Below.TheVariants.{Changes};
+
+    ghost below = { Changes };
+
+    fn below() -> Below {
+        Below::Changes
+    }
+}

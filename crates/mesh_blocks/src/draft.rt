@@ -1,0 +1,71 @@
+//! Texts that are held in memory.
+ghost use Rattle.std.specs.Prelude.{◌≡◌, Some, []};
+
+use mesh_io::{Failed, Sink};
+use std::alloc::Global;
+
+/// A text in memory. As a sink it takes each piece whole, and fails where memory runs out.
+#[derive(Drop)]
+pub struct Draft {
+    bytes: Vec<u8>,
+    failed: u64,
+}
+
+impl Draft {
+    /// An empty one. No memory is taken yet.
+    pub fn new(alloc: Global) -> Draft
+        ensures { result.bytes.items ≡ [] }
+    {
+        Draft {
+            bytes: Vec::new(alloc),
+            failed: 0,
+        }
+    }
+
+    /// The text.
+    pub fn text(&self) -> &[u8]
+        ensures { result.now ≡ self.now.bytes.items }
+    {
+        self.bytes.as_slice()
+    }
+
+    /// The text goes, and its memory is kept for the next.
+    pub fn clear(&mut self)
+        ensures { self.new.bytes.items ≡ [] }
+    {
+        self.bytes.clear();
+    }
+}
+
+impl Sink for Draft {
+    ghost held = { λ d. Some d.bytes.items };
+
+    ghost faults = { λ d. d.failed };
+
+    fn put(&mut self, piece: &[u8]) -> Result<usize, Failed> {
+        match self.bytes.extend_from_slice(piece) {
+            Ok(()) => Ok(piece.len()),
+            Err(_) => {
+                self.failed = self.failed.saturating_add(1);
+                Err(Failed)
+            }
+        }
+    }
+}
+
+/// The two texts of a block, before an event and after it.
+#[derive(Drop)]
+pub struct Drafts {
+    pub before: Draft,
+    pub after: Draft,
+}
+
+impl Drafts {
+    /// Empty ones. No memory is taken yet.
+    pub fn new(alloc: Global) -> Drafts {
+        Drafts {
+            before: Draft::new(alloc),
+            after: Draft::new(alloc),
+        }
+    }
+}
