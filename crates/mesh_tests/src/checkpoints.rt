@@ -1,5 +1,6 @@
-//! Checkpoints written out byte for byte.
-use mesh_checkpoint::{SurveyError, survey};
+//! Checkpoints written out byte for byte. What else a checkpoint may be refused for stands in
+//! checks/cases/mesh_state.
+use mesh_checkpoint::survey;
 use mesh_load::{StateError, load};
 use mesh_moment::State;
 use mesh_world::{Part, World};
@@ -33,21 +34,9 @@ const TWO: [u8; 182] = [
     0, 0, 0, 0,
 ];
 
-fn is_surveyed() -> bool {
-    let mut given = EMPTY;
-    given[40] = 1;
-    let mut world = EMPTY;
-    world[67] = 1;
-    matches!(survey(&EMPTY), Ok(0))
-        && matches!(survey(&EMPTY[1..]), Err(SurveyError::NotState))
-        && matches!(survey(&EMPTY[..67]), Err(SurveyError::Length))
-        && matches!(survey(&given), Err(SurveyError::Sums))
-        && matches!(survey(&world), Err(SurveyError::Spelling))
-}
-
 #[test]
 fn surveys_an_empty_checkpoint(rt: HostRuntime) {
-    assert!(rt; is_surveyed());
+    assert!(rt; matches!(survey(&EMPTY), Ok(0)));
 }
 
 // How many nodes a moment has, and how many steps its world has done.
@@ -65,18 +54,6 @@ fn loaded(alloc: Global, bytes: &[u8]) -> Result<(usize, Option<u64>), StateErro
         Ok(at) => Ok(sizes_of(&at)),
         Err(why) => Err(why),
     }
-}
-
-fn loads_the_empty(alloc: Global) -> bool {
-    let mut other = EMPTY;
-    other[0] = 0;
-    matches!(loaded(alloc, &EMPTY), Ok((0, None)))
-        && matches!(loaded(alloc, &other), Err(StateError::NotState))
-}
-
-#[test]
-fn an_empty_checkpoint_is_loaded(rt: HostRuntime) {
-    assert!(rt; loads_the_empty(rt.alloc()));
 }
 
 fn loads_the_two(alloc: Global) -> bool {

@@ -1,10 +1,11 @@
-//! Each call that can find no memory, and the sizes of what passes through.
+//! Each call that can find no memory, and the sizes of what passes through. The longest line of a
+//! printed text stands in checks/cases/mesh_check, and streams that the system fails are cases with
+//! a failing-stdin or a room.
 use crate::lines::source_of;
 use mesh_io::{
-    BufferRoom, Buffered, Cutter, Failed, Limits, LineError, Lines, MemSink, MemSource, PutFault,
-    Source, StdSink, StdSource, TEXT_ROOM, put_all,
+    BufferRoom, Buffered, Failed, LineError, Lines, MemSink, MemSource, PutFault, Source, StdSink,
+    StdSource, put_all,
 };
-use std::fs::File;
 use std::test::Fail;
 
 // Whether this is the answer for a buffer of nine bytes, which then begins with these.
@@ -91,26 +92,6 @@ fn a_line_has_at_most_600_bytes(rt: HostRuntime) -> Result<(), Fail> {
     Ok(())
 }
 
-fn is_too_long(lines: &mut Cutter<'_, MemSource, TEXT_ROOM>) -> bool {
-    matches!(lines.advance(), Err(LineError::TooLong))
-}
-
-fn only_8192_come(lines: &mut Cutter<'_, MemSource, TEXT_ROOM>) -> bool {
-    matches!(lines.advance(), Ok(true))
-        && lines.line() == [b'x'; 8192].as_slice()
-        && is_too_long(lines)
-        && is_too_long(lines)
-}
-
-#[test]
-fn a_line_of_a_printed_text_has_at_most_8192_bytes(rt: HostRuntime) -> Result<(), Fail> {
-    let mut bytes = [b'x'; 16386];
-    bytes[8192] = b'\n';
-    let mut source = source_of(rt.alloc(), &bytes, 4096, &[])?;
-    assert!(rt; only_8192_come(&mut Cutter::new(&mut source, Limits::of_text())));
-    Ok(())
-}
-
 #[test]
 fn lines_pass_through_a_pipe(rt: HostRuntime) -> Result<(), Fail> {
     let (reader, writer) = std::io::pipe(&rt)?;
@@ -121,14 +102,5 @@ fn lines_pass_through_a_pipe(rt: HostRuntime) -> Result<(), Fail> {
     assert!(rt; come(&mut lines, &[Ok(Some(b"node 10.0.0.1"))]));
     drop(sink);
     assert!(rt; come(&mut lines, &[Ok(None)]));
-    Ok(())
-}
-
-#[test]
-fn what_the_system_refuses_is_a_fault(rt: HostRuntime) -> Result<(), Fail> {
-    let mut sink = StdSink::new(File::create(&rt, "/dev/full")?);
-    assert!(rt; matches!(put_all(&mut sink, b"turn"), Err(PutFault)));
-    let mut source = StdSource::new(File::open(&rt, "/")?);
-    assert!(rt; come(&mut Lines::new(&mut source), &[Err(LineError::ReadFault)]));
     Ok(())
 }

@@ -1,6 +1,7 @@
 //! Tests of the emulator's libraries, by their public calls: worked rows, lines that are refused,
 //! and each call that can want memory, with ample memory. They stand in a crate of their own, since
-//! a crate that has tests is proved once more with them.
+//! a crate that has tests is proved once more with them. Runs of whole schedules, whose source and
+//! sink don't fail, stand in checks/cases: there they need no proof.
 #![tactic(auto)]
 
 #[cfg(test)]
@@ -10,8 +11,6 @@ mod grid;
 #[cfg(test)]
 mod io;
 #[cfg(test)]
-mod late;
-#[cfg(test)]
 mod lines;
 #[cfg(test)]
 mod link;
@@ -20,15 +19,9 @@ mod make;
 #[cfg(test)]
 mod peers;
 #[cfg(test)]
-mod radio;
-#[cfg(test)]
-mod report;
-#[cfg(test)]
 mod restore;
 #[cfg(test)]
 mod router_faults;
-#[cfg(test)]
-mod run;
 #[cfg(test)]
 mod run_faults;
 #[cfg(test)]

@@ -52,14 +52,6 @@ fn a_datagram_comes(rt: HostRuntime) {
     assert!(rt; receives_three(&mut near));
 }
 
-#[test]
-fn a_port_that_is_held_is_refused(rt: HostRuntime) {
-    let mut near = UdpLink::new(&rt);
-    let mut far = UdpLink::new(&rt);
-    assert!(rt; near.open(47113).is_ok());
-    assert!(rt; far.open(47113).is_err());
-}
-
 // Whether the third call fails, as it is planned.
 fn receives_but_once(link: &mut MemLink) -> bool
     requires { is_some link.old.port ≡ true }

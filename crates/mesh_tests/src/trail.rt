@@ -1,7 +1,7 @@
 //! A trail of three nodes in a row. Its owner only makes it and lends it, since each way out of the
 //! owner ends it.
-use crate::steps::{advance, advance_all, opening};
-use mesh_base::{Done, Event};
+use crate::steps::{advance_all, opening};
+use mesh_base::Event;
 use mesh_trail::Trail;
 use mesh_world::Steps;
 use std::alloc::Global;
@@ -30,16 +30,6 @@ const ANSWERED: [Event<'static>; 7] = [
     Event::Deliver { id: 5 },
     Event::Turn { node: 1 },
     Event::Deliver { id: 6 },
-    Event::Turn { node: 0 },
-];
-
-/// Node 0 has a datum for itself.
-const AT_HOME: [Event<'static>; 2] = [
-    Event::Give {
-        node: 0,
-        dest: 0,
-        body: b"hi",
-    },
     Event::Turn { node: 0 },
 ];
 
@@ -74,19 +64,5 @@ fn finds(trail: &mut Trail, alloc: Global) -> Result<bool, Fail> {
 fn walks_lead_from_the_destination_to_the_node(rt: HostRuntime) -> Result<(), Fail> {
     let mut trail: Trail = opening(rt.alloc(), 3)?;
     assert!(rt; finds(&mut trail, rt.alloc())?);
-    Ok(())
-}
-
-// Whether a datum of node 0 for itself is delivered at its turn, and no route comes of it.
-fn delivers_at_home(trail: &mut Trail, alloc: Global) -> Result<bool, Fail> {
-    advance(trail, alloc, &AT_HOME[0])?;
-    let done = advance(trail, alloc, &AT_HOME[1])?;
-    Ok(leads(trail, 0, 0, &[]) && matches!(&done, Done::Taken { effect, .. } if effect.deliver))
-}
-
-#[test]
-fn a_datum_for_oneself_needs_no_walk(rt: HostRuntime) -> Result<(), Fail> {
-    let mut trail: Trail = opening(rt.alloc(), 1)?;
-    assert!(rt; delivers_at_home(&mut trail, rt.alloc())?);
     Ok(())
 }
