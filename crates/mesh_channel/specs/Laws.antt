@@ -82,8 +82,8 @@ pub record IsLossless (rates : Rates) : Type 0 where
   pub loss_unicast : rates.loss_unicast ≡ 0
   pub double : rates.double ≡ 0
 
--- over such a channel no line `lose` or `copy` is chosen: each event that a line chooses is a
--- turn, a delivery, a send or a request, where nothing was left to do, and nothing is left to do behind it
+-- over such a channel no line `lose` or `copy` is chosen: each event that a line chooses is a turn,
+-- a delivery, a send or a request, where nothing was left to do, and nothing is left to do after it
 abbrev pub LosslessChannelLosesNothing : Type 0
 LosslessChannelLosesNothing =
     (rates : Rates) (until : Until) (m : schedule.Moment) (c : Channel) → IsLossless rates

@@ -426,8 +426,8 @@ fn put_after<O: Sink>(
 }
 
 /// Writes what an event did, one line for each effect. The packet is the one that was cast, if any.
-/// One that was taken or lost may be any that can be read. Nothing is written of a datum that joined
-/// an inbox or of a link that changed.
+/// One that was taken or lost may be any that can be read. Nothing is written of a datum that
+/// joined an inbox or of a link that changed.
 pub fn put_done<O: Sink>(
     mesh: &Mesh,
     e: &Event<'_>,

@@ -56,9 +56,9 @@ pub trait Steps: Drop {
     }
 
     /// Does one event. All memory is taken before the first change. The packet that is cast is left
-    /// in `out`. Each datum that was in the world, or was given or doubled, is in the world then, or
-    /// was delivered or dropped. No step ends at 2^48 steps, which is more than any schedule asks
-    /// for.
+    /// in `out`. Each datum that was in the world, or was given or doubled, is in the world then,
+    /// or was delivered or dropped. No step ends at 2^48 steps, which is more than any schedule
+    /// asks for.
     fn step(&mut self, alloc: Global, e: &Event<'_>, out: &mut Packet) -> Result<Done, StepError>
         requires event { IsEvent (length (seen self.old).mesh) (event_of e.now) }
         requires few { (seen self.old).steps < 2 ^ 48 }
