@@ -1,3 +1,4 @@
+-- Part of what the headline says.
 -- Sequence numbers and the quality of entries.
 use Rattle.std.specs.Prelude.{ℕ, ◌+◌, ◌-◌, ◌==◌, Bool, true, false, ◌&&◌, ◌||◌, nat_lt, if◌then◌else◌}
 use Rattle.aodv_entry.specs.declared.entry.Known.{Known}

@@ -1,3 +1,4 @@
+-- Part of what the headline says.
 -- A packet's message over the nodes of a mesh: each address becomes the index of its node.
 use Rattle.std.specs.Prelude.{ℕ, Bool, true, false, if◌then◌else◌, Option, Some, None, is_some, List, [], ◌∷◌, map}
 use Rattle.std.specs.FinMap as maps

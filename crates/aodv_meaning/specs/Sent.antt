@@ -1,3 +1,4 @@
+-- Part of what the headline says.
 -- A message of the model as a packet: each index becomes the address of its node.
 use Rattle.std.specs.Prelude.{◌≡◌, ℕ, None, List, [], map, ⊤}
 use Rattle.std.specs.FinMap as maps

@@ -1,3 +1,4 @@
+-- Part of what the headline says.
 -- Messages, stores of waiting data, and the state of one node.
 use Rattle.std.specs.Prelude.{ℕ, ◌+◌, Bool, true, false, not, ◌&&◌, ◌||◌, ◌==◌, if◌then◌else◌, Option, Some, None, List, [], ◌∷◌, ◌++◌, max}
 use Rattle.std.specs.Ordering.{nat_cmp}

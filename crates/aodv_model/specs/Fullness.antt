@@ -1,3 +1,4 @@
+-- Part of what the headline says.
 -- Where a step would raise a counter past the greatest value of its field. Such a step isn't made.
 use Rattle.std.specs.Prelude.{ℕ, Bool, false, not, ◌&&◌, ◌==◌, if◌then◌else◌, Option, Some, None}
 use Rattle.std.specs.List.{list_any}

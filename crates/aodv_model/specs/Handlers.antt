@@ -1,3 +1,4 @@
+-- Part of what the headline says.
 -- What a node does in one turn, at the send of a stored datum, and at a route request.
 -- The variant `Base` is AWN's; what the other three do in its place is said where they differ.
 use Rattle.std.specs.Prelude.{ℕ, ◌+◌, Bool, true, false, not, ◌&&◌, ◌||◌, ◌==◌, nat_le, if◌then◌else◌, Option, Some, None, List, [], ◌∷◌, max, is_some}

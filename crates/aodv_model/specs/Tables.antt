@@ -1,3 +1,4 @@
+-- Part of what the headline says.
 -- Routing tables: what they say of a destination, and how they change (RFC 3561, sections 2 and
 -- 6.2; AWN's functions sqn, sqnf, nhop, dhops, precs, update, invalidate and addpreRT).
 -- A node is its index in the mesh. Numbers have no greatest value here: Fullness says where a step

@@ -1,3 +1,4 @@
+-- Part of what the headline says.
 -- A data packet: three lines and a body of 1 to 512 bytes. RFC 3561 has none; this layout is this
 -- project's own.
 use Rattle.std.specs.Prelude.{ℕ, ◌==◌, not, nat_lt, List, [], ◌∷◌, ◌++◌, length, drop, Option}

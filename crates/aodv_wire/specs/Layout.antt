@@ -1,3 +1,4 @@
+-- Part of what the headline says.
 -- How a packet is laid out: lines of 32 bits, as the figures of RFC 3561 section 5 draw them.
 -- A line is four bytes, the highest first; its bits are numbered from 0, the highest first.
 use Rattle.std.specs.Prelude.{ℕ, zero, suc, ◌+◌, ◌-◌, ◌*◌, ◌/◌, ◌%◌, ◌^◌, ◌==◌, Bool, ◌&&◌, if◌then◌else◌, nat_le, List, [], ◌∷◌, ◌++◌}

@@ -1,3 +1,4 @@
+-- Part of what the headline says.
 -- The first refusal that applies.
 use Rattle.std.specs.Prelude.{Bool, true, false, List, [], ◌∷◌, Option, Some, None}
 use Rattle.aodv_wire.specs.declared.error.WireError.{WireError}

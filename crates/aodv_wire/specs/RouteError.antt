@@ -1,3 +1,4 @@
+-- Part of what the headline says.
 -- A route error, RERR: RFC 3561 section 5.3. It has one line, and two for each destination that
 -- can't be reached.
 use Rattle.std.specs.Prelude.{◌<◌, ◌≤◌, ℕ, zero, suc, ◌+◌, ◌*◌, ◌==◌, not, nat_lt, if◌then◌else◌, List, [], ◌∷◌, ◌++◌, length, map, drop, Option, Some, None, option_map}

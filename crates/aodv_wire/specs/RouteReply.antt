@@ -1,3 +1,4 @@
+-- Part of what the headline says.
 -- A route reply, RREP: RFC 3561 section 5.2. It has five lines, 20 bytes.
 use Rattle.std.specs.Prelude.{ℕ, ◌==◌, not, List, [], ◌∷◌, length, Option}
 use Rattle.aodv_wire.specs.declared.error.WireError.{WireError}

@@ -1,3 +1,4 @@
+-- Part of what the headline says.
 -- A route request, RREQ: RFC 3561 section 5.1. It has six lines, 24 bytes.
 use Rattle.std.specs.Prelude.{ℕ, ◌==◌, not, if◌then◌else◌, List, [], ◌∷◌, length, Option}
 use Rattle.aodv_wire.specs.declared.error.WireError.{WireError}

@@ -1,3 +1,4 @@
+-- Part of what the headline says.
 -- Which bytes spell which message, why others spell none, and what is written of a message.
 use Rattle.std.specs.Prelude.{◌≡◌, ℕ, ◌==◌, Bool, if◌then◌else◌, List, length, Option, Some, None}
 use Rattle.aodv_wire.specs.declared.error.WireError.{WireError}

@@ -1,3 +1,4 @@
+-- Part of what the headline says.
 -- An address, a number below 2 ^ 32, as four numbers from 0 to 255 without leading zeros, joined by
 -- dots.
 use Rattle.std.specs.Prelude.{ℕ, ◌+◌, ◌*◌, ◌/◌, ◌%◌, List, [], ◌∷◌, ◌++◌, Option, Some, None, option_and_then}

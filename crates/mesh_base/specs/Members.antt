@@ -1,3 +1,4 @@
+-- Part of what the headline says.
 -- A set of nodes, as the bits of four words of 64 bits, the lowest first. A node is an index below
 -- 256.
 use Rattle.std.specs.Prelude.{◌≡◌, ◌<◌, ◌≤◌, ◌==◌, ℕ, zero, suc, ◌+◌, ◌*◌, ◌/◌, ◌%◌, ◌^◌, true, false, if◌then◌else◌, List, [], ◌∷◌, ◌++◌, length, slice_index, Option, Some, None}

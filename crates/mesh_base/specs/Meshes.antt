@@ -1,3 +1,4 @@
+-- Part of what the headline says.
 -- A mesh: distinct addresses in rising order, each with its node's first sequence number. The i-th
 -- is node i.
 use Rattle.std.specs.Prelude.{◌<◌, ◌≤◌, ◌^◌, ◌==◌, ℕ, List, length, position, get_or, Option, unwrap_or, insert, nat_lt}

@@ -1,3 +1,4 @@
+-- Part of what the headline says.
 -- A number as decimal digits spell it: no sign, no leading zero, no space.
 use Rattle.std.specs.Prelude.{ℕ, zero, suc, ◌+◌, ◌-◌, ◌*◌, ◌==◌, Bool, true, false, ◌&&◌, not, List, [], ◌∷◌, Option, Some, None, nat_le, if◌then◌else◌}
 use Rattle.std.specs.Str.{all_ascii_digits}

@@ -1,3 +1,4 @@
+-- Part of what the headline says.
 -- A text cut at each byte of one value: lines at LF, words at a space, an address's numbers at a
 -- dot.
 use Rattle.std.specs.Prelude.{ℕ, ◌==◌, List, [], Option, Some, None}

@@ -1,3 +1,4 @@
+-- Part of what the headline says.
 -- What a command has written and answered.
 use Rattle.std.specs.Prelude.{ℕ, ◌≡◌, ◌⊎◌, true, false, Bool, List, Option, IfSome, ⊤}
 use Rattle.std.specs.Io.KnownBytes.{Appends, IsAtEnd}

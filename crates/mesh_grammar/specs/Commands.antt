@@ -1,3 +1,4 @@
+-- Part of what the headline says.
 -- The commands of a schedule. A script with other commands has a table like this one.
 use Rattle.std.specs.Prelude.{ℕ, List, [], ◌∷◌, Option, Result, codes}
 use Rattle.mesh_base.specs.declared.limits.TheConstants.{MOST_EVENTS}

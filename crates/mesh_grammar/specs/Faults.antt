@@ -1,3 +1,4 @@
+-- Part of what the headline says.
 -- Why a line is refused, in words.
 use Rattle.std.specs.Prelude.{ℕ, List, ◌++◌, codes}
 use Rattle.mesh_grammar.specs.declared.fault.Span.{Span}

@@ -1,3 +1,4 @@
+-- Part of what the headline says.
 -- The arguments of a command, by their form. The words after the command are given, and the byte at
 -- which the first begins.
 use Rattle.std.specs.Prelude.{◌≤◌, ℕ, List, [], ◌∷◌, Result, Ok, Err, length, codes, if◌then◌else◌, ⊤}

@@ -1,3 +1,4 @@
+-- Part of what the headline says.
 -- A line by the table of its script's commands. A script has commands of its own, C.
 use Rattle.std.specs.Prelude.{ℕ, List, [], ◌∷◌, Option, Some, None, Result, Ok, Err, if◌then◌else◌}
 use Rattle.std.specs.Str.{bytes_eq}

@@ -1,3 +1,4 @@
+-- Part of what the headline says.
 -- The words of a line, with one space between two of them, and what a word may be.
 use Rattle.std.specs.Prelude.{ℕ, ◌+◌, ◌==◌, Bool, true, ◌&&◌, List, [], ◌∷◌, Option, Some, None, Result, Err, length, nat_le, if◌then◌else◌}
 use Rattle.std.specs.List.{list_all}

@@ -1,3 +1,4 @@
+-- Part of what the headline says.
 -- A line as it is written: a command's word, and each argument after one space.
 use Rattle.std.specs.Prelude.{ℕ, List, [], ◌∷◌, ◌++◌, codes}
 use Rattle.std.specs.Fmt.{decimal}

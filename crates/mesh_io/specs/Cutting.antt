@@ -1,3 +1,4 @@
+-- Part of what the headline says.
 -- What is seen of a source that is cut into lines, and what it answers.
 use Rattle.std.specs.Prelude.{ℕ, ◌+◌, ◌-◌, ◌≡◌, ◌≤◌, ◌<◌, ◌⊎◌, Bool, true, false, if◌then◌else◌, List, [], length, take, drop, Option, Some, None, IfSome, Result, Ok, Err, IsErrOf, ⊤}
 use Rattle.std.specs.Borrow.{Bor, MutBor}

@@ -1,3 +1,4 @@
+-- Part of what the headline says.
 -- What a call has written of its text.
 use Rattle.std.specs.Prelude.{ℕ, ◌≡◌, List, ◌++◌, Option, Result, MatchResult}
 use Rattle.std.specs.Io.KnownBytes.{Appends}

@@ -1,3 +1,4 @@
+-- Part of what the headline says.
 -- A line of the steps, by the words that are drawn for it. A node stands here as its index.
 use Rattle.std.specs.Prelude.{ℕ, ◌+◌, ◌*◌, ◌%◌, ◌==◌, if◌then◌else◌, List, [], ◌∷◌, ◌++◌, get_or, codes}
 use Rattle.std.specs.Fmt.{decimal}

@@ -1,3 +1,4 @@
+-- Part of what the headline says.
 -- The schedule that a seed makes: its lines and their text.
 use Rattle.std.specs.Prelude.{ℕ, zero, suc, ◌+◌, ◌-◌, List, [], ◌∷◌, ◌++◌}
 use Rattle.std.specs.List.{flat_map}

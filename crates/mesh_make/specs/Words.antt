@@ -1,3 +1,4 @@
+-- Part of what the headline says.
 -- The words of a seed: the outputs of 32 bits, one after the other, of the PCG32 generator that the
 -- seed makes.
 use Rattle.std.specs.Prelude.{ℕ}

@@ -1,3 +1,4 @@
+-- Part of what the headline says.
 -- An event of the program, as the definitions have it.
 use Rattle.std.specs.Prelude.{ℕ}
 use Rattle.mesh_base.specs.declared.events.Event.{Event}

@@ -1,3 +1,4 @@
+-- Part of what the headline says.
 -- Packets in place of messages: of items in queues, and of copies in flight.
 use Rattle.std.specs.Prelude.{ℕ, List, ⊤}
 use Rattle.mesh_base.specs.declared.events.Item as items

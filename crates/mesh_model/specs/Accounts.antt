@@ -1,3 +1,4 @@
+-- Part of what the headline says.
 -- Where the data are, and how they come and go. All counts are of the data that pass a test of
 -- their originator, destination and body: of one datum, or of all.
 use Rattle.std.specs.Prelude.{ℕ, ◌+◌, Bool, true, if◌then◌else◌, List, [], ◌∷◌, zero, suc, length, Option, Some, None}

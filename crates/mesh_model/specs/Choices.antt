@@ -1,3 +1,4 @@
+-- Part of what the headline says.
 -- What may be done next in a world, and the choice of the next event: the first that there is of a
 -- turn, a delivery, the send of a stored datum, and a request, each at the least node, copy or
 -- destination.

@@ -1,3 +1,4 @@
+-- Part of what the headline says.
 -- Lists of what has an id, by which copies of messages, and copies of bytes, are found.
 use Rattle.std.specs.Prelude.{ℕ, ◌+◌, ◌≤◌, ◌==◌, not, if◌then◌else◌, Option, Some, None, List, [], ◌∷◌, filter}
 

@@ -1,3 +1,4 @@
+-- Part of what the headline says.
 -- Where the valid next hops of a world lead.
 use Rattle.std.specs.Prelude.{◌≡◌, ◌≢◌, ℕ, zero, suc, ◌+◌, ◌≤◌, ◌==◌, if◌then◌else◌, Option, Some, None, List, ◌∷◌, length}
 use Rattle.std.specs.FinMap as maps

@@ -1,3 +1,4 @@
+-- Part of what the headline says.
 -- The valid routes of a world as a graph, for each destination.
 use Rattle.std.specs.Prelude.{◌≡◌, ◌≢◌, ℕ, List, [], ◌∷◌, Option, Some, None, slice_get, ⊤}
 use Rattle.std.specs.FinMap as maps

@@ -1,3 +1,4 @@
+-- Part of what the headline says.
 -- The state of the whole mesh, its events, one step, and a run of them. One event is one atomic
 -- step of the mesh.
 use Rattle.std.specs.Prelude.{ℕ, zero, suc, ◌+◌, ◌≤◌, Bool, true, false, if◌then◌else◌, Option, Some, None, List, [], ◌∷◌, ◌++◌, length, map, slice_get, slice_set, min, max}

@@ -1,3 +1,4 @@
+-- Part of what the headline says.
 -- When a run answers a fault of its source or its sink, and that no other answer made one.
 use Rattle.std.specs.Prelude.{ℕ, ◌≡◌, ◌≢◌, ◌≤◌, Result, IsErrOf}
 use Rattle.mesh_io.specs.Cause.{Rose}

@@ -1,3 +1,4 @@
+-- Part of what the headline says.
 -- What was told of a run: what the sink held before, and what it holds now. Where a sink doesn't
 -- tell what it holds, the verdict alone is claimed.
 use Rattle.std.specs.Prelude.{ℕ, ◌≡◌, Bool, true, false, if◌then◌else◌, List, [], Option}

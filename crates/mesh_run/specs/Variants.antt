@@ -1,3 +1,4 @@
+-- Part of what the headline says.
 -- The variants of the protocol, by name.
 use Rattle.std.specs.Prelude.{ℕ, List, Option, Some, None, codes, if◌then◌else◌}
 use Rattle.std.specs.Str.{bytes_eq}

@@ -1,3 +1,4 @@
+-- Part of what the headline says.
 -- What was told of a run: what the sink held before, and what it holds now. Where a sink doesn't
 -- tell what it holds, the verdict alone is claimed.
 use Rattle.std.specs.Prelude.{ℕ, ◌≡◌, ◌⊎◌, true, List, [], ◌∷◌, ◌++◌, Option, Some, None, Result, Ok, Err}

@@ -1,3 +1,4 @@
+-- Part of what the headline says.
 -- The lines of an input: its parts between LF, within the limits of a line and of the input.
 use Rattle.std.specs.Prelude.{ℕ, Bool, List, [], ◌∷◌, length, nat_lt, nat_le, ◌&&◌, if◌then◌else◌, take}
 use Rattle.mesh_base.specs.Parts.{parts}

@@ -1,3 +1,4 @@
+-- Part of what the headline says.
 -- What a script makes of an input: a text and a verdict.
 use Rattle.std.specs.Prelude.{ℕ, Bool, true, false, List, [], ◌∷◌, ◌++◌}
 use Rattle.mesh_io.specs.declared.limits.Limits.{Limits}

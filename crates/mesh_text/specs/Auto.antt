@@ -1,3 +1,4 @@
+-- Part of what the headline says.
 -- Events one after another, what comes of them, and those that a run chooses.
 use Rattle.std.specs.Prelude.{ℕ, zero, suc, List, [], ◌∷◌, ◌++◌, codes, Option, Some, None}
 use Rattle.mesh_base.specs.declared.events.Counter.{Counter}

@@ -1,3 +1,4 @@
+-- Part of what the headline says.
 -- The text of what an event did. Each effect stands below its event, after two spaces.
 use Rattle.std.specs.Prelude.{ℕ, ◌==◌, ◌&&◌, not, nat_le, List, [], ◌∷◌, ◌++◌, length, codes, if◌then◌else◌, Option, Some, None}
 use Rattle.std.specs.List.{flat_map}

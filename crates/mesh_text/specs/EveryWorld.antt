@@ -1,3 +1,4 @@
+-- Part of what the headline says.
 -- What holds in every world to which an input comes, after any number of its events: no destination
 -- has a loop, and each datum is accounted for.
 use Rattle.std.specs.Prelude.{◌≡◌, ◌+◌, ℕ, List, take}

@@ -1,3 +1,4 @@
+-- Part of what the headline says.
 -- The text of a schedule's lines in the form in which they are written back, and of the last line
 -- of a run.
 use Rattle.std.specs.Prelude.{ℕ, zero, suc, ◌/◌, ◌%◌, ◌+◌, List, [], ◌∷◌, ◌++◌, codes, if◌then◌else◌, nat_lt}

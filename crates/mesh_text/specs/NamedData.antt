@@ -1,3 +1,4 @@
+-- Part of what the headline says.
 -- The lines of a text that name a datum.
 use Rattle.std.specs.Prelude.{◌≡◌, ◌==◌, ◌&&◌, ◌<◌, ℕ, List, length, codes}
 use Rattle.std.specs.List.{count_by}

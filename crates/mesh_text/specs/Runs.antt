@@ -1,3 +1,4 @@
+-- Part of what the headline says.
 -- The events that the lines of an input do, one after another, and the moments and worlds that they
 -- lead through.
 use Rattle.std.specs.Prelude.{ℕ, List, [], ◌∷◌, ◌++◌, Option, Some, None, Result, Ok, Err, take, is_some, slice_get}

@@ -1,3 +1,4 @@
+-- Part of what the headline says.
 -- The moments of a run, whether a line is allowed at a moment, and what an event leaves.
 use Rattle.std.specs.Prelude.{ℕ, ◌+◌, ◌==◌, Bool, List, [], ◌∷◌, Option, None, Some, Result, Ok, Err, length, if◌then◌else◌, is_some}
 use Rattle.std.specs.Option.{unwrap_or}

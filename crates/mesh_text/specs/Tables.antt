@@ -1,3 +1,4 @@
+-- Part of what the headline says.
 -- The text of a world's state: a node, the end of a route, and the copies in flight.
 use Rattle.std.specs.Prelude.{ℕ, Bool, if◌then◌else◌, List, [], ◌∷◌, ◌++◌, length, codes, Option, Some, None}
 use Rattle.std.specs.List.{flat_map}

@@ -1,3 +1,4 @@
+-- Part of what the headline says.
 -- The text of a run and its verdict, from the bytes of its input.
 use Rattle.std.specs.Prelude.{ℕ, ◌+◌, List, [], ◌∷◌, ◌++◌, Result, Ok, Err, length, is_some, slice_get}
 use Rattle.mesh_base.specs.Meshes.{with_node}
