@@ -26,7 +26,9 @@ fn first_copy_of(world: &World) -> Option<u64>
 
 /// The event that comes next where a run chooses: the first that there is of a turn, a delivery,
 /// the send of a stored datum, and a request, each at the least node, copy or destination. It
-/// searches through nothing.
+/// searches through nothing. It is part of its caller, so that the event is written right where it
+/// is kept, and not handed back through memory first.
+#[inline(always)]
 pub fn pick(world: &World) -> Option<Event<'static>>
     ensures value { option_map event_of result ≡ pick world.now.world }
     ensures within { IfSome result (λ e. IsEvent (length world.now.mesh) (event_of e)) }
@@ -46,7 +48,8 @@ pub fn pick(world: &World) -> Option<Event<'static>>
     Some(Event::Ask { node, dest })
 }
 
-/// The event that comes next where the run chooses.
+/// The event that comes next where the run chooses. It is part of its caller, as `pick` is.
+#[inline(always)]
 pub fn next_event<S: Steps>(at: &Point<S>) -> Option<Event<'static>>
     requires { is_some at.now.world ≡ true }
     ensures value { option_map event_of result ≡ pick (world_of at.now) }
