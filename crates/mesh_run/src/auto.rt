@@ -22,10 +22,6 @@ use mesh_world::Steps;
 use std::alloc::Global;
 
 /// Events that are to be done, and the moment at which they are.
-///
-/// The reference to the moment is read anew for each event. So the compiler can't work out the
-/// addresses of its parts before the loop begins, and a single event doesn't pay for those that it
-/// never uses.
 #[derive(Drop)]
 pub struct Task<'p, 'a, 'b, S: Steps> {
     pub at: &'p mut Point<S>,
@@ -61,8 +57,9 @@ fn event_after<'e, 'a, S: Steps>(
 }
 
 /// Does up to so many events, and answers how many there were: the one that is given, or else those
-/// that the run chooses, each when the one before it is done. All events are done here: the
-/// compiler puts the code of a step into this loop only where no other place has it.
+/// that the run chooses, each when the one before it is done. It is part of both its callers: the
+/// one event of a line needs no loop there, and no answer of 72 bytes goes through memory.
+#[inline(always)]
 pub fn do_events<'a, S: Steps, O: Sink>(
     alloc: Global,
     task: &mut Task<'_, 'a, '_, S>,

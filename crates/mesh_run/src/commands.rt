@@ -29,7 +29,9 @@ use mesh_script::Line;
 use mesh_world::{StepError, Steps};
 use std::alloc::Global;
 
-/// Writes an event, as its line stands or in canonical form where it has none, and what it did.
+/// Writes an event, as its line stands or in canonical form where it has none, and what it did. It
+/// is part of its caller, which mostly knows whether there is a line.
+#[inline(always)]
 pub fn say_event<O: Sink>(
     mesh: &Mesh,
     bytes: Option<&[u8]>,
