@@ -14,7 +14,8 @@ pub struct Draft {
 impl Draft {
     /// An empty one. No memory is taken yet.
     pub fn new(alloc: Global) -> Draft
-        ensures { result.bytes.items ≡ [] }
+        ensures text { result.bytes.items ≡ [] }
+        ensures failed { result.failed ≡ 0 }
     {
         Draft {
             bytes: Vec::new(alloc),
@@ -31,7 +32,8 @@ impl Draft {
 
     /// The text goes, and its memory is kept for the next.
     pub fn clear(&mut self)
-        ensures { self.new.bytes.items ≡ [] }
+        ensures text { self.new.bytes.items ≡ [] }
+        ensures failed { self.new.failed ≡ self.old.failed }
     {
         self.bytes.clear();
     }
@@ -62,7 +64,10 @@ pub struct Drafts {
 
 impl Drafts {
     /// Empty ones. No memory is taken yet.
-    pub fn new(alloc: Global) -> Drafts {
+    pub fn new(alloc: Global) -> Drafts
+        ensures before { result.before.bytes.items ≡ [] }
+        ensures after { result.after.bytes.items ≡ [] }
+    {
         Drafts {
             before: Draft::new(alloc),
             after: Draft::new(alloc),

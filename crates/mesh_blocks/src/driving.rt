@@ -48,7 +48,8 @@ fn run_as<F: Form, I: Source, O: Sink>(
 /// of the protocol, and writes its text to the sink, line by line, with what is asked for below
 /// each event that has changed a node: with `Blocks` what a line `show` of that node writes at the
 /// moment after the event; with `Changes` a line that names the node, and then each line of that
-/// block that went with the event or came, in the block's order.
+/// block that went with the event or came. They stand in the block's order; between two lines that
+/// stay, those that went stand before those that came.
 ///
 /// What is written is gathered in a buffer of 65536 bytes, and handed on when that is full, before
 /// each read of the source, and at the end, unless a write has failed. With `Changes` two blocks

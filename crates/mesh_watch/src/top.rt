@@ -18,8 +18,9 @@ use std::alloc::Global;
 /// line by line, with a block below each event that has changed a node: what a line `show` of that
 /// node writes at the moment after the event. With a last word `--changes` it writes in place of a
 /// block a line that names the node, and then each line of the block that went with the event or
-/// came, in the block's order. All nodes run the protocol as AWN has it, with the words
-/// `--variant NAME` that variant of it.
+/// came. They stand in the block's order; between two lines that stay, those that went stand before
+/// those that came. All nodes run the protocol as AWN has it, with the words `--variant NAME` that
+/// variant of it.
 ///
 /// What is written is gathered in a buffer of 65536 bytes, and handed on when that is full, before
 /// each read of the source, and at the end, unless a write has failed. With `--changes` two blocks
