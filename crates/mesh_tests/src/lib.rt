@@ -1,13 +1,24 @@
-//! Tests of the emulator's libraries, by their public calls: worked rows, lines that are refused,
-//! and each call that can want memory, with ample memory. They stand in a crate of their own, since
-//! a crate that has tests is proved once more with them. Runs of whole schedules, whose source and
-//! sink don't fail, stand in checks/cases: there they need no proof.
+//! Tests of the libraries, by their public calls: packets that other implementations sent, worked
+//! rows, lines that are refused, and each call that can want memory, with ample memory. They stand
+//! in a crate of their own, since a crate that has tests is proved once more with them. Runs of
+//! whole schedules, whose source and sink don't fail, stand in checks/cases: there they need no
+//! proof.
 #![tactic(auto)]
 
 #[cfg(test)]
+mod asked;
+#[cfg(test)]
+mod bytes;
+#[cfg(test)]
 mod checkpoints;
 #[cfg(test)]
+mod entry;
+#[cfg(test)]
 mod grid;
+#[cfg(test)]
+mod handlers;
+#[cfg(test)]
+mod inbox;
 #[cfg(test)]
 mod io;
 #[cfg(test)]
@@ -16,6 +27,12 @@ mod lines;
 mod link;
 #[cfg(test)]
 mod make;
+#[cfg(test)]
+mod node;
+#[cfg(test)]
+mod outside;
+#[cfg(test)]
+mod packets;
 #[cfg(test)]
 mod peers;
 #[cfg(test)]
@@ -29,6 +46,10 @@ mod script;
 #[cfg(test)]
 mod steps;
 #[cfg(test)]
+mod table;
+#[cfg(test)]
 mod trail;
+#[cfg(test)]
+mod waiting;
 #[cfg(test)]
 mod world;

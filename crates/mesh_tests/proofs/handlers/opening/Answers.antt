@@ -4,7 +4,7 @@ use Rattle.std.specs.Ordering.{nat_cmp}
 use Rattle.std.proofs.lemmas.Option.{none-some}
 use Rattle.aodv_model.specs.Tables.{Table}
 use Rattle.aodv_model.specs.Soundness.{IsSoundTable}
-use Rattle.aodv_tests.proofs.handlers.opening.Goals as goal
+use Rattle.mesh_tests.proofs.handlers.opening.Goals as goal
 
 empty_table : (size ip : ℕ) (rt : Table) → rt ≡ maps.empty → IsSoundTable size ip rt
 empty_table size ip rt is = record {

@@ -3,7 +3,7 @@ use Rattle.std.specs.Prelude.{slice_get, is_some}
 use Rattle.mesh_base.specs.declared.addr.Addr.{Addr}
 use Rattle.mesh_base.specs.Meshes.{Nodes, index_of}
 use Rattle.aodv_meaning.specs.Meaning.{strange_pair}
-use Rattle.aodv_tests.proofs.handlers.is_one_known.Goals as goal
+use Rattle.mesh_tests.proofs.handlers.is_one_known.Goals as goal
 
 one_known : (mesh : Nodes) (pairs : List (Addr × ℕ)) (p : Addr × ℕ) → length pairs ≡ 1 → slice_get pairs 0 ≡ Some p → is_some (index_of mesh p.0.0) ≡ true → strange_pair mesh pairs ≡ None
 one_known mesh [] p one is t = absurd (omega arith)
