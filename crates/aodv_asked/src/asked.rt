@@ -87,7 +87,7 @@ impl Asked {
 
     /// Whether o's request with this id was seen. Of an id that is not below the last interval it
     /// looks at no row, and otherwise it is a binary search.
-    #[inline]
+    #[inline(always)]
     pub fn has(&self, o: usize, id: u32) -> bool
         requires { o < length self.now.rooms }
         ensures { result ≡ sets.contains self.now.pairs (o, id) }
@@ -100,7 +100,7 @@ impl Asked {
     }
 
     /// Makes room for one more id of o. It asks for memory only where there is none.
-    #[inline]
+    #[inline(always)]
     pub fn make_room(&mut self, o: usize) -> Result<(), NoMemory>
         requires { o < length self.old.rooms }
         ensures pairs { self.new.pairs ≡ self.old.pairs }

@@ -84,6 +84,7 @@ fn data_error<T: Table>(core: &Core<T>, mesh: &Mesh, d: usize, out: &mut Packet)
 /// A datum on its way: delivered where it is for this node, sent on where there is a valid route,
 /// and else lost.
 #[tactic(auto, unfolding(aodv_model::specs::Handlers::on_pkt))]
+#[inline(always)]
 pub fn take_datum<T: Table>(
     core: &mut Core<T>,
     mesh: &Mesh,

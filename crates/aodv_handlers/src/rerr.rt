@@ -163,6 +163,7 @@ fn retract_stated<T: Table>(
 /// A route error from a neighbour. Only routes by that neighbour are gone, and only those with a
 /// smaller number than stated.
 #[tactic(auto, unfolding(aodv_model::specs::Handlers::on_rerr, aodv_model::specs::Handlers::after_hearing))]
+#[inline(always)]
 pub fn on_rerr<T: Table>(
     core: &mut Core<T>,
     mesh: &Mesh,

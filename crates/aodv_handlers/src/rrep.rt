@@ -24,6 +24,7 @@ use mesh_base::{Cast, Counter, Effect, Mesh, NodeSet, Packet, Variant};
 
 // This reply goes on towards its originator.
 #[tactic(auto, unfolding(crate::specs::Parts::pass_on))]
+#[inline(always)]
 fn pass_on<T: Table>(
     core: &mut Core<T>,
     mesh: &Mesh,
@@ -108,6 +109,7 @@ fn reply_to_pass_on<T: Table>(core: &Core<T>, changed: bool, m: Reply) -> Option
 /// A route reply from a neighbour. It ends here where the node asked for it, where the node has no
 /// route back to who did ask, and where it teaches nothing. In the variant `Reply` a node with a
 /// valid route to the destination passes on what that says, whatever it was taught.
+#[inline(always)]
 pub fn take_reply<T: Table>(
     core: &mut Core<T>,
     mesh: &Mesh,

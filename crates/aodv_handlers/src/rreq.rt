@@ -27,6 +27,7 @@ fn larger(a: u32, b: u32) -> u32
 
 // The node is the one asked for. It raises its own number to the one that is wanted.
 #[tactic(auto, unfolding(aodv_model::specs::Handlers::reply_for_self))]
+#[inline(always)]
 fn reply_for_self<T: Table>(
     core: &mut Core<T>,
     mesh: &Mesh,
@@ -77,6 +78,7 @@ fn route_to_answer_with<T: Table>(core: &Core<T>, m: &Request) -> Option<Entry>
 
 // The node has a route to the node asked for, and answers in its place.
 #[tactic(auto, unfolding(aodv_model::specs::Handlers::reply_from_table))]
+#[inline(always)]
 fn reply_from_table<T: Table>(
     core: &mut Core<T>,
     mesh: &Mesh,
@@ -123,6 +125,7 @@ fn reply_from_table<T: Table>(
 
 // The node passes the request on.
 #[tactic(auto, unfolding(aodv_model::specs::Handlers::forward_request))]
+#[inline(always)]
 fn forward_request<T: Table>(core: &Core<T>, mesh: &Mesh, m: &Request, out: &mut Packet) -> Effect
     requires order { IsInOrder T.nodes T.entries (length mesh.now) core.now }
     requires says { IsMessageInMesh (length mesh.now) (a_request (request_of m.now)) }
@@ -146,6 +149,7 @@ fn forward_request<T: Table>(core: &Core<T>, mesh: &Mesh, m: &Request, out: &mut
 
 // A request that is new, in the core after its updates.
 #[tactic(auto, unfolding(aodv_model::specs::Handlers::on_new_rreq))]
+#[inline(always)]
 fn on_new<T: Table>(
     core: &mut Core<T>,
     mesh: &Mesh,
@@ -186,6 +190,7 @@ fn mark_of(variant: Variant, m: &Request) -> u32
 
 /// A route request from a neighbour. One that was seen before teaches no more than that the
 /// neighbour is there.
+#[inline(always)]
 pub fn take_request<T: Table>(
     core: &mut Core<T>,
     mesh: &Mesh,

@@ -61,7 +61,7 @@ same_core old new s core size each = record {
   };
 }
 
-still : (old new : NodeSeen) → IsSoundNode old → new ≡ old → Follows old new
+pub still : (old new : NodeSeen) → IsSoundNode old → new ≡ old → Follows old new
 still old new s same = record { sound = subst (λ (n : NodeSeen). IsSoundNode n) (sym same) s; me = ap (λ (n : NodeSeen). (n.core).ip) same }
 
 abbrev Each : NodeSeen → List items.Item → Type 0

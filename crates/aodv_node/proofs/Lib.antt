@@ -1,5 +1,6 @@
 pub mod Choices
 pub mod Fronts
+pub mod Hearing
 pub mod Keeps
 pub mod Nodes
 pub mod Readings

@@ -1,10 +1,11 @@
 -- Over the table of a node: every call keeps what a node keeps.
-use Rattle.std.proofs.Common.{◌≡◌, ◌<◌, ◌≤◌, ℕ, List, [], length, Result, refl, sym, ap, subst, ◌∙◌}
+use Rattle.std.proofs.Common.{◌≡◌, ◌≢◌, ◌<◌, ◌≤◌, ℕ, List, [], length, Result, refl, sym, ap, subst, ◌∙◌}
 use Rattle.std.specs.FinMap as maps
 use Rattle.std.specs.FinSet as sets
 use Rattle.mesh_base.specs.Meshes.{Nodes}
 use Rattle.mesh_base.specs.Members.{NodeIds}
 use Rattle.mesh_base.specs.declared.events.Effect as code
+use Rattle.mesh_base.specs.declared.events.Kind.{Kind}
 use Rattle.aodv_model.specs.Cores.{opening}
 use Rattle.aodv_table.specs.Calls.{nodes_below}
 use Rattle.aodv_table.specs.declared.rows.RowTable.{RowTable}
@@ -16,9 +17,11 @@ use Rattle.aodv_node.specs.declared.answers.SendError.{SendError}
 use Rattle.aodv_node.specs.declared.answers.AskError.{AskError}
 use Rattle.aodv_node.specs.declared.answers.TurnDone as done
 use Rattle.aodv_node.specs.Seen.{NodeSeen, node_seen, IsSoundNode}
-use Rattle.aodv_node.specs.Turned.{IsTurn}
+use Rattle.aodv_node.specs.Turned.{IsTurn, IsTurnOn}
+use Rattle.aodv_node.specs.Heard.{IsHeard}
 use Rattle.aodv_node.specs.Discovered.{IsSend, IsAsk}
 use Rattle.aodv_node.proofs.Keeps.{Follows, turn_keeps, send_keeps, ask_keeps, opened}
+use Rattle.aodv_node.proofs.Hearing.{turned_on, turn_on_keeps}
 
 abbrev pub seen_node : core.Core RowTable → Queue → NodeSeen
 seen_node c inbox = node_seen (λ t. t.nodes) (λ t. t.entries) c inbox
@@ -62,6 +65,26 @@ pub asked_for : (mesh : Nodes) (d : ℕ) (old new : core.Core RowTable) (q : Que
     → length mesh ≡ value.size → seen_node old q ≡ value → Kept old q → Order (length mesh) new → IsAsk mesh (seen_node old q).core d r (seen_node new q).core out → Leaves old new q
 asked_for mesh d old new q r out value size view kept order did =
     leaves (length mesh) old new q q value size view order (ask_keeps mesh (seen_node old q) d r (seen_node new q) out kept.1 (same_size (length mesh) old new q value size view order) refl did)
+
+-- what is seen of a node whose core alone is new
+seen_with_core : (size : ℕ) (old new : core.Core RowTable) (q : Queue) (value : NodeSeen) → size ≡ value.size → seen_node old q ≡ value → Order size new → seen_node new q ≡ record value { core = (seen_node new q).core }
+seen_with_core size old new q value is view order =
+    subst (λ (v : NodeSeen). seen_node new q ≡ record v { core = (seen_node new q).core }) view
+    (λ i. record { core = (seen_node new q).core; items = q.items; room = q.room; size = same_size size old new q value is view order i })
+
+-- a packet that was taken as it was heard
+pub record TakesHeard (mesh : Nodes) (range : NodeIds) (from : ℕ) (bytes : List ℕ) (r : Result (Kind × code.Effect) TurnError) (out : List ℕ) (old new : core.Core RowTable) (q : Queue) (value : NodeSeen) : Type 0 where
+  pub did : IsTurnOn mesh range value from bytes r (seen_node new q) out
+  pub left : Leaves old new q
+
+pub takes_heard : (mesh : Nodes) (range : NodeIds) (from : ℕ) (bytes : List ℕ) (old new : core.Core RowTable) (q : Queue) (r : Result (Kind × code.Effect) TurnError) (out : List ℕ) (value : NodeSeen)
+    → length mesh ≡ value.size → from < value.size → from ≢ (value.core).ip → value.items ≡ [] → seen_node old q ≡ value → Kept old q → Order (length mesh) new → IsHeard mesh (seen_node old q).core range from bytes r (seen_node new q).core out
+    → TakesHeard mesh range from bytes r out old new q value
+takes_heard mesh range from bytes old new q r out value size l other none view kept order did =
+    let heard : IsHeard mesh value.core range from bytes r (seen_node new q).core out = subst (λ (v : NodeSeen). IsHeard mesh v.core range from bytes r (seen_node new q).core out) view did in
+    let t = turned_on mesh range value (seen_node new q) from bytes r out none (seen_with_core (length mesh) old new q value size view order) heard in
+    let f = turn_on_keeps mesh range value (seen_node new q) from bytes r out size l other (subst (λ (v : NodeSeen). IsSoundNode v) view kept.1) t in
+    record { did = t; left = leaves (length mesh) old new q q value size view order (record { sound = f.sound; me = f.me ∙ ap (λ (v : NodeSeen). (v.core).ip) (sym view) }) }
 
 pub opens : (c : core.Core RowTable) (inbox : Queue) (size : ℕ) → c.me < size → 1 ≤ c.sn → c.table ≡ record { entries = maps.empty; rooms = nodes_below size; nodes = size }
     → (c.asked).pairs ≡ sets.empty → length (c.asked).rooms ≡ size → (c.waiting).store ≡ maps.empty → length (c.waiting).rooms ≡ size → inbox.items ≡ [] → Kept c inbox

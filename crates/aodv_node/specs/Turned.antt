@@ -4,8 +4,10 @@ use Rattle.std.specs.FinSet as sets
 use Rattle.mesh_base.specs.Meshes.{Nodes}
 use Rattle.mesh_base.specs.Members.{NodeIds}
 use Rattle.mesh_base.specs.declared.events.Counter.{Counter}
+use Rattle.mesh_base.specs.declared.events.Effect.{Effect}
 use Rattle.mesh_base.specs.declared.events.Item as items
 use Rattle.mesh_base.specs.declared.events.Item.TheVariants as item
+use Rattle.mesh_base.specs.declared.events.Kind.{Kind}
 use Rattle.mesh_base.specs.declared.events.Took as taken
 use Rattle.mesh_base.specs.declared.events.Took.TheVariants as takes
 use Rattle.aodv_model.specs.Cores.{Core, Item, New, Heard, Pkt, Rreq, Rrep, Rerr}
@@ -111,3 +113,23 @@ IsTurn mesh range old (Err (errors.Stranger from who)) new out =
 IsTurn mesh range old (Err (errors.Full field)) new out =
     IsFullAt mesh range old field × (new ≡ old)
 IsTurn mesh range old (Err errors.NoMemory) new out = IsShort mesh old × (new ≡ old)
+
+-- ---- a packet that is taken as it is heard
+
+-- the node with one item in its inbox: a packet of these bytes from that node
+abbrev pub hearing : NodeSeen → ℕ → List ℕ → NodeSeen
+hearing node from bytes = record node { items = item.Heard from bytes ∷ [] }
+
+-- what a turn that took this packet did
+abbrev pub heard_done : ℕ → List ℕ → Kind × Effect → done.TurnDone
+heard_done from bytes p = record { took = takes.Heard from p.0 bytes; effect = p.1 }
+
+-- a turn of the node `old`, whose inbox is empty, on a packet that it hears: the turn that would
+-- follow if the packet had joined the inbox. A refusal is that turn's, and changes nothing
+abbrev pub IsTurnOn : Nodes → NodeIds → NodeSeen → ℕ → List ℕ → Result (Kind × Effect) TurnError
+    → NodeSeen → List ℕ → Type 0
+IsTurnOn mesh range old from bytes (Ok p) new out =
+    IsTurn mesh range (hearing old from bytes) (Ok (heard_done from bytes p)) new out
+IsTurnOn mesh range old from bytes (Err why) new out =
+    (after : NodeSeen) × IsTurn mesh range (hearing old from bytes) (Err why) after out
+    × (new ≡ old)

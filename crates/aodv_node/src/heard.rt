@@ -16,7 +16,9 @@ use aodv_table::Table;
 use aodv_wire::{RerrView, read};
 use mesh_base::{Effect, Kind, Mesh, NodeSet, Packet};
 
-/// A turn on bytes from a node.
+/// A turn on bytes from a node. It is part of both its callers, and what it calls is part of it: as
+/// a function of its own it would clear its frame and hand its answer on through memory.
+#[inline(always)]
 pub(crate) fn handle<T: Table>(
     core: &mut Core<T>,
     mesh: &Mesh,
@@ -62,6 +64,7 @@ fn with_kind(kind: Kind, done: Result<Effect, TurnError>) -> Result<(Kind, Effec
     }
 }
 
+#[inline(always)]
 fn handle_request<T: Table>(
     core: &mut Core<T>,
     mesh: &Mesh,
@@ -87,6 +90,7 @@ fn handle_request<T: Table>(
     }
 }
 
+#[inline(always)]
 fn handle_reply<T: Table>(
     core: &mut Core<T>,
     mesh: &Mesh,
@@ -112,6 +116,7 @@ fn handle_reply<T: Table>(
     }
 }
 
+#[inline(always)]
 fn handle_error<T: Table>(
     core: &mut Core<T>,
     mesh: &Mesh,
@@ -133,6 +138,7 @@ fn handle_error<T: Table>(
     Ok(on_rerr(core, mesh, from, m, out))
 }
 
+#[inline(always)]
 fn handle_datum<T: Table>(
     core: &mut Core<T>,
     mesh: &Mesh,

@@ -26,6 +26,7 @@ struct Ends {
 }
 
 // The node of an address, or the address where it is a stranger's.
+#[inline(always)]
 fn node_of(mesh: &Mesh, a: Addr) -> Result<usize, Addr>
     ensures { result ≡ ok_or (index_of mesh.now a.0) a }
 {
@@ -63,6 +64,7 @@ fn find_strange_pair(mesh: &Mesh, m: &RerrView<'_>) -> Option<Addr>
 }
 
 /// What a message means, or the first stranger that it names.
+#[inline(always)]
 pub(crate) fn meaning_of<'a>(mesh: &Mesh, message: Message<'a>) -> Result<Meaning<'a>, Addr>
     ensures means { IfOk result (Means mesh.now message.entry) }
     ensures known { OnOk result (stranger mesh.now message.entry ≡ None) }

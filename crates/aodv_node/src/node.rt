@@ -9,12 +9,13 @@ ghost use Rattle.aodv_model.specs.Cores.{opening};
 ghost use Rattle.aodv_model.specs.Handlers.{may_send, may_ask};
 ghost use Rattle.aodv_model.specs.Soundness.{IsDatum};
 ghost use Rattle.aodv_node.specs.Seen.{NodeSeen, IsSoundNode, with_queued};
-ghost use Rattle.aodv_node.specs.Turned.{IsTurn};
+ghost use Rattle.aodv_node.specs.Turned.{IsTurn, IsTurnOn};
 ghost use Rattle.aodv_node.specs.Discovered.{IsSend, IsAsk};
 ghost use Rattle.aodv_node.specs.Restored.{node_of, IsRestored};
 
 use crate::answers::{AskError, SendError, TurnDone, TurnError, Unfit};
 use crate::discovery::{try_ask, try_send};
+use crate::heard::handle;
 use crate::sound::{are_items_at, is_sound_table};
 use crate::turns::take_turn;
 use aodv_asked::Asked;
@@ -23,7 +24,7 @@ use aodv_handlers::Core;
 use aodv_inbox::Inbox;
 use aodv_table::{RowTable, Table};
 use aodv_waiting::Waiting;
-use mesh_base::{Bytes, Effect, Item, Mesh, NoMemory, NodeSet, Packet, Variant};
+use mesh_base::{Bytes, Effect, Item, Kind, Mesh, NoMemory, NodeSet, Packet, Variant};
 use std::alloc::Global;
 use std::marker::Model;
 
@@ -175,6 +176,31 @@ impl Node {
         // It says that the table has a row for every node.
         let _nodes = self.core.table.nodes();
         take_turn(&mut self.core, &mut self.inbox, mesh, range, out)
+    }
+
+    /// Takes a packet that the node hears right now, while its inbox is empty, and does what `hear`
+    /// and then `turn` do; the bytes join no inbox. It answers the packet's kind and what the node
+    /// did with it. A refusal is the one of `turn`, and changes nothing.
+    pub fn turn_on(
+        &mut self,
+        mesh: &Mesh,
+        range: &NodeSet,
+        from: usize,
+        bytes: &[u8],
+        out: &mut Packet,
+    ) -> Result<(Kind, Effect), TurnError>
+        requires mesh { length mesh.now ≡ self.old.size }
+        requires from { from < self.old.size }
+        requires other { from ≢ self.old.core.ip }
+        requires empty { self.old.items ≡ [] }
+        ensures turn { let old = self.old in
+            IsTurnOn mesh.now range.now old from bytes.now result self.new out.new.items }
+        ensures others { self.new ≡ record (self.old) { core = self.new.core } }
+        ensures me { self.new.core.ip ≡ self.old.core.ip }
+    {
+        // It says that the table has a row for every node.
+        let _nodes = self.core.table.nodes();
+        handle(&mut self.core, mesh, range, from, bytes, out)
     }
 
     /// Sends the first datum that waits for `dest` to the next hop, if there is a valid route. It

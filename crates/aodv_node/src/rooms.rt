@@ -42,6 +42,7 @@ pub(crate) fn make_store<T: Table>(core: &mut Core<T>, d: usize) -> Result<(), N
 }
 
 /// Room for a request of o's.
+#[inline(always)]
 pub(crate) fn make_request<T: Table>(core: &mut Core<T>, o: usize) -> Result<(), NoMemory>
     requires order { IsInOrder T.nodes T.entries (T.nodes core.old.table) core.old }
     requires below { o < T.nodes core.old.table }

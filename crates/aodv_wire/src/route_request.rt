@@ -64,6 +64,7 @@ pub(crate) fn read_rreq(bytes: &[u8]) -> Result<Message<'_>, WireError>
 }
 
 /// Writes a route request in place of what `out` held: RFC 3561 section 5.1.
+#[inline(always)]
 pub fn write_rreq(m: &Rreq, out: &mut Packet)
     requires { 1 ≤ m.now.osn }
     ensures written { out.new.items ≡ spelling (a_rreq m.now) }

@@ -132,6 +132,7 @@ impl Mesh {
 
     /// The node of an address. It is found at once where the addresses up to it are consecutive,
     /// and else by a binary search.
+    #[inline(always)]
     pub fn index_of(&self, a: Addr) -> Option<usize>
         ensures value { result ≡ index_of self.now a.0 }
         ensures within { IfSome result (λ i. i < length self.now) }

@@ -53,3 +53,14 @@ picks_ask w x d a b c h = pick_by w None None None (Some (x, d)) a b c h
 pub picks_none : (w : World) → None ≡ first_turn w → None ≡ first_copy w → None ≡ first_send w → None ≡ first_ask w → None ≡ pick w
 unfolding chosen
 picks_none w a b c d = pick_by w None None None None a b c d
+
+-- where a delivery is chosen, no node may take a turn
+pub no_turn : (w : World) (id : ℕ) → pick w ≡ Some (Deliver id) → first_turn w ≡ None
+no_turn w id is = by (first_turn w) refl
+  where
+    differ : (x : ℕ) → Some (Turn x) ≡ Some (Deliver id) → ⊥
+    differ x e = cc
+
+    by : (o : Option ℕ) → first_turn w ≡ o → first_turn w ≡ None
+    by None e = e
+    by (Some x) e = absurd (differ x (picks_turn w x (sym e) ∙ is))

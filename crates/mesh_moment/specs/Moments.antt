@@ -1,5 +1,5 @@
 -- What every moment of a run has, and what an event answers at one.
-use Rattle.std.specs.Prelude.{◌≡◌, ℕ, List, Option, IfSome, option_map, ⊤, refl}
+use Rattle.std.specs.Prelude.{◌≡◌, ℕ, List, Option, Some, IfSome, option_map, ⊤, refl}
 use Rattle.std.specs.Coded.{Coded, code_by, coded×, coded_ℕ, coded_list, coded_option}
 use Rattle.std.specs.List.{AllByRecursion}
 use Rattle.std.specs.Option.{ForSome, unwrap_or}
@@ -7,7 +7,8 @@ use Rattle.mesh_base.specs.Meshes.{Nodes, IsMesh}
 use Rattle.mesh_base.specs.declared.events.Variant.{Variant}
 use Rattle.mesh_base.specs.declared.events.Done.{Done}
 use Rattle.mesh_model.specs.Worlds as worlds
-use Rattle.mesh_model.specs.Worlds.{World, Event}
+use Rattle.mesh_model.specs.Worlds.{World, Event, Deliver, Turn}
+use Rattle.mesh_model.specs.Choices.{pick}
 use Rattle.aodv_model.specs.Codes.{variant_code}
 use Rattle.mesh_model.specs.Codes.{world_code}
 use Rattle.mesh_model.specs.Accounts.{any, waiting, queued_data, in_flight}
@@ -92,6 +93,15 @@ pub record IsAnswered (m : Moment) (e : Event) (n : Moment) : Type 0 where
   pub done : Done
   pub packet : List ℕ
   pub answer : IsAnswer m e done n packet
+
+-- the delivery of this copy was done, and then the turn of its receiver, which was the event to be
+-- chosen at the moment between them
+pub record IsTakenAtOnce (m : Moment) (id : ℕ) (n : Moment) : Type 0 where
+  pub to : ℕ
+  pub between : Moment
+  pub delivered : IsAnswered m (Deliver id) between
+  pub next : pick (world_of between) ≡ Some (Turn to)
+  pub taken : IsAnswered between (Turn to) n
 
 -- the event was refused for a full counter
 abbrev pub IsRefusal : Moment → Event → StepError → Type 0

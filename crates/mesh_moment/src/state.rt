@@ -1,21 +1,23 @@
 //! The state of a run at a moment: its variant of the protocol and its mesh, its world, what was
 //! counted, how many lines were read, and how many events the world has gone through.
-ghost use Rattle.std.specs.Prelude.{◌≡◌, ◌<◌, ◌≤◌, ◌^◌, length, is_some, option_map, true, Some, None, IfOk, OnOk, OnErr, IfErr, IfSome};
+ghost use Rattle.std.specs.Prelude.{◌≡◌, ◌<◌, ◌≤◌, ◌+◌, ◌^◌, length, is_some, option_map, true, false, Some, None, IfOk, OnOk, OnErr, IfErr, IfSome};
 ghost use Rattle.mesh_base.specs.declared.limits.TheConstants.{MOST_NODES};
 ghost use Rattle.mesh_base.specs.Meshes.{IsMesh, with_node};
+ghost use Rattle.mesh_model.specs.Worlds.{Deliver};
+ghost use Rattle.mesh_model.specs.Choices.{pick};
 ghost use Rattle.mesh_model.specs.Places.{IsEvent};
 ghost use Rattle.mesh_model.specs.Accounts.{any, waiting, queued_data, in_flight};
 ghost use Rattle.mesh_meaning.specs.Events.{event_of};
 ghost use Rattle.mesh_text.specs.Schedule as model;
 ghost use Rattle.mesh_text.specs.Ranges.{IsNewNode};
 ghost use Rattle.mesh_script.specs.Seen.{accepted_of, IsAllowed};
-ghost use Rattle.mesh_moment.specs.Moments.{with_run_begun, moment_seen, AreOfVariant, IsAnswer, IsAnswered, IsRefusal, IsSafe, IsSound};
+ghost use Rattle.mesh_moment.specs.Moments.{with_run_begun, moment_seen, AreOfVariant, IsAnswer, IsAnswered, IsRefusal, IsSafe, IsSound, IsTakenAtOnce};
 
 use crate::sums::count;
 use mesh_base::{Addr, Done, Event, Mesh, NoMemory, Packet, Variant};
 use mesh_report::{Summary, Sums};
 use mesh_script::Line;
-use mesh_world::{StepError, Steps, Totals, tally_of};
+use mesh_world::{StepError, Steps, Tally, Totals, tally_of};
 use std::alloc::Global;
 use std::marker::Model;
 
@@ -247,6 +249,29 @@ impl<S: Steps> State<S> {
             }
             Err(refusal) => Err(refusal),
         }
+    }
+
+    /// Does two events as one where the delivery of this copy is the event to be chosen: that, and
+    /// the turn of its receiver, which is the one to be chosen then. Both are counted. Where the
+    /// answer is false this isn't done, whatever the cause is, and nothing is changed.
+    #[inline(always)]
+    pub fn take_copy(&mut self, id: u64, out: &mut Packet) -> bool
+        requires made { is_some self.old.world ≡ true }
+        requires few { self.old.steps + 1 < 2 ^ 48 }
+        requires chosen { pick (model.world_of self.old) ≡ Some (Deliver id) }
+        ensures taken { result ≡ true → IsTakenAtOnce self.old id self.new }
+        ensures same { result ≡ false → self.new ≡ self.old }
+        ensures safe { IsSafe self.new }
+    {
+        let Some(world) = &mut self.world else {
+            unreachable!();
+        };
+        let Some((to, tally)) = world.take_copy(id, out) else {
+            return false;
+        };
+        count(&mut self.sums, &Event::Deliver { id }, Tally::Moved);
+        count(&mut self.sums, &Event::Turn { node: to }, tally);
+        true
     }
 
     /// Does the first event. The world is kept only where the event was done.

@@ -5,6 +5,7 @@ pub mod Events
 pub mod Begun
 pub mod Chosen
 pub mod Ways
+pub mod Twice
 pub mod Tables
 pub mod NextCopies
 pub mod Growth

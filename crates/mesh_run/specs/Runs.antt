@@ -17,6 +17,7 @@ use Rattle.mesh_text.specs.Schedule.{Moment, AcceptedLine, Does, ShowsNode, Show
 use Rattle.mesh_text.specs.Effects.{outcome_lines}
 use Rattle.mesh_text.specs.Auto.{EventsOutcome, Ended, Full as EventsFull, events_chosen}
 use Rattle.mesh_text.specs.Runs.{moment_after}
+use Rattle.mesh_moment.specs.Moments.{IsAnswered}
 use Rattle.mesh_text.specs.Text.{LineOutcome, On, Refused, Full, text_in}
 use Rattle.mesh_run.specs.declared.show.Shown.{Shown}
 use Rattle.mesh_run.specs.declared.show.Shown.TheVariants as shown
@@ -152,6 +153,14 @@ IsEventsRun say m ran n before now (Err stop.NoMemory) =
 abbrev pub next_in : Option Event → Moment → Option Event
 next_in None m = pick (world_of m)
 next_in (Some e) m = Some e
+
+-- two events were done, this one and the one that was then to be chosen
+pub record AreTwoDone (m : Moment) (e : Event) (n : Moment) : Type 0 where
+  pub between : Moment
+  pub other : Event
+  pub first : IsAnswered m e between
+  pub next : pick (world_of between) ≡ Some other
+  pub second : IsAnswered between other n
 
 -- up to so many events from a moment on: the one that is given, once, or else those that are chosen
 unfoldable pub events_due : Option Event → ℕ → Moment → List Event

@@ -1,7 +1,8 @@
 //! Events that the run chooses, one after another.
-ghost use Rattle.std.specs.Prelude.{◌≡◌, ◌<◌, ◌≤◌, ◌+◌, ◌^◌, length, is_some, true, OnOk, OnErr, IfOk, IfSome, option_map};
+ghost use Rattle.std.specs.Prelude.{◌≡◌, ◌<◌, ◌≤◌, ◌+◌, ◌^◌, length, is_some, true, false, Some, None, OnOk, OnErr, IfOk, IfSome, option_map};
 ghost use Rattle.mesh_meaning.specs.Events.{event_of};
-ghost use Rattle.mesh_text.specs.Schedule.{Chooses};
+ghost use Rattle.mesh_model.specs.Choices.{pick};
+ghost use Rattle.mesh_text.specs.Schedule.{Chooses, world_of};
 ghost use Rattle.mesh_text.specs.Text.{outcome_of_line};
 ghost use Rattle.mesh_text.specs.Auto.{outcome_of_events, events_chosen};
 ghost use Rattle.mesh_grammar.specs.Written.{line as line_of_words};
@@ -9,7 +10,7 @@ ghost use Rattle.mesh_io.specs.Cause.{HasCause};
 ghost use Rattle.mesh_io.specs.Puts.{Puts};
 ghost use Rattle.mesh_script.specs.Seen.{IsPrintable};
 ghost use Rattle.mesh_run.specs.Causes.{HasStopCause};
-ghost use Rattle.mesh_run.specs.Runs.{output_if, IsLineOf, IsLineOfGiven, IsUncountedRun, IsEventsRun, IsReached, next_in, events_due};
+ghost use Rattle.mesh_run.specs.Runs.{output_if, IsLineOf, IsLineOfGiven, IsUncountedRun, IsEventsRun, IsReached, AreTwoDone, next_in, events_due};
 
 use crate::commands::do_event;
 use crate::stop::Stop;
@@ -56,9 +57,38 @@ fn event_after<'e, 'a, S: Steps>(
     }
 }
 
+// Whether two events may be done as one: nothing is said, the run chooses, and two are left.
+#[inline(always)]
+fn may_take_two(say: bool, given: &Option<Event<'_>>, left: u32) -> bool
+    ensures { result ≡ true
+        → (say ≡ false) × (option_map event_of given.now ≡ None) × (2 ≤ left) }
+{
+    !say && given.is_none() && left >= 2
+}
+
+// Does the event that was chosen and the one that is chosen then as one, where they may be, and are
+// a delivery and the turn of its receiver. Where the answer is false nothing is done.
+#[inline(always)]
+fn take_two<S: Steps>(at: &mut Point<S>, event: &Event<'_>, may: bool) -> bool
+    requires started { is_some at.old.world ≡ true }
+    requires few { may ≡ true → at.old.steps + 1 < 2 ^ 48 }
+    requires chosen { may ≡ true → pick (world_of at.old) ≡ Some (event_of event.now) }
+    ensures done { result ≡ true → (may ≡ true) × AreTwoDone at.old (event_of event.now) at.new }
+    ensures same { result ≡ false → at.new ≡ at.old }
+{
+    if !may {
+        return false;
+    }
+    match event {
+        Event::Deliver { id } => at.state.take_copy(*id, &mut at.packet),
+        _ => false,
+    }
+}
+
 /// Does up to so many events, and answers how many there were: the one that is given, or else those
 /// that the run chooses, each when the one before it is done. It is part of both its callers: the
-/// one event of a line needs no loop there, and no answer of 72 bytes goes through memory.
+/// one event of a line needs no loop there, and no answer of 72 bytes goes through memory. Where
+/// nothing is said, a chosen delivery and the turn behind it are done as one.
 #[inline(always)]
 pub fn do_events<'a, S: Steps, O: Sink>(
     alloc: Global,
@@ -92,6 +122,11 @@ pub fn do_events<'a, S: Steps, O: Sink>(
         let Some(event) = event_after(task.at, &task.given, &mut chosen) else {
             return Ok(did);
         };
+        let may = may_take_two(say, &task.given, task.count - did);
+        if take_two(task.at, event, may) {
+            did += 2;
+            continue 'events;
+        }
         if let Err(stop) = do_event(alloc, task.at, task.bytes, event, say, out) {
             return Err(stop.of_event(*event));
         }

@@ -13,6 +13,8 @@ pub mod Turns
 pub mod Moves
 pub mod Sendings
 pub mod Arrivals
+pub mod AtOnce
+pub mod TakenAtOnce
 pub mod Doublings
 pub mod Linking
 pub mod Memory

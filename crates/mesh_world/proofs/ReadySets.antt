@@ -101,28 +101,28 @@ same_number x = either (x == x) refl
     either true e = refl
     either false e = absurd (eqb-false x x e refl)
 
-at_it : (b : Bool) (s : NodeIds) (x : ℕ) → sets.contains (with_or_without b s x) x ≡ b
+pub at_it : (b : Bool) (s : NodeIds) (x : ℕ) → sets.contains (with_or_without b s x) x ≡ b
 at_it true s x = sets.contains-insert nat_cmp_total s x x ∙ ap (λ c. c || sets.contains s x) (unsigned_tied x x ∙ same_number x)
 at_it false s x = sets.contains-remove nat_cmp_total s x x ∙ ap (λ c. not c && sets.contains s x) (unsigned_tied x x ∙ same_number x)
 
-at_other : (b : Bool) (s : NodeIds) (x q : ℕ) → q ≢ x → sets.contains (with_or_without b s x) q ≡ sets.contains s q
+pub at_other : (b : Bool) (s : NodeIds) (x q : ℕ) → q ≢ x → sets.contains (with_or_without b s x) q ≡ sets.contains s q
 at_other true s x q apart = sets.contains-insert nat_cmp_total s x q ∙ ap (λ c. c || sets.contains s q) (unsigned_tied q x ∙ other_number q x apart)
 at_other false s x q apart = sets.contains-remove nat_cmp_total s x q ∙ ap (λ c. not c && sets.contains s q) (unsigned_tied q x ∙ other_number q x apart)
 
-follows : (s : NodeIds) (x : ℕ) (b : Bool) (f f' : ℕ → Bool) → ((q : ℕ) → sets.contains s q ≡ f q) → f' x ≡ b → ((q : ℕ) → q ≢ x → f' q ≡ f q) → (q : ℕ) → sets.contains (with_or_without b s x) q ≡ f' q
+pub follows : (s : NodeIds) (x : ℕ) (b : Bool) (f f' : ℕ → Bool) → ((q : ℕ) → sets.contains s q ≡ f q) → f' x ≡ b → ((q : ℕ) → q ≢ x → f' q ≡ f q) → (q : ℕ) → sets.contains (with_or_without b s x) q ≡ f' q
 follows s x b f f' is here there q = elim (cases_eq q x) [
   | inl same ↦ ap (sets.contains (with_or_without b s x)) same ∙ (at_it b s x ∙ (sym here ∙ ap f' (sym same)))
   | inr other ↦ at_other b s x q other ∙ (is q ∙ sym (there q other))
 ]
 
-node_here : (mesh : Nodes) (nodes : List NodeSeen) (x : ℕ) (n : NodeSeen) → x < length nodes → slice_get (map (node_in mesh) (slice_set nodes x n)) x ≡ Some (node_in mesh n)
+pub node_here : (mesh : Nodes) (nodes : List NodeSeen) (x : ℕ) (n : NodeSeen) → x < length nodes → slice_get (map (node_in mesh) (slice_set nodes x n)) x ≡ Some (node_in mesh n)
 node_here mesh nodes x n l = slice_get-map (node_in mesh) (slice_set nodes x n) x ∙ ap (option_map (node_in mesh)) (set_same nodes x n (get_or nodes x n) (slice_get-get_or nodes x n l))
 
-node_there : (mesh : Nodes) (nodes : List NodeSeen) (x q : ℕ) (n : NodeSeen) → q ≢ x → slice_get (map (node_in mesh) (slice_set nodes x n)) q ≡ slice_get (map (node_in mesh) nodes) q
+pub node_there : (mesh : Nodes) (nodes : List NodeSeen) (x q : ℕ) (n : NodeSeen) → q ≢ x → slice_get (map (node_in mesh) (slice_set nodes x n)) q ≡ slice_get (map (node_in mesh) nodes) q
 node_there mesh nodes x q n apart =
     slice_get-map (node_in mesh) (slice_set nodes x n) q ∙ (ap (option_map (node_in mesh)) (set_other nodes x q n apart) ∙ sym (slice_get-map (node_in mesh) nodes q))
 
-waits_in : (mesh : Nodes) (items : List Item) → waits (map (item_in mesh) items) ≡ has_items items
+pub waits_in : (mesh : Nodes) (items : List Item) → waits (map (item_in mesh) items) ≡ has_items items
 waits_in mesh [] = refl
 waits_in mesh (item ∷ items) = refl
 

@@ -8,6 +8,8 @@ pub mod Steps
 pub mod Tallies
 -- Accounts: the account of each datum at an event.
 pub mod Accounts
+-- AtOnce: a copy that is taken as soon as it is delivered.
+pub mod AtOnce
 -- Kept: the world that nodes and a radio are, and how the code keeps one.
 pub mod Kept
 -- Noted: how the kept sets follow the nodes. No public contract cites it.

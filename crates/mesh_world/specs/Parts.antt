@@ -1,19 +1,21 @@
 -- The parts of a world, and an event as it is done to them. No public contract cites this file.
-use Rattle.std.specs.Prelude.{◌≡◌, ℕ, ◌+◌, Bool, true, List, [], ◌∷◌, length, Result, ⊤}
+use Rattle.std.specs.Prelude.{◌≡◌, ◌<◌, ℕ, ◌+◌, Bool, true, List, [], ◌∷◌, length, Some, Result, Ok, ⊤}
 use Rattle.mesh_base.specs.Members.{NodeIds}
 use Rattle.mesh_base.specs.Meshes.{Nodes, first_at}
 use Rattle.mesh_base.specs.declared.events.Air.{Air}
 use Rattle.mesh_base.specs.declared.events.Cast.{Cast}
 use Rattle.mesh_base.specs.declared.events.Done.{Done}
+use Rattle.mesh_base.specs.declared.events.Done.TheVariants as done
 use Rattle.mesh_base.specs.declared.events.Variant.{Variant}
 use Rattle.aodv_model.specs.Cores.{opening}
 use Rattle.aodv_node.specs.Seen.{NodeSeen}
-use Rattle.mesh_model.specs.Worlds.{Event, receivers}
+use Rattle.mesh_model.specs.Worlds.{Event, Deliver, Turn, receivers}
+use Rattle.mesh_model.specs.Choices.{first_turn}
 use Rattle.mesh_radio.specs.Radios.{RadioState, with_copies}
 use Rattle.mesh_meaning.specs.Answers.{cast_in}
 use Rattle.mesh_world.specs.Seen.{WorldSeen}
 use Rattle.mesh_world.specs.Steps.{IsStep}
-use Rattle.mesh_world.specs.Tallies.{answer_with, HasTally}
+use Rattle.mesh_world.specs.Tallies.{answer_with, HasTally, IsTallyOf}
 use Rattle.mesh_world.specs.Kept.{seen_of, IsKept}
 use Rattle.mesh_world.specs.declared.parts.Parts.{Parts}
 use Rattle.mesh_world.specs.declared.steps.StepError.{StepError}
@@ -41,6 +43,20 @@ pub record IsToldTo (e : Event) (old : Parts) (wanted : Bool) (result : Result T
   pub done : IsDoneTo e old answer new packet
   pub tally : HasTally answer result
   pub told : wanted ≡ true → answer_with result left ≡ answer
+
+-- the copy of this id was delivered, and node `to` took it: between the two events the parts are in
+-- order, and no node before that one may take a turn
+pub record IsTakenFrom (id : ℕ) (old : Parts) (to : ℕ) (tally : Tally) (new : Parts)
+    (packet : List ℕ) : Type 0 where
+  pub from : ℕ
+  pub between : Parts
+  pub mesh : between.mesh ≡ old.mesh
+  pub delivered : IsDoneTo (Deliver id) old (Ok (done.Heard from to)) between packet
+  pub within : to < length between.mesh
+  pub next : first_turn (seen_in between).world ≡ Some to
+  pub answer : Done
+  pub taken : IsDoneTo (Turn to) between (Ok answer) new packet
+  pub counted : IsTallyOf answer tally
 
 -- a node of the mesh in its opening state, with this variant
 pub record IsOpened (v : Variant) (mesh : Nodes) (me : ℕ) (n : NodeSeen) : Type 0 where

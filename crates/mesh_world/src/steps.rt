@@ -1,12 +1,14 @@
 //! What steps a world.
-ghost use Rattle.std.specs.Prelude.{◌≡◌, ◌≤◌, ◌<◌, ◌^◌, length, true, IfOk};
+ghost use Rattle.std.specs.Prelude.{◌≡◌, ◌≤◌, ◌<◌, ◌+◌, ◌^◌, length, true, None, IfOk, IfSome};
 ghost use Rattle.mesh_base.specs.declared.events.Variant.TheVariants.{Base};
+ghost use Rattle.mesh_model.specs.Choices.{first_turn};
 ghost use Rattle.mesh_model.specs.Places.{IsEvent};
 ghost use Rattle.mesh_meaning.specs.Events.{event_of};
 ghost use Rattle.mesh_world.specs.Seen.{WorldSeen, opening, IsSoundWorld};
 ghost use Rattle.mesh_world.specs.Steps.{IsStep};
 ghost use Rattle.mesh_world.specs.Tallies.{answer_with, IsStepCounted};
 ghost use Rattle.mesh_world.specs.Accounts.{KeepsAccount};
+ghost use Rattle.mesh_world.specs.AtOnce.{IsTakenAtOnce};
 
 use crate::tally::{Tally, tell_answer};
 use crate::world::World;
@@ -87,6 +89,20 @@ pub trait Steps: Drop {
     {
         let given = self.step(alloc, e, out);
         tell_answer(wanted, answer, given)
+    }
+
+    /// Does two events as one, where no node may take a turn: the copy of this id is delivered, and
+    /// its receiver takes it. The answer is the receiver, and what is counted of its turn. None
+    /// where this isn't done, whatever the cause is: the world is as it was, and the events are
+    /// left to `step`, which says why one is refused. Afterwards `out` may hold any packet.
+    fn take_copy(&mut self, id: u64, out: &mut Packet) -> Option<(usize, Tally)>
+        requires few { (seen self.old).steps + 1 < 2 ^ 48 }
+        requires idle { first_turn (seen self.old).world ≡ None }
+        ensures taken { IfSome result (λ p.
+            IsTakenAtOnce id (seen self.old) p.0 p.1 (seen self.new)) }
+        ensures none { result ≡ None → seen self.new ≡ seen self.old }
+    {
+        None
     }
 
     /// The world itself.

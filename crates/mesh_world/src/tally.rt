@@ -1,6 +1,9 @@
 //! What is counted of an event.
 ghost use Rattle.std.specs.Prelude.{◌≡◌, ℕ, List, true, Ok, IsOk};
 ghost use Rattle.mesh_base.specs.Meshes.{Nodes};
+ghost use Rattle.mesh_base.specs.declared.events.Air.{Air};
+ghost use Rattle.mesh_base.specs.declared.events.Done.TheVariants as done;
+ghost use Rattle.mesh_base.specs.declared.events.Took.TheVariants as takes;
 ghost use Rattle.mesh_model.specs.Worlds.{World, Event as an_event, step};
 ghost use Rattle.mesh_model.specs.Accounts.{any, delivered_data, dropped_data, in_taken, in_dropped};
 ghost use Rattle.mesh_meaning.specs.Answers.{outcome_in, took_in, IsDoneInMesh, IsTookInMesh};
@@ -11,7 +14,7 @@ ghost use Rattle.mesh_world.specs.Accounts.{KeepsAccount};
 
 use crate::steps::StepError;
 use aodv_wire::is_data;
-use mesh_base::{Done, Kind, Took};
+use mesh_base::{Done, Effect, Kind, Took};
 
 /// What is counted of an event that was done.
 #[derive(Clone, Copy)]
@@ -87,6 +90,52 @@ fn drops(done: &Done) -> bool
         Done::Sent { .. } => false,
         Done::Heard { .. } => false,
         Done::Doubled { .. } => false,
+    }
+}
+
+// Whether a packet of this kind, which was heard and taken, has a datum.
+fn has_datum(kind: Kind) -> bool
+    ensures taken { (mesh : Nodes) (x from : ℕ) (bytes : List ℕ)
+        → IsTookInMesh mesh (takes.Heard from kind bytes)
+        → in_taken any x (took_in mesh (takes.Heard from kind bytes)) ≡ count_of result }
+    ensures dropped { (mesh : Nodes) (from : ℕ) (bytes : List ℕ)
+        → IsTookInMesh mesh (takes.Heard from kind bytes)
+        → in_dropped any (took_in mesh (takes.Heard from kind bytes)) ≡ count_of result }
+{
+    kind == Kind::Data
+}
+
+// Whether a datum was delivered, where a packet of this kind was heard and taken.
+fn delivers_heard(kind: Kind, effect: &Effect) -> bool
+    ensures { (from : ℕ) (bytes : List ℕ) (air : Air) (mesh : Nodes) (x : ℕ) (old new : World)
+        (packet : List ℕ) (e : an_event)
+        → IsDoneInMesh mesh (done.Taken (takes.Heard from kind bytes) effect.now air) packet
+        → step old e ≡ outcome_in mesh x new
+        (done.Taken (takes.Heard from kind bytes) effect.now air) packet
+        → delivered_data any e (step old e) ≡ count_of result }
+{
+    effect.deliver && has_datum(kind)
+}
+
+// Whether one was dropped.
+fn drops_heard(kind: Kind, effect: &Effect) -> bool
+    ensures { (from : ℕ) (bytes : List ℕ) (air : Air) (mesh : Nodes) (x : ℕ) (w : World)
+        (packet : List ℕ) (e : an_event)
+        → IsDoneInMesh mesh (done.Taken (takes.Heard from kind bytes) effect.now air) packet
+        → dropped_data any e (outcome_in mesh x w
+        (done.Taken (takes.Heard from kind bytes) effect.now air) packet) ≡ count_of result }
+{
+    effect.lost && has_datum(kind)
+}
+
+/// What is counted of a turn that took a packet of this kind.
+pub(crate) fn tally_of_heard(kind: Kind, effect: &Effect) -> Tally
+    ensures { (from : ℕ) (bytes : List ℕ) (air : Air)
+        → IsTallyOf (done.Taken (takes.Heard from kind bytes) effect.now air) result }
+{
+    Tally::Taken {
+        delivered: delivers_heard(kind, effect),
+        dropped: drops_heard(kind, effect),
     }
 }
 

@@ -260,6 +260,11 @@ impl Steps for World {
         }
     }
 
+    #[inline(always)]
+    fn take_copy(&mut self, id: u64, out: &mut Packet) -> Option<(usize, Tally)> {
+        self.parts.take_copy(id, out)
+    }
+
     fn world(&self) -> &World {
         self
     }

@@ -1,4 +1,4 @@
-use Rattle.std.proofs.Common.{◌∙◌, ◌-◌, length, Ok, Err, refl, sym, ap, subst, arith}
+use Rattle.std.proofs.Common.{◌∙◌, ◌∷◌, [], ◌+◌, ◌≤◌, ◌-◌, length, Ok, Err, refl, sym, ap, subst, arith}
 use Rattle.std.specs.Prelude.{IfSome, option_map}
 use Rattle.mesh_base.specs.Meshes.{Nodes}
 use Rattle.mesh_meaning.specs.Events.{event_of}
@@ -6,10 +6,12 @@ use Rattle.mesh_script.specs.Seen.{IsPrintable}
 use Rattle.mesh_script.specs.declared.line.Line.TheVariants as line
 use Rattle.mesh_run.specs.declared.stop.Stop.{Stop}
 use Rattle.mesh_run.specs.Stops.{stop_of}
-use Rattle.mesh_run.specs.Runs.{IsLineOfGiven, events_due}
+use Rattle.mesh_text.specs.Schedule.{Moment, next_moment}
+use Rattle.mesh_run.specs.Runs.{IsLineDone, IsLineOfGiven, IsLineStopped, IsReached, events_due, line_outcome_at}
 use Rattle.mesh_run.proofs.Chosen.{due_all, due_none, due_counts, nothing_more, ran_goes, ran_stops}
 use Rattle.mesh_run.proofs.Events.{stepped_started, stepped_mesh, stepped_lines, stepped_steps}
 use Rattle.mesh_run.proofs.Ways.{reached_none, way_goes, way_stops}
+use Rattle.mesh_run.proofs.Twice.{two_counts, two_lines, two_mesh, two_ran, two_started, two_steps, two_way}
 use Rattle.mesh_run.proofs.auto.do_events.Goals as goal
 
 pub returns-in_default-clause-ran : goal.returns-in_default-clause-ran
@@ -29,34 +31,73 @@ returns-in_default-clause-way g c =
 pub returns-in-Err-clause-ran : goal.returns-in-Err-clause-ran
 returns-in-Err-clause-ran g c =
     let why : Stop = stop_of c.in-Some.event.now c.in-Err.stop in
+    let e = event_of c.in-Some.event.now in
+    let comes = subst (λ (m : Moment). IsLineStopped c.args.say m (line_outcome_at m e) c.do_event.new.at (g.O.Sink.held c.events.out) (g.O.Sink.held c.do_event.new.out) why)
+    (c.take_two.ensures.same c.if-take_two.false) c.in-Err.ensures.comes in
     rw c.of_event.ensures (c.events.invariant.ran (g.O.Sink.held c.do_event.new.out) c.do_event.new.at (Err why)
     (ran_stops c.args.say (option_map event_of c.events.task.given) c.events.task.count c.events.did c.events.task.at.now c.do_event.new.at (event_of c.in-Some.event.now) _ _ why
-    c.events.invariant.one c.events-test.true c.in-Some.ensures.value c.in-Err.ensures.comes))
+    c.events.invariant.one c.events-test.true c.in-Some.ensures.value comes))
 
 pub returns-in-Err-clause-way : goal.returns-in-Err-clause-way
 returns-in-Err-clause-way g c =
+    let way = subst (λ (m : Moment). IsReached m (event_of c.in-Some.event.now ∷ []) c.do_event.new.at) (c.take_two.ensures.same c.if-take_two.false) c.in-Err.ensures.way in
     c.events.invariant.way c.do_event.new.at
     (way_stops (option_map event_of c.events.task.given) c.events.task.count c.events.did c.events.task.at.now c.do_event.new.at (event_of c.in-Some.event.now)
-    c.events.invariant.one c.events-test.true c.in-Some.ensures.value c.in-Err.ensures.way)
+    c.events.invariant.one c.events-test.true c.in-Some.ensures.value way)
 
 pub overflow_add-did : goal.overflow_add-did
-overflow_add-did g c = omega (arith, c.events.invariant.fits, c.events-test.true)
+overflow_add-did g c =
+    let left = (c.may_take_two-may.ensures (c.take_two.ensures.done c.if-take_two.true).0).2 in
+    omega (arith, c.events.invariant.fits, left)
+
+pub events-preserved-then-take_two : goal.events-preserved-then-take_two
+events-preserved-then-take_two g c =
+    let told = c.take_two.ensures.done c.if-take_two.true in
+    let may = c.may_take_two-may.ensures told.0 in
+    let left = may.2 in
+    let two : c.events.did + 2 ≤ c.events.task.count = omega (arith, left) in
+    let given = option_map event_of c.events.task.given in
+    let m = c.events.task.at.now in
+    let n = c.take_two.new.at in
+    let e = event_of c.in-Some.event.now in
+    let are = told.1 in
+    let mesh = two_mesh m n e are in
+    let steps = two_steps m n e are in
+    let counts = two_counts c.args.say given c.events.task.count c.events.did m n e c.events.invariant.one may.0 may.1 two c.in-Some.ensures.value are in
+    record {
+      ran = λ now k r p. c.events.invariant.ran now k r
+          (two_ran c.args.say given c.events.task.count c.events.did m n e c.events.invariant.one may.0 may.1 two c.in-Some.ensures.value are k (g.O.Sink.held c.events.out) now r p);
+      way = λ k p. c.events.invariant.way k (two_way c.args.say given c.events.task.count c.events.did m n e c.events.invariant.one may.0 may.1 two c.in-Some.ensures.value are k p);
+      left = omega (arith, counts, c.events.invariant.left);
+      same = c.events.invariant.same;
+      started = two_started m n e are;
+      one = c.events.invariant.one;
+      printable = subst (λ (ns : Nodes). IfSome c.events.task.given (λ e. IsPrintable ns (line.Step e))) (sym mesh) c.events.invariant.printable;
+      echo = λ loud. subst (λ (ns : Nodes). IfSome c.events.task.bytes (λ b. IsLineOfGiven ns (option_map event_of c.events.task.given) b.now)) (sym mesh) (c.events.invariant.echo loud);
+      lines = two_lines m n e are ∙ c.events.invariant.lines;
+      faults = c.events.invariant.faults;
+      fits = c.events.invariant.fits;
+      within = two;
+      few = omega (arith, steps, c.events.invariant.few, two);
+    }
 
 pub events-preserved : goal.events-preserved
 events-preserved g c =
-    let next = c.in_default-do_event.ensures.moment in
+    let still = c.take_two.ensures.same c.if-take_two.false in
+    let next = c.in_default-do_event.ensures.moment ∙ ap (λ (m : Moment). next_moment m (event_of c.in-Some.event.now)) still in
+    let comes = subst (λ (m : Moment). IsLineDone c.args.say (line_outcome_at m (event_of c.in-Some.event.now)) c.do_event.new.at (g.O.Sink.held c.events.out) (g.O.Sink.held c.do_event.new.out)) still c.in_default-do_event.ensures.comes in
     let mesh = stepped_mesh c.events.task.at.now c.do_event.new.at (event_of c.in-Some.event.now) next in
     let lines = stepped_lines c.events.task.at.now c.do_event.new.at (event_of c.in-Some.event.now) next in
     let steps = stepped_steps c.events.task.at.now c.do_event.new.at (event_of c.in-Some.event.now) next in
     let counts = due_counts c.args.say (option_map event_of c.events.task.given) c.events.task.count c.events.did c.events.task.at.now c.do_event.new.at (event_of c.in-Some.event.now) _ _
-    c.events.invariant.one c.events-test.true c.in-Some.ensures.value c.in_default-do_event.ensures.comes next in
+    c.events.invariant.one c.events-test.true c.in-Some.ensures.value comes next in
     record {
       ran = λ now n r p. c.events.invariant.ran now n r
           (ran_goes c.args.say (option_map event_of c.events.task.given) c.events.task.count c.events.did c.events.task.at.now c.do_event.new.at n (event_of c.in-Some.event.now)
-          (g.O.Sink.held c.events.out) (g.O.Sink.held c.do_event.new.out) now r c.events.invariant.one c.events-test.true c.in-Some.ensures.value c.in_default-do_event.ensures.comes p);
+          (g.O.Sink.held c.events.out) (g.O.Sink.held c.do_event.new.out) now r c.events.invariant.one c.events-test.true c.in-Some.ensures.value comes p);
       way = λ n p. c.events.invariant.way n
           (way_goes c.args.say (option_map event_of c.events.task.given) c.events.task.count c.events.did c.events.task.at.now c.do_event.new.at n (event_of c.in-Some.event.now) _ _
-          c.events.invariant.one c.events-test.true c.in-Some.ensures.value c.in_default-do_event.ensures.comes next p);
+          c.events.invariant.one c.events-test.true c.in-Some.ensures.value comes next p);
       left = omega (arith, counts, c.events.invariant.left);
       same = c.events.invariant.same;
       started = stepped_started c.events.task.at.now c.do_event.new.at (event_of c.in-Some.event.now) next;
