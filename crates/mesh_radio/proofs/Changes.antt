@@ -5,10 +5,12 @@ use Rattle.indexmap.specs.IndexMap.{set_value_at}
 use Rattle.std.specs.FinSet.{insert, empty}
 use Rattle.mesh_base.specs.Members.{member_list}
 use Rattle.mesh_base.proofs.Ranks.{member_list-one}
-use Rattle.mesh_radio.specs.Copies.{copies_to}
-use Rattle.mesh_radio.specs.Casts.{Entry, AreCasts, AreLeft, IsTidied, size, copies_of, without_to}
+use Rattle.mesh_radio.specs.Copies.{without, copies_to}
+use Rattle.mesh_radio.specs.Kept.{Flights}
+use Rattle.mesh_radio.specs.Casts.{Entry, AreCasts, AreLeft, AreRising, HasNone, IsTidied, size, copies_of, without_to}
 use Rattle.mesh_radio.specs.declared.casts.Cast.{Cast}
-use Rattle.mesh_radio.proofs.Entries.{rising-push, lefts-push, rising-taken, lefts-taken, cast-copies}
+use Rattle.mesh_radio.proofs.Entries.{rising-push, lefts-push, rising-taken, lefts-taken, cast-copies, find-all}
+use Rattle.mesh_radio.proofs.Finds.{without_none}
 
 pub casts-push : (es now : List Entry) (next : ℕ) (c : Cast) → AreCasts es next → now ≡ es ++ (next, c) ∷ [] → 0 < size c → AreLeft c → next + size c < 2 ^ 64 → AreCasts now (next + size c)
 casts-push es now next c are is some left few = subst (λ xs. AreCasts xs (next + size c)) (sym is) (record {
@@ -43,3 +45,9 @@ casts-tidied es now next t are = record {
   few = are.few;
   lefts = t.lefts are.lefts;
 }
+
+-- where no copy in flight has the id, none is less without it
+pub none-less : (es : List Entry) (next id : ℕ) (v : Flights) → AreRising 1 es next → copies_of es ≡ v.flying → HasNone es id → v ≡ record v { flying = without v.flying id }
+none-less es next id v r same none =
+    let flying : v.flying ≡ without v.flying id = sym same ∙ sym (without_none (copies_of es) id (find-all 1 next id es r ∙ none)) ∙ ap (λ fs. without fs id) same in
+    (λ i. record v { flying = flying i })

@@ -1,6 +1,6 @@
 -- Casts by rising firsts: which copies they have, and what is found.
-use Rattle.std.proofs.Common.{◌≡◌, ℕ, zero, suc, ◌+◌, ◌-◌, ◌<◌, ◌≤◌, ◌⊎◌, inl, inr, true, false, cond, eqb, not, List, [], ◌∷◌, ◌++◌, length, get_or, Option, Some, None, unwrap_or, refl, sym, ap, subst, ◌∙◌, append_assoc, append-nil, length-append, arith}
-use Rattle.std.specs.Prelude.{slice_get, slice_set, slice_index, IfNone}
+use Rattle.std.proofs.Common.{◌≡◌, ◌≢◌, ℕ, zero, suc, ◌+◌, ◌-◌, ◌<◌, ◌≤◌, ◌⊎◌, inl, inr, true, false, cond, eqb, leb, leb-true, not, List, [], ◌∷◌, ◌++◌, length, get_or, Option, Some, None, unwrap_or, refl, sym, ap, subst, ◌∙◌, append_assoc, append-nil, length-append, arith}
+use Rattle.std.specs.Prelude.{slice_get, slice_set, slice_index, option_map, IfNone}
 use Rattle.std.specs.List.{AllByRecursion}
 use Rattle.std.specs.FinSet.{contains, remove}
 use Rattle.std.specs.FinMap.{nat_cmp-IsAntisymmetric}
@@ -207,6 +207,24 @@ entry-there es id (suc k) e s some at = let same : suc k - 1 ≡ k = omega arith
 
 pub first-low : (es : List Entry) (id k : ℕ) (e : Entry) → IsSplit (keys_of es) id k → 0 < k → slice_get es (k - 1) ≡ Some e → e.0 ≤ id
 first-low es id k e s some at = let key = key-at es (k - 1) e at in let low = s.below (k - 1) (omega arith) in omega arith
+
+-- the cast of an id
+pub place-there : (es : List Entry) (id k place : ℕ) (e : Entry) → IsSplit (keys_of es) id k → k ≡ place + 1 → entry_of es id ≡ Some e → slice_get es place ≡ Some e
+place-there es id zero place e s is there = absurd (omega arith)
+place-there es id (suc k) place e s is there = let same : place ≡ k = omega arith in ap (slice_get es) same ∙ sym (split-entry es id (suc k) s) ∙ there
+
+pub no-place : (es : List Entry) (id k : ℕ) (e : Entry) → IsSplit (keys_of es) id k → k ≡ 0 → entry_of es id ≢ Some e
+no-place es id k e s zero_is there = none-some e (sym (split-entry es id k s ∙ ap (last_of es) zero_is) ∙ there)
+
+entry-low : (es : List Entry) (id : ℕ) (e : Entry) → entry_of es id ≡ Some e → e.0 ≤ id
+entry-low [] id e is = absurd (none-some e is)
+entry-low (x ∷ es) id e is = elim (leb x.0 id) as (λ b. leb x.0 id ≡ b → cond b (Some (unwrap_or (entry_of es id) x)) None ≡ Some e → e.0 ≤ id) [
+  | true ↦ λ low is. elim (entry_of es id) as (λ o. entry_of es id ≡ o → Some (unwrap_or o x) ≡ Some e → e.0 ≤ id) [
+    | None ↦ λ _ same. subst (λ (y : Entry). y.0 ≤ id) (same_Some x e same) (leb-true x.0 id low)
+    | Some y ↦ λ there same. subst (λ (z : Entry). z.0 ≤ id) (same_Some y e same) (entry-low es id y there)
+  ] refl is
+  | false ↦ λ _ is. absurd (none-some e is)
+] refl is
 
 pub slot-there : (c : Cast) (id to : ℕ) → contains c.left to ≡ true → slot c id to ≡ Some (record { id = id; from = c.from; to = to; bytes = c.bytes })
 slot-there c id to h = ap (λ b. cond b (Some (record { id = id; from = c.from; to = to; bytes = c.bytes })) None) h
@@ -442,3 +460,33 @@ found-taken low next id place to es e r f at =
     (subst (λ (y : Entry). y.0 ≤ id) same f.low)
     (ap (λ (y : Entry). slice_get (member_list (y.1).to) (id - y.0)) (sym same) ∙ f.member)
     (ap (λ (y : Entry). contains (y.1).left to) (sym same) ∙ f.left)
+
+-- ---- a copy that is known to go to that receiver
+
+goes-to : (c : Cast) (id to : ℕ) (o : Option ℕ) → option_map (λ (f : Flying). f.to) (slot_for c id o) ≡ Some to → (o ≡ Some to) × (contains c.left to ≡ true)
+goes-to c id to None goes = absurd (none-some to goes)
+goes-to c id to (Some m) goes = elim (contains c.left m) as (λ b. contains c.left m ≡ b → option_map (λ (f : Flying). f.to) (cond b (Some (record { id = id; from = c.from; to = m; bytes = c.bytes })) None) ≡ Some to → (Some m ≡ Some to) × (contains c.left to ≡ true)) [
+  | true ↦ λ left is. (is, ap (contains c.left) (sym (same_Some m to is)) ∙ left)
+  | false ↦ λ _ is. absurd (none-some to is)
+] refl goes
+
+pub found-again : (es : List Entry) (id place to : ℕ) → ((e : Entry) → entry_of es id ≡ Some e → slice_get es place ≡ Some e) → option_map (λ (f : Flying). f.to) (copy_of (entry_of es id) id) ≡ Some to → IsFound es id place to
+found-again es id place to at goes = elim (entry_of es id) as (λ o. entry_of es id ≡ o → option_map (λ (f : Flying). f.to) (copy_of o id) ≡ Some to → IsFound es id place to) [
+  | None ↦ λ _ is. absurd (none-some to is)
+  | Some e ↦ λ there is.
+      let here = goes-to e.1 id to (slice_get (member_list (e.1).to) (id - e.0)) is in
+      record { entry = e; at = at e there; is = there; low = entry-low es id e there; member = here.0; left = here.1 }
+] refl goes
+
+rises-to : (low next : ℕ) (xs : List ℕ) → Rises low xs next → low ≤ next
+rises-to low next [] r = r
+rises-to low next (x ∷ xs) r = let up = r.0 in let rest = rises-to (x + 1) next xs r.1 in omega arith
+
+rises-within : (low next k m : ℕ) (xs : List ℕ) → Rises low xs next → slice_get xs k ≡ Some m → m < next
+rises-within low next zero m [] r at = absurd cc
+rises-within low next (suc k) m [] r at = absurd cc
+rises-within low next zero m (x ∷ xs) r at = let same = same_Some x m at in let up = rises-to (x + 1) next xs r.1 in omega arith
+rises-within low next (suc k) m (x ∷ xs) r at = rises-within (x + 1) next k m xs r.1 at
+
+pub found-below : (es : List Entry) (id place to : ℕ) → IsFound es id place to → to < 256
+found-below es id place to f = rises-within 0 256 (id - (f.entry).0) to (member_list ((f.entry).1).to) (members-sorted 256 ((f.entry).1).to) f.member

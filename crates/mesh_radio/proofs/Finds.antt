@@ -8,6 +8,7 @@ use Rattle.mesh_base.specs.Views.{flying_seen}
 use Rattle.mesh_base.specs.declared.events.Flying.{Flying}
 use Rattle.mesh_base.specs.declared.events.FlyingView.{FlyingView}
 use Rattle.mesh_radio.specs.Copies.{find_copy, without, from_id}
+use Rattle.mesh_radio.specs.Kept.{Flights}
 
 -- ---- where no copy has the id
 
@@ -37,6 +38,9 @@ all-without P (f ∷ fs) id all = elim (eqb f.id id) as (λ b. AllByRecursion P 
   | true ↦ all-without P fs id all.1
   | false ↦ (all.0, all-without P fs id all.1)
 ]
+
+pub all-left : (P : Flying → Type 0) (old new : Flights) (id : ℕ) → new ≡ record old { flying = without old.flying id } → AllByRecursion P old.flying → AllByRecursion P new.flying
+all-left P old new id left all = subst (λ (v : Flights). AllByRecursion P v.flying) (sym left) (all-without P old.flying id all)
 
 -- what holds of all copies holds of those from an id on
 pub all-from : (P : Flying → Type 0) (fs : List Flying) (id : ℕ) → AllByRecursion P fs → AllByRecursion P (from_id fs id)

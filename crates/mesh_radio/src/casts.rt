@@ -1,10 +1,10 @@
 //! Casts by the ids of their first copies: what is found among them, and how they change.
-ghost use Rattle.std.specs.Prelude.{◌≡◌, ℕ, ◌<◌, ◌≤◌, ◌+◌, ◌-◌, ◌^◌, ◌++◌, ◌∷◌, [], length, slice_get, Some, IfSome, IfNone};
+ghost use Rattle.std.specs.Prelude.{◌≡◌, ℕ, ◌<◌, ◌≤◌, ◌+◌, ◌-◌, ◌^◌, ◌++◌, ◌∷◌, [], length, slice_get, option_map, Some, IfSome, IfNone};
 ghost use Rattle.std.specs.Map.{keys_of};
 ghost use Rattle.indexmap.specs.IndexMap.{spare, values, with_value_at};
 ghost use Rattle.mesh_base.specs.Members.{member_list, rank};
 ghost use Rattle.mesh_radio.specs.declared.casts.Cast.{Cast};
-ghost use Rattle.mesh_radio.specs.Casts.{Entry, AreCasts, AreLeft, IsFound, IsNext, IsSplit, IsFrom, AreGone, IsLeast, IsLeastOf, NoneUpTo, HasNone, HasNoneFrom, size, without_to};
+ghost use Rattle.mesh_radio.specs.Casts.{Entry, AreCasts, AreLeft, IsFound, IsNext, IsSplit, IsFrom, AreGone, IsLeast, IsLeastOf, NoneUpTo, HasNone, HasNoneFrom, copy_of, entry_of, size, without_to};
 
 use crate::hashes::NumberHasher;
 use crate::places::place_near;
@@ -111,6 +111,46 @@ pub fn find(casts: &Casts, least: &Option<Least>, id: u64) -> Option<Spot>
     // Handed on whole, the answer of the call would go through memory in each case.
     let spot = find_near(casts, id, least.spot.place)?;
     Some(spot)
+}
+
+// The place of the cast of this id. The hint makes no difference but to how long that takes. It is
+// a call of its own, since the least copy, which most deliveries take, needs none of it.
+#[inline(never)]
+fn cast_place(casts: &Casts, id: u64, hint: usize) -> usize
+    requires { (next : ℕ) × AreCasts casts.now.entries next }
+    ensures { (e : Entry) → entry_of casts.now.entries id ≡ Some e →
+        slice_get casts.now.entries result ≡ Some e }
+{
+    let after = place_near(casts.keys().as_slice(), id, hint);
+    if after == 0 { 0 } else { after - 1 }
+}
+
+/// Where the copy of this id stands, which is known to go to this receiver. The hint makes no
+/// difference but to how long that takes.
+#[inline(always)]
+pub fn find_again(
+    casts: &Casts,
+    least: &Option<Least>,
+    id: u64,
+    to: usize,
+    hint: usize,
+) -> Option<Spot>
+    requires casts { (next : ℕ) × AreCasts casts.now.entries next }
+    requires least { IsLeastOf casts.now.entries least.now }
+    requires to { let copy = copy_of (entry_of casts.now.entries id) id in
+        option_map (λ c. c.to) copy ≡ Some to }
+    ensures some { IfSome result (λ s. IsFound casts.now.entries id s.place s.to) }
+    ensures below { IfSome result (λ s. s.to < 256) }
+    ensures none { IfNone result (HasNone casts.now.entries id) }
+{
+    let Some(least) = least else {
+        return None;
+    };
+    if id == least.id {
+        return Some(least.spot);
+    }
+    let place = cast_place(casts, id, hint);
+    Some(Spot { place, to })
 }
 
 // The receiver of the first copy from this id on of the cast before this place, which is the id's

@@ -22,7 +22,9 @@ fn is_done(casts: &Casts, place: usize) -> bool
     }
 }
 
-// The packet of the cast at this place goes.
+// The packet of the cast at this place goes. It is a call of its own, since the memory of its
+// locals would be cleared at each take.
+#[inline(never)]
 fn drop_packet(casts: &mut Casts, place: usize)
     ensures { (e : Entry) → slice_get casts.old.entries place ≡ Some e →
         casts.new ≡ with_value_at casts.old place (without_packet e.1) }

@@ -1,5 +1,5 @@
 //! Copies of packets in flight, by rising id.
-ghost use Rattle.std.specs.Prelude.{◌≡◌, ◌<◌, ◌≤◌, ◌+◌, ◌^◌, ◌∷◌, [], length, slice_get, option_map, OnOk, OnErr, IsOk, IfSome, IfNone, if◌then◌else◌};
+ghost use Rattle.std.specs.Prelude.{◌≡◌, ◌<◌, ◌≤◌, ◌+◌, ◌^◌, ◌∷◌, [], length, slice_get, option_map, Some, OnOk, OnErr, IsOk, IfSome, IfNone, if◌then◌else◌};
 ghost use Rattle.mesh_base.specs.Views.{flying_seen};
 ghost use Rattle.mesh_base.specs.Members.{member_list};
 ghost use Rattle.aodv_wire.specs.Spells.{is_data};
@@ -7,7 +7,8 @@ ghost use Rattle.mesh_radio.specs.Copies.{held_seen, find_copy, IsCopyWithin, wi
 ghost use Rattle.mesh_radio.specs.Kept.{with_flights, with_flight, with_second, with_room};
 
 use crate::casts::{
-    Cast, Casts, Least, double_packet, find, find_next, front_of, launch, least_from, remove_at,
+    Cast, Casts, Least, double_packet, find, find_again, find_next, front_of, launch, least_from,
+    remove_at,
 };
 use crate::clearing::clear;
 use crate::joining::make_way;
@@ -19,13 +20,15 @@ use std::alloc::Global;
 use std::hash::BuildHasherDefault;
 use std::marker::Model;
 
-/// A copy in flight. Its packet, which copies of one cast share, is lent as it is kept, so that it
-/// can be copied whole.
+/// A copy in flight, and the place at which it was found, where it is looked for first when it is
+/// removed. Its packet, which copies of one cast share, is lent as it is kept, so that it can be
+/// copied whole.
 #[derive(Clone, Copy)]
 pub struct Held<'a> {
     pub id: u64,
     pub from: usize,
     pub to: usize,
+    pub place: usize,
     pub bytes: &'a Bytes,
 }
 
@@ -130,6 +133,7 @@ impl Copies {
             id,
             from: cast.from,
             to: spot.to,
+            place: spot.place,
             bytes: cast.bytes.as_bytes(),
         })
     }
@@ -240,11 +244,26 @@ impl Copies {
         let Some(spot) = find(&self.casts, &self.least, id) else {
             return;
         };
+        self.remove_found(id, spot.to, spot.place)
+    }
+
+    /// The same for a copy that was found, and so is known to go to this receiver. The hint, the
+    /// place at which it was found, makes no difference but to how long that takes.
+    #[inline(always)]
+    pub fn remove_found(&mut self, id: u64, to: usize, hint: usize)
+        requires { option_map (λ c. c.to) (find_copy self.old.flying id) ≡ Some to }
+        ensures { let left = without self.old.flying id in
+            self.new ≡ record self.old { flying = left } }
+    {
+        // Read here, it is known to be the least copy's place where that is removed.
+        let front = front_of(&self.least);
+        let Some(spot) = find_again(&self.casts, &self.least, id, to, hint) else {
+            return;
+        };
         let Some((_, cast)) = self.casts.get_index(spot.place) else {
             return;
         };
         let less = if_data(cast.bytes.as_slice(), 1);
-        let front = front_of(&self.least);
         remove_at(&mut self.casts, spot.place, spot.to);
         self.count -= 1;
         self.of_data -= less;

@@ -191,6 +191,16 @@ impl Radio {
         self.copies.remove(id)
     }
 
+    /// The same for a copy that `held` found, with its receiver. The hint makes no difference but
+    /// to how long that takes: it is the place at which `held` found the copy.
+    #[inline(always)]
+    pub fn remove_found(&mut self, id: u64, to: usize, hint: usize)
+        requires { option_map (λ c. c.to) (find_copy self.old.flying id) ≡ Some to }
+        ensures { self.new ≡ without_copy self.old id }
+    {
+        self.copies.remove_found(id, to, hint)
+    }
+
     /// The copy of this id is taken out of the air. None where no copy in flight has it. Copies of
     /// one cast share a packet, so what is answered is a copy of it: memory is asked for where that
     /// has more than 32 bytes.

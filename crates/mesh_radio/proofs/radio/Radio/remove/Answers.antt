@@ -1,14 +1,6 @@
-use Rattle.std.proofs.Common.{◌≡◌, ℕ, sym, subst}
-use Rattle.std.specs.List.{AllByRecursion}
-use Rattle.mesh_base.specs.declared.events.Flying.{Flying}
-use Rattle.mesh_radio.specs.Copies.{without, IsBetween, IsPacketLong}
-use Rattle.mesh_radio.specs.Kept.{Flights}
-use Rattle.mesh_radio.proofs.Finds.{all-without}
+use Rattle.mesh_radio.specs.Copies.{IsBetween, IsPacketLong}
+use Rattle.mesh_radio.proofs.Finds.{all-left}
 use Rattle.mesh_radio.proofs.radio.Radio.remove.Goals as goal
-
--- what holds of all copies holds of all that are left
-all-left : (P : Flying → Type 0) (old new : Flights) (id : ℕ) → new ≡ record old { flying = without old.flying id } → AllByRecursion P old.flying → AllByRecursion P new.flying
-all-left P old new id left all = subst (λ (v : Flights). AllByRecursion P v.flying) (sym left) (all-without P old.flying id all)
 
 pub invariant_of-self : goal.invariant_of-self
 invariant_of-self c =

@@ -1,8 +1,8 @@
-use Rattle.std.proofs.Common.{◌≡◌, ◌<◌, ◌+◌, ℕ, List, length, Ok, ap, arith, refl, subst, sym, ◌∙◌}
+use Rattle.std.proofs.Common.{◌≡◌, ◌<◌, ◌+◌, ℕ, List, Option, length, Ok, ap, arith, refl, subst, sym, ◌∙◌}
 use Rattle.mesh_world.proofs.Frames.{count_of, is_there, node_at, set_got_again, count_again, read_back}
-use Rattle.mesh_world.proofs.Arrivals.{Joined, joined, noted_joined, receiver_in, seen_flying, may_hear, deliver_done, deliver_idle, deliver_short}
+use Rattle.mesh_world.proofs.Arrivals.{Joined, found_seen, joined, noted_joined, receiver_in, seen_flying, may_hear, deliver_done, deliver_idle, deliver_short}
 use Rattle.mesh_world.proofs.Moves.{of_ends, at_end, changed, within}
-use Rattle.std.specs.Prelude.{is_some, slice_get, slice_set, slice_index_or}
+use Rattle.std.specs.Prelude.{is_some, option_map, slice_get, slice_set, slice_index_or}
 use Rattle.std.specs.Vec.{vec_len}
 use Rattle.mesh_base.specs.declared.events.Item.TheVariants as item
 use Rattle.mesh_base.specs.declared.events.Done.TheVariants as done
@@ -11,7 +11,8 @@ use Rattle.mesh_radio.specs.Radios.{without_copy}
 use Rattle.mesh_world.specs.Noted.{with_turn}
 use Rattle.mesh_world.specs.Parts.{IsDoneTo}
 use Rattle.mesh_world.specs.declared.parts.Parts.{Parts}
-use Rattle.mesh_radio.specs.Copies.{held_seen}
+use Rattle.mesh_base.specs.declared.events.Flying.{Flying}
+use Rattle.mesh_radio.specs.Copies.{find_copy, held_seen}
 use Rattle.mesh_world.proofs.Memory.{needs_deliver, found_is_some}
 use Rattle.mesh_world.proofs.Tallies.{told_done, told_short, told_still}
 use Rattle.mesh_world.proofs.parts.Parts.deliver_copy.Goals as goal
@@ -94,6 +95,17 @@ end_with_item-requires-clause-few c =
     let few = c.requires.kept.sound.mesh.few in
     omega arith
 
+pub remove_found-requires : goal.remove_found-requires
+remove_found-requires c =
+    let old = c.args.self.now in
+    let here : c.match-again.self ≡ changed old c.in-Some.held.to c.make_room.new.self old.radio = elim c.match-again.branch [
+      | in-Some-again w ↦ w.self-is
+      | in-None+in_ok-bytes-in-None w ↦ w.self-is
+    ] in
+    let receiver : Parts → Option ℕ = λ p. option_map (λ (f : Flying). f.to) (find_copy (p.radio).flying c.args.id) in
+    ap receiver c.end_with_item.ensures.others ∙ ap receiver here
+    ∙ ap (option_map (λ (f : Flying). f.to)) (found_seen old.radio c.args.id c.held.result c.in-Some.held c.held.ensures c.in-Some.is)
+
 pub returns-clause-done : goal.returns-clause-done
 returns-clause-done c = λ packet.
     let old = c.args.self.now in
@@ -113,10 +125,11 @@ returns-clause-done c = λ packet.
     ] in
     let j = subst (λ (bs : List ℕ). Joined c.index_mut.result.now c.hear.new.self (item.Heard c.in-Some.held.from bs)) bytes (joined c.index_mut.result.now c.index_mut-2.result.now c.hear.new.self _ (ap (λ n. n.core) same ∙ c.make_room.ensures.core) (ap (λ n. n.items) same ∙ c.make_room.ensures.items) (ap (λ n. n.size) same ∙ c.make_room.ensures.size) c.hear.ensures (c.end_with_item.ensures.sound c.hear.new.self at)) in
     told_done _ _ _ _ _ _ _ _ (
-    at_end _ old (changed c.match-again.self to c.hear.new.self c.remove.new.self) c.end_with_item.new.self _ packet c.end_with_item.ensures.others
-    (subst (λ (p : Parts). IsDoneTo (Deliver c.args.id) old (Ok (done.Heard c.in-Some.held.from to)) (record (changed p to c.hear.new.self c.remove.new.self) { steps = p.steps + 1; ready = c.end_with_item.new.self.ready }) packet) (sym here)
-    (of_ends _ old _ _ _ _ _ _ (deliver_done old.mesh old.nodes.items old.radio c.remove.new.self old.ready c.end_with_item.new.self.ready old.steps c.args.id to (held_seen c.in-Some.held)
-    c.index_mut.result.now c.make_room.new.self c.hear.new.self packet c.requires.kept c.requires.few (seen_flying old.mesh old.nodes.items old.radio old.ready old.steps c.args.id c.held.result c.in-Some.held c.requires.kept c.held.ensures c.in-Some.is) (c.remove.ensures ∙ ap (λ (p : Parts). without_copy p.radio c.args.id) here) at_first j
+    at_end _ old (changed c.match-again.self to c.hear.new.self c.remove_found.new.self) (record c.end_with_item.new.self { radio = c.remove_found.new.self }) _ packet
+    (ap (λ (p : Parts). record p { radio = c.remove_found.new.self }) c.end_with_item.ensures.others)
+    (subst (λ (p : Parts). IsDoneTo (Deliver c.args.id) old (Ok (done.Heard c.in-Some.held.from to)) (record (changed p to c.hear.new.self c.remove_found.new.self) { steps = p.steps + 1; ready = c.end_with_item.new.self.ready }) packet) (sym here)
+    (of_ends _ old _ _ _ _ _ _ (deliver_done old.mesh old.nodes.items old.radio c.remove_found.new.self old.ready c.end_with_item.new.self.ready old.steps c.args.id to (held_seen c.in-Some.held)
+    c.index_mut.result.now c.make_room.new.self c.hear.new.self packet c.requires.kept c.requires.few (seen_flying old.mesh old.nodes.items old.radio old.ready old.steps c.args.id c.held.result c.in-Some.held c.requires.kept c.held.ensures c.in-Some.is) (c.remove_found.ensures ∙ ap (λ (p : Parts). without_copy p.radio c.args.id) c.end_with_item.ensures.others ∙ ap (λ (p : Parts). without_copy p.radio c.args.id) here) at_first j
     (noted_joined old.mesh old.nodes.items old.radio old.ready c.end_with_item.new.self.ready old.steps to c.index_mut.result.now c.hear.new.self _ c.requires.kept at_first j (c.end_with_item.ensures.ready ∙ ap (λ (p : Parts). with_turn p.ready to) here)))))
     ) c.tell-2.ensures.tally c.tell-2.ensures.told
 

@@ -1,0 +1,14 @@
+use Rattle.mesh_radio.specs.Copies.{IsBetween, IsPacketLong}
+use Rattle.mesh_radio.proofs.Finds.{all-left}
+use Rattle.mesh_radio.proofs.radio.Radio.remove_found.Goals as goal
+
+pub invariant_of-self : goal.invariant_of-self
+invariant_of-self c =
+    let remove = c.remove_found in
+    record {
+      few = c.self.invariant.few;
+      same = c.self.invariant.same;
+      linked = c.self.invariant.linked;
+      between = all-left (IsBetween c.self.inside.links.size) c.self.inside.copies remove.new.self c.args.id remove.ensures c.self.invariant.between;
+      long = all-left IsPacketLong c.self.inside.copies remove.new.self c.args.id remove.ensures c.self.invariant.long;
+    }
