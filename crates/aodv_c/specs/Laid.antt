@@ -1,9 +1,9 @@
 -- What a call leaves in memory of the caller's own.
 use Rattle.std.specs.Prelude.{◌≡◌, ℕ, Bool, true, false, Option, Some, None, Result, Ok, Err, is_some, unwrap_or, List, take}
-use Rattle.aodv_entry.specs.declared.entry.Flag.{Flag}
-use Rattle.aodv_entry.specs.declared.entry.Flag.TheVariants as flags
-use Rattle.aodv_entry.specs.declared.entry.Known.{Known}
-use Rattle.aodv_entry.specs.declared.entry.Known.TheVariants as knowns
+use Rattle.aodv_model.specs.declared.entry.Flag.{Flag}
+use Rattle.aodv_model.specs.declared.entry.Flag.TheVariants as flags
+use Rattle.aodv_model.specs.declared.entry.Known.{Known}
+use Rattle.aodv_model.specs.declared.entry.Known.TheVariants as knowns
 use Rattle.aodv_router.specs.declared.outcome.Outcome as told
 use Rattle.aodv_router.specs.declared.outcome.Row as rows
 use Rattle.aodv_router.specs.declared.answers.Stranger.{Stranger}

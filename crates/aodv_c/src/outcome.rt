@@ -8,7 +8,7 @@ use crate::codes::{
     DONE, NO_ENTRY, STRANGER, ask_code, cast_code, dest_of, from_of, send_code, took_code,
     turn_code,
 };
-use aodv_entry::{Flag, Known};
+use aodv_model::{Flag, Known};
 use aodv_router::{AskError, Body, SendError, Stranger, TurnError};
 use mesh_base::{LONGEST_DATUM, LONGEST_PACKET, MOST_NODES, Packet};
 

@@ -12,8 +12,8 @@ use Rattle.mesh_base.specs.declared.events.Cast as cast
 use Rattle.mesh_base.specs.declared.events.Cast.TheVariants as casts
 use Rattle.mesh_base.specs.Members.{NodeIds}
 use Rattle.mesh_base.specs.Meshes.{Nodes, addr_at}
-use Rattle.aodv_entry.specs.declared.entry.Entry.{Entry}
-use Rattle.aodv_entry.specs.Quality.{is_val}
+use Rattle.aodv_model.specs.declared.entry.Entry.{Entry}
+use Rattle.aodv_model.specs.Quality.{is_val}
 use Rattle.aodv_model.specs.Tables.{Table, Dests, in_vD, nhop, update, accepted_unreachable}
 use Rattle.aodv_model.specs.Cores.{Core, Body, Store, Pkt, Rerr, bodies_in, drop}
 use Rattle.aodv_model.specs.Handlers.{Nothing, Many, All, is_error, unicast, data_error, on_pkt, is_empty, send, first_body, retract, on_rerr, after_hearing, neighbour_entry}

@@ -7,11 +7,11 @@ use Rattle.std.specs.FinMap as maps
 use Rattle.std.specs.FinMap.{nat_cmp-IsAntisymmetric}
 use Rattle.std.specs.FinSet as sets
 use Rattle.mesh_base.specs.Members.{NodeIds}
-use Rattle.aodv_entry.specs.declared.entry.Entry.{Entry}
-use Rattle.aodv_entry.specs.declared.entry.Known.{Known}
-use Rattle.aodv_entry.specs.declared.entry.Known.TheVariants.{Kno, Unk}
-use Rattle.aodv_entry.specs.declared.entry.Flag.{Flag}
-use Rattle.aodv_entry.specs.declared.entry.Flag.TheVariants.{Val, Inv}
+use Rattle.aodv_model.specs.declared.entry.Entry.{Entry}
+use Rattle.aodv_model.specs.declared.entry.Known.{Known}
+use Rattle.aodv_model.specs.declared.entry.Known.TheVariants.{Kno, Unk}
+use Rattle.aodv_model.specs.declared.entry.Flag.{Flag}
+use Rattle.aodv_model.specs.declared.entry.Flag.TheVariants.{Val, Inv}
 use Rattle.aodv_model.specs.Tables.{Table, entry_after, merge, update}
 use Rattle.aodv_model.specs.Handlers.{neighbour_entry}
 use Rattle.aodv_model.proofs.Lookups.{get-update}

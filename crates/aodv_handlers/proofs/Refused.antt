@@ -11,7 +11,7 @@ use Rattle.std.proofs.lemmas.Option.{none-some, same_Some}
 use Rattle.mesh_base.specs.declared.addr.Addr.{Addr}
 use Rattle.mesh_base.specs.declared.events.Variant.{Variant}
 use Rattle.mesh_base.specs.Meshes.{Nodes}
-use Rattle.aodv_entry.specs.declared.entry.Entry.{Entry}
+use Rattle.aodv_model.specs.declared.entry.Entry.{Entry}
 use Rattle.aodv_model.specs.Tables.{Table, Dests, goes_by, sqn, accepted_unreachable, invalidate, invalidated}
 use Rattle.aodv_model.specs.Cores.{Core, Store, Waiting, Rerr, set}
 use Rattle.aodv_model.specs.Handlers.{Nothing, Many, All, casting, plain, is_empty, is_error, all_precs, precs_of, with_precs, error_cast, retract}

@@ -8,7 +8,7 @@ use Rattle.mesh_base.specs.declared.events.Variant.{Variant}
 use Rattle.mesh_base.specs.declared.events.Variant.TheVariants as variant
 use Rattle.mesh_base.specs.Members.{NodeIds}
 use Rattle.mesh_base.specs.Meshes.{Nodes}
-use Rattle.aodv_entry.specs.declared.entry.Entry.{Entry}
+use Rattle.aodv_model.specs.declared.entry.Entry.{Entry}
 use Rattle.aodv_model.specs.Tables.{Table, update, add_pre, nhop, sqn, dhops, next_in, hops_in, number_in}
 use Rattle.aodv_model.specs.Cores.{Core, RouteReply, Rrep, Item, Heard}
 use Rattle.aodv_model.specs.Handlers.{Reaction, quiet, only, one, unicast, neighbour_entry, route_entry, after_hearing, after_reply, join_reply_precursors, forward_reply, forward_own_entry, reply_on, is_stale, on_rrep, turn}

@@ -11,7 +11,7 @@ use Rattle.mesh_base.specs.declared.events.Cast.TheVariants.{One as to_one}
 use Rattle.mesh_base.specs.declared.events.Counter.TheVariants.{Number}
 use Rattle.mesh_base.specs.Members.{NodeIds}
 use Rattle.mesh_base.specs.Meshes.{Nodes, addr_at}
-use Rattle.aodv_entry.specs.Quality.{is_kno}
+use Rattle.aodv_model.specs.Quality.{is_kno}
 use Rattle.aodv_model.specs.Tables.{Table, Dests, unreachable_by}
 use Rattle.aodv_model.specs.Cores.{Core, Body, Message, Rreq, Rrep, Pkt, RouteReply, New}
 use Rattle.aodv_model.specs.Handlers.{plain, unicast, link_broken, retract, on_new, delivering, quiet}

@@ -3,7 +3,7 @@
 ghost use Rattle.std.specs.Prelude.{◌≡◌, ◌≢◌, ◌<◌, ℕ, ◌==◌, ◌&&◌, ◌||◌, not, if◌then◌else◌, true, false, length, slice_index, Option, Some, None};
 ghost use Rattle.mesh_base.specs.Members.{NodeIds};
 ghost use Rattle.aodv_model.specs.Cores.{New};
-ghost use Rattle.aodv_entry.specs.Quality.{is_val};
+ghost use Rattle.aodv_model.specs.Quality.{is_val};
 ghost use Rattle.aodv_model.specs.Handlers.{is_error, on_new, on_pkt, data_error as the_data_error, is_empty as no_node};
 ghost use Rattle.aodv_model.specs.Fullness.{turn_full};
 ghost use Rattle.aodv_model.specs.Soundness.{IsDatum, IsMessageInMesh};
@@ -19,7 +19,7 @@ use crate::errors::{is_broadcast, is_empty};
 use crate::messages::Datum;
 use crate::routes::{has_route, next_hop};
 use crate::unicast::send_datum;
-use aodv_entry::{Entry, Flag};
+use aodv_model::{Entry, Flag};
 use aodv_table::Table;
 use aodv_wire::{DataView, write_rerr};
 use mesh_base::{Bytes, Cast, Counter, Effect, Mesh, NodeSet, Packet, Variant};

@@ -5,14 +5,14 @@ ghost use Rattle.aodv_model.specs.Tables.{sqn, sqnf};
 ghost use Rattle.aodv_model.specs.Handlers.{fresh_id, may_send as can_send, may_ask as can_ask};
 ghost use Rattle.aodv_model.specs.Fullness.{is_id_full, ask_full};
 ghost use Rattle.aodv_asked.specs.Requests.{is_near};
-ghost use Rattle.aodv_entry.specs.Quality.{is_kno, inc as raised};
+ghost use Rattle.aodv_model.specs.Quality.{is_kno, inc as raised};
 ghost use Rattle.aodv_handlers.specs.Shown.{core_of, IsInOrder};
 ghost use Rattle.aodv_handlers.specs.Made.{Sends, Asks};
 
 use crate::cores::Core;
 use crate::routes::{has_route, next_hop};
 use crate::unicast::{casting, fail};
-use aodv_entry::{Known, inc};
+use aodv_model::{Known, inc};
 use aodv_table::Table;
 use aodv_wire::{Rreq, write_data, write_rreq};
 use mesh_base::{Cast, Counter, Effect, Mesh, NodeSet, Packet, Variant};

@@ -12,7 +12,7 @@ ghost use Rattle.aodv_handlers.specs.Made.{Breaks};
 ghost use Rattle.aodv_handlers.specs.Parts.{tells, named_dests};
 
 use crate::cores::Core;
-use aodv_entry::Dests;
+use aodv_model::Dests;
 use aodv_table::Table;
 use aodv_wire::write_rerr;
 use arrayvec::ArrayVec;

@@ -17,7 +17,7 @@ use crate::cores::Core;
 use crate::errors::retract;
 use crate::routes::note_neighbour;
 use crate::unicast::casting;
-use aodv_entry::{Dests, Flag};
+use aodv_model::{Dests, Flag};
 use aodv_table::Table;
 use aodv_wire::RerrView;
 use mesh_base::{Cast, Effect, MOST_NODES, Mesh, Packet};

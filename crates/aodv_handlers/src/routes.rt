@@ -4,7 +4,7 @@ ghost use Rattle.std.specs.FinSet as sets;
 ghost use Rattle.aodv_model.specs.Tables.{nhop, sqn, in_vD, update, add_pre};
 ghost use Rattle.aodv_model.specs.Handlers.{one, neighbour_entry as the_neighbour_entry, route_entry as the_route_entry};
 
-use aodv_entry::{Entry, Flag, Known};
+use aodv_model::{Entry, Flag, Known};
 use aodv_table::Table;
 use mesh_base::NodeSet;
 

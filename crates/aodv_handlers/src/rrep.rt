@@ -17,7 +17,7 @@ use crate::cores::Core;
 use crate::messages::Reply;
 use crate::routes::{has_route, join_precursor, next_hop, note_neighbour, route_entry};
 use crate::unicast::{casting, send_reply};
-use aodv_entry::Flag;
+use aodv_model::Flag;
 use aodv_table::Table;
 use aodv_wire::Rrep;
 use mesh_base::{Cast, Counter, Effect, Mesh, NodeSet, Packet, Variant};

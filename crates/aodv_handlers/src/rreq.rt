@@ -14,7 +14,7 @@ use crate::cores::Core;
 use crate::messages::{Reply, Request};
 use crate::routes::{join_precursor, next_hop, note_neighbour, number, route_entry};
 use crate::unicast::{casting, send_reply};
-use aodv_entry::{Entry, Flag, Known};
+use aodv_model::{Entry, Flag, Known};
 use aodv_table::Table;
 use aodv_wire::{Rreq, write_rreq};
 use mesh_base::{Cast, Counter, Effect, Mesh, NodeSet, Packet, Variant};

@@ -15,7 +15,7 @@ use Rattle.std.proofs.lemmas.List.{length-map}
 use Rattle.std.proofs.lemmas.Option.{none-some}
 use Rattle.mesh_base.specs.declared.addr.Addr.{Addr}
 use Rattle.mesh_base.specs.Meshes.{Nodes, addr_at, index_of, index_in, IsMesh}
-use Rattle.aodv_entry.specs.Quality.{is_kno}
+use Rattle.aodv_model.specs.Quality.{is_kno}
 use Rattle.aodv_model.specs.Tables.{Dests}
 use Rattle.aodv_model.specs.Soundness.{AreDestsBelow}
 use Rattle.aodv_wire.specs.declared.message.Message as wire

@@ -4,8 +4,8 @@ use Rattle.std.specs.Prelude.{ℕ, Bool, true, false, if◌then◌else◌, Optio
 use Rattle.std.specs.FinMap as maps
 use Rattle.mesh_base.specs.declared.addr.Addr.{Addr}
 use Rattle.mesh_base.specs.Meshes.{Nodes, index_of, index_in}
-use Rattle.aodv_entry.specs.declared.entry.Known.{Known}
-use Rattle.aodv_entry.specs.declared.entry.Known.TheVariants.{Kno, Unk}
+use Rattle.aodv_model.specs.declared.entry.Known.{Known}
+use Rattle.aodv_model.specs.declared.entry.Known.TheVariants.{Kno, Unk}
 use Rattle.aodv_model.specs.Tables.{Dests}
 use Rattle.aodv_model.specs.Cores.{RouteRequest, RouteReply, Message, Pkt, Rreq, Rrep, Rerr}
 use Rattle.aodv_wire.specs.declared.route_request.Rreq as rreq

@@ -4,7 +4,7 @@ use Rattle.std.specs.Prelude.{◌≡◌, ℕ, None, List, [], map, ⊤}
 use Rattle.std.specs.FinMap as maps
 use Rattle.mesh_base.specs.declared.addr.Addr.{Addr}
 use Rattle.mesh_base.specs.Meshes.{Nodes, addr_at}
-use Rattle.aodv_entry.specs.Quality.{is_kno}
+use Rattle.aodv_model.specs.Quality.{is_kno}
 use Rattle.aodv_model.specs.Tables.{Dests}
 use Rattle.aodv_model.specs.Cores.{RouteRequest, RouteReply, Message, Pkt, Rreq, Rrep, Rerr}
 use Rattle.aodv_model.specs.Handlers.{Cast, Nothing, One, Many, All}

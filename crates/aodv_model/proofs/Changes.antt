@@ -5,8 +5,8 @@ use Rattle.std.proofs.lemmas.Bool.{eqb-true}
 use Rattle.std.proofs.lemmas.Bool.Decides.{nat_tests}
 use Rattle.std.proofs.lemmas.Option.{same_Some, none-some}
 use Rattle.std.specs.FinMap as maps
-use Rattle.aodv_entry.specs.Quality.{inc, is_val}
-use Rattle.aodv_entry.specs.declared.entry.Entry.{Entry}
+use Rattle.aodv_model.specs.Quality.{inc, is_val}
+use Rattle.aodv_model.specs.declared.entry.Entry.{Entry}
 use Rattle.aodv_model.proofs.Lookups.{get-accepted, get-unreachable_by, get-update}
 use Rattle.aodv_model.specs.Tables.{Dests, Table, accepted_unreachable, entry_after, goes_by, merge, unreachable_by, update}
 

@@ -1,8 +1,8 @@
 -- What one entry over another keeps.
 use Rattle.std.proofs.Common.{◌≡◌, ℕ, ◌<◌, ◌≤◌, ◌⊎◌, Bool, true, false, cond, ◌==◌, Some, None, Option, refl, arith}
 use Rattle.std.proofs.lemmas.Bool.Decides.{nat_tests}
-use Rattle.aodv_entry.specs.declared.entry.Entry.{Entry}
-use Rattle.aodv_entry.specs.declared.entry.Known.TheVariants.{Unk}
+use Rattle.aodv_model.specs.declared.entry.Entry.{Entry}
+use Rattle.aodv_model.specs.declared.entry.Known.TheVariants.{Unk}
 use Rattle.aodv_model.specs.Soundness.{HasSoundNumber}
 use Rattle.aodv_model.specs.Tables.{invalidated, add_pre_at, merge}
 use Rattle.mesh_base.specs.Members.{NodeIds}

@@ -12,8 +12,8 @@ use Rattle.std.proofs.lemmas.Option.{none-some, same_Some}
 use Rattle.std.specs.FinMap as maps
 use Rattle.std.specs.FinMap.{FinMap}
 use Rattle.std.specs.FinMap.Entries.{find, is_sorted, below_all}
-use Rattle.aodv_entry.specs.declared.entry.Entry.{Entry}
-use Rattle.aodv_entry.specs.Quality.{inc}
+use Rattle.aodv_model.specs.declared.entry.Entry.{Entry}
+use Rattle.aodv_model.specs.Quality.{inc}
 use Rattle.aodv_model.specs.Tables.{Table, goes_by, number_in, unreachable_by}
 use Rattle.aodv_model.specs.Handlers.{join_answer_precursors, join_reply_precursors}
 use Rattle.aodv_model.specs.Fullness.{greatest, has_greatest_by, is_number_full}

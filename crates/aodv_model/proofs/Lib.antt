@@ -1,3 +1,4 @@
+pub mod RisingLaws
 pub mod PairLaws
 pub mod Lookups
 pub mod Entries

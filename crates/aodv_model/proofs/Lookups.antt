@@ -6,8 +6,8 @@ use Rattle.std.specs.Cmp.{nat_cmp_total, unsigned_tied}
 use Rattle.std.specs.FinMap.{FinMap, find, nat_cmp-IsAntisymmetric}
 use borrow.Author.Tests.{eqb-true}
 use Rattle.std.specs.FinMap as maps
-use Rattle.aodv_entry.specs.Quality.{inc}
-use Rattle.aodv_entry.specs.declared.entry.Entry.{Entry}
+use Rattle.aodv_model.specs.Quality.{inc}
+use Rattle.aodv_model.specs.declared.entry.Entry.{Entry}
 use Rattle.aodv_model.specs.Tables.{Dests, Table, accepted_unreachable, add_pre, entry_after, goes_by, invalidate, invalidated, add_pre_at, map_values, sqn, unreachable_by, update}
 use Rattle.mesh_base.specs.Members.{NodeIds}
 

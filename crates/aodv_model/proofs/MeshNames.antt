@@ -6,7 +6,7 @@ use Rattle.std.specs.FinSet as sets
 use Rattle.mesh_base.specs.Members.{NodeIds}
 use Rattle.mesh_base.specs.declared.events.Variant.{Variant}
 use Rattle.mesh_base.specs.declared.events.Variant.TheVariants.{Base, Number, Reply, Error}
-use Rattle.aodv_entry.specs.declared.entry.Entry.{Entry}
+use Rattle.aodv_model.specs.declared.entry.Entry.{Entry}
 use Rattle.aodv_model.specs.Tables.{Table, Dests, unreachable_by, accepted_unreachable, sqn, in_vD, in_iD, in_kD, nhop, dhops, precs, pre_in}
 use Rattle.aodv_model.specs.Cores.{Body, RouteRequest, RouteReply, Message, Pkt, Rreq, Rrep, Rerr, Item, New, Heard, Core, add, drop, has_seen, bodies_in}
 use Rattle.aodv_model.specs.Handlers.{Nothing, One, Many, All, Reaction, casting, delivering, plain, only, is_empty, is_error, all_precs, precs_of, with_precs, error_cast, retract, link_broken, broken_by, unicast, neighbour_entry, route_entry, after_hearing, on_new, losing, losing_if_broken, data_error, on_pkt, key_of, after_request, reply_for_self, can_answer, join_answer_precursors, reply_from_table, forward_request, on_new_rreq, on_rreq, is_stale, join_reply_precursors, forward_reply, forward_own_entry, reply_on, after_reply, on_rrep, on_rerr, on_message, turn, may_send, send, drop_if_sent, first_body, ask}

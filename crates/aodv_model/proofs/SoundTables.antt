@@ -2,8 +2,8 @@
 use Rattle.std.proofs.Common.{◌≡◌, ◌≢◌, ℕ, ◌<◌, ◌≤◌, true, Some, None, Option, refl, sym, ◌∙◌, arith}
 use Rattle.std.specs.FinMap as maps
 use Rattle.mesh_base.specs.Members.{NodeIds}
-use Rattle.aodv_entry.specs.declared.entry.Entry.{Entry}
-use Rattle.aodv_entry.specs.declared.entry.Known.TheVariants.{Kno, Unk}
+use Rattle.aodv_model.specs.declared.entry.Entry.{Entry}
+use Rattle.aodv_model.specs.declared.entry.Known.TheVariants.{Kno, Unk}
 use Rattle.aodv_model.specs.Tables.{Table, Dests, in_kD, nhop, next_in, update, invalidate, invalidated, add_pre, add_pre_at}
 use Rattle.aodv_model.specs.Handlers.{neighbour_entry, route_entry, one, join_answer_precursors, join_reply_precursors}
 use Rattle.aodv_model.specs.Soundness.{HasSoundNumber, AllSoundNumbers, AllPlaced, IsSoundTable, AreBelow}

@@ -9,9 +9,9 @@ use Rattle.std.specs.Ordering.{nat_cmp}
 use Rattle.std.specs.FinMap as maps
 use Rattle.std.specs.FinSet as sets
 use Rattle.mesh_base.specs.Members.{NodeIds}
-use Rattle.aodv_entry.specs.declared.entry.Entry.{Entry}
-use Rattle.aodv_entry.specs.declared.entry.Flag.TheVariants.{Val}
-use Rattle.aodv_entry.specs.declared.entry.Known.TheVariants.{Kno}
+use Rattle.aodv_model.specs.declared.entry.Entry.{Entry}
+use Rattle.aodv_model.specs.declared.entry.Flag.TheVariants.{Val}
+use Rattle.aodv_model.specs.declared.entry.Known.TheVariants.{Kno}
 use Rattle.aodv_model.specs.Tables.{Table, entry_after, is_newer, is_shorter, merge, update}
 use Rattle.aodv_model.specs.Handlers.{route_entry, is_stale_beside, is_stale}
 use Rattle.aodv_model.proofs.Lookups.{get-update}

@@ -7,10 +7,10 @@ use Rattle.std.specs.FinSet as sets
 use Rattle.mesh_base.specs.Members.{NodeIds}
 use Rattle.mesh_base.specs.declared.events.Variant.{Variant}
 use Rattle.mesh_base.specs.declared.events.Variant.TheVariants as variant
-use Rattle.aodv_entry.specs.declared.entry.Entry.{Entry}
-use Rattle.aodv_entry.specs.declared.entry.Known.TheVariants.{Kno, Unk}
-use Rattle.aodv_entry.specs.declared.entry.Flag.TheVariants.{Val}
-use Rattle.aodv_entry.specs.Quality.{is_kno, inc}
+use Rattle.aodv_model.specs.declared.entry.Entry.{Entry}
+use Rattle.aodv_model.specs.declared.entry.Known.TheVariants.{Kno, Unk}
+use Rattle.aodv_model.specs.declared.entry.Flag.TheVariants.{Val}
+use Rattle.aodv_model.specs.Quality.{is_kno, inc}
 use Rattle.aodv_model.specs.Tables.{Table, Dests, sqn, sqnf, in_vD, in_iD, nhop, dhops, precs, is_newer, is_shorter, update, invalidate, add_pre, unreachable_by, accepted_unreachable}
 use Rattle.aodv_model.specs.Cores.{Body, RouteRequest, RouteReply, Message, Pkt, Rreq, Rrep, Rerr, Item, New, Heard, bodies_in, needs_in, in_qD, add, drop, unset, set, Core, has_seen, next_request_id}
 

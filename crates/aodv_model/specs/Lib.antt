@@ -1,4 +1,8 @@
 -- One AODV node. Read in this order.
+-- Quality: the next sequence number, and which of two entries is the better.
+pub mod Quality
+-- Destinations: destinations with a sequence number each.
+pub mod Destinations
 -- Pairs: sets of pairs of numbers.
 pub mod Pairs
 -- Tables: what a routing table says of a destination, and how update, invalidation and precursors

@@ -9,11 +9,11 @@ use Rattle.std.specs.FinMap as maps
 use Rattle.std.specs.FinMap.{FinMap}
 use Rattle.std.specs.FinSet as sets
 use Rattle.mesh_base.specs.Members.{NodeIds}
-use Rattle.aodv_entry.specs.declared.entry.Entry.{Entry}
-use Rattle.aodv_entry.specs.declared.entry.Known.{Known}
-use Rattle.aodv_entry.specs.declared.entry.Known.TheVariants.{Unk}
-use Rattle.aodv_entry.specs.declared.entry.Flag.TheVariants.{Inv}
-use Rattle.aodv_entry.specs.Quality.{is_kno, is_val, inc}
+use Rattle.aodv_model.specs.declared.entry.Entry.{Entry}
+use Rattle.aodv_model.specs.declared.entry.Known.{Known}
+use Rattle.aodv_model.specs.declared.entry.Known.TheVariants.{Unk}
+use Rattle.aodv_model.specs.declared.entry.Flag.TheVariants.{Inv}
+use Rattle.aodv_model.specs.Quality.{is_kno, is_val, inc}
 
 -- at most one entry for each destination
 abbrev pub Table : Type 0

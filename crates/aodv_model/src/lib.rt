@@ -1,6 +1,15 @@
-//! One AODV node as definitions: its table, its messages, its state, and what it does in one step.
-//! They follow RFC 3561 and AWN (arXiv 1312.7645). The router's code and its packets stand in other
-//! crates, whose contracts say that they do what is defined here.
+//! One AODV node. The definitions: its table, its messages, its state, and what it does in one
+//! step. They follow RFC 3561 and AWN (arXiv 1312.7645). The router's code and its packets stand in
+//! other crates, whose contracts say that they do what is defined here. The code: entries of
+//! routing tables, their sequence numbers and quality, and lists of destinations with a number
+//! each.
 #![tactic(auto)]
 
+mod dests;
+mod entry;
 pub mod laws;
+mod number;
+
+pub use dests::Dests;
+pub use entry::{Entry, Flag, Known};
+pub use number::{better, inc, nsqn};

@@ -29,36 +29,63 @@ with_core mesh range old c from bytes (Ok p) out none h = record {
   size = refl;
 }
 with_core mesh range old c from bytes (Err errors.Idle) out none h = absurd h
-with_core mesh range old c from bytes (Err (errors.Unreadable f why)) out none h =
-    (record old { items = [] }, (bytes, h.1, record {
+with_core mesh range old c from bytes (Err (errors.Unreadable f why)) out none h = (
+  record old { items = [] },
+  (
+    bytes,
+    h.1,
+    record {
       was = ap (λ (x : ℕ). item.Heard x bytes ∷ []) (sym h.0);
       core = refl;
       room = omega arith;
       size = refl;
-    }), ap (λ (k : Core). record old { core = k }) h.2)
-with_core mesh range old c from bytes (Err (errors.Stranger f who)) out none h =
-    (record old { items = [] }, (bytes, h.1, h.2, record {
+    },
+  ),
+  ap (λ (k : Core). record old { core = k }) h.2,
+)
+with_core mesh range old c from bytes (Err (errors.Stranger f who)) out none h = (
+  record old { items = [] },
+  (
+    bytes,
+    h.1,
+    h.2,
+    record {
       was = ap (λ (x : ℕ). item.Heard x bytes ∷ []) (sym h.0);
       core = refl;
       room = omega arith;
       size = refl;
-    }), ap (λ (k : Core). record old { core = k }) h.3)
-with_core mesh range old c from bytes (Err (errors.Full field)) out none h =
-    (hearing old from bytes, (record {
+    },
+  ),
+  ap (λ (k : Core). record old { core = k }) h.3,
+)
+with_core mesh range old c from bytes (Err (errors.Full field)) out none h = (
+  hearing old from bytes,
+  (
+    record {
       front = item.Heard from bytes;
       rest = [];
       was = refl;
       readable = h.0;
       full = (h.1).overfull;
-    }, refl), ap (λ (k : Core). record old { core = k }) (h.1).same)
-with_core mesh range old c from bytes (Err errors.NoMemory) out none h =
-    (hearing old from bytes, (record {
+    },
+    refl,
+  ),
+  ap (λ (k : Core). record old { core = k }) (h.1).same,
+)
+with_core mesh range old c from bytes (Err errors.NoMemory) out none h = (
+  hearing old from bytes,
+  (
+    record {
       front = item.Heard from bytes;
       rest = [];
       was = refl;
       readable = h.0;
       needs = h.1;
-    }, refl), ap (λ (k : Core). record old { core = k }) h.2)
+    },
+    refl,
+  ),
+  ap (λ (k : Core). record old { core = k }) h.2,
+)
 
 pub turned_on : (mesh : Nodes) (range : NodeIds) (old new : NodeSeen) (from : ℕ) (bytes : List ℕ) (r : Result (Kind × Effect) TurnError) (out : List ℕ)
     → old.items ≡ [] → new ≡ record old { core = new.core } → IsHeard mesh old.core range from bytes r new.core out → IsTurnOn mesh range old from bytes r new out

@@ -5,7 +5,7 @@ use Rattle.std.specs.List.{AllByRecursion}
 use Rattle.std.proofs.lemmas.Option.{none-some, same_Some}
 use Rattle.std.proofs.lemmas.Bool.{cases_lt}
 use Rattle.std.specs.FinMap as maps
-use Rattle.aodv_entry.specs.declared.entry.Entry.{Entry}
+use Rattle.aodv_model.specs.declared.entry.Entry.{Entry}
 use Rattle.aodv_model.specs.Tables.{Table}
 use Rattle.aodv_model.specs.Soundness.{HasSoundNumber, IsPlaced, IsSoundTable}
 use Rattle.aodv_model.specs.Cores.{Store}

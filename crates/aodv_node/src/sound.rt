@@ -5,8 +5,8 @@ ghost use Rattle.aodv_inbox.specs.Queues.{IsItem};
 ghost use Rattle.aodv_model.specs.Soundness.{AreBelow, HasSoundNumber, IsPlaced, IsSoundTable};
 ghost use Rattle.aodv_node.specs.Seen.{IsItemAt};
 
-use aodv_entry::{Entry, Known};
 use aodv_inbox::Inbox;
+use aodv_model::{Entry, Known};
 use aodv_table::{RowTable, Table};
 use mesh_base::{Item, NodeSet};
 

@@ -1,7 +1,7 @@
 -- An entry of the routing table, in addresses.
 use Rattle.std.specs.Prelude.{◌≡◌, ℕ, Option, Some, None, Result, Ok, Err, ⊤}
 use Rattle.mesh_base.specs.Meshes.{Nodes, addr_at}
-use Rattle.aodv_entry.specs.declared.entry.Entry as entries
+use Rattle.aodv_model.specs.declared.entry.Entry as entries
 use Rattle.aodv_router.specs.declared.outcome.Row.{Row}
 use Rattle.aodv_router.specs.declared.answers.Stranger.{Stranger}
 use Rattle.aodv_router.specs.Stations.{addrs_of}

@@ -1,5 +1,5 @@
 //! What a router has done, and an entry of its table, in addresses.
-use aodv_entry::{Flag, Known};
+use aodv_model::{Flag, Known};
 use arrayvec::ArrayVec;
 use mesh_base::{Kind, LONGEST_DATUM, MOST_NODES, Packet};
 

@@ -10,7 +10,7 @@ ghost use Rattle.aodv_router.specs.Rows.{TellsEntry};
 use crate::answers::{AskError, SendError, TurnError};
 use crate::outcome::{Addrs, Body, Casting, Outcome, Row, Taken};
 use crate::places::{addr, addrs};
-use aodv_entry::Entry;
+use aodv_model::Entry;
 use aodv_node::TurnDone;
 use aodv_wire::{Message, read};
 use arrayvec::ArrayVec;

@@ -10,9 +10,9 @@ use Rattle.std.specs.FinMap as maps
 use Rattle.std.specs.FinMap.{find, is_sorted}
 use Rattle.std.specs.FinSet as sets
 use Rattle.mesh_base.specs.Members.{NodeIds}
-use Rattle.aodv_entry.specs.declared.entry.Entry.{Entry}
-use Rattle.aodv_entry.specs.declared.entry.Flag.TheVariants.{Inv}
-use Rattle.aodv_entry.proofs.RisingLaws.{no_later}
+use Rattle.aodv_model.specs.declared.entry.Entry.{Entry}
+use Rattle.aodv_model.specs.declared.entry.Flag.TheVariants.{Inv}
+use Rattle.aodv_model.proofs.RisingLaws.{no_later}
 use Rattle.aodv_model.specs.Tables.{Table, Dests, entry_after, update, invalidate, invalidated, add_pre, add_pre_at}
 use Rattle.aodv_model.proofs.Lookups.{get-invalidate, get-add_pre}
 use Rattle.aodv_table.proofs.Lookups.{get-with_entry, same_table}

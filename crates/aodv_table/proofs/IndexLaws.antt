@@ -8,7 +8,7 @@ use Rattle.std.specs.Cmp.{unsigned_tied}
 use Rattle.std.specs.FinMap as maps
 use Rattle.std.specs.FinSet as sets
 use Rattle.mesh_base.specs.Members.{NodeIds}
-use Rattle.aodv_entry.specs.declared.entry.Entry.{Entry}
+use Rattle.aodv_model.specs.declared.entry.Entry.{Entry}
 use Rattle.aodv_model.specs.Tables.{Table, is_valid_in}
 use Rattle.aodv_table.specs.Calls.{IsBelow, with_entry, valid_dests, nodes_below, is_neighbour_entry, is_neighbour_in}
 use Rattle.aodv_table.specs.Indexed.{entries_from, AreIndexed, AreNeighbours}

@@ -9,8 +9,8 @@ use Rattle.std.specs.FinMap as maps
 use Rattle.std.specs.FinMap.{FinMap, nat_cmp-IsAntisymmetric}
 use Rattle.std.specs.FinSet as sets
 use Rattle.mesh_base.specs.Members.{NodeIds}
-use Rattle.aodv_entry.specs.declared.entry.Entry.{Entry}
-use Rattle.aodv_entry.specs.Quality.{is_val}
+use Rattle.aodv_model.specs.declared.entry.Entry.{Entry}
+use Rattle.aodv_model.specs.Quality.{is_val}
 use Rattle.aodv_model.specs.Tables.{Table, goes_by, is_valid_in, in_vD}
 use Rattle.aodv_model.proofs.Lookups.{get-kept}
 use Rattle.aodv_table.specs.Calls.{with_entry, dests_of, valid_dests, dests_by}

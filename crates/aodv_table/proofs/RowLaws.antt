@@ -13,7 +13,7 @@ use Rattle.std.specs.BTreeMap.{is_at}
 use Rattle.std.specs.FinMap as maps
 use Rattle.std.specs.FinSet as sets
 use Rattle.mesh_base.specs.Members.{NodeIds}
-use Rattle.aodv_entry.specs.declared.entry.Entry.{Entry}
+use Rattle.aodv_model.specs.declared.entry.Entry.{Entry}
 use Rattle.aodv_model.specs.Tables.{Table, is_valid_in}
 use Rattle.aodv_table.specs.Calls.{IsBelow, with_entry, valid_dests}
 use Rattle.aodv_table.specs.Rows.{entries_in, rooms_in, AreRows}

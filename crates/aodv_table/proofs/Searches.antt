@@ -11,9 +11,9 @@ use Rattle.std.specs.FinMap as maps
 use Rattle.std.specs.FinMap.{find}
 use Rattle.std.specs.FinSet as sets
 use Rattle.mesh_base.specs.Members.{NodeIds}
-use Rattle.aodv_entry.specs.declared.entry.Entry.{Entry}
-use Rattle.aodv_entry.specs.Quality.{inc}
-use Rattle.aodv_entry.proofs.RisingLaws.{few_below, found_at, dest_at}
+use Rattle.aodv_model.specs.declared.entry.Entry.{Entry}
+use Rattle.aodv_model.specs.Quality.{inc}
+use Rattle.aodv_model.proofs.RisingLaws.{few_below, found_at, dest_at}
 use Rattle.aodv_model.specs.Tables.{Table, Dests, unreachable_by, goes_by, is_valid_in}
 use Rattle.aodv_model.specs.Fullness.{greatest}
 use Rattle.aodv_table.specs.Calls.{IsBelow, valid_dests, dests_by, is_past, IsLeastPast}

@@ -5,7 +5,7 @@ ghost use Rattle.std.specs.FinSet as sets;
 ghost use Rattle.aodv_model.specs.Tables.{entry_after, goes_by, is_valid_in};
 ghost use Rattle.aodv_table.specs.Calls.{is_neighbour_entry};
 
-use aodv_entry::{Entry, Flag, Known};
+use aodv_model::{Entry, Flag, Known};
 use mesh_base::NodeSet;
 
 /// The entry of a destination after r has come for it.

@@ -8,7 +8,7 @@ ghost use Rattle.aodv_table.specs.Rows.{entries_in, rooms_in};
 
 use crate::merge::{is_neighbour_entry, mark_valid};
 use crate::table::Table;
-use aodv_entry::Entry;
+use aodv_model::Entry;
 use mesh_base::{MOST_NODES, NoMemory, NodeSet};
 use std::alloc::Global;
 use std::collections::BTreeMap;

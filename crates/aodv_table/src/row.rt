@@ -1,7 +1,7 @@
 //! A row of a table.
 ghost use Rattle.std.specs.Prelude.{◌≡◌};
 
-use aodv_entry::{Entry, Flag, Known};
+use aodv_model::{Entry, Flag, Known};
 use mesh_base::NodeSet;
 use std::marker::Model;
 
@@ -22,7 +22,7 @@ pub(crate) struct Row {
 impl Model for Row {
     ghost use Rattle.std.specs.Prelude.{Option, Some, None, if◌then◌else◌};
     ghost use Rattle.std.specs.Coded.{coded_option};
-    ghost use Rattle.aodv_entry.specs.declared.entry.Entry.{Entry};
+    ghost use Rattle.aodv_model.specs.declared.entry.Entry.{Entry};
     ghost use Rattle.aodv_model.specs.Codes.{entry_code};
 
     ghost Value = { Option Entry };

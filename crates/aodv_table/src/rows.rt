@@ -8,7 +8,7 @@ ghost use Rattle.aodv_table.specs.Seen.{without_entries};
 use crate::merge::{mark_neighbour, mark_valid};
 use crate::row::Row;
 use crate::table::Table;
-use aodv_entry::Entry;
+use aodv_model::Entry;
 use mesh_base::{MOST_NODES, NoMemory, NodeSet};
 use std::alloc::Global;
 use std::marker::Model;

@@ -3,12 +3,12 @@ ghost use Rattle.std.specs.Prelude.{◌≡◌, ◌<◌, ◌≤◌, ◌↔◌, �
 ghost use Rattle.std.specs.FinMap as maps;
 ghost use Rattle.std.specs.FinSet as sets;
 ghost use Rattle.mesh_base.specs.Members.{NodeIds, AreAmong};
-ghost use Rattle.aodv_entry.specs.declared.entry.Flag.TheVariants.{Val};
+ghost use Rattle.aodv_model.specs.declared.entry.Flag.TheVariants.{Val};
 ghost use Rattle.aodv_model.specs.Tables.{Table as Entries, update, invalidate, add_pre, unreachable_by};
 ghost use Rattle.aodv_table.specs.Calls.{IsBelow, with_entry, valid_dests, is_neighbour_in, dests_by, is_past, IsLeastPast};
 
 use crate::merge::{entry_after, entry_by, is_changed};
-use aodv_entry::{Dests, Entry, Flag, inc};
+use aodv_model::{Dests, Entry, Flag, inc};
 use mesh_base::{MOST_NODES, NoMemory, NodeSet};
 
 /// The routing table of a node, however it is kept. Destinations and next hops are nodes of one

@@ -7,7 +7,7 @@ ghost use Rattle.aodv_model.specs.Handlers.{first_body};
 ghost use Rattle.aodv_model.specs.Soundness.{IsDatum, IsStoreInMesh};
 
 use crate::row::Row;
-use aodv_entry::Dests;
+use aodv_model::Dests;
 use mesh_base::{Bytes, MOST_NODES, NoMemory, NodeSet};
 use std::alloc::Global;
 use std::marker::Model;

@@ -25,7 +25,7 @@ use Rattle.mesh_text.specs.Text.{LineOutcome, On, Refused, Full, outcome_by_even
 use Rattle.mesh_world.specs.declared.steps.StepError.{StepError}
 use Rattle.mesh_run.specs.declared.stop.Stop.{Stop}
 use Rattle.mesh_run.specs.declared.stop.Stop.TheVariants as stop
-use Rattle.mesh_moment.specs.Moments.{IsAnswer}
+use Rattle.mesh_run.specs.Moments.{IsAnswer}
 use Rattle.mesh_run.specs.Runs.{IsLineDone, IsLineFull, IsLineStopped, outcome_by}
 use Rattle.mesh_run.proofs.Events.{answer_text, answer_mesh, node_came, refusal_fills}
 use Rattle.mesh_blocks.specs.declared.below.Below.{Below}

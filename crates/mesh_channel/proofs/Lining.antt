@@ -4,7 +4,7 @@ use Rattle.std.specs.Prelude.{IfOk}
 use Rattle.std.specs.Option.{unwrap_or}
 use Rattle.mesh_base.specs.declared.events.Done.{Done}
 use Rattle.mesh_world.specs.declared.steps.StepError.{StepError}
-use Rattle.mesh_moment.specs.Moments.{IsAnswer}
+use Rattle.mesh_run.specs.Moments.{IsAnswer}
 use Rattle.mesh_base.specs.Meshes.{with_node}
 use Rattle.std.specs.Io.KnownBytes.{Appends}
 use Rattle.mesh_base.specs.declared.limits.TheConstants.{MOST_NODES}

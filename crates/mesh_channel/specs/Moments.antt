@@ -7,7 +7,7 @@ use Rattle.mesh_base.specs.declared.events.Cast.{Cast}
 use Rattle.mesh_base.specs.declared.events.Cast.TheVariants.{Nothing, One}
 use Rattle.mesh_base.specs.declared.events.Done.{Done}
 use Rattle.mesh_model.specs.Worlds.{Event}
-use Rattle.mesh_moment.specs.Moments.{IsAnswer}
+use Rattle.mesh_run.specs.Moments.{IsAnswer}
 use Rattle.mesh_shell.specs.Pieces.{Whole}
 use Rattle.mesh_shell.specs.Scripts.{size_of_line}
 use Rattle.mesh_text.specs.Schedule as schedule

@@ -36,7 +36,7 @@ use Rattle.mesh_world.specs.Kept.{world_in, seen_of}
 use Rattle.mesh_world.specs.Restored.{AreWritten}
 use Rattle.mesh_text.specs.Schedule.{Sums}
 use Rattle.mesh_text.specs.Accounts as accounts
-use Rattle.mesh_moment.specs.Moments.{moment_seen}
+use Rattle.mesh_run.specs.Moments.{moment_seen}
 use Rattle.mesh_checkpoint.specs.declared.body.Head.{Head}
 use Rattle.mesh_checkpoint.specs.Formats.{all_fit, one_if, rise}
 use Rattle.mesh_checkpoint.specs.Checkpoint as model

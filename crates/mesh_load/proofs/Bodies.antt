@@ -15,7 +15,7 @@ use Rattle.mesh_world.specs.Seen.{node_in}
 use Rattle.mesh_world.specs.Kept.{world_in, seen_of}
 use Rattle.mesh_world.specs.Restored.{AreWritten}
 use Rattle.mesh_text.specs.Schedule.{Sums}
-use Rattle.mesh_moment.specs.Moments.{moment_seen}
+use Rattle.mesh_run.specs.Moments.{moment_seen}
 use Rattle.mesh_checkpoint.specs.declared.body.Head.{Head}
 use Rattle.mesh_checkpoint.specs.Checkpoint.{World, Body}
 use Rattle.mesh_checkpoint.specs.Points.{node_of, copy_of, links_of, world_after, body_of}

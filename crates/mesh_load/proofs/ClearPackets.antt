@@ -4,7 +4,7 @@ use Rattle.std.specs.Prelude.{⊤}
 use Rattle.std.specs.List.{AllByRecursion}
 use Rattle.std.specs.FinMap as maps
 use Rattle.mesh_base.specs.Meshes.{Nodes, IsMesh}
-use Rattle.aodv_entry.proofs.RisingLaws.{found_at}
+use Rattle.aodv_model.proofs.RisingLaws.{found_at}
 use Rattle.aodv_model.specs.Tables.{Dests}
 use Rattle.aodv_model.specs.Cores.{Message, Pkt, Rreq, Rrep, Rerr}
 use Rattle.aodv_model.specs.Soundness.{IsMessageInMesh, AreDestsBelow}

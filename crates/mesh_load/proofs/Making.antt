@@ -16,9 +16,9 @@ use Rattle.mesh_world.specs.Kept.{world_in}
 use Rattle.mesh_world.specs.Seen.{WorldSeen, node_in, most_data_at_first}
 use Rattle.mesh_text.specs.Schedule.{Moment, Sums}
 use Rattle.mesh_text.specs.Accounts as accounts
-use Rattle.mesh_moment.specs.Moments as moments
+use Rattle.mesh_run.specs.Moments as moments
 use Rattle.mesh_model.specs.Places.{IsInMesh}
-use Rattle.mesh_moment.specs.Moments.{AreOfVariant, IsSafe, IsSafeWorld, moment_seen}
+use Rattle.mesh_run.specs.Moments.{AreOfVariant, IsSafe, IsSafeWorld, moment_seen}
 use Rattle.mesh_checkpoint.specs.declared.body.Head.{Head}
 use Rattle.mesh_checkpoint.specs.declared.limits.TheConstants.{SUMS_END, MOST_STEPS}
 use Rattle.mesh_checkpoint.specs.Formats.{◌>>=◌, is_from, rising, fits_maybe}

@@ -32,8 +32,8 @@ use Rattle.mesh_text.proofs.InRange.{line_allowed}
 use Rattle.mesh_text.proofs.Moments.{IsKept, IsKeptCame, all_positive, piece_kept, opening_kept, input_kept}
 use Rattle.mesh_text.proofs.RunLaws.{GoesBy, result_goes, run_of_events, events_are_of_mesh}
 use Rattle.mesh_text.proofs.StepLaws.{steps_are_events}
-use Rattle.mesh_moment.specs.Moments.{AreOfVariant}
-use Rattle.mesh_moment.proofs.OfVariant.{step_of, start_of}
+use Rattle.mesh_run.specs.Moments.{AreOfVariant}
+use Rattle.mesh_run.proofs.OfVariant.{step_of, start_of}
 use Rattle.mesh_load.specs.Moments.{IsPlain, IsPlainItem, IsPlainWorld, HasPlainWorld, RunIsPlain}
 use Rattle.mesh_load.proofs.ClearPackets.{AreWithinFields, IsClear, clear}
 use Rattle.mesh_load.proofs.Sendable.{IsSendable, IsSendableItem}

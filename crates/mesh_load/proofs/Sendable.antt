@@ -11,7 +11,7 @@ use Rattle.std.proofs.lemmas.Option.{none-some}
 use Rattle.mesh_base.specs.Members.{NodeIds}
 use Rattle.mesh_base.specs.declared.events.Variant.{Variant}
 use Rattle.mesh_base.specs.declared.events.Variant.TheVariants as variants
-use Rattle.aodv_entry.specs.Quality.{inc}
+use Rattle.aodv_model.specs.Quality.{inc}
 use Rattle.aodv_model.specs.Tables.{Table, Dests, sqn, in_vD, in_iD, nhop, precs, unreachable_by}
 use Rattle.aodv_model.specs.Cores.{Body, RouteRequest, RouteReply, Message, Pkt, Rreq, Rrep, Rerr, Item, New, Heard, Core, has_seen, last_request_id, next_request_id}
 use Rattle.aodv_model.specs.Handlers.{Cast, Nothing, One, Many, All, Reaction, casting, delivering, plain, only, losing, losing_if_broken, broken_by, is_empty, is_error, precs_of, with_precs, error_cast, retract, link_broken, unicast, after_hearing, route_entry, on_new, data_error, on_pkt, key_of, after_request, reply_for_self, can_answer, reply_from_table, forward_request, on_new_rreq, on_rreq, after_reply, is_stale, forward_reply, forward_own_entry, reply_on, on_rrep, on_rerr, turn, drop_if_sent, send, fresh_id, ask}

@@ -12,7 +12,7 @@ use Rattle.mesh_base.specs.Meshes.{Nodes, IsMesh}
 use Rattle.mesh_base.specs.declared.events.Item as items
 use Rattle.mesh_base.specs.declared.events.Flying.{Flying}
 use Rattle.mesh_base.specs.declared.events.Variant.{Variant}
-use Rattle.aodv_entry.specs.declared.entry.Entry.{Entry}
+use Rattle.aodv_model.specs.declared.entry.Entry.{Entry}
 use Rattle.aodv_model.specs.Tables.{Table}
 use Rattle.aodv_model.specs.Cores.{Message, Pkt, Rreq, Rrep, Rerr, Item, New, Heard}
 use Rattle.aodv_model.specs.Soundness.{IsSoundCore, IsItemInMesh}

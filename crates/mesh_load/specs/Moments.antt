@@ -11,7 +11,7 @@ use Rattle.mesh_model.specs.Places.{IsInMesh}
 use Rattle.mesh_meaning.specs.Packets.{packet_of}
 use Rattle.mesh_text.specs.Schedule.{Moment}
 use Rattle.mesh_text.specs.Text.{text_of_input}
-use Rattle.mesh_moment.specs.Moments.{AreOfVariant}
+use Rattle.mesh_run.specs.Moments.{AreOfVariant}
 use Rattle.mesh_checkpoint.specs.Points.{body_of, IsState}
 
 -- the message is what its packet means. So is each that was read of a packet

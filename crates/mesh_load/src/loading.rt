@@ -12,9 +12,9 @@ use crate::world::read_maybe_world;
 use mesh_checkpoint::{
     Head, MOST_STEPS, SUMS_END, balanced_is_taken, one_body, read_head, survey, written_is_read,
 };
-use mesh_moment::{Point, State};
 use mesh_report::Sums;
 use mesh_restore::read_mesh;
+use mesh_run::{Point, State};
 use mesh_world::World;
 use std::alloc::Global;
 

@@ -1,9 +1,9 @@
 -- What one entry over another keeps of what is known through it.
 use Rattle.std.proofs.Common.{◌≡◌, ℕ, ◌-◌, ◌<◌, ◌≤◌, ◌==◌, Some, None, Option, refl, sym, ◌∙◌, arith, inl, inr}
 use Rattle.std.proofs.lemmas.Bool.Decides.{nat_tests}
-use Rattle.aodv_entry.specs.declared.entry.Entry.{Entry}
-use Rattle.aodv_entry.specs.declared.entry.Flag.TheVariants.{Inv, Val}
-use Rattle.aodv_entry.specs.declared.entry.Known.TheVariants.{Kno, Unk}
+use Rattle.aodv_model.specs.declared.entry.Entry.{Entry}
+use Rattle.aodv_model.specs.declared.entry.Flag.TheVariants.{Inv, Val}
+use Rattle.aodv_model.specs.declared.entry.Known.TheVariants.{Kno, Unk}
 use Rattle.aodv_model.proofs.Entries.{Same, if_case, merged_shape}
 use Rattle.aodv_model.specs.Tables.{Table, invalidated, add_pre_at, merge}
 use Rattle.mesh_base.specs.Members.{NodeIds}

@@ -4,9 +4,9 @@ use Rattle.std.specs.Prelude.{option_map, if◌then◌else◌}
 use Rattle.std.proofs.lemmas.Bool.{eqb-true}
 use Rattle.std.proofs.lemmas.Bool.Decides.{nat_tests}
 use Rattle.std.specs.FinMap as maps
-use Rattle.aodv_entry.specs.declared.entry.Entry.{Entry}
-use Rattle.aodv_entry.specs.declared.entry.Flag.TheVariants.{Val}
-use Rattle.aodv_entry.specs.declared.entry.Known.TheVariants.{Kno, Unk}
+use Rattle.aodv_model.specs.declared.entry.Entry.{Entry}
+use Rattle.aodv_model.specs.declared.entry.Flag.TheVariants.{Val}
+use Rattle.aodv_model.specs.declared.entry.Known.TheVariants.{Kno, Unk}
 use Rattle.aodv_model.proofs.Changes.{Raises, after_by, mapped_each, update_each}
 use Rattle.aodv_model.proofs.Entries.{invalidated_sound, joined_sound, merged_sound}
 use Rattle.aodv_model.proofs.Lookups.{get-add_pre, get-invalidate, get-update}

@@ -5,7 +5,7 @@ use Rattle.std.specs.List.{AllByRecursion, IsDistinct, list_any}
 use Rattle.std.proofs.lemmas.Bool.{eqb-true}
 use Rattle.std.proofs.lemmas.Option.{slice_get_within}
 use Rattle.std.proofs.lemmas.Map.Steps.{length-le_from_distinct_below}
-use Rattle.aodv_entry.specs.declared.entry.Entry.{Entry}
+use Rattle.aodv_model.specs.declared.entry.Entry.{Entry}
 use Rattle.mesh_model.proofs.Acyclic.{IsBetter, better_then, edge_better, node_in}
 use Rattle.mesh_model.proofs.Lists.{each_map}
 use Rattle.mesh_model.specs.Invariants.{IsLoopSafe, IsInvariant}

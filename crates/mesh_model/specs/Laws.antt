@@ -5,9 +5,9 @@ use Rattle.std.specs.FinMap as maps
 use Rattle.mesh_base.specs.declared.events.Counter.{Counter}
 use Rattle.mesh_base.specs.declared.events.Counter.TheVariants as full
 use Rattle.mesh_base.specs.declared.events.Variant.{Variant}
-use Rattle.aodv_entry.specs.declared.entry.Entry.{Entry}
-use Rattle.aodv_entry.specs.declared.entry.Flag.TheVariants.{Val}
-use Rattle.aodv_entry.specs.Quality.{is_better}
+use Rattle.aodv_model.specs.declared.entry.Entry.{Entry}
+use Rattle.aodv_model.specs.declared.entry.Flag.TheVariants.{Val}
+use Rattle.aodv_model.specs.Quality.{is_better}
 use Rattle.mesh_model.specs.Worlds.{World, Event, Idle, Full, step, after, run, start, AreFirstNumbers}
 use Rattle.mesh_model.specs.Walks.{table, Edge, IsWalk, Cycle}
 use Rattle.mesh_model.specs.Places.{IsInMesh, IsEvent}

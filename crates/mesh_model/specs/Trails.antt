@@ -5,8 +5,8 @@ use Rattle.std.specs.List.{AllByRecursion, IsDistinct}
 use Rattle.std.specs.FinMap as maps
 use Rattle.std.specs.FinSet as sets
 use Rattle.mesh_base.specs.declared.events.Variant.{Variant}
-use Rattle.aodv_entry.specs.declared.entry.Entry.{Entry}
-use Rattle.aodv_entry.specs.declared.entry.Flag.TheVariants.{Val}
+use Rattle.aodv_model.specs.declared.entry.Entry.{Entry}
+use Rattle.aodv_model.specs.declared.entry.Flag.TheVariants.{Val}
 use Rattle.aodv_model.specs.Pairs.{Pairs}
 use Rattle.aodv_model.specs.Tables.{Table}
 use Rattle.aodv_model.specs.Cores.{Message, Pkt, Rreq, Rrep, Rerr, Item, New, Heard, SeenRequests, has_seen}

@@ -2,8 +2,8 @@
 -- The valid routes of a world as a graph, for each destination.
 use Rattle.std.specs.Prelude.{◌≡◌, ◌≢◌, ℕ, List, [], ◌∷◌, Option, Some, None, slice_get, ⊤}
 use Rattle.std.specs.FinMap as maps
-use Rattle.aodv_entry.specs.declared.entry.Entry.{Entry}
-use Rattle.aodv_entry.specs.declared.entry.Flag.TheVariants.{Val}
+use Rattle.aodv_model.specs.declared.entry.Entry.{Entry}
+use Rattle.aodv_model.specs.declared.entry.Flag.TheVariants.{Val}
 use Rattle.aodv_model.specs.Tables.{Table}
 use Rattle.mesh_model.specs.Worlds.{World, Node}
 

@@ -9,7 +9,7 @@ ghost use Rattle.mesh_io.specs.Cause.{HasCause};
 ghost use Rattle.mesh_io.specs.Puts.{Puts};
 
 use crate::text::{push_labelled, push_one, push_packet, push_set, push_two};
-use aodv_entry::{Entry, Flag, Known};
+use aodv_model::{Entry, Flag, Known};
 use mesh_base::{FlyingView, LINE_ROOM, LineBuf, Mesh, push_number, push_text};
 use mesh_io::{PutFault, Sink, put_all};
 

@@ -12,7 +12,7 @@ use Rattle.std.specs.FinSet as sets
 use Rattle.std.specs.Cmp.{unsigned_tied}
 use Rattle.std.proofs.lemmas.Bool.{ne_eqb}
 use Rattle.std.proofs.lemmas.List.{nil_from_length, map_push}
-use Rattle.aodv_entry.specs.declared.entry.Entry.{Entry}
+use Rattle.aodv_model.specs.declared.entry.Entry.{Entry}
 use Rattle.aodv_model.specs.Tables.{Table}
 use Rattle.mesh_checkpoint.specs.Points.{route_of, routes_in}
 use Rattle.mesh_restore.specs.Stores.{AreBelow}

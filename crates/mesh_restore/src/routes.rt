@@ -11,7 +11,7 @@ ghost use Rattle.aodv_model.specs.Soundness.{AreBelow};
 ghost use Rattle.mesh_restore.specs.Nodes.{ArePrecursorsBelow};
 
 use crate::error::ReadError;
-use aodv_entry::{Entry, Flag, Known};
+use aodv_model::{Entry, Flag, Known};
 use aodv_table::{RowTable, Table};
 use mesh_base::NodeSet;
 use mesh_checkpoint::numbers::{byte, number16, number32, truth};

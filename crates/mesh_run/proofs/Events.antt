@@ -23,7 +23,7 @@ use Rattle.std.specs.List.{slice_get}
 use Rattle.mesh_text.specs.Text.{On, Full, outcome_of_line, text_in}
 use Rattle.mesh_world.specs.declared.steps.StepError.{StepError}
 use Rattle.mesh_world.specs.declared.steps.StepError.TheVariants as errors
-use Rattle.mesh_moment.specs.Moments.{IsAnswer, IsRefusal}
+use Rattle.mesh_run.specs.Moments.{IsAnswer, IsRefusal}
 use Rattle.mesh_run.specs.Stops.{event_stop_of, stop_of}
 use Rattle.mesh_run.specs.Runs.{output_if, IsLineDone, IsLineFull, IsLineStopped, outcome_by}
 use Rattle.mesh_run.proofs.Shown.{shown_none}

@@ -23,7 +23,7 @@ use Rattle.mesh_text.proofs.LineLaws.{chosen_few, line_has_few_events}
 use Rattle.mesh_io.specs.Cutting.{IsCounted}
 use Rattle.mesh_run.specs.declared.stop.Stop.{Stop}
 use Rattle.mesh_run.specs.Runs.{IsLineDone, IsLineRun}
-use Rattle.mesh_moment.specs.Sums.{IsGrown}
+use Rattle.mesh_run.specs.Sums.{IsGrown}
 use Rattle.mesh_run.proofs.NextCopies.{few_copies}
 
 -- ---- no sum grows by more than one

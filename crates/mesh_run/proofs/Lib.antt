@@ -1,3 +1,8 @@
+pub mod Counts
+pub mod OfVariant
+pub mod Sound
+pub mod AtOnce
+pub mod Choices
 pub mod Telling
 pub mod Shown
 pub mod OwnNode

@@ -4,7 +4,7 @@ use Rattle.std.specs.Prelude.{IfSome}
 use Rattle.mesh_model.specs.Worlds.{Event}
 use Rattle.mesh_text.specs.Schedule.{Moment, next_moment}
 use Rattle.mesh_text.specs.Auto.{outcome_of_events}
-use Rattle.mesh_moment.specs.Moments.{IsAnswered}
+use Rattle.mesh_run.specs.Moments.{IsAnswered}
 use Rattle.mesh_run.specs.declared.stop.Stop.{Stop}
 use Rattle.mesh_run.specs.Runs.{IsLineDone, IsEventsRun, IsReached, AreTwoDone, line_outcome_at, next_in, events_due}
 use Rattle.mesh_run.proofs.Shown.{shown_none}
@@ -18,7 +18,7 @@ quiet_done say m n e a quiet is =
     subst (λ (s : Bool). IsLineDone s (line_outcome_at m e) n a a) (sym quiet) (answer_goes false m n e is.done is.packet a a is.answer (shown_none false a))
 
 module _ (say : Bool) (given : Option Event) (most did : ℕ) (m n : Moment) (e : Event) (one : IfSome given (λ _. most ≤ 1)) (quiet : say ≡ false) (none : given ≡ None) (two : did + 2 ≤ most)
-  (chosen : Some e ≡ next_in given m) (are : AreTwoDone m e n) where
+    (chosen : Some e ≡ next_in given m) (are : AreTwoDone m e n) where
   first_under : did < most
   first_under = omega (arith, two)
 

@@ -1,7 +1,7 @@
 -- The run of a schedule as a script: what its lines and its end make of the moment.
 use Rattle.std.specs.Prelude.{ℕ, Bool, List, []}
 use Rattle.mesh_shell.specs.Story.{Outcome, On, Ended, Story}
-use Rattle.mesh_moment.specs.Sums.{IsGrown}
+use Rattle.mesh_run.specs.Sums.{IsGrown}
 use Rattle.mesh_text.specs.Lines.{done_line}
 use Rattle.mesh_text.specs.Schedule.{Moment}
 use Rattle.mesh_text.specs.Text.{outcome_of_piece, outcome_in_run}

@@ -17,7 +17,7 @@ use Rattle.mesh_text.specs.Schedule.{Moment, AcceptedLine, Does, ShowsNode, Show
 use Rattle.mesh_text.specs.Effects.{outcome_lines}
 use Rattle.mesh_text.specs.Auto.{EventsOutcome, Ended, Full as EventsFull, events_chosen}
 use Rattle.mesh_text.specs.Runs.{moment_after}
-use Rattle.mesh_moment.specs.Moments.{IsAnswered}
+use Rattle.mesh_run.specs.Moments.{IsAnswered}
 use Rattle.mesh_text.specs.Text.{LineOutcome, On, Refused, Full, text_in}
 use Rattle.mesh_run.specs.declared.show.Shown.{Shown}
 use Rattle.mesh_run.specs.declared.show.Shown.TheVariants as shown

@@ -12,11 +12,12 @@ ghost use Rattle.mesh_script.specs.Seen.{IsPrintable};
 ghost use Rattle.mesh_run.specs.Causes.{HasStopCause};
 ghost use Rattle.mesh_run.specs.Runs.{output_if, IsLineOf, IsLineOfGiven, IsUncountedRun, IsEventsRun, IsReached, AreTwoDone, next_in, events_due};
 
+use crate::choice::next_event;
 use crate::commands::do_event;
+use crate::point::Point;
 use crate::stop::Stop;
 use mesh_base::{Event, LONGEST_LINE, LineBuf};
 use mesh_io::{PutFault, Sink};
-use mesh_moment::{Point, next_event};
 use mesh_report::{put_auto_end, put_echo};
 use mesh_script::Line;
 use mesh_world::Steps;

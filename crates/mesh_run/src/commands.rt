@@ -19,11 +19,11 @@ ghost use Rattle.mesh_run.specs.Causes.{HasStopCause};
 ghost use Rattle.mesh_run.specs.Runs.{output_if, line_outcome_at, IsLineOf, IsLineRun, IsUncountedRun, IsReached, IsOnTheWay};
 
 use crate::auto::{Task, do_auto, do_events};
+use crate::point::Point;
 use crate::show::{Shown, do_show};
 use crate::stop::{EventStop, Stop};
 use mesh_base::{Addr, Done, Event, LONGEST_LINE, LineBuf, Mesh, Packet};
 use mesh_io::{PutFault, Sink};
-use mesh_moment::Point;
 use mesh_report::{put_echoed_event, put_event, put_line};
 use mesh_script::Line;
 use mesh_world::{StepError, Steps};

@@ -4,14 +4,14 @@ ghost use Rattle.mesh_shell.specs.Pieces.{Whole};
 ghost use Rattle.mesh_text.specs.Text.{outcome_of_piece};
 ghost use Rattle.mesh_text.specs.Runs.{events_of_piece};
 ghost use Rattle.mesh_run.specs.Causes.{HasStopCause};
-ghost use Rattle.mesh_moment.specs.Sums.{IsGrown};
+ghost use Rattle.mesh_run.specs.Sums.{IsGrown};
 ghost use Rattle.mesh_run.specs.Runs.{IsLineRun, IsOnTheWay};
 
 use crate::commands::do_line;
+use crate::point::Point;
 use crate::stop::Stop;
 use mesh_base::{LONGEST_LINE, MOST_EVENTS};
 use mesh_io::Sink;
-use mesh_moment::Point;
 use mesh_script::parse_line;
 use mesh_world::Steps;
 use std::alloc::Global;

@@ -3,9 +3,9 @@ ghost use Rattle.std.specs.Prelude.{◌≡◌};
 
 use crate::ends::{finish, refuse, settle, why_past};
 use crate::lines::one;
+use crate::point::Point;
 use crate::say::Say;
 use mesh_io::Sink;
-use mesh_moment::Point;
 use mesh_shell::{Fault, Limit, Script};
 use mesh_text::Verdict;
 use mesh_world::Steps;
@@ -22,7 +22,7 @@ pub struct Running<S: Steps> {
 impl<S: Steps> Script for Running<S> {
     ghost use Rattle.std.proofs.Common.{arith};
     ghost use Rattle.mesh_base.specs.declared.limits.TheConstants.{LONGEST_LINE};
-    ghost use Rattle.mesh_moment.specs.Moments.{IsSafe};
+    ghost use Rattle.mesh_run.specs.Moments.{IsSafe};
     ghost use Rattle.mesh_run.specs.Room.{HasRoomFor};
     ghost use Rattle.mesh_run.specs.Running.{running, CanRun};
     ghost use Rattle.mesh_text.specs.declared.verdict.Verdict.TheVariants as verdicts;

@@ -15,10 +15,10 @@ ghost use Rattle.mesh_run.specs.Causes.{HasStopCause};
 ghost use Rattle.mesh_run.specs.Runs.{line_of_shown, IsLineOf, IsUncountedRun};
 ghost use Rattle.mesh_world.specs.Ends.{end_in, IsEndIn};
 
+use crate::point::Point;
 use crate::stop::Stop;
 use mesh_base::{LineBuf, Mesh};
 use mesh_io::{PutFault, Sink};
-use mesh_moment::Point;
 use mesh_radio::Radio;
 use mesh_report::{put_echo, put_flying, put_number, put_stuck};
 use mesh_show::put_node;

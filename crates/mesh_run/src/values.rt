@@ -3,7 +3,7 @@ ghost use Rattle.std.specs.Prelude.{◌≡◌, ◌<◌, ◌≤◌, ◌+◌, ◌^
 ghost use Rattle.mesh_base.specs.declared.limits.TheConstants.{MOST_EVENTS};
 ghost use Rattle.mesh_text.specs.Text.{outcome_in_run, outcome_of_line};
 ghost use Rattle.mesh_script.specs.Seen.{accepted_of, IsAllowed};
-ghost use Rattle.mesh_moment.specs.Sums.{IsGrown};
+ghost use Rattle.mesh_run.specs.Sums.{IsGrown};
 ghost use Rattle.mesh_shell.specs.Causes.{HasFaultCause};
 ghost use Rattle.mesh_shell.specs.Outputs.{IsLineRun};
 ghost use Rattle.mesh_shell.specs.Scripts.{GoesOn, EndsEarly};
@@ -11,8 +11,8 @@ ghost use Rattle.mesh_run.specs.Running.{said};
 
 use crate::commands::do_line;
 use crate::ends::settle;
+use crate::point::Point;
 use mesh_io::Sink;
-use mesh_moment::Point;
 use mesh_script::Line;
 use mesh_shell::Fault;
 use mesh_text::Verdict;

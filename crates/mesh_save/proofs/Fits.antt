@@ -14,8 +14,8 @@ use Rattle.mesh_base.specs.declared.events.Item.{Item}
 use Rattle.mesh_base.specs.declared.events.Item.TheVariants.{New, Heard}
 use Rattle.mesh_base.specs.Members.{NodeIds, members_below, member_list}
 use Rattle.mesh_base.proofs.Ranks.{Rises, members_few, members-all, members-size, members-sorted}
-use Rattle.aodv_entry.specs.declared.entry.Entry.{Entry}
-use Rattle.aodv_entry.specs.Quality.{is_kno, is_val}
+use Rattle.aodv_model.specs.declared.entry.Entry.{Entry}
+use Rattle.aodv_model.specs.Quality.{is_kno, is_val}
 use Rattle.aodv_model.specs.Tables.{Table}
 use Rattle.aodv_model.specs.Pairs.{Pairs, pair_cmp, pairs_in}
 use Rattle.aodv_model.specs.Cores.{Body, Waiting, Store, Core}

@@ -2,7 +2,7 @@
 ghost use Rattle.std.specs.Prelude.{◌≡◌, ◌<◌, length, IfSome};
 ghost use Rattle.std.specs.FinMap as maps;
 ghost use Rattle.mesh_base.specs.Members.{member_list};
-ghost use Rattle.aodv_entry.specs.Quality.{is_kno, is_val};
+ghost use Rattle.aodv_model.specs.Quality.{is_kno, is_val};
 ghost use Rattle.aodv_model.specs.Soundness.{IsSoundTable};
 ghost use Rattle.mesh_checkpoint.specs.Points.{route_of, routes_in};
 ghost use Rattle.mesh_save.specs.Bytes.{bytes_if, indices_bytes, route_bytes, routes_bytes};
@@ -10,7 +10,7 @@ ghost use Rattle.mesh_save.specs.Narrow.{IsNarrowEntry, AreEntriesNarrow};
 
 use crate::fields::{put_truth, put16, put32};
 use crate::pen::Pen;
-use aodv_entry::{Entry, Flag, Known};
+use aodv_model::{Entry, Flag, Known};
 use aodv_node::Node;
 use mesh_base::NodeSet;
 

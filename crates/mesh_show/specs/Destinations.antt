@@ -1,7 +1,7 @@
 -- The text of one destination, whether it has something or not.
 use Rattle.std.specs.Prelude.{ℕ, List, [], Option, Some, None}
 use Rattle.mesh_base.specs.Meshes.{Nodes}
-use Rattle.aodv_entry.specs.declared.entry.Entry.{Entry}
+use Rattle.aodv_model.specs.declared.entry.Entry.{Entry}
 use Rattle.aodv_model.specs.Cores.{Waiting, bodies_in, needs_in}
 use Rattle.mesh_text.specs.Tables.{entry_text, waits_text}
 

@@ -4,8 +4,8 @@ use Rattle.std.specs.Prelude.{slice_get, IfSome}
 use Rattle.std.specs.Ordering.{nat_cmp}
 use Rattle.std.specs.FinMap as maps
 use Rattle.std.proofs.lemmas.Option.{slice_get_past}
-use Rattle.aodv_entry.specs.declared.entry.Entry.{Entry}
-use Rattle.aodv_entry.specs.declared.entry.Flag.TheVariants.{Val, Inv}
+use Rattle.aodv_model.specs.declared.entry.Entry.{Entry}
+use Rattle.aodv_model.specs.declared.entry.Flag.TheVariants.{Val, Inv}
 use Rattle.aodv_node.specs.Seen.{NodeSeen, IsSoundNode}
 use Rattle.mesh_model.specs.Invariants.{IsBacked}
 use Rattle.mesh_sound.specs.Claims.{AreSized, table, table_in}

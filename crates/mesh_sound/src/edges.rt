@@ -4,7 +4,7 @@ ghost use Rattle.mesh_sound.specs.Claims.{AreSized};
 ghost use Rattle.mesh_sound.specs.Edges.{IsBackedAt, AreBacked, IsFirstEdge};
 
 use crate::honest::has_at_least;
-use aodv_entry::Flag;
+use aodv_model::Flag;
 use aodv_node::Node;
 
 // Whether the entry of node x for d, if it has one, is backed by its next hop.

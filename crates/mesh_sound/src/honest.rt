@@ -7,7 +7,7 @@ ghost use Rattle.mesh_model.specs.Invariants.{AtLeast, IsAtLeast, IsHonestReques
 ghost use Rattle.mesh_meaning.specs.Packets.{IsWritten};
 ghost use Rattle.mesh_sound.specs.Claims.{AreOf, AreSized, table, IsHonestIfRequest, IsHonestIfReply};
 
-use aodv_entry::{Entry, Flag};
+use aodv_model::{Entry, Flag};
 use aodv_node::Node;
 use aodv_wire::{Message, Rrep, Rreq, read};
 use mesh_base::Mesh;

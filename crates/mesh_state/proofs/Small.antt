@@ -4,7 +4,7 @@ use Rattle.mesh_base.specs.declared.events.Variant.TheVariants.{Base}
 use Rattle.mesh_base.specs.declared.limits.TheConstants.{LONGEST_INPUT, MOST_EVENTS}
 use Rattle.mesh_model.specs.Worlds.{start}
 use Rattle.mesh_text.specs.Schedule.{Moment, opening, world_of}
-use Rattle.mesh_moment.specs.Sums.{IsGrown}
+use Rattle.mesh_run.specs.Sums.{IsGrown}
 use Rattle.mesh_state.specs.Small.{IsSmall}
 
 first_copy : (world_of (opening Base)).next_copy ≡ 1

@@ -1,8 +1,8 @@
 -- Sound tables have no cycle: along a walk entries become better.
 use Rattle.std.proofs.Common.{◌≡◌, ℕ, ◌<◌, ◌⊎◌, Bool, true, false, List, [], ◌∷◌, refl, ap, subst, arith, inl, inr}
 use Rattle.std.proofs.lemmas.Bool.Decides.{nat_tests}
-use Rattle.aodv_entry.specs.Quality.{nsqn}
-use Rattle.aodv_entry.specs.declared.entry.Flag.TheVariants.{Val}
+use Rattle.aodv_model.specs.Quality.{nsqn}
+use Rattle.aodv_model.specs.declared.entry.Flag.TheVariants.{Val}
 use Rattle.mesh_tables.specs.declared.row.Row.{Row}
 use Rattle.mesh_tables.specs.Tables.{Tables, Edge, IsWalk, last, Cycle, IsSound, entry_of, is_better_row}
 

@@ -9,7 +9,7 @@ use Rattle.std.specs.declared.cmp.Ordering.TheVariants.{Less, Equal, Greater}
 use Rattle.std.proofs.lemmas.List.{length-map}
 use Rattle.std.proofs.lemmas.List.Sums.{count_by-le-length}
 use Rattle.std.proofs.lemmas.Map.Made.{lookup-map_values}
-use Rattle.aodv_entry.specs.Quality.{is_val}
+use Rattle.aodv_model.specs.Quality.{is_val}
 use Rattle.mesh_tables.specs.declared.row.Row.{Row}
 use Rattle.mesh_tables.specs.Printed.{Table, ShownTables, table_in, edges_of, edges_in}
 use Rattle.mesh_tables.specs.Kept.{shown_in, size_of}

@@ -11,11 +11,11 @@ use Rattle.mesh_base.specs.Parts.{parts}
 use Rattle.mesh_base.specs.Addresses.{address_of}
 use Rattle.mesh_base.specs.Numbers.{number_up_to, positive}
 use Rattle.mesh_base.specs.declared.limits.TheConstants.{MOST_NODES}
-use Rattle.aodv_entry.specs.declared.entry.Known.{Known}
-use Rattle.aodv_entry.specs.declared.entry.Known.TheVariants.{Kno, Unk}
-use Rattle.aodv_entry.specs.declared.entry.Flag.{Flag}
-use Rattle.aodv_entry.specs.declared.entry.Flag.TheVariants.{Val, Inv}
-use Rattle.aodv_entry.specs.Quality.{is_val}
+use Rattle.aodv_model.specs.declared.entry.Known.{Known}
+use Rattle.aodv_model.specs.declared.entry.Known.TheVariants.{Kno, Unk}
+use Rattle.aodv_model.specs.declared.entry.Flag.{Flag}
+use Rattle.aodv_model.specs.declared.entry.Flag.TheVariants.{Val, Inv}
+use Rattle.aodv_model.specs.Quality.{is_val}
 use Rattle.mesh_tables.specs.declared.row.Row.{Row}
 use Rattle.mesh_tables.specs.Tables.{Tables}
 

@@ -1,6 +1,6 @@
 -- How the first failing edge is looked for: at each entry that was shown, keeping the least.
 use Rattle.std.specs.Prelude.{ℕ, ◌==◌, Bool, ◌&&◌, ◌||◌, not, nat_lt, if◌then◌else◌, [], ◌∷◌, Option, Some, None}
-use Rattle.aodv_entry.specs.Quality.{is_val}
+use Rattle.aodv_model.specs.Quality.{is_val}
 use Rattle.mesh_tables.specs.declared.row.Row.{Row}
 use Rattle.mesh_tables.specs.declared.search.FailingEdge.{FailingEdge}
 use Rattle.mesh_tables.specs.Tables.{Tables, is_better_row}

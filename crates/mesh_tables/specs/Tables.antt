@@ -2,9 +2,9 @@
 -- destinations are addresses.
 use Rattle.std.specs.Prelude.{◌≡◌, ◌≢◌, ℕ, ◌<◌, ◌≤◌, ◌⊎◌, Bool, false, List, [], ◌∷◌, Option, Some, None, ⊤}
 use Rattle.std.specs.FinSet as sets
-use Rattle.aodv_entry.specs.declared.entry.Entry.{Entry}
-use Rattle.aodv_entry.specs.declared.entry.Flag.TheVariants.{Val}
-use Rattle.aodv_entry.specs.Quality.{is_better}
+use Rattle.aodv_model.specs.declared.entry.Entry.{Entry}
+use Rattle.aodv_model.specs.declared.entry.Flag.TheVariants.{Val}
+use Rattle.aodv_model.specs.Quality.{is_better}
 use Rattle.mesh_tables.specs.declared.row.Row.{Row}
 use Rattle.mesh_tables.specs.declared.search.FailingEdge.{FailingEdge}
 

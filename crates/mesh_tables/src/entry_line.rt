@@ -8,7 +8,7 @@ ghost use Rattle.mesh_tables.specs.Printed as printed;
 ghost use Rattle.mesh_tables.specs.Kept.{words_in};
 
 use crate::row::Row;
-use aodv_entry::{Flag, Known};
+use aodv_model::{Flag, Known};
 use mesh_base::{Addr, cut, number_up_to};
 
 fn known(word: &[u8]) -> Option<Known>

@@ -2,7 +2,7 @@
 ghost use Rattle.std.specs.Prelude.{◌≡◌};
 ghost use Rattle.mesh_tables.specs.Tables.{entry_of, is_better_row};
 
-use aodv_entry::{Entry, Flag, Known, better};
+use aodv_model::{Entry, Flag, Known, better};
 use mesh_base::NodeSet;
 
 /// An entry of a printed table. Its precursors are not kept: no cycle depends on them.

@@ -7,7 +7,7 @@ ghost use Rattle.mesh_tables.specs.Kept.{shown_in, size_of};
 
 use crate::printed::{PrintedTables, Table};
 use crate::row::{Row, is_better_row};
-use aodv_entry::Flag;
+use aodv_model::Flag;
 use std::collections::BTreeMap;
 
 /// An edge whose next hop has a valid entry that isn't better: the destination, the node and its

@@ -2,7 +2,7 @@
 //! checks/cases/mesh_state.
 use mesh_checkpoint::survey;
 use mesh_load::{StateError, load};
-use mesh_moment::State;
+use mesh_run::State;
 use mesh_world::{Part, World};
 use std::alloc::Global;
 

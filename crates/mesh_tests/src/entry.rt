@@ -1,5 +1,5 @@
 //! Entries and their numbers, and the numbers of destinations.
-use aodv_entry::{Dests, Entry, Flag, Known, better, inc, nsqn};
+use aodv_model::{Dests, Entry, Flag, Known, better, inc, nsqn};
 use mesh_base::NodeSet;
 
 // Whether node 2 has the number 7, and no other has one.

@@ -1,9 +1,9 @@
 //! What a table does with an entry that comes, and with a number that can't be raised: over both
 //! kinds of table.
 ghost use Rattle.std.specs.Prelude.{◌≡◌, ◌<◌};
-ghost use Rattle.aodv_entry.specs.declared.entry.Flag.TheVariants.{Val};
+ghost use Rattle.aodv_model.specs.declared.entry.Flag.TheVariants.{Val};
 
-use aodv_entry::{Dests, Entry, Flag, Known};
+use aodv_model::{Dests, Entry, Flag, Known};
 use aodv_table::{PlainTable, RowTable, Table};
 use mesh_base::{NoMemory, NodeSet};
 use std::alloc::Global;

@@ -4,11 +4,11 @@ use Rattle.std.specs.List.{flat_map}
 use Rattle.std.specs.Fmt.{decimal}
 use Rattle.std.specs.FinMap as maps
 use Rattle.mesh_base.specs.Meshes.{Nodes}
-use Rattle.aodv_entry.specs.declared.entry.Entry.{Entry}
-use Rattle.aodv_entry.specs.declared.entry.Known.{Known}
-use Rattle.aodv_entry.specs.declared.entry.Known.TheVariants.{Kno, Unk}
-use Rattle.aodv_entry.specs.declared.entry.Flag.{Flag}
-use Rattle.aodv_entry.specs.declared.entry.Flag.TheVariants.{Val, Inv}
+use Rattle.aodv_model.specs.declared.entry.Entry.{Entry}
+use Rattle.aodv_model.specs.declared.entry.Known.{Known}
+use Rattle.aodv_model.specs.declared.entry.Known.TheVariants.{Kno, Unk}
+use Rattle.aodv_model.specs.declared.entry.Flag.{Flag}
+use Rattle.aodv_model.specs.declared.entry.Flag.TheVariants.{Val, Inv}
 use Rattle.aodv_model.specs.Pairs.{pairs_in}
 use Rattle.aodv_model.specs.Tables.{Table}
 use Rattle.aodv_model.specs.Cores.{Body, SeenRequests, Store, Waiting, Core}

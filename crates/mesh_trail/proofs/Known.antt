@@ -6,14 +6,14 @@ use Rattle.std.specs.Ordering.{nat_cmp}
 use Rattle.std.proofs.lemmas.Bool.{eqb-true}
 use Rattle.std.proofs.lemmas.List.{reverse-reverse}
 use Rattle.std.proofs.lemmas.Option.{none-some}
-use Rattle.aodv_entry.specs.Quality.{is_val}
-use Rattle.aodv_entry.specs.declared.entry.Entry.{Entry}
-use Rattle.aodv_entry.specs.declared.entry.Flag.{Flag}
-use Rattle.aodv_entry.specs.declared.entry.Flag.TheVariants.{Inv, Val}
+use Rattle.aodv_model.specs.Quality.{is_val}
+use Rattle.aodv_model.specs.declared.entry.Entry.{Entry}
+use Rattle.aodv_model.specs.declared.entry.Flag.{Flag}
+use Rattle.aodv_model.specs.declared.entry.Flag.TheVariants.{Inv, Val}
 use Rattle.mesh_model.specs.Trails.{around}
 use Rattle.mesh_model.specs.Walks.{rt_in, table}
 use Rattle.mesh_model.specs.Worlds.{Node}
-use Rattle.mesh_walks.specs.Held.{IsEntryWalk, NodeHolds}
+use Rattle.mesh_trail.specs.Held.{IsEntryWalk, NodeHolds}
 use Rattle.mesh_world.specs.Seen.{WorldSeen}
 use Rattle.mesh_trail.specs.declared.heard.Front.{Front}
 use Rattle.mesh_trail.specs.declared.heard.Front.TheVariants as fronts

@@ -1,3 +1,9 @@
+pub mod Stems
+pub mod Listed
+pub mod CastWalks
+pub mod Stays
+pub mod Steps
+pub mod Turned
 pub mod Gets
 pub mod Places
 pub mod Fronts

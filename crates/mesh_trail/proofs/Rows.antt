@@ -1,17 +1,17 @@
--- The lists of a node, turned round, are those that mesh_walks defines.
+-- The lists of a node, turned round, are the lists that are kept of the world.
 use Rattle.std.proofs.Common.{◌≡◌, ℕ, zero, suc, ◌<◌, ◌≤◌, Bool, true, false, not, ◌==◌, ◌&&◌, List, [], ◌∷◌, ◌++◌, map, drop, length, Option, Some, None, refl, sym, ap, subst, ◌∙◌, arith}
 use Rattle.std.specs.Prelude.{slice_get, slice_set, reverse, if◌then◌else◌}
 use Rattle.std.proofs.lemmas.Bool.{eqb-true, eqb-false}
 use Rattle.std.proofs.lemmas.Bool.Decides.{nat_tests}
 use Rattle.std.proofs.lemmas.List.{reverse-append}
 use Rattle.std.specs.FinMap as maps
-use Rattle.aodv_entry.specs.declared.entry.Entry.{Entry}
+use Rattle.aodv_model.specs.declared.entry.Entry.{Entry}
 use Rattle.aodv_model.specs.Tables.{Table}
 use Rattle.aodv_model.specs.Cores.{Message, Pkt, Rreq, Rrep, Rerr}
 use Rattle.mesh_model.proofs.Lists.{set_other}
 use Rattle.mesh_world.proofs.Frames.{set_got}
-use Rattle.mesh_walks.specs.Kept as walks
-use Rattle.mesh_walks.specs.Kept.{entries_after, entry_list, is_near, is_told, is_route, first_list, own_list}
+use Rattle.mesh_trail.specs.Kept as walks
+use Rattle.mesh_trail.specs.Kept.{entries_after, entry_list, is_near, is_told, is_route, first_list, own_list}
 use Rattle.mesh_trail.specs.declared.said.Said.{Said}
 use Rattle.mesh_trail.specs.declared.heard.Front.TheVariants as fronts
 use Rattle.mesh_trail.specs.Said.{said_of, IsSaidIn}

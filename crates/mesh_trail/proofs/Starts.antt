@@ -6,8 +6,8 @@ use Rattle.std.proofs.lemmas.List.{length-map, reverse-reverse}
 use Rattle.std.specs.FinMap as maps
 use Rattle.mesh_base.specs.Meshes.{Nodes, IsMesh, first_at}
 use Rattle.mesh_base.specs.declared.events.Variant.{Variant}
-use Rattle.aodv_entry.specs.declared.entry.Entry.{Entry}
-use Rattle.aodv_entry.specs.declared.entry.Flag.TheVariants.{Val}
+use Rattle.aodv_model.specs.declared.entry.Entry.{Entry}
+use Rattle.aodv_model.specs.declared.entry.Flag.TheVariants.{Val}
 use Rattle.aodv_model.specs.Fullness.{greatest}
 use Rattle.aodv_model.specs.Pairs.{Pairs}
 use Rattle.aodv_node.specs.Seen.{NodeSeen}
@@ -15,9 +15,9 @@ use Rattle.mesh_model.specs.Trails.{IsHonestWalk}
 use Rattle.mesh_model.specs.Walks.{rt_in, table}
 use Rattle.mesh_model.specs.Worlds.{AreFirstNumbers, World, first_numbers, run, start}
 use Rattle.mesh_world.specs.Seen.{WorldSeen, IsSoundWorld, node_in, opening}
-use Rattle.mesh_walks.specs.Kept.{nothing_kept}
-use Rattle.mesh_walks.specs.Held.{Holds}
-use Rattle.mesh_walks.proofs.Turned.{held_is_honest, start_holds}
+use Rattle.mesh_trail.specs.Kept.{nothing_kept}
+use Rattle.mesh_trail.specs.Held.{Holds}
+use Rattle.mesh_trail.proofs.Turned.{held_is_honest, start_holds}
 use Rattle.mesh_trail.specs.Walks.{IsRouteWalk}
 use Rattle.mesh_trail.specs.Lists.{IsBlank, list_in, row}
 use Rattle.mesh_trail.specs.Trails.{AreWalks, kept_lists, queue_of, rows_of}

@@ -9,7 +9,7 @@ use Rattle.aodv_model.specs.Fullness.{ask_full, send_full, turn_full}
 use Rattle.aodv_model.specs.Handlers.{All, Cast, Many, Nothing, One, Reaction, ask, may_ask, may_send, send, turn}
 use Rattle.mesh_model.proofs.Lists.{each_append, each_filter}
 use Rattle.mesh_model.specs.Worlds.{is_parcel, Ask, Changed, Copy, CopyDoubled, CopyHeard, CopyLost, Cut, Deliver, Double, Event, Give, Full, Next, Idle, Link, Lose, Node, Outcome, Send, Sent, Turn, World, after, are_linked, ask_of, at_copy, at_node, copies, copies_of, copies_to, done_by, double_of, find_copy, members_below, push, range, receivers, run, send_of, step, turn_of, unless_full, with_double, with_item, with_link, without, without_copy, without_link}
-use Rattle.mesh_walks.specs.Kept.{KeptLists, after_doubling, copies_in, from_id_on}
+use Rattle.mesh_trail.specs.Kept.{KeptLists, after_doubling, copies_in, from_id_on}
 
 -- ---- the ids of copies
 

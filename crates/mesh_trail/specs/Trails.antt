@@ -3,8 +3,8 @@ use Rattle.std.specs.Prelude.{◌≡◌, ℕ, Option, Some, None, List, [], leng
 use Rattle.std.specs.List.{AllByRecursion}
 use Rattle.mesh_base.specs.declared.events.Variant.{Variant}
 use Rattle.mesh_model.specs.Worlds.{World, Event, AreFirstNumbers, start, run}
-use Rattle.mesh_walks.specs.Kept.{KeptLists}
-use Rattle.mesh_walks.specs.Held.{Holds}
+use Rattle.mesh_trail.specs.Kept.{KeptLists}
+use Rattle.mesh_trail.specs.Held.{Holds}
 use Rattle.mesh_world.specs.Seen.{WorldSeen, IsSoundWorld}
 use Rattle.mesh_trail.specs.Lists.{row}
 use Rattle.mesh_trail.specs.Casts.{IsCovered, AreEnding, list_of}
@@ -20,7 +20,7 @@ abbrev pub queue_of : Option NodeLists → List (List ℕ)
 queue_of None = []
 queue_of (Some n) = (n.queue).items
 
--- the lists as mesh_walks has them: from the holder to the destination
+-- the lists as they are kept of the world: from the holder to the destination
 abbrev pub kept_lists : List NodeLists → List Cast → KeptLists
 kept_lists nodes casts = record {
   entries = λ x d. reverse (row (rows_of (slice_get nodes x)) d);

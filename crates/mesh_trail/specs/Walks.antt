@@ -3,8 +3,8 @@ use Rattle.std.specs.Prelude.{◌≡◌, ◌≤◌, ℕ, List, length, Some, Res
 use Rattle.std.specs.FinMap as maps
 use Rattle.mesh_base.specs.declared.events.Counter.TheVariants as counters
 use Rattle.mesh_base.specs.declared.events.Done.{Done}
-use Rattle.aodv_entry.specs.declared.entry.Entry.{Entry}
-use Rattle.aodv_entry.specs.declared.entry.Flag.TheVariants.{Val}
+use Rattle.aodv_model.specs.declared.entry.Entry.{Entry}
+use Rattle.aodv_model.specs.declared.entry.Flag.TheVariants.{Val}
 use Rattle.mesh_model.specs.Worlds.{World}
 use Rattle.mesh_model.specs.Walks.{table}
 use Rattle.mesh_model.specs.Trails.{IsHonestWalk}

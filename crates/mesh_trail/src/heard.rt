@@ -5,7 +5,7 @@ ghost use Rattle.mesh_trail.specs.Said.{IsSaidIn};
 ghost use Rattle.mesh_trail.specs.Heard.{front_of, IsFrontIn, leads_to, is_known, knows, tells, lesson_of};
 
 use crate::said::{Said, read_said};
-use aodv_entry::{Entry, Flag};
+use aodv_model::{Entry, Flag};
 use mesh_base::Item;
 use mesh_world::World;
 

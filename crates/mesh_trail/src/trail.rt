@@ -12,7 +12,7 @@ use crate::heard::Front;
 use crate::lists::{Hand, blank_lists};
 use crate::parts::{LYING, Parts};
 use crate::walk::{Room, Walk};
-use aodv_entry::Flag;
+use aodv_model::Flag;
 use mesh_base::{Done, Event, Mesh, NoMemory, Packet, Variant};
 use mesh_world::{StepError, Steps, World};
 use std::alloc::Global;

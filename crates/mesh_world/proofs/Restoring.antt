@@ -10,7 +10,7 @@ use Rattle.mesh_base.specs.declared.events.Flying.{Flying}
 use Rattle.mesh_base.specs.declared.events.Item as items
 use Rattle.mesh_base.specs.declared.events.Item.TheVariants as item
 use Rattle.mesh_base.specs.declared.events.Variant.{Variant}
-use Rattle.aodv_entry.specs.declared.entry.Entry.{Entry}
+use Rattle.aodv_model.specs.declared.entry.Entry.{Entry}
 use Rattle.aodv_model.specs.Tables.{Table}
 use Rattle.aodv_model.specs.Cores.{Message, Pkt, Rreq, Rrep, Rerr}
 use Rattle.aodv_model.specs.Soundness.{IsItemInMesh, IsMessageInMesh, IsSoundCore, IsStoreInMesh}

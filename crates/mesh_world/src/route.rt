@@ -4,7 +4,7 @@ ghost use Rattle.std.specs.FinMap as maps;
 ghost use Rattle.mesh_model.specs.Routes as model;
 ghost use Rattle.mesh_world.specs.Ends.{end_in, IsEndIn, AreOfWorld, InEachWorld};
 
-use aodv_entry::Flag;
+use aodv_model::Flag;
 use aodv_node::Node;
 
 /// Where a route ends.

@@ -1,8 +1,8 @@
 use Rattle.std.proofs.Common.{◌≡◌, true, refl, sym, ap, ◌∙◌}
-use Rattle.aodv_entry.specs.contracts.entry.Flag.{the_type}
-use Rattle.aodv_entry.specs.declared.entry.Flag.{Flag}
-use Rattle.aodv_entry.specs.declared.entry.Flag.TheVariants.{Val, Inv}
-use Rattle.aodv_entry.specs.Quality.{is_val}
+use Rattle.aodv_model.specs.contracts.entry.Flag.{the_type}
+use Rattle.aodv_model.specs.declared.entry.Flag.{Flag}
+use Rattle.aodv_model.specs.declared.entry.Flag.TheVariants.{Val, Inv}
+use Rattle.aodv_model.specs.Quality.{is_val}
 use Rattle.aodv_model.specs.Tables.{in_vD, is_valid_in}
 use Rattle.aodv_handlers.specs.Shown.{core_of, reply_of}
 use Rattle.aodv_handlers.proofs.Replies.{own_is}

@@ -1,7 +1,7 @@
 use Rattle.std.proofs.Common.{◌≡◌, ◌≤◌, ℕ, true, Option, ap, refl, sym, subst, ◌∙◌, length}
 use Rattle.std.proofs.lemmas.Bool.{ne_eqb}
 use Rattle.std.specs.FinMap as maps
-use Rattle.aodv_entry.specs.declared.entry.Entry.{Entry}
+use Rattle.aodv_model.specs.declared.entry.Entry.{Entry}
 use Rattle.aodv_model.specs.Tables.{Table, update, in_kD, sqn}
 use Rattle.aodv_model.specs.Cores.{Core}
 use Rattle.aodv_model.specs.Handlers.{only, neighbour_entry, route_entry}

@@ -1,6 +1,6 @@
 use Rattle.std.proofs.Common.{◌≡◌, ℕ, Option, Some, subst, sym, ap, refl, ◌∙◌, arith, length}
 use Rattle.std.specs.FinMap as maps
-use Rattle.aodv_entry.specs.declared.entry.Entry.{Entry}
+use Rattle.aodv_model.specs.declared.entry.Entry.{Entry}
 use Rattle.aodv_model.specs.Tables.{Table, add_pre}
 use Rattle.aodv_model.specs.Cores.{Core}
 use Rattle.aodv_model.specs.Handlers.{one, join_answer_precursors, reply_from_table}

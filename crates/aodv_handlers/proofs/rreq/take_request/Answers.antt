@@ -1,7 +1,7 @@
 use Rattle.std.proofs.Common.{◌≡◌, ℕ, Option, sym, ap, refl, subst, ◌∙◌, length}
 use Rattle.std.proofs.lemmas.Bool.{ne_eqb}
 use Rattle.std.specs.FinMap as maps
-use Rattle.aodv_entry.specs.declared.entry.Entry.{Entry}
+use Rattle.aodv_model.specs.declared.entry.Entry.{Entry}
 use Rattle.aodv_asked.specs.Requests.{RoomySeen}
 use Rattle.aodv_model.specs.Tables.{Table, update}
 use Rattle.aodv_model.specs.Cores.{Core}

@@ -11,7 +11,7 @@ use Rattle.mesh_text.specs.Schedule.{Moment, Does, world_of}
 use Rattle.mesh_text.specs.Effects.{outcome_lines}
 use Rattle.mesh_script.specs.Seen.{IsPrintable}
 use Rattle.mesh_script.specs.declared.line.Line.TheVariants as line
-use Rattle.mesh_moment.specs.Moments.{IsAnswer, IsRefusal}
+use Rattle.mesh_run.specs.Moments.{IsAnswer, IsRefusal}
 use Rattle.mesh_run.specs.Stops.{answer_of}
 use Rattle.mesh_run.specs.Runs.{IsLineOf, IsLineRun, line_outcome_at}
 use Rattle.mesh_run.specs.declared.stop.EventStop.{EventStop}

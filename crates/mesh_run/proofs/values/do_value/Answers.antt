@@ -1,6 +1,6 @@
 use Rattle.std.proofs.Common.{◌≡◌, ◌+◌, ◌≤◌, false, Result, sym, subst, arith}
 use Rattle.mesh_base.specs.declared.limits.TheConstants.{MOST_EVENTS}
-use Rattle.mesh_moment.specs.Sums.{IsGrown}
+use Rattle.mesh_run.specs.Sums.{IsGrown}
 use Rattle.mesh_script.specs.Seen.{accepted_of}
 use Rattle.mesh_shell.specs.Outputs.{IsLineRun}
 use Rattle.mesh_shell.specs.Story.{Outcome}

@@ -1,7 +1,7 @@
 use Rattle.std.proofs.Common.{◌≡◌, ◌<◌, ℕ, Some}
 use Rattle.std.specs.List.{flat_map}
 use Rattle.std.specs.FinMap as maps
-use Rattle.aodv_entry.specs.declared.entry.Entry.{Entry}
+use Rattle.aodv_model.specs.declared.entry.Entry.{Entry}
 use Rattle.mesh_checkpoint.specs.Points.{route_of}
 use Rattle.mesh_save.specs.Bytes.{route_bytes}
 use Rattle.mesh_save.specs.Narrow.{IsNarrowEntry}

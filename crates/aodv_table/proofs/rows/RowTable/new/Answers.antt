@@ -1,5 +1,5 @@
 use Rattle.std.proofs.Common.{◌≡◌, [], ◌∷◌, ◌++◌, Option, None, ap, ◌∙◌, arith}
-use Rattle.aodv_entry.specs.declared.entry.Entry.{Entry}
+use Rattle.aodv_model.specs.declared.entry.Entry.{Entry}
 use Rattle.aodv_model.specs.Tables.{Table}
 use Rattle.aodv_table.specs.Calls.{nodes_below}
 use Rattle.aodv_table.proofs.IndexLaws.{one_more, empty_more, new_indexed, empty_rows}

@@ -1,5 +1,5 @@
 use Rattle.std.proofs.Common.{◌≡◌, Option, slice_set, ap, sym, subst, ◌∙◌, arith}
-use Rattle.aodv_entry.specs.declared.entry.Entry.{Entry}
+use Rattle.aodv_model.specs.declared.entry.Entry.{Entry}
 use Rattle.aodv_table.specs.Calls.{with_entry}
 use Rattle.aodv_table.specs.Seen.{TableSeen}
 use Rattle.aodv_table.specs.Indexed.{entries_from, AreIndexed}

@@ -1,6 +1,6 @@
 use Rattle.std.proofs.Common.{◌≡◌, ◌<◌, ◌≤◌, ◌+◌, length, refl, sym, subst, arith, rules}
 use Rattle.std.proofs.lemmas.Option.{slice_get_read}
-use Rattle.aodv_entry.specs.declared.entry.Flag.TheVariants.{Val}
+use Rattle.aodv_model.specs.declared.entry.Flag.TheVariants.{Val}
 use Rattle.mesh_world.specs.Seen.{WorldSeen}
 use Rattle.mesh_trail.specs.Walks.{IsRouteWalk}
 use Rattle.mesh_trail.proofs.Nodes.{node_at, rows_at}

@@ -214,4 +214,3 @@ returns-clause-taken c =
           (of_ends _ between (with_item old.nodes to new) _ _ _ _ _ second);
       counted = c.tally_of_heard.ensures held.from held.bytes.now c.cast.result;
     }
-

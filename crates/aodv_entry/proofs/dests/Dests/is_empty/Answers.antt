@@ -1,5 +1,0 @@
-use Rattle.aodv_entry.proofs.RisingLaws.{empty_tested}
-use Rattle.aodv_entry.proofs.dests.Dests.is_empty.Goals as goal
-
-pub returns : goal.returns
-returns c = empty_tested c.self.inside.pairs.items c.args.self.now c.is_empty.result c.self.invariant c.self.view_is c.is_empty.ensures

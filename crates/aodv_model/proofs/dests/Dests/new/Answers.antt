@@ -1,0 +1,8 @@
+use Rattle.aodv_model.proofs.RisingLaws.{empty_if, entries_if}
+use Rattle.aodv_model.proofs.dests.Dests.new.Goals as goal
+
+pub returns-clause-map : goal.returns-clause-map
+returns-clause-map c = empty_if _ c.new.ensures
+
+pub returns-clause-entries : goal.returns-clause-entries
+returns-clause-entries c = entries_if _ c.new.ensures

@@ -1,5 +1,0 @@
-pub mod Counts
-pub mod OfVariant
-pub mod Sound
-pub mod AtOnce
-pub mod Choices

@@ -1,0 +1,325 @@
+-- What a turn, a send or a request casts has the walk that is stated for it.
+use Rattle.std.proofs.Common.{◌≡◌, ◌≢◌, ◌⊎◌, ℕ, ◌+◌, ◌≤◌, Bool, true, false, ◌||◌, not, ◌==◌, List, [], ◌∷◌, length, Some, None, Option, refl, ap, sym, ◌∙◌, subst, arith, inl, inr}
+use Rattle.std.specs.Prelude.{⊤, if◌then◌else◌, max, is_some}
+use Rattle.std.specs.List.{AllByRecursion}
+use Rattle.std.proofs.lemmas.Bool.{eqb-true}
+use Rattle.std.proofs.lemmas.Bool.Decides.{nat_tests}
+use Rattle.std.specs.Ordering.{eq_by_cmp, is_eq}
+use Rattle.std.specs.Cmp.{tied_itself}
+use Rattle.std.specs.FinMap as maps
+use Rattle.std.specs.FinSet as sets
+use Rattle.aodv_model.specs.Quality.{inc, is_kno}
+use Rattle.aodv_model.specs.declared.entry.Entry.{Entry}
+use Rattle.aodv_model.specs.declared.entry.Flag.TheVariants.{Val}
+use Rattle.aodv_model.specs.declared.entry.Known.TheVariants.{Kno}
+use Rattle.aodv_model.proofs.Entries.{if_case}
+use Rattle.aodv_model.proofs.Lookups.{get-update}
+use Rattle.aodv_model.proofs.PairLaws.{pair_cmp_total}
+use Rattle.aodv_model.proofs.Readings.{join_answer_alike, join_reply_alike, known_number, valid_flag}
+use Rattle.aodv_model.specs.Cores.{Body, Core, Message, Pkt, Rerr, RouteReply, RouteRequest, Rrep, Rreq, add, bodies_in, drop, has_seen}
+use Rattle.aodv_model.specs.Handlers.{All, Cast, Many, Nothing, One, Reaction, after_hearing, after_reply, after_request, ask, broken_by, can_answer, casting, is_stale, data_error, delivering, error_cast, first_body, forward_own_entry, forward_reply, forward_request, fresh_id, is_empty, is_error, join_answer_precursors, join_reply_precursors, key_of, link_broken, losing, losing_if_broken, on_message, on_new, on_new_rreq, on_pkt, on_rerr, on_rrep, on_rreq, only, plain, precs_of, reply_for_self, reply_from_table, reply_on, retract, route_entry, send, unicast, with_precs}
+use Rattle.aodv_model.specs.Pairs.{Pairs, pair_cmp}
+use Rattle.aodv_model.specs.Tables.{Dests, Table, accepted_unreachable, dhops, entry_after, hops_in, in_vD, is_valid_in, merge, nhop, number_in, sqn, sqnf, status_in, unreachable_by, update}
+use Rattle.mesh_base.specs.Members.{NodeIds}
+use Rattle.mesh_base.specs.declared.events.Variant.{Variant}
+use Rattle.mesh_base.specs.declared.events.Variant.TheVariants.{Base, Error, Number, Reply}
+use Rattle.mesh_model.proofs.Leads.{IsFine, Leads}
+use Rattle.mesh_model.proofs.Lists.{each_map}
+use Rattle.mesh_model.proofs.TrailTables.{stale_there}
+use Rattle.mesh_model.proofs.TrailTurns.{Begins, IsHere, front_absent, unseen, has_new, same_key, own_key}
+use Rattle.mesh_model.proofs.Turns.{IsFit, after_reply_leads, after_reply_reaches, after_request_leads, after_request_reaches, at_least_number, join_answer_leads, join_reply_leads, own_at_least}
+use Rattle.mesh_model.specs.Invariants.{AtLeast, IsAtLeast, IsHonest}
+use Rattle.mesh_model.specs.Trails.{Around, IsAbsent, front}
+use Rattle.mesh_model.specs.Worlds.{are_linked}
+use Rattle.mesh_trail.specs.Held.{EntriesHold, IsEntryWalk, IsRequestWalk, MessageHolds}
+use Rattle.mesh_trail.specs.Kept.{entries_after, own_list, sent_list}
+
+-- the list is the walk of what the core sends of d
+pub record SentBy (a : Around) (core : Core) (d n h : ℕ) (walk : List ℕ) : Type 0 where
+  pub others : List ℕ
+  pub is : walk ≡ core.ip ∷ others
+  pub begins : Begins a core d n others
+  pub long : length (core.ip ∷ others) ≡ h + 1
+
+pub record SentKeyed (a : Around) (core : Core) (d n h : ℕ) (key : ℕ × ℕ) (walk : List ℕ) : Type 0 where
+  pub others : List ℕ
+  pub is : walk ≡ core.ip ∷ others
+  pub begins : Begins a core d n others
+  pub long : length (core.ip ∷ others) ≡ h + 1
+  pub own : has_seen core.seen key ≡ true
+  pub keys : AllByRecursion (λ z. has_seen (a.seen z) key ≡ true) others
+
+abbrev pub IsSentBy : Around → Core → Message → List ℕ → Type 0
+IsSentBy a core (Pkt b d o) walk = ⊤
+IsSentBy a core (Rreq m) walk = SentKeyed a core m.oip m.osn m.hops (key_of a.variant m) walk
+IsSentBy a core (Rrep m) walk = SentBy a core m.dip m.dsn m.hops walk
+IsSentBy a core (Rerr dests) walk = ⊤
+
+abbrev pub CastHolds : Around → Core → (Message → List ℕ) → Cast → Type 0
+CastHolds a core list Nothing = ⊤
+CastHolds a core list (One y m) = IsSentBy a core m (list m)
+CastHolds a core list (Many s m) = IsSentBy a core m (list m)
+CastHolds a core list (All m) = IsSentBy a core m (list m)
+
+-- ---- breaks
+
+error_holds : (a : Around) (core : Core) (list : Message → List ℕ) (variant : Variant) (rt : Table) (dests : Dests) → CastHolds a core list (error_cast variant rt dests)
+unfolding error_cast
+error_holds a core list variant rt dests =
+    if_case (CastHolds a core list) (is_error variant) (if maps.len dests == 0 then Nothing else All (Rerr dests)) (if is_empty (precs_of rt dests) then Nothing else Many (precs_of rt dests) (Rerr (with_precs rt dests)))
+    (λ _. if_case (CastHolds a core list) (maps.len dests == 0) Nothing (All (Rerr dests)) (λ _. tt) (λ _. tt))
+    (λ _. if_case (CastHolds a core list) (is_empty (precs_of rt dests)) Nothing (Many (precs_of rt dests) (Rerr (with_precs rt dests))) (λ _. tt) (λ _. tt))
+
+retract_holds : (a : Around) (list : Message → List ℕ) (core : Core) (dests : Dests) → CastHolds a (retract core dests).core list ((retract core dests).effect).cast
+unfolding retract
+retract_holds a list core dests = error_holds a _ list core.variant core.rt dests
+
+broken_holds : (a : Around) (list : Message → List ℕ) (core : Core) (y : ℕ) → CastHolds a (broken_by y (link_broken core y)).core list ((broken_by y (link_broken core y)).effect).cast
+unfolding link_broken
+broken_holds a list core y = retract_holds a list core (unreachable_by core.rt y)
+
+-- ---- what is cast in a turn
+
+-- x has heard m with list l from y: where its lists are walks of its entries afterwards, what it casts has its walk
+abbrev pub Tells : Around → ℕ → ℕ → Message → List ℕ → (ℕ → List ℕ) → Reaction → Type 0
+Tells a x y m l walks did =
+    EntriesHold a x (did.core).rt (entries_after x y m l (did.core).rt walks) → CastHolds a did.core (sent_list x (entries_after x y m l (did.core).rt walks) m l) (did.effect).cast
+
+only_tells : (a : Around) (x y : ℕ) (m : Message) (l : List ℕ) (walks : ℕ → List ℕ) (core : Core) → Tells a x y m l walks (only core)
+only_tells a x y m l walks core = λ all. tt
+
+unicast_tells : (a : Around) (x y : ℕ) (m : Message) (l : List ℕ) (walks : ℕ → List ℕ) (core : Core) (sent : Message) (to : ℕ) (range : NodeIds)
+    → (EntriesHold a x core.rt (entries_after x y m l core.rt walks) → IsSentBy a core sent (sent_list x (entries_after x y m l core.rt walks) m l sent)) → Tells a x y m l walks (unicast core sent to range)
+unfolding unicast
+unicast_tells a x y m l walks core sent to range given =
+    if_case (Tells a x y m l walks) (sets.contains range to) (plain core (casting (One to sent))) (broken_by to (link_broken core to))
+    (λ _. given)
+    (λ _ all. broken_holds a _ core to)
+
+-- a node's own valid entry is a walk that it may send
+own_sent : (a : Around) (core : Core) (d : ℕ) (walks : ℕ → List ℕ) (o : Option Entry) → maps.get core.rt d ≡ o → EntriesHold a core.ip core.rt walks → is_valid_in o ≡ true → 1 ≤ number_in o → AtLeast core.rt d (number_in o) (hops_in o) → SentBy a core d (number_in o) (hops_in o) (walks d)
+own_sent a core d walks None is all valid one at = absurd (wrong valid)
+  where
+    wrong : false ≡ true → ⊥
+    wrong e = cc
+own_sent a core d walks (Some e) is all valid one at =
+    let t : IsEntryWalk a core.ip d e.dsn e.hops e.next (walks d) = all d e is (valid_flag e.flag valid) in
+    record { others = e.next ∷ t.others; is = t.is; begins = (t.linked, one, subst (AtLeast core.rt d e.dsn) (sym t.long) at, t.absent, t.backed); long = let l = t.long in omega arith }
+
+-- ---- requests
+
+reply_for_self_tells : (a : Around) (y : ℕ) (m : RouteRequest) (l : List ℕ) (walks : ℕ → List ℕ) (core : Core) (range : NodeIds) → (m.dip == core.ip) ≡ true → Tells a core.ip y (Rreq m) l walks (reply_for_self core range m)
+unfolding reply_for_self
+reply_for_self_tells a y m l walks core range own =
+    unicast_tells a core.ip y (Rreq m) l walks (record core { sn = max core.sn m.dsn }) (Rrep (record { hops = 0; dip = m.dip; dsn = max core.sn m.dsn; oip = m.oip })) (nhop core.rt m.oip) range
+    (λ all. record { others = []; is = rw own refl; begins = sym (eqb-true m.dip core.ip own); long = refl })
+
+reply_from_table_tells : (tables : ℕ → Table) (a : Around) (y : ℕ) (m : RouteRequest) (l : List ℕ) (walks : ℕ → List ℕ) (core : Core) (range : NodeIds) → IsFine tables core.rt → (m.dip == core.ip) ≡ false → can_answer core m ≡ true → Tells a core.ip y (Rreq m) l walks (reply_from_table core range y m)
+unfolding reply_from_table
+reply_from_table_tells tables a y m l walks core range fine other can =
+    let rt = join_answer_precursors core.rt m.dip m.oip y in
+    let leads : Leads tables core.rt rt = join_answer_leads tables core.rt m.dip m.oip y fine in
+    let valid : in_vD rt m.dip ≡ true = join_answer_alike is_valid_in core.rt m.dip m.oip y m.dip (λ e pre. refl) ∙ grind (arith, can) in
+    let known : is_kno (sqnf rt m.dip) ≡ true = join_answer_alike (λ o. is_kno (status_in o)) core.rt m.dip m.oip y m.dip (λ e pre. refl) ∙ grind (arith, can) in
+    unicast_tells a core.ip y (Rreq m) l walks (record core { rt = rt }) (Rrep (record { hops = dhops rt m.dip; dip = m.dip; dsn = sqn rt m.dip; oip = m.oip })) (nhop rt m.oip) range
+    (λ all. rw other (own_sent a (record core { rt = rt }) m.dip (entries_after core.ip y (Rreq m) l rt walks) (maps.get rt m.dip) refl all valid (known_number rt m.dip (maps.get rt m.dip) leads.fine.sound refl known) (own_at_least rt m.dip valid)))
+
+rreq_tells : (tables : ℕ → Table) (a : Around) (y : ℕ) (m : RouteRequest) (l : List ℕ) (walks : ℕ → List ℕ) (core : Core) (range : NodeIds) → IsFit tables core → IsHere a core → IsHonest (tables y) y (Rreq m) → are_linked a.ever y core.ip ≡ true
+    → IsRequestWalk a y m.oip m.osn m.hops (key_of a.variant m) l → Tells a core.ip y (Rreq m) l walks (on_rreq core range y m)
+unfolding on_rreq on_new_rreq after_request after_hearing forward_request
+rreq_tells tables a y m l walks core range fit here honest linked t =
+    let P : Reaction → Type 0 = Tells a core.ip y (Rreq m) l walks in
+    let key = key_of core.variant m in
+    let now = after_request core y m in
+    let leads : Leads tables core.rt now.rt = after_request_leads tables core y m fit.fine honest in
+    if_case P (has_seen core.seen key) (only (after_hearing core y)) (on_new_rreq now range y m)
+    (λ _ all. tt)
+    (λ new. if_case P (m.dip == core.ip) (reply_for_self now range m) (if can_answer now m then reply_from_table now range y m else forward_request now m)
+    (λ own. reply_for_self_tells a y m l walks now range own)
+    (λ other. if_case P (can_answer now m) (reply_from_table now range y m) (forward_request now m)
+    (λ can. reply_from_table_tells tables a y m l walks now range leads.fine other can)
+    (λ _ all.
+    let absent : IsAbsent core.ip (y ∷ t.others) = unseen a core key (y ∷ t.others) here new (subst (λ v. AllByRecursion (λ z. has_seen (a.seen z) (key_of v m) ≡ true) (y ∷ t.others)) (sym here.variant) t.keys) in
+    record {
+      others = y ∷ t.others;
+      is = ap (λ k. core.ip ∷ k) t.is;
+      begins = (linked, honest.0, subst (AtLeast now.rt m.oip m.osn) (sym t.long) (after_request_reaches core y m), front_absent core.ip (y ∷ t.others) absent, t.backed);
+      long = let l = t.long in omega arith;
+      own = subst (λ v. has_seen (sets.insert core.seen key) (key_of v (record m { hops = m.hops + 1; dsn = max (sqn now.rt m.dip) m.dsn })) ≡ true) here.variant (subst (λ k. has_seen (sets.insert core.seen key) k ≡ true) (sym (same_key core.variant m (m.hops + 1) (max (sqn now.rt m.dip) m.dsn))) (has_new core.seen key));
+      keys = subst (λ k. AllByRecursion (λ z. has_seen (a.seen z) k ≡ true) (y ∷ t.others)) (sym (same_key a.variant m (m.hops + 1) (max (sqn now.rt m.dip) m.dsn))) t.keys;
+    })))
+
+-- ---- replies
+
+-- an entry over another has the number and hops that came, or the other was as good
+record IsExact (e : Entry) (n h : ℕ) : Type 0 where
+  dsn : e.dsn ≡ n
+  hops : e.hops ≡ h
+  flag : e.flag ≡ Val
+
+exact_or : (s r : Entry) (n h : ℕ) → r.dsn ≡ n → r.hops ≡ h + 1 → r.flag ≡ Val → r.dsk ≡ Kno → (((merge s r).dsn ≡ n) × (((merge s r).hops ≡ h + 1) × ((merge s r).flag ≡ Val))) ⊎ IsAtLeast s n h
+unfolding merge
+exact_or s r n h dsn hops flag known = grind (arith, nat_tests)
+
+-- a reply that isn't stale leaves an entry with its number and hops
+fresh : (rt : Table) (d n h y : ℕ) (o : Option Entry) → maps.get rt d ≡ o → is_stale rt d (route_entry n h y) ≡ false → IsExact (entry_after o (route_entry n h y)) n (h + 1)
+fresh rt d n h y None is new = record { dsn = refl; hops = refl; flag = refl }
+fresh rt d n h y (Some s) is new = elim (exact_or s (route_entry n h y) n h refl refl refl refl) [
+  | inl p ↦ record { dsn = p.0; hops = p.1.0; flag = p.1.1 }
+  | inr least ↦ absurd (wrong (sym new ∙ stale_there rt d n h h y (record { entry = s; there = is; enough = least }) (omega arith)))
+]
+  where
+    wrong : false ≡ true → ⊥
+    wrong e = cc
+
+updated : (rt : Table) (d : ℕ) (r : Entry) → maps.get (update rt d r) d ≡ Some (entry_after (maps.get rt d) r)
+updated rt d r = grind (arith, nat_tests, get-update rt d r d)
+
+-- what the table says of d
+record Says (rt : Table) (d n h : ℕ) : Type 0 where
+  valid : in_vD rt d ≡ true
+  number : sqn rt d ≡ n
+  hops : dhops rt d ≡ h
+
+says_of : (rt : Table) (d n h : ℕ) (e : Entry) → maps.get rt d ≡ Some e → IsExact e n h → Says rt d n h
+says_of rt d n h e is exact = record { valid = rw (is, exact.flag) refl; number = rw is exact.dsn; hops = rw is exact.hops }
+
+forward_reply_tells : (a : Around) (y : ℕ) (m : RouteReply) (l : List ℕ) (walks : ℕ → List ℕ) (core : Core) (range : NodeIds) → 1 ≤ m.dsn → Says core.rt m.dip m.dsn (m.hops + 1) → Tells a core.ip y (Rrep m) l walks (forward_reply core range m)
+unfolding forward_reply
+forward_reply_tells a y m l walks core range one says =
+    let rt = join_reply_precursors core.rt m.dip m.oip in
+    let valid : in_vD rt m.dip ≡ true = join_reply_alike is_valid_in core.rt m.dip m.oip m.dip (λ e pre. refl) ∙ says.valid in
+    let number : sqn rt m.dip ≡ m.dsn = join_reply_alike number_in core.rt m.dip m.oip m.dip (λ e pre. refl) ∙ says.number in
+    let hops : dhops rt m.dip ≡ m.hops + 1 = join_reply_alike hops_in core.rt m.dip m.oip m.dip (λ e pre. refl) ∙ says.hops in
+    unicast_tells a core.ip y (Rrep m) l walks (record core { rt = rt }) (Rrep (record m { hops = m.hops + 1 })) (nhop rt m.oip) range
+    (λ all.
+    let walk : List ℕ = entries_after core.ip y (Rrep m) l rt walks m.dip in
+    let sent : SentBy a (record core { rt = rt }) m.dip (sqn rt m.dip) (dhops rt m.dip) walk = own_sent a (record core { rt = rt }) m.dip (entries_after core.ip y (Rrep m) l rt walks) (maps.get rt m.dip) refl all valid (omega arith) (own_at_least rt m.dip valid) in
+    subst (λ n. SentBy a (record core { rt = rt }) m.dip n (m.hops + 1) walk) number (subst (λ h. SentBy a (record core { rt = rt }) m.dip (sqn rt m.dip) h walk) hops sent))
+
+forward_own_entry_tells : (tables : ℕ → Table) (a : Around) (y : ℕ) (m : RouteReply) (l : List ℕ) (walks : ℕ → List ℕ) (core : Core) (range : NodeIds) → IsFine tables core.rt → 1 ≤ m.dsn → AtLeast core.rt m.dip m.dsn (m.hops + 1) → in_vD core.rt m.dip ≡ true → Tells a core.ip y (Rrep m) l walks (forward_own_entry core range m)
+unfolding forward_own_entry
+forward_own_entry_tells tables a y m l walks core range fine one at valid =
+    let rt = join_reply_precursors core.rt m.dip m.oip in
+    let leads : Leads tables core.rt rt = join_reply_leads tables core.rt m.dip m.oip fine in
+    let above : m.dsn ≤ sqn rt m.dip = at_least_number rt m.dip m.dsn (m.hops + 1) (leads.grows.keeps m.dip m.dsn (m.hops + 1) one at) in
+    let valid' : in_vD rt m.dip ≡ true = join_reply_alike is_valid_in core.rt m.dip m.oip m.dip (λ e pre. refl) ∙ valid in
+    unicast_tells a core.ip y (Rrep m) l walks (record core { rt = rt }) (Rrep (record m { hops = dhops rt m.dip; dsn = sqn rt m.dip })) (nhop rt m.oip) range
+    (λ all. own_sent a (record core { rt = rt }) m.dip (entries_after core.ip y (Rrep m) l rt walks) (maps.get rt m.dip) refl all valid' (omega arith) (own_at_least rt m.dip valid'))
+
+reply_tells : (tables : ℕ → Table) (a : Around) (y : ℕ) (m : RouteReply) (l : List ℕ) (walks : ℕ → List ℕ) (variant : Variant) (core : Core) (stale : Bool) (range : NodeIds) → IsFine tables core.rt → 1 ≤ m.dsn → AtLeast core.rt m.dip m.dsn (m.hops + 1)
+    → (stale ≡ false → Says core.rt m.dip m.dsn (m.hops + 1)) → Tells a core.ip y (Rrep m) l walks (reply_on variant core stale range m)
+reply_tells tables a y m l walks Base core stale range fine one at says = if_case (Tells a core.ip y (Rrep m) l walks) stale (only core) (forward_reply core range m) (λ _ all. tt) (λ e. forward_reply_tells a y m l walks core range one (says e))
+reply_tells tables a y m l walks Number core stale range fine one at says = if_case (Tells a core.ip y (Rrep m) l walks) stale (only core) (forward_reply core range m) (λ _ all. tt) (λ e. forward_reply_tells a y m l walks core range one (says e))
+reply_tells tables a y m l walks Error core stale range fine one at says = if_case (Tells a core.ip y (Rrep m) l walks) stale (only core) (forward_reply core range m) (λ _ all. tt) (λ e. forward_reply_tells a y m l walks core range one (says e))
+reply_tells tables a y m l walks Reply core stale range fine one at says = if_case (Tells a core.ip y (Rrep m) l walks) (in_vD core.rt m.dip) (forward_own_entry core range m) (only core) (λ valid. forward_own_entry_tells tables a y m l walks core range fine one at valid) (λ _ all. tt)
+
+rrep_tells : (tables : ℕ → Table) (a : Around) (y : ℕ) (m : RouteReply) (l : List ℕ) (walks : ℕ → List ℕ) (core : Core) (range : NodeIds) → IsFit tables core → IsHonest (tables y) y (Rrep m) → Tells a core.ip y (Rrep m) l walks (on_rrep core range y m)
+unfolding on_rrep after_reply after_hearing
+rrep_tells tables a y m l walks core range fit honest =
+    let P : Reaction → Type 0 = Tells a core.ip y (Rrep m) l walks in
+    let near = (after_hearing core y).rt in
+    let now = after_reply core y m in
+    let r : Entry = route_entry m.dsn m.hops y in
+    let leads : Leads tables core.rt now.rt = after_reply_leads tables core y m fit.fine honest in
+    let stale = is_stale near m.dip r in
+    if_case P ((m.oip == core.ip) || not (in_vD now.rt m.oip)) (only now) (reply_on core.variant now stale range m)
+    (λ _ all. tt)
+    (λ _. reply_tells tables a y m l walks core.variant now stale range leads.fine honest.0 (after_reply_reaches core y m)
+    (λ new. says_of now.rt m.dip m.dsn (m.hops + 1) (entry_after (maps.get near m.dip) r) (updated near m.dip r) (fresh near m.dip m.dsn m.hops y (maps.get near m.dip) refl new)))
+
+-- ---- the rest
+
+rerr_tells : (a : Around) (y : ℕ) (dests : Dests) (l : List ℕ) (walks : ℕ → List ℕ) (core : Core) → Tells a core.ip y (Rerr dests) l walks (on_rerr core y dests)
+unfolding on_rerr
+rerr_tells a y dests l walks core = λ all. retract_holds a _ (after_hearing core y) (accepted_unreachable (after_hearing core y).rt y dests)
+
+data_error_holds : (a : Around) (core now : Core) (list : Message → List ℕ) (d : ℕ) → CastHolds a now list (data_error core d)
+unfolding data_error
+data_error_holds a core now list d = grind arith
+
+pkt_tells : (a : Around) (y : ℕ) (l : List ℕ) (walks : ℕ → List ℕ) (core : Core) (range : NodeIds) (b : Body) (d o : ℕ) → Tells a core.ip y (Pkt b d o) l walks (on_pkt core range b d o)
+unfolding on_pkt
+pkt_tells a y l walks core range b d o =
+    let P : Reaction → Type 0 = Tells a core.ip y (Pkt b d o) l walks in
+    if_case P (d == core.ip) (plain core delivering) (if in_vD core.rt d then losing_if_broken (unicast core (Pkt b d o) (nhop core.rt d) range) else losing (plain core (casting (data_error core d))))
+    (λ _ all. tt)
+    (λ _. if_case P (in_vD core.rt d) (losing_if_broken (unicast core (Pkt b d o) (nhop core.rt d) range)) (losing (plain core (casting (data_error core d))))
+    (λ _. unicast_tells a core.ip y (Pkt b d o) l walks core (Pkt b d o) (nhop core.rt d) range (λ all. tt))
+    (λ _ all. data_error_holds a core core _ d))
+
+pub message_tells : (tables : ℕ → Table) (a : Around) (y : ℕ) (m : Message) (l : List ℕ) (walks : ℕ → List ℕ) (core : Core) (range : NodeIds) → IsFit tables core → IsHere a core → IsHonest (tables y) y m → are_linked a.ever y core.ip ≡ true → MessageHolds a y m l → Tells a core.ip y m l walks (on_message core range y m)
+message_tells tables a y (Pkt b d o) l walks core range fit here honest linked t = pkt_tells a y l walks core range b d o
+message_tells tables a y (Rreq m) l walks core range fit here honest linked t = rreq_tells tables a y m l walks core range fit here honest linked t
+message_tells tables a y (Rrep m) l walks core range fit here honest linked t = rrep_tells tables a y m l walks core range fit honest
+message_tells tables a y (Rerr dests) l walks core range fit here honest linked t = rerr_tells a y dests l walks core
+
+-- a datum that is given casts nothing
+pub new_holds : (a : Around) (list : Message → List ℕ) (core : Core) (b : Body) (d : ℕ) → CastHolds a (on_new core b d).core list ((on_new core b d).effect).cast
+unfolding on_new
+new_holds a list core b d =
+    if_case (λ (did : Reaction). CastHolds a did.core list (did.effect).cast) (d == core.ip) (plain core delivering) (only (record core { store = add core.store d b }))
+    (λ _. tt) (λ _. tt)
+
+-- ---- of a node's own accord
+
+-- nothing is said of the walk of a data packet or a route error
+abbrev IsPlain : Message → Type 0
+IsPlain (Pkt b d o) = ⊤
+IsPlain (Rreq m) = ⊥
+IsPlain (Rrep m) = ⊥
+IsPlain (Rerr dests) = ⊤
+
+plain_sent : (a : Around) (core : Core) (m : Message) (walk : List ℕ) → IsPlain m → IsSentBy a core m walk
+plain_sent a core (Pkt b d o) walk is = tt
+plain_sent a core (Rreq m) walk is = absurd is
+plain_sent a core (Rrep m) walk is = absurd is
+plain_sent a core (Rerr dests) walk is = tt
+
+abbrev IsPlainCast : Cast → Type 0
+IsPlainCast Nothing = ⊤
+IsPlainCast (One y m) = IsPlain m
+IsPlainCast (Many s m) = IsPlain m
+IsPlainCast (All m) = IsPlain m
+
+plain_holds : (a : Around) (core : Core) (list : Message → List ℕ) (c : Cast) → IsPlainCast c → CastHolds a core list c
+plain_holds a core list Nothing is = tt
+plain_holds a core list (One y m) is = plain_sent a core m (list m) is
+plain_holds a core list (Many s m) is = plain_sent a core m (list m) is
+plain_holds a core list (All m) is = plain_sent a core m (list m) is
+
+error_plain : (variant : Variant) (rt : Table) (dests : Dests) → IsPlainCast (error_cast variant rt dests)
+unfolding error_cast
+error_plain variant rt dests =
+    if_case IsPlainCast (is_error variant) (if maps.len dests == 0 then Nothing else All (Rerr dests)) (if is_empty (precs_of rt dests) then Nothing else Many (precs_of rt dests) (Rerr (with_precs rt dests)))
+    (λ _. if_case IsPlainCast (maps.len dests == 0) Nothing (All (Rerr dests)) (λ _. tt) (λ _. tt))
+    (λ _. if_case IsPlainCast (is_empty (precs_of rt dests)) Nothing (Many (precs_of rt dests) (Rerr (with_precs rt dests))) (λ _. tt) (λ _. tt))
+
+abbrev IsPlainDone : Reaction → Type 0
+IsPlainDone did = IsPlainCast (did.effect).cast
+
+send_plain : (core : Core) (range : NodeIds) (d : ℕ) → IsPlainDone (send core range d)
+unfolding send unicast link_broken retract
+send_plain core range d =
+    let m : Message = Pkt (first_body (bodies_in (maps.get core.store d))) d core.ip in
+    let y = nhop core.rt d in
+    let did = unicast core m y range in
+    let sent : IsPlainDone did = if_case IsPlainDone (sets.contains range y) (plain core (casting (One y m))) (broken_by y (link_broken core y)) (λ _. tt) (λ _. error_plain core.variant core.rt (unreachable_by core.rt y)) in
+    if_case IsPlainDone (is_some (did.effect).broken) did (record did { core = record (did.core) { store = drop (did.core).store d } }) (λ _. sent) (λ _. sent)
+
+pub send_holds : (a : Around) (list : Message → List ℕ) (core : Core) (range : NodeIds) (d : ℕ) → CastHolds a (send core range d).core list ((send core range d).effect).cast
+send_holds a list core range d = plain_holds a (send core range d).core list ((send core range d).effect).cast (send_plain core range d)
+
+asking : Core → ℕ → RouteRequest
+asking core d = record { hops = 0; id = fresh_id core.variant core; dip = d; dsn = sqn core.rt d; dsk = sqnf core.rt d; oip = core.ip; osn = inc core.sn }
+
+pub ask_holds : (a : Around) (core : Core) (d : ℕ) → IsHere a core → CastHolds a (ask core d).core (own_list core.ip) ((ask core d).effect).cast
+unfolding ask asking
+ask_holds a core d here = record {
+  others = [];
+  is = refl;
+  begins = refl;
+  long = refl;
+  own = subst (λ v. has_seen (sets.insert core.seen (core.ip, fresh_id core.variant core)) (key_of v (asking core d)) ≡ true) here.variant (subst (λ k. has_seen (sets.insert core.seen (core.ip, fresh_id core.variant core)) k ≡ true) (sym (own_key core.variant core (asking core d) refl refl refl)) (has_new core.seen (core.ip, fresh_id core.variant core)));
+  keys = tt;
+}

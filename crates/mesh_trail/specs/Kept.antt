@@ -1,0 +1,171 @@
+-- The walks that are kept as lists, and what each event does to them. A list has its holder first
+-- and its destination last. A node that hears a request or a reply gets the list beside it; so it
+-- knows the way that its new route goes.
+use Rattle.std.specs.Prelude.{ℕ, ◌+◌, ◌==◌, Bool, false, ◌&&◌, nat_le, if◌then◌else◌, Option, Some, None, List, [], ◌∷◌, ◌++◌, drop, slice_get}
+use Rattle.std.specs.FinMap as maps
+use Rattle.aodv_model.specs.declared.entry.Entry.{Entry}
+use Rattle.aodv_model.specs.Tables.{Table}
+use Rattle.aodv_model.specs.Cores.{Message, Pkt, Rreq, Rrep, Rerr, Item, New, Heard}
+use Rattle.mesh_model.specs.Walks.{table}
+use Rattle.mesh_model.specs.Worlds as worlds
+use Rattle.mesh_model.specs.Worlds.{World, Node, Copy, Event, Give, Turn, Send, Ask, Link, Cut, Deliver, Lose, Double, Outcome, Idle, Next, Happening, Changed, Taken, Sent, CopyHeard, CopyLost, CopyDoubled, is_parcel, step}
+
+-- the lists of each node's entry for each destination; of the items of each node's queue; and of
+-- the copy of each id. The list of what is no request or reply, of an entry that isn't valid, and
+-- of a copy that doesn't fly says nothing
+pub record KeptLists : Type 0 where
+  pub entries : ℕ → ℕ → List ℕ
+  pub queues : ℕ → List (List ℕ)
+  pub flying : ℕ → List ℕ
+
+-- none yet
+abbrev pub nothing_kept : KeptLists
+nothing_kept = record { entries = λ x d. []; queues = λ x. []; flying = λ id. [] }
+
+-- ---- changes
+
+-- v at x, and elsewhere as before
+abbrev pub changed_at : {A : Type 0} → (ℕ → A) → ℕ → A → ℕ → A
+changed_at f x v y = if y == x then v else f y
+
+-- this list from that id on, and before it as it was
+abbrev pub from_id_on : (ℕ → List ℕ) → ℕ → List ℕ → ℕ → List ℕ
+from_id_on flying first list id = if nat_le first id then list else flying id
+
+-- the first of the lists
+abbrev pub first_list : List (List ℕ) → List ℕ
+first_list [] = []
+first_list (l ∷ ls) = l
+
+-- ---- what a node learns
+
+-- the entry for q leads to the neighbour y itself
+abbrev pub is_near : ℕ → ℕ → Entry → Bool
+is_near y q e = (q == y) && ((e.hops == 1) && (e.next == y))
+
+-- the entry for q has this number, a hop more than h, and leads by y
+abbrev pub is_route : ℕ → ℕ → ℕ → ℕ → ℕ → Entry → Bool
+is_route y d n h q e = (q == d) && ((e.dsn == n) && ((e.hops == h + 1) && (e.next == y)))
+
+-- the entry for q is the route that a message from y tells of: a request of its originator, a reply
+-- of its destination
+abbrev pub is_told : ℕ → Message → ℕ → Entry → Bool
+is_told y (Pkt b d o) q e = false
+is_told y (Rreq m) q e = is_route y m.oip m.osn m.hops q e
+is_told y (Rrep m) q e = is_route y m.dip m.dsn m.hops q e
+is_told y (Rerr dests) q e = false
+
+-- x has heard m with list l from y, and this is its entry for q: it leads to y; or it is the route
+-- that m told of, and its walk is the message's, with x in front; or it is what it was
+abbrev pub entry_list : ℕ → ℕ → Message → List ℕ → ℕ → List ℕ → Option Entry → List ℕ
+entry_list x y m l q kept None = kept
+entry_list x y m l q kept (Some e) =
+    if is_near y q e then x ∷ y ∷ [] else if is_told y m q e then x ∷ l else kept
+
+-- the lists of x's entries, once its table is that; data teach nothing
+abbrev pub entries_after : ℕ → ℕ → Message → List ℕ → Table → (ℕ → List ℕ) → ℕ → List ℕ
+entries_after x y m l now kept q =
+    if is_parcel m then kept q else entry_list x y m l q (kept q) (maps.get now q)
+
+-- ---- what a node casts
+
+-- x replies to a request, or passes a reply on: of itself it has no way to go, else it has that of
+-- its entry
+abbrev pub reply_list : ℕ → (ℕ → List ℕ) → Message → List ℕ
+reply_list x entries (Pkt b d o) = []
+reply_list x entries (Rreq m) = if m.dip == x then x ∷ [] else entries m.dip
+reply_list x entries (Rrep m) = entries m.dip
+reply_list x entries (Rerr dests) = []
+
+-- x, with these lists of its entries, has heard a message with list l, and casts another: a request
+-- that it passes on has x in front
+abbrev pub sent_list : ℕ → (ℕ → List ℕ) → Message → List ℕ → Message → List ℕ
+sent_list x entries heard l (Pkt b d o) = []
+sent_list x entries heard l (Rreq m) = x ∷ l
+sent_list x entries heard l (Rrep m) = reply_list x entries heard
+sent_list x entries heard l (Rerr dests) = []
+
+-- x casts of its own accord: a request of its own
+abbrev pub own_list : ℕ → Message → List ℕ
+own_list x (Pkt b d o) = []
+own_list x (Rreq m) = x ∷ []
+own_list x (Rrep m) = []
+own_list x (Rerr dests) = []
+
+-- the copies of a cast all have the list of its message
+abbrev pub with_copies : (ℕ → List ℕ) → (Message → List ℕ) → List Copy → ℕ → List ℕ
+with_copies flying list [] = flying
+with_copies flying list (c ∷ cs) = from_id_on flying c.id (list c.message)
+
+-- ---- events
+
+-- x has taken this item from the front of its queue, made these copies, and its table is now that
+abbrev pub after_item : ℕ → Table → Item → List Copy → KeptLists → KeptLists
+after_item x now (New b d) copies k =
+    record k {
+      queues = changed_at k.queues x (drop 1 (k.queues x));
+      flying = with_copies k.flying
+          (own_list x) copies;
+    }
+after_item x now (Heard y m) copies k =
+    let l = first_list (k.queues x) in
+    let entries = entries_after x y m l now (k.entries x) in
+    record {
+      entries = changed_at k.entries x entries;
+      queues = changed_at k.queues x (drop 1 (k.queues x));
+      flying = with_copies k.flying (sent_list x entries m l) copies;
+    }
+
+-- the front of the queue
+abbrev pub after_front : ℕ → Table → List Item → List Copy → KeptLists → KeptLists
+after_front x now [] copies k = k
+after_front x now (item ∷ items) copies k = after_item x now item copies k
+
+abbrev pub after_turn : ℕ → Table → Option Node → List Copy → KeptLists → KeptLists
+after_turn x now None copies k = k
+after_turn x now (Some n) copies k = after_front x now n.queue copies k
+
+-- the copies that were made
+abbrev pub copies_in : Happening → List Copy
+copies_in (Taken taken effect copies) = copies
+copies_in (Sent effect copies) = copies
+copies_in others = []
+
+-- the list joins those of x's queue
+abbrev pub with_item : KeptLists → ℕ → List ℕ → KeptLists
+with_item k x l = record k { queues = changed_at k.queues x (k.queues x ++ l ∷ []) }
+
+-- a copy is heard with its list
+abbrev pub after_delivery : ℕ → Happening → KeptLists → KeptLists
+after_delivery id (CopyHeard from to) k = with_item k to (k.flying id)
+after_delivery id others k = k
+
+-- a doubled copy has the list of its first copy
+abbrev pub after_doubling : ℕ → Happening → KeptLists → KeptLists
+after_doubling id (CopyDoubled new to parcel) k =
+    record k { flying = from_id_on k.flying new (k.flying id) }
+after_doubling id others k = k
+
+-- the lists after an event that led from the world w to the world w'
+abbrev pub after_event : World → World → Event → Happening → KeptLists → KeptLists
+after_event w w' (Give x d b) h k = with_item k x []
+after_event w w' (Turn x) h k = after_turn x (table w' x) (slice_get w.nodes x) (copies_in h) k
+after_event w w' (Send x d) h k =
+    record k { flying = with_copies k.flying (own_list x) (copies_in h) }
+after_event w w' (Ask x d) h k =
+    record k { flying = with_copies k.flying (own_list x) (copies_in h) }
+after_event w w' (Link a b) h k = k
+after_event w w' (Cut a b) h k = k
+after_event w w' (Deliver id) h k = after_delivery id h k
+after_event w w' (Lose id) h k = k
+after_event w w' (Double id) h k = after_doubling id h k
+
+-- an event that is idle or refused changes none
+abbrev pub walked_by : World → Event → Outcome → KeptLists → KeptLists
+walked_by w e Idle k = k
+walked_by w e (worlds.Full x f) k = k
+walked_by w e (Next w' h) k = after_event w w' e h k
+
+-- the lists after an event
+unfoldable pub lists_after : World → Event → KeptLists → KeptLists
+lists_after w e k = walked_by w e (step w e) k

@@ -1,5 +1,0 @@
-use Rattle.mesh_walks.proofs.Turned as lemmas
-use Rattle.mesh_walks.proofs.laws.start_holds.Goals as goal
-
-pub returns : goal.returns
-returns c = lemmas.start_holds
