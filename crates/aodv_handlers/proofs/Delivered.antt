@@ -23,7 +23,7 @@ use Rattle.aodv_model.proofs.Changes.{Raises, accepted_raises}
 use Rattle.aodv_model.proofs.PlacedTables.{accepted_below}
 use Rattle.aodv_model.proofs.SoundTables.{neighbour_table}
 use Rattle.aodv_wire.specs.declared.message.Message.TheVariants as messages
-use Rattle.aodv_wire.specs.Spells.{Spells, spelling}
+use Rattle.aodv_wire.specs.Encodes.{Encodes, encoding}
 use Rattle.aodv_meaning.specs.Meaning.{dests_in, strange_pair}
 use Rattle.aodv_meaning.specs.Sent.{IsSent, IsPacket, pairs_of, addr}
 use Rattle.aodv_meaning.specs.Effects.{cast_of}
@@ -41,7 +41,7 @@ one_pair mesh d n a is =
     (λ i. (record { 0 = is i }, n) ∷ []) ∙ ap (map (λ e. (addr mesh e.0, e.1))) (sym alone)
 
 pub error_packet : (mesh : Nodes) (core : Core) (d : ℕ) (e : Entry) (a : Addr) (out : List ℕ) → maps.get core.rt d ≡ Some e → (not (is_val e.flag) && (is_error core.variant || not (is_empty e.pre))) ≡ true → a.0 ≡ addr_at mesh d
-    → out ≡ spelling (messages.Rerr ((a, e.dsn) ∷ [])) → Spells out (messages.Rerr ((a, e.dsn) ∷ [])) → IsPacket mesh out (data_error core d)
+    → out ≡ encoding (messages.Rerr ((a, e.dsn) ∷ [])) → Encodes out (messages.Rerr ((a, e.dsn) ∷ [])) → IsPacket mesh out (data_error core d)
 unfolding data_error
 error_packet mesh core d e a out is both at w s =
     let parts = and_parts (not (is_val e.flag)) (is_error core.variant || not (is_empty e.pre)) both in

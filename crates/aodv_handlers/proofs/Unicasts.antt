@@ -18,7 +18,7 @@ use Rattle.aodv_model.specs.Handlers.{plain, unicast, link_broken, retract, on_n
 use Rattle.aodv_model.specs.Fullness.{turn_full}
 use Rattle.aodv_model.proofs.FullNumbers.{raised_past}
 use Rattle.aodv_wire.specs.declared.message.Message.TheVariants as messages
-use Rattle.aodv_wire.specs.Spells.{Spells, spelling}
+use Rattle.aodv_wire.specs.Encodes.{Encodes, encoding}
 use Rattle.aodv_meaning.specs.Meaning.{status_of}
 use Rattle.aodv_meaning.specs.Sent.{IsSent, IsPacket, out_of}
 use Rattle.aodv_table.specs.Calls.{is_past}
@@ -62,17 +62,17 @@ near_made mesh core m y range effect out near is sent = rw near (record { free =
 pub same_address : (a : Addr) (n : ℕ) → a.0 ≡ n → a ≡ record { 0 = n }
 same_address a n e = λ i. record { 0 = e i }
 
-pub sent_same : (mesh : Nodes) (out : List ℕ) (m : Message) (m' : _) → m' ≡ out_of mesh m → out ≡ spelling m' → Spells out m' → IsSent mesh out m
-sent_same mesh out m m' is w s = record { written = w ∙ ap spelling is; spells = subst (Spells out) is s }
+pub sent_same : (mesh : Nodes) (out : List ℕ) (m : Message) (m' : _) → m' ≡ out_of mesh m → out ≡ encoding m' → Encodes out m' → IsSent mesh out m
+sent_same mesh out m m' is w s = record { written = w ∙ ap encoding is; encodes = subst (Encodes out) is s }
 
 pub sent_reply : (mesh : Nodes) (out : List ℕ) (m : RouteReply) (dip oip : Addr) → dip.0 ≡ addr_at mesh m.dip → oip.0 ≡ addr_at mesh m.oip
-    → out ≡ spelling (messages.Rrep (record { hops = m.hops; dip = dip; dsn = m.dsn; oip = oip })) → Spells out (messages.Rrep (record { hops = m.hops; dip = dip; dsn = m.dsn; oip = oip })) → IsSent mesh out (Rrep m)
+    → out ≡ encoding (messages.Rrep (record { hops = m.hops; dip = dip; dsn = m.dsn; oip = oip })) → Encodes out (messages.Rrep (record { hops = m.hops; dip = dip; dsn = m.dsn; oip = oip })) → IsSent mesh out (Rrep m)
 sent_reply mesh out m dip oip d o w s =
     sent_same mesh out (Rrep m) (messages.Rrep (record { hops = m.hops; dip = dip; dsn = m.dsn; oip = oip }))
     (λ i. messages.Rrep (record { hops = m.hops; dip = record { 0 = d i }; dsn = m.dsn; oip = record { 0 = o i } })) w s
 
 pub sent_datum : (mesh : Nodes) (out : List ℕ) (body : Body) (d o : ℕ) (dip oip : Addr) → dip.0 ≡ addr_at mesh d → oip.0 ≡ addr_at mesh o
-    → out ≡ spelling (messages.Parcel (record { dip = dip; oip = oip; body = body })) → Spells out (messages.Parcel (record { dip = dip; oip = oip; body = body })) → IsSent mesh out (Pkt body d o)
+    → out ≡ encoding (messages.Parcel (record { dip = dip; oip = oip; body = body })) → Encodes out (messages.Parcel (record { dip = dip; oip = oip; body = body })) → IsSent mesh out (Pkt body d o)
 sent_datum mesh out body d o dip oip d_is o_is w s =
     sent_same mesh out (Pkt body d o) (messages.Parcel (record { dip = dip; oip = oip; body = body }))
     (λ i. messages.Parcel (record { dip = record { 0 = d_is i }; oip = record { 0 = o_is i }; body = body })) w s
@@ -82,8 +82,8 @@ status_back true = refl
 status_back false = refl
 
 pub sent_request : (mesh : Nodes) (out : List ℕ) (hops id dip dsn dsn' oip osn : ℕ) (known : Bool) (to from : Addr) → to.0 ≡ addr_at mesh dip → from.0 ≡ addr_at mesh oip → dsn' ≡ dsn
-    → out ≡ spelling (messages.Rreq (record { hops = hops; id = id; dip = to; dsn = dsn'; known = known; oip = from; osn = osn }))
-    → Spells out (messages.Rreq (record { hops = hops; id = id; dip = to; dsn = dsn'; known = known; oip = from; osn = osn }))
+    → out ≡ encoding (messages.Rreq (record { hops = hops; id = id; dip = to; dsn = dsn'; known = known; oip = from; osn = osn }))
+    → Encodes out (messages.Rreq (record { hops = hops; id = id; dip = to; dsn = dsn'; known = known; oip = from; osn = osn }))
     → IsSent mesh out (Rreq (record { hops = hops; id = id; dip = dip; dsn = dsn; dsk = status_of known; oip = oip; osn = osn }))
 sent_request mesh out hops id dip dsn dsn' oip osn known to from d o n w s =
     sent_same mesh out (Rreq (record { hops = hops; id = id; dip = dip; dsn = dsn; dsk = status_of known; oip = oip; osn = osn }))

@@ -30,7 +30,7 @@ use Rattle.aodv_wire.specs.RouteRequest as rreq
 use Rattle.aodv_wire.specs.RouteReply as rrep
 use Rattle.aodv_wire.specs.RouteError as rerr
 use Rattle.aodv_wire.specs.DataPacket as packet
-use Rattle.aodv_wire.specs.Spells.{message_in_fields, kind, refusal}
+use Rattle.aodv_wire.specs.Encodes.{message_in_fields, kind, refusal}
 use Rattle.aodv_meaning.specs.Meaning.{status_of, index, pair_by_index, dests_in, in_mesh, meaning, unless_in, strange_pair, stranger}
 use Rattle.aodv_meaning.specs.Sent.{pair_by_address, out_of, pairs_of, IsSent}
 
@@ -131,7 +131,7 @@ no_stranger mesh (Rerr dests) is all = no_strange_pair mesh (maps.entries dests)
 pub sent_means : (mesh : Nodes) (b : List ℕ) (m : Message) → IsMesh mesh → IsMessageInMesh (length mesh) m → IsSent mesh b m → (meaning mesh b ≡ m) × (stranger mesh (message_in_fields b) ≡ None)
 unfolding meaning
 sent_means mesh b m is all sent =
-    let e = (sent.spells).stands in
+    let e = (sent.encodes).stands in
     (ap (in_mesh mesh) e ∙ message_back mesh m is all, ap (stranger mesh) e ∙ no_stranger mesh m is all)
 
 -- ---- strangers

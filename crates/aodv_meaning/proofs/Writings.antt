@@ -28,7 +28,7 @@ use Rattle.aodv_wire.specs.RouteReply as rrep
 use Rattle.aodv_wire.specs.RouteError as rerr
 use Rattle.aodv_wire.specs.RouteError.{IsRising, AreDestinations}
 use Rattle.aodv_wire.specs.DataPacket as packet
-use Rattle.aodv_wire.specs.Spells.{message_in_fields, kind, refusal, spelling}
+use Rattle.aodv_wire.specs.Encodes.{message_in_fields, kind, refusal, encoding}
 use Rattle.aodv_wire.proofs.Pairs.{length_pairs}
 use Rattle.aodv_meaning.specs.Meaning.{status_of, index, pair_by_index, dests_in, in_mesh, meaning, strange_pair, stranger, unless_in}
 use Rattle.aodv_meaning.specs.Sent.{addr, pair_by_address, out_of, pairs_of, IsSent, IsWritable, IsAsWritten}
@@ -163,8 +163,8 @@ unfolding meaning
 sent_of mesh b is w =
     let back = said_back mesh (message_in_fields b) is w.known w.writable in
     record {
-      written = w.same ∙ ap spelling (sym back);
-      spells = record { allowed = w.allowed; stands = sym back };
+      written = w.same ∙ ap encoding (sym back);
+      encodes = record { allowed = w.allowed; stands = sym back };
     }
 
 -- ---- destinations of the mesh can be written
@@ -287,12 +287,12 @@ has_pair b h = pair_by_kind b (eqb (length b) 0) (eqb (kind b) 1) (eqb (kind b) 
 as_written : (mesh : Nodes) (b : List ℕ) → IsMesh mesh → 1 ≤ length mesh → IsSent mesh b (meaning mesh b) → IsAsWritten mesh b
 unfolding meaning
 as_written mesh b is some sent =
-    let stands = (sent.spells).stands in
+    let stands = (sent.encodes).stands in
     record {
-      allowed = (sent.spells).allowed;
+      allowed = (sent.encodes).allowed;
       known = ap (stranger mesh) stands ∙ none_strange mesh (message_in_fields b) is some;
-      writable = writable_of mesh (message_in_fields b) is some (has_pair b (sent.spells).allowed) stands;
-      same = sent.written ∙ ap spelling (sym stands);
+      writable = writable_of mesh (message_in_fields b) is some (has_pair b (sent.encodes).allowed) stands;
+      same = sent.written ∙ ap encoding (sym stands);
     }
 
 pub written_is_sent : (mesh : Nodes) (b : List ℕ) → IsMesh mesh → 1 ≤ length mesh → IsAsWritten mesh b ↔ IsSent mesh b (meaning mesh b)

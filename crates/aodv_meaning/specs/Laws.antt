@@ -3,7 +3,7 @@ use Rattle.std.specs.Prelude.{◌≡◌, ◌≤◌, ◌↔◌, ℕ, List, None, 
 use Rattle.mesh_base.specs.Meshes.{Nodes, IsMesh}
 use Rattle.aodv_model.specs.Cores.{Message}
 use Rattle.aodv_model.specs.Soundness.{IsMessageInMesh}
-use Rattle.aodv_wire.specs.Spells.{refusal, message_in_fields}
+use Rattle.aodv_wire.specs.Encodes.{refusal, message_in_fields}
 use Rattle.aodv_meaning.specs.Meaning.{meaning, stranger}
 use Rattle.aodv_meaning.specs.Sent.{IsSent, IsAsWritten}
 
@@ -14,7 +14,7 @@ SentMeans =
     → IsSent mesh b m
     → (meaning mesh b ≡ m) × (stranger mesh (message_in_fields b) ≡ None)
 
--- bytes that spell a message which names nobody outside the mesh mean a message of the mesh
+-- bytes that encode a message which names nobody outside the mesh mean a message of the mesh
 abbrev pub SpelledIsInMesh : Type 0
 SpelledIsInMesh =
     (mesh : Nodes) (b : List ℕ) → refusal b ≡ None → stranger mesh (message_in_fields b) ≡ None

@@ -12,7 +12,7 @@ use Rattle.aodv_wire.specs.declared.route_request.Rreq as rreq
 use Rattle.aodv_wire.specs.declared.route_reply.Rrep as rrep
 use Rattle.aodv_wire.specs.declared.message.Message as wire
 use Rattle.aodv_wire.specs.declared.message.Message.TheVariants as messages
-use Rattle.aodv_wire.specs.Spells.{message_in_fields}
+use Rattle.aodv_wire.specs.Encodes.{message_in_fields}
 
 -- ---- over indices
 

@@ -13,7 +13,7 @@ use Rattle.aodv_wire.specs.declared.route_reply.Rrep as rrep
 use Rattle.aodv_wire.specs.declared.message.Message as wire
 use Rattle.aodv_wire.specs.declared.message.Message.TheVariants as messages
 use Rattle.aodv_wire.specs.RouteError.{AreDestinations}
-use Rattle.aodv_wire.specs.Spells.{Spells, refusal, message_in_fields, spelling}
+use Rattle.aodv_wire.specs.Encodes.{Encodes, refusal, message_in_fields, encoding}
 use Rattle.aodv_meaning.specs.Meaning.{stranger}
 
 abbrev pub addr : Nodes → ℕ → Addr
@@ -49,10 +49,10 @@ out_of mesh (Rerr dests) = messages.Rerr (pairs_of mesh dests)
 out_of mesh (Pkt b d o) =
     messages.Parcel (record { dip = addr mesh d; oip = addr mesh o; body = b })
 
--- the bytes are what is written of the message, and spell it
+-- the bytes are what is written of the message, and encode it
 pub record IsSent (mesh : Nodes) (b : List ℕ) (m : Message) : Type 0 where
-  pub written : b ≡ spelling (out_of mesh m)
-  pub spells : Spells b (out_of mesh m)
+  pub written : b ≡ encoding (out_of mesh m)
+  pub encodes : Encodes b (out_of mesh m)
 
 -- a message that can be written: of the route errors those whose addresses rise, few enough for a
 -- mesh
@@ -62,13 +62,13 @@ IsWritable (messages.Rrep m) = ⊤
 IsWritable (messages.Rerr pairs) = AreDestinations pairs
 IsWritable (messages.Parcel p) = ⊤
 
--- bytes as a node of the mesh writes them: they spell a message that names nodes of the mesh only
+-- bytes as a node of the mesh writes them: they encode a message that names nodes of the mesh only
 -- and can be written, and they are what is written of it
 pub record IsAsWritten (mesh : Nodes) (b : List ℕ) : Type 0 where
   pub allowed : refusal b ≡ None
   pub known : stranger mesh (message_in_fields b) ≡ None
   pub writable : IsWritable (message_in_fields b)
-  pub same : b ≡ spelling (message_in_fields b)
+  pub same : b ≡ encoding (message_in_fields b)
 
 -- the packet of a cast: none, or what is written of its message
 abbrev pub IsPacket : Nodes → List ℕ → Cast → Type 0

@@ -11,7 +11,7 @@ pub fn spelled_is_in_mesh()
     ensures { SpelledIsInMesh }
 {}
 
-/// Bytes are sent of what they mean exactly where they spell a message of the mesh and are what is
+/// Bytes are sent of what they mean exactly where they encode a message of the mesh and are what is
 /// written of it: what a reader can test.
 pub fn written_is_sent()
     ensures { WrittenIsSent }

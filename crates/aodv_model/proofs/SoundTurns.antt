@@ -1,4 +1,4 @@
--- Each turn, send and request keeps the core in order, and casts only messages that a packet of the mesh can spell.
+-- Each turn, send and request keeps the core in order, and casts only messages that a packet of the mesh can encode.
 use Rattle.std.proofs.Common.{◌≡◌, ◌≢◌, ℕ, ◌+◌, ◌<◌, ◌≤◌, Bool, true, false, cond, ◌&&◌, ◌||◌, not, ◌==◌, Some, None, refl, ap, sym, ◌∙◌, subst, arith}
 use Rattle.std.specs.Prelude.{if◌then◌else◌, max, is_some}
 use Rattle.std.specs.Ordering.{nat_cmp}

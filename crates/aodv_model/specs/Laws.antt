@@ -24,7 +24,7 @@ FullNumber =
 
 -- ---- every handler keeps a core in order, whatever the messages are that it is told: each
 -- message that a packet of
--- the mesh can spell, from another node, also one that no node of the mesh would send
+-- the mesh can encode, from another node, also one that no node of the mesh would send
 
 -- a node that has done nothing yet is in order
 abbrev pub OpeningIsSound : Type 0

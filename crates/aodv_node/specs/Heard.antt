@@ -10,7 +10,7 @@ use Rattle.aodv_model.specs.Tables.{Table}
 use Rattle.aodv_model.specs.Cores.{Body, Core, Item, Heard}
 use Rattle.aodv_model.specs.Handlers.{turn}
 use Rattle.aodv_model.specs.Fullness.{turn_full}
-use Rattle.aodv_wire.specs.Spells.{refusal, message_in_fields}
+use Rattle.aodv_wire.specs.Encodes.{refusal, message_in_fields}
 use Rattle.aodv_meaning.specs.Meaning.{meaning, stranger}
 use Rattle.aodv_handlers.specs.declared.cores.Core as cores
 use Rattle.aodv_handlers.specs.Shown.{core_of}

@@ -13,7 +13,7 @@ use Rattle.mesh_base.specs.declared.events.Took.TheVariants as takes
 use Rattle.aodv_model.specs.Cores.{Core, Item, New, Heard, Pkt, Rreq, Rrep, Rerr}
 use Rattle.aodv_model.specs.Handlers.{turn, Took, Own, Stored, FromNeighbour, took}
 use Rattle.aodv_model.specs.Fullness.{turn_full}
-use Rattle.aodv_wire.specs.Spells.{refusal, message_in_fields}
+use Rattle.aodv_wire.specs.Encodes.{refusal, message_in_fields}
 use Rattle.aodv_meaning.specs.Meaning.{stranger}
 use Rattle.aodv_meaning.specs.Effects.{item_in, kind_of}
 use Rattle.aodv_handlers.specs.Made.{IsMade}
@@ -24,7 +24,7 @@ use Rattle.aodv_node.specs.Seen.{NodeSeen}
 
 -- ---- items
 
--- the bytes spell a message, and it names nodes of the mesh only
+-- the bytes encode a message, and it names nodes of the mesh only
 pub record IsReadable (mesh : Nodes) (bytes : List ℕ) : Type 0 where
   pub allowed : refusal bytes ≡ None
   pub known : stranger mesh (message_in_fields bytes) ≡ None

@@ -18,7 +18,7 @@ pub enum TurnError {
     /// The inbox is empty.
     #[error("nothing waits")]
     Idle,
-    /// The bytes from that node spell no message. They are taken.
+    /// The bytes from that node encode no message. They are taken.
     #[error("a packet that can't be read")]
     Unreadable { from: usize, why: WireError },
     /// The message from that node names an address outside the mesh, the first in the packet's

@@ -12,7 +12,7 @@ use Rattle.aodv_model.specs.Soundness.{IsDatum}
 use Rattle.aodv_wire.specs.declared.error.WireError.{WireError}
 use Rattle.aodv_wire.specs.declared.message.Message as wire
 use Rattle.aodv_wire.specs.declared.message.Message.TheVariants as messages
-use Rattle.aodv_wire.specs.Spells.{refusal, message_in_fields}
+use Rattle.aodv_wire.specs.Encodes.{refusal, message_in_fields}
 use Rattle.aodv_node.specs.declared.answers.TurnDone as done
 use Rattle.aodv_router.specs.declared.outcome.Outcome.{Outcome}
 use Rattle.aodv_router.specs.declared.outcome.Casting.{Casting}

@@ -62,7 +62,7 @@ pub enum TurnError {
     /// The inbox is empty.
     #[error("nothing waits")]
     Idle,
-    /// The bytes from that address spell no message. They are taken.
+    /// The bytes from that address encode no message. They are taken.
     #[error("a packet that can't be read")]
     Unreadable { from: u32, why: WireError },
     /// The message from that address names an address outside the mesh, the first in the packet's

@@ -9,7 +9,7 @@ use Rattle.aodv_wire.specs.RouteRequest as rreq
 use Rattle.aodv_wire.specs.RouteReply as rrep
 use Rattle.aodv_wire.specs.RouteError as rerr
 use Rattle.aodv_wire.specs.DataPacket as data_packet
-use Rattle.aodv_wire.specs.Spells.{kind, refusal, message_in_fields}
+use Rattle.aodv_wire.specs.Encodes.{kind, refusal, message_in_fields}
 
 abbrev pub AreBytes : List ℕ → Type 0
 AreBytes b = (k : ℕ) → slice_index b k < 256

@@ -1,4 +1,4 @@
--- What is written, line by line, and that it spells its message.
+-- What is written, line by line, and that it encodes its message.
 use Rattle.std.proofs.Common.{◌≡◌, ℕ, suc, ◌+◌, ◌*◌, ◌/◌, ◌%◌, ◌^◌, ◌<◌, ◌≤◌, Bool, true, false, cond, eqb, List, [], ◌∷◌, ◌++◌, length, get_or, None, refl, ap, ◌∙◌, eq-eqb, arith}
 use Rattle.std.proofs.lemmas.Bool.{ne_eqb, le-ltb}
 use Rattle.std.proofs.lemmas.List.{length-append}
@@ -14,7 +14,7 @@ use Rattle.aodv_wire.specs.RouteRequest as rreq
 use Rattle.aodv_wire.specs.RouteReply as rrep
 use Rattle.aodv_wire.specs.RouteError as rerr
 use Rattle.aodv_wire.specs.DataPacket as data_packet
-use Rattle.aodv_wire.specs.Spells.{Spells, kind, spelling}
+use Rattle.aodv_wire.specs.Encodes.{Encodes, kind, encoding}
 use Rattle.aodv_wire.proofs.Repeats.{AllBelow, AllBelow-push, not_seen}
 use Rattle.aodv_wire.proofs.Lines.{refusal_rreq, refusal_rrep, refusal_rerr, refusal_data, said_rreq, said_rrep, said_rerr, said_data}
 
@@ -46,8 +46,8 @@ rreq_first : (known : Bool) (hops n : ℕ) → hops < 256 → n ≡ 16777216 + c
 rreq_first true hops n h is = line_octets n 1 0 0 hops (omega arith) (omega arith) (omega arith) h (omega arith)
 rreq_first false hops n h is = line_octets n 1 8 0 hops (omega arith) (omega arith) (omega arith) h (omega arith)
 
-pub rreq_written : (m : code_rreq.Rreq) → m.hops < 256 → spelling (Rreq m) ≡ rreq_cells m
-unfolding spelling
+pub rreq_written : (m : code_rreq.Rreq) → m.hops < 256 → encoding (Rreq m) ≡ rreq_cells m
+unfolding encoding
 rreq_written m h =
     let l0 : line_of rreq.table (rreq.value m) 0 rreq.fields ≡ 16777216 + cond m.known 0 1 * 524288 + m.hops = omega arith in
     let l1 : line_of rreq.table (rreq.value m) 1 rreq.fields ≡ m.id = omega arith in
@@ -62,8 +62,8 @@ rreq_written m h =
 abbrev pub rrep_cells : code_rrep.Rrep → List ℕ
 rrep_cells m = (2 ∷ 0 ∷ 0 ∷ m.hops ∷ []) ++ big_bytes 4 m.dip.0 ++ big_bytes 4 m.dsn ++ big_bytes 4 m.oip.0 ++ big_bytes 4 4294967295
 
-pub rrep_written : (m : code_rrep.Rrep) → m.hops < 256 → spelling (Rrep m) ≡ rrep_cells m
-unfolding spelling
+pub rrep_written : (m : code_rrep.Rrep) → m.hops < 256 → encoding (Rrep m) ≡ rrep_cells m
+unfolding encoding
 rrep_written m h =
     let l0 : big_bytes 4 (line_of rrep.table (rrep.value m) 0 rrep.fields) ≡ 2 ∷ 0 ∷ 0 ∷ m.hops ∷ [] = line_octets _ 2 0 0 m.hops (omega arith) (omega arith) (omega arith) h (omega arith) in
     let l1 : line_of rrep.table (rrep.value m) 1 rrep.fields ≡ m.dip.0 = omega arith in
@@ -77,14 +77,14 @@ rrep_written m h =
 abbrev pub data_cells : data_packet.Datum → List ℕ
 data_cells m = (16 ∷ 0 ∷ 0 ∷ 0 ∷ []) ++ big_bytes 4 m.dip.0 ++ big_bytes 4 m.oip.0 ++ m.body
 
-pub data_written : (m : data_packet.Datum) → spelling (Parcel m) ≡ data_cells m
-unfolding spelling
+pub data_written : (m : data_packet.Datum) → encoding (Parcel m) ≡ data_cells m
+unfolding encoding
 data_written m =
     let l1 : line_of data_packet.table (data_packet.value m.dip m.oip) 1 data_packet.fields ≡ m.dip.0 = omega arith in
     let l2 : line_of data_packet.table (data_packet.value m.dip m.oip) 2 data_packet.fields ≡ m.oip.0 = omega arith in
     rw (l1, l2) refl
 
--- ---- they spell
+-- ---- they encode
 
 -- the first line of what is written of a request
 record RreqFirst (known : Bool) (hops line : ℕ) : Type 0 where
@@ -100,8 +100,8 @@ rreq_line : (known : Bool) (hops line : ℕ) → hops < 256 → line ≡ 1 * 167
 rreq_line true hops line h is = record { kind = omega arith; j = omega arith; r = omega arith; g = omega arith; d = omega arith; u = eq-eqb _ 0 (omega arith); last = omega arith }
 rreq_line false hops line h is = record { kind = omega arith; j = omega arith; r = omega arith; g = omega arith; d = omega arith; u = ne_eqb _ 0 (λ e. omega arith); last = omega arith }
 
-pub rreq_spells : (m : code_rreq.Rreq) → m.hops < 256 → m.id < 2 ^ 32 → m.dip.0 < 2 ^ 32 → m.dsn < 2 ^ 32 → m.oip.0 < 2 ^ 32 → m.osn < 2 ^ 32 → 1 ≤ m.osn → Spells (rreq_cells m) (Rreq m)
-rreq_spells m hh hid hdip hdsn hoip hosn some =
+pub rreq_encodes : (m : code_rreq.Rreq) → m.hops < 256 → m.id < 2 ^ 32 → m.dip.0 < 2 ^ 32 → m.dsn < 2 ^ 32 → m.oip.0 < 2 ^ 32 → m.osn < 2 ^ 32 → 1 ≤ m.osn → Encodes (rreq_cells m) (Rreq m)
+rreq_encodes m hh hid hdip hdsn hoip hosn some =
     let b = rreq_cells m in
     let first = rreq_line m.known m.hops (big_from 0 4 b) hh refl in
     let l1 : number_at b (place 1 0 32) ≡ m.id = ap (λ (n : ℕ). n / 1 % 2 ^ 32) (big_number-reads_back 4 m.id [] hid) ∙ omega arith in
@@ -114,8 +114,8 @@ rreq_spells m hh hid hdip hdsn hoip hosn some =
       stands = said_rreq b first.kind ∙ rw (first.last, first.u, l1, l2, l3, l4, l5) refl;
     }
 
-pub rrep_spells : (m : code_rrep.Rrep) → m.hops < 256 → m.dip.0 < 2 ^ 32 → m.dsn < 2 ^ 32 → m.oip.0 < 2 ^ 32 → 1 ≤ m.dsn → Spells (rrep_cells m) (Rrep m)
-rrep_spells m hh hdip hdsn hoip some =
+pub rrep_encodes : (m : code_rrep.Rrep) → m.hops < 256 → m.dip.0 < 2 ^ 32 → m.dsn < 2 ^ 32 → m.oip.0 < 2 ^ 32 → 1 ≤ m.dsn → Encodes (rrep_cells m) (Rrep m)
+rrep_encodes m hh hdip hdsn hoip some =
     let b = rrep_cells m in
     let k : kind b ≡ 2 = omega arith in
     let r : number_at b (place 0 8 1) ≡ 0 = omega arith in
@@ -130,8 +130,8 @@ rrep_spells m hh hdip hdsn hoip some =
       stands = said_rrep b k ∙ rw (last, l1, l2, l3) refl;
     }
 
-pub data_spells : (m : data_packet.Datum) → m.dip.0 < 2 ^ 32 → m.oip.0 < 2 ^ 32 → 1 ≤ length m.body → length m.body ≤ 512 → Spells (data_cells m) (Parcel m)
-data_spells m hdip hoip some few =
+pub data_encodes : (m : data_packet.Datum) → m.dip.0 < 2 ^ 32 → m.oip.0 < 2 ^ 32 → 1 ≤ length m.body → length m.body ≤ 512 → Encodes (data_cells m) (Parcel m)
+data_encodes m hdip hoip some few =
     let b = data_cells m in
     let long : length b ≡ 12 + length m.body = omega arith in
     let k : kind b ≡ 16 = refl in
@@ -160,8 +160,8 @@ pairs_are : (ps : List (Addr × ℕ)) → flat_map rerr.pair_bytes ps ≡ flat_m
 pairs_are [] = refl
 pairs_are (p ∷ ps) = both _ _ _ _ (pair_is p) (pairs_are ps)
 
-pub rerr_written : (ps : List (Addr × ℕ)) → length ps < 256 → spelling (Rerr ps) ≡ rerr_cells ps
-unfolding spelling
+pub rerr_written : (ps : List (Addr × ℕ)) → length ps < 256 → encoding (Rerr ps) ≡ rerr_cells ps
+unfolding encoding
 rerr_written ps few =
     let first : big_bytes 4 (line_of rerr.table (rerr.value (length ps)) 0 rerr.fields) ≡ 3 ∷ 0 ∷ 0 ∷ length ps ∷ [] = line_octets _ 3 0 0 (length ps) (omega arith) (omega arith) (omega arith) few (omega arith) in
     both _ _ _ _ (both _ _ [] [] first refl) (pairs_are ps)
@@ -196,8 +196,8 @@ pairs_again (p ∷ ps) fits =
     let second : number_at all (place 1 0 32) ≡ p.1 = ap (λ (n : ℕ). n / 1 % 2 ^ 32) (big_number-reads_back 4 p.1 [] fits.0.1) ∙ omega (arith, fits.0.1) in
     rw (first, second, pairs_again ps fits.1) refl
 
-pub rerr_spells : (ps : List (Addr × ℕ)) → rerr.AreDestinations ps → AllByRecursion PairFits ps → Spells (rerr_cells ps) (Rerr ps)
-rerr_spells ps dests fits =
+pub rerr_encodes : (ps : List (Addr × ℕ)) → rerr.AreDestinations ps → AllByRecursion PairFits ps → Encodes (rerr_cells ps) (Rerr ps)
+rerr_encodes ps dests fits =
     let b = rerr_cells ps in
     let few = dests.few in
     let some = dests.some in

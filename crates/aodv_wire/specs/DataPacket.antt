@@ -43,7 +43,7 @@ datum b = record {
   body = drop 12 b;
 }
 
--- why bytes of this type spell no datum: the first line that applies
+-- why bytes of this type encode no datum: the first line that applies
 abbrev pub refusal : List ℕ → Option WireError
 refusal b = first_of (
     -- three lines, and a body of 1 to 512 bytes

@@ -7,7 +7,7 @@ use Rattle.aodv_wire.specs.RouteRequest as rreq
 use Rattle.aodv_wire.specs.RouteReply as rrep
 use Rattle.aodv_wire.specs.RouteError as rerr
 use Rattle.aodv_wire.specs.DataPacket as data_packet
-use Rattle.aodv_wire.specs.Spells.{Spells}
+use Rattle.aodv_wire.specs.Encodes.{Encodes}
 
 -- each bit of a packet belongs to one field of its table
 pub record EachBitOnce : Type 0 where
@@ -17,9 +17,9 @@ pub record EachBitOnce : Type 0 where
   pub pair : IsTrue (is_whole rerr.pair_table rerr.pair_fields 0 64)
   pub datum : IsTrue (is_whole data_packet.table data_packet.fields 0 96)
 
--- a list of bytes spells at most one message
-abbrev pub SpellsOne : Type 0
-SpellsOne = (b : List ℕ) (m n : Message) → Spells b m → Spells b n → m ≡ n
+-- a list of bytes encodes at most one message
+abbrev pub EncodesOne : Type 0
+EncodesOne = (b : List ℕ) (m n : Message) → Encodes b m → Encodes b n → m ≡ n
 
 -- no two of these addresses are the same
 abbrev pub AreDistinct : List Addr → Type 0

@@ -11,7 +11,7 @@ pub mod RouteReply
 pub mod RouteError
 -- the same of a data packet
 pub mod DataPacket
--- which bytes spell which message
-pub mod Spells
+-- which bytes encode which message
+pub mod Encodes
 -- what holds of these definitions
 pub mod Laws

@@ -72,7 +72,7 @@ addresses ps = map (λ p. p.0) ps
 abbrev pub repeated_address : List (Addr × ℕ) → Option Addr
 repeated_address ps = first_repeated [] (addresses ps)
 
--- why bytes of this type spell no route error: the first line that applies
+-- why bytes of this type encode no route error: the first line that applies
 abbrev pub refusal : List ℕ → Option WireError
 refusal b = first_of (
     -- 5.3: one line, and two for each of DestCount destinations

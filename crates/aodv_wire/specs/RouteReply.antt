@@ -46,7 +46,7 @@ reply b = record {
   oip = record { 0 = value_in b OriginatorAddress };
 }
 
--- why bytes of this type spell no reply: the first line that applies
+-- why bytes of this type encode no reply: the first line that applies
 abbrev pub refusal : List ℕ → Option WireError
 refusal b = first_of (
     -- 5.2: five lines

@@ -53,7 +53,7 @@ request b = record {
   osn = value_in b OriginatorNumber;
 }
 
--- why bytes of this type spell no request: the first line that applies
+-- why bytes of this type encode no request: the first line that applies
 abbrev pub refusal : List ℕ → Option WireError
 refusal b = first_of (
     -- 5.1: six lines

@@ -1,7 +1,7 @@
 //! This project's packet of a datum. Its view borrows the packet that it was read from.
 ghost use Rattle.std.specs.Prelude.{◌≡◌, ◌<◌, ◌≤◌, length, Some, MatchResult};
-ghost use Rattle.aodv_wire.specs.Spells.{Spells, is_data, refusal, spelling};
-ghost use Rattle.aodv_wire.specs.Spells as packets;
+ghost use Rattle.aodv_wire.specs.Encodes.{Encodes, is_data, refusal, encoding};
+ghost use Rattle.aodv_wire.specs.Encodes as packets;
 ghost use Rattle.aodv_wire.specs.declared.message.Message.TheVariants.{Parcel as a_parcel};
 
 use crate::error::WireError;
@@ -69,11 +69,11 @@ pub fn is_data(packet: &[u8]) -> bool
 }
 
 /// Reads a packet of that type.
-#[tactic(auto, unfolding(crate::specs::Spells::refusal, crate::specs::Spells::message_in_fields))]
+#[tactic(auto, unfolding(crate::specs::Encodes::refusal, crate::specs::Encodes::message_in_fields))]
 pub(crate) fn read_data(bytes: &[u8]) -> Result<Message<'_>, WireError>
     requires some { 0 < length bytes.now }
     requires kind { packets.kind bytes.now ≡ 16 }
-    ensures { MatchResult result (Spells bytes.now) (λ e. refusal bytes.now ≡ Some e) }
+    ensures { MatchResult result (Encodes bytes.now) (λ e. refusal bytes.now ≡ Some e) }
 {
     if bytes.len() <= HEAD || bytes.len() > HEAD + LONGEST_DATUM {
         return Err(WireError::WrongLength);
@@ -94,8 +94,8 @@ pub fn write_data(dip: Addr, oip: Addr, body: &[u8], out: &mut Packet)
     requires some { 1 ≤ length body.now }
     requires few { length body.now ≤ LONGEST_DATUM }
     ensures written { out.new.items
-        ≡ spelling (a_parcel (record { dip = dip; oip = oip; body = body.now })) }
-    ensures spells { Spells out.new.items
+        ≡ encoding (a_parcel (record { dip = dip; oip = oip; body = body.now })) }
+    ensures encodes { Encodes out.new.items
         (a_parcel (record { dip = dip; oip = oip; body = body.now })) }
 {
     out.clear();

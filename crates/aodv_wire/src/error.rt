@@ -2,7 +2,7 @@
 use mesh_base::Addr;
 use thiserror::Error;
 
-/// Why bytes spell no message: the first reason that applies, in this order.
+/// Why bytes encode no message: the first reason that applies, in this order.
 #[derive(Clone, Copy, Debug, PartialEq, Eq, Error)]
 pub enum WireError {
     /// There is no byte.

@@ -1,14 +1,14 @@
 //! What holds of the definitions: functions that do nothing, whose contracts are the laws.
-ghost use Rattle.aodv_wire.specs.Laws.{EachBitOnce, SpellsOne, RepeatedIsFirst, OthersAreDistinct};
+ghost use Rattle.aodv_wire.specs.Laws.{EachBitOnce, EncodesOne, RepeatedIsFirst, OthersAreDistinct};
 
 /// Each bit of a packet belongs to exactly one field of its table.
 pub fn each_bit_once()
     ensures { EachBitOnce }
 {}
 
-/// A list of bytes spells at most one message.
+/// A list of bytes encodes at most one message.
 pub fn one_message()
-    ensures { SpellsOne }
+    ensures { EncodesOne }
 {}
 
 /// The address of a refusal is the first that stands earlier too; where no address is refused, they

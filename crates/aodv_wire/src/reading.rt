@@ -1,7 +1,7 @@
 //! Reading a packet of any type.
 ghost use Rattle.std.specs.Prelude.{◌≡◌, Some, Ok, MatchResult};
 ghost use Rattle.aodv_wire.specs.declared.message.Message.{Message as a_message};
-ghost use Rattle.aodv_wire.specs.Spells.{Spells, refusal};
+ghost use Rattle.aodv_wire.specs.Encodes.{Encodes, refusal};
 
 use crate::data_packet::{DATA, read_data};
 use crate::error::WireError;
@@ -11,13 +11,13 @@ use crate::route_error::{ERROR, read_rerr};
 use crate::route_reply::{REPLY, read_rrep};
 use crate::route_request::{REQUEST, read_rreq};
 
-/// The message that the bytes spell, or the first reason why they spell none. Any bytes may come.
-#[tactic(auto, unfolding(crate::specs::Spells::refusal))]
+/// The message that the bytes encode, or the first reason why they encode none. Any bytes may come.
+#[tactic(auto, unfolding(crate::specs::Encodes::refusal))]
 #[inline(always)]
 pub fn read(bytes: &[u8]) -> Result<Message<'_>, WireError>
-    ensures exact { MatchResult result (Spells bytes.now) (λ e. refusal bytes.now ≡ Some e) }
-    // whatever message the bytes spell, that one is the answer
-    ensures only { (m : a_message) → Spells bytes.now m → result ≡ Ok m }
+    ensures exact { MatchResult result (Encodes bytes.now) (λ e. refusal bytes.now ≡ Some e) }
+    // whatever message the bytes encode, that one is the answer
+    ensures only { (m : a_message) → Encodes bytes.now m → result ≡ Ok m }
 {
     if bytes.is_empty() {
         return Err(WireError::Short);

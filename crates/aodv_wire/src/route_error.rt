@@ -2,8 +2,8 @@
 ghost use Rattle.std.specs.Prelude.{◌≡◌, ◌<◌, ◌≤◌, ◌==◌, length, slice_get, take, Some, MatchResult};
 ghost use Rattle.std.specs.List.{list_any};
 ghost use Rattle.aodv_wire.specs.RouteError.{addresses, repeated_address, AreDestinations};
-ghost use Rattle.aodv_wire.specs.Spells.{Spells, refusal, spelling};
-ghost use Rattle.aodv_wire.specs.Spells as packets;
+ghost use Rattle.aodv_wire.specs.Encodes.{Encodes, refusal, encoding};
+ghost use Rattle.aodv_wire.specs.Encodes as packets;
 ghost use Rattle.aodv_wire.specs.declared.message.Message.TheVariants.{Rerr as a_rerr};
 
 use crate::error::WireError;
@@ -110,11 +110,11 @@ impl RerrView<'_> {
 }
 
 /// Reads a packet of that type.
-#[tactic(auto, unfolding(crate::specs::Spells::refusal, crate::specs::Spells::message_in_fields))]
+#[tactic(auto, unfolding(crate::specs::Encodes::refusal, crate::specs::Encodes::message_in_fields))]
 pub(crate) fn read_rerr(bytes: &[u8]) -> Result<Message<'_>, WireError>
     requires some { 0 < length bytes.now }
     requires kind { packets.kind bytes.now ≡ 3 }
-    ensures { MatchResult result (Spells bytes.now) (λ e. refusal bytes.now ≡ Some e) }
+    ensures { MatchResult result (Encodes bytes.now) (λ e. refusal bytes.now ≡ Some e) }
 {
     let len = bytes.len();
     if len < FIRST_LINE {
@@ -141,8 +141,8 @@ pub(crate) fn read_rerr(bytes: &[u8]) -> Result<Message<'_>, WireError>
 /// Writes a route error in place of what `out` held: RFC 3561 section 5.3. The addresses rise.
 pub fn write_rerr(pairs: &[(Addr, u32)], out: &mut Packet)
     requires { AreDestinations pairs.now }
-    ensures written { out.new.items ≡ spelling (a_rerr pairs.now) }
-    ensures spells { Spells out.new.items (a_rerr pairs.now) }
+    ensures written { out.new.items ≡ encoding (a_rerr pairs.now) }
+    ensures encodes { Encodes out.new.items (a_rerr pairs.now) }
 {
     out.clear();
     put_first_line(out, ERROR, 0, pairs.len() as u8);

@@ -1,7 +1,7 @@
 //! The route reply: RFC 3561 section 5.2.
 ghost use Rattle.std.specs.Prelude.{◌≡◌, ◌<◌, ◌≤◌, length, Some, MatchResult};
-ghost use Rattle.aodv_wire.specs.Spells.{Spells, refusal, spelling};
-ghost use Rattle.aodv_wire.specs.Spells as packets;
+ghost use Rattle.aodv_wire.specs.Encodes.{Encodes, refusal, encoding};
+ghost use Rattle.aodv_wire.specs.Encodes as packets;
 ghost use Rattle.aodv_wire.specs.declared.message.Message.TheVariants.{Rrep as a_rrep};
 
 use crate::error::WireError;
@@ -35,11 +35,11 @@ pub struct Rrep {
 }
 
 /// Reads a packet of that type.
-#[tactic(auto, unfolding(crate::specs::Spells::refusal, crate::specs::Spells::message_in_fields))]
+#[tactic(auto, unfolding(crate::specs::Encodes::refusal, crate::specs::Encodes::message_in_fields))]
 pub(crate) fn read_rrep(bytes: &[u8]) -> Result<Message<'_>, WireError>
     requires some { 0 < length bytes.now }
     requires kind { packets.kind bytes.now ≡ 2 }
-    ensures { MatchResult result (Spells bytes.now) (λ e. refusal bytes.now ≡ Some e) }
+    ensures { MatchResult result (Encodes bytes.now) (λ e. refusal bytes.now ≡ Some e) }
 {
     if bytes.len() != LENGTH {
         return Err(WireError::WrongLength);
@@ -63,8 +63,8 @@ pub(crate) fn read_rrep(bytes: &[u8]) -> Result<Message<'_>, WireError>
 /// longest.
 pub fn write_rrep(m: &Rrep, out: &mut Packet)
     requires { 1 ≤ m.now.dsn }
-    ensures written { out.new.items ≡ spelling (a_rrep m.now) }
-    ensures spells { Spells out.new.items (a_rrep m.now) }
+    ensures written { out.new.items ≡ encoding (a_rrep m.now) }
+    ensures encodes { Encodes out.new.items (a_rrep m.now) }
 {
     out.clear();
     put_first_line(out, REPLY, 0, m.hops);

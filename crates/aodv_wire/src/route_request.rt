@@ -1,7 +1,7 @@
 //! The route request: RFC 3561 section 5.1.
 ghost use Rattle.std.specs.Prelude.{◌≡◌, ◌<◌, ◌≤◌, length, Some, MatchResult};
-ghost use Rattle.aodv_wire.specs.Spells.{Spells, refusal, spelling};
-ghost use Rattle.aodv_wire.specs.Spells as packets;
+ghost use Rattle.aodv_wire.specs.Encodes.{Encodes, refusal, encoding};
+ghost use Rattle.aodv_wire.specs.Encodes as packets;
 ghost use Rattle.aodv_wire.specs.declared.message.Message.TheVariants.{Rreq as a_rreq};
 
 use crate::error::WireError;
@@ -36,11 +36,11 @@ pub struct Rreq {
 }
 
 /// Reads a packet of that type.
-#[tactic(auto, unfolding(crate::specs::Spells::refusal, crate::specs::Spells::message_in_fields))]
+#[tactic(auto, unfolding(crate::specs::Encodes::refusal, crate::specs::Encodes::message_in_fields))]
 pub(crate) fn read_rreq(bytes: &[u8]) -> Result<Message<'_>, WireError>
     requires some { 0 < length bytes.now }
     requires kind { packets.kind bytes.now ≡ 1 }
-    ensures { MatchResult result (Spells bytes.now) (λ e. refusal bytes.now ≡ Some e) }
+    ensures { MatchResult result (Encodes bytes.now) (λ e. refusal bytes.now ≡ Some e) }
 {
     if bytes.len() != LENGTH {
         return Err(WireError::WrongLength);
@@ -67,8 +67,8 @@ pub(crate) fn read_rreq(bytes: &[u8]) -> Result<Message<'_>, WireError>
 #[inline(always)]
 pub fn write_rreq(m: &Rreq, out: &mut Packet)
     requires { 1 ≤ m.now.osn }
-    ensures written { out.new.items ≡ spelling (a_rreq m.now) }
-    ensures spells { Spells out.new.items (a_rreq m.now) }
+    ensures written { out.new.items ≡ encoding (a_rreq m.now) }
+    ensures encodes { Encodes out.new.items (a_rreq m.now) }
 {
     let flags = if m.known { 0 } else { UNKNOWN_NUMBER };
     out.clear();

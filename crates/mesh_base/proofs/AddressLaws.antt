@@ -13,12 +13,12 @@ use Rattle.mesh_base.specs.Parts.{parts}
 use Rattle.mesh_base.specs.Addresses.{address_of, address_from}
 use Rattle.mesh_base.specs.Octets.{number_and, first_octet}
 use Rattle.mesh_base.proofs.PartLaws.{split_at_place, split_nowhere}
-use Rattle.mesh_base.proofs.Spelling.{Lacks, one_lacks, parts_none}
+use Rattle.mesh_base.proofs.WrittenForms.{Lacks, one_lacks, parts_none}
 use Rattle.mesh_base.proofs.OctetLaws.{by_test, no_digits, digit_range}
 
 -- ---- the first number is found
 
--- the first part spells the number n, and qs are the parts after it
+-- the first part denotes the number n, and qs are the parts after it
 record Found (ps : List (List ℕ)) (n : ℕ) (qs : List (List ℕ)) : Type 0 where
   part : List ℕ
   is : ps ≡ part ∷ qs
@@ -48,7 +48,7 @@ digits_whole sep (d ∷ ds) low h =
     slice_split-cons_no (λ b. eqb b sep) d ds (ne_eqb d sep (λ e. omega (arith, range.0)))
     ∙ ap (λ ps. onto_first d ps) (digits_whole sep ds low both.1)
 
--- the number that the only one of these parts spells
+-- the number that the only one of these parts denotes
 abbrev last_octet : List (List ℕ) → Option ℕ
 last_octet (last ∷ []) = number_up_to 255 last
 last_octet others = None

@@ -6,7 +6,7 @@ use Rattle.std.proofs.lemmas.List.Sums.{fails_before_first, passes_at_first}
 use Rattle.mesh_base.specs.Meshes.{Nodes, IsMesh, addr_at, index_of, with_node}
 use Rattle.mesh_base.proofs.PartLaws.{place_le}
 use Rattle.mesh_base.proofs.MeshLaws.{rising_le, below_if, from_if, IsPlace, insert_is_mesh}
-use Rattle.mesh_base.proofs.Spelling.{index_of-at}
+use Rattle.mesh_base.proofs.WrittenForms.{index_of-at}
 
 pub absent_at : (mesh : Nodes) (a i : ℕ) → IsMesh mesh → index_of mesh a ≡ None → i < length mesh → addr_at mesh i ≢ a
 absent_at mesh a i is none lt e =

@@ -5,7 +5,7 @@ pub mod NumberLaws
 pub mod TableLaws
 pub mod OctetLaws
 pub mod MeshLaws
-pub mod Spelling
+pub mod WrittenForms
 pub mod Readings
 pub mod Grown
 pub mod AddressLaws

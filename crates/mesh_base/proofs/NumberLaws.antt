@@ -109,7 +109,7 @@ unfolding address_from
 too_many a b c d [] h = absurd (omega arith)
 too_many a b c d (p ∷ ps) h = refl
 
--- five parts spell no address
+-- five parts denote no address
 pub address_of_five : (text a b c d rest : List ℕ) → parts 46 text ≡ a ∷ b ∷ c ∷ d ∷ parts 46 rest → address_of text ≡ None
 unfolding address_of
 address_of_five text a b c d rest e = rw e (too_many a b c d _ (omega (arith, length-slice_split (λ b. eqb b 46) rest)))

@@ -6,7 +6,7 @@ use Rattle.mesh_base.specs.Numbers.{number_up_to}
 use Rattle.mesh_base.specs.Parts.{parts}
 use Rattle.mesh_base.specs.Addresses.{address_of, address_from}
 use Rattle.mesh_base.specs.Stems.{stem_of}
-use Rattle.mesh_base.proofs.Spelling.{decimal_lacks, parts_at, number_up_to-decimal}
+use Rattle.mesh_base.proofs.WrittenForms.{decimal_lacks, parts_at, number_up_to-decimal}
 use Rattle.mesh_base.proofs.AddressLaws.{digits_whole, number_digits, four_are}
 
 -- ---- at most eight bytes by the first four and the last four

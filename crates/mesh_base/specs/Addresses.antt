@@ -13,7 +13,7 @@ address_from (a ∷ b ∷ c ∷ d ∷ []) =
     (number_up_to 255 d)) (number_up_to 255 c)) (number_up_to 255 b)) (number_up_to 255 a)
 address_from others = None
 
--- the address that a text spells (a dot is byte 46)
+-- the address that a text denotes (a dot is byte 46)
 unfoldable pub address_of : List ℕ → Option ℕ
 address_of bytes = address_from (parts 46 bytes)
 

@@ -1,13 +1,13 @@
 -- Where the bytes of an owned list are, and memory for such a list.
 use Rattle.std.specs.Prelude.{◌≡◌, ◌≤◌, ℕ, List, [], Option, Some, None, vec_capacity}
 use Rattle.std.specs.Global.{Vec}
-use Rattle.mesh_base.specs.Few.{few_bytes}
+use Rattle.mesh_base.specs.InlineBytes.{inline_bytes}
 use Rattle.mesh_base.specs.declared.bytes.Kept.{Kept}
 use Rattle.mesh_base.specs.declared.bytes.Kept.TheVariants.{Short, Long}
 
 -- the bytes, in the list itself or in memory of their own
 abbrev pub bytes_of : Kept → List ℕ
-bytes_of (Short few) = few_bytes few
+bytes_of (Short few) = inline_bytes few
 bytes_of (Long many) = many.items
 
 -- room for so many bytes: up to 32 need no memory

@@ -1,4 +1,4 @@
--- Read in this order: the spelling of numbers and addresses, the parts of a text, meshes, sets of
+-- Read in this order: how to write numbers and addresses, the parts of a text, meshes, sets of
 -- nodes, what is only looked at.
 -- Words has the proof that a set gives its words back, Octets an address number by number, Few
 -- short bytes and Stems an address's first numbers as they are kept; no public contract says any of
@@ -12,5 +12,5 @@ pub mod Members
 pub mod Views
 pub mod Words
 pub mod Octets
-pub mod Few
+pub mod InlineBytes
 pub mod Stems

@@ -7,7 +7,7 @@ use Rattle.mesh_base.specs.Numbers.{number_up_to}
 abbrev pub number_and : List (List ℕ) → ℕ → ℕ × List (List ℕ)
 number_and ps n = (n, ps)
 
--- the number that the first of several parts spells, and the parts after it
+-- the number that the first of several parts denotes, and the parts after it
 unfoldable pub first_octet : List (List ℕ) → Option (ℕ × List (List ℕ))
 first_octet [] = None
 first_octet (last ∷ []) = None

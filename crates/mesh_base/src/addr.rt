@@ -1,4 +1,4 @@
-//! Addresses, as RFC 3561 section 5 has them in its packets and as a schedule spells them.
+//! Addresses, as RFC 3561 section 5 has them in its packets and as a schedule denotes them.
 ghost use Rattle.std.specs.Prelude.{◌≡◌, ◌+◌, ◌≤◌, ◌<◌, ◌∷◌, [], true, false, IsTrue, IfSome, IfNone};
 ghost use Rattle.std.specs.Char.{is_ascii_digit};
 ghost use Rattle.std.specs.Option.{option_map};

@@ -1,7 +1,7 @@
 //! Owned bytes, and memory for them.
 ghost use Rattle.std.specs.Prelude.{◌≡◌, ◌≤◌, ◌↔◌, [], length, IfOk, IsOk, IfSome, IsSome, vec_capacity};
 
-use crate::few::Few;
+use crate::few::InlineBytes;
 use std::alloc::{AllocError, AllocFailed, Global};
 use std::marker::Model;
 
@@ -30,7 +30,7 @@ pub struct Bytes {
 /// Where the bytes of a list are.
 #[derive(Drop)]
 enum Kept {
-    Short(Few<32>),
+    Short(InlineBytes<32>),
     Long(Vec<u8>),
 }
 
@@ -62,7 +62,7 @@ impl Bytes {
         ensures value { IfSome result (λ s. s ≡ b.now) }
         ensures when { IsSome result ↔ (length b.now ≤ 32) }
     {
-        match Few::of(b) {
+        match InlineBytes::of(b) {
             Some(few) => Some(Bytes {
                 kept: Kept::Short(few),
             }),
@@ -99,7 +99,7 @@ impl Bytes {
         ensures { result ≡ [] }
     {
         Bytes {
-            kept: Kept::Short(Few::default()),
+            kept: Kept::Short(InlineBytes::default()),
         }
     }
 

@@ -3,40 +3,40 @@ ghost use Rattle.std.specs.Prelude.{◌≡◌, ◌≤◌, ◌↔◌, [], length,
 
 /// At most so many bytes as there is room for: the first of an array.
 #[derive(Clone, Copy)]
-pub(crate) struct Few<const ROOM: usize> {
-    bytes: [u8; ROOM],
+pub(crate) struct InlineBytes<const CAPACITY: usize> {
+    bytes: [u8; CAPACITY],
     width: usize,
-    ghost fits: { width ≤ ROOM },
+    ghost fits: { width ≤ CAPACITY },
 }
 
-impl<const ROOM: usize> Default for Few<ROOM> {
-    ghost use Rattle.mesh_base.specs.Few.{few_bytes};
+impl<const CAPACITY: usize> Default for InlineBytes<CAPACITY> {
+    ghost use Rattle.mesh_base.specs.InlineBytes.{inline_bytes};
 
-    ghost is_default = { λ few. few_bytes few ≡ [] };
+    ghost is_default = { λ few. inline_bytes few ≡ [] };
 
     fn default() -> Self {
-        Few {
-            bytes: [0; ROOM],
+        InlineBytes {
+            bytes: [0; CAPACITY],
             width: 0,
         }
     }
 }
 
-impl<const ROOM: usize> Few<ROOM> {
-    ghost use Rattle.mesh_base.specs.Few.{few_bytes};
+impl<const CAPACITY: usize> InlineBytes<CAPACITY> {
+    ghost use Rattle.mesh_base.specs.InlineBytes.{inline_bytes};
 
     /// A copy of b. None where b is too long.
     #[inline]
     pub(crate) fn of(b: &[u8]) -> Option<Self>
-        ensures value { IfSome result (λ few. few_bytes few ≡ b.now) }
-        ensures when { IsSome result ↔ (length b.now ≤ ROOM) }
+        ensures value { IfSome result (λ few. inline_bytes few ≡ b.now) }
+        ensures when { IsSome result ↔ (length b.now ≤ CAPACITY) }
     {
-        if b.len() > ROOM {
+        if b.len() > CAPACITY {
             return None;
         }
-        let mut bytes = [0; ROOM];
+        let mut bytes = [0; CAPACITY];
         bytes[..b.len()].copy_from_slice(b);
-        Some(Few {
+        Some(InlineBytes {
             bytes,
             width: b.len(),
         })
@@ -45,8 +45,8 @@ impl<const ROOM: usize> Few<ROOM> {
     /// The bytes.
     #[inline]
     pub(crate) fn as_slice(&self) -> &[u8]
-        ensures value { result.now ≡ few_bytes self.now }
-        ensures short { length result.now ≤ ROOM }
+        ensures value { result.now ≡ inline_bytes self.now }
+        ensures short { length result.now ≤ CAPACITY }
     {
         &self.bytes[..self.width]
     }

@@ -21,7 +21,8 @@ pub use events::{
     Air, Cast, Counter, Done, Effect, Event, Flying, FlyingView, Item, Kind, Took, Variant,
 };
 pub use limits::{
-    LINE_ROOM, LONGEST_DATUM, LONGEST_INPUT, LONGEST_LINE, LONGEST_PACKET, MOST_EVENTS, MOST_NODES,
+    LINE_CAPACITY, LONGEST_DATUM, LONGEST_INPUT, LONGEST_LINE, LONGEST_PACKET, MOST_EVENTS,
+    MOST_NODES,
 };
 pub use line_buf::LineBuf;
 pub use mesh::{Mesh, MeshError};

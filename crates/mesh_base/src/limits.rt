@@ -19,4 +19,4 @@ pub const LONGEST_INPUT: usize = 16_777_216;
 pub const MOST_EVENTS: u64 = 1_000_000;
 
 /// The room for a line that is put together before it is written.
-pub const LINE_ROOM: usize = 8192;
+pub const LINE_CAPACITY: usize = 8192;

@@ -1,14 +1,14 @@
 //! A line that is put together before it is written.
 ghost use Rattle.std.specs.Prelude.{◌≡◌, ◌<◌, ◌≤◌, ◌+◌, ◌++◌, ◌∷◌, [], length, take};
 
-use crate::limits::LINE_ROOM;
+use crate::limits::LINE_CAPACITY;
 use arrayvec::ArrayVec;
 use std::marker::Model;
 
-/// A line to be written, of at most `LINE_ROOM` bytes.
+/// A line to be written, of at most `LINE_CAPACITY` bytes.
 #[derive(Drop)]
 pub struct LineBuf {
-    line: ArrayVec<u8, LINE_ROOM>,
+    line: ArrayVec<u8, LINE_CAPACITY>,
 }
 
 impl Model for LineBuf {
@@ -33,7 +33,7 @@ impl LineBuf {
     #[inline]
     pub fn len(&self) -> usize
         ensures value { result ≡ length self.now }
-        ensures fits { result ≤ LINE_ROOM }
+        ensures fits { result ≤ LINE_CAPACITY }
     {
         self.line.len()
     }
@@ -57,7 +57,7 @@ impl LineBuf {
     /// Appends a byte.
     #[inline]
     pub fn push(&mut self, b: u8)
-        requires { length self.old < LINE_ROOM }
+        requires { length self.old < LINE_CAPACITY }
         ensures text { self.new ≡ self.old ++ b ∷ [] }
         ensures length { length self.new ≡ length self.old + 1 }
     {
@@ -67,7 +67,7 @@ impl LineBuf {
     /// Appends bytes.
     #[inline]
     pub fn push_slice(&mut self, bytes: &[u8])
-        requires { length self.old + length bytes.now ≤ LINE_ROOM }
+        requires { length self.old + length bytes.now ≤ LINE_CAPACITY }
         ensures text { self.new ≡ self.old ++ bytes.now }
         ensures length { length self.new ≡ length self.old + length bytes.now }
     {
@@ -79,7 +79,7 @@ impl LineBuf {
     /// Appends so many bytes as are known beforehand: without a call.
     #[inline]
     pub fn push_array<const SIZE: usize>(&mut self, bytes: &[u8; SIZE])
-        requires { length self.old + SIZE ≤ LINE_ROOM }
+        requires { length self.old + SIZE ≤ LINE_CAPACITY }
         ensures text { self.new ≡ self.old ++ bytes.now }
         ensures length { length self.new ≡ length self.old + SIZE }
     {
@@ -92,7 +92,7 @@ impl LineBuf {
     #[inline(always)]
     fn push_piece<const PIECE: usize>(&mut self, chunk: &[u8])
         requires within { PIECE ≤ length chunk.now }
-        requires room { length self.old + PIECE ≤ LINE_ROOM }
+        requires room { length self.old + PIECE ≤ LINE_CAPACITY }
         ensures text { self.new ≡ self.old ++ take PIECE chunk.now }
         ensures length { length self.new ≡ length self.old + PIECE }
     {
@@ -107,7 +107,7 @@ impl LineBuf {
     pub(crate) fn push_one_to_four(&mut self, chunk: &[u8; 4], width: usize)
         requires some { 1 ≤ width }
         requires within { width ≤ 4 }
-        requires room { length self.old + width ≤ LINE_ROOM }
+        requires room { length self.old + width ≤ LINE_CAPACITY }
         ensures text { self.new ≡ self.old ++ take width chunk.now }
         ensures length { length self.new ≡ length self.old + width }
     {
@@ -124,7 +124,7 @@ impl LineBuf {
     pub(crate) fn push_six_to_twelve(&mut self, chunk: &[u8; 16], width: usize)
         requires some { 6 ≤ width }
         requires within { width ≤ 12 }
-        requires room { length self.old + width ≤ LINE_ROOM }
+        requires room { length self.old + width ≤ LINE_CAPACITY }
         ensures text { self.new ≡ self.old ++ take width chunk.now }
         ensures length { length self.new ≡ length self.old + width }
     {

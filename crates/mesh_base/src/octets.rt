@@ -6,7 +6,7 @@ ghost use Rattle.mesh_base.specs.Addresses.{address_of, dotted_decimal};
 ghost use Rattle.mesh_base.specs.Stems.{stem_of, IsStem};
 
 use crate::addr::{Addr, octet};
-use crate::limits::LINE_ROOM;
+use crate::limits::LINE_CAPACITY;
 use crate::line_buf::LineBuf;
 use crate::text::are_equal;
 
@@ -79,7 +79,7 @@ fn width(n: u32) -> usize
 #[inline]
 fn push_octet_dot(out: &mut LineBuf, n: u32)
     requires octet { n < 256 }
-    requires room { length out.old + 4 ≤ LINE_ROOM }
+    requires room { length out.old + 4 ≤ LINE_CAPACITY }
     ensures text { out.new ≡ out.old ++ (decimal n ++ 46 ∷ []) }
     ensures length { length out.new ≤ length out.old + 4 }
 {
@@ -90,16 +90,16 @@ fn push_octet_dot(out: &mut LineBuf, n: u32)
 #[inline(always)]
 fn push_octet(out: &mut LineBuf, n: u32)
     requires octet { n < 256 }
-    requires room { length out.old + 3 ≤ LINE_ROOM }
+    requires room { length out.old + 3 ≤ LINE_CAPACITY }
     ensures text { out.new ≡ out.old ++ decimal n }
     ensures length { length out.new ≤ length out.old + 3 }
 {
     out.push_one_to_four(&chunk(n), width(n) - 1);
 }
 
-/// Appends an address as it is spelled: at most 15 bytes.
+/// Appends an address as it is written: at most 15 bytes.
 pub fn write_dotted(a: Addr, out: &mut LineBuf)
-    requires { length out.old + 15 ≤ LINE_ROOM }
+    requires { length out.old + 15 ≤ LINE_CAPACITY }
     ensures text { out.new ≡ out.old ++ dotted_decimal a.0 }
     ensures length { length out.new ≤ length out.old + 15 }
 {
@@ -175,11 +175,11 @@ impl Stem {
         Addr::parse(text)
     }
 
-    /// Appends an address as it is spelled. The numbers that it has in common with these are copied
+    /// Appends an address as it is written. The numbers that it has in common with these are copied
     /// whole.
     #[inline(always)]
     pub(crate) fn write(&self, a: Addr, out: &mut LineBuf)
-        requires { length out.old + 15 ≤ LINE_ROOM }
+        requires { length out.old + 15 ≤ LINE_CAPACITY }
         ensures text { out.new ≡ out.old ++ dotted_decimal a.0 }
         ensures length { length out.new ≤ length out.old + 15 }
     {

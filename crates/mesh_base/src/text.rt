@@ -4,7 +4,7 @@ ghost use Rattle.std.specs.Fmt.{decimal};
 ghost use Rattle.mesh_base.specs.Parts.{parts, rest_parts};
 ghost use Rattle.mesh_base.specs.Numbers as numbers;
 
-use crate::limits::{LINE_ROOM, LONGEST_PACKET};
+use crate::limits::{LINE_CAPACITY, LONGEST_PACKET};
 use crate::line_buf::LineBuf;
 use arrayvec::ArrayVec;
 
@@ -63,7 +63,7 @@ fn digits_up_to(ds: &[u8], most: u64) -> Option<u64>
     if n <= most { Some(n) } else { None }
 }
 
-/// The number that these bytes spell in decimal digits without a leading zero, where it is at most
+/// The number that these bytes encode in decimal digits without a leading zero, where it is at most
 /// `most`.
 #[tactic(auto, unfolding(crate::specs::Numbers::number_up_to))]
 pub fn number_up_to(bytes: &[u8], most: u64) -> Option<u64>
@@ -80,7 +80,7 @@ pub fn number_up_to(bytes: &[u8], most: u64) -> Option<u64>
 /// Appends a text.
 #[inline]
 pub fn push_text(out: &mut LineBuf, text: &[u8])
-    requires { length out.old + length text.now ≤ LINE_ROOM }
+    requires { length out.old + length text.now ≤ LINE_CAPACITY }
     ensures text { out.new ≡ out.old ++ text.now }
     ensures length { length out.new ≡ length out.old + length text.now }
 {
@@ -104,7 +104,7 @@ static PAIRS: [[u8; 2]; 100] = [
 #[inline]
 fn push_pair(out: &mut LineBuf, n: u32)
     requires low { n < 100 }
-    requires room { length out.old + 2 ≤ LINE_ROOM }
+    requires room { length out.old + 2 ≤ LINE_CAPACITY }
     ensures text { out.new ≡ out.old ++ (48 + n / 10) ∷ (48 + n % 10) ∷ [] }
     ensures length { length out.new ≡ length out.old + 2 }
 {
@@ -116,7 +116,7 @@ fn push_pair(out: &mut LineBuf, n: u32)
 #[tactic(auto, using(std::proofs::lemmas::Fmt::decimal_digit, crate::proofs::NumberLaws::two_digits))]
 fn push_low(out: &mut LineBuf, n: u32)
     requires low { n < 100 }
-    requires room { length out.old + length (decimal n) ≤ LINE_ROOM }
+    requires room { length out.old + length (decimal n) ≤ LINE_CAPACITY }
     ensures text { out.new ≡ out.old ++ decimal n }
     ensures length { length out.new ≡ length out.old + length (decimal n) }
 {
@@ -132,7 +132,7 @@ fn push_low(out: &mut LineBuf, n: u32)
 #[tactic(auto, using(crate::proofs::NumberLaws::appended_hundreds, crate::proofs::NumberLaws::two_longer))]
 pub(crate) fn push_short(out: &mut LineBuf, n: u32)
     requires short { n < 10000 }
-    requires room { length out.old + length (decimal n) ≤ LINE_ROOM }
+    requires room { length out.old + length (decimal n) ≤ LINE_CAPACITY }
     ensures text { out.new ≡ out.old ++ decimal n }
     ensures length { length out.new ≡ length out.old + length (decimal n) }
 {
@@ -148,7 +148,7 @@ pub(crate) fn push_short(out: &mut LineBuf, n: u32)
 #[inline]
 fn push_four(out: &mut LineBuf, n: u32)
     requires short { n < 10000 }
-    requires room { length out.old + 4 ≤ LINE_ROOM }
+    requires room { length out.old + 4 ≤ LINE_CAPACITY }
     ensures text { out.new ≡ (out.old ++ (48 + n / 100 / 10) ∷ (48 + n / 100 % 10) ∷ [])
         ++ (48 + n % 100 / 10) ∷ (48 + n % 100 % 10) ∷ [] }
     ensures length { length out.new ≡ length out.old + 4 }
@@ -160,7 +160,7 @@ fn push_four(out: &mut LineBuf, n: u32)
 /// Appends a number in decimal digits.
 #[tactic(auto, using(crate::proofs::NumberLaws::appended_four, crate::proofs::NumberLaws::four_longer))]
 pub fn push_decimal(out: &mut LineBuf, n: u64)
-    requires { length out.old + length (decimal n) ≤ LINE_ROOM }
+    requires { length out.old + length (decimal n) ≤ LINE_CAPACITY }
     ensures text { out.new ≡ out.old ++ decimal n }
     ensures length { length out.new ≡ length out.old + length (decimal n) }
 {
@@ -178,7 +178,7 @@ pub fn push_decimal(out: &mut LineBuf, n: u64)
 /// Appends any number in decimal digits.
 #[tactic(auto, using(crate::proofs::NumberLaws::at_most_twenty))]
 pub fn push_number(out: &mut LineBuf, n: u64)
-    requires { length out.old + 20 ≤ LINE_ROOM }
+    requires { length out.old + 20 ≤ LINE_CAPACITY }
     ensures text { out.new ≡ out.old ++ decimal n }
     ensures length { length out.new ≤ length out.old + 20 }
 {

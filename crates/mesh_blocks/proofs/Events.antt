@@ -17,7 +17,7 @@ use Rattle.mesh_grammar.specs.declared.fault.BadWhy.{BadWhy}
 use Rattle.mesh_grammar.specs.declared.fault.BadWhy.TheVariants.{Fault}
 use Rattle.mesh_grammar.specs.Written.{line}
 use Rattle.mesh_text.specs.Lines.{words_of}
-use Rattle.mesh_text.specs.Schedule.{Moment, Does, ShowsNode, with_line_read, with_world, next_moment, outcome_at, world_of}
+use Rattle.mesh_text.specs.Schedule.{RunState, Does, ShowsNode, with_line_read, with_world, next_state, outcome_at, world_of}
 use Rattle.mesh_text.specs.Effects.{outcome_lines}
 use Rattle.mesh_text.specs.Tables.{node_text_in}
 use Rattle.mesh_text.specs.Auto.{Ended, before, done_then}
@@ -25,7 +25,7 @@ use Rattle.mesh_text.specs.Text.{LineOutcome, On, Refused, Full, outcome_by_even
 use Rattle.mesh_world.specs.declared.steps.StepError.{StepError}
 use Rattle.mesh_run.specs.declared.stop.Stop.{Stop}
 use Rattle.mesh_run.specs.declared.stop.Stop.TheVariants as stop
-use Rattle.mesh_run.specs.Moments.{IsAnswer}
+use Rattle.mesh_run.specs.RunStates.{IsAnswer}
 use Rattle.mesh_run.specs.Runs.{IsLineDone, IsLineFull, IsLineStopped, outcome_by}
 use Rattle.mesh_run.proofs.Events.{answer_text, answer_mesh, node_came, refusal_fills}
 use Rattle.mesh_blocks.specs.declared.below.Below.{Below}
@@ -38,33 +38,33 @@ use Rattle.mesh_blocks.specs.Lines.{with_below, watched_event, shown_by, IsKeptF
 
 -- ---- the block
 
-pub shown_is : (m : Moment) (x : ℕ) → shown_node m x ≡ line (words_of m.mesh (ShowsNode x)) ++ node_text_in m.mesh (slice_get (world_of m).nodes x)
+pub shown_is : (m : RunState) (x : ℕ) → shown_node m x ≡ line (words_of m.mesh (ShowsNode x)) ++ node_text_in m.mesh (slice_get (world_of m).nodes x)
 shown_is m x = ap text_in (node_came m x)
 
 -- what stands below an event that has this answer
-abbrev pub below_if : Below → Moment → Moment → Option ℕ → List ℕ
+abbrev pub below_if : Below → RunState → RunState → Option ℕ → List ℕ
 below_if Blocks m n changed = shown_if n changed
 below_if Changes m n changed = changed_if m n changed
 
-below_is : (form : Below) (m n : Moment) (e : Event) (d : Done) (packet : List ℕ) (changed : Option ℕ) → IsAnswer m e d n packet
+below_is : (form : Below) (m n : RunState) (e : Event) (d : Done) (packet : List ℕ) (changed : Option ℕ) → IsAnswer m e d n packet
     → changed ≡ changed_by e (outcome_in m.mesh (node_of e) (world_of n) d packet) → below_text form m e ≡ below_if form m n changed
 unfolding block_below changes_below
 below_is Blocks m n e d packet changed a is =
-    ap (λ o. shown_if (next_moment m e) (changed_by e o)) a.outcome ∙ ap (shown_if (next_moment m e)) (sym is) ∙ ap (λ k. shown_if k changed) (sym a.moment)
+    ap (λ o. shown_if (next_state m e) (changed_by e o)) a.outcome ∙ ap (shown_if (next_state m e)) (sym is) ∙ ap (λ k. shown_if k changed) (sym a.run_state)
 below_is Changes m n e d packet changed a is =
-    ap (λ o. changed_if m (next_moment m e) (changed_by e o)) a.outcome ∙ ap (changed_if m (next_moment m e)) (sym is) ∙ ap (λ k. changed_if m k changed) (sym a.moment)
+    ap (λ o. changed_if m (next_state m e) (changed_by e o)) a.outcome ∙ ap (changed_if m (next_state m e)) (sym is) ∙ ap (λ k. changed_if m k changed) (sym a.run_state)
 
-below_none : (form : Below) (m n : Moment) → below_if form m n None ≡ []
+below_none : (form : Below) (m n : RunState) → below_if form m n None ≡ []
 below_none Blocks m n = refl
 below_none Changes m n = refl
 
 -- the line that names a node, and what has changed of its block
-pub changed_front : (before : List ℕ) (n : Moment) (x : ℕ) (mesh : Nodes) (a b : Option (List ℕ)) → mesh ≡ n.mesh → AppendsPrefix a b (changed_line mesh x) → AppendsPrefix a b (changed_from before n x)
+pub changed_front : (before : List ℕ) (n : RunState) (x : ℕ) (mesh : Nodes) (a b : Option (List ℕ)) → mesh ≡ n.mesh → AppendsPrefix a b (changed_line mesh x) → AppendsPrefix a b (changed_from before n x)
 unfolding changed_from
 changed_front before n x mesh a b same p =
     AppendsPrefix-more a b (changed_line n.mesh x) _ (changed_from before n x) refl (subst (λ (l : Nodes). AppendsPrefix a b (changed_line l x)) same p)
 
-pub changed_whole : {T E : Type 0} (before kept after : List ℕ) (n : Moment) (x : ℕ) (mesh : Nodes) (a b c : Option (List ℕ)) (r : Result T E) → mesh ≡ n.mesh → kept ≡ before → after ≡ shown_node n x
+pub changed_whole : {T E : Type 0} (before kept after : List ℕ) (n : RunState) (x : ℕ) (mesh : Nodes) (a b c : Option (List ℕ)) (r : Result T E) → mesh ≡ n.mesh → kept ≡ before → after ≡ shown_node n x
     → Appends a b (changed_line mesh x) → Puts b c (changes_text (changes (lines_of kept) (lines_of after))) r → Puts a c (changed_from before n x) r
 unfolding changed_from
 changed_whole before kept after n x mesh a b c r same was now p q =
@@ -73,18 +73,18 @@ changed_whole before kept after n x mesh a b c r same was now p q =
     (subst (λ (l : Nodes). Appends a b (changed_line l x)) same p) (subst (λ (t : List ℕ). Puts b c (changes_text (changes (lines_of before) (lines_of t))) r) now from)
 
 -- where the block before is kept
-below_some : (form : Below) (m n : Moment) (e : Event) (before : List ℕ) (x : ℕ) → IsKeptFor form m e before → Some x ≡ changed_by e (outcome_at m e) → shown_by form before n x ≡ below_if form m n (Some x)
+below_some : (form : Below) (m n : RunState) (e : Event) (before : List ℕ) (x : ℕ) → IsKeptFor form m e before → Some x ≡ changed_by e (outcome_at m e) → shown_by form before n x ≡ below_if form m n (Some x)
 below_some Blocks m n e before x kept is = refl
 below_some Changes m n e before x kept is =
     let same : before ≡ shown_node m x = subst (λ o. IfSome o (λ y. before ≡ shown_node m y)) (sym is) kept in
     ap (λ text. changed_from text n x) same
 
 -- a node's line, and its state below it
-pub shown_front : (m : Moment) (x : ℕ) (mesh : Nodes) (a b : Option (List ℕ)) → mesh ≡ m.mesh → AppendsPrefix a b (line (words_of mesh (ShowsNode x))) → AppendsPrefix a b (shown_node m x)
+pub shown_front : (m : RunState) (x : ℕ) (mesh : Nodes) (a b : Option (List ℕ)) → mesh ≡ m.mesh → AppendsPrefix a b (line (words_of mesh (ShowsNode x))) → AppendsPrefix a b (shown_node m x)
 shown_front m x mesh a b same p =
     AppendsPrefix-more a b (line (words_of m.mesh (ShowsNode x))) _ _ (shown_is m x) (subst (λ (l : Nodes). AppendsPrefix a b (line (words_of l (ShowsNode x)))) same p)
 
-pub shown_whole : {T E : Type 0} (m : Moment) (x : ℕ) (mesh : Nodes) (state : List ℕ) (a b c : Option (List ℕ)) (r : Result T E) → mesh ≡ m.mesh → state ≡ node_text_in m.mesh (slice_get (world_of m).nodes x)
+pub shown_whole : {T E : Type 0} (m : RunState) (x : ℕ) (mesh : Nodes) (state : List ℕ) (a b c : Option (List ℕ)) (r : Result T E) → mesh ≡ m.mesh → state ≡ node_text_in m.mesh (slice_get (world_of m).nodes x)
     → Appends a b (line (words_of mesh (ShowsNode x))) → Puts b c state r → Puts a c (shown_node m x) r
 shown_whole m x mesh state a b c r same is p q =
     Puts-join a b c (line (words_of m.mesh (ShowsNode x))) (node_text_in m.mesh (slice_get (world_of m).nodes x)) _ r (shown_is m x)
@@ -92,8 +92,8 @@ shown_whole m x mesh state a b c r same is p q =
 
 -- ---- an event by itself
 
-by_done : (m : Moment) (e : Event) (mesh : Nodes) (x : ℕ) (w : World) (d : Done) (packet : List ℕ)
-    → outcome_by m e (outcome_in mesh x w d packet) ≡ On (outcome_lines m.mesh e (outcome_in mesh x w d packet)) (next_moment m e)
+by_done : (m : RunState) (e : Event) (mesh : Nodes) (x : ℕ) (w : World) (d : Done) (packet : List ℕ)
+    → outcome_by m e (outcome_in mesh x w d packet) ≡ On (outcome_lines m.mesh e (outcome_in mesh x w d packet)) (next_state m e)
 by_done m e mesh x w done.Idle packet = refl
 by_done m e mesh x w done.Changed packet = refl
 by_done m e mesh x w (done.Taken took effect air) packet = refl
@@ -102,28 +102,28 @@ by_done m e mesh x w (done.Heard from to) packet = refl
 by_done m e mesh x w (done.Lost flying) packet = refl
 by_done m e mesh x w (done.Doubled id to parcel) packet = refl
 
--- an answer at a moment that is the same as this
-pub answer_seen : (s m n : Moment) (e : Event) (d : Done) (packet : List ℕ) (r : Result Done StepError) → s ≡ m → r ≡ Ok d → IfOk r (λ x. IsAnswer s e x n packet) → IsAnswer m e d n packet
+-- an answer in a state that is the same as this
+pub answer_seen : (s m n : RunState) (e : Event) (d : Done) (packet : List ℕ) (r : Result Done StepError) → s ≡ m → r ≡ Ok d → IfOk r (λ x. IsAnswer s e x n packet) → IsAnswer m e d n packet
 answer_seen s m n e d packet r same is answer =
-    subst (λ (k : Moment). IsAnswer k e d n packet) same (subst (λ (x : Result Done StepError). IfOk x (λ y. IsAnswer s e y n packet)) is answer)
+    subst (λ (k : RunState). IsAnswer k e d n packet) same (subst (λ (x : Result Done StepError). IfOk x (λ y. IsAnswer s e y n packet)) is answer)
 
 -- the lines of an event, and what stands below it
-abbrev pub watched_lines : Below → Moment → Event → List ℕ
+abbrev pub watched_lines : Below → RunState → Event → List ℕ
 watched_lines form m e = outcome_lines m.mesh e (outcome_at m e) ++ below_text form m e
 
 -- the lines of an event that has this answer, as they were written
-event_text : (P : List ℕ → Type 0) (m n : Moment) (e : Event) (d : Done) (packet : List ℕ) (mesh : Nodes) → IsAnswer m e d n packet → mesh ≡ n.mesh
+event_text : (P : List ℕ → Type 0) (m n : RunState) (e : Event) (d : Done) (packet : List ℕ) (mesh : Nodes) → IsAnswer m e d n packet → mesh ≡ n.mesh
     → P (outcome_lines mesh e (outcome_in mesh (node_of e) (world_of n) d packet)) → P (outcome_lines m.mesh e (outcome_at m e))
 event_text P m n e d packet mesh a same p =
     subst P (ap (λ (l : Nodes). outcome_lines l e (outcome_in l (node_of e) (world_of n) d packet)) (same ∙ answer_mesh m n e d packet a) ∙ answer_text m n e d packet a) p
 
-pub watched_front : (form : Below) (m n : Moment) (e : Event) (d : Done) (packet : List ℕ) (mesh : Nodes) (a b : Option (List ℕ)) → IsAnswer m e d n packet → mesh ≡ n.mesh
+pub watched_front : (form : Below) (m n : RunState) (e : Event) (d : Done) (packet : List ℕ) (mesh : Nodes) (a b : Option (List ℕ)) → IsAnswer m e d n packet → mesh ≡ n.mesh
     → AppendsPrefix a b (outcome_lines mesh e (outcome_in mesh (node_of e) (world_of n) d packet)) → AppendsPrefix a b (watched_lines form m e)
 watched_front form m n e d packet mesh a b is same p =
     AppendsPrefix-more a b (outcome_lines m.mesh e (outcome_at m e)) (below_text form m e) _ refl (event_text (λ l. AppendsPrefix a b l) m n e d packet mesh is same p)
 
 -- where this node has changed
-pub watched_whole : {T E : Type 0} (form : Below) (m n : Moment) (e : Event) (d : Done) (packet : List ℕ) (mesh : Nodes) (x : ℕ) (before : List ℕ) (a b c : Option (List ℕ)) (r : Result T E) → IsAnswer m e d n packet → mesh ≡ n.mesh
+pub watched_whole : {T E : Type 0} (form : Below) (m n : RunState) (e : Event) (d : Done) (packet : List ℕ) (mesh : Nodes) (x : ℕ) (before : List ℕ) (a b c : Option (List ℕ)) (r : Result T E) → IsAnswer m e d n packet → mesh ≡ n.mesh
     → Appends a b (outcome_lines mesh e (outcome_in mesh (node_of e) (world_of n) d packet)) → Some x ≡ changed_by e (outcome_in m.mesh (node_of e) (world_of n) d packet)
     → IsKeptFor form m e before → Puts b c (shown_by form before n x) r → Puts a c (watched_lines form m e) r
 watched_whole form m n e d packet mesh x before a b c r is same p by kept q =
@@ -131,7 +131,7 @@ watched_whole form m n e d packet mesh x before a b c r is same p by kept q =
     (subst (λ (l : List ℕ). Puts b c l r) (below_some form m n e before x kept (by ∙ ap (changed_by e) (sym is.outcome)) ∙ sym (below_is form m n e d packet (Some x) is by)) q)
 
 -- where no node has changed
-pub watched_alone : (form : Below) (m n : Moment) (e : Event) (d : Done) (packet : List ℕ) (mesh : Nodes) (a b : Option (List ℕ)) → IsAnswer m e d n packet → mesh ≡ n.mesh
+pub watched_alone : (form : Below) (m n : RunState) (e : Event) (d : Done) (packet : List ℕ) (mesh : Nodes) (a b : Option (List ℕ)) → IsAnswer m e d n packet → mesh ≡ n.mesh
     → Appends a b (outcome_lines mesh e (outcome_in mesh (node_of e) (world_of n) d packet)) → None ≡ changed_by e (outcome_in m.mesh (node_of e) (world_of n) d packet) → Appends a b (watched_lines form m e)
 watched_alone form m n e d packet mesh a b is same p by =
     let lines : List ℕ = outcome_lines m.mesh e (outcome_at m e) in
@@ -139,20 +139,20 @@ watched_alone form m n e d packet mesh a b is same p by =
     (subst (λ (l : List ℕ). Appends a b l) (sym (append-nil lines)) (event_text (λ l. Appends a b l) m n e d packet mesh is same p))
 
 -- an event that has an answer goes on
-answer_came : (form : Below) (m n : Moment) (e : Event) (d : Done) (packet : List ℕ) → IsAnswer m e d n packet → watched_event form m e ≡ On (watched_lines form m e) n
+answer_came : (form : Below) (m n : RunState) (e : Event) (d : Done) (packet : List ℕ) → IsAnswer m e d n packet → watched_event form m e ≡ On (watched_lines form m e) n
 answer_came form m n e d packet a =
     ap (with_below (below_text form m e))
-    (ap (outcome_by m e) a.outcome ∙ by_done m e m.mesh (node_of e) (world_of n) d packet ∙ ap (λ o. On (outcome_lines m.mesh e o) (next_moment m e)) (sym a.outcome))
-    ∙ ap (On (watched_lines form m e)) (sym a.moment)
+    (ap (outcome_by m e) a.outcome ∙ by_done m e m.mesh (node_of e) (world_of n) d packet ∙ ap (λ o. On (outcome_lines m.mesh e o) (next_state m e)) (sym a.outcome))
+    ∙ ap (On (watched_lines form m e)) (sym a.run_state)
 
-pub answer_goes : (form : Below) (m n : Moment) (e : Event) (d : Done) (packet : List ℕ) (a b : Option (List ℕ)) → IsAnswer m e d n packet → Appends a b (watched_lines form m e) → IsLineDone true (watched_event form m e) n a b
+pub answer_goes : (form : Below) (m n : RunState) (e : Event) (d : Done) (packet : List ℕ) (a b : Option (List ℕ)) → IsAnswer m e d n packet → Appends a b (watched_lines form m e) → IsLineDone true (watched_event form m e) n a b
 answer_goes form m n e d packet a b is p = record { text = watched_lines form m e; is = answer_came form m n e d packet is; grown = p }
 
-pub answer_front : (form : Below) (m n : Moment) (e : Event) (d : Done) (packet : List ℕ) (a b : Option (List ℕ)) → IsAnswer m e d n packet → AppendsPrefix a b (watched_lines form m e) → AppendsPrefix a b (text_in (watched_event form m e))
+pub answer_front : (form : Below) (m n : RunState) (e : Event) (d : Done) (packet : List ℕ) (a b : Option (List ℕ)) → IsAnswer m e d n packet → AppendsPrefix a b (watched_lines form m e) → AppendsPrefix a b (text_in (watched_event form m e))
 answer_front form m n e d packet a b is p = subst (λ l. AppendsPrefix a b l) (sym (ap text_in (answer_came form m n e d packet is))) p
 
 -- an event that is refused stops the run
-pub refusal_stops : (form : Below) (m n : Moment) (e : EventGiven) (node : ℕ) (field : _) (a : Option (List ℕ)) → IsEvent (length m.mesh) (event_of e) → outcome_at m (event_of e) ≡ worlds.Full node field
+pub refusal_stops : (form : Below) (m n : RunState) (e : EventGiven) (node : ℕ) (field : _) (a : Option (List ℕ)) → IsEvent (length m.mesh) (event_of e) → outcome_at m (event_of e) ≡ worlds.Full node field
     → n ≡ m → IsLineFull true m (watched_event form m (event_of e)) n a a (event_of e) node field
 refusal_stops form m n e node field a ev is same =
     let g = refusal_fills true m n (event_of e) node field a ev is same in
@@ -165,10 +165,10 @@ count (On text n) = On text (with_line_read n)
 count (Refused why) = Refused why
 count (Full text n e field) = Full text n e field
 
-came-counted : (s : Moment) (e : Event) (o : Outcome) (block : List ℕ) → outcome_by_events (done_then s e o (λ n. before block (Ended [] n))) ≡ count (with_below block (outcome_by s e o))
-came-counted s e Idle block = ap (λ l. On (outcome_lines s.mesh e Idle ++ l) (with_line_read (next_moment s e))) (append-nil block)
+came-counted : (s : RunState) (e : Event) (o : Outcome) (block : List ℕ) → outcome_by_events (done_then s e o (λ n. before block (Ended [] n))) ≡ count (with_below block (outcome_by s e o))
+came-counted s e Idle block = ap (λ l. On (outcome_lines s.mesh e Idle ++ l) (with_line_read (next_state s e))) (append-nil block)
 came-counted s e (worlds.Full x field) block = refl
-came-counted s e (Next w h) block = ap (λ l. On (outcome_lines s.mesh e (Next w h) ++ l) (with_line_read (next_moment s e))) (append-nil block)
+came-counted s e (Next w h) block = ap (λ l. On (outcome_lines s.mesh e (Next w h) ++ l) (with_line_read (next_state s e))) (append-nil block)
 
 text-counted : (k : LineOutcome) → text_in (count k) ≡ text_in k
 text-counted (On text n) = refl
@@ -176,20 +176,20 @@ text-counted (Refused why) = refl
 text-counted (Full text n e field) = refl
 
 -- the line of an event, by what came of the event once the run had started
-came-does : (form : Below) (m s : Moment) (e : Event) → s ≡ with_world m → watched_line form m (Does e) ≡ count (watched_event form s e)
+came-does : (form : Below) (m s : RunState) (e : Event) → s ≡ with_world m → watched_line form m (Does e) ≡ count (watched_event form s e)
 unfolding watched_line watched_events
 came-does form m s e same = subst (λ k. watched_line form m (Does e) ≡ count (watched_event form k e)) (sym same) (came-counted (with_world m) e (outcome_at (with_world m) e) (below_text form (with_world m) e))
 
 -- an event is no line that isn't allowed
-never_bad : (m : Moment) (e : Event) (o : Outcome) (block : List ℕ) (why : BadWhy) → with_below block (outcome_by m e o) ≡ Refused why → ⊥
+never_bad : (m : RunState) (e : Event) (o : Outcome) (block : List ℕ) (why : BadWhy) → with_below block (outcome_by m e o) ≡ Refused why → ⊥
 never_bad m e Idle block why h = cc
 never_bad m e (worlds.Full x field) block why h = cc
 never_bad m e (Next w i) block why h = cc
 
-pub step_goes : (form : Below) (m s n k : Moment) (e : Event) (a b : Option (List ℕ)) → s ≡ with_world m → IsLineDone true (watched_event form s e) n a b → k ≡ with_line_read n → IsLineDone true (watched_line form m (Does e)) k a b
+pub step_goes : (form : Below) (m s n k : RunState) (e : Event) (a b : Option (List ℕ)) → s ≡ with_world m → IsLineDone true (watched_event form s e) n a b → k ≡ with_line_read n → IsLineDone true (watched_line form m (Does e)) k a b
 step_goes form m s n k e a b same g next = record { text = g.text; is = came-does form m s e same ∙ ap count g.is ∙ ap (λ q. On g.text q) (sym next); grown = g.grown }
 
-pub step_stops : (form : Below) (m s n : Moment) (e : Event) (a b : Option (List ℕ)) (t : Stop) → s ≡ with_world m → IsLineStopped true s (watched_event form s e) n a b t → IsLineStopped true m (watched_line form m (Does e)) n a b t
+pub step_stops : (form : Below) (m s n : RunState) (e : Event) (a b : Option (List ℕ)) (t : Stop) → s ≡ with_world m → IsLineStopped true s (watched_event form s e) n a b t → IsLineStopped true m (watched_line form m (Does e)) n a b t
 step_stops form m s n e a b (stop.BadLine f) same g = absurd (never_bad s e (outcome_at s e) (below_text form s e) (Fault f) g.0)
 step_stops form m s n e a b (stop.Full event node field) same g = record {
   text = g.text;

@@ -6,7 +6,7 @@ use Rattle.mesh_io.specs.NextLines.{schedule_limits}
 use Rattle.mesh_io.specs.declared.limits.Limits.{Limits}
 use Rattle.mesh_shell.specs.Outputs as outputs
 use Rattle.mesh_shell.specs.declared.fault.Fault.{Fault}
-use Rattle.mesh_text.specs.Schedule.{Moment, opening, world_of}
+use Rattle.mesh_text.specs.Schedule.{RunState, opening, world_of}
 use Rattle.mesh_text.specs.Text.{RunText, text_of_input}
 use Rattle.mesh_text.specs.declared.verdict.Verdict.{Verdict}
 use Rattle.mesh_text.specs.declared.verdict.Verdict.TheVariants.{Finished}
@@ -19,32 +19,32 @@ use Rattle.mesh_run.proofs.Loud.{loud_told}
 use Rattle.mesh_blocks.specs.declared.below.Below.{Below}
 use Rattle.mesh_blocks.specs.Text.{watched_run, watched_on}
 use Rattle.mesh_blocks.specs.Outputs.{IsOutputFrom, IsWatchedRun, IsRun}
-use Rattle.mesh_blocks.proofs.SameRun.{same_run, watched_run_is_the_run, moment_is_the_runs, moment_is_of_events, moments_are_loop_free}
+use Rattle.mesh_blocks.proofs.SameRun.{same_run, watched_run_is_the_run, state_is_the_runs, state_is_of_events, states_are_loop_free}
 use Rattle.mesh_blocks.proofs.WithBlocks.{blocks_are_all_that_is_added}
 
 pub is_watched : (form : Below) (variant : Variant) (schedule : List ℕ) → IsWatchedRun form variant schedule
 is_watched form variant schedule = record {
-  worlds = subst (λ (m : Moment). world_of m ≡ world_after variant schedule m.sums.events) (sym (ap (λ (w : RunText). w.after) (watched_run_is_the_run form variant schedule))) (run_of_events variant schedule);
-  same = λ i k. moment_is_the_runs form variant schedule i k;
-  moments = λ i k done. moment_is_of_events form variant schedule i k done;
+  worlds = subst (λ (m : RunState). world_of m ≡ world_after variant schedule m.sums.events) (sym (ap (λ (w : RunText). w.after) (watched_run_is_the_run form variant schedule))) (run_of_events variant schedule);
+  same = λ i k. state_is_the_runs form variant schedule i k;
+  run_states = λ i k done. state_is_of_events form variant schedule i k done;
   loop_free = λ k d. runs_are_loop_free variant schedule k d;
-  moments_loop_free = λ i k d. moments_are_loop_free form variant schedule i k d;
+  states_loop_free = λ i k d. states_are_loop_free form variant schedule i k d;
   blocks = blocks_are_all_that_is_added form variant schedule;
 }
 
 -- what the script's answer tells, and that it is of such a run
-pub runs_so : (form : Below) (variant : Variant) (m : Moment) (most : Limits) (given left before now : Option (List ℕ)) (answer : Result Verdict Fault) (s : Status) → m ≡ opening variant → most ≡ schedule_limits → s ≡ status_of answer
+pub runs_so : (form : Below) (variant : Variant) (m : RunState) (most : Limits) (given left before now : Option (List ℕ)) (answer : Result Verdict Fault) (s : Status) → m ≡ opening variant → most ≡ schedule_limits → s ≡ status_of answer
     → IfSome given (λ bytes. outputs.IsOutputFrom (watched_run form) most m bytes left before now answer) → IfSome given (λ bytes. IsRun form variant bytes left before now s)
 runs_so form variant m most None left before now answer s opens limits is told = tt
 runs_so form variant m most (Some bytes) left before now answer s opens limits is told =
-    let here = subst (λ (k : Moment). outputs.IsOutputFrom (watched_run form) most k bytes left before now answer) opens told in
+    let here = subst (λ (k : RunState). outputs.IsOutputFrom (watched_run form) most k bytes left before now answer) opens told in
     let within = subst (λ (l : Limits). outputs.IsOutputFrom (watched_run form) l (opening variant) bytes left before now answer) limits here in
     (subst (λ (k : Status). IsOutputFrom form (opening variant) bytes left before now k) (sym is) (loud_told (watched_on form (opening variant)) bytes left before now answer within), is_watched form variant bytes)
 
 -- ---- completeness
 
 -- where nothing has failed, and each line is allowed and no counter full, a run is done, unless memory runs out
-by_output : (form : Below) (m : Moment) (bytes : List ℕ) (after a b : Option (List ℕ)) (s : Status) → ¬ (s ≡ status.ReadFault) → ¬ (s ≡ status.WriteFault) → IsOutputFrom form m bytes after a b s
+by_output : (form : Below) (m : RunState) (bytes : List ℕ) (after a b : Option (List ℕ)) (s : Status) → ¬ (s ≡ status.ReadFault) → ¬ (s ≡ status.WriteFault) → IsOutputFrom form m bytes after a b s
     → (watched_on form m bytes).verdict ≡ Finished → (s ≡ status.Done) ⊎ (s ≡ status.NoMemory)
 by_output form m bytes after a b status.Done read write t finished = inl refl
 by_output form m bytes after a b (status.BadLine n) read write t finished = absurd (let clash = sym finished ∙ t.0 in let P : ⊥ = cc in P)

@@ -11,14 +11,14 @@ use Rattle.aodv_model.specs.Tables.{Table}
 use Rattle.aodv_model.specs.Cores.{Body, Message, Pkt, Rreq, Rrep, Rerr, SeenRequests, Store, Waiting, Core}
 use Rattle.aodv_model.specs.Handlers.{Cast, Nothing, One, Many, All, Effect, Took, Own, Stored, FromNeighbour}
 use Rattle.mesh_model.specs.Worlds as worlds
-use Rattle.mesh_model.specs.Worlds.{Node, Copy, Event, Happening, Changed, Taken, Sent, CopyHeard, CopyLost, CopyDoubled, Outcome, Idle, Next}
+use Rattle.mesh_model.specs.Worlds.{Node, Copy, Event, WorldEffect, Changed, Taken, Sent, CopyHeard, CopyLost, CopyDoubled, Outcome, Idle, Next}
 use Rattle.mesh_model.specs.Routes.{End, Arrived, Stuck}
 use Rattle.mesh_meaning.specs.Events.{node_of}
 use Rattle.mesh_meaning.specs.Packets.{packet_of}
 use Rattle.mesh_shell.specs.Outputs.{EndsWithLf}
 use Rattle.mesh_grammar.specs.Written.{line, label_number}
 use Rattle.mesh_text.specs.Lines.{name_of, hex, event_words}
-use Rattle.mesh_text.specs.Effects.{shown_byte, datum_text, datum_in, kind_text, took_text, delivery_text, drop_text, set_text, broken_text, cast_text, copies_text, sent_text, datum_fate, happening_text, outcome_text, outcome_lines}
+use Rattle.mesh_text.specs.Effects.{shown_byte, datum_text, datum_in, kind_text, took_text, delivery_text, drop_text, set_text, broken_text, cast_text, copies_text, sent_text, datum_fate, world_effect_text, outcome_text, outcome_lines}
 use Rattle.mesh_text.specs.Tables.{number_line, asked_line, asked_text, known_text, flag_text, entry_text, routes_text, req_text, waits_line, waits_text, store_text, node_text, node_text_in, stuck_line, end_text, flying_text, flight_text}
 use Rattle.mesh_blocks.specs.Changes.{Change, Went, Came, change_text, changes_text}
 
@@ -106,7 +106,7 @@ change_whole (Came l) = whole_line (codes "  + " ++ drop 2 l)
 pub changes_whole : (cs : List Change) → EndsWithLf (changes_text cs)
 changes_whole cs = whole_each change_text cs change_whole
 
--- ---- a route, and the air
+-- ---- a route, and the radio
 
 stuck_whole : (mesh : Nodes) (at hops : ℕ) → EndsWithLf (stuck_line mesh at hops)
 unfolding stuck_line
@@ -176,23 +176,23 @@ sent_whole mesh e cs =
     whole_append (broken_text mesh e.broken ++ cast_text mesh e.cast) (copies_text mesh cs)
     (whole_append (broken_text mesh e.broken) (cast_text mesh e.cast) (broken_whole mesh e.broken) (cast_whole mesh e.cast)) (copies_whole mesh cs)
 
-happening_whole : (mesh : Nodes) (x : ℕ) (h : Happening) → EndsWithLf (happening_text mesh x h)
-unfolding happening_text
-happening_whole mesh x Changed = whole_none
-happening_whole mesh x (Taken took e cs) =
+world_effect_whole : (mesh : Nodes) (x : ℕ) (h : WorldEffect) → EndsWithLf (world_effect_text mesh x h)
+unfolding world_effect_text
+world_effect_whole mesh x Changed = whole_none
+world_effect_whole mesh x (Taken took e cs) =
     whole_append (took_text mesh x took ++ datum_fate mesh x took e) (sent_text mesh e cs)
     (whole_append (took_text mesh x took) (datum_fate mesh x took e) (took_whole mesh x took) (fate_whole mesh x took e)) (sent_whole mesh e cs)
-happening_whole mesh x (Sent e cs) = sent_whole mesh e cs
-happening_whole mesh x (CopyHeard from to) = whole_line (codes "  heard " ++ name_of mesh from ++ 32 ∷ name_of mesh to)
-happening_whole mesh x (CopyLost c) =
+world_effect_whole mesh x (Sent e cs) = sent_whole mesh e cs
+world_effect_whole mesh x (CopyHeard from to) = whole_line (codes "  heard " ++ name_of mesh from ++ 32 ∷ name_of mesh to)
+world_effect_whole mesh x (CopyLost c) =
     whole_append (line (codes "  lost " ++ name_of mesh c.from ++ 32 ∷ name_of mesh c.to)) (datum_in (codes "  dropped ") mesh c.message)
     (whole_line (codes "  lost " ++ name_of mesh c.from ++ 32 ∷ name_of mesh c.to)) (message_whole (codes "  dropped ") mesh c.message)
-happening_whole mesh x (CopyDoubled id to parcel) = whole_line (label_number (codes "  copy ") id ++ 32 ∷ name_of mesh to)
+world_effect_whole mesh x (CopyDoubled id to parcel) = whole_line (label_number (codes "  copy ") id ++ 32 ∷ name_of mesh to)
 
 outcome_whole : (mesh : Nodes) (x : ℕ) (o : Outcome) → EndsWithLf (outcome_text mesh x o)
 outcome_whole mesh x Idle = whole_line (codes "  idle")
 outcome_whole mesh x (worlds.Full node field) = whole_none
-outcome_whole mesh x (Next w happening) = happening_whole mesh x happening
+outcome_whole mesh x (Next w world_effect) = world_effect_whole mesh x world_effect
 
 -- an event, and what it did
 pub event_whole : (mesh : Nodes) (e : Event) (o : Outcome) → EndsWithLf (outcome_lines mesh e o)

@@ -1,33 +1,33 @@
 -- The node that an event has changed, and the block that shows it below the event.
 use Rattle.std.specs.Prelude.{ℕ, List, [], Option, Some, None}
-use Rattle.mesh_model.specs.Worlds.{Event, Give, Turn, Send, Ask, Deliver, Happening, CopyHeard, Outcome, Next}
-use Rattle.mesh_text.specs.Schedule.{Moment, ShowsNode, outcome_at, next_moment}
+use Rattle.mesh_model.specs.Worlds.{Event, Give, Turn, Send, Ask, Deliver, WorldEffect, CopyHeard, Outcome, Next}
+use Rattle.mesh_text.specs.Schedule.{RunState, ShowsNode, outcome_at, next_state}
 use Rattle.mesh_text.specs.Text.{outcome_of_line, text_in}
 
--- the node whose state a happening has changed. A link that comes or goes, and a copy that is lost
+-- the node whose state an event has changed. A link that comes or goes, and a copy that is lost
 -- or doubled, change none
-abbrev pub changed_node : Event → Happening → Option ℕ
-changed_node (Give x d body) happening = Some x
-changed_node (Turn x) happening = Some x
-changed_node (Send x d) happening = Some x
-changed_node (Ask x d) happening = Some x
+abbrev pub changed_node : Event → WorldEffect → Option ℕ
+changed_node (Give x d body) world_effect = Some x
+changed_node (Turn x) world_effect = Some x
+changed_node (Send x d) world_effect = Some x
+changed_node (Ask x d) world_effect = Some x
 changed_node (Deliver id) (CopyHeard from to) = Some to
-changed_node others happening = None
+changed_node others world_effect = None
 
 -- an event that is idle, or is refused, changes none either
 abbrev pub changed_by : Event → Outcome → Option ℕ
-changed_by e (Next w happening) = changed_node e happening
+changed_by e (Next w world_effect) = changed_node e world_effect
 changed_by e others = None
 
--- a node at a moment: what a line `show` of that node writes there
-abbrev pub shown_node : Moment → ℕ → List ℕ
+-- a node in a state: what a line `show` of that node writes there
+abbrev pub shown_node : RunState → ℕ → List ℕ
 shown_node m x = text_in (outcome_of_line m (ShowsNode x))
 
-abbrev pub shown_if : Moment → Option ℕ → List ℕ
+abbrev pub shown_if : RunState → Option ℕ → List ℕ
 shown_if m None = []
 shown_if m (Some x) = shown_node m x
 
--- the block below an event that comes at moment m: the node that the event has changed, at the
--- moment after it
-unfoldable pub block_below : Moment → Event → List ℕ
-block_below m e = shown_if (next_moment m e) (changed_by e (outcome_at m e))
+-- the block below an event that comes at state m: the node that the event has changed, at the
+-- state after it
+unfoldable pub block_below : RunState → Event → List ℕ
+block_below m e = shown_if (next_state m e) (changed_by e (outcome_at m e))

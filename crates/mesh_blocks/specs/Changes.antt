@@ -7,7 +7,7 @@ use Rattle.mesh_base.specs.Parts.{parts}
 use Rattle.mesh_model.specs.Worlds.{Event}
 use Rattle.mesh_grammar.specs.Written.{line}
 use Rattle.mesh_text.specs.Lines.{name_of}
-use Rattle.mesh_text.specs.Schedule.{Moment, outcome_at, next_moment}
+use Rattle.mesh_text.specs.Schedule.{RunState, outcome_at, next_state}
 use Rattle.mesh_blocks.specs.Blocks.{changed_by, shown_node}
 
 -- ---- the lines of a text
@@ -90,22 +90,22 @@ change_text (Came l) = marked (codes "  + ") l
 abbrev pub changes_text : List Change → List ℕ
 changes_text cs = flat_map change_text cs
 
--- a node whose block had this text, and what has changed of it at a moment
+-- a node whose block had this text, and what has changed of it in a state
 abbrev pub changed_line : Nodes → ℕ → List ℕ
 changed_line mesh x = line (codes "changed " ++ name_of mesh x)
 
-unfoldable pub changed_from : (before : List ℕ) → Moment → ℕ → List ℕ
+unfoldable pub changed_from : (before : List ℕ) → RunState → ℕ → List ℕ
 changed_from before n x =
     changed_line n.mesh x ++ changes_text (changes (lines_of before) (lines_of (shown_node n x)))
 
 -- ---- below an event
 
--- a node that was changed between two moments
-abbrev pub changed_if : (m n : Moment) → Option ℕ → List ℕ
+-- a node that was changed between two states
+abbrev pub changed_if : (m n : RunState) → Option ℕ → List ℕ
 changed_if m n None = []
 changed_if m n (Some x) = changed_from (shown_node m x) n x
 
--- what stands below an event that comes at moment m: the node that the event has changed, and what
--- has changed of its block from that moment to the one after it
-unfoldable pub changes_below : Moment → Event → List ℕ
-changes_below m e = changed_if m (next_moment m e) (changed_by e (outcome_at m e))
+-- what stands below an event that comes at state m: the node that the event has changed, and what
+-- has changed of its block from that state to the one after it
+unfoldable pub changes_below : RunState → Event → List ℕ
+changes_below m e = changed_if m (next_state m e) (changed_by e (outcome_at m e))

@@ -3,26 +3,26 @@ use Rattle.std.specs.Prelude.{ℕ, ◌≡◌, ◌+◌, List, []}
 use Rattle.mesh_base.specs.declared.events.Variant.{Variant}
 use Rattle.mesh_text.specs.Accounts.{IsBalanced}
 use Rattle.mesh_text.specs.Text.{text_of_input}
-use Rattle.mesh_text.specs.Runs.{moment_at}
+use Rattle.mesh_text.specs.Runs.{run_state_at}
 use Rattle.mesh_blocks.specs.declared.below.Below.{Below}
 use Rattle.mesh_blocks.specs.Changes.{changes, lines_gone, lines_come, times}
 use Rattle.mesh_blocks.specs.Text.{watched_of_input}
-use Rattle.mesh_blocks.specs.Moments.{moment_within}
+use Rattle.mesh_blocks.specs.RunStates.{state_within}
 use Rattle.mesh_blocks.specs.Parts.{HasBlocksBelowEvents}
 
 -- ---- a watched run
 
--- a watched run differs from the run in its lines alone: it comes to the same moment, verdict and
+-- a watched run differs from the run in its lines alone: it comes to the same state, verdict and
 -- last line
 abbrev pub WatchedRunIsTheRun : Type 0
 WatchedRunIsTheRun = (below : Below) (variant : Variant) (input : List ℕ) →
     let w = watched_of_input below variant input in
     w ≡ record (text_of_input variant input) { lines = w.lines }
 
--- it does so at each moment: after the first i lines, and k events of the next
-abbrev pub MomentIsTheRuns : Type 0
-MomentIsTheRuns = (below : Below) (variant : Variant) (input : List ℕ) (i k : ℕ)
-    → moment_within below variant input i k ≡ moment_at variant input i k
+-- it does so in each state: after the first i lines, and k events of the next
+abbrev pub StateIsTheRuns : Type 0
+StateIsTheRuns = (below : Below) (variant : Variant) (input : List ℕ) (i k : ℕ)
+    → state_within below variant input i k ≡ run_state_at variant input i k
 
 -- so each datum that was given or doubled was delivered, waits in a store or a queue, is in flight,
 -- or was dropped
@@ -31,7 +31,7 @@ DataAreAccountedFor = (below : Below) (variant : Variant) (input : List ℕ)
     → IsBalanced (watched_of_input below variant input).after
 
 -- its text is that of the run, and directly below each event that has changed a node the block of
--- that node at the moment after it, or what has changed of its block. The lines of events, what
+-- that node in the state after it, or what has changed of its block. The lines of events, what
 -- stands below them, and what stands between them are whole lines
 abbrev pub BlocksAreAllThatIsAdded : Type 0
 BlocksAreAllThatIsAdded =

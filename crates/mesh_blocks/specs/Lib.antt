@@ -7,8 +7,8 @@ pub mod Changes
 pub mod Forms
 -- Text: the text of a watched run, and its verdict.
 pub mod Text
--- Moments: the moments of a watched run.
-pub mod Moments
+-- RunStates: the states of a watched run.
+pub mod RunStates
 -- Parts: what a watched run adds to the text of a run.
 pub mod Parts
 -- Laws: what is proved of these definitions.

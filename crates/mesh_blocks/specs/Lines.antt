@@ -1,7 +1,7 @@
 -- What one event comes to, and what is kept for it.
 use Rattle.std.specs.Prelude.{ℕ, ◌≡◌, List, ◌++◌, IfSome, ⊤}
 use Rattle.mesh_model.specs.Worlds.{Event}
-use Rattle.mesh_text.specs.Schedule.{Moment, outcome_at}
+use Rattle.mesh_text.specs.Schedule.{RunState, outcome_at}
 use Rattle.mesh_text.specs.Text.{LineOutcome, On}
 use Rattle.mesh_run.specs.Runs.{line_outcome_at}
 use Rattle.mesh_blocks.specs.declared.below.Below.{Below}
@@ -16,20 +16,20 @@ with_below text (On lines n) = On (lines ++ text) n
 with_below text others = others
 
 -- what an event comes to, with what stands below it, where no line is counted
-abbrev pub watched_event : Below → Moment → Event → LineOutcome
+abbrev pub watched_event : Below → RunState → Event → LineOutcome
 watched_event below m e = with_below (below_text below m e) (line_outcome_at m e)
 
 -- what is written of a node that an event has changed, where its block had this text before
-abbrev pub shown_by : Below → (before : List ℕ) → Moment → ℕ → List ℕ
+abbrev pub shown_by : Below → (before : List ℕ) → RunState → ℕ → List ℕ
 shown_by Blocks before n x = shown_node n x
 shown_by Changes before n x = changed_from before n x
 
--- the block that is kept is that of the node that an event changes, at the moment at which that
+-- the block that is kept is that of the node that an event changes, in the state at which that
 -- event comes
-abbrev pub IsBlockBefore : Moment → Event → List ℕ → Type 0
+abbrev pub IsBlockBefore : RunState → Event → List ℕ → Type 0
 IsBlockBefore m e text = IfSome (changed_by e (outcome_at m e)) (λ x. text ≡ shown_node m x)
 
 -- a block is kept where the changes are to be written
-abbrev pub IsKeptFor : Below → Moment → Event → List ℕ → Type 0
+abbrev pub IsKeptFor : Below → RunState → Event → List ℕ → Type 0
 IsKeptFor Blocks m e text = ⊤
 IsKeptFor Changes m e text = IsBlockBefore m e text

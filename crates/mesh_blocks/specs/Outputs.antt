@@ -2,21 +2,21 @@
 use Rattle.std.specs.Prelude.{ℕ, ◌≡◌, List, Option}
 use Rattle.mesh_base.specs.declared.events.Variant.{Variant}
 use Rattle.mesh_model.specs.Walks.{Cycle}
-use Rattle.mesh_text.specs.Schedule.{Moment, opening, world_of}
-use Rattle.mesh_text.specs.Runs.{moment_at, world_after}
+use Rattle.mesh_text.specs.Schedule.{RunState, opening, world_of}
+use Rattle.mesh_text.specs.Runs.{run_state_at, world_after}
 use Rattle.mesh_run.specs.Outputs.{IsOutputOf}
 use Rattle.mesh_run.specs.declared.say.Say.TheVariants.{All}
 use Rattle.mesh_run.specs.declared.status.Status.{Status}
 use Rattle.mesh_blocks.specs.declared.below.Below.{Below}
 use Rattle.mesh_blocks.specs.Text.{watched_on, watched_of_input}
-use Rattle.mesh_blocks.specs.Moments.{AreDone, moment_within, IsOfEvents}
+use Rattle.mesh_blocks.specs.RunStates.{AreDone, state_within, IsOfEvents}
 use Rattle.mesh_blocks.specs.Parts.{HasBlocksBelowEvents}
 
 -- ---- what is written and answered
 
--- a watched run of these bytes from a moment on has answered, where the source has this left. After
+-- a watched run of these bytes from a state on has answered, where the source has this left. After
 -- a failed read what was written is the text of the lines that were read whole
-abbrev pub IsOutputFrom : Below → Moment → List ℕ → Option (List ℕ) → Option (List ℕ)
+abbrev pub IsOutputFrom : Below → RunState → List ℕ → Option (List ℕ) → Option (List ℕ)
     → Option (List ℕ) → Status → Type 0
 IsOutputFrom below m bytes left before now s =
     IsOutputOf All (watched_on below m) bytes left before now s
@@ -29,12 +29,12 @@ IsOutputFrom below m bytes left before now s =
 pub record IsWatchedRun (below : Below) (variant : Variant) (schedule : List ℕ) : Type 0 where
   pub worlds : let w = watched_of_input below variant schedule in
       world_of w.after ≡ world_after variant schedule w.after.sums.events
-  pub same : (i k : ℕ) → moment_within below variant schedule i k ≡ moment_at variant schedule i k
-  pub moments : (i k : ℕ) → AreDone below variant schedule i
-      → IsOfEvents variant schedule (moment_within below variant schedule i k)
+  pub same : (i k : ℕ) → state_within below variant schedule i k ≡ run_state_at variant schedule i k
+  pub run_states : (i k : ℕ) → AreDone below variant schedule i
+      → IsOfEvents variant schedule (state_within below variant schedule i k)
   pub loop_free : (k d : ℕ) → ¬ (Cycle (world_after variant schedule k) d)
-  pub moments_loop_free : (i k d : ℕ)
-      → ¬ (Cycle (world_of (moment_within below variant schedule i k)) d)
+  pub states_loop_free : (i k d : ℕ)
+      → ¬ (Cycle (world_of (state_within below variant schedule i k)) d)
   pub blocks : HasBlocksBelowEvents below variant schedule
 
 -- what was told of the schedule that a source had, which is that of such a run

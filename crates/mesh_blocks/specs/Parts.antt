@@ -1,12 +1,12 @@
 -- What a watched run adds to the text of a run: whole lines, directly below the lines of each event
--- that has changed a node, which show that node at the moment after it, or what has changed of it.
+-- that has changed a node, which show that node in the state after it, or what has changed of it.
 use Rattle.std.specs.Prelude.{ℕ, ◌≡◌, ◌≢◌, List, [], ◌∷◌, ◌++◌}
 use Rattle.std.specs.List.{concat, AllByRecursion}
 use Rattle.mesh_base.specs.Meshes.{Nodes}
 use Rattle.mesh_base.specs.declared.events.Variant.{Variant}
 use Rattle.mesh_model.specs.Worlds.{Event}
 use Rattle.mesh_shell.specs.Outputs.{EndsWithLf}
-use Rattle.mesh_text.specs.Schedule.{Moment, opening, with_world, outcome_at, next_moment}
+use Rattle.mesh_text.specs.Schedule.{RunState, opening, with_world, outcome_at, next_state}
 use Rattle.mesh_text.specs.Effects.{outcome_lines}
 use Rattle.mesh_text.specs.Text.{text_of_input}
 use Rattle.mesh_text.specs.Runs.{events_of_input, mesh_of_input}
@@ -28,28 +28,28 @@ events_in [] = []
 events_in (Did e ∷ parts) = e ∷ events_in parts
 events_in (Other text ∷ parts) = events_in parts
 
--- ---- their texts, from a moment on: each event leads to the next
+-- ---- their texts, from a state on: each event leads to the next
 
--- an event that is done at a moment, and below it what it did
-abbrev pub event_text : Moment → Event → List ℕ
+-- an event that is done in a state, and below it what it did
+abbrev pub event_text : RunState → Event → List ℕ
 event_text m e = outcome_lines m.mesh e (outcome_at m e)
 
 -- one after another in the text of the run
-abbrev pub run_texts : Moment → List Part → List (List ℕ)
+abbrev pub run_texts : RunState → List Part → List (List ℕ)
 run_texts m [] = []
-run_texts m (Did e ∷ parts) = event_text m e ∷ run_texts (next_moment m e) parts
+run_texts m (Did e ∷ parts) = event_text m e ∷ run_texts (next_state m e) parts
 run_texts m (Other text ∷ parts) = text ∷ run_texts m parts
 
 -- in the watched text each event has its block, or the changes of its block, directly below it
-abbrev pub watched_texts : Below → Moment → List Part → List (List ℕ)
+abbrev pub watched_texts : Below → RunState → List Part → List (List ℕ)
 watched_texts below m [] = []
 watched_texts below m (Did e ∷ parts) =
-    event_text m e ∷ below_text below m e ∷ watched_texts below (next_moment m e) parts
+    event_text m e ∷ below_text below m e ∷ watched_texts below (next_state m e) parts
 watched_texts below m (Other text ∷ parts) = text ∷ watched_texts below m parts
 
--- the text and the watched text of these events, from a moment on: the same parts in both, but for
+-- the text and the watched text of these events, from a state on: the same parts in both, but for
 -- what stands below the events, and each part and all that stands below an event is whole lines
-pub record IsWithBlocks (below : Below) (m : Moment) (es : List Event) (text watched : List ℕ)
+pub record IsWithBlocks (below : Below) (m : RunState) (es : List Event) (text watched : List ℕ)
     : Type 0 where
   pub parts : List Part
   pub events : es ≡ events_in parts
@@ -60,7 +60,7 @@ pub record IsWithBlocks (below : Below) (m : Moment) (es : List Event) (text wat
 -- ---- a run
 
 -- before the first event: the nodes are there, and their world is made
-abbrev pub before_events : Variant → Nodes → Moment
+abbrev pub before_events : Variant → Nodes → RunState
 before_events variant mesh = with_world (record (opening variant) { mesh = mesh })
 
 -- the events of the input stand in order, each with what belongs below it: all of them, unless a

@@ -7,9 +7,9 @@ use Rattle.mesh_grammar.specs.declared.fault.LineFault.{LineFault}
 use Rattle.mesh_grammar.specs.declared.fault.BadWhy.TheVariants.{Fault}
 use Rattle.mesh_io.specs.NextLines.{schedule_limits}
 use Rattle.mesh_shell.specs.Pieces.{Piece, Whole}
-use Rattle.mesh_shell.specs.Story as shell
+use Rattle.mesh_shell.specs.Fold as shell
 use Rattle.mesh_grammar.specs.Written.{line}
-use Rattle.mesh_text.specs.Schedule.{Moment, AcceptedLine, Does, Chooses, line_of, with_world, outcome_at, opening}
+use Rattle.mesh_text.specs.Schedule.{RunState, AcceptedLine, Does, Chooses, line_of, with_world, outcome_at, opening}
 use Rattle.mesh_text.specs.Lines.{words_of}
 use Rattle.mesh_text.specs.Auto.{EventsOutcome, Ended, before, done_then, events_chosen}
 use Rattle.mesh_text.specs.Text.{LineOutcome, Refused, outcome_by_events, outcome_of_auto, outcome_of_line, outcome_of_piece, RunText, ending, outcome_in_run}
@@ -17,8 +17,8 @@ use Rattle.mesh_text.specs.declared.verdict.Verdict.{Verdict}
 use Rattle.mesh_blocks.specs.declared.below.Below.{Below}
 use Rattle.mesh_blocks.specs.Forms.{below_text}
 
--- these events from a moment on, each with what stands below it
-unfoldable pub watched_events : Below → Moment → List Event → EventsOutcome
+-- these events from a state on, each with what stands below it
+unfoldable pub watched_events : Below → RunState → List Event → EventsOutcome
 watched_events below m [] = Ended [] m
 watched_events below m (e ∷ events) =
     done_then m e (outcome_at m e)
@@ -26,8 +26,8 @@ watched_events below m (e ∷ events) =
 
 -- ---- one line
 
--- an allowed line at a moment
-unfoldable pub watched_line : Below → Moment → AcceptedLine → LineOutcome
+-- an allowed line in a state
+unfoldable pub watched_line : Below → RunState → AcceptedLine → LineOutcome
 watched_line below m (Does e) = outcome_by_events (watched_events below (with_world m) (e ∷ []))
 watched_line below m (Chooses count) =
     let chosen = events_chosen count (with_world m) in
@@ -35,12 +35,12 @@ watched_line below m (Chooses count) =
     (watched_events below (with_world m) chosen)
 watched_line below m others = outcome_of_line m others
 
-abbrev pub watched_read : Below → Moment → Result AcceptedLine LineFault → LineOutcome
+abbrev pub watched_read : Below → RunState → Result AcceptedLine LineFault → LineOutcome
 watched_read below m (Ok a) = watched_line below m a
 watched_read below m (Err fault) = Refused (Fault fault)
 
--- what a line of the input comes to at a moment
-unfoldable pub watched_piece : Below → Moment → Piece → LineOutcome
+-- what a line of the input comes to in a state
+unfoldable pub watched_piece : Below → RunState → Piece → LineOutcome
 watched_piece below m (Whole line) =
     watched_read below m (line_of m.mesh (is_some m.world) line)
 watched_piece below m others = outcome_of_piece m others
@@ -49,19 +49,19 @@ watched_piece below m others = outcome_of_piece m others
 
 -- a watched run of a schedule: nothing stands before the text of its first line, and it ends as the
 -- run does
-abbrev pub watched_run : Below → shell.Story Moment Verdict
+abbrev pub watched_run : Below → shell.Fold RunState Verdict
 watched_run below = record {
   head = λ m. [];
   outcome = λ m piece. outcome_in_run m (watched_piece below m piece);
   ending = ending;
 }
 
--- the watched run of these lines from a moment on
-abbrev pub watched_from : Below → Moment → List Piece → RunText
+-- the watched run of these lines from a state on
+abbrev pub watched_from : Below → RunState → List Piece → RunText
 watched_from below m pieces = shell.text_from (watched_run below) m pieces
 
--- what a watched run writes for an input from a moment on, and what it comes to
-abbrev pub watched_on : Below → Moment → List ℕ → RunText
+-- what a watched run writes for an input from a state on, and what it comes to
+abbrev pub watched_on : Below → RunState → List ℕ → RunText
 watched_on below m input = shell.text_on (watched_run below) schedule_limits m input
 
 -- the same from the opening on

@@ -4,7 +4,7 @@ ghost use Rattle.std.specs.Prelude.{◌≡◌};
 /// What stands below an event that has changed a node.
 #[derive(Clone, Copy, Debug, PartialEq, Eq)]
 pub enum Below {
-    /// The node's block: what a line `show` of that node writes at the moment after the event.
+    /// The node's block: what a line `show` of that node writes in the state after the event.
     Blocks,
     /// The lines of that block that went with the event, and those that came.
     Changes,

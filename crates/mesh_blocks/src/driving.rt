@@ -10,7 +10,7 @@ ghost use Rattle.mesh_blocks.specs.Outputs.{IsRun};
 use crate::below::{Below, Form, WithBlocks, WithChanges};
 use crate::watched::Watched;
 use mesh_base::Variant;
-use mesh_io::{Limits, SCHEDULE_ROOM, Sink, Source};
+use mesh_io::{Limits, SCHEDULE_CAPACITY, Sink, Source};
 use mesh_run::Status;
 use std::alloc::Global;
 
@@ -34,7 +34,7 @@ fn run_as<F: Form, I: Source, O: Sink>(
         → (result ≡ Status.Done) ⊎ (result ≡ Status.NoMemory)) }
 {
     let mut watched: Watched<F> = Watched::with(alloc, variant);
-    let answer = mesh_shell::run::<Watched<F>, I, O, SCHEDULE_ROOM>(
+    let answer = mesh_shell::run::<Watched<F>, I, O, SCHEDULE_CAPACITY>(
         alloc,
         &mut watched,
         Limits::of_schedule(),
@@ -47,7 +47,7 @@ fn run_as<F: Form, I: Source, O: Sink>(
 /// Runs the schedule that the source gives, in a world of its own where all nodes run this variant
 /// of the protocol, and writes its text to the sink, line by line, with what is asked for below
 /// each event that has changed a node: with `Blocks` what a line `show` of that node writes at the
-/// moment after the event; with `Changes` a line that names the node, and then each line of that
+/// state after the event; with `Changes` a line that names the node, and then each line of that
 /// block that went with the event or came. They stand in the block's order; between two lines that
 /// stay, those that went stand before those that came.
 ///

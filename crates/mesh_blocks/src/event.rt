@@ -6,10 +6,10 @@ ghost use Rattle.mesh_io.specs.Puts.{Puts};
 ghost use Rattle.mesh_model.specs.Places.{IsEvent};
 ghost use Rattle.mesh_meaning.specs.Answers.{IsDoneInMesh};
 ghost use Rattle.mesh_meaning.specs.Events.{event_of};
-ghost use Rattle.mesh_text.specs.Schedule.{Moment, next_moment, outcome_at, Does};
+ghost use Rattle.mesh_text.specs.Schedule.{RunState, next_state, outcome_at, Does};
 ghost use Rattle.mesh_text.specs.Effects.{outcome_lines};
 ghost use Rattle.mesh_script.specs.Seen.{IsPrintable};
-ghost use Rattle.mesh_run.specs.Moments.{IsAnswer};
+ghost use Rattle.mesh_run.specs.RunStates.{IsAnswer};
 ghost use Rattle.mesh_run.specs.Causes.{HasCauseIf, HasStopCause};
 ghost use Rattle.mesh_run.specs.Runs.{IsLineOf, IsLineRun};
 ghost use Rattle.mesh_blocks.specs.Changes.{changed_line, changed_from};
@@ -133,7 +133,7 @@ fn put_watched<O: Sink>(
     requires printable { IsPrintable state.now.mesh (Line.Step event.now) }
     requires in_mesh { IsDoneInMesh state.now.mesh done.now packet.now.items }
     requires echo { IfSome bytes (λ b. IsLineOf state.now.mesh (Does (event_of event.now)) b.now) }
-    ensures text { (m : Moment)
+    ensures text { (m : RunState)
         → IsAnswer m (event_of event.now) done.now state.now packet.now.items
         → IsKeptFor below m (event_of event.now) drafts.old.before.bytes.items
         → Puts (O.held out.old) (O.held out.new)
@@ -186,7 +186,7 @@ pub fn do_event<'a, O: Sink>(
     requires echo { IfSome bytes (λ b. IsLineOf at.old.mesh (Does (event_of event)) b.now) }
     ensures comes { IsLineRun true at.old (watched_event below at.old (event_of event.entry))
         at.new (O.held out.old) (O.held out.new) result }
-    ensures moment { OnOk result (at.new ≡ next_moment at.old (event_of event.entry)) }
+    ensures run_state { OnOk result (at.new ≡ next_state at.old (event_of event.entry)) }
     ensures cause { HasStopCause (O.faults out.old) (O.faults out.new) result }
 {
     keep_block(&at.state, below, &event, &mut at.line, drafts)?;

@@ -1,19 +1,19 @@
 //! Laws of the definitions. Each function has an empty body and a contract that states a law.
-ghost use Rattle.mesh_blocks.specs.Laws.{WatchedRunIsTheRun, MomentIsTheRuns, BlocksAreAllThatIsAdded, DataAreAccountedFor, ChangesLeadOn, SameLinesHaveNoChanges};
+ghost use Rattle.mesh_blocks.specs.Laws.{WatchedRunIsTheRun, StateIsTheRuns, BlocksAreAllThatIsAdded, DataAreAccountedFor, ChangesLeadOn, SameLinesHaveNoChanges};
 
-/// A watched run differs from the run in its lines alone: it comes to the same moment, verdict and
+/// A watched run differs from the run in its lines alone: it comes to the same state, verdict and
 /// last line.
 pub fn a_watched_run_is_the_run()
     ensures { WatchedRunIsTheRun }
 {}
 
-/// So it does at each moment: after each of its lines, and after each event of the next.
-pub fn each_moment_is_the_runs()
-    ensures { MomentIsTheRuns }
+/// So it does in each state: after each of its lines, and after each event of the next.
+pub fn each_state_is_the_runs()
+    ensures { StateIsTheRuns }
 {}
 
 /// The text of a watched run is that of the run, and directly below each event that has changed a
-/// node it has a block, which shows that node at the moment after the event as a line `show` does,
+/// node it has a block, which shows that node in the state after the event as a line `show` does,
 /// or what has changed of that block. The lines of events, what stands below them, and what stands
 /// between them are whole lines.
 pub fn blocks_are_all_that_is_added()

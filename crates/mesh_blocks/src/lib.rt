@@ -1,7 +1,7 @@
 //! The run of a schedule with what it changes: below each event that has changed a node stands a
-//! block, which is what a line `show` of that node writes at the moment after the event, or the
+//! block, which is what a line `show` of that node writes in the state after the event, or the
 //! changes of that block, which are the lines that went and those that came. Without them the text
-//! is that of the run, as are the moments, the verdict and the last line. The page and the program
+//! is that of the run, as are the states, the verdict and the last line. The page and the program
 //! `mesh_watch` run schedules by it.
 #![tactic(auto)]
 
@@ -19,5 +19,5 @@ pub use below::Below;
 pub use driving::run;
 pub use laws::{
     a_watched_run_is_the_run, blocks_are_all_that_is_added, changes_lead_on,
-    data_are_accounted_for, each_moment_is_the_runs, same_lines_have_no_changes,
+    data_are_accounted_for, each_state_is_the_runs, same_lines_have_no_changes,
 };

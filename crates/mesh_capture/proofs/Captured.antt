@@ -5,14 +5,14 @@ use Rattle.std.specs.List.{AllByRecursion, flat_map}
 use Rattle.std.proofs.Math.Seq.{take_all}
 use Rattle.std.proofs.lemmas.Bool.Decides.{nat_tests}
 use Rattle.mesh_base.specs.Parts.{parts}
-use Rattle.mesh_base.proofs.Spelling.{parts_at, parts_none}
+use Rattle.mesh_base.proofs.WrittenForms.{parts_at, parts_none}
 use Rattle.mesh_grammar.specs.Written.{line}
 use Rattle.mesh_io.specs.declared.limits.Limits.{Limits}
 use Rattle.mesh_io.specs.NextLines.{text_limits}
 use Rattle.mesh_io.proofs.FirstParts.{some_parts}
 use Rattle.mesh_shell.specs.Laws.{AreWhole}
 use Rattle.mesh_shell.specs.Pieces.{Piece, Whole, Long, Beyond, piece_of, last_piece, pieces_of, pieces_within}
-use Rattle.mesh_shell.specs.Story.{RunText, whole, text_from, text_on, goes_on}
+use Rattle.mesh_shell.specs.Fold.{RunText, whole, text_from, text_on, goes_on}
 use Rattle.mesh_text.proofs.Clean.{is_clean, lacks_lf}
 use Rattle.mesh_capture.specs.declared.frame.Frame.{Frame}
 use Rattle.mesh_capture.specs.declared.status.CaptureVerdict.{CaptureVerdict}

@@ -11,7 +11,7 @@ use Rattle.aodv_model.specs.Cores.{Body, Pkt, Rreq, Rrep, Rerr}
 use Rattle.aodv_model.specs.Handlers.{Took, Own, Stored, FromNeighbour}
 use Rattle.mesh_base.specs.Meshes.{Nodes, IsMesh, addr_at}
 use Rattle.mesh_base.specs.Parts.{parts}
-use Rattle.mesh_base.proofs.Spelling.{Lacks, parts_at}
+use Rattle.mesh_base.proofs.WrittenForms.{Lacks, parts_at}
 use Rattle.mesh_model.specs.Places.{AreNumbered}
 use Rattle.mesh_model.specs.Worlds.{Copy, find_copy, without}
 use Rattle.mesh_meaning.specs.Packets.{packet_of}

@@ -6,13 +6,13 @@ use Rattle.std.proofs.lemmas.Bool.{and_from}
 use Rattle.mesh_base.specs.Addresses.{address_of}
 use Rattle.mesh_base.specs.Meshes.{Nodes, IsMesh, addr_at}
 use Rattle.mesh_base.specs.Parts.{parts}
-use Rattle.mesh_base.proofs.Spelling.{Lacks, number_up_to-decimal, positive-decimal}
+use Rattle.mesh_base.proofs.WrittenForms.{Lacks, number_up_to-decimal, positive-decimal}
 use Rattle.mesh_model.specs.Worlds.{Event, Give, Turn, Send, Ask, Link, Cut, Deliver, Lose, Double}
 use Rattle.mesh_grammar.specs.Forms.{Arguments, OneAddress, TwoAddresses, OneNumber, AddressesAndText, IsText}
 use Rattle.mesh_grammar.specs.Laws.{HaveAddresses}
 use Rattle.mesh_grammar.specs.Words.{is_text}
 use Rattle.mesh_grammar.specs.Written.{line, command_text}
-use Rattle.mesh_grammar.proofs.Spellings.{words_in, HaveNumbers, words_written, text_is}
+use Rattle.mesh_grammar.proofs.CommandLines.{words_in, HaveNumbers, words_written, text_is}
 use Rattle.mesh_text.specs.Lines.{name_of, event_words}
 use Rattle.mesh_text.specs.Ranges.{IsEventLine}
 use Rattle.mesh_text.proofs.Clean.{is_clean, name_clean, decimal_clean, clean_append, clean_body}

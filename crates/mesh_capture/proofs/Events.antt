@@ -17,9 +17,9 @@ use Rattle.mesh_meaning.specs.Events.{node_of}
 use Rattle.mesh_model.specs.Accounts.{in_item, in_message, in_taken, in_dropped, waiting, queued_data, in_flight}
 use Rattle.mesh_model.specs.Places.{IsInMesh, IsNodeInMesh, IsEvent}
 use Rattle.mesh_model.specs.Worlds as worlds
-use Rattle.mesh_model.specs.Worlds.{World, Node, Copy, Event, Give, Turn, Send, Ask, Link, Cut, Deliver, Lose, Double, Outcome, Idle, Next, Happening, Changed, Taken, Sent, CopyHeard, CopyLost, CopyDoubled, after, step, at_node, at_copy, unless_full, turn_of, send_of, ask_of, done_by, push, with_item, without_copy, with_double, is_parcel, with_link, without_link, are_linked, range, copies, copies_of, receivers, members_below, find_copy}
+use Rattle.mesh_model.specs.Worlds.{World, Node, Copy, Event, Give, Turn, Send, Ask, Link, Cut, Deliver, Lose, Double, Outcome, Idle, Next, WorldEffect, Changed, Taken, Sent, CopyHeard, CopyLost, CopyDoubled, after, step, at_node, at_copy, unless_full, turn_of, send_of, ask_of, done_by, push, with_item, without_copy, with_double, is_parcel, with_link, without_link, are_linked, range, copies, copies_of, receivers, members_below, find_copy}
 use Rattle.mesh_model.proofs.MeshSteps.{own}
-use Rattle.mesh_text.specs.Effects.{datum_in, happening_text, outcome_text, outcome_lines}
+use Rattle.mesh_text.specs.Effects.{datum_in, world_effect_text, outcome_text, outcome_lines}
 use Rattle.mesh_text.specs.Lines.{name_of, event_words}
 use Rattle.mesh_text.specs.Ranges.{IsEventLine}
 use Rattle.mesh_lines.specs.declared.below.Below.{Below}
@@ -31,7 +31,7 @@ use Rattle.mesh_capture.proofs.Data.{queue_has_none, first_is_none, copy_has_non
 use Rattle.mesh_capture.proofs.Effects.{stand, MayBeIdle, idle_reads, lost_datum, heard_reads, lost_reads, double_reads}
 use Rattle.mesh_capture.proofs.EventLines.{below_of, event_read}
 use Rattle.mesh_capture.proofs.Flights.{numbers_end}
-use Rattle.mesh_capture.proofs.Happenings.{IsReadable, packet_in, turn_reads, sent_reads}
+use Rattle.mesh_capture.proofs.WorldEffects.{IsReadable, packet_in, turn_reads, sent_reads}
 use Rattle.mesh_capture.proofs.PacketTexts.{strange, not_strange}
 use Rattle.mesh_capture.proofs.Told.{Reads, reads_none, reads_append}
 
@@ -94,7 +94,7 @@ module _ (mesh : Nodes) (w : World) (n : ℕ) (plain : IsPlain mesh w) where
   -- ---- data and links
 
   give_read : (x d : ℕ) (body : List ℕ) → x < length w.nodes → IsReadBelow mesh w n (Give x d body) [] (step w (Give x d body))
-  unfolding IsReadBelow step happening_text
+  unfolding IsReadBelow step world_effect_text
   give_read x d body lt = by_node (slice_get w.nodes x) refl
     where
       by_node : (o : Option Node) → slice_get w.nodes x ≡ o → IsReadBelow mesh w n (Give x d body) [] (at_node o (λ core queue. Next (push w x (New body d)) Changed))
@@ -103,12 +103,12 @@ module _ (mesh : Nodes) (w : World) (n : ℕ) (plain : IsPlain mesh w) where
           λ fits. (below.Nothing, subst (λ cs. Reads mesh (stand w.flying n below.Nothing) [] [] (stand cs n below.Nothing)) (sym (push_flies w x (New body d))) (stays (Give x d body)))
 
   link_read : (a b : ℕ) → IsReadBelow mesh w n (Link a b) [] (step w (Link a b))
-  unfolding IsReadBelow step happening_text
+  unfolding IsReadBelow step world_effect_text
   link_read a b =
       if_case (IsReadBelow mesh w n (Link a b) []) (are_linked w.links a b) Idle (Next (with_link w a b) Changed) (λ _. idle_read (Link a b) tt) (λ _ fits. (below.Link, stays (Link a b)))
 
   cut_read : (a b : ℕ) → IsReadBelow mesh w n (Cut a b) [] (step w (Cut a b))
-  unfolding IsReadBelow step happening_text
+  unfolding IsReadBelow step world_effect_text
   cut_read a b =
       if_case (IsReadBelow mesh w n (Cut a b) []) (are_linked w.links a b) (Next (without_link w a b) Changed) Idle (λ _ fits. (below.Link, stays (Cut a b))) (λ _. idle_read (Cut a b) tt)
 
@@ -129,7 +129,7 @@ module _ (mesh : Nodes) (w : World) (n : ℕ) (plain : IsPlain mesh w) where
   ip_lt x node is = subst (λ y. y < length w.nodes) (sym (node_is x node is).named) (slice_get_within w.nodes x node is)
 
   turn_read : (x : ℕ) (core : Core) (queue : List Item) → slice_get w.nodes x ≡ Some (record { core = core; queue = queue }) → IsReadBelow mesh w n (Turn x) [] (turn_of w x core queue)
-  unfolding IsReadBelow done_by copies happening_text
+  unfolding IsReadBelow done_by copies world_effect_text
   turn_read x core [] is = idle_read (Turn x) tt
   turn_read x core (item ∷ items) is = unless (turn_full core (range w x) item)
     where
@@ -163,7 +163,7 @@ module _ (mesh : Nodes) (w : World) (n : ℕ) (plain : IsPlain mesh w) where
           )
 
   send_read : (x d : ℕ) (core : Core) (queue : List Item) → d < length w.nodes → slice_get w.nodes x ≡ Some (record { core = core; queue = queue }) → IsReadBelow mesh w n (Send x d) [] (send_of w x d core queue)
-  unfolding IsReadBelow done_by copies happening_text
+  unfolding IsReadBelow done_by copies world_effect_text
   send_read x d core queue lt is =
       if_case (IsReadBelow mesh w n (Send x d) []) (may_send core d) (unless_full x (send_full core (range w x) d) (Next (done_by w x (send core (range w x) d) queue) (Sent (send core (range w x) d).effect (copies w x ((send core (range w x) d).effect).cast)))) Idle
       (λ may. unless may (send_full core (range w x) d)) (λ _. idle_read (Send x d) tt)
@@ -184,7 +184,7 @@ module _ (mesh : Nodes) (w : World) (n : ℕ) (plain : IsPlain mesh w) where
           λ fits. (below.Casts (addr_at mesh x) (packet_in mesh e.cast), sent_reads mesh plain.mesh_is w.flying n 1 x e tos w.next_copy (can may) some_number plain.in_mesh.numbered fits)
 
   ask_read : (x d : ℕ) (core : Core) (queue : List Item) → d < length w.nodes → slice_get w.nodes x ≡ Some (record { core = core; queue = queue }) → IsReadBelow mesh w n (Ask x d) [] (ask_of w x d core queue)
-  unfolding IsReadBelow done_by copies happening_text
+  unfolding IsReadBelow done_by copies world_effect_text
   ask_read x d core queue lt is =
       if_case (IsReadBelow mesh w n (Ask x d) []) (may_ask core d) (unless_full x (ask_full core) (Next (done_by w x (ask core d) queue) (Sent (ask core d).effect (copies w x ((ask core d).effect).cast)))) Idle
       (λ _. unless (ask_full core)) (λ _. idle_read (Ask x d) tt)
@@ -216,7 +216,7 @@ module _ (mesh : Nodes) (w : World) (n : ℕ) (plain : IsPlain mesh w) where
 
   deliver_read : (id : ℕ) (o : Option Copy) → find_copy w.flying id ≡ o
       → IsReadBelow mesh w n (Deliver id) (frame_if mesh n false o) (at_copy o (λ c. Next (push (without_copy w id) c.to (Heard c.from c.message)) (CopyHeard c.from c.to)))
-  unfolding IsReadBelow happening_text
+  unfolding IsReadBelow world_effect_text
   deliver_read id None is = idle_read (Deliver id) tt
   deliver_read id (Some c) is =
       λ fits. (
@@ -232,7 +232,7 @@ module _ (mesh : Nodes) (w : World) (n : ℕ) (plain : IsPlain mesh w) where
   datum_lost cs id (Rerr dests) none = reads_none mesh (stand cs n (below.Loses id))
 
   lose_read : (id : ℕ) (o : Option Copy) → find_copy w.flying id ≡ o → IsReadBelow mesh w n (Lose id) (frame_if mesh n true o) (at_copy o (λ c. Next (without_copy w id) (CopyLost c)))
-  unfolding IsReadBelow happening_text
+  unfolding IsReadBelow world_effect_text
   lose_read id None is = idle_read (Lose id) tt
   lose_read id (Some c) is =
       λ fits. (
@@ -244,7 +244,7 @@ module _ (mesh : Nodes) (w : World) (n : ℕ) (plain : IsPlain mesh w) where
 
   double_read : (id : ℕ) (o : Option Copy) → find_copy w.flying id ≡ o
       → IsReadBelow mesh w n (Double id) [] (at_copy o (λ c. Next (with_double w c) (CopyDoubled w.next_copy c.to (is_parcel c.message))))
-  unfolding IsReadBelow happening_text
+  unfolding IsReadBelow world_effect_text
   double_read id None is = idle_read (Double id) tt
   double_read id (Some c) is =
       λ fits. (below.Doubles id, double_reads mesh plain.mesh_is w.flying n 1 id w.next_copy c is some_number (omega (arith, fits)) plain.in_mesh.numbered)

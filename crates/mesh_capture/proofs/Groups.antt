@@ -12,7 +12,7 @@ use Rattle.aodv_model.specs.Soundness.{AreBelow}
 use Rattle.mesh_base.specs.Members.{NodeIds, members_below}
 use Rattle.mesh_base.specs.Meshes.{Nodes, IsMesh, addr_at}
 use Rattle.mesh_base.specs.Parts.{parts}
-use Rattle.mesh_base.proofs.Spelling.{Lacks, one_lacks, parts_at, parts_none}
+use Rattle.mesh_base.proofs.WrittenForms.{Lacks, one_lacks, parts_at, parts_none}
 use Rattle.mesh_text.specs.Effects.{more_names, names, set_text}
 use Rattle.mesh_text.specs.Lines.{name_of}
 use Rattle.mesh_lines.specs.Forms.{address_then, rise_from, are_addresses}

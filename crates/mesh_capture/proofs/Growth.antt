@@ -10,7 +10,7 @@ use Rattle.mesh_base.specs.Meshes.{Nodes}
 use Rattle.mesh_grammar.specs.Written.{line, label_number}
 use Rattle.mesh_meaning.specs.Events.{node_of}
 use Rattle.mesh_model.specs.Worlds.{World, Node, Copy, Event, Give, Turn, Send, Ask, Link, Cut, Deliver, Lose, Double, Outcome, Idle, Next, Changed, Taken, Sent, CopyHeard, CopyLost, CopyDoubled, after, step, at_node, at_copy, unless_full, turn_of, send_of, ask_of, done_by, push, with_item, without_copy, with_double, is_parcel, with_link, without_link, are_linked, range, copies, find_copy}
-use Rattle.mesh_text.specs.Effects.{took_text, datum_fate, broken_text, cast_text, copies_text, sent_text, happening_text, outcome_text, outcome_lines}
+use Rattle.mesh_text.specs.Effects.{took_text, datum_fate, broken_text, cast_text, copies_text, sent_text, world_effect_text, outcome_text, outcome_lines}
 use Rattle.mesh_text.specs.Lines.{name_of, event_words}
 
 -- a line has a byte or more
@@ -61,7 +61,7 @@ module _ (mesh : Nodes) (w : World) where
   copy_pays e f (Some c) pays = pays c
 
   taken_pays : (x : ℕ) (core : Core) (item : Item) (items : List Item) → Pays mesh w (Turn x) (Next (done_by w x (turn core (range w x) item) items) (Taken (took core item) (turn core (range w x) item).effect (copies w x ((turn core (range w x) item).effect).cast)))
-  unfolding Pays done_by happening_text
+  unfolding Pays done_by world_effect_text
   taken_pays x core item items =
       let e : Effect = (turn core (range w x) item).effect in
       let cs : List Copy = copies w x e.cast in
@@ -76,7 +76,7 @@ module _ (mesh : Nodes) (w : World) where
       (taken_pays x core item items)
 
   send_pays : (x d : ℕ) (core : Core) (queue : List Item) → Pays mesh w (Send x d) (send_of w x d core queue)
-  unfolding Pays done_by happening_text
+  unfolding Pays done_by world_effect_text
   send_pays x d core queue =
       let did : Reaction = send core (range w x) d in
       let cs : List Copy = copies w x (did.effect).cast in
@@ -84,7 +84,7 @@ module _ (mesh : Nodes) (w : World) where
       (λ _. unless_pays (Send x d) x (send_full core (range w x) d) (Next (done_by w x did queue) (Sent did.effect cs)) (let own = sent_long mesh did.effect cs in omega arith)) (λ _. idle_pays (Send x d))
 
   ask_pays : (x d : ℕ) (core : Core) (queue : List Item) → Pays mesh w (Ask x d) (ask_of w x d core queue)
-  unfolding Pays done_by happening_text
+  unfolding Pays done_by world_effect_text
   ask_pays x d core queue =
       let did : Reaction = ask core d in
       let cs : List Copy = copies w x (did.effect).cast in
@@ -92,7 +92,7 @@ module _ (mesh : Nodes) (w : World) where
       (λ _. unless_pays (Ask x d) x (ask_full core) (Next (done_by w x did queue) (Sent did.effect cs)) (let own = sent_long mesh did.effect cs in omega arith)) (λ _. idle_pays (Ask x d))
 
   step_pays : (e : Event) → Pays mesh w e (step w e)
-  unfolding Pays step happening_text
+  unfolding Pays step world_effect_text
   step_pays (Give x d body) = node_pays (Give x d body) (λ core queue. Next (push w x (New body d)) Changed) (slice_get w.nodes x) (λ core queue. let same = push_numbers w x (New body d) in omega arith)
   step_pays (Turn x) = node_pays (Turn x) (turn_of w x) (slice_get w.nodes x) (turn_pays x)
   step_pays (Send x d) = node_pays (Send x d) (send_of w x d) (slice_get w.nodes x) (send_pays x d)

@@ -9,7 +9,7 @@ use Rattle.hex.specs.declared.error.FromHexError.TheVariants.{OddLength}
 use Rattle.aodv_model.proofs.Entries.{if_case}
 use Rattle.mesh_base.specs.declared.limits.TheConstants.{LONGEST_PACKET}
 use Rattle.mesh_base.specs.Parts.{parts}
-use Rattle.mesh_base.proofs.Spelling.{Lacks, parts_none}
+use Rattle.mesh_base.proofs.WrittenForms.{Lacks, parts_none}
 use Rattle.mesh_grammar.specs.Words.{are_printable}
 use Rattle.mesh_text.specs.Lines.{hex, hex_byte, hex_digit}
 use Rattle.mesh_text.specs.Effects.{shown_byte}

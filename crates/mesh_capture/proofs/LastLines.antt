@@ -14,7 +14,7 @@ use Rattle.mesh_base.specs.declared.events.Counter as full
 use Rattle.mesh_base.specs.declared.events.Counter.TheVariants as field
 use Rattle.mesh_base.specs.Meshes.{Nodes, IsMesh, addr_at}
 use Rattle.mesh_base.specs.Parts.{parts}
-use Rattle.mesh_base.proofs.Spelling.{Lacks, one_lacks, parts_at, parts_none}
+use Rattle.mesh_base.proofs.WrittenForms.{Lacks, one_lacks, parts_at, parts_none}
 use Rattle.mesh_grammar.specs.declared.fault.BadWhy.{BadWhy}
 use Rattle.mesh_grammar.specs.declared.fault.BadWhy.TheVariants.{Fault, TooLong, TooMuch}
 use Rattle.mesh_grammar.specs.declared.fault.LineFault.{LineFault}

@@ -12,7 +12,7 @@ pub mod PacketTexts
 pub mod Effects
 pub mod Casts
 pub mod Data
-pub mod Happenings
+pub mod WorldEffects
 pub mod Events
 pub mod Growth
 pub mod Steady

@@ -19,7 +19,7 @@ use Rattle.aodv_model.specs.Tables.{Table}
 use Rattle.mesh_base.specs.Members.{NodeIds, members_below}
 use Rattle.mesh_base.specs.Meshes.{Nodes, IsMesh}
 use Rattle.mesh_base.specs.Parts.{parts}
-use Rattle.mesh_base.proofs.Spelling.{Lacks}
+use Rattle.mesh_base.proofs.WrittenForms.{Lacks}
 use Rattle.mesh_grammar.specs.Commands.{greatest_id}
 use Rattle.mesh_grammar.specs.Forms.{greatest_first}
 use Rattle.mesh_grammar.specs.Written.{line}

@@ -6,11 +6,11 @@ use Rattle.mesh_base.specs.declared.limits.TheConstants.{MOST_EVENTS}
 use Rattle.mesh_base.specs.Addresses.{dotted_decimal}
 use Rattle.mesh_base.specs.Meshes.{Nodes, IsMesh, addr_at}
 use Rattle.mesh_base.specs.Parts.{parts}
-use Rattle.mesh_base.proofs.Spelling.{Lacks, address_of-dotted}
+use Rattle.mesh_base.proofs.WrittenForms.{Lacks, address_of-dotted}
 use Rattle.mesh_grammar.specs.Forms.{Arguments, NoArgument, OneAddress, TwoAddresses, OneNumber, NumberedAddress, greatest_first}
 use Rattle.mesh_grammar.specs.Laws.{HaveAddresses}
 use Rattle.mesh_grammar.specs.Written.{line, command_text}
-use Rattle.mesh_grammar.proofs.Spellings.{words_in, HaveNumbers, words_written}
+use Rattle.mesh_grammar.proofs.CommandLines.{words_in, HaveNumbers, words_written}
 use Rattle.mesh_text.specs.Auto.{auto_end}
 use Rattle.mesh_text.specs.Lines.{name_of, words_of}
 use Rattle.mesh_text.specs.Ranges.{IsNewNode}

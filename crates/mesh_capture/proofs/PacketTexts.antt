@@ -15,7 +15,7 @@ use Rattle.aodv_wire.specs.RouteError as rerr
 use Rattle.aodv_wire.specs.RouteReply as rrep
 use Rattle.aodv_wire.specs.RouteRequest as rreq
 use Rattle.aodv_wire.specs.DataPacket as data_packet
-use Rattle.aodv_wire.specs.Spells.{spelling}
+use Rattle.aodv_wire.specs.Encodes.{encoding}
 use Rattle.mesh_base.specs.declared.addr.Addr.{Addr}
 use Rattle.mesh_base.specs.declared.limits.TheConstants.{MOST_NODES}
 use Rattle.mesh_base.specs.Meshes.{Nodes, IsMesh}
@@ -69,7 +69,7 @@ few_pairs mesh dests is in_mesh = elim (cases_lt 0 (maps.len dests)) [
 ]
 
 pub packet_text : (mesh : Nodes) (m : Message) → IsMesh mesh → IsMessageInMesh (length mesh) m → in_message strange m ≡ 0 → IsPacketText (packet_of mesh m)
-unfolding packet_of spelling
+unfolding packet_of encoding
 packet_text mesh (Pkt b d o) is in_mesh none =
     let text = and_parts _ (are_printable b) (not_strange o d b none) in
     let short = in_mesh.2.1 in

@@ -18,11 +18,11 @@ use Rattle.mesh_base.proofs.Readings.{number_up_to-le}
 use Rattle.mesh_grammar.specs.declared.fault.LineFault.{LineFault}
 use Rattle.mesh_grammar.specs.declared.fault.LineFault.TheVariants.{Word, BadAddress, BadNumber, Early, Unknown}
 use Rattle.mesh_grammar.specs.Forms.{TwoAddresses}
-use Rattle.mesh_grammar.specs.Words.{Mention, span_at, next_at}
+use Rattle.mesh_grammar.specs.Words.{SpannedAddr, span_at, next_at}
 use Rattle.mesh_grammar.specs.Written.{line, command_text}
 use Rattle.mesh_grammar.proofs.Canonical.{number_is_written, address_is_written}
 use Rattle.mesh_grammar.proofs.Readings.{with_argument_case, if_case}
-use Rattle.mesh_grammar.proofs.Spellings.{words_in, HaveNumbers, words_written}
+use Rattle.mesh_grammar.proofs.CommandLines.{words_in, HaveNumbers, words_written}
 use Rattle.mesh_model.specs.Places.{IsEvent}
 use Rattle.mesh_model.specs.Worlds.{Copy, Event, Give, Turn, Send, Ask, Link, Cut, Deliver, Lose, Double}
 use Rattle.mesh_model.proofs.Lists.{each_append}
@@ -80,7 +80,7 @@ module _ (most : ℕ) (mesh : Nodes) where
   WordsTold first words (Ok None) = Unit {0}
   WordsTold first words (Err f) = HasNear most f
 
-  in_told : (first : Bool) (words : List (List ℕ)) (a : Mention) (place : Place) → IsNear most a.span → words ≡ dotted_decimal a.address ∷ decimal place.x ∷ decimal place.y ∷ [] → place.x ≤ GREATEST_PLACE → place.y ≤ GREATEST_PLACE
+  in_told : (first : Bool) (words : List (List ℕ)) (a : SpannedAddr) (place : Place) → IsNear most a.span → words ≡ dotted_decimal a.address ∷ decimal place.x ∷ decimal place.y ∷ [] → place.x ≤ GREATEST_PLACE → place.y ≤ GREATEST_PLACE
       → WordsTold first words (placing_in mesh first a place)
   in_told first words a place near is east north =
       if_case (WordsTold first words) (eqb (length mesh) 0) (Err Early) _ (λ _. tt) (λ _.

@@ -11,22 +11,22 @@ use Rattle.mesh_io.specs.declared.limits.TheConstants.{LONGEST_TEXT}
 use Rattle.mesh_io.specs.NextLines.{text_limits}
 use Rattle.mesh_model.specs.Worlds.{World, Event, Give, Turn, Send, Ask, Link, Cut, Deliver, Lose, Double, Changed, Idle, Next, after, step, range, with_link, without_link, are_linked, start}
 use Rattle.mesh_shell.specs.Pieces.{Piece, Whole, Long, Beyond}
-use Rattle.mesh_shell.specs.Story as shell
-use Rattle.mesh_shell.specs.Story.{whole}
+use Rattle.mesh_shell.specs.Fold as shell
+use Rattle.mesh_shell.specs.Fold.{whole}
 use Rattle.mesh_text.specs.Lines.{event_words}
-use Rattle.mesh_text.specs.Runs.{events_after, moment_after}
+use Rattle.mesh_text.specs.Runs.{events_after, run_state_after}
 use Rattle.mesh_text.specs.Schedule as schedule
-use Rattle.mesh_text.specs.Schedule.{AcceptedLine, line_of, world_of, next_moment, with_line_read}
+use Rattle.mesh_text.specs.Schedule.{AcceptedLine, line_of, world_of, next_state, with_line_read}
 use Rattle.mesh_text.specs.Text as text
 use Rattle.mesh_text.specs.Text.{LineOutcome, On, Refused, Full, outcome_of_read, pieces_of_input}
-use Rattle.mesh_text.proofs.MomentLaws.{world_after_events, mesh_after_events, count_after_events}
-use Rattle.mesh_text.proofs.Moments.{IsKept, IsKeptCame, opening_kept}
+use Rattle.mesh_text.proofs.RunStateLaws.{world_after_events, mesh_after_events, count_after_events}
+use Rattle.mesh_text.proofs.RunStates.{IsKept, IsKeptCame, opening_kept}
 use Rattle.mesh_text.proofs.RunLaws.{GoesBy, result_goes}
 use Rattle.mesh_grid.specs.declared.line.Placing.{Placing}
 use Rattle.mesh_grid.specs.Links.{may_come}
 use Rattle.mesh_grid.specs.Lines.{placing_of}
 use Rattle.mesh_grid.specs.Runs.{events_by, events_of_piece, events_of_placing, events_from, events_of_input, mesh_of_input}
-use Rattle.mesh_grid.specs.Text.{Moment, opening, has_begun, changes, change_line, other_line, outcome_by, outcome_of_placing, outcome_of_piece, next, RunText, goes_on, text_from, text_of_input}
+use Rattle.mesh_grid.specs.Text.{RunState, opening, has_begun, changes, change_line, other_line, outcome_by, outcome_of_placing, outcome_of_piece, next, RunText, goes_on, text_from, text_of_input}
 use Rattle.mesh_grid.proofs.PlaceRuns.{other_allowed, piece_kept, run_in, run_follows}
 use Rattle.mesh_lines.specs.declared.below.Below.{Below}
 use Rattle.mesh_lines.specs.declared.below.Below.TheVariants as below
@@ -84,14 +84,14 @@ one_long mesh e = line_long (codes "  " ++ event_words mesh e)
     line_long : (t : List ℕ) → 1 ≤ length (line t)
     line_long t = let all = length-append t (10 ∷ []) in omega arith
 
-change_told : (k : ℕ) (m : schedule.Moment) (e : Event) → IsChange m.mesh e → IsSteady k m → ReadsTo m below.Place (change_line m.mesh e) [] (next_moment m e) below.Place
-unfolding next_moment
+change_told : (k : ℕ) (m : schedule.RunState) (e : Event) → IsChange m.mesh e → IsSteady k m → ReadsTo m below.Place (change_line m.mesh e) [] (next_state m e) below.Place
+unfolding next_state
 change_told k m e change is =
     subst (λ cs. (j : ℕ) → (i : ℕ) × IsTold (reading_at m below.Place j) (change_line m.mesh e) [] (reading_of m.mesh (stand cs (m.sums.events + 1) below.Place) i))
     (sym (change_leaves m.mesh (world_of m) e change).flying)
     (change_reads m.mesh is.kept.mesh (world_of m).flying m.sums.events e change)
 
-change_steady : (k : ℕ) (m : schedule.Moment) (e : Event) → 1 ≤ length m.mesh → IsChange m.mesh e → IsSteady k m → IsSteady (k + length (change_line m.mesh e)) (next_moment m e)
+change_steady : (k : ℕ) (m : schedule.RunState) (e : Event) → 1 ≤ length m.mesh → IsChange m.mesh e → IsSteady k m → IsSteady (k + length (change_line m.mesh e)) (next_state m e)
 change_steady k m e some change is =
     let long = one_long m.mesh e in
     let copies = is.copies in
@@ -100,16 +100,16 @@ change_steady k m e some change is =
 
 -- ---- the changes that follow one another
 
-record ChangesTold (k : ℕ) (m : schedule.Moment) (es : List Event) : Type 0 where
-  reads : ReadsTo m below.Place (flat_map (change_line m.mesh) es) (frames_of m es) (moment_after m es) below.Place
-  steady : IsSteady (k + length (flat_map (change_line m.mesh) es)) (moment_after m es)
-  lines : (moment_after m es).lines ≡ m.lines
+record ChangesTold (k : ℕ) (m : schedule.RunState) (es : List Event) : Type 0 where
+  reads : ReadsTo m below.Place (flat_map (change_line m.mesh) es) (frames_of m es) (run_state_after m es) below.Place
+  steady : IsSteady (k + length (flat_map (change_line m.mesh) es)) (run_state_after m es)
+  lines : (run_state_after m es).lines ≡ m.lines
 
-changes_told : (k : ℕ) (m : schedule.Moment) (es : List Event) → 1 ≤ length m.mesh → AreChanges m.mesh es → IsSteady k m → ChangesTold k m es
-unfolding moment_after frames_from next_moment
+changes_told : (k : ℕ) (m : schedule.RunState) (es : List Event) → 1 ≤ length m.mesh → AreChanges m.mesh es → IsSteady k m → ChangesTold k m es
+unfolding run_state_after frames_from next_state
 changes_told k m [] some are is = record { reads = to_none m below.Place; steady = later_steady k (k + 0) m (omega arith) is; lines = refl }
 changes_told k m (e ∷ es) some are is =
-    let n : schedule.Moment = next_moment m e in
+    let n : schedule.RunState = next_state m e in
     let own : List ℕ = change_line m.mesh e in
     let others : List ℕ = flat_map (change_line m.mesh) es in
     let rest = changes_told (k + length own) n es some are.1 (change_steady k m e some are.0 is) in
@@ -117,32 +117,32 @@ changes_told k m (e ∷ es) some are is =
     let all = length-append own others in
     let sum : k + length own + length others ≡ k + length (own ++ others) = omega arith in
     record {
-      reads = subst (λ fs. ReadsTo m below.Place (own ++ others) fs (moment_after n es) below.Place) (sym (ap (λ fs. fs ++ frames_of n es) none))
-          (to_append m n (moment_after n es) below.Place below.Place below.Place own others [] (frames_of n es) (change_told k m e are.0 is) rest.reads);
-      steady = subst (λ j. IsSteady j (moment_after n es)) sum rest.steady;
+      reads = subst (λ fs. ReadsTo m below.Place (own ++ others) fs (run_state_after n es) below.Place) (sym (ap (λ fs. fs ++ frames_of n es) none))
+          (to_append m n (run_state_after n es) below.Place below.Place below.Place own others [] (frames_of n es) (change_told k m e are.0 is) rest.reads);
+      steady = subst (λ j. IsSteady j (run_state_after n es)) sum rest.steady;
       lines = rest.lines;
     }
 
 -- ---- a line about a place
 
 -- the line itself, as it stands
-placing_reads : (m : Moment) (bytes : List ℕ) (new : Placing) (b : Below) → IsPlaceLine m.run.mesh bytes new → IsMesh m.run.mesh → ReadsTo m.run b (line bytes) [] m.run below.Place
+placing_reads : (m : RunState) (bytes : List ℕ) (new : Placing) (b : Below) → IsPlaceLine m.run.mesh bytes new → IsMesh m.run.mesh → ReadsTo m.run b (line bytes) [] m.run below.Place
 placing_reads m bytes new b told is =
     subst (λ t. ReadsTo m.run b (line t) [] m.run below.Place) (sym told.written)
     (place_reads m.run.mesh is (stand (world_of m.run).flying m.run.sums.events b) new told.east told.north)
 
-placed_line_told : (reach k : ℕ) (m : Moment) (bytes : List ℕ) (new : Placing) → IsPlaceLine m.run.mesh bytes new → IsSteady k m.run → LineTold k m.run (events_of_placing reach m new) (outcome_of_placing reach m bytes new)
+placed_line_told : (reach k : ℕ) (m : RunState) (bytes : List ℕ) (new : Placing) → IsPlaceLine m.run.mesh bytes new → IsSteady k m.run → LineTold k m.run (events_of_placing reach m new) (outcome_of_placing reach m bytes new)
 unfolding LineTold frames_from
 placed_line_told reach k m bytes new told is = by (may_come m.places new)
   where
     by : (may : Bool) → LineTold k m.run (cond may (changes reach m new) [])
-        (cond may (On (line bytes ++ flat_map (change_line m.run.mesh) (changes reach m new)) (with_line_read (moment_after m.run (changes reach m new))))
+        (cond may (On (line bytes ++ flat_map (change_line m.run.mesh) (changes reach m new)) (with_line_read (run_state_after m.run (changes reach m new))))
         (On (line bytes ++ line (codes "  idle")) (with_line_read m.run)))
     by true = λ b fits.
         let es : List Event = changes reach m new in
         let own : List ℕ = line bytes in
         let others : List ℕ = flat_map (change_line m.run.mesh) es in
-        let n : schedule.Moment = moment_after m.run es in
+        let n : schedule.RunState = run_state_after m.run es in
         let are : AreChanges m.run.mesh es = changes_are m.run.mesh reach m.places (range (world_of m.run) new.node) new (length m.run.mesh) told.within (omega arith) in
         let within = told.within in
         let all = length-append own others in
@@ -163,18 +163,18 @@ placed_line_told reach k m bytes new told is = by (may_come m.places new)
 
 -- ---- one line
 
-placed_told : (reach k : ℕ) (m : Moment) (bytes : List ℕ) (r : Result (Option Placing) LineFault) → PlacingTold greatest_id m.run.mesh bytes r → length bytes ≤ LONGEST_LINE → IsKeptCame (outcome_by reach m bytes r) → IsSteady k m.run
+placed_told : (reach k : ℕ) (m : RunState) (bytes : List ℕ) (r : Result (Option Placing) LineFault) → PlacingTold greatest_id m.run.mesh bytes r → length bytes ≤ LONGEST_LINE → IsKeptCame (outcome_by reach m bytes r) → IsSteady k m.run
     → LineTold k m.run (events_by reach m bytes r) (outcome_by reach m bytes r)
 unfolding LineTold
 placed_told reach k m bytes (Ok (Some new)) told short kept is = placed_line_told reach k m bytes new told is
 placed_told reach k m bytes (Ok None) told short kept is = runs.read_told k m.run (has_begun m) bytes (other_line m bytes) refl (other_allowed m bytes is.kept) short kept is
 placed_told reach k m bytes (Err f) told short kept is = told
 
-whole_kept : (reach : ℕ) (m : Moment) (bytes : List ℕ) → IsKept m.run → IsKeptCame (outcome_by reach m bytes (placing_of m.run.mesh bytes))
+whole_kept : (reach : ℕ) (m : RunState) (bytes : List ℕ) → IsKept m.run → IsKeptCame (outcome_by reach m bytes (placing_of m.run.mesh bytes))
 unfolding outcome_of_piece
 whole_kept reach m bytes is = piece_kept reach m (Whole bytes) is
 
-placed_piece_told : (reach k : ℕ) (m : Moment) (piece : Piece) → IsShort piece → IsSteady k m.run → LineTold k m.run (events_of_piece reach m piece) (outcome_of_piece reach m piece)
+placed_piece_told : (reach k : ℕ) (m : RunState) (piece : Piece) → IsShort piece → IsSteady k m.run → LineTold k m.run (events_of_piece reach m piece) (outcome_of_piece reach m piece)
 unfolding LineTold outcome_of_piece text.outcome_of_piece events_of_piece
 placed_piece_told reach k m (Whole bytes) short is =
     placed_told reach k m bytes (placing_of m.run.mesh bytes) (placing_told greatest_id m.run.mesh bytes (omega arith)) short (whole_kept reach m bytes is.kept) is
@@ -183,44 +183,44 @@ placed_piece_told reach k m Beyond short is = tt
 
 -- ---- where a line leads
 
-after_variant : (m : schedule.Moment) (es : List Event) → (moment_after m es).variant ≡ m.variant
-unfolding moment_after next_moment
+after_variant : (m : schedule.RunState) (es : List Event) → (run_state_after m es).variant ≡ m.variant
+unfolding run_state_after next_state
 after_variant m [] = refl
-after_variant m (e ∷ es) = after_variant (next_moment m e) es
+after_variant m (e ∷ es) = after_variant (next_state m e) es
 
-after_made : (m : schedule.Moment) (es : List Event) → is_some m.world ≡ true → is_some (moment_after m es).world ≡ true
-unfolding moment_after next_moment
+after_made : (m : schedule.RunState) (es : List Event) → is_some m.world ≡ true → is_some (run_state_after m es).world ≡ true
+unfolding run_state_after next_state
 after_made m [] made = made
-after_made m (e ∷ es) made = after_made (next_moment m e) es refl
+after_made m (e ∷ es) made = after_made (next_state m e) es refl
 
-events_go : (m : schedule.Moment) (es : List Event) (text : List ℕ) → GoesBy m es (On text (with_line_read (moment_after m es)))
-unfolding GoesBy moment_after next_moment
+events_go : (m : schedule.RunState) (es : List Event) (text : List ℕ) → GoesBy m es (On text (with_line_read (run_state_after m es)))
+unfolding GoesBy run_state_after next_state
 events_go m [] text = inl (record { variant = refl; mesh = λ _. refl; world = refl; none = refl; count = refl })
 events_go m (e ∷ es) text = inr (record {
   variant = after_variant m (e ∷ es);
   mesh = mesh_after_events m (e ∷ es);
-  made = after_made (next_moment m e) es refl;
+  made = after_made (next_state m e) es refl;
   world = world_after_events m (e ∷ es);
   count = count_after_events m (e ∷ es);
 })
 
-placing_goes : (reach : ℕ) (m : Moment) (bytes : List ℕ) (new : Placing) → GoesBy m.run (events_of_placing reach m new) (outcome_of_placing reach m bytes new)
-unfolding GoesBy moment_after
+placing_goes : (reach : ℕ) (m : RunState) (bytes : List ℕ) (new : Placing) → GoesBy m.run (events_of_placing reach m new) (outcome_of_placing reach m bytes new)
+unfolding GoesBy run_state_after
 placing_goes reach m bytes new = by (may_come m.places new)
   where
     by : (may : Bool) → GoesBy m.run (cond may (changes reach m new) [])
-        (cond may (On (line bytes ++ flat_map (change_line m.run.mesh) (changes reach m new)) (with_line_read (moment_after m.run (changes reach m new))))
+        (cond may (On (line bytes ++ flat_map (change_line m.run.mesh) (changes reach m new)) (with_line_read (run_state_after m.run (changes reach m new))))
         (On (line bytes ++ line (codes "  idle")) (with_line_read m.run)))
     by true = events_go m.run (changes reach m new) (line bytes ++ flat_map (change_line m.run.mesh) (changes reach m new))
     by false = events_go m.run [] (line bytes ++ line (codes "  idle"))
 
-placed_goes : (reach : ℕ) (m : Moment) (bytes : List ℕ) (r : Result (Option Placing) LineFault) → IsKept m.run → GoesBy m.run (events_by reach m bytes r) (outcome_by reach m bytes r)
+placed_goes : (reach : ℕ) (m : RunState) (bytes : List ℕ) (r : Result (Option Placing) LineFault) → IsKept m.run → GoesBy m.run (events_by reach m bytes r) (outcome_by reach m bytes r)
 unfolding GoesBy
 placed_goes reach m bytes (Ok (Some new)) is = placing_goes reach m bytes new
 placed_goes reach m bytes (Ok None) is = result_goes m.run (other_line m bytes) (other_allowed m bytes is)
 placed_goes reach m bytes (Err f) is = refl
 
-piece_goes : (reach : ℕ) (m : Moment) (piece : Piece) → IsKept m.run → GoesBy m.run (events_of_piece reach m piece) (outcome_of_piece reach m piece)
+piece_goes : (reach : ℕ) (m : RunState) (piece : Piece) → IsKept m.run → GoesBy m.run (events_of_piece reach m piece) (outcome_of_piece reach m piece)
 unfolding GoesBy outcome_of_piece text.outcome_of_piece events_of_piece
 piece_goes reach m (Whole bytes) is = placed_goes reach m bytes (placing_of m.run.mesh bytes) is
 piece_goes reach m Long is = refl
@@ -228,20 +228,20 @@ piece_goes reach m Beyond is = refl
 
 -- ---- all lines
 
-goes_in : (m : Moment) (piece : Piece) (o : LineOutcome) (others : Moment → RunText) → text.goes_on m.run o (λ n. run_in (others (next m piece n))) ≡ run_in (goes_on m piece o others)
+goes_in : (m : RunState) (piece : Piece) (o : LineOutcome) (others : RunState → RunText) → text.goes_on m.run o (λ n. run_in (others (next m piece n))) ≡ run_in (goes_on m piece o others)
 goes_in m piece (On text n) others = refl
 goes_in m piece (Refused why) others = refl
 goes_in m piece (Full text n e field) others = refl
 
-placed_run_told : (reach : ℕ) (mesh : Nodes) (k : ℕ) (m : Moment) (b : Below) (pieces : List Piece) → AllByRecursion IsShort pieces → m.run.lines + length pieces ≤ greatest_id → IsSteady k m.run
+placed_run_told : (reach : ℕ) (mesh : Nodes) (k : ℕ) (m : RunState) (b : Below) (pieces : List Piece) → AllByRecursion IsShort pieces → m.run.lines + length pieces ≤ greatest_id → IsSteady k m.run
     → (text_from reach m pieces).after.run.mesh ≡ mesh → k + length (whole (text_from reach m pieces)) ≤ LONGEST_TEXT → TextTold mesh m.run b (whole (text_from reach m pieces)) (events_from reach m pieces)
 unfolding events_from shell.text_from frames_from
 placed_run_told reach mesh k m b [] short few is here fits = λ j. let last = runs.done_told k m.run b (omega arith) is j in (reading_at m.run below.Nothing last.0, last.1)
 placed_run_told reach mesh k m b (piece ∷ pieces) short few is here fits =
     let o : LineOutcome = outcome_of_piece reach m piece in
     let es : List Event = events_of_piece reach m piece in
-    let others : schedule.Moment → text.RunText = λ n. run_in (text_from reach (next m piece n) pieces) in
-    let more : schedule.Moment → List Event = λ n. events_from reach (next m piece n) pieces in
+    let others : schedule.RunState → text.RunText = λ n. run_in (text_from reach (next m piece n) pieces) in
+    let more : schedule.RunState → List Event = λ n. events_from reach (next m piece n) pieces in
     let same : text.goes_on m.run o others ≡ run_in (goes_on m piece o (λ n. text_from reach n pieces)) = goes_in m piece o (λ n. text_from reach n pieces) in
     subst (λ (w : text.RunText). TextTold mesh m.run b (whole w) (es ++ events_after o more)) same
     (then_told mesh k m.run b es o others more (omega arith) (piece_goes reach m piece is.kept) (piece_kept reach m piece is.kept) (placed_piece_told reach k m piece short.0 is)
@@ -255,7 +255,7 @@ placed_run_told reach mesh k m b (piece ∷ pieces) short few is here fits =
 pub run_with_places_is_captured : RunWithPlacesIsCaptured
 unfolding events_of_input text_of_input shell.text_on flight_told start
 run_with_places_is_captured reach variant input within =
-    let m : Moment = opening variant in
+    let m : RunState = opening variant in
     let mesh : Nodes = mesh_of_input reach variant input in
     let steady = fresh_steady 0 m.run refl (opening_kept variant) (omega arith) in
     let short = input_short input in

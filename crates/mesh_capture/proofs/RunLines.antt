@@ -26,10 +26,10 @@ use Rattle.mesh_text.specs.Auto.{event_then, choice_then, events_chosen}
 use Rattle.mesh_text.specs.Lines.{words_of}
 use Rattle.mesh_text.specs.Ranges.{IsInRange, IsInTime}
 use Rattle.mesh_text.specs.Runs.{events_of_line}
-use Rattle.mesh_text.specs.Schedule.{Moment, AcceptedLine, Nothing, NewNode, Does, Chooses, ShowsNode, ShowsRoute, ShowsFlight, world_of, with_world, with_line_read, outcome_at, next_moment}
+use Rattle.mesh_text.specs.Schedule.{RunState, AcceptedLine, Nothing, NewNode, Does, Chooses, ShowsNode, ShowsRoute, ShowsFlight, world_of, with_world, with_line_read, outcome_at, next_state}
 use Rattle.mesh_text.specs.Tables.{end_text, flight_text, node_text_in}
 use Rattle.mesh_text.specs.Text.{LineOutcome, On, Refused, Full, outcome_by_events, outcome_of_auto, outcome_of_line}
-use Rattle.mesh_text.proofs.Moments.{IsKept, IsKeptCame, counted_kept, started_kept, not_made}
+use Rattle.mesh_text.proofs.RunStates.{IsKept, IsKeptCame, counted_kept, started_kept, not_made}
 use Rattle.mesh_lines.specs.declared.below.Below.{Below}
 use Rattle.mesh_lines.specs.declared.below.Below.TheVariants as below
 use Rattle.mesh_capture.specs.Runs.{frames_from}
@@ -44,32 +44,32 @@ use Rattle.mesh_capture.proofs.ShownNodes.{node_in_reads}
 use Rattle.mesh_capture.proofs.Steady.{IsSteady, later_steady, one_speaks, chosen_speak}
 use Rattle.mesh_capture.proofs.Told.{IsTold, Stand, flight_told}
 
--- ---- moments
+-- ---- states
 
-pub counted_steady : (k : ℕ) (m : Moment) → IsSteady k m → IsSteady k (with_line_read m)
+pub counted_steady : (k : ℕ) (m : RunState) → IsSteady k m → IsSteady k (with_line_read m)
 counted_steady k m is =
     record { kept = counted_kept m is.kept; texts = is.texts; copies = is.copies; events = is.events; walks = is.walks; within = is.within; fits = is.fits }
 
-pub started_steady : (k : ℕ) (m : Moment) → IsSteady k m → IsSteady k (with_world m)
+pub started_steady : (k : ℕ) (m : RunState) → IsSteady k m → IsSteady k (with_world m)
 started_steady k m is =
     record { kept = started_kept m is.kept; texts = is.texts; copies = is.copies; events = is.events; walks = is.walks; within = is.within; fits = is.fits }
 
 -- ---- one line
 
 -- a line whose events were read
-unfoldable pub LineTold : ℕ → Moment → List Event → LineOutcome → Type 0
+unfoldable pub LineTold : ℕ → RunState → List Event → LineOutcome → Type 0
 LineTold k m es (On text n) = (b : Below) → k + length text ≤ LONGEST_TEXT → (c : Below) × ReadsTo m b text (frames_of m es) n c × IsSteady (k + length text) n × (n.lines ≡ m.lines + 1)
 LineTold k m es (Refused why) = IsNearWhy why
 LineTold k m es (Full text n e field) =
     (b : Below) → k + length text ≤ LONGEST_TEXT → (c : Below) × ReadsTo m b text (frames_of m es) n c × IsSteady (k + length text) n × IsAlong m n × IsRefused n e field
 
-pub by_events : (k : ℕ) (m : Moment) (es : List Event) (r : auto.EventsOutcome) → RanTold k (with_world m) es r → LineTold k m es (outcome_by_events r)
+pub by_events : (k : ℕ) (m : RunState) (es : List Event) (r : auto.EventsOutcome) → RanTold k (with_world m) es r → LineTold k m es (outcome_by_events r)
 unfolding RanTold LineTold
 by_events k m es (auto.Ended text n) told = λ b fits. let is = told b fits in (is.0, is.1, counted_steady (k + length text) n is.2, ap (λ l. l + 1) is.3.lines)
 by_events k m es (auto.Full text n e field) told = λ b fits. let is = told b fits in (is.0, is.1, is.2, record { mesh = is.3.mesh; lines = is.3.lines }, is.4)
 
 -- a choice of events, with its own line before them and its end after them
-pub by_choice : (k : ℕ) (m : Moment) (count : ℕ) (es : List Event) (r : auto.EventsOutcome) → 1 ≤ count → count ≤ MOST_EVENTS → length es ≤ count → IsSteady k m
+pub by_choice : (k : ℕ) (m : RunState) (count : ℕ) (es : List Event) (r : auto.EventsOutcome) → 1 ≤ count → count ≤ MOST_EVENTS → length es ≤ count → IsSteady k m
     → ((j : ℕ) → k ≤ j → RanTold j (with_world m) es r) → LineTold k m es (outcome_of_auto (line (words_of m.mesh (Chooses count))) (length es) r)
 unfolding RanTold LineTold
 by_choice k m count es (auto.Ended others n) some few less is told =
@@ -105,23 +105,23 @@ by_choice k m count es (auto.Full others n e field) some few less is told =
     )
 
 -- there are no more events than were to be chosen
-then_few : (m : Moment) (e : Event) (o : Outcome) (others : Moment → List Event) (most : ℕ) → length (others (next_moment m e)) ≤ most → length (event_then m e o others) ≤ suc most
+then_few : (m : RunState) (e : Event) (o : Outcome) (others : RunState → List Event) (most : ℕ) → length (others (next_state m e)) ≤ most → length (event_then m e o others) ≤ suc most
 then_few m e Idle others most few = omega arith
 then_few m e (worlds.Full x f) others most few = omega arith
 then_few m e (Next v h) others most few = omega arith
 
-choice_few : (m : Moment) (o : Option Event) (others : Moment → List Event) (most : ℕ) → ((n : Moment) → length (others n) ≤ most) → length (choice_then m o others) ≤ suc most
+choice_few : (m : RunState) (o : Option Event) (others : RunState → List Event) (most : ℕ) → ((n : RunState) → length (others n) ≤ most) → length (choice_then m o others) ≤ suc most
 choice_few m None others most few = omega arith
-choice_few m (Some e) others most few = then_few m e (outcome_at m e) others most (few (next_moment m e))
+choice_few m (Some e) others most few = then_few m e (outcome_at m e) others most (few (next_state m e))
 
-pub chosen_few : (most : ℕ) (m : Moment) → length (events_chosen most m) ≤ most
+pub chosen_few : (most : ℕ) (m : RunState) → length (events_chosen most m) ≤ most
 unfolding events_chosen
 chosen_few zero m = omega arith
 chosen_few (suc most) m = choice_few m (pick (world_of m)) (λ n. events_chosen most n) most (λ n. chosen_few most n)
 
 -- ---- one more node
 
-no_flight : (mesh : Nodes) (m : Moment) → m.world ≡ None → flight_told mesh (world_of m).flying ≡ []
+no_flight : (mesh : Nodes) (m : RunState) → m.world ≡ None → flight_told mesh (world_of m).flying ≡ []
 unfolding flight_told start
 no_flight mesh m fresh = ap (λ o. flight_told mesh (unwrap_or o (start m.variant (first_numbers m.mesh))).flying) fresh
 
@@ -139,7 +139,7 @@ all_within mesh is = through mesh (recursion_from_All (λ p. (1 ≤ p.1) × (p.1
 in_all : World → ℕ
 in_all w = waiting strange w + queued_data strange w + in_flight strange w
 
-pub fresh_steady : (k : ℕ) (m : Moment) → m.world ≡ None → IsKept m → m.sums.events ≤ k → IsSteady k m
+pub fresh_steady : (k : ℕ) (m : RunState) → m.world ≡ None → IsKept m → m.sums.events ≤ k → IsSteady k m
 unfolding start in_all
 fresh_steady k m fresh kept events =
     let same : world_of m ≡ start m.variant (first_numbers m.mesh) = ap (λ o. unwrap_or o (start m.variant (first_numbers m.mesh))) fresh in
@@ -156,11 +156,11 @@ fresh_steady k m fresh kept events =
       fits = subst (AreFitting m.sums.events) (sym same) (start_fits m.sums.events m.variant firsts);
     }
 
-node_told : (k : ℕ) (m : Moment) (address first : ℕ) → m.world ≡ None → IsInRange m.mesh (NewNode address first) → IsKept (with_line_read (record m { mesh = with_node m.mesh address first })) → IsSteady k m
+node_told : (k : ℕ) (m : RunState) (address first : ℕ) → m.world ≡ None → IsInRange m.mesh (NewNode address first) → IsKept (with_line_read (record m { mesh = with_node m.mesh address first })) → IsSteady k m
     → LineTold k m [] (outcome_of_line m (NewNode address first))
 unfolding LineTold outcome_of_line frames_from
 node_told k m address first fresh new kept is =
-    let n : Moment = with_line_read (record m { mesh = with_node m.mesh address first }) in
+    let n : RunState = with_line_read (record m { mesh = with_node m.mesh address first }) in
     let text : List ℕ = line (words_of m.mesh (NewNode address first)) in
     let events = is.events in
     λ b fits.
@@ -176,7 +176,7 @@ node_told k m address first fresh new kept is =
 -- ---- what is shown
 
 -- a line, and what stands below it
-shown_told : (k : ℕ) (m : Moment) (own text : List ℕ) (b c : Below) → IsSteady k m → ((b : Below) → ReadsTo m b own [] m c) → ReadsTo m c text [] m c
+shown_told : (k : ℕ) (m : RunState) (own text : List ℕ) (b c : Below) → IsSteady k m → ((b : Below) → ReadsTo m b own [] m c) → ReadsTo m c text [] m c
     → (b : Below) → (d : Below) × ReadsTo m b (own ++ text) [] (with_line_read (with_world m)) d × IsSteady (k + length (own ++ text)) (with_line_read (with_world m)) × ((with_line_read (with_world m)).lines ≡ m.lines + 1)
 shown_told k m own text b c is first rest start = (
   c,
@@ -194,14 +194,14 @@ few_hops w x d (Arrived hops) leads = let short = leads.short in omega arith
 few_hops w x d (Stuck at hops) leads = let short = leads.0.short in omega arith
 
 -- a node by itself
-pub block_told : (k : ℕ) (m : Moment) (x : ℕ) (b : Below) → k ≤ LONGEST_TEXT → IsSteady k m → ReadsTo m b (line (words_of m.mesh (ShowsNode x)) ++ node_text_in m.mesh (slice_get (world_of m).nodes x)) [] m below.Node
+pub block_told : (k : ℕ) (m : RunState) (x : ℕ) (b : Below) → k ≤ LONGEST_TEXT → IsSteady k m → ReadsTo m b (line (words_of m.mesh (ShowsNode x)) ++ node_text_in m.mesh (slice_get (world_of m).nodes x)) [] m below.Node
 block_told k m x b short is =
     to_append m m m b below.Node below.Node (line (words_of m.mesh (ShowsNode x))) (node_text_in m.mesh (slice_get (world_of m).nodes x)) [] []
     (show_reads m.mesh is.kept.mesh (stand (world_of m).flying m.sums.events b) x) (node_in_reads k m x short is)
 
 -- ---- any line
 
-pub line_told : (k : ℕ) (m : Moment) (a : AcceptedLine) → IsInRange m.mesh a → IsInTime (is_some m.world) a → IsKeptCame (outcome_of_line m a) → IsSteady k m → LineTold k m (events_of_line m a) (outcome_of_line m a)
+pub line_told : (k : ℕ) (m : RunState) (a : AcceptedLine) → IsInRange m.mesh a → IsInTime (is_some m.world) a → IsKeptCame (outcome_of_line m a) → IsSteady k m → LineTold k m (events_of_line m a) (outcome_of_line m a)
 unfolding LineTold IsKeptCame outcome_of_line frames_from
 line_told k m Nothing range early kept is = λ b fits. (b, to_none m b, counted_steady (k + 0) m (later_steady k (k + 0) m (omega arith) is), refl)
 line_told k m (NewNode address first) range early kept is = node_told k m address first (not_made m.world early) range kept is

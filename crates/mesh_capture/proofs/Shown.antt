@@ -67,7 +67,7 @@ module _ (mesh : Nodes) (is : IsMesh mesh) where
   end_reads cs n (Arrived hops) few = arrived_reads cs n hops few
   end_reads cs n (Stuck at hops) few = stuck_reads cs n at hops few
 
-  -- ---- the air
+  -- ---- the radio
 
   shown_read : (c : Copy) → 1 ≤ c.id → c.id ≤ greatest_id → IsPacketText (packet_of mesh c.message)
       → shown_copy (decimal c.id ∷ name_of mesh c.from ∷ name_of mesh c.to ∷ hex (packet_of mesh c.message) ∷ []) ≡ Some (copy_told mesh c)

@@ -1,4 +1,4 @@
--- At each moment of a run what `show` writes of a node is read.
+-- At each state of a run what `show` writes of a node is read.
 use Rattle.std.proofs.Common.{◌≡◌, ℕ, zero, suc, ◌<◌, ◌≤◌, inl, inr, List, [], ◌∷◌, Option, Some, None, length, refl, ap, arith}
 use Rattle.std.specs.Prelude.{slice_get}
 use Rattle.std.specs.FinMap as maps
@@ -8,7 +8,7 @@ use Rattle.aodv_model.specs.Cores.{Body, Waiting, bodies_in}
 use Rattle.mesh_io.specs.declared.limits.TheConstants.{LONGEST_TEXT}
 use Rattle.mesh_model.specs.Accounts.{any, total, total_below, counts, in_store, waiting}
 use Rattle.mesh_model.specs.Worlds.{World, Node}
-use Rattle.mesh_text.specs.Schedule.{Moment, world_of}
+use Rattle.mesh_text.specs.Schedule.{RunState, world_of}
 use Rattle.mesh_text.specs.Tables.{node_text_in}
 use Rattle.mesh_lines.specs.declared.below.Below.TheVariants as below
 use Rattle.mesh_capture.proofs.Effects.{stand}
@@ -46,7 +46,7 @@ waiting_part w x d n waits is lt there =
 
 -- ---- a node
 
-is_shown : (k : ℕ) (m : Moment) (x : ℕ) (n : Node) → k ≤ LONGEST_TEXT → IsSteady k m → slice_get (world_of m).nodes x ≡ Some n → IsNodeShown n.core (length n.queue)
+is_shown : (k : ℕ) (m : RunState) (x : ℕ) (n : Node) → k ≤ LONGEST_TEXT → IsSteady k m → slice_get (world_of m).nodes x ≡ Some n → IsNodeShown n.core (length n.queue)
 is_shown k m x n short is at =
     let node = is.kept.invariant.in_mesh.nodes x n at in
     let numbers = is.within.nodes x n at in
@@ -64,7 +64,7 @@ is_shown k m x n short is at =
       inbox = omega arith;
     }
 
-pub node_in_reads : (k : ℕ) (m : Moment) (x : ℕ) → k ≤ LONGEST_TEXT → IsSteady k m
+pub node_in_reads : (k : ℕ) (m : RunState) (x : ℕ) → k ≤ LONGEST_TEXT → IsSteady k m
     → Reads m.mesh (stand (world_of m).flying m.sums.events below.Node) (node_text_in m.mesh (slice_get (world_of m).nodes x)) [] (stand (world_of m).flying m.sums.events below.Node)
 node_in_reads k m x short is = by_node (slice_get (world_of m).nodes x) refl
   where

@@ -18,7 +18,7 @@ use Rattle.mesh_grammar.specs.declared.form.Form.TheVariants as form
 use Rattle.mesh_grammar.specs.Commands.{schedule, shape_of}
 use Rattle.mesh_grammar.specs.Forms.{Arguments, NoArgument, OneAddress, TwoAddresses, OneNumber, NumberedAddress, AddressesAndText, AddressAndNumber, AddressAndText, greatest_first, address_sn, numbered_address, addresses_and_text, address_and_text, arguments_of}
 use Rattle.mesh_grammar.specs.Scripts.{Row, Shape, row_in, shape_with, by_row, by_words, shape_by}
-use Rattle.mesh_grammar.specs.Words.{Mention, span_at, next_at, address_at, number_at, text_of, text_at, is_blank}
+use Rattle.mesh_grammar.specs.Words.{SpannedAddr, span_at, next_at, address_at, number_at, text_of, text_at, is_blank}
 use Rattle.mesh_grammar.proofs.Readings.{with_argument_case, if_case}
 use Rattle.mesh_model.specs.Worlds.{Link, Cut}
 use Rattle.mesh_text.specs.Schedule.{AcceptedLine, NewNode, Does, after_nodes, as_node, with_nodes, made_line, new_node, result_and_then, accepted_line, accepted_shape, line_of}
@@ -36,7 +36,7 @@ module _ (most : ℕ) where
   HasNear (Unknown s) = IsNear s
   HasNear others = Unit {0}
 
-  abbrev AreNear : Arguments Mention → Type 0
+  abbrev AreNear : Arguments SpannedAddr → Type 0
   AreNear (OneAddress a) = IsNear a.span
   AreNear (TwoAddresses a b) = IsNear a.span × IsNear b.span
   AreNear (NumberedAddress a first) = IsNear a.span
@@ -45,22 +45,22 @@ module _ (most : ℕ) where
   AreNear (AddressAndText a text) = IsNear a.span
   AreNear others = Unit {0}
 
-  abbrev Near : Result (Arguments Mention) LineFault → Type 0
+  abbrev Near : Result (Arguments SpannedAddr) LineFault → Type 0
   Near (Ok arguments) = AreNear arguments
   Near (Err fault) = HasNear fault
 
   -- ---- one argument
 
-  address_near : (at : ℕ) (word : List ℕ) (next : Mention → Result (Arguments Mention) LineFault) → at + length word ≤ most → ((m : Mention) → IsNear m.span → Near (next m)) → Near (address_at at word next)
+  address_near : (at : ℕ) (word : List ℕ) (next : SpannedAddr → Result (Arguments SpannedAddr) LineFault) → at + length word ≤ most → ((m : SpannedAddr) → IsNear m.span → Near (next m)) → Near (address_at at word next)
   address_near at word next short near =
       with_argument_case Near (address_of word) (BadAddress (span_at at word)) (λ x. next (record { address = x; span = span_at at word })) (omega arith, short)
       (λ x is. near (record { address = x; span = span_at at word }) (omega arith, short))
 
-  number_near : (greatest at : ℕ) (word : List ℕ) (next : ℕ → Result (Arguments Mention) LineFault) → at + length word ≤ most → ((n : ℕ) → Near (next n)) → Near (number_at greatest at word next)
+  number_near : (greatest at : ℕ) (word : List ℕ) (next : ℕ → Result (Arguments SpannedAddr) LineFault) → at + length word ≤ most → ((n : ℕ) → Near (next n)) → Near (number_at greatest at word next)
   number_near greatest at word next short near =
       with_argument_case Near (positive (number_up_to greatest word)) (BadNumber (span_at at word)) next (omega arith, short) (λ n is. near n)
 
-  text_near : (at : ℕ) (bytes : List ℕ) (next : List ℕ → Result (Arguments Mention) LineFault) → at + length bytes ≤ most → ((text : List ℕ) → Near (next text)) → Near (text_at at bytes next)
+  text_near : (at : ℕ) (bytes : List ℕ) (next : List ℕ → Result (Arguments SpannedAddr) LineFault) → at + length bytes ≤ most → ((text : List ℕ) → Near (next text)) → Near (text_at at bytes next)
   text_near at bytes next short near =
       with_argument_case Near (text_of bytes) (BadText (span_at at bytes)) next (omega arith, short) (λ text is. near text)
 
@@ -127,12 +127,12 @@ module _ (most : ℕ) where
 
   -- ---- a whole line
 
-  abbrev ShapeNear : Result (Option (Shape Command Mention)) LineFault → Type 0
+  abbrev ShapeNear : Result (Option (Shape Command SpannedAddr)) LineFault → Type 0
   ShapeNear (Ok None) = Unit {0}
   ShapeNear (Ok (Some s)) = AreNear s.arguments
   ShapeNear (Err fault) = HasNear fault
 
-  with_near : (c : Command) (r : Result (Arguments Mention) LineFault) → Near r → ShapeNear (shape_with c r)
+  with_near : (c : Command) (r : Result (Arguments SpannedAddr) LineFault) → Near r → ShapeNear (shape_with c r)
   with_near c (Ok arguments) near = near
   with_near c (Err fault) near = near
 
@@ -157,10 +157,10 @@ module _ (most : ℕ) where
   LineNear (Ok a) = Unit {0}
   LineNear (Err fault) = HasNear fault
 
-  as_near : (mesh : Nodes) (a : Mention) (next : ℕ → Result (Arguments ℕ) LineFault) → IsNear a.span → ((x : ℕ) → LineNear (next x)) → LineNear (as_node mesh a next)
+  as_near : (mesh : Nodes) (a : SpannedAddr) (next : ℕ → Result (Arguments ℕ) LineFault) → IsNear a.span → ((x : ℕ) → LineNear (next x)) → LineNear (as_node mesh a next)
   as_near mesh a next span near = with_argument_case LineNear (index_of mesh a.address) (Unknown a.span) next span (λ x is. near x)
 
-  nodes_near : (mesh : Nodes) (arguments : Arguments Mention) → AreNear arguments → LineNear (with_nodes mesh arguments)
+  nodes_near : (mesh : Nodes) (arguments : Arguments SpannedAddr) → AreNear arguments → LineNear (with_nodes mesh arguments)
   nodes_near mesh NoArgument near = tt
   nodes_near mesh (OneAddress a) near = as_near mesh a (λ x. Ok (OneAddress x)) near (λ x. tt)
   nodes_near mesh (TwoAddresses a b) near = as_near mesh a (λ x. as_node mesh b (λ y. Ok (TwoAddresses x y))) near.0 (λ x. as_near mesh b (λ y. Ok (TwoAddresses x y)) near.1 (λ y. tt))
@@ -194,13 +194,13 @@ module _ (most : ℕ) where
   after_near [] r near = tt
   after_near (p ∷ ps) r near = near
 
-  new_near : (mesh : Nodes) (started : Bool) (a : Mention) (first : ℕ) → IsNear a.span → LineNear (new_node mesh started a first)
+  new_near : (mesh : Nodes) (started : Bool) (a : SpannedAddr) (first : ℕ) → IsNear a.span → LineNear (new_node mesh started a first)
   new_near mesh true a first near = tt
   new_near mesh false a first near =
       if_case LineNear (is_some (index_of mesh a.address)) (Err (TwiceNode a.span)) (cond (eqb (length mesh) MOST_NODES) (Err TooManyNodes) (Ok (NewNode a.address first))) (λ _. near)
       (λ _. if_case LineNear (eqb (length mesh) MOST_NODES) (Err TooManyNodes) (Ok (NewNode a.address first)) (λ _. tt) (λ _. tt))
 
-  accepted_near : (mesh : Nodes) (started : Bool) (c : Command) (arguments : Arguments Mention) → AreNear arguments → LineNear (accepted_line mesh started c arguments)
+  accepted_near : (mesh : Nodes) (started : Bool) (c : Command) (arguments : Arguments SpannedAddr) → AreNear arguments → LineNear (accepted_line mesh started c arguments)
   accepted_near mesh started c (NumberedAddress a first) near = new_near mesh started a first near
   accepted_near mesh started c NoArgument near = after_near mesh _ (then_near c (with_nodes mesh NoArgument) (nodes_near mesh NoArgument near))
   accepted_near mesh started c (OneAddress a) near = after_near mesh _ (then_near c (with_nodes mesh (OneAddress a)) (nodes_near mesh (OneAddress a) near))
@@ -210,7 +210,7 @@ module _ (most : ℕ) where
   accepted_near mesh started c (AddressAndNumber a n) near = after_near mesh _ (then_near c (with_nodes mesh (AddressAndNumber a n)) (nodes_near mesh (AddressAndNumber a n) near))
   accepted_near mesh started c (AddressAndText a text) near = after_near mesh _ (then_near c (with_nodes mesh (AddressAndText a text)) (nodes_near mesh (AddressAndText a text) near))
 
-  by_shape : (mesh : Nodes) (started : Bool) (r : Result (Option (Shape Command Mention)) LineFault) → ShapeNear r → LineNear (result_and_then (accepted_shape mesh started) r)
+  by_shape : (mesh : Nodes) (started : Bool) (r : Result (Option (Shape Command SpannedAddr)) LineFault) → ShapeNear r → LineNear (result_and_then (accepted_shape mesh started) r)
   by_shape mesh started (Ok None) near = tt
   by_shape mesh started (Ok (Some s)) near = accepted_near mesh started s.command s.arguments near
   by_shape mesh started (Err fault) near = near

@@ -1,11 +1,11 @@
--- What holds of each moment of a run whose text has had so many bytes, and which events are read from there on.
+-- What holds of each state of a run whose text has had so many bytes, and which events are read from there on.
 use Rattle.std.proofs.Common.{◌≡◌, ◌≢◌, ◌⊎◌, inl, inr, ℕ, zero, suc, ◌+◌, ◌<◌, ◌≤◌, Bool, true, false, eqb, cond, not, List, [], ◌∷◌, Option, Some, None, length, refl, sym, ap, subst, arith}
 use Rattle.std.proofs.lemmas.Option.{none-some}
 use Rattle.std.proofs.lemmas.Bool.{eqb-true}
 use Rattle.aodv_model.specs.Cores.{Heard}
 use Rattle.mesh_base.specs.Meshes.{Nodes}
 use Rattle.mesh_grammar.specs.Words.{is_text}
-use Rattle.mesh_grammar.proofs.Spellings.{text_is}
+use Rattle.mesh_grammar.proofs.CommandLines.{text_is}
 use Rattle.mesh_io.specs.declared.limits.TheConstants.{LONGEST_TEXT}
 use Rattle.mesh_model.specs.Accounts.{counts, if_goes, in_found, waiting, queued_data, in_flight, given_data, doubled_data}
 use Rattle.mesh_model.specs.Choices.{pick, IsChoice}
@@ -20,8 +20,8 @@ use Rattle.mesh_model.specs.Trails.{HasWalks}
 use Rattle.mesh_text.specs.Auto.{event_then, choice_then, events_chosen}
 use Rattle.mesh_text.specs.Effects.{outcome_lines}
 use Rattle.mesh_text.specs.Ranges.{IsEventLine}
-use Rattle.mesh_text.specs.Schedule.{Moment, world_of, outcome_at, next_moment}
-use Rattle.mesh_text.proofs.Moments.{IsKept, stepped_kept}
+use Rattle.mesh_text.specs.Schedule.{RunState, world_of, outcome_at, next_state}
+use Rattle.mesh_text.proofs.RunStates.{IsKept, stepped_kept}
 use Rattle.mesh_capture.proofs.Data.{copy_has_none}
 use Rattle.mesh_capture.proofs.Events.{IsPlain}
 use Rattle.mesh_capture.proofs.FieldRuns.{AreFitting, step_fit}
@@ -31,7 +31,7 @@ use Rattle.mesh_capture.proofs.PacketTexts.{strange}
 
 -- after a text of k bytes: no datum is strange, and there are no more copies and events than bytes;
 -- each number is within its field, and no queue has more items than there were events
-pub record IsSteady (k : ℕ) (m : Moment) : Type 0 where
+pub record IsSteady (k : ℕ) (m : RunState) : Type 0 where
   pub kept : IsKept m
   pub texts : waiting strange (world_of m) + queued_data strange (world_of m) + in_flight strange (world_of m) ≡ 0
   pub copies : (world_of m).next_copy ≤ k + 1
@@ -41,13 +41,13 @@ pub record IsSteady (k : ℕ) (m : Moment) : Type 0 where
   pub fits : AreFitting m.sums.events (world_of m)
 
 -- the same after a longer text
-pub later_steady : (k j : ℕ) (m : Moment) → k ≤ j → IsSteady k m → IsSteady j m
+pub later_steady : (k j : ℕ) (m : RunState) → k ≤ j → IsSteady k m → IsSteady j m
 later_steady k j m le is =
     let copies = is.copies in
     let events = is.events in
     record { kept = is.kept; texts = is.texts; copies = omega arith; events = omega arith; walks = is.walks; within = is.within; fits = is.fits }
 
-pub steady_plain : (k : ℕ) (m : Moment) → IsSteady k m → IsPlain m.mesh (world_of m)
+pub steady_plain : (k : ℕ) (m : RunState) → IsSteady k m → IsPlain m.mesh (world_of m)
 steady_plain k m is = record { mesh_is = is.kept.mesh; size = is.kept.size; in_mesh = is.kept.invariant.in_mesh; texts = is.texts }
 
 -- ---- an event
@@ -73,8 +73,8 @@ doubled_none w (Double id) none = by_copy (find_copy w.flying id) refl
 doubled_none w others none = refl
 
 -- the same after an event, where the text has grown and has paid for the event's copies
-pub next_steady : (k j : ℕ) (m : Moment) (e : Event) → IsEventLine m.mesh e → IsSteady k m → k + 1 ≤ j → (after (world_of m) (outcome_at m e)).next_copy ≤ j + 1 → IsSteady j (next_moment m e)
-unfolding next_moment
+pub next_steady : (k j : ℕ) (m : RunState) (e : Event) → IsEventLine m.mesh e → IsSteady k m → k + 1 ≤ j → (after (world_of m) (outcome_at m e)).next_copy ≤ j + 1 → IsSteady j (next_state m e)
+unfolding next_state
 next_steady k j m e range is longer paid =
     let w : World = world_of m in
     let event : IsEvent (length w.nodes) e = subst (λ size. IsEvent size e) (sym is.kept.size) range.1 in
@@ -93,7 +93,7 @@ next_steady k j m e range is longer paid =
       fits = step_fit m.sums.events w e is.within is.fits;
     }
 
-pub stepped_steady : (k : ℕ) (m : Moment) (e : Event) → IsEventLine m.mesh e → IsSteady k m → IsSteady (k + length (outcome_lines m.mesh e (outcome_at m e))) (next_moment m e)
+pub stepped_steady : (k : ℕ) (m : RunState) (e : Event) → IsEventLine m.mesh e → IsSteady k m → IsSteady (k + length (outcome_lines m.mesh e (outcome_at m e))) (next_state m e)
 stepped_steady k m e range is =
     let copies = is.copies in
     let paid = event_pays m.mesh (world_of m) e in
@@ -103,7 +103,7 @@ stepped_steady k m e range is =
 -- ---- which events are read
 
 -- an event that a schedule may name, or one that is chosen
-abbrev pub Speaks : Moment → Event → Type 0
+abbrev pub Speaks : RunState → Event → Type 0
 Speaks m e = IsEventLine m.mesh e ⊎ ((1 ≤ length m.mesh) × IsChoice e × IsEvent (length m.mesh) e × (outcome_at m e ≢ Idle))
 
 numbers_between : (low next id : ℕ) (cs : List Copy) (c : Copy) → AreNumbered low cs next → find_copy cs id ≡ Some c → (low ≤ id) × (id < next)
@@ -127,7 +127,7 @@ delivered_between w id in_mesh goes = by_copy (find_copy w.flying id) refl goes
     by_copy None is goes = absurd (goes refl)
     by_copy (Some c) is goes = numbers_between 1 w.next_copy id w.flying c in_mesh.numbered is
 
-pub spoken : (k : ℕ) (m : Moment) (e : Event) → k ≤ LONGEST_TEXT → IsSteady k m → Speaks m e → IsEventLine m.mesh e
+pub spoken : (k : ℕ) (m : RunState) (e : Event) → k ≤ LONGEST_TEXT → IsSteady k m → Speaks m e → IsEventLine m.mesh e
 spoken k m e short is (inl range) = range
 spoken k m (Turn x) short is (inr chosen) = (chosen.0, chosen.2, tt)
 spoken k m (Send x d) short is (inr chosen) = (chosen.0, chosen.2, tt)
@@ -144,9 +144,9 @@ Stops Idle es = Unit {0}
 Stops (worlds.Full x f) es = es ≡ []
 Stops (Next w h) es = Unit {0}
 
-unfoldable pub AllSpeak : Moment → List Event → Type 0
+unfoldable pub AllSpeak : RunState → List Event → Type 0
 AllSpeak m [] = Unit {0}
-AllSpeak m (e ∷ es) = Speaks m e × Stops (outcome_at m e) es × AllSpeak (next_moment m e) es
+AllSpeak m (e ∷ es) = Speaks m e × Stops (outcome_at m e) es × AllSpeak (next_state m e) es
 
 alone_stops : (o : Outcome) → Stops o []
 unfolding Stops
@@ -154,19 +154,19 @@ alone_stops Idle = tt
 alone_stops (worlds.Full x f) = refl
 alone_stops (Next w h) = tt
 
-pub one_speaks : (m : Moment) (e : Event) → IsEventLine m.mesh e → AllSpeak m (e ∷ [])
+pub one_speaks : (m : RunState) (e : Event) → IsEventLine m.mesh e → AllSpeak m (e ∷ [])
 unfolding AllSpeak
 one_speaks m e range = (inl range, alone_stops (outcome_at m e), tt)
 
-then_speak : (m : Moment) (e : Event) (o : Outcome) (others : Moment → List Event) → outcome_at m e ≡ o → Speaks m e → (IsEvent (length m.mesh) e → AllSpeak (next_moment m e) (others (next_moment m e))) → IsEvent (length m.mesh) e
+then_speak : (m : RunState) (e : Event) (o : Outcome) (others : RunState → List Event) → outcome_at m e ≡ o → Speaks m e → (IsEvent (length m.mesh) e → AllSpeak (next_state m e) (others (next_state m e))) → IsEvent (length m.mesh) e
     → AllSpeak m (event_then m e o others)
 unfolding AllSpeak Stops
-then_speak m e Idle others is speaks rest within = (speaks, subst (λ o. Stops o (others (next_moment m e))) (sym is) tt, rest within)
+then_speak m e Idle others is speaks rest within = (speaks, subst (λ o. Stops o (others (next_state m e))) (sym is) tt, rest within)
 then_speak m e (worlds.Full x f) others is speaks rest within = (speaks, subst (λ o. Stops o []) (sym is) refl, tt)
-then_speak m e (Next w h) others is speaks rest within = (speaks, subst (λ o. Stops o (others (next_moment m e))) (sym is) tt, rest within)
+then_speak m e (Next w h) others is speaks rest within = (speaks, subst (λ o. Stops o (others (next_state m e))) (sym is) tt, rest within)
 
-choice_speaks : (m : Moment) (o : Option Event) (others : Moment → List Event) → pick (world_of m) ≡ o → 1 ≤ length m.mesh → IsKept m
-    → ((e : Event) → IsEvent (length m.mesh) e → AllSpeak (next_moment m e) (others (next_moment m e))) → AllSpeak m (choice_then m o others)
+choice_speaks : (m : RunState) (o : Option Event) (others : RunState → List Event) → pick (world_of m) ≡ o → 1 ≤ length m.mesh → IsKept m
+    → ((e : Event) → IsEvent (length m.mesh) e → AllSpeak (next_state m e) (others (next_state m e))) → AllSpeak m (choice_then m o others)
 unfolding AllSpeak
 choice_speaks m None others is some kept rest = tt
 choice_speaks m (Some e) others is some kept rest =
@@ -174,12 +174,12 @@ choice_speaks m (Some e) others is some kept rest =
     let within : IsEvent (length m.mesh) e = subst (λ size. IsEvent size e) kept.size chosen.1 in
     then_speak m e (outcome_at m e) others refl (inr (some, chosen.0, within, chosen.2)) (rest e) within
 
-stepped_some : (m : Moment) (e : Event) → 1 ≤ length m.mesh → 1 ≤ length (next_moment m e).mesh
-unfolding next_moment
+stepped_some : (m : RunState) (e : Event) → 1 ≤ length m.mesh → 1 ≤ length (next_state m e).mesh
+unfolding next_state
 stepped_some m e some = some
 
-pub chosen_speak : (most : ℕ) (m : Moment) → 1 ≤ length m.mesh → IsKept m → AllSpeak m (events_chosen most m)
+pub chosen_speak : (most : ℕ) (m : RunState) → 1 ≤ length m.mesh → IsKept m → AllSpeak m (events_chosen most m)
 unfolding events_chosen AllSpeak
 chosen_speak zero m some kept = tt
 chosen_speak (suc most) m some kept =
-    choice_speaks m (pick (world_of m)) (λ n. events_chosen most n) refl some kept (λ e within. chosen_speak most (next_moment m e) (stepped_some m e some) (stepped_kept m e within kept))
+    choice_speaks m (pick (world_of m)) (λ n. events_chosen most n) refl some kept (λ e within. chosen_speak most (next_state m e) (stepped_some m e some) (stepped_kept m e within kept))

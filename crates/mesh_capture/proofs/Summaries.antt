@@ -4,7 +4,7 @@ use Rattle.std.specs.List.{AllByRecursion, list_all, join_with_byte}
 use Rattle.std.specs.Fmt.{decimal}
 use Rattle.std.proofs.lemmas.Bool.{and_from, and_parts}
 use Rattle.mesh_base.specs.Meshes.{Nodes}
-use Rattle.mesh_base.proofs.Spelling.{Lacks}
+use Rattle.mesh_base.proofs.WrittenForms.{Lacks}
 use Rattle.mesh_grammar.specs.Commands.{greatest_id}
 use Rattle.mesh_grammar.specs.Written.{line, label_number}
 use Rattle.mesh_text.specs.Lines.{copied_words, summary_text}

@@ -23,14 +23,14 @@ use Rattle.mesh_model.proofs.Lists.{each_map}
 use Rattle.mesh_model.specs.Worlds.{World, Event, start, first_numbers, run, after, step}
 use Rattle.mesh_model.specs.Accounts.{any, waiting, queued_data, in_flight}
 use Rattle.mesh_shell.specs.Pieces.{Piece, Whole, Long, Beyond, piece_of, last_piece, pieces_of}
-use Rattle.mesh_shell.specs.Story as shell
-use Rattle.mesh_shell.specs.Story.{whole}
+use Rattle.mesh_shell.specs.Fold as shell
+use Rattle.mesh_shell.specs.Fold.{whole}
 use Rattle.mesh_text.specs.Lines.{done_line, full_line}
 use Rattle.mesh_text.specs.Runs.{events_read, events_of_piece, events_after, events_from, events_of_input, mesh_of_input}
-use Rattle.mesh_text.specs.Schedule.{Moment, opening, AcceptedLine, line_of, world_of}
+use Rattle.mesh_text.specs.Schedule.{RunState, opening, AcceptedLine, line_of, world_of}
 use Rattle.mesh_text.specs.Text.{LineOutcome, On, Refused, Full, outcome_of_read, outcome_of_piece, pieces_of_input, RunText, goes_on, text_from, text_of_input}
 use Rattle.mesh_text.proofs.InRange.{Allowed, line_allowed}
-use Rattle.mesh_text.proofs.Moments.{IsKept, IsKeptCame, opening_kept, piece_kept}
+use Rattle.mesh_text.proofs.RunStates.{IsKept, IsKeptCame, opening_kept, piece_kept}
 use Rattle.mesh_text.proofs.RunLaws.{base, made_base, Quiet, IsRan, GoesBy, piece_goes, follows}
 use Rattle.mesh_lines.specs.declared.below.Below.{Below}
 use Rattle.mesh_lines.specs.declared.below.Below.TheVariants as below
@@ -51,7 +51,7 @@ use Rattle.mesh_capture.proofs.Told.{IsTold, told_append, flight_told}
 -- ---- one line
 
 -- a line that is read
-pub read_told : (k : ℕ) (m : Moment) (started : Bool) (bytes : List ℕ) (r : Result AcceptedLine LineFault) → line_of m.mesh started bytes ≡ r → Allowed m.mesh (is_some m.world) r
+pub read_told : (k : ℕ) (m : RunState) (started : Bool) (bytes : List ℕ) (r : Result AcceptedLine LineFault) → line_of m.mesh started bytes ≡ r → Allowed m.mesh (is_some m.world) r
     → length bytes ≤ LONGEST_LINE → IsKeptCame (outcome_of_read m r) → IsSteady k m → LineTold k m (events_read m r) (outcome_of_read m r)
 unfolding Allowed LineTold IsKeptCame
 read_told k m started bytes (Ok a) same allowed short kept is = line_told k m a allowed.0 allowed.1 kept is
@@ -62,7 +62,7 @@ abbrev pub IsShort : Piece → Type 0
 IsShort (Whole line) = length line ≤ LONGEST_LINE
 IsShort others = Unit {0}
 
-piece_told : (k : ℕ) (m : Moment) (piece : Piece) → IsShort piece → IsKeptCame (outcome_of_piece m piece) → IsSteady k m → LineTold k m (events_of_piece m piece) (outcome_of_piece m piece)
+piece_told : (k : ℕ) (m : RunState) (piece : Piece) → IsShort piece → IsKeptCame (outcome_of_piece m piece) → IsSteady k m → LineTold k m (events_of_piece m piece) (outcome_of_piece m piece)
 unfolding LineTold outcome_of_piece
 piece_told k m (Whole line) short kept is =
     read_told k m (is_some m.world) line (line_of m.mesh (is_some m.world) line) refl (line_allowed m.mesh (is_some m.world) line is.kept.mesh.few) short kept is
@@ -80,11 +80,11 @@ frames_append mesh n w (e ∷ es) ys =
     ap (λ fs. frames_of_event mesh n w e ++ fs) (frames_append mesh (n + 1) next es ys ∙ ap (λ k. frames_from mesh (n + 1) next es ++ frames_from mesh k (run next es) ys) sum)
     ∙ sym (append_assoc (frames_of_event mesh n w e) (frames_from mesh (n + 1) next es) (frames_from mesh (n + length (e ∷ es)) (run next es) ys))
 
--- from a moment on, with this mesh at the end
-abbrev pub frames_to : Nodes → Moment → List Event → List Frame
+-- from a state on, with this mesh at the end
+abbrev pub frames_to : Nodes → RunState → List Event → List Frame
 frames_to mesh m es = frames_from mesh (m.sums.events + 1) (base m mesh) es
 
-quiet_frames : (mesh : Nodes) (m n : Moment) (es more : List Event) → Quiet m n es → frames_of m es ++ frames_to mesh n more ≡ frames_to mesh m (es ++ more)
+quiet_frames : (mesh : Nodes) (m n : RunState) (es more : List Event) → Quiet m n es → frames_of m es ++ frames_to mesh n more ≡ frames_to mesh m (es ++ more)
 unfolding frames_from
 quiet_frames mesh m n es more quiet =
     ap (λ l. frames_of m l ++ frames_to mesh n more) quiet.none
@@ -92,7 +92,7 @@ quiet_frames mesh m n es more quiet =
     ∙ ap₂ (λ o v. frames_from mesh (m.sums.events + 1) (unwrap_or o (start v (first_numbers mesh))) more) quiet.world quiet.variant
     ∙ ap (λ l. frames_to mesh m (l ++ more)) (sym quiet.none)
 
-ran_frames : (mesh : Nodes) (m n : Moment) (es more : List Event) → m.mesh ≡ mesh → IsRan m n es → frames_of m es ++ frames_to mesh n more ≡ frames_to mesh m (es ++ more)
+ran_frames : (mesh : Nodes) (m n : RunState) (es more : List Event) → m.mesh ≡ mesh → IsRan m n es → frames_of m es ++ frames_to mesh n more ≡ frames_to mesh m (es ++ more)
 ran_frames mesh m n es more here ran =
     let there : base n mesh ≡ run (world_of m) es = made_base n.world (start n.variant (first_numbers mesh)) (start n.variant (first_numbers n.mesh)) ran.made ∙ ran.world in
     let count = ran.count in
@@ -104,7 +104,7 @@ ran_frames mesh m n es more here ran =
 
 -- ---- the last line
 
-pub done_told : (k : ℕ) (m : Moment) (b : Below) → k ≤ LONGEST_TEXT → IsSteady k m → ReadsTo m b (done_line m) [] m below.Nothing
+pub done_told : (k : ℕ) (m : RunState) (b : Below) → k ≤ LONGEST_TEXT → IsSteady k m → ReadsTo m b (done_line m) [] m below.Nothing
 done_told k m b short is =
     let events = is.events in
     let balanced = is.kept.balanced in
@@ -124,22 +124,22 @@ done_told k m b short is =
 
 -- ---- all lines
 
--- a text from a moment on is told, with this mesh at the end
-abbrev pub TextTold : Nodes → Moment → Below → List ℕ → List Event → Type 0
+-- a text from a state on is told, with this mesh at the end
+abbrev pub TextTold : Nodes → RunState → Below → List ℕ → List Event → Type 0
 TextTold mesh m b text es = (j : ℕ) → (s : Reading) × IsTold (reading_at m b j) text (frames_to mesh m es) s
 
 -- the whole text of a run
-abbrev WholeTold : Nodes → Moment → Below → RunText → List Event → Type 0
+abbrev WholeTold : Nodes → RunState → Below → RunText → List Event → Type 0
 WholeTold mesh m b w es = TextTold mesh m b (whole w) es
 
 -- the packets of a line's events, and then those of the others. Once there is a world, the mesh
 -- stays
-pub frames_then : (mesh : Nodes) (m n : Moment) (es more : List Event) → Quiet m n es ⊎ IsRan m n es → (is_some n.world ≡ true → mesh ≡ n.mesh) → frames_of m es ++ frames_to mesh n more ≡ frames_to mesh m (es ++ more)
+pub frames_then : (mesh : Nodes) (m n : RunState) (es more : List Event) → Quiet m n es ⊎ IsRan m n es → (is_some n.world ≡ true → mesh ≡ n.mesh) → frames_of m es ++ frames_to mesh n more ≡ frames_to mesh m (es ++ more)
 frames_then mesh m n es more (inl quiet) stays = quiet_frames mesh m n es more quiet
 frames_then mesh m n es more (inr ran) stays = ran_frames mesh m n es more (sym (stays ran.made ∙ ran.mesh)) ran
 
 -- the text of a line, and then the rest
-pub on_told : (mesh : Nodes) (k : ℕ) (m n : Moment) (b : Below) (es more : List Event) (text rest : List ℕ) → LineTold k m es (On text n) → k + length text ≤ LONGEST_TEXT → frames_of m es ++ frames_to mesh n more ≡ frames_to mesh m (es ++ more)
+pub on_told : (mesh : Nodes) (k : ℕ) (m n : RunState) (b : Below) (es more : List Event) (text rest : List ℕ) → LineTold k m es (On text n) → k + length text ≤ LONGEST_TEXT → frames_of m es ++ frames_to mesh n more ≡ frames_to mesh m (es ++ more)
     → ((c : Below) → IsSteady (k + length text) n → n.lines ≡ m.lines + 1 → TextTold mesh n c rest more) → TextTold mesh m b (text ++ rest) (es ++ more)
 unfolding LineTold
 on_told mesh k m n b es more text rest told fits frames next =
@@ -154,24 +154,24 @@ on_told mesh k m n b es more text rest told fits frames next =
     )
 
 -- where a full counter or a line has ended the run
-last_frames : (mesh : Nodes) (m : Moment) (es : List Event) → m.mesh ≡ mesh → frames_of m es ++ [] ≡ frames_to mesh m (es ++ [])
+last_frames : (mesh : Nodes) (m : RunState) (es : List Event) → m.mesh ≡ mesh → frames_of m es ++ [] ≡ frames_to mesh m (es ++ [])
 last_frames mesh m es here =
     append-nil (frames_of m es) ∙ ap (λ nodes. frames_from nodes (m.sums.events + 1) (base m nodes) es) here ∙ ap (frames_to mesh m) (sym (append-nil es))
 
-no_frames : (mesh : Nodes) (m : Moment) (es : List Event) → es ≡ [] → [] ≡ frames_to mesh m (es ++ [])
+no_frames : (mesh : Nodes) (m : RunState) (es : List Event) → es ≡ [] → [] ≡ frames_to mesh m (es ++ [])
 unfolding frames_from
 no_frames mesh m es none = ap (λ l. frames_to mesh m (l ++ [])) (sym none)
 
-pub refused_near : (k : ℕ) (m : Moment) (es : List Event) (why : BadWhy) → LineTold k m es (Refused why) → IsNearWhy why
+pub refused_near : (k : ℕ) (m : RunState) (es : List Event) (why : BadWhy) → LineTold k m es (Refused why) → IsNearWhy why
 unfolding LineTold
 refused_near k m es why told = told
 
-pub refused_told : (mesh : Nodes) (m : Moment) (b : Below) (es : List Event) (why : BadWhy) → IsNearWhy why → m.lines + 1 ≤ greatest_id → es ≡ [] → TextTold mesh m b (bad_line (m.lines + 1) why) (es ++ [])
+pub refused_told : (mesh : Nodes) (m : RunState) (b : Below) (es : List Event) (why : BadWhy) → IsNearWhy why → m.lines + 1 ≤ greatest_id → es ≡ [] → TextTold mesh m b (bad_line (m.lines + 1) why) (es ++ [])
 refused_told mesh m b es why near few none j =
     let read = bad_reads m.mesh (stand (world_of m).flying m.sums.events b) (m.lines + 1) why near (omega arith) few j in
     (reading_at m below.Nothing read.0, subst (λ fs. IsTold (reading_at m b j) (bad_line (m.lines + 1) why) fs (reading_at m below.Nothing read.0)) (no_frames mesh m es none) read.1)
 
-full_told : (mesh : Nodes) (m n : Moment) (b c : Below) (es : List Event) (text : List ℕ) (e : Event) (f : Counter) → ReadsTo m b text (frames_of m es) n c → IsAlong m n → IsRefused n e f → IsMesh n.mesh → m.lines + 1 ≤ greatest_id → m.mesh ≡ mesh
+full_told : (mesh : Nodes) (m n : RunState) (b c : Below) (es : List Event) (text : List ℕ) (e : Event) (f : Counter) → ReadsTo m b text (frames_of m es) n c → IsAlong m n → IsRefused n e f → IsMesh n.mesh → m.lines + 1 ≤ greatest_id → m.mesh ≡ mesh
     → TextTold mesh m b (text ++ full_line m.mesh (m.lines + 1) e f) (es ++ [])
 full_told mesh m n b c es text e f reads along refused is few here j =
     let first = reads j in
@@ -186,7 +186,7 @@ full_told mesh m n b c es text e f reads along refused is few here j =
     )
 
 -- the same where a full counter ends the run within a line
-pub stopped_told : (mesh : Nodes) (k : ℕ) (m n : Moment) (b : Below) (es : List Event) (text : List ℕ) (e : Event) (f : Counter) → LineTold k m es (Full text n e f) → m.lines + 1 ≤ greatest_id → m.mesh ≡ mesh
+pub stopped_told : (mesh : Nodes) (k : ℕ) (m n : RunState) (b : Below) (es : List Event) (text : List ℕ) (e : Event) (f : Counter) → LineTold k m es (Full text n e f) → m.lines + 1 ≤ greatest_id → m.mesh ≡ mesh
     → k + length (text ++ full_line m.mesh (m.lines + 1) e f) ≤ LONGEST_TEXT → TextTold mesh m b (text ++ full_line m.mesh (m.lines + 1) e f) (es ++ [])
 unfolding LineTold
 stopped_told mesh k m n b es text e f told few here fits =
@@ -194,9 +194,9 @@ stopped_told mesh k m n b es text e f told few here fits =
     let own = told b (omega arith) in
     full_told mesh m n b own.0 es text e f own.1 own.3 own.4 own.2.kept.mesh few here
 
-pub then_told : (mesh : Nodes) (k : ℕ) (m : Moment) (b : Below) (es : List Event) (o : LineOutcome) (others : Moment → RunText) (more : Moment → List Event) → m.lines + 1 ≤ greatest_id → GoesBy m es o → IsKeptCame o → LineTold k m es o
-    → ((n : Moment) → IsKept n → is_some n.world ≡ true → (others n).after.mesh ≡ n.mesh)
-    → ((j : ℕ) (n : Moment) (c : Below) → n.lines ≡ m.lines + 1 → IsSteady j n → (others n).after.mesh ≡ mesh → j + length (whole (others n)) ≤ LONGEST_TEXT → WholeTold mesh n c (others n) (more n))
+pub then_told : (mesh : Nodes) (k : ℕ) (m : RunState) (b : Below) (es : List Event) (o : LineOutcome) (others : RunState → RunText) (more : RunState → List Event) → m.lines + 1 ≤ greatest_id → GoesBy m es o → IsKeptCame o → LineTold k m es o
+    → ((n : RunState) → IsKept n → is_some n.world ≡ true → (others n).after.mesh ≡ n.mesh)
+    → ((j : ℕ) (n : RunState) (c : Below) → n.lines ≡ m.lines + 1 → IsSteady j n → (others n).after.mesh ≡ mesh → j + length (whole (others n)) ≤ LONGEST_TEXT → WholeTold mesh n c (others n) (more n))
     → (goes_on m o others).after.mesh ≡ mesh → k + length (whole (goes_on m o others)) ≤ LONGEST_TEXT → WholeTold mesh m b (goes_on m o others) (es ++ events_after o more)
 unfolding GoesBy IsKeptCame
 then_told mesh k m b es (Refused why) others more few goes kept told led rest here fits = refused_told mesh m b es why (refused_near k m es why told) few goes
@@ -210,7 +210,7 @@ then_told mesh k m b es (On text n) others more few goes kept told led rest here
     (on_told mesh k m n b es (more n) text (whole w) told (omega arith) (frames_then mesh m n es (more n) goes (λ made. sym here ∙ led n kept made))
     (λ c steady lines. rest (k + length text) n c lines steady here (omega arith)))
 
-run_told : (mesh : Nodes) (k : ℕ) (m : Moment) (b : Below) (pieces : List Piece) → AllByRecursion IsShort pieces → m.lines + length pieces ≤ greatest_id → IsSteady k m → (text_from m pieces).after.mesh ≡ mesh
+run_told : (mesh : Nodes) (k : ℕ) (m : RunState) (b : Below) (pieces : List Piece) → AllByRecursion IsShort pieces → m.lines + length pieces ≤ greatest_id → IsSteady k m → (text_from m pieces).after.mesh ≡ mesh
     → k + length (whole (text_from m pieces)) ≤ LONGEST_TEXT → WholeTold mesh m b (text_from m pieces) (events_from m pieces)
 unfolding events_from shell.text_from frames_from
 run_told mesh k m b [] short few is here fits = λ j. let last = done_told k m b (omega arith) is j in (reading_at m below.Nothing last.0, last.1)
@@ -264,7 +264,7 @@ input_short input =
 pub run_is_captured : RunIsCaptured
 unfolding events_of_input text_of_input shell.text_on flight_told start
 run_is_captured variant input within =
-    let m : Moment = opening variant in
+    let m : RunState = opening variant in
     let mesh : Nodes = mesh_of_input variant input in
     let steady = fresh_steady 0 m refl (opening_kept variant) (omega arith) in
     let short = input_short input in

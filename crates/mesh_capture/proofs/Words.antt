@@ -9,7 +9,7 @@ use Rattle.std.proofs.lemmas.List.Elements.{All-from_recursion}
 use Rattle.mesh_base.specs.Addresses.{address_of}
 use Rattle.mesh_base.specs.Meshes.{Nodes, IsMesh, addr_at}
 use Rattle.mesh_base.specs.Parts.{parts}
-use Rattle.mesh_base.proofs.Spelling.{Lacks, parts_at, parts_none, dotted_lacks, decimal_lacks, address_of-dotted, positive-decimal}
+use Rattle.mesh_base.proofs.WrittenForms.{Lacks, parts_at, parts_none, dotted_lacks, decimal_lacks, address_of-dotted, positive-decimal}
 use Rattle.mesh_grammar.specs.Commands.{greatest_id}
 use Rattle.mesh_text.specs.Lines.{name_of}
 use Rattle.mesh_lines.specs.Belows.{number_of}

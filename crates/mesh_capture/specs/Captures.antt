@@ -3,7 +3,7 @@
 use Rattle.std.specs.Prelude.{ℕ, ◌+◌, List, [], Option, Some, None}
 use Rattle.mesh_io.specs.NextLines.{text_limits}
 use Rattle.mesh_shell.specs.Pieces.{Piece, Whole, Long, Beyond}
-use Rattle.mesh_shell.specs.Story.{Outcome, On, Ended, Ending, Story, RunText, text_on}
+use Rattle.mesh_shell.specs.Fold.{Outcome, On, Ended, Ending, Fold, RunText, text_on}
 use Rattle.mesh_capture.specs.declared.frame.Frame.{Frame}
 use Rattle.mesh_capture.specs.declared.status.CaptureVerdict.{CaptureVerdict}
 use Rattle.mesh_capture.specs.declared.status.CaptureVerdict.TheVariants.{Done, BadLine}
@@ -35,7 +35,7 @@ abbrev pub capture_done : Reading → Ending Reading CaptureVerdict
 capture_done r = record { text = []; verdict = Done; after = r }
 
 -- the header of the file stands before the packets
-abbrev pub capture : Story Reading CaptureVerdict
+abbrev pub capture : Fold Reading CaptureVerdict
 capture = record {
   head = λ r. file_header;
   outcome = line_captured;

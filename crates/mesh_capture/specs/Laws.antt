@@ -4,7 +4,7 @@ use Rattle.mesh_base.specs.declared.events.Variant.{Variant}
 use Rattle.mesh_io.specs.NextLines.{text_limits}
 use Rattle.mesh_shell.specs.Laws.{AreWhole}
 use Rattle.mesh_shell.specs.Pieces.{pieces_within}
-use Rattle.mesh_shell.specs.Story.{whole}
+use Rattle.mesh_shell.specs.Fold.{whole}
 use Rattle.mesh_text.specs.Text.{text_of_input}
 use Rattle.mesh_blocks.specs.declared.below.Below.TheVariants.{Blocks}
 use Rattle.mesh_blocks.specs.Text.{watched_of_input}

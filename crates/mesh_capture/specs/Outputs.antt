@@ -5,7 +5,7 @@ use Rattle.std.specs.Io.KnownBytes.{Appends}
 use Rattle.mesh_grammar.specs.Written.{line, label_number}
 use Rattle.mesh_io.specs.NextLines.{text_limits}
 use Rattle.mesh_io.specs.Puts.{AppendsPrefix}
-use Rattle.mesh_shell.specs.Story.{RunText}
+use Rattle.mesh_shell.specs.Fold.{RunText}
 use Rattle.mesh_shell.specs.Outputs.{IsOutputFrom}
 use Rattle.mesh_shell.specs.declared.fault.Fault.{Fault}
 use Rattle.mesh_shell.specs.declared.fault.Fault.TheVariants as fault

@@ -68,7 +68,7 @@ impl Script for Capturing {
 
     type Verdict = CaptureVerdict;
 
-    ghost story = { capture };
+    ghost fold = { capture };
 
     ghost leads = { λ before size after. after.lines ≤ before.lines + size };
 

@@ -4,7 +4,7 @@ ghost use Rattle.std.specs.Prelude.{◌≡◌, ◌≤◌, ◌<◌, ◌+◌, ◌-
 ghost use Rattle.arrayvec.specs.ArrayVec.{array_vec_len};
 ghost use Rattle.byteorder.specs.Endian.{big_bytes};
 ghost use Rattle.mesh_base.specs.declared.limits.TheConstants.{LONGEST_PACKET};
-ghost use Rattle.mesh_capture.specs.declared.frame.TheConstants.{ROOM};
+ghost use Rattle.mesh_capture.specs.declared.frame.TheConstants.{CAPACITY};
 ghost use Rattle.mesh_capture.specs.Frames as frames;
 
 use aodv_wire::is_data;
@@ -22,10 +22,10 @@ pub const DATA_PORT: u16 = 49654;
 pub const LINK_TYPE: u32 = 228;
 
 // Room for the longest packet and its headers, in bytes.
-const ROOM: usize = 2048;
+const CAPACITY: usize = 2048;
 
 /// Where the bytes of one packet are put together.
-pub type FrameBuf = ArrayVec<u8, ROOM>;
+pub type FrameBuf = ArrayVec<u8, CAPACITY>;
 
 /// A copy that was heard or lost.
 #[derive(Drop)]
@@ -44,7 +44,7 @@ pub struct Frame {
 
 // Appends bytes.
 fn put(bytes: &[u8], out: &mut FrameBuf)
-    requires { array_vec_len out.old + length bytes.now ≤ ROOM }
+    requires { array_vec_len out.old + length bytes.now ≤ CAPACITY }
     ensures text { out.new.items ≡ out.old.items ++ bytes.now }
     ensures length { array_vec_len out.new ≡ array_vec_len out.old + length bytes.now }
 {
@@ -55,7 +55,7 @@ fn put(bytes: &[u8], out: &mut FrameBuf)
 
 // Appends a number of 16 bits.
 fn put_u16(n: u16, out: &mut FrameBuf)
-    requires { array_vec_len out.old + 2 ≤ ROOM }
+    requires { array_vec_len out.old + 2 ≤ CAPACITY }
     ensures text { out.new.items ≡ out.old.items ++ big_bytes 2 n }
     ensures length { array_vec_len out.new ≡ array_vec_len out.old + 2 }
 {
@@ -66,7 +66,7 @@ fn put_u16(n: u16, out: &mut FrameBuf)
 
 // Appends a number of 32 bits.
 fn put_u32(n: u32, out: &mut FrameBuf)
-    requires { array_vec_len out.old + 4 ≤ ROOM }
+    requires { array_vec_len out.old + 4 ≤ CAPACITY }
     ensures text { out.new.items ≡ out.old.items ++ big_bytes 4 n }
     ensures length { array_vec_len out.new ≡ array_vec_len out.old + 4 }
 {
@@ -88,7 +88,7 @@ fn first_word(bytes: &[u8]) -> u32
 // The sum of 16-bit words. A last byte alone is the high byte of its word.
 #[tactic(auto, using(crate::proofs::Sums::sum_one, crate::proofs::Sums::sum_none))]
 fn words_sum(bytes: &[u8]) -> u32
-    requires { length bytes.now ≤ ROOM }
+    requires { length bytes.now ≤ CAPACITY }
     ensures { result ≡ frames.words_sum bytes.now }
 {
     let mut sum: u32 = 0;
@@ -116,7 +116,7 @@ fn carried(sum: u32) -> u16
 
 // The checksum of the internet.
 fn checksum(bytes: &[u8]) -> u16
-    requires { length bytes.now ≤ ROOM }
+    requires { length bytes.now ≤ CAPACITY }
     ensures { result ≡ frames.checksum bytes.now }
 {
     65535 - carried(words_sum(bytes))
@@ -145,7 +145,7 @@ fn port_of(packet: &[u8]) -> u16
 /// Appends the header of the file.
 #[tactic(auto, unfolding(crate::specs::Frames::file_header))]
 pub fn put_file_header(out: &mut FrameBuf)
-    requires { array_vec_len out.old + 24 ≤ ROOM }
+    requires { array_vec_len out.old + 24 ≤ CAPACITY }
     ensures { out.new.items ≡ out.old.items ++ frames.file_header }
 {
     put_u32(0xa1b2_c3d4, out);
@@ -199,7 +199,7 @@ impl Frame {
     // Appends the datagram with this checksum.
     fn put_datagram_with(&self, sum: u16, out: &mut FrameBuf)
         requires short { length self.now.packet ≤ LONGEST_PACKET }
-        requires room { array_vec_len out.old + frames.datagram_size self.now ≤ ROOM }
+        requires room { array_vec_len out.old + frames.datagram_size self.now ≤ CAPACITY }
         ensures text { out.new.items ≡ out.old.items ++ frames.datagram_with sum self.now }
         ensures length { array_vec_len out.new
             ≡ array_vec_len out.old + frames.datagram_size self.now }
@@ -216,7 +216,7 @@ impl Frame {
     // Appends what the checksum of the datagram covers besides.
     fn put_pseudo_header(&self, out: &mut FrameBuf)
         requires short { length self.now.packet ≤ LONGEST_PACKET }
-        requires room { array_vec_len out.old + 12 ≤ ROOM }
+        requires room { array_vec_len out.old + 12 ≤ CAPACITY }
         ensures text { out.new.items ≡ out.old.items ++ frames.pseudo_header self.now }
         ensures length { array_vec_len out.new ≡ array_vec_len out.old + 12 }
     {
@@ -229,7 +229,7 @@ impl Frame {
     // Appends the header of the packet with this checksum.
     fn put_header_with(&self, sum: u16, out: &mut FrameBuf)
         requires short { length self.now.packet ≤ LONGEST_PACKET }
-        requires room { array_vec_len out.old + 20 ≤ ROOM }
+        requires room { array_vec_len out.old + 20 ≤ CAPACITY }
         ensures text { out.new.items ≡ out.old.items ++ frames.header_with sum self.now }
         ensures length { array_vec_len out.new ≡ array_vec_len out.old + 20 }
     {
@@ -246,7 +246,7 @@ impl Frame {
     fn put_record(&self, out: &mut FrameBuf)
         requires short { length self.now.packet ≤ LONGEST_PACKET }
         requires soon { self.now.event / 1000 < 2 ^ 32 }
-        requires room { array_vec_len out.old + 16 ≤ ROOM }
+        requires room { array_vec_len out.old + 16 ≤ CAPACITY }
         ensures text { out.new.items ≡ out.old.items ++ frames.record_header self.now }
         ensures length { array_vec_len out.new ≡ array_vec_len out.old + 16 }
     {
@@ -282,7 +282,7 @@ impl Frame {
     fn put_with(&self, header: u16, datagram: u16, out: &mut FrameBuf)
         requires short { length self.now.packet ≤ LONGEST_PACKET }
         requires soon { self.now.event / 1000 < 2 ^ 32 }
-        requires room { array_vec_len out.old + 44 + length self.now.packet ≤ ROOM }
+        requires room { array_vec_len out.old + 44 + length self.now.packet ≤ CAPACITY }
         ensures { out.new.items ≡ out.old.items ++ frames.record_header self.now
             ++ frames.header_with header self.now ++ frames.datagram_with datagram self.now }
     {

@@ -9,7 +9,7 @@ ghost use Rattle.mesh_capture.specs.Causes.{HasSourceCause, HasStatusCause};
 use crate::capturing::Capturing;
 use crate::lines::put_bad;
 use crate::status::CaptureStatus;
-use mesh_io::{Limits, Sink, Source, TEXT_ROOM};
+use mesh_io::{Limits, Sink, Source, TEXT_CAPACITY};
 use mesh_shell::run;
 use std::alloc::Global;
 
@@ -25,7 +25,7 @@ fn write_file<I: Source, O: Sink>(alloc: Global, input: &mut I, out: &mut O) -> 
 {
     let mut capturing = Capturing::new(alloc);
     let most = Limits::of_text();
-    let answer = run::<Capturing, I, O, TEXT_ROOM>(alloc, &mut capturing, most, input, out);
+    let answer = run::<Capturing, I, O, TEXT_CAPACITY>(alloc, &mut capturing, most, input, out);
     CaptureStatus::of(answer)
 }
 

@@ -22,12 +22,12 @@ use Rattle.mesh_model.specs.Worlds as worlds
 use Rattle.mesh_model.specs.Worlds.{is_parcel, World, Node, Copy, Event, Give, Turn, Send, Ask, Link, Cut, Deliver, Lose, Double, range, receivers, copies, copies_to, copies_of, done_by, push, find_copy, Changed, Taken, Sent, CopyHeard, CopyLost, CopyDoubled, Outcome, Idle, Next, unless_full, turn_of, send_of, ask_of, at_node, at_copy, with_link, without_link, without_copy, with_double, step, after, are_linked}
 use Rattle.mesh_meaning.specs.Events.{node_of}
 use Rattle.mesh_meaning.specs.Answers.{cast_in, effect_in, copies_in, outcome_in, IsDoneInMesh}
-use Rattle.mesh_text.specs.Schedule.{Moment, world_of, outcome_at}
+use Rattle.mesh_text.specs.Schedule.{RunState, world_of, outcome_at}
 use Rattle.mesh_fates.specs.declared.rates.Rates.{Rates}
 use Rattle.mesh_fates.specs.Fates.{draw}
 use Rattle.mesh_fates.specs.Channels as channels
 use Rattle.mesh_fates.specs.Channels.{Channel, decided}
-use Rattle.mesh_channel.specs.Moments.{IsAnswerOf, HasAnswer, HasNumbers, decided_in_air}
+use Rattle.mesh_channel.specs.RunStates.{IsAnswerOf, HasAnswer, HasNumbers, decided_in_air}
 
 -- ---- the first copy of a cast
 
@@ -100,14 +100,14 @@ step_from w (Double id) = copy_from w (λ c. Next (with_double w c) (CopyDoubled
 
 -- ---- by the answer of an event
 
-abbrev cast_copies : Moment → Event → CastGiven → Air → List ℕ → List Copy
+abbrev cast_copies : RunState → Event → CastGiven → Air → List ℕ → List Copy
 cast_copies m e cast air packet = copies_in m.mesh (node_of e) cast air packet
 
-taken_from : (m n : Moment) (e : Event) (took : TookGiven) (effect : EffectGiven) (air : Air) → (a : IsAnswerOf m e n (done.Taken took effect air)) → IsFrom (world_of m).next_copy (cast_copies m e effect.cast air a.packet)
+taken_from : (m n : RunState) (e : Event) (took : TookGiven) (effect : EffectGiven) (air : Air) → (a : IsAnswerOf m e n (done.Taken took effect air)) → IsFrom (world_of m).next_copy (cast_copies m e effect.cast air a.packet)
 unfolding FromNext
 taken_from m n e took effect air a = subst (FromNext (world_of m)) a.answer.outcome (step_from (world_of m) e)
 
-sent_from : (m n : Moment) (e : Event) (effect : EffectGiven) (air : Air) → (a : IsAnswerOf m e n (done.Sent effect air)) → IsFrom (world_of m).next_copy (cast_copies m e effect.cast air a.packet)
+sent_from : (m n : RunState) (e : Event) (effect : EffectGiven) (air : Air) → (a : IsAnswerOf m e n (done.Sent effect air)) → IsFrom (world_of m).next_copy (cast_copies m e effect.cast air a.packet)
 unfolding FromNext
 sent_from m n e effect air a = subst (FromNext (world_of m)) a.answer.outcome (step_from (world_of m) e)
 
@@ -165,13 +165,13 @@ decided_as rates mesh x next effect air packet c few below = by effect.cast
     by (given.Many s) is = whole false ∙ decided_from rates false tos air.first x next _ c is
     by given.All is = whole false ∙ decided_from rates false tos air.first x next _ c is
 
-pub decided_taken : (rates : Rates) (m n : Moment) (e : Event) (took : TookGiven) (effect : EffectGiven) (air : Air) (c : Channel) → IsAnswerOf m e n (done.Taken took effect air)
+pub decided_taken : (rates : Rates) (m n : RunState) (e : Event) (took : TookGiven) (effect : EffectGiven) (air : Air) (c : Channel) → IsAnswerOf m e n (done.Taken took effect air)
     → decided_in_air rates effect.cast air c ≡ channels.after_chosen rates (world_of m) (outcome_at m e) c
 decided_taken rates m n e took effect air c a =
     decided_as rates m.mesh (node_of e) (world_of m).next_copy effect air a.packet c a.nodes a.answer.in_mesh.1.receivers (taken_from m n e took effect air a)
     ∙ ap (λ o. channels.after_chosen rates (world_of m) o c) (sym a.answer.outcome)
 
-pub decided_sent : (rates : Rates) (m n : Moment) (e : Event) (effect : EffectGiven) (air : Air) (c : Channel) → IsAnswerOf m e n (done.Sent effect air)
+pub decided_sent : (rates : Rates) (m n : RunState) (e : Event) (effect : EffectGiven) (air : Air) (c : Channel) → IsAnswerOf m e n (done.Sent effect air)
     → decided_in_air rates effect.cast air c ≡ channels.after_chosen rates (world_of m) (outcome_at m e) c
 decided_sent rates m n e effect air c a =
     decided_as rates m.mesh (node_of e) (world_of m).next_copy effect air a.packet c a.nodes a.answer.in_mesh.receivers (sent_from m n e effect air a)
@@ -189,12 +189,12 @@ by_no_cast rates w v mesh x (done.Heard from to) packet c taken sent = refl
 by_no_cast rates w v mesh x (done.Lost flying) packet c taken sent = refl
 by_no_cast rates w v mesh x (done.Doubled id to parcel) packet c taken sent = refl
 
-pub nothing_decided : (rates : Rates) (m n : Moment) (e : Event) (d : Done) (c : Channel) → ((took : TookGiven) (effect : EffectGiven) (air : Air) → d ≢ done.Taken took effect air) → ((effect : EffectGiven) (air : Air) → d ≢ done.Sent effect air)
+pub nothing_decided : (rates : Rates) (m n : RunState) (e : Event) (d : Done) (c : Channel) → ((took : TookGiven) (effect : EffectGiven) (air : Air) → d ≢ done.Taken took effect air) → ((effect : EffectGiven) (air : Air) → d ≢ done.Sent effect air)
     → IsAnswerOf m e n d → c ≡ channels.after_chosen rates (world_of m) (outcome_at m e) c
 nothing_decided rates m n e d c taken sent a =
     sym (ap (λ o. channels.after_chosen rates (world_of m) o c) a.answer.outcome ∙ by_no_cast rates (world_of m) (world_of n) m.mesh (node_of e) d a.packet c taken sent)
 
-pub double_decided : (rates : Rates) (m n : Moment) (e : Event) (id to : ℕ) (parcel : Bool) (c : Channel) → IsAnswerOf m e n (done.Doubled id to parcel)
+pub double_decided : (rates : Rates) (m n : RunState) (e : Event) (id to : ℕ) (parcel : Bool) (c : Channel) → IsAnswerOf m e n (done.Doubled id to parcel)
     → channels.with_double rates id c ≡ channels.after_given rates (world_of m) (outcome_at m e) c
 double_decided rates m n e id to parcel c a = ap (λ o. channels.after_given rates (world_of m) o c) (sym a.answer.outcome)
 
@@ -208,7 +208,7 @@ by_no_double rates w v mesh x (done.Heard from to) packet c none = refl
 by_no_double rates w v mesh x (done.Lost flying) packet c none = refl
 by_no_double rates w v mesh x (done.Doubled id to parcel) packet c none = absurd (none id to parcel refl)
 
-pub given_as_chosen : (rates : Rates) (m n : Moment) (e : Event) (d : Done) (c : Channel) → ((id to : ℕ) (parcel : Bool) → d ≢ done.Doubled id to parcel) → IsAnswerOf m e n d
+pub given_as_chosen : (rates : Rates) (m n : RunState) (e : Event) (d : Done) (c : Channel) → ((id to : ℕ) (parcel : Bool) → d ≢ done.Doubled id to parcel) → IsAnswerOf m e n d
     → channels.after_chosen rates (world_of m) (outcome_at m e) c ≡ channels.after_given rates (world_of m) (outcome_at m e) c
 given_as_chosen rates m n e d c none a =
     ap (λ o. channels.after_chosen rates (world_of m) o c) a.answer.outcome ∙ sym (by_no_double rates (world_of m) (world_of n) m.mesh (node_of e) d a.packet c none)
@@ -224,12 +224,12 @@ first_in mesh x next (given.One y) air packet few below casts is some = first_to
 first_in mesh x next (given.Many s) air packet few below casts is some = first_to (members_below (length mesh) air.to) air.first x next _ is (subst (λ l. length l ≢ 0) (all_below mesh air few below) some)
 first_in mesh x next given.All air packet few below casts is some = first_to (members_below (length mesh) air.to) air.first x next _ is (subst (λ l. length l ≢ 0) (all_below mesh air few below) some)
 
-pub taken_numbers : (m n : Moment) (e : Event) (took : TookGiven) (effect : EffectGiven) (air : Air) → IsAnswerOf m e n (done.Taken took effect air) → HasNumbers effect.cast air
+pub taken_numbers : (m n : RunState) (e : Event) (took : TookGiven) (effect : EffectGiven) (air : Air) → IsAnswerOf m e n (done.Taken took effect air) → HasNumbers effect.cast air
 taken_numbers m n e took effect air a casts some =
     let same = first_in m.mesh (node_of e) (world_of m).next_copy effect.cast air a.packet a.nodes a.answer.in_mesh.1.receivers casts (taken_from m n e took effect air a) some in
     (omega (arith, a.copies.some), omega (arith, a.copies.few, a.steps))
 
-pub sent_numbers : (m n : Moment) (e : Event) (effect : EffectGiven) (air : Air) → IsAnswerOf m e n (done.Sent effect air) → HasNumbers effect.cast air
+pub sent_numbers : (m n : RunState) (e : Event) (effect : EffectGiven) (air : Air) → IsAnswerOf m e n (done.Sent effect air) → HasNumbers effect.cast air
 sent_numbers m n e effect air a casts some =
     let same = first_in m.mesh (node_of e) (world_of m).next_copy effect.cast air a.packet a.nodes a.answer.in_mesh.receivers casts (sent_from m n e effect air a) some in
     (omega (arith, a.copies.some), omega (arith, a.copies.few, a.steps))
@@ -275,7 +275,7 @@ sent_nodes d effect air is h =
 pub sent_has_numbers : (d : Done) (effect : EffectGiven) (air : Air) → d ≡ done.Sent effect air → HasAnswer d → HasNumbers effect.cast air
 sent_has_numbers d effect air is h = sent_numbers h.before h.after h.event effect air (subst (IsAnswerOf h.before h.event h.after) is h.is)
 
-doubled_from : (m n : Moment) (e : Event) (id to : ℕ) (parcel : Bool) → (a : IsAnswerOf m e n (done.Doubled id to parcel)) → id ≡ (world_of m).next_copy
+doubled_from : (m n : RunState) (e : Event) (id to : ℕ) (parcel : Bool) → (a : IsAnswerOf m e n (done.Doubled id to parcel)) → id ≡ (world_of m).next_copy
 unfolding FromNext
 doubled_from m n e id to parcel a = subst (FromNext (world_of m)) a.answer.outcome (step_from (world_of m) e)
 
@@ -286,16 +286,16 @@ doubled_number d id to parcel is h =
     omega (arith, a.copies.some)
 
 pub on_taken : {T E : Type 0} (r : Result T E) (rates : Rates) (d : Done) (took : TookGiven) (effect : EffectGiven) (air : Air) (k c : Channel) → d ≡ done.Taken took effect air → OnOk r (k ≡ decided_in_air rates effect.cast air c)
-    → OnOk r ((m n : Moment) (e : Event) → IsAnswerOf m e n d → k ≡ channels.after_chosen rates (world_of m) (outcome_at m e) c)
+    → OnOk r ((m n : RunState) (e : Event) → IsAnswerOf m e n d → k ≡ channels.after_chosen rates (world_of m) (outcome_at m e) c)
 on_taken (Ok x) rates d took effect air k c is decided = λ m n e a. decided ∙ decided_taken rates m n e took effect air c (subst (IsAnswerOf m e n) is a)
 on_taken (Err x) rates d took effect air k c is decided = tt
 
 pub on_sent : {T E : Type 0} (r : Result T E) (rates : Rates) (d : Done) (effect : EffectGiven) (air : Air) (k c : Channel) → d ≡ done.Sent effect air → OnOk r (k ≡ decided_in_air rates effect.cast air c)
-    → OnOk r ((m n : Moment) (e : Event) → IsAnswerOf m e n d → k ≡ channels.after_chosen rates (world_of m) (outcome_at m e) c)
+    → OnOk r ((m n : RunState) (e : Event) → IsAnswerOf m e n d → k ≡ channels.after_chosen rates (world_of m) (outcome_at m e) c)
 on_sent (Ok x) rates d effect air k c is decided = λ m n e a. decided ∙ decided_sent rates m n e effect air c (subst (IsAnswerOf m e n) is a)
 on_sent (Err x) rates d effect air k c is decided = tt
 
-pub on_other : {T E : Type 0} (r : Result T E) (rates : Rates) (d : Done) (k c : Channel) → ((id to : ℕ) (parcel : Bool) → d ≢ done.Doubled id to parcel) → OnOk r ((m n : Moment) (e : Event) → IsAnswerOf m e n d → k ≡ channels.after_chosen rates (world_of m) (outcome_at m e) c)
-    → OnOk r ((m n : Moment) (e : Event) → IsAnswerOf m e n d → k ≡ channels.after_given rates (world_of m) (outcome_at m e) c)
+pub on_other : {T E : Type 0} (r : Result T E) (rates : Rates) (d : Done) (k c : Channel) → ((id to : ℕ) (parcel : Bool) → d ≢ done.Doubled id to parcel) → OnOk r ((m n : RunState) (e : Event) → IsAnswerOf m e n d → k ≡ channels.after_chosen rates (world_of m) (outcome_at m e) c)
+    → OnOk r ((m n : RunState) (e : Event) → IsAnswerOf m e n d → k ≡ channels.after_given rates (world_of m) (outcome_at m e) c)
 on_other (Ok x) rates d k c none decided = λ m n e a. decided m n e a ∙ given_as_chosen rates m n e d c none a
 on_other (Err x) rates d k c none decided = tt

@@ -7,7 +7,7 @@ use Rattle.mesh_io.specs.Puts.{AppendsPrefix}
 use Rattle.mesh_io.proofs.Writing.{AppendsPrefix-none}
 use Rattle.mesh_model.specs.Worlds as worlds
 use Rattle.mesh_model.specs.Worlds.{World, Event, Give, Turn, Send, Ask, Link, Cut, Deliver, Lose, Double, Outcome, Idle, Next, step}
-use Rattle.mesh_text.specs.Schedule.{Moment, world_of, next_moment, outcome_at}
+use Rattle.mesh_text.specs.Schedule.{RunState, world_of, next_state, outcome_at}
 use Rattle.mesh_text.specs.Effects.{outcome_lines}
 use Rattle.mesh_text.specs.Auto.{EventsOutcome, Ended, Full as EventsFull, done_then, outcome_of_events}
 use Rattle.mesh_text.specs.Text.{On, Full}
@@ -22,7 +22,7 @@ use Rattle.mesh_fates.specs.Channels.{Channel, after_chosen}
 use Rattle.mesh_channel.specs.declared.until.Until.{Until}
 use Rattle.mesh_channel.specs.Choices.{Choice, Chosen, Nothing, next_choice}
 use Rattle.mesh_channel.specs.Chosen.{Drawn, none, before, event_then, choice_then, chosen_from}
-use Rattle.mesh_channel.specs.Moments.{choice_of, IsLeftBehind, moment_of, moved}
+use Rattle.mesh_channel.specs.RunStates.{choice_of, IsLeftBehind, run_state_of, moved}
 use Rattle.mesh_channel.specs.declared.channeled.Channeled.{Channeled}
 use Rattle.mesh_channel.specs.Room.{most_left}
 use Rattle.mesh_channel.proofs.InMesh.{IsOfLeft}
@@ -30,78 +30,78 @@ use Rattle.mesh_channel.proofs.Numbers.{quiet_of_left}
 
 -- ---- one event, and then others
 
-then_goes : (say : Bool) (m n k : Moment) (e : Event) (o : Outcome) (others : Moment → EventsOutcome) (a b c : Option (List ℕ)) (r : Result ℕ Stop)
+then_goes : (say : Bool) (m n k : RunState) (e : Event) (o : Outcome) (others : RunState → EventsOutcome) (a b c : Option (List ℕ)) (r : Result ℕ Stop)
     → IsLineDone say (outcome_by m e o) n a b → IsEventsRun say n (others n) k b c r → IsEventsRun say m (done_then m e o others) k a c r
 then_goes say m n k e Idle others a b c r g q = on_then say m n k e (outcome_lines m.mesh e Idle) others a b c r g q
 then_goes say m n k e (worlds.Full x field) others a b c r g q = absurd (let h : Full [] m e field ≡ On g.text n = g.is in let P : ⊥ = cc in P)
 then_goes say m n k e (Next w i) others a b c r g q = on_then say m n k e (outcome_lines m.mesh e (Next w i)) others a b c r g q
 
-then_stops : (say : Bool) (m n : Moment) (e : Event) (o : Outcome) (others : Moment → EventsOutcome) (a b : Option (List ℕ)) (t : Stop)
+then_stops : (say : Bool) (m n : RunState) (e : Event) (o : Outcome) (others : RunState → EventsOutcome) (a b : Option (List ℕ)) (t : Stop)
     → IsLineStopped say m (outcome_by m e o) n a b t → IsEventsRun say m (done_then m e o others) n a b (Err t)
-then_stops say m n e Idle others a b t g = on_stops say m n (next_moment m e) (outcome_lines m.mesh e Idle) (others (next_moment m e)) a b t g
+then_stops say m n e Idle others a b t g = on_stops say m n (next_state m e) (outcome_lines m.mesh e Idle) (others (next_state m e)) a b t g
 then_stops say m n e (worlds.Full x full) others a b t g = full_stops say m n e full a b t g
-then_stops say m n e (Next w i) others a b t g = on_stops say m n (next_moment m e) (outcome_lines m.mesh e (Next w i)) (others (next_moment m e)) a b t g
+then_stops say m n e (Next w i) others a b t g = on_stops say m n (next_state m e) (outcome_lines m.mesh e (Next w i)) (others (next_state m e)) a b t g
 
-pub list_goes : (say : Bool) (m n k : Moment) (e : Event) (es : List Event) (a b c : Option (List ℕ)) (r : Result ℕ Stop)
+pub list_goes : (say : Bool) (m n k : RunState) (e : Event) (es : List Event) (a b c : Option (List ℕ)) (r : Result ℕ Stop)
     → IsLineDone say (outcome_by m e (outcome_at m e)) n a b → IsEventsRun say n (outcome_of_events n es) k b c r → IsEventsRun say m (outcome_of_events m (e ∷ es)) k a c r
 unfolding outcome_of_events
 list_goes say m n k e es a b c r g q = then_goes say m n k e (outcome_at m e) (λ x. outcome_of_events x es) a b c r g q
 
-pub list_stops : (say : Bool) (m n : Moment) (e : Event) (es : List Event) (a b : Option (List ℕ)) (t : Stop)
+pub list_stops : (say : Bool) (m n : RunState) (e : Event) (es : List Event) (a b : Option (List ℕ)) (t : Stop)
     → IsLineStopped say m (outcome_by m e (outcome_at m e)) n a b t → IsEventsRun say m (outcome_of_events m (e ∷ es)) n a b (Err t)
 unfolding outcome_of_events
 list_stops say m n e es a b t g = then_stops say m n e (outcome_at m e) (λ x. outcome_of_events x es) a b t g
 
-pub list_ends : (say : Bool) (m : Moment) (es : List Event) (a : Option (List ℕ)) → es ≡ [] → IsEventsDone say (outcome_of_events m es) m a a
+pub list_ends : (say : Bool) (m : RunState) (es : List Event) (a : Option (List ℕ)) → es ≡ [] → IsEventsDone say (outcome_of_events m es) m a a
 unfolding outcome_of_events
 list_ends say m es a none = record { text = []; is = ap (outcome_of_events m) none; grown = shown_none say a }
 
 -- memory ran out behind an event
-pub list_breaks : (say : Bool) (m n k : Moment) (e : Event) (es : List Event) (a b : Option (List ℕ)) → IsLineDone say (outcome_by m e (outcome_at m e)) n a b
+pub list_breaks : (say : Bool) (m n k : RunState) (e : Event) (es : List Event) (a b : Option (List ℕ)) → IsLineDone say (outcome_by m e (outcome_at m e)) n a b
     → IsEventsRun say m (outcome_of_events m (e ∷ es)) k a b (Err stop.NoMemory)
 list_breaks say m n k e es a b g = list_goes say m n k e es a b b (Err stop.NoMemory) g (AppendsPrefix-none b (output_if say (text_of (outcome_of_events n es))))
 
 -- ---- events that the channel chooses
 
-chosen_suc : (k : ℕ) (rates : Rates) (until : Until) (did : ℕ) (m : Moment) (c : Channel)
+chosen_suc : (k : ℕ) (rates : Rates) (until : Until) (did : ℕ) (m : RunState) (c : Channel)
     → chosen_from (suc k) rates until did m c ≡ choice_then rates m (next_choice until did (world_of m) c) (λ n after. chosen_from k rates until (did + 1) n after)
 unfolding chosen_from
 chosen_suc k rates until did m c = refl
 
-chosen_zero : (rates : Rates) (until : Until) (did : ℕ) (m : Moment) (c : Channel) → chosen_from 0 rates until did m c ≡ none c
+chosen_zero : (rates : Rates) (until : Until) (did : ℕ) (m : RunState) (c : Channel) → chosen_from 0 rates until did m c ≡ none c
 unfolding chosen_from
 chosen_zero rates until did m c = refl
 
-chosen_one : (most did : ℕ) (rates : Rates) (until : Until) (m : Moment) (c : Channel) (choice : Choice) → did < most → choice ≡ next_choice until did (world_of m) c
+chosen_one : (most did : ℕ) (rates : Rates) (until : Until) (m : RunState) (c : Channel) (choice : Choice) → did < most → choice ≡ next_choice until did (world_of m) c
     → chosen_from (most - did) rates until did m c ≡ choice_then rates m choice (λ n after. chosen_from (most - (did + 1)) rates until (did + 1) n after)
 chosen_one most did rates until m c choice h p =
     ap (λ k. chosen_from k rates until did m c) (one_less most did h) ∙ chosen_suc (most - (did + 1)) rates until did m c
     ∙ ap (λ o. choice_then rates m o (λ n after. chosen_from (most - (did + 1)) rates until (did + 1) n after)) (sym p)
 
 -- as many were done as may be
-pub chosen_all : (most did : ℕ) (rates : Rates) (until : Until) (m : Moment) (c : Channel) → most ≤ did → chosen_from (most - did) rates until did m c ≡ none c
+pub chosen_all : (most did : ℕ) (rates : Rates) (until : Until) (m : RunState) (c : Channel) → most ≤ did → chosen_from (most - did) rates until did m c ≡ none c
 chosen_all most did rates until m c h =
     let zero' : most - did ≡ 0 = omega (arith, h) in
     ap (λ k. chosen_from k rates until did m c) zero' ∙ chosen_zero rates until did m c
 
 -- none is chosen
-pub chosen_none : (most did : ℕ) (rates : Rates) (until : Until) (m : Moment) (c k : Channel) (o : Option Event) → did < most → o ≡ None → choice_of o k ≡ next_choice until did (world_of m) c
+pub chosen_none : (most did : ℕ) (rates : Rates) (until : Until) (m : RunState) (c k : Channel) (o : Option Event) → did < most → o ≡ None → choice_of o k ≡ next_choice until did (world_of m) c
     → chosen_from (most - did) rates until did m c ≡ none k
 chosen_none most did rates until m c k o h is p = chosen_one most did rates until m c (Nothing k) h (ap (λ q. choice_of q k) (sym is) ∙ p)
 
-then_before : (say : Bool) (m n : Moment) (e : Event) (o : Outcome) (c : Channel) (others : Drawn) (a b : Option (List ℕ)) → IsLineDone say (outcome_by m e o) n a b → event_then e o c others ≡ before e others
+then_before : (say : Bool) (m n : RunState) (e : Event) (o : Outcome) (c : Channel) (others : Drawn) (a b : Option (List ℕ)) → IsLineDone say (outcome_by m e o) n a b → event_then e o c others ≡ before e others
 then_before say m n e Idle c others a b g = refl
 then_before say m n e (worlds.Full x field) c others a b g = absurd (let h : Full [] m e field ≡ On g.text n = g.is in let P : ⊥ = cc in P)
 then_before say m n e (Next w i) c others a b g = refl
 
 -- one is chosen and done
-pub chosen_goes : (say : Bool) (most did : ℕ) (rates : Rates) (until : Until) (m n : Moment) (c k after : Channel) (e : Event) (o : Option Event) (a b : Option (List ℕ)) → did < most → o ≡ Some e → choice_of o k ≡ next_choice until did (world_of m) c
-    → IsLineDone say (outcome_by m e (outcome_at m e)) n a b → n ≡ next_moment m e → after ≡ after_chosen rates (world_of m) (outcome_at m e) k
+pub chosen_goes : (say : Bool) (most did : ℕ) (rates : Rates) (until : Until) (m n : RunState) (c k after : Channel) (e : Event) (o : Option Event) (a b : Option (List ℕ)) → did < most → o ≡ Some e → choice_of o k ≡ next_choice until did (world_of m) c
+    → IsLineDone say (outcome_by m e (outcome_at m e)) n a b → n ≡ next_state m e → after ≡ after_chosen rates (world_of m) (outcome_at m e) k
     → chosen_from (most - did) rates until did m c ≡ before e (chosen_from (most - (did + 1)) rates until (did + 1) n after)
 chosen_goes say most did rates until m n c k after e o a b h is p g next then =
     chosen_one most did rates until m c (Chosen e k) h (ap (λ q. choice_of q k) (sym is) ∙ p)
     ∙ then_before say m n e (outcome_at m e) k _ a b g
-    ∙ ap (λ (x : Moment). before e (chosen_from (most - (did + 1)) rates until (did + 1) x (after_chosen rates (world_of m) (outcome_at m e) k))) (sym next)
+    ∙ ap (λ (x : RunState). before e (chosen_from (most - (did + 1)) rates until (did + 1) x (after_chosen rates (world_of m) (outcome_at m e) k))) (sym next)
     ∙ ap (λ (x : Channel). before e (chosen_from (most - (did + 1)) rates until (did + 1) n x)) (sym then)
 
 events_then : (e : Event) (o : Outcome) (c : Channel) (others : Drawn) → (es : List Event) × ((event_then e o c others).events ≡ e ∷ es)
@@ -109,22 +109,22 @@ events_then e Idle c others = (others.events, refl)
 events_then e (worlds.Full x field) c others = ([], refl)
 events_then e (Next w i) c others = (others.events, refl)
 
-events_first : (most did : ℕ) (rates : Rates) (until : Until) (m : Moment) (c k : Channel) (e : Event) (o : Option Event) → did < most → o ≡ Some e → choice_of o k ≡ next_choice until did (world_of m) c
+events_first : (most did : ℕ) (rates : Rates) (until : Until) (m : RunState) (c k : Channel) (e : Event) (o : Option Event) → did < most → o ≡ Some e → choice_of o k ≡ next_choice until did (world_of m) c
     → (es : List Event) × ((chosen_from (most - did) rates until did m c).events ≡ e ∷ es)
 events_first most did rates until m c k e o h is p =
     let all = chosen_one most did rates until m c (Chosen e k) h (ap (λ q. choice_of q k) (sym is) ∙ p) in
-    let es = events_then e (outcome_at m e) k (chosen_from (most - (did + 1)) rates until (did + 1) (next_moment m e) (after_chosen rates (world_of m) (outcome_at m e) k)) in
+    let es = events_then e (outcome_at m e) k (chosen_from (most - (did + 1)) rates until (did + 1) (next_state m e) (after_chosen rates (world_of m) (outcome_at m e) k)) in
     (es.0, ap (λ (d : Drawn). d.events) all ∙ es.1)
 
 -- one is chosen, and not done or not written whole
-pub chosen_stops : (say : Bool) (most did : ℕ) (rates : Rates) (until : Until) (m n : Moment) (c k : Channel) (e : Event) (o : Option Event) (a b : Option (List ℕ)) (t : Stop) → did < most → o ≡ Some e → choice_of o k ≡ next_choice until did (world_of m) c
+pub chosen_stops : (say : Bool) (most did : ℕ) (rates : Rates) (until : Until) (m n : RunState) (c k : Channel) (e : Event) (o : Option Event) (a b : Option (List ℕ)) (t : Stop) → did < most → o ≡ Some e → choice_of o k ≡ next_choice until did (world_of m) c
     → IsLineStopped say m (outcome_by m e (outcome_at m e)) n a b t → IsEventsRun say m (outcome_of_events m (chosen_from (most - did) rates until did m c).events) n a b (Err t)
 chosen_stops say most did rates until m n c k e o a b t h is p g =
     let first = events_first most did rates until m c k e o h is p in
     subst (λ (es : List Event). IsEventsRun say m (outcome_of_events m es) n a b (Err t)) (sym first.1) (list_stops say m n e first.0 a b t g)
 
 -- memory ran out behind it
-pub chosen_breaks : (say : Bool) (most did : ℕ) (rates : Rates) (until : Until) (m n q : Moment) (c k : Channel) (e : Event) (o : Option Event) (a b : Option (List ℕ)) → did < most → o ≡ Some e → choice_of o k ≡ next_choice until did (world_of m) c
+pub chosen_breaks : (say : Bool) (most did : ℕ) (rates : Rates) (until : Until) (m n q : RunState) (c k : Channel) (e : Event) (o : Option Event) (a b : Option (List ℕ)) → did < most → o ≡ Some e → choice_of o k ≡ next_choice until did (world_of m) c
     → IsLineDone say (outcome_by m e (outcome_at m e)) n a b → IsEventsRun say m (outcome_of_events m (chosen_from (most - did) rates until did m c).events) q a b (Err stop.NoMemory)
 chosen_breaks say most did rates until m n q c k e o a b h is p g =
     let first = events_first most did rates until m c k e o h is p in
@@ -144,7 +144,7 @@ of_left (Link a b) is = absurd is
 of_left (Cut a b) is = absurd is
 of_left (Deliver id) is = absurd is
 
-pub left_few : (rates : Rates) (m : Moment) (e : Event) (c k after : Channel) → IsLeftBehind c (Some e) k → length c.left ≤ most_left → after ≡ after_chosen rates (world_of m) (outcome_at m e) k
+pub left_few : (rates : Rates) (m : RunState) (e : Event) (c k after : Channel) → IsLeftBehind c (Some e) k → length c.left ≤ most_left → after ≡ after_chosen rates (world_of m) (outcome_at m e) k
     → length after.left ≤ length k.left + 3 * MOST_NODES → length after.left ≤ most_left
 left_few rates m e c k after (inl nothing) few is more =
     let zero' : length k.left ≡ 0 = ap length nothing in
@@ -156,60 +156,60 @@ left_few rates m e c k after (inr some) few is more =
 -- ---- in the loop
 
 -- whatever is told of the others, the same then is of all
-pub chosen_ran : (say : Bool) (most did : ℕ) (rates : Rates) (until : Until) (m n q : Moment) (c k after : Channel) (e : Event) (o : Option Event) (a b now : Option (List ℕ)) (r : Result ℕ Stop) → did < most → o ≡ Some e → choice_of o k ≡ next_choice until did (world_of m) c
-    → IsLineDone say (outcome_by m e (outcome_at m e)) n a b → n ≡ next_moment m e → after ≡ after_chosen rates (world_of m) (outcome_at m e) k
+pub chosen_ran : (say : Bool) (most did : ℕ) (rates : Rates) (until : Until) (m n q : RunState) (c k after : Channel) (e : Event) (o : Option Event) (a b now : Option (List ℕ)) (r : Result ℕ Stop) → did < most → o ≡ Some e → choice_of o k ≡ next_choice until did (world_of m) c
+    → IsLineDone say (outcome_by m e (outcome_at m e)) n a b → n ≡ next_state m e → after ≡ after_chosen rates (world_of m) (outcome_at m e) k
     → IsEventsRun say n (outcome_of_events n (chosen_from (most - (did + 1)) rates until (did + 1) n after).events) q b now r
     → IsEventsRun say m (outcome_of_events m (chosen_from (most - did) rates until did m c).events) q a now r
 chosen_ran say most did rates until m n q c k after e o a b now r h is p g next then others =
     let rest : Drawn = chosen_from (most - (did + 1)) rates until (did + 1) n after in
     subst (λ (d : Drawn). IsEventsRun say m (outcome_of_events m d.events) q a now r) (sym (chosen_goes say most did rates until m n c k after e o a b h is p g next then)) (list_goes say m n q e rest.events a b now r g others)
 
-pub chosen_channel : (say : Bool) (most did : ℕ) (rates : Rates) (until : Until) (m n : Moment) (c k after : Channel) (e : Event) (o : Option Event) (a b : Option (List ℕ)) → did < most → o ≡ Some e → choice_of o k ≡ next_choice until did (world_of m) c
-    → IsLineDone say (outcome_by m e (outcome_at m e)) n a b → n ≡ next_moment m e → after ≡ after_chosen rates (world_of m) (outcome_at m e) k
+pub chosen_channel : (say : Bool) (most did : ℕ) (rates : Rates) (until : Until) (m n : RunState) (c k after : Channel) (e : Event) (o : Option Event) (a b : Option (List ℕ)) → did < most → o ≡ Some e → choice_of o k ≡ next_choice until did (world_of m) c
+    → IsLineDone say (outcome_by m e (outcome_at m e)) n a b → n ≡ next_state m e → after ≡ after_chosen rates (world_of m) (outcome_at m e) k
     → (chosen_from (most - (did + 1)) rates until (did + 1) n after).channel ≡ (chosen_from (most - did) rates until did m c).channel
 chosen_channel say most did rates until m n c k after e o a b h is p g next then = sym (ap (λ (d : Drawn). d.channel) (chosen_goes say most did rates until m n c k after e o a b h is p g next then))
 
 -- the loop ends where nothing is chosen
-pub ended_ran : (say : Bool) (m : Moment) (d : Drawn) (k : Channel) (a : Option (List ℕ)) → d ≡ none k → IsEventsDone say (outcome_of_events m d.events) m a a
+pub ended_ran : (say : Bool) (m : RunState) (d : Drawn) (k : Channel) (a : Option (List ℕ)) → d ≡ none k → IsEventsDone say (outcome_of_events m d.events) m a a
 ended_ran say m d k a is = list_ends say m d.events a (ap (λ (x : Drawn). x.events) is)
 
 -- ---- the state of the program
 
-pub moved_on : (p q r : Channeled) → q ≡ moved p (moment_of q) → r ≡ moved q (moment_of r) → r ≡ moved p (moment_of r)
-moved_on p q r one two = two ∙ ap (λ (x : Channeled). moved x (moment_of r)) one
+pub moved_on : (p q r : Channeled) → q ≡ moved p (run_state_of q) → r ≡ moved q (run_state_of r) → r ≡ moved p (run_state_of r)
+moved_on p q r one two = two ∙ ap (λ (x : Channeled). moved x (run_state_of r)) one
 
-pub moved_channel : (p q : Channeled) → q ≡ record p { channel = q.channel } → q ≡ moved p (moment_of q)
-moved_channel p q is = is ∙ ap (λ (x : Moment). record p { point = x; channel = q.channel }) (sym (ap (λ (x : Channeled). x.point) is))
+pub moved_channel : (p q : Channeled) → q ≡ record p { channel = q.channel } → q ≡ moved p (run_state_of q)
+moved_channel p q is = is ∙ ap (λ (x : RunState). record p { point = x; channel = q.channel }) (sym (ap (λ (x : Channeled). x.point) is))
 
-pub moved_point : (p q : Channeled) → q ≡ record p { point = q.point } → q ≡ moved p (moment_of q)
+pub moved_point : (p q : Channeled) → q ≡ record p { point = q.point } → q ≡ moved p (run_state_of q)
 moved_point p q is = is ∙ ap (λ (x : Channel). record p { point = q.point; channel = x }) (sym (ap (λ (x : Channeled). x.channel) is))
 
 -- an event that is chosen at p, which takes the channel to that of q, is done and decided of at z
 pub record Stepped (say : Bool) (rates : Rates) (p q z : Channeled) (e : Event) (a b : Option (List ℕ)) : Type 0 where
   pub done : IsLineDone say (outcome_by p.point e (outcome_at p.point e)) z.point a b
-  pub next : z.point ≡ next_moment p.point e
+  pub next : z.point ≡ next_state p.point e
   pub then : z.channel ≡ after_chosen rates (world_of p.point) (outcome_at p.point e) q.channel
-  pub only : z ≡ moved p (moment_of z)
+  pub only : z ≡ moved p (run_state_of z)
 
 pub stepped : (say : Bool) (rates : Rates) (p q r z : Channeled) (e : Event) (a b : Option (List ℕ)) → q ≡ record p { channel = q.channel } → r ≡ record q { point = r.point } → z ≡ record r { channel = z.channel }
-    → IsLineDone say (outcome_by q.point e (outcome_at q.point e)) r.point a b → r.point ≡ next_moment q.point e → z.channel ≡ after_chosen rates (world_of q.point) (outcome_at q.point e) r.channel
+    → IsLineDone say (outcome_by q.point e (outcome_at q.point e)) r.point a b → r.point ≡ next_state q.point e → z.channel ≡ after_chosen rates (world_of q.point) (outcome_at q.point e) r.channel
     → Stepped say rates p q z e a b
 stepped say rates p q r z e a b one two three done next then =
     let before_is : q.point ≡ p.point = ap (λ (x : Channeled). x.point) one in
     let after_is : r.point ≡ z.point = sym (ap (λ (x : Channeled). x.point) three) in
     let kept : r.channel ≡ q.channel = ap (λ (x : Channeled). x.channel) two in
     record {
-      done = subst (λ (x : Moment). IsLineDone say (outcome_by p.point e (outcome_at p.point e)) x a b) after_is
-          (subst (λ (x : Moment). IsLineDone say (outcome_by x e (outcome_at x e)) r.point a b) before_is done);
-      next = sym after_is ∙ next ∙ ap (λ (x : Moment). next_moment x e) before_is;
-      then = then ∙ ap (λ (x : Moment). after_chosen rates (world_of x) (outcome_at x e) r.channel) before_is ∙ ap (after_chosen rates (world_of p.point) (outcome_at p.point e)) kept;
+      done = subst (λ (x : RunState). IsLineDone say (outcome_by p.point e (outcome_at p.point e)) x a b) after_is
+          (subst (λ (x : RunState). IsLineDone say (outcome_by x e (outcome_at x e)) r.point a b) before_is done);
+      next = sym after_is ∙ next ∙ ap (λ (x : RunState). next_state x e) before_is;
+      then = then ∙ ap (λ (x : RunState). after_chosen rates (world_of x) (outcome_at x e) r.channel) before_is ∙ ap (after_chosen rates (world_of p.point) (outcome_at p.point e)) kept;
       only = moved_on p r z (moved_on p q r (moved_channel p q one) (moved_point q r two)) (moved_channel r z three);
     }
 
 -- one that stops the run
-pub stopped : (say : Bool) (p q : Channeled) (n : Moment) (e : Event) (a b : Option (List ℕ)) (t : Stop) → q ≡ record p { channel = q.channel } → IsLineStopped say q.point (outcome_by q.point e (outcome_at q.point e)) n a b t
+pub stopped : (say : Bool) (p q : Channeled) (n : RunState) (e : Event) (a b : Option (List ℕ)) (t : Stop) → q ≡ record p { channel = q.channel } → IsLineStopped say q.point (outcome_by q.point e (outcome_at q.point e)) n a b t
     → IsLineStopped say p.point (outcome_by p.point e (outcome_at p.point e)) n a b t
-stopped say p q n e a b t one stop = subst (λ (x : Moment). IsLineStopped say x (outcome_by x e (outcome_at x e)) n a b t) (ap (λ (x : Channeled). x.point) one) stop
+stopped say p q n e a b t one stop = subst (λ (x : RunState). IsLineStopped say x (outcome_by x e (outcome_at x e)) n a b t) (ap (λ (x : Channeled). x.point) one) stop
 
 -- ---- the loop over what is left
 
@@ -221,12 +221,12 @@ pub no_left : (left : List Event) (o : Option Event) → o ≡ None → o ≡ sl
 no_left [] o is first = refl
 no_left (f ∷ left) o is first = absurd (let h : None ≡ Some f = sym is ∙ first in let P : ⊥ = cc in P)
 
-pub left_goes : (say : Bool) (m n q : Moment) (e : Event) (left rest : List Event) (o : Option Event) (a b now : Option (List ℕ)) (r : Result ℕ Stop) → o ≡ Some e → o ≡ slice_get left 0 → rest ≡ drop 1 left
+pub left_goes : (say : Bool) (m n q : RunState) (e : Event) (left rest : List Event) (o : Option Event) (a b now : Option (List ℕ)) (r : Result ℕ Stop) → o ≡ Some e → o ≡ slice_get left 0 → rest ≡ drop 1 left
     → IsLineDone say (outcome_by m e (outcome_at m e)) n a b → IsEventsRun say n (outcome_of_events n rest) q b now r → IsEventsRun say m (outcome_of_events m left) q a now r
 left_goes say m n q e left rest o a b now r is first same done others =
     subst (λ (l : List Event). IsEventsRun say m (outcome_of_events m l) q a now r) (ap (λ (l : List Event). e ∷ l) same ∙ sym (first_left left e o is first)) (list_goes say m n q e rest a b now r done others)
 
-pub left_stops : (say : Bool) (m n : Moment) (e : Event) (left : List Event) (o : Option Event) (a b : Option (List ℕ)) (t : Stop) → o ≡ Some e → o ≡ slice_get left 0
+pub left_stops : (say : Bool) (m n : RunState) (e : Event) (left : List Event) (o : Option Event) (a b : Option (List ℕ)) (t : Stop) → o ≡ Some e → o ≡ slice_get left 0
     → IsLineStopped say m (outcome_by m e (outcome_at m e)) n a b t → IsEventsRun say m (outcome_of_events m left) n a b (Err t)
 left_stops say m n e left o a b t is first stop =
     subst (λ (l : List Event). IsEventsRun say m (outcome_of_events m l) n a b (Err t)) (sym (first_left left e o is first)) (list_stops say m n e (drop 1 left) a b t stop)

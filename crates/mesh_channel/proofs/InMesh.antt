@@ -5,20 +5,20 @@ use Rattle.std.specs.List.{AllByRecursion}
 use Rattle.mesh_model.specs.Choices.{least_from, beside, least_pair_from, may_turn_in, may_send_in, may_ask_in, first_turn, first_send_in, first_ask_in, first_send, first_ask}
 use Rattle.mesh_model.specs.Places.{IsEvent}
 use Rattle.mesh_model.specs.Worlds as worlds
-use Rattle.mesh_model.specs.Worlds.{World, Node, Event, Give, Turn, Send, Ask, Link, Cut, Deliver, Lose, Double, Outcome, Idle, Next, Happening, Changed, Taken, Sent, CopyHeard, CopyLost, CopyDoubled}
+use Rattle.mesh_model.specs.Worlds.{World, Node, Event, Give, Turn, Send, Ask, Link, Cut, Deliver, Lose, Double, Outcome, Idle, Next, WorldEffect, Changed, Taken, Sent, CopyHeard, CopyLost, CopyDoubled}
 use Rattle.mesh_model.proofs.Chosen.{OnSome}
 use Rattle.mesh_model.proofs.Lists.{each_append}
 use Rattle.mesh_grammar.proofs.Readings.{if_case}
 use Rattle.mesh_text.specs.Schedule as schedule
-use Rattle.mesh_text.specs.Schedule.{world_of, with_world, outcome_at, next_moment}
-use Rattle.mesh_text.proofs.Moments.{IsKept, UsualList, started_kept, stepped_kept}
+use Rattle.mesh_text.specs.Schedule.{world_of, with_world, outcome_at, next_state}
+use Rattle.mesh_text.proofs.RunStates.{IsKept, UsualList, started_kept, stepped_kept}
 use Rattle.mesh_fates.specs.declared.rates.Rates.{Rates}
 use Rattle.mesh_fates.specs.Fates.{draw}
 use Rattle.mesh_fates.specs.declared.fate.Lot.{Lot}
 use Rattle.mesh_fates.specs.declared.fate.Fate.{Fate}
 use Rattle.mesh_fates.specs.Plans.{Plan}
 use Rattle.mesh_fates.specs.declared.due.Due.{Due}
-use Rattle.mesh_fates.specs.Channels.{Channel, losses, doublings, number_behind, with_fate, decided, after_happening, after_chosen, after_given, is_unicast}
+use Rattle.mesh_fates.specs.Channels.{Channel, losses, doublings, number_behind, with_fate, decided, after_world_effect, after_chosen, after_given, is_unicast}
 use Rattle.mesh_channel.specs.Choices.{Choice, Chosen, Nothing, looked_at, by_nodes, ask_or, send_or, due_or, turn_or, left_or, in_tick, next_due, next_tick, or_next_tick, next_choice, is_enough, last_tick, at_end}
 use Rattle.mesh_channel.specs.declared.until.Until.{Until}
 use Rattle.mesh_channel.specs.declared.until.Until.TheVariants.{Events, Tick}
@@ -79,25 +79,25 @@ decided_left rates unicast (suc count) id new c is =
     decided_left rates unicast count (id + 1) (number_behind new drawn.fate.double) (with_fate (record c { rng = drawn.rng }) id new drawn.fate)
     (both_left (c.left ++ doublings id new drawn.fate.double) (losses id drawn.fate.lot) (both_left c.left (doublings id new drawn.fate.double) is (doublings_left id new drawn.fate.double)) (losses_left id drawn.fate.lot.lost))
 
-happening_left : (rates : Rates) (w : World) (h : Happening) (c : Channel) → LeftUsual c.left → LeftUsual (after_happening rates w h c).left
-happening_left rates w Changed c is = is
-happening_left rates w (Taken took effect copies) c is = decided_left rates (is_unicast effect.cast) (length copies) w.next_copy (w.next_copy + length copies) c is
-happening_left rates w (Sent effect copies) c is = decided_left rates (is_unicast effect.cast) (length copies) w.next_copy (w.next_copy + length copies) c is
-happening_left rates w (CopyHeard from to) c is = is
-happening_left rates w (CopyLost copy) c is = is
-happening_left rates w (CopyDoubled id to parcel) c is = is
+world_effect_left : (rates : Rates) (w : World) (h : WorldEffect) (c : Channel) → LeftUsual c.left → LeftUsual (after_world_effect rates w h c).left
+world_effect_left rates w Changed c is = is
+world_effect_left rates w (Taken took effect copies) c is = decided_left rates (is_unicast effect.cast) (length copies) w.next_copy (w.next_copy + length copies) c is
+world_effect_left rates w (Sent effect copies) c is = decided_left rates (is_unicast effect.cast) (length copies) w.next_copy (w.next_copy + length copies) c is
+world_effect_left rates w (CopyHeard from to) c is = is
+world_effect_left rates w (CopyLost copy) c is = is
+world_effect_left rates w (CopyDoubled id to parcel) c is = is
 
 pub chosen_left : (rates : Rates) (w : World) (o : Outcome) (c : Channel) → LeftUsual c.left → LeftUsual (after_chosen rates w o c).left
 chosen_left rates w Idle c is = is
 chosen_left rates w (worlds.Full x field) c is = is
-chosen_left rates w (Next v h) c is = happening_left rates w h c is
+chosen_left rates w (Next v h) c is = world_effect_left rates w h c is
 
 pub given_left : (rates : Rates) (w : World) (o : Outcome) (c : Channel) → LeftUsual c.left → LeftUsual (after_given rates w o c).left
 given_left rates w Idle c is = is
 given_left rates w (worlds.Full x field) c is = is
 given_left rates w (Next v Changed) c is = is
-given_left rates w (Next v (Taken took effect copies)) c is = happening_left rates w (Taken took effect copies) c is
-given_left rates w (Next v (Sent effect copies)) c is = happening_left rates w (Sent effect copies) c is
+given_left rates w (Next v (Taken took effect copies)) c is = world_effect_left rates w (Taken took effect copies) c is
+given_left rates w (Next v (Sent effect copies)) c is = world_effect_left rates w (Sent effect copies) c is
 given_left rates w (Next v (CopyHeard from to)) c is = is
 given_left rates w (Next v (CopyLost copy)) c is = is
 given_left rates w (Next v (CopyDoubled id to parcel)) c is = is
@@ -248,11 +248,11 @@ usual_then size e Idle c others one is rest = usual_before size e others one res
 usual_then size e (worlds.Full x field) c others one is rest = record { events = (one, tt); left = is }
 usual_then size e (Next w h) c others one is rest = usual_before size e others one rest
 
-stepped_mesh : (m : schedule.Moment) (e : Event) → length (next_moment m e).mesh ≡ length m.mesh
-unfolding next_moment
+stepped_mesh : (m : schedule.RunState) (e : Event) → length (next_state m e).mesh ≡ length m.mesh
+unfolding next_state
 stepped_mesh m e = refl
 
-usual_from : (most : ℕ) (rates : Rates) (until : Until) (did : ℕ) (m : schedule.Moment) (c : Channel) (size : ℕ) → size ≡ length m.mesh → IsKept m → LeftUsual c.left → UsualDrawn size (chosen_from most rates until did m c)
+usual_from : (most : ℕ) (rates : Rates) (until : Until) (did : ℕ) (m : schedule.RunState) (c : Channel) (size : ℕ) → size ≡ length m.mesh → IsKept m → LeftUsual c.left → UsualDrawn size (chosen_from most rates until did m c)
 unfolding chosen_from UsualList UsualChoice
 usual_from zero rates until did m c size same kept is = record { events = tt; left = is }
 usual_from (suc most) rates until did m c size same kept is =
@@ -260,16 +260,16 @@ usual_from (suc most) rates until did m c size same kept is =
     (λ n after alike well left. usual_from most rates until (did + 1) n after size alike well left)
   where
     by : (choice : Choice) → UsualChoice size choice
-        → ((n : schedule.Moment) (after : Channel) → size ≡ length n.mesh → IsKept n → LeftUsual after.left → UsualDrawn size (chosen_from most rates until (did + 1) n after))
+        → ((n : schedule.RunState) (after : Channel) → size ≡ length n.mesh → IsKept n → LeftUsual after.left → UsualDrawn size (chosen_from most rates until (did + 1) n after))
         → UsualDrawn size (choice_then rates m choice (λ n after. chosen_from most rates until (did + 1) n after))
     by (Nothing after) usual rest = record { events = tt; left = usual }
     by (Chosen e after) usual rest =
         let o : Outcome = outcome_at m e in
-        usual_then size e o after (chosen_from most rates until (did + 1) (next_moment m e) (after_chosen rates (world_of m) o after)) usual.0 usual.1
-        (rest (next_moment m e) (after_chosen rates (world_of m) o after) (same ∙ sym (stepped_mesh m e))
+        usual_then size e o after (chosen_from most rates until (did + 1) (next_state m e) (after_chosen rates (world_of m) o after)) usual.0 usual.1
+        (rest (next_state m e) (after_chosen rates (world_of m) o after) (same ∙ sym (stepped_mesh m e))
         (stepped_kept m e (subst (λ k. IsEvent k e) same usual.0) kept) (chosen_left rates (world_of m) o after usual.1))
 
-pub usual_chosen : (rates : Rates) (until : Until) (m : schedule.Moment) (c : Channel) → IsKept m → LeftUsual c.left → UsualDrawn (length m.mesh) (chosen rates until m c)
+pub usual_chosen : (rates : Rates) (until : Until) (m : schedule.RunState) (c : Channel) → IsKept m → LeftUsual c.left → UsualDrawn (length m.mesh) (chosen rates until m c)
 unfolding UsualList
 usual_chosen rates until m c kept is = by m.world
   where
@@ -277,6 +277,6 @@ usual_chosen rates until m c kept is = by m.world
     by None = record { events = tt; left = is }
     by (Some w) = usual_from _ rates until 0 m c (length m.mesh) refl kept is
 
-pub usual_given : (rates : Rates) (m : schedule.Moment) (e : Event) (c : Channel) (size : ℕ) → IsEvent size e → LeftUsual c.left → UsualDrawn size (given rates m e c)
+pub usual_given : (rates : Rates) (m : schedule.RunState) (e : Event) (c : Channel) (size : ℕ) → IsEvent size e → LeftUsual c.left → UsualDrawn size (given rates m e c)
 unfolding UsualList LeftUsual
 usual_given rates m e c size one is = record { events = (one, usual_of_left size (after_given rates (world_of m) (outcome_at m e) c).left (given_left rates (world_of m) (outcome_at m e) c is)); left = none_left }

@@ -5,10 +5,10 @@ use Rattle.std.specs.List.{AllByRecursion}
 use Rattle.std.proofs.lemmas.Bool.{le-ltb}
 use Rattle.mesh_model.specs.Choices.{first_turn, first_send, first_ask, IsChoice}
 use Rattle.mesh_model.specs.Worlds as worlds
-use Rattle.mesh_model.specs.Worlds.{World, Event, Turn, Send, Ask, Deliver, Lose, Double, Outcome, Idle, Next, Happening, Changed, Taken, Sent, CopyHeard, CopyLost, CopyDoubled}
+use Rattle.mesh_model.specs.Worlds.{World, Event, Turn, Send, Ask, Deliver, Lose, Double, Outcome, Idle, Next, WorldEffect, Changed, Taken, Sent, CopyHeard, CopyLost, CopyDoubled}
 use Rattle.mesh_grammar.proofs.Readings.{if_case}
 use Rattle.mesh_text.specs.Schedule as schedule
-use Rattle.mesh_text.specs.Schedule.{world_of, outcome_at, next_moment}
+use Rattle.mesh_text.specs.Schedule.{world_of, outcome_at, next_state}
 use Rattle.rand_pcg.specs.Lcg.{Lcg}
 use Rattle.mesh_fates.specs.declared.rates.Rates.{Rates}
 use Rattle.mesh_fates.specs.Rates.{loss_of}
@@ -18,7 +18,7 @@ use Rattle.mesh_fates.specs.declared.fate.Fate.{Fate}
 use Rattle.mesh_fates.specs.Plans.{Plan}
 use Rattle.mesh_fates.specs.declared.due.Due.{Due}
 use Rattle.mesh_make.specs.Words.{word, after}
-use Rattle.mesh_fates.specs.Channels.{Channel, losses, doublings, number_behind, with_fate, decided, after_happening, after_chosen, after_given, is_unicast}
+use Rattle.mesh_fates.specs.Channels.{Channel, losses, doublings, number_behind, with_fate, decided, after_world_effect, after_chosen, after_given, is_unicast}
 use Rattle.mesh_channel.specs.Choices.{Choice, Chosen, Nothing, looked_at, by_nodes, ask_or, send_or, due_or, turn_or, left_or, in_tick, next_due, or_next_tick, next_choice, is_enough, last_tick, at_end}
 use Rattle.mesh_channel.specs.declared.until.Until.{Until}
 use Rattle.mesh_channel.specs.declared.until.Until.TheVariants.{Events, Tick}
@@ -61,25 +61,25 @@ decided_none rates unicast (suc count) id new c is none =
     decided_none rates unicast count (id + 1) (number_behind new drawn.fate.double) (with_fate before id new drawn.fate) is
     (nothing_left before id new drawn.fate none (draw_lives rates unicast c.rng is))
 
-happening_none : (rates : Rates) (w : World) (h : Happening) (c : Channel) → IsLossless rates → c.left ≡ [] → (after_happening rates w h c).left ≡ []
-happening_none rates w Changed c is none = none
-happening_none rates w (Taken took effect copies) c is none = decided_none rates (is_unicast effect.cast) (length copies) w.next_copy (w.next_copy + length copies) c is none
-happening_none rates w (Sent effect copies) c is none = decided_none rates (is_unicast effect.cast) (length copies) w.next_copy (w.next_copy + length copies) c is none
-happening_none rates w (CopyHeard from to) c is none = none
-happening_none rates w (CopyLost copy) c is none = none
-happening_none rates w (CopyDoubled id to parcel) c is none = none
+world_effect_none : (rates : Rates) (w : World) (h : WorldEffect) (c : Channel) → IsLossless rates → c.left ≡ [] → (after_world_effect rates w h c).left ≡ []
+world_effect_none rates w Changed c is none = none
+world_effect_none rates w (Taken took effect copies) c is none = decided_none rates (is_unicast effect.cast) (length copies) w.next_copy (w.next_copy + length copies) c is none
+world_effect_none rates w (Sent effect copies) c is none = decided_none rates (is_unicast effect.cast) (length copies) w.next_copy (w.next_copy + length copies) c is none
+world_effect_none rates w (CopyHeard from to) c is none = none
+world_effect_none rates w (CopyLost copy) c is none = none
+world_effect_none rates w (CopyDoubled id to parcel) c is none = none
 
 chosen_none : (rates : Rates) (w : World) (o : Outcome) (c : Channel) → IsLossless rates → c.left ≡ [] → (after_chosen rates w o c).left ≡ []
 chosen_none rates w Idle c is none = none
 chosen_none rates w (worlds.Full x field) c is none = none
-chosen_none rates w (Next v h) c is none = happening_none rates w h c is none
+chosen_none rates w (Next v h) c is none = world_effect_none rates w h c is none
 
 given_none : (rates : Rates) (w : World) (o : Outcome) (c : Channel) → IsLossless rates → c.left ≡ [] → (after_given rates w o c).left ≡ []
 given_none rates w Idle c is none = none
 given_none rates w (worlds.Full x field) c is none = none
 given_none rates w (Next v Changed) c is none = none
-given_none rates w (Next v (Taken took effect copies)) c is none = happening_none rates w (Taken took effect copies) c is none
-given_none rates w (Next v (Sent effect copies)) c is none = happening_none rates w (Sent effect copies) c is none
+given_none rates w (Next v (Taken took effect copies)) c is none = world_effect_none rates w (Taken took effect copies) c is none
+given_none rates w (Next v (Sent effect copies)) c is none = world_effect_none rates w (Sent effect copies) c is none
 given_none rates w (Next v (CopyHeard from to)) c is none = none
 given_none rates w (Next v (CopyLost copy)) c is none = none
 given_none rates w (Next v (CopyDoubled id to parcel)) c is none = none
@@ -153,19 +153,19 @@ plain_then e Idle c others one none rest = ((one, rest.0), rest.1)
 plain_then e (worlds.Full x field) c others one none rest = ((one, tt), none)
 plain_then e (Next w h) c others one none rest = ((one, rest.0), rest.1)
 
-plain_from : (most : ℕ) (rates : Rates) (until : Until) (did : ℕ) (m : schedule.Moment) (c : Channel) → IsLossless rates → c.left ≡ [] → PlainDrawn (chosen_from most rates until did m c)
+plain_from : (most : ℕ) (rates : Rates) (until : Until) (did : ℕ) (m : schedule.RunState) (c : Channel) → IsLossless rates → c.left ≡ [] → PlainDrawn (chosen_from most rates until did m c)
 unfolding chosen_from Plain
 plain_from zero rates until did m c is none = (tt, none)
 plain_from (suc most) rates until did m c is none =
     by (next_choice until did (world_of m) c) (plain_choice until did (world_of m) c none) (λ n after left. plain_from most rates until (did + 1) n after is left)
   where
-    by : (choice : Choice) → Plain choice → ((n : schedule.Moment) (after : Channel) → after.left ≡ [] → PlainDrawn (chosen_from most rates until (did + 1) n after))
+    by : (choice : Choice) → Plain choice → ((n : schedule.RunState) (after : Channel) → after.left ≡ [] → PlainDrawn (chosen_from most rates until (did + 1) n after))
         → PlainDrawn (choice_then rates m choice (λ n after. chosen_from most rates until (did + 1) n after))
     by (Nothing after) plain rest = (tt, plain)
     by (Chosen e after) plain rest =
         let o : Outcome = outcome_at m e in
-        plain_then e o after (chosen_from most rates until (did + 1) (next_moment m e) (after_chosen rates (world_of m) o after)) plain.0 plain.1
-        (rest (next_moment m e) (after_chosen rates (world_of m) o after) (chosen_none rates (world_of m) o after is plain.1))
+        plain_then e o after (chosen_from most rates until (did + 1) (next_state m e) (after_chosen rates (world_of m) o after)) plain.0 plain.1
+        (rest (next_state m e) (after_chosen rates (world_of m) o after) (chosen_none rates (world_of m) o after is plain.1))
 
 -- ---- the laws
 

@@ -9,9 +9,9 @@ use Rattle.mesh_grammar.proofs.Readings.{if_case}
 use Rattle.mesh_model.specs.Choices.{waits, may_turn_in, may_send_in, may_ask_in, first_turn, first_send_in, first_ask_in, first_send, first_ask}
 use Rattle.mesh_model.proofs.Picks.{least_passes, least_pair_found}
 use Rattle.mesh_model.specs.Worlds as worlds
-use Rattle.mesh_model.specs.Worlds.{World, Node, Copy, Event, Turn, Send, Ask, Deliver, Happening, Sent, Outcome, Idle, Next, range, done_by, copies, unless_full, turn_of, send_of, ask_of, at_node, at_copy, find_copy, step, after}
+use Rattle.mesh_model.specs.Worlds.{World, Node, Copy, Event, Turn, Send, Ask, Deliver, WorldEffect, Sent, Outcome, Idle, Next, range, done_by, copies, unless_full, turn_of, send_of, ask_of, at_node, at_copy, find_copy, step, after}
 use Rattle.mesh_text.specs.Schedule as schedule
-use Rattle.mesh_text.specs.Schedule.{world_of, outcome_at, next_moment}
+use Rattle.mesh_text.specs.Schedule.{world_of, outcome_at, next_state}
 use Rattle.mesh_fates.specs.declared.rates.Rates.{Rates}
 use Rattle.mesh_fates.specs.Plans.{Plan}
 use Rattle.mesh_fates.specs.declared.due.Due.{Due}
@@ -27,7 +27,7 @@ use Rattle.mesh_channel.proofs.Ready.{Flies, Ready, step_casts, after_ready, giv
 
 -- ---- what is found first is enabled
 
-unless_goes : (x : ℕ) (f : Option Counter) (w : World) (h : Happening) → unless_full x f (Next w h) ≢ Idle
+unless_goes : (x : ℕ) (f : Option Counter) (w : World) (h : WorldEffect) → unless_full x f (Next w h) ≢ Idle
 unless_goes x None w h = λ e. cc
 unless_goes x (Some f) w h = λ e. cc
 
@@ -147,7 +147,7 @@ enabled_choice until did w c all ready = enabled_behind w until did (in_tick w c
 
 -- ---- the events of a line
 
-then_goes : (m : schedule.Moment) (e : Event) (o : Outcome) (c : Channel) (others : Drawn) → outcome_at m e ≡ o → step (world_of m) e ≢ Idle → NoneIsIdle (next_moment m e) others.events → NoneIsIdle m (event_then e o c others).events
+then_goes : (m : schedule.RunState) (e : Event) (o : Outcome) (c : Channel) (others : Drawn) → outcome_at m e ≡ o → step (world_of m) e ≢ Idle → NoneIsIdle (next_state m e) others.events → NoneIsIdle m (event_then e o c others).events
 then_goes m e Idle c others is goes rest = (goes, rest)
 then_goes m e (worlds.Full x field) c others is goes rest = (goes, tt)
 then_goes m e (Next w h) c others is goes rest = (goes, rest)
@@ -157,25 +157,25 @@ left_behind : (rates : Rates) (w : World) (e : Event) (c : Channel) → (c.left 
 left_behind rates w e c (inl none) = after_ready rates w (step w e) c none (step_casts w e)
 left_behind rates w e c (inr left) = subst (λ k. Ready (after w (step w e)) k.left) (sym (quiet_of_left rates w e c left.0)) left.1
 
-world_next : (m : schedule.Moment) (e : Event) → world_of (next_moment m e) ≡ after (world_of m) (step (world_of m) e)
-unfolding next_moment
+world_next : (m : schedule.RunState) (e : Event) → world_of (next_state m e) ≡ after (world_of m) (step (world_of m) e)
+unfolding next_state
 world_next m e = refl
 
-enabled_from : (most : ℕ) (rates : Rates) (until : Until) (did : ℕ) (m : schedule.Moment) (c : Channel) → LeftUsual c.left → Ready (world_of m) c.left → NoneIsIdle m (chosen_from most rates until did m c).events
+enabled_from : (most : ℕ) (rates : Rates) (until : Until) (did : ℕ) (m : schedule.RunState) (c : Channel) → LeftUsual c.left → Ready (world_of m) c.left → NoneIsIdle m (chosen_from most rates until did m c).events
 unfolding chosen_from Enabled UsualChoice
 enabled_from zero rates until did m c all ready = tt
 enabled_from (suc most) rates until did m c all ready =
     by (next_choice until did (world_of m) c) (enabled_choice until did (world_of m) c all ready) (usual_choice until did (world_of m) c all)
-    (λ e k more ready_then. enabled_from most rates until (did + 1) (next_moment m e) k more (subst (λ w. Ready w k.left) (sym (world_next m e)) ready_then))
+    (λ e k more ready_then. enabled_from most rates until (did + 1) (next_state m e) k more (subst (λ w. Ready w k.left) (sym (world_next m e)) ready_then))
   where
     by : (choice : Choice) → Enabled (world_of m) choice → UsualChoice (length (world_of m).nodes) choice
-        → ((e : Event) (after' : Channel) → LeftUsual after'.left → Ready (after (world_of m) (step (world_of m) e)) after'.left → NoneIsIdle (next_moment m e) (chosen_from most rates until (did + 1) (next_moment m e) after').events)
+        → ((e : Event) (after' : Channel) → LeftUsual after'.left → Ready (after (world_of m) (step (world_of m) e)) after'.left → NoneIsIdle (next_state m e) (chosen_from most rates until (did + 1) (next_state m e) after').events)
         → NoneIsIdle m (choice_then rates m choice (λ n k. chosen_from most rates until (did + 1) n k)).events
     by (Nothing k) enabled leaves rest = tt
     by (Chosen e k) enabled leaves rest =
         let o : Outcome = outcome_at m e in
         let behind : Channel = after_chosen rates (world_of m) o k in
-        then_goes m e o k (chosen_from most rates until (did + 1) (next_moment m e) behind) refl enabled.0
+        then_goes m e o k (chosen_from most rates until (did + 1) (next_state m e) behind) refl enabled.0
         (rest e behind (chosen_left rates (world_of m) o k leaves.1) (left_behind rates (world_of m) e k enabled.1))
 
 empty_left : (left : List Event) → left ≡ [] → LeftUsual left
@@ -194,13 +194,13 @@ chosen_events_are_not_idle rates until m c none = by m.world
     by None = tt
     by (Some w) = enabled_from _ rates until 0 m c (empty_left c.left none) (empty_ready (world_of m) c.left none)
 
--- what is ready in a world is not idle at its moments
-ready_goes : (m : schedule.Moment) (es : List Event) → Ready (world_of m) es → NoneIsIdle m es
+-- what is ready in a world is not idle in its states
+ready_goes : (m : schedule.RunState) (es : List Event) → Ready (world_of m) es → NoneIsIdle m es
 unfolding Ready
 ready_goes m [] ready = tt
-ready_goes m (e ∷ es) ready = (ready.0, ready_goes (next_moment m e) es (subst (λ w. Ready w es) (sym (world_next m e)) ready.1))
+ready_goes m (e ∷ es) ready = (ready.0, ready_goes (next_state m e) es (subst (λ w. Ready w es) (sym (world_next m e)) ready.1))
 
 pub added_events_are_not_idle : AddedEventsAreNotIdle
 added_events_are_not_idle rates m e c none =
-    ready_goes (next_moment m e) (after_given rates (world_of m) (outcome_at m e) c).left
+    ready_goes (next_state m e) (after_given rates (world_of m) (outcome_at m e) c).left
     (subst (λ w. Ready w (after_given rates (world_of m) (outcome_at m e) c).left) (sym (world_next m e)) (given_ready rates (world_of m) (outcome_at m e) c none (step_casts (world_of m) e)))

@@ -9,18 +9,18 @@ use Rattle.mesh_grammar.proofs.Readings.{if_case}
 use Rattle.mesh_grammar.specs.declared.fault.LineFault.{LineFault}
 use Rattle.mesh_model.specs.Choices.{first_turn, first_send, first_ask}
 use Rattle.mesh_model.specs.Worlds as worlds
-use Rattle.mesh_model.specs.Worlds.{World, Copy, Event, Give, Turn, Send, Ask, Link, Cut, Deliver, Lose, Double, Outcome, Idle, Next, Happening, Changed, Taken, Sent, CopyHeard, CopyLost, CopyDoubled, find_copy, step, after, is_parcel, at_copy, without_copy, with_double}
+use Rattle.mesh_model.specs.Worlds.{World, Copy, Event, Give, Turn, Send, Ask, Link, Cut, Deliver, Lose, Double, Outcome, Idle, Next, WorldEffect, Changed, Taken, Sent, CopyHeard, CopyLost, CopyDoubled, find_copy, step, after, is_parcel, at_copy, without_copy, with_double}
 use Rattle.mesh_text.specs.Schedule as schedule
-use Rattle.mesh_text.specs.Schedule.{world_of, with_world, outcome_at, next_moment, with_line_read}
-use Rattle.mesh_text.specs.Runs.{moment_after}
-use Rattle.mesh_text.proofs.Moments.{IsKept, UsualList, started_kept, stepped_kept}
+use Rattle.mesh_text.specs.Schedule.{world_of, with_world, outcome_at, next_state, with_line_read}
+use Rattle.mesh_text.specs.Runs.{run_state_after}
+use Rattle.mesh_text.proofs.RunStates.{IsKept, UsualList, started_kept, stepped_kept}
 use Rattle.mesh_fates.specs.declared.rates.Rates.{Rates}
 use Rattle.mesh_fates.specs.Fates.{draw}
 use Rattle.mesh_fates.specs.declared.fate.Lot.{Lot}
 use Rattle.mesh_fates.specs.declared.fate.Fate.{Fate}
 use Rattle.mesh_fates.specs.Plans.{Plan}
 use Rattle.mesh_fates.specs.declared.due.Due.{Due}
-use Rattle.mesh_fates.specs.Channels.{Channel, losses, doublings, number_behind, with_fate, decided, after_happening, after_chosen, after_given, is_unicast}
+use Rattle.mesh_fates.specs.Channels.{Channel, losses, doublings, number_behind, with_fate, decided, after_world_effect, after_chosen, after_given, is_unicast}
 use Rattle.mesh_channel.specs.Choices.{Choice, Chosen, Nothing, in_flight, looked_at, by_nodes, ask_or, send_or, due_or, turn_or, left_or, in_tick, next_due, or_next_tick, next_choice, is_enough, last_tick, at_end}
 use Rattle.mesh_channel.specs.declared.until.Until.{Until}
 use Rattle.mesh_channel.specs.declared.until.Until.TheVariants.{Events, Tick}
@@ -119,25 +119,25 @@ pub record IsSmall (w : World) : Type 0 where
   pub low : w.next_copy ≤ 2 ^ 62
   pub nodes : length w.nodes ≤ 200
 
-pub happening_all : (rates : Rates) (w : World) (h : Happening) (c : Channel) → IsSmall w → cast_in h ≤ length w.nodes → AllLeft c.left → AllLeft (after_happening rates w h c).left
-happening_all rates w Changed c small few is = is
-happening_all rates w (Taken took effect copies) c small few is =
+pub world_effect_all : (rates : Rates) (w : World) (h : WorldEffect) (c : Channel) → IsSmall w → cast_in h ≤ length w.nodes → AllLeft c.left → AllLeft (after_world_effect rates w h c).left
+world_effect_all rates w Changed c small few is = is
+world_effect_all rates w (Taken took effect copies) c small few is =
     let some = small.some in let low = small.low in let nodes = small.nodes in
     decided_all rates (is_unicast effect.cast) (length copies) w.next_copy (w.next_copy + length copies) c some (omega arith) (omega arith) (omega arith) is
-happening_all rates w (Sent effect copies) c small few is =
+world_effect_all rates w (Sent effect copies) c small few is =
     let some = small.some in let low = small.low in let nodes = small.nodes in
     decided_all rates (is_unicast effect.cast) (length copies) w.next_copy (w.next_copy + length copies) c some (omega arith) (omega arith) (omega arith) is
-happening_all rates w (CopyHeard from to) c small few is = is
-happening_all rates w (CopyLost copy) c small few is = is
-happening_all rates w (CopyDoubled id to parcel) c small few is = is
+world_effect_all rates w (CopyHeard from to) c small few is = is
+world_effect_all rates w (CopyLost copy) c small few is = is
+world_effect_all rates w (CopyDoubled id to parcel) c small few is = is
 
-pub happening_few : (rates : Rates) (w : World) (h : Happening) (c : Channel) → length (after_happening rates w h c).left ≤ length c.left + 3 * cast_in h
-happening_few rates w Changed c = omega arith
-happening_few rates w (Taken took effect copies) c = decided_few rates (is_unicast effect.cast) (length copies) w.next_copy (w.next_copy + length copies) c
-happening_few rates w (Sent effect copies) c = decided_few rates (is_unicast effect.cast) (length copies) w.next_copy (w.next_copy + length copies) c
-happening_few rates w (CopyHeard from to) c = omega arith
-happening_few rates w (CopyLost copy) c = omega arith
-happening_few rates w (CopyDoubled id to parcel) c = omega arith
+pub world_effect_few : (rates : Rates) (w : World) (h : WorldEffect) (c : Channel) → length (after_world_effect rates w h c).left ≤ length c.left + 3 * cast_in h
+world_effect_few rates w Changed c = omega arith
+world_effect_few rates w (Taken took effect copies) c = decided_few rates (is_unicast effect.cast) (length copies) w.next_copy (w.next_copy + length copies) c
+world_effect_few rates w (Sent effect copies) c = decided_few rates (is_unicast effect.cast) (length copies) w.next_copy (w.next_copy + length copies) c
+world_effect_few rates w (CopyHeard from to) c = omega arith
+world_effect_few rates w (CopyLost copy) c = omega arith
+world_effect_few rates w (CopyDoubled id to parcel) c = omega arith
 
 -- after an event that was chosen where nothing was left to do
 pub cast_few : (rates : Rates) (w : World) (o : Outcome) (c : Channel) → IsSmall w → MakesFew w o → c.left ≡ [] → IsFew (after_chosen rates w o c).left
@@ -145,8 +145,8 @@ unfolding MakesFew AllLeft
 cast_few rates w Idle c small few none = record { all = subst AllLeft (sym none) tt; few = let count : length c.left ≡ 0 = ap length none in omega arith }
 cast_few rates w (worlds.Full x field) c small few none = record { all = subst AllLeft (sym none) tt; few = let count : length c.left ≡ 0 = ap length none in omega arith }
 cast_few rates w (Next v h) c small few none = record {
-  all = happening_all rates w h c small few.1 (subst AllLeft (sym none) tt);
-  few = let count : length c.left ≡ 0 = ap length none in let nodes = small.nodes in omega (arith, happening_few rates w h c, few.1);
+  all = world_effect_all rates w h c small few.1 (subst AllLeft (sym none) tt);
+  few = let count : length c.left ≡ 0 = ap length none in let nodes = small.nodes in omega (arith, world_effect_few rates w h c, few.1);
 }
 
 -- a doubling or a loss makes nothing more to do
@@ -264,35 +264,35 @@ pub fits_choice : (until : Until) (did : ℕ) (w : World) (c : Channel) → ((id
 unfolding next_choice
 fits_choice until did w c all few = fits_behind until did (in_tick w c) (fits_tick w c all few)
 
--- ---- moments
+-- ---- states
 
 -- the next copy's number grows by no more than 201 a step
-unfoldable pub Low : schedule.Moment → Type 0
+unfoldable pub Low : schedule.RunState → Type 0
 Low m = (1 ≤ (world_of m).next_copy) × ((world_of m).next_copy ≤ 1 + 201 * m.steps)
 
-few_nodes : (m : schedule.Moment) → IsKept m → length (world_of m).nodes ≤ 200
+few_nodes : (m : schedule.RunState) → IsKept m → length (world_of m).nodes ≤ 200
 few_nodes m kept = let size = kept.size in let few = kept.mesh.few in omega arith
 
-pub low_started : (m : schedule.Moment) → Low m → Low (with_world m)
+pub low_started : (m : schedule.RunState) → Low m → Low (with_world m)
 unfolding Low
 low_started m low = low
 
 next_is_least : (w : World) (e : Event) → w.next_copy ≤ (after w (step w e)).next_copy
 next_is_least w e = Rattle.mesh_channel.proofs.Steps.step_rises w e
 
-pub low_stepped : (m : schedule.Moment) (e : Event) → IsKept m → Low m → Low (next_moment m e)
-unfolding Low next_moment
+pub low_stepped : (m : schedule.RunState) (e : Event) → IsKept m → Low m → Low (next_state m e)
+unfolding Low next_state
 low_stepped m e kept low =
     let few = few_nodes m kept in
     let grown = step_grows (world_of m) e in
     let least = next_is_least (world_of m) e in
     (omega (arith, low.0), omega (arith, low.1))
 
-pub small : (m : schedule.Moment) → IsKept m → Low m → m.steps ≤ 2 ^ 50 → IsSmall (world_of m)
+pub small : (m : schedule.RunState) → IsKept m → Low m → m.steps ≤ 2 ^ 50 → IsSmall (world_of m)
 unfolding Low
 small m kept low few = record { some = low.0; low = omega (arith, low.1); nodes = few_nodes m kept }
 
-pub flying_numbered : (m : schedule.Moment) → IsKept m → Low m → m.steps ≤ 2 ^ 50 → (id : ℕ) → is_some (find_copy (world_of m).flying id) ≡ true → IsNumber id
+pub flying_numbered : (m : schedule.RunState) → IsKept m → Low m → m.steps ≤ 2 ^ 50 → (id : ℕ) → is_some (find_copy (world_of m).flying id) ≡ true → IsNumber id
 unfolding Low
 flying_numbered m kept low few id there =
     let found = numbered_found 1 (world_of m).next_copy (world_of m).flying id kept.invariant.in_mesh.numbered there in

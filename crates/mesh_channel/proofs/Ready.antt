@@ -9,13 +9,13 @@ use Rattle.aodv_model.specs.Handlers.{Cast, Nothing, One, Many, All, Reaction, t
 use Rattle.aodv_model.specs.Fullness.{turn_full, send_full, ask_full}
 use Rattle.mesh_grammar.proofs.Readings.{if_case}
 use Rattle.mesh_model.specs.Numbered.{numbered_from}
-use Rattle.mesh_model.specs.Worlds.{is_parcel, World, Node, Copy, Event, Give, Turn, Send, Ask, Link, Cut, Deliver, Lose, Double, range, receivers, copies, copies_to, copies_of, done_by, push, find_copy, without, Happening, Changed, Taken, Sent, CopyHeard, CopyLost, CopyDoubled, Outcome, Idle, Full, Next, unless_full, turn_of, send_of, ask_of, at_node, at_copy, with_link, without_link, without_copy, with_double, double_of, step, after, run, are_linked}
+use Rattle.mesh_model.specs.Worlds.{is_parcel, World, Node, Copy, Event, Give, Turn, Send, Ask, Link, Cut, Deliver, Lose, Double, range, receivers, copies, copies_to, copies_of, done_by, push, find_copy, without, WorldEffect, Changed, Taken, Sent, CopyHeard, CopyLost, CopyDoubled, Outcome, Idle, Full, Next, unless_full, turn_of, send_of, ask_of, at_node, at_copy, with_link, without_link, without_copy, with_double, double_of, step, after, run, are_linked}
 use Rattle.mesh_text.proofs.RunLaws.{run_append}
 use Rattle.mesh_fates.specs.declared.rates.Rates.{Rates}
 use Rattle.mesh_fates.specs.Fates.{draw}
 use Rattle.mesh_fates.specs.declared.fate.Lot.{Lot}
 use Rattle.mesh_fates.specs.declared.fate.Fate.{Fate}
-use Rattle.mesh_fates.specs.Channels.{Channel, losses, doublings, number_behind, with_fate, decided, after_happening, after_chosen, after_given, is_unicast}
+use Rattle.mesh_fates.specs.Channels.{Channel, losses, doublings, number_behind, with_fate, decided, after_world_effect, after_chosen, after_given, is_unicast}
 
 -- ---- copies in flight
 

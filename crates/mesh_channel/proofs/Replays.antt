@@ -10,9 +10,9 @@ use Rattle.mesh_grammar.specs.Written.{line}
 use Rattle.mesh_grammar.specs.declared.fault.LineFault.{LineFault}
 use Rattle.mesh_grammar.specs.declared.fault.BadWhy.{BadWhy}
 use Rattle.mesh_shell.specs.Pieces.{Piece, Whole, Long, Beyond}
-use Rattle.mesh_shell.specs.Story as shell
+use Rattle.mesh_shell.specs.Fold as shell
 use Rattle.mesh_text.specs.Schedule as schedule
-use Rattle.mesh_text.specs.Schedule.{AcceptedLine, Nothing, NewNode, Does, Chooses, ShowsNode, ShowsRoute, ShowsFlight, line_of, world_of, with_world, next_moment, outcome_at, with_line_read}
+use Rattle.mesh_text.specs.Schedule.{AcceptedLine, Nothing, NewNode, Does, Chooses, ShowsNode, ShowsRoute, ShowsFlight, line_of, world_of, with_world, next_state, outcome_at, with_line_read}
 use Rattle.mesh_text.specs.Auto as auto
 use Rattle.mesh_text.specs.Auto.{outcome_of_events, done_then, before}
 use Rattle.mesh_text.specs.Effects.{outcome_lines}
@@ -27,8 +27,8 @@ use Rattle.mesh_channel.proofs.HasLine.{HasLine}
 use Rattle.mesh_channel.specs.Schedule.{event_lines}
 use Rattle.mesh_channel.specs.Text.{outcome_of_drawn}
 
--- a moment with another number of lines
-abbrev pub at_line : schedule.Moment → ℕ → schedule.Moment
+-- a state with another number of lines
+abbrev pub at_line : schedule.RunState → ℕ → schedule.RunState
 at_line m k = record m { lines = k }
 
 -- lines as pieces of an input
@@ -50,38 +50,38 @@ event_line mesh (Double id) some usual number = (some, usual, number)
 
 -- ---- one line of the schedule
 
-line_came : (s : schedule.Moment) (a : AcceptedLine) → IsMesh s.mesh → IsInRange s.mesh a → IsInTime (is_some s.world) a → text.outcome_of_piece s (Whole (words_of s.mesh a)) ≡ text.outcome_of_line s a
+line_came : (s : schedule.RunState) (a : AcceptedLine) → IsMesh s.mesh → IsInRange s.mesh a → IsInTime (is_some s.world) a → text.outcome_of_piece s (Whole (words_of s.mesh a)) ≡ text.outcome_of_line s a
 unfolding text.outcome_of_piece
 line_came s a mesh range early = ap (text.outcome_of_read s) (printed_line_parses s.mesh (is_some s.world) a mesh range early)
 
 -- what an event comes to, on a line of its own
-abbrev came_alone : schedule.Moment → Event → Outcome → LineOutcome
-came_alone n e Idle = On (outcome_lines n.mesh e Idle) (with_line_read (next_moment n e))
+abbrev came_alone : schedule.RunState → Event → Outcome → LineOutcome
+came_alone n e Idle = On (outcome_lines n.mesh e Idle) (with_line_read (next_state n e))
 came_alone n e (worlds.Full x field) = Full [] n e field
-came_alone n e (Next w h) = On (outcome_lines n.mesh e (Next w h)) (with_line_read (next_moment n e))
+came_alone n e (Next w h) = On (outcome_lines n.mesh e (Next w h)) (with_line_read (next_state n e))
 
 append_none : (text : List ℕ) → text ++ [] ≡ text
 append_none text = append-nil text
 
-alone_is : (n : schedule.Moment) (e : Event) (o : Outcome) → outcome_by_events (done_then n e o (λ k. outcome_of_events k [])) ≡ came_alone n e o
+alone_is : (n : schedule.RunState) (e : Event) (o : Outcome) → outcome_by_events (done_then n e o (λ k. outcome_of_events k [])) ≡ came_alone n e o
 unfolding outcome_of_events
-alone_is n e Idle = ap (λ t. On t (with_line_read (next_moment n e))) (append_none (outcome_lines n.mesh e Idle))
+alone_is n e Idle = ap (λ t. On t (with_line_read (next_state n e))) (append_none (outcome_lines n.mesh e Idle))
 alone_is n e (worlds.Full x field) = refl
-alone_is n e (Next w h) = ap (λ t. On t (with_line_read (next_moment n e))) (append_none (outcome_lines n.mesh e (Next w h)))
+alone_is n e (Next w h) = ap (λ t. On t (with_line_read (next_state n e))) (append_none (outcome_lines n.mesh e (Next w h)))
 
-event_came : (s : schedule.Moment) (e : Event) → IsMesh s.mesh → IsEventLine s.mesh e → text.outcome_of_piece s (Whole (words_of s.mesh (Does e))) ≡ came_alone (with_world s) e (outcome_at (with_world s) e)
+event_came : (s : schedule.RunState) (e : Event) → IsMesh s.mesh → IsEventLine s.mesh e → text.outcome_of_piece s (Whole (words_of s.mesh (Does e))) ≡ came_alone (with_world s) e (outcome_at (with_world s) e)
 unfolding text.outcome_of_line outcome_of_events
 event_came s e mesh range = line_came s (Does e) mesh range tt ∙ alone_is (with_world s) e (outcome_at (with_world s) e)
 
 -- ---- events one after another, each on a line of its own
 
--- the run r has done these events, with their text, and goes on from a moment as they have led to;
+-- the run r has done these events, with their text, and goes on from a state as they have led to;
 -- or it has ended at the one that is refused
-unfoldable pub Did : auto.EventsOutcome → (schedule.Moment → text.RunText) → text.RunText → Type 0
+unfoldable pub Did : auto.EventsOutcome → (schedule.RunState → text.RunText) → text.RunText → Type 0
 Did (auto.Ended t n) more r = (k : ℕ) × (r ≡ shell.lines_before t (more (at_line n k)))
 Did (auto.Full t n e field) more r = (k : ℕ) × (r.lines ≡ t) × (r.verdict ≡ FullAt k)
 
-did_before : (t : List ℕ) (o : auto.EventsOutcome) (more : schedule.Moment → text.RunText) (r : text.RunText) → Did o more r → Did (before t o) more (shell.lines_before t r)
+did_before : (t : List ℕ) (o : auto.EventsOutcome) (more : schedule.RunState → text.RunText) (r : text.RunText) → Did o more r → Did (before t o) more (shell.lines_before t r)
 unfolding Did
 did_before t (auto.Ended others n) more r did = (did.0, ap (shell.lines_before t) did.1 ∙ joined (more (at_line n did.0)))
   where
@@ -89,24 +89,24 @@ did_before t (auto.Ended others n) more r did = (did.0, ap (shell.lines_before t
     joined w = ap (λ l. record w { lines = l }) (sym (append_assoc t others w.lines))
 did_before t (auto.Full others n e field) more r did = (did.0, ap (λ l. t ++ l) did.1, did.2)
 
-started_is : (m : schedule.Moment) (e : Event) (k : ℕ) → with_world (with_line_read (next_moment (at_line m k) e)) ≡ at_line (next_moment m e) (k + 1)
-unfolding next_moment
+started_is : (m : schedule.RunState) (e : Event) (k : ℕ) → with_world (with_line_read (next_state (at_line m k) e)) ≡ at_line (next_state m e) (k + 1)
+unfolding next_state
 started_is m e k = refl
 
-next_mesh : (m : schedule.Moment) (e : Event) → (next_moment m e).mesh ≡ m.mesh
-unfolding next_moment
+next_mesh : (m : schedule.RunState) (e : Event) → (next_state m e).mesh ≡ m.mesh
+unfolding next_state
 next_mesh m e = refl
 
 abbrev pub AllLines : Nodes → List Event → Type 0
 AllLines mesh es = AllByRecursion (IsEventLine mesh) es
 
-pub events_did : (n s : schedule.Moment) (es : List Event) (pieces : List Piece) → with_world s ≡ at_line n s.lines → IsMesh n.mesh → AllLines n.mesh es
+pub events_did : (n s : schedule.RunState) (es : List Event) (pieces : List Piece) → with_world s ≡ at_line n s.lines → IsMesh n.mesh → AllLines n.mesh es
     → (es ≡ [] → s ≡ at_line n s.lines)
     → Did (outcome_of_events n es) (λ k. text.text_from k pieces) (text.text_from s (pieces_of (event_lines n.mesh es) ++ pieces))
-unfolding Did outcome_of_events shell.text_from next_moment
+unfolding Did outcome_of_events shell.text_from next_state
 events_did n s [] pieces same mesh all none = (s.lines, ap (λ k. text.text_from k pieces) (none refl))
 events_did n s (e ∷ es) pieces same mesh all none =
-    by (outcome_at n e) refl (events_did (next_moment n e) (with_line_read (next_moment (at_line n s.lines) e)) es pieces (started_is n e s.lines) mesh all.1 (λ _. refl))
+    by (outcome_at n e) refl (events_did (next_state n e) (with_line_read (next_state (at_line n s.lines) e)) es pieces (started_is n e s.lines) mesh all.1 (λ _. refl))
   where
     s_mesh : s.mesh ≡ n.mesh
     s_mesh = ap (λ k. k.mesh) same
@@ -125,31 +125,31 @@ events_did n s (e ∷ es) pieces same mesh all none =
     whole : (o : Outcome) → outcome_at n e ≡ o → text.text_from s (pieces_of (event_lines n.mesh (e ∷ es)) ++ pieces) ≡ text.goes_on s (came_alone (at_line n s.lines) e o) (λ k. text.text_from k rest)
     whole o is = begun ∙ ap (λ c. text.goes_on s c (λ k. text.text_from k rest)) (came ∙ ap (came_alone (at_line n s.lines) e) is)
 
-    after : schedule.Moment
-    after = with_line_read (next_moment (at_line n s.lines) e)
+    after : schedule.RunState
+    after = with_line_read (next_state (at_line n s.lines) e)
 
-    by : (o : Outcome) → outcome_at n e ≡ o → Did (outcome_of_events (next_moment n e) es) (λ k. text.text_from k pieces) (text.text_from after rest)
+    by : (o : Outcome) → outcome_at n e ≡ o → Did (outcome_of_events (next_state n e) es) (λ k. text.text_from k pieces) (text.text_from after rest)
         → Did (done_then n e o (λ k. outcome_of_events k es)) (λ k. text.text_from k pieces) (text.text_from s (pieces_of (event_lines n.mesh (e ∷ es)) ++ pieces))
     by Idle is others = subst (Did (done_then n e Idle (λ k. outcome_of_events k es)) (λ k. text.text_from k pieces)) (sym (whole Idle is))
-        (did_before (outcome_lines n.mesh e Idle) (outcome_of_events (next_moment n e) es) (λ k. text.text_from k pieces) (text.text_from after rest) others)
+        (did_before (outcome_lines n.mesh e Idle) (outcome_of_events (next_state n e) es) (λ k. text.text_from k pieces) (text.text_from after rest) others)
     by (worlds.Full x field) is others = (s.lines + 1, ap (λ r. r.lines) (whole (worlds.Full x field) is), ap (λ r. r.verdict) (whole (worlds.Full x field) is))
     by (Next w h) is others = subst (Did (done_then n e (Next w h) (λ k. outcome_of_events k es)) (λ k. text.text_from k pieces)) (sym (whole (Next w h) is))
-        (did_before (outcome_lines n.mesh e (Next w h)) (outcome_of_events (next_moment n e) es) (λ k. text.text_from k pieces) (text.text_from after rest) others)
+        (did_before (outcome_lines n.mesh e (Next w h)) (outcome_of_events (next_state n e) es) (λ k. text.text_from k pieces) (text.text_from after rest) others)
 
 -- ---- the lines that stand in the place of one
 
--- the run r has done what a line comes to, and goes on from a moment as it has led to
-unfoldable pub Replays : schedule.Moment → LineOutcome → (schedule.Moment → text.RunText) → text.RunText → Type 0
+-- the run r has done what a line comes to, and goes on from a state as it has led to
+unfoldable pub Replays : schedule.RunState → LineOutcome → (schedule.RunState → text.RunText) → text.RunText → Type 0
 Replays m (On t n) more r = (k : ℕ) × (r ≡ shell.lines_before t (more (at_line n k)))
 Replays m (Refused why) more r = (k : ℕ) × (r ≡ text.finished_run (at_line m k))
 Replays m (Full t n e field) more r = (k : ℕ) × (r.lines ≡ t) × (r.verdict ≡ FullAt k)
 
-by_did : (m : schedule.Moment) (o : auto.EventsOutcome) (more : schedule.Moment → text.RunText) (r : text.RunText) → Did o more r → Replays m (outcome_by_events o) more r
+by_did : (m : schedule.RunState) (o : auto.EventsOutcome) (more : schedule.RunState → text.RunText) (r : text.RunText) → Did o more r → Replays m (outcome_by_events o) more r
 unfolding Did Replays
 by_did m (auto.Ended t n) more r did = did
 by_did m (auto.Full t n e field) more r did = did
 
-pub drawn_replays : (m : schedule.Moment) (k : ℕ) (es : List Event) (pieces : List Piece) → IsMesh m.mesh → AllLines m.mesh es
+pub drawn_replays : (m : schedule.RunState) (k : ℕ) (es : List Event) (pieces : List Piece) → IsMesh m.mesh → AllLines m.mesh es
     → Replays m (outcome_of_drawn m es) (λ n. text.text_from n pieces) (text.text_from (at_line m k) (pieces_of (event_lines m.mesh es) ++ pieces))
 unfolding Replays
 drawn_replays m k [] pieces mesh all = (k, refl)
@@ -158,31 +158,31 @@ drawn_replays m k (e ∷ es) pieces mesh all =
     (events_did (with_world m) (at_line m k) (e ∷ es) pieces refl mesh all (λ none. absurd (let P : ⊥ = cc in P)))
 
 -- a line of the schedule that has no events
-other_came : (m : schedule.Moment) (k : ℕ) (a : AcceptedLine) (pieces : List Piece) → IsMesh m.mesh → IsInRange m.mesh a → IsInTime (is_some m.world) a
+other_came : (m : schedule.RunState) (k : ℕ) (a : AcceptedLine) (pieces : List Piece) → IsMesh m.mesh → IsInRange m.mesh a → IsInTime (is_some m.world) a
     → text.text_from (at_line m k) (Whole (words_of m.mesh a) ∷ pieces) ≡ text.goes_on (at_line m k) (text.outcome_of_line (at_line m k) a) (λ n. text.text_from n pieces)
 unfolding shell.text_from
 other_came m k a pieces mesh range early = ap (λ c. text.goes_on (at_line m k) c (λ n. text.text_from n pieces)) (line_came (at_line m k) a mesh range early)
 
-pub node_replays : (m : schedule.Moment) (k address first : ℕ) (pieces : List Piece) → IsMesh m.mesh → IsInRange m.mesh (NewNode address first) → IsInTime (is_some m.world) (NewNode address first)
+pub node_replays : (m : schedule.RunState) (k address first : ℕ) (pieces : List Piece) → IsMesh m.mesh → IsInRange m.mesh (NewNode address first) → IsInTime (is_some m.world) (NewNode address first)
     → Replays m (text.outcome_of_line m (NewNode address first)) (λ n. text.text_from n pieces) (text.text_from (at_line m k) (Whole (words_of m.mesh (NewNode address first)) ∷ pieces))
 unfolding Replays text.outcome_of_line
 node_replays m k address first pieces mesh range early = (k + 1, other_came m k (NewNode address first) pieces mesh range early)
 
-pub node_shown_replays : (m : schedule.Moment) (k x : ℕ) (pieces : List Piece) → IsMesh m.mesh → IsInRange m.mesh (ShowsNode x)
+pub node_shown_replays : (m : schedule.RunState) (k x : ℕ) (pieces : List Piece) → IsMesh m.mesh → IsInRange m.mesh (ShowsNode x)
     → Replays m (text.outcome_of_line m (ShowsNode x)) (λ n. text.text_from n pieces) (text.text_from (at_line m k) (Whole (words_of m.mesh (ShowsNode x)) ∷ pieces))
 unfolding Replays text.outcome_of_line
 node_shown_replays m k x pieces mesh range = (k + 1, other_came m k (ShowsNode x) pieces mesh range tt)
 
-pub route_shown_replays : (m : schedule.Moment) (k x d : ℕ) (pieces : List Piece) → IsMesh m.mesh → IsInRange m.mesh (ShowsRoute x d)
+pub route_shown_replays : (m : schedule.RunState) (k x d : ℕ) (pieces : List Piece) → IsMesh m.mesh → IsInRange m.mesh (ShowsRoute x d)
     → Replays m (text.outcome_of_line m (ShowsRoute x d)) (λ n. text.text_from n pieces) (text.text_from (at_line m k) (Whole (words_of m.mesh (ShowsRoute x d)) ∷ pieces))
 unfolding Replays text.outcome_of_line
 route_shown_replays m k x d pieces mesh range = (k + 1, other_came m k (ShowsRoute x d) pieces mesh range tt)
 
-pub flight_shown_replays : (m : schedule.Moment) (k : ℕ) (pieces : List Piece) → IsMesh m.mesh → IsInRange m.mesh ShowsFlight
+pub flight_shown_replays : (m : schedule.RunState) (k : ℕ) (pieces : List Piece) → IsMesh m.mesh → IsInRange m.mesh ShowsFlight
     → Replays m (text.outcome_of_line m ShowsFlight) (λ n. text.text_from n pieces) (text.text_from (at_line m k) (Whole (words_of m.mesh ShowsFlight) ∷ pieces))
 unfolding Replays text.outcome_of_line
 flight_shown_replays m k pieces mesh range = (k + 1, other_came m k ShowsFlight pieces mesh range tt)
 
-pub blank_replays : (m : schedule.Moment) (k : ℕ) (pieces : List Piece) → Replays m (text.outcome_of_line m Nothing) (λ n. text.text_from n pieces) (text.text_from (at_line m k) pieces)
+pub blank_replays : (m : schedule.RunState) (k : ℕ) (pieces : List Piece) → Replays m (text.outcome_of_line m Nothing) (λ n. text.text_from n pieces) (text.text_from (at_line m k) pieces)
 unfolding Replays text.outcome_of_line
 blank_replays m k pieces = (k, refl)

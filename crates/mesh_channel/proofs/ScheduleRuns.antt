@@ -9,19 +9,19 @@ use Rattle.mesh_model.specs.Places.{IsEvent}
 use Rattle.mesh_grammar.specs.declared.fault.LineFault.{LineFault}
 use Rattle.mesh_grammar.specs.declared.fault.BadWhy.{BadWhy}
 use Rattle.mesh_shell.specs.Pieces.{Piece, Whole, Long, Beyond}
-use Rattle.mesh_shell.specs.Story as shell
+use Rattle.mesh_shell.specs.Fold as shell
 use Rattle.mesh_text.specs.Schedule as schedule
 use Rattle.mesh_text.specs.Schedule.{AcceptedLine, Nothing, NewNode, Does, Chooses, ShowsNode, ShowsRoute, ShowsFlight, line_of, with_world, with_line_read}
 use Rattle.mesh_text.specs.Auto as auto
 use Rattle.mesh_text.specs.Auto.{outcome_of_events}
 use Rattle.mesh_text.specs.Lines.{words_of}
-use Rattle.mesh_text.specs.Runs.{moment_after, events_after}
+use Rattle.mesh_text.specs.Runs.{run_state_after, events_after}
 use Rattle.mesh_text.specs.Text as text
 use Rattle.mesh_text.specs.Text.{pieces_of_input, LineOutcome, On, Refused, Full, outcome_by_events}
 use Rattle.mesh_text.specs.declared.verdict.Verdict.TheVariants.{Finished, FullAt}
 use Rattle.mesh_text.proofs.InRange.{Allowed, line_allowed}
-use Rattle.mesh_text.proofs.Moments.{IsKept, UsualList, opening_kept, IsKeptCame}
-use Rattle.mesh_text.proofs.MomentLaws.{mesh_after_events}
+use Rattle.mesh_text.proofs.RunStates.{IsKept, UsualList, opening_kept, IsKeptCame}
+use Rattle.mesh_text.proofs.RunStateLaws.{mesh_after_events}
 use Rattle.mesh_fates.specs.declared.rates.Rates.{Rates}
 use Rattle.mesh_fates.specs.Channels.{Channel}
 use Rattle.mesh_channel.specs.Choices.{tick_behind}
@@ -29,7 +29,7 @@ use Rattle.mesh_channel.specs.declared.until.Until.{Until}
 use Rattle.mesh_channel.specs.declared.until.Until.TheVariants.{Events}
 use Rattle.mesh_channel.specs.Chosen.{Drawn, given, chosen, chosen_in}
 use Rattle.mesh_channel.specs.Lines.{Line, Passes, Plain, passing_of, line_by, channel_line}
-use Rattle.mesh_channel.specs.Text.{Moment, opening, drawn_by, outcome_of_drawn, outcome_of_line, outcome_of_read, outcome_of_piece, channel_after, next, RunText, outcome_in_run, text_from, text_of_input}
+use Rattle.mesh_channel.specs.Text.{RunState, opening, drawn_by, outcome_of_drawn, outcome_of_line, outcome_of_read, outcome_of_piece, channel_after, next, RunText, outcome_in_run, text_from, text_of_input}
 use Rattle.mesh_channel.specs.Runs.{events_by, events_of_piece, events_from, events_of_input}
 use Rattle.mesh_channel.specs.Schedule.{event_lines, lines_read, lines_of, lines_chosen, lines_after, schedule_from, chosen_schedule}
 use Rattle.mesh_channel.proofs.HasLine.{HasLine}
@@ -41,7 +41,7 @@ use Rattle.mesh_channel.proofs.Replays.{at_line, pieces_of, event_line, AllLines
 
 -- ---- a run that has started has nodes
 
-abbrev HasNodes : schedule.Moment → Type 0
+abbrev HasNodes : schedule.RunState → Type 0
 HasNodes m = is_some m.world ≡ true → 1 ≤ length m.mesh
 
 unfoldable NodesCame : LineOutcome → Type 0
@@ -49,19 +49,19 @@ NodesCame (On t n) = HasNodes n
 NodesCame (Refused why) = Unit {0}
 NodesCame (Full t n e field) = Unit {0}
 
-some_nodes : (m n : schedule.Moment) (r : auto.EventsOutcome) → n.mesh ≡ m.mesh → 1 ≤ length m.mesh → EndsAt n r → NodesCame (outcome_by_events r)
+some_nodes : (m n : schedule.RunState) (r : auto.EventsOutcome) → n.mesh ≡ m.mesh → 1 ≤ length m.mesh → EndsAt n r → NodesCame (outcome_by_events r)
 unfolding EndsAt NodesCame
 some_nodes m n (auto.Ended t k) same some ends = λ made. let count : length k.mesh ≡ length m.mesh = ap (λ i. length i.mesh) ends ∙ ap length same in omega arith
 some_nodes m n (auto.Full t k e field) same some ends = tt
 
-drawn_nodes : (m : schedule.Moment) (es : List Event) → HasNodes m → (es ≢ [] → 1 ≤ length m.mesh) → NodesCame (outcome_of_drawn m es)
+drawn_nodes : (m : schedule.RunState) (es : List Event) → HasNodes m → (es ≢ [] → 1 ≤ length m.mesh) → NodesCame (outcome_of_drawn m es)
 unfolding NodesCame
 drawn_nodes m [] has some = has
 drawn_nodes m (e ∷ es) has some =
-    some_nodes m (moment_after (with_world m) (e ∷ es)) (outcome_of_events (with_world m) (e ∷ es)) (mesh_after_events (with_world m) (e ∷ es))
+    some_nodes m (run_state_after (with_world m) (e ∷ es)) (outcome_of_events (with_world m) (e ∷ es)) (mesh_after_events (with_world m) (e ∷ es))
     (some (λ none. let P : ⊥ = cc in P)) (ends_at (with_world m) (e ∷ es))
 
-chosen_some : (rates : Rates) (until : Until) (m : schedule.Moment) (c : Channel) → HasNodes m → (chosen rates until m c).events ≢ [] → 1 ≤ length m.mesh
+chosen_some : (rates : Rates) (until : Until) (m : schedule.RunState) (c : Channel) → HasNodes m → (chosen rates until m c).events ≢ [] → 1 ≤ length m.mesh
 chosen_some rates until m c has = by m.world refl
   where
     by : (o : Option World) → m.world ≡ o → (chosen_in rates until m o c).events ≢ [] → 1 ≤ length m.mesh
@@ -90,21 +90,21 @@ all_rest (e ∷ es) fs all = all_rest es fs all.1
 -- ---- one line
 
 -- the run of a schedule from here on has done what a line comes to, and goes on with these lines; and after it there are nodes
-record Stands (m : Moment) (c : LineOutcome) (ls : List (List ℕ)) : Type 0 where
+record Stands (m : RunState) (c : LineOutcome) (ls : List (List ℕ)) : Type 0 where
   replays : (k : ℕ) (rest : List Piece) (r : text.RunText) → r ≡ text.text_from (at_line m.run k) (pieces_of ls ++ rest) → ((why : BadWhy) → c ≡ Refused why → rest ≡ []) → Replays m.run c (λ n. text.text_from n rest) r
   nodes : NodesCame c
 
-drawn_stands : (m : Moment) (d : Drawn) → IsKept m.run → HasNodes m.run → (d.events ≢ [] → 1 ≤ length m.run.mesh) → UsualList (length m.run.mesh) d.events → AllByRecursion HasLine d.events
+drawn_stands : (m : RunState) (d : Drawn) → IsKept m.run → HasNodes m.run → (d.events ≢ [] → 1 ≤ length m.run.mesh) → UsualList (length m.run.mesh) d.events → AllByRecursion HasLine d.events
     → Stands m (outcome_of_drawn m.run d.events) (event_lines m.run.mesh d.events)
 drawn_stands m d is has some usual number = record {
   replays = λ k rest r same none. subst (Replays m.run (outcome_of_drawn m.run d.events) (λ n. text.text_from n rest)) (sym same) (drawn_replays m.run k d.events rest is.mesh (lines_if m.run.mesh d.events some usual number));
   nodes = drawn_nodes m.run d.events has some;
 }
 
-absurd_made : (m : schedule.Moment) → is_some m.world ≡ false → {A : Type 0} → is_some m.world ≡ true → A
+absurd_made : (m : schedule.RunState) → is_some m.world ≡ false → {A : Type 0} → is_some m.world ≡ true → A
 absurd_made m early made = absurd (let clash : true ≡ false = sym made ∙ early in let P : ⊥ = cc in P)
 
-plain_stands : (rates : Rates) (m : Moment) (a : AcceptedLine) → Allowed m.run.mesh (is_some m.run.world) (Ok a) → IsKept m.run → LeftUsual m.channel.left → HasNodes m.run
+plain_stands : (rates : Rates) (m : RunState) (a : AcceptedLine) → Allowed m.run.mesh (is_some m.run.world) (Ok a) → IsKept m.run → LeftUsual m.channel.left → HasNodes m.run
     → AllByRecursion HasLine (drawn_by rates m (Plain a)).events → Stands m (outcome_of_line rates m (Plain a)) (lines_of rates m (Plain a))
 unfolding Allowed NodesCame text.outcome_of_line
 plain_stands rates m Nothing allowed is left has number = record {
@@ -134,14 +134,14 @@ plain_stands rates m ShowsFlight allowed is left has number = record {
   nodes = λ made. allowed.0;
 }
 
-refused_stands : (m : Moment) (why : BadWhy) → Stands m (Refused why) []
+refused_stands : (m : RunState) (why : BadWhy) → Stands m (Refused why) []
 unfolding Replays NodesCame shell.text_from
 refused_stands m why = record {
   replays = λ k rest r same none. (k, same ∙ ap (text.text_from (at_line m.run k)) (none why refl));
   nodes = tt;
 }
 
-read_stands : (rates : Rates) (m : Moment) (passing : Result (Option ℕ) LineFault) (plain : Result AcceptedLine LineFault) → Allowed m.run.mesh (is_some m.run.world) plain → IsKept m.run → LeftUsual m.channel.left → HasNodes m.run
+read_stands : (rates : Rates) (m : RunState) (passing : Result (Option ℕ) LineFault) (plain : Result AcceptedLine LineFault) → Allowed m.run.mesh (is_some m.run.world) plain → IsKept m.run → LeftUsual m.channel.left → HasNodes m.run
     → AllByRecursion HasLine (events_by rates m (line_by passing plain)) → Stands m (outcome_of_read rates m (line_by passing plain)) (lines_read rates m (line_by passing plain))
 read_stands rates m (Ok (Some ticks)) plain allowed is left has number =
     let until : Until = tick_behind m.channel.tick ticks in
@@ -150,7 +150,7 @@ read_stands rates m (Ok None) (Ok a) allowed is left has number = plain_stands r
 read_stands rates m (Ok None) (Err f) allowed is left has number = refused_stands m _
 read_stands rates m (Err f) plain allowed is left has number = refused_stands m _
 
-piece_stands : (rates : Rates) (m : Moment) (piece : Piece) → IsKept m.run → LeftUsual m.channel.left → HasNodes m.run → AllByRecursion HasLine (events_of_piece rates m piece)
+piece_stands : (rates : Rates) (m : RunState) (piece : Piece) → IsKept m.run → LeftUsual m.channel.left → HasNodes m.run → AllByRecursion HasLine (events_of_piece rates m piece)
     → Stands m (outcome_of_piece rates m piece) (lines_chosen rates m piece)
 unfolding outcome_of_piece text.outcome_of_piece events_of_piece lines_chosen channel_line
 piece_stands rates m (Whole bytes) is left has number =
@@ -164,18 +164,18 @@ before_replays : (t : List ℕ) (r : text.RunText) (w : RunText) → IsReplay r 
 before_replays t r w is = record { lines = ap (λ l. t ++ l) is.lines; verdict = is.verdict; last = is.last; after = is.after }
 
 -- the runs of the lines that follow
-Follows : Rates → Moment → Piece → List Piece → LineOutcome → Type 0
+Follows : Rates → RunState → Piece → List Piece → LineOutcome → Type 0
 Follows rates m piece pieces (On t n) = (k : ℕ) → IsReplay (text.text_from (at_line n k) (pieces_of (schedule_from rates (next rates m piece n) pieces))) (text_from rates (next rates m piece n) pieces)
 Follows rates m piece pieces (Refused why) = Unit {0}
 Follows rates m piece pieces (Full t n e field) = Unit {0}
 
-rest_pieces : Rates → Moment → Piece → List Piece → LineOutcome → List Piece
+rest_pieces : Rates → RunState → Piece → List Piece → LineOutcome → List Piece
 rest_pieces rates m piece pieces c = pieces_of (lines_after c (λ n. schedule_from rates (next rates m piece n) pieces))
 
 full_alike : (k j : ℕ) (v : _) → v ≡ FullAt k → Rattle.mesh_channel.specs.Laws.AreAlike v (FullAt j)
 full_alike k j v is = rw is tt
 
-by_outcome : (rates : Rates) (m : Moment) (piece : Piece) (pieces : List Piece) (c : LineOutcome) (r : text.RunText)
+by_outcome : (rates : Rates) (m : RunState) (piece : Piece) (pieces : List Piece) (c : LineOutcome) (r : text.RunText)
     → Replays m.run c (λ n. text.text_from n (rest_pieces rates m piece pieces c)) r → Follows rates m piece pieces c
     → IsReplay r (shell.goes_on m (outcome_in_run rates m piece c) (λ n. text_from rates n pieces))
 unfolding Replays Follows rest_pieces
@@ -192,13 +192,13 @@ by_outcome rates m piece pieces (Full t n e field) r replays follows = record {
   after = λ not_full. absurd (not_full (m.run.lines + 1) refl);
 }
 
-none_behind : (rates : Rates) (m : Moment) (piece : Piece) (pieces : List Piece) (c : LineOutcome) (why : BadWhy) → c ≡ Refused why → rest_pieces rates m piece pieces c ≡ []
+none_behind : (rates : Rates) (m : RunState) (piece : Piece) (pieces : List Piece) (c : LineOutcome) (why : BadWhy) → c ≡ Refused why → rest_pieces rates m piece pieces c ≡ []
 unfolding rest_pieces
 none_behind rates m piece pieces (On t n) why is = absurd (let P : ⊥ = cc in P)
 none_behind rates m piece pieces (Refused w) why is = refl
 none_behind rates m piece pieces (Full t n e field) why is = absurd (let P : ⊥ = cc in P)
 
-pub replays_from : (rates : Rates) (m : Moment) (pieces : List Piece) (k : ℕ) → IsKept m.run → LeftUsual m.channel.left → HasNodes m.run → AllByRecursion HasLine (events_from rates m pieces)
+pub replays_from : (rates : Rates) (m : RunState) (pieces : List Piece) (k : ℕ) → IsKept m.run → LeftUsual m.channel.left → HasNodes m.run → AllByRecursion HasLine (events_from rates m pieces)
     → IsReplay (text.text_from (at_line m.run k) (pieces_of (schedule_from rates m pieces))) (text_from rates m pieces)
 unfolding schedule_from events_from shell.text_from rest_pieces IsKeptCame NodesCame Follows
 replays_from rates m [] k is left has number = record { lines = refl; verdict = tt; last = λ _. refl; after = λ _. refl }
@@ -225,7 +225,7 @@ replays_from rates m (piece ∷ pieces) k is left has number =
     cut = ap (text.text_from (at_line m.run k)) (map-append Whole ls (lines_after c (λ n. schedule_from rates (next rates m piece n) pieces)))
 
     follows : (o : LineOutcome) → IsKeptCame o → NodesCame o → AllByRecursion HasLine (events_after o (λ n. events_from rates (next rates m piece n) pieces))
-        → ((n : schedule.Moment) (j : ℕ) → IsKept n → HasNodes n → AllByRecursion HasLine (events_from rates (next rates m piece n) pieces)
+        → ((n : schedule.RunState) (j : ℕ) → IsKept n → HasNodes n → AllByRecursion HasLine (events_from rates (next rates m piece n) pieces)
         → IsReplay (text.text_from (at_line n j) (pieces_of (schedule_from rates (next rates m piece n) pieces))) (text_from rates (next rates m piece n) pieces))
         → Follows rates m piece pieces o
     follows (On t n) kept nodes rest more = λ j. more n j kept nodes rest

@@ -17,8 +17,8 @@ use Rattle.mesh_run.specs.declared.status.Status.TheVariants as status
 use Rattle.mesh_fates.specs.declared.rates.Rates.{Rates}
 use Rattle.mesh_channel.specs.declared.channeled.Channeled.{Channeled}
 use Rattle.mesh_channel.specs.declared.words.Options.{Options}
-use Rattle.mesh_channel.specs.Text.{Moment, RunText, opening, text_of_input}
-use Rattle.mesh_channel.specs.Moments.{moment_of}
+use Rattle.mesh_channel.specs.Text.{RunState, RunText, opening, text_of_input}
+use Rattle.mesh_channel.specs.RunStates.{run_state_of}
 use Rattle.mesh_channel.specs.Outputs.{IsOutputFrom, IsChannelRun, IsRun}
 use Rattle.mesh_channel.specs.Running.{running}
 use Rattle.mesh_channel.specs.Room.{HasRoomFor, HasFewCopies}
@@ -37,14 +37,14 @@ is_channel_run rates variant seed input = record {
 }
 
 -- what the script's answer tells, and that it is of such a run
-pub runs_so : (o : Options) (p : Channeled) (most : Limits) (given left before now : Option (List ℕ)) (answer : Result Verdict Fault) (s : Status) → p.rates ≡ o.rates → p.say ≡ o.say → moment_of p ≡ opening o.variant o.seed → most ≡ schedule_limits → s ≡ status_of answer
+pub runs_so : (o : Options) (p : Channeled) (most : Limits) (given left before now : Option (List ℕ)) (answer : Result Verdict Fault) (s : Status) → p.rates ≡ o.rates → p.say ≡ o.say → run_state_of p ≡ opening o.variant o.seed → most ≡ schedule_limits → s ≡ status_of answer
     → IfSome given (λ bytes. outputs.IsOutputFrom running most p bytes left before now answer) → IfSome given (λ bytes. IsRun o bytes left before now s)
 runs_so o p most None left before now answer s rates say opens limits is told = tt
 runs_so o p most (Some bytes) left before now answer s rates say opens limits is told =
     let within = subst (λ (l : Limits). outputs.IsOutputFrom running l p bytes left before now answer) limits told in
-    let rated = subst (λ (k : Rates). IsOutputFrom p.say k (moment_of p) bytes left before now (status_of answer)) rates (input_told p bytes left before now answer within) in
-    let here = subst (λ (k : Say). IsOutputFrom k o.rates (moment_of p) bytes left before now (status_of answer)) say rated in
-    let opened = subst (λ (m : Moment). IsOutputFrom o.say o.rates m bytes left before now (status_of answer)) opens here in
+    let rated = subst (λ (k : Rates). IsOutputFrom p.say k (run_state_of p) bytes left before now (status_of answer)) rates (input_told p bytes left before now answer within) in
+    let here = subst (λ (k : Say). IsOutputFrom k o.rates (run_state_of p) bytes left before now (status_of answer)) say rated in
+    let opened = subst (λ (m : RunState). IsOutputFrom o.say o.rates m bytes left before now (status_of answer)) opens here in
     (subst (λ (k : Status). IsOutputFrom o.say o.rates (opening o.variant o.seed) bytes left before now k) (sym is) opened, is_channel_run o.rates o.variant o.seed bytes)
 
 -- ---- completeness
@@ -80,18 +80,18 @@ run_completes q o left after a b s rb ra wb wa e t read write =
 
 -- ---- the room of a run
 
-pub room_at_start : (p : Channeled) (most : Limits) (variant : Variant) (seed : ℕ) → moment_of p ≡ opening variant seed → most ≡ schedule_limits → HasRoomFor p (most.input + 1)
+pub room_at_start : (p : Channeled) (most : Limits) (variant : Variant) (seed : ℕ) → run_state_of p ≡ opening variant seed → most ≡ schedule_limits → HasRoomFor p (most.input + 1)
 unfolding start channels.opening
 room_at_start p most variant seed opens limits =
-    let lines = ap (λ (m : Moment). m.run.lines) opens in
-    let steps = ap (λ (m : Moment). m.run.steps) opens in
-    let left = ap (λ (m : Moment). length m.channel.left) opens in
-    let tick = ap (λ (m : Moment). m.channel.tick) opens in
+    let lines = ap (λ (m : RunState). m.run.lines) opens in
+    let steps = ap (λ (m : RunState). m.run.steps) opens in
+    let left = ap (λ (m : RunState). length m.channel.left) opens in
+    let tick = ap (λ (m : RunState). m.channel.tick) opens in
     let size = ap (λ (l : Limits). l.input) limits in
     record {
       lines = omega (arith, lines, size);
       steps = omega (arith, steps, size);
       left = omega (arith, left);
       tick = omega (arith, tick);
-      copies = subst (λ (m : Moment). HasFewCopies m.run) (sym opens) (record { some = omega arith; few = omega arith });
+      copies = subst (λ (m : RunState). HasFewCopies m.run) (sym opens) (record { some = omega arith; few = omega arith });
     }

@@ -8,7 +8,7 @@ use Rattle.mesh_model.specs.Walks.{Cycle}
 use Rattle.mesh_model.specs.Accounts.{Test}
 use Rattle.mesh_shell.specs.Pieces.{Whole}
 use Rattle.mesh_text.specs.Schedule as schedule
-use Rattle.mesh_text.specs.Schedule.{world_of, outcome_at, next_moment}
+use Rattle.mesh_text.specs.Schedule.{world_of, outcome_at, next_state}
 use Rattle.mesh_text.specs.Text as text
 use Rattle.mesh_text.specs.EveryWorld.{IsAccountedAfter}
 use Rattle.mesh_text.specs.declared.verdict.Verdict.{Verdict}
@@ -31,8 +31,8 @@ AreAlike Finished (RefusedAt n) = ⊤
 AreAlike (FullAt n) (FullAt k) = ⊤
 AreAlike v u = ⊥
 
--- the same moment, but for the number of lines that were read
-abbrev pub AreSameBut : schedule.Moment → schedule.Moment → Type 0
+-- the same state, but for the number of lines that were read
+abbrev pub AreSameBut : schedule.RunState → schedule.RunState → Type 0
 AreSameBut m n = m ≡ record n { lines = m.lines }
 
 -- a run of a schedule has the lines of a run over a channel, and comes to the same. The last line
@@ -86,7 +86,7 @@ pub record IsLossless (rates : Rates) : Type 0 where
 -- a delivery, a send or a request, where nothing was left to do, and nothing is left to do after it
 abbrev pub LosslessChannelLosesNothing : Type 0
 LosslessChannelLosesNothing =
-    (rates : Rates) (until : Until) (m : schedule.Moment) (c : Channel) → IsLossless rates
+    (rates : Rates) (until : Until) (m : schedule.RunState) (c : Channel) → IsLossless rates
     → c.left ≡ []
     → let d = chosen rates until m c in
     AllByRecursion IsChoice d.events × (d.channel.left ≡ [])
@@ -94,21 +94,21 @@ LosslessChannelLosesNothing =
 -- and no line of the input has one behind its own event
 abbrev pub LosslessChannelAddsNothing : Type 0
 LosslessChannelAddsNothing =
-    (rates : Rates) (m : schedule.Moment) (e : Event) (c : Channel) → IsLossless rates
+    (rates : Rates) (m : schedule.RunState) (e : Event) (c : Channel) → IsLossless rates
     → c.left ≡ [] → (given rates m e c).events ≡ e ∷ []
 
--- none of these events is idle, each at the moment after the one before it
-abbrev pub NoneIsIdle : schedule.Moment → List Event → Type 0
+-- none of these events is idle, each in the state after the one before it
+abbrev pub NoneIsIdle : schedule.RunState → List Event → Type 0
 NoneIsIdle m [] = ⊤
-NoneIsIdle m (e ∷ es) = (outcome_at m e ≢ Idle) × NoneIsIdle (next_moment m e) es
+NoneIsIdle m (e ∷ es) = (outcome_at m e ≢ Idle) × NoneIsIdle (next_state m e) es
 
 -- no event that a line chooses is idle, where nothing was left to do
 abbrev pub ChosenEventsAreNotIdle : Type 0
-ChosenEventsAreNotIdle = (rates : Rates) (until : Until) (m : schedule.Moment) (c : Channel)
+ChosenEventsAreNotIdle = (rates : Rates) (until : Until) (m : schedule.RunState) (c : Channel)
     → c.left ≡ [] → NoneIsIdle m (chosen rates until m c).events
 
 -- nor is one that stands behind an event of the input
 abbrev pub AddedEventsAreNotIdle : Type 0
-AddedEventsAreNotIdle = (rates : Rates) (m : schedule.Moment) (e : Event) (c : Channel)
+AddedEventsAreNotIdle = (rates : Rates) (m : schedule.RunState) (e : Event) (c : Channel)
     → c.left ≡ [] → let after = after_given rates (world_of m) (outcome_at m e) c in
-    NoneIsIdle (next_moment m e) after.left
+    NoneIsIdle (next_state m e) after.left

@@ -20,7 +20,7 @@ pub mod Outputs
 -- The others say what the parts of a run do.
 -- Room: how far lines can lead, and the room that they need.
 pub mod Room
--- Moments: a run over a channel between two lines, and what was told of one line.
-pub mod Moments
+-- RunStates: a run over a channel between two lines, and what was told of one line.
+pub mod RunStates
 -- Running: a run over a channel as a script.
 pub mod Running

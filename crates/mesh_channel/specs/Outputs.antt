@@ -11,15 +11,15 @@ use Rattle.mesh_run.specs.Outputs.{IsOutputOf}
 use Rattle.mesh_run.specs.declared.say.Say.{Say}
 use Rattle.mesh_run.specs.declared.status.Status.{Status}
 use Rattle.mesh_fates.specs.declared.rates.Rates.{Rates}
-use Rattle.mesh_channel.specs.Text.{Moment, opening, text_on, text_of_input}
+use Rattle.mesh_channel.specs.Text.{RunState, opening, text_on, text_of_input}
 use Rattle.mesh_channel.specs.Schedule.{chosen_schedule}
 use Rattle.mesh_channel.specs.Runs.{events_of_input, opening_world, world_after}
 use Rattle.mesh_channel.specs.Laws.{IsReplay}
 use Rattle.mesh_channel.specs.declared.words.Options.{Options}
 
--- a run over a channel of these bytes from a moment on has answered, where the source has this
+-- a run over a channel of these bytes from a state on has answered, where the source has this
 -- left. After a failed read what was written is the text of the lines that were read whole
-abbrev pub IsOutputFrom : Say → Rates → Moment → List ℕ → Option (List ℕ) → Option (List ℕ)
+abbrev pub IsOutputFrom : Say → Rates → RunState → List ℕ → Option (List ℕ) → Option (List ℕ)
     → Option (List ℕ) → Status → Type 0
 IsOutputFrom say rates m bytes left before now s =
     IsOutputOf say (text_on rates m) bytes left before now s

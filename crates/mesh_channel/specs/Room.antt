@@ -1,7 +1,7 @@
 -- How far lines can lead, and the room that they need.
 use Rattle.std.specs.Prelude.{ℕ, ◌≤◌, ◌<◌, ◌+◌, ◌*◌, ◌^◌, length, max}
 use Rattle.mesh_base.specs.declared.limits.TheConstants.{MOST_NODES}
-use Rattle.mesh_text.specs.Schedule.{Moment, world_of}
+use Rattle.mesh_text.specs.Schedule.{RunState, world_of}
 use Rattle.mesh_channel.specs.declared.until.TheConstants.{LAST_TICK, MOST_CHOSEN}
 use Rattle.mesh_channel.specs.declared.channeled.Channeled.{Channeled}
 
@@ -15,11 +15,11 @@ abbrev pub most_events : ℕ
 most_events = 1 + 2 * most_left
 
 -- copies are numbered from 1 on, and each event has made at most one for each node, or doubled one
-pub record HasFewCopies (m : Moment) : Type 0 where
+pub record HasFewCopies (m : RunState) : Type 0 where
   pub some : 1 ≤ (world_of m).next_copy
   pub few : (world_of m).next_copy ≤ 1 + (MOST_NODES + 1) * m.steps
 
--- lines of so many bytes, each LF among them, can be done from this moment on
+-- lines of so many bytes, each LF among them, can be done from this state on
 pub record HasRoomFor (p : Channeled) (size : ℕ) : Type 0 where
   pub lines : (p.point).lines + size < 2 ^ 62
   pub steps : max (p.point).steps MOST_CHOSEN + most_events * size < 2 ^ 47
@@ -27,7 +27,7 @@ pub record HasRoomFor (p : Channeled) (size : ℕ) : Type 0 where
   pub tick : (p.channel).tick ≤ LAST_TICK
   pub copies : HasFewCopies p.point
 
--- they can lead from the one moment to the other
+-- they can lead from the one run state to the other
 pub record CanLead (p : Channeled) (size : ℕ) (q : Channeled) : Type 0 where
   pub lines : (q.point).lines ≤ (p.point).lines + size
   pub steps : (q.point).steps ≤ max (p.point).steps MOST_CHOSEN + most_events * size

@@ -1,20 +1,20 @@
--- A run over a channel as a script: what its lines and its end make of its moment.
-use Rattle.mesh_shell.specs.Story.{Story}
+-- A run over a channel as a script: what its lines and its end make of its state.
+use Rattle.mesh_shell.specs.Fold.{Fold}
 use Rattle.mesh_text.specs.declared.verdict.Verdict.{Verdict}
 use Rattle.mesh_run.specs.Outputs.{says_lines}
 use Rattle.mesh_run.specs.Running.{outcome_as, said, last_said}
 use Rattle.mesh_channel.specs.Text.{channel_run}
-use Rattle.mesh_channel.specs.Moments.{moment_of, moved}
+use Rattle.mesh_channel.specs.RunStates.{run_state_of, moved}
 use Rattle.mesh_channel.specs.declared.channeled.Channeled.{Channeled}
 
 -- the run over the channel of these rates, as far as it is said
-abbrev pub running : Story Channeled Verdict
+abbrev pub running : Fold Channeled Verdict
 running = record {
-  head = λ p. (channel_run p.rates).head (moment_of p);
+  head = λ p. (channel_run p.rates).head (run_state_of p);
   outcome = λ p piece.
       outcome_as (moved p)
-      (said (says_lines p.say) ((channel_run p.rates).outcome (moment_of p) piece));
+      (said (says_lines p.say) ((channel_run p.rates).outcome (run_state_of p) piece));
   ending = λ p.
-      let end = (channel_run p.rates).ending (moment_of p) in
+      let end = (channel_run p.rates).ending (run_state_of p) in
       record { text = last_said p.say end.text; verdict = end.verdict; after = moved p end.after };
 }

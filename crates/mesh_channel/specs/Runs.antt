@@ -1,4 +1,4 @@
--- The events of a run over a channel, one after another, and the moments and worlds that they lead
+-- The events of a run over a channel, one after another, and the states and worlds that they lead
 -- through.
 use Rattle.std.specs.Prelude.{ℕ, ◌≡◌, List, [], ◌∷◌, ◌++◌, Option, Some, None, Result, Ok, Err, take, slice_get}
 use Rattle.mesh_base.specs.Meshes.{Nodes}
@@ -8,25 +8,25 @@ use Rattle.mesh_grammar.specs.declared.fault.LineFault.{LineFault}
 use Rattle.mesh_shell.specs.Pieces.{Piece, Whole}
 use Rattle.mesh_text.specs.Schedule as schedule
 use Rattle.mesh_text.specs.Text.{pieces_of_input}
-use Rattle.mesh_text.specs.Runs.{events_after, moment_after}
+use Rattle.mesh_text.specs.Runs.{events_after, run_state_after}
 use Rattle.mesh_text.specs.declared.verdict.Verdict.TheVariants.{Finished}
 use Rattle.mesh_fates.specs.declared.rates.Rates.{Rates}
 use Rattle.mesh_channel.specs.Lines.{Line}
-use Rattle.mesh_channel.specs.Text.{Moment, opening, drawn_by, line_at, outcome_of_piece, next, RunText, text_from, text_of_input}
+use Rattle.mesh_channel.specs.Text.{RunState, opening, drawn_by, line_at, outcome_of_piece, next, RunText, text_from, text_of_input}
 
 -- ---- the events of an input
 
-abbrev pub events_by : Rates → Moment → Result Line LineFault → List Event
+abbrev pub events_by : Rates → RunState → Result Line LineFault → List Event
 events_by rates m (Ok l) = (drawn_by rates m l).events
 events_by rates m (Err fault) = []
 
 -- those of a line
-unfoldable pub events_of_piece : Rates → Moment → Piece → List Event
+unfoldable pub events_of_piece : Rates → RunState → Piece → List Event
 events_of_piece rates m (Whole bytes) = events_by rates m (line_at m bytes)
 events_of_piece rates m others = []
 
 -- those of the lines, up to the first that isn't allowed
-unfoldable pub events_from : Rates → Moment → List Piece → List Event
+unfoldable pub events_from : Rates → RunState → List Piece → List Event
 events_from rates m [] = []
 events_from rates m (piece ∷ pieces) =
     events_of_piece rates m piece

@@ -13,7 +13,7 @@ use Rattle.mesh_text.specs.Lines.{words_of}
 use Rattle.mesh_text.specs.Text.{LineOutcome, On, Refused, Full, pieces_of_input}
 use Rattle.mesh_fates.specs.declared.rates.Rates.{Rates}
 use Rattle.mesh_channel.specs.Lines.{Line, Passes, Plain}
-use Rattle.mesh_channel.specs.Text.{Moment, opening, drawn_by, line_at, outcome_of_piece, next}
+use Rattle.mesh_channel.specs.Text.{RunState, opening, drawn_by, line_at, outcome_of_piece, next}
 
 -- each event on a line
 abbrev pub event_lines : Nodes → List Event → List (List ℕ)
@@ -24,7 +24,7 @@ abbrev pub other_lines : Nodes → AcceptedLine → List (List ℕ)
 other_lines mesh Nothing = []
 other_lines mesh others = words_of mesh others ∷ []
 
-abbrev pub lines_of : Rates → Moment → Line → List (List ℕ)
+abbrev pub lines_of : Rates → RunState → Line → List (List ℕ)
 lines_of rates m (Passes ticks) = event_lines m.run.mesh (drawn_by rates m (Passes ticks)).events
 lines_of rates m (Plain (Does e)) =
     event_lines m.run.mesh (drawn_by rates m (Plain (Does e))).events
@@ -33,22 +33,22 @@ lines_of rates m (Plain (Chooses count)) =
 lines_of rates m (Plain others) = other_lines m.run.mesh others
 
 -- one that is refused has none
-abbrev pub lines_read : Rates → Moment → Result Line LineFault → List (List ℕ)
+abbrev pub lines_read : Rates → RunState → Result Line LineFault → List (List ℕ)
 lines_read rates m (Ok l) = lines_of rates m l
 lines_read rates m (Err fault) = []
 
 -- the lines that stand in the place of a line of the input
-unfoldable pub lines_chosen : Rates → Moment → Piece → List (List ℕ)
+unfoldable pub lines_chosen : Rates → RunState → Piece → List (List ℕ)
 lines_chosen rates m (Whole bytes) = lines_read rates m (line_at m bytes)
 lines_chosen rates m others = []
 
 -- those of the lines that follow, unless the run has ended
-abbrev pub lines_after : LineOutcome → (schedule.Moment → List (List ℕ)) → List (List ℕ)
+abbrev pub lines_after : LineOutcome → (schedule.RunState → List (List ℕ)) → List (List ℕ)
 lines_after (On text n) others = others n
 lines_after (Refused why) others = []
 lines_after (Full text n e field) others = []
 
-unfoldable pub schedule_from : Rates → Moment → List Piece → List (List ℕ)
+unfoldable pub schedule_from : Rates → RunState → List Piece → List (List ℕ)
 schedule_from rates m [] = []
 schedule_from rates m (piece ∷ pieces) =
     lines_chosen rates m piece

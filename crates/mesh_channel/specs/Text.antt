@@ -6,7 +6,7 @@ use Rattle.mesh_grammar.specs.declared.fault.LineFault.{LineFault}
 use Rattle.mesh_grammar.specs.declared.fault.BadWhy.TheVariants.{Fault}
 use Rattle.mesh_io.specs.NextLines.{schedule_limits}
 use Rattle.mesh_shell.specs.Pieces.{Piece, Whole}
-use Rattle.mesh_shell.specs.Story as shell
+use Rattle.mesh_shell.specs.Fold as shell
 use Rattle.mesh_text.specs.Schedule as schedule
 use Rattle.mesh_text.specs.Schedule.{AcceptedLine, Does, Chooses, with_world, with_line_read}
 use Rattle.mesh_text.specs.Lines.{done_line}
@@ -23,13 +23,13 @@ use Rattle.mesh_channel.specs.declared.until.Until.TheVariants.{Events}
 use Rattle.mesh_channel.specs.Chosen.{Drawn, none, given, chosen}
 use Rattle.mesh_channel.specs.Lines.{Line, Passes, Plain, channel_line}
 
--- a moment of a run over a channel: that of the run, and the channel
-pub record Moment : Type 0 where
-  pub run : schedule.Moment
+-- a state of a run over a channel: that of the run, and the channel
+pub record RunState : Type 0 where
+  pub run : schedule.RunState
   pub channel : Channel
 
 -- before the first line
-abbrev pub opening : Variant → ℕ → Moment
+abbrev pub opening : Variant → ℕ → RunState
 opening variant seed = record {
   run = schedule.opening variant;
   channel = channels.opening seed;
@@ -38,7 +38,7 @@ opening variant seed = record {
 -- ---- one line
 
 -- the events of a line, and the channel after them
-abbrev pub drawn_by : Rates → Moment → Line → Drawn
+abbrev pub drawn_by : Rates → RunState → Line → Drawn
 drawn_by rates m (Passes ticks) =
     chosen rates (tick_behind m.channel.tick ticks) m.run m.channel
 drawn_by rates m (Plain (Does e)) = given rates (with_world m.run) e m.channel
@@ -46,12 +46,12 @@ drawn_by rates m (Plain (Chooses count)) = chosen rates (Events count) m.run m.c
 drawn_by rates m (Plain others) = none m.channel
 
 -- these events, each with its own line; where there are none, the run hasn't started by them
-abbrev pub outcome_of_drawn : schedule.Moment → List Event → LineOutcome
+abbrev pub outcome_of_drawn : schedule.RunState → List Event → LineOutcome
 outcome_of_drawn m [] = On [] (with_line_read m)
 outcome_of_drawn m (e ∷ es) = outcome_by_events (outcome_of_events (with_world m) (e ∷ es))
 
 -- an allowed line: its events; or a line of a schedule that has none
-abbrev pub outcome_of_line : Rates → Moment → Line → LineOutcome
+abbrev pub outcome_of_line : Rates → RunState → Line → LineOutcome
 outcome_of_line rates m (Passes ticks) =
     outcome_of_drawn m.run (drawn_by rates m (Passes ticks)).events
 outcome_of_line rates m (Plain (Does e)) =
@@ -60,67 +60,67 @@ outcome_of_line rates m (Plain (Chooses count)) =
     outcome_of_drawn m.run (drawn_by rates m (Plain (Chooses count))).events
 outcome_of_line rates m (Plain others) = text.outcome_of_line m.run others
 
-abbrev pub outcome_of_read : Rates → Moment → Result Line LineFault → LineOutcome
+abbrev pub outcome_of_read : Rates → RunState → Result Line LineFault → LineOutcome
 outcome_of_read rates m (Ok l) = outcome_of_line rates m l
 outcome_of_read rates m (Err fault) = Refused (Fault fault)
 
-abbrev pub line_at : Moment → List ℕ → Result Line LineFault
+abbrev pub line_at : RunState → List ℕ → Result Line LineFault
 line_at m bytes = channel_line m.run.mesh (is_some m.run.world) bytes
 
--- what a line of the input comes to at a moment
-unfoldable pub outcome_of_piece : Rates → Moment → Piece → LineOutcome
+-- what a line of the input comes to in a state
+unfoldable pub outcome_of_piece : Rates → RunState → Piece → LineOutcome
 outcome_of_piece rates m (Whole bytes) = outcome_of_read rates m (line_at m bytes)
 outcome_of_piece rates m others = text.outcome_of_piece m.run others
 
 -- the channel after it
-abbrev pub channel_by : Rates → Moment → Result Line LineFault → Channel
+abbrev pub channel_by : Rates → RunState → Result Line LineFault → Channel
 channel_by rates m (Ok l) = (drawn_by rates m l).channel
 channel_by rates m (Err fault) = m.channel
 
-unfoldable pub channel_after : Rates → Moment → Piece → Channel
+unfoldable pub channel_after : Rates → RunState → Piece → Channel
 channel_after rates m (Whole bytes) = channel_by rates m (line_at m bytes)
 channel_after rates m others = m.channel
 
--- the moment after a line that has led the run to this one
-abbrev pub next : Rates → Moment → Piece → schedule.Moment → Moment
+-- the state after a line that has led the run to this one
+abbrev pub next : Rates → RunState → Piece → schedule.RunState → RunState
 next rates m piece n = record { run = n; channel = channel_after rates m piece }
 
 -- ---- all lines
 
--- what a run over a channel writes: its lines and its last line; what it came to; and the moment
+-- what a run over a channel writes: its lines and its last line; what it came to; and the state
 -- after its last allowed line
 abbrev pub RunText : Type 0
-RunText = shell.RunText Moment Verdict
+RunText = shell.RunText RunState Verdict
 
 -- at the end of the input
-abbrev pub ending : Moment → shell.Ending Moment Verdict
+abbrev pub ending : RunState → shell.Ending RunState Verdict
 ending m = record { text = done_line m.run; verdict = Finished; after = m }
 
--- the same text or end, where the next moment is made of the one of the run
-abbrev pub outcome_with : (schedule.Moment → Moment) → shell.Outcome schedule.Moment Verdict
-    → shell.Outcome Moment Verdict
+-- the same text or end, where the next state is made of the one of the run
+abbrev pub outcome_with : (schedule.RunState → RunState) → shell.Outcome schedule.RunState Verdict
+    → shell.Outcome RunState Verdict
 outcome_with next_of (shell.On text n) = shell.On text (next_of n)
 outcome_with next_of (shell.Ended text last v) = shell.Ended text last v
 
 -- how a line that comes to this goes on, or ends the run: as in a schedule
-abbrev pub outcome_in_run : Rates → Moment → Piece → LineOutcome → shell.Outcome Moment Verdict
+abbrev pub outcome_in_run : Rates → RunState → Piece → LineOutcome → shell.Outcome RunState Verdict
 outcome_in_run rates m piece k =
     outcome_with (next rates m piece) (text.outcome_in_run m.run k)
 
 -- a run over a channel: nothing stands before the text of its first line
-abbrev pub channel_run : Rates → shell.Story Moment Verdict
+abbrev pub channel_run : Rates → shell.Fold RunState Verdict
 channel_run rates = record {
   head = λ m. [];
   outcome = λ m piece. outcome_in_run rates m piece (outcome_of_piece rates m piece);
   ending = ending;
 }
 
--- the run of these lines from a moment on
-abbrev pub text_from : Rates → Moment → List Piece → RunText
+-- the run of these lines from a state on
+abbrev pub text_from : Rates → RunState → List Piece → RunText
 text_from rates m pieces = shell.text_from (channel_run rates) m pieces
 
--- what a run over a channel writes for an input from a moment on, and what it comes to
-abbrev pub text_on : Rates → Moment → List ℕ → RunText
+-- what a run over a channel writes for an input from a state on, and what it comes to
+abbrev pub text_on : Rates → RunState → List ℕ → RunText
 text_on rates m input = shell.text_on (channel_run rates) schedule_limits m input
 
 -- the same from the opening on

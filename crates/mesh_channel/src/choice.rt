@@ -2,11 +2,11 @@
 ghost use Rattle.std.specs.Prelude.{◌≡◌, ◌≤◌, length, ℕ, option_map, IfSome};
 ghost use Rattle.mesh_model.specs.Places.{IsEvent};
 ghost use Rattle.mesh_meaning.specs.Events.{event_of};
-ghost use Rattle.mesh_text.specs.Lines.{event_spelling};
-ghost use Rattle.mesh_text.specs.Ranges.{AreSpellable};
+ghost use Rattle.mesh_text.specs.Lines.{event_command};
+ghost use Rattle.mesh_text.specs.Ranges.{AreArgumentsInRange};
 ghost use Rattle.mesh_channel.specs.Choices as choices;
 ghost use Rattle.mesh_fates.specs.Channels as channels;
-ghost use Rattle.mesh_channel.specs.Moments.{choice_of, IsLeftBehind};
+ghost use Rattle.mesh_channel.specs.RunStates.{choice_of, IsLeftBehind};
 ghost use Rattle.mesh_base.specs.Meshes.{Nodes};
 
 use crate::until::{LAST_TICK, Until};
@@ -32,8 +32,8 @@ fn by_nodes(world: &World) -> Option<Event<'static>>
     ensures value { (c : channels.Channel)
         → choice_of (option_map event_of result) c ≡ choices.by_nodes world.now.world c }
     ensures within { IfSome result (λ e. IsEvent (length world.now.mesh) (event_of e)) }
-    ensures spelled { IfSome result (λ e.
-        AreSpellable (event_spelling world.now.mesh (event_of e)).arguments) }
+    ensures in_range { IfSome result (λ e.
+        AreArgumentsInRange (event_command world.now.mesh (event_of e)).arguments) }
 {
     if let Some((node, dest)) = world.first_send() {
         return Some(Event::Send { node, dest });
@@ -50,8 +50,8 @@ fn due_or(world: &World, channel: &mut Channel) -> Option<Event<'static>>
     ensures left { channel.new.left ≡ channel.old.left }
     ensures tick { channel.new.tick ≡ channel.old.tick }
     ensures within { IfSome result (λ e. IsEvent (length world.now.mesh) (event_of e)) }
-    ensures spelled { IfSome result (λ e.
-        AreSpellable (event_spelling world.now.mesh (event_of e)).arguments) }
+    ensures in_range { IfSome result (λ e.
+        AreArgumentsInRange (event_command world.now.mesh (event_of e)).arguments) }
 {
     if let Some(due) = channel.first_due() {
         if due.tick <= channel.tick() {
@@ -70,8 +70,8 @@ fn in_tick(world: &World, channel: &mut Channel) -> Option<Event<'static>>
     ensures left { IsLeftBehind channel.old (option_map event_of result) channel.new }
     ensures tick { channel.new.tick ≡ channel.old.tick }
     ensures within { IfSome result (λ e. IsEvent (length world.now.mesh) (event_of e)) }
-    ensures spelled { IfSome result (λ e.
-        AreSpellable (event_spelling world.now.mesh (event_of e)).arguments) }
+    ensures in_range { IfSome result (λ e.
+        AreArgumentsInRange (event_command world.now.mesh (event_of e)).arguments) }
 {
     if let Some(event) = channel.next_left() {
         return Some(event);
@@ -91,8 +91,8 @@ fn next_tick(until: &Until, did: u64, channel: &mut Channel) -> Option<Event<'st
     ensures tick { channel.old.tick ≤ LAST_TICK → choices.last_tick until.now ≤ LAST_TICK
         → channel.new.tick ≤ LAST_TICK }
     ensures within { (size : ℕ) → IfSome result (λ e. IsEvent size (event_of e)) }
-    ensures spelled { (mesh : Nodes) → IfSome result (λ e.
-        AreSpellable (event_spelling mesh (event_of e)).arguments) }
+    ensures in_range { (mesh : Nodes) → IfSome result (λ e.
+        AreArgumentsInRange (event_command mesh (event_of e)).arguments) }
 {
     if until.is_enough(did) {
         return None;
@@ -123,8 +123,8 @@ pub fn next_choice(
     ensures tick { channel.old.tick ≤ LAST_TICK → choices.last_tick until.now ≤ LAST_TICK
         → channel.new.tick ≤ LAST_TICK }
     ensures within { IfSome result (λ e. IsEvent (length world.now.mesh) (event_of e)) }
-    ensures spelled { IfSome result (λ e.
-        AreSpellable (event_spelling world.now.mesh (event_of e)).arguments) }
+    ensures in_range { IfSome result (λ e.
+        AreArgumentsInRange (event_command world.now.mesh (event_of e)).arguments) }
 {
     match in_tick(world, channel) {
         Some(event) => Some(event),

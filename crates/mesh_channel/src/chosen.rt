@@ -11,7 +11,7 @@ ghost use Rattle.mesh_run.specs.Runs.{IsEventsRun, IsLineRun};
 ghost use Rattle.mesh_channel.specs.Choices as choices;
 ghost use Rattle.mesh_channel.specs.Chosen.{chosen_from, chosen};
 ghost use Rattle.mesh_channel.specs.Text.{outcome_of_drawn};
-ghost use Rattle.mesh_channel.specs.Moments.{moment_of, moved, choice_of, counted_of, IsLeftBehind};
+ghost use Rattle.mesh_channel.specs.RunStates.{run_state_of, moved, choice_of, counted_of, IsLeftBehind};
 ghost use Rattle.mesh_channel.specs.Room.{most_left, HasFewCopies, CanLead};
 
 use crate::channeled::Channeled;
@@ -72,7 +72,7 @@ fn do_events<O: Sink>(
         at.new.point (O.held out.old) (O.held out.new) (counted_of result) }
     ensures channel { OnOk result (at.new.channel
         ≡ (chosen_from most at.old.rates until.now 0 at.old.point at.old.channel).channel) }
-    ensures only { at.new ≡ moved at.old (moment_of at.new) }
+    ensures only { at.new ≡ moved at.old (run_state_of at.new) }
     ensures lines { OnOk result (at.new.point.lines ≡ at.old.point.lines) }
     ensures steps { OnOk result (at.new.point.steps ≤ max at.old.point.steps MOST_CHOSEN) }
     ensures tick { OnOk result (at.new.channel.tick ≤ LAST_TICK) }
@@ -112,7 +112,7 @@ pub fn do_chosen<O: Sink>(
         at.new.point (O.held out.old) (O.held out.new) result }
     ensures channel { OnOk result (at.new.channel
         ≡ (chosen at.old.rates until.now at.old.point at.old.channel).channel) }
-    ensures only { at.new ≡ moved at.old (moment_of at.new) }
+    ensures only { at.new ≡ moved at.old (run_state_of at.new) }
     ensures led { OnOk result (CanLead at.old 1 at.new) }
     ensures cause { HasStopCause (O.faults out.old) (O.faults out.new) result }
 {

@@ -6,7 +6,7 @@ ghost use Rattle.mesh_model.specs.Worlds as worlds;
 ghost use Rattle.mesh_model.specs.Worlds.{World};
 ghost use Rattle.mesh_meaning.specs.Answers.{outcome_in, IsDoneInMesh};
 ghost use Rattle.mesh_meaning.specs.Events.{event_of, node_of};
-ghost use Rattle.mesh_text.specs.Schedule.{Moment, Does, world_of, outcome_at};
+ghost use Rattle.mesh_text.specs.Schedule.{RunState, Does, world_of, outcome_at};
 ghost use Rattle.mesh_text.specs.Effects.{outcome_lines};
 ghost use Rattle.mesh_script.specs.Seen.{IsPrintable};
 ghost use Rattle.mesh_script.specs.declared.line.Line.{Line};
@@ -16,7 +16,7 @@ ghost use Rattle.mesh_run.specs.Outputs.{says_lines};
 ghost use Rattle.mesh_run.specs.Causes.{HasStopCause};
 ghost use Rattle.mesh_run.specs.Runs.{output_if, line_outcome_at, IsLineOf, IsLineRun};
 ghost use Rattle.mesh_fates.specs.Channels as channels;
-ghost use Rattle.mesh_channel.specs.Moments.{told_of, decided_in_air, HasNumbers, HasAnswer, IsAnswerOf};
+ghost use Rattle.mesh_channel.specs.RunStates.{told_of, decided_in_air, HasNumbers, HasAnswer, IsAnswerOf};
 ghost use Rattle.mesh_channel.specs.Room.{HasFewCopies};
 ghost use Rattle.mesh_base.specs.Members.{member_list};
 
@@ -135,7 +135,7 @@ fn after_cast(
 pub fn after_chosen(channel: &mut Channel, rates: &Rates, done: &Done) -> Result<(), NoMemory>
     requires tick { channel.old.tick ≤ GREATEST_TICK }
     requires answer { HasAnswer done.now }
-    ensures decided { OnOk result ((m n : Moment) (e : worlds.Event) → IsAnswerOf m e n done.now
+    ensures decided { OnOk result ((m n : RunState) (e : worlds.Event) → IsAnswerOf m e n done.now
         → channel.new ≡ channels.after_chosen rates.now (world_of m) (outcome_at m e) channel.old) }
     ensures tick { OnOk result (channel.new.tick ≡ channel.old.tick) }
     ensures few { OnOk result
@@ -152,7 +152,7 @@ pub fn after_chosen(channel: &mut Channel, rates: &Rates, done: &Done) -> Result
 pub fn after_given(channel: &mut Channel, rates: &Rates, done: &Done) -> Result<(), NoMemory>
     requires tick { channel.old.tick ≤ GREATEST_TICK }
     requires answer { HasAnswer done.now }
-    ensures decided { OnOk result ((m n : Moment) (e : worlds.Event) → IsAnswerOf m e n done.now
+    ensures decided { OnOk result ((m n : RunState) (e : worlds.Event) → IsAnswerOf m e n done.now
         → channel.new ≡ channels.after_given rates.now (world_of m) (outcome_at m e) channel.old) }
     ensures tick { OnOk result (channel.new.tick ≡ channel.old.tick) }
     ensures few { OnOk result

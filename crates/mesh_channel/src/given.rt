@@ -10,7 +10,7 @@ ghost use Rattle.mesh_run.specs.Causes.{HasStopCause};
 ghost use Rattle.mesh_run.specs.Runs.{IsEventsRun, IsLineOf, IsLineRun};
 ghost use Rattle.mesh_channel.specs.Chosen.{given};
 ghost use Rattle.mesh_channel.specs.Text.{outcome_of_drawn};
-ghost use Rattle.mesh_channel.specs.Moments.{moment_of, moved, counted_of};
+ghost use Rattle.mesh_channel.specs.RunStates.{run_state_of, moved, counted_of};
 ghost use Rattle.mesh_channel.specs.Room.{most_left, most_events, HasFewCopies, CanLead};
 
 use crate::channeled::Channeled;
@@ -42,7 +42,7 @@ fn do_left<O: Sink>(at: &mut Channeled, out: &mut O) -> Result<(), Stop<'static>
         (outcome_of_events at.old.point at.old.channel.left)
         at.new.point (O.held out.old) (O.held out.new) (counted_of result) }
     ensures channel { OnOk result (at.new.channel ≡ record at.old.channel { left = [] }) }
-    ensures only { at.new ≡ moved at.old (moment_of at.new) }
+    ensures only { at.new ≡ moved at.old (run_state_of at.new) }
     ensures lines { OnOk result (at.new.point.lines ≡ at.old.point.lines) }
     ensures steps { OnOk result
         (at.new.point.steps ≡ at.old.point.steps + length at.old.channel.left) }
@@ -78,7 +78,7 @@ pub fn do_given<'a, O: Sink>(
         at.new.point (O.held out.old) (O.held out.new) result }
     ensures channel { OnOk result (at.new.channel ≡ (given at.old.rates (with_world at.old.point)
         (event_of event.entry) at.old.channel).channel) }
-    ensures only { at.new ≡ moved at.old (moment_of at.new) }
+    ensures only { at.new ≡ moved at.old (run_state_of at.new) }
     ensures led { OnOk result (CanLead at.old 1 at.new) }
     ensures cause { HasStopCause (O.faults out.old) (O.faults out.new) result }
 {

@@ -18,7 +18,7 @@ pub fn each_datum_is_accounted_for()
 {}
 
 /// The schedule that a run over a channel chooses, run by itself, has the same lines and comes to
-/// the same moment and last line, where the numbers of its copies are those that lines may have.
+/// the same state and last line, where the numbers of its copies are those that lines may have.
 pub fn the_chosen_schedule_is_replayed()
     ensures { ChosenScheduleIsReplayed }
 {}

@@ -2,7 +2,7 @@
 use Rattle.std.specs.Prelude.{ℕ, ◌+◌, ◌^◌, List, [], Option, Some, None}
 use Rattle.mesh_io.specs.NextLines.{text_limits}
 use Rattle.mesh_shell.specs.Pieces.{Piece, Whole, Long, Beyond}
-use Rattle.mesh_shell.specs.Story.{Outcome, On, Ended, Story, RunText, text_on}
+use Rattle.mesh_shell.specs.Fold.{Outcome, On, Ended, Fold, RunText, text_on}
 use Rattle.mesh_tables.specs.Printed.{ShownTables, Reading, nothing_read, closed_up, after_line}
 use Rattle.mesh_check.specs.declared.reading.ReadVerdict.{ReadVerdict}
 use Rattle.mesh_check.specs.declared.reading.ReadVerdict.TheVariants.{Read, BadLine}
@@ -22,7 +22,7 @@ outcome_of_piece r Long = Ended [] [] (BadLine (r.lines + 1))
 outcome_of_piece r Beyond = Ended [] [] (BadLine (r.lines + 1))
 
 -- the lines are read, and nothing is written of them; at the end the block that is open closes
-abbrev pub reading : Story Reading ReadVerdict
+abbrev pub reading : Fold Reading ReadVerdict
 reading = record {
   head = λ r. [];
   outcome = outcome_of_piece;

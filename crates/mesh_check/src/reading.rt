@@ -7,7 +7,7 @@ ghost use Rattle.mesh_shell.specs.Outputs.{IsOutputFrom};
 ghost use Rattle.mesh_shell.specs.Causes.{HasFaultCause};
 ghost use Rattle.mesh_check.specs.Says.{most_lines, reading, reading_of};
 
-use mesh_io::{Limits, Sink, Source, SureSink, TEXT_ROOM};
+use mesh_io::{Limits, Sink, Source, SureSink, TEXT_CAPACITY};
 use mesh_shell::{Fault, Limit, Script, run};
 use mesh_tables::{PrintedTables, ReadError};
 use std::alloc::Global;
@@ -43,7 +43,7 @@ impl Script for Checking {
 
     type Verdict = ReadVerdict;
 
-    ghost story = { reading };
+    ghost fold = { reading };
 
     ghost leads = { λ before size after. after.lines ≤ before.lines + size };
 
@@ -105,5 +105,6 @@ pub fn read_tables<I: Source>(
     ensures sure { ¬ IsErrOf result Fault.WriteFault }
 {
     let mut nowhere = SureSink::new();
-    run::<Checking, I, SureSink, TEXT_ROOM>(alloc, checking, Limits::of_text(), input, &mut nowhere)
+    let limits = Limits::of_text();
+    run::<Checking, I, SureSink, TEXT_CAPACITY>(alloc, checking, limits, input, &mut nowhere)
 }

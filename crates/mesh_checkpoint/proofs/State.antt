@@ -8,7 +8,7 @@ use Rattle.std.proofs.lemmas.Bool.{cases_lt, ltb-false, lt-ltb, le-leb, le-ltb, 
 use Rattle.std.proofs.lemmas.Option.{none-some}
 use Rattle.mesh_checkpoint.specs.declared.limits.TheConstants.{LONGEST_BODY}
 use Rattle.mesh_checkpoint.specs.declared.body.Head.{Head}
-use Rattle.mesh_checkpoint.specs.declared.surveying.SurveyError.TheVariants as errors
+use Rattle.mesh_checkpoint.specs.declared.validating.ValidateError.TheVariants as errors
 use Rattle.mesh_checkpoint.specs.Formats.{only_if, is_from, number_at, number}
 use Rattle.mesh_checkpoint.specs.Checkpoint.{Body, body}
 use Rattle.mesh_checkpoint.specs.Counts.{data_in, IsBalanced}
@@ -151,7 +151,7 @@ one_refusal b errors.Sums errors.Length p q = absurd (q.1 (length_of b p.0 p.1))
 one_refusal b errors.Sums errors.Spelling p q = absurd (q.2 p.0 p.1)
 one_refusal b errors.Sums errors.Sums p q = refl
 
--- ---- of a moment
+-- ---- of a state
 
 pub one_state : OneState
 one_state b c m is it = one_checkpoint b c (body_of m) is it

@@ -203,7 +203,7 @@ node nodes = as_form
     (seq positive32 λ _. seq (routes nodes) λ _. seq (asked_format nodes) λ _.
     seq (store nodes) λ _. inbox nodes)
 
--- ---- the air
+-- ---- the radio
 
 -- the second node of a pair is above the first
 abbrev pub link : ℕ → Format Link

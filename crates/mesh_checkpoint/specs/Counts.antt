@@ -7,7 +7,7 @@ use Rattle.mesh_base.specs.declared.events.Flying.{Flying}
 use Rattle.aodv_wire.specs.declared.error.WireError.{WireError}
 use Rattle.aodv_wire.specs.declared.message.Message.{Message}
 use Rattle.aodv_wire.specs.declared.message.Message.TheVariants.{Parcel}
-use Rattle.aodv_wire.specs.Spells.{refusal, message_in_fields}
+use Rattle.aodv_wire.specs.Encodes.{refusal, message_in_fields}
 use Rattle.mesh_checkpoint.specs.Formats.{one_if}
 use Rattle.mesh_checkpoint.specs.Checkpoint.{Waits, Node, World, Body}
 
@@ -16,9 +16,9 @@ abbrev pub is_parcel : Option WireError → Message → Bool
 is_parcel None (Parcel datum) = true
 is_parcel refused others = false
 
--- the bytes spell a data packet. Other bytes may begin as one does
-unfoldable pub spells_datum : List ℕ → Bool
-spells_datum bytes = is_parcel (refusal bytes) (message_in_fields bytes)
+-- the bytes encode a data packet. Other bytes may begin as one does
+unfoldable pub encodes_datum : List ℕ → Bool
+encodes_datum bytes = is_parcel (refusal bytes) (message_in_fields bytes)
 
 -- what waits for a destination
 abbrev pub data_waiting : Waits → ℕ
@@ -27,15 +27,15 @@ data_waiting w = length w.bodies
 -- 1 where the item is a datum or a datum's packet
 abbrev pub data_in_item : Item → ℕ
 data_in_item (New dest body) = 1
-data_in_item (Heard from bytes) = one_if (spells_datum bytes)
+data_in_item (Heard from bytes) = one_if (encodes_datum bytes)
 
 -- the same of a sender and a packet
 abbrev pub data_heard : ℕ × List ℕ → ℕ
-data_heard p = one_if (spells_datum p.1)
+data_heard p = one_if (encodes_datum p.1)
 
 -- 1 where the copy is a datum's packet
 abbrev pub data_in_copy : Flying → ℕ
-data_in_copy c = one_if (spells_datum c.bytes)
+data_in_copy c = one_if (encodes_datum c.bytes)
 
 -- those in the store and in the inbox
 abbrev pub data_at : Node → ℕ

@@ -12,8 +12,8 @@ o >>= f = option_and_then f o
 abbrev pub only_if : {A : Type 0} → Bool → A → Option A
 only_if b x = if b then Some x else None
 
--- a format of values: the bytes of a value; the value at the front of bytes, with the bytes behind
--- it; and which values have bytes
+-- a format of values: the bytes of a value; the value at the start of the bytes, with the bytes
+-- behind it; and which values have bytes
 pub record Format (A : Type 0) : Type 0 where
   pub put : A → List ℕ
   pub get : List ℕ → Option (A × List ℕ)

@@ -1,10 +1,10 @@
 -- What is proved of these definitions.
 use Rattle.std.specs.Prelude.{◌≡◌, ◌⊎◌, ℕ, ◌<◌, ◌≤◌, ◌^◌, true, List, [], Some, get_or}
 use Rattle.mesh_checkpoint.specs.declared.limits.TheConstants.{LONGEST_BODY}
-use Rattle.mesh_checkpoint.specs.declared.surveying.SurveyError.{SurveyError}
+use Rattle.mesh_checkpoint.specs.declared.validating.ValidateError.{ValidateError}
 use Rattle.mesh_checkpoint.specs.Checkpoint.{Body, body}
 use Rattle.mesh_checkpoint.specs.Counts.{IsBalanced}
-use Rattle.mesh_text.specs.Schedule.{Moment}
+use Rattle.mesh_text.specs.Schedule.{RunState}
 use Rattle.mesh_checkpoint.specs.Points.{body_of, IsState, IsTooLong}
 use Rattle.mesh_checkpoint.specs.State.{body_length, checkpoint_of, IsCheckpoint, IsRefused}
 
@@ -37,20 +37,20 @@ OneBody = (b : List ℕ) (x y : Body) → IsCheckpoint b x → IsCheckpoint b y 
 -- a checkpoint whose sums are balanced isn't refused
 abbrev pub BalancedIsTaken : Type 0
 BalancedIsTaken =
-    (b : List ℕ) (x : Body) (e : SurveyError) → IsCheckpoint b x → IsBalanced x
+    (b : List ℕ) (x : Body) (e : ValidateError) → IsCheckpoint b x → IsBalanced x
     → ¬ (IsRefused b e)
 
 -- bytes are refused for one reason
 abbrev pub OneRefusal : Type 0
 OneRefusal =
-    (b : List ℕ) (e f : SurveyError) → IsRefused b e → IsRefused b f → e ≡ f
+    (b : List ℕ) (e f : ValidateError) → IsRefused b e → IsRefused b f → e ≡ f
 
--- a moment has at most one checkpoint, and one where its numbers are in the table's ranges, unless
+-- a state has at most one checkpoint, and one where its numbers are in the table's ranges, unless
 -- its body is too long
 abbrev pub OneState : Type 0
-OneState = (b c : List ℕ) (m : Moment) → IsState b m → IsState c m → b ≡ c
+OneState = (b c : List ℕ) (m : RunState) → IsState b m → IsState c m → b ≡ c
 
 abbrev pub FittingIsState : Type 0
 FittingIsState =
-    (m : Moment) → body.fits (body_of m) ≡ true
+    (m : RunState) → body.fits (body_of m) ≡ true
     → IsTooLong m ⊎ IsState (checkpoint_of (body_of m)) m

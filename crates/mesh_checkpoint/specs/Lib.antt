@@ -7,7 +7,7 @@ pub mod Checkpoint
 pub mod Counts
 -- State: a checkpoint, and why bytes are none.
 pub mod State
--- Points: the body of a moment of a run.
+-- Points: the body of a state of a run.
 pub mod Points
 -- Laws: what is proved of these.
 pub mod Laws

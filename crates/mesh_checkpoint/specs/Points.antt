@@ -1,4 +1,4 @@
--- The body of a moment of a run: its maps and sets as lists, its messages as packets.
+-- The body of a state of a run: its maps and sets as lists, its messages as packets.
 use Rattle.std.specs.Prelude.{◌<◌, ℕ, List, [], ◌∷◌, map, option_map}
 use Rattle.std.specs.FinMap as maps
 use Rattle.std.specs.FinSet as sets
@@ -14,13 +14,13 @@ use Rattle.aodv_model.specs.Pairs.{Pairs, pairs_in}
 use Rattle.aodv_model.specs.Cores.{Item, New, Heard, Store, Waiting}
 use Rattle.mesh_model.specs.Worlds as model
 use Rattle.mesh_meaning.specs.Packets.{packet_of}
-use Rattle.mesh_text.specs.Schedule.{Moment}
+use Rattle.mesh_text.specs.Schedule.{RunState}
 use Rattle.mesh_checkpoint.specs.declared.limits.TheConstants.{LONGEST_BODY}
 use Rattle.mesh_checkpoint.specs.declared.body.Head.{Head}
 use Rattle.mesh_checkpoint.specs.Checkpoint.{Route, Waits, Node, Link, World, Body}
 use Rattle.mesh_checkpoint.specs.State.{body_length, IsCheckpoint}
 
-abbrev pub head_of : Moment → Head
+abbrev pub head_of : RunState → Head
 head_of m = record {
   variant = m.variant;
   lines = m.lines;
@@ -78,7 +78,7 @@ node_of mesh n = record {
   inbox = map (item_of mesh) n.queue;
 }
 
--- ---- the air
+-- ---- the radio
 
 -- the links that ever stood, and whether each stands
 abbrev pub links_of : (ever links : Pairs) → List Link
@@ -101,18 +101,18 @@ world_after steps mesh w = record {
   copies = map (copy_of mesh) w.flying;
 }
 
-abbrev pub body_of : Moment → Body
+abbrev pub body_of : RunState → Body
 body_of m = record {
   head = head_of m;
   mesh = m.mesh;
   world = option_map (world_after m.steps m.mesh) m.world;
 }
 
--- the bytes are the checkpoint of the moment. A moment has at most one, and exactly one where its
+-- the bytes are the checkpoint of the state. A state has at most one, and exactly one where its
 -- numbers are in the table's ranges and its body isn't too long
-abbrev pub IsState : List ℕ → Moment → Type 0
+abbrev pub IsState : List ℕ → RunState → Type 0
 IsState b m = IsCheckpoint b (body_of m)
 
--- the moment's body is longer than that of any checkpoint
-abbrev pub IsTooLong : Moment → Type 0
+-- the state's body is longer than that of any checkpoint
+abbrev pub IsTooLong : RunState → Type 0
 IsTooLong m = LONGEST_BODY < body_length (body_of m)

@@ -11,7 +11,7 @@ abbrev pub Gives : {X Y : Type 0} → (X → Y) → Option X → Option Y → Ty
 Gives view (Some x) read = read ≡ Some (view x)
 Gives view None read = read ≡ None
 
--- a value stands at the front of the bytes, with so many data in it, and these bytes behind it. It
+-- a value stands at the start of the bytes, with so many data in it, and these bytes behind it. It
 -- has no more data than bytes
 pub record IsPassed {A : Type 0} (format : Format A) (amount : A → ℕ) (bytes : List ℕ) (n : ℕ)
     (rest : List ℕ) : Type 0 where
@@ -41,7 +41,7 @@ abbrev pub after : Option ℕ → ℕ
 after None = 0
 after (Some last) = last + 1
 
--- a body stands at the front of the bytes, with this head and so many data
+-- a body stands at the start of the bytes, with this head and so many data
 pub record IsBodyPassed (bytes : List ℕ) (head : Head) (n : ℕ) (rest : List ℕ) : Type 0 where
   pub value : Body
   pub read : body.get bytes ≡ Some (value, rest)

@@ -2,8 +2,8 @@
 use Rattle.std.specs.Prelude.{◌≡◌, ◌≢◌, ℕ, ◌+◌, ◌≤◌, true, List, [], ◌∷◌, ◌++◌, length, take, drop}
 use Rattle.std.specs.Int.{w32, to_be_bytes}
 use Rattle.mesh_checkpoint.specs.declared.limits.TheConstants.{LONGEST_BODY}
-use Rattle.mesh_checkpoint.specs.declared.surveying.SurveyError.{SurveyError}
-use Rattle.mesh_checkpoint.specs.declared.surveying.SurveyError.TheVariants as errors
+use Rattle.mesh_checkpoint.specs.declared.validating.ValidateError.{ValidateError}
+use Rattle.mesh_checkpoint.specs.declared.validating.ValidateError.TheVariants as errors
 use Rattle.mesh_checkpoint.specs.Formats.{number_of}
 use Rattle.mesh_checkpoint.specs.Checkpoint.{Body, body}
 use Rattle.mesh_checkpoint.specs.Counts.{data_in, IsBalanced}
@@ -37,7 +37,7 @@ abbrev pub HasLength : List ℕ → Type 0
 HasLength b = (stated_size b ≤ LONGEST_BODY) × (length b ≡ 8 + stated_size b)
 
 -- the first refusal that applies
-abbrev pub IsRefused : List ℕ → SurveyError → Type 0
+abbrev pub IsRefused : List ℕ → ValidateError → Type 0
 IsRefused b errors.NotState = take 4 b ≢ magic
 IsRefused b errors.Length = (take 4 b ≡ magic) × ¬ (HasLength b)
 IsRefused b errors.Spelling =
@@ -45,7 +45,7 @@ IsRefused b errors.Spelling =
 IsRefused b errors.Sums = (x : Body) × IsCheckpoint b x × ¬ (IsBalanced x)
 
 -- the bytes are a checkpoint whose sums are balanced, and it has so many data, no more than bytes
-pub record IsSurveyed (b : List ℕ) (n : ℕ) : Type 0 where
+pub record IsValidated (b : List ℕ) (n : ℕ) : Type 0 where
   pub found : Body
   pub checkpoint : IsCheckpoint b found
   pub balanced : IsBalanced found

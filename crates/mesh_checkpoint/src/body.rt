@@ -44,7 +44,7 @@ fn read_variant(bytes: &[u8]) -> Option<(Variant, &[u8])>
     Some((variant, rest))
 }
 
-/// The head at the front of bytes, and the bytes behind it.
+/// The head at the start of the bytes, and the bytes behind it.
 pub fn read_head(bytes: &[u8]) -> Option<(Head, &[u8])>
     ensures value { Gives (λ x. (x.0, x.1.now)) result (model.head.get bytes.now) }
     ensures shorter { IfSome result (λ x. length x.1.now < length bytes.now) }

@@ -36,12 +36,12 @@ pub fn one_refusal()
     ensures { OneRefusal }
 {}
 
-/// A moment has at most one checkpoint.
+/// A state has at most one checkpoint.
 pub fn one_state()
     ensures { OneState }
 {}
 
-/// A moment whose numbers are in the table's ranges has a checkpoint, unless its body is too long.
+/// A state whose numbers are in the table's ranges has a checkpoint, unless its body is too long.
 pub fn fitting_is_state()
     ensures { FittingIsState }
 {}

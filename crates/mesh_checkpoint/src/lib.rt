@@ -7,7 +7,7 @@ mod limits;
 pub mod numbers;
 mod part;
 mod parts;
-mod surveying;
+mod validating;
 
 pub use body::{Head, read_head};
 pub use laws::{
@@ -15,4 +15,4 @@ pub use laws::{
     one_state, read_is_written, written_is_read,
 };
 pub use limits::{GREATEST_NEXT_ID, LONGEST_BODY, LONGEST_HEARD, MOST_STEPS, SUMS_END};
-pub use surveying::{SurveyError, survey};
+pub use validating::{ValidateError, validate};

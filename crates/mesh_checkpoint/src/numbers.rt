@@ -1,4 +1,4 @@
-//! Numbers and texts at the front of bytes. Each reader answers what it has read and the bytes
+//! Numbers and texts at the start of the bytes. Each reader answers what it has read and the bytes
 //! behind it, or None where the bytes don't begin so.
 ghost use Rattle.std.specs.Prelude.{◌<◌, ◌≤◌, length, IfSome};
 ghost use Rattle.std.specs.Int.{w16, w32, w64};

@@ -9,7 +9,7 @@ pub(crate) trait Part {
     /// What such a part is.
     ghost Value: { Type 0 };
 
-    /// How it is spelled.
+    /// How it is encoded.
     ghost format: { Self → Format Value };
 
     /// How many data are in it.
@@ -27,7 +27,7 @@ pub(crate) trait KeyedPart {
     /// What such a part is.
     ghost Value: { Type 0 };
 
-    /// How it is spelled.
+    /// How it is encoded.
     ghost format: { Self → Format Value };
 
     /// Its key.

@@ -1,4 +1,4 @@
-//! The parts of a node and of the air, each as it is passed over.
+//! The parts of a node and of the radio, each as it is passed over.
 ghost use Rattle.std.specs.Prelude.{◌≡◌, ◌≤◌, ℕ, List, option_map};
 ghost use Rattle.mesh_base.specs.declared.events.Item as declared_item;
 ghost use Rattle.mesh_base.specs.declared.events.Flying as declared_flying;
@@ -140,10 +140,10 @@ impl KeyedPart for Waits {
     }
 }
 
-// How many data a packet is: 1 where its bytes spell a datum's.
-#[tactic(auto, unfolding(crate::specs::Counts::spells_datum))]
+// How many data a packet is: 1 where its bytes encode a datum's.
+#[tactic(auto, unfolding(crate::specs::Counts::encodes_datum))]
 fn data_of(packet: &[u8]) -> u64
-    ensures value { result ≡ one_if (counts.spells_datum packet.now) }
+    ensures value { result ≡ one_if (counts.encodes_datum packet.now) }
     ensures few { result ≤ 1 }
 {
     match read(packet) {

@@ -2,7 +2,7 @@
 use Rattle.std.proofs.Common.{◌≡◌, ◌≢◌, ℕ, Bool, false, List, Option, Some, None, IfSome, refl, sym, subst, ◌∙◌, inl, inr}
 use Rattle.mesh_base.specs.declared.events.Variant.{Variant}
 use Rattle.mesh_io.specs.Cause.{Rose}
-use Rattle.mesh_text.specs.Schedule.{Moment, opening}
+use Rattle.mesh_text.specs.Schedule.{RunState, opening}
 use Rattle.mesh_text.specs.Text.{RunText, text_on, text_of_input}
 use Rattle.mesh_text.specs.declared.verdict.Verdict.TheVariants.{Finished}
 use Rattle.mesh_text.proofs.NamedRuns.{each_datum_is_named}
@@ -67,7 +67,7 @@ run_completes say w a b status.WriteFault read write t finished = absurd (write 
 run_completes say w a b status.NoMemory read write t finished = inr refl
 run_completes say w a b status.Usage read write t finished = absurd t
 
-from_completes : (say : Say) (m : Moment) (bytes : List ℕ) (new a b : Option (List ℕ)) (s : Status) → (s ≡ status.ReadFault → ⊥) → (s ≡ status.WriteFault → ⊥) → IsOutputFrom say m bytes new a b s → (text_on m bytes).verdict ≡ Finished
+from_completes : (say : Say) (m : RunState) (bytes : List ℕ) (new a b : Option (List ℕ)) (s : Status) → (s ≡ status.ReadFault → ⊥) → (s ≡ status.WriteFault → ⊥) → IsOutputFrom say m bytes new a b s → (text_on m bytes).verdict ≡ Finished
     → IsDoneOrShort s
 from_completes say m bytes new a b status.Done read write t = run_completes say (text_on m bytes) a b status.Done read write t
 from_completes say m bytes new a b (status.BadLine n) read write t = run_completes say (text_on m bytes) a b (status.BadLine n) read write t

@@ -79,7 +79,7 @@ pub fn mesh<I: Source, O: Sink>(
     // so, after any number of its events, does a destination have a loop; in each of them every
     // datum is accounted for; and the run's text names each that was delivered or dropped. All this
     // is said where the source tells its bytes; where it doesn't, each world of the run is safe all
-    // the same, as `do_input` says of the moment that it leaves. `make` never runs out of memory.
+    // the same, as `do_input` says of the state that it leaves. `make` never runs out of memory.
     ensures text_of_a_loop_free_run { IfSome (command_of (map (λ w. w.now) words.now)) (λ command.
         IsCommandRun command (I.left input.old) (I.left input.new)
         (O.held out.old) (O.held out.new) result) }

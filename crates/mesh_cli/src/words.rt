@@ -29,7 +29,7 @@ pub enum Command {
     Trial { variant: Variant, plan: Plan },
 }
 
-// The number that a word spells, where it is from `least` to `most`.
+// The number that a word denotes, where it is from `least` to `most`.
 #[tactic(auto, unfolding(crate::specs::Words::number_in))]
 fn number_in(word: &str, least: u64, most: u64) -> Option<u64>
     ensures value { result ≡ number_in least most word.now }

@@ -3,7 +3,7 @@ use Rattle.std.specs.Prelude.{ℕ, zero, suc, ◌+◌, Bool, true, false, if◌t
 use Rattle.rand_pcg.specs.Lcg.{Lcg}
 use Rattle.mesh_make.specs.Words.{of_seed, word, after}
 use Rattle.aodv_model.specs.Handlers.{Cast, Nothing, One, Many, All, Effect}
-use Rattle.mesh_model.specs.Worlds.{World, Event, Lose, Double, Happening, Taken, Sent, CopyDoubled, Outcome, Next}
+use Rattle.mesh_model.specs.Worlds.{World, Event, Lose, Double, WorldEffect, Taken, Sent, CopyDoubled, Outcome, Next}
 use Rattle.mesh_fates.specs.declared.rates.Rates.{Rates}
 use Rattle.mesh_fates.specs.declared.fate.Lot.{Lot}
 use Rattle.mesh_fates.specs.declared.fate.Fate.{Fate}
@@ -80,16 +80,16 @@ after_cast rates id effect count c =
 
 -- ---- after an event in a world
 
-abbrev pub after_happening : Rates → World → Happening → Channel → Channel
-after_happening rates w (Taken took effect copies) c =
+abbrev pub after_world_effect : Rates → World → WorldEffect → Channel → Channel
+after_world_effect rates w (Taken took effect copies) c =
     after_cast rates w.next_copy effect (length copies) c
-after_happening rates w (Sent effect copies) c =
+after_world_effect rates w (Sent effect copies) c =
     after_cast rates w.next_copy effect (length copies) c
-after_happening rates w others c = c
+after_world_effect rates w others c = c
 
 -- after an event that the channel has chosen: a double that it has made is decided already
 abbrev pub after_chosen : Rates → World → Outcome → Channel → Channel
-after_chosen rates w (Next w' happening) c = after_happening rates w happening c
+after_chosen rates w (Next w' world_effect) c = after_world_effect rates w world_effect c
 after_chosen rates w others c = c
 
 -- a double that the input has made draws its delay alone, by one word, and isn't lost

@@ -1,3 +1,3 @@
 pub mod Canonical
 pub mod Readings
-pub mod Spellings
+pub mod CommandLines

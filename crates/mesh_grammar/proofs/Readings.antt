@@ -16,7 +16,7 @@ use Rattle.mesh_grammar.specs.declared.fault.LineFault.{LineFault}
 use Rattle.mesh_grammar.specs.declared.fault.LineFault.TheVariants.{BadAddress, BadNumber, BadText}
 use Rattle.mesh_grammar.specs.declared.form.Form.{Form}
 use Rattle.mesh_grammar.specs.declared.form.Form.TheVariants as form
-use Rattle.mesh_grammar.specs.Words.{Mention, span_at, next_at, with_argument, address_at, number_at, are_printable, is_text, text_of, text_at, is_blank}
+use Rattle.mesh_grammar.specs.Words.{SpannedAddr, span_at, next_at, with_argument, address_at, number_at, are_printable, is_text, text_of, text_at, is_blank}
 use Rattle.mesh_grammar.specs.Forms.{Arguments, NoArgument, OneAddress, TwoAddresses, OneNumber, NumberedAddress, AddressesAndText, AddressAndNumber, AddressAndText, greatest_first, no_argument, one_address, two_addresses, one_number, address_sn, numbered_address, addresses_and_text, address_and_number, address_and_text, arguments_of, IsText, AreOfForm}
 use Rattle.mesh_grammar.specs.Scripts.{Row, Shape, row_in, shape_with, by_row, by_words, shape_by}
 use Rattle.mesh_grammar.specs.Written.{command_text}
@@ -54,24 +54,24 @@ kept false bytes body h = absurd (let P : ⊥ = cc in P)
 -- ---- the arguments of each form
 
 -- the words after a command are read as these arguments
-record IsGiven (f : Form) (words : List (List ℕ)) (arguments : Arguments Mention) : Type 0 where
+record IsGiven (f : Form) (words : List (List ℕ)) (arguments : Arguments SpannedAddr) : Type 0 where
   form : AreOfForm f arguments
   addresses : HaveAddresses (addresses_of arguments)
   text : (word : List ℕ) → IsTextOf (join_with_byte 32 (word ∷ words)) word (addresses_of arguments)
 
-Given : Form → List (List ℕ) → Result (Arguments Mention) LineFault → Type 0
+Given : Form → List (List ℕ) → Result (Arguments SpannedAddr) LineFault → Type 0
 Given f words (Err fault) = ⊤
 Given f words (Ok arguments) = IsGiven f words arguments
 
 module _ (f : Form) (words : List (List ℕ)) where
-  address_case : (at : ℕ) (word : List ℕ) (next : Mention → Result (Arguments Mention) LineFault)
-      → ((m : Mention) → m.address < 2 ^ 32 → dotted_decimal m.address ≡ word → Given f words (next m)) → Given f words (address_at at word next)
+  address_case : (at : ℕ) (word : List ℕ) (next : SpannedAddr → Result (Arguments SpannedAddr) LineFault)
+      → ((m : SpannedAddr) → m.address < 2 ^ 32 → dotted_decimal m.address ≡ word → Given f words (next m)) → Given f words (address_at at word next)
   unfolding Given
   address_case at word next given =
       with_argument_case (Given f words) (address_of word) (BadAddress (span_at at word)) (λ x. next (record { address = x; span = span_at at word })) tt
       (λ x is. given (record { address = x; span = span_at at word }) (address_fits word x is) (address_is_written word x is))
 
-  number_case : (most at : ℕ) (word : List ℕ) (next : ℕ → Result (Arguments Mention) LineFault) → most < 2 ^ 64
+  number_case : (most at : ℕ) (word : List ℕ) (next : ℕ → Result (Arguments SpannedAddr) LineFault) → most < 2 ^ 64
       → ((n : ℕ) → 1 ≤ n → n ≤ most → decimal n ≡ word → Given f words (next n)) → Given f words (number_at most at word next)
   unfolding Given
   number_case most at word next fits given =
@@ -80,7 +80,7 @@ module _ (f : Form) (words : List (List ℕ)) where
       let range = positive_in_range most word n is in
       given n range.0 range.1 (positive_is_written most word n is (omega (arith, range.1, fits))))
 
-  text_case : (at : ℕ) (bytes : List ℕ) (next : List ℕ → Result (Arguments Mention) LineFault)
+  text_case : (at : ℕ) (bytes : List ℕ) (next : List ℕ → Result (Arguments SpannedAddr) LineFault)
       → (IsText bytes → Given f words (next bytes)) → Given f words (text_at at bytes next)
   unfolding Given
   text_case at bytes next given =
@@ -228,12 +228,12 @@ module _ {C : Type 0} where
       ]
 
   -- a blank line, or one of the table
-  unfoldable pub LineRead : List (Row C) → List ℕ → Result (Option (Shape C Mention)) LineFault → Type 0
+  unfoldable pub LineRead : List (Row C) → List ℕ → Result (Option (Shape C SpannedAddr)) LineFault → Type 0
   LineRead rows line (Err fault) = ⊤
   LineRead rows line (Ok None) = is_blank line ≡ true
   LineRead rows line (Ok (Some s)) = (row : Row C) × IsRead rows line s row
 
-  given_read : (rows : List (Row C)) (row : Row C) (words : List (List ℕ)) (r : Result (Arguments Mention) LineFault)
+  given_read : (rows : List (Row C)) (row : Row C) (words : List (List ℕ)) (r : Result (Arguments SpannedAddr) LineFault)
       → row_in rows row.word ≡ Some row → Given row.form words r
       → LineRead rows (join_with_byte 32 (row.word ∷ words)) (shape_with row.command r)
   unfolding Given LineRead

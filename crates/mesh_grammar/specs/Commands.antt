@@ -7,7 +7,7 @@ use Rattle.mesh_grammar.specs.declared.command.Command.TheVariants.{Node, Link, 
 use Rattle.mesh_grammar.specs.declared.fault.LineFault.{LineFault}
 use Rattle.mesh_grammar.specs.declared.form.Form.{Form}
 use Rattle.mesh_grammar.specs.declared.form.Form.TheVariants.{Bare, Address, Addresses, Number, Numbered, Text}
-use Rattle.mesh_grammar.specs.Words.{Mention}
+use Rattle.mesh_grammar.specs.Words.{SpannedAddr}
 use Rattle.mesh_grammar.specs.Scripts.{Row, Shape, shape_by}
 
 -- the greatest number of a copy, which has 64 bits
@@ -36,5 +36,5 @@ schedule =
     ∷ []
 
 -- what a line of a schedule says by itself
-abbrev pub shape_of : List ℕ → Result (Option (Shape Command Mention)) LineFault
+abbrev pub shape_of : List ℕ → Result (Option (Shape Command SpannedAddr)) LineFault
 shape_of line = shape_by schedule line

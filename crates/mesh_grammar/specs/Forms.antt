@@ -9,10 +9,10 @@ use Rattle.mesh_grammar.specs.declared.fault.LineFault.{LineFault}
 use Rattle.mesh_grammar.specs.declared.fault.LineFault.TheVariants.{Count}
 use Rattle.mesh_grammar.specs.declared.form.Form.{Form}
 use Rattle.mesh_grammar.specs.declared.form.Form.TheVariants as form
-use Rattle.mesh_grammar.specs.Words.{Mention, next_at, address_at, number_at, text_at}
+use Rattle.mesh_grammar.specs.Words.{SpannedAddr, next_at, address_at, number_at, text_at}
 
--- arguments in which an A stands for each address: a mention where a line is read, a node's index
--- once it is allowed
+-- arguments in which an A stands for each address: an address with its span where a line is read,
+-- a node's index once it is allowed
 pub data Arguments (A : Type 0) : Type 0 where
   NoArgument : Arguments A
   OneAddress : (a : A) → Arguments A
@@ -33,11 +33,11 @@ abbrev pub no_argument : {B : Type 0} → List (List ℕ) → B → Result B Lin
 no_argument [] made = Ok made
 no_argument (w ∷ ws) made = Err Count
 
-abbrev pub one_address : {B : Type 0} → ℕ → List (List ℕ) → (Mention → B) → Result B LineFault
+abbrev pub one_address : {B : Type 0} → ℕ → List (List ℕ) → (SpannedAddr → B) → Result B LineFault
 one_address at (a ∷ []) make = address_at at a (λ x. Ok (make x))
 one_address at others make = Err Count
 
-abbrev pub two_addresses : {B : Type 0} → ℕ → List (List ℕ) → (Mention → Mention → B)
+abbrev pub two_addresses : {B : Type 0} → ℕ → List (List ℕ) → (SpannedAddr → SpannedAddr → B)
     → Result B LineFault
 two_addresses at (a ∷ b ∷ []) make =
     address_at at a (λ x. address_at (next_at at a) b (λ y. Ok (make x y)))
@@ -50,7 +50,7 @@ one_number most at others make = Err Count
 
 -- an address and its number. The word between them is `sn`, or the line has the wrong number of
 -- words
-abbrev pub address_sn : {B : Type 0} → ℕ → List ℕ → List ℕ → List ℕ → (Mention → ℕ → B)
+abbrev pub address_sn : {B : Type 0} → ℕ → List ℕ → List ℕ → List ℕ → (SpannedAddr → ℕ → B)
     → Result B LineFault
 address_sn at a sn n make =
     if bytes_eq sn (codes "sn")
@@ -59,7 +59,7 @@ address_sn at a sn n make =
     else Err Count
 
 -- `ADDR`, with the number 1; or `ADDR sn NUM`
-unfoldable pub numbered_address : {B : Type 0} → ℕ → List (List ℕ) → (Mention → ℕ → B)
+unfoldable pub numbered_address : {B : Type 0} → ℕ → List (List ℕ) → (SpannedAddr → ℕ → B)
     → Result B LineFault
 numbered_address at (a ∷ []) make = address_at at a (λ x. Ok (make x 1))
 numbered_address at (a ∷ sn ∷ n ∷ []) make = address_sn at a sn n make
@@ -67,21 +67,21 @@ numbered_address at others make = Err Count
 
 -- two addresses, and a text that is all that follows
 unfoldable pub addresses_and_text : {B : Type 0} → ℕ → List (List ℕ)
-    → (Mention → Mention → List ℕ → B) → Result B LineFault
+    → (SpannedAddr → SpannedAddr → List ℕ → B) → Result B LineFault
 addresses_and_text at (a ∷ b ∷ t ∷ ts) make =
     address_at at a (λ x. address_at (next_at at a) b (λ y.
     text_at (next_at (next_at at a) b) (join_with_byte 32 (t ∷ ts)) (λ text. Ok (make x y text))))
 addresses_and_text at others make = Err Count
 
 -- an address, and a number from 1 to the most that is allowed
-abbrev pub address_and_number : {B : Type 0} → ℕ → ℕ → List (List ℕ) → (Mention → ℕ → B)
+abbrev pub address_and_number : {B : Type 0} → ℕ → ℕ → List (List ℕ) → (SpannedAddr → ℕ → B)
     → Result B LineFault
 address_and_number most at (a ∷ n ∷ []) make =
     address_at at a (λ x. number_at most (next_at at a) n (λ k. Ok (make x k)))
 address_and_number most at others make = Err Count
 
 -- an address, and a text that is all that follows
-unfoldable pub address_and_text : {B : Type 0} → ℕ → List (List ℕ) → (Mention → List ℕ → B)
+unfoldable pub address_and_text : {B : Type 0} → ℕ → List (List ℕ) → (SpannedAddr → List ℕ → B)
     → Result B LineFault
 address_and_text at (a ∷ t ∷ ts) make =
     address_at at a (λ x.
@@ -89,7 +89,7 @@ address_and_text at (a ∷ t ∷ ts) make =
 address_and_text at others make = Err Count
 
 -- the arguments of this form
-abbrev pub arguments_of : Form → ℕ → List (List ℕ) → Result (Arguments Mention) LineFault
+abbrev pub arguments_of : Form → ℕ → List (List ℕ) → Result (Arguments SpannedAddr) LineFault
 arguments_of form.Bare at words = no_argument words NoArgument
 arguments_of form.Address at words = one_address at words OneAddress
 arguments_of form.Addresses at words = two_addresses at words TwoAddresses

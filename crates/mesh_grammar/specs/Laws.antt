@@ -4,7 +4,7 @@ use Rattle.std.specs.List.{AllByRecursion}
 use Rattle.mesh_base.specs.Addresses.{dotted_decimal}
 use Rattle.mesh_grammar.specs.declared.form.Form.{Form}
 use Rattle.mesh_grammar.specs.declared.form.Form.TheVariants as form
-use Rattle.mesh_grammar.specs.Words.{Mention, span_at, next_at, is_blank}
+use Rattle.mesh_grammar.specs.Words.{SpannedAddr, span_at, next_at, is_blank}
 use Rattle.mesh_grammar.specs.Forms.{Arguments, NoArgument, OneAddress, TwoAddresses, OneNumber, NumberedAddress, AddressesAndText, AddressAndNumber, AddressAndText, AreOfForm}
 use Rattle.mesh_grammar.specs.Scripts.{Row, Shape, row_in, shape_by}
 use Rattle.mesh_grammar.specs.Written.{command_text}
@@ -12,24 +12,24 @@ use Rattle.mesh_grammar.specs.Written.{command_text}
 -- ---- what is written is read
 
 -- an address and where it stands
-abbrev pub mention : ℕ → ℕ → Mention
-mention at a = record { address = a; span = span_at at (dotted_decimal a) }
+abbrev pub spanned : ℕ → ℕ → SpannedAddr
+spanned at a = record { address = a; span = span_at at (dotted_decimal a) }
 
 -- where the word after an address stands
 abbrev pub after_address : ℕ → ℕ → ℕ
 after_address at a = next_at at (dotted_decimal a)
 
 -- written arguments, the first at this byte, as they are read
-abbrev pub as_mentions : ℕ → Arguments ℕ → Arguments Mention
-as_mentions at NoArgument = NoArgument
-as_mentions at (OneAddress a) = OneAddress (mention at a)
-as_mentions at (TwoAddresses a b) = TwoAddresses (mention at a) (mention (after_address at a) b)
-as_mentions at (OneNumber n) = OneNumber n
-as_mentions at (NumberedAddress a first) = NumberedAddress (mention at a) first
-as_mentions at (AddressesAndText a b text) =
-    AddressesAndText (mention at a) (mention (after_address at a) b) text
-as_mentions at (AddressAndNumber a n) = AddressAndNumber (mention at a) n
-as_mentions at (AddressAndText a text) = AddressAndText (mention at a) text
+abbrev pub as_spanned : ℕ → Arguments ℕ → Arguments SpannedAddr
+as_spanned at NoArgument = NoArgument
+as_spanned at (OneAddress a) = OneAddress (spanned at a)
+as_spanned at (TwoAddresses a b) = TwoAddresses (spanned at a) (spanned (after_address at a) b)
+as_spanned at (OneNumber n) = OneNumber n
+as_spanned at (NumberedAddress a first) = NumberedAddress (spanned at a) first
+as_spanned at (AddressesAndText a b text) =
+    AddressesAndText (spanned at a) (spanned (after_address at a) b) text
+as_spanned at (AddressAndNumber a n) = AddressAndNumber (spanned at a) n
+as_spanned at (AddressAndText a text) = AddressAndText (spanned at a) text
 
 -- addresses have 32 bits
 abbrev pub HaveAddresses : Arguments ℕ → Type 0
@@ -72,13 +72,13 @@ WrittenLineIsRead C = (rows : List (Row C)) (row : Row C) (arguments : Arguments
     → shape_by rows (command_text row.word arguments)
     ≡ Ok (Some (record {
       command = row.command;
-      arguments = as_mentions (next_at 0 row.word) arguments;
+      arguments = as_spanned (next_at 0 row.word) arguments;
     }))
 
 -- ---- what is read is as it is written
 
--- arguments with each mention's address
-abbrev pub addresses_of : Arguments Mention → Arguments ℕ
+-- arguments with each spanned address
+abbrev pub addresses_of : Arguments SpannedAddr → Arguments ℕ
 addresses_of NoArgument = NoArgument
 addresses_of (OneAddress a) = OneAddress a.address
 addresses_of (TwoAddresses a b) = TwoAddresses a.address b.address
@@ -97,7 +97,7 @@ IsTextOf line word (NumberedAddress a first) =
 IsTextOf line word arguments = line ≡ command_text word arguments
 
 -- a row of the table that the line's first word finds, with what the line says after it
-pub record IsRead {C : Type 0} (rows : List (Row C)) (line : List ℕ) (s : Shape C Mention)
+pub record IsRead {C : Type 0} (rows : List (Row C)) (line : List ℕ) (s : Shape C SpannedAddr)
     (row : Row C) : Type 0 where
   pub found : row_in rows row.word ≡ Some row
   pub command : row.command ≡ s.command
@@ -108,5 +108,5 @@ pub record IsRead {C : Type 0} (rows : List (Row C)) (line : List ℕ) (s : Shap
 -- a line that is read as a command and its arguments has arguments of the command's form, and is
 -- their text
 abbrev pub ReadLineIsWritten : (C : Type 0) → Type 0
-ReadLineIsWritten C = (rows : List (Row C)) (line : List ℕ) (s : Shape C Mention) → AreReadable rows
-    → shape_by rows line ≡ Ok (Some s) → (row : Row C) × IsRead rows line s row
+ReadLineIsWritten C = (rows : List (Row C)) (line : List ℕ) (s : Shape C SpannedAddr)
+    → AreReadable rows → shape_by rows line ≡ Ok (Some s) → (row : Row C) × IsRead rows line s row

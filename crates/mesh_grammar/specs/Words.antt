@@ -10,7 +10,7 @@ use Rattle.mesh_grammar.specs.declared.fault.LineFault.{LineFault}
 use Rattle.mesh_grammar.specs.declared.fault.LineFault.TheVariants.{BadAddress, BadNumber, BadText}
 
 -- an address that a line names, and where it stands in the line
-pub record Mention : Type 0 where
+pub record SpannedAddr : Type 0 where
   pub address : ℕ
   pub span : Span
 
@@ -29,7 +29,7 @@ with_argument None fault next = Err fault
 with_argument (Some x) fault next = next x
 
 -- the word that begins at this byte, as an address
-abbrev pub address_at : {B : Type 0} → ℕ → List ℕ → (Mention → Result B LineFault)
+abbrev pub address_at : {B : Type 0} → ℕ → List ℕ → (SpannedAddr → Result B LineFault)
     → Result B LineFault
 address_at at word next =
     with_argument (address_of word) (BadAddress (span_at at word)) (λ a.

@@ -3,6 +3,6 @@ mod PlaceLines
 mod Changes
 pub mod PlaceSteps
 pub mod PlaceRuns
-pub mod PlaceMoments
+pub mod PlacedRunStates
 pub mod LinkLaws
 mod PlaceWords

@@ -21,30 +21,30 @@ use Rattle.mesh_model.proofs.Acyclic.{no_cycle}
 use Rattle.mesh_model.proofs.Chosen.{OnSome}
 use Rattle.mesh_grammar.specs.declared.fault.LineFault.{LineFault}
 use Rattle.mesh_shell.specs.Pieces.{Piece, Whole, Long, Beyond}
-use Rattle.mesh_shell.specs.Story as shell
+use Rattle.mesh_shell.specs.Fold as shell
 use Rattle.mesh_grammar.specs.Written.{line}
 use Rattle.mesh_grammar.proofs.Readings.{if_case}
 use Rattle.mesh_text.specs.Schedule as schedule
-use Rattle.mesh_text.specs.Schedule.{AcceptedLine, Nothing, NewNode, Does, Chooses, ShowsNode, ShowsRoute, ShowsFlight, line_of, world_of, with_world, next_moment, with_line_read, outcome_at}
+use Rattle.mesh_text.specs.Schedule.{AcceptedLine, Nothing, NewNode, Does, Chooses, ShowsNode, ShowsRoute, ShowsFlight, line_of, world_of, with_world, next_state, with_line_read, outcome_at}
 use Rattle.mesh_text.specs.Lines.{words_of}
 use Rattle.mesh_text.specs.Ranges.{IsInTime}
 use Rattle.mesh_text.specs.Auto as auto
-use Rattle.mesh_text.specs.Runs.{moment_after}
+use Rattle.mesh_text.specs.Runs.{run_state_after}
 use Rattle.mesh_text.specs.Text.{pieces_of_input, LineOutcome, On, Refused, Full, outcome_by_events, outcome_of_auto, outcome_of_line, outcome_of_read}
 use Rattle.mesh_text.specs.Text as text
 use Rattle.mesh_text.proofs.Picks.{each_chosen}
 use Rattle.mesh_text.proofs.InRange.{Allowed, line_allowed}
 use Rattle.mesh_text.proofs.Echoes.{read_line_is_written_as_it_was}
-use Rattle.mesh_text.proofs.Moments.{IsKept, IsKeptCame, opening_kept, not_made}
-use Rattle.mesh_text.proofs.MomentLaws.{world_after_events, mesh_after_events}
+use Rattle.mesh_text.proofs.RunStates.{IsKept, IsKeptCame, opening_kept, not_made}
+use Rattle.mesh_text.proofs.RunStateLaws.{world_after_events, mesh_after_events}
 use Rattle.mesh_grid.specs.declared.place.Place.{Place}
 use Rattle.mesh_grid.specs.declared.place.Places.{Places}
 use Rattle.mesh_grid.specs.declared.line.Placing.{Placing}
 use Rattle.mesh_grid.specs.Places.{apart, squared_distance, no_places, place_of, with_place}
 use Rattle.mesh_grid.specs.Lines.{placing_of}
 use Rattle.mesh_grid.specs.Links.{are_near, is_due, may_come, with_placing}
-use Rattle.mesh_grid.specs.Text.{Moment, opening, has_begun, changes, change_line, outcome_of_placing, other_line, outcome_by, outcome_of_piece, places_by, places_after, next, RunText, goes_on, text_from}
-use Rattle.mesh_grid.specs.Runs.{moment_at}
+use Rattle.mesh_grid.specs.Text.{RunState, opening, has_begun, changes, change_line, outcome_of_placing, other_line, outcome_by, outcome_of_piece, places_by, places_after, next, RunText, goes_on, text_from}
+use Rattle.mesh_grid.specs.Runs.{run_state_at}
 use Rattle.mesh_grid.specs.Laws.{LinksFollowPlaces, LinesAreLoopFree}
 use Rattle.mesh_grid.proofs.PlaceLines.{ComesIn, comes_in, KeepsLinks, no_link_line}
 use Rattle.mesh_grid.proofs.Changes.{pair_apart, linked_turned, linked_with, unchanged, changed, range_is}
@@ -120,31 +120,31 @@ picked_keeps w = by (first_turn w) (first_copy w) (first_send w) (first_ask w)
 -- ---- lines that change no link
 
 -- from m to n the same links stand, of the same nodes
-record Stays (m n : schedule.Moment) : Type 0 where
+record Stays (m n : schedule.RunState) : Type 0 where
   links : (world_of n).links ≡ (world_of m).links
   mesh : n.mesh ≡ m.mesh
 
-StaysRan : schedule.Moment → auto.EventsOutcome → Type 0
+StaysRan : schedule.RunState → auto.EventsOutcome → Type 0
 StaysRan m (auto.Ended text n) = Stays m n
 StaysRan m (auto.Full text n e field) = Unit {0}
 
-stays_more : (m : schedule.Moment) (e : Event) (text : List ℕ) (r : auto.EventsOutcome) → KeepsLinks e → StaysRan (next_moment m e) r → StaysRan m (auto.before text r)
-unfolding StaysRan next_moment
+stays_more : (m : schedule.RunState) (e : Event) (text : List ℕ) (r : auto.EventsOutcome) → KeepsLinks e → StaysRan (next_state m e) r → StaysRan m (auto.before text r)
+unfolding StaysRan next_state
 stays_more m e text (auto.Ended others n) keeps is = record { links = is.links ∙ same_links (world_of m) e keeps; mesh = is.mesh }
 stays_more m e text (auto.Full others n f field) keeps is = tt
 
-stays_done : (m : schedule.Moment) (e : Event) (o : Outcome) (others : schedule.Moment → auto.EventsOutcome) → KeepsLinks e → StaysRan (next_moment m e) (others (next_moment m e)) → StaysRan m (auto.done_then m e o others)
+stays_done : (m : schedule.RunState) (e : Event) (o : Outcome) (others : schedule.RunState → auto.EventsOutcome) → KeepsLinks e → StaysRan (next_state m e) (others (next_state m e)) → StaysRan m (auto.done_then m e o others)
 unfolding StaysRan
-stays_done m e Idle others keeps is = stays_more m e _ (others (next_moment m e)) keeps is
+stays_done m e Idle others keeps is = stays_more m e _ (others (next_state m e)) keeps is
 stays_done m e (worlds.Full x field) others keeps is = tt
-stays_done m e (Next w happening) others keeps is = stays_more m e _ (others (next_moment m e)) keeps is
+stays_done m e (Next w world_effect) others keeps is = stays_more m e _ (others (next_state m e)) keeps is
 
-stays_events : (m : schedule.Moment) (es : List Event) → AllByRecursion KeepsLinks es → StaysRan m (auto.outcome_of_events m es)
+stays_events : (m : schedule.RunState) (es : List Event) → AllByRecursion KeepsLinks es → StaysRan m (auto.outcome_of_events m es)
 unfolding StaysRan auto.outcome_of_events
 stays_events m [] keeps = record { links = refl; mesh = refl }
-stays_events m (e ∷ es) keeps = stays_done m e (outcome_at m e) (λ n. auto.outcome_of_events n es) keeps.0 (stays_events (next_moment m e) es keeps.1)
+stays_events m (e ∷ es) keeps = stays_done m e (outcome_at m e) (λ n. auto.outcome_of_events n es) keeps.0 (stays_events (next_state m e) es keeps.1)
 
-chosen_keep : (most : ℕ) (m : schedule.Moment) → AllByRecursion KeepsLinks (auto.events_chosen most m)
+chosen_keep : (most : ℕ) (m : schedule.RunState) → AllByRecursion KeepsLinks (auto.events_chosen most m)
 chosen_keep most m = each_chosen (λ n. Unit {0}) KeepsLinks (λ n _. picked_keeps (world_of n)) (λ n e keeps _. tt) most m tt
 
 -- a line that names no link
@@ -152,33 +152,33 @@ NoLink : AcceptedLine → Type 0
 NoLink (Does e) = KeepsLinks e
 NoLink others = Unit {0}
 
--- it leads to a moment with the same links of the same nodes; or it adds a node where no world is made
+-- it leads to a state with the same links of the same nodes; or it adds a node where no world is made
 IsNode : AcceptedLine → Type 0
 IsNode (NewNode address first) = Unit {0}
 IsNode others = ⊥
 
-StaysCame : schedule.Moment → AcceptedLine → LineOutcome → Type 0
+StaysCame : schedule.RunState → AcceptedLine → LineOutcome → Type 0
 StaysCame m a (On text n) = Stays m n ⊎ (IsNode a × ((world_of n).links ≡ (world_of m).links))
 StaysCame m a (Refused why) = Unit {0}
 StaysCame m a (Full text n e field) = Unit {0}
 
-stays_by_events : (m : schedule.Moment) (a : AcceptedLine) (r : auto.EventsOutcome) → StaysRan (with_world m) r → StaysCame m a (outcome_by_events r)
+stays_by_events : (m : schedule.RunState) (a : AcceptedLine) (r : auto.EventsOutcome) → StaysRan (with_world m) r → StaysCame m a (outcome_by_events r)
 unfolding StaysCame StaysRan
 stays_by_events m a (auto.Ended text n) is = inl (record { links = is.links; mesh = is.mesh })
 stays_by_events m a (auto.Full text n e field) is = tt
 
-stays_of_auto : (m : schedule.Moment) (a : AcceptedLine) (text : List ℕ) (did : ℕ) (r : auto.EventsOutcome) → StaysRan (with_world m) r → StaysCame m a (outcome_of_auto text did r)
+stays_of_auto : (m : schedule.RunState) (a : AcceptedLine) (text : List ℕ) (did : ℕ) (r : auto.EventsOutcome) → StaysRan (with_world m) r → StaysCame m a (outcome_of_auto text did r)
 unfolding StaysCame StaysRan
 stays_of_auto m a text did (auto.Ended others n) is = inl (record { links = is.links; mesh = is.mesh })
 stays_of_auto m a text did (auto.Full others n e field) is = tt
 
 -- before a world is made no link stands
-fresh_links : (m n : schedule.Moment) → m.world ≡ None → n.world ≡ None → (world_of n).links ≡ (world_of m).links
+fresh_links : (m n : schedule.RunState) → m.world ≡ None → n.world ≡ None → (world_of n).links ≡ (world_of m).links
 unfolding start
 fresh_links m n none too =
     ap (λ o. (unwrap_or o (start n.variant (first_numbers n.mesh))).links) too ∙ sym (ap (λ o. (unwrap_or o (start m.variant (first_numbers m.mesh))).links) none)
 
-line_stays : (m : schedule.Moment) (a : AcceptedLine) → NoLink a → IsInTime (is_some m.world) a → StaysCame m a (outcome_of_line m a)
+line_stays : (m : schedule.RunState) (a : AcceptedLine) → NoLink a → IsInTime (is_some m.world) a → StaysCame m a (outcome_of_line m a)
 unfolding NoLink StaysCame IsNode outcome_of_line
 line_stays m Nothing named early = inl (record { links = refl; mesh = refl })
 line_stays m (NewNode address first) named early =
@@ -193,15 +193,15 @@ line_stays m (ShowsRoute x d) named early = inl (record { links = refl; mesh = r
 line_stays m ShowsFlight named early = inl (record { links = refl; mesh = refl })
 
 -- a line that is not about a place names no link
-other_named : (m : Moment) (bytes : List ℕ) (a : AcceptedLine) → placing_of m.run.mesh bytes ≡ Ok None → other_line m bytes ≡ Ok a → NoLink a
+other_named : (m : RunState) (bytes : List ℕ) (a : AcceptedLine) → placing_of m.run.mesh bytes ≡ Ok None → other_line m bytes ≡ Ok a → NoLink a
 unfolding NoLink words_of
 other_named m bytes (Does e) other is =
     no_link_line m.run.mesh bytes e other (read_line_is_written_as_it_was m.run.mesh (has_begun m) bytes (Does e) is)
 other_named m bytes others other is = tt
 
--- ---- what holds at each moment
+-- ---- what holds in each state
 
-record Linked (reach : ℕ) (m : Moment) : Type 0 where
+record Linked (reach : ℕ) (m : RunState) : Type 0 where
   kept : IsKept m.run
   size : length m.places.at ≡ MOST_NODES
   linked : (a b : ℕ) → are_linked (world_of m.run).links a b ≡ is_due reach m.places a b
@@ -249,7 +249,7 @@ LinkedCame reach places (Full text n e field) = Unit {0}
 
 -- ---- a line of another kind
 
-same_linked : (reach : ℕ) (m : Moment) (n : schedule.Moment) → Linked reach m → Stays m.run n → IsKept n → Linked reach (record m { run = n })
+same_linked : (reach : ℕ) (m : RunState) (n : schedule.RunState) → Linked reach m → Stays m.run n → IsKept n → Linked reach (record m { run = n })
 same_linked reach m n is stays kept = record {
   kept = kept;
   size = is.size;
@@ -258,7 +258,7 @@ same_linked reach m n is stays kept = record {
   early = is.early;
 }
 
-grown_linked : (reach : ℕ) (m : Moment) (n : schedule.Moment) → Linked reach m → m.places.begun ≡ false → (world_of n).links ≡ (world_of m.run).links → IsKept n
+grown_linked : (reach : ℕ) (m : RunState) (n : schedule.RunState) → Linked reach m → m.places.begun ≡ false → (world_of n).links ≡ (world_of m.run).links → IsKept n
     → Linked reach (record m { run = n })
 grown_linked reach m n is fresh links kept = record {
   kept = kept;
@@ -274,14 +274,14 @@ not_begun true s (NewNode address first) node early = absurd (let P : ⊥ = cc i
 not_begun false s (NewNode address first) node early = refl
 not_begun b s others node early = absurd node
 
-came_linked : (reach : ℕ) (m : Moment) (a : AcceptedLine) (c : LineOutcome) → Linked reach m → StaysCame m.run a c → IsKeptCame c → IsInTime (has_begun m) a → LinkedCame reach m.places c
+came_linked : (reach : ℕ) (m : RunState) (a : AcceptedLine) (c : LineOutcome) → Linked reach m → StaysCame m.run a c → IsKeptCame c → IsInTime (has_begun m) a → LinkedCame reach m.places c
 unfolding StaysCame LinkedCame IsKeptCame
 came_linked reach m a (On text n) is (inl stays) kept early = same_linked reach m n is stays kept
 came_linked reach m a (On text n) is (inr node) kept early = grown_linked reach m n is (not_begun m.places.begun (is_some m.run.world) a node.0 early) node.1 kept
 came_linked reach m a (Refused why) is stays kept early = tt
 came_linked reach m a (Full text n e field) is stays kept early = tt
 
-other_linked : (reach : ℕ) (m : Moment) (bytes : List ℕ) (r : Result AcceptedLine LineFault) → Linked reach m → placing_of m.run.mesh bytes ≡ Ok None → other_line m bytes ≡ r
+other_linked : (reach : ℕ) (m : RunState) (bytes : List ℕ) (r : Result AcceptedLine LineFault) → Linked reach m → placing_of m.run.mesh bytes ≡ Ok None → other_line m bytes ≡ r
     → Allowed m.run.mesh (is_some m.run.world) r → Allowed m.run.mesh (has_begun m) r → IsKeptCame (outcome_of_read m.run r) → LinkedCame reach m.places (outcome_of_read m.run r)
 unfolding Allowed IsKeptCame LinkedCame
 other_linked reach m bytes (Ok a) is other reads allowed early kept =
@@ -316,7 +316,7 @@ due_turned reach places a b =
 due_apart : (reach : ℕ) (places : Places) (a b : ℕ) → a ≢ b → is_due reach places a b ≡ are_near reach (place_of places a) (place_of places b)
 due_apart reach places a b other = ap (λ c. not c && are_near reach (place_of places a) (place_of places b)) (ne_eqb a b other)
 
-module _ (reach : ℕ) (m : Moment) (new : Placing) (is : Linked reach m) (inside : new.node < length m.run.mesh) where
+module _ (reach : ℕ) (m : RunState) (new : Placing) (is : Linked reach m) (inside : new.node < length m.run.mesh) where
   abbrev w : World
   w = world_of m.run
 
@@ -374,7 +374,7 @@ module _ (reach : ℕ) (m : Moment) (new : Placing) (is : Linked reach m) (insid
           let high : max a b ≡ max x y = ap (λ p. p.1) same in
           absurd (omega arith)
 
-  moved_linked : (n : schedule.Moment) → IsKept n → (world_of n).links ≡ then.links → n.mesh ≡ m.run.mesh
+  moved_linked : (n : schedule.RunState) → IsKept n → (world_of n).links ≡ then.links → n.mesh ≡ m.run.mesh
       → Linked reach (record { run = n; places = record moved { begun = true } })
   moved_linked n kept links mesh = record {
     kept = kept;
@@ -411,11 +411,11 @@ module _ (reach : ℕ) (m : Moment) (new : Placing) (is : Linked reach m) (insid
   unfolding IsKeptCame LinkedCame
   placing_linked bytes = by (may_come m.places new)
     where
-      by : (b : Bool) → IsKeptCame (cond b (On (line bytes ++ flat_map (change_line m.run.mesh) (changes reach m new)) (with_line_read (moment_after m.run (changes reach m new)))) (On (line bytes ++ line (codes "  idle")) (with_line_read m.run)))
+      by : (b : Bool) → IsKeptCame (cond b (On (line bytes ++ flat_map (change_line m.run.mesh) (changes reach m new)) (with_line_read (run_state_after m.run (changes reach m new)))) (On (line bytes ++ line (codes "  idle")) (with_line_read m.run)))
           → LinkedCame reach (record (cond b moved m.places) { begun = true })
-          (cond b (On (line bytes ++ flat_map (change_line m.run.mesh) (changes reach m new)) (with_line_read (moment_after m.run (changes reach m new)))) (On (line bytes ++ line (codes "  idle")) (with_line_read m.run)))
+          (cond b (On (line bytes ++ flat_map (change_line m.run.mesh) (changes reach m new)) (with_line_read (run_state_after m.run (changes reach m new)))) (On (line bytes ++ line (codes "  idle")) (with_line_read m.run)))
       by true kept =
-          moved_linked (with_line_read (moment_after m.run (changes reach m new))) kept (ap (λ v. v.links) (world_after_events m.run (changes reach m new))) (mesh_after_events m.run (changes reach m new))
+          moved_linked (with_line_read (run_state_after m.run (changes reach m new))) kept (ap (λ v. v.links) (world_after_events m.run (changes reach m new))) (mesh_after_events m.run (changes reach m new))
       by false kept = record {
         kept = kept;
         size = is.size;
@@ -426,7 +426,7 @@ module _ (reach : ℕ) (m : Moment) (new : Placing) (is : Linked reach m) (insid
 
 -- ---- all lines
 
-line_linked : (reach : ℕ) (m : Moment) (bytes : List ℕ) (r : Result (Option Placing) LineFault) → Linked reach m → placing_of m.run.mesh bytes ≡ r → ComesIn (length m.run.mesh) r
+line_linked : (reach : ℕ) (m : RunState) (bytes : List ℕ) (r : Result (Option Placing) LineFault) → Linked reach m → placing_of m.run.mesh bytes ≡ r → ComesIn (length m.run.mesh) r
     → IsKeptCame (outcome_by reach m bytes r) → LinkedCame reach (places_by m.places r) (outcome_by reach m bytes r)
 unfolding ComesIn IsKeptCame LinkedCame
 line_linked reach m bytes (Ok (Some new)) is reads within kept = placing_linked reach m new is within bytes kept
@@ -434,33 +434,33 @@ line_linked reach m bytes (Ok None) is reads within kept =
     other_linked reach m bytes (other_line m bytes) is reads refl (other_allowed m bytes is.kept) (line_allowed m.run.mesh (has_begun m) bytes is.kept.mesh.few) kept
 line_linked reach m bytes (Err f) is reads within kept = tt
 
-piece_linked : (reach : ℕ) (m : Moment) (piece : Piece) → Linked reach m → LinkedCame reach (places_after m piece) (outcome_of_piece reach m piece)
+piece_linked : (reach : ℕ) (m : RunState) (piece : Piece) → Linked reach m → LinkedCame reach (places_after m piece) (outcome_of_piece reach m piece)
 unfolding outcome_of_piece text.outcome_of_piece places_after LinkedCame
 piece_linked reach m (Whole bytes) is =
     line_linked reach m bytes (placing_of m.run.mesh bytes) is refl (comes_in m.run.mesh bytes) (piece_kept reach m (Whole bytes) is.kept)
 piece_linked reach m Long is = tt
 piece_linked reach m Beyond is = tt
 
-goes_linked : (reach : ℕ) (m : Moment) (piece : Piece) (c : LineOutcome) (others : Moment → RunText) → Linked reach m → LinkedCame reach (places_after m piece) c
-    → ((n : Moment) → Linked reach n → Linked reach (others n).after) → Linked reach (goes_on m piece c others).after
+goes_linked : (reach : ℕ) (m : RunState) (piece : Piece) (c : LineOutcome) (others : RunState → RunText) → Linked reach m → LinkedCame reach (places_after m piece) c
+    → ((n : RunState) → Linked reach n → Linked reach (others n).after) → Linked reach (goes_on m piece c others).after
 unfolding LinkedCame
 goes_linked reach m piece (On text n) others is kept rest = rest (next m piece n) kept
 goes_linked reach m piece (Refused why) others is kept rest = is
 goes_linked reach m piece (Full text n e field) others is kept rest = is
 
-run_linked : (reach : ℕ) (m : Moment) (pieces : List Piece) → Linked reach m → Linked reach (text_from reach m pieces).after
+run_linked : (reach : ℕ) (m : RunState) (pieces : List Piece) → Linked reach m → Linked reach (text_from reach m pieces).after
 unfolding shell.text_from
 run_linked reach m [] is = is
 run_linked reach m (piece ∷ pieces) is =
     goes_linked reach m piece (outcome_of_piece reach m piece) (λ n. text_from reach n pieces) is (piece_linked reach m piece is) (λ n then. run_linked reach n pieces then)
 
 pub links_follow_places : LinksFollowPlaces
-unfolding moment_at
+unfolding run_state_at
 links_follow_places reach v input i a b =
     (run_linked reach (opening v) (take i (pieces_of_input input)) (opening_linked reach v)).linked a b
 
 pub lines_are_loop_free : LinesAreLoopFree
-unfolding moment_at
+unfolding run_state_at
 lines_are_loop_free reach v input i d =
     let is = run_linked reach (opening v) (take i (pieces_of_input input)) (opening_linked reach v) in
     no_cycle (world_of (text_from reach (opening v) (take i (pieces_of_input input))).after.run) d is.kept.invariant.loop_safe

@@ -9,7 +9,7 @@ use Rattle.aodv_meaning.proofs.Means.{index_there}
 use Rattle.mesh_model.specs.Worlds.{Event, Link, Cut}
 use Rattle.mesh_grammar.specs.declared.fault.LineFault.{LineFault}
 use Rattle.mesh_grammar.specs.declared.fault.LineFault.TheVariants.{Word, BadAddress, BadNumber, Early, Unknown}
-use Rattle.mesh_grammar.specs.Words.{Mention, span_at, next_at}
+use Rattle.mesh_grammar.specs.Words.{SpannedAddr, span_at, next_at}
 use Rattle.mesh_grammar.specs.Written.{command_text}
 use Rattle.mesh_grammar.proofs.Readings.{with_argument_case, if_case}
 use Rattle.mesh_text.specs.Lines.{event_words}
@@ -25,7 +25,7 @@ ComesIn size (Ok (Some new)) = new.node < size
 ComesIn size (Ok None) = Unit {0}
 ComesIn size (Err f) = Unit {0}
 
-placed : (mesh : Nodes) (first : Bool) (a : Mention) (place : Place) → ComesIn (length mesh) (placing_in mesh first a place)
+placed : (mesh : Nodes) (first : Bool) (a : SpannedAddr) (place : Place) → ComesIn (length mesh) (placing_in mesh first a place)
 unfolding ComesIn
 placed mesh first a place =
     if_case (ComesIn (length mesh)) (eqb (length mesh) 0) (Err Early) _ (λ _. tt) (λ _.

@@ -11,27 +11,27 @@ use Rattle.mesh_model.proofs.Lists.{each_append}
 use Rattle.mesh_model.proofs.Acyclic.{loop_free}
 use Rattle.mesh_grammar.specs.declared.fault.LineFault.{LineFault}
 use Rattle.mesh_shell.specs.Pieces.{Piece, Whole, Long, Beyond}
-use Rattle.mesh_shell.specs.Story as shell
+use Rattle.mesh_shell.specs.Fold as shell
 use Rattle.mesh_grammar.specs.Written.{line}
 use Rattle.mesh_grammar.proofs.Readings.{if_case}
 use Rattle.mesh_text.specs.Schedule as schedule
-use Rattle.mesh_text.specs.Schedule.{AcceptedLine, Nothing, NewNode, Does, Chooses, ShowsNode, ShowsRoute, ShowsFlight, line_of, world_of, next_moment, with_line_read}
+use Rattle.mesh_text.specs.Schedule.{AcceptedLine, Nothing, NewNode, Does, Chooses, ShowsNode, ShowsRoute, ShowsFlight, line_of, world_of, next_state, with_line_read}
 use Rattle.mesh_text.specs.Ranges.{IsInTime}
 use Rattle.mesh_text.specs.Runs as runs
-use Rattle.mesh_text.specs.Runs.{moment_after, events_after, events_read}
+use Rattle.mesh_text.specs.Runs.{run_state_after, events_after, events_read}
 use Rattle.mesh_text.specs.Text.{pieces_of_input, LineOutcome, On, Refused, Full, outcome_of_read}
 use Rattle.mesh_text.specs.Text as text
 use Rattle.mesh_text.proofs.InRange.{Allowed, line_allowed}
-use Rattle.mesh_text.proofs.Moments.{IsKept, UsualList, all_positive, opening_kept, stepped_kept, counted_kept, IsKeptCame, piece_kept as schedule_kept}
+use Rattle.mesh_text.proofs.RunStates.{IsKept, UsualList, all_positive, opening_kept, stepped_kept, counted_kept, IsKeptCame, piece_kept as schedule_kept}
 use Rattle.mesh_text.proofs.RunLaws.{NotFull, Follows, follows, GoesBy, result_goes, read_usual, goes_follows}
-use Rattle.mesh_text.proofs.MomentLaws.{world_after_events, mesh_after_events, count_after_events}
+use Rattle.mesh_text.proofs.RunStateLaws.{world_after_events, mesh_after_events, count_after_events}
 use Rattle.mesh_grid.specs.declared.place.Place.{Place}
 use Rattle.mesh_grid.specs.declared.place.Places.{Places}
 use Rattle.mesh_grid.specs.declared.line.Placing.{Placing}
 use Rattle.mesh_grid.specs.Places.{is_within, place_of}
 use Rattle.mesh_grid.specs.Lines.{placing_of}
 use Rattle.mesh_grid.specs.Links.{change, change_with, change_at, changes_below, may_come}
-use Rattle.mesh_grid.specs.Text.{Moment, opening, has_begun, changes, change_line, outcome_of_placing, other_line, outcome_by, outcome_of_piece, next, RunText, goes_on, text_from, text_of_input}
+use Rattle.mesh_grid.specs.Text.{RunState, opening, has_begun, changes, change_line, outcome_of_placing, other_line, outcome_by, outcome_of_piece, next, RunText, goes_on, text_from, text_of_input}
 use Rattle.mesh_grid.specs.Runs.{events_of_placing, events_by, events_of_piece, events_from, events_of_input, mesh_of_input, world_after}
 use Rattle.mesh_grid.specs.Laws.{WorldsAreOfEvents, RunsWithPlacesAreLoopFree, DataAreAccountedFor, EventsAreOfMesh}
 use Rattle.mesh_grid.proofs.PlaceLines.{ComesIn, comes_in}
@@ -64,56 +64,56 @@ below_usual size reach places near new (suc n) first le =
     each_append (IsEvent size) (changes_below reach places near new n) (change_at reach places near new n)
     (below_usual size reach places near new n first (omega arith)) (at_usual size reach places near new n first (omega arith))
 
--- ---- the moment after events
+-- ---- the state after events
 
-after_kept : (m : schedule.Moment) (es : List Event) → UsualList (length m.mesh) es → IsKept m → IsKept (moment_after m es)
-unfolding moment_after UsualList next_moment
+after_kept : (m : schedule.RunState) (es : List Event) → UsualList (length m.mesh) es → IsKept m → IsKept (run_state_after m es)
+unfolding run_state_after UsualList next_state
 after_kept m [] usual is = is
-after_kept m (e ∷ es) usual is = after_kept (next_moment m e) es usual.1 (stepped_kept m e usual.0 is)
+after_kept m (e ∷ es) usual is = after_kept (next_state m e) es usual.1 (stepped_kept m e usual.0 is)
 
-after_variant : (m : schedule.Moment) (es : List Event) → (moment_after m es).variant ≡ m.variant
-unfolding moment_after next_moment
+after_variant : (m : schedule.RunState) (es : List Event) → (run_state_after m es).variant ≡ m.variant
+unfolding run_state_after next_state
 after_variant m [] = refl
-after_variant m (e ∷ es) = after_variant (next_moment m e) es
+after_variant m (e ∷ es) = after_variant (next_state m e) es
 
-after_made : (m : schedule.Moment) (es : List Event) → is_some m.world ≡ true → is_some (moment_after m es).world ≡ true
-unfolding moment_after next_moment
+after_made : (m : schedule.RunState) (es : List Event) → is_some m.world ≡ true → is_some (run_state_after m es).world ≡ true
+unfolding run_state_after next_state
 after_made m [] made = made
-after_made m (e ∷ es) made = after_made (next_moment m e) es refl
+after_made m (e ∷ es) made = after_made (next_state m e) es refl
 
-events_go : (m : schedule.Moment) (es : List Event) (text : List ℕ) → GoesBy m es (On text (with_line_read (moment_after m es)))
-unfolding GoesBy moment_after next_moment
+events_go : (m : schedule.RunState) (es : List Event) (text : List ℕ) → GoesBy m es (On text (with_line_read (run_state_after m es)))
+unfolding GoesBy run_state_after next_state
 events_go m [] text = inl (record { variant = refl; mesh = λ _. refl; world = refl; none = refl; count = refl })
 events_go m (e ∷ es) text = inr (record {
   variant = after_variant m (e ∷ es);
   mesh = mesh_after_events m (e ∷ es);
-  made = after_made (next_moment m e) es refl;
+  made = after_made (next_state m e) es refl;
   world = world_after_events m (e ∷ es);
   count = count_after_events m (e ∷ es);
 })
 
 -- ---- one line
 
--- what holds of a line: its events are of the mesh, and it leads to the moment after them
-record Leads (m : schedule.Moment) (es : List Event) (c : LineOutcome) : Type 0 where
+-- what holds of a line: its events are of the mesh, and it leads to the state after them
+record Leads (m : schedule.RunState) (es : List Event) (c : LineOutcome) : Type 0 where
   goes : GoesBy m es c
   kept : IsKeptCame c
   usual : UsualList (length m.mesh) es
 
-placing_leads : (reach : ℕ) (m : Moment) (bytes : List ℕ) (new : Placing) → new.node < length m.run.mesh → IsKept m.run
+placing_leads : (reach : ℕ) (m : RunState) (bytes : List ℕ) (new : Placing) → new.node < length m.run.mesh → IsKept m.run
     → Leads m.run (events_of_placing reach m new) (outcome_of_placing reach m bytes new)
-unfolding GoesBy IsKeptCame UsualList moment_after
+unfolding GoesBy IsKeptCame UsualList run_state_after
 placing_leads reach m bytes new within is = by (may_come m.places new)
   where
     usual : UsualList (length m.run.mesh) (changes reach m new)
     usual = below_usual (length m.run.mesh) reach m.places (range (world_of m.run) new.node) new (length m.run.mesh) within (omega arith)
 
     by : (b : Bool) → Leads m.run (cond b (changes reach m new) [])
-        (cond b (On (line bytes ++ flat_map (change_line m.run.mesh) (changes reach m new)) (with_line_read (moment_after m.run (changes reach m new))))
+        (cond b (On (line bytes ++ flat_map (change_line m.run.mesh) (changes reach m new)) (with_line_read (run_state_after m.run (changes reach m new))))
         (On (line bytes ++ line (codes "  idle")) (with_line_read m.run)))
     by true = record {
       goes = events_go m.run (changes reach m new) (line bytes ++ flat_map (change_line m.run.mesh) (changes reach m new));
-      kept = counted_kept (moment_after m.run (changes reach m new)) (after_kept m.run (changes reach m new) usual is);
+      kept = counted_kept (run_state_after m.run (changes reach m new)) (after_kept m.run (changes reach m new) usual is);
       usual = usual;
     }
     by false = record {
@@ -133,10 +133,10 @@ unfolding Allowed
 also_allowed mesh b s (Ok a) allowed = (allowed.0, in_time b s a allowed.1)
 also_allowed mesh b s (Err f) allowed = tt
 
-pub other_allowed : (m : Moment) (bytes : List ℕ) → IsKept m.run → Allowed m.run.mesh (is_some m.run.world) (other_line m bytes)
+pub other_allowed : (m : RunState) (bytes : List ℕ) → IsKept m.run → Allowed m.run.mesh (is_some m.run.world) (other_line m bytes)
 other_allowed m bytes is = also_allowed m.run.mesh m.places.begun (is_some m.run.world) (other_line m bytes) (line_allowed m.run.mesh (has_begun m) bytes is.mesh.few)
 
-other_kept : (reach : ℕ) (m : Moment) (bytes : List ℕ) (r : Result AcceptedLine LineFault) → placing_of m.run.mesh bytes ≡ Ok None → other_line m bytes ≡ r → IsKept m.run
+other_kept : (reach : ℕ) (m : RunState) (bytes : List ℕ) (r : Result AcceptedLine LineFault) → placing_of m.run.mesh bytes ≡ Ok None → other_line m bytes ≡ r → IsKept m.run
     → IsKeptCame (outcome_of_read m.run r)
 unfolding IsKeptCame
 other_kept reach m bytes (Ok a) other reads is =
@@ -144,7 +144,7 @@ other_kept reach m bytes (Ok a) other reads is =
     subst IsKeptCame same (schedule_kept m.run (Whole bytes) is)
 other_kept reach m bytes (Err f) other reads is = tt
 
-line_leads : (reach : ℕ) (m : Moment) (bytes : List ℕ) (r : Result (Option Placing) LineFault) → placing_of m.run.mesh bytes ≡ r → ComesIn (length m.run.mesh) r → IsKept m.run
+line_leads : (reach : ℕ) (m : RunState) (bytes : List ℕ) (r : Result (Option Placing) LineFault) → placing_of m.run.mesh bytes ≡ r → ComesIn (length m.run.mesh) r → IsKept m.run
     → Leads m.run (events_by reach m bytes r) (outcome_by reach m bytes r)
 unfolding ComesIn GoesBy IsKeptCame UsualList
 line_leads reach m bytes (Ok (Some new)) reads within is = placing_leads reach m bytes new within is
@@ -157,13 +157,13 @@ line_leads reach m bytes (Ok None) reads within is =
     }
 line_leads reach m bytes (Err f) reads within is = record { goes = refl; kept = tt; usual = tt }
 
-piece_leads : (reach : ℕ) (m : Moment) (piece : Piece) → IsKept m.run → Leads m.run (events_of_piece reach m piece) (outcome_of_piece reach m piece)
+piece_leads : (reach : ℕ) (m : RunState) (piece : Piece) → IsKept m.run → Leads m.run (events_of_piece reach m piece) (outcome_of_piece reach m piece)
 unfolding outcome_of_piece text.outcome_of_piece events_of_piece GoesBy IsKeptCame UsualList
 piece_leads reach m (Whole bytes) is = line_leads reach m bytes (placing_of m.run.mesh bytes) refl (comes_in m.run.mesh bytes) is
 piece_leads reach m Long is = record { goes = refl; kept = tt; usual = tt }
 piece_leads reach m Beyond is = record { goes = refl; kept = tt; usual = tt }
 
-pub piece_kept : (reach : ℕ) (m : Moment) (piece : Piece) → IsKept m.run → IsKeptCame (outcome_of_piece reach m piece)
+pub piece_kept : (reach : ℕ) (m : RunState) (piece : Piece) → IsKept m.run → IsKeptCame (outcome_of_piece reach m piece)
 piece_kept reach m piece is = (piece_leads reach m piece is).kept
 
 -- ---- whole runs
@@ -172,12 +172,12 @@ piece_kept reach m piece is = (piece_leads reach m piece is).kept
 abbrev pub run_in : RunText → text.RunText
 run_in w = record { lines = w.lines; last = w.last; verdict = w.verdict; after = w.after.run; complete = w.complete }
 
-goes_in : (m : Moment) (piece : Piece) (c : LineOutcome) (others : Moment → RunText) → text.goes_on m.run c (λ n. run_in (others (next m piece n))) ≡ run_in (goes_on m piece c others)
+goes_in : (m : RunState) (piece : Piece) (c : LineOutcome) (others : RunState → RunText) → text.goes_on m.run c (λ n. run_in (others (next m piece n))) ≡ run_in (goes_on m piece c others)
 goes_in m piece (On text n) others = refl
 goes_in m piece (Refused why) others = refl
 goes_in m piece (Full text n e field) others = refl
 
-pub run_follows : (reach : ℕ) (m : Moment) (pieces : List Piece) → IsKept m.run → Follows m.run (events_from reach m pieces) (run_in (text_from reach m pieces))
+pub run_follows : (reach : ℕ) (m : RunState) (pieces : List Piece) → IsKept m.run → Follows m.run (events_from reach m pieces) (run_in (text_from reach m pieces))
 unfolding events_from shell.text_from runs.events_from
 run_follows reach m [] is = let none = follows m.run [] is in record { mesh = λ _. refl; low = omega arith; world = none.world; all = λ _. omega arith; usual = tt }
 run_follows reach m (piece ∷ pieces) is =
@@ -186,14 +186,14 @@ run_follows reach m (piece ∷ pieces) is =
     (goes_follows m.run (events_of_piece reach m piece) (outcome_of_piece reach m piece) (λ n. run_in (text_from reach (next m piece n) pieces)) (λ n. events_from reach (next m piece n) pieces)
     leads.goes leads.kept leads.usual (λ n kept. run_follows reach (next m piece n) pieces kept))
 
-goes_kept : (m : Moment) (piece : Piece) (c : LineOutcome) (others : Moment → RunText) → IsKeptCame c → IsKept m.run
-    → ((n : Moment) → IsKept n.run → IsKept (others n).after.run) → IsKept (goes_on m piece c others).after.run
+goes_kept : (m : RunState) (piece : Piece) (c : LineOutcome) (others : RunState → RunText) → IsKeptCame c → IsKept m.run
+    → ((n : RunState) → IsKept n.run → IsKept (others n).after.run) → IsKept (goes_on m piece c others).after.run
 unfolding IsKeptCame
 goes_kept m piece (On text n) others kept is rest = rest (next m piece n) kept
 goes_kept m piece (Refused why) others kept is rest = is
 goes_kept m piece (Full text n e field) others kept is rest = is
 
-pub run_kept : (reach : ℕ) (m : Moment) (pieces : List Piece) → IsKept m.run → IsKept (text_from reach m pieces).after.run
+pub run_kept : (reach : ℕ) (m : RunState) (pieces : List Piece) → IsKept m.run → IsKept (text_from reach m pieces).after.run
 unfolding shell.text_from
 run_kept reach m [] is = is
 run_kept reach m (piece ∷ pieces) is =

@@ -9,15 +9,15 @@ use Rattle.mesh_grammar.specs.declared.command.Command.{Command}
 use Rattle.mesh_grammar.specs.declared.fault.LineFault.{LineFault}
 use Rattle.mesh_grammar.specs.declared.fault.LineFault.TheVariants.{Late}
 use Rattle.mesh_grammar.specs.declared.fault.BadWhy.TheVariants.{Fault, TooLong, TooMuch}
-use Rattle.mesh_grammar.specs.Words.{Mention}
+use Rattle.mesh_grammar.specs.Words.{SpannedAddr}
 use Rattle.mesh_grammar.specs.Forms.{Arguments, NumberedAddress}
 use Rattle.mesh_grammar.specs.Scripts.{Shape}
 use Rattle.mesh_grammar.specs.Commands.{shape_of}
 use Rattle.mesh_shell.specs.Pieces.{Whole, Long, Beyond}
 use Rattle.mesh_grammar.proofs.Readings.{if_case}
 use Rattle.mesh_text.specs.Schedule as schedule
-use Rattle.mesh_text.specs.Schedule.{AcceptedLine, line_of, accepted_line, accepted_shape, result_and_then, next_moment}
-use Rattle.mesh_text.specs.Runs.{moment_after}
+use Rattle.mesh_text.specs.Schedule.{AcceptedLine, line_of, accepted_line, accepted_shape, result_and_then, next_state}
+use Rattle.mesh_text.specs.Runs.{run_state_after}
 use Rattle.mesh_text.specs.Text.{LineOutcome, On, Refused, Full, outcome_of_read, outcome_of_line}
 use Rattle.mesh_text.specs.Text as text
 use Rattle.mesh_grid.specs.declared.place.Place.{Place}
@@ -26,50 +26,50 @@ use Rattle.mesh_grid.specs.declared.line.Placing.{Placing}
 use Rattle.mesh_grid.specs.Places.{is_within, place_of}
 use Rattle.mesh_grid.specs.Lines.{placing_of}
 use Rattle.mesh_grid.specs.Links.{change, change_with, change_at, changes_below, with_placing}
-use Rattle.mesh_grid.specs.Text.{Moment, has_begun, outcome_of_placing, other_line, outcome_by, outcome_of_piece, places_by, places_after}
+use Rattle.mesh_grid.specs.Text.{RunState, has_begun, outcome_of_placing, other_line, outcome_by, outcome_of_piece, places_by, places_after}
 use Rattle.mesh_grid.specs.Laws.{OtherLineIsAsInSchedule}
 
 -- ---- what a line comes to, by what is read of it
 
-came_read : (reach : ℕ) (m : Moment) (bytes : List ℕ) → outcome_of_piece reach m (Whole bytes) ≡ outcome_by reach m bytes (placing_of m.run.mesh bytes)
+came_read : (reach : ℕ) (m : RunState) (bytes : List ℕ) → outcome_of_piece reach m (Whole bytes) ≡ outcome_by reach m bytes (placing_of m.run.mesh bytes)
 unfolding outcome_of_piece
 came_read reach m bytes = refl
 
-pub came-placing : (reach : ℕ) (m : Moment) (bytes : List ℕ) (new : Placing) → placing_of m.run.mesh bytes ≡ Ok (Some new) → outcome_of_piece reach m (Whole bytes) ≡ outcome_of_placing reach m bytes new
+pub came-placing : (reach : ℕ) (m : RunState) (bytes : List ℕ) (new : Placing) → placing_of m.run.mesh bytes ≡ Ok (Some new) → outcome_of_piece reach m (Whole bytes) ≡ outcome_of_placing reach m bytes new
 came-placing reach m bytes new is = came_read reach m bytes ∙ ap (outcome_by reach m bytes) is
 
-pub came-other : (reach : ℕ) (m : Moment) (bytes : List ℕ) → placing_of m.run.mesh bytes ≡ Ok None → outcome_of_piece reach m (Whole bytes) ≡ outcome_of_read m.run (other_line m bytes)
+pub came-other : (reach : ℕ) (m : RunState) (bytes : List ℕ) → placing_of m.run.mesh bytes ≡ Ok None → outcome_of_piece reach m (Whole bytes) ≡ outcome_of_read m.run (other_line m bytes)
 came-other reach m bytes is = came_read reach m bytes ∙ ap (outcome_by reach m bytes) is
 
-pub came-fault : (reach : ℕ) (m : Moment) (bytes : List ℕ) (f : LineFault) → placing_of m.run.mesh bytes ≡ Err f → outcome_of_piece reach m (Whole bytes) ≡ Refused (Fault f)
+pub came-fault : (reach : ℕ) (m : RunState) (bytes : List ℕ) (f : LineFault) → placing_of m.run.mesh bytes ≡ Err f → outcome_of_piece reach m (Whole bytes) ≡ Refused (Fault f)
 came-fault reach m bytes f is = came_read reach m bytes ∙ ap (outcome_by reach m bytes) is
 
-pub came-long : (reach : ℕ) (m : Moment) → outcome_of_piece reach m Long ≡ Refused TooLong
+pub came-long : (reach : ℕ) (m : RunState) → outcome_of_piece reach m Long ≡ Refused TooLong
 unfolding outcome_of_piece text.outcome_of_piece
 came-long reach m = refl
 
-pub came-beyond : (reach : ℕ) (m : Moment) → outcome_of_piece reach m Beyond ≡ Refused TooMuch
+pub came-beyond : (reach : ℕ) (m : RunState) → outcome_of_piece reach m Beyond ≡ Refused TooMuch
 unfolding outcome_of_piece text.outcome_of_piece
 came-beyond reach m = refl
 
-places_read : (m : Moment) (bytes : List ℕ) → places_after m (Whole bytes) ≡ places_by m.places (placing_of m.run.mesh bytes)
+places_read : (m : RunState) (bytes : List ℕ) → places_after m (Whole bytes) ≡ places_by m.places (placing_of m.run.mesh bytes)
 unfolding places_after
 places_read m bytes = refl
 
-pub places-placing : (m : Moment) (bytes : List ℕ) (new : Placing) → placing_of m.run.mesh bytes ≡ Ok (Some new) → places_after m (Whole bytes) ≡ with_placing m.places new
+pub places-placing : (m : RunState) (bytes : List ℕ) (new : Placing) → placing_of m.run.mesh bytes ≡ Ok (Some new) → places_after m (Whole bytes) ≡ with_placing m.places new
 places-placing m bytes new is = places_read m bytes ∙ ap (places_by m.places) is
 
-pub places-other : (m : Moment) (bytes : List ℕ) → placing_of m.run.mesh bytes ≡ Ok None → places_after m (Whole bytes) ≡ m.places
+pub places-other : (m : RunState) (bytes : List ℕ) → placing_of m.run.mesh bytes ≡ Ok None → places_after m (Whole bytes) ≡ m.places
 places-other m bytes is = places_read m bytes ∙ ap (places_by m.places) is
 
 -- ---- an allowed line is allowed as in a schedule
 
 -- where it is allowed late, it is allowed early
-shape_early : (mesh : Nodes) (c : Command) (arguments : Arguments Mention) (a : AcceptedLine) → accepted_line mesh true c arguments ≡ Ok a → accepted_line mesh false c arguments ≡ Ok a
+shape_early : (mesh : Nodes) (c : Command) (arguments : Arguments SpannedAddr) (a : AcceptedLine) → accepted_line mesh true c arguments ≡ Ok a → accepted_line mesh false c arguments ≡ Ok a
 shape_early mesh c (NumberedAddress m first) a is = absurd (let clash : Err Late ≡ Ok a = is in let P : ⊥ = cc in P)
 shape_early mesh c others a is = is
 
-read_early : (mesh : Nodes) (r : Result (Option (Shape Command Mention)) LineFault) (a : AcceptedLine) → result_and_then (accepted_shape mesh true) r ≡ Ok a → result_and_then (accepted_shape mesh false) r ≡ Ok a
+read_early : (mesh : Nodes) (r : Result (Option (Shape Command SpannedAddr)) LineFault) (a : AcceptedLine) → result_and_then (accepted_shape mesh true) r ≡ Ok a → result_and_then (accepted_shape mesh false) r ≡ Ok a
 read_early mesh (Ok None) a is = is
 read_early mesh (Ok (Some s)) a is = shape_early mesh s.command s.arguments a is
 read_early mesh (Err f) a is = is
@@ -83,7 +83,7 @@ either_early mesh line a true true is = is
 either_early mesh line a true false is = line_early mesh line a is
 either_early mesh line a false s is = is
 
-schedule_came : (m : schedule.Moment) (line : List ℕ) → text.outcome_of_piece m (Whole line) ≡ outcome_of_read m (line_of m.mesh (is_some m.world) line)
+schedule_came : (m : schedule.RunState) (line : List ℕ) → text.outcome_of_piece m (Whole line) ≡ outcome_of_read m (line_of m.mesh (is_some m.world) line)
 unfolding text.outcome_of_piece
 schedule_came m line = refl
 
@@ -93,7 +93,7 @@ other_line_is_as_in_schedule reach m bytes a other is =
     ∙ sym (schedule_came m.run bytes ∙ ap (outcome_of_read m.run) (either_early m.run.mesh bytes a m.places.begun (is_some m.run.world) is))
 
 -- where nothing has begun beside the run, any other line is
-pub other-same : (reach : ℕ) (m : Moment) (bytes : List ℕ) → placing_of m.run.mesh bytes ≡ Ok None → has_begun m ≡ is_some m.run.world → outcome_of_piece reach m (Whole bytes) ≡ text.outcome_of_piece m.run (Whole bytes)
+pub other-same : (reach : ℕ) (m : RunState) (bytes : List ℕ) → placing_of m.run.mesh bytes ≡ Ok None → has_begun m ≡ is_some m.run.world → outcome_of_piece reach m (Whole bytes) ≡ text.outcome_of_piece m.run (Whole bytes)
 other-same reach m bytes other same =
     came-other reach m bytes other ∙ ap (λ b. outcome_of_read m.run (line_of m.run.mesh b bytes)) same ∙ sym (schedule_came m.run bytes)
 
@@ -140,27 +140,27 @@ first_changes reach places near new (suc n) k le = by (cases_lt n k) (λ before.
           ap (λ es. es ++ change_at reach places near new n) there.1 ∙ append_assoc (changes_below reach places near new k) there.0 (change_at reach places near new n),
         )
 
--- ---- moments after events
+-- ---- states after events
 
-pub after-more : (m : schedule.Moment) (es more : List Event) → moment_after m (es ++ more) ≡ moment_after (moment_after m es) more
-unfolding moment_after
+pub after-more : (m : schedule.RunState) (es more : List Event) → run_state_after m (es ++ more) ≡ run_state_after (run_state_after m es) more
+unfolding run_state_after
 after-more m [] more = refl
-after-more m (e ∷ es) more = after-more (next_moment m e) es more
+after-more m (e ∷ es) more = after-more (next_state m e) es more
 
-pub after-none : (m : schedule.Moment) → moment_after m [] ≡ m
-unfolding moment_after
+pub after-none : (m : schedule.RunState) → run_state_after m [] ≡ m
+unfolding run_state_after
 after-none m = refl
 
-pub after-one : (m : schedule.Moment) (e : Event) → moment_after m (e ∷ []) ≡ next_moment m e
-unfolding moment_after
+pub after-one : (m : schedule.RunState) (e : Event) → run_state_after m (e ∷ []) ≡ next_state m e
+unfolding run_state_after
 after-one m e = refl
 
-pub steps_after : (m : schedule.Moment) (es : List Event) → (moment_after m es).steps ≡ m.steps + length es
-unfolding moment_after next_moment
+pub steps_after : (m : schedule.RunState) (es : List Event) → (run_state_after m es).steps ≡ m.steps + length es
+unfolding run_state_after next_state
 steps_after m [] = omega arith
-steps_after m (e ∷ es) = let rest = steps_after (next_moment m e) es in omega arith
+steps_after m (e ∷ es) = let rest = steps_after (next_state m e) es in omega arith
 
-pub lines_after : (m : schedule.Moment) (es : List Event) → (moment_after m es).lines ≡ m.lines
-unfolding moment_after next_moment
+pub lines_after : (m : schedule.RunState) (es : List Event) → (run_state_after m es).lines ≡ m.lines
+unfolding run_state_after next_state
 lines_after m [] = refl
-lines_after m (e ∷ es) = lines_after (next_moment m e) es
+lines_after m (e ∷ es) = lines_after (next_state m e) es

@@ -13,7 +13,7 @@ use Rattle.mesh_base.proofs.Readings.{number_up_to-le}
 use Rattle.aodv_meaning.proofs.Means.{index_there}
 use Rattle.mesh_grammar.specs.declared.fault.LineFault.{LineFault}
 use Rattle.mesh_grammar.specs.declared.fault.LineFault.TheVariants.{Word, BadAddress, BadNumber, Early, Unknown}
-use Rattle.mesh_grammar.specs.Words.{Mention, span_at, next_at}
+use Rattle.mesh_grammar.specs.Words.{SpannedAddr, span_at, next_at}
 use Rattle.mesh_grammar.proofs.Readings.{with_argument_case, if_case}
 use Rattle.mesh_grammar.proofs.Canonical.{number_is_written, address_is_written}
 use Rattle.mesh_text.specs.Lines.{name_of}
@@ -33,7 +33,7 @@ WroteIn mesh first words (Ok (Some new)) = Wrote mesh first words new
 WroteIn mesh first words (Ok None) = Unit {0}
 WroteIn mesh first words (Err f) = Unit {0}
 
-wrote_node : (mesh : Nodes) (first : Bool) (words : List (List ℕ)) (a : Mention) (place : Place)
+wrote_node : (mesh : Nodes) (first : Bool) (words : List (List ℕ)) (a : SpannedAddr) (place : Place)
     → words ≡ dotted_decimal a.address ∷ decimal place.x ∷ decimal place.y ∷ [] → WroteIn mesh first words (placing_in mesh first a place)
 unfolding WroteIn
 wrote_node mesh first words a place is =

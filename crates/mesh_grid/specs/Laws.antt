@@ -14,14 +14,14 @@ use Rattle.mesh_text.specs.Accounts.{IsBalanced}
 use Rattle.mesh_grid.specs.declared.line.Placing.{Placing}
 use Rattle.mesh_grid.specs.Lines.{placing_of, place_words}
 use Rattle.mesh_grid.specs.Links.{is_due}
-use Rattle.mesh_grid.specs.Text.{Moment, other_line, outcome_of_piece, text_of_input}
-use Rattle.mesh_grid.specs.Runs.{AreDone, moment_at, moment_within, mesh_of_input, world_after, IsOfEvents, events_of_input}
+use Rattle.mesh_grid.specs.Text.{RunState, other_line, outcome_of_piece, text_of_input}
+use Rattle.mesh_grid.specs.Runs.{AreDone, run_state_at, state_within, mesh_of_input, world_after, IsOfEvents, events_of_input}
 
 -- after each allowed line of an input the links that stand are those that are due: of two nodes
 -- with places, the one within reach of the other. Before there is a world none is due
 abbrev pub LinksFollowPlaces : Type 0
 LinksFollowPlaces = (reach : ℕ) (variant : Variant) (input : List ℕ) (i a b : ℕ)
-    → let m = moment_at reach variant input i in
+    → let m = run_state_at reach variant input i in
     are_linked (world_of m.run).links a b ≡ is_due reach m.places a b
 
 -- the world after the last allowed line is the one after as many of the input's events as were
@@ -33,12 +33,12 @@ WorldsAreOfEvents = (reach : ℕ) (variant : Variant) (input : List ℕ) →
     × (((number : ℕ) → w.verdict ≢ FullAt number)
     → w.after.run.sums.events ≡ length (events_of_input reach variant input))
 
--- the same of each moment before: after the first i lines, which were all done, and k events of the
+-- the same of each state before: after the first i lines, which were all done, and k events of the
 -- next
-abbrev pub MomentIsOfEvents : Type 0
-MomentIsOfEvents = (reach : ℕ) (variant : Variant) (input : List ℕ) (i k : ℕ)
+abbrev pub StateIsOfEvents : Type 0
+StateIsOfEvents = (reach : ℕ) (variant : Variant) (input : List ℕ) (i k : ℕ)
     → AreDone reach variant input i
-    → IsOfEvents reach variant input (moment_within reach variant input i k)
+    → IsOfEvents reach variant input (state_within reach variant input i k)
 
 -- after any number of an input's events no destination's valid routes have a loop
 abbrev pub RunsWithPlacesAreLoopFree : Type 0
@@ -48,12 +48,12 @@ RunsWithPlacesAreLoopFree = (reach : ℕ) (variant : Variant) (input : List ℕ)
 -- nor have they one after any line
 abbrev pub LinesAreLoopFree : Type 0
 LinesAreLoopFree = (reach : ℕ) (variant : Variant) (input : List ℕ) (i d : ℕ)
-    → ¬ (Cycle (world_of (moment_at reach variant input i).run) d)
+    → ¬ (Cycle (world_of (run_state_at reach variant input i).run) d)
 
 -- or after any event of the next
-abbrev pub MomentIsLoopFree : Type 0
-MomentIsLoopFree = (reach : ℕ) (variant : Variant) (input : List ℕ) (i k d : ℕ)
-    → ¬ (Cycle (world_of (moment_within reach variant input i k)) d)
+abbrev pub RunStateIsLoopFree : Type 0
+RunStateIsLoopFree = (reach : ℕ) (variant : Variant) (input : List ℕ) (i k d : ℕ)
+    → ¬ (Cycle (world_of (state_within reach variant input i k)) d)
 
 -- after the last allowed line each datum that was given or doubled was delivered, waits in a store
 -- or a queue, is in flight, or was dropped
@@ -69,7 +69,7 @@ EventsAreOfMesh = (reach : ℕ) (variant : Variant) (input : List ℕ)
 
 -- a line that is not about a place, where it is allowed, comes to what it comes to in a schedule
 abbrev pub OtherLineIsAsInSchedule : Type 0
-OtherLineIsAsInSchedule = (reach : ℕ) (m : Moment) (line : List ℕ) (a : AcceptedLine)
+OtherLineIsAsInSchedule = (reach : ℕ) (m : RunState) (line : List ℕ) (a : AcceptedLine)
     → placing_of m.run.mesh line ≡ Ok None → other_line m line ≡ Ok a
     → outcome_of_piece reach m (Whole line) ≡ text.outcome_of_piece m.run (Whole line)
 

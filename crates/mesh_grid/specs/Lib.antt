@@ -7,7 +7,7 @@ pub mod Lines
 pub mod Links
 -- Text: the text of a run with places, and its verdict.
 pub mod Text
--- Runs: the events of a run with places, and the moments and worlds that they lead through.
+-- Runs: the events of a run with places, and the states and worlds that they lead through.
 pub mod Runs
 -- Seen: what the program answers, as the definitions have it.
 pub mod Seen

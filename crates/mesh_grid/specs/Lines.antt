@@ -9,7 +9,7 @@ use Rattle.mesh_base.specs.Meshes.{Nodes}
 use Rattle.mesh_base.specs.Numbers.{number_up_to}
 use Rattle.mesh_grammar.specs.declared.fault.LineFault.{LineFault}
 use Rattle.mesh_grammar.specs.declared.fault.LineFault.TheVariants.{Word, Count, BadNumber, Early}
-use Rattle.mesh_grammar.specs.Words.{Mention, with_argument, span_at, next_at, address_at}
+use Rattle.mesh_grammar.specs.Words.{SpannedAddr, with_argument, span_at, next_at, address_at}
 use Rattle.mesh_text.specs.Lines.{name_of}
 use Rattle.mesh_text.specs.Schedule.{as_node}
 use Rattle.mesh_grid.specs.declared.place.TheConstants.{GREATEST_PLACE}
@@ -22,7 +22,7 @@ coordinate_at at word next =
     with_argument (number_up_to GREATEST_PLACE word) (BadNumber (span_at at word)) next
 
 -- the node of the mesh that has come to this place
-abbrev pub placing_in : Nodes → Bool → Mention → Place → Result (Option Placing) LineFault
+abbrev pub placing_in : Nodes → Bool → SpannedAddr → Place → Result (Option Placing) LineFault
 placing_in mesh first a place =
     if length mesh == 0 then Err Early else
     as_node mesh a (λ x. Ok (Some (record { first = first; node = x; place = place })))

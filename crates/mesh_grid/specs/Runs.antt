@@ -1,4 +1,4 @@
--- The events of a run with places, one after another, and the moments and worlds that they lead
+-- The events of a run with places, one after another, and the states and worlds that they lead
 -- through. A line that puts a node to a place has the changes of links that follow.
 use Rattle.std.specs.Prelude.{ℕ, ◌≡◌, List, [], ◌∷◌, ◌++◌, if◌then◌else◌, Option, Some, None, Result, Ok, Err, take, slice_get}
 use Rattle.mesh_base.specs.Meshes.{Nodes}
@@ -9,30 +9,30 @@ use Rattle.mesh_shell.specs.Pieces.{Piece, Whole}
 use Rattle.mesh_text.specs.Schedule as schedule
 use Rattle.mesh_text.specs.Text.{pieces_of_input}
 use Rattle.mesh_text.specs.Runs as runs
-use Rattle.mesh_text.specs.Runs.{moment_after}
+use Rattle.mesh_text.specs.Runs.{run_state_after}
 use Rattle.mesh_text.specs.declared.verdict.Verdict.TheVariants.{Finished}
 use Rattle.mesh_grid.specs.declared.line.Placing.{Placing}
 use Rattle.mesh_grid.specs.Lines.{placing_of}
 use Rattle.mesh_grid.specs.Links.{may_come}
-use Rattle.mesh_grid.specs.Text.{Moment, opening, changes, other_line, outcome_of_piece, next, RunText, text_from, text_of_input}
+use Rattle.mesh_grid.specs.Text.{RunState, opening, changes, other_line, outcome_of_piece, next, RunText, text_from, text_of_input}
 
 -- ---- the events of an input
 
-abbrev pub events_of_placing : ℕ → Moment → Placing → List Event
+abbrev pub events_of_placing : ℕ → RunState → Placing → List Event
 events_of_placing reach m new = if may_come m.places new then changes reach m new else []
 
-abbrev pub events_by : ℕ → Moment → List ℕ → Result (Option Placing) LineFault → List Event
+abbrev pub events_by : ℕ → RunState → List ℕ → Result (Option Placing) LineFault → List Event
 events_by reach m bytes (Ok (Some new)) = events_of_placing reach m new
 events_by reach m bytes (Ok None) = runs.events_read m.run (other_line m bytes)
 events_by reach m bytes (Err fault) = []
 
 -- those of a line
-unfoldable pub events_of_piece : ℕ → Moment → Piece → List Event
+unfoldable pub events_of_piece : ℕ → RunState → Piece → List Event
 events_of_piece reach m (Whole bytes) = events_by reach m bytes (placing_of m.run.mesh bytes)
 events_of_piece reach m others = []
 
 -- those of the lines, up to the first that isn't allowed
-unfoldable pub events_from : ℕ → Moment → List Piece → List Event
+unfoldable pub events_from : ℕ → RunState → List Piece → List Event
 events_from reach m [] = []
 events_from reach m (piece ∷ pieces) =
     events_of_piece reach m piece
@@ -42,7 +42,7 @@ events_from reach m (piece ∷ pieces) =
 unfoldable pub events_of_input : ℕ → Variant → List ℕ → List Event
 events_of_input reach variant input = events_from reach (opening variant) (pieces_of_input input)
 
--- ---- the moments
+-- ---- the states
 
 -- the run of the first i lines of an input
 abbrev pub prefix_of_input : ℕ → Variant → List ℕ → ℕ → RunText
@@ -53,20 +53,20 @@ prefix_of_input reach variant input i =
 abbrev pub AreDone : ℕ → Variant → List ℕ → ℕ → Type 0
 AreDone reach variant input i = (prefix_of_input reach variant input i).verdict ≡ Finished
 
--- the moment after them, up to the first that isn't allowed or is refused for a full counter
-unfoldable pub moment_at : ℕ → Variant → List ℕ → ℕ → Moment
-moment_at reach variant input i = (prefix_of_input reach variant input i).after
+-- the state after them, up to the first that isn't allowed or is refused for a full counter
+unfoldable pub run_state_at : ℕ → Variant → List ℕ → ℕ → RunState
+run_state_at reach variant input i = (prefix_of_input reach variant input i).after
 
--- the run at a moment, and after the first k events of the next line, if there is one
-abbrev pub run_within : ℕ → Moment → Option Piece → ℕ → schedule.Moment
+-- the run in a state, and after the first k events of the next line, if there is one
+abbrev pub run_within : ℕ → RunState → Option Piece → ℕ → schedule.RunState
 run_within reach m None k = m.run
-run_within reach m (Some piece) k = moment_after m.run (take k (events_of_piece reach m piece))
+run_within reach m (Some piece) k = run_state_after m.run (take k (events_of_piece reach m piece))
 
 -- the run after the first i lines of an input, and k events of the next. A line about a place has
 -- the changes of links that follow
-abbrev pub moment_within : ℕ → Variant → List ℕ → (i k : ℕ) → schedule.Moment
-moment_within reach variant input i k =
-    run_within reach (moment_at reach variant input i) (slice_get (pieces_of_input input) i) k
+abbrev pub state_within : ℕ → Variant → List ℕ → (i k : ℕ) → schedule.RunState
+state_within reach variant input i k =
+    run_within reach (run_state_at reach variant input i) (slice_get (pieces_of_input input) i) k
 
 -- ---- the worlds
 
@@ -80,9 +80,9 @@ world_after reach variant input k =
     run (start variant (first_numbers (mesh_of_input reach variant input)))
     (take k (events_of_input reach variant input))
 
--- the world of a moment is the one that as many of the input's events lead to as were counted, one
+-- the world of a state is the one that as many of the input's events lead to as were counted, one
 -- after another, from the nodes that are there
-abbrev pub IsOfEvents : ℕ → Variant → List ℕ → schedule.Moment → Type 0
+abbrev pub IsOfEvents : ℕ → Variant → List ℕ → schedule.RunState → Type 0
 IsOfEvents reach variant input m =
     schedule.world_of m
     ≡ run (start variant (first_numbers m.mesh))

@@ -1,5 +1,5 @@
 //! Laws of the definitions. Each function has an empty body and a contract that states a law.
-ghost use Rattle.mesh_grid.specs.Laws.{LinksFollowPlaces, WorldsAreOfEvents, MomentIsOfEvents, RunsWithPlacesAreLoopFree, LinesAreLoopFree, MomentIsLoopFree, DataAreAccountedFor, EventsAreOfMesh, OtherLineIsAsInSchedule, PlaceLineIsWrittenAsItStands};
+ghost use Rattle.mesh_grid.specs.Laws.{LinksFollowPlaces, WorldsAreOfEvents, StateIsOfEvents, RunsWithPlacesAreLoopFree, LinesAreLoopFree, RunStateIsLoopFree, DataAreAccountedFor, EventsAreOfMesh, OtherLineIsAsInSchedule, PlaceLineIsWrittenAsItStands};
 
 /// After each allowed line the links that stand are those that follow from the places.
 pub fn links_follow_places()
@@ -12,9 +12,9 @@ pub fn worlds_are_of_events()
     ensures { WorldsAreOfEvents }
 {}
 
-/// So is the world of each moment of it: after each of its lines, and after each event of the next.
-pub fn each_moment_is_of_events()
-    ensures { MomentIsOfEvents }
+/// So is the world of each state of it: after each of its lines, and after each event of the next.
+pub fn each_state_is_of_events()
+    ensures { StateIsOfEvents }
 {}
 
 /// After any number of events of a run with places no destination's valid routes have a loop.
@@ -28,8 +28,8 @@ pub fn lines_are_loop_free()
 {}
 
 /// Nor after any event of the next line.
-pub fn moments_are_loop_free()
-    ensures { MomentIsLoopFree }
+pub fn states_are_loop_free()
+    ensures { RunStateIsLoopFree }
 {}
 
 /// In a run with places each datum that was given or doubled was delivered, waits, is in flight, or

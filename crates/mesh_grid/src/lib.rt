@@ -10,9 +10,10 @@ mod link;
 mod place;
 
 pub use laws::{
-    a_place_line_is_written_as_it_stands, data_are_accounted_for, each_moment_is_of_events,
-    events_are_of_the_mesh, lines_are_loop_free, links_follow_places, moments_are_loop_free,
-    other_lines_are_as_in_a_schedule, runs_with_places_are_loop_free, worlds_are_of_events,
+    a_place_line_is_written_as_it_stands, data_are_accounted_for, each_state_is_of_events,
+    events_are_of_the_mesh, lines_are_loop_free, links_follow_places,
+    other_lines_are_as_in_a_schedule, runs_with_places_are_loop_free, states_are_loop_free,
+    worlds_are_of_events,
 };
 pub use line::{Placing, placing_of};
 pub use place::{GREATEST_PLACE, Place, Places};

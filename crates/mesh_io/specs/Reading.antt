@@ -6,7 +6,7 @@ use Rattle.mesh_io.specs.Decisions.{decides}
 use Rattle.mesh_io.specs.Cutting.{line_in, pending_in, ahead_in, faults_in, refusal_in}
 use Rattle.mesh_io.specs.declared.source.Source.{Ghosts}
 use Rattle.mesh_io.specs.declared.cutter.Cutter.{Cutter}
-use Rattle.mesh_io.specs.declared.cutter.TheConstants.{SCHEDULE_ROOM}
+use Rattle.mesh_io.specs.declared.cutter.TheConstants.{SCHEDULE_CAPACITY}
 use Rattle.mesh_io.specs.declared.lines.Lines.{Lines}
 use Rattle.mesh_io.specs.declared.line_error.LineError.{LineError}
 
@@ -48,5 +48,5 @@ abbrev pub faults_of : {S : Type 0} {G : Ghosts S} → (S → ℕ) → Lines S G
 faults_of faults lines = faults_in faults lines.cutter
 
 -- what cuts the source
-abbrev pub cutter_of : {S : Type 0} {G : Ghosts S} → Lines S G → Cutter S SCHEDULE_ROOM G
+abbrev pub cutter_of : {S : Type 0} {G : Ghosts S} → Lines S G → Cutter S SCHEDULE_CAPACITY G
 cutter_of lines = lines.cutter

@@ -6,8 +6,8 @@ ghost use Rattle.mesh_io.specs.Puts.{AppendsPrefix};
 ghost use Rattle.mesh_io.specs.Buffering.{inner_of, gathered_in, held_by, HandsOn};
 ghost use Rattle.mesh_io.specs.BufferSize.{buffer_size};
 
-use crate::buffer_room::BufferRoom;
 use crate::put::{PutFault, put_front};
+use crate::reserved_buffer::ReservedBuffer;
 use crate::sink::Sink;
 use crate::source::Failed;
 use crate::through::{Loan, Through};
@@ -17,12 +17,12 @@ use crate::through::{Loan, Through};
 #[derive(Drop)]
 pub struct Buffered<S> {
     inner: S,
-    gathered: BufferRoom,
+    gathered: ReservedBuffer,
 }
 
 impl<S: Sink> Buffered<S> {
     /// An empty buffer before this sink, in this memory.
-    pub fn new(inner: S, room: BufferRoom) -> Buffered<S>
+    pub fn new(inner: S, room: ReservedBuffer) -> Buffered<S>
         ensures inner { inner_of result ≡ inner }
         ensures gathered { gathered_in result ≡ [] }
     {
@@ -96,7 +96,7 @@ impl<S: Sink> Sink for Buffered<S> {
 
 impl<'s, O: Sink, L: Loan> Buffered<Through<'s, O, L>> {
     /// An empty buffer before the sink behind a reference, in this memory.
-    pub fn lent(to: &'s mut O, room: BufferRoom) -> Buffered<Through<'s, O, L>>
+    pub fn lent(to: &'s mut O, room: ReservedBuffer) -> Buffered<Through<'s, O, L>>
         requires name { to.ghost_name ≡ L.name }
         requires start { O.held to.old ≡ L.start }
         ensures sink { (inner_of result).to.now ≡ to.old }

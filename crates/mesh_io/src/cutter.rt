@@ -14,18 +14,18 @@ use crate::source::{Failed, Source};
 use mesh_base::LONGEST_LINE;
 
 /// Room for the longest line of a schedule and one read, in bytes.
-pub const SCHEDULE_ROOM: usize = LONGEST_LINE + ASKED;
+pub const SCHEDULE_CAPACITY: usize = LONGEST_LINE + ASKED;
 
 /// Room for the longest line of a printed text and one read, in bytes.
-pub const TEXT_ROOM: usize = LONGEST_TEXT_LINE + ASKED;
+pub const TEXT_CAPACITY: usize = LONGEST_TEXT_LINE + ASKED;
 
 /// Cuts what a source gives into lines within these limits. The line that was found last stands at
 /// the buffer's prefix, with its LF, and behind it the bytes that were read and not yet given. The
 /// buffer has room for the longest line, its LF not among it, and one read.
 #[derive(Drop)]
-pub struct Cutter<'s, S: Source, const ROOM: usize> {
+pub struct Cutter<'s, S: Source, const CAPACITY: usize> {
     source: &'s mut S,
-    buffer: ReadBuffer<ROOM>,
+    buffer: ReadBuffer<CAPACITY>,
     most: Limits,
     // Of the line that was found last: its bytes, and with its LF.
     len: usize,
@@ -38,17 +38,17 @@ pub struct Cutter<'s, S: Source, const ROOM: usize> {
     ghost whole: { size ≤ length buffer },
     ghost within: { len ≤ size },
     ghost few: { given ≤ most.input },
-    ghost room: { most.line + ASKED ≤ ROOM },
+    ghost room: { most.line + ASKED ≤ CAPACITY },
     ghost decided: { decision ≡ decision_of most given ended (drop size buffer) },
     ghost at_end: { known_after ended (S.left source.now) ≡ [] },
 }
 
-impl<'s, S: Source, const ROOM: usize> Cutter<'s, S, ROOM> {
+impl<'s, S: Source, const CAPACITY: usize> Cutter<'s, S, CAPACITY> {
     ghost use Rattle.mesh_io.specs.Cutting.{HasRoom, source_in, limits_in, given_in, has_ended_in, line_in, pending_in, ahead_in, faults_in, decides_in, reads_to_come, Tells, Refuses, IsCounted, HasNoLf, refusal_in};
 
     /// At the prefix of the source.
-    pub fn new(source: &'s mut S, most: Limits) -> Cutter<'s, S, ROOM>
-        requires { HasRoom most ROOM }
+    pub fn new(source: &'s mut S, most: Limits) -> Cutter<'s, S, CAPACITY>
+        requires { HasRoom most CAPACITY }
         ensures same { (source_in result).ghost_name ≡ source.entry.ghost_name }
         ensures source { (source_in result).now ≡ source.old }
         ensures most { limits_in result ≡ most }
@@ -196,7 +196,7 @@ impl<'s, S: Source, const ROOM: usize> Cutter<'s, S, ROOM> {
     }
 }
 
-impl<'s, S: Source, const ROOM: usize> Cutter<'s, S, ROOM> {
+impl<'s, S: Source, const CAPACITY: usize> Cutter<'s, S, CAPACITY> {
     ghost use Rattle.std.specs.Borrow.{sem};
     ghost use Rattle.std.specs.Io.BufRead.{Rests};
     ghost use mir.Syntax.{named};
@@ -208,7 +208,7 @@ impl<'s, S: Source, const ROOM: usize> Cutter<'s, S, ROOM> {
     /// reader's own, so nothing is known of the reader until it is given back.
     pub fn next(&mut self) -> Result<Option<&[u8]>, LineError>
         ensures* after { sem 𝓛 (Rests
-            (the_row (record { mir = named 0; lft = [] }) S.row ROOM.row S.Source) self.entry
+            (the_row (record { mir = named 0; lft = [] }) S.row CAPACITY.row S.Source) self.entry
             (λ now. NextTells (limits_in self.old) S.left S.faults self.old result now)) }
     {
         match self.advance() {

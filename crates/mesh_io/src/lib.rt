@@ -4,7 +4,6 @@
 //! has a fault as its cause.
 #![tactic(auto)]
 
-mod buffer_room;
 mod buffered;
 mod calls;
 mod cutter;
@@ -16,22 +15,23 @@ mod mem_sink;
 mod mem_source;
 mod put;
 mod read_buffer;
+mod reserved_buffer;
 mod sink;
 mod source;
 mod stream;
 mod sure;
 mod through;
 
-pub use buffer_room::BufferRoom;
 pub use buffered::Buffered;
 pub use calls::Calls;
-pub use cutter::{Cutter, SCHEDULE_ROOM, TEXT_ROOM};
+pub use cutter::{Cutter, SCHEDULE_CAPACITY, TEXT_CAPACITY};
 pub use limits::{LONGEST_TEXT, LONGEST_TEXT_LINE, Limits};
 pub use line_error::LineError;
 pub use lines::Lines;
 pub use mem_sink::MemSink;
 pub use mem_source::MemSource;
 pub use put::{PutFault, put_all};
+pub use reserved_buffer::ReservedBuffer;
 pub use sink::Sink;
 pub use source::{Failed, Source};
 pub use stream::{StdSink, StdSource};

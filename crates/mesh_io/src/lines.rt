@@ -5,7 +5,7 @@ ghost use Rattle.mesh_io.specs.Cause.{HasReadCause};
 ghost use Rattle.mesh_base.specs.declared.limits.TheConstants.{LONGEST_LINE, LONGEST_INPUT};
 ghost use Rattle.mesh_io.specs.NextLines.{schedule_limits};
 
-use crate::cutter::{Cutter, SCHEDULE_ROOM};
+use crate::cutter::{Cutter, SCHEDULE_CAPACITY};
 use crate::limits::Limits;
 use crate::line_error::LineError;
 use crate::source::Source;
@@ -19,7 +19,7 @@ use crate::source::Source;
 /// in itself and is best made where it stays.
 #[derive(Drop)]
 pub struct Lines<'s, S: Source> {
-    cutter: Cutter<'s, S, SCHEDULE_ROOM>,
+    cutter: Cutter<'s, S, SCHEDULE_CAPACITY>,
     ghost most: { cutter.most ≡ schedule_limits },
 }
 

@@ -9,22 +9,22 @@ use std::marker::Model;
 /// How many bytes a read asks for.
 pub const ASKED: usize = 4096;
 
-/// Bytes that were read, in one piece: at most `ROOM`.
+/// Bytes that were read, in one piece: at most `CAPACITY`.
 #[derive(Drop)]
-pub struct ReadBuffer<const ROOM: usize> {
-    store: [u8; ROOM],
+pub struct ReadBuffer<const CAPACITY: usize> {
+    store: [u8; CAPACITY],
     at: usize,
     end: usize,
 }
 
-impl<const ROOM: usize> Model for ReadBuffer<ROOM> {
+impl<const CAPACITY: usize> Model for ReadBuffer<CAPACITY> {
     ghost use Rattle.std.specs.Prelude.{List, ℕ, ◌≤◌, ◌-◌, take, drop};
 
     ghost Value = { List ℕ };
 
     ghost view = { λ b. take (b.end - b.at) (drop b.at b.store) };
 
-    ghost invariant = { λ b. (b.at ≤ b.end) × (b.end ≤ ROOM) };
+    ghost invariant = { λ b. (b.at ≤ b.end) × (b.end ≤ CAPACITY) };
 }
 
 // Reads behind the first n bytes of the store.
@@ -42,13 +42,13 @@ fn read_behind<S: Source>(source: &mut S, store: &mut [u8], n: usize) -> Result<
     source.take(&mut store[n..n + ASKED])
 }
 
-impl<const ROOM: usize> ReadBuffer<ROOM> {
+impl<const CAPACITY: usize> ReadBuffer<CAPACITY> {
     /// No bytes.
-    pub fn new() -> ReadBuffer<ROOM>
+    pub fn new() -> ReadBuffer<CAPACITY>
         ensures { result ≡ [] }
     {
         ReadBuffer {
-            store: [0; ROOM],
+            store: [0; CAPACITY],
             at: 0,
             end: 0,
         }
@@ -72,7 +72,7 @@ impl<const ROOM: usize> ReadBuffer<ROOM> {
 
     /// Adds the bytes of one read of the source, and says how many they are: none only at its end.
     pub fn read<S: Source>(&mut self, source: &mut S) -> Result<usize, Failed>
-        requires { length self.old + ASKED ≤ ROOM }
+        requires { length self.old + ASKED ≤ CAPACITY }
         ensures more { IfOk result (λ n. (fresh : List ℕ) × (self.new ≡ self.old ++ fresh)
             × (length fresh ≡ n) × Consumes (S.left source.old) (S.left source.new) fresh
             × (n ≡ 0 → IsAtEnd (S.left source.new))) }

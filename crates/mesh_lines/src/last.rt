@@ -1,13 +1,13 @@
 //! The last line of a printed text.
 ghost use Rattle.std.specs.Prelude.{◌≡◌, ◌≤◌, ◌+◌, length};
-ghost use Rattle.mesh_base.specs.declared.limits.TheConstants.{LINE_ROOM};
+ghost use Rattle.mesh_base.specs.declared.limits.TheConstants.{LINE_CAPACITY};
 ghost use Rattle.mesh_base.specs.Parts.{parts, rest_parts};
 ghost use Rattle.mesh_lines.specs.Lines as lines;
 
 use crate::form::{Field, are};
 use crate::words::{caster, cut, is, three, two};
 use mesh_base::{
-    LINE_ROOM, LONGEST_INPUT, LONGEST_LINE, LineBuf, MOST_NODES, push_number, push_text,
+    LINE_CAPACITY, LONGEST_INPUT, LONGEST_LINE, LineBuf, MOST_NODES, push_number, push_text,
 };
 
 // Any number.
@@ -90,7 +90,7 @@ pub fn is_full(words: Option<&[u8]>) -> bool
 
 // A limit that was passed: its label, itself, and what it counts.
 fn is_limit(label: &[u8], most: usize, what: &[u8], text: &[u8]) -> bool
-    requires { length label.now + 20 + length what.now ≤ LINE_ROOM }
+    requires { length label.now + 20 + length what.now ≤ LINE_CAPACITY }
     ensures { result ≡ lines.is_limit label.now most what.now text.now }
 {
     let mut due = LineBuf::new();

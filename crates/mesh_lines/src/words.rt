@@ -89,7 +89,7 @@ pub fn four(words: Option<&[u8]>, sep: u8) -> Option<(&[u8], &[u8], &[u8], &[u8]
     Some((first, second, third, fourth))
 }
 
-/// The address that a word spells.
+/// The address that a word denotes.
 pub fn address(word: &[u8]) -> Option<u32>
     ensures { result ≡ address_of word.now }
 {

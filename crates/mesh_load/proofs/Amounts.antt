@@ -19,7 +19,7 @@ use Rattle.mesh_base.specs.declared.events.Item.TheVariants as item
 use Rattle.mesh_base.specs.declared.events.Variant.{Variant}
 use Rattle.aodv_wire.specs.declared.message.Message as wire
 use Rattle.aodv_wire.specs.declared.message.Message.TheVariants as messages
-use Rattle.aodv_wire.specs.Spells.{message_in_fields}
+use Rattle.aodv_wire.specs.Encodes.{message_in_fields}
 use Rattle.aodv_model.specs.Cores.{Body, Store, Waiting, bodies_in}
 use Rattle.aodv_meaning.specs.Meaning.{meaning, in_mesh}
 use Rattle.aodv_meaning.specs.Effects.{item_in}
@@ -36,12 +36,12 @@ use Rattle.mesh_world.specs.Kept.{world_in, seen_of}
 use Rattle.mesh_world.specs.Restored.{AreWritten}
 use Rattle.mesh_text.specs.Schedule.{Sums}
 use Rattle.mesh_text.specs.Accounts as accounts
-use Rattle.mesh_run.specs.Moments.{moment_seen}
+use Rattle.mesh_run.specs.RunStates.{run_state_seen}
 use Rattle.mesh_checkpoint.specs.declared.body.Head.{Head}
 use Rattle.mesh_checkpoint.specs.Formats.{all_fit, one_if, rise}
 use Rattle.mesh_checkpoint.specs.Checkpoint as model
 use Rattle.mesh_checkpoint.specs.Checkpoint.{Waits}
-use Rattle.mesh_checkpoint.specs.Counts.{is_parcel, spells_datum, data_waiting, data_in_item, data_in_copy, data_at, data_in_world, data_in, IsBalanced}
+use Rattle.mesh_checkpoint.specs.Counts.{is_parcel, encodes_datum, data_waiting, data_in_item, data_in_copy, data_at, data_in_world, data_in, IsBalanced}
 use Rattle.mesh_checkpoint.specs.Points.{waits_of, waits_in}
 use Rattle.mesh_checkpoint.specs.Seen.{listed_node}
 
@@ -129,11 +129,11 @@ parcel_counts mesh (messages.Rrep m) = refl
 parcel_counts mesh (messages.Rerr pairs) = refl
 parcel_counts mesh (messages.Parcel p) = refl
 
--- a written packet has a datum where it spells a data packet
-packet_counts : (mesh : Nodes) (bytes : List ℕ) → IsWritten mesh bytes → in_message any (meaning mesh bytes) ≡ one_if (spells_datum bytes)
-unfolding meaning spells_datum
+-- a written packet has a datum where it encodes a data packet
+packet_counts : (mesh : Nodes) (bytes : List ℕ) → IsWritten mesh bytes → in_message any (meaning mesh bytes) ≡ one_if (encodes_datum bytes)
+unfolding meaning encodes_datum
 packet_counts mesh bytes written =
-    parcel_counts mesh (message_in_fields bytes) ∙ ap (λ r. one_if (is_parcel r (message_in_fields bytes))) (sym written.spells.allowed)
+    parcel_counts mesh (message_in_fields bytes) ∙ ap (λ r. one_if (is_parcel r (message_in_fields bytes))) (sym written.encodes.allowed)
 
 abbrev IsItemWritten : Nodes → Item → Type 0
 IsItemWritten mesh i = InItem (λ from bytes. IsWritten mesh bytes) i
@@ -200,7 +200,7 @@ data_agree mesh nodes radio w nodes_are copies_are count fit written =
     let at_nodes : in_stores mesh (length mesh) nodes + in_queues mesh nodes ≡ sum_by data_at (map listed_node nodes) =
     nodes_total mesh (length mesh) nodes (ap (all_fit (model.node (length mesh)).fits) (sym nodes_are) ∙ fit) written.waits in
     let listed_are : sum_by data_at (map listed_node nodes) ≡ sum_by data_at w.nodes = ap (sum_by data_at) (sym nodes_are) in
-    let in_air : total (in_copy any) (map (copy_in mesh) radio.flying) ≡ sum_by data_in_copy radio.flying = copies_total mesh radio.flying written.flies in
+    let in_copies : total (in_copy any) (map (copy_in mesh) radio.flying) ≡ sum_by data_in_copy radio.flying = copies_total mesh radio.flying written.flies in
     let flying_are : sum_by data_in_copy radio.flying ≡ sum_by data_in_copy w.copies = ap (sum_by data_in_copy) (sym copies_are) in
     omega arith
 
@@ -218,9 +218,9 @@ abbrev pub data_seen : Option WorldSeen → ℕ
 data_seen None = 0
 data_seen (Some w) = data_of w.world
 
--- a moment with the sums of a body that is balanced, and as many data, is balanced
+-- a state with the sums of a body that is balanced, and as many data, is balanced
 pub balanced : (x : model.Body) (variant : Variant) (mesh : Nodes) (seen : Option WorldSeen) (sums : Sums) (lines : ℕ) → IsBalanced x → AreSumsOf x.head sums → data_seen seen ≡ data_in x.world
-    → accounts.IsBalanced (moment_seen variant mesh seen sums lines)
+    → accounts.IsBalanced (run_state_seen variant mesh seen sums lines)
 balanced x variant mesh None sums lines is are same =
     let none = start_empty any variant (first_numbers mesh) in
     let a = are.given in
@@ -237,11 +237,11 @@ balanced x variant mesh (Some w) sums lines is are same =
 
 -- where there is no world
 pub balanced_unmade : (x : model.Body) (variant : Variant) (mesh : Nodes) (sums : Sums) (lines : ℕ) → IsBalanced x → AreSumsOf x.head sums → x.world ≡ None
-    → accounts.IsBalanced (moment_seen variant mesh None sums lines)
+    → accounts.IsBalanced (run_state_seen variant mesh None sums lines)
 balanced_unmade x variant mesh sums lines is are none = balanced x variant mesh None sums lines is are (sym (ap data_in none))
 
 -- where the world is that of nodes and a radio that have its data
 pub balanced_made : (x : model.Body) (variant : Variant) (mesh : Nodes) (nodes : List NodeSeen) (radio : RadioState) (steps : ℕ) (sums : Sums) (lines : ℕ) (w : model.World) → IsBalanced x → AreSumsOf x.head sums → x.world ≡ Some w
-    → data_of (world_in mesh nodes radio) ≡ data_in_world w → accounts.IsBalanced (moment_seen variant mesh (Some (seen_of mesh nodes radio steps)) sums lines)
+    → data_of (world_in mesh nodes radio) ≡ data_in_world w → accounts.IsBalanced (run_state_seen variant mesh (Some (seen_of mesh nodes radio steps)) sums lines)
 balanced_made x variant mesh nodes radio steps sums lines w is are some same =
     balanced x variant mesh (Some (seen_of mesh nodes radio steps)) sums lines is are (same ∙ sym (ap data_in some))

@@ -1,4 +1,4 @@
--- The body of a moment that was read is the body that it was read from.
+-- The body of a state that was read is the body that it was read from.
 use Rattle.std.proofs.Common.{◌≡◌, ℕ, List, [], ◌∷◌, map, Some, None, refl, sym, ap, ◌∙◌}
 use Rattle.std.specs.List.{AllByRecursion}
 use Rattle.mesh_base.specs.declared.events.Item as items
@@ -15,7 +15,7 @@ use Rattle.mesh_world.specs.Seen.{node_in}
 use Rattle.mesh_world.specs.Kept.{world_in, seen_of}
 use Rattle.mesh_world.specs.Restored.{AreWritten}
 use Rattle.mesh_text.specs.Schedule.{Sums}
-use Rattle.mesh_run.specs.Moments.{moment_seen}
+use Rattle.mesh_run.specs.RunStates.{run_state_seen}
 use Rattle.mesh_checkpoint.specs.declared.body.Head.{Head}
 use Rattle.mesh_checkpoint.specs.Checkpoint.{World, Body}
 use Rattle.mesh_checkpoint.specs.Points.{node_of, copy_of, links_of, world_after, body_of}
@@ -76,10 +76,10 @@ world_again mesh nodes radio steps w is written =
 -- ---- the body
 
 pub body_again : (mesh : Nodes) (nodes : List NodeSeen) (radio : RadioState) (steps : ℕ) (sums : Sums) (lines : ℕ) (variant : Variant) (x : Body) (w : World) → x.head ≡ head_with variant sums lines → x.mesh ≡ mesh → x.world ≡ Some w → IsWorldOf nodes radio steps w → AreWritten mesh nodes radio.flying
-    → body_of (moment_seen variant mesh (Some (seen_of mesh nodes radio steps)) sums lines) ≡ x
+    → body_of (run_state_seen variant mesh (Some (seen_of mesh nodes radio steps)) sums lines) ≡ x
 body_again mesh nodes radio steps sums lines variant x w head mesh_is world is written =
     let world_is : Some (world_after steps mesh (world_in mesh nodes radio)) ≡ x.world = ap (λ (v : World). Some v) (world_again mesh nodes radio steps w is written) ∙ sym world in
     λ i. record { head = sym head i; mesh = sym mesh_is i; world = world_is i }
 
-pub body_without_world : (mesh : Nodes) (sums : Sums) (lines : ℕ) (variant : Variant) (x : Body) → x.head ≡ head_with variant sums lines → x.mesh ≡ mesh → x.world ≡ None → body_of (moment_seen variant mesh None sums lines) ≡ x
+pub body_without_world : (mesh : Nodes) (sums : Sums) (lines : ℕ) (variant : Variant) (x : Body) → x.head ≡ head_with variant sums lines → x.mesh ≡ mesh → x.world ≡ None → body_of (run_state_seen variant mesh None sums lines) ≡ x
 body_without_world mesh sums lines variant x head mesh_is none = λ i. record { head = sym head i; mesh = sym mesh_is i; world = sym none i }

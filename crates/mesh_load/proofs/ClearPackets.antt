@@ -11,13 +11,13 @@ use Rattle.aodv_model.specs.Soundness.{IsMessageInMesh, AreDestsBelow}
 use Rattle.aodv_model.specs.Fullness.{greatest, greatest_hops}
 use Rattle.aodv_wire.specs.declared.message.Message.TheVariants as messages
 use Rattle.aodv_wire.specs.DataPacket.{Datum}
-use Rattle.aodv_wire.specs.Spells.{Spells}
-use Rattle.aodv_wire.proofs.Writes.{rreq_written, rreq_spells, rrep_written, rrep_spells, data_written, data_spells, rerr_written, rerr_spells, PairFits}
+use Rattle.aodv_wire.specs.Encodes.{Encodes}
+use Rattle.aodv_wire.proofs.Writes.{rreq_written, rreq_encodes, rrep_written, rrep_encodes, data_written, data_encodes, rerr_written, rerr_encodes, PairFits}
 use Rattle.aodv_meaning.specs.Sent.{IsSent, out_of, rreq_of, rrep_of, pair_by_address, pairs_of, addr}
 use Rattle.aodv_meaning.proofs.Means.{sent_means}
 use Rattle.aodv_meaning.proofs.Writings.{destinations}
 use Rattle.mesh_meaning.specs.Packets.{packet_of}
-use Rattle.mesh_load.specs.Moments.{IsPlain}
+use Rattle.mesh_load.specs.RunStates.{IsPlain}
 
 -- each number of the message is one that its field can have, and a route error names a destination
 abbrev pub AreWithinFields : Message → Type 0
@@ -46,26 +46,26 @@ entry_within mesh dests below within k lt =
 
 -- ---- packets
 
-spells : (mesh : Nodes) (m : Message) → IsMesh mesh → IsMessageInMesh (length mesh) m → AreWithinFields m → Spells (packet_of mesh m) (out_of mesh m)
+encodes : (mesh : Nodes) (m : Message) → IsMesh mesh → IsMessageInMesh (length mesh) m → AreWithinFields m → Encodes (packet_of mesh m) (out_of mesh m)
 unfolding packet_of
-spells mesh (Pkt b d o) is all within =
+encodes mesh (Pkt b d o) is all within =
     let p : Datum = record { dip = addr mesh d; oip = addr mesh o; body = b } in
-    subst (λ k. Spells k (messages.Parcel p)) (sym (data_written p)) (data_spells p (is.addresses d all.0) (is.addresses o all.1) all.2.0 all.2.1)
-spells mesh (Rreq m) is all within =
+    subst (λ k. Encodes k (messages.Parcel p)) (sym (data_written p)) (data_encodes p (is.addresses d all.0) (is.addresses o all.1) all.2.0 all.2.1)
+encodes mesh (Rreq m) is all within =
     let p = rreq_of mesh m in
     let hops : m.hops < 256 = omega (arith, within.0) in
-    subst (λ k. Spells k (messages.Rreq p)) (sym (rreq_written p hops))
-    (rreq_spells p hops (omega (arith, within.1)) (is.addresses m.dip all.0) (omega (arith, within.2)) (is.addresses m.oip all.1) (omega (arith, within.3)) all.2)
-spells mesh (Rrep m) is all within =
+    subst (λ k. Encodes k (messages.Rreq p)) (sym (rreq_written p hops))
+    (rreq_encodes p hops (omega (arith, within.1)) (is.addresses m.dip all.0) (omega (arith, within.2)) (is.addresses m.oip all.1) (omega (arith, within.3)) all.2)
+encodes mesh (Rrep m) is all within =
     let p = rrep_of mesh m in
     let hops : m.hops < 256 = omega (arith, within.0) in
-    subst (λ k. Spells k (messages.Rrep p)) (sym (rrep_written p hops))
-    (rrep_spells p hops (is.addresses m.dip all.0) (omega (arith, within.1)) (is.addresses m.oip all.1) all.2)
-spells mesh (Rerr dests) is all within =
+    subst (λ k. Encodes k (messages.Rrep p)) (sym (rrep_written p hops))
+    (rrep_encodes p hops (is.addresses m.dip all.0) (omega (arith, within.1)) (is.addresses m.oip all.1) all.2)
+encodes mesh (Rerr dests) is all within =
     let ps = pairs_of mesh dests in
     let dests_are = destinations mesh dests is all within.1 in
     let few : length ps < 256 = omega (arith, dests_are.few) in
-    subst (λ k. Spells k (messages.Rerr ps)) (sym (rerr_written ps few)) (rerr_spells ps dests_are (pairs_fit mesh (maps.entries dests) is (entry_within mesh dests all within.0)))
+    subst (λ k. Encodes k (messages.Rerr ps)) (sym (rerr_written ps few)) (rerr_encodes ps dests_are (pairs_fit mesh (maps.entries dests) is (entry_within mesh dests all within.0)))
 
 -- the packet of the message is sent of it, and means it
 pub record IsClear (mesh : Nodes) (m : Message) : Type 0 where
@@ -75,5 +75,5 @@ pub record IsClear (mesh : Nodes) (m : Message) : Type 0 where
 pub clear : (mesh : Nodes) (m : Message) → IsMesh mesh → IsMessageInMesh (length mesh) m → AreWithinFields m → IsClear mesh m
 unfolding packet_of
 clear mesh m is all within =
-    let sent : IsSent mesh (packet_of mesh m) m = record { written = refl; spells = spells mesh m is all within } in
+    let sent : IsSent mesh (packet_of mesh m) m = record { written = refl; encodes = encodes mesh m is all within } in
     record { sent = sent; plain = (sent_means mesh (packet_of mesh m) m is all sent).0 }

@@ -8,15 +8,15 @@ pub mod NodeLists
 pub mod Amounts
 -- WorldParts: the parts of a world, one after another.
 pub mod WorldParts
--- Bodies: the body of a moment that was read is the body that it was read from.
+-- Bodies: the body of a state that was read is the body that it was read from.
 pub mod Bodies
 -- Sound: no part of a world that was read and made is refused.
 pub mod Sound
 -- BodyParts: the parts of a body, one after another.
 pub mod BodyParts
--- Moments: a checkpoint has one moment.
-pub mod Moments
--- Making: the moment that is made of the parts of a body has that body.
+-- RunStates: a checkpoint has one run state.
+pub mod RunStates
+-- Making: the state that is made of the parts of a body has that body.
 pub mod Making
 -- Loaded: what is loaded of bytes is what a checkpoint is of.
 pub mod Loaded
@@ -26,7 +26,7 @@ pub mod Sendable
 pub mod SendableRuns
 -- ClearPackets: a message whose numbers are within their fields is what its packet means.
 pub mod ClearPackets
--- PlainRuns: after the lines of any input the moment is plain.
+-- PlainRuns: after the lines of any input the state is plain.
 pub mod PlainRuns
--- Unrefused: no refusal applies to the checkpoint of a moment of a run.
+-- Unrefused: no refusal applies to the checkpoint of a state of a run.
 pub mod Unrefused

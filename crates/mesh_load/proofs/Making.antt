@@ -1,4 +1,4 @@
--- The moment that is made of the parts of a body has that body.
+-- The state that is made of the parts of a body has that body.
 use Rattle.std.proofs.Common.{◌≡◌, ℕ, ◌+◌, ◌<◌, ◌≤◌, Bool, true, List, [], ◌∷◌, length, map, Option, Some, None, refl, sym, ap, subst, ◌∙◌, arith}
 use Rattle.std.specs.Prelude.{IfSome, nat_le, nat_lt, ◌&&◌, option_map}
 use Rattle.std.specs.Option.{ForSome, unwrap_or}
@@ -14,11 +14,11 @@ use Rattle.mesh_model.specs.Worlds as worlds
 use Rattle.mesh_radio.specs.Radios.{RadioState}
 use Rattle.mesh_world.specs.Kept.{world_in}
 use Rattle.mesh_world.specs.Seen.{WorldSeen, node_in, most_data_at_first}
-use Rattle.mesh_text.specs.Schedule.{Moment, Sums}
+use Rattle.mesh_text.specs.Schedule.{RunState, Sums}
 use Rattle.mesh_text.specs.Accounts as accounts
-use Rattle.mesh_run.specs.Moments as moments
+use Rattle.mesh_run.specs.RunStates as run_states
 use Rattle.mesh_model.specs.Places.{IsInMesh}
-use Rattle.mesh_run.specs.Moments.{AreOfVariant, IsSafe, IsSafeWorld, moment_seen}
+use Rattle.mesh_run.specs.RunStates.{AreOfVariant, IsSafe, IsSafeWorld, run_state_seen}
 use Rattle.mesh_checkpoint.specs.declared.body.Head.{Head}
 use Rattle.mesh_checkpoint.specs.declared.limits.TheConstants.{SUMS_END, MOST_STEPS}
 use Rattle.mesh_checkpoint.specs.Formats.{◌>>=◌, is_from, rising, fits_maybe}
@@ -28,13 +28,13 @@ use Rattle.mesh_checkpoint.specs.Counts.{data_in, IsBalanced}
 use Rattle.mesh_checkpoint.specs.Points.{body_of}
 use Rattle.mesh_load.specs.declared.error.StateError.{StateError}
 use Rattle.mesh_load.specs.declared.error.StateError.TheVariants as errors
-use Rattle.mesh_load.specs.Moments.{IsPlainWorld, HasPlainWorld, IsPlainMoment}
+use Rattle.mesh_load.specs.RunStates.{IsPlainWorld, HasPlainWorld, IsPlainRunState}
 use Rattle.mesh_load.specs.Nodes.{AllFrom, IsSoundNodeAt}
-use Rattle.mesh_load.specs.Parts.{IsMade, IsRefusalOf, IsFitting, IsMaybeWorldFrom, IsUnsoundIfWorld, IsBody, sums_in, IsUnsoundBody, IsMomentOf}
+use Rattle.mesh_load.specs.Parts.{IsMade, IsRefusalOf, IsFitting, IsMaybeWorldFrom, IsUnsoundIfWorld, IsBody, sums_in, IsUnsoundBody, IsRunStateOf}
 use Rattle.mesh_load.proofs.Amounts.{AreSumsOf, balanced_made, balanced_unmade}
 use Rattle.mesh_load.proofs.Bodies.{IsWorldOf, body_again, body_without_world}
 use Rattle.mesh_load.proofs.Sound.{none_unsound_if}
-use Rattle.mesh_load.proofs.Moments.{plain_in}
+use Rattle.mesh_load.proofs.RunStates.{plain_in}
 use Rattle.mesh_load.proofs.WorldParts.{bind_some, world_ranges}
 use Rattle.mesh_load.proofs.BodyParts.{read_maybe, as_body, body_at}
 
@@ -128,43 +128,43 @@ world_of_variant : (mesh : Nodes) (variant : Variant) (nodes : List NodeSeen) (r
 unfolding world_in
 world_of_variant mesh variant nodes radio all = of_variant mesh variant (length mesh) 0 nodes all
 
-fits_seen : (mesh : Nodes) (variant : Variant) (world : Option World) (seen : Option WorldSeen) → IsMaybeWorldFrom mesh variant world seen → IfSome seen (moments.IsWorldOf variant mesh)
+fits_seen : (mesh : Nodes) (variant : Variant) (world : Option World) (seen : Option WorldSeen) → IsMaybeWorldFrom mesh variant world seen → IfSome seen (run_states.IsWorldOf variant mesh)
 fits_seen mesh variant None None is = tt
 fits_seen mesh variant (Some w) None is = tt
 fits_seen mesh variant None (Some seen) is = absurd is
 fits_seen mesh variant (Some w) (Some seen) is =
-    subst (λ (s : WorldSeen). moments.IsWorldOf variant mesh s) (sym is.seen_is) (record { mesh = refl; variant = world_of_variant mesh variant is.nodes is.radio (is.listed_are).each })
+    subst (λ (s : WorldSeen). run_states.IsWorldOf variant mesh s) (sym is.seen_is) (record { mesh = refl; variant = world_of_variant mesh variant is.nodes is.radio (is.listed_are).each })
 
 -- the world is of the mesh and the variant
-pub fits_point : (bytes s : List ℕ) (head : Head) (nodes : Nodes) (seen : Option WorldSeen) → HasParts bytes s head nodes → IsMade (IsMaybeWorldFrom nodes head.variant) (read_maybe nodes s) seen → ForSome seen (moments.IsWorldOf head.variant nodes)
+pub fits_point : (bytes s : List ℕ) (head : Head) (nodes : Nodes) (seen : Option WorldSeen) → HasParts bytes s head nodes → IsMade (IsMaybeWorldFrom nodes head.variant) (read_maybe nodes s) seen → ForSome seen (run_states.IsWorldOf head.variant nodes)
 fits_point bytes s head nodes seen p m = λ w there.
-    subst (λ (o : Option WorldSeen). IfSome o (moments.IsWorldOf head.variant nodes)) there (fits_seen nodes head.variant p.world seen (made_of nodes head.variant s p.world seen p.world_read m))
+    subst (λ (o : Option WorldSeen). IfSome o (run_states.IsWorldOf head.variant nodes)) there (fits_seen nodes head.variant p.world seen (made_of nodes head.variant s p.world seen p.world_read m))
 
 sums_are : (head : Head) → AreSumsOf head (sums_in head)
 sums_are head = record { given = refl; delivered = refl; lost = refl; copied = refl }
 
-balanced_with : (head : Head) (mesh : Nodes) (world : Option World) (seen : Option WorldSeen) → IsBalanced (body_with head mesh world) → IsMaybeWorldFrom mesh head.variant world seen → accounts.IsBalanced (moment_seen head.variant mesh seen (sums_in head) head.lines)
+balanced_with : (head : Head) (mesh : Nodes) (world : Option World) (seen : Option WorldSeen) → IsBalanced (body_with head mesh world) → IsMaybeWorldFrom mesh head.variant world seen → accounts.IsBalanced (run_state_seen head.variant mesh seen (sums_in head) head.lines)
 balanced_with head mesh None None balanced is = balanced_unmade (body_with head mesh None) head.variant mesh (sums_in head) head.lines balanced (sums_are head) refl
 balanced_with head mesh (Some w) None balanced is = absurd is
 balanced_with head mesh None (Some seen) balanced is = absurd is
 balanced_with head mesh (Some w) (Some seen) balanced is =
-    subst (λ (s : WorldSeen). accounts.IsBalanced (moment_seen head.variant mesh (Some s) (sums_in head) head.lines)) (sym is.seen_is)
+    subst (λ (s : WorldSeen). accounts.IsBalanced (run_state_seen head.variant mesh (Some s) (sums_in head) head.lines)) (sym is.seen_is)
     (balanced_made (body_with head mesh (Some w)) head.variant mesh is.nodes is.radio w.steps (sums_in head) head.lines w balanced (sums_are head) refl is.data_are)
 
--- the account of the moment is balanced
+-- the account of the state is balanced
 pub balanced_point : (bytes s : List ℕ) (head : Head) (nodes : Nodes) (seen : Option WorldSeen) (sums : Sums) → HasParts bytes s head nodes → IsMade (IsMaybeWorldFrom nodes head.variant) (read_maybe nodes s) seen → sums ≡ sums_in head
-    → accounts.IsBalanced (moment_seen head.variant nodes seen sums head.lines)
+    → accounts.IsBalanced (run_state_seen head.variant nodes seen sums head.lines)
 balanced_point bytes s head nodes seen sums p m are =
-    subst (λ (t : Sums). accounts.IsBalanced (moment_seen head.variant nodes seen t head.lines)) (sym are)
+    subst (λ (t : Sums). accounts.IsBalanced (run_state_seen head.variant nodes seen t head.lines)) (sym are)
     (balanced_with head nodes p.world seen p.balanced (made_of nodes head.variant s p.world seen p.world_read m))
 
-body_with_seen : (head : Head) (mesh : Nodes) (world : Option World) (seen : Option WorldSeen) → IsMaybeWorldFrom mesh head.variant world seen → body_of (moment_seen head.variant mesh seen (sums_in head) head.lines) ≡ body_with head mesh world
+body_with_seen : (head : Head) (mesh : Nodes) (world : Option World) (seen : Option WorldSeen) → IsMaybeWorldFrom mesh head.variant world seen → body_of (run_state_seen head.variant mesh seen (sums_in head) head.lines) ≡ body_with head mesh world
 body_with_seen head mesh None None is = body_without_world mesh (sums_in head) head.lines head.variant (body_with head mesh None) refl refl refl
 body_with_seen head mesh (Some w) None is = absurd is
 body_with_seen head mesh None (Some seen) is = absurd is
 body_with_seen head mesh (Some w) (Some seen) is =
     let world_is : IsWorldOf is.nodes is.radio w.steps w = record { steps_are = refl; nodes_are = (is.listed_are).lists_are; links_are = is.links_are; next_is = is.next_is; copies_are = is.copies_are } in
-    subst (λ (s : WorldSeen). body_of (moment_seen head.variant mesh (Some s) (sums_in head) head.lines) ≡ body_with head mesh (Some w)) (sym is.seen_is)
+    subst (λ (s : WorldSeen). body_of (run_state_seen head.variant mesh (Some s) (sums_in head) head.lines) ≡ body_with head mesh (Some w)) (sym is.seen_is)
     (body_again mesh is.nodes is.radio w.steps (sums_in head) head.lines head.variant (body_with head mesh (Some w)) w refl refl refl world_is (is.in_place).written)
 
 few_steps : (mesh : Nodes) (variant : Variant) (world : Option World) (seen : Option WorldSeen) → IfSome world (IsFitting (length mesh)) → IsMaybeWorldFrom mesh variant world seen → unwrap_or (option_map (λ (w : WorldSeen). w.steps) seen) 0 ≤ MOST_STEPS
@@ -194,21 +194,21 @@ plain_seen mesh variant (Some w) (Some seen) few is safe =
       plain = plain_in mesh is.nodes is.radio (is.in_place).written;
     })
 
--- the moment has the body that was read
-pub point_made : (bytes s : List ℕ) (head : Head) (nodes : Nodes) (seen : Option WorldSeen) (sums : Sums) (m : Moment) → HasParts bytes s head nodes → IsMade (IsMaybeWorldFrom nodes head.variant) (read_maybe nodes s) seen → sums ≡ sums_in head → head.lines < SUMS_END
-    → m ≡ moment_seen head.variant nodes seen sums head.lines → IsSafe m → IsMade IsMomentOf (model.body.get bytes) m
+-- the state has the body that was read
+pub point_made : (bytes s : List ℕ) (head : Head) (nodes : Nodes) (seen : Option WorldSeen) (sums : Sums) (m : RunState) → HasParts bytes s head nodes → IsMade (IsMaybeWorldFrom nodes head.variant) (read_maybe nodes s) seen → sums ≡ sums_in head → head.lines < SUMS_END
+    → m ≡ run_state_seen head.variant nodes seen sums head.lines → IsSafe m → IsMade IsRunStateOf (model.body.get bytes) m
 point_made bytes s head nodes seen sums m p made are few is safe =
     let world_is : IsMaybeWorldFrom nodes head.variant p.world seen = made_of nodes head.variant s p.world seen p.world_read made in
-    let moment : m ≡ moment_seen head.variant nodes seen (sums_in head) head.lines = is ∙ ap (λ (t : Sums). moment_seen head.variant nodes seen t head.lines) are in
+    let run_state : m ≡ run_state_seen head.variant nodes seen (sums_in head) head.lines = is ∙ ap (λ (t : Sums). run_state_seen head.variant nodes seen t head.lines) are in
     record {
       found = body_with head nodes p.world;
       rest = [];
       read_is = p.body_is;
       made = record {
-        body_is = ap body_of moment ∙ body_with_seen head nodes p.world seen world_is;
+        body_is = ap body_of run_state ∙ body_with_seen head nodes p.world seen world_is;
         plain =
-            let there = subst (λ (k : Moment). IfSome k.world IsSafeWorld) is safe.world in
-            subst IsPlainMoment (sym is) (plain_seen nodes head.variant p.world seen (few_mesh bytes s head nodes p) world_is there);
+            let there = subst (λ (k : RunState). IfSome k.world IsSafeWorld) is safe.world in
+            subst IsPlainRunState (sym is) (plain_seen nodes head.variant p.world seen (few_mesh bytes s head nodes p) world_is there);
         sound = λ part. none_unsound_if nodes head.variant p.world seen part (few_nodes bytes s head nodes p) world_is;
         lines = rw is few;
         steps = rw is (few_steps nodes head.variant p.world seen (fits_world bytes s head nodes p) world_is);

@@ -1,4 +1,4 @@
--- After the lines of any input the moment is plain: its messages are what their packets mean.
+-- After the lines of any input the state is plain: its messages are what their packets mean.
 use Rattle.std.proofs.Common.{◌≡◌, ℕ, zero, suc, ◌+◌, ◌^◌, ◌<◌, ◌≤◌, ◌⊎◌, inl, inr, true, false, List, [], ◌∷◌, length, get_or, take, Option, Some, None, is_some, refl, sym, ap, subst, ◌∙◌, arith}
 use Rattle.std.specs.Prelude.{slice_get, ⊤}
 use Rattle.std.specs.Option.{unwrap_or}
@@ -23,18 +23,18 @@ use Rattle.mesh_model.proofs.Honest.{front_distinct, front_long, front_within, r
 use Rattle.mesh_model.proofs.MeshSteps.{run_keeps}
 use Rattle.mesh_model.proofs.NumberSteps.{IsCopyWithin, run_within, start_within}
 use Rattle.mesh_model.proofs.Steps.{start_kept}
-use Rattle.mesh_shell.specs.Story as shell
+use Rattle.mesh_shell.specs.Fold as shell
 use Rattle.mesh_shell.specs.Pieces.{Piece, Whole, Long, Beyond}
-use Rattle.mesh_text.specs.Schedule.{Moment, opening, line_of, world_of}
+use Rattle.mesh_text.specs.Schedule.{RunState, opening, line_of, world_of}
 use Rattle.mesh_text.specs.Text.{LineOutcome, On, Refused, Full, outcome_of_piece, RunText, goes_on, text_from, text_of_input}
 use Rattle.mesh_text.specs.Runs.{events_of_piece, events_of_input}
 use Rattle.mesh_text.proofs.InRange.{line_allowed}
-use Rattle.mesh_text.proofs.Moments.{IsKept, IsKeptCame, all_positive, piece_kept, opening_kept, input_kept}
+use Rattle.mesh_text.proofs.RunStates.{IsKept, IsKeptCame, all_positive, piece_kept, opening_kept, input_kept}
 use Rattle.mesh_text.proofs.RunLaws.{GoesBy, result_goes, run_of_events, events_are_of_mesh}
 use Rattle.mesh_text.proofs.StepLaws.{steps_are_events}
-use Rattle.mesh_run.specs.Moments.{AreOfVariant}
+use Rattle.mesh_run.specs.RunStates.{AreOfVariant}
 use Rattle.mesh_run.proofs.OfVariant.{step_of, start_of}
-use Rattle.mesh_load.specs.Moments.{IsPlain, IsPlainItem, IsPlainWorld, HasPlainWorld, RunIsPlain}
+use Rattle.mesh_load.specs.RunStates.{IsPlain, IsPlainItem, IsPlainWorld, HasPlainWorld, RunIsPlain}
 use Rattle.mesh_load.proofs.ClearPackets.{AreWithinFields, IsClear, clear}
 use Rattle.mesh_load.proofs.Sendable.{IsSendable, IsSendableItem}
 use Rattle.mesh_load.proofs.SendableRuns.{IsSendableCopy, AreSendable, run_have, start_have}
@@ -154,10 +154,10 @@ plain_world v mesh w is = record {
   };
 }
 
--- ---- moments
+-- ---- states
 
--- a moment of this variant, and where it has no world no event was counted
-record IsOf (v : Variant) (m : Moment) : Type 0 where
+-- a state of this variant, and where it has no world no event was counted
+record IsOf (v : Variant) (m : RunState) : Type 0 where
   variant : m.variant ≡ v
   none : m.world ≡ None → m.sums.events ≡ 0
 
@@ -165,20 +165,20 @@ unmade : (o : Option World) → is_some o ≡ true → o ≡ None → ⊥
 unmade None made is = cc
 unmade (Some w) made is = cc
 
-of_goes : (v : Variant) (m : Moment) (es : List Event) (c : LineOutcome) (others : Moment → RunText) → GoesBy m es c → IsKeptCame c → IsOf v m → ((n : Moment) → IsKept n → IsOf v n → IsOf v (others n).after) → IsOf v (goes_on m c others).after
+of_goes : (v : Variant) (m : RunState) (es : List Event) (c : LineOutcome) (others : RunState → RunText) → GoesBy m es c → IsKeptCame c → IsOf v m → ((n : RunState) → IsKept n → IsOf v n → IsOf v (others n).after) → IsOf v (goes_on m c others).after
 unfolding GoesBy IsKeptCame
 of_goes v m es (On text n) others (inl quiet) kept is rest = rest n kept (record { variant = quiet.variant ∙ is.variant; none = λ without. quiet.count ∙ is.none (sym quiet.world ∙ without) })
 of_goes v m es (On text n) others (inr ran) kept is rest = rest n kept (record { variant = ran.variant ∙ is.variant; none = λ without. absurd (unmade n.world ran.made without) })
 of_goes v m es (Refused why) others goes kept is rest = is
 of_goes v m es (Full text n e field) others goes kept is rest = is
 
-piece_goes : (m : Moment) (piece : Piece) → IsKept m → GoesBy m (events_of_piece m piece) (outcome_of_piece m piece)
+piece_goes : (m : RunState) (piece : Piece) → IsKept m → GoesBy m (events_of_piece m piece) (outcome_of_piece m piece)
 unfolding outcome_of_piece GoesBy
 piece_goes m (Whole line) is = result_goes m (line_of m.mesh (is_some m.world) line) (line_allowed m.mesh (is_some m.world) line is.mesh.few)
 piece_goes m Long is = refl
 piece_goes m Beyond is = refl
 
-of_from : (v : Variant) (m : Moment) (pieces : List Piece) → IsKept m → IsOf v m → IsOf v (text_from m pieces).after
+of_from : (v : Variant) (m : RunState) (pieces : List Piece) → IsKept m → IsOf v m → IsOf v (text_from m pieces).after
 unfolding shell.text_from
 of_from v m [] kept is = is
 of_from v m (piece ∷ pieces) kept is =
@@ -198,9 +198,9 @@ abbrev pub HasRunWorld : Variant → Nodes → ℕ → Option World → Type 0
 HasRunWorld v mesh steps None = steps ≡ 0
 HasRunWorld v mesh steps (Some w) = IsRunWorld v mesh w
 
-moment_has : (v u : Variant) (mesh : Nodes) (steps : ℕ) (o : Option World) (w : World) → u ≡ v → (o ≡ None → steps ≡ 0) → unwrap_or o (start u (first_numbers mesh)) ≡ w → IsRunWorld v mesh w → HasRunWorld u mesh steps o
-moment_has v u mesh steps None w same none is made = none refl
-moment_has v u mesh steps (Some x) w same none is made = subst (λ k. IsRunWorld k mesh x) (sym same) (subst (IsRunWorld v mesh) (sym is) made)
+state_has : (v u : Variant) (mesh : Nodes) (steps : ℕ) (o : Option World) (w : World) → u ≡ v → (o ≡ None → steps ≡ 0) → unwrap_or o (start u (first_numbers mesh)) ≡ w → IsRunWorld v mesh w → HasRunWorld u mesh steps o
+state_has v u mesh steps None w same none is made = none refl
+state_has v u mesh steps (Some x) w same none is made = subst (λ k. IsRunWorld k mesh x) (sym same) (subst (IsRunWorld v mesh) (sym is) made)
 
 steps_of : (v : Variant) (input : List ℕ) → (text_of_input v input).after.steps ≡ (text_of_input v input).after.sums.events
 unfolding text_of_input
@@ -208,10 +208,10 @@ steps_of v input = omega (arith, steps_are_events (opening v) input)
 
 pub run_has : (v : Variant) (input : List ℕ) → let m = (text_of_input v input).after in HasRunWorld m.variant m.mesh m.steps m.world
 run_has v input =
-    let m : Moment = (text_of_input v input).after in
+    let m : RunState = (text_of_input v input).after in
     let is = input_of v input in
     let es : List Event = take m.sums.events (events_of_input v input) in
-    moment_has v m.variant m.mesh m.steps m.world (run (start v (first_numbers m.mesh)) es) is.variant (λ without. steps_of v input ∙ is.none without) (run_of_events v input)
+    state_has v m.variant m.mesh m.steps m.world (run (start v (first_numbers m.mesh)) es) is.variant (λ without. steps_of v input ∙ is.none without) (run_of_events v input)
     (run_world v m.mesh es (input_kept v input).mesh (each_take (IsEvent (length m.mesh)) m.sums.events (events_of_input v input) (events_are_of_mesh v input)))
 
 plain_of : (v : Variant) (mesh : Nodes) (steps : ℕ) (o : Option World) → HasRunWorld v mesh steps o → HasPlainWorld v mesh steps o
@@ -219,4 +219,4 @@ plain_of v mesh steps None is = is
 plain_of v mesh steps (Some w) is = plain_world v mesh w is
 
 pub run_is_plain : RunIsPlain
-run_is_plain v input = let m : Moment = (text_of_input v input).after in plain_of m.variant m.mesh m.steps m.world (run_has v input)
+run_is_plain v input = let m : RunState = (text_of_input v input).after in plain_of m.variant m.mesh m.steps m.world (run_has v input)

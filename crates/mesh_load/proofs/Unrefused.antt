@@ -1,4 +1,4 @@
--- No refusal applies to the checkpoint of a moment of a run: its world is one of nodes and a radio that a reader makes.
+-- No refusal applies to the checkpoint of a state of a run: its world is one of nodes and a radio that a reader makes.
 use Rattle.std.proofs.Common.{◌≡◌, ◌≢◌, ℕ, suc, ◌+◌, Bool, true, List, [], ◌∷◌, map, length, Option, Some, None, refl, sym, ap, subst, ◌∙◌, arith}
 use Rattle.std.specs.Prelude.{slice_get, option_map, IfSome, ◌&&◌, ⊤}
 use Rattle.std.specs.Option.{unwrap_or}
@@ -38,11 +38,11 @@ use Rattle.mesh_world.specs.Kept.{world_in, seen_of}
 use Rattle.mesh_world.specs.Restored.{AreWritten, AreSoundParts}
 use Rattle.mesh_world.specs.declared.restored.Part.{Part}
 use Rattle.mesh_world.proofs.Frames.{each_get}
-use Rattle.mesh_text.specs.Schedule.{Moment, Sums, world_of}
+use Rattle.mesh_text.specs.Schedule.{RunState, Sums, world_of}
 use Rattle.mesh_text.specs.Text.{text_of_input}
 use Rattle.mesh_text.specs.Accounts as accounts
-use Rattle.mesh_text.proofs.Moments.{input_kept}
-use Rattle.mesh_checkpoint.specs.declared.surveying.SurveyError.TheVariants as surveys
+use Rattle.mesh_text.proofs.RunStates.{input_kept}
+use Rattle.mesh_checkpoint.specs.declared.validating.ValidateError.TheVariants as validates
 use Rattle.mesh_checkpoint.specs.Formats.{fits_maybe}
 use Rattle.mesh_checkpoint.specs.Checkpoint as format
 use Rattle.mesh_checkpoint.specs.Checkpoint.{Node, World, Body, has_nodes}
@@ -54,12 +54,12 @@ use Rattle.mesh_load.specs.declared.error.StateError.{StateError}
 use Rattle.mesh_load.specs.declared.error.StateError.TheVariants as errors
 use Rattle.mesh_load.specs.Nodes.{AllFrom, IsSoundNodeAt, AreListed}
 use Rattle.mesh_load.specs.Loading.{AreInPlace, IsUnsoundWorld, IsRefused, RunIsUnrefused}
-use Rattle.mesh_load.specs.Moments.{IsPlainItem}
+use Rattle.mesh_load.specs.RunStates.{IsPlainItem}
 use Rattle.mesh_load.specs.Parts.{IsWorldFrom, IsUnsoundIfWorld, IsUnsoundBody}
 use Rattle.mesh_load.proofs.Amounts.{data_agree}
 use Rattle.mesh_load.proofs.ClearPackets.{IsClear}
 use Rattle.mesh_load.proofs.Making.{body_ranges}
-use Rattle.mesh_load.proofs.Moments.{queue_again, copies_again}
+use Rattle.mesh_load.proofs.RunStates.{queue_again, copies_again}
 use Rattle.mesh_load.proofs.PlainRuns.{IsClearItem, IsRunWorld, HasRunWorld, plain_world, run_has}
 use Rattle.mesh_load.proofs.Sound.{none_unsound}
 use Rattle.mesh_load.proofs.WorldParts.{world_ranges}
@@ -269,13 +269,13 @@ module _ (v : Variant) (mesh : Nodes) (w : model.World) (is : IsRunWorld v mesh 
   same_data : (steps : ℕ) → (format.world (length mesh)).fits (world_after steps mesh w) ≡ true → data_in_world (world_after steps mesh w) ≡ data_of w
   same_data steps fits = sym (data_are steps fits) ∙ ap data_of world_again
 
--- ---- moments
+-- ---- states
 
 -- the numbers of a world, if there is one, are in the table's ranges
 abbrev Fits : Nodes → ℕ → Option model.World → Type 0
 Fits mesh steps o = IfSome o (λ w. (format.world (length mesh)).fits (world_after steps mesh w) ≡ true)
 
-world_fits : (m : Moment) → format.body.fits (body_of m) ≡ true → Fits m.mesh m.steps m.world
+world_fits : (m : RunState) → format.body.fits (body_of m) ≡ true → Fits m.mesh m.steps m.world
 world_fits m fits = by m.world (body_ranges (head_of m) m.mesh (option_map (world_after m.steps m.mesh) m.world) fits).1
   where
     by : (o : Option model.World) → fits_maybe (has_nodes m.mesh) (format.world (length m.mesh)).fits (option_map (world_after m.steps m.mesh) o) ≡ true → IfSome o (λ w. (format.world (length m.mesh)).fits (world_after m.steps m.mesh w) ≡ true)
@@ -291,30 +291,30 @@ data_if : (v : Variant) (mesh : Nodes) (steps : ℕ) (o : Option model.World) (w
 data_if v mesh steps None w is fits none some = sym (ap data_of (none refl) ∙ start_empty any v (first_numbers mesh))
 data_if v mesh steps (Some u) w is fits none some = same_data v mesh u is steps fits ∙ ap data_of (sym (some u refl))
 
-balanced : (m : Moment) → HasRunWorld m.variant m.mesh m.steps m.world → Fits m.mesh m.steps m.world → accounts.IsBalanced m → IsBalanced (body_of m)
+balanced : (m : RunState) → HasRunWorld m.variant m.mesh m.steps m.world → Fits m.mesh m.steps m.world → accounts.IsBalanced m → IsBalanced (body_of m)
 balanced m is fits account =
     let same = data_if m.variant m.mesh m.steps m.world (world_of m) is fits (made_none m) (made_some m) in
     omega arith
   where
-    made_none : (m : Moment) → m.world ≡ None → world_of m ≡ start m.variant (first_numbers m.mesh)
+    made_none : (m : RunState) → m.world ≡ None → world_of m ≡ start m.variant (first_numbers m.mesh)
     made_none m none = ap (λ o. unwrap_or o (start m.variant (first_numbers m.mesh))) none
 
-    made_some : (m : Moment) (u : model.World) → m.world ≡ Some u → world_of m ≡ u
+    made_some : (m : RunState) (u : model.World) → m.world ≡ Some u → world_of m ≡ u
     made_some m u some = ap (λ o. unwrap_or o (start m.variant (first_numbers m.mesh))) some
 
 unsound_if : (mesh : Nodes) (variant : Variant) (o : Option World) (w : World) (part : Part) → o ≡ Some w → IsUnsoundWorld mesh variant w part → IsUnsoundIfWorld mesh variant o part
 unsound_if mesh variant o w part is unsound = subst (λ (p : Option World). IsUnsoundIfWorld mesh variant p part) (sym is) unsound
 
-moment_unrefused : OneBody → BalancedIsTaken → (m : Moment) (b : List ℕ) (why : StateError) → HasRunWorld m.variant m.mesh m.steps m.world → accounts.IsBalanced m → IsState b m → IsRefused b why → why ≡ errors.NoMemory
-moment_unrefused one taken m b errors.NotState is account state told = absurd (taken b (body_of m) surveys.NotState state (balanced m is (world_fits m state.fits) account) told)
-moment_unrefused one taken m b errors.Length is account state told = absurd (taken b (body_of m) surveys.Length state (balanced m is (world_fits m state.fits) account) told)
-moment_unrefused one taken m b errors.Spelling is account state told = absurd (taken b (body_of m) surveys.Spelling state (balanced m is (world_fits m state.fits) account) told)
-moment_unrefused one taken m b errors.Sums is account state told = absurd (taken b (body_of m) surveys.Sums state (balanced m is (world_fits m state.fits) account) told)
-moment_unrefused one taken m b (errors.Unsound part) is account state told =
+state_unrefused : OneBody → BalancedIsTaken → (m : RunState) (b : List ℕ) (why : StateError) → HasRunWorld m.variant m.mesh m.steps m.world → accounts.IsBalanced m → IsState b m → IsRefused b why → why ≡ errors.NoMemory
+state_unrefused one taken m b errors.NotState is account state told = absurd (taken b (body_of m) validates.NotState state (balanced m is (world_fits m state.fits) account) told)
+state_unrefused one taken m b errors.Length is account state told = absurd (taken b (body_of m) validates.Length state (balanced m is (world_fits m state.fits) account) told)
+state_unrefused one taken m b errors.Spelling is account state told = absurd (taken b (body_of m) validates.Spelling state (balanced m is (world_fits m state.fits) account) told)
+state_unrefused one taken m b errors.Sums is account state told = absurd (taken b (body_of m) validates.Sums state (balanced m is (world_fits m state.fits) account) told)
+state_unrefused one taken m b (errors.Unsound part) is account state told =
     let unsound : IsUnsoundBody told.body part = unsound_if (told.body).mesh ((told.body).head).variant (told.body).world told.world part told.world_is told.unsound in
     let same : told.body ≡ body_of m = one b told.body (body_of m) told.checkpoint state in
     absurd (no_part_if m.variant m.mesh m.steps m.world part is (world_fits m state.fits) (subst (λ (y : Body). IsUnsoundBody y part) same unsound))
-moment_unrefused one taken m b errors.NoMemory is account state told = refl
+state_unrefused one taken m b errors.NoMemory is account state told = refl
 
 pub run_is_unrefused : OneBody → BalancedIsTaken → RunIsUnrefused
-run_is_unrefused one taken v input b why state told = moment_unrefused one taken (text_of_input v input).after b why (run_has v input) (input_kept v input).balanced state told
+run_is_unrefused one taken v input b why state told = state_unrefused one taken (text_of_input v input).after b why (run_has v input) (input_kept v input).balanced state told

@@ -25,7 +25,7 @@ use Rattle.mesh_checkpoint.specs.Checkpoint.{Node, World}
 use Rattle.mesh_checkpoint.specs.Counts.{data_in_world}
 use Rattle.mesh_checkpoint.specs.Points.{links_of}
 use Rattle.mesh_checkpoint.specs.Seen.{listed_node}
-use Rattle.mesh_restore.specs.Air.{AirState, air, IsAirRead}
+use Rattle.mesh_restore.specs.RadioParts.{RadioPart, radio_part, IsRadioPartRead}
 use Rattle.mesh_restore.specs.Reading.{Refuses}
 use Rattle.mesh_restore.specs.declared.error.ReadError.{ReadError}
 use Rattle.mesh_restore.specs.declared.error.ReadError.TheVariants.{Spelling, NoMemory}
@@ -45,34 +45,34 @@ bind_some (Some x) f y e = (x, refl, e)
 
 -- ---- what is read of a world
 
-abbrev of_parts : ℕ → List Node → AirState → World
-of_parts steps nodes aired = record { steps = steps; nodes = nodes; links = aired.0; next = aired.1.0; copies = aired.1.1 }
+abbrev of_parts : ℕ → List Node → RadioPart → World
+of_parts steps nodes radio = record { steps = steps; nodes = nodes; links = radio.0; next = radio.1.0; copies = radio.1.1 }
 
-abbrev with_nodes : List Node → AirState × List ℕ → Option ((List Node × AirState) × List ℕ)
+abbrev with_nodes : List Node → RadioPart × List ℕ → Option ((List Node × RadioPart) × List ℕ)
 with_nodes nodes z = Some ((nodes, z.0), z.1)
 
-abbrev with_steps : ℕ → (List Node × AirState) × List ℕ → Option ((ℕ × (List Node × AirState)) × List ℕ)
+abbrev with_steps : ℕ → (List Node × RadioPart) × List ℕ → Option ((ℕ × (List Node × RadioPart)) × List ℕ)
 with_steps steps y = Some ((steps, y.0), y.1)
 
-abbrev to_world : (ℕ × (List Node × AirState)) × List ℕ → Option (World × List ℕ)
+abbrev to_world : (ℕ × (List Node × RadioPart)) × List ℕ → Option (World × List ℕ)
 to_world x = Some (of_parts x.0.0 x.0.1.0 x.0.1.1, x.1)
 
-abbrev as_world : ℕ → List Node → AirState × List ℕ → Option (World × List ℕ)
+abbrev as_world : ℕ → List Node → RadioPart × List ℕ → Option (World × List ℕ)
 as_world steps nodes z = Some (of_parts steps nodes z.0, z.1)
 
 abbrev behind_nodes : ℕ → ℕ → List Node × List ℕ → Option (World × List ℕ)
-behind_nodes size steps y = (air size).get y.1 >>= as_world steps y.0
+behind_nodes size steps y = (radio_part size).get y.1 >>= as_world steps y.0
 
-collapse_air : (steps : ℕ) (nodes : List Node) (o : Option (AirState × List ℕ)) → (((o >>= with_nodes nodes) >>= with_steps steps) >>= to_world) ≡ (o >>= as_world steps nodes)
-collapse_air steps nodes None = refl
-collapse_air steps nodes (Some z) = refl
+collapse_radio : (steps : ℕ) (nodes : List Node) (o : Option (RadioPart × List ℕ)) → (((o >>= with_nodes nodes) >>= with_steps steps) >>= to_world) ≡ (o >>= as_world steps nodes)
+collapse_radio steps nodes None = refl
+collapse_radio steps nodes (Some z) = refl
 
-abbrev then_air : ℕ → List Node × List ℕ → Option ((List Node × AirState) × List ℕ)
-then_air size y = (air size).get y.1 >>= with_nodes y.0
+abbrev then_radio : ℕ → List Node × List ℕ → Option ((List Node × RadioPart) × List ℕ)
+then_radio size y = (radio_part size).get y.1 >>= with_nodes y.0
 
-collapse : (size steps : ℕ) (o : Option (List Node × List ℕ)) → (((o >>= then_air size) >>= with_steps steps) >>= to_world) ≡ (o >>= behind_nodes size steps)
+collapse : (size steps : ℕ) (o : Option (List Node × List ℕ)) → (((o >>= then_radio size) >>= with_steps steps) >>= to_world) ≡ (o >>= behind_nodes size steps)
 collapse size steps None = refl
-collapse size steps (Some y) = collapse_air steps y.0 ((air size).get y.1)
+collapse size steps (Some y) = collapse_radio steps y.0 ((radio_part size).get y.1)
 
 abbrev read_steps : List ℕ → Option (ℕ × List ℕ)
 read_steps bytes = number_at w64 0 (MOST_STEPS + 1) bytes
@@ -83,15 +83,15 @@ world_at size steps bytes r one = rw one (collapse size steps (get_times (model.
 pub no_steps : (size : ℕ) (bytes : List ℕ) → read_steps bytes ≡ None → (model.world size).get bytes ≡ None
 no_steps size bytes none = rw none refl
 
-world_whole : (size steps : ℕ) (bytes r s t : List ℕ) (nodes : List Node) (aired : AirState) → read_steps bytes ≡ Some (steps, r) → get_times (model.node size).get size r ≡ Some (nodes, s) → (air size).get s ≡ Some (aired, t)
-    → (model.world size).get bytes ≡ Some (of_parts steps nodes aired, t)
-world_whole size steps bytes r s t nodes aired one two three = world_at size steps bytes r one ∙ rw (two, three) refl
+world_whole : (size steps : ℕ) (bytes r s t : List ℕ) (nodes : List Node) (radio : RadioPart) → read_steps bytes ≡ Some (steps, r) → get_times (model.node size).get size r ≡ Some (nodes, s) → (radio_part size).get s ≡ Some (radio, t)
+    → (model.world size).get bytes ≡ Some (of_parts steps nodes radio, t)
+world_whole size steps bytes r s t nodes radio one two three = world_at size steps bytes r one ∙ rw (two, three) refl
 
 -- the nodes of a world that is read
 nodes_in : (size steps : ℕ) (bytes r : List ℕ) (w : World) (end : List ℕ) → read_steps bytes ≡ Some (steps, r) → (model.world size).get bytes ≡ Some (w, end) → (s : List ℕ) × (get_times (model.node size).get size r ≡ Some (w.nodes, s))
 nodes_in size steps bytes r w end one whole =
     let x = bind_some (get_times (model.node size).get size r) (behind_nodes size steps) (w, end) (sym (world_at size steps bytes r one) ∙ whole) in
-    let y = bind_some ((air size).get x.0.1) (as_world steps x.0.0) (w, end) x.2 in
+    let y = bind_some ((radio_part size).get x.0.1) (as_world steps x.0.0) (w, end) x.2 in
     let same : x.0.0 ≡ w.nodes = ap (λ (p : World × List ℕ). (p.0).nodes) (same_Some (of_parts steps x.0.0 y.0.0, y.0.1) (w, end) y.2) in
     (x.0.1, x.1 ∙ ap (λ (ns : List Node). Some (ns, x.0.1)) same)
 
@@ -115,41 +115,41 @@ nodes_refused mesh variant steps bytes r (errors.Unsound part) one refused = λ 
     least_node mesh variant (get_times (model.node (length mesh)).get (length mesh) r) w nodes.0 part nodes.1 refused
 nodes_refused mesh variant steps bytes r errors.NoMemory one refused = tt
 
-pub air_refused : (mesh : Nodes) (variant : Variant) (steps : ℕ) (bytes r s : List ℕ) (nodes : List Node) (e : ReadError) → read_steps bytes ≡ Some (steps, r) → get_times (model.node (length mesh)).get (length mesh) r ≡ Some (nodes, s) → Refuses e ((air (length mesh)).get s)
+pub radio_part_refused : (mesh : Nodes) (variant : Variant) (steps : ℕ) (bytes r s : List ℕ) (nodes : List Node) (e : ReadError) → read_steps bytes ≡ Some (steps, r) → get_times (model.node (length mesh)).get (length mesh) r ≡ Some (nodes, s) → Refuses e ((radio_part (length mesh)).get s)
     → IsRefusalOf (IsUnsoundWorld mesh variant) ((model.world (length mesh)).get bytes) (after_reading e)
-air_refused mesh variant steps bytes r s nodes Spelling one two refused = world_at (length mesh) steps bytes r one ∙ rw (two, refused) refl
-air_refused mesh variant steps bytes r s nodes NoMemory one two refused = tt
+radio_part_refused mesh variant steps bytes r s nodes Spelling one two refused = world_at (length mesh) steps bytes r one ∙ rw (two, refused) refl
+radio_part_refused mesh variant steps bytes r s nodes NoMemory one two refused = tt
 
 -- ---- where all was read
 
--- the steps, the nodes and the air were read
+-- the steps, the nodes and the radio were read
 pub record ArePartsRead (mesh : Nodes) (variant : Variant) (bytes : List ℕ) (steps : ℕ) (nodes : List NodeSeen) (in_place : Bool) (radio : RadioState) (apart : Bool) : Type 0 where
   pub behind : List ℕ
   pub rest : List ℕ
   pub end : List ℕ
   pub steps_read : read_steps bytes ≡ Some (steps, behind)
   pub nodes_read : AreNodesRead variant (length mesh) (get_times (model.node (length mesh)).get (length mesh) behind) nodes in_place rest
-  pub air_read : IsAirRead (length mesh) ((air (length mesh)).get rest) radio apart end
+  pub radio_part_read : IsRadioPartRead (length mesh) ((radio_part (length mesh)).get rest) radio apart end
 
 pub parts_read : (mesh : Nodes) (variant : Variant) (bytes : List ℕ) (steps : ℕ) (nodes : List NodeSeen) (in_place : Bool) (radio : RadioState) (apart : Bool) (behind rest end : List ℕ) (n : ℕ) → n ≡ length mesh → read_steps bytes ≡ Some (steps, behind)
-    → AreNodesRead variant (length mesh) (get_times (model.node (length mesh)).get (length mesh) behind) nodes in_place rest → IsAirRead n ((air n).get rest) radio apart end → ArePartsRead mesh variant bytes steps nodes in_place radio apart
+    → AreNodesRead variant (length mesh) (get_times (model.node (length mesh)).get (length mesh) behind) nodes in_place rest → IsRadioPartRead n ((radio_part n).get rest) radio apart end → ArePartsRead mesh variant bytes steps nodes in_place radio apart
 parts_read mesh variant bytes steps nodes in_place radio apart behind rest end n count one two three = record {
   behind = behind;
   rest = rest;
   end = end;
   steps_read = one;
   nodes_read = two;
-  air_read = subst (λ (k : ℕ). IsAirRead k ((air k).get rest) radio apart end) count three;
+  radio_part_read = subst (λ (k : ℕ). IsRadioPartRead k ((radio_part k).get rest) radio apart end) count three;
 }
 
 -- the world that was read
 abbrev world_in_parts : (mesh : Nodes) (variant : Variant) (bytes : List ℕ) (steps : ℕ) (nodes : List NodeSeen) (in_place : Bool) (radio : RadioState) (apart : Bool) → ArePartsRead mesh variant bytes steps nodes in_place radio apart → World
-world_in_parts mesh variant bytes steps nodes in_place radio apart p = of_parts steps (p.nodes_read).lists (links_of radio.ever radio.links, (radio.next_copy, (p.air_read).found))
+world_in_parts mesh variant bytes steps nodes in_place radio apart p = of_parts steps (p.nodes_read).lists (links_of radio.ever radio.links, (radio.next_copy, (p.radio_part_read).found))
 
 world_read : (mesh : Nodes) (variant : Variant) (bytes : List ℕ) (steps : ℕ) (nodes : List NodeSeen) (in_place : Bool) (radio : RadioState) (apart : Bool) (p : ArePartsRead mesh variant bytes steps nodes in_place radio apart)
     → (model.world (length mesh)).get bytes ≡ Some (world_in_parts mesh variant bytes steps nodes in_place radio apart p, p.end)
 world_read mesh variant bytes steps nodes in_place radio apart p =
-    world_whole (length mesh) steps bytes p.behind p.rest p.end (p.nodes_read).lists (links_of radio.ever radio.links, (radio.next_copy, (p.air_read).found)) p.steps_read (p.nodes_read).read_is (p.air_read).read_is
+    world_whole (length mesh) steps bytes p.behind p.rest p.end (p.nodes_read).lists (links_of radio.ever radio.links, (radio.next_copy, (p.radio_part_read).found)) p.steps_read (p.nodes_read).read_is (p.radio_part_read).read_is
 
 -- what holds of the world that was read holds of each that is
 of_each : (mesh : Nodes) (variant : Variant) (bytes : List ℕ) (steps : ℕ) (nodes : List NodeSeen) (in_place : Bool) (radio : RadioState) (apart : Bool) (p : ArePartsRead mesh variant bytes steps nodes in_place radio apart) (part : Part)
@@ -167,9 +167,9 @@ misplaced mesh ns copies (inr some) all = some all.between
 pub item_unsound : (mesh : Nodes) (variant : Variant) (bytes : List ℕ) (steps : ℕ) (nodes : List NodeSeen) (in_place : Bool) (radio : RadioState) (apart : Bool) → ArePartsRead mesh variant bytes steps nodes in_place radio apart → (in_place ≡ false) ⊎ (apart ≡ false)
     → IsRefusalOf (IsUnsoundWorld mesh variant) ((model.world (length mesh)).get bytes) (errors.Unsound parts.Item)
 item_unsound mesh variant bytes steps nodes in_place radio apart p (inl out) =
-    of_each mesh variant bytes steps nodes in_place radio apart p parts.Item ((p.nodes_read).parts, (p.nodes_read).listed_are, misplaced mesh (p.nodes_read).parts (p.air_read).found (inl ((p.nodes_read).misplaced out)))
+    of_each mesh variant bytes steps nodes in_place radio apart p parts.Item ((p.nodes_read).parts, (p.nodes_read).listed_are, misplaced mesh (p.nodes_read).parts (p.radio_part_read).found (inl ((p.nodes_read).misplaced out)))
 item_unsound mesh variant bytes steps nodes in_place radio apart p (inr out) =
-    of_each mesh variant bytes steps nodes in_place radio apart p parts.Item ((p.nodes_read).parts, (p.nodes_read).listed_are, misplaced mesh (p.nodes_read).parts (p.air_read).found (inr ((p.air_read).some_to_itself out)))
+    of_each mesh variant bytes steps nodes in_place radio apart p parts.Item ((p.nodes_read).parts, (p.nodes_read).listed_are, misplaced mesh (p.nodes_read).parts (p.radio_part_read).found (inr ((p.radio_part_read).some_to_itself out)))
 
 -- ---- where all is in place
 
@@ -215,7 +215,7 @@ are_kept mesh variant bytes steps nodes in_place radio apart p one two =
       listed_are = subst (λ (ns : List NodeSeen). AreListed variant (length mesh) (p.nodes_read).lists ns) (sym kept.0) listed_are;
       links_are = refl;
       next_is = refl;
-      copies_are = sym ((p.air_read).whole two);
+      copies_are = sym ((p.radio_part_read).whole two);
       items = subst (λ (ns : List NodeSeen). AllByRecursion HasItemsAt ns) (sym kept.0) kept.1;
       count =
           ap (λ (ns : List NodeSeen). length ns) kept.0 ∙ sym (length-map (p.nodes_read).parts listed_node) ∙ sym (ap (λ (ls : List Node). length ls) listed_are.lists_are)
@@ -223,7 +223,7 @@ are_kept mesh variant bytes steps nodes in_place radio apart p one two =
     }
 
 pub kept_of : (mesh : Nodes) (variant : Variant) (bytes : List ℕ) (steps : ℕ) (nodes : List NodeSeen) (in_place : Bool) (radio : RadioState) (apart : Bool) (behind rest end : List ℕ) (n : ℕ) → n ≡ length mesh → read_steps bytes ≡ Some (steps, behind)
-    → AreNodesRead variant (length mesh) (get_times (model.node (length mesh)).get (length mesh) behind) nodes in_place rest → IsAirRead n ((air n).get rest) radio apart end → in_place ≡ true → apart ≡ true → AreKept mesh variant bytes steps nodes radio
+    → AreNodesRead variant (length mesh) (get_times (model.node (length mesh)).get (length mesh) behind) nodes in_place rest → IsRadioPartRead n ((radio_part n).get rest) radio apart end → in_place ≡ true → apart ≡ true → AreKept mesh variant bytes steps nodes radio
 kept_of mesh variant bytes steps nodes in_place radio apart behind rest end n count one two three placed between =
     are_kept mesh variant bytes steps nodes in_place radio apart (parts_read mesh variant bytes steps nodes in_place radio apart behind rest end n count one two three) placed between
 
@@ -241,9 +241,9 @@ are_nodes mesh variant lists nodes l count = record {
 -- the numbers of a world are in the table's ranges
 pub world_ranges : (size : ℕ) (w : World) → (model.world size).fits w ≡ true → (is_from 0 (MOST_STEPS + 1) w.steps ≡ true) × (all_fit (model.node size).fits w.nodes ≡ true)
 world_ranges size w fits =
-    let air_fits : Bool = (model.links size).fits w.links && ((number w64 1 (GREATEST_NEXT_ID + 1)).fits w.next && (model.copies size w.next).fits w.copies) in
-    let all = and_parts (is_from 0 (MOST_STEPS + 1) w.steps) ((times (model.node size) size).fits w.nodes && air_fits) fits in
-    let behind = and_parts ((times (model.node size) size).fits w.nodes) air_fits all.1 in
+    let radio_fits : Bool = (model.links size).fits w.links && ((number w64 1 (GREATEST_NEXT_ID + 1)).fits w.next && (model.copies size w.next).fits w.copies) in
+    let all = and_parts (is_from 0 (MOST_STEPS + 1) w.steps) ((times (model.node size) size).fits w.nodes && radio_fits) fits in
+    let behind = and_parts ((times (model.node size) size).fits w.nodes) radio_fits all.1 in
     let nodes = and_parts (length w.nodes == size) (all_fit (model.node size).fits w.nodes) behind.0 in
     (all.0, nodes.1)
 

@@ -15,7 +15,7 @@ use Rattle.mesh_checkpoint.specs.Counts.{IsBalanced}
 use Rattle.mesh_checkpoint.specs.Points.{IsState}
 use Rattle.mesh_checkpoint.specs.State as state
 use Rattle.mesh_checkpoint.specs.State.{IsCheckpoint}
-use Rattle.mesh_checkpoint.specs.declared.surveying.SurveyError.TheVariants as survey
+use Rattle.mesh_checkpoint.specs.declared.validating.ValidateError.TheVariants as validate
 use Rattle.mesh_load.specs.declared.error.StateError.{StateError}
 use Rattle.mesh_load.specs.declared.error.StateError.TheVariants as errors
 use Rattle.mesh_load.specs.Nodes.{AreListed, IsLeastUnsound}
@@ -50,14 +50,14 @@ pub record IsUnsound (b : List ℕ) (part : Part) : Type 0 where
 
 -- the first refusal that applies. Memory may be short anywhere
 abbrev pub IsRefused : List ℕ → StateError → Type 0
-IsRefused b errors.NotState = state.IsRefused b survey.NotState
-IsRefused b errors.Length = state.IsRefused b survey.Length
-IsRefused b errors.Spelling = state.IsRefused b survey.Spelling
-IsRefused b errors.Sums = state.IsRefused b survey.Sums
+IsRefused b errors.NotState = state.IsRefused b validate.NotState
+IsRefused b errors.Length = state.IsRefused b validate.Length
+IsRefused b errors.Spelling = state.IsRefused b validate.Spelling
+IsRefused b errors.Sums = state.IsRefused b validate.Sums
 IsRefused b (errors.Unsound part) = IsUnsound b part
 IsRefused b errors.NoMemory = ⊤
 
--- of those that apply to a checkpoint of a moment of a run there is none but want of memory
+-- of those that apply to a checkpoint of a state of a run there is none but want of memory
 abbrev pub RunIsUnrefused : Type 0
 RunIsUnrefused =
     (variant : Variant) (input b : List ℕ) (why : StateError)

@@ -9,7 +9,7 @@ use Rattle.mesh_world.specs.Restored.{AreSoundParts}
 use Rattle.mesh_world.specs.Seen.{WorldSeen, data_of, most_data_at_first}
 use Rattle.mesh_world.specs.declared.restored.Part.{Part}
 use Rattle.mesh_world.specs.declared.restored.Part.TheVariants as parts
-use Rattle.mesh_text.specs.Schedule.{Moment, Sums}
+use Rattle.mesh_text.specs.Schedule.{RunState, Sums}
 use Rattle.mesh_checkpoint.specs.declared.body.Head.{Head}
 use Rattle.mesh_checkpoint.specs.declared.limits.TheConstants.{SUMS_END, MOST_STEPS}
 use Rattle.mesh_checkpoint.specs.Checkpoint.{Node, World, Body, world, body}
@@ -19,7 +19,7 @@ use Rattle.mesh_load.specs.declared.error.StateError.{StateError}
 use Rattle.mesh_load.specs.declared.error.StateError.TheVariants as errors
 use Rattle.mesh_load.specs.Nodes.{AreListed, IsLeastUnsound}
 use Rattle.mesh_load.specs.Loading.{AreInPlace, IsUnsoundWorld}
-use Rattle.mesh_load.specs.Moments.{IsPlainMoment}
+use Rattle.mesh_load.specs.RunStates.{IsPlainRunState}
 
 -- ---- any part
 
@@ -111,11 +111,11 @@ sums_in h = record {
 abbrev pub IsUnsoundBody : Body → Part → Type 0
 IsUnsoundBody x part = IsUnsoundIfWorld x.mesh (x.head).variant x.world part
 
--- the moment has this body, each part of which is as in a run, and its numbers are in the table's
--- ranges; and it is the one moment with this body
-pub record IsMomentOf (x : Body) (m : Moment) : Type 0 where
+-- the state has this body, each part of which is as in a run, and its numbers are in the table's
+-- ranges; and it is the one run state with this body
+pub record IsRunStateOf (x : Body) (m : RunState) : Type 0 where
   pub body_is : body_of m ≡ x
-  pub plain : IsPlainMoment m
+  pub plain : IsPlainRunState m
   pub sound : (part : Part) → ¬ (IsUnsoundBody x part)
   pub lines : m.lines < SUMS_END
   pub steps : m.steps ≤ MOST_STEPS

@@ -1,10 +1,10 @@
 //! Why no run goes on from bytes.
 ghost use Rattle.std.specs.Prelude.{◌≡◌};
-ghost use Rattle.mesh_load.specs.Errors.{after_survey, after_reading};
+ghost use Rattle.mesh_load.specs.Errors.{after_validate, after_reading};
 ghost use Rattle.mesh_load.specs.declared.error.StateError.TheVariants.{NoMemory as Short};
 
 use mesh_base::NoMemory;
-use mesh_checkpoint::SurveyError;
+use mesh_checkpoint::ValidateError;
 use mesh_restore::ReadError;
 use mesh_world::Part;
 use thiserror::Error;
@@ -34,15 +34,15 @@ pub enum StateError {
     NoMemory,
 }
 
-impl From<SurveyError> for StateError {
-    ghost from_gives = { λ survey e. e ≡ after_survey survey };
+impl From<ValidateError> for StateError {
+    ghost from_gives = { λ validate e. e ≡ after_validate validate };
 
-    fn from(survey: SurveyError) -> StateError {
-        match survey {
-            SurveyError::NotState => StateError::NotState,
-            SurveyError::Length => StateError::Length,
-            SurveyError::Spelling => StateError::Spelling,
-            SurveyError::Sums => StateError::Sums,
+    fn from(validate: ValidateError) -> StateError {
+        match validate {
+            ValidateError::NotState => StateError::NotState,
+            ValidateError::Length => StateError::Length,
+            ValidateError::Spelling => StateError::Spelling,
+            ValidateError::Sums => StateError::Sums,
         }
     }
 }

@@ -1,28 +1,28 @@
-//! What holds of checkpoints and moments.
+//! What holds of checkpoints and states.
 ghost use Rattle.mesh_load.specs.Loading.{RunIsUnrefused};
-ghost use Rattle.mesh_load.specs.Moments.{OneMoment, OneStart, RunIsPlain};
+ghost use Rattle.mesh_load.specs.RunStates.{OneRunState, OneStart, RunIsPlain};
 
 use mesh_checkpoint::{balanced_is_taken, one_body};
 
-/// A body is of one moment.
-pub fn one_moment()
-    ensures { OneMoment }
+/// A body is of one run state.
+pub fn one_run_state()
+    ensures { OneRunState }
 {}
 
-/// A checkpoint is of one moment.
+/// A checkpoint is of one run state.
 pub fn one_start()
     ensures { OneStart }
 {
     one_body();
 }
 
-/// After the lines of any input the moment's messages are what their packets mean, and all that it
-/// names is in its mesh: so it is the one moment of its checkpoint.
+/// After the lines of any input the state's messages are what their packets mean, and all that it
+/// names is in its mesh: so it is the one run state of its checkpoint.
 pub fn a_run_is_plain()
     ensures { RunIsPlain }
 {}
 
-/// No refusal applies to the checkpoint of a moment of a run.
+/// No refusal applies to the checkpoint of a state of a run.
 pub fn a_run_is_unrefused()
     ensures { RunIsUnrefused }
 {

@@ -1,4 +1,4 @@
-//! A checkpoint's bytes become the moment of a run, or it is said why not.
+//! A checkpoint's bytes become the state of a run, or it is said why not.
 #![tactic(auto)]
 
 mod error;
@@ -8,5 +8,5 @@ mod nodes;
 mod world;
 
 pub use error::StateError;
-pub use laws::{a_run_is_plain, a_run_is_unrefused, one_moment, one_start};
+pub use laws::{a_run_is_plain, a_run_is_unrefused, one_run_state, one_start};
 pub use loading::load;

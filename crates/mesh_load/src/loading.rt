@@ -3,14 +3,14 @@ ghost use Rattle.std.specs.Prelude.{◌≡◌, ◌<◌, ◌≤◌, IfOk, MatchRe
 ghost use Rattle.mesh_checkpoint.specs.Checkpoint as model;
 ghost use Rattle.mesh_checkpoint.specs.Points.{IsState};
 ghost use Rattle.mesh_load.specs.Loading.{IsRefused};
-ghost use Rattle.mesh_load.specs.Moments.{IsPlainMoment};
+ghost use Rattle.mesh_load.specs.RunStates.{IsPlainRunState};
 ghost use Rattle.mesh_report.specs.Sums.{sums_of};
-ghost use Rattle.mesh_load.specs.Parts.{Makes, IsBody, IsMomentOf, IsUnsoundBody, sums_in};
+ghost use Rattle.mesh_load.specs.Parts.{Makes, IsBody, IsRunStateOf, IsUnsoundBody, sums_in};
 
 use crate::error::StateError;
 use crate::world::read_maybe_world;
 use mesh_checkpoint::{
-    Head, MOST_STEPS, SUMS_END, balanced_is_taken, one_body, read_head, survey, written_is_read,
+    Head, MOST_STEPS, SUMS_END, balanced_is_taken, one_body, read_head, validate, written_is_read,
 };
 use mesh_report::Sums;
 use mesh_restore::read_mesh;
@@ -32,11 +32,11 @@ fn sums_in(head: &Head) -> Sums
     }
 }
 
-// The state at the moment with this body, or the first part of its world that isn't as in a run. Of
+// The run state with this body, or the first part of its world that isn't as in a run. Of
 // the other refusals only want of memory comes: the bytes are a body, and its sums are balanced.
 fn restore(alloc: Global, body: &[u8]) -> Result<State<World>, StateError>
     requires { IsBody body.now }
-    ensures { Makes IsMomentOf IsUnsoundBody (model.body.get body.now) result }
+    ensures { Makes IsRunStateOf IsUnsoundBody (model.body.get body.now) result }
 {
     let Some((head, rest)) = read_head(body) else {
         return Err(StateError::Spelling);
@@ -56,23 +56,23 @@ fn restore(alloc: Global, body: &[u8]) -> Result<State<World>, StateError>
     }
 }
 
-/// The state at the one moment of which these bytes are the checkpoint; or the first refusal that
+/// The one run state of which these bytes are the checkpoint; or the first refusal that
 /// applies. Nothing asks for memory before it is known that the bytes are a checkpoint with
 /// balanced sums.
 pub fn load(alloc: Global, b: &[u8]) -> Result<State<World>, StateError>
     ensures exact { MatchResult result (λ p. IsState b.now p) (λ e. IsRefused b.now e) }
-    ensures plain { IfOk result IsPlainMoment }
+    ensures plain { IfOk result IsPlainRunState }
     ensures unrefused { IfOk result (λ _. (e : StateError) → IsRefused b.now e
         → e ≡ StateError.NoMemory) }
     ensures lines { IfOk result (λ p. p.lines < SUMS_END) }
     ensures steps { IfOk result (λ p. p.steps ≤ MOST_STEPS) }
 {
-    // What is written of a body is read again: behind the first eight bytes that of the survey.
+    // What is written of a body is read again: behind the first eight bytes that of the validation.
     written_is_read();
-    // A checkpoint has no other body, and where its sums are balanced no refusal of a survey.
+    // A checkpoint has no other body, and where its sums are balanced no refusal of a validation.
     one_body();
     balanced_is_taken();
     // It says that the bytes have the form of a checkpoint. How many data there are isn't asked.
-    let _data = survey(b)?;
+    let _data = validate(b)?;
     restore(alloc, &b[8..])
 }

@@ -14,7 +14,7 @@ use mesh_restore::read_radio;
 use mesh_world::{Part, World};
 use std::alloc::Global;
 
-// The world of the mesh, all of whose nodes are of this variant, at the front of bytes; or the
+// The world of the mesh, all of whose nodes are of this variant, at the start of the bytes; or the
 // first part that isn't as in a run.
 fn read_world(
     alloc: Global,

@@ -6,9 +6,9 @@ use Rattle.mesh_base.specs.declared.events.Variant.{Variant}
 use Rattle.mesh_base.specs.declared.limits.TheConstants.{LONGEST_INPUT}
 use Rattle.mesh_base.specs.Meshes.{Nodes, IsMesh, with_node}
 use Rattle.mesh_shell.specs.Pieces.{pieces_of}
-use Rattle.mesh_shell.specs.Story as shell
+use Rattle.mesh_shell.specs.Fold as shell
 use Rattle.mesh_grammar.specs.Written.{line}
-use Rattle.mesh_text.specs.Schedule.{Moment, AcceptedLine, opening, line_of}
+use Rattle.mesh_text.specs.Schedule.{RunState, AcceptedLine, opening, line_of}
 use Rattle.mesh_text.specs.Lines.{words_of}
 use Rattle.mesh_text.specs.Text.{outcome_of_line, text_from, text_on, text_of_input}
 use Rattle.mesh_make.specs.Words.{of_seed}
@@ -89,7 +89,7 @@ made_short seed nodes steps two few one most =
 
 -- ---- its run
 
-lines_go : (mesh : Nodes) (lines : List AcceptedLine) (m : Moment) → IsMesh mesh → AllByRecursion (IsFit mesh) lines → Has mesh m → IsSafe (run_of m (text_in mesh lines))
+lines_go : (mesh : Nodes) (lines : List AcceptedLine) (m : RunState) → IsMesh mesh → AllByRecursion (IsFit mesh) lines → Has mesh m → IsSafe (run_of m (text_in mesh lines))
 unfolding pieces_of shell.text_from
 lines_go mesh [] m is fit has = record { never = λ n e. let Q : ⊥ = cc in Q }
 lines_go mesh (a ∷ rest) m is fit has =
@@ -99,7 +99,7 @@ lines_go mesh (a ∷ rest) m is fit has =
     (line_fine mesh m a fit.0.later has) (λ n next. lines_go mesh rest n is fit.1 next)
 
 -- before the run has started there are the first k nodes
-record IsBefore (k : ℕ) (m : Moment) : Type 0 where
+record IsBefore (k : ℕ) (m : RunState) : Type 0 where
   has : Has (mesh_of k) m
   waits : m.world ≡ None
 
@@ -107,11 +107,11 @@ same_words : (mesh other : Nodes) (i : ℕ) → words_of mesh (node_line i) ≡ 
 unfolding words_of
 same_words mesh other i = refl
 
-one_grown : (k : ℕ) (m : Moment) → IsBefore k m → Fine (IsBefore (k + 1)) (outcome_of_line m (node_line k))
+one_grown : (k : ℕ) (m : RunState) → IsBefore k m → Fine (IsBefore (k + 1)) (outcome_of_line m (node_line k))
 unfolding Fine outcome_of_line
 one_grown k m is = record { has = ap (λ mesh. with_node mesh (node_address k) 1) is.has ∙ next_mesh k; waits = is.waits }
 
-nodes_go : (nodes k count : ℕ) (m : Moment) (others : List AcceptedLine) → nodes ≤ 200 → k + count ≡ nodes → IsBefore k m → ((n : Moment) → Has (mesh_of nodes) n → IsSafe (run_of n (text_in (mesh_of nodes) others)))
+nodes_go : (nodes k count : ℕ) (m : RunState) (others : List AcceptedLine) → nodes ≤ 200 → k + count ≡ nodes → IsBefore k m → ((n : RunState) → Has (mesh_of nodes) n → IsSafe (run_of n (text_in (mesh_of nodes) others)))
     → IsSafe (run_of m (text_in (mesh_of nodes) (node_lines k count ++ others)))
 unfolding node_lines
 nodes_go nodes k zero m others few all is rest = rest m (is.has ∙ ap mesh_of (let e : k ≡ nodes = omega arith in e))
@@ -128,7 +128,7 @@ nodes_go nodes k (suc count) m others few all is rest =
     parses (one_grown k m is) (λ n next. nodes_go nodes (k + 1) count n others few (omega arith) next rest))
 
 -- an input that is not too long is run whole
-pub whole_input : (m : Moment) (input : List ℕ) → length input ≤ LONGEST_INPUT → text_on m input ≡ run_of m input
+pub whole_input : (m : RunState) (input : List ℕ) → length input ≤ LONGEST_INPUT → text_on m input ≡ run_of m input
 unfolding shell.text_on
 whole_input m input le = ap (text_from m) (short_pieces input le)
 

@@ -1,11 +1,11 @@
--- The next line of a schedule, at a moment to which a run of the lines before it has come.
+-- The next line of a schedule, in a state to which a run of the lines before it has come.
 use Rattle.std.proofs.Common.{◌≡◌, ℕ, ◌+◌, ◌<◌, ◌≤◌, Bool, true, false, List, [], ◌∷◌, ◌++◌, length, length-append, None, Ok, is_some, if◌then◌else◌, nat_lt, refl, sym, ap, subst, ◌∙◌, arith}
 use Rattle.rand_pcg.specs.Lcg.{Lcg}
 use Rattle.mesh_base.specs.Meshes.{Nodes, IsMesh}
 use Rattle.mesh_base.specs.declared.limits.TheConstants.{LONGEST_INPUT}
 use Rattle.mesh_shell.specs.Pieces.{Whole}
 use Rattle.mesh_grammar.specs.Written.{line}
-use Rattle.mesh_text.specs.Schedule.{Moment, AcceptedLine, Nothing, NewNode, Does, Chooses, ShowsNode, ShowsRoute, ShowsFlight, line_of}
+use Rattle.mesh_text.specs.Schedule.{RunState, AcceptedLine, Nothing, NewNode, Does, Chooses, ShowsNode, ShowsRoute, ShowsFlight, line_of}
 use Rattle.mesh_text.specs.Lines.{words_of}
 use Rattle.mesh_text.specs.Ranges.{IsInRange, IsInTime}
 use Rattle.mesh_text.specs.Text.{LineOutcome, On, Refused, Full, RunText, outcome_of_line, outcome_of_read, outcome_of_piece, goes_on, lines_before, text_on}
@@ -67,10 +67,10 @@ none_after nodes steps (Step s) later = neither (nat_lt s steps) (Step (s + 1)) 
 none_after nodes steps Last later = refl
 none_after nodes steps End later = refl
 
--- ---- the next moment
+-- ---- the next state
 
 -- a line adds its node, or leaves the mesh as it is
-mesh_goes : (m : Moment) (a : AcceptedLine) → Fine (λ n. n.mesh ≡ mesh_after m.mesh a) (outcome_of_line m a)
+mesh_goes : (m : RunState) (a : AcceptedLine) → Fine (λ n. n.mesh ≡ mesh_after m.mesh a) (outcome_of_line m a)
 unfolding Fine outcome_of_line
 mesh_goes m (NewNode address first) = refl
 mesh_goes m Nothing = line_fine m.mesh m Nothing (λ _. tt) refl
@@ -80,12 +80,12 @@ mesh_goes m (ShowsNode x) = line_fine m.mesh m (ShowsNode x) (λ _. tt) refl
 mesh_goes m (ShowsRoute x d) = line_fine m.mesh m (ShowsRoute x d) (λ _. tt) refl
 mesh_goes m ShowsFlight = line_fine m.mesh m ShowsFlight (λ _. tt) refl
 
-fine_on : (P : Moment → Type 0) (k : LineOutcome) (said : List ℕ) (n : Moment) → Fine P k → k ≡ On said n → P n
+fine_on : (P : RunState → Type 0) (k : LineOutcome) (said : List ℕ) (n : RunState) → Fine P k → k ≡ On said n → P n
 unfolding Fine
 fine_on P k said n fine e = let is : Fine P (On said n) = subst (Fine P) e fine in is
 
 -- while a node comes next there is no world
-still_waits : (nodes steps : ℕ) (place : Place) (rng : Lcg) (m n : Moment) (said : List ℕ) → (is_node place ≡ true → m.world ≡ None)
+still_waits : (nodes steps : ℕ) (place : Place) (rng : Lcg) (m n : RunState) (said : List ℕ) → (is_node place ≡ true → m.world ≡ None)
     → outcome_of_line m (line_at nodes place rng).value ≡ On said n → is_node (place_after nodes steps place) ≡ true → n.world ≡ None
 unfolding line_at
 still_waits nodes steps (Node i) rng m n said waits e node = fine_on (λ k. k.world ≡ None) (outcome_of_line m (node_line i)) said n (unfold Fine in unfold outcome_of_line in waits refl) e
@@ -154,7 +154,7 @@ module _ (o n : Maker) (a : AcceptedLine) (next : IsNext o n a) where
       let all : length (still_to_come o) ≡ length (line (words_of o.mesh a) ++ still_to_come n) = ap length text_next in
       omega (arith, all, length-append (line (words_of o.mesh a)) (still_to_come n), length-append (words_of o.mesh a) (10 ∷ []))
 
-  module _ (m : Moment) (has : HasCome o m) where
+  module _ (m : RunState) (has : HasCome o m) where
     abbrev started : Bool
     started = is_some m.world
 
@@ -172,9 +172,9 @@ module _ (o n : Maker) (a : AcceptedLine) (next : IsNext o n a) where
         subst (λ (mesh : Nodes). line_of mesh started (words_of o.mesh a) ≡ Ok a) (sym has.mesh) (printed_line_parses o.mesh started a l.is_mesh l.range l.time) in
         ap (outcome_of_read m) parses
 
-    pub next_comes : (k : Moment) (said : List ℕ) → outcome_of_line m a ≡ On said k → HasCome n k
+    pub next_comes : (k : RunState) (said : List ℕ) → outcome_of_line m a ≡ On said k → HasCome n k
     next_comes k said e =
-        let grown : k.mesh ≡ mesh_after m.mesh a = fine_on (λ (x : Moment). x.mesh ≡ mesh_after m.mesh a) (outcome_of_line m a) said k (mesh_goes m a) e in
+        let grown : k.mesh ≡ mesh_after m.mesh a = fine_on (λ (x : RunState). x.mesh ≡ mesh_after m.mesh a) (outcome_of_line m a) said k (mesh_goes m a) e in
         record {
           mesh = grown ∙ ap (λ (mesh : Nodes). mesh_after mesh a) has.mesh ∙ sym next.mesh;
           waits = λ node. still_waits o.size.nodes o.size.steps o.place o.rng m k said has.waits (ap (outcome_of_line m) (sym next.line_is) ∙ e) (ap is_node (sym next.place) ∙ node);
@@ -189,7 +189,7 @@ module _ (o n : Maker) (a : AcceptedLine) (next : IsNext o n a) where
         ∙ ap (λ (c : LineOutcome). goes_on m c (λ k. run_of k rest)) comes_to
         ∙ goes_same (outcome_of_line m a) (λ k. run_of k rest) (λ k. text_on k rest) (λ k. sym (whole_input k rest (omega arith)))
       where
-        goes_same : (c : LineOutcome) (f g : Moment → RunText) → ((k : Moment) → f k ≡ g k) → goes_on m c f ≡ goes_on m c g
+        goes_same : (c : LineOutcome) (f g : RunState → RunText) → ((k : RunState) → f k ≡ g k) → goes_on m c f ≡ goes_on m c g
         goes_same (On text k) f g same = ap (lines_before text) (same k)
         goes_same (Refused why) f g same = refl
         goes_same (Full text k e field) f g same = refl

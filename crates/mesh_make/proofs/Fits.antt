@@ -16,7 +16,7 @@ use Rattle.mesh_base.specs.Addresses.{dotted_decimal}
 use Rattle.mesh_model.specs.Worlds.{Event, Give, Turn, Ask, Link, Cut, Deliver, Lose}
 use Rattle.mesh_text.specs.Schedule.{AcceptedLine, Nothing, NewNode, Does, Chooses, ShowsNode, ShowsRoute, ShowsFlight, of_pair}
 use Rattle.mesh_grammar.specs.Forms.{OneNumber, TwoAddresses, IsText}
-use Rattle.mesh_text.specs.Lines.{Spelling, spelling, event_spelling, event_words, text_of, words_of}
+use Rattle.mesh_text.specs.Lines.{CommandLine, command_line, event_command, event_words, text_of, words_of}
 use Rattle.mesh_text.specs.Ranges.{IsInRange, IsInTime}
 use Rattle.mesh_make.specs.Words.{word, after}
 use Rattle.mesh_make.specs.Drawn.{node_by, other_by, copy_by, datum_text, Action, actions, action_of, action_line, step_line}
@@ -67,32 +67,32 @@ pub record IsFit (mesh : Nodes) (a : AcceptedLine) : Type 0 where
   pub later : (started : Bool) → IsInTime started a
   pub short : IsShort 38 (words_of mesh a)
 
--- how a line that is drawn is spelled
-abbrev line_spelling : Nodes → AcceptedLine → Option Spelling
-line_spelling mesh (Does e) = Some (event_spelling mesh e)
-line_spelling mesh (Chooses count) = Some (spelling (codes "auto") (OneNumber count))
-line_spelling mesh (ShowsRoute x d) = Some (spelling (codes "route") (TwoAddresses (addr_at mesh x) (addr_at mesh d)))
-line_spelling mesh others = None
+-- how a line that is drawn is written
+abbrev line_command : Nodes → AcceptedLine → Option CommandLine
+line_command mesh (Does e) = Some (event_command mesh e)
+line_command mesh (Chooses count) = Some (command_line (codes "auto") (OneNumber count))
+line_command mesh (ShowsRoute x d) = Some (command_line (codes "route") (TwoAddresses (addr_at mesh x) (addr_at mesh d)))
+line_command mesh others = None
 
-text_along : (s t : Spelling) → Some s ≡ Some t → text_of s ≡ text_of t
+text_along : (s t : CommandLine) → Some s ≡ Some t → text_of s ≡ text_of t
 text_along s t e = let same : s ≡ t = cc in ap text_of same
 
-no_spelling : (P : Type 0) (s : Spelling) → None ≡ Some s → P
-no_spelling P s e = absurd (let Q : ⊥ = cc in Q)
+no_command : (P : Type 0) (s : CommandLine) → None ≡ Some s → P
+no_command P s e = absurd (let Q : ⊥ = cc in Q)
 
-words_spelled : (mesh : Nodes) (a : AcceptedLine) (s : Spelling) → line_spelling mesh a ≡ Some s → words_of mesh a ≡ text_of s
+words_spelled : (mesh : Nodes) (a : AcceptedLine) (s : CommandLine) → line_command mesh a ≡ Some s → words_of mesh a ≡ text_of s
 unfolding words_of event_words
-words_spelled mesh Nothing s e = no_spelling _ s e
-words_spelled mesh (NewNode address first) s e = no_spelling _ s e
-words_spelled mesh (Does event) s e = text_along (event_spelling mesh event) s e
-words_spelled mesh (Chooses count) s e = text_along (spelling (codes "auto") (OneNumber count)) s e
-words_spelled mesh (ShowsNode x) s e = no_spelling _ s e
+words_spelled mesh Nothing s e = no_command _ s e
+words_spelled mesh (NewNode address first) s e = no_command _ s e
+words_spelled mesh (Does event) s e = text_along (event_command mesh event) s e
+words_spelled mesh (Chooses count) s e = text_along (command_line (codes "auto") (OneNumber count)) s e
+words_spelled mesh (ShowsNode x) s e = no_command _ s e
 words_spelled mesh (ShowsRoute x d) s e =
-    text_along (spelling (codes "route") (TwoAddresses (addr_at mesh x) (addr_at mesh d))) s e
-words_spelled mesh ShowsFlight s e = no_spelling _ s e
+    text_along (command_line (codes "route") (TwoAddresses (addr_at mesh x) (addr_at mesh d))) s e
+words_spelled mesh ShowsFlight s e = no_command _ s e
 
--- a line by the word and the arguments that spell it
-fitting : (mesh : Nodes) (a : AcceptedLine) (s : Spelling) → line_spelling mesh a ≡ Some s → IsInRange mesh a → ((started : Bool) → IsInTime started a) → list_all other s.word ≡ true → length s.word ≤ 7
+-- a line by the word and the arguments that denote it
+fitting : (mesh : Nodes) (a : AcceptedLine) (s : CommandLine) → line_command mesh a ≡ Some s → IsInRange mesh a → ((started : Bool) → IsInTime started a) → list_all other s.word ≡ true → length s.word ≤ 7
     → AreShort s.arguments → IsFit mesh a
 fitting mesh a s is range later others within arguments =
     record { range = range; later = later; short = subst (IsShort 38) (sym (words_spelled mesh a s is)) (written_short s.word s.arguments (record { others = others; within = within }) arguments) }

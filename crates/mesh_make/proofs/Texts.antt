@@ -7,7 +7,7 @@ use Rattle.std.proofs.lemmas.List.{length-append}
 use Rattle.std.proofs.lemmas.List.Folds.{list_all-append}
 use Rattle.std.proofs.lemmas.List.Sums.{AllPass-from_list_all, list_all-from_AllPass}
 use Rattle.mesh_base.specs.Addresses.{dotted_decimal}
-use Rattle.mesh_base.proofs.Spelling.{Lacks, decimal_lacks}
+use Rattle.mesh_base.proofs.WrittenForms.{Lacks, decimal_lacks}
 use Rattle.mesh_grammar.specs.Forms.{Arguments, NoArgument, OneAddress, TwoAddresses, OneNumber, NumberedAddress, AddressesAndText, AddressAndNumber, AddressAndText}
 use Rattle.mesh_grammar.specs.Written.{command_text}
 use Rattle.mesh_make.specs.Made.{node_address}

@@ -1,6 +1,6 @@
 -- How far a schedule is made, and a run of it.
 use Rattle.std.specs.Prelude.{◌≡◌, ℕ, Bool, true, List, ◌++◌, drop, None}
-use Rattle.mesh_text.specs.Schedule.{Moment}
+use Rattle.mesh_text.specs.Schedule.{RunState}
 use Rattle.mesh_make.specs.declared.maker.Maker.{Maker}
 use Rattle.mesh_make.specs.Made.{mesh_of, text_in}
 use Rattle.mesh_make.specs.Places.{IsPlace, IsSize, is_end, is_node, nodes_at, lines_from}
@@ -23,7 +23,7 @@ pub record IsMaking (maker : Maker) : Type 0 where
   pub mesh : maker.mesh ≡ mesh_of (nodes_at maker.size.nodes maker.place)
 
 -- a run has come so far: it has the nodes that are made, and no world while nodes are to come
-pub record HasCome (maker : Maker) (m : Moment) : Type 0 where
+pub record HasCome (maker : Maker) (m : RunState) : Type 0 where
   pub mesh : m.mesh ≡ maker.mesh
   pub waits : is_node maker.place ≡ true → m.world ≡ None
 

@@ -7,7 +7,7 @@ ghost use Rattle.mesh_make.specs.Made.{made_schedule};
 use crate::sizes::{EVENTS_AT_END, FIRST_ADDRESS};
 use crate::step::step_line;
 use crate::word::start;
-use mesh_base::{Addr, Event, LINE_ROOM, LONGEST_LINE, LineBuf, Mesh};
+use mesh_base::{Addr, Event, LINE_CAPACITY, LONGEST_LINE, LineBuf, Mesh};
 use mesh_script::{Line, push_line};
 use rand_pcg::Lcg64Xsh32;
 
@@ -102,7 +102,7 @@ impl Maker {
     ghost use Rattle.std.specs.Prelude.{ℕ, List, is_some};
     ghost use Rattle.mesh_base.specs.declared.events.Variant.{Variant};
     ghost use Rattle.mesh_base.specs.declared.limits.TheConstants.{LONGEST_INPUT};
-    ghost use Rattle.mesh_text.specs.Schedule.{Moment, opening};
+    ghost use Rattle.mesh_text.specs.Schedule.{RunState, opening};
     ghost use Rattle.mesh_text.specs.Text.{On, outcome_of_line, goes_on, text_on};
     ghost use Rattle.mesh_script.specs.Seen.{IsAllowed};
     ghost use Rattle.mesh_make.specs.Making.{still_to_come, IsMaking, HasCome, is_done};
@@ -130,20 +130,20 @@ impl Maker {
         matches!(self.place, Place::End)
     }
 
-    /// The next line. The text of a datum stands in `text`. At a moment to which a run of the lines
+    /// The next line. The text of a datum stands in `text`. At a state to which a run of the lines
     /// before it has come the line is allowed, and the text that is still to come is run by doing
     /// it and running what then is still to come.
     pub fn next_line<'a>(&mut self, text: &'a mut LineBuf) -> Line<'a>
         requires making { IsMaking self.old }
         requires more { is_done self.old ≡ false }
-        ensures allowed { (m : Moment) → HasCome self.old m
+        ensures allowed { (m : RunState) → HasCome self.old m
             → IsAllowed m.mesh (is_some m.world) result }
-        ensures goes { (m : Moment) → HasCome self.old m
+        ensures goes { (m : RunState) → HasCome self.old m
             → length (still_to_come self.old) ≤ LONGEST_INPUT
             → text_on m (still_to_come self.old)
             ≡ goes_on m (outcome_of_line m (accepted_of result))
             (λ n. text_on n (still_to_come self.new)) }
-        ensures comes { (m n : Moment) (said : List ℕ) → HasCome self.old m
+        ensures comes { (m n : RunState) (said : List ℕ) → HasCome self.old m
             → outcome_of_line m (accepted_of result) ≡ On said n → HasCome self.new n }
         ensures shorter { length (still_to_come self.new) < length (still_to_come self.old) }
         ensures making { IsMaking self.new }
@@ -158,7 +158,7 @@ impl Maker {
     fn push_next(&mut self, text: &mut LineBuf, out: &mut LineBuf)
         requires making { IsMaking self.old }
         requires more { is_done self.old ≡ false }
-        requires room { length out.old + LONGEST_LINE ≤ LINE_ROOM }
+        requires room { length out.old + LONGEST_LINE ≤ LINE_CAPACITY }
         ensures text { out.old ++ still_to_come self.old
             ≡ out.new ++ still_to_come self.new }
         ensures longer { length out.old < length out.new }
@@ -183,7 +183,7 @@ impl Maker {
     {
         out.clear();
         self.push_next(text, out);
-        'lines: while !self.is_done() && out.len() + LONGEST_LINE <= LINE_ROOM {
+        'lines: while !self.is_done() && out.len() + LONGEST_LINE <= LINE_CAPACITY {
             self.push_next(text, out);
         }
     }

@@ -14,7 +14,7 @@ use Rattle.aodv_model.specs.Soundness.{AreBelow, IsDatum, IsMessageInMesh}
 use Rattle.aodv_model.specs.Handlers.{Cast, Nothing, One, Many, All, Effect, Took, Own, Stored, FromNeighbour}
 use Rattle.aodv_meaning.specs.Meaning.{meaning}
 use Rattle.aodv_meaning.specs.Effects.{kind_of}
-use Rattle.mesh_model.specs.Worlds.{World, Copy, Happening, Changed, Taken, Sent, CopyHeard, CopyLost, CopyDoubled, Outcome, Idle, Next, members_below, copies_of}
+use Rattle.mesh_model.specs.Worlds.{World, Copy, WorldEffect, Changed, Taken, Sent, CopyHeard, CopyLost, CopyDoubled, Outcome, Idle, Next, members_below, copies_of}
 use Rattle.mesh_meaning.specs.Packets.{IsWritten, copy_in}
 
 -- ---- what is said
@@ -46,22 +46,22 @@ copies_in mesh x cast air packet =
     copies_of (cast_in mesh cast packet) (members_below (length mesh) air.to) air.first x
 
 -- what happened at node x; where nothing did, this says no more than that
-abbrev pub happening_in : Nodes → ℕ → Done → List ℕ → Happening
-happening_in mesh x done.Idle packet = Changed
-happening_in mesh x done.Changed packet = Changed
-happening_in mesh x (done.Taken took effect air) packet =
+abbrev pub world_effect_in : Nodes → ℕ → Done → List ℕ → WorldEffect
+world_effect_in mesh x done.Idle packet = Changed
+world_effect_in mesh x done.Changed packet = Changed
+world_effect_in mesh x (done.Taken took effect air) packet =
     Taken (took_in mesh took) (effect_in mesh effect packet)
     (copies_in mesh x effect.cast air packet)
-happening_in mesh x (done.Sent effect air) packet =
+world_effect_in mesh x (done.Sent effect air) packet =
     Sent (effect_in mesh effect packet) (copies_in mesh x effect.cast air packet)
-happening_in mesh x (done.Heard from to) packet = CopyHeard from to
-happening_in mesh x (done.Lost flying) packet = CopyLost (copy_in mesh flying)
-happening_in mesh x (done.Doubled id to parcel) packet = CopyDoubled id to parcel
+world_effect_in mesh x (done.Heard from to) packet = CopyHeard from to
+world_effect_in mesh x (done.Lost flying) packet = CopyLost (copy_in mesh flying)
+world_effect_in mesh x (done.Doubled id to parcel) packet = CopyDoubled id to parcel
 
 -- what came of an event at node x, where the world is now w
 abbrev pub outcome_in : Nodes → ℕ → World → Done → List ℕ → Outcome
 outcome_in mesh x w done.Idle packet = Idle
-outcome_in mesh x w d packet = Next w (happening_in mesh x d packet)
+outcome_in mesh x w d packet = Next w (world_effect_in mesh x d packet)
 
 -- ---- what an answer keeps: all that it names is in the mesh, and its packets are written of
 -- messages of the mesh

@@ -6,14 +6,14 @@ use Rattle.mesh_base.specs.declared.events.Item.TheVariants as item
 use Rattle.mesh_base.specs.declared.events.Flying.{Flying}
 use Rattle.mesh_base.specs.Meshes.{Nodes}
 use Rattle.aodv_model.specs.Cores.{Message}
-use Rattle.aodv_wire.specs.Spells.{spelling}
+use Rattle.aodv_wire.specs.Encodes.{encoding}
 use Rattle.aodv_meaning.specs.Meaning.{meaning}
 use Rattle.aodv_meaning.specs.Sent.{IsSent, out_of}
 use Rattle.mesh_model.specs.Worlds.{Copy}
 
 -- the packet that is written of a message
 unfoldable pub packet_of : Nodes → Message → List ℕ
-packet_of mesh m = spelling (out_of mesh m)
+packet_of mesh m = encoding (out_of mesh m)
 
 -- the bytes are the packet that is written of what they mean
 abbrev pub IsWritten : Nodes → List ℕ → Type 0

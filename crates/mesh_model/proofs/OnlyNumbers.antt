@@ -19,7 +19,7 @@ use Rattle.mesh_model.proofs.Sizes.{run_size, start_size}
 use Rattle.mesh_model.proofs.Steps.{start_kept}
 use Rattle.mesh_model.specs.Invariants.{IsLoopSafe}
 use Rattle.mesh_model.specs.Trails.{HasReplyWalk, HasRequestWalk, HasWalks, IsBackedWalk, ItemHasWalk, NodeHasWalks, around, front}
-use Rattle.mesh_model.specs.Worlds.{is_parcel, AreFirstNumbers, Ask, Changed, Copy, CopyDoubled, CopyHeard, CopyLost, Cut, Deliver, Double, Event, Give, Next, Happening, Idle, Link, Lose, Node, Outcome, Send, Sent, Full, Taken, Turn, World, are_linked, ask_of, at_copy, at_node, copies, done_by, find_copy, push, range, run, send_of, start, step, turn_of, unless_full, with_double, with_link, without_copy, without_link}
+use Rattle.mesh_model.specs.Worlds.{is_parcel, AreFirstNumbers, Ask, Changed, Copy, CopyDoubled, CopyHeard, CopyLost, Cut, Deliver, Double, Event, Give, Next, WorldEffect, Idle, Link, Lose, Node, Outcome, Send, Sent, Full, Taken, Turn, World, are_linked, ask_of, at_copy, at_node, copies, done_by, find_copy, push, range, run, send_of, start, step, turn_of, unless_full, with_double, with_link, without_copy, without_link}
 
 -- ---- hops
 
@@ -67,10 +67,10 @@ Fills o = (x : ℕ) (f : Counter) → o ≡ Full x f → f ≡ full.Number
 idle_fills : Fills Idle
 idle_fills x f is = cc
 
-goes_fills : (w : World) (h : Happening) → Fills (Next w h)
+goes_fills : (w : World) (h : WorldEffect) → Fills (Next w h)
 goes_fills w h x f is = cc
 
-unless_fills : (y : ℕ) (o : Option Counter) (w : World) (h : Happening) → ((f : Counter) → o ≡ Some f → f ≡ full.Number) → Fills (unless_full y o (Next w h))
+unless_fills : (y : ℕ) (o : Option Counter) (w : World) (h : WorldEffect) → ((f : Counter) → o ≡ Some f → f ≡ full.Number) → Fills (unless_full y o (Next w h))
 unless_fills y None w h number x f is = goes_fills w h x f is
 unless_fills y (Some g) w h number x f is = let same : g ≡ f = cc in sym same ∙ number g refl
 
@@ -103,7 +103,7 @@ node_case : (f : Core → List Item → Outcome) (o : Option Node) → ((n : Nod
 node_case f None some = idle_fills
 node_case f (Some n) some = some n refl
 
-copy_case : (f : Copy → World) (g : Copy → Happening) (o : Option Copy) → Fills (at_copy o (λ c. Next (f c) (g c)))
+copy_case : (f : Copy → World) (g : Copy → WorldEffect) (o : Option Copy) → Fills (at_copy o (λ c. Next (f c) (g c)))
 copy_case f g None = idle_fills
 copy_case f g (Some c) = goes_fills (f c) (g c)
 

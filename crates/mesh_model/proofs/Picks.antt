@@ -9,7 +9,7 @@ use Rattle.mesh_base.specs.declared.events.Counter.{Counter}
 use Rattle.aodv_model.specs.Cores.{Item}
 use Rattle.aodv_model.specs.Handlers.{send, ask}
 use Rattle.aodv_model.specs.Fullness.{turn_full, send_full, ask_full}
-use Rattle.mesh_model.specs.Worlds.{World, Node, Copy, Event, Turn, Send, Ask, Deliver, Happening, Sent, Outcome, Idle, Next, range, done_by, copies, unless_full, turn_of, send_of, ask_of, at_node, at_copy, find_copy, step}
+use Rattle.mesh_model.specs.Worlds.{World, Node, Copy, Event, Turn, Send, Ask, Deliver, WorldEffect, Sent, Outcome, Idle, Next, range, done_by, copies, unless_full, turn_of, send_of, ask_of, at_node, at_copy, find_copy, step}
 use Rattle.mesh_model.specs.Choices.{waits, least_from, beside, least_pair_from, may_turn_in, may_send_in, may_ask_in, first_turn, first_send_in, first_ask_in, first_send, first_ask, first_copy, first_of, pick}
 
 -- ---- the least by a set
@@ -85,7 +85,7 @@ least_pair_found (suc k) i m found is = pair_here k i m found (found i) refl is 
 
 -- ---- what passes is enabled
 
-unless_goes : (x : ℕ) (f : Option Counter) (w : World) (h : Happening) → unless_full x f (Next w h) ≢ Idle
+unless_goes : (x : ℕ) (f : Option Counter) (w : World) (h : WorldEffect) → unless_full x f (Next w h) ≢ Idle
 unless_goes x None w h = λ e. cc
 unless_goes x (Some f) w h = λ e. cc
 

@@ -5,7 +5,7 @@ use Rattle.std.specs.Prelude.{ℕ, ◌+◌, Bool, true, if◌then◌else◌, Lis
 use Rattle.std.specs.FinMap as maps
 use Rattle.aodv_model.specs.Cores.{Body, Message, Pkt, Rreq, Rrep, Rerr, Item, New, Heard, Store, bodies_in}
 use Rattle.aodv_model.specs.Handlers.{Took, Own, Stored, FromNeighbour}
-use Rattle.mesh_model.specs.Worlds.{World, Copy, Event, Give, Turn, Double, find_copy, Happening, Taken, CopyLost, CopyDoubled, Outcome, Idle, Full, Next, step, after}
+use Rattle.mesh_model.specs.Worlds.{World, Copy, Event, Give, Turn, Double, find_copy, WorldEffect, Taken, CopyLost, CopyDoubled, Outcome, Idle, Full, Next, step, after}
 
 -- of an originator, a destination and a body
 abbrev pub Test : Type 0
@@ -70,7 +70,7 @@ in_flight t w = total (in_copy t) w.flying
 abbrev pub if_goes : Outcome → ℕ → ℕ
 if_goes Idle n = 0
 if_goes (Full x f) n = 0
-if_goes (Next w happening) n = n
+if_goes (Next w world_effect) n = n
 
 -- the data given by an event with that outcome
 abbrev pub given_data : Test → Event → Outcome → ℕ
@@ -88,13 +88,13 @@ doubled_data t w (Double id) = in_found t (find_copy w.flying id)
 doubled_data t w others = 0
 
 -- 1 where a data packet was doubled: what happened tells no more of it
-abbrev pub doubled_in : Happening → ℕ
+abbrev pub doubled_in : WorldEffect → ℕ
 doubled_in (CopyDoubled id to parcel) = if parcel then 1 else 0
 doubled_in others = 0
 
 -- the same of an outcome
 abbrev pub doubled_at : Outcome → ℕ
-doubled_at (Next w happening) = doubled_in happening
+doubled_at (Next w world_effect) = doubled_in world_effect
 doubled_at others = 0
 
 -- what node x took, where it is delivered: its own datum, or that of a packet
@@ -104,13 +104,13 @@ in_taken t x (Stored d) = 0
 in_taken t x (FromNeighbour from m) = in_message t m
 
 -- the datum that node x delivered
-abbrev pub delivered_in : Test → ℕ → Happening → ℕ
+abbrev pub delivered_in : Test → ℕ → WorldEffect → ℕ
 delivered_in t x (Taken taken effect copies) = if effect.deliver then in_taken t x taken else 0
 delivered_in t x others = 0
 
 -- the same of an outcome
 abbrev pub delivered_at : Test → ℕ → Outcome → ℕ
-delivered_at t x (Next w happening) = delivered_in t x happening
+delivered_at t x (Next w world_effect) = delivered_in t x world_effect
 delivered_at t x others = 0
 
 -- the data delivered: by turns
@@ -125,14 +125,14 @@ in_dropped t (Stored d) = 0
 in_dropped t (FromNeighbour from m) = in_message t m
 
 -- the datum that was dropped by a turn or lost with a copy
-abbrev pub dropped_in : Test → Happening → ℕ
+abbrev pub dropped_in : Test → WorldEffect → ℕ
 dropped_in t (Taken taken effect copies) = if effect.lost then in_dropped t taken else 0
 dropped_in t (CopyLost c) = in_copy t c
 dropped_in t others = 0
 
 -- the data dropped: by turns, and with lost copies
 abbrev pub dropped_data : Test → Event → Outcome → ℕ
-dropped_data t e (Next w happening) = dropped_in t happening
+dropped_data t e (Next w world_effect) = dropped_in t world_effect
 dropped_data t e others = 0
 
 -- the sum over a run of what each event's outcome counts

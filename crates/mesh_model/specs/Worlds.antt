@@ -133,26 +133,26 @@ unfoldable pub without : List Copy → ℕ → List Copy
 without cs id = without_by (λ c. c.id) cs id
 
 -- what a step did beside the new world
-pub data Happening : Type 0 where
+pub data WorldEffect : Type 0 where
   -- a datum was given, or a link changed
-  Changed : Happening
+  Changed : WorldEffect
   -- a turn: what it took, its effect, and the copies that its cast made
-  Taken : Took → Effect → List Copy → Happening
+  Taken : Took → Effect → List Copy → WorldEffect
   -- a stored datum was sent, or a request made: the effect, and the copies that the cast made
-  Sent : Effect → List Copy → Happening
+  Sent : Effect → List Copy → WorldEffect
   -- a copy reached its receiver's queue
-  CopyHeard : (from to : ℕ) → Happening
+  CopyHeard : (from to : ℕ) → WorldEffect
   -- this copy was lost
-  CopyLost : Copy → Happening
+  CopyLost : Copy → WorldEffect
   -- a new copy of this id, to this node, doubles another; and whether it is of a data packet
-  CopyDoubled : (id to : ℕ) (parcel : Bool) → Happening
+  CopyDoubled : (id to : ℕ) (parcel : Bool) → WorldEffect
 
 -- what comes of an event: nothing where it isn't enabled, the refusal of a node whose counter
 -- stands at its end, or a new world and what happened
 pub data Outcome : Type 0 where
   Idle : Outcome
   Full : (node : ℕ) → Counter → Outcome
-  Next : World → Happening → Outcome
+  Next : World → WorldEffect → Outcome
 
 -- the outcome, unless a counter stands at its end
 abbrev pub unless_full : ℕ → Option Counter → Outcome → Outcome
@@ -249,7 +249,7 @@ step w (Double id) =
 abbrev pub after : World → Outcome → World
 after w Idle = w
 after w (Full x f) = w
-after w (Next w' happening) = w'
+after w (Next w' world_effect) = w'
 
 -- the world after a list of events
 unfoldable pub run : World → List Event → World

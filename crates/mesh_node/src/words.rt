@@ -5,7 +5,7 @@ ghost use Rattle.mesh_node.specs.Words.{port_in, port_of};
 use mesh_base::number_up_to;
 use mesh_peers::GREATEST_PORT;
 
-// The port that a word spells: a number from 1 to 65535 in decimal digits without a leading zero.
+// The port that a word denotes: a number from 1 to 65535 in decimal digits without a leading zero.
 #[tactic(auto, unfolding(crate::specs::Words::port_in))]
 fn port_in(word: &str) -> Option<u16>
     ensures { result ≡ port_in word.now }
@@ -14,7 +14,7 @@ fn port_in(word: &str) -> Option<u16>
     if n == 0 { None } else { Some(n as u16) }
 }
 
-/// The port that the words ask for. None exactly where there isn't one word that spells a port.
+/// The port that the words ask for. None exactly where there isn't one word that denotes a port.
 pub fn port_of(words: &[&str]) -> Option<u16>
     ensures { result ≡ port_of (map (λ w. w.now) words.now) }
 {

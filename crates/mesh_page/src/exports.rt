@@ -1,6 +1,6 @@
 //! The exported call.
 ghost use Rattle.std.specs.Prelude.{◌≡◌, ◌↔◌, ◌<◌, ◌⊎◌, true, None, IfSome, length, take, drop};
-ghost use Rattle.mesh_shell.specs.Story.{whole};
+ghost use Rattle.mesh_shell.specs.Fold.{whole};
 ghost use Rattle.mesh_text.specs.EveryWorld.{IsLoopFreeRun, IsAccountedRun};
 ghost use Rattle.mesh_text.specs.NamedData.{IsNamedRun};
 ghost use Rattle.mesh_text.specs.declared.verdict.Verdict.TheVariants.{Finished};
@@ -50,7 +50,7 @@ pub extern "C" fn mesh_page_run(
     // them every datum is accounted for; and the run's text has a line for each time that a datum
     // was delivered or dropped. With blocks the run goes through the same worlds, and its text is
     // the same but for the blocks: each is whole lines, directly below those of its event, and
-    // shows the node that the event has changed, at the moment after it.
+    // shows the node that the event has changed, in the state after it.
     ensures loop_free { IfSome (variant_numbered variant) (λ v. IsLoopFreeRun v input.now) }
     ensures accounted { IfSome (variant_numbered variant) (λ v. IsAccountedRun v input.now) }
     ensures named { IfSome (variant_numbered variant) (λ v. IsNamedRun v input.now) }

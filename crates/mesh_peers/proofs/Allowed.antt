@@ -4,18 +4,18 @@ use Rattle.std.proofs.lemmas.Bool.{eqb-false, ne_eqb}
 use Rattle.std.proofs.lemmas.List.{append-nil}
 use Rattle.mesh_base.specs.declared.limits.TheConstants.{MOST_NODES}
 use Rattle.mesh_base.specs.Meshes.{Nodes, IsMesh, addr_at, index_of}
-use Rattle.mesh_base.proofs.Spelling.{index_of-at}
+use Rattle.mesh_base.proofs.WrittenForms.{index_of-at}
 use Rattle.aodv_meaning.proofs.Means.{index_there}
 use Rattle.aodv_model.proofs.Entries.{if_case}
 use Rattle.mesh_grammar.specs.declared.fault.LineFault.{LineFault}
 use Rattle.mesh_grammar.specs.declared.fault.LineFault.TheVariants.{Early, TooManyNodes, Unknown, Same}
-use Rattle.mesh_grammar.specs.Words.{Mention, next_at, with_argument}
+use Rattle.mesh_grammar.specs.Words.{SpannedAddr, next_at, with_argument}
 use Rattle.mesh_grammar.specs.Forms.{Arguments, NoArgument, OneAddress, OneNumber, NumberedAddress, AddressAndNumber, AddressAndText, greatest_first, AreOfForm}
 use Rattle.mesh_grammar.specs.Scripts.{Shape, row_in, shape_by}
 use Rattle.mesh_grammar.specs.Written.{command_text}
-use Rattle.mesh_grammar.specs.Laws.{mention, as_mentions, HaveAddresses, IsReadable, IsWord, addresses_of}
+use Rattle.mesh_grammar.specs.Laws.{spanned, as_spanned, HaveAddresses, IsReadable, IsWord, addresses_of}
 use Rattle.mesh_grammar.proofs.Readings.{with_argument_case}
-use Rattle.mesh_grammar.proofs.Spellings.{written_line_is_read}
+use Rattle.mesh_grammar.proofs.CommandLines.{written_line_is_read}
 use Rattle.mesh_text.specs.Schedule.{as_node, result_and_then}
 use Rattle.mesh_peers.specs.declared.command.Command.{Command}
 use Rattle.mesh_peers.specs.declared.command.Command.TheVariants as command
@@ -43,7 +43,7 @@ none_there None h = refl
 none_there (Some x) h = absurd (let P : ⊥ = cc in P)
 
 -- node x is the one that is mentioned
-abbrev IsAt : Nodes → Mention → ℕ → Type 0
+abbrev IsAt : Nodes → SpannedAddr → ℕ → Type 0
 IsAt mesh m x = (x < length mesh) × (addr_at mesh x ≡ m.address)
 
 module _ (p : PeersSeen) (started : Bool) where
@@ -58,7 +58,7 @@ module _ (p : PeersSeen) (started : Bool) where
       let apart : length p.mesh ≢ MOST_NODES = eqb-false (length p.mesh) MOST_NODES room in
       holds (record { fits = fits; absent = absent; few = omega arith }))
 
-  self_allowed : (m : Mention) (first : ℕ) → length p.mesh ≤ MOST_NODES → m.address < 2 ^ 32 → 1 ≤ first → first ≤ greatest_first
+  self_allowed : (m : SpannedAddr) (first : ℕ) → length p.mesh ≤ MOST_NODES → m.address < 2 ^ 32 → 1 ≤ first → first ≤ greatest_first
       → Allowed p started (new_self p started m first)
   unfolding Allowed
   self_allowed m first few fits one most =
@@ -68,7 +68,7 @@ module _ (p : PeersSeen) (started : Bool) where
       new_in_room m.address (Own m.address first) few (none_there (index_of p.mesh m.address) absent) fits (λ new.
       ((new, none_there p.me none, one, most), early)))))
 
-  peer_allowed : (size : ℕ) (m : Mention) (port : ℕ) → length p.mesh ≤ MOST_NODES → m.address < 2 ^ 32 → 1 ≤ port → port ≤ GREATEST_PORT
+  peer_allowed : (size : ℕ) (m : SpannedAddr) (port : ℕ) → length p.mesh ≤ MOST_NODES → m.address < 2 ^ 32 → 1 ≤ port → port ≤ GREATEST_PORT
       → Allowed p started (new_peer p started size m port)
   unfolding Allowed
   peer_allowed size m port few fits one most =
@@ -83,7 +83,7 @@ module _ (p : PeersSeen) (started : Bool) where
   after_named None r holds = faulty Early
   after_named (Some x) r holds = holds refl
 
-  at_node : (make : Arguments ℕ → Result AcceptedLine LineFault) (m : Mention) (next : ℕ → Result (Arguments ℕ) LineFault)
+  at_node : (make : Arguments ℕ → Result AcceptedLine LineFault) (m : SpannedAddr) (next : ℕ → Result (Arguments ℕ) LineFault)
       → ((x : ℕ) → x < length p.mesh → Allowed p started (result_and_then make (next x))) → Allowed p started (result_and_then make (as_node p.mesh m next))
   at_node make m next holds =
       with_argument_case (λ r. Allowed p started (result_and_then make r)) (index_of p.mesh m.address) (Unknown m.span) next (faulty (Unknown m.span))
@@ -95,7 +95,7 @@ module _ (p : PeersSeen) (started : Bool) where
       if_case (Allowed p started) (eqb x y) (Err Same) (Ok line) (λ _. faulty Same) (λ apart.
       let other : x ≢ y = eqb-false x y apart in holds (λ e. other (let same : y ≡ x = cc in sym same)))
 
-  said_allowed : (size : ℕ) (c : Command) (arguments : Arguments Mention) → length p.mesh ≤ MOST_NODES → AreOfForm (form_of c) arguments
+  said_allowed : (size : ℕ) (c : Command) (arguments : Arguments SpannedAddr) → length p.mesh ≤ MOST_NODES → AreOfForm (form_of c) arguments
       → HaveAddresses (addresses_of arguments) → Allowed p started (accepted_line p started size c arguments)
   unfolding Allowed
   said_allowed size command.Own (NumberedAddress m first) few form fit = self_allowed m first few fit form.0 form.1
@@ -117,7 +117,7 @@ module _ (p : PeersSeen) (started : Bool) where
   said_allowed size command.Show NoArgument few form fit = after_named p.me _ (λ named. (named, tt))
   said_allowed size other arguments few form fit = absurd form
 
-  shape_allowed : (line : List ℕ) (r : Result (Option (Shape Command Mention)) LineFault) → length p.mesh ≤ MOST_NODES → Said line r
+  shape_allowed : (line : List ℕ) (r : Result (Option (Shape Command SpannedAddr)) LineFault) → length p.mesh ≤ MOST_NODES → Said line r
       → Allowed p started (result_and_then (accepted_shape p started (length line)) r)
   unfolding Allowed Said
   shape_allowed line (Ok None) few said = (tt, tt)
@@ -160,7 +160,7 @@ readable others = tt
 -- a line of this command is read by its arguments
 line_said : (p : PeersSeen) (started : Bool) (c : Command) (arguments : Arguments ℕ) → AreOfForm (form_of c) arguments → HaveAddresses arguments
     → line_of p started (command_text (word_of c) arguments)
-    ≡ accepted_line p started (length (command_text (word_of c) arguments)) c (as_mentions (next_at 0 (word_of c)) arguments)
+    ≡ accepted_line p started (length (command_text (word_of c) arguments)) c (as_spanned (next_at 0 (word_of c)) arguments)
 unfolding line_of
 line_said p started c arguments form fit =
     ap (result_and_then (accepted_shape p started (length (command_text (word_of c) arguments))))
@@ -172,8 +172,8 @@ module _ (p : PeersSeen) (started : Bool) (is : IsMesh p.mesh) where
   named None r h = absurd (let P : ⊥ = cc in P)
   named (Some x) r h = refl
 
-  known_there : {B : Type 0} (at x : ℕ) (next : ℕ → Result B LineFault) → x < length p.mesh → as_node p.mesh (mention at (addr_at p.mesh x)) next ≡ next x
-  known_there at x next lt = ap (λ o. with_argument o (Unknown ((mention at (addr_at p.mesh x)).span)) next) (index_of-at p.mesh x is lt)
+  known_there : {B : Type 0} (at x : ℕ) (next : ℕ → Result B LineFault) → x < length p.mesh → as_node p.mesh (spanned at (addr_at p.mesh x)) next ≡ next x
+  known_there at x next lt = ap (λ o. with_argument o (Unknown ((spanned at (addr_at p.mesh x)).span)) next) (index_of-at p.mesh x is lt)
 
   of_others : (me : Option ℕ) (x : ℕ) (line : AcceptedLine) → me ≢ Some x → of_other me x line ≡ Ok line
   of_others None x line apart = refl
@@ -193,11 +193,11 @@ module _ (p : PeersSeen) (started : Bool) (is : IsMesh p.mesh) where
   parses Nothing range time = refl
   parses (Own address first) range time =
       line_said p started command.Own (NumberedAddress address first) (range.2, range.3) (range.0).fits
-      ∙ ap (λ b. new_self p b (mention (next_at 0 (word_of command.Own)) address) first) time
+      ∙ ap (λ b. new_self p b (spanned (next_at 0 (word_of command.Own)) address) first) time
       ∙ rw (ap is_some range.1, ap is_some (range.0).absent) (new_room (Own address first) (range.0).few)
   parses (Peer address port) range time =
       line_said p started command.Peer (AddressAndNumber address port) (range.2, range.3) (range.0).fits
-      ∙ ap (λ b. new_peer p b (length (command_text (word_of command.Peer) (AddressAndNumber address port))) (mention (next_at 0 (word_of command.Peer)) address) port) time
+      ∙ ap (λ b. new_peer p b (length (command_text (word_of command.Peer) (AddressAndNumber address port))) (spanned (next_at 0 (word_of command.Peer)) address) port) time
       ∙ rw (ap is_some (range.0).absent, ap is_some range.1) (new_room (Peer address port) (range.0).few)
   parses (Up x) range time = line_of_one command.Up x tt range.0 ∙ of_others p.me x (Up x) range.1
   parses (Down x) range time = line_of_one command.Down x tt range.0 ∙ of_others p.me x (Down x) range.1

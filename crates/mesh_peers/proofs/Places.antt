@@ -6,7 +6,7 @@ use Rattle.std.proofs.lemmas.Bool.Decides.{nat_tests}
 use Rattle.std.proofs.lemmas.List.Edits.{length-insert, get_or-insert_at, get_or-insert_below, get_or-insert_above}
 use Rattle.mesh_base.specs.Meshes.{Nodes, IsMesh, addr_at, index_of, with_node}
 use Rattle.mesh_base.proofs.PartLaws.{place_le}
-use Rattle.mesh_base.proofs.Spelling.{index_of-at}
+use Rattle.mesh_base.proofs.WrittenForms.{index_of-at}
 use Rattle.mesh_peers.specs.Peers.{PeersSeen, place_for, moved_place, with_self, with_peer, ArePeers}
 
 pub place_within : (mesh : Nodes) (a : ℕ) → place_for mesh a ≤ length mesh

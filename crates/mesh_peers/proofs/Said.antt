@@ -5,13 +5,13 @@ use Rattle.std.specs.List.{AllByRecursion}
 use Rattle.std.proofs.lemmas.List.{length-append}
 use Rattle.mesh_base.specs.Addresses.{dotted_decimal}
 use Rattle.mesh_grammar.specs.declared.fault.LineFault.{LineFault}
-use Rattle.mesh_grammar.specs.Words.{Mention, is_blank}
+use Rattle.mesh_grammar.specs.Words.{SpannedAddr, is_blank}
 use Rattle.mesh_grammar.specs.Forms.{Arguments, NoArgument, OneAddress, TwoAddresses, OneNumber, NumberedAddress, AddressesAndText, AddressAndNumber, AddressAndText, AreOfForm}
 use Rattle.mesh_grammar.specs.Scripts.{Row, Shape}
 use Rattle.mesh_grammar.specs.Written.{command_text}
 use Rattle.mesh_grammar.specs.Laws.{HaveAddresses, AreReadable, addresses_of, IsTextOf, IsRead}
 use Rattle.mesh_grammar.proofs.Readings.{row_found, LineRead, line_read}
-use Rattle.mesh_script.specs.Arguments.{mentions_of}
+use Rattle.mesh_script.specs.Arguments.{all_spanned_of}
 use Rattle.mesh_peers.specs.declared.command.Command.{Command}
 use Rattle.mesh_peers.specs.declared.command.Command.TheVariants as command
 use Rattle.mesh_peers.specs.declared.shape.Shape as code
@@ -60,17 +60,17 @@ pub script_is_readable : AreReadable router_script
 script_is_readable = (tt, (omega arith, (tt, (tt, (tt, (omega arith, (omega arith, (tt, (tt, (tt, tt))))))))))
 
 -- a line that is read as this command and these arguments
-pub record IsSaid (line : List ℕ) (c : Command) (arguments : Arguments Mention) : Type 0 where
+pub record IsSaid (line : List ℕ) (c : Command) (arguments : Arguments SpannedAddr) : Type 0 where
   pub form : AreOfForm (form_of c) arguments
   pub addresses : HaveAddresses (addresses_of arguments)
   pub text : IsTextOf line (word_of c) (addresses_of arguments)
 
-unfoldable pub Said : List ℕ → Result (Option (Shape Command Mention)) LineFault → Type 0
+unfoldable pub Said : List ℕ → Result (Option (Shape Command SpannedAddr)) LineFault → Type 0
 Said line (Err fault) = Unit {0}
 Said line (Ok None) = is_blank line ≡ true
 Said line (Ok (Some s)) = IsSaid line s.command s.arguments
 
-row_said : (line : List ℕ) (s : Shape Command Mention) (row : Row Command) → IsRead router_script line s row → IsSaid line s.command s.arguments
+row_said : (line : List ℕ) (s : Shape Command SpannedAddr) (row : Row Command) → IsRead router_script line s row → IsSaid line s.command s.arguments
 unfolding IsRowOfCommand
 row_said line s row is =
     let of = row_found IsRowOfCommand router_script row.word row rows_of_commands is.found in
@@ -82,7 +82,7 @@ row_said line s row is =
       text = subst (λ w. IsTextOf line w (addresses_of s.arguments)) word_is is.text;
     }
 
-said_if : (line : List ℕ) (r : Result (Option (Shape Command Mention)) LineFault) → LineRead router_script line r → Said line r
+said_if : (line : List ℕ) (r : Result (Option (Shape Command SpannedAddr)) LineFault) → LineRead router_script line r → Said line r
 unfolding LineRead Said
 said_if line (Err fault) read = tt
 said_if line (Ok None) read = read
@@ -96,7 +96,7 @@ said line = said_if line (shape_of line) (line_read router_script line script_is
 last_fits : (front : List ℕ) (n : ℕ) → length (decimal n) ≤ length (front ++ 32 ∷ decimal n)
 last_fits front n = omega (arith, length-append front (32 ∷ decimal n))
 
-ends : (line word : List ℕ) (arguments : Arguments Mention) → IsTextOf line word (addresses_of arguments) → EndsIn (length line) arguments
+ends : (line word : List ℕ) (arguments : Arguments SpannedAddr) → IsTextOf line word (addresses_of arguments) → EndsIn (length line) arguments
 unfolding command_text
 ends line word NoArgument text = tt
 ends line word (OneAddress a) text = tt
@@ -112,7 +112,7 @@ said_shape : (line : List ℕ) (r : Result (Option code.Shape) LineFault) → Sa
 unfolding Said
 said_shape line (Err f) h = tt
 said_shape line (Ok None) h = tt
-said_shape line (Ok (Some s)) h = (h.form, ends line (word_of s.command) (mentions_of s.arguments) h.text)
+said_shape line (Ok (Some s)) h = (h.form, ends line (word_of s.command) (all_spanned_of s.arguments) h.text)
 
 pub said_in : (line : List ℕ) (r : Result (Option code.Shape) LineFault) → seen_shape r ≡ shape_of line → IfOk r (IsSaidIn (length line))
 said_in line r is = said_shape line r (subst (Said line) (sym is) (said line))

@@ -3,7 +3,7 @@ use Rattle.std.specs.Prelude.{ℕ, List, [], ◌∷◌, Option, Result, codes}
 use Rattle.mesh_grammar.specs.declared.fault.LineFault.{LineFault}
 use Rattle.mesh_grammar.specs.declared.form.Form.{Form}
 use Rattle.mesh_grammar.specs.declared.form.Form.TheVariants.{Bare, Address, Number, Numbered, AddressNumber, AddressText}
-use Rattle.mesh_grammar.specs.Words.{Mention}
+use Rattle.mesh_grammar.specs.Words.{SpannedAddr}
 use Rattle.mesh_grammar.specs.Scripts.{Row, Shape, shape_by}
 use Rattle.mesh_peers.specs.declared.command.Command.{Command}
 use Rattle.mesh_peers.specs.declared.command.Command.TheVariants.{Own, Peer, Up, Down, Data, Poll, Turn, Send, Ask, Show}
@@ -27,5 +27,5 @@ router_script =
     ∷ []
 
 -- what a line of a router's script says by itself
-abbrev pub shape_of : List ℕ → Result (Option (Shape Command Mention)) LineFault
+abbrev pub shape_of : List ℕ → Result (Option (Shape Command SpannedAddr)) LineFault
 shape_of line = shape_by router_script line

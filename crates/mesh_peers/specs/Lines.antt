@@ -6,7 +6,7 @@ use Rattle.mesh_base.specs.Meshes.{Nodes, index_of, addr_at}
 use Rattle.mesh_grammar.specs.declared.fault.LineFault.{LineFault}
 use Rattle.mesh_grammar.specs.declared.fault.LineFault.TheVariants.{Count, Late, Early, TwiceNode, TooManyNodes, Same}
 use Rattle.mesh_grammar.specs.declared.fault.Span.{Span}
-use Rattle.mesh_grammar.specs.Words.{Mention}
+use Rattle.mesh_grammar.specs.Words.{SpannedAddr}
 use Rattle.mesh_grammar.specs.Forms.{Arguments, NoArgument, OneAddress, OneNumber, NumberedAddress, AddressAndNumber, AddressAndText, greatest_first, IsText}
 use Rattle.mesh_grammar.specs.Scripts.{Shape}
 use Rattle.mesh_grammar.specs.Written.{command_text}
@@ -68,7 +68,7 @@ abbrev pub in_room : Nodes → AcceptedLine → Result AcceptedLine LineFault
 in_room mesh line = if length mesh == MOST_NODES then Err TooManyNodes else Ok line
 
 -- the node itself, once, before the run has started
-abbrev pub new_self : PeersSeen → Bool → Mention → ℕ → Result AcceptedLine LineFault
+abbrev pub new_self : PeersSeen → Bool → SpannedAddr → ℕ → Result AcceptedLine LineFault
 new_self p started a first =
     if started then Err Late else
     if is_some p.me then Err (TwiceNode a.span) else
@@ -81,7 +81,7 @@ last_span size n = record { from = size - length (decimal n); to = size }
 
 -- a peer with an address and a port of its own, before the run has started. The port ends the line,
 -- which has this length
-abbrev pub new_peer : PeersSeen → Bool → ℕ → Mention → ℕ → Result AcceptedLine LineFault
+abbrev pub new_peer : PeersSeen → Bool → ℕ → SpannedAddr → ℕ → Result AcceptedLine LineFault
 new_peer p started size a port =
     if started then Err Late else
     if is_some (index_of p.mesh a.address) then Err (TwiceNode a.span) else
@@ -90,14 +90,14 @@ new_peer p started size a port =
 
 -- a command and its arguments with these peers: one more node, or a line about the nodes that are
 -- there. A run has started once a line was neither blank nor a `self` or `peer` line
-abbrev pub accepted_line : PeersSeen → Bool → ℕ → Command → Arguments Mention
+abbrev pub accepted_line : PeersSeen → Bool → ℕ → Command → Arguments SpannedAddr
     → Result AcceptedLine LineFault
 accepted_line p started size command (NumberedAddress a first) = new_self p started a first
 accepted_line p started size command (AddressAndNumber a port) = new_peer p started size a port
 accepted_line p started size command others =
     after_self p.me (result_and_then (made_line p.me command) (with_nodes p.mesh others))
 
-abbrev pub accepted_shape : PeersSeen → Bool → ℕ → Option (Shape Command Mention)
+abbrev pub accepted_shape : PeersSeen → Bool → ℕ → Option (Shape Command SpannedAddr)
     → Result AcceptedLine LineFault
 accepted_shape p started size None = Ok Nothing
 accepted_shape p started size (Some s) = accepted_line p started size s.command s.arguments

@@ -7,7 +7,7 @@ use Rattle.mesh_grammar.specs.declared.form.Form.TheVariants as form
 use Rattle.mesh_grammar.specs.Words as words
 use Rattle.mesh_grammar.specs.Forms.{Arguments, AddressAndNumber, AreOfForm}
 use Rattle.mesh_grammar.specs.Scripts as scripts
-use Rattle.mesh_script.specs.Arguments.{mentions_of}
+use Rattle.mesh_script.specs.Arguments.{all_spanned_of}
 use Rattle.mesh_peers.specs.declared.command.Command.{Command}
 use Rattle.mesh_peers.specs.declared.command.Command.TheVariants as command
 use Rattle.mesh_peers.specs.declared.limits.TheConstants.{MOST_AT_ONCE, GREATEST_PORT}
@@ -24,16 +24,16 @@ use Rattle.mesh_peers.specs.Peers.{PeersSeen}
 abbrev pub row_with : List ℕ → Row → scripts.Row Command
 row_with word r = record { command = r.command; word = word; form = r.form }
 
-abbrev pub shape_seen : Shape → scripts.Shape Command words.Mention
-shape_seen s = record { command = s.command; arguments = mentions_of s.arguments }
+abbrev pub shape_seen : Shape → scripts.Shape Command words.SpannedAddr
+shape_seen s = record { command = s.command; arguments = all_spanned_of s.arguments }
 
 -- a blank line says nothing
-abbrev pub said_of : Option Shape → Option (scripts.Shape Command words.Mention)
+abbrev pub said_of : Option Shape → Option (scripts.Shape Command words.SpannedAddr)
 said_of None = None
 said_of (Some s) = Some (shape_seen s)
 
 abbrev pub seen_shape : Result (Option Shape) LineFault
-    → Result (Option (scripts.Shape Command words.Mention)) LineFault
+    → Result (Option (scripts.Shape Command words.SpannedAddr)) LineFault
 seen_shape (Ok said) = Ok (said_of said)
 seen_shape (Err f) = Err f
 
@@ -51,7 +51,7 @@ form_of command.Ask = form.Address
 form_of command.Show = form.Bare
 
 -- a number after an address ends a line of this length
-abbrev pub EndsIn : ℕ → Arguments words.Mention → Type 0
+abbrev pub EndsIn : ℕ → Arguments words.SpannedAddr → Type 0
 EndsIn size (AddressAndNumber a n) = length (decimal n) ≤ size
 EndsIn size others = ⊤
 
@@ -59,7 +59,8 @@ EndsIn size others = ⊤
 abbrev pub IsSaidIn : ℕ → Option Shape → Type 0
 IsSaidIn size None = ⊤
 IsSaidIn size (Some s) =
-    AreOfForm (form_of s.command) (mentions_of s.arguments) × EndsIn size (mentions_of s.arguments)
+    AreOfForm (form_of s.command) (all_spanned_of s.arguments)
+    × EndsIn size (all_spanned_of s.arguments)
 
 -- ---- a line at its place
 

@@ -2,7 +2,7 @@
 ghost use Rattle.std.specs.Prelude.{◌≡◌, ◌≤◌, length, IfOk};
 ghost use Rattle.std.specs.Fmt.{decimal};
 ghost use Rattle.mesh_grammar.specs.Forms.{AreOfForm};
-ghost use Rattle.mesh_script.specs.Arguments.{mention_of, places_of};
+ghost use Rattle.mesh_script.specs.Arguments.{spanned_of, places_of};
 ghost use Rattle.mesh_peers.specs.Lines as lines;
 ghost use Rattle.mesh_peers.specs.Seen.{said_of, accepted_of, seen_line, form_of, IsSaidIn, HasSelf, IsAllowed};
 
@@ -12,7 +12,7 @@ use crate::peers::Peers;
 use crate::shape::{Shape, shape_of};
 use mesh_base::MOST_NODES;
 use mesh_grammar::{LineFault, Span};
-use mesh_script::{Arguments, Mention, placed};
+use mesh_script::{Arguments, SpannedAddr, placed};
 
 // No line but `self` and `peer` comes before the node itself is named.
 fn after_self(peers: &Peers) -> Result<(), LineFault>
@@ -66,10 +66,10 @@ fn make_line<'a>(
 fn new_self(
     peers: &Peers,
     started: bool,
-    node: Mention,
+    node: SpannedAddr,
     first: u32,
 ) -> Result<NodeLine<'static>, LineFault>
-    ensures { seen_line result ≡ lines.new_self peers.now started (mention_of node) first }
+    ensures { seen_line result ≡ lines.new_self peers.now started (spanned_of node) first }
 {
     if started {
         return Err(LineFault::Late);
@@ -112,11 +112,11 @@ fn new_peer(
     peers: &Peers,
     started: bool,
     size: usize,
-    node: Mention,
+    node: SpannedAddr,
     port: u16,
 ) -> Result<NodeLine<'static>, LineFault>
     requires { length (decimal port) ≤ size }
-    ensures { seen_line result ≡ lines.new_peer peers.now started size (mention_of node) port }
+    ensures { seen_line result ≡ lines.new_peer peers.now started size (spanned_of node) port }
 {
     if started {
         return Err(LineFault::Late);

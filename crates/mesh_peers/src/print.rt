@@ -9,13 +9,13 @@ ghost use Rattle.mesh_peers.specs.Seen.{accepted_of, IsPrintable};
 
 use crate::line::NodeLine;
 use crate::peers::Peers;
-use mesh_base::{LINE_ROOM, LineBuf, Mesh};
+use mesh_base::{LINE_CAPACITY, LineBuf, Mesh};
 use mesh_script::{Arguments, LONGEST_WRITTEN, push_written};
 
 // A word and the address of a node.
 fn push_of_node(out: &mut LineBuf, word: &[u8], mesh: &Mesh, node: usize)
     requires node { node < length mesh.now }
-    requires room { length out.old + length word.now + 16 ≤ LINE_ROOM }
+    requires room { length out.old + length word.now + 16 ≤ LINE_CAPACITY }
     ensures text { out.new
         ≡ out.old ++ command_text word.now (OneAddress (addr_at mesh.now node)) }
     ensures length { length out.new ≤ length out.old + length word.now + 16 }
@@ -27,7 +27,7 @@ fn push_of_node(out: &mut LineBuf, word: &[u8], mesh: &Mesh, node: usize)
 #[tactic(auto, using(crate::proofs::Allowed::append_none), unfolding(crate::specs::Lines::words_of))]
 pub fn push_node_line(out: &mut LineBuf, peers: &Peers, line: &NodeLine<'_>)
     requires printable { IsPrintable peers.now line.now }
-    requires room { length out.old + LONGEST_WRITTEN ≤ LINE_ROOM }
+    requires room { length out.old + LONGEST_WRITTEN ≤ LINE_CAPACITY }
     ensures text { out.new
         ≡ out.old ++ lines.words_of peers.now.mesh (accepted_of line.now) }
     ensures length { length out.new ≤ length out.old + LONGEST_WRITTEN }

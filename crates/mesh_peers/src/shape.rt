@@ -8,13 +8,13 @@ use crate::command::Command;
 use crate::limits::{GREATEST_PORT, MOST_AT_ONCE};
 use mesh_base::cut;
 use mesh_grammar::{Form, LineFault};
-use mesh_script::{Arguments, Mention, arguments_of, is_blank, is_word, next_at, span_at};
+use mesh_script::{Arguments, SpannedAddr, arguments_of, is_blank, is_word, next_at, span_at};
 
 /// A command with its arguments.
 #[derive(Drop)]
 pub struct Shape<'a> {
     pub command: Command,
-    pub arguments: Arguments<'a, Mention>,
+    pub arguments: Arguments<'a, SpannedAddr>,
 }
 
 /// A command and the form of its arguments.
@@ -30,7 +30,7 @@ fn found(command: Command, form: Form) -> Option<Row>
     Some(Row { command, form })
 }
 
-/// The row of the script's table that a word spells.
+/// The row of the script's table that a word denotes.
 fn row_of(word: &[u8]) -> Option<Row>
     ensures some { IfSome result
         (λ r. row_in commands.router_script word.now ≡ Some (row_with word.now r)) }

@@ -14,18 +14,18 @@ use Rattle.mesh_io.specs.Puts.{AppendsPrefix}
 use Rattle.mesh_io.proofs.Writing.{Appends-join, AppendsPrefix-join, AppendsPrefix-more}
 use Rattle.mesh_grammar.proofs.Readings.{if_case}
 use Rattle.mesh_text.specs.Schedule as schedule
-use Rattle.mesh_text.specs.Schedule.{next_moment, with_world, world_of}
-use Rattle.mesh_text.specs.Runs.{moment_after}
-use Rattle.mesh_text.proofs.Moments.{not_made}
+use Rattle.mesh_text.specs.Schedule.{next_state, with_world, world_of}
+use Rattle.mesh_text.specs.Runs.{run_state_after}
+use Rattle.mesh_text.proofs.RunStates.{not_made}
 use Rattle.mesh_grid.specs.declared.place.Place.{Place}
 use Rattle.mesh_grid.specs.declared.place.Places.{Places}
 use Rattle.mesh_grid.specs.declared.line.Placing.{Placing}
 use Rattle.mesh_grid.specs.Places.{is_within, place_of}
 use Rattle.mesh_grid.specs.Links.{change, change_with, change_at, changes_below}
-use Rattle.mesh_grid.specs.Text.{Moment, change_line, changes}
+use Rattle.mesh_grid.specs.Text.{RunState, change_line, changes}
 use Rattle.mesh_grid.proofs.PlaceSteps.{few_changes, first_changes, after-more, after-none, after-one, steps_after}
 use Rattle.mesh_places.specs.declared.placed.Placed.{Placed}
-use Rattle.mesh_places.specs.Moments.{IsChange, change_lines}
+use Rattle.mesh_places.specs.RunStates.{IsChange, change_lines}
 
 -- ---- a change fills no counter
 
@@ -89,29 +89,29 @@ is_change size reach places near new y e one is =
     let all : AllOfLink (e ∷ []) = subst AllOfLink (sym one) (of_at reach places near new y) in
     change_of size e all is
 
--- ---- moments
+-- ---- states
 
-pub mesh_after : (m : schedule.Moment) (es : List Event) → (moment_after m es).mesh ≡ m.mesh
-unfolding moment_after next_moment
+pub mesh_after : (m : schedule.RunState) (es : List Event) → (run_state_after m es).mesh ≡ m.mesh
+unfolding run_state_after next_state
 mesh_after m [] = refl
-mesh_after m (e ∷ es) = mesh_after (next_moment m e) es
+mesh_after m (e ∷ es) = mesh_after (next_state m e) es
 
 -- a change makes the opening world where there is none
-pub begun_next : (m n : schedule.Moment) (e : Event) → n ≡ with_world m → next_moment n e ≡ next_moment m e
-unfolding next_moment
-begun_next m n e is = ap (λ k. next_moment k e) is
+pub begun_next : (m n : schedule.RunState) (e : Event) → n ≡ with_world m → next_state n e ≡ next_state m e
+unfolding next_state
+begun_next m n e is = ap (λ k. next_state k e) is
 
-pub still : (m n : schedule.Moment) (e : Event) → n ≡ next_moment m e → n.mesh ≡ m.mesh
-unfolding next_moment
+pub still : (m n : schedule.RunState) (e : Event) → n ≡ next_state m e → n.mesh ≡ m.mesh
+unfolding next_state
 still m n e is = ap (λ k. k.mesh) is
 
-pub no_change : (m : schedule.Moment) (es : List Event) → [] ≡ es → m ≡ moment_after m es
-no_change m es none = sym (after-none m) ∙ ap (moment_after m) none
+pub no_change : (m : schedule.RunState) (es : List Event) → [] ≡ es → m ≡ run_state_after m es
+no_change m es none = sym (after-none m) ∙ ap (run_state_after m) none
 
-pub after_change : (m n : schedule.Moment) (e : Event) (es : List Event) → n ≡ next_moment m e → e ∷ [] ≡ es → n ≡ moment_after m es
-after_change m n e es is one = is ∙ sym (after-one m e) ∙ ap (moment_after m) one
+pub after_change : (m n : schedule.RunState) (e : Event) (es : List Event) → n ≡ next_state m e → e ∷ [] ≡ es → n ≡ run_state_after m es
+after_change m n e es is one = is ∙ sym (after-one m e) ∙ ap (run_state_after m) one
 
--- of the run with places the moment alone has changed, and then again
+-- of the run with places the state alone has changed, and then again
 pub only_so : (p q r : Placed) → q ≡ record p { point = q.point } → r ≡ record q { point = r.point } → r ≡ record p { point = r.point }
 only_so p q r before then = then ∙ ap (λ (k : Placed). record k { point = r.point }) before
 
@@ -127,7 +127,7 @@ none_below a (suc n) =
     ap (λ t. cond t (sets.insert (linked_below sets.empty a n) n) (linked_below sets.empty a n)) (sets.contains-empty pair_cmp (pair a n)) ∙ none_below a n
 
 -- before there is a world
-pub range_before : (m : schedule.Moment) (x : ℕ) → false ≡ is_some m.world → sets.empty ≡ range (world_of m) x
+pub range_before : (m : schedule.RunState) (x : ℕ) → false ≡ is_some m.world → sets.empty ≡ range (world_of m) x
 unfolding range start
 range_before m x none =
     let w : World = start m.variant (first_numbers m.mesh) in
@@ -153,18 +153,18 @@ module _ (reach : ℕ) (places : Places) (near : NodeIds) (new : Placing) where
       → change_lines mesh (changes_below reach places near new (n + 1)) ≡ change_lines mesh (changes_below reach places near new n) ++ change_lines mesh (change_at reach places near new n)
   lines_more mesh n = ap (change_lines mesh) (one_more n) ∙ flat_map-append (change_line mesh) (changes_below reach places near new n) (change_at reach places near new n)
 
-  -- the moment after the change with one node more
-  pub moment_more : (m at then : schedule.Moment) (es : List Event) (n : ℕ) → es ≡ change_at reach places near new n → at ≡ moment_after m (changes_below reach places near new n) → then ≡ moment_after at es
-      → then ≡ moment_after m (changes_below reach places near new (n + 1))
-  moment_more m at then es n same is next =
-      next ∙ ap (moment_after at) same ∙ ap (λ k. moment_after k (change_at reach places near new n)) is ∙ sym (after-more m (changes_below reach places near new n) (change_at reach places near new n))
-      ∙ ap (moment_after m) (sym (one_more n))
+  -- the state after the change with one node more
+  pub state_more : (m at then : schedule.RunState) (es : List Event) (n : ℕ) → es ≡ change_at reach places near new n → at ≡ run_state_after m (changes_below reach places near new n) → then ≡ run_state_after at es
+      → then ≡ run_state_after m (changes_below reach places near new (n + 1))
+  state_more m at then es n same is next =
+      next ∙ ap (run_state_after at) same ∙ ap (λ k. run_state_after k (change_at reach places near new n)) is ∙ sym (after-more m (changes_below reach places near new n) (change_at reach places near new n))
+      ∙ ap (run_state_after m) (sym (one_more n))
 
   -- the mesh is the same, and the steps are few
-  pub same_mesh : (m at : schedule.Moment) (n : ℕ) → at ≡ moment_after m (changes_below reach places near new n) → at.mesh ≡ m.mesh
+  pub same_mesh : (m at : schedule.RunState) (n : ℕ) → at ≡ run_state_after m (changes_below reach places near new n) → at.mesh ≡ m.mesh
   same_mesh m at n is = ap (λ k. k.mesh) is ∙ mesh_after m (changes_below reach places near new n)
 
-  pub few_steps : (m at : schedule.Moment) (n : ℕ) → at ≡ moment_after m (changes_below reach places near new n) → at.steps ≤ m.steps + n
+  pub few_steps : (m at : schedule.RunState) (n : ℕ) → at ≡ run_state_after m (changes_below reach places near new n) → at.steps ≤ m.steps + n
   few_steps m at n is =
       let steps : at.steps ≡ m.steps + length (changes_below reach places near new n) = ap (λ k. k.steps) is ∙ steps_after m (changes_below reach places near new n) in
       let few = few_changes reach places near new n in
@@ -190,5 +190,5 @@ module _ (reach : ℕ) (places : Places) (near : NodeIds) (new : Placing) where
       (ap (change_lines mesh) others.1 ∙ flat_map-append (change_line mesh) (changes_below reach places near new (n + 1)) others.0) joined
 
 -- all of them are those that follow
-pub all_changes : (reach : ℕ) (m : Moment) (near : NodeIds) (new : Placing) (size : ℕ) → near ≡ range (world_of m.run) new.node → size ≡ length m.run.mesh → changes_below reach m.places near new size ≡ changes reach m new
+pub all_changes : (reach : ℕ) (m : RunState) (near : NodeIds) (new : Placing) (size : ℕ) → near ≡ range (world_of m.run) new.node → size ≡ length m.run.mesh → changes_below reach m.places near new size ≡ changes reach m new
 all_changes reach m near new size is count = ap (λ s. changes_below reach m.places s new size) is ∙ ap (changes_below reach m.places (range (world_of m.run) new.node) new) count

@@ -11,12 +11,12 @@ use Rattle.mesh_text.specs.declared.verdict.Verdict.TheVariants.{Finished}
 use Rattle.mesh_run.specs.Codes.{status_of}
 use Rattle.mesh_run.specs.declared.status.Status.{Status}
 use Rattle.mesh_run.specs.declared.status.Status.TheVariants as status
-use Rattle.mesh_grid.specs.Text.{Moment, opening, text_of_input}
+use Rattle.mesh_grid.specs.Text.{RunState, opening, text_of_input}
 use Rattle.mesh_grid.proofs.PlaceRuns.{worlds_are_of_events, runs_with_places_are_loop_free}
-use Rattle.mesh_grid.proofs.PlaceMoments.{moment_is_of_events, moment_is_loop_free}
+use Rattle.mesh_grid.proofs.PlacedRunStates.{state_is_of_events, state_is_loop_free}
 use Rattle.mesh_grid.proofs.LinkLaws.{links_follow_places}
 use Rattle.mesh_places.specs.declared.placed.Placed.{Placed}
-use Rattle.mesh_places.specs.Moments.{moment_of}
+use Rattle.mesh_places.specs.RunStates.{run_state_of}
 use Rattle.mesh_places.specs.Outputs.{IsOutputFrom, IsPlacedRun, IsRun}
 use Rattle.mesh_places.specs.Running.{running}
 use Rattle.mesh_places.proofs.Telling.{input_told}
@@ -24,20 +24,20 @@ use Rattle.mesh_places.proofs.Telling.{input_told}
 is_placed : (reach : ℕ) (schedule : List ℕ) → IsPlacedRun reach schedule
 is_placed reach schedule = record {
   worlds = (worlds_are_of_events reach Base schedule).0;
-  moments = λ i k done. moment_is_of_events reach Base schedule i k done;
+  run_states = λ i k done. state_is_of_events reach Base schedule i k done;
   loop_free = λ k d. runs_with_places_are_loop_free reach Base schedule k d;
-  moments_loop_free = λ i k d. moment_is_loop_free reach Base schedule i k d;
+  states_loop_free = λ i k d. state_is_loop_free reach Base schedule i k d;
   links = λ i a b. links_follow_places reach Base schedule i a b;
 }
 
 -- what the script's answer tells, and that it is of such a run
-pub runs_so : (reach : ℕ) (p : Placed) (most : Limits) (given left before now : Option (List ℕ)) (answer : Result Verdict Fault) (s : Status) → p.reach ≡ reach → moment_of p ≡ opening Base → most ≡ schedule_limits → s ≡ status_of answer
+pub runs_so : (reach : ℕ) (p : Placed) (most : Limits) (given left before now : Option (List ℕ)) (answer : Result Verdict Fault) (s : Status) → p.reach ≡ reach → run_state_of p ≡ opening Base → most ≡ schedule_limits → s ≡ status_of answer
     → IfSome given (λ bytes. outputs.IsOutputFrom running most p bytes left before now answer) → IfSome given (λ bytes. IsRun reach bytes left before now s)
 runs_so reach p most None left before now answer s far opens limits is told = tt
 runs_so reach p most (Some bytes) left before now answer s far opens limits is told =
     let within = subst (λ (l : Limits). outputs.IsOutputFrom running l p bytes left before now answer) limits told in
-    let here = subst (λ (k : ℕ). IsOutputFrom k (moment_of p) bytes left before now (status_of answer)) far (input_told p bytes left before now answer within) in
-    let opened = subst (λ (m : Moment). IsOutputFrom reach m bytes left before now (status_of answer)) opens here in
+    let here = subst (λ (k : ℕ). IsOutputFrom k (run_state_of p) bytes left before now (status_of answer)) far (input_told p bytes left before now answer within) in
+    let opened = subst (λ (m : RunState). IsOutputFrom reach m bytes left before now (status_of answer)) opens here in
     (subst (λ (k : Status). IsOutputFrom reach (opening Base) bytes left before now k) (sym is) opened, is_placed reach bytes)
 
 -- ---- completeness

@@ -5,7 +5,7 @@ pub mod Words
 -- beside the definitions of mesh_grid.
 pub mod Outputs
 -- The others say what the parts of a run do.
--- Moments: a run with places between two lines, and what was told of one line.
-pub mod Moments
+-- RunStates: a run with places between two lines, and what was told of one line.
+pub mod RunStates
 -- Running: a run with places as a script.
 pub mod Running

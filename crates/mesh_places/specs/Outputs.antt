@@ -8,15 +8,15 @@ use Rattle.mesh_run.specs.Outputs.{IsOutputOf}
 use Rattle.mesh_run.specs.declared.say.Say.TheVariants.{All}
 use Rattle.mesh_run.specs.declared.status.Status.{Status}
 use Rattle.mesh_grid.specs.Links.{is_due}
-use Rattle.mesh_grid.specs.Text.{Moment, opening, text_on, text_of_input}
-use Rattle.mesh_grid.specs.Runs.{AreDone, moment_at, moment_within, world_after, IsOfEvents}
+use Rattle.mesh_grid.specs.Text.{RunState, opening, text_on, text_of_input}
+use Rattle.mesh_grid.specs.Runs.{AreDone, run_state_at, state_within, world_after, IsOfEvents}
 
 -- ---- what is written and answered
 
--- a run of these bytes from a moment on has answered, where the source has this left. After a
+-- a run of these bytes from a state on has answered, where the source has this left. After a
 -- failed read what was written is the text of the lines that were read whole
-abbrev pub IsOutputFrom : ℕ → Moment → List ℕ → Option (List ℕ) → Option (List ℕ) → Option (List ℕ)
-    → Status → Type 0
+abbrev pub IsOutputFrom : ℕ → RunState → List ℕ → Option (List ℕ) → Option (List ℕ)
+    → Option (List ℕ) → Status → Type 0
 IsOutputFrom reach m bytes left before now s =
     IsOutputOf All (text_on reach m) bytes left before now s
 
@@ -28,12 +28,12 @@ IsOutputFrom reach m bytes left before now s =
 pub record IsPlacedRun (reach : ℕ) (schedule : List ℕ) : Type 0 where
   pub worlds : let w = text_of_input reach Base schedule in
       world_of w.after.run ≡ world_after reach Base schedule w.after.run.sums.events
-  pub moments : (i k : ℕ) → AreDone reach Base schedule i
-      → IsOfEvents reach Base schedule (moment_within reach Base schedule i k)
+  pub run_states : (i k : ℕ) → AreDone reach Base schedule i
+      → IsOfEvents reach Base schedule (state_within reach Base schedule i k)
   pub loop_free : (k d : ℕ) → ¬ (Cycle (world_after reach Base schedule k) d)
-  pub moments_loop_free : (i k d : ℕ)
-      → ¬ (Cycle (world_of (moment_within reach Base schedule i k)) d)
-  pub links : (i a b : ℕ) → let m = moment_at reach Base schedule i in
+  pub states_loop_free : (i k d : ℕ)
+      → ¬ (Cycle (world_of (state_within reach Base schedule i k)) d)
+  pub links : (i a b : ℕ) → let m = run_state_at reach Base schedule i in
       are_linked (world_of m.run).links a b ≡ is_due reach m.places a b
 
 -- what was told of the schedule that a source had, which is that of such a run

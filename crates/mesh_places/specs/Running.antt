@@ -1,17 +1,17 @@
--- A run with places as a script: what its lines and its end make of its moment.
-use Rattle.mesh_shell.specs.Story.{Story}
+-- A run with places as a script: what its lines and its end make of its state.
+use Rattle.mesh_shell.specs.Fold.{Fold}
 use Rattle.mesh_text.specs.declared.verdict.Verdict.{Verdict}
 use Rattle.mesh_run.specs.Running.{outcome_as}
 use Rattle.mesh_grid.specs.Text.{placed_run}
-use Rattle.mesh_places.specs.Moments.{moment_of, moved}
+use Rattle.mesh_places.specs.RunStates.{run_state_of, moved}
 use Rattle.mesh_places.specs.declared.placed.Placed.{Placed}
 
--- what the run with places of this reach makes of the moment
-abbrev pub running : Story Placed Verdict
+-- what the run with places of this reach makes of the state
+abbrev pub running : Fold Placed Verdict
 running = record {
-  head = λ p. (placed_run p.reach).head (moment_of p);
-  outcome = λ p piece. outcome_as (moved p) ((placed_run p.reach).outcome (moment_of p) piece);
+  head = λ p. (placed_run p.reach).head (run_state_of p);
+  outcome = λ p piece. outcome_as (moved p) ((placed_run p.reach).outcome (run_state_of p) piece);
   ending = λ p.
-      let end = (placed_run p.reach).ending (moment_of p) in
+      let end = (placed_run p.reach).ending (run_state_of p) in
       record { text = end.text; verdict = end.verdict; after = moved p end.after };
 }

@@ -4,14 +4,14 @@ ghost use Rattle.mesh_io.specs.Cause.{HasCause};
 ghost use Rattle.mesh_io.specs.Puts.{Puts};
 ghost use Rattle.mesh_model.specs.Worlds.{range};
 ghost use Rattle.mesh_meaning.specs.Events.{event_of};
-ghost use Rattle.mesh_text.specs.Schedule.{world_of, next_moment};
-ghost use Rattle.mesh_text.specs.Runs.{moment_after};
+ghost use Rattle.mesh_text.specs.Schedule.{world_of, next_state};
+ghost use Rattle.mesh_text.specs.Runs.{run_state_after};
 ghost use Rattle.mesh_base.specs.declared.limits.TheConstants.{MOST_NODES};
 ghost use Rattle.mesh_run.specs.Causes.{HasStopCause};
 ghost use Rattle.mesh_grid.specs.Links.{change_at};
 ghost use Rattle.mesh_grid.specs.Text.{changes, change_line};
 ghost use Rattle.mesh_grid.specs.Runs.{events_of_placing};
-ghost use Rattle.mesh_places.specs.Moments.{IsChange, IsWant, below, change_lines, moment_of};
+ghost use Rattle.mesh_places.specs.RunStates.{IsChange, IsWant, below, change_lines, run_state_of};
 
 use crate::placed::Placed;
 use mesh_base::{Event, NoMemory, NodeSet, push_text};
@@ -58,7 +58,7 @@ fn put_change<O: Sink>(at: &mut Point<World>, event: Event<'_>, out: &mut O) -> 
 fn step_change(alloc: Global, at: &mut Point<World>, event: &Event<'_>) -> Result<(), NoMemory>
     requires change { IsChange (length at.old.mesh) (event_of event.now) }
     requires few { at.old.steps < 2 ^ 48 }
-    ensures moment { OnOk result (at.new ≡ next_moment at.old (event_of event.now)) }
+    ensures run_state { OnOk result (at.new ≡ next_state at.old (event_of event.now)) }
 {
     at.begin(alloc)?;
     let state = &mut at.state;
@@ -82,8 +82,8 @@ fn do_change<O: Sink>(
     requires other { y < length at.old.point.mesh }
     requires nodes { length at.old.point.mesh ≤ MOST_NODES }
     requires few { at.old.point.steps < 2 ^ 48 }
-    ensures moment { OnOk result (at.new.point
-        ≡ moment_after at.old.point (change_at at.old.reach at.old.places near.now new.now y)) }
+    ensures run_state { OnOk result (at.new.point
+        ≡ run_state_after at.old.point (change_at at.old.reach at.old.places near.now new.now y)) }
     ensures only { at.new ≡ record at.old { point = at.new.point } }
     ensures text { Puts (O.held out.old) (O.held out.new)
         (change_lines at.old.point.mesh
@@ -104,11 +104,12 @@ fn do_changes<O: Sink>(at: &mut Placed, new: &Placing, out: &mut O) -> Result<()
     requires node { new.now.node < length at.old.point.mesh }
     requires nodes { length at.old.point.mesh ≤ MOST_NODES }
     requires few { at.old.point.steps < 2 ^ 47 }
-    ensures moment { OnOk result (at.new.point
-        ≡ moment_after at.old.point (changes at.old.reach (moment_of at.old) new.now)) }
+    ensures run_state { OnOk result (at.new.point
+        ≡ run_state_after at.old.point (changes at.old.reach (run_state_of at.old) new.now)) }
     ensures only { at.new ≡ record at.old { point = at.new.point } }
     ensures text { Puts (O.held out.old) (O.held out.new)
-        (change_lines at.old.point.mesh (changes at.old.reach (moment_of at.old) new.now)) result }
+        (change_lines at.old.point.mesh
+        (changes at.old.reach (run_state_of at.old) new.now)) result }
     ensures stops { IfErr result IsWant }
     ensures cause { HasStopCause (O.faults out.old) (O.faults out.new) result }
 {
@@ -125,11 +126,11 @@ pub fn do_coming<O: Sink>(at: &mut Placed, new: &Placing, out: &mut O) -> Result
     requires node { new.now.node < length at.old.point.mesh }
     requires nodes { length at.old.point.mesh ≤ MOST_NODES }
     requires few { at.old.point.steps < 2 ^ 47 }
-    ensures moment { OnOk result (at.new.point
-        ≡ moment_after at.old.point (events_of_placing at.old.reach (moment_of at.old) new.now)) }
+    ensures run_state { OnOk result (at.new.point ≡ run_state_after at.old.point
+        (events_of_placing at.old.reach (run_state_of at.old) new.now)) }
     ensures only { at.new ≡ record at.old { point = at.new.point } }
     ensures text { Puts (O.held out.old) (O.held out.new)
-        (below at.old.reach (moment_of at.old) new.now) result }
+        (below at.old.reach (run_state_of at.old) new.now) result }
     ensures stops { IfErr result IsWant }
     ensures cause { HasStopCause (O.faults out.old) (O.faults out.new) result }
 {

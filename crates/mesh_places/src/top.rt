@@ -11,7 +11,7 @@ ghost use Rattle.mesh_places.specs.Outputs.{IsRun};
 
 use crate::placed::Placed;
 use crate::words::reach_of;
-use mesh_io::{Limits, SCHEDULE_ROOM, Sink, Source};
+use mesh_io::{Limits, SCHEDULE_CAPACITY, Sink, Source};
 use mesh_run::Status;
 use std::alloc::Global;
 
@@ -25,7 +25,7 @@ fn run<I: Source, O: Sink>(alloc: Global, reach: u32, input: &mut I, out: &mut O
     ensures words { result ≢ Status.Usage }
 {
     let mut placed = Placed::with(alloc, reach);
-    let answer = mesh_shell::run::<Placed, I, O, SCHEDULE_ROOM>(
+    let answer = mesh_shell::run::<Placed, I, O, SCHEDULE_CAPACITY>(
         alloc,
         &mut placed,
         Limits::of_schedule(),

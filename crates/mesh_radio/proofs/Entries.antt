@@ -10,7 +10,7 @@ use Rattle.std.proofs.lemmas.Option.{same_Some, slice_get_within, slice_get_past
 use Rattle.std.specs.Map.{keys_of, values_of}
 use Rattle.mesh_base.specs.declared.events.Flying.{Flying}
 use Rattle.mesh_base.specs.Members.{member_list}
-use Rattle.aodv_wire.specs.Spells.{is_data}
+use Rattle.aodv_wire.specs.Encodes.{is_data}
 use Rattle.mesh_radio.specs.Copies.{find_copy, without, copies_to, data_in, AreNumbered}
 use Rattle.mesh_radio.specs.Kept.{copies_in, AreSlots}
 use Rattle.mesh_radio.proofs.Orders.{remove_here, remove_other}

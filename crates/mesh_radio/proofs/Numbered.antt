@@ -4,7 +4,7 @@ use Rattle.std.specs.Prelude.{slice_get, slice_set}
 use Rattle.std.proofs.lemmas.Bool.{ne_eqb}
 use Rattle.std.proofs.lemmas.Option.{same_Some}
 use Rattle.mesh_base.specs.declared.events.Flying.{Flying}
-use Rattle.aodv_wire.specs.Spells.{is_data}
+use Rattle.aodv_wire.specs.Encodes.{is_data}
 use Rattle.mesh_radio.specs.Copies.{find_copy, without, copies_to, data_in, AreNumbered}
 use Rattle.mesh_radio.specs.Kept.{copies_in, AreSlots}
 use Rattle.mesh_radio.proofs.Finds.{absent}

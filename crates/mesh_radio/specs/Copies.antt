@@ -3,7 +3,7 @@ use Rattle.std.specs.Prelude.{◌≡◌, ◌≢◌, ◌<◌, ◌≤◌, ℕ, ◌
 use Rattle.std.specs.List.{AllByRecursion}
 use Rattle.mesh_base.specs.declared.limits.TheConstants.{LONGEST_PACKET}
 use Rattle.mesh_base.specs.declared.events.Flying.{Flying}
-use Rattle.aodv_wire.specs.Spells.{is_data}
+use Rattle.aodv_wire.specs.Encodes.{is_data}
 use Rattle.mesh_radio.specs.declared.copies.Held.{Held}
 use Rattle.mesh_model.specs.Numbered.{find_by, without_by, AreNumberedBy, numbered_from}
 

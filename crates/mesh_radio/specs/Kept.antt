@@ -102,7 +102,7 @@ more_memory m copies bytes = record { room = max m.room copies; most = max m.mos
 
 -- each room is large enough for this many bytes
 abbrev pub AreLarge : ℕ → List ℕ → Type 0
-AreLarge bytes rooms = AllByRecursion (λ room. bytes ≤ room) rooms
+AreLarge bytes reserve = AllByRecursion (λ room. bytes ≤ room) reserve
 
 -- ---- a radio of these parts
 

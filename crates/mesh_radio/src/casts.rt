@@ -8,7 +8,7 @@ ghost use Rattle.mesh_radio.specs.Casts.{Entry, AreCasts, AreLeft, IsFound, IsNe
 
 use crate::hashes::NumberHasher;
 use crate::places::place_near;
-use crate::rooms::Rooms;
+use crate::reserve::Reserve;
 use crate::shared::Shared;
 use indexmap::IndexMap;
 use mesh_base::NodeSet;
@@ -284,17 +284,17 @@ pub fn remove_at(casts: &mut Casts, place: usize, to: usize)
 
 /// The packet of the cast at this place once more: shared with it, or, where memory for that isn't
 /// there, in the memory of a room.
-pub fn double_packet(casts: &mut Casts, place: usize, rooms: &mut Rooms) -> Shared
-    requires room { 1 ≤ rooms.old.room }
+pub fn double_packet(casts: &mut Casts, place: usize, reserve: &mut Reserve) -> Shared
+    requires room { 1 ≤ reserve.old.room }
     requires fits { (c : Cast) → slice_get (values casts.old) place ≡ Some c
-        → length c.bytes ≤ rooms.old.most }
+        → length c.bytes ≤ reserve.old.most }
     ensures entries { casts.new.entries ≡ casts.old.entries }
     ensures spare { spare casts.new ≡ spare casts.old }
     ensures bytes { (c : Cast) → slice_get (values casts.old) place ≡ Some c
-        → (result ≡ c.bytes) × (rooms.new ≡ record rooms.old { room = rooms.old.room - 1 }) }
+        → (result ≡ c.bytes) × (reserve.new ≡ record reserve.old { room = reserve.old.room - 1 }) }
 {
     match casts.get_index_mut(place) {
-        Some(cast) => rooms.double(&mut cast.bytes),
+        Some(cast) => reserve.double(&mut cast.bytes),
         None => Shared::empty(),
     }
 }

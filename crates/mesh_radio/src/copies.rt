@@ -2,7 +2,7 @@
 ghost use Rattle.std.specs.Prelude.{◌≡◌, ◌<◌, ◌≤◌, ◌+◌, ◌^◌, ◌∷◌, [], length, slice_get, option_map, Some, OnOk, OnErr, IsOk, IfSome, IfNone, if◌then◌else◌};
 ghost use Rattle.mesh_base.specs.Views.{flying_seen};
 ghost use Rattle.mesh_base.specs.Members.{member_list};
-ghost use Rattle.aodv_wire.specs.Spells.{is_data};
+ghost use Rattle.aodv_wire.specs.Encodes.{is_data};
 ghost use Rattle.mesh_radio.specs.Copies.{held_seen, find_copy, IsCopyWithin, without, from_id, data_in, AreBefore, AreNumbered};
 ghost use Rattle.mesh_radio.specs.Kept.{with_flights, with_flight, with_second, with_room};
 
@@ -12,7 +12,7 @@ use crate::casts::{
 };
 use crate::clearing::clear;
 use crate::joining::make_way;
-use crate::rooms::Rooms;
+use crate::reserve::Reserve;
 use crate::shared::Shared;
 use aodv_wire::is_data;
 use mesh_base::{Bytes, Flying, FlyingView, MOST_NODES, NoMemory, NodeSet};
@@ -45,7 +45,7 @@ pub struct Copies {
     next: u64,
     count: usize,
     of_data: usize,
-    rooms: Rooms,
+    reserve: Reserve,
 }
 
 impl Model for Copies {
@@ -59,12 +59,12 @@ impl Model for Copies {
     ghost view = { λ a. record {
       flying = copies_of a.casts.entries;
       next_copy = a.next;
-      room = a.rooms.room;
-      most = a.rooms.most;
+      room = a.reserve.room;
+      most = a.reserve.most;
     } };
 
     ghost invariant = { λ a. AreKept a.casts.entries a.next a.count a.of_data
-        × (a.rooms.room ≤ spare a.casts)
+        × (a.reserve.room ≤ spare a.casts)
         × IsLeastOf a.casts.entries a.least };
 }
 
@@ -88,7 +88,7 @@ impl Copies {
             next,
             count: 0,
             of_data: 0,
-            rooms: Rooms::new(alloc),
+            reserve: Reserve::new(alloc),
         }
     }
 
@@ -188,7 +188,7 @@ impl Copies {
             to: *to,
             left: *to,
             from,
-            bytes: Shared::own(self.rooms.fill(bytes, copies)),
+            bytes: Shared::own(self.reserve.fill(bytes, copies)),
         };
         self.least = launch(&mut self.casts, self.least, self.next, cast);
         self.next += copies as u64;
@@ -215,7 +215,7 @@ impl Copies {
             to,
             left: to,
             from,
-            bytes: double_packet(&mut self.casts, spot.place, &mut self.rooms),
+            bytes: double_packet(&mut self.casts, spot.place, &mut self.reserve),
         };
         let new = self.next;
         let more = if_data(second.bytes.as_slice(), 1);
@@ -311,7 +311,7 @@ impl Copies {
             → IsOk result × (self.new ≡ self.old) }
         ensures refused { OnErr result (self.new ≡ self.old) }
     {
-        if self.rooms.has(copies, bytes) {
+        if self.reserve.has(copies, bytes) {
             return Ok(());
         }
         self.make_more_room(copies, bytes)
@@ -328,6 +328,6 @@ impl Copies {
         ensures refused { OnErr result (self.new ≡ self.old) }
     {
         self.casts.reserve(copies)?;
-        self.rooms.make(copies, bytes)
+        self.reserve.make(copies, bytes)
     }
 }

@@ -1,5 +1,5 @@
 //! The links of a mesh and the copies of packets in flight: who is in range of whom, and what a
-//! cast puts in the air. A copy stays in flight, whatever becomes of its link, until it is taken.
+//! cast puts in the radio. A copy stays in flight, whatever becomes of its link, until it is taken.
 //! Only making a radio and making room take memory, so that a cast can't fail.
 #![tactic(auto)]
 
@@ -11,9 +11,9 @@ mod hashes;
 mod joining;
 mod places;
 mod radio;
-mod rooms;
+mod reserve;
 mod shared;
-mod shelf;
+mod size_class;
 
 pub use copies::Held;
 pub use radio::Radio;

@@ -149,7 +149,7 @@ impl Radio {
         Air { first, to: *to }
     }
 
-    /// Puts a copy into the air, with its own packet and as it stood there: its id is after those
+    /// Puts a copy into the radio, with its own packet and as it stood there: its id is after those
     /// of the copies in flight, and below the next.
     pub fn put(&mut self, f: Flying) -> Result<(), NoMemory>
         requires id { (1 ≤ f.id) × (f.id < self.old.next_copy) }
@@ -201,9 +201,9 @@ impl Radio {
         self.copies.remove_found(id, to, hint)
     }
 
-    /// The copy of this id is taken out of the air. None where no copy in flight has it. Copies of
-    /// one cast share a packet, so what is answered is a copy of it: memory is asked for where that
-    /// has more than 32 bytes.
+    /// The copy of this id is taken out of the radio. None where no copy in flight has it. Copies
+    /// of one cast share a packet, so what is answered is a copy of it: memory is asked for where
+    /// that has more than 32 bytes.
     pub fn take(&mut self, alloc: Global, id: u64) -> Result<Option<Flying>, NoMemory>
         ensures taken { IfOk result (λ copy. copy ≡ find_copy self.old.flying id) }
         ensures gone { OnOk result (self.new ≡ without_copy self.old id) }

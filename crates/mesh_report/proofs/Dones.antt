@@ -12,7 +12,7 @@ use Rattle.mesh_meaning.specs.Events.{node_of}
 use Rattle.mesh_meaning.specs.Answers.{effect_in, took_in, copies_in, outcome_in}
 use Rattle.mesh_grammar.specs.Written.{line}
 use Rattle.mesh_text.specs.Lines.{event_words}
-use Rattle.mesh_text.specs.Effects.{took_text, datum_in, datum_fate, sent_text, outcome_text, outcome_lines, happening_text}
+use Rattle.mesh_text.specs.Effects.{took_text, datum_in, datum_fate, sent_text, outcome_text, outcome_lines, world_effect_text}
 use Rattle.mesh_io.specs.Puts.{Puts}
 
 -- what a turn of node x took
@@ -25,7 +25,7 @@ rest_text mesh x effect air packet = sent_text mesh (effect_in mesh effect packe
 -- what was sent, after what the buffer has
 pub sent_whole : {T E : Type 0} (mesh : Nodes) (x : ℕ) (w : World) (d : dones.Done) (effect : effects.Effect) (air : airs.Air) (packet start : List ℕ) (a b : Option (List ℕ)) (r : Result T E)
     → d ≡ done.Sent effect air → Puts a b (start ++ rest_text mesh x effect air packet) r → Puts a b (start ++ outcome_text mesh x (outcome_in mesh x w d packet)) r
-unfolding happening_text
+unfolding world_effect_text
 sent_whole mesh x w d effect air packet start a b r is p =
     let P : dones.Done → Type 0 = λ k. Puts a b (start ++ outcome_text mesh x (outcome_in mesh x w k packet)) r in
     subst P (sym is) p
@@ -34,7 +34,7 @@ sent_whole mesh x w d effect air packet start a b r is p =
 pub taken_whole : {T E : Type 0} (mesh : Nodes) (x me : ℕ) (w : World) (d : dones.Done) (took : taken.Took) (effect : effects.Effect) (air : airs.Air) (packet start made : List ℕ) (a b : Option (List ℕ)) (r : Result T E)
     → me ≡ x → d ≡ done.Taken took effect air → made ≡ start ++ front_text mesh me took effect packet
     → Puts a b (made ++ rest_text mesh x effect air packet) r → Puts a b (start ++ outcome_text mesh x (outcome_in mesh x w d packet)) r
-unfolding happening_text
+unfolding world_effect_text
 taken_whole mesh x me w d took effect air packet start made a b r same is e p =
     let P : dones.Done → Type 0 = λ k. Puts a b (start ++ outcome_text mesh x (outcome_in mesh x w k packet)) r in
     let Q : List ℕ → Type 0 = λ l. Puts a b l r in

@@ -13,7 +13,7 @@ use Rattle.mesh_base.specs.Meshes.{Nodes, IsMesh, addr_at, index_of}
 use Rattle.aodv_wire.specs.declared.message.Message as wire
 use Rattle.aodv_wire.specs.declared.message.Message.TheVariants as messages
 use Rattle.aodv_wire.specs.declared.data_packet.DataView as parcels
-use Rattle.aodv_wire.specs.Spells.{message_in_fields}
+use Rattle.aodv_wire.specs.Encodes.{message_in_fields}
 use Rattle.aodv_meaning.specs.Meaning.{index, meaning, in_mesh, unless_in, stranger}
 use Rattle.aodv_meaning.proofs.Means.{index_there, sent_means}
 use Rattle.mesh_meaning.specs.Answers.{IsTookInMesh, IsDoneInMesh, IsPacketInMesh}
@@ -52,7 +52,7 @@ no_datum label mesh b m is none old =
 packet_is_legible : (mesh : Nodes) (bytes : List ℕ) → IsMesh mesh → IsPacketInMesh mesh bytes → IsLegible mesh bytes
 packet_is_legible mesh bytes is h =
     let means = sent_means mesh bytes (meaning mesh bytes) is h.in_mesh h.written in
-    record { allowed = h.written.spells.allowed; known = means.1 }
+    record { allowed = h.written.encodes.allowed; known = means.1 }
 
 written_is_legible : (mesh : Nodes) (took : taken.Took) → IsMesh mesh → IsTookInMesh mesh took → IsTookLegible mesh took
 written_is_legible mesh (takes.Own body) is h = h

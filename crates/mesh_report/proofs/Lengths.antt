@@ -10,7 +10,7 @@ use Rattle.aodv_wire.specs.RouteRequest as rreq
 use Rattle.aodv_wire.specs.RouteReply as rrep
 use Rattle.aodv_wire.specs.RouteError as rerr
 use Rattle.aodv_wire.specs.DataPacket as data_packet
-use Rattle.aodv_wire.specs.Spells.{kind, refusal}
+use Rattle.aodv_wire.specs.Encodes.{kind, refusal}
 use Rattle.mesh_meaning.specs.Packets.{IsWritten}
 
 -- none of these refusals applies: not the first
@@ -64,4 +64,4 @@ by_kind b false false false false false h = absurd (none-some (UnknownType (kind
 -- the longest is a route error of 255 destinations
 pub written_short : (mesh : Nodes) (b : List ℕ) → IsWritten mesh b → length b ≤ 2044
 unfolding refusal
-written_short mesh b w = by_kind b (eqb (length b) 0) (eqb (kind b) 1) (eqb (kind b) 2) (eqb (kind b) 3) (eqb (kind b) 16) (w.spells).allowed
+written_short mesh b w = by_kind b (eqb (length b) 0) (eqb (kind b) 1) (eqb (kind b) 2) (eqb (kind b) 3) (eqb (kind b) 16) (w.encodes).allowed

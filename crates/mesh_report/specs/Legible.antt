@@ -9,13 +9,13 @@ use Rattle.mesh_base.specs.declared.events.Took.TheVariants as takes
 use Rattle.mesh_base.specs.declared.events.Done.{Done}
 use Rattle.mesh_base.specs.declared.events.Done.TheVariants as done
 use Rattle.aodv_model.specs.Soundness.{IsDatum}
-use Rattle.aodv_wire.specs.Spells.{refusal, message_in_fields}
+use Rattle.aodv_wire.specs.Encodes.{refusal, message_in_fields}
 use Rattle.aodv_meaning.specs.Meaning.{meaning, stranger}
 use Rattle.aodv_meaning.specs.Effects.{kind_of}
 use Rattle.mesh_meaning.specs.Answers.{effect_in, took_in, IsEffectInMesh}
 use Rattle.mesh_text.specs.Effects.{took_text, datum_fate, broken_text, cast_text}
 
--- the bytes spell a message, and it names nodes of the mesh only
+-- the bytes encode a message, and it names nodes of the mesh only
 pub record IsLegible (mesh : Nodes) (bytes : List ℕ) : Type 0 where
   pub allowed : refusal bytes ≡ None
   pub known : stranger mesh (message_in_fields bytes) ≡ None

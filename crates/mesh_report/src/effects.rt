@@ -24,7 +24,7 @@ use crate::event::node_of;
 use crate::text::{push_labelled, push_one, push_packet, push_set, push_shown, push_two};
 use aodv_wire::{Message, read};
 use mesh_base::{
-    Addr, Air, Cast, Done, Effect, Event, Flying, Kind, LINE_ROOM, LONGEST_DATUM, LONGEST_LINE,
+    Addr, Air, Cast, Done, Effect, Event, Flying, Kind, LINE_CAPACITY, LONGEST_DATUM, LONGEST_LINE,
     LineBuf, MOST_NODES, Mesh, Packet, Took, push_text, write_dotted,
 };
 use mesh_io::{PutFault, Sink, put_all};
@@ -35,7 +35,7 @@ use mesh_script::{Line, print_line};
 // A datum of one address for another, after a label.
 fn push_datum(out: &mut LineBuf, label: &[u8], origin: Addr, dest: Addr, body: &[u8])
     requires short { length body.now ≤ LONGEST_DATUM }
-    requires room { length out.old + length label.now + 2081 ≤ LINE_ROOM }
+    requires room { length out.old + length label.now + 2081 ≤ LINE_CAPACITY }
     ensures text { out.new ≡ out.old
         ++ line (label.now ++ dotted_decimal origin.0 ++ 32 ∷ dotted_decimal dest.0
         ++ 32 ∷ flat_map shown_byte body.now) }
@@ -52,7 +52,7 @@ fn push_datum(out: &mut LineBuf, label: &[u8], origin: Addr, dest: Addr, body: &
 
 // The datum of a packet, if it has one, after a label.
 fn push_datum_in(out: &mut LineBuf, label: &[u8], packet: &[u8])
-    requires room { length out.old + length label.now + 2081 ≤ LINE_ROOM }
+    requires room { length out.old + length label.now + 2081 ≤ LINE_CAPACITY }
     ensures text { (mesh : Nodes) → IsWritten mesh packet.now
         → out.new ≡ out.old ++ datum_in label.now mesh (meaning mesh packet.now) }
     ensures legible { (mesh : Nodes) → IsLegible mesh packet.now
@@ -89,7 +89,7 @@ fn took_label(kind: Kind) -> &'static [u8; 12]
 fn push_took(out: &mut LineBuf, mesh: &Mesh, me: usize, took: &Took)
     requires me { me < length mesh.now }
     requires took { IsTookLegible mesh.now took.now }
-    requires room { length out.old + 28 ≤ LINE_ROOM }
+    requires room { length out.old + 28 ≤ LINE_CAPACITY }
     ensures text { out.new ≡ out.old ++ took_text mesh.now me (took_in mesh.now took.now) }
     ensures length { length out.new ≤ length out.old + 28 }
 {
@@ -105,7 +105,7 @@ fn push_took(out: &mut LineBuf, mesh: &Mesh, me: usize, took: &Took)
 fn push_delivery(out: &mut LineBuf, mesh: &Mesh, me: usize, took: &Took)
     requires me { me < length mesh.now }
     requires took { IsTookLegible mesh.now took.now }
-    requires room { length out.old + 2093 ≤ LINE_ROOM }
+    requires room { length out.old + 2093 ≤ LINE_CAPACITY }
     ensures text { out.new ≡ out.old ++ delivery_text mesh.now me (took_in mesh.now took.now) }
     ensures length { length out.new ≤ length out.old + 2093 }
 {
@@ -123,7 +123,7 @@ fn push_delivery(out: &mut LineBuf, mesh: &Mesh, me: usize, took: &Took)
 
 // The datum that was taken, which is dropped.
 fn push_drop(out: &mut LineBuf, took: &Took)
-    requires room { length out.old + 2091 ≤ LINE_ROOM }
+    requires room { length out.old + 2091 ≤ LINE_CAPACITY }
     ensures text { (mesh : Nodes) → IsTookLegible mesh took.now
         → out.new ≡ out.old ++ drop_text mesh (took_in mesh took.now) }
     ensures length { length out.new ≤ length out.old + 2091 }
@@ -138,7 +138,7 @@ fn push_drop(out: &mut LineBuf, took: &Took)
 fn push_fate(out: &mut LineBuf, mesh: &Mesh, me: usize, took: &Took, effect: &Effect)
     requires me { me < length mesh.now }
     requires took { IsTookLegible mesh.now took.now }
-    requires room { length out.old + 4184 ≤ LINE_ROOM }
+    requires room { length out.old + 4184 ≤ LINE_CAPACITY }
     ensures text { out.new ≡ out.old
         ++ datum_fate mesh.now me (took_in mesh.now took.now) (effect_in mesh.now effect.now []) }
 {
@@ -155,7 +155,7 @@ fn push_fate(out: &mut LineBuf, mesh: &Mesh, me: usize, took: &Took, effect: &Ef
 fn push_turn(out: &mut LineBuf, mesh: &Mesh, me: usize, took: &Took, effect: &Effect)
     requires me { me < length mesh.now }
     requires took { IsTookLegible mesh.now took.now }
-    requires room { length out.old + 4212 ≤ LINE_ROOM }
+    requires room { length out.old + 4212 ≤ LINE_CAPACITY }
     ensures text { out.new ≡ out.old ++ (took_text mesh.now me (took_in mesh.now took.now)
         ++ datum_fate mesh.now me (took_in mesh.now took.now) (effect_in mesh.now effect.now [])) }
 {
@@ -167,7 +167,7 @@ fn push_turn(out: &mut LineBuf, mesh: &Mesh, me: usize, took: &Took, effect: &Ef
 fn push_taken(out: &mut LineBuf, mesh: &Mesh, me: usize, took: Option<&Took>, effect: &Effect)
     requires me { me < length mesh.now }
     requires took { IfSome took (λ t. IsTookLegible mesh.now t.now) }
-    requires room { length out.old + 4212 ≤ LINE_ROOM }
+    requires room { length out.old + 4212 ≤ LINE_CAPACITY }
     ensures text { out.new ≡ out.old ++ taken_text mesh.now me took.entry effect.now }
 {
     if let Some(took) = took {
@@ -179,7 +179,7 @@ fn push_taken(out: &mut LineBuf, mesh: &Mesh, me: usize, took: Option<&Took>, ef
 
 fn push_broken(out: &mut LineBuf, mesh: &Mesh, broken: Option<usize>)
     requires broken { IfSome broken (λ y. y < length mesh.now) }
-    requires room { length out.old + 25 ≤ LINE_ROOM }
+    requires room { length out.old + 25 ≤ LINE_CAPACITY }
     ensures text { out.new ≡ out.old ++ broken_text mesh.now broken }
     ensures length { length out.new ≤ length out.old + 25 }
 {
@@ -194,7 +194,7 @@ fn push_broken(out: &mut LineBuf, mesh: &Mesh, broken: Option<usize>)
 #[tactic(auto, using(std::proofs::lemmas::List::append_assoc))]
 fn push_cast(out: &mut LineBuf, mesh: &Mesh, cast: &Cast, packet: &Packet)
     requires cast { IsCastWritten mesh.now cast.now packet.now.items }
-    requires room { length out.old + 6422 ≤ LINE_ROOM }
+    requires room { length out.old + 6422 ≤ LINE_CAPACITY }
     ensures text { out.new
         ≡ out.old ++ cast_text mesh.now (cast_in mesh.now cast.now packet.now.items) }
 {
@@ -219,12 +219,12 @@ fn push_cast(out: &mut LineBuf, mesh: &Mesh, cast: &Cast, packet: &Packet)
 
 // Hands on what the buffer has, where there is no room in it for so many bytes more.
 fn make_room<O: Sink>(buf: &mut LineBuf, bytes: usize, out: &mut O) -> Result<(), PutFault>
-    requires { bytes ≤ LINE_ROOM }
-    ensures room { OnOk result (length buf.new + bytes ≤ LINE_ROOM) }
+    requires { bytes ≤ LINE_CAPACITY }
+    ensures room { OnOk result (length buf.new + bytes ≤ LINE_CAPACITY) }
     ensures text { MakesRoom (O.held out.old) (O.held out.new) buf.new buf.old result }
     ensures cause { HasCause (O.faults out.old) (O.faults out.new) result }
 {
-    if bytes <= LINE_ROOM - buf.len() {
+    if bytes <= LINE_CAPACITY - buf.len() {
         return Ok(());
     }
     put_all(out, buf.as_slice())?;
@@ -235,7 +235,7 @@ fn make_room<O: Sink>(buf: &mut LineBuf, bytes: usize, out: &mut O) -> Result<()
 // The longest such line has a number of 20 digits and an address of 15 bytes.
 fn push_copy(out: &mut LineBuf, mesh: &Mesh, id: u64, to: usize)
     requires to { to < length mesh.now }
-    requires room { length out.old + 44 ≤ LINE_ROOM }
+    requires room { length out.old + 44 ≤ LINE_CAPACITY }
     ensures text { out.new
         ≡ out.old ++ line (label_number (codes "  copy ") id ++ 32 ∷ name_of mesh.now to) }
 {
@@ -294,7 +294,7 @@ fn put_copies<O: Sink>(
 fn push_sent(out: &mut LineBuf, mesh: &Mesh, effect: &Effect, packet: &Packet)
     requires broken { IfSome effect.now.broken (λ y. y < length mesh.now) }
     requires cast { IsCastWritten mesh.now effect.now.cast packet.now.items }
-    requires room { length out.old + 6447 ≤ LINE_ROOM }
+    requires room { length out.old + 6447 ≤ LINE_CAPACITY }
     ensures text { out.new ≡ out.old ++ (broken_text mesh.now effect.now.broken
         ++ cast_text mesh.now (cast_in mesh.now effect.now.cast packet.now.items)) }
 {
@@ -353,7 +353,7 @@ pub fn put_effect<O: Sink>(
 fn push_heard(out: &mut LineBuf, mesh: &Mesh, from: usize, to: usize)
     requires from { from < length mesh.now }
     requires to { to < length mesh.now }
-    requires room { length out.old + 40 ≤ LINE_ROOM }
+    requires room { length out.old + 40 ≤ LINE_CAPACITY }
     ensures text { out.new ≡ out.old
         ++ line (codes "  heard " ++ name_of mesh.now from ++ 32 ∷ name_of mesh.now to) }
 {
@@ -364,7 +364,7 @@ fn push_heard(out: &mut LineBuf, mesh: &Mesh, from: usize, to: usize)
 fn push_lost_copy(out: &mut LineBuf, mesh: &Mesh, from: usize, to: usize)
     requires from { from < length mesh.now }
     requires to { to < length mesh.now }
-    requires room { length out.old + 40 ≤ LINE_ROOM }
+    requires room { length out.old + 40 ≤ LINE_CAPACITY }
     ensures text { out.new ≡ out.old
         ++ line (codes "  lost " ++ name_of mesh.now from ++ 32 ∷ name_of mesh.now to) }
     ensures length { length out.new ≤ length out.old + 40 }
@@ -378,7 +378,7 @@ fn push_lost(out: &mut LineBuf, mesh: &Mesh, flying: &Flying)
     requires from { flying.now.from < length mesh.now }
     requires to { flying.now.to < length mesh.now }
     requires legible { IsLegible mesh.now flying.now.bytes }
-    requires room { length out.old + 2131 ≤ LINE_ROOM }
+    requires room { length out.old + 2131 ≤ LINE_CAPACITY }
     ensures text { out.new ≡ out.old
         ++ (line (codes "  lost " ++ name_of mesh.now flying.now.from
         ++ 32 ∷ name_of mesh.now flying.now.to)
@@ -391,7 +391,7 @@ fn push_lost(out: &mut LineBuf, mesh: &Mesh, flying: &Flying)
 // ---- events
 
 // What the buffer has, and then what an event did.
-#[tactic(auto, unfolding(mesh_text::specs::Effects::happening_text))]
+#[tactic(auto, unfolding(mesh_text::specs::Effects::world_effect_text))]
 fn put_after<O: Sink>(
     mesh: &Mesh,
     e: &Event<'_>,

@@ -12,7 +12,7 @@ ghost use Rattle.mesh_report.specs.Sums.{sums_of};
 
 use crate::sums::Sums;
 use crate::text::push_labelled;
-use mesh_base::{Counter, Event, LINE_ROOM, LineBuf, Mesh, push_text};
+use mesh_base::{Counter, Event, LINE_CAPACITY, LineBuf, Mesh, push_text};
 use mesh_grammar::{BadWhy, LineFault, Span};
 use mesh_io::{PutFault, Sink, put_all};
 use mesh_script::push_event;
@@ -34,7 +34,7 @@ pub struct Summary {
 
 // The counts of events, and of the data that were given and delivered.
 fn push_done(out: &mut LineBuf, s: &Sums)
-    requires room { length out.old + 116 ≤ LINE_ROOM }
+    requires room { length out.old + 116 ≤ LINE_CAPACITY }
     ensures text { out.new ≡ out.old
         ++ (label_number (codes "done events ") s.now.events
         ++ label_number (codes " idle ") s.now.idle
@@ -50,7 +50,7 @@ fn push_done(out: &mut LineBuf, s: &Sums)
 
 // How many data packets were doubled, where any were.
 fn push_copied(out: &mut LineBuf, copied: u64)
-    requires room { length out.old + 28 ≤ LINE_ROOM }
+    requires room { length out.old + 28 ≤ LINE_CAPACITY }
     ensures text { out.new ≡ out.old ++ copied_words copied }
     ensures length { length out.new ≤ length out.old + 28 }
 {
@@ -60,7 +60,7 @@ fn push_copied(out: &mut LineBuf, copied: u64)
 }
 
 fn push_summary(out: &mut LineBuf, s: &Summary)
-    requires room { length out.old + 256 ≤ LINE_ROOM }
+    requires room { length out.old + 256 ≤ LINE_CAPACITY }
     ensures text { out.new ≡ out.old
         ++ summary_text (sums_of s.now.sums) s.now.waiting s.now.queued s.now.flying }
 {
@@ -89,7 +89,7 @@ pub fn put_summary<O: Sink>(s: &Summary, buf: &mut LineBuf, out: &mut O) -> Resu
 // A fault, and the bytes of the line that it is about.
 #[tactic(auto, using(std::proofs::lemmas::List::append_assoc))]
 fn push_at(out: &mut LineBuf, fault: &[u8], span: Span)
-    requires room { length out.old + length fault.now + 54 ≤ LINE_ROOM }
+    requires room { length out.old + length fault.now + 54 ≤ LINE_CAPACITY }
     ensures text { out.new ≡ out.old ++ (fault.now ++ at_bytes span) }
     ensures length { length out.new ≤ length out.old + length fault.now + 54 }
 {
@@ -99,7 +99,7 @@ fn push_at(out: &mut LineBuf, fault: &[u8], span: Span)
 }
 
 fn push_fault(out: &mut LineBuf, fault: &LineFault)
-    requires room { length out.old + 70 ≤ LINE_ROOM }
+    requires room { length out.old + 70 ≤ LINE_CAPACITY }
     ensures text { out.new ≡ out.old ++ fault_text fault.now }
     ensures length { length out.new ≤ length out.old + 70 }
 {
@@ -120,7 +120,7 @@ fn push_fault(out: &mut LineBuf, fault: &LineFault)
 
 #[tactic(auto, unfolding(mesh_grammar::specs::Faults::why_text))]
 fn push_why(out: &mut LineBuf, why: &BadWhy)
-    requires room { length out.old + 70 ≤ LINE_ROOM }
+    requires room { length out.old + 70 ≤ LINE_CAPACITY }
     ensures text { out.new ≡ out.old ++ why_text why.now }
     ensures length { length out.new ≤ length out.old + 70 }
 {
@@ -132,7 +132,7 @@ fn push_why(out: &mut LineBuf, why: &BadWhy)
 }
 
 fn push_bad(out: &mut LineBuf, line: u64, why: &BadWhy)
-    requires room { length out.old + 102 ≤ LINE_ROOM }
+    requires room { length out.old + 102 ≤ LINE_CAPACITY }
     ensures text { out.new ≡ out.old ++ bad_line line why.now }
 {
     push_labelled(out, b"bad line ", line);
@@ -171,7 +171,7 @@ fn field_word(field: &Counter) -> &'static [u8]
 
 fn push_full(out: &mut LineBuf, mesh: &Mesh, line: u64, e: &Event<'_>, field: &Counter)
     requires event { IsEvent (length mesh.now) (event_of e.now) }
-    requires room { length out.old + 590 ≤ LINE_ROOM }
+    requires room { length out.old + 590 ≤ LINE_CAPACITY }
     ensures text { out.new ≡ out.old ++ full_line mesh.now line (event_of e.now) field.now }
 {
     push_labelled(out, b"full line ", line);

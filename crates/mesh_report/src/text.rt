@@ -9,13 +9,13 @@ ghost use Rattle.mesh_text.specs.Lines.{name_of, of_one, of_two, hex, hex_byte};
 ghost use Rattle.mesh_text.specs.Effects.{shown_byte, set_text};
 ghost use Rattle.aodv_model.specs.Soundness.{AreBelow};
 
-use mesh_base::{LINE_ROOM, LineBuf, Mesh, NodeSet, push_number, push_text};
+use mesh_base::{LINE_CAPACITY, LineBuf, Mesh, NodeSet, push_number, push_text};
 
 /// A node's address.
 #[inline(always)]
 pub(crate) fn push_name(out: &mut LineBuf, mesh: &Mesh, i: usize)
     requires node { i < length mesh.now }
-    requires room { length out.old + 15 ≤ LINE_ROOM }
+    requires room { length out.old + 15 ≤ LINE_CAPACITY }
     ensures text { out.new ≡ out.old ++ name_of mesh.now i }
     ensures length { length out.new ≤ length out.old + 15 }
 {
@@ -26,7 +26,7 @@ pub(crate) fn push_name(out: &mut LineBuf, mesh: &Mesh, i: usize)
 #[inline]
 pub(crate) fn push_one<const N: usize>(out: &mut LineBuf, label: &[u8; N], mesh: &Mesh, i: usize)
     requires node { i < length mesh.now }
-    requires room { length out.old + length label.now + 15 ≤ LINE_ROOM }
+    requires room { length out.old + length label.now + 15 ≤ LINE_CAPACITY }
     ensures text { out.new ≡ out.old ++ of_one label.now mesh.now i }
     ensures length { length out.new ≤ length out.old + length label.now + 15 }
 {
@@ -45,7 +45,7 @@ pub(crate) fn push_two<const N: usize>(
 )
     requires first { i < length mesh.now }
     requires second { j < length mesh.now }
-    requires room { length out.old + length label.now + 31 ≤ LINE_ROOM }
+    requires room { length out.old + length label.now + 31 ≤ LINE_CAPACITY }
     ensures text { out.new ≡ out.old ++ of_two label.now mesh.now i j }
     ensures length { length out.new ≤ length out.old + length label.now + 31 }
 {
@@ -57,7 +57,7 @@ pub(crate) fn push_two<const N: usize>(
 /// A label, and a number.
 #[inline]
 pub(crate) fn push_labelled<const N: usize>(out: &mut LineBuf, label: &[u8; N], n: u64)
-    requires room { length out.old + length label.now + 20 ≤ LINE_ROOM }
+    requires room { length out.old + length label.now + 20 ≤ LINE_CAPACITY }
     ensures text { out.new ≡ out.old ++ label_number label.now n }
     ensures length { length out.new ≤ length out.old + length label.now + 20 }
 {
@@ -93,7 +93,7 @@ static HEX: [[u8; 2]; 256] = [
 
 // Appends the two digits of a byte.
 fn push_hex_byte(out: &mut LineBuf, b: u8)
-    requires room { length out.old + 2 ≤ LINE_ROOM }
+    requires room { length out.old + 2 ≤ LINE_CAPACITY }
     ensures text { out.new ≡ out.old ++ hex_byte b }
     ensures length { length out.new ≡ length out.old + 2 }
 {
@@ -103,7 +103,7 @@ fn push_hex_byte(out: &mut LineBuf, b: u8)
 /// Bytes in hexadecimal.
 #[inline]
 pub(crate) fn push_hex(out: &mut LineBuf, bytes: &[u8])
-    requires room { length out.old + 2 * length bytes.now ≤ LINE_ROOM }
+    requires room { length out.old + 2 * length bytes.now ≤ LINE_CAPACITY }
     ensures text { out.new ≡ out.old ++ hex bytes.now }
     ensures length { length out.new ≡ length out.old + 2 * length bytes.now }
 {
@@ -115,7 +115,7 @@ pub(crate) fn push_hex(out: &mut LineBuf, bytes: &[u8])
 /// A packet in hexadecimal after a space, to the line's end.
 #[inline]
 pub(crate) fn push_packet(out: &mut LineBuf, packet: &[u8])
-    requires room { length out.old + 2 * length packet.now + 2 ≤ LINE_ROOM }
+    requires room { length out.old + 2 * length packet.now + 2 ≤ LINE_CAPACITY }
     ensures text { (mesh : Nodes) → IsWritten mesh packet.now
         → out.new ≡ out.old ++ line (32 ∷ hex (packet_of mesh (meaning mesh packet.now))) }
     ensures length { length out.new ≡ length out.old + 2 * length packet.now + 2 }
@@ -127,7 +127,7 @@ pub(crate) fn push_packet(out: &mut LineBuf, packet: &[u8])
 
 // A byte of a datum.
 fn push_shown_byte(out: &mut LineBuf, b: u8)
-    requires room { length out.old + 4 ≤ LINE_ROOM }
+    requires room { length out.old + 4 ≤ LINE_CAPACITY }
     ensures text { out.new ≡ out.old ++ shown_byte b }
     ensures length { length out.new ≤ length out.old + 4 }
 {
@@ -141,7 +141,7 @@ fn push_shown_byte(out: &mut LineBuf, b: u8)
 
 /// A datum, as it is shown.
 pub(crate) fn push_shown(out: &mut LineBuf, body: &[u8])
-    requires room { length out.old + 4 * length body.now ≤ LINE_ROOM }
+    requires room { length out.old + 4 * length body.now ≤ LINE_CAPACITY }
     ensures text { out.new ≡ out.old ++ flat_map shown_byte body.now }
     ensures length { length out.new ≤ length out.old + 4 * length body.now }
 {
@@ -154,7 +154,7 @@ pub(crate) fn push_shown(out: &mut LineBuf, body: &[u8])
 /// each with its comma.
 pub(crate) fn push_set(out: &mut LineBuf, mesh: &Mesh, set: &NodeSet)
     requires members { AreBelow (length mesh.now) set.now }
-    requires room { length out.old + 3200 ≤ LINE_ROOM }
+    requires room { length out.old + 3200 ≤ LINE_CAPACITY }
     ensures text { out.new ≡ out.old ++ set_text mesh.now set.now }
     ensures length { length out.new ≤ length out.old + 3200 }
 {

@@ -7,7 +7,7 @@ use Rattle.mesh_radio.specs.Copies.{AreBefore}
 use Rattle.mesh_radio.specs.Radios.{RadioState, with_copy}
 use Rattle.mesh_checkpoint.specs.Formats.{get_rising}
 use Rattle.mesh_checkpoint.specs.Checkpoint as model
-use Rattle.mesh_restore.specs.Air.{IsFlown, AreCopiesRead}
+use Rattle.mesh_restore.specs.RadioParts.{IsFlown, AreCopiesRead}
 use Rattle.mesh_restore.specs.Reading.{Refuses}
 use Rattle.mesh_restore.specs.declared.error.ReadError.{ReadError}
 use Rattle.mesh_restore.proofs.Listings.{all_weaker, all_push}

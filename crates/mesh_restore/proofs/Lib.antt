@@ -12,8 +12,8 @@ pub mod ItemKinds
 pub mod LinkLists
 -- CopyLists: how the flight grows.
 pub mod CopyLists
--- AirParts: the links and the copies, one after another.
-pub mod AirParts
+-- LinksAndCopies: the links and the copies, one after another.
+pub mod LinksAndCopies
 -- MeshLists: a mesh with one more node.
 pub mod MeshLists
 -- NodeParts: the parts of a node, one after another.

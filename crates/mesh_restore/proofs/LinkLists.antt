@@ -19,7 +19,7 @@ use Rattle.mesh_checkpoint.specs.Formats.{get_rising}
 use Rattle.mesh_checkpoint.specs.Checkpoint as model
 use Rattle.mesh_checkpoint.specs.Checkpoint.{Link, link_key}
 use Rattle.mesh_checkpoint.specs.Points.{links_of}
-use Rattle.mesh_restore.specs.Air.{IsLinkKept, ArePassed}
+use Rattle.mesh_restore.specs.RadioParts.{IsLinkKept, ArePassed}
 use Rattle.mesh_restore.proofs.Listings.{all_weaker, all_push, nat_greater}
 use Rattle.mesh_restore.proofs.PairLists.{AreBeforePair, last_key, last_pair, new_pair, same_values, no_keys}
 use Rattle.mesh_restore.proofs.Loop.{IsReadSoFar, starts, goes_on, ends, falls, is_done}

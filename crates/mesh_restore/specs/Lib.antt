@@ -8,6 +8,6 @@ pub mod Items
 -- Nodes: a node that was read from a checkpoint.
 pub mod Nodes
 -- Air: the links and the copies in flight, as a checkpoint lists them.
-pub mod Air
+pub mod RadioParts
 -- Kept: what a store has after a part was read into it.
 pub mod Kept

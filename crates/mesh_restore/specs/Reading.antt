@@ -4,12 +4,12 @@ use Rattle.mesh_checkpoint.specs.Formats.{◌>>=◌, only_if}
 use Rattle.mesh_restore.specs.declared.error.ReadError.{ReadError}
 use Rattle.mesh_restore.specs.declared.error.ReadError.TheVariants.{Spelling, NoMemory}
 
--- there is nothing to read where the spelling is refused; memory may be short anywhere
+-- there is nothing to read where the encoding is refused; memory may be short anywhere
 abbrev pub Refuses : {Y : Type 0} → ReadError → Option Y → Type 0
 Refuses Spelling read = read ≡ None
 Refuses NoMemory read = ⊤
 
--- the value at the front of bytes, where its key is at least `low`
+-- the value at the start of the bytes, where its key is at least `low`
 abbrev pub get_from : {A : Type 0} → (A → ℕ) → (List ℕ → Option (A × List ℕ)) → ℕ → List ℕ
     → Option (A × List ℕ)
 get_from key get low bytes = get bytes >>= λ x. only_if (nat_le low (key x.0)) x

@@ -5,7 +5,7 @@ ghost use Rattle.mesh_radio.specs.Copies.{AreBefore};
 ghost use Rattle.mesh_checkpoint.specs.Formats.{get_rising};
 ghost use Rattle.mesh_checkpoint.specs.Checkpoint as model;
 ghost use Rattle.mesh_restore.specs.Reading.{Reads, Refuses};
-ghost use Rattle.mesh_restore.specs.Air.{IsFlown, AreCopiesRead};
+ghost use Rattle.mesh_restore.specs.RadioParts.{IsFlown, AreCopiesRead};
 
 use crate::error::ReadError;
 use mesh_base::{Bytes, Flying, NoMemory};
@@ -43,7 +43,7 @@ fn copy(alloc: Global, bytes: &[u8], nodes: u32, next: u64) -> Result<(Flying, &
     Ok((copy, rest))
 }
 
-// A copy comes into the air, unless it is from a node to itself. Whether it isn't is answered.
+// A copy comes into the radio, unless it is from a node to itself. Whether it isn't is answered.
 fn fly(radio: &mut Radio, copy: Flying) -> Result<bool, NoMemory>
     requires some { 1 ≤ copy.id }
     requires old { copy.id < radio.old.next_copy }
@@ -68,8 +68,8 @@ fn both(first: bool, second: bool) -> bool
     first && second
 }
 
-/// So many copies, by rising id, come into the air, where none was. Whether none is from a node to
-/// itself, and the bytes behind them, are answered.
+/// So many copies, by rising id, come into the radio, where none was. Whether none is from a node
+/// to itself, and the bytes behind them, are answered.
 pub(crate) fn fly_all<'b>(
     alloc: Global,
     radio: &mut Radio,

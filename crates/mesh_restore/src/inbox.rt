@@ -80,7 +80,7 @@ fn items(alloc: Global, count: u32, bytes: &[u8], nodes: u32) -> Result<(Inbox, 
     Ok((inbox, rest))
 }
 
-/// The inbox at the front of bytes, in a mesh of so many nodes, and the bytes behind it.
+/// The inbox at the start of the bytes, in a mesh of so many nodes, and the bytes behind it.
 pub(crate) fn inbox(alloc: Global, bytes: &[u8], nodes: u32) -> Result<(Inbox, &[u8]), ReadError>
     ensures { Reads (λ x. (x.0.items, x.1.now)) result ((model.inbox nodes).get bytes.now) }
 {

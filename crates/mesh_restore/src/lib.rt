@@ -2,18 +2,18 @@
 //! air. A part is read into the very value that a run keeps, with no other value between.
 #![tactic(auto)]
 
-mod air;
 mod copies;
 mod error;
 mod inbox;
 mod links;
 mod mesh;
 mod node;
+mod radio_part;
 mod requests;
 mod routes;
 mod store;
 
-pub use air::read_radio;
 pub use error::ReadError;
 pub use mesh::read_mesh;
 pub use node::read_node;
+pub use radio_part::read_radio;

@@ -5,7 +5,7 @@ ghost use Rattle.mesh_base.specs.declared.limits.TheConstants.{MOST_NODES};
 ghost use Rattle.mesh_checkpoint.specs.Formats.{get_rising};
 ghost use Rattle.mesh_checkpoint.specs.Checkpoint as model;
 ghost use Rattle.mesh_checkpoint.specs.Reading.{Gives};
-ghost use Rattle.mesh_restore.specs.Air.{IsLinkKept, AreLinksRead, ArePassed};
+ghost use Rattle.mesh_restore.specs.RadioParts.{IsLinkKept, AreLinksRead, ArePassed};
 
 use mesh_checkpoint::numbers::{number16, truth};
 use mesh_radio::Radio;

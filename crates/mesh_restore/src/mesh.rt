@@ -53,7 +53,7 @@ fn stations(count: u16, bytes: &[u8]) -> Option<(Mesh, &[u8])>
     Some((mesh, rest))
 }
 
-/// The mesh at the front of bytes, and the bytes behind it.
+/// The mesh at the start of the bytes, and the bytes behind it.
 pub fn read_mesh(bytes: &[u8]) -> Option<(Mesh, &[u8])>
     ensures { Gives (λ x. (x.0, x.1.now)) result (model.mesh.get bytes.now) }
 {

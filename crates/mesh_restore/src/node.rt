@@ -14,8 +14,8 @@ use mesh_base::{Mesh, Variant};
 use mesh_checkpoint::numbers::number32;
 use std::alloc::Global;
 
-/// Node `me` of the mesh, of this variant, at the front of bytes, and the bytes behind it. Where
-/// its parts are no node's, it is said which of them isn't in order.
+/// Node `me` of the mesh, of this variant, at the start of the bytes, and the bytes behind it.
+/// Where its parts are no node's, it is said which of them isn't in order.
 pub fn read_node<'b>(
     alloc: Global,
     mesh: &Mesh,

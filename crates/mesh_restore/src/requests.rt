@@ -49,7 +49,7 @@ fn pairs(alloc: Global, count: u32, bytes: &[u8], nodes: u32) -> Result<(Asked, 
     Ok((asked, rest))
 }
 
-/// The requests at the front of bytes, in a mesh of so many nodes, and the bytes behind them.
+/// The requests at the start of the bytes, in a mesh of so many nodes, and the bytes behind them.
 pub(crate) fn requests(alloc: Global, bytes: &[u8], nodes: u32) -> Result<(Asked, &[u8]), ReadError>
     ensures value { Reads (λ x. (pairs_in x.0.pairs, x.1.now)) result
         ((model.asked_format nodes).get bytes.now) }

@@ -94,7 +94,7 @@ fn rows(alloc: Global, count: u16, bytes: &[u8], nodes: u32) -> Result<(RowTable
     Ok((table, rest))
 }
 
-/// The table at the front of bytes, in a mesh of so many nodes, and the bytes behind it.
+/// The table at the start of the bytes, in a mesh of so many nodes, and the bytes behind it.
 pub(crate) fn table(alloc: Global, bytes: &[u8], nodes: u32) -> Result<(RowTable, &[u8]), ReadError>
     requires { nodes ≤ MOST_NODES }
     ensures value { Reads (λ x. (routes_in x.0.entries, x.1.now)) result

@@ -105,7 +105,7 @@ fn rows(alloc: Global, count: u16, bytes: &[u8], nodes: u32) -> Result<(Waiting,
     Ok((waiting, rest))
 }
 
-/// The store at the front of bytes, in a mesh of so many nodes, and the bytes behind it.
+/// The store at the start of the bytes, in a mesh of so many nodes, and the bytes behind it.
 pub(crate) fn store(alloc: Global, bytes: &[u8], nodes: u32) -> Result<(Waiting, &[u8]), ReadError>
     requires { nodes ≤ MOST_NODES }
     ensures value { Reads (λ x. (waits_in x.0.store, x.1.now)) result

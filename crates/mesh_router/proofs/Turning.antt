@@ -11,7 +11,7 @@ use Rattle.mesh_base.specs.declared.events.Item as items
 use Rattle.mesh_base.specs.declared.events.Item.TheVariants as item
 use Rattle.mesh_base.specs.declared.events.Took as taken
 use Rattle.aodv_wire.specs.declared.error.WireError.{WireError}
-use Rattle.aodv_wire.specs.Spells.{refusal, message_in_fields}
+use Rattle.aodv_wire.specs.Encodes.{refusal, message_in_fields}
 use Rattle.aodv_model.specs.Cores.{Body, Core, Message}
 use Rattle.aodv_model.specs.Handlers.{Cast, Nothing, One, Many, All, Effect, Took, Own, Stored, turn, took}
 use Rattle.aodv_model.specs.Soundness.{IsDatum, IsMessageInMesh, IsCastInMesh, IsAimed, IsItemInMesh, IsEffectInMesh}

@@ -18,19 +18,19 @@ use Rattle.mesh_text.specs.Tables.{node_text}
 use Rattle.mesh_peers.specs.Peers.{with_self, with_peer}
 use Rattle.mesh_peers.specs.Lines.{AcceptedLine, Nothing, Own, Peer, Up, Down, Give, Polls, Turns, Sends, Asks, Shows, line_of, words_of}
 use Rattle.mesh_router.specs.Logs.{Log, nothing, text_log, followed_by}
-use Rattle.mesh_router.specs.Routers.{Router, Stage, Joining, Running, peers_in, router_in, is_running, Moment, counted_at}
+use Rattle.mesh_router.specs.Routers.{Router, Stage, Joining, Running, peers_in, router_in, is_running, RunState, counted_at}
 use Rattle.mesh_router.specs.Turns.{StepOutcome, StepDone, StepFull, log_before, turns_of, act_of, idle_line}
 use Rattle.mesh_router.specs.Finds.{Find}
 use Rattle.mesh_router.specs.Polls.{PollOutcome, polls_of}
 
--- what a line comes to: its log, the next moment, and what is left to be found; why it is
+-- what a line comes to: its log, the next state, and what is left to be found; why it is
 -- refused; or its log before a counter is full, and the words of what was refused for it
 pub data LineOutcome : Type 0 where
-  On : Log → Moment → List Find → LineOutcome
+  On : Log → RunState → List Find → LineOutcome
   Refused : BadWhy → LineOutcome
   Full : Log → (words : List ℕ) → Counter → LineOutcome
 
--- the words of a line with the mesh of a moment
+-- the words of a line with the mesh of a state
 abbrev pub words_at : Stage → AcceptedLine → List ℕ
 words_at stage l = words_of (peers_in stage).mesh l
 
@@ -43,16 +43,16 @@ abbrev pub refused_words : Stage → AcceptedLine → List ℕ
 refused_words stage l = refused_in (peers_in stage).mesh l
 
 -- one more node in the mesh
-abbrev pub join_outcome : Moment → AcceptedLine → Stage → List Find → LineOutcome
+abbrev pub join_outcome : RunState → AcceptedLine → Stage → List Find → LineOutcome
 join_outcome m l next finds = On (text_log (line (words_at m.stage l))) (counted_at m next) finds
 
 -- a command that makes the router act
-abbrev pub act_outcome : Moment → AcceptedLine → List Find → StepOutcome → LineOutcome
+abbrev pub act_outcome : RunState → AcceptedLine → List Find → StepOutcome → LineOutcome
 act_outcome m l finds (StepDone log next) = On log (counted_at m (Running next)) finds
 act_outcome m l finds (StepFull log field) = Full log (refused_words m.stage l) field
 
 -- datagrams that are received
-abbrev pub polled_line : Moment → AcceptedLine → PollOutcome → LineOutcome
+abbrev pub polled_line : RunState → AcceptedLine → PollOutcome → LineOutcome
 polled_line m l p =
     On (followed_by (text_log (line (words_at m.stage l))) p.log)
     (counted_at m (Running p.next)) p.left
@@ -89,8 +89,8 @@ step_of r words (Asks d) = act_of r words (may_ask r.core d) (ask_full r.core) (
 step_of r words Shows = show_outcome r words
 step_of r words others = StepDone nothing r
 
--- an allowed line at a moment
-unfoldable pub outcome_of_line : Moment → AcceptedLine → List Find → LineOutcome
+-- an allowed line in a state
+unfoldable pub outcome_of_line : RunState → AcceptedLine → List Find → LineOutcome
 outcome_of_line m Nothing finds = On nothing (counted_at m m.stage) finds
 outcome_of_line m (Own a first) finds =
     join_outcome m (Own a first) (Joining (with_self (peers_in m.stage) a first)) finds
@@ -101,7 +101,7 @@ outcome_of_line m (Polls count) finds =
 outcome_of_line m others finds =
     act_outcome m others finds (step_of (router_in m.stage) (words_at m.stage others) others)
 
-abbrev pub outcome_of_read : Moment → Result AcceptedLine LineFault → List Find → LineOutcome
+abbrev pub outcome_of_read : RunState → Result AcceptedLine LineFault → List Find → LineOutcome
 outcome_of_read m (Ok l) finds = outcome_of_line m l finds
 outcome_of_read m (Err fault) finds = Refused (Fault fault)
 
@@ -110,8 +110,8 @@ abbrev pub why_past : Limit → BadWhy
 why_past Line = TooLong
 why_past Input = TooMuch
 
--- what a line of the script comes to at a moment
-unfoldable pub outcome_of_piece : Moment → Piece → List Find → LineOutcome
+-- what a line of the script comes to in a state
+unfoldable pub outcome_of_piece : RunState → Piece → List Find → LineOutcome
 outcome_of_piece m (Whole bytes) finds =
     outcome_of_read m (line_of (peers_in m.stage) (is_running m.stage) bytes) finds
 outcome_of_piece m Long finds = Refused TooLong

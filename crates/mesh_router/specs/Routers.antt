@@ -39,7 +39,7 @@ fresh_at p me = record {
 abbrev pub fresh : PeersSeen → Router
 fresh p = fresh_at p (unwrap_or p.me 0)
 
--- ---- moments
+-- ---- states
 
 -- the mesh grows until a line comes that is neither blank nor a `self` or `peer` line, and from
 -- then on the router runs
@@ -60,13 +60,13 @@ is_running (Joining p) = false
 is_running (Running r) = true
 
 -- where a run stands between two lines, and how many lines were read
-pub record Moment : Type 0 where
+pub record RunState : Type 0 where
   pub stage : Stage
   pub lines : ℕ
 
-abbrev pub opening_moment : Moment
-opening_moment = record { stage = Joining no_peers; lines = 0 }
+abbrev pub opening_run_state : RunState
+opening_run_state = record { stage = Joining no_peers; lines = 0 }
 
 -- one more line was read, and the run stands there
-abbrev pub counted_at : Moment → Stage → Moment
+abbrev pub counted_at : RunState → Stage → RunState
 counted_at m stage = record { stage = stage; lines = m.lines + 1 }

@@ -10,7 +10,7 @@ use Rattle.mesh_router.specs.declared.stop.Stop.{Stop}
 use Rattle.mesh_router.specs.declared.stop.Stop.TheVariants as stop
 use Rattle.mesh_grammar.specs.Written.{line}
 use Rattle.mesh_router.specs.Logs.{Log, nothing, text_log, followed_by}
-use Rattle.mesh_router.specs.Routers.{Router, Moment}
+use Rattle.mesh_router.specs.Routers.{Router, RunState}
 use Rattle.mesh_router.specs.Lines.{LineOutcome, On, Refused, Full}
 use Rattle.mesh_router.specs.Turns as turns
 use Rattle.mesh_router.specs.Turns.{TurnOutcome, StepOutcome, StepDone, StepFull, idle_line}
@@ -174,8 +174,8 @@ log_of (On log next left) = log
 log_of (Refused why) = nothing
 log_of (Full log words field) = log
 
--- it was done and told, by what was found, and the run goes on from the next moment
-pub record IsLineDone (k : List Find → LineOutcome) (next : Moment)
+-- it was done and told, by what was found, and the run goes on from the next state
+pub record IsLineDone (k : List Find → LineOutcome) (next : RunState)
     (arrived left : Option (List Datagram)) (before now : Outputs) : Type 0 where
   pub found : List Find
   pub taken : AreFound arrived left found
@@ -210,7 +210,7 @@ IsLineStopped k words arrived left before now stop.LinkFault =
 IsLineStopped k words arrived left before now stop.NoMemory =
     IsLineInPart k arrived left before now
 
-abbrev pub IsLineRun : (List Find → LineOutcome) → List ℕ → Moment → Option (List Datagram)
+abbrev pub IsLineRun : (List Find → LineOutcome) → List ℕ → RunState → Option (List Datagram)
     → Option (List Datagram) → Outputs → Outputs → Result (Unit {0}) Stop → Type 0
 IsLineRun k words next arrived left before now result =
     MatchResult result (λ _. IsLineDone k next arrived left before now)

@@ -5,7 +5,7 @@ use Rattle.std.specs.Coded.{Coded, code_by, coded×, coded⊎, coded_ℕ}
 use Rattle.mesh_peers.specs.Peers.{PeersSeen, peers_code}
 use Rattle.mesh_router.specs.declared.point.Stage as code
 use Rattle.mesh_router.specs.declared.point.Stage.TheVariants as stages
-use Rattle.mesh_router.specs.Routers.{Router, Stage, Joining, Running, Moment}
+use Rattle.mesh_router.specs.Routers.{Router, Stage, Joining, Running, RunState}
 use Rattle.mesh_router.specs.Seen.{router_code}
 
 -- the stage that a stage of the code shows
@@ -29,7 +29,7 @@ abbrev pub stage_code : Coded Stage
 stage_code =
     code_by (PeersSeen ⊎ Router) (coded⊎ peers_code router_code) stage_parts stage_in stage_back
 
-abbrev pub moment_code : Coded Moment
-moment_code =
+abbrev pub run_state_code : Coded RunState
+run_state_code =
     code_by (Stage × ℕ) (coded× stage_code coded_ℕ) (λ m. (m.stage, m.lines))
     (λ p. record { stage = p.0; lines = p.1 }) (λ _. refl)

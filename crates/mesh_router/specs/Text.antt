@@ -11,7 +11,7 @@ use Rattle.mesh_text.specs.Text.{pieces_of_input}
 use Rattle.mesh_text.specs.declared.verdict.Verdict.{Verdict}
 use Rattle.mesh_text.specs.declared.verdict.Verdict.TheVariants.{Finished, RefusedAt, FullAt}
 use Rattle.mesh_router.specs.Logs.{Log, text_log, followed_by}
-use Rattle.mesh_router.specs.Routers.{Router, router_in, Moment, opening_moment}
+use Rattle.mesh_router.specs.Routers.{Router, router_in, RunState, opening_run_state}
 use Rattle.mesh_router.specs.Finds.{Find}
 use Rattle.mesh_router.specs.Lines.{LineOutcome, On, Refused, Full, outcome_of_piece}
 
@@ -36,16 +36,16 @@ full_line number words field =
 
 -- ---- all lines
 
-abbrev pub finished_run : Moment → Run
+abbrev pub finished_run : RunState → Run
 finished_run m = record { log = text_log (counts_line (router_in m.stage)); verdict = Finished }
 
-abbrev pub refused_run : Moment → BadWhy → Run
+abbrev pub refused_run : RunState → BadWhy → Run
 refused_run m why = record {
   log = text_log (bad_line (m.lines + 1) why);
   verdict = RefusedAt (m.lines + 1);
 }
 
-abbrev pub overfull_run : Moment → Log → List ℕ → Counter → Run
+abbrev pub overfull_run : RunState → Log → List ℕ → Counter → Run
 overfull_run m log words field = record {
   log = followed_by log (text_log (full_line (m.lines + 1) words field));
   verdict = FullAt (m.lines + 1);
@@ -55,18 +55,18 @@ overfull_run m log words field = record {
 abbrev pub run_after : Log → Run → Run
 run_after log run = record run { log = followed_by log run.log }
 
--- what a line came to, and then the rest of the run from the next moment on
-abbrev pub goes_on : Moment → LineOutcome → (Moment → List Find → Run) → Run
+-- what a line came to, and then the rest of the run from the next state on
+abbrev pub goes_on : RunState → LineOutcome → (RunState → List Find → Run) → Run
 goes_on m (On log n finds) others = run_after log (others n finds)
 goes_on m (Refused why) others = refused_run m why
 goes_on m (Full log words field) others = overfull_run m log words field
 
--- the run of these lines from a moment on
-unfoldable pub run_from : Moment → List Piece → List Find → Run
+-- the run of these lines from a state on
+unfoldable pub run_from : RunState → List Piece → List Find → Run
 run_from m [] finds = finished_run m
 run_from m (piece ∷ pieces) finds =
     goes_on m (outcome_of_piece m piece finds) (λ n left. run_from n pieces left)
 
 -- what a router writes and sends for this script, where this is found
 unfoldable pub run_of_script : List ℕ → List Find → Run
-run_of_script script finds = run_from opening_moment (pieces_of_input script) finds
+run_of_script script finds = run_from opening_run_state (pieces_of_input script) finds

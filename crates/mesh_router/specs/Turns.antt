@@ -8,7 +8,7 @@ use Rattle.mesh_base.specs.declared.events.Item.{Item}
 use Rattle.mesh_base.specs.declared.events.Item.TheVariants.{New, Heard}
 use Rattle.aodv_wire.specs.declared.error.WireError.{WireError}
 use Rattle.aodv_wire.specs.declared.error.WireError.TheVariants as wire
-use Rattle.aodv_wire.specs.Spells.{refusal, message_in_fields}
+use Rattle.aodv_wire.specs.Encodes.{refusal, message_in_fields}
 use Rattle.aodv_meaning.specs.Meaning.{stranger}
 use Rattle.aodv_meaning.specs.Effects.{item_in}
 use Rattle.aodv_model.specs.Handlers.{Took, Effect, Reaction, turn, took}
@@ -22,7 +22,7 @@ use Rattle.mesh_router.specs.Casts.{effect_log, after_reaction}
 
 -- ---- what can't be read
 
--- why bytes spell no message, in words
+-- why bytes encode no message, in words
 abbrev pub refusal_words : WireError → List ℕ
 refusal_words wire.Short = codes "short"
 refusal_words (wire.UnknownType t) = label_number (codes "unknown type ") t

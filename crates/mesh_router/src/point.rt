@@ -29,12 +29,12 @@ pub struct Point {
 }
 
 impl Model for Point {
-    ghost use Rattle.mesh_router.specs.Routers.{Moment};
-    ghost use Rattle.mesh_router.specs.Stages.{moment_code, stage_of};
+    ghost use Rattle.mesh_router.specs.Routers.{RunState};
+    ghost use Rattle.mesh_router.specs.Stages.{run_state_code, stage_of};
 
-    ghost Value = { Moment };
+    ghost Value = { RunState };
 
-    ghost coded = { moment_code };
+    ghost coded = { run_state_code };
 
     ghost view = { λ p. record { stage = stage_of p.stage; lines = p.lines } };
 }
@@ -42,7 +42,7 @@ impl Model for Point {
 impl Point {
     /// Before the first line.
     pub fn new() -> Point
-        ensures { result ≡ routers.opening_moment }
+        ensures { result ≡ routers.opening_run_state }
     {
         Point {
             stage: Stage::Joining(Peers::new()),

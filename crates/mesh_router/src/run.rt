@@ -4,7 +4,7 @@ ghost use Rattle.std.specs.Io.KnownBytes.{IsAtEnd};
 ghost use Rattle.mesh_shell.specs.Pieces.{Piece, Whole};
 ghost use Rattle.mesh_io.specs.Cause.{Rose};
 ghost use Rattle.mesh_io.specs.NextLines.{schedule_limits};
-ghost use Rattle.mesh_router.specs.Routers.{router_in, opening_moment};
+ghost use Rattle.mesh_router.specs.Routers.{router_in, opening_run_state};
 ghost use Rattle.mesh_router.specs.Lines.{outcome_of_piece, why_past};
 ghost use Rattle.mesh_router.specs.Text.{run_from};
 ghost use Rattle.mesh_router.specs.Seen.{HasCounts, IsGrown, most_grown};
@@ -17,7 +17,7 @@ use crate::point::Point;
 use crate::status::NodeStatus;
 use crate::stop::{Scratch, Stop};
 use mesh_grammar::BadWhy;
-use mesh_io::{Cutter, Limits, SCHEDULE_ROOM, Sink, Source};
+use mesh_io::{Cutter, Limits, SCHEDULE_CAPACITY, Sink, Source};
 use mesh_link::Link;
 use mesh_peers::parse_node_line;
 use mesh_shell::{Limit, LineReader, Runner, run_lines};
@@ -157,7 +157,7 @@ fn route<R: LineReader, O: Sink, L: Link>(
     routing: &mut Routing<'_, O, L>,
     lines: &mut R,
 ) -> NodeStatus
-    requires opening { routing.old.at.now ≡ opening_moment }
+    requires opening { routing.old.at.now ≡ opening_run_state }
     requires most { R.limits lines.old ≡ schedule_limits }
     requires pending { R.pending lines.old ≡ [] }
     requires given { R.given lines.old ≡ 0 }
@@ -216,7 +216,7 @@ pub fn run_script<I: Source, O: Sink, L: Link>(
 {
     let mut at = Point::new();
     let mut scratch = Scratch::new();
-    let mut lines: Cutter<'_, I, SCHEDULE_ROOM> = Cutter::new(input, Limits::of_schedule());
+    let mut lines: Cutter<'_, I, SCHEDULE_CAPACITY> = Cutter::new(input, Limits::of_schedule());
     let mut routing = Routing {
         alloc,
         at: &mut at,

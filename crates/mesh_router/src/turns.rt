@@ -13,16 +13,18 @@ use crate::router::Router;
 use crate::stop::{Scratch, Stop};
 use aodv_node::TurnError;
 use aodv_wire::WireError;
-use mesh_base::{Addr, LINE_ROOM, LineBuf, MOST_NODES, Mesh, push_number, push_text, write_dotted};
+use mesh_base::{
+    Addr, LINE_CAPACITY, LineBuf, MOST_NODES, Mesh, push_number, push_text, write_dotted,
+};
 use mesh_io::{PutFault, Sink, put_all};
 use mesh_link::Link;
 
 // ---- what can't be read
 
-// Why bytes spell no message.
+// Why bytes encode no message.
 #[tactic(auto, using(std::proofs::lemmas::List::append_assoc))]
 fn push_refusal(out: &mut LineBuf, why: WireError)
-    requires { length out.old + 40 ≤ LINE_ROOM }
+    requires { length out.old + 40 ≤ LINE_CAPACITY }
     ensures text { out.new ≡ out.old ++ refusal_words why }
     ensures length { length out.new ≤ length out.old + 40 }
 {

@@ -9,7 +9,7 @@ use Rattle.mesh_model.specs.Worlds.{Event, Outcome, Idle, Next}
 use Rattle.mesh_model.specs.Places.{IsEvent}
 use Rattle.mesh_model.specs.Choices.{pick}
 use Rattle.mesh_meaning.specs.Events.{event_of}
-use Rattle.mesh_text.specs.Schedule.{Moment, Does, Chooses, with_line_read, with_world, next_moment, outcome_at, world_of}
+use Rattle.mesh_text.specs.Schedule.{RunState, Does, Chooses, with_line_read, with_world, next_state, outcome_at, world_of}
 use Rattle.mesh_text.specs.Lines.{words_of}
 use Rattle.mesh_grammar.specs.Written.{line}
 use Rattle.mesh_text.specs.Effects.{outcome_lines}
@@ -29,40 +29,40 @@ none_left : (most did : ℕ) → most ≤ did → most - did ≡ 0
 none_left most did h = omega arith
 
 -- one event is the last where it is given
-one_given : (m : Moment) (e : Event) (o : Outcome) → e ∷ [] ≡ event_then m e o (λ n. [])
+one_given : (m : RunState) (e : Event) (o : Outcome) → e ∷ [] ≡ event_then m e o (λ n. [])
 one_given m e Idle = refl
 one_given m e (worlds.Full x field) = refl
 one_given m e (Next w i) = refl
 
-chosen_suc : (k : ℕ) (m : Moment) → events_chosen (suc k) m ≡ choice_then m (pick (world_of m)) (λ n. events_chosen k n)
+chosen_suc : (k : ℕ) (m : RunState) → events_chosen (suc k) m ≡ choice_then m (pick (world_of m)) (λ n. events_chosen k n)
 unfolding events_chosen
 chosen_suc k m = refl
 
-chosen_zero : (m : Moment) → events_chosen 0 m ≡ []
+chosen_zero : (m : RunState) → events_chosen 0 m ≡ []
 unfolding events_chosen
 chosen_zero m = refl
 
-chosen_none : (k : ℕ) (m : Moment) → None ≡ pick (world_of m) → events_chosen k m ≡ []
+chosen_none : (k : ℕ) (m : RunState) → None ≡ pick (world_of m) → events_chosen k m ≡ []
 chosen_none zero m h = chosen_zero m
 chosen_none (suc k) m h = chosen_suc k m ∙ ap (λ o. choice_then m o (λ n. events_chosen k n)) (sym h)
 
-due_zero : (given : Option Event) (m : Moment) → events_due given 0 m ≡ []
+due_zero : (given : Option Event) (m : RunState) → events_due given 0 m ≡ []
 unfolding events_due
 due_zero None m = chosen_zero m
 due_zero (Some x) m = refl
 
 -- as many were done as were asked for
-pub due_all : (given : Option Event) (most did : ℕ) (m : Moment) → most ≤ did → events_due given (most - did) m ≡ []
+pub due_all : (given : Option Event) (most did : ℕ) (m : RunState) → most ≤ did → events_due given (most - did) m ≡ []
 due_all given most did m h = ap (λ k. events_due given k m) (none_left most did h) ∙ due_zero given m
 
 -- none is left to be chosen
-pub due_none : (given : Option Event) (k : ℕ) (m : Moment) → None ≡ next_in given m → events_due given k m ≡ []
+pub due_none : (given : Option Event) (k : ℕ) (m : RunState) → None ≡ next_in given m → events_due given k m ≡ []
 unfolding events_due
 due_none None k m h = chosen_none k m h
 due_none (Some x) k m h = absurd (let other : Some x ≡ None = sym h in let P : ⊥ = cc in P)
 
 -- one more
-pub due_next : (given : Option Event) (most did : ℕ) (m : Moment) (e : Event) → IfSome given (λ _. most ≤ 1) → did < most → Some e ≡ next_in given m
+pub due_next : (given : Option Event) (most did : ℕ) (m : RunState) (e : Event) → IfSome given (λ _. most ≤ 1) → did < most → Some e ≡ next_in given m
     → events_due given (most - did) m ≡ event_then m e (outcome_at m e) (λ n. events_due given (most - (did + 1)) n)
 unfolding events_due
 due_next None most did m e one h picked =
@@ -78,30 +78,30 @@ due_next (Some x) most did m e one h same =
     ∙ ap (λ k. event_then m e (outcome_at m e) (λ n. events_due (Some x) k n)) (sym last)
 
 -- what comes of one event, and then of others
-ran_then : (m : Moment) (e : Event) (o : Outcome) (others : Moment → List Event) → outcome_at m e ≡ o
+ran_then : (m : RunState) (e : Event) (o : Outcome) (others : RunState → List Event) → outcome_at m e ≡ o
     → outcome_of_events m (event_then m e o others) ≡ done_then m e o (λ n. outcome_of_events n (others n))
 unfolding outcome_of_events
-ran_then m e Idle others is = ap (λ o. done_then m e o (λ n. outcome_of_events n (others (next_moment m e)))) is
+ran_then m e Idle others is = ap (λ o. done_then m e o (λ n. outcome_of_events n (others (next_state m e)))) is
 ran_then m e (worlds.Full x field) others is = ap (λ o. done_then m e o (λ n. outcome_of_events n [])) is
-ran_then m e (Next w i) others is = ap (λ o. done_then m e o (λ n. outcome_of_events n (others (next_moment m e)))) is
+ran_then m e (Next w i) others is = ap (λ o. done_then m e o (λ n. outcome_of_events n (others (next_state m e)))) is
 
-pub ran_next : (m : Moment) (e : Event) (others : Moment → List Event)
+pub ran_next : (m : RunState) (e : Event) (others : RunState → List Event)
     → outcome_of_events m (event_then m e (outcome_at m e) others) ≡ done_then m e (outcome_at m e) (λ n. outcome_of_events n (others n))
 ran_next m e others = ran_then m e (outcome_at m e) others refl
 
-pub nothing_more : (say : Bool) (m : Moment) (events : List Event) (a : Option (List ℕ)) → events ≡ [] → IsEventsDone say (outcome_of_events m events) m a a
+pub nothing_more : (say : Bool) (m : RunState) (events : List Event) (a : Option (List ℕ)) → events ≡ [] → IsEventsDone say (outcome_of_events m events) m a a
 unfolding outcome_of_events
 nothing_more say m events a none = record { text = []; is = ap (outcome_of_events m) none; grown = shown_none say a }
 
 -- one was done, so as many are left as there were but one
-then_counts : (say : Bool) (m n : Moment) (e : Event) (o : Outcome) (others : Moment → List Event) (a b : Option (List ℕ)) → IsLineDone say (outcome_by m e o) n a b → n ≡ next_moment m e
+then_counts : (say : Bool) (m n : RunState) (e : Event) (o : Outcome) (others : RunState → List Event) (a b : Option (List ℕ)) → IsLineDone say (outcome_by m e o) n a b → n ≡ next_state m e
     → length (event_then m e o others) ≡ suc (length (others n))
 then_counts say m n e Idle others a b done next = ap (λ k. suc (length (others k))) (sym next)
 then_counts say m n e (worlds.Full x field) others a b done next = absurd (let h : Full [] m e field ≡ On done.text n = done.is in let P : ⊥ = cc in P)
 then_counts say m n e (Next w i) others a b done next = ap (λ k. suc (length (others k))) (sym next)
 
-pub due_counts : (say : Bool) (given : Option Event) (most did : ℕ) (m n : Moment) (e : Event) (a b : Option (List ℕ)) → IfSome given (λ _. most ≤ 1) → did < most → Some e ≡ next_in given m
-    → IsLineDone say (outcome_by m e (outcome_at m e)) n a b → n ≡ next_moment m e → length (events_due given (most - did) m) ≡ suc (length (events_due given (most - (did + 1)) n))
+pub due_counts : (say : Bool) (given : Option Event) (most did : ℕ) (m n : RunState) (e : Event) (a b : Option (List ℕ)) → IfSome given (λ _. most ≤ 1) → did < most → Some e ≡ next_in given m
+    → IsLineDone say (outcome_by m e (outcome_at m e)) n a b → n ≡ next_state m e → length (events_due given (most - did) m) ≡ suc (length (events_due given (most - (did + 1)) n))
 due_counts say given most did m n e a b one h p done next =
     ap length (due_next given most did m e one h p) ∙ then_counts say m n e (outcome_at m e) (λ x. events_due given (most - (did + 1)) x) a b done next
 
@@ -111,7 +111,7 @@ pub text-before : (text : List ℕ) (ran : EventsOutcome) → text_of (before te
 text-before text (Ended others after) = refl
 text-before text (EventsFull others n e field) = refl
 
-before_to : (say : Bool) (m n k : Moment) (text : List ℕ) (ran : EventsOutcome) (a b c : Option (List ℕ)) (r : Result ℕ Stop) → n.mesh ≡ m.mesh → n.lines ≡ m.lines
+before_to : (say : Bool) (m n k : RunState) (text : List ℕ) (ran : EventsOutcome) (a b c : Option (List ℕ)) (r : Result ℕ Stop) → n.mesh ≡ m.mesh → n.lines ≡ m.lines
     → Appends a b (output_if say text) → IsEventsRun say n ran k b c r → IsEventsRun say m (before text ran) k a c r
 before_to say m n k text ran a b c (Ok did) em el p q =
     record { text = text ++ q.text; is = ap (before text) q.is; grown = shown_join say a b c text q.text p q.grown }
@@ -130,31 +130,31 @@ before_to say m n k text ran a b c (Err stop.NoMemory) em el p q =
     let P : List ℕ → Type 0 = λ l. AppendsPrefix a c (output_if say l) in
     subst P (sym (text-before text ran)) (front_join say a b c text (text_of ran) p q)
 
--- the moment after what came of an event
-moment_of_came : Moment → LineOutcome → Moment
-moment_of_came m (On text n) = n
-moment_of_came m (Refused why) = m
-moment_of_came m (Full text n e field) = m
+-- the state after what came of an event
+state_of_came : RunState → LineOutcome → RunState
+state_of_came m (On text n) = n
+state_of_came m (Refused why) = m
+state_of_came m (Full text n e field) = m
 
 -- an event that was done
-pub on_then : (say : Bool) (m n k : Moment) (e : Event) (text : List ℕ) (ran : Moment → EventsOutcome) (a b c : Option (List ℕ)) (r : Result ℕ Stop)
-    → (g : IsLineDone say (On text (next_moment m e)) n a b) → IsEventsRun say n (ran n) k b c r → IsEventsRun say m (before text (ran (next_moment m e))) k a c r
-unfolding next_moment moment_of_came
+pub on_then : (say : Bool) (m n k : RunState) (e : Event) (text : List ℕ) (ran : RunState → EventsOutcome) (a b c : Option (List ℕ)) (r : Result ℕ Stop)
+    → (g : IsLineDone say (On text (next_state m e)) n a b) → IsEventsRun say n (ran n) k b c r → IsEventsRun say m (before text (ran (next_state m e))) k a c r
+unfolding next_state state_of_came
 on_then say m n k e text ran a b c r g q =
-    let same : next_moment m e ≡ n = ap (moment_of_came m) g.is in
+    let same : next_state m e ≡ n = ap (state_of_came m) g.is in
     let words : text ≡ g.text = ap text_in g.is in
-    let P : Moment → Type 0 = λ p. IsEventsRun say m (before text (ran p)) k a c r in
+    let P : RunState → Type 0 = λ p. IsEventsRun say m (before text (ran p)) k a c r in
     let Q : List ℕ → Type 0 = λ l. Appends a b (output_if say l) in
     subst P (sym same) (before_to say m n k text (ran n) a b c r (ap (λ p. p.mesh) (sym same)) (ap (λ p. p.lines) (sym same)) (subst Q (sym words) g.grown) q)
 
-then_goes : (say : Bool) (m n k : Moment) (e : Event) (o : Outcome) (others : Moment → EventsOutcome) (a b c : Option (List ℕ)) (r : Result ℕ Stop)
+then_goes : (say : Bool) (m n k : RunState) (e : Event) (o : Outcome) (others : RunState → EventsOutcome) (a b c : Option (List ℕ)) (r : Result ℕ Stop)
     → IsLineDone say (outcome_by m e o) n a b → IsEventsRun say n (others n) k b c r → IsEventsRun say m (done_then m e o others) k a c r
 then_goes say m n k e Idle others a b c r g q = on_then say m n k e (outcome_lines m.mesh e Idle) others a b c r g q
 then_goes say m n k e (worlds.Full x field) others a b c r g q = absurd (let h : Full [] m e field ≡ On g.text n = g.is in let P : ⊥ = cc in P)
 then_goes say m n k e (Next w i) others a b c r g q = on_then say m n k e (outcome_lines m.mesh e (Next w i)) others a b c r g q
 
 -- an event that was not done, or not written whole
-pub on_stops : (say : Bool) (m n p : Moment) (text : List ℕ) (ran : EventsOutcome) (a b : Option (List ℕ)) (t : Stop)
+pub on_stops : (say : Bool) (m n p : RunState) (text : List ℕ) (ran : EventsOutcome) (a b : Option (List ℕ)) (t : Stop)
     → IsLineStopped say m (On text p) n a b t → IsEventsRun say m (before text ran) n a b (Err t)
 on_stops say m n p text ran a b (stop.BadLine f) g = absurd (let h = g.0 in let P : ⊥ = cc in P)
 on_stops say m n p text ran a b (stop.Full event node field) g = absurd (let h : On text p ≡ Full g.text n (event_of event) field = g.is in let P : ⊥ = cc in P)
@@ -171,7 +171,7 @@ ran_in d (Refused why) = d
 ran_in d (Full text n e field) = EventsFull text n e field
 
 -- one that is refused for a full counter
-pub full_stops : (say : Bool) (m n : Moment) (e : Event) (full : Counter) (a b : Option (List ℕ)) (t : Stop)
+pub full_stops : (say : Bool) (m n : RunState) (e : Event) (full : Counter) (a b : Option (List ℕ)) (t : Stop)
     → IsLineStopped say m (Full [] m e full) n a b t → IsEventsRun say m (EventsFull [] m e full) n a b (Err t)
 unfolding ran_in
 full_stops say m n e full a b (stop.BadLine f) g = absurd (let h = g.0 in let P : ⊥ = cc in P)
@@ -185,14 +185,14 @@ full_stops say m n e full a b (stop.Full event node field) g = record {
 full_stops say m n e full a b stop.WriteFault g = g
 full_stops say m n e full a b stop.NoMemory g = g
 
-then_stops : (say : Bool) (m n : Moment) (e : Event) (o : Outcome) (others : Moment → EventsOutcome) (a b : Option (List ℕ)) (t : Stop)
+then_stops : (say : Bool) (m n : RunState) (e : Event) (o : Outcome) (others : RunState → EventsOutcome) (a b : Option (List ℕ)) (t : Stop)
     → IsLineStopped say m (outcome_by m e o) n a b t → IsEventsRun say m (done_then m e o others) n a b (Err t)
-then_stops say m n e Idle others a b t g = on_stops say m n (next_moment m e) (outcome_lines m.mesh e Idle) (others (next_moment m e)) a b t g
+then_stops say m n e Idle others a b t g = on_stops say m n (next_state m e) (outcome_lines m.mesh e Idle) (others (next_state m e)) a b t g
 then_stops say m n e (worlds.Full x full) others a b t g = full_stops say m n e full a b t g
-then_stops say m n e (Next w i) others a b t g = on_stops say m n (next_moment m e) (outcome_lines m.mesh e (Next w i)) (others (next_moment m e)) a b t g
+then_stops say m n e (Next w i) others a b t g = on_stops say m n (next_state m e) (outcome_lines m.mesh e (Next w i)) (others (next_state m e)) a b t g
 
 -- one event more
-pub ran_goes : (say : Bool) (given : Option Event) (most did : ℕ) (m n k : Moment) (e : Event) (a b c : Option (List ℕ)) (r : Result ℕ Stop) → IfSome given (λ _. most ≤ 1) → did < most → Some e ≡ next_in given m
+pub ran_goes : (say : Bool) (given : Option Event) (most did : ℕ) (m n k : RunState) (e : Event) (a b c : Option (List ℕ)) (r : Result ℕ Stop) → IfSome given (λ _. most ≤ 1) → did < most → Some e ≡ next_in given m
     → IsLineDone say (outcome_by m e (outcome_at m e)) n a b → IsEventsRun say n (outcome_of_events n (events_due given (most - (did + 1)) n)) k b c r
     → IsEventsRun say m (outcome_of_events m (events_due given (most - did) m)) k a c r
 ran_goes say given most did m n k e a b c r one h p g q =
@@ -200,7 +200,7 @@ ran_goes say given most did m n k e a b c r one h p g q =
     subst P (sym (ap (outcome_of_events m) (due_next given most did m e one h p) ∙ ran_next m e (λ x. events_due given (most - (did + 1)) x)))
     (then_goes say m n k e (outcome_at m e) (λ x. outcome_of_events x (events_due given (most - (did + 1)) x)) a b c r g q)
 
-pub ran_stops : (say : Bool) (given : Option Event) (most did : ℕ) (m n : Moment) (e : Event) (a b : Option (List ℕ)) (t : Stop) → IfSome given (λ _. most ≤ 1) → did < most → Some e ≡ next_in given m
+pub ran_stops : (say : Bool) (given : Option Event) (most did : ℕ) (m n : RunState) (e : Event) (a b : Option (List ℕ)) (t : Stop) → IfSome given (λ _. most ≤ 1) → did < most → Some e ≡ next_in given m
     → IsLineStopped say m (outcome_by m e (outcome_at m e)) n a b t → IsEventsRun say m (outcome_of_events m (events_due given (most - did) m)) n a b (Err t)
 ran_stops say given most did m n e a b t one h p g =
     let P : EventsOutcome → Type 0 = λ ran. IsEventsRun say m ran n a b (Err t) in
@@ -209,15 +209,15 @@ ran_stops say given most did m n e a b t one h p g =
 
 -- ---- the line of an event
 
--- what is known after a refusal, of the moment before the run was started
-still_since : (m s n : Moment) (e : Event) → s ≡ with_world m → IsStill s n e → IsStill m n e
+-- what is known after a refusal, of the state before the run was started
+still_since : (m s n : RunState) (e : Event) → s ≡ with_world m → IsStill s n e → IsStill m n e
 still_since m s n e same still = record {
   event = subst (λ x. IsEvent (length x.mesh) e) same still.event;
   mesh = still.mesh ∙ ap (λ x. x.mesh) same;
   lines = still.lines ∙ ap (λ x. x.lines) same;
 }
 
-came-does : (m s : Moment) (e : Event) → s ≡ with_world m → outcome_of_line m (Does e) ≡ outcome_by_events (outcome_of_events s (events_due (Some e) 1 s))
+came-does : (m s : RunState) (e : Event) → s ≡ with_world m → outcome_of_line m (Does e) ≡ outcome_by_events (outcome_of_events s (events_due (Some e) 1 s))
 unfolding outcome_of_line events_due
 came-does m s e same = ap (λ k. outcome_by_events (outcome_of_events k (e ∷ []))) (sym same)
 
@@ -225,8 +225,8 @@ text_by : (ran : EventsOutcome) → text_in (outcome_by_events ran) ≡ text_of 
 text_by (Ended text n) = refl
 text_by (EventsFull text n e field) = refl
 
--- in what follows `p` is the same moment as `n`, once the reference has come back
-pub does_goes : (say : Bool) (m s n p : Moment) (e : Event) (a b : Option (List ℕ)) → s ≡ with_world m → n ≡ p → IsEventsDone say (outcome_of_events s (events_due (Some e) 1 s)) n a b
+-- in what follows `p` is the same state as `n`, once the reference has come back
+pub does_goes : (say : Bool) (m s n p : RunState) (e : Event) (a b : Option (List ℕ)) → s ≡ with_world m → n ≡ p → IsEventsDone say (outcome_of_events s (events_due (Some e) 1 s)) n a b
     → IsLineDone say (outcome_of_line m (Does e)) (with_line_read p) a b
 does_goes say m s n p e a b same back g = record {
   text = g.text;
@@ -234,13 +234,13 @@ does_goes say m s n p e a b same back g = record {
   grown = g.grown;
 }
 
-does_front : (say : Bool) (m s : Moment) (e : Event) (a b : Option (List ℕ)) → s ≡ with_world m → AppendsPrefix a b (output_if say (text_of (outcome_of_events s (events_due (Some e) 1 s))))
+does_front : (say : Bool) (m s : RunState) (e : Event) (a b : Option (List ℕ)) → s ≡ with_world m → AppendsPrefix a b (output_if say (text_of (outcome_of_events s (events_due (Some e) 1 s))))
     → AppendsPrefix a b (output_if say (text_in (outcome_of_line m (Does e))))
 does_front say m s e a b same g =
     let P : List ℕ → Type 0 = λ l. AppendsPrefix a b (output_if say l) in
     subst P (sym (ap text_in (came-does m s e same) ∙ text_by (outcome_of_events s (events_due (Some e) 1 s)))) g
 
-does_stopped : (say : Bool) (m s n : Moment) (e : Event) (a b : Option (List ℕ)) (t : Stop) → s ≡ with_world m → IsEventsRun say s (outcome_of_events s (events_due (Some e) 1 s)) n a b (Err t)
+does_stopped : (say : Bool) (m s n : RunState) (e : Event) (a b : Option (List ℕ)) (t : Stop) → s ≡ with_world m → IsEventsRun say s (outcome_of_events s (events_due (Some e) 1 s)) n a b (Err t)
     → IsLineStopped say m (outcome_of_line m (Does e)) n a b t
 does_stopped say m s n e a b (stop.BadLine f) same g = absurd g
 does_stopped say m s n e a b (stop.Full event node field) same g = record {
@@ -253,14 +253,14 @@ does_stopped say m s n e a b (stop.Full event node field) same g = record {
 does_stopped say m s n e a b stop.WriteFault same g = does_front say m s e a b same g
 does_stopped say m s n e a b stop.NoMemory same g = does_front say m s e a b same g
 
-pub does_stops : (say : Bool) (m s n p : Moment) (e : Event) (a b : Option (List ℕ)) (t : Stop) → s ≡ with_world m → n ≡ p → IsEventsRun say s (outcome_of_events s (events_due (Some e) 1 s)) n a b (Err t)
+pub does_stops : (say : Bool) (m s n p : RunState) (e : Event) (a b : Option (List ℕ)) (t : Stop) → s ≡ with_world m → n ≡ p → IsEventsRun say s (outcome_of_events s (events_due (Some e) 1 s)) n a b (Err t)
     → IsLineStopped say m (outcome_of_line m (Does e)) p a b t
 does_stops say m s n p e a b t same back g =
-    subst (λ (x : Moment). IsLineStopped say m (outcome_of_line m (Does e)) x a b t) back (does_stopped say m s n e a b t same g)
+    subst (λ (x : RunState). IsLineStopped say m (outcome_of_line m (Does e)) x a b t) back (does_stopped say m s n e a b t same g)
 
 -- ---- the line of chosen events
 
--- here `k` is what the line comes to, and `ran` the events, of which there were `did`, from moment s on
+-- here `k` is what the line comes to, and `ran` the events, of which there were `did`, from state s on
 front_in : (say : Bool) (w : List ℕ) (did : ℕ) (ran : EventsOutcome) (a b c : Option (List ℕ)) → Appends a b (output_if say w) → AppendsPrefix b c (output_if say (text_of ran))
     → AppendsPrefix a c (output_if say (text_in (outcome_of_auto w did ran)))
 front_in say w did (Ended others after) a b c p q = front_more say a c (w ++ others) (auto_end did) (front_join say a b c w others p q)
@@ -270,7 +270,7 @@ front_at : (say : Bool) (w : List ℕ) (did : ℕ) (ran : EventsOutcome) (a b : 
 front_at say w did (Ended others after) a b p = front_more say a b (w ++ others) (auto_end did) (front_more say a b w others p)
 front_at say w did (EventsFull others n e field) a b p = front_more say a b w others p
 
-pub line_goes : (say : Bool) (k : LineOutcome) (w : List ℕ) (did : ℕ) (ran : EventsOutcome) (n next : Moment) (a b c d : Option (List ℕ)) → k ≡ outcome_of_auto w did ran → Appends a b (output_if say w)
+pub line_goes : (say : Bool) (k : LineOutcome) (w : List ℕ) (did : ℕ) (ran : EventsOutcome) (n next : RunState) (a b c d : Option (List ℕ)) → k ≡ outcome_of_auto w did ran → Appends a b (output_if say w)
     → IsEventsDone say ran n b c → Appends c d (output_if say (auto_end did)) → next ≡ with_line_read n → IsLineDone say k next a d
 line_goes say k w did ran n next a b c d is p q r counts = record {
   text = w ++ q.text ++ auto_end did;
@@ -285,14 +285,14 @@ line_front say k w did ran a b is p =
     subst P (sym is) (front_at say w did ran a b p)
 
 -- nor the line after the events
-pub line_end_front : (say : Bool) (k : LineOutcome) (w : List ℕ) (did : ℕ) (ran : EventsOutcome) (n : Moment) (a b c d : Option (List ℕ)) → k ≡ outcome_of_auto w did ran → Appends a b (output_if say w)
+pub line_end_front : (say : Bool) (k : LineOutcome) (w : List ℕ) (did : ℕ) (ran : EventsOutcome) (n : RunState) (a b c d : Option (List ℕ)) → k ≡ outcome_of_auto w did ran → Appends a b (output_if say w)
     → IsEventsDone say ran n b c → AppendsPrefix c d (output_if say (auto_end did)) → AppendsPrefix a d (output_if say (text_in k))
 line_end_front say k w did ran n a b c d is p q r =
     let P : LineOutcome → Type 0 = λ x. AppendsPrefix a d (output_if say (text_in x)) in
     subst P (sym (is ∙ ap (outcome_of_auto w did) q.is)) (front_join say a c d (w ++ q.text) (auto_end did) (shown_join say a b c w q.text p q.grown) r)
 
 -- an event was not done, or not written whole
-pub line_stops : (say : Bool) (m s : Moment) (k : LineOutcome) (w : List ℕ) (did : ℕ) (ran : EventsOutcome) (n : Moment) (a b c : Option (List ℕ)) (t : Stop) → s ≡ with_world m → k ≡ outcome_of_auto w did ran
+pub line_stops : (say : Bool) (m s : RunState) (k : LineOutcome) (w : List ℕ) (did : ℕ) (ran : EventsOutcome) (n : RunState) (a b c : Option (List ℕ)) (t : Stop) → s ≡ with_world m → k ≡ outcome_of_auto w did ran
     → Appends a b (output_if say w) → IsEventsRun say s ran n b c (Err t) → IsLineStopped say m k n a c t
 line_stops say m s k w did ran n a b c (stop.BadLine f) same is p q = absurd q
 line_stops say m s k w did ran n a b c (stop.Full event node field) same is p q = record {
@@ -311,42 +311,42 @@ line_stops say m s k w did ran n a b c stop.NoMemory same is p q =
 
 -- ---- the same of the schedule's run
 
-came-chooses : (m s : Moment) (count did : ℕ) → s ≡ with_world m → did ≡ length (events_chosen count s)
+came-chooses : (m s : RunState) (count did : ℕ) → s ≡ with_world m → did ≡ length (events_chosen count s)
     → outcome_of_line m (Chooses count) ≡ outcome_of_auto (line (words_of m.mesh (Chooses count))) did (outcome_of_events s (events_chosen count s))
 unfolding outcome_of_line
 came-chooses m s count did same many =
     ap (λ k. outcome_of_auto (line (words_of m.mesh (Chooses count))) (length (events_chosen count k)) (outcome_of_events k (events_chosen count k))) (sym same)
     ∙ ap (λ x. outcome_of_auto (line (words_of m.mesh (Chooses count))) x (outcome_of_events s (events_chosen count s))) (sym many)
 
-pub auto_goes : (say : Bool) (m s n k : Moment) (count did : ℕ) (a b c d : Option (List ℕ)) → s ≡ with_world m → did ≡ length (events_chosen count s)
+pub auto_goes : (say : Bool) (m s n k : RunState) (count did : ℕ) (a b c d : Option (List ℕ)) → s ≡ with_world m → did ≡ length (events_chosen count s)
     → Appends a b (output_if say (line (words_of m.mesh (Chooses count))))
     → IsEventsDone say (outcome_of_events s (events_chosen count s)) n b c → Appends c d (output_if say (auto_end did)) → k ≡ with_line_read n → IsLineDone say (outcome_of_line m (Chooses count)) k a d
 auto_goes say m s n k count did a b c d same many p q r next =
     line_goes say (outcome_of_line m (Chooses count)) (line (words_of m.mesh (Chooses count))) did (outcome_of_events s (events_chosen count s)) n k a b c d (came-chooses m s count did same many) p q r next
 
-pub auto_front : (say : Bool) (m s : Moment) (count : ℕ) (a b : Option (List ℕ)) → s ≡ with_world m → AppendsPrefix a b (output_if say (line (words_of m.mesh (Chooses count))))
+pub auto_front : (say : Bool) (m s : RunState) (count : ℕ) (a b : Option (List ℕ)) → s ≡ with_world m → AppendsPrefix a b (output_if say (line (words_of m.mesh (Chooses count))))
     → AppendsPrefix a b (output_if say (text_in (outcome_of_line m (Chooses count))))
 auto_front say m s count a b same p =
     line_front say (outcome_of_line m (Chooses count)) (line (words_of m.mesh (Chooses count))) _ (outcome_of_events s (events_chosen count s)) a b (came-chooses m s count _ same refl) p
 
-pub auto_end_front : (say : Bool) (m s n : Moment) (count did : ℕ) (a b c d : Option (List ℕ)) → s ≡ with_world m → did ≡ length (events_chosen count s)
+pub auto_end_front : (say : Bool) (m s n : RunState) (count did : ℕ) (a b c d : Option (List ℕ)) → s ≡ with_world m → did ≡ length (events_chosen count s)
     → Appends a b (output_if say (line (words_of m.mesh (Chooses count)))) → IsEventsDone say (outcome_of_events s (events_chosen count s)) n b c → AppendsPrefix c d (output_if say (auto_end did))
     → AppendsPrefix a d (output_if say (text_in (outcome_of_line m (Chooses count))))
 auto_end_front say m s n count did a b c d same many p q r =
     line_end_front say (outcome_of_line m (Chooses count)) (line (words_of m.mesh (Chooses count))) did (outcome_of_events s (events_chosen count s)) n a b c d (came-chooses m s count did same many) p q r
 
-pub auto_stops : (say : Bool) (m s n : Moment) (count : ℕ) (a b c : Option (List ℕ)) (t : Stop) → s ≡ with_world m
+pub auto_stops : (say : Bool) (m s n : RunState) (count : ℕ) (a b c : Option (List ℕ)) (t : Stop) → s ≡ with_world m
     → Appends a b (output_if say (line (words_of m.mesh (Chooses count)))) → IsEventsRun say s (outcome_of_events s (events_chosen count s)) n b c (Err t)
     → IsLineStopped say m (outcome_of_line m (Chooses count)) n a c t
 auto_stops say m s n count a b c t same p q =
     line_stops say m s (outcome_of_line m (Chooses count)) (line (words_of m.mesh (Chooses count))) _ (outcome_of_events s (events_chosen count s)) n a b c t same (came-chooses m s count _ same refl) p q
 
 -- where none is given, all are chosen
-pub chosen_ran : (say : Bool) (s m n : Moment) (count : ℕ) (a b : Option (List ℕ)) (r : Result ℕ Stop) → s ≡ m → IsEventsRun say s (outcome_of_events s (events_due None count s)) n a b r
+pub chosen_ran : (say : Bool) (s m n : RunState) (count : ℕ) (a b : Option (List ℕ)) (r : Result ℕ Stop) → s ≡ m → IsEventsRun say s (outcome_of_events s (events_due None count s)) n a b r
     → IsEventsRun say m (outcome_of_events m (events_chosen count m)) n a b r
 unfolding events_due
-chosen_ran say s m n count a b r same g = subst (λ (x : Moment). IsEventsRun say x (outcome_of_events x (events_chosen count x)) n a b r) same g
+chosen_ran say s m n count a b r same g = subst (λ (x : RunState). IsEventsRun say x (outcome_of_events x (events_chosen count x)) n a b r) same g
 
-pub chosen_many : (s m : Moment) (count did : ℕ) → s ≡ m → did ≡ length (events_due None count s) → did ≡ length (events_chosen count m)
+pub chosen_many : (s m : RunState) (count did : ℕ) → s ≡ m → did ≡ length (events_due None count s) → did ≡ length (events_chosen count m)
 unfolding events_due
 chosen_many s m count did same is = is ∙ ap (λ x. length (events_chosen count x)) same

@@ -1,4 +1,4 @@
--- What an event's tally adds to the sums.
+-- What an event's counts add to the sums.
 use Rattle.std.proofs.Common.{◌≡◌, ℕ, ◌+◌, Bool, true, false, refl, sym, ap, ◌∙◌, arith}
 use Rattle.mesh_model.specs.Worlds as worlds
 use Rattle.mesh_model.specs.Worlds.{Event, Outcome, Idle, Next}
@@ -6,8 +6,8 @@ use Rattle.mesh_model.specs.Accounts.{any, given_data, delivered_data, doubled_a
 use mir.Val.{bool_byte}
 use Rattle.mesh_text.specs.Schedule.{Sums, sums_after, idle_by}
 use Rattle.mesh_world.specs.Steps.{is_idle}
-use Rattle.mesh_world.specs.Tallies.{count_of, says_idle, says_given, says_delivered, says_dropped, says_doubled, IsTally}
-use Rattle.mesh_world.specs.declared.tally.Tally.{Tally}
+use Rattle.mesh_world.specs.CountsOfEvents.{count_of, says_idle, says_given, says_delivered, says_dropped, says_doubled, AreEventCounts}
+use Rattle.mesh_world.specs.declared.event_counts.EventCounts.{EventCounts}
 
 idle_is : (o : Outcome) → idle_by o ≡ count_of (is_idle o)
 idle_is Idle = refl
@@ -26,8 +26,8 @@ pub summed_by : (s : Sums) (e : Event) (o : Outcome) (v w x y z : ℕ) → v ≡
     → record { events = s.events + 1; idle = v; given = w; delivered = x; lost = y; copied = z } ≡ sums_after s e o
 summed_by s e o v w x y z iv gw dx ly cz = λ i. record { events = s.events + 1; idle = iv i; given = gw i; delivered = dx i; lost = ly i; copied = cz i }
 
--- the sums of an event by its tally
-pub tallied : (s : Sums) (e : Event) (o : Outcome) (t : Tally) (v w x y z : ℕ) → IsTally e o t → v ≡ s.idle + count_of (says_idle t) → w ≡ s.given + count_of (says_given e t)
+-- the sums of an event by its counts
+pub tallied : (s : Sums) (e : Event) (o : Outcome) (t : EventCounts) (v w x y z : ℕ) → AreEventCounts e o t → v ≡ s.idle + count_of (says_idle t) → w ≡ s.given + count_of (says_given e t)
     → x ≡ s.delivered + count_of (says_delivered t) → y ≡ s.lost + count_of (says_dropped t) → z ≡ s.copied + count_of (says_doubled t)
     → record { events = s.events + 1; idle = v; given = w; delivered = x; lost = y; copied = z } ≡ sums_after s e o
 tallied s e o t v w x y z is iv gw dx ly cz =

@@ -1,4 +1,4 @@
--- A script that says all of its run, whatever its moments are: what it tells of a line, and what was told of its input, by the status.
+-- A script that says all of its run, whatever its states are: what it tells of a line, and what was told of its input, by the status.
 use Rattle.std.proofs.Common.{◌≡◌, ℕ, ◌+◌, true, false, List, [], ◌∷◌, Option, Result, Ok, Err, refl, sym, ap, subst, ◌∙◌}
 use Rattle.std.specs.Prelude.{IsErr, IsErrOf}
 use Rattle.std.specs.Io.KnownBytes.{Appends}
@@ -9,10 +9,10 @@ use Rattle.mesh_io.specs.declared.limits.Limits.{Limits}
 use Rattle.mesh_shell.specs.Causes as causes
 use Rattle.mesh_shell.specs.Outputs as outputs
 use Rattle.mesh_shell.specs.Pieces.{Piece, pieces_within}
-use Rattle.mesh_shell.specs.Story as shell
+use Rattle.mesh_shell.specs.Fold as shell
 use Rattle.mesh_shell.specs.declared.fault.Fault.{Fault}
 use Rattle.mesh_shell.specs.declared.fault.Fault.TheVariants.{ReadFault, WriteFault, NoMemory}
-use Rattle.mesh_text.specs.Schedule.{Moment}
+use Rattle.mesh_text.specs.Schedule.{RunState}
 use Rattle.mesh_text.specs.Text.{LineOutcome, Refused, outcome_in_run}
 use Rattle.mesh_text.specs.declared.verdict.Verdict.{Verdict}
 use Rattle.mesh_text.specs.declared.verdict.Verdict.TheVariants.{Finished, RefusedAt, FullAt}
@@ -38,30 +38,30 @@ same_as (shell.On text n) = refl
 same_as (shell.Ended text last v) = refl
 
 -- what a line came to, and what was settled then
-pub loud_line_as : {N : Type 0} (to : Moment → N) (m n : Moment) (k : LineOutcome) (a b d : Option (List ℕ)) (did : Result (Unit {0}) Stop) (result : Result (Option Verdict) Fault)
+pub loud_line_as : {N : Type 0} (to : RunState → N) (m n : RunState) (k : LineOutcome) (a b d : Option (List ℕ)) (did : Result (Unit {0}) Stop) (result : Result (Option Verdict) Fault)
     → IsLineRun true m k n a b did → IsSettled n b d did result → outputs.IsLineRun (outcome_as to (outcome_in_run m k)) (to n) a d result
 loud_line_as {N} to m n k a b d did result ran told =
     subst (λ (c : shell.Outcome N Verdict). outputs.IsLineRun c (to n) a d result) (all_said to (outcome_in_run m k)) (line_told true to m n k a b d did result ran told)
 
-pub loud_line : (m n : Moment) (k : LineOutcome) (a b d : Option (List ℕ)) (did : Result (Unit {0}) Stop) (result : Result (Option Verdict) Fault)
+pub loud_line : (m n : RunState) (k : LineOutcome) (a b d : Option (List ℕ)) (did : Result (Unit {0}) Stop) (result : Result (Option Verdict) Fault)
     → IsLineRun true m k n a b did → IsSettled n b d did result → outputs.IsLineRun (outcome_in_run m k) n a d result
 loud_line m n k a b d did result ran told =
-    subst (λ (c : shell.Outcome Moment Verdict). outputs.IsLineRun c n a d result) (same_as (outcome_in_run m k)) (loud_line_as (λ (x : Moment). x) m n k a b d did result ran told)
+    subst (λ (c : shell.Outcome RunState Verdict). outputs.IsLineRun c n a d result) (same_as (outcome_in_run m k)) (loud_line_as (λ (x : RunState). x) m n k a b d did result ran told)
 
 -- one that goes past a limit, and its last line, or a prefix of it
-pub loud_past_as : {N : Type 0} (to : Moment → N) (m : Moment) (k : LineOutcome) (v : Verdict) (why : BadWhy) (a b : Option (List ℕ)) → k ≡ Refused why → v ≡ RefusedAt (m.lines + 1) → Appends a b (bad_line (m.lines + 1) why)
+pub loud_past_as : {N : Type 0} (to : RunState → N) (m : RunState) (k : LineOutcome) (v : Verdict) (why : BadWhy) (a b : Option (List ℕ)) → k ≡ Refused why → v ≡ RefusedAt (m.lines + 1) → Appends a b (bad_line (m.lines + 1) why)
     → outputs.IsLineLast (outcome_as to (outcome_in_run m k)) v a b
 loud_past_as {N} to m k v why a b is verdict put =
     subst (λ (c : shell.Outcome N Verdict). outputs.IsLineLast c v a b) (all_said to (outcome_in_run m k)) (past_written true to m k v why a b is verdict put)
 
-pub loud_past_failed_as : {N : Type 0} (to : Moment → N) (m : Moment) (k : LineOutcome) (why : BadWhy) (a b : Option (List ℕ)) (answer : Result Verdict Fault) → IsErr answer → k ≡ Refused why → AppendsPrefix a b (bad_line (m.lines + 1) why)
+pub loud_past_failed_as : {N : Type 0} (to : RunState → N) (m : RunState) (k : LineOutcome) (why : BadWhy) (a b : Option (List ℕ)) (answer : Result Verdict Fault) → IsErr answer → k ≡ Refused why → AppendsPrefix a b (bad_line (m.lines + 1) why)
     → outputs.IsLastRun (outcome_as to (outcome_in_run m k)) a b answer
 loud_past_failed_as {N} to m k why a b answer failed is put =
     subst (λ (c : shell.Outcome N Verdict). outputs.IsLastRun c a b answer) (all_said to (outcome_in_run m k)) (past_failed true to m k why a b answer failed is put)
 
--- ---- a story whose moments have more than those of another
+-- ---- a fold whose states have more than those of another
 
--- a text, where its moment is seen so
+-- a text, where its state is seen so
 abbrev pub text_as : {M N V : Type 0} → (M → N) → shell.RunText M V → shell.RunText N V
 text_as to w = record { lines = w.lines; last = w.last; verdict = w.verdict; after = to w.after; complete = w.complete }
 
@@ -69,7 +69,7 @@ abbrev pub ending_as : {M N V : Type 0} → (M → N) → shell.Ending M V → s
 ending_as to e = record { text = e.text; verdict = e.verdict; after = to e.after }
 
 -- it makes the same of each
-pub record IsSeenAs {M N V : Type 0} (to : M → N) (s : shell.Story M V) (t : shell.Story N V) : Type 0 where
+pub record IsSeenAs {M N V : Type 0} (to : M → N) (s : shell.Fold M V) (t : shell.Fold N V) : Type 0 where
   pub head : (m : M) → t.head (to m) ≡ s.head m
   pub outcome : (m : M) (piece : Piece) → t.outcome (to m) piece ≡ outcome_as to (s.outcome m piece)
   pub ending : (m : M) → t.ending (to m) ≡ ending_as to (s.ending m)
@@ -79,7 +79,7 @@ goes_as : {M N V : Type 0} (to : M → N) (m : M) (c : shell.Outcome M V) (other
 goes_as to m (shell.On text n) others script rest = ap (shell.lines_before text) (rest n)
 goes_as to m (shell.Ended text last v) others script rest = refl
 
-lines_as : {M N V : Type 0} (to : M → N) (s : shell.Story M V) (t : shell.Story N V) → IsSeenAs to s t → (m : M) (pieces : List Piece) → shell.text_from t (to m) pieces ≡ text_as to (shell.text_from s m pieces)
+lines_as : {M N V : Type 0} (to : M → N) (s : shell.Fold M V) (t : shell.Fold N V) → IsSeenAs to s t → (m : M) (pieces : List Piece) → shell.text_from t (to m) pieces ≡ text_as to (shell.text_from s m pieces)
 unfolding shell.text_from
 lines_as to s t is m [] = ap shell.finished_run (is.ending m)
 lines_as to s t is m (piece ∷ pieces) =
@@ -87,7 +87,7 @@ lines_as to s t is m (piece ∷ pieces) =
     ∙ goes_as to m (s.outcome m piece) (λ n. shell.text_from s n pieces) (λ n. shell.text_from t n pieces) (λ n. lines_as to s t is n pieces)
 
 -- and of an input
-pub text_on_as : {M N V : Type 0} (to : M → N) (s : shell.Story M V) (t : shell.Story N V) → IsSeenAs to s t → (most : Limits) (m : M) (input : List ℕ) → shell.text_on t most (to m) input ≡ text_as to (shell.text_on s most m input)
+pub text_on_as : {M N V : Type 0} (to : M → N) (s : shell.Fold M V) (t : shell.Fold N V) → IsSeenAs to s t → (most : Limits) (m : M) (input : List ℕ) → shell.text_on t most (to m) input ≡ text_as to (shell.text_on s most m input)
 unfolding shell.text_on
 text_on_as to s t is most m input =
     ap (λ (text : List ℕ). shell.lines_before text (shell.text_from t (to m) (pieces_within most input))) (is.head m) ∙ ap (shell.lines_before (s.head m)) (lines_as to s t is m (pieces_within most input))

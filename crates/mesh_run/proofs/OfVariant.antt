@@ -14,7 +14,7 @@ use Rattle.aodv_model.specs.Handlers.{Reaction, One, casting, plain, only, losin
 use Rattle.aodv_model.specs.Fullness.{turn_full, send_full, ask_full}
 use Rattle.aodv_model.proofs.Entries.{if_case}
 use Rattle.mesh_model.specs.Worlds.{is_parcel, World, Node, Copy, Event, Give, Turn, Send, Ask, Link, Cut, Deliver, Lose, Double, range, copies, done_by, push, with_item, find_copy, Changed, Sent, CopyHeard, CopyLost, CopyDoubled, Outcome, Idle, Next, unless_full, turn_of, send_of, ask_of, at_node, at_copy, with_link, without_link, without_copy, with_double, step, after, are_linked, openings, start}
-use Rattle.mesh_run.specs.Moments.{AreOfVariant}
+use Rattle.mesh_run.specs.RunStates.{AreOfVariant}
 
 -- ---- a node
 

@@ -6,7 +6,7 @@ use Rattle.aodv_model.proofs.Entries.{if_case}
 use Rattle.aodv_model.specs.Cores.{Core, Item, Heard, New}
 use Rattle.aodv_model.specs.Fullness.{turn_full, send_full, ask_full}
 use Rattle.aodv_model.specs.Handlers.{turn, send, ask, took, may_send, may_ask}
-use Rattle.mesh_model.specs.Worlds.{World, Node, Copy, Event, Give, Turn, Send, Ask, Link, Cut, Deliver, Lose, Double, Outcome, Idle, Full, Next, Happening, Changed, Taken, Sent, CopyHeard, CopyLost, CopyDoubled, step, unless_full, turn_of, send_of, ask_of, at_node, at_copy, done_by, copies, range, push, find_copy, are_linked, with_link, without_link, without_copy, with_double, is_parcel}
+use Rattle.mesh_model.specs.Worlds.{World, Node, Copy, Event, Give, Turn, Send, Ask, Link, Cut, Deliver, Lose, Double, Outcome, Idle, Full, Next, WorldEffect, Changed, Taken, Sent, CopyHeard, CopyLost, CopyDoubled, step, unless_full, turn_of, send_of, ask_of, at_node, at_copy, done_by, copies, range, push, find_copy, are_linked, with_link, without_link, without_copy, with_double, is_parcel}
 use Rattle.mesh_meaning.specs.Events.{node_of}
 
 -- where it is a refusal it is of node x
@@ -16,10 +16,10 @@ IsOwn x o = (node : ℕ) (field : Counter) → o ≡ Full node field → node �
 idle_own : (x : ℕ) → IsOwn x Idle
 idle_own x node field is = cc
 
-next_own : (x : ℕ) (w : World) (h : Happening) → IsOwn x (Next w h)
+next_own : (x : ℕ) (w : World) (h : WorldEffect) → IsOwn x (Next w h)
 next_own x w h node field is = cc
 
-unless_own : (x : ℕ) (o : Option Counter) (w : World) (h : Happening) → IsOwn x (unless_full x o (Next w h))
+unless_own : (x : ℕ) (o : Option Counter) (w : World) (h : WorldEffect) → IsOwn x (unless_full x o (Next w h))
 unless_own x None w h node field is = cc
 unless_own x (Some full) w h node field is = cc
 
@@ -33,7 +33,7 @@ send_own : (w : World) (x d : ℕ) (core : Core) (queue : List Item) → IsOwn x
 send_own w x d core queue =
     let r = send core (range w x) d in
     let next : World = done_by w x r queue in
-    let sent : Happening = Sent r.effect (copies w x (r.effect).cast) in
+    let sent : WorldEffect = Sent r.effect (copies w x (r.effect).cast) in
     if_case (IsOwn x) (may_send core d) (unless_full x (send_full core (range w x) d) (Next next sent)) Idle
     (λ _. unless_own x (send_full core (range w x) d) next sent) (λ _. idle_own x)
 
@@ -41,7 +41,7 @@ ask_own : (w : World) (x d : ℕ) (core : Core) (queue : List Item) → IsOwn x 
 ask_own w x d core queue =
     let r = ask core d in
     let next : World = done_by w x r queue in
-    let sent : Happening = Sent r.effect (copies w x (r.effect).cast) in
+    let sent : WorldEffect = Sent r.effect (copies w x (r.effect).cast) in
     if_case (IsOwn x) (may_ask core d) (unless_full x (ask_full core) (Next next sent)) Idle
     (λ _. unless_own x (ask_full core) next sent) (λ _. idle_own x)
 
@@ -49,7 +49,7 @@ node_own : (x : ℕ) (f : Core → List Item → Outcome) (o : Option Node) → 
 node_own x f None own = idle_own x
 node_own x f (Some n) own = own n
 
-copy_own : (x : ℕ) (f : Copy → World) (g : Copy → Happening) (o : Option Copy) → IsOwn x (at_copy o (λ c. Next (f c) (g c)))
+copy_own : (x : ℕ) (f : Copy → World) (g : Copy → WorldEffect) (o : Option Copy) → IsOwn x (at_copy o (λ c. Next (f c) (g c)))
 copy_own x f g None = idle_own x
 copy_own x f g (Some c) = next_own x (f c) (g c)
 

@@ -5,14 +5,14 @@ use Rattle.std.specs.Io.KnownBytes.{Appends}
 use Rattle.mesh_io.specs.NextLines.{schedule_limits}
 use Rattle.mesh_io.specs.Puts.{AppendsPrefix}
 use Rattle.mesh_shell.specs.Pieces.{Piece, Whole}
-use Rattle.mesh_shell.specs.Story as shell
+use Rattle.mesh_shell.specs.Fold as shell
 use Rattle.mesh_shell.specs.Outputs as outputs
 use Rattle.mesh_shell.specs.Scripts.{piece_past}
 use Rattle.mesh_shell.specs.declared.fault.Fault.{Fault}
 use Rattle.mesh_shell.specs.declared.fault.Fault.TheVariants.{ReadFault, WriteFault, NoMemory}
 use Rattle.mesh_shell.specs.declared.limit.Limit.{Limit}
 use Rattle.mesh_shell.specs.declared.limit.Limit.TheVariants.{Line, Input}
-use Rattle.mesh_text.specs.Schedule.{Moment}
+use Rattle.mesh_text.specs.Schedule.{RunState}
 use Rattle.mesh_text.specs.Text.{pieces_of_input, LineOutcome, On, Refused, Full, RunText, outcome_of_piece, outcome_in_run, lines_before, goes_on, finished_run, text_from, text_on}
 use Rattle.mesh_text.specs.declared.verdict.Verdict.{Verdict}
 use Rattle.mesh_text.specs.declared.verdict.Verdict.TheVariants.{Finished, RefusedAt, FullAt}
@@ -47,13 +47,13 @@ finished_as r say is = by_say r.say
     by_say Last = refl
     by_say Faults = refl
 
--- one line, and then others from the next moment on
-line_as : {S : Type 0} (r : Running S) (k : LineOutcome) (others : Moment → RunText) (script : Running S → shell.RunText (Running S) Verdict)
-    → ((n : Moment) → script (moved r n) ≡ text_as (moved r n) (others n))
+-- one line, and then others from the next state on
+line_as : {S : Type 0} (r : Running S) (k : LineOutcome) (others : RunState → RunText) (script : Running S → shell.RunText (Running S) Verdict)
+    → ((n : RunState) → script (moved r n) ≡ text_as (moved r n) (others n))
     → shell.goes_on r (outcome_as (moved r) (said (says_lines r.say) (outcome_in_run r.at k))) script ≡ text_as r (goes_on r.at k others)
 line_as {S} r k others script rest = by_say r.say k rest
   where
-    by_say : (say : Say) (k : LineOutcome) → let q : Running S = record r { say = say } in ((n : Moment) → script (moved q n) ≡ text_as (moved q n) (others n))
+    by_say : (say : Say) (k : LineOutcome) → let q : Running S = record r { say = say } in ((n : RunState) → script (moved q n) ≡ text_as (moved q n) (others n))
         → shell.goes_on q (outcome_as (moved q) (said (says_lines say) (outcome_in_run r.at k))) script ≡ text_as q (goes_on r.at k others)
     by_say All (On text n) rest = ap (lines_before text) (rest n)
     by_say Last (On text n) rest = ap (lines_before []) (rest n)
@@ -113,7 +113,7 @@ input_told {S} r (Some bytes) left before now answer told = told_as r bytes left
     output_as (Err WriteFault) told = subst (λ (w : shell.RunText (Running S) Verdict). AppendsPrefix before now (shell.whole w)) (input_as r bytes) told
     output_as (Err NoMemory) told = subst (λ (w : shell.RunText (Running S) Verdict). AppendsPrefix before now (shell.whole w)) (input_as r bytes) told
 
--- and the moment after it
+-- and the state after it
 pub after_as : {S : Type 0} (r q : Running S) (given : Option (List ℕ)) → IfSome given (λ bytes. q ≡ (shell.text_on running schedule_limits r bytes).after)
     → IfSome given (λ bytes. q.at ≡ (text_on r.at bytes).after)
 after_as r q None is = tt
@@ -121,7 +121,7 @@ after_as {S} r q (Some bytes) is = ap (λ (x : Running S). x.at) (is ∙ ap (λ 
 
 -- ---- a line that goes past a limit
 
-pub past_refused : (m : Moment) (limit : Limit) → outcome_of_piece m (piece_past limit) ≡ Refused (why_past limit)
+pub past_refused : (m : RunState) (limit : Limit) → outcome_of_piece m (piece_past limit) ≡ Refused (why_past limit)
 unfolding outcome_of_piece
 past_refused m Line = refl
 past_refused m Input = refl

@@ -10,14 +10,14 @@ use Rattle.mesh_io.specs.Puts.{AppendsPrefix}
 use Rattle.mesh_io.proofs.Writing.{Appends-join, AppendsPrefix-join, AppendsPrefix-more}
 use Rattle.mesh_meaning.specs.Events.{event_of}
 use Rattle.mesh_model.specs.Places.{IsEvent}
-use Rattle.mesh_shell.specs.Story as shell
+use Rattle.mesh_shell.specs.Fold as shell
 use Rattle.mesh_shell.specs.Outputs as outputs
 use Rattle.mesh_shell.specs.Causes.{HasFaultCause}
 use Rattle.mesh_shell.specs.Scripts.{GoesOn}
 use Rattle.mesh_shell.specs.declared.fault.Fault.{Fault}
 use Rattle.mesh_shell.specs.declared.fault.Fault.TheVariants.{ReadFault, WriteFault, NoMemory}
 use Rattle.mesh_text.specs.Lines.{full_line}
-use Rattle.mesh_text.specs.Schedule.{Moment}
+use Rattle.mesh_text.specs.Schedule.{RunState}
 use Rattle.mesh_text.specs.Text.{LineOutcome, On, Refused, Full, text_in, outcome_in_run}
 use Rattle.mesh_text.specs.declared.verdict.Verdict.{Verdict}
 use Rattle.mesh_text.specs.declared.verdict.Verdict.TheVariants.{RefusedAt, FullAt}
@@ -31,9 +31,9 @@ use Rattle.mesh_run.proofs.Faults.{rose_later}
 use Rattle.mesh_run.proofs.Shown.{shown_kept}
 
 -- what stopped a line that was in its range can be told
-pub can_be_told : (say : Bool) (m n : Moment) (k : LineOutcome) (before now : Option (List ℕ)) (did : Result (Unit {0}) Stop) → m.lines < 2 ^ 62 → IsLineRun say m k n before now did → CanBeTold n did
+pub can_be_told : (say : Bool) (m n : RunState) (k : LineOutcome) (before now : Option (List ℕ)) (did : Result (Unit {0}) Stop) → m.lines < 2 ^ 62 → IsLineRun say m k n before now did → CanBeTold n did
 can_be_told say m n k before now (Ok done) few ran = tt
-can_be_told say m n k before now (Err (stop.BadLine f)) few ran = subst (λ (x : Moment). x.lines < 2 ^ 62) (sym ran.1) few
+can_be_told say m n k before now (Err (stop.BadLine f)) few ran = subst (λ (x : RunState). x.lines < 2 ^ 62) (sym ran.1) few
 can_be_told say m n k before now (Err (stop.Full e node field)) few ran = (omega (arith, ran.still.lines), subst (λ (mesh : Nodes). IsEvent (length mesh) (event_of e)) (sym ran.still.mesh) ran.still.event)
 can_be_told say m n k before now (Err stop.WriteFault) few ran = tt
 can_be_told say m n k before now (Err stop.NoMemory) few ran = tt
@@ -59,14 +59,14 @@ last_told {N} say c n text last here v w a b d (Err WriteFault) is same also gro
 last_told say c n text last here v w a b d (Err NoMemory) is same also grown told = absurd told
 
 -- a prefix of a line's text is a prefix of all that it writes
-front_told : {N : Type 0} (say : Bool) (to : Moment → N) (m : Moment) (k : LineOutcome) (a b : Option (List ℕ)) → AppendsPrefix a b (output_if say (text_in k))
+front_told : {N : Type 0} (say : Bool) (to : RunState → N) (m : RunState) (k : LineOutcome) (a b : Option (List ℕ)) → AppendsPrefix a b (output_if say (text_in k))
     → AppendsPrefix a b (outputs.text_in (outcome_as to (said say (outcome_in_run m k))))
 front_told say to m (On text n) a b front = front
 front_told say to m (Refused why) a b front = AppendsPrefix-more a b (output_if say []) _ _ refl front
 front_told say to m (Full text n e field) a b front = AppendsPrefix-more a b (output_if say text) _ _ refl front
 
 -- what a line came to, and what was settled then
-pub line_told : {N : Type 0} (say : Bool) (to : Moment → N) (m n : Moment) (k : LineOutcome) (a b d : Option (List ℕ)) (did : Result (Unit {0}) Stop) (result : Result (Option Verdict) Fault)
+pub line_told : {N : Type 0} (say : Bool) (to : RunState → N) (m n : RunState) (k : LineOutcome) (a b d : Option (List ℕ)) (did : Result (Unit {0}) Stop) (result : Result (Option Verdict) Fault)
     → IsLineRun say m k n a b did → IsSettled n b d did result → outputs.IsLineRun (outcome_as to (said say (outcome_in_run m k))) (to n) a d result
 line_told {N} say to m n k a b d (Ok done) result ran told =
     let C : shell.Outcome N Verdict = outcome_as to (said say (outcome_in_run m k)) in
@@ -76,7 +76,7 @@ line_told {N} say to m n k a b d (Ok done) result ran told =
       grown = subst (λ (x : Option (List ℕ)). Appends a x (output_if say ran.text)) (sym told.1) ran.grown;
     })
 line_told say to m n k a b d (Err (stop.BadLine f)) result ran told =
-    let same : m.lines + 1 ≡ n.lines + 1 = ap (λ (x : Moment). x.lines + 1) (sym ran.1) in
+    let same : m.lines + 1 ≡ n.lines + 1 = ap (λ (x : RunState). x.lines + 1) (sym ran.1) in
     last_told say _ (to n) [] (bad_line (m.lines + 1) (LineFault f)) (bad_line (n.lines + 1) (LineFault f)) (RefusedAt (m.lines + 1)) (RefusedAt (n.lines + 1)) a b d result
     (ap (λ (x : LineOutcome). outcome_as to (said say (outcome_in_run m x))) ran.0) (ap (λ l. bad_line l (LineFault f)) same) (ap RefusedAt same) (shown_kept say a b ran.2) told
 line_told say to m n k a b d (Err (stop.Full e node field)) result ran told =
@@ -120,12 +120,12 @@ line_cause a b d did result line last = by_did (sink_failed did)
 
 -- ---- where a run goes on
 
-pub on_done : {P : Type 0} (say : Bool) (m n : Moment) (k : LineOutcome) (a b : Option (List ℕ)) (did : Result (Unit {0}) Stop) → IsLineRun say m k n a b did → (IsLineDone say k n a b → P) → OnOk did P
+pub on_done : {P : Type 0} (say : Bool) (m n : RunState) (k : LineOutcome) (a b : Option (List ℕ)) (did : Result (Unit {0}) Stop) → IsLineRun say m k n a b did → (IsLineDone say k n a b → P) → OnOk did P
 on_done say m n k a b (Ok done) ran to = to ran
 on_done say m n k a b (Err e) ran to = tt
 
 -- its line was done
-pub goes_on_where_done : (P : Type 0) (n : Moment) (b d : Option (List ℕ)) (did : Result (Unit {0}) Stop) (result : Result (Option Verdict) Fault) → IsSettled n b d did result → OnOk did P → GoesOn result P
+pub goes_on_where_done : (P : Type 0) (n : RunState) (b d : Option (List ℕ)) (did : Result (Unit {0}) Stop) (result : Result (Option Verdict) Fault) → IsSettled n b d did result → OnOk did P → GoesOn result P
 goes_on_where_done P n b d (Ok done) (Ok None) told p = p
 goes_on_where_done P n b d (Ok done) (Ok (Some v)) told p = tt
 goes_on_where_done P n b d (Ok done) (Err e) told p = tt
@@ -142,7 +142,7 @@ goes_on_where_done P n b d (Err stop.NoMemory) (Ok None) told p = absurd (let cl
 goes_on_where_done P n b d (Err stop.NoMemory) (Ok (Some v)) told p = tt
 goes_on_where_done P n b d (Err stop.NoMemory) (Err e) told p = tt
 
--- the moment to which it leads, by another name
+-- the state to which it leads, by another name
 pub line_at : {M V : Type 0} (c : shell.Outcome M V) (m n : M) (a b : Option (List ℕ)) (result : Result (Option V) Fault) → GoesOn result (n ≡ m) → outputs.IsLineRun c m a b result → outputs.IsLineRun c n a b result
 line_at {M} {V} c m n a b (Ok None) same told =
     let k : Result (Option V) Fault = Ok None in
@@ -153,7 +153,7 @@ line_at c m n a b (Err e) same told = told
 -- ---- a line that goes past a limit
 
 -- its last line is written
-pub past_written : {N : Type 0} (say : Bool) (to : Moment → N) (m : Moment) (k : LineOutcome) (v : Verdict) (why : BadWhy) (a b : Option (List ℕ)) → k ≡ Refused why → v ≡ RefusedAt (m.lines + 1) → Appends a b (bad_line (m.lines + 1) why)
+pub past_written : {N : Type 0} (say : Bool) (to : RunState → N) (m : RunState) (k : LineOutcome) (v : Verdict) (why : BadWhy) (a b : Option (List ℕ)) → k ≡ Refused why → v ≡ RefusedAt (m.lines + 1) → Appends a b (bad_line (m.lines + 1) why)
     → outputs.IsLineLast (outcome_as to (said say (outcome_in_run m k))) v a b
 past_written say to m k v why a b is verdict put = by_say say
   where
@@ -162,7 +162,7 @@ past_written say to m k v why a b is verdict put = by_say say
     by_say false = record { text = []; last = bad_line (m.lines + 1) why; is = ap (λ (x : LineOutcome). outcome_as to (said false (outcome_in_run m x))) is ∙ ap (shell.Ended [] (bad_line (m.lines + 1) why)) (sym verdict); grown = put }
 
 -- or a prefix of it is
-past_broken : {N : Type 0} (say : Bool) (to : Moment → N) (m : Moment) (k : LineOutcome) (why : BadWhy) (a b : Option (List ℕ)) → k ≡ Refused why → AppendsPrefix a b (bad_line (m.lines + 1) why)
+past_broken : {N : Type 0} (say : Bool) (to : RunState → N) (m : RunState) (k : LineOutcome) (why : BadWhy) (a b : Option (List ℕ)) → k ≡ Refused why → AppendsPrefix a b (bad_line (m.lines + 1) why)
     → AppendsPrefix a b (outputs.text_in (outcome_as to (said say (outcome_in_run m k))))
 past_broken say to m k why a b is put = by_say say
   where
@@ -170,7 +170,7 @@ past_broken say to m k why a b is put = by_say say
     by_say true = subst (λ (x : LineOutcome). AppendsPrefix a b (outputs.text_in (outcome_as to (said true (outcome_in_run m x))))) (sym is) put
     by_say false = subst (λ (x : LineOutcome). AppendsPrefix a b (outputs.text_in (outcome_as to (said false (outcome_in_run m x))))) (sym is) put
 
-pub past_failed : {N : Type 0} (say : Bool) (to : Moment → N) (m : Moment) (k : LineOutcome) (why : BadWhy) (a b : Option (List ℕ)) (answer : Result Verdict Fault) → IsErr answer → k ≡ Refused why → AppendsPrefix a b (bad_line (m.lines + 1) why)
+pub past_failed : {N : Type 0} (say : Bool) (to : RunState → N) (m : RunState) (k : LineOutcome) (why : BadWhy) (a b : Option (List ℕ)) (answer : Result Verdict Fault) → IsErr answer → k ≡ Refused why → AppendsPrefix a b (bad_line (m.lines + 1) why)
     → outputs.IsLastRun (outcome_as to (said say (outcome_in_run m k))) a b answer
 past_failed say to m k why a b (Ok v) failed is put = absurd (let P : ⊥ = cc in P)
 past_failed say to m k why a b (Err e) failed is put = past_broken say to m k why a b is put

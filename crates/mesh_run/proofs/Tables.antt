@@ -18,7 +18,7 @@ use Rattle.mesh_world.specs.Seen.{node_in}
 use Rattle.mesh_run.specs.Runs.{output_if}
 use Rattle.mesh_run.proofs.Shown.{front_more}
 
--- ---- a node, a route and the air, after the line that shows them
+-- ---- a node, a route and the radio, after the line that shows them
 
 pub node_shown : (mesh : Nodes) (o : Option Node) (n : NodeSeen) → o ≡ Some (node_in mesh n) → node_text mesh n.core (length n.items) ≡ node_text_in mesh o
 node_shown mesh o n e =

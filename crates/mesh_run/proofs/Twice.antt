@@ -2,9 +2,9 @@
 use Rattle.std.proofs.Common.{◌≡◌, ℕ, suc, ◌+◌, ◌-◌, ◌<◌, ◌≤◌, Bool, true, false, List, Option, Some, None, is_some, Result, length, sym, ap, subst, ◌∙◌, arith}
 use Rattle.std.specs.Prelude.{IfSome}
 use Rattle.mesh_model.specs.Worlds.{Event}
-use Rattle.mesh_text.specs.Schedule.{Moment, next_moment}
+use Rattle.mesh_text.specs.Schedule.{RunState, next_state}
 use Rattle.mesh_text.specs.Auto.{outcome_of_events}
-use Rattle.mesh_run.specs.Moments.{IsAnswered}
+use Rattle.mesh_run.specs.RunStates.{IsAnswered}
 use Rattle.mesh_run.specs.declared.stop.Stop.{Stop}
 use Rattle.mesh_run.specs.Runs.{IsLineDone, IsEventsRun, IsReached, AreTwoDone, line_outcome_at, next_in, events_due}
 use Rattle.mesh_run.proofs.Shown.{shown_none}
@@ -13,11 +13,11 @@ use Rattle.mesh_run.proofs.Chosen.{due_counts, ran_goes}
 use Rattle.mesh_run.proofs.Ways.{way_goes}
 
 -- an event whose text isn't said
-quiet_done : (say : Bool) (m n : Moment) (e : Event) (a : Option (List ℕ)) → say ≡ false → IsAnswered m e n → IsLineDone say (line_outcome_at m e) n a a
+quiet_done : (say : Bool) (m n : RunState) (e : Event) (a : Option (List ℕ)) → say ≡ false → IsAnswered m e n → IsLineDone say (line_outcome_at m e) n a a
 quiet_done say m n e a quiet is =
     subst (λ (s : Bool). IsLineDone s (line_outcome_at m e) n a a) (sym quiet) (answer_goes false m n e is.done is.packet a a is.answer (shown_none false a))
 
-module _ (say : Bool) (given : Option Event) (most did : ℕ) (m n : Moment) (e : Event) (one : IfSome given (λ _. most ≤ 1)) (quiet : say ≡ false) (none : given ≡ None) (two : did + 2 ≤ most)
+module _ (say : Bool) (given : Option Event) (most did : ℕ) (m n : RunState) (e : Event) (one : IfSome given (λ _. most ≤ 1)) (quiet : say ≡ false) (none : given ≡ None) (two : did + 2 ≤ most)
     (chosen : Some e ≡ next_in given m) (are : AreTwoDone m e n) where
   first_under : did < most
   first_under = omega (arith, two)
@@ -31,20 +31,20 @@ module _ (say : Bool) (given : Option Event) (most did : ℕ) (m n : Moment) (e 
   next : Some are.other ≡ next_in given are.between
   next = subst (λ (g : Option Event). Some are.other ≡ next_in g are.between) (sym none) (sym are.next)
 
-  to_between : are.between ≡ next_moment m e
-  to_between = (are.first).answer.moment
+  to_between : are.between ≡ next_state m e
+  to_between = (are.first).answer.run_state
 
-  to_end : n ≡ next_moment are.between are.other
-  to_end = (are.second).answer.moment
+  to_end : n ≡ next_state are.between are.other
+  to_end = (are.second).answer.run_state
 
-  pub two_ran : (k : Moment) (a c : Option (List ℕ)) (r : Result ℕ Stop) → IsEventsRun say n (outcome_of_events n (events_due given (most - (did + 2)) n)) k a c r
+  pub two_ran : (k : RunState) (a c : Option (List ℕ)) (r : Result ℕ Stop) → IsEventsRun say n (outcome_of_events n (events_due given (most - (did + 2)) n)) k a c r
       → IsEventsRun say m (outcome_of_events m (events_due given (most - did) m)) k a c r
   two_ran k a c r p =
       ran_goes say given most did m are.between k e a a c r one first_under chosen (quiet_done say m are.between e a quiet are.first)
       (ran_goes say given most (did + 1) are.between n k are.other a a c r one second_under next (quiet_done say are.between n are.other a quiet are.second)
       (subst (λ d. IsEventsRun say n (outcome_of_events n (events_due given (most - d) n)) k a c r) as_two p))
 
-  pub two_way : (k : Moment) → IsReached n (events_due given (most - (did + 2)) n) k → IsReached m (events_due given (most - did) m) k
+  pub two_way : (k : RunState) → IsReached n (events_due given (most - (did + 2)) n) k → IsReached m (events_due given (most - did) m) k
   two_way k p =
       way_goes say given most did m are.between k e None None one first_under chosen (quiet_done say m are.between e None quiet are.first) to_between
       (way_goes say given most (did + 1) are.between n k are.other None None one second_under next (quiet_done say are.between n are.other None quiet are.second) to_end
@@ -58,17 +58,17 @@ module _ (say : Bool) (given : Option Event) (most did : ℕ) (m n : Moment) (e 
 
 -- ---- what two events leave as it was
 
-pub two_mesh : (m n : Moment) (e : Event) → AreTwoDone m e n → n.mesh ≡ m.mesh
-two_mesh m n e are = stepped_mesh are.between n are.other (are.second).answer.moment ∙ stepped_mesh m are.between e (are.first).answer.moment
+pub two_mesh : (m n : RunState) (e : Event) → AreTwoDone m e n → n.mesh ≡ m.mesh
+two_mesh m n e are = stepped_mesh are.between n are.other (are.second).answer.run_state ∙ stepped_mesh m are.between e (are.first).answer.run_state
 
-pub two_lines : (m n : Moment) (e : Event) → AreTwoDone m e n → n.lines ≡ m.lines
-two_lines m n e are = stepped_lines are.between n are.other (are.second).answer.moment ∙ stepped_lines m are.between e (are.first).answer.moment
+pub two_lines : (m n : RunState) (e : Event) → AreTwoDone m e n → n.lines ≡ m.lines
+two_lines m n e are = stepped_lines are.between n are.other (are.second).answer.run_state ∙ stepped_lines m are.between e (are.first).answer.run_state
 
-pub two_steps : (m n : Moment) (e : Event) → AreTwoDone m e n → n.steps ≡ m.steps + 2
+pub two_steps : (m n : RunState) (e : Event) → AreTwoDone m e n → n.steps ≡ m.steps + 2
 two_steps m n e are =
-    let a = stepped_steps are.between n are.other (are.second).answer.moment in
-    let b = stepped_steps m are.between e (are.first).answer.moment in
+    let a = stepped_steps are.between n are.other (are.second).answer.run_state in
+    let b = stepped_steps m are.between e (are.first).answer.run_state in
     omega (arith, a, b)
 
-pub two_started : (m n : Moment) (e : Event) → AreTwoDone m e n → is_some n.world ≡ true
-two_started m n e are = stepped_started are.between n are.other (are.second).answer.moment
+pub two_started : (m n : RunState) (e : Event) → AreTwoDone m e n → is_some n.world ≡ true
+two_started m n e are = stepped_started are.between n are.other (are.second).answer.run_state

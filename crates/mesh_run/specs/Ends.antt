@@ -13,7 +13,7 @@ use Rattle.mesh_shell.specs.declared.fault.Fault.TheVariants.{ReadFault, WriteFa
 use Rattle.mesh_shell.specs.declared.limit.Limit.{Limit}
 use Rattle.mesh_shell.specs.declared.limit.Limit.TheVariants.{Line, Input}
 use Rattle.mesh_text.specs.Lines.{full_line}
-use Rattle.mesh_text.specs.Schedule.{Moment}
+use Rattle.mesh_text.specs.Schedule.{RunState}
 use Rattle.mesh_text.specs.declared.verdict.Verdict.{Verdict}
 use Rattle.mesh_text.specs.declared.verdict.Verdict.TheVariants.{RefusedAt, FullAt}
 use Rattle.mesh_run.specs.declared.stop.Stop.{Stop}
@@ -33,8 +33,8 @@ IsLastWritten text v before now (Err ReadFault) = ⊥
 IsLastWritten text v before now (Err WriteFault) = AppendsPrefix before now text
 IsLastWritten text v before now (Err NoMemory) = ⊥
 
--- a last line can tell of what stopped the run at this moment
-abbrev pub CanBeTold : Moment → Result (Unit {0}) Stop → Type 0
+-- a last line can tell of what stopped the run in this state
+abbrev pub CanBeTold : RunState → Result (Unit {0}) Stop → Type 0
 CanBeTold n (Ok done) = ⊤
 CanBeTold n (Err (stop.BadLine f)) = n.lines < 2 ^ 62
 CanBeTold n (Err (stop.Full e node field)) =
@@ -42,8 +42,8 @@ CanBeTold n (Err (stop.Full e node field)) =
 CanBeTold n (Err stop.WriteFault) = ⊤
 CanBeTold n (Err stop.NoMemory) = ⊤
 
--- a run whose next line came to this at moment n goes on, or has ended
-abbrev pub IsSettled : Moment → Option (List ℕ) → Option (List ℕ) → Result (Unit {0}) Stop
+-- a run whose next line came to this at state n goes on, or has ended
+abbrev pub IsSettled : RunState → Option (List ℕ) → Option (List ℕ) → Result (Unit {0}) Stop
     → Result (Option Verdict) ShellFault → Type 0
 IsSettled n before now (Ok done) result = (result ≡ Ok None) × (now ≡ before)
 IsSettled n before now (Err (stop.BadLine f)) result =

@@ -1,7 +1,7 @@
--- Sums: how far the counts may have come. Moments: what every moment of a run has, and what an
+-- Sums: how far the counts may have come. RunStates: what every state of a run has, and what an
 -- event answers at one.
 pub mod Sums
-pub mod Moments
+pub mod RunStates
 -- Codes: what a run answers, and the status with which a process ends. Outputs: what was told of a
 -- run. This is what the contract of `run` cites beside the definitions of mesh_text. Causes: when a
 -- fault is answered. Variants: the variants of the protocol, by name. The others say what the parts

@@ -4,9 +4,9 @@
 use Rattle.std.specs.Prelude.{ℕ, ◌≡◌, Bool, true, false, if◌then◌else◌, List, [], Option}
 use Rattle.std.specs.Io.KnownBytes.{Appends}
 use Rattle.mesh_io.specs.Puts.{AppendsPrefix}
-use Rattle.mesh_shell.specs.Story.{RunText, whole}
+use Rattle.mesh_shell.specs.Fold.{RunText, whole}
 use Rattle.mesh_shell.specs.Outputs.{IsCutShort}
-use Rattle.mesh_text.specs.Schedule.{Moment}
+use Rattle.mesh_text.specs.Schedule.{RunState}
 use Rattle.mesh_text.specs.Text.{text_on}
 use Rattle.mesh_text.specs.declared.verdict.Verdict.{Verdict}
 use Rattle.mesh_text.specs.declared.verdict.Verdict.TheVariants.{Finished, RefusedAt, FullAt}
@@ -66,7 +66,7 @@ IsOutputOf say text bytes left before now NoMemory =
     IsOutput before now (part say (text bytes)) NoMemory
 IsOutputOf say text bytes left before now Usage = ⊥
 
--- the same of the schedule's run from a moment on
-abbrev pub IsOutputFrom : Say → Moment → List ℕ → Option (List ℕ) → Option (List ℕ)
+-- the same of the schedule's run from a state on
+abbrev pub IsOutputFrom : Say → RunState → List ℕ → Option (List ℕ) → Option (List ℕ)
     → Option (List ℕ) → Status → Type 0
 IsOutputFrom say m bytes left before now s = IsOutputOf say (text_on m) bytes left before now s

@@ -1,14 +1,14 @@
 -- How far lines can lead, and the room that they need.
 use Rattle.std.specs.Prelude.{ℕ, ◌≤◌, ◌<◌, ◌+◌, ◌*◌, ◌^◌}
 use Rattle.mesh_base.specs.declared.limits.TheConstants.{MOST_EVENTS}
-use Rattle.mesh_text.specs.Schedule.{Moment}
+use Rattle.mesh_text.specs.Schedule.{RunState}
 
--- lines of so many bytes, each LF among them, can be done from this moment on
-pub record HasRoomFor (m : Moment) (size : ℕ) : Type 0 where
+-- lines of so many bytes, each LF among them, can be done from this state on
+pub record HasRoomFor (m : RunState) (size : ℕ) : Type 0 where
   pub lines : m.lines + size < 2 ^ 62
   pub steps : 4 * m.steps + MOST_EVENTS * size < 2 ^ 49
 
--- they can lead from the one moment to the other
-pub record CanLead (m : Moment) (size : ℕ) (n : Moment) : Type 0 where
+-- they can lead from the one run state to the other
+pub record CanLead (m : RunState) (size : ℕ) (n : RunState) : Type 0 where
   pub lines : n.lines ≤ m.lines + size
   pub steps : 4 * n.steps ≤ 4 * m.steps + MOST_EVENTS * size

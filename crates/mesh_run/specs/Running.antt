@@ -1,9 +1,9 @@
--- The run of a schedule as a script: what its lines and its end make of the moment.
+-- The run of a schedule as a script: what its lines and its end make of the state.
 use Rattle.std.specs.Prelude.{ℕ, Bool, List, []}
-use Rattle.mesh_shell.specs.Story.{Outcome, On, Ended, Story}
+use Rattle.mesh_shell.specs.Fold.{Outcome, On, Ended, Fold}
 use Rattle.mesh_run.specs.Sums.{IsGrown}
 use Rattle.mesh_text.specs.Lines.{done_line}
-use Rattle.mesh_text.specs.Schedule.{Moment}
+use Rattle.mesh_text.specs.Schedule.{RunState}
 use Rattle.mesh_text.specs.Text.{outcome_of_piece, outcome_in_run}
 use Rattle.mesh_text.specs.declared.verdict.Verdict.{Verdict}
 use Rattle.mesh_text.specs.declared.verdict.Verdict.TheVariants.{Finished}
@@ -25,17 +25,17 @@ last_said All last = last
 last_said Last last = last
 last_said Faults last = []
 
--- the next moment, seen as that of another state
+-- the next state, seen as that of another state
 abbrev pub outcome_as : {M N V : Type 0} → (M → N) → Outcome M V → Outcome N V
 outcome_as to (On text n) = On text (to n)
 outcome_as to (Ended text last v) = Ended text last v
 
--- the run at another moment
-abbrev pub moved : {S : Type 0} → Running S → Moment → Running S
+-- the run in another state
+abbrev pub moved : {S : Type 0} → Running S → RunState → Running S
 moved r n = record r { at = n }
 
 -- the run of a schedule, as far as it is said
-abbrev pub running : {S : Type 0} → Story (Running S) Verdict
+abbrev pub running : {S : Type 0} → Fold (Running S) Verdict
 running = record {
   head = λ r. [];
   outcome = λ r piece.
@@ -48,8 +48,8 @@ running = record {
   };
 }
 
--- lines of so many bytes can lead from the one moment to the other: the sums have grown by no more
--- than the steps
+-- lines of so many bytes can lead from the one run state to the other: the sums have grown by no
+-- more than the steps
 pub record CanRun {S : Type 0} (r : Running S) (size : ℕ) (q : Running S) : Type 0 where
   pub grown : IsGrown r.at q.at
   pub led : CanLead r.at size q.at

@@ -13,11 +13,11 @@ use Rattle.mesh_grammar.specs.declared.fault.BadWhy.TheVariants.{Fault}
 use Rattle.mesh_base.specs.Meshes.{Nodes}
 use Rattle.mesh_base.specs.declared.limits.TheConstants.{LONGEST_LINE}
 use Rattle.mesh_text.specs.Lines.{words_of}
-use Rattle.mesh_text.specs.Schedule.{Moment, AcceptedLine, Does, ShowsNode, ShowsRoute, ShowsFlight, with_world, with_line_read, outcome_at, next_moment, world_of}
+use Rattle.mesh_text.specs.Schedule.{RunState, AcceptedLine, Does, ShowsNode, ShowsRoute, ShowsFlight, with_world, with_line_read, outcome_at, next_state, world_of}
 use Rattle.mesh_text.specs.Effects.{outcome_lines}
 use Rattle.mesh_text.specs.Auto.{EventsOutcome, Ended, Full as EventsFull, events_chosen}
-use Rattle.mesh_text.specs.Runs.{moment_after}
-use Rattle.mesh_run.specs.Moments.{IsAnswered}
+use Rattle.mesh_text.specs.Runs.{run_state_after}
+use Rattle.mesh_run.specs.RunStates.{IsAnswered}
 use Rattle.mesh_text.specs.Text.{LineOutcome, On, Refused, Full, text_in}
 use Rattle.mesh_run.specs.declared.show.Shown.{Shown}
 use Rattle.mesh_run.specs.declared.show.Shown.TheVariants as shown
@@ -40,8 +40,8 @@ IsLineOf mesh l bytes = (length bytes ≤ LONGEST_LINE) × (bytes ≡ words_of m
 
 -- ---- what came of a line, or of one event
 
--- it was done and its text written, and the run goes on from the next moment
-pub record IsLineDone (say : Bool) (k : LineOutcome) (n : Moment) (before now : Option (List ℕ))
+-- it was done and its text written, and the run goes on from the next state
+pub record IsLineDone (say : Bool) (k : LineOutcome) (n : RunState) (before now : Option (List ℕ))
     : Type 0 where
   pub text : List ℕ
   pub is : k ≡ On text n
@@ -49,14 +49,14 @@ pub record IsLineDone (say : Bool) (k : LineOutcome) (n : Moment) (before now : 
 
 -- what is known after a refusal for a full counter: the event is of the mesh, and mesh and line are
 -- still the same
-pub record IsStill (m n : Moment) (e : Event) : Type 0 where
+pub record IsStill (m n : RunState) (e : Event) : Type 0 where
   pub event : IsEvent (length m.mesh) e
   pub mesh : n.mesh ≡ m.mesh
   pub lines : n.lines ≡ m.lines
 
--- an event was refused for this node's full counter at the moment that is left, after a text
+-- an event was refused for this node's full counter in the state that is left, after a text
 pub record IsLineFull
-    (say : Bool) (m : Moment) (k : LineOutcome) (n : Moment) (before now : Option (List ℕ))
+    (say : Bool) (m : RunState) (k : LineOutcome) (n : RunState) (before now : Option (List ℕ))
     (e : Event) (node : ℕ) (field : full.Counter) : Type 0 where
   pub text : List ℕ
   pub is : k ≡ Full text n e field
@@ -65,8 +65,8 @@ pub record IsLineFull
   pub still : IsStill m n e
 
 -- it was refused, or was not done or not written whole
-abbrev pub IsLineStopped : Bool → Moment → LineOutcome → Moment → Option (List ℕ) → Option (List ℕ)
-    → Stop → Type 0
+abbrev pub IsLineStopped : Bool → RunState → LineOutcome → RunState → Option (List ℕ)
+    → Option (List ℕ) → Stop → Type 0
 IsLineStopped say m k n before now (stop.BadLine f) =
     (k ≡ Refused (Fault f)) × (n ≡ m) × Keeps before now
 IsLineStopped say m k n before now (stop.Full e node field) =
@@ -77,53 +77,53 @@ IsLineStopped say m k n before now stop.NoMemory =
     AppendsPrefix before now (output_if say (text_in k))
 
 -- either
-abbrev pub IsLineRun : Bool → Moment → LineOutcome → Moment → Option (List ℕ) → Option (List ℕ)
+abbrev pub IsLineRun : Bool → RunState → LineOutcome → RunState → Option (List ℕ) → Option (List ℕ)
     → Result (Unit {0}) Stop → Type 0
 IsLineRun say m k n before now result =
     MatchResult result (λ _. IsLineDone say k n before now) (IsLineStopped say m k n before now)
 
 -- either, of a line that is not counted yet
-abbrev pub IsUncountedRun : Bool → Moment → LineOutcome → Moment → Option (List ℕ) → Option (List ℕ)
-    → Result (Unit {0}) Stop → Type 0
+abbrev pub IsUncountedRun : Bool → RunState → LineOutcome → RunState → Option (List ℕ)
+    → Option (List ℕ) → Result (Unit {0}) Stop → Type 0
 IsUncountedRun say m k n before now result =
     MatchResult result (λ _. IsLineDone say k (with_line_read n) before now)
     (IsLineStopped say m k n before now)
 
--- ---- the moments that a line goes through
+-- ---- the states that a line goes through
 
--- some of these events lead from one moment to another
-abbrev pub IsReached : Moment → List Event → Moment → Type 0
-IsReached m events n = (k : ℕ) × (n ≡ moment_after m (take k events))
+-- some of these events lead from one run state to another
+abbrev pub IsReached : RunState → List Event → RunState → Type 0
+IsReached m events n = (k : ℕ) × (n ≡ run_state_after m (take k events))
 
--- a line with these events goes through a moment before it is counted: the one before it; or, once
+-- a line with these events goes through a state before it is counted: the one before it; or, once
 -- the run has started, that after some of its events
-abbrev pub IsOnTheWay : Moment → List Event → Moment → Type 0
+abbrev pub IsOnTheWay : RunState → List Event → RunState → Type 0
 IsOnTheWay m events n = (n ≡ m) ⊎ IsReached (with_world m) events n
 
 -- ---- one event
 
 -- what an event comes to, by its outcome, where no line is counted
-abbrev pub outcome_by : Moment → Event → Outcome → LineOutcome
-outcome_by m e Idle = On (outcome_lines m.mesh e Idle) (next_moment m e)
+abbrev pub outcome_by : RunState → Event → Outcome → LineOutcome
+outcome_by m e Idle = On (outcome_lines m.mesh e Idle) (next_state m e)
 outcome_by m e (worlds.Full x field) = Full [] m e field
-outcome_by m e (Next w happening) = On (outcome_lines m.mesh e (Next w happening)) (next_moment m e)
+outcome_by m e (Next w effect) = On (outcome_lines m.mesh e (Next w effect)) (next_state m e)
 
-abbrev pub line_outcome_at : Moment → Event → LineOutcome
+abbrev pub line_outcome_at : RunState → Event → LineOutcome
 line_outcome_at m e = outcome_by m e (outcome_at m e)
 
 -- ---- events one after another
 
 -- all were done and written
 pub record IsEventsDone
-    (say : Bool) (ran : EventsOutcome) (n : Moment) (before now : Option (List ℕ)) : Type 0 where
+    (say : Bool) (ran : EventsOutcome) (n : RunState) (before now : Option (List ℕ)) : Type 0 where
   pub text : List ℕ
   pub is : ran ≡ Ended text n
   pub grown : Appends before now (output_if say text)
 
--- one was refused for this node's full counter at the moment that is left, after the text of the
+-- one was refused for this node's full counter in the state that is left, after the text of the
 -- others
 pub record IsEventsFull
-    (say : Bool) (m : Moment) (ran : EventsOutcome) (n : Moment) (before now : Option (List ℕ))
+    (say : Bool) (m : RunState) (ran : EventsOutcome) (n : RunState) (before now : Option (List ℕ))
     (e : Event) (node : ℕ) (field : full.Counter) : Type 0 where
   pub text : List ℕ
   pub is : ran ≡ EventsFull text n e field
@@ -135,8 +135,8 @@ abbrev pub text_of : EventsOutcome → List ℕ
 text_of (Ended text n) = text
 text_of (EventsFull text n e field) = text
 
--- what was told of them, from moment m to moment n. None of them is a line that is refused
-abbrev pub IsEventsRun : Bool → Moment → EventsOutcome → Moment → Option (List ℕ)
+-- what was told of them, from state m to state n. None of them is a line that is refused
+abbrev pub IsEventsRun : Bool → RunState → EventsOutcome → RunState → Option (List ℕ)
     → Option (List ℕ) → Result ℕ Stop → Type 0
 IsEventsRun say m ran n before now (Ok did) = IsEventsDone say ran n before now
 IsEventsRun say m ran n before now (Err (stop.BadLine f)) = ⊥
@@ -150,20 +150,20 @@ IsEventsRun say m ran n before now (Err stop.NoMemory) =
 -- ---- an event that is given, or those that a run chooses
 
 -- the event that comes next
-abbrev pub next_in : Option Event → Moment → Option Event
+abbrev pub next_in : Option Event → RunState → Option Event
 next_in None m = pick (world_of m)
 next_in (Some e) m = Some e
 
 -- two events were done, this one and the one that was then to be chosen
-pub record AreTwoDone (m : Moment) (e : Event) (n : Moment) : Type 0 where
-  pub between : Moment
+pub record AreTwoDone (m : RunState) (e : Event) (n : RunState) : Type 0 where
+  pub between : RunState
   pub other : Event
   pub first : IsAnswered m e between
   pub next : pick (world_of between) ≡ Some other
   pub second : IsAnswered between other n
 
--- up to so many events from a moment on: the one that is given, once, or else those that are chosen
-unfoldable pub events_due : Option Event → ℕ → Moment → List Event
+-- up to so many events from a state on: the one that is given, once, or else those that are chosen
+unfoldable pub events_due : Option Event → ℕ → RunState → List Event
 events_due None most m = events_chosen most m
 events_due (Some e) zero m = []
 events_due (Some e) (suc most) m = e ∷ []

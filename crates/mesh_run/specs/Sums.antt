@@ -2,7 +2,7 @@
 use Rattle.std.specs.Prelude.{ℕ, ◌≡◌, ◌≤◌, ◌+◌, ◌*◌, ◌^◌}
 use Rattle.mesh_text.specs.Schedule as model
 use Rattle.mesh_base.specs.declared.limits.TheConstants.{MOST_NODES}
-use Rattle.mesh_text.specs.Schedule.{Moment, world_of}
+use Rattle.mesh_text.specs.Schedule.{RunState, world_of}
 
 -- no sum is above what may have been counted before a world's first step and the steps since
 abbrev pub counted_before : ℕ
@@ -18,7 +18,7 @@ pub record AreCounts (s : model.Sums) (steps : ℕ) : Type 0 where
 
 -- the events have grown by as much as the steps, and no sum by more; the next copy's number, which
 -- is 1 before there is a world, by at most as much for each node that a mesh may have
-pub record IsGrown (m n : Moment) : Type 0 where
+pub record IsGrown (m n : RunState) : Type 0 where
   pub steps : m.steps ≤ n.steps
   pub events : n.sums.events + m.steps ≡ m.sums.events + n.steps
   pub idle : n.sums.idle + m.steps ≤ m.sums.idle + n.steps

@@ -23,7 +23,7 @@ use mesh_script::Line;
 use mesh_world::Steps;
 use std::alloc::Global;
 
-/// Events that are to be done, and the moment at which they are.
+/// Events that are to be done, and the state at which they are.
 #[derive(Drop)]
 pub struct Task<'p, 'a, 'b, S: Steps> {
     pub at: &'p mut Point<S>,
@@ -182,7 +182,7 @@ pub fn do_auto<S: Steps, O: Sink>(
         count,
     };
     let ran = do_events(alloc, &mut task, say, out);
-    // It says that `at` is the moment as the events have left it.
+    // It says that `at` is the state as the events have left it.
     let Task {
         at: _at,
         given: _,

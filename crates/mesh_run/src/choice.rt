@@ -3,8 +3,8 @@ ghost use Rattle.std.specs.Prelude.{◌≡◌, ◌<◌, ◌≤◌, length, is_so
 ghost use Rattle.mesh_model.specs.Places.{IsEvent};
 ghost use Rattle.mesh_model.specs.Choices.{pick, first_copy};
 ghost use Rattle.mesh_meaning.specs.Events.{event_of};
-ghost use Rattle.mesh_text.specs.Lines.{event_spelling};
-ghost use Rattle.mesh_text.specs.Ranges.{AreSpellable};
+ghost use Rattle.mesh_text.specs.Lines.{event_command};
+ghost use Rattle.mesh_text.specs.Ranges.{AreArgumentsInRange};
 ghost use Rattle.mesh_text.specs.Schedule.{world_of};
 ghost use Rattle.mesh_script.specs.Seen.{IsPrintable};
 
@@ -32,8 +32,8 @@ fn first_copy_of(world: &World) -> Option<u64>
 pub fn pick(world: &World) -> Option<Event<'static>>
     ensures value { option_map event_of result ≡ pick world.now.world }
     ensures within { IfSome result (λ e. IsEvent (length world.now.mesh) (event_of e)) }
-    ensures spelled { IfSome result (λ e.
-        AreSpellable (event_spelling world.now.mesh (event_of e)).arguments) }
+    ensures in_range { IfSome result (λ e.
+        AreArgumentsInRange (event_command world.now.mesh (event_of e)).arguments) }
 {
     if let Some(node) = world.first_turn() {
         return Some(Event::Turn { node });

@@ -4,7 +4,7 @@ ghost use Rattle.mesh_base.specs.declared.events.Event.{Event};
 ghost use Rattle.mesh_model.specs.Worlds.{World};
 ghost use Rattle.mesh_meaning.specs.Answers.{outcome_in, IsDoneInMesh};
 ghost use Rattle.mesh_meaning.specs.Events.{event_of, node_of};
-ghost use Rattle.mesh_text.specs.Schedule.{next_moment, NewNode, Does};
+ghost use Rattle.mesh_text.specs.Schedule.{next_state, NewNode, Does};
 ghost use Rattle.mesh_text.specs.Lines.{words_of};
 ghost use Rattle.mesh_grammar.specs.Written.{line as line_of_words};
 ghost use Rattle.mesh_text.specs.Effects.{outcome_lines};
@@ -72,7 +72,7 @@ pub fn do_event<S: Steps, O: Sink>(
         → IfSome bytes (λ b. IsLineOf at.old.mesh (Does (event_of event.now)) b.now) }
     ensures comes { IsLineRun say at.old (line_outcome_at at.old (event_of event.now))
         at.new (O.held out.old) (O.held out.new) (answer_of event.now result) }
-    ensures moment { OnOk result (at.new ≡ next_moment at.old (event_of event.now)) }
+    ensures run_state { OnOk result (at.new ≡ next_state at.old (event_of event.now)) }
     ensures way { OnErr result (IsReached at.old (event_of event.now ∷ []) at.new) }
     ensures cause { HasStopCause
         (O.faults out.old) (O.faults out.new) (answer_of event.now result) }
@@ -211,7 +211,7 @@ fn do_uncounted<'a, S: Steps, O: Sink>(
         count: 1,
     };
     let ran = do_events(alloc, &mut task, say, out);
-    // It says that `at` is the moment as the event has left it.
+    // It says that `at` is the state as the event has left it.
     let Task {
         at: _at,
         given: _,

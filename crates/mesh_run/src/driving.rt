@@ -6,7 +6,7 @@ ghost use Rattle.mesh_text.specs.Schedule.{opening};
 ghost use Rattle.mesh_text.specs.Text.{text_on};
 ghost use Rattle.mesh_text.specs.EveryWorld.{IsLoopFreeRun, IsAccountedRun};
 ghost use Rattle.mesh_text.specs.NamedData.{IsNamedRun};
-ghost use Rattle.mesh_run.specs.Moments.{IsSafe};
+ghost use Rattle.mesh_run.specs.RunStates.{IsSafe};
 ghost use Rattle.mesh_run.specs.Causes.{HasStatusCause, HasSourceCause};
 ghost use Rattle.mesh_run.specs.Sums.{IsGrown};
 ghost use Rattle.mesh_run.specs.Outputs.{say_by, IsOutputFrom};
@@ -16,13 +16,13 @@ use crate::running::Running;
 use crate::say::Say;
 use crate::status::Status;
 use mesh_base::Variant;
-use mesh_io::{Limits, SCHEDULE_ROOM, Sink, Source};
+use mesh_io::{Limits, SCHEDULE_CAPACITY, Sink, Source};
 use mesh_shell::run as shell_run;
 use mesh_world::Steps;
 use std::alloc::Global;
 
 /// Does the lines of an input as `drive` does, in a run that stays where it is: a large world isn't
-/// moved. Whatever the answer, and whether or not the source tells its bytes, the moment that is
+/// moved. Whatever the answer, and whether or not the source tells its bytes, the state that is
 /// left is safe. The memory of the buffer is taken first.
 pub fn do_input<S: Steps, I: Source, O: Sink>(
     running: &mut Running<S>,
@@ -49,15 +49,15 @@ pub fn do_input<S: Steps, I: Source, O: Sink>(
 {
     let alloc = running.alloc;
     let most = Limits::of_schedule();
-    let answer = shell_run::<Running<S>, I, O, SCHEDULE_ROOM>(alloc, running, most, input, out);
-    // Where its world is asked for it is said that the moment is safe.
+    let answer = shell_run::<Running<S>, I, O, SCHEDULE_CAPACITY>(alloc, running, most, input, out);
+    // Where its world is asked for it is said that the state is safe.
     let _world = running.at.world();
     Status::of(answer)
 }
 
-/// Does the lines of an input in order, from a moment on, up to its end or the first that stops the
+/// Does the lines of an input in order, from a state on, up to its end or the first that stops the
 /// run: one that isn't allowed, or has an event that would raise a counter past its field's
-/// greatest value. The moment to which they came is there exactly where the answer is Done.
+/// greatest value. The state to which they came is there exactly where the answer is Done.
 ///
 /// What is written is gathered in a buffer of 65536 bytes, and handed on when that is full, before
 /// each read of the source, and at the end, unless a write has failed.
@@ -77,7 +77,7 @@ pub fn drive<S: Steps, I: Source, O: Sink>(
     ensures told { IfSome (I.left input.old) (λ bytes. IsOutputFrom say start bytes
         (I.left input.new) (O.held out.old) (O.held out.new) result.0) }
 
-    // The moment is the one to which the run came. Its world has no loop and the invariant, and the
+    // The state is the one to which the run came. Its world has no loop and the invariant, and the
     // account of the data is balanced, whether or not the source tells its bytes.
     ensures point { (is_some result.1 ≡ true) ↔ (result.0 ≡ Status.Done) }
     ensures after { IfSome result.1 (λ p. IfSome (I.left input.old) (λ bytes.

@@ -6,7 +6,7 @@ ghost use Rattle.mesh_meaning.specs.Events.{event_of};
 ghost use Rattle.mesh_text.specs.Lines.{done_line, full_line};
 ghost use Rattle.mesh_io.specs.Cause.{HasCause};
 ghost use Rattle.mesh_io.specs.Puts.{Puts};
-ghost use Rattle.mesh_run.specs.Moments.{IsSafe};
+ghost use Rattle.mesh_run.specs.RunStates.{IsSafe};
 ghost use Rattle.mesh_shell.specs.Scripts.{EndsEarly};
 ghost use Rattle.mesh_run.specs.Ends.{why_past, CanBeTold, IsSettled, HasSettledCause};
 ghost use Rattle.mesh_run.specs.Running.{last_said};

@@ -19,10 +19,10 @@ use std::alloc::Global;
 /// Does one line of at most `LONGEST_LINE` bytes, writes its text where `say`, and counts the line.
 /// It never writes a last line: where it answers BadLine or Full, its caller does.
 ///
-/// BadLine comes exactly where the line isn't allowed, and the moment is then as it was. Full comes
+/// BadLine comes exactly where the line isn't allowed, and the state is then as it was. Full comes
 /// exactly where an event of the line would raise a node's counter past its field's greatest value;
 /// the events before it were done and written, and the line isn't counted. After WriteFault or
-/// NoMemory a prefix of the line's events was done, and a prefix of its text written: the moment is
+/// NoMemory a prefix of the line's events was done, and a prefix of its text written: the state is
 /// one that the line goes through. WriteFault comes exactly where the sink has failed.
 pub fn one<'a, S: Steps, O: Sink>(
     alloc: Global,

@@ -1,12 +1,12 @@
-//! A moment that is put together from its parts.
+//! A state that is put together from its parts.
 ghost use Rattle.std.specs.Prelude.{◌≡◌, ◌≤◌, ◌+◌, ◌↔◌, option_map, IfSome, IsSome};
 ghost use Rattle.std.specs.Option.{ForSome};
-ghost use Rattle.mesh_text.specs.Schedule.{Moment, world_of};
+ghost use Rattle.mesh_text.specs.Schedule.{RunState, world_of};
 ghost use Rattle.mesh_text.specs.Accounts.{IsBalanced};
 ghost use Rattle.mesh_world.specs.Seen.{IsSoundWorld, most_data_at_first, most_steps};
 ghost use Rattle.mesh_report.specs.Sums.{sums_of};
 ghost use Rattle.mesh_run.specs.Sums.{AreCounts};
-ghost use Rattle.mesh_run.specs.Moments.{moment_seen, AreTotals, IsWorldOf};
+ghost use Rattle.mesh_run.specs.RunStates.{run_state_seen, AreTotals, IsWorldOf};
 
 use crate::point::Point;
 use crate::state::State;
@@ -17,7 +17,7 @@ use mesh_world::{Totals, World};
 
 // The data of the world; there are none before there is a world.
 fn totals_of(world: &Option<World>) -> Totals
-    ensures are { (m : Moment) → m.world ≡ option_map (λ w. w.world) world.now
+    ensures are { (m : RunState) → m.world ≡ option_map (λ w. w.world) world.now
         → AreTotals (world_of m) result }
     ensures few { let most = most_data_at_first + most_steps in
         result.waiting + result.queued + result.flying ≤ most }
@@ -38,7 +38,7 @@ fn totals_of(world: &Option<World>) -> Totals
 }
 
 impl Point<World> {
-    /// The moment of these parts, from which a run goes on as from any other. None exactly where
+    /// The state of these parts, from which a run goes on as from any other. None exactly where
     /// the data that were given or doubled are not those that were delivered, wait, are in flight,
     /// or were dropped.
     pub fn from_parts(
@@ -50,10 +50,10 @@ impl Point<World> {
     ) -> Option<Point<World>>
         requires few { AreCounts (sums_of sums) 0 }
         requires world { ForSome world (IsWorldOf variant mesh) }
-        ensures moment { let moment = moment_seen variant mesh world (sums_of sums) lines in
-            IfSome result (λ point. point ≡ moment) }
-        ensures exact { let moment = moment_seen variant mesh world (sums_of sums) lines in
-            IsSome result ↔ IsBalanced moment }
+        ensures state { let run_state = run_state_seen variant mesh world (sums_of sums) lines in
+            IfSome result (λ point. point ≡ run_state) }
+        ensures exact { let run_state = run_state_seen variant mesh world (sums_of sums) lines in
+            IsSome result ↔ IsBalanced run_state }
     {
         // Where its size is asked for it is said that these nodes are a mesh.
         let _size = mesh.len();

@@ -1,11 +1,11 @@
-//! A moment of a run that can be held, looked at and gone on with.
+//! A state of a run that can be held, looked at and gone on with.
 ghost use Rattle.std.specs.Prelude.{◌≡◌, ◌<◌, ◌≤◌, ◌^◌, length, is_some, IfOk, OnOk, OnErr, IfErr, IfSome};
 ghost use Rattle.mesh_base.specs.declared.events.Variant.TheVariants.{Base};
 ghost use Rattle.mesh_base.specs.Meshes.{IsMesh};
 ghost use Rattle.mesh_model.specs.Places.{IsEvent};
 ghost use Rattle.mesh_meaning.specs.Events.{event_of};
 ghost use Rattle.mesh_text.specs.Schedule as model;
-ghost use Rattle.mesh_run.specs.Moments.{AreOfVariant, IsAnswer, IsRefusal, IsSafe};
+ghost use Rattle.mesh_run.specs.RunStates.{AreOfVariant, IsAnswer, IsRefusal, IsSafe};
 
 use crate::state::State;
 use arrayvec::ArrayVec;
@@ -15,7 +15,7 @@ use mesh_world::{StepError, Steps};
 use std::alloc::Global;
 use std::marker::Model;
 
-/// A moment of a run. A contract sees its variant of the protocol, its mesh, its world or none, its
+/// A state of a run. A contract sees its variant of the protocol, its mesh, its world or none, its
 /// sums, its number of lines, and its number of steps, which is 0 where there is no world.
 ///
 /// It owns the line that is written, the packet that is cast and the answer that is told, one of
@@ -30,12 +30,12 @@ pub struct Point<S: Steps> {
 }
 
 impl<S: Steps> Model for Point<S> {
-    ghost use Rattle.mesh_text.specs.Schedule.{Moment};
-    ghost use Rattle.mesh_run.specs.Moments.{moment_code};
+    ghost use Rattle.mesh_text.specs.Schedule.{RunState};
+    ghost use Rattle.mesh_run.specs.RunStates.{run_state_code};
 
-    ghost Value = { Moment };
+    ghost Value = { RunState };
 
-    ghost coded = { moment_code };
+    ghost coded = { run_state_code };
 
     ghost view = { λ p. p.state };
 }
@@ -43,14 +43,14 @@ impl<S: Steps> Model for Point<S> {
 impl<S: Steps> Point<S> {
     ghost use Rattle.mesh_report.specs.Sums.{sums_of};
 
-    /// The moment before the first line, where all nodes run the protocol as AWN has it.
+    /// The state before the first line, where all nodes run the protocol as AWN has it.
     pub fn start() -> Point<S>
         ensures { result ≡ model.opening Base }
     {
         Point::with(Variant::Base)
     }
 
-    /// The moment before the first line, where all nodes run this variant of the protocol.
+    /// The state before the first line, where all nodes run this variant of the protocol.
     pub fn with(variant: Variant) -> Point<S>
         ensures { result ≡ model.opening variant }
     {
@@ -101,7 +101,7 @@ impl<S: Steps> Point<S> {
 
     /// The world: none until an accepted line that is neither blank nor a `node` line, `begin` or
     /// `step` has made it. It has the invariant, and no destination's valid routes have a loop. Its
-    /// nodes run the moment's variant.
+    /// nodes run the state's variant.
     pub fn world(&self) -> Option<&S>
         ensures safe { IsSafe self.now }
         ensures variant { IfSome self.now.world (AreOfVariant self.now.variant) }
@@ -123,7 +123,7 @@ impl<S: Steps> Point<S> {
     }
 
     /// Does one event, in the opening world where there is none yet, and counts it. The packet that
-    /// is cast is left in `out`. On a refusal the moment is as it was: there is still no world
+    /// is cast is left in `out`. On a refusal the state is as it was: there is still no world
     /// where there was none. Full comes exactly where the event would raise a counter past its
     /// field's greatest value.
     pub fn step(

@@ -11,7 +11,7 @@ use mesh_text::Verdict;
 use mesh_world::Steps;
 use std::alloc::Global;
 
-/// The run of a schedule: the moment to which it has come, and how much of its text is written.
+/// The run of a schedule: the state to which it has come, and how much of its text is written.
 #[derive(Drop)]
 pub struct Running<S: Steps> {
     pub alloc: Global,
@@ -22,14 +22,14 @@ pub struct Running<S: Steps> {
 impl<S: Steps> Script for Running<S> {
     ghost use Rattle.std.proofs.Common.{arith};
     ghost use Rattle.mesh_base.specs.declared.limits.TheConstants.{LONGEST_LINE};
-    ghost use Rattle.mesh_run.specs.Moments.{IsSafe};
+    ghost use Rattle.mesh_run.specs.RunStates.{IsSafe};
     ghost use Rattle.mesh_run.specs.Room.{HasRoomFor};
     ghost use Rattle.mesh_run.specs.Running.{running, CanRun};
     ghost use Rattle.mesh_text.specs.declared.verdict.Verdict.TheVariants as verdicts;
 
     type Verdict = Verdict;
 
-    ghost story = { running };
+    ghost fold = { running };
 
     ghost leads = { CanRun };
 

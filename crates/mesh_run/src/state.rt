@@ -1,5 +1,5 @@
-//! The state of a run at a moment: its variant of the protocol and its mesh, its world, what was
-//! counted, how many lines were read, and how many events the world has gone through.
+//! The state of a run between two events: its variant of the protocol and its mesh, its world, what
+//! was counted, how many lines were read, and how many events the world has gone through.
 ghost use Rattle.std.specs.Prelude.{◌≡◌, ◌<◌, ◌≤◌, ◌+◌, ◌^◌, length, is_some, option_map, true, false, Some, None, IfOk, OnOk, OnErr, IfErr, IfSome};
 ghost use Rattle.mesh_base.specs.declared.limits.TheConstants.{MOST_NODES};
 ghost use Rattle.mesh_base.specs.Meshes.{IsMesh, with_node};
@@ -11,19 +11,18 @@ ghost use Rattle.mesh_meaning.specs.Events.{event_of};
 ghost use Rattle.mesh_text.specs.Schedule as model;
 ghost use Rattle.mesh_text.specs.Ranges.{IsNewNode};
 ghost use Rattle.mesh_script.specs.Seen.{accepted_of, IsAllowed};
-ghost use Rattle.mesh_run.specs.Moments.{with_run_begun, moment_seen, AreOfVariant, IsAnswer, IsAnswered, IsRefusal, IsSafe, IsSound, IsTakenAtOnce};
+ghost use Rattle.mesh_run.specs.RunStates.{with_run_begun, run_state_seen, AreOfVariant, IsAnswer, IsAnswered, IsRefusal, IsSafe, IsSound, IsTakenAtOnce};
 
 use crate::sums::count;
 use mesh_base::{Addr, Done, Event, Mesh, NoMemory, Packet, Variant};
 use mesh_report::{Summary, Sums};
 use mesh_script::Line;
-use mesh_world::{StepError, Steps, Tally, Totals, tally_of};
+use mesh_world::{EventCounts, StepError, Steps, Totals, event_counts_of};
 use std::alloc::Global;
 use std::marker::Model;
 
-/// The state of a run. A contract sees the moment: its variant of the protocol, its mesh, its world
-/// or none, its sums, its number of lines, and its number of steps, which is 0 where there is no
-/// world.
+/// The state of a run. A contract sees its variant of the protocol, its mesh, its world or none,
+/// its sums, its number of lines, and its number of steps, which is 0 where there is no world.
 #[derive(Drop)]
 pub struct State<S: Steps> {
     variant: Variant,
@@ -35,26 +34,26 @@ pub struct State<S: Steps> {
 
 impl<S: Steps> Model for State<S> {
     ghost use Rattle.std.specs.Prelude.{option_map};
-    ghost use Rattle.mesh_text.specs.Schedule.{Moment};
+    ghost use Rattle.mesh_text.specs.Schedule.{RunState};
     ghost use Rattle.mesh_report.specs.Sums.{sums_of};
-    ghost use Rattle.mesh_run.specs.Moments.{moment_code, moment_seen, IsSound};
+    ghost use Rattle.mesh_run.specs.RunStates.{run_state_code, run_state_seen, IsSound};
 
-    ghost Value = { Moment };
+    ghost Value = { RunState };
 
-    ghost coded = { moment_code };
+    ghost coded = { run_state_code };
 
     ghost view = { λ p.
-        moment_seen p.variant p.mesh (option_map S.seen p.world) (sums_of p.sums) p.lines };
+        run_state_seen p.variant p.mesh (option_map S.seen p.world) (sums_of p.sums) p.lines };
 
     ghost invariant = { λ p. IsSound
-        (moment_seen p.variant p.mesh (option_map S.seen p.world) (sums_of p.sums) p.lines)
+        (run_state_seen p.variant p.mesh (option_map S.seen p.world) (sums_of p.sums) p.lines)
         (option_map S.seen p.world) };
 }
 
 impl<S: Steps> State<S> {
     ghost use Rattle.mesh_report.specs.Sums.{sums_of};
 
-    /// The moment before the first line, where all nodes run this variant of the protocol.
+    /// The state before the first line, where all nodes run this variant of the protocol.
     pub fn with(variant: Variant) -> State<S>
         ensures { result ≡ model.opening variant }
     {
@@ -67,7 +66,7 @@ impl<S: Steps> State<S> {
         }
     }
 
-    /// The moment of these parts.
+    /// The state of these parts.
     pub fn of_parts(
         variant: Variant,
         mesh: Mesh,
@@ -76,9 +75,9 @@ impl<S: Steps> State<S> {
         lines: u64,
     ) -> State<S>
         requires { let seen = option_map S.seen world in
-            IsSound (moment_seen variant mesh seen (sums_of sums) lines) seen }
+            IsSound (run_state_seen variant mesh seen (sums_of sums) lines) seen }
         ensures { let seen = option_map S.seen world in
-            result ≡ moment_seen variant mesh seen (sums_of sums) lines }
+            result ≡ run_state_seen variant mesh seen (sums_of sums) lines }
     {
         State {
             variant,
@@ -213,7 +212,7 @@ impl<S: Steps> State<S> {
         };
         let answer = world.step(alloc, e, out);
         if let Ok(done) = &answer {
-            count(&mut self.sums, e, tally_of(done));
+            count(&mut self.sums, e, event_counts_of(done));
         }
         answer
     }
@@ -243,8 +242,8 @@ impl<S: Steps> State<S> {
             unreachable!();
         };
         match world.step_counted(alloc, e, out, wanted, answer) {
-            Ok(tally) => {
-                count(&mut self.sums, e, tally);
+            Ok(event_counts) => {
+                count(&mut self.sums, e, event_counts);
                 Ok(())
             }
             Err(refusal) => Err(refusal),
@@ -266,11 +265,11 @@ impl<S: Steps> State<S> {
         let Some(world) = &mut self.world else {
             unreachable!();
         };
-        let Some((to, tally)) = world.take_copy(id, out) else {
+        let Some((to, event_counts)) = world.take_copy(id, out) else {
             return false;
         };
-        count(&mut self.sums, &Event::Deliver { id }, Tally::Moved);
-        count(&mut self.sums, &Event::Turn { node: to }, tally);
+        count(&mut self.sums, &Event::Deliver { id }, EventCounts::Moved);
+        count(&mut self.sums, &Event::Turn { node: to }, event_counts);
         true
     }
 
@@ -294,7 +293,7 @@ impl<S: Steps> State<S> {
         let mut world = S::with(alloc, &self.mesh, self.variant)?;
         match world.step(alloc, e, out) {
             Ok(done) => {
-                count(&mut self.sums, e, tally_of(&done));
+                count(&mut self.sums, e, event_counts_of(&done));
                 self.world = Some(world);
                 Ok(done)
             }

@@ -6,8 +6,8 @@ use Rattle.mesh_io.specs.Cause.{HasCause}
 use Rattle.mesh_run.specs.Causes.{HasCauseIf}
 use Rattle.mesh_io.specs.Puts.{AppendsPrefix, Puts}
 use Rattle.mesh_io.proofs.Writing.{Appends-none}
-use Rattle.mesh_save.specs.Pens.{HasFailed, HasWritten, IsPut}
-use Rattle.mesh_save.specs.PenLaws.{written_both}
+use Rattle.mesh_save.specs.Encoders.{HasFailed, HasWritten, IsPut}
+use Rattle.mesh_save.specs.EncoderLaws.{written_both}
 
 -- what was put of what is gathered and a text
 pub put_whole : {T E : Type 0} (r : Result T E) (failed : Bool) (x y : Option (List ℕ)) (m n : ℕ) (gathered left text whole : List ℕ) → failed ≡ is_err r → left ≡ [] → whole ≡ gathered ++ text → Puts x y whole r → HasCause m n r → HasWritten false failed x y m n gathered left text
@@ -29,8 +29,8 @@ all_on false x y m n left text none is =
     (subst (Appends x y) whole (is.0).grown, is.1)
 
 -- the last bytes that are gathered are handed on
-pub handed_on : (failed : Bool) (x y z : Option (List ℕ)) (l m n : ℕ) (left rest text : List ℕ) → rest ≡ [] → HasWritten false false x y l m [] left text → HasWritten false failed y z m n left rest [] → IsPut text failed x z l n
-handed_on failed x y z l m n left rest text none one two =
+pub flushed : (failed : Bool) (x y z : Option (List ℕ)) (l m n : ℕ) (left rest text : List ℕ) → rest ≡ [] → HasWritten false false x y l m [] left text → HasWritten false failed y z m n left rest [] → IsPut text failed x z l n
+flushed failed x y z l m n left rest text none one two =
     subst (λ (t : List ℕ). IsPut t failed x z l n) (append-nil text) (all_on failed x z l n rest (text ++ []) none (written_both false false failed x y z l m n [] left rest text [] one two))
 
 -- a fault as the cause of an answer

@@ -1,4 +1,4 @@
--- The body of a moment of a run fits the table of a checkpoint.
+-- The body of a state of a run fits the table of a checkpoint.
 use Rattle.std.proofs.Common.{◌≡◌, ℕ, suc, ◌+◌, ◌*◌, ◌^◌, ◌<◌, ◌≤◌, Bool, true, eq-eqb, List, [], ◌∷◌, ◌++◌, length, map, get_or, Option, Some, None, refl, sym, ap, subst, ◌∙◌, arith, length-append, inl, inr}
 use Rattle.std.specs.Prelude.{slice_get, IfSome, option_map}
 use Rattle.std.specs.declared.cmp.Ordering.TheVariants.{Less}
@@ -23,7 +23,7 @@ use Rattle.aodv_model.specs.Pairs.{Pairs, pair_cmp, pairs_in}
 use Rattle.aodv_model.specs.Cores.{Message, Pkt, Rreq, Rrep, Rerr, Item, New, Heard}
 use Rattle.aodv_model.specs.Soundness.{IsMessageInMesh, IsItemInMesh}
 use Rattle.aodv_wire.specs.RouteError as rerr
-use Rattle.aodv_wire.specs.Spells.{spelling}
+use Rattle.aodv_wire.specs.Encodes.{encoding}
 use Rattle.aodv_meaning.specs.Meaning.{meaning}
 use Rattle.aodv_meaning.specs.Sent.{pair_by_address, pairs_of}
 use Rattle.aodv_meaning.specs.Effects.{item_in}
@@ -31,7 +31,7 @@ use Rattle.mesh_model.specs.Numbered.{AreNumberedBy}
 use Rattle.mesh_model.specs.Worlds as model
 use Rattle.mesh_model.specs.Places.{AreLinks, IsCopyInMesh, IsNodeInMesh, IsInMesh}
 use Rattle.mesh_meaning.specs.Packets.{packet_of, IsWrittenItem, IsWrittenCopy, copy_in}
-use Rattle.mesh_text.specs.Schedule.{Moment}
+use Rattle.mesh_text.specs.Schedule.{RunState}
 use Rattle.mesh_checkpoint.specs.declared.limits.TheConstants.{LONGEST_BODY, SUMS_END, MOST_STEPS, GREATEST_NEXT_ID}
 use Rattle.mesh_checkpoint.specs.declared.body.Head.{Head}
 use Rattle.mesh_checkpoint.specs.Formats.{Format, number, put_maybe, maybe}
@@ -174,7 +174,7 @@ lines_of_pairs (p ∷ ps) = omega (arith, lines_of_pairs ps, length-append (rerr
 
 -- the packet of a message in the mesh is no longer than the longest
 pub packet_short : (mesh : Nodes) (m : Message) → length mesh ≤ MOST_NODES → IsMessageInMesh (length mesh) m → length (packet_of mesh m) ≤ LONGEST_PACKET
-unfolding packet_of spelling
+unfolding packet_of encoding
 packet_short mesh (Pkt b d o) small is = omega (arith, is.2.1)
 packet_short mesh (Rreq m) small is = omega arith
 packet_short mesh (Rrep m) small is = omega arith
@@ -189,21 +189,21 @@ packet_short mesh (Rerr dests) small is =
 -- packets that wait at a node
 pub heard_short : (mesh : Nodes) (x : ℕ) (is : List items.Item) → length mesh ≤ MOST_NODES → AllByRecursion (IsWrittenItem mesh) is → AllByRecursion (IsItemInMesh (length mesh) x) (map (item_in mesh) is) → AllByRecursion IsItemShort is
 unfolding packet_of
-heard_short mesh x [] small spelling in_mesh = tt
-heard_short mesh x (item.New dest body ∷ is) small spelling in_mesh = (tt, heard_short mesh x is small spelling.1 in_mesh.1)
-heard_short mesh x (item.Heard from bytes ∷ is) small spelling in_mesh =
+heard_short mesh x [] small encoding in_mesh = tt
+heard_short mesh x (item.New dest body ∷ is) small encoding in_mesh = (tt, heard_short mesh x is small encoding.1 in_mesh.1)
+heard_short mesh x (item.Heard from bytes ∷ is) small encoding in_mesh =
     let most = packet_short mesh (meaning mesh bytes) small in_mesh.0.2 in
-    let same : length bytes ≡ length (packet_of mesh (meaning mesh bytes)) = ap length spelling.0.written in
-    (omega (arith, most, same), heard_short mesh x is small spelling.1 in_mesh.1)
+    let same : length bytes ≡ length (packet_of mesh (meaning mesh bytes)) = ap length encoding.0.written in
+    (omega (arith, most, same), heard_short mesh x is small encoding.1 in_mesh.1)
 
 -- copies in flight
 pub flying_short : (mesh : Nodes) (cs : List Flying) → length mesh ≤ MOST_NODES → AllByRecursion (IsWrittenCopy mesh) cs → AllByRecursion (IsCopyInMesh (length mesh)) (map (copy_in mesh) cs) → AllByRecursion (IsCopyShort (length mesh)) cs
 unfolding packet_of
-flying_short mesh [] small spelling in_mesh = tt
-flying_short mesh (c ∷ cs) small spelling in_mesh =
+flying_short mesh [] small encoding in_mesh = tt
+flying_short mesh (c ∷ cs) small encoding in_mesh =
     let most = packet_short mesh (meaning mesh c.bytes) small in_mesh.0.3 in
-    let same : length c.bytes ≡ length (packet_of mesh (meaning mesh c.bytes)) = ap length spelling.0.written in
-    ((in_mesh.0.0, in_mesh.0.1, omega (arith, most, same)), flying_short mesh cs small spelling.1 in_mesh.1)
+    let same : length c.bytes ≡ length (packet_of mesh (meaning mesh c.bytes)) = ap length encoding.0.written in
+    ((in_mesh.0.0, in_mesh.0.1, omega (arith, most, same)), flying_short mesh cs small encoding.1 in_mesh.1)
 
 -- ---- the nodes of the model
 
@@ -309,7 +309,7 @@ world_short b w there short =
     let tail : length (put b.world) ≡ 1 + length ((table.world (length b.mesh)).put w) = ap (λ (o : Option World). length (put o)) there ∙ omega arith in
     omega (arith, short, tail, length-append h (m ++ put b.world), length-append m (put b.world))
 
--- ---- a moment
+-- ---- a state
 
 meant_world_fits : (mesh : Nodes) (steps : ℕ) (o : Option model.World) → length mesh ≤ MOST_NODES → IfSome o (IsWorldNarrow mesh steps) → (w : World) → option_map (world_after steps mesh) o ≡ Some w → length ((table.world (length mesh)).put w) ≤ LONGEST_BODY
     → (1 ≤ length mesh) × IsFit (table.world (length mesh)) w
@@ -318,7 +318,7 @@ meant_world_fits mesh steps (Some v) small is w there short =
     let same : world_after steps mesh v ≡ w = same_Some (world_after steps mesh v) w there in
     (is.some, subst (IsFit (table.world (length mesh))) same (world_fits mesh steps v small is (subst (λ (x : World). length ((table.world (length mesh)).put x) ≤ LONGEST_BODY) (sym same) short)))
 
--- the body of a moment fits, where its sums and its world are in the ranges of the table, and it isn't too long
-pub moment_fits : (m : Moment) → AreSums (head_of m) → IsMesh m.mesh → IfSome m.world (IsWorldNarrow m.mesh m.steps) → length (table.body.put (body_of m)) ≤ LONGEST_BODY → IsFit table.body (body_of m)
-moment_fits m sums mesh world short =
+-- the body of a state fits, where its sums and its world are in the ranges of the table, and it isn't too long
+pub state_fits : (m : RunState) → AreSums (head_of m) → IsMesh m.mesh → IfSome m.world (IsWorldNarrow m.mesh m.steps) → length (table.body.put (body_of m)) ≤ LONGEST_BODY → IsFit table.body (body_of m)
+state_fits m sums mesh world short =
     body_fits (body_of m) sums mesh (λ w there. meant_world_fits m.mesh m.steps m.world mesh.few world w there (world_short (body_of m) w there short))

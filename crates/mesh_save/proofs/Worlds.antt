@@ -1,4 +1,4 @@
--- The world of a moment, as it is written.
+-- The world of a state, as it is written.
 use Rattle.std.proofs.Common.{◌≡◌, ℕ, ◌+◌, ◌<◌, true, false, List, [], ◌∷◌, Option, Some, None, refl, sym, ap, subst, ◌∙◌, arith, inl, inr}
 use Rattle.std.specs.Prelude.{is_some, IfSome, unwrap_or, option_map, slice_get}
 use Rattle.std.proofs.lemmas.Bool.{cases_lt}
@@ -21,7 +21,7 @@ narrow_next size i nodes m at this before k n lt there = elim (cases_lt k i) [
       subst (λ (x : Node). IsNarrow size x.core) is this
 ]
 
--- the world that is seen is the moment's
+-- the world that is seen is the state's
 pub some_put : (o : Option World) (d : World) (mesh : Nodes) (steps : ℕ) (seen : WorldSeen) → true ≡ is_some o → seen.world ≡ unwrap_or o d → seen.mesh ≡ mesh → seen.steps ≡ steps
     → put_maybe world_bytes (option_map (world_after steps mesh) o) ≡ 1 ∷ world_bytes (world_after seen.steps seen.mesh seen.world)
 some_put None d mesh steps seen there w m s = cc

@@ -1,8 +1,8 @@
 -- Read in this order.
--- Pens: what a pen has taken.
-pub mod Pens
--- PenLaws: what was taken in two parts was taken as a whole.
-pub mod PenLaws
+-- Encoders: what an encoder has taken.
+pub mod Encoders
+-- EncoderLaws: what was taken in two parts was taken as a whole.
+pub mod EncoderLaws
 -- Bytes: the bytes of each part of a body.
 pub mod Bytes
 -- Requests: the requests that a node has seen, by their originators.
@@ -11,5 +11,5 @@ pub mod Requests
 pub mod Narrow
 -- Links: the links of a mesh, by their first nodes.
 pub mod Links
--- Saved: what a call has written of a moment's checkpoint.
+-- Saved: what a call has written of a state's checkpoint.
 pub mod Saved

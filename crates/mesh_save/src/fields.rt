@@ -3,40 +3,40 @@ ghost use Rattle.std.specs.Prelude.{◌++◌, length};
 ghost use Rattle.std.specs.Int.{w16, w32, w64, to_be_bytes};
 ghost use Rattle.mesh_checkpoint.specs.Formats.{truth};
 
-use crate::pen::Pen;
+use crate::encoder::Encoder;
 
 /// A truth, in one byte.
-pub(crate) fn put_truth<P: Pen>(pen: &mut P, holds: bool)
-    ensures { P.wrote pen.old (truth.put holds) pen.new }
+pub(crate) fn put_truth<P: Encoder>(encoder: &mut P, holds: bool)
+    ensures { P.wrote encoder.old (truth.put holds) encoder.new }
 {
-    pen.put(&[u8::from(holds)]);
+    encoder.put(&[u8::from(holds)]);
 }
 
 /// The last two bytes of a number.
-pub(crate) fn put16<P: Pen>(pen: &mut P, n: u64)
-    ensures { P.wrote pen.old (to_be_bytes w16 n) pen.new }
+pub(crate) fn put16<P: Encoder>(encoder: &mut P, n: u64)
+    ensures { P.wrote encoder.old (to_be_bytes w16 n) encoder.new }
 {
-    pen.put(&n.to_be_bytes()[6..]);
+    encoder.put(&n.to_be_bytes()[6..]);
 }
 
 /// The last four bytes of a number.
-pub(crate) fn put32<P: Pen>(pen: &mut P, n: u64)
-    ensures { P.wrote pen.old (to_be_bytes w32 n) pen.new }
+pub(crate) fn put32<P: Encoder>(encoder: &mut P, n: u64)
+    ensures { P.wrote encoder.old (to_be_bytes w32 n) encoder.new }
 {
-    pen.put(&n.to_be_bytes()[4..]);
+    encoder.put(&n.to_be_bytes()[4..]);
 }
 
 /// A number, in eight bytes.
-pub(crate) fn put64<P: Pen>(pen: &mut P, n: u64)
-    ensures { P.wrote pen.old (to_be_bytes w64 n) pen.new }
+pub(crate) fn put64<P: Encoder>(encoder: &mut P, n: u64)
+    ensures { P.wrote encoder.old (to_be_bytes w64 n) encoder.new }
 {
-    pen.put(&n.to_be_bytes());
+    encoder.put(&n.to_be_bytes());
 }
 
 /// Bytes behind their length.
-pub(crate) fn put_text<P: Pen>(pen: &mut P, text: &[u8])
-    ensures { P.wrote pen.old (to_be_bytes w16 (length text.now) ++ text.now) pen.new }
+pub(crate) fn put_text<P: Encoder>(encoder: &mut P, text: &[u8])
+    ensures { P.wrote encoder.old (to_be_bytes w16 (length text.now) ++ text.now) encoder.new }
 {
-    put16(pen, text.len() as u64);
-    pen.put(text);
+    put16(encoder, text.len() as u64);
+    encoder.put(text);
 }

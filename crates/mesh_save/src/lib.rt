@@ -1,13 +1,13 @@
-//! Writing the checkpoint of a moment, and the bytes of one node.
+//! Writing the checkpoint of a state, and the bytes of one node.
 #![tactic(auto)]
 
-mod air;
 mod body;
+mod encoder;
 mod fields;
 mod inbox;
 mod node;
 mod page;
-mod pen;
+mod radio_part;
 mod requests;
 mod routes;
 mod saving;

@@ -7,8 +7,8 @@ ghost use Rattle.aodv_model.specs.Pairs.{pairs_in};
 ghost use Rattle.mesh_save.specs.Bytes.{request_bytes, requests_bytes};
 ghost use Rattle.mesh_save.specs.Requests.{requests_of, AreRequestsOf};
 
+use crate::encoder::Encoder;
 use crate::fields::{put16, put32};
-use crate::pen::Pen;
 use aodv_asked::Asked;
 
 /// How many numbers have 32 bits.
@@ -54,28 +54,28 @@ fn count_asked(asked: &Asked, nodes: usize) -> u64
 }
 
 // The requests of a node that were seen.
-fn put_requests_of<P: Pen>(pen: &mut P, asked: &Asked, origin: usize)
+fn put_requests_of<P: Encoder>(encoder: &mut P, asked: &Asked, origin: usize)
     requires { origin < length asked.now.rooms }
-    ensures { P.wrote pen.old
-        (flat_map request_bytes (requests_of asked.now.pairs origin)) pen.new }
+    ensures { P.wrote encoder.old
+        (flat_map request_bytes (requests_of asked.now.pairs origin)) encoder.new }
 {
     let mut next = asked.first(origin);
     'ids: while let Some(id) = next {
-        put16(pen, origin as u64);
-        put32(pen, u64::from(id));
+        put16(encoder, origin as u64);
+        put32(encoder, u64::from(id));
         next = asked.after(origin, id);
     }
 }
 
 /// The requests that were seen, behind their number.
-pub(crate) fn put_asked<P: Pen>(pen: &mut P, asked: &Asked, nodes: usize)
+pub(crate) fn put_asked<P: Encoder>(encoder: &mut P, asked: &Asked, nodes: usize)
     requires size { length asked.now.rooms ≡ nodes }
     requires few { nodes ≤ 256 }
-    ensures bytes { P.wrote pen.old (requests_bytes (pairs_in asked.now.pairs)) pen.new }
+    ensures bytes { P.wrote encoder.old (requests_bytes (pairs_in asked.now.pairs)) encoder.new }
     ensures ids { AreRequestsOf nodes asked.now.pairs }
 {
-    put32(pen, count_asked(asked, nodes));
+    put32(encoder, count_asked(asked, nodes));
     for origin in 0..nodes {
-        put_requests_of(pen, asked, origin);
+        put_requests_of(encoder, asked, origin);
     }
 }

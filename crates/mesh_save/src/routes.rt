@@ -8,21 +8,21 @@ ghost use Rattle.mesh_checkpoint.specs.Points.{route_of, routes_in};
 ghost use Rattle.mesh_save.specs.Bytes.{bytes_if, indices_bytes, route_bytes, routes_bytes};
 ghost use Rattle.mesh_save.specs.Narrow.{IsNarrowEntry, AreEntriesNarrow};
 
+use crate::encoder::Encoder;
 use crate::fields::{put_truth, put16, put32};
-use crate::pen::Pen;
 use aodv_model::{Entry, Flag, Known};
 use aodv_node::Node;
 use mesh_base::NodeSet;
 
 // The members of a set, behind their number.
-fn put_members<P: Pen>(pen: &mut P, set: &NodeSet)
-    ensures { P.wrote pen.old (indices_bytes (member_list set.now)) pen.new }
+fn put_members<P: Encoder>(encoder: &mut P, set: &NodeSet)
+    ensures { P.wrote encoder.old (indices_bytes (member_list set.now)) encoder.new }
 {
     let count = set.count();
-    put16(pen, count as u64);
+    put16(encoder, count as u64);
     for k in 0..count {
         let Some(i) = set.nth(k) else { unreachable!() };
-        put16(pen, i as u64);
+        put16(encoder, i as u64);
     }
 }
 
@@ -41,28 +41,28 @@ fn is_valid(entry: &Entry) -> bool
 }
 
 // The route to a destination.
-fn put_route<P: Pen>(pen: &mut P, dest: usize, entry: &Entry)
-    ensures { P.wrote pen.old (route_bytes (route_of (dest, entry.now))) pen.new }
+fn put_route<P: Encoder>(encoder: &mut P, dest: usize, entry: &Entry)
+    ensures { P.wrote encoder.old (route_bytes (route_of (dest, entry.now))) encoder.new }
 {
-    put16(pen, dest as u64);
-    put32(pen, u64::from(entry.dsn));
-    put_truth(pen, is_known(entry));
-    put_truth(pen, is_valid(entry));
-    pen.put(&[entry.hops]);
-    put16(pen, entry.next as u64);
-    put_members(pen, &entry.pre);
+    put16(encoder, dest as u64);
+    put32(encoder, u64::from(entry.dsn));
+    put_truth(encoder, is_known(entry));
+    put_truth(encoder, is_valid(entry));
+    encoder.put(&[entry.hops]);
+    put16(encoder, entry.next as u64);
+    put_members(encoder, &entry.pre);
 }
 
 // The route to a destination, if there is one.
-fn put_route_to<P: Pen>(pen: &mut P, node: &Node, dest: usize)
+fn put_route_to<P: Encoder>(encoder: &mut P, node: &Node, dest: usize)
     requires { dest < node.now.size }
     ensures narrow { IfSome (maps.get node.now.core.rt dest) IsNarrowEntry }
-    ensures bytes { P.wrote pen.old
+    ensures bytes { P.wrote encoder.old
         (bytes_if (λ e. route_bytes (route_of (dest, e))) (maps.get node.now.core.rt dest))
-        pen.new }
+        encoder.new }
 {
     if let Some(entry) = node.entry(dest) {
-        put_route(pen, dest, &entry);
+        put_route(encoder, dest, &entry);
     }
 }
 
@@ -80,14 +80,14 @@ fn count_routes(node: &Node, nodes: usize) -> u64
 }
 
 /// The routes of a node, behind their number.
-pub(crate) fn put_routes<P: Pen>(pen: &mut P, node: &Node, nodes: usize)
+pub(crate) fn put_routes<P: Encoder>(encoder: &mut P, node: &Node, nodes: usize)
     requires size { node.now.size ≡ nodes }
     requires sound { IsSoundTable nodes node.now.core.ip node.now.core.rt }
-    ensures bytes { P.wrote pen.old (routes_bytes (routes_in node.now.core.rt)) pen.new }
+    ensures bytes { P.wrote encoder.old (routes_bytes (routes_in node.now.core.rt)) encoder.new }
     ensures narrow { AreEntriesNarrow node.now.core.rt }
 {
-    put16(pen, count_routes(node, nodes));
+    put16(encoder, count_routes(node, nodes));
     for d in 0..nodes {
-        put_route_to(pen, node, d);
+        put_route_to(encoder, node, d);
     }
 }

@@ -1,4 +1,4 @@
-//! Writing the checkpoint of a moment.
+//! Writing the checkpoint of a state.
 ghost use Rattle.std.specs.Prelude.{◌≡◌, ◌<◌, ◌≤◌, ◌↔◌, min, [], true, false, OnOk, IsErrOf};
 ghost use Rattle.mesh_text.specs.Schedule.{world_of};
 ghost use Rattle.mesh_run.specs.Causes.{HasCauseIf};
@@ -8,12 +8,12 @@ ghost use Rattle.mesh_checkpoint.specs.Heads.{AreSums};
 ghost use Rattle.mesh_checkpoint.specs.State.{body_length};
 ghost use Rattle.mesh_checkpoint.specs.Points.{head_of, body_of, IsTooLong};
 ghost use Rattle.mesh_save.specs.declared.saving.SaveError.TheVariants as errors;
-ghost use Rattle.mesh_save.specs.Pens.{IsPut, most_counted};
+ghost use Rattle.mesh_save.specs.Encoders.{IsPut, most_counted};
 ghost use Rattle.mesh_save.specs.Saved.{checkpoint_stating, IsWritten, IsCut};
 
 use crate::body::put_body;
+use crate::encoder::{BufferedWriter, Encoder, LengthCounter};
 use crate::fields::put32;
-use crate::pen::{Pen, Quill, Ruler};
 use arrayvec::ArrayVec;
 use mesh_checkpoint::LONGEST_BODY;
 use mesh_io::{Loan, Sink, Through};
@@ -33,7 +33,7 @@ pub enum SaveError {
     WriteFault,
 }
 
-// How many bytes the body of a moment has, up to the greatest number of 64 bits.
+// How many bytes the body of a state has, up to the greatest number of 64 bits.
 fn measure(point: &Point<World>) -> u64
     requires steps { point.now.steps ≤ limits.MOST_STEPS }
     requires next { (world_of point.now).next_copy ≤ limits.GREATEST_NEXT_ID }
@@ -42,31 +42,31 @@ fn measure(point: &Point<World>) -> u64
     ensures fits { body_length (body_of point.now) ≤ limits.LONGEST_BODY
         → model.body.fits (body_of point.now) ≡ true }
 {
-    let mut ruler = Ruler { length: 0 };
-    put_body(&mut ruler, point);
-    ruler.length
+    let mut counter = LengthCounter { length: 0 };
+    put_body(&mut counter, point);
+    counter.length
 }
 
-// The checkpoint of a moment, whose body has so many bytes.
-fn put_checkpoint<P: Pen>(pen: &mut P, point: &Point<World>, length: u64)
-    ensures { P.wrote pen.old (checkpoint_stating length point.now) pen.new }
+// The checkpoint of a state, whose body has so many bytes.
+fn put_checkpoint<P: Encoder>(encoder: &mut P, point: &Point<World>, length: u64)
+    ensures { P.wrote encoder.old (checkpoint_stating length point.now) encoder.new }
 {
-    pen.put(b"AWN1");
-    put32(pen, length);
-    put_body(pen, point);
+    encoder.put(b"AWN1");
+    put32(encoder, length);
+    put_body(encoder, point);
 }
 
 // Writes the checkpoint to a sink, up to its first fault.
-fn write_gathered<S: Sink>(quill: &mut Quill<S>, point: &Point<World>, length: u64)
-    requires sound { quill.old.failed ≡ false }
-    requires nothing { quill.old.gathered.items ≡ [] }
-    ensures { IsPut (checkpoint_stating length point.now) quill.new.failed
-        (S.held quill.old.out) (S.held quill.new.out)
-        (S.faults quill.old.out) (S.faults quill.new.out) }
+fn write_gathered<S: Sink>(writer: &mut BufferedWriter<S>, point: &Point<World>, length: u64)
+    requires sound { writer.old.failed ≡ false }
+    requires nothing { writer.old.gathered.items ≡ [] }
+    ensures { IsPut (checkpoint_stating length point.now) writer.new.failed
+        (S.held writer.old.out) (S.held writer.new.out)
+        (S.faults writer.old.out) (S.faults writer.new.out) }
 {
-    put_checkpoint(quill, point, length);
-    if !quill.failed {
-        quill.hand_on();
+    put_checkpoint(writer, point, length);
+    if !writer.failed {
+        writer.flush();
     }
 }
 
@@ -85,18 +85,18 @@ fn write_through<'s, O: Sink, L: Loan>(
         (O.faults out.entry.now) (O.faults result.now) }
 {
     let through: Through<'s, O, L> = Through::new(out);
-    let mut quill = Quill {
+    let mut writer = BufferedWriter {
         out: through,
         gathered: ArrayVec::new(),
         failed: false,
     };
-    write_gathered(&mut quill, point, length);
-    *failed = quill.failed;
-    let Quill {
+    write_gathered(&mut writer, point, length);
+    *failed = writer.failed;
+    let BufferedWriter {
         out,
         gathered: _,
         failed: _,
-    } = quill;
+    } = writer;
     let Through { to, loan: _ } = out;
     to
 }
@@ -112,7 +112,7 @@ fn write_out<O: Sink>(point: &Point<World>, length: u64, out: &mut O) -> bool
     failed
 }
 
-/// Writes the checkpoint of a moment. Its body is measured first, and then written, many bytes at a
+/// Writes the checkpoint of a state. Its body is measured first, and then written, many bytes at a
 /// time. It takes no memory.
 pub fn save<O: Sink>(point: &Point<World>, out: &mut O) -> Result<(), SaveError>
     requires steps { point.now.steps ≤ limits.MOST_STEPS }

@@ -7,17 +7,17 @@ use Rattle.mesh_base.specs.Numbers.{number_up_to, positive}
 use Rattle.mesh_base.specs.Parts.{parts}
 use Rattle.mesh_base.proofs.AddressLaws.{address_word, number_word}
 use Rattle.mesh_grammar.specs.declared.fault.LineFault.TheVariants.{Count}
-use Rattle.mesh_grammar.specs.Words.{Mention, next_at, span_at, address_at, text_at}
+use Rattle.mesh_grammar.specs.Words.{SpannedAddr, next_at, span_at, address_at, text_at}
 use Rattle.mesh_grammar.specs.Forms as forms
 
 some_part : (text : List ℕ) → 0 < length (parts 32 text)
 some_part text = omega (arith, length-slice_split (λ b. eqb b 32) text)
 
-none : (ps : List (List ℕ)) (made : forms.Arguments Mention) → 0 < length ps → forms.no_argument ps made ≡ Err Count
+none : (ps : List (List ℕ)) (made : forms.Arguments SpannedAddr) → 0 < length ps → forms.no_argument ps made ≡ Err Count
 none [] made h = absurd (omega arith)
 none (p ∷ ps) made h = refl
 
-pub no_argument_some : (rest : List ℕ) (made : forms.Arguments Mention) → forms.no_argument (parts 32 rest) made ≡ Err Count
+pub no_argument_some : (rest : List ℕ) (made : forms.Arguments SpannedAddr) → forms.no_argument (parts 32 rest) made ≡ Err Count
 no_argument_some rest made = none (parts 32 rest) made (some_part rest)
 
 one : (at : ℕ) (a : List ℕ) (ps : List (List ℕ)) → 0 < length ps → forms.one_address at (a ∷ ps) forms.OneAddress ≡ Err Count
@@ -34,12 +34,12 @@ two at a b (p ∷ ps) h = refl
 pub two_addresses_more : (at : ℕ) (a b rest : List ℕ) → forms.two_addresses at (a ∷ b ∷ parts 32 rest) forms.TwoAddresses ≡ Err Count
 two_addresses_more at a b rest = two at a b (parts 32 rest) (some_part rest)
 
-one_n : (most at : ℕ) (a : List ℕ) (ps : List (List ℕ)) (make : ℕ → forms.Arguments Mention) → 0 < length ps
+one_n : (most at : ℕ) (a : List ℕ) (ps : List (List ℕ)) (make : ℕ → forms.Arguments SpannedAddr) → 0 < length ps
     → forms.one_number most at (a ∷ ps) make ≡ Err Count
 one_n most at a [] make h = absurd (omega arith)
 one_n most at a (p ∷ ps) make h = refl
 
-pub one_number_more : (most at : ℕ) (a rest : List ℕ) (make : ℕ → forms.Arguments Mention) → forms.one_number most at (a ∷ parts 32 rest) make ≡ Err Count
+pub one_number_more : (most at : ℕ) (a rest : List ℕ) (make : ℕ → forms.Arguments SpannedAddr) → forms.one_number most at (a ∷ parts 32 rest) make ≡ Err Count
 one_number_more most at a rest make = one_n most at a (parts 32 rest) make (some_part rest)
 
 three : (at : ℕ) (a b c : List ℕ) (ps : List (List ℕ)) → 0 < length ps → forms.numbered_address at (a ∷ b ∷ c ∷ ps) forms.NumberedAddress ≡ Err Count
@@ -87,7 +87,7 @@ address_and_text_of at a text =
 
 -- ---- an address or a number is the only word of what it is read from
 
-pub only_address : (at : ℕ) (text : List ℕ) (m : Mention) → address_of text ≡ Some (m.address) → m.span ≡ span_at at text
+pub only_address : (at : ℕ) (text : List ℕ) (m : SpannedAddr) → address_of text ≡ Some (m.address) → m.span ≡ span_at at text
     → forms.one_address at (parts 32 text) forms.OneAddress ≡ Ok (forms.OneAddress m)
 only_address at text m h span_is =
     ap (λ ps. forms.one_address at ps forms.OneAddress) (address_word text m.address h)
@@ -99,7 +99,7 @@ from_positive (Some zero) n h = absurd (let Q : ⊥ = cc in Q)
 from_positive (Some (suc k)) n h = h
 
 pub only_number : (most at : ℕ) (text : List ℕ) (n : ℕ) → positive (number_up_to most text) ≡ Some n
-    → (make : ℕ → forms.Arguments Mention) → forms.one_number most at (parts 32 text) make ≡ Ok (make n)
+    → (make : ℕ → forms.Arguments SpannedAddr) → forms.one_number most at (parts 32 text) make ≡ Ok (make n)
 only_number most at text n h make =
     ap (λ ps. forms.one_number most at ps make) (number_word most text n (from_positive (number_up_to most text) n h))
     ∙ rw h refl

@@ -1,5 +1,5 @@
 pub mod Cuts
 pub mod Allowed
-pub mod UsualLines
+pub mod FastLines
 -- SameBytes: whether two lists of bytes are equal.
 pub mod SameBytes

@@ -6,10 +6,10 @@ use Rattle.mesh_grammar.specs.Words as words
 use Rattle.mesh_grammar.specs.Forms as forms
 use Rattle.mesh_script.specs.declared.forms.Arguments.{Arguments}
 use Rattle.mesh_script.specs.declared.forms.Arguments.TheVariants as arguments
-use Rattle.mesh_script.specs.declared.words.Mention.{Mention}
+use Rattle.mesh_script.specs.declared.words.SpannedAddr.{SpannedAddr}
 
-abbrev pub mention_of : Mention → words.Mention
-mention_of a = record { address = (a.addr).0; span = a.span }
+abbrev pub spanned_of : SpannedAddr → words.SpannedAddr
+spanned_of a = record { address = (a.addr).0; span = a.span }
 
 -- arguments with what the definitions have for each address
 abbrev pub arguments_by : {A B : Type 0} → (A → B) → Arguments A → forms.Arguments B
@@ -23,8 +23,8 @@ arguments_by f (arguments.AddressAndNumber a n) = forms.AddressAndNumber (f a) n
 arguments_by f (arguments.AddressAndText a text) = forms.AddressAndText (f a) text.now
 
 -- as they are read, placed in a mesh, and written
-abbrev pub mentions_of : Arguments Mention → forms.Arguments words.Mention
-mentions_of a = arguments_by mention_of a
+abbrev pub all_spanned_of : Arguments SpannedAddr → forms.Arguments words.SpannedAddr
+all_spanned_of a = arguments_by spanned_of a
 
 abbrev pub places_of : Arguments ℕ → forms.Arguments ℕ
 places_of a = arguments_by (λ x. x) a
@@ -33,10 +33,10 @@ abbrev pub addresses_of : Arguments Addr → forms.Arguments ℕ
 addresses_of a = arguments_by (λ x. x.0) a
 
 -- the same, where there is no fault
-abbrev pub mentions_in : Result (Arguments Mention) LineFault
-    → Result (forms.Arguments words.Mention) LineFault
-mentions_in (Ok a) = Ok (mentions_of a)
-mentions_in (Err f) = Err f
+abbrev pub all_spanned_in : Result (Arguments SpannedAddr) LineFault
+    → Result (forms.Arguments words.SpannedAddr) LineFault
+all_spanned_in (Ok a) = Ok (all_spanned_of a)
+all_spanned_in (Err f) = Err f
 
 abbrev pub places_in : Result (Arguments ℕ) LineFault → Result (forms.Arguments ℕ) LineFault
 places_in (Ok a) = Ok (places_of a)

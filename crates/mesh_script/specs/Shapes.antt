@@ -6,21 +6,21 @@ use Rattle.mesh_grammar.specs.Words as words
 use Rattle.mesh_grammar.specs.Scripts as scripts
 use Rattle.mesh_script.specs.declared.shape.Row.{Row}
 use Rattle.mesh_script.specs.declared.shape.Shape.{Shape}
-use Rattle.mesh_script.specs.Arguments.{mentions_of}
+use Rattle.mesh_script.specs.Arguments.{all_spanned_of}
 
 -- the row of this word
 abbrev pub row_with : List ℕ → Row → scripts.Row Command
 row_with word r = record { command = r.command; word = word; form = r.form }
 
-abbrev pub shape_seen : Shape → scripts.Shape Command words.Mention
-shape_seen s = record { command = s.command; arguments = mentions_of s.arguments }
+abbrev pub shape_seen : Shape → scripts.Shape Command words.SpannedAddr
+shape_seen s = record { command = s.command; arguments = all_spanned_of s.arguments }
 
 -- a blank line says nothing
-abbrev pub said_of : Option Shape → Option (scripts.Shape Command words.Mention)
+abbrev pub said_of : Option Shape → Option (scripts.Shape Command words.SpannedAddr)
 said_of None = None
 said_of (Some s) = Some (shape_seen s)
 
 abbrev pub seen_shape : Result (Option Shape) LineFault
-    → Result (Option (scripts.Shape Command words.Mention)) LineFault
+    → Result (Option (scripts.Shape Command words.SpannedAddr)) LineFault
 seen_shape (Ok said) = Ok (said_of said)
 seen_shape (Err f) = Err f

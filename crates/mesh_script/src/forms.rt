@@ -2,14 +2,15 @@
 ghost use Rattle.std.specs.Prelude.{◌≡◌, ◌<◌, ◌+◌, ◌^◌, ◌∷◌, length, IfSome};
 ghost use Rattle.mesh_base.specs.Parts.{parts, rest_parts};
 ghost use Rattle.mesh_grammar.specs.Forms as forms;
-ghost use Rattle.mesh_script.specs.Arguments.{mentions_in};
+ghost use Rattle.mesh_script.specs.Arguments.{all_spanned_in};
 
-use crate::words::{Mention, address, next_at, number, text};
+use crate::words::{SpannedAddr, address, next_at, number, text};
 use mesh_base::cut;
 use mesh_grammar::{Form, LineFault};
 
-/// The arguments of a command, in which an `A` stands for each address: a mention where a line is
-/// read, a node's index once it is allowed, and the address itself where a line is written.
+/// The arguments of a command, in which an `A` stands for each address: an address with its span
+/// where a line is read, a node's index once it is allowed, and the address itself where a line is
+/// written.
 #[derive(Drop)]
 pub enum Arguments<'a, A> {
     NoArgument,
@@ -26,14 +27,14 @@ pub enum Arguments<'a, A> {
 }
 
 /// What a line says after its command.
-pub type Read<'a> = Result<Arguments<'a, Mention>, LineFault>;
+pub type Read<'a> = Result<Arguments<'a, SpannedAddr>, LineFault>;
 
 // Each form stands in a function of its own, so that no line pays for the frame of another form.
 // The arguments begin at `at`; without a space after the command there are none.
 
 #[tactic(auto, using(crate::proofs::Cuts::no_argument_some))]
 fn no_argument(arguments: Option<&[u8]>) -> Read<'static>
-    ensures { mentions_in result
+    ensures { all_spanned_in result
         ≡ forms.no_argument (rest_parts 32 arguments.entry) forms.NoArgument }
 {
     match arguments {
@@ -47,14 +48,14 @@ fn no_argument(arguments: Option<&[u8]>) -> Read<'static>
 #[tactic(auto, using(crate::proofs::Cuts::one_address_more))]
 fn one_address(at: usize, arguments: Option<&[u8]>) -> Read<'static>
     requires { IfSome arguments (λ words. at + length words.now < 2 ^ 63) }
-    ensures { mentions_in result
+    ensures { all_spanned_in result
         ≡ forms.one_address at (rest_parts 32 arguments.entry) forms.OneAddress }
 {
     let Some(words) = arguments else {
         return Err(LineFault::Count);
     };
     let fault = match address(at, words) {
-        Ok(mention) => return Ok(Arguments::OneAddress(mention)),
+        Ok(spanned) => return Ok(Arguments::OneAddress(spanned)),
         Err(fault) => fault,
     };
     let (_word, more) = cut(words, b' ');
@@ -67,7 +68,7 @@ fn one_address(at: usize, arguments: Option<&[u8]>) -> Read<'static>
 #[tactic(auto, using(crate::proofs::Cuts::two_addresses_more))]
 fn two_addresses(at: usize, arguments: Option<&[u8]>) -> Read<'static>
     requires { IfSome arguments (λ words. at + length words.now < 2 ^ 63) }
-    ensures { mentions_in result
+    ensures { all_spanned_in result
         ≡ forms.two_addresses at (rest_parts 32 arguments.entry) forms.TwoAddresses }
 {
     let Some(words) = arguments else {
@@ -91,7 +92,7 @@ fn two_addresses(at: usize, arguments: Option<&[u8]>) -> Read<'static>
 #[tactic(auto, using(crate::proofs::Cuts::one_number_more))]
 fn one_number(most: u64, at: usize, arguments: Option<&[u8]>) -> Read<'static>
     requires { IfSome arguments (λ words. at + length words.now < 2 ^ 63) }
-    ensures { mentions_in result
+    ensures { all_spanned_in result
         ≡ forms.one_number most at (rest_parts 32 arguments.entry) forms.OneNumber }
 {
     let Some(words) = arguments else {
@@ -112,7 +113,7 @@ fn one_number(most: u64, at: usize, arguments: Option<&[u8]>) -> Read<'static>
 #[tactic(auto, using(crate::proofs::Cuts::numbered_address_more), unfolding(mesh_grammar::specs::Forms::numbered_address))]
 fn address_sn(at: usize, word: &[u8], others: &[u8]) -> Read<'static>
     requires { at + length word.now + 1 + length others.now < 2 ^ 63 }
-    ensures { mentions_in result
+    ensures { all_spanned_in result
         ≡ forms.numbered_address at (word.now ∷ parts 32 others.now) forms.NumberedAddress }
 {
     let (sn, others) = cut(others, b' ');
@@ -136,7 +137,7 @@ fn address_sn(at: usize, word: &[u8], others: &[u8]) -> Read<'static>
 #[tactic(auto, unfolding(mesh_grammar::specs::Forms::numbered_address))]
 fn numbered_address(at: usize, arguments: Option<&[u8]>) -> Read<'static>
     requires { IfSome arguments (λ words. at + length words.now < 2 ^ 63) }
-    ensures { mentions_in result
+    ensures { all_spanned_in result
         ≡ forms.numbered_address at (rest_parts 32 arguments.entry) forms.NumberedAddress }
 {
     let Some(words) = arguments else {
@@ -154,7 +155,7 @@ fn numbered_address(at: usize, arguments: Option<&[u8]>) -> Read<'static>
 #[tactic(auto, using(crate::proofs::Cuts::addresses_and_text_of), unfolding(mesh_grammar::specs::Forms::addresses_and_text))]
 fn addresses_and_text(at: usize, arguments: Option<&[u8]>) -> Read<'_>
     requires { IfSome arguments (λ words. at + length words.now < 2 ^ 63) }
-    ensures { mentions_in result
+    ensures { all_spanned_in result
         ≡ forms.addresses_and_text at (rest_parts 32 arguments.entry) forms.AddressesAndText }
 {
     let Some(words) = arguments else {
@@ -179,7 +180,7 @@ fn addresses_and_text(at: usize, arguments: Option<&[u8]>) -> Read<'_>
 #[tactic(auto, using(crate::proofs::Cuts::address_and_number_more))]
 fn address_and_number(most: u64, at: usize, arguments: Option<&[u8]>) -> Read<'static>
     requires { IfSome arguments (λ words. at + length words.now < 2 ^ 63) }
-    ensures { mentions_in result
+    ensures { all_spanned_in result
         ≡ forms.address_and_number most at (rest_parts 32 arguments.entry) forms.AddressAndNumber }
 {
     let Some(words) = arguments else {
@@ -202,7 +203,7 @@ fn address_and_number(most: u64, at: usize, arguments: Option<&[u8]>) -> Read<'s
 #[tactic(auto, using(crate::proofs::Cuts::address_and_text_of), unfolding(mesh_grammar::specs::Forms::address_and_text))]
 fn address_and_text(at: usize, arguments: Option<&[u8]>) -> Read<'_>
     requires { IfSome arguments (λ words. at + length words.now < 2 ^ 63) }
-    ensures { mentions_in result
+    ensures { all_spanned_in result
         ≡ forms.address_and_text at (rest_parts 32 arguments.entry) forms.AddressAndText }
 {
     let Some(words) = arguments else {
@@ -221,7 +222,7 @@ fn address_and_text(at: usize, arguments: Option<&[u8]>) -> Read<'_>
 /// space, or none.
 pub fn arguments_of(form: Form, at: usize, arguments: Option<&[u8]>) -> Read<'_>
     requires { IfSome arguments (λ words. at + length words.now < 2 ^ 63) }
-    ensures { mentions_in result ≡ forms.arguments_of form at (rest_parts 32 arguments.entry) }
+    ensures { all_spanned_in result ≡ forms.arguments_of form at (rest_parts 32 arguments.entry) }
 {
     match form {
         Form::Bare => no_argument(arguments),

@@ -3,12 +3,12 @@
 //! Nothing here takes memory: a line is read as parts of the bytes that it is given.
 #![tactic(auto)]
 
+mod fast;
 mod forms;
 mod line;
 mod parse;
 mod print;
 mod shape;
-mod usual;
 mod words;
 
 pub use forms::{Arguments, Read, arguments_of};
@@ -16,4 +16,4 @@ pub use line::Line;
 pub use mesh_grammar::{Command, LineFault, Span};
 pub use parse::{parse_line, placed};
 pub use print::{LONGEST_WRITTEN, print_line, push_event, push_line, push_written};
-pub use words::{Mention, is_blank, is_word, next_at, span_at};
+pub use words::{SpannedAddr, is_blank, is_word, next_at, span_at};

@@ -4,15 +4,15 @@ ghost use Rattle.mesh_base.specs.Meshes.{index_of};
 ghost use Rattle.mesh_meaning.specs.Events.{event_of};
 ghost use Rattle.mesh_text.specs.Ranges.{IsEcho};
 ghost use Rattle.mesh_text.specs.Schedule as schedule;
-ghost use Rattle.mesh_script.specs.Arguments.{mention_of, mentions_of, places_of, places_in};
+ghost use Rattle.mesh_script.specs.Arguments.{spanned_of, all_spanned_of, places_of, places_in};
 ghost use Rattle.mesh_script.specs.Shapes.{said_of};
 ghost use Rattle.mesh_script.specs.Seen.{seen_line, accepted_of, short_count, IsAllowed, HasNodes};
 
+use crate::fast::fast_line;
 use crate::forms::Arguments;
 use crate::line::Line;
 use crate::shape::{Shape, shape_of};
-use crate::usual::usual_line;
-use crate::words::Mention;
+use crate::words::SpannedAddr;
 use mesh_base::{Event, MOST_NODES, Mesh};
 use mesh_grammar::{Command, LineFault};
 
@@ -26,9 +26,9 @@ pub(crate) fn after_nodes(mesh: &Mesh) -> Result<(), LineFault>
     Ok(())
 }
 
-fn index(mesh: &Mesh, node: Mention) -> Result<usize, LineFault>
-    ensures value { IfOk result (λ i. index_of mesh.now (mention_of node).address ≡ Some i) }
-    ensures none { IfErr result (λ f. index_of mesh.now (mention_of node).address ≡ None) }
+fn index(mesh: &Mesh, node: SpannedAddr) -> Result<usize, LineFault>
+    ensures value { IfOk result (λ i. index_of mesh.now (spanned_of node).address ≡ Some i) }
+    ensures none { IfErr result (λ f. index_of mesh.now (spanned_of node).address ≡ None) }
     ensures fault { IfErr result (λ f. f ≡ LineFault.Unknown node.span) }
 {
     mesh.index_of(node.addr)
@@ -38,9 +38,9 @@ fn index(mesh: &Mesh, node: Mention) -> Result<usize, LineFault>
 /// Arguments with each node by its index. The leftmost address that is no node is the fault.
 pub fn placed<'a>(
     mesh: &Mesh,
-    arguments: &Arguments<'a, Mention>,
+    arguments: &Arguments<'a, SpannedAddr>,
 ) -> Result<Arguments<'a, usize>, LineFault>
-    ensures { places_in result ≡ schedule.with_nodes mesh.now (mentions_of arguments.now) }
+    ensures { places_in result ≡ schedule.with_nodes mesh.now (all_spanned_of arguments.now) }
 {
     match *arguments {
         Arguments::NoArgument => Ok(Arguments::NoArgument),
@@ -131,10 +131,10 @@ fn make_line<'a>(command: Command, arguments: Arguments<'a, usize>) -> Result<Li
 fn new_node(
     mesh: &Mesh,
     started: bool,
-    node: Mention,
+    node: SpannedAddr,
     first: u32,
 ) -> Result<Line<'static>, LineFault>
-    ensures { seen_line result ≡ schedule.new_node mesh.now started (mention_of node) first }
+    ensures { seen_line result ≡ schedule.new_node mesh.now started (spanned_of node) first }
 {
     if started {
         return Err(LineFault::Late);
@@ -178,7 +178,7 @@ pub fn parse_line<'a>(bytes: &'a [u8], mesh: &Mesh, started: bool) -> Result<Lin
 {
     // There are at most 200 nodes.
     let _size = mesh.len();
-    if let Some(line) = usual_line(bytes, mesh) {
+    if let Some(line) = fast_line(bytes, mesh) {
         return Ok(line);
     }
     match &shape_of(bytes) {

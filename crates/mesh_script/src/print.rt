@@ -16,7 +16,7 @@ ghost use Rattle.mesh_script.specs.Seen.{accepted_of, IsPrintable};
 
 use crate::forms::Arguments;
 use crate::line::Line;
-use mesh_base::{Addr, Event, LINE_ROOM, LineBuf, Mesh, push_number, push_text, write_dotted};
+use mesh_base::{Addr, Event, LINE_CAPACITY, LineBuf, Mesh, push_number, push_text, write_dotted};
 
 /// The longest line that is written back: of a word of four letters, two addresses, and a text.
 pub const LONGEST_WRITTEN: usize = 549;
@@ -24,7 +24,7 @@ pub const LONGEST_WRITTEN: usize = 549;
 // An argument, after the space before it.
 
 fn push_address(out: &mut LineBuf, a: Addr)
-    requires room { length out.old + 16 ≤ LINE_ROOM }
+    requires room { length out.old + 16 ≤ LINE_CAPACITY }
     ensures text { out.new ≡ out.old ++ 32 ∷ dotted_decimal a.0 }
     ensures length { length out.new ≤ length out.old + 16 }
 {
@@ -33,7 +33,7 @@ fn push_address(out: &mut LineBuf, a: Addr)
 }
 
 fn push_argument(out: &mut LineBuf, n: u64)
-    requires room { length out.old + 21 ≤ LINE_ROOM }
+    requires room { length out.old + 21 ≤ LINE_CAPACITY }
     ensures text { out.new ≡ out.old ++ 32 ∷ decimal n }
     ensures length { length out.new ≤ length out.old + 21 }
 {
@@ -46,7 +46,7 @@ fn push_argument(out: &mut LineBuf, n: u64)
 #[tactic(auto, using(std::proofs::lemmas::List::append_assoc), unfolding(mesh_grammar::specs::Written::command_text))]
 pub fn push_written(out: &mut LineBuf, word: &[u8], arguments: &Arguments<'_, Addr>)
     requires { length out.old + length word.now + width_of (addresses_of arguments.now)
-        ≤ LINE_ROOM }
+        ≤ LINE_CAPACITY }
     ensures text { out.new ≡ out.old ++ command_text word.now (addresses_of arguments.now) }
     ensures length { length out.new
         ≤ length out.old + length word.now + width_of (addresses_of arguments.now) }
@@ -88,7 +88,7 @@ pub fn push_written(out: &mut LineBuf, word: &[u8], arguments: &Arguments<'_, Ad
 #[tactic(auto, using(std::proofs::lemmas::List::append_assoc), unfolding(mesh_grammar::specs::Written::command_text))]
 fn push_one<const N: usize>(out: &mut LineBuf, word: &[u8; N], mesh: &Mesh, i: usize)
     requires node { i < length mesh.now }
-    requires room { length out.old + length word.now + 16 ≤ LINE_ROOM }
+    requires room { length out.old + length word.now + 16 ≤ LINE_CAPACITY }
     ensures text { out.new
         ≡ out.old ++ command_text word.now (forms.OneAddress (addr_at mesh.now i)) }
     ensures length { length out.new ≤ length out.old + length word.now + 16 }
@@ -104,7 +104,7 @@ fn push_one<const N: usize>(out: &mut LineBuf, word: &[u8; N], mesh: &Mesh, i: u
 fn push_two<const N: usize>(out: &mut LineBuf, word: &[u8; N], mesh: &Mesh, i: usize, j: usize)
     requires first { i < length mesh.now }
     requires second { j < length mesh.now }
-    requires room { length out.old + length word.now + 32 ≤ LINE_ROOM }
+    requires room { length out.old + length word.now + 32 ≤ LINE_CAPACITY }
     ensures text { out.new ≡ out.old
         ++ command_text word.now (forms.TwoAddresses (addr_at mesh.now i) (addr_at mesh.now j)) }
     ensures length { length out.new ≤ length out.old + length word.now + 32 }
@@ -118,7 +118,7 @@ fn push_two<const N: usize>(out: &mut LineBuf, word: &[u8; N], mesh: &Mesh, i: u
 #[inline(always)]
 #[tactic(auto, using(std::proofs::lemmas::List::append_assoc), unfolding(mesh_grammar::specs::Written::command_text))]
 fn push_numbered<const N: usize>(out: &mut LineBuf, word: &[u8; N], n: u64)
-    requires room { length out.old + length word.now + 21 ≤ LINE_ROOM }
+    requires room { length out.old + length word.now + 21 ≤ LINE_CAPACITY }
     ensures text { out.new ≡ out.old ++ command_text word.now (forms.OneNumber n) }
     ensures length { length out.new ≤ length out.old + length word.now + 21 }
 {
@@ -131,7 +131,7 @@ fn push_numbered<const N: usize>(out: &mut LineBuf, word: &[u8; N], n: u64)
 #[inline(always)]
 pub fn push_event(out: &mut LineBuf, mesh: &Mesh, event: &Event<'_>)
     requires event { IsEvent (length mesh.now) (event_of event.now) }
-    requires room { length out.old + LONGEST_WRITTEN ≤ LINE_ROOM }
+    requires room { length out.old + LONGEST_WRITTEN ≤ LINE_CAPACITY }
     ensures text { out.new
         ≡ out.old ++ lines.event_words mesh.now (event_of event.now) }
     ensures length { length out.new ≤ length out.old + LONGEST_WRITTEN }
@@ -158,7 +158,7 @@ pub fn push_event(out: &mut LineBuf, mesh: &Mesh, event: &Event<'_>)
 #[inline(always)]
 pub fn push_line(out: &mut LineBuf, mesh: &Mesh, line: &Line<'_>)
     requires printable { IsPrintable mesh.now line.now }
-    requires room { length out.old + LONGEST_WRITTEN ≤ LINE_ROOM }
+    requires room { length out.old + LONGEST_WRITTEN ≤ LINE_CAPACITY }
     ensures text { out.new
         ≡ out.old ++ lines.words_of mesh.now (accepted_of line.now) }
     ensures length { length out.new ≤ length out.old + LONGEST_WRITTEN }

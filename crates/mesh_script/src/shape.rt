@@ -5,7 +5,7 @@ ghost use Rattle.mesh_grammar.specs.Scripts.{row_in};
 ghost use Rattle.mesh_script.specs.Shapes.{row_with, seen_shape};
 
 use crate::forms::{Arguments, arguments_of};
-use crate::words::{Mention, is_blank, is_word, next_at, span_at};
+use crate::words::{SpannedAddr, is_blank, is_word, next_at, span_at};
 use mesh_base::{MOST_EVENTS, cut};
 use mesh_grammar::{Command, Form, LineFault};
 
@@ -13,7 +13,7 @@ use mesh_grammar::{Command, Form, LineFault};
 #[derive(Drop)]
 pub struct Shape<'a> {
     pub command: Command,
-    pub arguments: Arguments<'a, Mention>,
+    pub arguments: Arguments<'a, SpannedAddr>,
 }
 
 /// A command and the form of its arguments.
@@ -29,7 +29,7 @@ fn found(command: Command, form: Form) -> Option<Row>
     Some(Row { command, form })
 }
 
-/// The row of the schedule's table that a word spells.
+/// The row of the schedule's table that a word denotes.
 fn row_of(word: &[u8]) -> Option<Row>
     ensures some { IfSome result
         (λ r. row_in commands.schedule word.now ≡ Some (row_with word.now r)) }

@@ -4,14 +4,14 @@ ghost use Rattle.std.specs.Str.{bytes_eq};
 ghost use Rattle.mesh_base.specs.Addresses.{address_of};
 ghost use Rattle.mesh_base.specs.Numbers as numbers;
 ghost use Rattle.mesh_grammar.specs.Words as words;
-ghost use Rattle.mesh_script.specs.Arguments.{mention_of};
+ghost use Rattle.mesh_script.specs.Arguments.{spanned_of};
 
 use mesh_base::{Addr, LONGEST_DATUM, number_up_to};
 use mesh_grammar::{LineFault, Span};
 
 /// An address that a line names, and where it stands in the line.
 #[derive(Clone, Copy)]
-pub struct Mention {
+pub struct SpannedAddr {
     pub addr: Addr,
     pub span: Span,
 }
@@ -80,16 +80,16 @@ pub fn next_at(at: usize, word: &[u8]) -> usize
 
 /// A word as an address.
 #[inline(always)]
-pub fn address(at: usize, word: &[u8]) -> Result<Mention, LineFault>
+pub fn address(at: usize, word: &[u8]) -> Result<SpannedAddr, LineFault>
     requires { at + length word.now < 2 ^ 63 }
-    ensures value { IfOk result (λ a. address_of word.now ≡ Some (mention_of a).address) }
-    ensures span { IfOk result (λ a. (mention_of a).span ≡ words.span_at at word.now) }
+    ensures value { IfOk result (λ a. address_of word.now ≡ Some (spanned_of a).address) }
+    ensures span { IfOk result (λ a. (spanned_of a).span ≡ words.span_at at word.now) }
     ensures none { IfErr result (λ f. address_of word.now ≡ None) }
     ensures fault { IfErr result (λ f. f ≡ LineFault.BadAddress (words.span_at at word.now)) }
 {
     let span = span_at(at, word);
     match Addr::parse(word) {
-        Some(addr) => Ok(Mention { addr, span }),
+        Some(addr) => Ok(SpannedAddr { addr, span }),
         None => Err(LineFault::BadAddress(span)),
     }
 }

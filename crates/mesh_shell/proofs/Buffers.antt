@@ -4,7 +4,7 @@ use Rattle.std.specs.Prelude.{IfSome}
 use Rattle.std.specs.Io.KnownBytes.{Keeps}
 use Rattle.mesh_io.specs.Puts.{AppendsPrefix}
 use Rattle.mesh_io.proofs.Writing.{AppendsPrefix-keeps}
-use Rattle.mesh_shell.specs.Story.{RunText, whole}
+use Rattle.mesh_shell.specs.Fold.{RunText, whole}
 use Rattle.mesh_shell.specs.Outputs.{IsOutputOf}
 use Rattle.mesh_shell.specs.declared.fault.Fault.{Fault}
 use Rattle.mesh_shell.specs.declared.fault.Fault.TheVariants.{ReadFault, WriteFault, NoMemory}

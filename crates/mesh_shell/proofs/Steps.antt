@@ -5,23 +5,23 @@ use Rattle.mesh_io.specs.Puts.{AppendsPrefix}
 use Rattle.mesh_io.specs.declared.limits.Limits.{Limits}
 use Rattle.mesh_io.proofs.Writing.{Appends-join, AppendsPrefix-join, AppendsPrefix-more}
 use Rattle.mesh_shell.specs.Pieces.{Piece, pieces_within}
-use Rattle.mesh_shell.specs.Story.{Outcome, On, Ended, Ending, Story, RunText, whole, lines_before, finished_run, goes_on, text_from, text_on}
+use Rattle.mesh_shell.specs.Fold.{Outcome, On, Ended, Ending, Fold, RunText, whole, lines_before, finished_run, goes_on, text_from, text_on}
 use Rattle.mesh_shell.specs.Outputs.{text_in, IsLineDone, IsLineLast, IsLastRun, IsEndRun}
 use Rattle.mesh_shell.specs.declared.fault.Fault.{Fault}
 
--- ---- the text from a moment on
+-- ---- the text from a state on
 
-pub text_on-pieces : {M V : Type 0} (story : Story M V) (most : Limits) (m : M) (input : List ℕ) → text_on story most m input ≡ lines_before (story.head m) (text_from story m (pieces_within most input))
+pub text_on-pieces : {M V : Type 0} (fold : Fold M V) (most : Limits) (m : M) (input : List ℕ) → text_on fold most m input ≡ lines_before (fold.head m) (text_from fold m (pieces_within most input))
 unfolding text_on
-text_on-pieces story most m input = refl
+text_on-pieces fold most m input = refl
 
-text_from-cons : {M V : Type 0} (story : Story M V) (m : M) (piece : Piece) (pieces : List Piece) → text_from story m (piece ∷ pieces) ≡ goes_on m (story.outcome m piece) (λ n. text_from story n pieces)
+text_from-cons : {M V : Type 0} (fold : Fold M V) (m : M) (piece : Piece) (pieces : List Piece) → text_from fold m (piece ∷ pieces) ≡ goes_on m (fold.outcome m piece) (λ n. text_from fold n pieces)
 unfolding text_from
-text_from-cons story m piece pieces = refl
+text_from-cons fold m piece pieces = refl
 
-pub text_from-end : {M V : Type 0} (story : Story M V) (m : M) → text_from story m [] ≡ finished_run (story.ending m)
+pub text_from-end : {M V : Type 0} (fold : Fold M V) (m : M) → text_from fold m [] ≡ finished_run (fold.ending m)
 unfolding text_from
-text_from-end story m = refl
+text_from-end fold m = refl
 
 -- ---- what was told of a text
 
@@ -41,31 +41,31 @@ written_before {M} {V} v w text a b c s is p t = subst (λ (x : RunText M V). Is
 -- ---- a line
 
 -- a line that was done
-pub line_on : {M V : Type 0} (story : Story M V) (m n : M) (piece : Piece) (before now : Option (List ℕ)) (did : IsLineDone (story.outcome m piece) n before now) (pieces : List Piece)
-    → text_from story m (piece ∷ pieces) ≡ lines_before did.text (text_from story n pieces)
-line_on story m n piece before now did pieces = text_from-cons story m piece pieces ∙ ap (λ k. goes_on m k (λ x. text_from story x pieces)) did.is
+pub line_on : {M V : Type 0} (fold : Fold M V) (m n : M) (piece : Piece) (before now : Option (List ℕ)) (did : IsLineDone (fold.outcome m piece) n before now) (pieces : List Piece)
+    → text_from fold m (piece ∷ pieces) ≡ lines_before did.text (text_from fold n pieces)
+line_on fold m n piece before now did pieces = text_from-cons fold m piece pieces ∙ ap (λ k. goes_on m k (λ x. text_from fold x pieces)) did.is
 
 -- a line that has ended the run
-line_last : {M V : Type 0} (story : Story M V) (m : M) (piece : Piece) (v : V) (before now : Option (List ℕ)) → IsLineLast (story.outcome m piece) v before now → (pieces : List Piece)
-    → IsWritten (text_from story m (piece ∷ pieces)) before now (Ok v)
-line_last {M} {V} story m piece v before now did pieces =
-    subst (λ (w : RunText M V). IsWritten w before now (Ok v)) (sym (text_from-cons story m piece pieces ∙ ap (λ k. goes_on m k (λ x. text_from story x pieces)) did.is)) (refl, did.grown)
+line_last : {M V : Type 0} (fold : Fold M V) (m : M) (piece : Piece) (v : V) (before now : Option (List ℕ)) → IsLineLast (fold.outcome m piece) v before now → (pieces : List Piece)
+    → IsWritten (text_from fold m (piece ∷ pieces)) before now (Ok v)
+line_last {M} {V} fold m piece v before now did pieces =
+    subst (λ (w : RunText M V). IsWritten w before now (Ok v)) (sym (text_from-cons fold m piece pieces ∙ ap (λ k. goes_on m k (λ x. text_from fold x pieces)) did.is)) (refl, did.grown)
 
 -- a prefix of a line's text is a prefix of all that follows
 front_of_line : {M V : Type 0} (m : M) (k : Outcome M V) (others : M → RunText M V) (before now : Option (List ℕ)) → AppendsPrefix before now (text_in k) → AppendsPrefix before now (whole (goes_on m k others))
 front_of_line m (On text n) others before now f = AppendsPrefix-more before now text _ _ (append_assoc text (others n).lines (others n).last) f
 front_of_line m (Ended text last v) others before now f = f
 
-line_broken : {M V : Type 0} (story : Story M V) (m : M) (piece : Piece) (e : Fault) (before now : Option (List ℕ)) → AppendsPrefix before now (text_in (story.outcome m piece)) → (pieces : List Piece)
-    → IsWritten {M = M} {V = V} (text_from story m (piece ∷ pieces)) before now (Err e)
-line_broken {M} {V} story m piece e before now f pieces =
-    subst (λ (w : RunText M V). AppendsPrefix before now (whole w)) (sym (text_from-cons story m piece pieces)) (front_of_line m (story.outcome m piece) (λ x. text_from story x pieces) before now f)
+line_broken : {M V : Type 0} (fold : Fold M V) (m : M) (piece : Piece) (e : Fault) (before now : Option (List ℕ)) → AppendsPrefix before now (text_in (fold.outcome m piece)) → (pieces : List Piece)
+    → IsWritten {M = M} {V = V} (text_from fold m (piece ∷ pieces)) before now (Err e)
+line_broken {M} {V} fold m piece e before now f pieces =
+    subst (λ (w : RunText M V). AppendsPrefix before now (whole w)) (sym (text_from-cons fold m piece pieces)) (front_of_line m (fold.outcome m piece) (λ x. text_from fold x pieces) before now f)
 
 -- whatever follows it
-pub last_told : {M V : Type 0} (story : Story M V) (m : M) (piece : Piece) (result : Result V Fault) (before now : Option (List ℕ)) → IsLastRun (story.outcome m piece) before now result → (pieces : List Piece)
-    → IsWritten (text_from story m (piece ∷ pieces)) before now result
-last_told story m piece (Ok v) before now did pieces = line_last story m piece v before now did pieces
-last_told story m piece (Err e) before now did pieces = line_broken story m piece e before now did pieces
+pub last_told : {M V : Type 0} (fold : Fold M V) (m : M) (piece : Piece) (result : Result V Fault) (before now : Option (List ℕ)) → IsLastRun (fold.outcome m piece) before now result → (pieces : List Piece)
+    → IsWritten (text_from fold m (piece ∷ pieces)) before now result
+last_told fold m piece (Ok v) before now did pieces = line_last fold m piece v before now did pieces
+last_told fold m piece (Err e) before now did pieces = line_broken fold m piece e before now did pieces
 
 -- the end
 pub end_told : {M V : Type 0} (e : Ending M V) (n : M) (before now : Option (List ℕ)) (result : Result V Fault) → IsEndRun e n before now result → IsWritten (finished_run e) before now result

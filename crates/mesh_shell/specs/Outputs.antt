@@ -6,13 +6,13 @@ use Rattle.std.specs.Io.KnownBytes.{Appends, Consumes}
 use Rattle.mesh_io.specs.Puts.{AppendsPrefix}
 use Rattle.mesh_io.specs.Cutting.{HasNoLf}
 use Rattle.mesh_io.specs.declared.limits.Limits.{Limits}
-use Rattle.mesh_shell.specs.Story.{Outcome, On, Ended, Ending, Story, RunText, whole, text_on}
+use Rattle.mesh_shell.specs.Fold.{Outcome, On, Ended, Ending, Fold, RunText, whole, text_on}
 use Rattle.mesh_shell.specs.declared.fault.Fault.{Fault}
 use Rattle.mesh_shell.specs.declared.fault.Fault.TheVariants.{ReadFault, WriteFault, NoMemory}
 
 -- ---- one line
 
--- it was done and its text written, and the run goes on from the next moment
+-- it was done and its text written, and the run goes on from the next state
 pub record IsLineDone {M V : Type 0} (k : Outcome M V) (n : M) (before now : Option (List ℕ))
     : Type 0 where
   pub text : List ℕ
@@ -47,7 +47,7 @@ IsLastRun k before now (Err e) = AppendsPrefix before now (text_in k)
 
 -- ---- the head
 
--- it is written, and the moment is the same
+-- it is written, and the state is the same
 pub record IsHeadWritten {M : Type 0} (text : List ℕ) (m n : M) (before now : Option (List ℕ))
     : Type 0 where
   pub same : n ≡ m
@@ -60,7 +60,7 @@ IsHeadRun text m n before now (Err e) = AppendsPrefix before now text
 
 -- ---- the end
 
--- the last text is written, and the moment is the one after it
+-- the last text is written, and the state is the one after it
 abbrev pub IsEndRun : {M V : Type 0} → Ending M V → M → Option (List ℕ) → Option (List ℕ)
     → Result V Fault → Type 0
 IsEndRun e n before now (Ok v) = (v ≡ e.verdict) × (n ≡ e.after) × Appends before now e.text
@@ -99,8 +99,8 @@ IsOutputOf text bytes left before now (Err WriteFault) =
 IsOutputOf text bytes left before now (Err NoMemory) =
     AppendsPrefix before now (whole (text bytes))
 
--- the same of a script's run from a moment on
-abbrev pub IsOutputFrom : {M V : Type 0} → Story M V → Limits → M → List ℕ → Option (List ℕ)
+-- the same of a script's run from a state on
+abbrev pub IsOutputFrom : {M V : Type 0} → Fold M V → Limits → M → List ℕ → Option (List ℕ)
     → Option (List ℕ) → Option (List ℕ) → Result V Fault → Type 0
-IsOutputFrom story most m bytes left before now result =
-    IsOutputOf (text_on story most m) bytes left before now result
+IsOutputFrom fold most m bytes left before now result =
+    IsOutputOf (text_on fold most m) bytes left before now result

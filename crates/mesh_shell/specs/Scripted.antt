@@ -4,7 +4,7 @@ use Rattle.std.specs.Io.KnownBytes.{Appends, Keeps}
 use Rattle.mesh_io.specs.Buffering.{inner_of, held_by}
 use Rattle.mesh_io.specs.declared.sink.Sink as sinks
 use Rattle.mesh_shell.specs.Pieces.{Piece}
-use Rattle.mesh_shell.specs.Story.{lines_before, text_from}
+use Rattle.mesh_shell.specs.Fold.{lines_before, text_from}
 use Rattle.mesh_shell.specs.Scripts.{size_of_pieces}
 use Rattle.mesh_shell.specs.Outputs.{IsLastRun, IsEndRun}
 use Rattle.mesh_shell.specs.Causes.{HasFaultCause}
@@ -30,8 +30,8 @@ pub record HasLed {S V O : Type 0} (script : scripts.Ghosts S V) (sink : sinks.G
     (old : Scripted S O) (lines : List Piece) (new : Scripted S O) : Type 0 where
   pub same : AreSame old new
   pub text : List ℕ
-  pub goes : (others : List Piece) → text_from script.story old.script.now (lines ++ others)
-      ≡ lines_before text (text_from script.story new.script.now others)
+  pub goes : (others : List Piece) → text_from script.fold old.script.now (lines ++ others)
+      ≡ lines_before text (text_from script.fold new.script.now others)
   pub grown : Appends (told_by sink old) (told_by sink new) text
   pub leads : script.leads old.script.now (size_of_pieces lines) new.script.now
   pub write : faults_by sink new ≡ faults_by sink old
@@ -41,7 +41,7 @@ pub record HasStopped {S V O : Type 0} (script : scripts.Ghosts S V) (sink : sin
     (old : Scripted S O) (piece : Piece) (new : Scripted S O) (answer : Result V Fault)
     : Type 0 where
   pub same : AreSame old new
-  pub told : IsLastRun (script.story.outcome old.script.now piece) (told_by sink old)
+  pub told : IsLastRun (script.fold.outcome old.script.now piece) (told_by sink old)
       (told_by sink new) answer
   pub early : IfOk answer (λ v. ¬ (script.is_final v))
   pub write : HasFaultCause WriteFault (faults_by sink old) (faults_by sink new) answer
@@ -51,7 +51,7 @@ pub record HasStopped {S V O : Type 0} (script : scripts.Ghosts S V) (sink : sin
 pub record HasFinished {S V O : Type 0} (script : scripts.Ghosts S V) (sink : sinks.Ghosts O)
     (old new : Scripted S O) (answer : Result V Fault) : Type 0 where
   pub same : AreSame old new
-  pub told : IsEndRun (script.story.ending old.script.now) new.script.now (told_by sink old)
+  pub told : IsEndRun (script.fold.ending old.script.now) new.script.now (told_by sink old)
       (told_by sink new) answer
   pub leads : OnOk answer (script.leads old.script.now 0 new.script.now)
   pub sound : OnOk answer (script.is_sound new.script.now)

@@ -3,7 +3,7 @@ use Rattle.std.proofs.Common.{◌≡◌, ◌≤◌, ◌+◌, ◌-◌, ℕ, List,
 use Rattle.mesh_io.specs.declared.sink.Sink as sinks
 use Rattle.mesh_io.proofs.Writing.{Appends-none, Appends-join}
 use Rattle.mesh_shell.specs.Pieces.{Piece}
-use Rattle.mesh_shell.specs.Story.{RunText, lines_before, text_from}
+use Rattle.mesh_shell.specs.Fold.{RunText, lines_before, text_from}
 use Rattle.mesh_shell.specs.Scripts.{size_of_pieces}
 use Rattle.mesh_shell.specs.Scripted.{told_by, AreSame, HasLed}
 use Rattle.mesh_shell.specs.declared.script.Script as scripts
@@ -54,10 +54,10 @@ joins_both script sink joins a b c lines others p q = record {
   same = same_both a b c p.same q.same;
   text = p.text ++ q.text;
   goes = λ more.
-      ap (text_from script.story a.script.now) (append_assoc lines others more)
+      ap (text_from script.fold a.script.now) (append_assoc lines others more)
       ∙ p.goes (others ++ more)
       ∙ ap (lines_before p.text) (q.goes more)
-      ∙ before_both p.text q.text (text_from script.story c.script.now more);
+      ∙ before_both p.text q.text (text_from script.fold c.script.now more);
   grown = Appends-join (told_by sink a) (told_by sink b) (told_by sink c) p.text q.text
       (p.text ++ q.text) refl p.grown q.grown;
   leads = subst (λ n. script.leads a.script.now n c.script.now)

@@ -3,7 +3,7 @@ ghost use Rattle.std.specs.Prelude.{◌≡◌, ◌≤◌, ◌<◌, ◌+◌, ◌^
 ghost use Rattle.std.specs.Io.KnownBytes.{IsAtEnd};
 ghost use Rattle.mesh_io.specs.Buffering.{inner_of, gathered_in, held_by};
 ghost use Rattle.mesh_io.specs.Cutting.{HasRoom};
-ghost use Rattle.mesh_shell.specs.Story.{text_on};
+ghost use Rattle.mesh_shell.specs.Fold.{text_on};
 ghost use Rattle.mesh_shell.specs.Outputs.{IsOutputFrom};
 ghost use Rattle.mesh_shell.specs.Causes.{HasFaultCause, HasSourceCause};
 
@@ -11,7 +11,7 @@ use crate::fault::Fault;
 use crate::reader::LineReader;
 use crate::script::Script;
 use crate::scripted::do_lines;
-use mesh_io::{BufferRoom, Buffered, Cutter, Limits, Loan, Sink, Source, Through};
+use mesh_io::{Buffered, Cutter, Limits, Loan, ReservedBuffer, Sink, Source, Through};
 use std::alloc::Global;
 use std::marker::Brand;
 
@@ -27,10 +27,10 @@ fn do_gathered<S: Script, R: LineReader, O: Sink>(
     requires given { R.given lines.old ≡ 0 }
     ensures same { R.name lines.new ≡ R.name lines.old }
     ensures told { IfSome (R.left lines.old) (λ bytes.
-        IsOutputFrom S.story (R.limits lines.old) script.old bytes (R.left lines.new)
+        IsOutputFrom S.fold (R.limits lines.old) script.old bytes (R.left lines.new)
         (held_by O.held buffer.old) (held_by O.held buffer.new) result) }
     ensures after { IfOk result (λ v. S.is_final v → IfSome (R.left lines.old)
-        (λ bytes. script.new ≡ (text_on S.story (R.limits lines.old) script.old bytes).after)) }
+        (λ bytes. script.new ≡ (text_on S.fold (R.limits lines.old) script.old bytes).after)) }
     ensures leads { IfOk result (λ v. S.is_final v
         → S.leads script.old (R.limits lines.old).input script.new) }
     ensures sound { IfOk result (λ v. S.is_final v → S.is_sound script.new) }
@@ -52,7 +52,7 @@ fn do_gathered<S: Script, R: LineReader, O: Sink>(
 
 // Does lines through a buffer before the sink, which comes back.
 fn do_through<'s, S: Script, R: LineReader, O: Sink, L: Loan>(
-    room: BufferRoom,
+    room: ReservedBuffer,
     script: &mut S,
     lines: &mut R,
     out: &'s mut O,
@@ -67,10 +67,10 @@ fn do_through<'s, S: Script, R: LineReader, O: Sink, L: Loan>(
     ensures sink { result.ghost_name ≡ out.entry.ghost_name }
     ensures same { R.name lines.new ≡ R.name lines.old }
     ensures told { IfSome (R.left lines.old) (λ bytes.
-        IsOutputFrom S.story (R.limits lines.old) script.old bytes (R.left lines.new)
+        IsOutputFrom S.fold (R.limits lines.old) script.old bytes (R.left lines.new)
         (O.held out.entry.now) (O.held result.now) answer.new) }
     ensures after { IfOk answer.new (λ v. S.is_final v → IfSome (R.left lines.old)
-        (λ bytes. script.new ≡ (text_on S.story (R.limits lines.old) script.old bytes).after)) }
+        (λ bytes. script.new ≡ (text_on S.fold (R.limits lines.old) script.old bytes).after)) }
     ensures leads { IfOk answer.new (λ v. S.is_final v
         → S.leads script.old (R.limits lines.old).input script.new) }
     ensures sound { IfOk answer.new (λ v. S.is_final v → S.is_sound script.new) }
@@ -97,10 +97,10 @@ fn do_buffered<S: Script, R: LineReader, O: Sink>(
     requires given { R.given lines.old ≡ 0 }
     ensures same { R.name lines.new ≡ R.name lines.old }
     ensures told { IfSome (R.left lines.old) (λ bytes.
-        IsOutputFrom S.story (R.limits lines.old) script.old bytes (R.left lines.new)
+        IsOutputFrom S.fold (R.limits lines.old) script.old bytes (R.left lines.new)
         (O.held out.old) (O.held out.new) result) }
     ensures after { IfOk result (λ v. S.is_final v → IfSome (R.left lines.old)
-        (λ bytes. script.new ≡ (text_on S.story (R.limits lines.old) script.old bytes).after)) }
+        (λ bytes. script.new ≡ (text_on S.fold (R.limits lines.old) script.old bytes).after)) }
     ensures leads { IfOk result (λ v. S.is_final v
         → S.leads script.old (R.limits lines.old).input script.new) }
     ensures sound { IfOk result (λ v. S.is_final v → S.is_sound script.new) }
@@ -108,7 +108,7 @@ fn do_buffered<S: Script, R: LineReader, O: Sink>(
     ensures read { HasSourceCause (R.faults lines.old) (R.faults lines.new) result }
     ensures write { HasFaultCause Fault.WriteFault (O.faults out.old) (O.faults out.new) result }
 {
-    let Ok(room) = BufferRoom::new(alloc) else {
+    let Ok(room) = ReservedBuffer::new(alloc) else {
         return Err(Fault::NoMemory);
     };
     let mut answer = Err(Fault::NoMemory);
@@ -119,20 +119,20 @@ fn do_buffered<S: Script, R: LineReader, O: Sink>(
 
 /// Runs a script over the lines of a source, up to its end or the first line that ends the run, and
 /// writes its text to the sink. A line has at most `most.line` bytes, and the input `most.input`;
-/// `ROOM` is what the longest line and one read need.
+/// `CAPACITY` is what the longest line and one read need.
 ///
 /// What is written is gathered in a buffer of 65536 bytes, whose memory is taken first. It is
 /// handed on when it is full, before each read of the source, and at the end, unless a write has
 /// failed.
-pub fn run<S: Script, I: Source, O: Sink, const ROOM: usize>(
+pub fn run<S: Script, I: Source, O: Sink, const CAPACITY: usize>(
     alloc: Global,
     script: &mut S,
     most: Limits,
     input: &mut I,
     out: &mut O,
 ) -> Result<S::Verdict, Fault>
-    requires fits { HasRoom most ROOM }
-    requires small { ROOM < 2 ^ 32 }
+    requires fits { HasRoom most CAPACITY }
+    requires small { CAPACITY < 2 ^ 32 }
     requires short { most.line ≤ S.longest }
     requires room { S.has_room script.old (most.input + 1) }
 
@@ -140,14 +140,14 @@ pub fn run<S: Script, I: Source, O: Sink, const ROOM: usize>(
     // or want of memory, it is a prefix of that text; after a failed read it is the text of the
     // lines that were read whole.
     ensures told { IfSome (I.left input.old) (λ bytes.
-        IsOutputFrom S.story most script.old bytes (I.left input.new)
+        IsOutputFrom S.fold most script.old bytes (I.left input.new)
         (O.held out.old) (O.held out.new) result) }
 
     // The verdict of the end is answered only where the input was read to its end, and the script
-    // is then at the moment to which the input leads.
+    // is then in the state to which the input leads.
     ensures end { IfOk result (λ v. S.is_final v → IsAtEnd (I.left input.new)) }
     ensures after { IfOk result (λ v. S.is_final v → IfSome (I.left input.old)
-        (λ bytes. script.new ≡ (text_on S.story most script.old bytes).after)) }
+        (λ bytes. script.new ≡ (text_on S.fold most script.old bytes).after)) }
     ensures leads { IfOk result (λ v. S.is_final v → S.leads script.old most.input script.new) }
     ensures sound { IfOk result (λ v. S.is_final v → S.is_sound script.new) }
 
@@ -156,7 +156,7 @@ pub fn run<S: Script, I: Source, O: Sink, const ROOM: usize>(
     ensures read { HasSourceCause (I.faults input.old) (I.faults input.new) result }
     ensures write { HasFaultCause Fault.WriteFault (O.faults out.old) (O.faults out.new) result }
 {
-    let mut lines: Cutter<'_, I, ROOM> = Cutter::new(input, most);
+    let mut lines: Cutter<'_, I, CAPACITY> = Cutter::new(input, most);
     let result = do_buffered(alloc, script, &mut lines, out);
     // It says that `input` is the source as the lines have left it.
     let _input = lines.give_back();

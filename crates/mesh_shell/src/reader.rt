@@ -62,7 +62,7 @@ pub trait LineReader {
         ensures cause { HasReadCause (faults self.old) (faults self.new) result };
 }
 
-impl<'s, S: Source, const ROOM: usize> LineReader for Cutter<'s, S, ROOM> {
+impl<'s, S: Source, const CAPACITY: usize> LineReader for Cutter<'s, S, CAPACITY> {
     ghost use Rattle.mesh_io.specs.Cutting.{source_in, limits_in, faults_in, pending_in, line_in, given_in, has_ended_in};
 
     ghost name = { λ c. (source_in c).ghost_name };

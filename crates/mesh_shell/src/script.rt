@@ -1,7 +1,7 @@
 //! What is done with the lines of an input.
 ghost use Rattle.std.specs.Prelude.{◌≡◌, ◌+◌, ◌≤◌, ℕ, List, Option, length, IfOk, OnOk, IsErrOf};
 ghost use Rattle.mesh_shell.specs.Pieces.{Whole};
-ghost use Rattle.mesh_shell.specs.Story.{Story};
+ghost use Rattle.mesh_shell.specs.Fold.{Fold};
 ghost use Rattle.mesh_shell.specs.Outputs.{IsHeadRun, IsLineRun, IsLastRun, IsEndRun};
 ghost use Rattle.mesh_shell.specs.Causes.{HasFaultCause};
 ghost use Rattle.mesh_shell.specs.Scripts.{GoesOn, EndsEarly, size_of_line, piece_past};
@@ -16,18 +16,18 @@ pub trait Script {
     type Verdict: Copy;
 
     /// What is written first, and what each line comes to, and the end.
-    ghost story: { Story Self Self.Verdict };
+    ghost fold: { Fold Self Self.Verdict };
 
-    /// Lines of so many bytes, each LF among them, can lead from the one moment to the other.
+    /// Lines of so many bytes, each LF among them, can lead from the one run state to the other.
     ghost leads: { Self → ℕ → Self → Type 0 };
 
-    /// Lines of so many bytes can be done from this moment on.
+    /// Lines of so many bytes can be done from this state on.
     ghost has_room: { Self → ℕ → Type 0 };
 
     /// How many bytes the longest line has that it does.
     ghost longest: { ℕ };
 
-    /// What holds of the moment to which an input has led that was done to its end.
+    /// What holds of the state to which an input has led that was done to its end.
     ghost is_sound: { Self → Type 0 };
 
     /// The verdict is one that only the end of the input brings.
@@ -35,7 +35,7 @@ pub trait Script {
 
     /// Writes what stands before the text of the first line.
     fn begin<O: Sink>(&mut self, out: &mut O) -> Result<(), Fault>
-        ensures comes { IsHeadRun (story.head self.old) self.old self.new
+        ensures comes { IsHeadRun (fold.head self.old) self.old self.new
             (O.held out.old) (O.held out.new) result }
         ensures cause { HasFaultCause Fault.WriteFault
             (O.faults out.old) (O.faults out.new) result }
@@ -45,7 +45,7 @@ pub trait Script {
     fn line<O: Sink>(&mut self, line: &[u8], out: &mut O) -> Result<Option<Self::Verdict>, Fault>
         requires short { length line.now ≤ longest }
         requires room { has_room self.old (size_of_line line.now) }
-        ensures comes { IsLineRun (story.outcome self.old (Whole line.now)) self.new
+        ensures comes { IsLineRun (fold.outcome self.old (Whole line.now)) self.new
             (O.held out.old) (O.held out.new) result }
         ensures early { EndsEarly is_final result }
         ensures leads { GoesOn result (leads self.old (size_of_line line.now) self.new) }
@@ -56,7 +56,7 @@ pub trait Script {
     /// Ends the run at a line that goes past a limit, and writes the last text.
     fn past<O: Sink>(&mut self, limit: Limit, out: &mut O) -> Result<Self::Verdict, Fault>
         requires room { has_room self.old 1 }
-        ensures comes { IsLastRun (story.outcome self.old (piece_past limit))
+        ensures comes { IsLastRun (fold.outcome self.old (piece_past limit))
             (O.held out.old) (O.held out.new) result }
         ensures early { IfOk result (λ v. ¬ (is_final v)) }
         ensures cause { HasFaultCause Fault.WriteFault
@@ -65,7 +65,7 @@ pub trait Script {
 
     /// Ends the run where the input ends, and writes the last text.
     fn end<O: Sink>(&mut self, out: &mut O) -> Result<Self::Verdict, Fault>
-        ensures comes { IsEndRun (story.ending self.old) self.new
+        ensures comes { IsEndRun (fold.ending self.old) self.new
             (O.held out.old) (O.held out.new) result }
         ensures leads { OnOk result (leads self.old 0 self.new) }
         ensures sound { OnOk result (is_sound self.new) }

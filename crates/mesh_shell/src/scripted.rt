@@ -2,7 +2,7 @@
 ghost use Rattle.std.specs.Prelude.{◌≡◌, ◌≤◌, ◌+◌, [], IfSome, IfOk};
 ghost use Rattle.std.specs.Io.KnownBytes.{IsAtEnd};
 ghost use Rattle.mesh_io.specs.Buffering.{inner_of, held_by};
-ghost use Rattle.mesh_shell.specs.Story.{text_on};
+ghost use Rattle.mesh_shell.specs.Fold.{text_on};
 ghost use Rattle.mesh_shell.specs.Outputs.{IsOutputFrom};
 ghost use Rattle.mesh_shell.specs.Causes.{HasFaultCause};
 
@@ -93,12 +93,12 @@ impl<S: Script, O: Sink> Scripted<'_, S, O> {
         ensures out { self.new.out.ghost_name ≡ self.old.out.ghost_name }
         ensures same { R.name lines.new ≡ R.name lines.old }
         ensures told { IfSome (R.left lines.old) (λ bytes.
-            IsOutputFrom S.story (R.limits lines.old) self.old.script.now bytes
+            IsOutputFrom S.fold (R.limits lines.old) self.old.script.now bytes
             (R.left lines.new)
             (held_by O.held self.old.out.now) (held_by O.held self.new.out.now) result) }
         ensures after { IfOk result (λ v. S.is_final v → IfSome (R.left lines.old)
             (λ bytes. self.new.script.now
-            ≡ (text_on S.story (R.limits lines.old) self.old.script.now bytes).after)) }
+            ≡ (text_on S.fold (R.limits lines.old) self.old.script.now bytes).after)) }
         ensures leads { IfOk result (λ v. S.is_final v
             → S.leads self.old.script.now (R.limits lines.old).input self.new.script.now) }
         ensures sound { IfOk result (λ v. S.is_final v → S.is_sound self.new.script.now) }
@@ -129,11 +129,11 @@ pub fn do_lines<S: Script, R: LineReader, O: Sink>(
     requires given { R.given lines.old ≡ 0 }
     ensures same { R.name lines.new ≡ R.name lines.old }
     ensures told { IfSome (R.left lines.old) (λ bytes.
-        IsOutputFrom S.story (R.limits lines.old) script.old bytes
+        IsOutputFrom S.fold (R.limits lines.old) script.old bytes
         (R.left lines.new)
         (held_by O.held out.old) (held_by O.held out.new) result) }
     ensures after { IfOk result (λ v. S.is_final v → IfSome (R.left lines.old)
-        (λ bytes. script.new ≡ (text_on S.story (R.limits lines.old) script.old bytes).after)) }
+        (λ bytes. script.new ≡ (text_on S.fold (R.limits lines.old) script.old bytes).after)) }
     ensures leads { IfOk result (λ v. S.is_final v
         → S.leads script.old (R.limits lines.old).input script.new) }
     ensures sound { IfOk result (λ v. S.is_final v → S.is_sound script.new) }

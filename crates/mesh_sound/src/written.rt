@@ -4,7 +4,7 @@ ghost use Rattle.mesh_base.specs.Meshes.{Nodes};
 ghost use Rattle.aodv_model.specs.Soundness.{IsMessageInMesh};
 ghost use Rattle.aodv_wire.specs.declared.message.Message.TheVariants as messages;
 ghost use Rattle.aodv_wire.specs.RouteError.{IsRising, AreDestinations};
-ghost use Rattle.aodv_wire.specs.Spells.{spelling};
+ghost use Rattle.aodv_wire.specs.Encodes.{encoding};
 ghost use Rattle.aodv_meaning.specs.Meaning.{in_mesh, stranger, strange_pair, unless_in};
 ghost use Rattle.aodv_meaning.specs.Sent.{IsWritable};
 ghost use Rattle.mesh_meaning.specs.Packets.{IsWritten};
@@ -76,7 +76,7 @@ fn is_writable(m: &Message<'_>) -> bool
 // Writes the route error again.
 fn write_error(m: &RerrView<'_>, out: &mut Packet)
     requires { AreDestinations m.now }
-    ensures { out.new.items ≡ spelling (messages.Rerr m.now) }
+    ensures { out.new.items ≡ encoding (messages.Rerr m.now) }
 {
     let mut pairs: ArrayVec<(Addr, u32), MOST_NODES> = ArrayVec::new();
     for k in 0..m.len() {
@@ -89,7 +89,7 @@ fn write_error(m: &RerrView<'_>, out: &mut Packet)
 fn write_again(m: &Message<'_>, out: &mut Packet)
     requires writable { IsWritable m.now }
     requires says { (mesh : Nodes) × IsMessageInMesh (length mesh) (in_mesh mesh m.now) }
-    ensures { out.new.items ≡ spelling m.now }
+    ensures { out.new.items ≡ encoding m.now }
 {
     match m {
         Message::Rreq(m) => write_rreq(m, out),

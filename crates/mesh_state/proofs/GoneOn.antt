@@ -1,7 +1,7 @@
 -- A run that goes on from a saved checkpoint is that of the whole schedule.
 use Rattle.std.proofs.Common.{◌≡◌, ◌≢◌, ◌∙◌, ℕ, List, ◌++◌, Option, Some, None, sym, ap, subst, inl, inr}
 use Rattle.mesh_base.specs.declared.events.Variant.TheVariants.{Base}
-use Rattle.mesh_text.specs.Schedule.{Moment}
+use Rattle.mesh_text.specs.Schedule.{RunState}
 use Rattle.mesh_text.specs.Text.{RunText, lines_before, text_on, text_of_input}
 use Rattle.mesh_run.specs.declared.say.Say.TheVariants.{All}
 use Rattle.mesh_run.specs.declared.status.Status.{Status}
@@ -10,7 +10,7 @@ use Rattle.mesh_run.specs.Outputs.{IsOutputOf, IsOutputFrom}
 use Rattle.mesh_checkpoint.specs.Points.{IsState}
 use Rattle.mesh_load.specs.declared.error.StateError.{StateError}
 use Rattle.mesh_load.specs.Loading.{IsRefused, RunIsUnrefused}
-use Rattle.mesh_load.specs.Moments.{IsPlainMoment, OneStart}
+use Rattle.mesh_load.specs.RunStates.{IsPlainRunState, OneStart}
 use Rattle.mesh_load.proofs.PlainRuns.{run_is_plain}
 use Rattle.mesh_state.specs.declared.words.Asked.{Asked}
 use Rattle.mesh_state.specs.declared.words.Asked.TheVariants.{Save, Go}
@@ -23,10 +23,10 @@ use Rattle.mesh_state.specs.Answers.{IsBadState, IsRunOn, RanUnlessCut, IsRunGon
 use Rattle.mesh_state.proofs.Checkpoints.{checkpoint_is_front}
 use Rattle.mesh_state.proofs.WholeLines.{saved_run_goes_on}
 
--- the moment of the checkpoint that was saved
-start_is : OneStart → (first second saved : List ℕ) (start : Moment) → IsSavedOf first saved → IsPlainMoment start → IsState (front_of (saved ++ second)) start → start ≡ (text_of_input Base first).after
+-- the state of the checkpoint that was saved
+start_is : OneStart → (first second saved : List ℕ) (start : RunState) → IsSavedOf first saved → IsPlainRunState start → IsState (front_of (saved ++ second)) start → start ≡ (text_of_input Base first).after
 start_is one first second saved start is plain state =
-    let m : Moment = (text_of_input Base first).after in
+    let m : RunState = (text_of_input Base first).after in
     let front : front_of (saved ++ second) ≡ saved = (checkpoint_is_front m saved second is.state).0 in
     one saved start m plain (run_is_plain Base first) (subst (λ b. IsState b start) front state) is.state
 
@@ -46,7 +46,7 @@ loaded_run_goes_on one first second saved start is few plain state =
 
 gone_on : OneStart → (first second saved : List ℕ) (left a b : Option (List ℕ)) (s : Status) → IsSavedOf first saved → IsRunOn (saved ++ second) left a b s → IsGoneOn first second left a b s
 gone_on one first second saved left a b s is t =
-    let m : Moment = (text_of_input Base first).after in
+    let m : RunState = (text_of_input Base first).after in
     let from : IsOutputFrom All m (rest_of (saved ++ second)) left a b s = subst (λ x. IsOutputFrom All x (rest_of (saved ++ second)) left a b s) (start_is one first second saved t.start is t.plain t.state) t.told in
     (text_on m, text_below first saved is, subst (λ l. IsOutputFrom All m l left a b s) (rest_is first second saved is) from)
 

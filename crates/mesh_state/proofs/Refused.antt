@@ -7,7 +7,7 @@ use Rattle.mesh_checkpoint.specs.State.{magic, stated_size, HasLength}
 use Rattle.mesh_load.specs.declared.error.StateError.{StateError}
 use Rattle.mesh_load.specs.declared.error.StateError.TheVariants as errors
 use Rattle.mesh_load.specs.Loading.{IsRefused}
-use Rattle.mesh_text.specs.Schedule.{Moment}
+use Rattle.mesh_text.specs.Schedule.{RunState}
 use Rattle.mesh_state.specs.Fronts.{front_size, front_of, rest_of, IsOtherHead, IsTaken}
 use Rattle.mesh_state.proofs.Fronts.{size_whole, stated_in}
 use Rattle.mesh_state.proofs.Checkpoints.{other_head}
@@ -47,7 +47,7 @@ refused bytes taken left why (inr head) bad =
     head_refused taken (front_of bytes) head.other (same_first bytes taken head.head whole) (same_stated bytes taken head.head whole) why bad
 
 -- a checkpoint that was read is the front, and the rest is left
-pub restored : (bytes taken : List ℕ) (left : Option (List ℕ)) (m : Moment) → IsTaken bytes taken left → IsState taken m
+pub restored : (bytes taken : List ℕ) (left : Option (List ℕ)) (m : RunState) → IsTaken bytes taken left → IsState taken m
     → (IsState (front_of bytes) m) × (left ≡ Some (rest_of bytes)) × (taken ≡ front_of bytes)
 restored bytes taken left m (inl front) is = (subst (λ b. IsState b m) front.front is, front.rest, front.front)
 restored bytes taken left m (inr head) is = absurd (other_head taken (body_of m) head.other is)

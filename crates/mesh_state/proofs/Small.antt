@@ -3,7 +3,7 @@ use Rattle.std.proofs.Common.{◌≡◌, ◌≤◌, ◌+◌, ◌*◌, subst, ref
 use Rattle.mesh_base.specs.declared.events.Variant.TheVariants.{Base}
 use Rattle.mesh_base.specs.declared.limits.TheConstants.{LONGEST_INPUT, MOST_EVENTS}
 use Rattle.mesh_model.specs.Worlds.{start}
-use Rattle.mesh_text.specs.Schedule.{Moment, opening, world_of}
+use Rattle.mesh_text.specs.Schedule.{RunState, opening, world_of}
 use Rattle.mesh_run.specs.Sums.{IsGrown}
 use Rattle.mesh_state.specs.Small.{IsSmall}
 
@@ -11,7 +11,7 @@ first_copy : (world_of (opening Base)).next_copy ≡ 1
 unfolding start
 first_copy = refl
 
-pub small_end : (first at : Moment) → first ≡ opening Base → IsGrown first at → at.lines ≤ first.lines + LONGEST_INPUT → 4 * at.steps ≤ 4 * first.steps + MOST_EVENTS * LONGEST_INPUT → IsSmall at
+pub small_end : (first at : RunState) → first ≡ opening Base → IsGrown first at → at.lines ≤ first.lines + LONGEST_INPUT → 4 * at.steps ≤ 4 * first.steps + MOST_EVENTS * LONGEST_INPUT → IsSmall at
 small_end first at e grown lines steps =
     let g : IsGrown (opening Base) at = subst (λ m. IsGrown m at) e grown in
     let l : at.lines ≤ 0 + LONGEST_INPUT = subst (λ m. at.lines ≤ m.lines + LONGEST_INPUT) e lines in

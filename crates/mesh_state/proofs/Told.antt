@@ -3,7 +3,7 @@ use Rattle.std.proofs.Common.{◌≡◌, ◌≢◌, ◌∙◌, ◌⊎◌, ℕ, i
 use Rattle.std.specs.Io.KnownBytes.{Appends, Keeps}
 use Rattle.mesh_base.specs.declared.events.Variant.TheVariants.{Base}
 use Rattle.mesh_io.proofs.Writing.{Appends-join, AppendsPrefix-join, Keeps-same}
-use Rattle.mesh_text.specs.Schedule.{Moment, opening}
+use Rattle.mesh_text.specs.Schedule.{RunState, opening}
 use Rattle.mesh_text.specs.Text.{RunText, whole, text_on}
 use Rattle.mesh_text.specs.declared.verdict.Verdict.{Verdict}
 use Rattle.mesh_text.specs.declared.verdict.Verdict.TheVariants.{Finished}
@@ -17,7 +17,7 @@ use Rattle.mesh_save.specs.Saved.{IsWritten, IsCut}
 use Rattle.mesh_load.specs.declared.error.StateError.{StateError}
 use Rattle.mesh_load.specs.declared.error.StateError.TheVariants as errors
 use Rattle.mesh_load.specs.Loading.{IsRefused}
-use Rattle.mesh_load.specs.Moments.{IsPlainMoment}
+use Rattle.mesh_load.specs.RunStates.{IsPlainRunState}
 use Rattle.mesh_state.specs.declared.words.Asked.TheVariants.{Save, Go}
 use Rattle.mesh_state.specs.declared.status.StateStatus.{StateStatus}
 use Rattle.mesh_state.specs.declared.status.StateStatus.TheVariants.{Run, TooBig}
@@ -28,7 +28,7 @@ use Rattle.mesh_state.proofs.Refused.{refused, restored}
 -- ---- with `save`
 
 -- of a run from the opening on that tells its faults alone
-told_of : (say : Say) (start : Moment) (bytes : List ℕ) (after a b : Option (List ℕ)) (s : Status) → say ≡ Faults → start ≡ opening Base → IsOutputFrom say start bytes after a b s → IsOutputFrom Faults (opening Base) bytes after a b s
+told_of : (say : Say) (start : RunState) (bytes : List ℕ) (after a b : Option (List ℕ)) (s : Status) → say ≡ Faults → start ≡ opening Base → IsOutputFrom say start bytes after a b s → IsOutputFrom Faults (opening Base) bytes after a b s
 told_of say start bytes after a b s l e t = subst (λ x. IsOutputFrom Faults x bytes after a b s) e (subst (λ x. IsOutputFrom x start bytes after a b s) l t)
 
 -- a run that isn't done
@@ -41,7 +41,7 @@ stopped bytes after a b status.WriteFault other t = inl t
 stopped bytes after a b status.NoMemory other t = t
 stopped bytes after a b status.Usage other t = t
 
-pub stopped_told : (say : Say) (start : Moment) (left after a b : Option (List ℕ)) (s : Status) → say ≡ Faults → start ≡ opening Base → s ≢ status.Done → IfSome left (λ bytes. IsOutputFrom say start bytes after a b s)
+pub stopped_told : (say : Say) (start : RunState) (left after a b : Option (List ℕ)) (s : Status) → say ≡ Faults → start ≡ opening Base → s ≢ status.Done → IfSome left (λ bytes. IsOutputFrom say start bytes after a b s)
     → HasAnswered (Some Save) left after a b (Run s)
 stopped_told say start None after a b s l e other t = tt
 stopped_told say start (Some bytes) after a b s l e other t = stopped bytes after a b s other (told_of say start bytes after a b s l e t)
@@ -55,13 +55,13 @@ keeps_of None b t = tt
 keeps_of (Some xs) None t = t
 keeps_of (Some xs) (Some ys) t = t ∙ append-nil xs
 
--- the run came to this moment, and no line was told
-record CameTo (bytes : List ℕ) (at : Moment) (a b : Option (List ℕ)) : Type 0 where
+-- the run came to this state, and no line was told
+record CameTo (bytes : List ℕ) (at : RunState) (a b : Option (List ℕ)) : Type 0 where
   finished : (text_on (opening Base) bytes).verdict ≡ Finished
   after : at ≡ (text_on (opening Base) bytes).after
   nothing : Appends a b []
 
-came_to : (say : Say) (start at : Moment) (bytes : List ℕ) (after a b : Option (List ℕ)) (s : Status) → say ≡ Faults → start ≡ opening Base → s ≡ status.Done
+came_to : (say : Say) (start at : RunState) (bytes : List ℕ) (after a b : Option (List ℕ)) (s : Status) → say ≡ Faults → start ≡ opening Base → s ≡ status.Done
     → IsOutputFrom say start bytes after a b s → at ≡ (text_on start bytes).after → CameTo bytes at a b
 came_to say start at bytes after a b s l e d told past =
     let so : IsOutputFrom Faults (opening Base) bytes after a b status.Done = subst (λ x. IsOutputFrom Faults (opening Base) bytes after a b x) d (told_of say start bytes after a b s l e told) in
@@ -72,21 +72,21 @@ came_to say start at bytes after a b s l e d told past =
     }
 
 -- the checkpoint was written after nothing
-written_after : (m n : Moment) (a b c : Option (List ℕ)) → m ≡ n → Appends a b [] → IsWritten m b c → IsWritten n a c
+written_after : (m n : RunState) (a b c : Option (List ℕ)) → m ≡ n → Appends a b [] → IsWritten m b c → IsWritten n a c
 written_after m n a b c e nothing w = record {
   bytes = w.bytes;
   state = subst (λ x. IsState w.bytes x) e w.state;
   grown = Appends-join a b c [] w.bytes w.bytes refl nothing w.grown;
 }
 
-cut_after : (m n : Moment) (a b c : Option (List ℕ)) → m ≡ n → Appends a b [] → IsCut m b c → IsCut n a c
+cut_after : (m n : RunState) (a b c : Option (List ℕ)) → m ≡ n → Appends a b [] → IsCut m b c → IsCut n a c
 cut_after m n a b c e nothing w = record {
   bytes = w.bytes;
   state = subst (λ x. IsState w.bytes x) e w.state;
   grown = AppendsPrefix-join a b c [] w.bytes w.bytes refl nothing w.grown;
 }
 
-saved : (bytes : List ℕ) (at : Moment) (after a b c : Option (List ℕ)) (r : StateStatus) → CameTo bytes at a b → (r ≡ Run status.Done → IsWritten at b c) → (r ≡ Run status.WriteFault → IsCut at b c)
+saved : (bytes : List ℕ) (at : RunState) (after a b c : Option (List ℕ)) (r : StateStatus) → CameTo bytes at a b → (r ≡ Run status.Done → IsWritten at b c) → (r ≡ Run status.WriteFault → IsCut at b c)
     → (r ≡ TooBig → IsTooLong at × (c ≡ b)) → (r ≡ Run status.Done) ⊎ ((r ≡ Run status.WriteFault) ⊎ (r ≡ TooBig)) → IsAnswered Save bytes after a c r
 saved bytes at after a b c r came done cut big (inl is) =
     let P : StateStatus → Type 0 = IsAnswered Save bytes after a c in
@@ -104,7 +104,7 @@ saved bytes at after a b c r came done cut big (inr (inr is)) =
     let so : IsTooBig (text_on (opening Base) bytes) a c = record { finished = came.finished; long = subst IsTooLong came.after long.0; kept = kept } in
     subst P (sym is) so
 
-pub saved_told : (say : Say) (start at : Moment) (left after a b c : Option (List ℕ)) (s : Status) (r : StateStatus) → say ≡ Faults → start ≡ opening Base → s ≡ status.Done
+pub saved_told : (say : Say) (start at : RunState) (left after a b c : Option (List ℕ)) (s : Status) (r : StateStatus) → say ≡ Faults → start ≡ opening Base → s ≡ status.Done
     → IfSome left (λ bytes. IsOutputFrom say start bytes after a b s) → IfSome left (λ bytes. at ≡ (text_on start bytes).after) → (r ≡ Run status.Done → IsWritten at b c)
     → (r ≡ Run status.WriteFault → IsCut at b c) → (r ≡ TooBig → IsTooLong at × (c ≡ b)) → (r ≡ Run status.Done) ⊎ ((r ≡ Run status.WriteFault) ⊎ (r ≡ TooBig)) → HasAnswered (Some Save) left after a c r
 saved_told say start at None after a b c s r l e d told past done cut big one = tt
@@ -121,9 +121,9 @@ gone bytes left a b status.WriteFault other t = t
 gone bytes left a b status.NoMemory other t = inr t
 gone bytes left a b status.Usage other t = absurd (other refl)
 
--- the rest was run from the front's moment
-gone_from : (left0 left1 left2 a b : Option (List ℕ)) (taken : List ℕ) (start : Moment) (s : Status) → s ≢ status.Usage → IfSome left0 (λ bytes. IsTaken bytes taken left1)
-    → IsState taken start → IsPlainMoment start → IsUnrefused taken → IfSome left1 (λ bytes. IsOutputFrom All start bytes left2 a b s) → HasAnswered (Some Go) left0 left2 a b (Run s)
+-- the rest was run from the front's state
+gone_from : (left0 left1 left2 a b : Option (List ℕ)) (taken : List ℕ) (start : RunState) (s : Status) → s ≢ status.Usage → IfSome left0 (λ bytes. IsTaken bytes taken left1)
+    → IsState taken start → IsPlainRunState start → IsUnrefused taken → IfSome left1 (λ bytes. IsOutputFrom All start bytes left2 a b s) → HasAnswered (Some Go) left0 left2 a b (Run s)
 gone_from None left1 left2 a b taken start s other read is plain free told = tt
 gone_from (Some bytes) left1 left2 a b taken start s other read is plain free told =
     let r = restored bytes taken left1 start read is in
@@ -131,8 +131,8 @@ gone_from (Some bytes) left1 left2 a b taken start s other read is plain free to
     let so : IsOutputFrom All start (rest_of bytes) left2 a b s = subst (λ o. IfSome o (λ l. IsOutputFrom All start l left2 a b s)) r.1 told in
     gone bytes left2 a b s other (record { unrefused = front; start = start; plain = plain; state = r.0; told = so })
 
-pub gone_told : (left0 left1 left2 a b : Option (List ℕ)) (taken seen : List ℕ) (start : Moment) (s : Status) → seen ≡ taken → s ≢ status.Usage → IfSome left0 (λ bytes. IsTaken bytes taken left1)
-    → IsState seen start → IsPlainMoment start → ((why : StateError) → IsRefused seen why → why ≡ errors.NoMemory) → IfSome left1 (λ bytes. IsOutputFrom All start bytes left2 a b s) → HasAnswered (Some Go) left0 left2 a b (Run s)
+pub gone_told : (left0 left1 left2 a b : Option (List ℕ)) (taken seen : List ℕ) (start : RunState) (s : Status) → seen ≡ taken → s ≢ status.Usage → IfSome left0 (λ bytes. IsTaken bytes taken left1)
+    → IsState seen start → IsPlainRunState start → ((why : StateError) → IsRefused seen why → why ≡ errors.NoMemory) → IfSome left1 (λ bytes. IsOutputFrom All start bytes left2 a b s) → HasAnswered (Some Go) left0 left2 a b (Run s)
 gone_told left0 left1 left2 a b taken seen start s e other read is plain free told =
     gone_from left0 left1 left2 a b taken start s other read (subst (λ l. IsState l start) e is) plain (subst IsUnrefused e (λ why apart bad. apart (free why bad))) told
 

@@ -4,7 +4,7 @@ use Rattle.std.specs.Prelude.{◌≡◌, ◌≢◌, ◌⊎◌, ℕ, List, ◌++�
 use Rattle.std.specs.Io.KnownBytes.{Keeps}
 use Rattle.mesh_base.specs.declared.events.Variant.TheVariants.{Base}
 use Rattle.mesh_io.specs.Cause.{Rose}
-use Rattle.mesh_text.specs.Schedule.{Moment, opening}
+use Rattle.mesh_text.specs.Schedule.{RunState, opening}
 use Rattle.mesh_text.specs.Text.{RunText, text_on}
 use Rattle.mesh_text.specs.declared.verdict.Verdict.TheVariants.{Finished}
 use Rattle.mesh_run.specs.declared.say.Say.TheVariants.{All, Faults}
@@ -16,7 +16,7 @@ use Rattle.mesh_save.specs.Saved.{IsWritten, IsCut}
 use Rattle.mesh_load.specs.declared.error.StateError.{StateError}
 use Rattle.mesh_load.specs.declared.error.StateError.TheVariants as errors
 use Rattle.mesh_load.specs.Loading.{IsRefused}
-use Rattle.mesh_load.specs.Moments.{IsPlainMoment}
+use Rattle.mesh_load.specs.RunStates.{IsPlainRunState}
 use Rattle.mesh_state.specs.declared.words.Asked.{Asked}
 use Rattle.mesh_state.specs.declared.words.Asked.TheVariants.{Save, Go}
 use Rattle.mesh_state.specs.declared.status.StateStatus.{StateStatus}
@@ -26,7 +26,7 @@ use Rattle.mesh_state.specs.Saved.{IsSavedOf, IsTextBelow}
 
 -- ---- with `save`, of the run of a schedule
 
--- the run was done, and the checkpoint of its last moment was written
+-- the run was done, and the checkpoint of its last state was written
 pub record IsSaved (w : RunText) (before now : Option (List ℕ)) : Type 0 where
   pub finished : w.verdict ≡ Finished
   pub written : IsWritten w.after before now
@@ -36,7 +36,7 @@ pub record IsCutOff (w : RunText) (before now : Option (List ℕ)) : Type 0 wher
   pub finished : w.verdict ≡ Finished
   pub cut : IsCut w.after before now
 
--- the run was done, its last moment has too long a body for a checkpoint, and nothing was written
+-- the run was done, its last state has too long a body for a checkpoint, and nothing was written
 pub record IsTooBig (w : RunText) (before now : Option (List ℕ)) : Type 0 where
   pub finished : w.verdict ≡ Finished
   pub long : IsTooLong w.after
@@ -59,11 +59,11 @@ IsRunSaved bytes left before now others =
 abbrev pub IsUnrefused : List ℕ → Type 0
 IsUnrefused front = (why : StateError) → why ≢ errors.NoMemory → ¬ (IsRefused front why)
 
--- the front is not refused, it is the checkpoint of one moment, and the rest was run from there
+-- the front is not refused, it is the checkpoint of one run state, and the rest was run from there
 pub record IsRunOn (bytes : List ℕ) (left before now : Option (List ℕ)) (s : Status) : Type 0 where
   pub unrefused : IsUnrefused (front_of bytes)
-  pub start : Moment
-  pub plain : IsPlainMoment start
+  pub start : RunState
+  pub plain : IsPlainRunState start
   pub state : IsState (front_of bytes) start
   pub told : IsOutputFrom All start (rest_of bytes) left before now s
 
@@ -86,7 +86,7 @@ RanUnlessCut ran bytes left before now ReadFault =
 RanUnlessCut ran bytes left before now NoMemory = Keeps before now ⊎ ran NoMemory
 RanUnlessCut ran bytes left before now others = ran others
 
--- the rest was run from the front's moment on
+-- the rest was run from the front's state on
 abbrev pub IsRunGone : List ℕ → Option (List ℕ) → Option (List ℕ) → Option (List ℕ) → Status
     → Type 0
 IsRunGone bytes left before now s =
@@ -111,7 +111,7 @@ IsAnswered Go bytes left before now (Run s) = IsRunGone bytes left before now s
 IsAnswered Go bytes left before now (BadState why) = IsBadState bytes left before now why
 IsAnswered Go bytes left before now TooBig = ⊥
 
--- with `go`, where the source gave the checkpoint of a schedule's last moment and then more lines,
+-- with `go`, where the source gave the checkpoint of a schedule's last state and then more lines,
 -- the run went on as that of the schedule with these lines behind it; the checkpoint isn't refused
 abbrev pub IsContinued : Asked → List ℕ → Option (List ℕ) → Option (List ℕ) → Option (List ℕ)
     → StateStatus → Type 0
@@ -122,7 +122,7 @@ IsContinued Go bytes left before now (BadState why) =
     (first second saved : List ℕ) → IsSavedOf first saved → bytes ≢ saved ++ second
 IsContinued asked bytes left before now others = ⊤
 
--- with `save` the schedule's run is done, and its last moment's body isn't too long; with `go` the
+-- with `save` the schedule's run is done, and its last state's body isn't too long; with `go` the
 -- front isn't refused, and the run of the rest is done
 abbrev pub IsAllowed : Asked → List ℕ → Type 0
 IsAllowed Save bytes =
@@ -130,7 +130,7 @@ IsAllowed Save bytes =
     × ¬ (IsTooLong (text_on (opening Base) bytes).after)
 IsAllowed Go bytes =
     IsUnrefused (front_of bytes)
-    × ((start : Moment) → IsPlainMoment start → IsState (front_of bytes) start
+    × ((start : RunState) → IsPlainRunState start → IsState (front_of bytes) start
     → (text_on start (rest_of bytes)).verdict ≡ Finished)
 
 -- with `go` a refusal of the front applies
@@ -183,7 +183,7 @@ HasRefused asked given r s answer =
     IfSome asked (λ a. IfSome given (λ bytes.
     HasRefusal a bytes → ¬ (Rose r s) → IsRefusalOrShort answer))
 
--- where it began with the checkpoint of a schedule's last moment, the run went on as the schedule's
+-- where it began with the checkpoint of a schedule's last state, the run went on as the schedule's
 abbrev pub HasGoneOn : Option Asked → Option (List ℕ) → Option (List ℕ) → Option (List ℕ)
     → Option (List ℕ) → StateStatus → Type 0
 HasGoneOn asked given left before now answer =

@@ -2,21 +2,21 @@
 use Rattle.std.specs.Prelude.{◌≡◌, ◌≤◌, ℕ, List, ◌++◌, length}
 use Rattle.mesh_base.specs.declared.limits.TheConstants.{LONGEST_INPUT}
 use Rattle.mesh_base.specs.declared.events.Variant.TheVariants.{Base}
-use Rattle.mesh_text.specs.Schedule.{Moment}
+use Rattle.mesh_text.specs.Schedule.{RunState}
 use Rattle.mesh_text.specs.Text.{lines_before, text_on, text_of_input}
 use Rattle.mesh_text.specs.declared.verdict.Verdict.TheVariants.{Finished}
 use Rattle.mesh_checkpoint.specs.Points.{IsState}
-use Rattle.mesh_load.specs.Moments.{IsPlainMoment}
+use Rattle.mesh_load.specs.RunStates.{IsPlainRunState}
 use Rattle.mesh_state.specs.Fronts.{front_of, rest_of}
 use Rattle.mesh_state.specs.Saved.{HasWholeLines, IsSavedOf}
 
 -- of a checkpoint and what follows it, the checkpoint is the front
 abbrev pub CheckpointIsFront : Type 0
-CheckpointIsFront = (m : Moment) (saved rest : List ℕ) → IsState saved m
+CheckpointIsFront = (m : RunState) (saved rest : List ℕ) → IsState saved m
     → (front_of (saved ++ rest) ≡ saved) × (rest_of (saved ++ rest) ≡ rest)
 
 -- the run of a schedule in two parts, of which the first has whole lines that were all allowed and
--- done, is that of the first, and then that of the second from the moment after the first on
+-- done, is that of the first, and then that of the second from the state after the first on
 abbrev pub SavedRunGoesOn : Type 0
 SavedRunGoesOn = (first second : List ℕ) → HasWholeLines first
     → length (first ++ second) ≤ LONGEST_INPUT → (text_of_input Base first).verdict ≡ Finished
@@ -24,11 +24,11 @@ SavedRunGoesOn = (first second : List ℕ) → HasWholeLines first
     ≡ lines_before (text_of_input Base first).lines
     (text_on (text_of_input Base first).after second)
 
--- a run that goes on from a moment with this checkpoint, with the lines behind it, is that of the
+-- a run that goes on from a state with this checkpoint, with the lines behind it, is that of the
 -- whole schedule below the lines that were done
 abbrev pub LoadedRunGoesOn : Type 0
-LoadedRunGoesOn = (first second saved : List ℕ) (start : Moment) → IsSavedOf first saved
+LoadedRunGoesOn = (first second saved : List ℕ) (start : RunState) → IsSavedOf first saved
     → length (first ++ second) ≤ LONGEST_INPUT
-    → IsPlainMoment start → IsState (front_of (saved ++ second)) start
+    → IsPlainRunState start → IsState (front_of (saved ++ second)) start
     → text_of_input Base (first ++ second)
     ≡ lines_before (text_of_input Base first).lines (text_on start (rest_of (saved ++ second)))

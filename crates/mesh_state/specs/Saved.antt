@@ -11,7 +11,7 @@ abbrev pub HasWholeLines : List ℕ → Type 0
 HasWholeLines bytes = (bytes ≡ []) ⊎ ((front : List ℕ) × (bytes ≡ front ++ 10 ∷ []))
 
 -- the schedule has whole lines, its run is done, and these bytes are the checkpoint of its last
--- moment
+-- state
 pub record IsSavedOf (first saved : List ℕ) : Type 0 where
   pub whole : HasWholeLines first
   pub finished : (text_of_input Base first).verdict ≡ Finished

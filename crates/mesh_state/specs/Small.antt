@@ -1,10 +1,10 @@
 -- What the run of a schedule can have counted, far below the ends of a checkpoint's numbers.
 use Rattle.std.specs.Prelude.{◌≤◌, ◌<◌, ◌^◌}
 use Rattle.mesh_base.specs.declared.limits.TheConstants.{LONGEST_INPUT}
-use Rattle.mesh_text.specs.Schedule.{Moment, world_of}
+use Rattle.mesh_text.specs.Schedule.{RunState, world_of}
 
 -- the steps, the next copy's number, the lines and the sums
-pub record IsSmall (m : Moment) : Type 0 where
+pub record IsSmall (m : RunState) : Type 0 where
   pub steps : m.steps < 2 ^ 42
   pub next : (world_of m).next_copy < 2 ^ 50
   pub lines : m.lines ≤ LONGEST_INPUT

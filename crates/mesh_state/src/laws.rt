@@ -10,12 +10,12 @@ pub fn a_checkpoint_is_the_front()
 {}
 
 /// The run of a schedule in two parts is that of the first, and then that of the second from the
-/// moment after the first on.
+/// state after the first on.
 pub fn a_saved_run_goes_on()
     ensures { SavedRunGoesOn }
 {}
 
-/// A run that goes on from the checkpoint of a schedule's last moment is that of the schedule with
+/// A run that goes on from the checkpoint of a schedule's last state is that of the schedule with
 /// the lines that follow behind it.
 pub fn a_loaded_run_goes_on()
     ensures { LoadedRunGoesOn }

@@ -14,7 +14,7 @@ pub enum StateStatus {
     /// The front of the input is no checkpoint from which a run can go on. It is never for want of
     /// memory.
     BadState(StateError),
-    /// The schedule was done, and its last moment has too long a body for a checkpoint.
+    /// The schedule was done, and its last state has too long a body for a checkpoint.
     TooBig,
 }
 

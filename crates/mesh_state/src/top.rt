@@ -24,7 +24,7 @@ use mesh_save::SaveError;
 use mesh_world::World;
 use std::alloc::Global;
 
-// Writes the checkpoint of a moment.
+// Writes the checkpoint of a state.
 fn put_state<O: Sink>(at: &Point<World>, out: &mut O) -> StateStatus
     requires { IsSmall at.now }
     ensures saved { result ≡ StateStatus.Run Status.Done
@@ -46,7 +46,7 @@ fn put_state<O: Sink>(at: &Point<World>, out: &mut O) -> StateStatus
     }
 }
 
-// Runs the schedule from its start on, and writes the checkpoint of its last moment.
+// Runs the schedule from its start on, and writes the checkpoint of its last state.
 fn save_from<I: Source, O: Sink>(
     running: &mut Running<World>,
     input: &mut I,
@@ -96,7 +96,7 @@ fn answer_by(why: StateError) -> StateStatus
     }
 }
 
-// The moment comes to be that of this state, where it stands.
+// The run comes to be in this state, where it stands.
 fn come_to(at: &mut Point<World>, state: State<World>)
     ensures { at.new ≡ state }
 {
@@ -104,7 +104,7 @@ fn come_to(at: &mut Point<World>, state: State<World>)
 }
 
 // Does the lines of an input from a state on. It stands apart, so that what loads the state, which
-// takes a third of a moment's room, doesn't pay for its frame.
+// takes a third of a point's room, doesn't pay for its frame.
 #[inline(never)]
 fn go_on<I: Source, O: Sink>(alloc: Global, at: State<World>, input: &mut I, out: &mut O) -> Status
     requires lines { at.lines < 2 ^ 61 }
@@ -169,10 +169,10 @@ fn answer<I: Source, O: Sink>(
 /// Writes the checkpoint of a run, or goes on from one.
 ///
 /// With the one word `save` the schedule that the source gives is run in a world of its own, where
-/// all nodes run the protocol as AWN has it, and where it is done the checkpoint of its last moment
+/// all nodes run the protocol as AWN has it, and where it is done the checkpoint of its last state
 /// is written; of a line that is refused, or has an event for a full counter, the last line of the
 /// run's text is. With the one word `go` the source gives a checkpoint and then lines, and these
-/// are run from the checkpoint's moment on, and their text is written.
+/// are run from the checkpoint's state on, and their text is written.
 pub fn state<I: Source, O: Sink>(
     alloc: Global,
     words: &[&str],
@@ -186,16 +186,17 @@ pub fn state<I: Source, O: Sink>(
         → (input.new ≡ input.old) × (out.new ≡ out.old) }
 
     // With `save` the answer is the verdict of the run, and where that is done the checkpoint of
-    // its last moment is written, unless its body is too long. With `go` the answer is the first
-    // refusal of the front, and nothing is written; or the front is the checkpoint of one moment,
-    // and what is written and answered is the text and the verdict of the rest from there. After a
-    // failed read the text of the lines that were read whole is written, and nothing only where
-    // fewer bytes were taken than the front has; after a failed write, or want of memory, a prefix.
+    // its last state is written, unless its body is too long. With `go` the answer is the first
+    // refusal of the front, and nothing is written; or the front is the checkpoint of one run
+    // state, and what is written and answered is the text and the verdict of the rest from there.
+    // After a failed read the text of the lines that were read whole is written, and nothing only
+    // where fewer bytes were taken than the front has; after a failed write, or want of memory, a
+    // prefix.
     ensures told { HasAnswered (asked_of (map (λ w. w.now) words.now)) (I.left input.old)
         (I.left input.new) (O.held out.old) (O.held out.new) result }
 
     // Where a schedule of whole lines is done, and the source gives the checkpoint of its last
-    // moment and then more lines, `go` refuses nothing and goes on as the run of the schedule with
+    // state and then more lines, `go` refuses nothing and goes on as the run of the schedule with
     // these lines behind it: what is written is that run's text below the schedule's lines, and the
     // answer is its verdict.
     ensures goes_on { HasGoneOn (asked_of (map (λ w. w.now) words.now)) (I.left input.old)
@@ -217,7 +218,7 @@ pub fn state<I: Source, O: Sink>(
     ensures refused { HasRefused (asked_of (map (λ w. w.now) words.now)) (I.left input.old)
         (I.faults input.old) (I.faults input.new) result }
 {
-    // A checkpoint is of one moment, and one of a run isn't refused.
+    // A checkpoint is of one run state, and one of a run isn't refused.
     one_start();
     a_run_is_unrefused();
     match asked_of(words) {

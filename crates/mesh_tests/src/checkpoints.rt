@@ -1,6 +1,6 @@
 //! Checkpoints written out byte for byte. What else a checkpoint may be refused for stands in
 //! checks/cases/mesh_state.
-use mesh_checkpoint::survey;
+use mesh_checkpoint::validate;
 use mesh_load::{StateError, load};
 use mesh_run::State;
 use mesh_world::{Part, World};
@@ -35,11 +35,11 @@ const TWO: [u8; 182] = [
 ];
 
 #[test]
-fn surveys_an_empty_checkpoint(rt: HostRuntime) {
-    assert!(rt; matches!(survey(&EMPTY), Ok(0)));
+fn validates_an_empty_checkpoint(rt: HostRuntime) {
+    assert!(rt; matches!(validate(&EMPTY), Ok(0)));
 }
 
-// How many nodes a moment has, and how many steps its world has done.
+// How many nodes a state has, and how many steps its world has done.
 fn sizes_of(at: &State<World>) -> (usize, Option<u64>) {
     let steps = match at.world() {
         Some(world) => Some(world.steps()),
@@ -48,7 +48,7 @@ fn sizes_of(at: &State<World>) -> (usize, Option<u64>) {
     (at.mesh().len(), steps)
 }
 
-// The sizes of the moment that a checkpoint means.
+// The sizes of the state that a checkpoint means.
 fn loaded(alloc: Global, bytes: &[u8]) -> Result<(usize, Option<u64>), StateError> {
     match load(alloc, bytes) {
         Ok(at) => Ok(sizes_of(&at)),

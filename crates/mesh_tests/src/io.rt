@@ -3,8 +3,8 @@
 //! a failing-stdin or a room.
 use crate::lines::source_of;
 use mesh_io::{
-    BufferRoom, Buffered, Failed, LineError, Lines, MemSink, MemSource, PutFault, Source, StdSink,
-    StdSource, put_all,
+    Buffered, Failed, LineError, Lines, MemSink, MemSource, PutFault, ReservedBuffer, Source,
+    StdSink, StdSource, put_all,
 };
 use std::test::Fail;
 
@@ -41,7 +41,7 @@ fn loses(buffer: &mut Buffered<MemSink>) -> bool {
 
 #[test]
 fn pieces_are_gathered_to_one_call(rt: HostRuntime) -> Result<(), Fail> {
-    let room = BufferRoom::new(rt.alloc())?;
+    let room = ReservedBuffer::new(rt.alloc())?;
     let sink = MemSink::new(rt.alloc(), 100, 100, &[2])?;
     let mut buffer = Buffered::new(sink, room);
     assert!(rt; gathers(&mut buffer) && loses(&mut buffer));

@@ -139,8 +139,8 @@ fn names_the_later<T: Table>(table: &mut T) -> Result<bool, NoMemory>
     Ok(by_two.has(1) && by_two.has(9) && table.through(3).is_empty() && matches!(raised, Err(9)))
 }
 
-// Whether a table whose only valid entry by node 2 is that of node 1, with the greatest number, names
-// node 1.
+// Whether a table whose only valid entry by node 2 is that of node 1, with the greatest number,
+// names node 1.
 fn names_the_only<T: Table>(table: &mut T) -> Result<bool, NoMemory>
     requires { T.nodes table.old ≡ 10 }
 {

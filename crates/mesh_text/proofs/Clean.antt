@@ -10,7 +10,7 @@ use Rattle.aodv_model.proofs.Entries.{if_case}
 use Rattle.mesh_base.specs.Addresses.{dotted_decimal}
 use Rattle.mesh_base.specs.Members.{NodeIds}
 use Rattle.mesh_base.specs.Meshes.{Nodes, addr_at}
-use Rattle.mesh_base.proofs.Spelling.{Lacks}
+use Rattle.mesh_base.proofs.WrittenForms.{Lacks}
 use Rattle.mesh_model.specs.Worlds.{members_below}
 use Rattle.mesh_text.specs.Lines.{name_of, hex, hex_byte, hex_digit}
 use Rattle.mesh_text.specs.Effects.{shown_byte, names, more_names, set_text}

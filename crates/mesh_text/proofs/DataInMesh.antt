@@ -10,7 +10,7 @@ use Rattle.aodv_model.specs.Fullness.{turn_full, send_full, ask_full}
 use Rattle.aodv_model.specs.Soundness.{IsMessageInMesh, IsItemInMesh}
 use Rattle.aodv_model.proofs.Entries.{if_case}
 use Rattle.mesh_model.specs.Worlds as worlds
-use Rattle.mesh_model.specs.Worlds.{World, Node, Copy, Event, Give, Turn, Send, Ask, Link, Cut, Deliver, Lose, Double, Happening, Changed, Taken, Sent, CopyHeard, CopyLost, CopyDoubled, Outcome, Idle, Next, range, copies, done_by, are_linked, find_copy, turn_of, send_of, ask_of, unless_full, at_node, at_copy, step, after}
+use Rattle.mesh_model.specs.Worlds.{World, Node, Copy, Event, Give, Turn, Send, Ask, Link, Cut, Deliver, Lose, Double, WorldEffect, Changed, Taken, Sent, CopyHeard, CopyLost, CopyDoubled, Outcome, Idle, Next, range, copies, done_by, are_linked, find_copy, turn_of, send_of, ask_of, unless_full, at_node, at_copy, step, after}
 use Rattle.mesh_model.specs.Accounts.{Test, counts, in_message, in_taken, in_dropped, delivered_in, delivered_at, delivered_data, dropped_in, dropped_data, over_run}
 use Rattle.mesh_model.specs.Places.{IsCopyInMesh, IsInMesh, IsEvent}
 use Rattle.mesh_model.proofs.Steps.{found_honest}
@@ -24,18 +24,18 @@ IsTookOf size x (Own b) = x < size
 IsTookOf size x (Stored d) = Unit {0}
 IsTookOf size x (FromNeighbour from m) = IsMessageInMesh size m
 
-IsHappeningOf : ℕ → ℕ → Happening → Type 0
-IsHappeningOf size x Changed = Unit {0}
-IsHappeningOf size x (Taken t e cs) = IsTookOf size x t
-IsHappeningOf size x (Sent e cs) = Unit {0}
-IsHappeningOf size x (CopyHeard from to) = Unit {0}
-IsHappeningOf size x (CopyLost c) = IsMessageInMesh size c.message
-IsHappeningOf size x (CopyDoubled id to parcel) = Unit {0}
+IsWorldEffectOf : ℕ → ℕ → WorldEffect → Type 0
+IsWorldEffectOf size x Changed = Unit {0}
+IsWorldEffectOf size x (Taken t e cs) = IsTookOf size x t
+IsWorldEffectOf size x (Sent e cs) = Unit {0}
+IsWorldEffectOf size x (CopyHeard from to) = Unit {0}
+IsWorldEffectOf size x (CopyLost c) = IsMessageInMesh size c.message
+IsWorldEffectOf size x (CopyDoubled id to parcel) = Unit {0}
 
 IsOutcomeOf : ℕ → ℕ → Outcome → Type 0
 IsOutcomeOf size x Idle = Unit {0}
 IsOutcomeOf size x (worlds.Full y f) = Unit {0}
-IsOutcomeOf size x (Next w h) = IsHappeningOf size x h
+IsOutcomeOf size x (Next w h) = IsWorldEffectOf size x h
 
 -- the node at which an event takes something
 abbrev taker : Event → ℕ
@@ -63,7 +63,7 @@ took_of_mesh size x core (New b d) within is = if_case (IsTookOf size x) (d == c
 took_of_mesh size x core (Heard from m) within is = is.2
 
 turn_of_mesh : (w : World) (size x : ℕ) (core : Core) (queue : List Item) → x < size → AllByRecursion (IsItemInMesh size x) queue → IsOutcomeOf size x (turn_of w x core queue)
-unfolding IsOutcomeOf IsHappeningOf
+unfolding IsOutcomeOf IsWorldEffectOf
 turn_of_mesh w size x core [] within all = tt
 turn_of_mesh w size x core (item ∷ items) within all =
     let did : Reaction = turn core (range w x) item in
@@ -71,21 +71,21 @@ turn_of_mesh w size x core (item ∷ items) within all =
     (took_of_mesh size x core item within all.0)
 
 send_of_mesh : (w : World) (size y x d : ℕ) (core : Core) (queue : List Item) → IsOutcomeOf size y (send_of w x d core queue)
-unfolding IsOutcomeOf IsHappeningOf
+unfolding IsOutcomeOf IsWorldEffectOf
 send_of_mesh w size y x d core queue =
     let did : Reaction = send core (range w x) d in
     let goes : Outcome = Next (done_by w x did queue) (Sent did.effect (copies w x (did.effect).cast)) in
     if_case (IsOutcomeOf size y) (may_send core d) (unless_full x (send_full core (range w x) d) goes) Idle (λ _. unless_of_mesh size y x (send_full core (range w x) d) goes tt) (λ _. tt)
 
 ask_of_mesh : (w : World) (size y x d : ℕ) (core : Core) (queue : List Item) → IsOutcomeOf size y (ask_of w x d core queue)
-unfolding IsOutcomeOf IsHappeningOf
+unfolding IsOutcomeOf IsWorldEffectOf
 ask_of_mesh w size y x d core queue =
     let did : Reaction = ask core d in
     let goes : Outcome = Next (done_by w x did queue) (Sent did.effect (copies w x (did.effect).cast)) in
     if_case (IsOutcomeOf size y) (may_ask core d) (unless_full x (ask_full core) goes) Idle (λ _. unless_of_mesh size y x (ask_full core) goes tt) (λ _. tt)
 
 step_of_mesh : (w : World) (e : Event) → IsInMesh w → IsEvent (length w.nodes) e → IsOutcomeOf (length w.nodes) (taker e) (step w e)
-unfolding step IsOutcomeOf IsHappeningOf
+unfolding step IsOutcomeOf IsWorldEffectOf
 step_of_mesh w (Give x d b) places ok = node_of_mesh (length w.nodes) 0 _ (slice_get w.nodes x) (λ n is. tt)
 step_of_mesh w (Turn x) places ok =
     node_of_mesh (length w.nodes) x (turn_of w x) (slice_get w.nodes x)
@@ -128,7 +128,7 @@ dropped_agrees size t u x (Stored d) agree is = refl
 dropped_agrees size t u x (FromNeighbour from m) agree is = message_agrees size t u m agree is
 
 delivery_agrees : (size : ℕ) (t u : Test) (x : ℕ) (o : Outcome) → Agree size t u → IsOutcomeOf size x o → delivered_at t x o ≡ delivered_at u x o
-unfolding IsOutcomeOf IsHappeningOf
+unfolding IsOutcomeOf IsWorldEffectOf
 delivery_agrees size t u x Idle agree is = refl
 delivery_agrees size t u x (worlds.Full y f) agree is = refl
 delivery_agrees size t u x (Next w Changed) agree is = refl
@@ -139,7 +139,7 @@ delivery_agrees size t u x (Next w (CopyLost c)) agree is = refl
 delivery_agrees size t u x (Next w (CopyDoubled id to parcel)) agree is = refl
 
 drop_agrees : (size : ℕ) (t u : Test) (x : ℕ) (e : Event) (o : Outcome) → Agree size t u → IsOutcomeOf size x o → dropped_data t e o ≡ dropped_data u e o
-unfolding IsOutcomeOf IsHappeningOf
+unfolding IsOutcomeOf IsWorldEffectOf
 drop_agrees size t u x e Idle agree is = refl
 drop_agrees size t u x e (worlds.Full y f) agree is = refl
 drop_agrees size t u x e (Next w Changed) agree is = refl

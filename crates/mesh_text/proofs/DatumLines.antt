@@ -14,7 +14,7 @@ use Rattle.mesh_base.specs.Addresses.{address_of, dotted_decimal}
 use Rattle.mesh_base.specs.Meshes.{Nodes, IsMesh, addr_at, index_of}
 use Rattle.mesh_base.specs.Parts.{parts}
 use Rattle.mesh_base.proofs.MeshLaws.{below_if, from_if}
-use Rattle.mesh_base.proofs.Spelling.{parts_at, address_of-dotted, dotted_lacks, index_of-at}
+use Rattle.mesh_base.proofs.WrittenForms.{parts_at, address_of-dotted, dotted_lacks, index_of-at}
 use Rattle.mesh_grammar.specs.Written.{line}
 use Rattle.mesh_text.specs.Accounts.{begins}
 use Rattle.mesh_text.specs.Effects.{shown_byte, datum_text}

@@ -8,7 +8,7 @@ use Rattle.mesh_grammar.specs.declared.command.Command.{Command}
 use Rattle.mesh_grammar.specs.declared.command.Command.TheVariants as command
 use Rattle.mesh_grammar.specs.declared.fault.LineFault.{LineFault}
 use Rattle.mesh_grammar.specs.declared.fault.LineFault.TheVariants.{Same}
-use Rattle.mesh_grammar.specs.Words.{Mention}
+use Rattle.mesh_grammar.specs.Words.{SpannedAddr}
 use Rattle.mesh_grammar.specs.Forms.{Arguments, NoArgument, OneAddress, TwoAddresses, OneNumber, NumberedAddress, AddressesAndText, AreOfForm}
 use Rattle.mesh_grammar.specs.Scripts.{Shape}
 use Rattle.mesh_grammar.specs.Commands.{shape_of}
@@ -33,7 +33,7 @@ module _ (mesh : Nodes) (started : Bool) (line : List ℕ) where
   unfolding Echoed
   pair_echoed x y e is = if_case (Echoed mesh line) (eqb x y) (Err Same) (Ok (Does e)) (λ _. tt) (λ _. is)
 
-  node_echoed : (m : Mention) (first : ℕ) → IsEcho mesh line (NewNode m.address first) → Echoed mesh line (new_node mesh started m first)
+  node_echoed : (m : SpannedAddr) (first : ℕ) → IsEcho mesh line (NewNode m.address first) → Echoed mesh line (new_node mesh started m first)
   unfolding Echoed
   node_echoed m first is =
       if_case (Echoed mesh line) started _ _ (λ _. tt) (λ _.
@@ -41,19 +41,19 @@ module _ (mesh : Nodes) (started : Bool) (line : List ℕ) where
       if_case (Echoed mesh line) (eqb (length mesh) MOST_NODES) _ _ (λ _. tt) (λ _. is)))
 
   -- the text of one node, or of two, by their places in the mesh
-  one_text : (word : List ℕ) (m : Mention) (x : ℕ) → line ≡ command_text word (OneAddress m.address) → IsAt mesh m x
+  one_text : (word : List ℕ) (m : SpannedAddr) (x : ℕ) → line ≡ command_text word (OneAddress m.address) → IsAt mesh m x
       → line ≡ command_text word (OneAddress (addr_at mesh x))
   one_text word m x text at = text ∙ ap (λ a. command_text word (OneAddress a)) (sym at.1)
 
-  two_text : (word : List ℕ) (m n : Mention) (x y : ℕ) → line ≡ command_text word (TwoAddresses m.address n.address) → IsAt mesh m x → IsAt mesh n y
+  two_text : (word : List ℕ) (m n : SpannedAddr) (x y : ℕ) → line ≡ command_text word (TwoAddresses m.address n.address) → IsAt mesh m x → IsAt mesh n y
       → line ≡ command_text word (TwoAddresses (addr_at mesh x) (addr_at mesh y))
   two_text word m n x y text x_at y_at = text ∙ ap₂ (λ a b. command_text word (TwoAddresses a b)) (sym x_at.1) (sym y_at.1)
 
-  text_text : (word : List ℕ) (m n : Mention) (body : List ℕ) (x y : ℕ) → line ≡ command_text word (AddressesAndText m.address n.address body)
+  text_text : (word : List ℕ) (m n : SpannedAddr) (body : List ℕ) (x y : ℕ) → line ≡ command_text word (AddressesAndText m.address n.address body)
       → IsAt mesh m x → IsAt mesh n y → line ≡ command_text word (AddressesAndText (addr_at mesh x) (addr_at mesh y) body)
   text_text word m n body x y text x_at y_at = text ∙ ap₂ (λ a b. command_text word (AddressesAndText a b body)) (sym x_at.1) (sym y_at.1)
 
-  said_echoed : (c : Command) (arguments : Arguments Mention) → AreOfForm (form_of c) arguments
+  said_echoed : (c : Command) (arguments : Arguments SpannedAddr) → AreOfForm (form_of c) arguments
       → IsTextOf line (word_of c) (addresses_of arguments) → Echoed mesh line (accepted_line mesh started c arguments)
   unfolding Echoed words_of event_words
   said_echoed command.Node (NumberedAddress m first) form text = node_echoed m first text
@@ -83,7 +83,7 @@ module _ (mesh : Nodes) (started : Bool) (line : List ℕ) where
   said_echoed command.Flight NoArgument form text = none_placed mesh (Echoed mesh line) faulty (made_line command.Flight) (λ _. text)
   said_echoed other arguments form text = absurd form
 
-  shape_echoed : (r : Result (Option (Shape Command Mention)) LineFault) → Said line r → Echoed mesh line (result_and_then (accepted_shape mesh started) r)
+  shape_echoed : (r : Result (Option (Shape Command SpannedAddr)) LineFault) → Said line r → Echoed mesh line (result_and_then (accepted_shape mesh started) r)
   unfolding Echoed Said
   shape_echoed (Ok None) said = said
   shape_echoed (Ok (Some s)) said = said_echoed s.command s.arguments said.form said.text

@@ -9,7 +9,7 @@ use Rattle.mesh_grammar.specs.declared.command.Command.{Command}
 use Rattle.mesh_grammar.specs.declared.command.Command.TheVariants as command
 use Rattle.mesh_grammar.specs.declared.fault.LineFault.{LineFault}
 use Rattle.mesh_grammar.specs.declared.fault.LineFault.TheVariants.{Same}
-use Rattle.mesh_grammar.specs.Words.{Mention}
+use Rattle.mesh_grammar.specs.Words.{SpannedAddr}
 use Rattle.mesh_grammar.specs.Forms.{Arguments, NoArgument, OneAddress, TwoAddresses, OneNumber, NumberedAddress, AddressesAndText, greatest_first, AreOfForm}
 use Rattle.mesh_grammar.specs.Scripts.{Shape}
 use Rattle.mesh_grammar.specs.Commands.{shape_of}
@@ -38,7 +38,7 @@ module _ (mesh : Nodes) (started : Bool) where
   none_there None h = refl
   none_there (Some x) h = absurd (let P : ⊥ = cc in P)
 
-  node_allowed : (m : Mention) (first : ℕ) → length mesh ≤ MOST_NODES → m.address < 2 ^ 32 → 1 ≤ first → first ≤ greatest_first
+  node_allowed : (m : SpannedAddr) (first : ℕ) → length mesh ≤ MOST_NODES → m.address < 2 ^ 32 → 1 ≤ first → first ≤ greatest_first
       → Allowed mesh started (new_node mesh started m first)
   unfolding Allowed
   node_allowed m first few fits one most =
@@ -48,7 +48,7 @@ module _ (mesh : Nodes) (started : Bool) where
       let apart : length mesh ≢ MOST_NODES = eqb-false (length mesh) MOST_NODES room in
       (record { fits = fits; absent = none_there (index_of mesh m.address) absent; few = omega arith; positive = one; most = most }, early))))
 
-  said_allowed : (c : Command) (arguments : Arguments Mention) → length mesh ≤ MOST_NODES → AreOfForm (form_of c) arguments
+  said_allowed : (c : Command) (arguments : Arguments SpannedAddr) → length mesh ≤ MOST_NODES → AreOfForm (form_of c) arguments
       → HaveAddresses (addresses_of arguments) → Allowed mesh started (accepted_line mesh started c arguments)
   unfolding Allowed
   said_allowed command.Node (NumberedAddress m first) few form fit = node_allowed m first few fit form.0 form.1
@@ -85,7 +85,7 @@ module _ (mesh : Nodes) (started : Bool) where
       none_placed mesh (Allowed mesh started) faulty (made_line command.Flight) (λ some. (some, tt))
   said_allowed other arguments few form fit = absurd form
 
-  shape_allowed : (line : List ℕ) (r : Result (Option (Shape Command Mention)) LineFault) → length mesh ≤ MOST_NODES → Said line r
+  shape_allowed : (line : List ℕ) (r : Result (Option (Shape Command SpannedAddr)) LineFault) → length mesh ≤ MOST_NODES → Said line r
       → Allowed mesh started (result_and_then (accepted_shape mesh started) r)
   unfolding Allowed Said
   shape_allowed line (Ok None) few said = (tt, tt)

@@ -3,9 +3,9 @@ pub mod Printed
 pub mod InRange
 pub mod Echoes
 pub mod Picks
-pub mod Moments
+pub mod RunStates
 pub mod RunLaws
-pub mod MomentLaws
+pub mod RunStateLaws
 pub mod LineLaws
 pub mod Clean
 pub mod Tellings

@@ -7,7 +7,7 @@ use Rattle.mesh_model.specs.Worlds.{Event, Give, Turn, Send, Ask, Link, Cut, Del
 use Rattle.mesh_model.specs.Choices.{pick}
 use Rattle.mesh_grammar.specs.declared.fault.LineFault.{LineFault}
 use Rattle.mesh_grammar.specs.Written.{command_text}
-use Rattle.mesh_text.specs.Schedule.{Moment, AcceptedLine, Does, Chooses, line_of, world_of, with_world, next_moment, outcome_at}
+use Rattle.mesh_text.specs.Schedule.{RunState, AcceptedLine, Does, Chooses, line_of, world_of, with_world, next_state, outcome_at}
 use Rattle.mesh_text.specs.Lines.{words_of, event_words}
 use Rattle.mesh_text.specs.Auto.{event_then, choice_then, events_chosen}
 use Rattle.mesh_text.specs.Runs.{events_read}
@@ -41,23 +41,23 @@ auto_line_has_four_bytes mesh with_world line count is =
 
 -- ---- events
 
-event_few : (most : ℕ) (m : Moment) (e : Event) (o : Outcome) (more : Moment → List Event) → length (more (next_moment m e)) ≤ most
+event_few : (most : ℕ) (m : RunState) (e : Event) (o : Outcome) (more : RunState → List Event) → length (more (next_state m e)) ≤ most
     → length (event_then m e o more) ≤ suc most
 event_few most m e Idle more few = omega arith
 event_few most m e (worlds.Full x field) more few = omega arith
-event_few most m e (Next w happening) more few = omega arith
+event_few most m e (Next w world_effect) more few = omega arith
 
-choice_few : (most : ℕ) (m : Moment) (o : Option Event) (more : Moment → List Event) → ((n : Moment) → length (more n) ≤ most)
+choice_few : (most : ℕ) (m : RunState) (o : Option Event) (more : RunState → List Event) → ((n : RunState) → length (more n) ≤ most)
     → length (choice_then m o more) ≤ suc most
 choice_few most m None more few = omega arith
-choice_few most m (Some e) more few = event_few most m e (outcome_at m e) more (few (next_moment m e))
+choice_few most m (Some e) more few = event_few most m e (outcome_at m e) more (few (next_state m e))
 
-pub chosen_few : (most : ℕ) (m : Moment) → length (events_chosen most m) ≤ most
+pub chosen_few : (most : ℕ) (m : RunState) → length (events_chosen most m) ≤ most
 unfolding events_chosen
 chosen_few zero m = omega arith
 chosen_few (suc most) m = choice_few most m (pick (world_of m)) (λ n. events_chosen most n) (chosen_few most)
 
-read_few : (m : Moment) (line : List ℕ) (r : Result AcceptedLine LineFault) → Allowed m.mesh (is_some m.world) r → Echoed m.mesh line r
+read_few : (m : RunState) (line : List ℕ) (r : Result AcceptedLine LineFault) → Allowed m.mesh (is_some m.world) r → Echoed m.mesh line r
     → 4 * length (events_read m r) ≤ MOST_EVENTS * length line
 unfolding Allowed Echoed words_of
 read_few m line (Err f) allowed echo = omega arith

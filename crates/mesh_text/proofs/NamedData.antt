@@ -21,8 +21,8 @@ use Rattle.mesh_meaning.specs.Events.{node_of}
 use Rattle.mesh_grammar.specs.declared.fault.LineFault.{LineFault}
 use Rattle.mesh_shell.specs.Pieces.{Piece, Whole, Long, Beyond}
 use Rattle.mesh_grammar.specs.Written.{line, command_text}
-use Rattle.mesh_shell.specs.Story as shell
-use Rattle.mesh_text.specs.Schedule.{Moment, opening, AcceptedLine, Nothing, NewNode, Does, Chooses, ShowsNode, ShowsRoute, ShowsFlight, line_of, world_of, with_world, outcome_at, next_moment, with_line_read}
+use Rattle.mesh_shell.specs.Fold as shell
+use Rattle.mesh_text.specs.Schedule.{RunState, opening, AcceptedLine, Nothing, NewNode, Does, Chooses, ShowsNode, ShowsRoute, ShowsFlight, line_of, world_of, with_world, outcome_at, next_state, with_line_read}
 use Rattle.mesh_text.specs.Lines.{words_of, event_words}
 use Rattle.mesh_text.specs.Effects.{outcome_text, outcome_lines}
 use Rattle.mesh_text.specs.Tables.{node_text_in, end_text, flight_text}
@@ -33,10 +33,10 @@ use Rattle.mesh_text.specs.Accounts.{lines_with}
 use Rattle.mesh_text.specs.Laws.{DataAreNamed}
 use Rattle.mesh_text.proofs.InRange.{Allowed, line_allowed}
 use Rattle.mesh_text.proofs.Picks.{each_chosen}
-use Rattle.mesh_text.proofs.Moments.{IsKept, IsKeptCame, opening_kept, piece_kept}
+use Rattle.mesh_text.proofs.RunStates.{IsKept, IsKeptCame, opening_kept, piece_kept}
 use Rattle.mesh_text.proofs.RunLaws.{NotFull}
 use Rattle.mesh_text.proofs.Clean.{is_clean, clean_append, decimal_clean, dotted_clean, clean_body}
-use Rattle.mesh_text.proofs.Tellings.{Naming, all_named, deliveries_in, drops_in, Tells, tells_none, tells_append, silent_append, silent_before, silent_after, silent_line, happening_told}
+use Rattle.mesh_text.proofs.Tellings.{Naming, all_named, deliveries_in, drops_in, Tells, tells_none, tells_append, silent_append, silent_before, silent_after, silent_line, world_effect_told}
 use Rattle.mesh_text.proofs.TableTexts.{node_in_silent, end_silent, flight_silent}
 
 -- ---- only turns deliver
@@ -116,10 +116,10 @@ event_silent mesh (Double id) clean = silent_line (event_words mesh (Double id))
 outcome_told : {k : Naming} → (mesh : Nodes) (x : ℕ) (e : Event) (o : Outcome) → Tells k (delivered_at (deliveries_in k mesh) x o) (dropped_data (drops_in k mesh) e o) (outcome_text mesh x o)
 outcome_told mesh x e Idle = silent_line (codes "  idle") refl refl refl
 outcome_told mesh x e (worlds.Full y field) = tells_none
-outcome_told mesh x e (Next w happening) = happening_told mesh x happening
+outcome_told mesh x e (Next w world_effect) = world_effect_told mesh x world_effect
 
 -- an event names what it delivers and drops
-pub event_named : {k : Naming} → (m : Moment) (e : Event) → HasCleanBody e
+pub event_named : {k : Naming} → (m : RunState) (e : Event) → HasCleanBody e
     → Tells k (delivered_data (deliveries_in k m.mesh) e (outcome_at m e)) (dropped_data (drops_in k m.mesh) e (outcome_at m e)) (outcome_lines m.mesh e (outcome_at m e))
 unfolding outcome_lines
 event_named {k = k} m e clean =
@@ -130,17 +130,17 @@ event_named {k = k} m e clean =
     (subst (λ d. Tells k d x (outcome_text m.mesh (node_of e) o)) (delivered_here (deliveries_in k m.mesh) (world_of m) e) (outcome_told m.mesh (node_of e) e o))
 
 -- from m to n by a text
-record Told (m n : Moment) (text : List ℕ) : Type 0 where
+record Told (m n : RunState) (text : List ℕ) : Type 0 where
   d : ℕ
   x : ℕ
   tells : Tells all_named d x text
   delivered : n.sums.delivered ≡ m.sums.delivered + d
   lost : n.sums.lost ≡ m.sums.lost + x
 
-silent_told : (m n : Moment) (text : List ℕ) → Tells all_named 0 0 text → n.sums.delivered ≡ m.sums.delivered → n.sums.lost ≡ m.sums.lost → Told m n text
+silent_told : (m n : RunState) (text : List ℕ) → Tells all_named 0 0 text → n.sums.delivered ≡ m.sums.delivered → n.sums.lost ≡ m.sums.lost → Told m n text
 silent_told m n text tells same lost = record { d = 0; x = 0; tells = tells; delivered = omega arith; lost = omega arith }
 
-told_then : (m n k : Moment) (s t : List ℕ) → Told m n s → Told n k t → Told m k (s ++ t)
+told_then : (m n k : RunState) (s t : List ℕ) → Told m n s → Told n k t → Told m k (s ++ t)
 told_then m n k s t first second =
     let a = first.delivered in let b = second.delivered in let c = first.lost in let e = second.lost in
     record {
@@ -151,8 +151,8 @@ told_then m n k s t first second =
       lost = omega arith;
     }
 
-event_told : (m : Moment) (e : Event) → HasCleanBody e → Told m (next_moment m e) (outcome_lines m.mesh e (outcome_at m e))
-unfolding next_moment
+event_told : (m : RunState) (e : Event) → HasCleanBody e → Told m (next_state m e) (outcome_lines m.mesh e (outcome_at m e))
+unfolding next_state
 event_told m e clean = record {
   d = delivered_data any e (outcome_at m e);
   x = dropped_data any e (outcome_at m e);
@@ -163,27 +163,27 @@ event_told m e clean = record {
 
 -- ---- events one after another
 
-ToldRan : Moment → auto.EventsOutcome → Type 0
+ToldRan : RunState → auto.EventsOutcome → Type 0
 ToldRan m (auto.Ended text n) = Told m n text
 ToldRan m (auto.Full text n e field) = Unit {0}
 
-before_told : (m n : Moment) (text : List ℕ) (r : auto.EventsOutcome) → Told m n text → ToldRan n r → ToldRan m (auto.before text r)
+before_told : (m n : RunState) (text : List ℕ) (r : auto.EventsOutcome) → Told m n text → ToldRan n r → ToldRan m (auto.before text r)
 unfolding ToldRan
 before_told m n text (auto.Ended others k) first is = told_then m n k text others first is
 before_told m n text (auto.Full others k e field) first is = tt
 
-done_told : (m : Moment) (e : Event) (o : Outcome) (others : Moment → auto.EventsOutcome) → Told m (next_moment m e) (outcome_lines m.mesh e o) → ToldRan (next_moment m e) (others (next_moment m e))
+done_told : (m : RunState) (e : Event) (o : Outcome) (others : RunState → auto.EventsOutcome) → Told m (next_state m e) (outcome_lines m.mesh e o) → ToldRan (next_state m e) (others (next_state m e))
     → ToldRan m (auto.done_then m e o others)
 unfolding ToldRan
-done_told m e Idle others first is = before_told m (next_moment m e) _ (others (next_moment m e)) first is
+done_told m e Idle others first is = before_told m (next_state m e) _ (others (next_state m e)) first is
 done_told m e (worlds.Full x field) others first is = tt
-done_told m e (Next w happening) others first is = before_told m (next_moment m e) _ (others (next_moment m e)) first is
+done_told m e (Next w world_effect) others first is = before_told m (next_state m e) _ (others (next_state m e)) first is
 
-events_told : (m : Moment) (es : List Event) → AllByRecursion HasCleanBody es → ToldRan m (auto.outcome_of_events m es)
+events_told : (m : RunState) (es : List Event) → AllByRecursion HasCleanBody es → ToldRan m (auto.outcome_of_events m es)
 unfolding ToldRan auto.outcome_of_events
 events_told m [] clean = silent_told m m [] tells_none refl refl
 events_told m (e ∷ es) clean =
-    done_told m e (outcome_at m e) (λ n. auto.outcome_of_events n es) (event_told m e clean.0) (events_told (next_moment m e) es clean.1)
+    done_told m e (outcome_at m e) (λ n. auto.outcome_of_events n es) (event_told m e clean.0) (events_told (next_state m e) es clean.1)
 
 -- no event that is chosen gives a datum
 
@@ -199,22 +199,22 @@ picked_clean w = by (pick w) refl
     by None is = tt
     by (Some e) is = choice_clean e (pick_is_enabled w e is).0
 
-pub chosen_clean : (most : ℕ) (m : Moment) → AllByRecursion HasCleanBody (auto.events_chosen most m)
+pub chosen_clean : (most : ℕ) (m : RunState) → AllByRecursion HasCleanBody (auto.events_chosen most m)
 chosen_clean most m = each_chosen (λ n. Unit {0}) HasCleanBody (λ n _. picked_clean (world_of n)) (λ n e clean _. tt) most m tt
 
 -- ---- a line
 
-ToldCame : Moment → LineOutcome → Type 0
+ToldCame : RunState → LineOutcome → Type 0
 ToldCame m (On text n) = Told m n text
 ToldCame m (Refused why) = Unit {0}
 ToldCame m (Full text n e field) = Unit {0}
 
-line_events_told : (m : Moment) (r : auto.EventsOutcome) → ToldRan (with_world m) r → ToldCame m (outcome_by_events r)
+line_events_told : (m : RunState) (r : auto.EventsOutcome) → ToldRan (with_world m) r → ToldCame m (outcome_by_events r)
 unfolding ToldCame ToldRan
 line_events_told m (auto.Ended text n) is = record { d = is.d; x = is.x; tells = is.tells; delivered = is.delivered; lost = is.lost }
 line_events_told m (auto.Full text n e field) is = tt
 
-auto_told : (m : Moment) (text : List ℕ) (did : ℕ) (r : auto.EventsOutcome) → Tells all_named 0 0 text → ToldRan (with_world m) r → ToldCame m (outcome_of_auto text did r)
+auto_told : (m : RunState) (text : List ℕ) (did : ℕ) (r : auto.EventsOutcome) → Tells all_named 0 0 text → ToldRan (with_world m) r → ToldCame m (outcome_of_auto text did r)
 unfolding ToldCame ToldRan
 auto_told m text did (auto.Ended others n) silent is =
     let end : Tells all_named 0 0 (auto.auto_end did) = silent_line (codes "auto did " ++ decimal did) (decimal_clean did) refl refl in
@@ -235,7 +235,7 @@ pub node_words_clean : (address first : ℕ) → is_clean (dotted_decimal addres
 node_words_clean address first =
     clean_append (dotted_decimal address ++ codes " sn ") (decimal first) (clean_append (dotted_decimal address) (codes " sn ") (dotted_clean address) refl) (decimal_clean first)
 
-line_told : (m : Moment) (a : AcceptedLine) → IsInRange m.mesh a → ToldCame m (outcome_of_line m a)
+line_told : (m : RunState) (a : AcceptedLine) → IsInRange m.mesh a → ToldCame m (outcome_of_line m a)
 unfolding ToldCame outcome_of_line words_of command_text
 line_told m Nothing range = silent_told m (with_line_read m) [] tells_none refl refl
 line_told m (NewNode address first) range =
@@ -262,12 +262,12 @@ line_told m ShowsFlight range =
     (silent_append (line (words_of m.mesh ShowsFlight)) shown
     (silent_line (words_of m.mesh ShowsFlight) refl refl refl) (flight_silent m.mesh (world_of m).flying)) refl refl
 
-read_told : (m : Moment) (r : Result AcceptedLine LineFault) → Allowed m.mesh (is_some m.world) r → ToldCame m (outcome_of_read m r)
+read_told : (m : RunState) (r : Result AcceptedLine LineFault) → Allowed m.mesh (is_some m.world) r → ToldCame m (outcome_of_read m r)
 unfolding ToldCame Allowed
 read_told m (Ok a) allowed = line_told m a allowed.0
 read_told m (Err f) allowed = tt
 
-piece_told : (m : Moment) (piece : Piece) → IsKept m → ToldCame m (outcome_of_piece m piece)
+piece_told : (m : RunState) (piece : Piece) → IsKept m → ToldCame m (outcome_of_piece m piece)
 unfolding ToldCame outcome_of_piece
 piece_told m (Whole line) is = read_told m (line_of m.mesh (is_some m.world) line) (line_allowed m.mesh (is_some m.world) line is.mesh.few)
 piece_told m Long is = tt
@@ -275,16 +275,16 @@ piece_told m Beyond is = tt
 
 -- ---- a run
 
-ToldRun : Moment → RunText → Type 0
+ToldRun : RunState → RunText → Type 0
 ToldRun m w = NotFull w.verdict → Told m w.after w.lines
 
-goes_told : (m : Moment) (c : LineOutcome) (others : Moment → RunText) → ToldCame m c → IsKeptCame c → ((n : Moment) → IsKept n → ToldRun n (others n)) → ToldRun m (goes_on m c others)
+goes_told : (m : RunState) (c : LineOutcome) (others : RunState → RunText) → ToldCame m c → IsKeptCame c → ((n : RunState) → IsKept n → ToldRun n (others n)) → ToldRun m (goes_on m c others)
 unfolding ToldCame IsKeptCame ToldRun NotFull
 goes_told m (On text n) others is kept rest not_full = told_then m n (others n).after text (others n).lines is (rest n kept not_full)
 goes_told m (Refused why) others is kept rest not_full = silent_told m m [] tells_none refl refl
 goes_told m (Full text n e field) others is kept rest not_full = absurd (not_full (m.lines + 1) refl)
 
-text_told : (m : Moment) (pieces : List Piece) → IsKept m → ToldRun m (text_from m pieces)
+text_told : (m : RunState) (pieces : List Piece) → IsKept m → ToldRun m (text_from m pieces)
 unfolding ToldRun shell.text_from
 text_told m [] is not_full = silent_told m m [] tells_none refl refl
 text_told m (piece ∷ pieces) is not_full =
@@ -296,7 +296,7 @@ deliveries text = lines_with (codes "  delivered ") text
 abbrev drops : List ℕ → ℕ
 drops text = lines_with (codes "  dropped ") text
 
-told_whole : (v : Variant) (n : Moment) (text : List ℕ) → Told (opening v) n text → (deliveries text ≡ n.sums.delivered) × (drops text ≡ n.sums.lost)
+told_whole : (v : Variant) (n : RunState) (text : List ℕ) → Told (opening v) n text → (deliveries text ≡ n.sums.delivered) × (drops text ≡ n.sums.lost)
 told_whole v n text is =
     let a = ap deliveries (append-nil text) in
     let b = (is.tells).delivered [] in

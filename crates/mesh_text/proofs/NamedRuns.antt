@@ -20,8 +20,8 @@ use Rattle.mesh_model.proofs.Sizes.{start_size}
 use Rattle.mesh_grammar.specs.declared.fault.LineFault.{LineFault}
 use Rattle.mesh_grammar.specs.Written.{line, command_text}
 use Rattle.mesh_shell.specs.Pieces.{Piece, Whole, Long, Beyond}
-use Rattle.mesh_shell.specs.Story as shell
-use Rattle.mesh_text.specs.Schedule.{Moment, opening, AcceptedLine, Nothing, NewNode, Does, Chooses, ShowsNode, ShowsRoute, ShowsFlight, line_of, world_of, with_world, outcome_at, next_moment}
+use Rattle.mesh_shell.specs.Fold as shell
+use Rattle.mesh_text.specs.Schedule.{RunState, opening, AcceptedLine, Nothing, NewNode, Does, Chooses, ShowsNode, ShowsRoute, ShowsFlight, line_of, world_of, with_world, outcome_at, next_state}
 use Rattle.mesh_text.specs.Lines.{words_of}
 use Rattle.mesh_text.specs.Effects.{datum_text, outcome_lines}
 use Rattle.mesh_text.specs.Tables.{node_text_in, end_text, flight_text}
@@ -34,7 +34,7 @@ use Rattle.mesh_text.specs.EveryWorld.{opening_world}
 use Rattle.mesh_text.specs.NamedData.{only_datum, lines_equal}
 use Rattle.mesh_text.specs.Laws.{EachDatumIsNamed}
 use Rattle.mesh_text.proofs.InRange.{Allowed, line_allowed}
-use Rattle.mesh_text.proofs.Moments.{IsKept, IsKeptCame, all_positive, opening_kept, input_kept, piece_kept}
+use Rattle.mesh_text.proofs.RunStates.{IsKept, IsKeptCame, all_positive, opening_kept, input_kept, piece_kept}
 use Rattle.mesh_text.proofs.RunLaws.{base, Quiet, IsRan, GoesBy, Follows, follows, piece_goes, made_base, events_are_of_mesh}
 use Rattle.mesh_text.proofs.Clean.{decimal_clean}
 use Rattle.mesh_text.proofs.Tellings.{Naming, Tells, lines_by, deliveries_in, drops_in, tells_none, tells_append, silent_append, silent_before, silent_after, silent_line}
@@ -73,9 +73,9 @@ Stops Idle es = Unit {0}
 Stops (worlds.Full x f) es = es ≡ []
 Stops (Next w h) es = Unit {0}
 
-unfoldable AllStop : Moment → List Event → Type 0
+unfoldable AllStop : RunState → List Event → Type 0
 AllStop m [] = Unit {0}
-AllStop m (e ∷ es) = Stops (outcome_at m e) es × AllStop (next_moment m e) es
+AllStop m (e ∷ es) = Stops (outcome_at m e) es × AllStop (next_state m e) es
 
 alone_stops : (o : Outcome) → Stops o []
 unfolding Stops
@@ -83,18 +83,18 @@ alone_stops Idle = tt
 alone_stops (worlds.Full x f) = refl
 alone_stops (Next w h) = tt
 
-event_stops : (m : Moment) (e : Event) (o : Outcome) (others : Moment → List Event) → outcome_at m e ≡ o → ((n : Moment) → AllStop n (others n)) → AllStop m (auto.event_then m e o others)
+event_stops : (m : RunState) (e : Event) (o : Outcome) (others : RunState → List Event) → outcome_at m e ≡ o → ((n : RunState) → AllStop n (others n)) → AllStop m (auto.event_then m e o others)
 unfolding Stops AllStop
-event_stops m e Idle others is rest = (subst (λ o. Stops o (others (next_moment m e))) (sym is) tt, rest (next_moment m e))
+event_stops m e Idle others is rest = (subst (λ o. Stops o (others (next_state m e))) (sym is) tt, rest (next_state m e))
 event_stops m e (worlds.Full x f) others is rest = (alone_stops (outcome_at m e), tt)
-event_stops m e (Next w h) others is rest = (subst (λ o. Stops o (others (next_moment m e))) (sym is) tt, rest (next_moment m e))
+event_stops m e (Next w h) others is rest = (subst (λ o. Stops o (others (next_state m e))) (sym is) tt, rest (next_state m e))
 
-choice_stops : (m : Moment) (chosen : Option Event) (others : Moment → List Event) → ((n : Moment) → AllStop n (others n)) → AllStop m (auto.choice_then m chosen others)
+choice_stops : (m : RunState) (chosen : Option Event) (others : RunState → List Event) → ((n : RunState) → AllStop n (others n)) → AllStop m (auto.choice_then m chosen others)
 unfolding AllStop
 choice_stops m None others rest = tt
 choice_stops m (Some e) others rest = event_stops m e (outcome_at m e) others refl rest
 
-chosen_stop : (most : ℕ) (m : Moment) → AllStop m (events_chosen most m)
+chosen_stop : (most : ℕ) (m : RunState) → AllStop m (events_chosen most m)
 unfolding AllStop events_chosen
 chosen_stop zero m = tt
 chosen_stop (suc most) m = choice_stops m (pick (world_of m)) (λ n. events_chosen most n) (λ n. chosen_stop most n)
@@ -113,14 +113,14 @@ full_delivers : (t : Test) (e : Event) (x : ℕ) (f : Counter) → delivered_dat
 full_delivers t (Turn y) x f = refl
 full_delivers t others x f = refl
 
-done_names : {k : Naming} → (mesh : Nodes) (m : Moment) (e : Event) (es : List Event) (o : Outcome) (others : Moment → auto.EventsOutcome) → Stops o es
-    → Tells k (delivered_data (deliveries_in k mesh) e o) (dropped_data (drops_in k mesh) e o) (outcome_lines m.mesh e o) → Names k mesh (after (world_of m) o) es (told (others (next_moment m e)))
+done_names : {k : Naming} → (mesh : Nodes) (m : RunState) (e : Event) (es : List Event) (o : Outcome) (others : RunState → auto.EventsOutcome) → Stops o es
+    → Tells k (delivered_data (deliveries_in k mesh) e o) (dropped_data (drops_in k mesh) e o) (outcome_lines m.mesh e o) → Names k mesh (after (world_of m) o) es (told (others (next_state m e)))
     → Tells k (delivered_data (deliveries_in k mesh) e o + over_run (delivered_data (deliveries_in k mesh)) (after (world_of m) o) es)
     (dropped_data (drops_in k mesh) e o + over_run (dropped_data (drops_in k mesh)) (after (world_of m) o) es) (told (auto.done_then m e o others))
 unfolding Stops told
 done_names {k = k} mesh m e es Idle others stops one rest =
-    subst (Tells k _ _) (told_before (outcome_lines m.mesh e Idle) (others (next_moment m e)))
-    (tells_append (delivered_data (deliveries_in k mesh) e Idle) (dropped_data (drops_in k mesh) e Idle) _ _ (outcome_lines m.mesh e Idle) (told (others (next_moment m e))) one rest)
+    subst (Tells k _ _) (told_before (outcome_lines m.mesh e Idle) (others (next_state m e)))
+    (tells_append (delivered_data (deliveries_in k mesh) e Idle) (dropped_data (drops_in k mesh) e Idle) _ _ (outcome_lines m.mesh e Idle) (told (others (next_state m e))) one rest)
 done_names {k = k} mesh m e es (worlds.Full x f) others stops one rest =
     let a : delivered_data (deliveries_in k mesh) e (worlds.Full x f) ≡ 0 = full_delivers (deliveries_in k mesh) e x f in
     let b : over_run (delivered_data (deliveries_in k mesh)) (world_of m) es ≡ 0 = ap (over_run (delivered_data (deliveries_in k mesh)) (world_of m)) stops ∙ over_none _ (world_of m) in
@@ -129,26 +129,26 @@ done_names {k = k} mesh m e es (worlds.Full x f) others stops one rest =
     let l : 0 ≡ 0 + over_run (dropped_data (drops_in k mesh)) (world_of m) es = omega arith in
     subst (λ i. Tells k i (0 + over_run (dropped_data (drops_in k mesh)) (world_of m) es) []) d (subst (λ j. Tells k 0 j []) l tells_none)
 done_names {k = k} mesh m e es (Next w h) others stops one rest =
-    subst (Tells k _ _) (told_before (outcome_lines m.mesh e (Next w h)) (others (next_moment m e)))
-    (tells_append (delivered_data (deliveries_in k mesh) e (Next w h)) (dropped_data (drops_in k mesh) e (Next w h)) _ _ (outcome_lines m.mesh e (Next w h)) (told (others (next_moment m e))) one rest)
+    subst (Tells k _ _) (told_before (outcome_lines m.mesh e (Next w h)) (others (next_state m e)))
+    (tells_append (delivered_data (deliveries_in k mesh) e (Next w h)) (dropped_data (drops_in k mesh) e (Next w h)) _ _ (outcome_lines m.mesh e (Next w h)) (told (others (next_state m e))) one rest)
 
 -- the mesh is this, where there are events
-abbrev Fits : Nodes → Moment → List Event → Type 0
+abbrev Fits : Nodes → RunState → List Event → Type 0
 Fits mesh m es = (es ≡ []) ⊎ (m.mesh ≡ mesh)
 
-fits_some : (mesh : Nodes) (m : Moment) (e : Event) (es : List Event) → Fits mesh m (e ∷ es) → m.mesh ≡ mesh
+fits_some : (mesh : Nodes) (m : RunState) (e : Event) (es : List Event) → Fits mesh m (e ∷ es) → m.mesh ≡ mesh
 fits_some mesh m e es (inl none) = absurd (let P : ⊥ = cc in P)
 fits_some mesh m e es (inr is) = is
 
-events_name : {k : Naming} → (mesh : Nodes) (m : Moment) (es : List Event) → AllStop m es → AllByRecursion HasCleanBody es → Fits mesh m es → Names k mesh (world_of m) es (told (auto.outcome_of_events m es))
-unfolding AllStop told auto.outcome_of_events over_run next_moment
+events_name : {k : Naming} → (mesh : Nodes) (m : RunState) (es : List Event) → AllStop m es → AllByRecursion HasCleanBody es → Fits mesh m es → Names k mesh (world_of m) es (told (auto.outcome_of_events m es))
+unfolding AllStop told auto.outcome_of_events over_run next_state
 events_name mesh m [] stop clean fits = tells_none
 events_name {k = k} mesh m (e ∷ es) stop clean fits =
     let is : m.mesh ≡ mesh = fits_some mesh m e es fits in
     let o : Outcome = outcome_at m e in
     done_names mesh m e es o (λ n. auto.outcome_of_events n es) stop.0
     (subst (λ nodes. Tells k (delivered_data (deliveries_in k nodes) e o) (dropped_data (drops_in k nodes) e o) (outcome_lines m.mesh e o)) is (event_named m e clean.0))
-    (events_name mesh (next_moment m e) es stop.1 clean.1 (inr is))
+    (events_name mesh (next_state m e) es stop.1 clean.1 (inr is))
 
 -- ---- a line
 
@@ -164,7 +164,7 @@ auto_names {k = k} d x text did (auto.Ended others n) silent is =
     silent_after d x (text ++ others) (auto.auto_end did) (silent_before d x text others silent is) end
 auto_names d x text did (auto.Full others n e field) silent is = silent_before d x text others silent is
 
-line_names : {k : Naming} → (mesh : Nodes) (m : Moment) (a : AcceptedLine) → IsInRange m.mesh a → Fits mesh m (events_of_line m a) → Names k mesh (world_of m) (events_of_line m a) (text_in (outcome_of_line m a))
+line_names : {k : Naming} → (mesh : Nodes) (m : RunState) (a : AcceptedLine) → IsInRange m.mesh a → Fits mesh m (events_of_line m a) → Names k mesh (world_of m) (events_of_line m a) (text_in (outcome_of_line m a))
 unfolding outcome_of_line words_of command_text AllStop
 line_names mesh m Nothing range fits = silent_names mesh (world_of m) [] [] refl tells_none
 line_names mesh m (NewNode address first) range fits =
@@ -194,13 +194,13 @@ line_names mesh m ShowsFlight range fits =
     (silent_append (line (words_of m.mesh ShowsFlight)) shown
     (silent_line (words_of m.mesh ShowsFlight) refl refl refl) (flight_silent m.mesh (world_of m).flying))
 
-read_names : {k : Naming} → (mesh : Nodes) (m : Moment) (r : Result AcceptedLine LineFault) → Allowed m.mesh (is_some m.world) r → Fits mesh m (events_read m r)
+read_names : {k : Naming} → (mesh : Nodes) (m : RunState) (r : Result AcceptedLine LineFault) → Allowed m.mesh (is_some m.world) r → Fits mesh m (events_read m r)
     → Names k mesh (world_of m) (events_read m r) (text_in (outcome_of_read m r))
 unfolding Allowed
 read_names mesh m (Ok a) allowed fits = line_names mesh m a allowed.0 fits
 read_names mesh m (Err f) allowed fits = silent_names mesh (world_of m) [] [] refl tells_none
 
-piece_names : {k : Naming} → (mesh : Nodes) (m : Moment) (piece : Piece) → IsKept m → Fits mesh m (events_of_piece m piece)
+piece_names : {k : Naming} → (mesh : Nodes) (m : RunState) (piece : Piece) → IsKept m → Fits mesh m (events_of_piece m piece)
     → Names k mesh (world_of m) (events_of_piece m piece) (text_in (outcome_of_piece m piece))
 unfolding outcome_of_piece
 piece_names mesh m (Whole line) is fits = read_names mesh m (line_of m.mesh (is_some m.world) line) (line_allowed m.mesh (is_some m.world) line is.mesh.few) fits
@@ -210,7 +210,7 @@ piece_names mesh m Beyond is fits = silent_names mesh (world_of m) [] [] refl te
 -- ---- a run
 
 -- after a line with no event
-quiet_names : {k : Naming} → (mesh : Nodes) (m n : Moment) (es more : List Event) (text lines : List ℕ) → Quiet m n es → Names k mesh (world_of m) es text → Names k mesh (base n mesh) more lines
+quiet_names : {k : Naming} → (mesh : Nodes) (m n : RunState) (es more : List Event) (text lines : List ℕ) → Quiet m n es → Names k mesh (world_of m) es text → Names k mesh (base n mesh) more lines
     → Names k mesh (base m mesh) (es ++ more) (text ++ lines)
 quiet_names {k = k} mesh m n es more text lines quiet own rest =
     let same : base n mesh ≡ base m mesh = ap₂ (λ o v. unwrap_or o (start v (first_numbers mesh))) quiet.world quiet.variant in
@@ -218,7 +218,7 @@ quiet_names {k = k} mesh m n es more text lines quiet own rest =
     (silent_before _ _ text lines (names_silent mesh (world_of m) es text quiet.none own) (subst (λ w. Names k mesh w more lines) same rest))
 
 -- after a line with events
-ran_names : {k : Naming} → (mesh : Nodes) (m n : Moment) (es more : List Event) (text lines : List ℕ) → m.mesh ≡ mesh → IsRan m n es → Names k mesh (world_of m) es text → Names k mesh (base n mesh) more lines
+ran_names : {k : Naming} → (mesh : Nodes) (m n : RunState) (es more : List Event) (text lines : List ℕ) → m.mesh ≡ mesh → IsRan m n es → Names k mesh (world_of m) es text → Names k mesh (base n mesh) more lines
     → Names k mesh (base m mesh) (es ++ more) (text ++ lines)
 ran_names {k = k} mesh m n es more text lines is ran own rest =
     let here : world_of m ≡ base m mesh = ap (base m) is in
@@ -233,13 +233,13 @@ ran_names {k = k} mesh m n es more text lines is ran own rest =
     subst (λ w. Names k mesh w (es ++ more) (text ++ lines)) here all
 
 -- where the run ends
-ended_names : {k : Naming} → (mesh : Nodes) (m : Moment) (es : List Event) (text : List ℕ) → m.mesh ≡ mesh → Names k mesh (world_of m) es text → Names k mesh (base m mesh) (es ++ []) text
+ended_names : {k : Naming} → (mesh : Nodes) (m : RunState) (es : List Event) (text : List ℕ) → m.mesh ≡ mesh → Names k mesh (world_of m) es text → Names k mesh (base m mesh) (es ++ []) text
 ended_names {k = k} mesh m es text is own =
     subst (λ l. Names k mesh (base m mesh) l text) (sym (append-nil es)) (subst (λ w. Names k mesh w es text) (ap (base m) is) own)
 
-goes_name : {k : Naming} → (mesh : Nodes) (m : Moment) (es : List Event) (c : LineOutcome) (others : Moment → RunText) (more : Moment → List Event) → GoesBy m es c → IsKeptCame c
-    → (Fits mesh m es → Names k mesh (world_of m) es (text_in c)) → ((n : Moment) → IsKept n → Follows n (more n) (others n))
-    → ((n : Moment) → IsKept n → (others n).after.mesh ≡ mesh → Names k mesh (base n mesh) (more n) (others n).lines)
+goes_name : {k : Naming} → (mesh : Nodes) (m : RunState) (es : List Event) (c : LineOutcome) (others : RunState → RunText) (more : RunState → List Event) → GoesBy m es c → IsKeptCame c
+    → (Fits mesh m es → Names k mesh (world_of m) es (text_in c)) → ((n : RunState) → IsKept n → Follows n (more n) (others n))
+    → ((n : RunState) → IsKept n → (others n).after.mesh ≡ mesh → Names k mesh (base n mesh) (more n) (others n).lines)
     → (goes_on m c others).after.mesh ≡ mesh → Names k mesh (base m mesh) (es ++ events_after c more) (goes_on m c others).lines
 unfolding GoesBy IsKeptCame
 goes_name mesh m es (On text n) others more (inl quiet) kept own led rest is =
@@ -250,7 +250,7 @@ goes_name mesh m es (On text n) others more (inr ran) kept own led rest is =
 goes_name mesh m es (Refused why) others more none kept own led rest is = ended_names mesh m es [] is (own (inr is))
 goes_name mesh m es (Full text n e field) others more goes kept own led rest is = ended_names mesh m es text is (own (inr is))
 
-run_names : {k : Naming} → (mesh : Nodes) (m : Moment) (pieces : List Piece) → IsKept m → (text_from m pieces).after.mesh ≡ mesh → Names k mesh (base m mesh) (events_from m pieces) (text_from m pieces).lines
+run_names : {k : Naming} → (mesh : Nodes) (m : RunState) (pieces : List Piece) → IsKept m → (text_from m pieces).after.mesh ≡ mesh → Names k mesh (base m mesh) (events_from m pieces) (text_from m pieces).lines
 unfolding events_from shell.text_from
 run_names mesh m [] kept is = silent_names mesh (base m mesh) [] [] refl tells_none
 run_names mesh m (piece ∷ pieces) kept is =

@@ -4,7 +4,7 @@ use Rattle.std.specs.List.{AllByRecursion, list_all}
 use Rattle.std.proofs.lemmas.Bool.{ne_eqb, and_parts}
 use Rattle.mesh_base.specs.declared.limits.TheConstants.{MOST_NODES}
 use Rattle.mesh_base.specs.Meshes.{Nodes, IsMesh, addr_at, index_of}
-use Rattle.mesh_base.proofs.Spelling.{index_of-at}
+use Rattle.mesh_base.proofs.WrittenForms.{index_of-at}
 use Rattle.mesh_model.specs.Worlds.{Event, Give, Turn, Send, Ask, Link, Cut, Deliver, Lose, Double}
 use Rattle.mesh_grammar.specs.declared.command.Command.{Command}
 use Rattle.mesh_grammar.specs.declared.command.Command.TheVariants as command
@@ -15,8 +15,8 @@ use Rattle.mesh_grammar.specs.Forms.{Arguments, NoArgument, OneAddress, TwoAddre
 use Rattle.mesh_grammar.specs.Scripts.{row_in, shape_by}
 use Rattle.mesh_grammar.specs.Commands.{schedule}
 use Rattle.mesh_grammar.specs.Written.{command_text}
-use Rattle.mesh_grammar.specs.Laws.{mention, as_mentions, HaveAddresses, IsReadable, IsWord}
-use Rattle.mesh_grammar.proofs.Spellings.{written_line_is_read}
+use Rattle.mesh_grammar.specs.Laws.{spanned, as_spanned, HaveAddresses, IsReadable, IsWord}
+use Rattle.mesh_grammar.proofs.CommandLines.{written_line_is_read}
 use Rattle.mesh_text.specs.Schedule.{AcceptedLine, Nothing, NewNode, Does, Chooses, ShowsNode, ShowsRoute, ShowsFlight, after_nodes, as_node, with_nodes, made_line, new_node, accepted_line, accepted_shape, of_pair, result_and_then, line_of}
 use Rattle.mesh_text.specs.Lines.{words_of, event_words}
 use Rattle.mesh_text.specs.Ranges.{IsEventLine, IsNewNode, IsInRange, IsInTime}
@@ -60,7 +60,7 @@ after_some (p ∷ ps) r some = refl
 
 -- a line of this command is read by its arguments
 line_said : (mesh : Nodes) (started : Bool) (c : Command) (arguments : Arguments ℕ) → AreOfForm (form_of c) arguments → HaveAddresses arguments
-    → line_of mesh started (command_text (word_of c) arguments) ≡ accepted_line mesh started c (as_mentions (next_at 0 (word_of c)) arguments)
+    → line_of mesh started (command_text (word_of c) arguments) ≡ accepted_line mesh started c (as_spanned (next_at 0 (word_of c)) arguments)
 unfolding line_of
 line_said mesh started c arguments form fit =
     ap (result_and_then (accepted_shape mesh started))
@@ -68,31 +68,31 @@ line_said mesh started c arguments form fit =
     (record { found = row_there c; word = word_there c; readable = readable c; form = form; addresses = fit }))
 
 module _ (mesh : Nodes) (started : Bool) (is : IsMesh mesh) where
-  known_there : {B : Type 0} (at x : ℕ) (next : ℕ → Result B LineFault) → x < length mesh → as_node mesh (mention at (addr_at mesh x)) next ≡ next x
-  known_there at x next lt = ap (λ o. with_argument o (Unknown ((mention at (addr_at mesh x)).span)) next) (index_of-at mesh x is lt)
+  known_there : {B : Type 0} (at x : ℕ) (next : ℕ → Result B LineFault) → x < length mesh → as_node mesh (spanned at (addr_at mesh x)) next ≡ next x
+  known_there at x next lt = ap (λ o. with_argument o (Unknown ((spanned at (addr_at mesh x)).span)) next) (index_of-at mesh x is lt)
 
   one_there : (c : Command) (at x : ℕ) → x < length mesh
-      → after_nodes mesh (result_and_then (made_line c) (with_nodes mesh (OneAddress (mention at (addr_at mesh x))))) ≡ made_line c (OneAddress x)
+      → after_nodes mesh (result_and_then (made_line c) (with_nodes mesh (OneAddress (spanned at (addr_at mesh x))))) ≡ made_line c (OneAddress x)
   one_there c at x lt =
       after_some mesh _ (omega arith) ∙ ap (result_and_then (made_line c)) (known_there at x (λ i. Ok (OneAddress i)) lt)
 
   two_there : (c : Command) (at next x y : ℕ) → x < length mesh → y < length mesh
-      → after_nodes mesh (result_and_then (made_line c) (with_nodes mesh (TwoAddresses (mention at (addr_at mesh x)) (mention next (addr_at mesh y)))))
+      → after_nodes mesh (result_and_then (made_line c) (with_nodes mesh (TwoAddresses (spanned at (addr_at mesh x)) (spanned next (addr_at mesh y)))))
       ≡ made_line c (TwoAddresses x y)
   two_there c at next x y x_lt y_lt =
       after_some mesh _ (omega arith)
-      ∙ ap (result_and_then (made_line c)) (known_there at x (λ i. as_node mesh (mention next (addr_at mesh y)) (λ j. Ok (TwoAddresses i j))) x_lt)
+      ∙ ap (result_and_then (made_line c)) (known_there at x (λ i. as_node mesh (spanned next (addr_at mesh y)) (λ j. Ok (TwoAddresses i j))) x_lt)
       ∙ ap (result_and_then (made_line c)) (known_there next y (λ j. Ok (TwoAddresses x j)) y_lt)
 
   text_there : (c : Command) (at next x y : ℕ) (text : List ℕ) → x < length mesh → y < length mesh
-      → after_nodes mesh (result_and_then (made_line c) (with_nodes mesh (AddressesAndText (mention at (addr_at mesh x)) (mention next (addr_at mesh y)) text)))
+      → after_nodes mesh (result_and_then (made_line c) (with_nodes mesh (AddressesAndText (spanned at (addr_at mesh x)) (spanned next (addr_at mesh y)) text)))
       ≡ made_line c (AddressesAndText x y text)
   text_there c at next x y text x_lt y_lt =
       after_some mesh _ (omega arith)
-      ∙ ap (result_and_then (made_line c)) (known_there at x (λ i. as_node mesh (mention next (addr_at mesh y)) (λ j. Ok (AddressesAndText i j text))) x_lt)
+      ∙ ap (result_and_then (made_line c)) (known_there at x (λ i. as_node mesh (spanned next (addr_at mesh y)) (λ j. Ok (AddressesAndText i j text))) x_lt)
       ∙ ap (result_and_then (made_line c)) (known_there next y (λ j. Ok (AddressesAndText x j text)) y_lt)
 
-  new_there : (at address first : ℕ) → IsNewNode mesh address first → new_node mesh false (mention at address) first ≡ Ok (NewNode address first)
+  new_there : (at address first : ℕ) → IsNewNode mesh address first → new_node mesh false (spanned at address) first ≡ Ok (NewNode address first)
   new_there at address first new =
       let absent : is_some (index_of mesh address) ≡ false = ap is_some new.absent in
       let few : eqb (length mesh) MOST_NODES ≡ false = ne_eqb (length mesh) MOST_NODES (λ e. let lt = new.few in omega arith) in
@@ -144,7 +144,7 @@ module _ (mesh : Nodes) (started : Bool) (is : IsMesh mesh) where
   parses Nothing range early = blank_line
   parses (NewNode address first) range early =
       line_said mesh started command.Node (NumberedAddress address first) (range.positive, range.most) range.fits
-      ∙ ap (λ b. new_node mesh b (mention (next_at 0 (word_of command.Node)) address) first) early
+      ∙ ap (λ b. new_node mesh b (spanned (next_at 0 (word_of command.Node)) address) first) early
       ∙ new_there (next_at 0 (word_of command.Node)) address first range
   parses (Does e) range early = event_line e range
   parses (Chooses count) range early = line_of_number command.Auto count (range.1, range.2) range.0

@@ -14,8 +14,8 @@ use Rattle.mesh_model.proofs.Lists.{each_append}
 use Rattle.mesh_model.proofs.MeshSteps.{run_keeps}
 use Rattle.mesh_model.proofs.Acyclic.{loop_free}
 use Rattle.mesh_grammar.specs.declared.fault.LineFault.{LineFault}
-use Rattle.mesh_shell.specs.Story as shell
-use Rattle.mesh_text.specs.Schedule.{Moment, opening, AcceptedLine, Nothing, NewNode, Does, Chooses, ShowsNode, ShowsRoute, ShowsFlight, line_of, world_of, with_world, outcome_at, next_moment, with_line_read}
+use Rattle.mesh_shell.specs.Fold as shell
+use Rattle.mesh_text.specs.Schedule.{RunState, opening, AcceptedLine, Nothing, NewNode, Does, Chooses, ShowsNode, ShowsRoute, ShowsFlight, line_of, world_of, with_world, outcome_at, next_state, with_line_read}
 use Rattle.mesh_shell.specs.Pieces.{Piece, Whole, Long, Beyond}
 use Rattle.mesh_grammar.specs.Written.{line}
 use Rattle.mesh_text.specs.Lines.{words_of}
@@ -28,7 +28,7 @@ use Rattle.mesh_text.specs.Auto.{events_chosen}
 use Rattle.mesh_text.specs.Runs.{events_of_line, events_read, events_of_piece, events_after, events_from, events_of_input, mesh_of_input, world_after}
 use Rattle.mesh_text.specs.Laws.{RunIsRunOfEvents, AllEventsCount, EventsAreOfMesh, RunsAreLoopFree, RunKeepsInvariant, EachDatumIsAccountedFor}
 use Rattle.mesh_text.proofs.InRange.{Allowed, line_allowed}
-use Rattle.mesh_text.proofs.Moments.{IsKept, all_positive, started_kept, UsualList, chosen_usual, IsKeptCame, piece_kept, input_kept, opening_kept}
+use Rattle.mesh_text.proofs.RunStates.{IsKept, all_positive, started_kept, UsualList, chosen_usual, IsKeptCame, piece_kept, input_kept, opening_kept}
 
 pub run_append : (w : World) (xs ys : List Event) → run w (xs ++ ys) ≡ run (run w xs) ys
 unfolding run
@@ -46,46 +46,46 @@ run_one w e = refl
 -- ---- events one after another
 
 -- from m to n by these events
-pub record IsRan (m n : Moment) (es : List Event) : Type 0 where
+pub record IsRan (m n : RunState) (es : List Event) : Type 0 where
   pub variant : n.variant ≡ m.variant
   pub mesh : n.mesh ≡ m.mesh
   pub made : is_some n.world ≡ true
   pub world : world_of n ≡ run (world_of m) es
   pub count : n.sums.events ≡ m.sums.events + length es
 
-ran_more : (m : Moment) (e : Event) (n : Moment) (es : List Event) → IsRan (next_moment m e) n es → IsRan m n (e ∷ es)
-unfolding next_moment run
+ran_more : (m : RunState) (e : Event) (n : RunState) (es : List Event) → IsRan (next_state m e) n es → IsRan m n (e ∷ es)
+unfolding next_state run
 ran_more m e n es is = record { variant = is.variant; mesh = is.mesh; made = is.made; world = is.world; count = let count = is.count in omega arith }
 
-RanTo : Moment → auto.EventsOutcome → List Event → Type 0
+RanTo : RunState → auto.EventsOutcome → List Event → Type 0
 RanTo m (auto.Ended text n) es = IsRan m n es
 RanTo m (auto.Full text n e field) es = Unit {0}
 
-ran_before : (m : Moment) (e : Event) (text : List ℕ) (r : auto.EventsOutcome) (es : List Event) → RanTo (next_moment m e) r es → RanTo m (auto.before text r) (e ∷ es)
+ran_before : (m : RunState) (e : Event) (text : List ℕ) (r : auto.EventsOutcome) (es : List Event) → RanTo (next_state m e) r es → RanTo m (auto.before text r) (e ∷ es)
 unfolding RanTo
 ran_before m e text (auto.Ended others n) es is = ran_more m e n es is
 ran_before m e text (auto.Full others n f field) es is = tt
 
-done_ran : (m : Moment) (e : Event) (o : Outcome) (others : Moment → auto.EventsOutcome) (es : List Event) → RanTo (next_moment m e) (others (next_moment m e)) es
+done_ran : (m : RunState) (e : Event) (o : Outcome) (others : RunState → auto.EventsOutcome) (es : List Event) → RanTo (next_state m e) (others (next_state m e)) es
     → RanTo m (auto.done_then m e o others) (e ∷ es)
 unfolding RanTo
-done_ran m e Idle others es is = ran_before m e _ (others (next_moment m e)) es is
+done_ran m e Idle others es is = ran_before m e _ (others (next_state m e)) es is
 done_ran m e (worlds.Full x field) others es is = tt
-done_ran m e (Next w happening) others es is = ran_before m e _ (others (next_moment m e)) es is
+done_ran m e (Next w world_effect) others es is = ran_before m e _ (others (next_state m e)) es is
 
-stepped_made : (m : Moment) (e : Event) → is_some (next_moment m e).world ≡ true
-unfolding next_moment
+stepped_made : (m : RunState) (e : Event) → is_some (next_state m e).world ≡ true
+unfolding next_state
 stepped_made m e = refl
 
-events_ran : (m : Moment) (es : List Event) → is_some m.world ≡ true → RanTo m (auto.outcome_of_events m es) es
+events_ran : (m : RunState) (es : List Event) → is_some m.world ≡ true → RanTo m (auto.outcome_of_events m es) es
 unfolding RanTo auto.outcome_of_events
 events_ran m [] made = record { variant = refl; mesh = refl; made = made; world = sym (run_none (world_of m)); count = omega arith }
 events_ran m (e ∷ es) made =
-    done_ran m e (outcome_at m e) (λ n. auto.outcome_of_events n es) es (events_ran (next_moment m e) es (stepped_made m e))
+    done_ran m e (outcome_at m e) (λ n. auto.outcome_of_events n es) es (events_ran (next_state m e) es (stepped_made m e))
 
 -- each of them is an event of the mesh
 
-line_events_usual : (m : Moment) (a : AcceptedLine) → IsInRange m.mesh a → IsKept m → UsualList (length m.mesh) (events_of_line m a)
+line_events_usual : (m : RunState) (a : AcceptedLine) → IsInRange m.mesh a → IsKept m → UsualList (length m.mesh) (events_of_line m a)
 unfolding UsualList
 line_events_usual m Nothing range is = tt
 line_events_usual m (NewNode address first) range is = tt
@@ -95,12 +95,12 @@ line_events_usual m (ShowsNode x) range is = tt
 line_events_usual m (ShowsRoute x d) range is = tt
 line_events_usual m ShowsFlight range is = tt
 
-pub read_usual : (m : Moment) (r : Result AcceptedLine LineFault) → Allowed m.mesh (is_some m.world) r → IsKept m → UsualList (length m.mesh) (events_read m r)
+pub read_usual : (m : RunState) (r : Result AcceptedLine LineFault) → Allowed m.mesh (is_some m.world) r → IsKept m → UsualList (length m.mesh) (events_read m r)
 unfolding Allowed UsualList
 read_usual m (Ok a) allowed is = line_events_usual m a allowed.0 is
 read_usual m (Err f) allowed is = tt
 
-piece_usual : (m : Moment) (piece : Piece) → IsKept m → UsualList (length m.mesh) (events_of_piece m piece)
+piece_usual : (m : RunState) (piece : Piece) → IsKept m → UsualList (length m.mesh) (events_of_piece m piece)
 unfolding UsualList
 piece_usual m (Whole line) is = read_usual m (line_of m.mesh (is_some m.world) line) (line_allowed m.mesh (is_some m.world) line is.mesh.few) is
 piece_usual m Long is = tt
@@ -109,29 +109,29 @@ piece_usual m Beyond is = tt
 -- ---- a line
 
 -- no event, and at most one more node
-pub record Quiet (m n : Moment) (es : List Event) : Type 0 where
+pub record Quiet (m n : RunState) (es : List Event) : Type 0 where
   pub variant : n.variant ≡ m.variant
   pub mesh : is_some m.world ≡ true → n.mesh ≡ m.mesh
   pub world : n.world ≡ m.world
   pub none : es ≡ []
   pub count : n.sums.events ≡ m.sums.events
 
-unfoldable pub GoesBy : Moment → List Event → LineOutcome → Type 0
+unfoldable pub GoesBy : RunState → List Event → LineOutcome → Type 0
 GoesBy m es (On text n) = Quiet m n es ⊎ IsRan m n es
 GoesBy m es (Refused why) = es ≡ []
 GoesBy m es (Full text n e field) = Unit {0}
 
-line_events_go : (m : Moment) (r : auto.EventsOutcome) (es : List Event) → RanTo m r es → GoesBy m es (outcome_by_events r)
+line_events_go : (m : RunState) (r : auto.EventsOutcome) (es : List Event) → RanTo m r es → GoesBy m es (outcome_by_events r)
 unfolding GoesBy RanTo
 line_events_go m (auto.Ended text n) es is = inr (record { variant = is.variant; mesh = is.mesh; made = is.made; world = is.world; count = is.count })
 line_events_go m (auto.Full text n e field) es is = tt
 
-auto_goes : (m : Moment) (text : List ℕ) (did : ℕ) (r : auto.EventsOutcome) (es : List Event) → RanTo m r es → GoesBy m es (outcome_of_auto text did r)
+auto_goes : (m : RunState) (text : List ℕ) (did : ℕ) (r : auto.EventsOutcome) (es : List Event) → RanTo m r es → GoesBy m es (outcome_of_auto text did r)
 unfolding GoesBy RanTo
 auto_goes m text did (auto.Ended others n) es is = inr (record { variant = is.variant; mesh = is.mesh; made = is.made; world = is.world; count = is.count })
 auto_goes m text did (auto.Full others n e field) es is = tt
 
-start_goes : (m : Moment) (es : List Event) (c : LineOutcome) → GoesBy (with_world m) es c → GoesBy m es c
+start_goes : (m : RunState) (es : List Event) (c : LineOutcome) → GoesBy (with_world m) es c → GoesBy m es c
 unfolding GoesBy
 start_goes m es (On text n) (inl is) =
     let same : n.world ≡ Some (world_of m) = is.world in
@@ -146,10 +146,10 @@ start_goes m es (On text n) (inr is) = inr (record { variant = is.variant; mesh 
 start_goes m es (Refused why) is = is
 start_goes m es (Full text n e field) is = tt
 
-shown : (m : Moment) → IsRan m (with_line_read (with_world m)) []
+shown : (m : RunState) → IsRan m (with_line_read (with_world m)) []
 shown m = record { variant = refl; mesh = refl; made = refl; world = sym (run_none (world_of m)); count = omega arith }
 
-line_goes : (m : Moment) (a : AcceptedLine) → IsInTime (is_some m.world) a → GoesBy m (events_of_line m a) (outcome_of_line m a)
+line_goes : (m : RunState) (a : AcceptedLine) → IsInTime (is_some m.world) a → GoesBy m (events_of_line m a) (outcome_of_line m a)
 unfolding GoesBy outcome_of_line
 line_goes m Nothing early = inl (record { variant = refl; mesh = λ _. refl; world = refl; none = refl; count = refl })
 line_goes m (NewNode address first) early = inl (record { variant = refl; mesh = λ made. absurd (let clash : true ≡ false = sym made ∙ early in let P : ⊥ = cc in P); world = refl; none = refl; count = refl })
@@ -165,12 +165,12 @@ line_goes m (ShowsNode x) early = inr (shown m)
 line_goes m (ShowsRoute x d) early = inr (shown m)
 line_goes m ShowsFlight early = inr (shown m)
 
-pub result_goes : (m : Moment) (r : Result AcceptedLine LineFault) → Allowed m.mesh (is_some m.world) r → GoesBy m (events_read m r) (outcome_of_read m r)
+pub result_goes : (m : RunState) (r : Result AcceptedLine LineFault) → Allowed m.mesh (is_some m.world) r → GoesBy m (events_read m r) (outcome_of_read m r)
 unfolding Allowed GoesBy
 result_goes m (Ok a) allowed = line_goes m a allowed.1
 result_goes m (Err f) allowed = refl
 
-pub piece_goes : (m : Moment) (piece : Piece) → IsKept m → GoesBy m (events_of_piece m piece) (outcome_of_piece m piece)
+pub piece_goes : (m : RunState) (piece : Piece) → IsKept m → GoesBy m (events_of_piece m piece) (outcome_of_piece m piece)
 unfolding outcome_of_piece GoesBy
 piece_goes m (Whole line) is = result_goes m (line_of m.mesh (is_some m.world) line) (line_allowed m.mesh (is_some m.world) line is.mesh.few)
 piece_goes m Long is = refl
@@ -178,8 +178,8 @@ piece_goes m Beyond is = refl
 
 -- ---- whole runs
 
--- the world of a moment, where the mesh came to be this before a world was made
-abbrev pub base : Moment → Nodes → World
+-- the world of a state, where the mesh came to be this before a world was made
+abbrev pub base : RunState → Nodes → World
 base m mesh = unwrap_or m.world (start m.variant (first_numbers mesh))
 
 pub made_base : (o : Option World) (v w : World) → is_some o ≡ true → unwrap_or o v ≡ unwrap_or o w
@@ -190,7 +190,7 @@ unfoldable pub NotFull : Verdict → Type 0
 NotFull v = (number : ℕ) → v ≢ FullAt number
 
 -- what was written from m on, where these events were done
-pub record Follows (m : Moment) (es : List Event) (w : RunText) : Type 0 where
+pub record Follows (m : RunState) (es : List Event) (w : RunText) : Type 0 where
   pub mesh : is_some m.world ≡ true → w.after.mesh ≡ m.mesh
   pub low : m.sums.events ≤ w.after.sums.events
   pub world : world_of w.after ≡ run (base m w.after.mesh) (take (w.after.sums.events - m.sums.events) es)
@@ -201,7 +201,7 @@ take_none : (k : ℕ) (es : List Event) → k ≡ 0 → take k es ≡ []
 take_none k es none = ap (λ n. take n es) none
 
 -- where the run ends at a line
-ends_at : (m : Moment) (es : List Event) (w : RunText) → w.after ≡ m → UsualList (length m.mesh) es → (NotFull w.verdict → es ≡ []) → Follows m es w
+ends_at : (m : RunState) (es : List Event) (w : RunText) → w.after ≡ m → UsualList (length m.mesh) es → (NotFull w.verdict → es ≡ []) → Follows m es w
 unfolding UsualList
 ends_at m es w same usual none =
     let mesh : w.after.mesh ≡ m.mesh = ap (λ n. n.mesh) same in
@@ -216,7 +216,7 @@ ends_at m es w same usual none =
     }
 
 -- after a line with no event
-quiet_follows : (m n : Moment) (es more : List Event) (w : RunText) → Quiet m n es → Follows n more w → Follows m (es ++ more) w
+quiet_follows : (m n : RunState) (es more : List Event) (w : RunText) → Quiet m n es → Follows n more w → Follows m (es ++ more) w
 quiet_follows m n es more w quiet rest =
     let whole : es ++ more ≡ more = ap (λ l. l ++ more) quiet.none in
     let count : n.sums.events ≡ m.sums.events = quiet.count in
@@ -232,7 +232,7 @@ quiet_follows m n es more w quiet rest =
     })
 
 -- after a line with events
-ran_follows : (m n : Moment) (es more : List Event) (w : RunText) → IsRan m n es → UsualList (length m.mesh) es → Follows n more w → Follows m (es ++ more) w
+ran_follows : (m n : RunState) (es more : List Event) (w : RunText) → IsRan m n es → UsualList (length m.mesh) es → Follows n more w → Follows m (es ++ more) w
 unfolding UsualList
 ran_follows m n es more w ran usual rest =
     let count : n.sums.events ≡ m.sums.events + length es = ran.count in
@@ -252,8 +252,8 @@ ran_follows m n es more w ran usual rest =
       usual = each_append (IsEvent (length w.after.mesh)) es more (subst (λ j. AllByRecursion (IsEvent j) es) (ap length (sym mesh)) usual) rest.usual;
     }
 
-pub goes_follows : (m : Moment) (es : List Event) (c : LineOutcome) (others : Moment → RunText) (more : Moment → List Event) → GoesBy m es c → IsKeptCame c → UsualList (length m.mesh) es
-    → ((n : Moment) → IsKept n → Follows n (more n) (others n)) → Follows m (es ++ events_after c more) (goes_on m c others)
+pub goes_follows : (m : RunState) (es : List Event) (c : LineOutcome) (others : RunState → RunText) (more : RunState → List Event) → GoesBy m es c → IsKeptCame c → UsualList (length m.mesh) es
+    → ((n : RunState) → IsKept n → Follows n (more n) (others n)) → Follows m (es ++ events_after c more) (goes_on m c others)
 unfolding GoesBy IsKeptCame NotFull
 goes_follows m es (On text n) others more (inl quiet) kept usual rest =
     let next = quiet_follows m n es (more n) (others n) quiet (rest n kept) in
@@ -269,7 +269,7 @@ goes_follows m es (Full text n e field) others more goes kept usual rest =
     subst (λ l. Follows m l (goes_on m (Full text n e field) others)) (sym alone)
     (ends_at m es (goes_on m (Full text n e field) others) refl usual (λ not_full. absurd (not_full (m.lines + 1) refl)))
 
-pub follows : (m : Moment) (pieces : List Piece) → IsKept m → Follows m (events_from m pieces) (text_from m pieces)
+pub follows : (m : RunState) (pieces : List Piece) → IsKept m → Follows m (events_from m pieces) (text_from m pieces)
 unfolding events_from shell.text_from UsualList
 follows m [] is = ends_at m [] (text_from m []) refl tt (λ _. refl)
 follows m (piece ∷ pieces) is =

@@ -1,4 +1,4 @@
--- A run of lines, and then of others, is the run of the others from the moment to which the first lead.
+-- A run of lines, and then of others, is the run of the others from the state to which the first lead.
 use Rattle.std.proofs.Common.{◌≡◌, ℕ, ◌≤◌, Bool, true, false, cond, eqb, List, [], ◌∷◌, ◌++◌, length, length-append, refl, sym, ap, ap₂, subst, ◌∙◌, arith, append_assoc}
 use Rattle.std.specs.Prelude.{nat_lt}
 use Rattle.std.specs.List.{join_with_byte, onto_first}
@@ -10,8 +10,8 @@ use Rattle.mesh_base.specs.Parts.{parts}
 use Rattle.mesh_grammar.specs.Lines.{complete, complete_parts}
 use Rattle.mesh_io.specs.NextLines.{schedule_limits}
 use Rattle.mesh_shell.specs.Pieces.{Piece, piece_of, pieces_of}
-use Rattle.mesh_shell.specs.Story as shell
-use Rattle.mesh_text.specs.Schedule.{Moment}
+use Rattle.mesh_shell.specs.Fold as shell
+use Rattle.mesh_text.specs.Schedule.{RunState}
 use Rattle.mesh_text.specs.Text.{pieces_of_input, LineOutcome, On, Refused, Full, outcome_of_piece, RunText, lines_before, goes_on, text_from}
 use Rattle.mesh_text.specs.declared.verdict.Verdict.TheVariants.{Finished}
 use Rattle.mesh_text.specs.Laws.{RunGoesOn}
@@ -132,10 +132,10 @@ pieces_seam a b whole few =
 
 -- ---- the run
 
-GoesOn : Moment → RunText → List Piece → List Piece → Type 0
+GoesOn : RunState → RunText → List Piece → List Piece → Type 0
 GoesOn m w ps qs = w.verdict ≡ Finished → text_from m (ps ++ qs) ≡ lines_before w.lines (text_from w.after qs)
 
-came_goes_on : (m : Moment) (c : LineOutcome) (ps qs : List Piece) → ((n : Moment) → GoesOn n (text_from n ps) ps qs)
+came_goes_on : (m : RunState) (c : LineOutcome) (ps qs : List Piece) → ((n : RunState) → GoesOn n (text_from n ps) ps qs)
     → (goes_on m c (λ n. text_from n ps)).verdict ≡ Finished
     → goes_on m c (λ n. text_from n (ps ++ qs))
     ≡ lines_before (goes_on m c (λ n. text_from n ps)).lines (text_from (goes_on m c (λ n. text_from n ps)).after qs)
@@ -147,7 +147,7 @@ came_goes_on m (On text n) ps qs rest finished =
 came_goes_on m (Refused why) ps qs rest finished = absurd (let P : ⊥ = cc in P)
 came_goes_on m (Full text n e field) ps qs rest finished = absurd (let P : ⊥ = cc in P)
 
-goes_on_from : (m : Moment) (ps qs : List Piece) → GoesOn m (text_from m ps) ps qs
+goes_on_from : (m : RunState) (ps qs : List Piece) → GoesOn m (text_from m ps) ps qs
 unfolding GoesOn shell.text_from
 goes_on_from m [] qs finished = refl
 goes_on_from m (p ∷ ps) qs finished = came_goes_on m (outcome_of_piece m p) ps qs (λ n. goes_on_from n ps qs) finished

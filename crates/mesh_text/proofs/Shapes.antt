@@ -10,7 +10,7 @@ use Rattle.mesh_grammar.specs.declared.fault.LineFault.{LineFault}
 use Rattle.mesh_grammar.specs.declared.fault.LineFault.TheVariants.{Early, Unknown}
 use Rattle.mesh_grammar.specs.declared.form.Form.{Form}
 use Rattle.mesh_grammar.specs.declared.form.Form.TheVariants as form
-use Rattle.mesh_grammar.specs.Words.{Mention, is_blank}
+use Rattle.mesh_grammar.specs.Words.{SpannedAddr, is_blank}
 use Rattle.mesh_grammar.specs.Forms.{Arguments, NoArgument, OneAddress, TwoAddresses, OneNumber, AddressesAndText, AreOfForm}
 use Rattle.mesh_grammar.specs.Scripts.{Row, Shape}
 use Rattle.mesh_grammar.specs.Commands.{schedule, greatest_id, shape_of}
@@ -88,17 +88,17 @@ pub schedule_is_readable : AreReadable schedule
 schedule_is_readable = (tt, (tt, (tt, (tt, (tt, (tt, (tt, (omega arith, (omega arith, (omega arith, (omega arith, (tt, (tt, (tt, tt))))))))))))))
 
 -- a line that is read as this command and these arguments
-pub record IsSaid (line : List ℕ) (c : Command) (arguments : Arguments Mention) : Type 0 where
+pub record IsSaid (line : List ℕ) (c : Command) (arguments : Arguments SpannedAddr) : Type 0 where
   pub form : AreOfForm (form_of c) arguments
   pub addresses : HaveAddresses (addresses_of arguments)
   pub text : IsTextOf line (word_of c) (addresses_of arguments)
 
-unfoldable pub Said : List ℕ → Result (Option (Shape Command Mention)) LineFault → Type 0
+unfoldable pub Said : List ℕ → Result (Option (Shape Command SpannedAddr)) LineFault → Type 0
 Said line (Err fault) = Unit {0}
 Said line (Ok None) = is_blank line ≡ true
 Said line (Ok (Some s)) = IsSaid line s.command s.arguments
 
-row_said : (line : List ℕ) (s : Shape Command Mention) (row : Row Command) → IsRead schedule line s row → IsSaid line s.command s.arguments
+row_said : (line : List ℕ) (s : Shape Command SpannedAddr) (row : Row Command) → IsRead schedule line s row → IsSaid line s.command s.arguments
 unfolding IsRowOfCommand
 row_said line s row is =
     let of = row_found IsRowOfCommand schedule row.word row rows_of_commands is.found in
@@ -110,7 +110,7 @@ row_said line s row is =
       text = subst (λ w. IsTextOf line w (addresses_of s.arguments)) word_is is.text;
     }
 
-said_if : (line : List ℕ) (r : Result (Option (Shape Command Mention)) LineFault) → LineRead schedule line r → Said line r
+said_if : (line : List ℕ) (r : Result (Option (Shape Command SpannedAddr)) LineFault) → LineRead schedule line r → Said line r
 unfolding LineRead Said
 said_if line (Err fault) read = tt
 said_if line (Ok None) read = read
@@ -122,19 +122,19 @@ said line = said_if line (shape_of line) (line_read schedule line schedule_is_re
 -- ---- nodes
 
 -- node x is the one that is mentioned
-abbrev pub IsAt : Nodes → Mention → ℕ → Type 0
+abbrev pub IsAt : Nodes → SpannedAddr → ℕ → Type 0
 IsAt mesh m x = (x < length mesh) × (addr_at mesh x ≡ m.address)
 
 -- what holds of a line that is made of arguments, where a fault doesn't break it
 module _ (mesh : Nodes) (P : Result AcceptedLine LineFault → Type 0) (faulty : (f : LineFault) → P (Err f)) (make : Arguments ℕ → Result AcceptedLine LineFault) where
-  abbrev PlacedSo : Arguments Mention → Type 0
+  abbrev PlacedSo : Arguments SpannedAddr → Type 0
   PlacedSo arguments = P (after_nodes mesh (result_and_then make (with_nodes mesh arguments)))
 
   some_node : (nodes : Nodes) (r : Result AcceptedLine LineFault) → (1 ≤ length nodes → P r) → P (after_nodes nodes r)
   some_node [] r holds = faulty Early
   some_node (p ∷ ps) r holds = holds (omega arith)
 
-  at_node : (m : Mention) (next : ℕ → Result (Arguments ℕ) LineFault) → ((x : ℕ) → IsAt mesh m x → P (result_and_then make (next x)))
+  at_node : (m : SpannedAddr) (next : ℕ → Result (Arguments ℕ) LineFault) → ((x : ℕ) → IsAt mesh m x → P (result_and_then make (next x)))
       → P (result_and_then make (as_node mesh m next))
   at_node m next holds =
       with_argument_case (λ r. P (result_and_then make r)) (index_of mesh m.address) (Unknown m.span) next (faulty (Unknown m.span))
@@ -146,14 +146,14 @@ module _ (mesh : Nodes) (P : Result AcceptedLine LineFault → Type 0) (faulty :
   pub number_placed : (n : ℕ) → (1 ≤ length mesh → P (make (OneNumber n))) → PlacedSo (OneNumber n)
   number_placed n holds = some_node mesh _ holds
 
-  pub one_placed : (m : Mention) → ((x : ℕ) → IsAt mesh m x → P (make (OneAddress x))) → PlacedSo (OneAddress m)
+  pub one_placed : (m : SpannedAddr) → ((x : ℕ) → IsAt mesh m x → P (make (OneAddress x))) → PlacedSo (OneAddress m)
   one_placed m holds = some_node mesh _ (λ some. at_node m (λ x. Ok (OneAddress x)) holds)
 
-  pub two_placed : (m n : Mention) → ((x y : ℕ) → IsAt mesh m x → IsAt mesh n y → P (make (TwoAddresses x y))) → PlacedSo (TwoAddresses m n)
+  pub two_placed : (m n : SpannedAddr) → ((x y : ℕ) → IsAt mesh m x → IsAt mesh n y → P (make (TwoAddresses x y))) → PlacedSo (TwoAddresses m n)
   two_placed m n holds =
       some_node mesh _ (λ some. at_node m (λ x. as_node mesh n (λ y. Ok (TwoAddresses x y))) (λ x x_at. at_node n (λ y. Ok (TwoAddresses x y)) (λ y y_at. holds x y x_at y_at)))
 
-  pub text_placed : (m n : Mention) (text : List ℕ) → ((x y : ℕ) → IsAt mesh m x → IsAt mesh n y → P (make (AddressesAndText x y text)))
+  pub text_placed : (m n : SpannedAddr) (text : List ℕ) → ((x y : ℕ) → IsAt mesh m x → IsAt mesh n y → P (make (AddressesAndText x y text)))
       → PlacedSo (AddressesAndText m n text)
   text_placed m n text holds =
       some_node mesh _ (λ some. at_node m (λ x. as_node mesh n (λ y. Ok (AddressesAndText x y text))) (λ x x_at. at_node n (λ y. Ok (AddressesAndText x y text)) (λ y y_at. holds x y x_at y_at)))

@@ -120,7 +120,7 @@ pub node_in_silent : {k : Naming} → (mesh : Nodes) (o : Option Node) → Tells
 node_in_silent mesh None = tells_none
 node_in_silent mesh (Some n) = node_silent mesh n.core (length n.queue)
 
--- ---- a route and the air
+-- ---- a route and the radio
 
 pub end_silent : {k : Naming} → (mesh : Nodes) (end : End) → Tells k 0 0 (end_text mesh end)
 unfolding stuck_line

@@ -6,15 +6,15 @@ use Rattle.std.specs.Fmt.{decimal}
 use Rattle.std.proofs.lemmas.List.Sums.{sum_by-cons}
 use Rattle.mesh_base.specs.Meshes.{Nodes}
 use Rattle.mesh_base.specs.Parts.{parts}
-use Rattle.mesh_base.proofs.Spelling.{parts_at}
+use Rattle.mesh_base.proofs.WrittenForms.{parts_at}
 use Rattle.aodv_model.specs.Cores.{Body, Message, Pkt, Rreq, Rrep, Rerr}
 use Rattle.aodv_model.specs.Handlers.{Cast, Nothing, One, Many, All, Effect, Took, Own, Stored, FromNeighbour}
-use Rattle.mesh_model.specs.Worlds.{Copy, Happening, Changed, Taken, Sent, CopyHeard, CopyLost, CopyDoubled}
+use Rattle.mesh_model.specs.Worlds.{Copy, WorldEffect, Changed, Taken, Sent, CopyHeard, CopyLost, CopyDoubled}
 use Rattle.mesh_model.specs.Accounts.{Test, counts, in_message, in_taken, in_dropped, delivered_in, dropped_in}
 use Rattle.mesh_meaning.specs.Packets.{packet_of}
 use Rattle.mesh_grammar.specs.Written.{line, label_number}
 use Rattle.mesh_text.specs.Lines.{name_of, hex}
-use Rattle.mesh_text.specs.Effects.{shown_byte, datum_text, datum_in, took_text, delivery_text, drop_text, set_text, broken_text, cast_text, copies_text, sent_text, datum_fate, happening_text}
+use Rattle.mesh_text.specs.Effects.{shown_byte, datum_text, datum_in, took_text, delivery_text, drop_text, set_text, broken_text, cast_text, copies_text, sent_text, datum_fate, world_effect_text}
 use Rattle.mesh_text.specs.Accounts.{begins}
 use Rattle.mesh_text.proofs.Clean.{is_clean, lacks_lf, clean_append, decimal_clean, name_clean, name_then, hex_clean, shown_clean, set_clean}
 
@@ -201,15 +201,15 @@ two_clean : (mesh : Nodes) (from to : ℕ) → is_clean (name_of mesh from ++ 32
 two_clean mesh from to = name_then mesh from (32 ∷ name_of mesh to) (name_clean mesh to)
 
 -- what happened at node x tells what it delivered and what was dropped
-pub happening_told : {k : Naming} → (mesh : Nodes) (x : ℕ) (h : Happening) → Tells k (delivered_in (deliveries_in k mesh) x h) (dropped_in (drops_in k mesh) h) (happening_text mesh x h)
-unfolding happening_text
-happening_told mesh x Changed = tells_none
-happening_told mesh x (Taken took e cs) =
+pub world_effect_told : {k : Naming} → (mesh : Nodes) (x : ℕ) (h : WorldEffect) → Tells k (delivered_in (deliveries_in k mesh) x h) (dropped_in (drops_in k mesh) h) (world_effect_text mesh x h)
+unfolding world_effect_text
+world_effect_told mesh x Changed = tells_none
+world_effect_told mesh x (Taken took e cs) =
     silent_after _ _ (took_text mesh x took ++ datum_fate mesh x took e) (sent_text mesh e cs)
     (silent_before _ _ (took_text mesh x took) (datum_fate mesh x took e) (took_silent mesh x took) (fate_told mesh x took e)) (sent_silent mesh e cs)
-happening_told mesh x (Sent e cs) = sent_silent mesh e cs
-happening_told mesh x (CopyHeard from to) = silent_line (codes "  heard " ++ name_of mesh from ++ 32 ∷ name_of mesh to) (two_clean mesh from to) refl refl
-happening_told mesh x (CopyLost c) =
+world_effect_told mesh x (Sent e cs) = sent_silent mesh e cs
+world_effect_told mesh x (CopyHeard from to) = silent_line (codes "  heard " ++ name_of mesh from ++ 32 ∷ name_of mesh to) (two_clean mesh from to) refl refl
+world_effect_told mesh x (CopyLost c) =
     silent_before 0 _ (line (codes "  lost " ++ name_of mesh c.from ++ 32 ∷ name_of mesh c.to)) (datum_in (codes "  dropped ") mesh c.message)
     (silent_line (codes "  lost " ++ name_of mesh c.from ++ 32 ∷ name_of mesh c.to) (two_clean mesh c.from c.to) refl refl) (dropped_message mesh c.message)
-happening_told mesh x (CopyDoubled id to parcel) = silent_line (label_number (codes "  copy ") id ++ 32 ∷ name_of mesh to) (copy_clean mesh id to) refl refl
+world_effect_told mesh x (CopyDoubled id to parcel) = silent_line (label_number (codes "  copy ") id ++ 32 ∷ name_of mesh to) (copy_clean mesh id to) refl refl

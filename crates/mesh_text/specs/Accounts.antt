@@ -3,11 +3,11 @@ use Rattle.std.specs.Prelude.{◌≡◌, ◌+◌, ◌==◌, ◌&&◌, ℕ, Bool,
 use Rattle.std.specs.List.{count_by}
 use Rattle.mesh_base.specs.Parts.{parts}
 use Rattle.mesh_model.specs.Accounts.{any, waiting, queued_data, in_flight}
-use Rattle.mesh_text.specs.Schedule.{Moment, world_of}
+use Rattle.mesh_text.specs.Schedule.{RunState, world_of}
 
 -- what was given or doubled was delivered, waits in a store or a queue, is in flight, or was
 -- dropped
-abbrev pub IsBalanced : Moment → Type 0
+abbrev pub IsBalanced : RunState → Type 0
 IsBalanced m =
     m.sums.given + m.sums.copied
     ≡ m.sums.delivered + waiting any (world_of m) + queued_data any (world_of m)

@@ -7,7 +7,7 @@ use Rattle.mesh_base.specs.Meshes.{Nodes}
 use Rattle.aodv_model.specs.Cores.{Body, Message, Pkt, Rreq, Rrep, Rerr}
 use Rattle.aodv_model.specs.Handlers.{Cast, Nothing, One, Many, All, Effect, Took, Own, Stored, FromNeighbour}
 use Rattle.mesh_model.specs.Worlds as worlds
-use Rattle.mesh_model.specs.Worlds.{Copy, Event, Happening, Changed, Taken, Sent, CopyHeard, CopyLost, CopyDoubled, Outcome, Idle, Next, members_below}
+use Rattle.mesh_model.specs.Worlds.{Copy, Event, WorldEffect, Changed, Taken, Sent, CopyHeard, CopyLost, CopyDoubled, Outcome, Idle, Next, members_below}
 use Rattle.mesh_meaning.specs.Events.{node_of}
 use Rattle.mesh_meaning.specs.Packets.{packet_of}
 use Rattle.mesh_grammar.specs.Written.{line, label_number}
@@ -107,24 +107,24 @@ datum_fate mesh x took e =
     (if e.deliver then delivery_text mesh x took else [])
     ++ (if e.lost then drop_text mesh took else [])
 
-unfoldable pub happening_text : Nodes → ℕ → Happening → List ℕ
-happening_text mesh x Changed = []
-happening_text mesh x (Taken took e copies) =
+unfoldable pub world_effect_text : Nodes → ℕ → WorldEffect → List ℕ
+world_effect_text mesh x Changed = []
+world_effect_text mesh x (Taken took e copies) =
     took_text mesh x took ++ datum_fate mesh x took e ++ sent_text mesh e copies
-happening_text mesh x (Sent e copies) = sent_text mesh e copies
-happening_text mesh x (CopyHeard from to) =
+world_effect_text mesh x (Sent e copies) = sent_text mesh e copies
+world_effect_text mesh x (CopyHeard from to) =
     line (codes "  heard " ++ name_of mesh from ++ 32 ∷ name_of mesh to)
-happening_text mesh x (CopyLost c) =
+world_effect_text mesh x (CopyLost c) =
     line (codes "  lost " ++ name_of mesh c.from ++ 32 ∷ name_of mesh c.to)
     ++ datum_in (codes "  dropped ") mesh c.message
-happening_text mesh x (CopyDoubled id to parcel) =
+world_effect_text mesh x (CopyDoubled id to parcel) =
     line (label_number (codes "  copy ") id ++ 32 ∷ name_of mesh to)
 
 -- what came of an event at node x. A refused event isn't written
 abbrev pub outcome_text : Nodes → ℕ → Outcome → List ℕ
 outcome_text mesh x Idle = line (codes "  idle")
 outcome_text mesh x (worlds.Full node field) = []
-outcome_text mesh x (Next w happening) = happening_text mesh x happening
+outcome_text mesh x (Next w world_effect) = world_effect_text mesh x world_effect
 
 -- an event, and below it what came of it
 unfoldable pub outcome_lines : Nodes → Event → Outcome → List ℕ

@@ -10,14 +10,14 @@ use Rattle.mesh_model.specs.Worlds as worlds
 use Rattle.mesh_model.specs.Worlds.{Event, run, start, first_numbers}
 use Rattle.mesh_model.specs.Places.{IsInMesh, IsEvent}
 use Rattle.mesh_model.specs.Invariants.{IsInvariant}
-use Rattle.mesh_text.specs.Schedule.{Moment, AcceptedLine, Chooses, line_of, world_of, with_world, next_moment, outcome_at}
+use Rattle.mesh_text.specs.Schedule.{RunState, AcceptedLine, Chooses, line_of, world_of, with_world, next_state, outcome_at}
 use Rattle.mesh_grammar.specs.Lines.{complete}
 use Rattle.mesh_shell.specs.Pieces.{Piece, Whole}
 use Rattle.mesh_text.specs.Lines.{words_of, done_line}
 use Rattle.mesh_text.specs.Text.{Full, outcome_of_piece, lines_before, text_on, text_of_input}
 use Rattle.mesh_text.specs.declared.verdict.Verdict.TheVariants.{Finished, FullAt}
 use Rattle.mesh_text.specs.Accounts.{IsBalanced, lines_with}
-use Rattle.mesh_text.specs.Runs.{events_of_piece, events_of_input, moment_after, prefix_of_input, moment_at, mesh_of_input, world_after}
+use Rattle.mesh_text.specs.Runs.{events_of_piece, events_of_input, run_state_after, prefix_of_input, run_state_at, mesh_of_input, world_after}
 use Rattle.mesh_text.specs.EveryWorld.{IsAccountedRun}
 use Rattle.mesh_text.specs.NamedData.{IsNamedRun}
 use Rattle.mesh_text.specs.Ranges.{IsInRange, IsInTime, IsEcho}
@@ -48,15 +48,15 @@ AutoLineHasFourBytes = (mesh : Nodes) (started : Bool) (line : List ℕ) (count 
 
 -- so a line does at most a quarter of the most events for each of its bytes
 abbrev pub LineHasFewEvents : Type 0
-LineHasFewEvents = (m : Moment) (line : List ℕ) → length m.mesh ≤ MOST_NODES
+LineHasFewEvents = (m : RunState) (line : List ℕ) → length m.mesh ≤ MOST_NODES
     → 4 * length (events_of_piece m (Whole line)) ≤ MOST_EVENTS * length line
 
 -- ---- runs
 
 -- an event of the mesh keeps the account
 abbrev pub EventKeepsAccount : Type 0
-EventKeepsAccount = (m : Moment) (e : Event) → IsInMesh (world_of m)
-    → IsEvent (length (world_of m).nodes) e → IsBalanced m → IsBalanced (next_moment m e)
+EventKeepsAccount = (m : RunState) (e : Event) → IsInMesh (world_of m)
+    → IsEvent (length (world_of m).nodes) e → IsBalanced m → IsBalanced (next_state m e)
 
 -- after the last allowed line of any input each datum that was given or doubled was delivered,
 -- waits in a store or a queue, is in flight, or was dropped
@@ -96,12 +96,12 @@ RunIsRunOfEvents = (variant : Variant) (input : List ℕ)
     → world_of (text_of_input variant input).after
     ≡ world_after variant input (text_of_input variant input).after.sums.events
 
--- the same of each moment before: after the first i lines, which were all allowed, and k events of
+-- the same of each state before: after the first i lines, which were all allowed, and k events of
 -- the next
-abbrev pub MomentIsOfRun : Type 0
-MomentIsOfRun = (variant : Variant) (input : List ℕ) (i k : ℕ)
+abbrev pub StateIsOfRun : Type 0
+StateIsOfRun = (variant : Variant) (input : List ℕ) (i k : ℕ)
     → (prefix_of_input variant input i).verdict ≡ Finished
-    → let m = moment_at variant input i k in
+    → let m = run_state_at variant input i k in
     world_of m
     ≡ run (start variant (first_numbers m.mesh))
     (take m.sums.events (events_of_input variant input))
@@ -123,10 +123,10 @@ abbrev pub RunsAreLoopFree : Type 0
 RunsAreLoopFree = (variant : Variant) (input : List ℕ) (k d : ℕ)
     → ¬ (Cycle (world_after variant input k) d)
 
--- nor have they one at any moment: after the first i lines, and k events of the next
-abbrev pub MomentIsLoopFree : Type 0
-MomentIsLoopFree = (variant : Variant) (input : List ℕ) (i k d : ℕ)
-    → ¬ (Cycle (world_of (moment_at variant input i k)) d)
+-- nor have they one in any state: after the first i lines, and k events of the next
+abbrev pub RunStateIsLoopFree : Type 0
+RunStateIsLoopFree = (variant : Variant) (input : List ℕ) (i k d : ℕ)
+    → ¬ (Cycle (world_of (run_state_at variant input i k)) d)
 
 -- after any number of an input's events the world has the invariant
 abbrev pub RunKeepsInvariant : Type 0
@@ -136,30 +136,30 @@ RunKeepsInvariant = (variant : Variant) (input : List ℕ) (k : ℕ)
 -- ---- runs that go on
 
 -- the run of complete lines and of what follows is that of the lines, and then, where they were all
--- allowed, that of what follows from their last moment on
+-- allowed, that of what follows from their last state on
 abbrev pub RunGoesOn : Type 0
-RunGoesOn = (m : Moment) (front rest : List ℕ) → complete front ≡ front
+RunGoesOn = (m : RunState) (front rest : List ℕ) → complete front ≡ front
     → length (front ++ rest) ≤ LONGEST_INPUT → (text_on m front).verdict ≡ Finished
     → text_on m (front ++ rest)
     ≡ lines_before (text_on m front).lines (text_on (text_on m front).after rest)
 
 -- on any input the steps rise as the events do that are counted
 abbrev pub StepsAreEvents : Type 0
-StepsAreEvents = (m : Moment) (input : List ℕ) →
+StepsAreEvents = (m : RunState) (input : List ℕ) →
     let n = (text_on m input).after in
     n.steps + m.sums.events ≡ m.steps + n.sums.events
 
--- where a full counter ends a line, the event is refused at the moment after some of the line's
+-- where a full counter ends a line, the event is refused in the state after some of the line's
 -- events
 abbrev pub FullEventStands : Type 0
-FullEventStands = (m : Moment) (piece : Piece) (text : List ℕ) (n : Moment) (e : Event)
+FullEventStands = (m : RunState) (piece : Piece) (text : List ℕ) (n : RunState) (e : Event)
     (field : Counter) → outcome_of_piece m piece ≡ Full text n e field
-    → (k : ℕ) × (n ≡ moment_after (with_world m) (take k (events_of_piece m piece)))
+    → (k : ℕ) × (n ≡ run_state_after (with_world m) (take k (events_of_piece m piece)))
     × (node : ℕ) × (outcome_at n e ≡ worlds.Full node field)
 
 -- ---- the last line
 
--- the last line of a finished run tells what was counted at its last moment, and what is there then
-abbrev pub LastLineIsOfLastMoment : Type 0
-LastLineIsOfLastMoment = (m : Moment) (input : List ℕ) → (text_on m input).verdict ≡ Finished
+-- the last line of a finished run tells what was counted in its last state, and what is there then
+abbrev pub LastLineIsOfLastState : Type 0
+LastLineIsOfLastState = (m : RunState) (input : List ℕ) → (text_on m input).verdict ≡ Finished
     → (text_on m input).last ≡ done_line (text_on m input).after

@@ -1,5 +1,5 @@
 -- Read in this order.
--- Schedule: the moments of a run, the faults of a line at its place, and what an event leaves.
+-- Schedule: the states of a run, the faults of a line at its place, and what an event leaves.
 pub mod Schedule
 -- Lines: the text of a schedule's lines, as they are written back, and of the last line of a run.
 pub mod Lines
@@ -13,7 +13,7 @@ pub mod Auto
 pub mod Text
 -- Accounts: what becomes of the data that were given, and the lines that name them.
 pub mod Accounts
--- Runs: the events that an input's lines do, and the moments and worlds that they lead through.
+-- Runs: the events that an input's lines do, and the states and worlds that they lead through.
 pub mod Runs
 -- EveryWorld: what holds in every world to which an input comes.
 pub mod EveryWorld

@@ -11,7 +11,7 @@ use Rattle.mesh_model.specs.Worlds.{Event, Give, Turn, Send, Ask, Link, Cut, Del
 use Rattle.mesh_model.specs.Accounts.{any, waiting, queued_data, in_flight}
 use Rattle.mesh_grammar.specs.Forms.{Arguments, NoArgument, OneAddress, TwoAddresses, OneNumber, NumberedAddress, AddressesAndText}
 use Rattle.mesh_grammar.specs.Written.{line, label_number, command_text}
-use Rattle.mesh_text.specs.Schedule.{Sums, Moment, AcceptedLine, Nothing, NewNode, Does, Chooses, ShowsNode, ShowsRoute, ShowsFlight, world_of}
+use Rattle.mesh_text.specs.Schedule.{Sums, RunState, AcceptedLine, Nothing, NewNode, Does, Chooses, ShowsNode, ShowsRoute, ShowsFlight, world_of}
 
 -- the address of a node, as it is written
 abbrev pub name_of : Nodes → ℕ → List ℕ
@@ -27,36 +27,36 @@ of_two label mesh x y = label ++ name_of mesh x ++ 32 ∷ name_of mesh y
 -- ---- lines of a schedule, without their LF
 
 -- the word of a command and its arguments, each node by its address
-pub record Spelling : Type 0 where
+pub record CommandLine : Type 0 where
   pub word : List ℕ
   pub arguments : Arguments ℕ
 
-abbrev pub spelling : List ℕ → Arguments ℕ → Spelling
-spelling word arguments = record { word = word; arguments = arguments }
+abbrev pub command_line : List ℕ → Arguments ℕ → CommandLine
+command_line word arguments = record { word = word; arguments = arguments }
 
-abbrev pub text_of : Spelling → List ℕ
+abbrev pub text_of : CommandLine → List ℕ
 text_of s = command_text s.word s.arguments
 
 -- an event as a line of a schedule
-abbrev pub event_spelling : Nodes → Event → Spelling
-event_spelling mesh (Give x d body) =
-    spelling (codes "data") (AddressesAndText (addr_at mesh x) (addr_at mesh d) body)
-event_spelling mesh (Turn x) = spelling (codes "turn") (OneAddress (addr_at mesh x))
-event_spelling mesh (Send x d) =
-    spelling (codes "send") (TwoAddresses (addr_at mesh x) (addr_at mesh d))
-event_spelling mesh (Ask x d) =
-    spelling (codes "ask") (TwoAddresses (addr_at mesh x) (addr_at mesh d))
-event_spelling mesh (Link a b) =
-    spelling (codes "link") (TwoAddresses (addr_at mesh a) (addr_at mesh b))
-event_spelling mesh (Cut a b) =
-    spelling (codes "cut") (TwoAddresses (addr_at mesh a) (addr_at mesh b))
-event_spelling mesh (Deliver id) = spelling (codes "deliver") (OneNumber id)
-event_spelling mesh (Lose id) = spelling (codes "lose") (OneNumber id)
-event_spelling mesh (Double id) = spelling (codes "copy") (OneNumber id)
+abbrev pub event_command : Nodes → Event → CommandLine
+event_command mesh (Give x d body) =
+    command_line (codes "data") (AddressesAndText (addr_at mesh x) (addr_at mesh d) body)
+event_command mesh (Turn x) = command_line (codes "turn") (OneAddress (addr_at mesh x))
+event_command mesh (Send x d) =
+    command_line (codes "send") (TwoAddresses (addr_at mesh x) (addr_at mesh d))
+event_command mesh (Ask x d) =
+    command_line (codes "ask") (TwoAddresses (addr_at mesh x) (addr_at mesh d))
+event_command mesh (Link a b) =
+    command_line (codes "link") (TwoAddresses (addr_at mesh a) (addr_at mesh b))
+event_command mesh (Cut a b) =
+    command_line (codes "cut") (TwoAddresses (addr_at mesh a) (addr_at mesh b))
+event_command mesh (Deliver id) = command_line (codes "deliver") (OneNumber id)
+event_command mesh (Lose id) = command_line (codes "lose") (OneNumber id)
+event_command mesh (Double id) = command_line (codes "copy") (OneNumber id)
 
 -- the words of an event
 unfoldable pub event_words : Nodes → Event → List ℕ
-event_words mesh e = text_of (event_spelling mesh e)
+event_words mesh e = text_of (event_command mesh e)
 
 -- the words of an allowed line. A blank one is written as none
 unfoldable pub words_of : Nodes → AcceptedLine → List ℕ
@@ -99,7 +99,7 @@ summary_text s waits queues flies =
     ++ label_number (codes " flying ") flies
     ++ line (label_number (codes " lost ") s.lost ++ copied_words s.copied)
 
-abbrev pub done_line : Moment → List ℕ
+abbrev pub done_line : RunState → List ℕ
 done_line m =
     summary_text m.sums (waiting any (world_of m)) (queued_data any (world_of m))
     (in_flight any (world_of m))

@@ -10,18 +10,19 @@ use Rattle.mesh_grammar.specs.Forms.{Arguments, OneAddress, OneNumber, Addresses
 use Rattle.mesh_grammar.specs.Commands.{greatest_id}
 use Rattle.mesh_grammar.specs.Written.{command_text}
 use Rattle.mesh_text.specs.Schedule.{AcceptedLine, Nothing, NewNode, Does, Chooses, ShowsNode, ShowsRoute, ShowsFlight}
-use Rattle.mesh_text.specs.Lines.{event_spelling, words_of}
+use Rattle.mesh_text.specs.Lines.{event_command, words_of}
 
 -- arguments that the line of an event may have: the number of a copy, from 1; and a datum's text
-abbrev pub AreSpellable : Arguments ℕ → Type 0
-AreSpellable (OneNumber id) = (1 ≤ id) × (id ≤ greatest_id)
-AreSpellable (AddressesAndText a b text) = IsText text
-AreSpellable others = ⊤
+abbrev pub AreArgumentsInRange : Arguments ℕ → Type 0
+AreArgumentsInRange (OneNumber id) = (1 ≤ id) × (id ≤ greatest_id)
+AreArgumentsInRange (AddressesAndText a b text) = IsText text
+AreArgumentsInRange others = ⊤
 
 -- an event that a line may be, in this mesh. There is a node
 abbrev pub IsEventLine : Nodes → Event → Type 0
 IsEventLine mesh e =
-    (1 ≤ length mesh) × IsEvent (length mesh) e × AreSpellable (event_spelling mesh e).arguments
+    (1 ≤ length mesh) × IsEvent (length mesh) e
+    × AreArgumentsInRange (event_command mesh e).arguments
 
 -- a node that isn't there yet
 pub record IsNewNode (mesh : Nodes) (address first : ℕ) : Type 0 where

@@ -1,12 +1,12 @@
 -- Part of what the headline says.
--- The events that the lines of an input do, one after another, and the moments and worlds that they
+-- The events that the lines of an input do, one after another, and the states and worlds that they
 -- lead through.
 use Rattle.std.specs.Prelude.{ℕ, List, [], ◌∷◌, ◌++◌, Option, Some, None, Result, Ok, Err, take, is_some, slice_get}
 use Rattle.mesh_base.specs.Meshes.{Nodes}
 use Rattle.mesh_base.specs.declared.events.Variant.{Variant}
 use Rattle.mesh_model.specs.Worlds.{World, Event, run, start, first_numbers}
 use Rattle.mesh_grammar.specs.declared.fault.LineFault.{LineFault}
-use Rattle.mesh_text.specs.Schedule.{Moment, AcceptedLine, Does, Chooses, line_of, with_world, next_moment, opening}
+use Rattle.mesh_text.specs.Schedule.{RunState, AcceptedLine, Does, Chooses, line_of, with_world, next_state, opening}
 use Rattle.mesh_shell.specs.Pieces.{Piece, Whole, Long, Beyond}
 use Rattle.mesh_text.specs.Auto.{events_chosen}
 use Rattle.mesh_text.specs.Text.{pieces_of_input, LineOutcome, On, Refused, Full, outcome_of_piece, RunText, text_from, text_of_input}
@@ -14,16 +14,16 @@ use Rattle.mesh_text.specs.Text.{pieces_of_input, LineOutcome, On, Refused, Full
 -- ---- the events of a line
 
 -- those of an allowed line
-abbrev pub events_of_line : Moment → AcceptedLine → List Event
+abbrev pub events_of_line : RunState → AcceptedLine → List Event
 events_of_line m (Does e) = e ∷ []
 events_of_line m (Chooses count) = events_chosen count (with_world m)
 events_of_line m others = []
 
-abbrev pub events_read : Moment → Result AcceptedLine LineFault → List Event
+abbrev pub events_read : RunState → Result AcceptedLine LineFault → List Event
 events_read m (Ok a) = events_of_line m a
 events_read m (Err fault) = []
 
-abbrev pub events_of_piece : Moment → Piece → List Event
+abbrev pub events_of_piece : RunState → Piece → List Event
 events_of_piece m (Whole line) = events_read m (line_of m.mesh (is_some m.world) line)
 events_of_piece m Long = []
 events_of_piece m Beyond = []
@@ -31,12 +31,12 @@ events_of_piece m Beyond = []
 -- ---- the events of an input
 
 -- those of the lines that follow, unless the run has ended
-abbrev pub events_after : LineOutcome → (Moment → List Event) → List Event
+abbrev pub events_after : LineOutcome → (RunState → List Event) → List Event
 events_after (On text n) others = others n
 events_after (Refused why) others = []
 events_after (Full text n e field) others = []
 
-unfoldable pub events_from : Moment → List Piece → List Event
+unfoldable pub events_from : RunState → List Piece → List Event
 events_from m [] = []
 events_from m (piece ∷ pieces) =
     events_of_piece m piece ++ events_after (outcome_of_piece m piece) (λ n. events_from n pieces)
@@ -44,29 +44,29 @@ events_from m (piece ∷ pieces) =
 unfoldable pub events_of_input : Variant → List ℕ → List Event
 events_of_input variant input = events_from (opening variant) (pieces_of_input input)
 
--- ---- the moments
+-- ---- the states
 
--- the moment after these events
-unfoldable pub moment_after : Moment → List Event → Moment
-moment_after m [] = m
-moment_after m (e ∷ es) = moment_after (next_moment m e) es
+-- the state after these events
+unfoldable pub run_state_after : RunState → List Event → RunState
+run_state_after m [] = m
+run_state_after m (e ∷ es) = run_state_after (next_state m e) es
 
 -- after the first k events of a line
-abbrev pub moment_in : Moment → Piece → ℕ → Moment
-moment_in m piece k = moment_after m (take k (events_of_piece m piece))
+abbrev pub run_state_in : RunState → Piece → ℕ → RunState
+run_state_in m piece k = run_state_after m (take k (events_of_piece m piece))
 
-abbrev pub moment_in_next : Moment → Option Piece → ℕ → Moment
-moment_in_next m None k = m
-moment_in_next m (Some piece) k = moment_in m piece k
+abbrev pub state_in_next : RunState → Option Piece → ℕ → RunState
+state_in_next m None k = m
+state_in_next m (Some piece) k = run_state_in m piece k
 
 -- the run of the first i lines of an input
 abbrev pub prefix_of_input : Variant → List ℕ → ℕ → RunText
 prefix_of_input variant input i = text_from (opening variant) (take i (pieces_of_input input))
 
 -- after those lines, and k events of the next
-abbrev pub moment_at : Variant → List ℕ → ℕ → ℕ → Moment
-moment_at variant input i k =
-    moment_in_next (prefix_of_input variant input i).after (slice_get (pieces_of_input input) i) k
+abbrev pub run_state_at : Variant → List ℕ → ℕ → ℕ → RunState
+run_state_at variant input i k =
+    state_in_next (prefix_of_input variant input i).after (slice_get (pieces_of_input input) i) k
 
 -- ---- the worlds
 

@@ -1,5 +1,5 @@
 -- Part of what the headline says.
--- The moments of a run, whether a line is allowed at a moment, and what an event leaves.
+-- The states of a run, whether a line is allowed in a state, and what an event leaves.
 use Rattle.std.specs.Prelude.{ℕ, ◌+◌, ◌==◌, Bool, List, [], ◌∷◌, Option, None, Some, Result, Ok, Err, length, if◌then◌else◌, is_some}
 use Rattle.std.specs.Option.{unwrap_or}
 use Rattle.mesh_base.specs.Meshes.{Nodes, index_of}
@@ -12,7 +12,7 @@ use Rattle.mesh_grammar.specs.declared.command.Command.{Command}
 use Rattle.mesh_grammar.specs.declared.command.Command.TheVariants as command
 use Rattle.mesh_grammar.specs.declared.fault.LineFault.{LineFault}
 use Rattle.mesh_grammar.specs.declared.fault.LineFault.TheVariants.{Count, Late, Early, TwiceNode, TooManyNodes, Unknown, Same}
-use Rattle.mesh_grammar.specs.Words.{Mention, with_argument}
+use Rattle.mesh_grammar.specs.Words.{SpannedAddr, with_argument}
 use Rattle.mesh_grammar.specs.Forms.{Arguments, NoArgument, OneAddress, TwoAddresses, OneNumber, NumberedAddress, AddressesAndText, AddressAndNumber, AddressAndText}
 use Rattle.mesh_grammar.specs.Scripts.{Shape}
 use Rattle.mesh_grammar.specs.Commands.{shape_of}
@@ -27,9 +27,9 @@ pub record Sums : Type 0 where
   pub lost : ℕ
   pub copied : ℕ
 
--- a moment of a run: its variant of the protocol and its mesh, its world once a line has made one,
+-- a state of a run: its variant of the protocol and its mesh, its world once a line has made one,
 -- what was counted, how many lines were read, and how many events the world has gone through
-pub record Moment : Type 0 where
+pub record RunState : Type 0 where
   pub variant : Variant
   pub mesh : Nodes
   pub world : Option World
@@ -41,7 +41,7 @@ abbrev pub no_sums : Sums
 no_sums = record { events = 0; idle = 0; given = 0; delivered = 0; lost = 0; copied = 0 }
 
 -- before the first line
-abbrev pub opening : Variant → Moment
+abbrev pub opening : Variant → RunState
 opening variant = record {
   variant = variant;
   mesh = [];
@@ -53,7 +53,7 @@ opening variant = record {
 
 -- ---- whether a line is allowed
 
--- a line that is allowed at a moment
+-- a line that is allowed in a state
 pub data AcceptedLine : Type 0 where
   -- a blank line
   Nothing : AcceptedLine
@@ -74,11 +74,12 @@ after_nodes [] r = Err Early
 after_nodes (p ∷ ps) r = r
 
 -- an address as a node of the mesh
-abbrev pub as_node : {B : Type 0} → Nodes → Mention → (ℕ → Result B LineFault) → Result B LineFault
+abbrev pub as_node : {B : Type 0} → Nodes → SpannedAddr → (ℕ → Result B LineFault)
+    → Result B LineFault
 as_node mesh a next = with_argument (index_of mesh a.address) (Unknown a.span) next
 
 -- arguments with each node by its index. The leftmost address that is no node is the fault
-abbrev pub with_nodes : Nodes → Arguments Mention → Result (Arguments ℕ) LineFault
+abbrev pub with_nodes : Nodes → Arguments SpannedAddr → Result (Arguments ℕ) LineFault
 with_nodes mesh NoArgument = Ok NoArgument
 with_nodes mesh (OneAddress a) = as_node mesh a (λ x. Ok (OneAddress x))
 with_nodes mesh (TwoAddresses a b) =
@@ -113,7 +114,7 @@ made_line command.Flight NoArgument = Ok ShowsFlight
 made_line others arguments = Err Count
 
 -- a node that isn't there yet, before the run has started
-abbrev pub new_node : Nodes → Bool → Mention → ℕ → Result AcceptedLine LineFault
+abbrev pub new_node : Nodes → Bool → SpannedAddr → ℕ → Result AcceptedLine LineFault
 new_node mesh started a first =
     if started then Err Late else
     if is_some (index_of mesh a.address) then Err (TwiceNode a.span) else
@@ -126,13 +127,13 @@ result_and_then next (Err e) = Err e
 
 -- a command and its arguments with this mesh: one more node, or a line about the nodes that are
 -- there. A run has started once a line was neither blank nor a `node` line
-abbrev pub accepted_line : Nodes → Bool → Command → Arguments Mention
+abbrev pub accepted_line : Nodes → Bool → Command → Arguments SpannedAddr
     → Result AcceptedLine LineFault
 accepted_line mesh started command (NumberedAddress a first) = new_node mesh started a first
 accepted_line mesh started command others =
     after_nodes mesh (result_and_then (made_line command) (with_nodes mesh others))
 
-abbrev pub accepted_shape : Nodes → Bool → Option (Shape Command Mention)
+abbrev pub accepted_shape : Nodes → Bool → Option (Shape Command SpannedAddr)
     → Result AcceptedLine LineFault
 accepted_shape mesh started None = Ok Nothing
 accepted_shape mesh started (Some s) = accepted_line mesh started s.command s.arguments
@@ -143,19 +144,19 @@ line_of mesh started line = result_and_then (accepted_shape mesh started) (shape
 
 -- ---- what lines and events leave
 
--- the world of a moment. The first line that is allowed, and is neither blank nor a `node` line,
+-- the world of a state. The first line that is allowed, and is neither blank nor a `node` line,
 -- makes it
-abbrev pub world_of : Moment → World
+abbrev pub world_of : RunState → World
 world_of m = unwrap_or m.world (start m.variant (first_numbers m.mesh))
 
--- the same moment, with its world made
-abbrev pub with_world : Moment → Moment
+-- the same state, with its world made
+abbrev pub with_world : RunState → RunState
 with_world m = record m { world = Some (world_of m) }
 
 abbrev pub idle_by : Outcome → ℕ
 idle_by Idle = 1
 idle_by (worlds.Full x f) = 0
-idle_by (Next w happening) = 0
+idle_by (Next w world_effect) = 0
 
 -- what was counted, with one more event and what came of it
 abbrev pub sums_after : Sums → Event → Outcome → Sums
@@ -168,18 +169,18 @@ sums_after s e o = record {
   copied = s.copied + doubled_at o;
 }
 
--- what comes of an event at a moment
-abbrev pub outcome_at : Moment → Event → Outcome
+-- what comes of an event in a state
+abbrev pub outcome_at : RunState → Event → Outcome
 outcome_at m e = step (world_of m) e
 
--- the moment after an event that isn't refused. One that is idle is a step too
-unfoldable pub next_moment : Moment → Event → Moment
-next_moment m e = record m {
+-- the state after an event that isn't refused. One that is idle is a step too
+unfoldable pub next_state : RunState → Event → RunState
+next_state m e = record m {
   world = Some (after (world_of m) (outcome_at m e));
   sums = sums_after m.sums e (outcome_at m e);
   steps = m.steps + 1;
 }
 
 -- one more line was read
-abbrev pub with_line_read : Moment → Moment
+abbrev pub with_line_read : RunState → RunState
 with_line_read m = record m { lines = m.lines + 1 }

@@ -94,7 +94,7 @@ abbrev pub end_text : Nodes → End → List ℕ
 end_text mesh (Arrived hops) = number_line (codes "arrived") hops
 end_text mesh (Stuck at hops) = stuck_line mesh at hops
 
--- ---- the air
+-- ---- the radio
 
 -- a copy in flight
 unfoldable pub flying_text : Nodes → Copy → List ℕ

@@ -9,12 +9,12 @@ use Rattle.mesh_model.specs.Routes.{route_end}
 use Rattle.mesh_grammar.specs.declared.fault.LineFault.{LineFault}
 use Rattle.mesh_grammar.specs.declared.fault.BadWhy.{BadWhy}
 use Rattle.mesh_grammar.specs.declared.fault.BadWhy.TheVariants.{Fault, TooLong, TooMuch}
-use Rattle.mesh_text.specs.Schedule.{Moment, AcceptedLine, Nothing, NewNode, Does, Chooses, ShowsNode, ShowsRoute, ShowsFlight, line_of, with_line_read, with_world, world_of, opening}
+use Rattle.mesh_text.specs.Schedule.{RunState, AcceptedLine, Nothing, NewNode, Does, Chooses, ShowsNode, ShowsRoute, ShowsFlight, line_of, with_line_read, with_world, world_of, opening}
 use Rattle.mesh_grammar.specs.Faults.{bad_line}
 use Rattle.mesh_io.specs.NextLines.{schedule_limits}
 use Rattle.mesh_shell.specs.Pieces.{Piece, Whole, Long, Beyond, pieces_within}
-use Rattle.mesh_shell.specs.Story as shell
-pub use Rattle.mesh_shell.specs.Story.{whole, lines_before}
+use Rattle.mesh_shell.specs.Fold as shell
+pub use Rattle.mesh_shell.specs.Fold.{whole, lines_before}
 use Rattle.mesh_text.specs.declared.verdict.Verdict.{Verdict}
 use Rattle.mesh_text.specs.declared.verdict.Verdict.TheVariants.{Finished, RefusedAt, FullAt}
 use Rattle.mesh_grammar.specs.Written.{line}
@@ -24,12 +24,12 @@ use Rattle.mesh_text.specs.Auto as auto
 
 -- ---- one line
 
--- what a line comes to at a moment: its text and the next moment; why it is refused; or its text
--- before an event that is refused for a full counter, the moment at which it is, and that event
+-- what a line comes to in a state: its text and the next state; why it is refused; or its text
+-- before an event that is refused for a full counter, the state at which it is, and that event
 pub data LineOutcome : Type 0 where
-  On : List ℕ → Moment → LineOutcome
+  On : List ℕ → RunState → LineOutcome
   Refused : BadWhy → LineOutcome
-  Full : List ℕ → Moment → Event → Counter → LineOutcome
+  Full : List ℕ → RunState → Event → Counter → LineOutcome
 
 -- a line whose events came to this
 abbrev pub outcome_by_events : auto.EventsOutcome → LineOutcome
@@ -43,11 +43,11 @@ outcome_of_auto text did (auto.Ended others after) =
 outcome_of_auto text did (auto.Full others n e field) = Full (text ++ others) n e field
 
 -- a line that changes nothing but that the run has started
-abbrev pub outcome_of_show : Moment → List ℕ → LineOutcome
+abbrev pub outcome_of_show : RunState → List ℕ → LineOutcome
 outcome_of_show m text = On text (with_line_read (with_world m))
 
--- an allowed line at a moment
-unfoldable pub outcome_of_line : Moment → AcceptedLine → LineOutcome
+-- an allowed line in a state
+unfoldable pub outcome_of_line : RunState → AcceptedLine → LineOutcome
 outcome_of_line m Nothing = On [] (with_line_read m)
 outcome_of_line m (NewNode address first) =
     On (line (words_of m.mesh (NewNode address first)))
@@ -66,12 +66,12 @@ outcome_of_line m (ShowsRoute x d) =
 outcome_of_line m ShowsFlight =
     outcome_of_show m (line (words_of m.mesh ShowsFlight) ++ flight_text m.mesh (world_of m).flying)
 
-abbrev pub outcome_of_read : Moment → Result AcceptedLine LineFault → LineOutcome
+abbrev pub outcome_of_read : RunState → Result AcceptedLine LineFault → LineOutcome
 outcome_of_read m (Ok a) = outcome_of_line m a
 outcome_of_read m (Err fault) = Refused (Fault fault)
 
--- what a line of the input comes to at a moment
-unfoldable pub outcome_of_piece : Moment → Piece → LineOutcome
+-- what a line of the input comes to in a state
+unfoldable pub outcome_of_piece : RunState → Piece → LineOutcome
 outcome_of_piece m (Whole line) = outcome_of_read m (line_of m.mesh (is_some m.world) line)
 outcome_of_piece m Long = Refused TooLong
 outcome_of_piece m Beyond = Refused TooMuch
@@ -88,53 +88,53 @@ text_in (Full text n e field) = text
 abbrev pub pieces_of_input : List ℕ → List Piece
 pieces_of_input input = pieces_within schedule_limits input
 
--- what a run writes: its lines and its last line; what it came to; and the moment after its last
+-- what a run writes: its lines and its last line; what it came to; and the state after its last
 -- allowed line
 abbrev pub RunText : Type 0
-RunText = shell.RunText Moment Verdict
+RunText = shell.RunText RunState Verdict
 
 -- at the end of the input
-abbrev pub ending : Moment → shell.Ending Moment Verdict
+abbrev pub ending : RunState → shell.Ending RunState Verdict
 ending m = record { text = done_line m; verdict = Finished; after = m }
 
-abbrev pub finished_run : Moment → RunText
+abbrev pub finished_run : RunState → RunText
 finished_run m = shell.finished_run (ending m)
 
 -- at a line that is refused
-abbrev pub refused_run : Moment → BadWhy → RunText
+abbrev pub refused_run : RunState → BadWhy → RunText
 refused_run m why = shell.ended_run m [] (bad_line (m.lines + 1) why) (RefusedAt (m.lines + 1))
 
 -- at a line with an event that is refused for a full counter, after a text
-abbrev pub overfull_run : Moment → List ℕ → Event → Counter → RunText
+abbrev pub overfull_run : RunState → List ℕ → Event → Counter → RunText
 overfull_run m text e field =
     shell.ended_run m text (full_line m.mesh (m.lines + 1) e field) (FullAt (m.lines + 1))
 
 -- how a line that comes to this goes on, or ends the run
-abbrev pub outcome_in_run : Moment → LineOutcome → shell.Outcome Moment Verdict
+abbrev pub outcome_in_run : RunState → LineOutcome → shell.Outcome RunState Verdict
 outcome_in_run m (On text n) = shell.On text n
 outcome_in_run m (Refused why) =
     shell.Ended [] (bad_line (m.lines + 1) why) (RefusedAt (m.lines + 1))
 outcome_in_run m (Full text n e field) =
     shell.Ended text (full_line m.mesh (m.lines + 1) e field) (FullAt (m.lines + 1))
 
--- what a line came to, and then the rest of the run from the next moment on
-abbrev pub goes_on : Moment → LineOutcome → (Moment → RunText) → RunText
+-- what a line came to, and then the rest of the run from the next state on
+abbrev pub goes_on : RunState → LineOutcome → (RunState → RunText) → RunText
 goes_on m k others = shell.goes_on m (outcome_in_run m k) others
 
 -- a run of a schedule: nothing stands before the text of its first line
-abbrev pub schedule_run : shell.Story Moment Verdict
+abbrev pub schedule_run : shell.Fold RunState Verdict
 schedule_run = record {
   head = λ m. [];
   outcome = λ m piece. outcome_in_run m (outcome_of_piece m piece);
   ending = ending;
 }
 
--- the run of these lines from a moment on
-abbrev pub text_from : Moment → List Piece → RunText
+-- the run of these lines from a state on
+abbrev pub text_from : RunState → List Piece → RunText
 text_from m pieces = shell.text_from schedule_run m pieces
 
--- what a run writes for an input from a moment on, and what it comes to
-abbrev pub text_on : Moment → List ℕ → RunText
+-- what a run writes for an input from a state on, and what it comes to
+abbrev pub text_on : RunState → List ℕ → RunText
 text_on m input = shell.text_on schedule_run schedule_limits m input
 
 -- the same from the opening on

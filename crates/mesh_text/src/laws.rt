@@ -1,5 +1,5 @@
 //! Laws of the definitions. Each function has an empty body and a contract that states a law.
-ghost use Rattle.mesh_text.specs.Laws.{PrintedLineParses, ReadLineIsInRange, ReadLineIsWrittenAsItWas, DataAreAccountedFor, EachDatumIsAccountedFor, DataAreNamed, EachDatumIsNamed, SumsAreInOrder, RunIsRunOfEvents, AllEventsCount, EventsAreOfMesh, RunsAreLoopFree, RunKeepsInvariant, AutoLineHasFourBytes, LineHasFewEvents, EventKeepsAccount, MomentIsOfRun, MomentIsLoopFree, RunGoesOn, StepsAreEvents, FullEventStands, LastLineIsOfLastMoment};
+ghost use Rattle.mesh_text.specs.Laws.{PrintedLineParses, ReadLineIsInRange, ReadLineIsWrittenAsItWas, DataAreAccountedFor, EachDatumIsAccountedFor, DataAreNamed, EachDatumIsNamed, SumsAreInOrder, RunIsRunOfEvents, AllEventsCount, EventsAreOfMesh, RunsAreLoopFree, RunKeepsInvariant, AutoLineHasFourBytes, LineHasFewEvents, EventKeepsAccount, StateIsOfRun, RunStateIsLoopFree, RunGoesOn, StepsAreEvents, FullEventStands, LastLineIsOfLastState};
 
 /// A line that is written back is read as the same line.
 pub fn a_printed_line_parses()
@@ -76,20 +76,20 @@ pub fn an_event_keeps_the_account()
     ensures { EventKeepsAccount }
 {}
 
-/// At each moment of a run, after any line and after any event within one, the world is that of the
+/// At each state of a run, after any line and after any event within one, the world is that of the
 /// run of the events so far.
-pub fn every_moment_is_of_the_run()
-    ensures { MomentIsOfRun }
+pub fn every_state_is_of_the_run()
+    ensures { StateIsOfRun }
 {}
 
-/// At no moment of a run have a destination's valid routes a loop.
-pub fn every_moment_is_loop_free()
-    ensures { MomentIsLoopFree }
+/// At no state of a run have a destination's valid routes a loop.
+pub fn every_state_is_loop_free()
+    ensures { RunStateIsLoopFree }
 {}
 
-/// The last line of a finished run is that of its last moment.
-pub fn the_last_line_is_of_the_last_moment()
-    ensures { LastLineIsOfLastMoment }
+/// The last line of a finished run is that of its last state.
+pub fn the_last_line_is_of_the_last_state()
+    ensures { LastLineIsOfLastState }
 {}
 
 /// Unless a full counter has ended a run, its text names each datum that was delivered or dropped.
@@ -104,7 +104,7 @@ pub fn each_datum_is_named()
 {}
 
 /// A run of complete lines and of what follows them is the run of what follows, from the last
-/// moment of the lines on.
+/// state of the lines on.
 pub fn a_run_goes_on()
     ensures { RunGoesOn }
 {}
@@ -114,7 +114,7 @@ pub fn steps_are_events()
     ensures { StepsAreEvents }
 {}
 
-/// An event that a full counter refuses is refused at a moment after some of its line's events.
+/// An event that a full counter refuses is refused in a state after some of its line's events.
 pub fn a_refused_event_stands_in_its_line()
     ensures { FullEventStands }
 {}

@@ -1,4 +1,4 @@
-//! What a schedule and the text of its run are: whether a line is allowed at a moment, what an
+//! What a schedule and the text of its run are: whether a line is allowed in a state, what an
 //! event of it does, and the text and verdict that an input's bytes have. These are definitions
 //! for the contracts of other crates, with their laws; a program has nothing of them but `Verdict`.
 #![tactic(auto)]
@@ -12,7 +12,7 @@ pub use laws::{
     a_run_is_a_run_of_events, a_run_keeps_the_invariant, all_events_count,
     an_auto_line_has_four_bytes, an_event_keeps_the_account, data_are_accounted_for,
     data_are_named, each_datum_is_accounted_for, each_datum_is_named, events_are_of_the_mesh,
-    every_moment_is_loop_free, every_moment_is_of_the_run, runs_are_loop_free, steps_are_events,
-    the_last_line_is_of_the_last_moment, the_sums_are_in_order,
+    every_state_is_loop_free, every_state_is_of_the_run, runs_are_loop_free, steps_are_events,
+    the_last_line_is_of_the_last_state, the_sums_are_in_order,
 };
 pub use verdict::Verdict;

@@ -7,7 +7,7 @@ use Rattle.mesh_base.specs.Meshes.{Nodes}
 use Rattle.mesh_base.specs.declared.events.Item as items
 use Rattle.mesh_base.specs.declared.events.Item.TheVariants as item
 use Rattle.aodv_wire.specs.declared.message.Message as wire
-use Rattle.aodv_wire.specs.Spells.{Spells, refusal}
+use Rattle.aodv_wire.specs.Encodes.{Encodes, refusal}
 use Rattle.aodv_meaning.specs.Meaning.{in_mesh, meaning}
 use Rattle.aodv_meaning.specs.Effects.{item_in}
 use Rattle.aodv_model.specs.Soundness.{IsItemInMesh}
@@ -18,7 +18,7 @@ use Rattle.mesh_world.specs.Seen.{node_in}
 use Rattle.mesh_trail.specs.Said.{said_of}
 use Rattle.mesh_trail.specs.Heard.{front_in, front_of}
 
-pub says_as : (mesh : Nodes) (bytes : List ℕ) (msg m : wire.Message) → Spells bytes msg → msg ≡ m → said_of (meaning mesh bytes) ≡ said_of (in_mesh mesh m)
+pub says_as : (mesh : Nodes) (bytes : List ℕ) (msg m : wire.Message) → Encodes bytes msg → msg ≡ m → said_of (meaning mesh bytes) ≡ said_of (in_mesh mesh m)
 unfolding meaning
 says_as mesh bytes msg m s is = ap (λ (x : wire.Message). said_of (in_mesh mesh x)) (s.stands ∙ is)
 
@@ -43,7 +43,7 @@ first_written mesh n xs i from bytes all same is form = by n.items all (is ∙ a
   where
     by : (ys : List items.Item) → AllByRecursion (IsWrittenItem mesh) ys → Some i ≡ slice_get ys 0 → refusal bytes ≡ None
     by [] all is = absurd (none-some i (sym is))
-    by (y ∷ ys) all is = let w = subst (IsWrittenItem mesh) (sym (same_Some i y is) ∙ form) all.0 in w.spells.allowed
+    by (y ∷ ys) all is = let w = subst (IsWrittenItem mesh) (sym (same_Some i y is) ∙ form) all.0 in w.encodes.allowed
 
 pub first_near : (mesh : Nodes) (size x : ℕ) (n : NodeSeen) (xs : List items.Item) (i : items.Item) (from : ℕ) (bytes : List ℕ) → AllByRecursion (IsItemInMesh size x) (map (item_in mesh) n.items) → xs ≡ n.items → Some i ≡ slice_get xs 0 → i ≡ item.Heard from bytes → from < size
 first_near mesh size x n xs i from bytes all same is form = by n.items all (is ∙ ap (λ (ys : List items.Item). slice_get ys 0) same)

@@ -8,12 +8,12 @@ use Rattle.mesh_base.specs.declared.events.Cast.TheVariants as casts
 use Rattle.mesh_base.specs.declared.events.Done.{Done}
 use Rattle.mesh_base.specs.declared.events.Done.TheVariants as done
 use Rattle.aodv_model.specs.Cores.{Message}
-use Rattle.aodv_wire.specs.Spells.{refusal}
+use Rattle.aodv_wire.specs.Encodes.{refusal}
 use Rattle.aodv_meaning.specs.Meaning.{meaning}
 use Rattle.mesh_model.specs.Worlds as worlds
-use Rattle.mesh_model.specs.Worlds.{World, Copy, Double, Event, Happening, Idle, Next, Outcome, after, copies_of, copies_to, step}
+use Rattle.mesh_model.specs.Worlds.{World, Copy, Double, Event, WorldEffect, Idle, Next, Outcome, after, copies_of, copies_to, step}
 use Rattle.mesh_meaning.specs.Answers as answers
-use Rattle.mesh_meaning.specs.Answers.{IsCastWritten, IsDoneInMesh, cast_in, happening_in, outcome_in}
+use Rattle.mesh_meaning.specs.Answers.{IsCastWritten, IsDoneInMesh, cast_in, world_effect_in, outcome_in}
 use Rattle.mesh_meaning.specs.Events.{node_of}
 use Rattle.mesh_world.specs.Seen.{WorldSeen, IsSoundWorld}
 use Rattle.mesh_world.specs.Steps.{IsDone}
@@ -106,7 +106,7 @@ cast_says mesh x (casts.One y) tos first packet = to_says tos first x (meaning m
 cast_says mesh x (casts.Many s) tos first packet = to_says tos first x (meaning mesh packet)
 cast_says mesh x casts.All tos first packet = to_says tos first x (meaning mesh packet)
 
-pub copies_say : (mesh : Nodes) (x : ℕ) (d : Done) (packet : List ℕ) → AllByRecursion (λ (c : Copy). c.message ≡ meaning mesh packet) (copies_in (happening_in mesh x d packet))
+pub copies_say : (mesh : Nodes) (x : ℕ) (d : Done) (packet : List ℕ) → AllByRecursion (λ (c : Copy). c.message ≡ meaning mesh packet) (copies_in (world_effect_in mesh x d packet))
 unfolding answers.copies_in
 copies_say mesh x done.Idle packet = tt
 copies_say mesh x done.Changed packet = tt
@@ -118,12 +118,12 @@ copies_say mesh x (done.Doubled id to parcel) packet = tt
 
 cast_free : (mesh : Nodes) (x : ℕ) (c : cast.Cast) (tos : List ℕ) (first : ℕ) (packet : List ℕ) → IsCastWritten mesh c packet → 0 < length (copies_of (cast_in mesh c packet) tos first x) → refusal packet ≡ None
 cast_free mesh x casts.Nothing tos first packet w some = absurd (omega arith)
-cast_free mesh x (casts.One y) tos first packet w some = (w.1).written.spells.allowed
-cast_free mesh x (casts.Many s) tos first packet w some = (w.1).written.spells.allowed
-cast_free mesh x casts.All tos first packet w some = w.written.spells.allowed
+cast_free mesh x (casts.One y) tos first packet w some = (w.1).written.encodes.allowed
+cast_free mesh x (casts.Many s) tos first packet w some = (w.1).written.encodes.allowed
+cast_free mesh x casts.All tos first packet w some = w.written.encodes.allowed
 
 -- what is cast can be read
-pub copies_free : (mesh : Nodes) (x : ℕ) (d : Done) (packet : List ℕ) → IsDoneInMesh mesh d packet → 0 < length (copies_in (happening_in mesh x d packet)) → refusal packet ≡ None
+pub copies_free : (mesh : Nodes) (x : ℕ) (d : Done) (packet : List ℕ) → IsDoneInMesh mesh d packet → 0 < length (copies_in (world_effect_in mesh x d packet)) → refusal packet ≡ None
 unfolding answers.copies_in
 copies_free mesh x done.Idle packet w some = absurd (omega arith)
 copies_free mesh x done.Changed packet w some = absurd (omega arith)
@@ -143,15 +143,15 @@ some_cast (c ∷ cs) flying list next id m some starts says = λ i. from_id_on f
 
 -- the event was done, and its copies have these lists
 pub record Casts (e : Event) (old new : WorldSeen) (x : ℕ) (d : Done) (packet : List ℕ) (nodes : List NodeLists) (casts : List lists.Cast) (list : Message → List ℕ) : Type 0 where
-  pub next : (new.world).next_copy ≡ (old.world).next_copy + length (copies_in (happening_in old.mesh x d packet))
-  pub starts : StartsAt (old.world).next_copy (copies_in (happening_in old.mesh x d packet))
-  pub flying : (id : ℕ) → (lists_after old.world e (kept_lists nodes casts)).flying id ≡ with_copies (λ i. reverse (list_of casts i)) list (copies_in (happening_in old.mesh x d packet)) id
+  pub next : (new.world).next_copy ≡ (old.world).next_copy + length (copies_in (world_effect_in old.mesh x d packet))
+  pub starts : StartsAt (old.world).next_copy (copies_in (world_effect_in old.mesh x d packet))
+  pub flying : (id : ℕ) → (lists_after old.world e (kept_lists nodes casts)).flying id ≡ with_copies (λ i. reverse (list_of casts i)) list (copies_in (world_effect_in old.mesh x d packet)) id
 
 pub cast_done : (e : Event) (old new : WorldSeen) (x : ℕ) (d : Done) (packet : List ℕ) (nodes nodes' : List NodeLists) (casts casts' : List lists.Cast) (c : lists.Cast) (list : Message → List ℕ) → IsSoundWorld new → IsDone e old d new packet → Casts e old new x d packet nodes casts list
     → NodesGo e old nodes nodes' casts → (old.world).next_copy < (new.world).next_copy → casts' ≡ casts ++ c ∷ [] → c.first ≡ (old.world).next_copy → c.end ≡ (new.world).next_copy
     → (refusal packet ≡ None → reverse c.list ≡ list (meaning old.mesh packet)) → AreWalks old nodes casts → AreWalks new nodes' casts'
 cast_done e old new x d packet nodes nodes' casts casts' c list sound is k go less more first end said t =
-    let cs = copies_in (happening_in old.mesh x d packet) in
+    let cs = copies_in (world_effect_in old.mesh x d packet) in
     let next = k.next in
     let some : 0 < length cs = omega arith in
     let flying = λ (i : ℕ). reverse (list_of casts i) in
@@ -162,7 +162,7 @@ cast_done e old new x d packet nodes nodes' casts casts' c list sound is k go le
 pub none_done : (e : Event) (old new : WorldSeen) (x : ℕ) (d : Done) (packet : List ℕ) (nodes nodes' : List NodeLists) (casts : List lists.Cast) (list : Message → List ℕ) → IsSoundWorld new → IsDone e old d new packet → Casts e old new x d packet nodes casts list
     → NodesGo e old nodes nodes' casts → (new.world).next_copy ≤ (old.world).next_copy → AreWalks old nodes casts → AreWalks new nodes' casts
 none_done e old new x d packet nodes nodes' casts list sound is k go less t =
-    let cs = copies_in (happening_in old.mesh x d packet) in
+    let cs = copies_in (world_effect_in old.mesh x d packet) in
     let next = k.next in
     let none : length cs ≤ 0 = omega arith in
     let flying = λ (i : ℕ). reverse (list_of casts i) in
@@ -173,23 +173,23 @@ none_done e old new x d packet nodes nodes' casts list sound is k go less t =
 idle_next : (e : Event) (old new : WorldSeen) (x : ℕ) (packet : List ℕ) → IsDone e old done.Idle new packet → (new.world).next_copy ≡ (old.world).next_copy
 idle_next e old new x packet is = ap (λ (w : World). w.next_copy) ((after_done e old new done.Idle packet is).world ∙ ap (after old.world) is.outcome)
 
-pub made_by : (e : Event) (old new : WorldSeen) (d : Done) (packet : List ℕ) (h : Happening) → IsNoDouble e → step old.world e ≡ Next new.world h → MakesIn old.world (Next new.world h)
+pub made_by : (e : Event) (old new : WorldSeen) (d : Done) (packet : List ℕ) (h : WorldEffect) → IsNoDouble e → step old.world e ≡ Next new.world h → MakesIn old.world (Next new.world h)
 made_by e old new d packet h one is = subst (MakesIn old.world) is (makes old.world e one)
 
 own_by : (e : Event) (y : ℕ) (old new : WorldSeen) (d : Done) (packet : List ℕ) (nodes : List NodeLists) (casts : List lists.Cast) → IsNoDouble e → node_of e ≡ y
-    → ((w' : World) (h : Happening) → walked_by old.world e (Next w' h) (kept_lists nodes casts) ≡ record (kept_lists nodes casts) { flying = with_copies (λ i. reverse (list_of casts i)) (own_list y) (copies_in h) })
+    → ((w' : World) (h : WorldEffect) → walked_by old.world e (Next w' h) (kept_lists nodes casts) ≡ record (kept_lists nodes casts) { flying = with_copies (λ i. reverse (list_of casts i)) (own_list y) (copies_in h) })
     → walked_by old.world e Idle (kept_lists nodes casts) ≡ kept_lists nodes casts → IsDone e old d new packet → AreWalks old nodes casts
     → Casts e old new y d packet nodes casts (own_list y) × NodesGo e old nodes nodes casts
 own_by e y old new d packet nodes casts one at moves none is t = by d is (is.outcome ∙ ap (λ (x : ℕ). outcome_in old.mesh x new.world d packet) at)
   where
-    some : (d : Done) (h : Happening) → h ≡ happening_in old.mesh y d packet → step old.world e ≡ Next new.world h → Casts e old new y d packet nodes casts (own_list y) × NodesGo e old nodes nodes casts
+    some : (d : Done) (h : WorldEffect) → h ≡ world_effect_in old.mesh y d packet → step old.world e ≡ Next new.world h → Casts e old new y d packet nodes casts (own_list y) × NodesGo e old nodes nodes casts
     some d h same out =
         let made = made_by e old new d packet h one out in
         let all = walked_is old.world e (kept_lists nodes casts) (Next new.world h) out ∙ moves new.world h in (
           record {
-            next = made.0 ∙ ap (λ (g : Happening). (old.world).next_copy + length (copies_in g)) same;
-            starts = subst (λ (g : Happening). StartsAt (old.world).next_copy (copies_in g)) same made.1;
-            flying = λ i. ap (λ (k : KeptLists). k.flying i) all ∙ ap (λ (g : Happening). with_copies (λ i. reverse (list_of casts i)) (own_list y) (copies_in g) i) same;
+            next = made.0 ∙ ap (λ (g : WorldEffect). (old.world).next_copy + length (copies_in g)) same;
+            starts = subst (λ (g : WorldEffect). StartsAt (old.world).next_copy (copies_in g)) same made.1;
+            flying = λ i. ap (λ (k : KeptLists). k.flying i) all ∙ ap (λ (g : WorldEffect). with_copies (λ i. reverse (list_of casts i)) (own_list y) (copies_in g) i) same;
           },
           nodes_stay e old new nodes casts _ t all,
         )

@@ -9,8 +9,8 @@ use Rattle.aodv_model.specs.Tables.{Table}
 use Rattle.aodv_model.specs.Cores.{Core, Heard, Item, Message, New}
 use Rattle.mesh_model.specs.Walks.{table}
 use Rattle.mesh_model.specs.Worlds as worlds
-use Rattle.mesh_model.specs.Worlds.{World, Happening, Idle, Next, Node, Outcome, Turn, at_node, step, turn_of}
-use Rattle.mesh_meaning.specs.Answers.{happening_in, outcome_in}
+use Rattle.mesh_model.specs.Worlds.{World, WorldEffect, Idle, Next, Node, Outcome, Turn, at_node, step, turn_of}
+use Rattle.mesh_meaning.specs.Answers.{world_effect_in, outcome_in}
 use Rattle.mesh_world.proofs.Frames.{each_set}
 use Rattle.mesh_world.specs.Seen.{WorldSeen}
 use Rattle.mesh_world.specs.Steps.{IsDone}
@@ -86,7 +86,7 @@ rows_long rt (fronts.Heard y s) near told rows = rows_count rt y s near told row
 
 -- ---- a turn that was done
 
-busy_next : (old : WorldSeen) (w : World) (x : ℕ) (d : Done) (packet : List ℕ) → idles d ≡ false → outcome_in old.mesh x w d packet ≡ Next w (happening_in old.mesh x d packet)
+busy_next : (old : WorldSeen) (w : World) (x : ℕ) (d : Done) (packet : List ℕ) → idles d ≡ false → outcome_in old.mesh x w d packet ≡ Next w (world_effect_in old.mesh x d packet)
 busy_next old w x done.Idle packet busy = cc
 busy_next old w x done.Changed packet busy = refl
 busy_next old w x (done.Taken took effect air) packet busy = refl
@@ -121,7 +121,7 @@ module _ (x : ℕ) (old new : WorldSeen) (d : Done) (packet : List ℕ) (nodes :
   W = lists_after old.world (Turn x) K
 
   abbrev copies : List worlds.Copy
-  copies = copies_in (happening_in old.mesh x d packet)
+  copies = copies_in (world_effect_in old.mesh x d packet)
 
   row_counts : (now.entries).items ≡ (now.entries).items → length (now.entries).items ≡ length (n.entries).items → AllByRecursion (λ m. length (m.entries).items ≡ length old.mesh) (slice_set nodes x now)
   row_counts _ size = each_set (λ (m : NodeLists). length (m.entries).items ≡ length old.mesh) nodes x now t.rows (size ∙ rows_at nodes old casts x n t at)
@@ -130,10 +130,10 @@ module _ (x : ℕ) (old new : WorldSeen) (d : Done) (packet : List ℕ) (nodes :
   queue_goes queue z = changed_so turned_queue nodes x now (drop 1 (K.queues x)) z (is_there old nodes casts x t below)
       (ap (λ o. drop 1 (turned_queue o)) at ∙ sym (turned_drop (n.queue).items) ∙ ap (map reverse) (sym queue))
 
-  turned_new : IsDone (Turn x) old d new packet → step old.world (Turn x) ≡ Next new.world (happening_in old.mesh x d packet) → W ≡ record K { queues = changed_at K.queues x (drop 1 (K.queues x)); flying = with_copies K.flying (own_list x) copies }
+  turned_new : IsDone (Turn x) old d new packet → step old.world (Turn x) ≡ Next new.world (world_effect_in old.mesh x d packet) → W ≡ record K { queues = changed_at K.queues x (drop 1 (K.queues x)); flying = with_copies K.flying (own_list x) copies }
       → Took x (table new.world x) fronts.New hand n now → Turned x old new d packet nodes casts fronts.New n now
   turned_new is out all took =
-      let made = made_by (Turn x) old new d packet (happening_in old.mesh x d packet) tt out in
+      let made = made_by (Turn x) old new d packet (world_effect_in old.mesh x d packet) tt out in
       let there = is_there old nodes casts x t below in
       record {
         list = own_list x;
@@ -164,7 +164,7 @@ module _ (x : ℕ) (old new : WorldSeen) (d : Done) (packet : List ℕ) (nodes :
       ∙ (λ i q. (sym (turned_rows (table new.world x) x y m (n.entries).items (front_list (n.queue).items) hand.near hand.told q (omega arith) (subst (λ k. IsSaidIn k (said_of m)) (sym size) inside) r.near r.told)
       ∙ ap (λ rs. reverse (row rs q)) (sym took.rows)) i)
 
-  turned_heard : (y : ℕ) (m : Message) → IsDone (Turn x) old d new packet → step old.world (Turn x) ≡ Next new.world (happening_in old.mesh x d packet)
+  turned_heard : (y : ℕ) (m : Message) → IsDone (Turn x) old d new packet → step old.world (Turn x) ≡ Next new.world (world_effect_in old.mesh x d packet)
       → W ≡ record {
         entries = changed_at K.entries x (heard_entries y m);
         queues = changed_at K.queues x (drop 1 (K.queues x));
@@ -172,7 +172,7 @@ module _ (x : ℕ) (old new : WorldSeen) (d : Done) (packet : List ℕ) (nodes :
       }
       → y < length old.mesh → IsSaidIn (length old.mesh) (said_of m) → Took x (table new.world x) (fronts.Heard y (said_of m)) hand n now → Turned x old new d packet nodes casts (fronts.Heard y (said_of m)) n now
   turned_heard y m is out all near inside took =
-      let made = made_by (Turn x) old new d packet (happening_in old.mesh x d packet) tt out in
+      let made = made_by (Turn x) old new d packet (world_effect_in old.mesh x d packet) tt out in
       let there = is_there old nodes casts x t below in
       let same = entries_are y m near inside took in
       record {
@@ -197,11 +197,11 @@ module _ (x : ℕ) (old new : WorldSeen) (d : Done) (packet : List ℕ) (nodes :
       turned_heard y m is out (walked_is old.world (Turn x) K _ out ∙ ap (λ o. after_turn x (table new.world x) o copies K) node) inside.0 inside.1 took
 
   turned_node : (o : Option Node) → IsDone (Turn x) old d new packet → idles d ≡ false → slice_get (old.world).nodes x ≡ o → IsFrontIn (length old.mesh) (front_of o) → Took x (table new.world x) (front_of o) hand n now → Turned x old new d packet nodes casts (front_of o) n now
-  turned_node None is busy node inside took = let none : Idle ≡ Next new.world (happening_in old.mesh x d packet) = sym (step_at old.world x None node) ∙ is.outcome ∙ busy_next old new.world x d packet busy in cc
+  turned_node None is busy node inside took = let none : Idle ≡ Next new.world (world_effect_in old.mesh x d packet) = sym (step_at old.world x None node) ∙ is.outcome ∙ busy_next old new.world x d packet busy in cc
   turned_node (Some m) is busy node inside took = by m.queue m.core node inside took
     where
       by : (queue : List Item) (core : Core) → slice_get (old.world).nodes x ≡ Some (record { core = core; queue = queue }) → IsFrontIn (length old.mesh) (front_in queue) → Took x (table new.world x) (front_in queue) hand n now → Turned x old new d packet nodes casts (front_in queue) n now
-      by [] core node inside took = let none : Idle ≡ Next new.world (happening_in old.mesh x d packet) = sym (step_at old.world x (Some (record { core = core; queue = [] })) node) ∙ is.outcome ∙ busy_next old new.world x d packet busy in cc
+      by [] core node inside took = let none : Idle ≡ Next new.world (world_effect_in old.mesh x d packet) = sym (step_at old.world x (Some (record { core = core; queue = [] })) node) ∙ is.outcome ∙ busy_next old new.world x d packet busy in cc
       by (item ∷ items) core node inside took = turned_item item items core is busy node inside took
 
 pub turned : (x : ℕ) (old new : WorldSeen) (d : Done) (packet : List ℕ) (nodes : List NodeLists) (casts : List lists.Cast) (n now : NodeLists) (hand : Hand) (front : Front) → AreWalks old nodes casts → x < length old.mesh → slice_get nodes x ≡ Some n

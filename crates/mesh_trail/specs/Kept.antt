@@ -8,7 +8,7 @@ use Rattle.aodv_model.specs.Tables.{Table}
 use Rattle.aodv_model.specs.Cores.{Message, Pkt, Rreq, Rrep, Rerr, Item, New, Heard}
 use Rattle.mesh_model.specs.Walks.{table}
 use Rattle.mesh_model.specs.Worlds as worlds
-use Rattle.mesh_model.specs.Worlds.{World, Node, Copy, Event, Give, Turn, Send, Ask, Link, Cut, Deliver, Lose, Double, Outcome, Idle, Next, Happening, Changed, Taken, Sent, CopyHeard, CopyLost, CopyDoubled, is_parcel, step}
+use Rattle.mesh_model.specs.Worlds.{World, Node, Copy, Event, Give, Turn, Send, Ask, Link, Cut, Deliver, Lose, Double, Outcome, Idle, Next, WorldEffect, Changed, Taken, Sent, CopyHeard, CopyLost, CopyDoubled, is_parcel, step}
 
 -- the lists of each node's entry for each destination; of the items of each node's queue; and of
 -- the copy of each id. The list of what is no request or reply, of an entry that isn't valid, and
@@ -126,7 +126,7 @@ after_turn x now None copies k = k
 after_turn x now (Some n) copies k = after_front x now n.queue copies k
 
 -- the copies that were made
-abbrev pub copies_in : Happening → List Copy
+abbrev pub copies_in : WorldEffect → List Copy
 copies_in (Taken taken effect copies) = copies
 copies_in (Sent effect copies) = copies
 copies_in others = []
@@ -136,18 +136,18 @@ abbrev pub with_item : KeptLists → ℕ → List ℕ → KeptLists
 with_item k x l = record k { queues = changed_at k.queues x (k.queues x ++ l ∷ []) }
 
 -- a copy is heard with its list
-abbrev pub after_delivery : ℕ → Happening → KeptLists → KeptLists
+abbrev pub after_delivery : ℕ → WorldEffect → KeptLists → KeptLists
 after_delivery id (CopyHeard from to) k = with_item k to (k.flying id)
 after_delivery id others k = k
 
 -- a doubled copy has the list of its first copy
-abbrev pub after_doubling : ℕ → Happening → KeptLists → KeptLists
+abbrev pub after_doubling : ℕ → WorldEffect → KeptLists → KeptLists
 after_doubling id (CopyDoubled new to parcel) k =
     record k { flying = from_id_on k.flying new (k.flying id) }
 after_doubling id others k = k
 
 -- the lists after an event that led from the world w to the world w'
-abbrev pub after_event : World → World → Event → Happening → KeptLists → KeptLists
+abbrev pub after_event : World → World → Event → WorldEffect → KeptLists → KeptLists
 after_event w w' (Give x d b) h k = with_item k x []
 after_event w w' (Turn x) h k = after_turn x (table w' x) (slice_get w.nodes x) (copies_in h) k
 after_event w w' (Send x d) h k =

@@ -1,6 +1,6 @@
 //! What a step of a node needs in hand, and what it does with it.
 ghost use Rattle.std.specs.Prelude.{◌≡◌, ◌<◌, ◌≤◌, [], length, drop, None, OnOk};
-ghost use Rattle.aodv_wire.specs.Spells.{refusal};
+ghost use Rattle.aodv_wire.specs.Encodes.{refusal};
 ghost use Rattle.aodv_meaning.specs.Meaning.{meaning};
 ghost use Rattle.mesh_model.specs.Walks.{table};
 ghost use Rattle.mesh_trail.specs.Said.{said_of};

@@ -1,7 +1,7 @@
 //! What a message says of routes.
 ghost use Rattle.std.specs.Prelude.{◌≡◌, ◌≤◌, ◌<◌, None, length};
 ghost use Rattle.mesh_base.specs.Meshes.{index_in};
-ghost use Rattle.aodv_wire.specs.Spells.{refusal};
+ghost use Rattle.aodv_wire.specs.Encodes.{refusal};
 ghost use Rattle.aodv_meaning.specs.Meaning.{meaning};
 ghost use Rattle.mesh_trail.specs.Said.{said_of, IsSaidIn};
 
@@ -40,7 +40,7 @@ fn node_of(mesh: &Mesh, a: Addr) -> usize
     mesh.index_of(a).unwrap_or(0)
 }
 
-/// What a packet says. Of bytes that spell no message it is of no matter.
+/// What a packet says. Of bytes that encode no message it is of no matter.
 pub(crate) fn read_said(mesh: &Mesh, bytes: &[u8]) -> Said
     ensures value { refusal bytes.now ≡ None → result ≡ said_of (meaning mesh.now bytes.now) }
     ensures within { 1 ≤ length mesh.now → IsSaidIn (length mesh.now) result }

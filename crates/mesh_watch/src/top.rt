@@ -16,7 +16,7 @@ use std::alloc::Global;
 
 /// Runs the schedule that the source gives, in a world of its own, and writes its text to the sink,
 /// line by line, with a block below each event that has changed a node: what a line `show` of that
-/// node writes at the moment after the event. With a last word `--changes` it writes in place of a
+/// node writes in the state after the event. With a last word `--changes` it writes in place of a
 /// block a line that names the node, and then each line of the block that went with the event or
 /// came. They stand in the block's order; between two lines that stay, those that went stand before
 /// those that came. All nodes run the protocol as AWN has it, with the words `--variant NAME` that

@@ -7,7 +7,7 @@ use Rattle.mesh_model.specs.Worlds.{World}
 use Rattle.mesh_model.specs.Routes.{next_hop}
 use Rattle.mesh_grammar.specs.Written.{line, label_number}
 use Rattle.mesh_text.specs.Lines.{name_of}
-use Rattle.mesh_text.specs.Schedule.{Moment}
+use Rattle.mesh_text.specs.Schedule.{RunState}
 use Rattle.mesh_trail.specs.Walks.{IsRouteWalk}
 
 -- two words: the address of a node, and that of a destination
@@ -31,8 +31,8 @@ abbrev pub IsRouteOf : Option World → Option ℕ → Option ℕ → Option (Li
 IsRouteOf (Some w) (Some x) (Some d) route = IsRouteIn w x d route
 IsRouteOf others x d route = route ≡ None
 
--- the route between two addresses at a moment of a run
-abbrev pub IsRoute : Moment → ℕ × ℕ → Option (List ℕ) → Type 0
+-- the route between two addresses in a state of a run
+abbrev pub IsRoute : RunState → ℕ × ℕ → Option (List ℕ) → Type 0
 IsRoute m asked route = IsRouteOf m.world (index_of m.mesh asked.0) (index_of m.mesh asked.1) route
 
 -- the names of the nodes, each after a space

@@ -6,13 +6,13 @@ ghost use Rattle.mesh_io.specs.Puts.{Puts};
 ghost use Rattle.mesh_why.specs.Routes.{IsRoute, names_after, walk_line, route_line};
 
 use crate::words::Asked;
-use mesh_base::{LINE_ROOM, LineBuf, MOST_NODES, Mesh, push_number, push_text};
+use mesh_base::{LINE_CAPACITY, LineBuf, MOST_NODES, Mesh, push_number, push_text};
 use mesh_io::{PutFault, Sink, put_all};
 use mesh_run::Point;
 use mesh_trail::Trail;
 use mesh_world::Steps;
 
-/// The walk of the route that is asked for, at a moment; none where its node or its destination is
+/// The walk of the route that is asked for, in a state; none where its node or its destination is
 /// no node of the mesh, there is no world yet, or the node has no valid route to the destination.
 pub fn walk_at(at: &Point<Trail>, asked: Asked) -> Option<&[usize]>
     ensures route { IsRoute at.now (asked.node.0, asked.dest.0) (option_map (λ w. w.now) result) }
@@ -31,7 +31,7 @@ pub fn walk_at(at: &Point<Trail>, asked: Asked) -> Option<&[usize]>
 // The names of the nodes, each after a space.
 fn push_names(out: &mut LineBuf, mesh: &Mesh, walk: &[usize])
     requires within { All (λ x. x < length mesh.now) walk.now }
-    requires room { length out.old + 16 * length walk.now ≤ LINE_ROOM }
+    requires room { length out.old + 16 * length walk.now ≤ LINE_CAPACITY }
     ensures text { out.new ≡ out.old ++ names_after mesh.now walk.now }
     ensures length { length out.new ≤ length out.old + 16 * length walk.now }
 {
@@ -44,7 +44,7 @@ fn push_names(out: &mut LineBuf, mesh: &Mesh, walk: &[usize])
 // The line of a walk: at most 201 nodes, of 16 bytes each with its space.
 #[tactic(auto, unfolding(crate::specs::Routes::walk_line))]
 fn push_walk(out: &mut LineBuf, mesh: &Mesh, walk: &[usize])
-    requires room { length out.old + 3300 ≤ LINE_ROOM }
+    requires room { length out.old + 3300 ≤ LINE_CAPACITY }
     requires within { All (λ x. x < length mesh.now) walk.now }
     requires some { 1 ≤ length walk.now }
     requires short { length walk.now ≤ MOST_NODES + 1 }

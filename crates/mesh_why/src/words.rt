@@ -11,7 +11,7 @@ pub struct Asked {
     pub dest: Addr,
 }
 
-// The addresses that two words spell.
+// The addresses that two words denote.
 fn of_two(node: &str, dest: &str) -> Option<Asked>
     ensures { option_map (λ asked. (asked.node.0, asked.dest.0)) result ≡ of_two node.now dest.now }
 {

@@ -9,27 +9,27 @@ use Rattle.mesh_model.proofs.AccountSteps.{step_balanced}
 use Rattle.mesh_meaning.specs.Events.{event_of}
 use Rattle.mesh_world.specs.Seen.{WorldSeen, IsSoundWorld}
 use Rattle.mesh_world.specs.Parts.{AreKept, IsToldTo, seen_in}
-use Rattle.mesh_world.specs.Tallies.{IsStepCounted}
+use Rattle.mesh_world.specs.CountsOfEvents.{IsStepCounted}
 use Rattle.mesh_world.specs.Accounts.{held_data, IsAccounted, KeepsAccount}
 use Rattle.mesh_world.specs.declared.parts.Parts.{Parts}
 use Rattle.mesh_world.specs.declared.steps.StepError.{StepError}
 use Rattle.mesh_world.specs.declared.steps.StepError.TheVariants as errors
-use Rattle.mesh_world.specs.declared.tally.Tally.{Tally}
-use Rattle.mesh_world.proofs.Tallies.{counted_at}
+use Rattle.mesh_world.specs.declared.event_counts.EventCounts.{EventCounts}
+use Rattle.mesh_world.proofs.CountsOfEvents.{counted_at}
 
 -- the world after an event
 after_accounted : (old : WorldSeen) (e : Event) → IsSoundWorld old → IsEvent (length old.mesh) e → IsAccounted e old.world (after old.world (step old.world e))
 after_accounted old e sound ok t =
     step_balanced t old.world e (subst (λ n. IsEvent n e) (sym sound.count) ok) (sound.invariant).in_mesh
 
-pub counted_accounts : (e : Event) (old new : WorldSeen) (result : Result Tally StepError) → IsSoundWorld old → IsEvent (length old.mesh) e → IsStepCounted e old result new → KeepsAccount e old result new
-counted_accounts e old new (Ok tally) sound ok is =
+pub counted_accounts : (e : Event) (old new : WorldSeen) (result : Result EventCounts StepError) → IsSoundWorld old → IsEvent (length old.mesh) e → IsStepCounted e old result new → KeepsAccount e old result new
+counted_accounts e old new (Ok event_counts) sound ok is =
     subst (IsAccounted e old.world) (sym (ap (λ w. w.world) (is.done).world)) (after_accounted old e sound ok)
 counted_accounts e old new (Err (errors.Full node field)) sound ok is = λ t. ap (λ w. held_data t w.world) is.1
 counted_accounts e old new (Err errors.NoMemory) sound ok is = λ t. ap (λ w. held_data t w.world) is
 
 -- the same of the event that was given and of the world that is seen
-pub accounted_at : (e f : EventGiven) (w : WorldSeen) (old : Parts) (wanted : Bool) (result : Result Tally StepError) (left : Done) (new : Parts) (packet : List ℕ) → e ≡ f → seen_in old ≡ w → AreKept old
+pub accounted_at : (e f : EventGiven) (w : WorldSeen) (old : Parts) (wanted : Bool) (result : Result EventCounts StepError) (left : Done) (new : Parts) (packet : List ℕ) → e ≡ f → seen_in old ≡ w → AreKept old
     → IsEvent (length w.mesh) (event_of e) → IsToldTo (event_of f) old wanted result left new packet → KeepsAccount (event_of e) w result (seen_in new)
 accounted_at e f w old wanted result left new packet same view kept ok is =
     counted_accounts (event_of e) w (seen_in new) result (subst IsSoundWorld view kept.sound) ok

@@ -15,7 +15,7 @@ use Rattle.mesh_base.specs.declared.events.Item.{Item}
 use Rattle.mesh_base.specs.declared.events.Item.TheVariants as item
 use Rattle.mesh_radio.specs.Copies.{data_in}
 use Rattle.aodv_wire.specs.declared.error.WireError.{WireError}
-use Rattle.aodv_wire.specs.Spells.{kind, refusal, is_data}
+use Rattle.aodv_wire.specs.Encodes.{kind, refusal, is_data}
 use Rattle.aodv_wire.proofs.Lines.{said_rreq, said_rrep, said_rerr, said_data}
 use Rattle.aodv_model.specs.Cores.{Body, Store, bodies_in, has_data, in_qD}
 use Rattle.aodv_model.specs.Soundness.{IsStoreInMesh}
@@ -169,7 +169,7 @@ packet_counts mesh b allowed = elim (cases_eq (kind b) 1) [
 
 item_counts : (mesh : Nodes) (x : ℕ) (i : Item) → IsWrittenItem mesh i → in_item any x (item_in mesh i) ≡ one_if (has_datum i)
 item_counts mesh x (item.New dest body) written = refl
-item_counts mesh x (item.Heard from bytes) written = packet_counts mesh bytes written.spells.allowed
+item_counts mesh x (item.Heard from bytes) written = packet_counts mesh bytes written.encodes.allowed
 
 items_count : (mesh : Nodes) (x : ℕ) (items : List Item) → AllByRecursion (IsWrittenItem mesh) items → total (in_item any x) (map (item_in mesh) items) ≡ queued_in items
 unfolding queued_in
@@ -197,7 +197,7 @@ module _ (mesh : Nodes) (nodes : List NodeSeen) (radio : RadioState) (are : AreC
 
   pub flying_means : flying_in radio.flying ≡ in_flight any (world_in mesh nodes radio)
   unfolding in_flight flying_in world_in
-  flying_means = sym (total_map (IsWrittenCopy mesh) (copy_in mesh) (in_copy any) (λ f. one_if (is_data f.bytes)) radio.flying are.flying (λ f written. packet_counts mesh f.bytes written.spells.allowed))
+  flying_means = sym (total_map (IsWrittenCopy mesh) (copy_in mesh) (in_copy any) (λ f. one_if (is_data f.bytes)) radio.flying are.flying (λ f written. packet_counts mesh f.bytes written.encodes.allowed))
 
   -- each part of the sum fits
   pub waiting_fits : sum_by waiting_at nodes < 2 ^ 64
@@ -250,23 +250,23 @@ tallied_next nodes k waits queues w q n there ws qs was =
     record { in_stores = omega arith; in_inboxes = omega arith }
 
 module _ (mesh : Nodes) (nodes : List NodeSeen) (radio : RadioState) (are : AreCounted mesh nodes radio) where
-  pub tally_waiting_fits : (k waits queues : ℕ) (n : NodeSeen) → slice_get nodes k ≡ Some n → IsTallied nodes k waits queues → waits + waiting_at n < 2 ^ 64
-  tally_waiting_fits k waits queues n there was =
+  pub counts_waiting_fits : (k waits queues : ℕ) (n : NodeSeen) → slice_get nodes k ≡ Some n → IsTallied nodes k waits queues → waits + waiting_at n < 2 ^ 64
+  counts_waiting_fits k waits queues n there was =
       let fits : sum_by waiting_at (take k nodes) + waiting_at n ≤ sum_by waiting_at nodes = sum_fits waiting_at nodes k n there in
       let few : sum_by waiting_at nodes < 2 ^ 64 = waiting_fits mesh nodes radio are in
       let old : waits ≡ sum_by waiting_at (take k nodes) = was.in_stores in
       omega arith
 
-  pub tally_queued_fits : (k waits queues : ℕ) (n : NodeSeen) → slice_get nodes k ≡ Some n → IsTallied nodes k waits queues → queues + queued_in n.items < 2 ^ 64
-  tally_queued_fits k waits queues n there was =
+  pub counts_queued_fits : (k waits queues : ℕ) (n : NodeSeen) → slice_get nodes k ≡ Some n → IsTallied nodes k waits queues → queues + queued_in n.items < 2 ^ 64
+  counts_queued_fits k waits queues n there was =
       let fits : sum_by (λ n. queued_in n.items) (take k nodes) + queued_in n.items ≤ sum_by (λ n. queued_in n.items) nodes = sum_fits (λ n. queued_in n.items) nodes k n there in
       let few : sum_by (λ n. queued_in n.items) nodes < 2 ^ 64 = queued_fits mesh nodes radio are in
       let old : queues ≡ sum_by (λ n. queued_in n.items) (take k nodes) = was.in_inboxes in
       omega arith
 
   -- all nodes are counted
-  pub tally_waiting : (k waits queues : ℕ) → length nodes ≤ k → IsTallied nodes k waits queues → waits ≡ waiting any (world_in mesh nodes radio)
-  tally_waiting k waits queues end was = was.in_stores ∙ (ap (sum_by waiting_at) (take_all k nodes end) ∙ waiting_means mesh nodes radio are)
+  pub counts_waiting : (k waits queues : ℕ) → length nodes ≤ k → IsTallied nodes k waits queues → waits ≡ waiting any (world_in mesh nodes radio)
+  counts_waiting k waits queues end was = was.in_stores ∙ (ap (sum_by waiting_at) (take_all k nodes end) ∙ waiting_means mesh nodes radio are)
 
-  pub tally_queued : (k waits queues : ℕ) → length nodes ≤ k → IsTallied nodes k waits queues → queues ≡ queued_data any (world_in mesh nodes radio)
-  tally_queued k waits queues end was = was.in_inboxes ∙ (ap (sum_by (λ n. queued_in n.items)) (take_all k nodes end) ∙ queued_means mesh nodes radio are)
+  pub counts_queued : (k waits queues : ℕ) → length nodes ≤ k → IsTallied nodes k waits queues → queues ≡ queued_data any (world_in mesh nodes radio)
+  counts_queued k waits queues end was = was.in_inboxes ∙ (ap (sum_by (λ n. queued_in n.items)) (take_all k nodes end) ∙ queued_means mesh nodes radio are)

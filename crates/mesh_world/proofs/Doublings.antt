@@ -13,7 +13,7 @@ use Rattle.mesh_model.specs.Worlds as worlds
 use Rattle.mesh_model.specs.Worlds.{World, Copy, Double, Next, CopyDoubled, at_copy, is_parcel, step}
 use Rattle.mesh_model.specs.Accounts.{any, in_message}
 use Rattle.mesh_model.proofs.Doublings.{doubling_few}
-use Rattle.aodv_wire.specs.Spells as packets
+use Rattle.aodv_wire.specs.Encodes as packets
 use Rattle.mesh_radio.specs.Copies as radios
 use Rattle.mesh_radio.specs.Copies.{held_seen}
 use Rattle.mesh_radio.specs.Radios.{RadioState, with_double}
@@ -54,7 +54,7 @@ parcel_if (Rrep m) b e = none-false b e
 parcel_if (Rerr dests) b e = none-false b e
 
 parcel_is : (mesh : Nodes) (b : List ℕ) → IsWritten mesh b → is_parcel (meaning mesh b) ≡ packets.is_data b
-parcel_is mesh b written = parcel_if (meaning mesh b) (packets.is_data b) (packet_counts mesh b written.spells.allowed)
+parcel_is mesh b written = parcel_if (meaning mesh b) (packets.is_data b) (packet_counts mesh b written.encodes.allowed)
 
 -- ---- the event
 

@@ -5,19 +5,19 @@ use Rattle.mesh_base.specs.declared.events.Counter.{Counter}
 use Rattle.aodv_model.specs.Cores.{New}
 use Rattle.aodv_model.specs.Handlers.{Effect, Took}
 use Rattle.mesh_model.specs.Worlds as worlds
-use Rattle.mesh_model.specs.Worlds.{World, Node, Copy, Event, Give, Turn, Send, Ask, Link, Cut, Deliver, Lose, Double, Happening, Changed, Taken, Sent, CopyHeard, CopyLost, CopyDoubled, Outcome, Idle, Next, unless_full, send_of, ask_of, at_node, at_copy, find_copy, is_parcel, are_linked, push, step}
+use Rattle.mesh_model.specs.Worlds.{World, Node, Copy, Event, Give, Turn, Send, Ask, Link, Cut, Deliver, Lose, Double, WorldEffect, Changed, Taken, Sent, CopyHeard, CopyLost, CopyDoubled, Outcome, Idle, Next, unless_full, send_of, ask_of, at_node, at_copy, find_copy, is_parcel, are_linked, push, step}
 use Rattle.mesh_model.specs.Accounts.{any, given_data, delivered_data, delivered_at, delivered_in, in_taken}
-use Rattle.mesh_world.specs.Tallies.{count_of}
+use Rattle.mesh_world.specs.CountsOfEvents.{count_of}
 
 -- ---- given
 
-happening_in : Outcome → Happening
-happening_in Idle = Changed
-happening_in (worlds.Full x f) = Changed
-happening_in (Next w h) = h
+world_effect_in : Outcome → WorldEffect
+world_effect_in Idle = Changed
+world_effect_in (worlds.Full x f) = Changed
+world_effect_in (Next w h) = h
 
 -- more than a datum given or a link changed
-abbrev pub NotChanged : Happening → Type 0
+abbrev pub NotChanged : WorldEffect → Type 0
 NotChanged Changed = ⊥
 NotChanged (Taken t f cs) = Unit {0}
 NotChanged (Sent f cs) = Unit {0}
@@ -25,18 +25,18 @@ NotChanged (CopyHeard from to) = Unit {0}
 NotChanged (CopyLost c) = Unit {0}
 NotChanged (CopyDoubled id to parcel) = Unit {0}
 
-give_changes : (w : World) (x d : ℕ) (b : List ℕ) → happening_in (step w (Give x d b)) ≡ Changed
-unfolding step happening_in
+give_changes : (w : World) (x d : ℕ) (b : List ℕ) → world_effect_in (step w (Give x d b)) ≡ Changed
+unfolding step world_effect_in
 give_changes w x d b = by_node (slice_get w.nodes x)
   where
-    by_node : (o : Option Node) → happening_in (at_node o (λ core queue. Next (push w x (New b d)) Changed)) ≡ Changed
+    by_node : (o : Option Node) → world_effect_in (at_node o (λ core queue. Next (push w x (New b d)) Changed)) ≡ Changed
     by_node None = refl
     by_node (Some n) = refl
 
-pub gives_none : (old new : World) (e : Event) (h : Happening) → NotChanged h → step old e ≡ Next new h → given_data any e (step old e) ≡ 0
-unfolding happening_in
+pub gives_none : (old new : World) (e : Event) (h : WorldEffect) → NotChanged h → step old e ≡ Next new h → given_data any e (step old e) ≡ 0
+unfolding world_effect_in
 gives_none old new (Give x d b) h other is =
-    let same : h ≡ Changed = ap happening_in (sym is) ∙ give_changes old x d b in
+    let same : h ≡ Changed = ap world_effect_in (sym is) ∙ give_changes old x d b in
     absurd (subst NotChanged same other)
 gives_none old new (Turn x) h other is = refl
 gives_none old new (Send x d) h other is = refl
@@ -130,7 +130,7 @@ delivers_taken old new (Lose id) t f cs r is true_is counts = absurd (subst NoTa
 delivers_taken old new (Double id) t f cs r is true_is counts = absurd (subst NoTake is (no_take_copy old id).2)
 
 -- nothing was taken by what happened
-abbrev pub NotTaken : Happening → Type 0
+abbrev pub NotTaken : WorldEffect → Type 0
 NotTaken Changed = Unit {0}
 NotTaken (Taken t f cs) = ⊥
 NotTaken (Sent f cs) = Unit {0}
@@ -138,7 +138,7 @@ NotTaken (CopyHeard from to) = Unit {0}
 NotTaken (CopyLost c) = Unit {0}
 NotTaken (CopyDoubled id to parcel) = Unit {0}
 
-none_taken : (x : ℕ) (h : Happening) → NotTaken h → delivered_in any x h ≡ 0
+none_taken : (x : ℕ) (h : WorldEffect) → NotTaken h → delivered_in any x h ≡ 0
 none_taken x Changed other = refl
 none_taken x (Taken t f cs) other = absurd other
 none_taken x (Sent f cs) other = refl
@@ -146,7 +146,7 @@ none_taken x (CopyHeard from to) other = refl
 none_taken x (CopyLost c) other = refl
 none_taken x (CopyDoubled id to parcel) other = refl
 
-pub delivers_none : (old new : World) (e : Event) (h : Happening) → NotTaken h → step old e ≡ Next new h → delivered_data any e (step old e) ≡ 0
+pub delivers_none : (old new : World) (e : Event) (h : WorldEffect) → NotTaken h → step old e ≡ Next new h → delivered_data any e (step old e) ≡ 0
 delivers_none old new (Turn x) h other is = ap (delivered_at any x) is ∙ none_taken x h other
 delivers_none old new (Give x d b) h other is = refl
 delivers_none old new (Send x d) h other is = refl

@@ -3,7 +3,7 @@ pub mod Choosing
 pub mod Ways
 pub mod Counts
 pub mod Gains
-pub mod Tallies
+pub mod CountsOfEvents
 pub mod Accounts
 pub mod Receivers
 pub mod Frames

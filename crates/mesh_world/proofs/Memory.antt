@@ -1,4 +1,4 @@
--- Which events may ask for memory: what is read of a node or of the air decides it.
+-- Which events may ask for memory: what is read of a node or of the radio decides it.
 use Rattle.std.proofs.Common.{◌≡◌, ◌<◌, ◌+◌, ◌^◌, ℕ, zero, suc, length, arith, Bool, true, false, not, List, [], ◌∷◌, map, Option, Some, None, Ok, refl, ap, sym, subst, ◌∙◌}
 use Rattle.std.specs.Prelude.{slice_get, is_some, option_map, if◌then◌else◌}
 use Rattle.mesh_base.specs.Meshes.{Nodes}
@@ -10,7 +10,7 @@ use Rattle.aodv_model.specs.Cores.{Body}
 use Rattle.aodv_model.specs.Handlers.{may_send, may_ask}
 use Rattle.aodv_meaning.specs.Effects.{item_in}
 use Rattle.aodv_node.specs.Seen.{NodeSeen}
-use Rattle.mesh_model.specs.Worlds.{World, Event, Give, Turn, Send, Ask, Deliver, Lose, Double, Happening, Outcome, Idle, Next, Full, unless_full, turn_of, step}
+use Rattle.mesh_model.specs.Worlds.{World, Event, Give, Turn, Send, Ask, Deliver, Lose, Double, WorldEffect, Outcome, Idle, Next, Full, unless_full, turn_of, step}
 use Rattle.mesh_radio.specs.Copies.{held_seen, find_copy}
 use Rattle.mesh_radio.specs.Radios.{RadioState}
 use Rattle.mesh_radio.specs.declared.copies.Held.{Held}
@@ -32,11 +32,11 @@ abbrev is_busy : Outcome → Bool
 is_busy o = not (is_idle o)
 
 -- what is done unless a counter is full isn't idle
-busy_unless : (x : ℕ) (o : Option Counter) (w : World) (h : Happening) → is_busy (unless_full x o (Next w h)) ≡ true
+busy_unless : (x : ℕ) (o : Option Counter) (w : World) (h : WorldEffect) → is_busy (unless_full x o (Next w h)) ≡ true
 busy_unless x None w h = refl
 busy_unless x (Some f) w h = refl
 
-busy_if : (b : Bool) (x : ℕ) (o : Option Counter) (w : World) (h : Happening) → is_busy (if b then unless_full x o (Next w h) else Idle) ≡ b
+busy_if : (b : Bool) (x : ℕ) (o : Option Counter) (w : World) (h : WorldEffect) → is_busy (if b then unless_full x o (Next w h) else Idle) ≡ b
 busy_if true x o w h = busy_unless x o w h
 busy_if false x o w h = refl
 

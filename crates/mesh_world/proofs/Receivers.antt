@@ -82,6 +82,6 @@ no_copies r x packet =
     (λ i. record r { flying = sym (append-nil r.flying) i; next_copy = next i; room = room i })
     ∙ ap (λ (tos : List ℕ). record r { flying = r.flying ++ copies_to tos r.next_copy x packet; next_copy = r.next_copy + length tos; room = r.room - length tos }) (sym (no_members r.size))
 
--- the air is as it was
+-- the radio is as it was
 pub same_air : (mesh : Nodes) (r : RadioState) (x : ℕ) (near : NodeIds) (c : cast.Cast) (packet : List ℕ) → c ≡ casts.Nothing → r ≡ with_cast mesh r x near c packet
 same_air mesh r x near c packet is = no_copies r x packet ∙ ap (with_copies r x packet) (reached_nobody mesh near c packet sets.empty is refl)

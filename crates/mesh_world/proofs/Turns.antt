@@ -18,7 +18,7 @@ use Rattle.aodv_model.specs.Soundness.{IsItemInMesh, IsDatum}
 use Rattle.aodv_model.proofs.SoundTurns.{turn_keeps_core}
 use Rattle.aodv_model.proofs.MeshNames.{turn_names_the_mesh}
 use Rattle.aodv_wire.specs.declared.error.WireError.{WireError}
-use Rattle.aodv_wire.specs.Spells.{refusal, message_in_fields}
+use Rattle.aodv_wire.specs.Encodes.{refusal, message_in_fields}
 use Rattle.aodv_meaning.specs.Meaning.{meaning, stranger}
 use Rattle.aodv_meaning.specs.Effects.{item_in}
 use Rattle.aodv_meaning.proofs.Means.{sent_means}
@@ -160,7 +160,7 @@ readable mesh nodes radio ready steps x n new from bytes k at dropped =
     let had = kept_node mesh nodes radio ready steps x n k at in
     let sent : IsWritten mesh bytes = (subst (AllByRecursion (IsWrittenItem mesh)) dropped.was had.items).0 in
     let placed = front_in mesh x n (item.Heard from bytes) new.items (stands mesh nodes radio ready steps x n k at) dropped.was in
-    (sent.spells.allowed, (sent_means mesh bytes (meaning mesh bytes) (k.sound).mesh placed.2 sent).1)
+    (sent.encodes.allowed, (sent_means mesh bytes (meaning mesh bytes) (k.sound).mesh placed.2 sent).1)
 
 pub no_refusal : (mesh : Nodes) (nodes : List NodeSeen) (radio : RadioState) (ready : Ready) (steps x : ℕ) (n new : NodeSeen) (from : ℕ) (why : WireError) → IsKept mesh nodes radio ready steps → slice_get nodes x ≡ Some n
     → (bytes : List ℕ) × (refusal bytes ≡ Some why) × IsDropped n from bytes new → ⊥

@@ -6,7 +6,7 @@ use Rattle.mesh_base.specs.Meshes.{Nodes}
 use Rattle.mesh_base.specs.declared.events.Flying.{Flying}
 use Rattle.mesh_base.specs.declared.events.Item.{Item}
 use Rattle.mesh_base.specs.declared.events.Item.TheVariants.{New, Heard}
-use Rattle.aodv_wire.specs.Spells.{is_data}
+use Rattle.aodv_wire.specs.Encodes.{is_data}
 use Rattle.aodv_model.specs.Cores.{bodies_in}
 use Rattle.aodv_node.specs.Seen.{NodeSeen}
 use Rattle.mesh_model.specs.Worlds.{World}

@@ -4,8 +4,8 @@
 pub mod Seen
 -- Steps: what a step answers, and what is then seen of the world.
 pub mod Steps
--- Tallies: what is counted of an event.
-pub mod Tallies
+-- CountsOfEvents: what is counted of an event.
+pub mod CountsOfEvents
 -- Accounts: the account of each datum at an event.
 pub mod Accounts
 -- AtOnce: a copy that is taken as soon as it is delivered.

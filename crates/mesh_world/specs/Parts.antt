@@ -15,11 +15,11 @@ use Rattle.mesh_radio.specs.Radios.{RadioState, with_copies}
 use Rattle.mesh_meaning.specs.Answers.{cast_in}
 use Rattle.mesh_world.specs.Seen.{WorldSeen}
 use Rattle.mesh_world.specs.Steps.{IsStep}
-use Rattle.mesh_world.specs.Tallies.{answer_with, HasTally, IsTallyOf}
+use Rattle.mesh_world.specs.CountsOfEvents.{answer_with, HasEventCounts, AreEventCountsOf}
 use Rattle.mesh_world.specs.Kept.{seen_of, IsKept}
 use Rattle.mesh_world.specs.declared.parts.Parts.{Parts}
 use Rattle.mesh_world.specs.declared.steps.StepError.{StepError}
-use Rattle.mesh_world.specs.declared.tally.Tally.{Tally}
+use Rattle.mesh_world.specs.declared.event_counts.EventCounts.{EventCounts}
 
 -- the world that they are
 abbrev pub seen_in : Parts → WorldSeen
@@ -35,18 +35,19 @@ pub record IsDoneTo (e : Event) (old : Parts) (answer : Result Done StepError) (
   pub step : IsStep e (seen_in old) answer (seen_in new) packet
   pub kept : AreKept new
 
--- an event was done to the parts, or refused: its tally was answered, and where it is wanted the
+-- an event was done to the parts, or refused: its counts were answered, and where it is wanted the
 -- answer is what was left
-pub record IsToldTo (e : Event) (old : Parts) (wanted : Bool) (result : Result Tally StepError)
-    (left : Done) (new : Parts) (packet : List ℕ) : Type 0 where
+pub record IsToldTo (e : Event) (old : Parts) (wanted : Bool)
+    (result : Result EventCounts StepError) (left : Done) (new : Parts) (packet : List ℕ)
+    : Type 0 where
   pub answer : Result Done StepError
   pub done : IsDoneTo e old answer new packet
-  pub tally : HasTally answer result
+  pub event_counts : HasEventCounts answer result
   pub told : wanted ≡ true → answer_with result left ≡ answer
 
 -- the copy of this id was delivered, and node `to` took it: between the two events the parts are in
 -- order, and no node before that one may take a turn
-pub record IsTakenFrom (id : ℕ) (old : Parts) (to : ℕ) (tally : Tally) (new : Parts)
+pub record IsTakenFrom (id : ℕ) (old : Parts) (to : ℕ) (event_counts : EventCounts) (new : Parts)
     (packet : List ℕ) : Type 0 where
   pub from : ℕ
   pub between : Parts
@@ -56,7 +57,7 @@ pub record IsTakenFrom (id : ℕ) (old : Parts) (to : ℕ) (tally : Tally) (new 
   pub next : first_turn (seen_in between).world ≡ Some to
   pub answer : Done
   pub taken : IsDoneTo (Turn to) between (Ok answer) new packet
-  pub counted : IsTallyOf answer tally
+  pub counted : AreEventCountsOf answer event_counts
 
 -- a node of the mesh in its opening state, with this variant
 pub record IsOpened (v : Variant) (mesh : Nodes) (me : ℕ) (n : NodeSeen) : Type 0 where

@@ -29,7 +29,7 @@ IsStep e old (Err errors.NoMemory) new packet = new ≡ old
 abbrev pub is_idle : Outcome → Bool
 is_idle Idle = true
 is_idle (worlds.Full node field) = false
-is_idle (Next w happening) = false
+is_idle (Next w world_effect) = false
 
 abbrev pub changes_link : Event → Bool
 changes_link (Link a b) = true

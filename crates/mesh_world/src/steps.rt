@@ -6,11 +6,11 @@ ghost use Rattle.mesh_model.specs.Places.{IsEvent};
 ghost use Rattle.mesh_meaning.specs.Events.{event_of};
 ghost use Rattle.mesh_world.specs.Seen.{WorldSeen, opening, IsSoundWorld};
 ghost use Rattle.mesh_world.specs.Steps.{IsStep};
-ghost use Rattle.mesh_world.specs.Tallies.{answer_with, IsStepCounted};
+ghost use Rattle.mesh_world.specs.CountsOfEvents.{answer_with, IsStepCounted};
 ghost use Rattle.mesh_world.specs.Accounts.{KeepsAccount};
 ghost use Rattle.mesh_world.specs.AtOnce.{IsTakenAtOnce};
 
-use crate::tally::{Tally, tell_answer};
+use crate::event_counts::{EventCounts, tell_answer};
 use crate::world::World;
 use mesh_base::{Counter, Done, Event, Mesh, NoMemory, Packet, Variant};
 use std::alloc::Global;
@@ -78,7 +78,7 @@ pub trait Steps: Drop {
         out: &mut Packet,
         wanted: bool,
         answer: &mut Done,
-    ) -> Result<Tally, StepError>
+    ) -> Result<EventCounts, StepError>
         requires event { IsEvent (length (seen self.old).mesh) (event_of e.now) }
         requires few { (seen self.old).steps < 2 ^ 48 }
         ensures counted { IsStepCounted (event_of e.now) (seen self.old) result (seen self.new) }
@@ -95,7 +95,7 @@ pub trait Steps: Drop {
     /// its receiver takes it. The answer is the receiver, and what is counted of its turn. None
     /// where this isn't done, whatever the cause is: the world is as it was, and the events are
     /// left to `step`, which says why one is refused. Afterwards `out` may hold any packet.
-    fn take_copy(&mut self, id: u64, out: &mut Packet) -> Option<(usize, Tally)>
+    fn take_copy(&mut self, id: u64, out: &mut Packet) -> Option<(usize, EventCounts)>
         requires few { (seen self.old).steps + 1 < 2 ^ 48 }
         requires idle { first_turn (seen self.old).world ≡ None }
         ensures taken { IfSome result (λ p.

@@ -12,20 +12,20 @@ ghost use Rattle.mesh_world.specs.Seen.{WorldSeen, IsSoundWorld, node_in, data_o
 ghost use Rattle.mesh_world.specs.Kept.{world_in, seen_of};
 ghost use Rattle.mesh_model.specs.Accounts.{any};
 ghost use Rattle.mesh_world.specs.Steps.{IsStep, IsShortOf, may_need_memory};
-ghost use Rattle.mesh_world.specs.Tallies.{answer_with, IsStepCounted};
+ghost use Rattle.mesh_world.specs.CountsOfEvents.{answer_with, IsStepCounted};
 ghost use Rattle.mesh_world.specs.Accounts.{KeepsAccount};
 ghost use Rattle.mesh_world.specs.Ends.{end_in, IsEndIn};
 ghost use Rattle.mesh_world.specs.Parts.{AreOpened};
 ghost use Rattle.mesh_world.specs.Restored.{AreNodesOf, AreWritten, AreSoundParts, IsFirstPart, most_steps_at_first};
 
 use crate::choices::{first_ask, first_send, first_turn};
+use crate::event_counts::EventCounts;
 use crate::nodes::Nodes;
 use crate::parts::Parts;
 use crate::ready::Ready;
 use crate::restored::{Part, first_unsound, ready_for};
 use crate::route::{End, follow};
 use crate::steps::{StepError, Steps};
-use crate::tally::Tally;
 use crate::totals::{Totals, count_data};
 use aodv_node::Node;
 use mesh_base::{Done, Event, Mesh, NoMemory, Packet, Variant};
@@ -33,7 +33,7 @@ use mesh_radio::Radio;
 use std::alloc::Global;
 use std::marker::Model;
 
-/// All nodes of a mesh and the air between them.
+/// All nodes of a mesh and the radio between them.
 #[derive(Drop)]
 pub struct World {
     parts: Parts,
@@ -235,7 +235,7 @@ impl Steps for World {
         out: &mut Packet,
         wanted: bool,
         answer: &mut Done,
-    ) -> Result<Tally, StepError>
+    ) -> Result<EventCounts, StepError>
         requires event { IsEvent (length self.old.mesh) (event_of e.now) }
         requires few { self.old.steps < 2 ^ 48 }
         ensures counted { IsStepCounted (event_of e.now) self.old result self.new }
@@ -261,7 +261,7 @@ impl Steps for World {
     }
 
     #[inline(always)]
-    fn take_copy(&mut self, id: u64, out: &mut Packet) -> Option<(usize, Tally)> {
+    fn take_copy(&mut self, id: u64, out: &mut Packet) -> Option<(usize, EventCounts)> {
         self.parts.take_copy(id, out)
     }
 

@@ -5,7 +5,7 @@ use Rattle.mesh_base.specs.declared.addr.Addr.{Addr}
 use Rattle.mesh_base.specs.declared.events.Variant.{Variant}
 use Rattle.mesh_base.specs.Meshes.{Nodes}
 use Rattle.aodv_wire.specs.declared.message.Message.TheVariants as messages
-use Rattle.aodv_wire.specs.Spells.{Spells, spelling}
+use Rattle.aodv_wire.specs.Encodes.{Encodes, encoding}
 use Rattle.aodv_model.specs.Tables.{Table, Dests}
 use Rattle.aodv_handlers.specs.Parts.{named_dests}
 use Rattle.aodv_meaning.specs.Sent.{pairs_of}
@@ -61,6 +61,6 @@ returns g c =
     let rt = g.T.Table.entries c.args.table.now in
     let pairs = ended mesh c.args.variant rt c.args.dests.now c.loop-k.k c.len-k-end.result c.loop-k.pairs.items c.as_slice.result.now c.loop-k.invariant c.len-k-end.ensures.value c.loop-k-test.false c.as_slice.ensures.value in
     record {
-      written = c.write_rerr.ensures.written ∙ ap (λ ps. spelling (messages.Rerr ps)) pairs;
-      spells = subst (λ ps. Spells c.write_rerr.new.out.items (messages.Rerr ps)) pairs c.write_rerr.ensures.spells;
+      written = c.write_rerr.ensures.written ∙ ap (λ ps. encoding (messages.Rerr ps)) pairs;
+      encodes = subst (λ ps. Encodes c.write_rerr.new.out.items (messages.Rerr ps)) pairs c.write_rerr.ensures.encodes;
     }

@@ -13,4 +13,4 @@ returns g c =
     let m = c.args.m.now in
     forward_made c.args.mesh.now (core_of g.T.Table.entries c.args.core.now) (request_of m) c.casting.result c.write_rreq.new.out.items c.casting.ensures
     (sent_request c.args.mesh.now c.write_rreq.new.out.items (m.hops + 1) m.id m.dip (max (sqn (g.T.Table.entries c.args.core.now.table) m.dip) m.dsn) c.larger.result m.oip m.osn m.known c.at.result c.at-2.result c.at.ensures c.at-2.ensures
-    (c.larger.ensures ∙ ap (λ n. max n m.dsn) c.number-mine.ensures) c.write_rreq.ensures.written c.write_rreq.ensures.spells)
+    (c.larger.ensures ∙ ap (λ n. max n m.dsn) c.number-mine.ensures) c.write_rreq.ensures.written c.write_rreq.ensures.encodes)

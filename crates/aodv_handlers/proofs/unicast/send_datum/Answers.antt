@@ -7,4 +7,4 @@ pub returns-clause-does : goal.returns-clause-does
 returns-clause-does g c =
     near_made c.args.mesh.now (core_of g.T.Table.entries c.args.core.now) (parcel_of c.args.m.now) c.args.y c.args.range.now c.casting.result c.write_data.new.out.items
     (sym c.has.ensures.value ∙ c.if-not-has.false) c.casting.ensures
-    (sent_datum c.args.mesh.now c.write_data.new.out.items c.args.m.now.body.now c.args.m.now.dip c.args.m.now.oip c.at.result c.at-2.result c.at.ensures c.at-2.ensures c.write_data.ensures.written c.write_data.ensures.spells)
+    (sent_datum c.args.mesh.now c.write_data.new.out.items c.args.m.now.body.now c.args.m.now.dip c.args.m.now.oip c.at.result c.at-2.result c.at.ensures c.at-2.ensures c.write_data.ensures.written c.write_data.ensures.encodes)

@@ -8,4 +8,4 @@ pub returns-clause-does : goal.returns-clause-does
 returns-clause-does g c =
     near_made c.args.mesh.now (core_of g.T.Table.entries c.args.core.now) (Rrep (reply_of c.args.m)) c.args.y c.args.range.now c.casting.result c.write_rrep.new.out.items
     (sym c.has.ensures.value ∙ c.if-not-has.false) c.casting.ensures
-    (sent_reply c.args.mesh.now c.write_rrep.new.out.items (reply_of c.args.m) c.at.result c.at-2.result c.at.ensures c.at-2.ensures c.write_rrep.ensures.written c.write_rrep.ensures.spells)
+    (sent_reply c.args.mesh.now c.write_rrep.new.out.items (reply_of c.args.m) c.at.result c.at-2.result c.at.ensures c.at-2.ensures c.write_rrep.ensures.written c.write_rrep.ensures.encodes)

@@ -1,7 +1,7 @@
 use Rattle.std.proofs.Common.{◌≡◌, refl, sym, subst, ◌∙◌}
-use Rattle.aodv_wire.specs.Spells.{Spells}
+use Rattle.aodv_wire.specs.Encodes.{Encodes}
 use Rattle.aodv_wire.specs.declared.message.Message.TheVariants.{Parcel as a_parcel}
-use Rattle.aodv_wire.proofs.Writes.{data_cells, data_written, data_spells}
+use Rattle.aodv_wire.proofs.Writes.{data_cells, data_written, data_encodes}
 use Rattle.aodv_wire.proofs.data_packet.write_data.Goals as goal
 
 -- what was put is the whole packet
@@ -12,6 +12,6 @@ whole c =
 pub returns-clause-written : goal.returns-clause-written
 returns-clause-written c = whole c ∙ sym (data_written _)
 
-pub returns-clause-spells : goal.returns-clause-spells
-returns-clause-spells c =
-    subst (λ b. Spells b (a_parcel (record { dip = c.args.dip; oip = c.args.oip; body = c.args.body.now }))) (sym (whole c)) (data_spells _ c.put_line.ensures.fits c.put_line-2.ensures.fits c.requires.some c.requires.few)
+pub returns-clause-encodes : goal.returns-clause-encodes
+returns-clause-encodes c =
+    subst (λ b. Encodes b (a_parcel (record { dip = c.args.dip; oip = c.args.oip; body = c.args.body.now }))) (sym (whole c)) (data_encodes _ c.put_line.ensures.fits c.put_line-2.ensures.fits c.requires.some c.requires.few)

@@ -2,8 +2,8 @@ use Rattle.std.proofs.Common.{◌≡◌, ◌<◌, ◌∷◌, [], ◌++◌, lengt
 use Rattle.std.proofs.lemmas.List.{take_all}
 use Rattle.std.specs.List.{flat_map}
 use Rattle.aodv_wire.specs.declared.message.Message.TheVariants.{Rerr as a_rerr}
-use Rattle.aodv_wire.specs.Spells.{Spells}
-use Rattle.aodv_wire.proofs.Writes.{rerr_cells, pair_cells, rerr_written, rerr_spells, each_fits}
+use Rattle.aodv_wire.specs.Encodes.{Encodes}
+use Rattle.aodv_wire.proofs.Writes.{rerr_cells, pair_cells, rerr_written, rerr_encodes, each_fits}
 use Rattle.aodv_wire.proofs.route_error.write_rerr.Goals as goal
 
 -- what was put is the whole packet
@@ -17,6 +17,6 @@ returns-clause-written c =
     let few : length c.args.pairs.now < 256 = omega (arith, c.requires.few) in
     whole c ∙ sym (rerr_written c.args.pairs.now few)
 
-pub returns-clause-spells : goal.returns-clause-spells
-returns-clause-spells c =
-    subst (λ b. Spells b (a_rerr c.args.pairs.now)) (sym (whole c)) (rerr_spells c.args.pairs.now c.requires (each_fits c.args.pairs.now (λ k d h. c.loop-a.invariant.fits k d (omega arith))))
+pub returns-clause-encodes : goal.returns-clause-encodes
+returns-clause-encodes c =
+    subst (λ b. Encodes b (a_rerr c.args.pairs.now)) (sym (whole c)) (rerr_encodes c.args.pairs.now c.requires (each_fits c.args.pairs.now (λ k d h. c.loop-a.invariant.fits k d (omega arith))))

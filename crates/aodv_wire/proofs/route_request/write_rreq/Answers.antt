@@ -1,7 +1,7 @@
 use Rattle.std.proofs.Common.{◌≡◌, cond, refl, sym, subst, ◌∙◌}
-use Rattle.aodv_wire.specs.Spells.{Spells}
+use Rattle.aodv_wire.specs.Encodes.{Encodes}
 use Rattle.aodv_wire.specs.declared.message.Message.TheVariants.{Rreq as a_rreq}
-use Rattle.aodv_wire.proofs.Writes.{rreq_cells, rreq_written, rreq_spells}
+use Rattle.aodv_wire.proofs.Writes.{rreq_cells, rreq_written, rreq_encodes}
 use Rattle.aodv_wire.proofs.route_request.write_rreq.Goals as goal
 use Rattle.aodv_wire.proofs.route_request.write_rreq.Goals.{then-m, else-m}
 
@@ -17,6 +17,6 @@ whole c =
 pub returns-clause-written : goal.returns-clause-written
 returns-clause-written c = whole c ∙ sym (rreq_written c.args.m.now c.put_first_line.ensures.fits)
 
-pub returns-clause-spells : goal.returns-clause-spells
-returns-clause-spells c =
-    subst (λ b. Spells b (a_rreq c.args.m.now)) (sym (whole c)) (rreq_spells c.args.m.now c.put_first_line.ensures.fits c.put_line.ensures.fits c.put_line-2.ensures.fits c.put_line-3.ensures.fits c.put_line-4.ensures.fits c.put_line-5.ensures.fits c.requires)
+pub returns-clause-encodes : goal.returns-clause-encodes
+returns-clause-encodes c =
+    subst (λ b. Encodes b (a_rreq c.args.m.now)) (sym (whole c)) (rreq_encodes c.args.m.now c.put_first_line.ensures.fits c.put_line.ensures.fits c.put_line-2.ensures.fits c.put_line-3.ensures.fits c.put_line-4.ensures.fits c.put_line-5.ensures.fits c.requires)

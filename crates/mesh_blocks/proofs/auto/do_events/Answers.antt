@@ -21,7 +21,7 @@ returns-in-Err-clause-ran g c =
 
 pub events-preserved : goal.events-preserved
 events-preserved g c =
-    let next = c.in_default-do_event.ensures.moment in
+    let next = c.in_default-do_event.ensures.run_state in
     let lines = stepped_lines c.events.at c.do_event.new.at (event_of c.in-Some.event) next in
     let steps = stepped_steps c.events.at c.do_event.new.at (event_of c.in-Some.event) next in
     let counts = chosen_counts c.args.below c.args.count c.events.did c.events.at c.do_event.new.at (event_of c.in-Some.event) _ _

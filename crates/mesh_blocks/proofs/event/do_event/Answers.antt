@@ -17,7 +17,7 @@ use Rattle.mesh_blocks.proofs.event.do_event.Goals as goal
 pub put_watched-requires-clause-started : goal.put_watched-requires-clause-started
 put_watched-requires-clause-started g c =
     let is = answer_seen c.at.inside.state c.args.at.now c.step_made-answer.new.self (event_of c.args.event) c.in-Ok.done c.step_made-answer.new.out.items c.step_made-answer.result c.at.view_is c.in-Ok.is c.step_made-answer.ensures.done in
-    stepped_started c.args.at.now c.step_made-answer.new.self (event_of c.args.event) is.moment
+    stepped_started c.args.at.now c.step_made-answer.new.self (event_of c.args.event) is.run_state
 
 pub put_watched-requires-clause-event : goal.put_watched-requires-clause-event
 put_watched-requires-clause-event g c =

@@ -9,7 +9,7 @@ returns-in-Err-clause-comes g c = step_stops c.args.below c.args.at.now c.begin.
 
 pub count_line-requires : goal.count_line-requires
 count_line-requires g c =
-    let e = step_lines c.args.at.now c.begin.new.self c.do_event.new.at (event_of c.args.event) c.in_ok-begin.ensures.ok c.in_default.ensures.moment in
+    let e = step_lines c.args.at.now c.begin.new.self c.do_event.new.at (event_of c.args.event) c.in_ok-begin.ensures.ok c.in_default.ensures.run_state in
     omega (arith, e, c.requires.few)
 
 pub returns-clause-comes : goal.returns-clause-comes

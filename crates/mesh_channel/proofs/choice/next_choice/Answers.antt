@@ -1,7 +1,7 @@
 use Rattle.std.proofs.Common.{◌≡◌, ◌∙◌, sym, ap}
 use Rattle.std.specs.Prelude.{option_map}
 use Rattle.mesh_meaning.specs.Events.{event_of}
-use Rattle.mesh_channel.specs.Moments.{choice_of}
+use Rattle.mesh_channel.specs.RunStates.{choice_of}
 use Rattle.mesh_channel.proofs.Picking.{choice_found, choice_behind}
 use Rattle.mesh_channel.proofs.choice.next_choice.Goals as goal
 

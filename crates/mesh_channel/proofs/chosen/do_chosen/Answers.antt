@@ -1,9 +1,9 @@
 use Rattle.std.proofs.Common.{◌≡◌, ◌∙◌, ◌+◌, true, false, [], Ok, Err, is_some, refl, sym, ap, subst, arith}
-use Rattle.mesh_text.specs.Schedule.{Moment, with_line_read}
+use Rattle.mesh_text.specs.Schedule.{RunState, with_line_read}
 use Rattle.mesh_run.specs.Outputs.{says_lines}
 use Rattle.mesh_run.specs.Runs.{IsLineDone}
 use Rattle.mesh_run.proofs.Shown.{shown_none}
-use Rattle.mesh_channel.specs.Moments.{moment_of}
+use Rattle.mesh_channel.specs.RunStates.{run_state_of}
 use Rattle.mesh_channel.specs.declared.channeled.Channeled.{Channeled}
 use Rattle.mesh_channel.proofs.Doing.{moved_on, moved_point}
 use Rattle.mesh_channel.proofs.Lining.{chosen_is, chosen_not, filled_goes, filled_stops, unfilled_is, few_read}
@@ -23,8 +23,8 @@ returns-then-not-started-clause-channel g c =
 
 pub returns-then-not-started-clause-led : goal.returns-then-not-started-clause-led
 returns-then-not-started-clause-led g c =
-    let lines = ap (λ (m : Moment). m.lines) c.count_line.ensures in
-    let steps = ap (λ (m : Moment). m.steps) c.count_line.ensures in
+    let lines = ap (λ (m : RunState). m.lines) c.count_line.ensures in
+    let steps = ap (λ (m : RunState). m.steps) c.count_line.ensures in
     record { lines = omega (arith, lines); steps = omega (arith, steps); left = λ few. few; tick = λ few. few; copies = few_read c.args.at.now.point c.count_line.new.self c.count_line.ensures }
 
 pub returns-in-Err-clause-comes : goal.returns-in-Err-clause-comes
@@ -52,8 +52,8 @@ returns-clause-only g c =
 
 pub returns-clause-led : goal.returns-clause-led
 returns-clause-led g c =
-    let lines = ap (λ (m : Moment). m.lines) c.count_line-2.ensures in
-    let steps = ap (λ (m : Moment). m.steps) c.count_line-2.ensures in
+    let lines = ap (λ (m : RunState). m.lines) c.count_line-2.ensures in
+    let steps = ap (λ (m : RunState). m.steps) c.count_line-2.ensures in
     record {
       lines = omega (arith, lines, c.in_default.ensures.lines);
       steps = omega (arith, steps, c.in_default.ensures.steps);

@@ -4,7 +4,7 @@ use Rattle.std.proofs.lemmas.Result.{err_from_is_err_and}
 use Rattle.mesh_base.specs.declared.limits.TheConstants.{MOST_NODES}
 use Rattle.mesh_meaning.specs.Events.{event_of}
 use Rattle.mesh_model.specs.Worlds.{Event}
-use Rattle.mesh_text.specs.Schedule.{Moment, world_of, next_moment, outcome_at}
+use Rattle.mesh_text.specs.Schedule.{RunState, world_of, next_state, outcome_at}
 use Rattle.mesh_text.specs.Auto.{outcome_of_events}
 use Rattle.mesh_run.specs.Outputs.{says_lines}
 use Rattle.mesh_run.specs.Runs.{IsEventsDone, IsLineDone, IsLineStopped, line_outcome_at}
@@ -13,7 +13,7 @@ use Rattle.mesh_run.proofs.Events.{stepped_started, stepped_lines, stepped_steps
 use Rattle.mesh_fates.specs.declared.rates.Rates.{Rates}
 use Rattle.mesh_fates.specs.Channels.{after_chosen}
 use Rattle.mesh_channel.specs.Chosen.{chosen_from}
-use Rattle.mesh_channel.specs.Moments.{moment_of, IsLeftBehind}
+use Rattle.mesh_channel.specs.RunStates.{run_state_of, IsLeftBehind}
 use Rattle.mesh_channel.specs.declared.channeled.Channeled.{Channeled}
 use Rattle.mesh_channel.proofs.Doing.{chosen_all, chosen_none, chosen_ran, chosen_channel, chosen_stops, chosen_breaks, ended_ran, moved_on, moved_channel, moved_point, left_few, stepped, stopped}
 use Rattle.mesh_channel.proofs.chosen.do_events.Goals as goal
@@ -27,7 +27,7 @@ returns-in_default-clause-ran g c =
     let d = chosen_from (c.args.most - c.events.did) c.args.at.now.rates c.args.until.now c.events.did p.point p.channel in
     let held = g.O.Sink.held c.events.out in
     c.events.invariant.ran held q.point (Ok 0)
-    (subst (λ (n : Moment). IsEventsDone say (outcome_of_events p.point d.events) n held held) (sym (ap (λ (x : Channeled). x.point) c.choose.ensures.only)) (ended_ran say p.point d q.channel held all))
+    (subst (λ (n : RunState). IsEventsDone say (outcome_of_events p.point d.events) n held held) (sym (ap (λ (x : Channeled). x.point) c.choose.ensures.only)) (ended_ran say p.point d q.channel held all))
 
 pub returns-in_default-clause-channel : goal.returns-in_default-clause-channel
 returns-in_default-clause-channel g c =
@@ -74,7 +74,7 @@ returns-in_err-after_chosen-clause-ran g c =
     let told : says_lines q.say ≡ say = ap (λ (x : Channeled). says_lines x.say) c.choose.ensures.only ∙ ap (λ (x : Channeled). says_lines x.say) c.events.invariant.only in
     let rated : r.rates ≡ rates = ap (λ (x : Channeled). x.rates) c.do_event.ensures.only ∙ ap (λ (x : Channeled). x.rates) c.choose.ensures.only ∙ ap (λ (x : Channeled). x.rates) c.events.invariant.only in
     let done = subst (λ (s : Bool). IsLineDone s (line_outcome_at q.point e) r.point (g.O.Sink.held c.events.out) (g.O.Sink.held c.do_event.new.out)) told c.in-Ok.ensures.comes in
-    let kept = subst (λ (m : Moment). IsLineDone say (line_outcome_at m e) r.point (g.O.Sink.held c.events.out) (g.O.Sink.held c.do_event.new.out)) (ap (λ (x : Channeled). x.point) c.choose.ensures.only) done in
+    let kept = subst (λ (m : RunState). IsLineDone say (line_outcome_at m e) r.point (g.O.Sink.held c.events.out) (g.O.Sink.held c.do_event.new.out)) (ap (λ (x : Channeled). x.point) c.choose.ensures.only) done in
     rw (gives.1, gives.2) (c.events.invariant.ran (g.O.Sink.held c.do_event.new.out) r.point (Err stop.NoMemory)
     (chosen_breaks say c.args.most c.events.did rates c.args.until.now p.point r.point r.point p.channel q.channel e o _ _ c.events-test.true is c.choose.ensures.value kept))
 
@@ -100,9 +100,9 @@ events-preserved g c =
     let rated : r.rates ≡ rates = ap (λ (x : Channeled). x.rates) c.do_event.ensures.only ∙ ap (λ (x : Channeled). x.rates) c.choose.ensures.only ∙ ap (λ (x : Channeled). x.rates) c.events.invariant.only in
     let done = subst (λ (s : Bool). IsLineDone s (line_outcome_at q.point e) r.point (g.O.Sink.held c.events.out) (g.O.Sink.held c.do_event.new.out)) told c.in-Ok.ensures.comes in
     let then = c.in_ok-after_chosen.ensures.decided q.point r.point e c.in-Ok.ensures.answer ∙ ap (λ (x : Rates). after_chosen x (world_of q.point) (outcome_at q.point e) r.channel) rated in
-    let s = stepped say rates p q r z e (g.O.Sink.held c.events.out) (g.O.Sink.held c.do_event.new.out) c.choose.ensures.only c.do_event.ensures.only refl done c.in-Ok.ensures.answer.answer.moment then in
-    let lines = stepped_lines q.point r.point e c.in-Ok.ensures.answer.answer.moment in
-    let steps = stepped_steps q.point r.point e c.in-Ok.ensures.answer.answer.moment in
+    let s = stepped say rates p q r z e (g.O.Sink.held c.events.out) (g.O.Sink.held c.do_event.new.out) c.choose.ensures.only c.do_event.ensures.only refl done c.in-Ok.ensures.answer.answer.run_state then in
+    let lines = stepped_lines q.point r.point e c.in-Ok.ensures.answer.answer.run_state in
+    let steps = stepped_steps q.point r.point e c.in-Ok.ensures.answer.answer.run_state in
     let lines_kept = ap (λ (x : Channeled). x.point.lines) c.choose.ensures.only in
     let steps_kept = ap (λ (x : Channeled). x.point.steps) c.choose.ensures.only in
     let left_kept = ap (λ (x : Channeled). length x.channel.left) c.do_event.ensures.only in
@@ -115,7 +115,7 @@ events-preserved g c =
       channel = chosen_channel say c.args.most c.events.did rates c.args.until.now p.point z.point p.channel q.channel z.channel e o (g.O.Sink.held c.events.out) (g.O.Sink.held c.do_event.new.out)
           c.events-test.true is c.choose.ensures.value s.done s.next s.then ∙ c.events.invariant.channel;
       only = moved_on c.args.at.now p z c.events.invariant.only s.only;
-      started = stepped_started q.point r.point e c.in-Ok.ensures.answer.answer.moment;
+      started = stepped_started q.point r.point e c.in-Ok.ensures.answer.answer.run_state;
       lines = lines ∙ lines_kept ∙ c.events.invariant.lines;
       faults = c.in-Ok.ensures.cause.none (λ x. cc) ∙ c.events.invariant.faults;
       within = omega (arith, c.events-test.true);
@@ -140,9 +140,9 @@ events-preserved-in_ok-after_chosen g c =
     let rated : r.rates ≡ rates = ap (λ (x : Channeled). x.rates) c.do_event.ensures.only ∙ ap (λ (x : Channeled). x.rates) c.choose.ensures.only ∙ ap (λ (x : Channeled). x.rates) c.events.invariant.only in
     let done = subst (λ (s : Bool). IsLineDone s (line_outcome_at q.point e) r.point (g.O.Sink.held c.events.out) (g.O.Sink.held c.do_event.new.out)) told c.in-Ok.ensures.comes in
     let then = c.in_ok-after_chosen.ensures.decided q.point r.point e c.in-Ok.ensures.answer ∙ ap (λ (x : Rates). after_chosen x (world_of q.point) (outcome_at q.point e) r.channel) rated in
-    let s = stepped say rates p q r z e (g.O.Sink.held c.events.out) (g.O.Sink.held c.do_event.new.out) c.choose.ensures.only c.do_event.ensures.only refl done c.in-Ok.ensures.answer.answer.moment then in
-    let lines = stepped_lines q.point r.point e c.in-Ok.ensures.answer.answer.moment in
-    let steps = stepped_steps q.point r.point e c.in-Ok.ensures.answer.answer.moment in
+    let s = stepped say rates p q r z e (g.O.Sink.held c.events.out) (g.O.Sink.held c.do_event.new.out) c.choose.ensures.only c.do_event.ensures.only refl done c.in-Ok.ensures.answer.answer.run_state then in
+    let lines = stepped_lines q.point r.point e c.in-Ok.ensures.answer.answer.run_state in
+    let steps = stepped_steps q.point r.point e c.in-Ok.ensures.answer.answer.run_state in
     let lines_kept = ap (λ (x : Channeled). x.point.lines) c.choose.ensures.only in
     let steps_kept = ap (λ (x : Channeled). x.point.steps) c.choose.ensures.only in
     let left_kept = ap (λ (x : Channeled). length x.channel.left) c.do_event.ensures.only in
@@ -155,7 +155,7 @@ events-preserved-in_ok-after_chosen g c =
       channel = chosen_channel say c.args.most c.events.did rates c.args.until.now p.point z.point p.channel q.channel z.channel e o (g.O.Sink.held c.events.out) (g.O.Sink.held c.do_event.new.out)
           c.events-test.true is c.choose.ensures.value s.done s.next s.then ∙ c.events.invariant.channel;
       only = moved_on c.args.at.now p z c.events.invariant.only s.only;
-      started = stepped_started q.point r.point e c.in-Ok.ensures.answer.answer.moment;
+      started = stepped_started q.point r.point e c.in-Ok.ensures.answer.answer.run_state;
       lines = lines ∙ lines_kept ∙ c.events.invariant.lines;
       faults = c.in-Ok.ensures.cause.none (λ x. cc) ∙ c.events.invariant.faults;
       within = omega (arith, c.events-test.true);
@@ -180,9 +180,9 @@ events-preserved-in_ok-after_chosen-2 g c =
     let rated : r.rates ≡ rates = ap (λ (x : Channeled). x.rates) c.do_event.ensures.only ∙ ap (λ (x : Channeled). x.rates) c.choose.ensures.only ∙ ap (λ (x : Channeled). x.rates) c.events.invariant.only in
     let done = subst (λ (s : Bool). IsLineDone s (line_outcome_at q.point e) r.point (g.O.Sink.held c.events.out) (g.O.Sink.held c.do_event.new.out)) told c.in-Ok.ensures.comes in
     let then = c.in_ok-after_chosen.ensures.decided q.point r.point e c.in-Ok.ensures.answer ∙ ap (λ (x : Rates). after_chosen x (world_of q.point) (outcome_at q.point e) r.channel) rated in
-    let s = stepped say rates p q r z e (g.O.Sink.held c.events.out) (g.O.Sink.held c.do_event.new.out) c.choose.ensures.only c.do_event.ensures.only refl done c.in-Ok.ensures.answer.answer.moment then in
-    let lines = stepped_lines q.point r.point e c.in-Ok.ensures.answer.answer.moment in
-    let steps = stepped_steps q.point r.point e c.in-Ok.ensures.answer.answer.moment in
+    let s = stepped say rates p q r z e (g.O.Sink.held c.events.out) (g.O.Sink.held c.do_event.new.out) c.choose.ensures.only c.do_event.ensures.only refl done c.in-Ok.ensures.answer.answer.run_state then in
+    let lines = stepped_lines q.point r.point e c.in-Ok.ensures.answer.answer.run_state in
+    let steps = stepped_steps q.point r.point e c.in-Ok.ensures.answer.answer.run_state in
     let lines_kept = ap (λ (x : Channeled). x.point.lines) c.choose.ensures.only in
     let steps_kept = ap (λ (x : Channeled). x.point.steps) c.choose.ensures.only in
     let left_kept = ap (λ (x : Channeled). length x.channel.left) c.do_event.ensures.only in
@@ -195,7 +195,7 @@ events-preserved-in_ok-after_chosen-2 g c =
       channel = chosen_channel say c.args.most c.events.did rates c.args.until.now p.point z.point p.channel q.channel z.channel e o (g.O.Sink.held c.events.out) (g.O.Sink.held c.do_event.new.out)
           c.events-test.true is c.choose.ensures.value s.done s.next s.then ∙ c.events.invariant.channel;
       only = moved_on c.args.at.now p z c.events.invariant.only s.only;
-      started = stepped_started q.point r.point e c.in-Ok.ensures.answer.answer.moment;
+      started = stepped_started q.point r.point e c.in-Ok.ensures.answer.answer.run_state;
       lines = lines ∙ lines_kept ∙ c.events.invariant.lines;
       faults = c.in-Ok.ensures.cause.none (λ x. cc) ∙ c.events.invariant.faults;
       within = omega (arith, c.events-test.true);
@@ -220,9 +220,9 @@ events-preserved-in_ok-after_chosen-3 g c =
     let rated : r.rates ≡ rates = ap (λ (x : Channeled). x.rates) c.do_event.ensures.only ∙ ap (λ (x : Channeled). x.rates) c.choose.ensures.only ∙ ap (λ (x : Channeled). x.rates) c.events.invariant.only in
     let done = subst (λ (s : Bool). IsLineDone s (line_outcome_at q.point e) r.point (g.O.Sink.held c.events.out) (g.O.Sink.held c.do_event.new.out)) told c.in-Ok.ensures.comes in
     let then = c.in_ok-after_chosen.ensures.decided q.point r.point e c.in-Ok.ensures.answer ∙ ap (λ (x : Rates). after_chosen x (world_of q.point) (outcome_at q.point e) r.channel) rated in
-    let s = stepped say rates p q r z e (g.O.Sink.held c.events.out) (g.O.Sink.held c.do_event.new.out) c.choose.ensures.only c.do_event.ensures.only refl done c.in-Ok.ensures.answer.answer.moment then in
-    let lines = stepped_lines q.point r.point e c.in-Ok.ensures.answer.answer.moment in
-    let steps = stepped_steps q.point r.point e c.in-Ok.ensures.answer.answer.moment in
+    let s = stepped say rates p q r z e (g.O.Sink.held c.events.out) (g.O.Sink.held c.do_event.new.out) c.choose.ensures.only c.do_event.ensures.only refl done c.in-Ok.ensures.answer.answer.run_state then in
+    let lines = stepped_lines q.point r.point e c.in-Ok.ensures.answer.answer.run_state in
+    let steps = stepped_steps q.point r.point e c.in-Ok.ensures.answer.answer.run_state in
     let lines_kept = ap (λ (x : Channeled). x.point.lines) c.choose.ensures.only in
     let steps_kept = ap (λ (x : Channeled). x.point.steps) c.choose.ensures.only in
     let left_kept = ap (λ (x : Channeled). length x.channel.left) c.do_event.ensures.only in
@@ -235,7 +235,7 @@ events-preserved-in_ok-after_chosen-3 g c =
       channel = chosen_channel say c.args.most c.events.did rates c.args.until.now p.point z.point p.channel q.channel z.channel e o (g.O.Sink.held c.events.out) (g.O.Sink.held c.do_event.new.out)
           c.events-test.true is c.choose.ensures.value s.done s.next s.then ∙ c.events.invariant.channel;
       only = moved_on c.args.at.now p z c.events.invariant.only s.only;
-      started = stepped_started q.point r.point e c.in-Ok.ensures.answer.answer.moment;
+      started = stepped_started q.point r.point e c.in-Ok.ensures.answer.answer.run_state;
       lines = lines ∙ lines_kept ∙ c.events.invariant.lines;
       faults = c.in-Ok.ensures.cause.none (λ x. cc) ∙ c.events.invariant.faults;
       within = omega (arith, c.events-test.true);
@@ -260,9 +260,9 @@ events-preserved-in_ok-after_chosen-4 g c =
     let rated : r.rates ≡ rates = ap (λ (x : Channeled). x.rates) c.do_event.ensures.only ∙ ap (λ (x : Channeled). x.rates) c.choose.ensures.only ∙ ap (λ (x : Channeled). x.rates) c.events.invariant.only in
     let done = subst (λ (s : Bool). IsLineDone s (line_outcome_at q.point e) r.point (g.O.Sink.held c.events.out) (g.O.Sink.held c.do_event.new.out)) told c.in-Ok.ensures.comes in
     let then = c.in_ok-after_chosen.ensures.decided q.point r.point e c.in-Ok.ensures.answer ∙ ap (λ (x : Rates). after_chosen x (world_of q.point) (outcome_at q.point e) r.channel) rated in
-    let s = stepped say rates p q r z e (g.O.Sink.held c.events.out) (g.O.Sink.held c.do_event.new.out) c.choose.ensures.only c.do_event.ensures.only refl done c.in-Ok.ensures.answer.answer.moment then in
-    let lines = stepped_lines q.point r.point e c.in-Ok.ensures.answer.answer.moment in
-    let steps = stepped_steps q.point r.point e c.in-Ok.ensures.answer.answer.moment in
+    let s = stepped say rates p q r z e (g.O.Sink.held c.events.out) (g.O.Sink.held c.do_event.new.out) c.choose.ensures.only c.do_event.ensures.only refl done c.in-Ok.ensures.answer.answer.run_state then in
+    let lines = stepped_lines q.point r.point e c.in-Ok.ensures.answer.answer.run_state in
+    let steps = stepped_steps q.point r.point e c.in-Ok.ensures.answer.answer.run_state in
     let lines_kept = ap (λ (x : Channeled). x.point.lines) c.choose.ensures.only in
     let steps_kept = ap (λ (x : Channeled). x.point.steps) c.choose.ensures.only in
     let left_kept = ap (λ (x : Channeled). length x.channel.left) c.do_event.ensures.only in
@@ -275,7 +275,7 @@ events-preserved-in_ok-after_chosen-4 g c =
       channel = chosen_channel say c.args.most c.events.did rates c.args.until.now p.point z.point p.channel q.channel z.channel e o (g.O.Sink.held c.events.out) (g.O.Sink.held c.do_event.new.out)
           c.events-test.true is c.choose.ensures.value s.done s.next s.then ∙ c.events.invariant.channel;
       only = moved_on c.args.at.now p z c.events.invariant.only s.only;
-      started = stepped_started q.point r.point e c.in-Ok.ensures.answer.answer.moment;
+      started = stepped_started q.point r.point e c.in-Ok.ensures.answer.answer.run_state;
       lines = lines ∙ lines_kept ∙ c.events.invariant.lines;
       faults = c.in-Ok.ensures.cause.none (λ x. cc) ∙ c.events.invariant.faults;
       within = omega (arith, c.events-test.true);
@@ -300,9 +300,9 @@ events-preserved-in_ok-after_chosen-5 g c =
     let rated : r.rates ≡ rates = ap (λ (x : Channeled). x.rates) c.do_event.ensures.only ∙ ap (λ (x : Channeled). x.rates) c.choose.ensures.only ∙ ap (λ (x : Channeled). x.rates) c.events.invariant.only in
     let done = subst (λ (s : Bool). IsLineDone s (line_outcome_at q.point e) r.point (g.O.Sink.held c.events.out) (g.O.Sink.held c.do_event.new.out)) told c.in-Ok.ensures.comes in
     let then = c.in_ok-after_chosen.ensures.decided q.point r.point e c.in-Ok.ensures.answer ∙ ap (λ (x : Rates). after_chosen x (world_of q.point) (outcome_at q.point e) r.channel) rated in
-    let s = stepped say rates p q r z e (g.O.Sink.held c.events.out) (g.O.Sink.held c.do_event.new.out) c.choose.ensures.only c.do_event.ensures.only refl done c.in-Ok.ensures.answer.answer.moment then in
-    let lines = stepped_lines q.point r.point e c.in-Ok.ensures.answer.answer.moment in
-    let steps = stepped_steps q.point r.point e c.in-Ok.ensures.answer.answer.moment in
+    let s = stepped say rates p q r z e (g.O.Sink.held c.events.out) (g.O.Sink.held c.do_event.new.out) c.choose.ensures.only c.do_event.ensures.only refl done c.in-Ok.ensures.answer.answer.run_state then in
+    let lines = stepped_lines q.point r.point e c.in-Ok.ensures.answer.answer.run_state in
+    let steps = stepped_steps q.point r.point e c.in-Ok.ensures.answer.answer.run_state in
     let lines_kept = ap (λ (x : Channeled). x.point.lines) c.choose.ensures.only in
     let steps_kept = ap (λ (x : Channeled). x.point.steps) c.choose.ensures.only in
     let left_kept = ap (λ (x : Channeled). length x.channel.left) c.do_event.ensures.only in
@@ -315,7 +315,7 @@ events-preserved-in_ok-after_chosen-5 g c =
       channel = chosen_channel say c.args.most c.events.did rates c.args.until.now p.point z.point p.channel q.channel z.channel e o (g.O.Sink.held c.events.out) (g.O.Sink.held c.do_event.new.out)
           c.events-test.true is c.choose.ensures.value s.done s.next s.then ∙ c.events.invariant.channel;
       only = moved_on c.args.at.now p z c.events.invariant.only s.only;
-      started = stepped_started q.point r.point e c.in-Ok.ensures.answer.answer.moment;
+      started = stepped_started q.point r.point e c.in-Ok.ensures.answer.answer.run_state;
       lines = lines ∙ lines_kept ∙ c.events.invariant.lines;
       faults = c.in-Ok.ensures.cause.none (λ x. cc) ∙ c.events.invariant.faults;
       within = omega (arith, c.events-test.true);
@@ -340,9 +340,9 @@ events-preserved-in_ok-after_chosen-6 g c =
     let rated : r.rates ≡ rates = ap (λ (x : Channeled). x.rates) c.do_event.ensures.only ∙ ap (λ (x : Channeled). x.rates) c.choose.ensures.only ∙ ap (λ (x : Channeled). x.rates) c.events.invariant.only in
     let done = subst (λ (s : Bool). IsLineDone s (line_outcome_at q.point e) r.point (g.O.Sink.held c.events.out) (g.O.Sink.held c.do_event.new.out)) told c.in-Ok.ensures.comes in
     let then = c.in_ok-after_chosen.ensures.decided q.point r.point e c.in-Ok.ensures.answer ∙ ap (λ (x : Rates). after_chosen x (world_of q.point) (outcome_at q.point e) r.channel) rated in
-    let s = stepped say rates p q r z e (g.O.Sink.held c.events.out) (g.O.Sink.held c.do_event.new.out) c.choose.ensures.only c.do_event.ensures.only refl done c.in-Ok.ensures.answer.answer.moment then in
-    let lines = stepped_lines q.point r.point e c.in-Ok.ensures.answer.answer.moment in
-    let steps = stepped_steps q.point r.point e c.in-Ok.ensures.answer.answer.moment in
+    let s = stepped say rates p q r z e (g.O.Sink.held c.events.out) (g.O.Sink.held c.do_event.new.out) c.choose.ensures.only c.do_event.ensures.only refl done c.in-Ok.ensures.answer.answer.run_state then in
+    let lines = stepped_lines q.point r.point e c.in-Ok.ensures.answer.answer.run_state in
+    let steps = stepped_steps q.point r.point e c.in-Ok.ensures.answer.answer.run_state in
     let lines_kept = ap (λ (x : Channeled). x.point.lines) c.choose.ensures.only in
     let steps_kept = ap (λ (x : Channeled). x.point.steps) c.choose.ensures.only in
     let left_kept = ap (λ (x : Channeled). length x.channel.left) c.do_event.ensures.only in
@@ -355,7 +355,7 @@ events-preserved-in_ok-after_chosen-6 g c =
       channel = chosen_channel say c.args.most c.events.did rates c.args.until.now p.point z.point p.channel q.channel z.channel e o (g.O.Sink.held c.events.out) (g.O.Sink.held c.do_event.new.out)
           c.events-test.true is c.choose.ensures.value s.done s.next s.then ∙ c.events.invariant.channel;
       only = moved_on c.args.at.now p z c.events.invariant.only s.only;
-      started = stepped_started q.point r.point e c.in-Ok.ensures.answer.answer.moment;
+      started = stepped_started q.point r.point e c.in-Ok.ensures.answer.answer.run_state;
       lines = lines ∙ lines_kept ∙ c.events.invariant.lines;
       faults = c.in-Ok.ensures.cause.none (λ x. cc) ∙ c.events.invariant.faults;
       within = omega (arith, c.events-test.true);
@@ -380,9 +380,9 @@ events-preserved-in_ok-after_chosen-7 g c =
     let rated : r.rates ≡ rates = ap (λ (x : Channeled). x.rates) c.do_event.ensures.only ∙ ap (λ (x : Channeled). x.rates) c.choose.ensures.only ∙ ap (λ (x : Channeled). x.rates) c.events.invariant.only in
     let done = subst (λ (s : Bool). IsLineDone s (line_outcome_at q.point e) r.point (g.O.Sink.held c.events.out) (g.O.Sink.held c.do_event.new.out)) told c.in-Ok.ensures.comes in
     let then = c.in_ok-after_chosen.ensures.decided q.point r.point e c.in-Ok.ensures.answer ∙ ap (λ (x : Rates). after_chosen x (world_of q.point) (outcome_at q.point e) r.channel) rated in
-    let s = stepped say rates p q r z e (g.O.Sink.held c.events.out) (g.O.Sink.held c.do_event.new.out) c.choose.ensures.only c.do_event.ensures.only refl done c.in-Ok.ensures.answer.answer.moment then in
-    let lines = stepped_lines q.point r.point e c.in-Ok.ensures.answer.answer.moment in
-    let steps = stepped_steps q.point r.point e c.in-Ok.ensures.answer.answer.moment in
+    let s = stepped say rates p q r z e (g.O.Sink.held c.events.out) (g.O.Sink.held c.do_event.new.out) c.choose.ensures.only c.do_event.ensures.only refl done c.in-Ok.ensures.answer.answer.run_state then in
+    let lines = stepped_lines q.point r.point e c.in-Ok.ensures.answer.answer.run_state in
+    let steps = stepped_steps q.point r.point e c.in-Ok.ensures.answer.answer.run_state in
     let lines_kept = ap (λ (x : Channeled). x.point.lines) c.choose.ensures.only in
     let steps_kept = ap (λ (x : Channeled). x.point.steps) c.choose.ensures.only in
     let left_kept = ap (λ (x : Channeled). length x.channel.left) c.do_event.ensures.only in
@@ -395,7 +395,7 @@ events-preserved-in_ok-after_chosen-7 g c =
       channel = chosen_channel say c.args.most c.events.did rates c.args.until.now p.point z.point p.channel q.channel z.channel e o (g.O.Sink.held c.events.out) (g.O.Sink.held c.do_event.new.out)
           c.events-test.true is c.choose.ensures.value s.done s.next s.then ∙ c.events.invariant.channel;
       only = moved_on c.args.at.now p z c.events.invariant.only s.only;
-      started = stepped_started q.point r.point e c.in-Ok.ensures.answer.answer.moment;
+      started = stepped_started q.point r.point e c.in-Ok.ensures.answer.answer.run_state;
       lines = lines ∙ lines_kept ∙ c.events.invariant.lines;
       faults = c.in-Ok.ensures.cause.none (λ x. cc) ∙ c.events.invariant.faults;
       within = omega (arith, c.events-test.true);

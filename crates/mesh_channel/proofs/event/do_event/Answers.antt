@@ -7,7 +7,7 @@ use Rattle.mesh_io.specs.Puts.{AppendsPrefix}
 use Rattle.mesh_model.specs.Worlds.{World}
 use Rattle.mesh_meaning.specs.Events.{event_of, node_of}
 use Rattle.mesh_meaning.specs.Answers.{outcome_in, IsDoneInMesh}
-use Rattle.mesh_text.specs.Schedule.{Moment, Does, world_of}
+use Rattle.mesh_text.specs.Schedule.{RunState, Does, world_of}
 use Rattle.mesh_text.specs.Effects.{outcome_lines}
 use Rattle.mesh_script.specs.Seen.{IsPrintable}
 use Rattle.mesh_script.specs.declared.line.Line.TheVariants as line
@@ -40,7 +40,7 @@ returns-in-Ok-say_if-clause-comes g c =
     let e = event_of c.args.event in
     let is = answer_seen c.point.inside.state c.args.at.now.point c.step_made-answer.new.self e c.in-Ok.done c.step_made-answer.new.out.items c.step_made-answer.result c.point.view_is c.in-Ok.is c.step_made-answer.ensures.done in
     let same : c.mesh-mesh.result.now ≡ c.args.at.now.point.mesh = c.mesh-mesh.ensures.value ∙ answer_mesh c.args.at.now.point c.step_made-answer.new.self e c.in-Ok.done c.step_made-answer.new.out.items is in
-    let n : Moment = c.step_made-answer.new.self in
+    let n : RunState = c.step_made-answer.new.self in
     let text : Nodes → List ℕ = λ k. outcome_lines k e (outcome_in k (node_of e) (world_of n) c.in-Ok.done c.step_made-answer.new.out.items) in
     let before = g.O.Sink.held c.args.out.now in
     let now = g.O.Sink.held c.say_if.new.out in
@@ -64,14 +64,14 @@ pub returns-in-Ok-say_if-clause-copies : goal.returns-in-Ok-say_if-clause-copies
 returns-in-Ok-say_if-clause-copies g c =
     let e = event_of c.args.event in
     let is = answer_seen c.point.inside.state c.args.at.now.point c.step_made-answer.new.self e c.in-Ok.done c.step_made-answer.new.out.items c.step_made-answer.result c.point.view_is c.in-Ok.is c.step_made-answer.ensures.done in
-    few_stepped c.args.at.now.point c.step_made-answer.new.self e is.moment (subst (λ (m : Moment). length (world_of m).nodes ≤ MOST_NODES) c.point.view_is c.started-started.ensures.sized) c.requires.copies
+    few_stepped c.args.at.now.point c.step_made-answer.new.self e is.run_state (subst (λ (m : RunState). length (world_of m).nodes ≤ MOST_NODES) c.point.view_is c.started-started.ensures.sized) c.requires.copies
 
 pub returns-in-Ok-clause-comes : goal.returns-in-Ok-clause-comes
 returns-in-Ok-clause-comes g c =
     let e = event_of c.args.event in
     let is = answer_seen c.point.inside.state c.args.at.now.point c.step_made-answer.new.self e c.in-Ok.done c.step_made-answer.new.out.items c.step_made-answer.result c.point.view_is c.in-Ok.is c.step_made-answer.ensures.done in
     let same : c.mesh-mesh.result.now ≡ c.args.at.now.point.mesh = c.mesh-mesh.ensures.value ∙ answer_mesh c.args.at.now.point c.step_made-answer.new.self e c.in-Ok.done c.step_made-answer.new.out.items is in
-    let n : Moment = c.step_made-answer.new.self in
+    let n : RunState = c.step_made-answer.new.self in
     let text : Nodes → List ℕ = λ k. outcome_lines k e (outcome_in k (node_of e) (world_of n) c.in-Ok.done c.step_made-answer.new.out.items) in
     let before = g.O.Sink.held c.args.out.now in
     let now = g.O.Sink.held c.say_if.new.out in

@@ -3,7 +3,7 @@ use Rattle.std.proofs.lemmas.Result.{err_from_is_err_and}
 use Rattle.mesh_io.proofs.Writing.{AppendsPrefix-none}
 use Rattle.mesh_base.specs.Meshes.{Nodes}
 use Rattle.mesh_meaning.specs.Events.{event_of}
-use Rattle.mesh_text.specs.Schedule.{Moment, Does, with_world, with_line_read, world_of, outcome_at}
+use Rattle.mesh_text.specs.Schedule.{RunState, Does, with_world, with_line_read, world_of, outcome_at}
 use Rattle.mesh_script.specs.Seen.{IsPrintable}
 use Rattle.mesh_script.specs.declared.line.Line.TheVariants as line
 use Rattle.mesh_run.specs.Outputs.{says_lines}
@@ -13,7 +13,7 @@ use Rattle.mesh_run.specs.declared.stop.Stop.TheVariants as stop
 use Rattle.mesh_run.proofs.Events.{stepped_started, stepped_mesh, stepped_lines, stepped_steps}
 use Rattle.mesh_fates.specs.declared.rates.Rates.{Rates}
 use Rattle.mesh_fates.specs.Channels.{Channel, after_given}
-use Rattle.mesh_channel.specs.Moments.{moment_of}
+use Rattle.mesh_channel.specs.RunStates.{run_state_of}
 use Rattle.mesh_channel.specs.Room.{HasFewCopies}
 use Rattle.mesh_channel.specs.declared.channeled.Channeled.{Channeled}
 use Rattle.mesh_channel.proofs.Doing.{moved_on, moved_point, moved_channel}
@@ -24,10 +24,10 @@ pub do_event-requires : goal.do_event-requires
 do_event-requires g c =
     let m = c.args.at.now.point in
     let same : c.begin.new.self ≡ with_world m = c.in_ok-begin.ensures.ok in
-    let mesh = ap (λ (x : Moment). x.mesh) same in
-    let steps = ap (λ (x : Moment). x.steps) same in
+    let mesh = ap (λ (x : RunState). x.mesh) same in
+    let steps = ap (λ (x : RunState). x.steps) same in
     record {
-      started = ap (λ (x : Moment). is_some x.world) same;
+      started = ap (λ (x : RunState). is_some x.world) same;
       few = omega (arith, steps, c.requires.steps);
       copies = few_started m c.begin.new.self same c.requires.copies;
       printable = subst (λ (k : Nodes). IsPrintable k (line.Step c.args.event)) (sym mesh) c.requires.printable;
@@ -66,16 +66,16 @@ pub do_left-requires : goal.do_left-requires
 do_left-requires g c =
     let m = c.args.at.now.point in
     let r = c.do_event.new.at in
-    let moment = c.in-Ok.ensures.answer.answer.moment in
+    let run_state = c.in-Ok.ensures.answer.answer.run_state in
     let e = event_of c.args.event in
     let same : c.begin.new.self ≡ with_world m = c.in_ok-begin.ensures.ok in
-    let steps = ap (λ (x : Moment). x.steps) same in
-    let stepped = stepped_steps c.begin.new.self r.point e moment in
-    let mesh = ap (λ (x : Moment). length x.mesh) same in
-    let size = ap length (stepped_mesh c.begin.new.self r.point e moment) in
+    let steps = ap (λ (x : RunState). x.steps) same in
+    let stepped = stepped_steps c.begin.new.self r.point e run_state in
+    let mesh = ap (λ (x : RunState). length x.mesh) same in
+    let size = ap length (stepped_mesh c.begin.new.self r.point e run_state) in
     let kept = ap (λ (x : Channeled). length x.channel.left) c.do_event.ensures.only in
     record {
-      started = stepped_started c.begin.new.self r.point e moment;
+      started = stepped_started c.begin.new.self r.point e run_state;
       some = omega (arith, mesh, size, c.requires.printable.0);
       copies = c.in-Ok.ensures.copies;
       few = omega (arith, steps, stepped, kept, c.in_ok-after_given.ensures.few, c.requires.left, c.requires.steps);
@@ -104,8 +104,8 @@ returns-in-Err-do_left-clause-only g c =
 pub count_line-requires : goal.count_line-requires
 count_line-requires g c =
     let m = c.args.at.now.point in
-    let before = ap (λ (x : Moment). x.lines) c.in_ok-begin.ensures.ok in
-    let event = stepped_lines c.begin.new.self c.do_event.new.at.point (event_of c.args.event) c.in-Ok.ensures.answer.answer.moment in
+    let before = ap (λ (x : RunState). x.lines) c.in_ok-begin.ensures.ok in
+    let event = stepped_lines c.begin.new.self c.do_event.new.at.point (event_of c.args.event) c.in-Ok.ensures.answer.answer.run_state in
     omega (arith, before, event, c.in_default.ensures.lines, c.requires.few)
 
 pub returns-clause-comes : goal.returns-clause-comes
@@ -146,14 +146,14 @@ returns-clause-led g c =
     let p = c.args.at.now in
     let r = c.do_event.new.at in
     let e = event_of c.args.event in
-    let moment = c.in-Ok.ensures.answer.answer.moment in
+    let run_state = c.in-Ok.ensures.answer.answer.run_state in
     let same : c.begin.new.self ≡ with_world p.point = c.in_ok-begin.ensures.ok in
-    let lines = ap (λ (x : Moment). x.lines) same in
-    let steps = ap (λ (x : Moment). x.steps) same in
-    let event_lines = stepped_lines c.begin.new.self r.point e moment in
-    let event_steps = stepped_steps c.begin.new.self r.point e moment in
-    let last_lines = ap (λ (x : Moment). x.lines) c.count_line.ensures in
-    let last_steps = ap (λ (x : Moment). x.steps) c.count_line.ensures in
+    let lines = ap (λ (x : RunState). x.lines) same in
+    let steps = ap (λ (x : RunState). x.steps) same in
+    let event_lines = stepped_lines c.begin.new.self r.point e run_state in
+    let event_steps = stepped_steps c.begin.new.self r.point e run_state in
+    let last_lines = ap (λ (x : RunState). x.lines) c.count_line.ensures in
+    let last_steps = ap (λ (x : RunState). x.steps) c.count_line.ensures in
     let left = ap (λ (x : Channel). length x.left) c.in_default.ensures.channel in
     let tick = ap (λ (x : Channel). x.tick) c.in_default.ensures.channel in
     let kept = ap (λ (x : Channeled). length x.channel.left) c.do_event.ensures.only in

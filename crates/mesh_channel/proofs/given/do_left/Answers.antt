@@ -1,13 +1,13 @@
 use Rattle.std.proofs.Common.{◌≡◌, ◌∙◌, ◌+◌, Bool, List, ℕ, Option, Some, None, Ok, Err, length, refl, sym, ap, subst, arith}
 use Rattle.std.specs.Prelude.{option_map, drop}
 use Rattle.mesh_meaning.specs.Events.{event_of}
-use Rattle.mesh_text.specs.Schedule.{Moment}
+use Rattle.mesh_text.specs.Schedule.{RunState}
 use Rattle.mesh_text.specs.Auto.{outcome_of_events}
 use Rattle.mesh_run.specs.Outputs.{says_lines}
 use Rattle.mesh_run.specs.Runs.{IsEventsDone, IsEventsRun, IsLineDone, IsLineStopped, line_outcome_at}
 use Rattle.mesh_run.proofs.Events.{stepped_started, stepped_mesh, stepped_lines, stepped_steps}
 use Rattle.mesh_fates.specs.Channels.{Channel}
-use Rattle.mesh_channel.specs.Moments.{moment_of}
+use Rattle.mesh_channel.specs.RunStates.{run_state_of}
 use Rattle.mesh_channel.specs.declared.channeled.Channeled.{Channeled}
 use Rattle.mesh_channel.proofs.Doing.{list_ends, moved_on, moved_channel, moved_point, no_left, left_goes, left_stops, left_one, left_kept, left_over}
 use Rattle.mesh_channel.proofs.given.do_left.Goals as goal
@@ -24,23 +24,23 @@ left-preserved-in_default-do_event g c =
     let told : says_lines q.say ≡ say = ap (λ (x : Channeled). says_lines x.say) c.next_left.ensures.only ∙ ap (λ (x : Channeled). says_lines x.say) c.left.invariant.only in
     let here = subst (λ (s : Bool). IsLineDone s (line_outcome_at q.point e) r.point (g.O.Sink.held c.left.out) (g.O.Sink.held c.do_event.new.out)) told c.in_default-do_event.ensures.comes in
     let at_q : q.point ≡ p.point = ap (λ (x : Channeled). x.point) c.next_left.ensures.only in
-    let done = subst (λ (m : Moment). IsLineDone say (line_outcome_at m e) r.point (g.O.Sink.held c.left.out) (g.O.Sink.held c.do_event.new.out)) at_q here in
-    let moment = c.in_default-do_event.ensures.answer.answer.moment in
+    let done = subst (λ (m : RunState). IsLineDone say (line_outcome_at m e) r.point (g.O.Sink.held c.left.out) (g.O.Sink.held c.do_event.new.out)) at_q here in
+    let run_state = c.in_default-do_event.ensures.answer.answer.run_state in
     let kept : r.channel ≡ record p.channel { left = drop 1 p.channel.left } = ap (λ (x : Channeled). x.channel) c.do_event.ensures.only ∙ c.next_left.ensures.left in
-    let steps = stepped_steps q.point r.point e moment in
+    let steps = stepped_steps q.point r.point e run_state in
     let steps_kept = ap (λ (x : Channeled). x.point.steps) c.next_left.ensures.only in
     let one = left_one p.channel.left e o is c.next_left.ensures.next in
     let less = ap (λ (x : Channel). length x.left) kept in
-    let size = ap (λ (m : Moment). length m.mesh) at_q in
-    let size_kept = ap length (stepped_mesh q.point r.point e moment) in
+    let size = ap (λ (m : RunState). length m.mesh) at_q in
+    let size_kept = ap length (stepped_mesh q.point r.point e run_state) in
     record {
       ran = λ now n t others. c.left.invariant.ran now n t
           (left_goes say p.point r.point n e p.channel.left r.channel.left o (g.O.Sink.held c.left.out) (g.O.Sink.held c.do_event.new.out) now t is c.next_left.ensures.next (ap (λ (x : Channel). x.left) kept) done others);
       channel = left_kept c.args.at.now.channel p.channel r.channel c.left.invariant.channel kept;
       only = moved_on c.args.at.now p r c.left.invariant.only (moved_on p q r (moved_channel p q c.next_left.ensures.only) (moved_point q r c.do_event.ensures.only));
       some = omega (arith, size, size_kept, c.left.invariant.some);
-      started = stepped_started q.point r.point e moment;
-      lines = stepped_lines q.point r.point e moment ∙ ap (λ (m : Moment). m.lines) at_q ∙ c.left.invariant.lines;
+      started = stepped_started q.point r.point e run_state;
+      lines = stepped_lines q.point r.point e run_state ∙ ap (λ (m : RunState). m.lines) at_q ∙ c.left.invariant.lines;
       faults = c.in_default-do_event.ensures.cause.none (λ x. cc) ∙ c.left.invariant.faults;
       steps = omega (arith, steps, steps_kept, one, less, c.left.invariant.steps);
       copies = c.in_default-do_event.ensures.copies;
@@ -58,23 +58,23 @@ left-preserved-in_default-do_event-2 g c =
     let told : says_lines q.say ≡ say = ap (λ (x : Channeled). says_lines x.say) c.next_left.ensures.only ∙ ap (λ (x : Channeled). says_lines x.say) c.left.invariant.only in
     let here = subst (λ (s : Bool). IsLineDone s (line_outcome_at q.point e) r.point (g.O.Sink.held c.left.out) (g.O.Sink.held c.do_event.new.out)) told c.in_default-do_event.ensures.comes in
     let at_q : q.point ≡ p.point = ap (λ (x : Channeled). x.point) c.next_left.ensures.only in
-    let done = subst (λ (m : Moment). IsLineDone say (line_outcome_at m e) r.point (g.O.Sink.held c.left.out) (g.O.Sink.held c.do_event.new.out)) at_q here in
-    let moment = c.in_default-do_event.ensures.answer.answer.moment in
+    let done = subst (λ (m : RunState). IsLineDone say (line_outcome_at m e) r.point (g.O.Sink.held c.left.out) (g.O.Sink.held c.do_event.new.out)) at_q here in
+    let run_state = c.in_default-do_event.ensures.answer.answer.run_state in
     let kept : r.channel ≡ record p.channel { left = drop 1 p.channel.left } = ap (λ (x : Channeled). x.channel) c.do_event.ensures.only ∙ c.next_left.ensures.left in
-    let steps = stepped_steps q.point r.point e moment in
+    let steps = stepped_steps q.point r.point e run_state in
     let steps_kept = ap (λ (x : Channeled). x.point.steps) c.next_left.ensures.only in
     let one = left_one p.channel.left e o is c.next_left.ensures.next in
     let less = ap (λ (x : Channel). length x.left) kept in
-    let size = ap (λ (m : Moment). length m.mesh) at_q in
-    let size_kept = ap length (stepped_mesh q.point r.point e moment) in
+    let size = ap (λ (m : RunState). length m.mesh) at_q in
+    let size_kept = ap length (stepped_mesh q.point r.point e run_state) in
     record {
       ran = λ now n t others. c.left.invariant.ran now n t
           (left_goes say p.point r.point n e p.channel.left r.channel.left o (g.O.Sink.held c.left.out) (g.O.Sink.held c.do_event.new.out) now t is c.next_left.ensures.next (ap (λ (x : Channel). x.left) kept) done others);
       channel = left_kept c.args.at.now.channel p.channel r.channel c.left.invariant.channel kept;
       only = moved_on c.args.at.now p r c.left.invariant.only (moved_on p q r (moved_channel p q c.next_left.ensures.only) (moved_point q r c.do_event.ensures.only));
       some = omega (arith, size, size_kept, c.left.invariant.some);
-      started = stepped_started q.point r.point e moment;
-      lines = stepped_lines q.point r.point e moment ∙ ap (λ (m : Moment). m.lines) at_q ∙ c.left.invariant.lines;
+      started = stepped_started q.point r.point e run_state;
+      lines = stepped_lines q.point r.point e run_state ∙ ap (λ (m : RunState). m.lines) at_q ∙ c.left.invariant.lines;
       faults = c.in_default-do_event.ensures.cause.none (λ x. cc) ∙ c.left.invariant.faults;
       steps = omega (arith, steps, steps_kept, one, less, c.left.invariant.steps);
       copies = c.in_default-do_event.ensures.copies;
@@ -92,23 +92,23 @@ left-preserved-in_default-do_event-3 g c =
     let told : says_lines q.say ≡ say = ap (λ (x : Channeled). says_lines x.say) c.next_left.ensures.only ∙ ap (λ (x : Channeled). says_lines x.say) c.left.invariant.only in
     let here = subst (λ (s : Bool). IsLineDone s (line_outcome_at q.point e) r.point (g.O.Sink.held c.left.out) (g.O.Sink.held c.do_event.new.out)) told c.in_default-do_event.ensures.comes in
     let at_q : q.point ≡ p.point = ap (λ (x : Channeled). x.point) c.next_left.ensures.only in
-    let done = subst (λ (m : Moment). IsLineDone say (line_outcome_at m e) r.point (g.O.Sink.held c.left.out) (g.O.Sink.held c.do_event.new.out)) at_q here in
-    let moment = c.in_default-do_event.ensures.answer.answer.moment in
+    let done = subst (λ (m : RunState). IsLineDone say (line_outcome_at m e) r.point (g.O.Sink.held c.left.out) (g.O.Sink.held c.do_event.new.out)) at_q here in
+    let run_state = c.in_default-do_event.ensures.answer.answer.run_state in
     let kept : r.channel ≡ record p.channel { left = drop 1 p.channel.left } = ap (λ (x : Channeled). x.channel) c.do_event.ensures.only ∙ c.next_left.ensures.left in
-    let steps = stepped_steps q.point r.point e moment in
+    let steps = stepped_steps q.point r.point e run_state in
     let steps_kept = ap (λ (x : Channeled). x.point.steps) c.next_left.ensures.only in
     let one = left_one p.channel.left e o is c.next_left.ensures.next in
     let less = ap (λ (x : Channel). length x.left) kept in
-    let size = ap (λ (m : Moment). length m.mesh) at_q in
-    let size_kept = ap length (stepped_mesh q.point r.point e moment) in
+    let size = ap (λ (m : RunState). length m.mesh) at_q in
+    let size_kept = ap length (stepped_mesh q.point r.point e run_state) in
     record {
       ran = λ now n t others. c.left.invariant.ran now n t
           (left_goes say p.point r.point n e p.channel.left r.channel.left o (g.O.Sink.held c.left.out) (g.O.Sink.held c.do_event.new.out) now t is c.next_left.ensures.next (ap (λ (x : Channel). x.left) kept) done others);
       channel = left_kept c.args.at.now.channel p.channel r.channel c.left.invariant.channel kept;
       only = moved_on c.args.at.now p r c.left.invariant.only (moved_on p q r (moved_channel p q c.next_left.ensures.only) (moved_point q r c.do_event.ensures.only));
       some = omega (arith, size, size_kept, c.left.invariant.some);
-      started = stepped_started q.point r.point e moment;
-      lines = stepped_lines q.point r.point e moment ∙ ap (λ (m : Moment). m.lines) at_q ∙ c.left.invariant.lines;
+      started = stepped_started q.point r.point e run_state;
+      lines = stepped_lines q.point r.point e run_state ∙ ap (λ (m : RunState). m.lines) at_q ∙ c.left.invariant.lines;
       faults = c.in_default-do_event.ensures.cause.none (λ x. cc) ∙ c.left.invariant.faults;
       steps = omega (arith, steps, steps_kept, one, less, c.left.invariant.steps);
       copies = c.in_default-do_event.ensures.copies;
@@ -126,23 +126,23 @@ left-preserved-in_default-do_event-4 g c =
     let told : says_lines q.say ≡ say = ap (λ (x : Channeled). says_lines x.say) c.next_left.ensures.only ∙ ap (λ (x : Channeled). says_lines x.say) c.left.invariant.only in
     let here = subst (λ (s : Bool). IsLineDone s (line_outcome_at q.point e) r.point (g.O.Sink.held c.left.out) (g.O.Sink.held c.do_event.new.out)) told c.in_default-do_event.ensures.comes in
     let at_q : q.point ≡ p.point = ap (λ (x : Channeled). x.point) c.next_left.ensures.only in
-    let done = subst (λ (m : Moment). IsLineDone say (line_outcome_at m e) r.point (g.O.Sink.held c.left.out) (g.O.Sink.held c.do_event.new.out)) at_q here in
-    let moment = c.in_default-do_event.ensures.answer.answer.moment in
+    let done = subst (λ (m : RunState). IsLineDone say (line_outcome_at m e) r.point (g.O.Sink.held c.left.out) (g.O.Sink.held c.do_event.new.out)) at_q here in
+    let run_state = c.in_default-do_event.ensures.answer.answer.run_state in
     let kept : r.channel ≡ record p.channel { left = drop 1 p.channel.left } = ap (λ (x : Channeled). x.channel) c.do_event.ensures.only ∙ c.next_left.ensures.left in
-    let steps = stepped_steps q.point r.point e moment in
+    let steps = stepped_steps q.point r.point e run_state in
     let steps_kept = ap (λ (x : Channeled). x.point.steps) c.next_left.ensures.only in
     let one = left_one p.channel.left e o is c.next_left.ensures.next in
     let less = ap (λ (x : Channel). length x.left) kept in
-    let size = ap (λ (m : Moment). length m.mesh) at_q in
-    let size_kept = ap length (stepped_mesh q.point r.point e moment) in
+    let size = ap (λ (m : RunState). length m.mesh) at_q in
+    let size_kept = ap length (stepped_mesh q.point r.point e run_state) in
     record {
       ran = λ now n t others. c.left.invariant.ran now n t
           (left_goes say p.point r.point n e p.channel.left r.channel.left o (g.O.Sink.held c.left.out) (g.O.Sink.held c.do_event.new.out) now t is c.next_left.ensures.next (ap (λ (x : Channel). x.left) kept) done others);
       channel = left_kept c.args.at.now.channel p.channel r.channel c.left.invariant.channel kept;
       only = moved_on c.args.at.now p r c.left.invariant.only (moved_on p q r (moved_channel p q c.next_left.ensures.only) (moved_point q r c.do_event.ensures.only));
       some = omega (arith, size, size_kept, c.left.invariant.some);
-      started = stepped_started q.point r.point e moment;
-      lines = stepped_lines q.point r.point e moment ∙ ap (λ (m : Moment). m.lines) at_q ∙ c.left.invariant.lines;
+      started = stepped_started q.point r.point e run_state;
+      lines = stepped_lines q.point r.point e run_state ∙ ap (λ (m : RunState). m.lines) at_q ∙ c.left.invariant.lines;
       faults = c.in_default-do_event.ensures.cause.none (λ x. cc) ∙ c.left.invariant.faults;
       steps = omega (arith, steps, steps_kept, one, less, c.left.invariant.steps);
       copies = c.in_default-do_event.ensures.copies;
@@ -160,23 +160,23 @@ left-preserved-in_default-do_event-5 g c =
     let told : says_lines q.say ≡ say = ap (λ (x : Channeled). says_lines x.say) c.next_left.ensures.only ∙ ap (λ (x : Channeled). says_lines x.say) c.left.invariant.only in
     let here = subst (λ (s : Bool). IsLineDone s (line_outcome_at q.point e) r.point (g.O.Sink.held c.left.out) (g.O.Sink.held c.do_event.new.out)) told c.in_default-do_event.ensures.comes in
     let at_q : q.point ≡ p.point = ap (λ (x : Channeled). x.point) c.next_left.ensures.only in
-    let done = subst (λ (m : Moment). IsLineDone say (line_outcome_at m e) r.point (g.O.Sink.held c.left.out) (g.O.Sink.held c.do_event.new.out)) at_q here in
-    let moment = c.in_default-do_event.ensures.answer.answer.moment in
+    let done = subst (λ (m : RunState). IsLineDone say (line_outcome_at m e) r.point (g.O.Sink.held c.left.out) (g.O.Sink.held c.do_event.new.out)) at_q here in
+    let run_state = c.in_default-do_event.ensures.answer.answer.run_state in
     let kept : r.channel ≡ record p.channel { left = drop 1 p.channel.left } = ap (λ (x : Channeled). x.channel) c.do_event.ensures.only ∙ c.next_left.ensures.left in
-    let steps = stepped_steps q.point r.point e moment in
+    let steps = stepped_steps q.point r.point e run_state in
     let steps_kept = ap (λ (x : Channeled). x.point.steps) c.next_left.ensures.only in
     let one = left_one p.channel.left e o is c.next_left.ensures.next in
     let less = ap (λ (x : Channel). length x.left) kept in
-    let size = ap (λ (m : Moment). length m.mesh) at_q in
-    let size_kept = ap length (stepped_mesh q.point r.point e moment) in
+    let size = ap (λ (m : RunState). length m.mesh) at_q in
+    let size_kept = ap length (stepped_mesh q.point r.point e run_state) in
     record {
       ran = λ now n t others. c.left.invariant.ran now n t
           (left_goes say p.point r.point n e p.channel.left r.channel.left o (g.O.Sink.held c.left.out) (g.O.Sink.held c.do_event.new.out) now t is c.next_left.ensures.next (ap (λ (x : Channel). x.left) kept) done others);
       channel = left_kept c.args.at.now.channel p.channel r.channel c.left.invariant.channel kept;
       only = moved_on c.args.at.now p r c.left.invariant.only (moved_on p q r (moved_channel p q c.next_left.ensures.only) (moved_point q r c.do_event.ensures.only));
       some = omega (arith, size, size_kept, c.left.invariant.some);
-      started = stepped_started q.point r.point e moment;
-      lines = stepped_lines q.point r.point e moment ∙ ap (λ (m : Moment). m.lines) at_q ∙ c.left.invariant.lines;
+      started = stepped_started q.point r.point e run_state;
+      lines = stepped_lines q.point r.point e run_state ∙ ap (λ (m : RunState). m.lines) at_q ∙ c.left.invariant.lines;
       faults = c.in_default-do_event.ensures.cause.none (λ x. cc) ∙ c.left.invariant.faults;
       steps = omega (arith, steps, steps_kept, one, less, c.left.invariant.steps);
       copies = c.in_default-do_event.ensures.copies;
@@ -194,23 +194,23 @@ left-preserved-in_default-do_event-6 g c =
     let told : says_lines q.say ≡ say = ap (λ (x : Channeled). says_lines x.say) c.next_left.ensures.only ∙ ap (λ (x : Channeled). says_lines x.say) c.left.invariant.only in
     let here = subst (λ (s : Bool). IsLineDone s (line_outcome_at q.point e) r.point (g.O.Sink.held c.left.out) (g.O.Sink.held c.do_event.new.out)) told c.in_default-do_event.ensures.comes in
     let at_q : q.point ≡ p.point = ap (λ (x : Channeled). x.point) c.next_left.ensures.only in
-    let done = subst (λ (m : Moment). IsLineDone say (line_outcome_at m e) r.point (g.O.Sink.held c.left.out) (g.O.Sink.held c.do_event.new.out)) at_q here in
-    let moment = c.in_default-do_event.ensures.answer.answer.moment in
+    let done = subst (λ (m : RunState). IsLineDone say (line_outcome_at m e) r.point (g.O.Sink.held c.left.out) (g.O.Sink.held c.do_event.new.out)) at_q here in
+    let run_state = c.in_default-do_event.ensures.answer.answer.run_state in
     let kept : r.channel ≡ record p.channel { left = drop 1 p.channel.left } = ap (λ (x : Channeled). x.channel) c.do_event.ensures.only ∙ c.next_left.ensures.left in
-    let steps = stepped_steps q.point r.point e moment in
+    let steps = stepped_steps q.point r.point e run_state in
     let steps_kept = ap (λ (x : Channeled). x.point.steps) c.next_left.ensures.only in
     let one = left_one p.channel.left e o is c.next_left.ensures.next in
     let less = ap (λ (x : Channel). length x.left) kept in
-    let size = ap (λ (m : Moment). length m.mesh) at_q in
-    let size_kept = ap length (stepped_mesh q.point r.point e moment) in
+    let size = ap (λ (m : RunState). length m.mesh) at_q in
+    let size_kept = ap length (stepped_mesh q.point r.point e run_state) in
     record {
       ran = λ now n t others. c.left.invariant.ran now n t
           (left_goes say p.point r.point n e p.channel.left r.channel.left o (g.O.Sink.held c.left.out) (g.O.Sink.held c.do_event.new.out) now t is c.next_left.ensures.next (ap (λ (x : Channel). x.left) kept) done others);
       channel = left_kept c.args.at.now.channel p.channel r.channel c.left.invariant.channel kept;
       only = moved_on c.args.at.now p r c.left.invariant.only (moved_on p q r (moved_channel p q c.next_left.ensures.only) (moved_point q r c.do_event.ensures.only));
       some = omega (arith, size, size_kept, c.left.invariant.some);
-      started = stepped_started q.point r.point e moment;
-      lines = stepped_lines q.point r.point e moment ∙ ap (λ (m : Moment). m.lines) at_q ∙ c.left.invariant.lines;
+      started = stepped_started q.point r.point e run_state;
+      lines = stepped_lines q.point r.point e run_state ∙ ap (λ (m : RunState). m.lines) at_q ∙ c.left.invariant.lines;
       faults = c.in_default-do_event.ensures.cause.none (λ x. cc) ∙ c.left.invariant.faults;
       steps = omega (arith, steps, steps_kept, one, less, c.left.invariant.steps);
       copies = c.in_default-do_event.ensures.copies;
@@ -228,23 +228,23 @@ left-preserved-in_default-do_event-7 g c =
     let told : says_lines q.say ≡ say = ap (λ (x : Channeled). says_lines x.say) c.next_left.ensures.only ∙ ap (λ (x : Channeled). says_lines x.say) c.left.invariant.only in
     let here = subst (λ (s : Bool). IsLineDone s (line_outcome_at q.point e) r.point (g.O.Sink.held c.left.out) (g.O.Sink.held c.do_event.new.out)) told c.in_default-do_event.ensures.comes in
     let at_q : q.point ≡ p.point = ap (λ (x : Channeled). x.point) c.next_left.ensures.only in
-    let done = subst (λ (m : Moment). IsLineDone say (line_outcome_at m e) r.point (g.O.Sink.held c.left.out) (g.O.Sink.held c.do_event.new.out)) at_q here in
-    let moment = c.in_default-do_event.ensures.answer.answer.moment in
+    let done = subst (λ (m : RunState). IsLineDone say (line_outcome_at m e) r.point (g.O.Sink.held c.left.out) (g.O.Sink.held c.do_event.new.out)) at_q here in
+    let run_state = c.in_default-do_event.ensures.answer.answer.run_state in
     let kept : r.channel ≡ record p.channel { left = drop 1 p.channel.left } = ap (λ (x : Channeled). x.channel) c.do_event.ensures.only ∙ c.next_left.ensures.left in
-    let steps = stepped_steps q.point r.point e moment in
+    let steps = stepped_steps q.point r.point e run_state in
     let steps_kept = ap (λ (x : Channeled). x.point.steps) c.next_left.ensures.only in
     let one = left_one p.channel.left e o is c.next_left.ensures.next in
     let less = ap (λ (x : Channel). length x.left) kept in
-    let size = ap (λ (m : Moment). length m.mesh) at_q in
-    let size_kept = ap length (stepped_mesh q.point r.point e moment) in
+    let size = ap (λ (m : RunState). length m.mesh) at_q in
+    let size_kept = ap length (stepped_mesh q.point r.point e run_state) in
     record {
       ran = λ now n t others. c.left.invariant.ran now n t
           (left_goes say p.point r.point n e p.channel.left r.channel.left o (g.O.Sink.held c.left.out) (g.O.Sink.held c.do_event.new.out) now t is c.next_left.ensures.next (ap (λ (x : Channel). x.left) kept) done others);
       channel = left_kept c.args.at.now.channel p.channel r.channel c.left.invariant.channel kept;
       only = moved_on c.args.at.now p r c.left.invariant.only (moved_on p q r (moved_channel p q c.next_left.ensures.only) (moved_point q r c.do_event.ensures.only));
       some = omega (arith, size, size_kept, c.left.invariant.some);
-      started = stepped_started q.point r.point e moment;
-      lines = stepped_lines q.point r.point e moment ∙ ap (λ (m : Moment). m.lines) at_q ∙ c.left.invariant.lines;
+      started = stepped_started q.point r.point e run_state;
+      lines = stepped_lines q.point r.point e run_state ∙ ap (λ (m : RunState). m.lines) at_q ∙ c.left.invariant.lines;
       faults = c.in_default-do_event.ensures.cause.none (λ x. cc) ∙ c.left.invariant.faults;
       steps = omega (arith, steps, steps_kept, one, less, c.left.invariant.steps);
       copies = c.in_default-do_event.ensures.copies;
@@ -262,23 +262,23 @@ left-preserved-in_default-do_event-8 g c =
     let told : says_lines q.say ≡ say = ap (λ (x : Channeled). says_lines x.say) c.next_left.ensures.only ∙ ap (λ (x : Channeled). says_lines x.say) c.left.invariant.only in
     let here = subst (λ (s : Bool). IsLineDone s (line_outcome_at q.point e) r.point (g.O.Sink.held c.left.out) (g.O.Sink.held c.do_event.new.out)) told c.in_default-do_event.ensures.comes in
     let at_q : q.point ≡ p.point = ap (λ (x : Channeled). x.point) c.next_left.ensures.only in
-    let done = subst (λ (m : Moment). IsLineDone say (line_outcome_at m e) r.point (g.O.Sink.held c.left.out) (g.O.Sink.held c.do_event.new.out)) at_q here in
-    let moment = c.in_default-do_event.ensures.answer.answer.moment in
+    let done = subst (λ (m : RunState). IsLineDone say (line_outcome_at m e) r.point (g.O.Sink.held c.left.out) (g.O.Sink.held c.do_event.new.out)) at_q here in
+    let run_state = c.in_default-do_event.ensures.answer.answer.run_state in
     let kept : r.channel ≡ record p.channel { left = drop 1 p.channel.left } = ap (λ (x : Channeled). x.channel) c.do_event.ensures.only ∙ c.next_left.ensures.left in
-    let steps = stepped_steps q.point r.point e moment in
+    let steps = stepped_steps q.point r.point e run_state in
     let steps_kept = ap (λ (x : Channeled). x.point.steps) c.next_left.ensures.only in
     let one = left_one p.channel.left e o is c.next_left.ensures.next in
     let less = ap (λ (x : Channel). length x.left) kept in
-    let size = ap (λ (m : Moment). length m.mesh) at_q in
-    let size_kept = ap length (stepped_mesh q.point r.point e moment) in
+    let size = ap (λ (m : RunState). length m.mesh) at_q in
+    let size_kept = ap length (stepped_mesh q.point r.point e run_state) in
     record {
       ran = λ now n t others. c.left.invariant.ran now n t
           (left_goes say p.point r.point n e p.channel.left r.channel.left o (g.O.Sink.held c.left.out) (g.O.Sink.held c.do_event.new.out) now t is c.next_left.ensures.next (ap (λ (x : Channel). x.left) kept) done others);
       channel = left_kept c.args.at.now.channel p.channel r.channel c.left.invariant.channel kept;
       only = moved_on c.args.at.now p r c.left.invariant.only (moved_on p q r (moved_channel p q c.next_left.ensures.only) (moved_point q r c.do_event.ensures.only));
       some = omega (arith, size, size_kept, c.left.invariant.some);
-      started = stepped_started q.point r.point e moment;
-      lines = stepped_lines q.point r.point e moment ∙ ap (λ (m : Moment). m.lines) at_q ∙ c.left.invariant.lines;
+      started = stepped_started q.point r.point e run_state;
+      lines = stepped_lines q.point r.point e run_state ∙ ap (λ (m : RunState). m.lines) at_q ∙ c.left.invariant.lines;
       faults = c.in_default-do_event.ensures.cause.none (λ x. cc) ∙ c.left.invariant.faults;
       steps = omega (arith, steps, steps_kept, one, less, c.left.invariant.steps);
       copies = c.in_default-do_event.ensures.copies;
@@ -302,7 +302,7 @@ returns-in-Err-clause-ran g c =
     let o = option_map event_of c.next_left.result in
     let told : says_lines q.say ≡ say = ap (λ (x : Channeled). says_lines x.say) c.next_left.ensures.only ∙ ap (λ (x : Channeled). says_lines x.say) c.left.invariant.only in
     let here = subst (λ (s : Bool). IsLineStopped s q.point (line_outcome_at q.point e) r.point (g.O.Sink.held c.left.out) (g.O.Sink.held c.do_event.new.out) c.in-Err.stop) told c.in-Err.ensures.comes in
-    let stop = subst (λ (m : Moment). IsLineStopped say m (line_outcome_at m e) r.point (g.O.Sink.held c.left.out) (g.O.Sink.held c.do_event.new.out) c.in-Err.stop) (ap (λ (x : Channeled). x.point) c.next_left.ensures.only) here in
+    let stop = subst (λ (m : RunState). IsLineStopped say m (line_outcome_at m e) r.point (g.O.Sink.held c.left.out) (g.O.Sink.held c.do_event.new.out) c.in-Err.stop) (ap (λ (x : Channeled). x.point) c.next_left.ensures.only) here in
     c.left.invariant.ran (g.O.Sink.held c.do_event.new.out) r.point (Err c.in-Err.stop) (left_stops say p.point r.point e p.channel.left o _ _ c.in-Err.stop (ap (option_map event_of) c.in-Some.is) c.next_left.ensures.next stop)
 
 pub returns-in-Err-clause-only : goal.returns-in-Err-clause-only
@@ -318,7 +318,7 @@ returns-clause-ran g c =
     let held = g.O.Sink.held c.left.out in
     let none = no_left p.channel.left (option_map event_of c.next_left.result) (ap (option_map event_of) c.in_default.is) c.next_left.ensures.next in
     c.left.invariant.ran held q.point (Ok 0)
-    (subst (λ (n : Moment). IsEventsDone say (outcome_of_events p.point p.channel.left) n held held) (sym (ap (λ (x : Channeled). x.point) c.next_left.ensures.only)) (list_ends say p.point p.channel.left held none))
+    (subst (λ (n : RunState). IsEventsDone say (outcome_of_events p.point p.channel.left) n held held) (sym (ap (λ (x : Channeled). x.point) c.next_left.ensures.only)) (list_ends say p.point p.channel.left held none))
 
 pub returns-clause-channel : goal.returns-clause-channel
 returns-clause-channel g c =

@@ -1,5 +1,5 @@
 use Rattle.std.proofs.Common.{length, sym, ap, subst, arith, ◌∙◌}
-use Rattle.mesh_text.specs.Schedule.{Moment}
+use Rattle.mesh_text.specs.Schedule.{RunState}
 use Rattle.mesh_text.specs.Text.{text_on}
 use Rattle.mesh_make.specs.Making.{HasCome, still_to_come}
 use Rattle.mesh_make.proofs.Allowed.{made_short}
@@ -13,7 +13,7 @@ use Rattle.mesh_cli.proofs.Trials.{told_as, told_whole}
 use Rattle.mesh_cli.proofs.trial.trial.Goals as goal
 
 pub do_made-answer-requires-clause-come : goal.do_made-answer-requires-clause-come
-do_made-answer-requires-clause-come g c = subst (λ (m : Moment). HasCome c.new-maker.result m) (sym c.with-at.ensures) (c.new-maker.ensures.opening c.args.variant)
+do_made-answer-requires-clause-come g c = subst (λ (m : RunState). HasCome c.new-maker.result m) (sym c.with-at.ensures) (c.new-maker.ensures.opening c.args.variant)
 
 pub do_made-answer-requires-clause-short : goal.do_made-answer-requires-clause-short
 do_made-answer-requires-clause-short g c =

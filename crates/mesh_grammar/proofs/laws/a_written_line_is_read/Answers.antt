@@ -1,5 +1,5 @@
 use Rattle.mesh_grammar.specs.declared.command.Command.{Command}
-use Rattle.mesh_grammar.proofs.Spellings as lemmas
+use Rattle.mesh_grammar.proofs.CommandLines as lemmas
 use Rattle.mesh_grammar.proofs.laws.a_written_line_is_read.Goals as goal
 
 pub returns : goal.returns

@@ -1,4 +1,4 @@
-use Rattle.mesh_load.proofs.Moments as lemmas
+use Rattle.mesh_load.proofs.RunStates as lemmas
 use Rattle.mesh_load.proofs.laws.one_start.Goals as goal
 
 pub returns : goal.returns

@@ -1,9 +1,9 @@
 use Rattle.std.proofs.Common.{subst, sym}
 use Rattle.std.proofs.lemmas.Result.{err_from_is_err_and}
-use Rattle.mesh_text.specs.Schedule.{Moment}
+use Rattle.mesh_text.specs.Schedule.{RunState}
 use Rattle.mesh_report.specs.Sums.{sums_of}
 use Rattle.mesh_checkpoint.specs.Checkpoint.{body}
-use Rattle.mesh_load.specs.Parts.{IsMade, IsMomentOf}
+use Rattle.mesh_load.specs.Parts.{IsMade, IsRunStateOf}
 use Rattle.mesh_load.proofs.Making.{has_parts, fitting_read, refused, fits_point, balanced_point, point_made}
 use Rattle.mesh_load.proofs.loading.restore.Goals as goal
 
@@ -26,8 +26,8 @@ from_parts-requires-clause-world c =
 pub returns-in-Some-from_parts : goal.returns-in-Some-from_parts
 returns-in-Some-from_parts c =
     let parts = has_parts c.args.body.now c.in-Some.rest.now c.in-Some-read_mesh.rest.now c.in-Some.head c.in-Some-read_mesh.mesh c.requires c.in-Some.ensures.value c.in-Some-read_mesh.ensures in
-    let made = point_made c.args.body.now c.in-Some-read_mesh.rest.now c.in-Some.head c.in-Some-read_mesh.mesh c.in_ok-world.world (sums_of c.sums_in.result) c.in-Some-from_parts.point parts c.in_ok-world.ensures c.sums_in.ensures (c.in-Some.ensures.below).lines c.in-Some-from_parts.ensures.moment c.world-world.ensures.safe in
-    subst (λ (m : Moment). IsMade IsMomentOf (body.get c.args.body.now) m) (sym c.point.view_is) made
+    let made = point_made c.args.body.now c.in-Some-read_mesh.rest.now c.in-Some.head c.in-Some-read_mesh.mesh c.in_ok-world.world (sums_of c.sums_in.result) c.in-Some-from_parts.point parts c.in_ok-world.ensures c.sums_in.ensures (c.in-Some.ensures.below).lines c.in-Some-from_parts.ensures.state c.world-world.ensures.safe in
+    subst (λ (m : RunState). IsMade IsRunStateOf (body.get c.args.body.now) m) (sym c.point.view_is) made
 
 pub returns-in-None : goal.returns-in-None
 returns-in-None c =

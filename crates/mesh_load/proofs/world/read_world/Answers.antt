@@ -1,8 +1,8 @@
 use Rattle.std.proofs.Common.{ℕ, subst, inl, inr, refl}
 use Rattle.std.proofs.lemmas.Result.{err_from_is_err_and}
-use Rattle.mesh_restore.specs.Air.{air}
+use Rattle.mesh_restore.specs.RadioParts.{radio_part}
 use Rattle.mesh_restore.specs.Reading.{Refuses}
-use Rattle.mesh_load.proofs.WorldParts.{parts_read, kept_of, nodes_refused, air_refused, item_unsound, are_nodes, few_data, made, part_unsound}
+use Rattle.mesh_load.proofs.WorldParts.{parts_read, kept_of, nodes_refused, radio_part_refused, item_unsound, are_nodes, few_data, made, part_unsound}
 use Rattle.mesh_load.proofs.world.read_world.Goals as goal
 use Rattle.mesh_load.proofs.world.read_world.Goals.{then-not-in_place-via-then-not-in_place, then-not-in_place-via-else-not-in_place+then-not-apart}
 
@@ -14,8 +14,8 @@ returns-in_err-nodes c =
 pub returns-in_err-radio : goal.returns-in_err-radio
 returns-in_err-radio c =
     let p = err_from_is_err_and c.from_residual-in_err-radio.result c.from_residual-in_err-radio.ensures.1 in
-    let refused = subst (λ (n : ℕ). Refuses c.in_err-radio.field-0.0 ((air n).get c.in_ok-nodes.rest.now)) c.len.ensures.value c.in_err-radio.ensures in
-    rw (p.1, p.2) (air_refused c.args.mesh.now c.args.variant c.in-Some.steps c.args.bytes.now c.in-Some.rest.now c.in_ok-nodes.rest.now (c.in_ok-nodes.ensures).lists c.in_err-radio.field-0.0 c.in-Some.ensures.value (c.in_ok-nodes.ensures).read_is refused)
+    let refused = subst (λ (n : ℕ). Refuses c.in_err-radio.field-0.0 ((radio_part n).get c.in_ok-nodes.rest.now)) c.len.ensures.value c.in_err-radio.ensures in
+    rw (p.1, p.2) (radio_part_refused c.args.mesh.now c.args.variant c.in-Some.steps c.args.bytes.now c.in-Some.rest.now c.in_ok-nodes.rest.now (c.in_ok-nodes.ensures).lists c.in_err-radio.field-0.0 c.in-Some.ensures.value (c.in_ok-nodes.ensures).read_is refused)
 
 pub returns-then-not-in_place : goal.returns-then-not-in_place
 returns-then-not-in_place c =

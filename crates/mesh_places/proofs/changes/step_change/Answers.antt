@@ -2,21 +2,21 @@ use Rattle.std.proofs.Common.{◌∙◌, length, is_some, sym, ap, subst, arith}
 use Rattle.mesh_base.specs.Meshes.{Nodes}
 use Rattle.mesh_meaning.specs.Events.{event_of}
 use Rattle.mesh_model.specs.Places.{IsEvent}
-use Rattle.mesh_text.specs.Schedule.{Moment, world_of}
+use Rattle.mesh_text.specs.Schedule.{RunState, world_of}
 use Rattle.mesh_places.proofs.ChangeLaws.{begun_next, fills_nothing, is_event}
 use Rattle.mesh_places.proofs.changes.step_change.Goals as goal
 use Rattle.mesh_places.proofs.changes.step_change.Goals.{in-Ok, in-Err-NoMemory}
 
 pub step_counted-requires-clause-made : goal.step_counted-requires-clause-made
-step_counted-requires-clause-made c = ap (λ (m : Moment). is_some m.world) (c.at.view_is ∙ c.in_ok-begin.ensures.ok)
+step_counted-requires-clause-made c = ap (λ (m : RunState). is_some m.world) (c.at.view_is ∙ c.in_ok-begin.ensures.ok)
 
 pub step_counted-requires-clause-event : goal.step_counted-requires-clause-event
 step_counted-requires-clause-event c =
-    let mesh = ap (λ (m : Moment). m.mesh) (c.at.view_is ∙ c.in_ok-begin.ensures.ok) in
+    let mesh = ap (λ (m : RunState). m.mesh) (c.at.view_is ∙ c.in_ok-begin.ensures.ok) in
     subst (λ (k : Nodes). IsEvent (length k) (event_of c.args.event.now)) (sym mesh) (is_event (length c.args.at.now.mesh) (event_of c.args.event.now) c.requires.change)
 
 pub step_counted-requires-clause-few : goal.step_counted-requires-clause-few
-step_counted-requires-clause-few c = let steps = ap (λ (m : Moment). m.steps) (c.at.view_is ∙ c.in_ok-begin.ensures.ok) in omega (arith, c.requires.few)
+step_counted-requires-clause-few c = let steps = ap (λ (m : RunState). m.steps) (c.at.view_is ∙ c.in_ok-begin.ensures.ok) in omega (arith, c.requires.few)
 
 pub unreachable-requires : goal.unreachable-requires
 unreachable-requires c =
@@ -24,8 +24,8 @@ unreachable-requires c =
 
 pub returns : goal.returns
 returns c = record {
-  moment = elim c.match-step_counted.branch [
-    | in-Ok w ↦ rw w.result-is (w.in-Ok.ensures.done.answer.moment ∙ begun_next c.args.at.now c.at.inside.state (event_of c.args.event.now) (c.at.view_is ∙ c.in_ok-begin.ensures.ok))
+  run_state = elim c.match-step_counted.branch [
+    | in-Ok w ↦ rw w.result-is (w.in-Ok.ensures.done.answer.run_state ∙ begun_next c.args.at.now c.at.inside.state (event_of c.args.event.now) (c.at.view_is ∙ c.in_ok-begin.ensures.ok))
     | in-Err-NoMemory w ↦ rw w.result-is tt
   ];
 }

@@ -6,7 +6,7 @@ use Rattle.mesh_grammar.specs.Written.{line}
 use Rattle.mesh_peers.specs.Peers.{PeersSeen, with_peer}
 use Rattle.mesh_peers.specs.Lines.{AcceptedLine, Peer, words_of}
 use Rattle.mesh_peers.specs.Seen.{accepted_of}
-use Rattle.mesh_router.specs.Routers.{Joining, Moment, peers_in, router_in, counted_at}
+use Rattle.mesh_router.specs.Routers.{Joining, RunState, peers_in, router_in, counted_at}
 use Rattle.mesh_router.specs.Finds.{Find}
 use Rattle.mesh_router.specs.Lines.{outcome_of_line, join_outcome, words_at, refused_words}
 use Rattle.mesh_router.proofs.Logging.{adds-text, prefix-text}
@@ -43,4 +43,4 @@ pub returns-clause-grown : goal.returns-clause-grown
 returns-clause-grown g c =
     let m = c.args.at.now in
     let p = with_peer (peers_in m.stage) c.args.addr.0 c.args.port in
-    grown_joined (router_in m.stage) c.count_line.new.self.stage p (ap (λ (k : Moment). k.stage) (c.count_line.ensures ∙ ap (λ (k : Moment). counted_at k k.stage) c.add_peer.ensures))
+    grown_joined (router_in m.stage) c.count_line.new.self.stage p (ap (λ (k : RunState). k.stage) (c.count_line.ensures ∙ ap (λ (k : RunState). counted_at k k.stage) c.add_peer.ensures))

@@ -5,7 +5,7 @@ use Rattle.mesh_peers.specs.Lines.{AcceptedLine, Polls}
 use Rattle.mesh_peers.specs.Seen.{accepted_of, IsPrintable}
 use Rattle.mesh_peers.specs.declared.line.NodeLine.{NodeLine}
 use Rattle.mesh_router.specs.declared.stop.Stop.{Stop}
-use Rattle.mesh_router.specs.Routers.{Router, Moment, peers_in, router_in, is_running}
+use Rattle.mesh_router.specs.Routers.{Router, RunState, peers_in, router_in, is_running}
 use Rattle.mesh_router.specs.Lines.{outcome_of_line, words_at, refused_words}
 use Rattle.mesh_router.specs.Seen.{HasCounts, most_grown}
 use Rattle.mesh_router.specs.Runs.{IsPollLine, IsLineRun, IsPollLineDone}
@@ -14,7 +14,7 @@ use Rattle.mesh_router.proofs.lines.do_poll.Goals as goal
 
 pub poll-requires-clause-running : goal.poll-requires-clause-running
 poll-requires-clause-running g c =
-    ap (λ (k : Moment). is_running k.stage) c.in_ok-begin.ensures.ok
+    ap (λ (k : RunState). is_running k.stage) c.in_ok-begin.ensures.ok
 
 pub poll-requires-clause-printable : goal.poll-requires-clause-printable
 poll-requires-clause-printable g c =
@@ -62,4 +62,4 @@ returns-clause-grown g c =
 pub returns-clause-lines : goal.returns-clause-lines
 returns-clause-lines g c =
     let m = c.args.at.now in
-    ap (λ (k : Moment). k.lines) (counted_step m c.begin.new.self c.poll.new.self c.count_line.new.self c.in_ok-begin.ensures.ok c.poll.ensures.stage c.count_line.ensures)
+    ap (λ (k : RunState). k.lines) (counted_step m c.begin.new.self c.poll.new.self c.count_line.new.self c.in_ok-begin.ensures.ok c.poll.ensures.stage c.count_line.ensures)

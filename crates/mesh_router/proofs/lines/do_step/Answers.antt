@@ -3,7 +3,7 @@ use Rattle.std.proofs.lemmas.Result.{err_from_is_err_and}
 use Rattle.mesh_peers.specs.Peers.{PeersSeen}
 use Rattle.mesh_peers.specs.Seen.{accepted_of, IsPrintable}
 use Rattle.mesh_router.specs.declared.stop.Stop.{Stop}
-use Rattle.mesh_router.specs.Routers.{Router, Moment, peers_in, router_in, is_running}
+use Rattle.mesh_router.specs.Routers.{Router, RunState, peers_in, router_in, is_running}
 use Rattle.mesh_router.specs.Lines.{words_at, step_of}
 use Rattle.mesh_router.specs.Seen.{HasCounts, most_grown}
 use Rattle.mesh_router.specs.Runs.{IsStepRun}
@@ -12,7 +12,7 @@ use Rattle.mesh_router.proofs.lines.do_step.Goals as goal
 
 pub step-requires-clause-running : goal.step-requires-clause-running
 step-requires-clause-running g c =
-    ap (λ (k : Moment). is_running k.stage) c.in_ok-begin.ensures.ok
+    ap (λ (k : RunState). is_running k.stage) c.in_ok-begin.ensures.ok
 
 pub step-requires-clause-printable : goal.step-requires-clause-printable
 step-requires-clause-printable g c =
@@ -54,4 +54,4 @@ returns-clause-grown g c =
 pub returns-clause-lines : goal.returns-clause-lines
 returns-clause-lines g c =
     let m = c.args.at.now in
-    ap (λ (k : Moment). k.lines) (counted_step m c.begin.new.self c.step.new.self c.count_line.new.self c.in_ok-begin.ensures.ok c.step.ensures.stage c.count_line.ensures)
+    ap (λ (k : RunState). k.lines) (counted_step m c.begin.new.self c.step.new.self c.count_line.new.self c.in_ok-begin.ensures.ok c.step.ensures.stage c.count_line.ensures)

@@ -1,5 +1,5 @@
 use Rattle.std.proofs.Common.{◌∙◌, ℕ, List, Ok, Err, refl, sym, ap, subst, rules}
-use Rattle.mesh_text.specs.Schedule.{Moment, Chooses, with_line_read}
+use Rattle.mesh_text.specs.Schedule.{RunState, Chooses, with_line_read}
 use Rattle.mesh_text.specs.Auto.{auto_end, events_chosen}
 use Rattle.mesh_text.specs.Text.{outcome_of_line}
 use Rattle.std.specs.Io.KnownBytes.{Appends}
@@ -27,7 +27,7 @@ pub returns-in-Err-clause-comes : goal.returns-in-Err-clause-comes
 returns-in-Err-clause-comes g c =
     let P : List ℕ → Type 0 = λ l. Appends (g.O.Sink.held c.args.out.now) (g.O.Sink.held c.say_echo.new.out) l in
     let ran = chosen_ran c.args.say c.at.inside.state c.args.at.now c.do_events-ran.new.task.at.now c.args.count _ _ (Err c.in-Err.stop) c.at.view_is c.in-Err.ensures.ran in
-    subst (λ (n : Moment). IsLineStopped c.args.say c.args.at.now (outcome_of_line c.args.at.now (Chooses c.args.count)) n (g.O.Sink.held c.args.out.now) (g.O.Sink.held c.do_events-ran.new.out) c.in-Err.stop)
+    subst (λ (n : RunState). IsLineStopped c.args.say c.args.at.now (outcome_of_line c.args.at.now (Chooses c.args.count)) n (g.O.Sink.held c.args.out.now) (g.O.Sink.held c.do_events-ran.new.out) c.in-Err.stop)
     (search rules)
     (auto_stops c.args.say c.args.at.now c.args.at.now c.do_events-ran.new.task.at.now c.args.count _ (g.O.Sink.held c.say_echo.new.out) _ c.in-Err.stop (started_same c.args.at.now c.requires.started)
     (subst P (echoed c.args.say c.args.bytes.now _ (λ loud. (c.requires.echo loud).1)) c.in_ok-say_echo.ensures.text) ran)
@@ -37,7 +37,7 @@ returns-then-not-say-clause-comes g c =
     let P : List ℕ → Type 0 = λ l. Appends (g.O.Sink.held c.args.out.now) (g.O.Sink.held c.say_echo.new.out) l in
     let many = chosen_many c.at.inside.state c.args.at.now c.args.count c.in-Ok.did c.at.view_is c.in-Ok.ensures.did in
     let ran = chosen_ran c.args.say c.at.inside.state c.args.at.now c.do_events-ran.new.task.at.now c.args.count _ _ (Ok c.in-Ok.did) c.at.view_is c.in-Ok.ensures.ran in
-    subst (λ (n : Moment). IsLineDone c.args.say (outcome_of_line c.args.at.now (Chooses c.args.count)) (with_line_read n) (g.O.Sink.held c.args.out.now) (g.O.Sink.held c.do_events-ran.new.out))
+    subst (λ (n : RunState). IsLineDone c.args.say (outcome_of_line c.args.at.now (Chooses c.args.count)) (with_line_read n) (g.O.Sink.held c.args.out.now) (g.O.Sink.held c.do_events-ran.new.out))
     (search rules)
     (auto_goes c.args.say c.args.at.now c.args.at.now c.do_events-ran.new.task.at.now _ c.args.count c.in-Ok.did _ (g.O.Sink.held c.say_echo.new.out) (g.O.Sink.held c.do_events-ran.new.out) _ (started_same c.args.at.now c.requires.started) many
     (subst P (echoed c.args.say c.args.bytes.now _ (λ loud. (c.requires.echo loud).1)) c.in_ok-say_echo.ensures.text) ran (unsaid_none c.args.say (auto_end c.in-Ok.did) _ c.if-not-say.true) refl)
@@ -65,5 +65,5 @@ returns-in-Err-clause-way g c = chosen_way c.at.inside.state c.args.at.now c.do_
 pub returns-in_err-put_auto_end-clause-way : goal.returns-in_err-put_auto_end-clause-way
 returns-in_err-put_auto_end-clause-way g c =
     err_of c.from_residual-in_err-put_auto_end.result
-    (subst (λ (n : Moment). IsReached c.args.at.now (events_chosen c.args.count c.args.at.now) n) (sym c.at-2.view_is)
+    (subst (λ (n : RunState). IsReached c.args.at.now (events_chosen c.args.count c.args.at.now) n) (sym c.at-2.view_is)
     (chosen_way c.at.inside.state c.args.at.now c.do_events-ran.new.task.at.now _ c.args.count c.at.view_is (search rules) c.in-Ok.ensures.way))

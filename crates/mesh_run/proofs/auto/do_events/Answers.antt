@@ -6,7 +6,7 @@ use Rattle.mesh_script.specs.Seen.{IsPrintable}
 use Rattle.mesh_script.specs.declared.line.Line.TheVariants as line
 use Rattle.mesh_run.specs.declared.stop.Stop.{Stop}
 use Rattle.mesh_run.specs.Stops.{stop_of}
-use Rattle.mesh_text.specs.Schedule.{Moment, next_moment}
+use Rattle.mesh_text.specs.Schedule.{RunState, next_state}
 use Rattle.mesh_run.specs.Runs.{IsLineDone, IsLineOfGiven, IsLineStopped, IsReached, events_due, line_outcome_at}
 use Rattle.mesh_run.proofs.Chosen.{due_all, due_none, due_counts, nothing_more, ran_goes, ran_stops}
 use Rattle.mesh_run.proofs.Events.{stepped_started, stepped_mesh, stepped_lines, stepped_steps}
@@ -32,7 +32,7 @@ pub returns-in-Err-clause-ran : goal.returns-in-Err-clause-ran
 returns-in-Err-clause-ran g c =
     let why : Stop = stop_of c.in-Some.event.now c.in-Err.stop in
     let e = event_of c.in-Some.event.now in
-    let comes = subst (λ (m : Moment). IsLineStopped c.args.say m (line_outcome_at m e) c.do_event.new.at (g.O.Sink.held c.events.out) (g.O.Sink.held c.do_event.new.out) why)
+    let comes = subst (λ (m : RunState). IsLineStopped c.args.say m (line_outcome_at m e) c.do_event.new.at (g.O.Sink.held c.events.out) (g.O.Sink.held c.do_event.new.out) why)
     (c.take_two.ensures.same c.if-take_two.false) c.in-Err.ensures.comes in
     rw c.of_event.ensures (c.events.invariant.ran (g.O.Sink.held c.do_event.new.out) c.do_event.new.at (Err why)
     (ran_stops c.args.say (option_map event_of c.events.task.given) c.events.task.count c.events.did c.events.task.at.now c.do_event.new.at (event_of c.in-Some.event.now) _ _ why
@@ -40,7 +40,7 @@ returns-in-Err-clause-ran g c =
 
 pub returns-in-Err-clause-way : goal.returns-in-Err-clause-way
 returns-in-Err-clause-way g c =
-    let way = subst (λ (m : Moment). IsReached m (event_of c.in-Some.event.now ∷ []) c.do_event.new.at) (c.take_two.ensures.same c.if-take_two.false) c.in-Err.ensures.way in
+    let way = subst (λ (m : RunState). IsReached m (event_of c.in-Some.event.now ∷ []) c.do_event.new.at) (c.take_two.ensures.same c.if-take_two.false) c.in-Err.ensures.way in
     c.events.invariant.way c.do_event.new.at
     (way_stops (option_map event_of c.events.task.given) c.events.task.count c.events.did c.events.task.at.now c.do_event.new.at (event_of c.in-Some.event.now)
     c.events.invariant.one c.events-test.true c.in-Some.ensures.value way)
@@ -84,8 +84,8 @@ events-preserved-then-take_two g c =
 pub events-preserved : goal.events-preserved
 events-preserved g c =
     let still = c.take_two.ensures.same c.if-take_two.false in
-    let next = c.in_default-do_event.ensures.moment ∙ ap (λ (m : Moment). next_moment m (event_of c.in-Some.event.now)) still in
-    let comes = subst (λ (m : Moment). IsLineDone c.args.say (line_outcome_at m (event_of c.in-Some.event.now)) c.do_event.new.at (g.O.Sink.held c.events.out) (g.O.Sink.held c.do_event.new.out)) still c.in_default-do_event.ensures.comes in
+    let next = c.in_default-do_event.ensures.run_state ∙ ap (λ (m : RunState). next_state m (event_of c.in-Some.event.now)) still in
+    let comes = subst (λ (m : RunState). IsLineDone c.args.say (line_outcome_at m (event_of c.in-Some.event.now)) c.do_event.new.at (g.O.Sink.held c.events.out) (g.O.Sink.held c.do_event.new.out)) still c.in_default-do_event.ensures.comes in
     let mesh = stepped_mesh c.events.task.at.now c.do_event.new.at (event_of c.in-Some.event.now) next in
     let lines = stepped_lines c.events.task.at.now c.do_event.new.at (event_of c.in-Some.event.now) next in
     let steps = stepped_steps c.events.task.at.now c.do_event.new.at (event_of c.in-Some.event.now) next in

@@ -1,11 +1,11 @@
--- Whatever is told of the events that are left, the same then is of all of them, and the moments that they lead through are some
+-- Whatever is told of the events that are left, the same then is of all of them, and the states that they lead through are some
 -- that all lead through.
 use Rattle.std.proofs.Common.{◌≡◌, ◌≤◌, ◌<◌, ◌+◌, ◌-◌, ◌^◌, ℕ, List, Option, Result, true, false, is_some, length}
 use Rattle.std.specs.Prelude.{IfSome, option_map}
 use Rattle.mesh_meaning.specs.Events.{event_of}
 use Rattle.mesh_script.specs.Seen.{IsPrintable}
 use Rattle.mesh_script.specs.declared.line.Line.TheVariants as line
-use Rattle.mesh_text.specs.Schedule.{Moment}
+use Rattle.mesh_text.specs.Schedule.{RunState}
 use Rattle.mesh_text.specs.Auto.{outcome_of_events}
 use Rattle.mesh_run.specs.declared.stop.Stop.{Stop}
 use Rattle.mesh_run.specs.Runs.{IsEventsRun, IsLineOfGiven, IsReached, events_due}
@@ -13,11 +13,11 @@ use Rattle.mesh_run.proofs.auto.do_events.Given as goal
 
 abbrev pub invariant-events : goal.invariant-events
 invariant-events g l = record {
-  ran : (now : Option (List ℕ)) (n : Moment) (r : Result ℕ Stop)
+  ran : (now : Option (List ℕ)) (n : RunState) (r : Result ℕ Stop)
       → IsEventsRun l.say l.task.at.now (outcome_of_events l.task.at.now (events_due (option_map event_of l.task.given) (l.task.count - l.did) l.task.at.now)) n (g.O.Sink.held l.out) now r
       → IsEventsRun l.say l.initial.task.at.now (outcome_of_events l.initial.task.at.now (events_due (option_map event_of l.initial.task.given) l.initial.task.count l.initial.task.at.now)) n
       (g.O.Sink.held l.initial.out) now r;
-  way : (n : Moment) → IsReached l.task.at.now (events_due (option_map event_of l.task.given) (l.task.count - l.did) l.task.at.now) n
+  way : (n : RunState) → IsReached l.task.at.now (events_due (option_map event_of l.task.given) (l.task.count - l.did) l.task.at.now) n
       → IsReached l.initial.task.at.now (events_due (option_map event_of l.initial.task.given) l.initial.task.count l.initial.task.at.now) n;
   left : l.did + length (events_due (option_map event_of l.task.given) (l.task.count - l.did) l.task.at.now)
       ≡ length (events_due (option_map event_of l.initial.task.given) l.initial.task.count l.initial.task.at.now);

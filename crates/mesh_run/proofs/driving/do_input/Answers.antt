@@ -2,7 +2,7 @@ use Rattle.std.proofs.Common.{◌≡◌, sym, subst, ◌∙◌, arith}
 use Rattle.std.specs.Prelude.{IfSome}
 use Rattle.std.specs.Io.KnownBytes.{IsAtEnd}
 use Rattle.mesh_base.specs.declared.limits.TheConstants.{LONGEST_INPUT}
-use Rattle.mesh_shell.specs.Story as shell
+use Rattle.mesh_shell.specs.Fold as shell
 use Rattle.mesh_io.specs.NextLines.{schedule_limits}
 use Rattle.mesh_run.specs.declared.status.Status.{Status}
 use Rattle.mesh_run.specs.declared.status.Status.TheVariants as status

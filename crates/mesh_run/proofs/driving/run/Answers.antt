@@ -1,5 +1,5 @@
 use Rattle.std.proofs.Common.{IfSome, subst}
-use Rattle.mesh_text.specs.Schedule.{Moment, opening}
+use Rattle.mesh_text.specs.Schedule.{RunState, opening}
 use Rattle.mesh_run.specs.declared.say.Say.{Say}
 use Rattle.mesh_run.specs.Outputs.{IsOutputFrom}
 use Rattle.mesh_run.proofs.EveryInput.{loop_free_told, accounted_told, named_told}
@@ -7,7 +7,7 @@ use Rattle.mesh_run.proofs.driving.run.Goals as goal
 
 pub returns-clause-told : goal.returns-clause-told
 returns-clause-told g c =
-    let told : Say → Moment → Type 0 =
+    let told : Say → RunState → Type 0 =
     λ s m. IfSome (g.I.Source.left c.args.input.now) (λ bytes. IsOutputFrom s m bytes (g.I.Source.left c.do_input.new.input) (g.O.Sink.held c.args.out.now) (g.O.Sink.held c.do_input.new.out) c.do_input.result) in
     subst (λ s. told s (opening c.args.variant)) c.by.ensures (subst (λ m. told c.by.result m) c.with.ensures c.do_input.ensures.told)
 

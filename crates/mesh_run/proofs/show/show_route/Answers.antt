@@ -3,7 +3,7 @@ use Rattle.std.proofs.lemmas.Result.{err_from_is_err_and}
 use Rattle.mesh_base.specs.Meshes.{Nodes}
 use Rattle.mesh_model.specs.Worlds.{World}
 use Rattle.mesh_model.specs.Routes.{route_end}
-use Rattle.mesh_text.specs.Schedule.{Moment, world_of}
+use Rattle.mesh_text.specs.Schedule.{RunState, world_of}
 use Rattle.mesh_grammar.specs.Written.{line}
 use Rattle.mesh_text.specs.Tables.{end_text}
 use Rattle.mesh_world.specs.Ends.{end_in}
@@ -19,9 +19,9 @@ returns-in_err-put_echo-clause-text g c =
 
 pub returns-clause-text : goal.returns-clause-text
 returns-clause-text g c =
-    let again : c.mesh.result.now ≡ c.args.at.now.mesh = c.mesh.ensures.value ∙ (ap (λ (w : WorldSeen). w.mesh) c.world-world.ensures ∙ (c.in-Some.ensures.mesh ∙ ap (λ (m : Moment). m.mesh) c.at.view_is)) in
+    let again : c.mesh.result.now ≡ c.args.at.now.mesh = c.mesh.ensures.value ∙ (ap (λ (w : WorldSeen). w.mesh) c.world-world.ensures ∙ (c.in-Some.ensures.mesh ∙ ap (λ (m : RunState). m.mesh) c.at.view_is)) in
     let words = ap line c.requires.echo.1 in
     let end : end_text c.mesh.result.now (end_in c.follow.result) ≡ end_text c.args.at.now.mesh (route_end (world_of c.args.at.now) c.args.node c.args.dest) =
     ap (λ (m : Nodes). end_text m (end_in c.follow.result)) again ∙ ap (end_text c.args.at.now.mesh) c.follow.ensures.value
-    ∙ ap (λ (w : World). end_text c.args.at.now.mesh (route_end w c.args.node c.args.dest)) (ap (λ (w : WorldSeen). w.world) c.world-world.ensures ∙ (c.in-Some.ensures.world ∙ ap (λ (m : Moment). world_of m) c.at.view_is)) in
+    ∙ ap (λ (w : World). end_text c.args.at.now.mesh (route_end w c.args.node c.args.dest)) (ap (λ (w : WorldSeen). w.world) c.world-world.ensures ∙ (c.in-Some.ensures.world ∙ ap (λ (m : RunState). world_of m) c.at.view_is)) in
     shows_whole true _ _ _ _ _ (g.O.Sink.held c.put_echo.new.out) _ c.put_end.result refl words end c.in_ok-put_echo.ensures.text c.put_end.ensures.text

@@ -4,4 +4,4 @@ use Rattle.mesh_checkpoint.specs.Checkpoint.{station}
 use Rattle.mesh_save.proofs.body.put_mesh.Given as goal
 
 abbrev pub invariant-loop-i : goal.invariant-loop-i
-invariant-loop-i g l = g.P.Pen.wrote l.initial.pen (flat_map station.put (take l.i l.mesh)) l.pen
+invariant-loop-i g l = g.P.Encoder.wrote l.initial.encoder (flat_map station.put (take l.i l.mesh)) l.encoder

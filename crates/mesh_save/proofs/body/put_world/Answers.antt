@@ -8,7 +8,7 @@ use Rattle.mesh_save.proofs.body.put_world.Goals as goal
 
 pub returns-clause-bytes : goal.returns-clause-bytes
 returns-clause-bytes g c =
-    let j = g.met.P.Pen.joins in
+    let j = g.met.P.Encoder.joins in
     let mesh = c.args.world.now.mesh in
     let w = c.args.world.now.world in
     let radio = c.radio-radio in

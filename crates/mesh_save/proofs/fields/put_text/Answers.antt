@@ -1,4 +1,4 @@
 use Rattle.mesh_save.proofs.fields.put_text.Goals as goal
 
 pub returns : goal.returns
-returns g c = g.met.P.Pen.joins _ _ _ _ _ c.put16.ensures c.put.ensures
+returns g c = g.met.P.Encoder.joins _ _ _ _ _ c.put16.ensures c.put.ensures

@@ -4,4 +4,4 @@ use Rattle.mesh_save.proofs.Rows.{rows_before}
 use Rattle.mesh_save.proofs.requests.put_asked.Given as goal
 
 abbrev pub invariant-loop-origin : goal.invariant-loop-origin
-invariant-loop-origin g l = g.P.Pen.wrote l.initial.pen (flat_map request_bytes (rows_before l.asked.pairs l.origin)) l.pen
+invariant-loop-origin g l = g.P.Encoder.wrote l.initial.encoder (flat_map request_bytes (rows_before l.asked.pairs l.origin)) l.encoder

@@ -5,4 +5,4 @@ use Rattle.mesh_base.specs.Members.{member_list}
 use Rattle.mesh_save.proofs.routes.put_members.Given as goal
 
 abbrev pub invariant-loop-k : goal.invariant-loop-k
-invariant-loop-k g l = g.P.Pen.wrote l.initial.pen (flat_map (to_be_bytes w16) (take l.k (member_list l.set))) l.pen
+invariant-loop-k g l = g.P.Encoder.wrote l.initial.encoder (flat_map (to_be_bytes w16) (take l.k (member_list l.set))) l.encoder

@@ -9,4 +9,4 @@ use Rattle.aodv_model.proofs.Keys.{below}
 use Rattle.mesh_save.proofs.routes.put_routes.Given as goal
 
 abbrev pub invariant-loop-d : goal.invariant-loop-d
-invariant-loop-d g l = g.P.Pen.wrote l.initial.pen (flat_map (λ e. route_bytes (route_of e)) (below l.d l.node.core.rt)) l.pen × ((k : ℕ) (e : Entry) → k < l.d → maps.get l.node.core.rt k ≡ Some e → IsNarrowEntry e)
+invariant-loop-d g l = g.P.Encoder.wrote l.initial.encoder (flat_map (λ e. route_bytes (route_of e)) (below l.d l.node.core.rt)) l.encoder × ((k : ℕ) (e : Entry) → k < l.d → maps.get l.node.core.rt k ≡ Some e → IsNarrowEntry e)

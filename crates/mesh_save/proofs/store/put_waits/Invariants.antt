@@ -6,4 +6,4 @@ use Rattle.mesh_checkpoint.specs.Checkpoint.{datum}
 use Rattle.mesh_save.proofs.store.put_waits.Given as goal
 
 abbrev pub invariant-loop-k : goal.invariant-loop-k
-invariant-loop-k g l = g.P.Pen.wrote l.initial.pen (flat_map datum.put (take l.k (bodies_in (maps.get l.waiting.store l.dest)))) l.pen
+invariant-loop-k g l = g.P.Encoder.wrote l.initial.encoder (flat_map datum.put (take l.k (bodies_in (maps.get l.waiting.store l.dest)))) l.encoder

@@ -1,4 +1,4 @@
-use Rattle.mesh_text.proofs.Moments as lemmas
+use Rattle.mesh_text.proofs.RunStates as lemmas
 use Rattle.mesh_text.proofs.laws.an_event_keeps_the_account.Goals as goal
 
 pub returns : goal.returns

@@ -1,4 +1,4 @@
-use Rattle.mesh_text.proofs.Moments as lemmas
+use Rattle.mesh_text.proofs.RunStates as lemmas
 use Rattle.mesh_text.proofs.laws.data_are_accounted_for.Goals as goal
 
 pub returns : goal.returns

@@ -1,4 +1,4 @@
-use Rattle.mesh_text.proofs.Moments as lemmas
+use Rattle.mesh_text.proofs.RunStates as lemmas
 use Rattle.mesh_text.proofs.laws.the_sums_are_in_order.Goals as goal
 
 pub returns : goal.returns

@@ -1,7 +1,7 @@
 use Rattle.std.proofs.Common.{sym, ap, ◌∙◌, ℕ, List, ◌≡◌, ◌<◌, ◌≤◌, None, subst, length}
 use Rattle.mesh_base.specs.Meshes.{Nodes}
 use Rattle.mesh_base.specs.declared.events.Item.TheVariants as item
-use Rattle.aodv_wire.specs.Spells.{refusal}
+use Rattle.aodv_wire.specs.Encodes.{refusal}
 use Rattle.aodv_meaning.specs.Meaning.{meaning}
 use Rattle.mesh_trail.specs.Said.{said_of, IsSaidIn}
 use Rattle.mesh_trail.specs.declared.heard.Front.TheVariants as fronts

@@ -1,5 +1,5 @@
 use Rattle.std.proofs.Common.{◌≡◌, ◌<◌, ◌++◌, ◌-◌, length}
-use Rattle.mesh_base.specs.declared.limits.TheConstants.{LINE_ROOM}
+use Rattle.mesh_base.specs.declared.limits.TheConstants.{LINE_CAPACITY}
 use Rattle.mesh_make.specs.Making.{still_to_come, IsMaking}
 use Rattle.mesh_make.proofs.maker.Maker.next_lines.Given as goal
 
@@ -11,4 +11,4 @@ invariant-lines l = record {
 }
 
 abbrev pub decreases-lines : goal.decreases-lines
-decreases-lines l = LINE_ROOM - length l.out
+decreases-lines l = LINE_CAPACITY - length l.out

@@ -3,7 +3,7 @@ use Rattle.std.specs.Prelude.{option_map}
 use Rattle.std.specs.FinSet.{insert}
 use Rattle.std.proofs.lemmas.List.{length-append}
 use Rattle.mesh_base.specs.declared.events.Flying.{Flying}
-use Rattle.aodv_wire.specs.Spells.{is_data}
+use Rattle.aodv_wire.specs.Encodes.{is_data}
 use Rattle.mesh_radio.specs.Copies.{find_copy, data_in}
 use Rattle.mesh_radio.specs.Kept.{Memory, Flights, with_second}
 use Rattle.mesh_radio.specs.Casts.{Entry, AreCasts, copies_of, size}
@@ -117,7 +117,7 @@ returns-clause-doubled c =
     let spot = c.in_ok-spot.spot in
     let e : Entry = (c.in_ok-cast.field-0-0.now, c.in_ok-cast.cast.now) in
     let second : Cast = record { to = c.add.new.self; left = c.add.new.self; from = (e.1).from; bytes = c.double_packet.result } in
-    let before : Flights = record { flying = copies_of es; next_copy = inside.next; room = inside.rooms.room; most = inside.rooms.most } in
+    let before : Flights = record { flying = copies_of es; next_copy = inside.next; room = inside.reserve.room; most = inside.reserve.most } in
     let only = c.add.ensures ∙ ap (λ s. insert s spot.to) c.new-to.ensures in
     let copy = found-copy es 1 inside.next c.args.id spot.place spot.to e (c.self.invariant.0).casts.rising c.in_ok-spot.ensures.some (sym c.in_ok-cast.ensures.entry) in
     let entries = c.launch-self-inside.ensures.entries ∙ ap (λ xs. xs ++ (inside.next, second) ∷ []) c.double_packet.ensures.entries in

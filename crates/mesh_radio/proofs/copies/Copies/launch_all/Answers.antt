@@ -1,7 +1,7 @@
 use Rattle.std.proofs.Common.{◌≡◌, ◌+◌, ◌-◌, ◌++◌, length, refl, ap, subst, sym, arith, ◌∙◌, cond}
 use Rattle.std.proofs.lemmas.List.{length-append}
 use Rattle.mesh_base.specs.Members.{member_list}
-use Rattle.aodv_wire.specs.Spells.{is_data}
+use Rattle.aodv_wire.specs.Encodes.{is_data}
 use Rattle.mesh_radio.specs.Copies.{copies_to, data_in}
 use Rattle.mesh_radio.specs.Kept.{Memory, Flights, with_flights}
 use Rattle.mesh_radio.proofs.CastCopies.{copies_to-length}
@@ -79,7 +79,7 @@ returns c =
     let flying = ap copies_of c.launch-self-inside.ensures.entries ∙ cast-copies es inside.next cast refl
     ∙ ap (λ bs. copies_of es ++ copies_to ms inside.next c.args.from bs) (c.own.ensures ∙ c.fill.ensures.bytes) in
     let next = ap (λ n. inside.next + n) made in
-    let room = ap (λ (m : Memory). m.room) c.fill.ensures.room ∙ ap (λ n. inside.rooms.room - n) made in
+    let room = ap (λ (m : Memory). m.room) c.fill.ensures.room ∙ ap (λ n. inside.reserve.room - n) made in
     let most = ap (λ (m : Memory). m.most) c.fill.ensures.room in
     (λ i. record { flying = flying i; next_copy = next i; room = room i; most = most i })
     ∙ ap (λ (v : Flights). with_flights v c.args.from c.args.bytes.now ms) c.self.view_is

@@ -1,7 +1,7 @@
 use Rattle.std.proofs.Common.{◌≡◌, ℕ, ◌+◌, ◌++◌, ◌∷◌, [], cond, length, refl, ap, arith, ◌∙◌}
 use Rattle.std.proofs.lemmas.List.{length-append}
 use Rattle.std.specs.FinSet.{insert}
-use Rattle.aodv_wire.specs.Spells.{is_data}
+use Rattle.aodv_wire.specs.Encodes.{is_data}
 use Rattle.mesh_radio.specs.Copies.{data_in}
 use Rattle.mesh_radio.specs.Kept.{Flights, with_flight}
 use Rattle.mesh_radio.specs.Casts.{copies_of, size}
@@ -93,5 +93,5 @@ returns-clause-ok c =
     copies-one before now f.id f.to cast launched.ensures.entries c.requires.receiver only refl
     ∙ ap (λ bs. copies_of before ++ record f { bytes = bs } ∷ []) c.own.ensures
     ∙ ap (λ fs. fs ++ f ∷ []) same in
-    (λ i. record { flying = flying i; next_copy = inside.next; room = inside.rooms.room; most = inside.rooms.most })
+    (λ i. record { flying = flying i; next_copy = inside.next; room = inside.reserve.room; most = inside.reserve.most })
     ∙ ap (λ (v : Flights). with_flight v f) c.self.view_is

@@ -1,6 +1,6 @@
 use Rattle.std.proofs.Common.{◌∙◌, ℕ, cond, length, ap, sym, subst, arith}
 use Rattle.indexmap.specs.IndexMap.{IndexMap, spare}
-use Rattle.aodv_wire.specs.Spells.{is_data}
+use Rattle.aodv_wire.specs.Encodes.{is_data}
 use Rattle.std.specs.Prelude.{option_map}
 use Rattle.mesh_base.specs.declared.events.Flying.{Flying}
 use Rattle.mesh_radio.specs.Copies.{find_copy, without, data_in}
@@ -111,5 +111,5 @@ returns c =
     let now = ap (λ (m : IndexMap ℕ Cast _). m.entries) map in
     let less = found-taken 1 inside.next c.args.id place to es e kept.casts.rising c.in-Some.ensures.some at in
     let flying = c.clear-gone.ensures.tidied.same ∙ ap copies_of now ∙ less.others in
-    (λ i. record { flying = flying i; next_copy = inside.next; room = inside.rooms.room; most = inside.rooms.most })
+    (λ i. record { flying = flying i; next_copy = inside.next; room = inside.reserve.room; most = inside.reserve.most })
     ∙ ap (λ (v : Flights). record v { flying = without v.flying c.args.id }) c.self.view_is

@@ -3,7 +3,7 @@ use Rattle.std.proofs.lemmas.Result.{err_from_is_err_and}
 use Rattle.mesh_base.specs.Meshes.{Nodes, IsMesh}
 use Rattle.mesh_router.specs.Turns.{next_turn, idle_line, drop_line, refusal_words, stranger_words}
 use Rattle.mesh_router.specs.Routers.{Router}
-use Rattle.aodv_wire.specs.Spells.{refusal, message_in_fields}
+use Rattle.aodv_wire.specs.Encodes.{refusal, message_in_fields}
 use Rattle.aodv_meaning.specs.Meaning.{stranger}
 use Rattle.std.proofs.Common.{List, Some, None, ◌+◌}
 use Rattle.std.specs.Io.KnownBytes.{Appends}

@@ -16,7 +16,7 @@ invariant_of-self g c =
     let done : IsDone e old c.in-Ok.done new c.step.new.out.items = subst (λ r. IsStep e old r new c.step.new.out.items) c.in-Ok.is c.step.ensures.step in
     (answered_first c.args.self.now c.self.inside.variant c.self.inside.mesh (option_map g.S.Steps.seen c.self.inside.world) old new s t c.self.inside.lines e
     c.step.result c.in-Ok.done c.step.new.out.items c.self.view_is c.requires.before c.in_ok-world.ensures c.requires.some c.self.invariant c.requires.event
-    c.step.ensures.step c.in-Ok.is c.step.ensures.sound c.count.ensures.counts (sum_by e old new c.in-Ok.done c.step.new.out.items _ s t done c.tally_of.ensures c.count.ensures.counted)).sound
+    c.step.ensures.step c.in-Ok.is c.step.ensures.sound c.count.ensures.counts (sum_by e old new c.in-Ok.done c.step.new.out.items _ s t done c.event_counts_of.ensures c.count.ensures.counted)).sound
 
 pub returns-in-Ok-clause-done : goal.returns-in-Ok-clause-done
 returns-in-Ok-clause-done g c =
@@ -28,7 +28,7 @@ returns-in-Ok-clause-done g c =
     let done : IsDone e old c.in-Ok.done new c.step.new.out.items = subst (λ r. IsStep e old r new c.step.new.out.items) c.in-Ok.is c.step.ensures.step in
     (answered_first c.args.self.now c.self.inside.variant c.self.inside.mesh (option_map g.S.Steps.seen c.self.inside.world) old new s t c.self.inside.lines e
     c.step.result c.in-Ok.done c.step.new.out.items c.self.view_is c.requires.before c.in_ok-world.ensures c.requires.some c.self.invariant c.requires.event
-    c.step.ensures.step c.in-Ok.is c.step.ensures.sound c.count.ensures.counts (sum_by e old new c.in-Ok.done c.step.new.out.items _ s t done c.tally_of.ensures c.count.ensures.counted)).answer
+    c.step.ensures.step c.in-Ok.is c.step.ensures.sound c.count.ensures.counts (sum_by e old new c.in-Ok.done c.step.new.out.items _ s t done c.event_counts_of.ensures c.count.ensures.counted)).answer
 
 pub returns-in-Ok-clause-safe : goal.returns-in-Ok-clause-safe
 returns-in-Ok-clause-safe g c =
@@ -40,4 +40,4 @@ returns-in-Ok-clause-safe g c =
     let done : IsDone e old c.in-Ok.done new c.step.new.out.items = subst (λ r. IsStep e old r new c.step.new.out.items) c.in-Ok.is c.step.ensures.step in
     (answered_first c.args.self.now c.self.inside.variant c.self.inside.mesh (option_map g.S.Steps.seen c.self.inside.world) old new s t c.self.inside.lines e
     c.step.result c.in-Ok.done c.step.new.out.items c.self.view_is c.requires.before c.in_ok-world.ensures c.requires.some c.self.invariant c.requires.event
-    c.step.ensures.step c.in-Ok.is c.step.ensures.sound c.count.ensures.counts (sum_by e old new c.in-Ok.done c.step.new.out.items _ s t done c.tally_of.ensures c.count.ensures.counted)).safe
+    c.step.ensures.step c.in-Ok.is c.step.ensures.sound c.count.ensures.counts (sum_by e old new c.in-Ok.done c.step.new.out.items _ s t done c.event_counts_of.ensures c.count.ensures.counted)).safe

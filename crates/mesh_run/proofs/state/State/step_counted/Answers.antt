@@ -2,7 +2,7 @@ use Rattle.std.proofs.Common.{Ok, ap, refl, subst}
 use Rattle.std.specs.Option.{option_map}
 use Rattle.mesh_meaning.specs.Events.{event_of}
 use Rattle.mesh_world.specs.Steps.{IsStep}
-use Rattle.mesh_world.specs.Tallies.{IsStepCounted, answer_with}
+use Rattle.mesh_world.specs.CountsOfEvents.{IsStepCounted, answer_with}
 use Rattle.mesh_report.specs.Sums.{sums_of}
 use Rattle.mesh_run.proofs.Sound.{answered_at, sum_by}
 use Rattle.mesh_run.proofs.state.State.step_counted.Goals as goal

@@ -16,7 +16,7 @@ invariant_of-self g c =
     let done : IsDone e old c.in-Ok.done new c.step-answer.new.out.items = subst (λ r. IsStep e old r new c.step-answer.new.out.items) c.in-Ok.is c.step-answer.ensures.step in
     (answered_at c.args.self.now c.self.inside.variant c.self.inside.mesh (option_map g.S.Steps.seen c.self.inside.world) old new s t c.self.inside.lines e
     c.step-answer.result c.in-Ok.done c.step-answer.new.out.items c.self.view_is (ap (option_map g.S.Steps.seen) c.in-Some.is) c.self.invariant c.requires.event
-    c.step-answer.ensures.step c.in-Ok.is c.step-answer.ensures.sound c.count.ensures.counts (sum_by e old new c.in-Ok.done c.step-answer.new.out.items _ s t done c.tally_of.ensures c.count.ensures.counted)).sound
+    c.step-answer.ensures.step c.in-Ok.is c.step-answer.ensures.sound c.count.ensures.counts (sum_by e old new c.in-Ok.done c.step-answer.new.out.items _ s t done c.event_counts_of.ensures c.count.ensures.counted)).sound
 
 pub returns-in-Ok-clause-done : goal.returns-in-Ok-clause-done
 returns-in-Ok-clause-done g c =
@@ -28,7 +28,7 @@ returns-in-Ok-clause-done g c =
     let done : IsDone e old c.in-Ok.done new c.step-answer.new.out.items = subst (λ r. IsStep e old r new c.step-answer.new.out.items) c.in-Ok.is c.step-answer.ensures.step in
     rw c.in-Ok.is (answered_at c.args.self.now c.self.inside.variant c.self.inside.mesh (option_map g.S.Steps.seen c.self.inside.world) old new s t c.self.inside.lines e
     c.step-answer.result c.in-Ok.done c.step-answer.new.out.items c.self.view_is (ap (option_map g.S.Steps.seen) c.in-Some.is) c.self.invariant c.requires.event
-    c.step-answer.ensures.step c.in-Ok.is c.step-answer.ensures.sound c.count.ensures.counts (sum_by e old new c.in-Ok.done c.step-answer.new.out.items _ s t done c.tally_of.ensures c.count.ensures.counted)).answer
+    c.step-answer.ensures.step c.in-Ok.is c.step-answer.ensures.sound c.count.ensures.counts (sum_by e old new c.in-Ok.done c.step-answer.new.out.items _ s t done c.event_counts_of.ensures c.count.ensures.counted)).answer
 
 pub returns-in-Ok-clause-safe : goal.returns-in-Ok-clause-safe
 returns-in-Ok-clause-safe g c =
@@ -40,4 +40,4 @@ returns-in-Ok-clause-safe g c =
     let done : IsDone e old c.in-Ok.done new c.step-answer.new.out.items = subst (λ r. IsStep e old r new c.step-answer.new.out.items) c.in-Ok.is c.step-answer.ensures.step in
     (answered_at c.args.self.now c.self.inside.variant c.self.inside.mesh (option_map g.S.Steps.seen c.self.inside.world) old new s t c.self.inside.lines e
     c.step-answer.result c.in-Ok.done c.step-answer.new.out.items c.self.view_is (ap (option_map g.S.Steps.seen) c.in-Some.is) c.self.invariant c.requires.event
-    c.step-answer.ensures.step c.in-Ok.is c.step-answer.ensures.sound c.count.ensures.counts (sum_by e old new c.in-Ok.done c.step-answer.new.out.items _ s t done c.tally_of.ensures c.count.ensures.counted)).safe
+    c.step-answer.ensures.step c.in-Ok.is c.step-answer.ensures.sound c.count.ensures.counts (sum_by e old new c.in-Ok.done c.step-answer.new.out.items _ s t done c.event_counts_of.ensures c.count.ensures.counted)).safe

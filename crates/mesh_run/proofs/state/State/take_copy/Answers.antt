@@ -20,17 +20,17 @@ returns-in_default-take_copy-clause-safe g c =
 pub invariant_of-self-2 : goal.invariant_of-self-2
 invariant_of-self-2 g c =
     (both c.args.self.now c.self.inside.variant c.self.inside.mesh (option_map g.S.Steps.seen c.self.inside.world) (g.S.Steps.seen c.in-Some.world) (g.S.Steps.seen c.take_copy.new.self)
-    (sums_of c.self.inside.sums) (sums_of c.count.new.sums) (sums_of c.count-2.new.sums) c.self.inside.lines c.args.id c.in-Some-take_copy.to c.in-Some-take_copy.tally
+    (sums_of c.self.inside.sums) (sums_of c.count.new.sums) (sums_of c.count-2.new.sums) c.self.inside.lines c.args.id c.in-Some-take_copy.to c.in-Some-take_copy.event_counts
     c.self.view_is (ap (option_map g.S.Steps.seen) c.in-Some.is) c.self.invariant c.in-Some-take_copy.ensures.taken c.count.ensures.counts c.count.ensures.counted c.count-2.ensures.counts c.count-2.ensures.counted).sound
 
 pub returns-clause-taken : goal.returns-clause-taken
 returns-clause-taken g c = λ _.
     (both c.args.self.now c.self.inside.variant c.self.inside.mesh (option_map g.S.Steps.seen c.self.inside.world) (g.S.Steps.seen c.in-Some.world) (g.S.Steps.seen c.take_copy.new.self)
-    (sums_of c.self.inside.sums) (sums_of c.count.new.sums) (sums_of c.count-2.new.sums) c.self.inside.lines c.args.id c.in-Some-take_copy.to c.in-Some-take_copy.tally
+    (sums_of c.self.inside.sums) (sums_of c.count.new.sums) (sums_of c.count-2.new.sums) c.self.inside.lines c.args.id c.in-Some-take_copy.to c.in-Some-take_copy.event_counts
     c.self.view_is (ap (option_map g.S.Steps.seen) c.in-Some.is) c.self.invariant c.in-Some-take_copy.ensures.taken c.count.ensures.counts c.count.ensures.counted c.count-2.ensures.counts c.count-2.ensures.counted).taken
 
 pub returns-clause-safe : goal.returns-clause-safe
 returns-clause-safe g c =
     (both c.args.self.now c.self.inside.variant c.self.inside.mesh (option_map g.S.Steps.seen c.self.inside.world) (g.S.Steps.seen c.in-Some.world) (g.S.Steps.seen c.take_copy.new.self)
-    (sums_of c.self.inside.sums) (sums_of c.count.new.sums) (sums_of c.count-2.new.sums) c.self.inside.lines c.args.id c.in-Some-take_copy.to c.in-Some-take_copy.tally
+    (sums_of c.self.inside.sums) (sums_of c.count.new.sums) (sums_of c.count-2.new.sums) c.self.inside.lines c.args.id c.in-Some-take_copy.to c.in-Some-take_copy.event_counts
     c.self.view_is (ap (option_map g.S.Steps.seen) c.in-Some.is) c.self.invariant c.in-Some-take_copy.ensures.taken c.count.ensures.counts c.count.ensures.counted c.count-2.ensures.counts c.count-2.ensures.counted).safe

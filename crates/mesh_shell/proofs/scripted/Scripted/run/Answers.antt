@@ -3,7 +3,7 @@ use Rattle.std.specs.Prelude.{IsErrOf}
 use Rattle.mesh_io.specs.Puts.{AppendsPrefix}
 use Rattle.mesh_io.specs.Buffering.{held_by}
 use Rattle.mesh_shell.specs.Pieces.{pieces_within}
-use Rattle.mesh_shell.specs.Story.{text_from, text_on}
+use Rattle.mesh_shell.specs.Fold.{text_from, text_on}
 use Rattle.mesh_shell.specs.Outputs.{IsHeadWritten, IsHeadRun}
 use Rattle.mesh_shell.specs.declared.fault.Fault.TheVariants.{ReadFault}
 use Rattle.mesh_shell.proofs.Faults.{err_as}
@@ -13,35 +13,35 @@ use Rattle.mesh_shell.proofs.scripted.Scripted.run.Goals as goal
 
 pub returns-in-Err-clause-told : goal.returns-in-Err-clause-told
 returns-in-Err-clause-told g c =
-    let story = g.S.Script.story in
+    let fold = g.S.Script.fold in
     let most = g.R.LineReader.limits c.args.lines.now in
     let m = c.args.self.now.script.now in
     let held = held_by g.O.Sink.held in
-    let front : AppendsPrefix (held c.args.self.now.out.now) (held c.begin.new.out) (story.head m) =
-    subst (λ r. IsHeadRun (story.head m) m c.begin.new.self (held c.args.self.now.out.now) (held c.begin.new.out) r) c.in-Err.is c.begin.ensures.comes in
-    head_broken (text_on story most m) (λ bytes. text_from story m (pieces_within most bytes)) (story.head m) (g.R.LineReader.left c.args.lines.now) (g.R.LineReader.left c.args.lines.now) (held c.args.self.now.out.now) (held c.begin.new.out) c.in-Err.fault
-    (text_on-pieces story most m) (λ e. c.begin.ensures.read (subst (λ r. IsErrOf r ReadFault) (sym c.in-Err.is) (err_as c.in-Err.fault ReadFault e))) front
+    let front : AppendsPrefix (held c.args.self.now.out.now) (held c.begin.new.out) (fold.head m) =
+    subst (λ r. IsHeadRun (fold.head m) m c.begin.new.self (held c.args.self.now.out.now) (held c.begin.new.out) r) c.in-Err.is c.begin.ensures.comes in
+    head_broken (text_on fold most m) (λ bytes. text_from fold m (pieces_within most bytes)) (fold.head m) (g.R.LineReader.left c.args.lines.now) (g.R.LineReader.left c.args.lines.now) (held c.args.self.now.out.now) (held c.begin.new.out) c.in-Err.fault
+    (text_on-pieces fold most m) (λ e. c.begin.ensures.read (subst (λ r. IsErrOf r ReadFault) (sym c.in-Err.is) (err_as c.in-Err.fault ReadFault e))) front
 
 pub returns-clause-told : goal.returns-clause-told
 returns-clause-told g c =
     let m = c.args.self.now.script.now in
     let held = held_by g.O.Sink.held in
-    let wrote : IsHeadWritten (g.S.Script.story.head m) m c.begin.new.self (held c.args.self.now.out.now) (held c.begin.new.out) =
-    subst (λ r. IsHeadRun (g.S.Script.story.head m) m c.begin.new.self (held c.args.self.now.out.now) (held c.begin.new.out) r) c.in_default.is c.begin.ensures.comes in
+    let wrote : IsHeadWritten (g.S.Script.fold.head m) m c.begin.new.self (held c.args.self.now.out.now) (held c.begin.new.out) =
+    subst (λ r. IsHeadRun (g.S.Script.fold.head m) m c.begin.new.self (held c.args.self.now.out.now) (held c.begin.new.out) r) c.in_default.is c.begin.ensures.comes in
     run_told g.S.Script g.O.Sink g.R.LineReader c.args.lines.now c.run_lines.new.lines _ c.run_lines.new.runner c.run_lines.result c.run_lines.ensures.ran m (held c.args.self.now.out.now) wrote.same wrote.grown
 
 pub returns-clause-after : goal.returns-clause-after
 returns-clause-after g c =
     let m = c.args.self.now.script.now in
     let held = held_by g.O.Sink.held in
-    let wrote : IsHeadWritten (g.S.Script.story.head m) m c.begin.new.self (held c.args.self.now.out.now) (held c.begin.new.out) =
-    subst (λ r. IsHeadRun (g.S.Script.story.head m) m c.begin.new.self (held c.args.self.now.out.now) (held c.begin.new.out) r) c.in_default.is c.begin.ensures.comes in
+    let wrote : IsHeadWritten (g.S.Script.fold.head m) m c.begin.new.self (held c.args.self.now.out.now) (held c.begin.new.out) =
+    subst (λ r. IsHeadRun (g.S.Script.fold.head m) m c.begin.new.self (held c.args.self.now.out.now) (held c.begin.new.out) r) c.in_default.is c.begin.ensures.comes in
     run_after g.S.Script g.O.Sink g.R.LineReader c.args.lines.now c.run_lines.new.lines _ c.run_lines.new.runner c.run_lines.result c.run_lines.ensures.ran m (held c.args.self.now.out.now) wrote.same wrote.grown
 
 pub returns-clause-leads : goal.returns-clause-leads
 returns-clause-leads g c =
     let m = c.args.self.now.script.now in
     let held = held_by g.O.Sink.held in
-    let wrote : IsHeadWritten (g.S.Script.story.head m) m c.begin.new.self (held c.args.self.now.out.now) (held c.begin.new.out) =
-    subst (λ r. IsHeadRun (g.S.Script.story.head m) m c.begin.new.self (held c.args.self.now.out.now) (held c.begin.new.out) r) c.in_default.is c.begin.ensures.comes in
+    let wrote : IsHeadWritten (g.S.Script.fold.head m) m c.begin.new.self (held c.args.self.now.out.now) (held c.begin.new.out) =
+    subst (λ r. IsHeadRun (g.S.Script.fold.head m) m c.begin.new.self (held c.args.self.now.out.now) (held c.begin.new.out) r) c.in_default.is c.begin.ensures.comes in
     run_leads g.S.Script g.O.Sink g.R.LineReader c.args.lines.now c.run_lines.new.lines _ c.run_lines.new.runner c.run_lines.result c.run_lines.ensures.ran m wrote.same g.met.S.Script.stays g.met.S.Script.joins

@@ -4,7 +4,7 @@ use Rattle.mesh_world.proofs.Frames.{node_at, count_of, count_set, size_at, set_
 use Rattle.mesh_world.proofs.Sendings.{ask_done_end, ask_idle_end, ask_full_end, ask_no_memory_end}
 use Rattle.mesh_world.proofs.Moves.{of_ends, after_cast, noted_before, sound_before, changed, within, still_within, still_few}
 use Rattle.mesh_world.proofs.Memory.{idle_end_unneeded, needs_ask}
-use Rattle.mesh_world.proofs.Tallies.{told_done, told_refused}
+use Rattle.mesh_world.proofs.CountsOfEvents.{told_done, told_refused}
 use Rattle.mesh_world.proofs.parts.Parts.ask.Goals as goal
 
 pub index_mut-requires : goal.index_mut-requires
@@ -40,7 +40,7 @@ returns-in-Err-Idle-clause-done c =
     told_done _ _ _ _ _ _ _ _ (
     of_ends _ old _ _ _ _ _ _ (ask_idle_end old.mesh old.nodes.items old.radio c.make_room.new.self old.ready old.steps c.args.x c.args.dest c.index_mut.result.now c.ask.new.self c.ask.new.out.items
     c.requires.kept c.requires.few c.make_room.ensures.same c.requires.node c.index_mut.ensures.value c.ask.ensures.others (rw c.in-Err-Idle.field-0-is at c.in-Err-Idle.ensures.does))
-    ) c.tell-in-Err-Idle.ensures.tally c.tell-in-Err-Idle.ensures.told
+    ) c.tell-in-Err-Idle.ensures.event_counts c.tell-in-Err-Idle.ensures.told
 
 pub returns-in-Err-Full-clause-done : goal.returns-in-Err-Full-clause-done
 returns-in-Err-Full-clause-done c =
@@ -71,7 +71,7 @@ returns-clause-done c =
     c.ask.ensures.others c.in-Ok.ensures.does
     (record { radio = c.cast-air.ensures.radio; answer = c.cast-air.ensures.air; few = c.cast-air.ensures.few })
     (noted_before (changed old c.args.x c.ask.new.self c.make_room.new.self) c.cast-air.new.self c.end_at.new.self.ready c.args.x (length old.mesh) c.ask.new.self c.cast-air.ensures.others at count c.end_at.ensures.ready)))
-    ) c.tell-2.ensures.tally c.tell-2.ensures.told
+    ) c.tell-2.ensures.event_counts c.tell-2.ensures.told
 
 pub returns-in-Err-NoMemory-clause-memory : goal.returns-in-Err-NoMemory-clause-memory
 returns-in-Err-NoMemory-clause-memory c = λ short.
@@ -86,7 +86,7 @@ returns-then-is_err-clause-done c =
     let same : c.make_room.new.self ≡ old.radio = search rules in
     told_done _ _ _ _ _ _ _ _ (
     idle_end_unneeded _ old c.make_room.new.self c.args.out.now.items same c.requires.kept c.requires.few (sym c.if-may_need_memory.false ∙ c.may_need_memory.ensures)
-    ) c.tell.ensures.tally c.tell.ensures.told
+    ) c.tell.ensures.event_counts c.tell.ensures.told
 
 pub returns-then-may_need_memory-clause-done : goal.returns-then-may_need_memory-clause-done
 returns-then-may_need_memory-clause-done c = told_refused _ _ _ _ _ _ _ (record { step = search rules; kept = search rules })

@@ -14,7 +14,7 @@ use Rattle.mesh_world.specs.declared.parts.Parts.{Parts}
 use Rattle.mesh_base.specs.declared.events.Flying.{Flying}
 use Rattle.mesh_radio.specs.Copies.{find_copy, held_seen}
 use Rattle.mesh_world.proofs.Memory.{needs_deliver, found_is_some}
-use Rattle.mesh_world.proofs.Tallies.{told_done, told_short, told_still}
+use Rattle.mesh_world.proofs.CountsOfEvents.{told_done, told_short, told_still}
 use Rattle.mesh_world.proofs.parts.Parts.deliver_copy.Goals as goal
 use Rattle.mesh_world.proofs.parts.Parts.deliver_copy.Goals.{in-Some-again, in-None+in_ok-bytes-in-None}
 
@@ -23,7 +23,7 @@ returns-in_default-clause-done c = λ packet.
     let old = c.args.self.now in
     told_done _ _ _ _ _ _ _ _ (
     of_ends _ old _ _ _ _ _ _ (deliver_idle old.mesh old.nodes.items old.radio old.ready old.steps c.args.id c.held.result packet c.requires.kept c.requires.few c.held.ensures c.in_default.is)
-    ) c.tell.ensures.tally c.tell.ensures.told
+    ) c.tell.ensures.event_counts c.tell.ensures.told
 
 pub index_mut-requires : goal.index_mut-requires
 index_mut-requires c =
@@ -131,7 +131,7 @@ returns-clause-done c = λ packet.
     (of_ends _ old _ _ _ _ _ _ (deliver_done old.mesh old.nodes.items old.radio c.remove_found.new.self old.ready c.end_with_item.new.self.ready old.steps c.args.id to (held_seen c.in-Some.held)
     c.index_mut.result.now c.make_room.new.self c.hear.new.self packet c.requires.kept c.requires.few (seen_flying old.mesh old.nodes.items old.radio old.ready old.steps c.args.id c.held.result c.in-Some.held c.requires.kept c.held.ensures c.in-Some.is) (c.remove_found.ensures ∙ ap (λ (p : Parts). without_copy p.radio c.args.id) c.end_with_item.ensures.others ∙ ap (λ (p : Parts). without_copy p.radio c.args.id) here) at_first j
     (noted_joined old.mesh old.nodes.items old.radio old.ready c.end_with_item.new.self.ready old.steps to c.index_mut.result.now c.hear.new.self _ c.requires.kept at_first j (c.end_with_item.ensures.ready ∙ ap (λ (p : Parts). with_turn p.ready to) here)))))
-    ) c.tell-2.ensures.tally c.tell-2.ensures.told
+    ) c.tell-2.ensures.event_counts c.tell-2.ensures.told
 
 pub returns-in_err-make_room-clause-memory : goal.returns-in_err-make_room-clause-memory
 returns-in_err-make_room-clause-memory c = λ short.

@@ -4,7 +4,7 @@ use Rattle.mesh_base.specs.declared.events.Flying.{Flying}
 use Rattle.mesh_world.proofs.Arrivals.{found_seen, lose_done, lose_idle}
 use Rattle.mesh_world.proofs.Moves.{of_ends}
 use Rattle.mesh_world.proofs.Memory.{needs_lose, found_is_some}
-use Rattle.mesh_world.proofs.Tallies.{told_done, told_short}
+use Rattle.mesh_world.proofs.CountsOfEvents.{told_done, told_short}
 use Rattle.mesh_world.proofs.parts.Parts.lose_copy.Goals as goal
 
 pub returns-in_default-clause-done : goal.returns-in_default-clause-done
@@ -12,7 +12,7 @@ returns-in_default-clause-done c = λ packet.
     let old = c.args.self.now in
     told_done _ _ _ _ _ _ _ _ (
     of_ends _ old _ _ _ _ _ _ (lose_idle old.mesh old.nodes.items old.radio old.ready old.steps c.args.id c.held.result packet c.requires.kept c.requires.few c.held.ensures c.in_default.is)
-    ) c.tell.ensures.tally c.tell.ensures.told
+    ) c.tell.ensures.event_counts c.tell.ensures.told
 
 pub remove_found-requires : goal.remove_found-requires
 remove_found-requires c =
@@ -24,7 +24,7 @@ returns-clause-done c = λ packet.
     told_done _ _ _ _ _ _ _ _ (
     of_ends _ old _ _ _ _ _ _ (lose_done old.mesh old.nodes.items old.radio c.remove_found.new.self old.ready old.steps c.args.id c.held.result c.in-Some.held _ packet
     c.requires.kept c.requires.few c.held.ensures c.in-Some.is refl (c.in_ok-copy_of.ensures.copy ∙ c.as_slice.ensures) c.remove_found.ensures)
-    ) c.tell-2.ensures.tally c.tell-2.ensures.told
+    ) c.tell-2.ensures.event_counts c.tell-2.ensures.told
 
 pub returns-in_err-copy_of-clause-memory : goal.returns-in_err-copy_of-clause-memory
 returns-in_err-copy_of-clause-memory c = λ short.

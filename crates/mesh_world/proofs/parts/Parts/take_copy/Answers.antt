@@ -212,5 +212,5 @@ returns-clause-taken c =
       answer = done.Taken (takes.Heard held.from p.0 held.bytes.now) p.1 c.cast.result;
       taken = after_cast _ between pre c.cast.new.self c.end_at.new.self _ _ c.cast.ensures.others c.end_at.ensures.others
           (of_ends _ between (with_item old.nodes to new) _ _ _ _ _ second);
-      counted = c.tally_of_heard.ensures held.from held.bytes.now c.cast.result;
+      counted = c.counts_of_heard.ensures held.from held.bytes.now c.cast.result;
     }

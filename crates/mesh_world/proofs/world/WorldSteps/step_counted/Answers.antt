@@ -1,5 +1,5 @@
 use Rattle.mesh_world.proofs.Accounts.{accounted_at}
-use Rattle.mesh_world.proofs.Tallies.{counted_at, never_short, steps_at}
+use Rattle.mesh_world.proofs.CountsOfEvents.{counted_at, never_short, steps_at}
 use Rattle.mesh_world.proofs.world.WorldSteps.step_counted.Goals as goal
 
 pub invariant_of-self : goal.invariant_of-self

@@ -1,5 +1,0 @@
-use Rattle.mesh_load.proofs.Moments as lemmas
-use Rattle.mesh_load.proofs.laws.one_moment.Goals as goal
-
-pub returns : goal.returns
-returns c = lemmas.one_moment

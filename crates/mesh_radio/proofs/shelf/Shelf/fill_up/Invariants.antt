@@ -1,5 +1,0 @@
-use Rattle.std.proofs.Common.{◌≡◌, ◌≤◌}
-use Rattle.mesh_radio.proofs.shelf.Shelf.fill_up.Given as goal
-
-abbrev pub invariant-loop : goal.invariant-loop
-invariant-loop l = (l.self.most ≡ l.initial.self.most) × (l.initial.self.room ≤ l.self.room) × (l.counter ≤ l.self.room)

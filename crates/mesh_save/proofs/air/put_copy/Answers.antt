@@ -1,6 +1,0 @@
-use Rattle.mesh_save.proofs.air.put_copy.Goals as goal
-
-pub returns : goal.returns
-returns g c =
-    let j = g.met.P.Pen.joins in
-    j _ _ _ _ _ c.put64.ensures (j _ _ _ _ _ c.put16.ensures (j _ _ _ _ _ c.put16-2.ensures c.put_text.ensures))

@@ -1,0 +1,77 @@
+//! Turns and deliveries: most lines of a long schedule are one of these, and they are read without
+//! looking for words.
+ghost use Rattle.std.specs.Prelude.{◌≡◌, ◌+◌, ◌<◌, ◌^◌, ◌∷◌, Bool, length, IfSome, Ok};
+ghost use Rattle.mesh_text.specs.Schedule.{line_of};
+ghost use Rattle.mesh_script.specs.Seen.{accepted_of};
+
+use crate::line::Line;
+use crate::parse::after_nodes;
+use crate::words::number;
+use mesh_base::{Event, Mesh, are_equal};
+
+// A turn of the node that this is the address of, where there is one.
+#[tactic(auto, using(crate::proofs::FastLines::turn_line))]
+fn turn<'a>(word: &[u8], mesh: &Mesh) -> Option<Line<'a>>
+    ensures { IfSome result (λ l. (started : Bool) → line_of mesh.now started
+        (116 ∷ 117 ∷ 114 ∷ 110 ∷ 32 ∷ word.now) ≡ Ok (accepted_of l)) }
+{
+    let addr = mesh.parse_addr(word)?;
+    let node = mesh.index_of(addr)?;
+    Some(Line::Step(Event::Turn { node }))
+}
+
+// The delivery of the copy that this is the id of, where there is a node.
+#[tactic(auto, using(crate::proofs::FastLines::delivery_line))]
+fn delivery<'a>(word: &[u8], mesh: &Mesh) -> Option<Line<'a>>
+    requires { 8 + length word.now < 2 ^ 63 }
+    ensures { IfSome result (λ l. (started : Bool) → line_of mesh.now started
+        (100 ∷ 101 ∷ 108 ∷ 105 ∷ 118 ∷ 101 ∷ 114 ∷ 32 ∷ word.now) ≡ Ok (accepted_of l)) }
+{
+    after_nodes(mesh).ok()?;
+    let id = number(u64::MAX, 8, word).ok()?;
+    Some(Line::Step(Event::Deliver { id }))
+}
+
+// What follows `turn` and its space.
+#[inline(always)]
+fn after_turn(bytes: &[u8]) -> Option<&[u8]>
+    ensures { IfSome result (λ word. bytes.now ≡ 116 ∷ 117 ∷ 114 ∷ 110 ∷ 32 ∷ word.now) }
+{
+    let (name, rest) = bytes.split_first_chunk::<4>()?;
+    match rest {
+        [b' ', word @ ..] if are_equal(name, b"turn") => Some(word),
+        _ => None,
+    }
+}
+
+// What follows `deliver` and its space.
+#[inline(always)]
+fn after_deliver(bytes: &[u8]) -> Option<&[u8]>
+    ensures { IfSome result
+        (λ word. bytes.now ≡ 100 ∷ 101 ∷ 108 ∷ 105 ∷ 118 ∷ 101 ∷ 114 ∷ 32 ∷ word.now) }
+{
+    let (front, rest) = bytes.split_first_chunk::<4>()?;
+    let (back, word) = rest.split_first_chunk::<4>()?;
+    if are_equal(front, b"deli") && are_equal(back, b"ver ") {
+        Some(word)
+    } else {
+        None
+    }
+}
+
+/// A turn or a delivery that is allowed. None says nothing of the line.
+#[inline(always)]
+pub fn fast_line<'a>(bytes: &'a [u8], mesh: &Mesh) -> Option<Line<'a>>
+    ensures { IfSome result
+        (λ l. (started : Bool) → line_of mesh.now started bytes.now ≡ Ok (accepted_of l)) }
+{
+    // A slice has fewer than 2 ^ 63 bytes: no place in it overflows.
+    let _length = bytes.len();
+    if let Some(word) = after_turn(bytes) {
+        return turn(word, mesh);
+    }
+    if let Some(word) = after_deliver(bytes) {
+        return delivery(word, mesh);
+    }
+    None
+}
