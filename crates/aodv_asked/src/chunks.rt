@@ -25,6 +25,7 @@ impl Model for Chunks {
     ghost use Rattle.std.specs.Prelude.{◌≡◌, ◌<◌, ◌≤◌, ◌&&◌, if◌then◌else◌, nat_lt, is_some, IfSome, length, map, [], vec_len, vec_capacity};
     ghost use Rattle.std.specs.List.{flat_map, All};
     ghost use Rattle.aodv_asked.specs.Spots.{RoomyIntervals};
+    ghost use Rattle.aodv_asked.specs.declared.chunks.TheConstants.{CHUNK};
 
     ghost Value = { RoomyIntervals };
 
@@ -36,7 +37,7 @@ impl Model for Chunks {
     } };
 
     ghost invariant = { λ a. All (λ c. 0 < length c.items) a.chunks.items
-        × IfSome a.spare (λ c. (c.items ≡ []) × (256 ≤ vec_capacity c)) };
+        × IfSome a.spare (λ c. (c.items ≡ []) × (CHUNK ≤ vec_capacity c)) };
 }
 
 // Whether the last interval of a chunk ends before `from`.
@@ -72,7 +73,7 @@ fn put_in_halves(
 ) -> Vec<Interval>
     requires offset { offset < length chunk.old.items }
     requires empty { spare.items ≡ [] }
-    requires room { 256 ≤ vec_capacity spare }
+    requires room { CHUNK ≤ vec_capacity spare }
     ensures items { chunk.new.items ++ result.items ≡ insert chunk.old.items offset v }
     ensures lower { 0 < length chunk.new.items }
     ensures upper { 0 < length result.items }

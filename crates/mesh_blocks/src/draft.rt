@@ -67,6 +67,8 @@ impl Drafts {
     pub fn new(alloc: Global) -> Drafts
         ensures before { result.before.bytes.items ≡ [] }
         ensures after { result.after.bytes.items ≡ [] }
+        ensures sound_before { result.before.failed ≡ 0 }
+        ensures sound_after { result.after.failed ≡ 0 }
     {
         Drafts {
             before: Draft::new(alloc),

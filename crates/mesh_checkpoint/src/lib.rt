@@ -14,5 +14,7 @@ pub use laws::{
     balanced_is_taken, fitting_is_state, fitting_is_written, one_body, one_checkpoint, one_refusal,
     one_state, read_is_written, written_is_read,
 };
-pub use limits::{GREATEST_NEXT_ID, LONGEST_BODY, LONGEST_HEARD, MOST_STEPS, SUMS_END};
+pub use limits::{
+    DATUM_END, GREATEST_NEXT_ID, LONGEST_BODY, LONGEST_HEARD, MOST_STEPS, PACKET_END, SUMS_END,
+};
 pub use validating::{ValidateError, validate};

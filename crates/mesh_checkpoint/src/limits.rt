@@ -15,3 +15,9 @@ pub const GREATEST_NEXT_ID: u64 = 1_152_921_504_606_846_976;
 /// The longest packet in an inbox, in bytes: more than is ever sent, and as much as a router takes
 /// from a socket.
 pub const LONGEST_HEARD: u32 = 2049;
+
+/// The end of the lengths of a datum, in bytes.
+pub const DATUM_END: u32 = 513;
+
+/// The end of the lengths of a packet in flight, in bytes.
+pub const PACKET_END: u32 = 1605;

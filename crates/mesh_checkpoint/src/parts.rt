@@ -7,7 +7,7 @@ ghost use Rattle.mesh_checkpoint.specs.Checkpoint as model;
 ghost use Rattle.mesh_checkpoint.specs.Counts as counts;
 ghost use Rattle.mesh_checkpoint.specs.Reading.{Passes};
 
-use crate::limits::LONGEST_HEARD;
+use crate::limits::{DATUM_END, LONGEST_HEARD, PACKET_END};
 use crate::numbers::{byte, number16, number32, number64, text, truth};
 use crate::part::{KeyedPart, Part, pass_all, pass_rising};
 use aodv_wire::{Message, read};
@@ -20,12 +20,6 @@ pub(crate) const END32: u64 = 4_294_967_296;
 
 /// How far the keys of two links lie apart whose first nodes follow one another.
 const LINK_BASE: u64 = 65_536;
-
-/// The end of the lengths of a datum.
-const DATUM_END: u32 = 513;
-
-/// The end of the lengths of a packet in flight.
-const PACKET_END: u32 = 1605;
 
 /// The index of a node, in a mesh of so many.
 #[derive(Clone, Copy)]

@@ -9,6 +9,7 @@ ghost use Rattle.mesh_restore.specs.RadioParts.{IsFlown, AreCopiesRead};
 
 use crate::error::ReadError;
 use mesh_base::{Bytes, Flying, NoMemory};
+use mesh_checkpoint::PACKET_END;
 use mesh_checkpoint::numbers::{number16, number64, text};
 use mesh_radio::Radio;
 use std::alloc::Global;
@@ -31,7 +32,7 @@ fn copy(alloc: Global, bytes: &[u8], nodes: u32, next: u64) -> Result<(Flying, &
     let Some((to, rest)) = number16(rest, 0, nodes) else {
         return Err(ReadError::Spelling);
     };
-    let Some((packet, rest)) = text(rest, 0, 1605) else {
+    let Some((packet, rest)) = text(rest, 0, PACKET_END) else {
         return Err(ReadError::Spelling);
     };
     let copy = Flying {

@@ -10,6 +10,7 @@ use crate::error::ReadError;
 use aodv_inbox::Inbox;
 use mesh_base::{Bytes, Item};
 use mesh_checkpoint::numbers::{number16, number32, text};
+use mesh_checkpoint::{DATUM_END, LONGEST_HEARD};
 use std::alloc::Global;
 
 // A datum for a destination, behind its kind.
@@ -20,7 +21,7 @@ fn given(alloc: Global, bytes: &[u8], nodes: u32) -> Result<(Item, &[u8]), ReadE
     let Some((dest, rest)) = number16(bytes, 0, nodes) else {
         return Err(ReadError::Spelling);
     };
-    let Some((body, rest)) = text(rest, 1, 513) else {
+    let Some((body, rest)) = text(rest, 1, DATUM_END) else {
         return Err(ReadError::Spelling);
     };
     let dest = usize::from(dest);
@@ -36,7 +37,7 @@ fn heard(alloc: Global, bytes: &[u8], nodes: u32) -> Result<(Item, &[u8]), ReadE
     let Some((from, rest)) = number16(bytes, 0, nodes) else {
         return Err(ReadError::Spelling);
     };
-    let Some((packet, rest)) = text(rest, 0, 2050) else {
+    let Some((packet, rest)) = text(rest, 0, LONGEST_HEARD + 1) else {
         return Err(ReadError::Spelling);
     };
     let from = usize::from(from);

@@ -11,6 +11,7 @@ ghost use Rattle.mesh_restore.specs.Kept.{IsFilled, IsKeptFrom};
 use crate::error::ReadError;
 use aodv_waiting::Waiting;
 use mesh_base::Bytes;
+use mesh_checkpoint::DATUM_END;
 use mesh_checkpoint::numbers::{number16, number32, text, truth};
 use std::alloc::Global;
 
@@ -31,7 +32,7 @@ fn bodies<'b>(
 {
     let mut rest = bytes;
     for _ in 0..count {
-        let Some((body, behind)) = text(rest, 1, 513) else {
+        let Some((body, behind)) = text(rest, 1, DATUM_END) else {
             return Err(ReadError::Spelling);
         };
         let body = Bytes::copy_of(alloc, body)?;

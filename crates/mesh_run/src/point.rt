@@ -1,5 +1,5 @@
 //! A state of a run that can be held, looked at and gone on with.
-ghost use Rattle.std.specs.Prelude.{◌≡◌, ◌<◌, ◌≤◌, ◌^◌, length, is_some, IfOk, OnOk, OnErr, IfErr, IfSome};
+ghost use Rattle.std.specs.Prelude.{◌≡◌, ◌<◌, ◌≤◌, ◌^◌, length, is_some, IfOk, OnOk, OnErr, IfErr, IfSome, IsOk, true};
 ghost use Rattle.mesh_base.specs.declared.events.Variant.TheVariants.{Base};
 ghost use Rattle.mesh_base.specs.Meshes.{IsMesh};
 ghost use Rattle.mesh_model.specs.Places.{IsEvent};
@@ -113,9 +113,11 @@ impl<S: Steps> Point<S> {
         self.state.world()
     }
 
-    /// Makes the opening world, unless there is a world. An `Err` changes nothing.
+    /// Makes the opening world, unless there is a world. An `Err` changes nothing, and never comes
+    /// where there is a world.
     pub fn begin(&mut self, alloc: Global) -> Result<(), NoMemory>
         requires { 1 ≤ length self.old.mesh }
+        ensures there { is_some self.old.world ≡ true → IsOk result }
         ensures ok { OnOk result (self.new ≡ model.with_world self.old) }
         ensures err { OnErr result (self.new ≡ self.old) }
     {

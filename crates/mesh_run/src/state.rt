@@ -1,6 +1,6 @@
 //! The state of a run between two events: its variant of the protocol and its mesh, its world, what
 //! was counted, how many lines were read, and how many events the world has gone through.
-ghost use Rattle.std.specs.Prelude.{◌≡◌, ◌<◌, ◌≤◌, ◌+◌, ◌^◌, length, is_some, option_map, true, false, Some, None, IfOk, OnOk, OnErr, IfErr, IfSome};
+ghost use Rattle.std.specs.Prelude.{◌≡◌, ◌<◌, ◌≤◌, ◌+◌, ◌^◌, length, is_some, option_map, true, false, Some, None, IfOk, OnOk, OnErr, IfErr, IfSome, IsOk};
 ghost use Rattle.mesh_base.specs.declared.limits.TheConstants.{MOST_NODES};
 ghost use Rattle.mesh_base.specs.Meshes.{IsMesh, with_node};
 ghost use Rattle.mesh_model.specs.Worlds.{Deliver};
@@ -302,9 +302,10 @@ impl<S: Steps> State<S> {
     }
 
     /// Makes the opening world, where the line is neither blank nor of a node and the run hasn't
-    /// started. An `Err` changes nothing.
+    /// started. An `Err` changes nothing, and never comes once the run has started.
     pub fn begin(&mut self, alloc: Global, line: &Line<'_>) -> Result<(), NoMemory>
         requires { IsAllowed self.old.mesh (is_some self.old.world) line.now }
+        ensures there { is_some self.old.world ≡ true → IsOk result }
         ensures ok { OnOk result (self.new ≡ with_run_begun self.old (accepted_of line.now)) }
         ensures err { OnErr result (self.new ≡ self.old) }
     {
@@ -315,9 +316,11 @@ impl<S: Steps> State<S> {
         }
     }
 
-    /// Makes the opening world, unless the run has started. An `Err` changes nothing.
+    /// Makes the opening world, unless the run has started. An `Err` changes nothing, and never
+    /// comes once the run has started.
     pub fn make_world(&mut self, alloc: Global) -> Result<(), NoMemory>
         requires { 1 ≤ length self.old.mesh }
+        ensures there { is_some self.old.world ≡ true → IsOk result }
         ensures ok { OnOk result (self.new ≡ model.with_world self.old) }
         ensures err { OnErr result (self.new ≡ self.old) }
     {
