@@ -1,8 +1,10 @@
 -- Read in this order: how to write numbers and addresses, the parts of a text, meshes, sets of
 -- nodes, what is only looked at.
+-- Bounds has the bounds of what a run counts.
 -- Words has the proof that a set gives its words back, Octets an address number by number, Few
 -- short bytes and Stems an address's first numbers as they are kept; no public contract says any of
 -- these.
+pub mod Bounds
 pub mod Numbers
 pub mod Parts
 pub mod Addresses

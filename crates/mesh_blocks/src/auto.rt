@@ -1,5 +1,6 @@
 //! Events that the run chooses, one after another, each with what stands below it.
-ghost use Rattle.std.specs.Prelude.{◌≡◌, ◌<◌, ◌+◌, ◌^◌, length, is_some, true, OnOk, IfOk};
+ghost use Rattle.std.specs.Prelude.{◌≡◌, ◌<◌, ◌+◌, length, is_some, true, OnOk, IfOk};
+ghost use Rattle.mesh_base.specs.Bounds.{most_lines, most_steps, most_steps_before_line};
 ghost use Rattle.mesh_text.specs.Schedule.{Chooses};
 ghost use Rattle.mesh_text.specs.Auto.{events_chosen};
 ghost use Rattle.mesh_script.specs.Seen.{IsPrintable};
@@ -28,7 +29,7 @@ fn do_events<O: Sink>(
     out: &mut O,
 ) -> Result<u32, Stop<'static>>
     requires started { is_some at.old.world ≡ true }
-    requires few { at.old.steps + count < 2 ^ 48 }
+    requires few { at.old.steps + count < most_steps }
     ensures ran { let told = watched_events below at.old (events_chosen count at.old) in
         IsEventsRun true at.old told at.new (O.held out.old) (O.held out.new) result }
     ensures did { IfOk result (λ did. did ≡ length (events_chosen count at.old)) }
@@ -59,8 +60,8 @@ pub fn do_auto<O: Sink>(
     count: u32,
     out: &mut O,
 ) -> Result<(), Stop<'static>>
-    requires few { at.old.lines < 2 ^ 62 }
-    requires steps { at.old.steps < 2 ^ 47 }
+    requires few { at.old.lines < most_lines }
+    requires steps { at.old.steps < most_steps_before_line }
     requires printable { IsPrintable at.old.mesh (Line.Auto count) }
     requires echo { IsLineOf at.old.mesh (Chooses count) bytes.now }
     ensures comes { IsLineRun true at.old (watched_line below at.old (Chooses count))

@@ -1,5 +1,6 @@
 //! An event, and what stands below it.
-ghost use Rattle.std.specs.Prelude.{◌≡◌, ◌<◌, ◌^◌, ◌++◌, length, is_some, true, OnOk, IfSome, IsErrOf};
+ghost use Rattle.std.specs.Prelude.{◌≡◌, ◌<◌, ◌++◌, length, is_some, true, OnOk, IfSome, IsErrOf};
+ghost use Rattle.mesh_base.specs.Bounds.{most_lines, most_steps, most_steps_before_line};
 ghost use Rattle.mesh_base.specs.Meshes.{Nodes};
 ghost use Rattle.mesh_io.specs.Cause.{HasCause};
 ghost use Rattle.mesh_io.specs.Puts.{Puts};
@@ -181,7 +182,7 @@ pub fn do_event<'a, O: Sink>(
     out: &mut O,
 ) -> Result<(), Stop<'a>>
     requires started { is_some at.old.world ≡ true }
-    requires few { at.old.steps < 2 ^ 48 }
+    requires few { at.old.steps < most_steps }
     requires printable { IsPrintable at.old.mesh (Line.Step event) }
     requires echo { IfSome bytes (λ b. IsLineOf at.old.mesh (Does (event_of event)) b.now) }
     ensures comes { IsLineRun true at.old (watched_event below at.old (event_of event.entry))
@@ -230,8 +231,8 @@ pub fn do_step<'a, O: Sink>(
     event: Event<'a>,
     out: &mut O,
 ) -> Result<(), Stop<'a>>
-    requires few { at.old.lines < 2 ^ 62 }
-    requires steps { at.old.steps < 2 ^ 47 }
+    requires few { at.old.lines < most_lines }
+    requires steps { at.old.steps < most_steps_before_line }
     requires printable { IsPrintable at.old.mesh (Line.Step event) }
     requires echo { IsLineOf at.old.mesh (Does (event_of event)) bytes.now }
     ensures comes { IsLineRun true at.old (watched_line below at.old (Does (event_of event.entry)))

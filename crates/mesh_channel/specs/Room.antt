@@ -1,5 +1,6 @@
 -- How far lines can lead, and the room that they need.
-use Rattle.std.specs.Prelude.{ℕ, ◌≤◌, ◌<◌, ◌+◌, ◌*◌, ◌^◌, length, max}
+use Rattle.std.specs.Prelude.{ℕ, ◌≤◌, ◌<◌, ◌+◌, ◌*◌, length, max}
+use Rattle.mesh_base.specs.Bounds.{most_lines, most_steps_before_line}
 use Rattle.mesh_base.specs.declared.limits.TheConstants.{MOST_NODES}
 use Rattle.mesh_text.specs.Schedule.{RunState, world_of}
 use Rattle.mesh_channel.specs.declared.until.TheConstants.{LAST_TICK, MOST_CHOSEN}
@@ -21,8 +22,8 @@ pub record HasFewCopies (m : RunState) : Type 0 where
 
 -- lines of so many bytes, each LF among them, can be done from this state on
 pub record HasRoomFor (p : Channeled) (size : ℕ) : Type 0 where
-  pub lines : (p.point).lines + size < 2 ^ 62
-  pub steps : max (p.point).steps MOST_CHOSEN + most_events * size < 2 ^ 47
+  pub lines : (p.point).lines + size < most_lines
+  pub steps : max (p.point).steps MOST_CHOSEN + most_events * size < most_steps_before_line
   pub left : length (p.channel).left ≤ most_left
   pub tick : (p.channel).tick ≤ LAST_TICK
   pub copies : HasFewCopies p.point

@@ -1,5 +1,6 @@
 -- A run over a channel between two lines, as the program has it, and what was told of one line.
 use Rattle.std.specs.Prelude.{ℕ, ◌≡◌, ◌≢◌, ◌≤◌, ◌<◌, ◌+◌, ◌^◌, ◌⊎◌, true, false, List, [], Option, Some, None, Result, Ok, Err, OnOk, length}
+use Rattle.mesh_base.specs.Bounds.{most_steps}
 use Rattle.mesh_base.specs.Members.{member_list}
 use Rattle.mesh_base.specs.declared.limits.TheConstants.{MOST_NODES}
 use Rattle.mesh_base.specs.declared.events.Air.{Air}
@@ -59,7 +60,7 @@ pub record IsAnswerOf (m : schedule.RunState) (e : Event) (n : schedule.RunState
   pub packet : List ℕ
   pub answer : IsAnswer m e done n packet
   pub nodes : length m.mesh ≤ MOST_NODES
-  pub steps : m.steps < 2 ^ 48
+  pub steps : m.steps < most_steps
   pub copies : HasFewCopies m
 
 -- this is the answer of some event

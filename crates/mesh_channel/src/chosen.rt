@@ -1,5 +1,6 @@
 //! The events of a line that the channel fills.
-ghost use Rattle.std.specs.Prelude.{◌≡◌, ◌<◌, ◌≤◌, ◌-◌, ◌^◌, length, is_some, true, max, option_map, OnOk, IfSome};
+ghost use Rattle.std.specs.Prelude.{◌≡◌, ◌<◌, ◌≤◌, ◌-◌, length, is_some, true, max, option_map, OnOk, IfSome};
+ghost use Rattle.mesh_base.specs.Bounds.{most_lines};
 ghost use Rattle.mesh_meaning.specs.Events.{event_of};
 ghost use Rattle.mesh_text.specs.Schedule.{world_of};
 ghost use Rattle.mesh_text.specs.Auto.{outcome_of_events};
@@ -102,7 +103,7 @@ pub fn do_chosen<O: Sink>(
     until: &Until,
     out: &mut O,
 ) -> Result<(), Stop<'static>>
-    requires few { at.old.point.lines < 2 ^ 62 }
+    requires few { at.old.point.lines < most_lines }
     requires last { choices.last_tick until.now ≤ LAST_TICK }
     requires tick { at.old.channel.tick ≤ LAST_TICK }
     requires left { length at.old.channel.left ≤ most_left }

@@ -1,5 +1,6 @@
 //! An event, and what the channel decides after it.
-ghost use Rattle.std.specs.Prelude.{◌≡◌, ◌≢◌, ◌<◌, ◌≤◌, ◌+◌, ◌*◌, ◌^◌, length, is_some, true, OnOk, IfOk, IfSome};
+ghost use Rattle.std.specs.Prelude.{◌≡◌, ◌≢◌, ◌<◌, ◌≤◌, ◌+◌, ◌*◌, length, is_some, true, OnOk, IfOk, IfSome};
+ghost use Rattle.mesh_base.specs.Bounds.{most_steps};
 ghost use Rattle.mesh_io.specs.Cause.{HasCause};
 ghost use Rattle.mesh_io.specs.Puts.{Puts};
 ghost use Rattle.mesh_model.specs.Worlds as worlds;
@@ -61,7 +62,7 @@ pub fn do_event<'a, O: Sink>(
     out: &mut O,
 ) -> Result<Done, Stop<'a>>
     requires started { is_some at.old.point.world ≡ true }
-    requires few { at.old.point.steps < 2 ^ 48 }
+    requires few { at.old.point.steps < most_steps }
     requires copies { HasFewCopies at.old.point }
     requires printable { IsPrintable at.old.point.mesh (Line.Step event) }
     requires echo { IfSome bytes (λ b.

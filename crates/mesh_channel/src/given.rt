@@ -1,5 +1,6 @@
 //! An event of the input, and what is decided of the copies that it made.
-ghost use Rattle.std.specs.Prelude.{◌≡◌, ◌<◌, ◌≤◌, ◌+◌, ◌^◌, [], length, drop, slice_get, is_some, true, option_map, OnOk, IfSome};
+ghost use Rattle.std.specs.Prelude.{◌≡◌, ◌<◌, ◌≤◌, ◌+◌, [], length, drop, slice_get, is_some, true, option_map, OnOk, IfSome};
+ghost use Rattle.mesh_base.specs.Bounds.{most_lines, most_steps};
 ghost use Rattle.mesh_meaning.specs.Events.{event_of};
 ghost use Rattle.mesh_text.specs.Schedule.{Does, with_world};
 ghost use Rattle.mesh_text.specs.Auto.{outcome_of_events};
@@ -37,7 +38,7 @@ fn do_left<O: Sink>(at: &mut Channeled, out: &mut O) -> Result<(), Stop<'static>
     requires started { is_some at.old.point.world ≡ true }
     requires some { 1 ≤ length at.old.point.mesh }
     requires copies { HasFewCopies at.old.point }
-    requires few { at.old.point.steps + length at.old.channel.left < 2 ^ 48 }
+    requires few { at.old.point.steps + length at.old.channel.left < most_steps }
     ensures ran { IsEventsRun (says_lines at.old.say) at.old.point
         (outcome_of_events at.old.point at.old.channel.left)
         at.new.point (O.held out.old) (O.held out.new) (counted_of result) }
@@ -65,8 +66,8 @@ pub fn do_given<'a, O: Sink>(
     event: Event<'a>,
     out: &mut O,
 ) -> Result<(), Stop<'a>>
-    requires few { at.old.point.lines < 2 ^ 62 }
-    requires steps { at.old.point.steps + most_events < 2 ^ 48 }
+    requires few { at.old.point.lines < most_lines }
+    requires steps { at.old.point.steps + most_events < most_steps }
     requires tick { at.old.channel.tick ≤ LAST_TICK }
     requires left { length at.old.channel.left ≤ most_left }
     requires copies { HasFewCopies at.old.point }

@@ -1,5 +1,6 @@
 //! The line `pass NUM`.
-ghost use Rattle.std.specs.Prelude.{◌≡◌, ◌≤◌, ◌<◌, ◌+◌, ◌^◌, length, IfOk, IfErr, IfSome, Some, None};
+ghost use Rattle.std.specs.Prelude.{◌≡◌, ◌≤◌, ◌<◌, ◌+◌, length, IfOk, IfErr, IfSome, Some, None};
+ghost use Rattle.mesh_base.specs.Bounds.{slice_end};
 ghost use Rattle.mesh_base.specs.Numbers as numbers;
 ghost use Rattle.mesh_base.specs.Parts.{rest_parts};
 ghost use Rattle.mesh_grammar.specs.Words as words;
@@ -12,7 +13,7 @@ use mesh_script::{is_word, next_at, span_at};
 
 // A word as a number of ticks, from 1 to `MOST_TICKS`.
 fn ticks(at: usize, word: &[u8]) -> Result<u32, LineFault>
-    requires { at + length word.now < 2 ^ 63 }
+    requires { at + length word.now < slice_end }
     ensures value { IfOk result
         (λ n. numbers.positive (numbers.number_up_to MOST_TICKS word.now) ≡ Some n) }
     ensures none { IfErr result
@@ -28,7 +29,7 @@ fn ticks(at: usize, word: &[u8]) -> Result<u32, LineFault>
 // `NUM`, which begins at `at`.
 #[tactic(auto, using(crate::proofs::Passing::two_words))]
 fn passing_at(mesh: &Mesh, at: usize, arguments: Option<&[u8]>) -> Result<Option<u32>, LineFault>
-    requires { IfSome arguments (λ rest. at + length rest.now < 2 ^ 63) }
+    requires { IfSome arguments (λ rest. at + length rest.now < slice_end) }
     ensures { result ≡ lines.passing_at mesh.now at (rest_parts 32 arguments.entry) }
 {
     let Some(rest) = arguments else {
@@ -52,7 +53,7 @@ pub fn passing_of(bytes: &[u8], mesh: &Mesh) -> Result<Option<u32>, LineFault>
     ensures { result ≡ lines.passing_of mesh.now bytes.now }
 {
     let (word, arguments) = cut(bytes, b' ');
-    // A slice has fewer than 2 ^ 63 bytes: no place in it overflows.
+    // A slice has fewer than 2^63 bytes: no place in it overflows.
     let _length = bytes.len();
     if is_word(word, b"pass") {
         passing_at(mesh, next_at(0, word), arguments)

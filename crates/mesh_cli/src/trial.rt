@@ -1,5 +1,6 @@
 //! The run of a made schedule, line by line as each is made.
-ghost use Rattle.std.specs.Prelude.{◌≡◌, ◌≢◌, ◌<◌, ◌≤◌, ◌^◌, length, IsErrOf};
+ghost use Rattle.std.specs.Prelude.{◌≡◌, ◌≢◌, ◌<◌, ◌≤◌, length, IsErrOf};
+ghost use Rattle.mesh_base.specs.Bounds.{most_lines_before_run, most_steps_before_run};
 ghost use Rattle.mesh_base.specs.declared.limits.TheConstants.{LONGEST_INPUT};
 ghost use Rattle.mesh_text.specs.Text.{text_on, text_of_input};
 ghost use Rattle.mesh_make.specs.Making.{IsMaking, HasCome, still_to_come};
@@ -32,8 +33,8 @@ fn do_made<O: Sink>(
     requires making { IsMaking maker.old }
     requires come { HasCome maker.old at.old }
     requires short { length (still_to_come maker.old) ≤ LONGEST_INPUT }
-    requires few { at.old.lines < 2 ^ 61 }
-    requires steps { at.old.steps < 2 ^ 46 }
+    requires few { at.old.lines < most_lines_before_run }
+    requires steps { at.old.steps < most_steps_before_run }
     ensures told { IsOutput (O.held out.old) (O.held out.new)
         (part Last (text_on at.old (still_to_come maker.old))) (status_of result) }
     ensures write { HasFaultCause Fault.WriteFault (O.faults out.old) (O.faults out.new) result }

@@ -1,5 +1,6 @@
 //! The lines that put a node to a place.
-ghost use Rattle.std.specs.Prelude.{◌≡◌, ◌<◌, ◌+◌, ◌^◌, length, IfOk, IfErr, IfSome, Some, None};
+ghost use Rattle.std.specs.Prelude.{◌≡◌, ◌<◌, ◌+◌, length, IfOk, IfErr, IfSome, Some, None};
+ghost use Rattle.mesh_base.specs.Bounds.{slice_end};
 ghost use Rattle.mesh_base.specs.Numbers as numbers;
 ghost use Rattle.mesh_base.specs.Parts.{rest_parts};
 ghost use Rattle.mesh_grammar.specs.Words as words;
@@ -20,7 +21,7 @@ pub struct Placing {
 
 // A word as a coordinate.
 fn coordinate(at: usize, word: &[u8]) -> Result<u32, LineFault>
-    requires { at + length word.now < 2 ^ 63 }
+    requires { at + length word.now < slice_end }
     ensures value { IfOk result (λ n. numbers.number_up_to GREATEST_PLACE word.now ≡ Some n) }
     ensures none { IfErr result (λ f. numbers.number_up_to GREATEST_PLACE word.now ≡ None) }
     ensures fault { IfErr result (λ f. f ≡ LineFault.BadNumber (words.span_at at word.now)) }
@@ -60,7 +61,7 @@ fn placing_at(
     at: usize,
     arguments: Option<&[u8]>,
 ) -> Result<Option<Placing>, LineFault>
-    requires { IfSome arguments (λ rest. at + length rest.now < 2 ^ 63) }
+    requires { IfSome arguments (λ rest. at + length rest.now < slice_end) }
     ensures value { result ≡ lines.placing_at mesh.now first at (rest_parts 32 arguments.entry) }
     ensures within { IfOk result (λ said. IfSome said (λ p. p.node < length mesh.now)) }
 {
@@ -97,7 +98,7 @@ pub fn placing_of(bytes: &[u8], mesh: &Mesh) -> Result<Option<Placing>, LineFaul
     ensures within { IfOk result (λ said. IfSome said (λ p. p.node < length mesh.now)) }
 {
     let (word, arguments) = cut(bytes, b' ');
-    // A slice has fewer than 2 ^ 63 bytes: no place in it overflows.
+    // A slice has fewer than 2^63 bytes: no place in it overflows.
     let _length = bytes.len();
     match word {
         _ if is_word(word, b"place") => placing_at(mesh, true, next_at(0, word), arguments),

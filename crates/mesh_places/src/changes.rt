@@ -1,5 +1,6 @@
 //! The changes of links that follow where a node comes to a place.
-ghost use Rattle.std.specs.Prelude.{◌≡◌, ◌≤◌, ◌<◌, ◌^◌, length, OnOk, IfErr};
+ghost use Rattle.std.specs.Prelude.{◌≡◌, ◌≤◌, ◌<◌, length, OnOk, IfErr};
+ghost use Rattle.mesh_base.specs.Bounds.{most_steps, most_steps_before_line};
 ghost use Rattle.mesh_io.specs.Cause.{HasCause};
 ghost use Rattle.mesh_io.specs.Puts.{Puts};
 ghost use Rattle.mesh_model.specs.Worlds.{range};
@@ -57,7 +58,7 @@ fn put_change<O: Sink>(at: &mut Point<World>, event: Event<'_>, out: &mut O) -> 
 // counter.
 fn step_change(alloc: Global, at: &mut Point<World>, event: &Event<'_>) -> Result<(), NoMemory>
     requires change { IsChange (length at.old.mesh) (event_of event.now) }
-    requires few { at.old.steps < 2 ^ 48 }
+    requires few { at.old.steps < most_steps }
     ensures run_state { OnOk result (at.new ≡ next_state at.old (event_of event.now)) }
 {
     at.begin(alloc)?;
@@ -81,7 +82,7 @@ fn do_change<O: Sink>(
     requires node { new.now.node < length at.old.point.mesh }
     requires other { y < length at.old.point.mesh }
     requires nodes { length at.old.point.mesh ≤ MOST_NODES }
-    requires few { at.old.point.steps < 2 ^ 48 }
+    requires few { at.old.point.steps < most_steps }
     ensures run_state { OnOk result (at.new.point
         ≡ run_state_after at.old.point (change_at at.old.reach at.old.places near.now new.now y)) }
     ensures only { at.new ≡ record at.old { point = at.new.point } }
@@ -103,7 +104,7 @@ fn do_change<O: Sink>(
 fn do_changes<O: Sink>(at: &mut Placed, new: &Placing, out: &mut O) -> Result<(), Stop<'static>>
     requires node { new.now.node < length at.old.point.mesh }
     requires nodes { length at.old.point.mesh ≤ MOST_NODES }
-    requires few { at.old.point.steps < 2 ^ 47 }
+    requires few { at.old.point.steps < most_steps_before_line }
     ensures run_state { OnOk result (at.new.point
         ≡ run_state_after at.old.point (changes at.old.reach (run_state_of at.old) new.now)) }
     ensures only { at.new ≡ record at.old { point = at.new.point } }
@@ -125,7 +126,7 @@ fn do_changes<O: Sink>(at: &mut Placed, new: &Placing, out: &mut O) -> Result<()
 pub fn do_coming<O: Sink>(at: &mut Placed, new: &Placing, out: &mut O) -> Result<(), Stop<'static>>
     requires node { new.now.node < length at.old.point.mesh }
     requires nodes { length at.old.point.mesh ≤ MOST_NODES }
-    requires few { at.old.point.steps < 2 ^ 47 }
+    requires few { at.old.point.steps < most_steps_before_line }
     ensures run_state { OnOk result (at.new.point ≡ run_state_after at.old.point
         (events_of_placing at.old.reach (run_state_of at.old) new.now)) }
     ensures only { at.new ≡ record at.old { point = at.new.point } }

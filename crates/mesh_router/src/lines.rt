@@ -1,5 +1,6 @@
 //! A line of a router's script.
 ghost use Rattle.std.specs.Prelude.{◌≡◌, ◌<◌, ◌+◌, ◌^◌, is_some, true, OnOk, OnErr, Option, List};
+ghost use Rattle.mesh_base.specs.Bounds.{most_lines};
 ghost use Rattle.mesh_link.specs.Datagrams.{Datagram};
 ghost use Rattle.mesh_peers.specs.Seen.{accepted_of, IsAllowed, IsPrintable};
 ghost use Rattle.mesh_router.specs.Routers.{peers_in, router_in, is_running, Running};
@@ -98,7 +99,7 @@ fn do_self<O: Sink>(
 ) -> Result<(), Stop>
     requires allowed { IsAllowed (peers_in at.old.stage) (is_running at.old.stage) line.now }
     requires line { line.now ≡ NodeLine.Own addr first }
-    requires lines { at.old.lines < 2 ^ 62 }
+    requires lines { at.old.lines < most_lines }
     ensures line { (arrived : Option (List Datagram)) (sent : Option (List Datagram)) →
         let l = accepted_of line.now in
         IsLineRun (outcome_of_line at.old l) (refused_words at.old.stage l) at.new arrived arrived
@@ -126,7 +127,7 @@ fn do_peer<O: Sink>(
 ) -> Result<(), Stop>
     requires allowed { IsAllowed (peers_in at.old.stage) (is_running at.old.stage) line.now }
     requires line { line.now ≡ NodeLine.Peer addr port }
-    requires lines { at.old.lines < 2 ^ 62 }
+    requires lines { at.old.lines < most_lines }
     ensures line { (arrived : Option (List Datagram)) (sent : Option (List Datagram)) →
         let l = accepted_of line.now in
         IsLineRun (outcome_of_line at.old l) (refused_words at.old.stage l) at.new arrived arrived
@@ -155,7 +156,7 @@ fn do_step<O: Sink, L: Link>(
     requires command { IsCommand (accepted_of line.now) }
     requires named { is_some (peers_in at.old.stage).me ≡ true }
     requires printable { IsPrintable (peers_in at.old.stage) line.now }
-    requires lines { at.old.lines < 2 ^ 62 }
+    requires lines { at.old.lines < most_lines }
     requires open { is_some (L.port link.old) ≡ true }
     requires few { HasCounts (2 ^ 61) (router_in at.old.stage) }
     ensures line { let l = accepted_of line.now in
@@ -189,7 +190,7 @@ fn do_poll<O: Sink, L: Link>(
     requires line { line.now ≡ NodeLine.Poll count }
     requires named { is_some (peers_in at.old.stage).me ≡ true }
     requires printable { IsPrintable (peers_in at.old.stage) line.now }
-    requires lines { at.old.lines < 2 ^ 62 }
+    requires lines { at.old.lines < most_lines }
     requires open { is_some (L.port link.old) ≡ true }
     requires few { HasCounts (2 ^ 61) (router_in at.old.stage) }
     ensures line { let l = accepted_of line.now in
@@ -221,7 +222,7 @@ pub fn do_line<O: Sink, L: Link>(
     link: &mut L,
 ) -> Result<(), Stop>
     requires allowed { IsAllowed (peers_in at.old.stage) (is_running at.old.stage) line.now }
-    requires lines { at.old.lines < 2 ^ 62 }
+    requires lines { at.old.lines < most_lines }
     requires open { is_some (L.port link.old) ≡ true }
     requires few { HasCounts (2 ^ 61) (router_in at.old.stage) }
     ensures line { let l = accepted_of line.now in

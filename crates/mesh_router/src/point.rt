@@ -1,5 +1,6 @@
 //! Where the run of a router's script stands.
-ghost use Rattle.std.specs.Prelude.{◌≡◌, ◌<◌, ◌≤◌, ◌^◌, is_some, true, false, length, OnOk, OnErr, None};
+ghost use Rattle.std.specs.Prelude.{◌≡◌, ◌<◌, ◌≤◌, is_some, true, false, length, OnOk, OnErr, None};
+ghost use Rattle.mesh_base.specs.Bounds.{most_lines};
 ghost use Rattle.mesh_base.specs.Meshes.{index_of};
 ghost use Rattle.mesh_base.specs.declared.limits.TheConstants.{MOST_NODES};
 ghost use Rattle.mesh_peers.specs.Peers.{with_self, with_peer, at_port};
@@ -79,7 +80,7 @@ impl Point {
 
     /// Counts a line.
     pub(crate) fn count_line(&mut self)
-        requires { self.old.lines < 2 ^ 62 }
+        requires { self.old.lines < most_lines }
         ensures { self.new ≡ counted_at self.old self.old.stage }
     {
         self.lines += 1;

@@ -1,6 +1,7 @@
 //! The run of a router's script.
 ghost use Rattle.std.specs.Prelude.{◌≡◌, ◌≢◌, ◌<◌, ◌≤◌, ◌+◌, ◌^◌, ◌∷◌, [], List, is_some, true, OnOk, IfErr, IfSome, Err};
 ghost use Rattle.std.specs.Io.KnownBytes.{IsAtEnd};
+ghost use Rattle.mesh_base.specs.Bounds.{most_lines_before_run};
 ghost use Rattle.mesh_shell.specs.Pieces.{Piece, Whole};
 ghost use Rattle.mesh_io.specs.Cause.{Rose};
 ghost use Rattle.mesh_io.specs.NextLines.{schedule_limits};
@@ -32,7 +33,7 @@ fn one<O: Sink, L: Link>(
     out: &mut O,
     link: &mut L,
 ) -> Result<(), NodeStatus>
-    requires lines { at.old.lines < 2 ^ 61 }
+    requires lines { at.old.lines < most_lines_before_run }
     requires open { is_some (L.port link.old) ≡ true }
     requires few { HasCounts (2 ^ 61) (router_in at.old.stage) }
     ensures goes { OnOk result (IsLineDone (outcome_of_piece at.old (Whole bytes.now)) at.new

@@ -3,6 +3,7 @@ use Rattle.std.proofs.Common.{◌≡◌, ◌≤◌, ◌+◌, ℕ, false, Option,
 use Rattle.std.specs.Prelude.{IfSome}
 use Rattle.std.specs.Option.{ForSome, unwrap_or, option_map}
 use Rattle.std.proofs.lemmas.List.{length-map}
+use Rattle.mesh_base.specs.Bounds.{most_steps}
 use Rattle.mesh_base.specs.declared.limits.TheConstants.{MOST_NODES}
 use Rattle.mesh_base.specs.Meshes.{Nodes, IsMesh, with_node}
 use Rattle.mesh_base.proofs.Grown.{grown_is_mesh}
@@ -20,7 +21,7 @@ use Rattle.mesh_text.specs.Accounts.{IsBalanced}
 use Rattle.mesh_text.specs.Ranges.{IsNewNode}
 use Rattle.mesh_text.proofs.RunStates.{event_keeps_account}
 use Rattle.mesh_world.proofs.Openings.{sound_opening}
-use Rattle.mesh_world.specs.Seen.{WorldSeen, opening, IsSoundWorld, most_data_at_first, most_steps}
+use Rattle.mesh_world.specs.Seen.{WorldSeen, opening, IsSoundWorld, most_data_at_first}
 use Rattle.mesh_world.specs.declared.totals.Totals.{Totals}
 use Rattle.mesh_world.specs.Steps.{IsDone, IsStep}
 use Rattle.mesh_world.specs.CountsOfEvents.{AreEventCounts, AreEventCountsOf}

@@ -1,6 +1,7 @@
 -- The end of a run at a line that wasn't done.
-use Rattle.std.specs.Prelude.{ℕ, ◌≡◌, ◌+◌, ◌<◌, ◌≤◌, ◌^◌, List, Option, Some, None, Result, Ok, Err, IsErrOf, length, ⊤}
+use Rattle.std.specs.Prelude.{ℕ, ◌≡◌, ◌+◌, ◌<◌, ◌≤◌, List, Option, Some, None, Result, Ok, Err, IsErrOf, length, ⊤}
 use Rattle.std.specs.Io.KnownBytes.{Appends}
+use Rattle.mesh_base.specs.Bounds.{most_lines}
 use Rattle.mesh_grammar.specs.Faults.{bad_line}
 use Rattle.mesh_grammar.specs.declared.fault.BadWhy.{BadWhy}
 use Rattle.mesh_grammar.specs.declared.fault.BadWhy.TheVariants.{Fault, TooLong, TooMuch}
@@ -36,9 +37,9 @@ IsLastWritten text v before now (Err NoMemory) = ⊥
 -- a last line can tell of what stopped the run in this state
 abbrev pub CanBeTold : RunState → Result (Unit {0}) Stop → Type 0
 CanBeTold n (Ok done) = ⊤
-CanBeTold n (Err (stop.BadLine f)) = n.lines < 2 ^ 62
+CanBeTold n (Err (stop.BadLine f)) = n.lines < most_lines
 CanBeTold n (Err (stop.Full e node field)) =
-    (n.lines < 2 ^ 62) × IsEvent (length n.mesh) (event_of e)
+    (n.lines < most_lines) × IsEvent (length n.mesh) (event_of e)
 CanBeTold n (Err stop.WriteFault) = ⊤
 CanBeTold n (Err stop.NoMemory) = ⊤
 

@@ -1,11 +1,12 @@
 -- How far lines can lead, and the room that they need.
 use Rattle.std.specs.Prelude.{ℕ, ◌≤◌, ◌<◌, ◌+◌, ◌*◌, ◌^◌}
+use Rattle.mesh_base.specs.Bounds.{most_lines}
 use Rattle.mesh_base.specs.declared.limits.TheConstants.{MOST_EVENTS}
 use Rattle.mesh_text.specs.Schedule.{RunState}
 
 -- lines of so many bytes, each LF among them, can be done from this state on
 pub record HasRoomFor (m : RunState) (size : ℕ) : Type 0 where
-  pub lines : m.lines + size < 2 ^ 62
+  pub lines : m.lines + size < most_lines
   pub steps : 4 * m.steps + MOST_EVENTS * size < 2 ^ 49
 
 -- they can lead from the one run state to the other

@@ -1,5 +1,6 @@
 //! Events that the run chooses, one after another.
 ghost use Rattle.std.specs.Prelude.{◌≡◌, ◌<◌, ◌≤◌, ◌+◌, ◌^◌, length, is_some, true, false, Some, None, OnOk, OnErr, IfOk, IfSome, option_map};
+ghost use Rattle.mesh_base.specs.Bounds.{most_steps, most_steps_before_line};
 ghost use Rattle.mesh_meaning.specs.Events.{event_of};
 ghost use Rattle.mesh_model.specs.Choices.{pick};
 ghost use Rattle.mesh_text.specs.Schedule.{Chooses, world_of};
@@ -72,7 +73,7 @@ fn may_take_two(say: bool, given: &Option<Event<'_>>, left: u32) -> bool
 #[inline(always)]
 fn take_two<S: Steps>(at: &mut Point<S>, event: &Event<'_>, may: bool) -> bool
     requires started { is_some at.old.world ≡ true }
-    requires few { may ≡ true → at.old.steps + 1 < 2 ^ 48 }
+    requires few { may ≡ true → at.old.steps + 1 < most_steps }
     requires chosen { may ≡ true → pick (world_of at.old) ≡ Some (event_of event.now) }
     ensures done { result ≡ true → (may ≡ true) × AreTwoDone at.old (event_of event.now) at.new }
     ensures same { result ≡ false → at.new ≡ at.old }
@@ -100,7 +101,7 @@ pub fn do_events<'a, S: Steps, O: Sink>(
     requires started { is_some task.old.at.now.world ≡ true }
     requires count { task.old.count < 2 ^ 32 }
     requires one { IfSome (option_map event_of task.old.given) (λ _. task.old.count ≤ 1) }
-    requires few { task.old.at.now.steps + task.old.count < 2 ^ 48 }
+    requires few { task.old.at.now.steps + task.old.count < most_steps }
     requires printable { IfSome task.old.given (λ e.
         IsPrintable task.old.at.now.mesh (Line.Step e)) }
     requires echo { say ≡ true → IfSome task.old.bytes (λ b.
@@ -165,7 +166,7 @@ pub fn do_auto<S: Steps, O: Sink>(
     out: &mut O,
 ) -> Result<(), Stop<'static>>
     requires started { is_some at.old.world ≡ true }
-    requires steps { at.old.steps < 2 ^ 47 }
+    requires steps { at.old.steps < most_steps_before_line }
     requires printable { IsPrintable at.old.mesh (Line.Auto count) }
     requires echo { say ≡ true → IsLineOf at.old.mesh (Chooses count) bytes.now }
     ensures comes { IsUncountedRun say at.old (outcome_of_line at.old (Chooses count))

@@ -1,5 +1,6 @@
 //! What each command does.
-ghost use Rattle.std.specs.Prelude.{◌≡◌, ◌≢◌, ◌<◌, ◌≤◌, ◌^◌, ◌∷◌, [], length, is_some, true, OnOk, OnErr, IfSome};
+ghost use Rattle.std.specs.Prelude.{◌≡◌, ◌≢◌, ◌<◌, ◌≤◌, ◌∷◌, [], length, is_some, true, OnOk, OnErr, IfSome};
+ghost use Rattle.mesh_base.specs.Bounds.{most_lines, most_steps, most_steps_before_line};
 ghost use Rattle.mesh_base.specs.declared.events.Event.{Event};
 ghost use Rattle.mesh_model.specs.Worlds.{World};
 ghost use Rattle.mesh_meaning.specs.Answers.{outcome_in, IsDoneInMesh};
@@ -66,7 +67,7 @@ pub fn do_event<S: Steps, O: Sink>(
     out: &mut O,
 ) -> Result<(), EventStop>
     requires started { is_some at.old.world ≡ true }
-    requires few { at.old.steps < 2 ^ 48 }
+    requires few { at.old.steps < most_steps }
     requires printable { IsPrintable at.old.mesh (Line.Step event.now) }
     requires echo { say ≡ true
         → IfSome bytes (λ b. IsLineOf at.old.mesh (Does (event_of event.now)) b.now) }
@@ -153,7 +154,7 @@ fn do_rest<'a, S: Steps, O: Sink>(
     say: bool,
     out: &mut O,
 ) -> Result<(), Stop<'a>>
-    requires steps { at.old.steps < 2 ^ 47 }
+    requires steps { at.old.steps < most_steps_before_line }
     requires allowed { IsAllowed at.old.mesh (is_some at.old.world) line }
     requires no_event { (e : Event) → line ≢ Line.Step e }
     requires short { length bytes.now ≤ LONGEST_LINE }
@@ -188,7 +189,7 @@ fn do_uncounted<'a, S: Steps, O: Sink>(
     say: bool,
     out: &mut O,
 ) -> Result<(), Stop<'a>>
-    requires steps { at.old.steps < 2 ^ 47 }
+    requires steps { at.old.steps < most_steps_before_line }
     requires allowed { IsAllowed at.old.mesh (is_some at.old.world) line }
     requires short { length bytes.now ≤ LONGEST_LINE }
     requires echo { say ≡ true → IsEcho at.old.mesh bytes.now (accepted_of line) }
@@ -235,8 +236,8 @@ pub fn do_line<'a, S: Steps, O: Sink>(
     say: bool,
     out: &mut O,
 ) -> Result<(), Stop<'a>>
-    requires few { at.old.lines < 2 ^ 62 }
-    requires steps { at.old.steps < 2 ^ 47 }
+    requires few { at.old.lines < most_lines }
+    requires steps { at.old.steps < most_steps_before_line }
     requires allowed { IsAllowed at.old.mesh (is_some at.old.world) line }
     requires short { length bytes.now ≤ LONGEST_LINE }
     requires echo { say ≡ true → IsEcho at.old.mesh bytes.now (accepted_of line) }

@@ -1,6 +1,7 @@
 //! A run from its source to its sink.
 ghost use Rattle.std.specs.Prelude.{◌≡◌, ◌≢◌, ◌≤◌, ◌<◌, ◌+◌, ◌*◌, ◌^◌, ◌↔◌, true, is_some, IfSome};
 ghost use Rattle.std.specs.Io.KnownBytes.{IsAtEnd};
+ghost use Rattle.mesh_base.specs.Bounds.{most_lines_before_run, most_steps_before_run};
 ghost use Rattle.mesh_base.specs.declared.limits.TheConstants.{LONGEST_INPUT, MOST_EVENTS};
 ghost use Rattle.mesh_text.specs.Schedule.{opening};
 ghost use Rattle.mesh_text.specs.Text.{text_on};
@@ -29,8 +30,8 @@ pub fn do_input<S: Steps, I: Source, O: Sink>(
     input: &mut I,
     out: &mut O,
 ) -> Status
-    requires few { running.old.at.lines < 2 ^ 61 }
-    requires steps { running.old.at.steps < 2 ^ 46 }
+    requires few { running.old.at.lines < most_lines_before_run }
+    requires steps { running.old.at.steps < most_steps_before_run }
     ensures told { IfSome (I.left input.old) (λ bytes.
         IsOutputFrom running.old.say running.old.at bytes
         (I.left input.new) (O.held out.old) (O.held out.new) result) }
@@ -68,8 +69,8 @@ pub fn drive<S: Steps, I: Source, O: Sink>(
     input: &mut I,
     out: &mut O,
 ) -> (Status, Option<Point<S>>)
-    requires lines { start.lines < 2 ^ 61 }
-    requires steps { start.steps < 2 ^ 46 }
+    requires lines { start.lines < most_lines_before_run }
+    requires steps { start.steps < most_steps_before_run }
 
     // What is written is what is said of the run of the input's lines, and the answer its verdict.
     // After a failed write, or want of memory, it is a prefix of that; after a failed read it is

@@ -1,5 +1,6 @@
 //! The ends of a run, each with its last line.
-ghost use Rattle.std.specs.Prelude.{◌≡◌, ◌<◌, ◌+◌, ◌^◌, length, IfOk, IsErrOf};
+ghost use Rattle.std.specs.Prelude.{◌≡◌, ◌<◌, ◌+◌, length, IfOk, IsErrOf};
+ghost use Rattle.mesh_base.specs.Bounds.{most_lines};
 ghost use Rattle.mesh_model.specs.Places.{IsEvent};
 ghost use Rattle.mesh_grammar.specs.Faults.{bad_line};
 ghost use Rattle.mesh_meaning.specs.Events.{event_of};
@@ -39,7 +40,7 @@ pub fn refuse<S: Steps, O: Sink>(
     why: BadWhy,
     out: &mut O,
 ) -> Result<Verdict, PutFault>
-    requires { at.old.lines < 2 ^ 62 }
+    requires { at.old.lines < most_lines }
     ensures text { Puts (O.held out.old) (O.held out.new)
         (bad_line (at.old.lines + 1) why) result }
     ensures verdict { IfOk result (λ v. v ≡ Verdict.RefusedAt (at.old.lines + 1)) }
@@ -60,7 +61,7 @@ fn fill<S: Steps, O: Sink>(
     field: Counter,
     out: &mut O,
 ) -> Result<Verdict, PutFault>
-    requires lines { at.old.lines < 2 ^ 62 }
+    requires lines { at.old.lines < most_lines }
     requires event { IsEvent (length at.old.mesh) (event_of event) }
     ensures text { Puts (O.held out.old) (O.held out.new)
         (full_line at.old.mesh (at.old.lines + 1) (event_of event.entry) field) result }

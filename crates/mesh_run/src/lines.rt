@@ -1,5 +1,6 @@
 //! One line of a schedule.
-ghost use Rattle.std.specs.Prelude.{◌≡◌, ◌<◌, ◌≤◌, ◌+◌, ◌*◌, ◌^◌, length, OnOk, OnErr};
+ghost use Rattle.std.specs.Prelude.{◌≡◌, ◌<◌, ◌≤◌, ◌+◌, ◌*◌, length, OnOk, OnErr};
+ghost use Rattle.mesh_base.specs.Bounds.{most_lines, most_steps_before_line};
 ghost use Rattle.mesh_shell.specs.Pieces.{Whole};
 ghost use Rattle.mesh_text.specs.Text.{outcome_of_piece};
 ghost use Rattle.mesh_text.specs.Runs.{events_of_piece};
@@ -31,8 +32,8 @@ pub fn one<'a, S: Steps, O: Sink>(
     say: bool,
     out: &mut O,
 ) -> Result<(), Stop<'a>>
-    requires few { at.old.lines < 2 ^ 62 }
-    requires steps { at.old.steps < 2 ^ 47 }
+    requires few { at.old.lines < most_lines }
+    requires steps { at.old.steps < most_steps_before_line }
     requires short { length bytes.now ≤ LONGEST_LINE }
     ensures comes { IsLineRun say at.old (outcome_of_piece at.old (Whole bytes.now))
         at.new (O.held out.old) (O.held out.new) result }

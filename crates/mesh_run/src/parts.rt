@@ -1,9 +1,10 @@
 //! A state that is put together from its parts.
 ghost use Rattle.std.specs.Prelude.{◌≡◌, ◌≤◌, ◌+◌, ◌↔◌, option_map, IfSome, IsSome};
 ghost use Rattle.std.specs.Option.{ForSome};
+ghost use Rattle.mesh_base.specs.Bounds.{most_steps};
 ghost use Rattle.mesh_text.specs.Schedule.{RunState, world_of};
 ghost use Rattle.mesh_text.specs.Accounts.{IsBalanced};
-ghost use Rattle.mesh_world.specs.Seen.{IsSoundWorld, most_data_at_first, most_steps};
+ghost use Rattle.mesh_world.specs.Seen.{IsSoundWorld, most_data_at_first};
 ghost use Rattle.mesh_report.specs.Sums.{sums_of};
 ghost use Rattle.mesh_run.specs.Sums.{AreCounts};
 ghost use Rattle.mesh_run.specs.RunStates.{run_state_seen, AreTotals, IsWorldOf};

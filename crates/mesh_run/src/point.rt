@@ -1,5 +1,6 @@
 //! A state of a run that can be held, looked at and gone on with.
-ghost use Rattle.std.specs.Prelude.{◌≡◌, ◌<◌, ◌≤◌, ◌^◌, length, is_some, IfOk, OnOk, OnErr, IfErr, IfSome, IsOk, true};
+ghost use Rattle.std.specs.Prelude.{◌≡◌, ◌<◌, ◌≤◌, length, is_some, IfOk, OnOk, OnErr, IfErr, IfSome, IsOk, true};
+ghost use Rattle.mesh_base.specs.Bounds.{most_lines, most_steps};
 ghost use Rattle.mesh_base.specs.declared.events.Variant.TheVariants.{Base};
 ghost use Rattle.mesh_base.specs.Meshes.{IsMesh};
 ghost use Rattle.mesh_model.specs.Places.{IsEvent};
@@ -93,7 +94,7 @@ impl<S: Steps> Point<S> {
 
     /// Counts a line that was done by other calls than `one`.
     pub fn count_line(&mut self)
-        requires { self.old.lines < 2 ^ 62 }
+        requires { self.old.lines < most_lines }
         ensures { self.new ≡ model.with_line_read self.old }
     {
         self.state.count_line();
@@ -136,7 +137,7 @@ impl<S: Steps> Point<S> {
     ) -> Result<Done, StepError>
         requires some { 1 ≤ length self.old.mesh }
         requires event { IsEvent (length self.old.mesh) (event_of e.now) }
-        requires few { self.old.steps < 2 ^ 48 }
+        requires few { self.old.steps < most_steps }
         ensures done { IfOk result (λ done.
             IsAnswer self.old (event_of e.now) done self.new out.new.items) }
         ensures refused { IfErr result (IsRefusal self.old (event_of e.now)) }

@@ -1,6 +1,7 @@
 //! The state of a run between two events: its variant of the protocol and its mesh, its world, what
 //! was counted, how many lines were read, and how many events the world has gone through.
-ghost use Rattle.std.specs.Prelude.{◌≡◌, ◌<◌, ◌≤◌, ◌+◌, ◌^◌, length, is_some, option_map, true, false, Some, None, IfOk, OnOk, OnErr, IfErr, IfSome, IsOk};
+ghost use Rattle.std.specs.Prelude.{◌≡◌, ◌<◌, ◌≤◌, ◌+◌, length, is_some, option_map, true, false, Some, None, IfOk, OnOk, OnErr, IfErr, IfSome, IsOk};
+ghost use Rattle.mesh_base.specs.Bounds.{most_lines, most_steps};
 ghost use Rattle.mesh_base.specs.declared.limits.TheConstants.{MOST_NODES};
 ghost use Rattle.mesh_base.specs.Meshes.{IsMesh, with_node};
 ghost use Rattle.mesh_model.specs.Worlds.{Deliver};
@@ -173,7 +174,7 @@ impl<S: Steps> State<S> {
 
     /// Counts a line.
     pub fn count_line(&mut self)
-        requires { self.old.lines < 2 ^ 62 }
+        requires { self.old.lines < most_lines }
         ensures { self.new ≡ model.with_line_read self.old }
     {
         self.lines += 1;
@@ -200,7 +201,7 @@ impl<S: Steps> State<S> {
     ) -> Result<Done, StepError>
         requires made { is_some self.old.world ≡ true }
         requires event { IsEvent (length self.old.mesh) (event_of e.now) }
-        requires few { self.old.steps < 2 ^ 48 }
+        requires few { self.old.steps < most_steps }
         ensures done { IfOk result (λ done.
             IsAnswer self.old (event_of e.now) done self.new out.new.items) }
         ensures refused { IfErr result (IsRefusal self.old (event_of e.now)) }
@@ -230,7 +231,7 @@ impl<S: Steps> State<S> {
     ) -> Result<(), StepError>
         requires made { is_some self.old.world ≡ true }
         requires event { IsEvent (length self.old.mesh) (event_of e.now) }
-        requires few { self.old.steps < 2 ^ 48 }
+        requires few { self.old.steps < most_steps }
         ensures done { OnOk result (IsAnswered self.old (event_of e.now) self.new) }
         ensures told { wanted ≡ true → OnOk result
             (IsAnswer self.old (event_of e.now) answer.new self.new out.new.items) }
@@ -256,7 +257,7 @@ impl<S: Steps> State<S> {
     #[inline(always)]
     pub fn take_copy(&mut self, id: u64, out: &mut Packet) -> bool
         requires made { is_some self.old.world ≡ true }
-        requires few { self.old.steps + 1 < 2 ^ 48 }
+        requires few { self.old.steps + 1 < most_steps }
         requires chosen { pick (model.world_of self.old) ≡ Some (Deliver id) }
         ensures taken { result ≡ true → IsTakenAtOnce self.old id self.new }
         ensures same { result ≡ false → self.new ≡ self.old }

@@ -1,5 +1,6 @@
 //! Lines that are given as values.
-ghost use Rattle.std.specs.Prelude.{◌≡◌, ◌<◌, ◌≤◌, ◌+◌, ◌^◌, is_some, false, IsErrOf};
+ghost use Rattle.std.specs.Prelude.{◌≡◌, ◌<◌, ◌≤◌, ◌+◌, is_some, false, IsErrOf};
+ghost use Rattle.mesh_base.specs.Bounds.{most_lines, most_steps_before_line};
 ghost use Rattle.mesh_base.specs.declared.limits.TheConstants.{MOST_EVENTS};
 ghost use Rattle.mesh_text.specs.Text.{outcome_in_run, outcome_of_line};
 ghost use Rattle.mesh_script.specs.Seen.{accepted_of, IsAllowed};
@@ -26,8 +27,8 @@ pub fn do_value<S: Steps, O: Sink>(
     line: Line<'_>,
     out: &mut O,
 ) -> Result<Option<Verdict>, Fault>
-    requires few { at.old.lines + 1 < 2 ^ 62 }
-    requires steps { at.old.steps < 2 ^ 47 }
+    requires few { at.old.lines + 1 < most_lines }
+    requires steps { at.old.steps < most_steps_before_line }
     requires allowed { IsAllowed at.old.mesh (is_some at.old.world) line }
     ensures comes { IsLineRun
         (said false (outcome_in_run at.old (outcome_of_line at.old (accepted_of line.entry))))

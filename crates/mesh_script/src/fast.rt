@@ -1,6 +1,7 @@
 //! Turns and deliveries: most lines of a long schedule are one of these, and they are read without
 //! looking for words.
-ghost use Rattle.std.specs.Prelude.{◌≡◌, ◌+◌, ◌<◌, ◌^◌, ◌∷◌, Bool, length, IfSome, Ok};
+ghost use Rattle.std.specs.Prelude.{◌≡◌, ◌+◌, ◌<◌, ◌∷◌, Bool, length, IfSome, Ok};
+ghost use Rattle.mesh_base.specs.Bounds.{slice_end};
 ghost use Rattle.mesh_text.specs.Schedule.{line_of};
 ghost use Rattle.mesh_script.specs.Seen.{accepted_of};
 
@@ -23,7 +24,7 @@ fn turn<'a>(word: &[u8], mesh: &Mesh) -> Option<Line<'a>>
 // The delivery of the copy that this is the id of, where there is a node.
 #[tactic(auto, using(crate::proofs::FastLines::delivery_line))]
 fn delivery<'a>(word: &[u8], mesh: &Mesh) -> Option<Line<'a>>
-    requires { 8 + length word.now < 2 ^ 63 }
+    requires { 8 + length word.now < slice_end }
     ensures { IfSome result (λ l. (started : Bool) → line_of mesh.now started
         (100 ∷ 101 ∷ 108 ∷ 105 ∷ 118 ∷ 101 ∷ 114 ∷ 32 ∷ word.now) ≡ Ok (accepted_of l)) }
 {
@@ -65,7 +66,7 @@ pub fn fast_line<'a>(bytes: &'a [u8], mesh: &Mesh) -> Option<Line<'a>>
     ensures { IfSome result
         (λ l. (started : Bool) → line_of mesh.now started bytes.now ≡ Ok (accepted_of l)) }
 {
-    // A slice has fewer than 2 ^ 63 bytes: no place in it overflows.
+    // A slice has fewer than 2^63 bytes: no place in it overflows.
     let _length = bytes.len();
     if let Some(word) = after_turn(bytes) {
         return turn(word, mesh);

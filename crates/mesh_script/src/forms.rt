@@ -1,5 +1,6 @@
 //! The arguments of a command, by their form.
-ghost use Rattle.std.specs.Prelude.{◌≡◌, ◌<◌, ◌+◌, ◌^◌, ◌∷◌, length, IfSome};
+ghost use Rattle.std.specs.Prelude.{◌≡◌, ◌<◌, ◌+◌, ◌∷◌, length, IfSome};
+ghost use Rattle.mesh_base.specs.Bounds.{slice_end};
 ghost use Rattle.mesh_base.specs.Parts.{parts, rest_parts};
 ghost use Rattle.mesh_grammar.specs.Forms as forms;
 ghost use Rattle.mesh_script.specs.Arguments.{all_spanned_in};
@@ -47,7 +48,7 @@ fn no_argument(arguments: Option<&[u8]>) -> Read<'static>
 // it is no address.
 #[tactic(auto, using(crate::proofs::Cuts::one_address_more))]
 fn one_address(at: usize, arguments: Option<&[u8]>) -> Read<'static>
-    requires { IfSome arguments (λ words. at + length words.now < 2 ^ 63) }
+    requires { IfSome arguments (λ words. at + length words.now < slice_end) }
     ensures { all_spanned_in result
         ≡ forms.one_address at (rest_parts 32 arguments.entry) forms.OneAddress }
 {
@@ -67,7 +68,7 @@ fn one_address(at: usize, arguments: Option<&[u8]>) -> Read<'static>
 
 #[tactic(auto, using(crate::proofs::Cuts::two_addresses_more))]
 fn two_addresses(at: usize, arguments: Option<&[u8]>) -> Read<'static>
-    requires { IfSome arguments (λ words. at + length words.now < 2 ^ 63) }
+    requires { IfSome arguments (λ words. at + length words.now < slice_end) }
     ensures { all_spanned_in result
         ≡ forms.two_addresses at (rest_parts 32 arguments.entry) forms.TwoAddresses }
 {
@@ -91,7 +92,7 @@ fn two_addresses(at: usize, arguments: Option<&[u8]>) -> Read<'static>
 // As with an only address, an only number is looked through for another word where it is none.
 #[tactic(auto, using(crate::proofs::Cuts::one_number_more))]
 fn one_number(most: u64, at: usize, arguments: Option<&[u8]>) -> Read<'static>
-    requires { IfSome arguments (λ words. at + length words.now < 2 ^ 63) }
+    requires { IfSome arguments (λ words. at + length words.now < slice_end) }
     ensures { all_spanned_in result
         ≡ forms.one_number most at (rest_parts 32 arguments.entry) forms.OneNumber }
 {
@@ -112,7 +113,7 @@ fn one_number(most: u64, at: usize, arguments: Option<&[u8]>) -> Read<'static>
 // `ADDR sn NUM`: what follows ADDR begins the second and third word.
 #[tactic(auto, using(crate::proofs::Cuts::numbered_address_more), unfolding(mesh_grammar::specs::Forms::numbered_address))]
 fn address_sn(at: usize, word: &[u8], others: &[u8]) -> Read<'static>
-    requires { at + length word.now + 1 + length others.now < 2 ^ 63 }
+    requires { at + length word.now + 1 + length others.now < slice_end }
     ensures { all_spanned_in result
         ≡ forms.numbered_address at (word.now ∷ parts 32 others.now) forms.NumberedAddress }
 {
@@ -136,7 +137,7 @@ fn address_sn(at: usize, word: &[u8], others: &[u8]) -> Read<'static>
 
 #[tactic(auto, unfolding(mesh_grammar::specs::Forms::numbered_address))]
 fn numbered_address(at: usize, arguments: Option<&[u8]>) -> Read<'static>
-    requires { IfSome arguments (λ words. at + length words.now < 2 ^ 63) }
+    requires { IfSome arguments (λ words. at + length words.now < slice_end) }
     ensures { all_spanned_in result
         ≡ forms.numbered_address at (rest_parts 32 arguments.entry) forms.NumberedAddress }
 {
@@ -154,7 +155,7 @@ fn numbered_address(at: usize, arguments: Option<&[u8]>) -> Read<'static>
 // The text is all that follows the second address.
 #[tactic(auto, using(crate::proofs::Cuts::addresses_and_text_of), unfolding(mesh_grammar::specs::Forms::addresses_and_text))]
 fn addresses_and_text(at: usize, arguments: Option<&[u8]>) -> Read<'_>
-    requires { IfSome arguments (λ words. at + length words.now < 2 ^ 63) }
+    requires { IfSome arguments (λ words. at + length words.now < slice_end) }
     ensures { all_spanned_in result
         ≡ forms.addresses_and_text at (rest_parts 32 arguments.entry) forms.AddressesAndText }
 {
@@ -179,7 +180,7 @@ fn addresses_and_text(at: usize, arguments: Option<&[u8]>) -> Read<'_>
 
 #[tactic(auto, using(crate::proofs::Cuts::address_and_number_more))]
 fn address_and_number(most: u64, at: usize, arguments: Option<&[u8]>) -> Read<'static>
-    requires { IfSome arguments (λ words. at + length words.now < 2 ^ 63) }
+    requires { IfSome arguments (λ words. at + length words.now < slice_end) }
     ensures { all_spanned_in result
         ≡ forms.address_and_number most at (rest_parts 32 arguments.entry) forms.AddressAndNumber }
 {
@@ -202,7 +203,7 @@ fn address_and_number(most: u64, at: usize, arguments: Option<&[u8]>) -> Read<'s
 // The text is all that follows the address.
 #[tactic(auto, using(crate::proofs::Cuts::address_and_text_of), unfolding(mesh_grammar::specs::Forms::address_and_text))]
 fn address_and_text(at: usize, arguments: Option<&[u8]>) -> Read<'_>
-    requires { IfSome arguments (λ words. at + length words.now < 2 ^ 63) }
+    requires { IfSome arguments (λ words. at + length words.now < slice_end) }
     ensures { all_spanned_in result
         ≡ forms.address_and_text at (rest_parts 32 arguments.entry) forms.AddressAndText }
 {
@@ -221,7 +222,7 @@ fn address_and_text(at: usize, arguments: Option<&[u8]>) -> Read<'_>
 /// The arguments of a form, the first of which begins at `at`: the bytes after the command and its
 /// space, or none.
 pub fn arguments_of(form: Form, at: usize, arguments: Option<&[u8]>) -> Read<'_>
-    requires { IfSome arguments (λ words. at + length words.now < 2 ^ 63) }
+    requires { IfSome arguments (λ words. at + length words.now < slice_end) }
     ensures { all_spanned_in result ≡ forms.arguments_of form at (rest_parts 32 arguments.entry) }
 {
     match form {

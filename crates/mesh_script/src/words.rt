@@ -1,6 +1,7 @@
 //! The words of a line, and what each may be.
-ghost use Rattle.std.specs.Prelude.{◌≡◌, ◌<◌, ◌≤◌, ◌+◌, ◌^◌, length, IfOk, IfErr, Some, None};
+ghost use Rattle.std.specs.Prelude.{◌≡◌, ◌<◌, ◌≤◌, ◌+◌, length, IfOk, IfErr, Some, None};
 ghost use Rattle.std.specs.Str.{bytes_eq};
+ghost use Rattle.mesh_base.specs.Bounds.{slice_end};
 ghost use Rattle.mesh_base.specs.Addresses.{address_of};
 ghost use Rattle.mesh_base.specs.Numbers as numbers;
 ghost use Rattle.mesh_grammar.specs.Words as words;
@@ -61,7 +62,7 @@ fn is_text(bytes: &[u8]) -> bool
 
 /// The bytes of a word that begins at `at`.
 pub fn span_at(at: usize, word: &[u8]) -> Span
-    requires { at + length word.now < 2 ^ 63 }
+    requires { at + length word.now < slice_end }
     ensures { result ≡ words.span_at at word.now }
 {
     Span {
@@ -72,7 +73,7 @@ pub fn span_at(at: usize, word: &[u8]) -> Span
 
 /// Where the word after this one begins.
 pub fn next_at(at: usize, word: &[u8]) -> usize
-    requires { at + length word.now < 2 ^ 63 }
+    requires { at + length word.now < slice_end }
     ensures { result ≡ words.next_at at word.now }
 {
     at + word.len() + 1
@@ -81,7 +82,7 @@ pub fn next_at(at: usize, word: &[u8]) -> usize
 /// A word as an address.
 #[inline(always)]
 pub fn address(at: usize, word: &[u8]) -> Result<SpannedAddr, LineFault>
-    requires { at + length word.now < 2 ^ 63 }
+    requires { at + length word.now < slice_end }
     ensures value { IfOk result (λ a. address_of word.now ≡ Some (spanned_of a).address) }
     ensures span { IfOk result (λ a. (spanned_of a).span ≡ words.span_at at word.now) }
     ensures none { IfErr result (λ f. address_of word.now ≡ None) }
@@ -97,7 +98,7 @@ pub fn address(at: usize, word: &[u8]) -> Result<SpannedAddr, LineFault>
 /// A word as a number from 1 to `most`.
 #[inline(always)]
 pub fn number(most: u64, at: usize, word: &[u8]) -> Result<u64, LineFault>
-    requires { at + length word.now < 2 ^ 63 }
+    requires { at + length word.now < slice_end }
     ensures value { IfOk result
         (λ n. numbers.positive (numbers.number_up_to most word.now) ≡ Some n) }
     ensures within { IfOk result (λ n. n ≤ most) }
@@ -113,7 +114,7 @@ pub fn number(most: u64, at: usize, word: &[u8]) -> Result<u64, LineFault>
 
 /// What stands from here to the line's end, as a datum's text.
 pub fn text(at: usize, bytes: &[u8]) -> Result<&[u8], LineFault>
-    requires { at + length bytes.now < 2 ^ 63 }
+    requires { at + length bytes.now < slice_end }
     ensures value { IfOk result (λ text. words.text_of bytes.now ≡ Some text.now) }
     ensures none { IfErr result (λ f. words.text_of bytes.now ≡ None) }
     ensures fault { IfErr result (λ f. f ≡ LineFault.BadText (words.span_at at bytes.now)) }

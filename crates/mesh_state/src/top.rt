@@ -1,6 +1,7 @@
 //! The top call.
-ghost use Rattle.std.specs.Prelude.{◌≡◌, ◌≢◌, ◌<◌, ◌^◌, ◌↔◌, ◌⊎◌, map, Some, None, IfSome};
+ghost use Rattle.std.specs.Prelude.{◌≡◌, ◌≢◌, ◌<◌, ◌↔◌, ◌⊎◌, map, Some, None, IfSome};
 ghost use Rattle.std.specs.Io.KnownBytes.{IsAtEnd};
+ghost use Rattle.mesh_base.specs.Bounds.{most_lines_before_run, most_steps_before_run};
 ghost use Rattle.mesh_base.specs.declared.events.Variant.TheVariants.{Base};
 ghost use Rattle.mesh_text.specs.Schedule.{opening};
 ghost use Rattle.mesh_run.specs.declared.say.Say.TheVariants.{Faults};
@@ -107,8 +108,8 @@ fn come_to(at: &mut Point<World>, state: State<World>)
 // takes a third of a point's room, doesn't pay for its frame.
 #[inline(never)]
 fn go_on<I: Source, O: Sink>(alloc: Global, at: State<World>, input: &mut I, out: &mut O) -> Status
-    requires lines { at.lines < 2 ^ 61 }
-    requires steps { at.steps < 2 ^ 46 }
+    requires lines { at.lines < most_lines_before_run }
+    requires steps { at.steps < most_steps_before_run }
     ensures told { IfSome (I.left input.old) (λ bytes. IsOutputFrom All at bytes
         (I.left input.new) (O.held out.old) (O.held out.new) result) }
     ensures end { result ≡ Status.Done → IsAtEnd (I.left input.new) }

@@ -1,5 +1,6 @@
 //! The trail.
-ghost use Rattle.std.specs.Prelude.{◌≡◌, ◌≤◌, ◌<◌, ◌+◌, ◌^◌, ◌↔◌, None, length, IsNone, IfSome};
+ghost use Rattle.std.specs.Prelude.{◌≡◌, ◌≤◌, ◌<◌, ◌+◌, ◌↔◌, None, length, IsNone, IfSome};
+ghost use Rattle.mesh_base.specs.Bounds.{most_steps};
 ghost use Rattle.mesh_model.specs.Places.{IsEvent};
 ghost use Rattle.mesh_model.specs.Routes.{next_hop};
 ghost use Rattle.mesh_meaning.specs.Events.{event_of};
@@ -90,7 +91,7 @@ impl Steps for Trail {
     #[inline(always)]
     fn step(&mut self, alloc: Global, e: &Event<'_>, out: &mut Packet) -> Result<Done, StepError>
         requires event { IsEvent (length self.old.mesh) (event_of e.now) }
-        requires few { self.old.steps < 2 ^ 48 }
+        requires few { self.old.steps < most_steps }
         ensures step { IsStep (event_of e.now) self.old result self.new out.new.items }
         ensures account { KeepsAccount (event_of e.now) self.old result self.new }
         ensures sound { IsSoundWorld self.new }

@@ -3,6 +3,7 @@ use Rattle.std.specs.Prelude.{◌≡◌, ◌≢◌, ◌≤◌, ◌+◌, ◌^◌,
 use Rattle.std.specs.FinMap as maps
 use Rattle.std.specs.Coded.{Coded, code_by, coded×, coded_ℕ, coded_list}
 use Rattle.mesh_base.specs.Meshes.{Nodes, IsMesh}
+use Rattle.mesh_base.specs.Bounds.{most_steps}
 use Rattle.mesh_base.specs.declared.events.Variant.{Variant}
 use Rattle.aodv_meaning.specs.Effects.{item_in}
 use Rattle.aodv_node.specs.Seen.{NodeSeen}
@@ -37,12 +38,9 @@ IsBetterAlongEdges w =
     → e.flag ≡ Val
     → is_better e edge.entry ≡ true
 
--- the most data that a world may begin with, and the most steps that it takes
+-- the most data that a world may begin with
 abbrev pub most_data_at_first : ℕ
 most_data_at_first = 2 ^ 60
-
-abbrev pub most_steps : ℕ
-most_steps = 2 ^ 48
 
 -- the data of a world, wherever they are
 abbrev pub data_of : World → ℕ

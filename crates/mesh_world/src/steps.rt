@@ -1,5 +1,6 @@
 //! What steps a world.
-ghost use Rattle.std.specs.Prelude.{◌≡◌, ◌≤◌, ◌<◌, ◌+◌, ◌^◌, length, true, None, IfOk, IfSome};
+ghost use Rattle.std.specs.Prelude.{◌≡◌, ◌≤◌, ◌<◌, ◌+◌, length, true, None, IfOk, IfSome};
+ghost use Rattle.mesh_base.specs.Bounds.{most_steps};
 ghost use Rattle.mesh_base.specs.declared.events.Variant.TheVariants.{Base};
 ghost use Rattle.mesh_model.specs.Choices.{first_turn};
 ghost use Rattle.mesh_model.specs.Places.{IsEvent};
@@ -63,7 +64,7 @@ pub trait Steps: Drop {
     /// asks for.
     fn step(&mut self, alloc: Global, e: &Event<'_>, out: &mut Packet) -> Result<Done, StepError>
         requires event { IsEvent (length (seen self.old).mesh) (event_of e.now) }
-        requires few { (seen self.old).steps < 2 ^ 48 }
+        requires few { (seen self.old).steps < most_steps }
         ensures step { let event = event_of e.now in
             IsStep event (seen self.old) result (seen self.new) out.new.items }
         ensures account { KeepsAccount (event_of e.now) (seen self.old) result (seen self.new) }
@@ -80,7 +81,7 @@ pub trait Steps: Drop {
         answer: &mut Done,
     ) -> Result<EventCounts, StepError>
         requires event { IsEvent (length (seen self.old).mesh) (event_of e.now) }
-        requires few { (seen self.old).steps < 2 ^ 48 }
+        requires few { (seen self.old).steps < most_steps }
         ensures counted { IsStepCounted (event_of e.now) (seen self.old) result (seen self.new) }
         ensures told { let event = event_of e.now in wanted ≡ true → IsStep event
             (seen self.old) (answer_with result answer.new) (seen self.new) out.new.items }
@@ -96,7 +97,7 @@ pub trait Steps: Drop {
     /// where this isn't done, whatever the cause is: the world is as it was, and the events are
     /// left to `step`, which says why one is refused. Afterwards `out` may hold any packet.
     fn take_copy(&mut self, id: u64, out: &mut Packet) -> Option<(usize, EventCounts)>
-        requires few { (seen self.old).steps + 1 < 2 ^ 48 }
+        requires few { (seen self.old).steps + 1 < most_steps }
         requires idle { first_turn (seen self.old).world ≡ None }
         ensures taken { IfSome result (λ p.
             IsTakenAtOnce id (seen self.old) p.0 p.1 (seen self.new)) }

@@ -1,6 +1,7 @@
 //! The world.
-ghost use Rattle.std.specs.Prelude.{◌≡◌, ◌<◌, ◌≤◌, ◌^◌, ◌↔◌, length, map, slice_get, true, Some, IfOk, IfErr, IsOk, IfSome};
+ghost use Rattle.std.specs.Prelude.{◌≡◌, ◌<◌, ◌≤◌, ◌↔◌, length, map, slice_get, true, Some, IfOk, IfErr, IsOk, IfSome};
 ghost use Rattle.std.specs.List.{AllByRecursion};
+ghost use Rattle.mesh_base.specs.Bounds.{most_steps};
 ghost use Rattle.mesh_model.specs.Choices as choices;
 ghost use Rattle.mesh_model.specs.Routes as routes;
 ghost use Rattle.mesh_model.specs.Accounts as accounts;
@@ -212,7 +213,7 @@ impl Steps for World {
     #[inline(always)]
     fn step(&mut self, alloc: Global, e: &Event<'_>, out: &mut Packet) -> Result<Done, StepError>
         requires event { IsEvent (length self.old.mesh) (event_of e.now) }
-        requires few { self.old.steps < 2 ^ 48 }
+        requires few { self.old.steps < most_steps }
         ensures step { IsStep (event_of e.now) self.old result self.new out.new.items }
         ensures account { KeepsAccount (event_of e.now) self.old result self.new }
         ensures memory { IsShortOf self.old.world (event_of e.now) result }
@@ -237,7 +238,7 @@ impl Steps for World {
         answer: &mut Done,
     ) -> Result<EventCounts, StepError>
         requires event { IsEvent (length self.old.mesh) (event_of e.now) }
-        requires few { self.old.steps < 2 ^ 48 }
+        requires few { self.old.steps < most_steps }
         ensures counted { IsStepCounted (event_of e.now) self.old result self.new }
         ensures told { wanted ≡ true → IsStep (event_of e.now)
             self.old (answer_with result answer.new) self.new out.new.items }
