@@ -82,7 +82,7 @@ below_whole Blocks m e = subst EndsWithLf (sym (block_by m e)) (shown_whole m.me
 below_whole Changes m e =
     subst EndsWithLf (sym (changes_by m e)) (changed_whole m.mesh (world_of m) (after (world_of m) (step (world_of m) e)) (changed_by e (step (world_of m) e)))
 
--- a state at which the nodes and the world are those of another, whose world is made
+-- a state in which the nodes and the world are those of another, whose world is made
 record Alike (m c : RunState) : Type 0 where
   mesh : c.mesh ≡ m.mesh
   world : world_of c ≡ world_of m

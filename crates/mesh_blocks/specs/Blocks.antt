@@ -27,7 +27,7 @@ abbrev pub shown_if : RunState → Option ℕ → List ℕ
 shown_if m None = []
 shown_if m (Some x) = shown_node m x
 
--- the block below an event that comes at state m: the node that the event has changed, at the
+-- the block below an event that comes in state m: the node that the event has changed, in the
 -- state after it
 unfoldable pub block_below : RunState → Event → List ℕ
 block_below m e = shown_if (next_state m e) (changed_by e (outcome_at m e))

@@ -105,7 +105,7 @@ abbrev pub changed_if : (m n : RunState) → Option ℕ → List ℕ
 changed_if m n None = []
 changed_if m n (Some x) = changed_from (shown_node m x) n x
 
--- what stands below an event that comes at state m: the node that the event has changed, and what
+-- what stands below an event that comes in state m: the node that the event has changed, and what
 -- has changed of its block from that state to the one after it
 unfoldable pub changes_below : RunState → Event → List ℕ
 changes_below m e = changed_if m (next_state m e) (changed_by e (outcome_at m e))

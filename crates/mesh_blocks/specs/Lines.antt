@@ -24,7 +24,7 @@ abbrev pub shown_by : Below → (before : List ℕ) → RunState → ℕ → Lis
 shown_by Blocks before n x = shown_node n x
 shown_by Changes before n x = changed_from before n x
 
--- the block that is kept is that of the node that an event changes, in the state at which that
+-- the block that is kept is that of the node that an event changes, in the state in which that
 -- event comes
 abbrev pub IsBlockBefore : RunState → Event → List ℕ → Type 0
 IsBlockBefore m e text = IfSome (changed_by e (outcome_at m e)) (λ x. text ≡ shown_node m x)

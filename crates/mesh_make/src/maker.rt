@@ -130,7 +130,7 @@ impl Maker {
         matches!(self.place, Place::End)
     }
 
-    /// The next line. The text of a datum stands in `text`. At a state to which a run of the lines
+    /// The next line. The text of a datum stands in `text`. In a state to which a run of the lines
     /// before it has come the line is allowed, and the text that is still to come is run by doing
     /// it and running what then is still to come.
     pub fn next_line<'a>(&mut self, text: &'a mut LineBuf) -> Line<'a>

@@ -43,7 +43,7 @@ CanBeTold n (Err (stop.Full e node field)) =
 CanBeTold n (Err stop.WriteFault) = ⊤
 CanBeTold n (Err stop.NoMemory) = ⊤
 
--- a run whose next line came to this at state n goes on, or has ended
+-- a run whose next line came to this in state n goes on, or has ended
 abbrev pub IsSettled : RunState → Option (List ℕ) → Option (List ℕ) → Result (Unit {0}) Stop
     → Result (Option Verdict) ShellFault → Type 0
 IsSettled n before now (Ok done) result = (result ≡ Ok None) × (now ≡ before)

@@ -1,5 +1,5 @@
 -- Sums: how far the counts may have come. RunStates: what every state of a run has, and what an
--- event answers at one.
+-- event answers in one.
 pub mod Sums
 pub mod RunStates
 -- Codes: what a run answers, and the status with which a process ends. Outputs: what was told of a

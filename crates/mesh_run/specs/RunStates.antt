@@ -1,4 +1,4 @@
--- What every state of a run has, and what an event answers at one.
+-- What every state of a run has, and what an event answers in one.
 use Rattle.std.specs.Prelude.{◌≡◌, ℕ, List, Option, Some, IfSome, option_map, ⊤, refl}
 use Rattle.std.specs.Coded.{Coded, code_by, coded×, coded_ℕ, coded_list, coded_option}
 use Rattle.std.specs.List.{AllByRecursion}
@@ -35,7 +35,7 @@ run_state_seen variant nodes seen sums lines = record {
   steps = unwrap_or (option_map (λ w. w.steps) seen) 0;
 }
 
--- the state at which a line is done: one that is neither blank nor of a node starts the run
+-- the state in which a line is done: one that is neither blank nor of a node starts the run
 abbrev pub with_run_begun : RunState → AcceptedLine → RunState
 with_run_begun m Nothing = m
 with_run_begun m (NewNode address first) = m

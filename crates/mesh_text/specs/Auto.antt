@@ -12,7 +12,7 @@ use Rattle.mesh_text.specs.Effects.{outcome_lines}
 -- ---- what comes of events
 
 -- their text and the state after them; or the text before an event that is refused for a full
--- counter, the state at which it is, and that event
+-- counter, the state in which it is, and that event
 pub data EventsOutcome : Type 0 where
   Ended : (text : List ℕ) (after : RunState) → EventsOutcome
   Full : (text : List ℕ) (at : RunState) → Event → Counter → EventsOutcome

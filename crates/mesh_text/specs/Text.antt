@@ -25,7 +25,7 @@ use Rattle.mesh_text.specs.Auto as auto
 -- ---- one line
 
 -- what a line comes to in a state: its text and the next state; why it is refused; or its text
--- before an event that is refused for a full counter, the state at which it is, and that event
+-- before an event that is refused for a full counter, the state in which it is, and that event
 pub data LineOutcome : Type 0 where
   On : List ℕ → RunState → LineOutcome
   Refused : BadWhy → LineOutcome

@@ -76,7 +76,7 @@ pub fn an_event_keeps_the_account()
     ensures { EventKeepsAccount }
 {}
 
-/// At each state of a run, after any line and after any event within one, the world is that of the
+/// In each state of a run, after any line and after any event within one, the world is that of the
 /// run of the events so far.
 pub fn every_state_is_of_the_run()
     ensures { StateIsOfRun }
