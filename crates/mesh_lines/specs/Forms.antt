@@ -42,7 +42,7 @@ is_hex word =
     nat_le 2 (length word) && nat_le (length word) (2 * LONGEST_PACKET) && (length word % 2 == 0)
     && list_all is_lower_digit word
 
--- a word in this place
+-- a word fits this field
 abbrev pub fits : Field → List ℕ → Bool
 fits Address word = is_address word
 fits Precursors word = bytes_eq word (codes "-") || are_addresses word
@@ -65,7 +65,7 @@ fits Flying word = bytes_eq word (codes "flying")
 fits Lost word = bytes_eq word (codes "lost")
 fits Copied word = bytes_eq word (codes "copied")
 
--- as many words as places, each of which fits its own
+-- as many words as fields, each of which fits its own
 abbrev pub are : List Field → List (List ℕ) → Bool
 are [] [] = true
 are (field ∷ fields) (word ∷ words) = fits field word && are fields words

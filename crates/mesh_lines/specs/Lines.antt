@@ -127,8 +127,8 @@ is_counter text = is_one_of (codes " hops" ∷ codes " number" ∷ codes " id" �
 
 -- behind `full`: `line N: EVENT: FIELD`
 abbrev pub is_full_by : List (List ℕ) → Bool
-is_full_by (place ∷ event ∷ field ∷ []) =
-    is_numbered place && is_cast (parts 32 event) && is_counter field
+is_full_by (line ∷ event ∷ field ∷ []) =
+    is_numbered line && is_cast (parts 32 event) && is_counter field
 is_full_by others = false
 
 abbrev pub is_full : List (List ℕ) → Bool
@@ -173,7 +173,7 @@ is_why text = is_whole_fault text || is_word_fault text || is_node_fault text
 
 -- behind `bad`: `line N: WHY`
 abbrev pub is_refusal_by : List (List ℕ) → Bool
-is_refusal_by (place ∷ why ∷ []) = is_numbered place && is_why why
+is_refusal_by (line ∷ why ∷ []) = is_numbered line && is_why why
 is_refusal_by others = false
 
 abbrev pub is_refusal : List (List ℕ) → Bool

@@ -73,8 +73,8 @@ fn is_full_by(clauses: Option<&[u8]>) -> bool
     ensures { result ≡ lines.is_full_by (rest_parts 58 clauses.entry) }
 {
     match three(clauses, b':') {
-        Some((place, event, counter)) => {
-            is_numbered(place) && is_cast(event) && is_counter(counter)
+        Some((line, event, counter)) => {
+            is_numbered(line) && is_cast(event) && is_counter(counter)
         }
         None => false,
     }
@@ -129,7 +129,7 @@ fn is_fault_at(text: &[u8], fault: &[u8]) -> bool
     }
 }
 
-// A fault of a word, and its place.
+// A fault of a word, and where it stands in the line.
 fn is_word_fault(text: &[u8]) -> bool
     ensures { result ≡ lines.is_word_fault text.now }
 {
@@ -139,7 +139,7 @@ fn is_word_fault(text: &[u8]) -> bool
         || is_fault_at(text, b" no text at bytes ")
 }
 
-// A fault of a node, and its place.
+// A fault of a node, and where it stands in the line.
 fn is_node_fault(text: &[u8]) -> bool
     ensures { result ≡ lines.is_node_fault text.now }
 {
@@ -159,7 +159,7 @@ fn is_refusal_by(clauses: Option<&[u8]>) -> bool
     ensures { result ≡ lines.is_refusal_by (rest_parts 58 clauses.entry) }
 {
     match two(clauses, b':') {
-        Some((place, why)) => is_numbered(place) && is_why(why),
+        Some((line, why)) => is_numbered(line) && is_why(why),
         None => false,
     }
 }

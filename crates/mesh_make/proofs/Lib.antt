@@ -3,7 +3,7 @@ pub mod Grown
 pub mod Safe
 pub mod Fits
 pub mod Allowed
-pub mod Places
+pub mod Stages
 pub mod Pieces
 pub mod LineByLine
 pub mod Seen

@@ -3,10 +3,10 @@
 -- Drawn: a line of the steps, by the words that are drawn for it.
 -- Made: the whole schedule.
 -- Laws: what is proved of it.
--- Places, Making: how far a schedule is made. Only private functions speak of them.
+-- Stages, Making: how far a schedule is made. Only private functions speak of them.
 pub mod Words
 pub mod Drawn
 pub mod Made
 pub mod Laws
-pub mod Places
+pub mod Stages
 pub mod Making

@@ -1,7 +1,7 @@
 //! A schedule that is made line by line.
 ghost use Rattle.std.specs.Prelude.{◌≡◌, ◌<◌, ◌≤◌, ◌+◌, ◌++◌, [], length, false, IsTrue};
 ghost use Rattle.mesh_script.specs.Seen.{accepted_of, IsPrintable};
-ghost use Rattle.mesh_make.specs.Places.{IsPlace, IsSize, line_at, place_after, mesh_after};
+ghost use Rattle.mesh_make.specs.Stages.{IsStage, IsSize, line_at, stage_after, mesh_after};
 ghost use Rattle.mesh_make.specs.Made.{made_schedule};
 
 use crate::sizes::{EVENTS_AT_END, FIRST_ADDRESS};
@@ -11,9 +11,9 @@ use mesh_base::{Addr, Event, LINE_CAPACITY, LONGEST_LINE, LineBuf, Mesh};
 use mesh_script::{Line, push_line};
 use rand_pcg::Lcg64Xsh32;
 
-/// A place in a schedule: the line that comes next.
+/// A stage of a schedule: the line that comes next.
 #[derive(Clone, Copy)]
-pub enum Place {
+pub enum Stage {
     /// A node, counted from 0.
     Node(u32),
     /// The link from a node to the next.
@@ -37,33 +37,33 @@ pub struct Size {
 #[derive(Drop)]
 pub struct Maker {
     pub size: Size,
-    pub place: Place,
+    pub stage: Stage,
     pub rng: Lcg64Xsh32,
     pub mesh: Mesh,
 }
 
-// The line at the place, and what it draws.
-#[tactic(auto, unfolding(crate::specs::Places::line_at))]
-fn line_at<'a>(size: Size, place: Place, rng: &mut Lcg64Xsh32, text: &'a mut LineBuf) -> Line<'a>
+// The line at the stage, and what it draws.
+#[tactic(auto, unfolding(crate::specs::Stages::line_at))]
+fn line_at<'a>(size: Size, stage: Stage, rng: &mut Lcg64Xsh32, text: &'a mut LineBuf) -> Line<'a>
     requires size { IsSize size.nodes size.steps }
-    requires place { IsPlace size.nodes size.steps place }
-    ensures line { accepted_of result ≡ (line_at size.nodes place rng.old).value }
-    ensures rng { rng.new ≡ (line_at size.nodes place rng.old).rng }
+    requires stage { IsStage size.nodes size.steps stage }
+    ensures line { accepted_of result ≡ (line_at size.nodes stage rng.old).value }
+    ensures rng { rng.new ≡ (line_at size.nodes stage rng.old).rng }
 {
-    match place {
-        Place::Node(i) => Line::Node {
+    match stage {
+        Stage::Node(i) => Line::Node {
             addr: Addr(FIRST_ADDRESS + i),
             first: 1,
         },
-        Place::Link(i) => Line::Step(Event::Link {
+        Stage::Link(i) => Line::Step(Event::Link {
             a: i as usize,
             b: i as usize + 1,
         }),
-        Place::Step(step) => step_line(size.nodes, step, rng, text),
-        Place::Last => Line::Auto {
+        Stage::Step(step) => step_line(size.nodes, step, rng, text),
+        Stage::Last => Line::Auto {
             count: EVENTS_AT_END,
         },
-        Place::End => Line::Blank,
+        Stage::End => Line::Blank,
     }
 }
 
@@ -79,22 +79,22 @@ fn grow(mesh: &mut Mesh, line: &Line<'_>)
     }
 }
 
-// The place of the next line.
-#[tactic(auto, unfolding(crate::specs::Places::place_after))]
-fn place_after(size: Size, place: Place) -> Place
+// The stage of the next line.
+#[tactic(auto, unfolding(crate::specs::Stages::stage_after))]
+fn stage_after(size: Size, stage: Stage) -> Stage
     requires size { IsSize size.nodes size.steps }
-    requires place { IsPlace size.nodes size.steps place }
-    ensures after { result ≡ place_after size.nodes size.steps place }
-    ensures is_place { IsPlace size.nodes size.steps result }
+    requires stage { IsStage size.nodes size.steps stage }
+    ensures after { result ≡ stage_after size.nodes size.steps stage }
+    ensures is_stage { IsStage size.nodes size.steps result }
 {
-    match place {
-        Place::Node(i) if i + 1 < size.nodes => Place::Node(i + 1),
-        Place::Node(_) => Place::Link(0),
-        Place::Link(i) if i + 2 < size.nodes => Place::Link(i + 1),
-        Place::Link(_) => Place::Step(1),
-        Place::Step(step) if step < size.steps => Place::Step(step + 1),
-        Place::Step(_) => Place::Last,
-        Place::Last | Place::End => Place::End,
+    match stage {
+        Stage::Node(i) if i + 1 < size.nodes => Stage::Node(i + 1),
+        Stage::Node(_) => Stage::Link(0),
+        Stage::Link(i) if i + 2 < size.nodes => Stage::Link(i + 1),
+        Stage::Link(_) => Stage::Step(1),
+        Stage::Step(step) if step < size.steps => Stage::Step(step + 1),
+        Stage::Step(_) => Stage::Last,
+        Stage::Last | Stage::End => Stage::End,
     }
 }
 
@@ -116,7 +116,7 @@ impl Maker {
     {
         Maker {
             size: Size { nodes, steps },
-            place: Place::Node(0),
+            stage: Stage::Node(0),
             rng: start(seed),
             mesh: Mesh::new(),
         }
@@ -127,7 +127,7 @@ impl Maker {
         ensures done { result ≡ is_done self.now }
         ensures empty { IsTrue result → still_to_come self.now ≡ [] }
     {
-        matches!(self.place, Place::End)
+        matches!(self.stage, Stage::End)
     }
 
     /// The next line. The text of a datum stands in `text`. In a state to which a run of the lines
@@ -148,9 +148,9 @@ impl Maker {
         ensures shorter { length (still_to_come self.new) < length (still_to_come self.old) }
         ensures making { IsMaking self.new }
     {
-        let line = line_at(self.size, self.place, &mut self.rng, text);
+        let line = line_at(self.size, self.stage, &mut self.rng, text);
         grow(&mut self.mesh, &line);
-        self.place = place_after(self.size, self.place);
+        self.stage = stage_after(self.size, self.stage);
         line
     }
 
@@ -165,11 +165,11 @@ impl Maker {
         ensures length { length out.new ≤ length out.old + LONGEST_LINE }
         ensures making { IsMaking self.new }
     {
-        let line = line_at(self.size, self.place, &mut self.rng, text);
+        let line = line_at(self.size, self.stage, &mut self.rng, text);
         push_line(out, &self.mesh, &line);
         out.push(b'\n');
         grow(&mut self.mesh, &line);
-        self.place = place_after(self.size, self.place);
+        self.stage = stage_after(self.size, self.stage);
     }
 
     /// Makes the next lines, each with its LF, in this buffer: at least one, and as many as are

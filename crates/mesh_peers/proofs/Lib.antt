@@ -1,3 +1,3 @@
 pub mod Said
-pub mod Places
+pub mod Indices
 pub mod Allowed

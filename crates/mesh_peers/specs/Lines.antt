@@ -19,7 +19,7 @@ use Rattle.mesh_peers.specs.Peers.{PeersSeen, at_port}
 
 -- ---- whether a line is allowed
 
--- a line that is allowed at its place, with each node by its index
+-- a line that is allowed where it stands, with each node by its index
 pub data AcceptedLine : Type 0 where
   -- a blank line
   Nothing : AcceptedLine
@@ -102,7 +102,7 @@ abbrev pub accepted_shape : PeersSeen → Bool → ℕ → Option (Shape Command
 accepted_shape p started size None = Ok Nothing
 accepted_shape p started size (Some s) = accepted_line p started size s.command s.arguments
 
--- what a line comes to: its own faults first, then those of its place
+-- what a line comes to: its own faults first, then those of where it stands
 unfoldable pub line_of : PeersSeen → Bool → List ℕ → Result AcceptedLine LineFault
 line_of p started line =
     result_and_then (accepted_shape p started (length line)) (shape_of line)

@@ -15,28 +15,28 @@ pub record PeersSeen : Type 0 where
 abbrev pub no_peers : PeersSeen
 no_peers = record { mesh = []; me = None; ports = [] }
 
--- the place that an address gets in the mesh: before the first greater one
-abbrev pub place_for : Nodes → ℕ → ℕ
-place_for mesh a = position_or_len (λ q. nat_lt a q.0) mesh
+-- the index that an address gets in the mesh: before the first greater one
+abbrev pub index_for : Nodes → ℕ → ℕ
+index_for mesh a = position_or_len (λ q. nat_lt a q.0) mesh
 
--- where a node stands once there is one more at this place
-abbrev pub moved_place : ℕ → ℕ → ℕ
-moved_place place i = if nat_le place i then i + 1 else i
+-- where a node stands once there is one more at this index
+abbrev pub moved_index : ℕ → ℕ → ℕ
+moved_index index i = if nat_le index i then i + 1 else i
 
 -- the node itself joins the mesh
 unfoldable pub with_self : PeersSeen → ℕ → ℕ → PeersSeen
 with_self p a first = record {
   mesh = with_node p.mesh a first;
-  me = Some (place_for p.mesh a);
-  ports = insert p.ports (place_for p.mesh a) 0;
+  me = Some (index_for p.mesh a);
+  ports = insert p.ports (index_for p.mesh a) 0;
 }
 
 -- a peer joins the mesh. Its first number is 1
 unfoldable pub with_peer : PeersSeen → ℕ → ℕ → PeersSeen
 with_peer p a port = record {
   mesh = with_node p.mesh a 1;
-  me = option_map (moved_place (place_for p.mesh a)) p.me;
-  ports = insert p.ports (place_for p.mesh a) port;
+  me = option_map (moved_index (index_for p.mesh a)) p.me;
+  ports = insert p.ports (index_for p.mesh a) port;
 }
 
 -- the peer at that port

@@ -62,7 +62,7 @@ IsSaidIn size (Some s) =
     AreOfForm (form_of s.command) (all_spanned_of s.arguments)
     × EndsIn size (all_spanned_of s.arguments)
 
--- ---- a line at its place
+-- ---- a line where it stands
 
 abbrev pub accepted_of : NodeLine → AcceptedLine
 accepted_of line.Blank = Nothing

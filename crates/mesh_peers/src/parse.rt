@@ -1,4 +1,4 @@
-//! Whether a line is allowed at its place.
+//! Whether a line is allowed where it stands.
 ghost use Rattle.std.specs.Prelude.{◌≡◌, ◌≤◌, length, IfOk};
 ghost use Rattle.std.specs.Fmt.{decimal};
 ghost use Rattle.mesh_grammar.specs.Forms.{AreOfForm};

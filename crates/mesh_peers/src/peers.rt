@@ -30,7 +30,7 @@ impl Model for Peers {
         ArePeers (record { mesh = p.mesh; me = p.me; ports = p.ports.items }) };
 }
 
-// One more node, at its place, which is answered, and its port.
+// One more node, at its index, which is answered, and its port.
 fn join(
     mesh: &mut Mesh,
     ports: &mut ArrayVec<u16, MOST_NODES>,
@@ -42,7 +42,7 @@ fn join(
     requires room { length mesh.old < MOST_NODES }
     requires first { 1 ≤ first }
     requires each { length ports.old.items ≡ length mesh.old }
-    ensures place { result ≡ peers.place_for mesh.old a.0 }
+    ensures index { result ≡ peers.index_for mesh.old a.0 }
     ensures mesh { mesh.new ≡ with_node mesh.old a.0 first }
     ensures ports { ports.new.items ≡ insert ports.old.items result port }
     ensures within { result ≤ length mesh.old }
@@ -51,23 +51,23 @@ fn join(
         Ok(()) => {
             // It has distinct addresses.
             let _nodes = mesh.len();
-            let Some(place) = mesh.index_of(a) else {
+            let Some(index) = mesh.index_of(a) else {
                 unreachable!();
             };
-            ports.insert(place, port);
-            place
+            ports.insert(index, port);
+            index
         }
         Err(_) => unreachable!(),
     }
 }
 
-// Where the node itself stands once there is one more node at this place.
-fn shifted(place: usize, me: Option<usize>) -> Option<usize>
+// Where the node itself stands once there is one more node at this index.
+fn shifted(index: usize, me: Option<usize>) -> Option<usize>
     requires { IfSome me (λ i. i < MOST_NODES) }
-    ensures { result ≡ option_map (peers.moved_place place) me }
+    ensures { result ≡ option_map (peers.moved_index index) me }
 {
     match me {
-        Some(i) if place <= i => Some(i + 1),
+        Some(i) if index <= i => Some(i + 1),
         other => other,
     }
 }
@@ -137,8 +137,8 @@ impl Peers {
         requires first { 1 ≤ first }
         ensures { self.new ≡ peers.with_self self.old a.0 first }
     {
-        let place = join(&mut self.mesh, &mut self.ports, a, first, 0);
-        self.me = Some(place);
+        let index = join(&mut self.mesh, &mut self.ports, a, first, 0);
+        self.me = Some(index);
     }
 
     /// A peer joins the mesh.
@@ -150,8 +150,8 @@ impl Peers {
         ensures { self.new ≡ peers.with_peer self.old a.0 port }
     {
         let me = self.me;
-        let place = join(&mut self.mesh, &mut self.ports, a, 1, port);
-        let me = shifted(place, me);
+        let index = join(&mut self.mesh, &mut self.ports, a, 1, port);
+        let me = shifted(index, me);
         self.me = me;
     }
 }

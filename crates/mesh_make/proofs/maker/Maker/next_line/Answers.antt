@@ -10,13 +10,13 @@ grow-requires c = next_printable c.args.self.now c.line_at-line.result c.require
 pub returns-clause-allowed : goal.returns-clause-allowed
 returns-clause-allowed c =
     let o : Maker = c.args.self.now in
-    let n : Maker = record { size = o.size; place = c.place_after-self.result; rng = c.line_at-line.new.rng; mesh = c.grow.new.mesh } in
+    let n : Maker = record { size = o.size; stage = c.stage_after-self.result; rng = c.line_at-line.new.rng; mesh = c.grow.new.mesh } in
     let next : IsNext o n (accepted_of c.line_at-line.result) = record {
       making = c.requires.making;
       more = c.requires.more;
       line_is = c.line_at-line.ensures.line;
       rng = c.line_at-line.ensures.rng;
-      place = c.place_after-self.ensures.after;
+      stage = c.stage_after-self.ensures.after;
       size = refl;
       mesh = c.grow.ensures;
     } in
@@ -25,13 +25,13 @@ returns-clause-allowed c =
 pub returns-clause-goes : goal.returns-clause-goes
 returns-clause-goes c =
     let o : Maker = c.args.self.now in
-    let n : Maker = record { size = o.size; place = c.place_after-self.result; rng = c.line_at-line.new.rng; mesh = c.grow.new.mesh } in
+    let n : Maker = record { size = o.size; stage = c.stage_after-self.result; rng = c.line_at-line.new.rng; mesh = c.grow.new.mesh } in
     let next : IsNext o n (accepted_of c.line_at-line.result) = record {
       making = c.requires.making;
       more = c.requires.more;
       line_is = c.line_at-line.ensures.line;
       rng = c.line_at-line.ensures.rng;
-      place = c.place_after-self.ensures.after;
+      stage = c.stage_after-self.ensures.after;
       size = refl;
       mesh = c.grow.ensures;
     } in
@@ -40,13 +40,13 @@ returns-clause-goes c =
 pub returns-clause-comes : goal.returns-clause-comes
 returns-clause-comes c =
     let o : Maker = c.args.self.now in
-    let n : Maker = record { size = o.size; place = c.place_after-self.result; rng = c.line_at-line.new.rng; mesh = c.grow.new.mesh } in
+    let n : Maker = record { size = o.size; stage = c.stage_after-self.result; rng = c.line_at-line.new.rng; mesh = c.grow.new.mesh } in
     let next : IsNext o n (accepted_of c.line_at-line.result) = record {
       making = c.requires.making;
       more = c.requires.more;
       line_is = c.line_at-line.ensures.line;
       rng = c.line_at-line.ensures.rng;
-      place = c.place_after-self.ensures.after;
+      stage = c.stage_after-self.ensures.after;
       size = refl;
       mesh = c.grow.ensures;
     } in
@@ -55,13 +55,13 @@ returns-clause-comes c =
 pub returns-clause-shorter : goal.returns-clause-shorter
 returns-clause-shorter c =
     let o : Maker = c.args.self.now in
-    let n : Maker = record { size = o.size; place = c.place_after-self.result; rng = c.line_at-line.new.rng; mesh = c.grow.new.mesh } in
+    let n : Maker = record { size = o.size; stage = c.stage_after-self.result; rng = c.line_at-line.new.rng; mesh = c.grow.new.mesh } in
     let next : IsNext o n (accepted_of c.line_at-line.result) = record {
       making = c.requires.making;
       more = c.requires.more;
       line_is = c.line_at-line.ensures.line;
       rng = c.line_at-line.ensures.rng;
-      place = c.place_after-self.ensures.after;
+      stage = c.stage_after-self.ensures.after;
       size = refl;
       mesh = c.grow.ensures;
     } in
@@ -70,14 +70,14 @@ returns-clause-shorter c =
 pub returns-clause-making : goal.returns-clause-making
 returns-clause-making c =
     let o : Maker = c.args.self.now in
-    let n : Maker = record { size = o.size; place = c.place_after-self.result; rng = c.line_at-line.new.rng; mesh = c.grow.new.mesh } in
+    let n : Maker = record { size = o.size; stage = c.stage_after-self.result; rng = c.line_at-line.new.rng; mesh = c.grow.new.mesh } in
     let next : IsNext o n (accepted_of c.line_at-line.result) = record {
       making = c.requires.making;
       more = c.requires.more;
       line_is = c.line_at-line.ensures.line;
       rng = c.line_at-line.ensures.rng;
-      place = c.place_after-self.ensures.after;
+      stage = c.stage_after-self.ensures.after;
       size = refl;
       mesh = c.grow.ensures;
     } in
-    next_making o n (accepted_of c.line_at-line.result) next c.place_after-self.ensures.is_place
+    next_making o n (accepted_of c.line_at-line.result) next c.stage_after-self.ensures.is_stage

@@ -3,8 +3,8 @@ use Rattle.mesh_text.specs.Schedule.{AcceptedLine}
 use Rattle.mesh_script.specs.Seen.{accepted_of}
 use Rattle.mesh_base.specs.Meshes.{Nodes}
 use Rattle.mesh_make.specs.Made.{mesh_of}
-use Rattle.mesh_make.specs.Places.{nodes_at, mesh_after}
-use Rattle.mesh_make.proofs.Places.{text_more, mesh_next}
+use Rattle.mesh_make.specs.Stages.{nodes_at, mesh_after}
+use Rattle.mesh_make.proofs.Stages.{text_more, mesh_next}
 use Rattle.mesh_make.proofs.Comes.{next_printable}
 use Rattle.mesh_make.proofs.LineByLine.{joined_on}
 use Rattle.mesh_make.proofs.maker.Maker.push_next.Goals as goal
@@ -18,8 +18,8 @@ grow-requires c = next_printable c.args.self.now c.line_at-line.result c.require
 pub returns-clause-text : goal.returns-clause-text
 returns-clause-text c =
     let m = c.args.self.now in
-    rw (c.push.ensures.text, c.push_line.ensures.text, c.line_at-line.ensures.line, c.requires.making.mesh, c.place_after-self.ensures.after, c.line_at-line.ensures.rng)
-    (joined_on _ _ _ _ _ (text_more m.size.nodes m.size.steps m.place m.rng c.requires.making.place c.requires.more))
+    rw (c.push.ensures.text, c.push_line.ensures.text, c.line_at-line.ensures.line, c.requires.making.mesh, c.stage_after-self.ensures.after, c.line_at-line.ensures.rng)
+    (joined_on _ _ _ _ _ (text_more m.size.nodes m.size.steps m.stage m.rng c.requires.making.stage c.requires.more))
 
 pub returns-clause-making : goal.returns-clause-making
 returns-clause-making c =
@@ -27,10 +27,10 @@ returns-clause-making c =
     let making = c.requires.making in
     record {
       size = making.size;
-      place = c.place_after-self.ensures.is_place;
+      stage = c.stage_after-self.ensures.is_stage;
       mesh =
           c.grow.ensures ∙ ap (λ (mesh : Nodes). mesh_after mesh (accepted_of c.line_at-line.result)) making.mesh
-          ∙ ap (λ (line : AcceptedLine). mesh_after (mesh_of (nodes_at m.size.nodes m.place)) line) c.line_at-line.ensures.line
-          ∙ mesh_next m.size.nodes m.size.steps making.size m.place m.rng making.place c.requires.more
-          ∙ ap (λ place. mesh_of (nodes_at m.size.nodes place)) (sym c.place_after-self.ensures.after);
+          ∙ ap (λ (line : AcceptedLine). mesh_after (mesh_of (nodes_at m.size.nodes m.stage)) line) c.line_at-line.ensures.line
+          ∙ mesh_next m.size.nodes m.size.steps making.size m.stage m.rng making.stage c.requires.more
+          ∙ ap (λ stage. mesh_of (nodes_at m.size.nodes stage)) (sym c.stage_after-self.ensures.after);
     }
