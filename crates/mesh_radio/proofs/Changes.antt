@@ -32,11 +32,11 @@ copies-one es now next m c is lt one left =
 
 -- ---- a copy that goes
 
-pub casts-taken : (es now : List Entry) (next place to : ℕ) (e : Entry) → AreCasts es next → slice_get es place ≡ Some e → now ≡ set_value_at es place (without_to e.1 to) → AreCasts now next
-casts-taken es now next place to e are at is = subst (λ xs. AreCasts xs next) (sym is) (record {
-  rising = rising-taken 1 next place to es e are.rising at;
+pub casts-taken : (es now : List Entry) (next index to : ℕ) (e : Entry) → AreCasts es next → slice_get es index ≡ Some e → now ≡ set_value_at es index (without_to e.1 to) → AreCasts now next
+casts-taken es now next index to e are at is = subst (λ xs. AreCasts xs next) (sym is) (record {
+  rising = rising-taken 1 next index to es e are.rising at;
   few = are.few;
-  lefts = lefts-taken place to es e are.lefts at;
+  lefts = lefts-taken index to es e are.lefts at;
 })
 
 pub casts-tidied : (es now : List Entry) (next : ℕ) → IsTidied es now → AreCasts es next → AreCasts now next

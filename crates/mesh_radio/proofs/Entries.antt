@@ -209,12 +209,12 @@ pub first-low : (es : List Entry) (id k : ℕ) (e : Entry) → IsSplit (keys_of 
 first-low es id k e s some at = let key = key-at es (k - 1) e at in let low = s.below (k - 1) (omega arith) in omega arith
 
 -- the cast of an id
-pub place-there : (es : List Entry) (id k place : ℕ) (e : Entry) → IsSplit (keys_of es) id k → k ≡ place + 1 → entry_of es id ≡ Some e → slice_get es place ≡ Some e
-place-there es id zero place e s is there = absurd (omega arith)
-place-there es id (suc k) place e s is there = let same : place ≡ k = omega arith in ap (slice_get es) same ∙ sym (split-entry es id (suc k) s) ∙ there
+pub index-there : (es : List Entry) (id k index : ℕ) (e : Entry) → IsSplit (keys_of es) id k → k ≡ index + 1 → entry_of es id ≡ Some e → slice_get es index ≡ Some e
+index-there es id zero index e s is there = absurd (omega arith)
+index-there es id (suc k) index e s is there = let same : index ≡ k = omega arith in ap (slice_get es) same ∙ sym (split-entry es id (suc k) s) ∙ there
 
-pub no-place : (es : List Entry) (id k : ℕ) (e : Entry) → IsSplit (keys_of es) id k → k ≡ 0 → entry_of es id ≢ Some e
-no-place es id k e s zero_is there = none-some e (sym (split-entry es id k s ∙ ap (last_of es) zero_is) ∙ there)
+pub no-index : (es : List Entry) (id k : ℕ) (e : Entry) → IsSplit (keys_of es) id k → k ≡ 0 → entry_of es id ≢ Some e
+no-index es id k e s zero_is there = none-some e (sym (split-entry es id k s ∙ ap (last_of es) zero_is) ∙ there)
 
 entry-low : (es : List Entry) (id : ℕ) (e : Entry) → entry_of es id ≡ Some e → e.0 ≤ id
 entry-low [] id e is = absurd (none-some e is)
@@ -239,29 +239,29 @@ pub none-taken : (es : List Entry) (id to : ℕ) (e : Entry) → entry_of es id 
 none-taken es id to e is at gone = ap (λ o. copy_of o id) is ∙ ap (slot_for e.1 id) at ∙ slot-gone e.1 id to gone
 
 -- the copy that is found
-pub found-copy : (es : List Entry) (low next id place to : ℕ) (e : Entry) → AreRising low es next → IsFound es id place to → slice_get es place ≡ Some e
+pub found-copy : (es : List Entry) (low next id index to : ℕ) (e : Entry) → AreRising low es next → IsFound es id index to → slice_get es index ≡ Some e
     → find_copy (copies_of es) id ≡ Some (record { id = id; from = (e.1).from; to = to; bytes = (e.1).bytes })
-found-copy es low next id place to e r f at =
+found-copy es low next id index to e r f at =
     let same : f.entry ≡ e = same_Some f.entry e (sym f.at ∙ at) in
     find-all low next id es r ∙ ap (λ o. copy_of o id) f.is ∙ ap (slot_for ((f.entry).1) id) f.member ∙ slot-there ((f.entry).1) id to f.left
     ∙ ap (λ (x : Entry). Some (record { id = id; from = (x.1).from; to = to; bytes = (x.1).bytes })) same
 
--- the cast at a place, among the values
-pub value-at : (es : List Entry) (place : ℕ) (e : Entry) (c : Cast) → slice_get es place ≡ Some e → slice_get (values_of es) place ≡ Some c → e.1 ≡ c
-value-at [] place e c at there = absurd cc
+-- the cast at an index, among the values
+pub value-at : (es : List Entry) (index : ℕ) (e : Entry) (c : Cast) → slice_get es index ≡ Some e → slice_get (values_of es) index ≡ Some c → e.1 ≡ c
+value-at [] index e c at there = absurd cc
 value-at (x ∷ es) zero e c at there = ap (λ (y : Entry). y.1) (sym (same_Some x e at)) ∙ same_Some x.1 c there
-value-at (x ∷ es) (suc place) e c at there = value-at es place e c at there
+value-at (x ∷ es) (suc index) e c at there = value-at es index e c at there
 
-pub found-value : (es : List Entry) (place : ℕ) (e : Entry) → slice_get es place ≡ Some e → slice_get (values_of es) place ≡ Some e.1
-found-value [] place e at = absurd cc
+pub found-value : (es : List Entry) (index : ℕ) (e : Entry) → slice_get es index ≡ Some e → slice_get (values_of es) index ≡ Some e.1
+found-value [] index e at = absurd cc
 found-value (x ∷ es) zero e at = ap (λ (y : Entry). Some y.1) (same_Some x e at)
-found-value (x ∷ es) (suc place) e at = found-value es place e at
+found-value (x ∷ es) (suc index) e at = found-value es index e at
 
 -- a cast that is put where it is
-pub set-same : (es : List Entry) (place : ℕ) (c : Cast) → slice_get (values_of es) place ≡ Some c → set_value_at es place c ≡ es
-set-same [] place c at = absurd cc
+pub set-same : (es : List Entry) (index : ℕ) (c : Cast) → slice_get (values_of es) index ≡ Some c → set_value_at es index c ≡ es
+set-same [] index c at = absurd cc
 set-same (x ∷ es) zero c at = ap (λ v. (x.0, v) ∷ es) (sym (same_Some x.1 c at))
-set-same (x ∷ es) (suc place) c at = ap (λ xs. x ∷ xs) (set-same es place c at)
+set-same (x ∷ es) (suc index) c at = ap (λ xs. x ∷ xs) (set-same es index c at)
 
 pub none-or : {A : Type 0} (r : Option A) (P : Type 0) → P → IfNone r P
 none-or None P p = p
@@ -383,17 +383,17 @@ one-taken k id to c low at left =
       of_data = omega (arith, data_less slots (id - k) copy here, ap data_in now);
     }
 
-pub rising-first : (low next place : ℕ) (es : List Entry) (e : Entry) → AreRising low es next → slice_get es place ≡ Some e → low ≤ e.0
+pub rising-first : (low next index : ℕ) (es : List Entry) (e : Entry) → AreRising low es next → slice_get es index ≡ Some e → low ≤ e.0
 rising-first low next zero [] e r at = absurd cc
-rising-first low next (suc place) [] e r at = absurd cc
+rising-first low next (suc index) [] e r at = absurd cc
 rising-first low next zero (x ∷ es) e r at = subst (λ (y : Entry). low ≤ y.0) (same_Some x e at) r.0
-rising-first low next (suc place) (x ∷ es) e r at = let rest = rising-first (x.0 + size x.1) next place es e r.2 at in let up = r.0 in omega arith
+rising-first low next (suc index) (x ∷ es) e r at = let rest = rising-first (x.0 + size x.1) next index es e r.2 at in let up = r.0 in omega arith
 
-pub copies-taken : (low next id place to : ℕ) (es : List Entry) (e : Entry) → AreRising low es next → slice_get es place ≡ Some e → e.0 ≤ id
+pub copies-taken : (low next id index to : ℕ) (es : List Entry) (e : Entry) → AreRising low es next → slice_get es index ≡ Some e → e.0 ≤ id
     → slice_get (member_list (e.1).to) (id - e.0) ≡ Some to → contains (e.1).left to ≡ true
-    → IsLess (copies_of es) (copies_of (set_value_at es place (without_to e.1 to))) id (e.1).bytes
+    → IsLess (copies_of es) (copies_of (set_value_at es index (without_to e.1 to))) id (e.1).bytes
 copies-taken low next id zero to [] e r at le member left = absurd cc
-copies-taken low next id (suc place) to [] e r at le member left = absurd cc
+copies-taken low next id (suc index) to [] e r at le member left = absurd cc
 copies-taken low next id zero to (x ∷ es) e r at le member left =
     let same : x ≡ e = same_Some x e at in
     subst (λ (y : Entry). IsLess (copies_of (y ∷ es)) (copies_of ((y.0, without_to e.1 to) ∷ es)) id (e.1).bytes) (sym same)
@@ -414,12 +414,12 @@ copies-taken low next id zero to (x ∷ es) e r at le member left =
       of_data = omega (arith, one.of_data);
     }
     )
-copies-taken low next id (suc place) to (x ∷ es) e r at le member left =
-    let rest = copies-taken (x.0 + size x.1) next id place to es e r.2 at le member left in
-    let up = rising-first (x.0 + size x.1) next place es e r.2 at in
+copies-taken low next id (suc index) to (x ∷ es) e r at le member left =
+    let rest = copies-taken (x.0 + size x.1) next id index to es e r.2 at le member left in
+    let up = rising-first (x.0 + size x.1) next index es e r.2 at in
     let xs = copies_in (slots_at x) in
     let none = without_none xs id (slots-out x.1 x.0 id (member_list (x.1).to) (inr (omega arith))) in
-    let now = copies_of (set_value_at es place (without_to e.1 to)) in
+    let now = copies_of (set_value_at es index (without_to e.1 to)) in
     let long = length-append xs (copies_of es) in
     let short = length-append xs now in
     let all = data_append xs (copies_of es) in
@@ -431,18 +431,18 @@ copies-taken low next id (suc place) to (x ∷ es) e r at le member left =
     }
 
 -- the casts stand where they stood
-pub rising-taken : (low next place to : ℕ) (es : List Entry) (e : Entry) → AreRising low es next → slice_get es place ≡ Some e → AreRising low (set_value_at es place (without_to e.1 to)) next
+pub rising-taken : (low next index to : ℕ) (es : List Entry) (e : Entry) → AreRising low es next → slice_get es index ≡ Some e → AreRising low (set_value_at es index (without_to e.1 to)) next
 rising-taken low next zero to [] e r at = absurd cc
-rising-taken low next (suc place) to [] e r at = absurd cc
+rising-taken low next (suc index) to [] e r at = absurd cc
 rising-taken low next zero to (x ∷ es) e r at =
     let same : x ≡ e = same_Some x e at in
     let long : size (without_to e.1 to) ≡ size x.1 = ap (λ (y : Entry). size y.1) (sym same) in
     (r.0, subst (λ n. 0 < n) (sym long) r.1, subst (λ n. AreRising (x.0 + n) es next) (sym long) r.2)
-rising-taken low next (suc place) to (x ∷ es) e r at = (r.0, r.1, rising-taken (x.0 + size x.1) next place to es e r.2 at)
+rising-taken low next (suc index) to (x ∷ es) e r at = (r.0, r.1, rising-taken (x.0 + size x.1) next index to es e r.2 at)
 
-pub lefts-taken : (place to : ℕ) (es : List Entry) (e : Entry) → AllByRecursion (λ x. AreLeft x.1) es → slice_get es place ≡ Some e → AllByRecursion (λ x. AreLeft x.1) (set_value_at es place (without_to e.1 to))
+pub lefts-taken : (index to : ℕ) (es : List Entry) (e : Entry) → AllByRecursion (λ x. AreLeft x.1) es → slice_get es index ≡ Some e → AllByRecursion (λ x. AreLeft x.1) (set_value_at es index (without_to e.1 to))
 lefts-taken zero to [] e all at = absurd cc
-lefts-taken (suc place) to [] e all at = absurd cc
+lefts-taken (suc index) to [] e all at = absurd cc
 lefts-taken zero to (x ∷ es) e all at = (fewer e.1 to (subst (λ (y : Entry). AreLeft y.1) (same_Some x e at) all.0), all.1)
   where
     fewer : (c : Cast) (to : ℕ) → AreLeft c → AreLeft (without_to c to)
@@ -450,13 +450,13 @@ lefts-taken zero to (x ∷ es) e all at = (fewer e.1 to (subst (λ (y : Entry). 
       | inl e ↦ absurd (let none : contains (remove c.left to) q ≡ false = ap (contains (remove c.left to)) e ∙ remove_here nat_cmp_total nat_cmp-IsAntisymmetric c.left to in cc)
       | inr ne ↦ are q (sym (remove_other nat_cmp_total nat_cmp-IsAntisymmetric c.left to q ne) ∙ is)
     ]
-lefts-taken (suc place) to (x ∷ es) e all at = (all.0, lefts-taken place to es e all.1 at)
+lefts-taken (suc index) to (x ∷ es) e all at = (all.0, lefts-taken index to es e all.1 at)
 
-pub found-taken : (low next id place to : ℕ) (es : List Entry) (e : Entry) → AreRising low es next → IsFound es id place to → slice_get es place ≡ Some e
-    → IsLess (copies_of es) (copies_of (set_value_at es place (without_to e.1 to))) id (e.1).bytes
-found-taken low next id place to es e r f at =
+pub found-taken : (low next id index to : ℕ) (es : List Entry) (e : Entry) → AreRising low es next → IsFound es id index to → slice_get es index ≡ Some e
+    → IsLess (copies_of es) (copies_of (set_value_at es index (without_to e.1 to))) id (e.1).bytes
+found-taken low next id index to es e r f at =
     let same : f.entry ≡ e = same_Some f.entry e (sym f.at ∙ at) in
-    copies-taken low next id place to es e r at
+    copies-taken low next id index to es e r at
     (subst (λ (y : Entry). y.0 ≤ id) same f.low)
     (ap (λ (y : Entry). slice_get (member_list (y.1).to) (id - y.0)) (sym same) ∙ f.member)
     (ap (λ (y : Entry). contains (y.1).left to) (sym same) ∙ f.left)
@@ -470,8 +470,8 @@ goes-to c id to (Some m) goes = elim (contains c.left m) as (λ b. contains c.le
   | false ↦ λ _ is. absurd (none-some to is)
 ] refl goes
 
-pub found-again : (es : List Entry) (id place to : ℕ) → ((e : Entry) → entry_of es id ≡ Some e → slice_get es place ≡ Some e) → option_map (λ (f : Flying). f.to) (copy_of (entry_of es id) id) ≡ Some to → IsFound es id place to
-found-again es id place to at goes = elim (entry_of es id) as (λ o. entry_of es id ≡ o → option_map (λ (f : Flying). f.to) (copy_of o id) ≡ Some to → IsFound es id place to) [
+pub found-again : (es : List Entry) (id index to : ℕ) → ((e : Entry) → entry_of es id ≡ Some e → slice_get es index ≡ Some e) → option_map (λ (f : Flying). f.to) (copy_of (entry_of es id) id) ≡ Some to → IsFound es id index to
+found-again es id index to at goes = elim (entry_of es id) as (λ o. entry_of es id ≡ o → option_map (λ (f : Flying). f.to) (copy_of o id) ≡ Some to → IsFound es id index to) [
   | None ↦ λ _ is. absurd (none-some to is)
   | Some e ↦ λ there is.
       let here = goes-to e.1 id to (slice_get (member_list (e.1).to) (id - e.0)) is in
@@ -488,5 +488,5 @@ rises-within low next (suc k) m [] r at = absurd cc
 rises-within low next zero m (x ∷ xs) r at = let same = same_Some x m at in let up = rises-to (x + 1) next xs r.1 in omega arith
 rises-within low next (suc k) m (x ∷ xs) r at = rises-within (x + 1) next k m xs r.1 at
 
-pub found-below : (es : List Entry) (id place to : ℕ) → IsFound es id place to → to < 256
-found-below es id place to f = rises-within 0 256 (id - (f.entry).0) to (member_list ((f.entry).1).to) (members-sorted 256 ((f.entry).1).to) f.member
+pub found-below : (es : List Entry) (id index to : ℕ) → IsFound es id index to → to < 256
+found-below es id index to f = rises-within 0 256 (id - (f.entry).0) to (member_list ((f.entry).1).to) (members-sorted 256 ((f.entry).1).to) f.member

@@ -219,12 +219,12 @@ module _ {F : Type 0} (T : F → ℕ → Cast → Bool → Cast → F → Type 0
 
 -- ---- an id after those of all casts
 
-pub rising-last : (low next id place : ℕ) (es : List Entry) (e : Entry) → AreRising low es next → slice_get es place ≡ Some e → place + 1 ≡ length es → e.0 + size e.1 ≤ id → AreRising low es id
+pub rising-last : (low next id index : ℕ) (es : List Entry) (e : Entry) → AreRising low es next → slice_get es index ≡ Some e → index + 1 ≡ length es → e.0 + size e.1 ≤ id → AreRising low es id
 rising-last low next id zero [] e r at last le = absurd cc
-rising-last low next id (suc place) [] e r at last le = absurd cc
+rising-last low next id (suc index) [] e r at last le = absurd cc
 rising-last low next id zero (x ∷ []) e r at last le = (r.0, r.1, subst (λ (y : Entry). y.0 + size y.1 ≤ id) (sym (same_Some x e at)) le)
 rising-last low next id zero (x ∷ (y ∷ es)) e r at last le = absurd (omega arith)
-rising-last low next id (suc place) (x ∷ es) e r at last le = (r.0, r.1, rising-last (x.0 + size x.1) next id place es e r.2 at (omega arith) le)
+rising-last low next id (suc index) (x ∷ es) e r at last le = (r.0, r.1, rising-last (x.0 + size x.1) next id index es e r.2 at (omega arith) le)
 
 -- ids may be left out after the last
 pub rising-later : (low next later : ℕ) (es : List Entry) → AreRising low es next → next ≤ later → AreRising low es later

@@ -15,26 +15,26 @@ use Rattle.mesh_radio.proofs.Nexts.{entry-between, before-next, before-at, lefts
 use Rattle.mesh_radio.proofs.Sweeps.{entry-push, gone-push, gone-none}
 
 -- the casts before that of the least copy have none
-pub least-gone : (es : List Entry) (place id to : ℕ) → IsLeast es place id to → AreGone es place
-least-gone es place id to l =
+pub least-gone : (es : List Entry) (index id to : ℕ) → IsLeast es index id to → AreGone es index
+least-gone es index id to l =
     let n = l.next in
     record {
-      within = let inside = slice_get_within es place n.entry n.at in omega arith;
-      none = λ q le b. n.none q le (let up = before-at es place q n.entry n.at b in omega arith);
+      within = let inside = slice_get_within es index n.entry n.at in omega arith;
+      none = λ q le b. n.none q le (let up = before-at es index q n.entry n.at b in omega arith);
     }
 
-pub least-found : (es : List Entry) (next place id to : ℕ) → AreRising 1 es next → AllByRecursion (λ x. AreLeft x.1) es → IsLeast es place id to → IsFound es id place to
-least-found es next place id to r all l =
+pub least-found : (es : List Entry) (next index id to : ℕ) → AreRising 1 es next → AllByRecursion (λ x. AreLeft x.1) es → IsLeast es index id to → IsFound es id index to
+least-found es next index id to r all l =
     let n = l.next in
     let e = n.entry in
     let is = l.is in
-    let here = member-rank to (e.1).to n.below (lefts-at place es e all n.at to n.left) in
+    let here = member-rank to (e.1).to n.below (lefts-at index es e all n.at to n.left) in
     let inside = slice_get_within (member_list (e.1).to) (copies_before e.1 to) to here in
     let back : id - e.0 ≡ copies_before e.1 to = omega arith in
     record {
       entry = e;
       at = n.at;
-      is = entry-between 1 next place id es e r n.at (omega arith) (before-next 1 next place id es e r n.at (omega arith));
+      is = entry-between 1 next index id es e r n.at (omega arith) (before-next 1 next index id es e r n.at (omega arith));
       low = omega arith;
       member = ap (slice_get (member_list (e.1).to)) back ∙ here;
       left = n.left;
@@ -47,14 +47,14 @@ slice_get-push (y ∷ es) e zero x h = h
 slice_get-push (y ∷ es) e (suc k) x h = slice_get-push es e k x h
 
 -- it is the least still, after a cast more
-pub least-push : (es : List Entry) (next place id to : ℕ) (c : Cast) → AreRising 1 es next → AllByRecursion (λ x. AreLeft x.1) es → IsLeast es place id to → IsLeast (es ++ (next, c) ∷ []) place id to
-least-push es next place id to c r all l =
+pub least-push : (es : List Entry) (next index id to : ℕ) (c : Cast) → AreRising 1 es next → AllByRecursion (λ x. AreLeft x.1) es → IsLeast es index id to → IsLeast (es ++ (next, c) ∷ []) index id to
+least-push es next index id to c r all l =
     let n = l.next in
-    let within = next-within es next 0 place to n.entry r all n n.at in
+    let within = next-within es next 0 index to n.entry r all n n.at in
     record {
       next = record {
         entry = n.entry;
-        at = slice_get-push es (next, c) place n.entry n.at;
+        at = slice_get-push es (next, c) index n.entry n.at;
         left = n.left;
         below = n.below;
         late = n.late;
@@ -80,26 +80,26 @@ none-empty (f ∷ fs) none = absurd (none-some f (sym (none f.id) ∙ find-first
 pub no-copies : (es : List Entry) (next : ℕ) → AreRising 1 es next → ((q : ℕ) → 0 ≤ q → copy_of (entry_of es q) q ≡ None) → copies_of es ≡ []
 no-copies es next r none = none-empty (copies_of es) (λ q. find-all 1 next q es r ∙ none q (omega arith))
 
-pub least-is : (es : List Entry) (next place id to : ℕ) (e : Entry) → IsNext es 0 place to → slice_get es place ≡ Some e → id ≡ e.0 + copies_before e.1 to → IsLeast es place id to
-least-is es next place id to e n at is =
+pub least-is : (es : List Entry) (next index id to : ℕ) (e : Entry) → IsNext es 0 index to → slice_get es index ≡ Some e → id ≡ e.0 + copies_before e.1 to → IsLeast es index id to
+least-is es next index id to e n at is =
     let same : e ≡ n.entry = same_Some e n.entry (sym at ∙ n.at) in
     record { next = n; is = is ∙ ap (λ (y : Entry). y.0 + copies_before y.1 to) same }
 
-pub first-id : (es : List Entry) (next : ℕ) (l : Least) → AreRising 1 es next → AllByRecursion (λ x. AreLeft x.1) es → IsLeast es l.spot.place l.id l.spot.to → Some l.id ≡ option_map (λ (f : Flying). f.id) (slice_get (copies_of es) 0)
+pub first-id : (es : List Entry) (next : ℕ) (l : Least) → AreRising 1 es next → AllByRecursion (λ x. AreLeft x.1) es → IsLeast es l.spot.index l.id l.spot.to → Some l.id ≡ option_map (λ (f : Flying). f.id) (slice_get (copies_of es) 0)
 first-id es next l r all least =
     let n = least.next in
-    ap (λ k. Some k) least.is ∙ ap (option_map (λ (f : Flying). f.id)) (sym (first-of (copies_of es) _ _ (next-told es next 0 l.spot.place l.spot.to n.entry r all n n.at)))
+    ap (λ k. Some k) least.is ∙ ap (option_map (λ (f : Flying). f.id)) (sym (first-of (copies_of es) _ _ (next-told es next 0 l.spot.index l.spot.to n.entry r all n n.at)))
 
 -- ---- what a call keeps
 
-pub kept-least : (es : List Entry) (next : ℕ) (c : Cast) (o : Option Least) → AreRising 1 es next → AllByRecursion (λ x. AreLeft x.1) es → IsLeastOf es o → IfSome o (λ l. IsLeast (es ++ (next, c) ∷ []) l.spot.place l.id l.spot.to)
+pub kept-least : (es : List Entry) (next : ℕ) (c : Cast) (o : Option Least) → AreRising 1 es next → AllByRecursion (λ x. AreLeft x.1) es → IsLeastOf es o → IfSome o (λ l. IsLeast (es ++ (next, c) ∷ []) l.spot.index l.id l.spot.to)
 kept-least es next c None r all is = tt
-kept-least es next c (Some l) r all is = least-push es next l.spot.place l.id l.spot.to c r all is
+kept-least es next c (Some l) r all is = least-push es next l.spot.index l.id l.spot.to c r all is
 
 pub gone-then : (es : List Entry) (next : ℕ) (c : Cast) (o : Option Least) → AreRising 1 es next → IsLeastOf es o → IfNone o (AreGone (es ++ (next, c) ∷ []) (length es))
 gone-then es next c None r is = gone-push es next (length es) c r (all-gone es next r is)
 gone-then es next c (Some l) r is = tt
 
-pub front-gone : (es : List Entry) (front : ℕ) (o : Option Least) → IsLeastOf es o → IfSome o (λ l. front ≡ l.spot.place) → IfNone o (front ≡ 0) → AreGone es front
+pub front-gone : (es : List Entry) (front : ℕ) (o : Option Least) → IsLeastOf es o → IfSome o (λ l. front ≡ l.spot.index) → IfNone o (front ≡ 0) → AreGone es front
 front-gone es front None is some none = subst (AreGone es) (sym none) (gone-none es)
-front-gone es front (Some l) is some none = subst (AreGone es) (sym some) (least-gone es l.spot.place l.id l.spot.to is)
+front-gone es front (Some l) is some none = subst (AreGone es) (sym some) (least-gone es l.spot.index l.id l.spot.to is)

@@ -22,44 +22,44 @@ first-none-before : (es : List Entry) (q : ℕ) → IsBefore es 0 q → entry_of
 first-none-before [] q b = refl
 first-none-before (e ∷ es) q b = ap (λ t. cond t (Some (unwrap_or (entry_of es q) e)) None) (lt-leb e.0 q b)
 
-pub entry-between : (low next place q : ℕ) (es : List Entry) (e : Entry) → AreRising low es next → slice_get es place ≡ Some e → e.0 ≤ q → IsBefore es (place + 1) q → entry_of es q ≡ Some e
+pub entry-between : (low next index q : ℕ) (es : List Entry) (e : Entry) → AreRising low es next → slice_get es index ≡ Some e → e.0 ≤ q → IsBefore es (index + 1) q → entry_of es q ≡ Some e
 entry-between low next zero q [] e r at le b = absurd cc
-entry-between low next (suc place) q [] e r at le b = absurd cc
+entry-between low next (suc index) q [] e r at le b = absurd cc
 entry-between low next zero q (x ∷ es) e r at le b =
     let same : x ≡ e = same_Some x e at in
     let here : x.0 ≤ q = subst (λ (y : Entry). y.0 ≤ q) (sym same) le in
     ap (λ t. cond t (Some (unwrap_or (entry_of es q) x)) None) (le-leb x.0 q here) ∙ ap (λ o. Some (unwrap_or o x)) (first-none-before es q b) ∙ at
-entry-between low next (suc place) q (x ∷ es) e r at le b =
-    let up = rising-first (x.0 + size x.1) next place es e r.2 at in
-    let same : suc place + 1 ≡ suc (place + 1) = omega arith in
+entry-between low next (suc index) q (x ∷ es) e r at le b =
+    let up = rising-first (x.0 + size x.1) next index es e r.2 at in
+    let same : suc index + 1 ≡ suc (index + 1) = omega arith in
     ap (λ t. cond t (Some (unwrap_or (entry_of es q) x)) None) (le-leb x.0 q (omega arith))
-    ∙ ap (λ o. Some (unwrap_or o x)) (entry-between (x.0 + size x.1) next place q es e r.2 at le (subst (λ n. IsBefore (x ∷ es) n q) same b))
+    ∙ ap (λ o. Some (unwrap_or o x)) (entry-between (x.0 + size x.1) next index q es e r.2 at le (subst (λ n. IsBefore (x ∷ es) n q) same b))
 
 -- an id of the cast is below the next
-pub before-next : (low next place q : ℕ) (es : List Entry) (e : Entry) → AreRising low es next → slice_get es place ≡ Some e → q < e.0 + size e.1 → IsBefore es (place + 1) q
+pub before-next : (low next index q : ℕ) (es : List Entry) (e : Entry) → AreRising low es next → slice_get es index ≡ Some e → q < e.0 + size e.1 → IsBefore es (index + 1) q
 before-next low next zero q [] e r at lt = absurd cc
-before-next low next (suc place) q [] e r at lt = absurd cc
+before-next low next (suc index) q [] e r at lt = absurd cc
 before-next low next zero q (x ∷ []) e r at lt = tt
 before-next low next zero q (x ∷ (y ∷ es)) e r at lt =
     let same : x ≡ e = same_Some x e at in
     let here : q < x.0 + size x.1 = subst (λ (z : Entry). q < z.0 + size z.1) (sym same) lt in
     let up = (r.2).0 in
     omega arith
-before-next low next (suc place) q (x ∷ es) e r at lt =
-    let same : suc (place + 1) ≡ suc place + 1 = omega arith in
-    subst (λ n. IsBefore (x ∷ es) n q) same (before-next (x.0 + size x.1) next place q es e r.2 at lt)
+before-next low next (suc index) q (x ∷ es) e r at lt =
+    let same : suc (index + 1) ≡ suc index + 1 = omega arith in
+    subst (λ n. IsBefore (x ∷ es) n q) same (before-next (x.0 + size x.1) next index q es e r.2 at lt)
 
-pub ids-below : (low next place : ℕ) (es : List Entry) (e : Entry) → AreRising low es next → slice_get es place ≡ Some e → e.0 + size e.1 ≤ next
+pub ids-below : (low next index : ℕ) (es : List Entry) (e : Entry) → AreRising low es next → slice_get es index ≡ Some e → e.0 + size e.1 ≤ next
 ids-below low next zero [] e r at = absurd cc
-ids-below low next (suc place) [] e r at = absurd cc
+ids-below low next (suc index) [] e r at = absurd cc
 ids-below low next zero (x ∷ es) e r at = subst (λ (y : Entry). y.0 + size y.1 ≤ next) (same_Some x e at) (rising-low (x.0 + size x.1) next es r.2)
-ids-below low next (suc place) (x ∷ es) e r at = ids-below (x.0 + size x.1) next place es e r.2 at
+ids-below low next (suc index) (x ∷ es) e r at = ids-below (x.0 + size x.1) next index es e r.2 at
 
-pub lefts-at : (place : ℕ) (es : List Entry) (e : Entry) → AllByRecursion (λ x. AreLeft x.1) es → slice_get es place ≡ Some e → AreLeft e.1
+pub lefts-at : (index : ℕ) (es : List Entry) (e : Entry) → AllByRecursion (λ x. AreLeft x.1) es → slice_get es index ≡ Some e → AreLeft e.1
 lefts-at zero [] e all at = absurd cc
-lefts-at (suc place) [] e all at = absurd cc
+lefts-at (suc index) [] e all at = absurd cc
 lefts-at zero (x ∷ es) e all at = subst (λ (y : Entry). AreLeft y.1) (same_Some x e at) all.0
-lefts-at (suc place) (x ∷ es) e all at = lefts-at place es e all.1 at
+lefts-at (suc index) (x ∷ es) e all at = lefts-at index es e all.1 at
 
 -- ---- no copy
 
@@ -75,7 +75,7 @@ pub none-at-start : (es : List Entry) (id k : ℕ) → k ≡ 0 → NoneUpTo es i
 none-at-start es id k zero_is q le b = ap (λ o. copy_of o q) (first-none-before es q (subst (λ n. IsBefore es n q) zero_is b))
 
 module _ (es : List Entry) (next id : ℕ) (r : AreRising 1 es next) where
-  -- the cast before the place has no copy from the id on
+  -- the cast before the index has no copy from the id on
   pub none-rest : (k : ℕ) (e : Entry) → 0 < k → e.0 ≤ id → slice_get es (k - 1) ≡ Some e
       → ((i x : ℕ) → id - e.0 ≤ i → slice_get (member_list (e.1).to) i ≡ Some x → contains (e.1).left x ≡ false) → NoneUpTo es id k
   none-rest k e some low at none q le b =
@@ -83,17 +83,17 @@ module _ (es : List Entry) (next id : ℕ) (r : AreRising 1 es next) where
       no-copy es q e (entry-between 1 next (k - 1) q es e r at (omega arith) (subst (λ n. IsBefore es n q) same b)) (λ x is. none (q - e.0) x (omega arith) is)
 
   -- nor has the next
-  pub none-more : (place : ℕ) (e : Entry) → NoneUpTo es id place → slice_get es place ≡ Some e → ((x : ℕ) → contains (e.1).left x ≡ false) → NoneUpTo es id (place + 1)
-  none-more place e before at none q le b = elim (cases_lt q e.0) [
+  pub none-more : (index : ℕ) (e : Entry) → NoneUpTo es id index → slice_get es index ≡ Some e → ((x : ℕ) → contains (e.1).left x ≡ false) → NoneUpTo es id (index + 1)
+  none-more index e before at none q le b = elim (cases_lt q e.0) [
     | inl less ↦ before q le (subst (λ o. IfSome o (λ (y : Entry). q < y.0)) (sym at) less)
-    | inr more ↦ no-copy es q e (entry-between 1 next place q es e r at more b) (λ x is. none x)
+    | inr more ↦ no-copy es q e (entry-between 1 next index q es e r at more b) (λ x is. none x)
   ]
 
   -- the first of a cast, from its id on or from the front
-  pub next-in : (place to : ℕ) (e : Entry) → slice_get es place ≡ Some e → AreLeft e.1 → to < 256 → contains (e.1).left to ≡ true → id ≤ e.0 + copies_before e.1 to
+  pub next-in : (index to : ℕ) (e : Entry) → slice_get es index ≡ Some e → AreLeft e.1 → to < 256 → contains (e.1).left to ≡ true → id ≤ e.0 + copies_before e.1 to
       → ((q : ℕ) → id ≤ q → q < e.0 → copy_of (entry_of es q) q ≡ None)
-      → ((q x : ℕ) → id ≤ q → e.0 ≤ q → slice_get (member_list (e.1).to) (q - e.0) ≡ Some x → x < to → contains (e.1).left x ≡ false) → IsNext es id place to
-  next-in place to e at are lt left late before none = record {
+      → ((q x : ℕ) → id ≤ q → e.0 ≤ q → slice_get (member_list (e.1).to) (q - e.0) ≡ Some x → x < to → contains (e.1).left x ≡ false) → IsNext es id index to
+  next-in index to e at are lt left late before none = record {
     entry = e;
     at = at;
     left = left;
@@ -104,7 +104,7 @@ module _ (es : List Entry) (next id : ℕ) (r : AreRising 1 es next) where
       | inr low ↦
           let here = member-rank to (e.1).to lt (are to left) in
           let inside = slice_get_within (member_list (e.1).to) (copies_before e.1 to) to here in
-          no-copy es q e (entry-between 1 next place q es e r at low (before-next 1 next place q es e r at (omega arith)))
+          no-copy es q e (entry-between 1 next index q es e r at low (before-next 1 next index q es e r at (omega arith)))
           (λ x is. none q x le low is (rises-order 0 256 (q - e.0) (copies_before e.1 to) x to (member_list (e.1).to) (members-sorted 256 (e.1).to) is here (omega arith)))
     ];
   }
@@ -167,38 +167,38 @@ from-none id low next (f ∷ fs) n none = elim (cases_lt f.id id) [
 ]
 
 -- the copy that comes next
-pub next-copy : (es : List Entry) (next id place to : ℕ) (e : Entry) → AreRising 1 es next → AllByRecursion (λ x. AreLeft x.1) es → IsNext es id place to → slice_get es place ≡ Some e
+pub next-copy : (es : List Entry) (next id index to : ℕ) (e : Entry) → AreRising 1 es next → AllByRecursion (λ x. AreLeft x.1) es → IsNext es id index to → slice_get es index ≡ Some e
     → find_copy (copies_of es) (e.0 + copies_before e.1 to) ≡ Some (record { id = e.0 + copies_before e.1 to; from = (e.1).from; to = to; bytes = (e.1).bytes })
-next-copy es next id place to e r all n at =
+next-copy es next id index to e r all n at =
     let same : n.entry ≡ e = same_Some n.entry e (sym n.at ∙ at) in
     let left : contains (e.1).left to ≡ true = ap (λ (y : Entry). contains (y.1).left to) (sym same) ∙ n.left in
     let j = e.0 + copies_before e.1 to in
-    let here = member-rank to (e.1).to n.below (lefts-at place es e all at to left) in
+    let here = member-rank to (e.1).to n.below (lefts-at index es e all at to left) in
     let inside = slice_get_within (member_list (e.1).to) (copies_before e.1 to) to here in
     let back : j - e.0 ≡ copies_before e.1 to = omega arith in
     find-all 1 next j es r
-    ∙ ap (λ o. copy_of o j) (entry-between 1 next place j es e r at (omega arith) (before-next 1 next place j es e r at (omega arith)))
+    ∙ ap (λ o. copy_of o j) (entry-between 1 next index j es e r at (omega arith) (before-next 1 next index j es e r at (omega arith)))
     ∙ ap (λ i. slot_for e.1 j (slice_get (member_list (e.1).to) i)) back
     ∙ ap (slot_for e.1 j) here ∙ slot-there e.1 j to left
 
 -- and what is told of it
-pub next-told : (es : List Entry) (next id place to : ℕ) (e : Entry) → AreRising 1 es next → AllByRecursion (λ x. AreLeft x.1) es → IsNext es id place to → slice_get es place ≡ Some e
+pub next-told : (es : List Entry) (next id index to : ℕ) (e : Entry) → AreRising 1 es next → AllByRecursion (λ x. AreLeft x.1) es → IsNext es id index to → slice_get es index ≡ Some e
     → from_id (copies_of es) id ≡ record { id = e.0 + copies_before e.1 to; from = (e.1).from; to = to; bytes = (e.1).bytes } ∷ from_id (copies_of es) (e.0 + copies_before e.1 to + 1)
-next-told es next id place to e r all n at =
+next-told es next id index to e r all n at =
     let same : n.entry ≡ e = same_Some n.entry e (sym n.at ∙ at) in
     let ids = ap (λ (y : Entry). y.0 + copies_before y.1 to) same in
-    from-next 1 next id (e.0 + copies_before e.1 to) (copies_of es) _ (copies-numbered 1 next es r) (next-copy es next id place to e r all n at)
+    from-next 1 next id (e.0 + copies_before e.1 to) (copies_of es) _ (copies-numbered 1 next es r) (next-copy es next id index to e r all n at)
     (subst (λ k. id ≤ k) ids n.late)
     (λ q up lt. find-all 1 next q es r ∙ n.none q up (subst (λ k. q < k) (sym ids) lt))
 
-pub next-within : (es : List Entry) (next id place to : ℕ) (e : Entry) → AreRising 1 es next → AllByRecursion (λ x. AreLeft x.1) es → IsNext es id place to → slice_get es place ≡ Some e
+pub next-within : (es : List Entry) (next id index to : ℕ) (e : Entry) → AreRising 1 es next → AllByRecursion (λ x. AreLeft x.1) es → IsNext es id index to → slice_get es index ≡ Some e
     → (id ≤ e.0 + copies_before e.1 to) × (e.0 + copies_before e.1 to < next)
-next-within es next id place to e r all n at =
+next-within es next id index to e r all n at =
     let same : n.entry ≡ e = same_Some n.entry e (sym n.at ∙ at) in
     let left : contains (e.1).left to ≡ true = ap (λ (y : Entry). contains (y.1).left to) (sym same) ∙ n.left in
-    let here = member-rank to (e.1).to n.below (lefts-at place es e all at to left) in
+    let here = member-rank to (e.1).to n.below (lefts-at index es e all at to left) in
     let inside = slice_get_within (member_list (e.1).to) (copies_before e.1 to) to here in
-    let most = ids-below 1 next place es e r at in
+    let most = ids-below 1 next index es e r at in
     (subst (λ k. id ≤ k) (ap (λ (y : Entry). y.0 + copies_before y.1 to) same) n.late, omega arith)
 
 -- ---- the parts of the walk
@@ -269,29 +269,29 @@ from-zero es k = by (slice_get es k)
     by (Some e) = omega arith
 
 -- a cast that isn't before the id
-pub later-next : (es : List Entry) (next id place to : ℕ) (e : Entry) → AreRising 1 es next → AllByRecursion (λ x. AreLeft x.1) es → NoneUpTo es id place → IsFrom es place id → slice_get es place ≡ Some e
-    → IsLeastFrom (e.1).left 0 (Some to) → to < 256 → IsNext es id place to
-later-next es next id place to e r all before b at least below =
-    let up = from-at es place id e at b in
-    next-in es next id r place to e at (lefts-at place es e all at) below least.1 (omega arith)
+pub later-next : (es : List Entry) (next id index to : ℕ) (e : Entry) → AreRising 1 es next → AllByRecursion (λ x. AreLeft x.1) es → NoneUpTo es id index → IsFrom es index id → slice_get es index ≡ Some e
+    → IsLeastFrom (e.1).left 0 (Some to) → to < 256 → IsNext es id index to
+later-next es next id index to e r all before b at least below =
+    let up = from-at es index id e at b in
+    next-in es next id r index to e at (lefts-at index es e all at) below least.1 (omega arith)
     (λ q le lt. before q le (subst (λ o. IfSome o (λ (y : Entry). q < y.0)) (sym at) lt))
     (λ q x le low is lt. least.2 x (omega arith) lt)
 
-size-some : (low next place : ℕ) (es : List Entry) (e : Entry) → AreRising low es next → slice_get es place ≡ Some e → 0 < size e.1
+size-some : (low next index : ℕ) (es : List Entry) (e : Entry) → AreRising low es next → slice_get es index ≡ Some e → 0 < size e.1
 size-some low next zero [] e r at = absurd cc
-size-some low next (suc place) [] e r at = absurd cc
+size-some low next (suc index) [] e r at = absurd cc
 size-some low next zero (x ∷ es) e r at = subst (λ (y : Entry). 0 < size y.1) (same_Some x e at) r.1
-size-some low next (suc place) (x ∷ es) e r at = size-some (x.0 + size x.1) next place es e r.2 at
+size-some low next (suc index) (x ∷ es) e r at = size-some (x.0 + size x.1) next index es e r.2 at
 
-pub later-none : (es : List Entry) (next id place : ℕ) (e : Entry) → AreRising 1 es next → NoneUpTo es id place → IsFrom es place id → slice_get es place ≡ Some e
-    → IsLeastFrom (e.1).left 0 None → NoneUpTo es id (place + 1) × IsFrom es (place + 1) id
-later-none es next id place e r before b at least =
-    let up = from-at es place id e at b in
-    let one = size-some 1 next place es e r at in
-    (none-more es next id r place e before at (λ x. least x (omega arith)), before-from es (place + 1) id (before-next 1 next place id es e r at (omega arith)))
+pub later-none : (es : List Entry) (next id index : ℕ) (e : Entry) → AreRising 1 es next → NoneUpTo es id index → IsFrom es index id → slice_get es index ≡ Some e
+    → IsLeastFrom (e.1).left 0 None → NoneUpTo es id (index + 1) × IsFrom es (index + 1) id
+later-none es next id index e r before b at least =
+    let up = from-at es index id e at b in
+    let one = size-some 1 next index es e r at in
+    (none-more es next id r index e before at (λ x. least x (omega arith)), before-from es (index + 1) id (before-next 1 next index id es e r at (omega arith)))
 
-pub none-after : (es : List Entry) (id place : ℕ) → NoneUpTo es id place → slice_get es place ≡ None → (q : ℕ) → id ≤ q → copy_of (entry_of es q) q ≡ None
-none-after es id place before past q le = before q le (before-by es place q (λ e at. absurd (none-some e (sym past ∙ at))))
+pub none-after : (es : List Entry) (id index : ℕ) → NoneUpTo es id index → slice_get es index ≡ None → (q : ℕ) → id ≤ q → copy_of (entry_of es q) q ≡ None
+none-after es id index before past q le = before q le (before-by es index q (λ e at. absurd (none-some e (sym past ∙ at))))
 
 -- ---- the first of all
 

@@ -85,36 +85,36 @@ gone-more es next gone e r g at least = record {
 
 -- ---- a packet that goes
 
-packet-same : (low next place : ℕ) (es : List Entry) (e : Entry) → slice_get es place ≡ Some e → has_left e.1 ≡ false → copies_of (set_value_at es place (without_packet e.1)) ≡ copies_of es
+packet-same : (low next index : ℕ) (es : List Entry) (e : Entry) → slice_get es index ≡ Some e → has_left e.1 ≡ false → copies_of (set_value_at es index (without_packet e.1)) ≡ copies_of es
 packet-same low next zero [] e at none = absurd cc
-packet-same low next (suc place) [] e at none = absurd cc
+packet-same low next (suc index) [] e at none = absurd cc
 packet-same low next zero (x ∷ es) e at none =
     let same = same_Some x e at in
     ap (λ (fs : List Flying). fs ++ copies_of es) (
     cast-empty (x.0, without_packet e.1) none
     ∙ sym (cast-empty x (ap (λ (y : Entry). has_left y.1) same ∙ none)))
-packet-same low next (suc place) (x ∷ es) e at none = ap (λ (fs : List Flying). copies_in (slots_at x) ++ fs) (packet-same low next place es e at none)
+packet-same low next (suc index) (x ∷ es) e at none = ap (λ (fs : List Flying). copies_in (slots_at x) ++ fs) (packet-same low next index es e at none)
 
-packet-rising : (low next place : ℕ) (es : List Entry) (e : Entry) → slice_get es place ≡ Some e → AreRising low es next → AreRising low (set_value_at es place (without_packet e.1)) next
+packet-rising : (low next index : ℕ) (es : List Entry) (e : Entry) → slice_get es index ≡ Some e → AreRising low es next → AreRising low (set_value_at es index (without_packet e.1)) next
 packet-rising low next zero [] e at r = absurd cc
-packet-rising low next (suc place) [] e at r = absurd cc
+packet-rising low next (suc index) [] e at r = absurd cc
 packet-rising low next zero (x ∷ es) e at r =
     let long : size (without_packet e.1) ≡ size x.1 = ap (λ (y : Entry). size y.1) (sym (same_Some x e at)) in
     (r.0, subst (λ n. 0 < n) (sym long) r.1, subst (λ n. AreRising (x.0 + n) es next) (sym long) r.2)
-packet-rising low next (suc place) (x ∷ es) e at r = (r.0, r.1, packet-rising (x.0 + size x.1) next place es e at r.2)
+packet-rising low next (suc index) (x ∷ es) e at r = (r.0, r.1, packet-rising (x.0 + size x.1) next index es e at r.2)
 
-packet-lefts : (place : ℕ) (es : List Entry) (e : Entry) → slice_get es place ≡ Some e → AllByRecursion (λ x. AreLeft x.1) es → AllByRecursion (λ x. AreLeft x.1) (set_value_at es place (without_packet e.1))
+packet-lefts : (index : ℕ) (es : List Entry) (e : Entry) → slice_get es index ≡ Some e → AllByRecursion (λ x. AreLeft x.1) es → AllByRecursion (λ x. AreLeft x.1) (set_value_at es index (without_packet e.1))
 packet-lefts zero [] e at all = absurd cc
-packet-lefts (suc place) [] e at all = absurd cc
+packet-lefts (suc index) [] e at all = absurd cc
 packet-lefts zero (x ∷ es) e at all = (subst (λ (y : Entry). AreLeft y.1) (same_Some x e at) all.0, all.1)
-packet-lefts (suc place) (x ∷ es) e at all = (all.0, packet-lefts place es e at all.1)
+packet-lefts (suc index) (x ∷ es) e at all = (all.0, packet-lefts index es e at all.1)
 
 -- where no copy of the cast flies
-pub packet-tidied : (place : ℕ) (es : List Entry) (e : Entry) → slice_get es place ≡ Some e → has_left e.1 ≡ false → IsTidied es (set_value_at es place (without_packet e.1))
-packet-tidied place es e at none = record {
-  same = packet-same 0 0 place es e at none;
-  rising = λ low next r. packet-rising low next place es e at r;
-  lefts = λ all. packet-lefts place es e at all;
+pub packet-tidied : (index : ℕ) (es : List Entry) (e : Entry) → slice_get es index ≡ Some e → has_left e.1 ≡ false → IsTidied es (set_value_at es index (without_packet e.1))
+packet-tidied index es e at none = record {
+  same = packet-same 0 0 index es e at none;
+  rising = λ low next r. packet-rising low next index es e at r;
+  lefts = λ all. packet-lefts index es e at all;
 }
 
 pub tidied-then : (es now later : List Entry) → IsTidied es now → IsTidied now later → IsTidied es later
@@ -149,17 +149,17 @@ gone-push es next gone c r g = record {
 
 -- ---- after a take
 
-before-taken : (es : List Entry) (place k q : ℕ) (w : Cast) → IsBefore (set_value_at es place w) k q → IsBefore es k q
-before-taken [] place k q w b = b
+before-taken : (es : List Entry) (index k q : ℕ) (w : Cast) → IsBefore (set_value_at es index w) k q → IsBefore es k q
+before-taken [] index k q w b = b
 before-taken (e ∷ es) zero zero q w b = b
 before-taken (e ∷ es) zero (suc k) q w b = b
-before-taken (e ∷ es) (suc place) zero q w b = b
-before-taken (e ∷ es) (suc place) (suc k) q w b = before-taken es place k q w b
+before-taken (e ∷ es) (suc index) zero q w b = b
+before-taken (e ∷ es) (suc index) (suc k) q w b = before-taken es index k q w b
 
-length-taken : (es : List Entry) (place : ℕ) (w : Cast) → length (set_value_at es place w) ≡ length es
-length-taken [] place w = refl
+length-taken : (es : List Entry) (index : ℕ) (w : Cast) → length (set_value_at es index w) ≡ length es
+length-taken [] index w = refl
 length-taken (e ∷ es) zero w = refl
-length-taken (e ∷ es) (suc place) w = let rest = length-taken es place w in omega arith
+length-taken (e ∷ es) (suc index) w = let rest = length-taken es index w in omega arith
 
 find-without : (fs : List Flying) (id q : ℕ) → find_copy fs q ≡ None → find_copy (without fs id) q ≡ None
 unfolding without
@@ -178,14 +178,14 @@ find-without (f ∷ fs) id q none = by f fs (without fs id) id q none (find-with
               ]
         ] refl none
 
-pub gone-taken : (es : List Entry) (next id place gone to : ℕ) (e : Entry) (bytes : List ℕ) → AreRising 1 es next → slice_get es place ≡ Some e
-    → IsLess (copies_of es) (copies_of (set_value_at es place (without_to e.1 to))) id bytes → AreGone es gone → AreGone (set_value_at es place (without_to e.1 to)) gone
-gone-taken es next id place gone to e bytes r at less g = record {
-  within = let w = g.within in let long = length-taken es place (without_to e.1 to) in omega arith;
+pub gone-taken : (es : List Entry) (next id index gone to : ℕ) (e : Entry) (bytes : List ℕ) → AreRising 1 es next → slice_get es index ≡ Some e
+    → IsLess (copies_of es) (copies_of (set_value_at es index (without_to e.1 to))) id bytes → AreGone es gone → AreGone (set_value_at es index (without_to e.1 to)) gone
+gone-taken es next id index gone to e bytes r at less g = record {
+  within = let w = g.within in let long = length-taken es index (without_to e.1 to) in omega arith;
   none = λ q le b.
-      sym (find-all 1 next q (set_value_at es place (without_to e.1 to)) (rising-taken 1 next place to es e r at))
+      sym (find-all 1 next q (set_value_at es index (without_to e.1 to)) (rising-taken 1 next index to es e r at))
       ∙ ap (λ fs. find_copy fs q) less.others
-      ∙ find-without (copies_of es) id q (find-all 1 next q es r ∙ g.none q le (before-taken es place gone q (without_to e.1 to) b));
+      ∙ find-without (copies_of es) id q (find-all 1 next q es r ∙ g.none q le (before-taken es index gone q (without_to e.1 to) b));
 }
 
 -- where no member is found from 0 on, no copy flies
@@ -205,15 +205,15 @@ some-left c None least below = sym (none-left c None least refl)
 some-left c (Some m) least below =
     sym (any-first (member_list c.left) (rank c.left m) m (sym (member_of_rank c.left m (rank c.left m) below least.1 refl)))
 
-pub gone-without-packet : (es : List Entry) (next place gone : ℕ) (e : Entry) → AreRising 1 es next → slice_get es place ≡ Some e → has_left e.1 ≡ false → AreGone es gone → AreGone (set_value_at es place (without_packet e.1)) gone
-gone-without-packet es next place gone e r at none g =
-    let now = set_value_at es place (without_packet e.1) in
-    let tidied = packet-tidied place es e at none in
+pub gone-without-packet : (es : List Entry) (next index gone : ℕ) (e : Entry) → AreRising 1 es next → slice_get es index ≡ Some e → has_left e.1 ≡ false → AreGone es gone → AreGone (set_value_at es index (without_packet e.1)) gone
+gone-without-packet es next index gone e r at none g =
+    let now = set_value_at es index (without_packet e.1) in
+    let tidied = packet-tidied index es e at none in
     record {
-      within = let w = g.within in let long = length-taken es place (without_packet e.1) in omega arith;
+      within = let w = g.within in let long = length-taken es index (without_packet e.1) in omega arith;
       none = λ q le b.
           sym (find-all 1 next q now (tidied.rising 1 next r))
           ∙ ap (λ fs. find_copy fs q) tidied.same
           ∙ find-all 1 next q es r
-          ∙ g.none q le (before-taken es place gone q (without_packet e.1) b);
+          ∙ g.none q le (before-taken es index gone q (without_packet e.1) b);
     }

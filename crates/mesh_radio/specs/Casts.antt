@@ -66,7 +66,7 @@ pub record AreKept (es : List Entry) (next count of_data : ℕ) : Type 0 where
   pub counted : count ≡ length (copies_of es)
   pub with_data : of_data ≡ data_in (copies_of es)
 
--- ---- the place of an id
+-- ---- the index of an id
 
 -- these numbers rise
 abbrev pub AreSorted : List ℕ → Type 0
@@ -100,10 +100,10 @@ copy_of (Some e) id = slot_for e.1 id (slice_get (member_list (e.1).to) (id - e.
 abbrev pub HasNone : List Entry → ℕ → Type 0
 HasNone es id = copy_of (entry_of es id) id ≡ None
 
--- the copy of that id is that to this receiver of the cast at this place
-pub record IsFound (es : List Entry) (id place to : ℕ) : Type 0 where
+-- the copy of that id is that to this receiver of the cast at this index
+pub record IsFound (es : List Entry) (id index to : ℕ) : Type 0 where
   pub entry : Entry
-  pub at : slice_get es place ≡ Some entry
+  pub at : slice_get es index ≡ Some entry
   pub is : entry_of es id ≡ Some entry
   pub low : entry.0 ≤ id
   pub member : slice_get (member_list (entry.1).to) (id - entry.0) ≡ Some to
@@ -115,22 +115,22 @@ pub record IsFound (es : List Entry) (id place to : ℕ) : Type 0 where
 abbrev pub HasNoneFrom : List Entry → ℕ → Type 0
 HasNoneFrom es id = (q : ℕ) → id ≤ q → HasNone es q
 
--- the id is below that of the cast at this place, if there is one
+-- the id is below that of the cast at this index, if there is one
 abbrev pub IsBefore : List Entry → ℕ → ℕ → Type 0
-IsBefore es place q = IfSome (slice_get es place) (λ e. q < e.0)
+IsBefore es index q = IfSome (slice_get es index) (λ e. q < e.0)
 
--- the cast at this place is not before that id
+-- the cast at this index is not before that id
 abbrev pub IsFrom : List Entry → ℕ → ℕ → Type 0
-IsFrom es place id = IfSome (slice_get es place) (λ e. id ≤ e.0)
+IsFrom es index id = IfSome (slice_get es index) (λ e. id ≤ e.0)
 
--- no copy flies from that id on, up to the cast at this place
+-- no copy flies from that id on, up to the cast at this index
 abbrev pub NoneUpTo : List Entry → ℕ → ℕ → Type 0
-NoneUpTo es id place = (q : ℕ) → id ≤ q → IsBefore es place q → HasNone es q
+NoneUpTo es id index = (q : ℕ) → id ≤ q → IsBefore es index q → HasNone es q
 
--- the copy to this receiver of the cast at this place is the first from that id on
-pub record IsNext (es : List Entry) (id place to : ℕ) : Type 0 where
+-- the copy to this receiver of the cast at this index is the first from that id on
+pub record IsNext (es : List Entry) (id index to : ℕ) : Type 0 where
   pub entry : Entry
-  pub at : slice_get es place ≡ Some entry
+  pub at : slice_get es index ≡ Some entry
   pub left : contains (entry.1).left to ≡ true
   pub below : to < 256
   pub late : id ≤ entry.0 + copies_before entry.1 to
@@ -138,15 +138,15 @@ pub record IsNext (es : List Entry) (id place to : ℕ) : Type 0 where
 
 -- ---- the least copy
 
--- the least copy in flight is that to this receiver of the cast at this place, and has that id
-pub record IsLeast (es : List Entry) (place id to : ℕ) : Type 0 where
-  pub next : IsNext es 0 place to
+-- the least copy in flight is that to this receiver of the cast at this index, and has that id
+pub record IsLeast (es : List Entry) (index id to : ℕ) : Type 0 where
+  pub next : IsNext es 0 index to
   pub is : id ≡ (next.entry).0 + copies_before (next.entry).1 to
 
 -- what is kept of the least copy, if one flies
 abbrev pub IsLeastOf : List Entry → Option Least → Type 0
 IsLeastOf es None = copies_of es ≡ []
-IsLeastOf es (Some l) = IsLeast es l.spot.place l.id l.spot.to
+IsLeastOf es (Some l) = IsLeast es l.spot.index l.id l.spot.to
 
 -- so many casts at the front have no copy in flight
 pub record AreGone (es : List Entry) (gone : ℕ) : Type 0 where

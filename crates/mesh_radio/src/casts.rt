@@ -7,7 +7,7 @@ ghost use Rattle.mesh_radio.specs.declared.casts.Cast.{Cast};
 ghost use Rattle.mesh_radio.specs.Casts.{Entry, AreCasts, AreLeft, IsFound, IsNext, IsSplit, IsFrom, AreGone, IsLeast, IsLeastOf, NoneUpTo, HasNone, HasNoneFrom, copy_of, entry_of, size, without_to};
 
 use crate::hashes::NumberHasher;
-use crate::places::place_near;
+use crate::positions::position_near;
 use crate::reserve::Reserve;
 use crate::shared::Shared;
 use indexmap::IndexMap;
@@ -27,10 +27,10 @@ pub struct Cast {
 /// Casts by the ids of their first copies, which rise.
 pub type Casts = IndexMap<u64, Cast, BuildHasherDefault<NumberHasher>>;
 
-/// Where a copy stands: the place of its cast, and its receiver.
+/// Where a copy stands: the index of its cast, and its receiver.
 #[derive(Clone, Copy)]
 pub struct Spot {
-    pub place: usize,
+    pub index: usize,
     pub to: usize,
 }
 
@@ -70,15 +70,15 @@ fn receiver(to: &NodeSet, rank: usize) -> Option<usize>
     to.nth(rank)
 }
 
-// Where the copy of this id stands: the place of its cast is sought by halves, and its receiver by
+// Where the copy of this id stands: the index of its cast is sought by halves, and its receiver by
 // its rank. The hint makes no difference but to how long that takes.
 fn find_near(casts: &Casts, id: u64, hint: usize) -> Option<Spot>
     requires { (next : ℕ) × AreCasts casts.now.entries next }
-    ensures some { IfSome result (λ s. IsFound casts.now.entries id s.place s.to) }
+    ensures some { IfSome result (λ s. IsFound casts.now.entries id s.index s.to) }
     ensures below { IfSome result (λ s. s.to < 256) }
     ensures none { IfNone result (HasNone casts.now.entries id) }
 {
-    let after = place_near(casts.keys().as_slice(), id, hint);
+    let after = position_near(casts.keys().as_slice(), id, hint);
     if after == 0 {
         return None;
     }
@@ -86,7 +86,7 @@ fn find_near(casts: &Casts, id: u64, hint: usize) -> Option<Spot>
     let to = receiver(&cast.to, (id - *first) as usize)?;
     if cast.left.has(to) {
         return Some(Spot {
-            place: after - 1,
+            index: after - 1,
             to,
         });
     }
@@ -98,7 +98,7 @@ fn find_near(casts: &Casts, id: u64, hint: usize) -> Option<Spot>
 pub fn find(casts: &Casts, least: &Option<Least>, id: u64) -> Option<Spot>
     requires casts { (next : ℕ) × AreCasts casts.now.entries next }
     requires least { IsLeastOf casts.now.entries least.now }
-    ensures some { IfSome result (λ s. IsFound casts.now.entries id s.place s.to) }
+    ensures some { IfSome result (λ s. IsFound casts.now.entries id s.index s.to) }
     ensures below { IfSome result (λ s. s.to < 256) }
     ensures none { IfNone result (HasNone casts.now.entries id) }
 {
@@ -109,19 +109,19 @@ pub fn find(casts: &Casts, least: &Option<Least>, id: u64) -> Option<Spot>
         return Some(least.spot);
     }
     // Handed on whole, the answer of the call would go through memory in each case.
-    let spot = find_near(casts, id, least.spot.place)?;
+    let spot = find_near(casts, id, least.spot.index)?;
     Some(spot)
 }
 
-// The place of the cast of this id. The hint makes no difference but to how long that takes. It is
+// The index of the cast of this id. The hint makes no difference but to how long that takes. It is
 // a call of its own, since the least copy, which most deliveries take, needs none of it.
 #[inline(never)]
-fn cast_place(casts: &Casts, id: u64, hint: usize) -> usize
+fn cast_index(casts: &Casts, id: u64, hint: usize) -> usize
     requires { (next : ℕ) × AreCasts casts.now.entries next }
     ensures { (e : Entry) → entry_of casts.now.entries id ≡ Some e →
         slice_get casts.now.entries result ≡ Some e }
 {
-    let after = place_near(casts.keys().as_slice(), id, hint);
+    let after = position_near(casts.keys().as_slice(), id, hint);
     if after == 0 { 0 } else { after - 1 }
 }
 
@@ -139,7 +139,7 @@ pub fn find_again(
     requires least { IsLeastOf casts.now.entries least.now }
     requires to { let copy = copy_of (entry_of casts.now.entries id) id in
         option_map (λ c. c.to) copy ≡ Some to }
-    ensures some { IfSome result (λ s. IsFound casts.now.entries id s.place s.to) }
+    ensures some { IfSome result (λ s. IsFound casts.now.entries id s.index s.to) }
     ensures below { IfSome result (λ s. s.to < 256) }
     ensures none { IfNone result (HasNone casts.now.entries id) }
 {
@@ -149,11 +149,11 @@ pub fn find_again(
     if id == least.id {
         return Some(least.spot);
     }
-    let place = cast_place(casts, id, hint);
-    Some(Spot { place, to })
+    let index = cast_index(casts, id, hint);
+    Some(Spot { index, to })
 }
 
-// The receiver of the first copy from this id on of the cast before this place, which is the id's
+// The receiver of the first copy from this id on of the cast before this index, which is the id's
 // own.
 fn rest_of(casts: &Casts, after: usize, id: u64) -> Option<usize>
     requires casts { (next : ℕ) × AreCasts casts.now.entries next }
@@ -169,22 +169,22 @@ fn rest_of(casts: &Casts, after: usize, id: u64) -> Option<usize>
     cast.left.next_from(start)
 }
 
-// Where the first copy stands of the casts from this place on.
-fn walk(casts: &Casts, place: usize, id: u64) -> Option<Spot>
+// Where the first copy stands of the casts from this index on.
+fn walk(casts: &Casts, index: usize, id: u64) -> Option<Spot>
     requires casts { (next : ℕ) × AreCasts casts.now.entries next }
-    requires none { NoneUpTo casts.now.entries id place }
-    requires from { IsFrom casts.now.entries place id }
-    ensures some { IfSome result (λ s. IsNext casts.now.entries id s.place s.to) }
+    requires none { NoneUpTo casts.now.entries id index }
+    requires from { IsFrom casts.now.entries index id }
+    ensures some { IfSome result (λ s. IsNext casts.now.entries id s.index s.to) }
     ensures none { IfNone result (HasNoneFrom casts.now.entries id) }
 {
     let len = casts.len();
-    let mut place = place;
-    'casts: while place < len {
-        let (_, cast) = casts.get_index(place)?;
+    let mut index = index;
+    'casts: while index < len {
+        let (_, cast) = casts.get_index(index)?;
         if let Some(to) = cast.left.next_from(0) {
-            return Some(Spot { place, to });
+            return Some(Spot { index, to });
         }
-        place += 1;
+        index += 1;
     }
     None
 }
@@ -193,17 +193,17 @@ fn walk(casts: &Casts, place: usize, id: u64) -> Option<Spot>
 /// takes.
 pub fn find_next(casts: &Casts, id: u64, hint: usize) -> Option<Spot>
     requires { (next : ℕ) × AreCasts casts.now.entries next }
-    ensures some { IfSome result (λ s. IsNext casts.now.entries id s.place s.to) }
+    ensures some { IfSome result (λ s. IsNext casts.now.entries id s.index s.to) }
     ensures none { IfNone result (HasNoneFrom casts.now.entries id) }
 {
-    let place = place_near(casts.keys().as_slice(), id, hint);
-    if let Some(to) = rest_of(casts, place, id) {
+    let index = position_near(casts.keys().as_slice(), id, hint);
+    if let Some(to) = rest_of(casts, index, id) {
         return Some(Spot {
-            place: place - 1,
+            index: index - 1,
             to,
         });
     }
-    walk(casts, place, id)
+    walk(casts, index, id)
 }
 
 /// The least copy, where so many casts at the front have none in flight.
@@ -213,7 +213,7 @@ pub fn least_from(casts: &Casts, gone: usize) -> Option<Least>
     ensures { IsLeastOf casts.now.entries result }
 {
     let spot = walk(casts, gone, 0)?;
-    let (first, cast) = casts.get_index(spot.place)?;
+    let (first, cast) = casts.get_index(spot.index)?;
     Some(Least {
         id: *first + cast.to.count_below(spot.to) as u64,
         spot,
@@ -223,7 +223,7 @@ pub fn least_from(casts: &Casts, gone: usize) -> Option<Least>
 // The least copy: this one, or, if none was known, the least after so many casts at the front.
 fn least_or(casts: &Casts, least: Option<Least>, gone: usize) -> Option<Least>
     requires casts { (next : ℕ) × AreCasts casts.now.entries next }
-    requires least { IfSome least (λ l. IsLeast casts.now.entries l.spot.place l.id l.spot.to) }
+    requires least { IfSome least (λ l. IsLeast casts.now.entries l.spot.index l.id l.spot.to) }
     requires gone { IfNone least (AreGone casts.now.entries gone) }
     ensures { IsLeastOf casts.now.entries result }
 {
@@ -248,52 +248,52 @@ pub fn launch(casts: &mut Casts, least: Option<Least>, next: u64, cast: Cast) ->
     ensures least { IsLeastOf casts.new.entries result }
     ensures spare { spare casts.old ≤ spare casts.new + 1 }
 {
-    let place = casts.len();
+    let index = casts.len();
     match casts.entry(next) {
         Ok(entry) => {
             entry.insert_entry(cast);
         }
         Err(_) => unreachable!(),
     }
-    least_or(casts, least, place)
+    least_or(casts, least, index)
 }
 
 /// How many casts at the front have no copy in flight.
 #[inline(always)]
 pub fn front_of(least: &Option<Least>) -> usize
-    ensures some { IfSome least.now (λ l. result ≡ l.spot.place) }
+    ensures some { IfSome least.now (λ l. result ≡ l.spot.index) }
     ensures none { IfNone least.now (result ≡ 0) }
 {
     match least {
-        Some(least) => least.spot.place,
+        Some(least) => least.spot.index,
         None => 0,
     }
 }
 
-/// The copy to this receiver of the cast at this place flies no more.
+/// The copy to this receiver of the cast at this index flies no more.
 #[inline(always)]
-pub fn remove_at(casts: &mut Casts, place: usize, to: usize)
+pub fn remove_at(casts: &mut Casts, index: usize, to: usize)
     requires { to < 256 }
-    ensures { (e : Entry) → slice_get casts.old.entries place ≡ Some e →
-        casts.new ≡ with_value_at casts.old place (without_to e.1 to) }
+    ensures { (e : Entry) → slice_get casts.old.entries index ≡ Some e →
+        casts.new ≡ with_value_at casts.old index (without_to e.1 to) }
 {
-    if let Some(cast) = casts.get_index_mut(place) {
+    if let Some(cast) = casts.get_index_mut(index) {
         cast.left.remove(to);
     }
 }
 
-/// The packet of the cast at this place once more: shared with it, or, where memory for that isn't
+/// The packet of the cast at this index once more: shared with it, or, where memory for that isn't
 /// there, in the memory of a room.
-pub fn double_packet(casts: &mut Casts, place: usize, reserve: &mut Reserve) -> Shared
+pub fn double_packet(casts: &mut Casts, index: usize, reserve: &mut Reserve) -> Shared
     requires room { 1 ≤ reserve.old.room }
-    requires fits { (c : Cast) → slice_get (values casts.old) place ≡ Some c
+    requires fits { (c : Cast) → slice_get (values casts.old) index ≡ Some c
         → length c.bytes ≤ reserve.old.most }
     ensures entries { casts.new.entries ≡ casts.old.entries }
     ensures spare { spare casts.new ≡ spare casts.old }
-    ensures bytes { (c : Cast) → slice_get (values casts.old) place ≡ Some c
+    ensures bytes { (c : Cast) → slice_get (values casts.old) index ≡ Some c
         → (result ≡ c.bytes) × (reserve.new ≡ record reserve.old { room = reserve.old.room - 1 }) }
 {
-    match casts.get_index_mut(place) {
+    match casts.get_index_mut(index) {
         Some(cast) => reserve.double(&mut cast.bytes),
         None => Shared::empty(),
     }

@@ -11,25 +11,25 @@ use crate::shared::Shared;
 /// up.
 const LYING: usize = 64;
 
-// Whether no copy of the cast at this place flies.
-fn is_done(casts: &Casts, place: usize) -> bool
+// Whether no copy of the cast at this index flies.
+fn is_done(casts: &Casts, index: usize) -> bool
     ensures { OnTrue result
-        ((e : Entry) × (slice_get casts.now.entries place ≡ Some e) × (has_left e.1 ≡ false)) }
+        ((e : Entry) × (slice_get casts.now.entries index ≡ Some e) × (has_left e.1 ≡ false)) }
 {
-    match casts.get_index(place) {
+    match casts.get_index(index) {
         Some((_, cast)) => cast.left.next_from(0).is_none(),
         None => false,
     }
 }
 
-// The packet of the cast at this place goes. It is a call of its own, since the memory of its
+// The packet of the cast at this index goes. It is a call of its own, since the memory of its
 // locals would be cleared at each take.
 #[inline(never)]
-fn drop_packet(casts: &mut Casts, place: usize)
-    ensures { (e : Entry) → slice_get casts.old.entries place ≡ Some e →
-        casts.new ≡ with_value_at casts.old place (without_packet e.1) }
+fn drop_packet(casts: &mut Casts, index: usize)
+    ensures { (e : Entry) → slice_get casts.old.entries index ≡ Some e →
+        casts.new ≡ with_value_at casts.old index (without_packet e.1) }
 {
-    if let Some(cast) = casts.get_index_mut(place) {
+    if let Some(cast) = casts.get_index_mut(index) {
         cast.bytes = Shared::empty();
     }
 }
@@ -49,22 +49,22 @@ fn sweep(casts: &mut Casts)
     );
 }
 
-/// What a take of a copy of the cast at this place leaves to do, where so many casts at the front
+/// What a take of a copy of the cast at this index leaves to do, where so many casts at the front
 /// have no copy in flight. With the last copy of a cast its packet goes, and once more casts are
 /// done with than are not, those go too, wherever they stand: about `done` of them lie there. The
 /// answer is how many casts at the front have no copy in flight then.
 #[inline(always)]
-pub fn clear(casts: &mut Casts, place: usize, gone: usize, done: &mut usize) -> usize
+pub fn clear(casts: &mut Casts, index: usize, gone: usize, done: &mut usize) -> usize
     requires rising { (next : ℕ) × AreRising 1 casts.old.entries next }
     requires gone { AreGone casts.old.entries gone }
     ensures tidied { IsTidied casts.old.entries casts.new.entries }
     ensures gone { AreGone casts.new.entries result }
     ensures spare { spare casts.old ≤ spare casts.new }
 {
-    if !is_done(casts, place) {
+    if !is_done(casts, index) {
         return gone;
     }
-    drop_packet(casts, place);
+    drop_packet(casts, index);
     *done = done.saturating_add(1);
     if *done < LYING || *done <= casts.len() / 2 {
         return gone;

@@ -20,7 +20,7 @@ use std::alloc::Global;
 use std::hash::BuildHasherDefault;
 use std::marker::Model;
 
-/// A copy in flight, and the place at which it was found, where it is looked for first when it is
+/// A copy in flight, and the index at which it was found, where it is looked for first when it is
 /// removed. Its packet, which copies of one cast share, is lent as it is kept, so that it can be
 /// copied whole.
 #[derive(Clone, Copy)]
@@ -28,12 +28,12 @@ pub struct Held<'a> {
     pub id: u64,
     pub from: usize,
     pub to: usize,
-    pub place: usize,
+    pub index: usize,
     pub bytes: &'a Bytes,
 }
 
 /// The copies in flight, as casts: a cast stands at the id of its first copy, and its copies have
-/// that id and the next ones, by rising receiver. A copy is found by the place of its cast, a
+/// that id and the next ones, by rising receiver. A copy is found by the index of its cast, a
 /// search by halves, and by its rank among the receivers; it is taken by one bit. The least copy is
 /// kept apart.
 #[derive(Drop)]
@@ -128,18 +128,18 @@ impl Copies {
         ensures { option_map held_seen result ≡ find_copy self.now.flying id }
     {
         let spot = find(&self.casts, &self.least, id)?;
-        let (_, cast) = self.casts.get_index(spot.place)?;
+        let (_, cast) = self.casts.get_index(spot.index)?;
         Some(Held {
             id,
             from: cast.from,
             to: spot.to,
-            place: spot.place,
+            index: spot.index,
             bytes: cast.bytes.as_bytes(),
         })
     }
 
     /// The copy of the least id from this one on. The hint, whatever it is, makes no difference but
-    /// to how long it takes: it comes to be the place of the copy's cast.
+    /// to how long it takes: it comes to be the index of the copy's cast.
     pub fn next_from(&self, id: u64, hint: &mut usize) -> Option<FlyingView<'_>>
         ensures some { let copies = self.now.flying in
             IfSome result (λ f. from_id copies id ≡ flying_seen f ∷ from_id copies (f.id + 1)) }
@@ -148,8 +148,8 @@ impl Copies {
         ensures none { IfNone result (from_id self.now.flying id ≡ []) }
     {
         let spot = find_next(&self.casts, id, *hint)?;
-        *hint = spot.place;
-        let (first, cast) = self.casts.get_index(spot.place)?;
+        *hint = spot.index;
+        let (first, cast) = self.casts.get_index(spot.index)?;
         Some(FlyingView {
             id: *first + cast.to.count_below(spot.to) as u64,
             from: cast.from,
@@ -207,7 +207,7 @@ impl Copies {
         ensures doubled { self.new ≡ with_second self.old (find_copy self.old.flying id) }
     {
         let spot = find(&self.casts, &self.least, id)?;
-        let (_, cast) = self.casts.get_index(spot.place)?;
+        let (_, cast) = self.casts.get_index(spot.index)?;
         let from = cast.from;
         let mut to = NodeSet::new();
         to.add(spot.to);
@@ -215,7 +215,7 @@ impl Copies {
             to,
             left: to,
             from,
-            bytes: double_packet(&mut self.casts, spot.place, &mut self.reserve),
+            bytes: double_packet(&mut self.casts, spot.index, &mut self.reserve),
         };
         let new = self.next;
         let more = if_data(second.bytes.as_slice(), 1);
@@ -244,30 +244,30 @@ impl Copies {
         let Some(spot) = find(&self.casts, &self.least, id) else {
             return;
         };
-        self.remove_found(id, spot.to, spot.place)
+        self.remove_found(id, spot.to, spot.index)
     }
 
     /// The same for a copy that was found, and so is known to go to this receiver. The hint, the
-    /// place at which it was found, makes no difference but to how long that takes.
+    /// index at which it was found, makes no difference but to how long that takes.
     #[inline(always)]
     pub fn remove_found(&mut self, id: u64, to: usize, hint: usize)
         requires { option_map (λ c. c.to) (find_copy self.old.flying id) ≡ Some to }
         ensures { let left = without self.old.flying id in
             self.new ≡ record self.old { flying = left } }
     {
-        // Read here, it is known to be the least copy's place where that is removed.
+        // Read here, it is known to be the least copy's index where that is removed.
         let front = front_of(&self.least);
         let Some(spot) = find_again(&self.casts, &self.least, id, to, hint) else {
             return;
         };
-        let Some((_, cast)) = self.casts.get_index(spot.place) else {
+        let Some((_, cast)) = self.casts.get_index(spot.index) else {
             return;
         };
         let less = if_data(cast.bytes.as_slice(), 1);
-        remove_at(&mut self.casts, spot.place, spot.to);
+        remove_at(&mut self.casts, spot.index, spot.to);
         self.count -= 1;
         self.of_data -= less;
-        let gone = clear(&mut self.casts, spot.place, front, &mut self.done);
+        let gone = clear(&mut self.casts, spot.index, front, &mut self.done);
         self.least = least_from(&self.casts, gone);
     }
 
@@ -299,7 +299,7 @@ impl Copies {
     }
 
     /// Makes room for this many copies more, each of at most this many bytes. That it is there, as
-    /// for nine of ten casts, is seen by the rooms alone: there is a place for each cast then.
+    /// for nine of ten casts, is seen by the rooms alone: there is a slot for each cast then.
     #[inline(always)]
     pub fn make_room(&mut self, copies: usize, bytes: usize) -> Result<(), NoMemory>
         requires few { copies ≤ MOST_NODES }

@@ -9,7 +9,7 @@ mod clearing;
 mod copies;
 mod hashes;
 mod joining;
-mod places;
+mod positions;
 mod radio;
 mod reserve;
 mod shared;

@@ -1,9 +1,9 @@
-//! Places of ids among rising ids.
+//! Positions of ids among rising ids.
 ghost use Rattle.std.specs.Prelude.{ℕ, IfSome};
 ghost use Rattle.mesh_radio.specs.Casts.{IsSplit, AreSorted};
 
 // How many of the rising ids are at most this one: a search by halves.
-fn place_after(firsts: &[u64], id: u64) -> usize
+fn position_after(firsts: &[u64], id: u64) -> usize
     requires { AreSorted firsts.now }
     ensures { IsSplit firsts.now id result }
 {
@@ -20,15 +20,15 @@ fn place_after(firsts: &[u64], id: u64) -> usize
     low
 }
 
-// The same, where the id stands at this place or at the one after it.
-fn place_by(firsts: &[u64], id: u64, place: usize) -> Option<usize>
+// The same, where the id stands at this position or at the one after it.
+fn position_by(firsts: &[u64], id: u64, position: usize) -> Option<usize>
     requires { AreSorted firsts.now }
     ensures { IfSome result (IsSplit firsts.now id) }
 {
-    if place >= firsts.len() || firsts[place] > id {
+    if position >= firsts.len() || firsts[position] > id {
         return None;
     }
-    let after = place + 1;
+    let after = position + 1;
     if after == firsts.len() || id < firsts[after] {
         return Some(after);
     }
@@ -40,7 +40,7 @@ fn place_by(firsts: &[u64], id: u64, place: usize) -> Option<usize>
 
 // Where the id would stand if the ids rose evenly, as those of casts to equally many do. It is only
 // where to look first.
-fn even_place(firsts: &[u64], id: u64) -> usize {
+fn even_position(firsts: &[u64], id: u64) -> usize {
     let len = firsts.len();
     if len == 0 {
         return 0;
@@ -54,17 +54,18 @@ fn even_place(firsts: &[u64], id: u64) -> usize {
 }
 
 /// How many of the rising ids are at most this one. The hint makes no difference but to how long
-/// that takes: a place at it or next to it is found at once, and so is one of ids that rise evenly.
+/// that takes: a position at it or next to it is found at once, and so is one of ids that rise
+/// evenly.
 #[inline(always)]
-pub fn place_near(firsts: &[u64], id: u64, hint: usize) -> usize
+pub fn position_near(firsts: &[u64], id: u64, hint: usize) -> usize
     requires { AreSorted firsts.now }
     ensures { IsSplit firsts.now id result }
 {
-    if let Some(place) = place_by(firsts, id, hint) {
-        return place;
+    if let Some(position) = position_by(firsts, id, hint) {
+        return position;
     }
-    if let Some(place) = place_by(firsts, id, even_place(firsts, id)) {
-        return place;
+    if let Some(position) = position_by(firsts, id, even_position(firsts, id)) {
+        return position;
     }
-    place_after(firsts, id)
+    position_after(firsts, id)
 }

@@ -192,7 +192,7 @@ impl Radio {
     }
 
     /// The same for a copy that `held` found, with its receiver. The hint makes no difference but
-    /// to how long that takes: it is the place at which `held` found the copy.
+    /// to how long that takes: it is the index at which `held` found the copy.
     #[inline(always)]
     pub fn remove_found(&mut self, id: u64, to: usize, hint: usize)
         requires { option_map (λ c. c.to) (find_copy self.old.flying id) ≡ Some to }

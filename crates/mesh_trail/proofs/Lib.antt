@@ -5,7 +5,7 @@ pub mod Stays
 pub mod Steps
 pub mod Turned
 pub mod Gets
-pub mod Places
+pub mod Positions
 pub mod Fronts
 pub mod Rows
 pub mod Ways

@@ -22,7 +22,7 @@ use Rattle.mesh_trail.specs.Casts.{IsCovered, AreEnding, list_of, flies_in}
 use Rattle.mesh_trail.specs.Trails.{AreWalks, IsOfRun, kept_lists}
 use Rattle.mesh_trail.specs.declared.lists.NodeLists.{NodeLists}
 use Rattle.mesh_trail.specs.declared.casts.Cast.{Cast}
-use Rattle.mesh_trail.proofs.Places.{Stays, covered_below, covered_kept, covered_more, covered_new, ends_kept, ends_more, flying_stays, list_kept, list_new, list_old}
+use Rattle.mesh_trail.proofs.Positions.{Stays, covered_below, covered_kept, covered_more, covered_new, ends_kept, ends_more, flying_stays, list_kept, list_new, list_old}
 use Rattle.mesh_trail.proofs.Ways.{flies, run_more}
 
 -- ---- lists that are the same where it matters

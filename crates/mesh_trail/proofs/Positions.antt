@@ -12,7 +12,7 @@ use Rattle.mesh_model.specs.Worlds.{Copy}
 use Rattle.mesh_meaning.specs.Packets.{copy_in}
 use Rattle.mesh_radio.specs.Copies.{AreNumbered, from_id}
 use Rattle.mesh_trail.specs.declared.casts.Cast.{Cast}
-use Rattle.mesh_trail.specs.Casts.{list_of, IsCovered, AreEnding, IsPlace, begins_below, flies_in}
+use Rattle.mesh_trail.specs.Casts.{list_of, IsCovered, AreEnding, IsPosition, begins_below, flies_in}
 
 le_true : (a b : ℕ) → a ≤ b → nat_le a b ≡ true
 le_true a b l = grind (arith, nat_tests)
@@ -50,7 +50,7 @@ passed c cs id l = ap (λ b. cond b (list_of cs id) c.list) (le_true c.end id l)
 pub here : (c : Cast) (cs : List Cast) (id : ℕ) → id < c.end → list_of (c ∷ cs) id ≡ c.list
 here c cs id l = ap (λ b. cond b (list_of cs id) c.list) (le_false c.end id l)
 
-pub found : (cs : List Cast) (id k : ℕ) → IsPlace cs id k → list_of cs id ≡ list_at (slice_get cs k)
+pub found : (cs : List Cast) (id k : ℕ) → IsPosition cs id k → list_of cs id ≡ list_at (slice_get cs k)
 found [] id k p = refl
 found (c ∷ cs) id zero p = here c cs id (p.behind 0 c (omega arith) refl)
 found (c ∷ cs) id (suc k) p =

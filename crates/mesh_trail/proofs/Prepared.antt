@@ -21,7 +21,7 @@ node_in : (x : ℕ) (front : Front) (w v : WorldSeen) (p : Parts) → IsNodePrep
 node_in x front w v p r = record { node = r.node; inside = r.inside; waits = r.waits; lists = r.lists; known = r.known; cast = cast_in w v p r.cast }
 
 copy_in : (id to : ℕ) (v : WorldSeen) (p : Parts) → IsCopyPrepared id to p → IsCopyPrepared id to (record p { world = v })
-copy_in id to v p r = record { receiver = r.receiver; list = r.list; place = r.place }
+copy_in id to v p r = record { receiver = r.receiver; list = r.list; room = r.room }
 
 pub prepared_in : (e : model.Event) (w v : WorldSeen) (p : Parts) → IsPreparedFor e w p → IsPreparedFor e w (record p { world = v })
 prepared_in (model.Give x d b) w v p r = r

@@ -30,7 +30,7 @@ abbrev pub flies_in : List Flying → Cast → Bool
 flies_in flying c = begins_below c.end (from_id flying c.first)
 
 -- the first k casts end no later than that id, and the others after it
-pub record IsPlace (casts : List Cast) (id k : ℕ) : Type 0 where
+pub record IsPosition (casts : List Cast) (id k : ℕ) : Type 0 where
   pub within : k ≤ length casts
   pub before : (j : ℕ) (c : Cast) → j < k → slice_get casts j ≡ Some c → c.end ≤ id
   pub behind : (j : ℕ) (c : Cast) → k ≤ j → slice_get casts j ≡ Some c → id < c.end

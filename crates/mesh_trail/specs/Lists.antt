@@ -24,8 +24,8 @@ pub record IsRoomed (x : ℕ) (old new : List NodeLists) : Type 0 where
   pub is : new ≡ slice_set old x now
 
 -- there is room for one more list beside the queue of node x
-abbrev pub HasPlace : ℕ → List NodeLists → Type 0
-HasPlace x nodes =
+abbrev pub HasRoom : ℕ → List NodeLists → Type 0
+HasRoom x nodes =
     (n : NodeLists) → slice_get nodes x ≡ Some n → deque_len n.queue < deque_capacity n.queue
 
 -- the list has joined those beside the queue of node x

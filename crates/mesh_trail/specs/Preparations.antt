@@ -11,7 +11,7 @@ use Rattle.mesh_trail.specs.declared.heard.Front.TheVariants as fronts
 use Rattle.mesh_trail.specs.declared.lists.NodeLists.{NodeLists}
 use Rattle.mesh_trail.specs.declared.parts.Parts.{Parts}
 use Rattle.mesh_trail.specs.Heard.{IsFrontIn, front_of}
-use Rattle.mesh_trail.specs.Lists.{HasPlace}
+use Rattle.mesh_trail.specs.Lists.{HasRoom}
 use Rattle.mesh_trail.specs.Steps.{IsPrepared, KnowsNear, front_list}
 use Rattle.mesh_trail.specs.Casts.{list_of}
 use Rattle.mesh_trail.specs.Trails.{AreWalks}
@@ -36,7 +36,7 @@ pub record IsNodePrepared (x : ℕ) (front : Front) (w : WorldSeen) (p : Parts) 
 pub record IsCopyPrepared (id to : ℕ) (p : Parts) : Type 0 where
   pub receiver : (p.hand).to ≡ to
   pub list : (p.hand).taken ≡ list_of (p.casts).items id
-  pub place : HasPlace to (p.nodes).items
+  pub room : HasRoom to (p.nodes).items
 
 -- the list of a second copy is at hand
 pub record IsDoublingPrepared (id : ℕ) (w : WorldSeen) (p : Parts) : Type 0 where
@@ -45,7 +45,7 @@ pub record IsDoublingPrepared (id : ℕ) (w : WorldSeen) (p : Parts) : Type 0 wh
 
 -- the parts are prepared for the event in this world
 abbrev pub IsPreparedFor : model.Event → WorldSeen → Parts → Type 0
-IsPreparedFor (model.Give x d b) w p = (x < length w.mesh) × HasPlace x (p.nodes).items
+IsPreparedFor (model.Give x d b) w p = (x < length w.mesh) × HasRoom x (p.nodes).items
 IsPreparedFor (model.Turn x) w p = IsNodePrepared x (front_of (slice_get (w.world).nodes x)) w p
 IsPreparedFor (model.Send x d) w p = IsNodePrepared x fronts.New w p
 IsPreparedFor (model.Ask x d) w p = IsNodePrepared x fronts.New w p

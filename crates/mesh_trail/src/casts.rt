@@ -1,6 +1,6 @@
 //! The lists of the copies in flight: the copies of a cast share one.
 ghost use Rattle.std.specs.Prelude.{◌≡◌, ℕ, filter};
-ghost use Rattle.mesh_trail.specs.Casts.{list_of, AreEnding, IsPlace, flies_in};
+ghost use Rattle.mesh_trail.specs.Casts.{list_of, AreEnding, IsPosition, flies_in};
 
 use crate::walk::Walk;
 use mesh_radio::Radio;
@@ -14,9 +14,9 @@ pub(crate) struct Cast {
 }
 
 // How many of the casts end no later than this id: a search by halves.
-fn place_after(casts: &[Cast], id: u64) -> usize
+fn position_after(casts: &[Cast], id: u64) -> usize
     requires { (next : ℕ) × AreEnding 0 casts.now next }
-    ensures { IsPlace casts.now id result }
+    ensures { IsPosition casts.now id result }
 {
     let mut low = 0;
     let mut high = casts.len();
@@ -36,7 +36,7 @@ pub(crate) fn find(casts: &[Cast], id: u64) -> &[usize]
     requires { (next : ℕ) × AreEnding 0 casts.now next }
     ensures { result.now ≡ list_of casts.now id }
 {
-    match casts.get(place_after(casts, id)) {
+    match casts.get(position_after(casts, id)) {
         Some(cast) => cast.list.as_slice(),
         None => &[],
     }

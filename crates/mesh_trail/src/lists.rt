@@ -1,7 +1,7 @@
 //! The lists of one node.
 ghost use Rattle.std.specs.Prelude.{◌≡◌, ◌<◌, [], true, length, slice_set, IfOk, OnOk};
 ghost use Rattle.std.specs.List.{AllByRecursion};
-ghost use Rattle.mesh_trail.specs.Lists.{IsBlank, IsRoomed, HasPlace, IsPushed, row, put_if, after_lesson};
+ghost use Rattle.mesh_trail.specs.Lists.{IsBlank, IsRoomed, HasRoom, IsPushed, row, put_if, after_lesson};
 
 use crate::heard::{Front, Lesson};
 use crate::walk::{Room, Walk};
@@ -64,10 +64,10 @@ pub(crate) fn blank_lists(alloc: Global, nodes: usize) -> Result<Vec<NodeLists>,
 }
 
 /// Makes room for one more list beside the queue of node x.
-pub(crate) fn make_place(nodes: &mut Vec<NodeLists>, x: usize) -> Result<(), NoMemory>
+pub(crate) fn make_list_room(nodes: &mut Vec<NodeLists>, x: usize) -> Result<(), NoMemory>
     requires { x < length nodes.old.items }
     ensures same { IsRoomed x nodes.old.items nodes.new.items }
-    ensures room { OnOk result (HasPlace x nodes.new.items) }
+    ensures room { OnOk result (HasRoom x nodes.new.items) }
 {
     let lists = &mut nodes[x];
     lists.queue.reserve(1)?;
@@ -77,7 +77,7 @@ pub(crate) fn make_place(nodes: &mut Vec<NodeLists>, x: usize) -> Result<(), NoM
 /// The list joins those beside the queue of node x.
 pub(crate) fn push_list(nodes: &mut Vec<NodeLists>, x: usize, list: Walk)
     requires node { x < length nodes.old.items }
-    requires room { HasPlace x nodes.old.items }
+    requires room { HasRoom x nodes.old.items }
     ensures { IsPushed x list nodes.old.items nodes.new.items }
 {
     let lists = &mut nodes[x];

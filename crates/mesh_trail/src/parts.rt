@@ -15,7 +15,7 @@ ghost use Rattle.mesh_trail.specs.Preparations.{IsNodePrepared, IsPreparedFor, H
 use crate::casts::{Cast, find, sweep};
 use crate::hands::{list_for, prepare_hand, take_front};
 use crate::heard::{Front, front_at, knows};
-use crate::lists::{Hand, NodeLists, make_place, push_list};
+use crate::lists::{Hand, NodeLists, make_list_room, push_list};
 use crate::walk::Walk;
 use mesh_base::{Done, Event, NoMemory, Packet};
 use mesh_world::{StepError, World};
@@ -100,7 +100,7 @@ impl Parts {
         let to = copy.to;
         self.hand.to = to;
         self.hand.taken.copy(find(self.casts.as_slice(), id))?;
-        make_place(&mut self.nodes, to)?;
+        make_list_room(&mut self.nodes, to)?;
         Ok(())
     }
 
@@ -126,7 +126,7 @@ impl Parts {
         ensures prepared { OnOk result (IsPreparedFor (event_of e.now) self.new.world self.new) }
     {
         match *e {
-            Event::Give { node, .. } => make_place(&mut self.nodes, node),
+            Event::Give { node, .. } => make_list_room(&mut self.nodes, node),
             Event::Turn { node } => {
                 let front = front_at(&self.world, node);
                 self.prepare_node(node, front)

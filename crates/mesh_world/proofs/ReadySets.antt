@@ -246,7 +246,7 @@ pushed_ready mesh nodes r n ready =
           ready.asks (ap (λ o. is_some (first_ask_in (length mesh) o)) here ∙ asks_in (length mesh) (node_in mesh n)) (λ q apart. ap (λ o. is_some (first_ask_in (length mesh) o)) (last_there mesh nodes n q apart));
     }
 
--- the sets of the nodes before place k
+-- the sets of the nodes before index k
 pub record IsReadyUpTo (mesh : Nodes) (nodes : List NodeSeen) (k : ℕ) (r : Ready) : Type 0 where
   pub sets : IsReadyFor mesh (take k nodes) r
 
@@ -263,7 +263,7 @@ ready_up_to_more mesh nodes k n r r' count is l count_is noted_is before =
 pub ready_up_to_all : (mesh : Nodes) (nodes : List NodeSeen) (k : ℕ) (r : Ready) → length nodes ≤ k → IsReadyUpTo mesh nodes k r → IsReadyFor mesh nodes r
 ready_up_to_all mesh nodes k r le up = subst (λ (ns : List NodeSeen). IsReadyFor mesh ns r) (take_all k nodes le) up.sets
 
--- a fact of each node before place k, and of the next
+-- a fact of each node before index k, and of the next
 pub each_more : (P : NodeSeen → Type 0) (nodes : List NodeSeen) (k : ℕ) (n : NodeSeen) → n ≡ get_or nodes k n → k < length nodes → P n → AllByRecursion P (take k nodes) → AllByRecursion P (take (k + 1) nodes)
 each_more P nodes k n is l here before =
     let grown : take k nodes ++ n ∷ [] ≡ take (k + 1) nodes = ap (λ (m : NodeSeen). take k nodes ++ m ∷ []) is ∙ sym (take_more nodes k n l) in

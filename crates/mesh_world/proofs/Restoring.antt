@@ -138,8 +138,8 @@ safe_node mesh v nodes radio x n g at =
           (each_get (λ m. AllByRecursion (InItem (Holds claims.Reply mesh nodes)) m.items) nodes x n g.parts.replies.waits at);
     }
 
-node_placed : (mesh : Nodes) (v : Variant) (nodes : List NodeSeen) (radio : RadioState) (x : ℕ) (n : NodeSeen) → Given mesh v nodes radio → slice_get nodes x ≡ Some n → IsNodeInMesh (length mesh) x (node_in mesh n)
-node_placed mesh v nodes radio x n g at =
+node_is_in_mesh : (mesh : Nodes) (v : Variant) (nodes : List NodeSeen) (radio : RadioState) (x : ℕ) (n : NodeSeen) → Given mesh v nodes radio → slice_get nodes x ≡ Some n → IsNodeInMesh (length mesh) x (node_in mesh n)
+node_is_in_mesh mesh v nodes radio x n g at =
     let is = g.are.each x n at in
     let node = each_get IsSoundNode nodes x n g.each at in
     record {
@@ -168,14 +168,14 @@ loop_safe mesh v nodes radio g =
       named = λ x m is. let s = node_seen mesh nodes x m is in ap (λ (k : Node). (k.core).ip) (sym s.2) ∙ (g.are.each x s.0 s.1).named;
     }
 
-placed : (mesh : Nodes) (v : Variant) (nodes : List NodeSeen) (radio : RadioState) → Given mesh v nodes radio → IsInMesh (world_in mesh nodes radio)
+world_is_in_mesh : (mesh : Nodes) (v : Variant) (nodes : List NodeSeen) (radio : RadioState) → Given mesh v nodes radio → IsInMesh (world_in mesh nodes radio)
 unfolding world_in
-placed mesh v nodes radio g =
+world_is_in_mesh mesh v nodes radio g =
     let size : length mesh ≡ length (map (node_in mesh) nodes) = sym (size_in mesh v nodes radio g) in
     let linked : AreLinksOf (length mesh) radio.links radio.ever = subst (λ (k : ℕ). AreLinksOf k radio.links radio.ever) g.size g.linked in
     record {
       nodes = λ x m is. let s = node_seen mesh nodes x m is in
-          subst (IsNodeInMesh (length (map (node_in mesh) nodes)) x) s.2 (subst (λ (k : ℕ). IsNodeInMesh k x (node_in mesh s.0)) size (node_placed mesh v nodes radio x s.0 g s.1));
+          subst (IsNodeInMesh (length (map (node_in mesh) nodes)) x) s.2 (subst (λ (k : ℕ). IsNodeInMesh k x (node_in mesh s.0)) size (node_is_in_mesh mesh v nodes radio x s.0 g s.1));
       flying = subst (λ (k : ℕ). AllByRecursion (IsCopyInMesh k) (map (copy_in mesh) radio.flying)) size
           (copies_in mesh nodes radio.flying g.is_mesh g.some (subst (λ (k : ℕ). AllByRecursion (IsBetween k) radio.flying) g.size g.between) g.parts.written.flies);
       numbered = numbered_in mesh 1 radio.flying radio.next_copy g.numbered;
@@ -185,7 +185,7 @@ placed mesh v nodes radio g =
     }
 
 invariant : (mesh : Nodes) (v : Variant) (nodes : List NodeSeen) (radio : RadioState) → Given mesh v nodes radio → IsInvariant (world_in mesh nodes radio)
-invariant mesh v nodes radio g = record { loop_safe = loop_safe mesh v nodes radio g; in_mesh = placed mesh v nodes radio g }
+invariant mesh v nodes radio g = record { loop_safe = loop_safe mesh v nodes radio g; in_mesh = world_is_in_mesh mesh v nodes radio g }
 
 sound_world : (mesh : Nodes) (v : Variant) (nodes : List NodeSeen) (radio : RadioState) (steps : ℕ) → Given mesh v nodes radio → data_of (world_in mesh nodes radio) < 2 ^ 60 → steps ≤ 2 ^ 45 → IsSoundWorld (seen_of mesh nodes radio steps)
 sound_world mesh v nodes radio steps g few most =

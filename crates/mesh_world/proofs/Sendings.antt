@@ -48,7 +48,7 @@ pub sent_done : (e : Event) (mesh : Nodes) (nodes : List NodeSeen) (radio radio'
     → step (world_in mesh nodes radio) e ≡ Next (done_by (world_in mesh nodes radio) x reaction (map (item_in mesh) n.items)) (Sent reaction.effect (copies (world_in mesh nodes radio) x (reaction.effect).cast))
     → new.items ≡ n.items → Acts mesh x new reaction effect out → Sends mesh x near effect out air radio radio' → ready' ≡ ready_with ready x new (length mesh)
     → Ends e mesh nodes radio steps (Ok (done.Sent effect air)) (slice_set nodes x new) radio' ready' (steps + 1) out
-sent_done e mesh nodes radio radio' ready ready' steps x near n new reaction effect out air k few l ok one place near_at goes same a sends noted_is =
+sent_done e mesh nodes radio radio' ready ready' steps x near n new reaction effect out air k few l ok one named near_at goes same a sends noted_is =
     let w = world_in mesh nodes radio in
     let w' = world_in mesh (slice_set nodes x new) radio' in
     let c : Comes mesh nodes radio ready steps x new reaction effect out air radio' = comes mesh nodes radio radio' ready steps x near new reaction effect out air k few l near_at a sends in
@@ -56,7 +56,7 @@ sent_done e mesh nodes radio radio' ready ready' steps x near n new reaction eff
     let o = Next (done_by w x reaction (map (item_in mesh) n.items)) (Sent reaction.effect (copies w x (reaction.effect).cast)) in
     ends_done e mesh nodes radio ready steps (done.Sent effect air) (slice_set nodes x new) radio' ready' out o
     k few ok goes (one o w) world
-    (subst (λ (y : ℕ). o ≡ outcome_in mesh y w' (done.Sent effect air) out) (sym place) (λ j. Next (world j) (Sent (c.means j) (c.copies j))))
+    (subst (λ (y : ℕ). o ≡ outcome_in mesh y w' (done.Sent effect air) out) (sym named) (λ j. Next (world j) (Sent (c.means j) (c.copies j))))
     c.in_mesh
     (noted_beside mesh (slice_set nodes x new) radio' ready' (ready_with ready x new (length mesh)) (steps + 1) noted_is c.beside)
 

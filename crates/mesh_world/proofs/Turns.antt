@@ -68,8 +68,8 @@ datum_in mesh true body dest below is = is
 datum_in mesh false body dest below is = below
 
 took_in_mesh : (mesh : Nodes) (core : Core) (front : items.Item) → IsItemInMesh (length mesh) core.ip (item_in mesh front) → IsWrittenItem mesh front → IsTookInMesh mesh (taken_of front (took core (item_in mesh front)))
-took_in_mesh mesh core (item.New dest body) placed written = datum_in mesh (dest == core.ip) body dest placed.0 placed.1
-took_in_mesh mesh core (item.Heard from bytes) placed written = (placed.0, refl, record { written = written; in_mesh = placed.2 })
+took_in_mesh mesh core (item.New dest body) item_is_in_mesh written = datum_in mesh (dest == core.ip) body dest item_is_in_mesh.0 item_is_in_mesh.1
+took_in_mesh mesh core (item.Heard from bytes) item_is_in_mesh written = (item_is_in_mesh.0, refl, record { written = written; in_mesh = item_is_in_mesh.2 })
 
 -- ---- the step
 
@@ -120,14 +120,14 @@ acts : (mesh : Nodes) (nodes : List NodeSeen) (radio : RadioState) (ready : Read
 acts mesh nodes radio ready steps x near n new d out k l at sound t =
     let s = stands mesh nodes radio ready steps x n k at in
     let had = kept_node mesh nodes radio ready steps x n k at in
-    let placed = front_in mesh x n t.front new.items s t.was in
-    let reacted = turn_keeps_core (length mesh) n.core near (item_in mesh t.front) s.core s.store placed in
+    let item_is_in_mesh = front_in mesh x n t.front new.items s t.was in
+    let reacted = turn_keeps_core (length mesh) n.core near (item_in mesh t.front) s.core s.store item_is_in_mesh in
     record {
       core = (t.made).core;
       did = (t.made).did;
       packet = (t.made).packet;
       cast = reacted.cast;
-      aimed = turn_names_the_mesh (length mesh) n.core near (item_in mesh t.front) (subst (λ (me : ℕ). me < length mesh) (sym s.named) l) s.core placed;
+      aimed = turn_names_the_mesh (length mesh) n.core near (item_in mesh t.front) (subst (λ (me : ℕ). me < length mesh) (sym s.named) l) s.core item_is_in_mesh;
       kept = record { items = (subst (AllByRecursion (IsWrittenItem mesh)) t.was had.items).1; size = t.size ∙ had.size; sound = sound };
     }
 
@@ -144,12 +144,12 @@ turn_done mesh nodes radio radio' ready ready' steps x near n new d out air k fe
     let took_is : took n.core i ≡ took_in mesh d.took = sym (ap (took_in mesh) t.took ∙ took_means mesh n.core t.front) in
     let had = kept_node mesh nodes radio ready steps x n k at in
     let front_written : IsWrittenItem mesh t.front = (subst (AllByRecursion (IsWrittenItem mesh)) t.was had.items).0 in
-    let placed = front_in mesh x n t.front new.items (stands mesh nodes radio ready steps x n k at) t.was in
+    let item_is_in_mesh = front_in mesh x n t.front new.items (stands mesh nodes radio ready steps x n k at) t.was in
     ends_done (Turn x) mesh nodes radio ready steps (done.Taken d.took d.effect air) (slice_set nodes x new) radio' ready' out
     (Next (done_by w x (turn n.core near i) (map (item_in mesh) new.items)) (Taken (took n.core i) (turn n.core near i).effect (copies w x ((turn n.core near i).effect).cast)))
     k few l (turn_goes mesh nodes radio x n near t.front new.items at near_at t.was (t.made).free) (omega arith) c.world
     (λ j. Next (c.world j) (Taken (took_is j) (c.means j) (c.copies j)))
-    (subst (IsTookInMesh mesh) (sym t.took) (took_in_mesh mesh n.core t.front placed front_written), c.in_mesh)
+    (subst (IsTookInMesh mesh) (sym t.took) (took_in_mesh mesh n.core t.front item_is_in_mesh front_written), c.in_mesh)
     (noted_beside mesh (slice_set nodes x new) radio' ready' (ready_with ready x new (length mesh)) (steps + 1) noted_is c.beside)
 
 -- ---- no packet of a world is refused, or names a stranger
@@ -159,8 +159,8 @@ readable : (mesh : Nodes) (nodes : List NodeSeen) (radio : RadioState) (ready : 
 readable mesh nodes radio ready steps x n new from bytes k at dropped =
     let had = kept_node mesh nodes radio ready steps x n k at in
     let sent : IsWritten mesh bytes = (subst (AllByRecursion (IsWrittenItem mesh)) dropped.was had.items).0 in
-    let placed = front_in mesh x n (item.Heard from bytes) new.items (stands mesh nodes radio ready steps x n k at) dropped.was in
-    (sent.encodes.allowed, (sent_means mesh bytes (meaning mesh bytes) (k.sound).mesh placed.2 sent).1)
+    let item_is_in_mesh = front_in mesh x n (item.Heard from bytes) new.items (stands mesh nodes radio ready steps x n k at) dropped.was in
+    (sent.encodes.allowed, (sent_means mesh bytes (meaning mesh bytes) (k.sound).mesh item_is_in_mesh.2 sent).1)
 
 pub no_refusal : (mesh : Nodes) (nodes : List NodeSeen) (radio : RadioState) (ready : Ready) (steps x : ℕ) (n new : NodeSeen) (from : ℕ) (why : WireError) → IsKept mesh nodes radio ready steps → slice_get nodes x ≡ Some n
     → (bytes : List ℕ) × (refusal bytes ≡ Some why) × IsDropped n from bytes new → ⊥

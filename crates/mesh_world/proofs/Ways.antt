@@ -17,10 +17,10 @@ use Rattle.mesh_world.specs.Seen.{node_in}
 use Rattle.mesh_world.specs.Kept.{world_in}
 use Rattle.mesh_world.specs.Ends.{AreOfWorld}
 
-pub at_place : {X : Type 0} (P : X → Type 0) (xs : List X) (i : ℕ) (x : X) → AllByRecursion P xs → slice_get xs i ≡ Some x → P x
-at_place P [] i x all is = absurd (none-some x is)
-at_place P (y ∷ ys) zero x all is = subst P (same_Some y x is) all.0
-at_place P (y ∷ ys) (suc i) x all is = at_place P ys i x all.1 is
+pub holds_at : {X : Type 0} (P : X → Type 0) (xs : List X) (i : ℕ) (x : X) → AllByRecursion P xs → slice_get xs i ≡ Some x → P x
+holds_at P [] i x all is = absurd (none-some x is)
+holds_at P (y ∷ ys) zero x all is = subst P (same_Some y x is) all.0
+holds_at P (y ∷ ys) (suc i) x all is = holds_at P ys i x all.1 is
 
 -- where the nodes are gone along: `at` was come to, in so many hops, in any world of them
 pub record IsAt (nodes : List NodeSeen) (from to at hops : ℕ) : Type 0 where

@@ -47,7 +47,7 @@ abbrev pub data_of : World → ℕ
 data_of w = waiting any w + queued_data any w + in_flight any w
 
 -- what every world of the program keeps: there is a node for each address of the mesh; what
--- excludes cycles, and that all is in its place; so no destination has a cycle, and quality rises
+-- excludes cycles, and that all is in its mesh; so no destination has a cycle, and quality rises
 -- along edges between valid entries; and no step brings more than one datum
 pub record IsSoundWorld (w : WorldSeen) : Type 0 where
   pub mesh : IsMesh w.mesh

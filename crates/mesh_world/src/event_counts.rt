@@ -160,7 +160,7 @@ pub fn event_counts_of(done: &Done) -> EventCounts
 }
 
 /// Answers what is counted of an event that was done, and leaves what came of it in `answer` where
-/// that is wanted. It is part of each place where an event is done, so that no answer is put
+/// that is wanted. It is part of each function that does an event, so that no answer is put
 /// together that nobody wants.
 #[inline(always)]
 pub(crate) fn tell(wanted: bool, answer: &mut Done, done: Done) -> Result<EventCounts, StepError>

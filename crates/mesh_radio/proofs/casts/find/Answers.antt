@@ -12,5 +12,5 @@ returns-then-id-least-clause-some c =
     let es = c.args.casts.now.entries in
     let l = c.in-Some.least in
     let same : c.args.id ≡ l.id = search rules in
-    subst (λ i. IsFound es i l.spot.place l.spot.to) (sym same)
-    (least-found es c.requires.casts.0 l.spot.place l.id l.spot.to (c.requires.casts.1).rising (c.requires.casts.1).lefts (subst (IsLeastOf es) c.in-Some.is c.requires.least))
+    subst (λ i. IsFound es i l.spot.index l.spot.to) (sym same)
+    (least-found es c.requires.casts.0 l.spot.index l.id l.spot.to (c.requires.casts.1).rising (c.requires.casts.1).lefts (subst (IsLeastOf es) c.in-Some.is c.requires.least))

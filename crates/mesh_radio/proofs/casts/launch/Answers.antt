@@ -18,7 +18,7 @@ least_or-requires-clause-least c =
     let es = c.args.casts.now.entries in
     let r = c.requires in
     let now = ap (λ m. m.entries) c.insert_entry.ensures.1 ∙ c.in-Ok.ensures.update.1 c.args.cast ∙ insert-last 1 c.args.next es c.args.cast r.casts.rising in
-    subst (λ xs. IfSome c.args.least (λ l. IsLeast xs l.spot.place l.id l.spot.to)) (sym (search rules ∙ now))
+    subst (λ xs. IfSome c.args.least (λ l. IsLeast xs l.spot.index l.id l.spot.to)) (sym (search rules ∙ now))
     (kept-least es c.args.next c.args.cast c.args.least r.casts.rising r.casts.lefts r.least)
 
 pub least_or-requires-clause-gone : goal.least_or-requires-clause-gone
@@ -26,8 +26,8 @@ least_or-requires-clause-gone c =
     let es = c.args.casts.now.entries in
     let r = c.requires in
     let now = ap (λ m. m.entries) c.insert_entry.ensures.1 ∙ c.in-Ok.ensures.update.1 c.args.cast ∙ insert-last 1 c.args.next es c.args.cast r.casts.rising in
-    let long : length es ≡ c.len-place.result = search rules in
-    subst (λ xs. IfNone c.args.least (AreGone xs c.len-place.result)) (sym (search rules ∙ now))
+    let long : length es ≡ c.len-index.result = search rules in
+    subst (λ xs. IfNone c.args.least (AreGone xs c.len-index.result)) (sym (search rules ∙ now))
     (subst (λ n. IfNone c.args.least (AreGone (es ++ (c.args.next, c.args.cast) ∷ []) n)) long (gone-then es c.args.next c.args.cast c.args.least r.casts.rising r.least))
 
 pub returns-clause-entries : goal.returns-clause-entries

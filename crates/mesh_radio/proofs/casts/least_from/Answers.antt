@@ -12,10 +12,10 @@ returns-in_err-spot c =
 pub overflow_add-result : goal.overflow_add-result
 overflow_add-result c =
     let casts = c.requires.casts.1 in
-    let within = next-within c.args.casts.now.entries c.requires.casts.0 0 c.in_ok-spot.spot.place c.in_ok-spot.spot.to (c.in_ok-first.first.now, c.in_ok-first.cast.now) casts.rising casts.lefts c.in_ok-spot.ensures.some (sym c.in_ok-first.ensures.entry) in
+    let within = next-within c.args.casts.now.entries c.requires.casts.0 0 c.in_ok-spot.spot.index c.in_ok-spot.spot.to (c.in_ok-first.first.now, c.in_ok-first.cast.now) casts.rising casts.lefts c.in_ok-spot.ensures.some (sym c.in_ok-first.ensures.entry) in
     omega (arith, c.count_below.ensures.value, within.1, casts.few)
 
 pub returns : goal.returns
 returns c =
-    least-is c.args.casts.now.entries c.requires.casts.0 c.in_ok-spot.spot.place _ c.in_ok-spot.spot.to (c.in_ok-first.first.now, c.in_ok-first.cast.now) c.in_ok-spot.ensures.some (sym c.in_ok-first.ensures.entry)
+    least-is c.args.casts.now.entries c.requires.casts.0 c.in_ok-spot.spot.index _ c.in_ok-spot.spot.to (c.in_ok-first.first.now, c.in_ok-first.cast.now) c.in_ok-spot.ensures.some (sym c.in_ok-first.ensures.entry)
     (ap (λ n. c.in_ok-first.first.now + n) c.count_below.ensures.value)

@@ -2,12 +2,12 @@ use Rattle.std.proofs.Common.{◌-◌, length}
 use Rattle.mesh_radio.specs.Casts.{IsFrom, NoneUpTo}
 use Rattle.mesh_radio.proofs.casts.walk.Given as goal
 
--- no copy from the id on is of a cast before the place, which is not before the id
+-- no copy from the id on is of a cast before the index, which is not before the id
 abbrev pub invariant-casts : goal.invariant-casts
 invariant-casts l = record {
-  none : NoneUpTo l.casts.entries l.id l.place;
-  from : IsFrom l.casts.entries l.place l.id;
+  none : NoneUpTo l.casts.entries l.id l.index;
+  from : IsFrom l.casts.entries l.index l.id;
 }
 
 abbrev pub decreases-casts : goal.decreases-casts
-decreases-casts l = length l.casts.entries - l.place
+decreases-casts l = length l.casts.entries - l.index

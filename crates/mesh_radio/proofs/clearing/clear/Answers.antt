@@ -10,7 +10,7 @@ returns-then-done-lt-LYING-clause-tidied c =
     let done = c.if-not-is_done.ensures in
     let map = c.drop_packet.ensures done.0 done.1 in
     let now = ap (λ (m : IndexMap ℕ Cast _). m.entries) map in
-    subst (IsTidied c.args.casts.now.entries) (sym now) (packet-tidied c.args.place c.args.casts.now.entries done.0 done.1 done.2)
+    subst (IsTidied c.args.casts.now.entries) (sym now) (packet-tidied c.args.index c.args.casts.now.entries done.0 done.1 done.2)
 
 pub returns-then-done-lt-LYING-clause-gone : goal.returns-then-done-lt-LYING-clause-gone
 returns-then-done-lt-LYING-clause-gone c =
@@ -19,7 +19,7 @@ returns-then-done-lt-LYING-clause-gone c =
     let now = ap (λ (m : IndexMap ℕ Cast _). m.entries) map in
     let rising = c.requires.rising in
     subst (λ es. AreGone es c.args.gone) (sym now)
-    (gone-without-packet c.args.casts.now.entries rising.0 c.args.place c.args.gone done.0 rising.1 done.1 done.2 c.requires.gone)
+    (gone-without-packet c.args.casts.now.entries rising.0 c.args.index c.args.gone done.0 rising.1 done.1 done.2 c.requires.gone)
 
 pub returns-then-done-lt-LYING-clause-spare : goal.returns-then-done-lt-LYING-clause-spare
 returns-then-done-lt-LYING-clause-spare c =
@@ -35,7 +35,7 @@ returns-clause-tidied c =
     let es = c.args.casts.now.entries in
     let before = c.drop_packet.new.casts.entries in
     tidied-then es before c.sweep.new.casts.entries
-    (subst (IsTidied es) (sym now) (packet-tidied c.args.place es done.0 done.1 done.2))
+    (subst (IsTidied es) (sym now) (packet-tidied c.args.index es done.0 done.1 done.2))
     (swept before c.sweep.new.casts.entries c.sweep.ensures.entries)
 
 pub returns-clause-gone : goal.returns-clause-gone

@@ -1,6 +1,6 @@
 use Rattle.std.proofs.Common.{ℕ, ◌≤◌, ◌<◌, ◌-◌, length}
 use Rattle.std.specs.Prelude.{slice_index}
-use Rattle.mesh_radio.proofs.places.place_after.Given as goal
+use Rattle.mesh_radio.proofs.positions.position_after.Given as goal
 
 abbrev pub invariant-halves : goal.invariant-halves
 invariant-halves l = record {

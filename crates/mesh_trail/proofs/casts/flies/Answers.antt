@@ -1,5 +1,5 @@
 use Rattle.std.proofs.Common.{sym}
-use Rattle.mesh_trail.proofs.Places.{fly_later, none_fly}
+use Rattle.mesh_trail.proofs.Positions.{fly_later, none_fly}
 use Rattle.mesh_trail.proofs.casts.flies.Goals as goal
 
 pub returns-in_default : goal.returns-in_default

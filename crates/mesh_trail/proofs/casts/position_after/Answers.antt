@@ -2,8 +2,8 @@ use Rattle.std.proofs.Common.{◌≡◌, ◌<◌, ◌+◌, ◌-◌, ◌/◌, len
 use Rattle.std.specs.Prelude.{slice_get}
 use Rattle.std.proofs.lemmas.Option.{slice_get_read}
 use Rattle.mesh_trail.specs.declared.casts.Cast.{Cast}
-use Rattle.mesh_trail.proofs.Places.{ends_rise}
-use Rattle.mesh_trail.proofs.casts.place_after.Goals as goal
+use Rattle.mesh_trail.proofs.Positions.{ends_rise}
+use Rattle.mesh_trail.proofs.casts.position_after.Goals as goal
 
 pub halves-preserved-then-casts-middle : goal.halves-preserved-then-casts-middle
 halves-preserved-then-casts-middle c =

@@ -1,7 +1,7 @@
 use Rattle.std.proofs.Common.{◌≡◌, ℕ, ◌≤◌, ◌<◌, ◌-◌, length, Some}
 use Rattle.std.specs.Prelude.{slice_get}
 use Rattle.mesh_trail.specs.declared.casts.Cast.{Cast}
-use Rattle.mesh_trail.proofs.casts.place_after.Given as goal
+use Rattle.mesh_trail.proofs.casts.position_after.Given as goal
 
 abbrev pub invariant-halves : goal.invariant-halves
 invariant-halves l = record {

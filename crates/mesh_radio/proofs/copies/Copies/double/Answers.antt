@@ -31,8 +31,8 @@ double_packet-requires-clause-fits c cast at =
     let inside = c.self.inside in
     let e : Entry = (c.in_ok-cast.field-0-0.now, c.in_ok-cast.cast.now) in
     let spot = c.in_ok-spot.spot in
-    let copy = found-copy inside.casts.entries 1 inside.next c.args.id spot.place spot.to e (c.self.invariant.0).casts.rising c.in_ok-spot.ensures.some (sym c.in_ok-cast.ensures.entry) in
-    let same = value-at inside.casts.entries spot.place e cast (sym c.in_ok-cast.ensures.entry) at in
+    let copy = found-copy inside.casts.entries 1 inside.next c.args.id spot.index spot.to e (c.self.invariant.0).casts.rising c.in_ok-spot.ensures.some (sym c.in_ok-cast.ensures.entry) in
+    let same = value-at inside.casts.entries spot.index e cast (sym c.in_ok-cast.ensures.entry) at in
     let most = ap (λ (v : Flights). v.most) c.self.view_is in
     subst (λ n. length cast.bytes ≤ n) (sym most)
     (subst (λ (x : Cast). length x.bytes ≤ c.args.self.now.most) same
@@ -82,7 +82,7 @@ invariant_of-self c =
     let one = size-one second spot.to c.in_ok-spot.ensures.below only in
     let entries = launched.ensures.entries ∙ ap (λ xs. xs ++ (inside.next, second) ∷ []) c.double_packet.ensures.entries in
     let copies = copies-one es launched.new.casts.entries inside.next spot.to second entries c.in_ok-spot.ensures.below only refl in
-    let doubled = c.double_packet.ensures.bytes c.in_ok-cast.cast.now (found-value es spot.place (c.in_ok-cast.field-0-0.now, c.in_ok-cast.cast.now) (sym c.in_ok-cast.ensures.entry)) in
+    let doubled = c.double_packet.ensures.bytes c.in_ok-cast.cast.now (found-value es spot.index (c.in_ok-cast.field-0-0.now, c.in_ok-cast.cast.now) (sym c.in_ok-cast.ensures.entry)) in
     let room = ap (λ (m : Memory). m.room) doubled.1 in
     let later : inside.next + size second ≡ inside.next + 1 = omega arith in (
       record {
@@ -106,7 +106,7 @@ returns-clause-told c =
     let inside = c.self.inside in
     let spot = c.in_ok-spot.spot in
     let e : Entry = (c.in_ok-cast.field-0-0.now, c.in_ok-cast.cast.now) in
-    let copy = found-copy inside.casts.entries 1 inside.next c.args.id spot.place spot.to e (c.self.invariant.0).casts.rising c.in_ok-spot.ensures.some (sym c.in_ok-cast.ensures.entry) in
+    let copy = found-copy inside.casts.entries 1 inside.next c.args.id spot.index spot.to e (c.self.invariant.0).casts.rising c.in_ok-spot.ensures.some (sym c.in_ok-cast.ensures.entry) in
     ap (option_map (λ (f : Flying). (inside.next, f.to))) (sym copy)
     ∙ ap (λ (v : Flights). option_map (λ (f : Flying). (v.next_copy, f.to)) (find_copy v.flying c.args.id)) c.self.view_is
 
@@ -119,9 +119,9 @@ returns-clause-doubled c =
     let second : Cast = record { to = c.add.new.self; left = c.add.new.self; from = (e.1).from; bytes = c.double_packet.result } in
     let before : Flights = record { flying = copies_of es; next_copy = inside.next; room = inside.reserve.room; most = inside.reserve.most } in
     let only = c.add.ensures ∙ ap (λ s. insert s spot.to) c.new-to.ensures in
-    let copy = found-copy es 1 inside.next c.args.id spot.place spot.to e (c.self.invariant.0).casts.rising c.in_ok-spot.ensures.some (sym c.in_ok-cast.ensures.entry) in
+    let copy = found-copy es 1 inside.next c.args.id spot.index spot.to e (c.self.invariant.0).casts.rising c.in_ok-spot.ensures.some (sym c.in_ok-cast.ensures.entry) in
     let entries = c.launch-self-inside.ensures.entries ∙ ap (λ xs. xs ++ (inside.next, second) ∷ []) c.double_packet.ensures.entries in
-    let doubled = c.double_packet.ensures.bytes c.in_ok-cast.cast.now (found-value es spot.place (c.in_ok-cast.field-0-0.now, c.in_ok-cast.cast.now) (sym c.in_ok-cast.ensures.entry)) in
+    let doubled = c.double_packet.ensures.bytes c.in_ok-cast.cast.now (found-value es spot.index (c.in_ok-cast.field-0-0.now, c.in_ok-cast.cast.now) (sym c.in_ok-cast.ensures.entry)) in
     let flying = copies-one es c.launch-self-inside.new.casts.entries inside.next spot.to second entries c.in_ok-spot.ensures.below only refl
     ∙ ap (λ bs. copies_of es ++ record { id = inside.next; from = (e.1).from; to = spot.to; bytes = bs } ∷ []) doubled.0 in
     let room = ap (λ (m : Memory). m.room) doubled.1 in

@@ -19,7 +19,7 @@ pub overflow_add-result : goal.overflow_add-result
 overflow_add-result c =
     let inside = c.self.inside in
     let kept = c.self.invariant.0 in
-    let within = next-within inside.casts.entries inside.next c.args.id c.in_ok-spot.spot.place c.in_ok-spot.spot.to (c.in_ok-first.first.now, c.in_ok-first.cast.now) kept.casts.rising kept.casts.lefts c.in_ok-spot.ensures.some (sym c.in_ok-first.ensures.entry) in
+    let within = next-within inside.casts.entries inside.next c.args.id c.in_ok-spot.spot.index c.in_ok-spot.spot.to (c.in_ok-first.first.now, c.in_ok-first.cast.now) kept.casts.rising kept.casts.lefts c.in_ok-spot.ensures.some (sym c.in_ok-first.ensures.entry) in
     omega (arith, c.count_below.ensures.value, within.1, kept.casts.few)
 
 pub returns-clause-some : goal.returns-clause-some
@@ -30,7 +30,7 @@ returns-clause-some c =
     let first = c.in_ok-first.first.now in
     let cast = c.in_ok-first.cast.now in
     let to = c.in_ok-spot.spot.to in
-    let told = next-told es inside.next c.args.id c.in_ok-spot.spot.place to (first, cast) kept.casts.rising kept.casts.lefts c.in_ok-spot.ensures.some (sym c.in_ok-first.ensures.entry) in
+    let told = next-told es inside.next c.args.id c.in_ok-spot.spot.index to (first, cast) kept.casts.rising kept.casts.lefts c.in_ok-spot.ensures.some (sym c.in_ok-first.ensures.entry) in
     ap (λ (v : Flights). from_id v.flying c.args.id) (sym c.self.view_is)
     ∙ told
     ∙ ap (λ n. record { id = first + n; from = cast.from; to = to; bytes = cast.bytes } ∷ from_id (copies_of es) (first + n + 1)) (sym c.count_below.ensures.value)
@@ -41,6 +41,6 @@ pub returns-clause-below : goal.returns-clause-below
 returns-clause-below c =
     let inside = c.self.inside in
     let kept = c.self.invariant.0 in
-    let within = next-within inside.casts.entries inside.next c.args.id c.in_ok-spot.spot.place c.in_ok-spot.spot.to (c.in_ok-first.first.now, c.in_ok-first.cast.now) kept.casts.rising kept.casts.lefts c.in_ok-spot.ensures.some (sym c.in_ok-first.ensures.entry) in
+    let within = next-within inside.casts.entries inside.next c.args.id c.in_ok-spot.spot.index c.in_ok-spot.spot.to (c.in_ok-first.first.now, c.in_ok-first.cast.now) kept.casts.rising kept.casts.lefts c.in_ok-spot.ensures.some (sym c.in_ok-first.ensures.entry) in
     let next = ap (λ (v : Flights). v.next_copy) c.self.view_is in
     (omega (arith, c.count_below.ensures.value, within.0), omega (arith, c.count_below.ensures.value, within.1), omega (arith, kept.casts.few))

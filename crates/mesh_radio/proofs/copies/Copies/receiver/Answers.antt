@@ -17,5 +17,5 @@ pub returns : goal.returns
 returns c =
     let inside = c.self.inside in
     let found = c.in_ok-spot.ensures.some in
-    sym (ap (option_map (λ (f : Flying). f.to)) (found-copy inside.casts.entries 1 inside.next c.args.id c.in_ok-spot.spot.place c.in_ok-spot.spot.to found.entry (c.self.invariant.0).casts.rising found found.at))
+    sym (ap (option_map (λ (f : Flying). f.to)) (found-copy inside.casts.entries 1 inside.next c.args.id c.in_ok-spot.spot.index c.in_ok-spot.spot.to found.entry (c.self.invariant.0).casts.rising found found.at))
     ∙ ap (λ (v : Flights). option_map (λ (f : Flying). f.to) (find_copy v.flying c.args.id)) c.self.view_is

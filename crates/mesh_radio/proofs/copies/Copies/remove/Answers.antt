@@ -12,7 +12,7 @@ remove_found-requires c =
     let inside = c.self.inside in
     let found = c.in-Some.ensures.some in
     ap (λ (v : Flights). option_map (λ (f : Flying). f.to) (find_copy v.flying c.args.id)) (sym c.self.view_is)
-    ∙ ap (option_map (λ (f : Flying). f.to)) (found-copy inside.casts.entries 1 inside.next c.args.id c.in-Some.spot.place c.in-Some.spot.to found.entry (c.self.invariant.0).casts.rising found found.at)
+    ∙ ap (option_map (λ (f : Flying). f.to)) (found-copy inside.casts.entries 1 inside.next c.args.id c.in-Some.spot.index c.in-Some.spot.to found.entry (c.self.invariant.0).casts.rising found found.at)
 
 pub returns-in_default : goal.returns-in_default
 returns-in_default c =

@@ -25,7 +25,7 @@ overflow_sub-self c =
     let inside = c.self.inside in
     let kept = c.self.invariant.0 in
     let e : Entry = (c.in-Some-get_index.field-0-0.now, c.in-Some-get_index.cast.now) in
-    let less = found-taken 1 inside.next c.args.id c.in-Some.spot.place c.in-Some.spot.to inside.casts.entries e kept.casts.rising c.in-Some.ensures.some (sym c.in-Some-get_index.ensures.entry) in
+    let less = found-taken 1 inside.next c.args.id c.in-Some.spot.index c.in-Some.spot.to inside.casts.entries e kept.casts.rising c.in-Some.ensures.some (sym c.in-Some-get_index.ensures.entry) in
     omega (arith, kept.counted, less.fewer)
 
 pub overflow_sub-self-2 : goal.overflow_sub-self-2
@@ -33,7 +33,7 @@ overflow_sub-self-2 c =
     let inside = c.self.inside in
     let kept = c.self.invariant.0 in
     let e : Entry = (c.in-Some-get_index.field-0-0.now, c.in-Some-get_index.cast.now) in
-    let less = found-taken 1 inside.next c.args.id c.in-Some.spot.place c.in-Some.spot.to inside.casts.entries e kept.casts.rising c.in-Some.ensures.some (sym c.in-Some-get_index.ensures.entry) in
+    let less = found-taken 1 inside.next c.args.id c.in-Some.spot.index c.in-Some.spot.to inside.casts.entries e kept.casts.rising c.in-Some.ensures.some (sym c.in-Some-get_index.ensures.entry) in
     omega (arith, kept.with_data, less.of_data, c.if_data-less.ensures, ap {B = ℕ} (λ bs. cond (is_data bs) 1 0) c.as_slice.ensures)
 
 pub clear-gone-requires-clause-rising : goal.clear-gone-requires-clause-rising
@@ -42,22 +42,22 @@ clear-gone-requires-clause-rising c =
     let e : Entry = (c.in-Some-get_index.field-0-0.now, c.in-Some-get_index.cast.now) in
     let at = sym c.in-Some-get_index.ensures.entry in
     let now = ap (λ (m : IndexMap ℕ Cast _). m.entries) (c.remove_at.ensures e at) in
-    (inside.next, (casts-taken inside.casts.entries c.remove_at.new.casts.entries inside.next c.in-Some.spot.place c.in-Some.spot.to e (c.self.invariant.0).casts at now).rising)
+    (inside.next, (casts-taken inside.casts.entries c.remove_at.new.casts.entries inside.next c.in-Some.spot.index c.in-Some.spot.to e (c.self.invariant.0).casts at now).rising)
 
 pub clear-gone-requires-clause-gone : goal.clear-gone-requires-clause-gone
 clear-gone-requires-clause-gone c =
     let inside = c.self.inside in
     let kept = c.self.invariant.0 in
     let es = inside.casts.entries in
-    let place = c.in-Some.spot.place in
+    let index = c.in-Some.spot.index in
     let to = c.in-Some.spot.to in
     let front = c.front_of-front.result in
     let e : Entry = (c.in-Some-get_index.field-0-0.now, c.in-Some-get_index.cast.now) in
     let at = sym c.in-Some-get_index.ensures.entry in
     let now = ap (λ (m : IndexMap ℕ Cast _). m.entries) (c.remove_at.ensures e at) in
-    let less = found-taken 1 inside.next c.args.id place to es e kept.casts.rising c.in-Some.ensures.some at in
+    let less = found-taken 1 inside.next c.args.id index to es e kept.casts.rising c.in-Some.ensures.some at in
     let gone = front-gone es front inside.least c.self.invariant.2 c.front_of-front.ensures.some c.front_of-front.ensures.none in
-    subst (λ xs. AreGone xs front) (sym now) (gone-taken es inside.next c.args.id place front to e (e.1).bytes kept.casts.rising at less gone)
+    subst (λ xs. AreGone xs front) (sym now) (gone-taken es inside.next c.args.id index front to e (e.1).bytes kept.casts.rising at less gone)
 
 pub least_from-self-inside-requires-clause-casts : goal.least_from-self-inside-requires-clause-casts
 least_from-self-inside-requires-clause-casts c =
@@ -65,7 +65,7 @@ least_from-self-inside-requires-clause-casts c =
     let e : Entry = (c.in-Some-get_index.field-0-0.now, c.in-Some-get_index.cast.now) in
     let at = sym c.in-Some-get_index.ensures.entry in
     let now = ap (λ (m : IndexMap ℕ Cast _). m.entries) (c.remove_at.ensures e at) in
-    let taken = casts-taken inside.casts.entries c.remove_at.new.casts.entries inside.next c.in-Some.spot.place c.in-Some.spot.to e (c.self.invariant.0).casts at now in
+    let taken = casts-taken inside.casts.entries c.remove_at.new.casts.entries inside.next c.in-Some.spot.index c.in-Some.spot.to e (c.self.invariant.0).casts at now in
     (inside.next, casts-tidied c.remove_at.new.casts.entries c.clear-gone.new.casts.entries inside.next c.clear-gone.ensures.tidied taken)
 
 pub invariant_of-self : goal.invariant_of-self
@@ -73,17 +73,17 @@ invariant_of-self c =
     let inside = c.self.inside in
     let kept = c.self.invariant.0 in
     let es = inside.casts.entries in
-    let place = c.in-Some.spot.place in
+    let index = c.in-Some.spot.index in
     let to = c.in-Some.spot.to in
     let e : Entry = (c.in-Some-get_index.field-0-0.now, c.in-Some-get_index.cast.now) in
     let at = sym c.in-Some-get_index.ensures.entry in
     let map = c.remove_at.ensures e at in
     let now = ap (λ (m : IndexMap ℕ Cast _). m.entries) map in
-    let less = found-taken 1 inside.next c.args.id place to es e kept.casts.rising c.in-Some.ensures.some at in
+    let less = found-taken 1 inside.next c.args.id index to es e kept.casts.rising c.in-Some.ensures.some at in
     let tidied = c.clear-gone.ensures.tidied in
     let copies = tidied.same ∙ ap copies_of now in
     let more = ap spare map in
-    let taken = casts-taken es c.remove_at.new.casts.entries inside.next place to e kept.casts at now in (
+    let taken = casts-taken es c.remove_at.new.casts.entries inside.next index to e kept.casts at now in (
       record {
         casts = casts-tidied c.remove_at.new.casts.entries c.clear-gone.new.casts.entries inside.next tidied taken;
         counted = omega (arith, kept.counted, less.fewer, ap length copies);
@@ -103,13 +103,13 @@ returns c =
     let inside = c.self.inside in
     let kept = c.self.invariant.0 in
     let es = inside.casts.entries in
-    let place = c.in-Some.spot.place in
+    let index = c.in-Some.spot.index in
     let to = c.in-Some.spot.to in
     let e : Entry = (c.in-Some-get_index.field-0-0.now, c.in-Some-get_index.cast.now) in
     let at = sym c.in-Some-get_index.ensures.entry in
     let map = c.remove_at.ensures e at in
     let now = ap (λ (m : IndexMap ℕ Cast _). m.entries) map in
-    let less = found-taken 1 inside.next c.args.id place to es e kept.casts.rising c.in-Some.ensures.some at in
+    let less = found-taken 1 inside.next c.args.id index to es e kept.casts.rising c.in-Some.ensures.some at in
     let flying = c.clear-gone.ensures.tidied.same ∙ ap copies_of now ∙ less.others in
     (λ i. record { flying = flying i; next_copy = inside.next; room = inside.reserve.room; most = inside.reserve.most })
     ∙ ap (λ (v : Flights). record v { flying = without v.flying c.args.id }) c.self.view_is

@@ -1,5 +1,5 @@
 use Rattle.std.proofs.Common.{ℕ, ◌<◌, length, sym, subst, ◌∙◌}
-use Rattle.mesh_trail.specs.Lists.{HasPlace, IsPushed}
+use Rattle.mesh_trail.specs.Lists.{HasRoom, IsPushed}
 use Rattle.mesh_trail.proofs.Arrivals.{heard, heard_flew, receiver_below, unheard}
 use Rattle.mesh_trail.proofs.Nodes.{is_there}
 use Rattle.mesh_trail.proofs.parts.Parts.follow_copy.Goals as goal
@@ -25,7 +25,7 @@ push_list-requires-clause-room c =
     let a = c.requires.2.1 in
     let k = heard_flew c.requires.0 old p.world c.args.done.now c.requires.1 a.step (sym c.if-not-is_heard.ensures) in
     let r = a.prepared k.0 k.1 in
-    subst (λ (to : ℕ). HasPlace to p.nodes.items) (sym r.receiver) r.place
+    subst (λ (to : ℕ). HasRoom to p.nodes.items) (sym r.receiver) r.room
 
 pub returns-clause-kept : goal.returns-clause-kept
 returns-clause-kept c =
