@@ -7,8 +7,8 @@ use Rattle.std.proofs.lemmas.List.{get_or_append_left, get_or-append_right, get_
 use Rattle.aodv_asked.specs.declared.interval.Interval.{Interval}
 use Rattle.aodv_asked.specs.Intervals.{AreApart}
 use Rattle.aodv_asked.specs.Insertions.{interval, interval_at}
-use Rattle.aodv_asked.specs.Spots.{place, IsPosition, width, total, last_in}
-use Rattle.aodv_asked.proofs.ChunkLaws.{lengths, AreFilled, at_place, place_within, place_here, push_chunk}
+use Rattle.aodv_asked.specs.Spots.{position_at, IsPosition, width, total, last_in}
+use Rattle.aodv_asked.proofs.ChunkLaws.{lengths, AreFilled, at_position, position_within, position_here, push_chunk}
 
 -- the intervals end later and later
 abbrev pub Rise : List Interval → Type 0
@@ -33,10 +33,10 @@ chunks_rise f (x ∷ xs) r filled zero (suc j) d le lt =
     let o = length (f y) - 1 in
     let some_y : 0 < length (f y) = filled (suc j) d lt in
     let in_y : o < length (f y) = omega arith in
-    let p = place (lengths f xs) j o in
-    let within = place_within f xs j o d here in_y in
+    let p = position_at (lengths f xs) j o in
+    let within = position_within f xs j o d here in_y in
     let first = ap (λ (v : Interval). v.last) (get_or_append_left (f x) (flat_map f xs) e (length (f x) - 1) (omega arith)) in
-    let later = ap (λ (v : Interval). v.last) (get_or-append-add (f x) (flat_map f xs) p e ∙ at_place f xs j o d e here in_y) in
+    let later = ap (λ (v : Interval). v.last) (get_or-append-add (f x) (flat_map f xs) p e ∙ at_position f xs j o d e here in_y) in
     let h = r (length (f x) - 1) (length (f x) + p) e (omega arith) (omega (arith, within, length-append (f x) (flat_map f xs))) in
     omega (arith, first, later, h)
 chunks_rise f (x ∷ xs) r filled (suc i) zero d le lt = absurd (omega arith)
@@ -78,12 +78,12 @@ ended xs ys from r last i lt =
     let end = ap (λ (v : Interval). v.last) (get_or_append_left xs ys e (length xs - 1) (omega arith)) in
     omega (arith, here, end, r i (length xs - 1) e (omega arith) (omega (arith, length-append xs ys)))
 
-pub found_in : {X : Type 0} (f : X → List Interval) (xs : List X) (from k o : ℕ) (d : X) → Rise (flat_map f xs) → ((i : ℕ) (e : X) → i < k → last_in (f (get_or xs i e)) < from) → k < length xs → IsPosition (f (get_or xs k d)) from o → o < length (f (get_or xs k d)) → IsPosition (flat_map f xs) from (place (lengths f xs) k o)
+pub found_in : {X : Type 0} (f : X → List Interval) (xs : List X) (from k o : ℕ) (d : X) → Rise (flat_map f xs) → ((i : ℕ) (e : X) → i < k → last_in (f (get_or xs i e)) < from) → k < length xs → IsPosition (f (get_or xs k d)) from o → o < length (f (get_or xs k d)) → IsPosition (flat_map f xs) from (position_at (lengths f xs) k o)
 found_in f [] from k o d r before lt at inside = absurd (omega arith)
 found_in f (x ∷ xs) from zero o d r before lt at inside =
-    subst (λ p. IsPosition (f x ++ flat_map f xs) from p) (sym (place_here (length (f x)) (lengths f xs) o inside)) (front (f x) (flat_map f xs) from o r at inside)
+    subst (λ p. IsPosition (f x ++ flat_map f xs) from p) (sym (position_here (length (f x)) (lengths f xs) o inside)) (front (f x) (flat_map f xs) from o r at inside)
 found_in f (x ∷ xs) from (suc k) o d r before lt at inside =
-    shift (f x) (flat_map f xs) from (place (lengths f xs) k o)
+    shift (f x) (flat_map f xs) from (position_at (lengths f xs) k o)
     (ended (f x) (flat_map f xs) from r (before 0 d (omega arith)))
     (found_in f xs from k o d (rises_behind (f x) (flat_map f xs) r) (λ i e less. before (suc i) e (omega arith)) (omega arith) at inside)
 

@@ -7,7 +7,7 @@ use Rattle.std.proofs.lemmas.List.{get_or_append_left, get_or-append-add, set-ap
 use Rattle.std.proofs.lemmas.List.Elements.{All-cons, All-append, All-take, All-drop}
 use Rattle.std.proofs.lemmas.List.Edits.{insert-append_left, insert-append_right, remove-append_left, remove-append_right}
 use Rattle.aodv_asked.specs.declared.interval.Interval.{Interval}
-use Rattle.aodv_asked.specs.Spots.{place, all_of}
+use Rattle.aodv_asked.specs.Spots.{position_at, all_of}
 
 -- a chunk as the list of its intervals
 abbrev pub listed : Vec Interval → List Interval
@@ -21,25 +21,25 @@ pub length-flat : {X A : Type 0} (f : X → List A) (xs : List X) → length (fl
 length-flat f [] = refl
 length-flat f (x ∷ xs) = length-append (f x) (flat_map f xs) ∙ ap (λ n. length (f x) + n) (length-flat f xs)
 
--- ---- the place of what stands in a chunk
+-- ---- the position of what stands in a chunk
 
-pub place_here : (n : ℕ) (ns : List ℕ) (o : ℕ) → o < n → place (n ∷ ns) zero o ≡ o
-place_here n ns o lt = rw (lt-ltb o n lt) refl
+pub position_here : (n : ℕ) (ns : List ℕ) (o : ℕ) → o < n → position_at (n ∷ ns) zero o ≡ o
+position_here n ns o lt = rw (lt-ltb o n lt) refl
 
-place_past : (n : ℕ) (ns : List ℕ) (o : ℕ) → n ≤ o → place (n ∷ ns) zero o ≡ n + all_of ns
-place_past n ns o le = rw (le-ltb o n le) refl
+position_past : (n : ℕ) (ns : List ℕ) (o : ℕ) → n ≤ o → position_at (n ∷ ns) zero o ≡ n + all_of ns
+position_past n ns o le = rw (le-ltb o n le) refl
 
 -- where something stands, the chunk and the offset are there
 pub record IsIn {X A : Type 0} (f : X → List A) (xs : List X) (k o : ℕ) : Type 0 where
   pub chunk : k < length xs
   pub offset : (d : X) → o < length (f (get_or xs k d))
 
-pub is_in_chunk : {X A : Type 0} (f : X → List A) (xs : List X) (k o : ℕ) → place (lengths f xs) k o < length (flat_map f xs) → IsIn f xs k o
+pub is_in_chunk : {X A : Type 0} (f : X → List A) (xs : List X) (k o : ℕ) → position_at (lengths f xs) k o < length (flat_map f xs) → IsIn f xs k o
 is_in_chunk f [] k o lt = absurd (omega arith)
 is_in_chunk f (x ∷ xs) zero o lt = elim (cases_lt o (length (f x))) [
   | inl less ↦ record { chunk = omega arith; offset = λ d. less }
   | inr ge ↦ absurd (
-      let past = place_past (length (f x)) (lengths f xs) o ge in
+      let past = position_past (length (f x)) (lengths f xs) o ge in
       let len = length-append (f x) (flat_map f xs) in
       let all = length-flat f xs in
       omega arith)
@@ -49,73 +49,73 @@ is_in_chunk f (x ∷ xs) (suc k) o lt =
     let rest = is_in_chunk f xs k o (omega arith) in
     record { chunk = omega (arith, rest.chunk); offset = rest.offset }
 
-pub at_place : {X A : Type 0} (f : X → List A) (xs : List X) (k o : ℕ) (d : X) (e : A) → k < length xs → o < length (f (get_or xs k d)) → get_or (flat_map f xs) (place (lengths f xs) k o) e ≡ get_or (f (get_or xs k d)) o e
-at_place f [] k o d e lt inside = absurd (omega arith)
-at_place f (x ∷ xs) zero o d e lt inside =
-    ap (λ i. get_or (f x ++ flat_map f xs) i e) (place_here (length (f x)) (lengths f xs) o inside) ∙ get_or_append_left (f x) (flat_map f xs) e o inside
-at_place f (x ∷ xs) (suc k) o d e lt inside = get_or-append-add (f x) (flat_map f xs) (place (lengths f xs) k o) e ∙ at_place f xs k o d e (omega arith) inside
+pub at_position : {X A : Type 0} (f : X → List A) (xs : List X) (k o : ℕ) (d : X) (e : A) → k < length xs → o < length (f (get_or xs k d)) → get_or (flat_map f xs) (position_at (lengths f xs) k o) e ≡ get_or (f (get_or xs k d)) o e
+at_position f [] k o d e lt inside = absurd (omega arith)
+at_position f (x ∷ xs) zero o d e lt inside =
+    ap (λ i. get_or (f x ++ flat_map f xs) i e) (position_here (length (f x)) (lengths f xs) o inside) ∙ get_or_append_left (f x) (flat_map f xs) e o inside
+at_position f (x ∷ xs) (suc k) o d e lt inside = get_or-append-add (f x) (flat_map f xs) (position_at (lengths f xs) k o) e ∙ at_position f xs k o d e (omega arith) inside
 
-pub place_within : {X A : Type 0} (f : X → List A) (xs : List X) (k o : ℕ) (d : X) → k < length xs → o < length (f (get_or xs k d)) → place (lengths f xs) k o < length (flat_map f xs)
-place_within f [] k o d lt inside = absurd (omega arith)
-place_within f (x ∷ xs) zero o d lt inside =
-    let here = place_here (length (f x)) (lengths f xs) o inside in
+pub position_within : {X A : Type 0} (f : X → List A) (xs : List X) (k o : ℕ) (d : X) → k < length xs → o < length (f (get_or xs k d)) → position_at (lengths f xs) k o < length (flat_map f xs)
+position_within f [] k o d lt inside = absurd (omega arith)
+position_within f (x ∷ xs) zero o d lt inside =
+    let here = position_here (length (f x)) (lengths f xs) o inside in
     let len = length-append (f x) (flat_map f xs) in
     omega arith
-place_within f (x ∷ xs) (suc k) o d lt inside =
+position_within f (x ∷ xs) (suc k) o d lt inside =
     let len = length-append (f x) (flat_map f xs) in
-    let rest = place_within f xs k o d (omega arith) inside in
+    let rest = position_within f xs k o d (omega arith) inside in
     omega arith
 
 -- ---- what stands behind
 
-pub place_next : {X A : Type 0} (f : X → List A) (xs : List X) (k o : ℕ) (d : X) → k < length xs → o + 1 < length (f (get_or xs k d)) → place (lengths f xs) k (o + 1) ≡ place (lengths f xs) k o + 1
-place_next f [] k o d lt inside = absurd (omega arith)
-place_next f (x ∷ xs) zero o d lt inside =
-    let one = place_here (length (f x)) (lengths f xs) (o + 1) inside in
-    let here = place_here (length (f x)) (lengths f xs) o (omega arith) in
+pub position_next : {X A : Type 0} (f : X → List A) (xs : List X) (k o : ℕ) (d : X) → k < length xs → o + 1 < length (f (get_or xs k d)) → position_at (lengths f xs) k (o + 1) ≡ position_at (lengths f xs) k o + 1
+position_next f [] k o d lt inside = absurd (omega arith)
+position_next f (x ∷ xs) zero o d lt inside =
+    let one = position_here (length (f x)) (lengths f xs) (o + 1) inside in
+    let here = position_here (length (f x)) (lengths f xs) o (omega arith) in
     omega arith
-place_next f (x ∷ xs) (suc k) o d lt inside =
-    let rest = place_next f xs k o d (omega arith) inside in
-    omega arith
-
-place_next_suc : {X A : Type 0} (f : X → List A) (xs : List X) (k o : ℕ) (d : X) → suc k < length xs → 0 < length (f (get_or xs (suc k) d)) → length (f (get_or xs k d)) ≡ o + 1 → place (lengths f xs) (suc k) 0 ≡ place (lengths f xs) k o + 1
-place_next_suc f [] k o d lt some len = absurd (omega arith)
-place_next_suc f (x ∷ []) k o d lt some len = absurd (omega arith)
-place_next_suc f (x ∷ y ∷ xs) zero o d lt some len =
-    let next = place_here (length (f y)) (lengths f xs) 0 some in
-    let here = place_here (length (f x)) (lengths f (y ∷ xs)) o (omega arith) in
-    omega arith
-place_next_suc f (x ∷ y ∷ xs) (suc k) o d lt some len =
-    let rest = place_next_suc f (y ∷ xs) k o d (omega arith) some len in
+position_next f (x ∷ xs) (suc k) o d lt inside =
+    let rest = position_next f xs k o d (omega arith) inside in
     omega arith
 
-pub place_next_chunk : {X A : Type 0} (f : X → List A) (xs : List X) (k j o : ℕ) (d : X) → j ≡ k + 1 → j < length xs → 0 < length (f (get_or xs j d)) → length (f (get_or xs k d)) ≡ o + 1 → place (lengths f xs) j 0 ≡ place (lengths f xs) k o + 1
-place_next_chunk f xs k j o d next lt some len =
+position_next_suc : {X A : Type 0} (f : X → List A) (xs : List X) (k o : ℕ) (d : X) → suc k < length xs → 0 < length (f (get_or xs (suc k) d)) → length (f (get_or xs k d)) ≡ o + 1 → position_at (lengths f xs) (suc k) 0 ≡ position_at (lengths f xs) k o + 1
+position_next_suc f [] k o d lt some len = absurd (omega arith)
+position_next_suc f (x ∷ []) k o d lt some len = absurd (omega arith)
+position_next_suc f (x ∷ y ∷ xs) zero o d lt some len =
+    let next = position_here (length (f y)) (lengths f xs) 0 some in
+    let here = position_here (length (f x)) (lengths f (y ∷ xs)) o (omega arith) in
+    omega arith
+position_next_suc f (x ∷ y ∷ xs) (suc k) o d lt some len =
+    let rest = position_next_suc f (y ∷ xs) k o d (omega arith) some len in
+    omega arith
+
+pub position_next_chunk : {X A : Type 0} (f : X → List A) (xs : List X) (k j o : ℕ) (d : X) → j ≡ k + 1 → j < length xs → 0 < length (f (get_or xs j d)) → length (f (get_or xs k d)) ≡ o + 1 → position_at (lengths f xs) j 0 ≡ position_at (lengths f xs) k o + 1
+position_next_chunk f xs k j o d next lt some len =
     let up : j ≡ suc k = omega arith in
-    ap (λ i. place (lengths f xs) i 0) up ∙ place_next_suc f xs k o d (omega arith) (subst (λ i. 0 < length (f (get_or xs i d))) up some) len
+    ap (λ i. position_at (lengths f xs) i 0) up ∙ position_next_suc f xs k o d (omega arith) (subst (λ i. 0 < length (f (get_or xs i d))) up some) len
 
-pub place_last : {X A : Type 0} (f : X → List A) (xs : List X) (k o : ℕ) (d : X) → k + 1 ≡ length xs → length (f (get_or xs k d)) ≡ o + 1 → place (lengths f xs) k o + 1 ≡ length (flat_map f xs)
-place_last f [] k o d last len = absurd (omega arith)
-place_last f (x ∷ []) zero o d last len =
-    let here = place_here (length (f x)) [] o (omega arith) in
+pub position_last : {X A : Type 0} (f : X → List A) (xs : List X) (k o : ℕ) (d : X) → k + 1 ≡ length xs → length (f (get_or xs k d)) ≡ o + 1 → position_at (lengths f xs) k o + 1 ≡ length (flat_map f xs)
+position_last f [] k o d last len = absurd (omega arith)
+position_last f (x ∷ []) zero o d last len =
+    let here = position_here (length (f x)) [] o (omega arith) in
     let all = length-append (f x) [] in
     omega arith
-place_last f (x ∷ y ∷ xs) zero o d last len = absurd (omega arith)
-place_last f (x ∷ xs) (suc k) o d last len =
+position_last f (x ∷ y ∷ xs) zero o d last len = absurd (omega arith)
+position_last f (x ∷ xs) (suc k) o d last len =
     let all = length-append (f x) (flat_map f xs) in
-    let rest = place_last f xs k o d (omega arith) len in
+    let rest = position_last f xs k o d (omega arith) len in
     omega arith
 
 -- ---- edits
 
-pub set_in : {X A : Type 0} (f : X → List A) (xs : List X) (k o : ℕ) (d y : X) (v : A) → k < length xs → o < length (f (get_or xs k d)) → f y ≡ set (f (get_or xs k d)) o v → flat_map f (set xs k y) ≡ set (flat_map f xs) (place (lengths f xs) k o) v
+pub set_in : {X A : Type 0} (f : X → List A) (xs : List X) (k o : ℕ) (d y : X) (v : A) → k < length xs → o < length (f (get_or xs k d)) → f y ≡ set (f (get_or xs k d)) o v → flat_map f (set xs k y) ≡ set (flat_map f xs) (position_at (lengths f xs) k o) v
 set_in f [] k o d y v lt inside is = absurd (omega arith)
 set_in f (x ∷ xs) zero o d y v lt inside is =
     ap (λ r. r ++ flat_map f xs) is ∙ sym (set-append_left (f x) (flat_map f xs) o v inside)
-    ∙ ap (λ i. set (f x ++ flat_map f xs) i v) (sym (place_here (length (f x)) (lengths f xs) o inside))
+    ∙ ap (λ i. set (f x ++ flat_map f xs) i v) (sym (position_here (length (f x)) (lengths f xs) o inside))
 set_in f (x ∷ xs) (suc k) o d y v lt inside is =
     let n = length (f x) in
-    let p = place (lengths f xs) k o in
+    let p = position_at (lengths f xs) k o in
     let back : p ≡ n + p - n = omega arith in
     ap (λ r. f x ++ r) (set_in f xs k o d y v (omega arith) inside is)
     ∙ ap (λ i. f x ++ set (flat_map f xs) i v) back
@@ -126,47 +126,47 @@ set_lengths f [] k d y len = refl
 set_lengths f (x ∷ xs) zero d y len = ap (λ n. n ∷ lengths f xs) len
 set_lengths f (x ∷ xs) (suc k) d y len = ap (λ ns. length (f x) ∷ ns) (set_lengths f xs k d y len)
 
-pub insert_in : {X A : Type 0} (f : X → List A) (xs : List X) (k o : ℕ) (d y : X) (v : A) → k < length xs → o < length (f (get_or xs k d)) → f y ≡ insert (f (get_or xs k d)) o v → flat_map f (set xs k y) ≡ insert (flat_map f xs) (place (lengths f xs) k o) v
+pub insert_in : {X A : Type 0} (f : X → List A) (xs : List X) (k o : ℕ) (d y : X) (v : A) → k < length xs → o < length (f (get_or xs k d)) → f y ≡ insert (f (get_or xs k d)) o v → flat_map f (set xs k y) ≡ insert (flat_map f xs) (position_at (lengths f xs) k o) v
 insert_in f [] k o d y v lt inside is = absurd (omega arith)
 insert_in f (x ∷ xs) zero o d y v lt inside is =
     ap (λ r. r ++ flat_map f xs) is ∙ sym (insert-append_left (f x) (flat_map f xs) o v (omega arith))
-    ∙ ap (λ i. insert (f x ++ flat_map f xs) i v) (sym (place_here (length (f x)) (lengths f xs) o inside))
+    ∙ ap (λ i. insert (f x ++ flat_map f xs) i v) (sym (position_here (length (f x)) (lengths f xs) o inside))
 insert_in f (x ∷ xs) (suc k) o d y v lt inside is =
     let n = length (f x) in
-    let p = place (lengths f xs) k o in
+    let p = position_at (lengths f xs) k o in
     let back : p ≡ n + p - n = omega arith in
     ap (λ r. f x ++ r) (insert_in f xs k o d y v (omega arith) inside is)
     ∙ ap (λ i. f x ++ insert (flat_map f xs) i v) back
     ∙ sym (insert-append_right (f x) (flat_map f xs) n (n + p) v refl (omega arith))
 
 -- a chunk becomes two
-split_suc : {X A : Type 0} (f : X → List A) (xs : List X) (k o : ℕ) (d y z : X) (v : A) → k < length xs → o < length (f (get_or xs k d)) → f y ++ f z ≡ insert (f (get_or xs k d)) o v → flat_map f (insert (set xs k y) (suc k) z) ≡ insert (flat_map f xs) (place (lengths f xs) k o) v
+split_suc : {X A : Type 0} (f : X → List A) (xs : List X) (k o : ℕ) (d y z : X) (v : A) → k < length xs → o < length (f (get_or xs k d)) → f y ++ f z ≡ insert (f (get_or xs k d)) o v → flat_map f (insert (set xs k y) (suc k) z) ≡ insert (flat_map f xs) (position_at (lengths f xs) k o) v
 split_suc f [] k o d y z v lt inside is = absurd (omega arith)
 split_suc f (x ∷ xs) zero o d y z v lt inside is =
     sym (append_assoc (f y) (f z) (flat_map f xs))
     ∙ ap (λ r. r ++ flat_map f xs) is ∙ sym (insert-append_left (f x) (flat_map f xs) o v (omega arith))
-    ∙ ap (λ i. insert (f x ++ flat_map f xs) i v) (sym (place_here (length (f x)) (lengths f xs) o inside))
+    ∙ ap (λ i. insert (f x ++ flat_map f xs) i v) (sym (position_here (length (f x)) (lengths f xs) o inside))
 split_suc f (x ∷ xs) (suc k) o d y z v lt inside is =
     let n = length (f x) in
-    let p = place (lengths f xs) k o in
+    let p = position_at (lengths f xs) k o in
     let back : p ≡ n + p - n = omega arith in
     ap (λ r. f x ++ r) (split_suc f xs k o d y z v (omega arith) inside is)
     ∙ ap (λ i. f x ++ insert (flat_map f xs) i v) back
     ∙ sym (insert-append_right (f x) (flat_map f xs) n (n + p) v refl (omega arith))
 
-pub split_in : {X A : Type 0} (f : X → List A) (xs : List X) (k o : ℕ) (d y z : X) (v : A) → k < length xs → o < length (f (get_or xs k d)) → f y ++ f z ≡ insert (f (get_or xs k d)) o v → flat_map f (insert (set xs k y) (k + 1) z) ≡ insert (flat_map f xs) (place (lengths f xs) k o) v
+pub split_in : {X A : Type 0} (f : X → List A) (xs : List X) (k o : ℕ) (d y z : X) (v : A) → k < length xs → o < length (f (get_or xs k d)) → f y ++ f z ≡ insert (f (get_or xs k d)) o v → flat_map f (insert (set xs k y) (k + 1) z) ≡ insert (flat_map f xs) (position_at (lengths f xs) k o) v
 split_in f xs k o d y z v lt inside is =
     let up : k + 1 ≡ suc k = omega arith in
     ap (λ i. flat_map f (insert (set xs k y) i z)) up ∙ split_suc f xs k o d y z v lt inside is
 
-pub remove_in : {X A : Type 0} (f : X → List A) (xs : List X) (k o : ℕ) (d y : X) → k < length xs → o < length (f (get_or xs k d)) → f y ≡ remove (f (get_or xs k d)) o → flat_map f (set xs k y) ≡ remove (flat_map f xs) (place (lengths f xs) k o)
+pub remove_in : {X A : Type 0} (f : X → List A) (xs : List X) (k o : ℕ) (d y : X) → k < length xs → o < length (f (get_or xs k d)) → f y ≡ remove (f (get_or xs k d)) o → flat_map f (set xs k y) ≡ remove (flat_map f xs) (position_at (lengths f xs) k o)
 remove_in f [] k o d y lt inside is = absurd (omega arith)
 remove_in f (x ∷ xs) zero o d y lt inside is =
     ap (λ r. r ++ flat_map f xs) is ∙ sym (remove-append_left (f x) (flat_map f xs) o inside)
-    ∙ ap (λ i. remove (f x ++ flat_map f xs) i) (sym (place_here (length (f x)) (lengths f xs) o inside))
+    ∙ ap (λ i. remove (f x ++ flat_map f xs) i) (sym (position_here (length (f x)) (lengths f xs) o inside))
 remove_in f (x ∷ xs) (suc k) o d y lt inside is =
     let n = length (f x) in
-    let p = place (lengths f xs) k o in
+    let p = position_at (lengths f xs) k o in
     let back : p ≡ n + p - n = omega arith in
     ap (λ r. f x ++ r) (remove_in f xs k o d y (omega arith) inside is)
     ∙ ap (λ i. f x ++ remove (flat_map f xs) i) back
@@ -179,15 +179,15 @@ one_gone (x ∷ []) (suc o) len lt = absurd (omega arith)
 one_gone (x ∷ y ∷ xs) o len lt = absurd (omega arith)
 
 -- a chunk of one goes as a whole
-pub remove_chunk : {X A : Type 0} (f : X → List A) (xs : List X) (k o : ℕ) (d : X) → k < length xs → o < length (f (get_or xs k d)) → length (f (get_or xs k d)) ≡ 1 → flat_map f (remove xs k) ≡ remove (flat_map f xs) (place (lengths f xs) k o)
+pub remove_chunk : {X A : Type 0} (f : X → List A) (xs : List X) (k o : ℕ) (d : X) → k < length xs → o < length (f (get_or xs k d)) → length (f (get_or xs k d)) ≡ 1 → flat_map f (remove xs k) ≡ remove (flat_map f xs) (position_at (lengths f xs) k o)
 remove_chunk f [] k o d lt inside one = absurd (omega arith)
 remove_chunk f (x ∷ xs) zero o d lt inside one =
     ap (λ r. r ++ flat_map f xs) (one_gone (f x) o one (omega arith))
     ∙ sym (remove-append_left (f x) (flat_map f xs) o inside)
-    ∙ ap (λ i. remove (f x ++ flat_map f xs) i) (sym (place_here (length (f x)) (lengths f xs) o inside))
+    ∙ ap (λ i. remove (f x ++ flat_map f xs) i) (sym (position_here (length (f x)) (lengths f xs) o inside))
 remove_chunk f (x ∷ xs) (suc k) o d lt inside one =
     let n = length (f x) in
-    let p = place (lengths f xs) k o in
+    let p = position_at (lengths f xs) k o in
     let back : p ≡ n + p - n = omega arith in
     ap (λ r. f x ++ r) (remove_chunk f xs k o d (omega arith) inside one)
     ∙ ap (λ i. f x ++ remove (flat_map f xs) i) back

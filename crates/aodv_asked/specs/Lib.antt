@@ -4,7 +4,7 @@
 pub mod Requests
 -- Intervals: the ids beside one originator, kept as intervals.
 pub mod Intervals
--- Spots: the places of the intervals in chunks. Only the crate's own functions cite it.
+-- Spots: where the intervals stand in chunks. Only the crate's own functions cite it.
 pub mod Spots
 -- Storage: the intervals of a list, and where they stand. Only the crate's own functions cite it.
 pub mod Storage

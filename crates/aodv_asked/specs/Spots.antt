@@ -18,14 +18,14 @@ all_of (n ∷ ns) = n + all_of ns
 
 -- the position in the whole list of what stands at an offset in the chunk k, where the chunks have
 -- so many; with no chunks it is the offset
-abbrev pub place : List ℕ → ℕ → ℕ → ℕ
-place [] k o = o
-place (n ∷ ns) zero o = if nat_lt o n then o else n + all_of ns
-place (n ∷ ns) (suc k) o = n + place ns k o
+abbrev pub position_at : List ℕ → ℕ → ℕ → ℕ
+position_at [] k o = o
+position_at (n ∷ ns) zero o = if nat_lt o n then o else n + all_of ns
+position_at (n ∷ ns) (suc k) o = n + position_at ns k o
 
 -- the position of a spot
 abbrev pub position_of : RoomyIntervals → Spot → ℕ
-position_of vs s = place vs.lengths s.chunk s.offset
+position_of vs s = position_at vs.lengths s.chunk s.offset
 
 -- an interval stands at the spot
 abbrev pub IsThere : RoomyIntervals → Spot → Type 0

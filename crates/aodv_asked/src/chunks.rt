@@ -14,7 +14,7 @@ use std::mem;
 pub(crate) const CHUNK: usize = 256;
 
 /// The intervals in chunks of which none is empty, and an empty chunk in store: an interval that
-/// finds its chunk full takes no memory. A new chunk's place among the others is reserved too.
+/// finds its chunk full takes no memory. A slot for a new chunk among the others is reserved too.
 #[derive(Drop)]
 pub(crate) struct Chunks {
     chunks: Vec<Vec<Interval>>,

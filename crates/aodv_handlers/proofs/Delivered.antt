@@ -20,7 +20,7 @@ use Rattle.aodv_model.specs.Handlers.{Nothing, Many, All, is_error, unicast, dat
 use Rattle.aodv_model.specs.Fullness.{send_full}
 use Rattle.aodv_model.specs.Soundness.{IsSoundCore, IsSoundTable, AreDestsBelow}
 use Rattle.aodv_model.proofs.Changes.{Raises, accepted_raises}
-use Rattle.aodv_model.proofs.PlacedTables.{accepted_below}
+use Rattle.aodv_model.proofs.TablesInMesh.{accepted_below}
 use Rattle.aodv_model.proofs.SoundTables.{neighbour_table}
 use Rattle.aodv_wire.specs.declared.message.Message.TheVariants as messages
 use Rattle.aodv_wire.specs.Encodes.{Encodes, encoding}

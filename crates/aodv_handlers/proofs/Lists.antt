@@ -1,4 +1,4 @@
--- Lists from a place on, sets, and the entries of a map.
+-- Lists from an index on, sets, and the entries of a map.
 use Rattle.std.proofs.Common.{◌≡◌, ℕ, zero, suc, ◌≤◌, Bool, true, false, cond, ◌||◌, ◌↔◌, IsTrue, Some, None, List, [], ◌∷◌, length, map, refl, sym, ap, ◌∙◌, eq-eqb, arith}
 use Rattle.std.specs.Prelude.{slice_get}
 use Rattle.std.specs.List.{list_any}
@@ -15,13 +15,13 @@ use Rattle.std.specs.FinMap.Entries.{where_key, find-where_key, is_sorted-where_
 use Rattle.mesh_base.specs.Members.{NodeIds}
 use Rattle.aodv_model.specs.Handlers.{is_empty}
 
-pub from_place : {A : Type 0} (xs : List A) (k : ℕ) (x : A) → slice_get xs k ≡ Some x → drop k xs ≡ x ∷ drop (suc k) xs
-from_place [] k x is = absurd (none-some x is)
-from_place (y ∷ xs) zero x is = ap (λ (y : _). y ∷ xs) (same y x is)
+pub from_index : {A : Type 0} (xs : List A) (k : ℕ) (x : A) → slice_get xs k ≡ Some x → drop k xs ≡ x ∷ drop (suc k) xs
+from_index [] k x is = absurd (none-some x is)
+from_index (y ∷ xs) zero x is = ap (λ (y : _). y ∷ xs) (same y x is)
   where
     same : {A : Type 0} (y x : A) → Some y ≡ Some x → y ≡ x
     same y x is = cc
-from_place (y ∷ xs) (suc k) x is = from_place xs k x is
+from_index (y ∷ xs) (suc k) x is = from_index xs k x is
 
 pub from_end : {A : Type 0} (xs : List A) (k : ℕ) → length xs ≤ k → drop k xs ≡ []
 from_end [] zero h = refl

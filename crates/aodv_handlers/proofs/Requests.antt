@@ -15,7 +15,7 @@ use Rattle.aodv_model.specs.Cores.{Core, RouteRequest, Message, Rreq, Rrep, Item
 use Rattle.aodv_model.specs.Handlers.{Reaction, quiet, only, one, unicast, link_broken, retract, neighbour_entry, route_entry, after_hearing, after_request, reply_for_self, join_answer_precursors, reply_from_table, forward_request, can_answer, on_new_rreq, on_rreq, turn, key_of}
 use Rattle.aodv_model.specs.Fullness.{is_number_full, turn_full}
 use Rattle.aodv_model.specs.Soundness.{IsSoundTable}
-use Rattle.aodv_model.proofs.PlacedTables.{update_has}
+use Rattle.aodv_model.proofs.TablesInMesh.{update_has}
 use Rattle.aodv_model.proofs.Readings.{pre_alike, join_answer_alike}
 use Rattle.aodv_model.proofs.SoundTables.{neighbour_table, route_table}
 use Rattle.aodv_meaning.specs.Sent.{IsPacket}

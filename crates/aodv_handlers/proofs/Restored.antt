@@ -16,7 +16,7 @@ pub get-with_entry : (rt : Table) (d : ℕ) (o : Option Entry) (q : ℕ) → map
 get-with_entry rt d None q = maps.get-remove nat_cmp_total rt d q ∙ ap (λ (b : Bool). cond b None (maps.get rt q)) (unsigned_tied q d)
 get-with_entry rt d (Some e) q = maps.get-insert nat_cmp_total rt d e q ∙ ap (λ (b : Bool). cond b (Some e) (maps.get rt q)) (unsigned_tied q d)
 
--- two tables that differ at most at two places
+-- two tables that differ at most for two destinations
 pub two_back : (rt rt' : Table) (a b : ℕ) → ((q : ℕ) → (q ≡ a → ⊥) → (q ≡ b → ⊥) → maps.get rt' q ≡ maps.get rt q) → with_entry (with_entry rt' b (maps.get rt b)) a (maps.get rt a) ≡ rt
 two_back rt rt' a b same = maps.same_map nat_cmp_total nat_cmp-IsAntisymmetric _ rt (λ q.
     get-with_entry (with_entry rt' b (maps.get rt b)) a (maps.get rt a) q

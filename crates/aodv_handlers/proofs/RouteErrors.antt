@@ -17,15 +17,15 @@ use Rattle.aodv_model.specs.Cores.{Rerr}
 use Rattle.aodv_model.specs.Handlers.{Nothing, All, is_empty, is_error, all_precs, precs_of, with_precs, error_cast}
 use Rattle.aodv_model.specs.Soundness.{AreDestsBelow}
 use Rattle.aodv_model.proofs.Lookups.{get-kept}
-use Rattle.aodv_model.proofs.PlacedTables.{kept_of}
+use Rattle.aodv_model.proofs.TablesInMesh.{kept_of}
 use Rattle.aodv_wire.specs.RouteError.{AreDestinations}
 use Rattle.aodv_meaning.specs.Sent.{pair_by_address, pairs_of}
 use Rattle.aodv_meaning.proofs.Writings.{destinations}
 use Rattle.aodv_handlers.specs.Parts.{tells, named_dests}
-use Rattle.aodv_handlers.proofs.Lists.{from_place, from_end, empty_union, union_empty, union_assoc, empty_is, is_empty_same, entries_where, any_there}
+use Rattle.aodv_handlers.proofs.Lists.{from_index, from_end, empty_union, union_empty, union_assoc, empty_is, is_empty_same, entries_where, any_there}
 use Rattle.aodv_meaning.proofs.Means.{some_of}
 
--- the destination at a place is in the mesh
+-- the destination at an index is in the mesh
 pub dest_below : (size : ℕ) (dests : Dests) (k : ℕ) (p : ℕ × ℕ) → AreDestsBelow size dests → slice_get (maps.entries dests) k ≡ Some p → p.0 < size
 dest_below size dests k p below is =
     let there = some_of (maps.get dests p.0) (maps.contains_key-keys dests p.0 ∙ any_there (maps.entries dests) k p is) in
@@ -36,7 +36,7 @@ dest_below size dests k p below is =
 pub precs_from : Table → Dests → ℕ → NodeIds
 precs_from rt dests k = all_precs rt (map (λ e. e.0) (drop k (maps.entries dests)))
 
--- all of them are those that were joined before place k, and those from there on
+-- all of them are those that were joined before index k, and those from there on
 pub record HasJoined (rt : Table) (dests : Dests) (k : ℕ) (all : NodeIds) : Type 0 where
   pub whole : sets.union all (precs_from rt dests k) ≡ precs_of rt dests
 
@@ -49,7 +49,7 @@ unfolding precs_from
 joined_more rt dests k all all' s p has is s_is next =
     let up : suc k ≡ k + 1 = omega arith in
     let step : precs_from rt dests k ≡ sets.union s (precs_from rt dests (k + 1)) =
-    ap (λ es. all_precs rt (map (λ e. e.0) es)) (from_place (maps.entries dests) k p is)
+    ap (λ es. all_precs rt (map (λ e. e.0) es)) (from_index (maps.entries dests) k p is)
     ∙ (λ i. sets.union (sym s_is i) (precs_from rt dests (up i))) in
     record {
       whole = ap (λ t. sets.union t (precs_from rt dests (k + 1))) next
@@ -70,7 +70,7 @@ joined_all rt dests k all has end =
 pub told_of : Nodes → Variant → Table → List (ℕ × ℕ) → List (Addr × ℕ)
 told_of mesh v rt es = map (pair_by_address mesh) (where_key nat_cmp (tells v rt) es)
 
--- all pairs are those that were taken before place k, and those from there on
+-- all pairs are those that were taken before index k, and those from there on
 pub record HasTold (mesh : Nodes) (v : Variant) (rt : Table) (dests : Dests) (k : ℕ) (pairs : List (Addr × ℕ)) : Type 0 where
   pub whole : pairs ++ told_of mesh v rt (drop k (maps.entries dests)) ≡ told_of mesh v rt (maps.entries dests)
   pub few : length pairs ≤ k
@@ -86,7 +86,7 @@ told_first mesh v rt p es false is = rw is refl
 told_step : (mesh : Nodes) (v : Variant) (rt : Table) (dests : Dests) (k : ℕ) (p : ℕ × ℕ) (b : Bool) → slice_get (maps.entries dests) k ≡ Some p → tells v rt p.0 ≡ b → told_of mesh v rt (drop k (maps.entries dests)) ≡ cond b (pair_by_address mesh p ∷ told_of mesh v rt (drop (k + 1) (maps.entries dests))) (told_of mesh v rt (drop (k + 1) (maps.entries dests)))
 told_step mesh v rt dests k p b is has =
     let up : suc k ≡ k + 1 = omega arith in
-    ap (told_of mesh v rt) (from_place (maps.entries dests) k p is)
+    ap (told_of mesh v rt) (from_index (maps.entries dests) k p is)
     ∙ told_first mesh v rt p (drop (suc k) (maps.entries dests)) b has
     ∙ ap (λ n. cond b (pair_by_address mesh p ∷ told_of mesh v rt (drop n (maps.entries dests))) (told_of mesh v rt (drop n (maps.entries dests)))) up
 

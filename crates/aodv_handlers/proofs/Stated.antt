@@ -14,10 +14,10 @@ use Rattle.mesh_base.specs.Meshes.{Nodes, index_of}
 use Rattle.aodv_model.specs.Tables.{Table, Dests, goes_by, sqn, accepted_unreachable}
 use Rattle.aodv_model.specs.Soundness.{AreDestsBelow}
 use Rattle.aodv_model.proofs.Lookups.{get-accepted}
-use Rattle.aodv_model.proofs.PlacedTables.{accepted_below}
+use Rattle.aodv_model.proofs.TablesInMesh.{accepted_below}
 use Rattle.aodv_meaning.specs.Meaning.{index, pair_by_index, dests_in, strange_pair}
 use Rattle.aodv_meaning.proofs.Means.{below, first_in}
-use Rattle.aodv_handlers.proofs.Lists.{from_place, from_end}
+use Rattle.aodv_handlers.proofs.Lists.{from_index, from_end}
 
 -- ---- who is in the mesh
 
@@ -60,7 +60,7 @@ stated_more mesh pairs k d p numbers numbers' has is d_is size new =
           let later = stated_from mesh pairs (k + 1) q in
           let tied : eq_by_cmp nat_cmp q (index mesh p.0) ≡ (q == d) = unsigned_tied q (index mesh p.0) ∙ ap (λ (x : ℕ). q == x) (sym d_is) in
           let step : stated_from mesh pairs k q ≡ cond (q == d) (Some p.1) later =
-          ap (λ ps. find nat_cmp q (map (pair_by_index mesh) ps)) (from_place pairs k p is)
+          ap (λ ps. find nat_cmp q (map (pair_by_index mesh) ps)) (from_index pairs k p is)
           ∙ (λ i. cond (tied i) (Some p.1) (stated_from mesh pairs (up i) q)) in
           case q (q == d) refl (step ∙ refl);
     }

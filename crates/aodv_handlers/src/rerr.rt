@@ -42,7 +42,7 @@ fn state_numbers(mesh: &Mesh, m: &RerrView<'_>, numbers: &mut [Option<u32>])
     ensures size { length numbers.new ≡ MOST_NODES }
     ensures numbers { (d : ℕ) → get_or numbers.new d None ≡ maps.get (dests_in mesh.now m.now) d }
 {
-    // It says that a mesh has at most 200 nodes, so the list has a place for each of them.
+    // It says that a mesh has at most 200 nodes, so the list has a slot for each of them.
     let _few = mesh.len();
     for k in 0..m.len() {
         let (a, number) = m.pair(k);

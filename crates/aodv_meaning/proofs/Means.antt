@@ -34,7 +34,7 @@ use Rattle.aodv_wire.specs.Encodes.{message_in_fields, kind, refusal}
 use Rattle.aodv_meaning.specs.Meaning.{status_of, index, pair_by_index, dests_in, in_mesh, meaning, unless_in, strange_pair, stranger}
 use Rattle.aodv_meaning.specs.Sent.{pair_by_address, out_of, pairs_of, IsSent}
 
--- an address below its own place isn't that of another place
+-- an address below its own index isn't that of another index
 apart : (mesh : Nodes) (i k : ℕ) → IsMesh mesh → i < length mesh → k < length mesh → addr_at mesh k ≡ addr_at mesh i → k ≡ i
 apart mesh i k is hi hk same = elim (cases_lt k i) [
   | inl lt ↦ let r = is.rising k i lt hi in absurd (omega arith)
@@ -44,11 +44,11 @@ apart mesh i k is hi hk same = elim (cases_lt k i) [
 pub index_of_at : (mesh : Nodes) (i : ℕ) → IsMesh mesh → i < length mesh → index_of mesh (addr_at mesh i) ≡ Some i
 unfolding index_of
 index_of_at mesh i is h =
-    let place : position_or_len (λ (p : ℕ × ℕ). eqb p.0 (addr_at mesh i)) mesh ≡ i =
+    let index : position_or_len (λ (p : ℕ × ℕ). eqb p.0 (addr_at mesh i)) mesh ≡ i =
     position_or_len_is (λ (p : ℕ × ℕ). eqb p.0 (addr_at mesh i)) mesh i (0, 0) (omega arith)
     (λ k lt. ne_eqb (addr_at mesh k) (addr_at mesh i) (λ same. let r = is.rising k i lt h in omega arith))
     (λ _. eq-eqb (addr_at mesh i) (addr_at mesh i) refl) in
-    rw (place, lt-ltb i (length mesh) h) refl
+    rw (index, lt-ltb i (length mesh) h) refl
 
 pub index_at : (mesh : Nodes) (i : ℕ) → IsMesh mesh → i < length mesh → index_in mesh (addr_at mesh i) ≡ i
 unfolding index_in

@@ -3,7 +3,7 @@ pub mod PairLaws
 pub mod Lookups
 pub mod Entries
 pub mod Changes
-pub mod PlacedTables
+pub mod TablesInMesh
 pub mod Readings
 pub mod SoundTables
 pub mod Stores

@@ -10,9 +10,9 @@ use Rattle.aodv_model.specs.declared.entry.Entry.{Entry}
 use Rattle.aodv_model.specs.Tables.{Table, Dests, unreachable_by, accepted_unreachable, sqn, in_vD, in_iD, in_kD, nhop, dhops, precs, pre_in}
 use Rattle.aodv_model.specs.Cores.{Body, RouteRequest, RouteReply, Message, Pkt, Rreq, Rrep, Rerr, Item, New, Heard, Core, add, drop, has_seen, bodies_in}
 use Rattle.aodv_model.specs.Handlers.{Nothing, One, Many, All, Reaction, casting, delivering, plain, only, is_empty, is_error, all_precs, precs_of, with_precs, error_cast, retract, link_broken, broken_by, unicast, neighbour_entry, route_entry, after_hearing, on_new, losing, losing_if_broken, data_error, on_pkt, key_of, after_request, reply_for_self, can_answer, join_answer_precursors, reply_from_table, forward_request, on_new_rreq, on_rreq, is_stale, join_reply_precursors, forward_reply, forward_own_entry, reply_on, after_reply, on_rrep, on_rerr, on_message, turn, may_send, send, drop_if_sent, first_body, ask}
-use Rattle.aodv_model.specs.Soundness.{AllPlaced, AreBelow, IsSoundTable, IsSoundCore, IsMessageInMesh, IsItemInMesh, IsAimed, IsEffectInMesh}
+use Rattle.aodv_model.specs.Soundness.{AreEntriesInMesh, AreBelow, IsSoundTable, IsSoundCore, IsMessageInMesh, IsItemInMesh, IsAimed, IsEffectInMesh}
 use Rattle.aodv_model.proofs.Entries.{if_case}
-use Rattle.aodv_model.proofs.PlacedTables.{update_has, below_union, below_empty}
+use Rattle.aodv_model.proofs.TablesInMesh.{update_has, below_union, below_empty}
 use Rattle.aodv_model.proofs.SoundTables.{neighbour_table, route_table, nhop_below, join_answer_table, join_reply_table}
 
 abbrev Names : ℕ → Reaction → Type 0
@@ -24,45 +24,45 @@ module _ (size ip : ℕ) (some : 0 < size) where
 
   -- ---- precursors
 
-  pre_below : (rt : Table) (d : ℕ) (o : Option Entry) → AllPlaced size ip rt → maps.get rt d ≡ o → AreBelow size (pre_in o)
-  pre_below rt d None placed is = below_empty size
-  pre_below rt d (Some e) placed is = (placed d e is).pre
+  pre_below : (rt : Table) (d : ℕ) (o : Option Entry) → AreEntriesInMesh size ip rt → maps.get rt d ≡ o → AreBelow size (pre_in o)
+  pre_below rt d None in_mesh is = below_empty size
+  pre_below rt d (Some e) in_mesh is = (in_mesh d e is).pre
 
-  all_precs_below : (rt : Table) (ds : List ℕ) → AllPlaced size ip rt → AreBelow size (all_precs rt ds)
-  all_precs_below rt [] placed = below_empty size
-  all_precs_below rt (d ∷ ds) placed = below_union size (precs rt d) (all_precs rt ds) (pre_below rt d (maps.get rt d) placed refl) (all_precs_below rt ds placed)
+  all_precs_below : (rt : Table) (ds : List ℕ) → AreEntriesInMesh size ip rt → AreBelow size (all_precs rt ds)
+  all_precs_below rt [] in_mesh = below_empty size
+  all_precs_below rt (d ∷ ds) in_mesh = below_union size (precs rt d) (all_precs rt ds) (pre_below rt d (maps.get rt d) in_mesh refl) (all_precs_below rt ds in_mesh)
 
-  precs_of_below : (rt : Table) (dests : Dests) → AllPlaced size ip rt → AreBelow size (precs_of rt dests)
+  precs_of_below : (rt : Table) (dests : Dests) → AreEntriesInMesh size ip rt → AreBelow size (precs_of rt dests)
   unfolding precs_of
-  precs_of_below rt dests placed = all_precs_below rt (maps.keys dests) placed
+  precs_of_below rt dests in_mesh = all_precs_below rt (maps.keys dests) in_mesh
 
   -- ---- breaks
 
-  error_aimed : (variant : Variant) (rt : Table) (dests : Dests) → AllPlaced size ip rt → IsAimed size (error_cast variant rt dests)
+  error_aimed : (variant : Variant) (rt : Table) (dests : Dests) → AreEntriesInMesh size ip rt → IsAimed size (error_cast variant rt dests)
   unfolding error_cast
-  error_aimed variant rt dests placed =
+  error_aimed variant rt dests in_mesh =
       if_case (IsAimed size) (is_error variant) (if maps.len dests == 0 then Nothing else All (Rerr dests)) (if is_empty (precs_of rt dests) then Nothing else Many (precs_of rt dests) (Rerr (with_precs rt dests)))
       (λ _. if_case (IsAimed size) (maps.len dests == 0) Nothing (All (Rerr dests)) (λ _. tt) (λ _. tt))
-      (λ _. if_case (IsAimed size) (is_empty (precs_of rt dests)) Nothing (Many (precs_of rt dests) (Rerr (with_precs rt dests))) (λ _. tt) (λ _. precs_of_below rt dests placed))
+      (λ _. if_case (IsAimed size) (is_empty (precs_of rt dests)) Nothing (Many (precs_of rt dests) (Rerr (with_precs rt dests))) (λ _. tt) (λ _. precs_of_below rt dests in_mesh))
 
-  retract_names : (core : Core) (dests : Dests) → AllPlaced size ip core.rt → Names size (retract core dests)
+  retract_names : (core : Core) (dests : Dests) → AreEntriesInMesh size ip core.rt → Names size (retract core dests)
   unfolding retract
-  retract_names core dests placed = record { broken = tt; cast = error_aimed core.variant core.rt dests placed }
+  retract_names core dests in_mesh = record { broken = tt; cast = error_aimed core.variant core.rt dests in_mesh }
 
-  link_broken_names : (core : Core) (y : ℕ) → y < size → AllPlaced size ip core.rt → Names size (broken_by y (link_broken core y))
+  link_broken_names : (core : Core) (y : ℕ) → y < size → AreEntriesInMesh size ip core.rt → Names size (broken_by y (link_broken core y))
   unfolding link_broken
-  link_broken_names core y l placed = let p : Names size (retract core (unreachable_by core.rt y)) = retract_names core (unreachable_by core.rt y) placed in record { broken = l; cast = p.cast }
+  link_broken_names core y l in_mesh = let p : Names size (retract core (unreachable_by core.rt y)) = retract_names core (unreachable_by core.rt y) in_mesh in record { broken = l; cast = p.cast }
 
-  unicast_names : (core : Core) (m : Message) (y : ℕ) (range : NodeIds) → y < size → AllPlaced size ip core.rt → Names size (unicast core m y range)
+  unicast_names : (core : Core) (m : Message) (y : ℕ) (range : NodeIds) → y < size → AreEntriesInMesh size ip core.rt → Names size (unicast core m y range)
   unfolding unicast
-  unicast_names core m y range l placed =
+  unicast_names core m y range l in_mesh =
       if_case (Names size) (sets.contains range y) (plain core (casting (One y m))) (broken_by y (link_broken core y))
       (λ _. record { broken = tt; cast = l })
-      (λ _. link_broken_names core y l placed)
+      (λ _. link_broken_names core y l in_mesh)
 
   -- a unicast to the next hop of a destination
   next_names : (core : Core) (m : Message) (d : ℕ) (range : NodeIds) → IsSoundTable size ip core.rt → Names size (unicast core m (nhop core.rt d) range)
-  next_names core m d range table = unicast_names core m (nhop core.rt d) range (nhop_below size ip core.rt d some table) table.places
+  next_names core m d range table = unicast_names core m (nhop core.rt d) range (nhop_below size ip core.rt d some table) table.in_mesh
 
   -- ---- data
 
@@ -73,14 +73,14 @@ module _ (size ip : ℕ) (some : 0 < size) where
       (λ _. record { broken = tt; cast = tt })
       (λ _. only_names (record core { store = add core.store d b }))
 
-  data_error_aimed : (core : Core) (d : ℕ) → AllPlaced size ip core.rt → IsAimed size (data_error core d)
+  data_error_aimed : (core : Core) (d : ℕ) → AreEntriesInMesh size ip core.rt → IsAimed size (data_error core d)
   unfolding data_error
-  data_error_aimed core d placed =
+  data_error_aimed core d in_mesh =
       if_case (IsAimed size) (not (in_iD core.rt d)) Nothing (if is_error core.variant then All (Rerr (maps.insert maps.empty d (sqn core.rt d))) else if is_empty (precs core.rt d) then Nothing else Many (precs core.rt d) (Rerr (maps.insert maps.empty d (sqn core.rt d))))
       (λ _. tt)
       (λ _. if_case (IsAimed size) (is_error core.variant) (All (Rerr (maps.insert maps.empty d (sqn core.rt d)))) (if is_empty (precs core.rt d) then Nothing else Many (precs core.rt d) (Rerr (maps.insert maps.empty d (sqn core.rt d))))
       (λ _. tt)
-      (λ _. if_case (IsAimed size) (is_empty (precs core.rt d)) Nothing (Many (precs core.rt d) (Rerr (maps.insert maps.empty d (sqn core.rt d)))) (λ _. tt) (λ _. pre_below core.rt d (maps.get core.rt d) placed refl)))
+      (λ _. if_case (IsAimed size) (is_empty (precs core.rt d)) Nothing (Many (precs core.rt d) (Rerr (maps.insert maps.empty d (sqn core.rt d)))) (λ _. tt) (λ _. pre_below core.rt d (maps.get core.rt d) in_mesh refl)))
 
   on_pkt_names : (core : Core) (range : NodeIds) (b : Body) (d o : ℕ) → IsSoundTable size ip core.rt → Names size (on_pkt core range b d o)
   unfolding on_pkt
@@ -89,7 +89,7 @@ module _ (size ip : ℕ) (some : 0 < size) where
       (λ _. record { broken = tt; cast = tt })
       (λ _. if_case (Names size) (in_vD core.rt d) (losing_if_broken (unicast core (Pkt b d o) (nhop core.rt d) range)) (losing (plain core (casting (data_error core d))))
       (λ _. let p : Names size (unicast core (Pkt b d o) (nhop core.rt d) range) = next_names core (Pkt b d o) d range table in record { broken = p.broken; cast = p.cast })
-      (λ _. record { broken = tt; cast = data_error_aimed core d table.places }))
+      (λ _. record { broken = tt; cast = data_error_aimed core d table.in_mesh }))
 
   -- ---- requests
 
@@ -171,7 +171,7 @@ module _ (size ip : ℕ) (some : 0 < size) where
   unfolding on_rerr
   on_rerr_names core from dests table l apart =
       let heard : IsSoundTable size ip (after_hearing core from).rt = hearing_table core from table l apart in
-      retract_names (after_hearing core from) (accepted_unreachable (after_hearing core from).rt from dests) heard.places
+      retract_names (after_hearing core from) (accepted_unreachable (after_hearing core from).rt from dests) heard.in_mesh
 
   on_message_names : (core : Core) (range : NodeIds) (from : ℕ) (m : Message) → IsSoundTable size ip core.rt → from < size → from ≢ ip → IsMessageInMesh size m → Names size (on_message core range from m)
   on_message_names core range from (Pkt b d o) table l apart inside = on_pkt_names core range b d o table

@@ -27,7 +27,7 @@ use Rattle.aodv_model.proofs.Entries.{if_case}
 use Rattle.aodv_model.proofs.FullNumbers.{full_after_answer, full_after_reply, full_at_greatest, has_number, has_number_by, is_full_at, number_at}
 use Rattle.aodv_model.proofs.Lookups.{get-accepted, get-add_pre, get-invalidate, get-kept, get-unreachable_by}
 use Rattle.aodv_model.proofs.PairLaws.{pair_cmp_total, same_pair}
-use Rattle.aodv_model.proofs.PlacedTables.{kept_of}
+use Rattle.aodv_model.proofs.TablesInMesh.{kept_of}
 
 -- ---- what is kept
 

@@ -130,18 +130,18 @@ below_if m n h = grind (arith, nat_tests)
 pub from_if : (m n : ℕ) → ltb m n ≡ false → n ≤ m
 from_if m n h = grind (arith, nat_tests)
 
--- a place with all lower destinations before it and none after it
-pub record IsPlace (es : List (ℕ × ℕ)) (d place : ℕ) : Type 0 where
-  pub within : place ≤ length es
-  pub below : (i : ℕ) → i < place → dest_at (0, 0) es i < d
-  pub above : (i : ℕ) → place ≤ i → i < length es → d ≤ dest_at (0, 0) es i
+-- an index with all lower destinations before it and none after it
+pub record IsIndexFor (es : List (ℕ × ℕ)) (d index : ℕ) : Type 0 where
+  pub within : index ≤ length es
+  pub below : (i : ℕ) → i < index → dest_at (0, 0) es i < d
+  pub above : (i : ℕ) → index ≤ i → i < length es → d ≤ dest_at (0, 0) es i
 
-find_here : (es : List (ℕ × ℕ)) (d place : ℕ) → ((i : ℕ) → i < place → dest_at (0, 0) es i < d) → place < length es → dest_at (0, 0) es place ≡ d → find nat_cmp d es ≡ Some (get_or es place (0, 0)).1
-find_here [] d place below h is = absurd (omega arith)
+find_here : (es : List (ℕ × ℕ)) (d index : ℕ) → ((i : ℕ) → i < index → dest_at (0, 0) es i < d) → index < length es → dest_at (0, 0) es index ≡ d → find nat_cmp d es ≡ Some (get_or es index (0, 0)).1
+find_here [] d index below h is = absurd (omega arith)
 find_here (e ∷ es) d zero below h is = rw (unsigned_tied d e.0, eq-eqb d e.0 (sym is)) refl
-find_here (e ∷ es) d (suc place) below h is =
+find_here (e ∷ es) d (suc index) below h is =
     let first = below 0 (omega arith) in
-    rw (unsigned_tied d e.0, ne_eqb d e.0 (λ same. omega arith)) (find_here es d place (λ i lt. below (suc i) (omega arith)) (omega arith) is)
+    rw (unsigned_tied d e.0, ne_eqb d e.0 (λ same. omega arith)) (find_here es d index (λ i lt. below (suc i) (omega arith)) (omega arith) is)
 
 find_nowhere : (es : List (ℕ × ℕ)) (d : ℕ) → ((i : ℕ) → i < length es → dest_at (0, 0) es i ≡ d → ⊥) → find nat_cmp d es ≡ None
 find_nowhere [] d none = refl
@@ -149,31 +149,31 @@ find_nowhere (e ∷ es) d none =
     let other = none 0 (omega arith) in
     rw (unsigned_tied d e.0, ne_eqb d e.0 (λ same. other (sym same))) (find_nowhere es d (λ i h. none (suc i) (omega arith)))
 
-nowhere : (es : List (ℕ × ℕ)) (d place i : ℕ) → IsRising es → IsPlace es d place → (place < length es → dest_at (0, 0) es place ≡ d → ⊥) → i < length es → dest_at (0, 0) es i ≡ d → ⊥
-nowhere es d place i is at not h e =
-    elim (cases_lt i place) [
+nowhere : (es : List (ℕ × ℕ)) (d index i : ℕ) → IsRising es → IsIndexFor es d index → (index < length es → dest_at (0, 0) es index ≡ d → ⊥) → i < length es → dest_at (0, 0) es i ≡ d → ⊥
+nowhere es d index i is at not h e =
+    elim (cases_lt i index) [
       | inl early ↦ let below = at.below i early in omega arith
       | inr late ↦
-          elim (cases_eq i place) [
+          elim (cases_eq i index) [
             | inl same ↦ not (omega arith) (ap (dest_at (0, 0) es) (sym same) ∙ e)
             | inr other ↦
-                let up = rises (0, 0) es place i (is_true _ is.sorted) (omega arith) h in
-                let from = at.above place (omega arith) (omega arith) in
+                let up = rises (0, 0) es index i (is_true _ is.sorted) (omega arith) h in
+                let from = at.above index (omega arith) (omega arith) in
                 omega arith
           ]
     ]
 
-pub number_here : (es : List (ℕ × ℕ)) (d place : ℕ) → IsRising es → IsPlace es d place → place < length es → dest_at (0, 0) es place ≡ d
-    → Some (get_or es place (0, 0)).1 ≡ maps.get (maps.from_sorted {R = nat_cmp} es) d
-number_here es d place is at h same = sym (maps.get-from_sorted nat_cmp es d (is_true _ is.sorted) ∙ find_here es d place at.below h same)
+pub number_here : (es : List (ℕ × ℕ)) (d index : ℕ) → IsRising es → IsIndexFor es d index → index < length es → dest_at (0, 0) es index ≡ d
+    → Some (get_or es index (0, 0)).1 ≡ maps.get (maps.from_sorted {R = nat_cmp} es) d
+number_here es d index is at h same = sym (maps.get-from_sorted nat_cmp es d (is_true _ is.sorted) ∙ find_here es d index at.below h same)
 
-pub number_nowhere : (es : List (ℕ × ℕ)) (d place : ℕ) → IsRising es → IsPlace es d place → (place < length es → dest_at (0, 0) es place ≡ d → ⊥)
+pub number_nowhere : (es : List (ℕ × ℕ)) (d index : ℕ) → IsRising es → IsIndexFor es d index → (index < length es → dest_at (0, 0) es index ≡ d → ⊥)
     → None ≡ maps.get (maps.from_sorted {R = nat_cmp} es) d
-number_nowhere es d place is at not = sym (maps.get-from_sorted nat_cmp es d (is_true _ is.sorted) ∙ find_nowhere es d (λ i h. nowhere es d place i is at not h))
+number_nowhere es d index is at not = sym (maps.get-from_sorted nat_cmp es d (is_true _ is.sorted) ∙ find_nowhere es d (λ i h. nowhere es d index i is at not h))
 
-pub place_along : (xs es : List (ℕ × ℕ)) (d place : ℕ) → xs ≡ es → place ≤ length xs → ((i : ℕ) → i < place → dest_at (0, 0) xs i < d)
-    → ((i : ℕ) → place ≤ i → i < length xs → d ≤ dest_at (0, 0) xs i) → IsPlace es d place
-place_along xs es d place e within below above = subst (λ ys. IsPlace ys d place) e (record { within = within; below = below; above = above })
+pub index_along : (xs es : List (ℕ × ℕ)) (d index : ℕ) → xs ≡ es → index ≤ length xs → ((i : ℕ) → i < index → dest_at (0, 0) xs i < d)
+    → ((i : ℕ) → index ≤ i → i < length xs → d ≤ dest_at (0, 0) xs i) → IsIndexFor es d index
+index_along xs es d index e within below above = subst (λ ys. IsIndexFor ys d index) e (record { within = within; below = below; above = above })
 
 -- ---- no pairs
 

@@ -1,4 +1,4 @@
--- What the changes of a table keep of its numbers and places.
+-- What the changes of a table keep: sound numbers, and entries that name nodes of the mesh.
 use Rattle.std.proofs.Common.{◌≡◌, ◌≢◌, ℕ, ◌<◌, ◌≤◌, true, Some, None, Option, refl, sym, ◌∙◌, arith}
 use Rattle.std.specs.FinMap as maps
 use Rattle.mesh_base.specs.Members.{NodeIds}
@@ -6,11 +6,11 @@ use Rattle.aodv_model.specs.declared.entry.Entry.{Entry}
 use Rattle.aodv_model.specs.declared.entry.Known.TheVariants.{Kno, Unk}
 use Rattle.aodv_model.specs.Tables.{Table, Dests, in_kD, nhop, next_in, update, invalidate, invalidated, add_pre, add_pre_at}
 use Rattle.aodv_model.specs.Handlers.{neighbour_entry, route_entry, one, join_answer_precursors, join_reply_precursors}
-use Rattle.aodv_model.specs.Soundness.{HasSoundNumber, AllSoundNumbers, AllPlaced, IsSoundTable, AreBelow}
+use Rattle.aodv_model.specs.Soundness.{HasSoundNumber, AllSoundNumbers, AreEntriesInMesh, IsSoundTable, AreBelow}
 use Rattle.aodv_model.proofs.Lookups.{get-invalidate, get-add_pre}
 use Rattle.aodv_model.proofs.Entries.{merged_sound, invalidated_sound, joined_sound}
 use Rattle.aodv_model.proofs.Changes.{after_by, update_each, mapped_each, Raises}
-use Rattle.aodv_model.proofs.PlacedTables.{Moves, update_moves, update_has, update_wider, invalidate_moves, add_pre_moves, below_one, below_empty}
+use Rattle.aodv_model.proofs.TablesInMesh.{Moves, update_moves, update_has, update_wider, invalidate_moves, add_pre_moves, below_one, below_empty}
 
 unknown : Unk ≡ Kno → ⊥
 unknown e = cc
@@ -39,37 +39,37 @@ invalidate_sound rt dests raises sound q e is =
     mapped_each HasSoundNumber (λ d e. invalidated e (maps.get dests d)) q e (maps.get rt q) (sym (get-invalidate rt dests q) ∙ is)
     (λ x here. invalidated_sound q x (maps.get dests q) (λ m there. raises.up q x m here there) (sound q x here))
 
--- ---- numbers and places
+-- ---- the numbers, and the mesh
 
 module _ (size ip : ℕ) where
   pub neighbour_table : (rt : Table) (from : ℕ) → from < size → from ≢ ip → IsSoundTable size ip rt → IsSoundTable size ip (update rt from (neighbour_entry from))
   neighbour_table rt from l apart table =
-      let moves : Moves size ip rt (update rt from (neighbour_entry from)) = update_moves size ip rt from (neighbour_entry from) table.places (record { dest = l; near = l; other = apart; has = update_has rt from (neighbour_entry from); pre = below_empty size }) in
-      record { numbers = neighbour_sound rt from table.numbers; places = moves.placed }
+      let moves : Moves size ip rt (update rt from (neighbour_entry from)) = update_moves size ip rt from (neighbour_entry from) table.in_mesh (record { dest = l; near = l; other = apart; has = update_has rt from (neighbour_entry from); pre = below_empty size }) in
+      record { numbers = neighbour_sound rt from table.numbers; in_mesh = moves.in_mesh }
 
   -- a route through a node that has an entry
   pub route_table : (rt : Table) (d n h from : ℕ) → d < size → from < size → from ≢ ip → in_kD rt from ≡ true → 1 ≤ n → IsSoundTable size ip rt → IsSoundTable size ip (update rt d (route_entry n h from))
   route_table rt d n h from ld lf apart has one table =
       let wide = update_wider rt d (route_entry n h from) in
-      let moves : Moves size ip rt (update rt d (route_entry n h from)) = update_moves size ip rt d (route_entry n h from) table.places (record { dest = ld; near = lf; other = apart; has = wide.has from has; pre = below_empty size }) in
-      record { numbers = route_sound rt d n h from one table.numbers; places = moves.placed }
+      let moves : Moves size ip rt (update rt d (route_entry n h from)) = update_moves size ip rt d (route_entry n h from) table.in_mesh (record { dest = ld; near = lf; other = apart; has = wide.has from has; pre = below_empty size }) in
+      record { numbers = route_sound rt d n h from one table.numbers; in_mesh = moves.in_mesh }
 
   pub invalidate_table : (rt : Table) (dests : Dests) → Raises rt dests → IsSoundTable size ip rt → IsSoundTable size ip (invalidate rt dests)
   invalidate_table rt dests raises table =
-      let moves : Moves size ip rt (invalidate rt dests) = invalidate_moves size ip rt dests table.places in
-      record { numbers = invalidate_sound rt dests raises table.numbers; places = moves.placed }
+      let moves : Moves size ip rt (invalidate rt dests) = invalidate_moves size ip rt dests table.in_mesh in
+      record { numbers = invalidate_sound rt dests raises table.numbers; in_mesh = moves.in_mesh }
 
   pub add_pre_table : (rt : Table) (d : ℕ) (nodes : NodeIds) → AreBelow size nodes → IsSoundTable size ip rt → IsSoundTable size ip (add_pre rt d nodes)
   add_pre_table rt d nodes below table =
-      let moves : Moves size ip rt (add_pre rt d nodes) = add_pre_moves size ip rt d nodes table.places below in
-      record { numbers = add_pre_sound rt d nodes table.numbers; places = moves.placed }
+      let moves : Moves size ip rt (add_pre rt d nodes) = add_pre_moves size ip rt d nodes table.in_mesh below in
+      record { numbers = add_pre_sound rt d nodes table.numbers; in_mesh = moves.in_mesh }
 
-  next_below : (rt : Table) (d : ℕ) (o : Option Entry) → AllPlaced size ip rt → 0 < size → maps.get rt d ≡ o → next_in o < size
-  next_below rt d None placed some is = some
-  next_below rt d (Some e) placed some is = (placed d e is).near
+  next_below : (rt : Table) (d : ℕ) (o : Option Entry) → AreEntriesInMesh size ip rt → 0 < size → maps.get rt d ≡ o → next_in o < size
+  next_below rt d None in_mesh some is = some
+  next_below rt d (Some e) in_mesh some is = (in_mesh d e is).near
 
   pub nhop_below : (rt : Table) (d : ℕ) → 0 < size → IsSoundTable size ip rt → nhop rt d < size
-  nhop_below rt d some table = next_below rt d (maps.get rt d) table.places some refl
+  nhop_below rt d some table = next_below rt d (maps.get rt d) table.in_mesh some refl
 
   pub join_answer_table : (rt : Table) (d o from : ℕ) → from < size → IsSoundTable size ip rt → IsSoundTable size ip (join_answer_precursors rt d o from)
   unfolding join_answer_precursors

@@ -19,7 +19,7 @@ use Rattle.aodv_model.specs.Soundness.{IsSoundTable, IsSoundCore, IsDatum, IsSto
 use Rattle.aodv_model.proofs.Lookups.{get-kept}
 use Rattle.aodv_model.proofs.Entries.{if_case}
 use Rattle.aodv_model.proofs.Changes.{Raises, unreachable_by_raises, accepted_raises}
-use Rattle.aodv_model.proofs.PlacedTables.{update_has, unreachable_by_below, accepted_below, kept_of}
+use Rattle.aodv_model.proofs.TablesInMesh.{update_has, unreachable_by_below, accepted_below, kept_of}
 use Rattle.aodv_model.proofs.Readings.{known_number, route_above, join_answer_alike, join_reply_alike}
 use Rattle.aodv_model.proofs.SoundTables.{neighbour_table, route_table, invalidate_table, join_answer_table, join_reply_table}
 use Rattle.aodv_model.proofs.Stores.{add_kept, drop_kept, unset_kept, set_kept, first_datum}
@@ -69,7 +69,7 @@ module _ (size ip : ℕ) where
   link_broken_settles : (core : Core) (y : ℕ) → Stands size ip core → Settles size ip (broken_by y (link_broken core y))
   unfolding link_broken
   link_broken_settles core y s =
-      let p = retract_settles core (unreachable_by core.rt y) s (unreachable_by_raises core.rt y) (unreachable_by_below size ip core.rt y (s.table).places) in
+      let p = retract_settles core (unreachable_by core.rt y) s (unreachable_by_raises core.rt y) (unreachable_by_below size ip core.rt y (s.table).in_mesh) in
       record { core = p.core; cast = p.cast }
 
   unicast_settles : (core : Core) (m : Message) (y : ℕ) (range : NodeIds) → Stands size ip core → IsMessageInMesh size m → Settles size ip (unicast core m y range)
@@ -261,7 +261,7 @@ reaction_of size ip reaction p = let s : Stands size ip reaction.core = p.core i
 
 pub opening_is_sound : (size : ℕ) (variant : Variant) (ip first : ℕ) → 1 ≤ first → IsSoundCore size (opening variant ip first) × IsStoreInMesh size (opening variant ip first).store
 opening_is_sound size variant ip first one = (
-  record { own = one; table = record { numbers = λ d e there. absurd (none-some e (sym (maps.get-empty nat_cmp d) ∙ there)); places = λ d e there. absurd (none-some e (sym (maps.get-empty nat_cmp d) ∙ there)) } },
+  record { own = one; table = record { numbers = λ d e there. absurd (none-some e (sym (maps.get-empty nat_cmp d) ∙ there)); in_mesh = λ d e there. absurd (none-some e (sym (maps.get-empty nat_cmp d) ∙ there)) } },
   λ d s there. absurd (none-some s (sym (maps.get-empty nat_cmp d) ∙ there)),
 )
 

@@ -30,7 +30,7 @@ pub record HasSoundNumbers (core : Core) : Type 0 where
   pub own : 1 ≤ core.sn
   pub entries : AllSoundNumbers core.rt
 
--- ---- places
+-- ---- what is in the mesh
 
 -- every member is in the mesh
 abbrev pub AreBelow : ℕ → NodeIds → Type 0
@@ -38,21 +38,22 @@ AreBelow size s = (p : ℕ) → sets.contains s p ≡ true → p < size
 
 -- an entry for d of node ip: its next hop is another node of the mesh, for which there is an entry
 -- too, and its precursors are in the mesh
-pub record IsPlaced (size ip : ℕ) (rt : Table) (d : ℕ) (e : Entry) : Type 0 where
+pub record IsEntryInMesh (size ip : ℕ) (rt : Table) (d : ℕ) (e : Entry) : Type 0 where
   pub dest : d < size
   pub near : e.next < size
   pub other : e.next ≢ ip
   pub has : in_kD rt e.next ≡ true
   pub pre : AreBelow size e.pre
 
--- each entry of the table of node ip is in its place
-abbrev pub AllPlaced : ℕ → ℕ → Table → Type 0
-AllPlaced size ip rt = (d : ℕ) (e : Entry) → maps.get rt d ≡ Some e → IsPlaced size ip rt d e
+-- so is each entry of the table of node ip
+abbrev pub AreEntriesInMesh : ℕ → ℕ → Table → Type 0
+AreEntriesInMesh size ip rt =
+    (d : ℕ) (e : Entry) → maps.get rt d ≡ Some e → IsEntryInMesh size ip rt d e
 
--- a table of node ip: the numbers and the places of its entries
+-- a table of node ip: the numbers of its entries, and the nodes that they name
 pub record IsSoundTable (size ip : ℕ) (rt : Table) : Type 0 where
   pub numbers : AllSoundNumbers rt
-  pub places : AllPlaced size ip rt
+  pub in_mesh : AreEntriesInMesh size ip rt
 
 -- what every core of a mesh of this size keeps
 pub record IsSoundCore (size : ℕ) (core : Core) : Type 0 where

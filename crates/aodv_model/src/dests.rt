@@ -78,12 +78,12 @@ impl Dests {
         ensures { result ≡ maps.get self.now d }
     {
         let pairs = self.pairs.as_slice();
-        let place = count_below(pairs, d);
-        if place >= pairs.len() {
+        let index = count_below(pairs, d);
+        if index >= pairs.len() {
             return None;
         }
-        if pairs[place].0 == d {
-            Some(pairs[place].1)
+        if pairs[index].0 == d {
+            Some(pairs[index].1)
         } else {
             None
         }

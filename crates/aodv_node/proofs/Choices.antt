@@ -30,9 +30,9 @@ needing_has (Some s) b has = ap (λ (h : Bool). h && (s.needs_request && b)) (sy
 
 pub asks_are : (c : Core) (size : ℕ) (needing valid rest : NodeIds) → IsStoreInMesh size c.store → ((d : ℕ) → sets.contains needing d ≡ needs_in (maps.get c.store d)) → valid ≡ valid_dests c.rt → rest ≡ sets.difference needing valid
     → (d : ℕ) → sets.contains rest d ≡ may_ask c d
-asks_are c size needing valid rest placed needing_are valid_are is d =
+asks_are c size needing valid rest store_in_mesh needing_are valid_are is d =
     ap (λ (s : NodeIds). sets.contains s d) is
     ∙ sets.contains-difference nat_cmp_total needing valid d
     ∙ ap (λ (b : Bool). b && not (sets.contains valid d)) (needing_are d)
     ∙ ap (λ (b : Bool). needs_in (maps.get c.store d) && not b) (ap (λ (s : NodeIds). sets.contains s d) valid_are ∙ contains-valid_dests c.rt d)
-    ∙ needing_has (maps.get c.store d) (not (is_valid_in (maps.get c.rt d))) (λ s e. (placed d s e).some)
+    ∙ needing_has (maps.get c.store d) (not (is_valid_in (maps.get c.rt d))) (λ s e. (store_in_mesh d s e).some)

@@ -25,9 +25,9 @@ use Rattle.aodv_node.specs.Turned.{IsReadableItem, IsTurn}
 use Rattle.aodv_node.specs.Discovered.{IsSend, IsAsk}
 
 -- the item of the model is in the mesh
-placed : (mesh : Nodes) (me : ℕ) (i : items.Item) → IsReadableItem mesh i → IsItemAt (length mesh) me i → IsItemInMesh (length mesh) me (item_in mesh i)
-placed mesh me (item.New dest body) ok at = at
-placed mesh me (item.Heard from bytes) ok at = (at.0, at.1, spelled_in mesh bytes ok.allowed ok.known)
+item_is_in_mesh : (mesh : Nodes) (me : ℕ) (i : items.Item) → IsReadableItem mesh i → IsItemAt (length mesh) me i → IsItemInMesh (length mesh) me (item_in mesh i)
+item_is_in_mesh mesh me (item.New dest body) ok at = at
+item_is_in_mesh mesh me (item.Heard from bytes) ok at = (at.0, at.1, spelled_in mesh bytes ok.allowed ok.known)
 
 -- what a call leaves: a node in order, which is the same one
 pub record Follows (old new : NodeSeen) : Type 0 where
@@ -72,7 +72,7 @@ pub turn_keeps : (mesh : Nodes) (range : NodeIds) (old : NodeSeen) (r : Result d
 turn_keeps mesh range old (Ok d) new out size s t =
     let both : Each old (t.front ∷ new.items) = subst (λ (xs : List items.Item). Each old xs) t.was s.each in
     let at : IsItemAt (length mesh) (old.core).ip t.front = subst (λ (n : ℕ). IsItemAt n (old.core).ip t.front) (sym size) both.0 in
-    let it : IsItemInMesh old.size (old.core).ip (item_in mesh t.front) = subst (λ (n : ℕ). IsItemInMesh n (old.core).ip (item_in mesh t.front)) size (placed mesh (old.core).ip t.front t.readable at) in
+    let it : IsItemInMesh old.size (old.core).ip (item_in mesh t.front) = subst (λ (n : ℕ). IsItemInMesh n (old.core).ip (item_in mesh t.front)) size (item_is_in_mesh mesh (old.core).ip t.front t.readable at) in
     after old (turn old.core range (item_in mesh t.front)) new s (turn_keeps_core old.size old.core range (item_in mesh t.front) s.sound s.store it) (t.made).core t.size both.1
 turn_keeps mesh range old (Err errors.Idle) new out size s t = still old new s t.1
 turn_keeps mesh range old (Err (errors.Unreadable from why)) new out size s t =

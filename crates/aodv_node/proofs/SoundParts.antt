@@ -7,7 +7,7 @@ use Rattle.std.proofs.lemmas.Bool.{cases_lt}
 use Rattle.std.specs.FinMap as maps
 use Rattle.aodv_model.specs.declared.entry.Entry.{Entry}
 use Rattle.aodv_model.specs.Tables.{Table}
-use Rattle.aodv_model.specs.Soundness.{HasSoundNumber, IsPlaced, IsSoundTable}
+use Rattle.aodv_model.specs.Soundness.{HasSoundNumber, IsEntryInMesh, IsSoundTable}
 use Rattle.aodv_model.specs.Cores.{Store}
 use Rattle.aodv_model.specs.Soundness.{IsStoreInMesh}
 use Rattle.aodv_table.specs.Calls.{IsBelow}
@@ -18,7 +18,7 @@ use Rattle.aodv_node.specs.Seen.{IsItemAt}
 
 -- an entry for d of the table of node ip is in order
 abbrev pub IsSoundEntry : ℕ → ℕ → Table → ℕ → Entry → Type 0
-IsSoundEntry size ip rt d e = HasSoundNumber d e × IsPlaced size ip rt d e
+IsSoundEntry size ip rt d e = HasSoundNumber d e × IsEntryInMesh size ip rt d e
 
 -- those of the destinations below n are
 abbrev pub AreSoundBelow : ℕ → ℕ → ℕ → Table → Type 0
@@ -30,7 +30,7 @@ all_sound n size ip rt below sound =
       | inl less ↦ sound d e less there
       | inr le ↦ absurd (none-some e (sym (below d le) ∙ there))
     ] in
-    record { numbers = λ d e there. (each d e there).0; places = λ d e there. (each d e there).1 }
+    record { numbers = λ d e there. (each d e there).0; in_mesh = λ d e there. (each d e there).1 }
 
 at_new : (n size ip : ℕ) (rt : Table) → ((e : Entry) → maps.get rt n ≡ Some e → IsSoundEntry size ip rt n e) → (k : ℕ) → k ≡ n → (e : Entry) → maps.get rt k ≡ Some e → IsSoundEntry size ip rt k e
 at_new n size ip rt new k same = subst (λ (q : ℕ). (e : Entry) → maps.get rt q ≡ Some e → IsSoundEntry size ip rt q e) (sym same) new
@@ -45,12 +45,12 @@ pub none_more : (n size ip : ℕ) (rt : Table) → AreSoundBelow n size ip rt �
 none_more n size ip rt sound gone = one_more n size ip rt sound (λ e there. absurd (none-some e (sym gone ∙ there)))
 
 -- the entry that was looked at is the one that is there
-pub this_one : (d size ip : ℕ) (rt : Table) (f : Entry) → maps.get rt d ≡ Some f → HasSoundNumber d f → IsPlaced size ip rt d f → (e : Entry) → maps.get rt d ≡ Some e → IsSoundEntry size ip rt d e
-this_one d size ip rt f at number placed e there = subst (λ (g : Entry). IsSoundEntry size ip rt d g) (same_Some f e (sym at ∙ there)) (number, placed)
+pub this_one : (d size ip : ℕ) (rt : Table) (f : Entry) → maps.get rt d ≡ Some f → HasSoundNumber d f → IsEntryInMesh size ip rt d f → (e : Entry) → maps.get rt d ≡ Some e → IsSoundEntry size ip rt d e
+this_one d size ip rt f at number in_mesh e there = subst (λ (g : Entry). IsSoundEntry size ip rt d g) (same_Some f e (sym at ∙ there)) (number, in_mesh)
 
 -- ---- elements of a list
 
--- those before place n have P
+-- those before index n have P
 abbrev pub AreBefore : {X : Type 0} → (X → Type 0) → ℕ → List X → Type 0
 AreBefore {X} P n xs = (k : ℕ) (x : X) → k < n → slice_get xs k ≡ Some x → P x
 

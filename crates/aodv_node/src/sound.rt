@@ -2,7 +2,7 @@
 ghost use Rattle.std.specs.Prelude.{◌<◌, ◌↔◌, IsTrue};
 ghost use Rattle.std.specs.List.{AllByRecursion};
 ghost use Rattle.aodv_inbox.specs.Queues.{IsItem};
-ghost use Rattle.aodv_model.specs.Soundness.{AreBelow, HasSoundNumber, IsPlaced, IsSoundTable};
+ghost use Rattle.aodv_model.specs.Soundness.{AreBelow, HasSoundNumber, IsEntryInMesh, IsSoundTable};
 ghost use Rattle.aodv_node.specs.Seen.{IsItemAt};
 
 use aodv_inbox::Inbox;
@@ -30,11 +30,11 @@ fn are_below(set: &NodeSet, n: usize) -> bool
     set.next_from(n).is_none()
 }
 
-// Whether an entry for d of the table of node `me` is in its place: its next hop is another node,
-// which has an entry too, and its precursors are in the mesh.
-fn is_placed(table: &RowTable, me: usize, d: usize, e: &Entry) -> bool
+// Whether an entry for d of the table of node `me` is one of its mesh: its next hop is another
+// node, which has an entry too, and its precursors are in the mesh.
+fn is_entry_in_mesh(table: &RowTable, me: usize, d: usize, e: &Entry) -> bool
     requires { d < table.now.nodes }
-    ensures { IsTrue result ↔ IsPlaced table.now.nodes me table.now.entries d e.now }
+    ensures { IsTrue result ↔ IsEntryInMesh table.now.nodes me table.now.entries d e.now }
 {
     let nodes = table.nodes();
     if e.next >= nodes || e.next == me {
@@ -50,7 +50,7 @@ pub(crate) fn is_sound_table(table: &RowTable, me: usize) -> bool
     let nodes = table.nodes();
     for d in 0..nodes {
         if let Some(e) = table.get(d) {
-            if !has_sound_number(d, &e) || !is_placed(table, me, d, &e) {
+            if !has_sound_number(d, &e) || !is_entry_in_mesh(table, me, d, &e) {
                 return false;
             }
         }

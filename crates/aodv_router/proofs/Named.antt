@@ -73,9 +73,9 @@ effect_in nodes e r bytes o is h did t = record {
 
 -- ---- turns
 
-placed : (mesh : Nodes) (me : ℕ) (i : items.Item) → IsReadableItem mesh i → IsItemAt (length mesh) me i → IsItemInMesh (length mesh) me (item_in mesh i)
-placed mesh me (item.New dest body) ok at = at
-placed mesh me (item.Heard from bytes) ok at = (at.0, at.1, spelled_in mesh bytes ok.allowed ok.known)
+item_is_in_mesh : (mesh : Nodes) (me : ℕ) (i : items.Item) → IsReadableItem mesh i → IsItemAt (length mesh) me i → IsItemInMesh (length mesh) me (item_in mesh i)
+item_is_in_mesh mesh me (item.New dest body) ok at = at
+item_is_in_mesh mesh me (item.Heard from bytes) ok at = (at.0, at.1, spelled_in mesh bytes ok.allowed ok.known)
 
 datum_in : (mesh : Nodes) (b : Bool) (body : Body) (dest : ℕ) → IsMesh mesh → dest < length mesh → IsTakenIn mesh (taken_in mesh (taken_of (item.New dest body) (if b then Own body else Stored dest)))
 datum_in mesh true body dest is lt = tt
@@ -111,7 +111,7 @@ pub turn_names : (mesh : Nodes) (range : NodeIds) (old : NodeSeen) (answer : Res
 turn_names mesh range old (Ok d) new out (Ok o) is size s t tells =
     let at : IsItemAt (length mesh) (old.core).ip t.front = subst (λ (n : ℕ). IsItemAt n (old.core).ip t.front) size (front_at mesh range old d new out s t) in
     let i = item_in mesh t.front in
-    let here : IsItemInMesh old.size (old.core).ip i = subst (λ (n : ℕ). IsItemInMesh n (old.core).ip i) (sym size) (placed mesh (old.core).ip t.front t.readable at) in
+    let here : IsItemInMesh old.size (old.core).ip i = subst (λ (n : ℕ). IsItemInMesh n (old.core).ip i) (sym size) (item_is_in_mesh mesh (old.core).ip t.front t.readable at) in
     let names : IsEffectInMesh (length mesh) (turn old.core range i).effect = subst (λ (n : ℕ). IsEffectInMesh n (turn old.core range i).effect) size (turn_names_the_mesh old.size old.core range i s.mine s.sound here) in
     let e = effect_in mesh d.effect (turn old.core range i).effect out o is names (t.made).did tells.effect in
     record {

@@ -18,19 +18,19 @@ IsStation s = (s.node).size ≡ length s.nodes
 -- ---- addresses that are given, as nodes
 
 -- the node of an address joins the set, if the mesh has it
-abbrev pub with_place : Option ℕ → NodeIds → NodeIds
-with_place (Some i) set = sets.insert set i
-with_place None set = set
+abbrev pub with_index : Option ℕ → NodeIds → NodeIds
+with_index (Some i) set = sets.insert set i
+with_index None set = set
 
 -- the nodes of these addresses join the set
-unfoldable pub places_in : Nodes → NodeIds → List ℕ → NodeIds
-places_in nodes set [] = set
-places_in nodes set (a ∷ rest) = places_in nodes (with_place (index_of nodes a) set) rest
+unfoldable pub indices_in : Nodes → NodeIds → List ℕ → NodeIds
+indices_in nodes set [] = set
+indices_in nodes set (a ∷ rest) = indices_in nodes (with_index (index_of nodes a) set) rest
 
 -- the nodes in range of a router, where these addresses are near: those that the mesh doesn't have
 -- are passed over
 abbrev pub range_of : Station → List ℕ → NodeIds
-range_of s near = places_in s.nodes sets.empty near
+range_of s near = indices_in s.nodes sets.empty near
 
 -- ---- nodes, as addresses
 

@@ -13,9 +13,9 @@
 #![tactic(auto)]
 
 mod answers;
+mod indices;
 mod mesh;
 mod outcome;
-mod places;
 mod reads;
 mod router;
 mod tells;

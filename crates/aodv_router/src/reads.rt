@@ -10,8 +10,8 @@ ghost use Rattle.aodv_router.specs.Stations.{addrs_where};
 ghost use Rattle.aodv_router.specs.Rows.{IsAnswerAt, TellsRow};
 
 use crate::answers::Stranger;
+use crate::indices::{addr, addrs};
 use crate::outcome::{Addrs, Row};
-use crate::places::{addr, addrs};
 use crate::router::Router;
 use crate::tells::tell_entry;
 use mesh_base::Addr;

@@ -8,9 +8,9 @@ ghost use Rattle.aodv_router.specs.Outcomes.{NamesTheMesh};
 ghost use Rattle.aodv_router.specs.Steps.{IsTurnOf, IsSendOf, IsAskOf};
 
 use crate::answers::{AskError, GiveError, HearError, NewError, SendError, TurnError};
+use crate::indices::indices_of;
 use crate::mesh::mesh_of;
 use crate::outcome::Outcome;
-use crate::places::places;
 use crate::tells::{tell_ask, tell_send, tell_turn};
 use aodv_node::Node;
 use mesh_base::{Addr, Bytes, LONGEST_DATUM, Mesh, NoMemory, Packet, Variant};
@@ -130,7 +130,7 @@ impl Router {
         // What is read of a node is in order, and its mesh has distinct addresses.
         let _number = self.node.sn();
         let _nodes = self.mesh.len();
-        let range = places(&self.mesh, near);
+        let range = indices_of(&self.mesh, near);
         let mut packet = Packet::new();
         let answer = self.node.turn(&self.mesh, &range, &mut packet);
         tell_turn(&self.mesh, &answer, packet)
@@ -151,7 +151,7 @@ impl Router {
         let Some(d) = self.mesh.index_of(Addr(dest)) else {
             return Err(SendError::Stranger);
         };
-        let range = places(&self.mesh, near);
+        let range = indices_of(&self.mesh, near);
         let mut packet = Packet::new();
         let answer = self.node.send(&self.mesh, &range, d, &mut packet);
         tell_send(&self.mesh, answer, packet)

@@ -8,8 +8,8 @@ ghost use Rattle.aodv_router.specs.Steps.{turn_error, TellsTurnAnswer, TellsSend
 ghost use Rattle.aodv_router.specs.Rows.{TellsEntry};
 
 use crate::answers::{AskError, SendError, TurnError};
+use crate::indices::{addr, addrs};
 use crate::outcome::{Addrs, Body, Casting, Outcome, Row, Taken};
-use crate::places::{addr, addrs};
 use aodv_model::Entry;
 use aodv_node::TurnDone;
 use aodv_wire::{Message, read};

@@ -14,7 +14,7 @@ use std::alloc::Global;
 use std::marker::Model;
 
 /// A table with a row for every node of the mesh, made once. A row holds the entry of its node, or
-/// none. So an entry is read and written at its place, with no search and no memory. Whether a node
+/// none. So an entry is read and written at its index, with no search and no memory. Whether a node
 /// is a neighbour that was heard is asked for each packet, and the rows are many: so these are a
 /// set of their own.
 #[derive(Drop)]

@@ -64,17 +64,17 @@ unfolding store_from
 before needing [] i q lt = maps.get-empty nat_cmp q
 before needing (row ∷ rows) i q lt = waits_apart (store_from needing (i + 1) rows) i (waiting_of (sets.contains needing i) row) q (λ e. omega arith) ∙ before needing rows (i + 1) q (omega arith)
 
-from_place : (needing : NodeIds) (rows : Rows) (i k : ℕ) → maps.get (store_from needing i rows) (i + k) ≡ waiting_of (sets.contains needing (i + k)) (bodies_at rows k)
+from_index : (needing : NodeIds) (rows : Rows) (i k : ℕ) → maps.get (store_from needing i rows) (i + k) ≡ waiting_of (sets.contains needing (i + k)) (bodies_at rows k)
 unfolding store_from
-from_place needing [] i k = maps.get-empty nat_cmp (i + k)
-from_place needing (row ∷ rows) i zero =
+from_index needing [] i k = maps.get-empty nat_cmp (i + k)
+from_index needing (row ∷ rows) i zero =
     let none : i + 0 ≡ i = omega arith in
     rw none (waits_here (store_from needing (i + 1) rows) i (waiting_of (sets.contains needing i) row) (before needing rows (i + 1) i (omega arith)))
-from_place needing (row ∷ rows) i (suc k) =
+from_index needing (row ∷ rows) i (suc k) =
     let next : i + suc k ≡ (i + 1) + k = omega arith in
     waits_apart (store_from needing (i + 1) rows) i (waiting_of (sets.contains needing i) row) (i + suc k) (λ e. omega arith)
     ∙ ap (λ (q : ℕ). maps.get (store_from needing (i + 1) rows) q) next
-    ∙ from_place needing rows (i + 1) k
+    ∙ from_index needing rows (i + 1) k
     ∙ ap (λ (q : ℕ). waiting_of (sets.contains needing q) (bodies_at rows k)) (sym next)
 
 -- the store says of each destination what its row and its mark say
@@ -82,7 +82,7 @@ pub get-store_of : (needing : NodeIds) (rows : Rows) (q : ℕ) → maps.get (sto
 unfolding store_of
 get-store_of needing rows q =
     let none : 0 + q ≡ q = omega arith in
-    ap (λ (p : ℕ). maps.get (store_from needing 0 rows) p) (sym none) ∙ from_place needing rows 0 q ∙ ap (λ (p : ℕ). waiting_of (sets.contains needing p) (bodies_at rows q)) none
+    ap (λ (p : ℕ). maps.get (store_from needing 0 rows) p) (sym none) ∙ from_index needing rows 0 q ∙ ap (λ (p : ℕ). waiting_of (sets.contains needing p) (bodies_at rows q)) none
 
 bodies_of_waiting : (needs : Bool) (bs : List Body) → bodies_in (waiting_of needs bs) ≡ bs
 bodies_of_waiting needs [] = refl

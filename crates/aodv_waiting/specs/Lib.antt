@@ -4,5 +4,5 @@
 pub mod Seen
 -- Rows: how the data for each destination, and two sets of destinations, show a store.
 pub mod Rows
--- Places: the places for the data of one destination.
-pub mod Places
+-- Slots: the slots for the data of one destination.
+pub mod Slots

@@ -48,10 +48,10 @@ bodies_in_row row = row.bodies
 abbrev pub room_in_row : RoomyRow → ℕ
 room_in_row row = row.room
 
--- no data, and no room, unless there are places
+-- no data, and no room, unless there are slots
 abbrev pub row_of : {Z : Type 0} → Option (Box RoomyRow Z) → RoomyRow
 row_of None = record { bodies = []; room = 0 }
-row_of (Some places) = places.value
+row_of (Some slots) = slots.value
 
 -- what the rows and the two sets keep: no more rows than a mesh has nodes; the destinations with
 -- data; only such need a request; each datum has its size

@@ -7,35 +7,35 @@ use std::alloc::Global;
 use std::collections::VecDeque;
 use std::marker::Model;
 
-/// Places for the data of one destination.
+/// Slots for the data of one destination.
 #[derive(Drop)]
-struct Places {
+struct Slots {
     // Those behind the first.
     rest: VecDeque<Bytes>,
-    // Room for one more was made. Other free places aren't promised to anyone.
+    // Room for one more was made. Other free slots aren't promised to anyone.
     roomy: bool,
     // Most destinations that have data have one datum, which takes no memory of its own. Whether
-    // there is one stands beside what else is asked of places, in one line of the cache.
+    // there is one stands beside what else is asked of slots, in one line of the cache.
     first: Option<Bytes>,
 }
 
-impl Model for Places {
+impl Model for Slots {
     ghost use Rattle.aodv_waiting.specs.Rows.{RoomyRow};
 
     ghost Value = { RoomyRow };
 
-    ghost use Rattle.aodv_waiting.specs.Places.{bodies_of, room_if, ArePlaces};
+    ghost use Rattle.aodv_waiting.specs.Slots.{bodies_of, room_if, AreSlots};
 
     ghost view = { λ p. record { bodies = bodies_of p.first p.rest; room = room_if p.roomy } };
 
-    ghost invariant = { λ p. ArePlaces p.first p.rest p.roomy };
+    ghost invariant = { λ p. AreSlots p.first p.rest p.roomy };
 }
 
 /// The data for one destination, the one that came first at the front. It takes memory only while
 /// there are data, or room was made for one.
 #[derive(Drop)]
 pub(crate) struct Row {
-    places: Option<Box<Places>>,
+    slots: Option<Box<Slots>>,
 }
 
 impl Model for Row {
@@ -45,7 +45,7 @@ impl Model for Row {
 
     ghost use Rattle.aodv_waiting.specs.Rows.{row_of};
 
-    ghost view = { λ r. row_of r.places };
+    ghost view = { λ r. row_of r.slots };
 }
 
 // Room for one more datum. A full ring doubles, so that many data take time in proportion to their
@@ -66,13 +66,13 @@ fn make_room_in(ring: &mut VecDeque<Bytes>) -> Result<(), NoMemory>
     }
 }
 
-impl Places {
+impl Slots {
     // Room for one datum.
-    fn new(alloc: Global) -> Places
+    fn new(alloc: Global) -> Slots
         ensures bodies { result.bodies ≡ [] }
         ensures room { result.room ≡ 1 }
     {
-        Places {
+        Slots {
             first: None,
             rest: VecDeque::new(alloc),
             roomy: true,
@@ -154,7 +154,7 @@ impl Row {
     pub(crate) fn new() -> Row
         ensures { result.bodies ≡ [] }
     {
-        Row { places: None }
+        Row { slots: None }
     }
 
     /// Makes room for one more datum.
@@ -166,10 +166,10 @@ impl Row {
         ensures keeps { self.old.room ≤ self.new.room }
         ensures refused { OnErr result (self.new ≡ self.old) }
     {
-        if let Some(places) = &mut self.places {
-            return places.make_room();
+        if let Some(slots) = &mut self.slots {
+            return slots.make_room();
         }
-        self.places = Some(Box::new(alloc, Places::new(alloc))?);
+        self.slots = Some(Box::new(alloc, Slots::new(alloc))?);
         Ok(())
     }
 
@@ -179,8 +179,8 @@ impl Row {
         ensures bodies { self.new.bodies ≡ self.old.bodies ++ body ∷ [] }
         ensures room { self.new.room ≡ self.old.room - 1 }
     {
-        match &mut self.places {
-            Some(places) => places.push(body),
+        match &mut self.slots {
+            Some(slots) => slots.push(body),
             None => unreachable!(),
         }
     }
@@ -192,15 +192,15 @@ impl Row {
         ensures empty { IsTrue result ↔ (self.new.bodies ≡ []) }
         ensures room { self.new.room ≡ self.old.room }
     {
-        let Some(places) = &mut self.places else {
+        let Some(slots) = &mut self.slots else {
             return true;
         };
-        places.pop();
-        if !places.is_empty() {
+        slots.pop();
+        if !slots.is_empty() {
             return false;
         }
-        if !places.has_room() {
-            self.places = None;
+        if !slots.has_room() {
+            self.slots = None;
         }
         true
     }
@@ -209,8 +209,8 @@ impl Row {
     pub(crate) fn len(&self) -> usize
         ensures { result ≡ length self.now.bodies }
     {
-        match &self.places {
-            Some(places) => places.len(),
+        match &self.slots {
+            Some(slots) => slots.len(),
             None => 0,
         }
     }
@@ -220,8 +220,8 @@ impl Row {
         ensures some { IsSome result ↔ (k < length self.now.bodies) }
         ensures body { IfSome result (λ b. b.now ≡ slice_index_or self.now.bodies k b.now) }
     {
-        match &self.places {
-            Some(places) => places.get(k),
+        match &self.slots {
+            Some(slots) => slots.get(k),
             None => None,
         }
     }

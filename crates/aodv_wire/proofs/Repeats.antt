@@ -40,7 +40,7 @@ get_take (x ∷ xs) (suc n) (suc k) h = get_take xs n k (omega arith)
 
 -- ---- whether an address stands among the first n
 
--- among those of the first n from place j on
+-- among those of the first n from index j on
 abbrev pub any_rest : List Addr → ℕ → ℕ → ℕ → Bool
 any_rest xs n q j = list_any (λ s. eqb s.0 q) (drop j (take n xs))
 
@@ -75,7 +75,7 @@ not_seen (s ∷ seen) x q le all = rw (ne_eqb s.0 q (λ e. omega arith), not_see
 
 -- ---- the first repeated address
 
--- what the search from place k on answers
+-- what the search from index k on answers
 abbrev pub repeated_rest : List Addr → ℕ → Option Addr
 repeated_rest xs k = first_repeated (take k xs) (drop k xs)
 

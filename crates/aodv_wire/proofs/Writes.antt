@@ -9,7 +9,7 @@ use Rattle.mesh_base.specs.declared.addr.Addr.{Addr}
 use Rattle.aodv_wire.specs.declared.route_request.Rreq as code_rreq
 use Rattle.aodv_wire.specs.declared.route_reply.Rrep as code_rrep
 use Rattle.aodv_wire.specs.declared.message.Message.TheVariants.{Rreq, Rrep, Rerr, Parcel}
-use Rattle.aodv_wire.specs.Layout.{number_at, place, line_of}
+use Rattle.aodv_wire.specs.Layout.{number_at, field_at, line_of}
 use Rattle.aodv_wire.specs.RouteRequest as rreq
 use Rattle.aodv_wire.specs.RouteReply as rrep
 use Rattle.aodv_wire.specs.RouteError as rerr
@@ -104,11 +104,11 @@ pub rreq_encodes : (m : code_rreq.Rreq) → m.hops < 256 → m.id < 2 ^ 32 → m
 rreq_encodes m hh hid hdip hdsn hoip hosn some =
     let b = rreq_cells m in
     let first = rreq_line m.known m.hops (big_from 0 4 b) hh refl in
-    let l1 : number_at b (place 1 0 32) ≡ m.id = ap (λ (n : ℕ). n / 1 % 2 ^ 32) (big_number-reads_back 4 m.id [] hid) ∙ omega arith in
-    let l2 : number_at b (place 2 0 32) ≡ m.dip.0 = ap (λ (n : ℕ). n / 1 % 2 ^ 32) (big_number-reads_back 4 m.dip.0 [] hdip) ∙ omega arith in
-    let l3 : number_at b (place 3 0 32) ≡ m.dsn = ap (λ (n : ℕ). n / 1 % 2 ^ 32) (big_number-reads_back 4 m.dsn [] hdsn) ∙ omega arith in
-    let l4 : number_at b (place 4 0 32) ≡ m.oip.0 = ap (λ (n : ℕ). n / 1 % 2 ^ 32) (big_number-reads_back 4 m.oip.0 [] hoip) ∙ omega arith in
-    let l5 : number_at b (place 5 0 32) ≡ m.osn = ap (λ (n : ℕ). n / 1 % 2 ^ 32) (big_number-reads_back 4 m.osn [] hosn) ∙ omega arith in
+    let l1 : number_at b (field_at 1 0 32) ≡ m.id = ap (λ (n : ℕ). n / 1 % 2 ^ 32) (big_number-reads_back 4 m.id [] hid) ∙ omega arith in
+    let l2 : number_at b (field_at 2 0 32) ≡ m.dip.0 = ap (λ (n : ℕ). n / 1 % 2 ^ 32) (big_number-reads_back 4 m.dip.0 [] hdip) ∙ omega arith in
+    let l3 : number_at b (field_at 3 0 32) ≡ m.dsn = ap (λ (n : ℕ). n / 1 % 2 ^ 32) (big_number-reads_back 4 m.dsn [] hdsn) ∙ omega arith in
+    let l4 : number_at b (field_at 4 0 32) ≡ m.oip.0 = ap (λ (n : ℕ). n / 1 % 2 ^ 32) (big_number-reads_back 4 m.oip.0 [] hoip) ∙ omega arith in
+    let l5 : number_at b (field_at 5 0 32) ≡ m.osn = ap (λ (n : ℕ). n / 1 % 2 ^ 32) (big_number-reads_back 4 m.osn [] hosn) ∙ omega arith in
     record {
       allowed = refusal_rreq b (omega arith) first.kind ∙ rw (first.j, first.r, first.g, first.d, l5, ne_eqb m.osn 0 (λ e. omega arith)) refl;
       stands = said_rreq b first.kind ∙ rw (first.last, first.u, l1, l2, l3, l4, l5) refl;
@@ -118,13 +118,13 @@ pub rrep_encodes : (m : code_rrep.Rrep) → m.hops < 256 → m.dip.0 < 2 ^ 32 �
 rrep_encodes m hh hdip hdsn hoip some =
     let b = rrep_cells m in
     let k : kind b ≡ 2 = omega arith in
-    let r : number_at b (place 0 8 1) ≡ 0 = omega arith in
-    let a : number_at b (place 0 9 1) ≡ 0 = omega arith in
-    let p : number_at b (place 0 19 5) ≡ 0 = omega arith in
-    let last : number_at b (place 0 24 8) ≡ m.hops = omega arith in
-    let l1 : number_at b (place 1 0 32) ≡ m.dip.0 = ap (λ (n : ℕ). n / 1 % 2 ^ 32) (big_number-reads_back 4 m.dip.0 [] hdip) ∙ omega arith in
-    let l2 : number_at b (place 2 0 32) ≡ m.dsn = ap (λ (n : ℕ). n / 1 % 2 ^ 32) (big_number-reads_back 4 m.dsn [] hdsn) ∙ omega arith in
-    let l3 : number_at b (place 3 0 32) ≡ m.oip.0 = ap (λ (n : ℕ). n / 1 % 2 ^ 32) (big_number-reads_back 4 m.oip.0 [] hoip) ∙ omega arith in
+    let r : number_at b (field_at 0 8 1) ≡ 0 = omega arith in
+    let a : number_at b (field_at 0 9 1) ≡ 0 = omega arith in
+    let p : number_at b (field_at 0 19 5) ≡ 0 = omega arith in
+    let last : number_at b (field_at 0 24 8) ≡ m.hops = omega arith in
+    let l1 : number_at b (field_at 1 0 32) ≡ m.dip.0 = ap (λ (n : ℕ). n / 1 % 2 ^ 32) (big_number-reads_back 4 m.dip.0 [] hdip) ∙ omega arith in
+    let l2 : number_at b (field_at 2 0 32) ≡ m.dsn = ap (λ (n : ℕ). n / 1 % 2 ^ 32) (big_number-reads_back 4 m.dsn [] hdsn) ∙ omega arith in
+    let l3 : number_at b (field_at 3 0 32) ≡ m.oip.0 = ap (λ (n : ℕ). n / 1 % 2 ^ 32) (big_number-reads_back 4 m.oip.0 [] hoip) ∙ omega arith in
     record {
       allowed = refusal_rrep b (omega arith) k ∙ rw (r, a, p, l2, ne_eqb m.dsn 0 (λ e. omega arith)) refl;
       stands = said_rrep b k ∙ rw (last, l1, l2, l3) refl;
@@ -135,8 +135,8 @@ data_encodes m hdip hoip some few =
     let b = data_cells m in
     let long : length b ≡ 12 + length m.body = omega arith in
     let k : kind b ≡ 16 = refl in
-    let l1 : number_at b (place 1 0 32) ≡ m.dip.0 = ap (λ (n : ℕ). n / 1 % 2 ^ 32) (big_number-reads_back 4 m.dip.0 [] hdip) ∙ omega arith in
-    let l2 : number_at b (place 2 0 32) ≡ m.oip.0 = ap (λ (n : ℕ). n / 1 % 2 ^ 32) (big_number-reads_back 4 m.oip.0 [] hoip) ∙ omega arith in
+    let l1 : number_at b (field_at 1 0 32) ≡ m.dip.0 = ap (λ (n : ℕ). n / 1 % 2 ^ 32) (big_number-reads_back 4 m.dip.0 [] hdip) ∙ omega arith in
+    let l2 : number_at b (field_at 2 0 32) ≡ m.oip.0 = ap (λ (n : ℕ). n / 1 % 2 ^ 32) (big_number-reads_back 4 m.oip.0 [] hoip) ∙ omega arith in
     record {
       allowed = refusal_data b (omega arith) k ∙ rw (le-ltb (length b) 13 (omega arith), le-ltb 524 (length b) (omega arith)) refl;
       stands = said_data b k ∙ rw (l1, l2) refl;
@@ -169,7 +169,7 @@ rerr_written ps few =
 abbrev pub PairFits : Addr × ℕ → Type 0
 PairFits p = (p.0.0 < 2 ^ 32) × (p.1 < 2 ^ 32)
 
--- what fits at each place fits
+-- what fits at each index fits
 pub each_fits : (ps : List (Addr × ℕ)) → ((k : ℕ) (d : Addr × ℕ) → k < length ps → PairFits (get_or ps k d)) → AllByRecursion PairFits ps
 each_fits [] each = tt
 each_fits (p ∷ ps) each = (each 0 p (omega arith), each_fits ps (λ k d h. each (suc k) d (omega arith)))
@@ -192,8 +192,8 @@ pairs_again : (ps : List (Addr × ℕ)) → AllByRecursion PairFits ps → rerr.
 pairs_again [] fits = refl
 pairs_again (p ∷ ps) fits =
     let all = pair_cells p ++ flat_map pair_cells ps in
-    let first : number_at all (place 0 0 32) ≡ p.0.0 = ap (λ (n : ℕ). n / 1 % 2 ^ 32) (big_number-reads_back 4 p.0.0 [] fits.0.0) ∙ omega (arith, fits.0.0) in
-    let second : number_at all (place 1 0 32) ≡ p.1 = ap (λ (n : ℕ). n / 1 % 2 ^ 32) (big_number-reads_back 4 p.1 [] fits.0.1) ∙ omega (arith, fits.0.1) in
+    let first : number_at all (field_at 0 0 32) ≡ p.0.0 = ap (λ (n : ℕ). n / 1 % 2 ^ 32) (big_number-reads_back 4 p.0.0 [] fits.0.0) ∙ omega (arith, fits.0.0) in
+    let second : number_at all (field_at 1 0 32) ≡ p.1 = ap (λ (n : ℕ). n / 1 % 2 ^ 32) (big_number-reads_back 4 p.1 [] fits.0.1) ∙ omega (arith, fits.0.1) in
     rw (first, second, pairs_again ps fits.1) refl
 
 pub rerr_encodes : (ps : List (Addr × ℕ)) → rerr.AreDestinations ps → AllByRecursion PairFits ps → Encodes (rerr_cells ps) (Rerr ps)
@@ -202,8 +202,8 @@ rerr_encodes ps dests fits =
     let few = dests.few in
     let some = dests.some in
     let k : kind b ≡ 3 = omega arith in
-    let n : number_at b (place 0 8 1) ≡ 0 = omega arith in
-    let count : number_at b (place 0 24 8) ≡ length ps = omega arith in
+    let n : number_at b (field_at 0 8 1) ≡ 0 = omega arith in
+    let count : number_at b (field_at 0 24 8) ≡ length ps = omega arith in
     let long : length b ≡ 4 + 8 * length ps = omega (arith, length-pair_cells ps) in
     let named : rerr.destinations b ≡ ps = rw count (pairs_again ps fits) in
     record {

@@ -5,7 +5,7 @@ use Rattle.std.specs.Prelude.{ℕ, ◌==◌, not, nat_lt, List, [], ◌∷◌, �
 use Rattle.mesh_base.specs.declared.addr.Addr.{Addr}
 use Rattle.aodv_wire.specs.declared.error.WireError.{WireError}
 use Rattle.aodv_wire.specs.declared.error.WireError.TheVariants.{WrongLength, BadData}
-use Rattle.aodv_wire.specs.Layout.{Place, place, number_at, laid_out}
+use Rattle.aodv_wire.specs.Layout.{FieldBits, field_at, number_at, laid_out}
 use Rattle.aodv_wire.specs.Refused.{refuse_if, first_of}
 
 -- a datum on its way
@@ -22,11 +22,11 @@ pub data Field : Type 0 where
   Kind Zero DestinationAddress OriginatorAddress : Field
 
 -- the table: each field's line, first bit and number of bits
-abbrev pub table : Field → Place
-table Kind = place 0 0 8
-table Zero = place 0 8 24
-table DestinationAddress = place 1 0 32
-table OriginatorAddress = place 2 0 32
+abbrev pub table : Field → FieldBits
+table Kind = field_at 0 0 8
+table Zero = field_at 0 8 24
+table DestinationAddress = field_at 1 0 32
+table OriginatorAddress = field_at 2 0 32
 
 abbrev pub fields : List Field
 fields = Kind ∷ Zero ∷ DestinationAddress ∷ OriginatorAddress ∷ []

@@ -5,7 +5,7 @@ use Rattle.aodv_wire.specs.declared.error.WireError.{WireError}
 use Rattle.aodv_wire.specs.declared.error.WireError.TheVariants.{Short, UnknownType}
 use Rattle.aodv_wire.specs.declared.message.Message.{Message}
 use Rattle.aodv_wire.specs.declared.message.Message.TheVariants.{Rreq, Rrep, Rerr, Parcel}
-use Rattle.aodv_wire.specs.Layout.{place, number_at}
+use Rattle.aodv_wire.specs.Layout.{field_at, number_at}
 use Rattle.aodv_wire.specs.RouteRequest as rreq
 use Rattle.aodv_wire.specs.RouteReply as rrep
 use Rattle.aodv_wire.specs.RouteError as rerr
@@ -13,7 +13,7 @@ use Rattle.aodv_wire.specs.DataPacket as data_packet
 
 -- the type of a packet: each table's first row
 abbrev pub kind : List ℕ → ℕ
-kind b = number_at b (place 0 0 8)
+kind b = number_at b (field_at 0 0 8)
 
 -- the packet is a datum's
 abbrev pub is_data : List ℕ → Bool

@@ -7,7 +7,7 @@ use Rattle.mesh_base.specs.declared.limits.TheConstants.{MOST_NODES}
 use Rattle.mesh_base.specs.declared.addr.Addr.{Addr}
 use Rattle.aodv_wire.specs.declared.error.WireError.{WireError}
 use Rattle.aodv_wire.specs.declared.error.WireError.TheVariants.{WrongLength, OutsideProfile, NoDestinations, Repeated}
-use Rattle.aodv_wire.specs.Layout.{Place, place, number_at, laid_out}
+use Rattle.aodv_wire.specs.Layout.{FieldBits, field_at, number_at, laid_out}
 use Rattle.aodv_wire.specs.Refused.{refuse_if, first_of}
 
 abbrev pub type_number : ℕ
@@ -18,11 +18,11 @@ pub data Field : Type 0 where
   Kind N Reserved DestCount : Field
 
 -- the table: each field's line, first bit and number of bits
-abbrev pub table : Field → Place
-table Kind = place 0 0 8
-table N = place 0 8 1
-table Reserved = place 0 9 15
-table DestCount = place 0 24 8
+abbrev pub table : Field → FieldBits
+table Kind = field_at 0 0 8
+table N = field_at 0 8 1
+table Reserved = field_at 0 9 15
+table DestCount = field_at 0 24 8
 
 abbrev pub fields : List Field
 fields = Kind ∷ N ∷ Reserved ∷ DestCount ∷ []
@@ -31,9 +31,9 @@ fields = Kind ∷ N ∷ Reserved ∷ DestCount ∷ []
 pub data PairField : Type 0 where
   UnreachableAddress UnreachableNumber : PairField
 
-abbrev pub pair_table : PairField → Place
-pair_table UnreachableAddress = place 0 0 32
-pair_table UnreachableNumber = place 1 0 32
+abbrev pub pair_table : PairField → FieldBits
+pair_table UnreachableAddress = field_at 0 0 32
+pair_table UnreachableNumber = field_at 1 0 32
 
 abbrev pub pair_fields : List PairField
 pair_fields = UnreachableAddress ∷ UnreachableNumber ∷ []

@@ -4,7 +4,7 @@ use Rattle.std.specs.Prelude.{ℕ, ◌==◌, not, List, [], ◌∷◌, length, O
 use Rattle.aodv_wire.specs.declared.error.WireError.{WireError}
 use Rattle.aodv_wire.specs.declared.error.WireError.TheVariants.{WrongLength, OutsideProfile, ZeroNumber}
 use Rattle.aodv_wire.specs.declared.route_reply.Rrep.{Rrep}
-use Rattle.aodv_wire.specs.Layout.{Place, place, number_at, laid_out}
+use Rattle.aodv_wire.specs.Layout.{FieldBits, field_at, number_at, laid_out}
 use Rattle.aodv_wire.specs.Refused.{refuse_if, first_of}
 
 abbrev pub type_number : ℕ
@@ -16,17 +16,17 @@ pub data Field : Type 0 where
       Lifetime : Field
 
 -- the table: each field's line, first bit and number of bits
-abbrev pub table : Field → Place
-table Kind = place 0 0 8
-table R = place 0 8 1
-table A = place 0 9 1
-table Reserved = place 0 10 9
-table PrefixSize = place 0 19 5
-table HopCount = place 0 24 8
-table DestinationAddress = place 1 0 32
-table DestinationNumber = place 2 0 32
-table OriginatorAddress = place 3 0 32
-table Lifetime = place 4 0 32
+abbrev pub table : Field → FieldBits
+table Kind = field_at 0 0 8
+table R = field_at 0 8 1
+table A = field_at 0 9 1
+table Reserved = field_at 0 10 9
+table PrefixSize = field_at 0 19 5
+table HopCount = field_at 0 24 8
+table DestinationAddress = field_at 1 0 32
+table DestinationNumber = field_at 2 0 32
+table OriginatorAddress = field_at 3 0 32
+table Lifetime = field_at 4 0 32
 
 abbrev pub fields : List Field
 fields =

@@ -4,7 +4,7 @@ use Rattle.std.specs.Prelude.{ℕ, ◌==◌, not, if◌then◌else◌, List, [],
 use Rattle.aodv_wire.specs.declared.error.WireError.{WireError}
 use Rattle.aodv_wire.specs.declared.error.WireError.TheVariants.{WrongLength, OutsideProfile, ZeroNumber}
 use Rattle.aodv_wire.specs.declared.route_request.Rreq.{Rreq}
-use Rattle.aodv_wire.specs.Layout.{Place, place, number_at, laid_out}
+use Rattle.aodv_wire.specs.Layout.{FieldBits, field_at, number_at, laid_out}
 use Rattle.aodv_wire.specs.Refused.{refuse_if, first_of}
 
 abbrev pub type_number : ℕ
@@ -17,20 +17,20 @@ pub data Field : Type 0 where
       OriginatorNumber : Field
 
 -- the table: each field's line, first bit and number of bits
-abbrev pub table : Field → Place
-table Kind = place 0 0 8
-table J = place 0 8 1
-table R = place 0 9 1
-table G = place 0 10 1
-table D = place 0 11 1
-table U = place 0 12 1
-table Reserved = place 0 13 11
-table HopCount = place 0 24 8
-table RreqId = place 1 0 32
-table DestinationAddress = place 2 0 32
-table DestinationNumber = place 3 0 32
-table OriginatorAddress = place 4 0 32
-table OriginatorNumber = place 5 0 32
+abbrev pub table : Field → FieldBits
+table Kind = field_at 0 0 8
+table J = field_at 0 8 1
+table R = field_at 0 9 1
+table G = field_at 0 10 1
+table D = field_at 0 11 1
+table U = field_at 0 12 1
+table Reserved = field_at 0 13 11
+table HopCount = field_at 0 24 8
+table RreqId = field_at 1 0 32
+table DestinationAddress = field_at 2 0 32
+table DestinationNumber = field_at 3 0 32
+table OriginatorAddress = field_at 4 0 32
+table OriginatorNumber = field_at 5 0 32
 
 abbrev pub fields : List Field
 fields =

@@ -1,7 +1,7 @@
 //! The lines of a packet, and the fields of its first one: read, and written.
 ghost use Rattle.std.specs.Prelude.{◌≡◌, ◌+◌, ◌*◌, ◌≤◌, ◌<◌, ◌^◌, [], ◌∷◌, ◌++◌, length};
 ghost use Rattle.byteorder.specs.Endian.{big_bytes};
-ghost use Rattle.aodv_wire.specs.Layout.{number_at, place};
+ghost use Rattle.aodv_wire.specs.Layout.{number_at, field_at};
 
 use byteorder::{BigEndian, ByteOrder};
 use mesh_base::{LONGEST_PACKET, Packet};
@@ -9,9 +9,9 @@ use mesh_base::{LONGEST_PACKET, Packet};
 /// The number in a whole line.
 pub(crate) fn line_at(bytes: &[u8], line: usize) -> u32
     requires { 4 * line + 4 ≤ length bytes.now }
-    ensures { result ≡ number_at bytes.now (place line 0 32) }
+    ensures { result ≡ number_at bytes.now (field_at line 0 32) }
 {
-    // It says that there are fewer than 2^64 bytes, so their places are numbers of a usize.
+    // It says that there are fewer than 2^64 bytes, so their indices are numbers of a usize.
     let _len = bytes.len();
     let (_, rest) = bytes.split_at(4 * line);
     BigEndian::read_u32(rest)
@@ -20,7 +20,7 @@ pub(crate) fn line_at(bytes: &[u8], line: usize) -> u32
 /// The number in the first eight bits of the first line.
 pub(crate) fn kind(bytes: &[u8]) -> u8
     requires { 0 < length bytes.now }
-    ensures { result ≡ number_at bytes.now (place 0 0 8) }
+    ensures { result ≡ number_at bytes.now (field_at 0 0 8) }
 {
     bytes[0]
 }
@@ -28,7 +28,7 @@ pub(crate) fn kind(bytes: &[u8]) -> u8
 /// The number in the last eight bits of the first line.
 pub(crate) fn last_octet(bytes: &[u8]) -> u8
     requires { 4 ≤ length bytes.now }
-    ensures { result ≡ number_at bytes.now (place 0 24 8) }
+    ensures { result ≡ number_at bytes.now (field_at 0 24 8) }
 {
     bytes[3]
 }

@@ -12,7 +12,7 @@ use Rattle.mesh_base.specs.Numbers.{number_up_to}
 use Rattle.mesh_base.specs.Parts.{parts}
 use Rattle.mesh_base.specs.Addresses.{address_of, address_from}
 use Rattle.mesh_base.specs.Octets.{number_and, first_octet}
-use Rattle.mesh_base.proofs.PartLaws.{split_at_place, split_nowhere}
+use Rattle.mesh_base.proofs.PartLaws.{split_at_position, split_nowhere}
 use Rattle.mesh_base.proofs.WrittenForms.{Lacks, one_lacks, parts_none}
 use Rattle.mesh_base.proofs.OctetLaws.{by_test, no_digits, digit_range}
 
@@ -68,7 +68,7 @@ last_is text =
     (λ is. ap last_octet (split_nowhere (λ b. eqb b 46) text is))
     (λ i is.
     let rest : List ℕ = take (length text - (i + 1)) (drop (i + 1) text) in
-    ap last_octet (split_at_place (λ b. eqb b 46) text i is)
+    ap last_octet (split_at_position (λ b. eqb b 46) text i is)
     ∙ more_none (take i text) (parts 46 rest) (omega (arith, length-slice_split (λ b. eqb b 46) rest))
     ∙ sym (no_digits 255 text h)))
 

@@ -51,8 +51,8 @@ word-count ws k (suc p) are le =
     let next : 64 * k + suc p ≡ suc n = omega arith in
     let later : p + 1 ≡ suc p = omega arith in
     let word : n / 64 ≡ k = omega arith in
-    let place : n % 64 ≡ p = omega arith in
-    let bit : contains (members ws) n ≡ eqb (bit_at w p) 1 = contains-members ws n are ∙ ap (λ j. eqb (bit_at (slice_index ws j) (n % 64)) 1) word ∙ ap (λ j. eqb (bit_at w j) 1) place in
+    let index : n % 64 ≡ p = omega arith in
+    let bit : contains (members ws) n ≡ eqb (bit_at w p) 1 = contains-members ws n are ∙ ap (λ j. eqb (bit_at (slice_index ws j) (n % 64)) 1) word ∙ ap (λ j. eqb (bit_at w j) 1) index in
     let step = count-step (members ws) n (bit_at w p) (bit_at-lt w p) bit in
     let before = word-count ws k p are (omega arith) in
     let more = one-more w p in
@@ -67,14 +67,14 @@ whole-word ws k are =
     ap (λ j. length (members_below j (members ws))) next ∙ word-count ws k 64 are (omega arith)
     ∙ ap (λ n. length (members_below (64 * k) (members ws)) + count_ones n) (mod-eq_of_lt (are.fit k))
 
--- the bit of a word at a place with so many below it is the member of that rank
+-- the bit of a word at an index with so many below it is the member of that rank
 pub member-of-bit : (ws : List ℕ) (at p rest k : ℕ) → AreWords ws → at < 4 → p < 64 → bit_at (slice_index ws at) p ≡ 1 → count_ones (slice_index ws at % 2 ^ p) ≡ rest
     → length (members_below (64 * at) (members ws)) + rest ≡ k → slice_get (members_below 256 (members ws)) k ≡ Some (64 * at + p)
 member-of-bit ws at p rest k are lt inside one below sum =
     let n = 64 * at + p in
     let word : n / 64 ≡ at = omega arith in
-    let place : n % 64 ≡ p = omega arith in
-    let bit : contains (members ws) n ≡ true = contains-members ws n are ∙ ap (λ j. eqb (bit_at (slice_index ws j) (n % 64)) 1) word ∙ ap (λ j. eqb (bit_at (slice_index ws at) j) 1) place ∙ eq-eqb (bit_at (slice_index ws at) p) 1 one in
+    let index : n % 64 ≡ p = omega arith in
+    let bit : contains (members ws) n ≡ true = contains-members ws n are ∙ ap (λ j. eqb (bit_at (slice_index ws j) (n % 64)) 1) word ∙ ap (λ j. eqb (bit_at (slice_index ws at) j) 1) index ∙ eq-eqb (bit_at (slice_index ws at) p) 1 one in
     let count = word-count ws at p are (omega arith) in
     member-at n n k (members ws) (omega arith) (omega arith) bit (λ q le less. absurd (omega arith)) (omega arith)
 
@@ -113,7 +113,7 @@ count-all ws are =
     let four = whole-word ws 3 are in
     omega arith
 
--- the bits of the first words, and those of the next up to its place p
+-- the bits of the first words, and those of the next up to its index p
 pub count-part : (ws : List ℕ) (word i : ℕ) → AreWords ws → i / 64 ≡ word → rank (members ws) i ≡ rank (members ws) (64 * word) + count_ones (slice_index ws word % 2 ^ (i % 64))
 count-part ws word i are is =
     let at : 64 * word + i % 64 ≡ i = omega arith in

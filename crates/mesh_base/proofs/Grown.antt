@@ -4,8 +4,8 @@ use Rattle.std.specs.List.{position_or_len}
 use Rattle.std.proofs.lemmas.Bool.{cases_eq}
 use Rattle.std.proofs.lemmas.List.Sums.{fails_before_first, passes_at_first}
 use Rattle.mesh_base.specs.Meshes.{Nodes, IsMesh, addr_at, index_of, with_node}
-use Rattle.mesh_base.proofs.PartLaws.{place_le}
-use Rattle.mesh_base.proofs.MeshLaws.{rising_le, below_if, from_if, IsPlace, insert_is_mesh}
+use Rattle.mesh_base.proofs.PartLaws.{prefix_len_le}
+use Rattle.mesh_base.proofs.MeshLaws.{rising_le, below_if, from_if, IsIndexFor, insert_is_mesh}
 use Rattle.mesh_base.proofs.WrittenForms.{index_of-at}
 
 pub absent_at : (mesh : Nodes) (a i : ℕ) → IsMesh mesh → index_of mesh a ≡ None → i < length mesh → addr_at mesh i ≢ a
@@ -15,12 +15,12 @@ absent_at mesh a i is none lt e =
     cc
 
 -- before the first of a greater address
-abbrev place_of : Nodes → ℕ → ℕ
-place_of mesh a = position_or_len (λ p. ltb a p.0) mesh
+abbrev index_for : Nodes → ℕ → ℕ
+index_for mesh a = position_or_len (λ p. ltb a p.0) mesh
 
-is_place : (mesh : Nodes) (a : ℕ) → IsMesh mesh → index_of mesh a ≡ None → IsPlace mesh a (place_of mesh a)
-is_place mesh a is none =
-    let within : place_of mesh a ≤ length mesh = place_le (λ p. not (ltb a p.0)) mesh in
+is_index_for : (mesh : Nodes) (a : ℕ) → IsMesh mesh → index_of mesh a ≡ None → IsIndexFor mesh a (index_for mesh a)
+is_index_for mesh a is none =
+    let within : index_for mesh a ≤ length mesh = prefix_len_le (λ p. not (ltb a p.0)) mesh in
     record {
       within = within;
       below = λ i early.
@@ -28,8 +28,8 @@ is_place mesh a is none =
           let other = absent_at mesh a i is none (omega arith) in
           elim (cases_eq (addr_at mesh i) a) [ inl same ↦ absurd (other same) | inr apart ↦ omega arith ];
       above = λ i late lt.
-          let first = below_if a (addr_at mesh (place_of mesh a)) (passes_at_first (λ p. ltb a p.0) mesh (0, 0) (omega arith)) in
-          let up = rising_le mesh (place_of mesh a) i is late lt in
+          let first = below_if a (addr_at mesh (index_for mesh a)) (passes_at_first (λ p. ltb a p.0) mesh (0, 0) (omega arith)) in
+          let up = rising_le mesh (index_for mesh a) i is late lt in
           omega arith;
     }
 
@@ -38,4 +38,4 @@ pub grown_is_mesh : (mesh : Nodes) (a first : ℕ) → IsMesh mesh → index_of 
     → IsMesh (with_node mesh a first)
 unfolding with_node
 grown_is_mesh mesh a first is none few one a_fits first_fits =
-    insert_is_mesh mesh a first (place_of mesh a) is (is_place mesh a is none) (λ lt. absent_at mesh a (place_of mesh a) is none lt) few one a_fits first_fits
+    insert_is_mesh mesh a first (index_for mesh a) is (is_index_for mesh a is none) (λ lt. absent_at mesh a (index_for mesh a) is none lt) few one a_fits first_fits

@@ -1,4 +1,4 @@
--- The least member from a place on.
+-- The least member from an index on.
 use Rattle.std.proofs.Common.{◌≡◌, ◌<◌, ◌≤◌, ℕ, ◌+◌, ◌-◌, ◌*◌, ◌/◌, ◌%◌, ◌^◌, true, false, eqb, List, slice_index, Some, None, refl, sym, ap, ◌∙◌, eq-eqb, arith, inl, inr, w64, pow-add}
 use Rattle.std.proofs.Math.Nat.{div-div-eq-div-mul, div-le_self}
 use Rattle.std.proofs.lemmas.Bool.{cases_lt, ne_eqb}
@@ -18,8 +18,8 @@ bit_at_shr w k i = ap (λ (n : ℕ). n % 2) (div-div-eq-div-mul w (2 ^ k) (2 ^ i
 
 pub no_bit : (w from : ℕ) → w / 2 ^ from ≡ 0 → IsLeastBit w from None
 no_bit w from none q le =
-    let place : from + (q - from) ≡ q = omega arith in
-    sym (ap (bit_at w) place) ∙ sym (bit_at_shr w from (q - from)) ∙ ap (λ (n : ℕ). bit_at n (q - from)) none ∙ bit_at-zero (q - from)
+    let index : from + (q - from) ≡ q = omega arith in
+    sym (ap (bit_at w) index) ∙ sym (bit_at_shr w from (q - from)) ∙ ap (λ (n : ℕ). bit_at n (q - from)) none ∙ bit_at-zero (q - from)
 
 pub lowest_bit : (w from : ℕ) → w < 2 ^ 64 → 0 < w / 2 ^ from → IsLeastBit w from (Some (from + trailing_zeros w64 (w / 2 ^ from)))
 lowest_bit w from fits some =
@@ -33,28 +33,28 @@ lowest_bit w from fits some =
       within,
       one,
       λ q le lt.
-          let place : from + (q - from) ≡ q = omega arith in
-          sym (ap (bit_at w) place) ∙ sym (bit_at_shr w from (q - from)) ∙ lowest.2 (q - from) (omega arith),
+          let index : from + (q - from) ≡ q = omega arith in
+          sym (ap (bit_at w) index) ∙ sym (bit_at_shr w from (q - from)) ∙ lowest.2 (q - from) (omega arith),
     )
 
 -- the words have no bit from i up to n
 abbrev pub NoneUpTo : List ℕ → ℕ → ℕ → Type 0
 NoneUpTo ws i n = (q : ℕ) → i ≤ q → q < n → has_bit ws q ≡ false
 
--- the place of a bit in its word
+-- the index of a bit in its word
 bit_in_word : (ws : List ℕ) (k p : ℕ) → p < 64 → has_bit ws (64 * k + p) ≡ eqb (bit_at (slice_index ws k) p) 1
 bit_in_word ws k p lt =
     let word : (64 * k + p) / 64 ≡ k = omega arith in
-    let place : (64 * k + p) % 64 ≡ p = omega arith in
-    rw (word, place) refl
+    let index : (64 * k + p) % 64 ≡ p = omega arith in
+    rw (word, index) refl
 
 no_bit_there : (ws : List ℕ) (k p : ℕ) → p < 64 → bit_at (slice_index ws k) p ≡ 0 → has_bit ws (64 * k + p) ≡ false
 no_bit_there ws k p lt e = bit_in_word ws k p lt ∙ ne_eqb (bit_at (slice_index ws k) p) 1 (λ one. omega arith)
 
-pub found : (ws : List ℕ) (i k from place : ℕ) → AreWords ws → i ≤ 64 * k + from → NoneUpTo ws i (64 * k + from) → IsLeastBit (slice_index ws k) from (Some place) → IsLeastFrom (members ws) i (Some (64 * k + place))
-found ws i k from place are before none least = (
+pub found : (ws : List ℕ) (i k from index : ℕ) → AreWords ws → i ≤ 64 * k + from → NoneUpTo ws i (64 * k + from) → IsLeastBit (slice_index ws k) from (Some index) → IsLeastFrom (members ws) i (Some (64 * k + index))
+found ws i k from index are before none least = (
   omega (arith, least.0),
-  contains-members ws (64 * k + place) are ∙ bit_in_word ws k place least.1 ∙ eq-eqb _ _ least.2,
+  contains-members ws (64 * k + index) are ∙ bit_in_word ws k index least.1 ∙ eq-eqb _ _ least.2,
   λ q le lt. contains-members ws q are ∙ elim (cases_lt q (64 * k + from)) [
     | inl early ↦ none q le early
     | inr late ↦

@@ -230,7 +230,7 @@ nowhere (a ∷ b ∷ c ∷ d ∷ ds) h i j =
     let d_other : ¬ (d ≡ 46) = λ is. j (omega arith, is) in
     no_dot_after a (b ∷ c ∷ d ∷ ds) (λ other. four_in_front a b c d ds other b_other c_other d_other)
 
--- the same of a text by its places
+-- the same of a text by its indices
 pub after_one : (text : List ℕ) → IsDotAt text 1
     → first_octet (parts 46 text) ≡ option_map (number_and (parts 46 (drop 2 text))) (number_up_to 255 (slice_index text 0 ∷ []))
 after_one [] h = absurd (omega (arith, h.0))

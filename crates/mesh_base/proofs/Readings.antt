@@ -77,8 +77,8 @@ address_fits bytes n h = parts_fit (parts 46 bytes) n h
 pub index_within : (mesh : Nodes) (a i : ℕ) → index_of mesh a ≡ Some i → i < length mesh
 unfolding index_of
 index_within mesh a i h =
-    let place : ℕ = position_or_len (λ p. eqb p.0 a) mesh in
-    let c = cond_some (ltb place (length mesh)) place i h in
-    let lt = below_if place (length mesh) c.0 in
+    let index : ℕ = position_or_len (λ p. eqb p.0 a) mesh in
+    let c = cond_some (ltb index (length mesh)) index i h in
+    let lt = below_if index (length mesh) c.0 in
     let same = c.1 in
     omega arith

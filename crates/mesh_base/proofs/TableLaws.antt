@@ -30,7 +30,7 @@ same_texts (x ∷ xs) (y ∷ ys) h =
     let here = both x y (are_same xs ys) h in
     ap (λ z. z ∷ xs) here.0 ∙ ap (λ zs. y ∷ zs) (same_texts xs ys here.1)
 
--- two tables have the same text at each place below k
+-- two tables have the same text at each index below k
 abbrev are_alike : (ℕ → List ℕ) → (ℕ → List ℕ) → ℕ → Bool
 are_alike f g zero = true
 are_alike f g (suc n) = are_same (f n) (g n) && are_alike f g n

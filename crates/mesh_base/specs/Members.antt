@@ -62,12 +62,12 @@ IsLeastFrom s i None = (q : ℕ) → i ≤ q → contains s q ≡ false
 IsLeastFrom s i (Some m) =
     (i ≤ m) × (contains s m ≡ true) × ((q : ℕ) → i ≤ q → q < m → contains s q ≡ false)
 
--- the least place from i on at which the word has a bit
+-- the least index from i on at which the word has a bit
 abbrev pub IsLeastBit : ℕ → ℕ → Option ℕ → Type 0
 IsLeastBit w i None = (q : ℕ) → i ≤ q → bit_at w q ≡ 0
 IsLeastBit w i (Some m) =
     (i ≤ m) × (m < 64) × (bit_at w m ≡ 1) × ((q : ℕ) → i ≤ q → q < m → bit_at w q ≡ 0)
 
--- the word has a bit at that place, and k bits below it
+-- the word has a bit at that index, and k bits below it
 abbrev pub IsNthBit : ℕ → ℕ → ℕ → Type 0
-IsNthBit w k place = (place < 64) × (bit_at w place ≡ 1) × (count_ones (w % 2 ^ place) ≡ k)
+IsNthBit w k index = (index < 64) × (bit_at w index ≡ 1) × (count_ones (w % 2 ^ index) ≡ k)

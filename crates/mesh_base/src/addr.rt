@@ -79,7 +79,7 @@ pub(crate) fn octet(text: &[u8]) -> Option<u32>
     }
 }
 
-// Whether a dot stands at a place.
+// Whether a dot stands at an index.
 #[inline(always)]
 fn is_dot(text: &[u8], at: usize) -> bool
     ensures yes { IsTrue result → IsDotAt text.now at }

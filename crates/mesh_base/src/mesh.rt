@@ -51,16 +51,16 @@ fn count_below(nodes: &[(u32, u32)], a: u32) -> usize
     nodes.partition_point(|node| node.0 < a)
 }
 
-// The place of an address where the addresses up to it are consecutive, as those of most meshes
+// The index of an address where the addresses up to it are consecutive, as those of most meshes
 // are.
 #[inline]
-fn consecutive_place(nodes: &[(u32, u32)], a: u32) -> Option<usize>
+fn consecutive_index(nodes: &[(u32, u32)], a: u32) -> Option<usize>
     ensures { IfSome result (λ i. (i < length nodes.now) × (addr_at nodes.now i ≡ a)) }
 {
     let (first, _) = *nodes.first()?;
-    let place = a.wrapping_sub(first) as usize;
-    if place < nodes.len() && nodes[place].0 == a {
-        Some(place)
+    let index = a.wrapping_sub(first) as usize;
+    if index < nodes.len() && nodes[index].0 == a {
+        Some(index)
     } else {
         None
     }
@@ -138,15 +138,15 @@ impl Mesh {
         ensures within { IfSome result (λ i. i < length self.now) }
     {
         let nodes = self.nodes.as_slice();
-        if let Some(place) = consecutive_place(nodes, a.0) {
-            return Some(place);
+        if let Some(index) = consecutive_index(nodes, a.0) {
+            return Some(index);
         }
-        let place = count_below(nodes, a.0);
-        if place == nodes.len() {
+        let index = count_below(nodes, a.0);
+        if index == nodes.len() {
             return None;
         }
-        if nodes[place].0 == a.0 {
-            Some(place)
+        if nodes[index].0 == a.0 {
+            Some(index)
         } else {
             None
         }
@@ -180,8 +180,8 @@ impl Mesh {
         if self.nodes.is_full() {
             return Err(MeshError::TooMany);
         }
-        let place = count_below(self.nodes.as_slice(), a.0);
-        self.nodes.insert(place, (a.0, first));
+        let index = count_below(self.nodes.as_slice(), a.0);
+        self.nodes.insert(index, (a.0, first));
         self.stem = Stem::of(a);
         Ok(())
     }

@@ -111,12 +111,12 @@ impl NodeSet {
             return None;
         }
         let first = i / 64;
-        if let Some(place) = least_bit(words[first], i % 64) {
-            return Some(64 * first + place);
+        if let Some(index) = least_bit(words[first], i % 64) {
+            return Some(64 * first + index);
         }
         for k in first + 1..4 {
-            if let Some(place) = least_bit(words[k], 0) {
-                return Some(64 * k + place);
+            if let Some(index) = least_bit(words[k], 0) {
+                return Some(64 * k + index);
             }
         }
         None
@@ -178,7 +178,7 @@ impl NodeSet {
     }
 }
 
-// The place of the least bit of the word that is not below `from`.
+// The index of the least bit of the word that is not below `from`.
 #[tactic(auto, using(crate::proofs::Least::no_bit, crate::proofs::Least::lowest_bit))]
 fn least_bit(word: u64, from: usize) -> Option<usize>
     requires { from < 64 }
@@ -191,7 +191,7 @@ fn least_bit(word: u64, from: usize) -> Option<usize>
     Some(from + rest.trailing_zeros() as usize)
 }
 
-// The place of the bit that has k bits of the word below it. Six halvings find it: the one of
+// The index of the bit that has k bits of the word below it. Six halvings find it: the one of
 // `rest` in the `width` bits from `base` on is in their lower half, if there are more than `rest`,
 // or else above.
 fn nth_bit(word: u64, k: usize) -> usize

@@ -21,7 +21,7 @@ pub mark_ends : {T E : Type 0} (mark l rest : List ℕ) (a b c d : Option (List 
 mark_ends mark l rest a b c d r is p q s =
     Puts-join a c d (mark ++ drop 2 l) (10 ∷ []) (marked mark l) r refl (Appends-join a b c mark (drop 2 l) (mark ++ drop 2 l) refl p (subst (λ (t : List ℕ). Appends b c t) is q)) s
 
--- ---- the lines in front of a place
+-- ---- the lines in front of an occurrence
 
 abbrev pub came_before : List ℕ → List (List ℕ) → List ℕ
 came_before l ls = changes_text (map Came (lines_before l ls))
@@ -29,7 +29,7 @@ came_before l ls = changes_text (map Came (lines_before l ls))
 by_test : {X : Type 0} (b c : Bool) (x y : X) → b ≡ c → (if b then x else y) ≡ (if c then x else y)
 by_test b c x y same = ap (λ t. if t then x else y) same
 
--- at that place
+-- at the occurrence
 before_here : (l k : List ℕ) (ls ks : List (List ℕ)) → ls ≡ k ∷ ks → bytes_eq k l ≡ true → lines_before l ls ≡ []
 before_here l k ls ks is same = ap (lines_before l) is ∙ by_test (bytes_eq k l) true [] (k ∷ lines_before l ks) same
 
@@ -49,7 +49,7 @@ behind_on l k ls ks is other = ap (lines_behind l) is ∙ by_test (bytes_eq k l)
 pub stands_on : (l k : List ℕ) (ls ks : List (List ℕ)) → ls ≡ k ∷ ks → bytes_eq k l ≡ false → stands_in l ls ≡ stands_in l ks
 stands_on l k ls ks is other = ap (stands_in l) is ∙ by_test (bytes_eq k l) false true (stands_in l ks) other
 
--- nothing stands in front of the place itself
+-- nothing stands in front of the occurrence itself
 pub before_ends : (l k : List ℕ) (ls ks : List (List ℕ)) (a : Option (List ℕ)) → ls ≡ k ∷ ks → bytes_eq k l ≡ true → Appends a a (came_before l ls)
 before_ends l k ls ks a is same = subst (λ js. Appends a a (changes_text (map Came js))) (sym (before_here l k ls ks is same)) (Appends-none a)
 

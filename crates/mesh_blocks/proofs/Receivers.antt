@@ -8,7 +8,7 @@ use Rattle.mesh_base.specs.declared.events.Flying.{Flying}
 use Rattle.aodv_model.specs.Cores.{Heard}
 use Rattle.mesh_model.specs.Worlds as worlds
 use Rattle.mesh_model.specs.Worlds.{World, Copy, Deliver, Next, CopyHeard, at_copy, push, step}
-use Rattle.mesh_model.specs.Places.{IsCopyInMesh}
+use Rattle.mesh_model.specs.InMesh.{IsCopyInMesh}
 use Rattle.mesh_model.proofs.Steps.{found_honest}
 use Rattle.mesh_radio.specs.Copies as radios
 use Rattle.mesh_meaning.specs.Packets.{copy_in}

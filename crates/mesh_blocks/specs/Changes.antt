@@ -27,12 +27,12 @@ abbrev pub stands_in : List ℕ → List (List ℕ) → Bool
 stands_in l [] = false
 stands_in l (k ∷ ks) = if bytes_eq k l then true else stands_in l ks
 
--- those in front of its first place, or all where it has none
+-- those in front of its first occurrence, or all where it has none
 abbrev pub lines_before : List ℕ → List (List ℕ) → List (List ℕ)
 lines_before l [] = []
 lines_before l (k ∷ ks) = if bytes_eq k l then [] else k ∷ lines_before l ks
 
--- those behind that place
+-- those behind it
 abbrev pub lines_behind : List ℕ → List (List ℕ) → List (List ℕ)
 lines_behind l [] = []
 lines_behind l (k ∷ ks) = if bytes_eq k l then ks else lines_behind l ks
@@ -45,11 +45,11 @@ pub data Change : Type 0 where
   Came : (line : List ℕ) → Change
 
 -- up to a line that was there before: where it stands among the lines after, it stays, and those in
--- front of its first place came; else it went
+-- front of its first occurrence came; else it went
 abbrev pub changes_to : List ℕ → List (List ℕ) → List Change
 changes_to l after = if stands_in l after then map Came (lines_before l after) else Went l ∷ []
 
--- which lines after are then left: where it stays, those behind that place
+-- which lines after are then left: where it stays, those behind it
 abbrev pub left_by : List ℕ → List (List ℕ) → List (List ℕ)
 left_by l after = if stands_in l after then lines_behind l after else after
 

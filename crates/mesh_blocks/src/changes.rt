@@ -54,8 +54,8 @@ fn put_marked<O: Sink>(mark: &[u8], line: &[u8], out: &mut O) -> Result<(), PutF
     put_all(out, b"\n")
 }
 
-// The lines of a text in front of the first place of this line came. It answers what stands behind
-// that place.
+// The lines of a text in front of the first occurrence of this line came. It answers what stands
+// behind it.
 fn put_came_before<'a, O: Sink>(
     line: &[u8],
     text: &'a [u8],

@@ -4,7 +4,7 @@ ghost use Rattle.mesh_base.specs.Bounds.{most_lines, most_steps, most_steps_befo
 ghost use Rattle.mesh_base.specs.Meshes.{Nodes};
 ghost use Rattle.mesh_io.specs.Cause.{HasCause};
 ghost use Rattle.mesh_io.specs.Puts.{Puts};
-ghost use Rattle.mesh_model.specs.Places.{IsEvent};
+ghost use Rattle.mesh_model.specs.InMesh.{IsEvent};
 ghost use Rattle.mesh_meaning.specs.Answers.{IsDoneInMesh};
 ghost use Rattle.mesh_meaning.specs.Events.{event_of};
 ghost use Rattle.mesh_text.specs.Schedule.{RunState, next_state, outcome_at, Does};

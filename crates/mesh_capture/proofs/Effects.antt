@@ -12,7 +12,7 @@ use Rattle.aodv_model.specs.Handlers.{Took, Own, Stored, FromNeighbour}
 use Rattle.mesh_base.specs.Meshes.{Nodes, IsMesh, addr_at}
 use Rattle.mesh_base.specs.Parts.{parts}
 use Rattle.mesh_base.proofs.WrittenForms.{Lacks, parts_at}
-use Rattle.mesh_model.specs.Places.{AreNumbered}
+use Rattle.mesh_model.specs.InMesh.{AreNumbered}
 use Rattle.mesh_model.specs.Worlds.{Copy, find_copy, without}
 use Rattle.mesh_meaning.specs.Packets.{packet_of}
 use Rattle.mesh_grammar.specs.Commands.{greatest_id}

@@ -15,7 +15,7 @@ use Rattle.mesh_grammar.specs.Commands.{greatest_id}
 use Rattle.mesh_grammar.specs.Written.{line}
 use Rattle.mesh_meaning.specs.Events.{node_of}
 use Rattle.mesh_model.specs.Accounts.{in_item, in_message, in_taken, in_dropped, waiting, queued_data, in_flight}
-use Rattle.mesh_model.specs.Places.{IsInMesh, IsNodeInMesh, IsEvent}
+use Rattle.mesh_model.specs.InMesh.{IsInMesh, IsNodeInMesh, IsEvent}
 use Rattle.mesh_model.specs.Worlds as worlds
 use Rattle.mesh_model.specs.Worlds.{World, Node, Copy, Event, Give, Turn, Send, Ask, Link, Cut, Deliver, Lose, Double, Outcome, Idle, Next, WorldEffect, Changed, Taken, Sent, CopyHeard, CopyLost, CopyDoubled, after, step, at_node, at_copy, unless_full, turn_of, send_of, ask_of, done_by, push, with_item, without_copy, with_double, is_parcel, with_link, without_link, are_linked, range, copies, copies_of, receivers, members_below, find_copy}
 use Rattle.mesh_model.proofs.MeshSteps.{own}

@@ -8,7 +8,7 @@ use Rattle.std.specs.Cmp.{unsigned_tied, nat_cmp_is}
 use Rattle.std.specs.BTreeMap.{insert_entry, is_at}
 use Rattle.std.proofs.lemmas.Bool.{ne_eqb, cases_eq}
 use Rattle.mesh_base.specs.Meshes.{Nodes}
-use Rattle.mesh_model.specs.Places.{AreNumbered}
+use Rattle.mesh_model.specs.InMesh.{AreNumbered}
 use Rattle.mesh_model.specs.Worlds.{Copy, find_copy, without}
 use Rattle.mesh_capture.specs.declared.copies.FlyingCopy.{FlyingCopy}
 use Rattle.mesh_capture.specs.Copies.{Flying, copy_in}

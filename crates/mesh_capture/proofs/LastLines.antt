@@ -131,10 +131,10 @@ module _ (mesh : Nodes) (is : IsMesh mesh) where
   unfolding full_line
   full_reads a n e f may some le =
       let rest : List ℕ = codes "line " ++ decimal n ++ codes ": " ++ event_words mesh e ++ codes ": " ++ field_text f in
-      let place : Lacks 58 (codes "line " ++ decimal n) = append_no_colon (codes "line ") (decimal n) (word_lacks 58 (codes "line ") refl) (number_no_colon n (omega arith)) in
+      let label : Lacks 58 (codes "line " ++ decimal n) = append_no_colon (codes "line ") (decimal n) (word_lacks 58 (codes "line ") refl) (number_no_colon n (omega arith)) in
       let cut : parts 58 rest ≡ (codes "line " ++ decimal n) ∷ (32 ∷ event_words mesh e) ∷ (32 ∷ field_text f) ∷ [] =
       ap (parts 58) (sym (full_texts (decimal n) (event_words mesh e) (field_text f)))
-      ∙ parts_at 58 (codes "line " ++ decimal n) ((32 ∷ event_words mesh e) ++ 58 ∷ (32 ∷ field_text f)) place
+      ∙ parts_at 58 (codes "line " ++ decimal n) ((32 ∷ event_words mesh e) ++ 58 ∷ (32 ∷ field_text f)) label
       ∙ ap (λ ps. (codes "line " ++ decimal n) ∷ ps) (parts_at 58 (32 ∷ event_words mesh e) (32 ∷ field_text f) (event_whole e may))
       ∙ ap (λ ps. (codes "line " ++ decimal n) ∷ (32 ∷ event_words mesh e) ∷ ps) (parts_none 58 (32 ∷ field_text f) (counter_whole f)) in
       let told : is_full (parts 32 rest) ≡ true =
@@ -250,9 +250,9 @@ unfolding bad_line
 bad_reads mesh a n why near some le =
     let is = why_told why near in
     let rest : List ℕ = codes "line " ++ decimal n ++ codes ": " ++ why_text why in
-    let place : Lacks 58 (codes "line " ++ decimal n) = append_no_colon (codes "line ") (decimal n) (word_lacks 58 (codes "line ") refl) (number_no_colon n (omega arith)) in
+    let label : Lacks 58 (codes "line " ++ decimal n) = append_no_colon (codes "line ") (decimal n) (word_lacks 58 (codes "line ") refl) (number_no_colon n (omega arith)) in
     let cut : parts 58 rest ≡ (codes "line " ++ decimal n) ∷ (32 ∷ why_text why) ∷ [] =
-    ap (parts 58) (sym (bad_texts (decimal n) (why_text why))) ∙ parts_at 58 (codes "line " ++ decimal n) (32 ∷ why_text why) place ∙ ap (λ ps. (codes "line " ++ decimal n) ∷ ps) (parts_none 58 (32 ∷ why_text why) is.whole) in
+    ap (parts 58) (sym (bad_texts (decimal n) (why_text why))) ∙ parts_at 58 (codes "line " ++ decimal n) (32 ∷ why_text why) label ∙ ap (λ ps. (codes "line " ++ decimal n) ∷ ps) (parts_none 58 (32 ∷ why_text why) is.whole) in
     let told : is_refusal (parts 32 rest) ≡ true =
     ap (λ t. is_refusal_by (parts 58 t)) (join_with_byte-slice_split 32 rest) ∙ ap is_refusal_by cut ∙ and_from (is_numbered (codes "line " ++ decimal n)) (is_why (32 ∷ why_text why)) (place_is n some le) is.known in
     reads_other mesh a below.Nothing (codes "bad line " ++ decimal n ++ codes ": " ++ why_text why) (codes "bad") (parts 32 rest)

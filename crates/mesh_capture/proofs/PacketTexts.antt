@@ -10,7 +10,7 @@ use Rattle.aodv_meaning.proofs.Writings.{destinations}
 use Rattle.aodv_model.specs.Cores.{Body, Message, Pkt, Rreq, Rrep, Rerr}
 use Rattle.aodv_model.specs.Soundness.{IsMessageInMesh}
 use Rattle.aodv_model.specs.Tables.{Dests}
-use Rattle.aodv_wire.specs.Layout.{Place, line_of, lines_from, laid_out}
+use Rattle.aodv_wire.specs.Layout.{FieldBits, line_of, lines_from, laid_out}
 use Rattle.aodv_wire.specs.RouteError as rerr
 use Rattle.aodv_wire.specs.RouteReply as rrep
 use Rattle.aodv_wire.specs.RouteRequest as rreq
@@ -41,10 +41,10 @@ not_strange o d body none = by_test (is_text body) none
 line_bytes : (n : ℕ) → AreBytes (big_bytes 4 n)
 line_bytes n = (omega arith, (omega arith, (omega arith, (omega arith, tt))))
 
-lines_bytes : {F : Type 0} (place : F → Place) (value : F → ℕ) (fs : List F) (line n : ℕ) → AreBytes (lines_from place value fs line n)
-lines_bytes place value fs line zero = tt
-lines_bytes place value fs line (suc n) =
-    each_append (λ b. b < 256) (big_bytes 4 (line_of place value line fs)) (lines_from place value fs (suc line) n) (line_bytes (line_of place value line fs)) (lines_bytes place value fs (suc line) n)
+lines_bytes : {F : Type 0} (table : F → FieldBits) (value : F → ℕ) (fs : List F) (line n : ℕ) → AreBytes (lines_from table value fs line n)
+lines_bytes table value fs line zero = tt
+lines_bytes table value fs line (suc n) =
+    each_append (λ b. b < 256) (big_bytes 4 (line_of table value line fs)) (lines_from table value fs (suc line) n) (line_bytes (line_of table value line fs)) (lines_bytes table value fs (suc line) n)
 
 text_bytes : (body : Body) → are_printable body ≡ true → AreBytes body
 text_bytes [] all = tt

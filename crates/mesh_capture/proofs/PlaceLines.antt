@@ -23,7 +23,7 @@ use Rattle.mesh_grammar.specs.Written.{line, command_text}
 use Rattle.mesh_grammar.proofs.Canonical.{number_is_written, address_is_written}
 use Rattle.mesh_grammar.proofs.Readings.{with_argument_case, if_case}
 use Rattle.mesh_grammar.proofs.CommandLines.{words_in, HaveNumbers, words_written}
-use Rattle.mesh_model.specs.Places.{IsEvent}
+use Rattle.mesh_model.specs.InMesh.{IsEvent}
 use Rattle.mesh_model.specs.Worlds.{Copy, Event, Give, Turn, Send, Ask, Link, Cut, Deliver, Lose, Double}
 use Rattle.mesh_model.proofs.Lists.{each_append}
 use Rattle.mesh_text.specs.Lines.{name_of, event_words}

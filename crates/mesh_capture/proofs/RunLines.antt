@@ -12,7 +12,7 @@ use Rattle.mesh_grammar.specs.Written.{line}
 use Rattle.mesh_io.specs.declared.limits.TheConstants.{LONGEST_TEXT}
 use Rattle.mesh_model.specs.Accounts.{total, in_copy, waiting, queued_data, in_flight}
 use Rattle.mesh_model.specs.Choices.{pick}
-use Rattle.mesh_model.specs.Places.{IsCopyInMesh}
+use Rattle.mesh_model.specs.InMesh.{IsCopyInMesh}
 use Rattle.mesh_model.specs.Routes.{End, Arrived, Stuck, IsRouteEnd, route_end}
 use Rattle.mesh_model.specs.Worlds as worlds
 use Rattle.mesh_model.specs.Worlds.{World, Event, Outcome, Idle, Next, start, first_numbers, run}

@@ -10,7 +10,7 @@ use Rattle.mesh_grammar.specs.Commands.{greatest_id}
 use Rattle.mesh_grammar.proofs.Readings.{three_texts}
 use Rattle.mesh_meaning.specs.Packets.{packet_of}
 use Rattle.mesh_model.specs.Accounts.{total, in_copy}
-use Rattle.mesh_model.specs.Places.{AreNumbered, IsCopyInMesh}
+use Rattle.mesh_model.specs.InMesh.{AreNumbered, IsCopyInMesh}
 use Rattle.mesh_model.specs.Routes.{End, Arrived, Stuck}
 use Rattle.mesh_model.specs.Worlds.{Copy, find_copy}
 use Rattle.mesh_text.specs.Lines.{name_of, hex}

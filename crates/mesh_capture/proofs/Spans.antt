@@ -151,7 +151,7 @@ module _ (most : ℕ) where
       let long : length (join_with_byte 32 (parts 32 line)) ≡ length line = ap length (join_with_byte-slice_split 32 line) in
       if_case ShapeNear (is_blank line) (Ok None) (by_words schedule (parts 32 line)) (λ _. tt) (λ _. words_near schedule (parts 32 line) (omega arith))
 
-  -- ---- the place of a line
+  -- ---- where a line stands
 
   abbrev LineNear : {A : Type 0} → Result A LineFault → Type 0
   LineNear (Ok a) = Unit {0}

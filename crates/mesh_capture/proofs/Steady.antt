@@ -9,7 +9,7 @@ use Rattle.mesh_grammar.proofs.CommandLines.{text_is}
 use Rattle.mesh_io.specs.declared.limits.TheConstants.{LONGEST_TEXT}
 use Rattle.mesh_model.specs.Accounts.{counts, if_goes, in_found, waiting, queued_data, in_flight, given_data, doubled_data}
 use Rattle.mesh_model.specs.Choices.{pick, IsChoice}
-use Rattle.mesh_model.specs.Places.{IsInMesh, IsEvent, AreNumbered}
+use Rattle.mesh_model.specs.InMesh.{IsInMesh, IsEvent, AreNumbered}
 use Rattle.mesh_model.specs.Worlds as worlds
 use Rattle.mesh_model.specs.Worlds.{World, Copy, Event, Give, Turn, Send, Ask, Link, Cut, Deliver, Lose, Double, Outcome, Idle, Next, after, at_copy, step, find_copy, push, without_copy, CopyHeard}
 use Rattle.mesh_model.proofs.AccountSteps.{step_balanced}

@@ -10,7 +10,7 @@ use Rattle.mesh_grammar.specs.Commands.{greatest_id}
 use Rattle.mesh_grammar.specs.Written.{line, label_number}
 use Rattle.mesh_meaning.specs.Packets.{packet_of}
 use Rattle.mesh_model.specs.Accounts.{in_taken, in_dropped}
-use Rattle.mesh_model.specs.Places.{AreNumbered}
+use Rattle.mesh_model.specs.InMesh.{AreNumbered}
 use Rattle.mesh_model.specs.Worlds.{Copy, copies_to, copies_of}
 use Rattle.mesh_text.specs.Effects.{delivery_text, drop_text, datum_fate, broken_text, cast_text, copies_text, sent_text, set_text, took_text}
 use Rattle.mesh_text.specs.Lines.{name_of, hex}

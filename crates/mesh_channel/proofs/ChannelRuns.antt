@@ -6,7 +6,7 @@ use Rattle.mesh_base.specs.Meshes.{Nodes}
 use Rattle.mesh_base.specs.declared.events.Variant.{Variant}
 use Rattle.mesh_model.specs.Worlds as worlds
 use Rattle.mesh_model.specs.Worlds.{Event, Outcome, Idle, Next, first_numbers}
-use Rattle.mesh_model.specs.Places.{IsEvent}
+use Rattle.mesh_model.specs.InMesh.{IsEvent}
 use Rattle.mesh_model.proofs.AccountSteps.{account}
 use Rattle.mesh_model.proofs.Acyclic.{loop_free}
 use Rattle.mesh_grammar.specs.declared.fault.LineFault.{LineFault}

@@ -10,7 +10,7 @@ use Rattle.std.specs.Io.KnownBytes.{Appends}
 use Rattle.mesh_base.specs.declared.limits.TheConstants.{MOST_NODES}
 use Rattle.mesh_io.specs.Puts.{AppendsPrefix}
 use Rattle.mesh_meaning.specs.Events.{event_of}
-use Rattle.mesh_model.specs.Places.{IsEvent}
+use Rattle.mesh_model.specs.InMesh.{IsEvent}
 use Rattle.mesh_model.specs.Worlds.{World, Event, start, first_numbers, step, after}
 use Rattle.mesh_text.specs.Schedule as schedule
 use Rattle.mesh_text.specs.Schedule.{AcceptedLine, NewNode, Does, Chooses, ShowsNode, ShowsRoute, ShowsFlight, with_world, with_line_read, world_of, next_state, outcome_at}

@@ -11,7 +11,7 @@ use Rattle.mesh_base.specs.declared.events.Variant.{Variant}
 use Rattle.mesh_grammar.specs.declared.fault.LineFault.{LineFault}
 use Rattle.mesh_model.specs.Worlds as worlds
 use Rattle.mesh_model.specs.Worlds.{World, Event, Outcome, Idle, Next}
-use Rattle.mesh_model.specs.Places.{IsEvent}
+use Rattle.mesh_model.specs.InMesh.{IsEvent}
 use Rattle.mesh_shell.specs.Pieces.{Piece, Whole, Long, Beyond, pieces_of, last_piece}
 use Rattle.mesh_io.specs.declared.limits.Limits.{Limits}
 use Rattle.mesh_text.specs.Auto as auto

@@ -31,7 +31,7 @@ nothing_left g ws e = ap (given_by g) e
 abbrev pub text_of : Bor (List ℕ) → List ℕ
 text_of w = w.now
 
--- the words from a place on
+-- the words from an index on
 pub word_at : (words : List (Bor (List ℕ))) (i : ℕ) (d : Bor (List ℕ)) → i < length words → drop i (map text_of words) ≡ (get_or words i d).now ∷ drop (i + 1) (map text_of words)
 word_at words i d h =
     let one : suc i ≡ i + 1 = omega arith in

@@ -5,7 +5,7 @@ use Rattle.std.proofs.lemmas.List.{map-append}
 use Rattle.mesh_base.specs.Meshes.{Nodes, IsMesh}
 use Rattle.mesh_base.specs.declared.events.Variant.{Variant}
 use Rattle.mesh_model.specs.Worlds.{World, Event}
-use Rattle.mesh_model.specs.Places.{IsEvent}
+use Rattle.mesh_model.specs.InMesh.{IsEvent}
 use Rattle.mesh_grammar.specs.declared.fault.LineFault.{LineFault}
 use Rattle.mesh_grammar.specs.declared.fault.BadWhy.{BadWhy}
 use Rattle.mesh_shell.specs.Pieces.{Piece, Whole, Long, Beyond}

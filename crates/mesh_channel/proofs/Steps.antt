@@ -9,7 +9,7 @@ use Rattle.aodv_model.specs.Handlers.{Cast, Nothing, One, Many, All, Reaction, t
 use Rattle.aodv_model.specs.Fullness.{turn_full, send_full, ask_full}
 use Rattle.mesh_grammar.proofs.Readings.{if_case}
 use Rattle.mesh_model.specs.Numbered.{numbered_from}
-use Rattle.mesh_model.specs.Places.{AreNumbered}
+use Rattle.mesh_model.specs.InMesh.{AreNumbered}
 use Rattle.mesh_model.specs.Worlds.{is_parcel, World, Node, Copy, Event, Give, Turn, Send, Ask, Link, Cut, Deliver, Lose, Double, range, receivers, copies, copies_to, copies_of, done_by, push, with_item, find_copy, WorldEffect, Changed, Taken, Sent, CopyHeard, CopyLost, CopyDoubled, Outcome, Idle, Full, Next, unless_full, turn_of, send_of, ask_of, at_node, at_copy, with_link, without_link, without_copy, with_double, step, after, are_linked}
 
 -- ---- an event makes at most as many copies as there are nodes

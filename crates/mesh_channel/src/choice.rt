@@ -1,6 +1,6 @@
 //! What the channel does next.
 ghost use Rattle.std.specs.Prelude.{◌≡◌, ◌≤◌, length, ℕ, option_map, IfSome};
-ghost use Rattle.mesh_model.specs.Places.{IsEvent};
+ghost use Rattle.mesh_model.specs.InMesh.{IsEvent};
 ghost use Rattle.mesh_meaning.specs.Events.{event_of};
 ghost use Rattle.mesh_text.specs.Lines.{event_command};
 ghost use Rattle.mesh_text.specs.Ranges.{AreArgumentsInRange};

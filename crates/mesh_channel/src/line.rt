@@ -53,7 +53,7 @@ pub fn passing_of(bytes: &[u8], mesh: &Mesh) -> Result<Option<u32>, LineFault>
     ensures { result ≡ lines.passing_of mesh.now bytes.now }
 {
     let (word, arguments) = cut(bytes, b' ');
-    // A slice has fewer than 2^63 bytes: no place in it overflows.
+    // A slice has fewer than 2^63 bytes: no index into it overflows.
     let _length = bytes.len();
     if is_word(word, b"pass") {
         passing_at(mesh, next_at(0, word), arguments)

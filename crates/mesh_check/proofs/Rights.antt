@@ -45,8 +45,8 @@ yes_or_no shown ReadFault x r = absurd r
 yes_or_no shown WriteFault x r = absurd r
 yes_or_no shown NoMemory x r = absurd r
 
-same_place : (a b x y : ℕ) → (a < b) ⊎ ((a ≡ b) × (x ≤ y)) → (b < a) ⊎ ((b ≡ a) × (y ≤ x)) → (a ≡ b) × (x ≡ y)
-same_place a b x y p q = grind arith
+same_entry : (a b x y : ℕ) → (a < b) ⊎ ((a ≡ b) × (x ≤ y)) → (b < a) ⊎ ((b ≡ a) × (y ≤ x)) → (a ≡ b) × (x ≡ y)
+same_entry a b x y p q = grind arith
 
 same_next : (t : Tables) (d x y z : ℕ) → Edge t d x y → Edge t d x z → y ≡ z
 same_next t d x y z e f =
@@ -55,11 +55,11 @@ same_next t d x y z e f =
 
 same_edge : (t : Tables) (a b : FailingEdge) → IsFirstFailing t a → IsFirstFailing t b → a ≡ b
 same_edge t a b p q =
-    let place = same_place a.dest b.dest a.node b.node (p.first b.dest b.node b.next q.fails) (q.first a.dest a.node a.next p.fails) in
+    let entry = same_entry a.dest b.dest a.node b.node (p.first b.dest b.node b.next q.fails) (q.first a.dest a.node a.next p.fails) in
     let moved : Edge t b.dest b.node a.next =
-    subst (λ d. Edge t d b.node a.next) place.0 (subst (λ x. Edge t a.dest x a.next) place.1 (p.fails).edge) in
+    subst (λ d. Edge t d b.node a.next) entry.0 (subst (λ x. Edge t a.dest x a.next) entry.1 (p.fails).edge) in
     let next = same_next t b.dest b.node a.next b.next moved (q.fails).edge in
-    by_fields a b place.0 place.1 next
+    by_fields a b entry.0 entry.1 next
   where
     by_fields : (a b : FailingEdge) → a.dest ≡ b.dest → a.node ≡ b.node → a.next ≡ b.next → a ≡ b
     by_fields a b d x y =

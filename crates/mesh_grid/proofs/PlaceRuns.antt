@@ -6,7 +6,7 @@ use Rattle.std.proofs.lemmas.Bool.{eqb-false}
 use Rattle.mesh_base.specs.Members.{NodeIds}
 use Rattle.mesh_base.specs.Meshes.{Nodes}
 use Rattle.mesh_model.specs.Worlds.{Event, range, first_numbers}
-use Rattle.mesh_model.specs.Places.{IsEvent}
+use Rattle.mesh_model.specs.InMesh.{IsEvent}
 use Rattle.mesh_model.proofs.Lists.{each_append}
 use Rattle.mesh_model.proofs.Acyclic.{loop_free}
 use Rattle.mesh_grammar.specs.declared.fault.LineFault.{LineFault}

@@ -3,7 +3,7 @@ use Rattle.std.specs.Prelude.{◌≡◌, ◌≢◌, ℕ, List, length, Some, Non
 use Rattle.std.specs.List.{AllByRecursion}
 use Rattle.mesh_base.specs.Meshes.{Nodes}
 use Rattle.mesh_base.specs.declared.events.Variant.{Variant}
-use Rattle.mesh_model.specs.Places.{IsEvent}
+use Rattle.mesh_model.specs.InMesh.{IsEvent}
 use Rattle.mesh_model.specs.Walks.{Cycle}
 use Rattle.mesh_model.specs.Worlds.{are_linked}
 use Rattle.mesh_shell.specs.Pieces.{Whole}

@@ -1,7 +1,7 @@
 //! The changes of links that follow where a node comes to a place.
 ghost use Rattle.std.specs.Prelude.{◌≡◌, ◌<◌, ℕ, IfSome};
 ghost use Rattle.mesh_base.specs.declared.limits.TheConstants.{MOST_NODES};
-ghost use Rattle.mesh_model.specs.Places.{IsEvent};
+ghost use Rattle.mesh_model.specs.InMesh.{IsEvent};
 ghost use Rattle.mesh_meaning.specs.Events.{event_of};
 ghost use Rattle.mesh_grid.specs.Links as links;
 ghost use Rattle.mesh_grid.specs.Seen.{events_in};

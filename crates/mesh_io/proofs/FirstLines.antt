@@ -59,7 +59,7 @@ pub first_whole : (bytes : List ℕ) → (first_line bytes).ends ≡ false → f
 first_whole bytes e =
     ap first_line (sym (append-nil bytes)) ∙ first_open bytes [] e ∙ ap (λ l. record { line = l; ends = false; rest = [] }) (append-nil bytes)
 
--- ---- by the place of the first LF
+-- ---- by the position of the first LF
 
 -- no byte is an LF
 abbrev HasNone : List ℕ → Type 0

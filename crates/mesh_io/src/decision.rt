@@ -33,7 +33,7 @@ fn past(most: Limits, room: usize) -> Decision
     }
 }
 
-// The place of the first LF, where it is one of the first 16 bytes: it takes one comparison, and
+// The position of the first LF, where it is one of the first 16 bytes: it takes one comparison, and
 // most lines of a schedule end there.
 #[inline(always)]
 fn near_end(bytes: &[u8]) -> Option<usize>

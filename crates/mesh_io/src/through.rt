@@ -23,7 +23,7 @@ impl Loan for Brand {
 }
 
 /// The sink behind a reference. Its type says which borrow it is, so whatever a call that is
-/// handed it does, the reference stays in its place, and the sink has only grown.
+/// handed it does, the reference stays where it is, and the sink has only grown.
 #[derive(Drop)]
 pub struct Through<'s, O: Sink, L: Loan> {
     pub to: &'s mut O,

@@ -1,4 +1,4 @@
--- A listing is of one node: nodes of the same place with the same listing have the same core and the same items.
+-- A listing is of one node: nodes of the same index with the same listing have the same core and the same items.
 use Rattle.std.proofs.Common.{◌≡◌, ℕ, zero, suc, ◌<◌, ◌≤◌, Bool, true, false, cond, eqb, List, [], ◌∷◌, ◌++◌, length, map, Option, Some, None, refl, sym, ap, subst, ◌∙◌, arith, inl, inr}
 use Rattle.std.specs.Prelude.{◌||◌, is_some, option_map, slice_get, unwrap_or}
 use Rattle.std.specs.List.{list_any}
@@ -175,7 +175,7 @@ below_more size most rt le below d e at p is = let lt : p < size = below d e at 
 
 -- the precursors of a node whose state is in order are in the mesh
 pub precursors_below : (n : NodeSeen) (size : ℕ) → n.size ≡ size → HasSoundCore n → ArePrecursorsBelow size (n.core).rt
-precursors_below n size is sound d e at = subst (λ (k : ℕ). AreBelow k e.pre) is (sound.table.places d e at).pre
+precursors_below n size is sound d e at = subst (λ (k : ℕ). AreBelow k e.pre) is (sound.table.in_mesh d e at).pre
 
 pub one_core : (c d : Core) → ArePrecursorsBelow 256 c.rt → ArePrecursorsBelow 256 d.rt → c.ip ≡ d.ip → c.variant ≡ d.variant → c.sn ≡ d.sn → routes_in c.rt ≡ routes_in d.rt → pairs_in c.seen ≡ pairs_in d.seen → waits_in c.store ≡ waits_in d.store → c ≡ d
 one_core c d below under named variant sn routes requests waits =

@@ -17,7 +17,7 @@ use Rattle.mesh_world.specs.Seen.{WorldSeen, node_in, most_data_at_first}
 use Rattle.mesh_text.specs.Schedule.{RunState, Sums}
 use Rattle.mesh_text.specs.Accounts as accounts
 use Rattle.mesh_run.specs.RunStates as run_states
-use Rattle.mesh_model.specs.Places.{IsInMesh}
+use Rattle.mesh_model.specs.InMesh.{IsInMesh}
 use Rattle.mesh_run.specs.RunStates.{AreOfVariant, IsSafe, IsSafeWorld, run_state_seen}
 use Rattle.mesh_checkpoint.specs.declared.body.Head.{Head}
 use Rattle.mesh_checkpoint.specs.declared.limits.TheConstants.{SUMS_END, MOST_STEPS}

@@ -15,7 +15,7 @@ use Rattle.aodv_model.specs.Handlers.{key_of}
 use Rattle.aodv_model.specs.Fullness.{greatest}
 use Rattle.aodv_model.proofs.Numbers.{IsMessageWithin, IsItemWithin}
 use Rattle.mesh_model.specs.Worlds.{World, Node, Copy, Event, after, step, run, start, first_numbers}
-use Rattle.mesh_model.specs.Places.{IsEvent, IsCopyInMesh}
+use Rattle.mesh_model.specs.InMesh.{IsEvent, IsCopyInMesh}
 use Rattle.mesh_model.specs.Invariants.{IsInvariant}
 use Rattle.mesh_model.proofs.Lists.{each_map}
 use Rattle.mesh_model.specs.Trails.{HasWalks, HasRequestWalk, HasReplyWalk, IsBackedWalk, MessageHasWalk, ItemHasWalk, CopyHasWalk, around, front}

@@ -71,11 +71,11 @@ record IsPlainNode (variant : Variant) (mesh : Nodes) (x : ℕ) (n : model.Node)
 
 plain_node : (variant : Variant) (mesh : Nodes) (w : model.World) (x : ℕ) (n : model.Node) → IsPlainWorld variant mesh w → slice_get w.nodes x ≡ Some n → IsPlainNode variant mesh x n
 plain_node variant mesh w x n is at =
-    let placed = is.in_mesh.nodes x n at in
+    let in_mesh = is.in_mesh.nodes x n at in
     record {
-      named = placed.named;
+      named = in_mesh.named;
       variant_is = each_get (λ m. (m.core).variant ≡ variant) w.nodes x n is.variant_is at;
-      precursors = below_more (length w.nodes) 256 (n.core).rt (omega (arith, is.few)) (λ d e there. (placed.core.table.places d e there).pre);
+      precursors = below_more (length w.nodes) 256 (n.core).rt (omega (arith, is.few)) (λ d e there. (in_mesh.core.table.in_mesh d e there).pre);
       queue = each_get (λ m. AllByRecursion (IsPlainItem mesh) m.queue) w.nodes x n is.plain.waits at;
     }
 

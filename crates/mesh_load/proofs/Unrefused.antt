@@ -24,7 +24,7 @@ use Rattle.aodv_node.specs.Restored.{HasSoundCore, HasItemsAt}
 use Rattle.mesh_model.specs.Worlds as model
 use Rattle.mesh_model.specs.Worlds.{start, first_numbers}
 use Rattle.mesh_model.specs.Walks as walks
-use Rattle.mesh_model.specs.Places.{IsInMesh, IsCopyInMesh}
+use Rattle.mesh_model.specs.InMesh.{IsInMesh, IsCopyInMesh}
 use Rattle.mesh_model.specs.Invariants.{IsHonest, IsHonestItem, IsHonestCopy, IsBacked, IsLoopSafe}
 use Rattle.mesh_model.specs.Accounts.{any, waiting, queued_data, in_flight}
 use Rattle.mesh_model.proofs.AccountSteps.{start_empty}
@@ -112,13 +112,13 @@ module _ (v : Variant) (mesh : Nodes) (w : model.World) (is : IsRunWorld v mesh 
 
   node_sound : (x : ℕ) (n : model.Node) → slice_get w.nodes x ≡ Some n → IsSoundNodeAt v (length mesh) x (seen_node mesh n)
   node_sound x n at =
-      let placed = inside.nodes x n at in (
+      let in_mesh = inside.nodes x n at in (
         record {
-          named = placed.named;
+          named = in_mesh.named;
           variant_is = each_get (λ (m : model.Node). (m.core).variant ≡ v) w.nodes x n is.variant_is at;
           size_is = refl;
         },
-        subst (λ k. IsSoundCore k n.core) is.size placed.core,
+        subst (λ k. IsSoundCore k n.core) is.size in_mesh.core,
       )
 
   listed : AreListed v (length mesh) (map (node_of mesh) w.nodes) (nodes_seen mesh w)
@@ -204,7 +204,7 @@ module _ (v : Variant) (mesh : Nodes) (w : model.World) (is : IsRunWorld v mesh 
     backed = λ x d. subst (λ (t : ℕ → Table). IfSome (maps.get (t x) d) (IsBacked t d)) (sym tables_are) (backed_in x d);
   }
 
-  -- ---- places
+  -- ---- items and copies in the mesh
 
   items_at : (size x : ℕ) (qs : List Item) → AllByRecursion (IsItemInMesh size x) qs → AllByRecursion (IsItemAt size x) (map (item_of mesh) qs)
   items_at size x [] all = tt
@@ -218,9 +218,9 @@ module _ (v : Variant) (mesh : Nodes) (w : model.World) (is : IsRunWorld v mesh 
   in_place : AreInPlace mesh (nodes_seen mesh w) (radio_seen mesh w).flying
   in_place = record {
     items = mapped_of (seen_node mesh) HasItemsAt w.nodes (λ x n at.
-        let placed = inside.nodes x n at in
+        let in_mesh = inside.nodes x n at in
         subst (λ k. AllByRecursion (IsItemAt k (n.core).ip) (map (item_of mesh) n.queue)) is.size
-        (subst (λ j. AllByRecursion (IsItemAt (length w.nodes) j) (map (item_of mesh) n.queue)) (sym placed.named) (items_at (length w.nodes) x n.queue placed.queue)));
+        (subst (λ j. AllByRecursion (IsItemAt (length w.nodes) j) (map (item_of mesh) n.queue)) (sym in_mesh.named) (items_at (length w.nodes) x n.queue in_mesh.queue)));
     between = between (length w.nodes) w.flying inside.flying;
     written = written;
   }

@@ -7,7 +7,7 @@ use Rattle.mesh_base.specs.Meshes.{Nodes}
 use Rattle.aodv_model.specs.Cores.{Message, Item, New, Heard}
 use Rattle.aodv_meaning.specs.Meaning.{meaning}
 use Rattle.mesh_model.specs.Worlds as model
-use Rattle.mesh_model.specs.Places.{IsInMesh}
+use Rattle.mesh_model.specs.InMesh.{IsInMesh}
 use Rattle.mesh_meaning.specs.Packets.{packet_of}
 use Rattle.mesh_text.specs.Schedule.{RunState}
 use Rattle.mesh_text.specs.Text.{text_of_input}

@@ -2,7 +2,7 @@
 use Rattle.std.proofs.Common.{◌≡◌, ℕ, zero, suc, ◌+◌, ◌<◌, ◌≤◌, length, None, insert, refl, ap, ◌∙◌, inl, inr, arith}
 use Rattle.std.proofs.lemmas.List.Edits.{length-insert}
 use Rattle.mesh_base.specs.Meshes.{Nodes, IsMesh, addr_at, index_of, with_node}
-use Rattle.mesh_base.proofs.MeshLaws.{IsPlace, index_of-absent, with_node-is, at_insert}
+use Rattle.mesh_base.proofs.MeshLaws.{IsIndexFor, index_of-absent, with_node-is, at_insert}
 use Rattle.mesh_base.proofs.Grown.{grown_is_mesh}
 use Rattle.mesh_text.specs.Ranges.{IsNewNode}
 use Rattle.mesh_make.specs.Made.{node_address, mesh_of}
@@ -14,7 +14,7 @@ pub record IsMeshOf (k : ℕ) (mesh : Nodes) : Type 0 where
   pub is_mesh : IsMesh mesh
 
 module _ (k : ℕ) (mesh : Nodes) (few : k < 200) (is : IsMeshOf k mesh) where
-  last : IsPlace mesh (node_address k) (length mesh)
+  last : IsIndexFor mesh (node_address k) (length mesh)
   last = record {
     within = omega arith;
     below = λ i early. let at = is.named i (omega (arith, is.size)) in omega (arith, is.size);

@@ -14,7 +14,7 @@ use Rattle.aodv_model.specs.Fullness.{turn_full, send_full, ask_full}
 use Rattle.aodv_model.proofs.Entries.{if_case}
 use Rattle.aodv_model.proofs.SoundTurns.{Stands, Settles, turn_settles, send_settles, ask_settles}
 use Rattle.mesh_model.specs.Worlds.{is_parcel, World, Node, Copy, Event, Give, Turn, Send, Ask, Link, Cut, Deliver, Lose, Double, range, copies, done_by, push, with_item, find_copy, without, Changed, Taken, Sent, CopyHeard, CopyLost, CopyDoubled, Outcome, Idle, Next, unless_full, turn_of, send_of, ask_of, at_node, at_copy, with_link, without_link, without_copy, with_double, double_of, step, after, run, openings, start, are_linked}
-use Rattle.mesh_model.specs.Places.{IsNodeInMesh, IsCopyInMesh, AreNumbered, IsInMesh, IsEvent}
+use Rattle.mesh_model.specs.InMesh.{IsNodeInMesh, IsCopyInMesh, AreNumbered, IsInMesh, IsEvent}
 use Rattle.mesh_model.specs.Accounts.{Test, total, total_below, counts, in_item, in_store, in_copy, waiting, queued_data, in_flight, given_data, doubled_data, in_found, in_taken, delivered_data, in_dropped, dropped_data, over_run, over_worlds}
 use Rattle.mesh_model.proofs.Totals.{total-append, total-set, total_below_same}
 use Rattle.mesh_model.proofs.AccountTurns.{IsAccounted, turn_accounted, send_accounted, ask_accounted}

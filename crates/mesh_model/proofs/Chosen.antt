@@ -4,7 +4,7 @@ use Rattle.std.specs.Prelude.{slice_get}
 use Rattle.std.specs.List.{AllByRecursion}
 use Rattle.aodv_model.proofs.Entries.{if_case}
 use Rattle.mesh_model.specs.Choices.{least_from, beside, least_pair_from, may_turn_in, may_send_in, may_ask_in, first_turn, first_send_in, first_ask_in, first_send, first_ask, first_copy, first_of, pick, IsChoice}
-use Rattle.mesh_model.specs.Places.{IsEvent}
+use Rattle.mesh_model.specs.InMesh.{IsEvent}
 use Rattle.mesh_model.specs.Worlds.{World, Node, Event, Turn, Send, Ask, Deliver}
 use Rattle.mesh_model.specs.Laws.{PickIsEnabled}
 use Rattle.mesh_model.proofs.Picks.{pick_goes}

@@ -5,7 +5,7 @@ use Rattle.std.proofs.lemmas.Bool.{cases_eq, eqb-true}
 use Rattle.std.proofs.lemmas.Option.{none-some, same_Some}
 use Rattle.aodv_model.specs.Cores.{Item}
 use Rattle.aodv_model.specs.Handlers.{may_send, may_ask}
-use Rattle.mesh_model.specs.Places.{AreNumbered, IsInMesh, IsEvent}
+use Rattle.mesh_model.specs.InMesh.{AreNumbered, IsInMesh, IsEvent}
 use Rattle.mesh_model.specs.Worlds.{World, Node, Copy, Event, Turn, Send, Ask, Deliver, Outcome, Idle, turn_of, send_of, ask_of, at_node, at_copy, find_copy, step}
 use Rattle.mesh_model.specs.Choices.{waits, least_from, beside, least_pair_from, may_turn_in, may_send_in, may_ask_in, first_turn, first_send_in, first_ask_in, first_send, first_ask, first_copy, first_of, pick, IsChoice, IsPairNoLater, IsNoLater}
 use Rattle.mesh_model.specs.Laws.{PickIsLeast}

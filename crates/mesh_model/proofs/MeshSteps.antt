@@ -26,7 +26,7 @@ use Rattle.mesh_base.specs.Members.{NodeIds}
 use Rattle.mesh_base.specs.declared.events.Counter.{Counter}
 use Rattle.mesh_model.proofs.Lists.{each_append, each_map}
 use Rattle.mesh_model.proofs.Steps.{each_node, found_honest, without_honest}
-use Rattle.mesh_model.specs.Places.{AreLinks, AreNumbered, IsCopyInMesh, IsEvent, IsInMesh, IsNodeInMesh}
+use Rattle.mesh_model.specs.InMesh.{AreLinks, AreNumbered, IsCopyInMesh, IsEvent, IsInMesh, IsNodeInMesh}
 use Rattle.mesh_model.specs.Worlds.{is_parcel, Ask, Changed, Copy, CopyDoubled, CopyHeard, CopyLost, Cut, Deliver, Double, Event, Give, Next, Idle, Link, Lose, Node, Outcome, Send, Sent, Turn, World, after, are_linked, ask_of, at_copy, at_node, copies, copies_of, copies_to, done_by, double_of, find_copy, linked_below, members_below, pair, push, range, receivers, send_of, step, turn_of, unless_full, with_double, with_item, with_link, without, without_copy, without_link}
 
 below_case : (links : Pairs) (a n y : ℕ) (b : Bool) → are_linked links a n ≡ b → (sets.contains (linked_below links a n) y ≡ true → (y < n) × (are_linked links a y ≡ true))
@@ -296,7 +296,7 @@ opening_placed size v ip [] all x n is = absurd (none-some n is)
 opening_placed size v ip (first ∷ firsts) all zero n is =
     subst (IsNodeInMesh size (ip + 0)) (same_Some _ n is) (record {
       named = omega arith;
-      core = record { own = all.0; table = record { numbers = λ d e there. absurd (none-some e (sym (maps.get-empty nat_cmp d) ∙ there)); places = λ d e there. absurd (none-some e (sym (maps.get-empty nat_cmp d) ∙ there)) } };
+      core = record { own = all.0; table = record { numbers = λ d e there. absurd (none-some e (sym (maps.get-empty nat_cmp d) ∙ there)); in_mesh = λ d e there. absurd (none-some e (sym (maps.get-empty nat_cmp d) ∙ there)) } };
       store = λ d s there. absurd (none-some s (sym (maps.get-empty nat_cmp d) ∙ there));
       queue = tt;
     })

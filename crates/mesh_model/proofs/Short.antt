@@ -9,7 +9,7 @@ use Rattle.aodv_model.specs.declared.entry.Entry.{Entry}
 use Rattle.mesh_model.proofs.Acyclic.{IsBetter, better_then, edge_better, node_in}
 use Rattle.mesh_model.proofs.Lists.{each_map}
 use Rattle.mesh_model.specs.Invariants.{IsLoopSafe, IsInvariant}
-use Rattle.mesh_model.specs.Places.{IsInMesh}
+use Rattle.mesh_model.specs.InMesh.{IsInMesh}
 use Rattle.mesh_model.specs.Walks.{Edge, IsWalk}
 use Rattle.mesh_model.specs.Worlds.{World}
 
@@ -53,23 +53,23 @@ distinct w d x (y ∷ ys) inv walk = (apart x (y ∷ ys) (not_again w d x y x y 
 -- ---- each node of a walk is in the mesh
 
 pub edge_within : (w : World) (d x y : ℕ) → IsInMesh w → Edge w d x y → (x < length w.nodes) × (y < length w.nodes)
-edge_within w d x y places edge =
+edge_within w d x y in_mesh edge =
     let n = node_in w x d edge.entry (slice_get w.nodes x) refl edge.there in
-    (slice_get_within w.nodes x n.0 n.1, subst (λ k. k < length w.nodes) edge.next ((places.nodes x n.0 n.1).core.table.places d edge.entry n.2).near)
+    (slice_get_within w.nodes x n.0 n.1, subst (λ k. k < length w.nodes) edge.next ((in_mesh.nodes x n.0 n.1).core.table.in_mesh d edge.entry n.2).near)
 
 pub either : (n q x : ℕ) (b c : Bool) → eqb q x ≡ b → x < n → (c ≡ true → q < n) → (b || c) ≡ true → q < n
 either n q x true c e lx rest is = subst (λ k. k < n) (sym (eqb-true q x e)) lx
 either n q x false c e lx rest is = rest is
 
 within : (w : World) (d x : ℕ) (ys : List ℕ) → IsInMesh w → x < length w.nodes → IsWalk w d (x ∷ ys) → (q : ℕ) → list_any (eqb q) (x ∷ ys) ≡ true → q < length w.nodes
-within w d x [] places lx walk q is = either (length w.nodes) q x (eqb q x) false refl lx (λ e. cc) is
-within w d x (y ∷ ys) places lx walk q is =
-    either (length w.nodes) q x (eqb q x) _ refl lx (within w d y ys places (edge_within w d x y places walk.0).1 walk.1 q) is
+within w d x [] in_mesh lx walk q is = either (length w.nodes) q x (eqb q x) false refl lx (λ e. cc) is
+within w d x (y ∷ ys) in_mesh lx walk q is =
+    either (length w.nodes) q x (eqb q x) _ refl lx (within w d y ys in_mesh (edge_within w d x y in_mesh walk.0).1 walk.1 q) is
 
--- a walk has no more places than there are nodes
+-- a walk is no longer than there are nodes
 pub walk_short : (w : World) (d x : ℕ) (ys : List ℕ) → IsLoopSafe w → IsInMesh w → x < length w.nodes → IsWalk w d (x ∷ ys) → length (x ∷ ys) ≤ length w.nodes
-walk_short w d x ys inv places lx walk =
-    length-le_from_distinct_below (x ∷ ys) (length w.nodes) (distinct w d x ys inv walk) (within w d x ys places lx walk)
+walk_short w d x ys inv in_mesh lx walk =
+    length-le_from_distinct_below (x ∷ ys) (length w.nodes) (distinct w d x ys inv walk) (within w d x ys in_mesh lx walk)
 
 pub walk_is_short : (w : World) (d x : ℕ) (ys : List ℕ) → IsInvariant w → x < length w.nodes → IsWalk w d (x ∷ ys) → length (x ∷ ys) ≤ length w.nodes
 walk_is_short w d x ys inv lx walk = walk_short w d x ys inv.loop_safe inv.in_mesh lx walk

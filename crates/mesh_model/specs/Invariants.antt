@@ -12,7 +12,7 @@ use Rattle.aodv_model.specs.Cores.{RouteRequest, RouteReply, Message, Pkt, Rreq,
 use Rattle.aodv_model.specs.Soundness.{HasSoundNumbers}
 use Rattle.mesh_model.specs.Worlds.{World, Node, Copy}
 use Rattle.mesh_model.specs.Walks.{table}
-use Rattle.mesh_model.specs.Places.{IsInMesh}
+use Rattle.mesh_model.specs.InMesh.{IsInMesh}
 
 -- the entry's number is above n, or it is n, and the entry is valid with at most h hops
 abbrev pub IsAtLeast : Entry → ℕ → ℕ → Type 0

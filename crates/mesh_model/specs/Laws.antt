@@ -10,7 +10,7 @@ use Rattle.aodv_model.specs.declared.entry.Flag.TheVariants.{Val}
 use Rattle.aodv_model.specs.Quality.{is_better}
 use Rattle.mesh_model.specs.Worlds.{World, Event, Idle, Full, step, after, run, start, AreFirstNumbers}
 use Rattle.mesh_model.specs.Walks.{table, Edge, IsWalk, Cycle}
-use Rattle.mesh_model.specs.Places.{IsInMesh, IsEvent}
+use Rattle.mesh_model.specs.InMesh.{IsInMesh, IsEvent}
 use Rattle.mesh_model.specs.Invariants.{IsLoopSafe, IsInvariant}
 use Rattle.mesh_model.specs.Accounts.{Test, waiting, queued_data, in_flight, given_data, doubled_data, doubled_at, delivered_data, dropped_data, any, over_run, over_worlds}
 use Rattle.mesh_model.specs.Trails.{HonestWalk, HasWalks}
@@ -68,7 +68,7 @@ BetterAlongEdges =
     → maps.get (table w y) d ≡ Some e → e.flag ≡ Val
     → is_better e edge.entry ≡ true
 
--- a walk from a node has at most as many places as there are nodes
+-- a walk from a node is a list of at most as many nodes as there are
 abbrev pub WalkIsShort : Type 0
 WalkIsShort =
     (w : World) (d x : ℕ) (ys : List ℕ) → IsInvariant w → x < length w.nodes → IsWalk w d (x ∷ ys)

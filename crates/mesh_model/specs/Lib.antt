@@ -5,8 +5,8 @@ pub mod Numbered
 pub mod Worlds
 -- Walks: the valid routes of a world as a graph, and its cycles.
 pub mod Walks
--- Places: that all which a world names is in its mesh, and which events are of a mesh.
-pub mod Places
+-- InMesh: that all which a world names is in its mesh, and which events are of a mesh.
+pub mod InMesh
 -- Invariants: what holds of every world of every run, and why routes can't go round.
 pub mod Invariants
 -- Accounts: where the data are, and how they come and go.

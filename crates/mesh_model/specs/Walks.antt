@@ -35,7 +35,7 @@ abbrev pub last : ℕ → List ℕ → ℕ
 last x [] = x
 last x (y ∷ ys) = last y ys
 
--- a walk of two or more places with equal first and last nodes
+-- a walk of two or more nodes, the last of which is the first
 pub record Cycle (w : World) (d : ℕ) : Type 0 where
   pub first : ℕ
   pub second : ℕ

@@ -36,7 +36,7 @@ pub fn better_along_edges()
     ensures { BetterAlongEdges }
 {}
 
-/// A walk has at most as many places as there are nodes.
+/// A walk is a list of at most as many nodes as there are.
 pub fn walk_is_short()
     ensures { WalkIsShort }
 {}

@@ -21,7 +21,7 @@ impl Lent for Brand {
 }
 
 /// Memory that is written from its start on, up to its end. Its type says which borrow it is, so
-/// whatever a call that is handed it does, the reference stays in its place; what stands behind the
+/// whatever a call that is handed it does, the reference stays where it is; what stands behind the
 /// bytes that were put is as it was; and where a call has failed there is no room left.
 #[derive(Drop)]
 pub struct Sheet<'s, L: Lent> {
@@ -36,7 +36,7 @@ pub struct Sheet<'s, L: Lent> {
     pub ghost full: { failed ≢ 0 → len ≡ length L.start },
 }
 
-// Copies a prefix of the piece to the memory from a place on, as much as fits, and says how much.
+// Copies a prefix of the piece to the memory from an offset on, as much as fits, and says how much.
 fn lay(memory: &mut [u8], at: usize, piece: &[u8]) -> usize
     requires { at ≤ length memory.old }
     ensures count { result ≡ min (length piece.now) (length memory.old - at) }

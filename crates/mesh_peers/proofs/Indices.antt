@@ -5,12 +5,12 @@ use Rattle.std.proofs.lemmas.Bool.{cases_lt, cases_eq}
 use Rattle.std.proofs.lemmas.Bool.Decides.{nat_tests}
 use Rattle.std.proofs.lemmas.List.Edits.{length-insert, get_or-insert_at, get_or-insert_below, get_or-insert_above}
 use Rattle.mesh_base.specs.Meshes.{Nodes, IsMesh, addr_at, index_of, with_node}
-use Rattle.mesh_base.proofs.PartLaws.{place_le}
+use Rattle.mesh_base.proofs.PartLaws.{prefix_len_le}
 use Rattle.mesh_base.proofs.WrittenForms.{index_of-at}
 use Rattle.mesh_peers.specs.Peers.{PeersSeen, index_for, moved_index, with_self, with_peer, ArePeers}
 
 pub index_within : (mesh : Nodes) (a : ℕ) → index_for mesh a ≤ length mesh
-index_within mesh a = place_le (λ q. not (ltb a q.0)) mesh
+index_within mesh a = prefix_len_le (λ q. not (ltb a q.0)) mesh
 
 -- one more node is found at its index
 pub found_there : (mesh now : Nodes) (a first : ℕ) → now ≡ with_node mesh a first → IsMesh now → index_of now a ≡ Some (index_for mesh a)

@@ -2,7 +2,7 @@
 ghost use Rattle.std.specs.Prelude.{◌≡◌, ◌≤◌, length, IfOk};
 ghost use Rattle.std.specs.Fmt.{decimal};
 ghost use Rattle.mesh_grammar.specs.Forms.{AreOfForm};
-ghost use Rattle.mesh_script.specs.Arguments.{spanned_of, places_of};
+ghost use Rattle.mesh_script.specs.Arguments.{spanned_of, indices_of};
 ghost use Rattle.mesh_peers.specs.Lines as lines;
 ghost use Rattle.mesh_peers.specs.Seen.{said_of, accepted_of, seen_line, form_of, IsSaidIn, HasSelf, IsAllowed};
 
@@ -12,7 +12,7 @@ use crate::peers::Peers;
 use crate::shape::{Shape, shape_of};
 use mesh_base::MOST_NODES;
 use mesh_grammar::{LineFault, Span};
-use mesh_script::{Arguments, SpannedAddr, placed};
+use mesh_script::{Arguments, SpannedAddr, indexed};
 
 // No line but `self` and `peer` comes before the node itself is named.
 fn after_self(peers: &Peers) -> Result<(), LineFault>
@@ -40,8 +40,8 @@ fn make_line<'a>(
     command: Command,
     arguments: Arguments<'a, usize>,
 ) -> Result<NodeLine<'a>, LineFault>
-    requires form { AreOfForm (form_of command) (places_of arguments) }
-    ensures { seen_line result ≡ lines.made_line peers.now.me command (places_of arguments.entry) }
+    requires form { AreOfForm (form_of command) (indices_of arguments) }
+    ensures { seen_line result ≡ lines.made_line peers.now.me command (indices_of arguments.entry) }
 {
     match (command, arguments) {
         (Command::Up, Arguments::OneAddress(node)) => of_other(peers, node, NodeLine::Up { node }),
@@ -158,7 +158,7 @@ fn line_at<'a>(
         return new_peer(peers, started, size, node, port as u16);
     }
     after_self(peers)?;
-    let arguments = placed(peers.mesh(), &shape.arguments)?;
+    let arguments = indexed(peers.mesh(), &shape.arguments)?;
     make_line(peers, shape.command, arguments)
 }
 

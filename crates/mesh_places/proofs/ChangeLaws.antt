@@ -9,7 +9,7 @@ use Rattle.mesh_base.specs.Members.{NodeIds}
 use Rattle.mesh_base.specs.Meshes.{Nodes}
 use Rattle.aodv_model.specs.Pairs.{Pairs, pair_cmp}
 use Rattle.mesh_model.specs.Worlds.{World, Event, Link, Cut, Idle, Next, Full, Changed, step, with_link, without_link, are_linked, linked_below, pair, range, start, first_numbers}
-use Rattle.mesh_model.specs.Places.{IsEvent}
+use Rattle.mesh_model.specs.InMesh.{IsEvent}
 use Rattle.mesh_io.specs.Puts.{AppendsPrefix}
 use Rattle.mesh_io.proofs.Writing.{Appends-join, AppendsPrefix-join, AppendsPrefix-more}
 use Rattle.mesh_grammar.proofs.Readings.{if_case}

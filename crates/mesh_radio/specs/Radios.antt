@@ -5,7 +5,7 @@ use Rattle.mesh_base.specs.Members.{NodeIds}
 use Rattle.mesh_base.specs.declared.events.Flying.{Flying}
 use Rattle.aodv_model.specs.Pairs.{Pairs}
 use Rattle.mesh_model.specs.Worlds.{pair, members_below}
-use Rattle.mesh_model.specs.Places.{AreLinks}
+use Rattle.mesh_model.specs.InMesh.{AreLinks}
 use Rattle.mesh_radio.specs.Copies.{without, copies_to}
 
 -- the number of nodes; the links that stand, and those that ever stood, each with the smaller node

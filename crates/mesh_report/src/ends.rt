@@ -1,6 +1,6 @@
 //! The last line of a run, and the line after chosen events.
 ghost use Rattle.std.specs.Prelude.{◌≡◌, ◌+◌, ◌<◌, ◌≤◌, ◌++◌, length, codes};
-ghost use Rattle.mesh_model.specs.Places.{IsEvent};
+ghost use Rattle.mesh_model.specs.InMesh.{IsEvent};
 ghost use Rattle.mesh_meaning.specs.Events.{event_of};
 ghost use Rattle.mesh_grammar.specs.Faults.{at_bytes, fault_text, why_text, bad_line};
 ghost use Rattle.mesh_grammar.specs.Written.{label_number};

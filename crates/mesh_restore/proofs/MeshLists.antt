@@ -7,7 +7,7 @@ use Rattle.mesh_base.specs.declared.limits.TheConstants.{MOST_NODES}
 use Rattle.mesh_base.specs.declared.mesh.MeshError.{MeshError}
 use Rattle.mesh_base.specs.declared.mesh.MeshError.TheVariants as errors
 use Rattle.mesh_base.specs.Meshes.{Nodes, IsMesh, addr_at, index_of, with_node}
-use Rattle.mesh_base.proofs.MeshLaws.{IsPlace, index_of-absent, with_node-is}
+use Rattle.mesh_base.proofs.MeshLaws.{IsIndexFor, index_of-absent, with_node-is}
 use Rattle.mesh_restore.proofs.Listings.{all_weaker, all_push}
 
 -- each address is below a number
@@ -19,7 +19,7 @@ address_below low [] below i lt = absurd (omega arith)
 address_below low (p ∷ ps) below zero lt = below.0
 address_below low (p ∷ ps) below (suc i) lt = address_below low ps below.1 i (omega (arith, lt))
 
-at_end : (mesh : Nodes) (a : ℕ) → AreAddressesBelow a mesh → IsPlace mesh a (length mesh)
+at_end : (mesh : Nodes) (a : ℕ) → AreAddressesBelow a mesh → IsIndexFor mesh a (length mesh)
 at_end mesh a below = record {
   within = omega arith;
   below = λ i lt. address_below a mesh below i lt;

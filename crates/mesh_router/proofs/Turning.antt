@@ -150,9 +150,9 @@ took_legible : (mesh : Nodes) (me : ℕ) (core : Core) (front : items.Item) → 
 took_legible mesh me core (item.New dest body) at ok = datum_legible mesh (dest == core.ip) body dest at.0 at.1
 took_legible mesh me core (item.Heard from bytes) at ok = (at.0, refl, record { allowed = ok.allowed; known = ok.known })
 
-placed : (mesh : Nodes) (me : ℕ) (i : items.Item) → IsReadableItem mesh i → IsItemAt (length mesh) me i → IsItemInMesh (length mesh) me (item_in mesh i)
-placed mesh me (item.New dest body) ok at = at
-placed mesh me (item.Heard from bytes) ok at = (at.0, at.1, spelled_in mesh bytes ok.allowed ok.known)
+item_is_in_mesh : (mesh : Nodes) (me : ℕ) (i : items.Item) → IsReadableItem mesh i → IsItemAt (length mesh) me i → IsItemInMesh (length mesh) me (item_in mesh i)
+item_is_in_mesh mesh me (item.New dest body) ok at = at
+item_is_in_mesh mesh me (item.Heard from bytes) ok at = (at.0, at.1, spelled_in mesh bytes ok.allowed ok.known)
 
 -- ---- the next turn
 
@@ -190,7 +190,7 @@ turn_meant p me node new near heard sent dropped d t out is mine sound size h to
     let reaction = turn node.core near i in
     let all : AllByRecursion (IsItemAt node.size (node.core).ip) (h.front ∷ new.items) = subst (λ (xs : List items.Item). AllByRecursion (IsItemAt node.size (node.core).ip) xs) h.was sound.each in
     let at : IsItemAt (length mesh) (node.core).ip h.front = subst (λ (n : ℕ). IsItemAt n (node.core).ip h.front) size all.0 in
-    let here : IsItemInMesh node.size (node.core).ip i = subst (λ (n : ℕ). IsItemInMesh n (node.core).ip i) (sym size) (placed mesh (node.core).ip h.front h.readable at) in
+    let here : IsItemInMesh node.size (node.core).ip i = subst (λ (n : ℕ). IsItemInMesh n (node.core).ip i) (sym size) (item_is_in_mesh mesh (node.core).ip h.front h.readable at) in
     let reacts = turn_keeps_core node.size node.core near i sound.sound sound.store here in
     let names = turn_names_the_mesh node.size node.core near i sound.mine sound.sound here in
     let m : IsEffectMeant mesh d.effect reaction.effect out =

@@ -10,7 +10,7 @@ use Rattle.mesh_io.specs.Puts.{AppendsPrefix}
 use Rattle.mesh_io.proofs.Writing.{AppendsPrefix-none}
 use Rattle.mesh_model.specs.Worlds as worlds
 use Rattle.mesh_model.specs.Worlds.{World, Event, Outcome, Idle, Next}
-use Rattle.mesh_model.specs.Places.{IsEvent}
+use Rattle.mesh_model.specs.InMesh.{IsEvent}
 use Rattle.mesh_meaning.specs.Events.{event_of, node_of}
 use Rattle.mesh_meaning.specs.Answers.{outcome_in}
 use Rattle.mesh_text.specs.Lines.{words_of}

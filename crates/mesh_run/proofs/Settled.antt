@@ -9,7 +9,7 @@ use Rattle.mesh_grammar.specs.declared.fault.BadWhy.TheVariants.{Fault as LineFa
 use Rattle.mesh_io.specs.Puts.{AppendsPrefix}
 use Rattle.mesh_io.proofs.Writing.{Appends-join, AppendsPrefix-join, AppendsPrefix-more}
 use Rattle.mesh_meaning.specs.Events.{event_of}
-use Rattle.mesh_model.specs.Places.{IsEvent}
+use Rattle.mesh_model.specs.InMesh.{IsEvent}
 use Rattle.mesh_shell.specs.Fold as shell
 use Rattle.mesh_shell.specs.Outputs as outputs
 use Rattle.mesh_shell.specs.Causes.{HasFaultCause}

@@ -11,7 +11,7 @@ use Rattle.mesh_base.specs.declared.events.Variant.{Variant}
 use Rattle.mesh_base.specs.declared.events.Done.{Done}
 use Rattle.mesh_model.specs.Worlds.{World, Event, Outcome, step, after, start, first_numbers}
 use Rattle.mesh_model.specs.Accounts.{any, waiting, queued_data, in_flight}
-use Rattle.mesh_model.specs.Places.{IsEvent}
+use Rattle.mesh_model.specs.InMesh.{IsEvent}
 use Rattle.mesh_model.proofs.AccountSteps.{start_empty}
 use Rattle.mesh_model.proofs.Sizes.{start_size}
 use Rattle.mesh_meaning.specs.Events.{node_of}

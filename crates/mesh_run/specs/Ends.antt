@@ -8,7 +8,7 @@ use Rattle.mesh_grammar.specs.declared.fault.BadWhy.TheVariants.{Fault, TooLong,
 use Rattle.mesh_io.specs.Cause.{Rose}
 use Rattle.mesh_io.specs.Puts.{AppendsPrefix}
 use Rattle.mesh_meaning.specs.Events.{event_of}
-use Rattle.mesh_model.specs.Places.{IsEvent}
+use Rattle.mesh_model.specs.InMesh.{IsEvent}
 use Rattle.mesh_shell.specs.declared.fault.Fault.{Fault as ShellFault}
 use Rattle.mesh_shell.specs.declared.fault.Fault.TheVariants.{ReadFault, WriteFault, NoMemory}
 use Rattle.mesh_shell.specs.declared.limit.Limit.{Limit}

@@ -1,6 +1,6 @@
 //! The choice of the next event.
 ghost use Rattle.std.specs.Prelude.{◌≡◌, ◌<◌, ◌≤◌, length, is_some, true, IfSome, option_map};
-ghost use Rattle.mesh_model.specs.Places.{IsEvent};
+ghost use Rattle.mesh_model.specs.InMesh.{IsEvent};
 ghost use Rattle.mesh_model.specs.Choices.{pick, first_copy};
 ghost use Rattle.mesh_meaning.specs.Events.{event_of};
 ghost use Rattle.mesh_text.specs.Lines.{event_command};

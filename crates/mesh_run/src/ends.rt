@@ -1,7 +1,7 @@
 //! The ends of a run, each with its last line.
 ghost use Rattle.std.specs.Prelude.{◌≡◌, ◌<◌, ◌+◌, length, IfOk, IsErrOf};
 ghost use Rattle.mesh_base.specs.Bounds.{most_lines};
-ghost use Rattle.mesh_model.specs.Places.{IsEvent};
+ghost use Rattle.mesh_model.specs.InMesh.{IsEvent};
 ghost use Rattle.mesh_grammar.specs.Faults.{bad_line};
 ghost use Rattle.mesh_meaning.specs.Events.{event_of};
 ghost use Rattle.mesh_text.specs.Lines.{done_line, full_line};

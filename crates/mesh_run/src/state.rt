@@ -6,7 +6,7 @@ ghost use Rattle.mesh_base.specs.declared.limits.TheConstants.{MOST_NODES};
 ghost use Rattle.mesh_base.specs.Meshes.{IsMesh, with_node};
 ghost use Rattle.mesh_model.specs.Worlds.{Deliver};
 ghost use Rattle.mesh_model.specs.Choices.{pick};
-ghost use Rattle.mesh_model.specs.Places.{IsEvent};
+ghost use Rattle.mesh_model.specs.InMesh.{IsEvent};
 ghost use Rattle.mesh_model.specs.Accounts.{any, waiting, queued_data, in_flight};
 ghost use Rattle.mesh_meaning.specs.Events.{event_of};
 ghost use Rattle.mesh_text.specs.Schedule as model;

@@ -19,7 +19,7 @@ use Rattle.aodv_model.specs.Quality.{is_kno, is_val}
 use Rattle.aodv_model.specs.Tables.{Table}
 use Rattle.aodv_model.specs.Pairs.{Pairs, pair_cmp, pairs_in}
 use Rattle.aodv_model.specs.Cores.{Body, Waiting, Store, Core}
-use Rattle.aodv_model.specs.Soundness.{IsDatum, HasSoundNumber, AreBelow, IsPlaced, IsSoundTable, IsSoundCore, IsWaitingInMesh, IsStoreInMesh}
+use Rattle.aodv_model.specs.Soundness.{IsDatum, HasSoundNumber, AreBelow, IsEntryInMesh, IsSoundTable, IsSoundCore, IsWaitingInMesh, IsStoreInMesh}
 use Rattle.aodv_node.specs.Seen.{NodeSeen, IsItemAt, IsSoundNode}
 use Rattle.mesh_checkpoint.specs.declared.limits.TheConstants.{LONGEST_BODY, LONGEST_HEARD}
 use Rattle.mesh_checkpoint.specs.Formats.{truth}
@@ -59,23 +59,23 @@ members_fit size s small below =
     let each = members-all (IsFit (index size)) size s (λ q is. index_fits size q (below q is)) in
     subst (IsFit (indices size)) (sym same) (rising_fits (λ i. i) any16 (index size) (members_below size s) many each up)
 
-route_fits : (size ip : ℕ) (rt : Table) (d : ℕ) (e : Entry) → size ≤ MOST_NODES → HasSoundNumber d e → IsPlaced size ip rt d e → (e.dsn < 2 ^ 32) × (e.hops < 2 ^ 8) → IsFit (route size) (route_of (d, e))
-route_fits size ip rt d e small number place narrow =
-    and_from _ _ (index_fits size d place.dest)
+route_fits : (size ip : ℕ) (rt : Table) (d : ℕ) (e : Entry) → size ≤ MOST_NODES → HasSoundNumber d e → IsEntryInMesh size ip rt d e → (e.dsn < 2 ^ 32) × (e.hops < 2 ^ 8) → IsFit (route size) (route_of (d, e))
+route_fits size ip rt d e small number in_mesh narrow =
+    and_from _ _ (index_fits size d in_mesh.dest)
     (and_from _ _ (is_in 0 (2 ^ 32) e.dsn (omega arith) narrow.0)
     (and_from _ _ (truth_fits (is_kno e.dsk))
     (and_from _ _ (truth_fits (is_val e.flag))
     (and_from _ _ (is_in 1 256 e.hops number.hops narrow.1)
-    (and_from _ _ (index_fits size e.next place.near) (members_fit size e.pre small place.pre))))))
+    (and_from _ _ (index_fits size e.next in_mesh.near) (members_fit size e.pre small in_mesh.pre))))))
 
 pub routes_fit : (size ip : ℕ) (rt : Table) → size ≤ MOST_NODES → IsSoundTable size ip rt → AreEntriesNarrow rt → IsFit (routes size) (routes_in rt)
 unfolding routes_in
 routes_fit size ip rt small sound narrow =
     let es = maps.entries rt in
-    let below : AllByRecursion (λ e. e.0 < size) es = each_entry nat_cmp nat_cmp_total (λ d e. d < size) rt (λ d e there. (sound.places d e there).dest) in
+    let below : AllByRecursion (λ e. e.0 < size) es = each_entry nat_cmp nat_cmp_total (λ d e. d < size) rt (λ d e there. (sound.in_mesh d e there).dest) in
     let each : AllByRecursion (λ e. IsFit (route size) (route_of e)) es =
     each_entry nat_cmp nat_cmp_total (λ d e. IsFit (route size) (route_of (d, e))) rt
-    (λ d e there. route_fits size ip rt d e small (sound.numbers d e there) (sound.places d e there) (narrow d e there)) in
+    (λ d e there. route_fits size ip rt d e small (sound.numbers d e there) (sound.in_mesh d e there) (narrow d e there)) in
     let up = numbers_rise rt size below in
     let many = is_in 0 (2 ^ 16) (length (map route_of es)) (omega arith) (omega (arith, length-map es route_of, few (λ e. e.0) size es up below, small)) in
     rising_fits (λ r. r.dest) any16 (route size) (map route_of es) many (all_mapped route_of (IsFit (route size)) es each) (rise_mapped route_of (λ r. r.dest) 0 es up)

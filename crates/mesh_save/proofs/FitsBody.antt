@@ -29,7 +29,7 @@ use Rattle.aodv_meaning.specs.Sent.{pair_by_address, pairs_of}
 use Rattle.aodv_meaning.specs.Effects.{item_in}
 use Rattle.mesh_model.specs.Numbered.{AreNumberedBy}
 use Rattle.mesh_model.specs.Worlds as model
-use Rattle.mesh_model.specs.Places.{AreLinks, IsCopyInMesh, IsNodeInMesh, IsInMesh}
+use Rattle.mesh_model.specs.InMesh.{AreLinks, IsCopyInMesh, IsNodeInMesh, IsInMesh}
 use Rattle.mesh_meaning.specs.Packets.{packet_of, IsWrittenItem, IsWrittenCopy, copy_in}
 use Rattle.mesh_text.specs.Schedule.{RunState}
 use Rattle.mesh_checkpoint.specs.declared.limits.TheConstants.{LONGEST_BODY, SUMS_END, MOST_STEPS, GREATEST_NEXT_ID}

@@ -10,7 +10,7 @@ use Rattle.aodv_model.specs.Pairs.{Pairs}
 use Rattle.aodv_asked.specs.Requests.{ids_below}
 use Rattle.aodv_asked.proofs.Listed.{ids_none}
 use Rattle.mesh_model.specs.Worlds.{are_linked, linked_below}
-use Rattle.mesh_model.specs.Places.{AreLinks}
+use Rattle.mesh_model.specs.InMesh.{AreLinks}
 
 pub in_order : (pairs : Pairs) (a b : ℕ) → a < b → are_linked pairs a b ≡ sets.contains pairs (a, b)
 in_order pairs a b lt =

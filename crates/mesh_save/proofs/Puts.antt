@@ -49,7 +49,7 @@ module _ {S : Type 0} (wrote : S → List ℕ → S → Type 0) (joins : (p q r 
           let one : k + 1 ≡ suc k = omega arith in
           ap (λ n. take n xs) one ∙ take-suc xs k x (slice_get_within xs k x there) ∙ ap (λ z. take k xs ++ z ∷ []) (get_or_from_slice_get xs k x x there)
 
-  -- the same, where the values are found by their places
+  -- the same, where the values are found by their indices
   pub next_at : {X : Type 0} (f : X → List ℕ) (xs : List X) (k : ℕ) (d : X) (p q r : S) → k < length xs → wrote p (flat_map f (take k xs)) q → wrote q (f (get_or xs k d)) r → wrote p (flat_map f (take (k + 1) xs)) r
   next_at {X} f xs k d p q r lt one two =
       let up : k + 1 ≡ suc k = omega arith in

@@ -18,7 +18,7 @@ use Rattle.mesh_save.proofs.Puts.{all_entries}
 -- ---- routes
 
 dests_below : (size ip : ℕ) (rt : Table) (n : ℕ) → IsSoundTable size ip rt → size ≤ n → (k : ℕ) (e : Entry) → maps.get rt k ≡ Some e → k < n
-dests_below size ip rt n sound le k e there = omega (arith, (sound.places k e there).dest, le)
+dests_below size ip rt n sound le k e there = omega (arith, (sound.in_mesh k e there).dest, le)
 
 pub routes_count : (size ip : ℕ) (rt : Table) (n count : ℕ) → IsSoundTable size ip rt → size ≤ n → count ≡ length (below n rt) → count ≡ length (routes_in rt)
 unfolding routes_in

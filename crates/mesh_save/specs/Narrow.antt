@@ -6,7 +6,7 @@ use Rattle.aodv_model.specs.Tables.{Table}
 use Rattle.aodv_model.specs.Cores.{Core}
 use Rattle.mesh_base.specs.Meshes.{Nodes}
 use Rattle.mesh_model.specs.Worlds.{World, Node}
-use Rattle.mesh_model.specs.Places.{IsInMesh}
+use Rattle.mesh_model.specs.InMesh.{IsInMesh}
 use Rattle.mesh_save.specs.Requests.{AreRequestsOf}
 
 -- an entry's number has 32 bits, and its hops 8

@@ -15,10 +15,10 @@ are_other xs ys h = by_test (bytes_eq xs ys) refl
 pub other_length : (xs ys : List ℕ) → length xs ≢ length ys → false ≡ bytes_eq xs ys
 other_length xs ys h = are_other xs ys (λ e. h (ap length e))
 
--- lists that differ at one place
+-- lists that differ at one index
 pub other_byte : (xs ys : List ℕ) (k : ℕ) → get_or xs k 0 ≢ get_or ys k 0 → false ≡ bytes_eq xs ys
 other_byte xs ys k h = are_other xs ys (λ e. h (ap (λ (l : List ℕ). get_or l k 0) e))
 
--- lists with the same bytes at all places
+-- lists with the same bytes at all indices
 pub same_bytes : (xs ys : List ℕ) → length xs ≡ length ys → ((k : ℕ) → k < length xs → get_or xs k 0 ≡ get_or ys k 0) → true ≡ bytes_eq xs ys
 same_bytes xs ys e same = sym ((bytes_eq-Decides xs ys).1 (ext_get_or 0 xs ys e same))

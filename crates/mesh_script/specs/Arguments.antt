@@ -22,12 +22,12 @@ arguments_by f (arguments.AddressesAndText a b text) = forms.AddressesAndText (f
 arguments_by f (arguments.AddressAndNumber a n) = forms.AddressAndNumber (f a) n
 arguments_by f (arguments.AddressAndText a text) = forms.AddressAndText (f a) text.now
 
--- as they are read, placed in a mesh, and written
+-- as they are read, indexed in a mesh, and written
 abbrev pub all_spanned_of : Arguments SpannedAddr → forms.Arguments words.SpannedAddr
 all_spanned_of a = arguments_by spanned_of a
 
-abbrev pub places_of : Arguments ℕ → forms.Arguments ℕ
-places_of a = arguments_by (λ x. x) a
+abbrev pub indices_of : Arguments ℕ → forms.Arguments ℕ
+indices_of a = arguments_by (λ x. x) a
 
 abbrev pub addresses_of : Arguments Addr → forms.Arguments ℕ
 addresses_of a = arguments_by (λ x. x.0) a
@@ -38,9 +38,9 @@ abbrev pub all_spanned_in : Result (Arguments SpannedAddr) LineFault
 all_spanned_in (Ok a) = Ok (all_spanned_of a)
 all_spanned_in (Err f) = Err f
 
-abbrev pub places_in : Result (Arguments ℕ) LineFault → Result (forms.Arguments ℕ) LineFault
-places_in (Ok a) = Ok (places_of a)
-places_in (Err f) = Err f
+abbrev pub indices_in : Result (Arguments ℕ) LineFault → Result (forms.Arguments ℕ) LineFault
+indices_in (Ok a) = Ok (indices_of a)
+indices_in (Err f) = Err f
 
 -- the most bytes that arguments have as they are written, each after its space
 abbrev pub width_of : forms.Arguments ℕ → ℕ

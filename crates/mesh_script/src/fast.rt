@@ -66,7 +66,7 @@ pub fn fast_line<'a>(bytes: &'a [u8], mesh: &Mesh) -> Option<Line<'a>>
     ensures { IfSome result
         (λ l. (started : Bool) → line_of mesh.now started bytes.now ≡ Ok (accepted_of l)) }
 {
-    // A slice has fewer than 2^63 bytes: no place in it overflows.
+    // A slice has fewer than 2^63 bytes: no index into it overflows.
     let _length = bytes.len();
     if let Some(word) = after_turn(bytes) {
         return turn(word, mesh);

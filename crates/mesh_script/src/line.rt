@@ -1,7 +1,7 @@
 //! A line of a schedule.
 use mesh_base::{Addr, Event};
 
-/// A line that is allowed at its place. A node stands here as its index in the mesh.
+/// A line that is allowed where it stands. A node stands here as its index in the mesh.
 #[derive(Clone, Copy)]
 pub enum Line<'a> {
     /// An empty line or a remark.

@@ -1,10 +1,10 @@
-//! Whether a line is allowed at its place.
+//! Whether a line is allowed where it stands.
 ghost use Rattle.std.specs.Prelude.{◌≡◌, ◌<◌, IfOk, IfErr, Some, None, Ok};
 ghost use Rattle.mesh_base.specs.Meshes.{index_of};
 ghost use Rattle.mesh_meaning.specs.Events.{event_of};
 ghost use Rattle.mesh_text.specs.Ranges.{IsEcho};
 ghost use Rattle.mesh_text.specs.Schedule as schedule;
-ghost use Rattle.mesh_script.specs.Arguments.{spanned_of, all_spanned_of, places_of, places_in};
+ghost use Rattle.mesh_script.specs.Arguments.{spanned_of, all_spanned_of, indices_of, indices_in};
 ghost use Rattle.mesh_script.specs.Shapes.{said_of};
 ghost use Rattle.mesh_script.specs.Seen.{seen_line, accepted_of, short_count, IsAllowed, HasNodes};
 
@@ -36,11 +36,11 @@ fn index(mesh: &Mesh, node: SpannedAddr) -> Result<usize, LineFault>
 }
 
 /// Arguments with each node by its index. The leftmost address that is no node is the fault.
-pub fn placed<'a>(
+pub fn indexed<'a>(
     mesh: &Mesh,
     arguments: &Arguments<'a, SpannedAddr>,
 ) -> Result<Arguments<'a, usize>, LineFault>
-    ensures { places_in result ≡ schedule.with_nodes mesh.now (all_spanned_of arguments.now) }
+    ensures { indices_in result ≡ schedule.with_nodes mesh.now (all_spanned_of arguments.now) }
 {
     match *arguments {
         Arguments::NoArgument => Ok(Arguments::NoArgument),
@@ -101,7 +101,7 @@ fn auto(count: u64) -> Result<Line<'static>, LineFault>
 #[inline(always)]
 fn make_line<'a>(command: Command, arguments: Arguments<'a, usize>) -> Result<Line<'a>, LineFault>
     ensures { seen_line result
-        ≡ short_count (schedule.made_line command (places_of arguments.entry)) }
+        ≡ short_count (schedule.made_line command (indices_of arguments.entry)) }
 {
     match (command, arguments) {
         (Command::Link, Arguments::TwoAddresses(a, b)) => of_pair(a, b, Event::Link { a, b }),
@@ -164,7 +164,7 @@ fn line_at<'a>(said: &Option<Shape<'a>>, mesh: &Mesh, started: bool) -> Result<L
         return new_node(mesh, started, node, first);
     }
     after_nodes(mesh)?;
-    let arguments = placed(mesh, &shape.arguments)?;
+    let arguments = indexed(mesh, &shape.arguments)?;
     make_line(shape.command, arguments)
 }
 

@@ -63,7 +63,7 @@ pub fn shape_of(line: &[u8]) -> Result<Option<Shape<'_>>, LineFault>
         return Ok(None);
     }
     let (word, arguments) = cut(line, b' ');
-    // A slice has fewer than 2^63 bytes: no place in it overflows.
+    // A slice has fewer than 2^63 bytes: no index into it overflows.
     let _length = line.len();
     let Some(row) = row_of(word) else {
         return Err(LineFault::Word(span_at(0, word)));

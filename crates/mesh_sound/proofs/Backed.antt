@@ -10,7 +10,7 @@ use Rattle.aodv_node.specs.Seen.{NodeSeen, IsSoundNode}
 use Rattle.mesh_model.specs.Invariants.{IsBacked}
 use Rattle.mesh_sound.specs.Claims.{AreSized, table, table_in}
 use Rattle.mesh_sound.specs.Edges.{IsBackedAt}
-use Rattle.mesh_sound.proofs.Places.{at}
+use Rattle.mesh_sound.proofs.Indices.{at}
 
 entry_at : (nodes : List NodeSeen) (x d : ℕ) (n : NodeSeen) (e : Entry) → slice_get nodes x ≡ Some n → maps.get (n.core).rt d ≡ Some e → maps.get (table nodes x) d ≡ Some e
 entry_at nodes x d n e at there = ap (λ (o : Option NodeSeen). maps.get (table_in o) d) at ∙ there
@@ -28,7 +28,7 @@ size_of nodes x n sizes is = at (λ (m : NodeSeen). m.size ≡ length nodes) nod
 -- the next hop is one of the nodes
 pub next_near : (nodes : List NodeSeen) (x d : ℕ) (n : NodeSeen) (e : Entry) → AreSized nodes → slice_get nodes x ≡ Some n → IsSoundNode n → maps.get (n.core).rt d ≡ Some e → e.next < length nodes
 next_near nodes x d n e sizes is sound there =
-    let near = (sound.sound.table.places d e there).near in
+    let near = (sound.sound.table.in_mesh d e there).near in
     let size = size_of nodes x n sizes is in
     omega arith
 
@@ -38,7 +38,7 @@ beyond nodes x d n sizes is sound le = by_entry (maps.get (n.core).rt d) (λ e t
   where
     outside : (e : Entry) → maps.get (n.core).rt d ≡ Some e → ⊥
     outside e there =
-        let dest = (sound.sound.table.places d e there).dest in
+        let dest = (sound.sound.table.in_mesh d e there).dest in
         let size = size_of nodes x n sizes is in
         omega arith
 

@@ -8,7 +8,7 @@ use Rattle.aodv_node.specs.Seen.{IsItemAt}
 use Rattle.mesh_radio.specs.Copies.{from_id}
 use Rattle.mesh_radio.proofs.Finds.{from_zero, all-from}
 use Rattle.mesh_sound.specs.Packets.{InItem}
-use Rattle.mesh_sound.proofs.Places.{IsEnough}
+use Rattle.mesh_sound.proofs.Indices.{IsEnough}
 
 pub different : false ≡ true → ⊥
 different e = cc

@@ -1,4 +1,4 @@
-pub mod Places
+pub mod Indices
 pub mod Rising
 pub mod Tables
 pub mod Readings

@@ -4,7 +4,7 @@ use Rattle.std.specs.Prelude.{slice_get}
 use Rattle.std.proofs.lemmas.List.{drop_all}
 use Rattle.mesh_base.specs.declared.addr.Addr.{Addr}
 use Rattle.aodv_wire.specs.RouteError.{IsRising}
-use Rattle.mesh_sound.proofs.Places.{from}
+use Rattle.mesh_sound.proofs.Indices.{from}
 
 -- the addresses rise from this one on
 abbrev pub RisesFrom : ℕ → List (Addr × ℕ) → Type 0
@@ -18,7 +18,7 @@ behind p (q ∷ ps) = (
   λ is. (let le = is.0 in omega arith, (behind q ps).1 is.1),
 )
 
--- the pairs rise where those from a place on rise from an address on
+-- the pairs rise where those from an index on rise from an address on
 abbrev pub IsLeft : List (Addr × ℕ) → ℕ → ℕ → Type 0
 IsLeft ps k low = IsRising ps ↔ RisesFrom low (drop k ps)
 

@@ -46,8 +46,8 @@ abbrev pub last : ℕ → List ℕ → ℕ
 last x [] = x
 last x (y ∷ ys) = last y ys
 
--- a walk of two or more places with equal first and last nodes: valid next hops for d lead back
--- to where they began
+-- a walk of two or more nodes, the last of which is the first: valid next hops for d lead back to
+-- where they began
 pub record Cycle (t : Tables) (d : ℕ) : Type 0 where
   pub first : ℕ
   pub second : ℕ

@@ -1,6 +1,6 @@
 //! One event of a world, and the opening world of some nodes, as the tests of worlds make them.
 ghost use Rattle.std.specs.Prelude.{IsTrue};
-ghost use Rattle.mesh_model.specs.Places.{IsEvent};
+ghost use Rattle.mesh_model.specs.InMesh.{IsEvent};
 ghost use Rattle.mesh_meaning.specs.Events.{event_of};
 
 use mesh_base::{Addr, Done, Event, Mesh, Packet};

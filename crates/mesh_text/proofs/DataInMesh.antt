@@ -12,7 +12,7 @@ use Rattle.aodv_model.proofs.Entries.{if_case}
 use Rattle.mesh_model.specs.Worlds as worlds
 use Rattle.mesh_model.specs.Worlds.{World, Node, Copy, Event, Give, Turn, Send, Ask, Link, Cut, Deliver, Lose, Double, WorldEffect, Changed, Taken, Sent, CopyHeard, CopyLost, CopyDoubled, Outcome, Idle, Next, range, copies, done_by, are_linked, find_copy, turn_of, send_of, ask_of, unless_full, at_node, at_copy, step, after}
 use Rattle.mesh_model.specs.Accounts.{Test, counts, in_message, in_taken, in_dropped, delivered_in, delivered_at, delivered_data, dropped_in, dropped_data, over_run}
-use Rattle.mesh_model.specs.Places.{IsCopyInMesh, IsInMesh, IsEvent}
+use Rattle.mesh_model.specs.InMesh.{IsCopyInMesh, IsInMesh, IsEvent}
 use Rattle.mesh_model.proofs.Steps.{found_honest}
 use Rattle.mesh_model.proofs.MeshSteps.{step_placed}
 use Rattle.mesh_model.proofs.Sizes.{same_size}
@@ -86,19 +86,19 @@ ask_of_mesh w size y x d core queue =
 
 step_of_mesh : (w : World) (e : Event) → IsInMesh w → IsEvent (length w.nodes) e → IsOutcomeOf (length w.nodes) (taker e) (step w e)
 unfolding step IsOutcomeOf IsWorldEffectOf
-step_of_mesh w (Give x d b) places ok = node_of_mesh (length w.nodes) 0 _ (slice_get w.nodes x) (λ n is. tt)
-step_of_mesh w (Turn x) places ok =
+step_of_mesh w (Give x d b) in_mesh ok = node_of_mesh (length w.nodes) 0 _ (slice_get w.nodes x) (λ n is. tt)
+step_of_mesh w (Turn x) in_mesh ok =
     node_of_mesh (length w.nodes) x (turn_of w x) (slice_get w.nodes x)
-    (λ n is. turn_of_mesh w (length w.nodes) x n.core n.queue (slice_get_within w.nodes x n is) (places.nodes x n is).queue)
-step_of_mesh w (Send x d) places ok = node_of_mesh (length w.nodes) 0 (send_of w x d) (slice_get w.nodes x) (λ n is. send_of_mesh w (length w.nodes) 0 x d n.core n.queue)
-step_of_mesh w (Ask x d) places ok = node_of_mesh (length w.nodes) 0 (ask_of w x d) (slice_get w.nodes x) (λ n is. ask_of_mesh w (length w.nodes) 0 x d n.core n.queue)
-step_of_mesh w (Link a b) places ok = if_case (IsOutcomeOf (length w.nodes) 0) (are_linked w.links a b) Idle _ (λ _. tt) (λ _. tt)
-step_of_mesh w (Cut a b) places ok = if_case (IsOutcomeOf (length w.nodes) 0) (are_linked w.links a b) _ Idle (λ _. tt) (λ _. tt)
-step_of_mesh w (Deliver id) places ok = copy_of_mesh (length w.nodes) 0 _ (find_copy w.flying id) (λ c is. tt)
-step_of_mesh w (Lose id) places ok =
+    (λ n is. turn_of_mesh w (length w.nodes) x n.core n.queue (slice_get_within w.nodes x n is) (in_mesh.nodes x n is).queue)
+step_of_mesh w (Send x d) in_mesh ok = node_of_mesh (length w.nodes) 0 (send_of w x d) (slice_get w.nodes x) (λ n is. send_of_mesh w (length w.nodes) 0 x d n.core n.queue)
+step_of_mesh w (Ask x d) in_mesh ok = node_of_mesh (length w.nodes) 0 (ask_of w x d) (slice_get w.nodes x) (λ n is. ask_of_mesh w (length w.nodes) 0 x d n.core n.queue)
+step_of_mesh w (Link a b) in_mesh ok = if_case (IsOutcomeOf (length w.nodes) 0) (are_linked w.links a b) Idle _ (λ _. tt) (λ _. tt)
+step_of_mesh w (Cut a b) in_mesh ok = if_case (IsOutcomeOf (length w.nodes) 0) (are_linked w.links a b) _ Idle (λ _. tt) (λ _. tt)
+step_of_mesh w (Deliver id) in_mesh ok = copy_of_mesh (length w.nodes) 0 _ (find_copy w.flying id) (λ c is. tt)
+step_of_mesh w (Lose id) in_mesh ok =
     copy_of_mesh (length w.nodes) 0 _ (find_copy w.flying id)
-    (λ c is. (found_honest (IsCopyInMesh (length w.nodes)) w.flying id c places.flying is).3)
-step_of_mesh w (Double id) places ok = copy_of_mesh (length w.nodes) 0 _ (find_copy w.flying id) (λ c is. tt)
+    (λ c is. (found_honest (IsCopyInMesh (length w.nodes)) w.flying id c in_mesh.flying is).3)
+step_of_mesh w (Double id) in_mesh ok = copy_of_mesh (length w.nodes) 0 _ (find_copy w.flying id) (λ c is. tt)
 
 -- ---- tests that agree there
 
@@ -158,9 +158,9 @@ event_agrees size t u others o agree is = refl
 pub runs_agree : (size : ℕ) (t u : Test) (w : World) (es : List Event) → Agree size t u → length w.nodes ≡ size → IsInMesh w → AllByRecursion (IsEvent size) es
     → (over_run (delivered_data t) w es ≡ over_run (delivered_data u) w es) × (over_run (dropped_data t) w es ≡ over_run (dropped_data u) w es)
 unfolding over_run
-runs_agree size t u w [] agree count places all = (refl, refl)
-runs_agree size t u w (e ∷ es) agree count places all =
+runs_agree size t u w [] agree count in_mesh all = (refl, refl)
+runs_agree size t u w (e ∷ es) agree count in_mesh all =
     let ok : IsEvent (length w.nodes) e = subst (λ n. IsEvent n e) (sym count) all.0 in
-    let of : IsOutcomeOf size (taker e) (step w e) = subst (λ n. IsOutcomeOf n (taker e) (step w e)) count (step_of_mesh w e places ok) in
-    let rest = runs_agree size t u (after w (step w e)) es agree (same_size w e ∙ count) (step_placed w e ok places) all.1 in
+    let of : IsOutcomeOf size (taker e) (step w e) = subst (λ n. IsOutcomeOf n (taker e) (step w e)) count (step_of_mesh w e in_mesh ok) in
+    let rest = runs_agree size t u (after w (step w e)) es agree (same_size w e ∙ count) (step_placed w e ok in_mesh) all.1 in
     (ap₂ (λ m n. m + n) (event_agrees size t u e (step w e) agree of) rest.0, ap₂ (λ m n. m + n) (drop_agrees size t u (taker e) e (step w e) agree of) rest.1)

@@ -18,7 +18,7 @@ use Rattle.mesh_text.specs.Schedule.{AcceptedLine, Does, NewNode, of_pair, made_
 use Rattle.mesh_text.specs.Lines.{words_of, event_words}
 use Rattle.mesh_text.specs.Ranges.{IsEcho}
 use Rattle.mesh_text.specs.Laws.{ReadLineIsWrittenAsItWas}
-use Rattle.mesh_text.proofs.Shapes.{form_of, word_of, Said, said, IsAt, none_placed, number_placed, one_placed, two_placed, text_placed}
+use Rattle.mesh_text.proofs.Shapes.{form_of, word_of, Said, said, IsAt, none_indexed, number_indexed, one_indexed, two_indexed, text_indexed}
 
 unfoldable pub Echoed : Nodes → List ℕ → Result AcceptedLine LineFault → Type 0
 Echoed mesh line (Err f) = Unit {0}
@@ -40,7 +40,7 @@ module _ (mesh : Nodes) (started : Bool) (line : List ℕ) where
       if_case (Echoed mesh line) (is_some (index_of mesh m.address)) _ _ (λ _. tt) (λ _.
       if_case (Echoed mesh line) (eqb (length mesh) MOST_NODES) _ _ (λ _. tt) (λ _. is)))
 
-  -- the text of one node, or of two, by their places in the mesh
+  -- the text of one node, or of two, by their indices in the mesh
   one_text : (word : List ℕ) (m : SpannedAddr) (x : ℕ) → line ≡ command_text word (OneAddress m.address) → IsAt mesh m x
       → line ≡ command_text word (OneAddress (addr_at mesh x))
   one_text word m x text at = text ∙ ap (λ a. command_text word (OneAddress a)) (sym at.1)
@@ -58,29 +58,29 @@ module _ (mesh : Nodes) (started : Bool) (line : List ℕ) where
   unfolding Echoed words_of event_words
   said_echoed command.Node (NumberedAddress m first) form text = node_echoed m first text
   said_echoed command.Link (TwoAddresses m n) form text =
-      two_placed mesh (Echoed mesh line) faulty (made_line command.Link) m n (λ x y x_at y_at.
+      two_indexed mesh (Echoed mesh line) faulty (made_line command.Link) m n (λ x y x_at y_at.
       pair_echoed x y (Link x y) (two_text (word_of command.Link) m n x y text x_at y_at))
   said_echoed command.Cut (TwoAddresses m n) form text =
-      two_placed mesh (Echoed mesh line) faulty (made_line command.Cut) m n (λ x y x_at y_at.
+      two_indexed mesh (Echoed mesh line) faulty (made_line command.Cut) m n (λ x y x_at y_at.
       pair_echoed x y (Cut x y) (two_text (word_of command.Cut) m n x y text x_at y_at))
   said_echoed command.Data (AddressesAndText m n body) form text =
-      text_placed mesh (Echoed mesh line) faulty (made_line command.Data) m n body (λ x y x_at y_at.
+      text_indexed mesh (Echoed mesh line) faulty (made_line command.Data) m n body (λ x y x_at y_at.
       text_text (word_of command.Data) m n body x y text x_at y_at)
   said_echoed command.Turn (OneAddress m) form text =
-      one_placed mesh (Echoed mesh line) faulty (made_line command.Turn) m (λ x at. one_text (word_of command.Turn) m x text at)
+      one_indexed mesh (Echoed mesh line) faulty (made_line command.Turn) m (λ x at. one_text (word_of command.Turn) m x text at)
   said_echoed command.Send (TwoAddresses m n) form text =
-      two_placed mesh (Echoed mesh line) faulty (made_line command.Send) m n (λ x y x_at y_at. two_text (word_of command.Send) m n x y text x_at y_at)
+      two_indexed mesh (Echoed mesh line) faulty (made_line command.Send) m n (λ x y x_at y_at. two_text (word_of command.Send) m n x y text x_at y_at)
   said_echoed command.Ask (TwoAddresses m n) form text =
-      two_placed mesh (Echoed mesh line) faulty (made_line command.Ask) m n (λ x y x_at y_at. two_text (word_of command.Ask) m n x y text x_at y_at)
-  said_echoed command.Deliver (OneNumber id) form text = number_placed mesh (Echoed mesh line) faulty (made_line command.Deliver) id (λ _. text)
-  said_echoed command.Lose (OneNumber id) form text = number_placed mesh (Echoed mesh line) faulty (made_line command.Lose) id (λ _. text)
-  said_echoed command.Copy (OneNumber id) form text = number_placed mesh (Echoed mesh line) faulty (made_line command.Copy) id (λ _. text)
-  said_echoed command.Auto (OneNumber count) form text = number_placed mesh (Echoed mesh line) faulty (made_line command.Auto) count (λ _. text)
+      two_indexed mesh (Echoed mesh line) faulty (made_line command.Ask) m n (λ x y x_at y_at. two_text (word_of command.Ask) m n x y text x_at y_at)
+  said_echoed command.Deliver (OneNumber id) form text = number_indexed mesh (Echoed mesh line) faulty (made_line command.Deliver) id (λ _. text)
+  said_echoed command.Lose (OneNumber id) form text = number_indexed mesh (Echoed mesh line) faulty (made_line command.Lose) id (λ _. text)
+  said_echoed command.Copy (OneNumber id) form text = number_indexed mesh (Echoed mesh line) faulty (made_line command.Copy) id (λ _. text)
+  said_echoed command.Auto (OneNumber count) form text = number_indexed mesh (Echoed mesh line) faulty (made_line command.Auto) count (λ _. text)
   said_echoed command.Show (OneAddress m) form text =
-      one_placed mesh (Echoed mesh line) faulty (made_line command.Show) m (λ x at. one_text (word_of command.Show) m x text at)
+      one_indexed mesh (Echoed mesh line) faulty (made_line command.Show) m (λ x at. one_text (word_of command.Show) m x text at)
   said_echoed command.Route (TwoAddresses m n) form text =
-      two_placed mesh (Echoed mesh line) faulty (made_line command.Route) m n (λ x y x_at y_at. two_text (word_of command.Route) m n x y text x_at y_at)
-  said_echoed command.Flight NoArgument form text = none_placed mesh (Echoed mesh line) faulty (made_line command.Flight) (λ _. text)
+      two_indexed mesh (Echoed mesh line) faulty (made_line command.Route) m n (λ x y x_at y_at. two_text (word_of command.Route) m n x y text x_at y_at)
+  said_echoed command.Flight NoArgument form text = none_indexed mesh (Echoed mesh line) faulty (made_line command.Flight) (λ _. text)
   said_echoed other arguments form text = absurd form
 
   shape_echoed : (r : Result (Option (Shape Command SpannedAddr)) LineFault) → Said line r → Echoed mesh line (result_and_then (accepted_shape mesh started) r)

@@ -17,7 +17,7 @@ use Rattle.mesh_grammar.specs.Laws.{HaveAddresses, addresses_of}
 use Rattle.mesh_text.specs.Schedule.{AcceptedLine, Does, made_line, new_node, accepted_line, accepted_shape, of_pair, result_and_then, line_of}
 use Rattle.mesh_text.specs.Ranges.{IsEventLine, IsInRange, IsInTime}
 use Rattle.mesh_text.specs.Laws.{ReadLineIsInRange}
-use Rattle.mesh_text.proofs.Shapes.{form_of, Said, said, none_placed, number_placed, one_placed, two_placed, text_placed}
+use Rattle.mesh_text.proofs.Shapes.{form_of, Said, said, none_indexed, number_indexed, one_indexed, two_indexed, text_indexed}
 
 unfoldable pub Allowed : Nodes → Bool → Result AcceptedLine LineFault → Type 0
 Allowed mesh started (Err f) = Unit {0}
@@ -53,36 +53,36 @@ module _ (mesh : Nodes) (started : Bool) where
   unfolding Allowed
   said_allowed command.Node (NumberedAddress m first) few form fit = node_allowed m first few fit form.0 form.1
   said_allowed command.Link (TwoAddresses m n) few form fit =
-      two_placed mesh (Allowed mesh started) faulty (made_line command.Link) m n (λ x y x_at y_at.
+      two_indexed mesh (Allowed mesh started) faulty (made_line command.Link) m n (λ x y x_at y_at.
       pair_allowed x y (Link x y) (λ apart. (omega (arith, x_at.0), (x_at.0, y_at.0, apart), tt)))
   said_allowed command.Cut (TwoAddresses m n) few form fit =
-      two_placed mesh (Allowed mesh started) faulty (made_line command.Cut) m n (λ x y x_at y_at.
+      two_indexed mesh (Allowed mesh started) faulty (made_line command.Cut) m n (λ x y x_at y_at.
       pair_allowed x y (Cut x y) (λ apart. (omega (arith, x_at.0), (x_at.0, y_at.0, apart), tt)))
   said_allowed command.Data (AddressesAndText m n text) few form fit =
-      text_placed mesh (Allowed mesh started) faulty (made_line command.Data) m n text (λ x y x_at y_at.
+      text_indexed mesh (Allowed mesh started) faulty (made_line command.Data) m n text (λ x y x_at y_at.
       ((omega (arith, x_at.0), (x_at.0, y_at.0, (form.0, form.1)), form), tt))
   said_allowed command.Turn (OneAddress m) few form fit =
-      one_placed mesh (Allowed mesh started) faulty (made_line command.Turn) m (λ x x_at. ((omega (arith, x_at.0), x_at.0, tt), tt))
+      one_indexed mesh (Allowed mesh started) faulty (made_line command.Turn) m (λ x x_at. ((omega (arith, x_at.0), x_at.0, tt), tt))
   said_allowed command.Send (TwoAddresses m n) few form fit =
-      two_placed mesh (Allowed mesh started) faulty (made_line command.Send) m n (λ x y x_at y_at.
+      two_indexed mesh (Allowed mesh started) faulty (made_line command.Send) m n (λ x y x_at y_at.
       ((omega (arith, x_at.0), (x_at.0, y_at.0), tt), tt))
   said_allowed command.Ask (TwoAddresses m n) few form fit =
-      two_placed mesh (Allowed mesh started) faulty (made_line command.Ask) m n (λ x y x_at y_at.
+      two_indexed mesh (Allowed mesh started) faulty (made_line command.Ask) m n (λ x y x_at y_at.
       ((omega (arith, x_at.0), (x_at.0, y_at.0), tt), tt))
   said_allowed command.Deliver (OneNumber id) few form fit =
-      number_placed mesh (Allowed mesh started) faulty (made_line command.Deliver) id (λ some. ((some, tt, form), tt))
+      number_indexed mesh (Allowed mesh started) faulty (made_line command.Deliver) id (λ some. ((some, tt, form), tt))
   said_allowed command.Lose (OneNumber id) few form fit =
-      number_placed mesh (Allowed mesh started) faulty (made_line command.Lose) id (λ some. ((some, tt, form), tt))
+      number_indexed mesh (Allowed mesh started) faulty (made_line command.Lose) id (λ some. ((some, tt, form), tt))
   said_allowed command.Copy (OneNumber id) few form fit =
-      number_placed mesh (Allowed mesh started) faulty (made_line command.Copy) id (λ some. ((some, tt, form), tt))
+      number_indexed mesh (Allowed mesh started) faulty (made_line command.Copy) id (λ some. ((some, tt, form), tt))
   said_allowed command.Auto (OneNumber count) few form fit =
-      number_placed mesh (Allowed mesh started) faulty (made_line command.Auto) count (λ some. ((some, form.0, form.1), tt))
+      number_indexed mesh (Allowed mesh started) faulty (made_line command.Auto) count (λ some. ((some, form.0, form.1), tt))
   said_allowed command.Show (OneAddress m) few form fit =
-      one_placed mesh (Allowed mesh started) faulty (made_line command.Show) m (λ x x_at. (x_at.0, tt))
+      one_indexed mesh (Allowed mesh started) faulty (made_line command.Show) m (λ x x_at. (x_at.0, tt))
   said_allowed command.Route (TwoAddresses m n) few form fit =
-      two_placed mesh (Allowed mesh started) faulty (made_line command.Route) m n (λ x y x_at y_at. ((x_at.0, y_at.0), tt))
+      two_indexed mesh (Allowed mesh started) faulty (made_line command.Route) m n (λ x y x_at y_at. ((x_at.0, y_at.0), tt))
   said_allowed command.Flight NoArgument few form fit =
-      none_placed mesh (Allowed mesh started) faulty (made_line command.Flight) (λ some. (some, tt))
+      none_indexed mesh (Allowed mesh started) faulty (made_line command.Flight) (λ some. (some, tt))
   said_allowed other arguments few form fit = absurd form
 
   shape_allowed : (line : List ℕ) (r : Result (Option (Shape Command SpannedAddr)) LineFault) → length mesh ≤ MOST_NODES → Said line r

@@ -291,8 +291,8 @@ each_datum_is_named v input o d body lo ld =
     let w : World = opening_world v input in
     let kept : IsKept (text_of_input v input).after = input_kept v input in
     let size : length w.nodes ≡ length mesh = start_size v (first_numbers mesh) ∙ length-map mesh (λ p. p.1) in
-    let placed = start_placed v (first_numbers mesh) (all_positive mesh kept.mesh) in
+    let in_mesh = start_placed v (first_numbers mesh) (all_positive mesh kept.mesh) in
     let named = whole_text (datum_named mesh o d body) _ _ (text_of_input v input).lines (input_names v input) in
-    let delivered = runs_agree (length mesh) (deliveries_in (datum_named mesh o d body) mesh) (only_datum o d body) w es (deliveries_agree mesh o d body kept.mesh lo ld) size placed (events_are_of_mesh v input) in
-    let dropped = runs_agree (length mesh) (drops_in (datum_named mesh o d body) mesh) (only_datum o d body) w es (drops_agree mesh o d body kept.mesh lo ld) size placed (events_are_of_mesh v input) in
+    let delivered = runs_agree (length mesh) (deliveries_in (datum_named mesh o d body) mesh) (only_datum o d body) w es (deliveries_agree mesh o d body kept.mesh lo ld) size in_mesh (events_are_of_mesh v input) in
+    let dropped = runs_agree (length mesh) (drops_in (datum_named mesh o d body) mesh) (only_datum o d body) w es (drops_agree mesh o d body kept.mesh lo ld) size in_mesh (events_are_of_mesh v input) in
     (named.0 ∙ delivered.0, named.1 ∙ dropped.1)

@@ -4,7 +4,7 @@ use Rattle.std.specs.List.{AllByRecursion}
 use Rattle.mesh_model.specs.Worlds as worlds
 use Rattle.mesh_model.specs.Worlds.{World, Event, Outcome, Idle, Next}
 use Rattle.mesh_model.specs.Choices.{pick}
-use Rattle.mesh_model.specs.Places.{IsEvent}
+use Rattle.mesh_model.specs.InMesh.{IsEvent}
 use Rattle.mesh_model.proofs.Chosen.{OnSome, pick_is_enabled}
 use Rattle.mesh_text.specs.Schedule.{RunState, world_of, outcome_at, next_state}
 use Rattle.mesh_text.specs.Auto.{event_then, choice_then, events_chosen}

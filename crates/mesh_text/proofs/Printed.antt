@@ -52,7 +52,7 @@ readable command.Copy = omega arith
 readable command.Auto = omega arith
 readable others = tt
 
--- ---- places
+-- ---- nodes by their indices
 
 after_some : (mesh : Nodes) (r : Result AcceptedLine LineFault) → 1 ≤ length mesh → after_nodes mesh r ≡ r
 after_some [] r some = absurd (omega arith)

@@ -11,7 +11,7 @@ use Rattle.mesh_model.specs.Worlds as worlds
 use Rattle.mesh_model.specs.Worlds.{World, Event, Give, Double, WorldEffect, CopyDoubled, Outcome, Idle, Next, step, start, first_numbers}
 use Rattle.mesh_model.specs.Accounts.{any, waiting, queued_data, in_flight, given_data, doubled_data, doubled_in, doubled_at, if_goes}
 use Rattle.mesh_model.specs.Choices.{pick}
-use Rattle.mesh_model.specs.Places.{IsEvent}
+use Rattle.mesh_model.specs.InMesh.{IsEvent}
 use Rattle.mesh_model.specs.Invariants.{IsInvariant}
 use Rattle.mesh_model.proofs.Sizes.{same_size, start_size}
 use Rattle.mesh_model.proofs.MeshSteps.{step_keeps, start_keeps}

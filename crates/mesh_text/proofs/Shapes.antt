@@ -127,8 +127,8 @@ IsAt mesh m x = (x < length mesh) × (addr_at mesh x ≡ m.address)
 
 -- what holds of a line that is made of arguments, where a fault doesn't break it
 module _ (mesh : Nodes) (P : Result AcceptedLine LineFault → Type 0) (faulty : (f : LineFault) → P (Err f)) (make : Arguments ℕ → Result AcceptedLine LineFault) where
-  abbrev PlacedSo : Arguments SpannedAddr → Type 0
-  PlacedSo arguments = P (after_nodes mesh (result_and_then make (with_nodes mesh arguments)))
+  abbrev IndexedSo : Arguments SpannedAddr → Type 0
+  IndexedSo arguments = P (after_nodes mesh (result_and_then make (with_nodes mesh arguments)))
 
   some_node : (nodes : Nodes) (r : Result AcceptedLine LineFault) → (1 ≤ length nodes → P r) → P (after_nodes nodes r)
   some_node [] r holds = faulty Early
@@ -140,20 +140,20 @@ module _ (mesh : Nodes) (P : Result AcceptedLine LineFault → Type 0) (faulty :
       with_argument_case (λ r. P (result_and_then make r)) (index_of mesh m.address) (Unknown m.span) next (faulty (Unknown m.span))
       (λ x is. let there = index_there mesh m.address x is in holds x (there.0, there.2))
 
-  pub none_placed : (1 ≤ length mesh → P (make NoArgument)) → PlacedSo NoArgument
-  none_placed holds = some_node mesh _ holds
+  pub none_indexed : (1 ≤ length mesh → P (make NoArgument)) → IndexedSo NoArgument
+  none_indexed holds = some_node mesh _ holds
 
-  pub number_placed : (n : ℕ) → (1 ≤ length mesh → P (make (OneNumber n))) → PlacedSo (OneNumber n)
-  number_placed n holds = some_node mesh _ holds
+  pub number_indexed : (n : ℕ) → (1 ≤ length mesh → P (make (OneNumber n))) → IndexedSo (OneNumber n)
+  number_indexed n holds = some_node mesh _ holds
 
-  pub one_placed : (m : SpannedAddr) → ((x : ℕ) → IsAt mesh m x → P (make (OneAddress x))) → PlacedSo (OneAddress m)
-  one_placed m holds = some_node mesh _ (λ some. at_node m (λ x. Ok (OneAddress x)) holds)
+  pub one_indexed : (m : SpannedAddr) → ((x : ℕ) → IsAt mesh m x → P (make (OneAddress x))) → IndexedSo (OneAddress m)
+  one_indexed m holds = some_node mesh _ (λ some. at_node m (λ x. Ok (OneAddress x)) holds)
 
-  pub two_placed : (m n : SpannedAddr) → ((x y : ℕ) → IsAt mesh m x → IsAt mesh n y → P (make (TwoAddresses x y))) → PlacedSo (TwoAddresses m n)
-  two_placed m n holds =
+  pub two_indexed : (m n : SpannedAddr) → ((x y : ℕ) → IsAt mesh m x → IsAt mesh n y → P (make (TwoAddresses x y))) → IndexedSo (TwoAddresses m n)
+  two_indexed m n holds =
       some_node mesh _ (λ some. at_node m (λ x. as_node mesh n (λ y. Ok (TwoAddresses x y))) (λ x x_at. at_node n (λ y. Ok (TwoAddresses x y)) (λ y y_at. holds x y x_at y_at)))
 
-  pub text_placed : (m n : SpannedAddr) (text : List ℕ) → ((x y : ℕ) → IsAt mesh m x → IsAt mesh n y → P (make (AddressesAndText x y text)))
-      → PlacedSo (AddressesAndText m n text)
-  text_placed m n text holds =
+  pub text_indexed : (m n : SpannedAddr) (text : List ℕ) → ((x y : ℕ) → IsAt mesh m x → IsAt mesh n y → P (make (AddressesAndText x y text)))
+      → IndexedSo (AddressesAndText m n text)
+  text_indexed m n text holds =
       some_node mesh _ (λ some. at_node m (λ x. as_node mesh n (λ y. Ok (AddressesAndText x y text))) (λ x x_at. at_node n (λ y. Ok (AddressesAndText x y text)) (λ y y_at. holds x y x_at y_at)))

@@ -8,7 +8,7 @@ use Rattle.mesh_base.specs.Meshes.{Nodes, IsMesh}
 use Rattle.mesh_model.specs.Walks.{Cycle}
 use Rattle.mesh_model.specs.Worlds as worlds
 use Rattle.mesh_model.specs.Worlds.{Event, run, start, first_numbers}
-use Rattle.mesh_model.specs.Places.{IsInMesh, IsEvent}
+use Rattle.mesh_model.specs.InMesh.{IsInMesh, IsEvent}
 use Rattle.mesh_model.specs.Invariants.{IsInvariant}
 use Rattle.mesh_text.specs.Schedule.{RunState, AcceptedLine, Chooses, line_of, world_of, with_world, next_state, outcome_at}
 use Rattle.mesh_grammar.specs.Lines.{complete}

@@ -1,5 +1,5 @@
 -- Read in this order.
--- Schedule: the states of a run, the faults of a line at its place, and what an event leaves.
+-- Schedule: the states of a run, the faults of a line where it stands, and what an event leaves.
 pub mod Schedule
 -- Lines: the text of a schedule's lines, as they are written back, and of the last line of a run.
 pub mod Lines

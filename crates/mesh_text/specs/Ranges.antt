@@ -4,7 +4,7 @@ use Rattle.std.specs.Prelude.{◌≡◌, ℕ, ◌^◌, ◌<◌, ◌≤◌, ◌�
 use Rattle.mesh_base.specs.declared.limits.TheConstants.{MOST_NODES, MOST_EVENTS}
 use Rattle.mesh_base.specs.Meshes.{Nodes, index_of}
 use Rattle.mesh_model.specs.Worlds.{Event}
-use Rattle.mesh_model.specs.Places.{IsEvent}
+use Rattle.mesh_model.specs.InMesh.{IsEvent}
 use Rattle.mesh_grammar.specs.Words.{is_blank}
 use Rattle.mesh_grammar.specs.Forms.{Arguments, OneAddress, OneNumber, AddressesAndText, greatest_first, IsText}
 use Rattle.mesh_grammar.specs.Commands.{greatest_id}

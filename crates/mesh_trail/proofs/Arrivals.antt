@@ -10,7 +10,7 @@ use Rattle.mesh_base.specs.declared.events.Done.{Done}
 use Rattle.mesh_base.specs.declared.events.Done.TheVariants as done
 use Rattle.mesh_base.specs.declared.events.Flying.{Flying}
 use Rattle.aodv_model.specs.Cores.{Heard, Item}
-use Rattle.mesh_model.specs.Places.{IsCopyInMesh}
+use Rattle.mesh_model.specs.InMesh.{IsCopyInMesh}
 use Rattle.mesh_model.specs.Worlds as worlds
 use Rattle.mesh_model.specs.Worlds.{World, Copy, CopyHeard, Deliver, Event, Give, WorldEffect, Idle, Next, Outcome, find_copy, push, step, without_copy}
 use Rattle.mesh_meaning.specs.Answers.{outcome_in}

@@ -7,7 +7,7 @@ use Rattle.std.proofs.lemmas.Option.{none-some, same_Some}
 use Rattle.mesh_base.specs.Meshes.{Nodes}
 use Rattle.mesh_base.specs.declared.events.Flying.{Flying}
 use Rattle.mesh_model.proofs.Lists.{each_filter, each_map}
-use Rattle.mesh_model.specs.Places as places
+use Rattle.mesh_model.specs.InMesh as world_numbers
 use Rattle.mesh_model.specs.Worlds.{Copy}
 use Rattle.mesh_meaning.specs.Packets.{copy_in}
 use Rattle.mesh_radio.specs.Copies.{AreNumbered, from_id}
@@ -162,7 +162,7 @@ begins first end low (g ∷ gs) next all = by (nat_le first g.id) refl (begins f
     )
     by false is tail = (λ le lt. absurd (too_low g.id is refl le), rest is tail)
 
-numbered_shown : (mesh : Nodes) (low : ℕ) (fs : List Flying) (next : ℕ) → places.AreNumbered low (map (copy_in mesh) fs) next → AreNumbered low fs next
+numbered_shown : (mesh : Nodes) (low : ℕ) (fs : List Flying) (next : ℕ) → world_numbers.AreNumbered low (map (copy_in mesh) fs) next → AreNumbered low fs next
 numbered_shown mesh low [] next all = all
 numbered_shown mesh low (f ∷ fs) next all = (all.0, numbered_shown mesh (f.id + 1) fs next all.1)
 
@@ -175,9 +175,9 @@ each_test fs next numbered [] all = tt
 each_test fs next numbered (g ∷ gs) all = (λ c le lt. (all c.first c.end).0 le lt, each_test fs next numbered gs (λ first end. (all first end).1))
 
 -- the cast of a copy that flies goes on
-pub flying_stays : (mesh : Nodes) (fs : List Flying) (flying : List Copy) (next : ℕ) → map (copy_in mesh) fs ≡ flying → places.AreNumbered 1 flying next → AllByRecursion (λ (c : Copy). Stays (flies_in fs) c.id) flying
+pub flying_stays : (mesh : Nodes) (fs : List Flying) (flying : List Copy) (next : ℕ) → map (copy_in mesh) fs ≡ flying → world_numbers.AreNumbered 1 flying next → AllByRecursion (λ (c : Copy). Stays (flies_in fs) c.id) flying
 flying_stays mesh fs flying next is numbered =
-    let all : AreNumbered 1 fs next = numbered_shown mesh 1 fs next (subst (λ cs. places.AreNumbered 1 cs next) (sym is) numbered) in
+    let all : AreNumbered 1 fs next = numbered_shown mesh 1 fs next (subst (λ cs. world_numbers.AreNumbered 1 cs next) (sym is) numbered) in
     subst (AllByRecursion (λ (c : Copy). Stays (flies_in fs) c.id)) is (each_shown mesh (Stays (flies_in fs)) fs (each_test fs next all fs (λ first end. begins first end 1 fs next all)))
 
 -- ---- where none flies, or all later

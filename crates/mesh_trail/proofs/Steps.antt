@@ -20,7 +20,7 @@ use Rattle.mesh_model.proofs.TrailTables.{Later, trail_stays}
 use Rattle.mesh_model.proofs.TrailTurns.{Begins, IsHere, Traces, ask_traces, send_traces, turn_traces}
 use Rattle.mesh_model.proofs.Turns.{IsOk, ask_ok, send_ok, turn_ok}
 use Rattle.mesh_model.specs.Invariants.{AtLeast, IsInvariant, IsLoopSafe, IsLoopSafeNode}
-use Rattle.mesh_model.specs.Places.{AreNumbered}
+use Rattle.mesh_model.specs.InMesh.{AreNumbered}
 use Rattle.mesh_model.specs.Trails.{Around, EntriesHaveWalks, HasWalks, IsAbsent, IsBackedWalk, NodeHasWalks, around, front, seen_in}
 use Rattle.mesh_model.specs.Walks.{rt_in, table}
 use Rattle.mesh_model.specs.Worlds.{is_parcel, Ask, Changed, Copy, CopyDoubled, CopyHeard, CopyLost, Cut, Deliver, Double, Event, Give, Next, Idle, Link, Lose, Node, Outcome, Send, Sent, Taken, Turn, World, after, are_linked, ask_of, at_copy, at_node, copies, copies_of, copies_to, done_by, double_of, find_copy, members_below, pair, push, range, receivers, send_of, step, turn_of, unless_full, with_double, with_item, with_link, without_copy, without_link}

@@ -4,7 +4,7 @@ ghost use Rattle.std.specs.Prelude.{◌≡◌, ◌<◌, ℕ, List, length, OnOk}
 ghost use Rattle.std.specs.Vec.{vec_len, vec_capacity};
 ghost use Rattle.mesh_base.specs.declared.events.Done.{Done};
 ghost use Rattle.mesh_model.specs.Worlds as model;
-ghost use Rattle.mesh_model.specs.Places.{IsEvent};
+ghost use Rattle.mesh_model.specs.InMesh.{IsEvent};
 ghost use Rattle.mesh_meaning.specs.Events.{event_of};
 ghost use Rattle.mesh_trail.specs.Walks.{FillsNumber};
 ghost use Rattle.mesh_trail.specs.Heard.{IsFrontIn};

@@ -1,4 +1,4 @@
 pub mod Forms
-pub mod Places
+pub mod InMesh
 pub mod Told
 pub mod Completes

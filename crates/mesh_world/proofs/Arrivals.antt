@@ -16,7 +16,7 @@ use Rattle.aodv_meaning.specs.Effects.{item_in}
 use Rattle.aodv_node.specs.Seen.{NodeSeen, IsSoundNode}
 use Rattle.mesh_model.specs.Worlds as worlds
 use Rattle.mesh_model.specs.Worlds.{World, Copy, Give, Deliver, Lose, Outcome, Idle, Next, Changed, CopyHeard, CopyLost, step, at_node, at_copy, push, with_item}
-use Rattle.mesh_model.specs.Places.{IsCopyInMesh}
+use Rattle.mesh_model.specs.InMesh.{IsCopyInMesh}
 use Rattle.mesh_model.specs.Choices.{may_turn_in, first_send_in, first_ask_in}
 use Rattle.mesh_model.proofs.Steps.{found_honest}
 use Rattle.mesh_radio.specs.Copies as radios

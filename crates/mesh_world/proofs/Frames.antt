@@ -11,7 +11,7 @@ use Rattle.mesh_base.specs.declared.events.Done.TheVariants as done
 use Rattle.aodv_node.specs.Seen.{NodeSeen}
 use Rattle.mesh_model.specs.Worlds as worlds
 use Rattle.mesh_model.specs.Worlds.{World, Event, Outcome, Idle, step, after}
-use Rattle.mesh_model.specs.Places.{IsEvent}
+use Rattle.mesh_model.specs.InMesh.{IsEvent}
 use Rattle.mesh_model.specs.Invariants.{IsInvariant}
 use Rattle.mesh_model.specs.Accounts.{waiting, queued_data, in_flight, given_data, doubled_data, delivered_data, dropped_data}
 use Rattle.mesh_model.proofs.Sizes.{same_size}

@@ -6,7 +6,7 @@ use Rattle.mesh_base.specs.declared.events.Done.TheVariants as done
 use Rattle.aodv_node.specs.Seen.{NodeSeen}
 use Rattle.mesh_model.specs.Worlds as worlds
 use Rattle.mesh_model.specs.Worlds.{World, Link, Cut, Idle, Next, Changed, step, are_linked}
-use Rattle.mesh_model.specs.Places.{IsEvent}
+use Rattle.mesh_model.specs.InMesh.{IsEvent}
 use Rattle.mesh_radio.specs.Radios.{RadioState, with_link, without_link}
 use Rattle.mesh_world.specs.Kept.{Ready, IsKept, world_in}
 use Rattle.mesh_world.proofs.Frames.{Ends, Beside, ends_done, ends_idle, beside, later}

@@ -22,8 +22,8 @@ use Rattle.aodv_node.specs.Seen.{NodeSeen, IsSoundNode, IsItemAt}
 use Rattle.mesh_model.specs.Worlds.{Node}
 use Rattle.mesh_model.specs.Walks as walks
 use Rattle.mesh_model.specs.Walks.{rt_in}
-use Rattle.mesh_model.specs.Places as places
-use Rattle.mesh_model.specs.Places.{AreLinks, IsCopyInMesh, IsInMesh, IsNodeInMesh}
+use Rattle.mesh_model.specs.InMesh as world_numbers
+use Rattle.mesh_model.specs.InMesh.{AreLinks, IsCopyInMesh, IsInMesh, IsNodeInMesh}
 use Rattle.mesh_model.specs.Invariants.{AllBacked, IsBacked, IsHonest, IsHonestCopy, IsHonestItem, IsInvariant, IsLoopSafe, IsLoopSafeNode}
 use Rattle.mesh_model.proofs.Acyclic.{no_cycle, better_along}
 use Rattle.mesh_radio.specs.Copies.{IsBetween, AreNumbered}
@@ -95,7 +95,7 @@ honest_copies mesh nodes [] requests replies = tt
 honest_copies mesh nodes (f ∷ fs) requests replies =
     (honest_message (table nodes f.from) f.from (meaning mesh f.bytes) requests.0 replies.0, honest_copies mesh nodes fs requests.1 replies.1)
 
-numbered_in : (mesh : Nodes) (low : ℕ) (fs : List Flying) (next : ℕ) → AreNumbered low fs next → places.AreNumbered low (map (copy_in mesh) fs) next
+numbered_in : (mesh : Nodes) (low : ℕ) (fs : List Flying) (next : ℕ) → AreNumbered low fs next → world_numbers.AreNumbered low (map (copy_in mesh) fs) next
 numbered_in mesh low [] next are = are
 numbered_in mesh low (f ∷ fs) next are = (are.0, numbered_in mesh (f.id + 1) fs next are.1)
 

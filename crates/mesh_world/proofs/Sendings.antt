@@ -22,7 +22,7 @@ use Rattle.aodv_node.specs.Discovered.{IsAskShort}
 use Rattle.aodv_node.specs.Seen.{NodeSeen, IsSoundNode}
 use Rattle.mesh_model.specs.Worlds as worlds
 use Rattle.mesh_model.specs.Worlds.{World, Event, Send, Ask, Outcome, Idle, Next, Sent, step, range, linked_below, send_of, ask_of, unless_full, at_node, done_by, copies}
-use Rattle.mesh_model.specs.Places.{IsEvent}
+use Rattle.mesh_model.specs.InMesh.{IsEvent}
 use Rattle.mesh_model.specs.Accounts.{given_data, doubled_data}
 use Rattle.mesh_radio.specs.Radios.{RadioState}
 use Rattle.mesh_meaning.specs.Events.{node_of}

@@ -28,7 +28,7 @@ use Rattle.aodv_node.specs.declared.answers.TurnDone.{TurnDone}
 use Rattle.mesh_world.specs.declared.steps.StepError.TheVariants as errors
 use Rattle.mesh_model.specs.Worlds as worlds
 use Rattle.mesh_model.specs.Worlds.{World, Node, Event, Turn, Outcome, Idle, Next, Taken, step, range, linked_below, turn_of, unless_full, at_node, done_by, copies}
-use Rattle.mesh_model.specs.Places.{IsNodeInMesh}
+use Rattle.mesh_model.specs.InMesh.{IsNodeInMesh}
 use Rattle.mesh_radio.specs.Radios.{RadioState}
 use Rattle.mesh_meaning.specs.Packets.{IsWritten, IsWrittenItem}
 use Rattle.mesh_meaning.specs.Answers.{took_in, IsTookInMesh}

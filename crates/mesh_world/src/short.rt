@@ -1,6 +1,6 @@
 //! An event for which memory may be short.
 ghost use Rattle.std.specs.Prelude.{◌≡◌, ◌<◌, true, false, length};
-ghost use Rattle.mesh_model.specs.Places.{IsEvent};
+ghost use Rattle.mesh_model.specs.InMesh.{IsEvent};
 ghost use Rattle.mesh_meaning.specs.Events.{event_of};
 ghost use Rattle.mesh_world.specs.Parts.{AreKept, seen_in};
 ghost use Rattle.mesh_world.specs.Steps.{may_need_memory};

@@ -5,7 +5,7 @@ ghost use Rattle.mesh_base.specs.Bounds.{most_steps};
 ghost use Rattle.mesh_model.specs.Choices as choices;
 ghost use Rattle.mesh_model.specs.Routes as routes;
 ghost use Rattle.mesh_model.specs.Accounts as accounts;
-ghost use Rattle.mesh_model.specs.Places.{IsEvent};
+ghost use Rattle.mesh_model.specs.InMesh.{IsEvent};
 ghost use Rattle.mesh_radio.specs.Radios.{most_copies_at_first};
 ghost use Rattle.mesh_meaning.specs.Packets.{IsWrittenCopy, IsWrittenItem, copy_in};
 ghost use Rattle.mesh_meaning.specs.Events.{event_of};

@@ -2,7 +2,7 @@ use Rattle.std.proofs.Common.{◌≡◌, ◌<◌, ◌≤◌, ◌+◌, ◌-◌, l
 use Rattle.std.specs.List.{remove}
 use Rattle.aodv_asked.specs.declared.interval.Interval.{Interval}
 use Rattle.aodv_asked.specs.Insertions.{interval}
-use Rattle.aodv_asked.specs.Spots.{IsPosition, place, position_of}
+use Rattle.aodv_asked.specs.Spots.{IsPosition, position_at, position_of}
 use Rattle.aodv_asked.proofs.IntervalLaws.{all_before}
 use Rattle.aodv_asked.proofs.PositionLaws.{put_early, put_touch, put_within, put_both, put_behind, room_early}
 use Rattle.aodv_asked.proofs.ids.put_from.Goals as goal
@@ -69,7 +69,7 @@ returns-then-next-from-3-clause-items c =
     let joined = interval v.first w.last in
     c.remove.ensures.items
     ∙ ap (λ xs. remove xs (position_of c.set-then-next-from-3.new.self behind)) c.set-then-next-from-3.ensures.items
-    ∙ ap (λ i. remove (set vs k joined) i) (ap (λ ns. place ns behind.chunk behind.offset) c.set-then-next-from-3.ensures.lengths ∙ next)
+    ∙ ap (λ i. remove (set vs k joined) i) (ap (λ ns. position_at ns behind.chunk behind.offset) c.set-then-next-from-3.ensures.lengths ∙ next)
     ∙ put_both vs k c.args.id v w c.requires.apart before h2 is after (omega arith) near (omega arith)
 
 pub returns-else-next-from-3-clause-items : goal.returns-else-next-from-3-clause-items

@@ -4,7 +4,7 @@ use Rattle.aodv_model.specs.Tables.{Dests, unreachable_by}
 use Rattle.aodv_model.specs.Cores.{Core}
 use Rattle.aodv_model.specs.Handlers.{link_broken, retract}
 use Rattle.aodv_model.specs.Soundness.{AreDestsBelow}
-use Rattle.aodv_model.proofs.PlacedTables.{unreachable_by_below}
+use Rattle.aodv_model.proofs.TablesInMesh.{unreachable_by_below}
 use Rattle.aodv_handlers.specs.Shown.{core_of}
 use Rattle.aodv_handlers.proofs.Order.{order_after, broken_sound}
 use Rattle.aodv_handlers.proofs.Unicasts.{break_made, past_full}
@@ -13,7 +13,7 @@ use Rattle.aodv_handlers.proofs.errors.link_broken.Goals as goal
 pub retract-requires-clause-below : goal.retract-requires-clause-below
 retract-requires-clause-below g c =
     subst (λ (m : Dests). AreDestsBelow (length c.args.mesh.now) m) (sym c.in-Ok.ensures.1)
-    (unreachable_by_below (length c.args.mesh.now) c.args.core.now.me (g.T.Table.entries c.args.core.now.table) c.args.next c.requires.order.sound.table.places)
+    (unreachable_by_below (length c.args.mesh.now) c.args.core.now.me (g.T.Table.entries c.args.core.now.table) c.args.next c.requires.order.sound.table.in_mesh)
 
 pub returns-in-Ok-clause-does : goal.returns-in-Ok-clause-does
 returns-in-Ok-clause-does g c =

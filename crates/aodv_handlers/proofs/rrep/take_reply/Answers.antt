@@ -5,7 +5,7 @@ use Rattle.aodv_model.specs.declared.entry.Entry.{Entry}
 use Rattle.aodv_model.specs.Tables.{Table, update, in_kD, sqn}
 use Rattle.aodv_model.specs.Cores.{Core}
 use Rattle.aodv_model.specs.Handlers.{only, neighbour_entry, route_entry}
-use Rattle.aodv_model.proofs.PlacedTables.{update_has}
+use Rattle.aodv_model.proofs.TablesInMesh.{update_has}
 use Rattle.aodv_model.proofs.Readings.{route_above}
 use Rattle.aodv_table.specs.Calls.{with_entry}
 use Rattle.aodv_handlers.specs.Shown.{core_of, reply_of}

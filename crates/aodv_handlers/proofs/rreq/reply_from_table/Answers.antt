@@ -17,8 +17,8 @@ use Rattle.aodv_handlers.proofs.rreq.reply_from_table.Goals as goal
 
 pub join_precursor-requires-2-clause-node : goal.join_precursor-requires-2-clause-node
 join_precursor-requires-2-clause-node g c =
-    let placed = c.requires.order.sound.table.places c.args.m.now.dip c.args.route c.requires.route in
-    omega (arith, placed.near, c.len-few.ensures.is_mesh.few)
+    let in_mesh = c.requires.order.sound.table.in_mesh c.args.m.now.dip c.args.route c.requires.route in
+    omega (arith, in_mesh.near, c.len-few.ensures.is_mesh.few)
 
 pub send_reply-requires-clause-order : goal.send_reply-requires-clause-order
 send_reply-requires-clause-order g c =

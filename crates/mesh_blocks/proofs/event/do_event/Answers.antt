@@ -3,7 +3,7 @@ use Rattle.std.specs.Prelude.{IfSome, length}
 use Rattle.std.proofs.lemmas.Result.{err_from_is_err_and}
 use Rattle.mesh_base.specs.Meshes.{Nodes}
 use Rattle.mesh_io.proofs.Writing.{AppendsPrefix-none}
-use Rattle.mesh_model.specs.Places.{IsEvent}
+use Rattle.mesh_model.specs.InMesh.{IsEvent}
 use Rattle.mesh_meaning.specs.Events.{event_of}
 use Rattle.mesh_meaning.specs.Answers.{IsDoneInMesh}
 use Rattle.mesh_text.specs.Schedule.{Does}

@@ -1,7 +1,7 @@
 use Rattle.std.proofs.Common.{◌∙◌, length, is_some, sym, ap, subst, arith}
 use Rattle.mesh_base.specs.Meshes.{Nodes}
 use Rattle.mesh_meaning.specs.Events.{event_of}
-use Rattle.mesh_model.specs.Places.{IsEvent}
+use Rattle.mesh_model.specs.InMesh.{IsEvent}
 use Rattle.mesh_text.specs.Schedule.{RunState, world_of}
 use Rattle.mesh_places.proofs.ChangeLaws.{begun_next, fills_nothing, is_event}
 use Rattle.mesh_places.proofs.changes.step_change.Goals as goal

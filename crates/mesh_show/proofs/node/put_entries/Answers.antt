@@ -12,7 +12,7 @@ pub loop-d-init : goal.loop-d-init
 loop-d-init g c =
     let n : ℕ = length c.args.mesh.now in
     let within : (d : ℕ) (e : Entry) → maps.get (c.args.node.now.core).rt d ≡ Some e → d < n = λ d e is.
-    let placed = c.requires.sound.sound.table.places d e is in omega (arith, placed.dest, c.requires.size) in
+    let in_mesh = c.requires.sound.sound.table.in_mesh d e is in omega (arith, in_mesh.dest, c.requires.size) in
     record {
       text = λ now r p.
           let P : List ℕ → Type 0 = λ l. Puts (g.O.Sink.held c.args.out.now) now l r in

@@ -3,7 +3,7 @@ use Rattle.std.specs.List.{AllByRecursion}
 use Rattle.std.proofs.lemmas.Option.{slice_get_read}
 use Rattle.mesh_sound.specs.Packets.{InItem}
 use Rattle.mesh_sound.specs.Claims.{Holds, IsReadable}
-use Rattle.mesh_sound.proofs.Places.{at, goes_on, ends}
+use Rattle.mesh_sound.proofs.Indices.{at, goes_on, ends}
 use Rattle.mesh_sound.proofs.Items.{different}
 use Rattle.mesh_sound.proofs.packets.holds_of_all.Goals as goal
 

@@ -1,7 +1,7 @@
 use Rattle.std.proofs.Common.{◌-◌}
 use Rattle.mesh_radio.specs.Copies.{from_id}
 use Rattle.mesh_sound.specs.Claims.{Holds}
-use Rattle.mesh_sound.proofs.Places.{IsEnough}
+use Rattle.mesh_sound.proofs.Indices.{IsEnough}
 use Rattle.mesh_sound.proofs.packets.holds_of_copies.Given as goal
 
 abbrev pub invariant-loop-copy : goal.invariant-loop-copy

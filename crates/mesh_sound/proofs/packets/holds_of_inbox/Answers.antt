@@ -4,7 +4,7 @@ use Rattle.mesh_base.specs.declared.events.Item.{Item}
 use Rattle.aodv_node.specs.Seen.{IsItemAt}
 use Rattle.mesh_sound.specs.Packets.{InItem}
 use Rattle.mesh_sound.specs.Claims.{Holds, IsReadable}
-use Rattle.mesh_sound.proofs.Places.{at, goes_on, ends}
+use Rattle.mesh_sound.proofs.Indices.{at, goes_on, ends}
 use Rattle.mesh_sound.proofs.Items.{different, item_near}
 use Rattle.mesh_sound.proofs.packets.holds_of_inbox.Goals as goal
 

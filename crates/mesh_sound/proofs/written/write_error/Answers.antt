@@ -1,5 +1,5 @@
 use Rattle.std.proofs.Common.{◌∷◌, [], ◌++◌, ap, ◌∙◌}
-use Rattle.mesh_sound.proofs.Places.{taken}
+use Rattle.mesh_sound.proofs.Indices.{taken}
 use Rattle.mesh_sound.proofs.written.write_error.Goals as goal
 
 pub loop-k-preserved : goal.loop-k-preserved

@@ -9,7 +9,7 @@ use Rattle.mesh_tests.proofs.handlers.opening.Goals as goal
 empty_table : (size ip : ℕ) (rt : Table) → rt ≡ maps.empty → IsSoundTable size ip rt
 empty_table size ip rt is = record {
   numbers = λ d e there. absurd (none-some e (sym (ap (λ (t : Table). maps.get t d) is ∙ maps.get-empty nat_cmp d) ∙ there));
-  places = λ d e there. absurd (none-some e (sym (ap (λ (t : Table). maps.get t d) is ∙ maps.get-empty nat_cmp d) ∙ there));
+  in_mesh = λ d e there. absurd (none-some e (sym (ap (λ (t : Table). maps.get t d) is ∙ maps.get-empty nat_cmp d) ∙ there));
 }
 
 pub returns : goal.returns

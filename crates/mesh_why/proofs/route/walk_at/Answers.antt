@@ -1,8 +1,8 @@
 use Rattle.std.proofs.Common.{◌≡◌, ◌<◌, ◌∙◌, length, ap, subst}
 use Rattle.mesh_base.specs.Meshes.{Nodes}
-use Rattle.mesh_model.specs.Places.{AreLinks}
+use Rattle.mesh_model.specs.InMesh.{AreLinks}
 use Rattle.mesh_world.specs.Seen.{WorldSeen}
-use Rattle.mesh_why.proofs.Places.{route_in_known}
+use Rattle.mesh_why.proofs.InMesh.{route_in_known}
 use Rattle.mesh_why.proofs.route.walk_at.Goals as goal
 
 pub returns-clause-within : goal.returns-clause-within

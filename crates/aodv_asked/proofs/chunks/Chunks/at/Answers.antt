@@ -2,7 +2,7 @@ use Rattle.std.proofs.Common.{◌<◌, get_or, length, ap, sym, subst, ◌∙◌
 use Rattle.std.proofs.lemmas.List.{get_or_read}
 use Rattle.aodv_asked.specs.Insertions.{interval, interval_at}
 use Rattle.aodv_asked.specs.Spots.{IsThere, position_of}
-use Rattle.aodv_asked.proofs.ChunkLaws.{listed, is_in_chunk, at_place}
+use Rattle.aodv_asked.proofs.ChunkLaws.{listed, is_in_chunk, at_position}
 use Rattle.aodv_asked.proofs.chunks.Chunks.at.Goals as goal
 
 pub index-requires : goal.index-requires
@@ -27,5 +27,5 @@ returns c =
     let lt : o < length x.items = subst (λ y. o < length (listed y)) (sym c.index.ensures) (there.offset x) in
     get_or_read x.items o c.index-2.result.now lt c.index-2.ensures (interval 0 0)
     ∙ ap (λ y. get_or (listed y) o (interval 0 0)) c.index.ensures
-    ∙ sym (at_place listed cs k o x (interval 0 0) there.chunk (there.offset x))
+    ∙ sym (at_position listed cs k o x (interval 0 0) there.chunk (there.offset x))
     ∙ ap (λ s. interval_at s.items (position_of s c.args.spot)) c.self.view_is

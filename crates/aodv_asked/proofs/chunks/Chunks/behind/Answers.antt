@@ -1,6 +1,6 @@
 use Rattle.std.proofs.Common.{◌≡◌, ◌<◌, ◌+◌, get_or, length, refl, ap, sym, subst, ◌∙◌, arith, Some}
 use Rattle.aodv_asked.specs.Spots.{IsThere, IsBehindSpot, position_of}
-use Rattle.aodv_asked.proofs.ChunkLaws.{listed, is_in_chunk, place_within, place_next, place_next_chunk, place_last}
+use Rattle.aodv_asked.proofs.ChunkLaws.{listed, is_in_chunk, position_within, position_next, position_next_chunk, position_last}
 use Rattle.aodv_asked.proofs.chunks.Chunks.behind.Goals as goal
 
 pub overflow_add-spot : goal.overflow_add-spot
@@ -29,9 +29,9 @@ returns-then-spot-len c =
     let x = c.index.result.now in
     let inside : o + 1 < length x.items = omega (arith, c.if-spot-len.true, c.len-len.ensures, x.ok) in
     let inside2 : o + 1 < length (listed (get_or cs k x)) = subst (λ y. o + 1 < length (listed y)) c.index.ensures inside in
-    let next = place_next listed cs k o x there.chunk inside2 in
+    let next = position_next listed cs k o x there.chunk inside2 in
     subst (λ s. IsBehindSpot s c.args.spot (Some (record { chunk = k; offset = o + 1 }))) c.self.view_is
-    (next, place_within listed cs k (o + 1) x there.chunk inside2)
+    (next, position_within listed cs k (o + 1) x there.chunk inside2)
 
 pub returns-then-spot-len-2 : goal.returns-then-spot-len-2
 returns-then-spot-len-2 c =
@@ -45,9 +45,9 @@ returns-then-spot-len-2 c =
     let len2 : length (listed (get_or cs k x)) ≡ o + 1 = subst (λ y. length (listed y) ≡ o + 1) c.index.ensures len in
     let up : k + 1 < length cs = omega (arith, c.if-spot-len-2.true, c.len.ensures, c.self.inside.chunks.ok) in
     let some : 0 < length (listed (get_or cs (k + 1) x)) = c.self.invariant.0 (k + 1) x up in
-    let next = place_next_chunk listed cs k (k + 1) o x refl up some len2 in
+    let next = position_next_chunk listed cs k (k + 1) o x refl up some len2 in
     subst (λ s. IsBehindSpot s c.args.spot (Some (record { chunk = k + 1; offset = 0 }))) c.self.view_is
-    (next, place_within listed cs (k + 1) 0 x up some)
+    (next, position_within listed cs (k + 1) 0 x up some)
 
 pub returns : goal.returns
 returns c =
@@ -60,4 +60,4 @@ returns c =
     let len : length x.items ≡ o + 1 = omega (arith, lt, c.if-spot-len.false, c.len-len.ensures, x.ok) in
     let len2 : length (listed (get_or cs k x)) ≡ o + 1 = subst (λ y. length (listed y) ≡ o + 1) c.index.ensures len in
     let last : k + 1 ≡ length cs = omega (arith, there.chunk, c.if-spot-len-2.false, c.len.ensures, c.self.inside.chunks.ok) in
-    sym (ap (λ s. length s.items) c.self.view_is) ∙ sym (place_last listed cs k o x last len2) ∙ ap (λ s. position_of s c.args.spot + 1) c.self.view_is
+    sym (ap (λ s. length s.items) c.self.view_is) ∙ sym (position_last listed cs k o x last len2) ∙ ap (λ s. position_of s c.args.spot + 1) c.self.view_is

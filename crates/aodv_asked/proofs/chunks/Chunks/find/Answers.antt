@@ -5,9 +5,9 @@ use Rattle.std.proofs.lemmas.List.Elements.{All-same}
 use Rattle.std.proofs.lemmas.List.Sorted.{IsPartitionPoint-from_clause, IsPartitionedBy-ltb}
 use Rattle.aodv_asked.specs.declared.interval.Interval.{Interval}
 use Rattle.aodv_asked.specs.Intervals.{AreApart}
-use Rattle.aodv_asked.specs.Spots.{place, last_in, IsFirstFrom, IsPosition}
+use Rattle.aodv_asked.specs.Spots.{position_at, last_in, IsFirstFrom, IsPosition}
 use Rattle.aodv_asked.proofs.FindLaws.{ends_rise, below_if, from_if}
-use Rattle.aodv_asked.proofs.ChunkLaws.{listed, lengths, AreFilled, place_within}
+use Rattle.aodv_asked.proofs.ChunkLaws.{listed, lengths, AreFilled, position_within}
 use Rattle.aodv_asked.proofs.ChunkFinds.{chunks_rise, found_in, found_past, inside_if, apart_in}
 use Rattle.aodv_asked.proofs.chunks.Chunks.find.Goals as goal
 
@@ -55,5 +55,5 @@ returns c =
     let last : c.args.from ≤ last_in (listed (get_or xs k x)) = from_if _ _ (point.1 k x (omega arith) lt) in
     let inside = inside_if (listed (get_or xs k x)) c.args.from o at (filled k x lt) last in
     subst (λ s. IsFirstFrom s c.args.from (Some (record { chunk = k; offset = o }))) c.self.view_is
-    (subst (λ ys. IsPosition (flat_map listed ys) c.args.from (place (lengths listed ys) k o) × (place (lengths listed ys) k o < length (flat_map listed ys))) c.as_slice.ensures.value
-    (found_in listed xs c.args.from k o x rise before lt at inside, place_within listed xs k o x lt inside))
+    (subst (λ ys. IsPosition (flat_map listed ys) c.args.from (position_at (lengths listed ys) k o) × (position_at (lengths listed ys) k o < length (flat_map listed ys))) c.as_slice.ensures.value
+    (found_in listed xs c.args.from k o x rise before lt at inside, position_within listed xs k o x lt inside))

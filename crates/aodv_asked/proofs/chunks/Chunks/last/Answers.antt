@@ -1,6 +1,6 @@
 use Rattle.std.proofs.Common.{◌≡◌, ◌<◌, ◌+◌, ◌-◌, get_or, length, ap, sym, subst, ◌∙◌, arith}
 use Rattle.aodv_asked.specs.Spots.{position_of}
-use Rattle.aodv_asked.proofs.ChunkLaws.{listed, place_last}
+use Rattle.aodv_asked.proofs.ChunkLaws.{listed, position_last}
 use Rattle.aodv_asked.proofs.chunks.Chunks.last.Goals as goal
 
 pub returns : goal.returns
@@ -14,5 +14,5 @@ returns c =
     let len : length x.items ≡ o + 1 = omega (arith, some, c.len.ensures, x.ok) in
     let len2 : length (listed (get_or cs k x)) ≡ o + 1 = subst (λ y. length (listed y) ≡ o + 1) c.index.ensures len in
     ap (λ s. position_of s (record { chunk = k; offset = o }) + 1) (sym c.self.view_is)
-    ∙ place_last listed cs k o x (omega (arith, here, c.len-len.ensures, c.self.inside.chunks.ok)) len2
+    ∙ position_last listed cs k o x (omega (arith, here, c.len-len.ensures, c.self.inside.chunks.ok)) len2
     ∙ ap (λ s. length s.items) c.self.view_is

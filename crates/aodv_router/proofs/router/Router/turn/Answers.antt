@@ -14,7 +14,7 @@ returns-clause-turn c =
     subst (λ (s : Station). IsTurnOf s c.args.near.now c.tell_turn.result new) c.self.view_is (record {
       answer = c.turn-answer.result;
       packet = c.turn-answer.new.out.items;
-      turn = subst (λ (r : NodeIds). IsTurn mesh r c.self.inside.node c.turn-answer.result c.turn-answer.new.self c.turn-answer.new.out.items) c.places-range.ensures c.turn-answer.ensures.turn;
+      turn = subst (λ (r : NodeIds). IsTurn mesh r c.self.inside.node c.turn-answer.result c.turn-answer.new.self c.turn-answer.new.out.items) c.indices_of-range.ensures c.turn-answer.ensures.turn;
       tells = c.tell_turn.ensures;
       nodes = refl;
     })
@@ -22,9 +22,9 @@ returns-clause-turn c =
 pub returns-clause-names : goal.returns-clause-names
 returns-clause-names c =
     subst (λ (s : Station). IfOk c.tell_turn.result (λ o. NamesTheMesh s.nodes o)) c.self.view_is
-    (turn_names c.self.inside.mesh c.places-range.result c.self.inside.node c.turn-answer.result c.turn-answer.new.self c.turn-answer.new.out.items c.tell_turn.result
+    (turn_names c.self.inside.mesh c.indices_of-range.result c.self.inside.node c.turn-answer.result c.turn-answer.new.self c.turn-answer.new.out.items c.tell_turn.result
     c.len-nodes.ensures.is_mesh c.self.invariant.0 c.sn-number.ensures.sound c.turn-answer.ensures.turn c.tell_turn.ensures)
 
 pub tell_turn-requires : goal.tell_turn-requires
 tell_turn-requires c =
-    turn_short c.self.inside.mesh c.places-range.result c.self.inside.node c.turn-answer.result c.turn-answer.new.self c.turn-answer.new.out.items c.sn-number.ensures.sound c.turn-answer.ensures.turn
+    turn_short c.self.inside.mesh c.indices_of-range.result c.self.inside.node c.turn-answer.result c.turn-answer.new.self c.turn-answer.new.out.items c.sn-number.ensures.sound c.turn-answer.ensures.turn

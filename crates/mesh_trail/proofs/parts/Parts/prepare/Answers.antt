@@ -1,5 +1,5 @@
 use Rattle.std.proofs.Common.{length, ap, subst}
-use Rattle.mesh_model.specs.Places.{IsEvent}
+use Rattle.mesh_model.specs.InMesh.{IsEvent}
 use Rattle.mesh_model.specs.Worlds as model
 use Rattle.mesh_meaning.specs.Events.{event_of}
 use Rattle.mesh_trail.proofs.Arrivals.{roomed_so}

@@ -5,7 +5,7 @@ use Rattle.std.specs.List.{AllByRecursion}
 use Rattle.std.proofs.lemmas.Option.{none-some, same_Some, slice_get_within, get_or_from_slice_get}
 use Rattle.std.proofs.lemmas.List.{drop_all, take_more}
 
--- what holds of all holds of the one at this place
+-- what holds of all holds of the one at this index
 pub at : {A : Type 0} (P : A → Type 0) (xs : List A) (k : ℕ) (x : A) → AllByRecursion P xs → slice_get xs k ≡ Some x → P x
 at P [] k x all is = absurd (none-some x is)
 at P (y ∷ ys) zero x all is = subst P (same_Some y x is) all.0
@@ -16,7 +16,7 @@ from' [] k x is = absurd (none-some x is)
 from' (y ∷ ys) zero x is = ap (λ z. z ∷ ys) (same_Some y x is)
 from' (y ∷ ys) (suc k) x is = from' ys k x is
 
--- what is left from a place on begins with what stands there
+-- what is left from an index on begins with what stands there
 pub from : {A : Type 0} (xs : List A) (k : ℕ) (x : A) → slice_get xs k ≡ Some x → drop k xs ≡ x ∷ drop (k + 1) xs
 from xs k x is = let up : suc k ≡ k + 1 = omega arith in from' xs k x is ∙ ap (λ n. x ∷ drop n xs) up
 
@@ -30,6 +30,6 @@ goes_on P xs k x is holds enough rest = enough (subst (AllByRecursion P) (sym (f
 pub ends : {A : Type 0} (P : A → Type 0) (xs : List A) (k : ℕ) → length xs ≤ k → IsEnough P xs (drop k xs) → AllByRecursion P xs
 ends P xs k le enough = enough (subst (AllByRecursion P) (sym (drop_all k xs le)) tt)
 
--- what stands before a place, and there
+-- what stands before an index, and there
 pub taken : {A : Type 0} (xs : List A) (k : ℕ) (x : A) → slice_get xs k ≡ Some x → take k xs ++ x ∷ [] ≡ take (k + 1) xs
 taken xs k x is = ap (λ y. take k xs ++ y ∷ []) (sym (get_or_from_slice_get xs k x x is)) ∙ sym (take_more xs k x (slice_get_within xs k x is))

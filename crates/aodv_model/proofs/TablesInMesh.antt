@@ -1,4 +1,4 @@
--- What the changes of a table keep of its places.
+-- What the changes of a table keep: its entries name nodes of the mesh.
 use Rattle.std.proofs.Common.{◌≡◌, ◌≢◌, ℕ, ◌<◌, Bool, true, false, ◌||◌, ◌==◌, Some, None, Option, refl, ap, sym, ◌∙◌, subst, arith, inl, inr}
 use Rattle.std.specs.Prelude.{option_map, if◌then◌else◌}
 use Rattle.std.specs.Ordering.{nat_cmp}
@@ -14,7 +14,7 @@ use Rattle.aodv_model.proofs.Changes.{after_by, mapped_each, update_each}
 use Rattle.aodv_model.proofs.Entries.{if_case, merged_shape}
 use Rattle.aodv_model.proofs.Lookups.{get-accepted, get-add_pre, get-invalidate, get-unreachable_by, get-update}
 use Rattle.aodv_model.specs.Handlers.{one}
-use Rattle.aodv_model.specs.Soundness.{AllPlaced, AreBelow, AreDestsBelow, IsPlaced}
+use Rattle.aodv_model.specs.Soundness.{AreEntriesInMesh, AreBelow, AreDestsBelow, IsEntryInMesh}
 use Rattle.aodv_model.specs.Tables.{Dests, Table, accepted_unreachable, add_pre, entry_after, goes_by, in_kD, invalidate, invalidated, is_some_in, add_pre_at, merge, unreachable_by, update}
 use Rattle.mesh_base.specs.Members.{NodeIds}
 
@@ -66,11 +66,11 @@ merged_next P s r a b =
       | inr p ↦ subst P (sym p.1) b
     ]
 
-wider_placed : (size ip : ℕ) (rt rt' : Table) → Wider rt rt' → (d : ℕ) (e : Entry) → IsPlaced size ip rt d e → IsPlaced size ip rt' d e
-wider_placed size ip rt rt' wider d e placed = record { dest = placed.dest; near = placed.near; other = placed.other; has = wider.has e.next placed.has; pre = placed.pre }
+wider_in_mesh : (size ip : ℕ) (rt rt' : Table) → Wider rt rt' → (d : ℕ) (e : Entry) → IsEntryInMesh size ip rt d e → IsEntryInMesh size ip rt' d e
+wider_in_mesh size ip rt rt' wider d e in_mesh = record { dest = in_mesh.dest; near = in_mesh.near; other = in_mesh.other; has = wider.has e.next in_mesh.has; pre = in_mesh.pre }
 
-merged_placed : (size ip : ℕ) (rt : Table) (d : ℕ) (s r : Entry) → IsPlaced size ip rt d s → IsPlaced size ip rt d r → IsPlaced size ip rt d (merge s r)
-merged_placed size ip rt d s r a b = record {
+merged_in_mesh : (size ip : ℕ) (rt : Table) (d : ℕ) (s r : Entry) → IsEntryInMesh size ip rt d s → IsEntryInMesh size ip rt d r → IsEntryInMesh size ip rt d (merge s r)
+merged_in_mesh size ip rt d s r a b = record {
   dest = a.dest;
   near = merged_next (λ k. k < size) s r a.near b.near;
   other = merged_next (λ k. k ≢ ip) s r a.other b.other;
@@ -80,21 +80,21 @@ merged_placed size ip rt d s r a b = record {
 
 -- a table of node ip comes to be another
 pub record Moves (size ip : ℕ) (rt rt' : Table) : Type 0 where
-  pub placed : AllPlaced size ip rt'
+  pub in_mesh : AreEntriesInMesh size ip rt'
   pub wider : Wider rt rt'
 
 pub moves_then : {size ip : ℕ} {a b c : Table} → Moves size ip a b → Moves size ip b c → Moves size ip a c
-moves_then x y = record { placed = y.placed; wider = record { has = λ q is. y.wider.has q (x.wider.has q is) } }
+moves_then x y = record { in_mesh = y.in_mesh; wider = record { has = λ q is. y.wider.has q (x.wider.has q is) } }
 
-pub moves_none : {size ip : ℕ} {a : Table} → AllPlaced size ip a → Moves size ip a a
-moves_none placed = record { placed = placed; wider = record { has = λ q is. is } }
+pub moves_none : {size ip : ℕ} {a : Table} → AreEntriesInMesh size ip a → Moves size ip a a
+moves_none in_mesh = record { in_mesh = in_mesh; wider = record { has = λ q is. is } }
 
-pub update_moves : (size ip : ℕ) (rt : Table) (d : ℕ) (r : Entry) → AllPlaced size ip rt → IsPlaced size ip (update rt d r) d r → Moves size ip rt (update rt d r)
-update_moves size ip rt d r placed new =
+pub update_moves : (size ip : ℕ) (rt : Table) (d : ℕ) (r : Entry) → AreEntriesInMesh size ip rt → IsEntryInMesh size ip (update rt d r) d r → Moves size ip rt (update rt d r)
+update_moves size ip rt d r in_mesh new =
     let wider : Wider rt (update rt d r) = update_wider rt d r in
     record {
-      placed = update_each (IsPlaced size ip (update rt d r)) rt d r (λ q e is. wider_placed size ip rt (update rt d r) wider q e (placed q e is))
-          (after_by (IsPlaced size ip (update rt d r) d) (maps.get rt d) r new (λ s is. merged_placed size ip (update rt d r) d s r (wider_placed size ip rt (update rt d r) wider d s (placed d s is)) new));
+      in_mesh = update_each (IsEntryInMesh size ip (update rt d r)) rt d r (λ q e is. wider_in_mesh size ip rt (update rt d r) wider q e (in_mesh q e is))
+          (after_by (IsEntryInMesh size ip (update rt d r) d) (maps.get rt d) r new (λ s is. merged_in_mesh size ip (update rt d r) d s r (wider_in_mesh size ip rt (update rt d r) wider d s (in_mesh d s is)) new));
       wider = wider;
     }
 
@@ -107,27 +107,27 @@ mapped_wider rt rt' g law = record { has = λ q is. ap is_some_in (law q) ∙ (m
     mapped q None = refl
     mapped q (Some e) = refl
 
-mapped_moves : (size ip : ℕ) (rt rt' : Table) (g : ℕ → Entry → Entry) → AllPlaced size ip rt → ((q : ℕ) → maps.get rt' q ≡ option_map (g q) (maps.get rt q))
-    → ((q : ℕ) (e : Entry) → IsPlaced size ip rt' q e → IsPlaced size ip rt' q (g q e)) → Moves size ip rt rt'
-mapped_moves size ip rt rt' g placed law keeps =
+mapped_moves : (size ip : ℕ) (rt rt' : Table) (g : ℕ → Entry → Entry) → AreEntriesInMesh size ip rt → ((q : ℕ) → maps.get rt' q ≡ option_map (g q) (maps.get rt q))
+    → ((q : ℕ) (e : Entry) → IsEntryInMesh size ip rt' q e → IsEntryInMesh size ip rt' q (g q e)) → Moves size ip rt rt'
+mapped_moves size ip rt rt' g in_mesh law keeps =
     let wider : Wider rt rt' = mapped_wider rt rt' g law in
     record {
-      placed = λ q e is. mapped_each (IsPlaced size ip rt') g q e (maps.get rt q) (sym (law q) ∙ is) (λ s here. keeps q s (wider_placed size ip rt rt' wider q s (placed q s here)));
+      in_mesh = λ q e is. mapped_each (IsEntryInMesh size ip rt') g q e (maps.get rt q) (sym (law q) ∙ is) (λ s here. keeps q s (wider_in_mesh size ip rt rt' wider q s (in_mesh q s here)));
       wider = wider;
     }
 
-invalidated_placed : (size ip : ℕ) (rt : Table) (d : ℕ) (e : Entry) (o : Option ℕ) → IsPlaced size ip rt d e → IsPlaced size ip rt d (invalidated e o)
-invalidated_placed size ip rt d e None placed = placed
-invalidated_placed size ip rt d e (Some n) placed = record { dest = placed.dest; near = placed.near; other = placed.other; has = placed.has; pre = placed.pre }
+invalidated_in_mesh : (size ip : ℕ) (rt : Table) (d : ℕ) (e : Entry) (o : Option ℕ) → IsEntryInMesh size ip rt d e → IsEntryInMesh size ip rt d (invalidated e o)
+invalidated_in_mesh size ip rt d e None in_mesh = in_mesh
+invalidated_in_mesh size ip rt d e (Some n) in_mesh = record { dest = in_mesh.dest; near = in_mesh.near; other = in_mesh.other; has = in_mesh.has; pre = in_mesh.pre }
 
-pub invalidate_moves : (size ip : ℕ) (rt : Table) (dests : Dests) → AllPlaced size ip rt → Moves size ip rt (invalidate rt dests)
-invalidate_moves size ip rt dests placed =
-    mapped_moves size ip rt (invalidate rt dests) (λ d e. invalidated e (maps.get dests d)) placed (get-invalidate rt dests) (λ q e p. invalidated_placed size ip (invalidate rt dests) q e (maps.get dests q) p)
+pub invalidate_moves : (size ip : ℕ) (rt : Table) (dests : Dests) → AreEntriesInMesh size ip rt → Moves size ip rt (invalidate rt dests)
+invalidate_moves size ip rt dests in_mesh =
+    mapped_moves size ip rt (invalidate rt dests) (λ d e. invalidated e (maps.get dests d)) in_mesh (get-invalidate rt dests) (λ q e p. invalidated_in_mesh size ip (invalidate rt dests) q e (maps.get dests q) p)
 
-pub add_pre_moves : (size ip : ℕ) (rt : Table) (d : ℕ) (nodes : NodeIds) → AllPlaced size ip rt → AreBelow size nodes → Moves size ip rt (add_pre rt d nodes)
-add_pre_moves size ip rt d nodes placed below =
-    mapped_moves size ip rt (add_pre rt d nodes) (add_pre_at d nodes) placed (get-add_pre rt d nodes)
-    (λ q e p. if_case (IsPlaced size ip (add_pre rt d nodes) q) (q == d) (record e { pre = sets.union e.pre nodes }) e
+pub add_pre_moves : (size ip : ℕ) (rt : Table) (d : ℕ) (nodes : NodeIds) → AreEntriesInMesh size ip rt → AreBelow size nodes → Moves size ip rt (add_pre rt d nodes)
+add_pre_moves size ip rt d nodes in_mesh below =
+    mapped_moves size ip rt (add_pre rt d nodes) (add_pre_at d nodes) in_mesh (get-add_pre rt d nodes)
+    (λ q e p. if_case (IsEntryInMesh size ip (add_pre rt d nodes) q) (q == d) (record e { pre = sets.union e.pre nodes }) e
     (λ _. record { dest = p.dest; near = p.near; other = p.other; has = p.has; pre = below_union size e.pre nodes p.pre below })
     (λ _. p))
 
@@ -138,10 +138,10 @@ some_of None true n is = absurd (none-some n is)
 some_of None false n is = absurd (none-some n is)
 some_of (Some e) b n is = (e, refl)
 
-pub unreachable_by_below : (size ip : ℕ) (rt : Table) (y : ℕ) → AllPlaced size ip rt → AreDestsBelow size (unreachable_by rt y)
-unreachable_by_below size ip rt y placed d n is =
+pub unreachable_by_below : (size ip : ℕ) (rt : Table) (y : ℕ) → AreEntriesInMesh size ip rt → AreDestsBelow size (unreachable_by rt y)
+unreachable_by_below size ip rt y in_mesh d n is =
     let s = some_of (maps.get rt d) (goes_by (maps.get rt d) y) n (sym (get-unreachable_by rt y d) ∙ is) in
-    (placed d s.0 s.1).dest
+    (in_mesh d s.0 s.1).dest
 
 pub kept_of : (o : Option ℕ) (b : Bool) (n : ℕ) → (if b then o else None) ≡ Some n → o ≡ Some n
 kept_of o true n is = is

@@ -1,4 +1,4 @@
--- The places for the data of one destination: one for the datum in front, and a ring for the rest.
+-- The slots for the data of one destination: one for the datum in front, and a ring for the rest.
 use Rattle.std.specs.Prelude.{◌≡◌, ◌<◌, ◌++◌, ℕ, Bool, true, false, List, [], Option, Some, None, option_to_list}
 use Rattle.std.specs.declared.collections.VecDeque.{VecDeque}
 use Rattle.std.specs.VecDeque.{deque_items, deque_len, deque_capacity}
@@ -13,7 +13,7 @@ abbrev pub room_if : Bool → ℕ
 room_if true = 1
 room_if false = 0
 
--- nothing is behind a free place in front; where room was made, a place is free
-abbrev pub ArePlaces : {Z : Type 0} → Option Body → VecDeque Body Z → Bool → Type 0
-ArePlaces None rest roomy = deque_items rest ≡ []
-ArePlaces (Some first) rest roomy = roomy ≡ true → deque_len rest < deque_capacity rest
+-- nothing is behind a free slot in front; where room was made, a slot is free
+abbrev pub AreSlots : {Z : Type 0} → Option Body → VecDeque Body Z → Bool → Type 0
+AreSlots None rest roomy = deque_items rest ≡ []
+AreSlots (Some first) rest roomy = roomy ≡ true → deque_len rest < deque_capacity rest

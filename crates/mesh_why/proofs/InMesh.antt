@@ -4,7 +4,7 @@ use Rattle.std.specs.Borrow.{Bor}
 use Rattle.std.specs.List.{All}
 use Rattle.std.proofs.lemmas.List.Elements.{All-from_get_or}
 use Rattle.aodv_model.specs.Pairs.{Pairs}
-use Rattle.mesh_model.specs.Places.{AreLinks}
+use Rattle.mesh_model.specs.InMesh.{AreLinks}
 use Rattle.mesh_model.specs.Trails.{HaveStood, IsHonestWalk}
 use Rattle.mesh_model.specs.Worlds.{World, are_linked, pair}
 use Rattle.mesh_trail.specs.Walks.{IsRouteWalk}

@@ -2,16 +2,16 @@
 ghost use Rattle.std.specs.Prelude.{◌≡◌};
 ghost use Rattle.std.specs.FinSet as sets;
 ghost use Rattle.mesh_base.specs.Meshes.{addr_at};
-ghost use Rattle.aodv_router.specs.Stations.{places_in, addrs_of};
+ghost use Rattle.aodv_router.specs.Stations.{indices_in, addrs_of};
 
 use crate::outcome::Addrs;
 use arrayvec::ArrayVec;
 use mesh_base::{Addr, Mesh, NodeSet};
 
 /// The nodes of these addresses; those that the mesh doesn't have are passed over.
-#[tactic(auto, unfolding(crate::specs::Stations::places_in))]
-pub(crate) fn places(mesh: &Mesh, addrs: &[u32]) -> NodeSet
-    ensures { result ≡ places_in mesh.now sets.empty addrs.now }
+#[tactic(auto, unfolding(crate::specs::Stations::indices_in))]
+pub(crate) fn indices_of(mesh: &Mesh, addrs: &[u32]) -> NodeSet
+    ensures { result ≡ indices_in mesh.now sets.empty addrs.now }
 {
     let mut set = NodeSet::new();
     // There are at most 200 nodes.
