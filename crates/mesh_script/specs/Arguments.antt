@@ -1,11 +1,12 @@
 -- The arguments of a line of the program, as the definitions have them.
-use Rattle.std.specs.Prelude.{ℕ, ◌+◌, length, Result, Ok, Err}
+use Rattle.std.specs.Prelude.{ℕ, ◌+◌, ◌*◌, length, Result, Ok, Err}
 use Rattle.mesh_base.specs.declared.addr.Addr.{Addr}
 use Rattle.mesh_grammar.specs.declared.fault.LineFault.{LineFault}
 use Rattle.mesh_grammar.specs.Words as words
 use Rattle.mesh_grammar.specs.Forms as forms
 use Rattle.mesh_script.specs.declared.forms.Arguments.{Arguments}
 use Rattle.mesh_script.specs.declared.forms.Arguments.TheVariants as arguments
+use Rattle.mesh_script.specs.declared.print.TheConstants.{ADDRESS_ARGUMENT, NUMBER_ARGUMENT}
 use Rattle.mesh_script.specs.declared.words.SpannedAddr.{SpannedAddr}
 
 abbrev pub spanned_of : SpannedAddr → words.SpannedAddr
@@ -42,13 +43,14 @@ abbrev pub indices_in : Result (Arguments ℕ) LineFault → Result (forms.Argum
 indices_in (Ok a) = Ok (indices_of a)
 indices_in (Err f) = Err f
 
--- the most bytes that arguments have as they are written, each after its space
+-- the most bytes that arguments have as they are written, each after its space; an address with its
+-- number has the word "sn" between them
 abbrev pub width_of : forms.Arguments ℕ → ℕ
 width_of forms.NoArgument = 0
-width_of (forms.OneAddress a) = 16
-width_of (forms.TwoAddresses a b) = 32
-width_of (forms.OneNumber n) = 21
-width_of (forms.NumberedAddress a first) = 40
-width_of (forms.AddressesAndText a b text) = 33 + length text
-width_of (forms.AddressAndNumber a n) = 37
-width_of (forms.AddressAndText a text) = 17 + length text
+width_of (forms.OneAddress a) = ADDRESS_ARGUMENT
+width_of (forms.TwoAddresses a b) = 2 * ADDRESS_ARGUMENT
+width_of (forms.OneNumber n) = NUMBER_ARGUMENT
+width_of (forms.NumberedAddress a first) = ADDRESS_ARGUMENT + 3 + NUMBER_ARGUMENT
+width_of (forms.AddressesAndText a b text) = 2 * ADDRESS_ARGUMENT + 1 + length text
+width_of (forms.AddressAndNumber a n) = ADDRESS_ARGUMENT + NUMBER_ARGUMENT
+width_of (forms.AddressAndText a text) = ADDRESS_ARGUMENT + 1 + length text

@@ -1,6 +1,6 @@
 //! The text in which a line is written back: each node by its address, and a new node with its
 //! number.
-ghost use Rattle.std.specs.Prelude.{◌≡◌, ◌<◌, ◌≤◌, ◌+◌, ◌++◌, ◌∷◌, Bool, length, Ok};
+ghost use Rattle.std.specs.Prelude.{◌≡◌, ◌<◌, ◌≤◌, ◌+◌, ◌*◌, ◌++◌, ◌∷◌, Bool, length, Ok};
 ghost use Rattle.std.specs.Fmt.{decimal};
 ghost use Rattle.mesh_base.specs.Addresses.{dotted_decimal};
 ghost use Rattle.mesh_base.specs.Meshes.{addr_at};
@@ -16,26 +16,40 @@ ghost use Rattle.mesh_script.specs.Seen.{accepted_of, IsPrintable};
 
 use crate::forms::Arguments;
 use crate::line::Line;
-use mesh_base::{Addr, Event, LINE_CAPACITY, LineBuf, Mesh, push_number, push_text, write_dotted};
+use mesh_base::{
+    Addr, Event, LINE_CAPACITY, LONGEST_DATUM, LineBuf, Mesh, push_number, push_text, write_dotted,
+};
+
+/// The most bytes of an address as it is written: four numbers of three digits, and three dots.
+pub const ADDRESS_WIDTH: usize = 4 * 3 + 3;
+
+/// The most bytes of a number of 64 bits as it is written.
+pub const NUMBER_WIDTH: usize = 20;
+
+/// The most bytes of an address as an argument, with the space before it.
+pub const ADDRESS_ARGUMENT: usize = 1 + ADDRESS_WIDTH;
+
+/// The most bytes of a number as an argument, with the space before it.
+pub const NUMBER_ARGUMENT: usize = 1 + NUMBER_WIDTH;
 
 /// The longest line that is written back: of a word of four letters, two addresses, and a text.
-pub const LONGEST_WRITTEN: usize = 549;
+pub const LONGEST_WRITTEN: usize = 4 + 2 * ADDRESS_ARGUMENT + 1 + LONGEST_DATUM;
 
 // An argument, after the space before it.
 
 fn push_address(out: &mut LineBuf, a: Addr)
-    requires room { length out.old + 16 ≤ LINE_CAPACITY }
+    requires room { length out.old + ADDRESS_ARGUMENT ≤ LINE_CAPACITY }
     ensures text { out.new ≡ out.old ++ 32 ∷ dotted_decimal a.0 }
-    ensures length { length out.new ≤ length out.old + 16 }
+    ensures length { length out.new ≤ length out.old + ADDRESS_ARGUMENT }
 {
     out.push(b' ');
     write_dotted(a, out);
 }
 
 fn push_argument(out: &mut LineBuf, n: u64)
-    requires room { length out.old + 21 ≤ LINE_CAPACITY }
+    requires room { length out.old + NUMBER_ARGUMENT ≤ LINE_CAPACITY }
     ensures text { out.new ≡ out.old ++ 32 ∷ decimal n }
-    ensures length { length out.new ≤ length out.old + 21 }
+    ensures length { length out.new ≤ length out.old + NUMBER_ARGUMENT }
 {
     out.push(b' ');
     push_number(out, n);
@@ -88,10 +102,10 @@ pub fn push_written(out: &mut LineBuf, word: &[u8], arguments: &Arguments<'_, Ad
 #[tactic(auto, using(std::proofs::lemmas::List::append_assoc), unfolding(mesh_grammar::specs::Written::command_text))]
 fn push_one<const N: usize>(out: &mut LineBuf, word: &[u8; N], mesh: &Mesh, i: usize)
     requires node { i < length mesh.now }
-    requires room { length out.old + length word.now + 16 ≤ LINE_CAPACITY }
+    requires room { length out.old + length word.now + ADDRESS_ARGUMENT ≤ LINE_CAPACITY }
     ensures text { out.new
         ≡ out.old ++ command_text word.now (forms.OneAddress (addr_at mesh.now i)) }
-    ensures length { length out.new ≤ length out.old + length word.now + 16 }
+    ensures length { length out.new ≤ length out.old + length word.now + ADDRESS_ARGUMENT }
 {
     out.push_array(word);
     out.push(b' ');
@@ -104,10 +118,10 @@ fn push_one<const N: usize>(out: &mut LineBuf, word: &[u8; N], mesh: &Mesh, i: u
 fn push_two<const N: usize>(out: &mut LineBuf, word: &[u8; N], mesh: &Mesh, i: usize, j: usize)
     requires first { i < length mesh.now }
     requires second { j < length mesh.now }
-    requires room { length out.old + length word.now + 32 ≤ LINE_CAPACITY }
+    requires room { length out.old + length word.now + 2 * ADDRESS_ARGUMENT ≤ LINE_CAPACITY }
     ensures text { out.new ≡ out.old
         ++ command_text word.now (forms.TwoAddresses (addr_at mesh.now i) (addr_at mesh.now j)) }
-    ensures length { length out.new ≤ length out.old + length word.now + 32 }
+    ensures length { length out.new ≤ length out.old + length word.now + 2 * ADDRESS_ARGUMENT }
 {
     push_one(out, word, mesh, i);
     out.push(b' ');
@@ -118,9 +132,9 @@ fn push_two<const N: usize>(out: &mut LineBuf, word: &[u8; N], mesh: &Mesh, i: u
 #[inline(always)]
 #[tactic(auto, using(std::proofs::lemmas::List::append_assoc), unfolding(mesh_grammar::specs::Written::command_text))]
 fn push_numbered<const N: usize>(out: &mut LineBuf, word: &[u8; N], n: u64)
-    requires room { length out.old + length word.now + 21 ≤ LINE_CAPACITY }
+    requires room { length out.old + length word.now + NUMBER_ARGUMENT ≤ LINE_CAPACITY }
     ensures text { out.new ≡ out.old ++ command_text word.now (forms.OneNumber n) }
-    ensures length { length out.new ≤ length out.old + length word.now + 21 }
+    ensures length { length out.new ≤ length out.old + length word.now + NUMBER_ARGUMENT }
 {
     out.push_array(word);
     push_argument(out, n);
