@@ -22,6 +22,10 @@ ghost use Rattle.mesh_report.specs.Legible.{IsLegible, IsTookLegible, IsDoneLegi
 
 use crate::event::node_of;
 use crate::text::{push_labelled, push_one, push_packet, push_set, push_shown, push_two};
+use crate::widths::{
+    BROKEN_LINE, CAST_LINE, COPY_LINE, DATUM_WIDTH, DELIVERED_LINE, DROPPED_LINE, HEARD_LINE,
+    LOST_LINE, SENT_LINES, TOOK_LINE, TURN_LINES,
+};
 use aodv_wire::{Message, read};
 use mesh_base::{
     Addr, Air, Cast, Done, Effect, Event, Flying, Kind, LINE_CAPACITY, LONGEST_DATUM, LONGEST_LINE,
@@ -35,11 +39,11 @@ use mesh_script::{Line, print_line};
 // A datum of one address for another, after a label.
 fn push_datum(out: &mut LineBuf, label: &[u8], origin: Addr, dest: Addr, body: &[u8])
     requires short { length body.now ≤ LONGEST_DATUM }
-    requires room { length out.old + length label.now + 2081 ≤ LINE_CAPACITY }
+    requires room { length out.old + length label.now + DATUM_WIDTH ≤ LINE_CAPACITY }
     ensures text { out.new ≡ out.old
         ++ line (label.now ++ dotted_decimal origin.0 ++ 32 ∷ dotted_decimal dest.0
         ++ 32 ∷ flat_map shown_byte body.now) }
-    ensures length { length out.new ≤ length out.old + length label.now + 2081 }
+    ensures length { length out.new ≤ length out.old + length label.now + DATUM_WIDTH }
 {
     push_text(out, label);
     write_dotted(origin, out);
@@ -52,12 +56,12 @@ fn push_datum(out: &mut LineBuf, label: &[u8], origin: Addr, dest: Addr, body: &
 
 // The datum of a packet, if it has one, after a label.
 fn push_datum_in(out: &mut LineBuf, label: &[u8], packet: &[u8])
-    requires room { length out.old + length label.now + 2081 ≤ LINE_CAPACITY }
+    requires room { length out.old + length label.now + DATUM_WIDTH ≤ LINE_CAPACITY }
     ensures text { (mesh : Nodes) → IsWritten mesh packet.now
         → out.new ≡ out.old ++ datum_in label.now mesh (meaning mesh packet.now) }
     ensures legible { (mesh : Nodes) → IsLegible mesh packet.now
         → out.new ≡ out.old ++ datum_in label.now mesh (meaning mesh packet.now) }
-    ensures length { length out.new ≤ length out.old + length label.now + 2081 }
+    ensures length { length out.new ≤ length out.old + length label.now + DATUM_WIDTH }
 {
     match read(packet) {
         Ok(Message::Parcel(datum)) => {
@@ -89,9 +93,9 @@ fn took_label(kind: Kind) -> &'static [u8; 12]
 fn push_took(out: &mut LineBuf, mesh: &Mesh, me: usize, took: &Took)
     requires me { me < length mesh.now }
     requires took { IsTookLegible mesh.now took.now }
-    requires room { length out.old + 28 ≤ LINE_CAPACITY }
+    requires room { length out.old + TOOK_LINE ≤ LINE_CAPACITY }
     ensures text { out.new ≡ out.old ++ took_text mesh.now me (took_in mesh.now took.now) }
-    ensures length { length out.new ≤ length out.old + 28 }
+    ensures length { length out.new ≤ length out.old + TOOK_LINE }
 {
     match took {
         Took::Own { .. } => push_one(out, b"  took new ", mesh, me),
@@ -105,9 +109,9 @@ fn push_took(out: &mut LineBuf, mesh: &Mesh, me: usize, took: &Took)
 fn push_delivery(out: &mut LineBuf, mesh: &Mesh, me: usize, took: &Took)
     requires me { me < length mesh.now }
     requires took { IsTookLegible mesh.now took.now }
-    requires room { length out.old + 2093 ≤ LINE_CAPACITY }
+    requires room { length out.old + DELIVERED_LINE ≤ LINE_CAPACITY }
     ensures text { out.new ≡ out.old ++ delivery_text mesh.now me (took_in mesh.now took.now) }
-    ensures length { length out.new ≤ length out.old + 2093 }
+    ensures length { length out.new ≤ length out.old + DELIVERED_LINE }
 {
     match took {
         Took::Own { body } => {
@@ -123,10 +127,10 @@ fn push_delivery(out: &mut LineBuf, mesh: &Mesh, me: usize, took: &Took)
 
 // The datum that was taken, which is dropped.
 fn push_drop(out: &mut LineBuf, took: &Took)
-    requires room { length out.old + 2091 ≤ LINE_CAPACITY }
+    requires room { length out.old + DROPPED_LINE ≤ LINE_CAPACITY }
     ensures text { (mesh : Nodes) → IsTookLegible mesh took.now
         → out.new ≡ out.old ++ drop_text mesh (took_in mesh took.now) }
-    ensures length { length out.new ≤ length out.old + 2091 }
+    ensures length { length out.new ≤ length out.old + DROPPED_LINE }
 {
     if let Took::Heard { bytes, .. } = took {
         push_datum_in(out, b"  dropped ", bytes.as_slice());
@@ -138,7 +142,7 @@ fn push_drop(out: &mut LineBuf, took: &Took)
 fn push_fate(out: &mut LineBuf, mesh: &Mesh, me: usize, took: &Took, effect: &Effect)
     requires me { me < length mesh.now }
     requires took { IsTookLegible mesh.now took.now }
-    requires room { length out.old + 4184 ≤ LINE_CAPACITY }
+    requires room { length out.old + DELIVERED_LINE + DROPPED_LINE ≤ LINE_CAPACITY }
     ensures text { out.new ≡ out.old
         ++ datum_fate mesh.now me (took_in mesh.now took.now) (effect_in mesh.now effect.now []) }
 {
@@ -155,7 +159,7 @@ fn push_fate(out: &mut LineBuf, mesh: &Mesh, me: usize, took: &Took, effect: &Ef
 fn push_turn(out: &mut LineBuf, mesh: &Mesh, me: usize, took: &Took, effect: &Effect)
     requires me { me < length mesh.now }
     requires took { IsTookLegible mesh.now took.now }
-    requires room { length out.old + 4212 ≤ LINE_CAPACITY }
+    requires room { length out.old + TURN_LINES ≤ LINE_CAPACITY }
     ensures text { out.new ≡ out.old ++ (took_text mesh.now me (took_in mesh.now took.now)
         ++ datum_fate mesh.now me (took_in mesh.now took.now) (effect_in mesh.now effect.now [])) }
 {
@@ -167,7 +171,7 @@ fn push_turn(out: &mut LineBuf, mesh: &Mesh, me: usize, took: &Took, effect: &Ef
 fn push_taken(out: &mut LineBuf, mesh: &Mesh, me: usize, took: Option<&Took>, effect: &Effect)
     requires me { me < length mesh.now }
     requires took { IfSome took (λ t. IsTookLegible mesh.now t.now) }
-    requires room { length out.old + 4212 ≤ LINE_CAPACITY }
+    requires room { length out.old + TURN_LINES ≤ LINE_CAPACITY }
     ensures text { out.new ≡ out.old ++ taken_text mesh.now me took.entry effect.now }
 {
     if let Some(took) = took {
@@ -179,9 +183,9 @@ fn push_taken(out: &mut LineBuf, mesh: &Mesh, me: usize, took: Option<&Took>, ef
 
 fn push_broken(out: &mut LineBuf, mesh: &Mesh, broken: Option<usize>)
     requires broken { IfSome broken (λ y. y < length mesh.now) }
-    requires room { length out.old + 25 ≤ LINE_CAPACITY }
+    requires room { length out.old + BROKEN_LINE ≤ LINE_CAPACITY }
     ensures text { out.new ≡ out.old ++ broken_text mesh.now broken }
-    ensures length { length out.new ≤ length out.old + 25 }
+    ensures length { length out.new ≤ length out.old + BROKEN_LINE }
 {
     if let Some(y) = broken {
         push_one(out, b"  broken ", mesh, y);
@@ -189,12 +193,11 @@ fn push_broken(out: &mut LineBuf, mesh: &Mesh, broken: Option<usize>)
     }
 }
 
-// To whom a packet was cast, and the packet. The longest such line names 200 nodes and has the two
-// digits of each of 1604 bytes.
+// To whom a packet was cast, and the packet.
 #[tactic(auto, using(std::proofs::lemmas::List::append_assoc))]
 fn push_cast(out: &mut LineBuf, mesh: &Mesh, cast: &Cast, packet: &Packet)
     requires cast { IsCastWritten mesh.now cast.now packet.now.items }
-    requires room { length out.old + 6422 ≤ LINE_CAPACITY }
+    requires room { length out.old + CAST_LINE ≤ LINE_CAPACITY }
     ensures text { out.new
         ≡ out.old ++ cast_text mesh.now (cast_in mesh.now cast.now packet.now.items) }
 {
@@ -232,10 +235,9 @@ fn make_room<O: Sink>(buf: &mut LineBuf, bytes: usize, out: &mut O) -> Result<()
     Ok(())
 }
 
-// The longest such line has a number of 20 digits and an address of 15 bytes.
 fn push_copy(out: &mut LineBuf, mesh: &Mesh, id: u64, to: usize)
     requires to { to < length mesh.now }
-    requires room { length out.old + 44 ≤ LINE_CAPACITY }
+    requires room { length out.old + COPY_LINE ≤ LINE_CAPACITY }
     ensures text { out.new
         ≡ out.old ++ line (label_number (codes "  copy ") id ++ 32 ∷ name_of mesh.now to) }
 {
@@ -244,8 +246,7 @@ fn push_copy(out: &mut LineBuf, mesh: &Mesh, id: u64, to: usize)
     out.push(b'\n');
 }
 
-// What the buffer has, and then the copies of a cast, one line each: a buffer is too short for all
-// of them.
+// What the buffer has, and then the copies of a cast, one line each: no buffer has room for all.
 fn put_air<O: Sink>(mesh: &Mesh, air: &Air, buf: &mut LineBuf, out: &mut O) -> Result<(), PutFault>
     requires receivers { AreBelow (length mesh.now) air.now.to }
     requires few { air.now.first + MOST_NODES < 2 ^ 64 }
@@ -259,7 +260,7 @@ fn put_air<O: Sink>(mesh: &Mesh, air: &Air, buf: &mut LineBuf, out: &mut O) -> R
     let mut id = air.first;
     let mut start = 0;
     while let Some(to) = air.to.next_from(start) {
-        make_room(buf, 44, out)?;
+        make_room(buf, COPY_LINE, out)?;
         push_copy(buf, mesh, id, to);
         id += 1;
         start = to + 1;
@@ -294,7 +295,7 @@ fn put_copies<O: Sink>(
 fn push_sent(out: &mut LineBuf, mesh: &Mesh, effect: &Effect, packet: &Packet)
     requires broken { IfSome effect.now.broken (λ y. y < length mesh.now) }
     requires cast { IsCastWritten mesh.now effect.now.cast packet.now.items }
-    requires room { length out.old + 6447 ≤ LINE_CAPACITY }
+    requires room { length out.old + SENT_LINES ≤ LINE_CAPACITY }
     ensures text { out.new ≡ out.old ++ (broken_text mesh.now effect.now.broken
         ++ cast_text mesh.now (cast_in mesh.now effect.now.cast packet.now.items)) }
 {
@@ -317,7 +318,7 @@ fn put_sent<O: Sink>(
         (copies_in mesh.now from effect.now.cast air.now packet.now.items)) result }
     ensures cause { HasCause (O.faults out.old) (O.faults out.new) result }
 {
-    make_room(buf, 6447, out)?;
+    make_room(buf, SENT_LINES, out)?;
     push_sent(buf, mesh, effect, packet);
     put_copies(mesh, &effect.cast, air, buf, out)
 }
@@ -343,7 +344,7 @@ pub fn put_effect<O: Sink>(
 {
     buf.clear();
     push_taken(buf, mesh, me, took, effect);
-    make_room(buf, 6447, out)?;
+    make_room(buf, SENT_LINES, out)?;
     push_sent(buf, mesh, effect, packet);
     put_all(out, buf.as_slice())
 }
@@ -353,7 +354,7 @@ pub fn put_effect<O: Sink>(
 fn push_heard(out: &mut LineBuf, mesh: &Mesh, from: usize, to: usize)
     requires from { from < length mesh.now }
     requires to { to < length mesh.now }
-    requires room { length out.old + 40 ≤ LINE_CAPACITY }
+    requires room { length out.old + HEARD_LINE ≤ LINE_CAPACITY }
     ensures text { out.new ≡ out.old
         ++ line (codes "  heard " ++ name_of mesh.now from ++ 32 ∷ name_of mesh.now to) }
 {
@@ -364,10 +365,10 @@ fn push_heard(out: &mut LineBuf, mesh: &Mesh, from: usize, to: usize)
 fn push_lost_copy(out: &mut LineBuf, mesh: &Mesh, from: usize, to: usize)
     requires from { from < length mesh.now }
     requires to { to < length mesh.now }
-    requires room { length out.old + 40 ≤ LINE_CAPACITY }
+    requires room { length out.old + LOST_LINE ≤ LINE_CAPACITY }
     ensures text { out.new ≡ out.old
         ++ line (codes "  lost " ++ name_of mesh.now from ++ 32 ∷ name_of mesh.now to) }
-    ensures length { length out.new ≤ length out.old + 40 }
+    ensures length { length out.new ≤ length out.old + LOST_LINE }
 {
     push_two(out, b"  lost ", mesh, from, to);
     out.push(b'\n');
@@ -378,7 +379,7 @@ fn push_lost(out: &mut LineBuf, mesh: &Mesh, flying: &Flying)
     requires from { flying.now.from < length mesh.now }
     requires to { flying.now.to < length mesh.now }
     requires legible { IsLegible mesh.now flying.now.bytes }
-    requires room { length out.old + 2131 ≤ LINE_CAPACITY }
+    requires room { length out.old + LOST_LINE + DROPPED_LINE ≤ LINE_CAPACITY }
     ensures text { out.new ≡ out.old
         ++ (line (codes "  lost " ++ name_of mesh.now flying.now.from
         ++ 32 ∷ name_of mesh.now flying.now.to)
@@ -470,8 +471,7 @@ pub fn put_event<O: Sink>(
     put_after(mesh, e, done, packet, buf, out)
 }
 
-/// Writes the line of an event as it stands, and below it what the event did. The line is in
-/// canonical form already.
+/// Writes the line of an event, which is in canonical form already, and below it what it did.
 pub fn put_echoed_event<O: Sink>(
     bytes: &[u8],
     mesh: &Mesh,

@@ -12,6 +12,9 @@ ghost use Rattle.mesh_report.specs.Sums.{sums_of};
 
 use crate::sums::Sums;
 use crate::text::push_labelled;
+use crate::widths::{
+    BAD_LINE, COPIED_WIDTH, DONE_WIDTH, FAULT_WIDTH, FULL_LINE, SPAN_WIDTH, SUMMARY_LINE,
+};
 use mesh_base::{Counter, Event, LINE_CAPACITY, LineBuf, Mesh, push_text};
 use mesh_grammar::{BadWhy, LineFault, Span};
 use mesh_io::{PutFault, Sink, put_all};
@@ -34,13 +37,13 @@ pub struct Summary {
 
 // The counts of events, and of the data that were given and delivered.
 fn push_done(out: &mut LineBuf, s: &Sums)
-    requires room { length out.old + 116 ≤ LINE_CAPACITY }
+    requires room { length out.old + DONE_WIDTH ≤ LINE_CAPACITY }
     ensures text { out.new ≡ out.old
         ++ (label_number (codes "done events ") s.now.events
         ++ label_number (codes " idle ") s.now.idle
         ++ label_number (codes " given ") s.now.given
         ++ label_number (codes " delivered ") s.now.delivered) }
-    ensures length { length out.new ≤ length out.old + 116 }
+    ensures length { length out.new ≤ length out.old + DONE_WIDTH }
 {
     push_labelled(out, b"done events ", s.events);
     push_labelled(out, b" idle ", s.idle);
@@ -50,9 +53,9 @@ fn push_done(out: &mut LineBuf, s: &Sums)
 
 // How many data packets were doubled, where any were.
 fn push_copied(out: &mut LineBuf, copied: u64)
-    requires room { length out.old + 28 ≤ LINE_CAPACITY }
+    requires room { length out.old + COPIED_WIDTH ≤ LINE_CAPACITY }
     ensures text { out.new ≡ out.old ++ copied_words copied }
-    ensures length { length out.new ≤ length out.old + 28 }
+    ensures length { length out.new ≤ length out.old + COPIED_WIDTH }
 {
     if copied > 0 {
         push_labelled(out, b" copied ", copied);
@@ -60,7 +63,7 @@ fn push_copied(out: &mut LineBuf, copied: u64)
 }
 
 fn push_summary(out: &mut LineBuf, s: &Summary)
-    requires room { length out.old + 256 ≤ LINE_CAPACITY }
+    requires room { length out.old + SUMMARY_LINE ≤ LINE_CAPACITY }
     ensures text { out.new ≡ out.old
         ++ summary_text (sums_of s.now.sums) s.now.waiting s.now.queued s.now.flying }
 {
@@ -89,9 +92,9 @@ pub fn put_summary<O: Sink>(s: &Summary, buf: &mut LineBuf, out: &mut O) -> Resu
 // A fault, and the bytes of the line that it is about.
 #[tactic(auto, using(std::proofs::lemmas::List::append_assoc))]
 fn push_at(out: &mut LineBuf, fault: &[u8], span: Span)
-    requires room { length out.old + length fault.now + 54 ≤ LINE_CAPACITY }
+    requires room { length out.old + length fault.now + SPAN_WIDTH ≤ LINE_CAPACITY }
     ensures text { out.new ≡ out.old ++ (fault.now ++ at_bytes span) }
-    ensures length { length out.new ≤ length out.old + length fault.now + 54 }
+    ensures length { length out.new ≤ length out.old + length fault.now + SPAN_WIDTH }
 {
     push_text(out, fault);
     push_labelled(out, b" at bytes ", span.from as u64);
@@ -99,9 +102,9 @@ fn push_at(out: &mut LineBuf, fault: &[u8], span: Span)
 }
 
 fn push_fault(out: &mut LineBuf, fault: &LineFault)
-    requires room { length out.old + 70 ≤ LINE_CAPACITY }
+    requires room { length out.old + FAULT_WIDTH ≤ LINE_CAPACITY }
     ensures text { out.new ≡ out.old ++ fault_text fault.now }
-    ensures length { length out.new ≤ length out.old + 70 }
+    ensures length { length out.new ≤ length out.old + FAULT_WIDTH }
 {
     match *fault {
         LineFault::Word(span) => push_at(out, b"no command", span),
@@ -120,9 +123,9 @@ fn push_fault(out: &mut LineBuf, fault: &LineFault)
 
 #[tactic(auto, unfolding(mesh_grammar::specs::Faults::why_text))]
 fn push_why(out: &mut LineBuf, why: &BadWhy)
-    requires room { length out.old + 70 ≤ LINE_CAPACITY }
+    requires room { length out.old + FAULT_WIDTH ≤ LINE_CAPACITY }
     ensures text { out.new ≡ out.old ++ why_text why.now }
-    ensures length { length out.new ≤ length out.old + 70 }
+    ensures length { length out.new ≤ length out.old + FAULT_WIDTH }
 {
     match why {
         BadWhy::Fault(fault) => push_fault(out, fault),
@@ -132,7 +135,7 @@ fn push_why(out: &mut LineBuf, why: &BadWhy)
 }
 
 fn push_bad(out: &mut LineBuf, line: u64, why: &BadWhy)
-    requires room { length out.old + 102 ≤ LINE_CAPACITY }
+    requires room { length out.old + BAD_LINE ≤ LINE_CAPACITY }
     ensures text { out.new ≡ out.old ++ bad_line line why.now }
 {
     push_labelled(out, b"bad line ", line);
@@ -171,7 +174,7 @@ fn field_word(field: &Counter) -> &'static [u8]
 
 fn push_full(out: &mut LineBuf, mesh: &Mesh, line: u64, e: &Event<'_>, field: &Counter)
     requires event { IsEvent (length mesh.now) (event_of e.now) }
-    requires room { length out.old + 590 ≤ LINE_CAPACITY }
+    requires room { length out.old + FULL_LINE ≤ LINE_CAPACITY }
     ensures text { out.new ≡ out.old ++ full_line mesh.now line (event_of e.now) field.now }
 {
     push_labelled(out, b"full line ", line);

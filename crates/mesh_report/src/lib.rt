@@ -12,6 +12,7 @@ mod line;
 mod sums;
 mod tables;
 mod text;
+mod widths;
 
 pub use effects::{put_done, put_echoed_event, put_effect, put_event};
 pub use ends::{Summary, put_auto_end, put_bad, put_full, put_summary};

@@ -9,14 +9,16 @@ ghost use Rattle.mesh_io.specs.Cause.{HasCause};
 ghost use Rattle.mesh_io.specs.Puts.{Puts};
 
 use crate::text::{push_labelled, push_one, push_packet, push_set, push_two};
+use crate::widths::{ENTRY_LINE, FLYING_LINE, QUALITY_WIDTH};
 use aodv_model::{Entry, Flag, Known};
 use mesh_base::{FlyingView, LINE_CAPACITY, LineBuf, Mesh, push_number, push_text};
 use mesh_io::{PutFault, Sink, put_all};
+use mesh_script::NUMBER_WIDTH;
 
 // ---- a node
 
 fn push_number_line(out: &mut LineBuf, label: &[u8], n: u64)
-    requires room { length out.old + length label.now + 24 ≤ LINE_CAPACITY }
+    requires room { length out.old + length label.now + NUMBER_WIDTH + 4 ≤ LINE_CAPACITY }
     ensures text { out.new ≡ out.old ++ number_line label.now n }
 {
     push_text(out, b"  ");
@@ -84,11 +86,11 @@ fn flag_word(flag: Flag) -> &'static [u8]
 // The number of an entry and whether it is known, whether the route is valid, and its hops.
 #[tactic(auto, using(std::proofs::lemmas::List::append_assoc))]
 fn push_quality(out: &mut LineBuf, e: &Entry)
-    requires room { length out.old + 50 ≤ LINE_CAPACITY }
+    requires room { length out.old + QUALITY_WIDTH ≤ LINE_CAPACITY }
     ensures text { out.new ≡ out.old
         ++ (32 ∷ decimal e.now.dsn ++ known_text e.now.dsk ++ flag_text e.now.flag
         ++ decimal e.now.hops) }
-    ensures length { length out.new ≤ length out.old + 50 }
+    ensures length { length out.new ≤ length out.old + QUALITY_WIDTH }
 {
     push_labelled(out, b" ", u64::from(e.dsn));
     push_text(out, known_word(e.dsk));
@@ -101,7 +103,7 @@ fn push_entry(out: &mut LineBuf, mesh: &Mesh, d: usize, e: &Entry)
     requires dest { d < length mesh.now }
     requires next { e.now.next < length mesh.now }
     requires precursors { AreBelow (length mesh.now) e.now.pre }
-    requires room { length out.old + 3291 ≤ LINE_CAPACITY }
+    requires room { length out.old + ENTRY_LINE ≤ LINE_CAPACITY }
     ensures text { out.new ≡ out.old ++ entry_text mesh.now d e.now }
 {
     push_one(out, b"  entry ", mesh, d);
@@ -185,12 +187,12 @@ pub fn put_stuck<O: Sink>(
 
 // ---- the radio
 
-// A copy in flight. A packet that is not refused has at most 2044 bytes.
+// A copy in flight.
 fn push_flying(out: &mut LineBuf, mesh: &Mesh, f: &FlyingView<'_>)
     requires from { f.now.from < length mesh.now }
     requires to { f.now.to < length mesh.now }
     requires written { IsWrittenCopy mesh.now (flying_seen f.now) }
-    requires room { length out.old + 4149 ≤ LINE_CAPACITY }
+    requires room { length out.old + FLYING_LINE ≤ LINE_CAPACITY }
     ensures text { out.new
         ≡ out.old ++ flying_text mesh.now (copy_in mesh.now (flying_seen f.now)) }
 {

@@ -9,15 +9,17 @@ ghost use Rattle.mesh_text.specs.Lines.{name_of, of_one, of_two, hex, hex_byte};
 ghost use Rattle.mesh_text.specs.Effects.{shown_byte, set_text};
 ghost use Rattle.aodv_model.specs.Soundness.{AreBelow};
 
+use crate::widths::{SET_WIDTH, TWO_ADDRESSES};
 use mesh_base::{LINE_CAPACITY, LineBuf, Mesh, NodeSet, push_number, push_text};
+use mesh_script::{ADDRESS_WIDTH, NUMBER_WIDTH};
 
 /// A node's address.
 #[inline(always)]
 pub(crate) fn push_name(out: &mut LineBuf, mesh: &Mesh, i: usize)
     requires node { i < length mesh.now }
-    requires room { length out.old + 15 ≤ LINE_CAPACITY }
+    requires room { length out.old + ADDRESS_WIDTH ≤ LINE_CAPACITY }
     ensures text { out.new ≡ out.old ++ name_of mesh.now i }
-    ensures length { length out.new ≤ length out.old + 15 }
+    ensures length { length out.new ≤ length out.old + ADDRESS_WIDTH }
 {
     mesh.push_name(i, out);
 }
@@ -26,9 +28,9 @@ pub(crate) fn push_name(out: &mut LineBuf, mesh: &Mesh, i: usize)
 #[inline]
 pub(crate) fn push_one<const N: usize>(out: &mut LineBuf, label: &[u8; N], mesh: &Mesh, i: usize)
     requires node { i < length mesh.now }
-    requires room { length out.old + length label.now + 15 ≤ LINE_CAPACITY }
+    requires room { length out.old + length label.now + ADDRESS_WIDTH ≤ LINE_CAPACITY }
     ensures text { out.new ≡ out.old ++ of_one label.now mesh.now i }
-    ensures length { length out.new ≤ length out.old + length label.now + 15 }
+    ensures length { length out.new ≤ length out.old + length label.now + ADDRESS_WIDTH }
 {
     out.push_array(label);
     push_name(out, mesh, i);
@@ -45,9 +47,9 @@ pub(crate) fn push_two<const N: usize>(
 )
     requires first { i < length mesh.now }
     requires second { j < length mesh.now }
-    requires room { length out.old + length label.now + 31 ≤ LINE_CAPACITY }
+    requires room { length out.old + length label.now + TWO_ADDRESSES ≤ LINE_CAPACITY }
     ensures text { out.new ≡ out.old ++ of_two label.now mesh.now i j }
-    ensures length { length out.new ≤ length out.old + length label.now + 31 }
+    ensures length { length out.new ≤ length out.old + length label.now + TWO_ADDRESSES }
 {
     push_one(out, label, mesh, i);
     out.push(b' ');
@@ -57,9 +59,9 @@ pub(crate) fn push_two<const N: usize>(
 /// A label, and a number.
 #[inline]
 pub(crate) fn push_labelled<const N: usize>(out: &mut LineBuf, label: &[u8; N], n: u64)
-    requires room { length out.old + length label.now + 20 ≤ LINE_CAPACITY }
+    requires room { length out.old + length label.now + NUMBER_WIDTH ≤ LINE_CAPACITY }
     ensures text { out.new ≡ out.old ++ label_number label.now n }
-    ensures length { length out.new ≤ length out.old + length label.now + 20 }
+    ensures length { length out.new ≤ length out.old + length label.now + NUMBER_WIDTH }
 {
     out.push_array(label);
     push_number(out, n);
@@ -150,13 +152,12 @@ pub(crate) fn push_shown(out: &mut LineBuf, body: &[u8])
     }
 }
 
-/// The members of a set, by rising address, joined by commas. There are at most 200, of 16 bytes
-/// each with its comma.
+/// The members of a set, by rising address, joined by commas.
 pub(crate) fn push_set(out: &mut LineBuf, mesh: &Mesh, set: &NodeSet)
     requires members { AreBelow (length mesh.now) set.now }
-    requires room { length out.old + 3200 ≤ LINE_CAPACITY }
+    requires room { length out.old + SET_WIDTH ≤ LINE_CAPACITY }
     ensures text { out.new ≡ out.old ++ set_text mesh.now set.now }
-    ensures length { length out.new ≤ length out.old + 3200 }
+    ensures length { length out.new ≤ length out.old + SET_WIDTH }
 {
     // There are at most 200 nodes.
     let _nodes = mesh.len();
