@@ -10,15 +10,15 @@ ghost use Rattle.mesh_peers.specs.Seen.{accepted_of, IsPrintable};
 use crate::line::NodeLine;
 use crate::peers::Peers;
 use mesh_base::{LINE_CAPACITY, LineBuf, Mesh};
-use mesh_script::{Arguments, LONGEST_WRITTEN, push_written};
+use mesh_script::{ADDRESS_ARGUMENT, Arguments, LONGEST_WRITTEN, push_written};
 
 // A word and the address of a node.
 fn push_of_node(out: &mut LineBuf, word: &[u8], mesh: &Mesh, node: usize)
     requires node { node < length mesh.now }
-    requires room { length out.old + length word.now + 16 ≤ LINE_CAPACITY }
+    requires room { length out.old + length word.now + ADDRESS_ARGUMENT ≤ LINE_CAPACITY }
     ensures text { out.new
         ≡ out.old ++ command_text word.now (OneAddress (addr_at mesh.now node)) }
-    ensures length { length out.new ≤ length out.old + length word.now + 16 }
+    ensures length { length out.new ≤ length out.old + length word.now + ADDRESS_ARGUMENT }
 {
     push_written(out, word, &Arguments::OneAddress(mesh.at(node)));
 }
