@@ -1,10 +1,14 @@
 -- How printed tables are kept: maps of maps, seen as lists by rising key.
-use Rattle.std.specs.Prelude.{ℕ, ◌+◌, List, [], ◌∷◌, length, map, Option, Some, None}
+use Rattle.std.specs.Prelude.{ℕ, ◌+◌, ◌^◌, List, [], ◌∷◌, length, map, Option, Some, None}
 use Rattle.std.specs.BTreeMap.{BTreeMap}
 use Rattle.mesh_tables.specs.declared.row.Row.{Row}
 use Rattle.mesh_tables.specs.declared.printed.OpenBlock.{OpenBlock}
 use Rattle.mesh_tables.specs.declared.entry_line.Words.{Words}
 use Rattle.mesh_tables.specs.Printed.{ShownTables, Block}
+
+-- the most lines that are read
+abbrev pub most_lines : ℕ
+most_lines = 2 ^ 63
 
 abbrev pub shown_in : List (ℕ × BTreeMap ℕ Row) → ShownTables
 shown_in tables = map (λ t. (t.0, (t.1).entries)) tables

@@ -1,11 +1,11 @@
 //! The tables that a printed text shows, line by line.
-ghost use Rattle.std.specs.Prelude.{◌≡◌, ◌≤◌, ◌+◌, ◌<◌, ◌^◌, Some, None, Ok, Err, ◌||◌, nat_lt, codes, OnOk, OnErr, IsErrOf, length, is_some};
+ghost use Rattle.std.specs.Prelude.{◌≡◌, ◌≤◌, ◌+◌, ◌<◌, Some, None, Ok, Err, ◌||◌, nat_lt, codes, OnOk, OnErr, IsErrOf, length, is_some};
 ghost use Rattle.std.specs.Ordering.{nat_cmp};
 ghost use Rattle.std.specs.Str.{bytes_eq};
 ghost use Rattle.std.specs.BTreeMap.{insert_entry};
 ghost use Rattle.mesh_base.specs.Parts.{rest_parts};
 ghost use Rattle.mesh_tables.specs.Printed as printed;
-ghost use Rattle.mesh_tables.specs.Kept.{block_in, block_size, shown_in, size_of};
+ghost use Rattle.mesh_tables.specs.Kept.{block_in, block_size, most_lines, shown_in, size_of};
 
 use crate::entry_line::parse_entry;
 use crate::row::Row;
@@ -48,9 +48,9 @@ pub struct PrintedTables {
 }
 
 impl Model for PrintedTables {
-    ghost use Rattle.std.specs.Prelude.{◌≤◌, ◌+◌, ◌^◌, option_map};
+    ghost use Rattle.std.specs.Prelude.{◌≤◌, ◌+◌, option_map};
     ghost use Rattle.mesh_tables.specs.Printed.{Reading};
-    ghost use Rattle.mesh_tables.specs.Kept.{shown_in, block_in, size_of, block_size};
+    ghost use Rattle.mesh_tables.specs.Kept.{most_lines, shown_in, block_in, size_of, block_size};
 
     ghost Value = { Reading };
 
@@ -61,7 +61,7 @@ impl Model for PrintedTables {
     } };
 
     ghost invariant = { λ t. (size_of (shown_in t.closed.entries)
-        + block_size (option_map block_in t.block) ≤ t.lines) × (t.lines ≤ 2 ^ 63) };
+        + block_size (option_map block_in t.block) ≤ t.lines) × (t.lines ≤ most_lines) };
 }
 
 fn is_show(word: &[u8]) -> bool
@@ -229,7 +229,7 @@ impl PrintedTables {
     /// Reads one more line. After an error nothing is said of the tables.
     #[tactic(auto, using(crate::proofs::Lines::by_show, crate::proofs::Lines::by_other))]
     pub fn read(&mut self, line: &[u8]) -> Result<(), ReadError>
-        requires { self.old.lines < 2 ^ 63 }
+        requires { self.old.lines < most_lines }
         ensures done { OnOk result (printed.after_line self.old line.now ≡ Some self.new) }
         ensures bad { IsErrOf result ReadError.BadLine →
             printed.after_line self.old line.now ≡ None }
