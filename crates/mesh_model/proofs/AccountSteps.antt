@@ -1,5 +1,5 @@
 -- Every event of the mesh keeps the account, and so does every run.
-use Rattle.std.proofs.Common.{◌≡◌, ℕ, zero, suc, ◌+◌, ◌<◌, ◌≤◌, Bool, true, false, cond, not, ◌==◌, List, [], ◌∷◌, ◌++◌, set, length, length-set, Some, None, Option, refl, ap, sym, ◌∙◌, subst, arith}
+use Rattle.std.proofs.Common.{◌≡◌, ℕ, zero, suc, ◌+◌, ◌<◌, ◌≤◌, Bool, true, false, cond, not, ◌==◌, List, [], ◌∷◌, ◌++◌, set, length, length-set, Some, refl, ap, sym, ◌∙◌, subst, arith}
 use Rattle.std.specs.Prelude.{slice_get, if◌then◌else◌, filter}
 use Rattle.std.specs.List.{AllByRecursion}
 use Rattle.std.specs.Ordering.{nat_cmp}
@@ -8,12 +8,11 @@ use Rattle.std.proofs.lemmas.Option.{none-some, same_Some, slice_get_within as i
 use Rattle.std.specs.FinMap as maps
 use Rattle.mesh_base.specs.declared.events.Counter.{Counter}
 use Rattle.mesh_base.specs.declared.events.Variant.{Variant}
-use Rattle.aodv_model.specs.Cores.{Body, Item, New, Heard, Core, bodies_in}
-use Rattle.aodv_model.specs.Handlers.{Effect, Reaction, took, turn, send, may_send, ask, may_ask}
-use Rattle.aodv_model.specs.Fullness.{turn_full, send_full, ask_full}
-use Rattle.aodv_model.proofs.Entries.{if_case}
+use Rattle.aodv_model.specs.Cores.{Item, New, Heard, bodies_in}
+use Rattle.aodv_model.specs.Handlers.{Reaction, took, turn, send, ask}
 use Rattle.aodv_model.proofs.SoundTurns.{Stands, Settles, turn_settles, send_settles, ask_settles}
-use Rattle.mesh_model.specs.Worlds.{is_parcel, World, Node, Copy, Event, Give, Turn, Send, Ask, Link, Cut, Deliver, Lose, Double, range, copies, done_by, push, with_item, find_copy, without, Changed, Taken, Sent, CopyHeard, CopyLost, CopyDoubled, Outcome, Idle, Next, unless_full, turn_of, send_of, ask_of, at_node, at_copy, with_link, without_link, without_copy, with_double, double_of, step, after, run, openings, start, are_linked}
+use Rattle.mesh_model.proofs.Cases.{NamesNoCopy, by_cases, full_by}
+use Rattle.mesh_model.specs.Worlds.{Full, World, Node, Copy, Event, Double, range, copies, done_by, push, with_item, find_copy, without, Outcome, Idle, without_copy, double_of, step, after, run, openings, start}
 use Rattle.mesh_model.specs.InMesh.{IsNodeInMesh, IsCopyInMesh, AreNumbered, IsInMesh, IsEvent}
 use Rattle.mesh_model.specs.Accounts.{Test, total, total_below, counts, in_item, in_store, in_copy, waiting, queued_data, in_flight, given_data, doubled_data, in_found, in_taken, delivered_data, in_dropped, dropped_data, over_run, over_worlds}
 use Rattle.mesh_model.proofs.Totals.{total-append, total-set, total_below_same}
@@ -104,34 +103,6 @@ is_there (x ∷ xs) (suc i) l = is_there xs i (omega arith)
 abbrev Balanced : Test → World → Event → Outcome → Type 0
 Balanced t w e o = in_world t (after w o) + delivered_data t e o + dropped_data t e o ≡ in_world t w + given_data t e o + doubled_data t w e
 
-turn_case : (t : Test) (w : World) (x : ℕ) (core : Core) (item : Item) (items : List Item) (full : Option Counter)
-    → in_world t (done_by w x (turn core (range w x) item) items) + (if ((turn core (range w x) item).effect).deliver then in_taken t x (took core item) else 0) + (if ((turn core (range w x) item).effect).lost then in_dropped t (took core item) else 0) ≡ in_world t w
-    → Balanced t w (Turn x) (unless_full x full (Next (done_by w x (turn core (range w x) item) items) (Taken (took core item) (turn core (range w x) item).effect (copies w x ((turn core (range w x) item).effect).cast))))
-turn_case t w x core item items (Some f) sum = omega arith
-turn_case t w x core item items None sum = omega arith
-
-turn_balanced : (t : Test) (w : World) (x : ℕ) (core : Core) (queue : List Item) → IsInMesh w → slice_get w.nodes x ≡ Some (record { core = core; queue = queue }) → Balanced t w (Turn x) (turn_of w x core queue)
-turn_balanced t w x core [] places is = omega arith
-turn_balanced t w x core (item ∷ items) places is =
-    let n : Node = record { core = core; queue = item ∷ items } in
-    let p : IsNodeInMesh (length w.nodes) x n = places.nodes x n is in
-    let s : Settles (length w.nodes) x (turn core (range w x) item) = turn_settles (length w.nodes) x core (range w x) item (own w x n places is) p.queue.0 in
-    let c : Stands (length w.nodes) x (turn core (range w x) item).core = s.core in
-    let named : core.ip ≡ x = p.named in
-    turn_case t w x core item items (turn_full core (range w x) item)
-    (done_sum t w x n (in_item t core.ip item) (in_taken t x (took core item)) (in_dropped t (took core item)) (turn core (range w x) item) items is named c.named
-    (subst (λ k. IsAccounted t w x core (in_item t core.ip item) (in_taken t k (took core item)) (in_dropped t (took core item)) (turn core (range w x) item)) named (turn_accounted t w x x core item p.queue.0))
-    (ap (λ k. in_item t core.ip item + total (in_item t k) items) named))
-
--- a send, or a request
-sent_case : (t : Test) (w w' : World) (x d : ℕ) (e : Effect) (cs : List Copy) (full : Option Counter) → in_world t w' ≡ in_world t w → Balanced t w (Send x d) (unless_full x full (Next w' (Sent e cs)))
-sent_case t w w' x d e cs (Some f) sum = refl
-sent_case t w w' x d e cs None sum = omega arith
-
-asked_case : (t : Test) (w w' : World) (x d : ℕ) (e : Effect) (cs : List Copy) (full : Option Counter) → in_world t w' ≡ in_world t w → Balanced t w (Ask x d) (unless_full x full (Next w' (Sent e cs)))
-asked_case t w w' x d e cs (Some f) sum = refl
-asked_case t w w' x d e cs None sum = omega arith
-
 nothing : (b : Bool) (z : ℕ) → (if b then z else z) ≡ z
 nothing true z = refl
 nothing false z = refl
@@ -139,74 +110,60 @@ nothing false z = refl
 none_more : {a b : ℕ} → a ≡ b → a ≡ 0 + b
 none_more e = omega (arith, e)
 
-send_balanced : (t : Test) (w : World) (x d : ℕ) (core : Core) (queue : List Item) → IsInMesh w → d < length w.nodes → slice_get w.nodes x ≡ Some (record { core = core; queue = queue }) → Balanced t w (Send x d) (send_of w x d core queue)
-send_balanced t w x d core queue places ld is =
-    let n : Node = record { core = core; queue = queue } in
-    let p : IsNodeInMesh (length w.nodes) x n = places.nodes x n is in
-    if_case (Balanced t w (Send x d)) (may_send core d) (unless_full x (send_full core (range w x) d) (Next (done_by w x (send core (range w x) d) queue) (Sent (send core (range w x) d).effect (copies w x ((send core (range w x) d).effect).cast)))) Idle
-    (λ may. sent_case t w (done_by w x (send core (range w x) d) queue) x d (send core (range w x) d).effect (copies w x ((send core (range w x) d).effect).cast) (send_full core (range w x) d)
-    (let s : Settles (length w.nodes) x (send core (range w x) d) = send_settles (length w.nodes) x core (range w x) d (own w x n places is) (is_within w.nodes x n is) may in
-    let c : Stands (length w.nodes) x (send core (range w x) d).core = s.core in
-    let sum = done_sum t w x n 0 0 0 (send core (range w x) d) queue is p.named c.named (send_accounted t w x core d ld may) (none_more (ap (λ k. total (in_item t k) queue) p.named)) in
-    let a = nothing ((send core (range w x) d).effect).deliver 0 in
-    let b = nothing ((send core (range w x) d).effect).lost 0 in
-    omega arith))
-    (λ _. refl)
-
-ask_balanced : (t : Test) (w : World) (x d : ℕ) (core : Core) (queue : List Item) → IsInMesh w → d < length w.nodes → slice_get w.nodes x ≡ Some (record { core = core; queue = queue }) → Balanced t w (Ask x d) (ask_of w x d core queue)
-ask_balanced t w x d core queue places ld is =
-    let n : Node = record { core = core; queue = queue } in
-    let p : IsNodeInMesh (length w.nodes) x n = places.nodes x n is in
-    if_case (Balanced t w (Ask x d)) (may_ask core d) (unless_full x (ask_full core) (Next (done_by w x (ask core d) queue) (Sent (ask core d).effect (copies w x ((ask core d).effect).cast)))) Idle
-    (λ may. asked_case t w (done_by w x (ask core d) queue) x d (ask core d).effect (copies w x ((ask core d).effect).cast) (ask_full core)
-    (let s : Settles (length w.nodes) x (ask core d) = ask_settles (length w.nodes) x core d (own w x n places is) (is_within w.nodes x n is) ld in
-    let c : Stands (length w.nodes) x (ask core d).core = s.core in
-    let sum = done_sum t w x n 0 0 0 (ask core d) queue is p.named c.named (ask_accounted t w x core d) (none_more (ap (λ k. total (in_item t k) queue) p.named)) in
-    let a = nothing ((ask core d).effect).deliver 0 in
-    let b = nothing ((ask core d).effect).lost 0 in
-    omega arith))
-    (λ _. refl)
-
-give_case : (t : Test) (w : World) (x d : ℕ) (b : Body) (o : Option Node) → IsInMesh w → slice_get w.nodes x ≡ o → Balanced t w (Give x d b) (at_node o (λ core queue. Next (push w x (New b d)) Changed))
-give_case t w x d b None places is = refl
-give_case t w x d b (Some n) places is = let e = push_sum t w x n (New b d) is (places.nodes x n is).named in omega arith
-
-node_at : (t : Test) (w : World) (e : Event) (f : Core → List Item → Outcome) (o : Option Node) → Balanced t w e Idle → ((n : Node) → o ≡ Some n → Balanced t w e (f n.core n.queue)) → Balanced t w e (at_node o f)
-node_at t w e f None idle some = idle
-node_at t w e f (Some n) idle some = some n refl
-
-deliver_case : (t : Test) (w : World) (id : ℕ) (o : Option Copy) → IsInMesh w → find_copy w.flying id ≡ o → Balanced t w (Deliver id) (at_copy o (λ c. Next (push (without_copy w id) c.to (Heard c.from c.message)) (CopyHeard c.from c.to)))
-deliver_case t w id None places is = refl
-deliver_case t w id (Some c) places is =
-    let p : IsCopyInMesh (length w.nodes) c = found_honest (IsCopyInMesh (length w.nodes)) w.flying id c places.flying is in
-    let n = is_there w.nodes c.to p.1 in
-    let light = lighter_sum t w id c places is in
-    let e = push_sum t (without_copy w id) c.to n.0 (Heard c.from c.message) n.1 (places.nodes c.to n.0 n.1).named in
+-- a send, or a request
+own_sum : (t : Test) (w : World) (x : ℕ) (n : Node) (did : Reaction) → IsInMesh w → slice_get w.nodes x ≡ Some n → Settles (length w.nodes) x did → IsAccounted t w x n.core 0 0 0 did → in_world t (done_by w x did n.queue) ≡ in_world t w
+own_sum t w x n did places is settles account =
+    let named : (n.core).ip ≡ x = (places.nodes x n is).named in
+    let c : Stands (length w.nodes) x did.core = settles.core in
+    let sum = done_sum t w x n 0 0 0 did n.queue is named c.named account (none_more (ap (λ k. total (in_item t k) n.queue) named)) in
+    let a = nothing (did.effect).deliver 0 in
+    let b = nothing (did.effect).lost 0 in
     omega arith
 
-lose_case : (t : Test) (w : World) (id : ℕ) (o : Option Copy) → IsInMesh w → find_copy w.flying id ≡ o → Balanced t w (Lose id) (at_copy o (λ c. Next (without_copy w id) (CopyLost c)))
-lose_case t w id None places is = refl
-lose_case t w id (Some c) places is = let light = lighter_sum t w id c places is in omega arith
+idle_balanced : (t : Test) (w : World) (e : Event) → NamesNoCopy w e → Balanced t w e Idle
+idle_balanced t w (Double id) none = let nothing = ap (in_found t) none in omega arith
+idle_balanced t w others none = refl
 
-double_case : (t : Test) (w : World) (id : ℕ) (o : Option Copy) → find_copy w.flying id ≡ o → Balanced t w (Double id) (at_copy o (λ c. Next (with_double w c) (CopyDoubled w.next_copy c.to (is_parcel c.message))))
-unfolding waiting queued_data in_flight
-double_case t w id None is = let none = ap (in_found t) is in omega arith
-double_case t w id (Some c) is =
-    let all = total-append (in_copy t) w.flying (double_of w c ∷ []) in
-    let one = ap (in_found t) is in
-    omega arith
+full_balanced : (t : Test) (w : World) (e : Event) (x : ℕ) (n : Node) (f : Counter) → full_by (range w x) e n ≡ Some f → Balanced t w e (Full x f)
+full_balanced t w (Double id) x n f full = absurd (none-some f full)
+full_balanced t w others x n f full = refl
 
 step_balanced_sum : (t : Test) (w : World) (e : Event) → IsEvent (length w.nodes) e → IsInMesh w → Balanced t w e (step w e)
-unfolding step waiting queued_data in_flight
-step_balanced_sum t w (Give x d b) ok places = give_case t w x d b (slice_get w.nodes x) places refl
-step_balanced_sum t w (Turn x) ok places = node_at t w (Turn x) (turn_of w x) (slice_get w.nodes x) refl (λ n is. turn_balanced t w x n.core n.queue places is)
-step_balanced_sum t w (Send x d) ok places = node_at t w (Send x d) (send_of w x d) (slice_get w.nodes x) refl (λ n is. send_balanced t w x d n.core n.queue places ok.1 is)
-step_balanced_sum t w (Ask x d) ok places = node_at t w (Ask x d) (ask_of w x d) (slice_get w.nodes x) refl (λ n is. ask_balanced t w x d n.core n.queue places ok.1 is)
-step_balanced_sum t w (Link a b) ok places = if_case (Balanced t w (Link a b)) (are_linked w.links a b) Idle (Next (with_link w a b) Changed) (λ _. refl) (λ _. refl)
-step_balanced_sum t w (Cut a b) ok places = if_case (Balanced t w (Cut a b)) (are_linked w.links a b) (Next (without_link w a b) Changed) Idle (λ _. refl) (λ _. refl)
-step_balanced_sum t w (Deliver id) ok places = deliver_case t w id (find_copy w.flying id) places refl
-step_balanced_sum t w (Lose id) ok places = lose_case t w id (find_copy w.flying id) places refl
-step_balanced_sum t w (Double id) ok places = double_case t w id (find_copy w.flying id) refl
+unfolding waiting queued_data in_flight
+step_balanced_sum t w e ok places = by_cases w (λ e o. IsEvent (length w.nodes) e → Balanced t w e o) (record {
+  idle = λ e none ok. idle_balanced t w e none;
+  full = λ e x n f is full ok. full_balanced t w e x n f full;
+  given = λ x d b n is ok. let e = push_sum t w x n (New b d) is (places.nodes x n is).named in omega arith;
+  taken = λ x core item items is free ok.
+      let n : Node = record { core = core; queue = item ∷ items } in
+      let p : IsNodeInMesh (length w.nodes) x n = places.nodes x n is in
+      let s : Settles (length w.nodes) x (turn core (range w x) item) = turn_settles (length w.nodes) x core (range w x) item (own w x n places is) p.queue.0 in
+      let c : Stands (length w.nodes) x (turn core (range w x) item).core = s.core in
+      let named : core.ip ≡ x = p.named in
+      let sum = done_sum t w x n (in_item t core.ip item) (in_taken t x (took core item)) (in_dropped t (took core item)) (turn core (range w x) item) items is named c.named
+      (subst (λ k. IsAccounted t w x core (in_item t core.ip item) (in_taken t k (took core item)) (in_dropped t (took core item)) (turn core (range w x) item)) named (turn_accounted t w x x core item p.queue.0))
+      (ap (λ k. in_item t core.ip item + total (in_item t k) items) named) in
+      omega arith;
+  sent = λ x d n is may free ok.
+      let sum = own_sum t w x n (send n.core (range w x) d) places is (send_settles (length w.nodes) x n.core (range w x) d (own w x n places is) (is_within w.nodes x n is) may) (send_accounted t w x n.core d ok.1 may) in
+      omega arith;
+  asked = λ x d n is may free ok.
+      let sum = own_sum t w x n (ask n.core d) places is (ask_settles (length w.nodes) x n.core d (own w x n places is) (is_within w.nodes x n is) ok.1) (ask_accounted t w x n.core d) in
+      omega arith;
+  linked = λ a b apart ok. refl;
+  cut = λ a b stands ok. refl;
+  heard = λ id c is ok.
+      let p : IsCopyInMesh (length w.nodes) c = found_honest (IsCopyInMesh (length w.nodes)) w.flying id c places.flying is in
+      let n = is_there w.nodes c.to p.1 in
+      let light = lighter_sum t w id c places is in
+      let e = push_sum t (without_copy w id) c.to n.0 (Heard c.from c.message) n.1 (places.nodes c.to n.0 n.1).named in
+      omega arith;
+  lost = λ id c is ok. let light = lighter_sum t w id c places is in omega arith;
+  doubled = λ id c is ok.
+      let all = total-append (in_copy t) w.flying (double_of w c ∷ []) in
+      let one = ap (in_found t) is in
+      omega arith;
+}) e ok
 
 pub step_balanced : (t : Test) (w : World) (e : Event) → IsEvent (length w.nodes) e → IsInMesh w
     → waiting t (after w (step w e)) + queued_data t (after w (step w e)) + in_flight t (after w (step w e)) + delivered_data t e (step w e) + dropped_data t e (step w e)

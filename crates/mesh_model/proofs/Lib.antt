@@ -1,4 +1,5 @@
 pub mod Lists
+pub mod Cases
 pub mod Backing
 pub mod Leads
 pub mod Turns

@@ -10,6 +10,7 @@ use Rattle.std.specs.FinSet as sets
 use Rattle.std.specs.FinMap as maps
 use Rattle.std.proofs.lemmas.Option.{none-some, same_Some}
 use Rattle.mesh_base.specs.declared.events.Variant.{Variant}
+use Rattle.mesh_model.proofs.Cases.{by_cases}
 use Rattle.mesh_model.specs.Invariants.{IsInvariant}
 use Rattle.mesh_model.specs.Worlds.{openings, start, run}
 use Rattle.mesh_model.proofs.Steps.{step_kept, start_kept}
@@ -17,17 +18,15 @@ use Rattle.mesh_model.proofs.Sizes.{same_size, run_size, start_size}
 use Rattle.aodv_model.proofs.Entries.{if_case}
 use Rattle.aodv_model.proofs.PairLaws.{pair_cmp_total, same_pair}
 use Rattle.aodv_model.proofs.SoundTurns.{Settles, Stands, ask_settles, send_settles, sound_of, turn_settles}
-use Rattle.aodv_model.specs.Cores.{Core, Heard, Item, Message, New}
-use Rattle.aodv_model.specs.Fullness.{ask_full, send_full, turn_full}
-use Rattle.aodv_model.specs.Handlers.{All, Cast, Many, Nothing, One, Reaction, ask, may_ask, may_send, one, send, turn}
+use Rattle.aodv_model.specs.Cores.{Heard, Item, Message, New}
+use Rattle.aodv_model.specs.Handlers.{All, Cast, Many, Nothing, One, Reaction, ask, one, send, turn}
 use Rattle.aodv_model.specs.Pairs.{Pairs, pair_cmp}
 use Rattle.aodv_model.specs.Soundness.{IsCastInMesh, IsItemInMesh, IsMessageInMesh, IsSoundCore, IsSoundTable}
 use Rattle.mesh_base.specs.Members.{NodeIds}
-use Rattle.mesh_base.specs.declared.events.Counter.{Counter}
 use Rattle.mesh_model.proofs.Lists.{each_append, each_map}
 use Rattle.mesh_model.proofs.Steps.{each_node, found_honest, without_honest}
 use Rattle.mesh_model.specs.InMesh.{AreLinks, AreNumbered, IsCopyInMesh, IsEvent, IsInMesh, IsNodeInMesh}
-use Rattle.mesh_model.specs.Worlds.{is_parcel, Ask, Changed, Copy, CopyDoubled, CopyHeard, CopyLost, Cut, Deliver, Double, Event, Give, Next, Idle, Link, Lose, Node, Outcome, Send, Sent, Turn, World, after, are_linked, ask_of, at_copy, at_node, copies, copies_of, copies_to, done_by, double_of, find_copy, linked_below, members_below, pair, push, range, receivers, send_of, step, turn_of, unless_full, with_double, with_item, with_link, without, without_copy, without_link}
+use Rattle.mesh_model.specs.Worlds.{Copy, Event, Node, World, after, are_linked, copies, copies_of, copies_to, done_by, double_of, linked_below, members_below, pair, push, range, receivers, step, with_double, with_item, with_link, without, without_copy, without_link}
 
 below_case : (links : Pairs) (a n y : ℕ) (b : Bool) → are_linked links a n ≡ b → (sets.contains (linked_below links a n) y ≡ true → (y < n) × (are_linked links a y ≡ true))
     → sets.contains (if b then sets.insert (linked_below links a n) n else linked_below links a n) y ≡ true → (y < suc n) × (are_linked links a y ≡ true)
@@ -206,14 +205,7 @@ push_placed : (w : World) (x : ℕ) (item : Item) → IsInMesh w → IsItemInMes
 unfolding push
 push_placed w x item places inside = item_placed w x (slice_get w.nodes x) item places refl inside
 
--- ---- outcomes
-
-abbrev pub Stays : World → Outcome → Type 0
-Stays w o = IsInMesh (after w o)
-
-unless_placed : (w : World) (x : ℕ) (o : Option Counter) (outcome : Outcome) → IsInMesh w → Stays w outcome → Stays w (unless_full x o outcome)
-unless_placed w x (Some f) outcome places kept = places
-unless_placed w x None outcome places kept = kept
+-- ---- steps
 
 -- a node's core is in order under its own address
 pub own : (w : World) (x : ℕ) (n : Node) → IsInMesh w → slice_get w.nodes x ≡ Some n → Stands (length w.nodes) x n.core
@@ -221,40 +213,6 @@ own w x n places is =
     let p : IsNodeInMesh (length w.nodes) x n = places.nodes x n is in
     let s : IsSoundCore (length w.nodes) n.core = p.core in
     record { named = p.named; own = s.own; table = subst (λ k. IsSoundTable (length w.nodes) k (n.core).rt) p.named s.table; store = p.store }
-
-turn_stays : (w : World) (x : ℕ) (core : Core) (queue : List Item) → IsInMesh w → slice_get w.nodes x ≡ Some (record { core = core; queue = queue }) → Stays w (turn_of w x core queue)
-turn_stays w x core [] places is = places
-turn_stays w x core (item ∷ items) places is =
-    let n : Node = record { core = core; queue = item ∷ items } in
-    let p : IsNodeInMesh (length w.nodes) x n = places.nodes x n is in
-    unless_placed w x (turn_full core (range w x) item) _ places
-    (done_placed w x n (turn core (range w x) item) items places is (turn_settles (length w.nodes) x core (range w x) item (own w x n places is) p.queue.0) p.queue.1)
-
-send_stays : (w : World) (x d : ℕ) (core : Core) (queue : List Item) → IsInMesh w → slice_get w.nodes x ≡ Some (record { core = core; queue = queue }) → Stays w (send_of w x d core queue)
-send_stays w x d core queue places is =
-    let n : Node = record { core = core; queue = queue } in
-    let p : IsNodeInMesh (length w.nodes) x n = places.nodes x n is in
-    if_case (Stays w) (may_send core d) (unless_full x (send_full core (range w x) d) (Next (done_by w x (send core (range w x) d) queue) (Sent (send core (range w x) d).effect (copies w x ((send core (range w x) d).effect).cast)))) Idle
-    (λ may. unless_placed w x (send_full core (range w x) d) _ places
-    (done_placed w x n (send core (range w x) d) queue places is (send_settles (length w.nodes) x core (range w x) d (own w x n places is) (slice_get_within w.nodes x n is) may) p.queue))
-    (λ _. places)
-
-ask_stays : (w : World) (x d : ℕ) (core : Core) (queue : List Item) → IsInMesh w → d < length w.nodes → slice_get w.nodes x ≡ Some (record { core = core; queue = queue }) → Stays w (ask_of w x d core queue)
-ask_stays w x d core queue places ld is =
-    let n : Node = record { core = core; queue = queue } in
-    let p : IsNodeInMesh (length w.nodes) x n = places.nodes x n is in
-    if_case (Stays w) (may_ask core d) (unless_full x (ask_full core) (Next (done_by w x (ask core d) queue) (Sent (ask core d).effect (copies w x ((ask core d).effect).cast)))) Idle
-    (λ _. unless_placed w x (ask_full core) _ places
-    (done_placed w x n (ask core d) queue places is (ask_settles (length w.nodes) x core d (own w x n places is) (slice_get_within w.nodes x n is) ld) p.queue))
-    (λ _. places)
-
-node_case : (w : World) (f : Core → List Item → Outcome) (o : Option Node) → IsInMesh w → ((n : Node) → o ≡ Some n → Stays w (f n.core n.queue)) → Stays w (at_node o f)
-node_case w f None places some = places
-node_case w f (Some n) places some = some n refl
-
-copy_case : (w : World) (f : Copy → Outcome) (o : Option Copy) → IsInMesh w → ((c : Copy) → o ≡ Some c → Stays w (f c)) → Stays w (at_copy o f)
-copy_case w f None places some = places
-copy_case w f (Some c) places some = some c refl
 
 without_numbered : (w : World) (id : ℕ) → IsInMesh w → AreNumbered 1 (without w.flying id) w.next_copy
 unfolding without
@@ -265,29 +223,29 @@ lighter : (w : World) (id : ℕ) → IsInMesh w → IsInMesh (without_copy w id)
 lighter w id places = same_placed w (without_copy w id) refl places (without_honest (IsCopyInMesh (length w.nodes)) w.flying id places.flying) (without_numbered w id places) places.links places.ever places.stood
 
 pub step_placed : (w : World) (e : Event) → IsEvent (length w.nodes) e → IsInMesh w → IsInMesh (after w (step w e))
-unfolding step
-step_placed w (Give x d b) ok places = node_case w (λ core queue. Next (push w x (New b d)) Changed) (slice_get w.nodes x) places (λ n is. push_placed w x (New b d) places (ok.1, ok.2))
-step_placed w (Turn x) ok places = node_case w (turn_of w x) (slice_get w.nodes x) places (λ n is. turn_stays w x n.core n.queue places is)
-step_placed w (Send x d) ok places = node_case w (send_of w x d) (slice_get w.nodes x) places (λ n is. send_stays w x d n.core n.queue places is)
-step_placed w (Ask x d) ok places = node_case w (ask_of w x d) (slice_get w.nodes x) places (λ n is. ask_stays w x d n.core n.queue places ok.1 is)
-step_placed w (Link a b) ok places =
-    if_case (Stays w) (are_linked w.links a b) Idle (Next (with_link w a b) Changed) (λ _. places)
-    (λ _. same_placed w (with_link w a b) refl places places.flying places.numbered (linked_more (length w.nodes) w.links a b ok.0 ok.1 ok.2 places.links) (linked_more (length w.nodes) w.ever a b ok.0 ok.1 ok.2 places.ever)
-    (λ p e. both_more w.links w.ever (pair a b) p (places.stood p) e))
-step_placed w (Cut a b) ok places =
-    if_case (Stays w) (are_linked w.links a b) (Next (without_link w a b) Changed) Idle
-    (λ _. same_placed w (without_link w a b) refl places places.flying places.numbered (λ p e. places.links p (has_fewer w.links (pair a b) p e)) places.ever (λ p e. places.stood p (has_fewer w.links (pair a b) p e))) (λ _. places)
-step_placed w (Deliver id) ok places =
-    copy_case w (λ c. Next (push (without_copy w id) c.to (Heard c.from c.message)) (CopyHeard c.from c.to)) (find_copy w.flying id) places
-    (λ c is. let p : IsCopyInMesh (length w.nodes) c = found_honest (IsCopyInMesh (length w.nodes)) w.flying id c places.flying is in
-    push_placed (without_copy w id) c.to (Heard c.from c.message) (lighter w id places) (p.0, p.2, p.3))
-step_placed w (Lose id) ok places = copy_case w (λ c. Next (without_copy w id) (CopyLost c)) (find_copy w.flying id) places (λ c is. lighter w id places)
-step_placed w (Double id) ok places =
-    copy_case w (λ c. Next (with_double w c) (CopyDoubled w.next_copy c.to (is_parcel c.message))) (find_copy w.flying id) places
-    (λ c is. same_placed w (with_double w c) refl places
-    (each_append (IsCopyInMesh (length w.nodes)) w.flying (double_of w c ∷ []) places.flying (found_honest (IsCopyInMesh (length w.nodes)) w.flying id c places.flying is, tt))
-    (numbered_append 1 w.next_copy (w.next_copy + 1) w.flying (double_of w c ∷ []) places.numbered (omega arith, omega arith))
-    places.links places.ever places.stood)
+step_placed w e ok places = by_cases w (λ e o. IsEvent (length w.nodes) e → IsInMesh (after w o)) (record {
+  idle = λ e none ok. places;
+  full = λ e x n f is full ok. places;
+  given = λ x d b n is ok. push_placed w x (New b d) places (ok.1, ok.2);
+  taken = λ x core item items is free ok.
+      let n : Node = record { core = core; queue = item ∷ items } in
+      let p : IsNodeInMesh (length w.nodes) x n = places.nodes x n is in
+      done_placed w x n (turn core (range w x) item) items places is (turn_settles (length w.nodes) x core (range w x) item (own w x n places is) p.queue.0) p.queue.1;
+  sent = λ x d n is may free ok. done_placed w x n (send n.core (range w x) d) n.queue places is
+      (send_settles (length w.nodes) x n.core (range w x) d (own w x n places is) (slice_get_within w.nodes x n is) may) (places.nodes x n is).queue;
+  asked = λ x d n is may free ok. done_placed w x n (ask n.core d) n.queue places is (ask_settles (length w.nodes) x n.core d (own w x n places is) (slice_get_within w.nodes x n is) ok.1) (places.nodes x n is).queue;
+  linked = λ a b apart ok. same_placed w (with_link w a b) refl places places.flying places.numbered
+      (linked_more (length w.nodes) w.links a b ok.0 ok.1 ok.2 places.links) (linked_more (length w.nodes) w.ever a b ok.0 ok.1 ok.2 places.ever) (λ p e. both_more w.links w.ever (pair a b) p (places.stood p) e);
+  cut = λ a b stands ok. same_placed w (without_link w a b) refl places places.flying places.numbered
+      (λ p e. places.links p (has_fewer w.links (pair a b) p e)) places.ever (λ p e. places.stood p (has_fewer w.links (pair a b) p e));
+  heard = λ id c is ok.
+      let p : IsCopyInMesh (length w.nodes) c = found_honest (IsCopyInMesh (length w.nodes)) w.flying id c places.flying is in
+      push_placed (without_copy w id) c.to (Heard c.from c.message) (lighter w id places) (p.0, p.2, p.3);
+  lost = λ id c is ok. lighter w id places;
+  doubled = λ id c is ok. same_placed w (with_double w c) refl places
+      (each_append (IsCopyInMesh (length w.nodes)) w.flying (double_of w c ∷ []) places.flying (found_honest (IsCopyInMesh (length w.nodes)) w.flying id c places.flying is, tt))
+      (numbered_append 1 w.next_copy (w.next_copy + 1) w.flying (double_of w c ∷ []) places.numbered (omega arith, omega arith)) places.links places.ever places.stood;
+}) e ok
 
 -- ---- runs
 

@@ -3,19 +3,18 @@ use Rattle.std.proofs.Common.{◌≡◌, ℕ, zero, suc, ◌+◌, ◌≤◌, tru
 use Rattle.std.specs.Prelude.{slice_get}
 use Rattle.std.specs.List.{AllByRecursion}
 use Rattle.std.proofs.lemmas.Option.{none-some, same_Some}
-use Rattle.mesh_base.specs.declared.events.Counter.{Counter}
 use Rattle.mesh_base.specs.declared.events.Variant.{Variant}
-use Rattle.aodv_model.proofs.Entries.{if_case}
 use Rattle.aodv_model.proofs.Numbers.{IsCastWithin, IsCoreWithin, IsItemWithin, IsMessageWithin, IsReactionWithin, KnowsOwn, ask_below, ask_keeps, free_send_keeps, free_turn_keeps, opening_within}
-use Rattle.aodv_model.specs.Cores.{Core, Heard, Item, Message, New, Pkt, Rerr, Rrep, Rreq, has_seen}
-use Rattle.aodv_model.specs.Fullness.{ask_full, greatest, send_full, turn_full}
-use Rattle.aodv_model.specs.Handlers.{All, Cast, Many, Nothing, One, Reaction, ask, key_of, may_ask, may_send, send, turn}
+use Rattle.aodv_model.specs.Cores.{Heard, Item, Message, New, Pkt, Rerr, Rrep, Rreq, has_seen}
+use Rattle.aodv_model.specs.Fullness.{greatest}
+use Rattle.aodv_model.specs.Handlers.{All, Cast, Many, Nothing, One, Reaction, ask, key_of, send, turn}
+use Rattle.mesh_model.proofs.Cases.{by_cases}
 use Rattle.mesh_model.proofs.Lists.{each_append}
 use Rattle.mesh_model.proofs.Steps.{each_node, found_honest, step_kept, without_honest}
 use Rattle.mesh_model.proofs.TrailSteps.{step_trails}
 use Rattle.mesh_model.specs.Invariants.{IsLoopSafe}
 use Rattle.mesh_model.specs.Trails.{Around, HasRequestWalk, HasWalks, IsBackedWalk, ItemHasWalk, NodeHasWalks, around, seen_in}
-use Rattle.mesh_model.specs.Worlds.{is_parcel, Ask, Changed, Copy, CopyDoubled, CopyHeard, CopyLost, Cut, Deliver, Double, Event, Give, Next, Idle, Link, Lose, Node, Outcome, Send, Sent, Turn, World, after, are_linked, ask_of, at_copy, at_node, copies, copies_of, copies_to, done_by, double_of, find_copy, members_below, openings, push, range, receivers, run, send_of, start, step, turn_of, unless_full, with_double, with_item, with_link, without_copy, without_link}
+use Rattle.mesh_model.specs.Worlds.{Copy, Event, Node, World, after, copies, copies_of, copies_to, done_by, double_of, members_below, openings, push, range, receivers, run, start, step, with_double, with_item, with_link, without_copy, without_link}
 
 abbrev pub IsCopyWithin : Copy → Type 0
 IsCopyWithin c = IsMessageWithin greatest c.message
@@ -91,70 +90,28 @@ push_within : (w : World) (x : ℕ) (item : Item) → IsWithin w → IsItemWithi
 unfolding push
 push_within w x item all inside = item_within w x (slice_get w.nodes x) item all refl inside
 
--- ---- outcomes
-
-abbrev Stays : World → Outcome → Type 0
-Stays w o = IsWithin (after w o)
-
-unless_within : (w : World) (x : ℕ) (o : Option Counter) (outcome : Outcome) → IsWithin w → (o ≡ None → Stays w outcome) → Stays w (unless_full x o outcome)
-unless_within w x (Some f) outcome all kept = all
-unless_within w x None outcome all kept = kept refl
-
-turn_within : (v : Variant) (w : World) (x : ℕ) (core : Core) (queue : List Item) → HasWalks v w → IsWithin w → slice_get w.nodes x ≡ Some (record { core = core; queue = queue }) → Stays w (turn_of w x core queue)
-turn_within v w x core [] trails all is = all
-turn_within v w x core (item ∷ items) trails all is =
-    let n : Node = record { core = core; queue = item ∷ items } in
-    let t : NodeHasWalks (around v w) x n = trails.nodes x n is in
-    let p : IsNodeWithin x n = all.nodes x n is in
-    unless_within w x (turn_full core (range w x) item) _ all
-    (λ free. done_within w x n (turn core (range w x) item) items all is p.queue.1
-    (free_turn_keeps x core (range w x) item p.core p.queue.0 (knows_own v w x n item trails is t.queue.0) free))
-
-send_within : (w : World) (x d : ℕ) (core : Core) (queue : List Item) → IsWithin w → slice_get w.nodes x ≡ Some (record { core = core; queue = queue }) → Stays w (send_of w x d core queue)
-send_within w x d core queue all is =
-    let n : Node = record { core = core; queue = queue } in
-    let p : IsNodeWithin x n = all.nodes x n is in
-    if_case (Stays w) (may_send core d) (unless_full x (send_full core (range w x) d) (Next (done_by w x (send core (range w x) d) queue) (Sent (send core (range w x) d).effect (copies w x ((send core (range w x) d).effect).cast)))) Idle
-    (λ _. unless_within w x (send_full core (range w x) d) _ all
-    (λ free. done_within w x n (send core (range w x) d) queue all is p.queue (free_send_keeps x core (range w x) d p.core free)))
-    (λ _. all)
-
-ask_within : (w : World) (x d : ℕ) (core : Core) (queue : List Item) → IsLoopSafe w → IsWithin w → slice_get w.nodes x ≡ Some (record { core = core; queue = queue }) → Stays w (ask_of w x d core queue)
-ask_within w x d core queue inv all is =
-    let n : Node = record { core = core; queue = queue } in
-    let p : IsNodeWithin x n = all.nodes x n is in
-    if_case (Stays w) (may_ask core d) (unless_full x (ask_full core) (Next (done_by w x (ask core d) queue) (Sent (ask core d).effect (copies w x ((ask core d).effect).cast)))) Idle
-    (λ _. unless_within w x (ask_full core) _ all
-    (λ free. done_within w x n (ask core d) queue all is p.queue (ask_keeps greatest x core d p.core (inv.nodes x n is).numbers.own (ask_below core free))))
-    (λ _. all)
-
-node_case : (w : World) (f : Core → List Item → Outcome) (o : Option Node) → IsWithin w → ((n : Node) → o ≡ Some n → Stays w (f n.core n.queue)) → Stays w (at_node o f)
-node_case w f None all some = all
-node_case w f (Some n) all some = some n refl
-
-copy_case : (w : World) (f : Copy → Outcome) (o : Option Copy) → IsWithin w → ((c : Copy) → o ≡ Some c → Stays w (f c)) → Stays w (at_copy o f)
-copy_case w f None all some = all
-copy_case w f (Some c) all some = some c refl
-
 -- the flight without one
 lighter : (w : World) (id : ℕ) → IsWithin w → IsWithin (without_copy w id)
 lighter w id all = same_within w (without_copy w id) refl all (without_honest IsCopyWithin w.flying id all.flying)
 
 pub step_within : (v : Variant) (w : World) (e : Event) → IsLoopSafe w → HasWalks v w → IsWithin w → IsWithin (after w (step w e))
-unfolding step
-step_within v w (Give x d b) inv trails all = node_case w (λ core queue. Next (push w x (New b d)) Changed) (slice_get w.nodes x) all (λ n is. push_within w x (New b d) all tt)
-step_within v w (Turn x) inv trails all = node_case w (turn_of w x) (slice_get w.nodes x) all (λ n is. turn_within v w x n.core n.queue trails all is)
-step_within v w (Send x d) inv trails all = node_case w (send_of w x d) (slice_get w.nodes x) all (λ n is. send_within w x d n.core n.queue all is)
-step_within v w (Ask x d) inv trails all = node_case w (ask_of w x d) (slice_get w.nodes x) all (λ n is. ask_within w x d n.core n.queue inv all is)
-step_within v w (Link a b) inv trails all = if_case (Stays w) (are_linked w.links a b) Idle (Next (with_link w a b) Changed) (λ _. all) (λ _. same_within w (with_link w a b) refl all all.flying)
-step_within v w (Cut a b) inv trails all = if_case (Stays w) (are_linked w.links a b) (Next (without_link w a b) Changed) Idle (λ _. same_within w (without_link w a b) refl all all.flying) (λ _. all)
-step_within v w (Deliver id) inv trails all =
-    copy_case w (λ c. Next (push (without_copy w id) c.to (Heard c.from c.message)) (CopyHeard c.from c.to)) (find_copy w.flying id) all
-    (λ c is. push_within (without_copy w id) c.to (Heard c.from c.message) (lighter w id all) (found_honest IsCopyWithin w.flying id c all.flying is))
-step_within v w (Lose id) inv trails all = copy_case w (λ c. Next (without_copy w id) (CopyLost c)) (find_copy w.flying id) all (λ c is. lighter w id all)
-step_within v w (Double id) inv trails all =
-    copy_case w (λ c. Next (with_double w c) (CopyDoubled w.next_copy c.to (is_parcel c.message))) (find_copy w.flying id) all
-    (λ c is. same_within w (with_double w c) refl all (each_append IsCopyWithin w.flying (double_of w c ∷ []) all.flying (found_honest IsCopyWithin w.flying id c all.flying is, tt)))
+step_within v w e inv trails all = by_cases w (λ e o. IsWithin (after w o)) (record {
+  idle = λ e none. all;
+  full = λ e x n f is full. all;
+  given = λ x d b n is. push_within w x (New b d) all tt;
+  taken = λ x core item items is free.
+      let n : Node = record { core = core; queue = item ∷ items } in
+      let p : IsNodeWithin x n = all.nodes x n is in
+      done_within w x n (turn core (range w x) item) items all is p.queue.1
+      (free_turn_keeps x core (range w x) item p.core p.queue.0 (knows_own v w x n item trails is (trails.nodes x n is).queue.0) free);
+  sent = λ x d n is may free. let p : IsNodeWithin x n = all.nodes x n is in done_within w x n (send n.core (range w x) d) n.queue all is p.queue (free_send_keeps x n.core (range w x) d p.core free);
+  asked = λ x d n is may free. let p : IsNodeWithin x n = all.nodes x n is in done_within w x n (ask n.core d) n.queue all is p.queue (ask_keeps greatest x n.core d p.core (inv.nodes x n is).numbers.own (ask_below n.core free));
+  linked = λ a b apart. same_within w (with_link w a b) refl all all.flying;
+  cut = λ a b stands. same_within w (without_link w a b) refl all all.flying;
+  heard = λ id c is. push_within (without_copy w id) c.to (Heard c.from c.message) (lighter w id all) (found_honest IsCopyWithin w.flying id c all.flying is);
+  lost = λ id c is. lighter w id all;
+  doubled = λ id c is. same_within w (with_double w c) refl all (each_append IsCopyWithin w.flying (double_of w c ∷ []) all.flying (found_honest IsCopyWithin w.flying id c all.flying is, tt));
+}) e
 
 -- ---- runs
 

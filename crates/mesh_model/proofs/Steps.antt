@@ -6,20 +6,18 @@ use Rattle.std.specs.Ordering.{nat_cmp}
 use Rattle.std.proofs.lemmas.Bool.{eqb-true, eqb-false}
 use Rattle.std.proofs.lemmas.Option.{none-some, same_Some}
 use Rattle.std.specs.FinMap as maps
-use Rattle.aodv_model.proofs.Entries.{if_case}
-use Rattle.aodv_model.specs.Cores.{Core, Heard, Item, Message, New, Pkt, Rerr, Rrep, Rreq}
-use Rattle.aodv_model.specs.Fullness.{ask_full, send_full, turn_full}
-use Rattle.aodv_model.specs.Handlers.{All, Cast, Many, Nothing, One, Reaction, ask, may_ask, may_send, send, turn}
+use Rattle.aodv_model.specs.Cores.{Heard, Item, Message, New, Pkt, Rerr, Rrep, Rreq}
+use Rattle.aodv_model.specs.Handlers.{All, Cast, Many, Nothing, One, Reaction, ask, send, turn}
 use Rattle.aodv_model.specs.Soundness.{AllSoundNumbers}
 use Rattle.aodv_model.specs.Tables.{Table}
-use Rattle.mesh_base.specs.declared.events.Counter.{Counter}
 use Rattle.mesh_base.specs.declared.events.Variant.{Variant}
+use Rattle.mesh_model.proofs.Cases.{by_cases}
 use Rattle.mesh_model.proofs.Leads.{Grows}
 use Rattle.mesh_model.proofs.Lists.{each_append, each_filter, each_map, set_other, set_same}
 use Rattle.mesh_model.proofs.Turns.{IsFit, IsHonestCast, IsOk, ask_ok, send_ok, turn_ok}
 use Rattle.mesh_model.specs.Invariants.{AllBacked, AtLeast, IsHonest, IsHonestCopy, IsHonestItem, IsLoopSafe, IsLoopSafeNode}
 use Rattle.mesh_model.specs.Walks.{rt_in, table}
-use Rattle.mesh_model.specs.Worlds.{is_parcel, Ask, Changed, Copy, CopyDoubled, CopyHeard, CopyLost, Cut, Deliver, Double, Event, Give, Next, Idle, Link, Lose, Node, Outcome, Send, Sent, Turn, World, after, are_linked, ask_of, at_copy, at_node, copies, copies_of, copies_to, done_by, double_of, find_copy, members_below, openings, push, range, receivers, run, send_of, start, step, turn_of, unless_full, with_double, with_item, with_link, without, without_copy, without_link}
+use Rattle.mesh_model.specs.Worlds.{Copy, Event, Node, World, after, copies, copies_of, copies_to, done_by, double_of, find_copy, members_below, openings, push, range, receivers, run, start, step, with_double, with_item, with_link, without, without_copy, without_link}
 
 pub record Follows (old new : ℕ → Table) : Type 0 where
   pub keeps : (x d n h : ℕ) → 1 ≤ n → AtLeast (old x) d n h → AtLeast (new x) d n h
@@ -168,69 +166,28 @@ pub without_honest : (P : Copy → Type 0) (cs : List Copy) (id : ℕ) → AllBy
 unfolding without
 without_honest P cs id all = each_filter P (λ c. not (c.id == id)) cs all
 
--- ---- outcomes
-
-abbrev Keeps : World → Outcome → Type 0
-Keeps w o = IsLoopSafe (after w o)
-
-unless_kept : (w : World) (x : ℕ) (o : Option Counter) (outcome : Outcome) → IsLoopSafe w → Keeps w outcome → Keeps w (unless_full x o outcome)
-unless_kept w x (Some f) outcome inv kept = inv
-unless_kept w x None outcome inv kept = kept
-
-turn_kept : (w : World) (x : ℕ) (core : Core) (queue : List Item) → IsLoopSafe w → slice_get w.nodes x ≡ Some (record { core = core; queue = queue }) → Keeps w (turn_of w x core queue)
-turn_kept w x core [] inv is = inv
-turn_kept w x core (item ∷ items) inv is =
-    let n : Node = record { core = core; queue = item ∷ items } in
-    let good : IsLoopSafeNode (table w) n = inv.nodes x n is in
-    unless_kept w x (turn_full core (range w x) item) _ inv
-    (done_kept w x n (turn core (range w x) item) items inv is (turn_ok (table w) core (range w x) item (fit (table w) n good) good.queue.0) good.queue.1)
-
-send_kept : (w : World) (x d : ℕ) (core : Core) (queue : List Item) → IsLoopSafe w → slice_get w.nodes x ≡ Some (record { core = core; queue = queue }) → Keeps w (send_of w x d core queue)
-send_kept w x d core queue inv is =
-    let n : Node = record { core = core; queue = queue } in
-    let good : IsLoopSafeNode (table w) n = inv.nodes x n is in
-    if_case (Keeps w) (may_send core d) (unless_full x (send_full core (range w x) d) (Next (done_by w x (send core (range w x) d) queue) (Sent (send core (range w x) d).effect (copies w x ((send core (range w x) d).effect).cast)))) Idle
-    (λ _. unless_kept w x (send_full core (range w x) d) _ inv
-    (done_kept w x n (send core (range w x) d) queue inv is (send_ok (table w) core (range w x) d (fit (table w) n good)) good.queue))
-    (λ _. inv)
-
-ask_kept : (w : World) (x d : ℕ) (core : Core) (queue : List Item) → IsLoopSafe w → slice_get w.nodes x ≡ Some (record { core = core; queue = queue }) → Keeps w (ask_of w x d core queue)
-ask_kept w x d core queue inv is =
-    let n : Node = record { core = core; queue = queue } in
-    let good : IsLoopSafeNode (table w) n = inv.nodes x n is in
-    if_case (Keeps w) (may_ask core d) (unless_full x (ask_full core) (Next (done_by w x (ask core d) queue) (Sent (ask core d).effect (copies w x ((ask core d).effect).cast)))) Idle
-    (λ _. unless_kept w x (ask_full core) _ inv
-    (done_kept w x n (ask core d) queue inv is (ask_ok (table w) core d (fit (table w) n good)) good.queue))
-    (λ _. inv)
-
-node_case : (w : World) (f : Core → List Item → Outcome) (o : Option Node) → IsLoopSafe w → ((n : Node) → o ≡ Some n → Keeps w (f n.core n.queue)) → Keeps w (at_node o f)
-node_case w f None inv some = inv
-node_case w f (Some n) inv some = some n refl
-
-copy_case : (w : World) (f : Copy → Outcome) (o : Option Copy) → IsLoopSafe w → ((c : Copy) → o ≡ Some c → Keeps w (f c)) → Keeps w (at_copy o f)
-copy_case w f None inv some = inv
-copy_case w f (Some c) inv some = some c refl
-
 -- the flight without one
 lighter : (w : World) (id : ℕ) → IsLoopSafe w → IsLoopSafe (without_copy w id)
 lighter w id inv = same_nodes w (without_copy w id) refl inv (without_honest (IsHonestCopy (table w)) w.flying id inv.flying)
 
 pub step_kept : (w : World) (e : Event) → IsLoopSafe w → IsLoopSafe (after w (step w e))
-unfolding step
-step_kept w (Give x d b) inv = node_case w (λ core queue. Next (push w x (New b d)) Changed) (slice_get w.nodes x) inv (λ n is. push_kept w x (New b d) inv tt)
-step_kept w (Turn x) inv = node_case w (turn_of w x) (slice_get w.nodes x) inv (λ n is. turn_kept w x n.core n.queue inv is)
-step_kept w (Send x d) inv = node_case w (send_of w x d) (slice_get w.nodes x) inv (λ n is. send_kept w x d n.core n.queue inv is)
-step_kept w (Ask x d) inv = node_case w (ask_of w x d) (slice_get w.nodes x) inv (λ n is. ask_kept w x d n.core n.queue inv is)
-step_kept w (Link a b) inv = if_case (Keeps w) (are_linked w.links a b) Idle (Next (with_link w a b) Changed) (λ _. inv) (λ _. same_nodes w (with_link w a b) refl inv inv.flying)
-step_kept w (Cut a b) inv = if_case (Keeps w) (are_linked w.links a b) (Next (without_link w a b) Changed) Idle (λ _. same_nodes w (without_link w a b) refl inv inv.flying) (λ _. inv)
-step_kept w (Deliver id) inv =
-    copy_case w (λ c. Next (push (without_copy w id) c.to (Heard c.from c.message)) (CopyHeard c.from c.to)) (find_copy w.flying id) inv
-    (λ c is. push_kept (without_copy w id) c.to (Heard c.from c.message) (lighter w id inv) (found_honest (IsHonestCopy (table w)) w.flying id c inv.flying is))
-step_kept w (Lose id) inv = copy_case w (λ c. Next (without_copy w id) (CopyLost c)) (find_copy w.flying id) inv (λ c is. lighter w id inv)
-step_kept w (Double id) inv =
-    copy_case w (λ c. Next (with_double w c) (CopyDoubled w.next_copy c.to (is_parcel c.message))) (find_copy w.flying id) inv
-    (λ c is. same_nodes w (with_double w c) refl inv
-    (each_append (IsHonestCopy (table w)) w.flying (double_of w c ∷ []) inv.flying (found_honest (IsHonestCopy (table w)) w.flying id c inv.flying is, tt)))
+step_kept w e inv = by_cases w (λ e o. IsLoopSafe (after w o)) (record {
+  idle = λ e none. inv;
+  full = λ e x n f is full. inv;
+  given = λ x d b n is. push_kept w x (New b d) inv tt;
+  taken = λ x core item items is free.
+      let n : Node = record { core = core; queue = item ∷ items } in
+      let good : IsLoopSafeNode (table w) n = inv.nodes x n is in
+      done_kept w x n (turn core (range w x) item) items inv is (turn_ok (table w) core (range w x) item (fit (table w) n good) good.queue.0) good.queue.1;
+  sent = λ x d n is may free. done_kept w x n (send n.core (range w x) d) n.queue inv is (send_ok (table w) n.core (range w x) d (fit (table w) n (inv.nodes x n is))) (inv.nodes x n is).queue;
+  asked = λ x d n is may free. done_kept w x n (ask n.core d) n.queue inv is (ask_ok (table w) n.core d (fit (table w) n (inv.nodes x n is))) (inv.nodes x n is).queue;
+  linked = λ a b apart. same_nodes w (with_link w a b) refl inv inv.flying;
+  cut = λ a b stands. same_nodes w (without_link w a b) refl inv inv.flying;
+  heard = λ id c is. push_kept (without_copy w id) c.to (Heard c.from c.message) (lighter w id inv) (found_honest (IsHonestCopy (table w)) w.flying id c inv.flying is);
+  lost = λ id c is. lighter w id inv;
+  doubled = λ id c is. same_nodes w (with_double w c) refl inv
+      (each_append (IsHonestCopy (table w)) w.flying (double_of w c ∷ []) inv.flying (found_honest (IsHonestCopy (table w)) w.flying id c inv.flying is, tt));
+}) e
 
 -- ---- runs
 

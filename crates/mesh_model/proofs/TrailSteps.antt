@@ -4,12 +4,10 @@ use Rattle.std.specs.Prelude.{slice_get}
 use Rattle.std.specs.List.{AllByRecursion}
 use Rattle.std.proofs.lemmas.Bool.{eqb-true, eqb-false}
 use Rattle.std.specs.FinSet as sets
-use Rattle.aodv_model.proofs.Entries.{if_case}
 use Rattle.aodv_model.specs.Cores.{Core, Heard, Item, Message, New, Pkt, Rerr, Rrep, Rreq, has_seen}
-use Rattle.aodv_model.specs.Fullness.{ask_full, send_full, turn_full}
-use Rattle.aodv_model.specs.Handlers.{All, Cast, Many, Nothing, One, Reaction, ask, key_of, may_ask, may_send, send, turn}
-use Rattle.mesh_base.specs.declared.events.Counter.{Counter}
+use Rattle.aodv_model.specs.Handlers.{All, Cast, Many, Nothing, One, Reaction, ask, key_of, send, turn}
 use Rattle.mesh_base.specs.declared.events.Variant.{Variant}
+use Rattle.mesh_model.proofs.Cases.{by_cases}
 use Rattle.mesh_model.proofs.Leads.{Grows}
 use Rattle.mesh_model.proofs.Lists.{each_append, each_map, set_other, set_same}
 use Rattle.mesh_model.proofs.MeshSteps.{both_more, each_receiver, has_fewer, has_more, range_has}
@@ -20,7 +18,7 @@ use Rattle.mesh_model.proofs.Turns.{IsOk, ask_ok, send_ok, turn_ok}
 use Rattle.mesh_model.specs.Invariants.{AtLeast, IsLoopSafe, IsLoopSafeNode}
 use Rattle.mesh_model.specs.Trails.{Around, CopyHasWalk, EntriesHaveWalks, HasWalks, IsAbsent, IsBackedWalk, ItemHasWalk, MessageHasWalk, NodeHasWalks, around, front, seen_in}
 use Rattle.mesh_model.specs.Walks.{rt_in, table}
-use Rattle.mesh_model.specs.Worlds.{is_parcel, Ask, Changed, Copy, CopyDoubled, CopyHeard, CopyLost, Cut, Deliver, Double, Event, Give, Next, Idle, Link, Lose, Node, Outcome, Send, Sent, Turn, World, after, are_linked, ask_of, at_copy, at_node, copies, copies_of, copies_to, done_by, double_of, find_copy, members_below, pair, push, range, receivers, send_of, step, turn_of, unless_full, with_double, with_item, with_link, without_copy, without_link}
+use Rattle.mesh_model.specs.Worlds.{Copy, Event, Node, World, after, are_linked, copies, copies_of, copies_to, done_by, double_of, members_below, pair, push, range, receivers, step, with_double, with_item, with_link, without_copy, without_link}
 
 message_stays : (a b : Around) → Later a b → (from : ℕ) (m : Message) → MessageHasWalk a from m → MessageHasWalk b from m
 message_stays a b later from (Pkt x d o) t = tt
@@ -181,74 +179,31 @@ push_trails : (v : Variant) (w : World) (x : ℕ) (item : Item) → HasWalks v w
 unfolding push
 push_trails v w x item trails t = item_trails v w x (slice_get w.nodes x) item trails refl t
 
--- ---- outcomes
-
-abbrev Keeps : Variant → World → Outcome → Type 0
-Keeps v w o = HasWalks v (after w o)
-
-unless_trails : (v : Variant) (w : World) (x : ℕ) (o : Option Counter) (outcome : Outcome) → HasWalks v w → Keeps v w outcome → Keeps v w (unless_full x o outcome)
-unless_trails v w x (Some f) outcome trails kept = trails
-unless_trails v w x None outcome trails kept = kept
-
-turn_trails : (v : Variant) (w : World) (x : ℕ) (core : Core) (queue : List Item) → IsLoopSafe w → HasWalks v w → slice_get w.nodes x ≡ Some (record { core = core; queue = queue }) → Keeps v w (turn_of w x core queue)
-turn_trails v w x core [] inv trails is = trails
-turn_trails v w x core (item ∷ items) inv trails is =
-    let n : Node = record { core = core; queue = item ∷ items } in
-    let good : IsLoopSafeNode (table w) n = inv.nodes x n is in
-    let p : NodeHasWalks (around v w) x n = trails.nodes x n is in
-    unless_trails v w x (turn_full core (range w x) item) _ trails
-    (done_trails v w x n (turn core (range w x) item) items inv trails is (turn_ok (table w) core (range w x) item (fit (table w) n good) good.queue.0)
-    (turn_traces (table w) (around v w) core (range w x) item (fit (table w) n good) (here_of v w x n inv trails is) good.queue.0 (subst (λ k. ItemHasWalk (around v w) k item) (sym (inv.named x n is)) p.queue.0)) p.queue.1)
-
-send_trails : (v : Variant) (w : World) (x d : ℕ) (core : Core) (queue : List Item) → IsLoopSafe w → HasWalks v w → slice_get w.nodes x ≡ Some (record { core = core; queue = queue }) → Keeps v w (send_of w x d core queue)
-send_trails v w x d core queue inv trails is =
-    let n : Node = record { core = core; queue = queue } in
-    let good : IsLoopSafeNode (table w) n = inv.nodes x n is in
-    let p : NodeHasWalks (around v w) x n = trails.nodes x n is in
-    if_case (Keeps v w) (may_send core d) (unless_full x (send_full core (range w x) d) (Next (done_by w x (send core (range w x) d) queue) (Sent (send core (range w x) d).effect (copies w x ((send core (range w x) d).effect).cast)))) Idle
-    (λ _. unless_trails v w x (send_full core (range w x) d) _ trails
-    (done_trails v w x n (send core (range w x) d) queue inv trails is (send_ok (table w) core (range w x) d (fit (table w) n good)) (send_traces (around v w) core (range w x) d (here_of v w x n inv trails is)) p.queue))
-    (λ _. trails)
-
-ask_trails : (v : Variant) (w : World) (x d : ℕ) (core : Core) (queue : List Item) → IsLoopSafe w → HasWalks v w → slice_get w.nodes x ≡ Some (record { core = core; queue = queue }) → Keeps v w (ask_of w x d core queue)
-ask_trails v w x d core queue inv trails is =
-    let n : Node = record { core = core; queue = queue } in
-    let good : IsLoopSafeNode (table w) n = inv.nodes x n is in
-    let p : NodeHasWalks (around v w) x n = trails.nodes x n is in
-    if_case (Keeps v w) (may_ask core d) (unless_full x (ask_full core) (Next (done_by w x (ask core d) queue) (Sent (ask core d).effect (copies w x ((ask core d).effect).cast)))) Idle
-    (λ _. unless_trails v w x (ask_full core) _ trails
-    (done_trails v w x n (ask core d) queue inv trails is (ask_ok (table w) core d (fit (table w) n good)) (ask_traces (around v w) core d (here_of v w x n inv trails is)) p.queue))
-    (λ _. trails)
-
-node_case : (v : Variant) (w : World) (f : Core → List Item → Outcome) (o : Option Node) → HasWalks v w → ((n : Node) → o ≡ Some n → Keeps v w (f n.core n.queue)) → Keeps v w (at_node o f)
-node_case v w f None trails some = trails
-node_case v w f (Some n) trails some = some n refl
-
-copy_case : (v : Variant) (w : World) (f : Copy → Outcome) (o : Option Copy) → HasWalks v w → ((c : Copy) → o ≡ Some c → Keeps v w (f c)) → Keeps v w (at_copy o f)
-copy_case v w f None trails some = trails
-copy_case v w f (Some c) trails some = some c refl
+-- ---- steps
 
 lighter : (v : Variant) (w : World) (id : ℕ) → HasWalks v w → HasWalks v (without_copy w id)
 lighter v w id trails = same_trails v w (without_copy w id) refl (λ p e. e) trails (λ _. without_honest (CopyHasWalk (around v w)) w.flying id trails.flying) trails.stood
 
 pub step_trails : (v : Variant) (w : World) (e : Event) → IsLoopSafe w → HasWalks v w → HasWalks v (after w (step w e))
-unfolding step
-step_trails v w (Give x d b) inv trails = node_case v w (λ core queue. Next (push w x (New b d)) Changed) (slice_get w.nodes x) trails (λ n is. push_trails v w x (New b d) trails tt)
-step_trails v w (Turn x) inv trails = node_case v w (turn_of w x) (slice_get w.nodes x) trails (λ n is. turn_trails v w x n.core n.queue inv trails is)
-step_trails v w (Send x d) inv trails = node_case v w (send_of w x d) (slice_get w.nodes x) trails (λ n is. send_trails v w x d n.core n.queue inv trails is)
-step_trails v w (Ask x d) inv trails = node_case v w (ask_of w x d) (slice_get w.nodes x) trails (λ n is. ask_trails v w x d n.core n.queue inv trails is)
-step_trails v w (Link a b) inv trails =
-    if_case (Keeps v w) (are_linked w.links a b) Idle (Next (with_link w a b) Changed) (λ _. trails)
-    (λ _. same_trails v w (with_link w a b) refl (λ p e. has_more w.ever (pair a b) p e) trails (λ later. flying_stays v w (with_link w a b) later trails.flying) (λ p e. both_more w.links w.ever (pair a b) p (trails.stood p) e))
-step_trails v w (Cut a b) inv trails =
-    if_case (Keeps v w) (are_linked w.links a b) (Next (without_link w a b) Changed) Idle
-    (λ _. same_trails v w (without_link w a b) refl (λ p e. e) trails (λ _. trails.flying) (λ p e. trails.stood p (has_fewer w.links (pair a b) p e)))
-    (λ _. trails)
-step_trails v w (Deliver id) inv trails =
-    copy_case v w (λ c. Next (push (without_copy w id) c.to (Heard c.from c.message)) (CopyHeard c.from c.to)) (find_copy w.flying id) trails
-    (λ c is. push_trails v (without_copy w id) c.to (Heard c.from c.message) (lighter v w id trails) (found_honest (CopyHasWalk (around v w)) w.flying id c trails.flying is))
-step_trails v w (Lose id) inv trails = copy_case v w (λ c. Next (without_copy w id) (CopyLost c)) (find_copy w.flying id) trails (λ c is. lighter v w id trails)
-step_trails v w (Double id) inv trails =
-    copy_case v w (λ c. Next (with_double w c) (CopyDoubled w.next_copy c.to (is_parcel c.message))) (find_copy w.flying id) trails
-    (λ c is. same_trails v w (with_double w c) refl (λ p e. e) trails
-    (λ _. each_append (CopyHasWalk (around v w)) w.flying (double_of w c ∷ []) trails.flying (found_honest (CopyHasWalk (around v w)) w.flying id c trails.flying is, tt)) trails.stood)
+step_trails v w e inv trails = by_cases w (λ e o. HasWalks v (after w o)) (record {
+  idle = λ e none. trails;
+  full = λ e x n f is full. trails;
+  given = λ x d b n is. push_trails v w x (New b d) trails tt;
+  taken = λ x core item items is free.
+      let n : Node = record { core = core; queue = item ∷ items } in
+      let good : IsLoopSafeNode (table w) n = inv.nodes x n is in
+      let p : NodeHasWalks (around v w) x n = trails.nodes x n is in
+      done_trails v w x n (turn core (range w x) item) items inv trails is (turn_ok (table w) core (range w x) item (fit (table w) n good) good.queue.0)
+      (turn_traces (table w) (around v w) core (range w x) item (fit (table w) n good) (here_of v w x n inv trails is) good.queue.0 (subst (λ k. ItemHasWalk (around v w) k item) (sym (inv.named x n is)) p.queue.0)) p.queue.1;
+  sent = λ x d n is may free. done_trails v w x n (send n.core (range w x) d) n.queue inv trails is
+      (send_ok (table w) n.core (range w x) d (fit (table w) n (inv.nodes x n is))) (send_traces (around v w) n.core (range w x) d (here_of v w x n inv trails is)) (trails.nodes x n is).queue;
+  asked = λ x d n is may free. done_trails v w x n (ask n.core d) n.queue inv trails is
+      (ask_ok (table w) n.core d (fit (table w) n (inv.nodes x n is))) (ask_traces (around v w) n.core d (here_of v w x n inv trails is)) (trails.nodes x n is).queue;
+  linked = λ a b apart. same_trails v w (with_link w a b) refl (λ p e. has_more w.ever (pair a b) p e) trails
+      (λ later. flying_stays v w (with_link w a b) later trails.flying) (λ p e. both_more w.links w.ever (pair a b) p (trails.stood p) e);
+  cut = λ a b stands. same_trails v w (without_link w a b) refl (λ p e. e) trails (λ _. trails.flying) (λ p e. trails.stood p (has_fewer w.links (pair a b) p e));
+  heard = λ id c is. push_trails v (without_copy w id) c.to (Heard c.from c.message) (lighter v w id trails) (found_honest (CopyHasWalk (around v w)) w.flying id c trails.flying is);
+  lost = λ id c is. lighter v w id trails;
+  doubled = λ id c is. same_trails v w (with_double w c) refl (λ p e. e) trails
+      (λ _. each_append (CopyHasWalk (around v w)) w.flying (double_of w c ∷ []) trails.flying (found_honest (CopyHasWalk (around v w)) w.flying id c trails.flying is, tt)) trails.stood;
+}) e
