@@ -11,7 +11,7 @@ use Rattle.mesh_base.specs.declared.events.Variant.{Variant}
 use Rattle.aodv_model.specs.Cores.{Item, New, Heard, bodies_in}
 use Rattle.aodv_model.specs.Handlers.{Reaction, took, turn, send, ask}
 use Rattle.aodv_model.proofs.SoundTurns.{Stands, Settles, turn_settles, send_settles, ask_settles}
-use Rattle.mesh_model.proofs.Cases.{NamesNoCopy, by_cases, full_by}
+use Rattle.mesh_model.proofs.Cases.{NamesNoCopy, Refuses, by_cases}
 use Rattle.mesh_model.specs.Worlds.{Full, World, Node, Copy, Event, Double, range, copies, done_by, push, with_item, find_copy, without, Outcome, Idle, without_copy, double_of, step, after, run, openings, start}
 use Rattle.mesh_model.specs.InMesh.{IsNodeInMesh, IsCopyInMesh, AreNumbered, IsInMesh, IsEvent}
 use Rattle.mesh_model.specs.Accounts.{Test, total, total_below, counts, in_item, in_store, in_copy, waiting, queued_data, in_flight, given_data, doubled_data, in_found, in_taken, delivered_data, in_dropped, dropped_data, over_run, over_worlds}
@@ -124,8 +124,8 @@ idle_balanced : (t : Test) (w : World) (e : Event) → NamesNoCopy w e → Balan
 idle_balanced t w (Double id) none = let nothing = ap (in_found t) none in omega arith
 idle_balanced t w others none = refl
 
-full_balanced : (t : Test) (w : World) (e : Event) (x : ℕ) (n : Node) (f : Counter) → full_by (range w x) e n ≡ Some f → Balanced t w e (Full x f)
-full_balanced t w (Double id) x n f full = absurd (none-some f full)
+full_balanced : (t : Test) (w : World) (e : Event) (x : ℕ) (n : Node) (f : Counter) → Refuses (range w x) e x n f → Balanced t w e (Full x f)
+full_balanced t w (Double id) x n f full = absurd full
 full_balanced t w others x n f full = refl
 
 step_balanced_sum : (t : Test) (w : World) (e : Event) → IsEvent (length w.nodes) e → IsInMesh w → Balanced t w e (step w e)

@@ -1,9 +1,11 @@
 pub mod Lists
 pub mod Cases
+pub mod Copies
 pub mod Backing
 pub mod Leads
 pub mod Turns
 pub mod Steps
+pub mod Everywhere
 pub mod Acyclic
 pub mod Short
 pub mod RouteEnds

@@ -1,10 +1,9 @@
 -- Every event of the mesh keeps what a world names in the mesh.
-use Rattle.std.proofs.Common.{◌≡◌, ◌≢◌, ℕ, zero, suc, ◌+◌, ◌<◌, ◌≤◌, Bool, true, false, cond, not, ◌&&◌, ◌||◌, ◌==◌, List, [], ◌∷◌, ◌++◌, set, length, Some, None, Option, refl, ap, sym, ◌∙◌, subst, arith, length-set}
-use Rattle.std.specs.Prelude.{slice_get, if◌then◌else◌, min, max, filter}
+use Rattle.std.proofs.Common.{◌≡◌, ◌≢◌, ℕ, zero, suc, ◌+◌, ◌<◌, ◌≤◌, Bool, true, false, cond, not, ◌||◌, ◌==◌, List, [], ◌∷◌, ◌++◌, set, length, Some, None, Option, refl, ap, sym, ◌∙◌, subst, arith, length-set}
+use Rattle.std.specs.Prelude.{slice_get, min, max, filter}
 use Rattle.std.specs.List.{AllByRecursion}
 use Rattle.std.specs.Ordering.{nat_cmp, eq_by_cmp}
-use Rattle.std.specs.Cmp.{nat_cmp_total, unsigned_tied, Equal-is}
-use Rattle.std.proofs.lemmas.Bool.{eqb-true}
+use Rattle.std.specs.Cmp.{Equal-is}
 use Rattle.std.proofs.lemmas.Option.{slice_get_within}
 use Rattle.std.specs.FinSet as sets
 use Rattle.std.specs.FinMap as maps
@@ -15,39 +14,18 @@ use Rattle.mesh_model.specs.Invariants.{IsInvariant}
 use Rattle.mesh_model.specs.Worlds.{openings, start, run}
 use Rattle.mesh_model.proofs.Steps.{step_kept, start_kept}
 use Rattle.mesh_model.proofs.Sizes.{same_size, run_size, start_size}
-use Rattle.aodv_model.proofs.Entries.{if_case}
 use Rattle.aodv_model.proofs.PairLaws.{pair_cmp_total, same_pair}
 use Rattle.aodv_model.proofs.SoundTurns.{Settles, Stands, ask_settles, send_settles, sound_of, turn_settles}
 use Rattle.aodv_model.specs.Cores.{Heard, Item, Message, New}
-use Rattle.aodv_model.specs.Handlers.{All, Cast, Many, Nothing, One, Reaction, ask, one, send, turn}
+use Rattle.aodv_model.specs.Handlers.{All, Cast, Many, Nothing, One, Reaction, ask, send, turn}
 use Rattle.aodv_model.specs.Pairs.{Pairs, pair_cmp}
-use Rattle.aodv_model.specs.Soundness.{IsCastInMesh, IsItemInMesh, IsMessageInMesh, IsSoundCore, IsSoundTable}
-use Rattle.mesh_base.specs.Members.{NodeIds}
-use Rattle.mesh_model.proofs.Lists.{each_append, each_map}
+use Rattle.aodv_model.specs.Soundness.{IsCastInMesh, IsItemInMesh, IsSoundCore, IsSoundTable}
+pub use Rattle.mesh_model.proofs.Copies.{each_receiver, range_has, receivers_in}
+use Rattle.mesh_model.proofs.Copies.{each_copy, second}
+use Rattle.mesh_model.proofs.Lists.{each_append}
 use Rattle.mesh_model.proofs.Steps.{each_node, found_honest, without_honest}
 use Rattle.mesh_model.specs.InMesh.{AreLinks, AreNumbered, IsCopyInMesh, IsEvent, IsInMesh, IsNodeInMesh}
-use Rattle.mesh_model.specs.Worlds.{Copy, Event, Node, World, after, are_linked, copies, copies_of, copies_to, done_by, double_of, linked_below, members_below, pair, push, range, receivers, step, with_double, with_item, with_link, without, without_copy, without_link}
-
-below_case : (links : Pairs) (a n y : ℕ) (b : Bool) → are_linked links a n ≡ b → (sets.contains (linked_below links a n) y ≡ true → (y < n) × (are_linked links a y ≡ true))
-    → sets.contains (if b then sets.insert (linked_below links a n) n else linked_below links a n) y ≡ true → (y < suc n) × (are_linked links a y ≡ true)
-below_case links a n y true e rest is = new (y == n) refl (ap (λ b. b || sets.contains (linked_below links a n) y) (sym (unsigned_tied y n)) ∙ sym (sets.contains-insert nat_cmp_total (linked_below links a n) n y) ∙ is)
-  where
-    new : (b : Bool) → (y == n) ≡ b → (b || sets.contains (linked_below links a n) y) ≡ true → (y < suc n) × (are_linked links a y ≡ true)
-    new true same o = let here : y ≡ n = eqb-true y n same in (omega arith, ap (are_linked links a) here ∙ e)
-    new false same o = let r = rest o in (omega arith, r.1)
-below_case links a n y false e rest is = let r = rest is in (omega arith, r.1)
-
-linked_below_has : (links : Pairs) (a n y : ℕ) → sets.contains (linked_below links a n) y ≡ true → (y < n) × (are_linked links a y ≡ true)
-linked_below_has links a zero y is = let e = sets.contains-empty nat_cmp y in cc
-linked_below_has links a (suc n) y is = below_case links a n y (are_linked links a n) refl (linked_below_has links a n y) is
-
-pub range_has : (w : World) (x y : ℕ) → sets.contains (range w x) y ≡ true → (y < length w.nodes) × (are_linked w.links x y ≡ true)
-unfolding range
-range_has w x y is = linked_below_has w.links x (length w.nodes) y is
-
-second : (a b : Bool) → (a && b) ≡ true → b ≡ true
-second true b e = e
-second false b e = cc
+use Rattle.mesh_model.specs.Worlds.{Copy, Event, Node, World, after, are_linked, copies, copies_of, copies_to, done_by, double_of, members_below, pair, push, range, receivers, step, with_double, with_item, with_link, without, without_copy, without_link}
 
 linked_apart : (size : ℕ) (links : Pairs) (x y : ℕ) → AreLinks size links → are_linked links x y ≡ true → x ≢ y
 linked_apart size links x y are is = let e : min x y < max x y = (are (pair x y) is).0 in λ same. omega arith
@@ -80,52 +58,18 @@ both_more s t k p more e = sets.contains-insert pair_cmp_total t k p ∙ at (eq_
     at true e = refl
     at false e = more e
 
--- ---- who gets a cast
-
--- each receiver is in range
-pub receivers_in : (near : NodeIds) (c : Cast) (y : ℕ) → sets.contains (receivers near c) y ≡ true → sets.contains near y ≡ true
-unfolding receivers
-receivers_in near Nothing y is = let e = sets.contains-empty nat_cmp y in cc
-receivers_in near (One x m) y is = second (sets.contains (one x) y) (sets.contains near y) (sym (sets.contains-intersection nat_cmp_total (one x) near y) ∙ is)
-receivers_in near (Many s m) y is = second (sets.contains s y) (sets.contains near y) (sym (sets.contains-intersection nat_cmp_total s near y) ∙ is)
-receivers_in near (All m) y is = is
-
-pub members_in : (n : ℕ) (s : NodeIds) → AllByRecursion (λ y. sets.contains s y ≡ true) (members_below n s)
-unfolding members_below
-members_in zero s = tt
-members_in (suc n) s =
-    if_case (AllByRecursion (λ y. sets.contains s y ≡ true)) (sets.contains s n) (members_below n s ++ n ∷ []) (members_below n s)
-    (λ has. each_append (λ y. sets.contains s y ≡ true) (members_below n s) (n ∷ []) (members_in n s) (has, tt))
-    (λ _. members_in n s)
-
--- what holds of each node in range holds of each receiver
-pub each_receiver : (P : ℕ → Type 0) (n : ℕ) (near : NodeIds) (c : Cast) → ((y : ℕ) → sets.contains near y ≡ true → P y) → AllByRecursion P (members_below n (receivers near c))
-each_receiver P n near c within =
-    each_map (λ y. sets.contains (receivers near c) y ≡ true) P (λ y is. within y (receivers_in near c y is)) (members_below n (receivers near c)) (members_in n (receivers near c))
-
 -- ---- copies
 
-copies_to_placed : (size x : ℕ) (tos : List ℕ) (id : ℕ) (m : Message) → x < size → AllByRecursion (λ y. (y < size) × (x ≢ y)) tos → IsMessageInMesh size m → AllByRecursion (IsCopyInMesh size) (copies_to tos id x m)
-copies_to_placed size x [] id m lx all inside = tt
-copies_to_placed size x (to ∷ tos) id m lx all inside = ((lx, all.0.0, all.0.1, inside), copies_to_placed size x tos (id + 1) m lx all.1 inside)
-
-copies_of_placed : (size x : ℕ) (c : Cast) (tos : List ℕ) (id : ℕ) → x < size → AllByRecursion (λ y. (y < size) × (x ≢ y)) tos → IsCastInMesh size c → AllByRecursion (IsCopyInMesh size) (copies_of c tos id x)
-copies_of_placed size x Nothing tos id lx all inside = tt
-copies_of_placed size x (One y m) tos id lx all inside = copies_to_placed size x tos id m lx all inside
-copies_of_placed size x (Many s m) tos id lx all inside = copies_to_placed size x tos id m lx all inside
-copies_of_placed size x (All m) tos id lx all inside = copies_to_placed size x tos id m lx all inside
-
 copies_placed : (w : World) (x : ℕ) (c : Cast) → IsInMesh w → x < length w.nodes → IsCastInMesh (length w.nodes) c → AllByRecursion (IsCopyInMesh (length w.nodes)) (copies w x c)
-unfolding copies
 copies_placed w x c places lx inside =
-    copies_of_placed (length w.nodes) x c (members_below (length w.nodes) (receivers (range w x) c)) w.next_copy lx
-    (each_receiver (λ y. (y < length w.nodes) × (x ≢ y)) (length w.nodes) (range w x) c (λ y e. let r = range_has w x y e in (r.0, linked_apart (length w.nodes) w.links x y places.links r.1))) inside
+    each_copy (IsCopyInMesh (length w.nodes)) (IsCastInMesh (length w.nodes)) (record { one = λ y m is. is; many = λ s m is. is; all = λ m is. is }) w x c inside
+    (λ id to m near is. let r = range_has w x to near in (lx, r.0, linked_apart (length w.nodes) w.links x to places.links r.1, is))
 
 numbered_down : (low mid next : ℕ) (cs : List Copy) → low ≤ mid → AreNumbered mid cs next → AreNumbered low cs next
 numbered_down low mid next [] le all = omega arith
 numbered_down low mid next (c ∷ cs) le all = (omega arith, all.1)
 
-numbered_append : (low mid next : ℕ) (cs ds : List Copy) → AreNumbered low cs mid → AreNumbered mid ds next → AreNumbered low (cs ++ ds) next
+pub numbered_append : (low mid next : ℕ) (cs ds : List Copy) → AreNumbered low cs mid → AreNumbered mid ds next → AreNumbered low (cs ++ ds) next
 numbered_append low mid next [] ds all more = numbered_down low mid next ds all more
 numbered_append low mid next (c ∷ cs) ds all more = (all.0, numbered_append (c.id + 1) mid next cs ds all.1 more)
 
@@ -133,7 +77,7 @@ kept_numbered : (low next : ℕ) (b : Bool) (c : Copy) (cs : List Copy) → low 
 kept_numbered low next true c cs le all = (le, all)
 kept_numbered low next false c cs le all = numbered_down low (c.id + 1) next cs (omega arith) all
 
-filter_numbered : (low next : ℕ) (test : Copy → Bool) (cs : List Copy) → AreNumbered low cs next → AreNumbered low (filter test cs) next
+pub filter_numbered : (low next : ℕ) (test : Copy → Bool) (cs : List Copy) → AreNumbered low cs next → AreNumbered low (filter test cs) next
 filter_numbered low next test [] all = all
 filter_numbered low next test (c ∷ cs) all = kept_numbered low next (test c) c (filter test cs) all.0 (filter_numbered (c.id + 1) next test cs all.1)
 
@@ -150,7 +94,7 @@ copies_of_numbered (One y m) tos id x = copies_to_numbered tos id x m
 copies_of_numbered (Many s m) tos id x = copies_to_numbered tos id x m
 copies_of_numbered (All m) tos id x = copies_to_numbered tos id x m
 
-copies_numbered : (w : World) (x : ℕ) (c : Cast) → AreNumbered w.next_copy (copies w x c) (w.next_copy + length (copies w x c))
+pub copies_numbered : (w : World) (x : ℕ) (c : Cast) → AreNumbered w.next_copy (copies w x c) (w.next_copy + length (copies w x c))
 unfolding copies
 copies_numbered w x c = copies_of_numbered c (members_below (length w.nodes) (receivers (range w x) c)) w.next_copy x
 

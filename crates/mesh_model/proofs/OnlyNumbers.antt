@@ -12,7 +12,7 @@ use Rattle.aodv_model.proofs.Numbers.{ask_fills_number}
 use Rattle.aodv_model.specs.Cores.{Core, Heard, Item, New, Pkt, Rerr, Rrep, Rreq, has_seen}
 use Rattle.aodv_model.specs.Fullness.{greatest, is_hop_full, is_number_full, after_learning}
 use Rattle.aodv_model.specs.Handlers.{key_of, send, turn}
-use Rattle.mesh_model.proofs.Cases.{by_cases, full_by}
+use Rattle.mesh_model.proofs.Cases.{Refuses, by_cases, front_full}
 use Rattle.mesh_model.proofs.Honest.{front_distinct, front_long, front_within, run_trails, start_trails}
 use Rattle.mesh_model.proofs.Lists.{each_map}
 use Rattle.mesh_model.proofs.NumberSteps.{IsWithin, run_within, start_within}
@@ -74,16 +74,16 @@ number_first true b f free is = cc
 number_first false true f free is = sym (same_Some full.Number f is)
 number_first false false f free is = absurd (none-some f is)
 
-front_number : (v : Variant) (w : World) (x y : ℕ) (core : Core) (queue : List Item) (f : Counter) → length w.nodes ≤ 200 → AllByRecursion (ItemHasWalk (around v w) x) queue → full_by (range w x) (Turn y) (record { core = core; queue = queue }) ≡ Some f → f ≡ full.Number
-front_number v w x y core [] f few walks is = absurd (none-some f is)
-front_number v w x y core (item ∷ items) f few walks is =
+front_number : (v : Variant) (w : World) (x : ℕ) (core : Core) (queue : List Item) (f : Counter) → length w.nodes ≤ 200 → AllByRecursion (ItemHasWalk (around v w) x) queue → front_full core (range w x) queue ≡ Some f → f ≡ full.Number
+front_number v w x core [] f few walks is = absurd (none-some f is)
+front_number v w x core (item ∷ items) f few walks is =
     number_first (is_hop_full core item) (is_number_full (after_learning core item).rt ((turn core (range w x) item).effect).broken) f (hop_free v w x core item few walks.0) is
 
-only_number : (v : Variant) (w : World) (e : Event) (x : ℕ) (n : Node) (f : Counter) → length w.nodes ≤ 200 → HasWalks v w → IsWithin w → slice_get w.nodes x ≡ Some n → full_by (range w x) e n ≡ Some f → f ≡ full.Number
-only_number v w (Turn y) x n f few trails all is full = front_number v w x y n.core n.queue f few (trails.nodes x n is).queue full
-only_number v w (Send y d) x n f few trails all is full = number_first false (is_number_full (n.core).rt ((send n.core (range w x) d).effect).broken) f refl full
-only_number v w (Ask y d) x n f few trails all is full = ask_fills_number x n.core f (all.nodes x n is).core full
-only_number v w others x n f few trails all is full = absurd (none-some f full)
+only_number : (v : Variant) (w : World) (e : Event) (x : ℕ) (n : Node) (f : Counter) → length w.nodes ≤ 200 → HasWalks v w → IsWithin w → slice_get w.nodes x ≡ Some n → Refuses (range w x) e x n f → f ≡ full.Number
+only_number v w (Turn y) x n f few trails all is full = front_number v w x n.core n.queue f few (trails.nodes x n is).queue full.1
+only_number v w (Send y d) x n f few trails all is full = number_first false (is_number_full (n.core).rt ((send n.core (range w x) d).effect).broken) f refl full.1
+only_number v w (Ask y d) x n f few trails all is full = ask_fills_number x n.core f (all.nodes x n is).core full.1
+only_number v w others x n f few trails all is full = absurd full
 
 step_fills : (v : Variant) (w : World) (e : Event) → length w.nodes ≤ 200 → HasWalks v w → IsWithin w → Fills (step w e)
 step_fills v w e few trails all = by_cases w (λ e. Fills) (record {

@@ -1,5 +1,5 @@
 -- Every step keeps what excludes cycles.
-use Rattle.std.proofs.Common.{◌≡◌, ◌≢◌, ℕ, zero, suc, ◌+◌, ◌-◌, ◌≤◌, Bool, true, false, not, ◌==◌, List, [], ◌∷◌, ◌++◌, set, Some, None, Option, refl, ap, sym, ◌∙◌, subst, arith, length}
+use Rattle.std.proofs.Common.{◌≡◌, ◌≢◌, ℕ, zero, suc, ◌+◌, ◌-◌, ◌≤◌, Bool, true, false, not, ◌==◌, List, [], ◌∷◌, ◌++◌, set, Some, None, Option, refl, ap, sym, ◌∙◌, subst, arith}
 use Rattle.std.specs.Prelude.{slice_get, if◌then◌else◌}
 use Rattle.std.specs.List.{AllByRecursion}
 use Rattle.std.specs.Ordering.{nat_cmp}
@@ -7,17 +7,18 @@ use Rattle.std.proofs.lemmas.Bool.{eqb-true, eqb-false}
 use Rattle.std.proofs.lemmas.Option.{none-some, same_Some}
 use Rattle.std.specs.FinMap as maps
 use Rattle.aodv_model.specs.Cores.{Heard, Item, Message, New, Pkt, Rerr, Rrep, Rreq}
-use Rattle.aodv_model.specs.Handlers.{All, Cast, Many, Nothing, One, Reaction, ask, send, turn}
+use Rattle.aodv_model.specs.Handlers.{Cast, Reaction, ask, send, turn}
 use Rattle.aodv_model.specs.Soundness.{AllSoundNumbers}
 use Rattle.aodv_model.specs.Tables.{Table}
 use Rattle.mesh_base.specs.declared.events.Variant.{Variant}
 use Rattle.mesh_model.proofs.Cases.{by_cases}
+use Rattle.mesh_model.proofs.Copies.{each_copy}
 use Rattle.mesh_model.proofs.Leads.{Grows}
 use Rattle.mesh_model.proofs.Lists.{each_append, each_filter, each_map, set_other, set_same}
 use Rattle.mesh_model.proofs.Turns.{IsFit, IsHonestCast, IsOk, ask_ok, send_ok, turn_ok}
 use Rattle.mesh_model.specs.Invariants.{AllBacked, AtLeast, IsHonest, IsHonestCopy, IsHonestItem, IsLoopSafe, IsLoopSafeNode}
 use Rattle.mesh_model.specs.Walks.{rt_in, table}
-use Rattle.mesh_model.specs.Worlds.{Copy, Event, Node, World, after, copies, copies_of, copies_to, done_by, double_of, find_copy, members_below, openings, push, range, receivers, run, start, step, with_double, with_item, with_link, without, without_copy, without_link}
+use Rattle.mesh_model.specs.Worlds.{Copy, Event, Node, World, after, copies, done_by, double_of, find_copy, openings, push, range, run, start, step, with_double, with_item, with_link, without, without_copy, without_link}
 
 pub record Follows (old new : ℕ → Table) : Type 0 where
   pub keeps : (x d n h : ℕ) → 1 ≤ n → AtLeast (old x) d n h → AtLeast (new x) d n h
@@ -55,19 +56,8 @@ fit tables n good = record { number = good.numbers.own; fine = record { sound = 
 
 -- ---- copies
 
-copies_to_honest : (tables : ℕ → Table) (tos : List ℕ) (id from : ℕ) (m : Message) → IsHonest (tables from) from m → AllByRecursion (IsHonestCopy tables) (copies_to tos id from m)
-copies_to_honest tables [] id from m honest = tt
-copies_to_honest tables (to ∷ tos) id from m honest = (honest, copies_to_honest tables tos (id + 1) from m honest)
-
-copies_of_honest : (tables : ℕ → Table) (c : Cast) (tos : List ℕ) (id from : ℕ) → IsHonestCast (tables from) from c → AllByRecursion (IsHonestCopy tables) (copies_of c tos id from)
-copies_of_honest tables Nothing tos id from honest = tt
-copies_of_honest tables (One y m) tos id from honest = copies_to_honest tables tos id from m honest
-copies_of_honest tables (Many s m) tos id from honest = copies_to_honest tables tos id from m honest
-copies_of_honest tables (All m) tos id from honest = copies_to_honest tables tos id from m honest
-
 copies_honest : (tables : ℕ → Table) (w : World) (x : ℕ) (c : Cast) → IsHonestCast (tables x) x c → AllByRecursion (IsHonestCopy tables) (copies w x c)
-unfolding copies
-copies_honest tables w x c honest = copies_of_honest tables c (members_below (length w.nodes) (receivers (range w x) c)) w.next_copy x honest
+copies_honest tables w x c honest = each_copy (IsHonestCopy tables) (IsHonestCast (tables x) x) (record { one = λ y m is. is; many = λ s m is. is; all = λ m is. is }) w x c honest (λ id to m near is. is)
 
 -- ---- one node changes
 

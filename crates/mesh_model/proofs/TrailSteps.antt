@@ -1,16 +1,17 @@
 -- Every step keeps the walks.
-use Rattle.std.proofs.Common.{◌≡◌, ℕ, ◌+◌, Bool, true, false, ◌==◌, List, [], ◌∷◌, ◌++◌, set, length, Some, None, Option, refl, ap, sym, ◌∙◌, subst}
+use Rattle.std.proofs.Common.{◌≡◌, ℕ, Bool, true, false, ◌==◌, List, [], ◌∷◌, ◌++◌, set, length, Some, None, Option, refl, ap, sym, ◌∙◌, subst}
 use Rattle.std.specs.Prelude.{slice_get}
 use Rattle.std.specs.List.{AllByRecursion}
 use Rattle.std.proofs.lemmas.Bool.{eqb-true, eqb-false}
 use Rattle.std.specs.FinSet as sets
-use Rattle.aodv_model.specs.Cores.{Core, Heard, Item, Message, New, Pkt, Rerr, Rrep, Rreq, has_seen}
-use Rattle.aodv_model.specs.Handlers.{All, Cast, Many, Nothing, One, Reaction, ask, key_of, send, turn}
+use Rattle.aodv_model.specs.Cores.{Core, Heard, Item, Message, New, Pkt, Rerr, RouteRequest, Rrep, Rreq, has_seen}
+use Rattle.aodv_model.specs.Handlers.{Cast, Reaction, ask, key_of, send, turn}
 use Rattle.mesh_base.specs.declared.events.Variant.{Variant}
 use Rattle.mesh_model.proofs.Cases.{by_cases}
+use Rattle.mesh_model.proofs.Copies.{each_copy, range_has}
 use Rattle.mesh_model.proofs.Leads.{Grows}
 use Rattle.mesh_model.proofs.Lists.{each_append, each_map, set_other, set_same}
-use Rattle.mesh_model.proofs.MeshSteps.{both_more, each_receiver, has_fewer, has_more, range_has}
+use Rattle.mesh_model.proofs.MeshSteps.{both_more, has_fewer, has_more}
 use Rattle.mesh_model.proofs.Steps.{Follows, each_node, fit, follows_of, found_honest, without_honest}
 use Rattle.mesh_model.proofs.TrailTables.{Later, traced_stays, trail_stays}
 use Rattle.mesh_model.proofs.TrailTurns.{Begins, IsCastSent, IsHere, IsSent, Traces, ask_traces, send_traces, turn_traces}
@@ -18,7 +19,12 @@ use Rattle.mesh_model.proofs.Turns.{IsOk, ask_ok, send_ok, turn_ok}
 use Rattle.mesh_model.specs.Invariants.{AtLeast, IsLoopSafe, IsLoopSafeNode}
 use Rattle.mesh_model.specs.Trails.{Around, CopyHasWalk, EntriesHaveWalks, HasWalks, IsAbsent, IsBackedWalk, ItemHasWalk, MessageHasWalk, NodeHasWalks, around, front, seen_in}
 use Rattle.mesh_model.specs.Walks.{rt_in, table}
-use Rattle.mesh_model.specs.Worlds.{Copy, Event, Node, World, after, are_linked, copies, copies_of, copies_to, done_by, double_of, members_below, pair, push, range, receivers, step, with_double, with_item, with_link, without_copy, without_link}
+use Rattle.mesh_model.specs.Worlds.{Copy, Event, Node, World, after, are_linked, copies, done_by, double_of, pair, push, range, step, with_double, with_item, with_link, without_copy, without_link}
+
+-- the nodes that have seen a request have still seen it
+pub keys_stay : (a b : Around) → Later a b → (m : RouteRequest) (xs : List ℕ) → AllByRecursion (λ z. has_seen (a.seen z) (key_of a.variant m) ≡ true) xs → AllByRecursion (λ z. has_seen (b.seen z) (key_of b.variant m) ≡ true) xs
+keys_stay a b later m xs keys = each_map (λ z. has_seen (a.seen z) (key_of a.variant m) ≡ true) (λ z. has_seen (b.seen z) (key_of b.variant m) ≡ true)
+    (λ z e. subst (λ v. has_seen (b.seen z) (key_of v m) ≡ true) (sym later.variant) (later.seen z _ e)) xs keys
 
 message_stays : (a b : Around) → Later a b → (from : ℕ) (m : Message) → MessageHasWalk a from m → MessageHasWalk b from m
 message_stays a b later from (Pkt x d o) t = tt
@@ -26,8 +32,7 @@ message_stays a b later from (Rreq m) t = record {
   others = t.others;
   walk = trail_stays a b later m.oip m.osn (from ∷ t.others) t.walk;
   long = t.long;
-  keys = subst (λ v. AllByRecursion (λ z. has_seen (b.seen z) (key_of v m) ≡ true) (from ∷ t.others)) (sym later.variant)
-      (each_map (λ z. has_seen (a.seen z) (key_of a.variant m) ≡ true) (λ z. has_seen (b.seen z) (key_of a.variant m) ≡ true) (λ z e. later.seen z _ e) (from ∷ t.others) t.keys);
+  keys = keys_stay a b later m (from ∷ t.others) t.keys;
 }
 message_stays a b later from (Rrep m) t = record { others = t.others; walk = trail_stays a b later m.dip m.dsn (from ∷ t.others) t.walk; long = t.long }
 message_stays a b later from (Rerr dests) t = tt
@@ -49,35 +54,24 @@ trail_of a b core x d n [] later ip rt w = sym ip ∙ w
 trail_of a b core x d n (y ∷ ys) later ip rt w =
     (later.ever _ (subst (λ k. are_linked a.ever y k ≡ true) ip w.0), w.1, subst (λ t. AtLeast t d n (length (y ∷ ys))) (sym rt) w.2, subst (λ k. IsAbsent k (front (y ∷ ys))) ip w.3, trail_stays a b later d n (y ∷ ys) w.4)
 
+pub own_keys : (a b : Around) (core : Core) (x : ℕ) (m : RouteRequest) (others : List ℕ) → Later a b → b.seen x ≡ core.seen → has_seen core.seen (key_of a.variant m) ≡ true → AllByRecursion (λ z. has_seen (a.seen z) (key_of a.variant m) ≡ true) others
+    → AllByRecursion (λ z. has_seen (b.seen z) (key_of b.variant m) ≡ true) (x ∷ others)
+own_keys a b core x m others later seen own keys = (subst (λ v. has_seen (b.seen x) (key_of v m) ≡ true) (sym later.variant) (ap (λ k. sets.contains k (key_of a.variant m)) seen ∙ own), keys_stay a b later m others keys)
+
 sent_trailed : (a b : Around) (core : Core) (x : ℕ) (m : Message) → Later a b → core.ip ≡ x → b.tables x ≡ core.rt → b.seen x ≡ core.seen → IsSent a core m → MessageHasWalk b x m
 sent_trailed a b core x (Pkt y d o) later ip rt seen s = tt
 sent_trailed a b core x (Rreq m) later ip rt seen s = record {
   others = s.others;
   walk = trail_of a b core x m.oip m.osn s.others later ip rt s.walk;
   long = s.long;
-  keys = subst (λ v. AllByRecursion (λ z. has_seen (b.seen z) (key_of v m) ≡ true) (x ∷ s.others)) (sym later.variant) (
-    ap (λ k. sets.contains k (key_of a.variant m)) seen ∙ s.own,
-    each_map (λ z. has_seen (a.seen z) (key_of a.variant m) ≡ true) (λ z. has_seen (b.seen z) (key_of a.variant m) ≡ true) (λ z e. later.seen z _ e) s.others s.keys,
-  );
+  keys = own_keys a b core x m s.others later seen s.own s.keys;
 }
 sent_trailed a b core x (Rrep m) later ip rt seen s = record { others = s.others; walk = trail_of a b core x m.dip m.dsn s.others later ip rt s.walk; long = s.long }
 sent_trailed a b core x (Rerr dests) later ip rt seen s = tt
 
-copies_to_trailed : (b : Around) (tos : List ℕ) (id x : ℕ) (m : Message) → AllByRecursion (λ y. are_linked b.ever x y ≡ true) tos → MessageHasWalk b x m → AllByRecursion (CopyHasWalk b) (copies_to tos id x m)
-copies_to_trailed b [] id x m all t = tt
-copies_to_trailed b (to ∷ tos) id x m all t = ((all.0, t), copies_to_trailed b tos (id + 1) x m all.1 t)
-
-copies_of_trailed : (a b : Around) (core : Core) (x : ℕ) (c : Cast) (tos : List ℕ) (id : ℕ) → Later a b → core.ip ≡ x → b.tables x ≡ core.rt → b.seen x ≡ core.seen → AllByRecursion (λ y. are_linked b.ever x y ≡ true) tos → IsCastSent a core c → AllByRecursion (CopyHasWalk b) (copies_of c tos id x)
-copies_of_trailed a b core x Nothing tos id later ip rt seen all s = tt
-copies_of_trailed a b core x (One y m) tos id later ip rt seen all s = copies_to_trailed b tos id x m all (sent_trailed a b core x m later ip rt seen s)
-copies_of_trailed a b core x (Many t m) tos id later ip rt seen all s = copies_to_trailed b tos id x m all (sent_trailed a b core x m later ip rt seen s)
-copies_of_trailed a b core x (All m) tos id later ip rt seen all s = copies_to_trailed b tos id x m all (sent_trailed a b core x m later ip rt seen s)
-
 copies_trailed : (a b : Around) (core : Core) (w : World) (x : ℕ) (c : Cast) → Later a b → core.ip ≡ x → b.tables x ≡ core.rt → b.seen x ≡ core.seen → ((y : ℕ) → sets.contains (range w x) y ≡ true → are_linked b.ever x y ≡ true) → IsCastSent a core c → AllByRecursion (CopyHasWalk b) (copies w x c)
-unfolding copies
 copies_trailed a b core w x c later ip rt seen within s =
-    copies_of_trailed a b core x c (members_below (length w.nodes) (receivers (range w x) c)) w.next_copy later ip rt seen
-    (each_receiver (λ y. are_linked b.ever x y ≡ true) (length w.nodes) (range w x) c within) s
+    each_copy (CopyHasWalk b) (IsCastSent a core) (record { one = λ y m is. is; many = λ s m is. is; all = λ m is. is }) w x c s (λ id to m near is. (within to near, sent_trailed a b core x m later ip rt seen is))
 
 -- ---- one node changes
 
@@ -124,9 +118,32 @@ here_of v w x n inv trails is =
       traced = subst (λ k. EntriesHaveWalks (around v w) k (n.core).rt) (sym named) t.entries;
     }
 
-done_trails : (v : Variant) (w : World) (x : ℕ) (n : Node) (did : Reaction) (queue : List Item) → IsLoopSafe w → HasWalks v w → slice_get w.nodes x ≡ Some n → IsOk (table w) n.core did → Traces (around v w) n.core did → AllByRecursion (ItemHasWalk (around v w) x) queue → HasWalks v (done_by w x did queue)
+-- what the node does is in order, and its walks are traced
+pub record IsTraced (v : Variant) (w : World) (core : Core) (did : Reaction) : Type 0 where
+  pub ok : IsOk (table w) core did
+  pub traces : Traces (around v w) core did
+
+pub turn_traced : (v : Variant) (w : World) (x : ℕ) (core : Core) (item : Item) (items : List Item) → IsLoopSafe w → HasWalks v w → slice_get w.nodes x ≡ Some (record { core = core; queue = item ∷ items }) → IsTraced v w core (turn core (range w x) item)
+turn_traced v w x core item items inv trails is =
+    let n : Node = record { core = core; queue = item ∷ items } in
+    let good : IsLoopSafeNode (table w) n = inv.nodes x n is in
+    let t : ItemHasWalk (around v w) x item = (trails.nodes x n is).queue.0 in
+    record {
+      ok = turn_ok (table w) core (range w x) item (fit (table w) n good) good.queue.0;
+      traces = turn_traces (table w) (around v w) core (range w x) item (fit (table w) n good) (here_of v w x n inv trails is) good.queue.0 (subst (λ k. ItemHasWalk (around v w) k item) (sym (inv.named x n is)) t);
+    }
+
+pub send_traced : (v : Variant) (w : World) (x d : ℕ) (n : Node) → IsLoopSafe w → HasWalks v w → slice_get w.nodes x ≡ Some n → IsTraced v w n.core (send n.core (range w x) d)
+send_traced v w x d n inv trails is = record { ok = send_ok (table w) n.core (range w x) d (fit (table w) n (inv.nodes x n is)); traces = send_traces (around v w) n.core (range w x) d (here_of v w x n inv trails is) }
+
+pub ask_traced : (v : Variant) (w : World) (x d : ℕ) (n : Node) → IsLoopSafe w → HasWalks v w → slice_get w.nodes x ≡ Some n → IsTraced v w n.core (ask n.core d)
+ask_traced v w x d n inv trails is = record { ok = ask_ok (table w) n.core d (fit (table w) n (inv.nodes x n is)); traces = ask_traces (around v w) n.core d (here_of v w x n inv trails is) }
+
+done_trails : (v : Variant) (w : World) (x : ℕ) (n : Node) (did : Reaction) (queue : List Item) → IsLoopSafe w → HasWalks v w → slice_get w.nodes x ≡ Some n → IsTraced v w n.core did → AllByRecursion (ItemHasWalk (around v w) x) queue → HasWalks v (done_by w x did queue)
 unfolding done_by
-done_trails v w x n did queue inv trails is ok traces items =
+done_trails v w x n did queue inv trails is traced items =
+    let ok : IsOk (table w) n.core did = traced.ok in
+    let traces : Traces (around v w) n.core did = traced.traces in
     let new : Node = record { core = did.core; queue = queue } in
     let w' : World = done_by w x did queue in
     let named : (n.core).ip ≡ x = inv.named x n is in
@@ -145,15 +162,19 @@ done_trails v w x n did queue inv trails is ok traces items =
 
 -- ---- what leaves the nodes alone
 
+-- a world with the same nodes, in which no fewer links have ever stood
+pub later_same : (v : Variant) (w w' : World) → w'.nodes ≡ w.nodes → ((p : ℕ × ℕ) → sets.contains w.ever p ≡ true → sets.contains w'.ever p ≡ true) → Later (around v w) (around v w')
+later_same v w w' nodes ever = record {
+  variant = refl;
+  keeps = λ x d n h one at. subst (λ ns. AtLeast (rt_in (slice_get ns x)) d n h) (sym nodes) at;
+  seen = λ x key has. subst (λ ns. has_seen (seen_in (slice_get ns x)) key ≡ true) (sym nodes) has;
+  ever = ever;
+}
+
 same_trails : (v : Variant) (w w' : World) → w'.nodes ≡ w.nodes → ((p : ℕ × ℕ) → sets.contains w.ever p ≡ true → sets.contains w'.ever p ≡ true) → HasWalks v w → (Later (around v w) (around v w') → AllByRecursion (CopyHasWalk (around v w')) w'.flying)
     → ((p : ℕ × ℕ) → sets.contains w'.links p ≡ true → sets.contains w'.ever p ≡ true) → HasWalks v w'
 same_trails v w w' nodes ever trails flying stood =
-    let later : Later (around v w) (around v w') = record {
-      variant = refl;
-      keeps = λ x d n h one at. subst (λ ns. AtLeast (rt_in (slice_get ns x)) d n h) (sym nodes) at;
-      seen = λ x key has. subst (λ ns. has_seen (seen_in (slice_get ns x)) key ≡ true) (sym nodes) has;
-      ever = ever;
-    } in
+    let later : Later (around v w) (around v w') = later_same v w w' nodes ever in
     record {
       nodes = λ x n found. node_stays (around v w) (around v w') later x n (trails.nodes x n (subst (λ ns. slice_get ns x ≡ Some n) nodes found));
       flying = flying later;
@@ -191,14 +212,9 @@ step_trails v w e inv trails = by_cases w (λ e o. HasWalks v (after w o)) (reco
   given = λ x d b n is. push_trails v w x (New b d) trails tt;
   taken = λ x core item items is free.
       let n : Node = record { core = core; queue = item ∷ items } in
-      let good : IsLoopSafeNode (table w) n = inv.nodes x n is in
-      let p : NodeHasWalks (around v w) x n = trails.nodes x n is in
-      done_trails v w x n (turn core (range w x) item) items inv trails is (turn_ok (table w) core (range w x) item (fit (table w) n good) good.queue.0)
-      (turn_traces (table w) (around v w) core (range w x) item (fit (table w) n good) (here_of v w x n inv trails is) good.queue.0 (subst (λ k. ItemHasWalk (around v w) k item) (sym (inv.named x n is)) p.queue.0)) p.queue.1;
-  sent = λ x d n is may free. done_trails v w x n (send n.core (range w x) d) n.queue inv trails is
-      (send_ok (table w) n.core (range w x) d (fit (table w) n (inv.nodes x n is))) (send_traces (around v w) n.core (range w x) d (here_of v w x n inv trails is)) (trails.nodes x n is).queue;
-  asked = λ x d n is may free. done_trails v w x n (ask n.core d) n.queue inv trails is
-      (ask_ok (table w) n.core d (fit (table w) n (inv.nodes x n is))) (ask_traces (around v w) n.core d (here_of v w x n inv trails is)) (trails.nodes x n is).queue;
+      done_trails v w x n (turn core (range w x) item) items inv trails is (turn_traced v w x core item items inv trails is) (trails.nodes x n is).queue.1;
+  sent = λ x d n is may free. done_trails v w x n (send n.core (range w x) d) n.queue inv trails is (send_traced v w x d n inv trails is) (trails.nodes x n is).queue;
+  asked = λ x d n is may free. done_trails v w x n (ask n.core d) n.queue inv trails is (ask_traced v w x d n inv trails is) (trails.nodes x n is).queue;
   linked = λ a b apart. same_trails v w (with_link w a b) refl (λ p e. has_more w.ever (pair a b) p e) trails
       (λ later. flying_stays v w (with_link w a b) later trails.flying) (λ p e. both_more w.links w.ever (pair a b) p (trails.stood p) e);
   cut = λ a b stands. same_trails v w (without_link w a b) refl (λ p e. e) trails (λ _. trails.flying) (λ p e. trails.stood p (has_fewer w.links (pair a b) p e));
