@@ -17,8 +17,11 @@ quiet_done : (say : Bool) (m n : RunState) (e : Event) (a : Option (List ℕ)) �
 quiet_done say m n e a quiet is =
     subst (λ (s : Bool). IsLineDone s (line_outcome_at m e) n a a) (sym quiet) (answer_goes false m n e is.done is.packet a a is.answer (shown_none false a))
 
-module _ (say : Bool) (given : Option Event) (most did : ℕ) (m n : RunState) (e : Event) (one : IfSome given (λ _. most ≤ 1)) (quiet : say ≡ false) (none : given ≡ None) (two : did + 2 ≤ most)
-    (chosen : Some e ≡ next_in given m) (are : AreTwoDone m e n) where
+module _ (say : Bool) (given : Option Event) (most did : ℕ) (m n : RunState) (one : IfSome given (λ _. most ≤ 1)) (quiet : say ≡ false) (none : given ≡ None) (two : did + 2 ≤ most)
+    (are : AreTwoDone m n) where
+  chosen : Some are.first ≡ next_in given m
+  chosen = subst (λ (g : Option Event). Some are.first ≡ next_in g m) (sym none) (sym are.chosen)
+
   first_under : did < most
   first_under = omega (arith, two)
 
@@ -28,47 +31,47 @@ module _ (say : Bool) (given : Option Event) (most did : ℕ) (m n : RunState) (
   as_two : did + 2 ≡ did + 1 + 1
   as_two = omega arith
 
-  next : Some are.other ≡ next_in given are.between
-  next = subst (λ (g : Option Event). Some are.other ≡ next_in g are.between) (sym none) (sym are.next)
+  next : Some are.second ≡ next_in given are.between
+  next = subst (λ (g : Option Event). Some are.second ≡ next_in g are.between) (sym none) (sym are.next)
 
-  to_between : are.between ≡ next_state m e
-  to_between = (are.first).answer.run_state
+  to_between : are.between ≡ next_state m are.first
+  to_between = (are.done).answer.run_state
 
-  to_end : n ≡ next_state are.between are.other
-  to_end = (are.second).answer.run_state
+  to_end : n ≡ next_state are.between are.second
+  to_end = (are.ends).answer.run_state
 
   pub two_ran : (k : RunState) (a c : Option (List ℕ)) (r : Result ℕ Stop) → IsEventsRun say n (outcome_of_events n (events_due given (most - (did + 2)) n)) k a c r
       → IsEventsRun say m (outcome_of_events m (events_due given (most - did) m)) k a c r
   two_ran k a c r p =
-      ran_goes say given most did m are.between k e a a c r one first_under chosen (quiet_done say m are.between e a quiet are.first)
-      (ran_goes say given most (did + 1) are.between n k are.other a a c r one second_under next (quiet_done say are.between n are.other a quiet are.second)
+      ran_goes say given most did m are.between k are.first a a c r one first_under chosen (quiet_done say m are.between are.first a quiet are.done)
+      (ran_goes say given most (did + 1) are.between n k are.second a a c r one second_under next (quiet_done say are.between n are.second a quiet are.ends)
       (subst (λ d. IsEventsRun say n (outcome_of_events n (events_due given (most - d) n)) k a c r) as_two p))
 
   pub two_way : (k : RunState) → IsReached n (events_due given (most - (did + 2)) n) k → IsReached m (events_due given (most - did) m) k
   two_way k p =
-      way_goes say given most did m are.between k e None None one first_under chosen (quiet_done say m are.between e None quiet are.first) to_between
-      (way_goes say given most (did + 1) are.between n k are.other None None one second_under next (quiet_done say are.between n are.other None quiet are.second) to_end
+      way_goes say given most did m are.between k are.first None None one first_under chosen (quiet_done say m are.between are.first None quiet are.done) to_between
+      (way_goes say given most (did + 1) are.between n k are.second None None one second_under next (quiet_done say are.between n are.second None quiet are.ends) to_end
       (subst (λ d. IsReached n (events_due given (most - d) n) k) as_two p))
 
   pub two_counts : length (events_due given (most - did) m) ≡ suc (suc (length (events_due given (most - (did + 2)) n)))
   two_counts =
-      due_counts say given most did m are.between e None None one first_under chosen (quiet_done say m are.between e None quiet are.first) to_between
-      ∙ ap (λ k. suc k) (due_counts say given most (did + 1) are.between n are.other None None one second_under next (quiet_done say are.between n are.other None quiet are.second) to_end)
+      due_counts say given most did m are.between are.first None None one first_under chosen (quiet_done say m are.between are.first None quiet are.done) to_between
+      ∙ ap (λ k. suc k) (due_counts say given most (did + 1) are.between n are.second None None one second_under next (quiet_done say are.between n are.second None quiet are.ends) to_end)
       ∙ ap (λ d. suc (suc (length (events_due given (most - d) n)))) (sym as_two)
 
 -- ---- what two events leave as it was
 
-pub two_mesh : (m n : RunState) (e : Event) → AreTwoDone m e n → n.mesh ≡ m.mesh
-two_mesh m n e are = stepped_mesh are.between n are.other (are.second).answer.run_state ∙ stepped_mesh m are.between e (are.first).answer.run_state
+pub two_mesh : (m n : RunState) → AreTwoDone m n → n.mesh ≡ m.mesh
+two_mesh m n are = stepped_mesh are.between n are.second (are.ends).answer.run_state ∙ stepped_mesh m are.between are.first (are.done).answer.run_state
 
-pub two_lines : (m n : RunState) (e : Event) → AreTwoDone m e n → n.lines ≡ m.lines
-two_lines m n e are = stepped_lines are.between n are.other (are.second).answer.run_state ∙ stepped_lines m are.between e (are.first).answer.run_state
+pub two_lines : (m n : RunState) → AreTwoDone m n → n.lines ≡ m.lines
+two_lines m n are = stepped_lines are.between n are.second (are.ends).answer.run_state ∙ stepped_lines m are.between are.first (are.done).answer.run_state
 
-pub two_steps : (m n : RunState) (e : Event) → AreTwoDone m e n → n.steps ≡ m.steps + 2
-two_steps m n e are =
-    let a = stepped_steps are.between n are.other (are.second).answer.run_state in
-    let b = stepped_steps m are.between e (are.first).answer.run_state in
+pub two_steps : (m n : RunState) → AreTwoDone m n → n.steps ≡ m.steps + 2
+two_steps m n are =
+    let a = stepped_steps are.between n are.second (are.ends).answer.run_state in
+    let b = stepped_steps m are.between are.first (are.done).answer.run_state in
     omega (arith, a, b)
 
-pub two_started : (m n : RunState) (e : Event) → AreTwoDone m e n → is_some n.world ≡ true
-two_started m n e are = stepped_started are.between n are.other (are.second).answer.run_state
+pub two_started : (m n : RunState) → AreTwoDone m n → is_some n.world ≡ true
+two_started m n are = stepped_started are.between n are.second (are.ends).answer.run_state

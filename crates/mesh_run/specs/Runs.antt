@@ -154,13 +154,15 @@ abbrev pub next_in : Option Event → RunState → Option Event
 next_in None m = pick (world_of m)
 next_in (Some e) m = Some e
 
--- two events were done, this one and the one that was then to be chosen
-pub record AreTwoDone (m : RunState) (e : Event) (n : RunState) : Type 0 where
+-- the two events that a run chooses one after the other were done
+pub record AreTwoDone (m n : RunState) : Type 0 where
+  pub first : Event
+  pub chosen : pick (world_of m) ≡ Some first
   pub between : RunState
-  pub other : Event
-  pub first : IsAnswered m e between
-  pub next : pick (world_of between) ≡ Some other
-  pub second : IsAnswered between other n
+  pub done : IsAnswered m first between
+  pub second : Event
+  pub next : pick (world_of between) ≡ Some second
+  pub ends : IsAnswered between second n
 
 -- up to so many events from a state on: the one that is given, once, or else those that are chosen
 unfoldable pub events_due : Option Event → ℕ → RunState → List Event

@@ -2,8 +2,7 @@
 ghost use Rattle.std.specs.Prelude.{◌≡◌, ◌<◌, ◌≤◌, ◌+◌, ◌^◌, length, is_some, true, false, Some, None, OnOk, OnErr, IfOk, IfSome, option_map};
 ghost use Rattle.mesh_base.specs.Bounds.{most_steps, most_steps_before_line};
 ghost use Rattle.mesh_meaning.specs.Events.{event_of};
-ghost use Rattle.mesh_model.specs.Choices.{pick};
-ghost use Rattle.mesh_text.specs.Schedule.{Chooses, world_of};
+ghost use Rattle.mesh_text.specs.Schedule.{Chooses};
 ghost use Rattle.mesh_text.specs.Text.{outcome_of_line};
 ghost use Rattle.mesh_text.specs.Auto.{outcome_of_events, events_chosen};
 ghost use Rattle.mesh_grammar.specs.Written.{line as line_of_words};
@@ -24,7 +23,7 @@ use mesh_script::Line;
 use mesh_world::Steps;
 use std::alloc::Global;
 
-/// Events that are to be done, and the state at which they are.
+/// Events that are to be done, and the state in which they are.
 #[derive(Drop)]
 pub struct Task<'p, 'a, 'b, S: Steps> {
     pub at: &'p mut Point<S>,
@@ -68,23 +67,34 @@ fn may_take_two(say: bool, given: &Option<Event<'_>>, left: u32) -> bool
     !say && given.is_none() && left >= 2
 }
 
-// Does the event that was chosen and the one that is chosen then as one, where they may be, and are
-// a delivery and the turn of its receiver. Where the answer is false nothing is done.
+// Does the event that the run chooses and the one that it chooses then as one, where they are a
+// delivery and the turn of its receiver. Where the answer is false nothing is done. It is a call, so
+// that the loop which does a line's event keeps its registers.
+#[inline(never)]
+fn take_next_two<S: Steps>(at: &mut Point<S>) -> bool
+    requires started { is_some at.old.world ≡ true }
+    requires few { at.old.steps + 1 < most_steps }
+    ensures done { result ≡ true → AreTwoDone at.old at.new }
+    ensures same { result ≡ false → at.new ≡ at.old }
+{
+    match next_event(at) {
+        Some(Event::Deliver { id }) => at.state.take_copy(id, &mut at.packet),
+        _ => false,
+    }
+}
+
+// The same where it may be.
 #[inline(always)]
-fn take_two<S: Steps>(at: &mut Point<S>, event: &Event<'_>, may: bool) -> bool
+fn take_two<S: Steps>(at: &mut Point<S>, may: bool) -> bool
     requires started { is_some at.old.world ≡ true }
     requires few { may ≡ true → at.old.steps + 1 < most_steps }
-    requires chosen { may ≡ true → pick (world_of at.old) ≡ Some (event_of event.now) }
-    ensures done { result ≡ true → (may ≡ true) × AreTwoDone at.old (event_of event.now) at.new }
+    ensures done { result ≡ true → (may ≡ true) × AreTwoDone at.old at.new }
     ensures same { result ≡ false → at.new ≡ at.old }
 {
     if !may {
         return false;
     }
-    match event {
-        Event::Deliver { id } => at.state.take_copy(*id, &mut at.packet),
-        _ => false,
-    }
+    take_next_two(at)
 }
 
 /// Does up to so many events, and answers how many there were: the one that is given, or else those
@@ -120,15 +130,15 @@ pub fn do_events<'a, S: Steps, O: Sink>(
 {
     let mut did: u32 = 0;
     'events: while did < task.count {
+        let may = may_take_two(say, &task.given, task.count - did);
+        if take_two(task.at, may) {
+            did += 2;
+            continue 'events;
+        }
         let mut chosen = None;
         let Some(event) = event_after(task.at, &task.given, &mut chosen) else {
             return Ok(did);
         };
-        let may = may_take_two(say, &task.given, task.count - did);
-        if take_two(task.at, event, may) {
-            did += 2;
-            continue 'events;
-        }
         if let Err(stop) = do_event(alloc, task.at, task.bytes, event, say, out) {
             return Err(stop.of_event(*event));
         }
