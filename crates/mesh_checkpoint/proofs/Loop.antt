@@ -2,6 +2,7 @@
 use Rattle.std.proofs.Common.{◌≡◌, ℕ, suc, ◌-◌, ◌+◌, ◌≤◌, ◌<◌, true, false, List, [], ◌∷◌, ◌++◌, length, Option, Some, None, refl, sym, ap, ◌∙◌, append_assoc, arith}
 use Rattle.std.specs.Prelude.{nat_le}
 use Rattle.std.specs.List.{sum_by}
+use Rattle.std.proofs.lemmas.Bool.{lt-leb, le-leb}
 use Rattle.std.proofs.lemmas.List.{append-nil}
 use Rattle.std.proofs.lemmas.List.Sums.{sum_by_push}
 use Rattle.mesh_checkpoint.specs.Formats.{◌>>=◌, Format, get_rising, get_times, rising, times}
@@ -36,17 +37,17 @@ none_passed key amount a count bytes =
     let k : count - 0 ≡ count = omega arith in
     record { front = []; so_far = rw k (nothing_yet (get_rising key a.get count 0 bytes)); sum_is = refl; few = omega arith }
 
-pub one_passed : {A : Type 0} (key amount : A → ℕ) (a : Format A) (count i low : ℕ) (bytes : List ℕ) (sum : ℕ) (rest : List ℕ) (k n : ℕ) (behind : List ℕ) → i < count → ArePassedRising key amount a count i low bytes sum rest → IsKeyed a key amount rest k n behind → nat_le low k ≡ true
-    → ArePassedRising key amount a count (i + 1) (k + 1) bytes (sum + n) behind
-one_passed key amount a count i low bytes sum rest k n behind lt p one up =
+pub one_passed : {A : Type 0} (key amount : A → ℕ) (a : Format A) (count i low : ℕ) (bytes : List ℕ) (sum : ℕ) (rest : List ℕ) (k n : ℕ) (behind : List ℕ) (above : ℕ) → i < count → ArePassedRising key amount a count i low bytes sum rest → IsKeyed a key amount rest k n behind → low ≤ k → above ≡ k + 1
+    → ArePassedRising key amount a count (i + 1) above bytes (sum + n) behind
+one_passed key amount a count i low bytes sum rest k n behind above lt p one up next =
     let v = (one.passed).value in
     let c : count - i ≡ suc (count - (i + 1)) = omega arith in
-    let above : nat_le low (key v) ≡ true = rw one.same up in
+    let over : nat_le low (key v) ≡ true = rw one.same (le-leb _ _ up) in
     let step : with_front p.front (get_rising key a.get (count - i) low rest) ≡ with_front (p.front ++ v ∷ []) (get_rising key a.get (count - (i + 1)) (key v + 1) behind) =
-    rw (c, (one.passed).read) (rw above (regroup p.front v (get_rising key a.get (count - (i + 1)) (key v + 1) behind))) in
+    rw (c, (one.passed).read) (rw over (regroup p.front v (get_rising key a.get (count - (i + 1)) (key v + 1) behind))) in
     record {
       front = p.front ++ v ∷ [];
-      so_far = rw (sym one.same) (sym step ∙ p.so_far);
+      so_far = rw (next, sym one.same) (sym step ∙ p.so_far);
       sum_is = more_data amount p.front v sum n p.sum_is (one.passed).count;
       few = omega (arith, p.few, (one.passed).few);
     }
@@ -60,11 +61,11 @@ not_there key amount a count i low bytes sum rest lt p none =
     sym p.so_far ∙ step
 
 -- the next has a lesser key
-pub falls : {A : Type 0} (key amount : A → ℕ) (a : Format A) (count i low : ℕ) (bytes : List ℕ) (sum : ℕ) (rest : List ℕ) (k n : ℕ) (behind : List ℕ) → i < count → ArePassedRising key amount a count i low bytes sum rest → IsKeyed a key amount rest k n behind → nat_le low k ≡ false
+pub falls : {A : Type 0} (key amount : A → ℕ) (a : Format A) (count i low : ℕ) (bytes : List ℕ) (sum : ℕ) (rest : List ℕ) (k n : ℕ) (behind : List ℕ) → i < count → ArePassedRising key amount a count i low bytes sum rest → IsKeyed a key amount rest k n behind → k < low
     → get_rising key a.get count 0 bytes ≡ None
 falls key amount a count i low bytes sum rest k n behind lt p one down =
     let c : count - i ≡ suc (count - (i + 1)) = omega arith in
-    let below : nat_le low (key (one.passed).value) ≡ false = rw one.same down in
+    let below : nat_le low (key (one.passed).value) ≡ false = rw one.same (lt-leb _ _ down) in
     let step : with_front p.front (get_rising key a.get (count - i) low rest) ≡ None = rw (c, (one.passed).read) (rw below refl) in
     sym p.so_far ∙ step
 

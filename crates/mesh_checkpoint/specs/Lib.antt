@@ -17,3 +17,5 @@ pub mod Heads
 pub mod Seen
 -- Reading: what a reader answers.
 pub mod Reading
+-- Views: what a part means that was read.
+pub mod Views

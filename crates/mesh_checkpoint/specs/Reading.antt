@@ -1,5 +1,5 @@
 -- What a reader answers.
-use Rattle.std.specs.Prelude.{◌≡◌, ℕ, ◌+◌, ◌≤◌, List, length, Option, Some, None}
+use Rattle.std.specs.Prelude.{◌≡◌, ℕ, ◌+◌, ◌-◌, ◌^◌, ◌<◌, ◌≤◌, List, length, Option, Some, None}
 use Rattle.mesh_checkpoint.specs.declared.body.Head.{Head}
 use Rattle.mesh_checkpoint.specs.Formats.{Format}
 use Rattle.mesh_checkpoint.specs.Checkpoint.{Body, body}
@@ -10,6 +10,12 @@ use Rattle.mesh_checkpoint.specs.Counts.{data_in}
 abbrev pub Gives : {X Y : Type 0} → (X → Y) → Option X → Option Y → Type 0
 Gives view (Some x) read = read ≡ Some (view x)
 Gives view None read = read ≡ None
+
+-- what is read of a list of bytes is what `next` reads on from what was found, and there is nothing
+-- to read where nothing was found
+abbrev pub GoesOn : {X Y : Type 0} → (X → Option Y) → Option X → Option Y → Type 0
+GoesOn next (Some x) read = read ≡ next x
+GoesOn next None read = read ≡ None
 
 -- a value stands at the start of the bytes, with so many data in it, and these bytes behind it. It
 -- has no more data than bytes
@@ -25,21 +31,17 @@ abbrev pub Passes : {A : Type 0} → Format A → (A → ℕ) → List ℕ → O
 Passes format amount bytes (Some p) = IsPassed format amount bytes p.0 p.1
 Passes format amount bytes None = format.get bytes ≡ None
 
--- the same, and its key is this one
+-- the same, and its key is this one, which isn't the greatest number of 64 bits
 pub record IsKeyed {A : Type 0} (format : Format A) (key amount : A → ℕ) (bytes : List ℕ) (k n : ℕ)
     (rest : List ℕ) : Type 0 where
   pub passed : IsPassed format amount bytes n rest
   pub same : key passed.value ≡ k
+  pub small : k < 2 ^ 64 - 1
 
 abbrev pub PassesBy : {A : Type 0} → Format A → (key amount : A → ℕ) → List ℕ
     → Option (ℕ × ℕ × List ℕ) → Type 0
 PassesBy format key amount bytes (Some p) = IsKeyed format key amount bytes p.0 p.1 p.2
 PassesBy format key amount bytes None = format.get bytes ≡ None
-
--- the least key that may follow
-abbrev pub after : Option ℕ → ℕ
-after None = 0
-after (Some last) = last + 1
 
 -- a body stands at the start of the bytes, with this head and so many data
 pub record IsBodyPassed (bytes : List ℕ) (head : Head) (n : ℕ) (rest : List ℕ) : Type 0 where

@@ -6,14 +6,11 @@ ghost use Rattle.mesh_checkpoint.specs.Checkpoint as model;
 ghost use Rattle.mesh_checkpoint.specs.Counts as counts;
 ghost use Rattle.mesh_checkpoint.specs.Reading.{Gives, Passes, PassesBody};
 
-use crate::limits::{GREATEST_NEXT_ID, MOST_STEPS, SUMS_END};
+use crate::limits::{END16, END32, GREATEST_NEXT_ID, MOST_STEPS, NODES_END, SUMS_END};
 use crate::numbers::{byte, number16, number32, number64};
 use crate::part::{pass_all, pass_rising};
-use crate::parts::{END16, END32, InFlight, Link, Node, Station};
+use crate::parts::{InFlight, Link, Node, Station};
 use mesh_base::Variant;
-
-/// The end of the numbers of nodes.
-const NODES_END: u32 = 201;
 
 /// The head of a body: the variant of the protocol, how many lines were read, and the sums of the
 /// run.

@@ -7,6 +7,7 @@ mod limits;
 pub mod numbers;
 mod part;
 mod parts;
+pub mod reading;
 mod validating;
 
 pub use body::{Head, read_head};
@@ -14,7 +15,5 @@ pub use laws::{
     balanced_is_taken, fitting_is_state, fitting_is_written, one_body, one_checkpoint, one_refusal,
     one_state, read_is_written, written_is_read,
 };
-pub use limits::{
-    DATUM_END, GREATEST_NEXT_ID, LONGEST_BODY, LONGEST_HEARD, MOST_STEPS, PACKET_END, SUMS_END,
-};
+pub use limits::{END16, END32, GREATEST_NEXT_ID, LONGEST_BODY, MOST_STEPS, NODES_END, SUMS_END};
 pub use validating::{ValidateError, validate};

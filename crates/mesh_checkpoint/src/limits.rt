@@ -21,3 +21,15 @@ pub const DATUM_END: u32 = 513;
 
 /// The end of the lengths of a packet in flight, in bytes.
 pub const PACKET_END: u32 = 1605;
+
+/// The end of the numbers of two bytes.
+pub const END16: u32 = 65_536;
+
+/// The end of the numbers of four bytes.
+pub const END32: u64 = 4_294_967_296;
+
+/// The end of the numbers of nodes.
+pub const NODES_END: u32 = 201;
+
+/// How far the keys of two links lie apart whose first nodes follow one another.
+pub(crate) const LINK_BASE: u64 = 65_536;

@@ -1,8 +1,10 @@
 //! Lists of parts, which are passed over without being kept.
-ghost use Rattle.std.specs.Prelude.{◌≡◌, ℕ, nat_le, option_map};
+ghost use Rattle.std.specs.Prelude.{ℕ, option_map};
 ghost use Rattle.std.specs.List.{sum_by};
 ghost use Rattle.mesh_checkpoint.specs.Formats.{Format, times, rising};
-ghost use Rattle.mesh_checkpoint.specs.Reading.{Passes, PassesBy, after};
+ghost use Rattle.mesh_checkpoint.specs.Reading.{Passes, PassesBy};
+
+use crate::reading::rise;
 
 /// A kind of part, many of which may stand one after another.
 pub(crate) trait Part {
@@ -62,16 +64,6 @@ pub(crate) fn pass_all<'b, P: Part>(
     Some((sum, rest))
 }
 
-// Whether the key is greater than the last.
-fn rises(last: Option<u64>, key: u64) -> bool
-    ensures { result ≡ nat_le (after last) key }
-{
-    match last {
-        Some(last) => last < key,
-        None => true,
-    }
-}
-
 /// Passes over so many parts whose keys rise: how many data are in them, and the bytes behind them.
 pub(crate) fn pass_rising<'b, P: KeyedPart>(
     part: &P,
@@ -83,13 +75,10 @@ pub(crate) fn pass_rising<'b, P: KeyedPart>(
 {
     let mut rest = bytes;
     let mut sum = 0;
-    let mut last = None;
+    let mut low = 0;
     for _ in 0..count {
         let (key, amount, behind) = part.pass(rest)?;
-        if !rises(last, key) {
-            return None;
-        }
-        last = Some(key);
+        low = rise(low, key)?;
         sum += amount;
         rest = behind;
     }

@@ -1,25 +1,20 @@
 //! The parts of a node and of the radio, each as it is passed over.
-ghost use Rattle.std.specs.Prelude.{◌≡◌, ◌≤◌, ℕ, List, option_map};
+ghost use Rattle.std.specs.Prelude.{◌≡◌, ◌≤◌, ℕ, List};
 ghost use Rattle.mesh_base.specs.declared.events.Item as declared_item;
 ghost use Rattle.mesh_base.specs.declared.events.Flying as declared_flying;
 ghost use Rattle.mesh_checkpoint.specs.Formats.{one_if};
 ghost use Rattle.mesh_checkpoint.specs.Checkpoint as model;
 ghost use Rattle.mesh_checkpoint.specs.Counts as counts;
-ghost use Rattle.mesh_checkpoint.specs.Reading.{Passes};
+ghost use Rattle.mesh_checkpoint.specs.Views.{item_of};
 
-use crate::limits::{DATUM_END, LONGEST_HEARD, PACKET_END};
-use crate::numbers::{byte, number16, number32, number64, text, truth};
+use crate::limits::{END16, END32};
+use crate::numbers::{number16, number32};
 use crate::part::{KeyedPart, Part, pass_all, pass_rising};
+use crate::reading::{
+    ItemView, read_copy, read_datum, read_item, read_link, read_request, read_route_head,
+    read_station, read_waits_head,
+};
 use aodv_wire::{Message, read};
-
-/// The end of the numbers of two bytes.
-pub(crate) const END16: u32 = 65_536;
-
-/// The end of the numbers of four bytes.
-pub(crate) const END32: u64 = 4_294_967_296;
-
-/// How far the keys of two links lie apart whose first nodes follow one another.
-const LINK_BASE: u64 = 65_536;
 
 /// The index of a node, in a mesh of so many.
 #[derive(Clone, Copy)]
@@ -58,16 +53,10 @@ impl KeyedPart for Route {
     ghost amount = { λ r. 0 };
 
     fn pass<'b>(&self, bytes: &'b [u8]) -> Option<(u64, u64, &'b [u8])> {
-        let (dest, rest) = number16(bytes, 0, self.nodes)?;
-        let (_number, rest) = number32(rest, 0, END32)?;
-        let (_known, rest) = truth(rest)?;
-        let (_valid, rest) = truth(rest)?;
-        let (_hops, rest) = byte(rest, 1, 256)?;
-        let (_next, rest) = number16(rest, 0, self.nodes)?;
-        let (count, rest) = number16(rest, 0, END16)?;
+        let (head, rest) = read_route_head(bytes, self.nodes)?;
         let index = Index { nodes: self.nodes };
-        let (_, rest) = pass_rising(&index, u32::from(count), rest)?;
-        Some((u64::from(dest), 0, rest))
+        let (_, rest) = pass_rising(&index, u32::from(head.precursors), rest)?;
+        Some((head.dest as u64, 0, rest))
     }
 }
 
@@ -87,9 +76,8 @@ impl KeyedPart for Request {
     ghost amount = { λ p. 0 };
 
     fn pass<'b>(&self, bytes: &'b [u8]) -> Option<(u64, u64, &'b [u8])> {
-        let (origin, rest) = number16(bytes, 0, self.nodes)?;
-        let (id, rest) = number32(rest, 0, END32)?;
-        Some((u64::from(origin) * END32 + u64::from(id), 0, rest))
+        let (request, rest) = read_request(bytes, self.nodes)?;
+        Some((request.key(), 0, rest))
     }
 }
 
@@ -105,7 +93,7 @@ impl Part for Datum {
     ghost amount = { λ b. 1 };
 
     fn pass<'b>(&self, bytes: &'b [u8]) -> Option<(u64, &'b [u8])> {
-        let (_body, rest) = text(bytes, 1, DATUM_END)?;
+        let (_body, rest) = read_datum(bytes)?;
         Some((1, rest))
     }
 }
@@ -126,11 +114,9 @@ impl KeyedPart for Waits {
     ghost amount = { counts.data_waiting };
 
     fn pass<'b>(&self, bytes: &'b [u8]) -> Option<(u64, u64, &'b [u8])> {
-        let (dest, rest) = number16(bytes, 0, self.nodes)?;
-        let (_needs_request, rest) = truth(rest)?;
-        let (count, rest) = number32(rest, 1, END32)?;
-        let (amount, rest) = pass_all(&Datum, count, rest)?;
-        Some((u64::from(dest), amount, rest))
+        let (head, rest) = read_waits_head(bytes, self.nodes)?;
+        let (amount, rest) = pass_all(&Datum, head.data, rest)?;
+        Some((head.dest as u64, amount, rest))
     }
 }
 
@@ -146,32 +132,21 @@ fn data_of(packet: &[u8]) -> u64
     }
 }
 
+// How many data an item is.
+fn data_in(item: ItemView<'_>) -> u64
+    ensures value { result ≡ counts.data_in_item (item_of item.entry) }
+    ensures few { result ≤ 1 }
+{
+    match item {
+        ItemView::New { .. } => 1,
+        ItemView::Heard { bytes, .. } => data_of(bytes),
+    }
+}
+
 /// What is in an inbox, in a mesh of so many nodes.
 #[derive(Clone, Copy)]
 pub(crate) struct Item {
     pub nodes: u32,
-}
-
-impl Item {
-    // A datum for a destination, behind the byte of its kind.
-    fn pass_given<'b>(&self, bytes: &'b [u8]) -> Option<&'b [u8]>
-        ensures { Passes (model.datum_format self.now.nodes) (λ p. 1) bytes.now
-            (option_map (λ x. (1, x.now)) result) }
-    {
-        let (_dest, rest) = number16(bytes, 0, self.nodes)?;
-        let (_body, rest) = text(rest, 1, DATUM_END)?;
-        Some(rest)
-    }
-
-    // A packet from a sender, behind the byte of its kind.
-    fn pass_heard<'b>(&self, bytes: &'b [u8]) -> Option<(u64, &'b [u8])>
-        ensures { Passes (model.heard_format self.now.nodes) counts.data_heard bytes.now
-            (option_map (λ x. (x.0, x.1.now)) result) }
-    {
-        let (_from, rest) = number16(bytes, 0, self.nodes)?;
-        let (packet, rest) = text(rest, 0, LONGEST_HEARD + 1)?;
-        Some((data_of(packet), rest))
-    }
 }
 
 impl Part for Item {
@@ -182,13 +157,8 @@ impl Part for Item {
     ghost amount = { counts.data_in_item };
 
     fn pass<'b>(&self, bytes: &'b [u8]) -> Option<(u64, &'b [u8])> {
-        let (kind, rest) = byte(bytes, 0, 2)?;
-        if kind == 0 {
-            let rest = self.pass_given(rest)?;
-            Some((1, rest))
-        } else {
-            self.pass_heard(rest)
-        }
+        let (item, rest) = read_item(bytes, self.nodes)?;
+        Some((data_in(item), rest))
     }
 }
 
@@ -236,10 +206,8 @@ impl KeyedPart for Link {
     ghost amount = { λ l. 0 };
 
     fn pass<'b>(&self, bytes: &'b [u8]) -> Option<(u64, u64, &'b [u8])> {
-        let (a, rest) = number16(bytes, 0, self.nodes)?;
-        let (b, rest) = number16(rest, u32::from(a) + 1, self.nodes)?;
-        let (_stands, rest) = truth(rest)?;
-        Some((u64::from(a) * LINK_BASE + u64::from(b), 0, rest))
+        let (link, rest) = read_link(bytes, self.nodes)?;
+        Some((link.key(), 0, rest))
     }
 }
 
@@ -260,11 +228,8 @@ impl KeyedPart for InFlight {
     ghost amount = { counts.data_in_copy };
 
     fn pass<'b>(&self, bytes: &'b [u8]) -> Option<(u64, u64, &'b [u8])> {
-        let (id, rest) = number64(bytes, 1, self.next)?;
-        let (_from, rest) = number16(rest, 0, self.nodes)?;
-        let (_to, rest) = number16(rest, 0, self.nodes)?;
-        let (packet, rest) = text(rest, 0, PACKET_END)?;
-        Some((id, data_of(packet), rest))
+        let (copy, rest) = read_copy(bytes, self.nodes, self.next)?;
+        Some((copy.id, data_of(copy.bytes), rest))
     }
 }
 
@@ -282,8 +247,7 @@ impl KeyedPart for Station {
     ghost amount = { λ p. 0 };
 
     fn pass<'b>(&self, bytes: &'b [u8]) -> Option<(u64, u64, &'b [u8])> {
-        let (address, rest) = number32(bytes, 0, END32)?;
-        let (_first, rest) = number32(rest, 1, END32)?;
-        Some((u64::from(address), 0, rest))
+        let (station, rest) = read_station(bytes)?;
+        Some((u64::from(station.address), 0, rest))
     }
 }

@@ -6,8 +6,6 @@ pub mod Precursors
 pub mod PairLists
 -- StoreLists: how a store grows.
 pub mod StoreLists
--- ItemKinds: what stands behind the byte of an item's kind.
-pub mod ItemKinds
 -- LinkLists: how the links grow.
 pub mod LinkLists
 -- CopyLists: how the flight grows.

@@ -10,7 +10,9 @@ use Rattle.std.specs.FinMap as maps
 use Rattle.std.specs.FinMap.{FinMap, find, nat_cmp-IsAntisymmetric}
 use Rattle.aodv_model.specs.Cores.{Body, Waiting, Store, add, unset, with_body}
 use Rattle.aodv_model.proofs.Stores.{need_unless, get-unset}
-use Rattle.mesh_checkpoint.specs.Formats.{◌>>=◌, only_if, truth, seq, counted_list, get_times}
+use Rattle.mesh_checkpoint.specs.declared.reading.WaitsHead.{WaitsHead}
+use Rattle.mesh_checkpoint.specs.Views.{waits_behind}
+use Rattle.mesh_checkpoint.specs.Formats.{◌>>=◌, only_if, get_times}
 use Rattle.mesh_restore.specs.Reading.{Refuses, get_from}
 use Rattle.mesh_restore.specs.declared.error.ReadError.{ReadError}
 use Rattle.mesh_restore.specs.declared.error.ReadError.TheVariants.{Spelling, NoMemory}
@@ -117,54 +119,33 @@ all_added before d count i bytes store rest le a = record {
 abbrev waits_with : ℕ → Bool → List Body → Waits
 waits_with d needs bs = record { dest = d; needs_request = needs; bodies = bs }
 
-abbrev Fields : Type 0
-Fields = ℕ × (Bool × List Body)
-
-abbrev with_needs : Bool → List Body × List ℕ → Option ((Bool × List Body) × List ℕ)
-with_needs needs y = Some ((needs, y.0), y.1)
-
-abbrev with_dest : ℕ → (Bool × List Body) × List ℕ → Option (Fields × List ℕ)
-with_dest d y = Some ((d, y.0), y.1)
-
-abbrev to_waits : Fields × List ℕ → Option (Waits × List ℕ)
-to_waits x = Some (waits_with (x.0).0 (x.0).1.0 (x.0).1.1, x.1)
-
-abbrev with_length : ℕ → List Body × List ℕ → Option ((ℕ × List Body) × List ℕ)
-with_length n y = Some ((n, y.0), y.1)
-
-abbrev without_length : (ℕ × List Body) × List ℕ → Option (List Body × List ℕ)
-without_length x = Some ((x.0).1, x.1)
-
 abbrev not_below : ℕ → Waits × List ℕ → Option (Waits × List ℕ)
 not_below low x = only_if (nat_le low (x.0).dest) x
 
 abbrev as_waits : ℕ → Bool → List Body × List ℕ → Option (Waits × List ℕ)
 as_waits d needs y = Some (waits_with d needs y.0, y.1)
 
-collapse : (d low : ℕ) (needs : Bool) (count : ℕ) (o : Option (List Body × List ℕ)) → nat_le low d ≡ true
-    → (((((o >>= with_length count) >>= without_length) >>= with_needs needs) >>= with_dest d) >>= to_waits >>= not_below low) ≡ (o >>= as_waits d needs)
-collapse d low needs count None up = refl
-collapse d low needs count (Some y) up = rw up refl
+collapse : (d low : ℕ) (needs : Bool) (o : Option (List Body × List ℕ)) → nat_le low d ≡ true → (o >>= as_waits d needs >>= not_below low) ≡ (o >>= as_waits d needs)
+collapse d low needs None up = refl
+collapse d low needs (Some y) up = rw up refl
 
-waits_at : (nodes low d : ℕ) (needs : Bool) (count : ℕ) (bytes r s t : List ℕ) → (model.index nodes).get bytes ≡ Some (d, r) → truth.get r ≡ Some (needs, s) → model.positive32.get s ≡ Some (count, t) → low ≤ d
-    → get_from (λ w. w.dest) (model.waits nodes).get low bytes ≡ (get_times model.datum.get count t >>= as_waits d needs)
-waits_at nodes low d needs count bytes r s t one two three up = rw (one, two, three) (collapse d low needs count (get_times model.datum.get count t) (le-leb _ _ up))
+waits_at : (nodes low : ℕ) (h : WaitsHead) (bytes r : List ℕ) → (model.waits nodes).get bytes ≡ waits_behind h r → low ≤ h.dest → get_from (λ w. w.dest) (model.waits nodes).get low bytes ≡ waits_behind h r
+waits_at nodes low h bytes r one up = rw one (collapse h.dest low h.needs_request (get_times model.datum.get h.data r) (le-leb _ _ up))
 
-below_low : (d low : ℕ) (o : Option ((Bool × List Body) × List ℕ)) → nat_le low d ≡ false → (o >>= with_dest d >>= to_waits >>= not_below low) ≡ None
-below_low d low None down = refl
-below_low d low (Some y) down = rw down refl
+below_low : (d low : ℕ) (needs : Bool) (o : Option (List Body × List ℕ)) → nat_le low d ≡ false → (o >>= as_waits d needs >>= not_below low) ≡ None
+below_low d low needs None down = refl
+below_low d low needs (Some y) down = rw down refl
 
-pub dest_below : (nodes low d : ℕ) (bytes r : List ℕ) → (model.index nodes).get bytes ≡ Some (d, r) → d < low → get_from (λ w. w.dest) (model.waits nodes).get low bytes ≡ None
-dest_below nodes low d bytes r one down = rw one (below_low d low ((seq truth (λ _. counted_list model.positive32 model.datum)).get r) (lt-leb _ _ down))
+pub dest_below : (nodes low : ℕ) (h : WaitsHead) (bytes r : List ℕ) → (model.waits nodes).get bytes ≡ waits_behind h r → h.dest < low → get_from (λ w. w.dest) (model.waits nodes).get low bytes ≡ None
+dest_below nodes low h bytes r one down = rw one (below_low h.dest low h.needs_request (get_times model.datum.get h.data r) (lt-leb _ _ down))
 
 still : {A B : Type 0} (e : ReadError) (o : Option A) (f : A → Option B) → Refuses e o → Refuses e (o >>= f)
 still Spelling o f none = rw none refl
 still NoMemory o f none = tt
 
-pub data_refused : (nodes low d : ℕ) (needs : Bool) (count : ℕ) (bytes r s t : List ℕ) (e : ReadError) → (model.index nodes).get bytes ≡ Some (d, r) → truth.get r ≡ Some (needs, s) → model.positive32.get s ≡ Some (count, t) → low ≤ d
-    → Refuses e (get_times model.datum.get count t) → Refuses e (get_from (λ w. w.dest) (model.waits nodes).get low bytes)
-data_refused nodes low d needs count bytes r s t e one two three up refused =
-    rw (waits_at nodes low d needs count bytes r s t one two three up) (still e (get_times model.datum.get count t) (as_waits d needs) refused)
+pub data_refused : (nodes low : ℕ) (h : WaitsHead) (bytes r : List ℕ) (e : ReadError) → (model.waits nodes).get bytes ≡ waits_behind h r → low ≤ h.dest → Refuses e (get_times model.datum.get h.data r) → Refuses e (get_from (λ w. w.dest) (model.waits nodes).get low bytes)
+data_refused nodes low h bytes r e one up refused =
+    rw (waits_at nodes low h bytes r one up) (still e (get_times model.datum.get h.data r) (as_waits h.dest h.needs_request) refused)
 
 -- what is settled stands last
 settled_last : (before : Store) (low d : ℕ) (needs : Bool) (bs : List Body) (filled after : Store) → AreBelow low before → low ≤ d → 1 ≤ length bs → filled ≡ with_bodies before d bs → after ≡ with_need filled d needs
@@ -175,13 +156,13 @@ settled_last before low d true (b ∷ bs) filled after below up some is after_is
 settled_last before low d false (b ∷ bs) filled after below up some is after_is =
     rw (after_is, is, one_unset before d b bs) (waits_last before low d (waiting_with false b bs) below up, still_below before low d (waiting_with false b bs) below up)
 
-pub kept : (nodes low d : ℕ) (needs : Bool) (count : ℕ) (bytes r s t rest : List ℕ) (before filled after : Store) → AreBelow low before → low ≤ d → 1 ≤ count → (model.index nodes).get bytes ≡ Some (d, r) → truth.get r ≡ Some (needs, s) → model.positive32.get s ≡ Some (count, t)
-    → IsFilled before d count (get_times model.datum.get count t) filled rest → after ≡ with_need filled d needs → IsKeptFrom (get_from (λ w. w.dest) (model.waits nodes).get low bytes) before after d rest
-kept nodes low d needs count bytes r s t rest before filled after below up some one two three f after_is =
-    let last = settled_last before low d needs f.found filled after below up (omega (arith, some, f.many)) f.stored after_is in
+pub kept : (nodes low : ℕ) (h : WaitsHead) (bytes r rest : List ℕ) (before filled after : Store) → AreBelow low before → low ≤ h.dest → 1 ≤ h.data → (model.waits nodes).get bytes ≡ waits_behind h r
+    → IsFilled before h.dest h.data (get_times model.datum.get h.data r) filled rest → after ≡ with_need filled h.dest h.needs_request → IsKeptFrom (get_from (λ w. w.dest) (model.waits nodes).get low bytes) before after h.dest rest
+kept nodes low h bytes r rest before filled after below up some one f after_is =
+    let last = settled_last before low h.dest h.needs_request f.found filled after below up (omega (arith, some, f.many)) f.stored after_is in
     record {
-      found = waits_with d needs f.found;
-      read_is = waits_at nodes low d needs count bytes r s t one two three up ∙ ap (λ (o : Option (List Body × List ℕ)). o >>= as_waits d needs) f.read_is;
+      found = waits_with h.dest h.needs_request f.found;
+      read_is = waits_at nodes low h bytes r one up ∙ ap (λ (o : Option (List Body × List ℕ)). o >>= as_waits h.dest h.needs_request) f.read_is;
       dest = refl;
       last = last.0;
       below = last.1;

@@ -3,8 +3,6 @@
 pub mod Reading
 -- Stores: how a store grows while it is read.
 pub mod Stores
--- Items: what stands behind the byte of an item's kind.
-pub mod Items
 -- Nodes: a node that was read from a checkpoint.
 pub mod Nodes
 -- Air: the links and the copies in flight, as a checkpoint lists them.

@@ -9,8 +9,7 @@ ghost use Rattle.mesh_restore.specs.RadioParts.{IsFlown, AreCopiesRead};
 
 use crate::error::ReadError;
 use mesh_base::{Bytes, Flying, NoMemory};
-use mesh_checkpoint::PACKET_END;
-use mesh_checkpoint::numbers::{number16, number64, text};
+use mesh_checkpoint::reading::read_copy;
 use mesh_radio::Radio;
 use std::alloc::Global;
 
@@ -23,23 +22,14 @@ fn copy(alloc: Global, bytes: &[u8], nodes: u32, next: u64) -> Result<(Flying, &
     ensures to { IfOk result (λ x. x.0.to < nodes) }
     ensures short { IfOk result (λ x. length x.0.bytes ≤ LONGEST_PACKET) }
 {
-    let Some((id, rest)) = number64(bytes, 1, next) else {
-        return Err(ReadError::Spelling);
-    };
-    let Some((from, rest)) = number16(rest, 0, nodes) else {
-        return Err(ReadError::Spelling);
-    };
-    let Some((to, rest)) = number16(rest, 0, nodes) else {
-        return Err(ReadError::Spelling);
-    };
-    let Some((packet, rest)) = text(rest, 0, PACKET_END) else {
+    let Some((seen, rest)) = read_copy(bytes, nodes, next) else {
         return Err(ReadError::Spelling);
     };
     let copy = Flying {
-        id,
-        from: usize::from(from),
-        to: usize::from(to),
-        bytes: Bytes::copy_of(alloc, packet)?,
+        id: seen.id,
+        from: seen.from,
+        to: seen.to,
+        bytes: Bytes::copy_of(alloc, seen.bytes)?,
     };
     Ok((copy, rest))
 }

@@ -1,68 +1,47 @@
 //! What waits for a node's turns.
-ghost use Rattle.std.specs.Prelude.{◌<◌, IfOk};
+ghost use Rattle.std.specs.Prelude.{◌≡◌, IfOk};
 ghost use Rattle.aodv_inbox.specs.Queues.{IsItem};
 ghost use Rattle.mesh_checkpoint.specs.Formats.{get_times};
 ghost use Rattle.mesh_checkpoint.specs.Checkpoint as model;
 ghost use Rattle.mesh_restore.specs.Reading.{Reads};
-ghost use Rattle.mesh_restore.specs.Items.{get_given, get_heard};
+ghost use Rattle.mesh_checkpoint.specs.Views.{item_of, HasDatum};
 
 use crate::error::ReadError;
 use aodv_inbox::Inbox;
-use mesh_base::{Bytes, Item};
-use mesh_checkpoint::numbers::{number16, number32, text};
-use mesh_checkpoint::{DATUM_END, LONGEST_HEARD};
+use mesh_base::{Bytes, Item, NoMemory};
+use mesh_checkpoint::END32;
+use mesh_checkpoint::numbers::number32;
+use mesh_checkpoint::reading::{ItemView, read_item};
 use std::alloc::Global;
 
-// A datum for a destination, behind its kind.
-fn given(alloc: Global, bytes: &[u8], nodes: u32) -> Result<(Item, &[u8]), ReadError>
-    ensures value { Reads (λ x. (x.0, x.1.now)) result (get_given nodes bytes.now) }
-    ensures item { IfOk result (λ x. IsItem x.0) }
+// The item with bytes of its own.
+fn keep(alloc: Global, item: ItemView<'_>) -> Result<Item, NoMemory>
+    requires { HasDatum item }
+    ensures value { IfOk result (λ x. x ≡ item_of item.entry) }
+    ensures item { IfOk result IsItem }
 {
-    let Some((dest, rest)) = number16(bytes, 0, nodes) else {
-        return Err(ReadError::Spelling);
-    };
-    let Some((body, rest)) = text(rest, 1, DATUM_END) else {
-        return Err(ReadError::Spelling);
-    };
-    let dest = usize::from(dest);
-    let body = Bytes::copy_of(alloc, body)?;
-    Ok((Item::New { dest, body }, rest))
-}
-
-// A packet from a sender, behind its kind.
-fn heard(alloc: Global, bytes: &[u8], nodes: u32) -> Result<(Item, &[u8]), ReadError>
-    ensures value { Reads (λ x. (x.0, x.1.now)) result (get_heard nodes bytes.now) }
-    ensures item { IfOk result (λ x. IsItem x.0) }
-{
-    let Some((from, rest)) = number16(bytes, 0, nodes) else {
-        return Err(ReadError::Spelling);
-    };
-    let Some((packet, rest)) = text(rest, 0, LONGEST_HEARD + 1) else {
-        return Err(ReadError::Spelling);
-    };
-    let from = usize::from(from);
-    let bytes = Bytes::copy_of(alloc, packet)?;
-    Ok((Item::Heard { from, bytes }, rest))
+    match item {
+        ItemView::New { dest, body } => {
+            let body = Bytes::copy_of(alloc, body)?;
+            Ok(Item::New { dest, body })
+        }
+        ItemView::Heard { from, bytes } => {
+            let bytes = Bytes::copy_of(alloc, bytes)?;
+            Ok(Item::Heard { from, bytes })
+        }
+    }
 }
 
 // An item.
-#[tactic(auto, using(crate::proofs::ItemKinds::no_item))]
 fn item(alloc: Global, bytes: &[u8], nodes: u32) -> Result<(Item, &[u8]), ReadError>
     ensures value { Reads (λ x. (x.0, x.1.now)) result ((model.item nodes).get bytes.now) }
     ensures item { IfOk result (λ x. IsItem x.0) }
 {
-    match bytes {
-        [] => Err(ReadError::Spelling),
-        [kind, rest @ ..] => {
-            if *kind == 0 {
-                given(alloc, rest, nodes)
-            } else if *kind == 1 {
-                heard(alloc, rest, nodes)
-            } else {
-                Err(ReadError::Spelling)
-            }
-        }
-    }
+    let Some((seen, rest)) = read_item(bytes, nodes) else {
+        return Err(ReadError::Spelling);
+    };
+    let item = keep(alloc, seen)?;
+    Ok((item, rest))
 }
 
 // So many items.
@@ -85,7 +64,7 @@ fn items(alloc: Global, count: u32, bytes: &[u8], nodes: u32) -> Result<(Inbox, 
 pub(crate) fn inbox(alloc: Global, bytes: &[u8], nodes: u32) -> Result<(Inbox, &[u8]), ReadError>
     ensures { Reads (λ x. (x.0.items, x.1.now)) result ((model.inbox nodes).get bytes.now) }
 {
-    let Some((count, rest)) = number32(bytes, 0, 4_294_967_296) else {
+    let Some((count, rest)) = number32(bytes, 0, END32) else {
         return Err(ReadError::Spelling);
     };
     items(alloc, count, rest, nodes)

@@ -1,40 +1,13 @@
 //! The links of a mesh.
-ghost use Rattle.std.specs.Prelude.{◌≡◌, ◌<◌, ◌≤◌, false, IfSome, MatchOption, Some, None};
+ghost use Rattle.std.specs.Prelude.{◌≡◌, ◌<◌, ◌≤◌, false, MatchOption, Some, None};
 ghost use Rattle.std.specs.FinSet as sets;
 ghost use Rattle.mesh_base.specs.declared.limits.TheConstants.{MOST_NODES};
 ghost use Rattle.mesh_checkpoint.specs.Formats.{get_rising};
 ghost use Rattle.mesh_checkpoint.specs.Checkpoint as model;
-ghost use Rattle.mesh_checkpoint.specs.Reading.{Gives};
 ghost use Rattle.mesh_restore.specs.RadioParts.{IsLinkKept, AreLinksRead, ArePassed};
 
-use mesh_checkpoint::numbers::{number16, truth};
+use mesh_checkpoint::reading::{Link, read_link, rise};
 use mesh_radio::Radio;
-
-/// Two nodes, the smaller first, whose link stands or has stood.
-#[derive(Clone, Copy)]
-struct Link {
-    a: usize,
-    b: usize,
-    stands: bool,
-}
-
-// A link.
-fn read_link(bytes: &[u8], nodes: u32) -> Option<(Link, &[u8])>
-    ensures value { Gives (λ x. (record { a = x.0.a; b = x.0.b; stands = x.0.stands }, x.1.now))
-        result ((model.link nodes).get bytes.now) }
-    ensures rising { IfSome result (λ x. x.0.a < x.0.b) }
-    ensures below { IfSome result (λ x. x.0.b < nodes) }
-{
-    let (a, rest) = number16(bytes, 0, nodes)?;
-    let (b, rest) = number16(rest, u32::from(a) + 1, nodes)?;
-    let (stands, rest) = truth(rest)?;
-    let link = Link {
-        a: usize::from(a),
-        b: usize::from(b),
-        stands,
-    };
-    Some((link, rest))
-}
 
 /// The bytes behind so many links, by rising pair.
 pub(crate) fn behind_links(count: u16, bytes: &[u8], nodes: u32) -> Option<&[u8]>
@@ -46,11 +19,7 @@ pub(crate) fn behind_links(count: u16, bytes: &[u8], nodes: u32) -> Option<&[u8]
     let mut low = 0;
     for _ in 0..count {
         let (link, behind) = read_link(rest, nodes)?;
-        let key = link.a * 65_536 + link.b;
-        if key < low {
-            return None;
-        }
-        low = key + 1;
+        low = rise(low, link.key())?;
         rest = behind;
     }
     Some(rest)
@@ -89,11 +58,7 @@ pub(crate) fn link_all<'b>(
     let mut low = 0;
     for _ in 0..count {
         let (link, behind) = read_link(rest, nodes)?;
-        let key = link.a * 65_536 + link.b;
-        if key < low {
-            return None;
-        }
-        low = key + 1;
+        low = rise(low, link.key())?;
         keep(radio, link);
         rest = behind;
     }

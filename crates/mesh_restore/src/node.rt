@@ -11,6 +11,7 @@ use crate::routes::table;
 use crate::store::store;
 use aodv_node::{Node, Unfit};
 use mesh_base::{Mesh, Variant};
+use mesh_checkpoint::END32;
 use mesh_checkpoint::numbers::number32;
 use std::alloc::Global;
 
@@ -29,7 +30,7 @@ pub fn read_node<'b>(
         (λ e. Refuses e read) }
 {
     let nodes = mesh.len() as u32;
-    let Some((sn, rest)) = number32(bytes, 1, 4_294_967_296) else {
+    let Some((sn, rest)) = number32(bytes, 1, END32) else {
         return Err(ReadError::Spelling);
     };
     let (table, rest) = table(alloc, rest, nodes)?;

@@ -7,8 +7,8 @@ ghost use Rattle.mesh_restore.specs.RadioParts.{radio_part, IsRadioPartRead};
 use crate::copies::fly_all;
 use crate::error::ReadError;
 use crate::links::{behind_links, link_all};
-use mesh_checkpoint::GREATEST_NEXT_ID;
 use mesh_checkpoint::numbers::{number16, number32, number64};
+use mesh_checkpoint::{END16, END32, GREATEST_NEXT_ID};
 use mesh_radio::Radio;
 use std::alloc::Global;
 
@@ -25,7 +25,7 @@ pub fn read_radio(
     ensures { let read = (radio_part nodes).get bytes.now in
         MatchResult result (λ x. IsRadioPartRead nodes read x.0 x.1 x.2.now) (λ e. Refuses e read) }
 {
-    let Some((count, links)) = number16(bytes, 0, 65_536) else {
+    let Some((count, links)) = number16(bytes, 0, END16) else {
         return Err(ReadError::Spelling);
     };
     let Some(rest) = behind_links(count, links, nodes) else {
@@ -34,7 +34,7 @@ pub fn read_radio(
     let Some((next, rest)) = number64(rest, 1, GREATEST_NEXT_ID + 1) else {
         return Err(ReadError::Spelling);
     };
-    let Some((copies, rest)) = number32(rest, 0, 4_294_967_296) else {
+    let Some((copies, rest)) = number32(rest, 0, END32) else {
         return Err(ReadError::Spelling);
     };
     let mut radio = Radio::restore(alloc, nodes as usize, next)?;

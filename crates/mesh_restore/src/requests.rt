@@ -1,27 +1,16 @@
 //! The requests that a node has seen.
-ghost use Rattle.std.specs.Prelude.{◌≡◌, ◌<◌, ◌^◌, IfSome, IfOk, length};
+ghost use Rattle.std.specs.Prelude.{◌≡◌, IfOk, length};
 ghost use Rattle.mesh_checkpoint.specs.Formats.{get_rising};
 ghost use Rattle.mesh_checkpoint.specs.Checkpoint as model;
-ghost use Rattle.mesh_checkpoint.specs.Reading.{Gives};
 ghost use Rattle.mesh_restore.specs.Reading.{Reads};
 ghost use Rattle.aodv_model.specs.Pairs.{pairs_in};
 
 use crate::error::ReadError;
 use aodv_asked::Asked;
-use mesh_checkpoint::numbers::{number16, number32};
+use mesh_checkpoint::END32;
+use mesh_checkpoint::numbers::number32;
+use mesh_checkpoint::reading::read_request;
 use std::alloc::Global;
-
-// A request: its originator and its id.
-fn request(bytes: &[u8], nodes: u32) -> Option<(u16, u32, &[u8])>
-    ensures value { Gives (λ x. ((x.0, x.1), x.2.now)) result
-        ((model.request nodes).get bytes.now) }
-    ensures below { IfSome result (λ x. x.0 < nodes) }
-    ensures id { IfSome result (λ x. x.1 < 2 ^ 32) }
-{
-    let (origin, rest) = number16(bytes, 0, nodes)?;
-    let (id, rest) = number32(rest, 0, 4_294_967_296)?;
-    Some((origin, id, rest))
-}
 
 // So many requests, by rising originator and id.
 fn pairs(alloc: Global, count: u32, bytes: &[u8], nodes: u32) -> Result<(Asked, &[u8]), ReadError>
@@ -33,17 +22,16 @@ fn pairs(alloc: Global, count: u32, bytes: &[u8], nodes: u32) -> Result<(Asked, 
     let mut rest = bytes;
     let mut low = 0;
     for _ in 0..count {
-        let Some((origin, id, behind)) = request(rest, nodes) else {
+        let Some((request, behind)) = read_request(rest, nodes) else {
             return Err(ReadError::Spelling);
         };
-        let key = u64::from(origin) * 4_294_967_296 + u64::from(id);
+        let key = request.key();
         if key < low {
             return Err(ReadError::Spelling);
         }
         low = key + 1;
-        let origin = usize::from(origin);
-        asked.make_room(origin)?;
-        asked.insert(origin, id);
+        asked.make_room(request.origin)?;
+        asked.insert(request.origin, request.id);
         rest = behind;
     }
     Ok((asked, rest))
@@ -55,7 +43,7 @@ pub(crate) fn requests(alloc: Global, bytes: &[u8], nodes: u32) -> Result<(Asked
         ((model.asked_format nodes).get bytes.now) }
     ensures nodes { IfOk result (λ x. length x.0.rooms ≡ nodes) }
 {
-    let Some((count, rest)) = number32(bytes, 0, 4_294_967_296) else {
+    let Some((count, rest)) = number32(bytes, 0, END32) else {
         return Err(ReadError::Spelling);
     };
     pairs(alloc, count, rest, nodes)

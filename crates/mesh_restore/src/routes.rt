@@ -14,7 +14,9 @@ use crate::error::ReadError;
 use aodv_model::{Entry, Flag, Known};
 use aodv_table::{RowTable, Table};
 use mesh_base::NodeSet;
-use mesh_checkpoint::numbers::{byte, number16, number32, truth};
+use mesh_checkpoint::END16;
+use mesh_checkpoint::numbers::number16;
+use mesh_checkpoint::reading::{read_route_head, rise};
 use std::alloc::Global;
 
 // So many nodes, by rising index.
@@ -29,10 +31,7 @@ fn precursors(count: u16, bytes: &[u8], nodes: u32) -> Option<(NodeSet, &[u8])>
     let mut low = 0;
     for _ in 0..count {
         let (index, behind) = number16(rest, 0, nodes)?;
-        if u32::from(index) < low {
-            return None;
-        }
-        low = u32::from(index) + 1;
+        low = rise(low, u64::from(index))?;
         found.add(usize::from(index));
         rest = behind;
     }
@@ -47,25 +46,19 @@ fn route(bytes: &[u8], nodes: u32) -> Option<(usize, Entry, &[u8])>
     ensures below { IfSome result (λ x. x.0 < nodes) }
     ensures precursors { IfSome result (λ x. AreBelow nodes x.1.pre) }
 {
-    let (dest, rest) = number16(bytes, 0, nodes)?;
-    let (dsn, rest) = number32(rest, 0, 4_294_967_296)?;
-    let (known, rest) = truth(rest)?;
-    let (valid, rest) = truth(rest)?;
-    let (hops, rest) = byte(rest, 1, 256)?;
-    let (next, rest) = number16(rest, 0, nodes)?;
-    let (count, rest) = number16(rest, 0, 65_536)?;
-    let Some((pre, rest)) = precursors(count, rest, nodes) else {
+    let (head, rest) = read_route_head(bytes, nodes)?;
+    let Some((pre, rest)) = precursors(head.precursors, rest, nodes) else {
         return None;
     };
     let entry = Entry {
-        dsn,
-        dsk: if known { Known::Kno } else { Known::Unk },
-        flag: if valid { Flag::Val } else { Flag::Inv },
-        hops,
-        next: usize::from(next),
+        dsn: head.number,
+        dsk: if head.known { Known::Kno } else { Known::Unk },
+        flag: if head.valid { Flag::Val } else { Flag::Inv },
+        hops: head.hops,
+        next: head.next,
         pre,
     };
-    Some((usize::from(dest), entry, rest))
+    Some((head.dest, entry, rest))
 }
 
 // So many entries, by rising destination.
@@ -102,7 +95,7 @@ pub(crate) fn table(alloc: Global, bytes: &[u8], nodes: u32) -> Result<(RowTable
     ensures nodes { IfOk result (λ x. x.0.nodes ≡ nodes) }
     ensures below { IfOk result (λ x. ArePrecursorsBelow nodes x.0.entries) }
 {
-    let Some((count, rest)) = number16(bytes, 0, 65_536) else {
+    let Some((count, rest)) = number16(bytes, 0, END16) else {
         return Err(ReadError::Spelling);
     };
     rows(alloc, count, rest, nodes)

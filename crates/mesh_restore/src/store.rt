@@ -11,8 +11,9 @@ ghost use Rattle.mesh_restore.specs.Kept.{IsFilled, IsKeptFrom};
 use crate::error::ReadError;
 use aodv_waiting::Waiting;
 use mesh_base::Bytes;
-use mesh_checkpoint::DATUM_END;
-use mesh_checkpoint::numbers::{number16, number32, text, truth};
+use mesh_checkpoint::END16;
+use mesh_checkpoint::numbers::number16;
+use mesh_checkpoint::reading::{read_datum, read_waits_head};
 use std::alloc::Global;
 
 // So many data for one destination, which had none before. The bytes behind them are answered.
@@ -32,7 +33,7 @@ fn bodies<'b>(
 {
     let mut rest = bytes;
     for _ in 0..count {
-        let Some((body, behind)) = text(rest, 1, DATUM_END) else {
+        let Some((body, behind)) = read_datum(rest) else {
             return Err(ReadError::Spelling);
         };
         let body = Bytes::copy_of(alloc, body)?;
@@ -70,22 +71,15 @@ fn waits<'b>(
     ensures nodes { length waiting.new.rooms ≡ length waiting.old.rooms }
     ensures dest { IfOk result (λ x. x.0 < nodes) }
 {
-    let Some((dest, rest)) = number16(bytes, 0, nodes) else {
+    let Some((head, rest)) = read_waits_head(bytes, nodes) else {
         return Err(ReadError::Spelling);
     };
-    let dest = usize::from(dest);
-    if dest < low {
+    if head.dest < low {
         return Err(ReadError::Spelling);
     }
-    let Some((needs_request, rest)) = truth(rest) else {
-        return Err(ReadError::Spelling);
-    };
-    let Some((count, rest)) = number32(rest, 1, 4_294_967_296) else {
-        return Err(ReadError::Spelling);
-    };
-    let rest = bodies(alloc, waiting, dest, count, rest)?;
-    settle(waiting, dest, needs_request);
-    Ok((dest, rest))
+    let rest = bodies(alloc, waiting, head.dest, head.data, rest)?;
+    settle(waiting, head.dest, head.needs_request);
+    Ok((head.dest, rest))
 }
 
 // What waits for so many destinations, by rising destination.
@@ -113,7 +107,7 @@ pub(crate) fn store(alloc: Global, bytes: &[u8], nodes: u32) -> Result<(Waiting,
         ((model.store nodes).get bytes.now) }
     ensures nodes { IfOk result (λ x. length x.0.rooms ≡ nodes) }
 {
-    let Some((count, rest)) = number16(bytes, 0, 65_536) else {
+    let Some((count, rest)) = number16(bytes, 0, END16) else {
         return Err(ReadError::Spelling);
     };
     rows(alloc, count, rest, nodes)

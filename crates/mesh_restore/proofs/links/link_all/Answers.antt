@@ -1,6 +1,7 @@
 use Rattle.std.proofs.Common.{arith, refl}
 use Rattle.mesh_checkpoint.specs.Checkpoint as model
 use Rattle.mesh_checkpoint.specs.Points.{links_of}
+use Rattle.mesh_checkpoint.specs.Views.{link_of}
 use Rattle.mesh_restore.proofs.LinkLists.{no_links, none_linked, none_stood, not_linked, links_last, still_linked_below, still_stood, others_stay}
 use Rattle.mesh_restore.proofs.Loop.{starts, goes_on, ends, falls}
 use Rattle.mesh_restore.proofs.links.link_all.Goals as goal
@@ -17,20 +18,20 @@ pub returns-in_err-link : goal.returns-in_err-link
 returns-in_err-link c =
     rw c.from_residual.ensures (ends model.link_key (model.link c.args.nodes).get c.args.count c.loop.counter c.loop.low c.args.bytes.now (links_of (c.loop.radio).ever (c.loop.radio).links) c.loop.rest.now (omega arith) c.in_err-link.ensures.value c.loop.invariant.so_far)
 
-pub returns-then-key-low : goal.returns-then-key-low
-returns-then-key-low c =
-    falls model.link_key (model.link c.args.nodes).get c.args.count c.loop.counter c.loop.low c.args.bytes.now (links_of (c.loop.radio).ever (c.loop.radio).links) c.loop.rest.now (record { a = c.in_ok-link.link.a; b = c.in_ok-link.link.b; stands = c.in_ok-link.link.stands }) c.in_ok-link.behind.now (omega arith) c.in_ok-link.ensures.value (omega arith) c.loop.invariant.so_far
+pub returns-in_err-low : goal.returns-in_err-low
+returns-in_err-low c =
+    rw c.from_residual-in_err-low.ensures (falls model.link_key (model.link c.args.nodes).get c.args.count c.loop.counter c.loop.low c.args.bytes.now (links_of (c.loop.radio).ever (c.loop.radio).links) c.loop.rest.now (link_of c.in_ok-link.link) c.in_ok-link.behind.now (omega arith) c.in_ok-link.ensures.value (omega (arith, c.in_err-low.ensures.order)) c.loop.invariant.so_far)
 
 pub keep-requires-clause-new : goal.keep-requires-clause-new
 keep-requires-clause-new c =
-    not_linked c.loop.radio c.loop.low (c.in_ok-link.link.a, c.in_ok-link.link.b) c.loop.invariant.stood c.loop.invariant.below (omega arith) (omega (arith, c.in_ok-link.ensures.below, c.requires.few))
+    not_linked c.loop.radio c.loop.low (c.in_ok-link.link.a, c.in_ok-link.link.b) c.loop.invariant.stood c.loop.invariant.below (omega arith) c.in_ok-link.ensures.small
 
 pub loop-preserved : goal.loop-preserved
 loop-preserved c = record {
   so_far =
-      rw (links_last c.loop.radio c.keep.new.radio c.loop.low (c.in_ok-link.link.a, c.in_ok-link.link.b) c.in_ok-link.link.stands c.loop.invariant.below (omega arith) (omega (arith, c.in_ok-link.ensures.below, c.requires.few)) c.keep.ensures)
-      (goes_on model.link_key (model.link c.args.nodes).get c.args.count c.loop.counter c.loop.low c.args.bytes.now (links_of (c.loop.radio).ever (c.loop.radio).links) c.loop.rest.now (record { a = c.in_ok-link.link.a; b = c.in_ok-link.link.b; stands = c.in_ok-link.link.stands }) c.in_ok-link.behind.now _ (omega arith) c.in_ok-link.ensures.value (omega arith) (omega arith) c.loop.invariant.so_far);
-  below = still_linked_below c.loop.radio c.keep.new.radio c.loop.low (c.in_ok-link.link.a, c.in_ok-link.link.b) c.in_ok-link.link.stands _ c.loop.invariant.below (omega arith) (omega (arith, c.in_ok-link.ensures.below, c.requires.few)) (omega arith) c.keep.ensures;
+      rw (links_last c.loop.radio c.keep.new.radio c.loop.low (c.in_ok-link.link.a, c.in_ok-link.link.b) c.in_ok-link.link.stands c.loop.invariant.below (omega arith) c.in_ok-link.ensures.small c.keep.ensures)
+      (goes_on model.link_key (model.link c.args.nodes).get c.args.count c.loop.counter c.loop.low c.args.bytes.now (links_of (c.loop.radio).ever (c.loop.radio).links) c.loop.rest.now (link_of c.in_ok-link.link) c.in_ok-link.behind.now _ (omega arith) c.in_ok-link.ensures.value (omega (arith, c.in_ok-low.ensures.order)) (omega (arith, c.in_ok-low.ensures.next)) c.loop.invariant.so_far);
+  below = still_linked_below c.loop.radio c.keep.new.radio c.loop.low (c.in_ok-link.link.a, c.in_ok-link.link.b) c.in_ok-link.link.stands _ c.loop.invariant.below (omega arith) c.in_ok-link.ensures.small (omega arith) c.keep.ensures;
   stood = still_stood c.loop.radio c.keep.new.radio (c.in_ok-link.link.a, c.in_ok-link.link.b) c.in_ok-link.link.stands c.loop.invariant.stood c.keep.ensures;
   others = others_stay c.args.radio.now c.loop.radio c.keep.new.radio (c.in_ok-link.link.a, c.in_ok-link.link.b) c.in_ok-link.link.stands c.loop.invariant.others c.keep.ensures;
 }

@@ -7,15 +7,15 @@ use Rattle.mesh_restore.proofs.mesh.stations.Goals as goal
 
 pub loop-preserved : goal.loop-preserved
 loop-preserved c = rw c.append.ensures record {
-  so_far = goes_on (λ p. p.0) model.station.get c.args.count c.loop.counter c.loop.low c.args.bytes.now c.loop.mesh c.loop.rest.now (c.in_ok-addr.addr, c.in_ok-addr.first) c.in_ok-addr.behind.now _ (omega arith) c.in_ok-addr.ensures.value (omega arith) (omega arith) c.loop.invariant.so_far;
-  below = addresses_rise c.loop.mesh c.loop.low c.in_ok-addr.addr c.in_ok-addr.first _ c.loop.invariant.below (omega arith) (omega arith);
-  many = length_push c.loop.mesh (c.in_ok-addr.addr, c.in_ok-addr.first) ∙ ap (λ (n : ℕ). n + 1) c.loop.invariant.many;
+  so_far = goes_on (λ p. p.0) model.station.get c.args.count c.loop.counter c.loop.low c.args.bytes.now c.loop.mesh c.loop.rest.now (c.in_ok-station.station.address, c.in_ok-station.station.first) c.in_ok-station.behind.now _ (omega arith) c.in_ok-station.ensures.value (omega (arith, c.in_ok-low.ensures.order)) (omega (arith, c.in_ok-low.ensures.next)) c.loop.invariant.so_far;
+  below = addresses_rise c.loop.mesh c.loop.low c.in_ok-station.station.address c.in_ok-station.station.first _ c.loop.invariant.below (omega arith) (omega arith);
+  many = length_push c.loop.mesh (c.in_ok-station.station.address, c.in_ok-station.station.first) ∙ ap (λ (n : ℕ). n + 1) c.loop.invariant.many;
 }
 
-pub returns-then-from-low : goal.returns-then-from-low
-returns-then-from-low c =
-    falls (λ p. p.0) model.station.get c.args.count c.loop.counter c.loop.low c.args.bytes.now c.loop.mesh c.loop.rest.now (c.in_ok-addr.addr, c.in_ok-addr.first) c.in_ok-addr.behind.now
-    (omega arith) c.in_ok-addr.ensures.value (omega arith) c.loop.invariant.so_far
+pub returns-in_err-low : goal.returns-in_err-low
+returns-in_err-low c =
+    rw c.from_residual-in_err-low.ensures (falls (λ p. p.0) model.station.get c.args.count c.loop.counter c.loop.low c.args.bytes.now c.loop.mesh c.loop.rest.now (c.in_ok-station.station.address, c.in_ok-station.station.first) c.in_ok-station.behind.now
+    (omega arith) c.in_ok-station.ensures.value (omega (arith, c.in_err-low.ensures.order)) c.loop.invariant.so_far)
 
 pub append-requires-clause-last : goal.append-requires-clause-last
-append-requires-clause-last c = addresses_before c.loop.mesh c.loop.low c.in_ok-addr.addr c.loop.invariant.below (omega arith)
+append-requires-clause-last c = addresses_before c.loop.mesh c.loop.low c.in_ok-station.station.address c.loop.invariant.below (omega arith)

@@ -18,13 +18,13 @@ returns-in_default-clause-value c =
 
 pub returns-then-key-low-clause-value : goal.returns-then-key-low-clause-value
 returns-then-key-low-clause-value c =
-    falls model.request_key (model.request c.args.nodes).get c.args.count c.loop.counter c.loop.low c.args.bytes.now (pairs_in (c.loop.asked).pairs) c.loop.rest.now (c.in-Some.origin, c.in-Some.id) c.in-Some.behind.now (omega arith) c.in-Some.ensures.value (omega arith) c.loop.invariant.so_far
+    falls model.request_key (model.request c.args.nodes).get c.args.count c.loop.counter c.loop.low c.args.bytes.now (pairs_in (c.loop.asked).pairs) c.loop.rest.now (c.in-Some.request.origin, c.in-Some.request.id) c.in-Some.behind.now (omega arith) c.in-Some.ensures.value (omega arith) c.loop.invariant.so_far
 
 pub loop-preserved : goal.loop-preserved
-loop-preserved c = rw (c.insert.ensures.pairs, c.insert.ensures.nodes, c.make_room.ensures.pairs, c.make_room.ensures.nodes, c.from-origin.ensures) record {
+loop-preserved c = rw (c.insert.ensures.pairs, c.insert.ensures.nodes, c.make_room.ensures.pairs, c.make_room.ensures.nodes) record {
   so_far =
-      rw (pairs_last (c.loop.asked).pairs c.loop.low (c.in-Some.origin, c.in-Some.id) c.loop.invariant.below (omega arith) c.in-Some.ensures.id)
-      (goes_on model.request_key (model.request c.args.nodes).get c.args.count c.loop.counter c.loop.low c.args.bytes.now (pairs_in (c.loop.asked).pairs) c.loop.rest.now (c.in-Some.origin, c.in-Some.id) c.in-Some.behind.now _ (omega arith) c.in-Some.ensures.value (omega arith) (omega arith) c.loop.invariant.so_far);
-  below = pairs_below (c.loop.asked).pairs c.loop.low (c.in-Some.origin, c.in-Some.id) _ c.loop.invariant.below (omega arith) c.in-Some.ensures.id (omega arith);
+      rw (pairs_last (c.loop.asked).pairs c.loop.low (c.in-Some.request.origin, c.in-Some.request.id) c.loop.invariant.below (omega arith) c.in-Some.ensures.id)
+      (goes_on model.request_key (model.request c.args.nodes).get c.args.count c.loop.counter c.loop.low c.args.bytes.now (pairs_in (c.loop.asked).pairs) c.loop.rest.now (c.in-Some.request.origin, c.in-Some.request.id) c.in-Some.behind.now _ (omega arith) c.in-Some.ensures.value (omega arith) (omega arith) c.loop.invariant.so_far);
+  below = pairs_below (c.loop.asked).pairs c.loop.low (c.in-Some.request.origin, c.in-Some.request.id) _ c.loop.invariant.below (omega arith) c.in-Some.ensures.id (omega arith);
   nodes = c.loop.invariant.nodes;
 }

@@ -1,4 +1,4 @@
-use Rattle.std.proofs.Common.{arith}
+use Rattle.std.proofs.Common.{◌≡◌, ◌+◌, arith}
 use Rattle.mesh_base.specs.Members.{member_list}
 use Rattle.mesh_checkpoint.specs.Checkpoint as model
 use Rattle.mesh_restore.proofs.Listings.{no_members, none_below, members_last, members_still_below}
@@ -14,11 +14,13 @@ loop-init c = rw c.new-found.ensures record {
 }
 
 pub loop-preserved : goal.loop-preserved
-loop-preserved c = rw (c.add.ensures, c.from-in-loop.ensures, c.from-low.ensures) record {
+loop-preserved c = rw (c.add.ensures, c.from-in-loop.ensures) record {
   so_far =
       rw (members_last c.loop.found c.loop.low c.in_ok-index.index c.loop.invariant.below (omega arith) (omega (arith, c.in_ok-index.ensures.below)))
-      (goes_on (λ i. i) (model.index c.args.nodes).get c.args.count c.loop.counter c.loop.low c.args.bytes.now (member_list c.loop.found) c.loop.rest.now c.in_ok-index.index c.in_ok-index.behind.now _ (omega arith) c.in_ok-index.ensures.value (omega arith) (omega arith) c.loop.invariant.so_far);
-  below = members_still_below c.loop.found c.loop.low c.in_ok-index.index c.loop.invariant.below (omega arith);
+      (goes_on (λ i. i) (model.index c.args.nodes).get c.args.count c.loop.counter c.loop.low c.args.bytes.now (member_list c.loop.found) c.loop.rest.now c.in_ok-index.index c.in_ok-index.behind.now _ (omega arith) c.in_ok-index.ensures.value (omega (arith, c.in_ok-low.ensures.order)) (omega (arith, c.in_ok-low.ensures.next)) c.loop.invariant.so_far);
+  below =
+      let next : c.in_ok-low.low ≡ c.in_ok-index.index + 1 = omega (arith, c.in_ok-low.ensures.next) in
+      rw next (members_still_below c.loop.found c.loop.low c.in_ok-index.index c.loop.invariant.below (omega (arith, c.in_ok-low.ensures.order)));
   within = omega (arith, c.in_ok-index.ensures.below);
 }
 

@@ -1,13 +1,15 @@
-use Rattle.std.proofs.Common.{rules, refl, sym, arith}
+use Rattle.std.proofs.Common.{refl, sym, arith}
+use Rattle.mesh_checkpoint.specs.Views.{copy_of}
 use Rattle.mesh_checkpoint.proofs.parts.InFlightKeyedPart.pass.Goals as goal
 
 pub returns : goal.returns
 returns c = record {
   passed = record {
-    value = record { id = c.in_ok-id.id; from = c.in_ok-_from._from; to = c.in_ok-_to._to; bytes = c.in_ok-packet.packet.now };
-    read = search rules;
+    value = copy_of c.in_ok-copy.copy;
+    read = c.in_ok-copy.ensures.value;
     count = sym c.data_of.ensures.value;
-    few = omega (arith, c.in_ok-id.ensures.shorter, c.in_ok-_from.ensures.shorter, c.in_ok-_to.ensures.shorter, c.in_ok-packet.ensures.shorter, c.data_of.ensures.few);
+    few = omega (arith, c.in_ok-copy.ensures.shorter, c.data_of.ensures.few);
   };
   same = refl;
+  small = omega (arith, c.in_ok-copy.ensures.old);
 }

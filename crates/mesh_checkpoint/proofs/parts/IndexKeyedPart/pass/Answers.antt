@@ -10,4 +10,5 @@ returns c = record {
     few = omega (arith, c.in_ok-index.ensures.shorter);
   };
   same = omega (arith, c.from.ensures);
+  small = grind (arith, c.from.ensures, c.in_ok-index.ensures.below);
 }

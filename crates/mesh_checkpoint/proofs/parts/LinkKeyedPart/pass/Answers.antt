@@ -1,13 +1,15 @@
-use Rattle.std.proofs.Common.{rules, refl, arith}
+use Rattle.std.proofs.Common.{refl, sym, arith}
+use Rattle.mesh_checkpoint.specs.Views.{link_of}
 use Rattle.mesh_checkpoint.proofs.parts.LinkKeyedPart.pass.Goals as goal
 
 pub returns : goal.returns
 returns c = record {
   passed = record {
-    value = record { a = c.in_ok-a.a; b = c.in_ok-b.b; stands = c.in_ok-_stands._stands };
-    read = search rules;
+    value = link_of c.in_ok-link.link;
+    read = c.in_ok-link.ensures.value;
     count = refl;
-    few = omega (arith, c.in_ok-a.ensures.shorter, c.in_ok-b.ensures.shorter, c.in_ok-_stands.ensures.shorter);
+    few = omega (arith, c.in_ok-link.ensures.shorter);
   };
-  same = omega (arith, c.from-2.ensures, c.from-3.ensures);
+  same = sym c.key.ensures.key;
+  small = c.key.ensures.small;
 }
