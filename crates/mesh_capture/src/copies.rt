@@ -10,11 +10,10 @@ ghost use Rattle.mesh_capture.specs.Copies as copies;
 ghost use Rattle.mesh_capture.specs.Kept.{IsShortCopy, AreShort, most_lines};
 
 use crate::frame::Frame;
-use crate::packets::{ReadError, cast_packet, copy_of, packet_of};
-use mesh_base::Bytes;
+use crate::packets::{ReadError, cast_packet, packet_of, shared};
 use mesh_lines::{
-    Below, Field, address, are, copy_words, cut, ends, event_by, four, is, is_idle, is_link,
-    is_of_cast, is_of_loss, is_of_node, is_of_route, is_taken, number, other_by,
+    Below, Field, SharedPacket, address, are, copy_words, cut, ends, event_by, four, is, is_idle,
+    is_link, is_of_cast, is_of_loss, is_of_node, is_of_route, is_taken, number, other_by,
 };
 use std::alloc::Global;
 use std::collections::BTreeMap;
@@ -27,12 +26,13 @@ pub struct FlyingCopy {
     pub from: u32,
     /// The address of its receiver.
     pub to: u32,
-    /// Its packet.
-    pub packet: Bytes,
+    /// The packet of its cast.
+    pub packet: SharedPacket,
 }
 
-/// What the lines read so far tell. It takes memory for the packets of the copies in flight, as far
-/// as they have more than 32 bytes.
+/// What the lines read so far tell. It takes memory for the copies in flight and for their packets:
+/// one for each cast, which its copies and their doubles share, and one for each copy of which
+/// `flight` tells first.
 #[derive(Drop)]
 pub struct Copies {
     alloc: Global,
@@ -76,7 +76,6 @@ fn told(of_form: bool) -> Result<Option<Frame>, ReadError>
 // Another one of a copy in flight, for the same receiver.
 #[tactic(auto, using(crate::proofs::Kept::short_found))]
 fn doubled_copy(
-    alloc: Global,
     flying: &BTreeMap<u64, FlyingCopy>,
     id: u64,
     to: u32,
@@ -94,11 +93,10 @@ fn doubled_copy(
     if copy.to != to {
         return Err(ReadError::BadLine);
     }
-    let packet = copy_of(alloc, &copy.packet)?;
     Ok(FlyingCopy {
         from: copy.from,
         to,
-        packet,
+        packet: shared(&copy.packet)?,
     })
 }
 
@@ -220,15 +218,12 @@ impl Copies {
         ensures short { IfOk result IsShortCopy }
     {
         match &self.below {
-            Below::Casts(node, Some(packet)) => {
-                let packet = copy_of(self.alloc, packet)?;
-                Ok(FlyingCopy {
-                    from: *node,
-                    to,
-                    packet,
-                })
-            }
-            Below::Doubles(id) => doubled_copy(self.alloc, &self.flying, *id, to),
+            Below::Casts(node, Some(packet)) => Ok(FlyingCopy {
+                from: *node,
+                to,
+                packet: shared(packet)?,
+            }),
+            Below::Doubles(id) => doubled_copy(&self.flying, *id, to),
             _ => Err(ReadError::BadLine),
         }
     }

@@ -10,7 +10,7 @@ ghost use Rattle.mesh_capture.specs.Frames as frames;
 use aodv_wire::is_data;
 use arrayvec::ArrayVec;
 use byteorder::{BigEndian, ByteOrder};
-use mesh_base::Bytes;
+use mesh_lines::SharedPacket;
 
 /// The UDP port of AODV's messages.
 pub const AODV_PORT: u16 = 654;
@@ -39,7 +39,7 @@ pub struct Frame {
     /// It was lost.
     pub lost: bool,
     /// Its packet.
-    pub packet: Bytes,
+    pub packet: SharedPacket,
 }
 
 // Appends bytes.

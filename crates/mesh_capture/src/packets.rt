@@ -6,7 +6,7 @@ ghost use Rattle.mesh_capture.specs.Copies as copies;
 
 use hex::FromHexError;
 use mesh_base::{Bytes, LONGEST_PACKET};
-use mesh_lines::{are_addresses, is, is_address, is_hex, three, two};
+use mesh_lines::{SharedPacket, are_addresses, is, is_address, is_hex, three, two};
 use std::alloc::Global;
 use thiserror::Error;
 
@@ -38,8 +38,19 @@ fn kept(bytes: Vec<u8>) -> Bytes
     }
 }
 
+// A packet of these bytes.
+fn owned(alloc: Global, bytes: Bytes) -> Result<SharedPacket, ReadError>
+    ensures done { IfOk result (λ packet. packet ≡ bytes) }
+    ensures memory { ¬ IsErrOf result ReadError.BadLine }
+{
+    match SharedPacket::new(alloc, bytes) {
+        Ok(packet) => Ok(packet),
+        Err(_) => Err(ReadError::NoMemory),
+    }
+}
+
 /// The packet that hexadecimal tells.
-pub fn packet_of(alloc: Global, word: &[u8]) -> Result<Bytes, ReadError>
+pub fn packet_of(alloc: Global, word: &[u8]) -> Result<SharedPacket, ReadError>
     ensures done { IfOk result (λ packet. copies.packet_of word.now ≡ Some packet) }
     ensures bad { IsErrOf result ReadError.BadLine → copies.packet_of word.now ≡ None }
     ensures short { IfOk result IsShort }
@@ -48,7 +59,7 @@ pub fn packet_of(alloc: Global, word: &[u8]) -> Result<Bytes, ReadError>
         return Err(ReadError::BadLine);
     }
     match hex::decode(alloc, word) {
-        Ok(bytes) if is_packet(bytes.as_slice()) => Ok(kept(bytes)),
+        Ok(bytes) if is_packet(bytes.as_slice()) => owned(alloc, kept(bytes)),
         Err(FromHexError::OutOfMemory) => Err(ReadError::NoMemory),
         _ => Err(ReadError::BadLine),
     }
@@ -62,7 +73,7 @@ fn are_receivers(kind: &[u8], receivers: &[u8]) -> bool
 }
 
 /// The packet of a cast, after `sent`.
-pub fn cast_packet(alloc: Global, words: Option<&[u8]>) -> Result<Bytes, ReadError>
+pub fn cast_packet(alloc: Global, words: Option<&[u8]>) -> Result<SharedPacket, ReadError>
     ensures done { IfOk result (λ packet.
         copies.cast_packet (rest_parts 32 words.entry) ≡ Some packet) }
     ensures bad { IsErrOf result ReadError.BadLine →
@@ -82,16 +93,11 @@ pub fn cast_packet(alloc: Global, words: Option<&[u8]>) -> Result<Bytes, ReadErr
     }
 }
 
-/// A copy of a packet.
-pub fn copy_of(alloc: Global, packet: &Bytes) -> Result<Bytes, ReadError>
-    ensures done { IfOk result (λ copy. copy ≡ packet.now) }
+/// The packet of one copy more. It takes no memory: want of memory is answered where so many copies
+/// share it that one more can't be counted.
+pub fn shared(packet: &SharedPacket) -> Result<SharedPacket, ReadError>
+    ensures done { IfOk result (λ same. same ≡ packet.now) }
     ensures memory { ¬ IsErrOf result ReadError.BadLine }
 {
-    if let Some(short) = packet.again() {
-        return Ok(short);
-    }
-    match Bytes::copy_of(alloc, packet.as_slice()) {
-        Ok(copy) => Ok(copy),
-        Err(_) => Err(ReadError::NoMemory),
-    }
+    packet.share().ok_or(ReadError::NoMemory)
 }

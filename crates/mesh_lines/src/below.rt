@@ -7,8 +7,9 @@ ghost use Rattle.mesh_lines.specs.Packets.{IsShortBelow};
 
 use crate::form::{Field, are, is_text, text_behind};
 use crate::last::{is_full, is_refusal, is_summary};
+use crate::packet::SharedPacket;
 use crate::words::{address_in, is, is_link, is_sending, number_in, sender};
-use mesh_base::{Bytes, MOST_EVENTS};
+use mesh_base::MOST_EVENTS;
 
 /// The greatest coordinate of a place.
 pub const GREATEST_PLACE: u64 = 1000000;
@@ -21,7 +22,7 @@ pub enum Below {
     /// `idle`, where a link hasn't changed.
     Link,
     /// What an event of this node did that may cast a packet: the packet, once it is cast.
-    Casts(u32, Option<Bytes>),
+    Casts(u32, Option<SharedPacket>),
     /// That the copy of this number was heard.
     Delivers(u64),
     /// That the copy of this number was lost.
