@@ -1,17 +1,16 @@
 -- What is delivered and dropped is of the mesh: so tests that agree there count the same.
-use Rattle.std.proofs.Common.{◌≡◌, ℕ, ◌+◌, ◌<◌, Bool, true, false, cond, List, [], ◌∷◌, length, Option, Some, None, refl, sym, ap, ap₂, subst, ◌∙◌}
-use Rattle.std.specs.Prelude.{slice_get, if◌then◌else◌, ◌==◌}
+use Rattle.std.proofs.Common.{◌≡◌, ℕ, ◌+◌, ◌<◌, Bool, List, [], ◌∷◌, length, refl, sym, ap, ap₂, subst, ◌∙◌}
+use Rattle.std.specs.Prelude.{if◌then◌else◌, ◌==◌}
 use Rattle.std.specs.List.{AllByRecursion}
 use Rattle.std.proofs.lemmas.Option.{slice_get_within}
-use Rattle.mesh_base.specs.declared.events.Counter.{Counter}
 use Rattle.aodv_model.specs.Cores.{Body, Message, Pkt, Rreq, Rrep, Rerr, Item, New, Heard, Core}
-use Rattle.aodv_model.specs.Handlers.{Effect, Reaction, Took, Own, Stored, FromNeighbour, took, turn, may_send, send, may_ask, ask}
-use Rattle.aodv_model.specs.Fullness.{turn_full, send_full, ask_full}
+use Rattle.aodv_model.specs.Handlers.{Took, Own, Stored, FromNeighbour, took}
 use Rattle.aodv_model.specs.Soundness.{IsMessageInMesh, IsItemInMesh}
 use Rattle.aodv_model.proofs.Entries.{if_case}
+use Rattle.mesh_model.proofs.Cases.{by_cases}
 use Rattle.mesh_model.specs.Worlds as worlds
 use Rattle.mesh_model.specs.Worlds.{World, Node, Copy, Event, Give, Turn, Send, Ask, Link, Cut, Deliver, Lose, Double, WorldEffect, Changed, Taken, Sent, CopyHeard, CopyLost, CopyDoubled, Outcome, Idle, Next, range, copies, done_by, are_linked, find_copy, turn_of, send_of, ask_of, unless_full, at_node, at_copy, step, after}
-use Rattle.mesh_model.specs.Accounts.{Test, counts, in_message, in_taken, in_dropped, delivered_in, delivered_at, delivered_data, dropped_in, dropped_data, over_run}
+use Rattle.mesh_model.specs.Accounts.{Test, counts, in_message, in_taken, in_dropped, delivered_at, delivered_data, dropped_data, over_run}
 use Rattle.mesh_model.specs.InMesh.{IsCopyInMesh, IsInMesh, IsEvent}
 use Rattle.mesh_model.proofs.Steps.{found_honest}
 use Rattle.mesh_model.proofs.MeshSteps.{step_placed}
@@ -42,63 +41,28 @@ abbrev taker : Event → ℕ
 taker (Turn x) = x
 taker others = 0
 
-node_of_mesh : (size x : ℕ) (f : Core → List Item → Outcome) (o : Option Node) → ((n : Node) → o ≡ Some n → IsOutcomeOf size x (f n.core n.queue)) → IsOutcomeOf size x (at_node o f)
-unfolding IsOutcomeOf
-node_of_mesh size x f None each = tt
-node_of_mesh size x f (Some n) each = each n refl
-
-copy_of_mesh : (size x : ℕ) (f : Copy → Outcome) (o : Option Copy) → ((c : Copy) → o ≡ Some c → IsOutcomeOf size x (f c)) → IsOutcomeOf size x (at_copy o f)
-unfolding IsOutcomeOf
-copy_of_mesh size x f None each = tt
-copy_of_mesh size x f (Some c) each = each c refl
-
-unless_of_mesh : (size x y : ℕ) (full : Option Counter) (o : Outcome) → IsOutcomeOf size x o → IsOutcomeOf size x (unless_full y full o)
-unfolding IsOutcomeOf
-unless_of_mesh size x y None o is = is
-unless_of_mesh size x y (Some f) o is = tt
-
 took_of_mesh : (size x : ℕ) (core : Core) (item : Item) → x < size → IsItemInMesh size x item → IsTookOf size x (took core item)
 unfolding IsTookOf
 took_of_mesh size x core (New b d) within is = if_case (IsTookOf size x) (d == core.ip) (Own b) (Stored d) (λ _. within) (λ _. tt)
 took_of_mesh size x core (Heard from m) within is = is.2
 
-turn_of_mesh : (w : World) (size x : ℕ) (core : Core) (queue : List Item) → x < size → AllByRecursion (IsItemInMesh size x) queue → IsOutcomeOf size x (turn_of w x core queue)
-unfolding IsOutcomeOf IsWorldEffectOf
-turn_of_mesh w size x core [] within all = tt
-turn_of_mesh w size x core (item ∷ items) within all =
-    let did : Reaction = turn core (range w x) item in
-    unless_of_mesh size x x (turn_full core (range w x) item) (Next (done_by w x did items) (Taken (took core item) did.effect (copies w x (did.effect).cast)))
-    (took_of_mesh size x core item within all.0)
-
-send_of_mesh : (w : World) (size y x d : ℕ) (core : Core) (queue : List Item) → IsOutcomeOf size y (send_of w x d core queue)
-unfolding IsOutcomeOf IsWorldEffectOf
-send_of_mesh w size y x d core queue =
-    let did : Reaction = send core (range w x) d in
-    let goes : Outcome = Next (done_by w x did queue) (Sent did.effect (copies w x (did.effect).cast)) in
-    if_case (IsOutcomeOf size y) (may_send core d) (unless_full x (send_full core (range w x) d) goes) Idle (λ _. unless_of_mesh size y x (send_full core (range w x) d) goes tt) (λ _. tt)
-
-ask_of_mesh : (w : World) (size y x d : ℕ) (core : Core) (queue : List Item) → IsOutcomeOf size y (ask_of w x d core queue)
-unfolding IsOutcomeOf IsWorldEffectOf
-ask_of_mesh w size y x d core queue =
-    let did : Reaction = ask core d in
-    let goes : Outcome = Next (done_by w x did queue) (Sent did.effect (copies w x (did.effect).cast)) in
-    if_case (IsOutcomeOf size y) (may_ask core d) (unless_full x (ask_full core) goes) Idle (λ _. unless_of_mesh size y x (ask_full core) goes tt) (λ _. tt)
-
 step_of_mesh : (w : World) (e : Event) → IsInMesh w → IsEvent (length w.nodes) e → IsOutcomeOf (length w.nodes) (taker e) (step w e)
-unfolding step IsOutcomeOf IsWorldEffectOf
-step_of_mesh w (Give x d b) in_mesh ok = node_of_mesh (length w.nodes) 0 _ (slice_get w.nodes x) (λ n is. tt)
-step_of_mesh w (Turn x) in_mesh ok =
-    node_of_mesh (length w.nodes) x (turn_of w x) (slice_get w.nodes x)
-    (λ n is. turn_of_mesh w (length w.nodes) x n.core n.queue (slice_get_within w.nodes x n is) (in_mesh.nodes x n is).queue)
-step_of_mesh w (Send x d) in_mesh ok = node_of_mesh (length w.nodes) 0 (send_of w x d) (slice_get w.nodes x) (λ n is. send_of_mesh w (length w.nodes) 0 x d n.core n.queue)
-step_of_mesh w (Ask x d) in_mesh ok = node_of_mesh (length w.nodes) 0 (ask_of w x d) (slice_get w.nodes x) (λ n is. ask_of_mesh w (length w.nodes) 0 x d n.core n.queue)
-step_of_mesh w (Link a b) in_mesh ok = if_case (IsOutcomeOf (length w.nodes) 0) (are_linked w.links a b) Idle _ (λ _. tt) (λ _. tt)
-step_of_mesh w (Cut a b) in_mesh ok = if_case (IsOutcomeOf (length w.nodes) 0) (are_linked w.links a b) _ Idle (λ _. tt) (λ _. tt)
-step_of_mesh w (Deliver id) in_mesh ok = copy_of_mesh (length w.nodes) 0 _ (find_copy w.flying id) (λ c is. tt)
-step_of_mesh w (Lose id) in_mesh ok =
-    copy_of_mesh (length w.nodes) 0 _ (find_copy w.flying id)
-    (λ c is. (found_honest (IsCopyInMesh (length w.nodes)) w.flying id c in_mesh.flying is).3)
-step_of_mesh w (Double id) in_mesh ok = copy_of_mesh (length w.nodes) 0 _ (find_copy w.flying id) (λ c is. tt)
+unfolding IsOutcomeOf IsWorldEffectOf
+step_of_mesh w e places ok = by_cases w (λ e o. IsOutcomeOf (length w.nodes) (taker e) o) (record {
+  idle = λ e none. tt;
+  full = λ e x n f is full. tt;
+  given = λ x d b n is. tt;
+  taken = λ x core item items is free.
+      let n : Node = record { core = core; queue = item ∷ items } in
+      took_of_mesh (length w.nodes) x core item (slice_get_within w.nodes x n is) (places.nodes x n is).queue.0;
+  sent = λ x d n is may free. tt;
+  asked = λ x d n is may free. tt;
+  linked = λ a b apart. tt;
+  cut = λ a b stands. tt;
+  heard = λ id c is. tt;
+  lost = λ id c is. (found_honest (IsCopyInMesh (length w.nodes)) w.flying id c places.flying is).3;
+  doubled = λ id c is. tt;
+}) e
 
 -- ---- tests that agree there
 
