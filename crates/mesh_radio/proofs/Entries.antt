@@ -47,7 +47,7 @@ slots-get c id (suc j) to (x ∷ tos) e =
     let at : id + 1 + j ≡ id + suc j = omega arith in
     slots-get c (id + 1) j to tos e ∙ ap (λ n. Some (slot c n to)) at
 
-copies_append : (xs ys : List (Option Flying)) → copies_in (xs ++ ys) ≡ copies_in xs ++ copies_in ys
+pub copies_append : (xs ys : List (Option Flying)) → copies_in (xs ++ ys) ≡ copies_in xs ++ copies_in ys
 copies_append [] ys = refl
 copies_append (None ∷ xs) ys = copies_append xs ys
 copies_append (Some c ∷ xs) ys = ap (λ (cs : List Flying). c ∷ cs) (copies_append xs ys)
@@ -62,7 +62,7 @@ first-none : (o : Option Flying) → first_of o None ≡ o
 first-none None = refl
 first-none (Some c) = refl
 
-find-append : (xs ys : List Flying) (id : ℕ) → find_copy (xs ++ ys) id ≡ first_of (find_copy xs id) (find_copy ys id)
+pub find-append : (xs ys : List Flying) (id : ℕ) → find_copy (xs ++ ys) id ≡ first_of (find_copy xs id) (find_copy ys id)
 find-append [] ys id = refl
 find-append (x ∷ xs) ys id =
     elim (eqb x.id id) as (λ b. cond b (Some x) (find_copy (xs ++ ys) id) ≡ first_of (cond b (Some x) (find_copy xs id)) (find_copy ys id)) [
@@ -478,7 +478,7 @@ found-again es id index to at goes = elim (entry_of es id) as (λ o. entry_of es
       record { entry = e; at = at e there; is = there; low = entry-low es id e there; member = here.0; left = here.1 }
 ] refl goes
 
-rises-to : (low next : ℕ) (xs : List ℕ) → Rises low xs next → low ≤ next
+pub rises-to : (low next : ℕ) (xs : List ℕ) → Rises low xs next → low ≤ next
 rises-to low next [] r = r
 rises-to low next (x ∷ xs) r = let up = r.0 in let rest = rises-to (x + 1) next xs r.1 in omega arith
 

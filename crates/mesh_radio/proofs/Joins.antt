@@ -86,7 +86,7 @@ front-is whole count front f = record {
 
 -- ---- the copies of slots
 
-slots-append : (c : Cast) (k : ℕ) (xs ys : List ℕ) → slots_of c k (xs ++ ys) ≡ slots_of c k xs ++ slots_of c (k + length xs) ys
+pub slots-append : (c : Cast) (k : ℕ) (xs ys : List ℕ) → slots_of c k (xs ++ ys) ≡ slots_of c k xs ++ slots_of c (k + length xs) ys
 slots-append c k [] ys = let same : k ≡ k + 0 = omega arith in ap (λ n. slots_of c n ys) same
 slots-append c k (x ∷ xs) ys =
     let same : k + 1 + length xs ≡ k + suc (length xs) = omega arith in

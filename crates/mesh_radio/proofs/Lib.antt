@@ -12,3 +12,4 @@ pub mod Changes
 pub mod Links
 pub mod Joins
 pub mod Ranks
+pub mod Gathers

@@ -7,6 +7,8 @@ pub mod Radios
 pub mod Kept
 -- Casts: how it keeps the copies, as casts by their first copies.
 pub mod Casts
+-- Gathered: how a copy joins the last cast.
+pub mod Gathered
 -- Shared: where the bytes of a packet are.
 pub mod Shared
 -- Hashes: how the number of a cast is hashed.

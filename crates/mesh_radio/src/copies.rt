@@ -11,7 +11,7 @@ use crate::casts::{
     remove_at,
 };
 use crate::clearing::clear;
-use crate::joining::make_way;
+use crate::gathering::gather;
 use crate::reserve::Reserve;
 use crate::shared::Shared;
 use aodv_wire::is_data;
@@ -271,8 +271,8 @@ impl Copies {
         self.least = least_from(&self.casts, gone);
     }
 
-    /// A copy with a packet of its own flies, with an id after those of the others and below the
-    /// next.
+    /// A copy flies, with an id after those of the others and below the next. It shares the packet
+    /// of the one before, where both can be of one cast.
     pub fn put(&mut self, f: Flying) -> Result<(), NoMemory>
         requires id { (1 ≤ f.id) × (f.id < self.old.next_copy) }
         requires last { AreBefore f.id self.old.flying }
@@ -281,18 +281,8 @@ impl Copies {
         ensures ok { OnOk result (self.new ≡ with_flight self.old f) }
         ensures refused { OnErr result (self.new ≡ self.old) }
     {
-        self.casts.reserve(1)?;
-        let least = make_way(&mut self.casts, self.least, f.id);
-        let mut to = NodeSet::new();
-        to.add(f.to);
         let more = if_data(f.bytes.as_slice(), 1);
-        let cast = Cast {
-            to,
-            left: to,
-            from: f.from,
-            bytes: Shared::own(f.bytes),
-        };
-        self.least = launch(&mut self.casts, least, f.id, cast);
+        self.least = gather(&mut self.casts, self.least, f)?;
         self.count += 1;
         self.of_data += more;
         Ok(())

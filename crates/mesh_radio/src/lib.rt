@@ -7,6 +7,7 @@ mod adjacency;
 mod casts;
 mod clearing;
 mod copies;
+mod gathering;
 mod hashes;
 mod joining;
 mod positions;
