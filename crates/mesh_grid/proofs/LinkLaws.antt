@@ -1,21 +1,19 @@
 -- The links that stand are those that follow from the places.
 use Rattle.std.proofs.Common.{◌≡◌, ◌≢◌, ◌⊎◌, inl, inr, ℕ, zero, suc, ◌+◌, ◌<◌, ◌≤◌, Bool, true, false, cond, not, ◌&&◌, ◌||◌, eqb, leb, List, [], ◌∷◌, ◌++◌, Option, Some, None, Result, Ok, Err, length, length-set, replicate, take, get_or, refl, sym, ap, ap₂, subst, ◌∙◌, arith, is_some, codes, ◌*◌}
-use Rattle.std.specs.Prelude.{min, max, slice_get}
+use Rattle.std.specs.Prelude.{min, max}
 use Rattle.std.specs.Option.{unwrap_or, option_map}
 use Rattle.std.specs.List.{flat_map, AllByRecursion}
 use Rattle.std.specs.FinSet as sets
 use Rattle.std.proofs.lemmas.Bool.{ne_eqb, eq-eqb, cases_lt, cases_eq}
 use Rattle.std.proofs.lemmas.List.{length-replicate, get_or-set_same, get_or-set_other}
 use Rattle.mesh_base.specs.declared.limits.TheConstants.{MOST_NODES}
-use Rattle.mesh_base.specs.declared.events.Counter.{Counter}
 use Rattle.mesh_base.specs.declared.events.Variant.{Variant}
 use Rattle.mesh_base.specs.Meshes.{with_node}
-use Rattle.aodv_model.specs.Cores.{Item, New, Heard, Core}
-use Rattle.aodv_model.specs.Handlers.{Reaction, turn, send, may_send, ask, may_ask}
-use Rattle.aodv_model.specs.Fullness.{turn_full, send_full, ask_full}
+use Rattle.aodv_model.specs.Cores.{Item, New, Heard}
 use Rattle.aodv_model.specs.Pairs.{pair_cmp}
+use Rattle.mesh_model.proofs.Cases.{by_cases, push_is}
 use Rattle.mesh_model.specs.Worlds as worlds
-use Rattle.mesh_model.specs.Worlds.{is_parcel, World, Node, Copy, Event, Give, Turn, Send, Ask, Link, Cut, Deliver, Lose, Double, range, copies, done_by, push, with_item, find_copy, Changed, Sent, CopyHeard, CopyLost, CopyDoubled, Outcome, Idle, Next, unless_full, turn_of, send_of, ask_of, at_node, at_copy, without_copy, with_double, step, after, run, start, first_numbers, pair, are_linked}
+use Rattle.mesh_model.specs.Worlds.{World, Event, Turn, Send, Ask, Deliver, range, done_by, push, Outcome, Idle, Next, without_copy, step, after, run, start, first_numbers, pair, are_linked}
 use Rattle.mesh_model.specs.Choices.{first_turn, first_copy, first_send, first_ask, first_of, pick}
 use Rattle.mesh_model.proofs.Acyclic.{no_cycle}
 use Rattle.mesh_model.proofs.Chosen.{OnSome}
@@ -23,9 +21,8 @@ use Rattle.mesh_grammar.specs.declared.fault.LineFault.{LineFault}
 use Rattle.mesh_shell.specs.Pieces.{Piece, Whole, Long, Beyond}
 use Rattle.mesh_shell.specs.Fold as shell
 use Rattle.mesh_grammar.specs.Written.{line}
-use Rattle.mesh_grammar.proofs.Readings.{if_case}
 use Rattle.mesh_text.specs.Schedule as schedule
-use Rattle.mesh_text.specs.Schedule.{AcceptedLine, Nothing, NewNode, Does, Chooses, ShowsNode, ShowsRoute, ShowsFlight, line_of, world_of, with_world, next_state, with_line_read, outcome_at}
+use Rattle.mesh_text.specs.Schedule.{AcceptedLine, Nothing, NewNode, Does, Chooses, ShowsNode, ShowsRoute, ShowsFlight, world_of, with_world, next_state, with_line_read, outcome_at}
 use Rattle.mesh_text.specs.Lines.{words_of}
 use Rattle.mesh_text.specs.Ranges.{IsInTime}
 use Rattle.mesh_text.specs.Auto as auto
@@ -52,58 +49,24 @@ use Rattle.mesh_grid.proofs.PlaceRuns.{other_allowed, piece_kept}
 
 -- ---- events that change no link
 
-abbrev Same : World → Outcome → Type 0
-Same w o = (after w o).links ≡ w.links
-
-done_same : (w : World) (x : ℕ) (did : Reaction) (queue : List Item) → (done_by w x did queue).links ≡ w.links
-unfolding done_by
-done_same w x did queue = refl
-
 push_same : (w : World) (x : ℕ) (item : Item) → (push w x item).links ≡ w.links
-unfolding push
-push_same w x item = by (slice_get w.nodes x)
-  where
-    by : (o : Option Node) → (with_item w x o item).links ≡ w.links
-    by None = refl
-    by (Some n) = refl
-
-unless_same : (w : World) (x : ℕ) (full : Option Counter) (o : Outcome) → Same w o → Same w (unless_full x full o)
-unless_same w x (Some f) o same = refl
-unless_same w x None o same = same
-
-turn_same : (w : World) (x : ℕ) (core : Core) (queue : List Item) → Same w (turn_of w x core queue)
-turn_same w x core [] = refl
-turn_same w x core (item ∷ items) = unless_same w x (turn_full core (range w x) item) _ (done_same w x (turn core (range w x) item) items)
-
-send_same : (w : World) (x d : ℕ) (core : Core) (queue : List Item) → Same w (send_of w x d core queue)
-send_same w x d core queue =
-    if_case (Same w) (may_send core d) (unless_full x (send_full core (range w x) d) (Next (done_by w x (send core (range w x) d) queue) (Sent (send core (range w x) d).effect (copies w x ((send core (range w x) d).effect).cast)))) Idle
-    (λ _. unless_same w x (send_full core (range w x) d) _ (done_same w x (send core (range w x) d) queue)) (λ _. refl)
-
-ask_same : (w : World) (x d : ℕ) (core : Core) (queue : List Item) → Same w (ask_of w x d core queue)
-ask_same w x d core queue =
-    if_case (Same w) (may_ask core d) (unless_full x (ask_full core) (Next (done_by w x (ask core d) queue) (Sent (ask core d).effect (copies w x ((ask core d).effect).cast)))) Idle
-    (λ _. unless_same w x (ask_full core) _ (done_same w x (ask core d) queue)) (λ _. refl)
-
-node_case : (w : World) (f : Core → List Item → Outcome) (o : Option Node) → ((core : Core) (queue : List Item) → Same w (f core queue)) → Same w (at_node o f)
-node_case w f None some = refl
-node_case w f (Some n) some = some n.core n.queue
-
-copy_case : (w : World) (f : Copy → Outcome) (o : Option Copy) → ((c : Copy) → Same w (f c)) → Same w (at_copy o f)
-copy_case w f None some = refl
-copy_case w f (Some c) some = some c
+push_same w x item = ap (λ (v : World). v.links) (push_is w x item)
 
 same_links : (w : World) (e : Event) → KeepsLinks e → (after w (step w e)).links ≡ w.links
-unfolding step
-same_links w (Give x d b) keeps = node_case w (λ core queue. Next (push w x (New b d)) Changed) (slice_get w.nodes x) (λ core queue. push_same w x (New b d))
-same_links w (Turn x) keeps = node_case w (turn_of w x) (slice_get w.nodes x) (turn_same w x)
-same_links w (Send x d) keeps = node_case w (send_of w x d) (slice_get w.nodes x) (send_same w x d)
-same_links w (Ask x d) keeps = node_case w (ask_of w x d) (slice_get w.nodes x) (ask_same w x d)
-same_links w (Link a b) keeps = absurd keeps
-same_links w (Cut a b) keeps = absurd keeps
-same_links w (Deliver id) keeps = copy_case w (λ c. Next (push (without_copy w id) c.to (Heard c.from c.message)) (CopyHeard c.from c.to)) (find_copy w.flying id) (λ c. push_same (without_copy w id) c.to (Heard c.from c.message))
-same_links w (Lose id) keeps = copy_case w (λ c. Next (without_copy w id) (CopyLost c)) (find_copy w.flying id) (λ c. refl)
-same_links w (Double id) keeps = copy_case w (λ c. Next (with_double w c) (CopyDoubled w.next_copy c.to (is_parcel c.message))) (find_copy w.flying id) (λ c. refl)
+unfolding done_by
+same_links w e keeps = by_cases w (λ e o. KeepsLinks e → (after w o).links ≡ w.links) (record {
+  idle = λ e none keeps. refl;
+  full = λ e x n f is full keeps. refl;
+  given = λ x d b n is keeps. push_same w x (New b d);
+  taken = λ x core item items is free keeps. refl;
+  sent = λ x d n is may free keeps. refl;
+  asked = λ x d n is may free keeps. refl;
+  linked = λ a b apart keeps. absurd keeps;
+  cut = λ a b stands keeps. absurd keeps;
+  heard = λ id c is keeps. push_same (without_copy w id) c.to (Heard c.from c.message);
+  lost = λ id c is keeps. refl;
+  doubled = λ id c is keeps. refl;
+}) e keeps
 
 -- no event that is chosen does
 picked_keeps : (w : World) → OnSome KeepsLinks (pick w)

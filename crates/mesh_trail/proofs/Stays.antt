@@ -1,10 +1,8 @@
 -- What holds of lists in a world holds of them in a later one.
-use Rattle.std.proofs.Common.{◌≡◌, ℕ, true, List, [], ◌∷◌, ◌++◌, sym, ◌∙◌, subst}
-use Rattle.std.specs.List.{AllByRecursion}
-use Rattle.aodv_model.specs.Cores.{Heard, Item, Message, New, Pkt, Rerr, Rrep, Rreq, has_seen}
-use Rattle.aodv_model.specs.Handlers.{key_of}
+use Rattle.std.proofs.Common.{◌≡◌, ℕ, List, [], ◌∷◌, ◌++◌, sym, ◌∙◌, subst}
+use Rattle.aodv_model.specs.Cores.{Heard, Item, Message, New, Pkt, Rerr, Rrep, Rreq}
 use Rattle.aodv_model.specs.Tables.{Table}
-use Rattle.mesh_model.proofs.Lists.{each_map}
+use Rattle.mesh_model.proofs.TrailSteps.{keys_stay}
 use Rattle.mesh_model.proofs.TrailTables.{Later, trail_stays}
 use Rattle.mesh_model.specs.Trails.{Around}
 use Rattle.mesh_model.specs.Worlds.{Copy, Node}
@@ -23,8 +21,7 @@ message_stays a b later from (Rreq m) walk t = record {
   is = t.is;
   backed = trail_stays a b later m.oip m.osn (from ∷ t.others) t.backed;
   long = t.long;
-  keys = subst (λ v. AllByRecursion (λ z. has_seen (b.seen z) (key_of v m) ≡ true) (from ∷ t.others)) (sym later.variant)
-      (each_map (λ z. has_seen (a.seen z) (key_of a.variant m) ≡ true) (λ z. has_seen (b.seen z) (key_of a.variant m) ≡ true) (λ z e. later.seen z _ e) (from ∷ t.others) t.keys);
+  keys = keys_stay a b later m (from ∷ t.others) t.keys;
 }
 message_stays a b later from (Rrep m) walk t = record { others = t.others; is = t.is; backed = trail_stays a b later m.dip m.dsn (from ∷ t.others) t.backed; long = t.long }
 message_stays a b later from (Rerr dests) walk t = tt

@@ -6,32 +6,29 @@ use Rattle.std.proofs.lemmas.Bool.{eqb-true, eqb-false}
 use Rattle.std.proofs.lemmas.Bool.Decides.{nat_tests}
 use Rattle.std.proofs.lemmas.Option.{same_Some}
 use Rattle.std.specs.FinSet as sets
-use Rattle.aodv_model.proofs.Entries.{if_case}
-use Rattle.aodv_model.specs.Cores.{Body, Core, Heard, Item, Message, New, Pkt, Rerr, Rrep, Rreq, has_seen}
-use Rattle.aodv_model.specs.Fullness.{ask_full, send_full, turn_full}
-use Rattle.aodv_model.specs.Handlers.{All, Cast, Many, Nothing, One, Reaction, ask, key_of, may_ask, may_send, send, took, turn}
-use Rattle.mesh_base.specs.declared.events.Counter.{Counter}
+use Rattle.aodv_model.specs.Cores.{Body, Core, Heard, Item, Message, New, Pkt, Rerr, Rrep, Rreq}
+use Rattle.aodv_model.specs.Handlers.{All, Cast, Many, Nothing, One, Reaction, ask, send, turn}
 use Rattle.mesh_base.specs.declared.events.Variant.{Variant}
-use Rattle.mesh_model.proofs.Leads.{Grows}
+use Rattle.mesh_model.proofs.Cases.{ask_goes, by_cases, send_goes, turn_goes}
 use Rattle.mesh_model.proofs.Lists.{each_append, each_map, set_other, set_same}
 use Rattle.mesh_model.proofs.MeshSteps.{both_more, each_receiver, has_fewer, has_more, range_has}
-use Rattle.mesh_model.proofs.Steps.{Follows, fit, follows_of, found_honest, without_honest}
-use Rattle.mesh_model.proofs.TrailTables.{Later, trail_stays}
-use Rattle.mesh_model.proofs.TrailTurns.{Begins, IsHere, Traces, ask_traces, send_traces, turn_traces}
-use Rattle.mesh_model.proofs.Turns.{IsOk, ask_ok, send_ok, turn_ok}
-use Rattle.mesh_model.specs.Invariants.{AtLeast, IsInvariant, IsLoopSafe, IsLoopSafeNode}
+use Rattle.mesh_model.proofs.Steps.{fit, found_honest, without_honest}
+use Rattle.mesh_model.proofs.TrailTables.{Later}
+use Rattle.mesh_model.proofs.TrailTurns.{IsHere, Traces}
+use Rattle.mesh_model.proofs.Turns.{IsOk}
+use Rattle.mesh_model.specs.Invariants.{IsInvariant, IsLoopSafeNode}
 use Rattle.mesh_model.specs.InMesh.{AreNumbered}
-use Rattle.mesh_model.specs.Trails.{Around, EntriesHaveWalks, HasWalks, IsAbsent, IsBackedWalk, NodeHasWalks, around, front, seen_in}
+use Rattle.mesh_model.specs.Trails.{Around, HasWalks, around, seen_in}
 use Rattle.mesh_model.specs.Walks.{rt_in, table}
-use Rattle.mesh_model.specs.Worlds.{is_parcel, Ask, Changed, Copy, CopyDoubled, CopyHeard, CopyLost, Cut, Deliver, Double, Event, Give, Next, Idle, Link, Lose, Node, Outcome, Send, Sent, Taken, Turn, World, after, are_linked, ask_of, at_copy, at_node, copies, copies_of, copies_to, done_by, double_of, find_copy, members_below, pair, push, range, receivers, send_of, step, turn_of, unless_full, with_double, with_item, with_link, without_copy, without_link}
+use Rattle.mesh_model.specs.Worlds.{Ask, Copy, Event, Node, Outcome, Send, Turn, World, after, are_linked, copies, copies_of, copies_to, done_by, double_of, find_copy, members_below, pair, push, range, receivers, step, with_double, with_item, with_link, without_copy, without_link}
 use Rattle.mesh_trail.proofs.CastWalks.{CastHolds, IsSentBy, ask_holds, message_tells, new_holds, send_holds}
-use Rattle.mesh_trail.proofs.Listed.{entries_hold, has_walks, item_has, stays_hold}
+use Rattle.mesh_trail.proofs.Listed.{entries_hold, has_walks, stays_hold}
 use Rattle.mesh_trail.proofs.Stays.{copy_stays, entries_stay, items_more, items_stay, message_stays, node_stays}
 use Rattle.mesh_trail.proofs.Stems.{itself, message_stems, new_stays, parcel_stays, send_stays}
 use Rattle.mesh_trail.specs.Held.{CopyHolds, EntriesHold, Holds, ItemHolds, ItemsHold, MessageHolds, NodeHolds}
 use Rattle.mesh_trail.specs.Kept as kept
 use Rattle.mesh_trail.specs.Kept.{KeptLists, after_item, after_turn, changed_at, entries_after, first_list, from_id_on, own_list, sent_list, lists_after, walked_by, with_copies}
-use Rattle.mesh_model.proofs.TrailSteps.{trail_of, seen_later, later_of, here_of}
+use Rattle.mesh_model.proofs.TrailSteps.{IsTraced, ask_traced, here_of, later_of, later_same, own_keys, send_traced, trail_of, turn_traced}
 
 -- ---- the list of each id
 
@@ -61,7 +58,7 @@ pub copies_before : (w : World) (flying : ℕ → List ℕ) (list : Message → 
 unfolding copies
 copies_before w flying list x c q below = of_before flying list c (members_below (length w.nodes) (receivers (range w x) c)) w.next_copy x q below
 
-numbered_low : (low : ℕ) (cs : List Copy) (next : ℕ) → AreNumbered low cs next → low ≤ next
+pub numbered_low : (low : ℕ) (cs : List Copy) (next : ℕ) → AreNumbered low cs next → low ≤ next
 numbered_low low [] next all = all
 numbered_low low (c ∷ cs) next all = let later = numbered_low (c.id + 1) cs next all.1 in let l = all.0 in omega arith
 
@@ -88,10 +85,7 @@ sent_holds a b core x (Rreq m) walk later ip rt seen s = record {
   is = s.is ∙ ap (λ k. k ∷ s.others) ip;
   backed = trail_of a b core x m.oip m.osn s.others later ip rt s.begins;
   long = s.long;
-  keys = subst (λ v. AllByRecursion (λ z. has_seen (b.seen z) (key_of v m) ≡ true) (x ∷ s.others)) (sym later.variant) (
-    ap (λ k. sets.contains k (key_of a.variant m)) seen ∙ s.own,
-    each_map (λ z. has_seen (a.seen z) (key_of a.variant m) ≡ true) (λ z. has_seen (b.seen z) (key_of a.variant m) ≡ true) (λ z e. later.seen z _ e) s.others s.keys,
-  );
+  keys = own_keys a b core x m s.others later seen s.own s.keys;
 }
 sent_holds a b core x (Rrep m) walk later ip rt seen s = record { others = s.others; is = s.is ∙ ap (λ k. k ∷ s.others) ip; backed = trail_of a b core x m.dip m.dsn s.others later ip rt s.begins; long = s.long }
 sent_holds a b core x (Rerr dests) walk later ip rt seen s = tt
@@ -148,11 +142,13 @@ node_holds v w w' x old new k k' holds is nodes links ever later same mine flyin
         (subst (λ ls. NodeHolds (around v w') y n (k.entries y) ls) (sym (same.queues y p.0))
         (node_stays (around v w) (around v w') later y n (k.entries y) (k.queues y) (holds.nodes y n p.1)))
 
-done_holds : (v : Variant) (w : World) (x : ℕ) (n : Node) (did : Reaction) (queue : List Item) (list : Message → List ℕ) (k k' : KeptLists) → IsInvariant w → Holds v w k → slice_get w.nodes x ≡ Some n → IsOk (table w) n.core did → Traces (around v w) n.core did → SameElsewhere x k k'
+done_holds : (v : Variant) (w : World) (x : ℕ) (n : Node) (did : Reaction) (queue : List Item) (list : Message → List ℕ) (k k' : KeptLists) → IsInvariant w → Holds v w k → slice_get w.nodes x ≡ Some n → IsTraced v w n.core did → SameElsewhere x k k'
     → EntriesHold (around v w) x (did.core).rt (k'.entries x) → ItemsHold (around v w) x queue (k'.queues x) → CastHolds (around v w) did.core list (did.effect).cast → k'.flying ≡ with_copies k.flying list (copies w x (did.effect).cast)
     → Holds v (done_by w x did queue) k'
 unfolding done_by
-done_holds v w x n did queue list k k' inv holds is ok traces same entries items cast flying =
+done_holds v w x n did queue list k k' inv holds is traced same entries items cast flying =
+    let ok : IsOk (table w) n.core did = traced.ok in
+    let traces : Traces (around v w) n.core did = traced.traces in
     let new : Node = record { core = did.core; queue = queue } in
     let w' : World = done_by w x did queue in
     let named : (n.core).ip ≡ x = inv.loop_safe.named x n is in
@@ -192,29 +188,6 @@ first_holds : (a : Around) (x : ℕ) (item : Item) (items : List Item) (walks : 
 first_holds a x item items [] t = absurd t
 first_holds a x item items (walk ∷ walks) t = (t.0, t.1)
 
--- what the turn of an item keeps, known already
-record Known (v : Variant) (w : World) (n : Node) (item : Item) : Type 0 where
-  good : IsLoopSafeNode (table w) n
-  trails : HasWalks v w
-  here : IsHere (around v w) n.core
-  ok : IsOk (table w) n.core (turn n.core (range w (n.core).ip) item)
-  traces : Traces (around v w) n.core (turn n.core (range w (n.core).ip) item)
-
-known : (v : Variant) (w : World) (core : Core) (item : Item) (items : List Item) (k : KeptLists) → IsInvariant w → Holds v w k → slice_get w.nodes core.ip ≡ Some (record { core = core; queue = item ∷ items }) → ItemHolds (around v w) core.ip item (first_list (k.queues core.ip))
-    → Known v w (record { core = core; queue = item ∷ items }) item
-known v w core item items k inv holds is t =
-    let n : Node = record { core = core; queue = item ∷ items } in
-    let good : IsLoopSafeNode (table w) n = inv.loop_safe.nodes core.ip n is in
-    let trails : HasWalks v w = has_walks v w k holds in
-    let here : IsHere (around v w) core = here_of v w core.ip n inv.loop_safe trails is in
-    record {
-      good = good;
-      trails = trails;
-      here = here;
-      ok = turn_ok (table w) core (range w core.ip) item (fit (table w) n good) good.queue.0;
-      traces = turn_traces (table w) (around v w) core (range w core.ip) item (fit (table w) n good) here good.queue.0 (item_has (around v w) core.ip item (first_list (k.queues core.ip)) t);
-    }
-
 abbrev ItemKeeps : Variant → World → Core → Item → List Item → KeptLists → Type 0
 ItemKeeps v w core item items k =
     let did = turn core (range w core.ip) item in Holds v (done_by w core.ip did items) (after_item core.ip (did.core).rt item (copies w core.ip (did.effect).cast) k)
@@ -227,9 +200,9 @@ new_keeps v w core b d items k inv holds is =
     let did : Reaction = turn core (range w x) item in
     let p : NodeHolds (around v w) x n (k.entries x) (k.queues x) = holds.nodes x n is in
     let both = first_holds (around v w) x item items (k.queues x) p.queue in
-    let has : Known v w n item = known v w core item items k inv holds is both.0 in
+    let traced : IsTraced v w core did = turn_traced v w x core item items inv.loop_safe (has_walks v w k holds) is in
     let k' : KeptLists = after_item x (did.core).rt item (copies w x (did.effect).cast) k in
-    done_holds v w x n did items (own_list x) k k' inv holds is has.ok has.traces
+    done_holds v w x n did items (own_list x) k k' inv holds is traced
     (record { entries = λ y apart. refl; queues = λ y apart. elsewhere k.queues x (drop 1 (k.queues x)) y apart })
     (stays_hold (around v w) x core.rt (did.core).rt (k.entries x) (new_stays core b d) p.entries)
     (subst (ItemsHold (around v w) x items) (sym (here_changed k.queues x (drop 1 (k.queues x)))) both.1)
@@ -244,97 +217,68 @@ heard_keeps v w core y m items k inv holds is =
     let did : Reaction = turn core (range w x) item in
     let p : NodeHolds a x n (k.entries x) (k.queues x) = holds.nodes x n is in
     let both = first_holds a x item items (k.queues x) p.queue in
-    let has : Known v w n item = known v w core item items k inv holds is both.0 in
+    let traced : IsTraced v w core did = turn_traced v w x core item items inv.loop_safe (has_walks v w k holds) is in
     let l : List ℕ = first_list (k.queues x) in
     let walks : ℕ → List ℕ = entries_after x y m l (did.core).rt (k.entries x) in
     let k' : KeptLists = after_item x (did.core).rt item (copies w x (did.effect).cast) k in
+    let good : IsLoopSafeNode (table w) n = inv.loop_safe.nodes x n is in
+    let here : IsHere a core = here_of v w x n inv.loop_safe (has_walks v w k holds) is in
     let all : EntriesHold a x (did.core).rt walks =
     entries_hold a x y (table w y) m l core.rt (did.core).rt (k.entries x) (parcel_stays core (range w x) y m) (message_stems core (range w x) y m) p.entries
-    (λ d j g one at. has.ok.leads.grows.keeps d j g one (has.here.tables d j g one at)) has.good.queue.0 both.0.0 both.0.1 in
-    done_holds v w x n did items (sent_list x walks m l) k k' inv holds is has.ok has.traces
+    (λ d j g one at. traced.ok.leads.grows.keeps d j g one (here.tables d j g one at)) good.queue.0 both.0.0 both.0.1 in
+    done_holds v w x n did items (sent_list x walks m l) k k' inv holds is traced
     (record { entries = λ y apart. elsewhere k.entries x walks y apart; queues = λ y apart. elsewhere k.queues x (drop 1 (k.queues x)) y apart })
     (subst (EntriesHold a x (did.core).rt) (sym (here_changed k.entries x walks)) all)
     (subst (ItemsHold a x items) (sym (here_changed k.queues x (drop 1 (k.queues x)))) both.1)
-    (message_tells (table w) a y m l (k.entries x) core (range w x) (fit (table w) n has.good) has.here has.good.queue.0 both.0.0 both.0.1 all) refl
+    (message_tells (table w) a y m l (k.entries x) core (range w x) (fit (table w) n good) here good.queue.0 both.0.0 both.0.1 all) refl
 
 item_keeps : (v : Variant) (w : World) (core : Core) (item : Item) (items : List Item) (k : KeptLists) → IsInvariant w → Holds v w k → slice_get w.nodes core.ip ≡ Some (record { core = core; queue = item ∷ items }) → ItemKeeps v w core item items k
 item_keeps v w core (New b d) items k inv holds is = new_keeps v w core b d items k inv holds is
 item_keeps v w core (Heard y m) items k inv holds is = heard_keeps v w core y m items k inv holds is
 
-unless_keeps : (v : Variant) (w : World) (e : Event) (k : KeptLists) (x : ℕ) (o : Option Counter) (outcome : Outcome) → Holds v w k → Keeps v w e k outcome → Keeps v w e k (unless_full x o outcome)
-unless_keeps v w e k x (Some f) outcome holds kept = holds
-unless_keeps v w e k x None outcome holds kept = kept
-
 mine_after : (w : World) (x : ℕ) (n : Node) (did : Reaction) (queue : List Item) → slice_get w.nodes x ≡ Some n → table (done_by w x did queue) x ≡ (did.core).rt
 unfolding done_by
 mine_after w x n did queue is = ap rt_in (set_same w.nodes x (record { core = did.core; queue = queue }) n is)
 
-turn_at : (v : Variant) (w : World) (core : Core) (queue : List Item) (k : KeptLists) → IsInvariant w → Holds v w k → slice_get w.nodes core.ip ≡ Some (record { core = core; queue = queue }) → Keeps v w (Turn core.ip) k (turn_of w core.ip core queue)
-turn_at v w core [] k inv holds is = holds
-turn_at v w core (item ∷ items) k inv holds is =
+turn_at : (v : Variant) (w : World) (core : Core) (item : Item) (items : List Item) (k : KeptLists) → IsInvariant w → Holds v w k → slice_get w.nodes core.ip ≡ Some (record { core = core; queue = item ∷ items }) → Keeps v w (Turn core.ip) k (turn_goes w core.ip core item items)
+turn_at v w core item items k inv holds is =
     let x = core.ip in
     let n : Node = record { core = core; queue = item ∷ items } in
     let did : Reaction = turn core (range w x) item in
     let w' : World = done_by w x did items in
     let new : List Copy = copies w x (did.effect).cast in
-    unless_keeps v w (Turn x) k x (turn_full core (range w x) item) (Next w' (Taken (took core item) did.effect new)) holds
-    (subst (λ o. Holds v w' (after_turn x (table w' x) o new k)) (sym is)
-    (subst (λ rt. Holds v w' (after_item x rt item new k)) (sym (mine_after w x n did items is)) (item_keeps v w core item items k inv holds is)))
-
--- at the node of that index
-turn_keeps : (v : Variant) (w : World) (x : ℕ) (n : Node) (k : KeptLists) → IsInvariant w → Holds v w k → slice_get w.nodes x ≡ Some n → Keeps v w (Turn x) k (turn_of w x n.core n.queue)
-turn_keeps v w x n k inv holds is =
-    subst (λ x. slice_get w.nodes x ≡ Some n → Keeps v w (Turn x) k (turn_of w x n.core n.queue)) (inv.loop_safe.named x n is) (turn_at v w n.core n.queue k inv holds) is
+    subst (λ o. Holds v w' (after_turn x (table w' x) o new k)) (sym is)
+    (subst (λ rt. Holds v w' (after_item x rt item new k)) (sym (mine_after w x n did items is)) (item_keeps v w core item items k inv holds is))
 
 -- ---- of a node's own accord
 
-own_keeps : (v : Variant) (w : World) (n : Node) (did : Reaction) (k : KeptLists) → IsInvariant w → Holds v w k → slice_get w.nodes (n.core).ip ≡ Some n → IsOk (table w) n.core did → Traces (around v w) n.core did
+own_keeps : (v : Variant) (w : World) (n : Node) (did : Reaction) (k : KeptLists) → IsInvariant w → Holds v w k → slice_get w.nodes (n.core).ip ≡ Some n → IsTraced v w n.core did
     → EntriesHold (around v w) (n.core).ip (did.core).rt (k.entries (n.core).ip) → CastHolds (around v w) did.core (own_list (n.core).ip) (did.effect).cast
     → Holds v (done_by w (n.core).ip did n.queue) (record k { flying = with_copies k.flying (own_list (n.core).ip) (copies w (n.core).ip (did.effect).cast) })
-own_keeps v w n did k inv holds is ok traces entries cast =
+own_keeps v w n did k inv holds is traced entries cast =
     let x = (n.core).ip in
-    done_holds v w x n did n.queue (own_list x) k (record k { flying = with_copies k.flying (own_list x) (copies w x (did.effect).cast) }) inv holds is ok traces
+    done_holds v w x n did n.queue (own_list x) k (record k { flying = with_copies k.flying (own_list x) (copies w x (did.effect).cast) }) inv holds is traced
     (record { entries = λ y apart. refl; queues = λ y apart. refl }) entries (holds.nodes x n is).queue cast refl
 
-send_at : (v : Variant) (w : World) (n : Node) (d : ℕ) (k : KeptLists) → IsInvariant w → Holds v w k → slice_get w.nodes (n.core).ip ≡ Some n → Keeps v w (Send (n.core).ip d) k (send_of w (n.core).ip d n.core n.queue)
+send_at : (v : Variant) (w : World) (n : Node) (d : ℕ) (k : KeptLists) → IsInvariant w → Holds v w k → slice_get w.nodes (n.core).ip ≡ Some n → Keeps v w (Send (n.core).ip d) k (send_goes w (n.core).ip d n)
 send_at v w n d k inv holds is =
     let x = (n.core).ip in
-    let good : IsLoopSafeNode (table w) n = inv.loop_safe.nodes x n is in
-    let here : IsHere (around v w) n.core = here_of v w x n inv.loop_safe (has_walks v w k holds) is in
     let did : Reaction = send n.core (range w x) d in
-    let goes : Outcome = Next (done_by w x did n.queue) (Sent did.effect (copies w x (did.effect).cast)) in
-    if_case (Keeps v w (Send x d) k) (may_send n.core d) (unless_full x (send_full n.core (range w x) d) goes) Idle
-    (λ _. unless_keeps v w (Send x d) k x (send_full n.core (range w x) d) goes holds
-    (own_keeps v w n did k inv holds is (send_ok (table w) n.core (range w x) d (fit (table w) n good)) (send_traces (around v w) n.core (range w x) d here)
+    own_keeps v w n did k inv holds is (send_traced v w x d n inv.loop_safe (has_walks v w k holds) is)
     (stays_hold (around v w) x (n.core).rt (did.core).rt (k.entries x) (send_stays n.core (range w x) d) (holds.nodes x n is).entries)
-    (send_holds (around v w) (own_list x) n.core (range w x) d)))
-    (λ _. holds)
+    (send_holds (around v w) (own_list x) n.core (range w x) d)
 
 asked_entries : (a : Around) (x : ℕ) (core : Core) (d : ℕ) (walks : ℕ → List ℕ) → EntriesHold a x core.rt walks → EntriesHold a x ((ask core d).core).rt walks
 unfolding ask
 asked_entries a x core d walks all = all
 
-ask_at : (v : Variant) (w : World) (n : Node) (d : ℕ) (k : KeptLists) → IsInvariant w → Holds v w k → slice_get w.nodes (n.core).ip ≡ Some n → Keeps v w (Ask (n.core).ip d) k (ask_of w (n.core).ip d n.core n.queue)
+ask_at : (v : Variant) (w : World) (n : Node) (d : ℕ) (k : KeptLists) → IsInvariant w → Holds v w k → slice_get w.nodes (n.core).ip ≡ Some n → Keeps v w (Ask (n.core).ip d) k (ask_goes w (n.core).ip d n)
 ask_at v w n d k inv holds is =
     let x = (n.core).ip in
-    let good : IsLoopSafeNode (table w) n = inv.loop_safe.nodes x n is in
-    let here : IsHere (around v w) n.core = here_of v w x n inv.loop_safe (has_walks v w k holds) is in
-    let did : Reaction = ask n.core d in
-    let goes : Outcome = Next (done_by w x did n.queue) (Sent did.effect (copies w x (did.effect).cast)) in
-    if_case (Keeps v w (Ask x d) k) (may_ask n.core d) (unless_full x (ask_full n.core) goes) Idle
-    (λ _. unless_keeps v w (Ask x d) k x (ask_full n.core) goes holds
-    (own_keeps v w n did k inv holds is (ask_ok (table w) n.core d (fit (table w) n good)) (ask_traces (around v w) n.core d here)
+    let trails : HasWalks v w = has_walks v w k holds in
+    own_keeps v w n (ask n.core d) k inv holds is (ask_traced v w x d n inv.loop_safe trails is)
     (asked_entries (around v w) x n.core d (k.entries x) (holds.nodes x n is).entries)
-    (ask_holds (around v w) n.core d here)))
-    (λ _. holds)
-
-send_keeps : (v : Variant) (w : World) (x d : ℕ) (n : Node) (k : KeptLists) → IsInvariant w → Holds v w k → slice_get w.nodes x ≡ Some n → Keeps v w (Send x d) k (send_of w x d n.core n.queue)
-send_keeps v w x d n k inv holds is =
-    subst (λ x. slice_get w.nodes x ≡ Some n → Keeps v w (Send x d) k (send_of w x d n.core n.queue)) (inv.loop_safe.named x n is) (send_at v w n d k inv holds) is
-
-ask_keeps : (v : Variant) (w : World) (x d : ℕ) (n : Node) (k : KeptLists) → IsInvariant w → Holds v w k → slice_get w.nodes x ≡ Some n → Keeps v w (Ask x d) k (ask_of w x d n.core n.queue)
-ask_keeps v w x d n k inv holds is =
-    subst (λ x. slice_get w.nodes x ≡ Some n → Keeps v w (Ask x d) k (ask_of w x d n.core n.queue)) (inv.loop_safe.named x n is) (ask_at v w n d k inv holds) is
+    (ask_holds (around v w) n.core d (here_of v w x n inv.loop_safe trails is))
 
 -- ---- what leaves tables alone
 
@@ -342,12 +286,7 @@ ask_keeps v w x d n k inv holds is =
 same_holds : (v : Variant) (w w' : World) (k k' : KeptLists) → w'.nodes ≡ w.nodes → ((p : ℕ × ℕ) → sets.contains w.ever p ≡ true → sets.contains w'.ever p ≡ true) → Holds v w k → k'.entries ≡ k.entries → k'.queues ≡ k.queues
     → (Later (around v w) (around v w') → AllByRecursion (CopyHolds (around v w') k'.flying) w'.flying) → ((p : ℕ × ℕ) → sets.contains w'.links p ≡ true → sets.contains w'.ever p ≡ true) → Holds v w' k'
 same_holds v w w' k k' nodes ever holds entries queues flying stood =
-    let later : Later (around v w) (around v w') = record {
-      variant = refl;
-      keeps = λ x d n h one at. subst (λ ns. AtLeast (rt_in (slice_get ns x)) d n h) (sym nodes) at;
-      seen = λ x key has. subst (λ ns. has_seen (seen_in (slice_get ns x)) key ≡ true) (sym nodes) has;
-      ever = ever;
-    } in
+    let later : Later (around v w) (around v w') = later_same v w w' nodes ever in
     record {
       nodes = λ x n found. subst (λ f. NodeHolds (around v w') x n (f x) (k'.queues x)) (sym entries) (subst (λ ls. NodeHolds (around v w') x n (k.entries x) (ls x)) (sym queues)
           (node_stays (around v w) (around v w') later x n (k.entries x) (k.queues x) (holds.nodes x n (subst (λ ns. slice_get ns x ≡ Some n) nodes found))));
@@ -387,15 +326,7 @@ push_holds : (v : Variant) (w : World) (x : ℕ) (item : Item) (walk : List ℕ)
 unfolding push
 push_holds v w x item walk k holds t = item_joins v w x (slice_get w.nodes x) item walk k holds refl t
 
--- ---- outcomes
-
-node_case : (v : Variant) (w : World) (e : Event) (k : KeptLists) (f : Core → List Item → Outcome) (o : Option Node) → Holds v w k → ((n : Node) → o ≡ Some n → Keeps v w e k (f n.core n.queue)) → Keeps v w e k (at_node o f)
-node_case v w e k f None holds some = holds
-node_case v w e k f (Some n) holds some = some n refl
-
-copy_case : (v : Variant) (w : World) (e : Event) (k : KeptLists) (f : Copy → Outcome) (o : Option Copy) → Holds v w k → ((c : Copy) → o ≡ Some c → Keeps v w e k (f c)) → Keeps v w e k (at_copy o f)
-copy_case v w e k f None holds some = holds
-copy_case v w e k f (Some c) holds some = some c refl
+-- ---- steps
 
 lighter : (v : Variant) (w : World) (id : ℕ) (k : KeptLists) → Holds v w k → Holds v (without_copy w id) k
 lighter v w id k holds = same_holds v w (without_copy w id) k k refl (λ p e. e) holds refl refl (λ _. without_honest (CopyHolds (around v w) k.flying) w.flying id holds.flying) holds.stood
@@ -409,42 +340,37 @@ found_id (d ∷ ds) id c is = at (d.id == id) refl is (found_id ds id c)
     at true same is later = ap (λ (e : Copy). e.id) (sym (same_Some d c is)) ∙ eqb-true d.id id same
     at false other is later = later is
 
-step_by : (v : Variant) (w : World) (e : Event) (k : KeptLists) → IsInvariant w → Holds v w k → Keeps v w e k (step w e)
-unfolding step
-step_by v w (Give x d b) k inv holds = node_case v w (Give x d b) k (λ core queue. Next (push w x (New b d)) Changed) (slice_get w.nodes x) holds (λ n is. push_holds v w x (New b d) [] k holds tt)
-step_by v w (Turn x) k inv holds = node_case v w (Turn x) k (turn_of w x) (slice_get w.nodes x) holds (λ n is. turn_keeps v w x n k inv holds is)
-step_by v w (Send x d) k inv holds = node_case v w (Send x d) k (send_of w x d) (slice_get w.nodes x) holds (λ n is. send_keeps v w x d n k inv holds is)
-step_by v w (Ask x d) k inv holds = node_case v w (Ask x d) k (ask_of w x d) (slice_get w.nodes x) holds (λ n is. ask_keeps v w x d n k inv holds is)
-step_by v w (Link a b) k inv holds =
-    if_case (Keeps v w (Link a b) k) (are_linked w.links a b) Idle (Next (with_link w a b) Changed) (λ _. holds)
-    (λ _. same_holds v w (with_link w a b) k k refl (λ p e. has_more w.ever (pair a b) p e) holds refl refl (λ later. same_flying v w (around v (with_link w a b)) k.flying later holds.flying) (λ p e. both_more w.links w.ever (pair a b) p (holds.stood p) e))
-step_by v w (Cut a b) k inv holds =
-    if_case (Keeps v w (Cut a b) k) (are_linked w.links a b) (Next (without_link w a b) Changed) Idle
-    (λ _. same_holds v w (without_link w a b) k k refl (λ p e. e) holds refl refl (λ _. holds.flying) (λ p e. holds.stood p (has_fewer w.links (pair a b) p e)))
-    (λ _. holds)
-step_by v w (Deliver id) k inv holds =
-    copy_case v w (Deliver id) k (λ c. Next (push (without_copy w id) c.to (Heard c.from c.message)) (CopyHeard c.from c.to)) (find_copy w.flying id) holds
-    (λ c is. push_holds v (without_copy w id) c.to (Heard c.from c.message) (k.flying id) k (lighter v w id k holds)
-    (let t : CopyHolds (around v w) k.flying c = found_honest (CopyHolds (around v w) k.flying) w.flying id c holds.flying is in
-    (t.0, subst (λ q. MessageHolds (around v w) c.from c.message (k.flying q)) (found_id w.flying id c is) t.1)))
-step_by v w (Lose id) k inv holds = copy_case v w (Lose id) k (λ c. Next (without_copy w id) (CopyLost c)) (find_copy w.flying id) holds (λ c is. lighter v w id k holds)
-step_by v w (Double id) k inv holds =
-    copy_case v w (Double id) k (λ c. Next (with_double w c) (CopyDoubled w.next_copy c.to (is_parcel c.message))) (find_copy w.flying id) holds
-    (λ c is.
-    let t : CopyHolds (around v w) k.flying c = found_honest (CopyHolds (around v w) k.flying) w.flying id c holds.flying is in
-    let now : ℕ → List ℕ = from_id_on k.flying w.next_copy (k.flying id) in
-    same_holds v w (with_double w c) k (record k { flying = now }) refl (λ p e. e) holds refl refl
-    (λ later. each_append (CopyHolds (around v (with_double w c)) now) w.flying (double_of w c ∷ [])
-    (flying_stays v w (around v (with_double w c)) k.flying now later inv.in_mesh.numbered (λ q below. id_before k.flying w.next_copy (k.flying id) q below) holds.flying) (
-      (
-        t.0,
-        subst (MessageHolds (around v (with_double w c)) c.from c.message) (sym (id_after k.flying w.next_copy (k.flying id) w.next_copy (omega arith)))
-            (message_stays (around v w) (around v (with_double w c)) later c.from c.message (k.flying id) (subst (λ q. MessageHolds (around v w) c.from c.message (k.flying q)) (found_id w.flying id c is) t.1)),
-      ),
-      tt,
-    ))
-    holds.stood)
-
 pub step_holds : (v : Variant) (w : World) (e : Event) (k : KeptLists) → IsInvariant w → Holds v w k → Holds v (after w (step w e)) (lists_after w e k)
 unfolding lists_after
-step_holds v w e k inv holds = step_by v w e k inv holds
+step_holds v w e k inv holds = by_cases w (λ e o. Keeps v w e k o) (record {
+  idle = λ e none. holds;
+  full = λ e x n f is full. holds;
+  given = λ x d b n is. push_holds v w x (New b d) [] k holds tt;
+  taken = λ x core item items is free.
+      let n : Node = record { core = core; queue = item ∷ items } in
+      subst (λ x. slice_get w.nodes x ≡ Some n → Keeps v w (Turn x) k (turn_goes w x core item items)) (inv.loop_safe.named x n is) (turn_at v w core item items k inv holds) is;
+  sent = λ x d n is may free. subst (λ x. slice_get w.nodes x ≡ Some n → Keeps v w (Send x d) k (send_goes w x d n)) (inv.loop_safe.named x n is) (send_at v w n d k inv holds) is;
+  asked = λ x d n is may free. subst (λ x. slice_get w.nodes x ≡ Some n → Keeps v w (Ask x d) k (ask_goes w x d n)) (inv.loop_safe.named x n is) (ask_at v w n d k inv holds) is;
+  linked = λ a b apart. same_holds v w (with_link w a b) k k refl (λ p e. has_more w.ever (pair a b) p e) holds refl refl
+      (λ later. same_flying v w (around v (with_link w a b)) k.flying later holds.flying) (λ p e. both_more w.links w.ever (pair a b) p (holds.stood p) e);
+  cut = λ a b stands. same_holds v w (without_link w a b) k k refl (λ p e. e) holds refl refl (λ _. holds.flying) (λ p e. holds.stood p (has_fewer w.links (pair a b) p e));
+  heard = λ id c is.
+      let t : CopyHolds (around v w) k.flying c = found_honest (CopyHolds (around v w) k.flying) w.flying id c holds.flying is in
+      push_holds v (without_copy w id) c.to (Heard c.from c.message) (k.flying id) k (lighter v w id k holds)
+      (t.0, subst (λ q. MessageHolds (around v w) c.from c.message (k.flying q)) (found_id w.flying id c is) t.1);
+  lost = λ id c is. lighter v w id k holds;
+  doubled = λ id c is.
+      let t : CopyHolds (around v w) k.flying c = found_honest (CopyHolds (around v w) k.flying) w.flying id c holds.flying is in
+      let now : ℕ → List ℕ = from_id_on k.flying w.next_copy (k.flying id) in
+      same_holds v w (with_double w c) k (record k { flying = now }) refl (λ p e. e) holds refl refl
+      (λ later. each_append (CopyHolds (around v (with_double w c)) now) w.flying (double_of w c ∷ [])
+      (flying_stays v w (around v (with_double w c)) k.flying now later inv.in_mesh.numbered (λ q below. id_before k.flying w.next_copy (k.flying id) q below) holds.flying) (
+        (
+          t.0,
+          subst (MessageHolds (around v (with_double w c)) c.from c.message) (sym (id_after k.flying w.next_copy (k.flying id) w.next_copy (omega arith)))
+              (message_stays (around v w) (around v (with_double w c)) later c.from c.message (k.flying id) (subst (λ q. MessageHolds (around v w) c.from c.message (k.flying q)) (found_id w.flying id c is) t.1)),
+        ),
+        tt,
+      ))
+      holds.stood;
+}) e

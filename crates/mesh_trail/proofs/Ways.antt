@@ -1,14 +1,15 @@
 -- What an event does to the copies in flight and to the number of the next.
-use Rattle.std.proofs.Common.{◌≡◌, ℕ, ◌+◌, ◌<◌, ◌≤◌, List, [], ◌∷◌, ◌++◌, length, Option, Some, None, refl, arith}
-use Rattle.std.specs.Prelude.{slice_get, ⊤}
+use Rattle.std.proofs.Common.{◌≡◌, ℕ, ◌+◌, ◌<◌, ◌≤◌, List, [], ◌∷◌, ◌++◌, length, refl, ap, sym, subst, ◌∙◌, arith}
+use Rattle.std.specs.Prelude.{⊤}
 use Rattle.std.specs.List.{AllByRecursion}
-use Rattle.mesh_base.specs.declared.events.Counter.{Counter}
-use Rattle.aodv_model.proofs.Entries.{if_case}
-use Rattle.aodv_model.specs.Cores.{Core, Item, New, Heard, Message}
-use Rattle.aodv_model.specs.Fullness.{ask_full, send_full, turn_full}
-use Rattle.aodv_model.specs.Handlers.{All, Cast, Many, Nothing, One, Reaction, ask, may_ask, may_send, send, turn}
+use Rattle.aodv_model.specs.Cores.{Item, New, Heard, Message}
+use Rattle.aodv_model.specs.Handlers.{All, Cast, Many, Nothing, One, Reaction, ask, send, turn}
+use Rattle.mesh_model.proofs.Cases.{by_cases, copy_case, push_is}
+use Rattle.mesh_model.proofs.MeshSteps.{copies_numbered}
+use Rattle.mesh_model.specs.InMesh.{AreNumbered}
 use Rattle.mesh_model.proofs.Lists.{each_append, each_filter}
-use Rattle.mesh_model.specs.Worlds.{is_parcel, Ask, Changed, Copy, CopyDoubled, CopyHeard, CopyLost, Cut, Deliver, Double, Event, Give, Full, Next, Idle, Link, Lose, Node, Outcome, Send, Sent, Turn, World, after, are_linked, ask_of, at_copy, at_node, copies, copies_of, copies_to, done_by, double_of, find_copy, members_below, push, range, receivers, run, send_of, step, turn_of, unless_full, with_double, with_item, with_link, without, without_copy, without_link}
+use Rattle.mesh_model.specs.Worlds.{is_parcel, Copy, CopyDoubled, Cut, Deliver, Double, Event, Give, Full, Next, Idle, Link, Lose, Outcome, World, after, copies, copies_of, copies_to, done_by, double_of, find_copy, members_below, push, range, receivers, run, step, with_double, without, without_copy}
+use Rattle.mesh_trail.proofs.Steps.{numbered_low}
 use Rattle.mesh_trail.specs.Kept.{KeptLists, after_doubling, copies_in, from_id_on}
 
 -- ---- the ids of copies
@@ -31,21 +32,12 @@ copies_start : (w : World) (x : ℕ) (c : Cast) → StartsAt w.next_copy (copies
 unfolding copies
 copies_start w x c = of_start c (members_below (length w.nodes) (receivers (range w x) c)) w.next_copy x
 
-to_each : (P : Copy → Type 0) (tos : List ℕ) (id x : ℕ) (m : Message) (stop : ℕ) → id + length (copies_to tos id x m) ≤ stop → ((c : Copy) → id ≤ c.id → c.id < stop → P c) → AllByRecursion P (copies_to tos id x m)
-to_each P [] id x m stop le all = tt
-to_each P (to ∷ tos) id x m stop le all =
-    let l : id < stop = omega arith in
-    (all (record { id = id; from = x; to = to; message = m }) (omega arith) l, to_each P tos (id + 1) x m stop (omega arith) (λ c from before. all c (omega arith) before))
-
-of_each : (P : Copy → Type 0) (c : Cast) (tos : List ℕ) (id x stop : ℕ) → id + length (copies_of c tos id x) ≤ stop → ((d : Copy) → id ≤ d.id → d.id < stop → P d) → AllByRecursion P (copies_of c tos id x)
-of_each P Nothing tos id x stop le all = tt
-of_each P (One y m) tos id x stop le all = to_each P tos id x m stop le all
-of_each P (Many s m) tos id x stop le all = to_each P tos id x m stop le all
-of_each P (All m) tos id x stop le all = to_each P tos id x m stop le all
-
-copies_each : (P : Copy → Type 0) (w : World) (x : ℕ) (c : Cast) (stop : ℕ) → w.next_copy + length (copies w x c) ≤ stop → ((d : Copy) → w.next_copy ≤ d.id → d.id < stop → P d) → AllByRecursion P (copies w x c)
-unfolding copies
-copies_each P w x c stop le all = of_each P c (members_below (length w.nodes) (receivers (range w x) c)) w.next_copy x stop le all
+numbered_each : (P : Copy → Type 0) (low next : ℕ) (cs : List Copy) → AreNumbered low cs next → ((c : Copy) → low ≤ c.id → c.id < next → P c) → AllByRecursion P cs
+numbered_each P low next [] all each = tt
+numbered_each P low next (c ∷ cs) all each =
+    let end = numbered_low (c.id + 1) cs next all.1 in
+    let start = all.0 in
+    (each c all.0 (omega arith), numbered_each P (c.id + 1) next cs all.1 (λ d from before. each d (omega arith) before))
 
 -- ---- the copies that an event makes, and the number of the next
 
@@ -54,66 +46,31 @@ MakesIn w Idle = ⊤
 MakesIn w (Full x f) = ⊤
 MakesIn w (Next w' h) = (w'.next_copy ≡ w.next_copy + length (copies_in h)) × StartsAt w.next_copy (copies_in h)
 
-unless_makes : (w : World) (x : ℕ) (o : Option Counter) (out : Outcome) → MakesIn w out → MakesIn w (unless_full x o out)
-unless_makes w x (Some f) out made = tt
-unless_makes w x None out made = made
-
-done_next : (w : World) (x : ℕ) (did : Reaction) (queue : List Item) → (done_by w x did queue).next_copy ≡ w.next_copy + length (copies w x (did.effect).cast)
-unfolding done_by
-done_next w x did queue = refl
-
 none_more : (n : ℕ) → n ≡ n + 0
 none_more n = omega arith
 
-push_next : (w : World) (x : ℕ) (item : Item) → (push w x item).next_copy ≡ w.next_copy + 0
-unfolding push
-push_next w x item = by (slice_get w.nodes x)
-  where
-    by : (o : Option Node) → (with_item w x o item).next_copy ≡ w.next_copy + 0
-    by None = none_more w.next_copy
-    by (Some n) = none_more w.next_copy
-
-turn_makes : (w : World) (x : ℕ) (core : Core) (queue : List Item) → MakesIn w (turn_of w x core queue)
-turn_makes w x core [] = tt
-turn_makes w x core (item ∷ items) =
-    let did = turn core (range w x) item in
-    unless_makes w x (turn_full core (range w x) item) _ (done_next w x did items, copies_start w x (did.effect).cast)
-
-send_makes : (w : World) (x d : ℕ) (core : Core) (queue : List Item) → MakesIn w (send_of w x d core queue)
-send_makes w x d core queue =
-    let did = send core (range w x) d in
-    if_case (MakesIn w) (may_send core d) (unless_full x (send_full core (range w x) d) (Next (done_by w x did queue) (Sent did.effect (copies w x (did.effect).cast)))) Idle
-    (λ _. unless_makes w x (send_full core (range w x) d) _ (done_next w x did queue, copies_start w x (did.effect).cast)) (λ _. tt)
-
-ask_makes : (w : World) (x d : ℕ) (core : Core) (queue : List Item) → MakesIn w (ask_of w x d core queue)
-ask_makes w x d core queue =
-    let did = ask core d in
-    if_case (MakesIn w) (may_ask core d) (unless_full x (ask_full core) (Next (done_by w x did queue) (Sent did.effect (copies w x (did.effect).cast)))) Idle
-    (λ _. unless_makes w x (ask_full core) _ (done_next w x did queue, copies_start w x (did.effect).cast)) (λ _. tt)
-
-node_case : (P : Outcome → Type 0) (f : Core → List Item → Outcome) (o : Option Node) → P Idle → ((core : Core) (queue : List Item) → P (f core queue)) → P (at_node o f)
-node_case P f None none some = none
-node_case P f (Some n) none some = some n.core n.queue
-
-copy_case : (P : Outcome → Type 0) (f : Copy → Outcome) (o : Option Copy) → P Idle → ((c : Copy) → P (f c)) → P (at_copy o f)
-copy_case P f None none some = none
-copy_case P f (Some c) none some = some c
+push_next : (w : World) (x : ℕ) (item : Item) → (push w x item).next_copy ≡ w.next_copy
+push_next w x item = ap (λ (v : World). v.next_copy) (push_is w x item)
 
 abbrev pub IsNoDouble : Event → Type 0
 IsNoDouble (Double id) = ⊥
 IsNoDouble others = ⊤
 
 pub makes : (w : World) (e : Event) → IsNoDouble e → MakesIn w (step w e)
-unfolding step
-makes w (Give x d b) one = node_case (MakesIn w) (λ core queue. Next (push w x (New b d)) Changed) (slice_get w.nodes x) tt (λ core queue. (push_next w x (New b d), tt))
-makes w (Turn x) one = node_case (MakesIn w) (turn_of w x) (slice_get w.nodes x) tt (turn_makes w x)
-makes w (Send x d) one = node_case (MakesIn w) (send_of w x d) (slice_get w.nodes x) tt (send_makes w x d)
-makes w (Ask x d) one = node_case (MakesIn w) (ask_of w x d) (slice_get w.nodes x) tt (ask_makes w x d)
-makes w (Link a b) one = if_case (MakesIn w) (are_linked w.links a b) Idle (Next (with_link w a b) Changed) (λ _. tt) (λ _. (none_more w.next_copy, tt))
-makes w (Cut a b) one = if_case (MakesIn w) (are_linked w.links a b) (Next (without_link w a b) Changed) Idle (λ _. (none_more w.next_copy, tt)) (λ _. tt)
-makes w (Deliver id) one = copy_case (MakesIn w) (λ c. Next (push (without_copy w id) c.to (Heard c.from c.message)) (CopyHeard c.from c.to)) (find_copy w.flying id) tt (λ c. (push_next (without_copy w id) c.to (Heard c.from c.message), tt))
-makes w (Lose id) one = copy_case (MakesIn w) (λ c. Next (without_copy w id) (CopyLost c)) (find_copy w.flying id) tt (λ c. (none_more w.next_copy, tt))
-makes w (Double id) one = absurd one
+unfolding done_by
+makes w e one = by_cases w (λ e o. IsNoDouble e → MakesIn w o) (record {
+  idle = λ e none one. tt;
+  full = λ e x n f is full one. tt;
+  given = λ x d b n is one. (push_next w x (New b d) ∙ none_more w.next_copy, tt);
+  taken = λ x core item items is free one. (refl, copies_start w x ((turn core (range w x) item).effect).cast);
+  sent = λ x d n is may free one. (refl, copies_start w x ((send n.core (range w x) d).effect).cast);
+  asked = λ x d n is may free one. (refl, copies_start w x ((ask n.core d).effect).cast);
+  linked = λ a b apart one. (none_more w.next_copy, tt);
+  cut = λ a b stands one. (none_more w.next_copy, tt);
+  heard = λ id c is one. (push_next (without_copy w id) c.to (Heard c.from c.message) ∙ none_more w.next_copy, tt);
+  lost = λ id c is one. (none_more w.next_copy, tt);
+  doubled = λ id c is one. absurd one;
+}) e one
 
 -- a doubled copy has the number of the next
 abbrev pub DoublesIn : World → ℕ → KeptLists → Outcome → Type 0
@@ -123,7 +80,7 @@ DoublesIn w id k (Next w' h) = (w'.next_copy ≡ w.next_copy + 1) × (after_doub
 
 pub doubles : (w : World) (id : ℕ) (k : KeptLists) → DoublesIn w id k (step w (Double id))
 unfolding step
-doubles w id k = copy_case (DoublesIn w id k) (λ c. Next (with_double w c) (CopyDoubled w.next_copy c.to (is_parcel c.message))) (find_copy w.flying id) tt (λ c. (refl, refl))
+doubles w id k = copy_case (DoublesIn w id k) (λ c. Next (with_double w c) (CopyDoubled w.next_copy c.to (is_parcel c.message))) (find_copy w.flying id) (λ none. tt) (λ c is. (refl, refl))
 
 -- ---- the copies in flight afterwards
 
@@ -133,58 +90,31 @@ FliesIn P w w' = AllByRecursion P w.flying → ((c : Copy) → w.next_copy ≤ c
 abbrev Flies : (Copy → Type 0) → World → Outcome → Type 0
 Flies P w o = FliesIn P w (after w o)
 
-still_flies : (P : Copy → Type 0) (w : World) → FliesIn P w w
-still_flies P w all new = all
-
-unless_flies : (P : Copy → Type 0) (w : World) (x : ℕ) (o : Option Counter) (out : Outcome) → Flies P w out → Flies P w (unless_full x o out)
-unless_flies P w x (Some f) out flies = still_flies P w
-unless_flies P w x None out flies = flies
-
 done_flies : (P : Copy → Type 0) (w : World) (x : ℕ) (did : Reaction) (queue : List Item) → FliesIn P w (done_by w x did queue)
 unfolding done_by
-done_flies P w x did queue all new = each_append P w.flying (copies w x (did.effect).cast) all (copies_each P w x (did.effect).cast (w.next_copy + length (copies w x (did.effect).cast)) (omega arith) new)
+done_flies P w x did queue all new = each_append P w.flying (copies w x (did.effect).cast) all (numbered_each P w.next_copy _ (copies w x (did.effect).cast) (copies_numbered w x (did.effect).cast) new)
 
-push_flies : (P : Copy → Type 0) (w : World) (x : ℕ) (item : Item) → FliesIn P w (push w x item)
-unfolding push
-push_flies P w x item = by (slice_get w.nodes x)
-  where
-    by : (o : Option Node) → FliesIn P w (with_item w x o item)
-    by None all new = all
-    by (Some n) all new = all
+push_flies : (P : Copy → Type 0) (w : World) (x : ℕ) (item : Item) → AllByRecursion P w.flying → AllByRecursion P (push w x item).flying
+push_flies P w x item all = subst (λ (v : World). AllByRecursion P v.flying) (sym (push_is w x item)) all
 
 taken_flies : (P : Copy → Type 0) (w : World) (id : ℕ) → AllByRecursion P w.flying → AllByRecursion P (without_copy w id).flying
 unfolding without
 taken_flies P w id all = each_filter P _ w.flying all
 
-turn_flies : (P : Copy → Type 0) (w : World) (x : ℕ) (core : Core) (queue : List Item) → Flies P w (turn_of w x core queue)
-turn_flies P w x core [] = still_flies P w
-turn_flies P w x core (item ∷ items) = unless_flies P w x (turn_full core (range w x) item) _ (done_flies P w x (turn core (range w x) item) items)
-
-send_flies : (P : Copy → Type 0) (w : World) (x d : ℕ) (core : Core) (queue : List Item) → Flies P w (send_of w x d core queue)
-send_flies P w x d core queue =
-    let did = send core (range w x) d in
-    if_case (Flies P w) (may_send core d) (unless_full x (send_full core (range w x) d) (Next (done_by w x did queue) (Sent did.effect (copies w x (did.effect).cast)))) Idle
-    (λ _. unless_flies P w x (send_full core (range w x) d) _ (done_flies P w x did queue)) (λ _. still_flies P w)
-
-ask_flies : (P : Copy → Type 0) (w : World) (x d : ℕ) (core : Core) (queue : List Item) → Flies P w (ask_of w x d core queue)
-ask_flies P w x d core queue =
-    let did = ask core d in
-    if_case (Flies P w) (may_ask core d) (unless_full x (ask_full core) (Next (done_by w x did queue) (Sent did.effect (copies w x (did.effect).cast)))) Idle
-    (λ _. unless_flies P w x (ask_full core) _ (done_flies P w x did queue)) (λ _. still_flies P w)
-
 pub flies : (P : Copy → Type 0) (w : World) (e : Event) → Flies P w (step w e)
-unfolding step
-flies P w (Give x d b) = node_case (Flies P w) (λ core queue. Next (push w x (New b d)) Changed) (slice_get w.nodes x) (still_flies P w) (λ core queue. push_flies P w x (New b d))
-flies P w (Turn x) = node_case (Flies P w) (turn_of w x) (slice_get w.nodes x) (still_flies P w) (turn_flies P w x)
-flies P w (Send x d) = node_case (Flies P w) (send_of w x d) (slice_get w.nodes x) (still_flies P w) (send_flies P w x d)
-flies P w (Ask x d) = node_case (Flies P w) (ask_of w x d) (slice_get w.nodes x) (still_flies P w) (ask_flies P w x d)
-flies P w (Link a b) = if_case (Flies P w) (are_linked w.links a b) Idle (Next (with_link w a b) Changed) (λ _. still_flies P w) (λ _ all new. all)
-flies P w (Cut a b) = if_case (Flies P w) (are_linked w.links a b) (Next (without_link w a b) Changed) Idle (λ _ all new. all) (λ _. still_flies P w)
-flies P w (Deliver id) = copy_case (Flies P w) (λ c. Next (push (without_copy w id) c.to (Heard c.from c.message)) (CopyHeard c.from c.to)) (find_copy w.flying id) (still_flies P w)
-    (λ c all new. push_flies P (without_copy w id) c.to (Heard c.from c.message) (taken_flies P w id all) new)
-flies P w (Lose id) = copy_case (Flies P w) (λ c. Next (without_copy w id) (CopyLost c)) (find_copy w.flying id) (still_flies P w) (λ c all new. taken_flies P w id all)
-flies P w (Double id) = copy_case (Flies P w) (λ c. Next (with_double w c) (CopyDoubled w.next_copy c.to (is_parcel c.message))) (find_copy w.flying id) (still_flies P w)
-    (λ c all new. each_append P w.flying (double_of w c ∷ []) all (new (double_of w c) (omega arith) (omega arith), tt))
+flies P w e = by_cases w (λ e o. Flies P w o) (record {
+  idle = λ e none all new. all;
+  full = λ e x n f is full all new. all;
+  given = λ x d b n is all new. push_flies P w x (New b d) all;
+  taken = λ x core item items is free. done_flies P w x (turn core (range w x) item) items;
+  sent = λ x d n is may free. done_flies P w x (send n.core (range w x) d) n.queue;
+  asked = λ x d n is may free. done_flies P w x (ask n.core d) n.queue;
+  linked = λ a b apart all new. all;
+  cut = λ a b stands all new. all;
+  heard = λ id c is all new. push_flies P (without_copy w id) c.to (Heard c.from c.message) (taken_flies P w id all);
+  lost = λ id c is all new. taken_flies P w id all;
+  doubled = λ id c is all new. each_append P w.flying (double_of w c ∷ []) all (new (double_of w c) (omega arith) (omega arith), tt);
+}) e
 
 -- ---- runs
 
@@ -206,17 +136,17 @@ IsQuiet others = ⊥
 abbrev HasNext : World → Outcome → Type 0
 HasNext w o = (after w o).next_copy ≡ w.next_copy
 
-quiet_push : (w v : World) (x : ℕ) (item : Item) → v.next_copy ≡ w.next_copy → (push v x item).next_copy ≡ w.next_copy
-quiet_push w v x item same = let e = push_next v x item in omega arith
-
 pub quiet_next : (w : World) (e : Event) → IsQuiet e → HasNext w (step w e)
-unfolding step
-quiet_next w (Give x d b) quiet = node_case (HasNext w) (λ core queue. Next (push w x (New b d)) Changed) (slice_get w.nodes x) refl (λ core queue. quiet_push w w x (New b d) refl)
-quiet_next w (Turn x) quiet = absurd quiet
-quiet_next w (Send x d) quiet = absurd quiet
-quiet_next w (Ask x d) quiet = absurd quiet
-quiet_next w (Link a b) quiet = if_case (HasNext w) (are_linked w.links a b) Idle (Next (with_link w a b) Changed) (λ _. refl) (λ _. refl)
-quiet_next w (Cut a b) quiet = if_case (HasNext w) (are_linked w.links a b) (Next (without_link w a b) Changed) Idle (λ _. refl) (λ _. refl)
-quiet_next w (Deliver id) quiet = copy_case (HasNext w) (λ c. Next (push (without_copy w id) c.to (Heard c.from c.message)) (CopyHeard c.from c.to)) (find_copy w.flying id) refl (λ c. quiet_push w (without_copy w id) c.to (Heard c.from c.message) refl)
-quiet_next w (Lose id) quiet = copy_case (HasNext w) (λ c. Next (without_copy w id) (CopyLost c)) (find_copy w.flying id) refl (λ c. refl)
-quiet_next w (Double id) quiet = absurd quiet
+quiet_next w e quiet = by_cases w (λ e o. IsQuiet e → HasNext w o) (record {
+  idle = λ e none quiet. refl;
+  full = λ e x n f is full quiet. refl;
+  given = λ x d b n is quiet. push_next w x (New b d);
+  taken = λ x core item items is free quiet. absurd quiet;
+  sent = λ x d n is may free quiet. absurd quiet;
+  asked = λ x d n is may free quiet. absurd quiet;
+  linked = λ a b apart quiet. refl;
+  cut = λ a b stands quiet. refl;
+  heard = λ id c is quiet. push_next (without_copy w id) c.to (Heard c.from c.message);
+  lost = λ id c is quiet. refl;
+  doubled = λ id c is quiet. absurd quiet;
+}) e quiet
