@@ -1,5 +1,5 @@
 -- What is seen of a router of the code, and what every one keeps.
-use Rattle.std.specs.Prelude.{◌≡◌, ◌≤◌, ◌+◌, ◌*◌, ℕ, length, List, Some, refl}
+use Rattle.std.specs.Prelude.{◌≡◌, ◌≤◌, ◌+◌, ◌*◌, ◌^◌, ℕ, length, List, Some, refl}
 use Rattle.std.specs.Coded.{Coded, code_by, coded×, coded_ℕ, coded_list}
 use Rattle.std.specs.FinSet as sets
 use Rattle.mesh_base.specs.Members.{NodeIds}
@@ -18,6 +18,14 @@ pub record IsSound (p : PeersSeen) (node : NodeSeen) (near : NodeIds) : Type 0 w
   pub me : p.me ≡ Some (node.core).ip
   pub size : node.size ≡ length p.mesh
   pub range : ArePeers p near
+
+-- a line may be done while no count is above this, and each part of one while none is above twice
+-- as much
+abbrev pub most_counted_before_line : ℕ
+most_counted_before_line = 2 ^ 61
+
+abbrev pub most_counted : ℕ
+most_counted = 2 ^ 62
 
 -- no count is above n
 pub record HasCounts (n : ℕ) (r : Router) : Type 0 where

@@ -1,5 +1,5 @@
 //! A line of a router's script.
-ghost use Rattle.std.specs.Prelude.{◌≡◌, ◌<◌, ◌+◌, ◌^◌, is_some, true, OnOk, OnErr, Option, List};
+ghost use Rattle.std.specs.Prelude.{◌≡◌, ◌<◌, ◌+◌, is_some, true, OnOk, OnErr, Option, List};
 ghost use Rattle.mesh_base.specs.Bounds.{most_lines};
 ghost use Rattle.mesh_link.specs.Datagrams.{Datagram};
 ghost use Rattle.mesh_peers.specs.Seen.{accepted_of, IsAllowed, IsPrintable};
@@ -7,7 +7,7 @@ ghost use Rattle.mesh_router.specs.Routers.{peers_in, router_in, is_running, Run
 ghost use Rattle.mesh_router.specs.Lines as lines;
 ghost use Rattle.mesh_router.specs.Lines.{outcome_of_line, refused_words, words_at, step_of};
 ghost use Rattle.mesh_router.specs.Outputs.{HasCauses, HasSinkCause};
-ghost use Rattle.mesh_router.specs.Seen.{HasCounts, IsGrown, most_grown};
+ghost use Rattle.mesh_router.specs.Seen.{HasCounts, IsGrown, most_grown, most_counted_before_line};
 ghost use Rattle.mesh_router.specs.Runs.{IsStepRun, IsPollLine, IsLineRun, IsCommand};
 
 use crate::point::{Point, Stage};
@@ -32,7 +32,7 @@ impl Point {
         requires running { is_running self.old.stage ≡ true }
         requires printable { IsPrintable (peers_in self.old.stage) line.now }
         requires open { is_some (L.port link.old) ≡ true }
-        requires few { HasCounts (2 ^ 61) (router_in self.old.stage) }
+        requires few { HasCounts most_counted_before_line (router_in self.old.stage) }
         ensures step { let stage = self.old.stage in let l = accepted_of line.now in
             IsStepRun (step_of (router_in stage) (words_at stage l) l)
             (O.held out.old, L.sent link.old) (O.held out.new, L.sent link.new)
@@ -66,7 +66,7 @@ impl Point {
         requires running { is_running self.old.stage ≡ true }
         requires printable { IsPrintable (peers_in self.old.stage) line.now }
         requires open { is_some (L.port link.old) ≡ true }
-        requires few { HasCounts (2 ^ 61) (router_in self.old.stage) }
+        requires few { HasCounts most_counted_before_line (router_in self.old.stage) }
         ensures polls { let stage = self.old.stage in
             let words = words_at stage (accepted_of line.now) in
             IsPollLine count words (router_in stage) (L.arrived link.old) (L.arrived link.new)
@@ -158,7 +158,7 @@ fn do_step<O: Sink, L: Link>(
     requires printable { IsPrintable (peers_in at.old.stage) line.now }
     requires lines { at.old.lines < most_lines }
     requires open { is_some (L.port link.old) ≡ true }
-    requires few { HasCounts (2 ^ 61) (router_in at.old.stage) }
+    requires few { HasCounts most_counted_before_line (router_in at.old.stage) }
     ensures line { let l = accepted_of line.now in
         IsLineRun (outcome_of_line at.old l) (refused_words at.old.stage l) at.new
         (L.arrived link.old) (L.arrived link.new) (O.held out.old, L.sent link.old)
@@ -192,7 +192,7 @@ fn do_poll<O: Sink, L: Link>(
     requires printable { IsPrintable (peers_in at.old.stage) line.now }
     requires lines { at.old.lines < most_lines }
     requires open { is_some (L.port link.old) ≡ true }
-    requires few { HasCounts (2 ^ 61) (router_in at.old.stage) }
+    requires few { HasCounts most_counted_before_line (router_in at.old.stage) }
     ensures line { let l = accepted_of line.now in
         IsLineRun (outcome_of_line at.old l) (refused_words at.old.stage l) at.new
         (L.arrived link.old) (L.arrived link.new) (O.held out.old, L.sent link.old)
@@ -224,7 +224,7 @@ pub fn do_line<O: Sink, L: Link>(
     requires allowed { IsAllowed (peers_in at.old.stage) (is_running at.old.stage) line.now }
     requires lines { at.old.lines < most_lines }
     requires open { is_some (L.port link.old) ≡ true }
-    requires few { HasCounts (2 ^ 61) (router_in at.old.stage) }
+    requires few { HasCounts most_counted_before_line (router_in at.old.stage) }
     ensures line { let l = accepted_of line.now in
         IsLineRun (outcome_of_line at.old l) (refused_words at.old.stage l) at.new
         (L.arrived link.old) (L.arrived link.new) (O.held out.old, L.sent link.old)

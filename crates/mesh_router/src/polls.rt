@@ -1,10 +1,10 @@
 //! The datagrams that a router receives.
-ghost use Rattle.std.specs.Prelude.{◌≡◌, ◌<◌, ◌+◌, ◌^◌, List, length, codes, is_some, true, OnOk, IfErr, IsErrOf};
+ghost use Rattle.std.specs.Prelude.{◌≡◌, ◌<◌, ◌+◌, List, length, codes, is_some, true, OnOk, IfErr, IsErrOf};
 ghost use Rattle.mesh_io.specs.Cause.{HasCause};
 ghost use Rattle.mesh_io.specs.Puts.{Puts};
 ghost use Rattle.mesh_router.specs.Polls.{heard_line, strange_port_line};
 ghost use Rattle.mesh_router.specs.Outputs.{HasCauses, HasSinkCause};
-ghost use Rattle.mesh_router.specs.Seen.{HasCounts, IsGrown};
+ghost use Rattle.mesh_router.specs.Seen.{HasCounts, IsGrown, most_counted, most_counted_before_line};
 ghost use Rattle.mesh_peers.specs.Peers.{at_port};
 ghost use Rattle.mesh_router.specs.Runs.{IsNotFull, IsTaken, IsPollStep, IsPollRun};
 ghost use Rattle.mesh_router.specs.Short.{IsPollShort};
@@ -65,7 +65,7 @@ impl Router {
         buf: &mut LineBuf,
         out: &mut O,
     ) -> Result<(), Stop>
-        requires few { HasCounts (2 ^ 62) self.old }
+        requires few { HasCounts most_counted self.old }
         ensures taken { IsTaken self.old port bytes.now (O.held out.old) (O.held out.new)
             self.new result }
         ensures memory { IsErrOf result Stop.NoMemory
@@ -104,7 +104,7 @@ impl Router {
         link: &mut L,
     ) -> Result<bool, Stop>
         requires open { is_some (L.port link.old) ≡ true }
-        requires few { HasCounts (2 ^ 62) self.old }
+        requires few { HasCounts most_counted self.old }
         ensures poll { IsPollStep self.old (L.arrived link.old) (L.arrived link.new)
             (O.held out.old, L.sent link.old) (O.held out.new, L.sent link.new) self.new result }
         ensures memory { IsErrOf result Stop.NoMemory
@@ -139,7 +139,7 @@ impl Router {
         link: &mut L,
     ) -> Result<(), Stop>
         requires open { is_some (L.port link.old) ≡ true }
-        requires few { HasCounts (2 ^ 61) self.old }
+        requires few { HasCounts most_counted_before_line self.old }
         ensures polls { IsPollRun count self.old (L.arrived link.old) (L.arrived link.new)
             (O.held out.old, L.sent link.old) (O.held out.new, L.sent link.new) self.new result }
         ensures memory { IsErrOf result Stop.NoMemory

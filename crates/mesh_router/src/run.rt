@@ -1,5 +1,5 @@
 //! The run of a router's script.
-ghost use Rattle.std.specs.Prelude.{◌≡◌, ◌≢◌, ◌<◌, ◌≤◌, ◌+◌, ◌^◌, ◌∷◌, [], List, is_some, true, OnOk, IfErr, IfSome, Err};
+ghost use Rattle.std.specs.Prelude.{◌≡◌, ◌≢◌, ◌<◌, ◌≤◌, ◌+◌, ◌∷◌, [], List, is_some, true, OnOk, IfErr, IfSome, Err};
 ghost use Rattle.std.specs.Io.KnownBytes.{IsAtEnd};
 ghost use Rattle.mesh_base.specs.Bounds.{most_lines_before_run};
 ghost use Rattle.mesh_shell.specs.Pieces.{Piece, Whole};
@@ -8,7 +8,7 @@ ghost use Rattle.mesh_io.specs.NextLines.{schedule_limits};
 ghost use Rattle.mesh_router.specs.Routers.{router_in, opening_run_state};
 ghost use Rattle.mesh_router.specs.Lines.{outcome_of_piece, why_past};
 ghost use Rattle.mesh_router.specs.Text.{run_from};
-ghost use Rattle.mesh_router.specs.Seen.{HasCounts, IsGrown, most_grown};
+ghost use Rattle.mesh_router.specs.Seen.{HasCounts, IsGrown, most_grown, most_counted_before_line};
 ghost use Rattle.mesh_router.specs.Runs.{IsLineDone};
 ghost use Rattle.mesh_router.specs.Output.{IsTold, IsScriptRun};
 
@@ -35,7 +35,7 @@ fn one<O: Sink, L: Link>(
 ) -> Result<(), NodeStatus>
     requires lines { at.old.lines < most_lines_before_run }
     requires open { is_some (L.port link.old) ≡ true }
-    requires few { HasCounts (2 ^ 61) (router_in at.old.stage) }
+    requires few { HasCounts most_counted_before_line (router_in at.old.stage) }
     ensures goes { OnOk result (IsLineDone (outcome_of_piece at.old (Whole bytes.now)) at.new
         (L.arrived link.old) (L.arrived link.new) (O.held out.old, L.sent link.old)
         (O.held out.new, L.sent link.new)) }

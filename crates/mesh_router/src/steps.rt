@@ -1,5 +1,5 @@
 //! What the other commands make a router do.
-ghost use Rattle.std.specs.Prelude.{◌≡◌, ◌<◌, ◌≤◌, ◌+◌, ◌*◌, ◌^◌, ◌++◌, not, length, codes, is_some, true, OnOk, IfOk, IfErr, IfSome, IsErrOf, Option, List};
+ghost use Rattle.std.specs.Prelude.{◌≡◌, ◌<◌, ◌≤◌, ◌+◌, ◌*◌, ◌++◌, not, length, codes, is_some, true, OnOk, IfOk, IfErr, IfSome, IsErrOf, Option, List};
 ghost use Rattle.std.specs.FinSet as sets;
 ghost use Rattle.aodv_model.specs.Handlers as model;
 ghost use Rattle.aodv_model.specs.Fullness.{send_full, ask_full};
@@ -17,7 +17,7 @@ ghost use Rattle.mesh_meaning.specs.Answers.{IsCastWritten};
 ghost use Rattle.mesh_router.specs.Logs.{text_log};
 ghost use Rattle.mesh_router.specs.Peers.{IsPeer, ArePeers, receivers_of, act_log};
 ghost use Rattle.mesh_router.specs.Outputs.{Says, HasCauses, HasSinkCause, IsFault};
-ghost use Rattle.mesh_router.specs.Seen.{HasCounts, IsGrown, most_grown};
+ghost use Rattle.mesh_router.specs.Seen.{HasCounts, IsGrown, most_grown, most_counted, most_counted_before_line};
 ghost use Rattle.mesh_router.specs.Runs.{IsStepRun, IsPollLine};
 ghost use Rattle.mesh_router.specs.Short.{AreTurnsShort, IsStepShort, IsPollShort};
 
@@ -128,7 +128,7 @@ impl Router {
         requires dest { dest < length self.old.peers.mesh }
         requires printable { IsPrintable self.old.peers line.now }
         requires open { is_some (L.port link.old) ≡ true }
-        requires few { HasCounts (2 ^ 62) self.old }
+        requires few { HasCounts most_counted self.old }
         ensures step { let r = self.old in
             IsStepRun (act_of r (words_of r.peers.mesh (accepted_of line.now))
             (model.may_send r.core dest) (send_full r.core r.range dest)
@@ -174,7 +174,7 @@ impl Router {
         requires dest { dest < length self.old.peers.mesh }
         requires printable { IsPrintable self.old.peers line.now }
         requires open { is_some (L.port link.old) ≡ true }
-        requires few { HasCounts (2 ^ 62) self.old }
+        requires few { HasCounts most_counted self.old }
         ensures step { let r = self.old in
             IsStepRun (act_of r (words_of r.peers.mesh (accepted_of line.now))
             (model.may_ask r.core dest) (ask_full r.core) (model.ask r.core dest))
@@ -314,7 +314,7 @@ impl Router {
     ) -> Result<(), Stop>
         requires printable { IsPrintable self.old.peers line.now }
         requires open { is_some (L.port link.old) ≡ true }
-        requires few { HasCounts (2 ^ 61) self.old }
+        requires few { HasCounts most_counted_before_line self.old }
         ensures step { let r = self.old in
             let words = words_of r.peers.mesh (accepted_of line.now) in
             IsStepRun (log_before (text_log (ended words)) (turns_of count r))
@@ -344,7 +344,7 @@ impl Router {
     ) -> Result<(), Stop>
         requires printable { IsPrintable self.old.peers line.now }
         requires open { is_some (L.port link.old) ≡ true }
-        requires few { HasCounts (2 ^ 61) self.old }
+        requires few { HasCounts most_counted_before_line self.old }
         ensures step { let r = self.old in let l = accepted_of line.now in
             IsStepRun (step_of r (words_of r.peers.mesh l) l) (O.held out.old, L.sent link.old)
             (O.held out.new, L.sent link.new) self.new result }
@@ -389,7 +389,7 @@ impl Router {
     ) -> Result<(), Stop>
         requires printable { IsPrintable self.old.peers line.now }
         requires open { is_some (L.port link.old) ≡ true }
-        requires few { HasCounts (2 ^ 61) self.old }
+        requires few { HasCounts most_counted_before_line self.old }
         ensures polls { let words = words_of self.old.peers.mesh (accepted_of line.now) in
             IsPollLine count words self.old (L.arrived link.old) (L.arrived link.new)
             (O.held out.old, L.sent link.old) (O.held out.new, L.sent link.new)

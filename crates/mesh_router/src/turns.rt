@@ -1,10 +1,10 @@
 //! The turns of a router.
-ghost use Rattle.std.specs.Prelude.{◌≡◌, ◌<◌, ◌≤◌, ◌+◌, ◌*◌, ◌^◌, ◌++◌, length, codes, is_some, true, OnOk, IsErrOf, Some};
+ghost use Rattle.std.specs.Prelude.{◌≡◌, ◌<◌, ◌≤◌, ◌+◌, ◌*◌, ◌++◌, length, codes, is_some, true, OnOk, IsErrOf, Some};
 ghost use Rattle.mesh_io.specs.Cause.{HasCause};
 ghost use Rattle.mesh_io.specs.Puts.{Puts};
 ghost use Rattle.mesh_router.specs.Turns.{refusal_words, stranger_words, drop_line, next_turn, turns_of};
 ghost use Rattle.mesh_router.specs.Outputs.{HasCauses};
-ghost use Rattle.mesh_router.specs.Seen.{HasCounts, IsGrown};
+ghost use Rattle.mesh_router.specs.Seen.{HasCounts, IsGrown, most_counted, most_counted_before_line};
 ghost use Rattle.mesh_router.specs.Runs.{IsTurnRun, IsStepRun};
 ghost use Rattle.mesh_router.specs.Short.{IsTurnShort, AreTurnsShort};
 
@@ -18,15 +18,19 @@ use mesh_base::{
 };
 use mesh_io::{PutFault, Sink, put_all};
 use mesh_link::Link;
+use mesh_script::NUMBER_WIDTH;
 
 // ---- what can't be read
+
+// The most bytes that say why bytes encode no message.
+const REFUSAL_WIDTH: usize = b"unknown type ".len() + NUMBER_WIDTH;
 
 // Why bytes encode no message.
 #[tactic(auto, using(std::proofs::lemmas::List::append_assoc))]
 fn push_refusal(out: &mut LineBuf, why: WireError)
-    requires { length out.old + 40 ≤ LINE_CAPACITY }
+    requires { length out.old + REFUSAL_WIDTH ≤ LINE_CAPACITY }
     ensures text { out.new ≡ out.old ++ refusal_words why }
-    ensures length { length out.new ≤ length out.old + 40 }
+    ensures length { length out.new ≤ length out.old + REFUSAL_WIDTH }
 {
     match why {
         WireError::Short => push_text(out, b"short"),
@@ -114,7 +118,7 @@ impl Router {
         link: &mut L,
     ) -> Result<bool, Stop>
         requires open { is_some (L.port link.old) ≡ true }
-        requires few { HasCounts (2 ^ 62) self.old }
+        requires few { HasCounts most_counted self.old }
         ensures turn { IsTurnRun (next_turn self.old) self.old (O.held out.old, L.sent link.old)
             (O.held out.new, L.sent link.new) self.new result }
         ensures memory { IsErrOf result Stop.NoMemory → IsTurnShort self.old }
@@ -169,7 +173,7 @@ impl Router {
         link: &mut L,
     ) -> Result<(), Stop>
         requires open { is_some (L.port link.old) ≡ true }
-        requires few { HasCounts (2 ^ 61) self.old }
+        requires few { HasCounts most_counted_before_line self.old }
         ensures turns { IsStepRun (turns_of count self.old) (O.held out.old, L.sent link.old)
             (O.held out.new, L.sent link.new) self.new result }
         ensures memory { IsErrOf result Stop.NoMemory → AreTurnsShort count self.old }
