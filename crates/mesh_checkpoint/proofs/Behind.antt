@@ -1,12 +1,11 @@
 -- What stands behind the byte that says its kind.
-use Rattle.std.proofs.Common.{◌≡◌, ◌≢◌, ℕ, zero, suc, ◌<◌, Bool, true, false, List, [], ◌∷◌, Option, Some, None, refl, ap, ◌∙◌, arith, inl, inr, cond}
+use Rattle.std.proofs.Common.{◌≡◌, ◌≢◌, ℕ, zero, suc, ◌<◌, Bool, true, false, List, [], ◌∷◌, Option, Some, None, refl, ap, ◌∙◌, arith, cond}
 use Rattle.std.specs.Prelude.{nat_le, nat_lt, not}
 use Rattle.std.specs.Prelude.{◌==◌, ◌&&◌, length}
 use Rattle.std.proofs.lemmas.Bool.{ltb-true, ne_eqb}
-use Rattle.mesh_base.specs.declared.events.Item.TheVariants.{New, Heard}
-use Rattle.mesh_checkpoint.specs.Formats.{◌>>=◌, byte_at, get_either, get_maybe, maybe}
-use Rattle.mesh_checkpoint.specs.Checkpoint.{datum_format, heard_format, item, world}
-use Rattle.mesh_checkpoint.specs.Counts.{data_heard, data_in_item, data_in_world, data_in}
+use Rattle.mesh_checkpoint.specs.Formats.{◌>>=◌, byte_at, get_maybe, maybe}
+use Rattle.mesh_checkpoint.specs.Checkpoint.{world}
+use Rattle.mesh_checkpoint.specs.Counts.{data_in_world, data_in}
 use Rattle.mesh_checkpoint.specs.Reading.{IsPassed, Passes}
 use Rattle.mesh_checkpoint.proofs.Formats.{test_some, true_both}
 
@@ -23,51 +22,8 @@ kind_of (b ∷ bytes) k rest e =
     let same : b ≡ k = ap (λ (p : ℕ × List ℕ). p.0) t.1 in
     record { parts = ap (λ (p : ℕ × List ℕ). p.0 ∷ p.1) t.1; two = omega arith }
 
-either_none_at : {A B : Type 0} (get : List ℕ → Option (A × List ℕ)) (other : List ℕ → Option (B × List ℕ)) (b : ℕ) (bytes : List ℕ) → byte_at 0 2 (b ∷ bytes) ≡ None → get_either get other (b ∷ bytes) ≡ None
-either_none_at get other zero bytes e = absurd cc
-either_none_at get other (suc zero) bytes e = absurd cc
-either_none_at get other (suc (suc b)) bytes e = refl
-
-pub either_none : {A B : Type 0} (get : List ℕ → Option (A × List ℕ)) (other : List ℕ → Option (B × List ℕ)) (bytes : List ℕ) → byte_at 0 2 bytes ≡ None → get_either get other bytes ≡ None
-either_none get other [] e = refl
-either_none get other (b ∷ bytes) e = either_none_at get other b bytes e
-
-pub either_first : {A B : Type 0} (get : List ℕ → Option (A × List ℕ)) (other : List ℕ → Option (B × List ℕ)) (bytes : List ℕ) (k : ℕ) (rest : List ℕ) → byte_at 0 2 bytes ≡ Some (k, rest) → k ≡ 0
-    → get_either get other bytes ≡ (get rest >>= λ x. Some (inl x.0, x.1))
-either_first get other bytes k rest e zeroth =
-    let is = kind_of bytes k rest e in
-    rw (is.parts, zeroth) refl
-
 second : (k : ℕ) → k < 2 → k ≢ 0 → k ≡ 1
 second k lt some = omega (arith, some)
-
-pub either_second : {A B : Type 0} (get : List ℕ → Option (A × List ℕ)) (other : List ℕ → Option (B × List ℕ)) (bytes : List ℕ) (k : ℕ) (rest : List ℕ) → byte_at 0 2 bytes ≡ Some (k, rest) → k ≢ 0
-    → get_either get other bytes ≡ (other rest >>= λ y. Some (inr y.0, y.1))
-either_second get other bytes k rest e some =
-    let is = kind_of bytes k rest e in
-    rw (is.parts, second k is.two some) refl
-
--- ---- an item
-
-pub given_item : (nodes : ℕ) (bytes : List ℕ) (k : ℕ) (rest behind : List ℕ) → byte_at 0 2 bytes ≡ Some (k, rest) → k ≡ 0 → length rest < length bytes → IsPassed (datum_format nodes) (λ p. 1) rest 1 behind → IsPassed (item nodes) data_in_item bytes 1 behind
-given_item nodes bytes k rest behind e zeroth shorter p = record {
-  value = New (p.value).0 (p.value).1;
-  read = rw (either_first (datum_format nodes).get (heard_format nodes).get bytes k rest e zeroth, p.read) refl;
-  count = refl;
-  few = omega (arith, shorter, p.few);
-}
-
-heard_some : (nodes : ℕ) (bytes : List ℕ) (k : ℕ) (rest : List ℕ) (n : ℕ) (behind : List ℕ) → byte_at 0 2 bytes ≡ Some (k, rest) → k ≢ 0 → length rest < length bytes → IsPassed (heard_format nodes) data_heard rest n behind → IsPassed (item nodes) data_in_item bytes n behind
-heard_some nodes bytes k rest n behind e some shorter p = record {
-  value = Heard (p.value).0 (p.value).1;
-  read = rw (either_second (datum_format nodes).get (heard_format nodes).get bytes k rest e some, p.read) refl;
-  count = p.count;
-  few = omega (arith, shorter, p.few);
-}
-
-pub heard_item : (nodes : ℕ) (bytes : List ℕ) (k : ℕ) (rest : List ℕ) (r : Option (ℕ × List ℕ)) → byte_at 0 2 bytes ≡ Some (k, rest) → k ≢ 0 → length rest < length bytes → Passes (heard_format nodes) data_heard rest r → Passes (item nodes) data_in_item bytes r
-heard_item nodes bytes k rest None e some shorter p = rw (either_second (datum_format nodes).get (heard_format nodes).get bytes k rest e some, p) refl
-heard_item nodes bytes k rest (Some r) e some shorter p = heard_some nodes bytes k rest r.0 r.1 e some shorter p
 
 -- ---- a world, or none
 

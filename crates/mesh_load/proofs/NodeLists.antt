@@ -19,7 +19,8 @@ use Rattle.mesh_restore.specs.Reading.{Refuses}
 use Rattle.mesh_restore.specs.declared.error.ReadError.{ReadError}
 use Rattle.mesh_restore.specs.declared.error.ReadError.TheVariants.{Spelling, NoMemory}
 use Rattle.mesh_restore.proofs.Listings.{all_push}
-use Rattle.mesh_restore.proofs.Loop.{IsReadInTurn, with_front, begins, one_more, is_read, stops_early}
+use Rattle.mesh_checkpoint.proofs.Loop.{IsReadInTurn, with_front, begins, one_more, is_read}
+use Rattle.mesh_restore.proofs.Loop.{stops_early}
 use Rattle.mesh_load.specs.declared.error.StateError.TheVariants as errors
 use Rattle.mesh_load.specs.Errors.{after_reading}
 use Rattle.mesh_load.specs.Nodes.{AllFrom, IsSoundNodeAt, AreNodesRead}

@@ -11,7 +11,8 @@ use Rattle.mesh_restore.specs.RadioParts.{IsFlown, AreCopiesRead}
 use Rattle.mesh_restore.specs.Reading.{Refuses}
 use Rattle.mesh_restore.specs.declared.error.ReadError.{ReadError}
 use Rattle.mesh_restore.proofs.Listings.{all_weaker, all_push}
-use Rattle.mesh_restore.proofs.Loop.{IsReadSoFar, starts, goes_on, falls, is_done, stops}
+use Rattle.mesh_checkpoint.proofs.Loop.{IsReadSoFar, starts, goes_on, falls, is_done}
+use Rattle.mesh_restore.proofs.Loop.{stops}
 
 -- no copy is from a node to itself
 abbrev AreApart : List Flying → Type 0

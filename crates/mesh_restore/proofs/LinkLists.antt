@@ -22,7 +22,7 @@ use Rattle.mesh_checkpoint.specs.Points.{links_of}
 use Rattle.mesh_restore.specs.RadioParts.{IsLinkKept, ArePassed}
 use Rattle.mesh_restore.proofs.Listings.{all_weaker, all_push, nat_greater}
 use Rattle.mesh_restore.proofs.PairLists.{AreBeforePair, last_key, last_pair, new_pair, same_values, no_keys}
-use Rattle.mesh_restore.proofs.Loop.{IsReadSoFar, starts, goes_on, ends, falls, is_done}
+use Rattle.mesh_checkpoint.proofs.Loop.{IsReadSoFar, starts, goes_on, ends, falls, is_done}
 
 -- a pair of nodes, whose link stands or not
 abbrev link_of : Pairs → ℕ × ℕ → Link

@@ -19,7 +19,7 @@ use Rattle.mesh_restore.specs.declared.error.ReadError.TheVariants.{Spelling, No
 use Rattle.mesh_checkpoint.specs.Checkpoint as model
 use Rattle.mesh_checkpoint.specs.Checkpoint.{Waits}
 use Rattle.mesh_restore.specs.Kept.{IsFilled, IsKeptFrom}
-use Rattle.mesh_restore.proofs.Loop.{IsReadInTurn, begins, one_more, is_stopped, is_read}
+use Rattle.mesh_checkpoint.proofs.Loop.{IsReadInTurn, begins, one_more, is_stopped, is_read}
 use Rattle.mesh_checkpoint.specs.Points.{waits_of, waits_in}
 use Rattle.mesh_restore.specs.Stores.{with_bodies, with_need, AreBelow}
 use Rattle.mesh_restore.proofs.Listings.{listed_last, still_below, no_entries}

@@ -1,5 +1,5 @@
 //! The parts of a run, read from its checkpoint: the mesh, each node, and what is in the
-//! air. A part is read into the very value that a run keeps, with no other value between.
+//! air. Each part is made of what a reader of `mesh_checkpoint` yields.
 #![tactic(auto)]
 
 mod copies;

@@ -1,5 +1,5 @@
 use Rattle.std.proofs.Common.{arith}
-use Rattle.mesh_checkpoint.proofs.Loop.{one_passed, falls}
+use Rattle.mesh_checkpoint.proofs.Loop.{one_passed}
 use Rattle.mesh_checkpoint.proofs.part.pass_rising.Goals as goal
 
 pub loop-preserved : goal.loop-preserved

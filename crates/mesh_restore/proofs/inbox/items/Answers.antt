@@ -1,6 +1,6 @@
 use Rattle.std.proofs.Common.{arith}
 use Rattle.mesh_checkpoint.specs.Checkpoint as model
-use Rattle.mesh_restore.proofs.Loop.{begins, one_more}
+use Rattle.mesh_checkpoint.proofs.Loop.{begins, one_more}
 use Rattle.mesh_restore.proofs.inbox.items.Goals as goal
 
 pub loop-init : goal.loop-init

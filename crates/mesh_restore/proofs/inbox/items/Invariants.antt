@@ -1,5 +1,5 @@
 use Rattle.mesh_checkpoint.specs.Checkpoint as model
-use Rattle.mesh_restore.proofs.Loop.{IsReadInTurn}
+use Rattle.mesh_checkpoint.proofs.Loop.{IsReadInTurn}
 use Rattle.mesh_restore.proofs.inbox.items.Given as goal
 
 abbrev pub invariant-loop : goal.invariant-loop

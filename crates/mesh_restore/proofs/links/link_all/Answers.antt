@@ -3,7 +3,7 @@ use Rattle.mesh_checkpoint.specs.Checkpoint as model
 use Rattle.mesh_checkpoint.specs.Points.{links_of}
 use Rattle.mesh_checkpoint.specs.Views.{link_of}
 use Rattle.mesh_restore.proofs.LinkLists.{no_links, none_linked, none_stood, not_linked, links_last, still_linked_below, still_stood, others_stay}
-use Rattle.mesh_restore.proofs.Loop.{starts, goes_on, ends, falls}
+use Rattle.mesh_checkpoint.proofs.Loop.{starts, goes_on, ends, falls}
 use Rattle.mesh_restore.proofs.links.link_all.Goals as goal
 
 pub loop-init : goal.loop-init

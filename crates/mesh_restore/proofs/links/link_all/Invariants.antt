@@ -2,7 +2,7 @@ use Rattle.std.proofs.Common.{◌≡◌}
 use Rattle.mesh_checkpoint.specs.Checkpoint as model
 use Rattle.mesh_checkpoint.specs.Points.{links_of}
 use Rattle.mesh_restore.proofs.LinkLists.{AreLinksBelow, HaveStood}
-use Rattle.mesh_restore.proofs.Loop.{IsReadSoFar}
+use Rattle.mesh_checkpoint.proofs.Loop.{IsReadSoFar}
 use Rattle.mesh_restore.proofs.links.link_all.Given as goal
 
 abbrev pub invariant-loop : goal.invariant-loop

@@ -2,7 +2,7 @@ use Rattle.std.proofs.Common.{arith, ◌∙◌, ap, ◌+◌, ℕ}
 use Rattle.std.proofs.lemmas.List.{length_push}
 use Rattle.mesh_checkpoint.specs.Checkpoint as model
 use Rattle.mesh_restore.proofs.MeshLists.{addresses_rise, addresses_before}
-use Rattle.mesh_restore.proofs.Loop.{goes_on, falls}
+use Rattle.mesh_checkpoint.proofs.Loop.{goes_on, falls}
 use Rattle.mesh_restore.proofs.mesh.stations.Goals as goal
 
 pub loop-preserved : goal.loop-preserved

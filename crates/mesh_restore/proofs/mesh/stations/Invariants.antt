@@ -1,7 +1,7 @@
 use Rattle.std.proofs.Common.{◌≡◌, length}
 use Rattle.mesh_checkpoint.specs.Checkpoint as model
 use Rattle.mesh_restore.proofs.MeshLists.{AreAddressesBelow}
-use Rattle.mesh_restore.proofs.Loop.{IsReadSoFar}
+use Rattle.mesh_checkpoint.proofs.Loop.{IsReadSoFar}
 use Rattle.mesh_restore.proofs.mesh.stations.Given as goal
 
 abbrev pub invariant-loop : goal.invariant-loop

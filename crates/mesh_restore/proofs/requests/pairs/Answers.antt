@@ -2,7 +2,7 @@ use Rattle.std.proofs.Common.{arith}
 use Rattle.mesh_checkpoint.specs.Checkpoint as model
 use Rattle.aodv_model.specs.Pairs.{pairs_in}
 use Rattle.mesh_restore.proofs.PairLists.{no_pairs, none_paired, pairs_last, pairs_below}
-use Rattle.mesh_restore.proofs.Loop.{starts, goes_on, ends, falls}
+use Rattle.mesh_checkpoint.proofs.Loop.{starts, goes_on, ends, falls}
 use Rattle.mesh_restore.proofs.requests.pairs.Goals as goal
 
 pub loop-init : goal.loop-init

@@ -2,7 +2,7 @@ use Rattle.std.proofs.Common.{◌≡◌, length}
 use Rattle.mesh_checkpoint.specs.Checkpoint as model
 use Rattle.aodv_model.specs.Pairs.{pairs_in}
 use Rattle.mesh_restore.proofs.PairLists.{ArePairsBelow}
-use Rattle.mesh_restore.proofs.Loop.{IsReadSoFar}
+use Rattle.mesh_checkpoint.proofs.Loop.{IsReadSoFar}
 use Rattle.mesh_restore.proofs.requests.pairs.Given as goal
 
 abbrev pub invariant-loop : goal.invariant-loop

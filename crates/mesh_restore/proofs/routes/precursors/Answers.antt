@@ -3,7 +3,7 @@ use Rattle.mesh_base.specs.Members.{member_list}
 use Rattle.mesh_checkpoint.specs.Checkpoint as model
 use Rattle.mesh_restore.proofs.Listings.{no_members, none_below, members_last, members_still_below}
 use Rattle.mesh_restore.proofs.Precursors.{below_end}
-use Rattle.mesh_restore.proofs.Loop.{starts, goes_on}
+use Rattle.mesh_checkpoint.proofs.Loop.{starts, goes_on}
 use Rattle.mesh_restore.proofs.routes.precursors.Goals as goal
 
 pub loop-init : goal.loop-init

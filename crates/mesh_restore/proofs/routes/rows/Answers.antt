@@ -4,7 +4,7 @@ use Rattle.mesh_checkpoint.specs.Checkpoint as model
 use Rattle.mesh_checkpoint.specs.Points.{route_of, routes_in}
 use Rattle.mesh_restore.proofs.Listings.{none_listed, no_routes, routes_last, still_below}
 use Rattle.mesh_restore.proofs.Precursors.{no_precursors, precursors_still_below}
-use Rattle.mesh_restore.proofs.Loop.{starts, goes_on, ends, falls}
+use Rattle.mesh_checkpoint.proofs.Loop.{starts, goes_on, ends, falls}
 use Rattle.mesh_restore.proofs.routes.rows.Goals as goal
 
 pub loop-init : goal.loop-init

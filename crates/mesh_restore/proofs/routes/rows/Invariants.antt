@@ -3,7 +3,7 @@ use Rattle.mesh_checkpoint.specs.Checkpoint as model
 use Rattle.mesh_checkpoint.specs.Points.{routes_in}
 use Rattle.mesh_restore.specs.Nodes.{ArePrecursorsBelow}
 use Rattle.mesh_restore.specs.Stores.{AreBelow}
-use Rattle.mesh_restore.proofs.Loop.{IsReadSoFar}
+use Rattle.mesh_checkpoint.proofs.Loop.{IsReadSoFar}
 use Rattle.mesh_restore.proofs.routes.rows.Given as goal
 
 abbrev pub invariant-loop : goal.invariant-loop

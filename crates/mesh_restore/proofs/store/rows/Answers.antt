@@ -5,7 +5,8 @@ use Rattle.mesh_checkpoint.specs.Points.{waits_in}
 use Rattle.mesh_restore.proofs.StoreLists.{no_waits}
 use Rattle.mesh_restore.proofs.Listings.{none_listed}
 use Rattle.aodv_model.specs.Cores.{Waiting}
-use Rattle.mesh_restore.proofs.Loop.{starts, goes_on_from, stops_from}
+use Rattle.mesh_checkpoint.proofs.Loop.{starts}
+use Rattle.mesh_restore.proofs.Loop.{goes_on_from, stops_from}
 use Rattle.mesh_restore.proofs.store.rows.Goals as goal
 
 pub loop-init : goal.loop-init

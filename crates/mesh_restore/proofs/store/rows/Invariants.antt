@@ -2,7 +2,7 @@ use Rattle.std.proofs.Common.{◌≡◌, length}
 use Rattle.mesh_checkpoint.specs.Checkpoint as model
 use Rattle.mesh_checkpoint.specs.Points.{waits_in}
 use Rattle.mesh_restore.specs.Stores.{AreBelow}
-use Rattle.mesh_restore.proofs.Loop.{IsReadSoFar}
+use Rattle.mesh_checkpoint.proofs.Loop.{IsReadSoFar}
 use Rattle.mesh_restore.proofs.store.rows.Given as goal
 
 abbrev pub invariant-loop : goal.invariant-loop
