@@ -149,7 +149,7 @@ impl Radio {
         Air { first, to: *to }
     }
 
-    /// Puts a copy into the radio, with its own packet and as it stood there: its id is after those
+    /// Puts a copy into the radio, with its packet and as it stood elsewhere: its id is after those
     /// of the copies in flight, and below the next.
     pub fn put(&mut self, f: Flying) -> Result<(), NoMemory>
         requires id { (1 ≤ f.id) × (f.id < self.old.next_copy) }

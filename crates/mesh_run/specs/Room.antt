@@ -4,6 +4,10 @@ use Rattle.mesh_base.specs.Bounds.{most_lines}
 use Rattle.mesh_base.specs.declared.limits.TheConstants.{MOST_EVENTS}
 use Rattle.mesh_text.specs.Schedule.{RunState}
 
+-- the lines of one input lead to fewer steps than this
+abbrev pub steps_of_input_end : ℕ
+steps_of_input_end = 2 ^ 42
+
 -- lines of so many bytes, each LF among them, can be done from this state on
 pub record HasRoomFor (m : RunState) (size : ℕ) : Type 0 where
   pub lines : m.lines + size < most_lines

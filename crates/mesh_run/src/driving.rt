@@ -1,5 +1,5 @@
 //! A run from its source to its sink.
-ghost use Rattle.std.specs.Prelude.{◌≡◌, ◌≢◌, ◌≤◌, ◌<◌, ◌+◌, ◌*◌, ◌^◌, ◌↔◌, true, is_some, IfSome};
+ghost use Rattle.std.specs.Prelude.{◌≡◌, ◌≢◌, ◌≤◌, ◌<◌, ◌+◌, ◌*◌, ◌↔◌, true, is_some, IfSome};
 ghost use Rattle.std.specs.Io.KnownBytes.{IsAtEnd};
 ghost use Rattle.mesh_base.specs.Bounds.{most_lines_before_run, most_steps_before_run};
 ghost use Rattle.mesh_base.specs.declared.limits.TheConstants.{LONGEST_INPUT, MOST_EVENTS};
@@ -9,6 +9,7 @@ ghost use Rattle.mesh_text.specs.EveryWorld.{IsLoopFreeRun, IsAccountedRun};
 ghost use Rattle.mesh_text.specs.NamedData.{IsNamedRun};
 ghost use Rattle.mesh_run.specs.RunStates.{IsSafe};
 ghost use Rattle.mesh_run.specs.Causes.{HasStatusCause, HasSourceCause};
+ghost use Rattle.mesh_run.specs.Room.{steps_of_input_end};
 ghost use Rattle.mesh_run.specs.Sums.{IsGrown};
 ghost use Rattle.mesh_run.specs.Outputs.{say_by, IsOutputFrom};
 
@@ -88,7 +89,7 @@ pub fn drive<S: Steps, I: Source, O: Sink>(
     // What an input can add.
     ensures grown { IfSome result.1 (IsGrown start) }
     ensures few_lines { IfSome result.1 (λ p. p.lines ≤ start.lines + LONGEST_INPUT) }
-    ensures few_steps { IfSome result.1 (λ p. p.steps < start.steps + 2 ^ 42) }
+    ensures few_steps { IfSome result.1 (λ p. p.steps < start.steps + steps_of_input_end) }
 
     // Done only where the input was read to its end.
     ensures end { result.0 ≡ Status.Done → IsAtEnd (I.left input.new) }

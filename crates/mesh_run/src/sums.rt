@@ -1,5 +1,6 @@
 //! What a run counts.
-ghost use Rattle.std.specs.Prelude.{◌≡◌, ◌+◌, ◌^◌, ℕ};
+ghost use Rattle.std.specs.Prelude.{◌≡◌, ◌+◌, ℕ};
+ghost use Rattle.mesh_base.specs.Bounds.{most_steps};
 ghost use Rattle.mesh_model.specs.Worlds.{Outcome};
 ghost use Rattle.mesh_meaning.specs.Events.{event_of};
 ghost use Rattle.mesh_text.specs.Schedule.{sums_after};
@@ -24,7 +25,7 @@ fn is_give(e: &Event<'_>) -> bool
 /// Counts an event, by its counts.
 #[inline(always)]
 pub(crate) fn count(sums: &mut Sums, e: &Event<'_>, event_counts: EventCounts)
-    requires few { AreCounts (sums_of sums.old) (2 ^ 48) }
+    requires few { AreCounts (sums_of sums.old) most_steps }
     ensures counted { (o : Outcome) → AreEventCounts (event_of e.now) o event_counts
         → sums_of sums.new ≡ sums_after (sums_of sums.old) (event_of e.now) o }
     ensures counts { (steps : ℕ) → AreCounts (sums_of sums.old) steps
